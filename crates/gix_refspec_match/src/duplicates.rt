@@ -11,11 +11,11 @@ ghost use Rattle.std.specs.Cmp.{IsTotalOrder};
 ghost use Rattle.std.specs.declared.cmp.Ordering.{Ordering};
 ghost use Rattle.std.specs.declared.cmp.Ordering.TheVariants.{Equal};
 ghost use Rattle.std.specs.declared.hash.FoldHasher.{FoldHasher};
-ghost use Rattle.gix_refspec_match.specs.Private.Duplicates.{FindDuplicates, FlagsDuplicates, ArePlaced, placed_order, AreKeysOf, HasShared, is_shared};
+ghost use Rattle.gix_refspec_match.specs.Private.Duplicates.{FindDuplicates, FlagsDuplicates, AreFirsts, AreIndexesBelow, ArePlaced, placed_order, AreKeysOf, HasShared, is_shared};
 ghost use Rattle.gix_refspec_match.specs.Private.Bloom.{IsWhole};
 ghost use Rattle.std.specs.List.Sorted.{IsSorted};
 ghost use Rattle.gix_refspec_match.specs.Private.Kept.{IsFlagged, Rises, IsUnflagged};
-ghost use Rattle.std.specs.List.{filter};
+ghost use Rattle.std.specs.List.{All, filter};
 ghost use Rattle.gix_refspec_match.specs.Matching.Lists.{IsMadeFrom};
 
 mod elements;
@@ -65,7 +65,8 @@ pub fn duplicates<T: Element>(alloc: Global, elements: &[T]) -> Result<Vec<bool>
     flags_by_order(alloc, elements)
 }
 
-// Flags the elements whose key has the upper bits of the one before it. `None` where two such elements differ.
+// Flags the elements that equal the first one of those whose keys have the same upper bits. `None` where one differs
+// from it. They are compared in their own order, since that reads most of them in the order of memory.
 fn flags_by_key<T: Element>(
     alloc: Global,
     elements: &[T],
@@ -78,20 +79,58 @@ fn flags_by_key<T: Element>(
     ensures { IfOk result (λ found. MatchOption found
         (Unit {0}) (λ flags. FlagsDuplicates T.order elements.now flags.items)) }
 {
+    if u32::try_from(elements.len()).is_err() {
+        return Ok(None);
+    }
+    let firsts = firsts_by_key(alloc, elements.len(), keys, bits)?;
     let mut flags = Vec::new(alloc);
-    for at in 1..keys.len() {
-        let (before, key) = (keys[at - 1], keys[at]);
-        if upper_bits(before, bits) != upper_bits(key, bits) {
+    for index in 0..firsts.len() {
+        let first = firsts[index] as usize;
+        if first == index {
             continue;
         }
-        let index = lower_bits(key, bits);
-        let earlier = &elements[lower_bits(before, bits)];
-        if earlier.compare(&elements[index]).is_ne() {
+        if elements[first].compare(&elements[index]).is_ne() {
             return Ok(None);
         }
         raise(&mut flags, elements.len(), index)?;
     }
     Ok(Some(flags))
+}
+
+// For each index the first one whose key has the same upper bits, which may be itself. Nothing at all where no two keys
+// have the same. Half as wide as indexes are, since it takes memory beside the keys.
+fn firsts_by_key(alloc: Global, len: usize, keys: &[u64], bits: u32) -> Result<Vec<u32>, AllocError>
+    requires few { bits < 64 }
+    requires fits { len < 2 ^ 32 }
+    requires rises { Rises keys.now }
+    requires inside { All (λ key. key % 2 ^ bits < len) keys.now }
+    ensures { IfOk result (λ firsts. AreFirsts len bits keys.now firsts.items) }
+{
+    let mut firsts = Vec::new(alloc);
+    let mut first = 0;
+    for at in 1..keys.len() {
+        if upper_bits(keys[first], bits) != upper_bits(keys[at], bits) {
+            first = at;
+            continue;
+        }
+        if firsts.is_empty() {
+            firsts = indexes_below(alloc, len)?;
+        }
+        firsts[lower_bits(keys[at], bits)] = lower_bits(keys[first], bits) as u32;
+    }
+    Ok(firsts)
+}
+
+// All indexes below `len`, each at its own.
+fn indexes_below(alloc: Global, len: usize) -> Result<Vec<u32>, AllocError>
+    requires { len < 2 ^ 32 }
+    ensures { IfOk result (λ indexes. AreIndexesBelow len indexes.items) }
+{
+    let mut indexes = Vec::with_capacity(alloc, len)?;
+    for index in 0..len {
+        indexes.push(index as u32)?;
+    }
+    Ok(indexes)
 }
 
 // An element, and its index.

@@ -63,7 +63,9 @@ impl<'a> Exclusions<'a> {
         Ok(())
     }
 
-    // Whether a name is excluded. It isn't hashed where there are no names to look it up among.
+    // Whether a name is excluded. It isn't hashed where there are no names to look it up among. It is inlined, since
+    // it is called for each mapping, and mostly nothing is excluded.
+    #[inline(always)]
     pub(crate) fn has_name(&self, name: &[u8]) -> bool
         ensures { IsTrue result ↔ ExcludeName self.now name.now }
     {

@@ -1,4 +1,5 @@
 -- Lemmas on elements that equal earlier ones.
 pub mod HashKeyLemmas
 pub mod FlagLemmas
+pub mod FirstLemmas
 pub mod OrderedLemmas

@@ -1,5 +1,5 @@
 -- Elements of a list that equal an earlier one, and how they are found. Only private functions cite this.
-use Rattle.std.specs.Prelude.{◌≡◌, ◌≢◌, ◌↔◌, ◌<◌, ◌-◌, ◌/◌, ◌%◌, ◌^◌, ℕ, Bool, List, length, nat_eq, slice_index_or}
+use Rattle.std.specs.Prelude.{◌≡◌, ◌≢◌, ◌⊎◌, ◌↔◌, ◌<◌, ◌≤◌, ◌-◌, ◌/◌, ◌%◌, ◌^◌, ℕ, Bool, List, [], length, nat_eq, slice_index_or}
 use Rattle.std.specs.Int.{bit_at}
 use Rattle.std.specs.List.{All, AllPairs, Contains}
 use Rattle.std.specs.Ordering.{nat_cmp, ordering_then}
@@ -72,6 +72,17 @@ pub record AreKeysOf (hashes : List ℕ) (bits : ℕ) (keys : List ℕ) : Type 0
 pub record FindDuplicates {T : Type 0} (order : T → T → Ordering) (xs : List T) (bits : ℕ) (keys : List ℕ) : Type 0 where
   pub inside : All (λ key. key % 2 ^ bits < length xs) keys
   pub finds : (k : ℕ) → IsDuplicate order xs k → (at : ℕ) × IsSecond (HaveSameUpper bits) (index_in bits) keys at k
+
+-- each index below len is at its own
+pub record AreIndexesBelow (len : ℕ) (indexes : List ℕ) : Type 0 where
+  pub size : length indexes ≡ len
+  pub at : (k : ℕ) → slice_index_or indexes k k ≡ k
+
+-- at the index of each key whose upper bits are those of the one before it there is an earlier index, and nowhere a later one
+pub record AreFirsts (len bits : ℕ) (keys firsts : List ℕ) : Type 0 where
+  pub size : (firsts ≡ []) ⊎ (length firsts ≡ len)
+  pub back : (k : ℕ) → slice_index_or firsts k k ≤ k
+  pub found : (at k : ℕ) → IsSecond (HaveSameUpper bits) (index_in bits) keys at k → slice_index_or firsts k k < k
 
 -- two elements are equal
 abbrev pub HaveEqualElements : {T : Type 0} → (T → T → Ordering) → Placed T → Placed T → Type 0

@@ -1,20 +1,41 @@
--- an element is flagged where its key has the upper bits of the one before it, whose element is equal
-use Rattle.std.proofs.Common.{inr, sym, ◌∙◌, arith}
-use Rattle.gix_refspec_match.proofs.lemmas.duplicates.FlagLemmas.{equal_told, flags_all, flags_raised, flags_same}
-use Rattle.gix_refspec_match.proofs.lemmas.duplicates.HashKeyLemmas.{second_is_duplicate}
+-- an element is flagged where it has an earlier first, which equals it
+use Rattle.std.proofs.Common.{inr, refl, sym, ◌∙◌, arith}
+use Rattle.gix_refspec_match.proofs.lemmas.duplicates.FlagLemmas.{equal_told, flags_all, flags_raised}
+use Rattle.gix_refspec_match.proofs.lemmas.duplicates.FirstLemmas.{equal_is_duplicate, first_below, first_inside}
 use Rattle.gix_refspec_match.proofs.duplicates.flags_by_key.Goals as goal
 
-pub loop-at-preserved-then-upper_bits : goal.loop-at-preserved-then-upper_bits
-loop-at-preserved-then-upper_bits g c = flags_same c.loop-at.invariant
-    (λ k second. c.if-upper_bits.true (c.upper_bits.ensures ∙ second.same 0 ∙ sym c.upper_bits-in-loop-at.ensures))
+pub offset_bounds-elements-first : goal.offset_bounds-elements-first
+offset_bounds-elements-first g c =
+    let inside = (first_below c.in_ok-firsts.ensures c.loop-index.index _ (omega (
+      arith,
+      c.loop-index-test.true,
+      c.len-index-end.ensures,
+    )) c.index.ensures c.if-first-index.false) in
+    omega (arith, inside.0, inside.1)
 
-pub loop-at-preserved : goal.loop-at-preserved
-loop-at-preserved g c = flags_raised c.loop-at.invariant _ _ c.in_ok-raise.ensures.fits c.in_ok-raise.ensures.raised
-    (second_is_duplicate c.loop-at.at c.requires.finds c.requires.rises (omega arith) c.loop-at-test.true
-    (sym c.upper_bits.ensures ∙ c.if-upper_bits.false ∙ c.upper_bits-in-loop-at.ensures)
-    c.lower_bits.ensures c.lower_bits-index.ensures c.index-elements-lower_bits.is c.index-elements-index.is
-    (sym c.compare.ensures ∙ equal_told c.compare.result (inr (sym c.is_ne.ensures ∙ c.if-is_ne.false))))
-    (λ k second. c.lower_bits-index.ensures ∙ second.here 0)
+pub bounds-elements-first : goal.bounds-elements-first
+bounds-elements-first g c =
+    let inside = (first_below c.in_ok-firsts.ensures c.loop-index.index _ (omega (
+      arith,
+      c.loop-index-test.true,
+      c.len-index-end.ensures,
+    )) c.index.ensures c.if-first-index.false) in
+    omega (arith, inside.0, inside.1)
+
+pub loop-index-preserved : goal.loop-index-preserved
+loop-index-preserved g c =
+    let (less, inside) = first_below c.in_ok-firsts.ensures c.loop-index.index _ (omega (
+      arith,
+      c.loop-index-test.true,
+      c.len-index-end.ensures,
+    )) c.index.ensures c.if-first-index.false in
+    let same = equal_told c.compare.result (inr (sym c.is_ne.ensures ∙ c.if-is_ne.false)) in
+    flags_raised c.loop-index.invariant _ _ c.in_ok-raise.ensures.fits c.in_ok-raise.ensures.raised
+    (equal_is_duplicate g.T.Element.order _ less inside c.index-elements-first.is c.index-elements-index.is (sym c.compare.ensures ∙ same))
+    (λ k (here, told). here)
 
 pub returns : goal.returns
-returns g c = flags_all c.loop-at.invariant c.loop-at-test.false c.requires.finds.finds
+returns g c = flags_all c.loop-index.invariant (λ k duplicate.
+    let (at, second) = c.requires.finds.finds k duplicate in
+    let told = c.in_ok-firsts.ensures.found at k second in
+    (k, omega (arith, first_inside _ k told, c.loop-index-test.false, c.len-index-end.ensures), (refl, told)))

@@ -26,5 +26,7 @@ loop-at-preserved g c =
     ]
 
 pub returns : goal.returns
-returns g c = flags_all c.loop-at.invariant (omega arith)
-    (duplicate_follows g.met.T.Element.total c.in_ok-placed.ensures.all c.in_ok-placed.ensures.order)
+returns g c = flags_all c.loop-at.invariant (λ k duplicate.
+    let (at, second) =
+    duplicate_follows g.met.T.Element.total c.in_ok-placed.ensures.all c.in_ok-placed.ensures.order k duplicate in
+    (at, omega (arith, second.inside), second))

@@ -1,10 +1,10 @@
 -- The flags of duplicates, as far as a list in order was gone through.
-use Rattle.std.proofs.Common.{◌≡◌, ◌⊎◌, inr, ◌↔◌, ℕ, ◌+◌, ◌<◌, ◌≤◌, List, [], ◌∷◌, length, refl, Bool, true, false, Result, Ok, Err, arith}
+use Rattle.std.proofs.Common.{◌≡◌, ◌⊎◌, inr, ◌↔◌, ℕ, ◌+◌, ◌<◌, List, [], ◌∷◌, length, refl, Bool, true, false, Result, Ok, Err, arith}
 use Rattle.std.specs.Prelude.{IfOk}
 use Rattle.std.specs.declared.cmp.Ordering.{Ordering}
 use Rattle.std.specs.declared.cmp.Ordering.TheVariants.{Less, Equal, Greater}
 use Rattle.std.specs.Ordering.{is_eq, is_ne}
-use Rattle.gix_refspec_match.specs.Private.Duplicates.{FlagsDuplicates, IsDuplicate, IsSecond}
+use Rattle.gix_refspec_match.specs.Private.Duplicates.{FlagsDuplicates, IsDuplicate}
 use Rattle.gix_refspec_match.specs.Private.Kept.{IsFlagged}
 
 -- an element, where there is one
@@ -23,34 +23,33 @@ equal_told Less told = grind arith
 equal_told Equal told = refl
 equal_told Greater told = grind arith
 
--- duplicates are flagged, and of these all that are second at a place below at
-pub record AreFlagged {T X : Type 0} (order : T → T → Ordering) (xs : List T) (E : X → X → Type 0) (index : X → ℕ)
-    (ys : List X) (flags : List Bool) (at : ℕ) : Type 0 where
+-- duplicates are flagged, and of these all that positions below at tell of
+pub record AreFlagged {T : Type 0} (order : T → T → Ordering) (xs : List T) (Tells : ℕ → ℕ → Type 0) (flags : List Bool)
+    (at : ℕ) : Type 0 where
   pub fits : (flags ≡ []) ⊎ (length flags ≡ length xs)
   pub only : (k : ℕ) → IsFlagged flags k → IsDuplicate order xs k
-  pub found : (i : ℕ) → i < at → (k : ℕ) → IsSecond E index ys i k → IsFlagged flags k
+  pub found : (i : ℕ) → i < at → (k : ℕ) → Tells i k → IsFlagged flags k
 
-module _ {T X : Type 0} {order : T → T → Ordering} {xs : List T} {E : X → X → Type 0} {index : X → ℕ} {ys : List X}
-    {flags : List Bool} {at : ℕ} (are : AreFlagged order xs E index ys flags at) where
-  pub flags_same : ((k : ℕ) → ¬ (IsSecond E index ys at k)) → AreFlagged order xs E index ys flags (at + 1)
+module _ {T : Type 0} {order : T → T → Ordering} {xs : List T} {Tells : ℕ → ℕ → Type 0} {flags : List Bool} {at : ℕ}
+    (are : AreFlagged order xs Tells flags at) where
+  pub flags_same : ((k : ℕ) → ¬ (Tells at k)) → AreFlagged order xs Tells flags (at + 1)
   flags_same none = record {
     fits = are.fits;
     only = are.only;
-    found = λ i below k second. grind (arith, are.found i, none k);
+    found = λ i below k told. grind (arith, are.found i, none k);
   }
 
   pub flags_raised : (new : List Bool) (i : ℕ) → length new ≡ length xs
       → ((k : ℕ) → IsFlagged new k ↔ (IsFlagged flags k ⊎ (i ≡ k))) → IsDuplicate order xs i
-      → ((k : ℕ) → IsSecond E index ys at k → i ≡ k) → AreFlagged order xs E index ys new (at + 1)
+      → ((k : ℕ) → Tells at k → i ≡ k) → AreFlagged order xs Tells new (at + 1)
   flags_raised new i fits raised duplicate here = record {
     fits = inr fits;
     only = λ k now. grind (arith, raised k, are.only k, duplicate);
-    found = λ i below k second. grind (arith, raised k, are.found i, here k);
+    found = λ i below k told. grind (arith, raised k, are.found i, here k);
   }
 
-  pub flags_all : length ys ≤ at → ((k : ℕ) → IsDuplicate order xs k → (i : ℕ) × IsSecond E index ys i k)
-      → FlagsDuplicates order xs flags
-  flags_all past finds k = (
+  pub flags_all : ((k : ℕ) → IsDuplicate order xs k → (i : ℕ) × (i < at) × Tells i k) → FlagsDuplicates order xs flags
+  flags_all finds k = (
     are.only k,
-    λ duplicate. let (i, second) = finds k duplicate in are.found i (omega (arith, second.inside)) k second,
+    λ duplicate. let (i, below, told) = finds k duplicate in are.found i below k told,
   )

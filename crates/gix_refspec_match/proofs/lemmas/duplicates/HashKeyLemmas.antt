@@ -1,5 +1,5 @@
 -- Keys of the upper bits of a hash and an index, and what their order says of hashes that are there twice.
-use Rattle.std.proofs.Common.{◌≡◌, ◌≢◌, inl, inr, ℕ, ◌+◌, ◌-◌, ◌*◌, ◌/◌, ◌%◌, ◌^◌, ◌<◌, ◌≤◌, List, length, get_or, map, not, ap, refl, bit_or, Bool, true, arith}
+use Rattle.std.proofs.Common.{◌≡◌, ◌≢◌, inl, inr, ℕ, ◌+◌, ◌*◌, ◌/◌, ◌%◌, ◌^◌, ◌<◌, ◌≤◌, List, length, get_or, map, not, ap, refl, bit_or, Bool, true, arith}
 use Rattle.std.specs.List.{Contains, filter}
 use Rattle.std.specs.List.Sorted.{IsPermutation, IsSorted}
 use Rattle.std.specs.declared.cmp.Ordering.{Ordering}
@@ -10,12 +10,12 @@ use Rattle.std.proofs.Math.Pow.{shr_mono}
 use Rattle.std.proofs.lemmas.Nat.{div-mul-add, mod-mul-add, or_shifted, shr_split}
 use Rattle.std.proofs.lemmas.Bool.{eq-eqb}
 use Rattle.std.proofs.lemmas.List.{get_or-map, length-map}
-use Rattle.std.proofs.lemmas.List.Elements.{All-contains, All-filter, Contains-append_cases, Contains-get_or, filter_passes, pair_read}
+use Rattle.std.proofs.lemmas.List.Elements.{All-contains, All-filter, Contains-append_cases, Contains-get_or, filter_passes}
 use Rattle.std.proofs.lemmas.List.Kept.{AllPairs-filter}
 use Rattle.std.proofs.lemmas.List.Sorted.{All-permutation, Contains-permutation, IsNonDecreasingBy-from_sort, IsPermutation-filter_both}
 use Rattle.gix_refspec_match.specs.declared.bloom.Bloom.{Bloom}
 use Rattle.gix_refspec_match.specs.Private.Bloom.{HasNumber}
-use Rattle.gix_refspec_match.specs.Private.Duplicates.{AreApart, AreKeysOf, FindDuplicates, HasIndex, HasShared, HaveSameUpper, IsDuplicate, IsKey, index_in, is_shared}
+use Rattle.gix_refspec_match.specs.Private.Duplicates.{AreApart, AreKeysOf, FindDuplicates, HasIndex, HasShared, HaveSameUpper, IsKey, index_in, is_shared}
 use Rattle.gix_refspec_match.specs.Private.Kept.{Rises}
 use Rattle.gix_refspec_match.proofs.lemmas.duplicates.FlagLemmas.{some_element}
 use Rattle.gix_refspec_match.proofs.lemmas.duplicates.OrderedLemmas.{AreNumbered, apart_permuted, numbered_apart, second_found}
@@ -31,7 +31,7 @@ packed hash index bits key fits below is =
     (div-mul-add upper (2 ^ bits) index below, mod-mul-add upper (2 ^ bits) index below)
 
 -- numbers with the same upper bits differ by their lower bits
-same_upper : (a b bits : ℕ) → HaveSameUpper bits a b → a + b % 2 ^ bits ≡ b + a % 2 ^ bits
+pub same_upper : (a b bits : ℕ) → HaveSameUpper bits a b → a + b % 2 ^ bits ≡ b + a % 2 ^ bits
 same_upper a b bits same =
     let up : a / 2 ^ bits * 2 ^ bits ≡ b / 2 ^ bits * 2 ^ bits = ap (λ x. x * 2 ^ bits) same in
     omega (arith, shr_split a bits, shr_split b bits, up)
@@ -100,14 +100,3 @@ duplicates_from_keys {T} order hash xs bits keys alike are rises = record {
   where
     up : (i j d : ℕ) → i ≤ j → j < length keys → get_or keys i d ≤ get_or keys j d
     up i j d le below = grind (arith, rises i j d)
-
--- an element whose key has the upper bits of the one before it, and which equals that one's, is a duplicate
-pub second_is_duplicate : {T : Type 0} {order : T → T → Ordering} {xs : List T} {bits : ℕ} {keys : List ℕ}
-    (at : ℕ) {j k : ℕ} {x y : T} → FindDuplicates order xs bits keys → Rises keys → 0 < at → at < length keys
-    → HaveSameUpper bits (get_or keys (at - 1) 0) (get_or keys at 0) → j ≡ get_or keys (at - 1) 0 % 2 ^ bits
-    → k ≡ get_or keys at 0 % 2 ^ bits → x ≡ get_or xs j x → y ≡ get_or xs k y → order x y ≡ Equal → IsDuplicate order xs k
-second_is_duplicate {T} {order} {xs} {bits} {keys} at {j} {k} {x} {y} finds rises some below same is_j is_k is_x is_y equal =
-    let first : j < length xs = omega (arith, finds.inside (at - 1) 0 (omega arith)) in
-    let last : k < length xs = omega (arith, finds.inside at 0 below) in
-    let less : j < k = omega (arith, rises (at - 1) at 0 (omega arith) below, same_upper _ _ bits same) in
-    (last, (j, less, pair_read xs (λ a b. order a b ≡ Equal) j k x y first last is_x is_y equal))
