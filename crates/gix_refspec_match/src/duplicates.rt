@@ -41,6 +41,13 @@ pub trait Element {
     fn compare(&self, other: &Self) -> Ordering
         ensures { result ≡ order self.now other.now };
 
+    /// Whether the element equals another, which may be told faster than how it compares.
+    fn equals(&self, other: &Self) -> bool
+        ensures { IsTrue result ↔ (order self.now other.now ≡ Equal) }
+    {
+        self.compare(other).is_eq()
+    }
+
     ghost total: { IsTotalOrder order };
 
     ghost alike: { (seed : FoldHasher) (x y : Self) → order x y ≡ Equal → hash seed x ≡ hash seed y };
@@ -89,7 +96,7 @@ fn flags_by_key<T: Element>(
         if first == index {
             continue;
         }
-        if elements[first].compare(&elements[index]).is_ne() {
+        if !elements[first].equals(&elements[index]) {
             return Ok(None);
         }
         raise(&mut flags, elements.len(), index)?;

@@ -126,7 +126,9 @@ fn hits_within(
     Ok(Some(hits))
 }
 
-// Adds the hits of a needle. Returns whether all are within the limit.
+// Adds the hits of a needle. Returns whether all are within the limit. It isn't inlined, so that its loops have registers
+// of their own.
+#[inline(never)]
 fn add_hits<'n>(
     matcher: usize,
     needle: SideKind<'n>,

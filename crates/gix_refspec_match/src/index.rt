@@ -87,7 +87,8 @@ fn without_places<'n>(
     Ok(places)
 }
 
-// The items that have some names.
+// The items that have some names. It isn't inlined, so that its loop over all items has registers of its own.
+#[inline(never)]
 fn places_of<'n>(
     alloc: Global,
     names: &'n [NameRef<'_>],

@@ -50,6 +50,10 @@ impl<'a> Element for Item<'a> {
     fn compare(&self, other: &Self) -> Ordering {
         self.full_ref_name.cmp(&other.full_ref_name)
     }
+
+    fn equals(&self, other: &Self) -> bool {
+        self.full_ref_name.as_bytes() == other.full_ref_name.as_bytes()
+    }
 }
 
 // The source and the destination of a mapping.

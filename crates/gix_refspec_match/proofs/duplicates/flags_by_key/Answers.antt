@@ -1,6 +1,6 @@
 -- an element is flagged where it has an earlier first, which equals it
-use Rattle.std.proofs.Common.{inr, refl, sym, ◌∙◌, arith}
-use Rattle.gix_refspec_match.proofs.lemmas.duplicates.FlagLemmas.{equal_told, flags_all, flags_raised}
+use Rattle.std.proofs.Common.{refl, arith}
+use Rattle.gix_refspec_match.proofs.lemmas.duplicates.FlagLemmas.{flags_all, flags_raised}
 use Rattle.gix_refspec_match.proofs.lemmas.duplicates.FirstLemmas.{equal_is_duplicate, first_below, first_inside}
 use Rattle.gix_refspec_match.proofs.duplicates.flags_by_key.Goals as goal
 
@@ -29,9 +29,8 @@ loop-index-preserved g c =
       c.loop-index-test.true,
       c.len-index-end.ensures,
     )) c.index.ensures c.if-first-index.false in
-    let same = equal_told c.compare.result (inr (sym c.is_ne.ensures ∙ c.if-is_ne.false)) in
     flags_raised c.loop-index.invariant _ _ c.in_ok-raise.ensures.fits c.in_ok-raise.ensures.raised
-    (equal_is_duplicate g.T.Element.order _ less inside c.index-elements-first.is c.index-elements-index.is (sym c.compare.ensures ∙ same))
+    (equal_is_duplicate g.T.Element.order _ less inside c.index-elements-first.is c.index-elements-index.is (c.equals.ensures.0 c.if-not-equals.false))
     (λ k (here, told). here)
 
 pub returns : goal.returns
