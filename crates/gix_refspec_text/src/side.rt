@@ -5,7 +5,7 @@ ghost use Rattle.bstr.specs.Owned.{bstring_bytes};
 ghost use Rattle.gix_refspec_text.specs.Texts.Bytes.{star};
 ghost use Rattle.gix_refspec_text.specs.Texts.Words.{BeginsWith, Lacks};
 ghost use Rattle.gix_refspec_text.specs.Texts.Name.{HasSeveralStars};
-ghost use Rattle.gix_refspec_text.specs.Matching.Side.{HasKind, candidates as candidates_of};
+ghost use Rattle.gix_refspec_text.specs.Matching.Side.{HasKind, candidates as candidates_of, written_name_of};
 ghost use Rattle.gix_refspec_text.specs.Private.SideViews.{AreStarsOf, kind_of_side};
 
 use crate::oid::ObjectId;
@@ -103,6 +103,24 @@ pub fn candidates(alloc: Global, name: &[u8]) -> Result<Vec<BString>, AllocError
     names.push(joined(alloc, b"refs/remotes/", name, b"")?)?;
     names.push(joined(alloc, b"refs/remotes/", name, b"/HEAD")?)?;
     Ok(names)
+}
+
+/// The ref that git-fetch(1) writes for a destination without a star: `refs/` is put before `heads/x`, `tags/x` and
+/// `remotes/x`, and `refs/heads/` before anything else that doesn't begin with `refs/`. Fails if memory runs out.
+pub fn written_name(alloc: Global, destination: &[u8]) -> Result<BString, AllocError>
+    ensures { IfOk result (λ name. bstring_bytes name ≡ written_name_of destination.now) }
+{
+    let before: &[u8] = if destination.starts_with(b"refs/") {
+        b""
+    } else if destination.starts_with(b"heads/")
+        || destination.starts_with(b"tags/")
+        || destination.starts_with(b"remotes/")
+    {
+        b"refs/"
+    } else {
+        b"refs/heads/"
+    };
+    joined(alloc, before, destination, b"")
 }
 
 /// `before`, `name` and `after` as one text. Fails if memory runs out.

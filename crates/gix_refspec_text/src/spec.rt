@@ -42,12 +42,15 @@ pub struct RefSpec {
 }
 
 impl<'a> RefSpecRef<'a> {
-    ghost use Rattle.std.specs.Prelude.{◌↔◌, IsTrue, MatchBool, Some};
+    ghost use Rattle.std.specs.Prelude.{◌⊎◌, ◌↔◌, IfSome, IsSome, IsTrue, MatchBool, Some, codes};
+    ghost use Rattle.gix_refspec_text.specs.Texts.Bytes.{head, star};
+    ghost use Rattle.gix_refspec_text.specs.Texts.Name.{IsName};
+    ghost use Rattle.gix_refspec_text.specs.Texts.Words.{BeginsWith, Lacks};
     ghost use Rattle.gix_refspec_text.specs.Specs.Grammar.{IsPositive};
     ghost use Rattle.gix_refspec_text.specs.Specs.Meaning.{meaning_of};
     ghost use Rattle.gix_refspec_text.specs.Views.Instruction.{meaning_of_instruction};
     ghost use Rattle.gix_refspec_text.specs.Views.Spec.{reading_of, owned_reading_of};
-    ghost use Rattle.gix_refspec_text.specs.Specs.Reading.{local_of, remote_of, Forced, HasSide, Negative};
+    ghost use Rattle.gix_refspec_text.specs.Specs.Reading.{local_of, remote_of, Forced, HasSide, Negative, all_tags, fetched_alone, with_destination};
 
     /// Whether the spec was read for a push or for a fetch.
     pub fn operation(&self) -> Operation
@@ -109,6 +112,49 @@ impl<'a> RefSpecRef<'a> {
         match self.op {
             Operation::Push => self.src,
             Operation::Fetch => self.dst,
+        }
+    }
+
+    /// A fetch of a ref alone: `name` has to be `HEAD`, or a valid ref name that begins `refs/`.
+    pub fn fetch_of(name: BStr<'a>) -> RefSpecRef<'a>
+        requires name { IsName (bstr_bytes name) }
+        requires full { BeginsWith (codes "refs/") (bstr_bytes name) ⊎ (bstr_bytes name ≡ head) }
+        ensures { reading_of result ≡ fetched_alone (bstr_bytes name.entry) }
+    {
+        RefSpecRef {
+            op: Operation::Fetch,
+            mode: Mode::Normal,
+            src: Some(name),
+            dst: None,
+        }
+    }
+
+    /// The fetch of all tags, `refs/tags/*:refs/tags/*`.
+    pub fn fetch_of_all_tags() -> RefSpecRef<'static>
+        ensures { reading_of result ≡ all_tags }
+    {
+        let pattern = BStr::new(b"refs/tags/*");
+        RefSpecRef {
+            op: Operation::Fetch,
+            mode: Mode::Normal,
+            src: Some(pattern),
+            dst: Some(pattern),
+        }
+    }
+
+    /// The spec with another destination, which has to be a valid ref name, as `name_partial` checks it. Requires that it has a
+    /// destination, without a star.
+    pub fn with_destination(&self, destination: BStr<'a>) -> RefSpecRef<'a>
+        requires replaced { IfSome (reading_of self.now).destination (Lacks star) }
+        requires present { IsSome (reading_of self.now).destination }
+        requires name { IsName (bstr_bytes destination) }
+        ensures { reading_of result ≡ with_destination (reading_of self.now) (bstr_bytes destination.entry) }
+    {
+        RefSpecRef {
+            op: self.op,
+            mode: self.mode,
+            src: self.src,
+            dst: Some(destination),
         }
     }
 

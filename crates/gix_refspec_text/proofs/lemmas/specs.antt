@@ -1,5 +1,7 @@
 -- Lemmas on accepted readings, and on the canonical text.
 pub mod AcceptedLemmas
+pub mod DestinationLemmas
+pub mod FetchLemmas
 pub mod SpecLemmas
 pub mod ReadBackLemmas
 pub mod FormsBackLemmas

@@ -1,5 +1,5 @@
 -- The reading of a refspec: what it is parsed to, apart from where its bytes lie.
-use Rattle.std.specs.Prelude.{◌⊎◌, ℕ, List, Option, IsSome}
+use Rattle.std.specs.Prelude.{◌⊎◌, ℕ, List, Option, IsSome, None, Some, codes}
 use Rattle.gix_refspec_text.specs.declared.parsing.Operation.{Operation}
 use Rattle.gix_refspec_text.specs.declared.parsing.Operation.TheVariants.{Push, Fetch}
 
@@ -32,3 +32,15 @@ remote_of r = side_on_remote r.operation r.source r.destination
 -- the local side
 abbrev pub local_of : Reading → Option (List ℕ)
 local_of r = side_on_remote r.operation r.destination r.source
+
+-- the reading with another destination
+abbrev pub with_destination : Reading → List ℕ → Reading
+with_destination r d = record { operation = r.operation; mode = r.mode; source = r.source; destination = Some d }
+
+-- a fetch of this source, without a destination
+abbrev pub fetched_alone : List ℕ → Reading
+fetched_alone x = record { operation = Fetch; mode = Normal; source = Some x; destination = None }
+
+-- the fetch of all tags, as `--tags` asks for it
+abbrev pub all_tags : Reading
+all_tags = record { operation = Fetch; mode = Normal; source = Some (codes "refs/tags/*"); destination = Some (codes "refs/tags/*") }

@@ -2,8 +2,10 @@
 
 use super::canonical;
 use bstr::BStr;
-use gix_refspec_text::parse;
+use gix_refspec_text::name::name_partial;
 use gix_refspec_text::parsing::Operation;
+use gix_refspec_text::side::written_name;
+use gix_refspec_text::{RefSpecRef, parse};
 use std::test::Fail;
 
 // A side as a row writes it.
@@ -151,6 +153,43 @@ fn keeps_a_sign_that_no_instruction_has(rt: HostRuntime) -> Result<(), Fail> {
             forced,
             "clone, {operation:?} at {text}"
         );
+    }
+    Ok(())
+}
+
+#[test]
+fn completes_destinations(rt: HostRuntime) -> Result<(), Fail> {
+    // As git 2.39 writes them.
+    let rows = [
+        ("refs/x", "refs/x"),
+        ("heads/x", "refs/heads/x"),
+        ("tags/x", "refs/tags/x"),
+        ("remotes/x/y", "refs/remotes/x/y"),
+        ("x", "refs/heads/x"),
+        ("tags", "refs/heads/tags"),
+        ("notes/x", "refs/heads/notes/x"),
+        ("HEAD", "refs/heads/HEAD"),
+    ];
+    for (destination, name) in rows {
+        let written = written_name(rt.alloc(), destination.as_bytes())?;
+        assert_eq!(&rt; written.as_bytes(), name.as_bytes(), "{destination}");
+    }
+    Ok(())
+}
+
+#[test]
+fn makes_specs(rt: HostRuntime) -> Result<(), Fail> {
+    let (main, head) = (BStr::new(b"refs/heads/main"), BStr::new(b"HEAD"));
+    assert!(&rt; name_partial(main).is_ok());
+    assert!(&rt; name_partial(head).is_ok());
+    let rows = [
+        (RefSpecRef::fetch_of(main), "refs/heads/main"),
+        (RefSpecRef::fetch_of(head), "HEAD"),
+        (RefSpecRef::fetch_of_all_tags(), "refs/tags/*:refs/tags/*"),
+    ];
+    for (made, text) in rows {
+        let printed = made.to_bstring(rt.alloc())?;
+        assert_eq!(&rt; printed.as_bytes(), text.as_bytes(), "{text}");
     }
     Ok(())
 }

@@ -49,7 +49,7 @@ back_update m s d text pos parts alike =
     (means Fetch m (Some (named_by t)) (Some d) pos ∙ ap (λ (x : List ℕ). Some (fetch_and_update x d (is_forced m))) (named_once s))
 
 -- `HEAD` and a destination after the sign of the mode
-head_parts : (m : Mode) (d : List ℕ) → IsPositive m → Lacks colon d → AreParts m head (Some d) (sign (is_forced m) ++ (head ++ (colon ∷ d)))
+pub head_parts : (m : Mode) (d : List ℕ) → IsPositive m → Lacks colon d → AreParts m head (Some d) (sign (is_forced m) ++ (head ++ (colon ∷ d)))
 head_parts Normal d pos lacks = record { signed = (refl, head_unsigned); last = lacks }
 head_parts Forced d pos lacks = record { signed = refl; last = lacks }
 head_parts Negative d pos lacks = absurd pos
