@@ -2,3 +2,4 @@
 pub mod Lists
 pub mod Mappings
 pub mod Hits
+pub mod Missing

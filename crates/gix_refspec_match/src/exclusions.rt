@@ -1,52 +1,56 @@
-//! What the negative specs of a group exclude.
+//! What the negative specs of a group exclude. `gix_refspec` asks with it for the spec that keeps a ref.
 
-ghost use Rattle.std.specs.Prelude.{◌⊎◌, ◌↔◌, ℕ, List, map, IfOk, OnOk, IsTrue};
+ghost use Rattle.std.specs.Prelude.{◌≡◌, ◌⊎◌, ◌↔◌, ℕ, List, map, IfOk, OnOk, IsTrue, MatchOption};
 ghost use Rattle.gix_refspec_text.specs.Views.Spec.{reading_of};
 ghost use Rattle.gix_refspec_match.specs.Matching.Mappings.{IsExcludedBy};
-ghost use Rattle.gix_refspec_match.specs.Private.Kept.{AreExclusionsOf, ExcludeName};
+ghost use Rattle.gix_refspec_match.specs.Private.Kept.{AreExclusionsAt, AreExclusionsOf, ExcludeName, ExcludeNameAt};
 
+use crate::index::Key;
 use crate::needle::word_between;
-use crate::types::NameRef;
-use bstr::BStr;
 use gix_refspec_text::RefSpecRef;
 use gix_refspec_text::side::split_at_first_star;
 use std::alloc::{AllocError, Global};
-use std::collections::HashSet;
+use std::collections::HashMap;
 
-// A pattern, by the texts before and after its star.
+// A pattern, by the texts before and after its star, and the index of its spec.
 #[derive(Clone, Copy)]
 struct Pattern<'a> {
     before: &'a [u8],
     after: &'a [u8],
+    spec_index: usize,
 }
 
-// What the negative specs of a group exclude. Each mapping is looked up in it, so its names are a set.
-// They are the client's: a server chooses no key of it.
+/// What the negative specs of a group exclude.
+// Each mapping is looked up in it, so its names are a map, to the indexes of specs. They are the client's: a server chooses no
+// key of it.
 #[derive(Drop)]
-pub(crate) struct Exclusions<'a> {
-    names: HashSet<NameRef<'a>>,
+pub struct Exclusions<'a> {
+    names: HashMap<Key<'a>, usize>,
     patterns: Vec<Pattern<'a>>,
 }
 
 impl<'a> Exclusions<'a> {
-    // What the negative specs among these exclude.
-    pub(crate) fn of(alloc: Global, specs: &[RefSpecRef<'a>]) -> Result<Exclusions<'a>, AllocError>
-        ensures { IfOk result (AreExclusionsOf (map reading_of specs.now)) }
+    /// What the negative specs among these exclude. Fails if memory runs out.
+    pub fn of(alloc: Global, specs: &[RefSpecRef<'a>]) -> Result<Exclusions<'a>, AllocError>
+        ensures names { IfOk result (AreExclusionsOf (map reading_of specs.now)) }
+        ensures indexes { IfOk result (AreExclusionsAt (map reading_of specs.now)) }
     {
         let mut exclusions = Exclusions {
-            names: HashSet::new(alloc),
+            names: HashMap::new(alloc),
             patterns: Vec::new(alloc),
         };
-        for spec in specs {
-            exclusions.add(*spec)?;
+        for (index, spec) in specs.iter().enumerate() {
+            exclusions.add(*spec, index)?;
         }
         Ok(exclusions)
     }
 
-    // Adds what a spec excludes, where it is negative.
-    fn add(&mut self, spec: RefSpecRef<'a>) -> Result<(), AllocError>
-        ensures { OnOk result ((n : List ℕ) →
+    // Adds what the spec at an index excludes, where it is negative.
+    fn add(&mut self, spec: RefSpecRef<'a>, spec_index: usize) -> Result<(), AllocError>
+        ensures names { OnOk result ((n : List ℕ) →
             ExcludeName self.new n ↔ (ExcludeName self.old n ⊎ IsExcludedBy n (reading_of spec.entry))) }
+        ensures indexes { OnOk result ((n : List ℕ) (k : ℕ) → ExcludeNameAt self.new n k →
+            ExcludeNameAt self.old n k ⊎ ((k ≡ spec_index) × IsExcludedBy n (reading_of spec.entry))) }
     {
         if !spec.is_negative() {
             return Ok(());
@@ -56,27 +60,35 @@ impl<'a> Exclusions<'a> {
         };
         match split_at_first_star(source.as_bytes()) {
             None => {
-                self.names.insert(NameRef::Borrowed(source))?;
+                let name = source.as_bytes();
+                self.names.insert(Key { name }, spec_index)?;
             }
-            Some((before, after)) => self.patterns.push(Pattern { before, after })?,
+            Some((before, after)) => self.patterns.push(Pattern {
+                before,
+                after,
+                spec_index,
+            })?,
         }
         Ok(())
     }
 
-    // Whether a name is excluded. It isn't hashed where there are no names to look it up among. It is inlined, since
-    // it is called for each mapping, and mostly nothing is excluded.
+    /// The index of a negative spec that excludes a name. `None` if none does.
+    // The name isn't hashed where there are no names to look it up among. This is inlined, since it is called for each
+    // mapping, and mostly nothing is excluded.
     #[inline(always)]
-    pub(crate) fn has_name(&self, name: &[u8]) -> bool
-        ensures { IsTrue result ↔ ExcludeName self.now name.now }
+    pub fn spec_of(&self, name: &[u8]) -> Option<usize>
+        ensures { MatchOption result (¬ (ExcludeName self.now name.now)) (ExcludeNameAt self.now name.now) }
     {
-        if !self.names.is_empty() && self.names.contains(&NameRef::Borrowed(BStr::new(name))) {
-            return true;
+        if !self.names.is_empty() {
+            if let Some(index) = self.names.get(&Key { name }) {
+                return Some(*index);
+            }
         }
         for pattern in &self.patterns {
             if word_between(pattern.before, pattern.after, name).is_some() {
-                return true;
+                return Some(pattern.spec_index);
             }
         }
-        false
+        None
     }
 }

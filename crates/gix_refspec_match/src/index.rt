@@ -2,7 +2,7 @@
 //! prefixes of patterns have an index each. Names that no matcher looks for take no memory and are no keys,
 //! since a server chooses them.
 
-ghost use Rattle.std.specs.Prelude.{◌≡◌, [], map, option_map, MatchOption, IfOk, ◌∷◌, nat_eq};
+ghost use Rattle.std.specs.Prelude.{◌≡◌, ◌↔◌, IsTrue, [], map, option_map, MatchOption, IfOk, ◌∷◌, nat_eq};
 ghost use Rattle.gix_refspec_match.specs.Views.Mapping.{name_bytes, ref_of};
 ghost use Rattle.gix_refspec_text.specs.Private.SideViews.{kind_of_side};
 ghost use Rattle.gix_refspec_match.specs.Private.Index.{HaveNamesOf, HavePlaces, list_of};
@@ -163,6 +163,22 @@ impl<'n> Index<'n> {
     }
 }
 
+// Which names have no item.
+impl<'n> Index<'n> {
+    ghost use Rattle.gix_refspec_match.specs.Private.Index.{HasNone};
+
+    // Whether a needle is a name that no item has.
+    pub(crate) fn lacks(&self, needle: SideKind<'n>) -> bool
+        ensures { IsTrue result ↔ HasNone self.now (kind_of_side needle.entry) }
+    {
+        match needle {
+            SideKind::FullName(name) => listed(&self.full, name).unwrap_or(&[]).is_empty(),
+            SideKind::Partial(name) => listed(&self.partials, name).unwrap_or(&[]).is_empty(),
+            SideKind::Pattern { .. } | SideKind::Object(_) => false,
+        }
+    }
+}
+
 // The indexes that are listed for a name.
 fn listed<'p>(places: &'p HashMap<Key<'_>, Vec<usize>>, name: &'p [u8]) -> Option<&'p [usize]>
     ensures { option_map (λ l. l.now) result ≡ option_map (λ l. l.items) (list_of places.now name.now) }
@@ -173,10 +189,10 @@ fn listed<'p>(places: &'p HashMap<Key<'_>, Vec<usize>>, name: &'p [u8]) -> Optio
     }
 }
 
-// A name, or the prefix of a pattern, as the key of an index.
+// A name, or the prefix of a pattern, as the key of a map.
 #[derive(Clone, Copy)]
-struct Key<'n> {
-    name: &'n [u8],
+pub(crate) struct Key<'n> {
+    pub(crate) name: &'n [u8],
 }
 
 impl<'n> PartialEq for Key<'n> {

@@ -15,12 +15,13 @@ ghost use Rattle.gix_refspec_match.specs.Private.Matchers.{HaveOthers};
 
 mod bloom;
 pub mod duplicates;
-mod exclusions;
+pub mod exclusions;
 pub mod hashes;
 mod hits;
 mod index;
 pub mod matcher;
-mod needle;
+pub mod missing;
+pub mod needle;
 pub mod types;
 mod unique;
 
@@ -147,7 +148,7 @@ fn map_forward<'spec, 'item>(
 {
     for hit in hits {
         let item = &items[hit.item];
-        if exclusions.has_name(item.full_ref_name.as_bytes()) {
+        if exclusions.spec_of(item.full_ref_name.as_bytes()).is_some() {
             continue;
         }
         let matcher = &matchers[hit.matcher];
@@ -181,7 +182,7 @@ fn map_backward<'spec, 'item>(
         let Some(source) = filled(alloc, matcher.other, word_in(matcher.needle, item))? else {
             continue;
         };
-        if exclusions.has_name(source.as_bstr().as_bytes()) {
+        if exclusions.spec_of(source.as_bstr().as_bytes()).is_some() {
             continue;
         }
         mappings.push(Mapping {

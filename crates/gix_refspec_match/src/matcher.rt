@@ -1,11 +1,12 @@
 //! The positive specs of a group, as they are matched: which side matches items, and what the other side is.
 //! The kinds of sides are found here, once.
 
-ghost use Rattle.std.specs.Prelude.{◌≡◌, [], false, map, option_map, unwrap_or, MatchOption, IfOk};
+ghost use Rattle.std.specs.Prelude.{◌≡◌, [], false, map, option_map, unwrap_or, MatchBool, MatchOption, IfOk};
 ghost use Rattle.bstr.specs.BStr.{bstr_bytes};
 ghost use Rattle.gix_refspec_text.specs.Texts.Name.{HasSeveralStars};
 ghost use Rattle.gix_refspec_text.specs.Views.Spec.{reading_of};
-ghost use Rattle.gix_refspec_match.specs.Private.Matchers.{AreMatchersOf, AreObjectsOf, HaveSides, HasNoIdNeedle, HasNoSides};
+ghost use Rattle.gix_refspec_match.specs.Private.Matchers.{AreNamed, AreMatchersOf, AreObjectsOf, HaveSides, HasNoIdNeedle, HasNoSides, IsNameKind};
+ghost use Rattle.gix_refspec_text.specs.Private.SideViews.{kind_of_side};
 ghost use Rattle.gix_refspec_match.specs.Private.Needles.{HasSideKind};
 
 use crate::duplicates::{Element, duplicates, is_flagged};
@@ -127,6 +128,30 @@ impl<'spec> Matchers<'spec> {
         Ok(Matchers { candidates, list })
     }
 
+    /// The positive specs whose source is a full or partial name. None of them is left out, whatever the others are.
+    pub(crate) fn of_names(
+        alloc: Global,
+        specs: &[RefSpecRef<'spec>],
+    ) -> Result<Matchers<'spec>, AllocError>
+        ensures { IfOk result (λ named. AreNamed (map reading_of specs.now) named.list.items) }
+    {
+        let mut list = Vec::new(alloc);
+        for (spec_index, spec) in specs.iter().enumerate() {
+            let Some(sides) = sides_of(spec) else {
+                continue;
+            };
+            if is_name(sides.source) {
+                list.push(Matcher {
+                    spec_index,
+                    needle: sides.source,
+                    other: None,
+                })?;
+            }
+        }
+        let candidates = Candidates::All;
+        Ok(Matchers { candidates, list })
+    }
+
     /// Whether some needle is an id.
     pub(crate) fn has_ids(&self) -> bool
         ensures { result ≡ false → HasNoIdNeedle self.now }
@@ -137,6 +162,20 @@ impl<'spec> Matchers<'spec> {
             }
         }
         false
+    }
+}
+
+// Whether a side is a full or partial name.
+fn is_name(side: SideKind<'_>) -> bool
+    ensures { MatchBool result
+        (IsNameKind (kind_of_side side.entry))
+        (¬ (IsNameKind (kind_of_side side.entry))) }
+{
+    match side {
+        SideKind::FullName(_) => true,
+        SideKind::Partial(_) => true,
+        SideKind::Pattern { .. } => false,
+        SideKind::Object(_) => false,
     }
 }
 

@@ -29,10 +29,11 @@ pub(crate) fn matches(needle: SideKind<'_>, item: &Item<'_>) -> bool
     }
 }
 
-// The word of a name between two texts, which never overlap. Most names that don't begin as they must have another
-// byte at the end of the first text, and comparing that one is faster than a call that compares them all.
+/// The word of a name between two texts, which never overlap. `None` if the name doesn't begin and end with them.
+// Most names that don't begin as they must have another byte at the end of the first text, and comparing that one is faster
+// than a call that compares them all.
 #[inline(always)]
-pub(crate) fn word_between<'a>(before: &[u8], after: &[u8], name: &'a [u8]) -> Option<&'a [u8]>
+pub fn word_between<'a>(before: &[u8], after: &[u8], name: &'a [u8]) -> Option<&'a [u8]>
     ensures { MatchOption result
         ((word : List ℕ) → ¬ (Fits before.now after.now name.now word))
         (λ word. Fits before.now after.now name.now word.now) }

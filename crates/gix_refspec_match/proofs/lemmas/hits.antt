@@ -4,3 +4,4 @@ pub mod FoundLemmas
 pub mod GroupLemmas
 pub mod MatcherLemmas
 pub mod ReachLemmas
+pub mod MissingLemmas

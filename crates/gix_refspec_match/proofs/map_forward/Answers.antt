@@ -6,16 +6,17 @@ use Rattle.gix_refspec_match.specs.declared.matcher.Candidates.TheVariants.{Firs
 use Rattle.gix_refspec_match.specs.Private.Hits.{hit_at}
 use Rattle.gix_refspec_match.specs.Private.Kept.{ExcludeName}
 use Rattle.gix_refspec_match.specs.Private.Needles.{filled_side}
+use Rattle.gix_refspec_match.proofs.lemmas.keep.ExclusionLemmas.{told_by_some}
 use Rattle.gix_refspec_match.proofs.lemmas.keep.FillLemmas.{excluded_next, included_next}
 use Rattle.gix_refspec_match.proofs.map_forward.Goals as goal
 
-pub loop-hit-preserved-then-has_name : goal.loop-hit-preserved-then-has_name
-loop-hit-preserved-then-has_name c =
+pub loop-hit-preserved-then-is_some : goal.loop-hit-preserved-then-is_some
+loop-hit-preserved-then-is_some c =
     excluded_next First _ _ _ _ _ _ (All-from_recursion _ _ c.requires _ (hit_at 0 0) c.loop-hit-test.true).matcher _ _ _ _ c.requires c.loop-hit-test.true c.loop-hit.invariant
-    refl (subst (ExcludeName c.args.exclusions.now) c.as_bytes.ensures (c.has_name.ensures.0 c.if-has_name.true))
+    refl (subst (ExcludeName c.args.exclusions.now) c.as_bytes.ensures ((told_by_some c.args.exclusions.now c.as_bytes.result.now c.spec_of.result c.is_some.result c.spec_of.ensures c.is_some.ensures).0 c.if-is_some.true))
 
 pub loop-hit-preserved : goal.loop-hit-preserved
 loop-hit-preserved c =
     included_next First _ _ _ _ _ _ _ _ _ _ _ c.requires c.loop-hit-test.true c.loop-hit.invariant
     (c.in_ok-filled.ensures ∙ ap (filled_side _) c.word_in.ensures) _ _ c.in_ok-push.ensures.items refl
-    (λ taken. false≢true (sym c.if-has_name.false ∙ c.has_name.ensures.1 (rw c.as_bytes.ensures taken)))
+    (λ taken. false≢true (sym c.if-is_some.false ∙ (told_by_some c.args.exclusions.now c.as_bytes.result.now c.spec_of.result c.is_some.result c.spec_of.ensures c.is_some.ensures).1 (rw c.as_bytes.ensures taken)))

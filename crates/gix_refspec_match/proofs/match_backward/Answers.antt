@@ -28,6 +28,6 @@ returns c =
     let later = rw (c.as_slice-list.ensures.value, c.as_slice-2.ensures.value, c.in_ok-later.ensures.tail) at c.in_ok-map_backward-2.ensures in
     let adds = adds_both _ _ _ _ _ _ _ _ _ first later in
     ok_weaker c.without_duplicates.result _ _ (λ kept is.
-    let (whole, are, stays) = kept_hits _ All _ _ [] _ _ _ _ c.in_ok-matchers.ensures c.in_ok-hits.ensures c.in_ok-exclusions.ensures adds is in
+    let (whole, are, stays) = kept_hits _ All _ _ [] _ _ _ _ c.in_ok-matchers.ensures c.in_ok-hits.ensures c.in_ok-exclusions.ensures.names adds is in
     record { all = _; backward = record { hits = whole; are_hits = are; all = refl }; is = stays })
     c.without_duplicates.ensures

@@ -24,7 +24,7 @@ returns c =
     let adds = adds_both _ _ _ _ _ _ _ _ _ first later in
     let made = c.in_ok-matchers.ensures in
     ok_weaker c.without_duplicates.result _ _ (λ kept is.
-    let (whole, are, stays) = kept_hits _ First _ _ _ _ _ _ _ made.matchers c.in_ok-hits.ensures c.in_ok-exclusions.ensures adds is in
+    let (whole, are, stays) = kept_hits _ First _ _ _ _ _ _ _ made.matchers c.in_ok-hits.ensures c.in_ok-exclusions.ensures.names adds is in
     let ids_are = objects_made 0 _ _ made.objects in
     record { all = _; forward = record { ids = _; hits = whole; are_ids = ids_are; are_hits = are; all = refl }; is = stays })
     c.without_duplicates.ensures

@@ -136,3 +136,10 @@ pub record IsIndexFor (which : Candidates) (refs : List Ref) (index : Index) (ki
 -- what is listed are the indexes for a needle of the kind, where the index has its names
 abbrev pub Serves : Index → SideKind → List ℕ → Type 0
 Serves index kind listed = (which : Candidates) (refs : List Ref) → IsIndexFor which refs index kind → ListsFor which refs kind listed
+
+-- a needle of the kind is a name that is listed for no ref
+abbrev pub HasNone : Index → SideKind → Type 0
+HasNone index (pattern before after) = ⊥
+HasNone index (full_name x) = places_listed (list_of index.full) x ≡ []
+HasNone index (object id) = ⊥
+HasNone index (partial x) = places_listed (list_of index.partials) x ≡ []

@@ -10,10 +10,10 @@ use Rattle.gix_refspec_match.specs.declared.matcher.Sides.{Sides}
 use Rattle.gix_refspec_text.specs.Texts.ObjectId.{id_bytes}
 use Rattle.gix_refspec_text.specs.Specs.Reading.{Reading}
 use Rattle.gix_refspec_text.specs.Specs.Grammar.{IsPositive}
-use Rattle.gix_refspec_text.specs.Matching.Side.{HasKind, object}
+use Rattle.gix_refspec_text.specs.Matching.Side.{SideKind, HasKind, pattern, full_name, object, partial}
 use Rattle.gix_refspec_text.specs.Matching.Match.{Ref, Matches, Takes}
 use Rattle.gix_refspec_text.specs.Private.SideViews.{kind_of_side}
-use Rattle.gix_refspec_match.specs.Matching.Lists.{IsJoinedFrom}
+use Rattle.gix_refspec_match.specs.Matching.Lists.{IsJoinedFrom, IsMadeFrom}
 use Rattle.gix_refspec_match.specs.Matching.Hits.{Ends, AreForwardEnds, AreBackwardEnds}
 use Rattle.gix_refspec_match.specs.Private.EqualSpecs.{FlagsEqual}
 use Rattle.gix_refspec_match.specs.Private.Kept.{IsFlagged}
@@ -96,3 +96,23 @@ HasNoIdNeedle ms = AllByRecursion (λ m. (id : List ℕ) → ¬ (kind_of_side m.
 -- each matcher has another side
 abbrev pub HaveOthers : List Matcher → Type 0
 HaveOthers ms = AllByRecursion (λ m. IsSome m.other) ms
+
+-- the kind is that of a name
+abbrev pub IsNameKind : SideKind → Type 0
+IsNameKind (pattern before after) = ⊥
+IsNameKind (full_name x) = Unit {0}
+IsNameKind (object id) = ⊥
+IsNameKind (partial x) = Unit {0}
+
+-- the matcher looks for the name that is the source of the positive reading at index k
+pub record IsNamed (k : ℕ) (r : Reading) (m : Matcher) : Type 0 where
+  pub positive : IsPositive r.mode
+  pub source : List ℕ
+  pub is : r.source ≡ Some source
+  pub kind : HasKind source (kind_of_side m.needle)
+  pub name : IsNameKind (kind_of_side m.needle)
+  pub spec : m.spec_index ≡ k
+
+-- the matchers of all such readings, in order
+abbrev pub AreNamed : List Reading → List Matcher → Type 0
+AreNamed g ms = IsMadeFrom IsNamed 0 g ms

@@ -41,7 +41,7 @@ no_object k r none = inr ((λ bytes asks. none asks.positive (rw asks.side)), re
 -- ---- a spec with sides
 
 -- a side that has a kind is there
-side_shown : (side : Option (List ℕ)) (k : DeclaredKind) → HasSideKind side (Some k) → (text : List ℕ) × (side ≡ Some text) × HasKind text (kind_of_side k)
+pub side_shown : (side : Option (List ℕ)) (k : DeclaredKind) → HasSideKind side (Some k) → (text : List ℕ) × (side ≡ Some text) × HasKind text (kind_of_side k)
 side_shown None k kind = absurd kind
 side_shown (Some text) k kind = (text, refl, kind)
 

@@ -1,21 +1,22 @@
 -- What negative specs exclude.
-use Rattle.std.proofs.Common.{Any, ◌≡◌, ◌⊎◌, inl, inr, ◌↔◌, ℕ, List, [], ◌∷◌, ◌++◌, Some, sym, ◌∙◌, true, IsTrue, bytes_eq, arith}
-use Rattle.std.specs.Cmp.Lexicographic.{bytes_decides, nat_list_eq_equiv}
-use Rattle.std.specs.HashSet as bag
-use Rattle.std.specs.HashSet.{HashSet}
+use Rattle.std.proofs.Common.{Any, Bool, cond, ◌≡◌, ◌⊎◌, inl, inr, ◌↔◌, ℕ, zero, suc, List, [], ◌∷◌, ◌++◌, Option, None, Some, IsSome, IsTrue, MatchOption, is_some, length, refl, sym, ap, subst, ◌∙◌, bytes_eq, arith}
+use Rattle.std.specs.Cmp.Lexicographic.{bytes_decides}
+use Rattle.std.specs.HashMap.{HashMap, hash_map_len}
+use Rattle.std.specs.List.{slice_get}
+use Rattle.std.specs.Map.{lookup}
 use Rattle.std.proofs.lemmas.Grind.{common_steps}
+use Rattle.std.proofs.lemmas.List.{nil_from_length}
 use Rattle.std.proofs.lemmas.List.Quantifiers.{Any-push}
-use Rattle.std.specs.Set.{KeepsOthers}
-use Rattle.std.proofs.lemmas.Bool.{cases_Bool}
-use Rattle.gix_refspec_match.specs.declared.types.NameRef.{NameRef}
+use Rattle.std.proofs.lemmas.Bool.{cases_Bool, false≢true}
+use Rattle.gix_refspec_match.specs.declared.exclusions.Exclusions.{Exclusions}
+use Rattle.gix_refspec_match.specs.declared.index.Key.{Key}
 use Rattle.gix_refspec_text.specs.Texts.Words.{Lacks}
 use Rattle.gix_refspec_text.specs.Texts.Bytes.{star}
 use Rattle.gix_refspec_text.specs.Specs.Reading.{Negative, Reading}
 use Rattle.gix_refspec_text.specs.Specs.Grammar.{IsAccepted}
 use Rattle.gix_refspec_text.specs.Matching.Side.{Fits, the_name, by_pattern}
 use Rattle.gix_refspec_match.specs.Matching.Mappings.{IsExcluded, IsExcludedBy}
-use Rattle.gix_refspec_match.specs.Views.Mapping.{name_bytes}
-use Rattle.gix_refspec_match.specs.Private.Kept.{has_name}
+use Rattle.gix_refspec_match.specs.Private.Kept.{AreExclusionsAt, ExcludeName, ExcludeNameAt, index_of}
 use Rattle.gix_refspec_text.proofs.lemmas.specs.AcceptedLemmas.{accepted_few}
 use Rattle.gix_refspec_text.proofs.lemmas.texts.TextLemmas.{Lacks-from_absent}
 use Rattle.gix_refspec_text.proofs.lemmas.lists.LacksLemmas.{Lacks-here, first_once}
@@ -55,21 +56,57 @@ exclusions_more (q ∷ g) r n Old New before added =
     let more = exclusions_more g r n (IsExcluded g n) (IsExcluded g n ⊎ IsExcludedBy n r) (grind arith) (grind arith) in
     grind (arith, before, added, more)
 
--- a set with one more name
-pub has_more : {S : Type 0} (old new : HashSet NameRef S) (key : NameRef) (n : List ℕ)
-    → bag.UpdatesBy (λ a b. bytes_eq (name_bytes a) (name_bytes b)) (λ k. bytes_eq (name_bytes key) (name_bytes k)) old new true
-    → IsTrue (has_name new n) ↔ (IsTrue (has_name old n) ⊎ (n ≡ name_bytes key))
-unfolding KeepsOthers
-has_more old new key n updates =
-    let x = name_bytes key in
-    elim (cases_Bool (bytes_eq x n)) [
-      | inl same ↦ let is : x ≡ n = (bytes_decides x n).0 same in (λ has. inr (sym is), λ was. rw (← is) updates.1)
-      | inr differ ↦
-          let others = updates.3 (λ k. bytes_eq n (name_bytes k)) (λ a b. nat_list_eq_equiv.congr n (name_bytes a) (name_bytes b))
-          (λ k same. nat_list_eq_equiv.symm n (name_bytes k) ∙ sym (nat_list_eq_equiv.congr x (name_bytes k) n same) ∙ differ) in
-          let other = bytes_decides x n in
-          grind (arith, others, other, differ)
-    ]
+-- a map with one more name
+pub index_more : (old new : List ℕ → Option ℕ) (x : List ℕ) (i : ℕ) → ((n : List ℕ) → new n ≡ cond (bytes_eq x n) (Some i) (old n))
+    → (n : List ℕ) → (IsSome (new n) ↔ (IsSome (old n) ⊎ (n ≡ x))) × ((k : ℕ) → new n ≡ Some k → (old n ≡ Some k) ⊎ ((k ≡ i) × (n ≡ x)))
+index_more old new x i updates n = elim (cases_Bool (bytes_eq x n)) [
+  | inl same ↦
+      let is : x ≡ n = (bytes_decides x n).0 same in
+      let here : new n ≡ Some i = updates n ∙ ap (λ (b : Bool). cond b (Some i) (old n)) same in (
+        ((λ some. inr (sym is)), (λ either. subst IsSome (sym here) refl)),
+        (λ k has. let one : Some k ≡ Some i = sym has ∙ here in inr (cc (one), sym is)),
+      )
+  | inr differ ↦
+      let there : new n ≡ old n = updates n ∙ ap (λ (b : Bool). cond b (Some i) (old n)) differ in (
+        ((λ some. inl (subst IsSome there some)), (λ either. elim either [ inl was ↦ subst IsSome (sym there) was | inr is ↦ absurd (false≢true (sym differ ∙ (bytes_decides x n).1 (sym is))) ])),
+        (λ k has. inl (sym there ∙ has)),
+      )
+]
+
+-- the element behind a list is at the index of its length, and those before stay
+at_behind : {X : Type 0} (xs : List X) (x : X) → slice_get (xs ++ x ∷ []) (length xs) ≡ Some x
+at_behind [] x = refl
+at_behind (y ∷ xs) x = at_behind xs x
+
+at_before : {X : Type 0} (xs : List X) (x : X) (k : ℕ) (y : X) → slice_get xs k ≡ Some y → slice_get (xs ++ x ∷ []) k ≡ Some y
+at_before [] x k y at = absurd (cc (at))
+at_before (z ∷ xs) x zero y at = at
+at_before (z ∷ xs) x (suc k) y at = at_before xs x k y at
+
+-- one more reading, at its index
+pub exclusions_at_more : (g : List Reading) (r : Reading) (i : ℕ) (old new : Exclusions) → i ≡ length g → AreExclusionsAt g old
+    → ((n : List ℕ) (k : ℕ) → ExcludeNameAt new n k → ExcludeNameAt old n k ⊎ ((k ≡ i) × IsExcludedBy n r)) → AreExclusionsAt (g ++ r ∷ []) new
+exclusions_at_more g r i old new long before adds n k at = elim (adds n k at) [
+  | inl was ↦ let (q, there, by) = before n k was in (q, at_before g r k q there, by)
+  | inr (same, by) ↦ (r, subst (λ (j : ℕ). slice_get (g ++ r ∷ []) j ≡ Some r) (sym (same ∙ long)) (at_behind g r), by)
+]
+
+-- what is excluded by some spec is excluded
+pub excluded_by_some : (es : Exclusions) (n : List ℕ) (k : ℕ) → ExcludeNameAt es n k → ExcludeName es n
+excluded_by_some es n k (inl found) = inl (subst IsSome (sym found) refl)
+excluded_by_some es n k (inr (j, p, below, is, (same, fits))) = inr (j, p, below, is, fits)
+
+-- a name is excluded where a spec is told that excludes it
+pub told_by_some : (es : Exclusions) (n : List ℕ) (found : Option ℕ) (b : Bool) → MatchOption found (¬ (ExcludeName es n)) (ExcludeNameAt es n) → b ≡ is_some found → IsTrue b ↔ ExcludeName es n
+told_by_some es n None b none is = ((λ so. absurd (false≢true (sym is ∙ so))), (λ excluded. absurd (none excluded)))
+told_by_some es n (Some k) b at is = ((λ so. excluded_by_some es n k at), (λ excluded. is))
+
+-- a map that has nothing for a name, or is empty, has no index for it
+pub nothing_found : (o : Option ℕ) → None ≡ o → ¬ (IsSome o)
+nothing_found o none some = false≢true (ap (λ (p : Option ℕ). is_some p) none ∙ some)
+
+pub unlisted : {S : Type 0} (m : HashMap Key ℕ S) → hash_map_len m ≡ 0 → (n : List ℕ) → None ≡ index_of m n
+unlisted m empty n = sym (ap (lookup (λ (k : Key). bytes_eq n k.name.now)) (nil_from_length m.entries empty))
 
 -- one more pattern
 pub Any-push-cases : {X : Type 0} (P : X → Type 0) (xs : List X) (x : X) → Any P (xs ++ x ∷ []) ↔ (Any P xs ⊎ P x)

@@ -1,11 +1,22 @@
 -- one more spec
-use Rattle.std.proofs.Common.{arith}
+use Rattle.std.proofs.Common.{take, take_all, arith}
+use Rattle.std.proofs.lemmas.List.{length-map, length-take-le}
 use Rattle.gix_refspec_text.specs.Views.Spec.{reading_of}
 use Rattle.gix_refspec_text.proofs.lemmas.lists.MapLemmas.{map_next}
-use Rattle.gix_refspec_match.proofs.lemmas.keep.ExclusionLemmas.{exclusions_more}
+use Rattle.gix_refspec_match.proofs.lemmas.keep.ExclusionLemmas.{exclusions_at_more, exclusions_more}
 use Rattle.gix_refspec_match.proofs.exclusions.Exclusions.of.Goals as goal
 
-pub loop-spec-preserved : goal.loop-spec-preserved
-loop-spec-preserved c n =
-    rw (map_next reading_of c.args.specs.now c.loop-spec.spec-index c.spec-item.result (omega arith) c.spec-item.is)
-    (exclusions_more _ _ n _ _ (c.loop-spec.invariant n) (c.in_ok-add.ensures n))
+pub loop-index-preserved : goal.loop-index-preserved
+loop-index-preserved c =
+    let specs = c.args.specs.now in
+    let i = c.loop-index.index in
+    rw (map_next reading_of specs i c.index-specs-index.result c.loop-index-test.true c.index-specs-index.is) (
+      (λ n. exclusions_more _ _ n _ _ (c.loop-index.invariant.0 n) (c.in_ok-add.ensures.names n)),
+      exclusions_at_more _ _ i c.loop-index.exclusions c.add.new.self (omega (arith, length-map (take i specs) reading_of, length-take-le i specs (omega (arith, c.loop-index-test.true)))) c.loop-index.invariant.1 c.in_ok-add.ensures.indexes,
+    )
+
+pub returns-clause-names : goal.returns-clause-names
+returns-clause-names c = rw (take_all c.loop-index.index c.args.specs.now (omega arith)) at c.loop-index.invariant.0
+
+pub returns-clause-indexes : goal.returns-clause-indexes
+returns-clause-indexes c = rw (take_all c.loop-index.index c.args.specs.now (omega arith)) at c.loop-index.invariant.1

@@ -1,0 +1,149 @@
+-- Specs whose source is a name, and names that no ref has.
+use Rattle.std.proofs.Common.{◌≡◌, ◌⊎◌, ◌↔◌, inl, inr, ℕ, zero, suc, ◌+◌, ◌<◌, List, [], ◌∷◌, ◌++◌, Option, None, Some, option_to_list, length, map, take, get_or, refl, sym, ◌∙◌, subst, arith}
+use Rattle.std.specs.List.{AllByRecursion, Contains}
+use Rattle.std.proofs.lemmas.List.{get_or_default, length-take-le, take_more}
+use Rattle.gix_refspec_text.specs.declared.spec.RefSpecRef.{RefSpecRef}
+use Rattle.gix_refspec_text.specs.declared.side.SideKind.TheVariants as side
+use Rattle.gix_refspec_text.specs.Specs.Reading.{Reading}
+use Rattle.gix_refspec_text.specs.Matching.Side.{SideKind, HasKind, pattern, full_name, object, partial}
+use Rattle.gix_refspec_text.specs.Matching.Match.{Ref, MatchesAs}
+use Rattle.gix_refspec_text.specs.Views.Spec.{reading_of}
+use Rattle.gix_refspec_text.specs.Private.SideViews.{kind_of_side}
+use Rattle.gix_refspec_match.specs.declared.index.Index.{Index}
+use Rattle.gix_refspec_match.specs.declared.matcher.Candidates.TheVariants.{All}
+use Rattle.gix_refspec_match.specs.declared.matcher.Matcher.{Matcher}
+use Rattle.gix_refspec_match.specs.declared.matcher.Sides.{Sides}
+use Rattle.gix_refspec_match.specs.Matching.Lists.{IsMadeFrom, MakesOf}
+use Rattle.gix_refspec_match.specs.Matching.Missing.{AreMissing, LacksSource}
+use Rattle.gix_refspec_match.specs.Private.Index.{HasNone, IsIndexFor, TakesWhole}
+use Rattle.gix_refspec_match.specs.Private.Matchers.{AreNamed, HasNoSides, HaveSides, IsNamed, IsNameKind}
+use Rattle.gix_refspec_match.proofs.lemmas.hits.HitLemmas.{one_kind}
+use Rattle.gix_refspec_match.proofs.lemmas.hits.MatcherLemmas.{side_shown}
+use Rattle.gix_refspec_match.proofs.lemmas.lists.JoinLemmas.{made_more, made_next}
+
+-- ---- the matchers of names
+
+pub named_here : (k : ℕ) (r : Reading) (sides : Sides) → HaveSides r sides → IsNameKind (kind_of_side sides.source) → IsNamed k r (record { spec_index = k; needle = sides.source; other = None })
+named_here k r sides have name =
+    let (text, there, kind) = side_shown r.source sides.source have.source in
+    record { positive = have.positive; source = text; is = there; kind = kind; name = name; spec = refl }
+
+pub other_here : (k : ℕ) (r : Reading) (sides : Sides) → HaveSides r sides → ¬ (IsNameKind (kind_of_side sides.source)) → (y : Matcher) → ¬ (IsNamed k r y)
+other_here k r sides have other y is =
+    let kind : HasKind is.source (kind_of_side sides.source) = rw is.is at have.source in
+    other (subst IsNameKind (one_kind is.source (kind_of_side y.needle) (kind_of_side sides.source) is.kind kind) is.name)
+
+pub none_here : (k : ℕ) (r : Reading) → HasNoSides r → (y : Matcher) → ¬ (IsNamed k r y)
+none_here k r none y is = none is.positive (rw is.is)
+
+pub named_next : (specs : List RefSpecRef) (i : ℕ) (s : RefSpecRef) (old new : List Matcher) (made : Option Matcher) → i < length specs → s ≡ get_or specs i s
+    → AreNamed (map reading_of (take i specs)) old → MakesOf IsNamed i (reading_of s) made → new ≡ old ++ option_to_list made → AreNamed (map reading_of (take (i + 1) specs)) new
+named_next specs i s old new made below is so_far makes more =
+    made_more IsNamed reading_of specs i s old new made below so_far (subst (λ (x : RefSpecRef). MakesOf IsNamed i (reading_of x) made) is makes) more
+
+-- ---- where nothing is made
+
+made_none : {X Y : Type 0} (R : ℕ → X → Y → Type 0) (k : ℕ) (xs : List X) → IsMadeFrom R k xs [] → (i : ℕ) (d : X) → i < length xs → (y : Y) → ¬ (R (k + i) (get_or xs i d) y)
+made_none R k [] made i d below y holds = absurd (omega arith)
+made_none R k (x ∷ xs) (Some z, rest, here, more, is) i d below y holds = absurd (cc)
+made_none R k (x ∷ xs) (None, rest, none, more, is) zero d below y holds = none y (subst (λ (n : ℕ). R n x y) (omega arith) holds)
+made_none R k (x ∷ xs) (None, rest, none, more, is) (suc i) d below y holds =
+    let at : k + suc i ≡ k + 1 + i = omega arith in
+    made_none R (k + 1) xs (subst (IsMadeFrom R (k + 1) xs) (sym is) more) i d (omega arith) y (subst (λ (n : ℕ). R n (get_or xs i d) y) at holds)
+
+none_made : {X Y : Type 0} (R : ℕ → X → Y → Type 0) (k : ℕ) (xs : List X) (ys : List Y) → ((i : ℕ) (d : X) → i < length xs → (y : Y) → ¬ (R (k + i) (get_or xs i d) y)) → IsMadeFrom R k xs ys → ys ≡ []
+none_made R k [] ys none made = made
+none_made R k (x ∷ xs) ys none (Some z, rest, here, more, is) = absurd (none 0 x (omega arith) z (subst (λ (n : ℕ). R n x z) (omega arith) here))
+none_made R k (x ∷ xs) ys none (None, rest, here, more, is) =
+    is ∙ none_made R (k + 1) xs rest (λ i d below y holds. none (suc i) d (omega arith) y (subst (λ (n : ℕ). R n (get_or xs i d) y) (omega arith) holds)) more
+
+-- ---- a name that no ref has
+
+-- a name matches a ref without a word
+without_word : (kind : SideKind) (ref : Ref) (word : Option (List ℕ)) → IsNameKind kind → MatchesAs kind ref word → MatchesAs kind ref None
+without_word (full_name n) ref word name is = (refl, is.1)
+without_word (partial n) ref word name is = (refl, is.1)
+without_word (pattern before after) ref word name is = absurd name
+without_word (object id) ref word name is = absurd name
+
+-- a name has none in the index exactly where it matches no ref
+lacks_kind : (index : Index) (refs : List Ref) (kind : SideKind) → IsNameKind kind → IsIndexFor All refs index kind → HasNone index kind ↔ ((ref : Ref) → Contains refs ref → ¬ (MatchesAs kind ref None))
+lacks_kind index refs (pattern before after) name for = absurd name
+lacks_kind index refs (object id) name for = absurd name
+lacks_kind index refs (full_name x) name for = (
+  (λ none ref (i, below, is) matches.
+      made_none _ 0 refs (subst (IsMadeFrom (λ k r place. TakesWhole (full_name x) All refs r × (place ≡ k)) 0 refs) none for.names) i ref below (0 + i)
+      (subst (λ (r : Ref). MatchesAs (full_name x) r None) (sym is) matches, refl)),
+  (λ none. none_made _ 0 refs _ (λ i d below y holds. none (get_or refs i d) (i, below, get_or_default refs i (get_or refs i d) d below) holds.0) for.names),
+)
+lacks_kind index refs (partial x) name for = (
+  (λ none ref (i, below, is) matches.
+      made_none _ 0 refs (subst (IsMadeFrom (λ k r place. TakesWhole (partial x) All refs r × (place ≡ k)) 0 refs) none for.names) i ref below (0 + i)
+      (subst (λ (r : Ref). MatchesAs (partial x) r None) (sym is) matches, refl)),
+  (λ none. none_made _ 0 refs _ (λ i d below y holds. none (get_or refs i d) (i, below, get_or_default refs i (get_or refs i d) d below) holds.0) for.names),
+)
+
+named_kind : (x : List ℕ) (kind : SideKind) → IsNameKind kind → HasKind x kind → HasKind x (full_name x) ⊎ HasKind x (partial x)
+named_kind x (full_name n) name of = inl (refl, of.1, of.2)
+named_kind x (partial n) name of = inr (refl, of.1, of.2, of.3)
+named_kind x (pattern before after) name of = absurd name
+named_kind x (object id) name of = absurd name
+
+-- a full or partial name is the kind of some side
+kind_named : (x : List ℕ) → HasKind x (full_name x) ⊎ HasKind x (partial x) → (m : Matcher) × HasKind x (kind_of_side m.needle) × IsNameKind (kind_of_side m.needle)
+kind_named x (inl full) = (record { spec_index = 0; needle = side.FullName (record { ref_ptr = (0, 0); now = x }); other = None }, full, tt)
+kind_named x (inr short) = (record { spec_index = 0; needle = side.Partial (record { ref_ptr = (0, 0); now = x }); other = None }, short, tt)
+
+-- the source of a matcher's spec is missing exactly where the index has none for its name
+module _ (index : Index) (refs : List Ref) (k : ℕ) (r : Reading) (m : Matcher) (is : IsNamed k r m) (for : IsIndexFor All refs index (kind_of_side m.needle)) where
+  missing_none : LacksSource refs r → HasNone index (kind_of_side m.needle)
+  missing_none lack =
+      let same : Some is.source ≡ Some lack.source = sym is.is ∙ lack.is in
+      let one : is.source ≡ lack.source = cc in
+      (lacks_kind index refs (kind_of_side m.needle) is.name for).1 (λ ref there matches. lack.absent ref None there (record { kind = kind_of_side m.needle; of = subst (λ (x : List ℕ). HasKind x (kind_of_side m.needle)) one is.kind; is = matches }))
+
+  none_missing : HasNone index (kind_of_side m.needle) → LacksSource refs r
+  none_missing none = record {
+    positive = is.positive;
+    source = is.source;
+    is = is.is;
+    named = named_kind is.source (kind_of_side m.needle) is.name is.kind;
+    absent = λ ref word there matches.
+        let same : matches.kind ≡ kind_of_side m.needle = one_kind is.source matches.kind (kind_of_side m.needle) matches.of is.kind in
+        (lacks_kind index refs (kind_of_side m.needle) is.name for).0 none ref there (without_word (kind_of_side m.needle) ref word is.name (subst (λ (s : SideKind). MatchesAs s ref word) same matches.is));
+  }
+
+-- the spec of a matcher that finds none is missing
+abbrev pub IsLacking : Index → ℕ → Matcher → ℕ → Type 0
+IsLacking index j m made = (made ≡ m.spec_index) × HasNone index (kind_of_side m.needle)
+
+-- a matcher, whose spec is missing or not, and those of the other specs
+missing_step : (index : Index) (refs : List Ref) (k j : ℕ) (r : Reading) (g : List Reading) (m : Matcher) (rest : List Matcher) (missing : List ℕ) → IsNamed k r m → IsIndexFor All refs index (kind_of_side m.needle)
+    → ((found : List ℕ) → IsMadeFrom (IsLacking index) (j + 1) rest found → IsMadeFrom (λ n q made. (made ≡ n) × LacksSource refs q) (k + 1) g found)
+    → IsMadeFrom (IsLacking index) j (m ∷ rest) missing → IsMadeFrom (λ n q made. (made ≡ n) × LacksSource refs q) k (r ∷ g) missing
+missing_step index refs k j r g m rest missing here for others (None, found, none, later, same) =
+    (None, found, (λ y both. none m.spec_index (refl, missing_none index refs k r m here for both.1)), others found later, same)
+missing_step index refs k j r g m rest missing here for others (Some p, found, lacks, later, same) =
+    (Some p, found, (lacks.0 ∙ here.spec, none_missing index refs k r m here for lacks.1), others found later, same)
+
+missing_made : (index : Index) (refs : List Ref) (k j : ℕ) (g : List Reading) (ms : List Matcher) (missing : List ℕ) → AllByRecursion (λ m. IsIndexFor All refs index (kind_of_side m.needle)) ms
+    → IsMadeFrom IsNamed k g ms → IsMadeFrom (IsLacking index) j ms missing → IsMadeFrom (λ n r made. (made ≡ n) × LacksSource refs r) k g missing
+missing_made index refs k j [] ms missing served named lacking = subst (λ (l : List Matcher). IsMadeFrom (IsLacking index) j l missing) named lacking
+missing_made index refs k j (r ∷ g) ms missing served (None, rest, none, more, is) lacking =
+    let still = subst (AllByRecursion (λ m. IsIndexFor All refs index (kind_of_side m.needle))) is served in
+    let others = missing_made index refs (k + 1) j g rest missing still more (subst (λ (l : List Matcher). IsMadeFrom (IsLacking index) j l missing) is lacking) in
+    (None, missing, (λ y both. let (m, kind, name) = kind_named both.1.source both.1.named in none (record { spec_index = k; needle = m.needle; other = None }) (record { positive = both.1.positive; source = both.1.source; is = both.1.is; kind = kind; name = name; spec = refl })), others, refl)
+missing_made index refs k j (r ∷ g) ms missing served (Some m, rest, here, more, is) lacking =
+    let for = subst (AllByRecursion (λ m. IsIndexFor All refs index (kind_of_side m.needle))) is served in
+    missing_step index refs k j r g m rest missing here for.0 (λ found later. missing_made index refs (k + 1) (j + 1) g rest found for.1 more later)
+    (subst (λ (l : List Matcher). IsMadeFrom (IsLacking index) j l missing) is lacking)
+
+pub all_missing : (index : Index) (refs : List Ref) (g : List Reading) (ms : List Matcher) (missing : List ℕ) → AllByRecursion (λ m. IsIndexFor All refs index (kind_of_side m.needle)) ms
+    → AreNamed g ms → IsMadeFrom (IsLacking index) 0 ms missing → AreMissing g refs missing
+all_missing index refs g ms missing served named lacking = missing_made index refs 0 0 g ms missing served named lacking
+
+-- one more matcher
+pub lacking_next : (index : Index) (ms : List Matcher) (i : ℕ) (m : Matcher) (old new : List ℕ) (made : Option ℕ) → i < length ms → IsMadeFrom (IsLacking index) 0 (take i ms) old
+    → MakesOf (IsLacking index) i (get_or ms i m) made → new ≡ old ++ option_to_list made → IsMadeFrom (IsLacking index) 0 (take (i + 1) ms) new
+lacking_next index ms i m old new made below so_far makes more =
+    rw (take_more ms i m below, more) (made_next (IsLacking index) i (take i ms) (get_or ms i m) old made (length-take-le i ms (omega arith)) so_far makes)
