@@ -349,7 +349,8 @@ def try_pruning(tried):
     expect("a full source", [tried.changed(local, *prune)[0] for _ in range(2)], [[main], []])
     gone = ["refs/remotes/origin/a", "refs/remotes/origin/b"]
     for values, deleted in (
-            ([TRACKING], gone), ([TRACKING, "^refs/heads/b"], gone[:1]), (["refs/heads/a:" + gone[0]], [])):
+            ([TRACKING], gone), ([TRACKING, "^refs/heads/b"], gone[:1]), (["refs/heads/a:" + gone[0]], []),
+            (["refs/heads/main:" + gone[0], "^refs/heads/main"], gone[:1])):
         local = tried.beside(remote, *values, own=gone)
         tried.git(local, "symbolic-ref", "refs/remotes/origin/s", "refs/heads/main")
         seen = tried.changed(local, *prune)[0]

@@ -4,6 +4,8 @@ pub mod OutcomeFacts
 pub mod ValidationFacts
 pub mod ValidationLawFacts
 pub mod PlanLawFacts
+pub mod PlanFacts
+pub mod FetchFacts
 pub mod RefNameFacts
 pub mod PlainNameFacts
 pub mod AskedFacts
@@ -14,3 +16,4 @@ pub mod ItemFacts
 pub mod KeptFacts
 pub mod GroupFacts
 pub mod NamesDecideFacts
+pub mod StaleFacts

@@ -4,3 +4,5 @@ pub mod prefixes
 pub mod hits
 pub mod keep
 pub mod validate
+pub mod plan
+pub mod stale

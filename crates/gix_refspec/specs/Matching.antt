@@ -6,5 +6,8 @@ pub mod Asked
 pub use Rattle.gix_refspec_match.specs.Matching.Lists
 pub use Rattle.gix_refspec_match.specs.Matching.Mappings
 pub use Rattle.gix_refspec_match.specs.Matching.Hits
+pub use Rattle.gix_refspec_match.specs.Matching.Missing
 pub mod Validation
 pub mod RefNames
+pub mod Plan
+pub mod Stale

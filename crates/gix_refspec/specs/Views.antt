@@ -6,3 +6,5 @@ pub use Rattle.gix_refspec_match.specs.Views.Mapping
 pub mod Group
 pub mod Issue
 pub use Rattle.gix_refspec_match.specs.Views.Hashed
+pub mod Plan
+pub mod Stale

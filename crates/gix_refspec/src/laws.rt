@@ -21,8 +21,10 @@ ghost use Rattle.gix_refspec_text.specs.Views.Errors.{IsSameError};
 ghost use Rattle.gix_refspec.specs.Matching.RefNames.{WritesRefs};
 ghost use Rattle.gix_refspec.specs.Laws.Indexes.{MadeAtIndexes, RemainsExactly};
 ghost use Rattle.gix_refspec.specs.Laws.Plans.{NoControlCharacter, PlansApart};
+ghost use Rattle.gix_refspec.specs.Laws.Fetches.{CarriedOutExactly, ConflictsExactly, OnePlan, WritesOnce};
 ghost use Rattle.gix_refspec.specs.Laws.Reasons.{ReasonRefuses};
 ghost use Rattle.gix_refspec.specs.Laws.Names.{PlainNames};
+ghost use Rattle.gix_refspec.specs.Views.Plan.{wish_of};
 ghost use Rattle.gix_refspec_text.specs.Views.Spec.{reading_of, owned_reading_of};
 ghost use Rattle.gix_refspec_text.specs.Views.Instruction.{meaning_of_instruction, meaning_of_fetch, meaning_of_push};
 ghost use Rattle.gix_refspec_match.specs.Views.Hashed.{source_writes, pair_writes};
@@ -30,6 +32,7 @@ ghost use Rattle.gix_refspec_match.specs.Views.Hashed.{source_writes, pair_write
 use crate::match_group::ref_names::InvalidSide;
 use crate::match_group::validate::{Fix, Issue};
 use crate::match_group::{Item, Mapping, NameRef, Outcome, SourceRef, match_lhs};
+use crate::plan::Wish;
 use crate::{Instruction, MatchGroup, RefSpec, RefSpecRef, name, oid, parsing};
 use gix_refspec_text::instruction::{Fetch, Push};
 use gix_refspec_text::name::PatternError;
@@ -321,6 +324,29 @@ pub fn plans_apart()
 /// a byte below 32. So no mapping of `match_lhs` contains one, if no name of an item does.
 pub fn no_control_character()
     ensures { NoControlCharacter }
+{}
+
+/// A wish and the refs of a remote determine what `plan_fetch` returns.
+pub fn one_plan(wish: &Wish<'_, '_>, items: &[Item<'_>])
+    ensures { OnePlan (wish_of wish.now) (map ref_of items.now) }
+{}
+
+/// No two updates that `plan_fetch` says are written have the same destination.
+pub fn writes_once(wish: &Wish<'_, '_>, items: &[Item<'_>])
+    ensures { WritesOnce (wish_of wish.now) (map ref_of items.now) }
+{}
+
+/// An update of `plan_fetch` is in conflict exactly if another one has the same destination and another source, and
+/// neither is left out or overruled.
+pub fn conflicts_exactly(wish: &Wish<'_, '_>, items: &[Item<'_>])
+    ensures { ConflictsExactly (wish_of wish.now) (map ref_of items.now) }
+{}
+
+/// What `plan_fetch` returns is carried out exactly if no two updates conflict, and the remote has the source of each
+/// spec of the call, or without any of each configured one. The source of a pattern, an object id or a negative spec is
+/// never missing. If nothing is asked for, configured or merged, the remote has to have `HEAD`.
+pub fn carried_out_exactly(wish: &Wish<'_, '_>, items: &[Item<'_>])
+    ensures { CarriedOutExactly (wish_of wish.now) (map ref_of items.now) }
 {}
 
 /// An outcome has at most one list of conflicts, one of survivors and one of fixes: the contract of

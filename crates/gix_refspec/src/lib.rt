@@ -32,6 +32,8 @@
 
 pub mod laws;
 pub mod match_group;
+pub mod plan;
+pub mod stale;
 
 pub use gix_refspec_text::parsing::Operation;
 pub use gix_refspec_text::{

@@ -1,6 +1,7 @@
 //! Groups and items, what is asked for and mapped, what is refused of memory, and whether values are equal
 //! and hash alike.
 
+mod absent;
 mod agreement;
 mod alike;
 mod asking;
@@ -12,5 +13,7 @@ mod hostile;
 mod large;
 mod mapping;
 mod names;
+mod plans;
 mod sides;
+mod stale;
 mod validation;

@@ -8,7 +8,7 @@ ghost use Rattle.gix_refspec.specs.Views.Group.{readings_of};
 ghost use Rattle.gix_refspec.specs.Matching.Validation.{IndexesFit, AreConflicts, AreFixes, IsValidated, IsWritable, Survives};
 ghost use Rattle.gix_refspec.specs.Views.Issue.{mappings_of, removed_of};
 
-mod conflicts;
+pub(crate) mod conflicts;
 
 use crate::match_group::types::match_lhs;
 use bstr::BString;

@@ -53,7 +53,7 @@ copied_mapping m copy is =
 
 -- ---- names and paths
 
-name_of_ref : (n : List ℕ) → IsRefName n → IsName n
+pub name_of_ref : (n : List ℕ) → IsRefName n → IsName n
 name_of_ref n (inl full) = full.1
 name_of_ref n (inr is) = subst IsName (sym is) IsName-head
 

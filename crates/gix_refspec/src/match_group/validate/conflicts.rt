@@ -21,9 +21,9 @@ use std::alloc::{AllocError, Global};
 
 // A destination, and the index of a mapping to it.
 #[derive(Clone, Copy, PartialEq, Eq, PartialOrd, Ord)]
-struct Update<'m> {
-    destination: &'m [u8],
-    index: usize,
+pub(crate) struct Update<'m> {
+    pub(crate) destination: &'m [u8],
+    pub(crate) index: usize,
 }
 
 // The conflicts of some mappings. Fails if memory runs out; never without mappings.
@@ -49,7 +49,7 @@ pub(crate) fn issues_of(
 }
 
 // Whether no two mappings have the same destination: then there is no conflict.
-fn destinations_differ(alloc: Global, mappings: &[Mapping<'_, '_>]) -> Result<bool, AllocError>
+pub(crate) fn destinations_differ(alloc: Global, mappings: &[Mapping<'_, '_>]) -> Result<bool, AllocError>
     ensures { IfOk result (λ differ. IsTrue differ →
         (d : List ℕ) → ¬ (HasConflictAt (map mapped_of mappings.now) d)) }
 {
@@ -77,7 +77,7 @@ fn destinations_of<'m>(
 
 // The updates of the mappings that have a destination and aren't flagged, by destination and then by
 // index.
-fn updates_in_order<'m>(
+pub(crate) fn updates_in_order<'m>(
     alloc: Global,
     mappings: &'m [Mapping<'_, '_>],
     flags: &[bool],
@@ -144,7 +144,7 @@ fn add_issue(
 }
 
 // How many of the sorted updates, from the first on, have the first one's destination.
-fn len_of_run(updates: &[Update<'_>]) -> usize
+pub(crate) fn len_of_run(updates: &[Update<'_>]) -> usize
     requires some { 0 < length updates.now }
     requires order { IsStrictlySortedBy update_cmp updates.now }
     ensures some { 0 < result }

@@ -1,0 +1,8 @@
+-- Lemmas on stale refs.
+pub mod ZipLemmas
+pub mod FetchedLemmas
+pub mod NamedLemmas
+pub mod SourceLemmas
+pub mod WriterLemmas
+pub mod PatternLemmas
+pub mod StateLemmas

@@ -1,0 +1,15 @@
+-- The specs are completed without where they come from.
+use Rattle.std.proofs.Common.{List, map, ap, ◌∙◌, subst}
+use Rattle.std.specs.List.{AllZip}
+use Rattle.gix_refspec_text.specs.Specs.Reading.{Reading}
+use Rattle.gix_refspec_text.specs.Views.Spec.{reading_of}
+use Rattle.gix_refspec_match.proofs.lemmas.duplicates.FlagLemmas.{ok_weaker}
+use Rattle.gix_refspec.specs.Matching.Plan.{IsCompleted}
+use Rattle.gix_refspec.proofs.plan.mapped.mapped.Goals as goal
+
+pub returns : goal.returns
+returns c = ok_weaker c.mapped_by_specs.result _ _ (λ all by. record {
+  completed = by.completed;
+  are = subst (λ (g : List Reading). AllZip IsCompleted g by.completed) (ap (map reading_of) c.as_slice.ensures.value ∙ c.in_ok-specs.ensures) by.are;
+  kept = by.kept;
+}) c.mapped_by_specs.ensures

@@ -1,0 +1,42 @@
+//! Sources that no ref of the remote has.
+
+use super::mapping::{TARGET, group_of, items_of};
+use gix_refspec::oid::ObjectId;
+use gix_refspec::parsing::Operation;
+use gix_refspec_match::missing::missing_sources;
+use std::test::Fail;
+
+#[test]
+fn finds_missing_sources(rt: HostRuntime) -> Result<(), Fail> {
+    let alloc = rt.alloc();
+    let target = ObjectId::from_hex(TARGET.as_bytes())?;
+    // Specs, names of refs, and the indexes of the specs whose source is missing.
+    let rows = [
+        (
+            "refs/heads/main refs/heads/next:refs/x",
+            "refs/heads/main",
+            "1",
+        ),
+        ("main next", "refs/heads/main", "1"),
+        ("main", "refs/remotes/main/HEAD", ""),
+        ("main", "refs/heads/main/x", "0"),
+        ("HEAD HEAD", "refs/heads/main", "0 1"),
+        // Patterns, ids and negative specs lack nothing.
+        (
+            "refs/x/*:refs/y/* 1111111111111111111111111111111111111111 ^refs/x",
+            "refs/heads/main",
+            "",
+        ),
+    ];
+    for (specs, names, indexes) in rows {
+        let group = group_of(alloc, Operation::Fetch, specs)?;
+        let items = items_of(alloc, names, &target)?;
+        let mut text = String::new(alloc);
+        for index in &missing_sources(alloc, group.specs.as_slice(), items.as_slice())? {
+            let space = if text.is_empty() { "" } else { " " };
+            text.push_str(format!(in alloc; "{space}{index}")?.as_str())?;
+        }
+        assert_eq!(&rt; text.as_str(), indexes, "{specs} among {names}");
+    }
+    Ok(())
+}

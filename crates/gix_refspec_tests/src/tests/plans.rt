@@ -1,0 +1,316 @@
+//! What fetches plan. Each row is what git 2.39 fetches, by `tests/git-refspec.py` and by hand.
+
+use super::mapping::{TARGET, items_of};
+use bstr::BStr;
+use gix_refspec::match_group::SourceRef;
+use gix_refspec::match_group::ref_names::InvalidSide;
+use gix_refspec::oid::ObjectId;
+use gix_refspec::parsing::Operation;
+use gix_refspec::plan::{Origin, Plan, Update, Verdict, Wish, plan_fetch};
+use gix_refspec::{RefSpecRef, parse};
+use std::alloc::{AllocError, Global};
+use std::process::Abort;
+use std::test::Fail;
+
+// What a fetch is asked for, one spec or name a word; the names of the remote; and what is planned.
+#[derive(Clone, Copy)]
+struct Row<'r> {
+    given: &'r str,
+    configured: &'r str,
+    merges: &'r str,
+    tags: bool,
+    names: &'r str,
+    planned: &'r str,
+}
+
+const NOTHING: Row<'static> = Row {
+    given: "",
+    configured: "",
+    merges: "",
+    tags: false,
+    names: "",
+    planned: "",
+};
+
+const ORIGIN: &str = "+refs/heads/*:refs/remotes/origin/*";
+
+pub(super) fn specs_of<'a>(alloc: Global, words: &'a str) -> Result<Vec<RefSpecRef<'a>>, Fail> {
+    let mut specs = Vec::new(alloc);
+    if words.is_empty() {
+        return Ok(specs);
+    }
+    for word in words.split(' ') {
+        specs.push(parse(alloc, BStr::new(word.as_bytes()), Operation::Fetch)?)?;
+    }
+    Ok(specs)
+}
+
+fn names_of<'a>(alloc: Global, words: &'a str) -> Result<Vec<BStr<'a>>, AllocError> {
+    let mut names = Vec::new(alloc);
+    if words.is_empty() {
+        return Ok(names);
+    }
+    for word in words.split(' ') {
+        names.push(BStr::new(word.as_bytes()))?;
+    }
+    Ok(names)
+}
+
+fn origin_text(alloc: Global, origin: Origin) -> Result<String, AllocError> {
+    match origin {
+        Origin::Given(index) => format!(in alloc; "given {index}"),
+        Origin::Configured(index) => format!(in alloc; "configured {index}"),
+        Origin::Merge(index) => format!(in alloc; "merge {index}"),
+        Origin::Default => format!(in alloc; "default"),
+        Origin::AllTags => format!(in alloc; "tags"),
+    }
+}
+
+fn verdict_text(verdict: Verdict) -> &'static str {
+    match verdict {
+        Verdict::Written => "written",
+        Verdict::LeftOut(InvalidSide::Source) => "source",
+        Verdict::LeftOut(InvalidSide::Destination) => "destination",
+        Verdict::LeftOut(InvalidSide::Both) => "both",
+        Verdict::InConflict => "conflict",
+        Verdict::Overruled => "overruled",
+    }
+}
+
+// The spec, the source with the index of its item, the destination and the verdict.
+fn line_of(alloc: Global, update: &Update<'_>) -> Result<String, AllocError> {
+    let origin = origin_text(alloc, update.origin)?;
+    let item = match update.item_index {
+        None => format!(in alloc; "-")?,
+        Some(index) => format!(in alloc; "{index}")?,
+    };
+    let source = match &update.source {
+        SourceRef::FullName(name) => format!(in alloc; "{}", name.as_bstr())?,
+        SourceRef::ObjectId(id) => format!(in alloc; "{id}")?,
+    };
+    let verdict = verdict_text(update.verdict);
+    match &update.destination {
+        None => format!(in alloc; "{origin} {item} {source} - {verdict}\n"),
+        Some(name) => format!(in alloc; "{origin} {item} {source} {name} {verdict}\n"),
+    }
+}
+
+fn text_of(alloc: Global, plan: &Plan<'_>) -> Result<String, AllocError> {
+    let mut text = String::new(alloc);
+    for update in &plan.updates {
+        text.push_str(line_of(alloc, update)?.as_str())?;
+    }
+    for origin in &plan.missing {
+        let origin = origin_text(alloc, *origin)?;
+        text.push_str(format!(in alloc; "missing {origin}\n")?.as_str())?;
+    }
+    Ok(text)
+}
+
+// The lines of what is planned, and whether it is carried out.
+fn planned<'r>(alloc: Global, row: Row<'r>, target: &'r ObjectId) -> Result<(String, bool), Fail> {
+    let given = specs_of(alloc, row.given)?;
+    let configured = specs_of(alloc, row.configured)?;
+    let merges = names_of(alloc, row.merges)?;
+    let items = items_of(alloc, row.names, target)?;
+    let wish = Wish {
+        given: given.as_slice(),
+        configured: configured.as_slice(),
+        merges: merges.as_slice(),
+        tags: row.tags,
+    };
+    let made = plan_fetch(alloc, &wish, items.as_slice())?;
+    Ok((text_of(alloc, &made)?, made.is_carried_out()))
+}
+
+fn check(rt: &(impl Abort + AllocGlobal), rows: &[Row<'_>]) -> Result<(), Fail> {
+    let alloc = rt.alloc();
+    let target = ObjectId::from_hex(TARGET.as_bytes())?;
+    for row in rows {
+        let (lines, is_carried_out) = planned(alloc, *row, &target)?;
+        assert_eq!(rt; lines.as_str(), row.planned);
+        let stops = row.planned.contains(" conflict\n") || row.planned.contains("missing ");
+        assert_eq!(rt; is_carried_out, !stops, "{}", row.planned);
+    }
+    Ok(())
+}
+
+#[test]
+fn applies_configured_specs_to_what_is_given(rt: HostRuntime) -> Result<(), Fail> {
+    check(
+        &rt,
+        &[
+            Row {
+                given: "main",
+                configured: ORIGIN,
+                names: "HEAD refs/heads/dev refs/heads/main",
+                planned: "given 0 2 refs/heads/main - written\n\
+                    configured 0 2 refs/heads/main refs/remotes/origin/main written\n",
+                ..NOTHING
+            },
+            // What a spec of the call writes wins, and a pair is listed once.
+            Row {
+                given: "dev:refs/remotes/origin/main main:refs/remotes/origin/main2 main",
+                configured: "+refs/heads/*:refs/remotes/origin/* refs/heads/main:refs/remotes/origin/main2",
+                names: "refs/heads/dev refs/heads/main",
+                planned: "given 0 0 refs/heads/dev refs/remotes/origin/main written\n\
+                    given 1 1 refs/heads/main refs/remotes/origin/main2 written\n\
+                    given 2 1 refs/heads/main - written\n\
+                    configured 0 0 refs/heads/dev refs/remotes/origin/dev written\n\
+                    configured 0 1 refs/heads/main refs/remotes/origin/main overruled\n",
+                ..NOTHING
+            },
+            // Negative specs of the call exclude from both, and configured ones from neither.
+            Row {
+                given: "refs/heads/*:refs/x/* ^refs/heads/dev",
+                configured: "+refs/heads/*:refs/remotes/origin/* ^refs/heads/main",
+                names: "refs/heads/dev refs/heads/main",
+                planned: "given 0 1 refs/heads/main refs/x/main written\n\
+                    configured 0 1 refs/heads/main refs/remotes/origin/main written\n",
+                ..NOTHING
+            },
+            // Two configured sources of one destination.
+            Row {
+                given: "a b",
+                configured: "refs/heads/a:refs/r refs/heads/b:refs/r",
+                names: "refs/heads/a refs/heads/b",
+                planned: "given 0 0 refs/heads/a - written\n\
+                    given 1 1 refs/heads/b - written\n\
+                    configured 0 0 refs/heads/a refs/r conflict\n\
+                    configured 1 1 refs/heads/b refs/r conflict\n",
+                ..NOTHING
+            },
+            // An exact source that wasn't taken isn't missing. All tags follow what is given, and aren't tracked.
+            Row {
+                given: "a",
+                configured: "refs/heads/b:refs/b refs/tags/*:refs/t/*",
+                tags: true,
+                names: "refs/heads/a refs/heads/b refs/tags/v1",
+                planned: "given 0 0 refs/heads/a - written\ntags 2 refs/tags/v1 refs/tags/v1 written\n",
+                ..NOTHING
+            },
+        ],
+    )
+}
+
+#[test]
+fn fetches_what_is_configured(rt: HostRuntime) -> Result<(), Fail> {
+    check(
+        &rt,
+        &[
+            Row {
+                names: "HEAD refs/heads/main",
+                planned: "default 0 HEAD - written\n",
+                ..NOTHING
+            },
+            Row {
+                names: "refs/heads/main",
+                planned: "missing default\n",
+                ..NOTHING
+            },
+            // A merged ref that a spec fetches is covered.
+            Row {
+                configured: ORIGIN,
+                merges: "refs/heads/main refs/tags/v1 refs/tags/v1 refs/heads/gone",
+                names: "HEAD refs/heads/main refs/tags/v1",
+                planned: "configured 0 1 refs/heads/main refs/remotes/origin/main written\n\
+                    merge 1 2 refs/tags/v1 - written\n",
+                ..NOTHING
+            },
+            // Without values of the remote the merged ref alone is fetched, and no other name than a full one.
+            Row {
+                merges: "main refs/heads/main refs/heads/*",
+                names: "HEAD refs/heads/main",
+                planned: "merge 1 1 refs/heads/main - written\n",
+                ..NOTHING
+            },
+            Row {
+                configured: "refs/heads/*:refs/remotes/origin/* ^refs/heads/main ^refs/tags/v*",
+                merges: "refs/heads/main",
+                tags: true,
+                names: "refs/heads/dev refs/heads/main refs/tags/v1 refs/tags/w",
+                planned: "configured 0 0 refs/heads/dev refs/remotes/origin/dev written\n\
+                    tags 3 refs/tags/w refs/tags/w written\n",
+                ..NOTHING
+            },
+        ],
+    )
+}
+
+#[test]
+fn completes_destinations_as_git_does(rt: HostRuntime) -> Result<(), Fail> {
+    check(
+        &rt,
+        &[Row {
+            given: "main:heads/x main:tags/x main:remotes/x main:x main:HEAD main:refs/x main:refs/heads/x main:EEEEEEEEEEEEEEEEEEEEEEEEEEEEEEEEEEEEEEEE 1111111111111111111111111111111111111111:heads/i",
+            names: "refs/heads/main",
+            planned: "given 8 - 1111111111111111111111111111111111111111 refs/heads/i written\n\
+                given 0 0 refs/heads/main refs/heads/x written\n\
+                given 1 0 refs/heads/main refs/tags/x written\n\
+                given 2 0 refs/heads/main refs/remotes/x written\n\
+                given 4 0 refs/heads/main refs/heads/HEAD written\n\
+                given 5 0 refs/heads/main refs/x written\n\
+                given 7 0 refs/heads/main refs/heads/EEEEEEEEEEEEEEEEEEEEEEEEEEEEEEEEEEEEEEEE written\n",
+            ..NOTHING
+        }],
+    )
+}
+
+#[test]
+fn leaves_out_what_is_no_ref_name(rt: HostRuntime) -> Result<(), Fail> {
+    check(
+        &rt,
+        &[
+            Row {
+                configured: "*:* refs/heads/*:foo/* refs/heads/l*:refs/x/a.l*",
+                names: "HEAD refs/heads/lock",
+                planned: "configured 0 0 HEAD HEAD destination\n\
+                    configured 0 1 refs/heads/lock refs/heads/lock written\n\
+                    configured 1 1 refs/heads/lock foo/lock destination\n\
+                    configured 2 1 refs/heads/lock refs/x/a.lock destination\n",
+                ..NOTHING
+            },
+            // A ref that is only left out isn't taken.
+            Row {
+                given: "refs/heads/l*:refs/x/a.l*",
+                configured: ORIGIN,
+                names: "refs/heads/lock",
+                planned: "given 0 0 refs/heads/lock refs/x/a.lock destination\n",
+                ..NOTHING
+            },
+        ],
+    )
+}
+
+#[test]
+fn fetches_nothing_where_a_source_is_missing(rt: HostRuntime) -> Result<(), Fail> {
+    check(
+        &rt,
+        &[
+            Row {
+                given: "gone main refs/heads/gone:refs/x refs/gone/*:refs/y/* ^gone",
+                configured: ORIGIN,
+                names: "refs/heads/main",
+                planned: "given 1 0 refs/heads/main - written\n\
+                    configured 0 0 refs/heads/main refs/remotes/origin/main written\n\
+                    missing given 0\nmissing given 2\n",
+                ..NOTHING
+            },
+            // Even a source that is excluded.
+            Row {
+                configured: "refs/heads/gone:refs/x ^refs/heads/gone",
+                names: "refs/heads/main",
+                planned: "missing configured 0\n",
+                ..NOTHING
+            },
+            Row {
+                given: "a:refs/x b:refs/x b",
+                names: "refs/heads/a refs/heads/b",
+                planned: "given 0 0 refs/heads/a refs/x conflict\n\
+                    given 1 1 refs/heads/b refs/x conflict\n\
+                    given 2 1 refs/heads/b - written\n",
+                ..NOTHING
+            },
+        ],
+    )
+}
