@@ -1,9 +1,8 @@
-/* Calls the archive as a program in C does: bindings [canon OPERATION | lhs | rhs | plan | measure]
+/* Calls the archive as a program in C does: bindings [canon OPERATION | lhs | rhs | measure]
  *
  * Without words it makes each call with each outcome, at the exact size and at smaller ones, with each growth of
- * memory refused in turn, from four threads, and on a stack of 16 kB. With words it answers the lines of its input as
- * refspec_map does, of good lines alone, and not where ids are looked back for; before a plan it prints how many mappings
- * have a bad name or are left out. `measure` times a match and a plan. */
+ * memory refused in turn, from four threads, and on a stack of 24 kB. With words it answers the lines of its input as
+ * refspec_map does, of good lines alone, and not where ids are looked back for. `measure` times a match and a plan. */
 #include <gix_refspec.h>
 #include <pthread.h>
 #include <stdbool.h>
@@ -46,7 +45,7 @@ void *__wrap_realloc(void *block, size_t size)
 #ifdef __SANITIZE_ADDRESS__
 #define SMALL_STACK 65536
 #else
-#define SMALL_STACK 16384
+#define SMALL_STACK 24576
 #endif
 
 #define BYTES(text) (const uint8_t *)(text), strlen(text)
@@ -200,14 +199,14 @@ static void check_other_texts(void)
 
 static void check_explanations(void)
 {
-    for (uint32_t outcome = 0; outcome <= GIX_REFSPEC_IN_CONFLICT; outcome++) {
+    for (uint32_t outcome = 0; outcome <= GIX_REFSPEC_MISSING_SOURCE; outcome++) {
         gix_refspec_text sentence = GIX_REFSPEC_TEXT_INIT;
         CHECK(gix_refspec_explanation(outcome, &sentence) == GIX_REFSPEC_OK);
         CHECK(sentence.len > 10 && memchr(sentence.bytes, 0, sentence.len + 1) == sentence.bytes + sentence.len);
         CHECK(sentence.bytes[sentence.len - 1] == '.');
     }
     gix_refspec_text none = GIX_REFSPEC_TEXT_INIT;
-    CHECK(gix_refspec_explanation(GIX_REFSPEC_IN_CONFLICT + 1, &none) == GIX_REFSPEC_NO_OPERATION && none.len == 0);
+    CHECK(gix_refspec_explanation(GIX_REFSPEC_MISSING_SOURCE + 1, &none) == GIX_REFSPEC_NO_OPERATION && none.len == 0);
 }
 
 static const struct {
@@ -336,7 +335,8 @@ static void check_mappings(void)
     check_lists(match, 3, "1111111111111111111111111111111111111111refs/x/b", GIX_REFSPEC_OK, made);
     CHECK(made[0].spec == 2 && made[0].item == GIX_REFSPEC_NO_ITEM && made[0].has_destination == 0);
     CHECK(made[0].id_at == 0 && made[0].id_len == 40 && made[0].made_len == 0 && made[0].forced == 0);
-    CHECK(made[1].spec == 0 && made[1].item == 1 && made[1].has_destination == 1 && made[1].verdict == 0);
+    CHECK(made[1].spec == 0 && made[1].item == 1 && made[1].has_destination == 1 && made[1].verdict == 0
+          && made[1].origin == 0);
     CHECK(made[1].id_len == 0 && made[1].made_at == 40 && made[1].made_len == 8 && made[1].forced == 1);
     /* Without a destination nothing is forced, whatever the sign. */
     CHECK(made[2].forced == 0 && made[2].spec == 3 && made[2].item == 2 && made[2].has_destination == 0 && made[2].made_len == 0);
@@ -375,14 +375,21 @@ static void check_looking_back(void)
 static const gix_refspec_text planned[] = {
     TEXT("refs/heads/a:refs/x/a"), TEXT("refs/tags/*:other/*"), TEXT("refs/remotes/*ck:refs/x/*"),
     TEXT("+refs/heads/b:refs/x/a.lo"), TEXT("+refs/tags/b"), TEXT("1111111111111111111111111111111111111111:refs/y"),
-    TEXT("+refs/heads/b:refs/y"), TEXT("a b")
+    TEXT("+refs/heads/b:refs/y"), TEXT("refs/heads/gone:refs/z"), TEXT("a b")
 };
 
 static uint32_t plan(size_t texts, gix_refspec_mapping *mappings, size_t room, uint8_t *buffer, size_t buffer_len,
                      size_t *count, size_t *len)
 {
     const gix_refspec_text items[] = { names[0], names[1], names[2], TEXT("refs/remotes/a.lock") };
-    return gix_refspec_plan(planned, texts, items, 4, mappings, room, buffer, buffer_len, count, len);
+    const gix_refspec_wish wish = { .given = planned, .given_count = texts };
+    return gix_refspec_plan(&wish, items, 4, mappings, room, buffer, buffer_len, count, len);
+}
+
+static uint32_t plan_of_eight(gix_refspec_mapping *mappings, size_t room, uint8_t *buffer, size_t buffer_len,
+                              size_t *count, size_t *len)
+{
+    return plan(8, mappings, room, buffer, buffer_len, count, len);
 }
 
 static uint32_t plan_of_seven(gix_refspec_mapping *mappings, size_t room, uint8_t *buffer, size_t buffer_len,
@@ -394,18 +401,25 @@ static uint32_t plan_of_seven(gix_refspec_mapping *mappings, size_t room, uint8_
 /* A ref may not be called `refs/remotes/a.lock`. So it is no rival of `refs/heads/b`, which goes to one place with it. */
 static void check_verdicts(void)
 {
-    static const uint32_t verdicts[] = { GIX_REFSPEC_CONTESTED, GIX_REFSPEC_WRITTEN, GIX_REFSPEC_LEFT_OUT,
-                                         GIX_REFSPEC_BAD_NAME, GIX_REFSPEC_WRITTEN, GIX_REFSPEC_FETCHED_ONLY,
-                                         GIX_REFSPEC_CONTESTED };
-    static const size_t specs[] = { 5, 0, 1, 2, 3, 4, 6 }, items[] = { GIX_REFSPEC_NO_ITEM, 0, 2, 3, 1, 2, 1 };
-    static const uint32_t forced[] = { 0, 0, 0, 0, 1, 0, 1 };
+    static const uint32_t verdicts[] = { GIX_REFSPEC_CONTESTED, GIX_REFSPEC_WRITTEN, GIX_REFSPEC_INVALID_DESTINATION,
+                                         GIX_REFSPEC_INVALID_SOURCE, GIX_REFSPEC_WRITTEN, GIX_REFSPEC_WRITTEN,
+                                         GIX_REFSPEC_CONTESTED, GIX_REFSPEC_MISSING };
+    static const size_t specs[] = { 5, 0, 1, 2, 3, 4, 6, 7 };
+    static const size_t items[] = { GIX_REFSPEC_NO_ITEM, 0, 2, 3, 1, 2, 1, GIX_REFSPEC_NO_ITEM };
+    static const uint32_t forced[] = { 0, 0, 0, 0, 1, 0, 1, 0 };
     const char *answer = "1111111111111111111111111111111111111111refs/yrefs/x/aother/brefs/x/a.lorefs/x/a.lorefs/y";
-    gix_refspec_mapping made[8];
-    check_lists(plan_of_seven, 7, answer, GIX_REFSPEC_IN_CONFLICT, made);
-    for (size_t i = 0; i < 7; i++)
-        CHECK(made[i].verdict == verdicts[i] && made[i].spec == specs[i] && made[i].item == items[i]
-              && made[i].forced == forced[i]);
-    CHECK(made[0].id_len == 40 && made[0].made_at == 40 && made[0].made_len == 6 && made[5].has_destination == 0);
+    gix_refspec_mapping made[9];
+    for (size_t count = 7; count <= 8; count++) {
+        if (count == 7)
+            check_lists(plan_of_seven, 7, answer, GIX_REFSPEC_IN_CONFLICT, made);
+        else
+            check_lists(plan_of_eight, 8, answer, GIX_REFSPEC_MISSING_SOURCE, made);
+        for (size_t i = 0; i < count; i++)
+            CHECK(made[i].verdict == verdicts[i] && made[i].spec == specs[i] && made[i].item == items[i]
+                  && made[i].forced == forced[i] && made[i].origin == GIX_REFSPEC_GIVEN);
+        CHECK(made[0].id_len == 40 && made[0].made_at == 40 && made[0].made_len == 6 && made[5].has_destination == 0);
+    }
+    CHECK(made[7].has_destination == 0 && made[7].id_len == 0 && made[7].made_len == 0);
 }
 
 static uint32_t plan_of_six(gix_refspec_mapping *mappings, size_t room, uint8_t *buffer, size_t buffer_len, size_t *count,
@@ -421,19 +435,132 @@ static void check_other_plans(void)
     size_t count, len;
     check_lists(plan_of_six, 6, "1111111111111111111111111111111111111111refs/yrefs/x/aother/brefs/x/a.lorefs/x/a.lo",
                 GIX_REFSPEC_OK, made);
-    CHECK(made[0].verdict == GIX_REFSPEC_WRITTEN && made[5].verdict == GIX_REFSPEC_FETCHED_ONLY);
+    CHECK(made[0].verdict == GIX_REFSPEC_WRITTEN && made[5].verdict == GIX_REFSPEC_WRITTEN);
     count = len = 99;
-    CHECK(plan(8, made, 8, buffer, sizeof buffer, &count, &len) == GIX_REFSPEC_NAME_INVALID_BYTE);
+    CHECK(plan(9, made, 8, buffer, sizeof buffer, &count, &len) == GIX_REFSPEC_NAME_INVALID_BYTE);
+    gix_refspec_wish wish = { .configured = &planned[8], .configured_count = 1 };
+    CHECK(gix_refspec_plan(&wish, names, 3, made, 8, buffer, sizeof buffer, &count, &len) == GIX_REFSPEC_NAME_INVALID_BYTE);
     CHECK(count == 99 && len == 99);
-    CHECK(plan(0, made, 0, buffer, 0, &count, &len) == GIX_REFSPEC_OK && count == 0 && len == 0);
+    /* Without specs, HEAD is missing. */
+    CHECK(plan(0, made, 8, buffer, sizeof buffer, &count, &len) == GIX_REFSPEC_MISSING_SOURCE && count == 1 && len == 0);
+    CHECK(made[0].verdict == GIX_REFSPEC_MISSING && made[0].origin == GIX_REFSPEC_DEFAULT && made[0].spec == GIX_REFSPEC_NO_SPEC);
+    wish = (gix_refspec_wish)GIX_REFSPEC_WISH_INIT;
+    CHECK(gix_refspec_plan(&wish, NULL, 0, made, 0, NULL, 0, &count, &len) == GIX_REFSPEC_TOO_SMALL && count == 1);
 }
 
-/* `HEAD` is a name like others, on either side. */
+/* The words of a text, separated by spaces. */
+static size_t split(const char *text, gix_refspec_text *words)
+{
+    size_t count = 0;
+    for (size_t len; *(text += strspn(text, " ")) != 0; text += len) {
+        len = strcspn(text, " ");
+        words[count++] = (gix_refspec_text){ (const uint8_t *)text, len };
+    }
+    return count;
+}
+
+/* Wishes over names, and what git 2.39 does with them: for each update its origin with its index, its source, its
+ * destination and its verdict; and likewise what is missing. */
+static const struct {
+    const char *given, *configured, *merges;
+    uint32_t tags;
+    const char *names, *lines;
+} wishes[] = {
+    { "main", "+refs/heads/*:refs/remotes/origin/*", "", 0, "HEAD refs/heads/dev refs/heads/main",
+      "1:0 refs/heads/main - 1\n2:0 refs/heads/main refs/remotes/origin/main 1 forced\n" },
+    { "dev:refs/remotes/origin/main main", "+refs/heads/*:refs/remotes/origin/*", "", 0, "refs/heads/dev refs/heads/main",
+      "1:0 refs/heads/dev refs/remotes/origin/main 1\n1:1 refs/heads/main - 1\n"
+      "2:0 refs/heads/dev refs/remotes/origin/dev 1 forced\n2:0 refs/heads/main refs/remotes/origin/main 6 forced\n" },
+    { "a b", "refs/heads/a:refs/r refs/heads/b:refs/r", "", 0, "refs/heads/a refs/heads/b",
+      "1:0 refs/heads/a - 1\n1:1 refs/heads/b - 1\n2:0 refs/heads/a refs/r 5\n2:1 refs/heads/b refs/r 5\noutcome 22\n" },
+    { "a", "refs/heads/b:refs/b refs/tags/*:refs/t/*", "", 2, "refs/heads/a refs/heads/b refs/tags/v1",
+      "1:0 refs/heads/a - 1\n5:- refs/tags/v1 refs/tags/v1 1\n" },
+    { "", "", "", 0, "HEAD refs/heads/main", "4:- HEAD - 1\n" },
+    { "", "", "", 0, "refs/heads/main", "4:- missing\noutcome 23\n" },
+    { "", "+refs/heads/*:refs/x/*", "refs/heads/main refs/tags/v1 refs/heads/gone", 0, "HEAD refs/heads/main refs/tags/v1",
+      "2:0 refs/heads/main refs/x/main 1 forced\n3:1 refs/tags/v1 - 1\n" },
+    { "main:heads/x main:tags/x main:x", "", "", 0, "refs/heads/main",
+      "1:0 refs/heads/main refs/heads/x 1\n1:1 refs/heads/main refs/tags/x 1\n" },
+    { "", "*:* refs/heads/*:foo/*", "", 0, "HEAD refs/heads/a",
+      "2:0 HEAD HEAD 3\n2:0 refs/heads/a refs/heads/a 1\n2:1 refs/heads/a foo/a 3\n" },
+    { "gone main refs/heads/gone:refs/x ^gone", "+refs/heads/*:refs/x/*", "", 0, "refs/heads/main",
+      "1:1 refs/heads/main - 1\n2:0 refs/heads/main refs/x/main 1 forced\n1:0 missing\n1:2 missing\noutcome 23\n" },
+    { "gone a:refs/x b:refs/x", "", "", 0, "refs/heads/a refs/heads/b",
+      "1:1 refs/heads/a refs/x 5\n1:2 refs/heads/b refs/x 5\n1:0 missing\noutcome 23\n" },
+};
+
+static void check_wishes(void)
+{
+    gix_refspec_text given[8], configured[8], merges[8], items[8];
+    gix_refspec_mapping made[16];
+    uint8_t buffer[512];
+    char lines[1024];
+    for (size_t i = 0; i < sizeof wishes / sizeof *wishes; i++) {
+        const gix_refspec_wish wish = {
+            given, split(wishes[i].given, given), configured, split(wishes[i].configured, configured),
+            merges, split(wishes[i].merges, merges), wishes[i].tags,
+        };
+        size_t count, len, at = 0;
+        uint32_t outcome = gix_refspec_plan(&wish, items, split(wishes[i].names, items), made, 16, buffer, sizeof buffer,
+                                            &count, &len);
+        for (const gix_refspec_mapping *one = made; one < made + count; one++) {
+            at += sprintf(lines + at, one->spec == GIX_REFSPEC_NO_SPEC ? "%u:-" : "%u:%zu", one->origin, one->spec);
+            if (one->verdict == GIX_REFSPEC_MISSING)
+                at += sprintf(lines + at, " missing\n");
+            else
+                at += sprintf(lines + at, " %.*s %.*s %u%s\n", (int)items[one->item].len, items[one->item].bytes,
+                              one->has_destination ? (int)one->made_len : 1,
+                              one->has_destination ? (char *)buffer + one->made_at : "-", one->verdict,
+                              one->forced ? " forced" : "");
+        }
+        if (outcome != GIX_REFSPEC_OK)
+            sprintf(lines + at, "outcome %u\n", outcome);
+        CHECK(strcmp(lines, wishes[i].lines) == 0);
+    }
+}
+
+static const gix_refspec_text stale_specs[] = { TEXT("refs/heads/*:refs/o/*"), TEXT("^refs/heads/a"), TEXT("a b") };
+static const gix_refspec_text stale_names[] = { TEXT("refs/o/a"), TEXT("refs/o/b"), TEXT("refs/o/c"), TEXT("refs/x/c") };
+
+/* git 2.39 deletes `refs/o/c` under `--prune`, and keeps `refs/o/a`, since its source is excluded. */
+static void check_stale(void)
+{
+    gix_refspec_stale_ref made[3];
+    size_t count;
+    for (refused = 1;; refused++) {
+        memset(made, 'x', sizeof made);
+        growths = 0;
+        count = 99;
+        uint32_t outcome = gix_refspec_stale(stale_specs, 2, names, 2, stale_names, 4, made, 3, &count);
+        if (growths < refused) {
+            CHECK(outcome == GIX_REFSPEC_OK && refused > 1);
+            break;
+        }
+        CHECK(outcome == GIX_REFSPEC_NO_MEMORY && count == 99 && is_untouched(made, sizeof made));
+    }
+    refused = 0;
+    CHECK(count == 2 && made[0].item == 0 && made[0].kept_by == 1);
+    CHECK(made[1].item == 2 && made[1].kept_by == GIX_REFSPEC_NO_SPEC && is_untouched(made + 2, sizeof *made));
+    memset(made, 'x', sizeof made);
+    for (size_t room = 0; room < 2; room++) {
+        count = 99;
+        CHECK(gix_refspec_stale(stale_specs, 2, names, 2, stale_names, 4, made, room, &count) == GIX_REFSPEC_TOO_SMALL);
+        CHECK(count == 2 && is_untouched(made, sizeof made));
+    }
+    count = 99;
+    CHECK(gix_refspec_stale(stale_specs, 3, names, 2, stale_names, 4, made, 3, &count) == GIX_REFSPEC_NAME_INVALID_BYTE);
+    CHECK(count == 99 && is_untouched(made, sizeof made));
+    CHECK(gix_refspec_stale(stale_specs, 2, names, 2, stale_names, 4, made, 2, &count) == GIX_REFSPEC_OK && count == 2);
+    CHECK(gix_refspec_stale(NULL, 0, NULL, 0, stale_names, 4, NULL, 0, &count) == GIX_REFSPEC_OK && count == 0);
+}
+
+/* `HEAD` is a name like others on either side, but a fetch doesn't write it. */
 static void check_head(void)
 {
     const gix_refspec_text texts[] = { TEXT("HEAD:refs/x/HEAD"), TEXT("@"), TEXT("HEA*:HEA*") };
     const gix_refspec_text items[] = { TEXT("refs/heads/a"), TEXT("HEAD") };
-    static const uint32_t verdicts[] = { GIX_REFSPEC_WRITTEN, GIX_REFSPEC_FETCHED_ONLY, GIX_REFSPEC_WRITTEN };
+    static const uint32_t verdicts[] = { GIX_REFSPEC_WRITTEN, GIX_REFSPEC_WRITTEN, GIX_REFSPEC_INVALID_DESTINATION };
+    const gix_refspec_wish wish = { .given = texts, .given_count = 3 };
     gix_refspec_mapping made[4];
     uint8_t buffer[32];
     size_t count = 9, len = 99;
@@ -441,7 +568,7 @@ static void check_head(void)
     CHECK(count == 3 && len == 15);
     for (size_t i = 0; i < 3; i++)
         CHECK(made[i].spec == i && made[i].item == 1);
-    CHECK(gix_refspec_plan(texts, 3, items, 2, made, 4, buffer, 32, &count, &len) == GIX_REFSPEC_OK);
+    CHECK(gix_refspec_plan(&wish, items, 2, made, 4, buffer, 32, &count, &len) == GIX_REFSPEC_OK);
     CHECK(count == 3 && len == 15 && memcmp(buffer, "refs/x/HEADHEAD", 15) == 0);
     for (size_t i = 0; i < 3; i++)
         CHECK(made[i].spec == i && made[i].item == 1 && made[i].verdict == verdicts[i]);
@@ -470,8 +597,9 @@ static void check_null(void)
     CHECK(gix_refspec_match(NULL, 0, NULL, 0, GIX_REFSPEC_FORWARD, NULL, 0, NULL, 0, &count, &len) == GIX_REFSPEC_OK);
     CHECK(count == 0 && len == 0);
     CHECK(gix_refspec_match(texts, 1, &none, 1, GIX_REFSPEC_BACKWARD, made, 2, buffer, 8, &count, &len) == GIX_REFSPEC_OK);
-    CHECK(gix_refspec_plan(texts, 2, names, 1, NULL, 0, NULL, 0, &count, &len) == GIX_REFSPEC_TOO_SMALL && count == 1);
-    CHECK(gix_refspec_plan(texts, 1, NULL, 0, NULL, 0, NULL, 0, &count, &len) == GIX_REFSPEC_OK && count == 0);
+    const gix_refspec_wish two = { .configured = texts, .configured_count = 2 }, one = { .given = texts, .given_count = 1 };
+    CHECK(gix_refspec_plan(&two, names, 1, NULL, 0, NULL, 0, &count, &len) == GIX_REFSPEC_TOO_SMALL && count == 2);
+    CHECK(gix_refspec_plan(&one, NULL, 0, NULL, 0, NULL, 0, &count, &len) == GIX_REFSPEC_OK && count == 0);
 }
 
 static void check_version(void)
@@ -499,6 +627,8 @@ static void *check_all(void *nothing)
     check_looking_back();
     check_verdicts();
     check_other_plans();
+    check_wishes();
+    check_stale();
     check_head();
     check_null();
     check_explanations();
@@ -578,67 +708,6 @@ static void put_mapping(const gix_refspec_mapping *one, const gix_refspec_text *
     putchar('\n');
 }
 
-static void put_spec(gix_refspec_text spec)
-{
-    uint8_t canonical[4096];
-    size_t len = 0;
-    CHECK(gix_refspec_canonical(spec.bytes, spec.len, GIX_REFSPEC_FETCH, canonical, sizeof canonical, &len) == 0);
-    put_text("\t", (gix_refspec_text){ canonical, len });
-}
-
-static const uint8_t *told;
-
-static int by_destination(const void *left, const void *right)
-{
-    const gix_refspec_mapping *a = left, *b = right;
-    size_t len = a->made_len < b->made_len ? a->made_len : b->made_len;
-    int order = memcmp(told + a->made_at, told + b->made_at, len);
-    order = order ? order : (a->made_len > b->made_len) - (a->made_len < b->made_len);
-    return order ? order : (a->made_at > b->made_at) - (a->made_at < b->made_at);
-}
-
-/* A line for each destination with several sources, in order. Places in the buffer rise with those in the list. */
-static void put_conflicts(gix_refspec_mapping *made, size_t count, const gix_refspec_text *texts,
-                          const gix_refspec_text *items, const uint8_t *buffer)
-{
-    gix_refspec_text last = GIX_REFSPEC_TEXT_INIT;
-    told = buffer;
-    qsort(made, count, sizeof *made, by_destination);
-    for (size_t i = 0; i < count; i++) {
-        if (made[i].verdict != GIX_REFSPEC_CONTESTED)
-            continue;
-        const gix_refspec_text name = made_name(&made[i], buffer);
-        if (name.len != last.len || memcmp(name.bytes, last.bytes, name.len) != 0)
-            put_text(last.len ? "\nconflict\t" : "conflict\t", name);
-        last = name;
-        put_text("\t", other_name(&made[i], items, buffer));
-        put_spec(texts[made[i].spec]);
-    }
-    putchar('\n');
-}
-
-static void put_plan(uint32_t outcome, gix_refspec_mapping *made, size_t count, const gix_refspec_text *texts,
-                     const gix_refspec_text *items, const uint8_t *buffer)
-{
-    size_t aside = 0;
-    for (size_t i = 0; i < count; i++)
-        aside += made[i].verdict == GIX_REFSPEC_LEFT_OUT || made[i].verdict == GIX_REFSPEC_BAD_NAME;
-    printf("aside %zu\n", aside);
-    if (outcome == GIX_REFSPEC_IN_CONFLICT) {
-        put_conflicts(made, count, texts, items, buffer);
-        return;
-    }
-    for (size_t i = 0; i < count; i++)
-        if (made[i].verdict != GIX_REFSPEC_LEFT_OUT)
-            put_mapping(&made[i], items, buffer, true);
-    for (size_t i = 0; i < count; i++)
-        if (made[i].verdict == GIX_REFSPEC_LEFT_OUT) {
-            put_text("fix\t", made_name(&made[i], buffer));
-            put_spec(texts[made[i].spec]);
-            putchar('\n');
-        }
-}
-
 /* The mappings of lines `spec TEXT`, `ref ID NAME` and `tag ID ID NAME`, or the outcome where there are none. */
 static int mapped(const char *word)
 {
@@ -646,7 +715,6 @@ static int mapped(const char *word)
     static gix_refspec_mapping made[65536];
     static uint8_t buffer[1 << 20];
     const uint32_t direction = strcmp(word, "rhs") == 0 ? GIX_REFSPEC_BACKWARD : GIX_REFSPEC_FORWARD;
-    const bool plans = strcmp(word, "plan") == 0;
     size_t specs = 0, refs = 0, count = 0, len = 0, room = 0;
     char *line = NULL;
     ssize_t read;
@@ -663,12 +731,8 @@ static int mapped(const char *word)
         memcpy(copy, at, to->len);
         to->bytes = copy;
     }
-    uint32_t outcome =
-        plans ? gix_refspec_plan(texts, specs, items, refs, made, 65536, buffer, sizeof buffer, &count, &len)
-              : gix_refspec_match(texts, specs, items, refs, direction, made, 65536, buffer, sizeof buffer, &count, &len);
-    if (plans && (outcome == GIX_REFSPEC_OK || outcome == GIX_REFSPEC_IN_CONFLICT))
-        put_plan(outcome, made, count, texts, items, buffer);
-    else if (outcome != GIX_REFSPEC_OK)
+    uint32_t outcome = gix_refspec_match(texts, specs, items, refs, direction, made, 65536, buffer, sizeof buffer, &count, &len);
+    if (outcome != GIX_REFSPEC_OK)
         printf("outcome %u\n", outcome);
     else
         for (size_t i = 0; i < count; i++)
@@ -688,6 +752,7 @@ static int measure(void)
     static gix_refspec_mapping made[100000];
     static uint8_t buffer[8000000];
     const gix_refspec_text pattern = TEXT("+refs/heads/*:refs/remotes/origin/*");
+    const gix_refspec_wish wish = { .configured = &pattern, .configured_count = 1 };
     for (size_t i = 0; i < 100000; i++)
         items[i] = (gix_refspec_text){ (uint8_t *)bytes[i], (size_t)sprintf(bytes[i], "refs/heads/topic-%zu", i) };
     for (int i = 0; i < 14; i++) {
@@ -698,7 +763,7 @@ static int measure(void)
             CHECK(gix_refspec_match(&pattern, 1, items, 100000, GIX_REFSPEC_FORWARD, made, 100000, buffer,
                                     sizeof buffer, &count, &len) == GIX_REFSPEC_OK && count == 100000);
         else
-            CHECK(gix_refspec_plan(&pattern, 1, items, 100000, made, 100000, buffer, sizeof buffer, &count, &len)
+            CHECK(gix_refspec_plan(&wish, items, 100000, made, 100000, buffer, sizeof buffer, &count, &len)
                   == GIX_REFSPEC_OK && count == 100000);
         clock_gettime(CLOCK_MONOTONIC, &to);
         printf("%s: %.1f ms\n", i < 7 ? "match" : "plan",

@@ -65,10 +65,20 @@ check_planner() {
     wants 1 "$(lines conflict refs/heads/a refs/x/a force refs/heads/b refs/x/b conflict refs/tags/a refs/x/a)" \
         "$@" '+refs/heads/*:refs/x/*' 'refs/tags/*:refs/x/*' \
         < <(refs refs/heads/a refs/heads/b refs/tags/a 'refs/tags/a^{}')
-    wants 0 "$(lines write HEAD refs/x/HEAD fetch HEAD - 'left out' refs/heads/a other/a 'bad name' refs/heads/b.lock \
+    wants 0 "$(lines write HEAD refs/x/HEAD fetch HEAD - 'left out' refs/heads/a other/a 'left out' refs/heads/b.lock \
             refs/y/b.lock)" \
         "$@" HEAD:refs/x/HEAD +@ 'refs/heads/a*:other/a*' 'refs/heads/b*:refs/y/b*' \
         < <(refs HEAD refs/heads/a refs/heads/b.lock)
+    # The configured specs are applied to what is given; without any they are fetched, and without both `HEAD` is.
+    local configured=(-- '+refs/heads/*:refs/remotes/origin/*' '^refs/heads/b')
+    wants 0 "$(lines write refs/heads/a refs/remotes/origin/b fetch refs/heads/b - force refs/heads/a refs/remotes/origin/a \
+            overruled refs/heads/b refs/remotes/origin/b)" \
+        "$@" a:refs/remotes/origin/b b "${configured[@]}" < <(refs HEAD refs/heads/a refs/heads/b)
+    wants 0 "$(lines force refs/heads/a refs/remotes/origin/a)" "$@" "${configured[@]}" < <(refs HEAD refs/heads/a refs/heads/b)
+    wants 0 "$(lines fetch HEAD -)" "$@" < <(refs HEAD refs/heads/a)
+    wants 1 "$(lines missing HEAD -)" "$@" < <(refs refs/heads/a)
+    wants 1 "$(lines fetch refs/heads/a - missing gone -)" "$@" a gone < <(refs refs/heads/a)
+    wants 1 "$(lines missing refs/heads/gone:refs/x -)" "$@" -- refs/heads/gone:refs/x < <(refs refs/heads/a)
     # So many that the first lists have no room.
     local many=()
     for ((i = 0; i < 40; i++)); do many+=(write refs/heads/c "refs/x/$i"); done

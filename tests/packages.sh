@@ -128,7 +128,7 @@ if ! has gcc || ! has pkg-config; then
 else
     planner_in_c "$made/c" PKG_CONFIG_PATH="$unpacked/lib/pkgconfig"
     check_planner env LD_LIBRARY_PATH="$unpacked/lib" "$made/c/planner"
-    ! has qemu-x86_64 || wants 127 "$unpacked/lib/libgix_refspec.so.0.2: CPU ISA level is lower than required" \
+    ! has qemu-x86_64 || wants 127 "$unpacked/lib/libgix_refspec.so.0.3: CPU ISA level is lower than required" \
         env LD_LIBRARY_PATH="$unpacked/lib" qemu-x86_64 -cpu core2duo "$made/c/planner"
     bare gcc -o "$made/c/static" "$made/c/planner.c" -I"$unpacked/include" "$unpacked/lib/libgix_refspec.a"
     check_planner "$made/c/static"
@@ -142,7 +142,7 @@ else
     cat >"$made/cmake/CMakeLists.txt" <<'END'
 cmake_minimum_required(VERSION 3.10)
 project(planner C)
-find_package(gix_refspec 0.2 REQUIRED)
+find_package(gix_refspec 0.3 REQUIRED)
 add_executable(planner planner.c)
 target_link_libraries(planner gix_refspec::gix_refspec)
 add_executable(static planner.c)
@@ -152,10 +152,10 @@ END
         && bare cmake --build "$made/cmake/out" >>"$made/out" || fail "cmake: $(cat "$made/out")"
     check_planner "$made/cmake/out/planner"
     check_planner "$made/cmake/out/static"
-    sed -i 's/gix_refspec 0.2/gix_refspec 0.1/' "$made/cmake/CMakeLists.txt"
+    sed -i 's/gix_refspec 0.3/gix_refspec 0.2/' "$made/cmake/CMakeLists.txt"
     ! bare cmake -S "$made/cmake" -B "$made/cmake/old" -DCMAKE_PREFIX_PATH="$unpacked" >"$made/out" 2>&1 \
         || fail "cmake takes this version for another"
-    sed -i 's/gix_refspec 0.1/gix_refspec 0.2/' "$made/cmake/CMakeLists.txt"
+    sed -i 's/gix_refspec 0.2/gix_refspec 0.3/' "$made/cmake/CMakeLists.txt"
     say "the archive: planners in C by cmake's find_package"
 fi
 

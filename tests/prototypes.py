@@ -1,5 +1,5 @@
 """Holds what was installed below a folder against the sources and the bindings: prototypes.py FOLDER
-Replays canon.sample, lhs.sample, rhs.sample and plan.sample over a program of the calls: prototypes.py --replay PROGRAM
+Replays canon.sample, lhs.sample and rhs.sample over a program of the calls: prototypes.py --replay PROGRAM
 """
 import ctypes
 import os
@@ -25,6 +25,8 @@ IN_C = {
     "&mut Text": ["gix_refspec_text *"],
     "&mut Parts": ["gix_refspec_instruction *"],
     "&mut [MappingOut]": ["gix_refspec_mapping *", "size_t"],
+    "&WishIn": ["const gix_refspec_wish *"],
+    "&mut [StaleOut]": ["gix_refspec_stale_ref *", "size_t"],
 }
 # What each type of the crate gix-refspec-sys is in C.
 RUST_IN_C = {
@@ -38,6 +40,8 @@ RUST_IN_C = {
     "*mut Text": "gix_refspec_text *",
     "*mut Parts": "gix_refspec_instruction *",
     "*mut Mapping": "gix_refspec_mapping *",
+    "*const Wish": "const gix_refspec_wish *",
+    "*mut StaleRef": "gix_refspec_stale_ref *",
 }
 # The programs that stand in docs/C.md.
 PROGRAMS = [("c", "planner.c"), ("rust", "refspec", "examples", "planner.rs"), ("python", "examples", "planner.py")]
@@ -50,6 +54,14 @@ OF_CALLS = {
     "NO_OPERATION": "There is no such operation, direction or outcome.",
     "NEEDS_IDS": "A destination is an object id, and names alone don't tell which refs have it.",
     "IN_CONFLICT": "Several refs would be written to one destination.",
+    "MISSING_SOURCE": "The remote lacks the source of a refspec.",
+}
+# The verdicts and origins of the sources whose names in C aren't theirs.
+IN_C_NAMED = {
+    "Verdict::LeftOut(InvalidSide::Source)": "INVALID_SOURCE",
+    "Verdict::LeftOut(InvalidSide::Destination)": "INVALID_DESTINATION",
+    "Verdict::LeftOut(InvalidSide::Both)": "INVALID_SIDES",
+    "Verdict::InConflict": "CONTESTED",
 }
 
 
@@ -67,7 +79,7 @@ def exported():
     """The exported functions and the types of their parameters."""
     found = {}
     for name in sorted(os.listdir(SOURCES)):
-        text = re.sub(r"'(a|static) |<'[a-z_]+>", "", read(SOURCES, name))
+        text = re.sub(r"'(a|static) |<'[a-z_]+(, '[a-z_]+)*>", "", read(SOURCES, name))
         for function, parameters in re.findall(r'extern "C" fn (\w+)\s*\(([^)]*)\) -> u32', text):
             found[function] = [one.split(":")[1].strip() for one in parameters.split(",") if one.strip()]
     return found
@@ -106,11 +118,14 @@ def numbers_of(header):
 def numbers():
     """The numbers of sources and bindings, with where they are."""
     for name in ("failure.rt", "planning.rt"):
-        for one, number in re.findall(r"(?:Failure|Verdict)::(\w+) => (\d+),", read(SOURCES, name)):
-            yield name, screaming(one), int(number)
+        for one, number in re.findall(r"^ +(\w+::\w+(?:\([\w:]+\))?) => (\d+),$", read(SOURCES, name), re.M):
+            plain = one.partition("::")[2].partition("(")[0]
+            yield name, IN_C_NAMED.get(one, screaming(plain)), int(number)
+        for one, number in re.findall(r"const (\w+): u32 = (\d+);", read(SOURCES, name)):
+            yield name, one, int(number)
     for one, number in re.findall(r"pub const (\w+): u32 = (\d+);", read(RUST, "gix-refspec-sys", "src", "lib.rs")):
         yield "gix-refspec-sys", one, int(number)
-    for one, number in re.findall(r"^    ([A-Z_]+) = (\d+)$", read(PYTHON), re.M):
+    for one, number in re.findall(r"^(?:    |_)([A-Z_]+) = (\d+)$", read(PYTHON), re.M):
         yield "the module in Python", one, int(number)
 
 
@@ -268,7 +283,6 @@ def replay(program):
     print(f"bindings: {count} stored texts, answered as stored")
     for command in ("lhs", "rhs"):
         replay_groups(program, command)
-    replay_plans(program)
 
 
 def groups_of(name):
@@ -299,26 +313,6 @@ def replay_groups(program, command):
             count += 1
     print(f"bindings: {count} stored groups for {command}, answered as stored; left out are {left_out} that are refused,"
           " or ask back for an id")
-
-
-def replay_plans(program):
-    """The stored plans look for conflicts among all mappings, also among those that the call leaves out or that have a bad
-    name: so a stored conflict is compared where the call finds none of these. Of the other plans all is."""
-    count = left_out = refused = 0
-    for given, answer in groups_of("plan.sample"):
-        if answer.startswith(b"line "):
-            refused += 1
-            continue
-        made = subprocess.run([program, "plan"], input=given, stdout=subprocess.PIPE, check=False).stdout
-        aside, _, plan = made.partition(b"\n")
-        if answer.startswith(b"conflict\t") and aside != b"aside 0":
-            left_out += 1
-        elif plan != answer or not aside.startswith(b"aside "):
-            sys.exit(f"bindings: plan of {given!r} is answered {made!r}, not {answer!r}")
-        else:
-            count += 1
-    print(f"bindings: {count} stored plans, answered as stored; left out are {refused} that are refused, and {left_out}"
-          " conflicts over names that aren't checked")
 
 
 if sys.argv[1] == "--replay":

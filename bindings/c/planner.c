@@ -1,12 +1,13 @@
-/* Tells what a fetch would do: git ls-remote origin | ./planner +main:refs/remotes/origin/main
+/* Tells what a fetch would do: git ls-remote origin | ./planner [SPEC..] [-- CONFIGURED..]
  *
- * Ends with status 1 where several refs would be written to one destination, or a text is no refspec. */
+ * The configured refspecs are those of `git config --get-all remote.origin.fetch`. Ends with status 1 where nothing would be
+ * fetched, or a text is no refspec. */
 #include <gix_refspec.h>
 #include <stdio.h>
 #include <stdlib.h>
 #include <string.h>
 
-static const char *const words[] = { "", "write", "left out", "bad name", "conflict", "fetch" };
+static const char *const words[] = { "", "write", "left out", "left out", "left out", "conflict", "overruled", "missing" };
 
 /* The names of `git ls-remote`: an id, a tab and a name. What a tag points to is on a line of its own, ended by `^{}`. */
 static size_t read_names(gix_refspec_text **names)
@@ -25,11 +26,34 @@ static size_t read_names(gix_refspec_text **names)
     return count;
 }
 
+static const char *word_of(const gix_refspec_mapping *one)
+{
+    if (one->verdict != GIX_REFSPEC_WRITTEN)
+        return words[one->verdict];
+    return one->has_destination ? one->forced ? "force" : "write" : "fetch";
+}
+
+/* The source: that of a missing one is still in its refspec. */
+static gix_refspec_text source_of(const gix_refspec_mapping *one, const gix_refspec_wish *wish,
+                                  const gix_refspec_text *names, const uint8_t *text)
+{
+    if (one->verdict == GIX_REFSPEC_MISSING && one->origin == GIX_REFSPEC_DEFAULT)
+        return (gix_refspec_text){ (const uint8_t *)"HEAD", 4 };
+    if (one->verdict == GIX_REFSPEC_MISSING)
+        return (one->origin == GIX_REFSPEC_GIVEN ? wish->given : wish->configured)[one->spec];
+    return one->item == GIX_REFSPEC_NO_ITEM ? (gix_refspec_text){ text + one->id_at, one->id_len } : names[one->item];
+}
+
 int main(int argc, char **argv)
 {
     gix_refspec_text specs[argc], *names = calloc(1, sizeof *names), why = GIX_REFSPEC_TEXT_INIT;
-    for (int i = 1; i < argc; i++)
-        specs[i - 1] = (gix_refspec_text){ (const uint8_t *)argv[i], strlen(argv[i]) };
+    gix_refspec_wish wish = { .given = specs };
+    int i = 1;
+    for (; i < argc && strcmp(argv[i], "--") != 0; i++)
+        specs[wish.given_count++] = (gix_refspec_text){ (const uint8_t *)argv[i], strlen(argv[i]) };
+    wish.configured = specs + wish.given_count;
+    for (i++; i < argc; i++)
+        specs[wish.given_count + wish.configured_count++] = (gix_refspec_text){ (const uint8_t *)argv[i], strlen(argv[i]) };
     size_t names_count = read_names(&names), count = names_count + 8, len = 64 * names_count + 256;
     gix_refspec_mapping *plan = NULL;
     uint8_t *text = NULL;
@@ -38,18 +62,19 @@ int main(int argc, char **argv)
         size_t count_room = count, len_room = len;
         plan = realloc(plan, count_room * sizeof *plan);
         text = realloc(text, len_room);
-        outcome = gix_refspec_plan(specs, argc - 1, names, names_count, plan, count_room, text, len_room, &count, &len);
+        outcome = gix_refspec_plan(&wish, names, names_count, plan, count_room, text, len_room, &count, &len);
     } while (outcome == GIX_REFSPEC_TOO_SMALL);
-    if (outcome != GIX_REFSPEC_OK && outcome != GIX_REFSPEC_IN_CONFLICT) {
+    if (outcome != GIX_REFSPEC_OK && outcome != GIX_REFSPEC_IN_CONFLICT && outcome != GIX_REFSPEC_MISSING_SOURCE) {
         gix_refspec_explanation(outcome, &why);
         return fprintf(stderr, "%s\n", (const char *)why.bytes), 1;
     }
     for (const gix_refspec_mapping *one = plan; one < plan + count; one++) {
-        const gix_refspec_text id = { text + one->id_at, one->id_len };
-        const gix_refspec_text source = one->item == GIX_REFSPEC_NO_ITEM ? id : names[one->item];
-        const char *word = one->verdict == GIX_REFSPEC_WRITTEN && one->forced ? "force" : words[one->verdict];
-        printf("%s\t%.*s\t", word, (int)source.len, (const char *)source.bytes);
-        printf("%.*s\n", one->has_destination ? (int)one->made_len : 1, one->has_destination ? (char *)text + one->made_at : "-");
+        const gix_refspec_text source = source_of(one, &wish, names, text);
+        printf("%s\t%.*s\t", word_of(one), (int)source.len, (const char *)source.bytes);
+        if (one->has_destination)
+            printf("%.*s\n", (int)one->made_len, (const char *)text + one->made_at);
+        else
+            puts("-");
     }
-    return outcome == GIX_REFSPEC_IN_CONFLICT;
+    return outcome != GIX_REFSPEC_OK;
 }

@@ -1,15 +1,17 @@
-"""Tells what a fetch would do: git ls-remote origin | python3 planner.py '+refs/heads/*:refs/remotes/origin/*'
+"""Tells what a fetch would do: git ls-remote origin | python3 planner.py [SPEC..] [-- CONFIGURED..]
 
-Ends with status 1 where several refs would be written to one destination, or a text is no refspec.
+The configured refspecs are those of `git config --get-all remote.origin.fetch`. Ends with status 1 where nothing would be
+fetched, or a text is no refspec.
 """
+import os
 import sys
-from typing import Dict, List, Optional
+from typing import Dict, List
 
-from gix_refspec import Mapping, RefspecError, Verdict, plan
+from gix_refspec import Origin, OriginKind, RefspecError, Update, Verdict, plan
 
-WORDS: Dict[Optional[Verdict], bytes] = {
-    Verdict.WRITTEN: b"write", Verdict.LEFT_OUT: b"left out", Verdict.BAD_NAME: b"bad name",
-    Verdict.CONTESTED: b"conflict", Verdict.FETCHED_ONLY: b"fetch"}
+WORDS: Dict[Verdict, bytes] = {
+    Verdict.WRITTEN: b"write", Verdict.INVALID_SOURCE: b"left out", Verdict.INVALID_DESTINATION: b"left out",
+    Verdict.INVALID_SIDES: b"left out", Verdict.CONTESTED: b"conflict", Verdict.OVERRULED: b"overruled"}
 
 
 def read_names() -> List[bytes]:
@@ -18,21 +20,30 @@ def read_names() -> List[bytes]:
     return [line.partition(b"\t")[2] for line in lines if b"\t" in line and not line.endswith(b"^{}")]
 
 
-def shown(mapping: Mapping) -> bytes:
-    written_by_force = mapping.verdict == Verdict.WRITTEN and mapping.forced
-    word = b"force" if written_by_force else WORDS[mapping.verdict]
-    destination = b"-" if mapping.destination is None else mapping.destination
-    return b"\t".join([word, mapping.source, destination]) + b"\n"
+def shown(update: Update) -> bytes:
+    word = WORDS[update.verdict]
+    if update.verdict == Verdict.WRITTEN:
+        word = b"fetch" if update.destination is None else b"force" if update.forced else b"write"
+    return b"\t".join([word, update.source, b"-" if update.destination is None else update.destination]) + b"\n"
+
+
+def shown_missing(origin: Origin, given: List[bytes], configured: List[bytes]) -> bytes:
+    texts = {OriginKind.GIVEN: given, OriginKind.CONFIGURED: configured}.get(origin.kind, [b"HEAD"])
+    return b"missing\t" + texts[origin.index or 0] + b"\t-\n"
 
 
 def main() -> int:
+    texts = [os.fsencode(text) for text in sys.argv[1:]] + [b"--"]
+    split = texts.index(b"--")
+    given, configured = texts[:split], texts[split + 1:-1]
     try:
-        mappings = plan(sys.argv[1:], read_names())
+        fetch = plan(given, read_names(), configured)
     except RefspecError as error:
         print(error, file=sys.stderr)
         return 1
-    sys.stdout.buffer.writelines(map(shown, mappings))
-    return int(any(mapping.verdict == Verdict.CONTESTED for mapping in mappings))
+    sys.stdout.buffer.writelines(map(shown, fetch.updates))
+    sys.stdout.buffer.writelines(shown_missing(origin, given, configured) for origin in fetch.missing)
+    return int(not fetch.is_carried_out)
 
 
 if __name__ == "__main__":

@@ -1,4 +1,5 @@
-"""Git refspecs over libgix_refspec: parsed, printed, compared, matched, planned, and made into what to ask a server for.
+"""Git refspecs over libgix_refspec: parsed, printed, compared, matched, and made into what to ask a server for; plans of
+fetches, and stale refs.
 
 A text is `bytes`, or a `str` that is encoded as UTF-8 with `surrogateescape`, as `os.fsencode` does. What is returned is
 `bytes`.
@@ -13,12 +14,13 @@ import os
 from dataclasses import dataclass
 from typing import Callable, Iterable, List, Optional, Tuple, Union
 
-__version__ = "0.2.0"
-__all__ = ["Direction", "Kind", "Mapping", "Operation", "Outcome", "RefspecError", "Spec", "Verdict", "compare",
-           "explanation", "library_version", "matches", "parse", "plan", "prefixes"]
+__version__ = "0.3.0"
+__all__ = ["Direction", "Kind", "Mapping", "Operation", "Origin", "OriginKind", "Outcome", "Plan", "RefspecError", "Spec",
+           "StaleRef", "Update", "Verdict", "compare", "explanation", "library_version", "matches", "parse", "plan",
+           "prefixes", "stale"]
 
 # The soname, so that no library is loaded that this module wasn't written for.
-_SONAME = "libgix_refspec.so.0.2"
+_SONAME = "libgix_refspec.so.0.3"
 
 Text = Union[bytes, str]
 
@@ -55,6 +57,7 @@ class Outcome(enum.IntEnum):
     NO_OPERATION = 20
     NEEDS_IDS = 21
     IN_CONFLICT = 22
+    MISSING_SOURCE = 23
 
 
 class Kind(enum.IntEnum):
@@ -74,14 +77,26 @@ class Direction(enum.IntEnum):
     BACKWARD = 2
 
 
+class OriginKind(enum.IntEnum):
+    """What makes an update: a spec of the call, a configured one or a merged ref; or else HEAD is fetched, as nothing is
+    asked for; or all tags, as they are."""
+    GIVEN = 1
+    CONFIGURED = 2
+    MERGE = 3
+    DEFAULT = 4
+    ALL_TAGS = 5
+
+
 class Verdict(enum.IntEnum):
-    """What a fetch does with a mapping. It writes the destination; or leaves it out, as it neither begins refs/ nor is
-    HEAD, or as one side is no valid ref name; or another source has the same destination; or there is none."""
+    """What becomes of an update. It is fetched, and written to its destination if it has one; or left out, as its source,
+    its destination or both aren't valid ref names; or another source has the same destination, so nothing is fetched; or
+    a spec of the call writes another ref there."""
     WRITTEN = 1
-    LEFT_OUT = 2
-    BAD_NAME = 3
-    CONTESTED = 4
-    FETCHED_ONLY = 5
+    INVALID_SOURCE = 2
+    INVALID_DESTINATION = 3
+    INVALID_SIDES = 4
+    CONTESTED = 5
+    OVERRULED = 6
 
 
 class RefspecError(ValueError):
@@ -124,14 +139,54 @@ Fetches = Iterable[Union[Text, Spec]]
 
 @dataclass(frozen=True)
 class Mapping:
-    """A mapping: the indexes of its spec and of its name, None of an id that is asked for; its sides; in a plan what a
-    fetch does with it; and whether its spec is forced."""
+    """A mapping: the indexes of its spec and of its name, None of an id that is asked for; its sides; and whether its spec
+    is forced."""
     spec: int
     item: Optional[int]
     source: bytes
     destination: Optional[bytes]
-    verdict: Optional[Verdict] = None
     forced: bool = False
+
+
+@dataclass(frozen=True)
+class Origin:
+    """What makes an update, and its index among the given specs, the configured ones or the merged refs: None of the
+    others."""
+    kind: OriginKind
+    index: Optional[int] = None
+
+
+@dataclass(frozen=True)
+class Update:
+    """A ref or an object that a fetch is about to fetch: the index of its name, None of an id that is asked for; its
+    sides; what makes it; what becomes of it; and whether its spec is forced."""
+    item: Optional[int]
+    source: bytes
+    destination: Optional[bytes]
+    origin: Origin
+    verdict: Verdict
+    forced: bool = False
+
+
+@dataclass(frozen=True)
+class Plan:
+    """What a fetch does: its updates, those of configured specs that are applied to what given ones take last; and the
+    specs whose source the remote lacks."""
+    updates: List[Update]
+    missing: List[Origin]
+
+    @property
+    def is_carried_out(self) -> bool:
+        """Whether anything is fetched: no source is missing, and no update is in conflict."""
+        return not self.missing and all(one.verdict != Verdict.CONTESTED for one in self.updates)
+
+
+@dataclass(frozen=True)
+class StaleRef:
+    """A local ref that looks stale: the index of its name, and of the negative spec that keeps it. None if it is stale: a
+    pruning fetch should delete it."""
+    item: int
+    kept_by: Optional[int] = None
 
 
 def parse(text: Text, operation: Operation) -> Spec:
@@ -170,17 +225,45 @@ def matches(fetches: Fetches, names: Iterable[Text], direction: Direction) -> Li
     """What fetches, texts or specs, map of names, or back from names. Raises RefspecError if a text is no refspec, and
     looking back if a destination is an id."""
     direction = Direction(direction)
-    return _listed(fetches, names, direction, _library.gix_refspec_match, direction)
+    items = _items(names)
+    told, text = _listed(_library.gix_refspec_match, len(items), *_texts(_fetches(fetches)), *_texts(items), direction)
+    return [_mapping(one, items, text, direction) for one in told]
 
 
-def plan(fetches: Fetches, names: Iterable[Text]) -> List[Mapping]:
-    """What fetches, texts or specs, do over names: each mapping with a verdict. If some is contested, `git fetch` writes
-    nothing. Raises RefspecError if a text is no refspec.
+def plan(given: Fetches, names: Iterable[Text], configured: Fetches = (), merges: Iterable[Text] = (),
+         tags: bool = False) -> Plan:
+    """What `git fetch` writes, if the remote has these names: `given` are the specs of the call, `configured` the values of
+    remote.<name>.fetch, both texts or specs; `merges` the values of branch.<name>.merge of the current branch, if its remote
+    is this one; `tags` whether all tags are asked for. Raises RefspecError if a text is no refspec.
 
-    >>> [one.verdict.name for one in plan(["refs/heads/*:refs/x/*", "v1"], ["refs/heads/main", "refs/tags/v1"])]
-    ['WRITTEN', 'FETCHED_ONLY']
+    >>> fetch = plan(["main"], ["refs/heads/main"], configured=["+refs/heads/*:refs/remotes/origin/*"])
+    >>> [(one.destination, one.origin.kind.name) for one in fetch.updates]
+    [(None, 'GIVEN'), (b'refs/remotes/origin/main', 'CONFIGURED')]
     """
-    return _listed(fetches, names, Direction.FORWARD, _library.gix_refspec_plan)
+    items = _items(names)
+    wish = _Wish(*_texts(_fetches(given)), *_texts(_fetches(configured)), *_texts(_items(merges)), int(bool(tags)))
+    told, text = _listed(_library.gix_refspec_plan, len(items), ctypes.byref(wish), *_texts(items))
+    return Plan([_update(one, items, text) for one in told if one.verdict != _MISSING],
+                [_origin(one) for one in told if one.verdict == _MISSING])
+
+
+def stale(fetches: Fetches, remote: Iterable[Text], local: Iterable[Text]) -> List[StaleRef]:
+    """The local refs that look stale by fetches, texts or specs, if the remote has these names. Symbolic refs are like
+    others here, so leave them out of the local ones. Raises RefspecError if a text is no refspec.
+
+    >>> stale(["refs/heads/*:refs/x/*"], ["refs/heads/main"], ["refs/x/gone", "refs/x/main"])
+    [StaleRef(item=0, kept_by=None)]
+    """
+    given = (*_texts(_fetches(fetches)), *_texts(_items(remote)), *_texts(_items(local)))
+    count, room = ctypes.c_size_t(), 16
+    while True:
+        found = (_StaleRef * room)()
+        outcome = _library.gix_refspec_stale(*given, found, room, ctypes.byref(count))
+        if outcome == Outcome.OK:
+            return [StaleRef(one.item, _index(one.kept_by)) for one in found[:count.value]]
+        if outcome != Outcome.TOO_SMALL:
+            raise RefspecError(outcome)
+        room = count.value
 
 
 def explanation(outcome: int) -> Optional[str]:
@@ -196,13 +279,16 @@ def explanation(outcome: int) -> Optional[str]:
 
 
 def library_version() -> str:
-    """The version of the library that is loaded, as "0.2.0"."""
+    """The version of the library that is loaded, as "0.3.0"."""
     version = _Told.empty()
     _check(_library.gix_refspec_version(ctypes.byref(version)))
     return version.value().decode()
 
 
 _OUTCOMES = frozenset(Outcome)
+# The verdict on a spec whose source is missing, and the index of what isn't there.
+_MISSING = 7
+_NO_INDEX = ctypes.c_size_t(-1).value
 
 
 class _Text(ctypes.Structure):
@@ -227,8 +313,19 @@ class _Parts(ctypes.Structure):
 
 class _Mapping(ctypes.Structure):
     _fields_ = [("spec", ctypes.c_size_t), ("item", ctypes.c_size_t), ("has_destination", ctypes.c_uint32),
-                ("forced", ctypes.c_uint32), ("verdict", ctypes.c_uint32), ("id_at", ctypes.c_size_t),
-                ("id_len", ctypes.c_size_t), ("made_at", ctypes.c_size_t), ("made_len", ctypes.c_size_t)]
+                ("forced", ctypes.c_uint32), ("origin", ctypes.c_uint32), ("verdict", ctypes.c_uint32),
+                ("id_at", ctypes.c_size_t), ("id_len", ctypes.c_size_t), ("made_at", ctypes.c_size_t),
+                ("made_len", ctypes.c_size_t)]
+
+
+class _Wish(ctypes.Structure):
+    _fields_ = [("given", ctypes.POINTER(_Text)), ("given_count", ctypes.c_size_t),
+                ("configured", ctypes.POINTER(_Text)), ("configured_count", ctypes.c_size_t),
+                ("merges", ctypes.POINTER(_Text)), ("merges_count", ctypes.c_size_t), ("tags", ctypes.c_uint32)]
+
+
+class _StaleRef(ctypes.Structure):
+    _fields_ = [("item", ctypes.c_size_t), ("kept_by", ctypes.c_size_t)]
 
 
 def _load() -> ctypes.CDLL:
@@ -247,7 +344,8 @@ def _load() -> ctypes.CDLL:
             ("compare", [*one, *one, number, ctypes.POINTER(ctypes.c_int32)]),
             ("prefixes", [*many, number, text, size, sizes]),
             ("match", [*many, *many, number, *lists]),
-            ("plan", [*many, *many, *lists]),
+            ("plan", [ctypes.POINTER(_Wish), *many, *lists]),
+            ("stale", [*many, *many, *many, ctypes.POINTER(_StaleRef), size, sizes]),
             ("explanation", [number, ctypes.POINTER(_Told)]),
             ("version", [ctypes.POINTER(_Told)])):
         call = getattr(library, f"gix_refspec_{name}")
@@ -288,6 +386,13 @@ def _fetches(fetches: Fetches) -> List[bytes]:
     return texts
 
 
+def _items(names: Iterable[Text]) -> List[bytes]:
+    """The bytes of names."""
+    if isinstance(names, (str, bytes)):
+        raise TypeError(f"names are a list, not one {type(names).__name__}")
+    return [_encoded(name) for name in names]
+
+
 def _texts(texts: List[bytes]) -> "Tuple[ctypes.Array[_Text], int]":
     """A list for the library, whose pointer is never null."""
     return (_Text * max(1, len(texts)))(*(_Text(text, len(text)) for text in texts)), len(texts)
@@ -306,29 +411,41 @@ def _filled(call: Callable[..., int], *words: object) -> bytes:
         room = size.value
 
 
-def _listed(fetches: Fetches, names: Iterable[Text], direction: Direction,
-            call: Callable[..., int], *more: int) -> List[Mapping]:
-    """The mappings of a call that fills two lists, which are made as large as the call says that they have to be."""
-    if isinstance(names, (str, bytes)):
-        raise TypeError(f"names are a list, not one {type(names).__name__}")
-    items = [_encoded(name) for name in names]
-    given = (*_texts(_fetches(fetches)), *_texts(items), *more)
-    count, size, rooms = ctypes.c_size_t(), ctypes.c_size_t(), (len(items) + 8, 64 * len(items) + 256)
+def _listed(call: Callable[..., int], items: int, *given: object) -> "Tuple[List[_Mapping], bytes]":
+    """What a call over so many names tells, and its texts: it fills two lists, which are made as large as it says that they
+    have to be."""
+    count, size, rooms = ctypes.c_size_t(), ctypes.c_size_t(), (items + 8, 64 * items + 256)
     while True:
         mappings, buffer = (_Mapping * rooms[0])(), ctypes.create_string_buffer(rooms[1])
         outcome = call(*given, mappings, rooms[0], buffer, rooms[1], ctypes.byref(count), ctypes.byref(size))
-        if outcome in (Outcome.OK, Outcome.IN_CONFLICT):
-            text = buffer.raw[:size.value]
-            return [_mapping(one, items, text, direction) for one in mappings[:count.value]]
+        if outcome in (Outcome.OK, Outcome.IN_CONFLICT, Outcome.MISSING_SOURCE):
+            return mappings[:count.value], buffer.raw[:size.value]
         if outcome != Outcome.TOO_SMALL:
             raise RefspecError(outcome)
         rooms = (max(rooms[0], count.value), max(rooms[1], size.value))
 
 
-def _mapping(one: _Mapping, names: List[bytes], text: bytes, direction: Direction) -> Mapping:
-    item = None if one.id_len or one.item >= len(names) else one.item
+def _index(number: int) -> Optional[int]:
+    return None if number == _NO_INDEX else number
+
+
+def _sides(one: _Mapping, names: List[bytes], text: bytes) -> Tuple[Optional[int], bytes, bytes]:
+    """The index of the name, the name or the id, and the name that the spec makes."""
+    item = _index(one.item)
     name = text[one.id_at:one.id_at + one.id_len] if item is None else names[item]
-    made = text[one.made_at:one.made_at + one.made_len]
+    return item, name, text[one.made_at:one.made_at + one.made_len]
+
+
+def _mapping(one: _Mapping, names: List[bytes], text: bytes, direction: Direction) -> Mapping:
+    item, name, made = _sides(one, names, text)
     source, other = (name, made) if direction == Direction.FORWARD else (made, name)
-    return Mapping(one.spec, item, source, other if one.has_destination else None,
-                   Verdict(one.verdict) if one.verdict else None, one.forced == 1)
+    return Mapping(one.spec, item, source, other if one.has_destination else None, one.forced == 1)
+
+
+def _update(one: _Mapping, names: List[bytes], text: bytes) -> Update:
+    item, source, made = _sides(one, names, text)
+    return Update(item, source, made if one.has_destination else None, _origin(one), Verdict(one.verdict), one.forced == 1)
+
+
+def _origin(one: _Mapping) -> Origin:
+    return Origin(OriginKind(one.origin), _index(one.spec))

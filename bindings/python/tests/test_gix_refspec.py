@@ -9,8 +9,8 @@ import unittest
 from typing import Callable
 
 import gix_refspec
-from gix_refspec import (Direction, Kind, Mapping, Operation, Outcome, RefspecError, Verdict, compare, explanation,
-                         library_version, matches, parse, plan, prefixes)
+from gix_refspec import (Direction, Kind, Mapping, Operation, Origin, OriginKind, Outcome, Plan, RefspecError, StaleRef,
+                         Update, Verdict, compare, explanation, library_version, matches, parse, plan, prefixes, stale)
 
 
 class Calls(unittest.TestCase):
@@ -42,11 +42,12 @@ class Calls(unittest.TestCase):
             self.assertEqual(spec, parse(spec.canonical, Operation.FETCH))
             self.assertEqual(compare(text, spec.canonical, Operation.FETCH), 0)
             self.assertEqual(prefixes([f"refs/{text}"]), [b"refs/" + spec.canonical])
-            for call in (plan, lambda *words: matches(*words, Direction.FORWARD)):
+            for call in (lambda *words: plan(*words).updates, lambda *words: matches(*words, Direction.FORWARD)):
                 self.assertEqual(call([f"refs/{text}"], [f"refs/{text}"])[0].source, b"refs/" + spec.canonical)
         for text in (None, 7, bytearray(b"main"), ["main"]):
             for call in (lambda text: parse(text, Operation.FETCH), lambda text: compare("a", text, Operation.FETCH),
-                         lambda text: prefixes([text]), lambda text: plan([], [text])):
+                         lambda text: prefixes([text]), lambda text: plan([], [text]), lambda text: plan([], [], [text]),
+                         lambda text: plan([], [], merges=[text]), lambda text: stale([], [], [text])):
                 self.assertRaisesRegex(TypeError, "a text is bytes or str", call, text)
         for one in ("main", b"main", parse("main", Operation.FETCH)):
             self.assertRaisesRegex(TypeError, "fetches are a list", plan, one, [])
@@ -114,7 +115,7 @@ class Calls(unittest.TestCase):
     def test_explanations(self) -> None:
         for outcome in Outcome:
             self.assertTrue(explanation(outcome).endswith("."), outcome)
-        self.assertEqual([explanation(number) for number in (-1, 23, 2 ** 32)], [None] * 3)
+        self.assertEqual([explanation(number) for number in (-1, 24, 2 ** 32)], [None] * 3)
 
     def test_versions(self) -> None:
         self.assertEqual(library_version(), gix_refspec.__version__)
@@ -143,26 +144,59 @@ class Calls(unittest.TestCase):
         self.assertEqual(matches([], [], Direction.FORWARD), [])
 
     def test_plan(self) -> None:
-        texts = [b"refs/heads/a:refs/x/a", b"refs/tags/*:other/*", b"refs/remotes/*ck:refs/x/*", b"+refs/tags/b",
-                 b"refs/heads/a:refs/y", b"+refs/tags/b:refs/y"]
+        texts = [b"refs/heads/a:refs/x/a", b"refs/tags/*:other/*", b"refs/remotes/*ck:refs/x/*", b"refs/remotes/*:refs/y/*",
+                 b"+refs/tags/b", b"refs/heads/a:refs/y", b"+refs/tags/b:refs/y"]
         names = [b"refs/heads/a", b"refs/tags/b", b"refs/remotes/a.lock"]
         told = plan(texts, names)
-        self.assertEqual([one.verdict for one in told],
-                         [Verdict.WRITTEN, Verdict.LEFT_OUT, Verdict.BAD_NAME, Verdict.FETCHED_ONLY,
-                          Verdict.CONTESTED, Verdict.CONTESTED])
-        self.assertEqual([one.forced for one in told], [False] * 5 + [True])
-        self.assertEqual(told[2], Mapping(2, 2, b"refs/remotes/a.lock", b"refs/x/a.lo", Verdict.BAD_NAME))
-        self.assertEqual([(one.spec, one.item) for one in told], [(0, 0), (1, 1), (2, 2), (3, 1), (4, 0), (5, 1)])
-        self.assertEqual(plan(texts[:5], names)[4].verdict, Verdict.WRITTEN)
-        self.assertEqual(plan([], names), [])
+        self.assertEqual([one.verdict for one in told.updates],
+                         [Verdict.WRITTEN, Verdict.INVALID_DESTINATION, Verdict.INVALID_SOURCE, Verdict.INVALID_SIDES,
+                          Verdict.WRITTEN, Verdict.CONTESTED, Verdict.CONTESTED])
+        self.assertEqual([one.forced for one in told.updates], [False] * 6 + [True])
+        given = [Origin(OriginKind.GIVEN, index) for index in range(7)]
+        self.assertEqual(told.updates[2],
+                         Update(2, b"refs/remotes/a.lock", b"refs/x/a.lo", given[2], Verdict.INVALID_SOURCE))
+        self.assertEqual([(one.origin, one.item) for one in told.updates], list(zip(given, [0, 1, 2, 2, 1, 0, 1])))
+        self.assertEqual((told.missing, told.is_carried_out), ([], False))
+        fine = plan(texts[:6], names)
+        self.assertEqual((fine.updates[5].verdict, fine.is_carried_out), (Verdict.WRITTEN, True))
+
+    def test_plans_have_what_the_configuration_adds(self) -> None:
+        names = ["HEAD", "refs/heads/main", "refs/tags/v1"]
+        configured = ["+refs/heads/*:refs/x/*"]
+        given = plan(["main"], names, configured)
+        self.assertEqual(given.updates, [
+            Update(1, b"refs/heads/main", None, Origin(OriginKind.GIVEN, 0), Verdict.WRITTEN),
+            Update(1, b"refs/heads/main", b"refs/x/main", Origin(OriginKind.CONFIGURED, 0), Verdict.WRITTEN, True)])
+        self.assertEqual(plan(["v1:refs/x/main", "main"], names, configured).updates[2].verdict, Verdict.OVERRULED)
+        missing = plan(["main", "gone:refs/x/gone"], iter(names))
+        self.assertEqual((len(missing.updates), missing.missing, missing.is_carried_out),
+                         (1, [Origin(OriginKind.GIVEN, 1)], False))
+        self.assertEqual(plan([], names).updates, [Update(0, b"HEAD", None, Origin(OriginKind.DEFAULT), Verdict.WRITTEN)])
+        self.assertEqual(plan([], []), Plan([], [Origin(OriginKind.DEFAULT)]))
+        merged = plan([], names, merges=["refs/heads/gone", "refs/heads/main"], tags=True)
+        self.assertEqual([(one.origin, one.item) for one in merged.updates],
+                         [(Origin(OriginKind.MERGE, 1), 1), (Origin(OriginKind.ALL_TAGS), 2)])
+        self.assertEqual(plan([b"1" * 40], names).updates[0].source, b"1" * 40)
+        many = [b"refs/heads/%d" % number for number in range(9)]
+        told = plan([b"refs/heads/*:refs/%d/*" % number for number in range(9)], many)
+        self.assertEqual([one.item for one in told.updates], list(range(9)) * 9)
+
+    def test_stale(self) -> None:
+        specs = ["refs/heads/*:refs/x/*", "^refs/heads/dev"]
+        local = ["refs/x/main", "refs/x/gone", "refs/x/dev", "refs/y/gone"]
+        self.assertEqual(stale(specs, ["refs/heads/main", "refs/heads/dev"], local), [StaleRef(1), StaleRef(2, 1)])
+        many = [f"refs/x/{number}" for number in range(40)]
+        self.assertEqual(stale(specs, iter(["refs/heads/main"]), iter(many)), [StaleRef(item) for item in range(40)])
+        self.assertEqual(stale([], ["refs/heads/main"], local), [])
+        self.assertRaisesRegex(TypeError, "names are a list", stale, specs, "refs/heads/main", local)
 
     def test_specs_are_taken_for_texts(self) -> None:
         specs = [parse("refs/heads/*:refs/x/*", Operation.FETCH), "refs/tags/*:refs/y/*"]
         names = (name for name in ["refs/heads/a", "refs/tags/a"])
-        self.assertEqual([one.destination for one in plan(iter(specs), names)], [b"refs/x/a", b"refs/y/a"])
+        self.assertEqual([one.destination for one in plan(iter(specs), names).updates], [b"refs/x/a", b"refs/y/a"])
         self.assertEqual(prefixes(specs), [b"refs/heads/", b"refs/tags/"])
-        for call in (lambda push: plan([push], []), lambda push: matches([push], [], Direction.FORWARD),
-                     lambda push: prefixes([push])):
+        for call in (lambda push: plan([push], []), lambda push: plan([], [], [push]), lambda push: stale([push], [], []),
+                     lambda push: matches([push], [], Direction.FORWARD), lambda push: prefixes([push])):
             self.assertRaisesRegex(ValueError, "a push is among the fetches", call, parse("main", Operation.PUSH))
 
     def test_numbers_are_not_cut(self) -> None:

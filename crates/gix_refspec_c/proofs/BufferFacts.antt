@@ -11,7 +11,7 @@ pub exact_room : IsWrittenTo (codes "abc") (codes "xyz") (codes "abc") 3 × IsWr
 exact_room = (record { fits = omega arith; write = refl; describes = refl }, record { fits = omega arith; write = refl; describes = refl })
 
 -- an empty answer fits into an empty buffer
-pub no_room_needed : IsWrittenTo [] [] [] 0
+pub no_room_needed : IsWrittenTo {X = ℕ} [] [] [] 0
 no_room_needed = record { fits = omega arith; write = refl; describes = refl }
 
 -- it doesn't fit into two, whatever they are afterwards

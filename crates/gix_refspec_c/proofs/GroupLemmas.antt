@@ -51,6 +51,7 @@ are_unread op texts failure.TooSmall first = first
 are_unread op texts failure.NoOperation first = first
 are_unread op texts failure.NeedsIds first = first
 are_unread op texts failure.InConflict first = first
+are_unread op texts failure.MissingSource first = first
 are_unread op texts failure.NoMemory first = tt
 
 pub text_unread : (op : Operation) (texts : List Text) (k : ℕ) (d : Text) (old : List RefSpecRef) (f : Failure) → k < length texts → IsUnread op (bytes_of (get_or texts k d)) f → AllZip (Reads op) (take k (map bytes_of texts)) (map reading_of old) → AreUnread op (map bytes_of texts) f

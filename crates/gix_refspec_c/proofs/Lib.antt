@@ -2,5 +2,5 @@ pub mod OutcomeLemmas
 pub mod SingleLemmas
 pub mod GroupLemmas
 pub mod MatchingLemmas
-pub mod PlanningLemmas
 pub mod BufferFacts
+pub mod PlanningLemmas

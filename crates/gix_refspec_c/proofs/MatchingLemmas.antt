@@ -12,9 +12,7 @@ use Rattle.gix_refspec_c.specs.declared.matching.Direction.TheVariants.{Forward,
 use Rattle.gix_refspec_c.specs.declared.failure.Failure.{Failure}
 use Rattle.gix_refspec_c.specs.declared.failure.Failure.TheVariants as failure
 use Rattle.std.proofs.lemmas.List.{length-append, append-nil, append_assoc, map-append, take_more}
-use Rattle.gix_refspec_match.specs.declared.types.Mapping.{Mapping}
 use Rattle.gix_refspec.specs.Matching.Mappings.{Mapped}
-use Rattle.gix_refspec.specs.Views.Group.{mapped_of}
 use Rattle.gix_refspec_c.specs.declared.listing.MappingOut.{MappingOut}
 use Rattle.gix_refspec_c.specs.Mapping.{Entry, IsNotWritten, LacksAll, Room, Describes, backward_entry, forward_entry, text_of, texts_of, described_at, described_by, described_from}
 use Rattle.gix_refspec.specs.Laws.Items.{AsksForNoId}
@@ -41,13 +39,22 @@ describes_more es new e structs structs2 text text2 describes is texts described
       texts = texts ∙ ap (λ t. t ++ text_of e) describes.texts ∙ sym (texts_more es e) ∙ ap texts_of (sym is);
     }
 
--- the entries of one mapping more
-pub entries_more : (f : Mapped → Entry) (ms : List Mapping) (k : ℕ) (m : Mapping) → k < length ms → m ≡ get_or ms k m → map f (map mapped_of (take (k + 1) ms)) ≡ map f (map mapped_of (take k ms)) ++ f (mapped_of m) ∷ []
-entries_more f ms k m below is =
-    ap (λ l. map f (map mapped_of l)) (take_more ms k m below)
-    ∙ ap (map f) (map-append mapped_of (take k ms) (get_or ms k m ∷ []))
-    ∙ map-append f (map mapped_of (take k ms)) (mapped_of (get_or ms k m) ∷ [])
-    ∙ ap (λ x. map f (map mapped_of (take k ms)) ++ f (mapped_of x) ∷ []) (sym is)
+-- the entries of one element more, from a slice of the list
+pub entries_more : {X Y : Type 0} (f : Y → Entry) (view : X → Y) (xs slice : List X) (k : ℕ) (x : X) → slice ≡ xs → k < length slice → x ≡ get_or slice k x → map f (map view (take (k + 1) xs)) ≡ map f (map view (take k xs)) ++ f (view x) ∷ []
+entries_more {X} {Y} f view xs slice k x same below is =
+    subst (λ (l : List X). map f (map view (take (k + 1) l)) ≡ map f (map view (take k l)) ++ f (view x) ∷ []) same
+    (ap (λ l. map f (map view l)) (take_more slice k x below)
+    ∙ ap (map f) (map-append view (take k slice) (get_or slice k x ∷ []))
+    ∙ map-append f (map view (take k slice)) (view (get_or slice k x) ∷ [])
+    ∙ ap (λ y. map f (map view (take k slice)) ++ f (view y) ∷ []) (sym is))
+
+-- and behind others
+pub entries_more_behind : {X : Type 0} (es : List Entry) (f : X → Entry) (xs slice : List X) (k : ℕ) (d : X) → slice ≡ xs → k < length slice → es ++ map f (take (k + 1) xs) ≡ (es ++ map f (take k xs)) ++ f (get_or slice k d) ∷ []
+entries_more_behind {X} es f xs slice k d same below =
+    subst (λ (l : List X). es ++ map f (take (k + 1) l) ≡ (es ++ map f (take k l)) ++ f (get_or slice k d) ∷ []) same
+    (ap (λ l. es ++ map f l) (take_more slice k d below)
+    ∙ ap (λ l. es ++ l) (map-append f (take k slice) (get_or slice k d ∷ []))
+    ∙ sym (append_assoc es (map f (take k slice)) (f (get_or slice k d) ∷ [])))
 
 -- a listing that doesn't fit
 pub no_room : (Is : List Entry → Type 0) (Why : Failure → Type 0) (es : List Entry) (structs : List MappingOut) (text : List ℕ) (before after : Room) (r : Result (Unit {0}) Failure) → Is es → Describes es structs text → IfErr r (λ f. (f ≡ failure.TooSmall) × IsNotWritten structs text before after) → IfErr r (LacksAll Is Why before after)
@@ -55,11 +62,11 @@ no_room Is Why es structs text before after (Ok u) is describes small = tt
 no_room Is Why es structs text before after (Err f) is describes small = inl (small.0, es, is, record { structs = structs; text = text; describes = describes; not_write = small.1 })
 
 -- what is listed from left to right tells of what is matched
-pub matched_forward : (d : Direction) (texts names : List (List ℕ)) (group g : List Reading) (refs : List Ref) (kept : List Mapped) (r : Result Listing Failure) → d ≡ Forward → g ≡ group → AllZip (Reads Fetch) texts group → refs ≡ map nameless names → AreKeptForward group refs kept → IfOk r (λ l. Describes (map (forward_entry g 0) kept) l.mappings.items l.text.items) → IfOk r (λ l. (es : List Entry) × AreMatched d texts names es × Describes es l.mappings.items l.text.items)
+pub matched_forward : (d : Direction) (texts names : List (List ℕ)) (group g : List Reading) (refs : List Ref) (kept : List Mapped) (r : Result Listing Failure) → d ≡ Forward → g ≡ group → AllZip (Reads Fetch) texts group → refs ≡ map nameless names → AreKeptForward group refs kept → IfOk r (λ l. Describes (map (forward_entry g) kept) l.mappings.items l.text.items) → IfOk r (λ l. (es : List Entry) × AreMatched d texts names es × Describes es l.mappings.items l.text.items)
 matched_forward d texts names group g refs kept (Err f) is whole read same stay describes = tt
 matched_forward d texts names group g refs kept (Ok l) is whole read same stay describes =
-    let matched : AreMatched Forward texts names (map (forward_entry group 0) kept) = record { group = group; read = read; kept = kept; stay = subst (λ (rs : List Ref). AreKeptForward group rs kept) same stay; are = refl } in
-    (map (forward_entry group 0) kept, subst (λ (e : Direction). AreMatched e texts names (map (forward_entry group 0) kept)) (sym is) matched, subst (λ (specs : List Reading). Describes (map (forward_entry specs 0) kept) l.mappings.items l.text.items) whole describes)
+    let matched : AreMatched Forward texts names (map (forward_entry group) kept) = record { group = group; read = read; kept = kept; stay = subst (λ (rs : List Ref). AreKeptForward group rs kept) same stay; are = refl } in
+    (map (forward_entry group) kept, subst (λ (e : Direction). AreMatched e texts names (map (forward_entry group) kept)) (sym is) matched, subst (λ (specs : List Reading). Describes (map (forward_entry specs) kept) l.mappings.items l.text.items) whole describes)
 
 -- and so it is from right to left, where no destination is an id
 pub matched_backward : (d : Direction) (texts names : List (List ℕ)) (group g : List Reading) (refs : List Ref) (kept : List Mapped) (r : Result Listing Failure) → d ≡ Backward → g ≡ group → AllZip (Reads Fetch) texts group → refs ≡ map nameless names → AreKeptBackward group refs kept → AsksForNoId group → IfOk r (λ l. Describes (map (backward_entry g) kept) l.mappings.items l.text.items) → IfOk r (λ l. (es : List Entry) × AreMatched d texts names es × Describes es l.mappings.items l.text.items)

@@ -12,7 +12,7 @@ ended sentence = sentence ++ (0 ∷ [])
 
 -- the version of the library, as include/gix_refspec.h has it
 abbrev pub version : List ℕ
-version = codes "0.2.0"
+version = codes "0.3.0"
 
 -- the sentence for a call without a failure
 abbrev pub well : List ℕ
@@ -42,3 +42,4 @@ said failure.NoMemory = codes "Memory ran out."
 said failure.NoOperation = codes "There is no such operation, direction or outcome."
 said failure.NeedsIds = codes "A destination is an object id, and names alone don't tell which refs have it."
 said failure.InConflict = codes "Several refs would be written to one destination."
+said failure.MissingSource = codes "The remote lacks the source of a refspec."

@@ -7,3 +7,4 @@ pub mod Group
 pub mod Mapping
 pub mod Matching
 pub mod Planning
+pub mod Stale

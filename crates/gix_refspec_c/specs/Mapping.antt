@@ -8,27 +8,30 @@ use Rattle.gix_refspec.specs.Matching.Mappings.{Source, name, id, Mapped}
 use Rattle.gix_refspec_c.specs.declared.failure.Failure.{Failure}
 use Rattle.gix_refspec_c.specs.declared.failure.Failure.TheVariants as failure
 use Rattle.gix_refspec_c.specs.declared.listing.MappingOut.{MappingOut}
+use Rattle.gix_refspec_c.specs.declared.listing.Numbers.{Numbers}
 use Rattle.gix_refspec_c.specs.Single.{parts_of}
 
 -- the data of a mapping: the indexes of its spec and of its name, whether it has a destination, whether its spec is
--- forced, a verdict, the text of a source that is an id, and the name that the spec makes
+-- forced, in a plan the list of its spec and a verdict, the text of a source that is an id, and the name that the spec
+-- makes
 pub record Entry : Type 0 where
   pub spec : ℕ
   pub item : ℕ
   pub has_destination : ℕ
   pub forced : ℕ
+  pub origin : ℕ
   pub verdict : ℕ
   pub id : List ℕ
   pub made : List ℕ
 
--- `usize::MAX`, which stands for no item
-abbrev pub no_item : ℕ
-no_item = 18446744073709551615
+-- `usize::MAX`, which stands for no index
+abbrev pub no_index : ℕ
+no_index = 18446744073709551615
 
--- the index of an item, or `no_item`
-abbrev pub number_of_item : Option ℕ → ℕ
-number_of_item None = no_item
-number_of_item (Some place) = place
+-- the index, or `no_index`
+abbrev pub number_of_index : Option ℕ → ℕ
+number_of_index None = no_index
+number_of_index (Some index) = index
 
 -- the text of a source that is an id, and empty for a name
 abbrev pub id_text : Source → List ℕ
@@ -65,12 +68,12 @@ abbrev pub forced_at : List Reading → ℕ → ℕ
 forced_at g k = forced_of (slice_get g k)
 
 -- the entry of a mapping from left to right, of which the spec makes the destination
-abbrev pub forward_entry : List Reading → ℕ → Mapped → Entry
-forward_entry g verdict m = record { spec = m.spec; item = number_of_item m.item; has_destination = destinations m.destination; forced = forced_at g m.spec; verdict = verdict; id = id_text m.source; made = destination_text m.destination }
+abbrev pub forward_entry : List Reading → Mapped → Entry
+forward_entry g m = record { spec = m.spec; item = number_of_index m.item; has_destination = destinations m.destination; forced = forced_at g m.spec; origin = 0; verdict = 0; id = id_text m.source; made = destination_text m.destination }
 
 -- and of one from right to left, of which it makes the source
 abbrev pub backward_entry : List Reading → Mapped → Entry
-backward_entry g m = record { spec = m.spec; item = number_of_item m.item; has_destination = destinations m.destination; forced = forced_at g m.spec; verdict = 0; id = []; made = source_text m.source }
+backward_entry g m = record { spec = m.spec; item = number_of_index m.item; has_destination = destinations m.destination; forced = forced_at g m.spec; origin = 0; verdict = 0; id = []; made = source_text m.source }
 
 -- the texts of an entry
 abbrev pub text_of : Entry → List ℕ
@@ -86,19 +89,24 @@ pub record Described : Type 0 where
   pub item : ℕ
   pub has_destination : ℕ
   pub forced : ℕ
+  pub origin : ℕ
   pub verdict : ℕ
   pub id_at : ℕ
   pub id_len : ℕ
   pub made_at : ℕ
   pub made_len : ℕ
 
+-- the entry with these numbers and texts
+abbrev pub entry_with : Numbers → List ℕ → List ℕ → Entry
+entry_with n digits made = record { spec = n.spec; item = n.item; has_destination = n.has_destination; forced = n.forced; origin = n.origin; verdict = n.verdict; id = digits; made = made }
+
 -- a struct as plain data
 abbrev pub described_by : MappingOut → Described
-described_by m = record { spec = m.spec; item = m.item; has_destination = m.has_destination; forced = m.forced; verdict = m.verdict; id_at = m.id_at; id_len = m.id_len; made_at = m.made_at; made_len = m.made_len }
+described_by m = record { spec = m.spec; item = m.item; has_destination = m.has_destination; forced = m.forced; origin = m.origin; verdict = m.verdict; id_at = m.id_at; id_len = m.id_len; made_at = m.made_at; made_len = m.made_len }
 
 -- the struct of an entry whose texts begin at this offset of the buffer
 abbrev pub described_at : ℕ → Entry → Described
-described_at at e = record { spec = e.spec; item = e.item; has_destination = e.has_destination; forced = e.forced; verdict = e.verdict; id_at = at; id_len = length e.id; made_at = at + length e.id; made_len = length e.made }
+described_at at e = record { spec = e.spec; item = e.item; has_destination = e.has_destination; forced = e.forced; origin = e.origin; verdict = e.verdict; id_at = at; id_len = length e.id; made_at = at + length e.id; made_len = length e.made }
 
 -- the structs of entries whose texts are one after the other from this offset of the buffer on
 abbrev pub described_from : ℕ → List Entry → List Described

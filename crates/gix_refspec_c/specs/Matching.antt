@@ -31,7 +31,7 @@ Stay Backward g refs kept = AreKeptBackward g refs kept × AsksForNoId g
 
 -- what is told of a mapping of a group in a direction
 abbrev pub entry_of : Direction → List Reading → Mapped → Entry
-entry_of Forward g = forward_entry g 0
+entry_of Forward g = forward_entry g
 entry_of Backward g = backward_entry g
 
 -- the texts are fetches, and these entries tell of the mappings that stay of them over the names

@@ -31,6 +31,7 @@ number_of failure.NoMemory = 19
 number_of failure.NoOperation = 20
 number_of failure.NeedsIds = 21
 number_of failure.InConflict = 22
+number_of failure.MissingSource = 23
 
 -- the failure that reports a fault of a name
 abbrev pub of_fault : NameError → Failure

@@ -1,73 +1,119 @@
--- What a fetch does with each of its mappings, by the definitions of the library. That each has one verdict, and which
--- comes first, are this project's own rules.
-use Rattle.std.specs.Prelude.{◌≡◌, ◌⊎◌, ℕ, Bool, true, MatchBool, List, map, None, Some}
-use Rattle.std.specs.List.{AllZip}
+-- The plan of a fetch as a caller receives it, by the definition of the library. The numbers are this project's own, and are
+-- those of include/gix_refspec.h.
+use Rattle.std.specs.Prelude.{◌≡◌, ◌≢◌, ◌⊎◌, ◌==◌, not, ℕ, List, [], ◌++◌, map, Option, None, Some}
+use Rattle.std.specs.List.{AllZip, Any}
 use Rattle.gix_refspec_text.specs.declared.parsing.Operation.TheVariants.{Fetch}
+use Rattle.gix_refspec.specs.declared.match_group.ref_names.InvalidSide.TheVariants as invalid
+use Rattle.gix_refspec.specs.declared.plan.Origin.{Origin}
+use Rattle.gix_refspec.specs.declared.plan.Origin.TheVariants as origin
+use Rattle.gix_refspec.specs.declared.plan.Verdict.{Verdict}
+use Rattle.gix_refspec.specs.declared.plan.Verdict.TheVariants as verdict
 use Rattle.gix_refspec.specs.Specs.Reading.{Reading}
 use Rattle.gix_refspec.specs.Specs.Grammar.{Reads}
-use Rattle.gix_refspec.specs.Matching.Mappings.{Mapped}
-use Rattle.gix_refspec.specs.declared.match_group.validate.Issue.{Issue}
-use Rattle.gix_refspec.specs.Views.Issue.{conflict_of}
-use Rattle.gix_refspec.specs.Matching.Hits.{AreKeptForward}
-use Rattle.gix_refspec.specs.Matching.Validation.{HasConflictAt, Survives}
-use Rattle.gix_refspec.specs.Matching.RefNames.{HasRefNames, HaveRefNames}
+use Rattle.gix_refspec.specs.Matching.Plan.{IsCarriedOut, IsPlan as IsPlanOf, Planned, Wish}
 use Rattle.gix_refspec_c.specs.declared.failure.Failure.{Failure}
 use Rattle.gix_refspec_c.specs.declared.failure.Failure.TheVariants as failure
-use Rattle.gix_refspec_c.specs.declared.planning.Verdict.{Verdict}
-use Rattle.gix_refspec_c.specs.declared.planning.Verdict.TheVariants.{Written, LeftOut, BadName, Contested, FetchedOnly}
-use Rattle.gix_refspec_c.specs.Group.{AreUnread}
-use Rattle.gix_refspec_c.specs.Mapping.{Entry, HasAll, LacksAll, Room, forward_entry}
+use Rattle.gix_refspec_c.specs.declared.planning.WishIn.{WishIn}
+use Rattle.gix_refspec_c.specs.Group.{AreUnread, bytes_of}
+use Rattle.gix_refspec_c.specs.Mapping.{Entry, HasAll, LacksAll, Room, destination_text, destinations, forced_at, id_text, no_index, number_of_index}
 use Rattle.gix_refspec_c.specs.Matching.{nameless}
+
+-- what a caller passes: the texts of the given specs, of the configured ones and of merged refs, and a number that is 0
+-- unless all tags are asked for
+pub record WishTexts : Type 0 where
+  pub given : List (List ℕ)
+  pub configured : List (List ℕ)
+  pub merges : List (List ℕ)
+  pub tags : ℕ
+
+abbrev pub wish_texts : WishIn → WishTexts
+wish_texts w = record { given = map bytes_of w.given.now; configured = map bytes_of w.configured.now; merges = map bytes_of w.merges.now; tags = w.tags }
+
+-- the texts of specs are fetches, and this is what is asked for by them
+pub record IsWish (texts : WishTexts) (wish : Wish) : Type 0 where
+  pub given : AllZip (Reads Fetch) texts.given wish.given
+  pub configured : AllZip (Reads Fetch) texts.configured wish.configured
+  pub merges : wish.merges ≡ texts.merges
+  pub tags : wish.tags ≡ not (texts.tags == 0)
+
+-- the number of an origin
+abbrev pub origin_code : Origin → ℕ
+origin_code (origin.Given k) = 1
+origin_code (origin.Configured k) = 2
+origin_code (origin.Merge k) = 3
+origin_code origin.Default = 4
+origin_code origin.AllTags = 5
+
+-- the index of the text that is the origin, or `no_index`
+abbrev pub spec_number : Origin → ℕ
+spec_number (origin.Given k) = k
+spec_number (origin.Configured k) = k
+spec_number (origin.Merge k) = k
+spec_number origin.Default = no_index
+spec_number origin.AllTags = no_index
+
+-- 1 if the spec that is the origin is forced
+abbrev pub forced_from : Wish → Origin → ℕ
+forced_from wish (origin.Given k) = forced_at wish.given k
+forced_from wish (origin.Configured k) = forced_at wish.configured k
+forced_from wish (origin.Merge k) = 0
+forced_from wish origin.Default = 0
+forced_from wish origin.AllTags = 0
 
 -- the number of a verdict
 abbrev pub verdict_code : Verdict → ℕ
-verdict_code Written = 1
-verdict_code LeftOut = 2
-verdict_code BadName = 3
-verdict_code Contested = 4
-verdict_code FetchedOnly = 5
+verdict_code verdict.Written = 1
+verdict_code (verdict.LeftOut invalid.Source) = 2
+verdict_code (verdict.LeftOut invalid.Destination) = 3
+verdict_code (verdict.LeftOut invalid.Both) = 4
+verdict_code verdict.InConflict = 5
+verdict_code verdict.Overruled = 6
 
--- the mapping has the verdict, if Met holds of the destinations with several sources: its destination neither begins
--- `refs/` nor is `HEAD`; or a side of it is an invalid ref name; or it has no destination; or one with several sources;
--- or one with a single source
-abbrev pub HasVerdict : (List ℕ → Type 0) → Mapped → Verdict → Type 0
-HasVerdict Met m LeftOut = ¬ (Survives m)
-HasVerdict Met m BadName = Survives m × ¬ (HasRefNames m)
-HasVerdict Met m FetchedOnly = HasRefNames m × (m.destination ≡ None)
-HasVerdict Met m Contested = HasRefNames m × (d : List ℕ) × (m.destination ≡ Some d) × Met d
-HasVerdict Met m Written = HasRefNames m × (d : List ℕ) × (m.destination ≡ Some d) × ¬ (Met d)
+-- and of that on a spec whose source is missing
+abbrev pub missing_code : ℕ
+missing_code = 7
 
--- the entry is that of the mapping of a group, with its verdict
-abbrev pub IsJudged : List Reading → (List ℕ → Type 0) → Mapped → Entry → Type 0
-IsJudged g Met m e = (v : Verdict) × HasVerdict Met m v × (e ≡ forward_entry g (verdict_code v) m)
+-- the entry of an update
+abbrev pub update_entry : Wish → Planned → Entry
+update_entry wish p = record { spec = spec_number p.origin; item = number_of_index p.item; has_destination = destinations p.destination; forced = forced_from wish p.origin; origin = origin_code p.origin; verdict = verdict_code p.verdict; id = id_text p.source; made = destination_text p.destination }
 
--- some destination has several sources among the mappings
-abbrev pub HasConflict : List Mapped → Type 0
-HasConflict l = (d : List ℕ) × HasConflictAt l d
+-- the entry of a spec whose source is missing
+abbrev pub missing_entry : Origin → Entry
+missing_entry o = record { spec = spec_number o; item = no_index; has_destination = 0; forced = 0; origin = origin_code o; verdict = missing_code; id = []; made = [] }
 
--- no destination has several sources among the mappings
-abbrev pub HasNoConflict : List Mapped → Type 0
-HasNoConflict l = (d : List ℕ) → ¬ (HasConflictAt l d)
+-- why nothing is fetched: a source is missing; or none is, and an update is in conflict
+abbrev pub IsHindered : Failure → List Planned → List Origin → Type 0
+IsHindered failure.MissingSource planned missing = missing ≢ []
+IsHindered failure.InConflict planned missing = (missing ≡ []) × Any (λ p. p.verdict ≡ verdict.InConflict) planned
+IsHindered f planned missing = ⊥
 
--- the destinations of conflicts
-abbrev pub destinations_of : List Issue → List (List ℕ)
-destinations_of issues = map (λ c. c.destination) (map conflict_of issues)
+-- the plan is carried out, or it isn't for this reason
+abbrev pub Ends : Option Failure → List Planned → List Origin → Type 0
+Ends None planned missing = IsCarriedOut planned missing
+Ends (Some f) planned missing = IsHindered f planned missing
 
--- the texts are fetches, and these are the entries of the mappings that they keep over the names. `some` is whether
--- there are conflicts among the mappings without an invalid ref name
-pub record IsPlan (some : Bool) (texts names : List (List ℕ)) (es : List Entry) : Type 0 where
-  pub group : List Reading
-  pub read : AllZip (Reads Fetch) texts group
-  pub kept : List Mapped
-  pub stay : AreKeptForward group (map nameless names) kept
-  pub named : List Mapped
-  pub between_names : HaveRefNames kept named
-  pub judged : AllZip (IsJudged group (HasConflictAt named)) kept es
-  pub conflicts : MatchBool some (HasConflict named) (HasNoConflict named)
+-- these are the entries of the plan of a wish for refs with these names: of its updates, and then of the specs whose source
+-- is missing
+pub record ListsPlan (hindrance : Option Failure) (wish : Wish) (names : List (List ℕ)) (es : List Entry) : Type 0 where
+  pub planned : List Planned
+  pub missing : List Origin
+  pub plan : IsPlanOf wish (map nameless names) planned missing
+  pub are : es ≡ map (update_entry wish) planned ++ map missing_entry missing
+  pub ends : Ends hindrance planned missing
 
--- why there is no plan, or one that can't be written: some destination has several sources; or a slice is too small for
--- the plan; or the texts weren't read, or memory ran out
-abbrev pub LacksPlan : List (List ℕ) → List (List ℕ) → Room → Room → Failure → Type 0
+-- the texts of specs are fetches, and these are the entries of the plan of what is asked for by them
+pub record IsPlan (hindrance : Option Failure) (texts : WishTexts) (names : List (List ℕ)) (es : List Entry) : Type 0 where
+  pub wish : Wish
+  pub asks : IsWish texts wish
+  pub lists : ListsPlan hindrance wish names es
+
+-- why texts weren't read: the given ones weren't; or these are fetches, and the configured ones weren't
+abbrev pub IsUnplanned : WishTexts → Failure → Type 0
+IsUnplanned texts f = AreUnread Fetch texts.given f ⊎ (((given : List Reading) × AllZip (Reads Fetch) texts.given given) × AreUnread Fetch texts.configured f)
+
+-- why there is no plan, or one that isn't carried out: it is hindered; or a slice is too small for the plan; or the texts
+-- weren't read, or memory ran out
+abbrev pub LacksPlan : WishTexts → List (List ℕ) → Room → Room → Failure → Type 0
 LacksPlan texts names before after f =
-    ((f ≡ failure.InConflict) × (es : List Entry) × IsPlan true texts names es × HasAll es before after)
-    ⊎ LacksAll (λ es. (some : Bool) × IsPlan some texts names es) (AreUnread Fetch texts) before after f
+    ((es : List Entry) × IsPlan (Some f) texts names es × HasAll es before after)
+    ⊎ LacksAll (λ es. (hindrance : Option Failure) × IsPlan hindrance texts names es) (IsUnplanned texts) before after f

@@ -75,6 +75,7 @@ fn failure_numbered(number: u32) -> Option<Failure>
         20 => Failure::NoOperation,
         21 => Failure::NeedsIds,
         22 => Failure::InConflict,
+        23 => Failure::MissingSource,
         _ => return None,
     })
 }
@@ -122,5 +123,6 @@ fn sentence_of(failure: Failure) -> &'static [u8]
             b"A destination is an object id, and names alone don't tell which refs have it.\0"
         }
         Failure::InConflict => b"Several refs would be written to one destination.\0",
+        Failure::MissingSource => b"The remote lacks the source of a refspec.\0",
     }
 }

@@ -8,7 +8,7 @@ ghost use Rattle.gix_refspec_c.specs.Outcome.{IsNumberOf, number_of, of_fault, o
 use gix_refspec::name;
 use gix_refspec::parsing::Error;
 
-/// Why a call fails. At `InConflict` its lists are filled all the same.
+/// Why a call fails. At `InConflict` and `MissingSource` its lists are filled all the same.
 #[derive(Clone, Copy)]
 pub enum Failure {
     /// The text for a push is empty.
@@ -53,8 +53,10 @@ pub enum Failure {
     NoOperation,
     /// A destination is an id, which can't be matched by names alone.
     NeedsIds,
-    /// A destination has several sources.
+    /// An update is in conflict.
     InConflict,
+    /// The remote lacks the source of a refspec.
+    MissingSource,
 }
 
 impl Failure {
@@ -85,6 +87,7 @@ impl Failure {
             Failure::NoOperation => 20,
             Failure::NeedsIds => 21,
             Failure::InConflict => 22,
+            Failure::MissingSource => 23,
         }
     }
 }

@@ -12,6 +12,7 @@ pub mod matching;
 pub mod parts;
 pub mod planning;
 pub mod prefixes;
+pub mod pruning;
 pub mod reading;
 pub mod single;
 pub mod version;

@@ -3,19 +3,20 @@
 ghost use Rattle.std.specs.Prelude.{◌≡◌, ◌++◌, ◌∷◌, [], map, length, IfErr, IfOk, OnOk};
 ghost use Rattle.std.specs.String.{string_bytes};
 ghost use Rattle.gix_refspec.specs.Views.Group.{mapped_of, readings_of, start_of};
-ghost use Rattle.gix_refspec_c.specs.Mapping.{IsNotWritten, IsWritten, Room, Describes, backward_entry, forced_at, forward_entry, id_text, number_of_item, text_of, described_at, described_by};
+ghost use Rattle.gix_refspec.specs.Views.Spec.{reading_of};
+ghost use Rattle.gix_refspec_c.specs.Mapping.{IsNotWritten, IsWritten, Room, Describes, backward_entry, entry_with, forced_at, forward_entry, id_text, number_of_index, text_of, described_at, described_by};
 
 use crate::failure::Failure;
 use crate::parts::parts_of;
-use gix_refspec::MatchGroup;
 use gix_refspec::match_group::{Mapping, SourceRef};
+use gix_refspec::{MatchGroup, RefSpecRef};
 use std::alloc::{AllocError, Global};
 
 /// A mapping for C. Its texts are in the buffer, each with an offset and a length.
 #[repr(C)]
 #[derive(Clone, Copy)]
 pub struct MappingOut {
-    /// The index of the spec in the texts.
+    /// The index of the spec in the texts; in a plan in those that `origin` says, or `usize::MAX`.
     pub spec: usize,
     /// The index of the name in the names, or `usize::MAX` for an object that is asked for by its id.
     pub item: usize,
@@ -23,6 +24,8 @@ pub struct MappingOut {
     pub has_destination: u32,
     /// 1 if the spec allows non-fast-forward updates, else 0.
     pub forced: u32,
+    /// The number of the origin in a plan, and 0 in a match.
+    pub origin: u32,
     /// The number of the verdict in a plan, and 0 in a match.
     pub verdict: u32,
     /// The offset of the text of a source that is an id. For any other source its length is 0.
@@ -33,6 +36,17 @@ pub struct MappingOut {
     pub made_at: usize,
     /// Its length.
     pub made_len: usize,
+}
+
+/// The numbers of a mapping for C.
+#[derive(Clone, Copy)]
+pub(crate) struct Numbers {
+    pub(crate) spec: usize,
+    pub(crate) item: usize,
+    pub(crate) has_destination: u32,
+    pub(crate) forced: u32,
+    pub(crate) origin: u32,
+    pub(crate) verdict: u32,
 }
 
 /// The structs and the texts of mappings.
@@ -59,13 +73,12 @@ impl Listing {
         alloc: Global,
         group: &MatchGroup<'_>,
         mapping: &Mapping<'_, '_>,
-        verdict: u32,
     ) -> Result<(), Failure>
         ensures text { OnOk result (self.new.text.items ≡ self.old.text.items ++
-            text_of (forward_entry (readings_of group.now) verdict (mapped_of mapping.now))) }
+            text_of (forward_entry (readings_of group.now) (mapped_of mapping.now))) }
         ensures described { OnOk result (map described_by self.new.mappings.items ≡
             map described_by self.old.mappings.items ++
-            described_at (length self.old.text.items) (forward_entry (readings_of group.now) verdict (mapped_of mapping.now)) ∷ []) }
+            described_at (length self.old.text.items) (forward_entry (readings_of group.now) (mapped_of mapping.now)) ∷ []) }
         ensures err { IfErr result (λ f. f ≡ Failure.NoMemory) }
     {
         let id = match id_digits(alloc, &mapping.lhs) {
@@ -76,15 +89,8 @@ impl Listing {
             None => (0, b"".as_slice()),
             Some(name) => (1, name.as_bstr().as_bytes()),
         };
-        let forced = forced_of(group, mapping.spec_index);
-        self.add(
-            mapping,
-            has_destination,
-            forced,
-            verdict,
-            id.as_bytes(),
-            made,
-        )
+        let numbers = numbers_of(group, mapping, has_destination);
+        self.add(numbers, id.as_bytes(), made)
     }
 
     /// Adds a mapping of a group from right to left.
@@ -110,24 +116,15 @@ impl Listing {
             SourceRef::ObjectId(_) => id.as_bytes(),
         };
         let has_destination = if mapping.rhs.is_some() { 1 } else { 0 };
-        let forced = forced_of(group, mapping.spec_index);
-        self.add(mapping, has_destination, forced, 0, b"", made)
+        self.add(numbers_of(group, mapping, has_destination), b"", made)
     }
 
-    // Adds a mapping with these texts.
-    fn add(
-        &mut self,
-        mapping: &Mapping<'_, '_>,
-        has_destination: u32,
-        forced: u32,
-        verdict: u32,
-        id: &[u8],
-        made: &[u8],
-    ) -> Result<(), Failure>
+    /// Adds an element with these numbers and texts.
+    pub(crate) fn add(&mut self, numbers: Numbers, id: &[u8], made: &[u8]) -> Result<(), Failure>
         ensures text { OnOk result (self.new.text.items ≡ self.old.text.items ++ (id.now ++ made.now)) }
         ensures described { OnOk result (map described_by self.new.mappings.items ≡
             map described_by self.old.mappings.items ++
-            described_at (length self.old.text.items) (record { spec = mapping.now.spec_index; item = number_of_item mapping.now.item_index; has_destination = has_destination; forced = forced; verdict = verdict; id = id.now; made = made.now }) ∷ []) }
+            described_at (length self.old.text.items) (entry_with numbers id.now made.now) ∷ []) }
         ensures err { IfErr result (λ f. f ≡ Failure.NoMemory) }
     {
         let id_at = self.text.len();
@@ -139,11 +136,12 @@ impl Listing {
             return Err(Failure::NoMemory);
         }
         let described = MappingOut {
-            spec: mapping.spec_index,
-            item: item_number(mapping.item_index),
-            has_destination,
-            forced,
-            verdict,
+            spec: numbers.spec,
+            item: numbers.item,
+            has_destination: numbers.has_destination,
+            forced: numbers.forced,
+            origin: numbers.origin,
+            verdict: numbers.verdict,
             id_at,
             id_len: id.len(),
             made_at,
@@ -156,19 +154,33 @@ impl Listing {
     }
 }
 
-// 1 if the spec with this index allows non-fast-forward updates, else 0.
-fn forced_of(group: &MatchGroup<'_>, index: usize) -> u32
-    ensures { result ≡ forced_at (readings_of group.now) index }
+// The numbers of a mapping of a group in a match.
+fn numbers_of(group: &MatchGroup<'_>, mapping: &Mapping<'_, '_>, has_destination: u32) -> Numbers
+    ensures { result ≡ record { spec = mapping.now.spec_index; item = number_of_index mapping.now.item_index; has_destination = has_destination; forced = forced_at (readings_of group.now) mapping.now.spec_index; origin = 0; verdict = 0 } }
 {
-    match group.specs.get(index) {
+    Numbers {
+        spec: mapping.spec_index,
+        item: index_number(mapping.item_index),
+        has_destination,
+        forced: forced_of(group.specs.as_slice(), mapping.spec_index),
+        origin: 0,
+        verdict: 0,
+    }
+}
+
+/// 1 if the spec with this index allows non-fast-forward updates, else 0.
+pub(crate) fn forced_of(specs: &[RefSpecRef<'_>], index: usize) -> u32
+    ensures { result ≡ forced_at (map reading_of specs.now) index }
+{
+    match specs.get(index) {
         Some(spec) => parts_of(spec.instruction()).forced,
         None => 0,
     }
 }
 
-// The index of an item, or `usize::MAX`.
-fn item_number(index: Option<usize>) -> usize
-    ensures { result ≡ number_of_item index }
+/// The index, or `usize::MAX`.
+pub(crate) fn index_number(index: Option<usize>) -> usize
+    ensures { result ≡ number_of_index index }
 {
     match index {
         Some(place) => place,
@@ -176,8 +188,8 @@ fn item_number(index: Option<usize>) -> usize
     }
 }
 
-// The hexadecimal digits of a source that is an id, and none for a name.
-fn id_digits(alloc: Global, source: &SourceRef<'_>) -> Result<String, AllocError>
+/// The hexadecimal digits of a source that is an id, and none for a name.
+pub(crate) fn id_digits(alloc: Global, source: &SourceRef<'_>) -> Result<String, AllocError>
     ensures { IfOk result (λ digits. string_bytes digits ≡ id_text (start_of source.now)) }
 {
     match source {

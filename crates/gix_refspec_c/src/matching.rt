@@ -140,12 +140,12 @@ fn listed_forward(
     mappings: &[Mapping<'_, '_>],
 ) -> Result<Listing, Failure>
     ensures ok { IfOk result (λ listing. Describes
-        (map (forward_entry (readings_of group.now) 0) (map mapped_of mappings.now)) listing.mappings.items listing.text.items) }
+        (map (forward_entry (readings_of group.now)) (map mapped_of mappings.now)) listing.mappings.items listing.text.items) }
     ensures err { IfErr result (λ f. f ≡ Failure.NoMemory) }
 {
     let mut listing = Listing::new(alloc);
     for mapping in mappings {
-        listing.add_forward(alloc, group, mapping, 0)?;
+        listing.add_forward(alloc, group, mapping)?;
     }
     Ok(listing)
 }

@@ -1,72 +1,49 @@
-//! What a fetch does with each of its mappings.
+//! What a fetch does.
 
-ghost use Rattle.std.specs.Prelude.{◌≡◌, ◌↔◌, false, List, map, IfErr, IfOk, IsTrue, OnOk};
-ghost use Rattle.std.specs.List.{AllZip, Contains};
-ghost use Rattle.std.specs.List.Sorted.{IsStrictlySortedBy};
-ghost use Rattle.std.specs.Ordering.{nat_cmp};
-ghost use Rattle.std.specs.Cmp.Lexicographic.{slice_cmp};
-ghost use Rattle.gix_refspec.specs.Views.Group.{mapped_of, readings_of, start_of};
-ghost use Rattle.gix_refspec.specs.Views.Issue.{conflict_of, mappings_of};
-ghost use Rattle.gix_refspec.specs.Matching.Mappings.{Mapped};
-ghost use Rattle.gix_refspec.specs.Matching.RefNames.{HaveRefNames, IsValidSource};
-ghost use Rattle.gix_refspec.specs.Matching.Validation.{AreConflicts, IndexesFit};
-ghost use Rattle.gix_refspec_c.specs.Group.{AreUnread, bytes_of};
-ghost use Rattle.gix_refspec_c.specs.Mapping.{Entry, HasAll, Room, Describes};
+ghost use Rattle.std.specs.Prelude.{◌≡◌, ◌++◌, ◌∷◌, [], None, List, length, map, IfErr, IfOk, OnOk};
+ghost use Rattle.bstr.specs.BStr.{bstr_bytes};
+ghost use Rattle.gix_refspec.specs.Views.Plan.{planned_of, wish_of};
+ghost use Rattle.gix_refspec_c.specs.Group.{bytes_of};
+ghost use Rattle.gix_refspec_c.specs.Mapping.{Entry, HasAll, Describes, described_at, described_by, text_of};
 ghost use Rattle.gix_refspec_c.specs.Outcome.{Concludes};
-ghost use Rattle.gix_refspec_c.specs.Planning.{HasVerdict, IsJudged, IsPlan, LacksPlan, destinations_of, verdict_code};
+ghost use Rattle.gix_refspec_c.specs.Planning.{Ends, IsPlan, IsUnplanned, LacksPlan, ListsPlan, forced_from, missing_entry, origin_code, spec_number, update_entry, verdict_code, wish_texts};
 
 use crate::explanation::Text;
 use crate::failure::Failure;
-use crate::listing::{Listing, MappingOut, write_all};
+use crate::listing::{Listing, MappingOut, Numbers, forced_of, id_digits, index_number, write_all};
 use crate::matching::items_of;
 use crate::reading::read_all;
-use gix_refspec::match_group::ref_names::is_ref_name;
-use gix_refspec::match_group::validate::{Issue, Refusal, is_writable};
-use gix_refspec::match_group::{Mapping, SourceRef, match_lhs};
+use bstr::BStr;
+use gix_refspec::match_group::ref_names::InvalidSide;
 use gix_refspec::oid::{Kind, ObjectId};
 use gix_refspec::parsing::Operation;
-use gix_refspec::{MatchGroup, laws};
-use std::alloc::Global;
-use std::cmp::Ordering;
+use gix_refspec::plan::{Origin, Plan, Update, Verdict, Wish, plan_fetch};
+use std::alloc::{AllocError, Global};
 
-/// What a fetch does with a mapping.
+/// What a fetch is asked for, from C.
+#[repr(C)]
 #[derive(Clone, Copy)]
-pub enum Verdict {
-    /// Its destination is written.
-    Written,
-    /// Its destination neither begins `refs/` nor is `HEAD`.
-    LeftOut,
-    /// Its source or its destination isn't a valid ref name.
-    BadName,
-    /// Its destination has several sources.
-    Contested,
-    /// It has no destination.
-    FetchedOnly,
+pub struct WishIn<'w, 'a> {
+    /// The refspecs of the call.
+    pub given: &'w [Text<'a>],
+    /// The configured refspecs.
+    pub configured: &'w [Text<'a>],
+    /// What the current branch merges.
+    pub merges: &'w [Text<'a>],
+    /// 0 unless all tags are asked for.
+    pub tags: u32,
 }
 
-impl Verdict {
-    /// Its number in C.
-    pub fn number(self) -> u32
-        ensures { result ≡ verdict_code self }
-    {
-        match self {
-            Verdict::Written => 1,
-            Verdict::LeftOut => 2,
-            Verdict::BadName => 3,
-            Verdict::Contested => 4,
-            Verdict::FetchedOnly => 5,
-        }
-    }
-}
-
-/// What a fetch does with each of its mappings. Conflicts are those among the mappings without an
-/// invalid ref name; if there are any, the number of `InConflict` is returned, with the lists filled
-/// all the same. Sets `count` and `len` to the required sizes even if `mappings` or `buffer` is too
-/// small, and leaves both of these unchanged then; after any other failure nothing has changed.
+/// What a fetch does with the refs of a remote that have these names: its updates, and behind them an
+/// element for each refspec whose source the remote lacks. If there is such a refspec, the number of
+/// `MissingSource` is returned, or else that of `InConflict` if some update is in conflict, with the
+/// lists filled all the same. Sets `count` and `len` to the required sizes even if `mappings` or
+/// `buffer` is too small, and leaves both of these unchanged then; after any other failure nothing has
+/// changed.
 #[unsafe(no_mangle)]
 pub extern "C" fn gix_refspec_plan(
     alloc: Global,
-    texts: &[Text<'_>],
+    wish: &WishIn<'_, '_>,
     names: &[Text<'_>],
     mappings: &mut [MappingOut],
     buffer: &mut [u8],
@@ -74,175 +51,227 @@ pub extern "C" fn gix_refspec_plan(
     len: &mut usize,
 ) -> u32
     ensures { Concludes
-        ((es : List Entry) × IsPlan false (map bytes_of texts.now) (map bytes_of names.now) es × HasAll es
+        ((es : List Entry) × IsPlan None (wish_texts wish.now) (map bytes_of names.now) es × HasAll es
         (record { mappings = mappings.old; buffer = buffer.old; count = count.old; len = len.old })
         (record { mappings = mappings.new; buffer = buffer.new; count = count.new; len = len.new }))
-        (LacksPlan (map bytes_of texts.now) (map bytes_of names.now)
+        (LacksPlan (wish_texts wish.now) (map bytes_of names.now)
         (record { mappings = mappings.old; buffer = buffer.old; count = count.old; len = len.old })
         (record { mappings = mappings.new; buffer = buffer.new; count = count.new; len = len.new }))
         result }
 {
-    let plan = match plan_of(alloc, texts, names) {
-        Ok(plan) => plan,
+    let answer = match answer_of(alloc, wish, names) {
+        Ok(answer) => answer,
         Err(failure) => return failure.number(),
     };
-    match write_all(&plan.listing, mappings, buffer, count, len) {
-        Ok(()) => {
-            if plan.has_conflict {
-                Failure::InConflict.number()
-            } else {
-                0
-            }
-        }
+    match write_all(&answer.listing, mappings, buffer, count, len) {
+        Ok(()) => match answer.hindrance {
+            None => 0,
+            Some(failure) => failure.number(),
+        },
         Err(failure) => failure.number(),
     }
 }
 
-// The listing of a fetch, and whether several refs would be written to one destination.
+// The listing of a plan, and why nothing is fetched. `None` if the plan is carried out.
 #[derive(Drop)]
-struct Plan {
+struct Answer {
     listing: Listing,
-    has_conflict: bool,
+    hindrance: Option<Failure>,
 }
 
-// Lists the mappings of a fetch with their verdicts.
-fn plan_of(alloc: Global, texts: &[Text<'_>], names: &[Text<'_>]) -> Result<Plan, Failure>
-    ensures ok { IfOk result (λ plan. (es : List Entry) ×
-        IsPlan plan.has_conflict (map bytes_of texts.now) (map bytes_of names.now) es ×
-        Describes es plan.listing.mappings.items plan.listing.text.items) }
-    ensures err { IfErr result (AreUnread Operation.Fetch (map bytes_of texts.now)) }
+// Reads what is asked for, and plans the fetch.
+fn answer_of(alloc: Global, wish: &WishIn<'_, '_>, names: &[Text<'_>]) -> Result<Answer, Failure>
+    ensures ok { IfOk result (λ answer. (es : List Entry) ×
+        IsPlan answer.hindrance (wish_texts wish.now) (map bytes_of names.now) es ×
+        Describes es answer.listing.mappings.items answer.listing.text.items) }
+    ensures err { IfErr result (IsUnplanned (wish_texts wish.now)) }
 {
-    let group = read_all(alloc, texts, Operation::Fetch)?;
+    let given = read_all(alloc, wish.given, Operation::Fetch)?;
+    let configured = match read_all(alloc, wish.configured, Operation::Fetch) {
+        Ok(configured) => configured,
+        Err(failure) => return Err(failure),
+    };
+    let merges = match merges_of(alloc, wish.merges) {
+        Ok(merges) => merges,
+        Err(_) => return Err(Failure::NoMemory),
+    };
+    let wish = Wish {
+        given: given.specs.as_slice(),
+        configured: configured.specs.as_slice(),
+        merges: merges.as_slice(),
+        tags: wish.tags != 0,
+    };
+    match planned(alloc, &wish, names) {
+        Ok(answer) => Ok(answer),
+        Err(failure) => Err(failure),
+    }
+}
+
+// Plans the fetch for a wish.
+fn planned(alloc: Global, wish: &Wish<'_, '_>, names: &[Text<'_>]) -> Result<Answer, Failure>
+    ensures ok { IfOk result (λ answer. (es : List Entry) ×
+        ListsPlan answer.hindrance (wish_of wish.now) (map bytes_of names.now) es ×
+        Describes es answer.listing.mappings.items answer.listing.text.items) }
+    ensures err { IfErr result (λ f. f ≡ Failure.NoMemory) }
+{
     let null = ObjectId::null(Kind::Sha1);
     let items = match items_of(alloc, names, &null) {
         Ok(items) => items,
         Err(_) => return Err(Failure::NoMemory),
     };
-    laws::forward_fits(&group, items.as_slice());
-    let outcome = match group.match_lhs(alloc, items.as_slice()) {
-        Ok(outcome) => outcome,
+    let plan = match plan_fetch(alloc, wish, items.as_slice()) {
+        Ok(plan) => plan,
         Err(_) => return Err(Failure::NoMemory),
     };
-    let issues = match issues_of(alloc, &outcome) {
-        Ok(issues) => issues,
-        Err(failure) => return Err(failure),
-    };
-    let conflicts = issues.as_slice();
-    match listed(
-        alloc,
-        &outcome.group,
-        outcome.mappings.as_slice(),
-        conflicts,
-    ) {
-        Ok(listing) => Ok(Plan {
+    match listed(alloc, wish, &plan) {
+        Ok(listing) => Ok(Answer {
             listing,
-            has_conflict: !conflicts.is_empty(),
+            hindrance: hindrance_of(&plan),
         }),
         Err(failure) => Err(failure),
     }
 }
 
-// The conflicts of the mappings without an invalid ref name.
-fn issues_of(alloc: Global, outcome: &match_lhs::Outcome<'_, '_>) -> Result<Vec<Issue>, Failure>
-    requires { IndexesFit (readings_of outcome.now.group) (mappings_of outcome.now) }
-    ensures ok { IfOk result (λ issues. (named : List Mapped) × HaveRefNames (mappings_of outcome.now) named ×
-        AreConflicts (readings_of outcome.now.group) named (map conflict_of issues.items)) }
-    ensures err { IfErr result (λ f. f ≡ Failure.NoMemory) }
+// The names of merged refs.
+fn merges_of<'a>(alloc: Global, texts: &[Text<'a>]) -> Result<Vec<BStr<'a>>, AllocError>
+    ensures { IfOk result (λ names. map bstr_bytes names.items ≡ map bytes_of texts.now) }
 {
-    let copy = match outcome.clone(alloc) {
-        Ok(copy) => copy,
-        Err(_) => return Err(Failure::NoMemory),
-    };
-    laws::copied_outcome(outcome, &copy);
-    laws::writes_refs(&copy.group, &[]);
-    let named = match copy.without_invalid_names(alloc) {
-        Ok((named, _)) => named,
-        Err(_) => return Err(Failure::NoMemory),
-    };
-    match named.validated(alloc) {
-        Ok(_) => Ok(Vec::new(alloc)),
-        Err(Refusal::Conflicts(error)) => Ok(error.issues),
-        Err(Refusal::Memory(_)) => Err(Failure::NoMemory),
+    let mut names = Vec::with_capacity(alloc, texts.len())?;
+    for text in texts {
+        names.push(BStr::new(text.bytes))?;
+    }
+    Ok(names)
+}
+
+// Why nothing is fetched. `None` if the plan is carried out.
+fn hindrance_of(plan: &Plan<'_>) -> Option<Failure>
+    ensures { Ends result (map planned_of plan.now.updates.items) plan.now.missing.items }
+{
+    if !plan.missing.is_empty() {
+        return Some(Failure::MissingSource);
+    }
+    if plan.is_carried_out() {
+        None
+    } else {
+        Some(Failure::InConflict)
     }
 }
 
-// The listing of mappings of a group, with the verdicts that these conflicts give.
-fn listed(
-    alloc: Global,
-    group: &MatchGroup<'_>,
-    mappings: &[Mapping<'_, '_>],
-    issues: &[Issue],
-) -> Result<Listing, Failure>
-    requires { IsStrictlySortedBy (slice_cmp nat_cmp) (destinations_of issues.now) }
-    ensures ok { IfOk result (λ listing. (es : List Entry) ×
-        AllZip (IsJudged (readings_of group.now) (Contains (destinations_of issues.now))) (map mapped_of mappings.now) es ×
-        Describes es listing.mappings.items listing.text.items) }
+// The listing of the plan for a wish.
+fn listed(alloc: Global, wish: &Wish<'_, '_>, plan: &Plan<'_>) -> Result<Listing, Failure>
+    ensures ok { IfOk result (λ listing. Describes
+        (map (update_entry (wish_of wish.now)) (map planned_of plan.now.updates.items) ++ map missing_entry plan.now.missing.items)
+        listing.mappings.items listing.text.items) }
     ensures err { IfErr result (λ f. f ≡ Failure.NoMemory) }
 {
     let mut listing = Listing::new(alloc);
-    for mapping in mappings {
-        let verdict = verdict_of(mapping, issues);
-        listing.add_forward(alloc, group, mapping, verdict.number())?;
+    for update in &plan.updates {
+        add_update(alloc, &mut listing, wish, update)?;
+    }
+    for origin in &plan.missing {
+        add_missing(&mut listing, *origin)?;
     }
     Ok(listing)
 }
 
-// The verdict on a mapping, if these are the conflicts.
-fn verdict_of(mapping: &Mapping<'_, '_>, issues: &[Issue]) -> Verdict
-    requires { IsStrictlySortedBy (slice_cmp nat_cmp) (destinations_of issues.now) }
-    ensures { HasVerdict (Contains (destinations_of issues.now)) (mapped_of mapping.now) result }
+// Adds an update of the plan for a wish to a listing.
+fn add_update(
+    alloc: Global,
+    listing: &mut Listing,
+    wish: &Wish<'_, '_>,
+    update: &Update<'_>,
+) -> Result<(), Failure>
+    ensures text { OnOk result (listing.new.text.items ≡ listing.old.text.items ++
+        text_of (update_entry (wish_of wish.now) (planned_of update.now))) }
+    ensures described { OnOk result (map described_by listing.new.mappings.items ≡
+        map described_by listing.old.mappings.items ++
+        described_at (length listing.old.text.items) (update_entry (wish_of wish.now) (planned_of update.now)) ∷ []) }
+    ensures err { IfErr result (λ f. f ≡ Failure.NoMemory) }
 {
-    let source_is_good = is_good_source(&mapping.lhs);
-    match &mapping.rhs {
-        None => {
-            if source_is_good {
-                Verdict::FetchedOnly
-            } else {
-                Verdict::BadName
-            }
-        }
-        Some(name) => {
-            let destination = name.as_bstr().as_bytes();
-            if !is_writable(destination) {
-                Verdict::LeftOut
-            } else if !source_is_good || !is_ref_name(destination) {
-                Verdict::BadName
-            } else if is_contested(destination, issues) {
-                Verdict::Contested
-            } else {
-                Verdict::Written
-            }
-        }
+    let Ok(id) = id_digits(alloc, &update.source) else {
+        return Err(Failure::NoMemory);
+    };
+    let (has_destination, made) = match &update.destination {
+        None => (0, b"".as_slice()),
+        Some(name) => (1, name.as_bytes()),
+    };
+    let numbers = Numbers {
+        spec: spec_number_of(update.origin),
+        item: index_number(update.item_index),
+        has_destination,
+        forced: forced_by_origin(wish, update.origin),
+        origin: origin_number(update.origin),
+        verdict: verdict_number(update.verdict),
+    };
+    listing.add(numbers, id.as_bytes(), made)
+}
+
+// Adds a spec whose source is missing to a listing.
+fn add_missing(listing: &mut Listing, origin: Origin) -> Result<(), Failure>
+    ensures text { OnOk result (listing.new.text.items ≡ listing.old.text.items ++ text_of (missing_entry origin)) }
+    ensures described { OnOk result (map described_by listing.new.mappings.items ≡
+        map described_by listing.old.mappings.items ++
+        described_at (length listing.old.text.items) (missing_entry origin) ∷ []) }
+    ensures err { IfErr result (λ f. f ≡ Failure.NoMemory) }
+{
+    let numbers = Numbers {
+        spec: spec_number_of(origin),
+        item: usize::MAX,
+        has_destination: 0,
+        forced: 0,
+        origin: origin_number(origin),
+        verdict: MISSING,
+    };
+    listing.add(numbers, b"", b"")
+}
+
+// The number of an origin in C.
+fn origin_number(origin: Origin) -> u32
+    ensures { result ≡ origin_code origin }
+{
+    match origin {
+        Origin::Given(_) => 1,
+        Origin::Configured(_) => 2,
+        Origin::Merge(_) => 3,
+        Origin::Default => 4,
+        Origin::AllTags => 5,
     }
 }
 
-// Whether a source is an id, or a valid ref name.
-fn is_good_source(source: &SourceRef<'_>) -> bool
-    ensures { IsTrue result ↔ IsValidSource (start_of source.now) }
+// The index of the text that an update comes from, or `usize::MAX`.
+fn spec_number_of(origin: Origin) -> usize
+    ensures { result ≡ spec_number origin }
 {
-    match source {
-        SourceRef::FullName(name) => is_ref_name(name.as_bstr().as_bytes()),
-        SourceRef::ObjectId(_) => true,
+    match origin {
+        Origin::Given(index) | Origin::Configured(index) | Origin::Merge(index) => index,
+        Origin::Default | Origin::AllTags => usize::MAX,
     }
 }
 
-// Whether a destination is that of a conflict.
-fn is_contested(destination: &[u8], issues: &[Issue]) -> bool
-    requires { IsStrictlySortedBy (slice_cmp nat_cmp) (destinations_of issues.now) }
-    ensures { IsTrue result ↔ Contains (destinations_of issues.now) destination.now }
+// 1 if the spec that an update comes from allows non-fast-forward updates, else 0.
+fn forced_by_origin(wish: &Wish<'_, '_>, origin: Origin) -> u32
+    ensures { result ≡ forced_from (wish_of wish.now) origin }
 {
-    issues
-        .binary_search_by(|issue| order_of(issue, destination))
-        .is_ok()
+    match origin {
+        Origin::Given(index) => forced_of(wish.given, index),
+        Origin::Configured(index) => forced_of(wish.configured, index),
+        Origin::Merge(_) | Origin::Default | Origin::AllTags => 0,
+    }
 }
 
-// How the destination of a conflict compares with another.
-fn order_of(issue: &Issue, destination: &[u8]) -> Ordering
-    ensures { result ≡ slice_cmp nat_cmp (conflict_of issue.now).destination destination.now }
+// The number of the verdict on a refspec whose source is missing.
+const MISSING: u32 = 7;
+
+// The number of a verdict in C.
+fn verdict_number(verdict: Verdict) -> u32
+    ensures { result ≡ verdict_code verdict }
 {
-    let Issue::Conflict {
-        destination_full_ref_name,
-        ..
-    } = issue;
-    destination_full_ref_name.as_bytes().cmp(destination)
+    match verdict {
+        Verdict::Written => 1,
+        Verdict::LeftOut(InvalidSide::Source) => 2,
+        Verdict::LeftOut(InvalidSide::Destination) => 3,
+        Verdict::LeftOut(InvalidSide::Both) => 4,
+        Verdict::InConflict => 5,
+        Verdict::Overruled => 6,
+    }
 }

@@ -12,6 +12,6 @@ pub extern "C" fn gix_refspec_version(text: &mut Text<'static>) -> u32
     ensures outcome { result ≡ 0 }
     ensures text { text.new.bytes.now ≡ version }
 {
-    *text = before_nul(b"0.2.0\0");
+    *text = before_nul(b"0.3.0\0");
     0
 }

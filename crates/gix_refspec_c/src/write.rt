@@ -1,13 +1,13 @@
-//! Writing an answer to a buffer of the caller.
+//! Writing an answer to a slice of the caller.
 
 ghost use Rattle.std.specs.Prelude.{OnOk, OnErr, ◌≡◌, IfErr};
 ghost use Rattle.gix_refspec_c.specs.Buffer.{IsWrittenTo, IsTooSmall};
 
 use crate::failure::Failure;
 
-/// Copies an answer to the start of a buffer, if it is long enough, and sets the length to that of the
+/// Copies an answer to the start of a slice, if that is long enough, and sets the length to that of the
 /// answer.
-pub(crate) fn write(answer: &[u8], buffer: &mut [u8], len: &mut usize) -> Result<(), Failure>
+pub(crate) fn write<T: Copy>(answer: &[T], buffer: &mut [T], len: &mut usize) -> Result<(), Failure>
     ensures ok { OnOk result (IsWrittenTo answer.now buffer.old buffer.new len.new) }
     ensures small { IfErr result (λ f. (f ≡ Failure.TooSmall) × IsTooSmall answer.now buffer.old buffer.new len.new) }
 {

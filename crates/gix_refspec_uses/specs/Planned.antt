@@ -1,55 +1,62 @@
--- What a fetch may write, by the definitions of the library.
-use Rattle.std.specs.Prelude.{◌≢◌, ◌↔◌, List, [], map, filter}
+-- What a fetch writes, by the definitions of the library.
+use Rattle.std.specs.Prelude.{◌≡◌, Bool, true, false, List, map, filter}
 use Rattle.std.specs.List.{Contains}
 use Rattle.gix_refspec_text.specs.declared.parsing.Operation.TheVariants.{Fetch}
 use Rattle.gix_refspec_text.specs.declared.spec.RefSpecRef.{RefSpecRef}
+use Rattle.gix_refspec.specs.declared.plan.Origin.{Origin}
+use Rattle.gix_refspec.specs.declared.plan.Update.{Update}
+use Rattle.gix_refspec.specs.declared.plan.Verdict.{Verdict}
+use Rattle.gix_refspec.specs.declared.plan.Verdict.TheVariants as verdict
 use Rattle.gix_refspec.specs.Specs.Reading.{Reading}
 use Rattle.gix_refspec.specs.Views.Spec.{reading_of}
-use Rattle.gix_refspec.specs.Matching.Match.{Ref}
-use Rattle.gix_refspec.specs.Matching.Mappings.{Mapped, IsSourceExcluded}
 use Rattle.gix_refspec.specs.Views.Group.{is_for}
-use Rattle.gix_refspec.specs.Matching.Hits.{AreKeptForward}
-use Rattle.gix_refspec.specs.Laws.Matching.{AtSpec}
-use Rattle.gix_refspec.specs.Laws.Indexes.{MakesForwardOf}
-use Rattle.gix_refspec.specs.Matching.RefNames.{LeftOut, AreLeftOut, HasRefNames, KeepsRefNames, WritesRef}
-use Rattle.gix_refspec.specs.Matching.Validation.{Conflict, AreConflicts, HaveDistinctDestinations}
-use Rattle.gix_refspec.specs.Views.Issue.{conflicts_of}
-use Rattle.gix_refspec_uses.specs.declared.planner.NoPlan.{NoPlan}
-use Rattle.gix_refspec_uses.specs.declared.planner.NoPlan.TheVariants as no_plan
+use Rattle.gix_refspec.specs.Views.Plan.{planned_of}
+use Rattle.gix_refspec.specs.Matching.Match.{Ref}
+use Rattle.gix_refspec_match.specs.Matching.Missing.{LacksSource}
+use Rattle.gix_refspec.specs.Matching.Plan.{IsPlan, Planned, Wish}
+use Rattle.gix_refspec.specs.Laws.Fetches.{AreWrittenOnce, DoConflict, IsRequired}
+use Rattle.gix_refspec_uses.specs.declared.planner.Fetch.{Fetch as FetchMade}
+use Rattle.gix_refspec_uses.specs.declared.planner.Fetch.TheVariants as made
 
 -- the readings of the fetches among the specs, in order
 abbrev pub fetch_readings : List RefSpecRef → List Reading
 fetch_readings specs = map reading_of (filter (is_for Fetch) specs)
 
--- the mapping is what the spec and the item at its indexes make, no spec excludes its source, and neither side is an
--- invalid ref name
-pub record MayBeWritten (g : List Reading) (items : List Ref) (m : Mapped) : Type 0 where
-  pub comes : AtSpec g m (MakesForwardOf items m.item m.source m.destination)
-  pub included : ¬ (IsSourceExcluded g m.source)
-  pub named : HasRefNames m
-  pub writes : WritesRef m
+-- whether the update is written
+abbrev pub has_written : Verdict → Bool
+has_written verdict.Written = true
+has_written (verdict.LeftOut side) = false
+has_written verdict.InConflict = false
+has_written verdict.Overruled = false
 
--- the list has exactly the kept mappings without an invalid ref name, no two of them to one destination, and out has
--- the other kept mappings
-pub record IsPlan (g : List Reading) (items : List Ref) (list : List Mapped) (out : List LeftOut) : Type 0 where
-  pub kept : List Mapped
-  pub matched : AreKeptForward g items kept
-  pub exactly : (m : Mapped) → Contains list m ↔ (Contains kept m × HasRefNames m)
-  pub each : (m : Mapped) → Contains list m → MayBeWritten g items m
-  pub once : HaveDistinctDestinations list
-  pub others : AreLeftOut kept out
+abbrev pub is_written : Update → Bool
+is_written u = has_written u.verdict
 
--- these are the conflicts of the kept mappings without an invalid ref name, and there are some
-pub record AreInConflict (g : List Reading) (items : List Ref) (cs : List Conflict) : Type 0 where
-  pub kept : List Mapped
-  pub matched : AreKeptForward g items kept
-  pub named : List Mapped
-  pub out : List LeftOut
-  pub parted : KeepsRefNames kept named out
-  pub some : cs ≢ []
-  pub are : AreConflicts g named cs
+-- the remote has each source that it has to have, and no two updates are from different sources to one ref
+pub record IsWhole (wish : Wish) (refs : List Ref) (planned : List Planned) : Type 0 where
+  pub present : (r : Reading) → IsRequired wish r → ¬ (LacksSource refs r)
+  pub free : (p q : Planned) → Contains planned p → Contains planned q → ¬ (DoConflict p q)
 
--- if there is no plan because of conflicts, P holds of them
-abbrev pub IfConflicts : NoPlan → (List Conflict → Type 0) → Type 0
-IfConflicts (no_plan.Conflicts e) P = P (conflicts_of e)
-IfConflicts no_plan.Memory P = Unit {0}
+-- the updates are exactly those of the plan that are written, in order. Nothing hinders the plan, and no ref is written
+-- twice
+pub record AreFetched (wish : Wish) (refs : List Ref) (fetched : List Update) : Type 0 where
+  pub updates : List Update
+  pub missing : List Origin
+  pub plan : IsPlan wish refs (map planned_of updates) missing
+  pub exactly : fetched ≡ filter is_written updates
+  pub whole : IsWhole wish refs (map planned_of updates)
+  pub once : AreWrittenOnce (map planned_of updates)
+
+-- these are the updates of the plan, and the missing sources, and something hinders it
+pub record IsHindered (wish : Wish) (refs : List Ref) (planned : List Planned) (missing : List Origin) : Type 0 where
+  pub plan : IsPlan wish refs planned missing
+  pub hindered : ¬ (IsWhole wish refs planned)
+
+-- if the fetch is carried out, P holds of its updates; if it is hindered, of its plan
+abbrev pub IfCarriedOut : FetchMade → (List Update → Type 0) → Type 0
+IfCarriedOut (made.CarriedOut updates) P = P updates.items
+IfCarriedOut (made.Hindered plan) P = Unit {0}
+
+abbrev pub IfHindered : FetchMade → (List Planned → List Origin → Type 0) → Type 0
+IfHindered (made.CarriedOut updates) P = Unit {0}
+IfHindered (made.Hindered plan) P = P (map planned_of plan.updates.items) plan.missing.items

@@ -1,74 +1,51 @@
-//! What a fetch may write: mappings between valid ref names, with distinct destinations and without
-//! excluded sources.
+//! What a fetch writes: each ref once, and nothing where a source is missing or in conflict.
 
-ghost use Rattle.std.specs.Prelude.{◌≡◌, map, filter, IfOk, IfErr};
-ghost use Rattle.gix_refspec.specs.Views.Group.{is_for, ref_of};
-ghost use Rattle.gix_refspec.specs.Views.Issue.{mappings_of};
-ghost use Rattle.gix_refspec.specs.Matching.RefNames.{left_out_of};
-ghost use Rattle.gix_refspec_uses.specs.Planned.{AreInConflict, IfConflicts, IsPlan, fetch_readings};
+ghost use Rattle.std.specs.Prelude.{◌≡◌, map, IfOk};
+ghost use Rattle.gix_refspec.specs.Views.Group.{ref_of};
+ghost use Rattle.gix_refspec.specs.Views.Plan.{wish_of};
+ghost use Rattle.gix_refspec_uses.specs.Planned.{AreFetched, IfCarriedOut, IfHindered, IsHindered, is_written};
 
-use crate::gather::fetches_of;
-use gix_refspec::match_group::ref_names::InvalidMapping;
-use gix_refspec::match_group::validate::{Error, Refusal};
-use gix_refspec::match_group::{Item, match_lhs};
-use gix_refspec::parsing::Operation;
-use gix_refspec::{RefSpecRef, laws};
-use std::alloc::Global;
+use gix_refspec::laws;
+use gix_refspec::match_group::Item;
+use gix_refspec::plan::{Plan, Update, Verdict, Wish, plan_fetch};
+use std::alloc::{AllocError, Global};
 
-/// What a fetch writes, and what it leaves out.
+/// What comes of a fetch.
 #[derive(Debug, Drop)]
-pub struct Plan<'spec, 'item> {
-    /// The fetch specs, and the mappings to write, in order.
-    pub outcome: match_lhs::Outcome<'spec, 'item>,
-    /// The mappings with an invalid ref name, in order.
-    pub left_out: Vec<InvalidMapping<'item, 'spec>>,
+pub enum Fetch<'item> {
+    /// It is carried out. Holds the updates that are written, in order.
+    CarriedOut(Vec<Update<'item>>),
+    /// Nothing is fetched, as a source is missing, or updates are in conflict. Holds the whole plan.
+    Hindered(Plan<'item>),
 }
 
-/// Why there is no plan.
-#[derive(Debug, Drop)]
-pub enum NoPlan {
-    /// Several sources are mapped to one destination.
-    Conflicts(Error),
-    /// Memory ran out.
-    Memory,
-}
-
-/// Plans what the fetch specs among these write of the items. Mappings with an invalid ref name are
-/// left out first, as Git leaves out a "funny ref", and so cause no conflicts. There are no fixes then:
-/// a valid ref name begins `refs/` or is `HEAD`.
-///
-/// Fails with the conflicts of the other mappings if there are any, or if memory runs out.
-pub fn plan_fetch<'spec, 'item>(
+/// Plans what is fetched of the items. Fails if memory runs out.
+pub fn plan_updates<'item>(
     alloc: Global,
-    specs: Vec<RefSpecRef<'spec>>,
+    wish: &Wish<'_, '_>,
     items: &[Item<'item>],
-) -> Result<Plan<'spec, 'item>, NoPlan>
-    ensures specs { IfOk result (λ plan. plan.outcome.group.specs.items ≡
-        filter (is_for Operation.Fetch) specs.entry.items) }
-    ensures ok { IfOk result (λ plan. IsPlan
-        (fetch_readings specs.entry.items) (map ref_of items.now)
-        (mappings_of plan.outcome) (map left_out_of plan.left_out.items)) }
-    ensures conflicts { IfErr result (λ e. IfConflicts e (AreInConflict
-        (fetch_readings specs.entry.items) (map ref_of items.now))) }
+) -> Result<Fetch<'item>, AllocError>
+    ensures carried_out { IfOk result (λ fetch. IfCarriedOut fetch
+        (AreFetched (wish_of wish.now) (map ref_of items.now))) }
+    ensures hindered { IfOk result (λ fetch. IfHindered fetch
+        (IsHindered (wish_of wish.now) (map ref_of items.now))) }
 {
-    let Ok(group) = fetches_of(alloc, specs) else {
-        return Err(NoPlan::Memory);
-    };
-    laws::made_at_indexes(&group, items);
-    laws::nothing_excluded(&group, items);
-    laws::writes_refs(&group, items);
-    laws::forward_fits(&group, items);
-    let Ok(outcome) = group.match_lhs(alloc, items) else {
-        return Err(NoPlan::Memory);
-    };
-    laws::remains_exactly(&outcome);
-    let Ok((named, left_out)) = outcome.without_invalid_names(alloc) else {
-        return Err(NoPlan::Memory);
-    };
-    laws::remains_exactly(&named);
-    match named.validated(alloc) {
-        Ok((outcome, _)) => Ok(Plan { outcome, left_out }),
-        Err(Refusal::Conflicts(error)) => Err(NoPlan::Conflicts(error)),
-        Err(Refusal::Memory(_)) => Err(NoPlan::Memory),
+    laws::writes_once(wish, items);
+    laws::carried_out_exactly(wish, items);
+    let plan = plan_fetch(alloc, wish, items)?;
+    if !plan.is_carried_out() {
+        return Ok(Fetch::Hindered(plan));
+    }
+    let mut updates = plan.updates;
+    updates.retain(|update| has_to_be_written(update));
+    Ok(Fetch::CarriedOut(updates))
+}
+
+fn has_to_be_written(update: &Update<'_>) -> bool
+    ensures { result ≡ is_written update.now }
+{
+    match update.verdict {
+        Verdict::Written => true,
+        Verdict::LeftOut(_) | Verdict::InConflict | Verdict::Overruled => false,
     }
 }

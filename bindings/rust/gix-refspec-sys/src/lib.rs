@@ -33,6 +33,7 @@ pub const NO_MEMORY: u32 = 19;
 pub const NO_OPERATION: u32 = 20;
 pub const NEEDS_IDS: u32 = 21;
 pub const IN_CONFLICT: u32 = 22;
+pub const MISSING_SOURCE: u32 = 23;
 
 /// The kinds of instructions.
 pub const PUSH_ALL_MATCHING: u32 = 1;
@@ -47,15 +48,26 @@ pub const FETCH_AND_UPDATE: u32 = 7;
 pub const FORWARD: u32 = 1;
 pub const BACKWARD: u32 = 2;
 
-/// What a fetch does with a mapping.
-pub const WRITTEN: u32 = 1;
-pub const LEFT_OUT: u32 = 2;
-pub const BAD_NAME: u32 = 3;
-pub const CONTESTED: u32 = 4;
-pub const FETCHED_ONLY: u32 = 5;
+/// What makes an update of a plan.
+pub const GIVEN: u32 = 1;
+pub const CONFIGURED: u32 = 2;
+pub const MERGE: u32 = 3;
+pub const DEFAULT: u32 = 4;
+pub const ALL_TAGS: u32 = 5;
 
-/// The place of an id that is asked for among the names.
+/// What becomes of it. `MISSING` is a refspec whose source the remote lacks.
+pub const WRITTEN: u32 = 1;
+pub const INVALID_SOURCE: u32 = 2;
+pub const INVALID_DESTINATION: u32 = 3;
+pub const INVALID_SIDES: u32 = 4;
+pub const CONTESTED: u32 = 5;
+pub const OVERRULED: u32 = 6;
+pub const MISSING: u32 = 7;
+
+/// The index of an id that is asked for among the names.
 pub const NO_ITEM: usize = usize::MAX;
+/// The index of an origin without one, and of what keeps a stale ref.
+pub const NO_SPEC: usize = usize::MAX;
 
 /// A text. The pointer may be null where the length is 0.
 #[repr(C)]
@@ -75,7 +87,20 @@ pub struct Parts {
     pub destination: Text,
 }
 
-/// A mapping. Its texts are places in the buffer.
+/// What a fetch is asked for. `tags` is 0 unless all tags are.
+#[repr(C)]
+#[derive(Clone, Copy, Debug)]
+pub struct Wish {
+    pub given: *const Text,
+    pub given_count: usize,
+    pub configured: *const Text,
+    pub configured_count: usize,
+    pub merges: *const Text,
+    pub merges_count: usize,
+    pub tags: u32,
+}
+
+/// A mapping, or an update of a plan. Its texts are places in the buffer.
 #[repr(C)]
 #[derive(Clone, Copy, Debug, Default)]
 pub struct Mapping {
@@ -83,11 +108,20 @@ pub struct Mapping {
     pub item: usize,
     pub has_destination: u32,
     pub forced: u32,
+    pub origin: u32,
     pub verdict: u32,
     pub id_at: usize,
     pub id_len: usize,
     pub made_at: usize,
     pub made_len: usize,
+}
+
+/// A local ref that looks stale.
+#[repr(C)]
+#[derive(Clone, Copy, Debug, Default)]
+pub struct StaleRef {
+    pub item: usize,
+    pub kept_by: usize,
 }
 
 // What is read and what is written are in lines of their own.
@@ -119,9 +153,14 @@ extern "C" {
         count: *mut usize, len: *mut usize,
     ) -> u32;
     pub fn gix_refspec_plan(
-        texts: *const Text, texts_count: usize, names: *const Text, names_count: usize,
+        wish: *const Wish, names: *const Text, names_count: usize,
         mappings: *mut Mapping, mappings_count: usize, buffer: *mut u8, buffer_len: usize,
         count: *mut usize, len: *mut usize,
+    ) -> u32;
+    pub fn gix_refspec_stale(
+        texts: *const Text, texts_count: usize, remote: *const Text, remote_count: usize,
+        local: *const Text, local_count: usize,
+        stale: *mut StaleRef, stale_count: usize, count: *mut usize,
     ) -> u32;
     pub fn gix_refspec_explanation(outcome: u32, sentence: *mut Text) -> u32;
 }

@@ -1,28 +1,44 @@
-//! Tells what a fetch would do: git ls-remote origin | planner '+refs/heads/*:refs/remotes/origin/*'
+//! Tells what a fetch would do: git ls-remote origin | planner [SPEC..] [-- CONFIGURED..]
 //!
-//! Ends with status 1 where several refs would be written to one destination, or a text is no refspec.
-use refspec::{plan, Operation, Planned, Spec, Verdict};
+//! The configured refspecs are those of `git config --get-all remote.origin.fetch`. Ends with status 1 where nothing would
+//! be fetched, or a text is no refspec.
+use refspec::{plan, Operation, Origin, Plan, Spec, Update, Verdict, Wish};
 use std::error::Error;
 use std::io::{self, BufRead};
 use std::process::ExitCode;
 
-fn show(planned: &Planned) {
-    let word = match planned.verdict {
-        Verdict::Written if planned.mapping.forced => "force",
+fn show(update: &Update) {
+    let word = match update.verdict {
+        Verdict::Written if update.destination.is_none() => "fetch",
+        Verdict::Written if update.forced => "force",
         Verdict::Written => "write",
-        Verdict::FetchedOnly => "fetch",
-        Verdict::Contested => "conflict",
-        Verdict::BadName => "bad name",
+        Verdict::InConflict => "conflict",
+        Verdict::Overruled => "overruled",
         _ => "left out",
     };
-    let destination = planned.mapping.destination.as_deref().unwrap_or(b"-");
-    let source = String::from_utf8_lossy(&planned.mapping.source);
-    println!("{word}\t{source}\t{}", String::from_utf8_lossy(destination));
+    let destination = update.destination.as_deref().unwrap_or(b"-");
+    println!("{word}\t{}\t{}", String::from_utf8_lossy(&update.source), String::from_utf8_lossy(destination));
+}
+
+fn show_all(plan: &Plan, wish: &Wish<'_>) {
+    plan.updates.iter().for_each(show);
+    for origin in &plan.missing {
+        match *origin {
+            Origin::Given(index) => println!("missing\t{}\t-", wish.given[index]),
+            Origin::Configured(index) => println!("missing\t{}\t-", wish.configured[index]),
+            _ => println!("missing\tHEAD\t-"),
+        }
+    }
+}
+
+fn fetches(texts: &[String]) -> Result<Vec<Spec>, refspec::Error> {
+    texts.iter().map(|text| Spec::parse(text, Operation::Fetch)).collect()
 }
 
 fn run() -> Result<bool, Box<dyn Error>> {
-    let texts = std::env::args().skip(1);
-    let specs = texts.map(|text| Spec::parse(text, Operation::Fetch)).collect::<Result<Vec<_>, _>>()?;
+    let texts: Vec<String> = std::env::args().skip(1).collect();
+    let split = texts.iter().position(|text| text == "--").unwrap_or(texts.len());
+    let (given, configured) = (fetches(&texts[..split])?, fetches(texts.get(split + 1..).unwrap_or_default())?);
     let mut names = Vec::new();
     for line in io::stdin().lock().split(b'\n') {
         // An id, a tab and a name. What a tag points to is on a line of its own, ended by `^{}`.
@@ -31,14 +47,16 @@ fn run() -> Result<bool, Box<dyn Error>> {
             _ => {}
         }
     }
-    let plan = plan(&specs, &names)?;
-    plan.mappings.iter().for_each(show);
-    Ok(plan.in_conflict)
+    let wish = Wish { given: &given, configured: &configured, merges: &[], tags: false };
+    let plan = plan(&wish, &names)?;
+    show_all(&plan, &wish);
+    Ok(plan.is_carried_out())
 }
 
 fn main() -> ExitCode {
     match run() {
-        Ok(in_conflict) => ExitCode::from(u8::from(in_conflict)),
+        Ok(true) => ExitCode::SUCCESS,
+        Ok(false) => ExitCode::FAILURE,
         Err(error) => {
             eprintln!("{error}");
             ExitCode::FAILURE

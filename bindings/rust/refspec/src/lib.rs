@@ -1,4 +1,5 @@
-//! Git refspecs: parsed, printed, compared, matched, planned, and made into what to ask a server for.
+//! Git refspecs: parsed, printed, compared, matched, and made into what to ask a server for; plans of fetches, and stale
+//! refs.
 //!
 //! ```
 //! use refspec::{Operation, Spec};
@@ -292,7 +293,7 @@ impl fmt::Display for Spec {
     }
 }
 
-/// The version of the library that is linked, as `0.2.0`.
+/// The version of the library that is linked, as `0.3.0`.
 pub fn library_version() -> String {
     let mut version = no_text();
     // The text is a constant of the library.
@@ -371,127 +372,238 @@ pub struct Mapping {
 /// # Ok::<(), refspec::Error>(())
 /// ```
 pub fn matches<N: AsRef<[u8]>>(fetches: &[Spec], names: &[N], direction: Direction) -> Result<Vec<Mapping>, Error> {
-    let lists = listed(fetches, names, Asked::Matches(direction))?;
+    let (texts, number) = (texts_of(fetches)?, direction.number());
+    let items = names_of(names);
+    let lists = listed(names.len(), |lists| unsafe { lists.matched(&texts, &items, number) })?;
     Ok(lists.told().iter().map(|one| lists.mapping(one, names, direction)).collect())
 }
 
-/// What a fetch does with a mapping.
+/// What a fetch is asked for.
+#[derive(Clone, Copy, Debug)]
+pub struct Wish<'w> {
+    /// The specs of the call, as in `git fetch REMOTE SPEC..`. Without any, the configured ones are fetched.
+    pub given: &'w [Spec],
+    /// The values of `remote.<name>.fetch`, or those of `--refmap` in their place.
+    pub configured: &'w [Spec],
+    /// The values of `branch.<name>.merge` of the current branch, if its `branch.<name>.remote` is this remote.
+    pub merges: &'w [&'w [u8]],
+    /// Whether all tags are asked for, by `--tags` or `remote.<name>.tagOpt`.
+    pub tags: bool,
+}
+
+/// What makes an update.
+#[derive(Clone, Copy, Debug, PartialEq, Eq, Hash)]
+#[non_exhaustive]
+pub enum Origin {
+    /// The spec of the call at this index.
+    Given(usize),
+    /// The configured spec at this index.
+    Configured(usize),
+    /// The merged ref at this index.
+    Merge(usize),
+    /// Nothing is asked for, so `HEAD` is fetched.
+    Default,
+    /// All tags are asked for.
+    AllTags,
+}
+
+impl Origin {
+    fn of(one: &sys::Mapping) -> Origin {
+        match one.origin {
+            sys::GIVEN => Origin::Given(one.spec),
+            sys::CONFIGURED => Origin::Configured(one.spec),
+            sys::MERGE => Origin::Merge(one.spec),
+            sys::DEFAULT => Origin::Default,
+            _ => Origin::AllTags,
+        }
+    }
+}
+
+/// Which side of an update isn't a valid ref name.
+#[derive(Clone, Copy, Debug, PartialEq, Eq, Hash)]
+pub enum InvalidSide {
+    Source,
+    Destination,
+    Both,
+}
+
+/// What becomes of an update.
 #[derive(Clone, Copy, Debug, PartialEq, Eq, Hash)]
 #[non_exhaustive]
 pub enum Verdict {
-    /// It writes the destination.
+    /// It is fetched, and written to its destination if it has one.
     Written,
-    /// It leaves the mapping out: the destination neither begins `refs/` nor is `HEAD`.
-    LeftOut,
-    /// It leaves the mapping out: the source or the destination is none that a ref may be called.
-    BadName,
-    /// Another source has the same destination.
-    Contested,
-    /// There is no destination to write.
-    FetchedOnly,
+    /// It is left out, as this side isn't a valid ref name.
+    LeftOut(InvalidSide),
+    /// Another source has the same destination, so nothing is fetched.
+    InConflict,
+    /// A spec of the call writes another ref to its destination.
+    Overruled,
 }
 
-/// A mapping, and what a fetch does with it.
+impl Verdict {
+    fn numbered(number: u32) -> Verdict {
+        match number {
+            sys::WRITTEN => Verdict::Written,
+            sys::INVALID_SOURCE => Verdict::LeftOut(InvalidSide::Source),
+            sys::INVALID_DESTINATION => Verdict::LeftOut(InvalidSide::Destination),
+            sys::INVALID_SIDES => Verdict::LeftOut(InvalidSide::Both),
+            sys::CONTESTED => Verdict::InConflict,
+            _ => Verdict::Overruled,
+        }
+    }
+}
+
+/// A ref or an object that a spec fetches.
 #[derive(Clone, Debug, PartialEq, Eq, Hash)]
-pub struct Planned {
-    /// The mapping.
-    pub mapping: Mapping,
-    /// What a fetch does with it.
+pub struct Update {
+    /// The index of the name. `None` for an object that is asked for by its id.
+    pub item: Option<usize>,
+    /// A name, or an id in lower case.
+    pub source: Vec<u8>,
+    /// The local ref. `None` if the spec has none.
+    pub destination: Option<Vec<u8>>,
+    /// What makes it.
+    pub origin: Origin,
+    /// What becomes of it.
     pub verdict: Verdict,
+    /// Whether the spec lets the ref also move where that is no fast-forward.
+    pub forced: bool,
 }
 
 /// What a fetch does.
 #[derive(Clone, Debug, PartialEq, Eq, Hash)]
 pub struct Plan {
-    /// All mappings, in the order of `matches`.
-    pub mappings: Vec<Planned>,
-    /// Whether some destination is contested. `git fetch` writes nothing then.
-    pub in_conflict: bool,
+    /// The updates: those of the specs that map the names, and behind them those of the configured specs that are
+    /// applied to what the specs of the call take.
+    pub updates: Vec<Update>,
+    /// The specs whose source the remote lacks.
+    pub missing: Vec<Origin>,
 }
 
 impl Plan {
-    /// The contested destinations, each with its mappings. There are some exactly if the plan is in conflict.
-    pub fn conflicts(&self) -> BTreeMap<&[u8], Vec<&Mapping>> {
-        let mut conflicts: BTreeMap<&[u8], Vec<&Mapping>> = BTreeMap::new();
-        for planned in &self.mappings {
-            let mapping = &planned.mapping;
-            if let (Verdict::Contested, Some(destination)) = (planned.verdict, &mapping.destination) {
-                conflicts.entry(destination).or_default().push(mapping);
+    /// Whether anything is fetched: no source is missing, and no update is in conflict.
+    pub fn is_carried_out(&self) -> bool {
+        self.missing.is_empty() && self.updates.iter().all(|update| update.verdict != Verdict::InConflict)
+    }
+
+    /// The destinations in conflict, each with its updates.
+    pub fn conflicts(&self) -> BTreeMap<&[u8], Vec<&Update>> {
+        let mut conflicts: BTreeMap<&[u8], Vec<&Update>> = BTreeMap::new();
+        for update in &self.updates {
+            if let (Verdict::InConflict, Some(destination)) = (update.verdict, &update.destination) {
+                conflicts.entry(destination).or_default().push(update);
             }
         }
         conflicts
     }
 }
 
-/// What fetches do over names. A push is refused.
+/// What `git fetch` writes, if the remote has these names. A push is refused.
 ///
 /// ```
-/// use refspec::{plan, Operation, Spec, Verdict};
+/// use refspec::{plan, Operation, Origin, Spec, Wish};
 ///
-/// let specs = [
-///     Spec::parse("refs/heads/*:refs/x/*", Operation::Fetch)?,
-///     Spec::parse("refs/tags/*:refs/x/*", Operation::Fetch)?,
-/// ];
-/// let plan = plan(&specs, &["refs/heads/main", "refs/heads/v1", "refs/tags/v1"])?;
-/// assert!(plan.in_conflict);
-/// let verdicts: Vec<Verdict> = plan.mappings.iter().map(|one| one.verdict).collect();
-/// assert_eq!(verdicts, [Verdict::Written, Verdict::Contested, Verdict::Contested]);
-/// let sources = plan.conflicts()[&b"refs/x/v1"[..]].iter().map(|mapping| &mapping.source[..]).collect::<Vec<_>>();
-/// assert_eq!(sources, [&b"refs/heads/v1"[..], b"refs/tags/v1"]);
+/// let given = [Spec::parse("main", Operation::Fetch)?];
+/// let configured = [Spec::parse("+refs/heads/*:refs/remotes/origin/*", Operation::Fetch)?];
+/// let wish = Wish { given: &given, configured: &configured, merges: &[], tags: false };
+/// let plan = plan(&wish, &["refs/heads/main"])?;
+/// assert!(plan.is_carried_out());
+/// assert_eq!(plan.updates[0].destination, None);
+/// assert_eq!(plan.updates[1].destination.as_deref(), Some(&b"refs/remotes/origin/main"[..]));
+/// assert_eq!(plan.updates[1].origin, Origin::Configured(0));
 /// # Ok::<(), refspec::Error>(())
 /// ```
-pub fn plan<N: AsRef<[u8]>>(fetches: &[Spec], names: &[N]) -> Result<Plan, Error> {
-    let lists = listed(fetches, names, Asked::Plan)?;
-    let planned = lists.told().iter().map(|one| Planned {
-        mapping: lists.mapping(one, names, Direction::Forward),
-        verdict: match one.verdict {
-            sys::WRITTEN => Verdict::Written,
-            sys::LEFT_OUT => Verdict::LeftOut,
-            sys::BAD_NAME => Verdict::BadName,
-            sys::CONTESTED => Verdict::Contested,
-            _ => Verdict::FetchedOnly,
-        },
-    });
-    Ok(Plan { mappings: planned.collect(), in_conflict: lists.outcome == sys::IN_CONFLICT })
+pub fn plan<N: AsRef<[u8]>>(wish: &Wish<'_>, names: &[N]) -> Result<Plan, Error> {
+    let (given, configured) = (texts_of(wish.given)?, texts_of(wish.configured)?);
+    let (merges, items) = (names_of(wish.merges), names_of(names));
+    let wish = sys::Wish {
+        given: given.as_ptr(),
+        given_count: given.len(),
+        configured: configured.as_ptr(),
+        configured_count: configured.len(),
+        merges: merges.as_ptr(),
+        merges_count: merges.len(),
+        tags: u32::from(wish.tags),
+    };
+    let lists = listed(names.len(), |lists| unsafe { lists.planned(&wish, &items) })?;
+    let (missing, updates): (Vec<_>, Vec<_>) = lists.told().iter().partition(|one| one.verdict == sys::MISSING);
+    Ok(Plan {
+        updates: updates.into_iter().map(|one| lists.update(one, names)).collect(),
+        missing: missing.into_iter().map(Origin::of).collect(),
+    })
 }
 
-/// What a call that tells of mappings is asked for.
-#[derive(Clone, Copy)]
-enum Asked {
-    Matches(Direction),
-    Plan,
+/// A local ref that looks stale: specs can write it, and a fetch doesn't.
+#[derive(Clone, Copy, Debug, PartialEq, Eq, Hash)]
+pub struct StaleRef {
+    /// The index of its name.
+    pub item: usize,
+    /// The index of the negative spec that keeps it. `None` if it is stale: a pruning fetch should delete it.
+    pub kept_by: Option<usize>,
 }
 
-/// The lists of a call that tells of mappings, how much of them is told, and the outcome.
+/// The local refs that look stale, if the remote has the names of `remote`. Symbolic refs are like others here, so leave
+/// them out of `local`. A push is refused.
+///
+/// ```
+/// use refspec::{stale, Operation, Spec, StaleRef};
+///
+/// let specs = [Spec::parse("refs/heads/*:refs/x/*", Operation::Fetch)?];
+/// let found = stale(&specs, &["refs/heads/main"], &["refs/x/gone", "refs/x/main"])?;
+/// assert_eq!(found, [StaleRef { item: 0, kept_by: None }]);
+/// # Ok::<(), refspec::Error>(())
+/// ```
+#[rustfmt::skip]
+pub fn stale<R: AsRef<[u8]>, L: AsRef<[u8]>>(fetches: &[Spec], remote: &[R], local: &[L]) -> Result<Vec<StaleRef>, Error> {
+    let (texts, remote, local) = (texts_of(fetches)?, names_of(remote), names_of(local));
+    let mut found = vec![sys::StaleRef::default(); 16];
+    let mut count = 0;
+    loop {
+        // What the call writes overlaps nothing that it reads.
+        let outcome = unsafe {
+            sys::gix_refspec_stale(
+                texts.as_ptr(), texts.len(), remote.as_ptr(), remote.len(), local.as_ptr(), local.len(),
+                found.as_mut_ptr(), found.len(), &mut count,
+            )
+        };
+        match outcome {
+            sys::OK => break,
+            sys::TOO_SMALL => found.resize(count, sys::StaleRef::default()),
+            outcome => return Err(Error::of(outcome)),
+        }
+    }
+    let kept_by = |one: &sys::StaleRef| (one.kept_by != sys::NO_SPEC).then_some(one.kept_by);
+    Ok(found[..count].iter().map(|one| StaleRef { item: one.item, kept_by: kept_by(one) }).collect())
+}
+
+/// The lists of a call that tells of mappings, and how much of them is told.
 struct Lists {
     mappings: Vec<sys::Mapping>,
     buffer: Vec<u8>,
     count: usize,
     len: usize,
-    outcome: u32,
 }
 
 impl Lists {
-    /// Calls once, with the room that there is, and returns the outcome.
+    /// Matches once, with the room that there is, and returns the outcome. The texts and the names are there.
     #[rustfmt::skip]
-    fn fill(&mut self, texts: &[sys::Text], names: &[sys::Text], asked: Asked) -> u32 {
-        let (mappings, mappings_count) = (self.mappings.as_mut_ptr(), self.mappings.len());
-        let (buffer, buffer_len) = (self.buffer.as_mut_ptr(), self.buffer.len());
-        // What a call writes overlaps nothing that it reads.
-        match asked {
-            Asked::Matches(direction) => unsafe {
-                sys::gix_refspec_match(
-                    texts.as_ptr(), texts.len(), names.as_ptr(), names.len(), direction.number(),
-                    mappings, mappings_count, buffer, buffer_len, &mut self.count, &mut self.len,
-                )
-            },
-            Asked::Plan => unsafe {
-                sys::gix_refspec_plan(
-                    texts.as_ptr(), texts.len(), names.as_ptr(), names.len(),
-                    mappings, mappings_count, buffer, buffer_len, &mut self.count, &mut self.len,
-                )
-            },
-        }
+    unsafe fn matched(&mut self, texts: &[sys::Text], names: &[sys::Text], direction: u32) -> u32 {
+        sys::gix_refspec_match(
+            texts.as_ptr(), texts.len(), names.as_ptr(), names.len(), direction,
+            self.mappings.as_mut_ptr(), self.mappings.len(), self.buffer.as_mut_ptr(), self.buffer.len(),
+            &mut self.count, &mut self.len,
+        )
+    }
+
+    /// Plans once, likewise.
+    #[rustfmt::skip]
+    unsafe fn planned(&mut self, wish: &sys::Wish, names: &[sys::Text]) -> u32 {
+        sys::gix_refspec_plan(
+            wish, names.as_ptr(), names.len(),
+            self.mappings.as_mut_ptr(), self.mappings.len(), self.buffer.as_mut_ptr(), self.buffer.len(),
+            &mut self.count, &mut self.len,
+        )
     }
 
     fn told(&self) -> &[sys::Mapping] {
@@ -502,13 +614,18 @@ impl Lists {
         self.buffer[at..at + len].to_vec()
     }
 
-    fn mapping<N: AsRef<[u8]>>(&self, one: &sys::Mapping, names: &[N], direction: Direction) -> Mapping {
+    /// The index of the name, the name or the id, and the name that the spec makes.
+    fn sides<N: AsRef<[u8]>>(&self, one: &sys::Mapping, names: &[N]) -> (Option<usize>, Vec<u8>, Vec<u8>) {
         let item = (one.item != sys::NO_ITEM).then_some(one.item);
-        let made = self.text(one.made_at, one.made_len);
         let name = match item {
-            Some(place) => names[place].as_ref().to_vec(),
+            Some(index) => names[index].as_ref().to_vec(),
             None => self.text(one.id_at, one.id_len),
         };
+        (item, name, self.text(one.made_at, one.made_len))
+    }
+
+    fn mapping<N: AsRef<[u8]>>(&self, one: &sys::Mapping, names: &[N], direction: Direction) -> Mapping {
+        let (item, name, made) = self.sides(one, names);
         let (source, other) = match direction {
             Direction::Forward => (name, made),
             Direction::Backward => (made, name),
@@ -516,23 +633,31 @@ impl Lists {
         let destination = (one.has_destination == 1).then_some(other);
         Mapping { spec: one.spec, item, source, destination, forced: one.forced == 1 }
     }
+
+    fn update<N: AsRef<[u8]>>(&self, one: &sys::Mapping, names: &[N]) -> Update {
+        let (item, source, made) = self.sides(one, names);
+        Update {
+            item,
+            source,
+            destination: (one.has_destination == 1).then_some(made),
+            origin: Origin::of(one),
+            verdict: Verdict::numbered(one.verdict),
+            forced: one.forced == 1,
+        }
+    }
 }
 
-/// The lists of a call over fetches and names, which are made as large as it says that they have to be.
-fn listed<N: AsRef<[u8]>>(fetches: &[Spec], names: &[N], asked: Asked) -> Result<Lists, Error> {
-    let texts = texts_of(fetches)?;
-    let names: Vec<sys::Text> = names.iter().map(|name| text_of(name.as_ref())).collect();
+/// The lists of a call over so many names, which are made as large as it says that they have to be.
+fn listed(names: usize, call: impl Fn(&mut Lists) -> u32) -> Result<Lists, Error> {
     let mut lists = Lists {
-        mappings: vec![sys::Mapping::default(); names.len() + 8],
-        buffer: vec![0; 64 * names.len() + 256],
+        mappings: vec![sys::Mapping::default(); names + 8],
+        buffer: vec![0; 64 * names + 256],
         count: 0,
         len: 0,
-        outcome: sys::OK,
     };
     loop {
-        lists.outcome = lists.fill(&texts, &names, asked);
-        match lists.outcome {
-            sys::OK | sys::IN_CONFLICT => return Ok(lists),
+        match call(&mut lists) {
+            sys::OK | sys::IN_CONFLICT | sys::MISSING_SOURCE => return Ok(lists),
             sys::TOO_SMALL => {
                 lists.mappings.resize(lists.count.max(lists.mappings.len()), sys::Mapping::default());
                 lists.buffer.resize(lists.len.max(lists.buffer.len()), 0);
@@ -540,6 +665,11 @@ fn listed<N: AsRef<[u8]>>(fetches: &[Spec], names: &[N], asked: Asked) -> Result
             outcome => return Err(Error::of(outcome)),
         }
     }
+}
+
+/// The texts of names.
+fn names_of<N: AsRef<[u8]>>(names: &[N]) -> Vec<sys::Text> {
+    names.iter().map(|name| text_of(name.as_ref())).collect()
 }
 
 /// The canonical texts of fetches.
@@ -647,32 +777,85 @@ mod tests {
         let error = matches(&specs, &names, Direction::Forward).unwrap_err();
         assert!(error == Error::Push && error.outcome().is_none());
         assert_eq!(error.to_string(), "A push is among the fetches.");
-        assert_eq!(plan(&specs, &names), Err(error));
+        for (given, configured) in [(&specs[..], &[][..]), (&[], &specs)] {
+            assert_eq!(plan(&Wish { given, configured, merges: &[], tags: false }, &names), Err(error));
+        }
+        assert_eq!(stale(&specs, &names, &names), Err(error));
         assert_eq!(prefixes(&specs), Err(error));
         Ok(())
+    }
+
+    fn fetches(texts: &[&str]) -> Result<Vec<Spec>, Error> {
+        texts.iter().map(|text| Spec::parse(text, Operation::Fetch)).collect()
+    }
+
+    fn planned(given: &[&str], configured: &[&str], names: &[&str]) -> Result<Plan, Error> {
+        let (given, configured) = (fetches(given)?, fetches(configured)?);
+        plan(&Wish { given: &given, configured: &configured, merges: &[], tags: false }, names)
     }
 
     #[test]
     fn plans_tell_each_verdict() -> Result<(), Error> {
         let rows = [
-            ("refs/heads/a:refs/x/a", Verdict::Written),
-            ("refs/tags/*:other/*", Verdict::LeftOut),
-            ("refs/remotes/*ck:refs/x/*", Verdict::BadName),
-            ("refs/tags/b", Verdict::FetchedOnly),
-            ("refs/heads/a:refs/y", Verdict::Contested),
-            ("refs/tags/b:refs/y", Verdict::Contested),
+            ("refs/heads/a:refs/x/a", 0, Verdict::Written),
+            ("refs/tags/*:other/*", 1, Verdict::LeftOut(InvalidSide::Destination)),
+            ("refs/remotes/*ck:refs/x/*", 2, Verdict::LeftOut(InvalidSide::Source)),
+            ("refs/remotes/*:refs/y/*", 2, Verdict::LeftOut(InvalidSide::Both)),
+            ("+refs/tags/b", 1, Verdict::Written),
+            ("refs/heads/a:refs/y", 0, Verdict::InConflict),
+            ("+refs/tags/b:refs/y", 1, Verdict::InConflict),
         ];
-        let specs = rows.iter().map(|row| Spec::parse(row.0, Operation::Fetch)).collect::<Result<Vec<_>, _>>()?;
+        let texts = rows.map(|row| row.0);
         let names = ["refs/heads/a", "refs/tags/b", "refs/remotes/a.lock"];
-        let all = plan(&specs, &names)?;
-        assert!(all.in_conflict);
-        for (planned, row) in all.mappings.iter().zip(rows) {
-            assert_eq!(planned.verdict, row.1, "of {}", row.0);
+        let all = planned(&texts, &[], &names)?;
+        assert!(!all.is_carried_out());
+        assert_eq!(all.updates.len(), rows.len());
+        for (index, (update, row)) in all.updates.iter().zip(rows).enumerate() {
+            assert_eq!((update.item, update.verdict), (Some(row.1), row.2), "of {}", row.0);
+            assert_eq!((update.origin, &update.source[..]), (Origin::Given(index), names[row.1].as_bytes()));
         }
-        assert_eq!(all.mappings.len(), rows.len());
-        assert_eq!(all.mappings[2].mapping.destination.as_deref(), Some(&b"refs/x/a.lo"[..]));
-        let fine = plan(&specs[..5], &names)?;
-        assert!(!fine.in_conflict && fine.mappings[4].verdict == Verdict::Written);
+        assert_eq!(all.updates[2].destination.as_deref(), Some(&b"refs/x/a.lo"[..]));
+        assert!(all.updates[6].forced && all.updates[4].destination.is_none());
+        let fine = planned(&texts[..6], &[], &names)?;
+        assert!(fine.is_carried_out() && fine.updates[5].verdict == Verdict::Written);
+        Ok(())
+    }
+
+    #[test]
+    fn plans_have_what_the_configuration_adds() -> Result<(), Error> {
+        let names = ["HEAD", "refs/heads/main", "refs/tags/v1"];
+        let given = planned(&["main"], &["+refs/heads/*:refs/x/*"], &names)?;
+        let origins: Vec<_> = given.updates.iter().map(|update| (update.origin, update.forced)).collect();
+        assert_eq!(origins, [(Origin::Given(0), false), (Origin::Configured(0), true)]);
+        let overruled = planned(&["v1:refs/x/main", "main"], &["+refs/heads/*:refs/x/*"], &names)?;
+        assert_eq!(overruled.updates[2].verdict, Verdict::Overruled);
+        let missing = planned(&["main", "gone:refs/x/gone"], &[], &names)?;
+        assert_eq!((missing.updates.len(), &missing.missing[..]), (1, &[Origin::Given(1)][..]));
+        assert!(!missing.is_carried_out());
+        let head = planned(&[], &[], &names)?;
+        assert_eq!((head.updates[0].origin, &head.updates[0].source[..]), (Origin::Default, &b"HEAD"[..]));
+        let merges: [&[u8]; 2] = [b"refs/heads/gone", b"refs/heads/main"];
+        let merged = plan(&Wish { given: &[], configured: &[], merges: &merges, tags: true }, &names)?;
+        let origins: Vec<_> = merged.updates.iter().map(|update| (update.origin, update.item)).collect();
+        assert_eq!(origins, [(Origin::Merge(1), Some(1)), (Origin::AllTags, Some(2))]);
+        assert!(merged.is_carried_out());
+        let id = "1".repeat(40);
+        let object = planned(&[&id], &[], &names)?;
+        assert_eq!((object.updates[0].item, &object.updates[0].source), (None, &id.into_bytes()));
+        let long = format!("refs/heads/{}", "a".repeat(1000));
+        assert_eq!(planned(&[&long], &[], &[&long])?.updates.len(), 1);
+        Ok(())
+    }
+
+    #[test]
+    fn stale_refs_are_told_from_kept_ones() -> Result<(), Error> {
+        let specs = fetches(&["refs/heads/*:refs/x/*", "^refs/heads/dev"])?;
+        let local = ["refs/x/main", "refs/x/gone", "refs/x/dev", "refs/y/gone"];
+        let found = stale(&specs, &["refs/heads/main", "refs/heads/dev"], &local)?;
+        assert_eq!(found, [StaleRef { item: 1, kept_by: None }, StaleRef { item: 2, kept_by: Some(1) }]);
+        let many: Vec<String> = (0..40).map(|number| format!("refs/x/{number}")).collect();
+        assert_eq!(stale(&specs, &["refs/heads/main"], &many)?.len(), 40);
+        assert_eq!(stale(&[], &["refs/heads/main"], &local)?, []);
         Ok(())
     }
 
@@ -771,13 +954,12 @@ mod tests {
     #[test]
     fn conflicts_are_told_by_destination() -> Result<(), Error> {
         let texts = ["refs/heads/a:refs/y", "refs/heads/b:refs/x", "refs/tags/a:refs/x", "refs/tags/b:refs/y"];
-        let specs = texts.map(|text| Spec::parse(text, Operation::Fetch));
-        let specs = specs.into_iter().collect::<Result<Vec<_>, _>>()?;
-        let all = plan(&specs, &["refs/heads/a", "refs/heads/b", "refs/tags/a", "refs/tags/b"])?;
-        let specs_of = |mappings: Vec<&Mapping>| mappings.iter().map(|mapping| mapping.spec).collect::<Vec<_>>();
-        let told: Vec<_> = all.conflicts().into_iter().map(|(name, mappings)| (name, specs_of(mappings))).collect();
-        assert_eq!(told, [(&b"refs/x"[..], vec![1, 2]), (b"refs/y", vec![0, 3])]);
-        assert!(plan(&specs[..2], &["refs/heads/a", "refs/heads/b"])?.conflicts().is_empty());
+        let all = planned(&texts, &[], &["refs/heads/a", "refs/heads/b", "refs/tags/a", "refs/tags/b"])?;
+        let origins_of = |updates: Vec<&Update>| updates.iter().map(|update| update.origin).collect::<Vec<_>>();
+        let told: Vec<_> = all.conflicts().into_iter().map(|(name, updates)| (name, origins_of(updates))).collect();
+        let (x, y) = (vec![Origin::Given(1), Origin::Given(2)], vec![Origin::Given(0), Origin::Given(3)]);
+        assert_eq!(told, [(&b"refs/x"[..], x), (b"refs/y", y)]);
+        assert!(planned(&texts[..2], &[], &["refs/heads/a", "refs/heads/b"])?.conflicts().is_empty());
         Ok(())
     }
 

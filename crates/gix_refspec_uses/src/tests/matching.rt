@@ -1,12 +1,13 @@
 //! Plans, look-ups, and ref prefixes.
 
 use crate::asking::match_asked;
-use crate::planner::{NoPlan, plan_fetch};
+use crate::planner::{Fetch, plan_updates};
 use crate::tracking::{NoLookUp, there_and_back};
 use bstr::BStr;
 use gix_refspec::match_group::{Item, Mapping};
 use gix_refspec::oid::ObjectId;
 use gix_refspec::parsing::Operation;
+use gix_refspec::plan::Wish;
 use gix_refspec::{MatchGroup, RefSpecRef, parse};
 use std::alloc::{AllocError, Global};
 use std::test::Fail;
@@ -17,6 +18,9 @@ const TARGET: &str = "1111111111111111111111111111111111111111";
 // The fetch specs of these texts, which are separated by spaces.
 fn specs_of<'a>(alloc: Global, texts: &'a str) -> Result<Vec<RefSpecRef<'a>>, Fail> {
     let mut specs = Vec::new(alloc);
+    if texts.is_empty() {
+        return Ok(specs);
+    }
     for text in texts.split(' ') {
         specs.push(parse(alloc, BStr::new(text.as_bytes()), Operation::Fetch)?)?;
     }
@@ -49,53 +53,81 @@ fn lines(alloc: Global, mappings: &[Mapping<'_, '_>]) -> Result<String, AllocErr
     Ok(text)
 }
 
-// What a plan writes, and how many mappings it leaves out; or how many conflicts there are.
-fn planned(alloc: Global, texts: &str, names: &str) -> Result<String, Fail> {
+// What a fetch writes, one update per line; or that nothing is fetched, and how many sources are missing.
+fn planned<'s>(
+    alloc: Global,
+    given: &'s str,
+    configured: &'s str,
+    names: &str,
+) -> Result<String, Fail> {
     let target = ObjectId::from_hex(TARGET.as_bytes())?;
     let mut items = Vec::new(alloc);
     for name in names.split(' ') {
         items.push(item(name, &target))?;
     }
-    let specs = specs_of(alloc, texts)?;
-    match plan_fetch(alloc, specs, items.as_slice()) {
-        Ok(plan) => {
-            let written = lines(alloc, plan.outcome.mappings.as_slice())?;
-            let left_out = plan.left_out.len();
-            Ok(format!(in alloc; "{written}{left_out} left out")?)
+    let given = specs_of(alloc, given)?;
+    let configured = specs_of(alloc, configured)?;
+    let wish = Wish {
+        given: given.as_slice(),
+        configured: configured.as_slice(),
+        merges: &[],
+        tags: false,
+    };
+    match plan_updates(alloc, &wish, items.as_slice())? {
+        Fetch::CarriedOut(updates) => {
+            let mut text = String::new(alloc);
+            for update in &updates {
+                let source = &update.source;
+                let line = match &update.destination {
+                    None => format!(in alloc; "{source}\n")?,
+                    Some(name) => format!(in alloc; "{source}:{name}\n")?,
+                };
+                text.push_str(line.as_str())?;
+            }
+            Ok(text)
         }
-        Err(NoPlan::Conflicts(error)) => {
-            let count = error.issues.len();
-            Ok(format!(in alloc; "{count} conflicts")?)
+        Fetch::Hindered(plan) => {
+            let missing = plan.missing.len();
+            Ok(format!(in alloc; "nothing, {missing} missing")?)
         }
-        Err(NoPlan::Memory) => Err(Fail::new("no memory")),
     }
 }
 
+// Each row is what git 2.39 fetches.
 #[test]
-fn plans_what_may_be_written(rt: HostRuntime) -> Result<(), Fail> {
+fn plans_what_is_written(rt: HostRuntime) -> Result<(), Fail> {
     let alloc = rt.alloc();
     let cases = [
         (
-            "+refs/heads/*:refs/remotes/origin/* ^refs/heads/dev-*",
-            "HEAD refs/heads/main refs/heads/dev-a refs/heads/../../x",
-            "refs/heads/main:refs/remotes/origin/main\n1 left out",
+            "main",
+            "+refs/heads/*:refs/remotes/origin/*",
+            "HEAD refs/heads/dev refs/heads/main",
+            "refs/heads/main\nrefs/heads/main:refs/remotes/origin/main\n",
         ),
-        ("main", "refs/heads/main", "refs/heads/main\n0 left out"),
+        (
+            "",
+            "+refs/heads/*:refs/remotes/origin/* ^refs/heads/dev-*",
+            "HEAD refs/heads/main refs/heads/dev-a",
+            "refs/heads/main:refs/remotes/origin/main\n",
+        ),
+        ("main gone", "", "refs/heads/main", "nothing, 1 missing"),
         (
             "refs/heads/*:refs/x/* refs/tags/*:refs/x/*",
+            "",
             "refs/heads/a refs/tags/a refs/tags/b",
-            "1 conflicts",
+            "nothing, 0 missing",
         ),
-        // Mappings that are left out cause no conflicts.
+        // What is left out causes no conflicts.
         (
+            "",
             "refs/heads/*:x/* refs/tags/*:x/*",
             "refs/heads/a refs/tags/a",
-            "2 left out",
+            "",
         ),
     ];
-    for (texts, names, told) in cases {
-        let answer = planned(alloc, texts, names)?;
-        assert_eq!(rt; answer.as_str(), told, "at {texts}");
+    for (given, configured, names, told) in cases {
+        let answer = planned(alloc, given, configured, names)?;
+        assert_eq!(rt; answer.as_str(), told, "at {given} and {configured}");
     }
     Ok(())
 }

@@ -1,20 +1,19 @@
--- One more mapping is listed with its verdict.
-use Rattle.std.proofs.Common.{ap, ◌++◌, ◌∷◌, [], refl}
-use Rattle.std.specs.List.{Contains}
-use Rattle.gix_refspec.specs.Views.Group.{mapped_of, readings_of}
-use Rattle.gix_refspec_c.specs.Mapping.{Entry, forward_entry}
-use Rattle.gix_refspec_c.specs.Planning.{destinations_of}
-use Rattle.gix_refspec_c.proofs.MatchingLemmas.{describes_more}
-use Rattle.gix_refspec_c.proofs.PlanningLemmas.{judged_more}
+-- One more update is listed, or one more spec whose source is missing.
+use Rattle.std.proofs.Common.{map}
+use Rattle.gix_refspec.specs.Views.Plan.{planned_of, wish_of}
+use Rattle.gix_refspec_c.specs.Planning.{missing_entry, update_entry}
+use Rattle.gix_refspec_c.proofs.MatchingLemmas.{describes_more, entries_more, entries_more_behind}
 use Rattle.gix_refspec_c.proofs.planning.listed.Goals as goal
 
-pub loop-mapping-preserved : goal.loop-mapping-preserved
-loop-mapping-preserved c =
-    let m = mapped_of c.mapping-item.result in
-    let g = readings_of c.args.group.now in
-    let e : Entry = forward_entry g c.number.result m in
-    let before = c.loop-mapping.invariant in (
-      before.0 ++ e ∷ [],
-      judged_more g (Contains (destinations_of c.args.issues.now)) c.args.mappings.now c.loop-mapping.mapping-index c.mapping-item.result before.0 e c.loop-mapping-test.true c.mapping-item.is before.1 (c.verdict_of-verdict.result, c.verdict_of-verdict.ensures, ap (λ n. forward_entry g n m) c.number.ensures),
-      describes_more before.0 (before.0 ++ e ∷ []) e c.loop-mapping.listing.mappings.items c.add_forward.new.self.mappings.items c.loop-mapping.listing.text.items c.add_forward.new.self.text.items before.2 refl c.in_ok-add_forward.ensures.text c.in_ok-add_forward.ensures.described,
-    )
+pub loop-update-preserved : goal.loop-update-preserved
+loop-update-preserved c =
+    let entry = update_entry (wish_of c.args.wish.now) in
+    describes_more _ _ (entry (planned_of c.update-item.result)) c.loop-update.listing.mappings.items c.add_update.new.listing.mappings.items c.loop-update.listing.text.items c.add_update.new.listing.text.items c.loop-update.invariant
+    (entries_more entry planned_of c.args.plan.now.updates.items c.deref-update-items.result.now c.loop-update.update-index c.update-item.result c.deref-update-items.ensures.value c.loop-update-test.true c.update-item.is)
+    c.in_ok-add_update.ensures.text c.in_ok-add_update.ensures.described
+
+pub loop-origin-preserved : goal.loop-origin-preserved
+loop-origin-preserved c =
+    describes_more _ _ _ c.loop-origin.listing.mappings.items c.add_missing.new.listing.mappings.items c.loop-origin.listing.text.items c.add_missing.new.listing.text.items c.loop-origin.invariant
+    (entries_more_behind (map (update_entry (wish_of c.args.wish.now)) (map planned_of c.args.plan.now.updates.items)) missing_entry c.args.plan.now.missing.items c.deref-origin-items.result.now c.loop-origin.origin-index _ c.deref-origin-items.ensures.value c.loop-origin-test.true)
+    c.in_ok-add_missing.ensures.text c.in_ok-add_missing.ensures.described
