@@ -49,7 +49,10 @@ pub(crate) fn issues_of(
 }
 
 // Whether no two mappings have the same destination: then there is no conflict.
-pub(crate) fn destinations_differ(alloc: Global, mappings: &[Mapping<'_, '_>]) -> Result<bool, AllocError>
+pub(crate) fn destinations_differ(
+    alloc: Global,
+    mappings: &[Mapping<'_, '_>],
+) -> Result<bool, AllocError>
     ensures { IfOk result (λ differ. IsTrue differ →
         (d : List ℕ) → ¬ (HasConflictAt (map mapped_of mappings.now) d)) }
 {
