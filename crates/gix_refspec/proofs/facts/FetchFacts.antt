@@ -1,5 +1,5 @@
 -- Examples of the definitions of the laws on fetches, and what a caller concludes from these laws.
-use Rattle.std.proofs.Common.{◌≡◌, ◌≢◌, inl, inr, ℕ, zero, suc, false, List, [], ◌∷◌, None, Some, codes, refl, sym, ap, ◌∙◌, subst, arith}
+use Rattle.std.proofs.Common.{◌≡◌, ◌≢◌, inl, inr, zero, suc, false, List, [], ◌∷◌, Some, codes, refl, sym, ap, arith}
 use Rattle.std.specs.List.{Contains}
 use Rattle.gix_refspec.specs.declared.plan.Origin.{Origin}
 use Rattle.gix_refspec.specs.declared.plan.Origin.TheVariants as origin

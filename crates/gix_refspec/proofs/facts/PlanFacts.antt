@@ -1,5 +1,5 @@
 -- Examples of the definitions on plans: what Git completes and leaves out, and the verdicts.
-use Rattle.std.proofs.Common.{◌≡◌, ◌≢◌, inl, inr, ℕ, zero, suc, ◌<◌, true, false, List, [], ◌∷◌, ◌++◌, Option, None, Some, codes, map, option_map, take, refl, sym, ap, ◌∙◌, subst, arith}
+use Rattle.std.proofs.Common.{◌≡◌, inl, inr, ℕ, zero, suc, true, false, List, [], ◌∷◌, ◌++◌, None, Some, codes, map, option_map, take, refl, sym, ap, ◌∙◌, subst, arith}
 use Rattle.std.specs.List.{Contains}
 use Rattle.bstr.specs.BStr.{bstr_bytes}
 use Rattle.bstr.specs.Owned.{bstring_bytes}
@@ -11,8 +11,6 @@ use Rattle.gix_refspec.specs.declared.plan.Verdict.TheVariants as verdict
 use Rattle.gix_refspec.specs.declared.plan.Verdict.{Verdict}
 use Rattle.gix_refspec.specs.declared.match_group.ref_names.InvalidSide.TheVariants as invalid
 use Rattle.gix_refspec_text.specs.Texts.Bytes.{star}
-use Rattle.gix_refspec_text.specs.Texts.Words.{Lacks}
-use Rattle.gix_refspec_text.specs.Texts.Name.{HasStar}
 use Rattle.gix_refspec_text.specs.Specs.Reading.{Normal, Forced, Negative, Reading, all_tags, fetched_alone, with_destination}
 use Rattle.gix_refspec_text.specs.Specs.Grammar.{fetched}
 use Rattle.gix_refspec_text.specs.Matching.Side.{IsCandidate, partial}
@@ -22,7 +20,7 @@ use Rattle.gix_refspec_match.specs.Matching.Mappings.{Mapped}
 use Rattle.gix_refspec_match.specs.Matching.Missing.{AreMissing, LacksSource}
 use Rattle.gix_refspec_match.specs.Views.Mapping.{start_of}
 use Rattle.gix_refspec_match.proofs.lemmas.lists.JoinLemmas.{nothing_made}
-use Rattle.gix_refspec.specs.Matching.Plan.{AreLacking, AreMerges, AreThose, Asked, CanBeWritten, Covers, HasOrigin, HasSecondVerdict, HasVerdict, IsCarriedOut, IsCompleted, IsContested, IsNegativeReading, IsPositiveReading, IsSound, IsTakenOver, IsUnwritableAt, MayBeMissing, Planned, tags_asked}
+use Rattle.gix_refspec.specs.Matching.Plan.{AreLacking, AreMerges, AreThose, CanBeWritten, Covers, HasSecondVerdict, HasVerdict, IsCarriedOut, IsCompleted, IsContested, IsNegativeReading, IsPositiveReading, IsSound, IsTakenOver, IsUnwritableAt, MayBeMissing, Planned, tags_asked}
 use Rattle.std.proofs.lemmas.Option.{same_Some}
 use Rattle.gix_refspec_text.proofs.lemmas.texts.TestedLemmas.{IsName-tested}
 use Rattle.gix_refspec_text.proofs.lemmas.texts.TextLemmas.{Lacks-ContainsText}

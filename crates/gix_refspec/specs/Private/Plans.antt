@@ -1,6 +1,6 @@
 -- How a plan is made. Only private functions use these definitions.
-use Rattle.std.specs.Prelude.{◌≡◌, ◌≢◌, ◌⊎◌, ◌↔◌, ◌<◌, ◌≤◌, ℕ, Bool, true, false, List, [], ◌∷◌, ◌++◌, Option, None, Some, length, map, option_map, slice_index_or, take}
-use Rattle.std.specs.List.{AllZip, Contains, slice_get}
+use Rattle.std.specs.Prelude.{◌≡◌, ◌⊎◌, ◌↔◌, ◌<◌, ℕ, Bool, List, ◌++◌, Option, None, Some, length, slice_index_or, take}
+use Rattle.std.specs.List.{AllZip, Contains}
 use Rattle.gix_refspec.specs.declared.plan.Origin.{Origin}
 use Rattle.gix_refspec.specs.declared.plan.Origin.TheVariants as origin
 use Rattle.gix_refspec.specs.declared.plan.specs.Part.{Part}
@@ -18,7 +18,7 @@ use Rattle.gix_refspec_match.specs.Matching.Lists.{IsMadeFrom}
 use Rattle.gix_refspec_match.specs.Matching.Mappings.{Mapped, name}
 use Rattle.gix_refspec_match.specs.Private.Kept.{IsFlagged}
 use Rattle.gix_refspec_match.specs.Matching.Hits.{AreKeptForward}
-use Rattle.gix_refspec.specs.Matching.Plan.{Asked, Covers, IsCompleted, IsSound, IsTakenAt}
+use Rattle.gix_refspec.specs.Matching.Plan.{Covers, IsCompleted, IsSound, IsTakenAt}
 
 -- the destination that a spec gets; none where it has none or keeps its own
 abbrev pub IsNewDestination : Option (List ℕ) → Option (List ℕ) → Type 0

@@ -1,7 +1,7 @@
 -- A plan is carried out exactly if no source is missing that has to be there, and no two updates conflict.
-use Rattle.std.proofs.Common.{◌≡◌, ◌≢◌, ◌⊎◌, inl, inr, ◌↔◌, ℕ, zero, suc, Bool, true, false, List, [], ◌∷◌, ◌++◌, Some, codes, take, get_or, refl, sym, ap, ◌∙◌, subst, arith}
-use Rattle.std.specs.List.{AllByRecursion, Contains}
-use Rattle.std.proofs.lemmas.List.Elements.{All-from_recursion, Contains-append_cases, Contains-append_left, Contains-append_right, Contains-get_or, recursion_from_All}
+use Rattle.std.proofs.Common.{◌≡◌, ◌≢◌, ◌⊎◌, inl, inr, ◌↔◌, ℕ, zero, suc, Bool, true, false, List, [], ◌∷◌, ◌++◌, codes, take, get_or, refl, sym, ap, subst, arith}
+use Rattle.std.specs.List.{Contains}
+use Rattle.std.proofs.lemmas.List.Elements.{All-from_recursion, Contains-append_cases, Contains-append_left, Contains-get_or, recursion_from_All}
 use Rattle.std.proofs.lemmas.Option.{same_Some}
 use Rattle.gix_refspec.specs.declared.plan.Origin.{Origin}
 use Rattle.gix_refspec.specs.declared.plan.Origin.TheVariants as origin
@@ -11,10 +11,8 @@ use Rattle.gix_refspec_text.specs.Texts.Words.{Lacks}
 use Rattle.gix_refspec_text.specs.Specs.Reading.{Reading, all_tags, fetched_alone}
 use Rattle.gix_refspec_text.specs.Texts.Bytes.{head}
 use Rattle.gix_refspec_text.specs.Matching.Match.{Ref}
-use Rattle.gix_refspec_match.specs.Matching.Lists.{IsMadeFrom}
-use Rattle.gix_refspec_match.specs.Matching.Mappings.{Mapped}
 use Rattle.gix_refspec_match.specs.Matching.Missing.{LacksSource}
-use Rattle.gix_refspec.specs.Matching.Plan.{AreAsked, AreConfigured, AreLacking, AreMerges, AreThose, AreUncovered, Asked, Covers, IsCarriedOut, IsPlan, MayBeMissing, Planned, Wish, tags_asked}
+use Rattle.gix_refspec.specs.Matching.Plan.{AreAsked, AreConfigured, AreThose, AreUncovered, Asked, Covers, IsCarriedOut, IsPlan, MayBeMissing, Planned, Wish, tags_asked}
 use Rattle.gix_refspec.specs.Matching.RefNames.{IsRefName}
 use Rattle.gix_refspec.specs.Laws.Fetches.{CarriedOutExactly, DoConflict, IsRequired}
 use Rattle.gix_refspec.proofs.lemmas.plan.OnceLemmas.{made_from}

@@ -1,5 +1,5 @@
 -- A wish and the refs of a remote have one plan.
-use Rattle.std.proofs.Common.{◌≡◌, ◌≢◌, ◌⊎◌, inl, inr, ℕ, Bool, List, [], ◌∷◌, ◌++◌, Option, None, Some, MatchOption, map, take, refl, sym, ap, ◌∙◌, subst}
+use Rattle.std.proofs.Common.{◌≡◌, ◌⊎◌, inl, inr, ℕ, List, [], ◌∷◌, ◌++◌, Option, None, Some, MatchOption, map, take, refl, sym, ap, ◌∙◌, subst}
 use Rattle.std.specs.List.{AllZip, Contains, slice_get}
 use Rattle.std.proofs.lemmas.Option.{same_Some}
 use Rattle.gix_refspec.specs.declared.plan.Origin.{Origin}
@@ -21,7 +21,7 @@ use Rattle.gix_refspec_match.specs.Matching.Missing.{LacksSource}
 use Rattle.gix_refspec_match.proofs.lemmas.hits.HitLemmas.{one_forward}
 use Rattle.gix_refspec_match.proofs.lemmas.lists.ListsLemmas.{made_once}
 use Rattle.gix_refspec.specs.Matching.RefNames.{IsRefName}
-use Rattle.gix_refspec.specs.Matching.Plan.{AreAsked, AreConfigured, AreLacking, AreMapped, AreMerges, AreTaken, AreThose, AreUncovered, Asked, Covers, HasOrigin, HasSecondVerdict, HasVerdict, IsCompleted, IsContested, IsNegativeReading, IsPlan, IsPlanned, IsPlannedBesides, IsPositiveReading, IsSound, IsTakenAt, IsTakenOver, IsTracked, IsUnwritableAt, MayBeMissing, Planned, Wish, tags_asked}
+use Rattle.gix_refspec.specs.Matching.Plan.{AreAsked, AreConfigured, AreLacking, AreMapped, AreMerges, AreTaken, AreThose, AreUncovered, Asked, Covers, HasOrigin, HasSecondVerdict, HasVerdict, IsCompleted, IsContested, IsNegativeReading, IsPlanned, IsPlannedBesides, IsPositiveReading, IsSound, IsTakenAt, IsTakenOver, IsTracked, IsUnwritableAt, MayBeMissing, Planned, Wish}
 use Rattle.gix_refspec.specs.Private.Verdicts.{AreFirst, AreSecond}
 use Rattle.gix_refspec.specs.Laws.Fetches.{OnePlan}
 use Rattle.gix_refspec.proofs.lemmas.plan.OpposedLemmas.{conflict_of, second_conflict_of, unsound}

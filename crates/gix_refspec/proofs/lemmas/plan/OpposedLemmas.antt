@@ -1,6 +1,6 @@
 -- An update is in conflict exactly if it conflicts with another one.
-use Rattle.std.proofs.Common.{◌≡◌, ◌≢◌, ◌⊎◌, inl, inr, ◌↔◌, ℕ, suc, ◌+◌, ◌<◌, List, [], ◌∷◌, ◌++◌, Option, None, Some, IsSome, MatchOption, get_or, length, refl, sym, ap, ◌∙◌, subst, arith}
-use Rattle.std.specs.List.{AllByRecursion, Contains, slice_get}
+use Rattle.std.proofs.Common.{◌≡◌, ◌⊎◌, inl, inr, ◌↔◌, ℕ, suc, ◌<◌, List, [], ◌∷◌, Option, None, Some, IsSome, MatchOption, get_or, length, refl, sym, ◌∙◌, subst, arith}
+use Rattle.std.specs.List.{Contains, slice_get}
 use Rattle.std.proofs.lemmas.List.{get_or_default}
 use Rattle.std.proofs.lemmas.List.Elements.{All-from_recursion, Contains-append_cases, Contains-append_left, Contains-append_right, Contains-get_or, recursion_from_All}
 use Rattle.std.proofs.lemmas.Option.{slice_get_read}
@@ -15,7 +15,7 @@ use Rattle.gix_refspec_match.specs.Matching.Mappings.{HasPair, IsSamePair, Mappe
 use Rattle.gix_refspec_match.proofs.lemmas.lists.SomeLemmas.{MakesOnly, any_made, some_at, some_of}
 use Rattle.gix_refspec.specs.Matching.RefNames.{IsValidSource}
 use Rattle.gix_refspec.specs.Matching.Plan.{Asked, CanBeWritten, HasOrigin, HasSecondVerdict, HasVerdict, IsContested, IsPlan, IsPlanned, IsPlannedBesides, IsSound, IsTakenOver, IsUnwritableAt, Planned, Wish}
-use Rattle.gix_refspec.specs.Laws.Fetches.{ConflictsExactly, DoConflict, IsToBeWritten}
+use Rattle.gix_refspec.specs.Laws.Fetches.{ConflictsExactly, DoConflict}
 use Rattle.gix_refspec.proofs.lemmas.plan.JudgeLemmas.{mappings_of, tracked_mappings}
 use Rattle.gix_refspec.proofs.lemmas.plan.OnceLemmas.{made_from}
 

@@ -1,5 +1,5 @@
 -- One more spec has one more destination.
-use Rattle.std.proofs.Common.{map, take_all, arith}
+use Rattle.std.proofs.Common.{take_all, arith}
 use Rattle.gix_refspec.proofs.lemmas.plan.NameLemmas.{destination_next}
 use Rattle.gix_refspec.proofs.plan.mapped.completed_names.Goals as goal
 

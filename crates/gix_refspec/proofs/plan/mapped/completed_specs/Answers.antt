@@ -1,5 +1,5 @@
 -- Each spec gets the destination at its index.
-use Rattle.std.proofs.Common.{map, take_all, arith}
+use Rattle.std.proofs.Common.{take_all, arith}
 use Rattle.gix_refspec.proofs.lemmas.plan.NameLemmas.{completed_next, destination_at, destinations_long}
 use Rattle.gix_refspec.proofs.plan.mapped.completed_specs.Goals as goal
 

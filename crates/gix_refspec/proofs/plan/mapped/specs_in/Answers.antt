@@ -1,5 +1,5 @@
 -- One more spec.
-use Rattle.std.proofs.Common.{map, take_all, arith}
+use Rattle.std.proofs.Common.{take_all, arith}
 use Rattle.gix_refspec.proofs.lemmas.plan.LackingLemmas.{readings_next}
 use Rattle.gix_refspec.proofs.plan.mapped.specs_in.Goals as goal
 
