@@ -1,4 +1,4 @@
--- Sources that no ref has. A fetch fails then, by git-fetch(1) of no version, but in Git: "couldn't find remote ref".
+-- Sources that no ref has. Git fails then, with "couldn't find remote ref"; git-fetch(1) doesn't say so.
 use Rattle.std.specs.Prelude.{◌≡◌, ◌⊎◌, ℕ, List, Option, Some}
 use Rattle.std.specs.List.{Contains}
 use Rattle.gix_refspec_text.specs.Specs.Reading.{Reading}

@@ -21,9 +21,9 @@ use std::alloc::{AllocError, Global};
 
 // A destination, and the index of a mapping to it.
 #[derive(Clone, Copy, PartialEq, Eq, PartialOrd, Ord)]
-pub(crate) struct Update<'m> {
-    pub(crate) destination: &'m [u8],
-    pub(crate) index: usize,
+struct Update<'m> {
+    destination: &'m [u8],
+    index: usize,
 }
 
 // The conflicts of some mappings. Fails if memory runs out; never without mappings.
@@ -80,7 +80,7 @@ fn destinations_of<'m>(
 
 // The updates of the mappings that have a destination and aren't flagged, by destination and then by
 // index.
-pub(crate) fn updates_in_order<'m>(
+fn updates_in_order<'m>(
     alloc: Global,
     mappings: &'m [Mapping<'_, '_>],
     flags: &[bool],
@@ -147,7 +147,7 @@ fn add_issue(
 }
 
 // How many of the sorted updates, from the first on, have the first one's destination.
-pub(crate) fn len_of_run(updates: &[Update<'_>]) -> usize
+fn len_of_run(updates: &[Update<'_>]) -> usize
     requires some { 0 < length updates.now }
     requires order { IsStrictlySortedBy update_cmp updates.now }
     ensures some { 0 < result }
