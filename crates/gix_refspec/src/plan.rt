@@ -12,9 +12,9 @@ mod verdicts;
 use crate::match_group::ref_names::InvalidSide;
 use crate::match_group::{Item, SourceRef};
 use bstr::{BStr, BString};
-use gix_refspec_match::missing::missing_sources;
+use gix_refspec_match::missing_sources;
 use gix_refspec_text::RefSpecRef;
-use mapped::{mapped, specs_in};
+use mapped::{mapped, names_in, specs_in};
 use specs::{asked_specs, track};
 use std::alloc::{AllocError, Global};
 use verdicts::judged;
@@ -130,7 +130,8 @@ pub fn plan_fetch<'item>(
         (map planned_of plan.updates.items) plan.missing.items) }
 {
     let asked = asked_specs(alloc, wish, items)?;
-    let firsts = mapped(alloc, asked.as_slice(), items)?;
+    let names = names_in(alloc, asked.as_slice())?;
+    let firsts = mapped(alloc, asked.as_slice(), names.as_slice(), items)?;
     let tracked = track(alloc, wish, items)?;
     let missing = missing_of(alloc, asked.as_slice(), items)?;
     let updates = judged(alloc, asked.as_slice(), firsts, tracked)?;

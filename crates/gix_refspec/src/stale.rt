@@ -16,7 +16,7 @@ ghost use Rattle.gix_refspec.specs.Views.Stale.{found_of};
 ghost use Rattle.gix_refspec.specs.declared.stale.Pattern.{Pattern};
 
 use crate::match_group::{Item, Mapping};
-use crate::plan::mapped::mapped_by_specs;
+use crate::plan::mapped::{completed_names, mapped_by_specs};
 use bstr::{BStr, BString};
 use gix_refspec_match::duplicates::{duplicates, is_flagged};
 use gix_refspec_match::exclusions::Exclusions;
@@ -70,7 +70,8 @@ pub fn stale_refs(
 {
     let names = written_names(alloc, specs)?;
     let writers = Writers::of(alloc, specs, names.as_slice())?;
-    let written = mapped_by_specs(alloc, specs, remote)?;
+    let completed = completed_names(alloc, specs)?;
+    let written = mapped_by_specs(alloc, specs, completed.as_slice(), remote)?;
     let flags = written_flags(alloc, written.as_slice(), local)?;
     let mut stale = Vec::new(alloc);
     for (item_index, item) in local.iter().enumerate() {
@@ -232,7 +233,7 @@ fn pattern_of<'s>(spec: &RefSpecRef<'s>) -> Option<Pattern<'s>>
 }
 
 // The texts before and after the star of a side.
-fn parts_of(side: Option<BStr<'_>>) -> Option<(&[u8], &[u8])>
+pub(crate) fn parts_of(side: Option<BStr<'_>>) -> Option<(&[u8], &[u8])>
     requires { (x : List ℕ) → option_map bstr_bytes side ≡ Some x → ¬ (HasSeveralStars x) }
     ensures { HasParts (option_map bstr_bytes side.entry) result }
 {

@@ -6,7 +6,7 @@
 //! Where different elements have the same upper bits, keys of another hash are tried. Only where that fails too
 //! are the elements themselves sorted.
 
-ghost use Rattle.std.specs.Prelude.{◌≡◌, ◌⊎◌, ◌<◌, ◌≤◌, [], ℕ, length, map, MatchOption, IfOk, OnErr, ◌↔◌, OnOk, ◌≢◌, ◌/◌, ◌%◌, ◌^◌, slice_index_or, IsTrue};
+ghost use Rattle.std.specs.Prelude.{◌≡◌, ◌⊎◌, ◌<◌, ◌≤◌, [], ℕ, length, map, MatchOption, IfOk, OnErr, ◌↔◌, OnOk, ◌≢◌, ◌%◌, ◌^◌, slice_index_or, IsTrue};
 ghost use Rattle.std.specs.Cmp.{IsTotalOrder};
 ghost use Rattle.std.specs.declared.cmp.Ordering.{Ordering};
 ghost use Rattle.std.specs.declared.cmp.Ordering.TheVariants.{Equal};
@@ -193,7 +193,8 @@ fn raise(flags: &mut Vec<bool>, len: usize, index: usize) -> Result<(), AllocErr
     Ok(())
 }
 
-// The keys of the elements whose upper bits others may have too, in order.
+// The keys of the elements whose upper bits others may have too, in order. A key is the upper bits of a hash, and an index
+// in the lower ones.
 fn keys_in_order<T: Element>(
     alloc: Global,
     elements: &[T],
@@ -207,22 +208,13 @@ fn keys_in_order<T: Element>(
 {
     let mut keys = Vec::with_capacity(alloc, elements.len())?;
     for (index, element) in elements.iter().enumerate() {
-        keys.push(key_of(element.hash_by(seed), index, bits))?;
+        let hash = element.hash_by(seed);
+        keys.push((hash >> bits << bits) | index as u64)?;
     }
     let shared = shared_among(alloc, keys.as_slice(), bits)?;
     keep_shared(&mut keys, &shared, bits);
     keys.sort_unstable();
     Ok(keys)
-}
-
-// A key: the upper bits of a hash, and an index in the lower ones.
-fn key_of(hash: u64, index: usize, bits: u32) -> u64
-    requires few { bits < 64 }
-    requires fits { index < 2 ^ bits }
-    ensures bucket { result / 2 ^ bits ≡ hash / 2 ^ bits }
-    ensures index { result % 2 ^ bits ≡ index }
-{
-    (hash >> bits << bits) | index as u64
 }
 
 // The upper bits that two keys have, and some others.
@@ -278,8 +270,5 @@ pub(crate) fn drop_flagged<'a, 'b>(flags: &[bool], mappings: &mut Vec<Mapping<'a
 pub fn is_flagged(flags: &[bool], place: usize) -> bool
     ensures { IsTrue result ↔ IsFlagged flags.now place }
 {
-    match flags.get(place) {
-        None => false,
-        Some(flag) => *flag,
-    }
+    flags.get(place) == Some(&true)
 }

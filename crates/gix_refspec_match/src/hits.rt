@@ -5,7 +5,6 @@ ghost use Rattle.gix_refspec_text.specs.Private.SideViews.{kind_of_side};
 ghost use Rattle.gix_refspec_match.specs.Views.Mapping.{ref_of};
 ghost use Rattle.gix_refspec_match.specs.Private.Hits.{AddsFound, AreHitsOf, AreHitsAmong, hit_at, turned};
 ghost use Rattle.gix_refspec_match.specs.Private.Index.{IsIndexFor};
-ghost use Rattle.gix_refspec_match.specs.Private.Matchers.{HasNoIdNeedle};
 
 use crate::hashes::hash_of_name;
 use crate::index::{Index, Names};
@@ -37,14 +36,17 @@ pub(crate) fn hits_among(
     ensures { IfOk result (λ hits. AreHitsAmong matchers.now (map ref_of items.now) hits.items) }
 {
     if matchers.has_ids() {
-        return all_hits(alloc, matchers, items);
+        return Ok(hits_within(alloc, matchers, items, None)?.unwrap());
     }
     if items.len() < 2 || !seem_to_repeat(items) {
         if let Some(hits) = hits_within(alloc, matchers, items, Some(items.len()))? {
             return Ok(hits);
         }
     }
-    unique_hits(alloc, matchers, items)
+    let unique = Unique::of(alloc, items)?;
+    let mut hits = hits_within(alloc, matchers, unique.items.as_slice(), None)?.unwrap();
+    turn_back(hits.as_mut_slice(), unique.indexes.as_slice());
+    Ok(hits)
 }
 
 // Whether names seem to repeat, as two of the first ones have the same hash. It is a guess: the hits serve either way.
@@ -58,21 +60,6 @@ fn seem_to_repeat(items: &[Item<'_>]) -> bool {
     sample.windows(2).any(|pair| pair[0] == pair[1])
 }
 
-// The hits on the first item of each name.
-fn unique_hits(
-    alloc: Global,
-    matchers: &Matchers<'_>,
-    items: &[Item<'_>],
-) -> Result<Vec<Hit>, AllocError>
-    requires { HasNoIdNeedle matchers.now }
-    ensures { IfOk result (λ hits. AreHitsAmong matchers.now (map ref_of items.now) hits.items) }
-{
-    let unique = Unique::of(alloc, items)?;
-    let mut hits = all_hits(alloc, matchers, unique.items.as_slice())?;
-    turn_back(hits.as_mut_slice(), unique.indexes.as_slice());
-    Ok(hits)
-}
-
 // Turns the indexes of some items into their indexes among all items.
 fn turn_back(hits: &mut [Hit], indexes: &[usize])
     ensures { hits.new ≡ map (turned indexes.now) hits.old }
@@ -82,17 +69,6 @@ fn turn_back(hits: &mut [Hit], indexes: &[usize])
             hit.item = *index;
         }
     }
-}
-
-// All hits.
-fn all_hits(
-    alloc: Global,
-    matchers: &Matchers<'_>,
-    items: &[Item<'_>],
-) -> Result<Vec<Hit>, AllocError>
-    ensures { IfOk result (λ hits. AreHitsOf matchers.now (map ref_of items.now) hits.items) }
-{
-    Ok(hits_within(alloc, matchers, items, None)?.unwrap())
 }
 
 // All hits, or `None` if there are more than the limit.

@@ -2,13 +2,11 @@
 //! prefixes of patterns have an index each. Names that no matcher looks for take no memory and are no keys,
 //! since a server chooses them.
 
-ghost use Rattle.std.specs.Prelude.{◌≡◌, ◌↔◌, IsTrue, [], map, option_map, MatchOption, IfOk, ◌∷◌, nat_eq};
+ghost use Rattle.std.specs.Prelude.{◌≡◌, ◌↔◌, IsTrue, [], map, option_map, MatchOption, IfOk, ◌∷◌};
 ghost use Rattle.gix_refspec_match.specs.Views.Mapping.{name_bytes, ref_of};
 ghost use Rattle.gix_refspec_text.specs.Private.SideViews.{kind_of_side};
 ghost use Rattle.gix_refspec_match.specs.Private.Index.{HaveNamesOf, HavePlaces, list_of};
 ghost use Rattle.gix_refspec_match.specs.Private.Needles.{TakesEach};
-ghost use Rattle.std.specs.Cmp.Lexicographic.{pointwise, nat_list_eq_equiv};
-ghost use Rattle.std.specs.Cmp.{partial_equiv_from_equiv, on_per, on_equiv};
 ghost use Rattle.std.specs.Cmp.Rules.{hashing};
 ghost use Rattle.std.proofs.Common.{rules};
 
@@ -79,10 +77,8 @@ fn without_places<'n>(
 {
     let mut places = HashMap::with_capacity(alloc, names.len())?;
     for name in names {
-        let key = Key {
-            name: name.as_bstr().as_bytes(),
-        };
-        places.insert(key, Vec::new(alloc))?;
+        let name = name.as_bstr().as_bytes();
+        places.insert(Key { name }, Vec::new(alloc))?;
     }
     Ok(places)
 }
@@ -115,7 +111,7 @@ fn places_of<'n>(
 const MANY: usize = 8;
 
 impl<'n> Index<'n> {
-    ghost use Rattle.gix_refspec_match.specs.Private.Index.{IsIndexOf, Serves};
+    ghost use Rattle.gix_refspec_match.specs.Private.Index.{HasNone, IsIndexOf, Serves};
 
     // The index of some names and prefixes. Without any the items aren't looked at.
     pub(crate) fn of(
@@ -161,11 +157,6 @@ impl<'n> Index<'n> {
             SideKind::Object(_) => None,
         }
     }
-}
-
-// Which names have no item.
-impl<'n> Index<'n> {
-    ghost use Rattle.gix_refspec_match.specs.Private.Index.{HasNone};
 
     // Whether a needle is a name that no item has.
     pub(crate) fn lacks(&self, needle: SideKind<'n>) -> bool
@@ -183,32 +174,13 @@ impl<'n> Index<'n> {
 fn listed<'p>(places: &'p HashMap<Key<'_>, Vec<usize>>, name: &'p [u8]) -> Option<&'p [usize]>
     ensures { option_map (λ l. l.now) result ≡ option_map (λ l. l.items) (list_of places.now name.now) }
 {
-    match places.get(&Key { name }) {
-        None => None,
-        Some(list) => Some(list.as_slice()),
-    }
+    Some(places.get(&Key { name })?.as_slice())
 }
 
 // A name, or the prefix of a pattern, as the key of a map.
-#[derive(Clone, Copy)]
+#[derive(Clone, Copy, PartialEq, Eq)]
 pub(crate) struct Key<'n> {
     pub(crate) name: &'n [u8],
-}
-
-impl<'n> PartialEq for Key<'n> {
-    ghost eq = { λ x y. pointwise nat_eq x.name.now y.name.now };
-
-    ghost laws = { on_per (λ k. k.name.now) (partial_equiv_from_equiv nat_list_eq_equiv) };
-
-    fn eq(&self, other: &Self) -> bool
-        ensures { result ≡ pointwise nat_eq self.now.name.now other.now.name.now }
-    {
-        self.name == other.name
-    }
-}
-
-impl<'n> Eq for Key<'n> {
-    ghost laws = { on_equiv (λ k. k.name.now) nat_list_eq_equiv };
 }
 
 impl<'n> Hash for Key<'n> {

@@ -7,6 +7,7 @@ ghost use Rattle.std.specs.Prelude.{◌≡◌, ◌++◌, [], map, IfOk, OnOk};
 ghost use Rattle.gix_refspec_text.specs.Views.Spec.{reading_of};
 ghost use Rattle.gix_refspec_match.specs.Matching.Hits.{AreKeptForward, AreKeptBackward};
 ghost use Rattle.gix_refspec_match.specs.Matching.Mappings.{IsKept};
+ghost use Rattle.gix_refspec_match.specs.Matching.Missing.{AreMissing};
 ghost use Rattle.gix_refspec_match.specs.Views.Mapping.{mapped_of, ref_of};
 ghost use Rattle.gix_refspec_match.specs.declared.matcher.Candidates.TheVariants.{First, All};
 ghost use Rattle.gix_refspec_match.specs.Private.Fills.{AddsMapped, object_mapping};
@@ -20,7 +21,6 @@ pub mod hashes;
 mod hits;
 mod index;
 pub mod matcher;
-pub mod missing;
 pub mod needle;
 pub mod types;
 mod unique;
@@ -28,7 +28,8 @@ mod unique;
 use crate::duplicates::{drop_flagged, duplicates};
 use crate::exclusions::Exclusions;
 use crate::hits::{Hit, hits_among};
-use crate::matcher::{Matcher, Matchers, ObjectSpec};
+use crate::index::{Index, Names};
+use crate::matcher::{Candidates, Matcher, Matchers, ObjectSpec};
 use crate::needle::{filled, word_in};
 use crate::types::{Item, Mapping, NameRef, SourceRef};
 use gix_refspec_text::RefSpecRef;
@@ -51,26 +52,10 @@ pub fn match_forward<'spec, 'item>(
     let later = hits.split_off(hits.len() / 2)?;
     let mut mappings = Vec::with_capacity(alloc, room)?;
     map_objects(alloc, objects.as_slice(), &mut mappings)?;
-    // Half of the hits are dropped before the names of the others are filled.
+    // Each call drops its hits: half of them are gone before the names of the others are filled.
     let list = matchers.list.as_slice();
-    map_forward(
-        alloc,
-        list,
-        items,
-        &exclusions,
-        hits.as_slice(),
-        &mut mappings,
-    )?;
-    drop(hits);
-    map_forward(
-        alloc,
-        list,
-        items,
-        &exclusions,
-        later.as_slice(),
-        &mut mappings,
-    )?;
-    drop(later);
+    map_forward(alloc, list, items, &exclusions, hits, &mut mappings)?;
+    map_forward(alloc, list, items, &exclusions, later, &mut mappings)?;
     without_duplicates(alloc, mappings)
 }
 
@@ -90,27 +75,33 @@ pub fn match_backward<'spec, 'item>(
     let room = hits.len();
     let later = hits.split_off(room / 2)?;
     let mut mappings = Vec::with_capacity(alloc, room)?;
-    // Half of the hits are dropped before the names of the others are filled.
+    // Each call drops its hits: half of them are gone before the names of the others are filled.
     let list = matchers.list.as_slice();
-    map_backward(
-        alloc,
-        list,
-        items,
-        &exclusions,
-        hits.as_slice(),
-        &mut mappings,
-    )?;
-    drop(hits);
-    map_backward(
-        alloc,
-        list,
-        items,
-        &exclusions,
-        later.as_slice(),
-        &mut mappings,
-    )?;
-    drop(later);
+    map_backward(alloc, list, items, &exclusions, hits, &mut mappings)?;
+    map_backward(alloc, list, items, &exclusions, later, &mut mappings)?;
     without_duplicates(alloc, mappings)
+}
+
+/// The indexes of the positive specs whose source is a full or partial name that no item has, in order. Of a partial
+/// name no item has a candidate then. Fails if memory runs out.
+pub fn missing_sources(
+    alloc: Global,
+    specs: &[RefSpecRef<'_>],
+    items: &[Item<'_>],
+) -> Result<Vec<usize>, AllocError>
+    ensures { IfOk result (λ missing. AreMissing
+        (map reading_of specs.now) (map ref_of items.now) missing.items) }
+{
+    let named = Matchers::of_names(alloc, specs)?;
+    let names = Names::of(alloc, &named)?;
+    let index = Index::of(alloc, Candidates::All, &names, items)?;
+    let mut missing = Vec::new(alloc);
+    for matcher in &named.list {
+        if index.lacks(matcher.needle) {
+            missing.push(matcher.spec_index)?;
+        }
+    }
+    Ok(missing)
 }
 
 // Adds the mappings of objects.
@@ -139,14 +130,14 @@ fn map_forward<'spec, 'item>(
     matchers: &[Matcher<'spec>],
     items: &[Item<'item>],
     exclusions: &Exclusions<'_>,
-    hits: &[Hit],
+    hits: Vec<Hit>,
     mappings: &mut Vec<Mapping<'item, 'spec>>,
 ) -> Result<(), AllocError>
-    requires { AreSound matchers.now (map ref_of items.now) hits.now }
-    ensures { OnOk result (AddsMapped First exclusions.now matchers.now (map ref_of items.now) hits.now
+    requires { AreSound matchers.now (map ref_of items.now) hits.items }
+    ensures { OnOk result (AddsMapped First exclusions.now matchers.now (map ref_of items.now) hits.items
         (map mapped_of mappings.old.items) (map mapped_of mappings.new.items)) }
 {
-    for hit in hits {
+    for hit in &hits {
         let item = &items[hit.item];
         if exclusions.spec_of(item.full_ref_name.as_bytes()).is_some() {
             continue;
@@ -168,15 +159,15 @@ fn map_backward<'spec, 'item>(
     matchers: &[Matcher<'spec>],
     items: &[Item<'item>],
     exclusions: &Exclusions<'_>,
-    hits: &[Hit],
+    hits: Vec<Hit>,
     mappings: &mut Vec<Mapping<'spec, 'item>>,
 ) -> Result<(), AllocError>
-    requires sound { AreSound matchers.now (map ref_of items.now) hits.now }
+    requires sound { AreSound matchers.now (map ref_of items.now) hits.items }
     requires others { HaveOthers matchers.now }
-    ensures { OnOk result (AddsMapped All exclusions.now matchers.now (map ref_of items.now) hits.now
+    ensures { OnOk result (AddsMapped All exclusions.now matchers.now (map ref_of items.now) hits.items
         (map mapped_of mappings.old.items) (map mapped_of mappings.new.items)) }
 {
-    for hit in hits {
+    for hit in &hits {
         let item = &items[hit.item];
         let matcher = &matchers[hit.matcher];
         let Some(source) = filled(alloc, matcher.other, word_in(matcher.needle, item))? else {
@@ -204,9 +195,8 @@ fn without_duplicates<'a, 'b>(
         IsKept [] (map mapped_of mappings.entry.items) (map mapped_of kept.items)) }
 {
     let flags = duplicates(alloc, mappings.as_slice())?;
-    if flags.is_empty() {
-        return Ok(mappings);
+    if !flags.is_empty() {
+        drop_flagged(flags.as_slice(), &mut mappings);
     }
-    drop_flagged(flags.as_slice(), &mut mappings);
     Ok(mappings)
 }

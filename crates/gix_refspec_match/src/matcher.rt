@@ -1,12 +1,11 @@
 //! The positive specs of a group, as they are matched: which side matches items, and what the other side is.
 //! The kinds of sides are found here, once.
 
-ghost use Rattle.std.specs.Prelude.{◌≡◌, [], false, map, option_map, unwrap_or, MatchBool, MatchOption, IfOk};
+ghost use Rattle.std.specs.Prelude.{◌≡◌, [], false, map, option_map, unwrap_or, MatchOption, IfOk};
 ghost use Rattle.bstr.specs.BStr.{bstr_bytes};
 ghost use Rattle.gix_refspec_text.specs.Texts.Name.{HasSeveralStars};
 ghost use Rattle.gix_refspec_text.specs.Views.Spec.{reading_of};
-ghost use Rattle.gix_refspec_match.specs.Private.Matchers.{AreNamed, AreMatchersOf, AreObjectsOf, HaveSides, HasNoIdNeedle, HasNoSides, IsNameKind};
-ghost use Rattle.gix_refspec_text.specs.Private.SideViews.{kind_of_side};
+ghost use Rattle.gix_refspec_match.specs.Private.Matchers.{AreNamed, AreMatchersOf, AreObjectsOf, HaveSides, HasNoIdNeedle, HasNoSides};
 ghost use Rattle.gix_refspec_match.specs.Private.Needles.{HasSideKind};
 
 use crate::duplicates::{Element, duplicates, is_flagged};
@@ -140,7 +139,7 @@ impl<'spec> Matchers<'spec> {
             let Some(sides) = sides_of(spec) else {
                 continue;
             };
-            if is_name(sides.source) {
+            if let SideKind::FullName(_) | SideKind::Partial(_) = sides.source {
                 list.push(Matcher {
                     spec_index,
                     needle: sides.source,
@@ -162,20 +161,6 @@ impl<'spec> Matchers<'spec> {
             }
         }
         false
-    }
-}
-
-// Whether a side is a full or partial name.
-fn is_name(side: SideKind<'_>) -> bool
-    ensures { MatchBool result
-        (IsNameKind (kind_of_side side.entry))
-        (¬ (IsNameKind (kind_of_side side.entry))) }
-{
-    match side {
-        SideKind::FullName(_) => true,
-        SideKind::Partial(_) => true,
-        SideKind::Pattern { .. } => false,
-        SideKind::Object(_) => false,
     }
 }
 
@@ -234,8 +219,5 @@ impl<'spec> Element for RefSpecRef<'spec> {
 fn bytes_of(side: Option<BStr<'_>>) -> &[u8]
     ensures { result.now ≡ unwrap_or (option_map bstr_bytes side.entry) [] }
 {
-    match side {
-        None => b"",
-        Some(side) => side.as_bytes(),
-    }
+    side.map_or(b"".as_slice(), |side| side.as_bytes())
 }

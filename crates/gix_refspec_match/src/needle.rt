@@ -24,7 +24,7 @@ pub(crate) fn matches(needle: SideKind<'_>, item: &Item<'_>) -> bool
     match needle {
         SideKind::Pattern { before, after } => word_between(before, after, name).is_some(),
         SideKind::FullName(full) => name == full,
-        SideKind::Object(id) => points_to(item, &id),
+        SideKind::Object(id) => item.target == &id || item.object == Some(&id),
         SideKind::Partial(_) => true,
     }
 }
@@ -103,20 +103,5 @@ fn folder_of(name: &[u8]) -> &'static [u8]
         b"refs/"
     } else {
         b"refs/heads/"
-    }
-}
-
-// Whether an item points to an object, or to a tag of it.
-fn points_to(item: &Item<'_>, id: &ObjectId) -> bool
-    ensures { IsTrue result ↔
-        (((ref_of item.now).target ≡ id_bytes id.now)
-        ⊎ ((ref_of item.now).object ≡ Some (id_bytes id.now))) }
-{
-    if item.target == id {
-        return true;
-    }
-    match item.object {
-        None => false,
-        Some(object) => object == id,
     }
 }

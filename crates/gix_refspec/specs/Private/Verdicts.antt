@@ -4,13 +4,13 @@ use Rattle.std.specs.Borrow.{Bor}
 use Rattle.std.specs.BTreeMap.{BTreeMap, get_by}
 use Rattle.std.specs.Cmp.Lexicographic.{slice_cmp}
 use Rattle.std.specs.Ordering.{nat_cmp}
-use Rattle.std.specs.List.{AllByRecursion, Any}
+use Rattle.std.specs.List.{AllByRecursion, AllZip, Any}
 use Rattle.gix_refspec.specs.declared.plan.Origin.{Origin}
 use Rattle.gix_refspec.specs.declared.plan.Verdict.{Verdict}
 use Rattle.gix_refspec_match.specs.Matching.Lists.{IsMadeFrom}
 use Rattle.gix_refspec_match.specs.Matching.Mappings.{AreApart, HasPair, Mapped}
 use Rattle.gix_refspec_match.specs.Private.Kept.{IsFlagged}
-use Rattle.gix_refspec.specs.Matching.Plan.{Asked, IsPlanned, IsPlannedBesides, IsSound, Planned}
+use Rattle.gix_refspec.specs.Matching.Plan.{Asked, HasVerdict, IsPlanned, IsPlannedBesides, IsSound, Planned}
 
 -- the mappings are of these specs, and no two have the same pair
 pub record AreMappings (asked : List Asked) (l : List Mapped) : Type 0 where
@@ -40,6 +40,10 @@ CountDestinations l counts = (d : List ℕ) → IsCount l d (get_by (λ k. slice
 -- exactly the destinations that several sound mappings have are looked up as true
 abbrev pub TellContested : List Mapped → BTreeMap (Bor (List ℕ)) Bool → Type 0
 TellContested l contested = (d : List ℕ) → (unwrap_or (get_by (λ k. slice_cmp nat_cmp d k.now) contested) false ≡ true) ↔ HasTwo (WritesTo d) l
+
+-- each mapping has the verdict at its place
+abbrev pub AreVerdicts : List Mapped → List Verdict → Type 0
+AreVerdicts l verdicts = AllZip (HasVerdict l) l verdicts
 
 -- ---- the updates
 

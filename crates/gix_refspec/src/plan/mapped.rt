@@ -21,17 +21,33 @@ use gix_refspec_text::name::name_partial;
 use gix_refspec_text::side::{split_at_first_star, strip_refs, written_name};
 use std::alloc::{AllocError, Global};
 
-// The mappings from left to right that are kept, with completed destinations. They own these.
-pub(crate) fn mapped<'item>(
+// The mappings from left to right that are kept, with completed destinations. These are borrowed from the specs, and from
+// their completed names.
+pub(crate) fn mapped<'n, 's: 'n, 'item>(
     alloc: Global,
-    asked: &[Asked<'_>],
+    asked: &[Asked<'s>],
+    names: &'n [Option<BString>],
     items: &[Item<'item>],
-) -> Result<Vec<Mapping<'item, 'static>>, AllocError>
+) -> Result<Vec<Mapping<'item, 'n>>, AllocError>
+    requires { AreNewDestinations
+        (map (λ a. a.reading) (map asked_of asked.now)) (map (option_map bstring_bytes) names.now) }
     ensures { IfOk result (λ all. AreMapped
         (map asked_of asked.now) (map ref_of items.now) (map mapped_of all.items)) }
 {
     let specs = specs_in(alloc, asked)?;
-    mapped_by_specs(alloc, specs.as_slice(), items)
+    mapped_by_specs(alloc, specs.as_slice(), names, items)
+}
+
+// The destination that each spec gets. `None` where it keeps its own, or has none.
+pub(crate) fn names_in(
+    alloc: Global,
+    asked: &[Asked<'_>],
+) -> Result<Vec<Option<BString>>, AllocError>
+    ensures { IfOk result (λ names. AreNewDestinations
+        (map (λ a. a.reading) (map asked_of asked.now)) (map (option_map bstring_bytes) names.items)) }
+{
+    let specs = specs_in(alloc, asked)?;
+    completed_names(alloc, specs.as_slice())
 }
 
 // The specs, without where they come from.
@@ -49,23 +65,23 @@ pub(crate) fn specs_in<'spec>(
     Ok(specs)
 }
 
-// The same of plain specs.
-pub(crate) fn mapped_by_specs<'item>(
+// `mapped` of plain specs.
+pub(crate) fn mapped_by_specs<'n, 's: 'n, 'item>(
     alloc: Global,
-    specs: &[RefSpecRef<'_>],
+    specs: &[RefSpecRef<'s>],
+    names: &'n [Option<BString>],
     items: &[Item<'item>],
-) -> Result<Vec<Mapping<'item, 'static>>, AllocError>
+) -> Result<Vec<Mapping<'item, 'n>>, AllocError>
+    requires { AreNewDestinations (map reading_of specs.now) (map (option_map bstring_bytes) names.now) }
     ensures { IfOk result (λ all. AreMappedBy
         (map reading_of specs.now) (map ref_of items.now) (map mapped_of all.items)) }
 {
-    let names = completed_names(alloc, specs)?;
-    let completed = completed_specs(alloc, specs, names.as_slice())?;
-    let mappings = match_forward(alloc, completed.as_slice(), items)?;
-    owned(alloc, mappings)
+    let completed = completed_specs(alloc, specs, names)?;
+    match_forward(alloc, completed.as_slice(), items)
 }
 
-// The destination that each spec gets. `None` where it keeps its own, or has none.
-fn completed_names(
+// `names_in` of plain specs.
+pub(crate) fn completed_names(
     alloc: Global,
     specs: &[RefSpecRef<'_>],
 ) -> Result<Vec<Option<BString>>, AllocError>
@@ -98,7 +114,7 @@ fn completed_name(alloc: Global, spec: &RefSpecRef<'_>) -> Result<Option<BString
 }
 
 // The specs with these destinations.
-fn completed_specs<'n, 's: 'n>(
+pub(crate) fn completed_specs<'n, 's: 'n>(
     alloc: Global,
     specs: &[RefSpecRef<'s>],
     names: &'n [Option<BString>],
@@ -132,10 +148,10 @@ fn completed_spec<'n>(
 }
 
 // The same mappings, with destinations of their own.
-fn owned<'item>(
+pub(crate) fn owned<'item, 'n>(
     alloc: Global,
     mappings: Vec<Mapping<'item, '_>>,
-) -> Result<Vec<Mapping<'item, 'static>>, AllocError>
+) -> Result<Vec<Mapping<'item, 'n>>, AllocError>
     ensures { IfOk result (λ all. map mapped_of all.items ≡ map mapped_of mappings.entry.items) }
 {
     let mut all = Vec::with_capacity(alloc, mappings.len())?;
@@ -145,10 +161,10 @@ fn owned<'item>(
     Ok(all)
 }
 
-fn owned_mapping<'item>(
+fn owned_mapping<'item, 'n>(
     alloc: Global,
     mapping: Mapping<'item, '_>,
-) -> Result<Mapping<'item, 'static>, AllocError>
+) -> Result<Mapping<'item, 'n>, AllocError>
     ensures { IfOk result (λ owned. mapped_of owned ≡ mapped_of mapping.entry) }
 {
     let Mapping {
@@ -166,10 +182,10 @@ fn owned_mapping<'item>(
     })
 }
 
-fn owned_name(
+fn owned_name<'n>(
     alloc: Global,
     name: Option<NameRef<'_>>,
-) -> Result<Option<NameRef<'static>>, AllocError>
+) -> Result<Option<NameRef<'n>>, AllocError>
     ensures { IfOk result (λ owned. option_map name_bytes owned ≡ option_map name_bytes name.entry) }
 {
     let Some(name) = name else {
@@ -199,7 +215,7 @@ pub(crate) fn is_sound(mapping: &Mapping<'_, '_>) -> bool
     is_valid_source(&mapping.lhs) && can_be_written(&mapping.rhs)
 }
 
-fn is_valid_source(source: &SourceRef<'_>) -> bool
+pub(crate) fn is_valid_source(source: &SourceRef<'_>) -> bool
     ensures { IsTrue result ↔ IsValidSource (start_of source.now) }
 {
     match source {
@@ -218,7 +234,7 @@ fn can_be_written(destination: &Option<NameRef<'_>>) -> bool
 }
 
 // Whether a name begins `refs/` and is valid.
-fn is_below_refs(name: BStr<'_>) -> bool
+pub(crate) fn is_below_refs(name: BStr<'_>) -> bool
     ensures { IsTrue result ↔ CanBeWritten (Some (bstr_bytes name.entry)) }
 {
     strip_refs(name.as_bytes()).is_some() && name_partial(name).is_ok()

@@ -8,7 +8,7 @@ ghost use Rattle.gix_refspec.specs.Matching.Plan.{AreAsked, AreConfigured, AreMe
 ghost use Rattle.gix_refspec.specs.Private.Plans.{AreNames, AreSoundNames, FlagCovered, FlagsTaken, IsIn, origin_in};
 ghost use Rattle.gix_refspec.specs.Views.Plan.{asked_of, wish_of};
 
-use super::mapped::{is_sound, mapped};
+use super::mapped::{is_sound, mapped, names_in, owned};
 use super::{Asked, Origin, Wish};
 use crate::match_group::ref_names::is_ref_name;
 use crate::match_group::{Item, Mapping, SourceRef};
@@ -111,7 +111,8 @@ fn configured_or_head<'spec>(
 {
     let mut asked = specs_of(alloc, SpecList::Configured, wish.configured, Part::All)?;
     if !wish.merges.is_empty() {
-        let configured = mapped(alloc, asked.as_slice(), items)?;
+        let names = names_in(alloc, asked.as_slice())?;
+        let configured = mapped(alloc, asked.as_slice(), names.as_slice(), items)?;
         let mut merges = merge_specs(alloc, wish.merges, configured.as_slice())?;
         asked.append(&mut merges)?;
     } else if wish.configured.is_empty() {
@@ -201,18 +202,18 @@ fn sources_of<'m>(
 // The mappings of the configured specs that are applied to what the specs of the call take. They have the indexes of their
 // items among all, and their specs are beside them.
 #[derive(Drop)]
-pub(crate) struct Tracked<'spec, 'item> {
+pub(crate) struct Tracked<'spec, 'item, 'n> {
     pub(crate) specs: Vec<Asked<'spec>>,
     pub(crate) indexes: Vec<usize>,
-    pub(crate) mappings: Vec<Mapping<'item, 'static>>,
+    pub(crate) mappings: Vec<Mapping<'item, 'n>>,
 }
 
 // What is tracked besides. Nothing without specs of the call.
-pub(crate) fn track<'spec, 'item>(
+pub(crate) fn track<'spec, 'item, 'n>(
     alloc: Global,
     wish: &Wish<'_, 'spec>,
     items: &[Item<'item>],
-) -> Result<Tracked<'spec, 'item>, AllocError>
+) -> Result<Tracked<'spec, 'item, 'n>, AllocError>
     ensures { IfOk result (λ tracked. IsTracked (wish_of wish.now) (map ref_of items.now)
         (map asked_of tracked.specs.items) tracked.indexes.items (map mapped_of tracked.mappings.items)) }
 {
@@ -227,7 +228,14 @@ pub(crate) fn track<'spec, 'item>(
     let mut negative = specs_of(alloc, SpecList::Given, wish.given, Part::Negative)?;
     specs.append(&mut negative)?;
     let taken = taken_by(alloc, wish.given, items)?;
-    let mappings = mapped(alloc, specs.as_slice(), taken.items.as_slice())?;
+    let names = names_in(alloc, specs.as_slice())?;
+    let borrowed = mapped(
+        alloc,
+        specs.as_slice(),
+        names.as_slice(),
+        taken.items.as_slice(),
+    )?;
+    let mappings = owned(alloc, borrowed)?;
     Ok(Tracked {
         specs,
         indexes: taken.indexes,
@@ -252,7 +260,8 @@ fn taken_by<'item>(
         taken.indexes.items (map ref_of taken.items.items)) }
 {
     let positive = specs_of(alloc, SpecList::Given, given, Part::Positive)?;
-    let mappings = mapped(alloc, positive.as_slice(), items)?;
+    let names = names_in(alloc, positive.as_slice())?;
+    let mappings = mapped(alloc, positive.as_slice(), names.as_slice(), items)?;
     let flags = taken_flags(alloc, mappings.as_slice(), items.len())?;
     let mut taken = Taken {
         items: Vec::new(alloc),

@@ -8,7 +8,7 @@ ghost use Rattle.gix_refspec_match.specs.Views.Mapping.{mapped_of};
 ghost use Rattle.gix_refspec_match.specs.Matching.Mappings.{AreApart, Mapped};
 ghost use Rattle.gix_refspec_match.specs.Private.Kept.{IsFlagged};
 ghost use Rattle.gix_refspec.specs.Matching.Plan.{HasSecondVerdict};
-ghost use Rattle.gix_refspec.specs.Private.Verdicts.{AreFirst, AreJudged, AreMappings, AreSecond, CountDestinations, FlagKnown, TellContested, WritesTo, planned_by};
+ghost use Rattle.gix_refspec.specs.Private.Verdicts.{AreFirst, AreJudged, AreMappings, AreSecond, AreVerdicts, CountDestinations, FlagKnown, TellContested, WritesTo, planned_by};
 ghost use Rattle.gix_refspec.specs.Views.Plan.{asked_of, planned_of};
 
 use super::mapped::{is_sound, unwritable_side};
@@ -16,17 +16,16 @@ use super::specs::Tracked;
 use super::{Asked, Origin, Update, Verdict};
 use crate::match_group::Mapping;
 use crate::match_group::validate::conflicts::destinations_differ;
-use bstr::BString;
 use gix_refspec_match::duplicates::{duplicates, is_flagged};
 use std::alloc::{AllocError, Global};
 use std::collections::BTreeMap;
 
 // The updates of the mappings of specs that map refs of the remote, and of those that are tracked besides.
-pub(crate) fn judged<'item>(
+pub(crate) fn judged<'item, 'n>(
     alloc: Global,
     asked: &[Asked<'_>],
-    firsts: Vec<Mapping<'item, 'static>>,
-    tracked: Tracked<'_, 'item>,
+    firsts: Vec<Mapping<'item, 'n>>,
+    tracked: Tracked<'_, 'item, 'n>,
 ) -> Result<Vec<Update<'item>>, AllocError>
     requires firsts { AreMappings (map asked_of asked.now) (map mapped_of firsts.items) }
     requires seconds { AreMappings
@@ -41,11 +40,9 @@ pub(crate) fn judged<'item>(
         indexes,
         mappings: mut seconds,
     } = tracked;
-    let contested = contested_of(alloc, firsts.as_slice())?;
-    let mut updates = first_updates(alloc, asked, firsts.as_slice(), &contested)?;
-    drop(contested);
+    let verdicts = first_verdicts(alloc, firsts.as_slice())?;
     if seconds.is_empty() {
-        return Ok(updates);
+        return first_updates(alloc, asked, firsts, verdicts.as_slice());
     }
     let firsts_len = firsts.len();
     let mut mappings = firsts;
@@ -62,28 +59,45 @@ pub(crate) fn judged<'item>(
         repeated.as_slice(),
         &winning,
     )?;
+    drop(winning);
+    mappings.truncate(firsts_len);
+    let mut updates = first_updates(alloc, asked, mappings, verdicts.as_slice())?;
     updates.append(&mut besides)?;
     Ok(updates)
 }
 
-// The updates of the mappings of specs that map refs of the remote.
+// The verdict on each of the mappings of specs that map refs of the remote.
+fn first_verdicts(alloc: Global, mappings: &[Mapping<'_, '_>]) -> Result<Vec<Verdict>, AllocError>
+    requires { AreApart (map mapped_of mappings.now) }
+    ensures { IfOk result (λ verdicts. AreVerdicts (map mapped_of mappings.now) verdicts.items) }
+{
+    let contested = contested_of(alloc, mappings)?;
+    let nothing = BTreeMap::new(alloc);
+    let mut verdicts = Vec::with_capacity(alloc, mappings.len())?;
+    for mapping in mappings {
+        verdicts.push(verdict_on(mapping, &contested, &nothing))?;
+    }
+    Ok(verdicts)
+}
+
+// The updates of the mappings of specs that map refs of the remote, with these verdicts.
 fn first_updates<'item>(
     alloc: Global,
     asked: &[Asked<'_>],
-    mappings: &[Mapping<'item, '_>],
-    counts: &BTreeMap<&[u8], bool>,
+    mappings: Vec<Mapping<'item, '_>>,
+    verdicts: &[Verdict],
 ) -> Result<Vec<Update<'item>>, AllocError>
-    requires mappings { AreMappings (map asked_of asked.now) (map mapped_of mappings.now) }
-    requires counts { TellContested (map mapped_of mappings.now) counts.now }
+    requires mappings { AreMappings (map asked_of asked.now) (map mapped_of mappings.items) }
+    requires verdicts { AreVerdicts (map mapped_of mappings.items) verdicts.now }
     ensures { IfOk result (λ updates. AreFirst
-        (map asked_of asked.now) (map mapped_of mappings.now) (map planned_of updates.items)) }
+        (map asked_of asked.now) (map mapped_of mappings.entry.items) (map planned_of updates.items)) }
 {
-    let nothing = BTreeMap::new(alloc);
     let mut updates = Vec::with_capacity(alloc, mappings.len())?;
     for mapping in mappings {
         let origin = asked[mapping.spec_index].origin;
-        let verdict = verdict_on(mapping, counts, &nothing);
-        updates.push(update_of(alloc, mapping, mapping.item_index, origin, verdict)?)?;
+        let verdict = verdicts[updates.len()];
+        let item_index = mapping.item_index;
+        updates.push(update_of(alloc, mapping, item_index, origin, verdict)?)?;
     }
     Ok(updates)
 }
@@ -113,7 +127,8 @@ fn second_updates<'item>(
             let origin = specs[mapping.spec_index].origin;
             let item_index = index_among_all(mapping.item_index, indexes);
             let verdict = verdict_on(mapping, &contested, winning);
-            updates.push(update_of(alloc, mapping, item_index, origin, verdict)?)?;
+            let copy = mapping.clone(alloc)?;
+            updates.push(update_of(alloc, copy, item_index, origin, verdict)?)?;
         }
     }
     Ok(updates)
@@ -126,24 +141,26 @@ fn is_new(mapping: &Mapping<'_, '_>, repeated: &[bool], index: usize) -> bool
     mapping.rhs.is_some() && !is_flagged(repeated, index)
 }
 
-// The update by a mapping, with copies of its source and its destination.
+// The update by a mapping. A destination that the mapping owns is moved, and one that it borrows is copied.
 fn update_of<'item>(
     alloc: Global,
-    mapping: &Mapping<'item, '_>,
+    mapping: Mapping<'item, '_>,
     item_index: Option<usize>,
     origin: Origin,
     verdict: Verdict,
 ) -> Result<Update<'item>, AllocError>
     ensures { IfOk result (λ update. planned_of update ≡
-        planned_by (mapped_of mapping.now) item_index origin verdict) }
+        planned_by (mapped_of mapping.entry) item_index origin verdict) }
 {
+    let Mapping { lhs, rhs, .. } = mapping;
+    let destination = match rhs {
+        None => None,
+        Some(name) => Some(name.into_owned(alloc)?),
+    };
     Ok(Update {
-        source: mapping.lhs.clone(alloc)?,
+        source: lhs,
         item_index,
-        destination: match &mapping.rhs {
-            None => None,
-            Some(name) => Some(BString::from_slice(alloc, name.as_bstr())?),
-        },
+        destination,
         origin,
         verdict,
     })

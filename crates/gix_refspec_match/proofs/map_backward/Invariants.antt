@@ -6,4 +6,4 @@ use Rattle.gix_refspec_match.specs.Private.Fills.{AddsMapped}
 use Rattle.gix_refspec_match.proofs.map_backward.Given as goal
 
 abbrev pub invariant-loop-hit : goal.invariant-loop-hit
-invariant-loop-hit l = AddsMapped All l.exclusions l.matchers (map ref_of l.items) (take l.hit-index l.hits) (map mapped_of l.fn.mappings.items) (map mapped_of l.mappings.items)
+invariant-loop-hit l = AddsMapped All l.exclusions l.matchers (map ref_of l.items) (take l.hit-index l.hit-items) (map mapped_of l.fn.mappings.items) (map mapped_of l.mappings.items)

@@ -1,5 +1,5 @@
 -- A hit whose item isn't excluded adds its mapping.
-use Rattle.std.proofs.Common.{refl, sym, ap, subst, ◌∙◌}
+use Rattle.std.proofs.Common.{take_all, arith, refl, sym, ap, subst, ◌∙◌}
 use Rattle.std.proofs.lemmas.Bool.{false≢true}
 use Rattle.std.proofs.lemmas.List.Elements.{All-from_recursion}
 use Rattle.gix_refspec_match.specs.declared.matcher.Candidates.TheVariants.{First}
@@ -12,11 +12,17 @@ use Rattle.gix_refspec_match.proofs.map_forward.Goals as goal
 
 pub loop-hit-preserved-then-is_some : goal.loop-hit-preserved-then-is_some
 loop-hit-preserved-then-is_some c =
-    excluded_next First _ _ _ _ _ _ (All-from_recursion _ _ c.requires _ (hit_at 0 0) c.loop-hit-test.true).matcher _ _ _ _ c.requires c.loop-hit-test.true c.loop-hit.invariant
+    let sound = rw (← c.deref-hit-items.ensures.value) at c.requires in
+    excluded_next First _ _ _ _ _ _ (All-from_recursion _ _ sound _ (hit_at 0 0) c.loop-hit-test.true).matcher _ _ _ _ sound c.loop-hit-test.true c.loop-hit.invariant
     refl (subst (ExcludeName c.args.exclusions.now) c.as_bytes.ensures ((told_by_some c.args.exclusions.now c.as_bytes.result.now c.spec_of.result c.is_some.result c.spec_of.ensures c.is_some.ensures).0 c.if-is_some.true))
 
 pub loop-hit-preserved : goal.loop-hit-preserved
 loop-hit-preserved c =
-    included_next First _ _ _ _ _ _ _ _ _ _ _ c.requires c.loop-hit-test.true c.loop-hit.invariant
+    let sound = rw (← c.deref-hit-items.ensures.value) at c.requires in
+    included_next First _ _ _ _ _ _ _ _ _ _ _ sound c.loop-hit-test.true c.loop-hit.invariant
     (c.in_ok-filled.ensures ∙ ap (filled_side _) c.word_in.ensures) _ _ c.in_ok-push.ensures.items refl
     (λ taken. false≢true (sym c.if-is_some.false ∙ (told_by_some c.args.exclusions.now c.as_bytes.result.now c.spec_of.result c.is_some.result c.spec_of.ensures c.is_some.ensures).1 (rw c.as_bytes.ensures taken)))
+
+pub returns : goal.returns
+returns c =
+    rw (take_all c.loop-hit.hit-index c.deref-hit-items.result.now (omega arith), c.deref-hit-items.ensures.value) at c.loop-hit.invariant

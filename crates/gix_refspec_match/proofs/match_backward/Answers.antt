@@ -8,7 +8,7 @@ use Rattle.gix_refspec_match.proofs.match_backward.Goals as goal
 
 pub map_backward-requires-clause-sound : goal.map_backward-requires-clause-sound
 map_backward-requires-clause-sound c =
-    rw (c.as_slice-list.ensures.value, c.as_slice.ensures.value)
+    rw c.as_slice-list.ensures.value
     (both_sound _ _ _ _ _ _ c.in_ok-later.ensures.items c.in_ok-later.ensures.tail (sound_among c.in_ok-matchers.matchers _ _ c.in_ok-hits.ensures)).0
 
 pub map_backward-requires-clause-others : goal.map_backward-requires-clause-others
@@ -16,7 +16,7 @@ map_backward-requires-clause-others c = rw c.as_slice-list.ensures.value (others
 
 pub map_backward-requires-2-clause-sound : goal.map_backward-requires-2-clause-sound
 map_backward-requires-2-clause-sound c =
-    rw (c.as_slice-list.ensures.value, c.as_slice-2.ensures.value)
+    rw c.as_slice-list.ensures.value
     (both_sound _ _ _ _ _ _ c.in_ok-later.ensures.items c.in_ok-later.ensures.tail (sound_among c.in_ok-matchers.matchers _ _ c.in_ok-hits.ensures)).1
 
 pub map_backward-requires-2-clause-others : goal.map_backward-requires-2-clause-others
@@ -24,8 +24,8 @@ map_backward-requires-2-clause-others c = rw c.as_slice-list.ensures.value (othe
 
 pub returns : goal.returns
 returns c =
-    let first = rw (c.as_slice-list.ensures.value, c.as_slice.ensures.value, c.in_ok-mappings.ensures.items, c.in_ok-later.ensures.items) at c.in_ok-map_backward.ensures in
-    let later = rw (c.as_slice-list.ensures.value, c.as_slice-2.ensures.value, c.in_ok-later.ensures.tail) at c.in_ok-map_backward-2.ensures in
+    let first = rw (c.as_slice-list.ensures.value, c.in_ok-mappings.ensures.items, c.in_ok-later.ensures.items) at c.in_ok-map_backward.ensures in
+    let later = rw (c.as_slice-list.ensures.value, c.in_ok-later.ensures.tail) at c.in_ok-map_backward-2.ensures in
     let adds = adds_both _ _ _ _ _ _ _ _ _ first later in
     ok_weaker c.without_duplicates.result _ _ (λ kept is.
     let (whole, are, stays) = kept_hits _ All _ _ [] _ _ _ _ c.in_ok-matchers.ensures c.in_ok-hits.ensures c.in_ok-exclusions.ensures.names adds is in

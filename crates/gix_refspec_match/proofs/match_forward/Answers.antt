@@ -8,19 +8,19 @@ use Rattle.gix_refspec_match.proofs.match_forward.Goals as goal
 
 pub map_forward-requires : goal.map_forward-requires
 map_forward-requires c =
-    rw (c.as_slice-list.ensures.value, c.as_slice-2.ensures.value)
+    rw c.as_slice-list.ensures.value
     (both_sound _ _ _ _ _ _ c.in_ok-later.ensures.items c.in_ok-later.ensures.tail (sound_among c.in_ok-matchers.matchers _ _ c.in_ok-hits.ensures)).0
 
 pub map_forward-requires-2 : goal.map_forward-requires-2
 map_forward-requires-2 c =
-    rw (c.as_slice-list.ensures.value, c.as_slice-3.ensures.value)
+    rw c.as_slice-list.ensures.value
     (both_sound _ _ _ _ _ _ c.in_ok-later.ensures.items c.in_ok-later.ensures.tail (sound_among c.in_ok-matchers.matchers _ _ c.in_ok-hits.ensures)).1
 
 pub returns : goal.returns
 returns c =
     let ids = rw (c.in_ok-mappings.ensures.items, c.as_slice.ensures.value) at c.in_ok-map_objects.ensures in
-    let first = rw (c.as_slice-list.ensures.value, c.as_slice-2.ensures.value, ids, c.in_ok-later.ensures.items) at c.in_ok-map_forward.ensures in
-    let later = rw (c.as_slice-list.ensures.value, c.as_slice-3.ensures.value, c.in_ok-later.ensures.tail) at c.in_ok-map_forward-2.ensures in
+    let first = rw (c.as_slice-list.ensures.value, ids, c.in_ok-later.ensures.items) at c.in_ok-map_forward.ensures in
+    let later = rw (c.as_slice-list.ensures.value, c.in_ok-later.ensures.tail) at c.in_ok-map_forward-2.ensures in
     let adds = adds_both _ _ _ _ _ _ _ _ _ first later in
     let made = c.in_ok-matchers.ensures in
     ok_weaker c.without_duplicates.result _ _ (λ kept is.

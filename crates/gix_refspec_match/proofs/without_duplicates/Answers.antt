@@ -1,16 +1,20 @@
 -- What isn't flagged is kept, and without flags all is.
-use Rattle.std.proofs.Common.{◌≡◌, [], sym, arith}
+use Rattle.std.proofs.Common.{◌≡◌, [], ◌∙◌, sym, arith}
 use Rattle.std.proofs.lemmas.Bool.{eqb-true}
 use Rattle.std.proofs.lemmas.List.{nil_from_length}
 use Rattle.gix_refspec_match.proofs.lemmas.keep.KeptLemmas.{all_unflagged, kept_unflagged}
 use Rattle.gix_refspec_match.proofs.without_duplicates.Goals as goal
-
-pub returns-then-is_empty : goal.returns-then-is_empty
-returns-then-is_empty c =
-    let ms = c.args.mappings.items in
-    let told = c.in_ok-flags.flags in
-    let none : told.items ≡ [] = nil_from_length told.items (let empty = eqb-true _ _ (sym c.if-is_empty.ensures) in omega (arith, empty, told.ok.0, told.ok.1)) in
-    kept_unflagged ms ms told.items (rw c.as_slice.ensures.value at c.in_ok-flags.ensures.ok) (all_unflagged ms told.items none)
+use Rattle.gix_refspec_match.proofs.without_duplicates.Goals.{then-not-is_empty, else-not-is_empty}
 
 pub returns : goal.returns
-returns c = kept_unflagged c.args.mappings.items c.drop_flagged.new.mappings.items c.in_ok-flags.flags.items (rw c.as_slice.ensures.value at c.in_ok-flags.ensures.ok) (rw c.as_slice-2.ensures.value at c.drop_flagged.ensures)
+returns c =
+    let ms = c.args.mappings.items in
+    let told = c.in_ok-flags.flags in
+    let flags = rw c.as_slice.ensures.value at c.in_ok-flags.ensures.ok in
+    elim c.if-not-is_empty.branch [
+      | then-not-is_empty w ↦ rw w.mappings-is
+          (kept_unflagged ms w.drop_flagged.new.mappings.items told.items flags (rw w.as_slice-then-not-is_empty.ensures.value at w.drop_flagged.ensures))
+      | else-not-is_empty w ↦
+          let none : told.items ≡ [] = nil_from_length told.items (let empty = eqb-true _ _ (sym c.is_empty.ensures ∙ w.if-not-is_empty.false) in omega (arith, empty, told.ok.0, told.ok.1)) in
+          rw w.mappings-is (kept_unflagged ms ms told.items flags (all_unflagged ms told.items none))
+    ]

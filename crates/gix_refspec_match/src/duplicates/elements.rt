@@ -4,13 +4,13 @@ ghost use Rattle.std.specs.Cmp.{on_total};
 ghost use Rattle.std.specs.Cmp.Lexicographic.{nat_list_cmp_total};
 ghost use Rattle.bstr.specs.BStr.{bstr_bytes};
 ghost use Rattle.gix_refspec_match.specs.Private.Orders.{bytes_alike, bytes_hash, bytes_order};
-ghost use Rattle.std.specs.Prelude.{◌≡◌, option_map};
-ghost use Rattle.gix_refspec_match.specs.Views.Mapping.{mapped_of, name_bytes};
+ghost use Rattle.std.specs.Prelude.{◌≡◌};
+ghost use Rattle.gix_refspec_match.specs.Views.Mapping.{mapped_of};
 ghost use Rattle.gix_refspec_match.specs.Private.Kept.{pair_hash};
 
 use super::Element;
 use crate::hashes;
-use crate::types::{Item, Mapping, NameRef, SourceRef};
+use crate::types::{Item, Mapping, SourceRef};
 use bstr::BStr;
 use std::cmp::Ordering;
 use std::hash::{FoldHasher, Hash, Hasher};
@@ -75,21 +75,12 @@ impl<'m> Pair<'m> {
             SourceRef::FullName(name) => (false, name.as_bstr().as_bytes()),
             SourceRef::ObjectId(id) => (true, id.as_slice()),
         };
+        let destination = mapping.rhs.as_ref().map(|name| name.as_bstr().as_bytes());
         Pair {
             is_id,
             source,
-            destination: bytes_of(&mapping.rhs),
+            destination,
         }
-    }
-}
-
-// The bytes of a destination.
-fn bytes_of<'m>(destination: &'m Option<NameRef<'_>>) -> Option<&'m [u8]>
-    ensures { option_map (λ d. d.now) result ≡ option_map name_bytes destination.now }
-{
-    match destination {
-        None => None,
-        Some(name) => Some(name.as_bstr().as_bytes()),
     }
 }
 

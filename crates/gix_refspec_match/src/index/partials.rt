@@ -98,7 +98,10 @@ impl<'l, 'item> Lookup<'l, 'item> {
         }
         match places.get_mut(&Key { name: partial }) {
             None => Ok(()),
-            Some(list) => join(self.candidates, place, self.items, list),
+            Some(list) => match self.candidates {
+                Candidates::First => join_first(place, self.items, list),
+                Candidates::All => Ok(list.push(place)?),
+            },
         }
     }
 }
@@ -128,22 +131,6 @@ fn remote_of_head(below: &[u8]) -> Option<&[u8]>
     below.strip_prefix(b"remotes/")?.strip_suffix(b"/HEAD")
 }
 
-// Adds an index to those that a partial name takes.
-fn join(
-    candidates: Candidates,
-    place: usize,
-    items: &[Item<'_>],
-    places: &mut Vec<usize>,
-) -> Result<(), AllocError>
-    ensures { OnOk result (Joins
-        candidates (map ref_of items.now) place places.old.items places.new.items) }
-{
-    match candidates {
-        Candidates::First => join_first(place, items, places),
-        Candidates::All => Ok(places.push(place)?),
-    }
-}
-
 // Adds an index to those of the first candidate that is there. The earlier of two is the shorter one.
 fn join_first(place: usize, items: &[Item<'_>], places: &mut Vec<usize>) -> Result<(), AllocError>
     ensures { OnOk result (JoinsFirst (map ref_of items.now) place places.old.items places.new.items) }
@@ -165,8 +152,7 @@ fn join_first(place: usize, items: &[Item<'_>], places: &mut Vec<usize>) -> Resu
 fn size_at(items: &[Item<'_>], place: usize) -> usize
     ensures { result ≡ length (name_at (map ref_of items.now) place) }
 {
-    match items.get(place) {
-        None => 0,
-        Some(item) => item.full_ref_name.as_bytes().len(),
-    }
+    items
+        .get(place)
+        .map_or(0, |item| item.full_ref_name.as_bytes().len())
 }

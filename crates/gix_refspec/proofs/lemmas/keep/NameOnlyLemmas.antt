@@ -18,7 +18,7 @@ first_name r q refs others same =
     (cc, cc)
 
 -- a name in one list is in the other
-has_also : (A B : List Ref) (n : List ℕ) → HaveSameNames A B → HasName A n → HasName B n
+pub has_also : (A B : List Ref) (n : List ℕ) → HaveSameNames A B → HasName A n → HasName B n
 has_also [] B n same has = absurd has
 has_also (a ∷ A) [] n same has = absurd (no_name a A (sym same))
 has_also (a ∷ A) (b ∷ B) n same (inl here) = inl (sym (first_name a b A B same).0 ∙ here)
@@ -42,7 +42,7 @@ matches_also (full_name n) a b word same none fits = (fits.0, sym same ∙ fits.
 matches_also (object id) a b word same none fits = absurd (none id refl)
 matches_also (partial n) a b word same none fits = (fits.0, subst (IsCandidate n) same fits.1)
 
-matches_by_name : (ends : Ends) (a b : Ref) (word : Option (List ℕ)) → a.name ≡ b.name → ((id : List ℕ) → ¬ (HasKind ends.near (object id))) → Matches ends.near a word → Matches ends.near b word
+pub matches_by_name : (ends : Ends) (a b : Ref) (word : Option (List ℕ)) → a.name ≡ b.name → ((id : List ℕ) → ¬ (HasKind ends.near (object id))) → Matches ends.near a word → Matches ends.near b word
 matches_by_name ends a b word named none matches = record {
   kind = matches.kind;
   of = matches.of;

@@ -4,10 +4,10 @@ use Rattle.std.specs.BTreeMap.{BTreeMap, is_at}
 use Rattle.std.specs.Map.{lookup}
 use Rattle.std.specs.Cmp.Lexicographic.{slice_cmp}
 use Rattle.std.specs.Ordering.{nat_cmp}
-use Rattle.std.specs.List.{AllByRecursion, Contains, slice_get}
+use Rattle.std.specs.List.{AllByRecursion, AllZip, Contains, slice_get}
 use Rattle.std.proofs.Math.Seq.{drop-append_seam, take-append-add, take-append_seam}
 use Rattle.std.proofs.lemmas.Bool.{false≢true}
-use Rattle.std.proofs.lemmas.List.{get_or-append-add, get_or-map, get_or_default, length-map, map-append}
+use Rattle.std.proofs.lemmas.List.{get_or-append-add, get_or-map, get_or_default, length-map, map-append, take_more}
 use Rattle.std.proofs.lemmas.List.Elements.{All-from_recursion}
 use Rattle.std.proofs.lemmas.Option.{slice_get-map, slice_get_read}
 use Rattle.gix_refspec.specs.declared.plan.Asked.{Asked as DeclaredAsked}
@@ -21,15 +21,16 @@ use Rattle.gix_refspec_match.specs.Matching.Lists.{IsMadeFrom}
 use Rattle.gix_refspec_match.specs.Matching.Mappings.{AreApart, HasPair, IsSamePair, Mapped}
 use Rattle.gix_refspec_match.specs.Private.Duplicates.{FlagsDuplicates, IsDuplicate}
 use Rattle.gix_refspec_match.specs.Private.Kept.{IsFlagged}
-use Rattle.gix_refspec_match.specs.Views.Mapping.{mapped_of}
+use Rattle.gix_refspec_match.specs.Views.Mapping.{IsMappingCopy, mapped_of}
 use Rattle.gix_refspec_match.proofs.lemmas.keep.KeptLemmas.{HasPair-left, by_pair, duplicate_at, kept_once}
 use Rattle.gix_refspec_match.proofs.lemmas.keep.RepeatLemmas.{some_mapping}
 use Rattle.gix_refspec_match.proofs.lemmas.lists.JoinLemmas.{made_more}
 use Rattle.gix_refspec.specs.Matching.Plan.{AreAsked, AreLacking, AreMapped, Asked, HasOrigin, HasSecondVerdict, HasVerdict, IsCompleted, IsPlan, IsPlanned, IsPlannedBesides, IsTracked, Planned, Wish}
 use Rattle.gix_refspec.specs.Private.Verdicts.{AreFirst, AreJudged, AreMappings, AreSecond, CountDestinations, FlagKnown, IsCount, planned_by}
 use Rattle.gix_refspec.specs.Views.Plan.{asked_of, planned_of}
-use Rattle.gix_refspec.proofs.lemmas.plan.NameLemmas.{zip_long}
+use Rattle.gix_refspec.proofs.lemmas.plan.NameLemmas.{zip_at, zip_long, zip_more}
 use Rattle.gix_refspec.proofs.lemmas.validate.AfterLemmas.{forward_fits}
+use Rattle.gix_refspec.proofs.lemmas.validate.RefNameLemmas.{copied_mapping}
 
 -- ---- one mapping of a list
 
@@ -45,6 +46,12 @@ module _ (ms : List Mapping) (i : ℕ) (m : Mapping) (below : i < length ms) (is
       let told = All-from_recursion (λ n. n.spec < length (map asked_of asked)) (map mapped_of ms) are.fit i (mapped_of m) (omega (arith, below, length-map ms mapped_of)) in
       let here : m.spec_index < length (map asked_of asked) = subst (λ (n : Mapped). n.spec < length (map asked_of asked)) (mapped_here (mapped_of m)) told in
       omega (arith, here, length-map asked asked_of)
+
+  -- the verdict at its place
+  pub verdict_at : (l : List Mapped) (verdicts : List Verdict) (e : Verdict) → AllZip (HasVerdict l) (map mapped_of ms) verdicts → HasVerdict l (mapped_of m) (get_or verdicts i e)
+  verdict_at l verdicts e all =
+      subst (λ (x : Mapped). HasVerdict l x (get_or verdicts i e)) (mapped_here (mapped_of m))
+      (zip_at (HasVerdict l) (map mapped_of ms) verdicts i (mapped_of m) e all (omega (arith, below, length-map ms mapped_of)))
 
   -- whether its pair is among those of other mappings
   pub known_here : (xs : List Mapping) (flags : List Bool) → FlagKnown (map mapped_of xs) (map mapped_of ms) flags → IsFlagged flags (length xs + i) ↔ HasPair (map mapped_of xs) (mapped_of m)
@@ -69,17 +76,24 @@ only_verdict l m (verdict.LeftOut side) is = is
 only_verdict l m verdict.InConflict (sound, none, contested) = (sound, contested)
 only_verdict l m verdict.Overruled (sound, (n, (i, below, at), sound_n, share)) = omega (arith, below)
 
+-- one more verdict, where nothing overrules
+pub verdict_next : (ms : List Mapping) (i : ℕ) (m : Mapping) (l : List Mapped) (old new : List Verdict) (v : Verdict) → i < length ms → m ≡ get_or ms i m → AllZip (HasVerdict l) (map mapped_of (take i ms)) old
+    → HasSecondVerdict [] l (mapped_of m) v → new ≡ old ++ v ∷ [] → AllZip (HasVerdict l) (map mapped_of (take (i + 1) ms)) new
+verdict_next ms i m l old new v below is so_far judged more =
+    rw (take_more ms i m below, more, map-append)
+    (zip_more (HasVerdict l) (map mapped_of (take i ms)) old (mapped_of (get_or ms i m)) v so_far (subst (λ (x : Mapping). HasVerdict l (mapped_of x) v) is (only_verdict l (mapped_of m) v judged)))
+
 -- ---- one more update
 
 module _ (ms : List Mapping) (i : ℕ) (m : Mapping) (old : List Update) (below : i < length ms) (is : m ≡ get_or ms i m) where
   -- of the first list
   pub first_next : (asked : List Asked) (l : List Mapped) (new : List Update) (u : Update) (o : Origin) (v : Verdict) → IsMadeFrom (λ k x p. IsPlanned asked l x p) 0 (map mapped_of (take i ms)) (map planned_of old)
-      → HasOrigin asked (mapped_of m) o → HasSecondVerdict [] l (mapped_of m) v → planned_of u ≡ planned_by (mapped_of m) m.item_index o v → new ≡ old ++ u ∷ []
+      → HasOrigin asked (mapped_of m) o → HasVerdict l (mapped_of m) v → planned_of u ≡ planned_by (mapped_of m) m.item_index o v → new ≡ old ++ u ∷ []
       → IsMadeFrom (λ k x p. IsPlanned asked l x p) 0 (map mapped_of (take (i + 1) ms)) (map planned_of new)
   first_next asked l new u o v so_far origin judged same more =
       made_more (λ k x p. IsPlanned asked l x p) mapped_of ms i m (map planned_of old) (map planned_of new) (Some (planned_of u)) below so_far
       (subst (λ (x : Mapping). IsPlanned asked l (mapped_of x) (planned_of u)) is
-      (subst (λ (p : Planned). IsPlanned asked l (mapped_of m) p) (sym same) (record { source = refl; item = refl; destination = refl; origin = origin; verdict = only_verdict l (mapped_of m) v judged })))
+      (subst (λ (p : Planned). IsPlanned asked l (mapped_of m) p) (sym same) (record { source = refl; item = refl; destination = refl; origin = origin; verdict = judged })))
       (ap (map planned_of) more ∙ map-append planned_of old (u ∷ []))
 
   module _ (asked : List Asked) (indexes : List ℕ) (firsts l : List Mapped) (so_far : IsMadeFrom (λ k x p. IsPlannedBesides asked indexes firsts l x p) 0 (map mapped_of (take i ms)) (map planned_of old))
@@ -107,6 +121,30 @@ module _ (ms : List Mapping) (i : ℕ) (m : Mapping) (old : List Update) (below 
         made_more (λ k x p. IsPlannedBesides asked indexes firsts l x p) mapped_of ms i m (map planned_of old) (map planned_of old) None below so_far
         (subst (λ (x : Mapping). (p : Planned) → ¬ (IsPlannedBesides asked indexes firsts l (mapped_of x) p)) is (λ p planned. false≢true (sym is_old ∙ told.1 (planned.updates, λ flagged. planned.new (known.0 flagged)))))
         (sym (append-nil (map planned_of old)))
+
+-- the updates of as many mappings as there are updates
+abbrev pub AreSoMany : List Asked → List Mapping → List Update → Type 0
+AreSoMany asked ms updates = IsMadeFrom (λ k x p. IsPlanned asked (map mapped_of ms) x p) 0 (map mapped_of (take (length updates) ms)) (map planned_of updates)
+
+-- one more of the first list, which is used up
+pub first_more : (ms xs : List Mapping) (m : Mapping) (asked : List Asked) (verdicts : List Verdict) (old new : List Update) (u : Update) (o : Origin) (n : ℕ) (e : Verdict) → (length xs < length ms) × (m ≡ get_or ms (length xs) m)
+    → AreSoMany asked ms old × (length old ≡ length xs) → AllZip (HasVerdict (map mapped_of ms)) (map mapped_of ms) verdicts → n ≡ length old → HasOrigin asked (mapped_of m) o
+    → planned_of u ≡ planned_by (mapped_of m) m.item_index o (get_or verdicts n e) → new ≡ old ++ u ∷ [] → AreSoMany asked ms new × (length new ≡ length (xs ++ m ∷ []))
+first_more ms xs m asked verdicts old new u o n e (below, is) (so_far, long) all at origin same more =
+    let here : n ≡ length xs = at ∙ long in
+    let longer : length new ≡ length old + 1 = ap length more ∙ length-append old (u ∷ []) in
+    let judged = subst (λ (k : ℕ). HasVerdict (map mapped_of ms) (mapped_of m) (get_or verdicts k e)) (sym here) (verdict_at ms (length xs) m below is (map mapped_of ms) verdicts e all) in (
+      subst (λ (k : ℕ). IsMadeFrom (λ j x p. IsPlanned asked (map mapped_of ms) x p) 0 (map mapped_of (take k ms)) (map planned_of new)) (sym longer)
+          (first_next ms (length old) m old (omega (arith, below, long)) (is ∙ ap (λ (k : ℕ). get_or ms k m) (sym long)) asked (map mapped_of ms) new u o (get_or verdicts n e) so_far origin judged same more),
+      omega (arith, longer, long, length-append xs (m ∷ [])),
+    )
+
+pub verdicts_long : (ms : List Mapping) (l : List Mapped) (verdicts : List Verdict) → AllZip (HasVerdict l) (map mapped_of ms) verdicts → length ms ≡ length verdicts
+verdicts_long ms l verdicts all = sym (length-map ms mapped_of) ∙ zip_long (HasVerdict l) (map mapped_of ms) verdicts all
+
+-- an update by a copy of a mapping
+pub planned_copy : (m copy : Mapping) (u : Update) (item : Option ℕ) (o : Origin) (v : Verdict) → IsMappingCopy m copy → planned_of u ≡ planned_by (mapped_of copy) item o v → planned_of u ≡ planned_by (mapped_of m) item o v
+planned_copy m copy u item o v copied same = same ∙ ap (λ (x : Mapped). planned_by x item o v) (copied_mapping m copy copied)
 
 -- ---- pairs that are known
 
@@ -184,6 +222,16 @@ judged_of asked tracking indexes xs ys fs bs before behind new (first, second) a
       (subst (λ (l : List Mapping). AreSecond tracking indexes (map mapped_of l) (map mapped_of bs) (map planned_of behind)) first are_behind);
   all = ap (map planned_of) joined ∙ map-append planned_of before behind;
 }
+
+-- the front of two lists that were joined
+pub front_again : (xs ys all fs : List Mapping) (n : ℕ) → all ≡ xs ++ ys → n ≡ length xs → fs ≡ take n all → fs ≡ xs
+front_again xs ys all fs n whole at front = (split_again xs ys all fs (drop n all) n whole at front refl).0
+
+-- without a second list
+pub judged_alone : (asked tracking : List Asked) (indexes : List ℕ) (firsts : List Mapped) (ys : List Mapping) (new : List Planned) → ys ≡ [] → AreFirst asked firsts new
+    → AreJudged asked firsts tracking indexes (map mapped_of ys) new
+judged_alone asked tracking indexes firsts ys new none first =
+    subst (λ (l : List Mapping). AreJudged asked firsts tracking indexes (map mapped_of l) new) (sym none) (record { before = new; behind = []; are_before = first; are_behind = refl; all = sym (append-nil new) })
 
 -- the flags of both lists, for what is split
 pub known_of : (xs ys fs bs all : List Mapping) (flags given : List Bool) → (fs ≡ xs) × (bs ≡ ys) → all ≡ xs ++ ys → given ≡ flags → AreApart (map mapped_of ys) → FlagsDuplicates by_pair all flags

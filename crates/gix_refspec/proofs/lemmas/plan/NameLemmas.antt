@@ -23,7 +23,7 @@ zip_long R [] (y ∷ ys) all = absurd all
 zip_long R (x ∷ xs) [] all = absurd all
 zip_long R (x ∷ xs) (y ∷ ys) all = ap suc (zip_long R xs ys all.1)
 
-zip_at : {X Y : Type 0} (R : X → Y → Type 0) (xs : List X) (ys : List Y) (i : ℕ) (d : X) (e : Y) → AllZip R xs ys → i < length xs → R (get_or xs i d) (get_or ys i e)
+pub zip_at : {X Y : Type 0} (R : X → Y → Type 0) (xs : List X) (ys : List Y) (i : ℕ) (d : X) (e : Y) → AllZip R xs ys → i < length xs → R (get_or xs i d) (get_or ys i e)
 zip_at R [] ys i d e all below = absurd (omega arith)
 zip_at R (x ∷ xs) [] i d e all below = absurd all
 zip_at R (x ∷ xs) (y ∷ ys) zero d e all below = all.0

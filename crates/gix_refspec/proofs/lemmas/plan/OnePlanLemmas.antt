@@ -69,7 +69,7 @@ merges_once : (merges : List (List ℕ)) (mapped : List Mapped) (a b : List Aske
 merges_once merges mapped =
     made_once (λ (k : ℕ) (n : List ℕ) (a : Asked). (a ≡ record { reading = fetched_alone n; origin = origin.Merge k }) × IsRefName n × ¬ (Covers mapped n) × ¬ (Contains (take k merges) n)) (λ k n x y of_x of_y. of_x.0 ∙ sym of_y.0) 0 merges
 
-none_merged : (merges : List (List ℕ)) (mapped : List Mapped) (a : List Asked) → merges ≡ [] → AreMerges merges mapped a → a ≡ []
+pub none_merged : (merges : List (List ℕ)) (mapped : List Mapped) (a : List Asked) → merges ≡ [] → AreMerges merges mapped a → a ≡ []
 none_merged merges mapped a none are = subst (λ (l : List (List ℕ)). AreMerges l mapped a) none are
 
 uncovered_once : (wish : Wish) (refs : List Ref) (a b : List Asked) → AreUncovered wish refs a → AreUncovered wish refs b → a ≡ b

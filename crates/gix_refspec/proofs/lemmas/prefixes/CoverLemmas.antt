@@ -159,7 +159,7 @@ joined_covers n (s ∷ g) k entries (suc i, r, below, here, covered) (first, res
     subst (λ (names : List (List ℕ)). BeginsWithOne names n) (sym is) (any_right (λ entry. BeginsWith entry n) first rest (joined_covers n g (k + 1) rest (i, r, omega (arith, below), here, covered) more))
 
 -- what holds of the reading at an index holds of some reading
-some_at : (P : Reading → Type 0) (g : List Reading) (i : ℕ) (r : Reading) → slice_get g i ≡ Some r → P r → Any P g
+pub some_at : (P : Reading → Type 0) (g : List Reading) (i : ℕ) (r : Reading) → slice_get g i ≡ Some r → P r → Any P g
 some_at P [] i r here holds = absurd (cc)
 some_at P (s ∷ g) zero r here holds = (0, r, omega arith, same_Some s r here, holds)
 some_at P (s ∷ g) (suc i) r here holds =

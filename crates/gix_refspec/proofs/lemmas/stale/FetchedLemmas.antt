@@ -178,7 +178,7 @@ matches_filled d word n shape matches = by_kind matches.kind matches.of word mat
       | inr begins ↦ absurd (of.2 begins)
     ]
 
-far_there : (side word : Option (List ℕ)) (n : List ℕ) → IsFilled side word (Some n) → (d : List ℕ) × (side ≡ Some d) × IsFilled (Some d) word (Some n)
+pub far_there : (side word : Option (List ℕ)) (n : List ℕ) → IsFilled side word (Some n) → (d : List ℕ) × (side ≡ Some d) × IsFilled (Some d) word (Some n)
 far_there None word n none = absurd (cc (none))
 far_there (Some d) word n is = (d, refl, is)
 

@@ -31,7 +31,7 @@ use Rattle.gix_refspec.proofs.lemmas.stale.FetchedLemmas.{accepted_in, completed
 abbrev slice : List ℕ → Bor (List ℕ)
 slice x = record { ref_ptr = (0, 0); now = x }
 
-side_cases : (side : Option (List ℕ)) → (side ≡ None) ⊎ ((x : List ℕ) × (side ≡ Some x))
+pub side_cases : (side : Option (List ℕ)) → (side ≡ None) ⊎ ((x : List ℕ) × (side ≡ Some x))
 side_cases None = inl refl
 side_cases (Some x) = inr (x, refl)
 

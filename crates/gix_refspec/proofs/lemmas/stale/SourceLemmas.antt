@@ -67,7 +67,7 @@ contained_split : (l : List (List ℕ)) (n : List ℕ) → Contains l n → (ear
 contained_split l n (k, below, is) =
     (take k l, drop (suc k) l, sym (take-append-drop k l) ∙ ap (λ (t : List (List ℕ)). take k l ++ t) (drop-cons l k n below ∙ ap (λ (x : List ℕ). x ∷ drop (suc k) l) is))
 
-candidate_contained : (x n : List ℕ) → IsCandidate x n → Contains (candidates x) n
+pub candidate_contained : (x n : List ℕ) → IsCandidate x n → Contains (candidates x) n
 candidate_contained x n one = subst (λ (l : List (List ℕ)). Contains l n) (sym one.here) (Contains-append_right one.earlier (n ∷ one.later) n (zero, omega arith, refl))
 
 contained_candidate : (x n : List ℕ) → Contains (candidates x) n → IsCandidate x n

@@ -29,7 +29,7 @@ zip_first R P (x ∷ xs) (y ∷ ys) all (suc k, z, below, is, has) =
     (v, w, (suc i, omega (arith, under), there), related, holds)
 
 -- they exclude the same
-same_excluded : (r c : Reading) (n : List ℕ) → IsCompleted r c → IsExcludedBy n c → IsExcludedBy n r
+pub same_excluded : (r c : Reading) (n : List ℕ) → IsCompleted r c → IsExcludedBy n c → IsExcludedBy n r
 same_excluded r c n is by = record { negative = sym is.mode ∙ by.negative; text = by.text; source = sym is.source ∙ by.source; excludes = by.excludes }
 
 pub completed_excluded : (g c : List Reading) (n : List ℕ) → AllZip IsCompleted g c → IsExcluded c n → IsExcluded g n

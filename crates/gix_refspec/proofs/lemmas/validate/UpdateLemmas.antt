@@ -5,16 +5,17 @@ use Rattle.std.specs.List.Sorted.{IsPermutation, IsSorted, IsStrictlySortedBy}
 use Rattle.std.specs.declared.cmp.Ordering.{Ordering}
 use Rattle.std.specs.declared.cmp.Ordering.TheVariants.{Less, Equal, Greater}
 use Rattle.std.specs.Ordering.{is_lt, nat_cmp, ordering_then, ordering_reverse}
-use Rattle.std.specs.Cmp.{IsTotalOrder, IsStrictWeakOrder}
+use Rattle.std.specs.Cmp.{IsTotalOrder}
 use Rattle.std.specs.Cmp.Lexicographic.{slice_cmp, nat_list_cmp_total}
 use Rattle.std.proofs.lemmas.Bool.{cases_lt, false≢true, not-false, not-true}
 use Rattle.std.proofs.lemmas.Slice.Eq.{bytes_eq-Decides}
 use Rattle.std.specs.Str.{bytes_eq}
-use Rattle.std.proofs.lemmas.Cmp.{by_ranked, nat_cmp_total, on_total, ranked, then_total}
+use Rattle.std.proofs.lemmas.Cmp.{nat_cmp_total, on_total, ranked, then_total}
 use Rattle.std.proofs.lemmas.List.{get_or-map, length-map, map-append, take-append-drop, take_more, drop_more, length-drop}
 use Rattle.std.proofs.lemmas.List.Elements.{All-from_recursion}
 use Rattle.std.proofs.lemmas.List.Quantifiers.{all_pairs_push}
-use Rattle.std.proofs.lemmas.List.Sorted.{Contains-permutation, IsPermutation-map, IsPermutation-sym, ranks_by, sorted_far}
+use Rattle.std.proofs.lemmas.List.Sorted.{Contains-permutation, IsPermutation-map, IsPermutation-sym}
+use Rattle.std.proofs.lemmas.Map.Keys.{sorted_from_all_adjacent}
 use Rattle.std.proofs.lemmas.Option.{slice_get-map, slice_get_read, slice_get_within}
 use Rattle.gix_refspec.specs.declared.match_group.validate.conflicts.Update.{Update}
 use Rattle.gix_refspec_match.specs.declared.types.Mapping.{Mapping}
@@ -34,25 +35,8 @@ pub record AreUpdatesUpto (l : List Mapped) (flags : List Bool) (p : ℕ) (cs : 
   pub rises : Rises (updated_indexes cs)
   pub below : AllByRecursion (λ n. n < p) (updated_indexes cs)
 
-unequal : Less ≡ Equal → ⊥
-unequal same = absurd (cc)
-
 pub below_trans : (x y z : List ℕ) → slice_cmp nat_cmp x y ≡ Less → slice_cmp nat_cmp y z ≡ Less → slice_cmp nat_cmp x z ≡ Less
 below_trans = nat_list_cmp_total.trans
-
-less_from_cmp : (a b : ℕ) → nat_cmp a b ≡ Less → a < b
-less_from_cmp a b is =
-    by_ranked (a < b) (a ≡ b) (b < a) (nat_cmp a b) (ranked a b (nat_cmp a b) refl)
-    (λ told less. less)
-    (λ told same. absurd (unequal (sym is ∙ told)))
-    (λ told more. absurd (cc))
-
-same_from_cmp : (a b : ℕ) → nat_cmp a b ≡ Equal → a ≡ b
-same_from_cmp a b is =
-    by_ranked (a < b) (a ≡ b) (b < a) (nat_cmp a b) (ranked a b (nat_cmp a b) refl)
-    (λ told less. absurd (unequal (sym told ∙ is)))
-    (λ told same. same)
-    (λ told more. absurd (cc))
 
 less_of_two : (a b : Ordering) → ordering_then a b ≡ Less → (a ≡ Less) ⊎ ((a ≡ Equal) × (b ≡ Less))
 less_of_two Less b is = inl refl
@@ -63,7 +47,7 @@ less_of_two Greater b is = absurd (cc)
 pub later : (x y : Update) → update_cmp x y ≡ Less → (slice_cmp nat_cmp x.destination.now y.destination.now ≡ Less) ⊎ ((x.destination.now ≡ y.destination.now) × (x.index < y.index))
 later x y is = elim (less_of_two (slice_cmp nat_cmp x.destination.now y.destination.now) (nat_cmp x.index y.index) is) [
   | inl less ↦ inl less
-  | inr tied ↦ inr (same_texts x.destination.now y.destination.now tied.0, less_from_cmp x.index y.index tied.1)
+  | inr tied ↦ inr (same_texts x.destination.now y.destination.now tied.0, ranked x.index y.index Less (sym tied.1))
 ]
 
 update_total : IsTotalOrder update_cmp
@@ -79,31 +63,24 @@ unfolding IsStrictlySortedBy
 strict_right cmp [] ys strict = strict
 strict_right cmp (x ∷ xs) ys strict = strict_right cmp xs ys strict.1
 
-strict_from_indexes : {X : Type 0} (cmp : X → X → Ordering) (xs : List X) → ((i j : ℕ) (d : X) → i < j → j < length xs → cmp (get_or xs i d) (get_or xs j d) ≡ Less) → IsStrictlySortedBy cmp xs
-unfolding IsStrictlySortedBy
-strict_from_indexes cmp [] each = tt
-strict_from_indexes {X} cmp (x ∷ xs) each = (first xs (λ j d below. each 0 (suc j) d (omega arith) (omega arith)), strict_from_indexes cmp xs (λ i j d before below. each (suc i) (suc j) d (omega arith) (omega arith)))
-  where
-    first : (ys : List X) → ((j : ℕ) (d : X) → j < length ys → cmp x (get_or ys j d) ≡ Less) → AllByRecursion (λ y. cmp x y ≡ Less) ys
-    first [] told = tt
-    first (y ∷ ys) told = (told 0 y (omega arith), first ys (λ j d below. told (suc j) d (omega arith)))
-
-turned : (o r : Ordering) → r ≡ ordering_reverse o → is_lt o ≡ false → o ≢ Equal → r ≡ Less
+-- what is neither less nor equal is less when turned round
+pub turned : (o r : Ordering) → r ≡ ordering_reverse o → is_lt o ≡ false → o ≢ Equal → r ≡ Less
 turned Less r is told apart = absurd (false≢true (sym told))
 turned Equal r is told apart = absurd (apart refl)
 turned Greater r is told apart = is
 
 -- sorted updates are strictly increasing, since their indexes differ
 strict_from_sorted : (xs ys : List Update) → IsPermutation xs ys → Rises (updated_indexes xs) → IsSorted update_cmp ys → IsStrictlySortedBy update_cmp ys
-strict_from_sorted xs ys moved rises sorted =
-    let weak : IsStrictWeakOrder (λ (x : Update) (y : Update). is_lt (update_cmp x y)) = ranks_by update_total (λ (c : Update). c) in
-    strict_from_indexes update_cmp ys (λ i j d before below.
-    let x = get_or ys i d in
-    let y = get_or ys j d in
-    turned (update_cmp y x) (update_cmp x y) (update_total.antisymm x y)
-    (sorted_far (λ (a : Update) (b : Update). is_lt (update_cmp a b)) weak ys sorted i j d (omega arith) below)
-    (λ tied. apart_places (updated_indexes xs) (updated_indexes ys) (IsPermutation-map (λ (c : Update). c.index) xs ys moved) rises i j 0 before (omega (arith, length-map ys (λ (c : Update). c.index)))
-    (get_or-map (λ (c : Update). c.index) ys i d 0 (omega arith) ∙ sym (same_from_cmp y.index x.index (both_equal (slice_cmp nat_cmp y.destination.now x.destination.now) (nat_cmp y.index x.index) tied).1) ∙ sym (get_or-map (λ (c : Update). c.index) ys j d 0 below))))
+unfolding IsStrictlySortedBy
+strict_from_sorted xs [] moved rises sorted = tt
+strict_from_sorted xs (c ∷ cs) moved rises sorted =
+    let ys = c ∷ cs in
+    sorted_from_all_adjacent update_total ys c (λ i below.
+    let x = get_or ys i c in
+    let y = get_or ys (i + 1) c in
+    turned (update_cmp y x) (update_cmp x y) (update_total.antisymm x y) (sorted i c (omega arith) below)
+    (λ tied. apart_places (updated_indexes xs) (updated_indexes ys) (IsPermutation-map (λ (u : Update). u.index) xs ys moved) rises i (i + 1) 0 (omega arith) (omega (arith, below, length-map ys (λ (u : Update). u.index)))
+    (get_or-map (λ (u : Update). u.index) ys i c 0 (omega (arith, below)) ∙ sym (ranked y.index x.index Equal (sym (both_equal (slice_cmp nat_cmp y.destination.now x.destination.now) (nat_cmp y.index x.index) tied).1)) ∙ sym (get_or-map (λ (u : Update). u.index) ys (i + 1) c 0 below))))
 
 -- an update of a list, as an element of it
 update_within : (cs : List Update) (k : ℕ) (d : List ℕ) → HasUpdate cs k d → (c : Update) × Contains cs c × (c.index ≡ k) × (c.destination.now ≡ d)

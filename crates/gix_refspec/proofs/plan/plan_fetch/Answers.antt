@@ -3,11 +3,11 @@ use Rattle.gix_refspec.proofs.lemmas.plan.JudgeLemmas.{mappings_of, plan_of, tra
 use Rattle.gix_refspec.proofs.plan.plan_fetch.Goals as goal
 
 pub judged-requires-clause-firsts : goal.judged-requires-clause-firsts
-judged-requires-clause-firsts c = rw (c.as_slice-3.ensures.value, ← c.as_slice.ensures.value) (mappings_of _ _ _ c.in_ok-firsts.ensures)
+judged-requires-clause-firsts c = rw (c.as_slice-5.ensures.value, ← c.as_slice-2.ensures.value) (mappings_of _ _ _ c.in_ok-firsts.ensures)
 
 pub judged-requires-clause-seconds : goal.judged-requires-clause-seconds
 judged-requires-clause-seconds c = tracked_mappings _ _ _ _ _ c.in_ok-tracked.ensures
 
 pub returns : goal.returns
-returns c = plan_of _ _ _ _ _ _ _ _ _ c.in_ok-asked.ensures (rw (c.as_slice.ensures.value) at c.in_ok-firsts.ensures) c.in_ok-tracked.ensures
-    (rw (c.as_slice-3.ensures.value) at c.in_ok-updates.ensures) (rw (c.as_slice-2.ensures.value) at c.in_ok-missing.ensures)
+returns c = plan_of _ _ _ _ _ _ _ _ _ c.in_ok-asked.ensures (rw (c.as_slice-2.ensures.value) at c.in_ok-firsts.ensures) c.in_ok-tracked.ensures
+    (rw (c.as_slice-5.ensures.value) at c.in_ok-updates.ensures) (rw (c.as_slice-4.ensures.value) at c.in_ok-missing.ensures)

@@ -12,7 +12,7 @@ use Rattle.gix_refspec.proofs.stale.stale_refs.Goals.{in-Unwritable, in-Included
 pub loop-item_index-preserved-then-is_flagged : goal.loop-item_index-preserved-then-is_flagged
 loop-item_index-preserved-then-is_flagged c =
     tell_none c.args.specs.now (map ref_of c.args.remote.now) (map mapped_of c.in_ok-written.written.items) c.in_ok-written.ensures c.args.local.now c.in_ok-flags.flags.items
-    (rw c.as_slice-2.ensures.value at c.in_ok-flags.ensures) c.loop-item_index.item_index
+    (rw c.as_slice-3.ensures.value at c.in_ok-flags.ensures) c.loop-item_index.item_index
     (some_element c.args.local.now c.loop-item_index.item_index c.loop-item_index-test.true) c.loop-item_index-test.true c.loop-item_index.stale.items c.loop-item_index.invariant
     (inl (rw c.as_slice-in-loop-item_index.ensures.value at (c.if-is_flagged.ensures.0 refl)))
 
@@ -22,12 +22,12 @@ loop-item_index-preserved c =
     let remote = map ref_of c.args.remote.now in
     let mapped = map mapped_of c.in_ok-written.written.items in
     let flags = c.in_ok-flags.flags.items in
-    let told = rw c.as_slice-2.ensures.value at c.in_ok-flags.ensures in
+    let told = rw c.as_slice-3.ensures.value at c.in_ok-flags.ensures in
     let i = c.loop-item_index.item_index in
     let old = c.loop-item_index.stale.items in
     let state = IfOk-at_ok _ c.in_ok-state_of.was (c.state_of.ensures (map reading_of specs) c.in_ok-writers.ensures) in
     let flagged = rw c.as_slice-in-loop-item_index.ensures.value at c.if-is_flagged.ensures in
-    elim c.match-branch-6.branch [
+    elim c.match-branch-7.branch [
       | in-Unwritable w ↦ rw w.stale-is (tell_none specs remote mapped c.in_ok-written.ensures c.args.local.now flags told i _ c.loop-item_index-test.true old c.loop-item_index.invariant (inr (rw w.in-Unwritable.is at state)))
       | in-Included+in_ok-push-in-Included w ↦ rw w.stale-is
           (tell_included specs remote mapped c.in_ok-written.ensures c.args.local.now flags told i _ c.loop-item_index-test.true old c.loop-item_index.invariant _ _ refl refl (λ flag. false≢true (flagged.1 flag))

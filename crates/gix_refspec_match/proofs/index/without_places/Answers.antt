@@ -9,6 +9,6 @@ use Rattle.gix_refspec_text.proofs.lemmas.lists.MapLemmas.{map_next}
 
 pub loop-name-preserved : goal.loop-name-preserved
 loop-name-preserved c =
-    rw (map_next name_bytes c.args.names.now c.loop-name.name-index c.name-item.result c.loop-name-test.true c.name-item.is, ← c.as_bytes.ensures ∙ c.as_bstr.ensures)
-    (one_more_name _ c.as_bytes.result.now c.new.result (list_of c.loop-name.places) _ c.new.ensures.items
-    (λ q. c.in_ok-insert.ensures.updates.0 (key_of c.as_bytes.result q)) c.loop-name.invariant)
+    rw (map_next name_bytes c.args.names.now c.loop-name.name-index c.name-item.result c.loop-name-test.true c.name-item.is, ← c.as_bytes-name.ensures ∙ c.as_bstr.ensures)
+    (one_more_name _ c.as_bytes-name.result.now c.new.result (list_of c.loop-name.places) _ c.new.ensures.items
+    (λ q. c.in_ok-insert.ensures.updates.0 (key_of c.as_bytes-name.result q)) c.loop-name.invariant)

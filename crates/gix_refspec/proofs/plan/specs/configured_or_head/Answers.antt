@@ -10,7 +10,7 @@ use Rattle.gix_refspec.specs.Matching.Plan.{AreConfigured}
 use Rattle.gix_refspec.specs.Views.Plan.{asked_of}
 use Rattle.gix_refspec.proofs.lemmas.plan.SpecLemmas.{no_names, no_readings, one_more, some_names, some_readings}
 use Rattle.gix_refspec.proofs.plan.specs.configured_or_head.Goals as goal
-use Rattle.gix_refspec.proofs.plan.specs.configured_or_head.Goals.{then-not-is_empty+in_ok-configured+in_ok-merges+in_ok-append, else-not-is_empty+then-is_empty+in_ok-push, else-not-is_empty+else-is_empty}
+use Rattle.gix_refspec.proofs.plan.specs.configured_or_head.Goals.{then-not-is_empty+in_ok-names+in_ok-configured+in_ok-merges+in_ok-append, else-not-is_empty+then-is_empty+in_ok-push, else-not-is_empty+else-is_empty}
 
 pub fetch_of-requires-clause-name : goal.fetch_of-requires-clause-name
 fetch_of-requires-clause-name c = subst IsName (sym c.new.ensures) IsName-head
@@ -21,9 +21,9 @@ returns c =
     let asked = c.in_ok-asked.asked.items in
     let those = c.in_ok-asked.ensures in
     elim c.if-not-is_empty.branch [
-      | then-not-is_empty+in_ok-configured+in_ok-merges+in_ok-append w ↦ rw w.asked-is
+      | then-not-is_empty+in_ok-names+in_ok-configured+in_ok-merges+in_ok-append w ↦ rw w.asked-is
           (AreConfigured.by_configuration (map asked_of asked) (map asked_of w.in_ok-merges.merges.items) (inr (some_names wish.merges.now _ c.is_empty.ensures w.if-not-is_empty.true)) those
-          (inr (map asked_of asked, map mapped_of w.in_ok-configured.configured.items, those, rw w.as_slice.ensures.value at w.in_ok-configured.ensures, rw w.as_slice-then-not-is_empty.ensures.value at w.in_ok-merges.ensures))
+          (inr (map asked_of asked, map mapped_of w.in_ok-configured.configured.items, those, rw w.as_slice-then-not-is_empty.ensures.value at w.in_ok-configured.ensures, rw w.as_slice-then-not-is_empty-3.ensures.value at w.in_ok-merges.ensures))
           (ap (map asked_of) w.in_ok-append.ensures.items ∙ map-append asked_of asked w.in_ok-merges.merges.items))
       | else-not-is_empty+then-is_empty+in_ok-push w ↦ rw w.asked-is
           (let none = no_readings wish.configured.now _ w.is_empty-else-not-is_empty.ensures w.if-is_empty.true in

@@ -15,7 +15,7 @@ loop-index-preserved c =
     let below = c.loop-index-test.true in
     let taken = c.loop-index.taken in
     let flag = rw c.as_slice-in-loop-index.ensures.value at c.is_flagged.ensures in
-    let all = rw c.as_slice-2.ensures.value at c.in_ok-flags.ensures in
+    let all = rw c.as_slice-4.ensures.value at c.in_ok-flags.ensures in
     let each = all.each i below in
     elim c.if-is_flagged.branch [
       | then-is_flagged+in_ok-push+in_ok-push-2 w ↦ rw w.taken-is
@@ -30,7 +30,7 @@ returns c =
       asked = map asked_of c.in_ok-positive.positive.items;
       mapped = map mapped_of c.in_ok-mappings.mappings.items;
       are_asked = c.in_ok-positive.ensures;
-      are_mapped = rw c.as_slice.ensures.value at c.in_ok-mappings.ensures;
+      are_mapped = rw c.as_slice-2.ensures.value at c.in_ok-mappings.ensures;
       are_indexes = picked.are_indexes;
       are_taken = picked.are_taken;
     }

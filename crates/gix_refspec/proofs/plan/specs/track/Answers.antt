@@ -13,4 +13,4 @@ returns c = IsTracked.by_call (map asked_of c.in_ok-specs.specs.items) (map aske
     c.in_ok-specs.ensures c.in_ok-negative.ensures
     (ap (map asked_of) c.in_ok-append.ensures.items ∙ map-append asked_of c.in_ok-specs.specs.items c.in_ok-negative.negative.items)
     c.in_ok-taken.ensures
-    (rw (← c.as_slice.ensures.value, ← c.as_slice-2.ensures.value) c.in_ok-mappings.ensures)
+    (rw (c.in_ok-mappings.ensures, ← c.as_slice-2.ensures.value, ← c.as_slice-4.ensures.value) c.in_ok-borrowed.ensures)

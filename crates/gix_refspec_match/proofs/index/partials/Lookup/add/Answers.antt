@@ -14,10 +14,16 @@ returns-in-None c =
     rw c.get_mut.follows.holds-at-none
     (adds_nothing (λ x w passes was same. let none = ap (list_of c.args.places.now) same in cc (c.in-None.ensures.value)))
 
-pub returns-in-Some : goal.returns-in-Some
-returns-in-Some c =
-    let list = c.join.new.places in
+pub returns-in-First : goal.returns-in-First
+returns-in-First c =
+    let list = c.join_first.new.places in
     let updates = (c.get_mut.follows.holds list).3 (rw (← c.in-Some.ensures.value) refl) in
-    on_ok_weaker c.join.result
-    (λ joined. adds_one list (sym c.in-Some.ensures.value) joined (λ q. updates.0 (key_of c.args.partial q)))
-    c.join.ensures
+    on_ok_weaker c.join_first.result
+    (λ joined. adds_one list (sym c.in-Some.ensures.value) (rw c.in-First.is joined) (λ q. updates.0 (key_of c.args.partial q)))
+    c.join_first.ensures
+
+pub returns-in_ok-push-in-All : goal.returns-in_ok-push-in-All
+returns-in_ok-push-in-All c =
+    let list = c.push.new.self in
+    let updates = (c.get_mut.follows.holds list).3 (rw (← c.in-Some.ensures.value) refl) in
+    adds_one list (sym c.in-Some.ensures.value) (rw c.in-All.is c.in_ok-push-in-All.ensures.items) (λ q. updates.0 (key_of c.args.partial q))

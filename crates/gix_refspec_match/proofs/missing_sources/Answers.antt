@@ -10,8 +10,8 @@ use Rattle.gix_refspec_match.specs.Views.Mapping.{ref_of}
 use Rattle.gix_refspec_match.specs.Matching.Lists.{IsMadeFrom}
 use Rattle.gix_refspec_match.proofs.lemmas.hits.MissingLemmas.{IsLacking, all_missing, lacking_next}
 use Rattle.gix_refspec_match.proofs.lemmas.index.PlacedLemmas.{named_listed}
-use Rattle.gix_refspec_match.proofs.missing.missing_sources.Goals as goal
-use Rattle.gix_refspec_match.proofs.missing.missing_sources.Goals.{then-lacks+in_ok-push, else-lacks}
+use Rattle.gix_refspec_match.proofs.missing_sources.Goals as goal
+use Rattle.gix_refspec_match.proofs.missing_sources.Goals.{then-lacks+in_ok-push, else-lacks}
 use Rattle.gix_refspec_text.proofs.lemmas.lists.AllLemmas.{all_weaker}
 
 -- what a read past the end gives
