@@ -17,3 +17,4 @@ pub mod KeptFacts
 pub mod GroupFacts
 pub mod NamesDecideFacts
 pub mod StaleFacts
+pub mod LintFacts

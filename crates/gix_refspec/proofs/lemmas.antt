@@ -6,3 +6,4 @@ pub mod keep
 pub mod validate
 pub mod plan
 pub mod stale
+pub mod lint

@@ -11,3 +11,4 @@ pub mod Plans
 pub mod Fetches
 pub mod Reasons
 pub mod Names
+pub mod Lint

@@ -11,3 +11,4 @@ pub mod Validation
 pub mod RefNames
 pub mod Plan
 pub mod Stale
+pub mod Lint

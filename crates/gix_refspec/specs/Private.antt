@@ -3,3 +3,5 @@ pub mod Updates
 pub mod Plans
 pub mod Verdicts
 pub mod Stales
+pub mod Lints
+pub mod Idles

@@ -8,3 +8,4 @@ pub mod Issue
 pub use Rattle.gix_refspec_match.specs.Views.Hashed
 pub mod Plan
 pub mod Stale
+pub mod Lint

@@ -22,6 +22,7 @@ ghost use Rattle.gix_refspec.specs.Matching.RefNames.{WritesRefs};
 ghost use Rattle.gix_refspec.specs.Laws.Indexes.{MadeAtIndexes, RemainsExactly};
 ghost use Rattle.gix_refspec.specs.Laws.Plans.{NoControlCharacter, PlansApart};
 ghost use Rattle.gix_refspec.specs.Laws.Fetches.{CarriedOutExactly, ConflictsExactly, OnePlan, WritesOnce};
+ghost use Rattle.gix_refspec.specs.Laws.Lint.{ConflictFree, ConflictsShown, ExamplesConflict, IdleExclusionLeftOut, IdleLeftOut, PlanConflictFree};
 ghost use Rattle.gix_refspec.specs.Laws.Reasons.{ReasonRefuses};
 ghost use Rattle.gix_refspec.specs.Laws.Names.{PlainNames};
 ghost use Rattle.gix_refspec.specs.Views.Plan.{wish_of};
@@ -347,6 +348,41 @@ pub fn conflicts_exactly(wish: &Wish<'_, '_>, items: &[Item<'_>])
 /// never missing. If nothing is asked for, configured or merged, the remote has to have `HEAD`.
 pub fn carried_out_exactly(wish: &Wish<'_, '_>, items: &[Item<'_>])
     ensures { CarriedOutExactly (wish_of wish.now) (map ref_of items.now) }
+{}
+
+/// Two specs that conflict over any refs also conflict over the refs of two sources alone: so `possible_conflicts` has an
+/// example of them.
+pub fn conflicts_shown(specs: &[RefSpecRef<'_>])
+    ensures { ConflictsShown (map reading_of specs.now) }
+{}
+
+/// On a remote with the two sources of an example of `possible_conflicts` alone, both are mapped to its destination: both
+/// mappings are kept, their sides are valid, and their sources differ.
+pub fn examples_conflict(specs: &[RefSpecRef<'_>])
+    ensures { ExamplesConflict (map reading_of specs.now) }
+{}
+
+/// A spec that `idle_specs` reports can be left out: whatever refs with valid names a remote has, the valid pairs that are kept
+/// are the same without it.
+pub fn idle_left_out(specs: &[RefSpecRef<'_>])
+    ensures { IdleLeftOut (map reading_of specs.now) }
+{}
+
+/// And so can a negative spec that `idle_exclusions` reports, whatever refs a remote has.
+pub fn idle_exclusion_left_out(specs: &[RefSpecRef<'_>])
+    ensures { IdleExclusionLeftOut (map reading_of specs.now) }
+{}
+
+/// If `possible_conflicts` finds nothing, no two mappings conflict, whatever refs a remote has: of those that `plan_fetch` makes
+/// of these specs and doesn't leave out, two with the same destination have the same source. So a caller may skip validation.
+pub fn conflict_free(specs: &[RefSpecRef<'_>])
+    ensures { ConflictFree (map reading_of specs.now) }
+{}
+
+/// If `possible_conflicts` finds nothing among the configured specs of a wish, and nothing else is asked for, no update of
+/// `plan_fetch` is in conflict, whatever refs the remote has.
+pub fn plan_conflict_free(wish: &Wish<'_, '_>)
+    ensures { PlanConflictFree (wish_of wish.now) }
 {}
 
 /// An outcome has at most one list of conflicts, one of survivors and one of fixes: the contract of

@@ -31,6 +31,7 @@
 #![tactic(auto)]
 
 pub mod laws;
+pub mod lint;
 pub mod match_group;
 pub mod plan;
 pub mod stale;

@@ -1,0 +1,25 @@
+-- Lemmas on what specs do together.
+pub mod FewerLemmas
+pub mod ByteLemmas
+pub mod WordLemmas
+pub mod PatternLemmas
+pub mod NameAtLemmas
+pub mod OneSpecLemmas
+pub mod FreeLemmas
+pub mod FoundLemmas
+pub mod PlanFreeLemmas
+pub mod AmongLemmas
+pub mod SourceLemmas
+pub mod SpecLemmas
+pub mod FoundAtLemmas
+pub mod ExampleLemmas
+pub mod SoundLemmas
+pub mod ExclusionLemmas
+pub mod DecidingLemmas
+pub mod DecideLemmas
+pub mod IdleExclusionLemmas
+pub mod IdleLemmas
+pub mod PreferredLemmas
+pub mod WhyLemmas
+pub mod IdleSpecLemmas
+pub mod LeftOutLemmas
