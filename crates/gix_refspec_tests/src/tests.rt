@@ -11,6 +11,7 @@ mod groups;
 mod growths;
 mod hostile;
 mod large;
+mod lint;
 mod mapping;
 mod names;
 mod plans;

@@ -33,12 +33,8 @@ fn hash_of<T: Hash>(value: &T) -> u64 {
 
 // Whether two values are equal, and hash alike, or neither.
 fn check_equal<T: Hash + Debug>(rt: &impl Abort, a: &T, b: &T, wanted: bool) {
-    assert_eq!(rt; *a == *b, wanted, "at {a:?} and {b:?}");
-    assert_eq!(rt;
-        hash_of(a) == hash_of(b),
-        wanted,
-        "hashes at {a:?} and {b:?}"
-    );
+    let alike = (*a == *b, hash_of(a) == hash_of(b));
+    assert_eq!(rt; alike, (wanted, wanted), "at {a:?} and {b:?}");
 }
 
 // Takes one byte a call, and refuses the next where its room is used up.

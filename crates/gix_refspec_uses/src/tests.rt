@@ -10,15 +10,15 @@ use std::test::Fail;
 
 #[test]
 fn reads_what_is_a_refspec(rt: HostRuntime) -> Result<(), Fail> {
-    let cases = [
+    const CASES: &[(&str, bool)] = &[
         ("+refs/heads/*:refs/remotes/origin/*", true),
         ("^refs/heads/dev-*", true),
         ("refs/heads/*:refs/heads/main", false),
         ("a..b", false),
     ];
-    for (text, taken) in cases {
+    for (text, taken) in CASES {
         let spec = read(rt.alloc(), BStr::new(text.as_bytes()), Operation::Fetch)?;
-        assert_eq!(rt; spec.is_some(), taken, "at {text}");
+        assert_eq!(rt; spec.is_some(), *taken, "at {text}");
     }
     Ok(())
 }
@@ -26,23 +26,22 @@ fn reads_what_is_a_refspec(rt: HostRuntime) -> Result<(), Fail> {
 #[test]
 fn compares_by_text(rt: HostRuntime) -> Result<(), Fail> {
     let alloc = rt.alloc();
-    let cases = [
+    const CASES: &[(&str, Operation, &str, Operation, bool)] = &[
         ("main", Operation::Push, "main:main", Operation::Push, true),
         ("@:a", Operation::Fetch, "HEAD:a", Operation::Fetch, true),
         ("a:b", Operation::Fetch, "a:c", Operation::Fetch, false),
         ("a:b", Operation::Fetch, "a:b", Operation::Push, false),
     ];
-    for (a, for_a, b, for_b, same) in cases {
-        let a_spec = gix_refspec::parse(alloc, BStr::new(a.as_bytes()), for_a)?;
-        let b_spec = gix_refspec::parse(alloc, BStr::new(b.as_bytes()), for_b)?;
-        assert_eq!(rt; same_text(alloc, &a_spec, &b_spec)?, same, "at {a} and {b}");
+    for (a, for_a, b, for_b, same) in CASES {
+        let a_spec = gix_refspec::parse(alloc, BStr::new(a.as_bytes()), *for_a)?;
+        let b_spec = gix_refspec::parse(alloc, BStr::new(b.as_bytes()), *for_b)?;
         let a_owned = a_spec.to_owned(alloc)?;
         let b_owned = b_spec.to_owned(alloc)?;
-        assert_eq!(rt;
+        let found = (
+            same_text(alloc, &a_spec, &b_spec)?,
             same_owned_text(alloc, &a_owned, &b_owned)?,
-            same,
-            "at {a} and {b}"
         );
+        assert_eq!(rt; found, (*same, *same), "at {a} and {b}");
     }
     Ok(())
 }
@@ -50,7 +49,8 @@ fn compares_by_text(rt: HostRuntime) -> Result<(), Fail> {
 #[test]
 fn rereads_what_was_printed(rt: HostRuntime) -> Result<(), Fail> {
     let alloc = rt.alloc();
-    for text in ["main", "+", ":", "^a*", "+@:a", ":gone"] {
+    const TEXTS: &[&str] = &["main", "+", ":", "^a*", "+@:a", ":gone"];
+    for text in TEXTS {
         let spec = gix_refspec::parse(alloc, BStr::new(text.as_bytes()), Operation::Push)?;
         let again = reread(alloc, &spec)?;
         assert!(rt; again.to_ref() == spec, "at {text}");
@@ -62,13 +62,13 @@ fn rereads_what_was_printed(rt: HostRuntime) -> Result<(), Fail> {
 #[test]
 fn gives_canonical_texts(rt: HostRuntime) -> Result<(), Fail> {
     let alloc = rt.alloc();
-    let cases = [
+    const CASES: &[(&str, &str)] = &[
         ("", "HEAD"),
         ("+@:", "HEAD"),
         ("++a", "++a"),
         ("+a:b", "+a:b"),
     ];
-    for (text, expected) in cases {
+    for (text, expected) in CASES {
         let Some(made) = canonical(alloc, BStr::new(text.as_bytes()), Operation::Fetch)? else {
             return Err(Fail::new("no refspec"));
         };

@@ -1,17 +1,34 @@
 //! Sources that no ref of the remote has.
 
 use super::mapping::{TARGET, group_of, items_of};
+use gix_refspec::RefSpecRef;
+use gix_refspec::match_group::Item;
 use gix_refspec::oid::ObjectId;
 use gix_refspec::parsing::Operation;
-use gix_refspec_match::missing::missing_sources;
+use gix_refspec_match::missing_sources;
+use std::alloc::{AllocError, Global};
 use std::test::Fail;
+
+// The indexes of the specs whose source is missing.
+fn missing(
+    alloc: Global,
+    specs: &[RefSpecRef<'_>],
+    items: &[Item<'_>],
+) -> Result<String, AllocError> {
+    let mut text = String::new(alloc);
+    for index in &missing_sources(alloc, specs, items)? {
+        let space = if text.is_empty() { "" } else { " " };
+        text.push_str(format!(in alloc; "{space}{index}")?.as_str())?;
+    }
+    Ok(text)
+}
 
 #[test]
 fn finds_missing_sources(rt: HostRuntime) -> Result<(), Fail> {
     let alloc = rt.alloc();
     let target = ObjectId::from_hex(TARGET.as_bytes())?;
     // Specs, names of refs, and the indexes of the specs whose source is missing.
-    let rows = [
+    const ROWS: &[(&str, &str, &str)] = &[
         (
             "refs/heads/main refs/heads/next:refs/x",
             "refs/heads/main",
@@ -28,15 +45,11 @@ fn finds_missing_sources(rt: HostRuntime) -> Result<(), Fail> {
             "",
         ),
     ];
-    for (specs, names, indexes) in rows {
+    for (specs, names, indexes) in ROWS {
         let group = group_of(alloc, Operation::Fetch, specs)?;
         let items = items_of(alloc, names, &target)?;
-        let mut text = String::new(alloc);
-        for index in &missing_sources(alloc, group.specs.as_slice(), items.as_slice())? {
-            let space = if text.is_empty() { "" } else { " " };
-            text.push_str(format!(in alloc; "{space}{index}")?.as_str())?;
-        }
-        assert_eq!(&rt; text.as_str(), indexes, "{specs} among {names}");
+        let text = missing(alloc, group.specs.as_slice(), items.as_slice())?;
+        assert_eq!(&rt; text.as_str(), *indexes, "{specs} among {names}");
     }
     Ok(())
 }

@@ -1,10 +1,10 @@
 //! Both directions of matching agree on the names of two lists, where specs go both ways.
 
 use super::mapping::{group_of, items_of};
-use gix_refspec::laws;
 use gix_refspec::match_group::{Item, Mapping, SourceRef, has_id_destination};
 use gix_refspec::oid::ObjectId;
 use gix_refspec::parsing::Operation;
+use gix_refspec::{MatchGroup, laws};
 use std::alloc::{AllocError, Global};
 use std::test::Fail;
 
@@ -36,9 +36,23 @@ fn pairs(
     Ok(text)
 }
 
+// The pairs that a group maps from the left items to the right ones, and back.
+fn pairs_of(
+    alloc: Global,
+    group: MatchGroup<'_>,
+    left: &[Item<'_>],
+    right: &[Item<'_>],
+) -> Result<(String, String), Fail> {
+    let there = group.match_lhs(alloc, left)?;
+    let forward = pairs(alloc, there.mappings.as_slice(), left, right)?;
+    let back = there.group.match_rhs(alloc, right)?;
+    let backward = pairs(alloc, back.mappings.as_slice(), left, right)?;
+    Ok((forward, backward))
+}
+
 // Specs, whether they go both ways, items on the left, items on the right, and the pairs of these that are mapped from
 // left to right, and from right to left.
-const ROWS: [(&str, bool, &str, &str, &str, &str); 5] = [
+const ROWS: &[(&str, bool, &str, &str, &str, &str)] = &[
     (
         "refs/heads/*:refs/x/* refs/heads/a:refs/y/a ^refs/heads/b main",
         true,
@@ -92,20 +106,19 @@ fn agrees_in_both_directions(rt: HostRuntime) -> Result<(), Fail> {
         let (left, right) = (left.as_slice(), right.as_slice());
         let group = group_of(alloc, Operation::Fetch, specs)?;
         let goes = group.goes_both_ways();
-        assert_eq!(&rt; goes, both, "{specs}");
         laws::transpose(&group, left, right);
-        let there = group.match_lhs(alloc, left)?;
-        let found = pairs(alloc, there.mappings.as_slice(), left, right)?;
-        assert_eq!(&rt; found.as_str(), forward, "{specs}");
-        let back = there.group.match_rhs(alloc, right)?;
-        let found = pairs(alloc, back.mappings.as_slice(), left, right)?;
-        assert_eq!(&rt; found.as_str(), backward, "{specs} back");
+        let (there, back) = pairs_of(alloc, group, left, right)?;
+        assert_eq!(&rt;
+            (goes, there.as_str(), back.as_str()),
+            (*both, *forward, *backward),
+            "{specs}"
+        );
     }
     Ok(())
 }
 
 // Specs, and whether the destination of none is an object id.
-const BY_NAME: [(&str, bool); 7] = [
+const BY_NAME: &[(&str, bool)] = &[
     ("refs/heads/a:refs/x/a", true),
     ("refs/heads/a", true),
     ("^refs/heads/a refs/heads/*:refs/x/*", true),
@@ -128,9 +141,8 @@ const BY_NAME: [(&str, bool); 7] = [
 fn finds_ids_as_destinations(rt: HostRuntime) -> Result<(), Fail> {
     for (specs, none) in BY_NAME {
         let group = group_of(rt.alloc(), Operation::Fetch, specs)?;
-        assert_eq!(rt; group.asks_for_no_id(), none, "{specs}");
         let found = group.specs.iter().any(|spec| has_id_destination(spec));
-        assert_eq!(rt; found, !none, "{specs}");
+        assert_eq!(rt; (group.asks_for_no_id(), found), (*none, !none), "{specs}");
     }
     Ok(())
 }

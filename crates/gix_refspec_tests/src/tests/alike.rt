@@ -1,6 +1,6 @@
 //! Groups that map alike, what covers the sources of a group, and which items may be left out.
 
-use super::mapping::{TARGET, group_of, items_of, lines};
+use super::mapping::{TARGET, check_lines, check_match_lhs, check_match_rhs, group_of, items_of};
 use bstr::BString;
 use gix_refspec::match_group::{Item, Mapping, SourceRef};
 use gix_refspec::oid::ObjectId;
@@ -25,25 +25,19 @@ fn printed(alloc: Global, group: &MatchGroup<'_>) -> Result<String, AllocError> 
 
 // Whether a group maps items in both directions as is written.
 fn check_mappings(
-    rt: &impl Abort,
-    alloc: Global,
+    rt: &(impl Abort + AllocGlobal),
     group: MatchGroup<'_>,
     items: &[Item<'_>],
     wanted: (&str, &str),
 ) -> Result<(), Fail> {
-    let outcome = group.clone(alloc)?.match_lhs(alloc, items)?;
-    let found = lines(alloc, outcome.mappings.as_slice())?;
-    assert_eq!(rt; found.as_str(), wanted.0);
-    let outcome = group.match_rhs(alloc, items)?;
-    let found = lines(alloc, outcome.mappings.as_slice())?;
-    assert_eq!(rt; found.as_str(), wanted.1);
-    Ok(())
+    check_match_lhs(rt, group.clone(rt.alloc())?, items, wanted.0)?;
+    check_match_rhs(rt, group, items, wanted.1)
 }
 
 #[test]
 fn maps_as_the_canonical_texts(rt: HostRuntime) -> Result<(), Fail> {
     // Specs and what they print, names, and the mappings in both directions.
-    let rows = [
+    const ROWS: &[(&str, &str, &str, &str, &str)] = &[
         (
             "+main @:refs/x/h refs/tags/*:refs/y/*",
             "main HEAD:refs/x/h refs/tags/*:refs/y/*",
@@ -61,15 +55,15 @@ fn maps_as_the_canonical_texts(rt: HostRuntime) -> Result<(), Fail> {
     ];
     let alloc = rt.alloc();
     let target = ObjectId::from_hex(TARGET.as_bytes())?;
-    for (specs, texts, names, forward, backward) in rows {
+    for (specs, texts, names, forward, backward) in ROWS {
         let items = items_of(alloc, names, &target)?;
         let group = group_of(alloc, Operation::Fetch, specs)?;
         let again = group_of(alloc, Operation::Fetch, texts)?;
         let words = printed(alloc, &group)?;
-        assert_eq!(rt; words.as_str(), texts, "{specs}");
+        assert_eq!(rt; words.as_str(), *texts, "{specs}");
         laws::fetch_group_reads_back(&group, &again, items.as_slice());
-        check_mappings(&rt, alloc, group, items.as_slice(), (forward, backward))?;
-        check_mappings(&rt, alloc, again, items.as_slice(), (forward, backward))?;
+        check_mappings(&rt, group, items.as_slice(), (forward, backward))?;
+        check_mappings(&rt, again, items.as_slice(), (forward, backward))?;
     }
     Ok(())
 }
@@ -77,7 +71,7 @@ fn maps_as_the_canonical_texts(rt: HostRuntime) -> Result<(), Fail> {
 #[test]
 fn equal_fetches_map_alike(rt: HostRuntime) -> Result<(), Fail> {
     // Two groups, whether they are equal, names, and the mappings of each from left to right.
-    let rows = [
+    const ROWS: &[(&str, &str, bool, &str, &str, &str)] = &[
         (
             "+main @:refs/x/h",
             "main HEAD:refs/x/h",
@@ -113,18 +107,14 @@ fn equal_fetches_map_alike(rt: HostRuntime) -> Result<(), Fail> {
     ];
     let alloc = rt.alloc();
     let target = ObjectId::from_hex(TARGET.as_bytes())?;
-    for (specs, others, equal, names, wanted, of_others) in rows {
+    for (specs, others, equal, names, wanted, of_others) in ROWS {
         let items = items_of(alloc, names, &target)?;
         let group = group_of(alloc, Operation::Fetch, specs)?;
         let other = group_of(alloc, Operation::Fetch, others)?;
         laws::equal_groups(&group, &other, items.as_slice());
-        assert_eq!(rt; group.specs == other.specs, equal, "{specs} and {others}");
-        let group = group.match_lhs(alloc, items.as_slice())?;
-        let found = lines(alloc, group.mappings.as_slice())?;
-        assert_eq!(rt; found.as_str(), wanted, "{specs}");
-        let other = other.match_lhs(alloc, items.as_slice())?;
-        let found = lines(alloc, other.mappings.as_slice())?;
-        assert_eq!(rt; found.as_str(), of_others, "{others}");
+        assert_eq!(rt; group.specs == other.specs, *equal, "{specs} and {others}");
+        check_match_lhs(&rt, group, items.as_slice(), wanted)?;
+        check_match_lhs(&rt, other, items.as_slice(), of_others)?;
     }
     Ok(())
 }
@@ -139,7 +129,7 @@ fn is_covered(mapping: &Mapping<'_, '_>, entries: &[BString]) -> bool {
 
 // Specs, names, the mappings, whether each spec has a covering source, and whether entries cover the
 // sources of the mappings.
-const COVERING: [(&str, &str, &str, bool, bool); 7] = [
+const COVERING: &[(&str, &str, &str, bool, bool)] = &[
     (
         "main refs/heads/*:refs/x/*",
         "refs/remotes/main/HEAD refs/heads/z",
@@ -217,24 +207,37 @@ fn covers_the_sources(rt: HostRuntime) -> Result<(), Fail> {
         let items = items_of(alloc, names, &target)?;
         let group = group_of(alloc, Operation::Fetch, specs)?;
         let entries = entries_of(alloc, &group)?;
-        let has = group.has_covering_sources();
-        assert_eq!(rt; has, covering, "{specs}");
+        assert_eq!(rt; group.has_covering_sources(), *covering, "{specs}");
         laws::cover(&group, items.as_slice());
         let outcome = group.match_lhs(alloc, items.as_slice())?;
-        let found = lines(alloc, outcome.mappings.as_slice())?;
-        assert_eq!(rt; found.as_str(), wanted, "{specs} over {names}");
+        check_lines(&rt, outcome.mappings.as_slice(), wanted)?;
         for mapping in &outcome.mappings {
             let is = is_covered(mapping, entries.as_slice());
-            assert_eq!(rt; is, covered, "{specs} over {names}");
+            assert_eq!(rt; is, *covered, "{specs} over {names}");
         }
     }
     Ok(())
 }
 
+// The items whose names begin with one of the entries.
+fn listed_of<'a>(
+    alloc: Global,
+    items: &[Item<'a>],
+    entries: &[BString],
+) -> Result<Vec<Item<'a>>, AllocError> {
+    let mut listed = Vec::new(alloc);
+    for item in items {
+        if begins_with_one(item.full_ref_name.as_bytes(), entries) {
+            listed.push(*item)?;
+        }
+    }
+    Ok(listed)
+}
+
 #[test]
 fn listed_refs_lose_no_pair(rt: HostRuntime) -> Result<(), Fail> {
     // Specs, names, and the mappings of all, and of those that begin with an entry.
-    let rows = [
+    const ROWS: &[(&str, &str, &str, &str)] = &[
         (
             "refs/heads/*:refs/x/* ^refs/heads/b",
             "refs/tags/a refs/heads/a refs/heads/b",
@@ -264,24 +267,15 @@ fn listed_refs_lose_no_pair(rt: HostRuntime) -> Result<(), Fail> {
     ];
     let alloc = rt.alloc();
     let target = ObjectId::from_hex(TARGET.as_bytes())?;
-    for (specs, names, wanted, of_listed) in rows {
+    for (specs, names, wanted, of_listed) in ROWS {
         let items = items_of(alloc, names, &target)?;
         let group = group_of(alloc, Operation::Fetch, specs)?;
         let entries = entries_of(alloc, &group)?;
-        let mut listed = Vec::new(alloc);
-        for item in &items {
-            if begins_with_one(item.full_ref_name.as_bytes(), entries.as_slice()) {
-                listed.push(*item)?;
-            }
-        }
+        let listed = listed_of(alloc, items.as_slice(), entries.as_slice())?;
         laws::fewer_items(&group, items.as_slice(), listed.as_slice());
         laws::listed_items(&group, items.as_slice(), listed.as_slice());
-        let whole = group.clone(alloc)?.match_lhs(alloc, items.as_slice())?;
-        let found = lines(alloc, whole.mappings.as_slice())?;
-        assert_eq!(rt; found.as_str(), wanted, "{specs} over {names}");
-        let part = group.match_lhs(alloc, listed.as_slice())?;
-        let found = lines(alloc, part.mappings.as_slice())?;
-        assert_eq!(rt; found.as_str(), of_listed, "{specs} over {names}, listed");
+        check_match_lhs(&rt, group.clone(alloc)?, items.as_slice(), wanted)?;
+        check_match_lhs(&rt, group, listed.as_slice(), of_listed)?;
     }
     Ok(())
 }

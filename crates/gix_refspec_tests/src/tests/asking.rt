@@ -32,48 +32,48 @@ fn asked(alloc: Global, names: Option<Vec<BString>>) -> Result<String, AllocErro
 
 #[test]
 fn gathers_what_a_group_asks_for(rt: HostRuntime) -> Result<(), Fail> {
-    let head =
+    const HEAD: &str =
         "HEAD\nrefs/HEAD\nrefs/tags/HEAD\nrefs/heads/HEAD\nrefs/remotes/HEAD\nrefs/remotes/HEAD/HEAD\n";
-    let rows = [
-        ([].as_slice(), ""),
+    const ROWS: &[(&[&str], &str)] = &[
+        (&[], ""),
         (
-            ["+refs/heads/*:refs/remotes/origin/*", "^refs/heads/wip/*"].as_slice(),
+            &["+refs/heads/*:refs/remotes/origin/*", "^refs/heads/wip/*"],
             "refs/heads/\n",
         ),
         (
-            ["refs/tags/v1:refs/tags/v1", "refs/heads/a"].as_slice(),
+            &["refs/tags/v1:refs/tags/v1", "refs/heads/a"],
             "refs/tags/v1\nrefs/heads/a\n",
         ),
         (
-            ["main"].as_slice(),
+            &["main"],
             "main\nrefs/main\nrefs/tags/main\nrefs/heads/main\nrefs/remotes/main\nrefs/remotes/main/HEAD\n",
         ),
         // `HEAD` may be short for a longer name, too.
-        (["HEAD"].as_slice(), head),
-        ([":refs/x/a"].as_slice(), head),
+        (&["HEAD"], HEAD),
+        (&[":refs/x/a"], HEAD),
         // Ids and negative specs ask for nothing.
-        ([ID].as_slice(), ""),
-        (["^main", "^refs/*"].as_slice(), ""),
+        (&[ID], ""),
+        (&["^main", "^refs/*"], ""),
         // No list serves these.
-        (["main", "*:refs/x/*"].as_slice(), "all"),
-        (["refs/*:refs/x/*"].as_slice(), "all"),
-        (["refs/*/head:refs/x/*", "main"].as_slice(), "all"),
-        (["refs/a]/*:refs/x/*"].as_slice(), "all"),
-        (["refs/a]*:refs/x/*"].as_slice(), "all"),
+        (&["main", "*:refs/x/*"], "all"),
+        (&["refs/*:refs/x/*"], "all"),
+        (&["refs/*/head:refs/x/*", "main"], "all"),
+        (&["refs/a]/*:refs/x/*"], "all"),
+        (&["refs/a]*:refs/x/*"], "all"),
         // A `]` after the star does no harm.
-        (["refs/a*]:refs/x/*"].as_slice(), "refs/a\n"),
+        (&["refs/a*]:refs/x/*"], "refs/a\n"),
     ];
     let alloc = rt.alloc();
-    for (texts, wanted) in rows {
+    for (texts, wanted) in ROWS {
         let found = asked(alloc, names_to_ask(alloc, texts)?)?;
-        assert_eq!(rt; found.as_str(), wanted, "at {texts:?}");
+        assert_eq!(rt; found.as_str(), *wanted, "at {texts:?}");
     }
     Ok(())
 }
 
 #[test]
 fn gathers_what_a_push_asks_for(rt: HostRuntime) -> Result<(), Fail> {
-    let rows = [
+    const ROWS: &[(&str, &str)] = &[
         ("main:refs/heads/x", "refs/heads/x\n"),
         ("refs/heads/*:refs/x/*", "refs/x/\n"),
         (":refs/heads/x", "refs/heads/x\n"),
@@ -83,11 +83,11 @@ fn gathers_what_a_push_asks_for(rt: HostRuntime) -> Result<(), Fail> {
         ("refs/heads/*:refs/*", "all"),
     ];
     let alloc = rt.alloc();
-    for (text, wanted) in rows {
+    for (text, wanted) in ROWS {
         let mut specs = Vec::new(alloc);
         specs.push(parse(alloc, BStr::new(text.as_bytes()), Operation::Push)?)?;
         let found = asked(alloc, MatchGroup { specs }.ref_prefixes(alloc)?)?;
-        assert_eq!(rt; found.as_str(), wanted, "at {text}");
+        assert_eq!(rt; found.as_str(), *wanted, "at {text}");
     }
     Ok(())
 }

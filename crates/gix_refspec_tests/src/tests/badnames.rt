@@ -39,7 +39,7 @@ fn checked(alloc: Global, outcome: match_lhs::Outcome<'_, '_>) -> Result<String,
 }
 
 // Specs, names of items, and what is kept and left out of what they map.
-const CHECKED: [(&str, &str, &str); 11] = [
+const CHECKED: &[(&str, &str, &str)] = &[
     ("refs/heads/*:refs/x/*", "", ""),
     (
         "refs/heads/*:refs/x/*",
@@ -110,7 +110,7 @@ fn keeps_names_of_refs(rt: HostRuntime) -> Result<(), Fail> {
         let items = items_of(alloc, names, &target)?;
         let group = group_of(alloc, Operation::Fetch, texts)?;
         let answer = checked(alloc, group.match_lhs(alloc, items.as_slice())?)?;
-        assert_eq!(rt; answer.as_str(), told, "at {texts}");
+        assert_eq!(rt; answer.as_str(), *told, "at {texts}");
     }
     Ok(())
 }
@@ -139,7 +139,7 @@ fn keeps_names_of_refs_after_a_validation(rt: HostRuntime) -> Result<(), Fail> {
 
 // Texts, whether they are valid ref names, as `git check-ref-format` says of those that begin `refs/`, and whether a
 // destination of this name is written.
-const TEXTS: [(&str, bool, bool); 13] = [
+const TEXTS: &[(&str, bool, bool)] = &[
     ("refs/heads/main", true, true),
     ("refs/a", true, true),
     ("refs/heads/é", true, true),
@@ -158,8 +158,8 @@ const TEXTS: [(&str, bool, bool); 13] = [
 #[test]
 fn recognises_ref_names(rt: HostRuntime) {
     for (text, is_name, writable) in TEXTS {
-        assert_eq!(rt; is_ref_name(text.as_bytes()), is_name, "at {text}");
-        assert_eq!(rt; is_writable(text.as_bytes()), writable, "at {text}");
+        let found = (is_ref_name(text.as_bytes()), is_writable(text.as_bytes()));
+        assert_eq!(rt; found, (*is_name, *writable), "at {text}");
     }
 }
 

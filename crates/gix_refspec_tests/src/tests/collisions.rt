@@ -2,9 +2,10 @@
 
 use super::mapping::{group_of, item_of};
 use bstr::BStr;
-use gix_refspec::match_group::{Mapping, NameRef, SourceRef};
+use gix_refspec::match_group::{Item, Mapping, NameRef, SourceRef};
 use gix_refspec::oid::ObjectId;
 use gix_refspec::parsing::Operation;
+use std::alloc::{AllocError, Global};
 use std::hash::{FoldHasher, Hash, Hasher};
 use std::test::Fail;
 
@@ -37,6 +38,19 @@ fn mapping_of<'a>(pair: (&'a [u8], &'a [u8])) -> Mapping<'a, 'a> {
     }
 }
 
+// Items with these names.
+fn items_of<'a>(
+    alloc: Global,
+    names: &[&'a [u8]],
+    target: &'a ObjectId,
+) -> Result<Vec<Item<'a>>, AllocError> {
+    let mut items = Vec::new(alloc);
+    for name in names {
+        items.push(item_of(name, target))?;
+    }
+    Ok(items)
+}
+
 #[test]
 fn tells_pairs_of_one_hash_apart(rt: HostRuntime) -> Result<(), Fail> {
     let alloc = rt.alloc();
@@ -44,18 +58,19 @@ fn tells_pairs_of_one_hash_apart(rt: HostRuntime) -> Result<(), Fail> {
     let second = COLLIDING[1];
     assert_eq!(rt; hash_of(&mapping_of(first)), hash_of(&mapping_of(second)));
     let id = ObjectId::from_hex(b"e69de29bb2d1d6434b8b29ae775ad8c2e48c5391")?;
-    let mut items = Vec::new(alloc);
-    for pair in [second, first, second, first, second] {
-        items.push(item_of(pair.0, &id))?;
-    }
+    let names = [second.0, first.0, second.0, first.0, second.0];
+    let items = items_of(alloc, &names, &id)?;
     // Where no source is mapped twice, no pair is hashed.
     let specs = "refs/heads/*:refs/remotes/origin/* refs/heads/*:refs/x/*";
     let group = group_of(alloc, Operation::Fetch, specs)?;
     let outcome = group.match_lhs(alloc, items.as_slice())?;
-    let mut places = String::new(alloc);
+    let mut places = Vec::new(alloc);
     for mapping in &outcome.mappings {
-        places.push_str(format!(in alloc; "{:?} ", mapping.item_index)?.as_str())?;
+        places.push(mapping.item_index)?;
     }
-    assert_eq!(rt; places.as_str(), "Some(0) Some(1) Some(0) Some(1) ");
+    assert_eq!(rt;
+        places.as_slice(),
+        [Some(0), Some(1), Some(0), Some(1)].as_slice()
+    );
     Ok(())
 }

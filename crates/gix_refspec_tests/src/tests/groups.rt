@@ -58,7 +58,7 @@ fn source_in<'a>(alloc: Global, text: &'a str) -> Result<SourceRef<'a>, AllocErr
 fn compares_mappings_by_their_pairs(rt: HostRuntime) -> Result<(), Fail> {
     let alloc = rt.alloc();
     // Whether the mapping of a row equals the first row's.
-    let rows = [
+    const ROWS: &[(&str, &str, bool)] = &[
         ("a", "x", true),
         ("a", "x", true),
         ("b", "x", false),
@@ -71,15 +71,10 @@ fn compares_mappings_by_their_pairs(rt: HostRuntime) -> Result<(), Fail> {
         rhs: Some(NameRef::Borrowed(BStr::new(b"x"))),
         spec_index: 7,
     };
-    for (source, destination, same) in rows {
-        let mappings = mappings_of(alloc, &[(source, destination)])?;
-        for mapping in &mappings {
-            assert_eq!(rt; *mapping == first, same, "at {source}:{destination}");
-            assert_eq!(rt;
-                hash_of(mapping) == hash_of(&first),
-                same,
-                "hash at {source}:{destination}"
-            );
+    for (source, destination, same) in ROWS {
+        for mapping in &mappings_of(alloc, &[(*source, *destination)])? {
+            let alike = (*mapping == first, hash_of(mapping) == hash_of(&first));
+            assert_eq!(rt; alike, (*same, *same), "at {source}:{destination}");
         }
     }
     Ok(())
@@ -113,7 +108,7 @@ fn pairs_of<'a>(
 #[test]
 fn compares_names_by_their_bytes(rt: HostRuntime) -> Result<(), Fail> {
     // The names of a row are equal, and those of different rows are not.
-    let rows = [
+    const ROWS: &[[&str; 2]] = &[
         ["", "="],
         ["a", "=a"],
         ["A", "=A"],
@@ -124,10 +119,10 @@ fn compares_names_by_their_bytes(rt: HostRuntime) -> Result<(), Fail> {
         ["refs/heads/é", "=refs/heads/é"],
     ];
     let alloc = rt.alloc();
-    for (a, b, same) in pairs_of(alloc, &rows)? {
+    for (a, b, same) in pairs_of(alloc, ROWS)? {
         let (name, other) = (name_of(alloc, a)?, name_of(alloc, b)?);
-        assert_eq!(rt; name == other, same, "at {a} and {b}");
-        assert_eq!(rt; hash_alike(&name, &other), same, "hashes at {a} and {b}");
+        let alike = (name == other, hash_alike(&name, &other));
+        assert_eq!(rt; alike, (same, same), "at {a} and {b}");
     }
     Ok(())
 }
@@ -136,7 +131,7 @@ fn compares_names_by_their_bytes(rt: HostRuntime) -> Result<(), Fail> {
 fn compares_sources_by_names_and_ids(rt: HostRuntime) -> Result<(), Fail> {
     // The sources of a row are equal, and those of different rows are not. Names may be the digits
     // of an id, or its bytes.
-    let rows = [
+    const ROWS: &[[&str; 2]] = &[
         ["refs/heads/a", "=refs/heads/a"],
         [
             "e69de29bb2d1d6434b8b29ae775ad8c2e48c5391",
@@ -161,10 +156,10 @@ fn compares_sources_by_names_and_ids(rt: HostRuntime) -> Result<(), Fail> {
         ],
     ];
     let alloc = rt.alloc();
-    for (a, b, same) in pairs_of(alloc, &rows)? {
+    for (a, b, same) in pairs_of(alloc, ROWS)? {
         let (source, other) = (source_in(alloc, a)?, source_in(alloc, b)?);
-        assert_eq!(rt; source == other, same, "at {a} and {b}");
-        assert_eq!(rt; hash_alike(&source, &other), same, "hashes at {a} and {b}");
+        let alike = (source == other, hash_alike(&source, &other));
+        assert_eq!(rt; alike, (same, same), "at {a} and {b}");
     }
     Ok(())
 }

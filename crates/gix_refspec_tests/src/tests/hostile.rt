@@ -1,6 +1,8 @@
 //! Names, groups and outcomes that no tool makes, and how long what a call answers lives.
 
-use super::mapping::{TARGET, group_of, item_of, items_of, lines, mapped};
+use super::mapping::{
+    TARGET, check_lines, check_match_lhs, check_match_rhs, group_of, item_of, items_of, mapped,
+};
 use bstr::BStr;
 use gix_refspec::match_group::{Mapping, NameRef, Outcome, match_lhs};
 use gix_refspec::oid::ObjectId;
@@ -13,7 +15,7 @@ use std::test::Fail;
 fn maps_names_of_any_bytes(rt: HostRuntime) -> Result<(), Fail> {
     let alloc = rt.alloc();
     let target = ObjectId::from_hex(TARGET.as_bytes())?;
-    let rows = [
+    const ROWS: &[(&str, &str, &str)] = &[
         // The ends of a pattern don't overlap.
         (
             "refs/heads/aba*aba:refs/x/*",
@@ -33,11 +35,17 @@ fn maps_names_of_any_bytes(rt: HostRuntime) -> Result<(), Fail> {
         // The empty name.
         ("*:refs/x/*", "", "0 0  =refs/x/\n"),
     ];
-    for (specs, names, wanted) in rows {
+    for (specs, names, wanted) in ROWS {
         let outcome = mapped(alloc, specs, names, &target)?;
-        let found = lines(alloc, outcome.mappings.as_slice())?;
-        assert_eq!(rt; found.as_str(), wanted, "{specs} over {names}");
+        check_lines(&rt, outcome.mappings.as_slice(), wanted)?;
     }
+    Ok(())
+}
+
+#[test]
+fn maps_names_that_are_no_text(rt: HostRuntime) -> Result<(), Fail> {
+    let alloc = rt.alloc();
+    let target = ObjectId::from_hex(TARGET.as_bytes())?;
     let items = [item_of(b"refs/heads/\xff\x00", &target)];
     let group = group_of(alloc, Operation::Fetch, "refs/heads/*:refs/x/*")?;
     let outcome = group.match_lhs(alloc, &items)?;
@@ -59,15 +67,13 @@ fn maps_groups_made_by_hand(rt: HostRuntime) -> Result<(), Fail> {
     let negative = parse(alloc, BStr::new(b"^refs/heads/a"), Operation::Push)?;
     group.specs.push(negative)?;
     let items = items_of(alloc, "refs/heads/a refs/heads/b", &target)?;
-    let outcome = group.match_lhs(alloc, items.as_slice())?;
-    let found = lines(alloc, outcome.mappings.as_slice())?;
-    assert_eq!(rt; found.as_str(), "1 0 refs/heads/b =refs/x/b\n");
+    check_match_lhs(&rt, group, items.as_slice(), "1 0 refs/heads/b =refs/x/b\n")?;
 
     // What deletes, and all matching branches, map nothing in either direction.
     let items = items_of(alloc, "refs/heads/x", &target)?;
-    let forward = group_of(alloc, Operation::Push, ":x :")?.match_lhs(alloc, items.as_slice())?;
-    let backward = group_of(alloc, Operation::Push, ":x :")?.match_rhs(alloc, items.as_slice())?;
-    assert!(rt; forward.mappings.is_empty() && backward.mappings.is_empty());
+    let group = group_of(alloc, Operation::Push, ":x :")?;
+    check_match_lhs(&rt, group.clone(alloc)?, items.as_slice(), "")?;
+    check_match_rhs(&rt, group, items.as_slice(), "")?;
 
     // No mapping needs no spec.
     let empty = match_lhs::Outcome {
@@ -99,39 +105,48 @@ fn cloned_name<'n>(alloc: Global, name: NameRef<'n>) -> Result<NameRef<'n>, Allo
     name.clone(alloc)
 }
 
+// Two specs, of which the first fills a name, and the second hands one on.
+const FILLED_AND_BORROWED: &str = "refs/heads/*:refs/x/* refs/heads/a:refs/y/a";
+
+// What they map `refs/heads/a` to.
+const BOTH: &str = "0 0 refs/heads/a =refs/x/a\n0 1 refs/heads/a refs/y/a\n";
+
 #[test]
 fn answers_outlive_lists_and_what_they_are_clones_of(rt: HostRuntime) -> Result<(), Fail> {
     let alloc = rt.alloc();
     let target = ObjectId::from_hex(TARGET.as_bytes())?;
-    let specs = "refs/heads/*:refs/x/* refs/heads/a:refs/y/a";
-    let there = cloned(alloc, mapped(alloc, specs, "refs/heads/a", &target)?)?;
-    let found = lines(alloc, there.mappings.as_slice())?;
-    assert_eq!(rt;
-        found.as_str(),
-        "0 0 refs/heads/a =refs/x/a\n0 1 refs/heads/a refs/y/a\n"
-    );
-    let back = {
-        let items = items_of(alloc, "refs/x/a refs/y/a", &target)?;
-        group_of(alloc, Operation::Fetch, specs)?.match_rhs(alloc, items.as_slice())?
-    };
-    let back = cloned(alloc, back)?;
-    let found = lines(alloc, back.mappings.as_slice())?;
-    assert_eq!(rt;
-        found.as_str(),
-        "0 0 =refs/heads/a refs/x/a\n1 1 refs/heads/a refs/y/a\n"
-    );
+    let there = mapped(alloc, FILLED_AND_BORROWED, "refs/heads/a", &target)?;
+    let there = cloned(alloc, there)?;
+    check_lines(&rt, there.mappings.as_slice(), BOTH)?;
     let first = there.mappings.first().ok_or("no mapping")?.clone(alloc)?;
     let copy = cloned_mapping(alloc, first)?;
     let name = cloned_name(alloc, copy.rhs.ok_or("no destination")?)?;
     assert_eq!(rt; name.as_bstr().as_bytes(), b"refs/x/a".as_slice());
-    // A validation hands the names on as they were, borrowed or owned.
+    Ok(())
+}
+
+#[test]
+fn answers_from_right_to_left_outlive_lists(rt: HostRuntime) -> Result<(), Fail> {
+    let alloc = rt.alloc();
+    let target = ObjectId::from_hex(TARGET.as_bytes())?;
+    let back = {
+        let items = items_of(alloc, "refs/x/a refs/y/a", &target)?;
+        let group = group_of(alloc, Operation::Fetch, FILLED_AND_BORROWED)?;
+        group.match_rhs(alloc, items.as_slice())?
+    };
+    let back = cloned(alloc, back)?;
+    let wanted = "0 0 =refs/heads/a refs/x/a\n1 1 refs/heads/a refs/y/a\n";
+    check_lines(&rt, back.mappings.as_slice(), wanted)
+}
+
+// A validation hands the names on as they were, borrowed or owned.
+#[test]
+fn validations_hand_names_on(rt: HostRuntime) -> Result<(), Fail> {
+    let alloc = rt.alloc();
+    let target = ObjectId::from_hex(TARGET.as_bytes())?;
+    let there = mapped(alloc, FILLED_AND_BORROWED, "refs/heads/a", &target)?;
     assert!(rt; there.indexes_fit());
     let (left, fixes) = there.validated(alloc)?;
-    let found = lines(alloc, left.mappings.as_slice())?;
-    assert_eq!(rt;
-        found.as_str(),
-        "0 0 refs/heads/a =refs/x/a\n0 1 refs/heads/a refs/y/a\n"
-    );
     assert!(rt; fixes.is_empty());
-    Ok(())
+    check_lines(&rt, left.mappings.as_slice(), BOTH)
 }

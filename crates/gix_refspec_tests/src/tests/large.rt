@@ -51,6 +51,19 @@ fn check_names(rt: &impl Abort, mappings: &[Mapping<'_, '_>], count: usize) {
     }
 }
 
+// A spec for each source and the destination at its index.
+fn joined(
+    alloc: Global,
+    sources: &[String],
+    destinations: &[String],
+) -> Result<Vec<String>, AllocError> {
+    let mut specs = Vec::with_capacity(alloc, sources.len())?;
+    for (source, destination) in sources.iter().zip(destinations) {
+        specs.push(format!(in alloc; "{source}:{destination}")?)?;
+    }
+    Ok(specs)
+}
+
 #[test]
 fn maps_many_full_names(rt: HostRuntime) -> Result<(), Fail> {
     let alloc = rt.alloc();
@@ -58,10 +71,7 @@ fn maps_many_full_names(rt: HostRuntime) -> Result<(), Fail> {
     let count = 30_000;
     let left = numbered(alloc, "refs/heads/", count)?;
     let right = numbered(alloc, "refs/x/", count)?;
-    let mut specs = Vec::with_capacity(alloc, count)?;
-    for (source, destination) in left.iter().zip(&right) {
-        specs.push(format!(in alloc; "{source}:{destination}")?)?;
-    }
+    let specs = joined(alloc, left.as_slice(), right.as_slice())?;
     let group = group_of(alloc, specs.as_slice())?;
     let remote = items_of(alloc, left.as_slice(), &target)?;
     let there = group.clone(alloc)?.match_lhs(alloc, remote.as_slice())?;

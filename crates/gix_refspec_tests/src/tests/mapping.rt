@@ -93,6 +93,39 @@ pub(super) fn lines(alloc: Global, mappings: &[Mapping<'_, '_>]) -> Result<Strin
     Ok(text)
 }
 
+// Whether mappings are as rows write them.
+pub(super) fn check_lines(
+    rt: &(impl Abort + AllocGlobal),
+    mappings: &[Mapping<'_, '_>],
+    wanted: &str,
+) -> Result<(), Fail> {
+    let found = lines(rt.alloc(), mappings)?;
+    assert_eq!(rt; found.as_str(), wanted);
+    Ok(())
+}
+
+// Whether a group maps items from left to right as rows write it.
+pub(super) fn check_match_lhs(
+    rt: &(impl Abort + AllocGlobal),
+    group: MatchGroup<'_>,
+    items: &[Item<'_>],
+    wanted: &str,
+) -> Result<(), Fail> {
+    let outcome = group.match_lhs(rt.alloc(), items)?;
+    check_lines(rt, outcome.mappings.as_slice(), wanted)
+}
+
+// Likewise from right to left.
+pub(super) fn check_match_rhs(
+    rt: &(impl Abort + AllocGlobal),
+    group: MatchGroup<'_>,
+    items: &[Item<'_>],
+    wanted: &str,
+) -> Result<(), Fail> {
+    let outcome = group.match_rhs(rt.alloc(), items)?;
+    check_lines(rt, outcome.mappings.as_slice(), wanted)
+}
+
 // What fetches map over a list of items that ends here, from left to right. It borrows the specs and the
 // names.
 pub(super) fn mapped<'s, 'i>(
@@ -130,14 +163,27 @@ fn check(
     for (specs, names, wanted) in rows {
         let items = items_of(alloc, names, &target)?;
         let group = group_of(alloc, operation, specs)?;
-        let (found, copied) = match direction {
-            Direction::Forward => with_copy(alloc, &group.match_lhs(alloc, items.as_slice())?)?,
-            Direction::Backward => with_copy(alloc, &group.match_rhs(alloc, items.as_slice())?)?,
-        };
-        assert_eq!(rt; found.as_str(), *wanted, "{specs} over {names}");
-        assert_eq!(rt; copied.as_str(), *wanted, "{specs} over {names}, copied");
+        let (found, copied) = in_direction(alloc, direction, group, items.as_slice())?;
+        assert_eq!(rt;
+            (found.as_str(), copied.as_str()),
+            (*wanted, *wanted),
+            "{specs} over {names}"
+        );
     }
     Ok(())
+}
+
+// What a group maps items to in a direction, and a copy of the outcome, as rows write them.
+fn in_direction(
+    alloc: Global,
+    direction: Direction,
+    group: MatchGroup<'_>,
+    items: &[Item<'_>],
+) -> Result<(String, String), Fail> {
+    Ok(match direction {
+        Direction::Forward => with_copy(alloc, &group.match_lhs(alloc, items)?)?,
+        Direction::Backward => with_copy(alloc, &group.match_rhs(alloc, items)?)?,
+    })
 }
 
 // The mappings of an outcome, and of a copy of it, as rows write them.
@@ -154,7 +200,7 @@ fn with_copy<const FORWARD: bool>(
 
 #[test]
 fn maps_from_left_to_right(rt: HostRuntime) -> Result<(), Fail> {
-    let rows = [
+    const ROWS: &[(&str, &str, &str)] = &[
         (
             "refs/heads/a*a:refs/x/b*",
             "refs/heads/a refs/heads/aa",
@@ -207,12 +253,12 @@ fn maps_from_left_to_right(rt: HostRuntime) -> Result<(), Fail> {
             "1 1 refs/heads/HEAD refs/y\n",
         ),
     ];
-    check_forward(&rt, &rows)
+    check_forward(&rt, ROWS)
 }
 
 #[test]
 fn keeps_each_pair_once(rt: HostRuntime) -> Result<(), Fail> {
-    let rows = [
+    const ROWS: &[(&str, &str, &str)] = &[
         // A pair is a source and a destination, and its first mapping stays.
         (
             "refs/heads/a refs/heads/a:refs/x refs/heads/a:refs/y refs/heads/b:refs/x +refs/heads/a:refs/x",
@@ -227,11 +273,11 @@ fn keeps_each_pair_once(rt: HostRuntime) -> Result<(), Fail> {
              1 0 refs/heads/4b2c557329ca4bff =refs/x/4b2c557329ca4bff\n",
         ),
     ];
-    check_forward(&rt, &rows)
+    check_forward(&rt, ROWS)
 }
 
 // Specs, names of which some repeat, and what is mapped from left to right.
-const REPEATED: [(&str, &str, &str); 5] = [
+const REPEATED: &[(&str, &str, &str)] = &[
     // Each spec takes the first item of a name, and indexes are those among all items.
     (
         "refs/heads/*:refs/x/* refs/heads/a:refs/y b:refs/z",
@@ -265,7 +311,7 @@ const REPEATED: [(&str, &str, &str); 5] = [
 ];
 
 // Likewise from right to left.
-const REPEATED_BACK: [(&str, &str, &str); 2] = [
+const REPEATED_BACK: &[(&str, &str, &str)] = &[
     (
         "refs/heads/*:refs/x/* refs/tags/main:refs/x/main refs/q:main",
         "refs/z refs/x/main refs/x/main refs/heads/main refs/z refs/main refs/heads/main",
@@ -282,12 +328,12 @@ const REPEATED_BACK: [(&str, &str, &str); 2] = [
 
 #[test]
 fn maps_repeated_names_once(rt: HostRuntime) -> Result<(), Fail> {
-    check_forward(&rt, &REPEATED)?;
-    check_backward(&rt, &REPEATED_BACK)
+    check_forward(&rt, REPEATED)?;
+    check_backward(&rt, REPEATED_BACK)
 }
 
 // Of specs with the same sides the first one maps, forced or not. Of the others each maps what it did.
-const EQUAL: [(&str, &str, &str); 2] = [
+const EQUAL: &[(&str, &str, &str)] = &[
     (
         "refs/heads/*:refs/x/* ^refs/heads/b +refs/heads/*:refs/x/* refs/heads/*:refs/y/* refs/heads/*:refs/y/*",
         "refs/heads/a refs/heads/b refs/heads/c",
@@ -301,7 +347,7 @@ const EQUAL: [(&str, &str, &str); 2] = [
 ];
 
 // Likewise from right to left.
-const EQUAL_BACK: [(&str, &str, &str); 1] = [(
+const EQUAL_BACK: &[(&str, &str, &str)] = &[(
     "refs/heads/*:refs/x/* refs/tags/*:refs/x/* +refs/heads/*:refs/x/* refs/tags/*:refs/x/*",
     "refs/x/a refs/y/a refs/x/b",
     "0 0 =refs/heads/a refs/x/a\n2 0 =refs/heads/b refs/x/b\n0 1 =refs/tags/a refs/x/a\n2 1 =refs/tags/b refs/x/b\n",
@@ -309,8 +355,8 @@ const EQUAL_BACK: [(&str, &str, &str); 1] = [(
 
 #[test]
 fn maps_equal_specs_once(rt: HostRuntime) -> Result<(), Fail> {
-    check_forward(&rt, &EQUAL)?;
-    check_backward(&rt, &EQUAL_BACK)
+    check_forward(&rt, EQUAL)?;
+    check_backward(&rt, EQUAL_BACK)
 }
 
 // Two items of one name, of which the second one points to the id that is asked for.
@@ -326,15 +372,17 @@ fn takes_the_item_that_points_to_an_id(rt: HostRuntime) -> Result<(), Fail> {
     )?;
     let mut items = items_of(alloc, "refs/a refs/a", &other)?;
     items.push(item_of(b"refs/a", &target))?;
-    let outcome = group.match_rhs(alloc, items.as_slice())?;
-    let found = lines(alloc, outcome.mappings.as_slice())?;
-    assert_eq!(&rt; found.as_str(), "2 0 =refs/heads/main refs/a\n");
-    Ok(())
+    check_match_rhs(
+        &rt,
+        group,
+        items.as_slice(),
+        "2 0 =refs/heads/main refs/a\n",
+    )
 }
 
 #[test]
 fn looks_full_and_partial_names_up(rt: HostRuntime) -> Result<(), Fail> {
-    let forward = [
+    const FORWARD: &[(&str, &str, &str)] = &[
         (
             "refs/heads/main",
             "refs/heads/main2 refs/heads/mai refs/refs/heads/main heads/main refs/heads/main",
@@ -346,8 +394,8 @@ fn looks_full_and_partial_names_up(rt: HostRuntime) -> Result<(), Fail> {
             "2 0 refs/heads/b refs/x/b\n0 1 refs/heads/a refs/x/a\n3 3 main refs/y\n2 4 refs/heads/b -\n",
         ),
     ];
-    check_forward(&rt, &forward)?;
-    let backward = [
+    check_forward(&rt, FORWARD)?;
+    const BACKWARD: &[(&str, &str, &str)] = &[
         (
             "refs/heads/main:refs/q",
             "refs/r refs/q refs/q",
@@ -374,11 +422,11 @@ fn looks_full_and_partial_names_up(rt: HostRuntime) -> Result<(), Fail> {
              1 1 refs/b refs/heads/x\n2 1 refs/b refs/remotes/x/HEAD\n",
         ),
     ];
-    check_backward(&rt, &backward)
+    check_backward(&rt, BACKWARD)
 }
 
 // Specs whose source is partial, names of items, and what is mapped from left to right.
-const FIRST: [(&str, &str, &str); 15] = [
+const FIRST: &[(&str, &str, &str)] = &[
     // The tag, wherever it is listed.
     (
         "main:refs/remotes/origin/main",
@@ -495,12 +543,12 @@ fn looks_patterns_up(rt: HostRuntime) -> Result<(), Fail> {
 
 #[test]
 fn takes_the_first_candidate(rt: HostRuntime) -> Result<(), Fail> {
-    check_forward(&rt, &FIRST)
+    check_forward(&rt, FIRST)
 }
 
 #[test]
 fn maps_pushes_without_a_destination(rt: HostRuntime) -> Result<(), Fail> {
-    let rows = [
+    const ROWS: &[(&str, &str, &str)] = &[
         ("main", "refs/heads/main", "0 0 refs/heads/main -\n"),
         (
             "main:main",
@@ -514,12 +562,12 @@ fn maps_pushes_without_a_destination(rt: HostRuntime) -> Result<(), Fail> {
             "1 2 refs/heads/a -\n",
         ),
     ];
-    check(&rt, Direction::Forward, Operation::Push, &rows)
+    check(&rt, Direction::Forward, Operation::Push, ROWS)
 }
 
 #[test]
 fn fills_destinations(rt: HostRuntime) -> Result<(), Fail> {
-    let rows = [
+    const ROWS: &[(&str, &str, &str)] = &[
         (
             "refs/q:refs/heads/main",
             "refs/q",
@@ -543,12 +591,12 @@ fn fills_destinations(rt: HostRuntime) -> Result<(), Fail> {
         ("refs/q*:refs/x/b*", "refs/q", "0 0 refs/q =refs/x/b\n"),
         ("*:*", "HEAD", "0 0 HEAD =HEAD\n"),
     ];
-    check_forward(&rt, &rows)
+    check_forward(&rt, ROWS)
 }
 
 #[test]
 fn maps_from_right_to_left(rt: HostRuntime) -> Result<(), Fail> {
-    let rows = [
+    const ROWS: &[(&str, &str, &str)] = &[
         (
             "refs/heads/*:refs/remotes/origin/* ^refs/heads/x",
             "refs/remotes/origin/x refs/remotes/origin/y",
@@ -585,12 +633,12 @@ fn maps_from_right_to_left(rt: HostRuntime) -> Result<(), Fail> {
             "0 0 =refs/heads/ab refs/x/cd\n3 0 =refs/heads/axdb refs/x/cxdd\n",
         ),
     ];
-    check_backward(&rt, &rows)
+    check_backward(&rt, ROWS)
 }
 
 #[test]
 fn maps_ids_from_right_to_left(rt: HostRuntime) -> Result<(), Fail> {
-    let rows = [
+    const ROWS: &[(&str, &str, &str)] = &[
         // As a source an id is the branch of that name, which may be excluded.
         (
             "AAAAAAAAAAAAAAAAAAAAAAAAAAAAAAAAAAAAAAAA:refs/heads/x ^refs/heads/aaaaaaaaaaaaaaaaaaaaaaaaaaaaaaaaaaaaaaaa",
@@ -609,7 +657,7 @@ fn maps_ids_from_right_to_left(rt: HostRuntime) -> Result<(), Fail> {
             "0 0 =refs/heads/main refs/a\n1 0 =refs/heads/main refs/b\n",
         ),
     ];
-    check_backward(&rt, &rows)
+    check_backward(&rt, ROWS)
 }
 
 #[test]
@@ -635,11 +683,6 @@ fn matches_tags_by_their_objects(rt: HostRuntime) -> Result<(), Fail> {
     }];
     let specs = "main:aaaaaaaaaaaaaaaaaaaaaaaaaaaaaaaaaaaaaaaa";
     let outcome = group_of(alloc, Operation::Fetch, specs)?.match_rhs(alloc, &items)?;
-    let found = lines(alloc, outcome.mappings.as_slice())?;
-    assert_eq!(&rt;
-        found.as_str(),
-        "0 0 =refs/heads/main refs/q\n",
-        "by the object"
-    );
-    Ok(())
+    let wanted = "0 0 =refs/heads/main refs/q\n";
+    check_lines(&rt, outcome.mappings.as_slice(), wanted)
 }

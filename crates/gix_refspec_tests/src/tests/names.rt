@@ -6,7 +6,7 @@ use gix_refspec::{laws, name};
 #[test]
 fn accepts_plain_names(rt: HostRuntime) {
     laws::plain_names();
-    let rows = [
+    const ROWS: &[(&str, bool)] = &[
         ("refs/heads/main", true),
         ("refs/remotes/origin/HEAD", true),
         ("k/lock", true),
@@ -27,8 +27,8 @@ fn accepts_plain_names(rt: HostRuntime) {
         ("a\u{1f}", false),
         ("a\u{7f}", false),
     ];
-    for (text, is_name) in rows {
+    for (text, is_name) in ROWS {
         let checked = name::name_partial(BStr::new(text.as_bytes()));
-        assert_eq!(rt; checked.is_ok(), is_name, "at {text}");
+        assert_eq!(rt; checked.is_ok(), *is_name, "at {text}");
     }
 }

@@ -15,28 +15,25 @@ fn stars(side: Option<BStr<'_>>) -> usize {
 
 #[test]
 fn sides_have_one_star_or_none(rt: HostRuntime) -> Result<(), Fail> {
-    let push = Operation::Push;
-    let fetch = Operation::Fetch;
     // How many stars the source and the destination have.
-    let rows = [
-        (fetch, "refs/heads/*:refs/x/*", 1, 1),
-        (fetch, "main:refs/x", 0, 0),
-        (fetch, "^refs/heads/*", 1, 0),
-        (push, "refs/heads/*:refs/x/*", 1, 1),
-        (push, "refs/heads/*", 1, 0),
-        (push, "main~2:refs/x", 0, 0),
-        (push, ":refs/x", 0, 0),
+    const ROWS: &[(Operation, &str, usize, usize)] = &[
+        (Operation::Fetch, "refs/heads/*:refs/x/*", 1, 1),
+        (Operation::Fetch, "main:refs/x", 0, 0),
+        (Operation::Fetch, "^refs/heads/*", 1, 0),
+        (Operation::Push, "refs/heads/*:refs/x/*", 1, 1),
+        (Operation::Push, "refs/heads/*", 1, 0),
+        (Operation::Push, "main~2:refs/x", 0, 0),
+        (Operation::Push, ":refs/x", 0, 0),
     ];
     let alloc = rt.alloc();
-    for (operation, text, of_source, of_destination) in rows {
-        let spec = parse(alloc, BStr::new(text.as_bytes()), operation)?;
+    for (operation, text, of_source, of_destination) in ROWS {
+        let spec = parse(alloc, BStr::new(text.as_bytes()), *operation)?;
         laws::sides_agree(&spec);
         laws::owned_sides_agree(&spec.to_owned(alloc)?);
-        assert_eq!(rt; stars(spec.source()), of_source, "source, at {text}");
         assert_eq!(rt;
-            stars(spec.destination()),
-            of_destination,
-            "destination, at {text}"
+            (stars(spec.source()), stars(spec.destination())),
+            (*of_source, *of_destination),
+            "at {text}"
         );
     }
     Ok(())

@@ -51,32 +51,32 @@ fn check(rt: &(impl Abort + AllocGlobal), rows: &[(&str, &str, &str, &str)]) -> 
 // Git deletes those that are stale and no other.
 #[test]
 fn tells_refs_that_are_gone(rt: HostRuntime) -> Result<(), Fail> {
-    let tracking = "refs/heads/*:refs/remotes/origin/*";
-    let both = "refs/heads/*:refs/o/* refs/tags/*:refs/o/*";
-    let beside = "refs/heads/*:refs/o/* refs/heads/a:refs/o/b";
-    let rows = [
+    const TRACKING: &str = "refs/heads/*:refs/remotes/origin/*";
+    const BOTH: &str = "refs/heads/*:refs/o/* refs/tags/*:refs/o/*";
+    const BESIDE: &str = "refs/heads/*:refs/o/* refs/heads/a:refs/o/b";
+    const ROWS: &[(&str, &str, &str, &str)] = &[
         (
-            tracking,
+            TRACKING,
             "refs/heads/main",
             "refs/remotes/origin/gone",
             "0 stale\n",
         ),
-        (tracking, "refs/heads/main", "refs/remotes/origin/main", ""),
+        (TRACKING, "refs/heads/main", "refs/remotes/origin/main", ""),
         (
-            tracking,
+            TRACKING,
             "refs/heads/main",
             "refs/heads/gone refs/remotes/up/gone",
             "",
         ),
         (
-            tracking,
+            TRACKING,
             "refs/heads/b",
             "refs/remotes/origin/a refs/remotes/origin/b refs/remotes/origin/c refs/remotes/origin/a",
             "0 stale\n2 stale\n",
         ),
-        (both, "refs/tags/a", "refs/o/a refs/o/b", "1 stale\n"),
+        (BOTH, "refs/tags/a", "refs/o/a refs/o/b", "1 stale\n"),
         (
-            beside,
+            BESIDE,
             "refs/heads/a",
             "refs/o/a refs/o/b refs/o/c",
             "2 stale\n",
@@ -97,13 +97,13 @@ fn tells_refs_that_are_gone(rt: HostRuntime) -> Result<(), Fail> {
         ),
         (ID, "refs/heads/dev", "refs/x", ""),
     ];
-    check(&rt, &rows)
+    check(&rt, ROWS)
 }
 
 // Git keeps those that are kept here.
 #[test]
 fn keeps_refs_of_excluded_sources(rt: HostRuntime) -> Result<(), Fail> {
-    let rows = [
+    const ROWS: &[(&str, &str, &str, &str)] = &[
         (
             "refs/heads/*:refs/o/* ^refs/heads/a",
             "refs/heads/a refs/heads/b",
@@ -130,13 +130,13 @@ fn keeps_refs_of_excluded_sources(rt: HostRuntime) -> Result<(), Fail> {
             "",
         ),
     ];
-    check(&rt, &rows)
+    check(&rt, ROWS)
 }
 
 // Git deletes those that are kept here: negative specs keep only refs that a pattern writes.
 #[test]
 fn keeps_refs_of_excluded_sources_without_stars(rt: HostRuntime) -> Result<(), Fail> {
-    let rows = [
+    const ROWS: &[(&str, &str, &str, &str)] = &[
         (
             "refs/heads/a:refs/x ^refs/heads/a",
             "refs/heads/a",
@@ -152,13 +152,13 @@ fn keeps_refs_of_excluded_sources_without_stars(rt: HostRuntime) -> Result<(), F
             "0 kept by 2\n",
         ),
     ];
-    check(&rt, &rows)
+    check(&rt, ROWS)
 }
 
 // Git deletes `refs/x`, and writes it at the next fetch: it looks for a ref that is called `main`.
 #[test]
 fn looks_for_all_that_a_name_may_stand_for(rt: HostRuntime) -> Result<(), Fail> {
-    let rows = [
+    const ROWS: &[(&str, &str, &str, &str)] = &[
         ("main:refs/x", "refs/tags/main", "refs/x", ""),
         ("main:refs/x", "refs/remotes/main/HEAD", "refs/x", ""),
         (
@@ -168,13 +168,13 @@ fn looks_for_all_that_a_name_may_stand_for(rt: HostRuntime) -> Result<(), Fail> 
             "",
         ),
     ];
-    check(&rt, &rows)
+    check(&rt, ROWS)
 }
 
 // Git refuses to fetch, and deletes nothing: a source without a star is missing.
 #[test]
 fn tells_stale_refs_although_a_source_is_missing(rt: HostRuntime) -> Result<(), Fail> {
-    let rows = [
+    const ROWS: &[(&str, &str, &str, &str)] = &[
         (
             "refs/heads/a:refs/x",
             "refs/heads/b",
@@ -220,5 +220,5 @@ fn tells_stale_refs_although_a_source_is_missing(rt: HostRuntime) -> Result<(), 
             "0 kept by 2\n",
         ),
     ];
-    check(&rt, &rows)
+    check(&rt, ROWS)
 }

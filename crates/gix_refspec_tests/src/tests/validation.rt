@@ -26,35 +26,36 @@ fn validated_matches(alloc: Global, texts: &str, names: &str) -> Result<(String,
 // What a validation answers, line by line: `source:destination` for each mapping that is left and
 // `fix name spec` for each fix, or what a refusal prints.
 fn validated(alloc: Global, outcome: match_lhs::Outcome<'_, '_>) -> Result<String, Fail> {
-    let mut told = String::new(alloc);
     if !outcome.indexes_fit() {
-        told.push_str("no such spec")?;
-        return Ok(told);
+        return Ok(format!(in alloc; "no such spec")?);
     }
     match outcome.validated(alloc) {
-        Ok((left, fixes)) => {
-            for mapping in &left.mappings {
-                let source = &mapping.lhs;
-                told.push_str(format!(in alloc; "{source}")?.as_str())?;
-                if let Some(name) = &mapping.rhs {
-                    let name = name.as_bstr();
-                    told.push_str(format!(in alloc; ":{name}")?.as_str())?;
-                }
-                told.push_str("\n")?;
-            }
-            for fix in &fixes {
-                let Fix::MappingWithPartialDestinationRemoved { name, spec } = fix;
-                let text = spec.to_ref().to_bstring(alloc)?;
-                told.push_str(format!(in alloc; "fix {name} {text}\n")?.as_str())?;
-            }
-        }
-        Err(refusal) => told.push_str(format!(in alloc; "{refusal}")?.as_str())?,
+        Ok((left, fixes)) => text_of(alloc, left.mappings.as_slice(), fixes.as_slice()),
+        Err(refusal) => Ok(format!(in alloc; "{refusal}")?),
+    }
+}
+
+// The mappings that are left and the fixes, one a line.
+fn text_of(alloc: Global, left: &[Mapping<'_, '_>], fixes: &[Fix]) -> Result<String, Fail> {
+    let mut told = String::new(alloc);
+    for mapping in left {
+        let source = &mapping.lhs;
+        let line = match &mapping.rhs {
+            None => format!(in alloc; "{source}\n")?,
+            Some(name) => format!(in alloc; "{source}:{}\n", name.as_bstr())?,
+        };
+        told.push_str(line.as_str())?;
+    }
+    for fix in fixes {
+        let Fix::MappingWithPartialDestinationRemoved { name, spec } = fix;
+        let text = spec.to_ref().to_bstring(alloc)?;
+        told.push_str(format!(in alloc; "fix {name} {text}\n")?.as_str())?;
     }
     Ok(told)
 }
 
 // Specs, names of items, and what a validation answers.
-const MATCHED: [(&str, &str, &str); 17] = [
+const MATCHED: &[(&str, &str, &str)] = &[
     (
         "refs/heads/*:refs/x/* refs/heads/a",
         "refs/heads/a HEAD",
@@ -156,8 +157,11 @@ fn validates_what_was_matched(rt: HostRuntime) -> Result<(), Fail> {
     let alloc = rt.alloc();
     for (texts, names, told) in MATCHED {
         let (answer, copied) = validated_matches(alloc, texts, names)?;
-        assert_eq!(rt; answer.as_str(), told, "at {texts}");
-        assert_eq!(rt; copied.as_str(), told, "at {texts}, copied");
+        assert_eq!(rt;
+            (answer.as_str(), copied.as_str()),
+            (*told, *told),
+            "at {texts}"
+        );
     }
     Ok(())
 }
@@ -173,12 +177,43 @@ fn source_of<'a>(alloc: Global, text: &'a str) -> Result<SourceRef<'a>, Fail> {
     }))
 }
 
+// The outcome of mapping each of these sources to `refs/x`, or with a `-` to nothing, by the spec of this
+// index, of two.
+fn outcome_of<'a>(
+    alloc: Global,
+    sources: &'a str,
+    places: &str,
+) -> Result<match_lhs::Outcome<'static, 'a>, Fail> {
+    let mut outcome = match_lhs::Outcome {
+        group: group_of(alloc, Operation::Fetch, "s:t u")?,
+        mappings: Vec::new(alloc),
+    };
+    let words = sources.split(' ').filter(|word| !word.is_empty());
+    for (word, place) in words.zip(places.bytes()) {
+        let (name, rhs) = match word.strip_prefix("-") {
+            Some(name) => (name, None),
+            None => (word, Some(NameRef::Borrowed(BStr::new(b"refs/x")))),
+        };
+        outcome.mappings.push(Mapping {
+            item_index: None,
+            lhs: source_of(alloc, name)?,
+            rhs,
+            spec_index: match place {
+                b'0' => 0,
+                b'1' => 1,
+                b'2' => 2,
+                _ => 18_446_744_073_709_551_615,
+            },
+        })?;
+    }
+    Ok(outcome)
+}
+
 #[test]
 fn validates_outcomes_made_by_hand(rt: HostRuntime) -> Result<(), Fail> {
     let alloc = rt.alloc();
-    // Sources that are mapped to `refs/x`, or with a `-` to nothing, and the indexes of their specs,
-    // of which there are two.
-    let rows = [
+    // Sources, the indexes of their specs, and what a validation answers.
+    const ROWS: &[(&str, &str, &str)] = &[
         ("", "", ""),
         ("a a", "00", "a:refs/x\na:refs/x\n"),
         ("a =a", "01", "a:refs/x\na:refs/x\n"),
@@ -201,31 +236,10 @@ fn validates_outcomes_made_by_hand(rt: HostRuntime) -> Result<(), Fail> {
         ("a b", "02", "no such spec"),
         ("-a", "9", "no such spec"),
     ];
-    for (sources, places, told) in rows {
-        let mut outcome = match_lhs::Outcome {
-            group: group_of(alloc, Operation::Fetch, "s:t u")?,
-            mappings: Vec::new(alloc),
-        };
-        let words = sources.split(' ').filter(|word| !word.is_empty());
-        for (word, place) in words.zip(places.bytes()) {
-            let (name, rhs) = match word.strip_prefix("-") {
-                Some(name) => (name, None),
-                None => (word, Some(NameRef::Borrowed(BStr::new(b"refs/x")))),
-            };
-            outcome.mappings.push(Mapping {
-                item_index: None,
-                lhs: source_of(alloc, name)?,
-                rhs,
-                spec_index: match place {
-                    b'0' => 0,
-                    b'1' => 1,
-                    b'2' => 2,
-                    _ => 18_446_744_073_709_551_615,
-                },
-            })?;
-        }
+    for (sources, places, told) in ROWS {
+        let outcome = outcome_of(alloc, sources, places)?;
         let answer = validated(alloc, outcome)?;
-        assert_eq!(rt; answer.as_str(), told, "at {sources}");
+        assert_eq!(rt; answer.as_str(), *told, "at {sources}");
     }
     Ok(())
 }
@@ -280,7 +294,7 @@ fn fix_of<'a>(alloc: Global, name: &'a str, text: &'a str) -> Result<Fix, Fail> 
 fn compares_issues_and_fixes(rt: HostRuntime) -> Result<(), Fail> {
     let alloc = rt.alloc();
     // Whether the issue of a row equals the first row's.
-    let issues = [
+    const ISSUES: &[(&str, &str, &str, bool)] = &[
         ("x", "a", "t", true),
         ("x", "=a", "t", true),
         ("y", "a", "t", false),
@@ -288,21 +302,21 @@ fn compares_issues_and_fixes(rt: HostRuntime) -> Result<(), Fail> {
         ("x", "a", "u", false),
     ];
     let first = issue_of(alloc, "x", "a", "t")?;
-    for (destination, source, text, same) in issues {
+    for (destination, source, text, same) in ISSUES {
         let issue = issue_of(alloc, destination, source, text)?;
-        assert_eq!(rt; issue == first, same, "at {destination} {source} {text}");
+        assert_eq!(rt; issue == first, *same, "at {destination} {source} {text}");
     }
     // The same of fixes, whose specs are compared by what they say.
-    let fixes = [
+    const FIXES: &[(&str, &str, bool)] = &[
         ("x", "a", true),
         ("x", "+a:", true),
         ("y", "a", false),
         ("x", "b", false),
     ];
     let first = fix_of(alloc, "x", "a")?;
-    for (name, text, same) in fixes {
+    for (name, text, same) in FIXES {
         let fix = fix_of(alloc, name, text)?.clone(alloc)?;
-        assert_eq!(rt; fix == first, same, "at {name} {text}");
+        assert_eq!(rt; fix == first, *same, "at {name} {text}");
     }
     Ok(())
 }

@@ -5,6 +5,7 @@ use gix_refspec_text::name::{self, name_partial};
 use gix_refspec_text::oid;
 use gix_refspec_text::parsing::Error;
 use std::alloc::{AllocError, Global};
+use std::process::Abort;
 use std::test::Fail;
 
 // Refuses what is no name, through `?`.
@@ -13,145 +14,107 @@ fn only_names(text: &str) -> Result<(), Error> {
     Ok(())
 }
 
-#[test]
-fn prints_refusals(rt: HostRuntime) -> Result<(), Fail> {
-    let alloc = rt.alloc();
-    let pattern = BString::from_slice(alloc, b"a*b*")?;
-    let cases = [
-        (Error::Empty, "Empty refspecs are invalid"),
-        (
-            Error::NegativeWithDestination,
-            "Negative refspecs cannot have destinations as they exclude sources",
-        ),
-        (Error::NegativeEmpty, "Negative specs must not be empty"),
-        (
-            Error::NegativeObjectHash,
-            "Negative specs must not be object hashes",
-        ),
-        (
-            Error::NegativePartialName,
-            "Negative specs must be full ref names, starting with \"refs/\"",
-        ),
-        (
-            Error::NegativeGlobPattern,
-            "Negative glob patterns are not allowed",
-        ),
-        (
-            Error::InvalidFetchDestination,
-            "Fetch destinations must be ref-names, like 'HEAD:refs/heads/branch'",
-        ),
-        (Error::PushToEmpty, "Cannot push into an empty destination"),
-        (
-            Error::PatternUnsupported { pattern },
-            "refspec patterns may only contain a single '*' character, found \"a*b*\"",
-        ),
-        (
-            Error::PatternUnbalanced,
-            "Both sides of a two-sided specification need a pattern, like 'a/*:b/*'",
-        ),
-        (Error::ReferenceName(name::Error::LockSuffix), "LockSuffix"),
-        (
-            Error::ReferenceName(name::Error::InvalidByte { byte: b' ' }),
-            "InvalidByte",
-        ),
-        (Error::Memory, "out of memory"),
-    ];
-    for (error, text) in cases {
-        assert_eq!(rt;
-            format!(in alloc; "{error}")?.as_str(),
-            text,
-            "at {error:?}"
-        );
-    }
+// Whether a refusal has this name, text and explanation.
+fn check_refusal(
+    rt: &(impl Abort + AllocGlobal),
+    error: &Error,
+    said: &str,
+) -> Result<(), AllocError> {
+    let (reason, explanation) = (error.reason(), error.explanation());
+    let found = format!(in rt.alloc(); "{reason}: {error}\n{explanation}")?;
+    assert_eq!(rt; found.as_str(), said);
     Ok(())
 }
 
 #[test]
 fn explains_refusals(rt: HostRuntime) -> Result<(), Fail> {
-    let alloc = rt.alloc();
-    let pattern = BString::from_slice(alloc, b"a*b*")?;
+    let pattern = BString::from_slice(rt.alloc(), b"a*b*")?;
     let cases = [
-        (Error::Empty, "A refspec for a push must not be empty."),
         (
-            Error::NegativeWithDestination,
-            "A refspec that begins with `^` must not have a destination.",
-        ),
-        (
-            Error::NegativeEmpty,
-            "A refspec that begins with `^` needs a source after the `^`.",
-        ),
-        (
-            Error::NegativeObjectHash,
-            "A refspec that begins with `^` must not have an object id as its source.",
-        ),
-        (
-            Error::NegativePartialName,
-            "A refspec that begins with `^` needs a full name, which begins with `refs/`.",
-        ),
-        (
-            Error::NegativeGlobPattern,
-            "A refspec that begins with `^` must not have a pattern.",
+            Error::Empty,
+            "Empty: Empty refspecs are invalid\n\
+             A refspec for a push must not be empty.",
         ),
         (
             Error::InvalidFetchDestination,
-            "The destination of a fetch must be the name of a ref.",
+            "InvalidFetchDestination: Fetch destinations must be ref-names, like 'HEAD:refs/heads/branch'\n\
+             The destination of a fetch must be the name of a ref.",
         ),
         (
             Error::PushToEmpty,
-            "A push needs a destination after the colon.",
+            "PushToEmpty: Cannot push into an empty destination\n\
+             A push needs a destination after the colon.",
         ),
         (
             Error::PatternUnsupported { pattern },
-            "A side of a refspec must not have more than one `*`.",
+            "PatternUnsupported: refspec patterns may only contain a single '*' character, found \"a*b*\"\n\
+             A side of a refspec must not have more than one `*`.",
         ),
         (
             Error::PatternUnbalanced,
-            "Either both sides of a refspec have a `*`, or neither has.",
+            "PatternUnbalanced: Both sides of a two-sided specification need a pattern, like 'a/*:b/*'\n\
+             Either both sides of a refspec have a `*`, or neither has.",
         ),
         (
             Error::ReferenceName(name::Error::LockSuffix),
-            "No part of a ref name between slashes may end with `.lock`.",
+            "ReferenceName: LockSuffix\n\
+             No part of a ref name between slashes may end with `.lock`.",
+        ),
+        (
+            Error::ReferenceName(name::Error::InvalidByte { byte: b' ' }),
+            "ReferenceName: InvalidByte\n\
+             A ref name must not have a control character, a space or one of ~ ^ : ? [ \\ in it.",
         ),
         (
             Error::Memory,
-            "There was not enough memory to read the refspec.",
+            "Memory: out of memory\n\
+             There was not enough memory to read the refspec.",
         ),
     ];
-    for (error, text) in cases {
-        assert_eq!(rt; error.explanation(), text, "at {error:?}");
+    for (error, said) in cases {
+        check_refusal(&rt, &error, said)?;
     }
     Ok(())
 }
 
 #[test]
-fn names_the_reason(rt: HostRuntime) -> Result<(), Fail> {
-    let pattern = BString::from_slice(rt.alloc(), b"a*b*")?;
+fn explains_refusals_of_negative_specs(rt: HostRuntime) -> Result<(), Fail> {
     let cases = [
-        (Error::Empty, "Empty"),
-        (Error::NegativeWithDestination, "NegativeWithDestination"),
-        (Error::NegativeEmpty, "NegativeEmpty"),
-        (Error::NegativeObjectHash, "NegativeObjectHash"),
-        (Error::NegativePartialName, "NegativePartialName"),
-        (Error::NegativeGlobPattern, "NegativeGlobPattern"),
-        (Error::InvalidFetchDestination, "InvalidFetchDestination"),
-        (Error::PushToEmpty, "PushToEmpty"),
-        (Error::PatternUnsupported { pattern }, "PatternUnsupported"),
-        (Error::PatternUnbalanced, "PatternUnbalanced"),
         (
-            Error::ReferenceName(name::Error::LockSuffix),
-            "ReferenceName",
+            Error::NegativeWithDestination,
+            "NegativeWithDestination: Negative refspecs cannot have destinations as they exclude sources\n\
+             A refspec that begins with `^` must not have a destination.",
         ),
-        (Error::Memory, "Memory"),
+        (
+            Error::NegativeEmpty,
+            "NegativeEmpty: Negative specs must not be empty\n\
+             A refspec that begins with `^` needs a source after the `^`.",
+        ),
+        (
+            Error::NegativeObjectHash,
+            "NegativeObjectHash: Negative specs must not be object hashes\n\
+             A refspec that begins with `^` must not have an object id as its source.",
+        ),
+        (
+            Error::NegativePartialName,
+            "NegativePartialName: Negative specs must be full ref names, starting with \"refs/\"\n\
+             A refspec that begins with `^` needs a full name, which begins with `refs/`.",
+        ),
+        (
+            Error::NegativeGlobPattern,
+            "NegativeGlobPattern: Negative glob patterns are not allowed\n\
+             A refspec that begins with `^` must not have a pattern.",
+        ),
     ];
-    for (error, name) in cases {
-        assert_eq!(rt; error.reason(), name, "at {error:?}");
+    for (error, said) in cases {
+        check_refusal(&rt, &error, said)?;
     }
     Ok(())
 }
 
 #[test]
 fn explains_faults_of_names_and_ids(rt: HostRuntime) {
-    let names = [
+    const NAMES: &[(name::Error, &str)] = &[
         (name::Error::Empty, "A ref name must not be empty."),
         (
             name::Error::EmptyComponent,
@@ -186,10 +149,10 @@ fn explains_faults_of_names_and_ids(rt: HostRuntime) {
             "A ref name must not have a control character, a space or one of ~ ^ : ? [ \\ in it.",
         ),
     ];
-    for (fault, text) in names {
-        assert_eq!(rt; fault.explanation(), text, "at {fault:?}");
+    for (fault, text) in NAMES {
+        assert_eq!(rt; fault.explanation(), *text, "at {fault:?}");
     }
-    let ids = [
+    const IDS: &[(oid::Error, &str)] = &[
         (
             oid::Error::Length { len: 3 },
             "An object id has 40 or 64 hexadecimal digits.",
@@ -199,8 +162,8 @@ fn explains_faults_of_names_and_ids(rt: HostRuntime) {
             "An object id has no characters but 0 to 9, a to f and A to F.",
         ),
     ];
-    for (fault, text) in ids {
-        assert_eq!(rt; fault.explanation(), text, "at {fault:?}");
+    for (fault, text) in IDS {
+        assert_eq!(rt; fault.explanation(), *text, "at {fault:?}");
     }
 }
 
@@ -219,16 +182,6 @@ fn compares_refusals(rt: HostRuntime) -> Result<(), Fail> {
         (Error::Empty, Error::Empty, true),
         (Error::Empty, Error::Memory, false),
         (
-            several_stars(alloc, "a*b*")?,
-            several_stars(alloc, "a*b*")?,
-            true,
-        ),
-        (
-            several_stars(alloc, "a*b*")?,
-            several_stars(alloc, "a*b**")?,
-            false,
-        ),
-        (
             Error::ReferenceName(name::Error::Empty),
             Error::ReferenceName(name::Error::Empty),
             true,
@@ -241,6 +194,11 @@ fn compares_refusals(rt: HostRuntime) -> Result<(), Fail> {
     ];
     for (first, second, same) in rows {
         assert_eq!(rt; first == second, same, "at {first:?} and {second:?}");
+    }
+    const SIDES: &[(&str, &str, bool)] = &[("a*b*", "a*b*", true), ("a*b*", "a*b**", false)];
+    for (first, second, same) in SIDES {
+        let equal = several_stars(alloc, first)? == several_stars(alloc, second)?;
+        assert_eq!(rt; equal, *same, "at {first} and {second}");
     }
     Ok(())
 }

@@ -25,7 +25,7 @@ fn filled(alloc: Global, len: usize, end: &str) -> Result<String, AllocError> {
 
 #[test]
 fn accepts_names(rt: HostRuntime) {
-    let names = [
+    const NAMES: &[&str] = &[
         "a",
         "@",
         "a]b",
@@ -45,7 +45,7 @@ fn accepts_names(rt: HostRuntime) {
         "-",
         "a.LOCK",
     ];
-    for name in names {
+    for name in NAMES {
         assert_eq!(rt;
             name_partial(BStr::new(name.as_bytes())),
             Ok(()),
@@ -60,7 +60,7 @@ fn accepts_names(rt: HostRuntime) {
 
 #[test]
 fn refuses_what_is_no_name(rt: HostRuntime) {
-    let cases = [
+    const CASES: &[(&str, Error)] = &[
         ("", Error::Empty),
         ("a//b", Error::EmptyComponent),
         ("/a", Error::EmptyComponent),
@@ -79,10 +79,10 @@ fn refuses_what_is_no_name(rt: HostRuntime) {
         ("*", Error::Asterisk),
         ("a*b*", Error::Asterisk),
     ];
-    for (text, fault) in cases {
+    for (text, fault) in CASES {
         assert_eq!(rt;
             name_partial(BStr::new(text.as_bytes())),
-            Err(fault),
+            Err(*fault),
             "at {text}"
         );
     }
@@ -100,7 +100,8 @@ fn reports_one_of_two_faults(rt: HostRuntime) {
 // A pattern is no name, whatever else is wrong with it.
 #[test]
 fn refuses_patterns_as_names(rt: HostRuntime) {
-    for pattern in ["a.*", "*.", ".*", "refs/heads/*.lock", "@*"] {
+    const PATTERNS: &[&str] = &["a.*", "*.", ".*", "refs/heads/*.lock", "@*"];
+    for pattern in PATTERNS {
         let found = name_partial(BStr::new(pattern.as_bytes()));
         assert!(rt; found.is_err(), "at {pattern}");
     }
@@ -108,7 +109,7 @@ fn refuses_patterns_as_names(rt: HostRuntime) {
 
 #[test]
 fn tells_faults_apart(rt: HostRuntime) {
-    let faults = [
+    const FAULTS: &[Error] = &[
         Error::Empty,
         Error::EmptyComponent,
         Error::StartsWithDot,
@@ -120,8 +121,8 @@ fn tells_faults_apart(rt: HostRuntime) {
         Error::InvalidByte { byte: b' ' },
         Error::InvalidByte { byte: b'~' },
     ];
-    for (i, a) in faults.iter().enumerate() {
-        for (j, b) in faults.iter().enumerate() {
+    for (i, a) in FAULTS.iter().enumerate() {
+        for (j, b) in FAULTS.iter().enumerate() {
             assert_eq!(rt; *a == *b, i == j, "at {a:?} and {b:?}");
         }
     }
@@ -154,18 +155,19 @@ fn takes_each_byte_where_it_may_stand(rt: HostRuntime) {
             b'.' => (Err(Error::StartsWithDot), Err(Error::EndsWithDot)),
             _ => (anywhere, anywhere),
         };
-        let found = name_partial(BStr::new(&[byte, b'a']));
-        assert_eq!(rt; found, first, "{byte} before a letter");
-        let found = name_partial(BStr::new(&[b'a', byte, b'b']));
-        assert_eq!(rt; found, anywhere, "{byte} between letters");
-        let found = name_partial(BStr::new(&[b'a', byte]));
-        assert_eq!(rt; found, last, "{byte} behind a letter");
+        // Before a letter, between letters, and after one.
+        let found = (
+            name_partial(BStr::new(&[byte, b'a'])),
+            name_partial(BStr::new(&[b'a', byte, b'b'])),
+            name_partial(BStr::new(&[b'a', byte])),
+        );
+        assert_eq!(rt; found, (first, anywhere, last), "at {byte}");
     }
 }
 
 #[test]
 fn accepts_patterns(rt: HostRuntime) {
-    let patterns = [
+    const PATTERNS: &[&str] = &[
         "*",
         "a.*",
         "@*",
@@ -175,7 +177,7 @@ fn accepts_patterns(rt: HostRuntime) {
         "a/*",
         "*/a",
     ];
-    for pattern in patterns {
+    for pattern in PATTERNS {
         assert_eq!(rt;
             checked_pattern(rt.alloc(), pattern.as_bytes()),
             Ok(()),
@@ -186,7 +188,7 @@ fn accepts_patterns(rt: HostRuntime) {
 
 #[test]
 fn refuses_what_is_no_pattern(rt: HostRuntime) {
-    let cases = [
+    const CASES: &[(&str, Error)] = &[
         ("*.", Error::EndsWithDot),
         (".*", Error::StartsWithDot),
         ("refs/heads/*.lock", Error::LockSuffix),
@@ -197,10 +199,10 @@ fn refuses_what_is_no_pattern(rt: HostRuntime) {
         ("* ", Error::InvalidByte { byte: b' ' }),
         ("a**", Error::Asterisk),
     ];
-    for (text, fault) in cases {
+    for (text, fault) in CASES {
         assert_eq!(rt;
             checked_pattern(rt.alloc(), text.as_bytes()),
-            Err(PatternError::Name(fault)),
+            Err(PatternError::Name(*fault)),
             "at {text}"
         );
     }
@@ -209,21 +211,22 @@ fn refuses_what_is_no_pattern(rt: HostRuntime) {
 #[test]
 fn checks_patterns_of_any_length(rt: HostRuntime) -> Result<(), Fail> {
     let alloc = rt.alloc();
-    let short = filled(alloc, 256, "*")?;
-    assert_eq!(rt; checked_pattern(alloc, short.as_bytes()), Ok(()));
-    let long = filled(alloc, 257, "*")?;
-    assert_eq!(rt; checked_pattern(alloc, long.as_bytes()), Ok(()));
-    let locked = filled(alloc, 257, "*.lock")?;
-    assert_eq!(rt;
-        checked_pattern(alloc, locked.as_bytes()),
-        Err(PatternError::Name(Error::LockSuffix))
-    );
+    const ROWS: &[(usize, &str, Result<(), PatternError>)] = &[
+        (256, "*", Ok(())),
+        (257, "*", Ok(())),
+        (257, "*.lock", Err(PatternError::Name(Error::LockSuffix))),
+    ];
+    for (len, end, wanted) in ROWS {
+        let text = filled(alloc, *len, end)?;
+        let found = checked_pattern(alloc, text.as_bytes());
+        assert_eq!(rt; found, *wanted, "{len} bytes, the last {end}");
+    }
     Ok(())
 }
 
 #[test]
 fn prints_errors(rt: HostRuntime) -> Result<(), Fail> {
-    let cases = [
+    const CASES: &[(Error, &str)] = &[
         (Error::Empty, "Empty"),
         (Error::EmptyComponent, "EmptyComponent"),
         (Error::StartsWithDot, "StartsWithDot"),
@@ -235,12 +238,10 @@ fn prints_errors(rt: HostRuntime) -> Result<(), Fail> {
         (Error::InvalidByte { byte: b' ' }, "InvalidByte"),
     ];
     let alloc = rt.alloc();
-    for (fault, text) in cases {
-        assert_eq!(rt; format!(in alloc; "{fault}")?.as_str(), text);
-        assert_eq!(rt;
-            format!(in alloc; "{}", PatternError::Name(fault))?.as_str(),
-            text
-        );
+    for (fault, text) in CASES {
+        let found = format!(in alloc; "{fault} {}", PatternError::Name(*fault))?;
+        let wanted = format!(in alloc; "{text} {text}")?;
+        assert_eq!(rt; found.as_str(), wanted.as_str());
     }
     assert_eq!(rt;
         format!(in alloc; "{}", PatternError::Memory)?.as_str(),

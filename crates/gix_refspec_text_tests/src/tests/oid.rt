@@ -21,7 +21,7 @@ const UPPER_40: &str = "AAAAAAAAAAAAAAAAAAAAAAAAAAAAAAAAAAAAAAAA";
 
 #[test]
 fn prints_in_lower_case(rt: HostRuntime) -> Result<(), Fail> {
-    let cases = [
+    const CASES: &[(&str, &str)] = &[
         (LOWER_40, LOWER_40),
         (UPPER_40, LOWER_40),
         (EMPTY_BLOB, EMPTY_BLOB),
@@ -29,17 +29,17 @@ fn prints_in_lower_case(rt: HostRuntime) -> Result<(), Fail> {
         (EMPTY_BLOB_SHA256, EMPTY_BLOB_SHA256),
         (ZEROS_64, ZEROS_64),
     ];
-    for (digits, printed) in cases {
+    for (digits, printed) in CASES {
         let id = ObjectId::from_hex(digits.as_bytes())?;
         let text = format!(in rt.alloc(); "{id}")?;
-        assert_eq!(rt; text.as_str(), printed, "at {digits}");
+        assert_eq!(rt; text.as_str(), *printed, "at {digits}");
     }
     Ok(())
 }
 
 #[test]
 fn refuses_other_lengths_before_digits(rt: HostRuntime) {
-    let cases = [
+    const CASES: &[(&str, usize)] = &[
         ("", 0),
         ("ggggggggggggggggggggggggggggggggggggggg", 39),
         ("aaaaaaaaaaaaaaaaaaaaaaaaaaaaaaaaaaaaaaaaa", 41),
@@ -52,21 +52,21 @@ fn refuses_other_lengths_before_digits(rt: HostRuntime) {
             65,
         ),
     ];
-    for (text, len) in cases {
+    for (text, len) in CASES {
         let read = ObjectId::from_hex(text.as_bytes());
-        assert_eq!(rt; read, Err(Error::Length { len }), "at {text}");
+        assert_eq!(rt; read, Err(Error::Length { len: *len }), "at {text}");
     }
 }
 
 #[test]
 fn refuses_other_bytes(rt: HostRuntime) {
-    let cases = [
+    const CASES: &[&str] = &[
         "gggggggggggggggggggggggggggggggggggggggg",
         "aaaaaaaaaaaaaaaaaaaaaaaaaaaaaaaaaaaaaaag",
         "`aaaaaaaaaaaaaaaaaaaaaaaaaaaaaaaaaaaaaaa",
         "473a0f4c3be8a93681a267e3b1e9a7dcda1185436fe141f7749120a30372181:",
     ];
-    for text in cases {
+    for text in CASES {
         let read = ObjectId::from_hex(text.as_bytes());
         assert_eq!(rt; read, Err(Error::Digit), "at {text}");
     }
@@ -74,7 +74,7 @@ fn refuses_other_bytes(rt: HostRuntime) {
 
 #[test]
 fn recognises_ids(rt: HostRuntime) {
-    let cases = [
+    const CASES: &[(&str, bool)] = &[
         (EMPTY_BLOB, true),
         (EMPTY_BLOB_SHA256, true),
         ("E69DE29bb2d1d6434b8b29ae775ad8c2e48c5391", true),
@@ -88,8 +88,8 @@ fn recognises_ids(rt: HostRuntime) {
             false,
         ),
     ];
-    for (text, is) in cases {
-        assert_eq!(rt; is_id(text.as_bytes()), is, "at {text}");
+    for (text, is) in CASES {
+        assert_eq!(rt; is_id(text.as_bytes()), *is, "at {text}");
     }
 }
 
@@ -97,13 +97,13 @@ fn recognises_ids(rt: HostRuntime) {
 fn tells_kinds_and_faults_apart(rt: HostRuntime) {
     assert!(rt; Kind::Sha1 == Kind::Sha1);
     assert!(rt; Kind::Sha1 != Kind::Sha256);
-    let faults = [
+    const FAULTS: &[Error] = &[
         Error::Length { len: 39 },
         Error::Length { len: 41 },
         Error::Digit,
     ];
-    for (i, a) in faults.iter().enumerate() {
-        for (j, b) in faults.iter().enumerate() {
+    for (i, a) in FAULTS.iter().enumerate() {
+        for (j, b) in FAULTS.iter().enumerate() {
             assert_eq!(rt; *a == *b, i == j, "at {a:?} and {b:?}");
         }
     }
@@ -111,32 +111,34 @@ fn tells_kinds_and_faults_apart(rt: HostRuntime) {
 
 #[test]
 fn reads_the_bytes_from_the_front(rt: HostRuntime) -> Result<(), Fail> {
-    let cases = [
+    const CASES: &[(&str, [u8; 2], u8, Kind, usize)] = &[
         (EMPTY_BLOB, [0xe6, 0x9d], 0x91, Kind::Sha1, 20),
         (EMPTY_BLOB_SHA256, [0x47, 0x3a], 0x13, Kind::Sha256, 32),
     ];
-    for (digits, front, last, kind, len) in cases {
+    for (digits, front, last, kind, len) in CASES {
         let id = ObjectId::from_hex(digits.as_bytes())?;
-        assert_eq!(rt; id.as_slice().len(), len, "at {digits}");
-        assert!(rt; id.as_slice().starts_with(&front), "the front of {digits}");
-        assert_eq!(rt; id.as_slice().last(), Some(&last), "at {digits}");
-        assert_eq!(rt; id.kind(), kind, "at {digits}");
-        assert_eq!(rt; id.kind().len_in_hex(), digits.len(), "at {digits}");
+        let bytes = id.as_slice();
+        let found = (
+            bytes.len(),
+            bytes.starts_with(front),
+            bytes.last().copied(),
+            id.kind(),
+            id.kind().len_in_hex(),
+        );
+        let wanted = (*len, true, Some(*last), *kind, digits.len());
+        assert_eq!(rt; found, wanted, "at {digits}");
     }
     Ok(())
 }
 
 #[test]
 fn null_is_all_zeros(rt: HostRuntime) -> Result<(), Fail> {
-    for (kind, printed) in [(Kind::Sha1, ZEROS_40), (Kind::Sha256, ZEROS_64)] {
-        let null = ObjectId::null(kind);
+    const KINDS: &[(Kind, &str)] = &[(Kind::Sha1, ZEROS_40), (Kind::Sha256, ZEROS_64)];
+    for (kind, printed) in KINDS {
+        let null = ObjectId::null(*kind);
         let text = format!(in rt.alloc(); "{null}")?;
-        assert_eq!(rt; text.as_str(), printed, "at {kind:?}");
-        assert_eq!(rt;
-            ObjectId::from_hex(printed.as_bytes()),
-            Ok(null),
-            "at {kind:?}"
-        );
+        let read = ObjectId::from_hex(printed.as_bytes());
+        assert_eq!(rt; (text.as_str(), read), (*printed, Ok(null)), "at {kind:?}");
     }
     assert_eq!(rt; Kind::shortest(), Kind::Sha1);
     Ok(())
@@ -144,7 +146,7 @@ fn null_is_all_zeros(rt: HostRuntime) -> Result<(), Fail> {
 
 #[test]
 fn compares_by_the_bytes_alone(rt: HostRuntime) -> Result<(), Fail> {
-    let rising = [
+    const RISING: &[&str] = &[
         ZEROS_40,
         ZEROS_64,
         ONES_40,
@@ -152,8 +154,8 @@ fn compares_by_the_bytes_alone(rt: HostRuntime) -> Result<(), Fail> {
         LOWER_40,
         EMPTY_BLOB,
     ];
-    for (i, low) in rising.iter().enumerate() {
-        for (j, high) in rising.iter().enumerate() {
+    for (i, low) in RISING.iter().enumerate() {
+        for (j, high) in RISING.iter().enumerate() {
             let left = ObjectId::from_hex(low.as_bytes())?;
             let right = ObjectId::from_hex(high.as_bytes())?;
             assert_eq!(rt; left.cmp(&right), i.cmp(&j), "{low} and {high}");
@@ -168,13 +170,13 @@ fn compares_by_the_bytes_alone(rt: HostRuntime) -> Result<(), Fail> {
 
 #[test]
 fn shows_names(rt: HostRuntime) -> Result<(), Fail> {
-    let cases = [
+    const CASES: &[(Error, &str)] = &[
         (Error::Length { len: 39 }, "Length"),
         (Error::Digit, "Digit"),
     ];
-    for (error, name) in cases {
+    for (error, name) in CASES {
         let text = format!(in rt.alloc(); "{error}")?;
-        assert_eq!(rt; text.as_str(), name, "at {error:?}");
+        assert_eq!(rt; text.as_str(), *name, "at {error:?}");
     }
     let null = ObjectId::null(Kind::Sha1);
     let text = format!(in rt.alloc(); "{null:?}")?;

@@ -13,9 +13,13 @@ use std::test::Fail;
 
 // Whether two values compare so.
 fn check_order<T: Ord + Hash + Debug>(rt: &impl Abort, a: &T, b: &T, wanted: Ordering) {
-    assert_eq!(rt; a.cmp(b), wanted, "at {a:?} and {b:?}");
-    assert_eq!(rt; a.partial_cmp(b), Some(wanted), "at {a:?} and {b:?}");
-    assert_eq!(rt; *a < *b, wanted == Ordering::Less, "at {a:?} and {b:?}");
+    let found = (a.cmp(b), a.partial_cmp(b), *a < *b);
+    let is_less = wanted == Ordering::Less;
+    assert_eq!(rt;
+        found,
+        (wanted, Some(wanted), is_less),
+        "at {a:?} and {b:?}"
+    );
     check_equal(rt, a, b, wanted == Ordering::Equal);
 }
 
@@ -52,49 +56,47 @@ fn puts_push_before_fetch(rt: HostRuntime) {
 
 #[test]
 fn rises_by_operation_kind_and_sides(rt: HostRuntime) -> Result<(), Fail> {
-    let push = Operation::Push;
-    let fetch = Operation::Fetch;
     // The source is looked at before the destination, and the sign last. Sides rise byte by byte,
     // whatever their lengths.
-    let rows = [
-        (push, ":"),
-        (push, "+"),
-        (push, ":a"),
-        (push, ":aa"),
-        (push, ":x"),
-        (push, "a"),
-        (push, "+a"),
-        (push, "a:aa"),
-        (push, "a:ab"),
-        (push, "a:b"),
-        (push, "+a:b"),
-        (push, "aa:a"),
-        (push, "aa:b"),
-        (push, "b:a"),
-        (push, "é:a"),
-        (push, "^a"),
-        (push, "^aa"),
-        (push, "^b"),
-        (fetch, "a"),
-        (fetch, "aa"),
-        (fetch, "b"),
-        (fetch, "é"),
-        (fetch, "^a"),
-        (fetch, "^aa"),
-        (fetch, "^b"),
-        (fetch, "a:aa"),
-        (fetch, "a:ab"),
-        (fetch, "a:b"),
-        (fetch, "+a:b"),
-        (fetch, "aa:a"),
-        (fetch, "aa:b"),
-        (fetch, "b:a"),
-        (fetch, "+b:a"),
+    const ROWS: &[(Operation, &str)] = &[
+        (Operation::Push, ":"),
+        (Operation::Push, "+"),
+        (Operation::Push, ":a"),
+        (Operation::Push, ":aa"),
+        (Operation::Push, ":x"),
+        (Operation::Push, "a"),
+        (Operation::Push, "+a"),
+        (Operation::Push, "a:aa"),
+        (Operation::Push, "a:ab"),
+        (Operation::Push, "a:b"),
+        (Operation::Push, "+a:b"),
+        (Operation::Push, "aa:a"),
+        (Operation::Push, "aa:b"),
+        (Operation::Push, "b:a"),
+        (Operation::Push, "é:a"),
+        (Operation::Push, "^a"),
+        (Operation::Push, "^aa"),
+        (Operation::Push, "^b"),
+        (Operation::Fetch, "a"),
+        (Operation::Fetch, "aa"),
+        (Operation::Fetch, "b"),
+        (Operation::Fetch, "é"),
+        (Operation::Fetch, "^a"),
+        (Operation::Fetch, "^aa"),
+        (Operation::Fetch, "^b"),
+        (Operation::Fetch, "a:aa"),
+        (Operation::Fetch, "a:ab"),
+        (Operation::Fetch, "a:b"),
+        (Operation::Fetch, "+a:b"),
+        (Operation::Fetch, "aa:a"),
+        (Operation::Fetch, "aa:b"),
+        (Operation::Fetch, "b:a"),
+        (Operation::Fetch, "+b:a"),
     ];
     let alloc = rt.alloc();
-    for (i, (operation, text)) in rows.iter().enumerate() {
+    for (i, (operation, text)) in ROWS.iter().enumerate() {
         let a = parse(alloc, BStr::new(text.as_bytes()), *operation)?;
-        for (j, (operation, text)) in rows.iter().enumerate() {
+        for (j, (operation, text)) in ROWS.iter().enumerate() {
             let b = parse(alloc, BStr::new(text.as_bytes()), *operation)?;
             check_specs(&rt, alloc, a, b, i.cmp(&j))?;
         }
@@ -104,33 +106,31 @@ fn rises_by_operation_kind_and_sides(rt: HostRuntime) -> Result<(), Fail> {
 
 #[test]
 fn equals_what_says_the_same(rt: HostRuntime) -> Result<(), Fail> {
-    let push = Operation::Push;
-    let fetch = Operation::Fetch;
     // A canonical text, and texts that say the same. Specs of different rows are not equal.
-    let rows = [
+    const ROWS: &[(Operation, &str, &[&str])] = &[
         (
-            fetch,
+            Operation::Fetch,
             "HEAD",
-            ["HEAD", "", "+", ":", "+:", "@", "HEAD:", "+HEAD"].as_slice(),
+            &["HEAD", "", "+", ":", "+:", "@", "HEAD:", "+HEAD"],
         ),
-        (fetch, "++foo", ["++foo", "++foo:"].as_slice()),
-        (fetch, "HEAD:@", ["@:@"].as_slice()),
-        (fetch, "^HEAD", ["^@"].as_slice()),
-        (fetch, "^a", ["^a"].as_slice()),
-        (push, "^a", ["^a"].as_slice()),
-        (push, "^HEAD", ["^@"].as_slice()),
-        (push, "main:main", ["main", "main:main"].as_slice()),
-        (push, ":x", [":x", "+:x"].as_slice()),
-        (push, "HEAD:HEAD", ["@", "HEAD", "HEAD:HEAD"].as_slice()),
-        (push, "a:a", ["a", "a:a"].as_slice()),
-        (push, "+a:a", ["+a", "+a:a"].as_slice()),
-        (push, ":+x", [":+x"].as_slice()),
-        (push, "::x", ["::x"].as_slice()),
-        (push, ":", [":"].as_slice()),
-        (push, "+:", ["+", "+:"].as_slice()),
+        (Operation::Fetch, "++foo", &["++foo", "++foo:"]),
+        (Operation::Fetch, "HEAD:@", &["@:@"]),
+        (Operation::Fetch, "^HEAD", &["^@"]),
+        (Operation::Fetch, "^a", &["^a"]),
+        (Operation::Push, "^a", &["^a"]),
+        (Operation::Push, "^HEAD", &["^@"]),
+        (Operation::Push, "main:main", &["main", "main:main"]),
+        (Operation::Push, ":x", &[":x", "+:x"]),
+        (Operation::Push, "HEAD:HEAD", &["@", "HEAD", "HEAD:HEAD"]),
+        (Operation::Push, "a:a", &["a", "a:a"]),
+        (Operation::Push, "+a:a", &["+a", "+a:a"]),
+        (Operation::Push, ":+x", &[":+x"]),
+        (Operation::Push, "::x", &["::x"]),
+        (Operation::Push, ":", &[":"]),
+        (Operation::Push, "+:", &["+", "+:"]),
     ];
     let alloc = rt.alloc();
-    for (i, (operation, printed, texts)) in rows.iter().enumerate() {
+    for (i, (operation, printed, texts)) in ROWS.iter().enumerate() {
         let again = parse(alloc, BStr::new(printed.as_bytes()), *operation)?;
         let found = canonical(alloc, again)?;
         assert_eq!(rt;
@@ -144,7 +144,7 @@ fn equals_what_says_the_same(rt: HostRuntime) -> Result<(), Fail> {
             assert_eq!(rt; found.as_str(), *printed, "{operation:?} at {text:?}");
             check_specs(&rt, alloc, spec, again, Ordering::Equal)?;
         }
-        for (j, (operation, printed, _)) in rows.iter().enumerate() {
+        for (j, (operation, printed, _)) in ROWS.iter().enumerate() {
             let other = parse(alloc, BStr::new(printed.as_bytes()), *operation)?;
             check_equal(&rt, &again, &other, i == j);
         }

@@ -54,28 +54,23 @@ fn check_rows(
 ) -> Result<(), Fail> {
     for (text, prefix, entries) in rows {
         let spec = parse(alloc, BStr::new(text.as_bytes()), operation)?;
-        let found = match spec.prefix() {
-            None => None,
-            Some(found) => Some(found.as_bytes()),
-        };
-        let wanted = match prefix {
-            None => None,
-            Some(wanted) => Some(wanted.as_bytes()),
-        };
-        assert_eq!(rt; found, wanted, "{operation:?} at {text}");
-        let mut out = Vec::new(alloc);
-        out.push(BString::from_slice(alloc, b"kept")?)?;
+        let mut out = vec![in alloc; BString::from_slice(alloc, b"kept")?]?;
         spec.expand_prefixes(alloc, &mut out)?;
         let found = lines(alloc, out.as_slice())?;
         let wanted = format!(in alloc; "kept\n{entries}")?;
-        assert_eq!(rt; found.as_str(), wanted.as_str(), "{operation:?} at {text}");
+        let asked = prefix.map(|prefix| BStr::new(prefix.as_bytes()));
+        assert_eq!(rt;
+            (spec.prefix(), found.as_str()),
+            (asked, wanted.as_str()),
+            "{operation:?} at {text}"
+        );
     }
     Ok(())
 }
 
 #[test]
 fn asks_for_a_fetch(rt: HostRuntime) -> Result<(), Fail> {
-    let rows = [
+    const ROWS: &[(&str, Option<&str>, &str)] = &[
         ("HEAD", Some("HEAD"), "HEAD\n"),
         (
             "main",
@@ -123,13 +118,13 @@ fn asks_for_a_fetch(rt: HostRuntime) -> Result<(), Fail> {
         ("^refs/heads/main", None, ""),
         ("^refs/heads/*", None, ""),
     ];
-    check_rows(&rt, rt.alloc(), Operation::Fetch, &rows)?;
+    check_rows(&rt, rt.alloc(), Operation::Fetch, ROWS)?;
     Ok(())
 }
 
 #[test]
 fn asks_for_a_push(rt: HostRuntime) -> Result<(), Fail> {
-    let rows = [
+    const ROWS: &[(&str, Option<&str>, &str)] = &[
         (
             "a:x",
             None,
@@ -169,6 +164,6 @@ fn asks_for_a_push(rt: HostRuntime) -> Result<(), Fail> {
         ("^HEAD", None, ""),
         ("^refs/heads/*", None, ""),
     ];
-    check_rows(&rt, rt.alloc(), Operation::Push, &rows)?;
+    check_rows(&rt, rt.alloc(), Operation::Push, ROWS)?;
     Ok(())
 }

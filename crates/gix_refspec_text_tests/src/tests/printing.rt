@@ -16,7 +16,7 @@ fn printed(alloc: Global, instruction: &Instruction<'_>) -> Result<String, Alloc
 fn prints_pushes(rt: HostRuntime) -> Result<(), Fail> {
     let src = BStr::new(b"main");
     let dst = BStr::new(b"topic");
-    let alone = [
+    let cases = [
         (
             Push::Delete {
                 ref_or_pattern: dst,
@@ -24,27 +24,38 @@ fn prints_pushes(rt: HostRuntime) -> Result<(), Fail> {
             ":topic",
         ),
         (Push::Exclude { src }, "^main"),
+        (
+            Push::AllMatchingBranches {
+                allow_non_fast_forward: false,
+            },
+            ":",
+        ),
+        (
+            Push::AllMatchingBranches {
+                allow_non_fast_forward: true,
+            },
+            "+:",
+        ),
+        (
+            Push::Matching {
+                src,
+                dst,
+                allow_non_fast_forward: false,
+            },
+            "main:topic",
+        ),
+        (
+            Push::Matching {
+                src,
+                dst,
+                allow_non_fast_forward: true,
+            },
+            "+main:topic",
+        ),
     ];
-    for (push, text) in alone {
+    for (push, text) in cases {
         let found = printed(rt.alloc(), &Instruction::Push(push))?;
         assert_eq!(rt; found.as_str(), text);
-    }
-    for (allow_non_fast_forward, all, matching) in [
-        (false, ":", "main:topic"),
-        (true, "+:", "+main:topic"),
-    ] {
-        let push = Push::AllMatchingBranches {
-            allow_non_fast_forward,
-        };
-        let found = printed(rt.alloc(), &Instruction::Push(push))?;
-        assert_eq!(rt; found.as_str(), all);
-        let push = Push::Matching {
-            src,
-            dst,
-            allow_non_fast_forward,
-        };
-        let found = printed(rt.alloc(), &Instruction::Push(push))?;
-        assert_eq!(rt; found.as_str(), matching);
     }
     Ok(())
 }

@@ -39,58 +39,46 @@ fn writes_behind_what_was_written(rt: HostRuntime) -> Result<(), Fail> {
     let mut out = vec![in alloc; b'x']?;
     let spec = parse(alloc, BStr::new(b":y"), Operation::Push)?;
     spec.write_to(&mut out)?;
-    assert_eq!(rt; BStr::new(out.as_slice()), BStr::new(b"x:y"));
+    out.push(b' ')?;
     spec.instruction().write_to(&mut out)?;
-    assert_eq!(rt; BStr::new(out.as_slice()), BStr::new(b"x:y:y"));
+    assert_eq!(rt; BStr::new(out.as_slice()), BStr::new(b"x:y :y"));
     Ok(())
 }
 
 #[test]
 fn writes_what_is_printed_until_a_fault(rt: HostRuntime) -> Result<(), Fail> {
-    let push = Operation::Push;
-    let fetch = Operation::Fetch;
-    let rows = [
-        (push, "+:"),
-        (push, ":x"),
-        (push, "+a:b"),
-        (push, "^a"),
-        (fetch, "++foo"),
-        (fetch, "^a"),
-        (fetch, "+a:b"),
+    const ROWS: &[(Operation, &str)] = &[
+        (Operation::Push, "+:"),
+        (Operation::Push, ":x"),
+        (Operation::Push, "+a:b"),
+        (Operation::Push, "^a"),
+        (Operation::Fetch, "++foo"),
+        (Operation::Fetch, "^a"),
+        (Operation::Fetch, "+a:b"),
     ];
     let alloc = rt.alloc();
-    for (operation, text) in rows {
-        let spec = parse(alloc, BStr::new(text.as_bytes()), operation)?;
+    for (operation, text) in ROWS {
+        let spec = parse(alloc, BStr::new(text.as_bytes()), *operation)?;
         let printed = spec.instruction().to_bstring(alloc)?;
         let (by_spec, by_instruction) = written(alloc, spec)?;
+        let wanted = text.as_bytes();
         assert_eq!(rt;
-            printed.as_bytes(),
-            text.as_bytes(),
+            (
+                printed.as_bytes(),
+                by_spec.as_slice(),
+                by_instruction.as_slice()
+            ),
+            (wanted, wanted, wanted),
             "{operation:?} at {text}"
         );
-        assert_eq!(rt;
-            by_spec.as_slice(),
-            text.as_bytes(),
-            "{operation:?} at {text}"
-        );
-        assert_eq!(rt;
-            by_instruction.as_slice(),
-            text.as_bytes(),
-            "{operation:?} at {text}"
-        );
-        let fault = Some(ErrorKind::PermissionDenied);
-        for room in 0..text.len() {
+        for room in 0..=text.len() {
+            let fault = (room < text.len()).then_some(ErrorKind::PermissionDenied);
             assert_eq!(rt;
                 faults(spec, room),
                 (fault, fault),
                 "{operation:?} at {text}"
             );
         }
-        assert_eq!(rt;
-            faults(spec, text.len()),
-            (None, None),
-            "{operation:?} at {text}"
-        );
     }
     Ok(())
 }

@@ -97,7 +97,7 @@ fn planned<'s>(
 #[test]
 fn plans_what_is_written(rt: HostRuntime) -> Result<(), Fail> {
     let alloc = rt.alloc();
-    let cases = [
+    const CASES: &[(&str, &str, &str, &str)] = &[
         (
             "main",
             "+refs/heads/*:refs/remotes/origin/*",
@@ -125,9 +125,9 @@ fn plans_what_is_written(rt: HostRuntime) -> Result<(), Fail> {
             "",
         ),
     ];
-    for (given, configured, names, told) in cases {
+    for (given, configured, names, told) in CASES {
         let answer = planned(alloc, given, configured, names)?;
-        assert_eq!(rt; answer.as_str(), told, "at {given} and {configured}");
+        assert_eq!(rt; answer.as_str(), *told, "at {given} and {configured}");
     }
     Ok(())
 }
@@ -157,7 +157,7 @@ fn looks_there_and_back(rt: HostRuntime) -> Result<(), Fail> {
     let alloc = rt.alloc();
     let target = ObjectId::from_hex(TARGET.as_bytes())?;
     // Specs, a remote ref and a tracking branch, and what is found there and back.
-    let cases = [
+    const CASES: &[(&str, &str, &str, &str, &str)] = &[
         (
             "refs/heads/*:refs/remotes/origin/* refs/heads/main:refs/x/main",
             "refs/heads/main",
@@ -180,15 +180,18 @@ fn looks_there_and_back(rt: HostRuntime) -> Result<(), Fail> {
             "-",
         ),
     ];
-    for (texts, remote, tracking, there, back) in cases {
+    for (texts, remote, tracking, there, back) in CASES {
         let (found_there, found_back) = looked_up(
             alloc,
             texts,
             &item(remote, &target),
             &item(tracking, &target),
         )?;
-        assert_eq!(rt; found_there.as_str(), there, "at {texts}");
-        assert_eq!(rt; found_back.as_str(), back, "at {texts}");
+        assert_eq!(rt;
+            (found_there.as_str(), found_back.as_str()),
+            (*there, *back),
+            "at {texts}"
+        );
     }
     Ok(())
 }
@@ -215,7 +218,7 @@ fn asked(alloc: Global, texts: &str, names: &str) -> Result<String, Fail> {
 #[test]
 fn matches_what_is_asked_for(rt: HostRuntime) -> Result<(), Fail> {
     let alloc = rt.alloc();
-    let cases = [
+    const CASES: &[(&str, &str, &str)] = &[
         (
             "HEAD refs/heads/*:refs/x/*",
             "refs/tags/b refs/heads/a HEAD refs/notes/HEAD",
@@ -233,9 +236,9 @@ fn matches_what_is_asked_for(rt: HostRuntime) -> Result<(), Fail> {
         ),
         ("refs/*:refs/x/* main", "refs/heads/a", "no list"),
     ];
-    for (texts, names, told) in cases {
+    for (texts, names, told) in CASES {
         let answer = asked(alloc, texts, names)?;
-        assert_eq!(rt; answer.as_str(), told, "at {texts}");
+        assert_eq!(rt; answer.as_str(), *told, "at {texts}");
     }
     Ok(())
 }
