@@ -1,129 +1,119 @@
 -- The lines and the objects on conflicts, part by part.
-use Rattle.std.proofs.Common.{◌≡◌, ℕ, zero, suc, ◌+◌, ◌-◌, ◌<◌, Bool, List, [], ◌∷◌, ◌++◌, decimal, drop, length, map, take, take_all, get_or, unwrap_or, codes, refl, sym, ap, ◌∙◌, subst, append_assoc, arith}
-use Rattle.std.specs.List.{slice_get}
-use Rattle.std.proofs.lemmas.List.{append-nil, length-drop, length-map, length-take-le, map-append, take-map, take_more}
-use Rattle.gix_refspec_match.specs.declared.types.SourceRef.{SourceRef}
-use Rattle.gix_refspec.specs.declared.match_group.validate.Issue.{Issue}
-use Rattle.gix_refspec.specs.Matching.Mappings.{Source}
-use Rattle.gix_refspec.specs.Matching.Validation.{Conflict}
-use Rattle.gix_refspec.specs.Views.Group.{start_of}
-use Rattle.gix_refspec.specs.Views.Issue.{conflict_of}
-use Rattle.refspec_json.specs.Objects.{conflict_object, line_of}
-use Rattle.refspec_json.specs.Views.{claim_texts}
-use Rattle.refspec_json.specs.declared.mappings.Claim.{Claim}
+use Rattle.std.proofs.Common.{◌≡◌, ℕ, ◌+◌, ◌-◌, ◌<◌, Bool, List, [], ◌∷◌, ◌++◌, Option, Some, None, drop, length, map, take, take_all, get_or, codes, refl, sym, ap, ◌∙◌, subst, append_assoc, arith}
+use Rattle.std.specs.List.{filter_map, slice_get}
+use Rattle.std.proofs.lemmas.List.{append-nil, length-drop, length-map, map-append, map_more, take-map, take_more}
+use Rattle.std.proofs.lemmas.List.Elements.{filter_map-append}
+use Rattle.gix_refspec.specs.Matching.Plan.{Planned}
+use Rattle.refspec_json.specs.Objects.{Claimed, conflict_object, line_of}
 use Rattle.refspec_commands.specs.declared.call.Form.{Form}
 use Rattle.refspec_commands.specs.declared.call.Form.TheVariants as form
-use Rattle.refspec_commands.specs.Conflicts.{AddsConflicts, AddsEachConflict, AreClaims, AreReportedConflicts, IsClaim, IsReportedConflict, WritesClaim, WritesClaims, WritesConflict, claim_of, claims_from, conflict_line, more_line, reported_count}
+use Rattle.refspec_commands.specs.declared.conflicts.Contest.{Contest as DeclaredContest}
+use Rattle.refspec_commands.specs.declared.origins.SpecTexts.{SpecTexts}
+use Rattle.refspec_commands.specs.Conflicts.{AddsConflictLines, AddsEachConflict, AreClaims, AreReportedConflicts, Contest, IsReportedConflict, WritesClaim, WritesClaims, WritesConflict, claims_of, conflict_line, contest_of, those_at}
+use Rattle.refspec_commands.specs.Counts.{more_line, reported_count}
 use Rattle.refspec_commands.specs.Json.{AddsObjects, json_text}
+use Rattle.refspec_commands.specs.Origins.{note_of, text_of}
 use Rattle.refspec_commands.specs.Rows.{source_text}
 use Rattle.refspec_commands.specs.Shown.{Grows, WritesQuoted}
 use Rattle.refspec_commands.proofs.ShownLemmas.{behind}
 
--- five appended parts
-five : (old a b c d new v w x y z : List ℕ) → a ≡ old ++ v → b ≡ a ++ w → c ≡ b ++ x → d ≡ c ++ y → new ≡ d ++ z → new ≡ old ++ (v ++ (w ++ (x ++ (y ++ z))))
-five old a b c d new v w x y z is_a is_b is_c is_d is_new =
-    let at_b = behind old v a w b is_a is_b in
-    let at_c = behind old (v ++ w) b x c at_b is_c in
-    let at_d = behind old ((v ++ w) ++ x) c y d at_c is_d in
-    let at_new = behind old (((v ++ w) ++ x) ++ y) d z new at_d is_new in
-    at_new ∙ ap (λ l. old ++ l) (append_assoc ((v ++ w) ++ x) y z ∙ (append_assoc (v ++ w) x (y ++ z) ∙ append_assoc v w (x ++ (y ++ z))))
+-- six appended parts
+pub six : (old a b c d e new u v w x y z : List ℕ) → a ≡ old ++ u → b ≡ a ++ v → c ≡ b ++ w → d ≡ c ++ x → e ≡ d ++ y → new ≡ e ++ z → new ≡ old ++ (u ++ (v ++ (w ++ (x ++ (y ++ z)))))
+six old a b c d e new u v w x y z is_a is_b is_c is_d is_e is_new =
+    let at_b = behind old u a v b is_a is_b in
+    let at_c = behind old (u ++ v) b w c at_b is_c in
+    let at_d = behind old ((u ++ v) ++ w) c x d at_c is_d in
+    let at_e = behind old (((u ++ v) ++ w) ++ x) d y e at_d is_e in
+    let at_new = behind old ((((u ++ v) ++ w) ++ x) ++ y) e z new at_e is_new in
+    at_new ∙ ap (λ l. old ++ l) (append_assoc (((u ++ v) ++ w) ++ x) y z ∙ (append_assoc ((u ++ v) ++ w) x (y ++ z) ∙ (append_assoc (u ++ v) w (x ++ (y ++ z)) ∙ append_assoc u v (w ++ (x ++ (y ++ z))))))
 
 -- the parts of the line of a claim
-pub WritesClaim-of : (source text old a b c d new : List ℕ) → a ≡ old ++ codes "    " → WritesQuoted source a b → c ≡ b ++ codes " by " → WritesQuoted text c d → new ≡ d ++ 10 ∷ [] → WritesClaim source text old new
-WritesClaim-of source text old a b c d new is_a write_source is_c write_text is_new = (
-  codes "    " ++ (write_source.0 ++ (codes " by " ++ (write_text.0 ++ (10 ∷ [])))),
+pub WritesClaim-of : (source text note said old a b c d e new : List ℕ) → a ≡ old ++ codes "    " → WritesQuoted source a b → c ≡ b ++ codes " by " → WritesQuoted text c d → said ≡ note → e ≡ d ++ said → new ≡ e ++ 10 ∷ [] → WritesClaim source text note old new
+WritesClaim-of source text note said old a b c d e new is_a write_source is_c write_text same is_e is_new = (
+  codes "    " ++ (write_source.0 ++ (codes " by " ++ (write_text.0 ++ (note ++ (10 ∷ []))))),
   record { first = write_source.0; second = write_text.0; is_first = write_source.1; is_second = write_text.1; is = refl },
-  five old a b c d new (codes "    ") write_source.0 (codes " by ") write_text.0 (10 ∷ []) is_a write_source.2 is_c write_text.2 is_new,
+  six old a b c d e new (codes "    ") write_source.0 (codes " by ") write_text.0 note (10 ∷ []) is_a write_source.2 is_c write_text.2 (is_e ∙ ap (λ l. d ++ l) same) is_new,
 )
 
--- one more line
-AreClaims-push : (k : ℕ) (sources : List Source) (s : Source) (texts : List (List ℕ)) (lines line : List ℕ) → AreClaims k sources texts lines → IsClaim (source_text s) (unwrap_or (slice_get texts (k + length sources)) []) line → AreClaims k (sources ++ s ∷ []) texts (lines ++ line)
-AreClaims-push k [] s texts lines line none claim =
-    let at : k + length {A = Source} [] ≡ k = omega arith in
-    (line, [], subst (λ (n : ℕ). IsClaim (source_text s) (unwrap_or (slice_get texts n) []) line) at claim, refl, ap (λ l. l ++ line) none ∙ sym (append-nil line))
-AreClaims-push k (x ∷ sources) s texts lines line (one, rest, here, more, is) claim =
-    let at : k + length (x ∷ sources) ≡ (k + 1) + length sources = omega arith in
-    (one, rest ++ line, here, AreClaims-push (k + 1) sources s texts rest line more (subst (λ (n : ℕ). IsClaim (source_text s) (unwrap_or (slice_get texts n) []) line) at claim), ap (λ l. l ++ line) is ∙ append_assoc one rest line)
+AreClaims-append : (texts : SpecTexts) (ps qs : List Planned) (front back : List ℕ) → AreClaims texts ps front → AreClaims texts qs back → AreClaims texts (ps ++ qs) (front ++ back)
+AreClaims-append texts [] qs front back none more = subst (λ (l : List ℕ). AreClaims texts qs (l ++ back)) (sym none) more
+AreClaims-append texts (x ∷ ps) qs front back (first, rest, here, others, all) more = (first, rest ++ back, here, AreClaims-append texts ps qs rest back others more, ap (λ l. l ++ back) all ∙ append_assoc first rest back)
 
--- at the start there is no line
-pub WritesClaims-start : (texts : List (List ℕ)) (old : List ℕ) → WritesClaims [] texts old old
+pub WritesClaims-start : (texts : SpecTexts) (old : List ℕ) → WritesClaims texts [] old old
 WritesClaims-start texts old = ([], refl, sym (append-nil old))
 
-pub WritesClaims-next : (xs : List SourceRef) (i : ℕ) (s : SourceRef) (texts : List (List ℕ)) (source text old mid new : List ℕ) → i < length xs → s ≡ get_or xs i s → source ≡ source_text (start_of s) → text ≡ unwrap_or (slice_get texts i) [] → WritesClaims (map start_of (take i xs)) texts old mid → WritesClaim source text mid new → WritesClaims (map start_of (take (i + 1) xs)) texts old new
-WritesClaims-next xs i s texts source text old mid new below is of_source of_text a b =
-    let front = map start_of (take i xs) in
-    let long : i ≡ 0 + length front = (let size = length-map (take i xs) start_of in let split = length-take-le i xs (omega (arith, below)) in omega (arith, size, split)) in
-    let claim = subst (λ (n : ℕ). IsClaim (source_text (start_of s)) (unwrap_or (slice_get texts n) []) b.0) long (subst (λ (t : List ℕ). IsClaim (source_text (start_of s)) t b.0) of_text (subst (λ (x : List ℕ). IsClaim x text b.0) of_source b.1)) in
-    let step : map start_of (take (i + 1) xs) ≡ front ++ start_of s ∷ [] = ap (map start_of) (take_more xs i s below) ∙ (map-append start_of (take i xs) (get_or xs i s ∷ []) ∙ ap (λ (x : SourceRef). front ++ start_of x ∷ []) (sym is)) in
-    subst (λ (l : List Source). WritesClaims l texts old new) (sym step) (a.0 ++ b.0, AreClaims-push 0 front (start_of s) texts a.0 b.0 a.1 claim, behind old a.0 mid b.0 new a.2 b.2)
+pub WritesClaims-one : (texts : SpecTexts) (p : Planned) (source text old new : List ℕ) → source ≡ source_text p.source → text ≡ text_of texts p.origin → WritesClaim source text (note_of p.origin) old new → WritesClaims texts (p ∷ []) old new
+WritesClaims-one texts p source text old new of_source of_text claim =
+    let (line, is, write) = subst (λ (t : List ℕ). WritesClaim (source_text p.source) t (note_of p.origin) old new) of_text (subst (λ (s : List ℕ). WritesClaim s text (note_of p.origin) old new) of_source claim) in
+    (line, (line, [], is, refl, sym (append-nil line)), write)
+
+WritesClaims-append : (texts : SpecTexts) (ps qs : List Planned) (old mid new : List ℕ) → WritesClaims texts ps old mid → WritesClaims texts qs mid new → WritesClaims texts (ps ++ qs) old new
+WritesClaims-append texts ps qs old mid new a b = (a.0 ++ b.0, AreClaims-append texts ps qs a.0 b.0 a.1 b.1, behind old a.0 mid b.0 new a.2 b.2)
+
+-- the updates at one more index
+pub those-next : (ps : List Planned) (xs : List ℕ) (i d : ℕ) → i < length xs → those_at ps (take (i + 1) xs) ≡ those_at ps (take i xs) ++ those_at ps (get_or xs i d ∷ [])
+those-next ps xs i d below = ap (those_at ps) (take_more xs i d below) ∙ filter_map-append (λ (k : ℕ). slice_get ps k) (take i xs) (get_or xs i d ∷ [])
+
+-- the update at an index, or none
+pub those-some : (ps : List Planned) (k : ℕ) (p : Planned) → slice_get ps k ≡ Some p → those_at ps (k ∷ []) ≡ p ∷ []
+those-some ps k p is = ap (λ (o : Option Planned). filter_map (λ (x : Option Planned). x) (o ∷ [])) is
+
+pub those-none : (ps : List Planned) (k : ℕ) → slice_get ps k ≡ None → those_at ps (k ∷ []) ≡ []
+those-none ps k is = ap (λ (o : Option Planned). filter_map (λ (x : Option Planned). x) (o ∷ [])) is
+
+pub WritesClaims-next : (texts : SpecTexts) (ps : List Planned) (xs : List ℕ) (i d : ℕ) (old mid new : List ℕ) → i < length xs → WritesClaims texts (those_at ps (take i xs)) old mid → WritesClaims texts (those_at ps (get_or xs i d ∷ [])) mid new → WritesClaims texts (those_at ps (take (i + 1) xs)) old new
+WritesClaims-next texts ps xs i d old mid new below a b =
+    subst (λ (l : List Planned). WritesClaims texts l old new) (sym (those-next ps xs i d below)) (WritesClaims-append texts (those_at ps (take i xs)) (those_at ps (get_or xs i d ∷ [])) old mid new a b)
+
+-- the claims of one more index
+pub claims-next : (texts : SpecTexts) (ps : List Planned) (xs : List ℕ) (i d : ℕ) (old new : List Claimed) → i < length xs → old ≡ claims_of texts (those_at ps (take i xs)) → new ≡ old ++ claims_of texts (those_at ps (get_or xs i d ∷ [])) → new ≡ claims_of texts (those_at ps (take (i + 1) xs))
+claims-next texts ps xs i d old new below so_far grown =
+    grown ∙ (ap (λ l. l ++ claims_of texts (those_at ps (get_or xs i d ∷ []))) so_far ∙ (sym (map-append _ (those_at ps (take i xs)) (those_at ps (get_or xs i d ∷ []))) ∙ ap (claims_of texts) (sym (those-next ps xs i d below))))
 
 -- the parts of the lines on a conflict
-pub WritesConflict-of : (c : Conflict) (name : List ℕ) (sources : List Source) (texts : List (List ℕ)) (old a b d e new : List ℕ) → name ≡ c.destination → sources ≡ c.sources → texts ≡ c.texts → a ≡ old ++ codes "conflict: " → WritesQuoted name a b → d ≡ b ++ codes " would be written from several refs, so nothing is fetched:\n" → WritesClaims sources texts d e → Grows e new → WritesConflict c old new
-WritesConflict-of c name sources texts old a b d e new same same_sources same_texts is_a write is_d claims grows =
+pub WritesConflict-of : (texts : SpecTexts) (c : Contest) (name : List ℕ) (updates : List Planned) (old a b d e new : List ℕ) → name ≡ c.destination → updates ≡ c.updates → a ≡ old ++ codes "conflict: " → WritesQuoted name a b → d ≡ b ++ codes " would be written from several refs, so nothing is fetched:\n" → WritesClaims texts updates d e → Grows e new → WritesConflict texts c old new
+WritesConflict-of texts c name updates old a b d e new same same_updates is_a write is_d claims grows =
     let head = codes "conflict: " in
-    let words = codes " would be written from several refs, so nothing is fetched:\n" in (
-      head ++ (write.0 ++ (words ++ (claims.0 ++ grows.0))),
-      record {
-        shown = write.0;
-        claims = claims.0;
-        advice = grows.0;
-        destination = rw same at write.1;
-        each = subst (λ (ts : List (List ℕ)). AreClaims 0 c.sources ts claims.0) same_texts (subst (λ (ss : List Source). AreClaims 0 ss texts claims.0) same_sources claims.1);
-        is = refl;
-      },
-      five old a b d e new head write.0 words claims.0 grows.0 is_a write.2 is_d claims.2 grows.1,
+    let words = codes " would be written from several refs, so nothing is fetched:\n" in
+    let named = subst (λ (n : List ℕ). WritesQuoted n a b) same write in
+    let all = subst (λ (l : List Planned). WritesClaims texts l d e) same_updates claims in
+    let at_b = behind old head a named.0 b is_a named.2 in
+    let at_d = behind old (head ++ named.0) b words d at_b is_d in
+    let at_e = behind old ((head ++ named.0) ++ words) d all.0 e at_d all.2 in
+    let at_new = behind old (((head ++ named.0) ++ words) ++ all.0) e grows.0 new at_e grows.1 in (
+      head ++ (named.0 ++ (words ++ (all.0 ++ grows.0))),
+      record { shown = named.0; claims = all.0; advice = grows.0; destination = named.1; each = all.1; is = refl },
+      at_new ∙ ap (λ l. old ++ l) (append_assoc ((head ++ named.0) ++ words) all.0 grows.0 ∙ (append_assoc (head ++ named.0) words (all.0 ++ grows.0) ∙ append_assoc head named.0 (words ++ (all.0 ++ grows.0)))),
     )
 
 -- the object of a conflict, member by member
-pub conflict_line-of : (c : Conflict) (name : List ℕ) (claims : List (List ℕ × List ℕ)) (old new : List ℕ) → name ≡ json_text c.destination → claims ≡ claims_from 0 c.sources c.texts → new ≡ old ++ line_of (conflict_object name claims) → new ≡ old ++ conflict_line c
-conflict_line-of c name claims old new is_name are_claims write = write ∙ (ap (λ x. old ++ line_of (conflict_object x claims)) is_name ∙ ap (λ x. old ++ line_of (conflict_object (json_text c.destination) x)) are_claims)
-
--- the source and the text of a claim
-pub claim_of-both : (a b source text : List ℕ) → a ≡ json_text source → b ≡ json_text text → ◌≡◌ {A = List ℕ × List ℕ} (a, b) (claim_of source text)
-claim_of-both a b source text is_a is_b = rw is_a (rw is_b refl)
-
--- the claim of one more source
-claims_from-push : (k : ℕ) (sources : List Source) (s : Source) (texts : List (List ℕ)) → claims_from k (sources ++ s ∷ []) texts ≡ claims_from k sources texts ++ claim_of (source_text s) (unwrap_or (slice_get texts (k + length sources)) []) ∷ []
-claims_from-push k [] s texts =
-    let at : k + length {A = Source} [] ≡ k = omega arith in
-    ap (λ (n : ℕ). claim_of (source_text s) (unwrap_or (slice_get texts n) []) ∷ []) (sym at)
-claims_from-push k (x ∷ sources) s texts =
-    let at : k + length (x ∷ sources) ≡ (k + 1) + length sources = omega arith in
-    ap (λ l. claim_of (source_text x) (unwrap_or (slice_get texts k) []) ∷ l) (claims_from-push (k + 1) sources s texts ∙ ap (λ (n : ℕ). claims_from (k + 1) sources texts ++ claim_of (source_text s) (unwrap_or (slice_get texts n) []) ∷ []) (sym at))
-
-pub claims_next : (xs : List SourceRef) (i : ℕ) (s : SourceRef) (texts : List (List ℕ)) (source text : List ℕ) (old new : List Claim) (c : Claim) → i < length xs → s ≡ get_or xs i s → source ≡ source_text (start_of s) → text ≡ unwrap_or (slice_get texts i) [] → claim_texts c ≡ claim_of source text → new ≡ old ++ c ∷ [] → map claim_texts old ≡ claims_from 0 (map start_of (take i xs)) texts → map claim_texts new ≡ claims_from 0 (map start_of (take (i + 1) xs)) texts
-claims_next xs i s texts source text old new c below is of_source of_text reported grown so_far =
-    let front = map start_of (take i xs) in
-    let long : i ≡ 0 + length front = (let size = length-map (take i xs) start_of in let split = length-take-le i xs (omega (arith, below)) in omega (arith, size, split)) in
-    let step : map start_of (take (i + 1) xs) ≡ front ++ start_of s ∷ [] = ap (map start_of) (take_more xs i s below) ∙ (map-append start_of (take i xs) (get_or xs i s ∷ []) ∙ ap (λ (x : SourceRef). front ++ start_of x ∷ []) (sym is)) in
-    let last : claim_texts c ≡ claim_of (source_text (start_of s)) (unwrap_or (slice_get texts (0 + length front)) []) =
-    reported ∙ (ap (λ x. claim_of x text) of_source ∙ (ap (λ x. claim_of (source_text (start_of s)) x) of_text ∙ ap (λ (n : ℕ). claim_of (source_text (start_of s)) (unwrap_or (slice_get texts n) [])) long)) in
-    ap (map claim_texts) grown ∙ (map-append claim_texts old (c ∷ []) ∙ (ap (λ l. l ++ claim_texts c ∷ []) so_far ∙ (ap (λ x. claims_from 0 front texts ++ x ∷ []) last ∙ (sym (claims_from-push 0 front (start_of s) texts) ∙ ap (λ (l : List Source). claims_from 0 l texts) (sym step)))))
+pub conflict_line-of : (texts : SpecTexts) (c : Contest) (name : List ℕ) (claims : List Claimed) (old new : List ℕ) → name ≡ json_text c.destination → claims ≡ claims_of texts c.updates → new ≡ old ++ line_of (conflict_object name claims) → new ≡ old ++ conflict_line texts c
+conflict_line-of texts c name claims old new is_name are_claims write = write ∙ (ap (λ x. old ++ line_of (conflict_object x claims)) is_name ∙ ap (λ x. old ++ line_of (conflict_object (json_text c.destination) x)) are_claims)
 
 -- ---- conflicts, in order
 
-AreReportedConflicts-push : (cs : List Conflict) (c : Conflict) (lines one : List ℕ) → AreReportedConflicts cs lines → IsReportedConflict c one → AreReportedConflicts (cs ++ c ∷ []) (lines ++ one)
-AreReportedConflicts-push [] c lines one none reported = (one, [], reported, refl, ap (λ l. l ++ one) none ∙ sym (append-nil one))
-AreReportedConflicts-push (x ∷ cs) c lines one (first, rest, here, more, is) reported = (first, rest ++ one, here, AreReportedConflicts-push cs c rest one more reported, ap (λ l. l ++ one) is ∙ append_assoc first rest one)
+AreReportedConflicts-push : (texts : SpecTexts) (cs : List Contest) (c : Contest) (lines one : List ℕ) → AreReportedConflicts texts cs lines → IsReportedConflict texts c one → AreReportedConflicts texts (cs ++ c ∷ []) (lines ++ one)
+AreReportedConflicts-push texts [] c lines one none reported = (one, [], reported, refl, ap (λ l. l ++ one) none ∙ sym (append-nil one))
+AreReportedConflicts-push texts (x ∷ cs) c lines one (first, rest, here, more, is) reported = (first, rest ++ one, here, AreReportedConflicts-push texts cs c rest one more reported, ap (λ l. l ++ one) is ∙ append_assoc first rest one)
 
-pub AddsEachConflict-start : (f : Form) (old : List ℕ) → AddsEachConflict f [] old old
-AddsEachConflict-start form.Lines old = ([], refl, sym (append-nil old))
-AddsEachConflict-start form.Zeros old = ([], refl, sym (append-nil old))
-AddsEachConflict-start form.Json old = refl
+pub AddsEachConflict-start : (f : Form) (texts : SpecTexts) (old : List ℕ) → AddsEachConflict f texts [] old old
+AddsEachConflict-start form.Lines texts old = ([], refl, sym (append-nil old))
+AddsEachConflict-start form.Zeros texts old = ([], refl, sym (append-nil old))
+AddsEachConflict-start form.Json texts old = refl
 
-AddsEachConflict-push : (f : Form) (cs : List Conflict) (c : Conflict) (old mid new : List ℕ) → AddsEachConflict f cs old mid → AddsEachConflict f (c ∷ []) mid new → AddsEachConflict f (cs ++ c ∷ []) old new
-AddsEachConflict-push form.Json cs c old mid new a b = b ∙ a
-AddsEachConflict-push form.Lines cs c old mid new a (lines, (one, rest, reported, none, is), write) =
+AddsEachConflict-push : (f : Form) (texts : SpecTexts) (cs : List Contest) (c : Contest) (old mid new : List ℕ) → AddsEachConflict f texts cs old mid → AddsEachConflict f texts (c ∷ []) mid new → AddsEachConflict f texts (cs ++ c ∷ []) old new
+AddsEachConflict-push form.Json texts cs c old mid new a b = b ∙ a
+AddsEachConflict-push form.Lines texts cs c old mid new a (lines, (one, rest, reported, none, is), write) =
     let all : lines ≡ one = is ∙ (ap (λ l. one ++ l) none ∙ append-nil one) in
-    (a.0 ++ one, AreReportedConflicts-push cs c a.0 one a.1 reported, behind old a.0 mid one new a.2 (write ∙ ap (λ l. mid ++ l) all))
-AddsEachConflict-push form.Zeros cs c old mid new a (lines, (one, rest, reported, none, is), write) =
+    (a.0 ++ one, AreReportedConflicts-push texts cs c a.0 one a.1 reported, behind old a.0 mid one new a.2 (write ∙ ap (λ l. mid ++ l) all))
+AddsEachConflict-push form.Zeros texts cs c old mid new a (lines, (one, rest, reported, none, is), write) =
     let all : lines ≡ one = is ∙ (ap (λ l. one ++ l) none ∙ append-nil one) in
-    (a.0 ++ one, AreReportedConflicts-push cs c a.0 one a.1 reported, behind old a.0 mid one new a.2 (write ∙ ap (λ l. mid ++ l) all))
+    (a.0 ++ one, AreReportedConflicts-push texts cs c a.0 one a.1 reported, behind old a.0 mid one new a.2 (write ∙ ap (λ l. mid ++ l) all))
 
-pub AddsEachConflict-next : (f g : Form) (xs : List Issue) (i : ℕ) (x : Issue) (old mid new : List ℕ) → i < length xs → x ≡ get_or xs i x → g ≡ f → AddsEachConflict f (map conflict_of (take i xs)) old mid → AddsEachConflict g (conflict_of x ∷ []) mid new → AddsEachConflict f (map conflict_of (take (i + 1) xs)) old new
-AddsEachConflict-next f g xs i x old mid new below is same a b =
-    let step : map conflict_of (take (i + 1) xs) ≡ map conflict_of (take i xs) ++ conflict_of x ∷ [] = ap (map conflict_of) (take_more xs i x below) ∙ (map-append conflict_of (take i xs) (get_or xs i x ∷ []) ∙ ap (λ (y : Issue). map conflict_of (take i xs) ++ conflict_of y ∷ []) (sym is)) in
-    subst (λ (l : List Conflict). AddsEachConflict f l old new) (sym step) (AddsEachConflict-push f (map conflict_of (take i xs)) (conflict_of x) old mid new a (subst (λ (h : Form). AddsEachConflict h (conflict_of x ∷ []) mid new) same b))
+pub AddsEachConflict-next : (f g : Form) (texts : SpecTexts) (ps : List Planned) (xs : List DeclaredContest) (i : ℕ) (x : DeclaredContest) (old mid new : List ℕ) → i < length xs → x ≡ get_or xs i x → g ≡ f → AddsEachConflict f texts (map (contest_of ps) (take i xs)) old mid → AddsEachConflict g texts (contest_of ps x ∷ []) mid new → AddsEachConflict f texts (map (contest_of ps) (take (i + 1) xs)) old new
+AddsEachConflict-next f g texts ps xs i x old mid new below is same a b =
+    let step : map (contest_of ps) (take (i + 1) xs) ≡ map (contest_of ps) (take i xs) ++ contest_of ps x ∷ [] = map_more (contest_of ps) xs i x below ∙ ap (λ (y : DeclaredContest). map (contest_of ps) (take i xs) ++ contest_of ps y ∷ []) (sym is) in
+    subst (λ (l : List Contest). AddsEachConflict f texts l old new) (sym step) (AddsEachConflict-push f texts (map (contest_of ps) (take i xs)) (contest_of ps x) old mid new a (subst (λ (h : Form). AddsEachConflict h texts (contest_of ps x ∷ []) mid new) same b))
 
 -- ---- the first conflicts, and how many more
 
@@ -146,16 +136,9 @@ AddsObjects-first form.Lines Reports all xs old new reported = reported
 AddsObjects-first form.Zeros Reports all xs old new reported = reported
 
 -- the first conflicts, and how many more there are
-pub AddsConflicts-of : (f : Form) (all : Bool) (cs : List Conflict) (n : ℕ) (old mid new : List ℕ) → n ≡ length cs - reported_count f all (length cs) → AddsEachConflict f (take (reported_count f all (length cs)) cs) old mid → new ≡ mid ++ more_line (codes "conflict: ") n → AddsConflicts all f cs old new
-AddsConflicts-of form.Json all cs n old mid new is same more =
+pub AddsConflictLines-of : (f : Form) (texts : SpecTexts) (all : Bool) (cs : List Contest) (n : ℕ) (old mid new : List ℕ) → n ≡ length cs - reported_count f all (length cs) → AddsEachConflict f texts (take (reported_count f all (length cs)) cs) old mid → new ≡ mid ++ more_line (codes "conflict: ") n → AddsConflictLines all f texts cs old new
+AddsConflictLines-of form.Json texts all cs n old mid new is same more =
     let none : n ≡ 0 = omega (arith, is) in
     more ∙ (ap (λ (k : ℕ). mid ++ more_line (codes "conflict: ") k) none ∙ (append-nil mid ∙ same))
-AddsConflicts-of form.Lines all cs n old mid new is (lines, reported, write) more = (lines, reported, behind old lines mid (more_line (codes "conflict: ") n) new write more ∙ ap (λ (k : ℕ). old ++ (lines ++ more_line (codes "conflict: ") k)) is)
-AddsConflicts-of form.Zeros all cs n old mid new is (lines, reported, write) more = (lines, reported, behind old lines mid (more_line (codes "conflict: ") n) new write more ∙ ap (λ (k : ℕ). old ++ (lines ++ more_line (codes "conflict: ") k)) is)
-
--- the line that says how many more there are, if not 0
-pub more_line-some : (what : List ℕ) (n : ℕ) (old a b new : List ℕ) → (n ≡ 0 → ⊥) → a ≡ old ++ what → b ≡ a ++ decimal n → new ≡ b ++ codes " more; `--all` lists them\n" → new ≡ old ++ more_line what n
-more_line-some what zero old a b new some is_a is_b is_new = absurd (some refl)
-more_line-some what (suc n) old a b new some is_a is_b is_new =
-    let front = behind old what a (decimal (suc n)) b is_a is_b in
-    behind old (what ++ decimal (suc n)) b (codes " more; `--all` lists them\n") new front is_new ∙ ap (λ l. old ++ l) (append_assoc what (decimal (suc n)) (codes " more; `--all` lists them\n"))
+AddsConflictLines-of form.Lines texts all cs n old mid new is (lines, reported, write) more = (lines, reported, behind old lines mid (more_line (codes "conflict: ") n) new write more ∙ ap (λ (k : ℕ). old ++ (lines ++ more_line (codes "conflict: ") k)) is)
+AddsConflictLines-of form.Zeros texts all cs n old mid new is (lines, reported, write) more = (lines, reported, behind old lines mid (more_line (codes "conflict: ") n) new write more ∙ ap (λ (k : ℕ). old ++ (lines ++ more_line (codes "conflict: ") k)) is)

@@ -1,18 +1,20 @@
--- The lines of mappings, grouped below their specs, in order.
-use Rattle.std.proofs.Common.{◌≡◌, ◌≢◌, ℕ, ◌+◌, ◌<◌, List, [], ◌∷◌, ◌++◌, codes, map, length, take, get_or, unwrap_or, Option, Some, None, inl, inr, refl, sym, ap, ◌∙◌, subst, append_assoc}
-use Rattle.std.proofs.lemmas.List.{append-nil, map_more}
-use Rattle.std.specs.List.{slice_get}
-use Rattle.gix_refspec.specs.Matching.Mappings.{Mapped}
-use Rattle.gix_refspec.specs.Views.Group.{mapped_of}
-use Rattle.gix_refspec_match.specs.declared.types.Mapping.{Mapping}
-use Rattle.refspec_commands.specs.Groups.{AddsShort, AreBelow, AreShort, IsBelow, IsHead, IsShort, WritesHeading, WritesShort}
+-- The lines of updates, grouped below their specs, in order.
+use Rattle.std.proofs.Common.{◌≡◌, ◌≢◌, ℕ, Bool, true, false, MatchBool, cond, List, [], ◌∷◌, ◌++◌, codes, unwrap_or, Option, Some, None, inl, inr, refl, sym, ap, ◌∙◌, subst, append_assoc}
+use Rattle.std.proofs.lemmas.List.{append-nil}
+use Rattle.gix_refspec.specs.declared.plan.Origin.{Origin}
+use Rattle.gix_refspec.specs.Matching.Plan.{Planned}
+use Rattle.refspec_commands.specs.declared.origins.SpecTexts.{SpecTexts}
+use Rattle.refspec_commands.specs.Groups.{AddsBelow, AddsShort, AreBelow, AreShort, IsBelow, IsHead, WritesBelow, WritesShort}
+use Rattle.refspec_commands.specs.Origins.{text_of}
 use Rattle.refspec_commands.specs.Rows.{WritesCell, source_text}
 use Rattle.refspec_commands.specs.Shown.{WritesQuoted}
+use Rattle.refspec_commands.specs.Updates.{WritesHeading}
+use Rattle.refspec_commands.specs.Verdicts.{is_written}
 use Rattle.refspec_commands.proofs.ShownLemmas.{behind}
 
--- a cell, the other side and a newline are a line
-pub WritesShort-of : (m : Mapped) (old a b new : List ℕ) → WritesCell (source_text m.source) old a → WritesQuoted (unwrap_or m.destination (codes "FETCH_HEAD")) a b → new ≡ b ++ 10 ∷ [] → WritesShort m old new
-WritesShort-of m old a b new cell q ended =
+-- a cell, the destination and a newline are a line
+pub WritesShort-of : (p : Planned) (old a b new : List ℕ) → WritesCell (source_text p.source) old a → WritesQuoted (unwrap_or p.destination (codes "FETCH_HEAD")) a b → new ≡ b ++ 10 ∷ [] → WritesShort p old new
+WritesShort-of p old a b new cell q ended =
     let nl = 10 ∷ [] in
     let both : b ≡ old ++ (cell.0 ++ q.0) = behind old cell.0 a q.0 b cell.2 q.2 in (
       cell.0 ++ (q.0 ++ nl),
@@ -20,76 +22,79 @@ WritesShort-of m old a b new cell q ended =
       behind old (cell.0 ++ q.0) b nl new both ended ∙ ap (λ l. old ++ l) (append_assoc cell.0 q.0 nl),
     )
 
-pub WritesHeading-of : (text old a new : List ℕ) → WritesQuoted text old a → new ≡ a ++ 10 ∷ [] → WritesHeading text old new
-WritesHeading-of text old a new q ended = (q.0 ++ 10 ∷ [], (q.0, q.1, refl), behind old q.0 a (10 ∷ []) new q.2 ended)
-
-AreShort-push : (ms : List Mapped) (m : Mapped) (lines line : List ℕ) → AreShort ms lines → IsShort m line → AreShort (ms ++ m ∷ []) (lines ++ line)
-AreShort-push [] m lines line none is = (line, [], is, refl, ap (λ l. l ++ line) none ∙ sym (append-nil line))
-AreShort-push (x ∷ ms) m lines line (first, rest, here, more, all) is = (first, rest ++ line, here, AreShort-push ms m rest line more is, ap (λ l. l ++ line) all ∙ append_assoc first rest line)
+AreShort-append : (ps qs : List Planned) (front back : List ℕ) → AreShort ps front → AreShort qs back → AreShort (ps ++ qs) (front ++ back)
+AreShort-append [] qs front back none more = subst (λ (l : List ℕ). AreShort qs (l ++ back)) (sym none) more
+AreShort-append (x ∷ ps) qs front back (first, rest, here, others, all) more = (first, rest ++ back, here, AreShort-append ps qs rest back others more, ap (λ l. l ++ back) all ∙ append_assoc first rest back)
 
 pub AddsShort-start : (old : List ℕ) → AddsShort [] old old
 AddsShort-start old = ([], refl, sym (append-nil old))
 
--- one more line
-pub AddsShort-next : (xs : List Mapping) (i : ℕ) (x : Mapping) (old mid new : List ℕ) → i < length xs → x ≡ get_or xs i x → AddsShort (map mapped_of (take i xs)) old mid → WritesShort (mapped_of x) mid new → AddsShort (map mapped_of (take (i + 1) xs)) old new
-AddsShort-next xs i x old mid new below is (lines, are, so_far) (line, short, write) =
-    let step : map mapped_of (take (i + 1) xs) ≡ map mapped_of (take i xs) ++ mapped_of x ∷ [] = map_more mapped_of xs i x below ∙ ap (λ (y : Mapping). map mapped_of (take i xs) ++ mapped_of y ∷ []) (sym is) in
-    subst (λ (l : List Mapped). AddsShort l old new) (sym step) (lines ++ line, AreShort-push (map mapped_of (take i xs)) (mapped_of x) lines line are short, behind old lines mid line new so_far write)
+pub AddsShort-one : (p : Planned) (old new : List ℕ) → WritesShort p old new → AddsShort (p ∷ []) old new
+AddsShort-one p old new (line, short, write) = (line, (line, [], short, refl, sym (append-nil line)), write)
 
--- the spec of the last mapping
-abbrev pub last_spec : Option ℕ → List Mapped → Option ℕ
-last_spec before [] = before
-last_spec before (m ∷ ms) = last_spec (Some m.spec) ms
+-- the lines of more updates
+pub AddsShort-append : (ps qs : List Planned) (old mid new : List ℕ) → AddsShort ps old mid → AddsShort qs mid new → AddsShort (ps ++ qs) old new
+AddsShort-append ps qs old mid new (lines, are, so_far) (more, others, write) = (lines ++ more, AreShort-append ps qs lines more are others, behind old lines mid more new so_far write)
 
-last_spec-push : (before : Option ℕ) (ms : List Mapped) (m : Mapped) → last_spec before (ms ++ m ∷ []) ≡ Some m.spec
-last_spec-push before [] m = refl
-last_spec-push before (x ∷ ms) m = last_spec-push (Some x.spec) ms m
+-- the origin of the last update
+abbrev pub last_origin : Option Origin → List Planned → Option Origin
+last_origin before [] = before
+last_origin before (p ∷ ps) = last_origin (Some p.origin) ps
 
-AreBelow-push : (texts : List (List ℕ)) (before : Option ℕ) (ms : List Mapped) (m : Mapped) (lines one : List ℕ) → AreBelow texts before ms lines → IsBelow texts (last_spec before ms) m one → AreBelow texts before (ms ++ m ∷ []) (lines ++ one)
-AreBelow-push texts before [] m lines one none is = (one, [], is, refl, ap (λ l. l ++ one) none ∙ sym (append-nil one))
-AreBelow-push texts before (x ∷ ms) m lines one (first, rest, here, more, all) is = (first, rest ++ one, here, AreBelow-push texts (Some x.spec) ms m rest one more is, ap (λ l. l ++ one) all ∙ append_assoc first rest one)
+last_origin-push : (before : Option Origin) (ps : List Planned) (p : Planned) → last_origin before (ps ++ p ∷ []) ≡ Some p.origin
+last_origin-push before [] p = refl
+last_origin-push before (x ∷ ps) p = last_origin-push (Some x.origin) ps p
 
--- the lines of the mappings so far were written, and before is the spec of the last one
-pub record GroupedSoFar (texts : List (List ℕ)) (ms : List Mapped) (before : Option ℕ) (old new : List ℕ) : Type 0 where
+AreBelow-push : (texts : SpecTexts) (before : Option Origin) (ps : List Planned) (p : Planned) (lines one : List ℕ) → AreBelow texts before ps lines → IsBelow texts (last_origin before ps) p one → AreBelow texts before (ps ++ p ∷ []) (lines ++ one)
+AreBelow-push texts before [] p lines one none is = (one, [], is, refl, ap (λ l. l ++ one) none ∙ sym (append-nil one))
+AreBelow-push texts before (x ∷ ps) p lines one (first, rest, here, more, all) is = (first, rest ++ one, here, AreBelow-push texts (Some x.origin) ps p rest one more is, ap (λ l. l ++ one) all ∙ append_assoc first rest one)
+
+-- the lines of the updates so far were written, and before is the origin of the last one
+pub record GroupedSoFar (texts : SpecTexts) (ps : List Planned) (before : Option Origin) (old new : List ℕ) : Type 0 where
   pub lines : List ℕ
-  pub are : AreBelow texts None ms lines
-  pub last : before ≡ last_spec None ms
+  pub are : AreBelow texts None ps lines
+  pub last : before ≡ last_origin None ps
   pub write : new ≡ old ++ lines
 
-pub GroupedSoFar-start : (texts : List (List ℕ)) (old : List ℕ) → GroupedSoFar texts [] None old old
+pub GroupedSoFar-start : (texts : SpecTexts) (old : List ℕ) → GroupedSoFar texts [] None old old
 GroupedSoFar-start texts old = record { lines = []; are = refl; last = refl; write = sym (append-nil old) }
 
 -- the heading before a line, if needed
-pub record WritesHead (texts : List (List ℕ)) (before : Option ℕ) (m : Mapped) (old new : List ℕ) : Type 0 where
+pub record WritesHead (texts : SpecTexts) (before : Option Origin) (p : Planned) (old new : List ℕ) : Type 0 where
   pub head : List ℕ
-  pub is : IsHead texts before m head
+  pub is : IsHead texts before p head
   pub write : new ≡ old ++ head
 
-pub WritesHead-none : (texts : List (List ℕ)) (before : Option ℕ) (m : Mapped) (old : List ℕ) → before ≡ Some m.spec → WritesHead texts before m old old
-WritesHead-none texts before m old same = record { head = []; is = inl (same, refl); write = sym (append-nil old) }
+pub WritesHead-none : (texts : SpecTexts) (before : Option Origin) (p : Planned) (old : List ℕ) → before ≡ Some p.origin → WritesHead texts before p old old
+WritesHead-none texts before p old same = record { head = []; is = inl (same, refl); write = sym (append-nil old) }
 
-pub WritesHead-some : (texts : List (List ℕ)) (before : Option ℕ) (m : Mapped) (text old new : List ℕ) → before ≢ Some m.spec → text ≡ unwrap_or (slice_get texts m.spec) [] → WritesHeading text old new → WritesHead texts before m old new
-WritesHead-some texts before m text old new other same (line, heading, write) = record { head = line; is = inr (other, rw same at heading); write = write }
+pub WritesHead-some : (texts : SpecTexts) (before : Option Origin) (p : Planned) (text old new : List ℕ) → before ≢ Some p.origin → text ≡ text_of texts p.origin → WritesHeading text p.origin old new → WritesHead texts before p old new
+WritesHead-some texts before p text old new other same (line, heading, write) = record { head = line; is = inr (other, rw same at heading); write = write }
 
--- one more mapping
-pub GroupedSoFar-next : (texts : List (List ℕ)) (xs : List Mapping) (i : ℕ) (x : Mapping) (before next : Option ℕ) (old mid a b new : List ℕ) → i < length xs → x ≡ get_or xs i x → GroupedSoFar texts (map mapped_of (take i xs)) before old mid → WritesHead texts before (mapped_of x) mid a → b ≡ a ++ codes "  " → WritesShort (mapped_of x) b new → next ≡ Some (mapped_of x).spec → GroupedSoFar texts (map mapped_of (take (i + 1) xs)) next old new
-GroupedSoFar-next texts xs i x before next old mid a b new below is so_far head margin (line, short, write) same =
-    let front = map mapped_of (take i xs) in
-    let m = mapped_of x in
-    let step : map mapped_of (take (i + 1) xs) ≡ front ++ m ∷ [] = map_more mapped_of xs i x below ∙ ap (λ (y : Mapping). front ++ mapped_of y ∷ []) (sym is) in
-    let one = head.head ++ (codes "  " ++ line) in
-    let is_one : IsBelow texts (last_spec None front) m one = record {
-      head = head.head;
-      line = line;
-      is_head = subst (λ (o : Option ℕ). IsHead texts o m head.head) so_far.last head.is;
-      is_line = short;
-      is = refl;
-    } in
-    let with_margin : b ≡ mid ++ (head.head ++ codes "  ") = behind mid head.head a (codes "  ") b head.write margin in
-    let all : new ≡ mid ++ one = behind mid (head.head ++ codes "  ") b line new with_margin write ∙ ap (λ l. mid ++ l) (append_assoc head.head (codes "  ") line) in
-    subst (λ (l : List Mapped). GroupedSoFar texts l next old new) (sym step) (record {
-      lines = so_far.lines ++ one;
-      are = AreBelow-push texts None front m so_far.lines one so_far.are is_one;
-      last = same ∙ sym (last_spec-push None front m);
-      write = behind old so_far.lines mid one new so_far.write all;
+-- the lines of one update
+pub WritesBelow-of : (texts : SpecTexts) (before : Option Origin) (p : Planned) (old a b new : List ℕ) → WritesHead texts before p old a → b ≡ a ++ codes "  " → WritesShort p b new → WritesBelow texts before p old new
+WritesBelow-of texts before p old a b new head margin (line, short, write) = (
+  head.head ++ (codes "  " ++ line),
+  record { head = head.head; line = line; is_head = head.is; is_line = short; is = refl },
+  behind old (head.head ++ codes "  ") b line new (behind old head.head a (codes "  ") b head.write margin) write ∙ ap (λ l. old ++ l) (append_assoc head.head (codes "  ") line),
+)
+
+-- an update that is written or not
+pub GroupedSoFar-next : (texts : SpecTexts) (ps more : List Planned) (p : Planned) (b : Bool) (before next : Option Origin) (old mid new : List ℕ) → is_written p.verdict ≡ b → more ≡ ps ++ cond b (p ∷ []) [] → GroupedSoFar texts ps before old mid → AddsBelow texts p before next mid new → GroupedSoFar texts more next old new
+GroupedSoFar-next texts ps more p true before next old mid new is grown so_far adds =
+    let (lines, below, write) = (subst (λ (x : Bool). MatchBool x (WritesBelow texts before p mid new × (next ≡ Some p.origin)) ((new ≡ mid) × (next ≡ before))) is adds).0 in
+    let same = (subst (λ (x : Bool). MatchBool x (WritesBelow texts before p mid new × (next ≡ Some p.origin)) ((new ≡ mid) × (next ≡ before))) is adds).1 in
+    subst (λ (l : List Planned). GroupedSoFar texts l next old new) (sym grown) (record {
+      lines = so_far.lines ++ lines;
+      are = AreBelow-push texts None ps p so_far.lines lines so_far.are (subst (λ (o : Option Origin). IsBelow texts o p lines) so_far.last below);
+      last = same ∙ sym (last_origin-push None ps p);
+      write = behind old so_far.lines mid lines new so_far.write write;
+    })
+GroupedSoFar-next texts ps more p false before next old mid new is grown so_far adds =
+    let kept = subst (λ (x : Bool). MatchBool x (WritesBelow texts before p mid new × (next ≡ Some p.origin)) ((new ≡ mid) × (next ≡ before))) is adds in
+    subst (λ (l : List Planned). GroupedSoFar texts l next old new) (sym (grown ∙ append-nil ps)) (record {
+      lines = so_far.lines;
+      are = so_far.are;
+      last = kept.1 ∙ so_far.last;
+      write = kept.0 ∙ so_far.write;
     })

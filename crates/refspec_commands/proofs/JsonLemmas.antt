@@ -105,11 +105,23 @@ AreInOrder-push : {X : Type 0} (Reports : X → List ℕ → Type 0) (xs : List 
 AreInOrder-push Reports [] x lines one none is = (one, [], is, refl, ap (λ l. l ++ one) none ∙ sym (append-nil one))
 AreInOrder-push Reports (y ∷ xs) x lines one (first, rest, here, more, all) is = (first, rest ++ one, here, AreInOrder-push Reports xs x rest one more is, ap (λ l. l ++ one) all ∙ append_assoc first rest one)
 
+pub AreInOrder-append : {X : Type 0} (Reports : X → List ℕ → Type 0) (xs ys : List X) (front back : List ℕ) → AreInOrder Reports xs front → AreInOrder Reports ys back → AreInOrder Reports (xs ++ ys) (front ++ back)
+AreInOrder-append Reports [] ys front back none more = subst (λ (l : List ℕ). AreInOrder Reports ys (l ++ back)) (sym none) more
+AreInOrder-append Reports (x ∷ xs) ys front back (first, rest, here, others, all) more = (first, rest ++ back, here, AreInOrder-append Reports xs ys rest back others more, ap (λ l. l ++ back) all ∙ append_assoc first rest back)
+
 -- at the start there is no object
 pub AddsObjects-start : {X : Type 0} (f : Form) (Reports : X → List ℕ → Type 0) (old : List ℕ) → AddsObjects f Reports [] old old
 AddsObjects-start form.Lines Reports old = refl
 AddsObjects-start form.Zeros Reports old = refl
 AddsObjects-start form.Json Reports old = ([], refl, sym (append-nil old))
+
+-- the objects of more elements
+pub AddsObjects-append : {X : Type 0} (f g : Form) (Reports : X → List ℕ → Type 0) (xs ys : List X) (old mid new : List ℕ) → g ≡ f → AddsObjects f Reports xs old mid → AddsObjects g Reports ys mid new → AddsObjects f Reports (xs ++ ys) old new
+AddsObjects-append {X} form.Lines g Reports xs ys old mid new same a b = subst (λ (h : Form). AddsObjects h Reports ys mid new) same b ∙ a
+AddsObjects-append {X} form.Zeros g Reports xs ys old mid new same a b = subst (λ (h : Form). AddsObjects h Reports ys mid new) same b ∙ a
+AddsObjects-append {X} form.Json g Reports xs ys old mid new same a b =
+    let (lines, are, write) = subst (λ (h : Form). AddsObjects h Reports ys mid new) same b in
+    (a.0 ++ lines, AreInOrder-append Reports xs ys a.0 lines a.1 are, behind old a.0 mid lines new a.2 write)
 
 pub AddsObjects-push : {X : Type 0} (f g : Form) (Reports : X → List ℕ → Type 0) (xs : List X) (x : X) (old mid new : List ℕ) → g ≡ f → AddsObjects f Reports xs old mid → AddsObjects g Reports (x ∷ []) mid new → AddsObjects f Reports (xs ++ x ∷ []) old new
 AddsObjects-push {X} form.Lines g Reports xs x old mid new same a b = subst (λ (h : Form). AddsObjects h Reports (x ∷ []) mid new) same b ∙ a

@@ -10,12 +10,10 @@ use Rattle.gix_refspec.specs.Laws.Items.{HaveSameNames}
 use Rattle.gix_refspec.specs.Views.Group.{ref_of}
 use Rattle.gix_refspec_match.specs.declared.types.Item.{Item}
 use Rattle.bstr.specs.BStr.{bstr_bytes}
-use Rattle.gix_refspec.specs.Texts.ObjectId.{HasIdFault, IsIdText, digits_of}
+use Rattle.gix_refspec.specs.Texts.ObjectId.{digits_of}
 use Rattle.gix_refspec.specs.Texts.Words.{ContainsText, Lacks}
-use Rattle.gix_refspec_text.specs.declared.oid.Error.{Error}
 use Rattle.gix_refspec_text.specs.declared.oid.Kind.{Kind}
 use Rattle.gix_refspec_text.specs.declared.oid.Kind.TheVariants.{Sha1, Sha256}
-use Rattle.gix_refspec_text.proofs.lemmas.texts.ObjectIdLemmas.{id_or_fault}
 use Rattle.gix_refspec_text.proofs.lemmas.texts.TextLemmas.{Lacks-ContainsText}
 use Rattle.refspec_commands.specs.Input.{AreRecords, IsFirstRecord}
 use Rattle.refspec_commands.specs.Refs.{AddsLine, AddsLineByNames, AddsRefs, AddsListed, HasLast, IsIdThen, IsLast, IsNoRefLine, IsOneWord, ListsNames, ListsRefs, ListsName, peeled}
@@ -37,10 +35,6 @@ space_at line digits name space n long here = (
   ap (take n) here ∙ (ap (λ k. take k (digits ++ (space ∷ name))) (sym long) ∙ take-append_seam digits (space ∷ name)),
   ap (drop n) here ∙ (ap (λ k. drop k (digits ++ (space ∷ name))) (sym long) ∙ drop-append_seam digits (space ∷ name)),
 )
-
--- a text with a fault isn't an object id
-pub no_id : (t i : List ℕ) (e : Error) → HasIdFault t e → IsIdText t i → ⊥
-no_id t i e fault text = elim (id_or_fault t) [ inl one ↦ one.sound e fault | inr none ↦ none.unread i text ]
 
 -- a line without digits of either length isn't an id and a name
 pub IsNoRefLine-of : (line : List ℕ) → ((id name : List ℕ) (says : IsIdThen line id name) → ¬ (length says.digits ≡ digits_of Sha1)) → ((id name : List ℕ) (says : IsIdThen line id name) → ¬ (length says.digits ≡ digits_of Sha256)) → IsNoRefLine line

@@ -1,5 +1,5 @@
 -- Rows in order, and their parts.
-use Rattle.std.proofs.Common.{◌≡◌, ℕ, zero, suc, arith, ◌+◌, ◌<◌, ◌≤◌, List, [], ◌∷◌, ◌++◌, map, flat_map, length, take, get_or, unwrap_or, replicate, codes, Option, option_map, Some, refl, sym, ap, ◌∙◌, subst, append_assoc}
+use Rattle.std.proofs.Common.{◌≡◌, None, ℕ, zero, suc, arith, ◌+◌, ◌<◌, ◌≤◌, List, [], ◌∷◌, ◌++◌, map, flat_map, length, take, get_or, replicate, codes, Option, option_map, Some, refl, sym, ap, ◌∙◌, subst, append_assoc}
 use Rattle.std.proofs.lemmas.List.{append-nil, map-append, map_more}
 use Rattle.std.proofs.lemmas.Grind.{flat_map-append}
 use Rattle.gix_refspec.specs.Matching.Mappings.{Mapped}
@@ -14,10 +14,8 @@ use Rattle.bstr.specs.declared.bstring.BString.{BString}
 use Rattle.refspec_json.specs.Objects.{line_of, mapping_object}
 use Rattle.refspec_commands.specs.declared.call.Form.{Form}
 use Rattle.refspec_commands.specs.declared.call.Form.TheVariants as form
-use Rattle.refspec_commands.specs.declared.mappings.Columns.{Columns}
-use Rattle.refspec_commands.specs.declared.mappings.Columns.TheVariants as columns
 use Rattle.refspec_commands.specs.Json.{json_text}
-use Rattle.refspec_commands.specs.Rows.{AddsLines, AddsMappings, AreRowLines, AreSpecTexts, WritesCell, WritesCells, WritesLine, Row, fields, first_side, mapped_object, object_of, row_of, second_side, source_text}
+use Rattle.refspec_commands.specs.Rows.{AddsLines, AddsMappings, AreRowLines, AreSpecTexts, WritesCell, WritesLine, Row, fields, mapped_object, object_of, row_of, source_text}
 use Rattle.refspec_commands.specs.Shown.{WritesQuoted, zero_ended}
 use Rattle.refspec_commands.proofs.ShownLemmas.{behind, flat_map-map, map-twice}
 use Rattle.std.proofs.lemmas.Slice.Zip.{all_zipped_more}
@@ -47,56 +45,44 @@ fields_next shown xs i d r old mid new below same a b =
     ap (λ y. flat_map fields front ++ fields y) same ∙ (ap (λ l. flat_map fields front ++ l) (sym (append-nil (fields x))) ∙ (sym (flat_map-append fields front (x ∷ [])) ∙ ap (flat_map fields) (sym (map_more shown xs i d below)))) in
     behind old (flat_map fields front) mid (fields r) new a b ∙ ap (λ l. old ++ l) all
 
--- the cells of a mapping, the source first
-pub WritesCells-source : (o : Columns) (missing : List ℕ) (m : Mapped) (old mid new : List ℕ) → o ≡ columns.SourceFirst → WritesCell (source_text m.source) old mid → WritesCell (unwrap_or m.destination missing) mid new → WritesCells (first_side missing o m) (second_side missing o m) old new
-WritesCells-source o missing m old mid new same a b =
-    subst (λ (x : Columns). WritesCells (first_side missing x m) (second_side missing x m) old new) (sym same) (a.0, b.0, a.1, b.1, behind old a.0 mid b.0 new a.2 b.2)
-
--- the same, the destination first
-pub WritesCells-destination : (o : Columns) (missing : List ℕ) (m : Mapped) (old mid new : List ℕ) → o ≡ columns.DestinationFirst → WritesCell (unwrap_or m.destination missing) old mid → WritesCell (source_text m.source) mid new → WritesCells (first_side missing o m) (second_side missing o m) old new
-WritesCells-destination o missing m old mid new same a b =
-    subst (λ (x : Columns). WritesCells (first_side missing x m) (second_side missing x m) old new) (sym same) (a.0, b.0, a.1, b.1, behind old a.0 mid b.0 new a.2 b.2)
-
--- the fields of a mapping, the source first
-pub sides-source : (o : Columns) (missing : List ℕ) (m : Mapped) (old mid new : List ℕ) → o ≡ columns.SourceFirst → mid ≡ old ++ zero_ended (source_text m.source) → new ≡ mid ++ zero_ended (unwrap_or m.destination missing) → new ≡ old ++ (zero_ended (first_side missing o m) ++ zero_ended (second_side missing o m))
-sides-source o missing m old mid new same a b =
-    subst (λ (x : Columns). new ≡ old ++ (zero_ended (first_side missing x m) ++ zero_ended (second_side missing x m))) (sym same) (behind old (zero_ended (source_text m.source)) mid (zero_ended (unwrap_or m.destination missing)) new a b)
-
--- the same, the destination first
-pub sides-destination : (o : Columns) (missing : List ℕ) (m : Mapped) (old mid new : List ℕ) → o ≡ columns.DestinationFirst → mid ≡ old ++ zero_ended (unwrap_or m.destination missing) → new ≡ mid ++ zero_ended (source_text m.source) → new ≡ old ++ (zero_ended (first_side missing o m) ++ zero_ended (second_side missing o m))
-sides-destination o missing m old mid new same a b =
-    subst (λ (x : Columns). new ≡ old ++ (zero_ended (first_side missing x m) ++ zero_ended (second_side missing x m))) (sym same) (behind old (zero_ended (unwrap_or m.destination missing)) mid (zero_ended (source_text m.source)) new a b)
-
 -- the cells, the last field and a newline are a line
-pub WritesLine-of : (r : Row) (old cells row new : List ℕ) → WritesCells r.first r.second old cells → WritesQuoted r.spec cells row → new ≡ row ++ 10 ∷ [] → WritesLine r old new
-WritesLine-of r old cells row new a q ended =
-    let two = a.0 ++ a.1 in
+pub WritesLine-of : (r : Row) (old a b row new : List ℕ) → WritesCell r.destination old a → WritesCell r.source a b → WritesQuoted r.spec b row → new ≡ row ++ 10 ∷ [] → WritesLine r old new
+WritesLine-of r old a b row new one two last ended =
     let nl = 10 ∷ [] in
-    let before : row ≡ old ++ (two ++ q.0) = behind old two cells q.0 row a.4 q.2 in
-    let all : new ≡ old ++ ((two ++ q.0) ++ nl) = behind old (two ++ q.0) row nl new before ended in
-    (a.0 ++ (a.1 ++ (q.0 ++ nl)), record { first = a.0; second = a.1; last = q.0; is_first = a.2; is_second = a.3; is_last = q.1; is = refl }, all ∙ ap (λ l. old ++ l) (append_assoc two q.0 nl ∙ append_assoc a.0 a.1 (q.0 ++ nl)))
+    let cells = one.0 ++ two.0 in
+    let at_b : b ≡ old ++ cells = behind old one.0 a two.0 b one.2 two.2 in
+    let at_row : row ≡ old ++ (cells ++ last.0) = behind old cells b last.0 row at_b last.2 in
+    let all : new ≡ old ++ ((cells ++ last.0) ++ nl) = behind old (cells ++ last.0) row nl new at_row ended in
+    (one.0 ++ (two.0 ++ (last.0 ++ nl)), record { first = one.0; second = two.0; last = last.0; is_first = one.1; is_second = two.1; is_last = last.1; is = refl }, all ∙ ap (λ l. old ++ l) (append_assoc cells last.0 nl ∙ append_assoc one.0 two.0 (last.0 ++ nl)))
+
+-- the three fields of a mapping
+pub fields-of : (r : Row) (old a b new : List ℕ) → a ≡ old ++ zero_ended r.destination → b ≡ a ++ zero_ended r.source → new ≡ b ++ zero_ended r.spec → new ≡ old ++ fields r
+fields-of r old a b new is_a is_b is_new =
+    let destination = zero_ended r.destination in
+    let source = zero_ended r.source in
+    behind old (destination ++ source) b (zero_ended r.spec) new (behind old destination a source b is_a is_b) is_new
 
 -- mappings as lines
-pub AddsMappings-lines : (f : Form) (o : Columns) (texts : List (List ℕ)) (ms : List Mapping) (old new : List ℕ) → f ≡ form.Lines → AddsLines (map (λ m. row_of (codes "FETCH_HEAD") o texts (mapped_of m)) ms) old new → AddsMappings f o texts (map mapped_of ms) old new
-AddsMappings-lines f o texts ms old new same reported =
-    subst (λ (x : Form). AddsMappings x o texts (map mapped_of ms) old new) (sym same) (subst (λ (l : List Row). AddsLines l old new) (map-twice (row_of (codes "FETCH_HEAD") o texts) mapped_of ms) reported)
+pub AddsMappings-lines : (f : Form) (texts : List (List ℕ)) (ms : List Mapping) (old new : List ℕ) → f ≡ form.Lines → AddsLines (map (λ m. row_of (codes "FETCH_HEAD") texts (mapped_of m)) ms) old new → AddsMappings f texts (map mapped_of ms) old new
+AddsMappings-lines f texts ms old new same reported =
+    subst (λ (x : Form). AddsMappings x texts (map mapped_of ms) old new) (sym same) (subst (λ (l : List Row). AddsLines l old new) (map-twice (row_of (codes "FETCH_HEAD") texts) mapped_of ms) reported)
 
 -- mappings as fields ended by zero bytes
-pub AddsMappings-zeros : (f : Form) (o : Columns) (texts : List (List ℕ)) (ms : List Mapping) (old new : List ℕ) → f ≡ form.Zeros → new ≡ old ++ flat_map fields (map (λ m. row_of [] o texts (mapped_of m)) ms) → AddsMappings f o texts (map mapped_of ms) old new
-AddsMappings-zeros f o texts ms old new same reported =
-    subst (λ (x : Form). AddsMappings x o texts (map mapped_of ms) old new) (sym same) (reported ∙ ap (λ l. old ++ flat_map fields l) (map-twice (row_of [] o texts) mapped_of ms))
+pub AddsMappings-zeros : (f : Form) (texts : List (List ℕ)) (ms : List Mapping) (old new : List ℕ) → f ≡ form.Zeros → new ≡ old ++ flat_map fields (map (λ m. row_of [] texts (mapped_of m)) ms) → AddsMappings f texts (map mapped_of ms) old new
+AddsMappings-zeros f texts ms old new same reported =
+    subst (λ (x : Form). AddsMappings x texts (map mapped_of ms) old new) (sym same) (reported ∙ ap (λ l. old ++ flat_map fields l) (map-twice (row_of [] texts) mapped_of ms))
 
 -- the object of a mapping, member by member
-pub mapped_object-of : (m : Mapped) (text source spec : List ℕ) (destination : Option (List ℕ)) (old new : List ℕ) → source ≡ json_text (source_text m.source) → destination ≡ option_map json_text m.destination → spec ≡ json_text text → new ≡ old ++ line_of (mapping_object source destination spec) → new ≡ old ++ mapped_object text m
+pub mapped_object-of : (m : Mapped) (text source spec : List ℕ) (destination : Option (List ℕ)) (old new : List ℕ) → source ≡ json_text (source_text m.source) → destination ≡ option_map json_text m.destination → spec ≡ json_text text → new ≡ old ++ line_of (mapping_object source destination spec None) → new ≡ old ++ mapped_object text m
 mapped_object-of m text source spec destination old new is_source is_destination is_spec write =
-    write ∙ (ap (λ x. old ++ line_of (mapping_object x destination spec)) is_source
-    ∙ (ap (λ x. old ++ line_of (mapping_object (json_text (source_text m.source)) x spec)) is_destination
-    ∙ ap (λ x. old ++ line_of (mapping_object (json_text (source_text m.source)) (option_map json_text m.destination) x)) is_spec))
+    write ∙ (ap (λ x. old ++ line_of (mapping_object x destination spec None)) is_source
+    ∙ (ap (λ x. old ++ line_of (mapping_object (json_text (source_text m.source)) x spec None)) is_destination
+    ∙ ap (λ x. old ++ line_of (mapping_object (json_text (source_text m.source)) (option_map json_text m.destination) x None)) is_spec))
 
 -- mappings as objects
-pub AddsMappings-json : (f : Form) (o : Columns) (texts : List (List ℕ)) (ms : List Mapping) (old new : List ℕ) → f ≡ form.Json → new ≡ old ++ flat_map (λ m. object_of texts (mapped_of m)) ms → AddsMappings f o texts (map mapped_of ms) old new
-AddsMappings-json f o texts ms old new same reported =
-    subst (λ (x : Form). AddsMappings x o texts (map mapped_of ms) old new) (sym same) (reported ∙ ap (λ l. old ++ l) (flat_map-map (object_of texts) mapped_of ms))
+pub AddsMappings-json : (f : Form) (texts : List (List ℕ)) (ms : List Mapping) (old new : List ℕ) → f ≡ form.Json → new ≡ old ++ flat_map (λ m. object_of texts (mapped_of m)) ms → AddsMappings f texts (map mapped_of ms) old new
+AddsMappings-json f texts ms old new same reported =
+    subst (λ (x : Form). AddsMappings x texts (map mapped_of ms) old new) (sym same) (reported ∙ ap (λ l. old ++ l) (flat_map-map (object_of texts) mapped_of ms))
 
 -- two or more spaces
 two_or_more : (n : ℕ) → 2 ≤ n → (more : ℕ) × (replicate {A = ℕ} n 32 ≡ 32 ∷ 32 ∷ replicate more 32)

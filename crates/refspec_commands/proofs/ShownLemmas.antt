@@ -5,7 +5,7 @@ use Rattle.std.proofs.lemmas.Grind.{flat_map-append}
 use Rattle.refspec_commands.specs.declared.call.Form.{Form}
 use Rattle.refspec_commands.specs.declared.call.Form.TheVariants as form
 use Rattle.refspec_commands.specs.declared.report.Report.{Report}
-use Rattle.refspec_commands.specs.Shown.{AddsNames, AreLines, KeepsReport, KeepsResults, escaped, zero_ended}
+use Rattle.refspec_commands.specs.Shown.{AddsNames, AreLines, Grows, KeepsReport, KeepsResults, escaped, zero_ended}
 
 -- a fact about a success implies its consequence
 pub on_ok : {T E : Type 0} (r : Result T E) (P Q : Type 0) → OnOk r P → (P → Q) → OnOk r Q
@@ -25,6 +25,10 @@ both_ok (Err e) P Q R one other gives = one
 -- bytes appended twice
 pub behind : (old inner mid more new : List ℕ) → mid ≡ old ++ inner → new ≡ mid ++ more → new ≡ old ++ (inner ++ more)
 behind old inner mid more new before write = write ∙ (ap (λ l. l ++ more) before ∙ append_assoc old inner more)
+
+-- the same, whatever they are
+pub grows_on : (a b c : List ℕ) → Grows a b → Grows b c → Grows a c
+grows_on a b c (first, is) (second, then_is) = (first ++ second, behind a first b second c is then_is)
 
 -- a list mapped twice
 pub map-twice : {X Y Z : Type 0} (f : Y → Z) (g : X → Y) (xs : List X) → map (λ x. f (g x)) xs ≡ map f (map g xs)

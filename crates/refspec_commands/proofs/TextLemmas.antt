@@ -8,7 +8,7 @@ use Rattle.refspec_commands.specs.declared.texts.Text.{Text}
 use Rattle.refspec_commands.specs.Input.{end_byte}
 use Rattle.refspec_commands.specs.declared.settings.Setting.{Setting}
 use Rattle.refspec_commands.specs.Settings.{AreSettingsOf}
-use Rattle.refspec_commands.specs.Texts.{AddsRecords, AddsTexts, AddsValues, Given, given_of, numbered}
+use Rattle.refspec_commands.specs.Texts.{AddsGiven, AddsRecords, AddsTexts, AddsValues, Given, given_of, numbered}
 use Rattle.refspec_commands.proofs.SettingLemmas.{AddsValues-split}
 
 -- one more element was read, and what it gives was added
@@ -62,3 +62,17 @@ AddsTexts-settings e op name other beside input settings old new is of added =
     parts (xs, ys, first, second, both) =
         let (front, one, more) = AddsValues-split xs ys old new (subst (λ (l : List Setting). AddsValues l old new) both added) in
         (front, (xs, first, one), (ys, second, more))
+
+AddsGiven-of : (e : Terminator) (op : Operation) (name specs : List ℕ) (old new : List Given) → (e ≡ ends.Newline) ⊎ (e ≡ ends.Zero) → AddsRecords (end_byte e) op name specs old new → AddsGiven e op name specs old new
+AddsGiven-of ends.Newline op name specs old new is added = added
+AddsGiven-of ends.Zero op name specs old new is added = added
+AddsGiven-of ends.Settings op name specs old new (inl is) added = cc
+AddsGiven-of ends.Settings op name specs old new (inr is) added = cc
+
+-- the records of the file of specs are given
+pub given-records : (e : Terminator) (op : Operation) (name specs : List ℕ) (words : List Given) (ts : List Text) (n : ℕ) → (e ≡ ends.Newline) ⊎ (e ≡ ends.Zero) → AddsRecords (end_byte e) op name specs words (map given_of ts) → n ≡ length ts → (front : List Given) × AddsGiven e op name specs words front × (n ≡ length front)
+given-records e op name specs words ts n is added many = (map given_of ts, AddsGiven-of e op name specs words (map given_of ts) is added, many ∙ sym (length-map ts given_of))
+
+-- of settings only the arguments are given
+pub given-settings : (e : Terminator) (op : Operation) (name specs : List ℕ) (words : List Given) (ts : List Text) (n : ℕ) → e ≡ ends.Settings → map given_of ts ≡ words → n ≡ length ts → (front : List Given) × AddsGiven e op name specs words front × (n ≡ length front)
+given-settings e op name specs words ts n is same many = (words, subst (λ (x : Terminator). AddsGiven x op name specs words words) (sym is) refl, many ∙ (sym (length-map ts given_of) ∙ ap length same))

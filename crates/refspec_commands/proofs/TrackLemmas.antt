@@ -19,7 +19,6 @@ use Rattle.gix_refspec.specs.Matching.Mappings.{Mapped}
 use Rattle.gix_refspec.specs.Matching.Match.{Ref}
 use Rattle.gix_refspec.specs.Specs.Reading.{Reading}
 use Rattle.refspec_commands.specs.declared.call.Form.{Form}
-use Rattle.refspec_commands.specs.declared.mappings.Columns.TheVariants as columns
 use Rattle.refspec_commands.specs.Rows.{AddsMappings, AreSpecTexts}
 use Rattle.refspec_commands.specs.Shown.{KeepsResults}
 use Rattle.refspec_commands.specs.Track.{AddsTracked, AreByNames, AreWritten, HasUnwritten, IsEachWritten, IsWritten, named}
@@ -34,7 +33,7 @@ pub named_of : (a b target : List ℕ) → a ≡ b → target ≡ replicate 20 0
 named_of a b target same zeros = ap (λ n. plain n target) same ∙ ap (plain b) zeros
 
 -- the mappings from refs with these names
-pub AddsTracked-of : (f k h : Form) (names : List (List ℕ)) (refused : Bool) (refs : List Ref) (g by_names : List Reading) (texts : List (List ℕ)) (found shown : List Mapped) (old first mid new : List ℕ) → AreByNames g by_names → k ≡ f → KeepsResults f old first → refs ≡ map named names → AreKeptBackward by_names refs found → AreSpecTexts by_names texts → AddsMappings k columns.DestinationFirst texts shown first mid → shown ≡ found → h ≡ k → KeepsResults h mid new → MatchBool refused ((by_names ≢ g) ⊎ HasUnwritten names found) ((by_names ≡ g) × IsEachWritten names found) → AddsTracked f names refused g old new
+pub AddsTracked-of : (f k h : Form) (names : List (List ℕ)) (refused : Bool) (refs : List Ref) (g by_names : List Reading) (texts : List (List ℕ)) (found shown : List Mapped) (old first mid new : List ℕ) → AreByNames g by_names → k ≡ f → KeepsResults f old first → refs ≡ map named names → AreKeptBackward by_names refs found → AreSpecTexts by_names texts → AddsMappings k texts shown first mid → shown ≡ found → h ≡ k → KeepsResults h mid new → MatchBool refused ((by_names ≢ g) ⊎ HasUnwritten names found) ((by_names ≡ g) × IsEachWritten names found) → AddsTracked f names refused g old new
 AddsTracked-of f k h names refused refs g by_names texts found shown old first mid new looked_up same_form before are kept of_specs reported same form rest whether = record {
   by_names = by_names;
   found = found;
@@ -46,7 +45,7 @@ AddsTracked-of f k h names refused refs g by_names texts found shown old first m
     first = first;
     last = mid;
     before = before;
-    reported = subst (λ (x : Form). AddsMappings x columns.DestinationFirst texts found first mid) same_form (subst (λ (ms : List Mapped). AddsMappings k columns.DestinationFirst texts ms first mid) same reported);
+    reported = subst (λ (x : Form). AddsMappings x texts found first mid) same_form (subst (λ (ms : List Mapped). AddsMappings k texts ms first mid) same reported);
     after = subst (λ (x : Form). KeepsResults x mid new) (form ∙ same_form) rest;
   };
   status = whether;

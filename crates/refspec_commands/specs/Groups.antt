@@ -1,63 +1,70 @@
--- How the mappings of a plan are shown in lines, grouped below their specs. This project's own rule: consecutive
--- mappings of a spec are below its text; if there is only one spec, its text isn't shown.
-use Rattle.std.specs.Prelude.{◌≡◌, ◌≢◌, ◌⊎◌, ℕ, List, [], ◌∷◌, ◌++◌, Option, Some, None, unwrap_or, codes}
-use Rattle.std.specs.List.{slice_get}
-use Rattle.gix_refspec.specs.Matching.Mappings.{Mapped}
+-- How the updates of a plan are shown in lines, grouped below their specs. This project's own rule: consecutive
+-- updates of a spec are below its text; if a given spec is the only one, its text isn't shown.
+use Rattle.std.specs.Prelude.{◌≡◌, ◌≢◌, ◌⊎◌, ℕ, Bool, true, false, List, [], ◌∷◌, ◌++◌, Option, Some, None, MatchBool, unwrap_or, codes}
+use Rattle.gix_refspec.specs.declared.plan.Origin.{Origin}
+use Rattle.gix_refspec.specs.Matching.Plan.{Planned}
+use Rattle.refspec_commands.specs.declared.origins.SpecTexts.{SpecTexts}
+use Rattle.refspec_commands.specs.Origins.{text_of}
 use Rattle.refspec_commands.specs.Rows.{IsCell, source_text}
 use Rattle.refspec_commands.specs.Shown.{IsQuoted}
+use Rattle.refspec_commands.specs.Updates.{IsHeading}
+use Rattle.refspec_commands.specs.Verdicts.{is_written}
 
 -- a line: the source as a cell, and the destination as shown, or FETCH_HEAD if it is missing
-pub record IsShort (m : Mapped) (line : List ℕ) : Type 0 where
+pub record IsShort (p : Planned) (line : List ℕ) : Type 0 where
   pub cell : List ℕ
   pub last : List ℕ
-  pub is_cell : IsCell (source_text m.source) cell
-  pub is_last : IsQuoted (unwrap_or m.destination (codes "FETCH_HEAD")) last
+  pub is_cell : IsCell (source_text p.source) cell
+  pub is_last : IsQuoted (unwrap_or p.destination (codes "FETCH_HEAD")) last
   pub is : line ≡ cell ++ (last ++ (10 ∷ []))
 
--- the results grew by the line of a mapping
-abbrev pub WritesShort : Mapped → List ℕ → List ℕ → Type 0
-WritesShort m old new = (line : List ℕ) × IsShort m line × (new ≡ old ++ line)
+-- the results grew by the line of an update
+abbrev pub WritesShort : Planned → List ℕ → List ℕ → Type 0
+WritesShort p old new = (line : List ℕ) × IsShort p line × (new ≡ old ++ line)
 
--- a line for each mapping, in order
-abbrev pub AreShort : List Mapped → List ℕ → Type 0
+-- a line for each update, in order
+abbrev pub AreShort : List Planned → List ℕ → Type 0
 AreShort [] lines = lines ≡ []
-AreShort (m ∷ ms) lines = (line : List ℕ) × (rest : List ℕ) × IsShort m line × AreShort ms rest × (lines ≡ line ++ rest)
+AreShort (p ∷ ps) lines = (line : List ℕ) × (rest : List ℕ) × IsShort p line × AreShort ps rest × (lines ≡ line ++ rest)
 
-abbrev pub AddsShort : List Mapped → List ℕ → List ℕ → Type 0
-AddsShort ms old new = (lines : List ℕ) × AreShort ms lines × (new ≡ old ++ lines)
+abbrev pub AddsShort : List Planned → List ℕ → List ℕ → Type 0
+AddsShort ps old new = (lines : List ℕ) × AreShort ps lines × (new ≡ old ++ lines)
 
--- the line of a spec: its text as shown
-abbrev pub IsHeading : List ℕ → List ℕ → Type 0
-IsHeading text line = (shown : List ℕ) × IsQuoted text shown × (line ≡ shown ++ (10 ∷ []))
+-- the line before that of an update: the heading of its spec, unless the previous update is by the same spec
+abbrev pub IsHead : SpecTexts → Option Origin → Planned → List ℕ → Type 0
+IsHead texts before p head =
+    ((before ≡ Some p.origin) × (head ≡ []))
+    ⊎ ((before ≢ Some p.origin) × IsHeading (text_of texts p.origin) p.origin head)
 
-abbrev pub WritesHeading : List ℕ → List ℕ → List ℕ → Type 0
-WritesHeading text old new = (line : List ℕ) × IsHeading text line × (new ≡ old ++ line)
-
--- the line before that of a mapping: the heading of its spec, unless the previous mapping has the same spec
-abbrev pub IsHead : List (List ℕ) → Option ℕ → Mapped → List ℕ → Type 0
-IsHead texts before m head =
-    ((before ≡ Some m.spec) × (head ≡ []))
-    ⊎ ((before ≢ Some m.spec) × IsHeading (unwrap_or (slice_get texts m.spec) []) head)
-
--- the lines of a mapping: a heading if needed, and its own line, indented by two spaces
-pub record IsBelow (texts : List (List ℕ)) (before : Option ℕ) (m : Mapped) (lines : List ℕ) : Type 0 where
+-- the lines of an update: a heading if needed, and its own line, indented by two spaces
+pub record IsBelow (texts : SpecTexts) (before : Option Origin) (p : Planned) (lines : List ℕ) : Type 0 where
   pub head : List ℕ
   pub line : List ℕ
-  pub is_head : IsHead texts before m head
-  pub is_line : IsShort m line
+  pub is_head : IsHead texts before p head
+  pub is_line : IsShort p line
   pub is : lines ≡ head ++ (codes "  " ++ line)
 
--- the lines of mappings, in order
-abbrev pub AreBelow : List (List ℕ) → Option ℕ → List Mapped → List ℕ → Type 0
+-- the results grew by these lines
+abbrev pub WritesBelow : SpecTexts → Option Origin → Planned → List ℕ → List ℕ → Type 0
+WritesBelow texts before p old new = (lines : List ℕ) × IsBelow texts before p lines × (new ≡ old ++ lines)
+
+-- the same if the update is written, which then is the previous one of the next
+abbrev pub AddsBelow : SpecTexts → Planned → (before after : Option Origin) → List ℕ → List ℕ → Type 0
+AddsBelow texts p before after old new = MatchBool (is_written p.verdict) (WritesBelow texts before p old new × (after ≡ Some p.origin)) ((new ≡ old) × (after ≡ before))
+
+-- the lines of updates, in order
+abbrev pub AreBelow : SpecTexts → Option Origin → List Planned → List ℕ → Type 0
 AreBelow texts before [] lines = lines ≡ []
-AreBelow texts before (m ∷ ms) lines =
-    (one : List ℕ) × (rest : List ℕ) × IsBelow texts before m one × AreBelow texts (Some m.spec) ms rest × (lines ≡ one ++ rest)
+AreBelow texts before (p ∷ ps) lines =
+    (one : List ℕ) × (rest : List ℕ) × IsBelow texts before p one × AreBelow texts (Some p.origin) ps rest × (lines ≡ one ++ rest)
 
-abbrev pub AddsGrouped : List (List ℕ) → List Mapped → List ℕ → List ℕ → Type 0
-AddsGrouped texts ms old new = (lines : List ℕ) × AreBelow texts None ms lines × (new ≡ old ++ lines)
+abbrev pub AddsGrouped : SpecTexts → List Planned → List ℕ → List ℕ → Type 0
+AddsGrouped texts ps old new = (lines : List ℕ) × AreBelow texts None ps lines × (new ≡ old ++ lines)
 
--- the results grew by mappings, given the texts of all specs: with one text, without headings
-abbrev pub AddsGroups : List (List ℕ) → List Mapped → List ℕ → List ℕ → Type 0
-AddsGroups [] ms old new = AddsGrouped [] ms old new
-AddsGroups (text ∷ []) ms old new = AddsShort ms old new
-AddsGroups (text ∷ (other ∷ texts)) ms old new = AddsGrouped (text ∷ (other ∷ texts)) ms old new
+-- the results grew by updates: without headings, if a given spec is the only one
+abbrev pub AddsGroupsIf : Bool → SpecTexts → List Planned → List ℕ → List ℕ → Type 0
+AddsGroupsIf true texts ps old new = AddsShort ps old new
+AddsGroupsIf false texts ps old new = AddsGrouped texts ps old new
+
+abbrev pub AddsGroups : SpecTexts → List Planned → List ℕ → List ℕ → Type 0
+AddsGroups texts ps old new = AddsGroupsIf texts.is_alone texts ps old new

@@ -1,10 +1,16 @@
 pub mod Canon
 pub mod Conflicts
+pub mod Counts
 pub mod Fault
+pub mod Fetch
 pub mod Groups
 pub mod Input
 pub mod Json
+pub mod LeftOut
+pub mod Malformed
 pub mod Messages
+pub mod Missing
+pub mod Origins
 pub mod Output
 pub mod Plan
 pub mod Prefixes
@@ -14,5 +20,9 @@ pub mod Rows
 pub mod Run
 pub mod Settings
 pub mod Shown
+pub mod Stale
 pub mod Texts
 pub mod Track
+pub mod Updates
+pub mod Verdicts
+pub mod Warnings

@@ -1,10 +1,12 @@
 -- The texts of specs of a call, and their locations. This project's own rule: those among its arguments, those of the
--- file of specs, and, except for a plan, those of the input. A file or an input has one text per record, or, if its
--- records are settings, the refspecs among these. Arguments and records are counted from 1.
-use Rattle.std.specs.Prelude.{◌≡◌, ◌⊎◌, ℕ, ◌+◌, List, [], ◌∷◌, ◌++◌, map, MatchOption}
+-- file of specs, and those of the input; for a plan the configured ones in the place of the input, whose records are
+-- refs. A file or an input has one text per record, or, if its records are settings, the refspecs among these.
+-- Arguments and records are counted from 1.
+use Rattle.std.specs.Prelude.{◌≡◌, ◌⊎◌, ℕ, ◌+◌, List, [], ◌∷◌, ◌++◌, length, map, MatchOption}
 use Rattle.gix_refspec_text.specs.declared.parsing.Operation.{Operation}
 use Rattle.refspec_commands.specs.declared.call.Call.{Call}
 use Rattle.refspec_commands.specs.declared.call.Command.{Command}
+use Rattle.refspec_commands.specs.declared.call.Files.{Files}
 use Rattle.refspec_commands.specs.declared.call.Command.TheVariants as command
 use Rattle.refspec_commands.specs.declared.call.Terminator.{Terminator}
 use Rattle.refspec_commands.specs.declared.call.Terminator.TheVariants as ends
@@ -80,21 +82,37 @@ AddsTexts ends.Newline op name input old new = AddsRecords 10 op name input old 
 AddsTexts ends.Zero op name input old new = AddsRecords 0 op name input old new
 AddsTexts ends.Settings op name input old new = (settings : List Setting) × AreSettings input settings × AddsValues settings old new
 
--- the texts grew by those of the file of specs and of the input
-abbrev pub AddsInputs : Call → List ℕ → List ℕ → List Given → List Given → Type 0
-AddsInputs call beside input old new =
-    (front : List Given) × AddsTexts call.ends call.operation call.beside.now beside old front
-    × AddsTexts call.ends call.operation call.input.now input front new
+-- the texts grew by those of a file of specs, if its records aren't settings
+abbrev pub AddsGiven : Terminator → Operation → List ℕ → List ℕ → List Given → List Given → Type 0
+AddsGiven ends.Newline op name input old new = AddsRecords 10 op name input old new
+AddsGiven ends.Zero op name input old new = AddsRecords 0 op name input old new
+AddsGiven ends.Settings op name input old new = new ≡ old
 
--- the part of its input that a command reads as specs: nothing for a plan
-abbrev pub spec_input : Command → List ℕ → List ℕ
-spec_input command.Plan input = []
-spec_input _ input = input
+-- what a command reads as specs besides its arguments and the file of specs
+abbrev pub spec_input : Command → (configured input : List ℕ) → List ℕ
+spec_input command.Plan configured input = configured
+spec_input command.Stale configured input = []
+spec_input _ configured input = input
+
+-- the name of that
+abbrev pub name_for : Command → (configured input : List ℕ) → List ℕ
+name_for command.Plan configured input = configured
+name_for _ configured input = input
+
+abbrev pub spec_name : Call → List ℕ
+spec_name call = name_for call.command call.configured.now call.input.now
 
 -- the specs among the arguments of a call, each a text
 abbrev pub words_of : Call → List Given
 words_of call = numbered (argument_at call.operation) 1 (map (λ w. w.now) call.specs.items)
 
--- the texts of a call: those among its arguments, of the file of specs, and of the part of the input read as specs
-abbrev pub AreTexts : Call → List ℕ → List ℕ → List Given → Type 0
-AreTexts call beside input texts = AddsInputs call beside (spec_input call.command input) (words_of call) texts
+-- the texts of a call: those among its arguments, of the file of specs, and of what else it reads as specs
+abbrev pub AreTexts : Call → Files → List ℕ → List Given → Type 0
+AreTexts call files input texts =
+    (front : List Given) × AddsTexts call.ends call.operation call.beside.now files.specs.now (words_of call) front
+    × AddsTexts call.ends call.operation (spec_name call) (spec_input call.command files.configured.now input) front texts
+
+-- so many of the first texts of a call are given: those among its arguments and in the file of specs. The others are
+-- configured, and so are all settings
+abbrev pub IsGivenCount : Call → List ℕ → ℕ → Type 0
+IsGivenCount call specs n = (front : List Given) × AddsGiven call.ends call.operation call.beside.now specs (words_of call) front × (n ≡ length front)

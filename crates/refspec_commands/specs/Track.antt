@@ -10,7 +10,6 @@ use Rattle.gix_refspec.specs.Matching.Mappings.{Mapped}
 use Rattle.gix_refspec.specs.Matching.Match.{Ref}
 use Rattle.gix_refspec.specs.Specs.Reading.{Reading}
 use Rattle.refspec_commands.specs.declared.call.Form.{Form}
-use Rattle.refspec_commands.specs.declared.mappings.Columns.TheVariants as columns
 use Rattle.refspec_commands.specs.Rows.{AddsMappingsAmong, AreSpecTexts}
 
 -- a ref of which only the name is known: it points to the null id
@@ -43,8 +42,8 @@ abbrev pub HasUnwritten : List (List ℕ) → List Mapped → Type 0
 HasUnwritten [] found = ⊥
 HasUnwritten (name ∷ names) found = (¬ (IsWritten name found)) ⊎ HasUnwritten names found
 
--- the results grew by the mappings by which these specs map refs with these names back to sources, the destination
--- first; something is refused if the destination of a spec is an object id, or no spec writes a ref
+-- the results grew by the mappings by which these specs map refs with these names back to sources; something is
+-- refused if the destination of a spec is an object id, or no spec writes a ref
 pub record AddsTracked (form : Form) (names : List (List ℕ)) (refused : Bool) (g : List Reading) (old new : List ℕ) : Type 0 where
   pub by_names : List Reading
   pub found : List Mapped
@@ -52,5 +51,5 @@ pub record AddsTracked (form : Form) (names : List (List ℕ)) (refused : Bool) 
   pub looked_up : AreByNames g by_names
   pub kept : AreKeptBackward by_names (map named names) found
   pub of_specs : AreSpecTexts by_names texts
-  pub reported : AddsMappingsAmong form columns.DestinationFirst texts found old new
+  pub reported : AddsMappingsAmong form texts found old new
   pub status : MatchBool refused ((by_names ≢ g) ⊎ HasUnwritten names found) ((by_names ≡ g) × IsEachWritten names found)

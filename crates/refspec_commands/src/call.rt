@@ -1,5 +1,6 @@
 //! A call of the program: its command, options and arguments.
 
+use bstr::BStr;
 use gix_refspec::parsing::Operation;
 
 /// A command of the program.
@@ -13,6 +14,8 @@ pub enum Command {
     Canon,
     /// Shows which refs a fetch writes, given the refs of a remote.
     Plan,
+    /// Lists the local refs that a pruning fetch deletes, given the refs of a remote.
+    Stale,
     /// Shows the remote refs that tracking refs are fetched from.
     Track,
     /// Lists the ref prefixes to request from a server.
@@ -57,26 +60,66 @@ pub struct Call<'a> {
     pub long: bool,
     /// All conflicts and all left out mappings are reported, rather than only the first 20 of each.
     pub all: bool,
+    /// `check` warns of valid specs too.
+    pub warns: bool,
+    /// The exit status of `check` is 1 if it warns of something.
+    pub is_strict: bool,
     /// Messages go to a terminal.
     pub is_watched: bool,
     /// The specs among the arguments.
     pub specs: Vec<&'a str>,
     /// The tracking refs among the arguments.
     pub refs: Vec<&'a str>,
-    /// Whether the input is read: a plan reads its refs there, and other calls their specs, unless those are
-    /// all among the arguments.
+    /// The refs that the current branch merges.
+    pub merges: Vec<BStr<'a>>,
+    /// A plan fetches all tags too.
+    pub tags: bool,
+    /// A plan reports the local refs that a pruning fetch deletes too.
+    pub prune: bool,
+    /// Whether the input is read: a plan and `stale` read the refs of the remote there, and other calls their
+    /// specs, unless those are all among the arguments.
     pub reads_input: bool,
     /// The name of the input in messages.
     pub input: &'a str,
     /// The name in messages of the file of specs that is read beside the input.
     pub beside: &'a str,
+    /// The name in messages of the file of configured specs.
+    pub configured: &'a str,
+    /// The name in messages of the file of local refs.
+    pub local: &'a str,
 }
 
-/// A call, and the input that it reads.
+/// The bytes of the files that a call reads beside its input. A file that it doesn't read is empty.
+#[derive(Clone, Copy, Debug)]
+pub struct Files<'a> {
+    /// Specs; in a call that reads settings, configured ones.
+    pub specs: &'a [u8],
+    /// Configured specs.
+    pub configured: &'a [u8],
+    /// Local refs.
+    pub local: &'a [u8],
+}
+
+impl<'a> Files<'a> {
+    /// A file of specs, and no other.
+    pub fn of_specs(specs: &'a [u8]) -> Files<'a> {
+        Files {
+            specs,
+            configured: b"",
+            local: b"",
+        }
+    }
+}
+
+/// A call, and what it reads.
 #[derive(Clone, Copy, Debug)]
 pub struct Task<'a> {
     /// The call.
     pub call: &'a Call<'a>,
-    /// The bytes that it reads; empty if it reads no input.
+    /// The bytes of its input; empty if it reads none.
     pub input: &'a [u8],
+    /// The bytes of its local refs.
+    pub local: &'a [u8],
+    /// How many of its specs are given; those behind them are configured.
+    pub given: usize,
 }

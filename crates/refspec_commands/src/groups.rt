@@ -1,103 +1,124 @@
-//! The mappings of a plan, grouped below their specs.
+//! The updates of a plan, grouped below their specs.
 
-ghost use Rattle.std.specs.Prelude.{◌≡◌, ◌≢◌, Some, map, MatchBool, OnOk};
-ghost use Rattle.bstr.specs.Owned.{bstring_bytes};
-ghost use Rattle.gix_refspec.specs.Views.Group.{mapped_of};
-ghost use Rattle.refspec_commands.specs.Groups.{AddsGrouped, AddsGroups, AddsShort, WritesHeading, WritesShort};
+ghost use Rattle.std.specs.Prelude.{◌≡◌, ◌≢◌, ◌∷◌, [], Some, map, MatchBool, OnOk};
+ghost use Rattle.gix_refspec.specs.Views.Plan.{planned_of};
+ghost use Rattle.refspec_commands.specs.Groups.{AddsBelow, AddsGrouped, AddsShort, WritesBelow, WritesShort};
+ghost use Rattle.refspec_commands.specs.Verdicts.{written_of};
 
-use crate::mappings::{
-    Columns, NO_DESTINATION, destination_or, layout_of, text_at, write_source_cell,
-};
+use crate::fields::{NO_DESTINATION, write_source_cell};
+use crate::origins::SpecTexts;
 use crate::table::Layout;
-use bstr::BString;
-use gix_refspec::match_group::Mapping;
+use crate::updates::{destination_or, is_written, write_heading};
+use gix_refspec::plan::{Origin, Update};
 use std::alloc::{AllocError, Global};
 
-/// Appends mappings, in order, the source first: those of a spec below its text. If there is only one spec, its
-/// text isn't shown.
-pub fn write_groups(
-    alloc: Global,
-    mappings: &[Mapping<'_, '_>],
-    texts: &[BString],
-    out: &mut Vec<u8>,
-) -> Result<(), AllocError>
-    ensures { OnOk result (AddsGroups (map bstring_bytes texts.now) (map mapped_of mappings.now)
-        out.old.items out.new.items) }
-{
-    let layout = layout_of(alloc, mappings, texts, Columns::SourceFirst)?;
-    out.reserve(layout.room(mappings.len()))?;
-    match texts {
-        [_] => write_rows(alloc, &layout, mappings, out),
-        _ => write_grouped(alloc, &layout, mappings, texts, out),
-    }
-}
-
-// Appends mappings, each in a line.
-fn write_rows(
+/// Appends the updates that are written, each in a line.
+pub fn write_rows(
     alloc: Global,
     layout: &Layout,
-    mappings: &[Mapping<'_, '_>],
+    updates: &[Update<'_>],
     out: &mut Vec<u8>,
 ) -> Result<(), AllocError>
-    ensures { OnOk result (AddsShort (map mapped_of mappings.now) out.old.items out.new.items) }
+    ensures { OnOk result (AddsShort (written_of (map planned_of updates.now)) out.old.items out.new.items) }
 {
-    for mapping in mappings {
-        write_short(alloc, layout, mapping, out)?;
+    for update in updates {
+        add_short(alloc, layout, update, out)?;
     }
     Ok(())
 }
 
-// Appends mappings, each in a line, and the text of a spec in a line wherever the spec changes.
-fn write_grouped(
+// Appends an update as a line, if it is written.
+fn add_short(
     alloc: Global,
     layout: &Layout,
-    mappings: &[Mapping<'_, '_>],
-    texts: &[BString],
+    update: &Update<'_>,
     out: &mut Vec<u8>,
 ) -> Result<(), AllocError>
-    ensures { OnOk result (AddsGrouped (map bstring_bytes texts.now) (map mapped_of mappings.now)
-        out.old.items out.new.items) }
+    ensures { OnOk result (AddsShort (written_of (planned_of update.now ∷ [])) out.old.items out.new.items) }
 {
-    let mut before: Option<usize> = None;
-    for mapping in mappings {
-        if !has_spec(before, mapping.spec_index) {
-            write_heading(layout, text_at(texts, mapping.spec_index), out)?;
-        }
-        out.extend_from_slice(b"  ")?;
-        write_short(alloc, layout, mapping, out)?;
-        before = Some(mapping.spec_index);
+    if !is_written(update.verdict) {
+        return Ok(());
+    }
+    write_short(alloc, layout, update, out)
+}
+
+/// Appends the updates that are written, each in a line, and the text of a spec in a line wherever the spec changes.
+pub fn write_grouped(
+    alloc: Global,
+    layout: &Layout,
+    updates: &[Update<'_>],
+    texts: &SpecTexts,
+    out: &mut Vec<u8>,
+) -> Result<(), AllocError>
+    ensures { OnOk result (AddsGrouped texts.now (written_of (map planned_of updates.now)) out.old.items out.new.items) }
+{
+    let mut before: Option<Origin> = None;
+    for update in updates {
+        add_below(alloc, layout, &mut before, update, texts, out)?;
     }
     Ok(())
 }
 
-// Whether the previous mapping has the spec with this index.
-fn has_spec(before: Option<usize>, spec: usize) -> bool
-    ensures { MatchBool result (before ≡ Some spec) (before ≢ Some spec) }
+// Appends an update as a line, if it is written, behind the text of its spec if that changes. It becomes the previous one.
+fn add_below(
+    alloc: Global,
+    layout: &Layout,
+    before: &mut Option<Origin>,
+    update: &Update<'_>,
+    texts: &SpecTexts,
+    out: &mut Vec<u8>,
+) -> Result<(), AllocError>
+    ensures { OnOk result (AddsBelow texts.now (planned_of update.now) before.old before.new
+        out.old.items out.new.items) }
+{
+    if !is_written(update.verdict) {
+        return Ok(());
+    }
+    write_below(alloc, layout, *before, update, texts, out)?;
+    *before = Some(update.origin);
+    Ok(())
+}
+
+// Appends an update as a line, behind the text of its spec if the previous update is by another.
+fn write_below(
+    alloc: Global,
+    layout: &Layout,
+    before: Option<Origin>,
+    update: &Update<'_>,
+    texts: &SpecTexts,
+    out: &mut Vec<u8>,
+) -> Result<(), AllocError>
+    ensures { OnOk result (WritesBelow texts.now before (planned_of update.now) out.old.items out.new.items) }
+{
+    if !has_origin(before, update.origin) {
+        let text = texts.text_of(update.origin);
+        write_heading(layout, text, update.origin, out)?;
+    }
+    out.extend_from_slice(b"  ")?;
+    write_short(alloc, layout, update, out)
+}
+
+// Whether the previous update is by the spec of this origin.
+fn has_origin(before: Option<Origin>, origin: Origin) -> bool
+    ensures { MatchBool result (before ≡ Some origin) (before ≢ Some origin) }
 {
     match before {
         None => false,
-        Some(number) => number == spec,
+        Some(other) => other == origin,
     }
 }
 
-// Appends the text of a spec as a line.
-fn write_heading(layout: &Layout, text: &[u8], out: &mut Vec<u8>) -> Result<(), AllocError>
-    ensures { OnOk result (WritesHeading text.now out.old.items out.new.items) }
-{
-    layout.write_field(out, text)?;
-    Ok(out.push(b'\n')?)
-}
-
-// Appends a mapping as a line, without its spec.
+// Appends an update as a line, without its spec.
 fn write_short(
     alloc: Global,
     layout: &Layout,
-    mapping: &Mapping<'_, '_>,
+    update: &Update<'_>,
     out: &mut Vec<u8>,
 ) -> Result<(), AllocError>
-    ensures { OnOk result (WritesShort (mapped_of mapping.now) out.old.items out.new.items) }
+    ensures { OnOk result (WritesShort (planned_of update.now) out.old.items out.new.items) }
 {
-    write_source_cell(alloc, layout, &mapping.lhs, layout.first, out)?;
-    layout.write_field(out, destination_or(&mapping.rhs, NO_DESTINATION))?;
+    write_source_cell(alloc, layout, &update.source, layout.first, out)?;
+    let destination = destination_or(update, NO_DESTINATION);
+    layout.write_field(out, destination)?;
     Ok(out.push(b'\n')?)
 }

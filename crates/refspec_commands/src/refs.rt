@@ -8,8 +8,7 @@ ghost use Rattle.refspec_commands.specs.Refs.{AddsListed, HasLast, IsIdThen, IsN
 use crate::input::first_record;
 use bstr::{BStr, ByteSlice};
 use gix_refspec::match_group::Item;
-use gix_refspec::oid::{Kind, ObjectId};
-use gix_refspec_text::split::contains;
+use gix_refspec::oid::{Kind, ObjectId, is_id};
 use std::alloc::{AllocError, Global};
 
 /// A record that is neither a ref nor the target of the tag before it.
@@ -169,22 +168,31 @@ fn name_after(line: &[u8], kind: Kind) -> Option<&[u8]>
     if !is_one_word(name) {
         return None;
     }
-    match ObjectId::from_hex(digits) {
-        Ok(_) => Some(name),
-        Err(_) => None,
+    if !is_id(digits) {
+        return None;
     }
+    Some(name)
 }
 
-// Whether a text is accepted as a name in a line: it isn't empty, and contains no white space.
+// Whether a text is accepted as a name in a line: it isn't empty, and contains no white space. The loop has no early exit, so
+// that it can be vectorized.
 fn is_one_word(text: &[u8]) -> bool
     ensures { MatchBool result (IsOneWord text.now) (¬ (IsOneWord text.now)) }
 {
     if text.is_empty() {
         return false;
     }
-    let has_line_end = contains(text, b'\n') | contains(text, b'\r');
-    let has_gap = contains(text, b'\t') | contains(text, b' ');
-    !(has_line_end | has_gap)
+    let mut has_newline = false;
+    let mut has_return = false;
+    let mut has_tab = false;
+    let mut has_gap = false;
+    for byte in text {
+        has_newline |= *byte == b'\n';
+        has_return |= *byte == b'\r';
+        has_tab |= *byte == b'\t';
+        has_gap |= *byte == b' ';
+    }
+    !((has_newline | has_return) | (has_tab | has_gap))
 }
 
 // The name of the tag, if the name is that of a peeled tag.

@@ -9,31 +9,32 @@ ghost use Rattle.refspec_commands.specs.Run.{Leaves, ReadsWhole};
 ghost use Rattle.refspec_commands.specs.Settings.{HasNoSettings};
 ghost use Rattle.refspec_commands.specs.Texts.{spec_input as specs_of};
 
-use crate::call::{Call, Command, Task};
+use crate::call::{Call, Command, Files, Task};
 use crate::canon::report_canon;
 use crate::checked::{Checked, all_good, check_all, has_bad};
 use crate::fault::Fault;
+use crate::fetch::report_fetch;
 use crate::input::read_input;
 use crate::lacking::refuse_lacking;
 use crate::plan::Discard;
-use crate::planning::report_plan;
 use crate::prefixes::report_prefixes;
 use crate::report::Report;
 use crate::settings::{has_lacking, settings_in};
 use crate::specs::{report_refusals, report_specs};
 use crate::texts::{spec_input, texts_of};
 use crate::track::report_tracking;
+use crate::warnings::report_check;
 use gix_refspec::RefSpecRef;
 use std::alloc::{AllocError, Global};
 use std::io::{Read, Write};
 
 /// Reads the input to its end, if the call needs it, and writes the results to `output` and the messages to
 /// `errors`. A plan is handed to `done` before that. Returns the exit status: 1 if something is refused,
-/// conflicting, left out or not found, else 0.
+/// missing, conflicting, left out, not found, or warned of in a strict call, else 0.
 pub fn run<R: Read, W: Write, E: Write, D: Discard>(
     alloc: Global,
     call: &Call<'_>,
-    beside: &[u8],
+    files: &Files<'_>,
     reader: &mut R,
     output: &mut W,
     errors: &mut E,
@@ -42,13 +43,13 @@ pub fn run<R: Read, W: Write, E: Write, D: Discard>(
     ensures whole { IfOk result (λ _. ReadsWhole
         call.now.reads_input (R.remaining reader.old) (R.remaining reader.new)) }
 
-    ensures answers { IfOk result (Answers call.now beside.now
+    ensures answers { IfOk result (Answers call.now files.now
         (R.remaining reader.old) (R.remaining reader.new)
         (W.contents output.old) (W.contents output.new)
         (E.contents errors.old) (E.contents errors.new)) }
 
     // If an input is refused as settings, it isn't in their format.
-    ensures format { IfErr result (RefusesInput call.now beside.now
+    ensures format { IfErr result (RefusesInput call.now files.now
         (R.remaining reader.old) (R.remaining reader.new)) }
 
     // Before a fault nothing was written, unless a writer failed.
@@ -56,7 +57,7 @@ pub fn run<R: Read, W: Write, E: Write, D: Discard>(
     ensures no_message { IfErr result (Leaves (E.contents errors.old) (E.contents errors.new)) }
 {
     let input = input_of(alloc, call, reader)?;
-    let (report, refused) = report_of(alloc, call, beside, input.as_slice(), done)?;
+    let (report, refused) = report_of(alloc, call, files, input.as_slice(), done)?;
     write_all(output, report.results.as_slice())?;
     write_all(errors, report.messages.as_slice())?;
     Ok(status_of(refused))
@@ -76,29 +77,34 @@ fn input_of<R: Read>(alloc: Global, call: &Call<'_>, reader: &mut R) -> Result<V
     Ok(Vec::new(alloc))
 }
 
-// The report of a call, and whether something is refused, conflicting, left out or not found.
+// The report of a call, and whether something is refused, missing, conflicting, left out or not found.
 fn report_of<D: Discard>(
     alloc: Global,
     call: &Call<'_>,
-    beside: &[u8],
+    files: &Files<'_>,
     input: &[u8],
     done: &mut D,
 ) -> Result<(Report, bool), Fault>
-    ensures ok { IfOk result (λ made. IsOutput call.now beside.now input.now
+    ensures ok { IfOk result (λ made. IsOutput call.now files.now input.now
         made.0.messages.items made.1 made.0.results.items) }
-    ensures err { IfErr result (RefusesFormat (HasNoSettings call.now.ends beside.now
-        (specs_of call.now.command input.now))) }
+    ensures err { IfErr result (RefusesFormat (HasNoSettings call.now.ends files.now.specs.now
+        (specs_of call.now.command files.now.configured.now input.now))) }
 {
     let mut report = Report::new(alloc, call.form);
-    let specs = spec_input(call.command, input);
-    let settings = settings_in(alloc, call.ends, beside, specs)?;
+    let specs = spec_input(call.command, files.configured, input);
+    let settings = settings_in(alloc, call.ends, files.specs, specs)?;
     if has_lacking(settings.as_slice()) {
         refuse_lacking(alloc, settings.as_slice(), &mut report)?;
         return Ok((report, true));
     }
-    let texts = texts_of(alloc, call, beside, input, settings.as_slice())?;
-    let all = check_all(alloc, texts.as_slice())?;
-    let task = Task { call, input };
+    let texts = texts_of(alloc, call, files, input, settings.as_slice())?;
+    let all = check_all(alloc, texts.all.as_slice())?;
+    let task = Task {
+        call,
+        input,
+        local: files.local,
+        given: texts.given,
+    };
     let refused = report_results(alloc, &task, all.as_slice(), &mut report, done)?;
     Ok((report, refused))
 }
@@ -112,8 +118,8 @@ fn report_results<D: Discard>(
     report: &mut Report,
     done: &mut D,
 ) -> Result<bool, AllocError>
-    ensures { IfOk result (λ refused. Reports task.now.call.now.command task.now.call.now
-        task.now.input.now report.old.form report.old.messages.items report.new.messages.items refused
+    ensures { IfOk result (λ refused. Reports task.now.call.now.command task.now
+        report.old.form report.old.messages.items report.new.messages.items refused
         all.now report.old.results.items report.new.results.items) }
 {
     let call = task.call;
@@ -122,7 +128,8 @@ fn report_results<D: Discard>(
             report_canon(alloc, all, report)?;
             Ok(has_bad(all))
         }
-        Command::Check | Command::Explain => {
+        Command::Check => report_check(alloc, call, all, report),
+        Command::Explain => {
             report_specs(alloc, call.command, call.verbose, all, report)?;
             Ok(has_bad(all))
         }
@@ -136,7 +143,7 @@ fn report_results<D: Discard>(
     }
 }
 
-// Reports the results of `plan`, `track` or `prefixes` for specs.
+// Reports the results of `plan`, `stale`, `track` or `prefixes` for specs.
 fn report_found<D: Discard>(
     alloc: Global,
     task: &Task<'_>,
@@ -144,13 +151,15 @@ fn report_found<D: Discard>(
     report: &mut Report,
     done: &mut D,
 ) -> Result<bool, AllocError>
-    ensures { IfOk result (λ refused. AddsFound task.now.call.now.command task.now.call.now
-        task.now.input.now report.old.form report.new.messages.items refused
+    ensures { IfOk result (λ refused. AddsFound task.now.call.now.command task.now
+        report.old.form report.old.messages.items report.new.messages.items refused
         (map reading_of specs.entry.items) report.old.results.items report.new.results.items) }
 {
     let call = task.call;
     match call.command {
-        Command::Plan => report_plan(alloc, task, specs, report, done),
+        Command::Plan | Command::Stale => {
+            report_fetch(alloc, task, specs.as_slice(), report, done)
+        }
         Command::Track => report_tracking(alloc, call, specs, report),
         _ => {
             report_prefixes(alloc, specs, call.patterns, report)?;

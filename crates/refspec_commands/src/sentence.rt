@@ -132,7 +132,7 @@ impl Sentence<'_> {
         };
         self.write(update.end(forced))?;
         if dst.starts_with(b"heads/") {
-            self.write(" Git does so; refspec plan and refspec_map map it to ")?;
+            self.write(" Git does so, and refspec plan; refspec_map maps it to ")?;
             self.name_in("refs/heads/", dst)?;
             self.write(".")?;
         }
@@ -287,18 +287,18 @@ fn folder_of(name: &[u8]) -> &'static str {
     }
 }
 
-// Whether a side is a pattern.
-fn is_pattern(side: &[u8]) -> bool {
+/// Whether a side is a pattern.
+pub fn is_pattern(side: &[u8]) -> bool {
     side.contains(&b'*')
 }
 
-// Whether a side is a name below `refs/`, or a pattern that may match one.
-fn may_be_below_refs(side: &[u8]) -> bool {
+/// Whether a side is a name below `refs/`, or a pattern that may match one.
+pub fn may_be_below_refs(side: &[u8]) -> bool {
     may_begin(side, b"refs/")
 }
 
-// Whether a side is a full name, or a pattern that may match one.
-fn may_be_ref(side: &[u8]) -> bool {
+/// Whether a side is a full name, or a pattern that may match one.
+pub fn may_be_ref(side: &[u8]) -> bool {
     side == b"HEAD".as_slice()
         || may_be_below_refs(side)
         || is_pattern(side) && may_begin(side, b"HEAD")

@@ -29,7 +29,8 @@ pub fn report_specs(
     all: &[Checked<'_>],
     report: &mut Report,
 ) -> Result<(), AllocError>
-    ensures { OnOk result (ReportsRefusals report.old.form all.now
+    ensures form { OnOk result (report.new.form ≡ report.old.form) }
+    ensures reported { OnOk result (ReportsRefusals report.old.form all.now
         report.old.messages.items report.new.messages.items) }
 {
     let mut seen = Seen::new(alloc);

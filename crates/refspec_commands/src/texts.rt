@@ -3,9 +3,9 @@
 ghost use Rattle.std.specs.Prelude.{◌≡◌, ◌++◌, ◌∷◌, [], decimal, map, IfOk, OnOk};
 ghost use Rattle.refspec_commands.specs.Input.{end_byte};
 ghost use Rattle.refspec_commands.specs.Settings.{AreSettingsOf};
-ghost use Rattle.refspec_commands.specs.Texts.{AddsInputs, AddsRecords, AddsValues, AreTexts, given_of, numbered, record_at, spec_input};
+ghost use Rattle.refspec_commands.specs.Texts.{AddsRecords, AddsValues, AreTexts, IsGivenCount, given_of, numbered, record_at, spec_input, spec_name};
 
-use crate::call::{Call, Command, Form, Terminator};
+use crate::call::{Call, Command, Files, Form, Terminator};
 use crate::input::{end_of, records};
 use crate::quote::write_shown;
 use crate::settings::{Setting, operation_of};
@@ -66,18 +66,27 @@ pub fn write_number(out: &mut Vec<u8>, number: usize) -> Result<(), AllocError>
     out.extend_from_slice(buffer.format(number).as_bytes())
 }
 
-/// The texts of the specs of a call: those among its arguments, those of the file of specs (`beside`), and,
-/// except for a plan, those of the input. If the call reads settings, `settings` has those of both.
+/// The texts of the specs of a call, in order, and how many of them are given: the others are configured.
+#[derive(Debug, Drop)]
+pub struct Texts<'a> {
+    pub all: Vec<Text<'a>>,
+    pub given: usize,
+}
+
+/// The texts of the specs of a call: those among its arguments, those of the file of specs, and those of its input;
+/// a plan has configured specs in the place of its input, and `stale` nothing. If the call reads settings,
+/// `settings` has those of both, and all are configured.
 pub fn texts_of<'a>(
     alloc: Global,
     call: &Call<'a>,
-    beside: &'a [u8],
+    files: &Files<'a>,
     input: &'a [u8],
     settings: &[Setting<'a>],
-) -> Result<Vec<Text<'a>>, AllocError>
-    ensures { IfOk result (λ texts. AreSettingsOf call.now.ends beside.now
-        (spec_input call.now.command input.now) settings.now
-        → AreTexts call.now beside.now input.now (map given_of texts.items)) }
+) -> Result<Texts<'a>, AllocError>
+    ensures { IfOk result (λ texts. AreSettingsOf call.now.ends files.now.specs.now
+        (spec_input call.now.command files.now.configured.now input.now) settings.now
+        → AreTexts call.now files.now input.now (map given_of texts.all.items)
+        × IsGivenCount call.now files.now.specs.now texts.given) }
 {
     let mut texts = Vec::new(alloc);
     for word in &call.specs {
@@ -87,40 +96,41 @@ pub fn texts_of<'a>(
             bytes: word.as_bytes(),
         })?;
     }
-    let input = spec_input(call.command, input);
-    add_inputs(alloc, call, beside, input, settings, &mut texts)?;
-    Ok(texts)
+    match call.ends {
+        Terminator::Settings => {
+            let given = texts.len();
+            add_values(settings, &mut texts)?;
+            Ok(Texts { all: texts, given })
+        }
+        Terminator::Newline | Terminator::Zero => {
+            add_texts(alloc, call, call.beside, files.specs, &mut texts)?;
+            let given = texts.len();
+            let specs = spec_input(call.command, files.configured, input);
+            add_texts(alloc, call, spec_name(call), specs, &mut texts)?;
+            Ok(Texts { all: texts, given })
+        }
+    }
 }
 
-/// The part of its input that a command reads as specs: nothing for a plan, whose input is refs.
-pub fn spec_input(command: Command, input: &[u8]) -> &[u8]
-    ensures { result.now ≡ spec_input command input.now }
+/// What a command reads as specs besides its arguments and the file of specs: its input, but for a plan the
+/// configured specs, and for `stale` nothing, since their input is refs.
+pub fn spec_input<'a>(command: Command, configured: &'a [u8], input: &'a [u8]) -> &'a [u8]
+    ensures { result.now ≡ spec_input command configured.now input.now }
 {
     match command {
-        Command::Plan => b"",
+        Command::Plan => configured,
+        Command::Stale => b"",
         _ => input,
     }
 }
 
-// Adds the texts of the file of specs and of the input: the refspecs among settings, or the records.
-fn add_inputs<'a>(
-    alloc: Global,
-    call: &Call<'a>,
-    beside: &'a [u8],
-    input: &'a [u8],
-    settings: &[Setting<'a>],
-    texts: &mut Vec<Text<'a>>,
-) -> Result<(), AllocError>
-    ensures { OnOk result (AreSettingsOf call.now.ends beside.now input.now settings.now
-        → AddsInputs call.now beside.now input.now
-        (map given_of texts.old.items) (map given_of texts.new.items)) }
+// The name of that in messages.
+fn spec_name<'a>(call: &Call<'a>) -> &'a str
+    ensures { result.now ≡ spec_name call.now }
 {
-    match call.ends {
-        Terminator::Settings => add_values(settings, texts),
-        Terminator::Newline | Terminator::Zero => {
-            add_texts(alloc, call, call.beside, beside, texts)?;
-            add_texts(alloc, call, call.input, input, texts)
-        }
+    match call.command {
+        Command::Plan => call.configured,
+        _ => call.input,
     }
 }
 

@@ -11,8 +11,9 @@ ghost use Rattle.refspec_commands.specs.Shown.{KeepsReport, KeepsResults};
 ghost use Rattle.refspec_commands.specs.Track.{AddsTracked, AreByNames, AreWritten, HasUnwritten, IsEachWritten, named};
 
 use crate::call::{Call, Form};
+use crate::canon::canonical_texts;
 use crate::json;
-use crate::mappings::{Columns, canonical_texts, report_mappings};
+use crate::mappings::report_mappings;
 use crate::quote::write_quoted;
 use crate::report::Report;
 use bstr::{BStr, BString};
@@ -42,13 +43,7 @@ pub fn report_tracking(
     let texts = canonical_texts(alloc, specs.as_slice())?;
     let outcome = tracked(alloc, specs, items.as_slice())?;
     let mappings = outcome.mappings.as_slice();
-    report_mappings(
-        alloc,
-        mappings,
-        texts.as_slice(),
-        Columns::DestinationFirst,
-        report,
-    )?;
+    report_mappings(alloc, mappings, texts.as_slice(), report)?;
     let has_other = report_others(alloc, call.refs.as_slice(), mappings, report)?;
     if looked_up < count {
         return Ok(true);

@@ -23,6 +23,11 @@ abbrev pub text_if : (k : List ℕ) → Option (List ℕ) → Members → Member
 text_if k None ms = ms
 text_if k (Some t) ms = member k (string t) ms
 
+-- the members, after a number under the key k, if there is one
+abbrev pub number_if : (k : List ℕ) → Option ℕ → Members → Members
+number_if k None ms = ms
+number_if k (Some n) ms = member k (number (unsigned n)) ms
+
 -- a refused text; at counts bytes from 1
 abbrev pub refused_object : (location operation text reason message : List ℕ) → (side part : Option (List ℕ)) → (at : Option ℕ) → (advice : List ℕ) → Data
 refused_object location operation text reason message side part at advice = object (
@@ -48,32 +53,75 @@ spec_object kind location operation text canonical meaning same_as = object (
     text_if (codes "same_as") same_as (
     member (codes "text") (string text) no_members)))))))
 
--- a mapping, with the canonical text of its spec
-abbrev pub mapping_object : (source : List ℕ) → (destination : Option (List ℕ)) → (spec : List ℕ) → Data
-mapping_object source destination spec = object (
+-- a mapping, with the canonical text of its spec, and where that comes from, if it is one of a plan
+abbrev pub mapping_object : (source : List ℕ) → (destination : Option (List ℕ)) → (spec : List ℕ) → (origin : Option (List ℕ)) → Data
+mapping_object source destination spec origin = object (
     member (codes "destination") (text_or_null destination) (
     member (codes "kind") (string (codes "mapping")) (
+    text_if (codes "origin") origin (
     member (codes "source") (string source) (
-    member (codes "spec") (string spec) no_members))))
+    member (codes "spec") (string spec) no_members)))))
 
--- a mapping that is left out, the side whose ref name is invalid, and why
-abbrev pub left_out_object : (source : List ℕ) → (destination : Option (List ℕ)) → (spec side message : List ℕ) → Data
-left_out_object source destination spec side message = object (
+-- an update that isn't written, since a spec of the call writes to its destination, and a sentence on it
+abbrev pub overruled_object : (source : List ℕ) → (destination : Option (List ℕ)) → (spec origin message : List ℕ) → Data
+overruled_object source destination spec origin message = object (
     member (codes "destination") (text_or_null destination) (
-    member (codes "kind") (string (codes "left_out")) (
+    member (codes "kind") (string (codes "overruled")) (
     member (codes "message") (string message) (
-    member (codes "side") (string side) (
+    member (codes "origin") (string origin) (
     member (codes "source") (string source) (
     member (codes "spec") (string spec) no_members))))))
 
--- a source of a conflict, with the canonical text of its spec
-abbrev pub claim_object : List ℕ × List ℕ → Data
+-- an update that is left out, the side whose ref name is invalid, and why
+abbrev pub left_out_object : (source : List ℕ) → (destination : Option (List ℕ)) → (spec origin side message : List ℕ) → Data
+left_out_object source destination spec origin side message = object (
+    member (codes "destination") (text_or_null destination) (
+    member (codes "kind") (string (codes "left_out")) (
+    member (codes "message") (string message) (
+    member (codes "origin") (string origin) (
+    member (codes "side") (string side) (
+    member (codes "source") (string source) (
+    member (codes "spec") (string spec) no_members)))))))
+
+-- a source of a conflict, the canonical text of its spec, and where that comes from
+pub record Claimed : Type 0 where
+  pub source : List ℕ
+  pub spec : List ℕ
+  pub origin : List ℕ
+
+abbrev pub claim_object : Claimed → Data
 claim_object c = object (
-    member (codes "source") (string c.0) (
-    member (codes "spec") (string c.1) no_members))
+    member (codes "origin") (string c.origin) (
+    member (codes "source") (string c.source) (
+    member (codes "spec") (string c.spec) no_members)))
+
+-- a spec whose source the remote lacks, where it comes from, a sentence on it, names of the remote that end the same, and
+-- how many more of these there are, if not all are given
+abbrev pub missing_object : (spec origin message : List ℕ) → (names : List (List ℕ)) → (more : Option ℕ) → Data
+missing_object spec origin message names more = object (
+    member (codes "kind") (string (codes "missing")) (
+    member (codes "message") (string message) (
+    number_if (codes "more") more (
+    member (codes "names") (array (items_of (map string names))) (
+    member (codes "origin") (string origin) (
+    member (codes "spec") (string spec) no_members))))))
+
+-- a local ref that a pruning fetch deletes
+abbrev pub stale_object : (name : List ℕ) → Data
+stale_object name = object (
+    member (codes "kind") (string (codes "stale")) (
+    member (codes "name") (string name) no_members))
+
+-- a local ref that a pruning fetch keeps, the negative spec that keeps it, and a sentence on it
+abbrev pub kept_object : (name spec message : List ℕ) → Data
+kept_object name spec message = object (
+    member (codes "kind") (string (codes "kept")) (
+    member (codes "message") (string message) (
+    member (codes "name") (string name) (
+    member (codes "spec") (string spec) no_members))))
 
 -- a destination with several sources
-abbrev pub conflict_object : (destination : List ℕ) → (sources : List (List ℕ × List ℕ)) → Data
+abbrev pub conflict_object : (destination : List ℕ) → (sources : List Claimed) → Data
 conflict_object destination sources = object (
     member (codes "destination") (string destination) (
     member (codes "kind") (string (codes "conflict")) (
@@ -114,3 +162,23 @@ abbrev pub nothing_object : (message : List ℕ) → Data
 nothing_object message = object (
     member (codes "kind") (string (codes "nothing")) (
     member (codes "message") (string message) no_members))
+
+-- a spec that a warning is about: its location and its text
+pub record Warned : Type 0 where
+  pub location : List ℕ
+  pub text : List ℕ
+
+abbrev pub warned_object : Warned → Data
+warned_object w = object (
+    member (codes "place") (string w.location) (
+    member (codes "text") (string w.text) no_members))
+
+-- a warning, by its name: its location, the specs that it is about, a sentence on them and what to do
+abbrev pub warning_object : (name location : List ℕ) → (specs : List Warned) → (message advice : List ℕ) → Data
+warning_object name location specs message advice = object (
+    member (codes "advice") (string advice) (
+    member (codes "kind") (string (codes "warning")) (
+    member (codes "message") (string message) (
+    member (codes "name") (string name) (
+    member (codes "place") (string location) (
+    member (codes "specs") (array (items_of (map warned_object specs))) no_members))))))

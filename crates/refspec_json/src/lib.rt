@@ -7,8 +7,10 @@ mod mappings;
 mod prefixes;
 mod refs;
 mod specs;
+mod warnings;
 
-pub use mappings::{Claim, Conflict, LeftOut, Mapping};
+pub use mappings::{Claim, Conflict, LeftOut, Mapping, Overruled};
 pub use prefixes::{Nothing, Prefix};
-pub use refs::{Malformed, Untracked};
+pub use refs::{Kept, Malformed, Missing, Stale, Untracked};
 pub use specs::{All, Refused, Spec, SpecKind, ToObject};
+pub use warnings::{WarnedSpec, Warning};

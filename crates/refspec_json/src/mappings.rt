@@ -3,10 +3,10 @@
 ghost use Rattle.std.specs.Prelude.{◌≡◌, ◌++◌, map, option_map, IfOk, OnOk};
 ghost use Rattle.serde_json.specs.Data.{array};
 ghost use Rattle.serde_json.specs.View.{view, items_of};
-ghost use Rattle.refspec_json.specs.Objects.{line_of, mapping_object, left_out_object, claim_object, conflict_object};
+ghost use Rattle.refspec_json.specs.Objects.{line_of, mapping_object, left_out_object, overruled_object, claim_object, conflict_object};
 
-use crate::line::{text_or_null, write_value};
-use serde_json::{Value, json};
+use crate::line::{set_text, set_text_if, text_or_null, write_value};
+use serde_json::{Map, Value, json, put};
 use std::alloc::{AllocError, Global};
 
 /// A mapping, with the canonical text of its spec.
@@ -15,6 +15,8 @@ pub struct Mapping<'a> {
     pub source: &'a str,
     pub destination: Option<&'a str>,
     pub spec: &'a str,
+    /// Where the spec of a plan comes from.
+    pub origin: Option<&'a str>,
 }
 
 impl Mapping<'_> {
@@ -22,7 +24,7 @@ impl Mapping<'_> {
     pub fn write_line(&self, alloc: Global, out: &mut Vec<u8>) -> Result<(), AllocError>
         ensures { OnOk result (out.new.items ≡ out.old.items ++ line_of (mapping_object
             self.now.source.now (option_map (λ t. t.now) self.now.destination)
-            self.now.spec.now)) }
+            self.now.spec.now (option_map (λ t. t.now) self.now.origin))) }
     {
         write_value(alloc, out, &self.object(alloc)?)
     }
@@ -30,24 +32,63 @@ impl Mapping<'_> {
     fn object(&self, alloc: Global) -> Result<Value, AllocError>
         ensures { IfOk result (λ v. view v ≡ mapping_object
             self.now.source.now (option_map (λ t. t.now) self.now.destination)
-            self.now.spec.now) }
+            self.now.spec.now (option_map (λ t. t.now) self.now.origin)) }
+    {
+        let destination = text_or_null(alloc, self.destination)?;
+        let mut members = Map::new(alloc);
+        put(&mut members, alloc, "destination", destination)?;
+        set_text(alloc, &mut members, "kind", "mapping")?;
+        set_text(alloc, &mut members, "source", self.source)?;
+        set_text(alloc, &mut members, "spec", self.spec)?;
+        set_text_if(alloc, &mut members, "origin", self.origin)?;
+        Ok(Value::Object(members))
+    }
+}
+
+/// An update that a fetch doesn't write, since a spec of the call writes to its destination.
+#[derive(Drop)]
+pub struct Overruled<'a> {
+    pub source: &'a str,
+    pub destination: Option<&'a str>,
+    pub spec: &'a str,
+    pub origin: &'a str,
+    pub message: &'a str,
+}
+
+impl Overruled<'_> {
+    /// Appends its object and a newline.
+    pub fn write_line(&self, alloc: Global, out: &mut Vec<u8>) -> Result<(), AllocError>
+        ensures { OnOk result (out.new.items ≡ out.old.items ++ line_of (overruled_object
+            self.now.source.now (option_map (λ t. t.now) self.now.destination)
+            self.now.spec.now self.now.origin.now self.now.message.now)) }
+    {
+        write_value(alloc, out, &self.object(alloc)?)
+    }
+
+    fn object(&self, alloc: Global) -> Result<Value, AllocError>
+        ensures { IfOk result (λ v. view v ≡ overruled_object
+            self.now.source.now (option_map (λ t. t.now) self.now.destination)
+            self.now.spec.now self.now.origin.now self.now.message.now) }
     {
         let destination = text_or_null(alloc, self.destination)?;
         json!(in alloc; {
             "destination": destination,
-            "kind": "mapping",
+            "kind": "overruled",
+            "message": self.message,
+            "origin": self.origin,
             "source": self.source,
             "spec": self.spec,
         })
     }
 }
 
-/// A mapping that is left out for an invalid ref name.
+/// An update that is left out for an invalid ref name.
 #[derive(Drop)]
 pub struct LeftOut<'a> {
     pub source: &'a str,
     pub destination: Option<&'a str>,
     pub spec: &'a str,
+    pub origin: &'a str,
     /// The side whose ref name is invalid: `source`, `destination` or `both`.
     pub side: &'a str,
     pub message: &'a str,
@@ -58,7 +99,7 @@ impl LeftOut<'_> {
     pub fn write_line(&self, alloc: Global, out: &mut Vec<u8>) -> Result<(), AllocError>
         ensures { OnOk result (out.new.items ≡ out.old.items ++ line_of (left_out_object
             self.now.source.now (option_map (λ t. t.now) self.now.destination)
-            self.now.spec.now self.now.side.now self.now.message.now)) }
+            self.now.spec.now self.now.origin.now self.now.side.now self.now.message.now)) }
     {
         write_value(alloc, out, &self.object(alloc)?)
     }
@@ -66,13 +107,14 @@ impl LeftOut<'_> {
     fn object(&self, alloc: Global) -> Result<Value, AllocError>
         ensures { IfOk result (λ v. view v ≡ left_out_object
             self.now.source.now (option_map (λ t. t.now) self.now.destination)
-            self.now.spec.now self.now.side.now self.now.message.now) }
+            self.now.spec.now self.now.origin.now self.now.side.now self.now.message.now) }
     {
         let destination = text_or_null(alloc, self.destination)?;
         json!(in alloc; {
             "destination": destination,
             "kind": "left_out",
             "message": self.message,
+            "origin": self.origin,
             "side": self.side,
             "source": self.source,
             "spec": self.spec,
@@ -111,11 +153,12 @@ impl Conflict<'_> {
     }
 }
 
-/// A source of a conflict, with the canonical text of its spec.
+/// A source of a conflict, with the canonical text of its spec and where that comes from.
 #[derive(Drop)]
 pub struct Claim {
     pub source: String,
     pub spec: String,
+    pub origin: String,
 }
 
 impl Claim {
@@ -124,7 +167,7 @@ impl Claim {
     fn object(&self, alloc: Global) -> Result<Value, AllocError>
         ensures { IfOk result (λ v. view v ≡ claim_object (claim_texts self.now)) }
     {
-        json!(in alloc; {"source": &self.source, "spec": &self.spec})
+        json!(in alloc; {"origin": &self.origin, "source": &self.source, "spec": &self.spec})
     }
 
     // The objects of several claims, as an array.

@@ -1,12 +1,11 @@
 //! Specs, and refused texts.
 
-ghost use Rattle.std.specs.Prelude.{◌≡◌, ◌++◌, option_map, codes, IfOk, OnOk, MatchOption};
-ghost use Rattle.serde_json.specs.Data.{string, put as with_member};
-ghost use Rattle.serde_json.specs.View.{view, members_view};
+ghost use Rattle.std.specs.Prelude.{◌≡◌, ◌++◌, option_map, codes, IfOk, OnOk};
+ghost use Rattle.serde_json.specs.View.{view};
 ghost use Rattle.refspec_json.specs.Objects.{line_of, refused_object, spec_object, noted_object};
 
-use crate::line::{number_or_null, text_or_null, write_value};
-use serde_json::{Map, Value, json, put};
+use crate::line::{number_or_null, set_text, set_text_if, text_or_null, write_value};
+use serde_json::{Map, Value, json};
 use std::alloc::{AllocError, Global};
 
 /// A text that is refused.
@@ -129,37 +128,6 @@ impl Spec<'_> {
         set_text_if(alloc, &mut members, "meaning", self.meaning)?;
         set_text_if(alloc, &mut members, "same_as", self.same_as)?;
         Ok(Value::Object(members))
-    }
-}
-
-// Sets a member to a text.
-fn set_text(
-    alloc: Global,
-    members: &mut Map<String, Value>,
-    key: &str,
-    text: &str,
-) -> Result<(), AllocError>
-    ensures { OnOk result (members_view members.new.entries
-        ≡ with_member key.now (string text.now) (members_view members.old.entries)) }
-{
-    put(members, alloc, key, Value::try_from_str(alloc, text)?)
-}
-
-// Sets a member to a text, if it isn't `None`.
-fn set_text_if(
-    alloc: Global,
-    members: &mut Map<String, Value>,
-    key: &str,
-    text: Option<&str>,
-) -> Result<(), AllocError>
-    ensures { OnOk result (MatchOption text.entry
-        (members_view members.new.entries ≡ members_view members.old.entries)
-        (λ t. members_view members.new.entries
-        ≡ with_member key.now (string t.now) (members_view members.old.entries))) }
-{
-    match text {
-        None => Ok(()),
-        Some(text) => set_text(alloc, members, key, text),
     }
 }
 

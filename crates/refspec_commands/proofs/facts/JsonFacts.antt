@@ -2,12 +2,10 @@
 use Rattle.std.proofs.Common.{◌≡◌, ◌++◌, ℕ, List, [], ◌∷◌, None, Some, codes, get_or, refl, ap, arith}
 use Rattle.std.specs.Str.{chars, is_utf8}
 use Rattle.gix_refspec.specs.Matching.Mappings.{Mapped, name}
-use Rattle.refspec_json.specs.Objects.{conflict_object, line_of, mapping_object, prefix_object}
+use Rattle.refspec_json.specs.Objects.{line_of, mapping_object, prefix_object}
 use Rattle.gix_refspec_text.specs.declared.parsing.Error.TheVariants as error
 use Rattle.gix_refspec_text.specs.declared.parsing.Operation.TheVariants as operation
 use Rattle.refspec_commands.specs.declared.call.Form.TheVariants as form
-use Rattle.refspec_commands.specs.declared.mappings.Columns.TheVariants as columns
-use Rattle.refspec_commands.specs.Conflicts.{conflict_line}
 use Rattle.gix_refspec_text.specs.Specs.Explained.{reason_name}
 use Rattle.refspec_commands.specs.Json.{AddsObjects, json_text, operation_name}
 use Rattle.refspec_commands.specs.Prefixes.{asked_object}
@@ -41,13 +39,13 @@ abbrev unwritten : Mapped
 unwritten = record { item = None; source = name (codes "c"); destination = None; spec = 0 }
 
 -- each mapping with the text of its own spec, appended
-pub mappings : AddsMappings form.Json columns.SourceFirst (codes "c" ∷ codes "a:b" ∷ []) (mapped ∷ unwritten ∷ []) (codes "x")
-    (codes "x" ++ (line_of (mapping_object (codes "a") (Some (codes "b")) (codes "a:b")) ++ (line_of (mapping_object (codes "c") None (codes "c")) ++ [])))
+pub mappings : AddsMappings form.Json (codes "c" ∷ codes "a:b" ∷ []) (mapped ∷ unwritten ∷ []) (codes "x")
+    (codes "x" ++ (line_of (mapping_object (codes "a") (Some (codes "b")) (codes "a:b") None) ++ (line_of (mapping_object (codes "c") None (codes "c") None) ++ [])))
 unfolding is_utf8 chars lib.Utf8.encode
 mappings = refl
 
 -- no mapping is left out
-pub left_out : AddsMappings form.Json columns.SourceFirst [] (mapped ∷ []) [] [] → ⊥
+pub left_out : AddsMappings form.Json [] (mapped ∷ []) [] [] → ⊥
 left_out none = absurd (omega (arith, ap (λ (l : List ℕ). get_or l 0 0) none))
 
 -- ---- prefixes
@@ -55,13 +53,6 @@ left_out none = absurd (omega (arith, ap (λ (l : List ℕ). get_or l 0 0) none)
 pub prefixes : asked_object (codes "refs/") ≡ line_of (prefix_object (codes "refs/") (codes "refs/*"))
 unfolding is_utf8 chars lib.Utf8.encode
 prefixes = refl
-
--- ---- conflicts
-
-pub conflict : conflict_line (record { destination = codes "d"; sources = name (codes "a") ∷ name (codes "b") ∷ []; texts = codes "a:d" ∷ codes "b:d" ∷ [] })
-    ≡ line_of (conflict_object (codes "d") ((codes "a", codes "a:d") ∷ (codes "b", codes "b:d") ∷ []))
-unfolding is_utf8 chars lib.Utf8.encode
-conflict = refl
 
 -- ---- objects, in order
 

@@ -1,13 +1,12 @@
--- Rows of mappings, in lines and ended by zero bytes, as in runs of `plan` and `track`.
+-- Rows of mappings, in lines and ended by zero bytes, as in runs of `track`.
 use Rattle.std.proofs.Common.{◌≡◌, ◌⊎◌, ◌≤◌, ◌+◌, ℕ, List, [], ◌∷◌, ◌++◌, None, Some, inl, inr, codes, get_or, length, length-append, replicate, refl, ap, ◌∙◌, arith}
 use Rattle.gix_refspec.specs.Matching.Mappings.{Mapped, id, name}
 use Rattle.gix_refspec_match.proofs.facts.MatchFacts.{mapping}
 use Rattle.gix_refspec_text.proofs.facts.FitFacts.{every, other_byte, short}
 use Rattle.gix_refspec_text.proofs.facts.ObjectIdFacts.{empty_blob, lower_of-empty_blob}
 use Rattle.refspec_commands.specs.declared.call.Form.TheVariants as form
-use Rattle.refspec_commands.specs.declared.mappings.Columns.TheVariants as columns
 use Rattle.refspec_commands.specs.Shown.{IsQuoted, in_quotes}
-use Rattle.refspec_commands.specs.Rows.{AddsMappings, AreSpecTexts, AreRowLines, IsCell, IsLine, WritesCell, WritesCells, WritesLine, Row, fields, first_side, row_of, second_side, source_text}
+use Rattle.refspec_commands.specs.Rows.{AddsMappings, AreSpecTexts, AreRowLines, IsCell, IsLine, WritesCell, WritesLine, Row, fields, row_of, source_text}
 use Rattle.std.proofs.lemmas.Option.{same_Some}
 
 -- ---- texts
@@ -30,7 +29,7 @@ pub sources : (source_text (name (codes "refs/heads/A")) ≡ codes "refs/heads/A
     × (source_text (id empty_blob) ≡ codes "e69de29bb2d1d6434b8b29ae775ad8c2e48c5391")
 sources = (refl, lower_of-empty_blob)
 
--- ---- sides
+-- ---- rows
 
 -- a mapping of the second of two specs, and one of the first, without a destination
 abbrev to_o : Mapped
@@ -39,26 +38,23 @@ to_o = mapping 0 (codes "refs/heads/main") (Some (codes "refs/remotes/o/main")) 
 abbrev pub alone : Mapped
 alone = mapping 0 (codes "HEAD") None 0
 
--- `plan` shows the source first, and `track` the destination first
-pub sides : (first_side [] columns.SourceFirst to_o ≡ codes "refs/heads/main")
-    × (second_side [] columns.SourceFirst to_o ≡ codes "refs/remotes/o/main")
-    × (first_side [] columns.DestinationFirst to_o ≡ codes "refs/remotes/o/main")
-    × (second_side [] columns.DestinationFirst to_o ≡ codes "refs/heads/main")
-sides = (refl, refl, refl, refl)
+abbrev pub texts : List (List ℕ)
+texts = codes "HEAD" ∷ codes "refs/heads/*:refs/remotes/o/*" ∷ []
+
+-- the destination, the source, and the text of the mapping's own spec
+pub rows : (row_of [] texts to_o ≡ record {
+  destination = codes "refs/remotes/o/main";
+  source = codes "refs/heads/main";
+  spec = codes "refs/heads/*:refs/remotes/o/*";
+})
+    × ((row_of [] texts alone).spec ≡ codes "HEAD")
+rows = (refl, refl)
 
 -- only a missing destination is replaced
-pub missing : (second_side (codes "FETCH_HEAD") columns.SourceFirst alone ≡ codes "FETCH_HEAD")
-    × (second_side [] columns.SourceFirst alone ≡ [])
-    × (second_side (codes "FETCH_HEAD") columns.SourceFirst to_o ≡ codes "refs/remotes/o/main")
-    × (first_side (codes "FETCH_HEAD") columns.DestinationFirst alone ≡ codes "FETCH_HEAD")
-missing = (refl, refl, refl, refl)
-
--- the text is that of the spec of the mapping
-pub rows : ((row_of [] columns.SourceFirst (codes "HEAD" ∷ codes "refs/heads/*:refs/remotes/o/*" ∷ []) to_o).spec ≡
-    codes "refs/heads/*:refs/remotes/o/*")
-    × ((row_of [] columns.SourceFirst (codes "HEAD" ∷ codes "refs/heads/*:refs/remotes/o/*" ∷ []) alone).spec ≡ codes
-    "HEAD")
-rows = (refl, refl)
+pub missing : ((row_of (codes "FETCH_HEAD") texts alone).destination ≡ codes "FETCH_HEAD")
+    × ((row_of [] texts alone).destination ≡ [])
+    × ((row_of (codes "FETCH_HEAD") texts to_o).destination ≡ codes "refs/remotes/o/main")
+missing = (refl, refl, refl)
 
 -- ---- lines
 
@@ -98,61 +94,61 @@ no_cells = (
 
 abbrev row : Row
 row = record {
-  first = codes "refs/heads/a";
-  second = codes "refs/remotes/o/a";
+  destination = codes "refs/remotes/o/a";
+  source = codes "refs/heads/a";
   spec = codes "refs/heads/*:refs/remotes/o/*";
 }
 
--- a row as `plan` prints it in a table with longer ones
-pub line : IsLine row (codes "refs/heads/a       refs/remotes/o/a       refs/heads/*:refs/remotes/o/*\n")
+-- a row as `track` prints it in a table with longer ones
+pub line : IsLine row (codes "refs/remotes/o/a       refs/heads/a       refs/heads/*:refs/remotes/o/*\n")
 line = record {
-  first = codes "refs/heads/a       ";
-  second = codes "refs/remotes/o/a       ";
+  first = codes "refs/remotes/o/a       ";
+  second = codes "refs/heads/a       ";
   last = codes "refs/heads/*:refs/remotes/o/*";
-  is_first = (codes "refs/heads/a", 5, inl refl, refl);
-  is_second = (codes "refs/remotes/o/a", 5, inl refl, refl);
+  is_first = (codes "refs/remotes/o/a", 5, inl refl, refl);
+  is_second = (codes "refs/heads/a", 5, inl refl, refl);
   is_last = inl refl;
   is = refl;
 }
 
--- a line begins with the first field and two spaces, or with a quote
-begins : (l tail cell : List ℕ) → IsCell (codes "refs/heads/a") cell → l ≡ cell ++ tail
-    → ((rest : List ℕ) × (l ≡ codes "refs/heads/a  " ++ rest)) ⊎ ((rest : List ℕ) × (l ≡ 34 ∷ rest))
+-- a line begins with the destination and two spaces, or with a quote
+begins : (l tail cell : List ℕ) → IsCell (codes "refs/remotes/o/a") cell → l ≡ cell ++ tail
+    → ((rest : List ℕ) × (l ≡ codes "refs/remotes/o/a  " ++ rest)) ⊎ ((rest : List ℕ) × (l ≡ 34 ∷ rest))
 begins l tail cell (shown, more, inl is, all) here = inl (
   replicate more 32 ++ tail,
   here
       ∙ ap (λ (c : List ℕ). c ++ tail) (all ∙ ap (λ (s : List ℕ). s ++ (32 ∷ 32 ∷ replicate more 32)) is),
 )
 begins l tail cell (shown, more, inr is, all) here = inr (
-  codes "refs/heads/a\"  " ++ (replicate more 32 ++ tail),
+  codes "refs/remotes/o/a\"  " ++ (replicate more 32 ++ tail),
   here
       ∙ ap (λ (c : List ℕ). c ++ tail) (all ∙ ap (λ (s : List ℕ). s ++ (32 ∷ 32 ∷ replicate more 32)) is),
 )
 
--- a line doesn't have one space after the first field, or the second field first
-pub no_line : ¬ (IsLine row (codes "refs/heads/a refs/remotes/o/a  refs/heads/*:refs/remotes/o/*\n"))
-    × ¬ (IsLine row (codes "refs/remotes/o/a  refs/heads/a  refs/heads/*:refs/remotes/o/*\n"))
+-- a line doesn't have one space after the destination, or the source first
+pub no_line : ¬ (IsLine row (codes "refs/remotes/o/a refs/heads/a  refs/heads/*:refs/remotes/o/*\n"))
+    × ¬ (IsLine row (codes "refs/heads/a  refs/remotes/o/a  refs/heads/*:refs/remotes/o/*\n"))
 no_line = (one_space, swapped)
   where
-    one_space : ¬ (IsLine row (codes "refs/heads/a refs/remotes/o/a  refs/heads/*:refs/remotes/o/*\n"))
+    one_space : ¬ (IsLine row (codes "refs/remotes/o/a refs/heads/a  refs/heads/*:refs/remotes/o/*\n"))
     one_space is = elim (begins _ _ is.first is.is_first is.is) [
-      | inl field ↦ other_byte 13 (codes "refs/heads/a refs/remotes/o/a  refs/heads/*:refs/remotes/o/*\n")
-          (codes "refs/heads/a  " ++ field.0) (λ byte. omega (arith, byte)) field.1
-      | inr quoted ↦ other_byte 0 (codes "refs/heads/a refs/remotes/o/a  refs/heads/*:refs/remotes/o/*\n")
+      | inl field ↦ other_byte 17 (codes "refs/remotes/o/a refs/heads/a  refs/heads/*:refs/remotes/o/*\n")
+          (codes "refs/remotes/o/a  " ++ field.0) (λ byte. omega (arith, byte)) field.1
+      | inr quoted ↦ other_byte 0 (codes "refs/remotes/o/a refs/heads/a  refs/heads/*:refs/remotes/o/*\n")
           (34 ∷ quoted.0) (λ byte. omega (arith, byte)) quoted.1
     ]
 
-    swapped : ¬ (IsLine row (codes "refs/remotes/o/a  refs/heads/a  refs/heads/*:refs/remotes/o/*\n"))
+    swapped : ¬ (IsLine row (codes "refs/heads/a  refs/remotes/o/a  refs/heads/*:refs/remotes/o/*\n"))
     swapped is = elim (begins _ _ is.first is.is_first is.is) [
-      | inl field ↦ other_byte 5 (codes "refs/remotes/o/a  refs/heads/a  refs/heads/*:refs/remotes/o/*\n")
-          (codes "refs/heads/a  " ++ field.0) (λ byte. omega (arith, byte)) field.1
-      | inr quoted ↦ other_byte 0 (codes "refs/remotes/o/a  refs/heads/a  refs/heads/*:refs/remotes/o/*\n")
+      | inl field ↦ other_byte 5 (codes "refs/heads/a  refs/remotes/o/a  refs/heads/*:refs/remotes/o/*\n")
+          (codes "refs/remotes/o/a  " ++ field.0) (λ byte. omega (arith, byte)) field.1
+      | inr quoted ↦ other_byte 0 (codes "refs/heads/a  refs/remotes/o/a  refs/heads/*:refs/remotes/o/*\n")
           (34 ∷ quoted.0) (λ byte. omega (arith, byte)) quoted.1
     ]
 
--- nor is the second or the last field left out
-pub too_short : ¬ (IsLine row (codes "refs/heads/a  refs/heads/*:refs/remotes/o/*\n"))
-    × ¬ (IsLine row (codes "refs/heads/a  refs/remotes/o/a  \n"))
+-- nor is the source or the text of the spec left out
+pub too_short : ¬ (IsLine row (codes "refs/remotes/o/a  refs/heads/*:refs/remotes/o/*\n"))
+    × ¬ (IsLine row (codes "refs/remotes/o/a  refs/heads/a  \n"))
 too_short = (
   (λ is. omega (
     arith,
@@ -197,40 +193,29 @@ too_short = (
     shown_last last (inl is) = omega (arith, ap length is)
     shown_last last (inr is) = omega (arith, ap length is)
 
-    long : {line : List ℕ} (is : IsLine row line) → (14 ≤ length is.first) × (18 ≤ length is.second)
+    long : {line : List ℕ} (is : IsLine row line) → (18 ≤ length is.first) × (14 ≤ length is.second)
         × (29 ≤ length is.last)
     long is = (
-      in_cell 12 (codes "refs/heads/a") is.first is.is_first (omega arith) (omega arith),
-      in_cell 16 (codes "refs/remotes/o/a") is.second is.is_second (omega arith) (omega arith),
+      in_cell 16 (codes "refs/remotes/o/a") is.first is.is_first (omega arith) (omega arith),
+      in_cell 12 (codes "refs/heads/a") is.second is.is_second (omega arith) (omega arith),
       shown_last is.last is.is_last,
     )
 
--- cells and lines are appended
-pub write : WritesCells (codes "HEAD") (codes "refs/x/y") (codes "a\n") (codes "a\nHEAD  refs/x/y  ")
-    × WritesLine row (codes "a\n") (codes "a\nrefs/heads/a       refs/remotes/o/a       refs/heads/*:refs/remotes/o/*\n")
-write = (
-  (codes "HEAD  ", codes "refs/x/y  ", (codes "HEAD", 0, inl refl, refl), (codes "refs/x/y", 0, inl refl, refl), refl),
-  (codes "refs/heads/a       refs/remotes/o/a       refs/heads/*:refs/remotes/o/*\n", line, refl),
-)
+-- a line is appended
+pub write : WritesLine row (codes "a\n") (codes "a\nrefs/remotes/o/a       refs/heads/a       refs/heads/*:refs/remotes/o/*\n")
+write = (codes "refs/remotes/o/a       refs/heads/a       refs/heads/*:refs/remotes/o/*\n", line, refl)
 
-pub not_write : ¬ (WritesLine row (codes "b\n") (codes "refs/heads/a  refs/remotes/o/a  refs/heads/*:refs/remotes/o/*\n"))
-    × ¬ (WritesCells (codes "HEAD") (codes "refs/x/y") (codes "b\n") (codes "HEAD  refs/x/y  "))
-not_write = (
-  (λ writes. other_byte 0 (codes "refs/heads/a  refs/remotes/o/a  refs/heads/*:refs/remotes/o/*\n")
-      (codes "b\n" ++ writes.0) (λ byte. omega (arith, byte)) writes.2),
-  λ writes. other_byte 0 (codes "HEAD  refs/x/y  ") (codes "b\n" ++ (writes.0 ++ writes.1)) (λ byte. omega (
-    arith,
-    byte,
-  )) writes.4,
-)
+pub not_write : ¬ (WritesLine row (codes "b\n") (codes "refs/remotes/o/a  refs/heads/a  refs/heads/*:refs/remotes/o/*\n"))
+not_write writes = other_byte 0 (codes "refs/remotes/o/a  refs/heads/a  refs/heads/*:refs/remotes/o/*\n")
+    (codes "b\n" ++ writes.0) (λ byte. omega (arith, byte)) writes.2
 
 -- a line for each row, and each row has one
 pub lines : AreRowLines [] []
-    × AreRowLines (row ∷ []) (codes "refs/heads/a       refs/remotes/o/a       refs/heads/*:refs/remotes/o/*\n")
+    × AreRowLines (row ∷ []) (codes "refs/remotes/o/a       refs/heads/a       refs/heads/*:refs/remotes/o/*\n")
     × ¬ (AreRowLines (row ∷ []) []) × ¬ (AreRowLines [] (codes "\n"))
 lines = (
   refl,
-  (codes "refs/heads/a       refs/remotes/o/a       refs/heads/*:refs/remotes/o/*\n", [], line, refl, refl),
+  (codes "refs/remotes/o/a       refs/heads/a       refs/heads/*:refs/remotes/o/*\n", [], line, refl, refl),
   no_row,
   λ are. omega (arith, ap length are),
 )
@@ -244,28 +229,25 @@ lines = (
 -- ---- mappings
 
 -- each field ends with one zero byte
-pub zero_fields : (fields row ≡ (codes "refs/heads/a" ++ 0 ∷ []) ++
-    ((codes "refs/remotes/o/a" ++ 0 ∷ []) ++ (codes "refs/heads/*:refs/remotes/o/*" ++ 0 ∷ [])))
+pub zero_fields : (fields row ≡ (codes "refs/remotes/o/a" ++ 0 ∷ []) ++
+    ((codes "refs/heads/a" ++ 0 ∷ []) ++ (codes "refs/heads/*:refs/remotes/o/*" ++ 0 ∷ [])))
 zero_fields = refl
 
-abbrev pub texts : List (List ℕ)
-texts = codes "HEAD" ∷ codes "refs/heads/*:refs/remotes/o/*" ∷ []
-
-pub alone_line : IsLine (record { first = codes "HEAD"; second = codes "FETCH_HEAD"; spec = codes "HEAD" })
-    (codes "HEAD  FETCH_HEAD  HEAD\n")
+alone_line : IsLine (record { destination = codes "FETCH_HEAD"; source = codes "HEAD"; spec = codes "HEAD" })
+    (codes "FETCH_HEAD  HEAD  HEAD\n")
 alone_line = record {
-  first = codes "HEAD  ";
-  second = codes "FETCH_HEAD  ";
+  first = codes "FETCH_HEAD  ";
+  second = codes "HEAD  ";
   last = codes "HEAD";
-  is_first = (codes "HEAD", 0, inl refl, refl);
-  is_second = (codes "FETCH_HEAD", 0, inl refl, refl);
+  is_first = (codes "FETCH_HEAD", 0, inl refl, refl);
+  is_second = (codes "HEAD", 0, inl refl, refl);
   is_last = inl refl;
   is = refl;
 }
 
 tracked_line : IsLine (record {
-  first = codes "refs/remotes/o/main";
-  second = codes "refs/heads/main";
+  destination = codes "refs/remotes/o/main";
+  source = codes "refs/heads/main";
   spec = codes "refs/heads/*:refs/remotes/o/*";
 })
     (codes "refs/remotes/o/main  refs/heads/main  refs/heads/*:refs/remotes/o/*\n")
@@ -279,15 +261,14 @@ tracked_line = record {
   is = refl;
 }
 
--- a missing destination is `FETCH_HEAD` in a line, and an empty field in a record; `track` shows the destination first
-pub reported : AddsMappings form.Lines columns.SourceFirst texts (alone ∷ []) [] (codes "HEAD  FETCH_HEAD  HEAD\n")
-    × AddsMappings form.Zeros columns.SourceFirst texts (alone ∷ []) []
-    ((codes "HEAD" ++ 0 ∷ []) ++ (0 ∷ (codes "HEAD" ++ 0 ∷ [])))
-    × AddsMappings form.Lines columns.DestinationFirst texts (to_o ∷ []) (codes "a\n")
+-- a missing destination is `FETCH_HEAD` in a line, and an empty field in a record
+pub reported : AddsMappings form.Lines texts (alone ∷ []) [] (codes "FETCH_HEAD  HEAD  HEAD\n")
+    × AddsMappings form.Zeros texts (alone ∷ []) [] (0 ∷ ((codes "HEAD" ++ 0 ∷ []) ++ (codes "HEAD" ++ 0 ∷ [])))
+    × AddsMappings form.Lines texts (to_o ∷ []) (codes "a\n")
     (codes "a\nrefs/remotes/o/main  refs/heads/main  refs/heads/*:refs/remotes/o/*\n")
-    × AddsMappings form.Lines columns.SourceFirst texts [] (codes "a\n") (codes "a\n")
+    × AddsMappings form.Lines texts [] (codes "a\n") (codes "a\n")
 reported = (
-  (codes "HEAD  FETCH_HEAD  HEAD\n", (codes "HEAD  FETCH_HEAD  HEAD\n", [], alone_line, refl, refl), refl),
+  (codes "FETCH_HEAD  HEAD  HEAD\n", (codes "FETCH_HEAD  HEAD  HEAD\n", [], alone_line, refl, refl), refl),
   refl,
   (
     codes "refs/remotes/o/main  refs/heads/main  refs/heads/*:refs/remotes/o/*\n",
@@ -297,13 +278,13 @@ reported = (
   ([], refl, refl),
 )
 
--- records don't contain `FETCH_HEAD`, `plan` doesn't show the destination first, and no mapping is lost
-pub not_reported : ¬ (AddsMappings form.Zeros columns.SourceFirst texts (alone ∷ []) []
-    ((codes "HEAD" ++ 0 ∷ []) ++ ((codes "FETCH_HEAD" ++ 0 ∷ []) ++ (codes "HEAD" ++ 0 ∷ []))))
-    × ¬ (AddsMappings form.Zeros columns.SourceFirst texts (to_o ∷ []) []
-    ((codes "refs/remotes/o/main" ++ 0 ∷ []) ++
-    ((codes "refs/heads/main" ++ 0 ∷ []) ++ (codes "refs/heads/*:refs/remotes/o/*" ++ 0 ∷ []))))
-    × ¬ (AddsMappings form.Zeros columns.SourceFirst texts (alone ∷ []) [] [])
+-- records don't contain `FETCH_HEAD`, nor the source first, and no mapping is lost
+pub not_reported : ¬ (AddsMappings form.Zeros texts (alone ∷ []) []
+    ((codes "FETCH_HEAD" ++ 0 ∷ []) ++ ((codes "HEAD" ++ 0 ∷ []) ++ (codes "HEAD" ++ 0 ∷ []))))
+    × ¬ (AddsMappings form.Zeros texts (to_o ∷ []) []
+    ((codes "refs/heads/main" ++ 0 ∷ []) ++
+    ((codes "refs/remotes/o/main" ++ 0 ∷ []) ++ (codes "refs/heads/*:refs/remotes/o/*" ++ 0 ∷ []))))
+    × ¬ (AddsMappings form.Zeros texts (alone ∷ []) [] [])
 not_reported = (
   (λ same. omega (arith, ap length same)),
   (λ same. omega (arith, ap (λ (l : List ℕ). get_or l 5 0) same)),

@@ -59,7 +59,7 @@ not_added = (
     once : (found : List (List ℕ)) → AreRecords 10 found (codes "a\n") → found ≡ codes "a" ∷ []
     once found split = records_once 10 found (codes "a" ∷ []) (codes "a\n") split one_record.0
 
--- the input of a plan isn't read as specs, that of other commands is
-pub inputs : (spec_input command.Plan (codes "a\n") ≡ []) × (spec_input command.Check (codes "a\n") ≡ codes "a\n")
-    × (spec_input command.Canon (codes "a\n") ≡ codes "a\n") × (spec_input command.Track (codes "a\n") ≡ codes "a\n")
-inputs = (refl, refl, refl, refl)
+-- the input of a plan isn't read as specs, but the configured ones are; that of other commands is, except for `stale`
+pub inputs : (spec_input command.Plan (codes "c\n") (codes "a\n") ≡ codes "c\n") × (spec_input command.Stale (codes "c\n") (codes "a\n") ≡ [])
+    × (spec_input command.Check [] (codes "a\n") ≡ codes "a\n") × (spec_input command.Canon [] (codes "a\n") ≡ codes "a\n") × (spec_input command.Track [] (codes "a\n") ≡ codes "a\n")
+inputs = (refl, refl, refl, refl, refl)

@@ -2,7 +2,7 @@
 use Rattle.std.proofs.Common.{◌≡◌, ◌++◌, [], ◌∷◌, None, Some, codes, refl}
 use Rattle.std.specs.Fmt.{digits}
 use Rattle.serde_json.proofs.OnLiterals.{serde_json_on_literals}
-use Rattle.refspec_json.specs.Objects.{line_of, refused_object, spec_object, mapping_object, left_out_object, conflict_object, malformed_object, untracked_object, prefix_object, noted_object, nothing_object}
+use Rattle.refspec_json.specs.Objects.{line_of, refused_object, spec_object, mapping_object, overruled_object, left_out_object, conflict_object, missing_object, stale_object, kept_object, malformed_object, untracked_object, prefix_object, noted_object, nothing_object}
 
 -- a source with a fault, and an empty text
 pub refused : (line_of (refused_object (codes "-:1") (codes "fetch") (codes "a..b") (codes "r") (codes "m") (Some (codes "source")) (Some (codes "..")) (Some 2) (codes "d"))
@@ -23,24 +23,42 @@ unfolding serde_json_on_literals
 spec = (refl, refl, refl)
 
 -- a quote and a backslash are escaped
-pub mapping : (line_of (mapping_object (codes "a") None (codes "b"))
+pub mapping : (line_of (mapping_object (codes "a") None (codes "b") None)
     ≡ codes "{\"destination\":null,\"kind\":\"mapping\",\"source\":\"a\",\"spec\":\"b\"}" ++ 10 ∷ [])
-    × (line_of (mapping_object (codes "\"\\") (Some (codes "c")) (codes "b"))
-    ≡ codes "{\"destination\":\"c\",\"kind\":\"mapping\",\"source\":\"\\\"\\\\\",\"spec\":\"b\"}" ++ 10 ∷ [])
+    × (line_of (mapping_object (codes "\"\\") (Some (codes "c")) (codes "b") (Some (codes "given")))
+    ≡ codes "{\"destination\":\"c\",\"kind\":\"mapping\",\"origin\":\"given\",\"source\":\"\\\"\\\\\",\"spec\":\"b\"}" ++ 10 ∷ [])
 unfolding serde_json_on_literals
 mapping = (refl, refl)
 
-pub left_out : line_of (left_out_object (codes "a") (Some (codes "c")) (codes "b") (codes "source") (codes "m"))
-    ≡ codes "{\"destination\":\"c\",\"kind\":\"left_out\",\"message\":\"m\",\"side\":\"source\",\"source\":\"a\",\"spec\":\"b\"}" ++ 10 ∷ []
+pub overruled : line_of (overruled_object (codes "a") (Some (codes "c")) (codes "b") (codes "configured") (codes "m"))
+    ≡ codes "{\"destination\":\"c\",\"kind\":\"overruled\",\"message\":\"m\",\"origin\":\"configured\",\"source\":\"a\",\"spec\":\"b\"}" ++ 10 ∷ []
+unfolding serde_json_on_literals
+overruled = refl
+
+pub left_out : line_of (left_out_object (codes "a") (Some (codes "c")) (codes "b") (codes "given") (codes "source") (codes "m"))
+    ≡ codes "{\"destination\":\"c\",\"kind\":\"left_out\",\"message\":\"m\",\"origin\":\"given\",\"side\":\"source\",\"source\":\"a\",\"spec\":\"b\"}" ++ 10 ∷ []
 unfolding serde_json_on_literals
 left_out = refl
 
 -- two sources, in order, and none
-pub conflict : (line_of (conflict_object (codes "d") ((codes "b", codes "b:d") ∷ (codes "a", codes "a:d") ∷ []))
-    ≡ codes "{\"destination\":\"d\",\"kind\":\"conflict\",\"sources\":[{\"source\":\"b\",\"spec\":\"b:d\"},{\"source\":\"a\",\"spec\":\"a:d\"}]}" ++ 10 ∷ [])
+pub conflict : (line_of (conflict_object (codes "d") (record { source = codes "b"; spec = codes "b:d"; origin = codes "given" } ∷ record { source = codes "a"; spec = codes "a:d"; origin = codes "configured" } ∷ []))
+    ≡ codes "{\"destination\":\"d\",\"kind\":\"conflict\",\"sources\":[{\"origin\":\"given\",\"source\":\"b\",\"spec\":\"b:d\"},{\"origin\":\"configured\",\"source\":\"a\",\"spec\":\"a:d\"}]}" ++ 10 ∷ [])
     × (line_of (conflict_object (codes "d") []) ≡ codes "{\"destination\":\"d\",\"kind\":\"conflict\",\"sources\":[]}" ++ 10 ∷ [])
 unfolding serde_json_on_literals
 conflict = (refl, refl)
+
+-- two names, in order, and one of three
+pub missing : (line_of (missing_object (codes "s") (codes "given") (codes "m") (codes "b" ∷ codes "a" ∷ []) None)
+    ≡ codes "{\"kind\":\"missing\",\"message\":\"m\",\"names\":[\"b\",\"a\"],\"origin\":\"given\",\"spec\":\"s\"}" ++ 10 ∷ [])
+    × (line_of (missing_object (codes "s") (codes "given") (codes "m") (codes "b" ∷ []) (Some 2))
+    ≡ codes "{\"kind\":\"missing\",\"message\":\"m\",\"more\":2,\"names\":[\"b\"],\"origin\":\"given\",\"spec\":\"s\"}" ++ 10 ∷ [])
+unfolding digits serde_json_on_literals
+missing = (refl, refl)
+
+pub stale : (line_of (stale_object (codes "n")) ≡ codes "{\"kind\":\"stale\",\"name\":\"n\"}" ++ 10 ∷ [])
+    × (line_of (kept_object (codes "n") (codes "s") (codes "m")) ≡ codes "{\"kind\":\"kept\",\"message\":\"m\",\"name\":\"n\",\"spec\":\"s\"}" ++ 10 ∷ [])
+unfolding serde_json_on_literals
+stale = (refl, refl)
 
 pub malformed : line_of (malformed_object (codes "-:1") (codes "t") (codes "m") (codes "d")) ≡ codes "{\"advice\":\"d\",\"kind\":\"malformed\",\"message\":\"m\",\"place\":\"-:1\",\"text\":\"t\"}" ++ 10 ∷ []
 unfolding serde_json_on_literals

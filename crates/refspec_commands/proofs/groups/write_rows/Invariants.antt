@@ -1,8 +1,9 @@
--- the lines of the mappings so far were written
+-- the lines of the updates so far were written
 use Rattle.std.proofs.Common.{map, take}
-use Rattle.gix_refspec.specs.Views.Group.{mapped_of}
+use Rattle.gix_refspec.specs.Views.Plan.{planned_of}
 use Rattle.refspec_commands.specs.Groups.{AddsShort}
+use Rattle.refspec_commands.specs.Verdicts.{written_of}
 use Rattle.refspec_commands.proofs.groups.write_rows.Given as goal
 
-abbrev pub invariant-loop-mapping : goal.invariant-loop-mapping
-invariant-loop-mapping l = AddsShort (map mapped_of (take l.mapping-index l.mappings)) l.fn.out.items l.out.items
+abbrev pub invariant-loop-update : goal.invariant-loop-update
+invariant-loop-update l = AddsShort (written_of (map planned_of (take l.update-index l.updates))) l.fn.out.items l.out.items

@@ -6,4 +6,4 @@ use Rattle.refspec_commands.specs.Rows.{fields, row_of}
 use Rattle.refspec_commands.proofs.mappings.write_records.Given as goal
 
 abbrev pub invariant-loop-mapping : goal.invariant-loop-mapping
-invariant-loop-mapping l = l.out.items ≡ l.fn.out.items ++ flat_map fields (map (λ m. row_of [] l.columns (map bstring_bytes l.texts) (mapped_of m)) (take l.mapping-index l.mappings))
+invariant-loop-mapping l = l.out.items ≡ l.fn.out.items ++ flat_map fields (map (λ m. row_of [] (map bstring_bytes l.texts) (mapped_of m)) (take l.mapping-index l.mappings))

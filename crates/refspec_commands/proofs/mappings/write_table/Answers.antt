@@ -14,5 +14,5 @@ pub loop-mapping-preserved : goal.loop-mapping-preserved
 loop-mapping-preserved c =
     let head = codes "FETCH_HEAD" in
     let texts = map bstring_bytes c.args.texts.now in
-    let same = ap (λ (t : List ℕ). mapped_row head c.args.columns t (mapped_of c.mapping-item.result)) c.text_at-text.ensures ∙ ap (λ (m : Mapping). row_of head c.args.columns texts (mapped_of m)) c.mapping-item.is in
-    AddsLines-next (λ (m : Mapping). row_of head c.args.columns texts (mapped_of m)) c.args.mappings.now c.loop-mapping.mapping-index c.mapping-item.result _ c.args.out.now.items c.loop-mapping.out.items c.write_row.new.out.items c.loop-mapping-test.true same c.loop-mapping.invariant c.in_ok-write_row.ensures
+    let same = ap (λ (t : List ℕ). mapped_row head t (mapped_of c.mapping-item.result)) c.text_at-text.ensures ∙ ap (λ (m : Mapping). row_of head texts (mapped_of m)) c.mapping-item.is in
+    AddsLines-next (λ (m : Mapping). row_of head texts (mapped_of m)) c.args.mappings.now c.loop-mapping.mapping-index c.mapping-item.result _ c.args.out.now.items c.loop-mapping.out.items c.write_row.new.out.items c.loop-mapping-test.true same c.loop-mapping.invariant c.in_ok-write_row.ensures

@@ -6,4 +6,4 @@ use Rattle.refspec_commands.specs.Rows.{AddsLines, row_of}
 use Rattle.refspec_commands.proofs.mappings.write_table.Given as goal
 
 abbrev pub invariant-loop-mapping : goal.invariant-loop-mapping
-invariant-loop-mapping l = AddsLines (map (λ m. row_of (codes "FETCH_HEAD") l.columns (map bstring_bytes l.texts) (mapped_of m)) (take l.mapping-index l.mappings)) l.fn.out.items l.out.items
+invariant-loop-mapping l = AddsLines (map (λ m. row_of (codes "FETCH_HEAD") (map bstring_bytes l.texts) (mapped_of m)) (take l.mapping-index l.mappings)) l.fn.out.items l.out.items

@@ -28,4 +28,7 @@ loop-checked-preserved c =
     ]
 
 pub returns : goal.returns
-returns c = ReportsRefusals-all c.args.report.now.form c.args.all.now c.loop-checked.checked-index c.args.report.now.messages.items c.loop-checked.report.messages.items c.loop-checked-test.false c.loop-checked.invariant.reported
+returns c = record {
+  form = c.loop-checked.invariant.form;
+  reported = ReportsRefusals-all c.args.report.now.form c.args.all.now c.loop-checked.checked-index c.args.report.now.messages.items c.loop-checked.report.messages.items c.loop-checked-test.false c.loop-checked.invariant.reported;
+}
