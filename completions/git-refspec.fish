@@ -3,7 +3,7 @@
 # The command of git refspec among the words, if there is one.
 function __fish_git_refspec_command
     for word in (commandline -opc)
-        if contains -- $word check plan track prefixes
+        if contains -- $word check plan stale track prefixes
             echo $word
             return 0
         end
@@ -32,6 +32,7 @@ set -l none '__fish_git_using_command refspec; and not __fish_git_refspec_comman
 complete -c git -f -n $any
 complete -c git -n $none -a check -d 'Report each value or spec that is refused'
 complete -c git -n $none -a plan -d 'Tell what git fetch would write'
+complete -c git -n $none -a stale -d 'List the refs here that git fetch --prune would delete'
 complete -c git -n $none -a track -d 'Tell from which refs tracking refs are fetched'
 complete -c git -n $none -a prefixes -d 'List what to ask the server for'
 complete -c git -n $none -l version -d 'Print the version'
@@ -42,10 +43,14 @@ complete -c git -n $any -l json -d 'Write one JSON object a line'
 complete -c git -n $any -l remote -x -a '(__fish_git_refspec_git remote)' -d 'The remote'
 complete -c git -n '__fish_git_refspec_is check' -s v -l verbose -d 'Tell good values too'
 complete -c git -n '__fish_git_refspec_is check' -l push -d 'The given specs are for a push'
+complete -c git -n '__fish_git_refspec_is check' -l strict -d 'Exit with status 1 for a warning too'
+complete -c git -n '__fish_git_refspec_is check' -l no-warnings -d 'Report what is refused, and no warnings'
 complete -c git -n '__fish_git_refspec_is plan' -l long -d 'Show each mapping with its spec'
 complete -c git -n '__fish_git_refspec_is plan' -l all -d 'Tell every conflict and all that is left out'
+complete -c git -n '__fish_git_refspec_is plan' -l prune -d 'List the refs that a pruning fetch would delete too'
+complete -c git -n '__fish_git_refspec_is plan' -l refmap -x -d 'A spec in the place of the fetch values'
 complete -c git -n '__fish_git_refspec_is prefixes' -l patterns -d 'Write patterns for git ls-remote'
-complete -c git -n '__fish_git_refspec_is check plan prefixes' -a '(__fish_git_refspec_git remote)' -d Remote
+complete -c git -n '__fish_git_refspec_is check plan stale prefixes' -a '(__fish_git_refspec_git remote)' -d Remote
 complete -c git -n '__fish_git_refspec_is track' \
     -a '(__fish_git_refspec_git for-each-ref --format="%(refname:short)" refs/remotes)' -d 'Tracking ref'
 complete -c git -n '__fish_git_refspec_is track; and string match -q "refs/*" -- (commandline -ct)' \

@@ -3,11 +3,11 @@
 _refspec() {
     local word=${COMP_WORDS[COMP_CWORD]} before=${COMP_WORDS[COMP_CWORD-1]} options
     if [ "$COMP_CWORD" -eq 1 ]; then
-        mapfile -t COMPREPLY < <(compgen -W "check explain canon plan track prefixes --help --version" -- "$word")
+        mapfile -t COMPREPLY < <(compgen -W "check explain canon plan stale track prefixes --help --version" -- "$word")
         return
     fi
     case $before in
-    --specs | --refs)
+    --specs | --refs | --configured | --local)
         mapfile -t COMPREPLY < <(compgen -f -- "$word")
         return
         ;;
@@ -18,9 +18,10 @@ _refspec() {
     esac
     options="--specs -z --read-z --json --help"
     case ${COMP_WORDS[1]} in
-    check) options="$options --push --verbose -v --config" ;;
+    check) options="$options --push --verbose -v --config --strict --no-warnings" ;;
     explain | canon) options="$options --push" ;;
-    plan) options="$options --refs --long --all" ;;
+    plan) options="$options --refs --configured --merge --tags --local --long --all" ;;
+    stale) options="$options --refs --local" ;;
     track) options="$options --ref" ;;
     prefixes) options="$options --patterns" ;;
     esac

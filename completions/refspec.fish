@@ -3,10 +3,11 @@
 complete -c refspec -f
 complete -c refspec -n '__fish_use_subcommand' -s h -l help -d 'Print help'
 complete -c refspec -n '__fish_use_subcommand' -s V -l version -d 'Print version'
-complete -c refspec -n __fish_use_subcommand -a check -d 'Reports each refspec that is refused, with the reason'
+complete -c refspec -n __fish_use_subcommand -a check -d 'Reports each refspec that is refused, with the reason, and warns of what good ones do together'
 complete -c refspec -n __fish_use_subcommand -a explain -d 'Says in a sentence what each refspec does'
 complete -c refspec -n __fish_use_subcommand -a canon -d 'Prints the canonical text of each refspec'
 complete -c refspec -n __fish_use_subcommand -a plan -d 'Shows what a fetch with these refspecs writes'
+complete -c refspec -n __fish_use_subcommand -a stale -d 'Lists the local refs that a pruning fetch with these refspecs deletes'
 complete -c refspec -n __fish_use_subcommand -a track -d 'Shows from which refs of the remote the tracking refs are fetched'
 complete -c refspec -n __fish_use_subcommand -a prefixes -d 'Lists what to ask a server for'
 
@@ -17,6 +18,8 @@ complete -c refspec -n '__fish_seen_subcommand_from check' -l json -d 'Writes on
 complete -c refspec -n '__fish_seen_subcommand_from check' -l push -d 'The specs are for a push, and not for a fetch'
 complete -c refspec -n '__fish_seen_subcommand_from check' -s v -l verbose -d 'Reports good specs too, and which say the same as an earlier one'
 complete -c refspec -n '__fish_seen_subcommand_from check' -l config -d 'Reads what `git config --show-origin -z --get-regexp` prints'
+complete -c refspec -n '__fish_seen_subcommand_from check' -l strict -d 'Exits with status 1 for a warning too'
+complete -c refspec -n '__fish_seen_subcommand_from check' -l no-warnings -d 'Reports refused specs alone, and no warnings'
 complete -c refspec -n '__fish_seen_subcommand_from check' -s h -l help -d 'Print help'
 
 complete -c refspec -n '__fish_seen_subcommand_from explain' -l specs -r -F -d 'Reads specs from this file too, or from the standard input for `-`'
@@ -38,9 +41,21 @@ complete -c refspec -n '__fish_seen_subcommand_from plan' -s z -d 'Reads and wri
 complete -c refspec -n '__fish_seen_subcommand_from plan' -l read-z -d 'Reads records that end with a zero byte, and writes lines'
 complete -c refspec -n '__fish_seen_subcommand_from plan' -l json -d 'Writes one JSON object a line, refusals too'
 complete -c refspec -n '__fish_seen_subcommand_from plan' -l refs -r -F -d 'Reads the refs of the remote from this file, and not from the standard input'
+complete -c refspec -n '__fish_seen_subcommand_from plan' -l configured -r -F -d 'Reads the specs of the configuration from this file'
+complete -c refspec -n '__fish_seen_subcommand_from plan' -l merge -x -d 'The full name of a ref that the current branch merges; may be given again'
+complete -c refspec -n '__fish_seen_subcommand_from plan' -l tags -d 'Fetches all tags too'
+complete -c refspec -n '__fish_seen_subcommand_from plan' -l local -r -F -d 'Reads local refs from this file, and lists those that a pruning fetch deletes too'
 complete -c refspec -n '__fish_seen_subcommand_from plan' -l long -d 'Shows each mapping with its spec, and not below it'
 complete -c refspec -n '__fish_seen_subcommand_from plan' -l all -d 'Shows every conflict and all that is left out, and not only the first 20 of each'
 complete -c refspec -n '__fish_seen_subcommand_from plan' -s h -l help -d 'Print help'
+
+complete -c refspec -n '__fish_seen_subcommand_from stale' -l specs -r -F -d 'Reads specs from this file too, or from the standard input for `-`'
+complete -c refspec -n '__fish_seen_subcommand_from stale' -s z -d 'Reads and writes raw records that end with a zero byte; messages quote names'
+complete -c refspec -n '__fish_seen_subcommand_from stale' -l read-z -d 'Reads records that end with a zero byte, and writes lines'
+complete -c refspec -n '__fish_seen_subcommand_from stale' -l json -d 'Writes one JSON object a line, refusals too'
+complete -c refspec -n '__fish_seen_subcommand_from stale' -l refs -r -F -d 'Reads the refs of the remote from this file, and not from the standard input'
+complete -c refspec -n '__fish_seen_subcommand_from stale' -l local -r -F -d 'Reads the local refs from this file'
+complete -c refspec -n '__fish_seen_subcommand_from stale' -s h -l help -d 'Print help'
 
 complete -c refspec -n '__fish_seen_subcommand_from track' -l specs -r -F -d 'Reads specs from this file too, or from the standard input for `-`'
 complete -c refspec -n '__fish_seen_subcommand_from track' -s z -d 'Reads and writes raw records that end with a zero byte; messages quote names'

@@ -1,5 +1,6 @@
 //! The arguments of the call.
 
+use bstr::BStr;
 use clap::{Arg, ArgAction, ArgMatches};
 use gix_refspec::parsing::Operation;
 use refspec_commands::call::{Call, Command, Form, Terminator};
@@ -19,12 +20,13 @@ pub fn command_line<'a>(alloc: Global) -> Result<clap::Command<'a>, AllocError> 
         .arg_required_else_help(true)
         .disable_help_subcommand(true)
         .after_help(
-            "Results go to the standard output, messages to the standard error.\nThe exit status is 0 if all is well, 1 if something is refused, conflicts, is left out or isn't found, 2 for a usage error, and 3 if a file, a device or memory fails.",
+            "Results go to the standard output, messages to the standard error.\nThe exit status is 0 if all is well, 1 if something is refused, is missing, conflicts, is left out or isn't found, 2 for a usage error, and 3 if a file, a device or memory fails.",
         )
         .subcommand(check_line(alloc)?)?
         .subcommand(explain_line(alloc)?)?
         .subcommand(canon_line(alloc)?)?
         .subcommand(plan_line(alloc)?)?
+        .subcommand(stale_line(alloc)?)?
         .subcommand(track_line(alloc)?)?
         .subcommand(prefixes_line(alloc)?)?
         .subcommand(git_line(alloc)?)
@@ -112,7 +114,7 @@ fn check_line<'a>(alloc: Global) -> Result<clap::Command<'a>, AllocError> {
     line(
         alloc,
         "check",
-        "Reports each refspec that is refused, with the reason",
+        "Reports each refspec that is refused, with the reason, and warns of what good ones do together",
     )?
     .arg(push_flag(alloc))?
     .arg(
@@ -129,7 +131,14 @@ fn check_line<'a>(alloc: Global) -> Result<clap::Command<'a>, AllocError> {
         "config",
         "Reads what `git config --show-origin -z --get-regexp` prints",
     )
-    .long("config"))
+    .long("config"))?
+    .arg(flag(alloc, "strict", "Exits with status 1 for a warning too").long("strict"))?
+    .arg(flag(
+        alloc,
+        "no-warnings",
+        "Reports refused specs alone, and no warnings",
+    )
+    .long("no-warnings"))
 }
 
 fn explain_line<'a>(alloc: Global) -> Result<clap::Command<'a>, AllocError> {
@@ -152,13 +161,27 @@ fn plan_line<'a>(alloc: Global) -> Result<clap::Command<'a>, AllocError> {
         "Shows what a fetch with these refspecs writes",
         "A refspec. The refs are read from the input, one a line",
     )?
+    .arg(refs_option(alloc))?
     .arg(
-        Arg::new(alloc, "refs")
-            .long("refs")
+        Arg::new(alloc, "configured")
+            .long("configured")
             .value_name("FILE")
             .action(ArgAction::Set)
-            .help("Reads the refs of the remote from this file, and not from the standard input"),
+            .help("Reads the specs of the configuration from this file"),
     )?
+    .arg(
+        Arg::new(alloc, "merge")
+            .long("merge")
+            .value_name("REF")
+            .num_args(1)
+            .action(ArgAction::Append)
+            .help("The full name of a ref that the current branch merges; may be given again"),
+    )?
+    .arg(flag(alloc, "tags", "Fetches all tags too").long("tags"))?
+    .arg(local_option(
+        alloc,
+        "Reads local refs from this file, and lists those that a pruning fetch deletes too",
+    ))?
     .arg(flag(
         alloc,
         "long",
@@ -171,6 +194,35 @@ fn plan_line<'a>(alloc: Global) -> Result<clap::Command<'a>, AllocError> {
         "Shows every conflict and all that is left out, and not only the first 20 of each",
     )
     .long("all"))
+}
+
+fn stale_line<'a>(alloc: Global) -> Result<clap::Command<'a>, AllocError> {
+    line_of(
+        alloc,
+        "stale",
+        "Lists the local refs that a pruning fetch with these refspecs deletes",
+        "A refspec. The refs of the remote are read from the input, one a line",
+    )?
+    .arg(refs_option(alloc))?
+    .arg(local_option(alloc, "Reads the local refs from this file").required(true))
+}
+
+// The option for the refs of the remote.
+fn refs_option<'a>(alloc: Global) -> Arg<'a> {
+    Arg::new(alloc, "refs")
+        .long("refs")
+        .value_name("FILE")
+        .action(ArgAction::Set)
+        .help("Reads the refs of the remote from this file, and not from the standard input")
+}
+
+// The option for local refs.
+fn local_option<'a>(alloc: Global, help: &'a str) -> Arg<'a> {
+    Arg::new(alloc, "local")
+        .long("local")
+        .value_name("FILE")
+        .action(ArgAction::Set)
+        .help(help)
 }
 
 fn track_line<'a>(alloc: Global) -> Result<clap::Command<'a>, AllocError> {
@@ -212,10 +264,10 @@ pub fn call_of<'a>(
     specs.retain(|spec| *spec != INPUT);
     let has_dash = specs.len() < count;
     let command = command_of(name);
-    let is_plan = command == Command::Plan;
+    let reads_refs = has_refs(command);
     let file = matches.get_str("specs");
     // The standard input and a file may both have specs.
-    let (input, beside) = match (is_plan, has_dash, file) {
+    let (input, beside) = match (reads_refs, has_dash, file) {
         (true, true, _) => (or_else(matches.get_str("refs"), INPUT), INPUT),
         (true, false, _) => (or_else(matches.get_str("refs"), INPUT), or_else(file, "")),
         (false, true, _) => (INPUT, or_else(file, "")),
@@ -235,28 +287,51 @@ pub fn call_of<'a>(
         patterns: matches.get_flag("patterns"),
         long: matches.get_flag("long"),
         all: matches.get_flag("all"),
+        warns: !matches.get_flag("no-warnings"),
+        is_strict: matches.get_flag("strict"),
         is_watched,
-        reads_input: is_plan || has_dash || file.is_some() || specs.is_empty(),
+        reads_input: reads_refs || has_dash || file.is_some() || specs.is_empty(),
         specs,
         refs,
+        merges: merges_of(alloc, matches)?,
+        tags: matches.get_flag("tags"),
+        prune: matches.get_str("local").is_some(),
         input,
         beside,
+        configured: or_else(matches.get_str("configured"), ""),
+        local: or_else(matches.get_str("local"), ""),
     })
 }
 
-/// Whether the specs of a plan are given in two inputs: by `-` and in a file.
+/// Whether the input of a command is refs of a remote.
+pub fn has_refs(command: Command) -> bool {
+    matches!(command, Command::Plan | Command::Stale)
+}
+
+// The refs that the current branch merges.
+fn merges_of<'a>(alloc: Global, matches: &ArgMatches<'a>) -> Result<Vec<BStr<'a>>, AllocError> {
+    let mut merges = Vec::new(alloc);
+    for name in listed(alloc, matches, "merge")? {
+        merges.push(BStr::new(name.as_bytes()))?;
+    }
+    Ok(merges)
+}
+
+/// Whether the specs of a command that reads refs are given in two inputs: by `-` and in a file.
 pub fn names_two_inputs(name: &str, matches: &ArgMatches<'_>) -> bool {
     let has_dash = match matches.get_strs("spec") {
         None => false,
         Some(arguments) => arguments.iter().any(|argument| *argument == INPUT),
     };
     let is_file = matches.get_str("specs").is_some_and(|file| file != INPUT);
-    command_of(name) == Command::Plan && has_dash && is_file
+    has_refs(command_of(name)) && has_dash && is_file
 }
 
-/// Whether `--specs` or `--refs` has an empty name.
+/// Whether an option for a file has an empty name.
 pub fn names_no_file(matches: &ArgMatches<'_>) -> bool {
-    matches.get_str("specs") == Some("") || matches.get_str("refs") == Some("")
+    ["specs", "refs", "configured", "local"]
+        .iter()
+        .any(|option| matches.get_str(option) == Some(""))
 }
 
 // The values of an option, or of an argument that may be repeated, in order.
@@ -287,6 +362,7 @@ fn command_of(name: &str) -> Command {
         "explain" => Command::Explain,
         "canon" => Command::Canon,
         "plan" => Command::Plan,
+        "stale" => Command::Stale,
         "track" => Command::Track,
         _ => Command::Prefixes,
     }

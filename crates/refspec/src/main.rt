@@ -5,16 +5,17 @@ mod arguments;
 mod git;
 mod streams;
 
-use crate::arguments::{call_of, command_line, names_no_file, names_two_inputs};
+use crate::arguments::{call_of, command_line, has_refs, names_no_file, names_two_inputs};
 use crate::git::run_git;
 use crate::streams::{CLOSED_STATUS, Stream};
-use refspec_commands::call::{Call, Command};
+use gix_refspec::plan::Plan;
+use refspec_commands::call::{Call, Command, Files};
 use refspec_commands::fault::Fault;
 use refspec_commands::input::read_input;
-use refspec_commands::plan::{Discard, Plan};
+use refspec_commands::plan::Discard;
 use refspec_commands::run::run;
 use std::fs::File;
-use std::io::IsTerminal;
+use std::io::{IsTerminal, Write};
 use std::process::ExitCode;
 use std::{env, io, mem};
 
@@ -26,7 +27,7 @@ const USAGE_STATUS: u8 = 2;
 struct AtExit;
 
 impl Discard for AtExit {
-    fn discard(&mut self, plan: Plan<'_, '_>) {
+    fn discard(&mut self, plan: Plan<'_>) {
         mem::forget(plan);
     }
 }
@@ -69,9 +70,7 @@ fn run_arguments(rt: &HostRuntime, arguments: &[String]) -> u8 {
         }
         Some(("git", matches)) => run_git(rt, matches.get_str("folder").unwrap_or("")),
         Some((name, matches)) if names_two_inputs(name, matches) => {
-            let _ = eprintln!(rt;
-                "refspec: give the specs of a plan in one file, by - or by --specs"
-            );
+            let _ = eprintln!(rt; "refspec: give the specs in one file, by - or by --specs");
             USAGE_STATUS
         }
         Some((name, matches)) => {
@@ -97,69 +96,104 @@ fn show(rt: &HostRuntime, error: &clap::Error) -> u8 {
     }
 }
 
-// Runs a call on its inputs, writes its results to the standard output and its messages to the standard error, and
-// returns the exit status.
+// Runs a call, unless it lacks specs or reads the standard input twice. Returns the exit status.
 fn run_call(rt: &HostRuntime, call: &Call<'_>) -> u8 {
-    if call.command == Command::Plan && call.specs.is_empty() && call.beside.is_empty() {
+    if has_refs(call.command) && has_no_specs(call) {
         let _ = eprintln!(rt;
-            "refspec: plan needs specs; give them as arguments, or in a file by --specs"
+            "refspec: plan and stale need specs; give them as arguments, in a file by --specs, or for plan by --configured"
         );
         return USAGE_STATUS;
     }
-    if call.beside == "-" && call.input == "-" {
+    if counts_inputs(call) > 1 {
         let _ = eprintln!(rt;
-            "refspec: the refs and the specs can't both be the standard input; give the refs in a file by --refs"
+            "refspec: only one of the refs, the specs and the other files can be the standard input; give the others in files, the refs by --refs"
         );
         return USAGE_STATUS;
     }
-    let beside = match beside_of(rt, call) {
-        Ok(beside) => beside,
-        Err(fault) => return fail_at(rt, fault, call.beside),
-    };
-    let mut output = Stream::new(rt.stdout());
-    let mut errors = Stream::new(rt.stderr());
-    let made = if call.input == "-" || !call.reads_input {
-        run(
-            rt.alloc(),
-            call,
-            beside.as_slice(),
-            &mut rt.stdin(),
-            &mut output,
-            &mut errors,
-            &mut AtExit,
-        )
-    } else {
-        match File::open(rt, call.input) {
-            Ok(mut file) => run(
-                rt.alloc(),
-                call,
-                beside.as_slice(),
-                &mut file,
-                &mut output,
-                &mut errors,
-                &mut AtExit,
-            ),
-            Err(_) => Err(Fault::Read),
-        }
-    };
-    match made {
+    match run_with_files(rt, call) {
         Ok(status) => status,
-        Err(_) if output.is_closed() || errors.is_closed() => CLOSED_STATUS,
-        Err(fault) => fail_at(rt, fault, call.input),
+        Err((fault, name)) => fail_at(rt, fault, name),
     }
 }
 
-// Reads the specs that are given besides the input, if any.
-fn beside_of(rt: &HostRuntime, call: &Call<'_>) -> Result<Vec<u8>, Fault> {
-    if call.beside.is_empty() {
+// Reads the files of a call beside its input, and runs it. Fails with the name of a file that fails.
+fn run_with_files<'a>(rt: &HostRuntime, call: &Call<'a>) -> Result<u8, (Fault, &'a str)> {
+    let specs = bytes_of(rt, call.beside)?;
+    let configured = bytes_of(rt, call.configured)?;
+    let local = bytes_of(rt, call.local)?;
+    let files = Files {
+        specs: specs.as_slice(),
+        configured: configured.as_slice(),
+        local: local.as_slice(),
+    };
+    let mut output = Stream::new(rt.stdout());
+    let mut errors = Stream::new(rt.stderr());
+    match run_on_input(rt, call, &files, &mut output, &mut errors) {
+        Ok(status) => Ok(status),
+        Err(_) if output.is_closed() || errors.is_closed() => Ok(CLOSED_STATUS),
+        Err(fault) => Err((fault, call.input)),
+    }
+}
+
+// Runs a call on its input and its files, writes its results to `output` and its messages to `errors`, and returns the
+// exit status.
+fn run_on_input<W: Write, E: Write>(
+    rt: &HostRuntime,
+    call: &Call<'_>,
+    files: &Files<'_>,
+    output: &mut W,
+    errors: &mut E,
+) -> Result<u8, Fault> {
+    let alloc = rt.alloc();
+    if call.input == "-" || !call.reads_input {
+        return run(
+            alloc,
+            call,
+            files,
+            &mut rt.stdin(),
+            output,
+            errors,
+            &mut AtExit,
+        );
+    }
+    match File::open(rt, call.input) {
+        Ok(mut file) => run(alloc, call, files, &mut file, output, errors, &mut AtExit),
+        Err(_) => Err(Fault::Read),
+    }
+}
+
+// Whether a call that reads refs has no specs at all.
+fn has_no_specs(call: &Call<'_>) -> bool {
+    let is_given = !call.specs.is_empty() || !call.beside.is_empty();
+    let is_configured = !call.configured.is_empty() || !call.merges.is_empty() || call.tags;
+    !is_given && (call.command == Command::Stale || !is_configured)
+}
+
+// How many of the files of a call are the standard input.
+fn counts_inputs(call: &Call<'_>) -> usize {
+    let input = if call.reads_input { call.input } else { "" };
+    [input, call.beside, call.configured, call.local]
+        .iter()
+        .filter(|name| **name == "-")
+        .count()
+}
+
+// The bytes of a file, or of the standard input for `-`; nothing for an empty name. Fails with the name.
+fn bytes_of<'a>(rt: &HostRuntime, name: &'a str) -> Result<Vec<u8>, (Fault, &'a str)> {
+    if name.is_empty() {
         return Ok(Vec::new(rt.alloc()));
     }
-    if call.beside == "-" {
-        return read_input(rt.alloc(), &mut rt.stdin());
-    }
-    match File::open(rt, call.beside) {
-        Ok(mut file) => read_input(rt.alloc(), &mut file),
-        Err(_) => Err(Fault::Read),
+    let read = if name == "-" {
+        read_input(rt.alloc(), &mut rt.stdin())
+    } else {
+        match File::open(rt, name) {
+            Ok(mut file) => read_input(rt.alloc(), &mut file),
+            Err(_) => Err(Fault::Read),
+        }
+    };
+    match read {
+        Ok(bytes) => Ok(bytes),
+        Err(fault) => Err((fault, name)),
     }
 }
 

@@ -6,11 +6,11 @@ use crate::arguments::{Command, Request, Wish, wish_of};
 use crate::ask::{ARGUMENTS, BRANCH, CONFIG, FOLDER, GitCall};
 use crate::checking::{report_check, report_refused_values};
 use crate::choice::{Repository, choice_of};
-use crate::fetch::{report_plan, report_prefixes};
+use crate::fetch::{report_plan, report_prefixes, report_stale};
 use crate::refusal::Refusal;
 use crate::tracking::report_tracking;
 use crate::usage::{OPTIONS, USAGE, VERSION};
-use refspec_commands::call::Call;
+use refspec_commands::call::{Call, Files};
 use refspec_commands::fault::Fault;
 use refspec_commands::input::records;
 use refspec_commands::plan::Discard;
@@ -83,7 +83,7 @@ impl Output {
         &mut self,
         alloc: Global,
         call: &Call<'_>,
-        beside: &[u8],
+        files: &Files<'_>,
         mut input: &[u8],
         done: &mut D,
     ) -> Result<(), Fault>
@@ -92,7 +92,7 @@ impl Output {
         let status = run(
             alloc,
             call,
-            beside,
+            files,
             &mut input,
             &mut self.results,
             &mut self.messages,
@@ -279,6 +279,9 @@ fn answer_in<'a, M: Machine, D: Discard>(
                     return Err(Stop::Refused(Refusal::NoRemoteNoSpec(choice.remote)));
                 }
                 return report_prefixes(alloc, request, repository, &choice, done);
+            }
+            if command == Command::Stale {
+                return report_stale(alloc, machine, request, repository, &choice, done);
             }
             report_plan(alloc, machine, request, repository, &choice, done)
         }

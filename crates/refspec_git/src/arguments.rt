@@ -17,6 +17,8 @@ pub enum Command {
     Track,
     /// Lists the ref prefixes to send to a server.
     Prefixes,
+    /// Lists the local refs that a pruning fetch deletes.
+    Stale,
 }
 
 /// What the arguments ask for.
@@ -47,6 +49,14 @@ pub struct Request<'a> {
     pub long: bool,
     /// Report every conflict, and all that is left out.
     pub all: bool,
+    /// Report the local refs that a pruning fetch deletes too.
+    pub prune: bool,
+    /// Report no warnings.
+    pub no_warnings: bool,
+    /// Exit with status 1 for a warning too.
+    pub strict: bool,
+    /// The specs that stand in the place of the fetch values, if there are any.
+    pub refmap: Vec<&'a [u8]>,
     /// The remote that `--remote` names.
     pub remote: Option<&'a [u8]>,
     /// The arguments that are neither the command nor options, in order.
@@ -67,12 +77,19 @@ impl Request<'_> {
             patterns: self.patterns,
             long: self.long,
             all: self.all,
+            warns: false,
+            is_strict: false,
             is_watched: false,
             specs: Vec::new(alloc),
             refs: Vec::new(alloc),
+            merges: Vec::new(alloc),
+            tags: false,
+            prune: self.prune,
             reads_input: false,
             input: "",
             beside: "",
+            configured: "",
+            local: "git for-each-ref",
         }
     }
 }
@@ -97,9 +114,27 @@ enum Switch {
     Patterns,
     Long,
     All,
+    Prune,
+    NoWarnings,
+    Strict,
     Usage,
     Manual,
     Version,
+}
+
+// An option with a value.
+#[derive(Clone, Copy, Debug, PartialEq, Eq)]
+enum Valued {
+    Remote,
+    Refmap,
+}
+
+fn valued_named(name: &[u8]) -> Option<Valued> {
+    match name {
+        b"--remote" => Some(Valued::Remote),
+        b"--refmap" => Some(Valued::Refmap),
+        _ => None,
+    }
 }
 
 fn switch_named(name: &[u8]) -> Option<Switch> {
@@ -110,6 +145,9 @@ fn switch_named(name: &[u8]) -> Option<Switch> {
         b"--patterns" => Some(Switch::Patterns),
         b"--long" => Some(Switch::Long),
         b"--all" => Some(Switch::All),
+        b"--prune" => Some(Switch::Prune),
+        b"--no-warnings" => Some(Switch::NoWarnings),
+        b"--strict" => Some(Switch::Strict),
         b"--help" => Some(Switch::Manual),
         b"--version" => Some(Switch::Version),
         _ => None,
@@ -131,6 +169,7 @@ fn command_named(name: &[u8]) -> Option<Command> {
         b"plan" => Some(Command::Plan),
         b"track" => Some(Command::Track),
         b"prefixes" => Some(Command::Prefixes),
+        b"stale" => Some(Command::Stale),
         _ => None,
     }
 }
@@ -146,12 +185,16 @@ struct Reading<'a> {
     patterns: bool,
     long: bool,
     all: bool,
+    prune: bool,
+    no_warnings: bool,
+    strict: bool,
     usage: bool,
     manual: bool,
     version: bool,
     remote: Option<&'a [u8]>,
-    // Whether the next argument is the value of `--remote`.
-    wants_remote: bool,
+    refmap: Vec<&'a [u8]>,
+    // The option whose value is the next argument.
+    wants: Option<Valued>,
     arguments: Vec<&'a [u8]>,
     dashes: Option<usize>,
 }
@@ -167,11 +210,15 @@ impl<'a> Reading<'a> {
             patterns: false,
             long: false,
             all: false,
+            prune: false,
+            no_warnings: false,
+            strict: false,
             usage: false,
             manual: false,
             version: false,
             remote: None,
-            wants_remote: false,
+            refmap: Vec::new(alloc),
+            wants: None,
             arguments: Vec::new(alloc),
             dashes: None,
         }
@@ -179,10 +226,9 @@ impl<'a> Reading<'a> {
 
     // Takes the next argument.
     fn take(&mut self, argument: &'a [u8]) -> Result<(), Refusal<'a>> {
-        if self.wants_remote {
-            self.wants_remote = false;
-            self.remote = Some(argument);
-            return Ok(());
+        if let Some(option) = self.wants {
+            self.wants = None;
+            return self.set_value(option, argument);
         }
         if self.dashes.is_some() {
             return self.add_argument(argument);
@@ -217,10 +263,12 @@ impl<'a> Reading<'a> {
             None => (argument, None),
             Some((name, value)) => (name, Some(value)),
         };
-        if name == b"--remote".as_slice() {
-            self.remote = value;
-            self.wants_remote = value.is_none();
-            return Ok(());
+        if let Some(option) = valued_named(name) {
+            let Some(value) = value else {
+                self.wants = Some(option);
+                return Ok(());
+            };
+            return self.set_value(option, value);
         }
         match switch_named(name) {
             None => Err(Refusal::NoSuchOption(argument)),
@@ -243,6 +291,15 @@ impl<'a> Reading<'a> {
         Ok(())
     }
 
+    // Sets or adds the value of an option.
+    fn set_value(&mut self, option: Valued, value: &'a [u8]) -> Result<(), Refusal<'a>> {
+        match option {
+            Valued::Remote => self.remote = Some(value),
+            Valued::Refmap => self.refmap.push(value)?,
+        }
+        Ok(())
+    }
+
     // Sets the flag of an option.
     fn set(&mut self, switch: Switch) {
         match switch {
@@ -253,6 +310,9 @@ impl<'a> Reading<'a> {
             Switch::Patterns => self.patterns = true,
             Switch::Long => self.long = true,
             Switch::All => self.all = true,
+            Switch::Prune => self.prune = true,
+            Switch::NoWarnings => self.no_warnings = true,
+            Switch::Strict => self.strict = true,
             Switch::Usage => self.usage = true,
             Switch::Manual => self.manual = true,
             Switch::Version => self.version = true,
@@ -273,15 +333,24 @@ impl<'a> Reading<'a> {
         let Some(command) = self.command else {
             return Err(Refusal::NoCommand);
         };
-        if self.wants_remote || self.remote.is_some_and(|name| name.is_empty()) {
+        match self.wants {
+            None => {}
+            Some(Valued::Remote) => return Err(Refusal::NoRemoteName),
+            Some(Valued::Refmap) => return Err(Refusal::NoRefmap),
+        }
+        if self.remote.is_some_and(|name| name.is_empty()) {
             return Err(Refusal::NoRemoteName);
         }
         for (is_given, option, taker, name) in [
             (self.verbose, "-v", Command::Check, "check"),
             (self.push, "--push", Command::Check, "check"),
+            (self.no_warnings, "--no-warnings", Command::Check, "check"),
+            (self.strict, "--strict", Command::Check, "check"),
             (self.patterns, "--patterns", Command::Prefixes, "prefixes"),
             (self.long, "--long", Command::Plan, "plan"),
             (self.all, "--all", Command::Plan, "plan"),
+            (self.prune, "--prune", Command::Plan, "plan"),
+            (!self.refmap.is_empty(), "--refmap", Command::Plan, "plan"),
         ] {
             if is_given && command != taker {
                 return Err(Refusal::OptionElsewhere(option, name));
@@ -295,6 +364,10 @@ impl<'a> Reading<'a> {
             patterns: self.patterns,
             long: self.long,
             all: self.all,
+            prune: self.prune,
+            no_warnings: self.no_warnings,
+            strict: self.strict,
+            refmap: self.refmap,
             remote: self.remote,
             arguments: self.arguments,
             dashes: self.dashes,

@@ -16,6 +16,11 @@ pub const LINES: &str = "lines";
 
 pub const REFS: &str = "refs";
 
+pub const LOCAL: &str = "local";
+
+// The format of refs: the name, a space, and the target of a symbolic ref.
+const NAMES: &[u8] = b"--format=%(refname) %(symref)";
+
 // The name that means the standard output, and not a file.
 const SHOWN: &[u8] = b"-";
 
@@ -35,6 +40,8 @@ pub enum GitCall<'a> {
     /// Prints the refs with these names, and those below them, one per line: the name, a space, and the target of a
     /// symbolic ref.
     Refs(&'a [Vec<u8>]),
+    /// Prints all refs here, as the refs with names.
+    Local,
     /// Prints the full name of the ref that the argument with this index, counted from 0, means.
     FullName(usize, &'a [u8]),
 }
@@ -71,9 +78,9 @@ impl GitCall<'_> {
             GitCall::Lines(remote) => {
                 write_lines(out, &[LINES.as_bytes(), b"ls-remote", b"--", remote])?
             }
+            GitCall::Local => write_lines(out, &[LOCAL.as_bytes(), b"for-each-ref", NAMES])?,
             GitCall::Refs(names) => {
-                let format: &[u8] = b"--format=%(refname) %(symref)";
-                write_lines(out, &[REFS.as_bytes(), b"for-each-ref", format])?;
+                write_lines(out, &[REFS.as_bytes(), b"for-each-ref", NAMES])?;
                 for name in *names {
                     write_lines(out, &[name.as_slice()])?;
                 }

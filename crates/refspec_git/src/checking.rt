@@ -5,11 +5,13 @@ use crate::arguments::Request;
 use crate::choice::{Looks, Repository, looks_of};
 use crate::refusal::Refusal;
 use crate::settings::{name_and_variable, write_settings};
+use crate::warnings::{text_of as text_of_value, write_warnings};
 use gix_refspec::parsing::Operation;
-use refspec_commands::call::{Command, Form};
+use refspec_commands::call::{Command, Files, Form};
 use refspec_commands::fault::Fault;
 use refspec_commands::plan::Discard;
-use refspec_commands::settings::Setting;
+use refspec_commands::settings::{Setting, operation_of};
+use refspec_commands::texts::{Location, Text};
 use std::alloc::{AllocError, Global};
 use std::collections::BTreeSet;
 
@@ -45,6 +47,16 @@ pub fn report_check<'a, M: Machine, D: Discard>(
             }
         }
     }
+    if !request.no_warnings {
+        report_warnings(
+            alloc,
+            request,
+            repository,
+            &chosen,
+            values.as_slice(),
+            &mut reported,
+        )?;
+    }
     let count = values.len().saturating_add(chosen.specs.len());
     if count == 0 && reported.status == 0 {
         reported
@@ -55,6 +67,55 @@ pub fn report_check<'a, M: Machine, D: Discard>(
         reported.messages.extend_from_slice(line.as_bytes())?;
     }
     Ok(reported)
+}
+
+// Reports the warnings on values and specs, and on the remotes that have these values.
+fn report_warnings<'a>(
+    alloc: Global,
+    request: &Request<'a>,
+    repository: &Repository<'a, 'a>,
+    chosen: &Chosen<'a>,
+    values: &[Setting<'a>],
+    reported: &mut Output,
+) -> Result<(), AllocError> {
+    let mut texts = Vec::with_capacity(alloc, chosen.specs.len())?;
+    for (index, spec) in chosen.specs.iter().enumerate() {
+        texts.push(Text {
+            location: Location::Argument(index.saturating_add(1)),
+            operation: operation_for(request),
+            bytes: spec.as_bytes(),
+        })?;
+    }
+    for setting in values {
+        if let (Some(operation), Some(bytes)) = (operation_of(setting.key), setting.value) {
+            texts.push(text_of_value(setting, operation, bytes))?;
+        }
+    }
+    let mut written = Vec::new(alloc);
+    write_warnings(
+        alloc,
+        request.form,
+        repository.settings,
+        &chosen.remotes,
+        texts.as_slice(),
+        &mut written,
+    )?;
+    if request.strict && !written.is_empty() {
+        reported.status = reported.status.max(1);
+    }
+    match request.form {
+        Form::Json => reported.results.extend_from_slice(written.as_slice()),
+        Form::Lines | Form::Zeros => reported.messages.extend_from_slice(written.as_slice()),
+    }
+}
+
+// The operation of the specs among the arguments.
+fn operation_for(request: &Request<'_>) -> Operation {
+    if request.push {
+        Operation::Push
+    } else {
+        Operation::Fetch
+    }
 }
 
 // Whether nothing was written, in the form for people.
@@ -219,13 +280,8 @@ fn check<D: Discard>(
 ) -> Result<(), Fault> {
     let mut beside = Vec::new(alloc);
     write_settings(&mut beside, values)?;
-    let operation = if request.push {
-        Operation::Push
-    } else {
-        Operation::Fetch
-    };
     let mut call = request.call_of(alloc, Command::Check);
-    call.operation = operation;
+    call.operation = operation_for(request);
     call.specs = Vec::from_slice(alloc, specs)?;
-    reported.run(alloc, &call, beside.as_slice(), b"", done)
+    reported.run(alloc, &call, &Files::of_specs(beside.as_slice()), b"", done)
 }

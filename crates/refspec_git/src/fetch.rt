@@ -1,50 +1,35 @@
-//! What `git refspec plan` and `git refspec prefixes` report about a remote.
+//! What `git refspec plan`, `git refspec stale` and `git refspec prefixes` report about a remote.
 
 use crate::answer::{Answer, Machine, Output, Stop, asks};
 use crate::arguments::Request;
-use crate::ask::{GitCall, LINES};
+use crate::ask::{GitCall, LINES, LOCAL};
 use crate::checking::text_of;
 use crate::choice::{Choice, Repository};
 use crate::refusal::{Refusal, write_about};
-use crate::settings::{last_value, settings_named, write_settings};
+use crate::settings::{is_true, last_value, settings_named, write_settings};
 use crate::sources::{Names, Source, Sources};
 use bstr::BStr;
 use gix_refspec::name;
-use refspec_commands::call::{Call, Command, Form};
+use refspec_commands::call::{Call, Command, Files, Form};
+use refspec_commands::fault::Fault;
 use refspec_commands::plan::Discard;
 use refspec_commands::settings::Setting;
 use std::alloc::{AllocError, Global};
 
+// The spec of all tags.
+const ALL_TAGS: &[u8] = b"refs/tags/*:refs/tags/*";
+
 // The specs of a fetch.
 #[derive(Drop)]
 struct Specs<'a> {
-    // Those among the arguments, in order; or `HEAD`.
-    arguments: Vec<String>,
-    // The fetch values of the remote, in order.
-    values: Vec<Setting<'a>>,
-    // The ref names of `branch.NAME.merge`, which the remote may lack.
+    // Those among the arguments, in order.
+    given: Vec<String>,
+    // The fetch values of the remote, in order, and that of tags that are pruned; or those of `--refmap`.
+    configured: Vec<Setting<'a>>,
+    // The values of `branch.NAME.merge`, as written.
     merges: Vec<Setting<'a>>,
-    // The spec for all tags, if the remote has `tagOpt = --tags`.
-    tags: Vec<Setting<'a>>,
-}
-
-impl Specs<'_> {
-    // Drops the names of `merges` that the values fetch already from the refs in these lines.
-    fn drop_covered(&mut self, alloc: Global, lines: &[u8]) -> Result<(), AllocError> {
-        let names = Names::of(alloc, lines)?;
-        let mut sources = Sources::new(alloc);
-        for value in &self.values {
-            sources.add(alloc, value.value.unwrap_or(b""), false)?;
-        }
-        let mut kept = Vec::with_capacity(alloc, self.merges.len())?;
-        for merge in &self.merges {
-            if !sources.take_named(alloc, merge.value.unwrap_or(b""), &names)? {
-                kept.push(*merge)?;
-            }
-        }
-        self.merges = kept;
-        Ok(())
-    }
+    // The last `tagOpt` of the remote, if it is `--tags`.
+    tags: Option<Setting<'a>>,
 }
 
 /// Reports what a fetch of a remote writes, or asks for the refs of the remote.
@@ -56,33 +41,115 @@ pub fn report_plan<'a, M: Machine, D: Discard>(
     choice: &Choice<'a>,
     done: &mut D,
 ) -> Result<Answer, Stop<'a>> {
-    let specs = specs_of(alloc, repository, choice)?;
-    let Some(mut lines) = machine.output(LINES)? else {
+    let mut specs = specs_of(alloc, repository, choice)?;
+    if !request.refmap.is_empty() {
+        if specs.given.is_empty() {
+            return Err(Stop::Refused(Refusal::IdleRefmap));
+        }
+        specs.configured = values_among(alloc, request.refmap.as_slice())?;
+    }
+    let Some(lines) = machine.output(LINES)? else {
         return Ok(asks(alloc, &[GitCall::Lines(choice.remote)])?);
     };
-    let mut specs = specs;
-    specs.drop_covered(alloc, lines.as_slice())?;
+    let local = if request.prune {
+        let Some(refs) = machine.output(LOCAL)? else {
+            return Ok(asks(alloc, &[GitCall::Local])?);
+        };
+        local_refs(alloc, refs.as_slice())?
+    } else {
+        Vec::new(alloc)
+    };
     let mut reported = Output::new(alloc);
-    if report_sources(alloc, request.form, &specs, lines.as_slice(), &mut reported)? {
-        return Ok(Answer::Reports(reported));
-    }
-    // The specs of the configuration end with zero bytes, and so must the refs.
-    for byte in lines.iter_mut() {
-        if *byte == b'\n' {
-            *byte = 0;
-        }
-    }
+    report_sources(alloc, request.form, &specs, lines.as_slice(), &mut reported)?;
     let mut call = call_of(alloc, Command::Plan, request, &specs)?;
     call.is_watched = machine.is_watched();
-    let beside = beside_of(alloc, &specs)?;
     let noted = reported.messages.len();
-    reported.run(alloc, &call, beside.as_slice(), lines.as_slice(), done)?;
+    run_on(
+        alloc,
+        &call,
+        &specs,
+        lines,
+        local.as_slice(),
+        &mut reported,
+        done,
+    )?;
     if reported.results.is_empty() && reported.messages.len() == noted && reported.status == 0 {
         reported
             .messages
             .extend_from_slice(b"git refspec: the specs map no ref of the remote\n")?;
     }
     Ok(Answer::Reports(reported))
+}
+
+/// Reports which refs here a pruning fetch of a remote deletes, or asks for the refs of the remote and those here.
+pub fn report_stale<'a, M: Machine, D: Discard>(
+    alloc: Global,
+    machine: &M,
+    request: &Request<'a>,
+    repository: &Repository<'a, 'a>,
+    choice: &Choice<'a>,
+    done: &mut D,
+) -> Result<Answer, Stop<'a>> {
+    let mut specs = specs_of(alloc, repository, choice)?;
+    if !specs.given.is_empty() {
+        specs.configured.clear();
+    }
+    let (Some(lines), Some(refs)) = (machine.output(LINES)?, machine.output(LOCAL)?) else {
+        return Ok(asks(alloc, &[GitCall::Lines(choice.remote), GitCall::Local])?);
+    };
+    let local = local_refs(alloc, refs.as_slice())?;
+    let mut reported = Output::new(alloc);
+    let call = call_of(alloc, Command::Stale, request, &specs)?;
+    run_on(
+        alloc,
+        &call,
+        &specs,
+        lines,
+        local.as_slice(),
+        &mut reported,
+        done,
+    )?;
+    Ok(Answer::Reports(reported))
+}
+
+// Runs a call on the refs of a remote, which `git ls-remote` printed, and on local refs.
+fn run_on<D: Discard>(
+    alloc: Global,
+    call: &Call<'_>,
+    specs: &Specs<'_>,
+    mut lines: Vec<u8>,
+    local: &[u8],
+    reported: &mut Output,
+    done: &mut D,
+) -> Result<(), Fault> {
+    // The specs of the configuration end with zero bytes, and so must the refs.
+    for byte in lines.iter_mut() {
+        if *byte == b'\n' {
+            *byte = 0;
+        }
+    }
+    let mut configured = Vec::new(alloc);
+    write_settings(&mut configured, specs.configured.as_slice())?;
+    let files = Files {
+        specs: configured.as_slice(),
+        configured: b"",
+        local,
+    };
+    reported.run(alloc, call, &files, lines.as_slice(), done)
+}
+
+// The refs here that aren't symbolic, as `refspec` reads them: an id, which doesn't count, a space, the name and a zero
+// byte.
+fn local_refs(alloc: Global, lines: &[u8]) -> Result<Vec<u8>, AllocError> {
+    let mut refs = Vec::new(alloc);
+    for line in lines.split(|byte| *byte == b'\n') {
+        if let [name @ .., b' '] = line {
+            refs.extend_from_slice(b"0000000000000000000000000000000000000000 ")?;
+            refs.extend_from_slice(name)?;
+            refs.push(0)?;
+        }
+    }
+    Ok(refs)
 }
 
 /// Reports the ref prefixes to send to a remote.
@@ -94,57 +161,97 @@ pub fn report_prefixes<'a, D: Discard>(
     done: &mut D,
 ) -> Result<Answer, Stop<'a>> {
     let specs = specs_of(alloc, repository, choice)?;
+    let beside = configured_beside(alloc, &specs)?;
+    let asks_head = specs.given.is_empty()
+        && specs.configured.is_empty()
+        && specs.merges.is_empty();
     let mut reported = Output::new(alloc);
-    let call = call_of(alloc, Command::Prefixes, request, &specs)?;
-    let beside = beside_of(alloc, &specs)?;
-    reported.run(alloc, &call, beside.as_slice(), b"", done)?;
+    let mut call = call_of(alloc, Command::Prefixes, request, &specs)?;
+    if asks_head {
+        call.specs.push("HEAD")?;
+    }
+    reported.run(alloc, &call, &Files::of_specs(beside.as_slice()), b"", done)?;
     Ok(Answer::Reports(reported))
 }
 
-// The fetch values of the remote.
-fn fetch_values<'a>(
-    alloc: Global,
-    repository: &Repository<'a, 'a>,
-    choice: &Choice<'a>,
-) -> Result<Vec<Setting<'a>>, AllocError> {
-    settings_named(
-        alloc,
-        repository.settings,
-        b"remote",
-        choice.remote,
-        b"fetch",
-    )
+// What the configuration asks for: without given specs the fetch values and what the branch merges, and all tags.
+fn configured_beside(alloc: Global, specs: &Specs<'_>) -> Result<Vec<u8>, AllocError> {
+    let mut beside = Vec::new(alloc);
+    if specs.given.is_empty() {
+        write_settings(&mut beside, specs.configured.as_slice())?;
+        write_settings(&mut beside, merged(alloc, specs)?.as_slice())?;
+    }
+    if let Some(tags) = &specs.tags {
+        write_settings(&mut beside, &[value_of(tags, ALL_TAGS)])?;
+    }
+    Ok(beside)
 }
 
-// The specs of a fetch: the given ones, else the fetch values and what the branch merges from this remote, else
-// `HEAD`. With `tagOpt = --tags` all tags too, unless specs are given.
+// The specs of a fetch: the given ones, and what the configuration adds.
 fn specs_of<'a>(
     alloc: Global,
     repository: &Repository<'a, 'a>,
     choice: &Choice<'a>,
 ) -> Result<Specs<'a>, Stop<'a>> {
-    let mut specs = given_specs(alloc, choice.specs.as_slice())?;
-    if !choice.specs.is_empty() {
-        return Ok(specs);
+    let given = given_specs(alloc, choice.specs.as_slice())?;
+    let mut configured = settings_named(
+        alloc,
+        repository.settings,
+        b"remote",
+        choice.remote,
+        b"fetch",
+    )?;
+    if given.is_empty() {
+        if let Some(option) = tag_pruning(alloc, repository, choice.remote)? {
+            configured.push(value_of(&option, ALL_TAGS))?;
+        }
     }
-    specs.values = fetch_values(alloc, repository, choice)?;
-    let merges = merges_of(alloc, repository, choice.remote)?;
-    if specs.values.is_empty() && merges.is_empty() {
-        specs.arguments.push(String::from_str(alloc, "HEAD")?)?;
+    Ok(Specs {
+        given,
+        configured,
+        merges: merges_of(alloc, repository, choice.remote)?,
+        tags: tags_of(alloc, repository, choice.remote)?,
+    })
+}
+
+// The setting by which tags are pruned, if it is true: the last `pruneTags` of the remote, or else that of `fetch`. Without given
+// specs Git then adds a fetch value for all tags.
+fn tag_pruning<'a>(
+    alloc: Global,
+    repository: &Repository<'a, 'a>,
+    remote: &[u8],
+) -> Result<Option<Setting<'a>>, AllocError> {
+    let own = settings_named(alloc, repository.settings, b"remote", remote, b"prunetags")?;
+    let mut last = None;
+    for setting in repository.settings {
+        if setting.key == b"fetch.prunetags".as_slice() {
+            last = Some(*setting);
+        }
     }
-    for merge in merges {
+    for setting in &own {
+        last = Some(*setting);
+    }
+    match last {
+        Some(setting) if is_true(setting.value) => Ok(last),
+        _ => Ok(None),
+    }
+}
+
+// The ref names among what the branch merges, as fetch values.
+fn merged<'a>(alloc: Global, specs: &Specs<'a>) -> Result<Vec<Setting<'a>>, AllocError> {
+    let mut merged = Vec::new(alloc);
+    for merge in &specs.merges {
         if let Some(name) = merge.value {
             if may_be_merged(name) {
-                specs.merges.push(value_of(&merge, name))?;
+                merged.push(value_of(merge, name))?;
             }
         }
     }
-    specs.tags = tags_of(alloc, repository, choice.remote)?;
-    Ok(specs)
+    Ok(merged)
 }
 
-// Whether Git finds what a branch merges on a remote. In protocol v2 it asks for exactly this name, so a partial name
-// isn't found.
+// Whether a fetch finds what a branch merges on a remote. Git asks the server for exactly this name, so the ref of a partial name
+// is found only if the server lists it for another reason.
 fn may_be_merged(name: &[u8]) -> bool {
     let is_whole = name.starts_with(b"refs/") || name == b"HEAD".as_slice();
     is_whole && name::name_partial(BStr::new(name)).is_ok()
@@ -159,17 +266,31 @@ fn value_of<'a>(setting: &Setting<'a>, spec: &'a [u8]) -> Setting<'a> {
     }
 }
 
-// The spec for all tags, if the last `tagOpt` of a remote is `--tags`.
+// Specs of `--refmap`, as fetch values of the command line.
+fn values_among<'a>(alloc: Global, specs: &[&'a [u8]]) -> Result<Vec<Setting<'a>>, AllocError> {
+    let mut values = Vec::with_capacity(alloc, specs.len())?;
+    for spec in specs {
+        values.push(Setting {
+            origin: b"command line:",
+            key: b"remote.--refmap.fetch",
+            value: Some(*spec),
+        })?;
+    }
+    Ok(values)
+}
+
+// The last `tagOpt` of a remote that is `--tags` or `--no-tags`, if it is `--tags`. Git ignores other values.
 fn tags_of<'a>(
     alloc: Global,
     repository: &Repository<'a, 'a>,
     remote: &[u8],
-) -> Result<Vec<Setting<'a>>, AllocError> {
-    let mut tags = Vec::new(alloc);
-    let options = settings_named(alloc, repository.settings, b"remote", remote, b"tagopt")?;
-    if let Some(option) = options.as_slice().last() {
-        if option.value == Some(b"--tags".as_slice()) {
-            tags.push(value_of(option, b"refs/tags/*:refs/tags/*"))?;
+) -> Result<Option<Setting<'a>>, AllocError> {
+    let mut tags = None;
+    for option in &settings_named(alloc, repository.settings, b"remote", remote, b"tagopt")? {
+        match option.value {
+            Some(b"--tags") => tags = Some(*option),
+            Some(b"--no-tags") => tags = None,
+            _ => {}
         }
     }
     Ok(tags)
@@ -191,24 +312,18 @@ fn merges_of<'a>(
 }
 
 // The specs in the arguments. `tag NAME` is `refs/tags/NAME:refs/tags/NAME`, as on Git's command line.
-fn given_specs<'a>(alloc: Global, arguments: &[&'a [u8]]) -> Result<Specs<'a>, Stop<'a>> {
-    let mut specs = Specs {
-        arguments: Vec::new(alloc),
-        values: Vec::new(alloc),
-        merges: Vec::new(alloc),
-        tags: Vec::new(alloc),
-    };
+fn given_specs<'a>(alloc: Global, arguments: &[&'a [u8]]) -> Result<Vec<String>, Stop<'a>> {
+    let mut specs = Vec::with_capacity(alloc, arguments.len())?;
     let mut is_tag = false;
     for argument in arguments {
         let text = text_of(argument)?;
         if is_tag {
-            let spec = format!(in alloc; "refs/tags/{text}:refs/tags/{text}")?;
-            specs.arguments.push(spec)?;
+            specs.push(format!(in alloc; "refs/tags/{text}:refs/tags/{text}")?)?;
             is_tag = false;
         } else if text == "tag" {
             is_tag = true;
         } else {
-            specs.arguments.push(String::from_str(alloc, text)?)?;
+            specs.push(String::from_str(alloc, text)?)?;
         }
     }
     if is_tag {
@@ -217,69 +332,62 @@ fn given_specs<'a>(alloc: Global, arguments: &[&'a [u8]]) -> Result<Specs<'a>, S
     Ok(specs)
 }
 
-// The call of `refspec` for the specs among the arguments.
+// The call of `refspec` for the given specs, and for what the configuration adds to its own.
 fn call_of<'c>(
     alloc: Global,
     command: Command,
     request: &Request<'_>,
     specs: &'c Specs<'_>,
 ) -> Result<Call<'c>, AllocError> {
-    let mut arguments = Vec::with_capacity(alloc, specs.arguments.len())?;
-    for argument in &specs.arguments {
-        arguments.push(argument.as_str())?;
-    }
     let mut call = request.call_of(alloc, command);
-    call.specs = arguments;
-    call.reads_input = command == Command::Plan;
+    for spec in &specs.given {
+        call.specs.push(spec.as_str())?;
+    }
+    for merge in &specs.merges {
+        call.merges.push(BStr::new(merge.value.unwrap_or(b"")))?;
+    }
+    call.tags = specs.tags.is_some();
+    call.reads_input = command != Command::Prefixes;
     call.input = "git ls-remote";
     Ok(call)
 }
 
-// The specs of the configuration, as `git config` prints settings.
-fn beside_of(alloc: Global, specs: &Specs<'_>) -> Result<Vec<u8>, AllocError> {
-    let mut beside = Vec::new(alloc);
-    write_settings(&mut beside, specs.values.as_slice())?;
-    write_settings(&mut beside, specs.merges.as_slice())?;
-    write_settings(&mut beside, specs.tags.as_slice())?;
-    Ok(beside)
-}
-
-// Reports the specs that match no ref of the lines. Returns whether a ref is missing without which Git fetches nothing.
+// Notes the patterns, the negative specs and the merged refs that match no ref of the lines.
 fn report_sources<'s>(
     alloc: Global,
     form: Form,
     specs: &'s Specs<'s>,
     lines: &[u8],
     reported: &mut Output,
-) -> Result<bool, AllocError> {
+) -> Result<(), AllocError> {
     let mut sources = Sources::new(alloc);
-    for argument in &specs.arguments {
-        let text = argument.as_bytes();
-        sources.add(alloc, text, false)?;
+    for argument in &specs.given {
+        sources.add(alloc, argument.as_bytes(), false)?;
     }
-    for value in &specs.values {
-        let text = value.value.unwrap_or(b"");
-        sources.add(alloc, text, false)?;
-    }
-    for merge in &specs.merges {
-        let text = merge.value.unwrap_or(b"");
-        sources.add(alloc, text, true)?;
+    if specs.given.is_empty() {
+        for value in &specs.configured {
+            sources.add(alloc, value.value.unwrap_or(b""), false)?;
+        }
+        for merge in &specs.merges {
+            let name = merge.value.unwrap_or(b"");
+            if may_be_merged(name) {
+                sources.add(alloc, name, true)?;
+            }
+        }
     }
     if sources.has_bad {
-        return Ok(false);
+        return Ok(());
     }
     let names = Names::of(alloc, lines)?;
-    let mut is_missing = false;
     for source in &sources.list {
-        if !source.takes_some(alloc, &names)? {
-            is_missing |= source.is_needed();
+        if !source.is_needed() && !source.takes_some(alloc, &names)? {
             report_source(alloc, form, source, reported)?;
         }
     }
-    Ok(is_missing)
+    Ok(())
 }
 
-// Reports a spec that matches no ref of the remote.
+// Notes a spec that matches no ref of the remote.
 fn report_source(
     alloc: Global,
     form: Form,
@@ -287,25 +395,12 @@ fn report_source(
     reported: &mut Output,
 ) -> Result<(), AllocError> {
     let canonical = source.spec.to_bstring(alloc)?;
-    if source.is_needed() {
-        reported.status = 1;
-    }
     if form == Form::Json {
         return source.write_object(alloc, canonical.as_bytes(), &mut reported.results);
     }
     let out = &mut reported.messages;
-    if source.is_needed() {
-        write_about(
-            out,
-            "git refspec: couldn't find remote ref ",
-            source.side,
-            ", so nothing is fetched",
-        )?;
-        write_about(out, " (", canonical.as_bytes(), ")\n")
-    } else {
-        write_about(out, "git refspec: note: ", canonical.as_bytes(), "")?;
-        out.extend_from_slice(b": ")?;
-        out.extend_from_slice(source.note().as_bytes())?;
-        Ok(out.push(b'\n')?)
-    }
+    write_about(out, "git refspec: note: ", canonical.as_bytes(), "")?;
+    out.extend_from_slice(b": ")?;
+    out.extend_from_slice(source.note().as_bytes())?;
+    Ok(out.push(b'\n')?)
 }

@@ -17,3 +17,4 @@ mod sources;
 mod tests;
 mod tracking;
 mod usage;
+mod warnings;

@@ -21,6 +21,10 @@ pub enum Refusal<'a> {
     OptionElsewhere(&'static str, &'static str),
     /// `--remote` has no name.
     NoRemoteName,
+    /// `--refmap` has no spec.
+    NoRefmap,
+    /// `--refmap` without specs of the call.
+    IdleRefmap,
     /// `track` has no ref.
     NoRef,
     /// An argument may be a URL or a spec.
@@ -92,6 +96,12 @@ impl Refusal<'_> {
             Refusal::NoSuchOption(argument) => ("there is no option ", argument, ""),
             Refusal::NeedlessValue(argument) => ("", argument, ": this option takes no value"),
             Refusal::NoRemoteName => ("", b"--remote", " takes the name of a remote"),
+            Refusal::NoRefmap => ("", b"--refmap", " takes a spec, or an empty one"),
+            Refusal::IdleRefmap => (
+                "",
+                b"--refmap",
+                " stands in the place of the fetch values for given specs, and Git refuses it without any",
+            ),
             Refusal::NoRef => (
                 "",
                 b"track",

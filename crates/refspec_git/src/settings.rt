@@ -84,6 +84,18 @@ fn is_of(setting: &Setting<'_>, section: &[u8], name: &[u8], variable: &[u8]) ->
     }
 }
 
+/// Whether a value is true, as Git reads booleans: a missing value, `true`, `yes`, `on` in any case, or a number other than 0.
+pub fn is_true(value: Option<&[u8]>) -> bool {
+    let Some(value) = value else {
+        return true;
+    };
+    let words: [&[u8]; 3] = [b"true", b"yes", b"on"];
+    if words.iter().any(|word| value.eq_ignore_ascii_case(word)) {
+        return true;
+    }
+    value.iter().all(|byte| byte.is_ascii_digit()) && value.iter().any(|byte| *byte != b'0')
+}
+
 /// Appends settings, as `git config --show-origin -z` prints them. Fails if memory runs out.
 pub fn write_settings(out: &mut Vec<u8>, settings: &[Setting<'_>]) -> Result<(), AllocError> {
     for setting in settings {

@@ -92,25 +92,6 @@ impl<'a> Sources<'a> {
         })?;
         Ok(())
     }
-
-    /// Whether a name is one of these, and a positive source matches it. Fails if memory runs out.
-    pub fn take_named(
-        &self,
-        alloc: Global,
-        name: &[u8],
-        names: &Names<'_>,
-    ) -> Result<bool, AllocError> {
-        if !names.has(name) {
-            return Ok(false);
-        }
-        let one = Names::of_one(alloc, name)?;
-        for source in &self.list {
-            if !source.is_negative() && source.takes_some(alloc, &one)? {
-                return Ok(true);
-            }
-        }
-        Ok(false)
-    }
 }
 
 /// The source of a spec.
@@ -150,7 +131,9 @@ impl Source<'_> {
 
     /// The note on a source that matches no ref.
     pub fn note(&self) -> &'static str {
-        if self.spec.is_negative() {
+        if self.may_lack {
+            "the current branch merges this ref, but the remote has no such ref"
+        } else if self.spec.is_negative() {
             "this spec leaves out no ref of the remote"
         } else {
             "this spec takes no ref of the remote"
@@ -165,14 +148,6 @@ impl Source<'_> {
         canonical: &[u8],
         out: &mut Vec<u8>,
     ) -> Result<(), AllocError> {
-        let (kind, message) = if self.is_needed() {
-            (
-                "missing",
-                "couldn't find this remote ref, so nothing is fetched",
-            )
-        } else {
-            ("unmatched", self.note())
-        };
-        write_spec_note(alloc, out, kind, canonical, message)
+        write_spec_note(alloc, out, "unmatched", canonical, self.note())
     }
 }

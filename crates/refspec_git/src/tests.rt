@@ -4,7 +4,7 @@ use crate::arguments::{Command, Wish, wish_of};
 use crate::choice::{Looks, looks_of};
 use crate::refusal::Refusal;
 use crate::remotes::{default_remote, fetch_values, is_configured, is_rewritten};
-use crate::settings::{last_value, name_and_variable, write_settings};
+use crate::settings::{is_true, last_value, name_and_variable, write_settings};
 use refspec_commands::call::Form;
 use refspec_commands::settings::settings_of;
 use std::alloc::AllocError;
@@ -153,4 +153,23 @@ fn refuses_other_options(rt: HostRuntime) {
     );
     let arguments: [&[u8]; 3] = [b"track", b"--help", b"-h"];
     assert!(rt; matches!(wish_of(rt.alloc(), &arguments), Ok(Wish::Usage)));
+}
+
+#[test]
+fn reads_booleans_as_git_does(rt: HostRuntime) {
+    assert!(rt; is_true(None));
+    let values: [(&[u8], bool); 9] = [
+        (b"true", true),
+        (b"Yes", true),
+        (b"on", true),
+        (b"1", true),
+        (b"10", true),
+        (b"", false),
+        (b"false", false),
+        (b"no", false),
+        (b"0", false),
+    ];
+    for (value, wanted) in values {
+        assert_eq!(rt; is_true(Some(value)), wanted);
+    }
 }

@@ -15,7 +15,7 @@ use gix_refspec::oid::{Kind, ObjectId};
 use gix_refspec::parsing::{Error, Operation};
 use gix_refspec::{MatchGroup, RefSpecRef, name, parse};
 use gix_refspec_text::side::{candidates, joined};
-use refspec_commands::call::{Command, Form};
+use refspec_commands::call::{Command, Files, Form};
 use refspec_commands::fault::Fault;
 use refspec_commands::plan::Discard;
 use refspec_commands::settings::Setting;
@@ -398,7 +398,7 @@ fn report_ids<D: Discard>(
     write_settings(&mut beside, values)?;
     let call = request.call_of(alloc, Command::Track);
     let mut about_ids = Output::new(alloc);
-    about_ids.run(alloc, &call, beside.as_slice(), b"", done)?;
+    about_ids.run(alloc, &call, &Files::of_specs(beside.as_slice()), b"", done)?;
     reported
         .messages
         .extend_from_slice(about_ids.messages.as_slice())?;

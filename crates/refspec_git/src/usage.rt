@@ -1,16 +1,19 @@
 //! The texts of `-h` and `--version`.
 
 /// The synopses.
-pub const USAGE: &str = "usage: git refspec check [-v] [--push] [<remote> | <spec>]...
-   or: git refspec plan [--long] [--all] [<remote>] [<spec>...]
+pub const USAGE: &str =
+    "usage: git refspec check [-v] [--push] [--strict] [--no-warnings] [<remote> | <spec>]...
+   or: git refspec plan [--long] [--all] [--prune] [--refmap <spec>]... [<remote>] [<spec>...]
+   or: git refspec stale [<remote>] [<spec>...]
    or: git refspec track <ref>...
    or: git refspec prefixes [--patterns] [<remote>] [<spec>...]
 ";
 
 /// What the commands and the options do, after the synopses.
 pub const OPTIONS: &str = "
-    check                 report each fetch or push value of a remote, or each spec, that is refused
+    check                 report each fetch or push value of a remote, or each spec, that is refused, and warn of others
     plan                  show what git fetch would write
+    stale                 list the refs here that git fetch --prune would delete
     track                 show which refs of which remotes tracking refs come from
     prefixes              list what to ask the server for
 
@@ -19,9 +22,13 @@ pub const OPTIONS: &str = "
     --remote <name>       the remote; all other arguments are specs
     -v, --verbose         check: list good values too
     --push                check: the given specs are for a push
+    --strict              check: exit with status 1 for a warning too
+    --no-warnings         check: report what is refused, and no warnings
     --patterns            prefixes: write patterns for git ls-remote
     --long                plan: show each mapping with its spec, and not below it
     --all                 plan: list every conflict and all that is left out, not the first 20
+    --prune               plan: list the refs that git fetch --prune would delete too
+    --refmap <spec>       plan: a spec in the place of the fetch values; an empty one for none
     -h                    print this help
     --help                show the manual
     --version             print the version
