@@ -2,9 +2,10 @@
 """Tries `git refspec`: tests/git-refspec.py [--record] PROGRAM
 
 Replays the calls of samples/git-refspec.sample in repositories that are made here, each in a UTF-8 locale and in C. Compares
-what `git refspec plan` says with what `git fetch --dry-run` and `git fetch` do. Runs the synopses and the examples of the
-manual page, looks at the line that a terminal gets after two seconds, and completes words in bash, zsh and fish, if they are
-there. With --record the answers are put into the sample, to be read before they are committed.
+what `git refspec plan` and `git refspec stale` say with what `git fetch --dry-run`, `git fetch` and `git fetch --prune` do.
+Runs the synopses and the examples of the manual page, looks at the line that a terminal gets after two seconds, and completes
+words in bash, zsh and fish, if they are there. With --record the answers are put into the sample, to be read before they are
+committed.
 
 PROGRAM is the built program refspec. Left out where there is no Git.
 """
@@ -35,6 +36,53 @@ PLANS = [
     ["+refs/heads/main:refs/remotes/origin/main", "+refs/tags/*:refs/tags/*"],
     ["refs/heads/b/*:refs/x/*", "main:refs/y/main"],
 ]
+BRANCH_VALUES = ["+refs/heads/*:refs/remotes/origin/*"]
+MERGE = {"branch.main.remote": "origin", "branch.main.merge": "refs/heads/main"}
+# The fetch values of a remote, other settings, and the words of a fetch from it.
+FETCHES = [
+    (BRANCH_VALUES, {}, ["main"]),
+    (BRANCH_VALUES, {}, ["main", "wip/a", "wip/b", "^refs/heads/wip/a"]),
+    ([*BRANCH_VALUES, "^refs/heads/main"], {}, ["main"]),
+    ([*BRANCH_VALUES, "^refs/heads/main"], MERGE, []),
+    (BRANCH_VALUES, {}, ["main:refs/remotes/origin/wip/a", "wip/a"]),
+    (BRANCH_VALUES, {}, ["--refmap=refs/heads/*:refs/y/*", "main"]),
+    (BRANCH_VALUES, {}, ["--refmap=", "main"]),
+    (BRANCH_VALUES, {}, ["nosuch", "main"]),
+    (BRANCH_VALUES, {}, ["refs/heads/main:refs/x/y", "refs/heads/wip/a:refs/x/y"]),
+    (["+refs/heads/main:refs/x/y", "+refs/heads/wip/a:refs/x/y"], {}, ["main", "wip/a"]),
+    (["+refs/heads/nosuch:refs/x/y"], {}, ["main"]),
+    (["+refs/heads/nosuch:refs/x/y"], {}, []),
+    (BRANCH_VALUES, {"remote.origin.tagOpt": "--tags"}, ["main"]),
+    (BRANCH_VALUES, {"remote.origin.tagOpt": "--TAGS"}, []),
+    (BRANCH_VALUES, {"remote.origin.pruneTags": "true"}, []),
+    (BRANCH_VALUES, {"fetch.pruneTags": "1"}, ["main"]),
+    (BRANCH_VALUES, {"fetch.pruneTags": "true", "remote.origin.pruneTags": "off"}, []),
+    (["+refs/heads/wip/*:refs/remotes/origin/wip/*"], MERGE, []),
+    (["+refs/heads/wip/*:refs/remotes/origin/wip/*"], {**MERGE, "branch.main.merge": "main"}, []),
+    (["+refs/heads/wip/*:refs/remotes/origin/wip/*"], {**MERGE, "branch.main.merge": "refs/heads/nosuch"}, []),
+    ([], MERGE, []),
+    ([], {}, []),
+    (BRANCH_VALUES, {}, ["main:heads/x", "wip/a:tags/x", "wip/b:remotes/x", "b/c/d:x"]),
+    (BRANCH_VALUES, {}, ["refs/heads/*:x/*"]),
+]
+ALL_BUT_WIP = [*BRANCH_VALUES, "^refs/heads/wip/*"]
+GONE, WIP = "refs/remotes/origin/gone", "refs/remotes/origin/wip/gone"
+# The fetch values of a remote, other settings, the specs of a fetch, refs here, and those of them that a pruning fetch deletes.
+PRUNED = [
+    (BRANCH_VALUES, {}, [], [GONE, "refs/remotes/origin/main", "refs/heads/mine"], {GONE}),
+    (ALL_BUT_WIP, {}, [], [GONE, WIP], {GONE}),
+    ([*BRANCH_VALUES, "+refs/tags/*:refs/remotes/origin/*"], {}, [], ["refs/remotes/origin/noted", GONE], {GONE}),
+    (["+refs/tags/*:refs/tags/*"], {}, [], ["refs/tags/mine", GONE], {"refs/tags/mine"}),
+    (BRANCH_VALUES, {"fetch.pruneTags": "true"}, [], ["refs/tags/mine", GONE], {"refs/tags/mine", GONE}),
+    (BRANCH_VALUES, {"fetch.pruneTags": "true"}, ["main"], ["refs/tags/mine", GONE], set()),
+    (BRANCH_VALUES, {}, ["refs/heads/wip/*:refs/y/*"], [GONE, "refs/y/gone"], {"refs/y/gone"}),
+    (BRANCH_VALUES, {}, ["refs/heads/*:refs/y/*", "^refs/heads/wip/*"], [GONE, "refs/y/gone", "refs/y/wip/gone"], {"refs/y/gone"}),
+    (["+refs/heads/gone:refs/remotes/origin/gone"], {}, [], [GONE], set()),
+    ([*BRANCH_VALUES, "+refs/heads/gone:refs/x/gone"], {}, [], [GONE, "refs/x/gone"], set()),
+    ([*BRANCH_VALUES, "+refs/tags/noted:refs/remotes/origin/main"], {}, [], [GONE], set()),
+]
+# What FETCH_HEAD calls a ref.
+KINDS = ((b"branch '", b"refs/heads/"), (b"tag '", b"refs/tags/"), (b"remote-tracking branch '", b"refs/remotes/"), (b"'", b""))
 # A line of a dry run: what becomes of a ref, its name on the remote and the one here, both without the usual folders.
 TOLD = re.compile(rb" [ +*] (?:\[.*?\]|\S+) +(\S+) +-> (\S+)")
 USUAL = re.compile(rb"^refs/(heads|tags|remotes)/")
@@ -175,14 +223,16 @@ class Repositories:
             fail(f"git {words}: status {made.returncode}: {made.stderr!r}")
         return made.stdout
 
-    def local(self, name, specs):
-        """A new local repository whose remote has these fetch values."""
+    def local(self, name, specs, settings=()):
+        """A new local repository whose remote has these fetch values, with these settings."""
         path = os.path.join(self.folder, name)
         subprocess.run(["git", "init", "-q", "-b", "main", path], env=self.environment, check=True)
         self.git(path, "config", "remote.origin.url", self.remote)
         self.git(path, "config", "remote.origin.tagOpt", "--no-tags")
         for spec in specs:
             self.git(path, "config", "--add", "remote.origin.fetch", spec)
+        for key, value in dict(settings).items():
+            self.git(path, "config", "--add", key, value)
         return path
 
     def compare(self, path, specs):
@@ -191,7 +241,7 @@ class Repositories:
         theirs = dict(reversed(line.split(b"\t")) for line in self.git(path, "ls-remote", "origin").splitlines())
         ours = self.refs(path)
         # A dry run tells changes alone.
-        changes = {(USUAL.sub(b"", source), USUAL.sub(b"", name)) for source, name in zip(fields[::3], fields[1::3])
+        changes = {(USUAL.sub(b"", source), USUAL.sub(b"", name)) for source, name in zip(fields[::4], fields[1::4])
                    if theirs.get(source, b"") != ours.get(name)}
         dry = self.run(path, "-c", "fetch.output=full", "fetch", "--dry-run")
         rows = [TOLD.fullmatch(line) for line in dry.stderr.splitlines() if line[:1] == b" "]
@@ -200,9 +250,56 @@ class Repositories:
         self.differ(specs, "a dry run", changes, {row.groups() for row in rows})
         self.git(path, "fetch", "-q")
         written = self.refs(path)
-        self.differ(specs, "a fetch", {(name, theirs.get(source, b"")) for source, name in zip(fields[::3], fields[1::3])},
+        self.differ(specs, "a fetch", {(name, theirs.get(source, b"")) for source, name in zip(fields[::4], fields[1::4])},
                     set(written.items()))
         return len(written)
+
+    def fetch(self, path, words):
+        """What is planned of a call is what it writes; it fails where the plan says so, and then nothing is written."""
+        options = [word for word in words if word.startswith("--")]
+        specs = [word for word in words if not word.startswith("--")]
+        planned = self.run(path, "refspec", "plan", "-z", *options, "origin", *specs)
+        fields = planned.stdout.split(b"\0")[:-1]
+        theirs = dict(reversed(line.split(b"\t")) for line in self.git(path, "ls-remote", "origin").splitlines())
+        made = self.run(path, "fetch", "-q", *options, "origin", *specs)
+        is_refused = b"missing: " in planned.stderr or b"conflict: " in planned.stderr
+        if is_refused != (made.returncode != 0):
+            fail(f"{words}: the plan and a fetch: {planned.stderr!r}, {made.stderr!r}")
+        self.differ(words, "a fetch", {(name, theirs[source]) for source, name in zip(fields[::4], fields[1::4]) if name},
+                    set(self.refs(path).items()))
+        # Values that are applied to what given specs take aren't in FETCH_HEAD.
+        beside = b"configured" if specs else b""
+        self.differ(words, "FETCH_HEAD", {source for source, origin in zip(fields[::4], fields[3::4]) if origin != beside},
+                    set() if is_refused else self.fetched(path))
+
+    @staticmethod
+    def fetched(path):
+        """The refs that FETCH_HEAD has."""
+        with open(os.path.join(path, ".git", "FETCH_HEAD"), "rb") as file:
+            notes = [line.split(b"\t", 2)[2] for line in file]
+        names = set()
+        for note in notes:
+            kinds = [(kind, folder) for kind, folder in KINDS if note.startswith(kind)]
+            names |= {folder + note[len(kind):].split(b"' of ")[0] for kind, folder in kinds[:1]} or {b"HEAD"}
+        return names
+
+    def prune(self, path, specs, names, stale):
+        """What `stale` lists, and a plan too, is what a pruning fetch deletes."""
+        self.git(path, "fetch", "-q", "origin", "refs/heads/main:refs/kept")
+        for name in names:
+            self.git(path, "update-ref", name, "refs/kept")
+        self.git(path, "symbolic-ref", "refs/remotes/origin/symbolic", "refs/kept")
+        listed = self.run(path, "refspec", "stale", "-z", "origin", *specs)
+        told = set(listed.stdout.split(b"\0")[:-1])
+        planned = self.run(path, "refspec", "plan", "-z", "--prune", "origin", *specs)
+        fields = planned.stdout.split(b"\0")[:-1]
+        self.differ(names, "a plan", {name for name, what in zip(fields[1::4], fields[3::4]) if what == b"stale"}, told)
+        before = set(self.refs(path))
+        made = self.run(path, "fetch", "-q", "--prune", "origin", *specs)
+        if {listed.returncode, planned.returncode} != {int(made.returncode != 0)}:
+            fail(f"{names}: stale, a plan and a pruning fetch: {listed!r}, {planned!r}, {made!r}")
+        self.differ(names, "a pruning fetch", told, before - set(self.refs(path)))
+        self.differ(names, "the table", told, {os.fsencode(name) for name in stale})
 
     def refs(self, path):
         """The refs of a local repository, and what each points to."""
@@ -220,6 +317,10 @@ def check_plans(program):
         made = Repositories(folder, program)
         locals_ = [(made.local(f"plan{number}", specs), specs) for number, specs in enumerate(PLANS)]
         written = sum(made.compare(*one) for one in locals_)
+        for number, (values, settings, words) in enumerate(FETCHES):
+            made.fetch(made.local(f"fetch{number}", values, settings), words)
+        for number, (values, settings, specs, names, stale) in enumerate(PRUNED):
+            made.prune(made.local(f"prune{number}", values, settings), specs, names, stale)
         # Then one branch of the remote changes.
         made.git(made.remote, "commit", "-q", "--allow-empty", "-m", "two")
         for one in locals_:
@@ -243,6 +344,26 @@ def check_many_remotes(program):
         took = after.ru_utime + after.ru_stime - before.ru_utime - before.ru_stime
         if took > 0.3:
             fail(f"track of 200 remotes took {took:.2f} seconds")
+
+
+def check_many_values(program):
+    """A remote of 1,000 values is checked within 0.1 seconds of a processor."""
+    with tempfile.TemporaryDirectory() as folder:
+        variables = environment(program)
+        subprocess.run(["git", "init", "-q", folder], env=variables, check=True)
+        with open(os.path.join(folder, ".git", "config"), "a", encoding="ascii") as file:
+            file.write('[remote "origin"]\n\turl = x\n')
+            for number in range(500):
+                file.write(f"\tfetch = refs/heads/b{number}:refs/remotes/origin/b{number}\n")
+                file.write(f"\tfetch = +refs/heads/t{number}/*:refs/remotes/origin/t{number}/*\n")
+        before = resource.getrusage(resource.RUSAGE_CHILDREN)
+        made = shell("git refspec check", folder, variables)
+        after = resource.getrusage(resource.RUSAGE_CHILDREN)
+        if made.returncode or made.stdout or made.stderr:
+            fail(f"check of 1,000 values: {made!r}")
+        took = after.ru_utime + after.ru_stime - before.ru_utime - before.ru_stime
+        if took > 0.1:
+            fail(f"check of 1,000 values took {took:.2f} seconds")
 
 
 def on_terminal(words, folder, variables):
@@ -349,6 +470,7 @@ COMPLETIONS = (
     ("git refspec plan or", ("origin",)),
     ("git refspec plan --j", ("--json",)),
     ("git refspec check --v", ("--verbose",)),
+    ("git refspec check --st", ("--strict",)),
     ("git refspec prefixes --pat", ("--patterns",)),
     ("git refspec track origin/d", ("origin/dev",)),
     ("git refspec track --json refs/remotes/origin/t", ("refs/remotes/origin/topic/a",)),
@@ -437,6 +559,7 @@ def main():
         if record:
             return
         check_many_remotes(program)
+        check_many_values(program)
         commands = check_manual(program)
         check_terminal(program)
         shells = check_completion(program)

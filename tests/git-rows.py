@@ -350,7 +350,8 @@ def try_pruning(tried):
     gone = ["refs/remotes/origin/a", "refs/remotes/origin/b"]
     for values, deleted in (
             ([TRACKING], gone), ([TRACKING, "^refs/heads/b"], gone[:1]), (["refs/heads/a:" + gone[0]], []),
-            (["refs/heads/main:" + gone[0], "^refs/heads/main"], gone[:1])):
+            (["refs/heads/main:" + gone[0], "^refs/heads/main"], gone[:1]),
+            ([TRACKING, "HEAD:refs/y", "refs/heads/main:refs/y"], [])):
         local = tried.beside(remote, *values, own=gone)
         tried.git(local, "symbolic-ref", "refs/remotes/origin/s", "refs/heads/main")
         seen = tried.changed(local, *prune)[0]
@@ -428,8 +429,56 @@ def try_excluding_pushes(tried):
     expect("push HEAD, detached", (made[0], "is not a full refname" in made[1]), ([], True))
 
 
+def try_warnings(tried):
+    """What Git does where `refspec check` and `git refspec check` warn, by the examples of their messages."""
+    remote, main = tried.repository(commit=True), "refs/remotes/origin/main"
+    for name in ("refs/heads/pr/7", "refs/pull/7/head", "refs/heads/topic", "refs/tags/v1"):
+        tried.git(remote, "update-ref", name, "HEAD")
+    pull, pr, topic = "+refs/pull/*/head:refs/remotes/origin/pr/*", "refs/remotes/origin/pr/7", "refs/remotes/origin/topic"
+    fetch = ("fetch", "--no-tags", "origin")
+    for values, written, said in (
+            ([TRACKING, pull], [], "Cannot fetch both refs/heads/pr/7 and refs/pull/7/head to " + pr),
+            ([TRACKING, pull, "^refs/heads/pr/*"], [main, pr, topic], ""),
+            ([TRACKING, "^main"], [main, pr, topic], ""), ([TRACKING, "^topic/*"], [main, pr, topic], ""),
+            (["heads/*:refs/x/*"], [], ""), (["refs/heads/*:x/*"], [], "Ignoring funny ref 'x/main'"),
+            (["main:@"], [], "invalid refspec"), (["main:side"], ["refs/heads/side"], ""),
+            (["main:tags/y"], ["refs/tags/y"], ""), (["main:HEAD"], ["refs/heads/HEAD"], ""), ([], [], "FETCH_HEAD")):
+        seen, told = tried.changed(tried.beside(remote, *values), *fetch)
+        expect(f"a fetch by {values}", (seen, said in told), (written, True))
+    # The sign of a later spec that maps the same does nothing, and that of an earlier one stays.
+    for values, written in ((["refs/heads/*:refs/x/*", "+refs/heads/*:refs/x/*"], []),
+                            (["+refs/heads/*:refs/x/*", "refs/heads/*:refs/x/*"], ["refs/x/main"])):
+        local = tried.beside(remote, *values)
+        tried.git(local, *fetch, "-q")
+        tried.git(remote, "commit", "-q", "--amend", "--allow-empty", "-m", written and "two" or "three")
+        expect(f"a later change by {values}", tried.changed(local, *fetch)[0], written)
+    # Tags that are followed come back, and those of --tags don't.
+    for settings, written in (([], ["refs/remotes/origin/topic", "refs/tags/v1"]),
+                              ([("remote.origin.tagOpt", "--tags")], ["refs/remotes/origin/topic"])):
+        local = tried.beside(remote, "refs/heads/topic:" + topic, "^refs/tags/*", settings=settings)
+        expect(f"excluded tags by {settings}", tried.changed(local, "fetch", "origin")[0], written)
+    own, on = ["refs/heads/mine", "refs/tags/mine"], [("fetch.prune", "true")]
+    for values, settings, deleted in (
+            ([TRACKING], on, []), ([TRACKING, "refs/tags/*:refs/tags/*"], on, own[1:]),
+            ([TRACKING], [*on, ("fetch.pruneTags", "true")], own[1:]),
+            ([TRACKING], [("fetch.pruneTags", "true")], []),
+            (["+refs/heads/*:refs/heads/*"], [("remote.origin.prune", "true")], own[:1]),
+            (["+refs/heads/*:refs/heads/*"], [*on, ("remote.origin.prune", "false")], [])):
+        local = tried.beside(remote, *values, own=own, settings=settings)
+        tried.git(local, "checkout", "-q", "--detach")
+        tried.git(local, "update-ref", "-d", "refs/heads/main")
+        seen = tried.changed(local, "fetch", "origin")[0]
+        expect(f"pruned by {values} {settings}", [name for name in seen if name[0] == "-"], ["-" + name for name in deleted])
+    local, other = tried.repository(commit=True), tried.repository("--bare")
+    expect("push ^main", tried.changed(local, "push", other, "refs/heads/*:refs/heads/*", "^main", at=other)[0],
+           ["refs/heads/main"])
+    tried.git(tried.folder, "clone", "-q", "--mirror", remote, "mirror")
+    expect("a mirror", tried.git(os.path.join(tried.folder, "mirror"), "config", "remote.origin.mirror"), "true")
+
+
 WITH_PROGRAM = (try_texts, try_fetches, try_looks_back, try_prefixes, try_pushes)
-GIT_ALONE = (try_values, try_tags, try_refusals, try_pruning, try_look_ups, try_asking, try_excluding_pushes)
+GIT_ALONE = (try_values, try_tags, try_refusals, try_pruning, try_look_ups, try_asking, try_excluding_pushes,
+             try_warnings)
 
 
 def main():

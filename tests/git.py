@@ -11,26 +11,10 @@ import sys
 import tempfile
 
 HERE = os.path.dirname(os.path.abspath(__file__))
+SAMPLE = os.path.join(HERE, "samples", "git.sample")
 sys.dont_write_bytecode = True
 sys.path.insert(0, os.path.join(HERE, os.pardir, "tools", "oracle"))
 import gitfetch
-
-# The number of the first line of a list, its command, the known kinds, and its lines: those of the input, the
-# answer of the program, and what git did.
-Stored = collections.namedtuple("Stored", "number command kinds given answer done")
-
-
-def stored_lists():
-    lists = []
-    with open(os.path.join(HERE, "samples", "git.sample"), "rb") as file:
-        for number, line in enumerate(file, 1):
-            mark, text = line[:2], gitfetch.plain(line[2:].rstrip(b"\n"))
-            if mark == b"= ":
-                command, _, kinds = text.decode().partition(", ")
-                lists.append(Stored(number, command, kinds, [], [], []))
-            elif mark in (b"< ", b"> ", b"! "):
-                lists[-1][3 + b"<>!".index(mark[0])].append(text)
-    return lists
 
 
 def read_given(store, stored):
@@ -72,7 +56,7 @@ def main():
     if shutil.which("git") is None:
         print("git: left out, as there is no git on the PATH")
         return
-    program, lists = os.path.abspath(sys.argv[1]), stored_lists()
+    program, lists = os.path.abspath(sys.argv[1]), gitfetch.stored_lists(SAMPLE)
     alike = collections.Counter()
     with tempfile.TemporaryDirectory() as folder:
         store = gitfetch.Store(folder)

@@ -48,8 +48,8 @@ check_programs() {
     wants 0 'ok main' sh -c 'echo main | refspec_map canon fetch'
     has git || { say "left out git refspec, as there is no git"; return; }
     wants 0 '' git -C "$made/clone" refspec check
-    wants 0 $'refs/heads/main refs/remotes/origin/main\nrefs/heads/wip/x refs/remotes/origin/wip/x' \
-        sh -c 'git -C "$0" refspec plan | awk "{ print \$1, \$2 }"' "$made/clone"
+    wants 0 $'+refs/heads/*:refs/remotes/origin/* (configured)\nrefs/heads/main refs/remotes/origin/main
+refs/heads/wip/x refs/remotes/origin/wip/x' sh -c 'git -C "$0" refspec plan | awk "{ print \$1, \$2 }"' "$made/clone"
     git_in clone config remote.origin.push main:refs/heads/a..b
     ! bare git -C "$made/clone" refspec check >"$made/out" 2>&1 || fail "git refspec check finds nothing wrong"
     grep -qF 'A ref name must not have two dots in a row.' "$made/out" || fail "git refspec check says $(cat "$made/out")"

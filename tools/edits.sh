@@ -10,9 +10,14 @@ cd "$(dirname "${BASH_SOURCE[0]}")/.."
 copy=$(mktemp -d)
 trap 'rm -rf "$copy"' EXIT
 
+# Of what is proved only that of the libraries below is copied, as all of it takes gigabytes.
 git init -q "$copy"
-cp -r crates.txt HANDLES crates "$copy"
-rm -rf "$copy/crates/$crate/must-fail" "$copy/crates/$crate/out"
+tar -c --exclude='crates/*/out' --exclude='crates/*/must-fail' crates.txt HANDLES crates | tar -x -C "$copy"
+for library in $(sed -nE "s/^$crate( staticlib)?: //p" crates.txt); do
+    if [ -d "crates/$library/out" ]; then
+        cp -r "crates/$library/out" "$copy/crates/$library"
+    fi
+done
 mkdir "$copy/crates/$crate/must-fail"
 for name in "$@"; do
     cp "crates/$crate/must-fail/$name"*.edit "$copy/crates/$crate/must-fail"

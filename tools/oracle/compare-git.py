@@ -219,20 +219,15 @@ def chosen_of(results, wanted, chooser):
     return [classes[word] for word in half + chooser.sample(rest, min(wanted - len(half), len(rest)))]
 
 
-def stored_lines(result):
-    yield b"= " + b", ".join([result.command.encode(), *(kind.text.encode() for kind in result.kinds)])
-    yield from (b"< " + line for line in gitfetch.lines_of(result.specs, result.refs))
-    yield from (b"> " + line for line in result.ours)
-    if result.kinds:
-        yield from (b"! " + line for line in result.theirs)
+def stored(result):
+    kinds = ", ".join(kind.text for kind in result.kinds)
+    done = result.theirs if result.kinds else []
+    return gitfetch.Stored(None, result.command, kinds, gitfetch.lines_of(result.specs, result.refs), result.ours, done)
 
 
 def write_sample(results, options, git):
     path = os.path.join(options.samples, "git.sample")
-    with open(path, "wb") as file:
-        file.write(SAMPLE_HEAD.format(options=options, git=git).encode())
-        for result in results:
-            file.write(b"\n" + b"".join(gitfetch.escaped(line) + b"\n" for line in stored_lines(result)))
+    gitfetch.store_lists(path, SAMPLE_HEAD.format(options=options, git=git), map(stored, results))
     print(f"compare-git: {len(results)} lists, in {path}")
 
 
@@ -246,18 +241,18 @@ def compare(options, git):
         counts = [min(LISTS_OF_A_REMOTE, options.lists - LISTS_OF_A_REMOTE * number) for number in range(remotes)]
         made = pool.map(comparison.of_remote, range(remotes), counts, [options.seed] * remotes)
         results = [result for some in made for result in some]
-        stored, unknown = [], [result for result in results if result.kinds is None]
+        chosen, unknown = [], [result for result in results if result.kinds is None]
         for command, kinds in (("plan", gitknown.FAILING + gitknown.REWRITTEN), ("rhs", gitknown.BACKWARD)):
             mine = [result for result in results if result.command == command]
             report(command, mine)
-            stored += check_kinds(comparison, command, kinds, mine)
+            chosen += check_kinds(comparison, command, kinds, mine)
             alike = [result for result in mine if result.kinds == []]
             if options.samples:
-                stored += chosen_of(alike, STORED[command], random.Random(options.seed))
+                chosen += chosen_of(alike, STORED[command], random.Random(options.seed))
         if unknown:
             print(f"compare-git: unknown: {shown(comparison.shrunk(min(unknown, key=size_of)))}")
         elif options.samples:
-            write_sample(stored, options, git)
+            write_sample(chosen, options, git)
     return len(unknown)
 
 

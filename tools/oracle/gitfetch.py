@@ -47,10 +47,14 @@ auto = false
 allow = always
 """
 NO_BRANCH = b"ref: refs/heads/unborn"
+# A list of a sample: the number of its first line, its command, the known kinds, and its lines: those of the input, the
+# answer of the program, and what git did.
+Stored = collections.namedtuple("Stored", "number command kinds given answer done")
 # Why git fails at a whole list, with the names that it tells.
 FAILURES = [
     ("missing", re.compile(rb"^fatal: couldn't find remote ref (.*)$", re.M)),
     ("conflict", re.compile(rb"^fatal: Cannot fetch both (.*) and (.*) to (.*)$", re.M)),
+    ("tracks", re.compile(rb"^fatal: (.*) tracks both (.*) and (.*)$", re.M)),
     ("invalid", re.compile(rb"^fatal: invalid refspec '(.*)'$", re.M)),
 ]
 
@@ -256,3 +260,28 @@ def escaped(line):
 
 def plain(line):
     return re.sub(rb"\\x([0-9a-f]{2})", lambda found: bytes([int(found[1], 16)]), line)
+
+
+def store_lists(path, head, lists):
+    """Writes lists into a sample, below its head."""
+    with open(path, "wb") as file:
+        file.write(head.encode())
+        for stored in lists:
+            named = ", ".join([stored.command, *filter(None, [stored.kinds])]).encode()
+            marked = [(b"= ", [named]), (b"< ", stored.given), (b"> ", stored.answer), (b"! ", stored.done)]
+            lines = [escaped(mark + line) + b"\n" for mark, part in marked for line in part]
+            file.write(b"\n" + b"".join(lines))
+
+
+def stored_lists(path):
+    """The lists of a sample."""
+    lists = []
+    with open(path, "rb") as file:
+        for number, line in enumerate(file, 1):
+            mark, text = line[:2], plain(line[2:].rstrip(b"\n"))
+            if mark == b"= ":
+                command, _, kinds = text.decode().partition(", ")
+                lists.append(Stored(number, command, kinds, [], [], []))
+            elif mark in (b"< ", b"> ", b"! "):
+                lists[-1][3 + b"<>!".index(mark[0])].append(text)
+    return lists

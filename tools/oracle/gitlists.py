@@ -1,10 +1,12 @@
-"""Lists of fetch specs, and refs to fetch or to track with them, by a given chooser: for tools/oracle/compare-git.py.
+"""Lists of fetch specs, and refs to fetch, to track or to prune with them, by a given chooser: for compare-git.py and
+compare-plans.py.
 
 The names share words, so that a partial name may stand for several refs.
 """
 import itertools
 
-import gitknown  # beside this script
+import gitknown  # beside this script, as the next one
+import gitplans
 
 # What names of refs are made of.
 WORDS = [b"main", b"a", b"b", b"ab", b"a.b", b"x1", b"v1", b"origin"]
@@ -224,3 +226,68 @@ def track_list(random_, refs):
     names = track_names(random_, specs)
     specs += [track_negative(random_, specs, names) for _ in range(random_.choice([0, 0, 1, 1, 2]))]
     return specs, names
+
+
+# Values of a remote: those of a clone, and none.
+USUAL_VALUES = [[b"+refs/heads/*:refs/remotes/origin/*"]] * 2 + [[b"+refs/heads/*:refs/remotes/origin/*", b"^refs/heads/a"], []]
+# Words of local refs that the remote may lack.
+LOST_WORDS = [b"a", b"b", b"main", b"gone", b"a/b", b"lost/head", b"x-b"]
+
+
+def values(random_, refs):
+    """Fetch values of a remote; an empty one can't be in a file with one a line."""
+    made = list(random_.choice(USUAL_VALUES)) if random_.random() < 0.5 else fetch_specs(random_, refs)
+    if random_.random() < 0.15:
+        made += contest(random_, refs, made)
+    return [one if one.strip(b"+") else b":" for one in made]
+
+
+def contest(random_, refs, specs):
+    """A spec from another ref to a destination of these specs, if there is one; and the ref that they give it from."""
+    pairs = [pair for one in gitknown.positive_ones(specs) for pair in gitknown.pairs_of(gitknown.split(one), refs)
+             if pair[1].startswith(b"refs/") and gitknown.is_ref_name(pair[1])]
+    if not pairs:
+        return []
+    taken, far = random_.choice(pairs)
+    return random_.sample([taken, source(random_, refs) + b":" + far], 2)
+
+
+def merge(random_, refs):
+    """A value of branch.<name>.merge, for the most part a full name."""
+    kind, ref = random_.random(), random_.choice(refs).name
+    if kind < 0.65:
+        return ref
+    return shortened(random_, ref) if kind < 0.85 else name(random_)
+
+
+def wish(random_, refs):
+    """What a fetch is asked for."""
+    given = fetch_specs(random_, refs) if random_.random() < 0.6 else []
+    configured = values(random_, refs)
+    refmap = random_.choice([[], values(random_, refs)]) if given and random_.random() < 0.25 else None
+    if given and random_.random() < 0.25:
+        given += contest(random_, refs, configured)
+    merges = [merge(random_, refs) for _ in range(random_.choice([0, 0, 0, 1, 1, 2]))]
+    return gitplans.Wish(given, configured, refmap, merges, random_.random() < 0.3)
+
+
+def lost_names(random_, refs, specs):
+    """Names of local refs, for the most part those that the specs give of refs that the remote has or lacks."""
+    names = [name(random_) for _ in range(3)]
+    for spec in filter(gitknown.is_positive, map(gitknown.split, specs)):
+        if b"*" in spec.destination:
+            words = [gitknown.word_of(spec.source, ref.name) for ref in refs]
+            kept = [word for word in words if word is not None and random_.random() < 0.5]
+            names += [gitknown.filled(spec.destination, word) for word in kept + random_.sample(LOST_WORDS, 3)]
+        elif spec.destination:
+            names.append(gitknown.full_name(spec.destination))
+    random_.shuffle(names)
+    return told_apart(apart(one for one in names if one.startswith(b"refs/") and gitknown.is_ref_name(one)))
+
+
+def told_apart(names):
+    """The names without those that git tells as an earlier one."""
+    kept = {}
+    for one in names:
+        kept.setdefault(gitplans.USUAL.sub(b"", one), one)
+    return list(kept.values())

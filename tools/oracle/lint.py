@@ -1,0 +1,502 @@
+#!/usr/bin/env python3
+"""Holds the procedure of `gix_refspec::lint` against brute force: tools/oracle/lint.py GROUPS [SEED]
+
+For random groups of specs it asks the procedure which specs can conflict, and which are idle, and tries all lists of one and
+two refs over a small alphabet, and for idle specs those with up to three other candidates of partial names. Nothing printed but
+counts: no difference. Each example of a conflict is mapped too.
+
+A spec is (negative, source, destination or None); texts are str. Mapping is that of a plan of configured specs: destinations
+completed as git-fetch does, mappings with an invalid side left out, equal mappings of earlier specs dropped, sources of negative
+specs excluded. The free byte is `c`, as no text has it.
+"""
+import collections
+import itertools
+import random
+import sys
+
+HEX = set("0123456789abcdefABCDEF")
+
+def is_name(x):
+    if not x or x.startswith("/") or x.endswith("/") or "//" in x or x.endswith(".") or ".." in x or "@{" in x:
+        return False
+    if any(ord(c) < 32 or c in "\x7f ~^:?[\\*" for c in x):
+        return False
+    return all(c and not c.startswith(".") and not c.endswith(".lock") for c in x.split("/"))
+
+def is_ref_name(x):
+    return x == "HEAD" or (x.startswith("refs/") and is_name(x))
+
+def can_be_written(d):
+    return d is None or (d.startswith("refs/") and is_name(d))
+
+def is_id(x):
+    return len(x) in (40, 64) and all(c in HEX for c in x)
+
+def kind(x):
+    if "*" in x:
+        return "pattern"
+    if x.startswith("refs/"):
+        return "full"
+    return "object" if is_id(x) else "partial"
+
+def candidates(x):
+    return [x, "refs/" + x, "refs/tags/" + x, "refs/heads/" + x, "refs/remotes/" + x, "refs/remotes/" + x + "/HEAD"]
+
+def written_name(d):
+    if d.startswith("refs/"):
+        return d
+    return ("refs/" if d.startswith(("heads/", "tags/", "remotes/")) else "refs/heads/") + d
+
+def word_between(p, n):
+    a, b = p.split("*")
+    if len(n) >= len(a) + len(b) and n.startswith(a) and n.endswith(b):
+        return n[len(a):len(n) - len(b)]
+    return None
+
+def fill(p, w):
+    return p.replace("*", "\0").replace("\0", w) if p is not None else None
+
+def completed(spec):
+    neg, s, d = spec
+    return (neg, s, d if d is None or "*" in d else written_name(d))
+
+def makes(spec, refs):
+    """The pairs that a completed positive spec makes of the refs: (source, destination); ids are ('id', hex)."""
+    neg, s, d = spec
+    if neg:
+        return []
+    k = kind(s)
+    if k == "object":
+        return [(("id", s.lower()), d)]
+    if k == "full":
+        return [(("name", s), d)] if s in refs else []
+    if k == "partial":
+        for c in candidates(s):
+            if c in refs:
+                return [(("name", c), d)]
+        return []
+    out = []
+    for n in refs:
+        w = word_between(s, n)
+        if w is not None:
+            out.append((("name", n), fill(d, w)))
+    return out
+
+def excludes(neg, n):
+    s = neg[1]
+    return word_between(s, n) is not None if "*" in s else s == n
+
+def excluded(g, source):
+    return source[0] == "name" and any(x[0] and excludes(x, source[1]) for x in g)
+
+def sound(pair):
+    (k, n), d = pair
+    return (k == "id" or is_ref_name(n)) and can_be_written(d)
+
+def kept(g, refs):
+    """All kept mappings (spec, source, destination) over the refs, by simulation."""
+    all_ = []
+    for ids in (True, False):
+        for i, x in enumerate(g):
+            if not x[0] and (kind(x[1]) == "object") == ids:
+                all_ += [(i, s, d) for s, d in makes(x, refs)]
+    seen, out = set(), []
+    for i, s, d in all_:
+        if (s, d) in seen:
+            continue
+        seen.add((s, d))
+        if not excluded(g, s):
+            out.append((i, s, d))
+    return out
+
+# ---- the procedure
+
+SHORT = ["", "r", "re", "ref", "refs", "refs/", "e", "ef", "efs", "efs/", "f", "fs", "fs/", "s", "s/", "/",
+         "H", "HE", "HEA", "HEAD", "E", "EA", "EAD", "A", "AD", "D"]
+ENDINGS = ["refs/"[i:] for i in (5, 4, 3, 2, 1, 0)]
+
+def common_names(p1, p2, z):
+    """Names that decide what fits both patterns."""
+    a, b = p1.split("*")
+    c, d = p2.split("*")
+    P, Q = (a, c) if len(a) >= len(c) else (c, a)
+    T, U = (b, d) if len(b) >= len(d) else (d, b)
+    if not P.startswith(Q) or not T.endswith(U):
+        return
+    for r in ENDINGS:
+        yield P + r + z + T
+    for w in SHORT:
+        yield P + w + T
+    for k in range(1, len(T) + 1):
+        yield P + T[k:]
+
+def sources_for(x, d):
+    """The sources from which a positive completed spec may write d (None: any spec without destination)."""
+    s, dd = x[1], x[2]
+    k = kind(s)
+    if k == "pattern":
+        w = word_between(dd, d)
+        return [("name", fill(s, w))] if w is not None else []
+    if dd != d:
+        return []
+    if k == "object":
+        return [("id", s.lower())]
+    if k == "full":
+        return [("name", s)]
+    return [("name", c) for c in candidates(s)]
+
+def takes(x, source, other):
+    """Whether over a list of the refs of these two sources the spec takes the first."""
+    s = x[1]
+    if kind(s) != "partial" or source[0] == "id" or other is None or other[0] == "id":
+        return True
+    cs = candidates(s)
+    return not (other[1] in cs and cs.index(other[1]) < cs.index(source[1]))
+
+def conflict_of(g, i, j, z):
+    x, y = g[i], g[j]
+    if x[2] is None or y[2] is None:
+        return None
+    if "*" in x[2] and "*" in y[2]:
+        ds = common_names(x[2], y[2], z)
+    else:
+        ds = [x[2] if "*" not in x[2] else y[2]]
+    for d in ds:
+        if not can_be_written(d):
+            continue
+        for s in sources_for(x, d):
+            for t in sources_for(y, d):
+                if s != t and sound((s, d)) and sound((t, d)) and not excluded(g, s) and not excluded(g, t) \
+                        and takes(x, s, t) and takes(y, t, s):
+                    return (s, t, d)
+    return None
+
+def own_pairs(x, z):
+    """The pairs that decide what a positive spec does."""
+    s, d = x[1], x[2]
+    k = kind(s)
+    if k == "pattern":
+        for n in common_names(s, s, z):
+            w = word_between(s, n)
+            if w is not None:
+                yield ("name", n), fill(d, w)
+        return
+    if k == "object":
+        yield ("id", s.lower()), d
+    elif k == "full":
+        yield ("name", s), d
+    else:
+        for c in candidates(s):
+            yield ("name", c), d
+
+def always_makes(h, i, pair):
+    """Whether h makes the pair over each list of valid refs over which i does."""
+    (k, n), d = pair
+    if (k == "id") != (kind(h[1]) == "object"):
+        return False
+    if k == "id":
+        return n == h[1].lower() and d == h[2]
+    kh = kind(h[1])
+    if kh == "pattern":
+        w = word_between(h[1], n)
+        return w is not None and fill(h[2], w) == d
+    if h[2] != d:
+        return False
+    if kh == "full":
+        return h[1] == n
+    cs = candidates(h[1])
+    if n not in cs:
+        return False
+    absent = []
+    if kind(i[1]) == "partial":
+        ci = candidates(i[1])
+        absent = ci[:ci.index(n)]
+    return all(not is_ref_name(c) or c in absent for c in cs[:cs.index(n)])
+
+def idle_reason(g, i, z):
+    """None if at work, else the reason."""
+    reason = "invalid"
+    for pair in own_pairs(g[i], z):
+        if not sound(pair):
+            continue
+        if excluded(g, pair[0]):
+            if reason == "invalid":
+                reason = "excluded"
+            continue
+        if any(not h[0] and always_makes(h, g[i], pair) for h in g[:i]):
+            reason = "duplicate"
+            continue
+        return None
+    return reason
+
+def idle_negative(g, k, z):
+    text = g[k][1]
+    for x in g:
+        if x[0]:
+            continue
+        if kind(x[1]) == "object":
+            continue
+        if kind(x[1]) == "pattern":
+            if "*" in text:
+                names = common_names(text, x[1], z)
+            else:
+                names = [text]
+            for n in names:
+                w = word_between(x[1], n)
+                if w is not None and excludes(g[k], n) and sound((("name", n), fill(x[2], w))):
+                    return False
+        else:
+            for (_, n), d in own_pairs(x, z):
+                if excludes(g[k], n) and sound((("name", n), d)):
+                    return False
+    return True
+
+# ---- brute force
+
+def words(alphabet, upto):
+    for k in range(upto + 1):
+        for t in itertools.product(alphabet, repeat=k):
+            yield "".join(t)
+
+BASE = ["HEAD"] + ["refs/" + w for w in words("abc/", 3)]
+for f in ("tags/", "heads/", "remotes/"):
+    BASE += ["refs/" + f + w for w in words("abc", 2)]
+BASE += ["refs/remotes/" + w + "/HEAD" for w in words("ab", 2)]
+BASE = [n for n in BASE if is_ref_name(n)]
+FILL = [w for w in words("abc/", 3)] + SHORT + [r + w for r in ENDINGS for w in ("a", "b", "c", "ab", "ba", "ca", "ac")]
+
+def universe(g):
+    u = set(BASE)
+    for x in g:
+        for side in x[1:2]:
+            if "*" in side:
+                for w in FILL:
+                    u.add(fill(side, w))
+            elif kind(side) == "partial":
+                u.update(candidates(side))
+            else:
+                u.add(side)
+    # destinations that two specs share, by the overlap of their texts
+    ds = [x[2] for x in g if not x[0] and x[2] and "*" in x[2]]
+    for x in g:
+        if not x[0] and x[2] and "*" in x[2]:
+            for p in ds:
+                for d in [fill(p, w) for w in FILL] + overlaps(p, x[2]):
+                    w = word_between(x[2], d)
+                    if w is not None:
+                        u.add(fill(x[1], w))
+            for y in g:
+                if not y[0] and y[2] and "*" not in y[2]:
+                    w = word_between(x[2], y[2])
+                    if w is not None:
+                        u.add(fill(x[1], w))
+    for x in g:
+        for y in g:
+            if "*" in x[1] and "*" in y[1]:
+                u.update(overlaps(x[1], y[1]))
+    return sorted(n for n in u if is_ref_name(n))
+
+def overlaps(p, q):
+    """Short names that fit both patterns, by enumeration of lengths."""
+    out = []
+    for (a, b) in ((p, q), (q, p)):
+        A, B = a.split("*")[0], b.split("*")[1]
+        for k in range(len(B) + 1):
+            out.append(A + B[k:])
+            for w in ("a", "b", "c"):
+                out.append(A + w + B[k:])
+    return [n for n in out if word_between(p, n) is not None and word_between(q, n) is not None]
+
+def witnesses(g, z="c"):
+    """The names that the procedure looks at: added to the universe, so that brute force judges its answers."""
+    out = set()
+    for x in g:
+        for y in g:
+            if "*" in x[1] and "*" in y[1]:
+                out.update(common_names(x[1], y[1], z))
+            if not x[0] and not y[0] and x[2] and y[2] and "*" in x[2] and "*" in y[2]:
+                for d in common_names(x[2], y[2], z):
+                    out.update(s[1] for s in sources_for(x, d) + sources_for(y, d))
+    return {n for n in out if is_ref_name(n)}
+
+def brute(g):
+    u = sorted(set(universe(g)) | witnesses(g))
+    pos = [i for i, x in enumerate(g) if not x[0]]
+    table = {}          # destination -> [(i, source)] that i can make over some list
+    can = {i: [] for i in pos}
+    for i in pos:
+        prs = makes(g[i], []) if kind(g[i][1]) == "object" else [p for n in u for p in makes(g[i], [n])]
+        for p in prs:
+            if sound(p):
+                can[i].append(p)
+                if p[1] is not None and not excluded(g, p[0]):
+                    table.setdefault(p[1], []).append((i, p[0]))
+    conflicts = set()
+    for d, l in table.items():
+        for (i, s), (j, t) in itertools.combinations(l, 2):
+            if s == t or (min(i, j), max(i, j)) in conflicts:
+                continue
+            refs = [x[1] for x in (s, t) if x[0] == "name"]
+            if (s, d) in makes(g[i], refs) and (t, d) in makes(g[j], refs):
+                assert i != j
+                conflicts.add((min(i, j), max(i, j)))
+    # lists that can free a spec of earlier partial ones
+    extra = sorted({c for x in g if not x[0] and kind(x[1]) == "partial" for c in candidates(x[1]) if is_ref_name(c)})
+    idle = {}
+    for i in pos:
+        at_work = False
+        for (s, d) in can[i]:
+            if excluded(g, s):
+                continue
+            subs = [()] if len(extra) == 0 else itertools.chain.from_iterable(itertools.combinations(extra, k) for k in range(0, 4))
+            for sub in subs:
+                refs = list(dict.fromkeys(([s[1]] if s[0] == "name" else []) + list(sub)))
+                if any(m == (i, s, d) for m in kept(g, refs)):
+                    at_work = True
+                    break
+            if at_work:
+                break
+        if not at_work:
+            idle[i] = "invalid" if not can[i] else "excluded" if all(excluded(g, s) for s, _ in can[i]) else "duplicate"
+    idle_neg = set()
+    for k, x in enumerate(g):
+        if x[0] and not any(s[0] == "name" and excludes(x, s[1]) for i in pos for s, _ in can[i]):
+            idle_neg.add(k)
+    return conflicts, idle, idle_neg
+
+def procedure(g, z="c"):
+    n = len(g)
+    conflicts = {}
+    for i in range(n):
+        for j in range(i + 1, n):
+            if not g[i][0] and not g[j][0]:
+                c = conflict_of(g, i, j, z)
+                if c:
+                    conflicts[(i, j)] = c
+    idle = {i: r for i in range(n) if not g[i][0] for r in [idle_reason(g, i, z)] if r}
+    idle_neg = {k for k in range(n) if g[k][0] and idle_negative(g, k, z)}
+    return conflicts, idle, idle_neg
+
+# ---- random groups
+
+ID = ["a" * 40, "B" * 40, "ab" * 32]
+
+def pattern_ok(p):
+    return p.count("*") == 1 and is_name(p.replace("*", "a"))
+
+def rnd_word(r, n=3, alpha="ab/"):
+    return "".join(r.choice(alpha) for _ in range(r.randrange(n + 1)))
+
+def rnd_pattern(r, anywhere):
+    while True:
+        m = r.random()
+        if anywhere and m < 0.5:
+            cut = r.randrange(6)
+            p = "refs/"[:cut] + "*" + r.choice(["", "", "/", "s/", "fs/", "refs/", "/a", "s/a", "AD", "D", "EAD"]) + rnd_word(r, 2)
+            if r.random() < 0.15:
+                p = r.choice(["H*D", "HE*", "*D", "*AD", "H*", "*", "*HEAD", "*HEAD/a", "HEAD*", "a*", "*a"])
+        elif m < 0.75:
+            p = "refs/" + rnd_word(r) + "*" + rnd_word(r)
+        elif m < 0.9:
+            p = "refs/" + r.choice(["heads/", "tags/", "remotes/", "heads/a", "a/"]) + "*" + rnd_word(r, 1)
+        else:
+            p = "refs/" + rnd_word(r, 4, "ab") + "*" + rnd_word(r, 4, "ab")
+        if pattern_ok(p):
+            return p
+
+def rnd_name(r):
+    while True:
+        m = r.random()
+        if m < 0.35:
+            n = "refs/" + r.choice(["", "heads/", "tags/", "remotes/", "remotes/a/"]) + rnd_word(r, 2)
+        elif m < 0.8:
+            n = r.choice(["a", "b", "a/b", "ab", "heads/a", "tags/a", "remotes/a", "a/HEAD", "HEAD", "b/HEAD", "remotes/a/HEAD"])
+        elif m < 0.87:
+            n = "HEAD"
+        elif m < 0.92:
+            n = r.choice(["refs/remotes/a/HEAD", "refs/heads/HEAD"])
+        else:
+            n = rnd_word(r, 3)
+        if is_name(n):
+            return n
+
+def rnd_dest(r, pool):
+    if pool and r.random() < 0.6:
+        return r.choice(pool)
+    return r.choice(["refs/x/a", "refs/x/b", "x", "heads/a", "refs/a/b", "a", "refs/aa", rnd_name(r)])
+
+def rnd_group(r):
+    n = r.randrange(2, 6)
+    anywhere = r.random() < 0.4
+    g, pool, ppool = [], [], []
+    for _ in range(n):
+        m = r.random()
+        if g and r.random() < 0.08:
+            g.append(r.choice(g))
+            continue
+        if len(ppool) > 1 and m < 0.15:
+            # excludes what ends as another destination does: so short overlaps of destinations decide
+            (s, _), (_, d) = r.choice(ppool), r.choice(ppool)
+            p = s.split("*")[0] + "*" + d.split("*")[1] + s.split("*")[1]
+            g.append((True, p if pattern_ok(p) else rnd_pattern(r, anywhere), None))
+        elif m < 0.22:
+            g.append((True, rnd_pattern(r, anywhere) if r.random() < 0.6 else rnd_name(r), None))
+        elif m < 0.62:
+            s = rnd_pattern(r, anywhere)
+            if ppool and r.random() < 0.2:
+                s = r.choice(ppool)[0]
+            d = rnd_pattern(r, anywhere)
+            if ppool and r.random() < 0.3:
+                d = r.choice(ppool)[1]
+            elif ppool and r.random() < 0.4:
+                # comparable with an earlier destination
+                q, u = r.choice(ppool)[1].split("*")
+                x, y = rnd_word(r, 2, "ab"), rnd_word(r, 2, "ab")
+                d = r.choice([q + x + "*", q + "*" + x + u, q + x + "*" + y + u, q + "*" + y])
+                if not pattern_ok(d):
+                    d = rnd_pattern(r, anywhere)
+            if r.random() < 0.1:
+                d = None
+            if d:
+                ppool.append((s, d))
+            g.append((False, s, d if d else None) if d or r.random() < 0.5 else (False, rnd_name(r), None))
+            # a pattern without destination isn't read for a fetch, but for a push
+        elif m < 0.95:
+            d = rnd_dest(r, pool) if r.random() < 0.9 else None
+            if d:
+                pool.append(d)
+            g.append((False, rnd_name(r), d))
+        else:
+            g.append((False, r.choice(ID), rnd_dest(r, pool)))
+    return [completed(x) for x in g]
+
+def main(count, seed):
+    r = random.Random(seed)
+    c = collections.Counter()
+    for k in range(count):
+        g = rnd_group(r)
+        pc, pi, pn = procedure(g)
+        bc, bi, bn = brute(g)
+        c["groups"] += 1
+        c["conflicts"] += len(bc); c["groups with conflicts"] += bool(bc)
+        for v in bi.values(): c["idle " + v] += 1
+        c["idle negative"] += len(bn)
+        c["positive"] += sum(not x[0] for x in g); c["negative"] += sum(x[0] for x in g)
+        for (i, j), (s, t, d) in pc.items():
+            refs = [x[1] for x in (s, t) if x[0] == "name"]
+            ks = {(m[1], m[2]) for m in kept(g, refs)}
+            ok = (s, d) in ks and (t, d) in ks and s != t and (s, d) in makes(g[i], refs) and (t, d) in makes(g[j], refs)
+            if not ok: print("BAD EXAMPLE", g, (i, j), (s, t, d)); c["bad"] += 1
+        if set(pc) != bc:
+            print("CONFLICTS", g, "procedure", pc, "brute", bc); c["bad"] += 1
+        if pi != bi:
+            print("IDLE", g, "procedure", pi, "brute", bi); c["bad"] += 1
+        if pn != bn:
+            print("NEG", g, "procedure", pn, "brute", bn); c["bad"] += 1
+        if c["bad"] > 10: break
+    print(dict(c))
+    return 1 if c["bad"] else 0
+
+
+if __name__ == "__main__":
+    sys.exit(main(int(sys.argv[1]), int(sys.argv[2]) if len(sys.argv) > 2 else 0))
