@@ -67,7 +67,7 @@ fn finds_remotes(rt: HostRuntime) -> Result<(), Fail> {
 
 #[test]
 fn distinguishes_specs_from_urls(rt: HostRuntime) {
-    let cases = [
+    const CASES: &[(&str, Looks)] = &[
         ("", Looks::Spec),
         ("+main", Looks::Spec),
         ("^refs/heads/x", Looks::Spec),
@@ -84,8 +84,8 @@ fn distinguishes_specs_from_urls(rt: HostRuntime) {
         ("origin", Looks::Plain),
         ("@", Looks::Plain),
     ];
-    for (argument, looks) in cases {
-        assert_eq!(rt; looks_of(argument.as_bytes()), looks, "at {argument}");
+    for (argument, looks) in CASES {
+        assert_eq!(rt; looks_of(argument.as_bytes()), *looks, "at {argument}");
     }
 }
 

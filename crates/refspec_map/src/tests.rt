@@ -120,11 +120,10 @@ fn check_answer<R: Abort + AllocGlobal>(
     let (output, status) = answer(rt.alloc(), command, input)?;
     let input = BStr::new(input);
     assert_eq!(rt;
-        BStr::new(output.as_slice()),
-        BStr::new(wanted.0.as_bytes()),
+        (BStr::new(output.as_slice()), status),
+        (BStr::new(wanted.0.as_bytes()), wanted.1),
         "at {input:?}"
     );
-    assert_eq!(rt; status, wanted.1, "at {input:?}");
     Ok(output)
 }
 

@@ -30,14 +30,17 @@ fn check_row<R: Abort + AllocGlobal>(
     let accepted = accepted_lines(rt.alloc(), output.as_slice())?;
     let (output, status) = answer(rt.alloc(), command, accepted.as_slice())?;
     let again = accepted_lines(rt.alloc(), output.as_slice())?;
-    assert_eq!(rt; again.as_slice(), accepted.as_slice(), "again at {input:?}");
-    assert_eq!(rt; status, 0, "again at {input:?}");
+    assert_eq!(rt;
+        (again.as_slice(), status),
+        (accepted.as_slice(), 0),
+        "again at {input:?}"
+    );
     Ok(())
 }
 
 #[test]
 fn answers_for_a_push(rt: HostRuntime) -> Result<(), Fail> {
-    let rows = [
+    const ROWS: &[(&str, &str, u8)] = &[
         ("", "", 0),
         ("\n", "err Empty\n", 1),
         ("@\n@:x\n:\n", "ok HEAD:HEAD\nok HEAD:x\nok :\n", 0),
@@ -45,15 +48,15 @@ fn answers_for_a_push(rt: HostRuntime) -> Result<(), Fail> {
         ("a:b\n^c", "ok a:b\nok ^c\n", 0),
         ("a*b*\nc", "err PatternUnsupported\nok c:c\n", 1),
     ];
-    for row in rows {
-        check_row(&rt, Command::CanonPush, row)?;
+    for row in ROWS {
+        check_row(&rt, Command::CanonPush, *row)?;
     }
     Ok(())
 }
 
 #[test]
 fn answers_for_a_fetch(rt: HostRuntime) -> Result<(), Fail> {
-    let rows = [
+    const ROWS: &[(&str, &str, u8)] = &[
         ("", "", 0),
         ("\n", "ok HEAD\n", 0),
         ("++foo\n", "ok ++foo\n", 0),
@@ -64,30 +67,30 @@ fn answers_for_a_fetch(rt: HostRuntime) -> Result<(), Fail> {
             1,
         ),
     ];
-    for row in rows {
-        check_row(&rt, Command::CanonFetch, row)?;
+    for row in ROWS {
+        check_row(&rt, Command::CanonFetch, *row)?;
     }
     Ok(())
 }
 
 #[test]
 fn names_what_a_push_refuses(rt: HostRuntime) -> Result<(), Fail> {
-    let rows = [
+    const ROWS: &[(&str, &str, u8)] = &[
         ("\n", "err Empty\n", 1),
         ("^a:b\n", "err NegativeWithDestination\n", 1),
         ("a:\n", "err PushToEmpty\n", 1),
         ("a*b*\n", "err PatternUnsupported\n", 1),
         ("a..b\n", "err ReferenceName\n", 1),
     ];
-    for row in rows {
-        check_row(&rt, Command::CanonPush, row)?;
+    for row in ROWS {
+        check_row(&rt, Command::CanonPush, *row)?;
     }
     Ok(())
 }
 
 #[test]
 fn names_what_a_fetch_refuses(rt: HostRuntime) -> Result<(), Fail> {
-    let rows = [
+    const ROWS: &[(&str, &str, u8)] = &[
         ("a*\n", "err PatternUnbalanced\n", 1),
         ("^\n", "err NegativeEmpty\n", 1),
         (
@@ -96,8 +99,8 @@ fn names_what_a_fetch_refuses(rt: HostRuntime) -> Result<(), Fail> {
             1,
         ),
     ];
-    for row in rows {
-        check_row(&rt, Command::CanonFetch, row)?;
+    for row in ROWS {
+        check_row(&rt, Command::CanonFetch, *row)?;
     }
     Ok(())
 }

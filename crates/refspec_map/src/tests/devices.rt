@@ -35,12 +35,10 @@ fn check_by_bytes<R: Abort + AllocGlobal>(
     let mut output = Vec::new(rt.alloc());
     let status = run(rt.alloc(), command, &mut reader, &mut output)?;
     assert_eq!(rt;
-        BStr::new(output.as_slice()),
-        BStr::new(wanted.as_bytes()),
+        (BStr::new(output.as_slice()), status, reader.calls),
+        (BStr::new(wanted.as_bytes()), wanted_status, input.len() + 1),
         "at {command:?}"
     );
-    assert_eq!(rt; status, wanted_status, "at {command:?}");
-    assert_eq!(rt; reader.calls, input.len() + 1, "at {command:?}");
     Ok(())
 }
 
@@ -69,7 +67,7 @@ fn end_of_push<R: Read, W: Write>(
 // The reader of a row would return the rest of the input, or its end, at the next call.
 #[test]
 fn tries_no_read_again(rt: HostRuntime) -> Result<(), Fail> {
-    let rows = [
+    const ROWS: &[(usize, io::ErrorKind)] = &[
         (1, io::ErrorKind::Interrupted),
         (6, io::ErrorKind::Interrupted),
         (10, io::ErrorKind::Interrupted),
@@ -77,22 +75,22 @@ fn tries_no_read_again(rt: HostRuntime) -> Result<(), Fail> {
         (6, io::ErrorKind::Other),
         (10, io::ErrorKind::UnexpectedEof),
     ];
-    for (number, kind) in rows {
+    for (number, kind) in ROWS {
         let mut reader = ByteReader {
             rest: INPUT,
             calls: 0,
-            fault: Some((number, kind)),
+            fault: Some((*number, *kind)),
         };
         let mut writer = CallWriter {
             calls: Vec::new(rt.alloc()),
         };
+        let end = end_of_push(rt.alloc(), &mut reader, &mut writer)?;
+        // No read after the fault, and no write.
         assert_eq!(rt;
-            end_of_push(rt.alloc(), &mut reader, &mut writer)?.as_str(),
-            "read failed",
+            (end.as_str(), reader.calls, writer.calls.len()),
+            ("read failed", *number, 0),
             "at read {number}"
         );
-        assert_eq!(rt; reader.calls, number, "no read after the fault");
-        assert!(rt; writer.calls.is_empty(), "no write at read {number}");
     }
     Ok(())
 }
@@ -101,8 +99,7 @@ fn tries_no_read_again(rt: HostRuntime) -> Result<(), Fail> {
 fn takes_an_input_at_the_limit(rt: HostRuntime) -> Result<(), Fail> {
     let input = vec![in rt.alloc(); b'a'; INPUT_LIMIT]?;
     let (output, status) = answer(rt.alloc(), Command::CanonFetch, input.as_slice())?;
-    assert_eq!(rt; status, 0);
-    assert_eq!(rt; output.len(), 1_048_580);
+    assert_eq!(rt; (status, output.len()), (0, 1_048_580));
     let text = output.as_slice().strip_prefix(b"ok ").ok_or("no `ok `")?;
     let line = text.strip_suffix(b"\n").ok_or("no newline")?;
     assert!(rt; line == input.as_slice(), "the text is the line");
@@ -116,8 +113,8 @@ fn check_too_long<R: Abort + AllocGlobal>(rt: &R, reader: &mut impl Read) -> Res
         calls: Vec::new(rt.alloc()),
     };
     let ended = run(rt.alloc(), command, reader, &mut writer);
-    assert_eq!(rt; end_of(rt.alloc(), ended)?.as_str(), "input too long");
-    assert!(rt; writer.calls.is_empty(), "nothing is written");
+    let end = end_of(rt.alloc(), ended)?;
+    assert_eq!(rt; (end.as_str(), writer.calls.len()), ("input too long", 0));
     Ok(())
 }
 
@@ -139,7 +136,7 @@ fn refuses_an_input_past_the_limit(rt: HostRuntime) -> Result<(), Fail> {
 
 #[test]
 fn writes_nothing_at_a_bad_line(rt: HostRuntime) -> Result<(), Fail> {
-    let rows = [
+    const ROWS: &[(Command, &str, &str)] = &[
         (Command::Lhs, "main\n", "line 1 is malformed"),
         (Command::Rhs, "spec main\n\n", "line 2 is malformed"),
         (
@@ -148,16 +145,17 @@ fn writes_nothing_at_a_bad_line(rt: HostRuntime) -> Result<(), Fail> {
             "line 3: PatternUnbalanced",
         ),
     ];
-    for (command, input, fault) in rows {
+    for (command, input, fault) in ROWS {
         let mut reader = input.as_bytes();
         let mut writer = CallWriter {
             calls: Vec::new(rt.alloc()),
         };
-        let ended = run(rt.alloc(), command, &mut reader, &mut writer);
-        assert_eq!(rt; end_of(rt.alloc(), ended)?.as_str(), fault);
-        assert!(rt;
-            writer.calls.is_empty(),
-            "nothing is written at {command:?}"
+        let ended = run(rt.alloc(), *command, &mut reader, &mut writer);
+        let end = end_of(rt.alloc(), ended)?;
+        assert_eq!(rt;
+            (end.as_str(), writer.calls.len()),
+            (*fault, 0),
+            "at {command:?}"
         );
     }
     Ok(())
@@ -189,7 +187,7 @@ fn writes_all_by_one_call_and_flushes_once(rt: HostRuntime) -> Result<(), Fail> 
 fn stops_where_the_writer_fails(rt: HostRuntime) -> Result<(), Fail> {
     // The maximum length of a write, in bytes, the number of the call that fails, how the run ends, all
     // calls, and what was taken.
-    let rows = [
+    const ROWS: &[(usize, usize, &str, &str, &str)] = &[
         (100, 0, "status 1", "wf", OUTPUT),
         (10, 0, "status 1", "wwwf", OUTPUT),
         (1, 0, "status 1", "wwwwwwwwwwwwwwwwwwwwwwwwwwwwwf", OUTPUT),
@@ -199,29 +197,20 @@ fn stops_where_the_writer_fails(rt: HostRuntime) -> Result<(), Fail> {
         (100, 2, "write failed", "wf", OUTPUT),
         (10, 4, "write failed", "wwwf", OUTPUT),
     ];
-    for (most, fails_at, end, calls, taken) in rows {
+    for (most, fails_at, end, calls, taken) in ROWS {
         let mut reader = INPUT;
         let mut writer = FaultyWriter {
-            most,
-            fails_at,
+            most: *most,
+            fails_at: *fails_at,
             taken: Vec::new(rt.alloc()),
             calls: Vec::new(rt.alloc()),
         };
-        assert_eq!(rt;
-            end_of_push(rt.alloc(), &mut reader, &mut writer)?.as_str(),
-            end,
-            "at {most} and {fails_at}"
-        );
-        assert_eq!(rt;
-            BStr::new(writer.calls.as_slice()),
-            BStr::new(calls.as_bytes()),
-            "calls at {most} and {fails_at}"
-        );
-        assert_eq!(rt;
-            BStr::new(writer.taken.as_slice()),
-            BStr::new(taken.as_bytes()),
-            "at {most} and {fails_at}"
-        );
+        let ended = end_of_push(rt.alloc(), &mut reader, &mut writer)?;
+        let written = BStr::new(writer.taken.as_slice());
+        let called = BStr::new(writer.calls.as_slice());
+        let found = format!(in rt.alloc(); "{ended}, by {called}: {written}")?;
+        let wanted = format!(in rt.alloc(); "{end}, by {calls}: {taken}")?;
+        assert_eq!(rt; found.as_str(), wanted.as_str(), "at {most} and {fails_at}");
     }
     Ok(())
 }

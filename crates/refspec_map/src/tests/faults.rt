@@ -12,8 +12,8 @@ fn check_fault<R: Abort + AllocGlobal>(
     text: &str,
     status: u8,
 ) -> Result<(), Fail> {
-    assert_eq!(rt; format!(in rt.alloc(); "{fault}")?.as_str(), text);
-    assert_eq!(rt; fault.status(), status, "at {text}");
+    let printed = format!(in rt.alloc(); "{fault}")?;
+    assert_eq!(rt; (printed.as_str(), fault.status()), (text, status));
     Ok(())
 }
 

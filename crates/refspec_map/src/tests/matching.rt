@@ -46,18 +46,24 @@ fn check_faults<R: Abort + AllocGlobal>(
         let mut reader = input.as_slice();
         let mut output = Vec::new(rt.alloc());
         let ended = run(rt.alloc(), command, &mut reader, &mut output);
-        if let Err(fault) = &ended {
-            assert_eq!(rt; fault.status(), 1, "at {row:?}");
-        }
-        assert_eq!(rt; end_of(rt.alloc(), ended)?.as_str(), *wanted, "at {row:?}");
-        assert!(rt; output.is_empty(), "nothing is written at {row:?}");
+        let status = match &ended {
+            Ok(status) => *status,
+            Err(fault) => fault.status(),
+        };
+        let end = end_of(rt.alloc(), ended)?;
+        // Nothing is written.
+        assert_eq!(rt;
+            (end.as_str(), status, output.len()),
+            (*wanted, 1, 0),
+            "at {row:?}"
+        );
     }
     Ok(())
 }
 
 #[test]
 fn maps_from_left_to_right(rt: HostRuntime) -> Result<(), Fail> {
-    let rows = [
+    const ROWS: &[(&str, &str)] = &[
         ("", ""),
         ("spec main", ""),
         ("ref $ refs/heads/main\n", ""),
@@ -90,12 +96,12 @@ fn maps_from_left_to_right(rt: HostRuntime) -> Result<(), Fail> {
             "map\t0\t0\t refs/x\trefs/x/ refs/x\nmap\t0\t1\t\trefs/x/\n",
         ),
     ];
-    check_output(&rt, Command::Lhs, 0, rows.as_slice())
+    check_output(&rt, Command::Lhs, 0, ROWS)
 }
 
 #[test]
 fn maps_from_right_to_left(rt: HostRuntime) -> Result<(), Fail> {
-    let rows = [
+    const ROWS: &[(&str, &str)] = &[
         ("", ""),
         (
             "spec main:refs/remotes/origin/main\nref $ refs/remotes/origin/main\n",
@@ -113,12 +119,12 @@ fn maps_from_right_to_left(rt: HostRuntime) -> Result<(), Fail> {
         ),
         ("spec main\nref $ refs/heads/main\n", ""),
     ];
-    check_output(&rt, Command::Rhs, 0, rows.as_slice())
+    check_output(&rt, Command::Rhs, 0, ROWS)
 }
 
 #[test]
 fn ends_at_the_first_bad_line(rt: HostRuntime) -> Result<(), Fail> {
-    let rows = [
+    const ROWS: &[(&str, &str)] = &[
         ("tag $ refs/x\n", "line 1 is malformed"),
         (
             "ref $ refs/heads/main\nref 12 refs/x\n",
@@ -149,7 +155,7 @@ fn ends_at_the_first_bad_line(rt: HostRuntime) -> Result<(), Fail> {
             "line 3: NegativeEmpty",
         ),
     ];
-    check_faults(&rt, Command::Lhs, rows.as_slice())?;
-    check_faults(&rt, Command::Rhs, rows.as_slice())?;
-    check_faults(&rt, Command::Plan, rows.as_slice())
+    check_faults(&rt, Command::Lhs, ROWS)?;
+    check_faults(&rt, Command::Rhs, ROWS)?;
+    check_faults(&rt, Command::Plan, ROWS)
 }

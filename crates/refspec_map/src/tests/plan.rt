@@ -6,7 +6,7 @@ use std::test::Fail;
 
 #[test]
 fn writes_what_survives_and_the_fixes(rt: HostRuntime) -> Result<(), Fail> {
-    let rows = [
+    const ROWS: &[(&str, &str)] = &[
         ("", ""),
         ("spec main\n", ""),
         // Git takes the tag too.
@@ -46,12 +46,12 @@ fn writes_what_survives_and_the_fixes(rt: HostRuntime) -> Result<(), Fail> {
             "map\t0\t-\taaaaaaaaaaaaaaaaaaaaaaaaaaaaaaaaaaaaaaaa\trefs/heads/x\n",
         ),
     ];
-    check_output(&rt, Command::Plan, 0, rows.as_slice())
+    check_output(&rt, Command::Plan, 0, ROWS)
 }
 
 #[test]
 fn writes_only_conflicts(rt: HostRuntime) -> Result<(), Fail> {
-    let rows = [
+    const ROWS: &[(&str, &str)] = &[
         (
             "spec tags/main:refs/remotes/origin/main\nspec heads/main:refs/remotes/origin/main\n\
              ref $ refs/tags/main\nref $ refs/heads/main\n",
@@ -85,5 +85,5 @@ fn writes_only_conflicts(rt: HostRuntime) -> Result<(), Fail> {
              AAAAAAAAAAAAAAAAAAAAAAAAAAAAAAAAAAAAAAAA:refs/x/h\tHEAD\t+HEAD:refs/x/h\n",
         ),
     ];
-    check_output(&rt, Command::Plan, 1, rows.as_slice())
+    check_output(&rt, Command::Plan, 1, ROWS)
 }

@@ -15,36 +15,36 @@ fn named(alloc: Global, words: &[&str]) -> Result<Option<Command>, AllocError> {
 
 #[test]
 fn names_the_commands(rt: HostRuntime) -> Result<(), Fail> {
-    let rows = [
-        (["canon", "fetch"].as_slice(), Some(Command::CanonFetch)),
-        (["canon", "push"].as_slice(), Some(Command::CanonPush)),
-        (["lhs"].as_slice(), Some(Command::Lhs)),
-        (["rhs"].as_slice(), Some(Command::Rhs)),
-        (["plan"].as_slice(), Some(Command::Plan)),
-        ([].as_slice(), None),
-        (["canon"].as_slice(), None),
-        (["canon fetch"].as_slice(), None),
-        (["canon", "fetch", ""].as_slice(), None),
-        (["canon", "push", "push"].as_slice(), None),
-        (["canon", "Fetch"].as_slice(), None),
-        (["CANON", "push"].as_slice(), None),
-        (["canon", "pull"].as_slice(), None),
-        (["push", "canon"].as_slice(), None),
-        (["", "fetch"].as_slice(), None),
-        (["canon ", "push"].as_slice(), None),
-        (["Lhs"].as_slice(), None),
-        (["lhs", "x"].as_slice(), None),
-        (["lhs", ""].as_slice(), None),
-        (["rhs", "lhs"].as_slice(), None),
-        (["canon", "rhs"].as_slice(), None),
-        ([" rhs"].as_slice(), None),
-        (["Plan"].as_slice(), None),
-        (["plan", "lhs"].as_slice(), None),
-        (["canon", "plan"].as_slice(), None),
-        (["plans"].as_slice(), None),
+    const ROWS: &[(&[&str], Option<Command>)] = &[
+        (&["canon", "fetch"], Some(Command::CanonFetch)),
+        (&["canon", "push"], Some(Command::CanonPush)),
+        (&["lhs"], Some(Command::Lhs)),
+        (&["rhs"], Some(Command::Rhs)),
+        (&["plan"], Some(Command::Plan)),
+        (&[], None),
+        (&["canon"], None),
+        (&["canon fetch"], None),
+        (&["canon", "fetch", ""], None),
+        (&["canon", "push", "push"], None),
+        (&["canon", "Fetch"], None),
+        (&["CANON", "push"], None),
+        (&["canon", "pull"], None),
+        (&["push", "canon"], None),
+        (&["", "fetch"], None),
+        (&["canon ", "push"], None),
+        (&["Lhs"], None),
+        (&["lhs", "x"], None),
+        (&["lhs", ""], None),
+        (&["rhs", "lhs"], None),
+        (&["canon", "rhs"], None),
+        (&[" rhs"], None),
+        (&["Plan"], None),
+        (&["plan", "lhs"], None),
+        (&["canon", "plan"], None),
+        (&["plans"], None),
     ];
-    for (words, command) in rows {
-        assert_eq!(rt; named(rt.alloc(), words)?, command, "at {words:?}");
+    for (words, command) in ROWS {
+        assert_eq!(rt; named(rt.alloc(), words)?, *command, "at {words:?}");
     }
     Ok(())
 }
