@@ -22,7 +22,7 @@ done
 for script in growths large; do
     try "$script.py" "$tests"
 done
-for script in refspec replay-refspec git-refspec git-plans completions; do
+for script in refspec replay-refspec git-refspec git-plans lint completions; do
     try "$script.py" "$refspec"
 done
 try schema.py

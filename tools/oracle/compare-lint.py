@@ -1,49 +1,35 @@
 #!/usr/bin/env python3
-"""Compares what `refspec check` warns of with brute force: tools/oracle/compare-lint.py REFSPEC [--groups N] [--seed S]
+"""Compares what `refspec check` warns of with brute force:
 
-For random groups of fetch specs it takes the warnings on conflicts and idle specs from the JSON of the program. Brute force, of
-lint.py, tries all lists of one and two refs over a small alphabet. No conflict may be missed, each example has to conflict, and
-exactly the specs that never do anything have to be called idle, each for its reason. Negative specs that exclude nothing have no
-such warning if they are below `refs/tags/`, or have the warning that they exclude no branch. Prints counts by kind.
+    tools/oracle/compare-lint.py REFSPEC [--groups N] [--seed S] [--samples FOLDER]
+
+For random groups of fetch specs it takes the warnings on conflicts and idle specs from the JSON of the program. Brute force,
+of lint.py, tries all lists of one and two refs over a small alphabet. No conflict may be missed, each example has to
+conflict, and exactly the specs that never do anything have to be called idle, each for its reason. Negative specs that
+exclude nothing have no such warning if they are below `refs/tags/`, or have the warning that they exclude no branch. Prints
+counts by kind.
+
+With --samples FOLDER it writes lint.sample for tests/lint.py: the shortest group of each class, by its warnings and its kinds
+of sides, and others.
 """
 import argparse
 import collections
 import concurrent.futures
-import json
 import os
 import random
-import re
-import subprocess
 import sys
 
+import gitfetch
 import lint
+import warned
 
-REASONS = {"idle_invalid": "invalid", "idle_excluded": "excluded", "idle_duplicate": "duplicate"}
-EXAMPLE = re.compile(r"A remote with (\S+) and (\S+) would write both to (\S+), and git fetch would write nothing\.")
-
-
-def text_of(spec):
-    negative, source, destination = spec
-    if negative:
-        return "^" + source
-    return source if destination is None else source + ":" + destination
-
-
-def index_of(spec):
-    return int(spec["place"].removeprefix("spec ")) - 1
-
-
-def warnings_of(program, group):
-    """The warnings on a group, or None if a spec is refused."""
-    texts = [text_of(spec) for spec in group]
-    run = subprocess.run([program, "check", "--json", "--", *texts], stdout=subprocess.PIPE, stderr=subprocess.PIPE, text=True)
-    if run.returncode == 1:
-        return None
-    if run.returncode != 0:
-        raise SystemExit(f"status {run.returncode} of {texts}: {run.stderr}")
-    objects = [json.loads(line) for line in (run.stdout + run.stderr).splitlines()]
-    return [one for one in objects if one["kind"] == "warning"]
-
+STORED = 300
+DIGITS = str.maketrans("", "", "0123456789")
+SAMPLE_HEAD = """\
+# Groups of fetch specs, separated by empty lines. After `< ` are the specs; after `> ` what `refspec check` warns of: two specs
+# that can conflict, an idle spec and its reason, or a negative spec that excludes nothing. Specs are counted from 1. Made by
+#   tools/oracle/compare-lint.py REFSPEC --groups {options.groups} --seed {options.seed} --samples FOLDER
+"""
 
 def is_example(group, first, second, example):
     """Whether both specs map one of the two sources to the destination, and both mappings are kept."""
@@ -59,43 +45,54 @@ def is_example(group, first, second, example):
 def differences(program, group):
     """What differs in a group, and counts."""
     counts = collections.Counter()
-    warnings = warnings_of(program, group)
-    if warnings is None:
+    found = warned.warned(program, [warned.text_of(spec) for spec in group])
+    if found is None:
         counts["groups with a refused spec"] += 1
-        return [], counts
+        return [], counts, None
     conflicts, idle, idle_negative = lint.brute(group)
     counts["groups"] += 1
     counts["conflicts"] += len(conflicts)
     counts["idle negative specs"] += len(idle_negative)
     for reason in idle.values():
         counts["idle specs: " + reason] += 1
-    found, found_idle, found_negative, no_branch, wrong = set(), {}, set(), set(), []
-    for warning in warnings:
-        indexes = [index_of(spec) for spec in warning["specs"]]
-        if warning["name"] == "possible_conflict":
-            pair = tuple(sorted(indexes[:2]))
-            found.add(pair)
-            example = EXAMPLE.fullmatch(warning["message"])
-            if example is None:
-                counts["examples of another form"] += 1
-            elif not is_example(group, *pair, example.groups()):
-                wrong.append(("no example", pair, warning["message"]))
-            else:
-                counts["examples"] += 1
-        elif warning["name"] in REASONS:
-            found_idle[indexes[0]] = REASONS[warning["name"]]
-        elif warning["name"] == "idle_exclusion":
-            found_negative.add(indexes[0])
-        elif warning["name"] == "excludes_no_branch":
-            no_branch.add(indexes[0])
-    if found != conflicts:
-        wrong.append(("conflicts", found, conflicts))
-    if found_idle != idle:
-        wrong.append(("idle specs", found_idle, idle))
-    silent = {index for index in idle_negative if index in no_branch or group[index][1].startswith("refs/tags/")}
-    if found_negative - idle_negative or idle_negative - silent - found_negative:
-        wrong.append(("idle negative specs", found_negative, idle_negative))
-    return wrong, counts
+    wrong = []
+    for pair, example in found.conflicts.items():
+        if example is None:
+            counts["examples of another form"] += 1
+        elif not is_example(group, *pair, example):
+            wrong.append(("no example", pair, example))
+        else:
+            counts["examples"] += 1
+    if set(found.conflicts) != conflicts:
+        wrong.append(("conflicts", set(found.conflicts), conflicts))
+    if found.idle != idle:
+        wrong.append(("idle specs", found.idle, idle))
+    silent = {index for index in idle_negative if index in found.no_branch or group[index][1].startswith("refs/tags/")}
+    if found.idle_negative - idle_negative or idle_negative - silent - found.idle_negative:
+        wrong.append(("idle negative specs", found.idle_negative, idle_negative))
+    return wrong, counts, warned.lines_of(found)
+
+
+def class_of(group, lines):
+    """The words of the warnings, and the kinds of the specs."""
+    return (sorted({line.translate(DIGITS) for line in lines}),
+            sorted({("^" if negative else "") + lint.kind(source) + ("" if destination is None else ":" + lint.kind(destination))
+                    for negative, source, destination in group}))
+
+
+def write_sample(results, options):
+    """The shortest of each class, or of so many of them, and others beside them."""
+    chooser = random.Random(options.seed)
+    classes, others = {}, []
+    for group, lines in sorted(results, key=lambda result: sum(len(warned.text_of(spec)) for spec in result[0])):
+        if classes.setdefault(repr(class_of(group, lines)), (group, lines))[0] is not group:
+            others.append((group, lines))
+    words = sorted(chooser.sample(sorted(classes), min(STORED * 5 // 6, len(classes))))
+    chosen = [classes[word] for word in words]
+    chosen += chooser.sample(others, min(STORED - len(chosen), len(others)))
+    gitfetch.store_lists(os.path.join(options.samples, "lint.sample"), SAMPLE_HEAD.format(options=options), [
+        gitfetch.Stored(None, "lint", "", [warned.text_of(spec).encode() for spec in group], [line.encode() for line in lines], [])
+        for group, lines in chosen])
 
 
 def main():
@@ -104,20 +101,25 @@ def main():
     parser.add_argument("--groups", type=int, default=2000)
     parser.add_argument("--seed", type=int, default=1)
     parser.add_argument("--jobs", type=int, default=os.cpu_count())
+    parser.add_argument("--samples", help="a folder to write lint.sample into")
     options = parser.parse_args()
     generator = random.Random(options.seed)
     groups = [lint.rnd_group(generator) for _ in range(options.groups)]
-    total, failed = collections.Counter(), 0
+    total, failed, results = collections.Counter(), 0, []
     with concurrent.futures.ProcessPoolExecutor(options.jobs) as pool:
         programs = [options.program] * len(groups)
-        for group, (wrong, counts) in zip(groups, pool.map(differences, programs, groups, chunksize=50)):
+        for group, (wrong, counts, lines) in zip(groups, pool.map(differences, programs, groups, chunksize=50)):
             total += counts
+            if lines is not None:
+                results.append((group, lines))
             for one in wrong:
                 failed += 1
                 if failed <= 20:
-                    print("compare-lint:", *[text_of(spec) for spec in group], *one)
+                    print("compare-lint:", *[warned.text_of(spec) for spec in group], *one)
     for kind, count in sorted(total.items()):
         print(f"compare-lint: {count} {kind}")
+    if options.samples and not failed:
+        write_sample(results, options)
     sys.exit(1 if failed else 0)
 
 

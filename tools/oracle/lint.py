@@ -319,50 +319,52 @@ def witnesses(g, z="c"):
                     out.update(s[1] for s in sources_for(x, d) + sources_for(y, d))
     return {n for n in out if is_ref_name(n)}
 
-def brute(g):
-    u = sorted(set(universe(g)) | witnesses(g))
+def kept_validly(g, refs):
+    """The kept mappings whose sides are valid."""
+    return [m for m in kept(g, refs) if sound(m[1:])]
+
+def brute(g, kept_validly=kept_validly):
+    """The pairs of specs that can conflict, the idle specs with their reasons, and the idle negative specs, by trying lists of
+    refs with what gives the valid kept mappings (spec, source, destination) of a group over refs."""
+    names = sorted(set(universe(g)) | witnesses(g))
     pos = [i for i, x in enumerate(g) if not x[0]]
-    table = {}          # destination -> [(i, source)] that i can make over some list
-    can = {i: [] for i in pos}
+    negatives = [x for x in g if x[0]]
+    can = {}            # the pairs of each positive spec over some list, with the list
+    free = {}           # those that no negative spec excludes
+    table = {}          # destination -> [(i, source)]
     for i in pos:
-        prs = makes(g[i], []) if kind(g[i][1]) == "object" else [p for n in u for p in makes(g[i], [n])]
-        for p in prs:
-            if sound(p):
-                can[i].append(p)
-                if p[1] is not None and not excluded(g, p[0]):
-                    table.setdefault(p[1], []).append((i, p[0]))
+        lists = [[]] if kind(g[i][1]) == "object" else [[n] for n in names]
+        can[i] = [(m[1:], refs) for refs in lists for m in kept_validly([g[i]], refs)]
+        free[i] = [pair for pair, refs in can[i] if not negatives or kept_validly([g[i]] + negatives, refs)]
+        for source, destination in free[i]:
+            if destination is not None:
+                table.setdefault(destination, []).append((i, source))
     conflicts = set()
     for d, l in table.items():
         for (i, s), (j, t) in itertools.combinations(l, 2):
             if s == t or (min(i, j), max(i, j)) in conflicts:
                 continue
             refs = [x[1] for x in (s, t) if x[0] == "name"]
-            if (s, d) in makes(g[i], refs) and (t, d) in makes(g[j], refs):
+            if (0, s, d) in kept_validly([g[i]], refs) and (0, t, d) in kept_validly([g[j]], refs):
                 assert i != j
                 conflicts.add((min(i, j), max(i, j)))
     # lists that can free a spec of earlier partial ones
     extra = sorted({c for x in g if not x[0] and kind(x[1]) == "partial" for c in candidates(x[1]) if is_ref_name(c)})
     idle = {}
     for i in pos:
-        at_work = False
-        for (s, d) in can[i]:
-            if excluded(g, s):
-                continue
-            subs = [()] if len(extra) == 0 else itertools.chain.from_iterable(itertools.combinations(extra, k) for k in range(0, 4))
-            for sub in subs:
-                refs = list(dict.fromkeys(([s[1]] if s[0] == "name" else []) + list(sub)))
-                if any(m == (i, s, d) for m in kept(g, refs)):
-                    at_work = True
-                    break
-            if at_work:
-                break
-        if not at_work:
-            idle[i] = "invalid" if not can[i] else "excluded" if all(excluded(g, s) for s, _ in can[i]) else "duplicate"
+        if not any(is_at_work(g, i, pair, extra, kept_validly) for pair in free[i]):
+            idle[i] = "invalid" if not can[i] else "excluded" if not free[i] else "duplicate"
     idle_neg = set()
     for k, x in enumerate(g):
-        if x[0] and not any(s[0] == "name" and excludes(x, s[1]) for i in pos for s, _ in can[i]):
+        if x[0] and all(kept_validly([g[i], x], refs) for i in pos for _, refs in can[i]):
             idle_neg.add(k)
     return conflicts, idle, idle_neg
+
+def is_at_work(g, i, pair, extra, kept_validly):
+    """Whether a spec maps a pair in a list of its source and up to three more refs."""
+    source = [pair[0][1]] if pair[0][0] == "name" else []
+    return any((i, *pair) in kept_validly(g, list(dict.fromkeys(source + list(more))))
+               for k in range(min(len(extra), 3) + 1) for more in itertools.combinations(extra, k))
 
 def procedure(g, z="c"):
     n = len(g)

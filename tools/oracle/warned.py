@@ -1,0 +1,56 @@
+"""What `refspec check` warns of in a group of fetch specs, each (negative, source, destination or None), as str."""
+import dataclasses
+import json
+import re
+import subprocess
+
+REASONS = {"idle_invalid": "invalid", "idle_excluded": "excluded", "idle_duplicate": "duplicate"}
+EXAMPLE = re.compile(r"A remote with (\S+) and (\S+) would write both to (\S+), and git fetch would write nothing\.")
+
+
+@dataclasses.dataclass
+class Warned:
+    """By index: the pairs of specs that can conflict, each with two sources and a destination, or None if the message quotes
+    them; the idle specs with their reasons; the negative specs that are idle, and those that exclude no branch."""
+    conflicts: dict
+    idle: dict
+    idle_negative: set
+    no_branch: set
+
+
+def text_of(spec):
+    negative, source, destination = spec
+    if negative:
+        return "^" + source
+    return source if destination is None else source + ":" + destination
+
+
+def warned(program, texts):
+    """The warnings on a group of texts, or None if one is refused."""
+    run = subprocess.run([program, "check", "--json", "--", *texts], stdout=subprocess.PIPE, stderr=subprocess.PIPE, text=True)
+    if run.returncode == 1:
+        return None
+    if run.returncode != 0:
+        raise SystemExit(f"status {run.returncode} of {texts}: {run.stderr}")
+    found = Warned({}, {}, set(), set())
+    for one in (json.loads(line) for line in (run.stdout + run.stderr).splitlines()):
+        if one["kind"] != "warning":
+            continue
+        indexes = [int(spec["place"].removeprefix("spec ")) - 1 for spec in one["specs"]]
+        if one["name"] == "possible_conflict":
+            example = EXAMPLE.fullmatch(one["message"])
+            found.conflicts[tuple(sorted(indexes[:2]))] = example and example.groups()
+        elif one["name"] in REASONS:
+            found.idle[indexes[0]] = REASONS[one["name"]]
+        elif one["name"] == "idle_exclusion":
+            found.idle_negative.add(indexes[0])
+        elif one["name"] == "excludes_no_branch":
+            found.no_branch.add(indexes[0])
+    return found
+
+
+def lines_of(found):
+    """The warnings as lines of a sample, with specs counted from 1."""
+    lines = [f"conflict {one + 1} {other + 1}" for one, other in sorted(found.conflicts)]
+    lines += [f"idle {index + 1} {reason}" for index, reason in sorted(found.idle.items())]
+    return lines + [f"idle_negative {index + 1}" for index in sorted(found.idle_negative)]
