@@ -3,7 +3,7 @@
 use bstr::BStr;
 use clap::{Arg, ArgAction, ArgMatches};
 use gix_refspec::parsing::Operation;
-use refspec_commands::call::{Call, Command, Form, Terminator};
+use refspec_io::call::{Call, Command, Form, Terminator};
 use std::alloc::{AllocError, Global};
 
 // The argument that means the standard input, for a spec or the name of a file.

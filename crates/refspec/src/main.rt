@@ -9,11 +9,11 @@ use crate::arguments::{call_of, command_line, has_refs, names_no_file, names_two
 use crate::git::run_git;
 use crate::streams::{CLOSED_STATUS, Stream};
 use gix_refspec::plan::Plan;
-use refspec_commands::call::{Call, Command, Files};
-use refspec_commands::fault::Fault;
-use refspec_commands::input::read_input;
-use refspec_commands::plan::Discard;
 use refspec_commands::run::run;
+use refspec_io::call::{Call, Command, Files};
+use refspec_io::fault::Fault;
+use refspec_io::input::read_input;
+use refspec_plans::plan::Discard;
 use std::fs::File;
 use std::io::{IsTerminal, Write};
 use std::process::ExitCode;

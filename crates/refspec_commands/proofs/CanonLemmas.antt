@@ -6,18 +6,18 @@ use Rattle.gix_refspec.specs.Specs.Meaning.{printed}
 use Rattle.gix_refspec.specs.Views.Spec.{reading_of}
 use Rattle.gix_refspec_text.specs.declared.parsing.Error.{Error}
 use Rattle.gix_refspec_text.specs.declared.spec.RefSpecRef.{RefSpecRef}
-use Rattle.refspec_commands.specs.declared.call.Form.{Form}
-use Rattle.refspec_commands.specs.declared.checked.Checked.{Checked}
-use Rattle.refspec_commands.specs.declared.checked.Checked.TheVariants as checked
-use Rattle.refspec_commands.specs.declared.texts.Text.{Text}
-use Rattle.refspec_commands.specs.declared.call.Form.TheVariants as form
+use Rattle.refspec_io.specs.declared.call.Form.{Form}
+use Rattle.refspec_io.specs.declared.checked.Checked.{Checked}
+use Rattle.refspec_io.specs.declared.checked.Checked.TheVariants as checked
+use Rattle.refspec_io.specs.declared.texts.Text.{Text}
+use Rattle.refspec_io.specs.declared.call.Form.TheVariants as form
+use Rattle.refspec_io.specs.Json.{AddsRefusal, AreInOrder}
+use Rattle.refspec_io.specs.Read.{IsChecked, IsRefusal}
+use Rattle.refspec_io.specs.Shown.{AddsNames}
+use Rattle.refspec_io.specs.Texts.{given_of, said}
+use Rattle.refspec_io.proofs.JsonLemmas.{AddsObjects-one, AddsObjects-push, AddsObjects-refusal, AddsObjects-start}
+use Rattle.refspec_io.proofs.ShownLemmas.{AddsNames-append, AddsNames-none}
 use Rattle.refspec_commands.specs.Canon.{AddsCanonical, AddsCanonicalName, AreCanonical, AreCanonicalOf, IsCanonicalObject, IsCanonicalOrRefusal, ShowsCanonical}
-use Rattle.refspec_commands.specs.Json.{AddsRefusal, AreInOrder}
-use Rattle.refspec_commands.specs.Read.{IsChecked, IsRefusal}
-use Rattle.refspec_commands.specs.Shown.{AddsNames}
-use Rattle.refspec_commands.specs.Texts.{given_of, said}
-use Rattle.refspec_commands.proofs.JsonLemmas.{AddsObjects-one, AddsObjects-push, AddsObjects-refusal, AddsObjects-start}
-use Rattle.refspec_commands.proofs.ShownLemmas.{AddsNames-append, AddsNames-none}
 
 AreCanonicalOf-append : (xs ys : List Checked) (ns ms : List (List ℕ)) → AreCanonicalOf xs ns → AreCanonicalOf ys ms → AreCanonicalOf (xs ++ ys) (ns ++ ms)
 AreCanonicalOf-append [] ys ns ms none more = subst (λ (l : List (List ℕ)). AreCanonicalOf ys (l ++ ms)) (sym none) more

@@ -2,28 +2,28 @@
 use Rattle.std.proofs.Common.{◌≡◌, ◌⊎◌, ℕ, Bool, true, false, List, [], inl, inr, map, refl, sym, ap, subst, ◌∙◌}
 use Rattle.std.specs.List.{AllZip}
 use Rattle.gix_refspec.specs.Specs.Reading.{Reading}
-use Rattle.refspec_commands.specs.declared.call.Call.{Call}
-use Rattle.refspec_commands.specs.declared.call.Command.{Command}
-use Rattle.refspec_commands.specs.declared.call.Command.TheVariants as command
-use Rattle.refspec_commands.specs.declared.call.Files.{Files}
-use Rattle.refspec_commands.specs.declared.call.Form.{Form}
-use Rattle.refspec_commands.specs.declared.call.Task.{Task}
-use Rattle.refspec_commands.specs.declared.checked.Checked.{Checked}
-use Rattle.refspec_commands.specs.declared.report.Report.{Report}
-use Rattle.refspec_commands.specs.declared.settings.Setting.{Setting}
-use Rattle.refspec_commands.specs.declared.texts.Text.{Text}
+use Rattle.refspec_io.specs.declared.call.Call.{Call}
+use Rattle.refspec_io.specs.declared.call.Command.{Command}
+use Rattle.refspec_io.specs.declared.call.Command.TheVariants as command
+use Rattle.refspec_io.specs.declared.call.Files.{Files}
+use Rattle.refspec_io.specs.declared.call.Form.{Form}
+use Rattle.refspec_io.specs.declared.call.Task.{Task}
+use Rattle.refspec_io.specs.declared.checked.Checked.{Checked}
+use Rattle.refspec_io.specs.declared.report.Report.{Report}
+use Rattle.refspec_io.specs.declared.settings.Setting.{Setting}
+use Rattle.refspec_io.specs.declared.texts.Text.{Text}
+use Rattle.refspec_io.specs.Messages.{AreRefusals, ReportsRefusals}
+use Rattle.refspec_io.specs.Read.{AddsIfGood, AddsIfRead, IsChecked}
+use Rattle.refspec_io.specs.Settings.{AreSettingsOf, HasLacking}
+use Rattle.refspec_io.specs.Shown.{KeepsReport, KeepsResults}
+use Rattle.refspec_io.specs.Texts.{AreTexts, given_of, spec_input}
+use Rattle.refspec_io.proofs.CheckedLemmas.{AddsIfRead-of, DecidesRefused-of}
+use Rattle.refspec_io.proofs.MessageLemmas.{AreRefusals-of}
+use Rattle.refspec_plans.specs.Fetch.{AddsFetch}
 use Rattle.refspec_commands.specs.Output.{AddsFound, HasValues, IsOutput, IsTask, Shows, Reports}
-use Rattle.refspec_commands.specs.Fetch.{AddsFetch}
 use Rattle.refspec_commands.specs.Prefixes.{AddsPrefixes}
-use Rattle.refspec_commands.specs.Messages.{AreRefusals, ReportsRefusals}
-use Rattle.refspec_commands.specs.Read.{AddsIfGood, AddsIfRead, IsChecked}
-use Rattle.refspec_commands.specs.Settings.{AreSettingsOf, HasLacking}
-use Rattle.refspec_commands.specs.Shown.{KeepsReport, KeepsResults}
-use Rattle.refspec_commands.specs.Texts.{AreTexts, given_of, spec_input}
 use Rattle.refspec_commands.specs.Track.{AddsTracked}
 use Rattle.refspec_commands.proofs.CanonLemmas.{ShowsCanonical-of}
-use Rattle.refspec_commands.proofs.CheckedLemmas.{AddsIfRead-of, DecidesRefused-of}
-use Rattle.refspec_commands.proofs.MessageLemmas.{AreRefusals-of}
 
 -- the results of a command, or else the refusals
 found_or_refused : (Adds : List ℕ → List Reading → List ℕ → List ℕ → Type 0) (f : Form) (before messages : List ℕ) (refused : Bool) (texts : List Text) (all : List Checked) (new : List ℕ) → AllZip IsChecked texts all → before ≡ [] → AddsIfGood (Adds before) (ReportsRefusals f all before messages) f refused all [] new → AddsIfRead (Adds []) (AreRefusals f (map given_of texts) messages) f refused (map given_of texts) [] new

@@ -1,20 +1,19 @@
 -- The ref prefixes to request from a server, in order.
-use Rattle.std.proofs.Common.{◌≡◌, ◌⊎◌, ℕ, ◌+◌, ◌<◌, Bool, true, false, ◌==◌, MatchBool, codes, List, [], ◌∷◌, ◌++◌, ◌≢◌, ◌≤◌, flat_map, get_or, inl, inr, length, map, take, refl, sym, ap, ◌∙◌, subst, arith}
+use Rattle.std.proofs.Common.{◌≡◌, ◌⊎◌, ℕ, ◌+◌, ◌<◌, Bool, true, false, MatchBool, codes, List, [], ◌∷◌, ◌++◌, ◌≢◌, ◌≤◌, flat_map, get_or, inl, inr, length, map, take, refl, sym, ap, ◌∙◌, subst, arith}
 use Rattle.std.proofs.lemmas.Grind.{flat_map-append}
 use Rattle.std.proofs.lemmas.List.{append-nil, length-map, map-append, take_more}
-use Rattle.std.proofs.lemmas.Bool.{eqb-true, false≢true}
-use Rattle.refspec_commands.specs.declared.call.Form.{Form}
-use Rattle.refspec_commands.specs.declared.call.Form.TheVariants as form
+use Rattle.refspec_io.specs.declared.call.Form.{Form}
+use Rattle.refspec_io.specs.declared.call.Form.TheVariants as form
 use Rattle.bstr.specs.Owned.{bstring_bytes}
 use Rattle.bstr.specs.declared.bstring.BString.{BString}
 use Rattle.gix_refspec.specs.Specs.Reading.{Reading}
 use Rattle.gix_refspec.specs.Views.Spec.{reading_of}
 use Rattle.gix_refspec_text.specs.declared.spec.RefSpecRef.{RefSpecRef}
-use Rattle.refspec_commands.specs.Json.{AddsObjects}
+use Rattle.refspec_io.specs.Json.{AddsObjects}
+use Rattle.refspec_io.specs.Shown.{AddsNames}
+use Rattle.refspec_io.proofs.JsonLemmas.{AddsObjects-next}
+use Rattle.refspec_io.proofs.ShownLemmas.{AddsNames-append, AddsNames-none, behind}
 use Rattle.refspec_commands.specs.Prefixes.{AddsAll, AddsList, AddsNothing, AddsRequests, AreOthers, IsReason, TakesWhole, argument, asked_object, asked_with, request}
-use Rattle.refspec_commands.specs.Shown.{AddsNames}
-use Rattle.refspec_commands.proofs.JsonLemmas.{AddsObjects-next}
-use Rattle.refspec_commands.proofs.ShownLemmas.{AddsNames-append, AddsNames-none, behind}
 
 -- what stands for all refs, and one more reason
 pub AddsAll-next : (patterns : Bool) (f g : Form) (specs : List RefSpecRef) (i : ℕ) (s : RefSpecRef) (old mid new : List ℕ) → i < length specs → s ≡ get_or specs i s → g ≡ f → AddsAll patterns f (map reading_of (take i specs)) old mid → AddsObjects g IsReason (reading_of s ∷ []) mid new → AddsAll patterns f (map reading_of (take (i + 1) specs)) old new
@@ -100,12 +99,3 @@ AddsList-own patterns has f list old new none reported = subst (λ (b : Bool). A
 -- an empty list
 pub AddsList-none : (patterns : Bool) (f : Form) (list : List (List ℕ)) (old new : List ℕ) → list ≡ [] → AddsNothing f old new → AddsList patterns f list old new
 AddsList-none patterns f list old new none reported = subst (λ (l : List (List ℕ)). AddsList patterns f l old new) (sym none) reported
-
--- the names of an empty list, and of another one
-pub no_names : {A : Type 0} (f : A → List ℕ) (xs : List A) → true ≡ (length xs == 0) → map f xs ≡ []
-no_names f [] is = refl
-no_names f (x ∷ xs) is = absurd (omega (arith, eqb-true _ _ (sym is)))
-
-pub some_names : {A : Type 0} (f : A → List ℕ) (xs : List A) → false ≡ (length xs == 0) → map f xs ≡ [] → ⊥
-some_names f [] is none = false≢true is
-some_names f (x ∷ xs) is none = cc

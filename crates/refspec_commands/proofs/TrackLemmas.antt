@@ -18,9 +18,9 @@ use Rattle.gix_refspec.specs.Matching.Hits.{AreKeptBackward}
 use Rattle.gix_refspec.specs.Matching.Mappings.{Mapped}
 use Rattle.gix_refspec.specs.Matching.Match.{Ref}
 use Rattle.gix_refspec.specs.Specs.Reading.{Reading}
-use Rattle.refspec_commands.specs.declared.call.Form.{Form}
-use Rattle.refspec_commands.specs.Rows.{AddsMappings, AreSpecTexts}
-use Rattle.refspec_commands.specs.Shown.{KeepsResults}
+use Rattle.refspec_io.specs.declared.call.Form.{Form}
+use Rattle.refspec_io.specs.Rows.{AddsMappings, AreSpecTexts}
+use Rattle.refspec_io.specs.Shown.{KeepsResults}
 use Rattle.refspec_commands.specs.Track.{AddsTracked, AreByNames, AreWritten, HasUnwritten, IsEachWritten, IsWritten, named}
 use Rattle.gix_refspec_text.proofs.lemmas.lists.MapLemmas.{map_next}
 

@@ -1,26 +1,7 @@
 -- Examples and counterexamples of the definitions in specs/, so that a wrong definition is noticed.
 pub mod CanonFacts
-pub mod ConflictFacts
-pub mod CountFacts
-pub mod FetchFacts
-pub mod GroupFacts
-pub mod InputFacts
-pub mod JsonFacts
-pub mod LeftOutFacts
-pub mod MalformedFacts
-pub mod MessageFacts
-pub mod MissingFacts
 pub mod OutputFacts
-pub mod OriginFacts
 pub mod PrefixFacts
-pub mod ReadFacts
-pub mod RefFacts
-pub mod RowFacts
 pub mod RunFacts
-pub mod SettingFacts
-pub mod ShownFacts
-pub mod StaleFacts
-pub mod TextFacts
 pub mod TrackFacts
-pub mod UpdateFacts
 pub mod WarningFacts

@@ -6,15 +6,15 @@ use Rattle.gix_refspec.specs.Specs.Meaning.{printed}
 use Rattle.gix_refspec.specs.Specs.Reading.{Reading}
 use Rattle.gix_refspec.specs.Specs.Refusal.{IsRefused, Refusal}
 use Rattle.gix_refspec.specs.Views.Spec.{reading_of}
-use Rattle.refspec_commands.specs.declared.call.Form.{Form}
-use Rattle.refspec_commands.specs.declared.call.Form.TheVariants as form
-use Rattle.refspec_commands.specs.declared.checked.Checked.{Checked}
-use Rattle.refspec_commands.specs.declared.checked.Checked.TheVariants as checked
-use Rattle.refspec_commands.specs.declared.texts.Text.{Text}
-use Rattle.refspec_commands.specs.Json.{AddsObjects, AreInOrder, IsRefusedLine, IsSpecLine, WritesSpec}
-use Rattle.refspec_commands.specs.Read.{IsRefusal}
-use Rattle.refspec_commands.specs.Shown.{AddsNames}
-use Rattle.refspec_commands.specs.Texts.{Given, given_of, said}
+use Rattle.refspec_io.specs.declared.call.Form.{Form}
+use Rattle.refspec_io.specs.declared.call.Form.TheVariants as form
+use Rattle.refspec_io.specs.declared.checked.Checked.{Checked}
+use Rattle.refspec_io.specs.declared.checked.Checked.TheVariants as checked
+use Rattle.refspec_io.specs.declared.texts.Text.{Text}
+use Rattle.refspec_io.specs.Json.{AddsObjects, AreInOrder, IsRefusedLine, IsSpecLine, WritesSpec}
+use Rattle.refspec_io.specs.Read.{IsRefusal}
+use Rattle.refspec_io.specs.Shown.{AddsNames}
+use Rattle.refspec_io.specs.Texts.{Given, given_of, said}
 
 -- names are the canonical texts of those texts that are specs, in order; each other text is refused
 abbrev pub AreCanonical : List (Operation × List ℕ) → List (List ℕ) → Type 0

@@ -3,25 +3,25 @@
 use Rattle.std.specs.Prelude.{◌≡◌, ◌⊎◌, ℕ, Bool, true, false, List, [], Option, map, MatchBool, ⊤}
 use Rattle.std.specs.Io.KnownBytes.{Appends}
 use Rattle.gix_refspec.specs.Specs.Reading.{Reading}
-use Rattle.refspec_commands.specs.declared.call.Call.{Call}
-use Rattle.refspec_commands.specs.declared.call.Command.{Command}
-use Rattle.refspec_commands.specs.declared.call.Command.TheVariants as command
-use Rattle.refspec_commands.specs.declared.call.Files.{Files}
-use Rattle.refspec_commands.specs.declared.call.Form.{Form}
-use Rattle.refspec_commands.specs.declared.call.Task.{Task}
-use Rattle.refspec_commands.specs.declared.checked.Checked.{Checked}
-use Rattle.refspec_commands.specs.declared.fault.Fault.{Fault}
-use Rattle.refspec_commands.specs.declared.fault.Fault.TheVariants as fault
-use Rattle.refspec_commands.specs.declared.settings.Setting.{Setting}
+use Rattle.refspec_io.specs.declared.call.Call.{Call}
+use Rattle.refspec_io.specs.declared.call.Command.{Command}
+use Rattle.refspec_io.specs.declared.call.Command.TheVariants as command
+use Rattle.refspec_io.specs.declared.call.Files.{Files}
+use Rattle.refspec_io.specs.declared.call.Form.{Form}
+use Rattle.refspec_io.specs.declared.call.Task.{Task}
+use Rattle.refspec_io.specs.declared.checked.Checked.{Checked}
+use Rattle.refspec_io.specs.declared.fault.Fault.{Fault}
+use Rattle.refspec_io.specs.declared.fault.Fault.TheVariants as fault
+use Rattle.refspec_io.specs.declared.settings.Setting.{Setting}
+use Rattle.refspec_io.specs.Input.{ReadsToEnd}
+use Rattle.refspec_io.specs.Messages.{AreRefusals, ReportsRefusals}
+use Rattle.refspec_io.specs.Read.{AddsIfGood, AddsIfRead, AreGood, HasBad, DecidesRefused}
+use Rattle.refspec_io.specs.Settings.{AreSettingsOf, HasLacking, HasNoSettings}
+use Rattle.refspec_io.specs.Shown.{KeepsResults}
+use Rattle.refspec_io.specs.Texts.{AreTexts, Given, IsGivenCount, said, spec_input}
+use Rattle.refspec_plans.specs.Fetch.{AddsFetch}
 use Rattle.refspec_commands.specs.Canon.{AddsCanonical, ShowsCanonical}
-use Rattle.refspec_commands.specs.Fetch.{AddsFetch}
-use Rattle.refspec_commands.specs.Input.{ReadsToEnd}
-use Rattle.refspec_commands.specs.Messages.{AreRefusals, ReportsRefusals}
 use Rattle.refspec_commands.specs.Prefixes.{AddsPrefixes}
-use Rattle.refspec_commands.specs.Read.{AddsIfGood, AddsIfRead, AreGood, HasBad, DecidesRefused}
-use Rattle.refspec_commands.specs.Settings.{AreSettingsOf, HasLacking, HasNoSettings}
-use Rattle.refspec_commands.specs.Shown.{KeepsResults}
-use Rattle.refspec_commands.specs.Texts.{AreTexts, Given, IsGivenCount, said, spec_input}
 use Rattle.refspec_commands.specs.Track.{AddsTracked}
 use Rattle.refspec_commands.specs.Warnings.{ReportsCheck, ShowsCheck}
 

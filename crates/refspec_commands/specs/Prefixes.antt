@@ -6,10 +6,10 @@ use Rattle.gix_refspec.specs.Specs.Grammar.{IsPositive}
 use Rattle.gix_refspec.specs.Specs.Meaning.{printed}
 use Rattle.gix_refspec.specs.Specs.Reading.{Reading}
 use Rattle.refspec_json.specs.Objects.{line_of, noted_object, nothing_object, prefix_object}
-use Rattle.refspec_commands.specs.declared.call.Form.{Form}
-use Rattle.refspec_commands.specs.declared.call.Form.TheVariants as form
-use Rattle.refspec_commands.specs.Json.{AddsObjects, json_text}
-use Rattle.refspec_commands.specs.Shown.{AddsNames}
+use Rattle.refspec_io.specs.declared.call.Form.{Form}
+use Rattle.refspec_io.specs.declared.call.Form.TheVariants as form
+use Rattle.refspec_io.specs.Json.{AddsObjects, json_text}
+use Rattle.refspec_io.specs.Shown.{AddsNames}
 
 -- what precedes a prefix in a line: the name of its argument in protocol v2, and nothing before a pattern
 abbrev pub argument : Bool → List ℕ

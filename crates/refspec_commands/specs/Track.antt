@@ -9,8 +9,8 @@ use Rattle.gix_refspec.specs.Matching.Hits.{AreKeptBackward}
 use Rattle.gix_refspec.specs.Matching.Mappings.{Mapped}
 use Rattle.gix_refspec.specs.Matching.Match.{Ref}
 use Rattle.gix_refspec.specs.Specs.Reading.{Reading}
-use Rattle.refspec_commands.specs.declared.call.Form.{Form}
-use Rattle.refspec_commands.specs.Rows.{AddsMappingsAmong, AreSpecTexts}
+use Rattle.refspec_io.specs.declared.call.Form.{Form}
+use Rattle.refspec_io.specs.Rows.{AddsMappingsAmong, AreSpecTexts}
 
 -- a ref of which only the name is known: it points to the null id
 abbrev pub named : List ℕ → Ref

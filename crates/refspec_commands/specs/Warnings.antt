@@ -1,13 +1,13 @@
 -- The messages and the exit status of `check`: the refusals, and behind them the warnings on valid specs. This project's own
 -- rule. What a warning says is left open.
 use Rattle.std.specs.Prelude.{◌≡◌, ◌≢◌, ℕ, Bool, true, false, ◌||◌, ◌&&◌, List, [], ◌++◌, map, MatchBool}
-use Rattle.refspec_commands.specs.declared.call.Call.{Call}
-use Rattle.refspec_commands.specs.declared.call.Form.{Form}
-use Rattle.refspec_commands.specs.declared.call.Form.TheVariants as form
-use Rattle.refspec_commands.specs.declared.checked.Checked.{Checked}
-use Rattle.refspec_commands.specs.Messages.{AreRefusals, ReportsRefusals}
-use Rattle.refspec_commands.specs.Read.{AreGood, DecidesRefused, HasBad}
-use Rattle.refspec_commands.specs.Texts.{Given, said}
+use Rattle.refspec_io.specs.declared.call.Call.{Call}
+use Rattle.refspec_io.specs.declared.call.Form.{Form}
+use Rattle.refspec_io.specs.declared.call.Form.TheVariants as form
+use Rattle.refspec_io.specs.declared.checked.Checked.{Checked}
+use Rattle.refspec_io.specs.Messages.{AreRefusals, ReportsRefusals}
+use Rattle.refspec_io.specs.Read.{AreGood, DecidesRefused, HasBad}
+use Rattle.refspec_io.specs.Texts.{Given, said}
 
 -- bytes were appended to the messages; in JSON to the results
 abbrev pub AreAppended : Form → (bytes : List ℕ) → (messages_old messages_new results_old results_new : List ℕ) → Type 0

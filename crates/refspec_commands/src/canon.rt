@@ -1,21 +1,17 @@
-//! The canonical texts of specs.
+//! The report of the command `canon`.
 
-ghost use Rattle.std.specs.Prelude.{◌≡◌, ◌∷◌, [], List, IfOk, OnOk, Some, map, unwrap_or, ℕ};
-ghost use Rattle.std.specs.List.{slice_get};
-ghost use Rattle.bstr.specs.Owned.{bstring_bytes};
+ghost use Rattle.std.specs.Prelude.{◌≡◌, ◌∷◌, [], List, OnOk, Some, ℕ};
 ghost use Rattle.gix_refspec.specs.Specs.Meaning.{printed};
 ghost use Rattle.gix_refspec.specs.Views.Spec.{reading_of};
+ghost use Rattle.refspec_io.specs.Messages.{ReportsRefusals};
 ghost use Rattle.refspec_commands.specs.Canon.{AddsCanonical, AddsCanonicalName};
-ghost use Rattle.refspec_commands.specs.Messages.{ReportsRefusals};
-ghost use Rattle.refspec_commands.specs.Rows.{AreSpecTexts};
 
-use crate::call::Form;
-use crate::checked::Checked;
-use crate::report::Report;
 use crate::specs::write_spec;
-use crate::texts::Text;
-use bstr::BString;
 use gix_refspec::RefSpecRef;
+use refspec_io::call::Form;
+use refspec_io::checked::Checked;
+use refspec_io::report::Report;
+use refspec_io::texts::Text;
 use refspec_json::SpecKind;
 use std::alloc::{AllocError, Global};
 
@@ -79,27 +75,5 @@ fn report_canonical(
             &mut report.results,
         ),
         Form::Lines | Form::Zeros => report.write_name(b"", canonical.as_bytes()),
-    }
-}
-
-/// The canonical texts of specs, in order.
-pub fn canonical_texts(alloc: Global, specs: &[RefSpecRef<'_>]) -> Result<Vec<BString>, AllocError>
-    ensures { IfOk result (λ texts. AreSpecTexts
-        (map reading_of specs.now) (map bstring_bytes texts.items)) }
-{
-    let mut texts = Vec::with_capacity(alloc, specs.len())?;
-    for spec in specs {
-        texts.push(spec.to_bstring(alloc)?)?;
-    }
-    Ok(texts)
-}
-
-/// The text at an index, or an empty text if the index is out of bounds.
-pub fn text_at(texts: &[BString], index: usize) -> &[u8]
-    ensures { result.now ≡ unwrap_or (slice_get (map bstring_bytes texts.now) index) [] }
-{
-    match texts.get(index) {
-        Some(text) => text.as_bytes(),
-        None => b"",
     }
 }

@@ -4,18 +4,18 @@ ghost use Rattle.std.specs.Prelude.{◌≡◌, ◌++◌, [], map, option_map, un
 ghost use Rattle.std.specs.List.{flat_map};
 ghost use Rattle.bstr.specs.Owned.{bstring_bytes};
 ghost use Rattle.gix_refspec.specs.Views.Group.{mapped_of, name_bytes};
-ghost use Rattle.refspec_commands.specs.Rows.{AddsLines, AddsMappings, WritesLine, fields, mapped_object, mapped_row, object_of, row_of};
+ghost use Rattle.refspec_io.specs.Rows.{AddsLines, AddsMappings, WritesLine, fields, mapped_object, mapped_row, object_of, row_of};
 
-use crate::call::Form;
-use crate::canon::text_at;
-use crate::fields::{
-    NO_DESTINATION, source_of, write_field, write_source_cell, write_source_field,
-};
-use crate::json;
-use crate::report::Report;
-use crate::table::Layout;
 use bstr::BString;
 use gix_refspec::match_group::{Mapping, NameRef};
+use refspec_io::call::Form;
+use refspec_io::canonical::text_at;
+use refspec_io::fields::{
+    NO_DESTINATION, source_of, write_field, write_source_cell, write_source_field,
+};
+use refspec_io::json;
+use refspec_io::report::Report;
+use refspec_io::table::Layout;
 use std::alloc::{AllocError, Global};
 
 /// Reports mappings, in order: the destination and the source of each, and the text of its spec. `texts` has the text

@@ -6,16 +6,16 @@ ghost use Rattle.gix_refspec.specs.Matching.Asked.{HasNoList, ListsGroup, Serves
 ghost use Rattle.gix_refspec.specs.Views.Group.{readings_of};
 ghost use Rattle.gix_refspec.specs.Views.Spec.{reading_of};
 ghost use Rattle.refspec_json.specs.Objects.{line_of, noted_object};
-ghost use Rattle.refspec_commands.specs.declared.call.Form.TheVariants as form;
-ghost use Rattle.refspec_commands.specs.Json.{AddsObjects, json_text};
+ghost use Rattle.refspec_io.specs.declared.call.Form.TheVariants as form;
+ghost use Rattle.refspec_io.specs.Json.{AddsObjects, json_text};
 ghost use Rattle.refspec_commands.specs.Prefixes.{AddsAll, AddsList, AddsNothing, AddsPrefixes, AddsRequests, AreOthers, IsReason, TakesWhole, asked_object, asked_with, request};
 
-use crate::call::Form;
-use crate::json;
-use crate::quote::write_quoted;
-use crate::report::Report;
 use bstr::BString;
 use gix_refspec::{MatchGroup, RefSpecRef};
+use refspec_io::call::Form;
+use refspec_io::json;
+use refspec_io::quote::write_quoted;
+use refspec_io::report::Report;
 use std::alloc::{AllocError, Global};
 
 /// Reports ref prefixes for which a server lists every ref that the specs map; or that all refs must be

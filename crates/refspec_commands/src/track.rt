@@ -6,20 +6,20 @@ ghost use Rattle.gix_refspec.specs.Matching.Hits.{AreKeptBackward};
 ghost use Rattle.gix_refspec.specs.Texts.ObjectId.{id_bytes};
 ghost use Rattle.gix_refspec.specs.Views.Spec.{reading_of};
 ghost use Rattle.refspec_json.specs.Objects.{line_of, noted_object, untracked_object};
-ghost use Rattle.refspec_commands.specs.Json.{json_text};
-ghost use Rattle.refspec_commands.specs.Shown.{KeepsReport, KeepsResults};
+ghost use Rattle.refspec_io.specs.Json.{json_text};
+ghost use Rattle.refspec_io.specs.Shown.{KeepsReport, KeepsResults};
 ghost use Rattle.refspec_commands.specs.Track.{AddsTracked, AreByNames, AreWritten, HasUnwritten, IsEachWritten, named};
 
-use crate::call::{Call, Form};
-use crate::canon::canonical_texts;
-use crate::json;
 use crate::mappings::report_mappings;
-use crate::quote::write_quoted;
-use crate::report::Report;
 use bstr::{BStr, BString};
 use gix_refspec::match_group::{Item, Mapping, has_id_destination, match_rhs};
 use gix_refspec::oid::{Kind, ObjectId};
 use gix_refspec::{MatchGroup, RefSpecRef};
+use refspec_io::call::{Call, Form};
+use refspec_io::canonical::canonical_texts;
+use refspec_io::json;
+use refspec_io::quote::write_quoted;
+use refspec_io::report::Report;
 use std::alloc::{AllocError, Global};
 use std::collections::BTreeSet;
 

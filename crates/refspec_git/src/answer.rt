@@ -10,12 +10,12 @@ use crate::fetch::{report_plan, report_prefixes, report_stale};
 use crate::refusal::Refusal;
 use crate::tracking::report_tracking;
 use crate::usage::{OPTIONS, USAGE, VERSION};
-use refspec_commands::call::{Call, Files};
-use refspec_commands::fault::Fault;
-use refspec_commands::input::records;
-use refspec_commands::plan::Discard;
 use refspec_commands::run::run;
-use refspec_commands::settings::settings_of;
+use refspec_io::call::{Call, Files};
+use refspec_io::fault::Fault;
+use refspec_io::input::records;
+use refspec_io::settings::settings_of;
+use refspec_plans::plan::Discard;
 use std::alloc::{AllocError, AllocFailed, Global};
 
 /// The files of a call, and its terminal.

@@ -3,7 +3,7 @@
 use crate::refusal::Refusal;
 use bstr::ByteSlice;
 use gix_refspec::parsing::Operation;
-use refspec_commands::call::{self, Call, Form, Terminator};
+use refspec_io::call::{self, Call, Form, Terminator};
 use std::alloc::{AllocError, Global};
 
 /// The commands of `git refspec`.

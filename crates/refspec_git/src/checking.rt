@@ -7,11 +7,11 @@ use crate::refusal::Refusal;
 use crate::settings::{name_and_variable, write_settings};
 use crate::warnings::{text_of as text_of_value, write_warnings};
 use gix_refspec::parsing::Operation;
-use refspec_commands::call::{Command, Files, Form};
-use refspec_commands::fault::Fault;
-use refspec_commands::plan::Discard;
-use refspec_commands::settings::{Setting, operation_of};
-use refspec_commands::texts::{Location, Text};
+use refspec_io::call::{Command, Files, Form};
+use refspec_io::fault::Fault;
+use refspec_io::settings::{Setting, operation_of};
+use refspec_io::texts::{Location, Text};
+use refspec_plans::plan::Discard;
 use std::alloc::{AllocError, Global};
 use std::collections::BTreeSet;
 

@@ -11,7 +11,7 @@ use crate::remotes::{default_remote, is_configured, is_rewritten};
 use bstr::ByteSlice;
 use gix_refspec_text::side::strip_refs;
 use gix_refspec_text::split::contains;
-use refspec_commands::settings::Setting;
+use refspec_io::settings::Setting;
 use std::alloc::Global;
 
 /// What an argument looks like, regardless of the configuration.

@@ -10,10 +10,10 @@ use crate::settings::{is_true, last_value, settings_named, write_settings};
 use crate::sources::{Names, Source, Sources};
 use bstr::BStr;
 use gix_refspec::name;
-use refspec_commands::call::{Call, Command, Files, Form};
-use refspec_commands::fault::Fault;
-use refspec_commands::plan::Discard;
-use refspec_commands::settings::Setting;
+use refspec_io::call::{Call, Command, Files, Form};
+use refspec_io::fault::Fault;
+use refspec_io::settings::Setting;
+use refspec_plans::plan::Discard;
 use std::alloc::{AllocError, Global};
 
 // The spec of all tags.

@@ -1,6 +1,6 @@
 //! The JSON objects that `git refspec` writes beside those of `refspec`.
 
-use refspec_commands::json::text_of;
+use refspec_io::json::text_of;
 use serde_json::{Value, json};
 use std::alloc::{AllocError, Global};
 

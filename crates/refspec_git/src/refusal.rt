@@ -3,7 +3,7 @@
 ghost use Rattle.std.specs.Prelude.{◌≤◌};
 
 use crate::usage::USAGE;
-use refspec_commands::quote::write_in_message;
+use refspec_io::quote::write_in_message;
 use std::alloc::{AllocError, AllocFailed};
 
 /// Why a call is refused.

@@ -1,7 +1,7 @@
 //! The remotes of a configuration.
 
 use crate::settings::{last_value, name_and_variable};
-use refspec_commands::settings::Setting;
+use refspec_io::settings::Setting;
 use std::alloc::{AllocError, Global};
 use std::collections::BTreeMap;
 

@@ -5,7 +5,7 @@ ghost use Rattle.gix_refspec_text.specs.Texts.Words.{Lacks};
 ghost use Rattle.refspec_git.specs.Settings.{IsKey};
 
 use bstr::ByteSlice;
-use refspec_commands::settings::Setting;
+use refspec_io::settings::Setting;
 use std::alloc::{AllocError, Global};
 
 /// The name and the variable of a key `SECTION.NAME.VARIABLE`. The name may contain dots, the variable none. `None` for

@@ -6,7 +6,7 @@ use gix_refspec::oid::ObjectId;
 use gix_refspec::parsing::{Error, Operation};
 use gix_refspec::{RefSpecRef, parse};
 use gix_refspec_text::side::candidates;
-use refspec_commands::input::records;
+use refspec_io::input::records;
 use std::alloc::{AllocError, Global};
 
 /// The ref names of a remote.

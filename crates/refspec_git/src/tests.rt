@@ -5,8 +5,8 @@ use crate::choice::{Looks, looks_of};
 use crate::refusal::Refusal;
 use crate::remotes::{default_remote, fetch_values, is_configured, is_rewritten};
 use crate::settings::{is_true, last_value, name_and_variable, write_settings};
-use refspec_commands::call::Form;
-use refspec_commands::settings::settings_of;
+use refspec_io::call::Form;
+use refspec_io::settings::settings_of;
 use std::alloc::AllocError;
 use std::test::Fail;
 

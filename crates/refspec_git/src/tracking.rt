@@ -15,11 +15,11 @@ use gix_refspec::oid::{Kind, ObjectId};
 use gix_refspec::parsing::{Error, Operation};
 use gix_refspec::{MatchGroup, RefSpecRef, name, parse};
 use gix_refspec_text::side::{candidates, joined};
-use refspec_commands::call::{Command, Files, Form};
-use refspec_commands::fault::Fault;
-use refspec_commands::plan::Discard;
-use refspec_commands::settings::Setting;
-use refspec_commands::table::Layout;
+use refspec_io::call::{Command, Files, Form};
+use refspec_io::fault::Fault;
+use refspec_io::settings::Setting;
+use refspec_io::table::Layout;
+use refspec_plans::plan::Discard;
 use std::alloc::{AllocError, Global};
 use std::collections::{BTreeMap, BTreeSet};
 

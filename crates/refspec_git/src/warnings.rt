@@ -7,10 +7,10 @@ use gix_refspec::{RefSpecRef, parse};
 use gix_refspec_match::exclusions::Exclusions;
 use gix_refspec_match::needle::word_between;
 use gix_refspec_text::side::split_at_first_star;
-use refspec_commands::call::Form;
-use refspec_commands::settings::Setting;
-use refspec_commands::texts::{Location, Text};
 use refspec_commands::warnings::{Topic, Warning, say, write_warnings_on};
+use refspec_io::call::Form;
+use refspec_io::settings::Setting;
+use refspec_io::texts::{Location, Text};
 use std::alloc::{AllocError, Global};
 use std::collections::{BTreeMap, BTreeSet};
 

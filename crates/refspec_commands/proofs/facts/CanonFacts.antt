@@ -11,10 +11,10 @@ use Rattle.gix_refspec_text.proofs.facts.FitFacts.{other_byte}
 use Rattle.gix_refspec_text.proofs.facts.GrammarFacts.{fetches_head, fetches_main}
 use Rattle.gix_refspec_text.proofs.facts.UnreadFacts.{bad_sources}
 use Rattle.gix_refspec_text.proofs.facts.ViewFacts.{Accepted}
-use Rattle.refspec_commands.specs.declared.call.Form.TheVariants as form
+use Rattle.refspec_io.specs.declared.call.Form.TheVariants as form
+use Rattle.refspec_io.specs.Shown.{zero_ended}
+use Rattle.refspec_io.proofs.facts.ReadFacts.{bad, good, head, main}
 use Rattle.refspec_commands.specs.Canon.{AddsCanonical, AreCanonical, AreCanonicalOf}
-use Rattle.refspec_commands.specs.Shown.{zero_ended}
-use Rattle.refspec_commands.proofs.facts.ReadFacts.{bad, good, head, main}
 use Rattle.std.proofs.lemmas.Option.{same_Some}
 
 -- the canonical text of an empty text in a fetch is `HEAD`; a refused text is left out, and the text after it isn't

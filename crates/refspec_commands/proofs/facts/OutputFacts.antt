@@ -1,11 +1,11 @@
 -- Exit statuses, the input of a call, and the output of `canon`.
 use Rattle.std.proofs.Common.{◌≡◌, ℕ, true, false, List, [], ◌∷◌, ◌++◌, Some, inl, codes, length, refl, ap, subst, arith}
 use Rattle.gix_refspec_text.specs.declared.parsing.Operation.TheVariants.{Fetch}
-use Rattle.refspec_commands.specs.declared.call.Form.TheVariants as form
+use Rattle.refspec_io.specs.declared.call.Form.TheVariants as form
+use Rattle.refspec_io.specs.Shown.{AddsNames}
+use Rattle.refspec_io.specs.Texts.{Given, numbered, argument_at}
 use Rattle.refspec_commands.specs.Canon.{AreCanonical, ShowsCanonical}
 use Rattle.refspec_commands.specs.Output.{IsInput, status_of}
-use Rattle.refspec_commands.specs.Shown.{AddsNames}
-use Rattle.refspec_commands.specs.Texts.{Given, numbered, argument_at}
 use Rattle.refspec_commands.proofs.facts.CanonFacts.{canonical, not_canonical}
 
 -- 1 if something is refused, else 0

@@ -1,5 +1,6 @@
 -- Which prefixes are requested, as lines of protocol v2 and as patterns, and which aren't.
 use Rattle.std.proofs.Common.{◌≡◌, ℕ, true, false, List, [], ◌∷◌, ◌++◌, Some, inl, inr, codes, length, refl, ap, ◌∙◌, subst, arith}
+use Rattle.std.specs.Str.{chars, is_utf8}
 use Rattle.gix_refspec.specs.Specs.Grammar.{fetched}
 use Rattle.gix_refspec.specs.Specs.Reading.{Negative, Normal, Reading}
 use Rattle.gix_refspec.specs.Matching.Asked.{HasNoList, Lists, ListsGroup, ListsSide}
@@ -7,8 +8,9 @@ use Rattle.gix_refspec.proofs.facts.AskedFacts.{lists_at_brackets, lists_of_spec
 use Rattle.gix_refspec_text.proofs.lemmas.prefixes.PrefixLemmas.{one_asked}
 use Rattle.gix_refspec_text.proofs.facts.FitFacts.{every, no_dev, other_byte}
 use Rattle.gix_refspec_text.proofs.facts.ManualFacts.{other_length}
-use Rattle.refspec_commands.specs.declared.call.Form.TheVariants as form
-use Rattle.refspec_commands.specs.Prefixes.{AddsAll, AddsList, AddsNothing, AddsPrefixes, AreOthers, TakesWhole, argument, request}
+use Rattle.refspec_json.specs.Objects.{line_of, prefix_object}
+use Rattle.refspec_io.specs.declared.call.Form.TheVariants as form
+use Rattle.refspec_commands.specs.Prefixes.{AddsAll, AddsList, AddsNothing, AddsPrefixes, AreOthers, TakesWhole, argument, asked_object, request}
 use Rattle.std.proofs.lemmas.Option.{same_Some}
 
 -- a prefix is after the name of its argument, and a pattern ends with a star
@@ -179,3 +181,8 @@ not_reported = (listed_as_all, all_as_nothing)
     all_as_nothing (kept, inr (other, (rest, empty, same)), inl (list, asked, adds)) =
         let lists = subst (λ (l : List Reading). ListsGroup l asked.own) same asked.lists in unlisted lists.0 lists.2
     all_as_nothing (kept, inr (other, (rest, empty, same)), inr (none, adds)) = other_words.0 adds
+
+-- a prefix as an object, with the pattern of the names that begin with it
+pub object : asked_object (codes "refs/") ≡ line_of (prefix_object (codes "refs/") (codes "refs/*"))
+unfolding is_utf8 chars lib.Utf8.encode
+object = refl

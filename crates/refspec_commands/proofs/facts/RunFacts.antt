@@ -1,17 +1,8 @@
--- The kinds of faults, and what a run does to its reader and its writers.
+-- What a run does to its reader and its writers.
 use Rattle.std.proofs.Common.{true, false, [], Some, codes, length, refl, ap, arith}
 use Rattle.std.proofs.lemmas.Bool.{false≢true}
-use Rattle.refspec_commands.specs.declared.fault.Fault.TheVariants as fault
-use Rattle.refspec_commands.specs.Fault.{IsMemory, IsReadOrMemory, IsWrite}
+use Rattle.refspec_io.specs.declared.fault.Fault.TheVariants as fault
 use Rattle.refspec_commands.specs.Run.{Leaves, ReadsWhole}
-
--- of these three faults only memory satisfies two definitions
-pub faults : IsMemory fault.Memory × IsReadOrMemory fault.Memory × IsReadOrMemory fault.Read × IsWrite fault.Write
-faults = (tt, tt, tt, tt)
-
-pub no_other_faults : ¬ (IsMemory fault.Read) × ¬ (IsMemory fault.Write) × ¬ (IsReadOrMemory fault.Write)
-    × ¬ (IsWrite fault.Read) × ¬ (IsWrite fault.Memory)
-no_other_faults = ((λ is. is), (λ is. is), (λ is. is), (λ is. is), λ is. is)
 
 -- if the input is read, its reader is at its end; else everything may be left
 pub reads : ReadsWhole true (Some (codes "a\n")) (Some []) × ReadsWhole false (Some (codes "a\n")) (Some (codes "a\n"))

@@ -1,6 +1,6 @@
 -- Where warnings go, and what they do to the exit status.
 use Rattle.std.proofs.Common.{true, false, [], ◌∷◌, arith, ap, length, refl}
-use Rattle.refspec_commands.specs.declared.call.Form.TheVariants as form
+use Rattle.refspec_io.specs.declared.call.Form.TheVariants as form
 use Rattle.refspec_commands.specs.Warnings.{AddsWarnings, AreAppended, WarnsIf}
 
 -- behind the earlier messages, or in JSON behind the results

@@ -1,10 +1,6 @@
 //! Specs that can conflict, with an example and a negative spec that prevents it.
 
 use super::{Group, Topic, Warning, or_nothing, say};
-use crate::call::Form;
-use crate::counts::reported_count;
-use crate::fields::source_of;
-use crate::texts::write_number;
 use bstr::BStr;
 use gix_refspec::lint::{PossibleConflict, Reason, idle_specs, possible_conflicts};
 use gix_refspec::parsing::{Error, Operation};
@@ -12,6 +8,10 @@ use gix_refspec::{RefSpecRef, parse};
 use gix_refspec_match::exclusions::Exclusions;
 use gix_refspec_match::needle::word_between;
 use gix_refspec_text::side::split_at_first_star;
+use refspec_io::call::Form;
+use refspec_io::counts::reported_count;
+use refspec_io::fields::source_of;
+use refspec_io::texts::write_number;
 use std::alloc::{AllocError, Global};
 
 /// Adds a warning for each two specs that can conflict, or for the first of them.

@@ -1,10 +1,10 @@
 //! Specs that do nothing, whatever refs a remote has.
 
 use super::{Group, Topic, Warning, or_nothing, say};
-use crate::sentence::{may_be_below_refs, may_be_ref};
 use gix_refspec::RefSpecRef;
 use gix_refspec::lint::{Reason, idle_exclusions, idle_specs};
 use gix_refspec_text::side::written_name;
+use refspec_io::sentence::{may_be_below_refs, may_be_ref};
 use std::alloc::{AllocError, Global};
 
 /// Adds a warning for each spec that does nothing, and then for each negative one.

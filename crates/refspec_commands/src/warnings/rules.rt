@@ -2,12 +2,12 @@
 
 use super::idle::advise_full_name;
 use super::{Group, Topic, Warning, say};
-use crate::sentence::{is_pattern, may_be_ref};
-use crate::texts::Text;
 use gix_refspec::RefSpecRef;
 use gix_refspec::oid::is_id;
 use gix_refspec::parsing::Operation;
 use gix_refspec_text::side::written_name;
+use refspec_io::sentence::{is_pattern, may_be_ref};
+use refspec_io::texts::Text;
 use std::alloc::{AllocError, Global};
 
 // The destination that Git refuses.

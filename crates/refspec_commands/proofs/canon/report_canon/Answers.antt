@@ -1,7 +1,7 @@
 -- Each text is reported after the others.
 use Rattle.std.proofs.Common.{◌<◌, ◌∙◌, length, refl, arith}
+use Rattle.refspec_io.proofs.MessageLemmas.{ReportsRefusals-all, ReportsRefusals-next}
 use Rattle.refspec_commands.proofs.CanonLemmas.{AddsCanonical-all, AddsCanonical-next, AddsCanonical-start}
-use Rattle.refspec_commands.proofs.MessageLemmas.{ReportsRefusals-all, ReportsRefusals-next}
 use Rattle.refspec_commands.proofs.canon.report_canon.Goals as goal
 
 pub loop-checked-init : goal.loop-checked-init

@@ -1,7 +1,7 @@
 -- the texts so far were reported
 use Rattle.std.proofs.Common.{◌≡◌, take}
+use Rattle.refspec_io.specs.Messages.{ReportsRefusals}
 use Rattle.refspec_commands.specs.Canon.{AddsCanonical}
-use Rattle.refspec_commands.specs.Messages.{ReportsRefusals}
 use Rattle.refspec_commands.proofs.canon.report_canon.Given as goal
 
 abbrev pub invariant-loop-checked : goal.invariant-loop-checked

@@ -1,11 +1,11 @@
 -- The text is a name that is shown, or in JSON a member of an object.
 use Rattle.std.proofs.Common.{ℕ, List, [], ◌∷◌, subst, sym}
 use Rattle.bstr.specs.Owned.{bstring_bytes}
-use Rattle.refspec_commands.specs.declared.call.Form.{Form}
+use Rattle.refspec_io.specs.declared.call.Form.{Form}
+use Rattle.refspec_io.specs.Shown.{AddsNames}
+use Rattle.refspec_io.proofs.ShownLemmas.{on_ok}
 use Rattle.refspec_commands.specs.Canon.{AddsCanonicalName}
-use Rattle.refspec_commands.specs.Shown.{AddsNames}
 use Rattle.refspec_commands.proofs.CanonLemmas.{AddsCanonicalName-shown}
-use Rattle.refspec_commands.proofs.ShownLemmas.{on_ok}
 use Rattle.refspec_commands.proofs.canon.report_canonical.Goals as goal
 
 pub returns-in-Json-clause-reported : goal.returns-in-Json-clause-reported

@@ -1,8 +1,8 @@
 -- The canonical text of a spec is reported; any other text is refused.
 use Rattle.std.proofs.Common.{ap}
+use Rattle.refspec_io.proofs.MessageLemmas.{ReportsRefusals-bad, ReportsRefusals-good}
+use Rattle.refspec_io.proofs.ShownLemmas.{on_ok}
 use Rattle.refspec_commands.proofs.CanonLemmas.{AddsCanonical-bad, AddsCanonical-good}
-use Rattle.refspec_commands.proofs.MessageLemmas.{ReportsRefusals-bad, ReportsRefusals-good}
-use Rattle.refspec_commands.proofs.ShownLemmas.{on_ok}
 use Rattle.refspec_commands.proofs.canon.report_checked.Goals as goal
 
 pub returns-in-Bad-clause-reported : goal.returns-in-Bad-clause-reported

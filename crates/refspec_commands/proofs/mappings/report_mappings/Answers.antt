@@ -1,8 +1,8 @@
 -- There is a lemma for each form.
 use Rattle.std.proofs.Common.{map}
 use Rattle.bstr.specs.Owned.{bstring_bytes}
-use Rattle.refspec_commands.proofs.RowLemmas.{AddsMappings-json, AddsMappings-lines, AddsMappings-zeros}
-use Rattle.refspec_commands.proofs.ShownLemmas.{on_ok}
+use Rattle.refspec_io.proofs.RowLemmas.{AddsMappings-json, AddsMappings-lines, AddsMappings-zeros}
+use Rattle.refspec_io.proofs.ShownLemmas.{on_ok}
 use Rattle.refspec_commands.proofs.mappings.report_mappings.Goals as goal
 
 pub returns-in-Lines-clause-reported : goal.returns-in-Lines-clause-reported

@@ -1,10 +1,10 @@
 -- The fields are the destination, the source and the text of the spec.
 use Rattle.std.proofs.Common.{◌++◌, [], ap, ◌∙◌}
 use Rattle.gix_refspec.specs.Views.Group.{mapped_of}
-use Rattle.refspec_commands.specs.Rows.{mapped_row}
-use Rattle.refspec_commands.specs.Shown.{zero_ended}
-use Rattle.refspec_commands.proofs.RowLemmas.{fields-of}
-use Rattle.refspec_commands.proofs.ShownLemmas.{on_ok}
+use Rattle.refspec_io.specs.Rows.{mapped_row}
+use Rattle.refspec_io.specs.Shown.{zero_ended}
+use Rattle.refspec_io.proofs.RowLemmas.{fields-of}
+use Rattle.refspec_io.proofs.ShownLemmas.{on_ok}
 use Rattle.refspec_commands.proofs.mappings.write_fields.Goals as goal
 
 pub returns : goal.returns

@@ -1,9 +1,9 @@
 -- Each member is that of the mapping.
 use Rattle.std.proofs.Common.{option_map, ap, ◌∙◌}
 use Rattle.gix_refspec.specs.Views.Group.{mapped_of}
-use Rattle.refspec_commands.specs.Json.{json_text}
-use Rattle.refspec_commands.proofs.RowLemmas.{mapped_object-of}
-use Rattle.refspec_commands.proofs.ShownLemmas.{on_ok}
+use Rattle.refspec_io.specs.Json.{json_text}
+use Rattle.refspec_io.proofs.RowLemmas.{mapped_object-of}
+use Rattle.refspec_io.proofs.ShownLemmas.{on_ok}
 use Rattle.refspec_commands.proofs.mappings.write_object.Goals as goal
 
 pub returns : goal.returns

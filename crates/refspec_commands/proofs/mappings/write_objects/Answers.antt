@@ -3,8 +3,8 @@ use Rattle.std.proofs.Common.{ℕ, List, map, ap, ◌∙◌}
 use Rattle.bstr.specs.Owned.{bstring_bytes}
 use Rattle.gix_refspec.specs.Views.Group.{mapped_of}
 use Rattle.gix_refspec_match.specs.declared.types.Mapping.{Mapping}
-use Rattle.refspec_commands.specs.Rows.{mapped_object, object_of}
-use Rattle.refspec_commands.proofs.ShownLemmas.{flat_next}
+use Rattle.refspec_io.specs.Rows.{mapped_object, object_of}
+use Rattle.refspec_io.proofs.ShownLemmas.{flat_next}
 use Rattle.refspec_commands.proofs.mappings.write_objects.Goals as goal
 
 pub loop-mapping-preserved : goal.loop-mapping-preserved

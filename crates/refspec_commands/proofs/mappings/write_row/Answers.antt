@@ -1,8 +1,8 @@
 -- The line is two cells, the text of the spec and a newline.
 use Rattle.std.proofs.Common.{ℕ, List, codes, subst}
 use Rattle.gix_refspec.specs.Views.Group.{mapped_of}
-use Rattle.refspec_commands.specs.Rows.{WritesCell, mapped_row}
-use Rattle.refspec_commands.proofs.RowLemmas.{WritesLine-of}
+use Rattle.refspec_io.specs.Rows.{WritesCell, mapped_row}
+use Rattle.refspec_io.proofs.RowLemmas.{WritesLine-of}
 use Rattle.refspec_commands.proofs.mappings.write_row.Goals as goal
 
 pub returns : goal.returns

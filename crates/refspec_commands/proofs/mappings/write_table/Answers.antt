@@ -3,8 +3,8 @@ use Rattle.std.proofs.Common.{ℕ, List, [], map, codes, sym, ap, ◌∙◌, sub
 use Rattle.bstr.specs.Owned.{bstring_bytes}
 use Rattle.gix_refspec.specs.Views.Group.{mapped_of}
 use Rattle.gix_refspec_match.specs.declared.types.Mapping.{Mapping}
-use Rattle.refspec_commands.specs.Rows.{AddsLines, mapped_row, row_of}
-use Rattle.refspec_commands.proofs.RowLemmas.{AddsLines-next, AddsLines-start}
+use Rattle.refspec_io.specs.Rows.{AddsLines, mapped_row, row_of}
+use Rattle.refspec_io.proofs.RowLemmas.{AddsLines-next, AddsLines-start}
 use Rattle.refspec_commands.proofs.mappings.write_table.Goals as goal
 
 pub loop-mapping-init : goal.loop-mapping-init

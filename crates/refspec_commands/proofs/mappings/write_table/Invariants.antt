@@ -2,7 +2,7 @@
 use Rattle.std.proofs.Common.{map, take, codes}
 use Rattle.bstr.specs.Owned.{bstring_bytes}
 use Rattle.gix_refspec.specs.Views.Group.{mapped_of}
-use Rattle.refspec_commands.specs.Rows.{AddsLines, row_of}
+use Rattle.refspec_io.specs.Rows.{AddsLines, row_of}
 use Rattle.refspec_commands.proofs.mappings.write_table.Given as goal
 
 abbrev pub invariant-loop-mapping : goal.invariant-loop-mapping

@@ -4,8 +4,8 @@ use Rattle.gix_refspec.specs.Views.Spec.{reading_of}
 use Rattle.gix_refspec_text.specs.declared.spec.RefSpecRef.{RefSpecRef}
 use Rattle.refspec_commands.specs.Prefixes.{AreOthers}
 use Rattle.refspec_commands.proofs.PrefixLemmas.{AreOthers-other, AreOthers-whole}
-use Rattle.refspec_commands.proofs.prefixes.others_of.Goals as goal
 use Rattle.refspec_commands.proofs.prefixes.others_of.Goals.{then-not-takes_whole+in_ok-push, else-not-takes_whole}
+use Rattle.refspec_commands.proofs.prefixes.others_of.Goals as goal
 
 pub loop-spec-init : goal.loop-spec-init
 loop-spec-init c = ap (map reading_of) c.in_ok-others.ensures.items

@@ -1,8 +1,8 @@
 -- The prefixes are after `refs/`, or alone.
 use Rattle.std.proofs.Common.{map, refl}
 use Rattle.bstr.specs.Owned.{bstring_bytes}
+use Rattle.refspec_io.proofs.ShownLemmas.{on_ok}
 use Rattle.refspec_commands.proofs.PrefixLemmas.{AddsList-own, AddsList-whole}
-use Rattle.refspec_commands.proofs.ShownLemmas.{on_ok}
 use Rattle.refspec_commands.proofs.prefixes.report_asked.Goals as goal
 
 pub returns-then-has_whole : goal.returns-then-has_whole

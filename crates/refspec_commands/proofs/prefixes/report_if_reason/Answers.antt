@@ -4,8 +4,8 @@ use Rattle.bstr.specs.Owned.{bstring_bytes}
 use Rattle.gix_refspec.specs.Matching.Asked.{ListsGroup}
 use Rattle.gix_refspec.specs.Views.Spec.{reading_of}
 use Rattle.gix_refspec_text.specs.declared.spec.RefSpecRef.{RefSpecRef}
+use Rattle.refspec_io.proofs.JsonLemmas.{AddsObjects-none}
 use Rattle.refspec_commands.specs.Prefixes.{IsReason}
-use Rattle.refspec_commands.proofs.JsonLemmas.{AddsObjects-none}
 use Rattle.refspec_commands.proofs.prefixes.report_if_reason.Goals as goal
 
 pub returns-clause-reported : goal.returns-clause-reported

@@ -1,8 +1,8 @@
 -- The list is empty or not.
 use Rattle.std.proofs.Common.{map}
 use Rattle.bstr.specs.Owned.{bstring_bytes}
-use Rattle.refspec_commands.proofs.PrefixLemmas.{AddsList-none, AddsList-of, no_names, some_names}
-use Rattle.refspec_commands.proofs.ShownLemmas.{on_ok}
+use Rattle.refspec_io.proofs.ShownLemmas.{no_names, on_ok, some_names}
+use Rattle.refspec_commands.proofs.PrefixLemmas.{AddsList-none, AddsList-of}
 use Rattle.refspec_commands.proofs.prefixes.report_list.Goals as goal
 
 pub returns-then-is_empty : goal.returns-then-is_empty

@@ -1,8 +1,8 @@
 -- In JSON the report is an object; else it is a line, or nothing.
 use Rattle.std.proofs.Common.{subst, sym}
-use Rattle.refspec_commands.specs.declared.call.Form.{Form}
+use Rattle.refspec_io.specs.declared.call.Form.{Form}
+use Rattle.refspec_io.proofs.ShownLemmas.{on_ok}
 use Rattle.refspec_commands.specs.Prefixes.{AddsNothing}
-use Rattle.refspec_commands.proofs.ShownLemmas.{on_ok}
 use Rattle.refspec_commands.proofs.prefixes.report_nothing.Goals as goal
 
 pub returns-in-Json : goal.returns-in-Json

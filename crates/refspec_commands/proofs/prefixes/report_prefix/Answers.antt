@@ -1,9 +1,9 @@
 -- In lines and records the prefix is a name that is shown.
 use Rattle.std.proofs.Common.{Bool, [], ◌∷◌, subst, sym}
+use Rattle.refspec_io.specs.Shown.{AddsNames}
+use Rattle.refspec_io.proofs.ShownLemmas.{on_ok}
 use Rattle.refspec_commands.specs.Prefixes.{argument, request}
-use Rattle.refspec_commands.specs.Shown.{AddsNames}
 use Rattle.refspec_commands.proofs.PrefixLemmas.{AddsRequests-shown}
-use Rattle.refspec_commands.proofs.ShownLemmas.{on_ok}
 use Rattle.refspec_commands.proofs.prefixes.report_prefix.Goals as goal
 
 pub returns : goal.returns

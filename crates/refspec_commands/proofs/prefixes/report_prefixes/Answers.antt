@@ -4,9 +4,9 @@ use Rattle.bstr.specs.Owned.{bstring_bytes}
 use Rattle.bstr.specs.declared.bstring.BString.{BString}
 use Rattle.gix_refspec.specs.Views.Spec.{reading_of}
 use Rattle.gix_refspec_text.specs.declared.spec.RefSpecRef.{RefSpecRef}
+use Rattle.refspec_io.proofs.ShownLemmas.{on_ok}
 use Rattle.refspec_commands.specs.Prefixes.{AddsList, AreOthers, ListsAsked, asked_with}
 use Rattle.refspec_commands.proofs.PrefixLemmas.{has_whole_if}
-use Rattle.refspec_commands.proofs.ShownLemmas.{on_ok}
 use Rattle.refspec_commands.proofs.prefixes.report_prefixes.Goals as goal
 
 pub returns : goal.returns

@@ -2,10 +2,10 @@
 use Rattle.std.proofs.Common.{Some, ap, codes, inl, refl, sym, ◌∙◌}
 use Rattle.gix_refspec.specs.Views.Spec.{reading_of}
 use Rattle.refspec_json.specs.Objects.{line_of, noted_object}
-use Rattle.refspec_commands.specs.Json.{json_text}
+use Rattle.refspec_io.specs.Json.{json_text}
+use Rattle.refspec_io.proofs.JsonLemmas.{AddsObjects-one}
+use Rattle.refspec_io.proofs.ShownLemmas.{on_ok}
 use Rattle.refspec_commands.specs.Prefixes.{IsReason}
-use Rattle.refspec_commands.proofs.JsonLemmas.{AddsObjects-one}
-use Rattle.refspec_commands.proofs.ShownLemmas.{on_ok}
 use Rattle.refspec_commands.proofs.prefixes.report_reason.Goals as goal
 
 pub returns-in-Json-clause-reported : goal.returns-in-Json-clause-reported

@@ -1,5 +1,5 @@
 -- The message of the object is the sentence.
-use Rattle.refspec_commands.proofs.ShownLemmas.{on_ok}
+use Rattle.refspec_io.proofs.ShownLemmas.{on_ok}
 use Rattle.refspec_commands.proofs.prefixes.write_nothing.Goals as goal
 
 pub returns : goal.returns

@@ -2,9 +2,9 @@
 use Rattle.std.proofs.Common.{List, map, subst}
 use Rattle.gix_refspec.specs.Views.Spec.{reading_of}
 use Rattle.gix_refspec_text.specs.declared.spec.RefSpecRef.{RefSpecRef}
-use Rattle.refspec_commands.specs.Fetch.{AddsFetch}
+use Rattle.refspec_io.proofs.ShownLemmas.{if_ok}
+use Rattle.refspec_plans.specs.Fetch.{AddsFetch}
 use Rattle.refspec_commands.proofs.OutputLemmas.{AddsFound-fetch, AddsFound-prefixes, AddsFound-track}
-use Rattle.refspec_commands.proofs.ShownLemmas.{if_ok}
 use Rattle.refspec_commands.proofs.run.report_found.Goals as goal
 
 pub returns-in-Plan : goal.returns-in-Plan

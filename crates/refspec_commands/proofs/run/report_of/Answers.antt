@@ -1,7 +1,7 @@
 -- The output is the report on the checked texts, or on the keys without a value.
 use Rattle.std.proofs.Common.{ℕ, List, refl, sym, subst}
-use Rattle.refspec_commands.specs.Settings.{AreSettingsOf, HasLacking}
-use Rattle.refspec_commands.specs.declared.settings.Setting.{Setting}
+use Rattle.refspec_io.specs.Settings.{AreSettingsOf, HasLacking}
+use Rattle.refspec_io.specs.declared.settings.Setting.{Setting}
 use Rattle.refspec_commands.proofs.OutputLemmas.{IsOutput-lacking, IsOutput-of}
 use Rattle.refspec_commands.proofs.run.report_of.Goals as goal
 

@@ -1,8 +1,8 @@
 -- Except for `canon`, `check` and `explain`, a command reports its results, or that some text is refused.
 use Rattle.std.proofs.Common.{inl, map}
 use Rattle.gix_refspec.specs.Views.Spec.{reading_of}
+use Rattle.refspec_io.proofs.ShownLemmas.{if_ok}
 use Rattle.refspec_commands.proofs.OutputLemmas.{Reports-found}
-use Rattle.refspec_commands.proofs.ShownLemmas.{if_ok}
 use Rattle.refspec_commands.proofs.run.report_results.Goals as goal
 
 pub returns-in-Some : goal.returns-in-Some

@@ -1,9 +1,9 @@
 -- A refused text is reported; a spec is skipped.
 use Rattle.std.proofs.Common.{refl}
-use Rattle.refspec_commands.specs.Read.{IsRefusalOf}
-use Rattle.refspec_commands.proofs.JsonLemmas.{AddsObjects-none, AddsObjects-refusal}
-use Rattle.refspec_commands.proofs.MessageLemmas.{ReportsRefusals-bad, ReportsRefusals-good}
-use Rattle.refspec_commands.proofs.ShownLemmas.{on_ok}
+use Rattle.refspec_io.specs.Read.{IsRefusalOf}
+use Rattle.refspec_io.proofs.JsonLemmas.{AddsObjects-none, AddsObjects-refusal}
+use Rattle.refspec_io.proofs.MessageLemmas.{ReportsRefusals-bad, ReportsRefusals-good}
+use Rattle.refspec_io.proofs.ShownLemmas.{on_ok}
 use Rattle.refspec_commands.proofs.specs.refuse_bad.Goals as goal
 
 pub returns-in-Bad-clause-reported : goal.returns-in-Bad-clause-reported

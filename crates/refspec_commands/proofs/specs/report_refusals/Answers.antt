@@ -1,8 +1,8 @@
 -- Each refusal is reported after the others.
 use Rattle.std.proofs.Common.{◌<◌, ◌∙◌, arith, length, refl}
-use Rattle.refspec_commands.specs.Read.{IsRefusalOf}
-use Rattle.refspec_commands.proofs.JsonLemmas.{AddsObjects-all, AddsObjects-more, AddsObjects-start}
-use Rattle.refspec_commands.proofs.MessageLemmas.{ReportsRefusals-all, ReportsRefusals-next}
+use Rattle.refspec_io.specs.Read.{IsRefusalOf}
+use Rattle.refspec_io.proofs.JsonLemmas.{AddsObjects-all, AddsObjects-more, AddsObjects-start}
+use Rattle.refspec_io.proofs.MessageLemmas.{ReportsRefusals-all, ReportsRefusals-next}
 use Rattle.refspec_commands.proofs.specs.report_refusals.Goals as goal
 
 pub loop-checked-init : goal.loop-checked-init

@@ -1,8 +1,8 @@
 -- the refusals so far were reported
 use Rattle.std.proofs.Common.{◌≡◌, take}
-use Rattle.refspec_commands.specs.Json.{AddsObjects}
-use Rattle.refspec_commands.specs.Messages.{ReportsRefusals}
-use Rattle.refspec_commands.specs.Read.{IsRefusalOf}
+use Rattle.refspec_io.specs.Json.{AddsObjects}
+use Rattle.refspec_io.specs.Messages.{ReportsRefusals}
+use Rattle.refspec_io.specs.Read.{IsRefusalOf}
 use Rattle.refspec_commands.proofs.specs.report_refusals.Given as goal
 
 abbrev pub invariant-loop-checked : goal.invariant-loop-checked

@@ -1,10 +1,10 @@
 -- Each text is refused, or the messages stay as they were.
 use Rattle.std.proofs.Common.{◌<◌, ◌∙◌, ap, length, refl, subst, sym, arith}
-use Rattle.refspec_commands.specs.declared.report.Report.{Report}
-use Rattle.refspec_commands.specs.Messages.{ReportsRefusal}
-use Rattle.refspec_commands.proofs.MessageLemmas.{ReportsRefusals-all, ReportsRefusals-bad, ReportsRefusals-good, ReportsRefusals-next}
-use Rattle.refspec_commands.proofs.specs.report_specs.Goals as goal
+use Rattle.refspec_io.specs.declared.report.Report.{Report}
+use Rattle.refspec_io.specs.Messages.{ReportsRefusal}
+use Rattle.refspec_io.proofs.MessageLemmas.{ReportsRefusals-all, ReportsRefusals-bad, ReportsRefusals-good, ReportsRefusals-next}
 use Rattle.refspec_commands.proofs.specs.report_specs.Goals.{in-Bad+in_ok-report_refusal-in-Bad, in-Good+in_ok-report_spec-in-Good}
+use Rattle.refspec_commands.proofs.specs.report_specs.Goals as goal
 
 pub loop-checked-init : goal.loop-checked-init
 loop-checked-init c = record { form = refl; reported = refl }

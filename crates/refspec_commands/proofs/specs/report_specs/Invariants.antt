@@ -1,6 +1,6 @@
 -- the refusals so far were reported
 use Rattle.std.proofs.Common.{◌≡◌, take}
-use Rattle.refspec_commands.specs.Messages.{ReportsRefusals}
+use Rattle.refspec_io.specs.Messages.{ReportsRefusals}
 use Rattle.refspec_commands.proofs.specs.report_specs.Given as goal
 
 abbrev pub invariant-loop-checked : goal.invariant-loop-checked

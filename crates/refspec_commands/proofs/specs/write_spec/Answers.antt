@@ -2,11 +2,11 @@
 use Rattle.std.proofs.Common.{option_map, ap, subst, sym, ◌∙◌}
 use Rattle.bstr.specs.Owned.{bstring_bytes}
 use Rattle.refspec_json.specs.Views.{kind_name}
-use Rattle.refspec_commands.specs.Json.{json_text}
-use Rattle.refspec_commands.specs.Messages.{IsLocation}
-use Rattle.refspec_commands.specs.declared.call.Form.TheVariants as form
-use Rattle.refspec_commands.proofs.JsonLemmas.{WritesSpec-of}
-use Rattle.refspec_commands.proofs.ShownLemmas.{on_ok}
+use Rattle.refspec_io.specs.Json.{json_text}
+use Rattle.refspec_io.specs.Messages.{IsLocation}
+use Rattle.refspec_io.specs.declared.call.Form.TheVariants as form
+use Rattle.refspec_io.proofs.JsonLemmas.{WritesSpec-of}
+use Rattle.refspec_io.proofs.ShownLemmas.{on_ok}
 use Rattle.refspec_commands.proofs.specs.write_spec.Goals as goal
 
 pub returns : goal.returns

@@ -1,13 +1,13 @@
 -- A spec is kept unless its destination is an id.
 use Rattle.std.proofs.Common.{◌+◌, Vec, Global, ap, map, subst, sym, take}
 use Rattle.gix_refspec_text.specs.declared.spec.RefSpecRef.{RefSpecRef}
-use Rattle.refspec_commands.specs.Shown.{KeepsReport}
+use Rattle.refspec_io.specs.Shown.{KeepsReport}
 use Rattle.refspec_commands.specs.Track.{AreByNames}
 use Rattle.gix_refspec.specs.Views.Spec.{reading_of}
-use Rattle.refspec_commands.proofs.ShownLemmas.{KeepsReport-next, KeepsReport-same}
+use Rattle.refspec_io.proofs.ShownLemmas.{KeepsReport-next, KeepsReport-same}
 use Rattle.refspec_commands.proofs.TrackLemmas.{AreByNames-all, AreByNames-kept, AreByNames-left}
-use Rattle.refspec_commands.proofs.track.by_names.Goals as goal
 use Rattle.refspec_commands.proofs.track.by_names.Goals.{then-has_id_destination+in_ok-report_to_object, else-has_id_destination+in_ok-push}
+use Rattle.refspec_commands.proofs.track.by_names.Goals as goal
 
 pub loop-spec-init : goal.loop-spec-init
 loop-spec-init c = record { kept = ap (map reading_of) c.in_ok-kept.ensures.items; report = KeepsReport-same c.args.report.now }

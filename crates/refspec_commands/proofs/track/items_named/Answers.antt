@@ -1,8 +1,8 @@
 -- Each name adds one ref.
 use Rattle.std.proofs.Common.{ℕ, List, [], Bor, ◌∙◌}
 use Rattle.gix_refspec.specs.Views.Group.{ref_of}
+use Rattle.refspec_io.proofs.TextLemmas.{seen_next}
 use Rattle.refspec_commands.specs.Track.{named}
-use Rattle.refspec_commands.proofs.TextLemmas.{seen_next}
 use Rattle.refspec_commands.proofs.TrackLemmas.{named_of}
 use Rattle.refspec_commands.proofs.track.items_named.Goals as goal
 

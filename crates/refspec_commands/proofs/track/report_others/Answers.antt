@@ -2,11 +2,11 @@
 use Rattle.std.proofs.Common.{Bool, Bor, List, ℕ, ◌++◌, ◌∷◌, [], map, take, sym, subst, ◌∙◌}
 use Rattle.std.proofs.lemmas.Bool.{false≢true}
 use Rattle.gix_refspec.specs.Views.Group.{mapped_of}
-use Rattle.refspec_commands.specs.Shown.{KeepsReport}
-use Rattle.refspec_commands.proofs.ShownLemmas.{KeepsReport-next, KeepsReport-same}
+use Rattle.refspec_io.specs.Shown.{KeepsReport}
+use Rattle.refspec_io.proofs.ShownLemmas.{KeepsReport-next, KeepsReport-same}
 use Rattle.refspec_commands.proofs.TrackLemmas.{Reports, Reports-all, Reports-next, Reports-unwritten, Reports-written}
-use Rattle.refspec_commands.proofs.track.report_others.Goals as goal
 use Rattle.refspec_commands.proofs.track.report_others.Goals.{then-not-contains+in_ok-report_untracked, else-not-contains}
+use Rattle.refspec_commands.proofs.track.report_others.Goals as goal
 
 pub loop-name-init : goal.loop-name-init
 loop-name-init c = record { kept = KeepsReport-same c.args.report.now; reported = tt }

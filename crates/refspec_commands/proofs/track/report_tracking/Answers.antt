@@ -5,7 +5,7 @@ use Rattle.bstr.specs.declared.bstring.BString.{BString}
 use Rattle.gix_refspec.specs.Views.Group.{mapped_of, ref_of}
 use Rattle.gix_refspec.specs.Views.Spec.{reading_of}
 use Rattle.gix_refspec_text.specs.declared.spec.RefSpecRef.{RefSpecRef}
-use Rattle.refspec_commands.specs.Rows.{AreSpecTexts}
+use Rattle.refspec_io.specs.Rows.{AreSpecTexts}
 use Rattle.refspec_commands.specs.Track.{AreByNames, named}
 use Rattle.gix_refspec_match.specs.declared.types.Mapping.{Mapping}
 use Rattle.refspec_commands.proofs.TrackLemmas.{AddsTracked-of, Refuses-fewer, Refuses-whole, Reports}

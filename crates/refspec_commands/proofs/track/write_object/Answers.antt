@@ -1,7 +1,7 @@
 -- The members of the object are the name and the sentence.
 use Rattle.std.proofs.Common.{◌++◌, ap, ◌∙◌}
 use Rattle.refspec_json.specs.Objects.{line_of, untracked_object}
-use Rattle.refspec_commands.proofs.ShownLemmas.{on_ok}
+use Rattle.refspec_io.proofs.ShownLemmas.{on_ok}
 use Rattle.refspec_commands.proofs.track.write_object.Goals as goal
 
 pub returns : goal.returns

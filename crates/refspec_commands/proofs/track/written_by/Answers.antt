@@ -5,8 +5,8 @@ use Rattle.gix_refspec.specs.Views.Group.{mapped_of, name_bytes}
 use Rattle.gix_refspec_match.specs.declared.types.Mapping.{Mapping}
 use Rattle.refspec_commands.specs.Track.{AreWritten}
 use Rattle.refspec_commands.proofs.TrackLemmas.{AreWritten-more, AreWritten-next, AreWritten-none, AreWritten-start}
-use Rattle.refspec_commands.proofs.track.written_by.Goals as goal
 use Rattle.refspec_commands.proofs.track.written_by.Goals.{in-Some+in_ok-insert, in_default}
+use Rattle.refspec_commands.proofs.track.written_by.Goals as goal
 
 pub loop-mapping-init : goal.loop-mapping-init
 loop-mapping-init c = AreWritten-start c.new-written.result c.new-written.ensures.empty

@@ -1,9 +1,0 @@
--- the lines of the updates so far were written
-use Rattle.std.proofs.Common.{map, take}
-use Rattle.gix_refspec.specs.Views.Plan.{planned_of}
-use Rattle.refspec_commands.specs.Groups.{AddsShort}
-use Rattle.refspec_commands.specs.Verdicts.{written_of}
-use Rattle.refspec_commands.proofs.groups.write_rows.Given as goal
-
-abbrev pub invariant-loop-update : goal.invariant-loop-update
-invariant-loop-update l = AddsShort (written_of (map planned_of (take l.update-index l.updates))) l.fn.out.items l.out.items

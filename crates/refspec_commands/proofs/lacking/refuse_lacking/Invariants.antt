@@ -1,6 +1,0 @@
--- the results are as they were; in JSON objects may have been appended
-use Rattle.refspec_commands.specs.Shown.{KeepsReport}
-use Rattle.refspec_commands.proofs.lacking.refuse_lacking.Given as goal
-
-abbrev pub invariant-loop-setting : goal.invariant-loop-setting
-invariant-loop-setting l = KeepsReport l.fn.report l.report

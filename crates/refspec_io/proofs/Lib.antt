@@ -1,0 +1,12 @@
+pub mod facts
+pub mod RecordLemmas
+pub mod CheckedLemmas
+pub mod ShownLemmas
+pub mod TextLemmas
+pub mod RowLemmas
+pub mod RefLemmas
+pub mod SettingLemmas
+pub mod MessageLemmas
+pub mod JsonLemmas
+pub mod CountLemmas
+pub mod MalformedLemmas

@@ -1,0 +1,12 @@
+pub mod Counts
+pub mod Fault
+pub mod Input
+pub mod Json
+pub mod Malformed
+pub mod Messages
+pub mod Read
+pub mod Refs
+pub mod Rows
+pub mod Settings
+pub mod Shown
+pub mod Texts

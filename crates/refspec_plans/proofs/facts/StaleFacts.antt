@@ -1,0 +1,50 @@
+-- Local refs that a fetch deletes or keeps, and how they are written.
+use Rattle.std.proofs.Common.{◌≡◌, ℕ, List, [], ◌∷◌, ◌++◌, None, Some, inl, codes, length, refl, ap, arith}
+use Rattle.gix_refspec.specs.Specs.Grammar.{fetched}
+use Rattle.gix_refspec.specs.Specs.Reading.{Normal, Reading}
+use Rattle.gix_refspec.specs.Matching.Match.{Ref}
+use Rattle.gix_refspec.specs.Matching.Stale.{Found}
+use Rattle.refspec_io.specs.declared.call.Form.TheVariants as form
+use Rattle.refspec_plans.specs.declared.stale.Place.TheVariants as place
+use Rattle.refspec_plans.specs.Stale.{AddsDeleted, AreHeaded, deleted_names, kept_refs, name_fields, pruning_specs}
+
+abbrev a_spec : Reading
+a_spec = fetched Normal (codes "a") None
+
+abbrev b_spec : Reading
+b_spec = fetched Normal (codes "b") None
+
+-- the configured specs prune only without a given one
+pub pruning : (pruning_specs (a_spec ∷ []) (b_spec ∷ []) ≡ a_spec ∷ []) × (pruning_specs [] (b_spec ∷ []) ≡ b_spec ∷ [])
+    × (pruning_specs (a_spec ∷ []) [] ≡ a_spec ∷ [])
+pruning = (refl, refl, refl)
+
+abbrev local_ref : List ℕ → Ref
+local_ref name = record { name = name; target = []; object = None }
+
+abbrev locals : List Ref
+locals = local_ref (codes "refs/x/a") ∷ local_ref (codes "refs/x/b") ∷ local_ref (codes "refs/x/c") ∷ []
+
+-- the last and the first are deleted, and the second spec keeps the one between
+abbrev found : List Found
+found = record { item = 2; kept_by = None } ∷ record { item = 1; kept_by = Some 1 } ∷ record { item = 0; kept_by = None } ∷ []
+
+pub parted : (deleted_names locals found ≡ codes "refs/x/c" ∷ codes "refs/x/a" ∷ [])
+    × (kept_refs (codes "refs/*:refs/x/*" ∷ codes "^refs/b" ∷ []) locals found ≡ record { name = codes "refs/x/b"; spec = codes "^refs/b" } ∷ [])
+parted = (refl, refl)
+
+-- a heading stands above names, and nowhere else
+pub headed : AreHeaded (codes "a" ∷ []) (codes "(stale)\n  a\n") × AreHeaded [] []
+headed = ((codes "  a\n", (codes "a", [], inl refl, refl, refl), refl), refl)
+
+pub no_heading : ¬ (AreHeaded [] (codes "(stale)\n")) × ¬ (AreHeaded (codes "a" ∷ []) (codes "  a\n")) × ¬ (AreHeaded (codes "a" ∷ []) [])
+no_heading = ((λ is. omega (arith, ap length is)), (λ is. omega (arith, ap length is.2)), λ is. omega (arith, ap length is.2))
+
+-- four fields, of which the second is the name
+pub fields : name_fields (codes "ab") ≡ 0 ∷ 97 ∷ 98 ∷ 0 ∷ 0 ∷ 115 ∷ 116 ∷ 97 ∷ 108 ∷ 101 ∷ 0 ∷ []
+fields = refl
+
+-- the name alone, if there is nothing else among the results
+pub alone : AddsDeleted place.Alone form.Zeros (codes "ab" ∷ []) (codes "x") (codes "x" ++ (97 ∷ 98 ∷ 0 ∷ []))
+    × AddsDeleted place.Alone form.Lines (codes "ab" ∷ []) (codes "x") (codes "xab\n")
+alone = (refl, (codes "ab\n", (codes "ab", [], inl refl, refl, refl), refl))

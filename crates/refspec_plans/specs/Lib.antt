@@ -1,0 +1,10 @@
+pub mod Conflicts
+pub mod Fetch
+pub mod Groups
+pub mod LeftOut
+pub mod Missing
+pub mod Origins
+pub mod Plan
+pub mod Stale
+pub mod Updates
+pub mod Verdicts
