@@ -54,7 +54,7 @@ FISH_FOLDER := share/fish/vendor_completions.d
 # What adds to the completion of Git is read when fish starts.
 FISH_START := share/fish/vendor_conf.d
 LICENCES := LICENSE-MIT LICENSE-APACHE
-PEOPLE_DOCS := docs/PROGRAMS.md docs/GIT.md docs/refspec.schema.json $(LICENCES)
+PEOPLE_DOCS := docs/GIT.md docs/refspec.schema.json $(LICENCES)
 
 install: build install-lib
 	@install -d $(addprefix $(TO)/,bin share/man/man1 $(BASH_FOLDER) $(ZSH_FOLDER) $(FISH_FOLDER) $(FISH_START) share/doc/refspec)
@@ -93,6 +93,7 @@ test: kit
 	@tools/claims.py
 	@tools/lemmas.py
 	@tools/walk.py
+	@tools/links.py
 	@tools/gate.sh $(LOGS)
 	@$(MAKE) --no-print-directory build
 	@tests/run.sh $(PROGRAM) $(TESTS) $(PEOPLE_PROGRAM)

@@ -232,7 +232,7 @@ def compare_manual(header, prototypes, in_header):
         sys.exit(f"bindings: docs/C.md has the prototypes {declared(manual)}, not {prototypes}")
     if fields(manual) != fields(header):
         sys.exit(f"bindings: docs/C.md has the structs {fields(manual)}, not {fields(header)}")
-    told = {name: int(number) for name, number in re.findall(r"`([A-Z_]+)` (\d+)", manual)}
+    told = numbers_of(manual)
     if told != in_header:
         sys.exit(f"bindings: docs/C.md has other numbers: {sorted(set(told.items()) ^ set(in_header.items()))}")
     for path in PROGRAMS:

@@ -1,10 +1,10 @@
 #!/usr/bin/env python3
-"""Runs the examples of README.md, each in a folder of its own, and compares what they print:
+"""Runs the examples of README.md and of the manual pages refspec.1 and refspec_map.1, and compares what they print:
 tests/readme.py PROGRAM REFSPEC
 
 PROGRAM is the built program refspec_map, and REFSPEC the built program refspec. The program in Rattle is run without
 proof, over a copy of the library; the lines of C, Rust and Python over out/lib, as `make lib` leaves it. Says what it
-leaves out for want of Git, rt, gcc, cargo or that archive.
+leaves out for want of Git, rt, gcc, cargo or that archive. tests/git-refspec.py runs the examples of git-refspec.1.
 """
 import os
 import re
@@ -40,10 +40,11 @@ edition = "2021"
 [dependencies]
 refspec = { path = "%s" }
 """
-# The repository of the lines of `git refspec`: its values, and the refs of its remote.
-VALUES = [("fetch", "+refs/heads/*:refs/remotes/origin/*"), ("fetch", "^refs/heads/topic/*"),
-          ("push", "main:refs/heads/a..b")]
-REFS = ["refs/heads/wip/x", "refs/tags/v1"] + [f"refs/heads/topic/{number}" for number in range(1_200)]
+# The refs of the remote whose clone the lines of `git refspec` and of refspec.1 run in, beside a branch `main`; a fetch value
+# that the clone gets, and a ref that only the clone has.
+REFS = ["refs/heads/dev", "refs/pull/7/head"]
+VALUE = "+refs/pull/*/head:refs/remotes/origin/pr/*"
+OLD = "refs/remotes/origin/old"
 
 
 def blocks(text, language, start=""):
@@ -61,7 +62,15 @@ def block(text, language, start=""):
 
 def compare(name, made, wanted):
     if made != wanted:
-        sys.exit(f"tests/readme.py: {name}\nprinted:\n{made}in README.md:\n{wanted}")
+        sys.exit(f"tests/readme.py: {name}\nprinted:\n{made}in the document:\n{wanted}")
+
+
+def manual_examples(page):
+    """The lines of the examples of a manual page, each block by itself."""
+    with open(os.path.join(ROOT, "man", page), encoding="utf-8") as file:
+        text = re.search(r"^\.Sh EXAMPLES\n(.*?)^\.Sh ", file.read(), re.M | re.S)[1]
+    found = re.findall(r"^\.Bd -literal[^\n]*\n(.*?)^\.Ed$", text, re.M | re.S)
+    return [lines.replace("\\e", "\\").replace("\\&", "") for lines in found]
 
 
 def run(words, folder, name, **more):
@@ -75,6 +84,8 @@ def run(words, folder, name, **more):
 def run_lines(lines, folder, env):
     """Runs each command of a console block, and compares both its streams with the lines below it."""
     commands = re.findall(r"^\$ (.*)\n((?:(?!\$ ).*\n)*)", lines, re.M)
+    if not commands:
+        sys.exit(f"tests/readme.py: no command in {lines!r}")
     for command, wanted in commands:
         made = subprocess.run(["bash", "-c", command], cwd=folder, env=env, text=True, stdout=subprocess.PIPE,
                               stderr=subprocess.STDOUT, check=False)
@@ -83,28 +94,35 @@ def run_lines(lines, folder, env):
 
 
 def git_folder(folder):
-    """A repository with the values above, whose remote has the refs above and a branch `main`."""
+    """A clone with the values and refs above."""
     env = {**os.environ, "GIT_CONFIG_GLOBAL": os.devnull, "GIT_CONFIG_NOSYSTEM": "1",
            **{f"GIT_{who}_{what}": "a@b" for who in ("AUTHOR", "COMMITTER") for what in ("NAME", "EMAIL")}}
     remote, local = os.path.join(folder, "remote"), os.path.join(folder, "local")
-    for path in (remote, local):
-        run(["git", "init", "-q", "-b", "main", path], folder, "git init", env=env)
+    run(["git", "init", "-q", "-b", "main", remote], folder, "git init", env=env)
     run(["git", "commit", "-q", "--allow-empty", "-m", "one"], remote, "git commit", env=env)
-    lines = "".join(f"create {name} HEAD\n" for name in REFS)
-    run(["git", "update-ref", "--stdin"], remote, "git update-ref", env=env, input=lines)
-    run(["git", "config", "remote.origin.url", remote], local, "git config", env=env)
-    for key, value in VALUES:
-        run(["git", "config", "--add", f"remote.origin.{key}", value], local, "git config", env=env)
+    for name in REFS:
+        run(["git", "update-ref", name, "HEAD"], remote, "git update-ref", env=env)
+    run(["git", "clone", "-q", remote, local], folder, "git clone", env=env)
+    run(["git", "config", "--add", "remote.origin.fetch", VALUE], local, "git config", env=env)
+    run(["git", "update-ref", OLD, "HEAD"], local, "git update-ref", env=env)
     return local, env
 
 
-def git_lines(text, folder, refspec):
+def lines_in_a_clone(text, folder, refspec, programs):
+    """The lines of README.md that begin with `git refspec`, and those of refspec.1."""
     if not shutil.which("git"):
-        return "left out is `git refspec`, as there is no Git"
+        return "left out are `git refspec` and refspec.1, as there is no Git"
     local, env = git_folder(folder)
-    env.update(GIT_REFSPEC_PROGRAM=refspec, PATH=os.path.join(ROOT, "bin") + os.pathsep + env["PATH"])
-    count = run_lines(block(text, "text", r"$ git refspec"), local, env)
-    return f"{count} commands of `git refspec`"
+    env.update(GIT_REFSPEC_PROGRAM=refspec, PATH=os.pathsep.join([programs, os.path.join(ROOT, "bin"), env["PATH"]]))
+    lines = [block(text, "console", "$ git refspec"), *manual_examples("refspec.1")]
+    return f"{sum(run_lines(one, local, env) for one in lines)} commands of git refspec and refspec.1"
+
+
+def lines_alone(text, folder, programs):
+    """The other lines of README.md, and those of refspec_map.1."""
+    env = {**os.environ, "PATH": programs + os.pathsep + os.environ["PATH"]}
+    lines = [one for one in blocks(text, "console") if not one.startswith("$ git")] + manual_examples("refspec_map.1")
+    return f"{sum(run_lines(one, folder, env) for one in lines)} commands of the programs and refspec_map.1"
 
 
 def rattle_program(text, folder):
@@ -173,13 +191,13 @@ def main():
         examples += [lines_of_c, lines_of_rust, lines_of_python]
     else:
         print("readme: left out are the lines of C, Rust and Python, as `make lib` has not built out/lib")
-    with tempfile.TemporaryDirectory() as folder:
-        os.symlink(program, os.path.join(folder, "refspec_map"))
-        os.symlink(refspec, os.path.join(folder, "refspec"))
-        env = {**os.environ, "PATH": folder + os.pathsep + os.environ["PATH"]}
-        done = [f"{sum(run_lines(lines, folder, env) for lines in blocks(text, 'console'))} commands of the programs"]
-    with tempfile.TemporaryDirectory() as folder:
-        done.append(git_lines(text, folder, refspec))
+    with tempfile.TemporaryDirectory() as programs:
+        os.symlink(program, os.path.join(programs, "refspec_map"))
+        os.symlink(refspec, os.path.join(programs, "refspec"))
+        with tempfile.TemporaryDirectory() as folder:
+            done = [lines_alone(text, folder, programs)]
+        with tempfile.TemporaryDirectory() as folder:
+            done.append(lines_in_a_clone(text, folder, refspec, programs))
     for example in examples:
         with tempfile.TemporaryDirectory() as folder:
             done.append(example(text, folder))

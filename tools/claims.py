@@ -1,14 +1,19 @@
 #!/usr/bin/env python3
-"""Checks the tables of docs/CLAIMS.md against the crates: tools/claims.py
+"""Checks what docs/ says of the crates' contracts: tools/claims.py
 
-Each function, clause, wrong body and test that they name has to exist, and each must-fail edit has to be named.
+Each function, clause, wrong body and test that the tables of docs/CLAIMS-TABLE.md name has to exist, and each must-fail edit has
+to be named there. Each block of docs/CALLING.md that begins with the path of a file has to be in that file, in one piece or in
+pieces between lines of `...`.
 """
 import os
 import re
 import sys
 
 ROOT = os.path.join(os.path.dirname(os.path.abspath(__file__)), os.pardir)
+TABLES = "docs/CLAIMS-TABLE.md"
+QUOTING = "docs/CALLING.md"
 SPAN = re.compile(r"`([^`]+)`")
+QUOTE = re.compile(r"^```\w*\n(?://|--) (crates/\S+)\n(.*?)^```$", re.M | re.S)
 
 
 def read(path):
@@ -39,6 +44,18 @@ def tables(text):
 
 def sources(folder):
     return "\n".join(read(path) for path in sorted(files_below(folder, ".rt")))
+
+
+def wrong_quotes(page):
+    """The pieces of the quotes on a page that aren't in the files that they name."""
+    found = QUOTE.findall(read(page))
+    if not found:
+        yield f"{page}: there is no quote"
+    for path, lines in found:
+        text = read(path)
+        for piece in re.split(r"^\.\.\.\n", lines, flags=re.M):
+            if piece.strip("\n") not in text:
+                yield f"{page}: not in {path}: {piece.strip().splitlines()[0]}"
 
 
 def main():
@@ -77,15 +94,16 @@ def main():
         "Wrong bodies": edits.__contains__,
         "Test": is_test,
     }
-    page = read("docs/CLAIMS.md")
+    page = read(TABLES)
     faults = []
     for number, row in tables(page):
         for column, exists in checks.items():
             for name in SPAN.findall(row.get(column, "")):
                 if not exists(name):
-                    faults.append(f"docs/CLAIMS.md:{number}: {column}: there is no {name}")
+                    faults.append(f"{TABLES}:{number}: {column}: there is no {name}")
     named = set(SPAN.findall(page))
-    faults += [f"docs/CLAIMS.md: {name} of must-fail/ is not named" for name in sorted(edits - named)]
+    faults += [f"{TABLES}: {name} of must-fail/ is not named" for name in sorted(edits - named)]
+    faults += wrong_quotes(QUOTING)
     for fault in faults:
         print(fault)
     return 1 if faults else 0

@@ -1,5 +1,5 @@
 #!/usr/bin/env python3
-"""Checks the walk of a spec and a ref in docs/CONTRIBUTING.md: tools/walk.py
+"""Checks the walk of a spec and a ref in docs/MAINTAINING.md: tools/walk.py
 
 The walk names each function of the library that is entered, by its file, and those that aren't. Each one has to exist, and
 what the entered ones call, as far as it is the library's, has to be named. So the walk stays whole, and as short as it says.
@@ -9,7 +9,7 @@ import re
 import sys
 
 ROOT = os.path.join(os.path.dirname(os.path.abspath(__file__)), os.pardir)
-PAGE = "docs/CONTRIBUTING.md"
+PAGE = "docs/MAINTAINING.md"
 LIBRARY = ("gix_refspec_text", "gix_refspec_match", "gix_refspec")
 FUNCTIONS, FILES = 32, 10
 STEP = re.compile(r"\d+\. `([^`]+\.rt)` of `(\w+)`: (.*)")

@@ -15,6 +15,8 @@ The inputs are made from a fixed seed. For `canon` they are 20,000 lines of some
 matching and validation are timed within one process, which links the original and the archive of `gix_refspec_bench`, built
 by `rt lib` there.
 
+With `--plot FILE` the times that a validation adds are drawn over the number of sources, as SVG.
+
 For `refspec`, `refspec plan` with three specs is measured against `sort` over the same 200,000 lines, as `git ls-remote`
 prints refs; both run with LC_ALL=C. The original has no part in it.
 """
@@ -34,7 +36,8 @@ sys.dont_write_bytecode = True
 HERE = os.path.dirname(os.path.abspath(__file__))
 sys.path.insert(0, os.path.join(HERE, os.pardir, "oracle"))
 import names  # beside this script
-import original as programs  # in tools/oracle, as the next one
+import original as programs  # in tools/oracle, as the next but one
+import plot  # beside this script
 import specs
 
 CRATES = os.path.join(HERE, os.pardir, os.pardir, "crates")
@@ -141,7 +144,7 @@ def instructions(words, text=None):
 
 
 def report(name, times, peaks, unit, counts=None):
-    """Prints the figures of a measure; times are in milliseconds. Returns the median of ours."""
+    """Prints the figures of a measure; times are in milliseconds. Returns the median of ours and of the original's."""
     ratios = sorted(ours / theirs for ours, theirs in times)
     our_time, their_time = (statistics.median(column) for column in zip(*times))
     ours, theirs = peaks
@@ -150,7 +153,7 @@ def report(name, times, peaks, unit, counts=None):
           f" {our_time:.3f} ms to {their_time:.3f} ms; peak {peak}{ours} {unit} to {theirs} {unit}"
           + (f"; instructions {shown(counts[0] / counts[1])}, {counts[0]} to {counts[1]}" if counts else ""),
           flush=True)
-    return our_time
+    return our_time, their_time
 
 
 def rustc(source, output, *words):
@@ -241,6 +244,7 @@ class Matching:
         self.runs = options.runs
         self.wanted = options.rows
         self.counts = options.instructions
+        self.medians = {}  # of both, by the name of a measure
         self.timing = build_matching(original, folder, False)
         self.counting = build_matching(original, folder, True)
 
@@ -259,7 +263,8 @@ class Matching:
         times = max(1, per_run // max(len(ref_names), len(spec_lines)))
         taken = numbers([self.timing, work, *files, str(times), str(runs + 1)])[1:]  # the first one warms up
         counts = [self.counted(work, files, side) for side in ("ours", "theirs")] if self.counts else None
-        return report(name, [[ns / 1e6 for ns in run] for run in taken], (our_peak, peak), "bytes", counts)
+        self.medians[name] = report(name, [[ns / 1e6 for ns in run] for run in taken], (our_peak, peak), "bytes", counts)
+        return self.medians[name][0]
 
     def measure_both(self, name, spec_lines, ref_names, **how):
         """The same, from left to right and then from right to left, with the sides of the specs swapped, so that the
@@ -365,16 +370,32 @@ def measure_hostile(matching, seed):
                           branches, per_run=1, runs=SLOW_RUNS)
 
 
+def name_of_sources(count):
+    return f"validation of {count} sources of one destination"
+
+
 def measure_validation(matching, seed):
     """What a validation adds to matching: of many mappings that may stay, and of more and more sources of one
     destination, and how our time for these grows."""
     matching.measure("validation of 70000 mappings", names.ONE_PATTERN, names.advertised(100_000, seed), "validate")
     growth = []
     for count in SOURCES:
-        taken = matching.measure(f"validation of {count} sources of one destination", names.to_one_destination(count),
+        taken = matching.measure(name_of_sources(count), names.to_one_destination(count),
                                  [b"refs/heads/main"], "validate", SOURCES[-1])
         growth.append((count, taken and taken / count ** 1.2))
     told_growth("n ** 1.2", growth)
+
+
+def plot_validation(path, rows):
+    """Draws rows of a number of sources, our time and the original's."""
+    write(path, plot.svg("Time of a validation, on logarithmic axes", "sources of one destination", rows).encode())
+
+
+def plot_measured(path, medians):
+    rows = [(count, *medians[name_of_sources(count)]) for count in SOURCES if name_of_sources(count) in medians]
+    if not rows:
+        sys.exit("bench: nothing to plot: no validation was measured")
+    plot_validation(path, rows)
 
 
 def main():
@@ -386,6 +407,7 @@ def main():
     parser.add_argument("--only", choices=KINDS)
     parser.add_argument("--rows", metavar="TEXT", help="only the measures within the process whose names have this text")
     parser.add_argument("--instructions", action="store_true", help="count instructions too, by callgrind")
+    parser.add_argument("--plot", metavar="FILE", help="draw the times of a validation as SVG")
     parser.add_argument("--colliding", metavar="FILE", help="names of branches whose hashes collide, one in each line")
     options = parser.parse_args()
 
@@ -413,6 +435,9 @@ def main():
             measure_validation(matching, options.seed)
             if options.colliding:
                 measure_colliding(matching, options.colliding)
+        if options.plot:
+            plot_measured(options.plot, matching.medians if IN_PROCESS & set(kinds) else {})
 
 
-main()
+if __name__ == "__main__":
+    main()

@@ -9,7 +9,7 @@ crate behind the same words. Its answers are compared. It has to know the word `
 process.
 
 It stops at a signal; at a status other than 0, 1 and 3, or one that doesn't fit the input; at a run of more than a
-second of processor time; at an answer without the form that docs/PROGRAMS.md states; where a canonical text isn't printed
+second of processor time; at an answer without the form that man/refspec_map.1 states; where a canonical text isn't printed
 again as it is, or a plan isn't made of what `lhs` maps; and at a difference that isn't known. It then keeps the
 input. It ends with counts. One seed and number of inputs always give the same inputs.
 """
