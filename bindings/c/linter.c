@@ -1,8 +1,8 @@
-/* Says which lines of its input are no refspecs for a fetch, and why:
+/* Reports the lines of its input that aren't refspecs for a fetch, and why:
  *
  *   git config --get-all remote.origin.fetch | ./linter
  *
- * Ends with status 1 where some line is none. */
+ * Ends with status 1 if it reports a line. */
 #include <gix_refspec.h>
 #include <stdint.h>
 #include <stdio.h>

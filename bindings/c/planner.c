@@ -1,7 +1,7 @@
-/* Tells what a fetch would do: git ls-remote origin | ./planner [SPEC..] [-- CONFIGURED..]
+/* Prints what a fetch would do: git ls-remote origin | ./planner [SPEC..] [-- CONFIGURED..]
  *
- * The configured refspecs are those of `git config --get-all remote.origin.fetch`. Ends with status 1 where nothing would be
- * fetched, or a text is no refspec. */
+ * Without SPEC the configured refspecs are fetched, those of `git config --get-all remote.origin.fetch`. Ends with status 1 if a
+ * source is missing, refs are in conflict, or a text isn't a refspec. */
 #include <gix_refspec.h>
 #include <stdio.h>
 #include <stdlib.h>
@@ -9,7 +9,7 @@
 
 static const char *const words[] = { "", "write", "left out", "left out", "left out", "conflict", "overruled", "missing" };
 
-/* The names of `git ls-remote`: an id, a tab and a name. What a tag points to is on a line of its own, ended by `^{}`. */
+/* The names that `git ls-remote` prints: an id, a tab and a name. A line that ends with `^{}` names no ref. */
 static size_t read_names(gix_refspec_text **names)
 {
     char *line = NULL, *tab;
@@ -33,7 +33,7 @@ static const char *word_of(const gix_refspec_mapping *one)
     return one->has_destination ? one->forced ? "force" : "write" : "fetch";
 }
 
-/* The source: that of a missing one is still in its refspec. */
+/* The source. That of a missing one is in its refspec. */
 static gix_refspec_text source_of(const gix_refspec_mapping *one, const gix_refspec_wish *wish,
                                   const gix_refspec_text *names, const uint8_t *text)
 {
@@ -58,7 +58,7 @@ int main(int argc, char **argv)
     gix_refspec_mapping *plan = NULL;
     uint8_t *text = NULL;
     uint32_t outcome;
-    do { /* At TOO_SMALL count and len are what the plan needs. */
+    do { /* After TOO_SMALL, count and len are what the plan needs. */
         size_t count_room = count, len_room = len;
         plan = realloc(plan, count_room * sizeof *plan);
         text = realloc(text, len_room);

@@ -1,7 +1,7 @@
-"""Tells what a fetch would do: git ls-remote origin | python3 planner.py [SPEC..] [-- CONFIGURED..]
+"""Prints what a fetch would do: git ls-remote origin | python3 planner.py [SPEC..] [-- CONFIGURED..]
 
-The configured refspecs are those of `git config --get-all remote.origin.fetch`. Ends with status 1 where nothing would be
-fetched, or a text is no refspec.
+Without SPEC the configured refspecs are fetched, those of `git config --get-all remote.origin.fetch`. Ends with status 1 if a
+source is missing, refs are in conflict, or a text isn't a refspec.
 """
 import os
 import sys
@@ -15,7 +15,7 @@ WORDS: Dict[Verdict, bytes] = {
 
 
 def read_names() -> List[bytes]:
-    """The names of `git ls-remote`: an id, a tab and a name. What a tag points to is on a line of its own, ended by `^{}`."""
+    """The names that `git ls-remote` prints: an id, a tab and a name. A line that ends with `^{}` names no ref."""
     lines = sys.stdin.buffer.read().split(b"\n")
     return [line.partition(b"\t")[2] for line in lines if b"\t" in line and not line.endswith(b"^{}")]
 

@@ -1,5 +1,5 @@
-"""Git refspecs over libgix_refspec: parsed, printed, compared, matched, and made into what to ask a server for; plans of
-fetches, and stale refs.
+"""Parses, prints, compares and matches Git refspecs, lists the ref prefixes to request from a server, plans fetches, and
+finds stale refs, by libgix_refspec.
 
 A text is `bytes`, or a `str` that is encoded as UTF-8 with `surrogateescape`, as `os.fsencode` does. What is returned is
 `bytes`.
@@ -100,7 +100,7 @@ class Verdict(enum.IntEnum):
 
 
 class RefspecError(ValueError):
-    """Why a text is no refspec, or why there is no answer: `outcome` is an `Outcome`, or a number that this module
+    """Why a text isn't a refspec, or why a call fails: `outcome` is an `Outcome`, or a number that this module
     doesn't know. It prints as a sentence."""
 
     def __init__(self, outcome: int) -> None:
@@ -177,7 +177,7 @@ class Plan:
 
     @property
     def is_carried_out(self) -> bool:
-        """Whether anything is fetched: no source is missing, and no update is in conflict."""
+        """Whether no source is missing, and no update is in conflict."""
         return not self.missing and all(one.verdict != Verdict.CONTESTED for one in self.updates)
 
 
@@ -190,7 +190,7 @@ class StaleRef:
 
 
 def parse(text: Text, operation: Operation) -> Spec:
-    """Parses a text. Raises RefspecError if it is no refspec, and ValueError if there is no such operation."""
+    """Parses a text. Raises RefspecError if it isn't a refspec, and ValueError if there is no such operation."""
     operation = Operation(operation)
     canonical = _filled(_library.gix_refspec_canonical, *_bytes(text), operation)
     parts = _Parts(0, 0, _Told.empty(), _Told.empty())
@@ -222,7 +222,7 @@ def prefixes(fetches: Fetches) -> Optional[List[bytes]]:
 
 
 def matches(fetches: Fetches, names: Iterable[Text], direction: Direction) -> List[Mapping]:
-    """What fetches, texts or specs, map of names, or back from names. Raises RefspecError if a text is no refspec, and
+    """What fetches, texts or specs, map of names, or back from names. Raises RefspecError if a text isn't a refspec, and
     looking back if a destination is an id."""
     direction = Direction(direction)
     items = _items(names)
@@ -234,7 +234,7 @@ def plan(given: Fetches, names: Iterable[Text], configured: Fetches = (), merges
          tags: bool = False) -> Plan:
     """What `git fetch` writes, if the remote has these names: `given` are the specs of the call, `configured` the values of
     remote.<name>.fetch, both texts or specs; `merges` the values of branch.<name>.merge of the current branch, if its remote
-    is this one; `tags` whether all tags are asked for. Raises RefspecError if a text is no refspec.
+    is this one; `tags` whether all tags are asked for. Raises RefspecError if a text isn't a refspec.
 
     >>> fetch = plan(["main"], ["refs/heads/main"], configured=["+refs/heads/*:refs/remotes/origin/*"])
     >>> [(one.destination, one.origin.kind.name) for one in fetch.updates]
@@ -249,7 +249,7 @@ def plan(given: Fetches, names: Iterable[Text], configured: Fetches = (), merges
 
 def stale(fetches: Fetches, remote: Iterable[Text], local: Iterable[Text]) -> List[StaleRef]:
     """The local refs that look stale by fetches, texts or specs, if the remote has these names. Symbolic refs are like
-    others here, so leave them out of the local ones. Raises RefspecError if a text is no refspec.
+    others here, so leave them out of the local ones. Raises RefspecError if a text isn't a refspec.
 
     >>> stale(["refs/heads/*:refs/x/*"], ["refs/heads/main"], ["refs/x/gone", "refs/x/main"])
     [StaleRef(item=0, kept_by=None)]

@@ -21,7 +21,7 @@ fn main() {
     println!("cargo:rustc-link-lib=static=gix_refspec");
 }
 
-/// The folder of the archive: `lib` below the named one, or the named one itself.
+/// The folder of the static library: `lib` below the named one, or the named one itself.
 fn named_folder(named: &Path) -> PathBuf {
     let folders = [named.join("lib"), named.to_owned()];
     match folders.into_iter().find(|folder| folder.join(ARCHIVE).exists()) {
@@ -31,7 +31,7 @@ fn named_folder(named: &Path) -> PathBuf {
     }
 }
 
-/// The folder of the archive of this version, as pkg-config knows it.
+/// The folder of the static library of this version, as pkg-config knows it.
 fn known_folder() -> PathBuf {
     // Before 1.0 every new minor version may break its callers.
     let (major, minor) = (env!("CARGO_PKG_VERSION_MAJOR"), env!("CARGO_PKG_VERSION_MINOR"));

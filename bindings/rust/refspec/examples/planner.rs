@@ -1,7 +1,7 @@
-//! Tells what a fetch would do: git ls-remote origin | planner [SPEC..] [-- CONFIGURED..]
+//! Prints what a fetch would do: git ls-remote origin | planner [SPEC..] [-- CONFIGURED..]
 //!
-//! The configured refspecs are those of `git config --get-all remote.origin.fetch`. Ends with status 1 where nothing would
-//! be fetched, or a text is no refspec.
+//! Without SPEC the configured refspecs are fetched, those of `git config --get-all remote.origin.fetch`. Ends with status 1
+//! if a source is missing, refs are in conflict, or a text isn't a refspec.
 use refspec::{plan, Operation, Origin, Plan, Spec, Update, Verdict, Wish};
 use std::error::Error;
 use std::io::{self, BufRead};
@@ -41,7 +41,7 @@ fn run() -> Result<bool, Box<dyn Error>> {
     let (given, configured) = (fetches(&texts[..split])?, fetches(texts.get(split + 1..).unwrap_or_default())?);
     let mut names = Vec::new();
     for line in io::stdin().lock().split(b'\n') {
-        // An id, a tab and a name. What a tag points to is on a line of its own, ended by `^{}`.
+        // An id, a tab and a name. A line that ends with `^{}` names no ref.
         match line?.splitn(2, |byte| *byte == b'\t').nth(1) {
             Some(name) if !name.ends_with(b"^{}") => names.push(name.to_vec()),
             _ => {}

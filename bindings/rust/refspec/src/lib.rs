@@ -1,5 +1,5 @@
-//! Git refspecs: parsed, printed, compared, matched, and made into what to ask a server for; plans of fetches, and stale
-//! refs.
+//! Parses, prints, compares and matches Git refspecs, lists the ref prefixes to request from a server, plans fetches, and
+//! finds stale refs.
 //!
 //! ```
 //! use refspec::{Operation, Spec};
@@ -13,7 +13,7 @@
 //! # Ok::<(), refspec::Error>(())
 //! ```
 //!
-//! The calls below are proved for every input, from the bytes to the outcome; this crate is not.
+//! The library's calls are proved for every input, from the bytes to the outcome; this crate isn't.
 use gix_refspec_sys as sys;
 use std::collections::BTreeMap;
 use std::{error, fmt, slice};
@@ -61,7 +61,7 @@ impl Kind {
     }
 }
 
-/// Why a text is no refspec, or why there is no answer. It prints as a sentence.
+/// Why a text isn't a refspec, or why a call fails. It prints as a sentence.
 #[derive(Clone, Copy, Debug, PartialEq, Eq, Hash)]
 #[non_exhaustive]
 pub enum Error {
@@ -482,7 +482,7 @@ pub struct Plan {
 }
 
 impl Plan {
-    /// Whether anything is fetched: no source is missing, and no update is in conflict.
+    /// Whether no source is missing, and no update is in conflict.
     pub fn is_carried_out(&self) -> bool {
         self.missing.is_empty() && self.updates.iter().all(|update| update.verdict != Verdict::InConflict)
     }
