@@ -4,7 +4,7 @@
 # make test    tables and lemmas, the gate, and then the scripts of tests/ over what it built
 # make install PREFIX=FOLDER, uninstall: programs, git-refspec, manual pages, completions, and what install-lib puts there
 # make lib     proves and builds the library for C, at out/lib
-# make install-lib PREFIX=FOLDER, uninstall-lib: its header, archive, shared library, .pc and cmake files, below FOLDER
+# make install-lib PREFIX=FOLDER, uninstall-lib: its header, static and shared library, .pc and cmake files, below FOLDER
 # make test-bindings   tests it from C, Rust and Python
 # make dist    packages of all that, at out/dist: for any Linux, Debian, Python and cargo; make test-dist tries them
 # make clean   removes the programs, what is kept of proofs, and the logs
@@ -99,7 +99,7 @@ test: kit
 	@tests/run.sh $(PROGRAM) $(TESTS) $(PEOPLE_PROGRAM)
 	@grep -E '^[0-9]+ passed, 0 failed' $(LOGS)/gate.log | tail -n 1
 
-# The library for C: the archive, the shared library, and what pkg-config and cmake read of them. LIBDIR is the folder below
+# The library for C: static and shared, and what pkg-config and cmake read of them. LIBDIR is the folder below
 # PREFIX. The .pc file has PC_PREFIX, which may be relative to it, as ${pcfiledir}/../.. is.
 .PHONY: lib install-lib uninstall-lib test-bindings
 PREFIX ?= /usr/local

@@ -1,7 +1,7 @@
 #!/bin/bash
 # Makes the packages of what was proved and built: tools/dist.sh FOLDER VERSION C_VERSION SONAME
 #
-# Into FOLDER go an archive for any Linux, three packages for Debian, a wheel for Python and the crates in Rust. `make install`
+# Into FOLDER go a tarball for Linux, three packages for Debian, a wheel for Python and the crates in Rust. `make install`
 # says what is in them. SOURCE_DATE_EPOCH is the time of each file, so that two runs make the same bytes. Says what it leaves
 # out for want of a tool.
 set -eu -o pipefail
@@ -20,7 +20,7 @@ install_below() { make --no-print-directory install DESTDIR="$made/$1" "${@:2}" 
 set_times() { find "$1" -exec touch -h -d "@$SOURCE_DATE_EPOCH" {} +; }
 say() { echo "dist: $1"; }
 
-# The archive for any Linux: below one folder, and found from where it lies.
+# The tarball: below one folder, and found from where it lies.
 name=refspec-$version-x86_64-linux
 install_below tar PREFIX="/$name" PC_PREFIX='$${pcfiledir}/../..'
 cp packaging/README LICENSE-MIT LICENSE-APACHE "$made/tar/$name"
