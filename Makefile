@@ -94,7 +94,7 @@ test: kit
 	@tools/lemmas.py
 	@tools/walk.py
 	@tools/links.py
-	@tools/gate.sh $(LOGS)
+	@tools/gate.sh $(LOGS) $(SONAME)
 	@$(MAKE) --no-print-directory build
 	@tests/run.sh $(PROGRAM) $(TESTS) $(PEOPLE_PROGRAM)
 	@grep -E '^[0-9]+ passed, 0 failed' $(LOGS)/gate.log | tail -n 1

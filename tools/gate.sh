@@ -1,12 +1,13 @@
 #!/bin/bash
-# Runs rt ci, and beside it builds the library for C in a copy, as rt ci keeps nothing that rt lib may use:
-# tools/gate.sh LOGS
+# Runs rt ci, and makes the library for C of what that has proved: tools/gate.sh LOGS SONAME
 #
 # rt ci begins what its own estimate of memory allows, which is some three times what a check takes. Where there are 5 GB
 # for each processor it is told to use them all.
 set -eu -o pipefail
 cd "$(dirname "${BASH_SOURCE[0]}")/.."
-logs=${1:?usage: tools/gate.sh LOGS}
+usage='usage: tools/gate.sh LOGS SONAME'
+logs=${1:?$usage}
+soname=${2:?$usage}
 mkdir -p "$logs"
 
 processors=$(nproc)
@@ -15,13 +16,20 @@ if [ "$gigabytes" -ge $((5 * processors)) ]; then
     export RT_JOBS=${RT_JOBS:-$processors}
 fi
 
-copy=$(mktemp -d)
-tar -c --exclude=./out --exclude='./crates/*/out' --exclude=./.git . | tar -x -C "$copy"
-setsid nice make --no-print-directory -C "$copy" lib >"$logs/lib.log" 2>&1 </dev/null &
-library=$!
-trap 'kill -- -"$library" 2>/dev/null || true; rm -rf "$copy"' EXIT
+# Begun once rt ci has the libraries below it.
+library() {
+    until grep -qE '^rt: gix_refspec_c (proved|is kept)' "$logs/gate.log"; do
+        kill -0 "$1" 2>/dev/null || return
+        sleep 5
+    done
+    tools/library.sh
+    tools/archive.sh "$logs/lib" "$soname"
+}
 
-rt ci 2>&1 </dev/null | tee "$logs/gate.log"
+: >"$logs/gate.log"
+rt ci 2>&1 </dev/null | tee "$logs/gate.log" &
+proofs=$!
+library "$proofs" >"$logs/lib.log" 2>&1 </dev/null &
+library=$!
+wait "$proofs"
 wait "$library" || { cat "$logs/lib.log" >&2; exit 1; }
-mkdir -p "$logs/lib"
-cp "$copy"/out/lib/* "$logs/lib"
