@@ -114,14 +114,14 @@ fn check_line<'a>(alloc: Global) -> Result<clap::Command<'a>, AllocError> {
     line(
         alloc,
         "check",
-        "Reports each refspec that is refused, with the reason, and warns of what good ones do together",
+        "Reports each refspec that is refused, with the reason, and warns of what valid ones do together",
     )?
     .arg(push_flag(alloc))?
     .arg(
         flag(
             alloc,
             "verbose",
-            "Reports good specs too, and which say the same as an earlier one",
+            "Reports valid specs too, and which say the same as an earlier one",
         )
         .short('v')
         .long("verbose"),
@@ -243,7 +243,12 @@ fn track_line<'a>(alloc: Global) -> Result<clap::Command<'a>, AllocError> {
 }
 
 fn prefixes_line<'a>(alloc: Global) -> Result<clap::Command<'a>, AllocError> {
-    line(alloc, "prefixes", "Lists what to ask a server for")?.arg(flag(
+    line(
+        alloc,
+        "prefixes",
+        "Lists the ref prefixes to ask a server for",
+    )?
+    .arg(flag(
         alloc,
         "patterns",
         "Writes patterns for `git ls-remote` instead of arguments of protocol v2",

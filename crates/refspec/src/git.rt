@@ -2,9 +2,10 @@
 
 use crate::AtExit;
 use crate::streams::{CLOSED_STATUS, Stream};
-use refspec_git::answer::{Answer, Machine, Output, answer_call};
+use refspec_git::answer::{Answer, Machine, answer_call};
 use refspec_io::fault::Fault;
 use refspec_io::input::read_input;
+use refspec_request::output::Output;
 use std::alloc::AllocError;
 use std::fs::{self, File};
 use std::io::{ErrorKind, IsTerminal, Write};

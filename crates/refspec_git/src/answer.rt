@@ -1,21 +1,22 @@
 //! The answer to a call, or the Git commands that it needs first.
 
-ghost use Rattle.std.specs.Prelude.{◌≤◌, OnOk};
+ghost use Rattle.std.specs.Prelude.{◌≤◌};
 
-use crate::arguments::{Command, Request, Wish, wish_of};
-use crate::ask::{ARGUMENTS, BRANCH, CONFIG, FOLDER, GitCall};
 use crate::checking::{report_check, report_refused_values};
-use crate::choice::{Repository, choice_of};
 use crate::fetch::{report_plan, report_prefixes, report_stale};
-use crate::refusal::Refusal;
 use crate::tracking::report_tracking;
-use crate::usage::{OPTIONS, USAGE, VERSION};
 use refspec_commands::run::run;
 use refspec_io::call::{Call, Files};
 use refspec_io::fault::Fault;
 use refspec_io::input::records;
 use refspec_io::settings::settings_of;
 use refspec_plans::plan::Discard;
+use refspec_request::arguments::{Command, Request, Wish, wish_of};
+use refspec_request::ask::{ARGUMENTS, BRANCH, CONFIG, FOLDER, GitCall};
+use refspec_request::choice::{OldRemote, Repository, choice_of};
+use refspec_request::output::Output;
+use refspec_request::refusal::Refusal;
+use refspec_request::usage::{OPTIONS, USAGE, VERSION};
 use std::alloc::{AllocError, AllocFailed, Global};
 
 /// The files of a call, and its terminal.
@@ -33,13 +34,6 @@ pub trait Machine {
     fn is_watched(&self) -> bool;
 }
 
-/// A remote that has a file in `.git/remotes` or `.git/branches`.
-#[derive(Debug, Drop)]
-pub struct OldRemote {
-    pub name: Vec<u8>,
-    pub folder: String,
-}
-
 /// The result of a call.
 #[derive(Debug, Drop)]
 pub enum Answer {
@@ -49,58 +43,28 @@ pub enum Answer {
     Reports(Output),
 }
 
-/// What a call writes, and its exit status.
-#[derive(Debug, Drop)]
-pub struct Output {
-    /// What goes to the standard output.
-    pub results: Vec<u8>,
-    /// What goes to the standard error.
-    pub messages: Vec<u8>,
-    pub status: u8,
-}
-
-impl Output {
-    /// An empty output, with exit status 0.
-    pub fn new(alloc: Global) -> Output {
-        Output {
-            results: Vec::new(alloc),
-            messages: Vec::new(alloc),
-            status: 0,
-        }
-    }
-
-    /// Adds the message of a refusal, and raises the exit status to that of the refusal. Fails if memory runs out.
-    pub fn refuse(&mut self, refusal: &Refusal<'_>) -> Result<(), AllocError>
-        ensures ok { OnOk result (1 ≤ self.new.status) }
-        ensures kept { self.old.status ≤ self.new.status }
-    {
-        self.status = self.status.max(refusal.status());
-        refusal.write(&mut self.messages)
-    }
-
-    /// Runs a call of `refspec`, and adds its output. The exit status becomes the greater of both.
-    pub fn run<D: Discard>(
-        &mut self,
-        alloc: Global,
-        call: &Call<'_>,
-        files: &Files<'_>,
-        mut input: &[u8],
-        done: &mut D,
-    ) -> Result<(), Fault>
-        ensures { self.old.status ≤ self.new.status }
-    {
-        let status = run(
-            alloc,
-            call,
-            files,
-            &mut input,
-            &mut self.results,
-            &mut self.messages,
-            done,
-        )?;
-        self.status = self.status.max(status);
-        Ok(())
-    }
+/// Runs a call of `refspec`, and adds what it writes to an output, whose exit status becomes the greater of both.
+pub fn run_call<D: Discard>(
+    alloc: Global,
+    output: &mut Output,
+    call: &Call<'_>,
+    files: &Files<'_>,
+    mut input: &[u8],
+    done: &mut D,
+) -> Result<(), Fault>
+    ensures { output.old.status ≤ output.new.status }
+{
+    let status = run(
+        alloc,
+        call,
+        files,
+        &mut input,
+        &mut output.results,
+        &mut output.messages,
+        done,
+    )?;
+    output.raise(status);
+    Ok(())
 }
 
 /// Why a call stops early.

@@ -1,10 +1,6 @@
 //! What `git refspec check` reports, and the refused values that stop the other commands.
 
-use crate::answer::{Machine, Output, Stop};
-use crate::arguments::Request;
-use crate::choice::{Looks, Repository, looks_of};
-use crate::refusal::Refusal;
-use crate::settings::{name_and_variable, write_settings};
+use crate::answer::{Machine, Stop, run_call};
 use crate::warnings::{text_of as text_of_value, write_warnings};
 use gix_refspec::parsing::Operation;
 use refspec_io::call::{Command, Files, Form};
@@ -12,6 +8,11 @@ use refspec_io::fault::Fault;
 use refspec_io::settings::{Setting, operation_of};
 use refspec_io::texts::{Location, Text};
 use refspec_plans::plan::Discard;
+use refspec_request::arguments::Request;
+use refspec_request::choice::{Looks, Repository, looks_of};
+use refspec_request::output::Output;
+use refspec_request::refusal::Refusal;
+use refspec_request::settings::{name_and_variable, write_settings};
 use std::alloc::{AllocError, Global};
 use std::collections::BTreeSet;
 
@@ -283,5 +284,12 @@ fn check<D: Discard>(
     let mut call = request.call_of(alloc, Command::Check);
     call.operation = operation_for(request);
     call.specs = Vec::from_slice(alloc, specs)?;
-    reported.run(alloc, &call, &Files::of_specs(beside.as_slice()), b"", done)
+    run_call(
+        alloc,
+        reported,
+        &call,
+        &Files::of_specs(beside.as_slice()),
+        b"",
+        done,
+    )
 }

@@ -1,12 +1,7 @@
 //! What `git refspec plan`, `git refspec stale` and `git refspec prefixes` report about a remote.
 
-use crate::answer::{Answer, Machine, Output, Stop, asks};
-use crate::arguments::Request;
-use crate::ask::{GitCall, LINES, LOCAL};
+use crate::answer::{Answer, Machine, Stop, asks, run_call};
 use crate::checking::text_of;
-use crate::choice::{Choice, Repository};
-use crate::refusal::{Refusal, write_about};
-use crate::settings::{is_true, last_value, settings_named, write_settings};
 use crate::sources::{Names, Source, Sources};
 use bstr::BStr;
 use gix_refspec::name;
@@ -14,6 +9,12 @@ use refspec_io::call::{Call, Command, Files, Form};
 use refspec_io::fault::Fault;
 use refspec_io::settings::Setting;
 use refspec_plans::plan::Discard;
+use refspec_request::arguments::Request;
+use refspec_request::ask::{GitCall, LINES, LOCAL};
+use refspec_request::choice::{Choice, Repository};
+use refspec_request::output::Output;
+use refspec_request::refusal::{Refusal, write_about};
+use refspec_request::settings::{is_true, last_value, settings_named, write_settings};
 use std::alloc::{AllocError, Global};
 
 // The spec of all tags.
@@ -135,7 +136,7 @@ fn run_on<D: Discard>(
         configured: b"",
         local,
     };
-    reported.run(alloc, call, &files, lines.as_slice(), done)
+    run_call(alloc, reported, call, &files, lines.as_slice(), done)
 }
 
 // The refs here that aren't symbolic, as `refspec` reads them: an id, which doesn't count, a space, the name and a zero
@@ -170,7 +171,14 @@ pub fn report_prefixes<'a, D: Discard>(
     if asks_head {
         call.specs.push("HEAD")?;
     }
-    reported.run(alloc, &call, &Files::of_specs(beside.as_slice()), b"", done)?;
+    run_call(
+        alloc,
+        &mut reported,
+        &call,
+        &Files::of_specs(beside.as_slice()),
+        b"",
+        done,
+    )?;
     Ok(Answer::Reports(reported))
 }
 

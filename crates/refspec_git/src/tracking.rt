@@ -1,13 +1,7 @@
 //! What `git refspec track` reports: from which refs of which remotes tracking refs are fetched.
 
-use crate::answer::{Answer, Machine, Output, Stop, asks};
-use crate::arguments::Request;
-use crate::ask::{GitCall, REFS, name_file};
-use crate::choice::Repository;
+use crate::answer::{Answer, Machine, Stop, asks, run_call};
 use crate::objects::{write_mapping, write_ref_note, write_with_remote};
-use crate::refusal::{Refusal, write_about};
-use crate::remotes::fetch_values;
-use crate::settings::{last_value, write_settings};
 use crate::sources::{Names, Sources};
 use bstr::{BStr, ByteSlice};
 use gix_refspec::match_group::{Item, Mapping};
@@ -20,6 +14,13 @@ use refspec_io::fault::Fault;
 use refspec_io::settings::Setting;
 use refspec_io::table::Layout;
 use refspec_plans::plan::Discard;
+use refspec_request::arguments::Request;
+use refspec_request::ask::{GitCall, REFS, name_file};
+use refspec_request::choice::Repository;
+use refspec_request::output::Output;
+use refspec_request::refusal::{Refusal, write_about};
+use refspec_request::remotes::fetch_values;
+use refspec_request::settings::{last_value, write_settings};
 use std::alloc::{AllocError, Global};
 use std::collections::{BTreeMap, BTreeSet};
 
@@ -398,7 +399,14 @@ fn report_ids<D: Discard>(
     write_settings(&mut beside, values)?;
     let call = request.call_of(alloc, Command::Track);
     let mut about_ids = Output::new(alloc);
-    about_ids.run(alloc, &call, &Files::of_specs(beside.as_slice()), b"", done)?;
+    run_call(
+        alloc,
+        &mut about_ids,
+        &call,
+        &Files::of_specs(beside.as_slice()),
+        b"",
+        done,
+    )?;
     reported
         .messages
         .extend_from_slice(about_ids.messages.as_slice())?;

@@ -1,6 +1,5 @@
 //! The warnings of `git refspec check`: those of `refspec check`, and those on remotes and their other settings.
 
-use crate::settings::{is_true, name_and_variable};
 use bstr::BStr;
 use gix_refspec::parsing::{Error, Operation};
 use gix_refspec::{RefSpecRef, parse};
@@ -11,6 +10,7 @@ use refspec_commands::warnings::{Topic, Warning, say, write_warnings_on};
 use refspec_io::call::Form;
 use refspec_io::settings::Setting;
 use refspec_io::texts::{Location, Text};
+use refspec_request::settings::{is_true, name_and_variable};
 use std::alloc::{AllocError, Global};
 use std::collections::{BTreeMap, BTreeSet};
 

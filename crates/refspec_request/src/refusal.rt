@@ -115,7 +115,7 @@ impl Refusal<'_> {
             Refusal::NoRemoteNoSpec(argument) => (
                 "",
                 argument,
-                " is no configured remote; `git remote` lists those, and a spec may follow `--`",
+                " is not a configured remote; `git remote` lists those, and a spec may follow `--`",
             ),
             Refusal::NoDefault => (
                 "no ",

@@ -39,7 +39,7 @@ pub enum Wish<'a> {
 pub struct Request<'a> {
     pub command: Command,
     pub form: Form,
-    /// Report good values too.
+    /// Report valid values too.
     pub verbose: bool,
     /// The given specs are for a push.
     pub push: bool,

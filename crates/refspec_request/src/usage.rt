@@ -15,12 +15,12 @@ pub const OPTIONS: &str = "
     plan                  show what git fetch would write
     stale                 list the refs here that git fetch --prune would delete
     track                 show which refs of which remotes tracking refs come from
-    prefixes              list what to ask the server for
+    prefixes              list the ref prefixes to ask the server for
 
     -z                    end each field with a zero byte
     --json                write one JSON object a line, refusals too
     --remote <name>       the remote; all other arguments are specs
-    -v, --verbose         check: list good values too
+    -v, --verbose         check: list valid values too
     --push                check: the given specs are for a push
     --strict              check: exit with status 1 for a warning too
     --no-warnings         check: report what is refused, and no warnings

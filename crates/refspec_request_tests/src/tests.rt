@@ -1,12 +1,12 @@
-//! Tests.
+//! Arguments of `git refspec`, what they look like, settings and remotes.
 
-use crate::arguments::{Command, Wish, wish_of};
-use crate::choice::{Looks, looks_of};
-use crate::refusal::Refusal;
-use crate::remotes::{default_remote, fetch_values, is_configured, is_rewritten};
-use crate::settings::{is_true, last_value, name_and_variable, write_settings};
 use refspec_io::call::Form;
 use refspec_io::settings::settings_of;
+use refspec_request::arguments::{Command, Wish, wish_of};
+use refspec_request::choice::{Looks, looks_of};
+use refspec_request::refusal::Refusal;
+use refspec_request::remotes::{default_remote, fetch_values, is_configured, is_rewritten};
+use refspec_request::settings::{is_true, last_value, name_and_variable, write_settings};
 use std::alloc::AllocError;
 use std::test::Fail;
 

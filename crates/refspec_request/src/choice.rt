@@ -2,9 +2,8 @@
 
 ghost use Rattle.std.specs.Prelude.{◌≡◌, ◌∷◌, [], true};
 ghost use Rattle.gix_refspec_text.specs.Texts.Words.{ContainsText, Lacks};
-ghost use Rattle.refspec_git.specs.Words.{BeginsAsSpec};
+ghost use Rattle.refspec_request.specs.Words.{BeginsAsSpec};
 
-use crate::answer::OldRemote;
 use crate::arguments::Request;
 use crate::refusal::Refusal;
 use crate::remotes::{default_remote, is_configured, is_rewritten};
@@ -83,6 +82,13 @@ fn has_host(argument: &[u8]) -> bool {
             after.starts_with(b"//") || after.starts_with(b":") || before.find_byte(b'@').is_some()
         }
     }
+}
+
+/// A remote that has a file in `.git/remotes` or `.git/branches`.
+#[derive(Debug, Drop)]
+pub struct OldRemote {
+    pub name: Vec<u8>,
+    pub folder: String,
 }
 
 /// What decides whether a first argument is a remote, besides its looks.

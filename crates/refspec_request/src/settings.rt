@@ -2,7 +2,7 @@
 
 ghost use Rattle.std.specs.Prelude.{◌≡◌, ◌++◌, ◌∷◌, IfSome, MatchOption};
 ghost use Rattle.gix_refspec_text.specs.Texts.Words.{Lacks};
-ghost use Rattle.refspec_git.specs.Settings.{IsKey};
+ghost use Rattle.refspec_request.specs.Settings.{IsKey};
 
 use bstr::ByteSlice;
 use refspec_io::settings::Setting;

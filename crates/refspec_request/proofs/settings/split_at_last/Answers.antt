@@ -1,6 +1,6 @@
 -- What follows the byte that was found is the text from the next index on.
 use Rattle.gix_refspec_text.proofs.lemmas.texts.TextLemmas.{split_at_last}
-use Rattle.refspec_git.proofs.settings.split_at_last.Goals as goal
+use Rattle.refspec_request.proofs.settings.split_at_last.Goals as goal
 
 pub returns : goal.returns
 returns c =

@@ -1,0 +1,43 @@
+//! What a call writes.
+
+ghost use Rattle.std.specs.Prelude.{◌≤◌, OnOk};
+
+use crate::refusal::Refusal;
+use std::alloc::{AllocError, Global};
+
+/// What a call writes, and its exit status.
+#[derive(Debug, Drop)]
+pub struct Output {
+    /// What goes to the standard output.
+    pub results: Vec<u8>,
+    /// What goes to the standard error.
+    pub messages: Vec<u8>,
+    pub status: u8,
+}
+
+impl Output {
+    /// An empty output, with exit status 0.
+    pub fn new(alloc: Global) -> Output {
+        Output {
+            results: Vec::new(alloc),
+            messages: Vec::new(alloc),
+            status: 0,
+        }
+    }
+
+    /// Adds the message of a refusal, and raises the exit status to that of the refusal. Fails if memory runs out.
+    pub fn refuse(&mut self, refusal: &Refusal<'_>) -> Result<(), AllocError>
+        ensures ok { OnOk result (1 ≤ self.new.status) }
+        ensures kept { self.old.status ≤ self.new.status }
+    {
+        self.status = self.status.max(refusal.status());
+        refusal.write(&mut self.messages)
+    }
+
+    /// Raises the exit status to this one, if that is greater.
+    pub fn raise(&mut self, status: u8)
+        ensures { (self.old.status ≤ self.new.status) × (status ≤ self.new.status) }
+    {
+        self.status = self.status.max(status);
+    }
+}
