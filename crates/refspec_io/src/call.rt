@@ -52,7 +52,7 @@ pub struct Call<'a> {
     pub operation: Operation,
     pub form: Form,
     pub ends: Terminator,
-    /// Good specs are shown too.
+    /// Valid specs are shown too.
     pub verbose: bool,
     /// Prefixes are shown as patterns.
     pub patterns: bool,
@@ -60,9 +60,9 @@ pub struct Call<'a> {
     pub long: bool,
     /// All conflicts and all left out mappings are reported, rather than only the first 20 of each.
     pub all: bool,
-    /// `check` warns of valid specs too.
+    /// `check` warns about valid specs too.
     pub warns: bool,
-    /// The exit status of `check` is 1 if it warns of something.
+    /// The exit status of `check` is 1 if it warns about something.
     pub is_strict: bool,
     /// Messages go to a terminal.
     pub is_watched: bool,
