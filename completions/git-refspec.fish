@@ -48,7 +48,7 @@ complete -c git -n '__fish_git_refspec_is check' -l no-warnings -d 'Report what 
 complete -c git -n '__fish_git_refspec_is plan' -l long -d 'Show each mapping with its spec'
 complete -c git -n '__fish_git_refspec_is plan' -l all -d 'Tell every conflict and all that is left out'
 complete -c git -n '__fish_git_refspec_is plan' -l prune -d 'List the refs that a pruning fetch would delete too'
-complete -c git -n '__fish_git_refspec_is plan' -l refmap -x -d 'A spec in the place of the fetch values'
+complete -c git -n '__fish_git_refspec_is plan' -l refmap -x -d 'A spec to use instead of the fetch values'
 complete -c git -n '__fish_git_refspec_is prefixes' -l patterns -d 'Write patterns for git ls-remote'
 complete -c git -n '__fish_git_refspec_is check plan stale prefixes' -a '(__fish_git_refspec_git remote)' -d Remote
 complete -c git -n '__fish_git_refspec_is track' \

@@ -55,7 +55,7 @@ pub struct Request<'a> {
     pub no_warnings: bool,
     /// Exit with status 1 for a warning too.
     pub strict: bool,
-    /// The specs that stand in the place of the fetch values, if there are any.
+    /// The specs that replace the fetch values, if there are any.
     pub refmap: Vec<&'a [u8]>,
     /// The remote that `--remote` names.
     pub remote: Option<&'a [u8]>,

@@ -100,7 +100,7 @@ impl Refusal<'_> {
             Refusal::IdleRefmap => (
                 "",
                 b"--refmap",
-                " stands in the place of the fetch values for given specs, and Git refuses it without any",
+                " replaces the fetch values for given specs, and Git refuses it without any",
             ),
             Refusal::NoRef => (
                 "",

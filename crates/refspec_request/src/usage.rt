@@ -28,7 +28,7 @@ pub const OPTIONS: &str = "
     --long                plan: show each mapping with its spec, and not below it
     --all                 plan: list every conflict and all that is left out, not the first 20
     --prune               plan: list the refs that git fetch --prune would delete too
-    --refmap <spec>       plan: a spec in the place of the fetch values; an empty one for none
+    --refmap <spec>       plan: a spec to use instead of the fetch values; an empty one for none
     -h                    print this help
     --help                show the manual
     --version             print the version
