@@ -1,16 +1,16 @@
 /* Git refspecs: checked, taken apart, printed, compared, matched and explained; plans of fetches, and stale refs.
  *
- * Each call answers an outcome: GIX_REFSPEC_OK, or why not. A text is a pointer and a length; the pointer may be NULL where
- * the length is 0. The caller owns all memory. Nothing is kept from call to call, and threads may call at will.
- * What a call doesn't set, it leaves as it was. docs/C.md says what is proved, and what a caller owes. */
+ * Each call returns GIX_REFSPEC_OK, or why it failed. A text is a pointer and a length; the pointer may be NULL if the
+ * length is 0. The caller owns all memory. Nothing is kept from call to call. What a call doesn't set is unchanged.
+ * C.md says when threads may call, what a caller owes, and what is proved. */
 #ifndef GIX_REFSPEC_H
 #define GIX_REFSPEC_H
 
 #include <stddef.h>
 #include <stdint.h>
 
-/* The version of this header; gix_refspec_version tells that of the library that runs. Before 1.0 every new minor version
- * may break its callers. */
+/* The version of this header; gix_refspec_version returns that of the library in use. Before 1.0 a minor version may
+ * break callers. */
 #define GIX_REFSPEC_VERSION_MAJOR 0
 #define GIX_REFSPEC_VERSION_MINOR 3
 #define GIX_REFSPEC_VERSION_PATCH 0
@@ -23,8 +23,8 @@ extern "C" {
 /* What a refspec is for. */
 enum { GIX_REFSPEC_FETCH = 1, GIX_REFSPEC_PUSH = 2 };
 
-/* Outcomes. Those from EMPTY to NAME_INVALID_BYTE say what is wrong with a text; NAME_EMPTY and NAME_ASTERISK never
- * come. */
+/* Outcomes. Those from EMPTY to NAME_INVALID_BYTE say what is wrong with a text; NAME_EMPTY and NAME_ASTERISK aren't
+ * returned. */
 enum {
     GIX_REFSPEC_OK = 0, GIX_REFSPEC_EMPTY = 1, GIX_REFSPEC_NEGATIVE_WITH_DESTINATION = 2,
     GIX_REFSPEC_NEGATIVE_EMPTY = 3, GIX_REFSPEC_NEGATIVE_OBJECT_HASH = 4, GIX_REFSPEC_PUSH_TO_EMPTY = 5,
@@ -45,13 +45,13 @@ enum { GIX_REFSPEC_PUSH_ALL_MATCHING = 1, GIX_REFSPEC_PUSH_DELETE = 2, GIX_REFSP
 typedef struct { const uint8_t *bytes; size_t len; } gix_refspec_text;
 #define GIX_REFSPEC_TEXT_INIT { (const uint8_t *)"", 0 }
 
-/* The version of the library that runs, as "0.3.0". In memory a NUL follows it, which its length doesn't count. */
+/* The version of the library in use, such as "0.3.0". It ends with a NUL that isn't counted. */
 uint32_t gix_refspec_version(gix_refspec_text *version);
 
-/* What a refspec says to do. A side that it hasn't is empty, and none that it has is. Sides are places in
- * the text, or the constant HEAD. */
+/* What a refspec says to do. A missing side is empty; a present one never is. Sides point into the text, or are the
+ * constant HEAD. */
 typedef struct {
-    uint32_t kind, forced; /* forced is 1 where refs may also move where that is no fast-forward */
+    uint32_t kind, forced; /* forced: 1 if refs may move without a fast-forward */
     gix_refspec_text source, destination;
 } gix_refspec_instruction;
 #define GIX_REFSPEC_PARTS_INIT { 0, 0, GIX_REFSPEC_TEXT_INIT, GIX_REFSPEC_TEXT_INIT }
@@ -61,9 +61,11 @@ enum { GIX_REFSPEC_FORWARD = 1, GIX_REFSPEC_BACKWARD = 2 };
 #define GIX_REFSPEC_NO_ITEM SIZE_MAX
 #define GIX_REFSPEC_NO_SPEC SIZE_MAX
 
-/* What a fetch is asked for: the refspecs of the call, those of remote.<name>.fetch, the values of branch.<name>.merge of the
- * current branch if its remote is this one, and whether all tags are asked for: 0 unless they are. Without refspecs of the
- * call the configured ones are fetched; with some the configured ones are applied to what these take. */
+/* What to fetch. Without given refspecs the configured ones are fetched; else these also map what the given ones fetch.
+ *   given       the arguments of git fetch
+ *   configured  the values of remote.<name>.fetch
+ *   merges      the values of branch.<name>.merge of the current branch, if its remote is this one
+ *   tags        nonzero to fetch all tags */
 typedef struct {
     const gix_refspec_text *given;
     size_t given_count;
@@ -75,29 +77,38 @@ typedef struct {
 } gix_refspec_wish;
 #define GIX_REFSPEC_WISH_INIT { NULL, 0, NULL, 0, NULL, 0, 0 }
 
-/* What makes an update: a refspec of the call, a configured one or a merged ref; or else HEAD is fetched, as nothing is asked
- * for; or all tags, as they are. */
+/* What makes an update: a given refspec, a configured one or a merged ref; HEAD, if nothing is asked for; or all tags,
+ * if asked for. */
 enum { GIX_REFSPEC_GIVEN = 1, GIX_REFSPEC_CONFIGURED = 2, GIX_REFSPEC_MERGE = 3, GIX_REFSPEC_DEFAULT = 4,
        GIX_REFSPEC_ALL_TAGS = 5 };
 
-/* What becomes of an update. It is fetched, and written to its destination if it has one; or left out, as its source, its
- * destination or both aren't valid ref names; or nothing is fetched, as another source has the same destination; or a
- * refspec of the call writes another ref there. MISSING is a refspec whose source the remote lacks, so nothing is fetched. */
-enum { GIX_REFSPEC_WRITTEN = 1, GIX_REFSPEC_INVALID_SOURCE = 2, GIX_REFSPEC_INVALID_DESTINATION = 3,
-       GIX_REFSPEC_INVALID_SIDES = 4, GIX_REFSPEC_CONTESTED = 5, GIX_REFSPEC_OVERRULED = 6, GIX_REFSPEC_MISSING = 7 };
+/* What becomes of an update. */
+enum {
+    GIX_REFSPEC_WRITTEN = 1,             /* if the outcome is OK: fetched, and written to its destination if any */
+    GIX_REFSPEC_INVALID_SOURCE = 2,      /* left out: the source is neither a valid ref name nor an id */
+    GIX_REFSPEC_INVALID_DESTINATION = 3, /* left out: the destination isn't a valid ref name, or is HEAD */
+    GIX_REFSPEC_INVALID_SIDES = 4,       /* left out: both */
+    GIX_REFSPEC_CONTESTED = 5,           /* another source has the same destination, so nothing is fetched */
+    GIX_REFSPEC_OVERRULED = 6,           /* a given refspec writes another ref to its destination */
+    GIX_REFSPEC_MISSING = 7              /* the remote lacks the source of a refspec: only origin and spec matter */
+};
 
-/* A mapping, or an update of a plan: the indexes of its spec and of its name, GIX_REFSPEC_NO_ITEM of an id that is asked for;
- * whether its spec is forced, as in gix_refspec_instruction; where in the buffer that id is, else a length of 0; and the
- * name that the spec makes, the destination or backward the source. In a plan spec is an index in the list that origin
- * tells, GIX_REFSPEC_NO_SPEC at DEFAULT and ALL_TAGS; at MISSING only origin and spec count. */
+/* A mapping, or an update of a plan. Offsets are into the buffer.
+ *   spec               the index of its spec, in a plan in the list that origin names; NO_SPEC at DEFAULT and ALL_TAGS
+ *   item               the index of its name; NO_ITEM for an object requested by its id
+ *   has_destination    1 if it has a destination, else 0
+ *   forced             1 if refs may move without a fast-forward, else 0
+ *   origin, verdict    0 after match
+ *   id_at, id_len      the offset and length of the id, if item is NO_ITEM; else the length is 0
+ *   made_at, made_len  those of the destination (backward: of the source, even an id) */
 typedef struct {
     size_t spec, item;
-    uint32_t has_destination, forced, origin, verdict; /* of a match origin and verdict are 0 */
+    uint32_t has_destination, forced, origin, verdict;
     size_t id_at, id_len, made_at, made_len;
 } gix_refspec_mapping;
 
-/* A local ref that looks stale: the index of its name, and of the negative refspec that keeps it, or GIX_REFSPEC_NO_SPEC if
- * none does: then it is stale, and a pruning fetch should delete it. */
+/* A local ref that looks stale: item is the index of its name, and kept_by that of the negative refspec that keeps it.
+ * If kept_by is NO_SPEC, a pruning fetch should delete it. */
 typedef struct {
     size_t item, kept_by;
 } gix_refspec_stale_ref;
@@ -108,45 +119,48 @@ uint32_t gix_refspec_check(const uint8_t *text, size_t text_len, uint32_t operat
 /* Its instruction. */
 uint32_t gix_refspec_parts(const uint8_t *text, size_t text_len, uint32_t operation, gix_refspec_instruction *parts);
 
-/* Its canonical text. *len is set to what that needs, also at GIX_REFSPEC_TOO_SMALL. */
+/* Its canonical text. *len is set to the bytes needed, also at GIX_REFSPEC_TOO_SMALL. */
 uint32_t gix_refspec_canonical(const uint8_t *text, size_t text_len, uint32_t operation, uint8_t *buffer,
                                size_t buffer_len, size_t *len);
 
-/* How two refspecs compare: -1, 0 or 1; 0 just where their canonical texts are equal. */
+/* How two refspecs compare: -1, 0 or 1; 0 exactly if their canonical texts are equal. */
 uint32_t gix_refspec_compare(const uint8_t *a, size_t a_len, const uint8_t *b, size_t b_len, uint32_t operation,
                              int32_t *order);
 
-/* The prefix of the ref names that it has on the remote: a full name, HEAD, or what is before the star of a pattern below
- * refs/. Empty if it has none. A place in the text, or the constant HEAD. */
+/* Its ref prefix on the remote: a full name, HEAD, or what is before the star of a pattern below refs/. Empty if it has
+ * none. Points into the text, or is the constant HEAD. */
 uint32_t gix_refspec_prefix(const uint8_t *text, size_t text_len, uint32_t operation, gix_refspec_text *prefix);
 
-/* That prefix, or the six names that a partial name may stand for, a line each; nothing of an id or a negative refspec. With
- * none of a positive one, or one with a star, only a request for all refs is safe. *len is set as by canonical. */
+/* That prefix, or the six candidates of a partial name, each with a newline; none for an id or a negative refspec. To
+ * ask a server, call gix_refspec_prefixes: this may be empty, contain a star, or for HEAD be incomplete. *len is set as
+ * by canonical. */
 uint32_t gix_refspec_expand_prefixes(const uint8_t *text, size_t text_len, uint32_t operation, uint8_t *buffer,
                                      size_t buffer_len, size_t *len);
 
-/* What to ask a server for, a prefix a line. GIX_REFSPEC_NO_LIST where only a request for all refs is safe. */
+/* The ref prefixes to send to a server, each with a newline. If none, send no request. GIX_REFSPEC_NO_LIST if only a
+ * request for all refs is safe. *len is set as by canonical. */
 uint32_t gix_refspec_prefixes(const gix_refspec_text *texts, size_t count, uint32_t operation, uint8_t *buffer,
                               size_t buffer_len, size_t *len);
 
-/* What fetches map of names. *count and *len are set to what the lists need, also at GIX_REFSPEC_TOO_SMALL. */
+/* How fetch specs map names. *count is set to the elements and *len to the bytes needed, also at
+ * GIX_REFSPEC_TOO_SMALL. */
 uint32_t gix_refspec_match(const gix_refspec_text *texts, size_t texts_count, const gix_refspec_text *names,
                            size_t names_count, uint32_t direction, gix_refspec_mapping *mappings,
                            size_t mappings_count, uint8_t *buffer, size_t buffer_len, size_t *count, size_t *len);
 
-/* What a fetch writes, if the remote has these names. The lists are also filled at GIX_REFSPEC_MISSING_SOURCE and
- * GIX_REFSPEC_IN_CONFLICT, where nothing is fetched. */
+/* What a fetch writes, if the remote has these names. At GIX_REFSPEC_MISSING_SOURCE and GIX_REFSPEC_IN_CONFLICT nothing
+ * is fetched, but mappings and buffer are filled. *count and *len are set as by match. */
 uint32_t gix_refspec_plan(const gix_refspec_wish *wish, const gix_refspec_text *names, size_t names_count,
                           gix_refspec_mapping *mappings, size_t mappings_count, uint8_t *buffer, size_t buffer_len,
                           size_t *count, size_t *len);
 
-/* Which local refs look stale, if the remote has these names. *count is set to what the list needs, also at
- * GIX_REFSPEC_TOO_SMALL. Symbolic refs are like others here, so leave them out of the local ones. */
+/* Which local refs look stale, if the remote has these names. *count is set as by match. Symbolic refs are like others
+ * here, so leave them out of the local ones. */
 uint32_t gix_refspec_stale(const gix_refspec_text *texts, size_t texts_count, const gix_refspec_text *remote,
                            size_t remote_count, const gix_refspec_text *local, size_t local_count,
                            gix_refspec_stale_ref *stale, size_t stale_count, size_t *count);
 
-/* The sentence for an outcome. In memory a NUL follows it, which its length doesn't count. */
+/* The sentence for an outcome. It ends with a NUL that isn't counted. */
 uint32_t gix_refspec_explanation(uint32_t outcome, gix_refspec_text *sentence);
 
 #ifdef __cplusplus
