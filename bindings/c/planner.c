@@ -1,7 +1,7 @@
 /* Prints what a fetch would do: git ls-remote origin | ./planner [SPEC..] [-- CONFIGURED..]
  *
  * Without SPEC the configured refspecs are fetched, those of `git config --get-all remote.origin.fetch`. Ends with status 1 if a
- * source is missing, refs are in conflict, or a text isn't a refspec. */
+ * source is missing, refs are in conflict, or a text isn't a refspec. For brevity it doesn't check its allocations. */
 #include <gix_refspec.h>
 #include <stdio.h>
 #include <stdlib.h>
@@ -33,7 +33,7 @@ static const char *word_of(const gix_refspec_mapping *one)
     return one->has_destination ? one->forced ? "force" : "write" : "fetch";
 }
 
-/* The source. That of a missing one is in its refspec. */
+/* The source; if it is missing, its refspec. */
 static gix_refspec_text source_of(const gix_refspec_mapping *one, const gix_refspec_wish *wish,
                                   const gix_refspec_text *names, const uint8_t *text)
 {
