@@ -32,8 +32,8 @@ class Operation(enum.IntEnum):
 
 
 class Outcome(enum.IntEnum):
-    """What a call ends with: OK, or why it has no answer. Those from EMPTY to NAME_INVALID_BYTE are what is wrong with a
-    text; NAME_EMPTY and NAME_ASTERISK never come."""
+    """What a call returns: OK, or why it failed. Those from EMPTY to NAME_INVALID_BYTE say what is wrong with a text;
+    NAME_EMPTY and NAME_ASTERISK aren't returned."""
     OK = 0
     EMPTY = 1
     NEGATIVE_WITH_DESTINATION = 2
@@ -78,8 +78,8 @@ class Direction(enum.IntEnum):
 
 
 class OriginKind(enum.IntEnum):
-    """What makes an update: a spec of the call, a configured one or a merged ref; or else HEAD is fetched, as nothing is
-    asked for; or all tags, as they are."""
+    """What makes an update: a given spec, a configured one or a merged ref; HEAD, if nothing is asked for; or all tags, if
+    asked for."""
     GIVEN = 1
     CONFIGURED = 2
     MERGE = 3
@@ -88,9 +88,15 @@ class OriginKind(enum.IntEnum):
 
 
 class Verdict(enum.IntEnum):
-    """What becomes of an update. It is fetched, and written to its destination if it has one; or left out, as its source,
-    its destination or both aren't valid ref names; or another source has the same destination, so nothing is fetched; or
-    a spec of the call writes another ref there."""
+    """What becomes of an update.
+
+    WRITTEN: if the plan is carried out, it is fetched, and written to its destination if any.
+    INVALID_SOURCE: left out: the source is neither a valid ref name nor an id.
+    INVALID_DESTINATION: left out: the destination isn't a valid ref name, or is HEAD.
+    INVALID_SIDES: left out: both.
+    CONTESTED: another source has the same destination, so nothing is fetched.
+    OVERRULED: a given spec writes another ref to its destination.
+    """
     WRITTEN = 1
     INVALID_SOURCE = 2
     INVALID_DESTINATION = 3
@@ -114,8 +120,8 @@ class RefspecError(ValueError):
 @functools.total_ordering
 @dataclass(frozen=True)
 class Spec:
-    """A refspec. Two are equal just where they are for one operation and have one canonical text. They are ordered as
-    `compare` orders them, and pushes come before fetches."""
+    """A refspec. Two are equal exactly if operation and canonical text are equal. They are ordered as `compare` orders
+    them, and pushes come before fetches."""
     operation: Operation
     canonical: bytes
     kind: Kind
@@ -139,8 +145,8 @@ Fetches = Iterable[Union[Text, Spec]]
 
 @dataclass(frozen=True)
 class Mapping:
-    """A mapping: the indexes of its spec and of its name, None of an id that is asked for; its sides; and whether its spec
-    is forced."""
+    """A mapping: the indexes of its spec and of its name, None for an object requested by its id; its sides; and whether
+    its spec is forced."""
     spec: int
     item: Optional[int]
     source: bytes
@@ -150,16 +156,16 @@ class Mapping:
 
 @dataclass(frozen=True)
 class Origin:
-    """What makes an update, and its index among the given specs, the configured ones or the merged refs: None of the
-    others."""
+    """What makes an update, and its index among the given specs, the configured ones or the merged refs: None for DEFAULT
+    and ALL_TAGS."""
     kind: OriginKind
     index: Optional[int] = None
 
 
 @dataclass(frozen=True)
 class Update:
-    """A ref or an object that a fetch is about to fetch: the index of its name, None of an id that is asked for; its
-    sides; what makes it; what becomes of it; and whether its spec is forced."""
+    """A ref or an object that a spec fetches: the index of its name, None for an object requested by its id; its sides;
+    what makes it; what becomes of it; and whether its spec is forced."""
     item: Optional[int]
     source: bytes
     destination: Optional[bytes]
@@ -170,8 +176,8 @@ class Update:
 
 @dataclass(frozen=True)
 class Plan:
-    """What a fetch does: its updates, those of configured specs that are applied to what given ones take last; and the
-    specs whose source the remote lacks."""
+    """What a fetch does: its updates, last those that configured specs add to given ones; and the specs whose source the
+    remote lacks."""
     updates: List[Update]
     missing: List[Origin]
 
@@ -183,8 +189,8 @@ class Plan:
 
 @dataclass(frozen=True)
 class StaleRef:
-    """A local ref that looks stale: the index of its name, and of the negative spec that keeps it. None if it is stale: a
-    pruning fetch should delete it."""
+    """A local ref that looks stale: the index of its name, and that of the negative spec that keeps it. If None, a pruning
+    fetch should delete it."""
     item: int
     kept_by: Optional[int] = None
 
@@ -211,7 +217,7 @@ def compare(a: Text, b: Text, operation: Operation) -> int:
 
 
 def prefixes(fetches: Fetches) -> Optional[List[bytes]]:
-    """What to ask a server for, for fetches: texts or specs. None if only a request for all refs is safe."""
+    """The ref prefixes to send to a server for fetches, texts or specs. None: ask for all refs. []: send no request."""
     try:
         lines = _filled(_library.gix_refspec_prefixes, *_texts(_fetches(fetches)), Operation.FETCH)
     except RefspecError as error:
@@ -222,8 +228,8 @@ def prefixes(fetches: Fetches) -> Optional[List[bytes]]:
 
 
 def matches(fetches: Fetches, names: Iterable[Text], direction: Direction) -> List[Mapping]:
-    """What fetches, texts or specs, map of names, or back from names. Raises RefspecError if a text isn't a refspec, and
-    looking back if a destination is an id."""
+    """How fetches, texts or specs, map names, forward or backward. Raises RefspecError if a text isn't a refspec, and
+    backward if a destination is an id."""
     direction = Direction(direction)
     items = _items(names)
     told, text = _listed(_library.gix_refspec_match, len(items), *_texts(_fetches(fetches)), *_texts(items), direction)
@@ -232,9 +238,10 @@ def matches(fetches: Fetches, names: Iterable[Text], direction: Direction) -> Li
 
 def plan(given: Fetches, names: Iterable[Text], configured: Fetches = (), merges: Iterable[Text] = (),
          tags: bool = False) -> Plan:
-    """What `git fetch` writes, if the remote has these names: `given` are the specs of the call, `configured` the values of
+    """What `git fetch` writes, if the remote has these names: `given` are its arguments, `configured` the values of
     remote.<name>.fetch, both texts or specs; `merges` the values of branch.<name>.merge of the current branch, if its remote
-    is this one; `tags` whether all tags are asked for. Raises RefspecError if a text isn't a refspec.
+    is this one; `tags` whether to fetch all tags. Without given specs the configured ones are fetched; else these also map
+    what the given ones fetch. Raises RefspecError if a text isn't a refspec.
 
     >>> fetch = plan(["main"], ["refs/heads/main"], configured=["+refs/heads/*:refs/remotes/origin/*"])
     >>> [(one.destination, one.origin.kind.name) for one in fetch.updates]
@@ -279,7 +286,7 @@ def explanation(outcome: int) -> Optional[str]:
 
 
 def library_version() -> str:
-    """The version of the library that is loaded, as "0.3.0"."""
+    """The version of the library that is loaded, such as "0.3.0"."""
     version = _Told.empty()
     _check(_library.gix_refspec_version(ctypes.byref(version)))
     return version.value().decode()

@@ -5,7 +5,7 @@
 pub const FETCH: u32 = 1;
 pub const PUSH: u32 = 2;
 
-/// The outcome of a call that has its answer.
+/// Success.
 pub const OK: u32 = 0;
 
 /// What is wrong with a text.
@@ -55,7 +55,7 @@ pub const MERGE: u32 = 3;
 pub const DEFAULT: u32 = 4;
 pub const ALL_TAGS: u32 = 5;
 
-/// What becomes of it. `MISSING` is a refspec whose source the remote lacks.
+/// What becomes of it, as `gix_refspec.h` says. `MISSING` is a refspec whose source the remote lacks.
 pub const WRITTEN: u32 = 1;
 pub const INVALID_SOURCE: u32 = 2;
 pub const INVALID_DESTINATION: u32 = 3;
@@ -64,12 +64,12 @@ pub const CONTESTED: u32 = 5;
 pub const OVERRULED: u32 = 6;
 pub const MISSING: u32 = 7;
 
-/// The index of an id that is asked for among the names.
+/// The item of an object requested by its id.
 pub const NO_ITEM: usize = usize::MAX;
-/// The index of an origin without one, and of what keeps a stale ref.
+/// No spec: of `DEFAULT`, `ALL_TAGS`, and a stale ref that nothing keeps.
 pub const NO_SPEC: usize = usize::MAX;
 
-/// A text. The pointer may be null where the length is 0.
+/// A text. The pointer may be null if the length is 0.
 #[repr(C)]
 #[derive(Clone, Copy, Debug)]
 pub struct Text {
@@ -77,7 +77,7 @@ pub struct Text {
     pub len: usize,
 }
 
-/// What a refspec says to do. A side that it hasn't is empty.
+/// What a refspec says to do. A missing side is empty; a present one never is.
 #[repr(C)]
 #[derive(Clone, Copy, Debug)]
 pub struct Parts {
@@ -87,7 +87,7 @@ pub struct Parts {
     pub destination: Text,
 }
 
-/// What a fetch is asked for. `tags` is 0 unless all tags are.
+/// What to fetch. `tags`: nonzero to fetch all tags.
 #[repr(C)]
 #[derive(Clone, Copy, Debug)]
 pub struct Wish {
@@ -100,7 +100,7 @@ pub struct Wish {
     pub tags: u32,
 }
 
-/// A mapping, or an update of a plan. Its texts are places in the buffer.
+/// A mapping, or an update of a plan. Its offsets are into the buffer.
 #[repr(C)]
 #[derive(Clone, Copy, Debug, Default)]
 pub struct Mapping {

@@ -135,7 +135,7 @@ impl Error {
         named.map_or(Error::Other(outcome), |(_, error)| *error)
     }
 
-    /// The number of the outcome, as `gix_refspec.h` has it. `None` of a push among fetches.
+    /// The number of the outcome, as `gix_refspec.h` has it. `None` for a push among fetches.
     pub fn outcome(self) -> Option<u32> {
         match self {
             Error::Other(number) => Some(number),
@@ -161,7 +161,7 @@ impl fmt::Display for Error {
 
 impl error::Error for Error {}
 
-/// A refspec. Two are equal just where they are for one operation and print the same. They are ordered as
+/// A refspec. Two are equal exactly if operation and canonical text are equal. They are ordered as
 /// `gix_refspec_compare` orders them, and pushes come before fetches.
 #[derive(Clone, Debug, PartialEq, Eq, PartialOrd, Ord, Hash)]
 pub struct Spec {
@@ -218,7 +218,7 @@ impl Spec {
         self.kind
     }
 
-    /// Whether refs may also move where that is no fast-forward.
+    /// Whether refs may move without a fast-forward.
     pub fn is_forced(&self) -> bool {
         self.forced
     }
@@ -249,8 +249,8 @@ impl Spec {
         }
     }
 
-    /// The prefix of the ref names that it has on the remote: a full name, `HEAD`, or what is before the star of a
-    /// pattern below `refs/`. `None` for a negative spec, and for any other side. Fails if memory runs out.
+    /// Its ref prefix on the remote: a full name, `HEAD`, or what is before the star of a pattern below `refs/`. `None`
+    /// for a negative spec, and for any other side. Fails if memory runs out.
     pub fn prefix(&self) -> Result<Option<&[u8]>, Error> {
         let (text, number) = (&self.canonical, self.operation.number());
         let mut prefix = no_text();
@@ -261,8 +261,8 @@ impl Spec {
         }
     }
 
-    /// Its prefix, or the six names that a partial name may stand for; nothing of an object id or a negative spec. If
-    /// a positive spec gives nothing, or a name with a star, only a request for all refs is safe: see [`prefixes`].
+    /// Its prefix, or the six candidates of a partial name; none for an object id or a negative spec. To ask a server,
+    /// call [`prefixes`]: this may be empty, contain a star, or for `HEAD` be incomplete.
     #[rustfmt::skip]
     pub fn expand_prefixes(&self) -> Result<Vec<Vec<u8>>, Error> {
         let (text, number) = (&self.canonical, self.operation.number());
@@ -276,7 +276,7 @@ impl Spec {
     }
 }
 
-/// A side, if there is one: none that there is is empty.
+/// A side, if there is one: a present one is never empty.
 fn side(bytes: &[u8]) -> Option<&[u8]> {
     (!bytes.is_empty()).then_some(bytes)
 }
@@ -293,7 +293,7 @@ impl fmt::Display for Spec {
     }
 }
 
-/// The version of the library that is linked, as `0.3.0`.
+/// The version of the library that is linked, such as `0.3.0`.
 pub fn library_version() -> String {
     let mut version = no_text();
     // The text is a constant of the library.
@@ -304,8 +304,8 @@ pub fn library_version() -> String {
     String::from_utf8_lossy(told).into_owned()
 }
 
-/// What to ask a server for, so that it tells of each ref that fetches take. `None` where only a request for
-/// all refs is safe. A push is refused.
+/// The ref prefixes to send to a server, so that it lists each ref that specs fetch. `None`: ask for all refs. Empty:
+/// send no request. A push is refused.
 ///
 /// ```
 /// use refspec::{prefixes, Operation, Spec};
@@ -349,18 +349,18 @@ impl Direction {
 pub struct Mapping {
     /// The index of the spec.
     pub spec: usize,
-    /// The index of the name. `None` for an object that is asked for by its id.
+    /// The index of the name. `None` for an object requested by its id.
     pub item: Option<usize>,
     /// A name, or an id in lower case.
     pub source: Vec<u8>,
     /// `None` if the spec has none.
     pub destination: Option<Vec<u8>>,
-    /// Whether the spec lets refs also move where that is no fast-forward.
+    /// Whether refs may move without a fast-forward.
     pub forced: bool,
 }
 
-/// What fetches map of names, or back from names. A push is refused. Looking back fails where a destination is an id,
-/// which names don't tell of.
+/// How specs map names, forward or backward. A push is refused. Backward fails if a destination is an id: names don't
+/// show which refs have it.
 ///
 /// ```
 /// use refspec::{matches, Direction, Operation, Spec};
@@ -378,16 +378,17 @@ pub fn matches<N: AsRef<[u8]>>(fetches: &[Spec], names: &[N], direction: Directi
     Ok(lists.told().iter().map(|one| lists.mapping(one, names, direction)).collect())
 }
 
-/// What a fetch is asked for.
+/// What to fetch.
 #[derive(Clone, Copy, Debug)]
 pub struct Wish<'w> {
-    /// The specs of the call, as in `git fetch REMOTE SPEC..`. Without any, the configured ones are fetched.
+    /// The given specs, as in `git fetch REMOTE SPEC..`. Without any, the configured ones are fetched; else these also
+    /// map what the given ones fetch.
     pub given: &'w [Spec],
     /// The values of `remote.<name>.fetch`, or those of `--refmap` in their place.
     pub configured: &'w [Spec],
     /// The values of `branch.<name>.merge` of the current branch, if its `branch.<name>.remote` is this remote.
     pub merges: &'w [&'w [u8]],
-    /// Whether all tags are asked for, by `--tags` or `remote.<name>.tagOpt`.
+    /// Whether to fetch all tags, as by `--tags` or `remote.<name>.tagOpt`.
     pub tags: bool,
 }
 
@@ -395,7 +396,7 @@ pub struct Wish<'w> {
 #[derive(Clone, Copy, Debug, PartialEq, Eq, Hash)]
 #[non_exhaustive]
 pub enum Origin {
-    /// The spec of the call at this index.
+    /// The given spec at this index.
     Given(usize),
     /// The configured spec at this index.
     Configured(usize),
@@ -419,7 +420,7 @@ impl Origin {
     }
 }
 
-/// Which side of an update isn't a valid ref name.
+/// Which side of an update is invalid.
 #[derive(Clone, Copy, Debug, PartialEq, Eq, Hash)]
 pub enum InvalidSide {
     Source,
@@ -431,13 +432,13 @@ pub enum InvalidSide {
 #[derive(Clone, Copy, Debug, PartialEq, Eq, Hash)]
 #[non_exhaustive]
 pub enum Verdict {
-    /// It is fetched, and written to its destination if it has one.
+    /// If the plan is carried out, it is fetched, and written to its destination if any.
     Written,
-    /// It is left out, as this side isn't a valid ref name.
+    /// It is left out: this side isn't a valid ref name, or is the destination `HEAD`.
     LeftOut(InvalidSide),
     /// Another source has the same destination, so nothing is fetched.
     InConflict,
-    /// A spec of the call writes another ref to its destination.
+    /// A given spec writes another ref to its destination.
     Overruled,
 }
 
@@ -457,7 +458,7 @@ impl Verdict {
 /// A ref or an object that a spec fetches.
 #[derive(Clone, Debug, PartialEq, Eq, Hash)]
 pub struct Update {
-    /// The index of the name. `None` for an object that is asked for by its id.
+    /// The index of the name. `None` for an object requested by its id.
     pub item: Option<usize>,
     /// A name, or an id in lower case.
     pub source: Vec<u8>,
@@ -467,15 +468,14 @@ pub struct Update {
     pub origin: Origin,
     /// What becomes of it.
     pub verdict: Verdict,
-    /// Whether the spec lets the ref also move where that is no fast-forward.
+    /// Whether the ref may move without a fast-forward.
     pub forced: bool,
 }
 
 /// What a fetch does.
 #[derive(Clone, Debug, PartialEq, Eq, Hash)]
 pub struct Plan {
-    /// The updates: those of the specs that map the names, and behind them those of the configured specs that are
-    /// applied to what the specs of the call take.
+    /// The updates, last those that configured specs add to given ones.
     pub updates: Vec<Update>,
     /// The specs whose source the remote lacks.
     pub missing: Vec<Origin>,
@@ -539,7 +539,7 @@ pub fn plan<N: AsRef<[u8]>>(wish: &Wish<'_>, names: &[N]) -> Result<Plan, Error>
 pub struct StaleRef {
     /// The index of its name.
     pub item: usize,
-    /// The index of the negative spec that keeps it. `None` if it is stale: a pruning fetch should delete it.
+    /// The index of the negative spec that keeps it. If `None`, a pruning fetch should delete it.
     pub kept_by: Option<usize>,
 }
 
