@@ -16,7 +16,7 @@ sys.dont_write_bytecode = True
 import runs  # beside this script
 
 PAGE = os.path.join(os.path.dirname(os.path.abspath(__file__)), "..", "man", "refspec.1")
-COMMANDS = ("check", "explain", "canon", "plan", "track", "prefixes")
+COMMANDS = ("check", "explain", "canon", "plan", "stale", "track", "prefixes")
 NOT_READ = b"refspec: the input could not be read to its end\n"
 NOT_WRITTEN = b"refspec: the output could not be written\n"
 NO_MEMORY = b"refspec: out of memory\n"
