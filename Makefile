@@ -13,7 +13,7 @@ SHELL := /bin/bash
 .SHELLFLAGS := -eu -o pipefail -c
 .PHONY: help build run test clean kit install uninstall
 
-LIBRARY := crates/gix_refspec_text crates/gix_refspec_match crates/gix_refspec
+LIBRARY := crates/gix_refspec_text crates/gix_refspec_match crates/gix_refspec crates/gix_refspec_plan crates/gix_refspec_lint
 FOLDER := crates/refspec_map
 PROGRAM := $(FOLDER)/out/refspec_map
 TESTS := crates/gix_refspec_tests/out/gix_refspec_tests_tests

@@ -10,7 +10,7 @@ words=(-L "dependency=$kit/rlibs")
 for name in std bstr hex; do
     words+=(--extern "$name=$kit/rlibs/$name.rlib")
 done
-for name in gix_refspec_text gix_refspec_match gix_refspec; do
+for name in gix_refspec_text gix_refspec_match gix_refspec gix_refspec_plan; do
     words+=(--extern "$name=../$name/out/rlib/$name.rlib" -L "dependency=../$name/out/rlib")
 done
 mkdir -p out

@@ -1,5 +1,5 @@
 #!/usr/bin/env python3
-"""Holds the procedure of `gix_refspec::lint` against brute force: tools/oracle/lint.py GROUPS [SEED]
+"""Holds the procedure of `gix_refspec_lint` against brute force: tools/oracle/lint.py GROUPS [SEED]
 
 For random groups of specs it asks the procedure which specs can conflict, and which are idle, and tries all lists of one and
 two refs over a small alphabet, and for idle specs those with up to three other candidates of partial names. Nothing printed but

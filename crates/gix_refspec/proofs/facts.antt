@@ -4,8 +4,6 @@ pub mod OutcomeFacts
 pub mod ValidationFacts
 pub mod ValidationLawFacts
 pub mod PlanLawFacts
-pub mod PlanFacts
-pub mod FetchFacts
 pub mod RefNameFacts
 pub mod PlainNameFacts
 pub mod AskedFacts
@@ -16,5 +14,3 @@ pub mod ItemFacts
 pub mod KeptFacts
 pub mod GroupFacts
 pub mod NamesDecideFacts
-pub mod StaleFacts
-pub mod LintFacts

@@ -4,6 +4,3 @@ pub mod prefixes
 pub mod hits
 pub mod keep
 pub mod validate
-pub mod plan
-pub mod stale
-pub mod lint

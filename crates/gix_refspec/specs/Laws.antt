@@ -8,7 +8,5 @@ pub mod Items
 pub mod Indexes
 pub mod Validation
 pub mod Plans
-pub mod Fetches
 pub mod Reasons
 pub mod Names
-pub mod Lint

@@ -9,6 +9,3 @@ pub use Rattle.gix_refspec_match.specs.Matching.Hits
 pub use Rattle.gix_refspec_match.specs.Matching.Missing
 pub mod Validation
 pub mod RefNames
-pub mod Plan
-pub mod Stale
-pub mod Lint

@@ -6,6 +6,3 @@ pub use Rattle.gix_refspec_match.specs.Views.Mapping
 pub mod Group
 pub mod Issue
 pub use Rattle.gix_refspec_match.specs.Views.Hashed
-pub mod Plan
-pub mod Stale
-pub mod Lint

@@ -21,11 +21,8 @@ ghost use Rattle.gix_refspec_text.specs.Views.Errors.{IsSameError};
 ghost use Rattle.gix_refspec.specs.Matching.RefNames.{WritesRefs};
 ghost use Rattle.gix_refspec.specs.Laws.Indexes.{MadeAtIndexes, RemainsExactly};
 ghost use Rattle.gix_refspec.specs.Laws.Plans.{NoControlCharacter, PlansApart};
-ghost use Rattle.gix_refspec.specs.Laws.Fetches.{CarriedOutExactly, ConflictsExactly, OnePlan, WritesOnce};
-ghost use Rattle.gix_refspec.specs.Laws.Lint.{ConflictFree, ConflictsShown, ExamplesConflict, IdleExclusionLeftOut, IdleLeftOut, PlanConflictFree};
 ghost use Rattle.gix_refspec.specs.Laws.Reasons.{ReasonRefuses};
 ghost use Rattle.gix_refspec.specs.Laws.Names.{PlainNames};
-ghost use Rattle.gix_refspec.specs.Views.Plan.{wish_of};
 ghost use Rattle.gix_refspec_text.specs.Views.Spec.{reading_of, owned_reading_of};
 ghost use Rattle.gix_refspec_text.specs.Views.Instruction.{meaning_of_instruction, meaning_of_fetch, meaning_of_push};
 ghost use Rattle.gix_refspec_match.specs.Views.Hashed.{source_writes, pair_writes};
@@ -33,7 +30,6 @@ ghost use Rattle.gix_refspec_match.specs.Views.Hashed.{source_writes, pair_write
 use crate::match_group::ref_names::InvalidSide;
 use crate::match_group::validate::{Fix, Issue};
 use crate::match_group::{Item, Mapping, NameRef, Outcome, SourceRef, match_lhs};
-use crate::plan::Wish;
 use crate::{Instruction, MatchGroup, RefSpec, RefSpecRef, name, oid, parsing};
 use gix_refspec_text::instruction::{Fetch, Push};
 use gix_refspec_text::name::PatternError;
@@ -325,64 +321,6 @@ pub fn plans_apart()
 /// a byte below 32. So no mapping of `match_lhs` contains one, if no name of an item does.
 pub fn no_control_character()
     ensures { NoControlCharacter }
-{}
-
-/// A wish and the refs of a remote determine what `plan_fetch` returns.
-pub fn one_plan(wish: &Wish<'_, '_>, items: &[Item<'_>])
-    ensures { OnePlan (wish_of wish.now) (map ref_of items.now) }
-{}
-
-/// No two updates that `plan_fetch` says are written have the same destination.
-pub fn writes_once(wish: &Wish<'_, '_>, items: &[Item<'_>])
-    ensures { WritesOnce (wish_of wish.now) (map ref_of items.now) }
-{}
-
-/// An update of `plan_fetch` is in conflict exactly if another one has the same destination and another source, and
-/// neither is left out or overruled.
-pub fn conflicts_exactly(wish: &Wish<'_, '_>, items: &[Item<'_>])
-    ensures { ConflictsExactly (wish_of wish.now) (map ref_of items.now) }
-{}
-
-/// What `plan_fetch` returns is carried out exactly if no two updates conflict, and the remote has the source of each
-/// spec of the call, or without any of each configured one. The source of a pattern, an object id or a negative spec is
-/// never missing. If nothing is asked for, configured or merged, the remote has to have `HEAD`.
-pub fn carried_out_exactly(wish: &Wish<'_, '_>, items: &[Item<'_>])
-    ensures { CarriedOutExactly (wish_of wish.now) (map ref_of items.now) }
-{}
-
-/// Two specs that conflict over any refs also conflict over the refs of two sources alone: so `possible_conflicts` has an
-/// example of them.
-pub fn conflicts_shown(specs: &[RefSpecRef<'_>])
-    ensures { ConflictsShown (map reading_of specs.now) }
-{}
-
-/// On a remote with the two sources of an example of `possible_conflicts` alone, both are mapped to its destination: both
-/// mappings are kept, their sides are valid, and their sources differ.
-pub fn examples_conflict(specs: &[RefSpecRef<'_>])
-    ensures { ExamplesConflict (map reading_of specs.now) }
-{}
-
-/// A spec that `idle_specs` reports can be left out: whatever refs with valid names a remote has, the valid pairs that are kept
-/// are the same without it.
-pub fn idle_left_out(specs: &[RefSpecRef<'_>])
-    ensures { IdleLeftOut (map reading_of specs.now) }
-{}
-
-/// And so can a negative spec that `idle_exclusions` reports, whatever refs a remote has.
-pub fn idle_exclusion_left_out(specs: &[RefSpecRef<'_>])
-    ensures { IdleExclusionLeftOut (map reading_of specs.now) }
-{}
-
-/// If `possible_conflicts` finds nothing, no two mappings conflict, whatever refs a remote has: of those that `plan_fetch` makes
-/// of these specs and doesn't leave out, two with the same destination have the same source. So a caller may skip validation.
-pub fn conflict_free(specs: &[RefSpecRef<'_>])
-    ensures { ConflictFree (map reading_of specs.now) }
-{}
-
-/// If `possible_conflicts` finds nothing among the configured specs of a wish, and nothing else is asked for, no update of
-/// `plan_fetch` is in conflict, whatever refs the remote has.
-pub fn plan_conflict_free(wish: &Wish<'_, '_>)
-    ensures { PlanConflictFree (wish_of wish.now) }
 {}
 
 /// An outcome has at most one list of conflicts, one of survivors and one of fixes: the contract of

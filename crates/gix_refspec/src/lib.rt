@@ -27,14 +27,13 @@
 //! ```
 //!
 //! Texts and single specs come from the crate `gix_refspec_text`, items and mappings from
-//! `gix_refspec_match`. This crate re-exports all that callers need of these two.
+//! `gix_refspec_match`. This crate re-exports all that callers need of these two. Two crates are built on it:
+//! `gix_refspec_plan` tells what a fetch writes and which local refs are stale, and `gix_refspec_lint` what
+//! specs do together, whatever refs a remote has.
 #![tactic(auto)]
 
 pub mod laws;
-pub mod lint;
 pub mod match_group;
-pub mod plan;
-pub mod stale;
 
 pub use gix_refspec_text::parsing::Operation;
 pub use gix_refspec_text::{

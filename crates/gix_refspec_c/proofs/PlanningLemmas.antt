@@ -1,10 +1,10 @@
 -- Why a plan isn't carried out.
 use Rattle.std.proofs.Common.{◌≡◌, ◌⊎◌, inl, inr, suc, List, [], ◌∷◌, refl, arith}
 use Rattle.std.specs.List.{AllByRecursion, Any}
-use Rattle.gix_refspec.specs.declared.plan.Origin.{Origin}
-use Rattle.gix_refspec.specs.declared.plan.Verdict.{Verdict}
-use Rattle.gix_refspec.specs.declared.plan.Verdict.TheVariants as verdict
-use Rattle.gix_refspec.specs.Matching.Plan.{IsCarriedOut, Planned}
+use Rattle.gix_refspec_plan.specs.declared.Origin.{Origin}
+use Rattle.gix_refspec_plan.specs.declared.Verdict.{Verdict}
+use Rattle.gix_refspec_plan.specs.declared.Verdict.TheVariants as verdict
+use Rattle.gix_refspec_plan.specs.Matching.Plan.{IsCarriedOut, Planned}
 
 -- a verdict is that of a conflict, or not
 is_conflict : (v : Verdict) → (v ≡ verdict.InConflict) ⊎ ¬ (v ≡ verdict.InConflict)

@@ -4,13 +4,13 @@ use Rattle.std.specs.Prelude.{◌≡◌, ◌≢◌, ◌⊎◌, ◌==◌, not, �
 use Rattle.std.specs.List.{AllZip, Any}
 use Rattle.gix_refspec_text.specs.declared.parsing.Operation.TheVariants.{Fetch}
 use Rattle.gix_refspec.specs.declared.match_group.ref_names.InvalidSide.TheVariants as invalid
-use Rattle.gix_refspec.specs.declared.plan.Origin.{Origin}
-use Rattle.gix_refspec.specs.declared.plan.Origin.TheVariants as origin
-use Rattle.gix_refspec.specs.declared.plan.Verdict.{Verdict}
-use Rattle.gix_refspec.specs.declared.plan.Verdict.TheVariants as verdict
+use Rattle.gix_refspec_plan.specs.declared.Origin.{Origin}
+use Rattle.gix_refspec_plan.specs.declared.Origin.TheVariants as origin
+use Rattle.gix_refspec_plan.specs.declared.Verdict.{Verdict}
+use Rattle.gix_refspec_plan.specs.declared.Verdict.TheVariants as verdict
 use Rattle.gix_refspec.specs.Specs.Reading.{Reading}
 use Rattle.gix_refspec.specs.Specs.Grammar.{Reads}
-use Rattle.gix_refspec.specs.Matching.Plan.{IsCarriedOut, IsPlan as IsPlanOf, Planned, Wish}
+use Rattle.gix_refspec_plan.specs.Matching.Plan.{IsCarriedOut, IsPlan as IsPlanOf, Planned, Wish}
 use Rattle.gix_refspec_c.specs.declared.failure.Failure.{Failure}
 use Rattle.gix_refspec_c.specs.declared.failure.Failure.TheVariants as failure
 use Rattle.gix_refspec_c.specs.declared.planning.WishIn.{WishIn}

@@ -4,7 +4,7 @@ use Rattle.std.specs.List.{AllZip}
 use Rattle.gix_refspec_text.specs.declared.parsing.Operation.TheVariants.{Fetch}
 use Rattle.gix_refspec.specs.Specs.Reading.{Reading}
 use Rattle.gix_refspec.specs.Specs.Grammar.{Reads}
-use Rattle.gix_refspec.specs.Matching.Stale.{AreStale, Found}
+use Rattle.gix_refspec_plan.specs.Matching.Stale.{AreStale, Found}
 use Rattle.gix_refspec_c.specs.declared.pruning.StaleOut.{StaleOut}
 use Rattle.gix_refspec_c.specs.Mapping.{number_of_index}
 use Rattle.gix_refspec_c.specs.Matching.{nameless}

@@ -2,7 +2,7 @@
 
 ghost use Rattle.std.specs.Prelude.{◌≡◌, ◌++◌, ◌∷◌, [], None, List, length, map, IfErr, IfOk, OnOk};
 ghost use Rattle.bstr.specs.BStr.{bstr_bytes};
-ghost use Rattle.gix_refspec.specs.Views.Plan.{planned_of, wish_of};
+ghost use Rattle.gix_refspec_plan.specs.Views.Plan.{planned_of, wish_of};
 ghost use Rattle.gix_refspec_c.specs.Group.{bytes_of};
 ghost use Rattle.gix_refspec_c.specs.Mapping.{Entry, HasAll, Describes, described_at, described_by, text_of};
 ghost use Rattle.gix_refspec_c.specs.Outcome.{Concludes};
@@ -17,7 +17,7 @@ use bstr::BStr;
 use gix_refspec::match_group::ref_names::InvalidSide;
 use gix_refspec::oid::{Kind, ObjectId};
 use gix_refspec::parsing::Operation;
-use gix_refspec::plan::{Origin, Plan, Update, Verdict, Wish, plan_fetch};
+use gix_refspec_plan::{Origin, Plan, Update, Verdict, Wish, plan_fetch};
 use std::alloc::{AllocError, Global};
 
 /// What a fetch is asked for, from C.

@@ -39,9 +39,9 @@ pub extern "C" fn gix_refspec_prefix<'a>(
 }
 
 /// The expansion of a refspec: its prefix, or the six names that a partial name may stand for, one per
-/// line. If a positive refspec gives no line, or one with a star, only a request for all refs is safe;
-/// `gix_refspec_prefixes` checks that. Sets `len` to the required size even if `buffer` is too small,
-/// and leaves `buffer` unchanged then; after any other failure nothing has changed.
+/// line. It may be empty, contain a star, or for `HEAD` be incomplete: `gix_refspec_prefixes` says what
+/// to ask a server for. Sets `len` to the required size even if `buffer` is too small, and leaves
+/// `buffer` unchanged then; after any other failure nothing has changed.
 #[unsafe(no_mangle)]
 pub extern "C" fn gix_refspec_expand_prefixes(
     alloc: Global,

@@ -1,7 +1,7 @@
 //! Which local refs a pruning fetch should delete.
 
 ghost use Rattle.std.specs.Prelude.{◌≢◌, List, map, IfErr, IfOk, OnOk};
-ghost use Rattle.gix_refspec.specs.Views.Stale.{found_of};
+ghost use Rattle.gix_refspec_plan.specs.Views.Stale.{found_of};
 ghost use Rattle.gix_refspec_c.specs.Buffer.{IsWrittenTo, WritesNothing};
 ghost use Rattle.gix_refspec_c.specs.Group.{AreUnread, bytes_of};
 ghost use Rattle.gix_refspec_c.specs.Outcome.{Concludes};
@@ -15,7 +15,7 @@ use crate::reading::read_all;
 use crate::write::write;
 use gix_refspec::oid::{Kind, ObjectId};
 use gix_refspec::parsing::Operation;
-use gix_refspec::stale::{Stale, stale_refs};
+use gix_refspec_plan::stale::{Stale, stale_refs};
 use std::alloc::{AllocError, Global};
 
 /// A local ref that looks stale, for C.

@@ -3,18 +3,18 @@ use Rattle.std.specs.Prelude.{◌≡◌, Bool, true, false, List, map, filter}
 use Rattle.std.specs.List.{Contains}
 use Rattle.gix_refspec_text.specs.declared.parsing.Operation.TheVariants.{Fetch}
 use Rattle.gix_refspec_text.specs.declared.spec.RefSpecRef.{RefSpecRef}
-use Rattle.gix_refspec.specs.declared.plan.Origin.{Origin}
-use Rattle.gix_refspec.specs.declared.plan.Update.{Update}
-use Rattle.gix_refspec.specs.declared.plan.Verdict.{Verdict}
-use Rattle.gix_refspec.specs.declared.plan.Verdict.TheVariants as verdict
+use Rattle.gix_refspec_plan.specs.declared.Origin.{Origin}
+use Rattle.gix_refspec_plan.specs.declared.Update.{Update}
+use Rattle.gix_refspec_plan.specs.declared.Verdict.{Verdict}
+use Rattle.gix_refspec_plan.specs.declared.Verdict.TheVariants as verdict
 use Rattle.gix_refspec.specs.Specs.Reading.{Reading}
 use Rattle.gix_refspec.specs.Views.Spec.{reading_of}
 use Rattle.gix_refspec.specs.Views.Group.{is_for}
-use Rattle.gix_refspec.specs.Views.Plan.{planned_of}
+use Rattle.gix_refspec_plan.specs.Views.Plan.{planned_of}
 use Rattle.gix_refspec.specs.Matching.Match.{Ref}
 use Rattle.gix_refspec_match.specs.Matching.Missing.{LacksSource}
-use Rattle.gix_refspec.specs.Matching.Plan.{IsPlan, Planned, Wish}
-use Rattle.gix_refspec.specs.Laws.Fetches.{AreWrittenOnce, DoConflict, IsRequired}
+use Rattle.gix_refspec_plan.specs.Matching.Plan.{IsPlan, Planned, Wish}
+use Rattle.gix_refspec_plan.specs.Laws.Fetches.{AreWrittenOnce, DoConflict, IsRequired}
 use Rattle.gix_refspec_uses.specs.declared.planner.Fetch.{Fetch as FetchMade}
 use Rattle.gix_refspec_uses.specs.declared.planner.Fetch.TheVariants as made
 

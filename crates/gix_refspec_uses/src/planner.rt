@@ -2,12 +2,11 @@
 
 ghost use Rattle.std.specs.Prelude.{◌≡◌, map, IfOk};
 ghost use Rattle.gix_refspec.specs.Views.Group.{ref_of};
-ghost use Rattle.gix_refspec.specs.Views.Plan.{wish_of};
+ghost use Rattle.gix_refspec_plan.specs.Views.Plan.{wish_of};
 ghost use Rattle.gix_refspec_uses.specs.Planned.{AreFetched, IfCarriedOut, IfHindered, IsHindered, is_written};
 
-use gix_refspec::laws;
 use gix_refspec::match_group::Item;
-use gix_refspec::plan::{Plan, Update, Verdict, Wish, plan_fetch};
+use gix_refspec_plan::{Plan, Update, Verdict, Wish, laws, plan_fetch};
 use std::alloc::{AllocError, Global};
 
 /// What comes of a fetch.

@@ -8,7 +8,7 @@ mod streams;
 use crate::arguments::{call_of, command_line, has_refs, names_no_file, names_two_inputs};
 use crate::git::run_git;
 use crate::streams::{CLOSED_STATUS, Stream};
-use gix_refspec::plan::Plan;
+use gix_refspec_plan::Plan;
 use refspec_commands::run::run;
 use refspec_io::call::{Call, Command, Files};
 use refspec_io::fault::Fault;

@@ -8,8 +8,8 @@ mod idle;
 mod rules;
 
 use crate::specs::report_specs;
+use gix_refspec::RefSpecRef;
 use gix_refspec::parsing::Operation;
-use gix_refspec::{RefSpecRef, lint};
 use refspec_io::call::{Call, Command, Form};
 use refspec_io::checked::{Checked, check_all, has_bad};
 use refspec_io::json;
@@ -351,11 +351,11 @@ fn warnings_on<'a>(
 // What the linter found. Without a free byte it can say nothing.
 fn or_nothing<T: Drop>(
     alloc: Global,
-    found: Result<Vec<T>, lint::Error>,
+    found: Result<Vec<T>, gix_refspec_lint::Error>,
 ) -> Result<Vec<T>, AllocError> {
     match found {
         Ok(found) => Ok(found),
-        Err(lint::Error::NoFreeByte) => Ok(Vec::new(alloc)),
-        Err(lint::Error::Memory) => Err(AllocError),
+        Err(gix_refspec_lint::Error::NoFreeByte) => Ok(Vec::new(alloc)),
+        Err(gix_refspec_lint::Error::Memory) => Err(AllocError),
     }
 }

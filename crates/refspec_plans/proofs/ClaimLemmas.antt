@@ -14,7 +14,7 @@ use Rattle.std.proofs.lemmas.List.Quantifiers.{all_pairs_push}
 use Rattle.std.proofs.lemmas.List.Sorted.{Contains-permutation, IsPermutation-map, IsPermutation-sym}
 use Rattle.std.proofs.lemmas.Map.Keys.{sorted_from_all_adjacent}
 use Rattle.std.proofs.lemmas.Option.{slice_get_within}
-use Rattle.gix_refspec.specs.Matching.Plan.{Planned}
+use Rattle.gix_refspec_plan.specs.Matching.Plan.{Planned}
 use Rattle.gix_refspec_match.specs.Private.Kept.{Rises}
 use Rattle.gix_refspec_match.specs.Private.Orders.{both_equal}
 use Rattle.gix_refspec_match.proofs.lemmas.keep.RepeatLemmas.{apart_places}

@@ -11,12 +11,12 @@ use Rattle.std.proofs.lemmas.Bool.{cases_lt}
 use Rattle.std.proofs.lemmas.List.{take-append-drop}
 use Rattle.std.proofs.lemmas.List.Elements.{All-from_recursion, Contains-append_left, Contains-push}
 use Rattle.std.proofs.lemmas.Option.{slice_get-map, slice_get_read}
-use Rattle.gix_refspec.specs.declared.plan.Update.{Update as PlannedUpdate}
-use Rattle.gix_refspec.specs.declared.plan.Verdict.{Verdict}
-use Rattle.gix_refspec.specs.declared.plan.Verdict.TheVariants as verdict
+use Rattle.gix_refspec_plan.specs.declared.Update.{Update as PlannedUpdate}
+use Rattle.gix_refspec_plan.specs.declared.Verdict.{Verdict}
+use Rattle.gix_refspec_plan.specs.declared.Verdict.TheVariants as verdict
 use Rattle.gix_refspec.specs.Matching.Lists.{IsMadeFrom}
-use Rattle.gix_refspec.specs.Matching.Plan.{Planned}
-use Rattle.gix_refspec.specs.Views.Plan.{planned_of}
+use Rattle.gix_refspec_plan.specs.Matching.Plan.{Planned}
+use Rattle.gix_refspec_plan.specs.Views.Plan.{planned_of}
 use Rattle.gix_refspec.proofs.lemmas.validate.FirstLemmas.{Has, Increase}
 use Rattle.gix_refspec.proofs.lemmas.validate.UpdateLemmas.{strict_left, strict_right}
 use Rattle.gix_refspec_text.proofs.lemmas.lists.AllLemmas.{all_join, all_right, all_weaker}

@@ -2,11 +2,11 @@
 use Rattle.std.proofs.Common.{◌≡◌, ◌==◌, ℕ, Bool, true, false, List, [], ◌∷◌, length, map, inl, inr, refl, ap, ◌∙◌, subst, sym, arith}
 use Rattle.std.proofs.lemmas.Bool.{eqb-true, false≢true}
 use Rattle.gix_refspec_text.specs.declared.spec.RefSpecRef.{RefSpecRef}
-use Rattle.gix_refspec.specs.declared.plan.Origin.{Origin}
+use Rattle.gix_refspec_plan.specs.declared.Origin.{Origin}
 use Rattle.gix_refspec.specs.Specs.Reading.{Reading}
 use Rattle.gix_refspec.specs.Matching.Match.{Ref}
-use Rattle.gix_refspec.specs.Matching.Plan.{IsCarriedOut, Planned, Wish}
-use Rattle.gix_refspec.specs.Matching.Stale.{AreStale, Found}
+use Rattle.gix_refspec_plan.specs.Matching.Plan.{IsCarriedOut, Planned, Wish}
+use Rattle.gix_refspec_plan.specs.Matching.Stale.{AreStale, Found}
 use Rattle.gix_refspec.specs.Views.Spec.{reading_of}
 use Rattle.refspec_io.specs.declared.call.Form.{Form}
 use Rattle.refspec_io.specs.declared.call.Task.{Task}

@@ -1,8 +1,8 @@
 -- The lines of updates, grouped below their specs, in order.
 use Rattle.std.proofs.Common.{◌≡◌, ◌≢◌, ℕ, Bool, true, false, MatchBool, cond, List, [], ◌∷◌, ◌++◌, codes, unwrap_or, Option, Some, None, inl, inr, refl, sym, ap, ◌∙◌, subst, append_assoc}
 use Rattle.std.proofs.lemmas.List.{append-nil}
-use Rattle.gix_refspec.specs.declared.plan.Origin.{Origin}
-use Rattle.gix_refspec.specs.Matching.Plan.{Planned}
+use Rattle.gix_refspec_plan.specs.declared.Origin.{Origin}
+use Rattle.gix_refspec_plan.specs.Matching.Plan.{Planned}
 use Rattle.refspec_io.specs.Rows.{WritesCell, source_text}
 use Rattle.refspec_io.specs.Shown.{WritesQuoted}
 use Rattle.refspec_io.proofs.ShownLemmas.{behind}

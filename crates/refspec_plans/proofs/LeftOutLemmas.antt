@@ -1,6 +1,6 @@
 -- The objects of updates that are left out or overruled, member by member.
 use Rattle.std.proofs.Common.{◌≡◌, ℕ, List, ◌++◌, Option, ap, option_map, refl, ◌∙◌}
-use Rattle.gix_refspec.specs.Matching.Plan.{Planned}
+use Rattle.gix_refspec_plan.specs.Matching.Plan.{Planned}
 use Rattle.refspec_json.specs.Objects.{left_out_object, line_of, overruled_object}
 use Rattle.refspec_io.specs.Json.{json_text}
 use Rattle.refspec_io.specs.Rows.{source_text}

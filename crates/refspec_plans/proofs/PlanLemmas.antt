@@ -1,8 +1,8 @@
 -- The report of a plan, part by part.
 use Rattle.std.proofs.Common.{◌≡◌, ◌≢◌, ◌⊎◌, ◌||◌, ℕ, Bool, true, false, MatchBool, List, [], inl, inr, refl, subst}
-use Rattle.gix_refspec.specs.declared.plan.Origin.{Origin}
+use Rattle.gix_refspec_plan.specs.declared.Origin.{Origin}
 use Rattle.gix_refspec.specs.Matching.Match.{Ref}
-use Rattle.gix_refspec.specs.Matching.Plan.{IsCarriedOut, Planned, Wish}
+use Rattle.gix_refspec_plan.specs.Matching.Plan.{IsCarriedOut, Planned, Wish}
 use Rattle.refspec_io.specs.declared.call.Form.{Form}
 use Rattle.refspec_io.specs.declared.call.Task.{Task}
 use Rattle.refspec_io.specs.Json.{AddsObjects}

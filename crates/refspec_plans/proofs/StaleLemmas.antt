@@ -3,10 +3,10 @@ use Rattle.std.proofs.Common.{◌≡◌, ℕ, ◌+◌, ◌<◌, Bor, List, [], �
 use Rattle.std.proofs.lemmas.Grind.{flat_map-append}
 use Rattle.std.proofs.lemmas.List.Elements.{filter_map-append}
 use Rattle.std.proofs.lemmas.List.{append-nil, map_more}
-use Rattle.gix_refspec.specs.declared.stale.Stale.{Stale}
+use Rattle.gix_refspec_plan.specs.declared.stale.Stale.{Stale}
 use Rattle.gix_refspec.specs.Matching.Match.{Ref}
-use Rattle.gix_refspec.specs.Matching.Stale.{Found}
-use Rattle.gix_refspec.specs.Views.Stale.{found_of}
+use Rattle.gix_refspec_plan.specs.Matching.Stale.{Found}
+use Rattle.gix_refspec_plan.specs.Views.Stale.{found_of}
 use Rattle.refspec_json.specs.Objects.{kept_object, line_of}
 use Rattle.refspec_io.specs.declared.call.Form.{Form}
 use Rattle.refspec_io.specs.Json.{json_text}

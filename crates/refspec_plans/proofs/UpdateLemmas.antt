@@ -2,8 +2,8 @@
 use Rattle.std.proofs.Common.{◌≡◌, ℕ, List, [], ◌∷◌, ◌++◌, Option, Some, codes, flat_map, option_map, unwrap_or, refl, sym, ap, ◌∙◌, subst, append_assoc}
 use Rattle.std.proofs.lemmas.Grind.{flat_map-append}
 use Rattle.std.proofs.lemmas.List.{append-nil}
-use Rattle.gix_refspec.specs.declared.plan.Origin.{Origin}
-use Rattle.gix_refspec.specs.Matching.Plan.{Planned}
+use Rattle.gix_refspec_plan.specs.declared.Origin.{Origin}
+use Rattle.gix_refspec_plan.specs.Matching.Plan.{Planned}
 use Rattle.refspec_json.specs.Objects.{line_of, mapping_object}
 use Rattle.refspec_io.specs.Json.{json_text}
 use Rattle.refspec_io.specs.Rows.{WritesCell, source_text}

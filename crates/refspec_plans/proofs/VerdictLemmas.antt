@@ -3,11 +3,11 @@ use Rattle.std.proofs.Common.{◌≡◌, ℕ, ◌+◌, ◌<◌, Bool, List, [], 
 use Rattle.std.proofs.lemmas.List.{map_more}
 use Rattle.std.proofs.lemmas.List.Elements.{filter-append, filter_map-append}
 use Rattle.gix_refspec.specs.declared.match_group.ref_names.InvalidSide.{InvalidSide}
-use Rattle.gix_refspec.specs.declared.plan.Update.{Update}
-use Rattle.gix_refspec.specs.declared.plan.Verdict.{Verdict}
-use Rattle.gix_refspec.specs.declared.plan.Verdict.TheVariants as verdict
-use Rattle.gix_refspec.specs.Matching.Plan.{Planned}
-use Rattle.gix_refspec.specs.Views.Plan.{planned_of}
+use Rattle.gix_refspec_plan.specs.declared.Update.{Update}
+use Rattle.gix_refspec_plan.specs.declared.Verdict.{Verdict}
+use Rattle.gix_refspec_plan.specs.declared.Verdict.TheVariants as verdict
+use Rattle.gix_refspec_plan.specs.Matching.Plan.{Planned}
+use Rattle.gix_refspec_plan.specs.Views.Plan.{planned_of}
 use Rattle.refspec_plans.specs.Verdicts.{is_overruled, is_written, left_out_by, left_out_of, overruled_of, unwritable, written_of}
 
 planned-next : (xs : List Update) (i : ℕ) (x : Update) → i < length xs → x ≡ get_or xs i x → map planned_of (take (i + 1) xs) ≡ map planned_of (take i xs) ++ planned_of x ∷ []

@@ -5,11 +5,11 @@ use Rattle.std.proofs.lemmas.List.{take_min, drop_min, take-map, drop-map}
 use Rattle.bstr.specs.BStr.{bstr_bytes}
 use Rattle.bstr.specs.declared.bstr.BStr.{BStr}
 use Rattle.gix_refspec_text.specs.declared.spec.RefSpecRef.{RefSpecRef}
-use Rattle.gix_refspec.specs.declared.plan.Origin.{Origin}
+use Rattle.gix_refspec_plan.specs.declared.Origin.{Origin}
 use Rattle.gix_refspec.specs.Specs.Reading.{Reading}
 use Rattle.gix_refspec.specs.Views.Spec.{reading_of}
 use Rattle.gix_refspec.specs.Matching.Match.{Ref}
-use Rattle.gix_refspec.specs.Matching.Plan.{IsPlan, Planned, Wish}
+use Rattle.gix_refspec_plan.specs.Matching.Plan.{IsPlan, Planned, Wish}
 use Rattle.refspec_io.specs.declared.call.Call.{Call}
 use Rattle.refspec_io.specs.declared.call.Command.{Command}
 use Rattle.refspec_io.specs.declared.call.Command.TheVariants as command

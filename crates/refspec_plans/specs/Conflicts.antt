@@ -8,10 +8,10 @@ use Rattle.std.specs.Cmp.Lexicographic.{slice_cmp}
 use Rattle.std.specs.List.{AllByRecursion, Contains, filter_map, slice_get}
 use Rattle.std.specs.List.Sorted.{IsStrictlySortedBy}
 use Rattle.std.specs.Ordering.{nat_cmp, ordering_then}
-use Rattle.gix_refspec.specs.declared.plan.Origin.{Origin}
-use Rattle.gix_refspec.specs.declared.plan.Verdict.TheVariants as verdict
+use Rattle.gix_refspec_plan.specs.declared.Origin.{Origin}
+use Rattle.gix_refspec_plan.specs.declared.Verdict.TheVariants as verdict
 use Rattle.gix_refspec.specs.Matching.Lists.{IsMadeFrom}
-use Rattle.gix_refspec.specs.Matching.Plan.{Planned}
+use Rattle.gix_refspec_plan.specs.Matching.Plan.{Planned}
 use Rattle.refspec_json.specs.Objects.{Claimed, conflict_object, line_of}
 use Rattle.refspec_io.specs.declared.call.Form.{Form}
 use Rattle.refspec_io.specs.declared.call.Form.TheVariants as form

@@ -1,10 +1,10 @@
 -- The output of `plan` and `stale`: what a task fetches, and what is reported of that.
 use Rattle.std.specs.Prelude.{◌≡◌, ◌≢◌, ◌⊎◌, ℕ, Bool, true, List, [], drop, map, take}
 use Rattle.bstr.specs.BStr.{bstr_bytes}
-use Rattle.gix_refspec.specs.declared.plan.Origin.{Origin}
+use Rattle.gix_refspec_plan.specs.declared.Origin.{Origin}
 use Rattle.gix_refspec.specs.Specs.Reading.{Reading}
 use Rattle.gix_refspec.specs.Matching.Match.{Ref}
-use Rattle.gix_refspec.specs.Matching.Plan.{IsPlan, Planned, Wish}
+use Rattle.gix_refspec_plan.specs.Matching.Plan.{IsPlan, Planned, Wish}
 use Rattle.refspec_io.specs.declared.call.Call.{Call}
 use Rattle.refspec_io.specs.declared.call.Command.{Command}
 use Rattle.refspec_io.specs.declared.call.Command.TheVariants as command

@@ -1,8 +1,8 @@
 -- How the updates of a plan are shown in lines, grouped below their specs. This project's own rule: consecutive
 -- updates of a spec are below its text; if a given spec is the only one, its text isn't shown.
 use Rattle.std.specs.Prelude.{◌≡◌, ◌≢◌, ◌⊎◌, ℕ, Bool, true, false, List, [], ◌∷◌, ◌++◌, Option, Some, None, MatchBool, unwrap_or, codes}
-use Rattle.gix_refspec.specs.declared.plan.Origin.{Origin}
-use Rattle.gix_refspec.specs.Matching.Plan.{Planned}
+use Rattle.gix_refspec_plan.specs.declared.Origin.{Origin}
+use Rattle.gix_refspec_plan.specs.Matching.Plan.{Planned}
 use Rattle.refspec_io.specs.Rows.{IsCell, source_text}
 use Rattle.refspec_io.specs.Shown.{IsQuoted}
 use Rattle.refspec_plans.specs.declared.origins.SpecTexts.{SpecTexts}

@@ -2,7 +2,7 @@
 use Rattle.std.specs.Prelude.{◌≡◌, ℕ, List, option_map, codes}
 use Rattle.gix_refspec.specs.declared.match_group.ref_names.InvalidSide.{InvalidSide}
 use Rattle.gix_refspec.specs.declared.match_group.ref_names.InvalidSide.TheVariants as side
-use Rattle.gix_refspec.specs.Matching.Plan.{Planned}
+use Rattle.gix_refspec_plan.specs.Matching.Plan.{Planned}
 use Rattle.refspec_json.specs.Objects.{left_out_object, line_of, overruled_object}
 use Rattle.refspec_io.specs.Json.{json_text}
 use Rattle.refspec_io.specs.Rows.{source_text}

@@ -1,7 +1,7 @@
 -- How the specs whose source the remote lacks are reported. This project's own rule. Which names of the remote are
 -- listed is left open.
 use Rattle.std.specs.Prelude.{◌≡◌, ℕ, zero, suc, ◌-◌, Bool, List, ◌∷◌, ◌++◌, Option, None, Some, codes, length}
-use Rattle.gix_refspec.specs.declared.plan.Origin.{Origin}
+use Rattle.gix_refspec_plan.specs.declared.Origin.{Origin}
 use Rattle.refspec_json.specs.Objects.{line_of, missing_object}
 use Rattle.refspec_io.specs.declared.call.Form.{Form}
 use Rattle.refspec_io.specs.declared.call.Form.TheVariants as form

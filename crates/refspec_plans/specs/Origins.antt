@@ -2,9 +2,9 @@
 use Rattle.std.specs.Prelude.{◌≡◌, ◌↔◌, ℕ, false, List, [], map, unwrap_or, codes, IsTrue, length}
 use Rattle.std.specs.List.{slice_get}
 use Rattle.bstr.specs.Owned.{bstring_bytes}
-use Rattle.gix_refspec.specs.declared.plan.Origin.{Origin}
-use Rattle.gix_refspec.specs.declared.plan.Origin.TheVariants as origin
-use Rattle.gix_refspec.specs.Matching.Plan.{Wish}
+use Rattle.gix_refspec_plan.specs.declared.Origin.{Origin}
+use Rattle.gix_refspec_plan.specs.declared.Origin.TheVariants as origin
+use Rattle.gix_refspec_plan.specs.Matching.Plan.{Wish}
 use Rattle.refspec_io.specs.Rows.{AreSpecTexts}
 use Rattle.refspec_plans.specs.declared.origins.SpecTexts.{SpecTexts}
 

@@ -1,9 +1,9 @@
 -- The output of `plan`, in the terms of the library.
 use Rattle.std.specs.Prelude.{◌≡◌, ◌≢◌, ◌⊎◌, ℕ, Bool, true, false, List, [], ◌++◌, MatchBool}
 use Rattle.std.specs.List.{flat_map}
-use Rattle.gix_refspec.specs.declared.plan.Origin.{Origin}
+use Rattle.gix_refspec_plan.specs.declared.Origin.{Origin}
 use Rattle.gix_refspec.specs.Matching.Match.{Ref}
-use Rattle.gix_refspec.specs.Matching.Plan.{IsCarriedOut, Planned, Wish}
+use Rattle.gix_refspec_plan.specs.Matching.Plan.{IsCarriedOut, Planned, Wish}
 use Rattle.refspec_io.specs.declared.call.Call.{Call}
 use Rattle.refspec_io.specs.declared.call.Form.{Form}
 use Rattle.refspec_io.specs.declared.call.Form.TheVariants as form

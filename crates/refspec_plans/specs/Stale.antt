@@ -4,9 +4,9 @@ use Rattle.std.specs.Prelude.{◌≡◌, ◌≢◌, ◌⊎◌, ℕ, Bool, true, 
 use Rattle.std.specs.List.{filter_map, flat_map, slice_get}
 use Rattle.gix_refspec.specs.Specs.Reading.{Reading}
 use Rattle.gix_refspec.specs.Matching.Match.{Ref}
-use Rattle.gix_refspec.specs.Matching.Plan.{IsCarriedOut, Planned, Wish}
-use Rattle.gix_refspec.specs.Matching.Stale.{AreStale, Found}
-use Rattle.gix_refspec.specs.declared.plan.Origin.{Origin}
+use Rattle.gix_refspec_plan.specs.Matching.Plan.{IsCarriedOut, Planned, Wish}
+use Rattle.gix_refspec_plan.specs.Matching.Stale.{AreStale, Found}
+use Rattle.gix_refspec_plan.specs.declared.Origin.{Origin}
 use Rattle.refspec_json.specs.Objects.{kept_object, line_of, stale_object}
 use Rattle.refspec_io.specs.declared.call.Form.{Form}
 use Rattle.refspec_io.specs.declared.call.Form.TheVariants as form

@@ -1,8 +1,8 @@
 -- How the updates of a plan are written: as aligned lines, fields ended by zero bytes, or JSON objects. This project's
 -- own rule.
 use Rattle.std.specs.Prelude.{◌≡◌, ℕ, List, [], ◌∷◌, ◌++◌, Some, option_map, unwrap_or, codes}
-use Rattle.gix_refspec.specs.declared.plan.Origin.{Origin}
-use Rattle.gix_refspec.specs.Matching.Plan.{Planned}
+use Rattle.gix_refspec_plan.specs.declared.Origin.{Origin}
+use Rattle.gix_refspec_plan.specs.Matching.Plan.{Planned}
 use Rattle.refspec_json.specs.Objects.{line_of, mapping_object}
 use Rattle.refspec_io.specs.Json.{json_text}
 use Rattle.refspec_io.specs.Rows.{IsCell, source_text}

@@ -2,9 +2,9 @@
 use Rattle.std.specs.Prelude.{Bool, true, false, List, Option, Some, None}
 use Rattle.std.specs.List.{filter, filter_map}
 use Rattle.gix_refspec.specs.declared.match_group.ref_names.InvalidSide.{InvalidSide}
-use Rattle.gix_refspec.specs.declared.plan.Verdict.{Verdict}
-use Rattle.gix_refspec.specs.declared.plan.Verdict.TheVariants as verdict
-use Rattle.gix_refspec.specs.Matching.Plan.{Planned}
+use Rattle.gix_refspec_plan.specs.declared.Verdict.{Verdict}
+use Rattle.gix_refspec_plan.specs.declared.Verdict.TheVariants as verdict
+use Rattle.gix_refspec_plan.specs.Matching.Plan.{Planned}
 
 -- whether an update with this verdict is written; is in conflict; is overruled
 abbrev pub is_written : Verdict → Bool

@@ -6,14 +6,14 @@ ghost use Rattle.std.specs.List.Sorted.{IsStrictlySortedBy};
 ghost use Rattle.refspec_json.specs.Views.{claim_texts};
 ghost use Rattle.refspec_io.specs.Json.{AddsObjects};
 ghost use Rattle.refspec_plans.specs.Conflicts.{AddsConflictLines, AddsConflicts, AddsEachConflict, AreContests, AreOrdered, IsConflict, IsContestOf, IsRun, WritesClaim, WritesClaims, WritesConflict, claim_cmp, claim_with, claims_of, conflict_line, contest_of, those_at};
-ghost use Rattle.gix_refspec.specs.Views.Plan.{planned_of};
+ghost use Rattle.gix_refspec_plan.specs.Views.Plan.{planned_of};
 ghost use Rattle.refspec_plans.specs.Origins.{note_of};
 ghost use Rattle.refspec_plans.specs.Verdicts.{in_conflict_of};
 
 use crate::origins::{SpecTexts, note_of, origin_name};
 use crate::updates::destination_or;
 use bstr::{BStr, BString};
-use gix_refspec::plan::{Origin, Update, Verdict};
+use gix_refspec_plan::{Origin, Update, Verdict};
 use refspec_io::call::Form;
 use refspec_io::counts::{reported_count, write_more};
 use refspec_io::fields::source_of;

@@ -1,9 +1,9 @@
 //! The report of a fetch of the refs in an input: its plan, or the local refs that it deletes if it prunes.
 
 ghost use Rattle.std.specs.Prelude.{◌≡◌, ◌↔◌, map, IfOk, IsTrue, MatchOption};
-ghost use Rattle.gix_refspec.specs.Matching.Plan.{IsCarriedOut};
+ghost use Rattle.gix_refspec_plan.specs.Matching.Plan.{IsCarriedOut};
 ghost use Rattle.gix_refspec.specs.Views.Group.{ref_of};
-ghost use Rattle.gix_refspec.specs.Views.Plan.{planned_of, wish_of};
+ghost use Rattle.gix_refspec_plan.specs.Views.Plan.{planned_of, wish_of};
 ghost use Rattle.gix_refspec.specs.Views.Spec.{reading_of};
 ghost use Rattle.refspec_plans.specs.Fetch.{AddsFetch, AddsPlanned, AreRemote, ReportsBad};
 
@@ -13,7 +13,7 @@ use crate::stale::report_stale;
 use gix_refspec::RefSpecRef;
 use gix_refspec::match_group::Item;
 use gix_refspec::oid::{Kind, ObjectId};
-use gix_refspec::plan::{Origin, Update, Wish, plan_fetch};
+use gix_refspec_plan::{Origin, Update, Wish, plan_fetch};
 use refspec_io::call::{Call, Command, Task};
 use refspec_io::input::end_of;
 use refspec_io::malformed::report_bad_records;

@@ -1,13 +1,13 @@
 //! The updates of a plan, grouped below their specs.
 
 ghost use Rattle.std.specs.Prelude.{◌≡◌, ◌≢◌, ◌∷◌, [], Some, map, MatchBool, OnOk};
-ghost use Rattle.gix_refspec.specs.Views.Plan.{planned_of};
+ghost use Rattle.gix_refspec_plan.specs.Views.Plan.{planned_of};
 ghost use Rattle.refspec_plans.specs.Groups.{AddsBelow, AddsGrouped, AddsShort, WritesBelow, WritesShort};
 ghost use Rattle.refspec_plans.specs.Verdicts.{written_of};
 
 use crate::origins::SpecTexts;
 use crate::updates::{destination_or, is_written, write_heading};
-use gix_refspec::plan::{Origin, Update};
+use gix_refspec_plan::{Origin, Update};
 use refspec_io::fields::{NO_DESTINATION, write_source_cell};
 use refspec_io::table::Layout;
 use std::alloc::{AllocError, Global};

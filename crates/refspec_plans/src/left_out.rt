@@ -5,7 +5,7 @@ ghost use Rattle.refspec_io.specs.Json.{AddsObjects};
 ghost use Rattle.refspec_io.specs.Rows.{source_text};
 ghost use Rattle.refspec_io.specs.Shown.{Grows};
 ghost use Rattle.refspec_plans.specs.LeftOut.{IsLeftOutLine, IsLeftOutOf, IsOverruledLine, IsOverruledOf, side_name};
-ghost use Rattle.gix_refspec.specs.Views.Plan.{planned_of};
+ghost use Rattle.gix_refspec_plan.specs.Views.Plan.{planned_of};
 ghost use Rattle.refspec_io.specs.declared.call.Form.TheVariants as form;
 ghost use Rattle.refspec_plans.specs.Verdicts.{left_out_of, overruled_of, unwritable};
 
@@ -13,7 +13,7 @@ use crate::origins::{SpecTexts, note_of, origin_name};
 use crate::updates::{destination_of, destination_or};
 use gix_refspec::match_group::ref_names::InvalidSide;
 use gix_refspec::name;
-use gix_refspec::plan::{Update, Verdict};
+use gix_refspec_plan::{Update, Verdict};
 use refspec_io::call::Form;
 use refspec_io::counts::{is_reported, write_more_than};
 use refspec_io::fields::source_of;

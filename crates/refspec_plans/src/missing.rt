@@ -7,7 +7,7 @@ ghost use Rattle.refspec_plans.specs.Missing.{AddsMissing, WritesMissing, Writes
 use crate::origins::{SpecTexts, note_of, origin_name};
 use bstr::ByteSlice;
 use gix_refspec::match_group::Item;
-use gix_refspec::plan::Origin;
+use gix_refspec_plan::Origin;
 use refspec_io::call::Form;
 use refspec_io::counts::{few, write_more};
 use refspec_io::json;

@@ -3,11 +3,11 @@
 ghost use Rattle.std.specs.Prelude.{◌≡◌, ◌↔◌, map, IfOk, IsTrue};
 ghost use Rattle.bstr.specs.BStr.{bstr_bytes};
 ghost use Rattle.bstr.specs.Owned.{bstring_bytes};
-ghost use Rattle.gix_refspec.specs.Views.Plan.{wish_of};
+ghost use Rattle.gix_refspec_plan.specs.Views.Plan.{wish_of};
 ghost use Rattle.refspec_plans.specs.Origins.{AreTextsOf, IsAlone, note_of, origin_name, text_of};
 
 use bstr::{BStr, BString};
-use gix_refspec::plan::{Origin, Wish};
+use gix_refspec_plan::{Origin, Wish};
 use refspec_io::canonical::{canonical_texts, text_at};
 use std::alloc::{AllocError, Global};
 

@@ -1,6 +1,6 @@
 //! The plan of a fetch, when it was reported.
 
-use gix_refspec::plan::Plan;
+use gix_refspec_plan::Plan;
 
 /// Disposes of a plan that was reported. Freeing it name by name takes long, and a process that ends soon
 /// needn't.

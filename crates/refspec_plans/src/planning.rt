@@ -2,9 +2,9 @@
 //! overruled are messages, or in JSON results.
 
 ghost use Rattle.std.specs.Prelude.{◌↔◌, map, IfOk, IsTrue};
-ghost use Rattle.gix_refspec.specs.Matching.Plan.{IsCarriedOut};
+ghost use Rattle.gix_refspec_plan.specs.Matching.Plan.{IsCarriedOut};
 ghost use Rattle.gix_refspec.specs.Views.Group.{ref_of};
-ghost use Rattle.gix_refspec.specs.Views.Plan.{planned_of, wish_of};
+ghost use Rattle.gix_refspec_plan.specs.Views.Plan.{planned_of, wish_of};
 ghost use Rattle.refspec_plans.specs.Plan.{AddsPlan};
 
 use crate::conflicts::report_conflicts;
@@ -15,7 +15,7 @@ use crate::stale::report_pruned;
 use crate::summary::Summary;
 use crate::updates::report_updates;
 use gix_refspec::match_group::Item;
-use gix_refspec::plan::{Origin, Update, Wish};
+use gix_refspec_plan::{Origin, Update, Wish};
 use refspec_io::call::Task;
 use refspec_io::report::Report;
 use std::alloc::{AllocError, Global};

@@ -2,8 +2,8 @@
 
 use crate::updates::is_written;
 use gix_refspec::match_group::Item;
-use gix_refspec::plan::{Origin, Update, Verdict, Wish};
 use gix_refspec::{MatchGroup, RefSpecRef};
+use gix_refspec_plan::{Origin, Update, Verdict, Wish};
 use refspec_io::call::{Call, Form};
 use std::alloc::{AllocError, Global};
 use std::collections::BTreeSet;

@@ -2,14 +2,14 @@
 
 ghost use Rattle.std.specs.Prelude.{◌≡◌, ◌++◌, ◌∷◌, [], map, option_map, unwrap_or, OnOk};
 ghost use Rattle.std.specs.List.{flat_map};
-ghost use Rattle.gix_refspec.specs.Views.Plan.{planned_of};
+ghost use Rattle.gix_refspec_plan.specs.Views.Plan.{planned_of};
 ghost use Rattle.refspec_plans.specs.Plan.{AddsLongOrGroups, AddsUpdates};
 ghost use Rattle.refspec_plans.specs.Updates.{AddsUpdateLines, WritesHeading, WritesUpdateLine, fields_with, object_with, update_fields, update_object};
 ghost use Rattle.refspec_plans.specs.Verdicts.{is_written, written_of};
 
 use crate::groups::{write_grouped, write_rows};
 use crate::origins::{SpecTexts, note_of, origin_name};
-use gix_refspec::plan::{Origin, Update, Verdict};
+use gix_refspec_plan::{Origin, Update, Verdict};
 use refspec_io::call::Form;
 use refspec_io::fields::{
     NO_DESTINATION, source_of, write_field, write_source_cell, write_source_field,

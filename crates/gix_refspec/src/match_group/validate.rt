@@ -8,10 +8,11 @@ ghost use Rattle.gix_refspec.specs.Views.Group.{readings_of};
 ghost use Rattle.gix_refspec.specs.Matching.Validation.{IndexesFit, AreConflicts, AreFixes, IsValidated, IsWritable, Survives};
 ghost use Rattle.gix_refspec.specs.Views.Issue.{mappings_of, removed_of};
 
-pub(crate) mod conflicts;
+mod conflicts;
 
 use crate::match_group::types::match_lhs;
 use bstr::BString;
+pub use conflicts::destinations_differ;
 use conflicts::issues_of;
 use gix_refspec_match::types::{Mapping, NameRef, Source};
 use gix_refspec_text::spec::prefix::is_head;

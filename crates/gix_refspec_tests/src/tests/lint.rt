@@ -2,7 +2,7 @@
 //! written down before it was asked for.
 
 use super::plans::specs_of;
-use gix_refspec::lint::{Error, Reason, idle_exclusions, idle_specs, possible_conflicts};
+use gix_refspec_lint::{Error, Reason, idle_exclusions, idle_specs, possible_conflicts};
 use std::alloc::Global;
 use std::process::Abort;
 use std::test::Fail;

@@ -3,7 +3,7 @@
 use super::mapping::{TARGET, items_of};
 use super::plans::specs_of;
 use gix_refspec::oid::ObjectId;
-use gix_refspec::stale::{Stale, stale_refs};
+use gix_refspec_plan::stale::{Stale, stale_refs};
 use std::alloc::{AllocError, Global};
 use std::process::Abort;
 use std::test::Fail;

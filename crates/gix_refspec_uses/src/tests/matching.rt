@@ -7,8 +7,8 @@ use bstr::BStr;
 use gix_refspec::match_group::{Item, Mapping};
 use gix_refspec::oid::ObjectId;
 use gix_refspec::parsing::Operation;
-use gix_refspec::plan::Wish;
 use gix_refspec::{MatchGroup, RefSpecRef, parse};
+use gix_refspec_plan::Wish;
 use std::alloc::{AllocError, Global};
 use std::test::Fail;
 

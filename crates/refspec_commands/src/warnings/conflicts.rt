@@ -2,9 +2,9 @@
 
 use super::{Group, Topic, Warning, or_nothing, say};
 use bstr::BStr;
-use gix_refspec::lint::{PossibleConflict, Reason, idle_specs, possible_conflicts};
 use gix_refspec::parsing::{Error, Operation};
 use gix_refspec::{RefSpecRef, parse};
+use gix_refspec_lint::{PossibleConflict, Reason, idle_specs, possible_conflicts};
 use gix_refspec_match::exclusions::Exclusions;
 use gix_refspec_match::needle::word_between;
 use gix_refspec_text::side::split_at_first_star;

@@ -2,7 +2,7 @@
 
 use super::{Group, Topic, Warning, or_nothing, say};
 use gix_refspec::RefSpecRef;
-use gix_refspec::lint::{Reason, idle_exclusions, idle_specs};
+use gix_refspec_lint::{Reason, idle_exclusions, idle_specs};
 use gix_refspec_text::side::written_name;
 use refspec_io::sentence::{may_be_below_refs, may_be_ref};
 use std::alloc::{AllocError, Global};

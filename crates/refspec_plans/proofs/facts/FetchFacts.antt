@@ -3,7 +3,7 @@ use Rattle.std.proofs.Common.{◌≡◌, ℕ, true, false, List, [], ◌∷◌, 
 use Rattle.gix_refspec.specs.Specs.Grammar.{fetched}
 use Rattle.gix_refspec.specs.Specs.Reading.{Normal, Reading}
 use Rattle.gix_refspec.specs.Matching.Match.{Ref}
-use Rattle.gix_refspec.specs.Matching.Plan.{Wish}
+use Rattle.gix_refspec_plan.specs.Matching.Plan.{Wish}
 use Rattle.refspec_io.specs.declared.call.Call.{Call}
 use Rattle.refspec_io.specs.declared.call.Command.{Command}
 use Rattle.refspec_io.specs.declared.call.Form.{Form}

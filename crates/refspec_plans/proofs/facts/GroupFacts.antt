@@ -1,6 +1,6 @@
 -- Updates grouped below their specs, as in runs of `plan`: examples and counterexamples.
 use Rattle.std.proofs.Common.{ℕ, true, false, List, [], ◌∷◌, ◌++◌, None, Some, inl, inr, ap, arith, codes, length, length-append, refl, replicate, ◌∙◌}
-use Rattle.gix_refspec.specs.declared.plan.Origin.TheVariants as origin
+use Rattle.gix_refspec_plan.specs.declared.Origin.TheVariants as origin
 use Rattle.refspec_plans.specs.declared.origins.SpecTexts.{SpecTexts}
 use Rattle.refspec_plans.specs.Groups.{AddsGroupsIf, IsHead, IsShort}
 use Rattle.refspec_plans.proofs.facts.UpdateFacts.{alone, by_default, to_o}

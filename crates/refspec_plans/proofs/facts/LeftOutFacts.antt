@@ -2,11 +2,11 @@
 use Rattle.std.proofs.Common.{◌≡◌, List, [], ◌∷◌, Some, codes, refl}
 use Rattle.std.specs.Str.{chars, is_utf8}
 use Rattle.gix_refspec.specs.declared.match_group.ref_names.InvalidSide.TheVariants as side
-use Rattle.gix_refspec.specs.declared.plan.Origin.TheVariants as origin
-use Rattle.gix_refspec.specs.declared.plan.Verdict.{Verdict}
-use Rattle.gix_refspec.specs.declared.plan.Verdict.TheVariants as verdict
+use Rattle.gix_refspec_plan.specs.declared.Origin.TheVariants as origin
+use Rattle.gix_refspec_plan.specs.declared.Verdict.{Verdict}
+use Rattle.gix_refspec_plan.specs.declared.Verdict.TheVariants as verdict
 use Rattle.gix_refspec.specs.Matching.Mappings.{name}
-use Rattle.gix_refspec.specs.Matching.Plan.{Planned}
+use Rattle.gix_refspec_plan.specs.Matching.Plan.{Planned}
 use Rattle.refspec_json.specs.Objects.{left_out_object, line_of, overruled_object}
 use Rattle.refspec_plans.specs.LeftOut.{IsLeftOutLine, IsOverruledLine, side_name}
 use Rattle.refspec_plans.specs.Verdicts.{in_conflict_of, left_out_of, overruled_of, unwritable, written_of}

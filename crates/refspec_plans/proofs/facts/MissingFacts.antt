@@ -1,7 +1,7 @@
 -- The reports of missing sources: examples and counterexamples.
 use Rattle.std.proofs.Common.{◌≡◌, ◌≤◌, ◌++◌, ℕ, true, false, List, [], ◌∷◌, None, Some, inl, inr, ap, arith, codes, get_or, length, refl, replicate, ◌∙◌}
 use Rattle.std.specs.Str.{chars, is_utf8}
-use Rattle.gix_refspec.specs.declared.plan.Origin.TheVariants as origin
+use Rattle.gix_refspec_plan.specs.declared.Origin.TheVariants as origin
 use Rattle.refspec_json.specs.Objects.{line_of, missing_object}
 use Rattle.refspec_io.specs.declared.call.Form.TheVariants as form
 use Rattle.refspec_plans.specs.declared.origins.SpecTexts.{SpecTexts}

@@ -1,6 +1,6 @@
 -- Where the specs of a plan come from, as lines and records say it.
 use Rattle.std.proofs.Common.{◌≡◌, [], codes, refl}
-use Rattle.gix_refspec.specs.declared.plan.Origin.TheVariants as origin
+use Rattle.gix_refspec_plan.specs.declared.Origin.TheVariants as origin
 use Rattle.refspec_plans.specs.Origins.{note_of, origin_name}
 
 pub names : (origin_name (origin.Given 0) ≡ codes "given") × (origin_name (origin.Configured 0) ≡ codes "configured")

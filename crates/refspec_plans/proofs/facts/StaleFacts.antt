@@ -3,7 +3,7 @@ use Rattle.std.proofs.Common.{◌≡◌, ℕ, List, [], ◌∷◌, ◌++◌, Non
 use Rattle.gix_refspec.specs.Specs.Grammar.{fetched}
 use Rattle.gix_refspec.specs.Specs.Reading.{Normal, Reading}
 use Rattle.gix_refspec.specs.Matching.Match.{Ref}
-use Rattle.gix_refspec.specs.Matching.Stale.{Found}
+use Rattle.gix_refspec_plan.specs.Matching.Stale.{Found}
 use Rattle.refspec_io.specs.declared.call.Form.TheVariants as form
 use Rattle.refspec_plans.specs.declared.stale.Place.TheVariants as place
 use Rattle.refspec_plans.specs.Stale.{AddsDeleted, AreHeaded, deleted_names, kept_refs, name_fields, pruning_specs}

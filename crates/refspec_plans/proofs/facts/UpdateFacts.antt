@@ -1,10 +1,10 @@
 -- Updates as lines, records and objects: examples and counterexamples.
 use Rattle.std.proofs.Common.{◌≡◌, ℕ, List, [], ◌∷◌, ◌++◌, None, Some, inl, ap, arith, codes, length, length-append, refl, ◌∙◌}
 use Rattle.std.specs.Str.{chars, is_utf8}
-use Rattle.gix_refspec.specs.declared.plan.Origin.TheVariants as origin
-use Rattle.gix_refspec.specs.declared.plan.Verdict.TheVariants as verdict
+use Rattle.gix_refspec_plan.specs.declared.Origin.TheVariants as origin
+use Rattle.gix_refspec_plan.specs.declared.Verdict.TheVariants as verdict
 use Rattle.gix_refspec.specs.Matching.Mappings.{name}
-use Rattle.gix_refspec.specs.Matching.Plan.{Planned}
+use Rattle.gix_refspec_plan.specs.Matching.Plan.{Planned}
 use Rattle.refspec_json.specs.Objects.{line_of, mapping_object}
 use Rattle.refspec_plans.specs.declared.origins.SpecTexts.{SpecTexts}
 use Rattle.refspec_plans.specs.Updates.{AddsUpdateLines, IsHeading, IsUpdateLine, fields_with, object_with}

@@ -48,11 +48,8 @@ pub(crate) fn issues_of(
     issues_among(alloc, specs, mappings, firsts.as_slice())
 }
 
-// Whether no two mappings have the same destination: then there is no conflict.
-pub(crate) fn destinations_differ(
-    alloc: Global,
-    mappings: &[Mapping<'_, '_>],
-) -> Result<bool, AllocError>
+/// Whether no two mappings have the same destination: then there is no conflict. Fails if memory runs out.
+pub fn destinations_differ(alloc: Global, mappings: &[Mapping<'_, '_>]) -> Result<bool, AllocError>
     ensures { IfOk result (λ differ. IsTrue differ →
         (d : List ℕ) → ¬ (HasConflictAt (map mapped_of mappings.now) d)) }
 {

@@ -1,6 +1,6 @@
 -- One more update is listed, or one more spec whose source is missing.
 use Rattle.std.proofs.Common.{map}
-use Rattle.gix_refspec.specs.Views.Plan.{planned_of, wish_of}
+use Rattle.gix_refspec_plan.specs.Views.Plan.{planned_of, wish_of}
 use Rattle.gix_refspec_c.specs.Planning.{missing_entry, update_entry}
 use Rattle.gix_refspec_c.proofs.MatchingLemmas.{describes_more, entries_more, entries_more_behind}
 use Rattle.gix_refspec_c.proofs.planning.listed.Goals as goal

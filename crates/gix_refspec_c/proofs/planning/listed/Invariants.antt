@@ -1,6 +1,6 @@
 -- the listing is that of the updates so far; and then also of the missing sources so far
 use Rattle.std.proofs.Common.{◌++◌, map, take}
-use Rattle.gix_refspec.specs.Views.Plan.{planned_of, wish_of}
+use Rattle.gix_refspec_plan.specs.Views.Plan.{planned_of, wish_of}
 use Rattle.gix_refspec_c.specs.Mapping.{Describes}
 use Rattle.gix_refspec_c.specs.Planning.{missing_entry, update_entry}
 use Rattle.gix_refspec_c.proofs.planning.listed.Given as goal

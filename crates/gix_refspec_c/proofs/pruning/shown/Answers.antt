@@ -2,9 +2,9 @@
 use Rattle.std.proofs.Common.{◌∙◌, ℕ, ◌+◌, ◌<◌, List, [], ◌∷◌, ◌++◌, length, map, take, get_or, ap, refl, subst, sym}
 use Rattle.std.proofs.lemmas.List.{map-append, take_more}
 use Rattle.std.proofs.lemmas.Slice.Zip.{all_zipped_more}
-use Rattle.gix_refspec.specs.declared.stale.Stale.{Stale}
-use Rattle.gix_refspec.specs.Matching.Stale.{Found}
-use Rattle.gix_refspec.specs.Views.Stale.{found_of}
+use Rattle.gix_refspec_plan.specs.declared.stale.Stale.{Stale}
+use Rattle.gix_refspec_plan.specs.Matching.Stale.{Found}
+use Rattle.gix_refspec_plan.specs.Views.Stale.{found_of}
 use Rattle.gix_refspec_c.specs.declared.pruning.StaleOut.{StaleOut}
 use Rattle.gix_refspec_c.specs.Stale.{AreShown, IsShown}
 use Rattle.gix_refspec_c.proofs.pruning.shown.Goals as goal

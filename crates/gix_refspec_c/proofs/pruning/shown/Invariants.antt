@@ -1,6 +1,6 @@
 -- the structs so far are those of the refs so far
 use Rattle.std.proofs.Common.{map, take}
-use Rattle.gix_refspec.specs.Views.Stale.{found_of}
+use Rattle.gix_refspec_plan.specs.Views.Stale.{found_of}
 use Rattle.gix_refspec_c.specs.Stale.{AreShown}
 use Rattle.gix_refspec_c.proofs.pruning.shown.Given as goal
 

@@ -2,7 +2,7 @@
 use Rattle.std.proofs.Common.{map, sym, ◌∙◌, rules}
 use Rattle.std.proofs.lemmas.Bool.{false≢true}
 use Rattle.std.proofs.lemmas.List.Elements.{filter_from_retain}
-use Rattle.gix_refspec.specs.Views.Plan.{planned_of}
+use Rattle.gix_refspec_plan.specs.Views.Plan.{planned_of}
 use Rattle.gix_refspec_uses.specs.Planned.{is_written}
 use Rattle.gix_refspec_uses.proofs.planner.plan_updates.Goals as goal
 

@@ -1,8 +1,8 @@
 -- The claim is that of the update at the index.
 use Rattle.std.proofs.Common.{◌≡◌, ◌++◌, ◌∷◌, [], ℕ, List, ap, map, option_map, subst, sym, ◌∙◌}
 use Rattle.std.proofs.lemmas.List.{append-nil, map-append}
-use Rattle.gix_refspec.specs.Matching.Plan.{Planned}
-use Rattle.gix_refspec.specs.Views.Plan.{planned_of}
+use Rattle.gix_refspec_plan.specs.Matching.Plan.{Planned}
+use Rattle.gix_refspec_plan.specs.Views.Plan.{planned_of}
 use Rattle.refspec_json.specs.Views.{claim_texts}
 use Rattle.refspec_io.specs.Rows.{source_text}
 use Rattle.refspec_plans.specs.Conflicts.{claim_with, claims_of}

@@ -1,7 +1,7 @@
 -- An update in conflict makes a claim, and another one doesn't.
 use Rattle.std.proofs.Common.{Vec, Global, ◌+◌, map, sym, subst, arith}
 use Rattle.std.proofs.lemmas.List.{length-map}
-use Rattle.gix_refspec.specs.Views.Plan.{planned_of}
+use Rattle.gix_refspec_plan.specs.Views.Plan.{planned_of}
 use Rattle.refspec_plans.specs.declared.conflicts.Claimed.{Claimed}
 use Rattle.refspec_plans.proofs.ClaimLemmas.{AreClaimsUpto, claims_sorted}
 use Rattle.refspec_plans.proofs.ContestLemmas.{claim_more, claim_same}

@@ -1,6 +1,6 @@
 -- the claims are those of the updates so far
 use Rattle.std.proofs.Common.{map}
-use Rattle.gix_refspec.specs.Views.Plan.{planned_of}
+use Rattle.gix_refspec_plan.specs.Views.Plan.{planned_of}
 use Rattle.refspec_plans.proofs.ClaimLemmas.{AreClaimsUpto}
 use Rattle.refspec_plans.proofs.conflicts.claims_in_order.Given as goal
 

@@ -1,6 +1,6 @@
 -- Each index adds the claim of its update.
 use Rattle.std.proofs.Common.{ap, map}
-use Rattle.gix_refspec.specs.Views.Plan.{planned_of}
+use Rattle.gix_refspec_plan.specs.Views.Plan.{planned_of}
 use Rattle.refspec_json.specs.Views.{claim_texts}
 use Rattle.refspec_plans.proofs.ConflictLemmas.{claims-next}
 use Rattle.refspec_plans.proofs.conflicts.claims_of.Goals as goal

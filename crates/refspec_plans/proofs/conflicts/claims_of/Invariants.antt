@@ -1,6 +1,6 @@
 -- the claims of the updates at the indexes so far
 use Rattle.std.proofs.Common.{◌≡◌, map, take}
-use Rattle.gix_refspec.specs.Views.Plan.{planned_of}
+use Rattle.gix_refspec_plan.specs.Views.Plan.{planned_of}
 use Rattle.refspec_json.specs.Views.{claim_texts}
 use Rattle.refspec_plans.specs.Conflicts.{claims_of, those_at}
 use Rattle.refspec_plans.proofs.conflicts.claims_of.Given as goal

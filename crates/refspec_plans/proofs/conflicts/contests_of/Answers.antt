@@ -1,7 +1,7 @@
 -- One more run is settled.
 use Rattle.std.proofs.Common.{◌≡◌, ◌∷◌, ◌++◌, ◌+◌, ◌-◌, ◌<◌, ◌≤◌, [], List, length, map, take, drop, sym, ap, ◌∙◌, subst, arith}
 use Rattle.std.proofs.lemmas.List.{drop-drop, length-drop, length-take-le, map-append, take_all}
-use Rattle.gix_refspec.specs.Views.Plan.{planned_of}
+use Rattle.gix_refspec_plan.specs.Views.Plan.{planned_of}
 use Rattle.refspec_plans.specs.declared.conflicts.Claimed.{Claimed}
 use Rattle.refspec_plans.specs.declared.conflicts.Contest.{Contest as DeclaredContest}
 use Rattle.refspec_plans.specs.Conflicts.{Contest, IsContestOf, IsRun, contest_of}

@@ -1,6 +1,6 @@
 -- the claims so far are settled
 use Rattle.std.proofs.Common.{◌≤◌, ◌-◌, length, map, drop}
-use Rattle.gix_refspec.specs.Views.Plan.{planned_of}
+use Rattle.gix_refspec_plan.specs.Views.Plan.{planned_of}
 use Rattle.refspec_plans.specs.Conflicts.{contest_of}
 use Rattle.refspec_plans.proofs.ContestLemmas.{AreSettled}
 use Rattle.refspec_plans.proofs.conflicts.contests_of.Given as goal

@@ -1,6 +1,6 @@
 -- Each conflict is reported after the others.
 use Rattle.std.proofs.Common.{◌∙◌, List, ap, map, refl, subst, take_all}
-use Rattle.gix_refspec.specs.Views.Plan.{planned_of}
+use Rattle.gix_refspec_plan.specs.Views.Plan.{planned_of}
 use Rattle.refspec_io.specs.Json.{AddsObjects}
 use Rattle.refspec_io.proofs.JsonLemmas.{AddsObjects-next, AddsObjects-start}
 use Rattle.refspec_plans.specs.declared.conflicts.Contest.{Contest}

@@ -1,6 +1,6 @@
 -- the conflicts so far were reported
 use Rattle.std.proofs.Common.{◌≡◌, map, take}
-use Rattle.gix_refspec.specs.Views.Plan.{planned_of}
+use Rattle.gix_refspec_plan.specs.Views.Plan.{planned_of}
 use Rattle.refspec_io.specs.Json.{AddsObjects}
 use Rattle.refspec_plans.specs.Conflicts.{AddsEachConflict, IsConflict, contest_of}
 use Rattle.refspec_plans.proofs.conflicts.report_all_conflicts.Given as goal

@@ -1,6 +1,6 @@
 -- In JSON the report is an object; else the results stay as they were.
 use Rattle.std.proofs.Common.{map, refl}
-use Rattle.gix_refspec.specs.Views.Plan.{planned_of}
+use Rattle.gix_refspec_plan.specs.Views.Plan.{planned_of}
 use Rattle.refspec_io.proofs.JsonLemmas.{AddsObjects-one}
 use Rattle.refspec_io.proofs.ShownLemmas.{on_ok}
 use Rattle.refspec_plans.specs.Conflicts.{IsConflict, conflict_line, contest_of}

@@ -1,6 +1,6 @@
 -- The conflicts that are found are reported.
 use Rattle.std.proofs.Common.{List, map, subst}
-use Rattle.gix_refspec.specs.Views.Plan.{planned_of}
+use Rattle.gix_refspec_plan.specs.Views.Plan.{planned_of}
 use Rattle.refspec_io.specs.Json.{AddsObjects}
 use Rattle.refspec_io.proofs.ShownLemmas.{both_ok}
 use Rattle.refspec_plans.specs.declared.conflicts.Contest.{Contest as DeclaredContest}

@@ -1,6 +1,6 @@
 -- The first conflicts are reported, and how many more there are.
 use Rattle.std.proofs.Common.{List, map, subst}
-use Rattle.gix_refspec.specs.Views.Plan.{planned_of}
+use Rattle.gix_refspec_plan.specs.Views.Plan.{planned_of}
 use Rattle.refspec_io.specs.Json.{AddsObjects}
 use Rattle.refspec_io.proofs.ShownLemmas.{on_ok}
 use Rattle.refspec_plans.specs.Conflicts.{AddsEachConflict, Contest, IsConflict, contest_of}

@@ -1,7 +1,7 @@
 -- The line is that of the update at the index.
 use Rattle.std.proofs.Common.{List, ap, map, option_map, subst, sym, ◌∙◌}
-use Rattle.gix_refspec.specs.Matching.Plan.{Planned}
-use Rattle.gix_refspec.specs.Views.Plan.{planned_of}
+use Rattle.gix_refspec_plan.specs.Matching.Plan.{Planned}
+use Rattle.gix_refspec_plan.specs.Views.Plan.{planned_of}
 use Rattle.refspec_io.proofs.ShownLemmas.{on_ok}
 use Rattle.refspec_plans.specs.Conflicts.{WritesClaims}
 use Rattle.refspec_plans.proofs.ConflictLemmas.{WritesClaims-one, those-some}

@@ -1,6 +1,6 @@
 -- Each index adds the line of its update.
 use Rattle.std.proofs.Common.{map}
-use Rattle.gix_refspec.specs.Views.Plan.{planned_of}
+use Rattle.gix_refspec_plan.specs.Views.Plan.{planned_of}
 use Rattle.refspec_plans.proofs.ConflictLemmas.{WritesClaims-next, WritesClaims-start}
 use Rattle.refspec_plans.proofs.conflicts.write_claims.Goals as goal
 

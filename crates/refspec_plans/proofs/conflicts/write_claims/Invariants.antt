@@ -1,6 +1,6 @@
 -- the lines of the updates at the indexes so far were written
 use Rattle.std.proofs.Common.{map, take}
-use Rattle.gix_refspec.specs.Views.Plan.{planned_of}
+use Rattle.gix_refspec_plan.specs.Views.Plan.{planned_of}
 use Rattle.refspec_plans.specs.Conflicts.{WritesClaims, those_at}
 use Rattle.refspec_plans.proofs.conflicts.write_claims.Given as goal
 

@@ -1,6 +1,6 @@
 -- The lines are those of the destination, of the claims, and advice.
 use Rattle.std.proofs.Common.{◌≡◌, ap, map, rules}
-use Rattle.gix_refspec.specs.Views.Plan.{planned_of}
+use Rattle.gix_refspec_plan.specs.Views.Plan.{planned_of}
 use Rattle.refspec_io.proofs.ShownLemmas.{on_ok}
 use Rattle.refspec_plans.specs.Conflicts.{contest_of, those_at}
 use Rattle.refspec_plans.proofs.ConflictLemmas.{WritesConflict-of}

@@ -1,6 +1,6 @@
 -- The members of the object are the destination and the claims.
 use Rattle.std.proofs.Common.{◌≡◌, ap, map, rules, ◌∙◌}
-use Rattle.gix_refspec.specs.Views.Plan.{planned_of}
+use Rattle.gix_refspec_plan.specs.Views.Plan.{planned_of}
 use Rattle.refspec_json.specs.Views.{claim_texts}
 use Rattle.refspec_io.specs.Json.{json_text}
 use Rattle.refspec_io.proofs.ShownLemmas.{on_ok}

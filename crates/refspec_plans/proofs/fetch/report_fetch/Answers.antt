@@ -2,7 +2,7 @@
 use Rattle.std.proofs.Common.{ap, map}
 use Rattle.bstr.specs.BStr.{bstr_bytes}
 use Rattle.gix_refspec.specs.Views.Group.{ref_of}
-use Rattle.gix_refspec.specs.Views.Plan.{planned_of}
+use Rattle.gix_refspec_plan.specs.Views.Plan.{planned_of}
 use Rattle.gix_refspec.specs.Views.Spec.{reading_of}
 use Rattle.refspec_io.specs.declared.report.Report.{Report}
 use Rattle.refspec_plans.proofs.WishLemmas.{AddsFetch-of, made, made-is}

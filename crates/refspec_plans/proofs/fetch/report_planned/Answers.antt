@@ -1,7 +1,7 @@
 -- `stale` has a report of its own.
 use Rattle.std.proofs.Common.{map}
 use Rattle.gix_refspec.specs.Views.Group.{ref_of}
-use Rattle.gix_refspec.specs.Views.Plan.{planned_of, wish_of}
+use Rattle.gix_refspec_plan.specs.Views.Plan.{planned_of, wish_of}
 use Rattle.refspec_io.proofs.ShownLemmas.{if_ok}
 use Rattle.refspec_plans.proofs.WishLemmas.{AddsPlanned-plan, AddsPlanned-stale}
 use Rattle.refspec_plans.proofs.fetch.report_planned.Goals as goal

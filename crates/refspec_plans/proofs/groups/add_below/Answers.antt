@@ -1,6 +1,6 @@
 -- An update that isn't written changes nothing.
 use Rattle.std.proofs.Common.{◌≡◌, Bool, MatchBool, Some, refl, sym, subst, ◌∙◌}
-use Rattle.gix_refspec.specs.Views.Plan.{planned_of}
+use Rattle.gix_refspec_plan.specs.Views.Plan.{planned_of}
 use Rattle.refspec_plans.specs.Groups.{WritesBelow}
 use Rattle.refspec_plans.proofs.groups.add_below.Goals as goal
 

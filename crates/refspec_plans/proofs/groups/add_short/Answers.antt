@@ -1,7 +1,7 @@
 -- An update that isn't written adds nothing.
 use Rattle.std.proofs.Common.{List, true, false, sym, subst, ◌∙◌}
-use Rattle.gix_refspec.specs.Matching.Plan.{Planned}
-use Rattle.gix_refspec.specs.Views.Plan.{planned_of}
+use Rattle.gix_refspec_plan.specs.Matching.Plan.{Planned}
+use Rattle.gix_refspec_plan.specs.Views.Plan.{planned_of}
 use Rattle.refspec_io.proofs.ShownLemmas.{on_ok}
 use Rattle.refspec_plans.specs.Groups.{AddsShort}
 use Rattle.refspec_plans.proofs.GroupLemmas.{AddsShort-one, AddsShort-start}

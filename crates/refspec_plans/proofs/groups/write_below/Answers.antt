@@ -1,6 +1,6 @@
 -- The heading, if needed, a margin and the line.
 use Rattle.std.proofs.Common.{ℕ, Vec, Global, subst, sym}
-use Rattle.gix_refspec.specs.Views.Plan.{planned_of}
+use Rattle.gix_refspec_plan.specs.Views.Plan.{planned_of}
 use Rattle.refspec_io.proofs.ShownLemmas.{on_ok}
 use Rattle.refspec_plans.proofs.GroupLemmas.{WritesBelow-of, WritesHead, WritesHead-none, WritesHead-some}
 use Rattle.refspec_plans.proofs.groups.write_below.Goals.{then-not-has_origin+in_ok-write_heading, else-not-has_origin}

@@ -1,6 +1,6 @@
 -- The lines of each update that is written are after the others.
 use Rattle.std.proofs.Common.{map, refl, take}
-use Rattle.gix_refspec.specs.Views.Plan.{planned_of}
+use Rattle.gix_refspec_plan.specs.Views.Plan.{planned_of}
 use Rattle.refspec_plans.specs.Verdicts.{is_written, written_of}
 use Rattle.refspec_plans.proofs.GroupLemmas.{GroupedSoFar-next, GroupedSoFar-start}
 use Rattle.refspec_plans.proofs.VerdictLemmas.{written-next}

@@ -1,6 +1,6 @@
 -- the lines of the updates so far were written
 use Rattle.std.proofs.Common.{map, take}
-use Rattle.gix_refspec.specs.Views.Plan.{planned_of}
+use Rattle.gix_refspec_plan.specs.Views.Plan.{planned_of}
 use Rattle.refspec_plans.specs.Groups.{AddsShort}
 use Rattle.refspec_plans.specs.Verdicts.{written_of}
 use Rattle.refspec_plans.proofs.groups.write_rows.Given as goal

@@ -1,6 +1,6 @@
 -- The line is a cell, the destination and a newline.
 use Rattle.std.proofs.Common.{List, ℕ, subst}
-use Rattle.gix_refspec.specs.Views.Plan.{planned_of}
+use Rattle.gix_refspec_plan.specs.Views.Plan.{planned_of}
 use Rattle.refspec_io.specs.Shown.{WritesQuoted}
 use Rattle.refspec_plans.proofs.GroupLemmas.{WritesShort-of}
 use Rattle.refspec_plans.proofs.groups.write_short.Goals as goal

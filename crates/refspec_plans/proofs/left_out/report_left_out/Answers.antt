@@ -1,7 +1,7 @@
 -- Each update is reported after the others, and counted, if it is left out.
 use Rattle.std.proofs.Common.{◌+◌, ◌++◌, ◌∙◌, ℕ, List, [], ◌∷◌, ap, arith, length, map, subst, sym, take}
 use Rattle.std.proofs.lemmas.List.{append-nil, length-append}
-use Rattle.gix_refspec.specs.Views.Plan.{planned_of}
+use Rattle.gix_refspec_plan.specs.Views.Plan.{planned_of}
 use Rattle.refspec_io.specs.declared.report.Report.{Report}
 use Rattle.refspec_io.specs.Json.{AddsObjects}
 use Rattle.refspec_io.proofs.JsonLemmas.{AddsObjects-append}

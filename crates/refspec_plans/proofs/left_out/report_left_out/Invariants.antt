@@ -1,6 +1,6 @@
 -- the updates so far were reported and counted, if they are left out
 use Rattle.std.proofs.Common.{◌≡◌, ◌≤◌, length, map, take}
-use Rattle.gix_refspec.specs.Views.Plan.{planned_of}
+use Rattle.gix_refspec_plan.specs.Views.Plan.{planned_of}
 use Rattle.refspec_io.specs.Json.{AddsObjects}
 use Rattle.refspec_io.specs.Shown.{Grows}
 use Rattle.refspec_plans.specs.LeftOut.{IsLeftOutOf}

@@ -1,8 +1,8 @@
 -- Each update is reported after the others, if it is overruled.
 use Rattle.std.proofs.Common.{◌++◌, ◌∙◌, List, [], ◌∷◌, ap, arith, map, subst, sym, take}
 use Rattle.std.proofs.lemmas.List.{append-nil}
-use Rattle.gix_refspec.specs.Matching.Plan.{Planned}
-use Rattle.gix_refspec.specs.Views.Plan.{planned_of}
+use Rattle.gix_refspec_plan.specs.Matching.Plan.{Planned}
+use Rattle.gix_refspec_plan.specs.Views.Plan.{planned_of}
 use Rattle.refspec_io.specs.declared.report.Report.{Report}
 use Rattle.refspec_io.specs.Json.{AddsObjects}
 use Rattle.refspec_io.proofs.JsonLemmas.{AddsObjects-append}

@@ -1,6 +1,6 @@
 -- the updates so far were reported, if they are overruled
 use Rattle.std.proofs.Common.{◌≡◌, ◌≤◌, map, take}
-use Rattle.gix_refspec.specs.Views.Plan.{planned_of}
+use Rattle.gix_refspec_plan.specs.Views.Plan.{planned_of}
 use Rattle.refspec_io.specs.Json.{AddsObjects}
 use Rattle.refspec_io.specs.Shown.{Grows}
 use Rattle.refspec_plans.specs.LeftOut.{IsOverruledOf}

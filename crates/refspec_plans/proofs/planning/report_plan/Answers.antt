@@ -1,7 +1,7 @@
 -- What is missing, left out, overruled and in conflict is reported first, and the updates if the plan is carried out.
 use Rattle.std.proofs.Common.{map, sym, ◌∙◌}
 use Rattle.gix_refspec.specs.Views.Group.{ref_of}
-use Rattle.gix_refspec.specs.Views.Plan.{planned_of, wish_of}
+use Rattle.gix_refspec_plan.specs.Views.Plan.{planned_of, wish_of}
 use Rattle.std.proofs.lemmas.Bool.{false≢true}
 use Rattle.refspec_io.proofs.ShownLemmas.{grows_on}
 use Rattle.refspec_plans.proofs.PlanLemmas.{AddsFirst-of, AddsPlan-carried, AddsPlan-stopped}

@@ -3,7 +3,7 @@ use Rattle.std.proofs.Common.{◌≡◌, ◌≢◌, ℕ, List, [], Bor, MatchBoo
 use Rattle.bstr.specs.Owned.{bstring_bytes}
 use Rattle.gix_refspec.specs.Views.Group.{ref_of}
 use Rattle.gix_refspec.specs.Views.Spec.{reading_of}
-use Rattle.gix_refspec.specs.Views.Stale.{found_of}
+use Rattle.gix_refspec_plan.specs.Views.Stale.{found_of}
 use Rattle.refspec_io.specs.Input.{end_byte}
 use Rattle.refspec_io.specs.declared.refs.BadRecord.{BadRecord}
 use Rattle.refspec_io.specs.Refs.{bad_bytes}

@@ -1,7 +1,7 @@
 -- What is found by the specs that prune is pruned.
 use Rattle.std.proofs.Common.{map}
 use Rattle.gix_refspec.specs.Views.Group.{ref_of}
-use Rattle.gix_refspec.specs.Views.Plan.{wish_of}
+use Rattle.gix_refspec_plan.specs.Views.Plan.{wish_of}
 use Rattle.gix_refspec.specs.Views.Spec.{reading_of}
 use Rattle.refspec_io.proofs.ShownLemmas.{if_ok}
 use Rattle.refspec_plans.proofs.FoundLemmas.{IsPruned-of}

@@ -2,7 +2,7 @@
 use Rattle.std.proofs.Common.{map, sym, ◌∙◌}
 use Rattle.std.proofs.lemmas.Bool.{false≢true}
 use Rattle.gix_refspec.specs.Views.Group.{ref_of}
-use Rattle.gix_refspec.specs.Views.Plan.{planned_of, wish_of}
+use Rattle.gix_refspec_plan.specs.Views.Plan.{planned_of, wish_of}
 use Rattle.gix_refspec.specs.Views.Spec.{reading_of}
 use Rattle.refspec_io.proofs.ShownLemmas.{if_ok}
 use Rattle.refspec_plans.proofs.FoundLemmas.{AddsBefore-of, AddsStale-carried, AddsStale-stopped}

@@ -1,8 +1,8 @@
 -- An update that isn't written adds nothing.
 use Rattle.std.proofs.Common.{◌≡◌, ◌++◌, List, true, false, ap, flat_map, sym, subst, ◌∙◌}
 use Rattle.std.proofs.lemmas.List.{append-nil}
-use Rattle.gix_refspec.specs.Matching.Plan.{Planned}
-use Rattle.gix_refspec.specs.Views.Plan.{planned_of}
+use Rattle.gix_refspec_plan.specs.Matching.Plan.{Planned}
+use Rattle.gix_refspec_plan.specs.Views.Plan.{planned_of}
 use Rattle.refspec_io.proofs.ShownLemmas.{on_ok}
 use Rattle.refspec_plans.specs.Updates.{object_with, update_object}
 use Rattle.refspec_plans.proofs.UpdateLemmas.{pieces-one}

@@ -1,6 +1,6 @@
 -- The fields are the source, the destination, the text of the spec and the name of its origin.
 use Rattle.std.proofs.Common.{◌++◌, ap, ◌∙◌}
-use Rattle.gix_refspec.specs.Views.Plan.{planned_of}
+use Rattle.gix_refspec_plan.specs.Views.Plan.{planned_of}
 use Rattle.refspec_io.specs.Shown.{zero_ended}
 use Rattle.refspec_io.proofs.ShownLemmas.{on_ok}
 use Rattle.refspec_plans.proofs.UpdateLemmas.{fields_with-of}

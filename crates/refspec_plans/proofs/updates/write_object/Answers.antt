@@ -1,6 +1,6 @@
 -- Each member is that of the update.
 use Rattle.std.proofs.Common.{Some, option_map, ap, ◌∙◌}
-use Rattle.gix_refspec.specs.Views.Plan.{planned_of}
+use Rattle.gix_refspec_plan.specs.Views.Plan.{planned_of}
 use Rattle.refspec_io.specs.Json.{json_text}
 use Rattle.refspec_io.proofs.ShownLemmas.{on_ok}
 use Rattle.refspec_plans.proofs.UpdateLemmas.{object_with-of}

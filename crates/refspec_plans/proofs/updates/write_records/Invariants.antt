@@ -1,6 +1,6 @@
 -- the pieces of the updates so far were written
 use Rattle.std.proofs.Common.{◌≡◌, ◌++◌, flat_map, map, take}
-use Rattle.gix_refspec.specs.Views.Plan.{planned_of}
+use Rattle.gix_refspec_plan.specs.Views.Plan.{planned_of}
 use Rattle.refspec_plans.specs.Updates.{update_fields}
 use Rattle.refspec_plans.specs.Verdicts.{written_of}
 use Rattle.refspec_plans.proofs.updates.write_records.Given as goal

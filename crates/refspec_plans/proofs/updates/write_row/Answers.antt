@@ -1,6 +1,6 @@
 -- The line is two cells, and the text of the spec.
 use Rattle.std.proofs.Common.{List, ℕ, subst}
-use Rattle.gix_refspec.specs.Views.Plan.{planned_of}
+use Rattle.gix_refspec_plan.specs.Views.Plan.{planned_of}
 use Rattle.refspec_io.specs.Rows.{WritesCell}
 use Rattle.refspec_io.proofs.ShownLemmas.{on_ok}
 use Rattle.refspec_plans.proofs.UpdateLemmas.{WritesUpdateLine-of}

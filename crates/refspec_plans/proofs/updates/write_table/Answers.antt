@@ -1,7 +1,7 @@
 -- The line of each update that is written is after the others.
 use Rattle.std.proofs.Common.{List, [], ◌∷◌, map, sym, subst, take}
-use Rattle.gix_refspec.specs.Matching.Plan.{Planned}
-use Rattle.gix_refspec.specs.Views.Plan.{planned_of}
+use Rattle.gix_refspec_plan.specs.Matching.Plan.{Planned}
+use Rattle.gix_refspec_plan.specs.Views.Plan.{planned_of}
 use Rattle.refspec_plans.specs.Updates.{AddsUpdateLines}
 use Rattle.refspec_plans.specs.Verdicts.{written_of}
 use Rattle.refspec_plans.proofs.UpdateLemmas.{AddsUpdateLines-append, AddsUpdateLines-start}

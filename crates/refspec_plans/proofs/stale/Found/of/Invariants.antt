@@ -2,7 +2,7 @@
 use Rattle.std.proofs.Common.{map, take}
 use Rattle.bstr.specs.Owned.{bstring_bytes}
 use Rattle.gix_refspec.specs.Views.Group.{ref_of}
-use Rattle.gix_refspec.specs.Views.Stale.{found_of}
+use Rattle.gix_refspec_plan.specs.Views.Stale.{found_of}
 use Rattle.refspec_plans.specs.Stale.{AreParted}
 use Rattle.refspec_plans.proofs.stale.Found.of.Given as goal
 

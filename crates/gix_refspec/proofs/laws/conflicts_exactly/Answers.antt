@@ -1,9 +1,0 @@
--- By the verdicts on mappings.
-use Rattle.std.proofs.Common.{map}
-use Rattle.gix_refspec_match.specs.Views.Mapping.{ref_of}
-use Rattle.gix_refspec.specs.Views.Plan.{wish_of}
-use Rattle.gix_refspec.proofs.lemmas.plan.OpposedLemmas.{conflicts_exactly}
-use Rattle.gix_refspec.proofs.laws.conflicts_exactly.Goals as goal
-
-pub returns : goal.returns
-returns c = conflicts_exactly (wish_of c.args.wish.now) (map ref_of c.args.items.now)

@@ -1,8 +1,0 @@
--- A conflict over any refs is one over two.
-use Rattle.std.proofs.Common.{map}
-use Rattle.gix_refspec_text.specs.Views.Spec.{reading_of}
-use Rattle.gix_refspec.proofs.lemmas.lint.FewerLemmas.{conflicts_shown}
-use Rattle.gix_refspec.proofs.laws.conflicts_shown.Goals as goal
-
-pub returns : goal.returns
-returns c = conflicts_shown (map reading_of c.args.specs.now)

@@ -1,8 +1,0 @@
--- An idle negative spec maps nothing, and what it excludes isn't mapped.
-use Rattle.std.proofs.Common.{map}
-use Rattle.gix_refspec_text.specs.Views.Spec.{reading_of}
-use Rattle.gix_refspec.proofs.lemmas.lint.LeftOutLemmas.{idle_exclusion_left_out}
-use Rattle.gix_refspec.proofs.laws.idle_exclusion_left_out.Goals as goal
-
-pub returns : goal.returns
-returns c = idle_exclusion_left_out (map reading_of c.args.specs.now)

@@ -1,9 +1,0 @@
--- Each part of the plan is determined by those before it.
-use Rattle.std.proofs.Common.{map}
-use Rattle.gix_refspec_match.specs.Views.Mapping.{ref_of}
-use Rattle.gix_refspec.specs.Views.Plan.{wish_of}
-use Rattle.gix_refspec.proofs.lemmas.plan.OnePlanLemmas.{one_plan}
-use Rattle.gix_refspec.proofs.laws.one_plan.Goals as goal
-
-pub returns : goal.returns
-returns c = one_plan (wish_of c.args.wish.now) (map ref_of c.args.items.now)

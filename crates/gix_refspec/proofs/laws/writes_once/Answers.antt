@@ -1,9 +1,0 @@
--- What is written of each list of mappings has its own destinations, and the first list wins.
-use Rattle.std.proofs.Common.{map}
-use Rattle.gix_refspec_match.specs.Views.Mapping.{ref_of}
-use Rattle.gix_refspec.specs.Views.Plan.{wish_of}
-use Rattle.gix_refspec.proofs.lemmas.plan.OnceLemmas.{writes_once}
-use Rattle.gix_refspec.proofs.laws.writes_once.Goals as goal
-
-pub returns : goal.returns
-returns c = writes_once (wish_of c.args.wish.now) (map ref_of c.args.items.now)

@@ -1,7 +1,0 @@
--- the parts of the destinations so far
-use Rattle.std.proofs.Common.{take}
-use Rattle.gix_refspec.specs.Private.Lints.{HaveParts}
-use Rattle.gix_refspec.proofs.lint.conflicts.parts_in.Given as goal
-
-abbrev pub invariant-loop-spec : goal.invariant-loop-spec
-invariant-loop-spec l = HaveParts (take l.spec-index l.specs) l.parts.items

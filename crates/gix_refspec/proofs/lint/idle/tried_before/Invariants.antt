@@ -1,9 +1,0 @@
--- the candidates are unchanged, and none so far is the one
-use Rattle.std.proofs.Common.{◌≡◌, map, take}
-use Rattle.std.specs.List.{AllByRecursion}
-use Rattle.bstr.specs.BStr.{bstr_bytes}
-use Rattle.bstr.specs.Owned.{bstring_bytes}
-use Rattle.gix_refspec.proofs.lint.idle.tried_before.Given as goal
-
-abbrev pub invariant-loop-at : goal.invariant-loop-at
-invariant-loop-at l = (l.names ≡ l.initial.names) × AllByRecursion (λ x. ¬ (x ≡ bstr_bytes l.candidate)) (map bstring_bytes (take l.at l.names.items))

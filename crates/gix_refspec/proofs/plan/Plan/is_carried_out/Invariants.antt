@@ -1,7 +1,0 @@
--- none of the updates so far is in conflict
-use Rattle.std.proofs.Common.{◌≢◌, All, take}
-use Rattle.gix_refspec.specs.declared.plan.Verdict.TheVariants as verdict
-use Rattle.gix_refspec.proofs.plan.Plan.is_carried_out.Given as goal
-
-abbrev pub invariant-loop-update : goal.invariant-loop-update
-invariant-loop-update l = All (λ u. u.verdict ≢ verdict.InConflict) (take l.update-index l.update-items)

@@ -1,7 +1,0 @@
--- the mappings so far are the same
-use Rattle.std.proofs.Common.{◌≡◌, map}
-use Rattle.gix_refspec_match.specs.Views.Mapping.{mapped_of}
-use Rattle.gix_refspec.proofs.plan.mapped.owned.Given as goal
-
-abbrev pub invariant-loop-mapping : goal.invariant-loop-mapping
-invariant-loop-mapping l = map mapped_of l.all.items ≡ map mapped_of l.yielded

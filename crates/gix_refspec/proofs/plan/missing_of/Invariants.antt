@@ -1,9 +1,0 @@
--- the origins of the missing sources so far
-use Rattle.std.proofs.Common.{map, take}
-use Rattle.gix_refspec_match.specs.Matching.Lists.{IsMadeFrom}
-use Rattle.gix_refspec.specs.Views.Plan.{asked_of}
-use Rattle.gix_refspec.proofs.lemmas.plan.LackingLemmas.{Origins}
-use Rattle.gix_refspec.proofs.plan.missing_of.Given as goal
-
-abbrev pub invariant-loop-index : goal.invariant-loop-index
-invariant-loop-index l = IsMadeFrom (Origins (map asked_of l.asked)) 0 (take l.index-index l.index-items) l.missing.items

@@ -1,8 +1,0 @@
--- the items that are taken so far
-use Rattle.std.proofs.Common.{map, take}
-use Rattle.gix_refspec_match.specs.Views.Mapping.{mapped_of, ref_of}
-use Rattle.gix_refspec.proofs.lemmas.plan.TakenLemmas.{ArePicked}
-use Rattle.gix_refspec.proofs.plan.specs.taken_by.Given as goal
-
-abbrev pub invariant-loop-index : goal.invariant-loop-index
-invariant-loop-index l = ArePicked (map mapped_of l.mappings.items) (map ref_of (take l.index l.items)) l.taken.indexes.items (map ref_of l.taken.items.items)

@@ -1,8 +1,0 @@
--- the destinations of the sound mappings so far are counted
-use Rattle.std.proofs.Common.{map, take}
-use Rattle.gix_refspec_match.specs.Views.Mapping.{mapped_of}
-use Rattle.gix_refspec.specs.Private.Verdicts.{CountDestinations}
-use Rattle.gix_refspec.proofs.plan.verdicts.counts_of.Given as goal
-
-abbrev pub invariant-loop-mapping : goal.invariant-loop-mapping
-invariant-loop-mapping l = CountDestinations (map mapped_of (take l.mapping-index l.mappings)) l.counts

@@ -1,8 +1,0 @@
--- the updates of the mappings so far
-use Rattle.std.proofs.Common.{◌≡◌, length, map}
-use Rattle.gix_refspec.specs.Views.Plan.{asked_of}
-use Rattle.gix_refspec.proofs.lemmas.plan.JudgeLemmas.{AreSoMany}
-use Rattle.gix_refspec.proofs.plan.verdicts.first_updates.Given as goal
-
-abbrev pub invariant-loop-mapping : goal.invariant-loop-mapping
-invariant-loop-mapping l = AreSoMany (map asked_of l.asked) l.fn.mappings.items l.updates.items × (length l.updates.items ≡ length l.yielded)

@@ -1,8 +1,0 @@
--- what the specs so far write
-use Rattle.std.proofs.Common.{map, take}
-use Rattle.gix_refspec_text.specs.Views.Spec.{reading_of}
-use Rattle.gix_refspec.proofs.lemmas.stale.WriterLemmas.{AreWritersSoFar}
-use Rattle.gix_refspec.proofs.stale.Writers.of.Given as goal
-
-abbrev pub invariant-loop-index : goal.invariant-loop-index
-invariant-loop-index l = AreWritersSoFar (map reading_of l.specs) (map reading_of (take l.index l.specs)) l.writers

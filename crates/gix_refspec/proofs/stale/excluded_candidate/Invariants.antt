@@ -1,8 +1,0 @@
--- no candidate so far is excluded
-use Rattle.std.proofs.Common.{All, take}
-use Rattle.bstr.specs.Owned.{bstring_bytes}
-use Rattle.gix_refspec_match.specs.Private.Kept.{ExcludeName}
-use Rattle.gix_refspec.proofs.stale.excluded_candidate.Given as goal
-
-abbrev pub invariant-loop-candidate : goal.invariant-loop-candidate
-invariant-loop-candidate l = All (λ b. ¬ (ExcludeName l.exclusions (bstring_bytes b))) (take l.candidate-index l.candidate-items)

@@ -1,9 +1,0 @@
--- the destinations, and the names of the local refs so far
-use Rattle.std.proofs.Common.{map, take}
-use Rattle.bstr.specs.BStr.{bstr_bytes}
-use Rattle.gix_refspec_match.specs.Views.Mapping.{mapped_of, ref_of}
-use Rattle.gix_refspec.specs.Private.Stales.{AreNames}
-use Rattle.gix_refspec.proofs.stale.names_of.Given as goal
-
-abbrev pub invariant-loop-item : goal.invariant-loop-item
-invariant-loop-item l = AreNames (map mapped_of l.fn.written) (map ref_of (take l.item-index l.local)) (map bstr_bytes l.names.items)

@@ -1,6 +1,0 @@
--- the flags of the local refs so far
-use Rattle.gix_refspec.proofs.lemmas.plan.CoveredLemmas.{AreCopied}
-use Rattle.gix_refspec.proofs.stale.written_flags.Given as goal
-
-abbrev pub invariant-loop-index : goal.invariant-loop-index
-invariant-loop-index l = AreCopied l.all.items l.before l.index l.flags.items

@@ -1,7 +1,0 @@
--- Stale refs as plain data, for contracts.
-use Rattle.gix_refspec.specs.declared.stale.Stale.{Stale}
-use Rattle.gix_refspec.specs.Matching.Stale.{Found}
-
--- a local ref that looks stale
-abbrev pub found_of : Stale → Found
-found_of s = record { item = s.item_index; kept_by = s.kept_by }

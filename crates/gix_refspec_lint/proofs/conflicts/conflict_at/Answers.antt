@@ -1,0 +1,62 @@
+-- The sources of the two specs, each with each.
+use Rattle.std.proofs.Common.{◌≡◌, ◌<◌, [], get_or, length, map, take_all, refl, sym, ap, ◌∙◌, arith}
+use Rattle.std.specs.List.{AllByRecursion}
+use Rattle.std.proofs.lemmas.Bool.{eqb-true, false≢true}
+use Rattle.std.proofs.lemmas.List.{nil_from_length}
+use Rattle.bstr.specs.BStr.{bstr_bytes}
+use Rattle.gix_refspec_text.proofs.lemmas.lists.MapLemmas.{one_more_mapped}
+use Rattle.gix_refspec_match.specs.Views.Mapping.{start_of}
+use Rattle.gix_refspec_lint.proofs.lemmas.FoundAtLemmas.{NoConflict, copied_example, none_of_all}
+use Rattle.gix_refspec_lint.proofs.lemmas.SourceLemmas.{none_contained}
+use Rattle.gix_refspec_lint.proofs.lemmas.SpecLemmas.{completed_of, first_source, second_source}
+use Rattle.gix_refspec.proofs.lemmas.validate.ConflictLemmas.{copied_source}
+use Rattle.gix_refspec_lint.proofs.conflicts.conflict_at.Goals as goal
+
+pub returns-then-is_empty : goal.returns-then-is_empty
+returns-then-is_empty c g is s t k =
+    let cs = c.args.group.now.specs.now in
+    let others = c.in_ok-others.others in
+    let empty : others.items ≡ [] = nil_from_length others.items (omega (arith, eqb-true _ 0 (sym c.if-is_empty.ensures), others.ok.0, others.ok.1)) in
+    let y = get_or cs c.args.second c.index-group-second.result in
+    let y_is = ap (get_or cs c.args.second) c.index-group-second.is in
+    let d = bstr_bytes c.args.destination in
+    let (r, done) = completed_of g c.args.group.now is c.args.second y c.requires.1 y_is in
+    none_contained t (ap (map start_of) empty) (second_source g c.args.group.now is c.args.first c.args.second y c.requires.1 y_is d (map start_of others.items) (rw c.as_bytes.ensures at (c.in_ok-others.ensures r done)) s t k)
+
+pub returns-then-branch : goal.returns-then-branch
+returns-then-branch c g is =
+    copied_example g c.args.first c.args.second (start_of c.one-item.result) (start_of c.other-item.result) _ _ (bstr_bytes c.args.destination) _ c.requires.0
+    (copied_source _ _ c.in_ok-clone.ensures.keeps) (copied_source _ _ c.in_ok-clone-2.ensures.keeps) c.in_ok-from_slice.ensures
+    ((c.in_ok-do_conflict.ensures g is (c.if-not-is_below_refs.ensures.0 refl)).0 c.if-branch.true)
+
+pub loop-other-preserved : goal.loop-other-preserved
+loop-other-preserved c g is =
+    one_more_mapped start_of (NoConflict g c.args.first c.args.second (bstr_bytes c.args.destination) (start_of c.one-item.result)) c.deref-other-items.result.now c.loop-other.other-index c.other-item.result
+    (c.loop-other.invariant g is) c.loop-other-test.true c.other-item.is
+    (λ k. false≢true (sym c.if-branch.false ∙ (c.in_ok-do_conflict.ensures g is (c.if-not-is_below_refs.ensures.0 refl)).1 k))
+
+pub loop-one-preserved : goal.loop-one-preserved
+loop-one-preserved c g is =
+    one_more_mapped start_of (λ s. AllByRecursion (NoConflict g c.args.first c.args.second (bstr_bytes c.args.destination) s) (map start_of c.in_ok-others.others.items)) c.deref-one-items.result.now c.loop-one.one-index c.one-item.result
+    (c.loop-one.invariant g is) c.loop-one-test.true c.one-item.is
+    (rw (take_all c.loop-other.other-index c.deref-other-items.result.now (omega arith), c.deref-other-items.ensures.value) at (c.loop-other.invariant g is))
+
+pub returns : goal.returns
+returns c g is =
+    let cs = c.args.group.now.specs.now in
+    let x = get_or cs c.args.first c.index-group-first.result in
+    let x_is = ap (get_or cs c.args.first) c.index-group-first.is in
+    let y = get_or cs c.args.second c.index-group-second.result in
+    let y_is = ap (get_or cs c.args.second) c.index-group-second.is in
+    let d = bstr_bytes c.args.destination in
+    let below : c.args.first < length cs = omega (arith, c.requires.0, c.requires.1) in
+    let (r, done) = completed_of g c.args.group.now is c.args.second y c.requires.1 y_is in
+    let (q, made) = completed_of g c.args.group.now is c.args.first x below x_is in
+    let ones = map start_of c.in_ok-ones.ones.items in
+    let others = map start_of c.in_ok-others.others.items in
+    none_of_all g c.args.first c.args.second d ones others
+    (rw (take_all c.loop-one.one-index c.deref-one-items.result.now (omega arith), c.deref-one-items.ensures.value) at (c.loop-one.invariant g is))
+    (λ s t k. (
+      first_source g c.args.group.now is c.args.first c.args.second x below x_is d ones (rw c.as_bytes-2.ensures at (c.in_ok-ones.ensures q made)) s t k,
+      second_source g c.args.group.now is c.args.first c.args.second y c.requires.1 y_is d others (rw c.as_bytes.ensures at (c.in_ok-others.ensures r done)) s t k,
+    ))

@@ -1,0 +1,10 @@
+-- The source is excluded, and it is mapped or not.
+use Rattle.std.proofs.lemmas.Result.{IfOk-weaker}
+use Rattle.gix_refspec_text.specs.Views.Spec.{reading_of}
+use Rattle.gix_refspec_match.specs.Views.Mapping.{start_of}
+use Rattle.gix_refspec_lint.proofs.lemmas.SoundLemmas.{excludes_told}
+use Rattle.gix_refspec_lint.proofs.exclusions.excludes_at.Goals as goal
+
+pub returns : goal.returns
+returns c =
+    IfOk-weaker c.maps_alone.result _ _ (λ does. excludes_told (reading_of c.args.negative.now) (reading_of c.args.spec.now) (start_of c.args.source.now) does (c.does_exclude.ensures.0 c.if-not-does_exclude.false)) c.maps_alone.ensures

@@ -1,0 +1,44 @@
+-- By what the two sources have in common.
+use Rattle.std.proofs.Common.{inl, option_map, sym, ap, ◌∙◌}
+use Rattle.std.proofs.lemmas.Result.{IfOk-weaker}
+use Rattle.bstr.specs.BStr.{bstr_bytes}
+use Rattle.gix_refspec_text.specs.Views.Spec.{reading_of}
+use Rattle.gix_refspec_text.proofs.lemmas.specs.AcceptedLemmas.{accepted_few}
+use Rattle.gix_refspec_lint.proofs.lemmas.IdleExclusionLemmas.{none_apart, plain_only}
+use Rattle.gix_refspec_lint.proofs.exclusions.excludes_of.Goals as goal
+
+pub parts_of-requires : goal.parts_of-requires
+parts_of-requires c x is = accepted_few (reading_of c.args.spec.now) x c.args.spec.now.accepted (inl (sym c.source-2.ensures ∙ is))
+
+pub returns-in_default-parts_of : goal.returns-in_default-parts_of
+returns-in_default-parts_of c g is = c.excludes_named.ensures (rw c.source-2.ensures at c.in_default-parts_of.ensures)
+
+pub parts_of-requires-2 : goal.parts_of-requires-2
+parts_of-requires-2 c x is = accepted_few (reading_of c.args.negative.now) x c.args.negative.now.accepted (inl (sym c.source-3.ensures ∙ is))
+
+pub returns-in_default-parts_of-2 : goal.returns-in_default-parts_of-2
+returns-in_default-parts_of-2 c g is =
+    IfOk-weaker c.excludes_at.result _ _
+    (λ does. plain_only (reading_of c.args.negative.now) (reading_of c.args.spec.now) (bstr_bytes c.in-Some.excluded) does c.requires (sym c.source.ensures ∙ ap (option_map bstr_bytes) c.in-Some.is) (rw c.source-3.ensures at c.in_default-parts_of-2.ensures))
+    (rw (c.source_named-name.ensures, c.in_ok-from_slice.ensures) at c.excludes_at.ensures)
+
+pub returns-in-None : goal.returns-in-None
+returns-in-None c g is =
+    let (x, has, split) = c.in-Some-parts_of-2.ensures in
+    let (y, also, other) = c.in-Some-parts_of.ensures in
+    none_apart (reading_of c.args.negative.now) (reading_of c.args.spec.now) c.in-Some-parts_of-2.parts.0.now c.in-Some-parts_of-2.parts.1.now c.in-Some-parts_of.taken.0.now c.in-Some-parts_of.taken.1.now c.requires c.args.spec.now.accepted
+    (record { text = x; has = sym c.source-3.ensures ∙ has; split = split }) (record { text = y; has = sym c.source-2.ensures ∙ also; split = other }) c.in-None.ensures
+
+pub returns-in-Some-of : goal.returns-in-Some-of
+returns-in-Some-of c g is =
+    let (x, has, split) = c.in-Some-parts_of-2.ensures in
+    let (y, also, other) = c.in-Some-parts_of.ensures in
+    c.excludes_common.ensures g is (record {
+      before = c.in-Some-parts_of-2.parts.0.now;
+      after = c.in-Some-parts_of-2.parts.1.now;
+      prefix = c.in-Some-parts_of.taken.0.now;
+      suffix = c.in-Some-parts_of.taken.1.now;
+      one = record { text = x; has = sym c.source-3.ensures ∙ has; split = split };
+      other = record { text = y; has = sym c.source-2.ensures ∙ also; split = other };
+      shared = c.in-Some-of.ensures;
+    })

@@ -1,0 +1,12 @@
+-- A positive spec isn't idle so, and a negative one only if it excludes nothing.
+use Rattle.std.proofs.Common.{map}
+use Rattle.gix_refspec_text.specs.Views.Spec.{reading_of}
+use Rattle.gix_refspec_lint.proofs.lemmas.IdleExclusionLemmas.{idle_told, never_idle}
+use Rattle.gix_refspec_lint.proofs.exclusions.is_idle.Goals as goal
+
+pub returns-then-not-is_negative : goal.returns-then-not-is_negative
+returns-then-not-is_negative c g is = never_idle g (reading_of c.args.spec.now) c.if-not-is_negative.ensures
+
+pub returns : goal.returns
+returns c g is =
+    idle_told g (map reading_of c.args.group.now.specs.now) is.completed (reading_of c.args.spec.now) c.if-not-is_negative.ensures _ (c.in_ok-excludes.ensures g is)

@@ -1,0 +1,27 @@
+-- One of the names is the one, or none is.
+use Rattle.std.proofs.Common.{◌≡◌, ◌∙◌, map, refl, subst, sym, take_all, arith}
+use Rattle.std.specs.List.{Contains}
+use Rattle.std.proofs.lemmas.Bool.{false≢true}
+use Rattle.bstr.specs.BStr.{bstr_bytes}
+use Rattle.bstr.specs.Owned.{bstring_bytes}
+use Rattle.gix_refspec_text.proofs.lemmas.lists.MapLemmas.{one_more_mapped}
+use Rattle.gix_refspec_plan.proofs.lemmas.stale.SourceLemmas.{text_contained}
+use Rattle.gix_refspec_lint.proofs.lemmas.ExclusionLemmas.{same_bytes}
+use Rattle.gix_refspec_lint.proofs.lemmas.IdleLemmas.{none_equal}
+use Rattle.gix_refspec_lint.proofs.idle.contains.Goals as goal
+
+pub returns-then-eq : goal.returns-then-eq
+returns-then-eq c =
+    let same = (same_bytes _ _ (bstr_bytes c.args.name) c.eq.ensures refl).0 c.if-eq.true in
+    ((λ told. subst (Contains (map bstring_bytes c.args.names.now)) (sym c.as_bstr.ensures ∙ same) (text_contained c.args.names.now c.loop-one.one-index c.one-item.result (map bstring_bytes c.args.names.now) refl c.loop-one-test.true c.one-item.is)), (λ has. refl))
+
+pub loop-one-preserved : goal.loop-one-preserved
+loop-one-preserved c =
+    one_more_mapped bstring_bytes (λ x. ¬ (x ≡ bstr_bytes c.args.name)) c.args.names.now c.loop-one.one-index c.one-item.result c.loop-one.invariant c.loop-one-test.true c.one-item.is
+    (λ same. false≢true (sym c.if-eq.false ∙ (same_bytes _ _ (bstr_bytes c.args.name) c.eq.ensures refl).1 (c.as_bstr.ensures ∙ same)))
+
+pub returns : goal.returns
+returns c = (
+  (λ told. absurd (false≢true told)),
+  (λ has. absurd (none_equal _ _ (rw (take_all c.loop-one.one-index c.args.names.now (omega arith)) at c.loop-one.invariant) has)),
+)

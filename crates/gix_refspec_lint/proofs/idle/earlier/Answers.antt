@@ -1,0 +1,23 @@
+-- None of the specs so far, and the one at this index or not.
+use Rattle.std.proofs.Common.{inl, inr, map, option_map, sym, subst, arith}
+use Rattle.std.proofs.lemmas.Bool.{MatchBool-at_false, MatchBool-at_true}
+use Rattle.bstr.specs.BStr.{bstr_bytes}
+use Rattle.gix_refspec_text.proofs.lemmas.lists.NumberLemmas.{upto}
+use Rattle.gix_refspec_match.specs.Views.Mapping.{ref_of, start_of}
+use Rattle.gix_refspec_lint.specs.Matching.Lint.{Maps}
+use Rattle.gix_refspec_lint.proofs.idle.earlier.Goals as goal
+
+pub returns-then-branch : goal.returns-then-branch
+returns-then-branch c g is = (c.loop-at-test.true, MatchBool-at_true _ _ c.if-branch.true (c.in_ok-does_map.ensures g is))
+
+pub loop-at-init : goal.loop-at-init
+loop-at-init c g is h below = absurd (omega (arith, below))
+
+pub loop-at-preserved : goal.loop-at-preserved
+loop-at-preserved c g is h below = elim (upto h c.loop-at.at below) [
+  | inl before ↦ c.loop-at.invariant g is h before
+  | inr same ↦ subst (λ k. ¬ (Maps g (map ref_of c.args.items.now) k (start_of c.args.source.now) (option_map bstr_bytes c.args.destination))) (sym same) (MatchBool-at_false _ _ c.if-branch.false (c.in_ok-does_map.ensures g is))
+]
+
+pub returns : goal.returns
+returns c g is h below = c.loop-at.invariant g is h (omega (arith, below, c.loop-at-test.false))

@@ -1,0 +1,10 @@
+-- the names so far free the specs so far
+use Rattle.std.proofs.Common.{map}
+use Rattle.bstr.specs.Owned.{bstring_bytes}
+use Rattle.gix_refspec_text.specs.Views.Spec.{reading_of}
+use Rattle.gix_refspec_match.specs.Views.Mapping.{start_of}
+use Rattle.gix_refspec_lint.proofs.lemmas.PreferredLemmas.{FreesSoFar}
+use Rattle.gix_refspec_lint.proofs.idle.freeing_names.Given as goal
+
+abbrev pub invariant-loop-at : goal.invariant-loop-at
+invariant-loop-at l = FreesSoFar (map reading_of l.group.specs.now) (start_of l.source) (map bstring_bytes l.kept_away.items) (map bstring_bytes l.names.items) l.at

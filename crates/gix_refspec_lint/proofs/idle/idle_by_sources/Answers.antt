@@ -1,0 +1,40 @@
+-- What becomes of the mappings of each source that the spec may map.
+use Rattle.std.proofs.Common.{inl, inr, map, sym, ◌∙◌, take_all, arith}
+use Rattle.std.proofs.lemmas.Option.{same_Some}
+use Rattle.gix_refspec_text.proofs.lemmas.lists.AllLemmas.{all_weaker}
+use Rattle.gix_refspec_text.proofs.lemmas.lists.MapLemmas.{one_more_mapped}
+use Rattle.gix_refspec_match.specs.Views.Mapping.{start_of}
+use Rattle.gix_refspec_lint.specs.Private.Idles.{Explains}
+use Rattle.gix_refspec_lint.proofs.lemmas.IdleSpecLemmas.{idle_by, plain_same, sources_explain}
+use Rattle.gix_refspec_lint.proofs.lemmas.PreferredLemmas.{reading_at}
+use Rattle.gix_refspec_lint.proofs.idle.idle_by_sources.Goals as goal
+
+pub loop-source-init : goal.loop-source-init
+loop-source-init c g is = (tt, tt)
+
+pub returns-in-None : goal.returns-in-None
+returns-in-None c g is r at plain = rw c.in-None.is at (c.in_ok-idle_at.ensures g is)
+
+pub loop-source-preserved : goal.loop-source-preserved
+loop-source-preserved c g is =
+    let k = c.args.index in
+    let told = rw c.in-Some.is at (c.in_ok-idle_at.ensures g is) in
+    let old = c.loop-source.invariant g is in
+    let new = c.stronger-reason.result in (
+      one_more_mapped start_of (λ s. Explains g k s new) c.deref-source-items.result.now c.loop-source.source-index c.source-item.result
+          (all_weaker (λ s. Explains g k s c.loop-source.reason) (λ s. Explains g k s new) (λ s e. c.stronger-reason.ensures.explains g k s (inl e)) _ old.0) c.loop-source-test.true c.source-item.is
+          (c.stronger-reason.ensures.explains g k (start_of c.source-item.result) (inr told.0)),
+      c.stronger-reason.ensures.shown g k old.1 told.1,
+    )
+
+pub returns : goal.returns
+returns c g is r at plain =
+    let cs = c.args.group.now.specs.now in
+    let k = c.args.index in
+    let also = reading_at cs k c.index-group-index.result c.requires in
+    let has = c.in_ok-named_sources.ensures (plain_same _ r (same_Some _ _ (sym also ∙ at)) plain) in
+    let old = c.loop-source.invariant g is in
+    idle_by g k c.loop-source.reason
+    (sources_explain g cs is.completed k r _ at also (map start_of c.deref-source-items.result.now) (rw c.deref-source-items.ensures.value has) c.loop-source.reason
+    (rw (take_all c.loop-source.source-index c.deref-source-items.result.now (omega arith)) at old.0))
+    old.1

@@ -1,0 +1,8 @@
+-- What a spec fetches is kept.
+use Rattle.std.proofs.Common.{map}
+use Rattle.gix_refspec_text.specs.Views.Spec.{reading_of}
+use Rattle.gix_refspec_lint.proofs.lemmas.ExampleLemmas.{examples_conflict}
+use Rattle.gix_refspec_lint.proofs.laws.examples_conflict.Goals as goal
+
+pub returns : goal.returns
+returns c = examples_conflict (map reading_of c.args.specs.now)

@@ -1,0 +1,251 @@
+-- The names that decide show what a spec with a source pattern maps soundly.
+use Rattle.std.proofs.Common.{◌≡◌, ◌≢◌, ◌⊎◌, inl, inr, ℕ, List, [], ◌∷◌, ◌++◌, codes, Option, None, Some, map, refl, sym, ap, ◌∙◌, subst}
+use Rattle.std.specs.List.{AllByRecursion, Contains}
+use Rattle.std.proofs.lemmas.List.Elements.{Contains-append_left, Contains-append_right}
+use Rattle.std.proofs.lemmas.Option.{same_Some}
+use Rattle.gix_refspec_text.specs.Texts.Words.{BeginsWith, Lacks}
+use Rattle.gix_refspec_text.specs.Texts.Name.{IsName, IsSplit}
+use Rattle.gix_refspec_text.specs.Specs.Reading.{Reading}
+use Rattle.gix_refspec_text.specs.Specs.Grammar.{IsAccepted, IsPositive}
+use Rattle.gix_refspec_text.specs.Matching.Side.{pattern, Fits, filled}
+use Rattle.gix_refspec_text.specs.Matching.Match.{Ref, HasName, Takes}
+use Rattle.gix_refspec_text.proofs.lemmas.hits.MatchLemmas.{lacks_no_pattern}
+use Rattle.gix_refspec_text.proofs.lemmas.lists.AllLemmas.{all_join, all_left, all_right}
+use Rattle.gix_refspec_match.specs.Matching.Mappings.{name}
+use Rattle.gix_refspec_match.specs.Matching.Hits.{IsFilled}
+use Rattle.gix_refspec_match.proofs.lemmas.hits.HitLemmas.{matches_as, one_kind}
+use Rattle.gix_refspec.specs.Laws.Matching.{IsPaired, MakesForward}
+use Rattle.gix_refspec_lint.specs.Matching.Lint.{IsFree}
+use Rattle.gix_refspec_plan.specs.Matching.Plan.{CanBeWritten}
+use Rattle.gix_refspec.specs.Matching.RefNames.{IsRefName}
+use Rattle.gix_refspec_lint.specs.Private.Idles.{MakesSoundly}
+use Rattle.gix_refspec_lint.specs.Private.Lints.{IsDeciding, IsLongerPrefix, IsLongerSuffix, endings, parts, words_with}
+use Rattle.gix_refspec.proofs.lemmas.specs.SideLawLemmas.{sides_agree}
+use Rattle.gix_refspec_plan.proofs.lemmas.stale.FetchedLemmas.{named_some, some_named}
+use Rattle.gix_refspec.proofs.lemmas.keep.FilterLemmas.{mapped_there}
+use Rattle.gix_refspec_lint.proofs.lemmas.PatternLemmas.{lacks_ending, ref_moved, regroup, word_there}
+use Rattle.gix_refspec_lint.proofs.lemmas.WordLemmas.{Around, HasEnding, IsParted, IsRefAround, between, common_name, ending_or_part}
+use Rattle.gix_refspec_plan.proofs.lemmas.stale.PatternLemmas.{side_cases}
+
+-- ---- specs with a source pattern
+
+-- the destination is a pattern, and far has it with a word
+pub record FarPattern (c : Reading) (far : List ℕ → Option (List ℕ)) : Type 0 where
+  pub side : List ℕ
+  pub before : List ℕ
+  pub after : List ℕ
+  pub has : c.destination ≡ Some side
+  pub split : IsSplit before after side
+  pub is : (w : List ℕ) → far w ≡ Some (before ++ (w ++ after))
+
+abbrev pub HasShape : Reading → (List ℕ → Option (List ℕ)) → Type 0
+HasShape c far = ((w : List ℕ) → far w ≡ None) ⊎ FarPattern c far
+
+-- a positive spec whose source is a pattern with these texts, and what its destination becomes with a word
+pub record PatternSpec (c : Reading) (p t : List ℕ) : Type 0 where
+  pub positive : IsPositive c.mode
+  pub text : List ℕ
+  pub has : c.source ≡ Some text
+  pub split : IsSplit p t text
+  pub far : List ℕ → Option (List ℕ)
+  pub fills : (w : List ℕ) → IsFilled c.destination (Some w) (far w)
+  pub shape : HasShape c far
+
+pub pattern_spec : (c : Reading) (p t x : List ℕ) → ∥ IsAccepted c ∥₁ → IsPositive c.mode → c.source ≡ Some x → IsSplit p t x → PatternSpec c p t
+pattern_spec c p t x accepted positive has split = elim (side_cases c.destination) [
+  | inl none ↦ record {
+    positive = positive;
+    text = x;
+    has = has;
+    split = split;
+    far = λ w. None;
+    fills = λ w. subst (λ e. IsFilled e (Some w) None) (sym none) refl;
+    shape = inl (λ w. refl);
+  }
+  | inr (e, is) ↦ elim ((sides_agree c accepted).both x e has is) [
+    | inl (one, (a, b, far)) ↦ record {
+      positive = positive;
+      text = x;
+      has = has;
+      split = split;
+      far = λ w. Some (a ++ (w ++ b));
+      fills = λ w. subst (λ d. IsFilled d (Some w) (Some (a ++ (w ++ b)))) (sym is) (pattern a b, far, refl);
+      shape = inr (record { side = e; before = a; after = b; has = is; split = far; is = λ w. refl });
+    }
+    | inr (lacks, others) ↦ absurd (lacks_no_pattern x p t lacks split)
+  ]
+]
+
+-- a destination becomes one thing
+pub destination_once : (c : Reading) (word n m : Option (List ℕ)) → IsFilled c.destination word n → IsFilled c.destination word m → n ≡ m
+destination_once c word n m a b = once c.destination a b
+  where
+    once : (x : Option (List ℕ)) → IsFilled x word n → IsFilled x word m → n ≡ m
+    once None a b = a ∙ sym b
+    once (Some x) a b = a.2 ∙ ap (λ k. Some (filled k word)) (one_kind x a.0 b.0 a.1 b.1) ∙ sym b.2
+
+module _ (c : Reading) (p t : List ℕ) (spec : PatternSpec c p t) where
+  -- it maps each ref with a word
+  pub spec_maps : (refs : List Ref) (w : List ℕ) → HasName refs (p ++ (w ++ t)) → MakesForward refs (name (p ++ (w ++ t))) (spec.far w) c
+  spec_maps refs w there = record {
+    ends = record { near = spec.text; far = c.destination };
+    has = record { positive = spec.positive; near = spec.has; far = refl; no_object = λ bytes kind. lacks_no_pattern spec.text p t kind.0 spec.split };
+    one = named_some (IsPaired (Takes refs) (record { near = spec.text; far = c.destination }) (p ++ (w ++ t)) (spec.far w)) refs (p ++ (w ++ t)) there (λ item named. record {
+      word = Some w;
+      name = named;
+      takes = record {
+        matches = record { kind = pattern p t; of = spec.split; is = named };
+        first = λ m kind. absurd (lacks_no_pattern spec.text p t kind.1 spec.split);
+      };
+      becomes = spec.fills w;
+    });
+  }
+
+  -- and nothing else
+  pub spec_made : (refs : List Ref) (n : List ℕ) (d : Option (List ℕ)) → MakesForward refs (name n) d c → (w : List ℕ) × (n ≡ p ++ (w ++ t)) × (d ≡ spec.far w) × HasName refs n
+  spec_made refs n d makes =
+      let (k, item, below, is, paired) = makes.one in
+      let near : makes.ends.near ≡ spec.text = same_Some _ _ (sym makes.has.near ∙ spec.has) in
+      let (w, some, fits) = word_there p t item paired.word (matches_as makes.ends.near (pattern p t) item paired.word (subst (IsSplit p t) (sym near) spec.split) paired.takes.matches) in (
+        w,
+        sym paired.name ∙ fits,
+        destination_once c (Some w) d (spec.far w) (subst (λ e. IsFilled e (Some w) d) (sym makes.has.far) (subst (λ v. IsFilled makes.ends.far v d) some paired.becomes)) (spec.fills w),
+        some_named (IsPaired (Takes refs) makes.ends n d) refs n (λ i one. one.name) makes.one,
+      )
+
+-- ---- names that decide
+
+-- the destination has the byte in place of the word, or there is none
+abbrev pub IsMovedFar : ℕ → Reading → List ℕ → List ℕ → Option (List ℕ) → Option (List ℕ) → Type 0
+IsMovedFar z c prefix word d e =
+    ((d ≡ None) × (e ≡ None))
+    ⊎ ((f : List ℕ) × (l : List ℕ) × (d ≡ Some (f ++ (word ++ l))) × (e ≡ Some (f ++ (z ∷ l)))
+    × (Lacks z prefix → ((x a b : List ℕ) → c.destination ≡ Some x → IsSplit a b x → Lacks z x) → Lacks z f))
+
+-- the name n and the destination e have the byte in place of a word of m and d
+pub record IsMoved (z : ℕ) (c : Reading) (prefix m n : List ℕ) (d e : Option (List ℕ)) : Type 0 where
+  pub front : List ℕ
+  pub back : List ℕ
+  pub word : List ℕ
+  pub was : m ≡ front ++ (word ++ back)
+  pub is : n ≡ front ++ (z ∷ back)
+  pub lacks : Lacks z prefix → Lacks z front
+  pub far : IsMovedFar z c prefix word d e
+
+-- a name that decides, fits a pattern, and is mapped soundly: m itself, or moved from it
+pub record Decided (z : ℕ) (c : Reading) (a b prefix suffix m : List ℕ) (d : Option (List ℕ)) : Type 0 where
+  pub source : List ℕ
+  pub destination : Option (List ℕ)
+  pub deciding : IsDeciding (words_with z) prefix suffix source
+  pub word : List ℕ
+  pub fits : Fits a b source word
+  pub sound : (few : List Ref) → HasName few source → MakesSoundly few (name source) destination c
+  pub moved : ((source ≡ m) × (destination ≡ d)) ⊎ IsMoved z c prefix m source d destination
+
+module _ (g : List Reading) (z : ℕ) (free : IsFree g z) (c : Reading) (p t : List ℕ) (spec : PatternSpec c p t) where
+  abbrev around_far : HasShape c spec.far → List ℕ → List ℕ → List Around
+  around_far (inl none) x y = []
+  around_far (inr far) x y = record { front = far.before ++ x; back = y ++ far.after } ∷ []
+
+  -- the texts around a word in the source and in the destination
+  abbrev around : List ℕ → List ℕ → List Around
+  around x y = record { front = p ++ x; back = y ++ t } ∷ around_far spec.shape x y
+
+  valid_far : (shape : HasShape c spec.far) (x v y : List ℕ) → CanBeWritten (spec.far (x ++ (v ++ y))) → AllByRecursion (IsRefAround v) (around_far shape x y)
+  valid_far (inl none) x v y written = tt
+  valid_far (inr far) x v y written =
+      let whole : CanBeWritten (Some (far.before ++ ((x ++ (v ++ y)) ++ far.after))) = subst CanBeWritten (far.is (x ++ (v ++ y))) written in
+      (subst IsRefName (sym (between far.before x v y far.after)) (inl whole), tt)
+
+  begin_with : List ℕ → List ℕ → Type 0
+  begin_with e a = BeginsWith (codes "refs/") (a ++ e)
+
+  written_far : (shape : HasShape c spec.far) (x e rest y : List ℕ) → AllByRecursion (λ a. BeginsWith (codes "refs/") (a ++ e)) (map (λ (s : Around). s.front) (around_far shape x y)) → CanBeWritten (spec.far (x ++ ((e ++ rest) ++ y)))
+      → CanBeWritten (spec.far (x ++ ((e ++ z ∷ []) ++ y)))
+  written_far (inl none) x e rest y begins written = subst CanBeWritten (sym (none (x ++ ((e ++ z ∷ []) ++ y)))) tt
+  written_far (inr far) x e rest y begins written =
+      let whole : CanBeWritten (Some (far.before ++ ((x ++ ((e ++ rest) ++ y)) ++ far.after))) = subst CanBeWritten (far.is (x ++ ((e ++ rest) ++ y))) written in
+      let valid : IsRefName (((far.before ++ x) ++ e) ++ (rest ++ (y ++ far.after))) = subst IsRefName (regroup far.before x e rest y far.after) (inl whole) in
+      subst CanBeWritten (ap Some (sym (regroup far.before x e (z ∷ []) y far.after)) ∙ sym (far.is (x ++ ((e ++ z ∷ []) ++ y)))) (ref_moved g z free ((far.before ++ x) ++ e) rest (y ++ far.after) begins.0 valid)
+
+  moved_far : (shape : HasShape c spec.far) (prefix x e rest y : List ℕ) → prefix ≡ p ++ x → Contains endings e → IsMovedFar z c prefix rest (spec.far (x ++ ((e ++ rest) ++ y))) (spec.far (x ++ ((e ++ z ∷ []) ++ y)))
+  moved_far (inl none) prefix x e rest y before listed = inl (none _, none _)
+  moved_far (inr far) prefix x e rest y before listed = inr (
+    (far.before ++ x) ++ e,
+    y ++ far.after,
+    far.is _ ∙ ap Some (regroup far.before x e rest y far.after),
+    far.is _ ∙ ap Some (regroup far.before x e (z ∷ []) y far.after),
+    λ lacks others.
+        let side = others far.side far.before far.after far.has far.split in
+        all_join (λ k. k ≢ z) (far.before ++ x) e
+        (all_join (λ k. k ≢ z) far.before x (all_left (λ k. k ≢ z) far.before _ (subst (Lacks z) far.split.starred side)) (all_right (λ k. k ≢ z) p x (subst (Lacks z) before lacks)))
+        (lacks_ending g z free e listed),
+  )
+
+  module _ (a b prefix suffix : List ℕ) (longer : IsLongerPrefix a p prefix) (ends : IsLongerSuffix b t suffix) (refs : List Ref) (m : List ℕ) (d : Option (List ℕ)) (v : List ℕ) (fits : Fits a b m v) (makes : MakesSoundly refs (name m) d c) where
+    by_itself : IsDeciding (words_with z) prefix suffix m → Decided z c a b prefix suffix m d
+    by_itself deciding =
+        let (w, source, far, there) = spec_made c p t spec refs m d makes.makes in
+        record {
+          source = m;
+          destination = d;
+          deciding = deciding;
+          word = v;
+          fits = fits;
+          sound = λ few has. record {
+            makes = subst (λ n. MakesForward few (name n) d c) (sym source) (subst (λ e. MakesForward few (name (p ++ (w ++ t))) e c) (sym far) (spec_maps c p t spec few w (subst (HasName few) source has)));
+            source = makes.source;
+            destination = makes.destination;
+          };
+          moved = inl (refl, refl);
+        }
+
+    module _ (w : List ℕ) (source : m ≡ p ++ (w ++ t)) (far : d ≡ spec.far w) (q : IsParted a b p t prefix suffix m v w) where
+      by_ending : HasEnding q.word (map (λ (s : Around). s.front) (around q.p q.q)) → Decided z c a b prefix suffix m d
+      by_ending ending =
+          let e = ending.ending in
+          let rest = ending.rest in
+          let n = prefix ++ ((e ++ z ∷ []) ++ suffix) in
+          let word_is : w ≡ q.p ++ ((e ++ rest) ++ q.q) = q.other ∙ ap (λ u. q.p ++ (u ++ q.q)) ending.is in
+          let far_is : d ≡ spec.far (q.p ++ ((e ++ rest) ++ q.q)) = far ∙ ap spec.far word_is in
+          let old : m ≡ ((p ++ q.p) ++ e) ++ (rest ++ (q.q ++ t)) = source ∙ ap (λ u. p ++ (u ++ t)) word_is ∙ regroup p q.p e rest q.q t in
+          let new : n ≡ ((p ++ q.p) ++ e) ++ (z ∷ (q.q ++ t)) = ap (λ u. u ++ ((e ++ z ∷ []) ++ suffix)) q.front ∙ ap (λ u. (p ++ q.p) ++ ((e ++ z ∷ []) ++ u)) q.back ∙ between p q.p (e ++ z ∷ []) q.q t ∙ regroup p q.p e (z ∷ []) q.q t in
+          let at : n ≡ p ++ ((q.p ++ ((e ++ z ∷ []) ++ q.q)) ++ t) = new ∙ sym (regroup p q.p e (z ∷ []) q.q t) in
+          record {
+            source = n;
+            destination = spec.far (q.p ++ ((e ++ z ∷ []) ++ q.q));
+            deciding = inl (e ++ z ∷ [], Contains-append_left (map (λ u. u ++ z ∷ []) endings) parts (e ++ z ∷ []) (mapped_there (λ u. u ++ z ∷ []) endings e ending.listed), refl);
+            word = q.x ++ ((e ++ z ∷ []) ++ q.y);
+            fits = ap (λ u. u ++ ((e ++ z ∷ []) ++ suffix)) q.before ∙ ap (λ u. (a ++ q.x) ++ ((e ++ z ∷ []) ++ u)) q.after ∙ between a q.x (e ++ z ∷ []) q.y b;
+            sound = λ few has. record {
+              makes = subst (λ u. MakesForward few (name u) (spec.far (q.p ++ ((e ++ z ∷ []) ++ q.q))) c) (sym at) (spec_maps c p t spec few (q.p ++ ((e ++ z ∷ []) ++ q.q)) (subst (HasName few) at has));
+              source = inl (subst (λ u. BeginsWith (codes "refs/") u × IsName u) (sym new) (ref_moved g z free ((p ++ q.p) ++ e) rest (q.q ++ t) ending.begin.0 (subst IsRefName old makes.source)));
+              destination = written_far spec.shape q.p e rest q.q ending.begin.1 (subst CanBeWritten far_is makes.destination);
+            };
+            moved = inr (record {
+              front = (p ++ q.p) ++ e;
+              back = q.q ++ t;
+              word = rest;
+              was = old;
+              is = new;
+              lacks = λ lacks. all_join (λ k. k ≢ z) (p ++ q.p) e (subst (Lacks z) q.front lacks) (lacks_ending g z free e ending.listed);
+              far = subst (λ o. IsMovedFar z c prefix rest o (spec.far (q.p ++ ((e ++ z ∷ []) ++ q.q)))) (sym far_is) (moved_far spec.shape prefix q.p e rest q.q q.front ending.listed);
+            });
+          }
+
+      by_word : Decided z c a b prefix suffix m d
+      by_word = elim (ending_or_part q.word (around q.p q.q) (
+        subst IsRefName (source ∙ ap (λ u. p ++ (u ++ t)) q.other ∙ sym (between p q.p q.word q.q t)) makes.source,
+        valid_far spec.shape q.p q.word q.q (subst CanBeWritten (far ∙ ap spec.far q.other) makes.destination),
+      )) [
+        | inl part ↦ by_itself (inl (q.word, Contains-append_right (map (λ u. u ++ z ∷ []) endings) parts q.word part, q.whole))
+        | inr ending ↦ by_ending ending
+      ]
+
+    pub decide : Decided z c a b prefix suffix m d
+    decide =
+        let (w, source, far, there) = spec_made c p t spec refs m d makes.makes in
+        elim (common_name (words_with z) a b p t prefix suffix m v w longer ends fits source) [
+          | inr deciding ↦ by_itself deciding
+          | inl parted ↦ by_word w source far parted
+        ]

@@ -1,0 +1,168 @@
+-- Negative specs that exclude nothing.
+use Rattle.std.proofs.Common.{◌≡◌, inl, inr, ℕ, zero, suc, ◌+◌, ◌<◌, Bool, true, false, MatchBool, not, take, List, [], ◌∷◌, ◌++◌, Option, None, Some, length, map, option_to_list, get_or, refl, sym, ap, ◌∙◌, subst, arith}
+use Rattle.std.specs.List.{AllByRecursion, AllZip, Any, slice_get}
+use Rattle.std.proofs.lemmas.Option.{same_Some}
+use Rattle.gix_refspec_lint.specs.declared.words.Common.{Common}
+use Rattle.gix_refspec_text.specs.Texts.Name.{IsSplit}
+use Rattle.gix_refspec_text.specs.Specs.Reading.{Reading, Negative}
+use Rattle.gix_refspec_text.specs.Specs.Grammar.{IsAccepted, IsPositive}
+use Rattle.gix_refspec_text.specs.Matching.Side.{Excludes, Fits, by_pattern, the_name}
+use Rattle.gix_refspec_text.proofs.lemmas.hits.MatchLemmas.{lacks_no_pattern, split_once}
+use Rattle.gix_refspec_match.specs.Matching.Lists.{IsMadeFrom, MakesOf}
+use Rattle.gix_refspec_match.specs.Matching.Mappings.{Source, name, id, IsExcludedBy, IsSourceExcluded}
+use Rattle.gix_refspec_lint.specs.Matching.Lint.{IsFree, IsIdleExclusion}
+use Rattle.gix_refspec_plan.specs.Matching.Plan.{IsCompleted}
+use Rattle.gix_refspec_plan.specs.Matching.Stale.{ref_named}
+use Rattle.gix_refspec_lint.specs.Private.Idles.{ExcludesFrom, ExcludesSome, HasSourcePattern, ShareSources}
+use Rattle.gix_refspec_lint.specs.Private.Lints.{IsDeciding, words_with}
+use Rattle.gix_refspec_match.proofs.lemmas.lists.JoinLemmas.{made_more}
+use Rattle.gix_refspec_plan.proofs.lemmas.plan.OnePlanLemmas.{reading_once}
+use Rattle.gix_refspec_lint.proofs.lemmas.DecideLemmas.{decide, pattern_spec, spec_made}
+use Rattle.gix_refspec_lint.proofs.lemmas.ExclusionLemmas.{excludes_by, text_excludes}
+use Rattle.gix_refspec.proofs.lemmas.prefixes.CoverLemmas.{some_at}
+use Rattle.gix_refspec_plan.proofs.lemmas.stale.ZipLemmas.{same_excluded}
+
+-- a pattern excludes what fits it
+fits_excluded : (x before after n : List ℕ) → IsSplit before after x → Excludes x n → (w : List ℕ) × Fits before after n w
+fits_excluded x before after n split (the_name lacks same) = absurd (lacks_no_pattern x before after lacks split)
+fits_excluded x before after n split (by_pattern front back w parts fits) =
+    let both = split_once x front back before after parts split in
+    (w, subst (λ a. Fits a after n w) both.0 (subst (λ b. Fits front b n w) both.1 fits))
+
+-- what is excluded and mapped is so at a name that decides
+pub none_shared : (g : List Reading) (z : ℕ) (free : IsFree g z) (negative c : Reading) (common : Common) → negative.mode ≡ Negative → ∥ IsAccepted c ∥₁ → ShareSources negative c common
+    → ((n : List ℕ) → IsDeciding (words_with z) common.prefix.now common.suffix.now n → ¬ (ExcludesFrom negative c (name n))) → ¬ (ExcludesSome negative c)
+none_shared g z free negative c common is accepted share none (id bytes, e) = e.excludes
+none_shared g z free negative c common is accepted share none (name m, e) =
+    let one = share.one in
+    let other = share.other in
+    let (v, fits) = fits_excluded one.text share.before share.after m one.split (text_excludes negative one.text is one.has m e.excludes) in
+    let spec = pattern_spec c share.prefix share.suffix other.text accepted e.makes.makes.has.positive other.has other.split in
+    let d = decide g z free c share.prefix share.suffix spec share.before share.after common.prefix.now common.suffix.now share.shared.prefix share.shared.suffix e.refs m e.destination v fits e.makes in
+    none d.source d.deciding (record {
+      refs = ref_named d.source ∷ [];
+      destination = d.destination;
+      makes = d.sound (ref_named d.source ∷ []) (inl refl);
+      excludes = excludes_by negative one.text is one.has d.source (by_pattern share.before share.after d.word one.split d.fits);
+    })
+
+-- without a star only its own name
+pub plain_only : (negative c : Reading) (x : List ℕ) (b : Bool) → negative.mode ≡ Negative → negative.source ≡ Some x → ((y before after : List ℕ) → negative.source ≡ Some y → ¬ (IsSplit before after y))
+    → MatchBool b (ExcludesFrom negative c (name x)) (¬ (ExcludesFrom negative c (name x))) → MatchBool b (ExcludesSome negative c) (¬ (ExcludesSome negative c))
+plain_only negative c x true is has none e = (name x, e)
+plain_only negative c x false is has none not_x = λ (s, e). some s e
+  where
+    named : (m : List ℕ) → Excludes x m → m ≡ x
+    named m (the_name lacks same) = same
+    named m (by_pattern before after w split fits) = absurd (none x before after has split)
+
+    some : (s : Source) → ¬ (ExcludesFrom negative c s)
+    some (id bytes) e = e.excludes
+    some (name m) e = not_x (subst (λ n. ExcludesFrom negative c (name n)) (named m (text_excludes negative x is has m e.excludes)) e)
+
+-- nothing where no name fits both patterns
+pub none_apart : (negative c : Reading) (a b p t : List ℕ) → negative.mode ≡ Negative → ∥ IsAccepted c ∥₁ → HasSourcePattern negative a b → HasSourcePattern c p t → ((n v w : List ℕ) → Fits a b n v → Fits p t n w → ⊥) → ¬ (ExcludesSome negative c)
+none_apart negative c a b p t is accepted one other apart (id bytes, e) = e.excludes
+none_apart negative c a b p t is accepted one other apart (name m, e) =
+    let (v, fits) = fits_excluded one.text a b m one.split (text_excludes negative one.text is one.has m e.excludes) in
+    let spec = pattern_spec c p t other.text accepted e.makes.makes.has.positive other.has other.split in
+    let (w, source, far, there) = spec_made c p t spec e.refs m e.destination e.makes.makes in
+    apart m v w fits source
+
+-- ---- groups
+
+-- a completed negative spec excludes the same
+excluded_same : (r c : Reading) (n : List ℕ) → IsCompleted r c → IsExcludedBy n r → IsExcludedBy n c
+excluded_same r c n done by = record { negative = done.mode ∙ by.negative; text = by.text; source = done.source ∙ by.source; excludes = by.excludes }
+
+-- each spec and the same with its destination completed
+pub zip_of : (g h : List Reading) (k : ℕ) (c : Reading) → AllZip IsCompleted g h → slice_get h k ≡ Some c → (r : Reading) × (slice_get g k ≡ Some r) × IsCompleted r c
+zip_of [] [] k c all at = absurd (cc (at))
+zip_of [] (e ∷ h) k c all at = absurd all
+zip_of (r ∷ g) [] k c all at = absurd all
+zip_of (r ∷ g) (e ∷ h) zero c all at = (r, refl, subst (IsCompleted r) (same_Some _ _ at) all.0)
+zip_of (r ∷ g) (e ∷ h) (suc k) c all at = zip_of g h k c all.1 at
+
+pub zip_to : (g h : List Reading) (k : ℕ) (r c : Reading) → AllZip IsCompleted g h → slice_get g k ≡ Some r → IsCompleted r c → slice_get h k ≡ Some c
+zip_to [] h k r c all at done = absurd (cc (at))
+zip_to (q ∷ g) [] k r c all at done = absurd all
+zip_to (q ∷ g) (e ∷ h) zero r c all at done = ap Some (reading_once q e c all.0 (subst (λ x. IsCompleted x c) (sym (same_Some _ _ at)) done))
+zip_to (q ∷ g) (e ∷ h) (suc k) r c all at done = zip_to g h k r c all.1 at done
+
+pub any_at : (P : Reading → Type 0) (h : List Reading) → Any P h → (k : ℕ) × (c : Reading) × (slice_get h k ≡ Some c) × P c
+any_at P [] (k, c, below, is, holds) = absurd (omega (arith, below))
+any_at P (e ∷ h) (zero, c, below, is, holds) = (zero, c, ap Some is, holds)
+any_at P (e ∷ h) (suc k, c, below, is, holds) = let (j, x, at, has) = any_at P h (k, c, omega (arith, below), is, holds) in (suc j, x, at, has)
+
+module _ (g h : List Reading) (all : AllZip IsCompleted g h) (negative : Reading) (is : negative.mode ≡ Negative) where
+  excluded_one : (n : List ℕ) → IsSourceExcluded (negative ∷ []) (name n) → IsExcludedBy n negative
+  excluded_one n (inl by) = by
+  excluded_one n (inr none) = absurd none
+
+  -- a negative spec that excludes something isn't idle
+  pub some_excluded : Any (ExcludesSome negative) h → ¬ (IsIdleExclusion g negative)
+  some_excluded any idle = by_source (any_at (ExcludesSome negative) h any)
+    where
+      by_source : (k : ℕ) × (c : Reading) × (slice_get h k ≡ Some c) × ExcludesSome negative c → ⊥
+      by_source (k, c, at, (id bytes, e)) = e.excludes
+      by_source (k, c, at, (name n, e)) =
+          let (r, here, done) = zip_of g h k c all at in
+          idle.excludes e.refs k n e.destination (record {
+            maps = record { reading = r; at = here; completed = c; is = done; makes = e.makes.makes };
+            source = e.makes.source;
+            destination = e.makes.destination;
+          }) (excluded_one n e.excludes)
+
+  pub none_excluded : ¬ (Any (ExcludesSome negative) h) → IsIdleExclusion g negative
+  none_excluded none = record {
+    negative = is;
+    excludes = λ refs i n d maps by.
+        none (some_at (ExcludesSome negative) h i maps.maps.completed (zip_to g h i maps.maps.reading maps.maps.completed all maps.maps.at maps.maps.is)
+        (name n, record { refs = refs; destination = d; makes = record { makes = maps.maps.makes; source = maps.source; destination = maps.destination }; excludes = inl by }));
+  }
+
+-- what is made of the completed specs is made of the specs
+pub made_completed : {Y : Type 0} (R : ℕ → Reading → Y → Type 0) → ((k : ℕ) (r c : Reading) (y : Y) → IsCompleted r c → R k r y → R k c y) → ((k : ℕ) (r c : Reading) (y : Y) → IsCompleted r c → R k c y → R k r y)
+    → (g h : List Reading) (k : ℕ) (ys : List Y) → AllZip IsCompleted g h → IsMadeFrom R k h ys → IsMadeFrom R k g ys
+made_completed R to from [] [] k ys all made = made
+made_completed R to from [] (c ∷ h) k ys all made = absurd all
+made_completed R to from (r ∷ g) [] k ys all made = absurd all
+made_completed {Y} R to from (r ∷ g) (c ∷ h) k ys all (one, rest, of, more, is) = (one, rest, by one of, made_completed R to from g h (k + 1) rest all.1 more, is)
+  where
+    by : (one : Option Y) → MakesOf R k c one → MakesOf R k r one
+    by None none = λ y has. none y (to k r c y all.0 has)
+    by (Some y) has = from k r c y all.0 has
+
+-- as the idle negative specs are
+pub idle_completed : (g h : List Reading) (idle : List ℕ) → AllZip IsCompleted g h → IsMadeFrom (λ k c made. (made ≡ k) × IsIdleExclusion g c) 0 h idle → IsMadeFrom (λ k r made. (made ≡ k) × IsIdleExclusion g r) 0 g idle
+idle_completed g h idle all made =
+    made_completed (λ k r made. (made ≡ k) × IsIdleExclusion g r)
+    (λ k r c y done both. (both.0, record { negative = done.mode ∙ both.1.negative; excludes = λ refs i n d maps by. both.1.excludes refs i n d maps (same_excluded r c n done by) }))
+    (λ k r c y done both. (both.0, record { negative = sym done.mode ∙ both.1.negative; excludes = λ refs i n d maps by. both.1.excludes refs i n d maps (excluded_same r c n done by) }))
+    g h 0 idle all made
+
+-- ---- lists
+
+pub any_mapped : {A : Type 0} (f : A → Reading) (P : Reading → Type 0) (xs : List A) (k : ℕ) (x : A) → k < length xs → x ≡ get_or xs k x → P (f x) → Any P (map f xs)
+any_mapped f P [] k x below is holds = absurd (omega (arith, below))
+any_mapped f P (y ∷ xs) zero x below is holds = (zero, f x, omega arith, ap f (sym is), holds)
+any_mapped f P (y ∷ xs) (suc k) x below is holds = let (j, r, under, at, has) = any_mapped f P xs k x (omega (arith, below)) is holds in (suc j, r, omega (arith, under), at, has)
+
+pub none_of : (P : Reading → Type 0) (h : List Reading) → AllByRecursion (λ r. ¬ (P r)) h → ¬ (Any P h)
+none_of P [] all (k, r, below, is, holds) = absurd (omega (arith, below))
+none_of P (e ∷ h) all (zero, r, below, is, holds) = all.0 (subst P (sym is) holds)
+none_of P (e ∷ h) all (suc k, r, below, is, holds) = none_of P h all.1 (k, r, omega (arith, below), is, holds)
+
+-- with one more element
+pub one_more_made : {A X Y : Type 0} (R : ℕ → X → Y → Type 0) (f : A → X) (xs : List A) (i : ℕ) (x : A) (ys zs : List Y) (made : Option Y) → i < length xs → x ≡ get_or xs i x → IsMadeFrom R 0 (map f (take i xs)) ys
+    → MakesOf R i (f x) made → zs ≡ ys ++ option_to_list made → IsMadeFrom R 0 (map f (take (i + 1) xs)) zs
+one_more_made R f xs i x ys zs made below is so_far makes more = made_more R f xs i x ys zs made below so_far (subst (λ y. MakesOf R i (f y) made) is makes) more
+
+-- ---- one spec
+
+pub never_idle : (g : List Reading) (c : Reading) → IsPositive c.mode → ¬ (IsIdleExclusion g c)
+never_idle g c positive idle = subst IsPositive idle.negative positive
+
+pub idle_told : (g h : List Reading) → AllZip IsCompleted g h → (c : Reading) → c.mode ≡ Negative → (b : Bool) → MatchBool b (Any (ExcludesSome c) h) (¬ (Any (ExcludesSome c) h)) → MatchBool (not b) (IsIdleExclusion g c) (¬ (IsIdleExclusion g c))
+idle_told g h all c is true any = some_excluded g h all c is any
+idle_told g h all c is false none = none_excluded g h all c is none

@@ -1,0 +1,201 @@
+-- Specs that never do anything, source by source.
+use Rattle.std.proofs.Common.{◌≡◌, ◌⊎◌, inl, inr, ◌↔◌, ℕ, zero, suc, ◌<◌, Bool, true, false, MatchBool, MatchOption, Bor, List, [], ◌∷◌, ◌++◌, Option, None, Some, codes, length, map, take, drop, get_or, append_assoc, refl, sym, ap, ◌∙◌, subst, arith, IsTrue, nat_eq}
+use Rattle.std.specs.List.{AllByRecursion, Contains, ends_with}
+use Rattle.std.specs.Option.{is_some}
+use Rattle.std.proofs.lemmas.Bool.{false≢true}
+use Rattle.std.proofs.lemmas.Bool.Decides.{Decides-eqb}
+use Rattle.std.proofs.lemmas.Slice.Eq.{ends_is}
+use Rattle.std.proofs.lemmas.Option.{same_Some}
+use Rattle.std.proofs.lemmas.List.{map-append}
+use Rattle.std.proofs.lemmas.List.Elements.{Contains-append_left, Contains-append_right}
+use Rattle.bstr.specs.declared.bstring.BString.{BString}
+use Rattle.bstr.specs.Owned.{bstring_bytes}
+use Rattle.gix_refspec_lint.specs.declared.Reason.{Reason}
+use Rattle.gix_refspec_lint.specs.declared.Reason.TheVariants as reason
+use Rattle.gix_refspec_text.specs.Texts.Words.{EndsWith}
+use Rattle.gix_refspec_text.specs.Texts.Name.{IsSplit}
+use Rattle.gix_refspec_text.specs.Specs.Reading.{Reading}
+use Rattle.gix_refspec_text.specs.Matching.Side.{SideKind, pattern, full_name, object, partial, HasKind, Fits, candidates, IsCandidate}
+use Rattle.gix_refspec_text.specs.Matching.Match.{Ref, MatchesAs, Takes}
+use Rattle.gix_refspec_match.specs.Matching.Mappings.{Source, name}
+use Rattle.gix_refspec_match.proofs.lemmas.lists.JoinLemmas.{map_split}
+use Rattle.gix_refspec_match.proofs.lemmas.hits.HitLemmas.{candidate_cases, matches_as}
+use Rattle.gix_refspec.specs.Laws.Matching.{IsPaired, MakesForward}
+use Rattle.gix_refspec.specs.Matching.RefNames.{IsRefName}
+use Rattle.gix_refspec_lint.specs.Private.Idles.{AreAllowed, AreTriedBefore, Explains}
+use Rattle.gix_refspec_lint.proofs.lemmas.PatternLemmas.{word_there}
+
+-- ---- lists
+
+pub none_equal : (l : List (List ℕ)) (n : List ℕ) → AllByRecursion (λ x. ¬ (x ≡ n)) l → ¬ (Contains l n)
+none_equal [] n all (k, below, is) = absurd (omega (arith, below))
+none_equal (x ∷ l) n all (zero, below, is) = all.0 is
+none_equal (x ∷ l) n all (suc k, below, is) = none_equal l n all.1 (k, omega (arith, below), is)
+
+-- ---- reasons
+
+-- the last of the reasons explains what each explains
+pub duplicate_any : (g : List Reading) (k : ℕ) (s : Source) (r : Reason) (h : ℕ) → Explains g k s r → Explains g k s (reason.Duplicate h)
+duplicate_any g k s reason.Invalid h none = λ refs d valid f. absurd (none refs d f.maps)
+duplicate_any g k s (reason.Excluded n) h none = λ refs d valid f. absurd (none refs d f)
+duplicate_any g k s (reason.Duplicate i) h earlier = earlier
+
+invalid_any : (g : List Reading) (k : ℕ) (s : Source) (r : Reason) → Explains g k s reason.Invalid → Explains g k s r
+invalid_any g k s reason.Invalid none = none
+invalid_any g k s (reason.Excluded n) none = λ refs d f. none refs d f.maps
+invalid_any g k s (reason.Duplicate i) none = λ refs d valid f. absurd (none refs d f.maps)
+
+pub invalid_first : (g : List Reading) (k : ℕ) (s : Source) (one other : Reason) → one ≡ reason.Invalid → Explains g k s one ⊎ Explains g k s other → Explains g k s other
+invalid_first g k s one other is (inl of_one) = invalid_any g k s other (subst (Explains g k s) is of_one)
+invalid_first g k s one other is (inr of_other) = of_other
+
+pub invalid_last : (g : List Reading) (k : ℕ) (s : Source) (one other : Reason) → other ≡ reason.Invalid → Explains g k s one ⊎ Explains g k s other → Explains g k s one
+invalid_last g k s one other is (inl of_one) = of_one
+invalid_last g k s one other is (inr of_other) = invalid_any g k s one (subst (Explains g k s) is of_other)
+
+pub excluded_first : (g : List Reading) (k : ℕ) (s : Source) (one other : Reason) (n m : ℕ) → one ≡ reason.Excluded n → other ≡ reason.Excluded m → Explains g k s one ⊎ Explains g k s other → Explains g k s one
+excluded_first g k s one other n m is also (inl of_one) = of_one
+excluded_first g k s one other n m is also (inr of_other) = let same : Explains g k s (reason.Excluded m) = subst (Explains g k s) also of_other in subst (Explains g k s) (sym is) same
+
+pub one_duplicate : (g : List Reading) (k : ℕ) (s : Source) (one other : Reason) (h : ℕ) → one ≡ reason.Duplicate h → Explains g k s one ⊎ Explains g k s other → Explains g k s one
+one_duplicate g k s one other h is (inl of_one) = of_one
+one_duplicate g k s one other h is (inr of_other) = subst (Explains g k s) (sym is) (duplicate_any g k s other h of_other)
+
+pub other_duplicate : (g : List Reading) (k : ℕ) (s : Source) (one other : Reason) (h : ℕ) → other ≡ reason.Duplicate h → Explains g k s one ⊎ Explains g k s other → Explains g k s other
+other_duplicate g k s one other h is (inl of_one) = subst (Explains g k s) (sym is) (duplicate_any g k s one h of_one)
+other_duplicate g k s one other h is (inr of_other) = of_other
+
+-- ---- what a spec may take
+
+pub fits_taken : (r : Reading) (x : List ℕ) → r.source ≡ Some x → (refs : List Ref) (n : List ℕ) (d : Option (List ℕ)) (before after : List ℕ) (word : Option (Bor (List ℕ))) → ((y : List ℕ) × (Some x ≡ Some y) × IsSplit before after y)
+    → MatchOption word ((w : List ℕ) → ¬ (Fits before after n w)) (λ w. Fits before after n w.now) → MakesForward refs (name n) d r → IsTrue (is_some word)
+fits_taken r x has refs n d before after (Some w) parts fits makes = refl
+fits_taken r x has refs n d before after None (y, is, split) none makes =
+    let (k, item, below, at, paired) = makes.one in
+    let near : makes.ends.near ≡ y = same_Some _ _ (sym makes.has.near ∙ has ∙ is) in
+    let (w, some, fits) = word_there before after item paired.word (matches_as makes.ends.near (pattern before after) item paired.word (subst (IsSplit before after) (sym near) split) paired.takes.matches) in
+    absurd (none w (sym paired.name ∙ fits))
+
+-- the name of a candidate ends with the partial one, or it is the head of a remote
+pub ends_taken : (r : Reading) (x : List ℕ) → r.source ≡ Some x → ((y before after : List ℕ) → Some x ≡ Some y → ¬ (IsSplit before after y)) → (refs : List Ref) (n : List ℕ) (d : Option (List ℕ)) → MakesForward refs (name n) d r
+    → EndsWith x n ⊎ EndsWith (codes "/HEAD") n
+ends_taken r x has plain refs n d makes = by_kind paired.takes.matches.kind paired.takes.matches.of paired.takes.matches.is
+  where
+    item : Ref
+    item = makes.one.1
+
+    paired : IsPaired (Takes refs) makes.ends n d item
+    paired = makes.one.4
+
+    near : makes.ends.near ≡ x
+    near = same_Some _ _ (sym makes.has.near ∙ has)
+
+    candidate : (m : List ℕ) → m ≡ x → IsCandidate m item.name → EndsWith x n ⊎ EndsWith (codes "/HEAD") n
+    candidate m same one = elim (candidate_cases m item.name one) [
+      | inl (before, folder, is) ↦ inl (record { before = before; here = sym paired.name ∙ is ∙ ap (λ y. before ++ y) same })
+      | inr is ↦ inr (record { before = codes "refs/remotes/" ++ m; here = sym paired.name ∙ is ∙ sym (append_assoc (codes "refs/remotes/") m (codes "/HEAD")) })
+    ]
+
+    by_kind : (kind : SideKind) → HasKind makes.ends.near kind → MatchesAs kind item paired.word → EndsWith x n ⊎ EndsWith (codes "/HEAD") n
+    by_kind (pattern before after) of holds = absurd (plain x before after refl (subst (IsSplit before after) near of))
+    by_kind (full_name m) of holds = inl (record { before = []; here = sym paired.name ∙ holds.1 ∙ of.0 ∙ near })
+    by_kind (object bytes) of holds = absurd (makes.has.no_object bytes of)
+    by_kind (partial m) of holds = candidate m (of.0 ∙ near) holds.1
+
+pub ends_told : (x head n : List ℕ) (b c : Bool) → b ≡ ends_with nat_eq n x → c ≡ ends_with nat_eq n head → b ≡ false → EndsWith x n ⊎ EndsWith head n → c ≡ true
+ends_told x head n b c tells also none (inl ends) = absurd (false≢true (sym none ∙ (ends_is Decides-eqb n x b tells).1 ends.before ends.here))
+ends_told x head n b c tells also none (inr ends) = (ends_is Decides-eqb n head c also).1 ends.before ends.here
+
+-- ---- the candidates before one
+
+first_split : (n : List ℕ) (a b c d : List (List ℕ)) → ¬ (Contains a n) → ¬ (Contains c n) → a ++ (n ∷ b) ≡ c ++ (n ∷ d) → a ≡ c
+first_split n [] b [] d no_a no_c same = refl
+first_split n [] b (y ∷ c) d no_a no_c same = absurd (no_c (0, omega arith, (let e : n ≡ y = cc in sym e)))
+first_split n (x ∷ a) b [] d no_a no_c same = absurd (no_a (0, omega arith, (let e : x ≡ n = cc in e)))
+first_split n (x ∷ a) b (y ∷ c) d no_a no_c same =
+    let heads : x ≡ y = cc in
+    let tails : a ++ (n ∷ b) ≡ c ++ (n ∷ d) = cc in
+    ap (λ z. z ∷ a) heads ∙ ap (λ l. y ∷ l) (first_split n a b c d (λ has. no_a (later a n x has)) (λ has. no_c (later c n y has)) tails)
+  where
+    later : (l : List (List ℕ)) (n x : List ℕ) → Contains l n → Contains (x ∷ l) n
+    later l n x (k, below, is) = (suc k, omega (arith, below), is)
+
+pub tried : (x n : List ℕ) (before after names : List (List ℕ)) → candidates x ≡ before ++ (n ∷ after) → AllByRecursion (λ y. ¬ (y ≡ n)) before → names ≡ before → AreTriedBefore x n names
+tried x n before after names whole none is = record {
+  some = λ earlier later here first. is ∙ first_split n before after earlier later (none_equal before n none) first (sym whole ∙ here);
+}
+
+pub none_tried : (x n : List ℕ) → AllByRecursion (λ y. ¬ (y ≡ n)) (candidates x) → (names : List (List ℕ)) → AreTriedBefore x n names
+none_tried x n none names = record { some = λ earlier later here first. absurd (there earlier later (subst (AllByRecursion (λ y. ¬ (y ≡ n))) here none)) }
+  where
+    there : (earlier later : List (List ℕ)) → ¬ (AllByRecursion (λ y. ¬ (y ≡ n)) (earlier ++ (n ∷ later)))
+    there [] later all = all.0 refl
+    there (y ∷ earlier) later all = there earlier later all.1
+
+pub tried_at : (x n : List ℕ) (texts : List BString) (i : ℕ) (b : BString) (names : List (List ℕ)) → map bstring_bytes texts ≡ candidates x → i < length texts → b ≡ get_or texts i b → bstring_bytes b ≡ n
+    → AllByRecursion (λ y. ¬ (y ≡ n)) (map bstring_bytes (take i texts)) → names ≡ map bstring_bytes (take i texts) → AreTriedBefore x n names
+tried_at x n texts i b names all below at is none same =
+    tried x n (map bstring_bytes (take i texts)) (map bstring_bytes (drop (suc i) texts)) names
+    (sym all ∙ map_split bstring_bytes texts i b below ∙ ap (λ y. map bstring_bytes (take i texts) ++ (y ∷ map bstring_bytes (drop (suc i) texts))) (ap bstring_bytes (sym at) ∙ is)) none same
+
+-- ---- the names that are allowed
+
+contains_last : (l : List (List ℕ)) (x n : List ℕ) → Contains (l ++ x ∷ []) n → Contains l n ⊎ (x ≡ n)
+contains_last [] x n (zero, below, is) = inr is
+contains_last [] x n (suc k, below, is) = absurd (omega (arith, below))
+contains_last (y ∷ l) x n (zero, below, is) = inl (zero, omega arith, is)
+contains_last (y ∷ l) x n (suc k, below, is) = elim (contains_last l x n (k, omega (arith, below), is)) [
+  | inl (j, under, at) ↦ inl (suc j, omega (arith, under), at)
+  | inr same ↦ inr same
+]
+
+module _ (old : List (List ℕ)) (others : List BString) (away : List (List ℕ)) (now : List BString) (b : BString) (so_far : AreAllowed old (map bstring_bytes others) away (map bstring_bytes now)) where
+  abbrev n : List ℕ
+  n = bstring_bytes b
+
+  more_mapped : (l : List BString) → map bstring_bytes (l ++ b ∷ []) ≡ map bstring_bytes l ++ n ∷ []
+  more_mapped l = map-append bstring_bytes l (b ∷ [])
+
+  pub allowed_more : (new : List BString) → new ≡ now ++ b ∷ [] → IsRefName n × ¬ (Contains away n) → AreAllowed old (map bstring_bytes (others ++ b ∷ [])) away (map bstring_bytes new)
+  allowed_more new is allowed =
+      subst (λ l. AreAllowed old (map bstring_bytes (others ++ b ∷ [])) away (map bstring_bytes l)) (sym is)
+      (subst (λ l. AreAllowed old l away (map bstring_bytes (now ++ b ∷ []))) (sym (more_mapped others))
+      (subst (AreAllowed old (map bstring_bytes others ++ n ∷ []) away) (sym (more_mapped now)) (record { has_old = has_old; has = has; only = only })))
+    where
+      has_old : (m : List ℕ) → Contains old m → Contains (map bstring_bytes now ++ n ∷ []) m
+      has_old m there = Contains-append_left (map bstring_bytes now) (n ∷ []) m (so_far.has_old m there)
+
+      has : (m : List ℕ) → Contains (map bstring_bytes others ++ n ∷ []) m → IsRefName m → ¬ (Contains away m) → Contains (map bstring_bytes now ++ n ∷ []) m
+      has m there valid free = elim (contains_last (map bstring_bytes others) n m there) [
+        | inl earlier ↦ Contains-append_left (map bstring_bytes now) (n ∷ []) m (so_far.has m earlier valid free)
+        | inr same ↦ Contains-append_right (map bstring_bytes now) (n ∷ []) m (zero, omega arith, same)
+      ]
+
+      only : (m : List ℕ) → Contains (map bstring_bytes now ++ n ∷ []) m → Contains old m ⊎ (IsRefName m × ¬ (Contains away m))
+      only m there = elim (contains_last (map bstring_bytes now) n m there) [
+        | inl earlier ↦ so_far.only m earlier
+        | inr same ↦ inr (subst (λ x. IsRefName x × ¬ (Contains away x)) same allowed)
+      ]
+
+  pub allowed_same : ¬ (IsRefName n × ¬ (Contains away n)) → AreAllowed old (map bstring_bytes (others ++ b ∷ [])) away (map bstring_bytes now)
+  allowed_same none = subst (λ l. AreAllowed old l away (map bstring_bytes now)) (sym (more_mapped others)) (record {
+    has_old = so_far.has_old;
+    has = λ m there valid free. elim (contains_last (map bstring_bytes others) n m there) [
+      | inl earlier ↦ so_far.has m earlier valid free
+      | inr same ↦ absurd (none (subst (λ x. IsRefName x × ¬ (Contains away x)) (sym same) (valid, free)))
+    ];
+    only = so_far.only;
+  })
+
+pub none_added : (old away : List (List ℕ)) → AreAllowed old [] away old
+none_added old away = record {
+  has_old = λ n there. there;
+  has = λ n none valid free. absurd (omega (arith, none.1));
+  only = λ n there. inl there;
+}
+
+-- ---- tests
+
+pub does_told : {M P : Type 0} (b : Bool) → IsTrue b ↔ M → (M → P) → (P → M) → MatchBool b P (¬ P)
+does_told true told to from = to (told.0 refl)
+does_told false told to from = λ holds. false≢true (told.1 (from holds))

@@ -1,0 +1,302 @@
+-- Why a spec does nothing, from what becomes of its mappings at the names that decide.
+use Rattle.std.proofs.Common.{◌≡◌, ◌≢◌, inl, inr, ℕ, zero, suc, ◌+◌, ◌<◌, MatchOption, option_to_list, take, List, [], ◌∷◌, ◌++◌, Option, None, Some, codes, length, map, get_or, refl, sym, ap, ◌∙◌, subst, arith}
+use Rattle.std.specs.List.{AllByRecursion, AllZip, Contains, slice_get}
+use Rattle.std.proofs.lemmas.Option.{same_Some}
+use Rattle.gix_refspec_lint.specs.declared.Reason.{Reason}
+use Rattle.gix_refspec_lint.specs.declared.Reason.TheVariants as reason
+use Rattle.gix_refspec_lint.specs.declared.words.Common.{Common}
+use Rattle.gix_refspec_text.specs.declared.spec.RefSpecRef.{RefSpecRef}
+use Rattle.gix_refspec_text.specs.Texts.Bytes.{star}
+use Rattle.gix_refspec_text.specs.Texts.Words.{Lacks}
+use Rattle.gix_refspec_text.specs.Texts.Name.{IsSplit}
+use Rattle.gix_refspec_text.specs.Specs.Reading.{Reading}
+use Rattle.gix_refspec_text.specs.Specs.Grammar.{IsAccepted, IsPositive}
+use Rattle.gix_refspec_text.specs.Matching.Side.{SideKind, pattern, full_name, object, partial, HasKind, Fits, IsCandidate}
+use Rattle.gix_refspec_text.specs.Matching.Match.{Ref, HasName, MatchesAs, Takes}
+use Rattle.gix_refspec_text.specs.Views.Spec.{reading_of}
+use Rattle.gix_refspec_text.proofs.lemmas.hits.MatchLemmas.{lacks_no_pattern}
+use Rattle.gix_refspec_text.proofs.lemmas.lists.AllLemmas.{all_join, all_left, all_right}
+use Rattle.gix_refspec_text.proofs.lemmas.lists.LacksLemmas.{Lacks-here, first_once}
+use Rattle.gix_refspec_match.specs.Matching.Lists.{IsMadeFrom, MakesOf}
+use Rattle.gix_refspec_match.specs.Matching.Mappings.{Source, name, id, IsSourceExcluded}
+use Rattle.gix_refspec_match.proofs.lemmas.duplicates.FlagLemmas.{some_element}
+use Rattle.gix_refspec_match.proofs.lemmas.lists.JoinLemmas.{made_more}
+use Rattle.gix_refspec_match.proofs.lemmas.hits.HitLemmas.{candidate_cases}
+use Rattle.gix_refspec.specs.Laws.Matching.{IsPaired, MakesForward}
+use Rattle.gix_refspec_lint.specs.Matching.Lint.{AreIdle, AreValid, Fetches, IsFree, IsIdleBy, Maps, MapsSoundly, Unused}
+use Rattle.gix_refspec_plan.specs.Matching.Plan.{IsCompleted}
+use Rattle.gix_refspec_plan.specs.Matching.Stale.{ref_named}
+use Rattle.gix_refspec_lint.specs.Private.Idles.{Explains, HasPlainSource, HasSourcePattern, IsAtWork, IsReasonOf, IsShown, IsWhy, IsWhyAt, ShareSources}
+use Rattle.gix_refspec_lint.specs.Private.Lints.{IsDeciding, words_with}
+use Rattle.gix_refspec_lint.proofs.lemmas.ByteLemmas.{excluded_moved, fits_byte, lacks_kept}
+use Rattle.gix_refspec_lint.proofs.lemmas.DecideLemmas.{Decided, HasShape, IsMovedFar, decide, pattern_spec, spec_made, spec_maps}
+use Rattle.gix_refspec_lint.proofs.lemmas.FreeLemmas.{accepted_at}
+use Rattle.gix_refspec_lint.proofs.lemmas.IdleExclusionLemmas.{made_completed, zip_to}
+use Rattle.gix_refspec_lint.proofs.lemmas.PatternLemmas.{lacks_destination, lacks_longer, lacks_parts, lacks_source}
+use Rattle.gix_refspec_lint.proofs.lemmas.PreferredLemmas.{reading_at}
+use Rattle.gix_refspec_lint.proofs.lemmas.WordLemmas.{between}
+use Rattle.gix_refspec_plan.proofs.lemmas.stale.StateLemmas.{all_accepted}
+
+-- ---- reasons
+
+-- what explains each source is the reason
+pub idle_by : (g : List Reading) (k : ℕ) (r : Reason) → ((s : Source) → Explains g k s r) → IsShown g k r → IsIdleBy g k r
+idle_by g k reason.Invalid explains shown = λ refs s d. explains s refs d
+idle_by g k (reason.Excluded n) explains shown = ((λ refs s d. explains s refs d), shown)
+idle_by g k (reason.Duplicate h) explains shown = ((λ refs s d. explains s refs d), shown)
+
+-- a source that the spec never maps is explained
+pub explains_if : (g : List Reading) (k : ℕ) (s : Source) (r : Reason) → ((refs : List Ref) (d : Option (List ℕ)) → Maps g refs k s d → Explains g k s r) → Explains g k s r
+explains_if g k s reason.Invalid why = λ refs d m. why refs d m.maps refs d m
+explains_if g k s (reason.Excluded n) why = λ refs d f. why refs d f.maps.maps refs d f
+explains_if g k s (reason.Duplicate h) why = λ refs d valid f. why refs d f.maps.maps refs d valid f
+
+pub reason_of : (g : List Reading) (k : ℕ) (c : Reading) → IsPositive c.mode → (why : Option Reason) → IsWhy g k why → IsReasonOf g k c why
+reason_of g k c positive None works = λ also. works
+reason_of g k c positive (Some r) idle = (positive, idle)
+
+-- a spec at work isn't idle
+pub not_idle : (g : List Reading) (k : ℕ) → IsAtWork g k → (r : Reason) → ¬ (IsIdleBy g k r)
+not_idle g k works reason.Invalid never = never works.refs works.source works.destination works.fetches.maps
+not_idle g k works (reason.Excluded n) (never, shown) = never works.refs works.source works.destination works.fetches
+not_idle g k works (reason.Duplicate h) (always, shown) =
+    let (i, below, maps) = always works.refs works.source works.destination works.valid works.fetches in
+    works.first i below maps
+
+-- what a name that decides says, if it is one
+pub name_told : (g : List Reading) (k : ℕ) (x : Option (List ℕ)) (r : Reason) → MatchOption x (Some r ≡ Some reason.Invalid) (λ n. IsWhyAt g k (name n) (Some r)) → ((n : List ℕ) → x ≡ Some n → Explains g k (name n) r) × IsShown g k r
+name_told g k None r is = ((λ n none. absurd (cc (none))), subst (IsShown g k) (sym (same_invalid r is)) tt)
+  where
+    same_invalid : (r : Reason) → Some r ≡ Some reason.Invalid → r ≡ reason.Invalid
+    same_invalid r same = cc
+name_told g k (Some m) r both = ((λ n same. subst (λ y. Explains g k (name y) r) (same_Some _ _ same) both.0), both.1)
+
+pub name_works : (g : List Reading) (k : ℕ) (x : Option (List ℕ)) (why : Option Reason) → why ≡ None → MatchOption x (why ≡ Some reason.Invalid) (λ n. IsWhyAt g k (name n) why) → IsAtWork g k
+name_works g k None why none is = absurd (cc (none, is))
+name_works g k (Some n) why none works = subst (IsWhyAt g k (name n)) none works
+
+-- ---- what takes a name with the free byte
+
+module _ (z : ℕ) (g : List Reading) (free : IsFree g z) where
+  lacks_mid : (before mid after : List ℕ) → codes "refs/tags/heads/remotes/HEAD.lock*@{" ≡ before ++ (mid ++ after) → Lacks z mid
+  lacks_mid before mid after is = all_left (λ c. c ≢ z) mid after (all_right (λ c. c ≢ z) before (mid ++ after) (subst (Lacks z) is (lacks_kept z free.usable)))
+
+  lacks_refs_folder : Lacks z (codes "refs/")
+  lacks_refs_folder = lacks_mid [] (codes "refs/") (codes "tags/heads/remotes/HEAD.lock*@{") refl
+
+  lacks_remotes : Lacks z (codes "refs/remotes/")
+  lacks_remotes = all_join (λ c. c ≢ z) (codes "refs/") (codes "remotes/") lacks_refs_folder (lacks_mid (codes "refs/tags/heads/") (codes "remotes/") (codes "HEAD.lock*@{") refl)
+
+  -- no candidate of a partial name without the byte has it
+  candidate_lacks : (x n : List ℕ) → Lacks z x → IsCandidate x n → Lacks z n
+  candidate_lacks x n lacks one = elim (candidate_cases x n one) [
+    | inl (before, folder, is) ↦ subst (Lacks z) (sym is) (all_join (λ c. c ≢ z) before x (elim folder [
+      | inl none ↦ subst (Lacks z) (sym none) tt
+      | inr (inl refs) ↦ subst (Lacks z) (sym refs) lacks_refs_folder
+      | inr (inr (inl tags)) ↦ subst (Lacks z) (sym tags) (lacks_mid [] (codes "refs/tags/") (codes "heads/remotes/HEAD.lock*@{") refl)
+      | inr (inr (inr (inl heads))) ↦ subst (Lacks z) (sym heads) (all_join (λ c. c ≢ z) (codes "refs/") (codes "heads/") lacks_refs_folder (lacks_mid (codes "refs/tags/") (codes "heads/") (codes "remotes/HEAD.lock*@{") refl))
+      | inr (inr (inr (inr remotes))) ↦ subst (Lacks z) (sym remotes) lacks_remotes
+    ]) lacks)
+    | inr is ↦ subst (Lacks z) (sym is) (all_join (λ c. c ≢ z) (codes "refs/remotes/") (x ++ codes "/HEAD") lacks_remotes
+        (all_join (λ c. c ≢ z) x (codes "/HEAD") lacks (lacks_mid (codes "refs/tags/heads/remotes") (codes "/HEAD") (codes ".lock*@{") refl)))
+  ]
+
+  -- so only a pattern takes it
+  pattern_takes : (refs : List Ref) (front back : List ℕ) (d : Option (List ℕ)) (c : Reading) (makes : MakesForward refs (name (front ++ (z ∷ back))) d c) → Lacks z makes.ends.near → (p : List ℕ) × (t : List ℕ) × IsSplit p t makes.ends.near
+  pattern_takes refs front back d c makes lacks = by_kind paired.takes.matches.kind paired.takes.matches.of paired.takes.matches.is
+    where
+      item : Ref
+      item = makes.one.1
+
+      paired : IsPaired (Takes refs) makes.ends (front ++ (z ∷ back)) d item
+      paired = makes.one.4
+
+      with_byte : ¬ (Lacks z item.name)
+      with_byte none = Lacks-here z front back (subst (Lacks z) paired.name none)
+
+      by_kind : (kind : SideKind) → HasKind makes.ends.near kind → MatchesAs kind item paired.word → (p : List ℕ) × (t : List ℕ) × IsSplit p t makes.ends.near
+      by_kind (pattern p t) of holds = (p, t, of)
+      by_kind (full_name n) of holds = absurd (with_byte (subst (Lacks z) (sym (holds.1 ∙ of.0)) lacks))
+      by_kind (object bytes) of holds = absurd (makes.has.no_object bytes of)
+      by_kind (partial n) of holds = absurd (with_byte (candidate_lacks n item.name (subst (Lacks z) (sym of.0) lacks) holds.1))
+
+  -- and takes each word in place of the byte
+  module _ (cs : List RefSpecRef) (all : AllZip IsCompleted g (map reading_of cs)) (few refs : List Ref) (h : ℕ) (front back word : List ℕ) (d e : Option (List ℕ)) (k : Reading) (prefix : List ℕ)
+      (maps : Maps g few h (name (front ++ (z ∷ back))) e) (there : HasName refs (front ++ (word ++ back))) (lacks_front : Lacks z front) (lacks_prefix : Lacks z prefix)
+      (far : IsMovedFar z k prefix word d e) (lacks_far : (x a b : List ℕ) → k.destination ≡ Some x → IsSplit a b x → Lacks z x) where
+    accepted : ∥ IsAccepted maps.completed ∥₁
+    accepted = accepted_at (map reading_of cs) h maps.completed (all_accepted cs) (zip_to g (map reading_of cs) h maps.reading maps.completed all maps.at maps.is)
+
+    near_lacks : Lacks z maps.makes.ends.near
+    near_lacks = lacks_source g z free h maps.reading maps.completed maps.makes.ends.near maps.at maps.is maps.makes.has.near
+
+    moved_back : (p t : List ℕ) → IsSplit p t maps.makes.ends.near → Maps g refs h (name (front ++ (word ++ back))) d
+    moved_back p t split =
+        let spec = pattern_spec maps.completed p t maps.makes.ends.near accepted maps.makes.has.positive maps.makes.has.near split in
+        let (w, source, is_far, own) = spec_made maps.completed p t spec few (front ++ (z ∷ back)) e maps.makes in
+        let sides = lacks_parts g z free maps.makes.ends.near p t near_lacks split in
+        let (u, v, before, after, word_is) = fits_byte z free.usable p t front back w sides.0 sides.1 source in
+        let whole : front ++ (word ++ back) ≡ p ++ ((u ++ (word ++ v)) ++ t) = ap (λ x. x ++ (word ++ back)) before ∙ ap (λ x. (p ++ u) ++ (word ++ x)) after ∙ between p u word v t in
+        record {
+          reading = maps.reading;
+          at = maps.at;
+          completed = maps.completed;
+          is = maps.is;
+          makes = subst (λ o. MakesForward refs (name (front ++ (word ++ back))) o maps.completed) (destination spec.shape u v w before word_is is_far)
+              (subst (λ n. MakesForward refs (name n) (spec.far (u ++ (word ++ v))) maps.completed) (sym whole) (spec_maps maps.completed p t spec refs (u ++ (word ++ v)) (subst (HasName refs) whole there)));
+        }
+      where
+        destination : {far_of : List ℕ → Option (List ℕ)} → HasShape maps.completed far_of → (u v w : List ℕ) → front ≡ p ++ u → w ≡ u ++ (z ∷ v) → e ≡ far_of w → far_of (u ++ (word ++ v)) ≡ d
+        destination {far_of} (inl none) u v w before word_is is_far = elim far [
+          | inl (no_d, no_e) ↦ none (u ++ (word ++ v)) ∙ sym no_d
+          | inr (f, l, some_d, some_e, lacks) ↦ let both : None ≡ Some (f ++ (z ∷ l)) = sym (none w) ∙ sym is_far ∙ some_e in absurd (cc (both))
+        ]
+        destination {far_of} (inr one) u v w before word_is is_far = elim far [
+          | inl (no_d, no_e) ↦ let both : Some (one.before ++ (w ++ one.after)) ≡ None = sym (one.is w) ∙ sym is_far ∙ no_e in absurd (cc (both))
+          | inr (f, l, some_d, some_e, lacks) ↦
+              let same : one.before ++ (w ++ one.after) ≡ f ++ (z ∷ l) = same_Some _ _ (sym (one.is w) ∙ sym is_far ∙ some_e) in
+              let split_byte : (one.before ++ u) ++ (z ∷ (v ++ one.after)) ≡ f ++ (z ∷ l) = between one.before u (z ∷ []) v one.after ∙ ap (λ x. one.before ++ (x ++ one.after)) (sym word_is) ∙ same in
+              let side = lacks_destination g z free h maps.reading maps.completed one.side one.before one.after maps.at maps.is one.has one.split in
+              let texts = lacks_parts g z free one.side one.before one.after side one.split in
+              let lacks_u : Lacks z u = all_right (λ c. c ≢ z) p u (subst (Lacks z) before lacks_front) in
+              let both = first_once z (one.before ++ u) f (v ++ one.after) l (all_join (λ c. c ≢ z) one.before u texts.0 lacks_u) (lacks lacks_prefix lacks_far) split_byte in
+              one.is (u ++ (word ++ v)) ∙ ap Some (sym (between one.before u word v one.after) ∙ ap (λ x. x ++ (word ++ (v ++ one.after))) both.0 ∙ ap (λ x. f ++ (word ++ x)) both.1) ∙ sym some_d
+        ]
+
+    pub maps_back : Maps g refs h (name (front ++ (word ++ back))) d
+    maps_back = let (p, t, split) = pattern_takes few front back e maps.completed maps.makes near_lacks in moved_back p t split
+
+  -- ---- all sources of a pattern
+
+  module _ (cs : List RefSpecRef) (all : AllZip IsCompleted g (map reading_of cs)) (k : ℕ) (c : Reading) (at : slice_get (map reading_of cs) k ≡ Some c) (positive : IsPositive c.mode) (common : Common) (share : ShareSources c c common) where
+    p : List ℕ
+    p = share.prefix
+
+    same_reading : (refs : List Ref) (s : Source) (d : Option (List ℕ)) (m : Maps g refs k s d) → m.completed ≡ c
+    same_reading refs s d m = same_Some _ _ (sym (zip_to g (map reading_of cs) k m.reading m.completed all m.at m.is) ∙ at)
+
+    -- the name that decides for a sound mapping
+    record Found (refs : List Ref) (n : List ℕ) (d : Option (List ℕ)) : Type 0 where
+      decided : Decided z c share.before share.after common.prefix.now common.suffix.now n d
+      maps : (few : List Ref) → HasName few decided.source → MapsSoundly g few k (name decided.source) decided.destination
+
+    found : (refs : List Ref) (n : List ℕ) (d : Option (List ℕ)) → MapsSoundly g refs k (name n) d → Found refs n d
+    found refs n d m =
+        let same = same_reading refs (name n) d m.maps in
+        let makes : MakesForward refs (name n) d c = subst (MakesForward refs (name n) d) same m.maps.makes in
+        let accepted = accepted_at (map reading_of cs) k c (all_accepted cs) at in
+        let spec = pattern_spec c share.prefix share.suffix share.other.text accepted positive share.other.has share.other.split in
+        let one = pattern_spec c share.before share.after share.one.text accepted positive share.one.has share.one.split in
+        let (v, fits, far, there) = spec_made c share.before share.after one refs n d makes in
+        let decided = decide g z free c share.prefix share.suffix spec share.before share.after common.prefix.now common.suffix.now share.shared.prefix share.shared.suffix refs n d v fits (record { makes = makes; source = m.source; destination = m.destination }) in
+        record {
+          decided = decided;
+          maps = λ few has.
+              let sound = decided.sound few has in
+              record {
+                maps = record { reading = m.maps.reading; at = m.maps.at; completed = m.maps.completed; is = m.maps.is; makes = subst (MakesForward few (name decided.source) decided.destination) (sym same) sound.makes };
+                source = sound.source;
+                destination = sound.destination;
+              };
+        }
+
+    -- no spec excludes it, if none excludes the source
+    included_there : (n : List ℕ) (d : Option (List ℕ)) (q : Decided z c share.before share.after common.prefix.now common.suffix.now n d) → ¬ (IsSourceExcluded g (name n)) → ¬ (IsSourceExcluded g (name q.source))
+    included_there n d q none by = elim q.moved [
+      | inl (same, also) ↦ none (subst (λ x. IsSourceExcluded g (name x)) same by)
+      | inr moved ↦ none (subst (λ x. IsSourceExcluded g (name x)) (sym moved.was) (excluded_moved z free.usable g moved.front moved.word moved.back free.lacks (subst (λ x. IsSourceExcluded g (name x)) moved.is by)))
+    ]
+
+    lacks_common : (r : Reading) → slice_get g k ≡ Some r → IsCompleted r c → Lacks z common.prefix.now
+    lacks_common r here done =
+        let one = lacks_parts g z free share.one.text share.before share.after (lacks_source g z free k r c share.one.text here done share.one.has) share.one.split in
+        let other = lacks_parts g z free share.other.text share.prefix share.suffix (lacks_source g z free k r c share.other.text here done share.other.has) share.other.split in
+        lacks_longer z share.before share.prefix common.prefix.now one.0 other.0 share.shared.prefix.is
+
+    named : (r : Reason) → ((n : List ℕ) → IsDeciding (words_with z) common.prefix.now common.suffix.now n → Explains g k (name n) r) → (n : List ℕ) → Explains g k (name n) r
+    named reason.Invalid decides n = λ refs d m.
+        let q = found refs n d m in
+        decides q.decided.source q.decided.deciding (ref_named q.decided.source ∷ []) q.decided.destination (q.maps (ref_named q.decided.source ∷ []) (inl refl))
+    named (reason.Excluded j) decides n = λ refs d f.
+        let q = found refs n d f.maps in
+        decides q.decided.source q.decided.deciding (ref_named q.decided.source ∷ []) q.decided.destination (record { maps = q.maps (ref_named q.decided.source ∷ []) (inl refl); included = included_there n d q.decided f.included })
+    named (reason.Duplicate j) decides n = λ refs d valid f. earlier refs d valid f (found refs n d f.maps)
+      where
+        earlier : (refs : List Ref) (d : Option (List ℕ)) → AreValid refs → Fetches g refs k (name n) d → Found refs n d → (i : ℕ) × (i < k) × Maps g refs i (name n) d
+        earlier refs d valid f q = elim q.decided.moved [
+          | inl (same, also) ↦ subst (λ x. Explains g k (name x) (reason.Duplicate j)) same (decides q.decided.source q.decided.deciding) refs d valid f
+          | inr moved ↦
+              let few = ref_named q.decided.source ∷ [] in
+              let sound = q.maps few (inl refl) in
+              let (i, below, maps) = decides q.decided.source q.decided.deciding few q.decided.destination (sound.source, tt) (record { maps = sound; included = included_there n d q.decided f.included }) in
+              let r = f.maps.maps.reading in
+              let same = same_reading refs (name n) d f.maps.maps in
+              let done : IsCompleted r c = subst (IsCompleted r) same f.maps.maps.is in
+              let prefix = lacks_common r f.maps.maps.at done in
+              let present = spec_there refs d (subst (MakesForward refs (name n) d) same f.maps.maps.makes) in (
+                i,
+                below,
+                subst (λ x. Maps g refs i (name x) d) (sym moved.was)
+                    (maps_back cs all few refs i moved.front moved.back moved.word d q.decided.destination c common.prefix.now (subst (λ x. Maps g few i (name x) q.decided.destination) moved.is maps) (subst (HasName refs) moved.was present)
+                    (moved.lacks prefix) prefix moved.far (λ x a b has split. lacks_destination g z free k r c x a b f.maps.maps.at done has split)),
+              )
+        ]
+          where
+            spec_there : (refs : List Ref) (d : Option (List ℕ)) → MakesForward refs (name n) d c → HasName refs n
+            spec_there refs d makes =
+                let accepted = accepted_at (map reading_of cs) k c (all_accepted cs) at in
+                let one = pattern_spec c share.before share.after share.one.text accepted positive share.one.has share.one.split in
+                (spec_made c share.before share.after one refs n d makes).3
+
+    pub words_explain : (r : Reason) → ((n : List ℕ) → IsDeciding (words_with z) common.prefix.now common.suffix.now n → Explains g k (name n) r) → (s : Source) → Explains g k s r
+    words_explain r decides (name n) = named r decides n
+    words_explain r decides (id bytes) = explains_if g k (id bytes) r (λ refs d m.
+        let makes : MakesForward refs (id bytes) d c = subst (MakesForward refs (id bytes) d) (same_reading refs (id bytes) d m) m.makes in
+        let near : makes.text ≡ share.one.text = same_Some _ _ (sym makes.side ∙ share.one.has) in
+        absurd (lacks_no_pattern share.one.text share.before share.after (subst (Lacks star) near makes.object.0) share.one.split))
+
+-- a spec whose source no name fits maps nothing
+pub never_maps : (g : List Reading) (cs : List RefSpecRef) (all : AllZip IsCompleted g (map reading_of cs)) (k : ℕ) (c : Reading) (p t : List ℕ) → slice_get (map reading_of cs) k ≡ Some c → HasSourcePattern c p t → ((n v w : List ℕ) → Fits p t n v → Fits p t n w → ⊥) → IsIdleBy g k reason.Invalid
+never_maps g cs all k c p t at source apart = λ refs s d m. by_source refs s d (subst (MakesForward refs s d) (same_Some _ _ (sym (zip_to g (map reading_of cs) k m.maps.reading m.maps.completed all m.maps.at m.maps.is) ∙ at)) m.maps.makes)
+  where
+    by_source : (refs : List Ref) (s : Source) (d : Option (List ℕ)) → ¬ (MakesForward refs s d c)
+    by_source refs (id bytes) d makes =
+        let near : makes.text ≡ source.text = same_Some _ _ (sym makes.side ∙ source.has) in
+        lacks_no_pattern source.text p t (subst (Lacks star) near makes.object.0) source.split
+    by_source refs (name n) d makes =
+        let spec = pattern_spec c p t source.text (accepted_at (map reading_of cs) k c (all_accepted cs) at) makes.has.positive source.has source.split in
+        let (w, fits, far, there) = spec_made c p t spec refs n d makes in
+        apart n w w fits fits
+
+-- what is explained at each source that the spec may map is at all
+pub sources_explain : (g : List Reading) (cs : List RefSpecRef) (all : AllZip IsCompleted g (map reading_of cs)) (k : ℕ) (c e : Reading) → slice_get (map reading_of cs) k ≡ Some c → slice_get (map reading_of cs) k ≡ Some e → (sources : List Source)
+    → ((refs : List Ref) (s : Source) (d : Option (List ℕ)) → MakesForward refs s d e → Contains sources s) → (r : Reason) → AllByRecursion (λ s. Explains g k s r) sources → (s : Source) → Explains g k s r
+sources_explain g cs all k c e at also sources has r explained s = explains_if g k s r (λ refs d m.
+    there sources explained (has refs s d (subst (MakesForward refs s d) (same_Some _ _ (sym (zip_to g (map reading_of cs) k m.reading m.completed all m.at m.is) ∙ also)) m.makes)))
+  where
+    there : (l : List Source) → AllByRecursion (λ t. Explains g k t r) l → Contains l s → Explains g k s r
+    there [] all (j, below, is) = absurd (omega (arith, below))
+    there (t ∷ l) all (zero, below, is) = subst (λ x. Explains g k x r) is all.0
+    there (t ∷ l) all (suc j, below, is) = there l all.1 (j, omega (arith, below), is)
+
+pub plain_same : (e c : Reading) → e ≡ c → HasPlainSource c → HasPlainSource e
+plain_same e c same plain = subst HasPlainSource (sym same) plain
+
+-- ---- all specs
+
+-- the idle ones of the completed specs are those of the specs
+pub idle_of : (g h : List Reading) (idle : List Unused) → AllZip IsCompleted g h → IsMadeFrom (λ k c u. (u.spec ≡ k) × IsPositive c.mode × IsIdleBy g k u.reason) 0 h idle → AreIdle g idle
+idle_of g h idle all made =
+    made_completed (λ k c u. (u.spec ≡ k) × IsPositive c.mode × IsIdleBy g k u.reason)
+    (λ k r c u done is. (is.0, subst IsPositive (sym done.mode) is.1, is.2))
+    (λ k r c u done is. (is.0, subst IsPositive done.mode is.1, is.2))
+    g h 0 idle all made
+
+pub idle_none : (g : List Reading) (k : ℕ) (c : Reading) → (IsPositive c.mode → IsAtWork g k) → (u : Unused) → ¬ ((u.spec ≡ k) × IsPositive c.mode × IsIdleBy g k u.reason)
+idle_none g k c works u is = not_idle g k (works is.1) u.reason is.2
+
+pub one_more_at : {Y : Type 0} (R : ℕ → Reading → Y → Type 0) (cs : List RefSpecRef) (i : ℕ) (ys zs : List Y) (made : Option Y) → i < length cs → ((c : Reading) → slice_get (map reading_of cs) i ≡ Some c → MakesOf R i c made)
+    → IsMadeFrom R 0 (map reading_of (take i cs)) ys → zs ≡ ys ++ option_to_list made → IsMadeFrom R 0 (map reading_of (take (i + 1) cs)) zs
+one_more_at R cs i ys zs made below makes so_far more =
+    let d = some_element cs i below in
+    made_more R reading_of cs i d ys zs made below so_far (makes (reading_of (get_or cs i d)) (reading_at cs i d below)) more

@@ -1,0 +1,328 @@
+-- What a spec of two patterns maps, and that the names that decide show each conflict of two such specs.
+use Rattle.std.proofs.Common.{◌≡◌, ◌≢◌, ◌⊎◌, inl, inr, ℕ, zero, suc, List, [], ◌∷◌, ◌++◌, codes, Option, None, Some, map, append_assoc, refl, sym, ap, ◌∙◌, subst, arith}
+use Rattle.std.specs.List.{AllByRecursion, Contains, slice_get}
+use Rattle.std.proofs.lemmas.List.Elements.{Contains-append_left, Contains-append_right}
+use Rattle.std.proofs.lemmas.Option.{same_Some}
+use Rattle.gix_refspec_text.specs.Texts.Bytes.{head, star}
+use Rattle.gix_refspec_text.specs.Texts.Words.{BeginsWith, Lacks}
+use Rattle.gix_refspec_text.specs.Texts.Name.{HasOneStar, IsName, IsSplit}
+use Rattle.gix_refspec_text.specs.Specs.Reading.{Reading}
+use Rattle.gix_refspec_text.specs.Specs.Grammar.{IsAccepted, IsPositive}
+use Rattle.gix_refspec_text.specs.Matching.Side.{SideKind, pattern, full_name, object, partial, HasKind, Fits}
+use Rattle.gix_refspec_text.specs.Matching.Match.{Ref, HasName, MatchesAs, Takes}
+use Rattle.gix_refspec_text.proofs.lemmas.hits.MatchLemmas.{lacks_no_pattern}
+use Rattle.gix_refspec_text.proofs.lemmas.lists.AllLemmas.{all_join, all_left, all_right}
+use Rattle.gix_refspec_text.proofs.lemmas.lists.LacksLemmas.{first_once}
+use Rattle.gix_refspec_match.specs.Matching.Mappings.{Source, name, id, IsSourceExcluded}
+use Rattle.gix_refspec_match.specs.Matching.Hits.{IsFilled}
+use Rattle.gix_refspec_match.proofs.lemmas.hits.HitLemmas.{matches_as, one_kind}
+use Rattle.gix_refspec.specs.Laws.Matching.{IsPaired, MakesForward}
+use Rattle.gix_refspec.specs.Laws.Plans.{LacksIn, SidesLack}
+use Rattle.gix_refspec_lint.specs.Matching.Lint.{ConflictOver, Fetches, IsFree, refs_of}
+use Rattle.gix_refspec_plan.specs.Matching.Plan.{CanBeWritten, IsCompleted}
+use Rattle.gix_refspec.specs.Matching.RefNames.{IsRefName, IsValidSource}
+use Rattle.gix_refspec_lint.specs.Private.Lints.{IsDeciding, IsLongerPrefix, IsLongerSuffix, endings, parts, words_with}
+use Rattle.gix_refspec.proofs.lemmas.specs.SideLawLemmas.{sides_agree}
+use Rattle.gix_refspec_plan.proofs.lemmas.stale.FetchedLemmas.{completed_destination, named_some, written_lacks}
+use Rattle.gix_refspec.proofs.lemmas.keep.FilterLemmas.{mapped_there}
+use Rattle.gix_refspec.proofs.lemmas.keep.PairMadeLemmas.{one_name}
+use Rattle.gix_refspec_lint.proofs.lemmas.FewerLemmas.{conflict_of_two}
+use Rattle.gix_refspec_lint.proofs.lemmas.ByteLemmas.{excluded_moved, lacks_refs, name_with_byte}
+use Rattle.gix_refspec_lint.proofs.lemmas.WordLemmas.{Around, HasEnding, IsParted, IsRefAround, between, common_name, ending_or_part}
+
+-- ---- what two patterns map
+
+-- the source of a spec with a destination pattern, and the word
+pub record MapsPattern (c : Reading) (a b : List ℕ) (s : Source) (n : List ℕ) : Type 0 where
+  pub positive : IsPositive c.mode
+  pub text : List ℕ
+  pub has : c.source ≡ Some text
+  pub before : List ℕ
+  pub after : List ℕ
+  pub split : IsSplit before after text
+  pub word : List ℕ
+  pub source : s ≡ name (before ++ (word ++ after))
+  pub fits : Fits a b n word
+
+pub word_there : (before after : List ℕ) (r : Ref) (word : Option (List ℕ)) → MatchesAs (pattern before after) r word → (w : List ℕ) × (word ≡ Some w) × Fits before after r.name w
+word_there before after r None holds = absurd holds
+word_there before after r (Some w) holds = (w, refl, holds)
+
+module _ (c : Reading) (accepted : ∥ IsAccepted c ∥₁) (d a b : List ℕ) (has : c.destination ≡ Some d) (split : IsSplit a b d) where
+  starred : ¬ (Lacks star d)
+  starred lacks = lacks_no_pattern d a b lacks split
+
+  source_pattern : (x : List ℕ) → c.source ≡ Some x → HasOneStar x
+  source_pattern x source = elim ((sides_agree c accepted).both x d source has) [
+    | inl (one, other) ↦ one
+    | inr (one, other) ↦ absurd (starred other)
+  ]
+
+  filled_is : (far : Option (List ℕ)) (w n : List ℕ) → far ≡ Some d → IsFilled far (Some w) (Some n) → Fits a b n w
+  filled_is None w n is filled = absurd (cc (is))
+  filled_is (Some x) w n is (kind, of, filled) =
+      let same : x ≡ d = cc in
+      let kinds : kind ≡ pattern a b = one_kind d kind (pattern a b) (subst (λ y. HasKind y kind) same of) split in
+      by_kind kind kinds filled
+    where
+      by_kind : (k : SideKind) → k ≡ pattern a b → Some n ≡ Some (Rattle.gix_refspec_text.specs.Matching.Side.filled k (Some w)) → Fits a b n w
+      by_kind k kinds filled = same_Some _ _ (filled ∙ ap (λ k. Some (Rattle.gix_refspec_text.specs.Matching.Side.filled k (Some w))) kinds)
+
+  pub maps_pattern : (refs : List Ref) (s : Source) (n : List ℕ) → MakesForward refs s (Some n) c → MapsPattern c a b s n
+  maps_pattern refs (id bytes) n makes =
+      let one = source_pattern makes.text makes.side in
+      absurd (lacks_no_pattern makes.text one.0 one.1 makes.object.0 one.2)
+  maps_pattern refs (name m) n makes =
+      let (k, item, below, is, paired) = makes.one in
+      let one = source_pattern makes.ends.near makes.has.near in
+      let (w, some, fits) = word_there one.0 one.1 item paired.word (matches_as makes.ends.near (pattern one.0 one.1) item paired.word one.2 paired.takes.matches) in
+      record {
+        positive = makes.has.positive;
+        text = makes.ends.near;
+        has = makes.has.near;
+        before = one.0;
+        after = one.1;
+        split = one.2;
+        word = w;
+        source = ap name (sym paired.name ∙ fits);
+        fits = filled_is makes.ends.far w n (sym makes.has.far ∙ has) (subst (λ v. IsFilled makes.ends.far v (Some n)) some paired.becomes);
+      }
+
+  -- and with any word it maps the ref with that word, if there is one
+  pub pattern_maps : (refs : List Ref) (x p t w : List ℕ) → IsPositive c.mode → c.source ≡ Some x → IsSplit p t x → HasName refs (p ++ (w ++ t)) → MakesForward refs (name (p ++ (w ++ t))) (Some (a ++ (w ++ b))) c
+  pattern_maps refs x p t w positive source parts there = record {
+    ends = record { near = x; far = Some d };
+    has = record { positive = positive; near = source; far = has; no_object = λ bytes kind. lacks_no_pattern x p t kind.0 parts };
+    one = named_some (IsPaired (Takes refs) (record { near = x; far = Some d }) (p ++ (w ++ t)) (Some (a ++ (w ++ b)))) refs (p ++ (w ++ t)) there (λ item named. record {
+      word = Some w;
+      name = named;
+      takes = record {
+        matches = record { kind = pattern p t; of = parts; is = named };
+        first = λ m kind. absurd (lacks_no_pattern x p t kind.1 parts);
+      };
+      becomes = (pattern a b, split, refl);
+    });
+  }
+
+-- ---- with the free byte in place of a word
+
+pub at_index : {X : Type 0} (P : X → Type 0) (xs : List X) (k : ℕ) (x : X) → AllByRecursion P xs → slice_get xs k ≡ Some x → P x
+at_index P [] k x all is = absurd (cc (is))
+at_index P (y ∷ xs) zero x all is = subst P (same_Some _ _ is) all.0
+at_index P (y ∷ xs) (suc k) x all is = at_index P xs k x all.1 is
+
+pub listed_at : {X : Type 0} (P : X → Type 0) (xs : List X) (x : X) → AllByRecursion P xs → Contains xs x → P x
+listed_at P [] x all (k, below, is) = absurd (omega (arith, below))
+listed_at P (y ∷ xs) x all (zero, below, is) = subst P is all.0
+listed_at P (y ∷ xs) x all (suc k, below, is) = listed_at P xs x all.1 (k, omega (arith, below), is)
+
+lacks_in : (z : ℕ) (side : Option (List ℕ)) (x : List ℕ) → side ≡ Some x → LacksIn z side → Lacks z x
+lacks_in z None x is lacks = absurd (cc (is))
+lacks_in z (Some y) x is lacks = subst (Lacks z) (same_Some _ _ is) lacks
+
+pub regroup : (p x e z y t : List ℕ) → p ++ ((x ++ ((e ++ z) ++ y)) ++ t) ≡ ((p ++ x) ++ e) ++ (z ++ (y ++ t))
+regroup p x e z y t = simp append_assoc
+
+no_head : (x m : List ℕ) → BeginsWith (codes "refs/") x → x ++ m ≢ head
+no_head x m begins is = let same : codes "refs/" ++ (begins.after ++ m) ≡ head = sym (append_assoc (codes "refs/") begins.after m) ∙ ap (λ y. y ++ m) (sym begins.here) ∙ is in cc
+
+not_empty : (x m : List ℕ) → BeginsWith (codes "refs/") x → x ++ m ≢ []
+not_empty x m begins is = let same : codes "refs/" ++ (begins.after ++ m) ≡ [] = sym (append_assoc (codes "refs/") begins.after m) ∙ ap (λ y. y ++ m) (sym begins.here) ∙ is in cc
+
+begins_before : (x m : List ℕ) → BeginsWith (codes "refs/") x → BeginsWith (codes "refs/") (x ++ m)
+begins_before x m begins = record { after = begins.after ++ m; here = ap (λ y. y ++ m) begins.here ∙ append_assoc (codes "refs/") begins.after m }
+
+module _ (g : List Reading) (z : ℕ) (free : IsFree g z) where
+  pub lacks_ending : (e : List ℕ) → Contains endings e → Lacks z e
+  lacks_ending e listed =
+      let all = lacks_refs z free.usable in
+      listed_at (Lacks z) endings e
+      (tt, (all_right (λ c. c ≢ z) (codes "refs") (codes "/") all, (all_right (λ c. c ≢ z) (codes "ref") (codes "s/") all, (all_right (λ c. c ≢ z) (codes "re") (codes "fs/") all, (all_right (λ c. c ≢ z) (codes "r") (codes "efs/") all, (all, tt))))))
+      listed
+
+  pub ref_moved : (x v y : List ℕ) → BeginsWith (codes "refs/") x → IsRefName (x ++ (v ++ y)) → BeginsWith (codes "refs/") (x ++ (z ∷ y)) × IsName (x ++ (z ∷ y))
+  ref_moved x v y begins (inr is) = absurd (no_head x (v ++ y) begins is)
+  ref_moved x v y begins (inl (start, named)) = (begins_before x (z ∷ y) begins, name_with_byte z free.usable x v y (not_empty x (v ++ y) begins) named)
+
+  -- the texts of a pattern lack it
+  pub lacks_parts : (x before after : List ℕ) → Lacks z x → IsSplit before after x → Lacks z before × Lacks z after
+  lacks_parts x before after lacks split =
+      let sides = subst (Lacks z) split.starred lacks in
+      (all_left (λ c. c ≢ z) before (star ∷ after) sides, (all_right (λ c. c ≢ z) before (star ∷ after) sides).1)
+
+  pub lacks_source : (k : ℕ) (r c : Reading) (x : List ℕ) → slice_get g k ≡ Some r → IsCompleted r c → c.source ≡ Some x → Lacks z x
+  lacks_source k r c x at done has = lacks_in z r.source x (sym done.source ∙ has) (at_index (SidesLack z) g k r free.lacks at).0
+
+  pub lacks_destination : (k : ℕ) (r c : Reading) (d a b : List ℕ) → slice_get g k ≡ Some r → IsCompleted r c → c.destination ≡ Some d → IsSplit a b d → Lacks z d
+  lacks_destination k r c d a b at done has split =
+      let (x, was, shape) = completed_destination r.destination c.destination d done.destination has in
+      elim shape [
+        | inl (one, same) ↦ lacks_in z r.destination d (was ∙ ap Some same) (at_index (SidesLack z) g k r free.lacks at).1
+        | inr (lacks, same) ↦ absurd (lacks_no_pattern d a b (subst (Lacks star) same (written_lacks x lacks)) split)
+      ]
+
+  -- the same spec fetches from the name with the byte
+  module _ (refs : List Ref) (k : ℕ) (s : Source) (n : List ℕ) (f : Fetches g refs k s (Some n)) (accepted : ∥ IsAccepted f.maps.maps.completed ∥₁)
+      (d a b : List ℕ) (has : f.maps.maps.completed.destination ≡ Some d) (split : IsSplit a b d) where
+    pub mapped_so : MapsPattern f.maps.maps.completed a b s n
+    mapped_so = maps_pattern f.maps.maps.completed accepted d a b has split refs s n f.maps.maps.makes
+
+    -- the source with the byte behind these texts
+    abbrev pub moved_source : (x e y : List ℕ) → List ℕ
+    moved_source x e y = ((mapped_so.before ++ x) ++ e) ++ (z ∷ (y ++ mapped_so.after))
+
+    pub old_source : (x e rest y : List ℕ) → mapped_so.word ≡ x ++ ((e ++ rest) ++ y) → s ≡ name (((mapped_so.before ++ x) ++ e) ++ (rest ++ (y ++ mapped_so.after)))
+    old_source x e rest y word = mapped_so.source ∙ ap (λ w. name (mapped_so.before ++ (w ++ mapped_so.after))) word ∙ ap name (regroup mapped_so.before x e rest y mapped_so.after)
+
+    pub fetches_moved : (few : List Ref) (x e rest y m : List ℕ) → mapped_so.word ≡ x ++ ((e ++ rest) ++ y) → BeginsWith (codes "refs/") ((mapped_so.before ++ x) ++ e)
+        → CanBeWritten (Some m) → m ≡ a ++ ((x ++ ((e ++ z ∷ []) ++ y)) ++ b) → HasName few (moved_source x e y) → Fetches g few k (name (moved_source x e y)) (Some m)
+    fetches_moved few x e rest y m word begins written is there =
+        let was = old_source x e rest y word in
+        let valid : IsRefName (((mapped_so.before ++ x) ++ e) ++ (rest ++ (y ++ mapped_so.after))) = subst IsValidSource was f.maps.source in
+        let same : mapped_so.before ++ ((x ++ ((e ++ z ∷ []) ++ y)) ++ mapped_so.after) ≡ moved_source x e y = regroup mapped_so.before x e (z ∷ []) y mapped_so.after in
+        record {
+          maps = record {
+            maps = record {
+              reading = f.maps.maps.reading;
+              at = f.maps.maps.at;
+              completed = f.maps.maps.completed;
+              is = f.maps.maps.is;
+              makes = subst (λ o. MakesForward few (name (moved_source x e y)) (Some o) f.maps.maps.completed) (sym is)
+                  (subst (λ o. MakesForward few (name o) (Some (a ++ ((x ++ ((e ++ z ∷ []) ++ y)) ++ b))) f.maps.maps.completed) same
+                  (pattern_maps f.maps.maps.completed accepted d a b has split few mapped_so.text mapped_so.before mapped_so.after (x ++ ((e ++ z ∷ []) ++ y)) mapped_so.positive mapped_so.has mapped_so.split
+                  (subst (HasName few) (sym same) there)));
+            };
+            source = inl (ref_moved ((mapped_so.before ++ x) ++ e) rest (y ++ mapped_so.after) begins valid);
+            destination = written;
+          };
+          included = λ excluded. f.included (subst (IsSourceExcluded g) (sym was) (excluded_moved z free.usable g ((mapped_so.before ++ x) ++ e) rest (y ++ mapped_so.after) free.lacks excluded));
+        }
+
+    pub lacks_front : (x e : List ℕ) → Lacks z x → Contains endings e → Lacks z ((mapped_so.before ++ x) ++ e)
+    lacks_front x e lacks listed =
+        let text = lacks_source k f.maps.maps.reading f.maps.maps.completed mapped_so.text f.maps.maps.at f.maps.maps.is mapped_so.has in
+        all_join (λ c. c ≢ z) (mapped_so.before ++ x) e (all_join (λ c. c ≢ z) mapped_so.before x (lacks_parts mapped_so.text mapped_so.before mapped_so.after text mapped_so.split).0 lacks) (lacks_ending e listed)
+
+    pub lacks_sides : Lacks z a × Lacks z b
+    lacks_sides = lacks_parts d a b (lacks_destination k f.maps.maps.reading f.maps.maps.completed d a b f.maps.maps.at f.maps.maps.is has split) split
+
+-- ---- conflicts of two patterns
+
+-- a name that decides, and a conflict there
+pub record DecidesConflict (g : List Reading) (z : ℕ) (prefix suffix : List ℕ) (i j : ℕ) : Type 0 where
+  pub name : List ℕ
+  pub deciding : IsDeciding (words_with z) prefix suffix name
+  pub one : Source
+  pub other : Source
+  pub conflict : ConflictOver g (refs_of one ++ refs_of other) i j one other name
+
+pub lacks_longer : (z : ℕ) (a c prefix : List ℕ) → Lacks z a → Lacks z c → (prefix ≡ a) ⊎ (prefix ≡ c) → Lacks z prefix
+lacks_longer z a c prefix one other (inl is) = subst (Lacks z) (sym is) one
+lacks_longer z a c prefix one other (inr is) = subst (Lacks z) (sym is) other
+
+grouped : (p e m s : List ℕ) → p ++ ((e ++ m) ++ s) ≡ (p ++ e) ++ (m ++ s)
+grouped p e m s = simp append_assoc
+
+has_left : (n m : List ℕ) → HasName (refs_of (name n) ++ refs_of (name m)) n
+has_left n m = inl refl
+
+has_right : (n m : List ℕ) → HasName (refs_of (name n) ++ refs_of (name m)) m
+has_right n m = inr (inl refl)
+
+module _ (g : List Reading) (z : ℕ) (free : IsFree g z) (i j : ℕ) (refs : List Ref) (s t : Source) (n : List ℕ) (c : ConflictOver g refs i j s t n)
+    (accepted : ∥ IsAccepted c.one.maps.maps.completed ∥₁) (d a b : List ℕ) (has : c.one.maps.maps.completed.destination ≡ Some d) (split : IsSplit a b d)
+    (also : ∥ IsAccepted c.other.maps.maps.completed ∥₁) (e p q : List ℕ) (also_has : c.other.maps.maps.completed.destination ≡ Some e) (also_split : IsSplit p q e)
+    (prefix suffix : List ℕ) (longer : IsLongerPrefix a p prefix) (ends : IsLongerSuffix b q suffix) where
+  abbrev one : MapsPattern c.one.maps.maps.completed a b s n
+  one = mapped_so g z free refs i s n c.one accepted d a b has split
+
+  abbrev other : MapsPattern c.other.maps.maps.completed p q t n
+  other = mapped_so g z free refs j t n c.other also e p q also_has also_split
+
+  by_itself : IsDeciding (words_with z) prefix suffix n → DecidesConflict g z prefix suffix i j
+  by_itself deciding = record { name = n; deciding = deciding; one = s; other = t; conflict = conflict_of_two g refs i j s t n c }
+
+  -- the word and the texts around it in the two sources and the destination
+  abbrev around : IsParted a b p q prefix suffix n one.word other.word → List Around
+  around w =
+      record { front = one.before ++ w.x; back = w.y ++ one.after }
+      ∷ record { front = other.before ++ w.p; back = w.q ++ other.after }
+      ∷ record { front = prefix; back = suffix }
+      ∷ []
+
+  module _ (w : IsParted a b p q prefix suffix n one.word other.word) (ending : HasEnding w.word (map (λ t. t.front) (around w))) where
+    abbrev m : List ℕ
+    m = prefix ++ ((ending.ending ++ z ∷ []) ++ suffix)
+
+    abbrev first : List ℕ
+    first = moved_source g z free refs i s n c.one accepted d a b has split w.x ending.ending w.y
+
+    abbrev second : List ℕ
+    second = moved_source g z free refs j t n c.other also e p q also_has also_split w.p ending.ending w.q
+
+    abbrev few : List Ref
+    few = refs_of (name first) ++ refs_of (name second)
+
+    one_word_is : one.word ≡ w.x ++ ((ending.ending ++ ending.rest) ++ w.y)
+    one_word_is = w.one ∙ ap (λ v. w.x ++ (v ++ w.y)) ending.is
+
+    other_word_is : other.word ≡ w.p ++ ((ending.ending ++ ending.rest) ++ w.q)
+    other_word_is = w.other ∙ ap (λ v. w.p ++ (v ++ w.q)) ending.is
+
+    was : n ≡ (prefix ++ ending.ending) ++ (ending.rest ++ suffix)
+    was = w.whole ∙ ap (λ v. prefix ++ (v ++ suffix)) ending.is ∙ grouped prefix ending.ending ending.rest suffix
+
+    written : CanBeWritten (Some m)
+    written =
+        let valid : IsRefName ((prefix ++ ending.ending) ++ (ending.rest ++ suffix)) = subst IsRefName was (inl c.one.maps.destination) in
+        subst (λ x. BeginsWith (codes "refs/") x × IsName x) (sym (grouped prefix ending.ending (z ∷ []) suffix)) (ref_moved g z free (prefix ++ ending.ending) ending.rest suffix ending.begin.1.1.0 valid)
+
+    whole : (a x y b : List ℕ) → prefix ≡ a ++ x → suffix ≡ y ++ b → m ≡ a ++ ((x ++ ((ending.ending ++ z ∷ []) ++ y)) ++ b)
+    whole a x y b before after = ap (λ u. u ++ ((ending.ending ++ z ∷ []) ++ suffix)) before ∙ ap (λ v. (a ++ x) ++ ((ending.ending ++ z ∷ []) ++ v)) after ∙ between a x (ending.ending ++ z ∷ []) y b
+
+    lacks_prefix : Lacks z prefix
+    lacks_prefix = lacks_longer z a p prefix (lacks_sides g z free refs i s n c.one accepted d a b has split).0 (lacks_sides g z free refs j t n c.other also e p q also_has also_split).0 longer.is
+
+    apart : name first ≡ name second → s ≡ t
+    apart same =
+        let texts : first ≡ second = one_name first second same in
+        let both = first_once z ((one.before ++ w.x) ++ ending.ending) ((other.before ++ w.p) ++ ending.ending) (w.y ++ one.after) (w.q ++ other.after)
+        (lacks_front g z free refs i s n c.one accepted d a b has split w.x ending.ending (all_right (λ c. c ≢ z) a w.x (subst (Lacks z) w.before lacks_prefix)) ending.listed)
+        (lacks_front g z free refs j t n c.other also e p q also_has also_split w.p ending.ending (all_right (λ c. c ≢ z) p w.p (subst (Lacks z) w.front lacks_prefix)) ending.listed)
+        texts in
+        old_source g z free refs i s n c.one accepted d a b has split w.x ending.ending ending.rest w.y one_word_is
+        ∙ ap (λ u. name (u ++ (ending.rest ++ (w.y ++ one.after)))) both.0
+        ∙ ap (λ v. name (((other.before ++ w.p) ++ ending.ending) ++ (ending.rest ++ v))) both.1
+        ∙ sym (old_source g z free refs j t n c.other also e p q also_has also_split w.p ending.ending ending.rest w.q other_word_is)
+
+    by_ending : DecidesConflict g z prefix suffix i j
+    by_ending = record {
+      name = m;
+      deciding = inl (ending.ending ++ z ∷ [], Contains-append_left (map (λ v. v ++ z ∷ []) endings) parts (ending.ending ++ z ∷ []) (mapped_there (λ v. v ++ z ∷ []) endings ending.ending ending.listed), refl);
+      one = name first;
+      other = name second;
+      conflict = record {
+        one = fetches_moved g z free refs i s n c.one accepted d a b has split few w.x ending.ending ending.rest w.y m one_word_is ending.begin.0 written (whole a w.x w.y b w.before w.after) (has_left first second);
+        other = fetches_moved g z free refs j t n c.other also e p q also_has also_split few w.p ending.ending ending.rest w.q m other_word_is ending.begin.1.0 written (whole p w.p w.q q w.front w.back) (has_right first second);
+        differ = λ same. c.differ (apart same);
+      };
+    }
+
+  valid_around : (w : IsParted a b p q prefix suffix n one.word other.word) → AllByRecursion (IsRefAround w.word) (around w)
+  valid_around w = (
+    subst IsValidSource (one.source ∙ ap (λ v. name (one.before ++ (v ++ one.after))) w.one ∙ ap name (sym (between one.before w.x w.word w.y one.after))) c.one.maps.source,
+    (
+      subst IsValidSource (other.source ∙ ap (λ v. name (other.before ++ (v ++ other.after))) w.other ∙ ap name (sym (between other.before w.p w.word w.q other.after))) c.other.maps.source,
+      (subst IsRefName w.whole (inl c.one.maps.destination), tt),
+    ),
+  )
+
+  -- a conflict of two patterns is one at a name that decides
+  pub decided : DecidesConflict g z prefix suffix i j
+  decided = elim (common_name (words_with z) a b p q prefix suffix n one.word other.word longer ends one.fits other.fits) [
+    | inr deciding ↦ by_itself deciding
+    | inl w ↦ elim (ending_or_part w.word (around w) (valid_around w)) [
+      | inl part ↦ by_itself (inl (w.word, Contains-append_right (map (λ v. v ++ z ∷ []) endings) parts w.word part, w.whole))
+      | inr ending ↦ by_ending w ending
+    ]
+  ]

@@ -1,0 +1,135 @@
+-- The sources from which a spec can write a destination.
+use Rattle.std.proofs.Common.{◌≡◌, inl, inr, ℕ, zero, suc, List, [], ◌∷◌, ◌++◌, codes, Option, None, Some, map, length, refl, sym, ap, ◌∙◌, subst, arith}
+use Rattle.std.specs.List.{Contains}
+use Rattle.std.proofs.lemmas.Option.{same_Some}
+use Rattle.gix_refspec_text.specs.Texts.Bytes.{star}
+use Rattle.gix_refspec_text.specs.Texts.Words.{BeginsWith, Lacks}
+use Rattle.gix_refspec_text.specs.Texts.Name.{HasStar, IsSplit}
+use Rattle.gix_refspec_text.specs.Specs.Reading.{Reading}
+use Rattle.gix_refspec_text.specs.Specs.Grammar.{IsAccepted}
+use Rattle.gix_refspec_text.specs.Matching.Side.{SideKind, pattern, full_name, object, partial, HasKind, Fits, candidates, filled}
+use Rattle.gix_refspec_text.specs.Matching.Match.{Matches, MatchesAs, Ref}
+use Rattle.gix_refspec_text.proofs.lemmas.hits.MatchLemmas.{lacks_no_pattern, one_word}
+use Rattle.gix_refspec_text.proofs.lemmas.texts.TextLemmas.{Lacks-ContainsText}
+use Rattle.gix_refspec_match.specs.declared.types.SourceRef.{SourceRef}
+use Rattle.gix_refspec_match.specs.Matching.Mappings.{Source, name, id}
+use Rattle.gix_refspec_match.specs.Views.Mapping.{start_of}
+use Rattle.gix_refspec_match.specs.Matching.Hits.{IsFilled}
+use Rattle.gix_refspec_match.proofs.lemmas.hits.HitLemmas.{matches_as, one_kind}
+use Rattle.gix_refspec.specs.Laws.Matching.{MakesForward}
+use Rattle.gix_refspec_plan.specs.Matching.Plan.{IsCompleted}
+use Rattle.gix_refspec_plan.specs.Private.Stales.{HasParts}
+use Rattle.gix_refspec_lint.proofs.lemmas.PatternLemmas.{maps_pattern}
+use Rattle.gix_refspec.proofs.lemmas.specs.SideLawLemmas.{sides_agree}
+use Rattle.gix_refspec_plan.proofs.lemmas.stale.FetchedLemmas.{completed_destination, far_there, written_below}
+use Rattle.gix_refspec_plan.proofs.lemmas.stale.SourceLemmas.{candidate_contained}
+
+-- ---- destinations
+
+-- a destination that is made comes from that of the spec
+pub destination_made : (refs : List Ref) (s : Source) (d : List ℕ) (c : Reading) → MakesForward refs s (Some d) c → (e : List ℕ) × (word : Option (List ℕ)) × (c.destination ≡ Some e) × IsFilled (Some e) word (Some d)
+destination_made refs (name n) d c makes =
+    let (k, item, below, is, paired) = makes.one in
+    let (e, far, becomes) = far_there makes.ends.far paired.word d paired.becomes in
+    (e, paired.word, makes.has.far ∙ far, becomes)
+destination_made refs (id bytes) d c makes = let (e, far, becomes) = far_there c.destination None d makes.becomes in (e, None, far, becomes)
+
+-- without one none is made
+pub none_made : (refs : List Ref) (s : Source) (d : List ℕ) (c : Reading) → c.destination ≡ None → ¬ (MakesForward refs s (Some d) c)
+none_made refs s d c none makes = let (e, word, has, becomes) = destination_made refs s d c makes in absurd (let never : Some e ≡ None = sym has ∙ none in cc (never))
+
+-- a completed one without a star is written as it is
+pub plain_made : (r c : Reading) (e : List ℕ) → IsCompleted r c → c.destination ≡ Some e → Lacks star e → (refs : List Ref) (s : Source) (d : List ℕ) → MakesForward refs s (Some d) c → d ≡ e
+plain_made r c e done has lacks refs s d makes =
+    let (f, word, is, (kind, of, becomes)) = destination_made refs s d c makes in
+    let same : f ≡ e = same_Some _ _ (sym is ∙ has) in
+    let kinds : kind ≡ full_name e = one_kind e kind (full_name e) (subst (λ x. HasKind x kind) same of) (refl, lacks, below) in
+    same_Some _ _ (becomes ∙ ap (λ k. Some (filled k word)) kinds)
+  where
+    below : BeginsWith (codes "refs/") e
+    below =
+        let (x, was, shape) = completed_destination r.destination c.destination e done.destination has in
+        elim shape [
+          | inl (one, same) ↦ absurd (Lacks-ContainsText star e lacks (subst HasStar same one))
+          | inr (none, same) ↦ subst (BeginsWith (codes "refs/")) same (written_below x)
+        ]
+
+-- ---- sources without a star
+
+-- where the destination has no star, the source has none
+pub source_unsplit : (r : Reading) (e : List ℕ) → ∥ IsAccepted r ∥₁ → r.destination ≡ Some e → Lacks star e → (x before after : List ℕ) → r.source ≡ Some x → ¬ (IsSplit before after x)
+source_unsplit r e accepted has lacks x before after source split = elim ((sides_agree r accepted).both x e source has) [
+  | inl (one, other) ↦ lacks_no_pattern e other.0 other.1 lacks other.2
+  | inr (none, other) ↦ lacks_no_pattern x before after none split
+]
+
+-- the sources for which the side x of this kind may stand, if it is no pattern
+abbrev pub AreSourcesAs : List ℕ → SideKind → List Source → Type 0
+AreSourcesAs x (pattern before after) sources = Unit {0}
+AreSourcesAs x (full_name n) sources = sources ≡ name x ∷ []
+AreSourcesAs x (object bytes) sources = sources ≡ id bytes ∷ []
+AreSourcesAs x (partial n) sources = sources ≡ map name (candidates n)
+
+contained_name : (l : List (List ℕ)) (n : List ℕ) → Contains l n → Contains (map name l) (name n)
+contained_name [] n (k, below, is) = absurd (omega (arith, below))
+contained_name (m ∷ l) n (zero, below, is) = (zero, omega arith, ap name is)
+contained_name (m ∷ l) n (suc k, below, is) = let (j, inside, at) = contained_name l n (k, omega (arith, below), is) in (suc j, omega (arith, inside), at)
+
+module _ (r : Reading) (x : List ℕ) (source : r.source ≡ Some x) (refs : List Ref) (d : Option (List ℕ)) where
+  object_there : (kind : SideKind) (bytes : List ℕ) → HasKind x kind → MakesForward refs (id bytes) d r → kind ≡ object bytes
+  object_there kind bytes of makes = one_kind x kind (object bytes) of (subst (λ y. HasKind y (object bytes)) (same_Some _ _ (sym makes.side ∙ source)) makes.object)
+
+  named_there : (kind : SideKind) (n : List ℕ) (sources : List Source) → HasKind x kind → ((before after : List ℕ) → ¬ (IsSplit before after x)) → AreSourcesAs x kind sources → MakesForward refs (name n) d r → Contains sources (name n)
+  named_there kind n sources of unsplit are makes =
+      let (k, item, below, is, paired) = makes.one in
+      let near : makes.ends.near ≡ x = same_Some _ _ (sym makes.has.near ∙ source) in
+      let matches : Matches x item paired.word = subst (λ y. Matches y item paired.word) near paired.takes.matches in
+      by_kind kind of are item paired.word paired.name (matches_as x kind item paired.word of matches) (λ bytes also. makes.has.no_object bytes (subst (λ y. HasKind y (object bytes)) (sym near) also))
+    where
+      by_kind : (kind : SideKind) → HasKind x kind → AreSourcesAs x kind sources → (item : Ref) (word : Option (List ℕ)) → item.name ≡ n → MatchesAs kind item word → ((bytes : List ℕ) → ¬ (HasKind x (object bytes))) → Contains sources (name n)
+      by_kind (pattern before after) of are item word named holds no_object = absurd (unsplit before after of)
+      by_kind (full_name m) of are item word named holds no_object = subst (λ l. Contains l (name n)) (sym are) (zero, omega arith, ap name (sym of.0 ∙ sym holds.1 ∙ named))
+      by_kind (object bytes) of are item word named holds no_object = absurd (no_object bytes of)
+      by_kind (partial m) of are item word named holds no_object =
+          subst (λ l. Contains l (name n)) (sym are) (contained_name (candidates m) n (subst (Contains (candidates m)) named (candidate_contained m item.name holds.1)))
+
+  pub sources_there : (kind : SideKind) (sources : List Source) → HasKind x kind → ((before after : List ℕ) → ¬ (IsSplit before after x)) → AreSourcesAs x kind sources → (s : Source) → MakesForward refs s d r → Contains sources s
+  sources_there kind sources of unsplit are (name n) makes = named_there kind n sources of unsplit are makes
+  sources_there kind sources of unsplit are (id bytes) makes = by_kind kind (object_there kind bytes of makes) are
+    where
+      by_kind : (kind : SideKind) → kind ≡ object bytes → AreSourcesAs x kind sources → Contains sources (id bytes)
+      by_kind (pattern before after) is are = absurd (cc (is))
+      by_kind (full_name m) is are = absurd (cc (is))
+      by_kind (object others) is are = let same : others ≡ bytes = cc (is) in subst (λ l. Contains l (id bytes)) (sym are) (zero, omega arith, ap id same)
+      by_kind (partial m) is are = absurd (cc (is))
+
+-- the only source that was pushed
+pub only_pushed : (old new : List SourceRef) (s : SourceRef) (t : Source) → old ≡ [] → new ≡ old ++ s ∷ [] → start_of s ≡ t → map start_of new ≡ t ∷ []
+only_pushed old new s t none made is = ap (map start_of) (made ∙ ap (λ l. l ++ s ∷ []) none) ∙ ap (λ v. v ∷ []) is
+
+pub has_one : (sources : List Source) (t s : Source) → sources ≡ t ∷ [] → s ≡ t → Contains sources s
+has_one sources t s are is = subst (λ l. Contains l s) (sym are) (zero, omega arith, sym is)
+
+pub none_contained : {X : Type 0} {l : List X} (x : X) → l ≡ [] → ¬ (Contains l x)
+none_contained x none (k, below, is) = let long = ap length none in omega (arith, below, long)
+
+-- ---- patterns
+
+module _ (c : Reading) (accepted : ∥ IsAccepted c ∥₁) (d a b : List ℕ) (has : c.destination ≡ Some d) (split : IsSplit a b d) where
+  -- a source without a star has none
+  pub none_unsplit : HasParts c.source None → (refs : List Ref) (s : Source) (n : List ℕ) → ¬ (MakesForward refs s (Some n) c)
+  none_unsplit none refs s n makes = let m = maps_pattern c accepted d a b has split refs s n makes in none m.text m.before m.after m.has m.split
+
+  -- a pattern has one by the word, if the destination fits
+  pub none_fits : (n : List ℕ) → ((w : List ℕ) → ¬ (Fits a b n w)) → (refs : List Ref) (s : Source) → ¬ (MakesForward refs s (Some n) c)
+  none_fits n none refs s makes = let m = maps_pattern c accepted d a b has split refs s n makes in none m.word m.fits
+
+  pub pattern_there : (x prefix suffix : List ℕ) → c.source ≡ Some x → IsSplit prefix suffix x → (n w : List ℕ) → Fits a b n w → (refs : List Ref) (s : Source) → MakesForward refs s (Some n) c → s ≡ name (prefix ++ (w ++ suffix))
+  pattern_there x prefix suffix source parts n w fits refs s makes =
+      let m = maps_pattern c accepted d a b has split refs s n makes in
+      let same : m.text ≡ x = same_Some _ _ (sym m.has ∙ source) in
+      let kinds : pattern m.before m.after ≡ pattern prefix suffix = one_kind x (pattern m.before m.after) (pattern prefix suffix) (subst (IsSplit m.before m.after) same m.split) parts in
+      let first : m.before ≡ prefix = cc (kinds) in
+      let last : m.after ≡ suffix = cc (kinds) in
+      let words : m.word ≡ w = one_word a b n m.word w m.fits fits in
+      m.source ∙ ap (λ p. name (p ++ (m.word ++ m.after))) first ∙ ap (λ v. name (prefix ++ (v ++ m.after))) words ∙ ap (λ t. name (prefix ++ (w ++ t))) last

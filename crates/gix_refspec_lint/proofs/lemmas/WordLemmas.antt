@@ -1,0 +1,197 @@
+-- Which words decide what a star may match.
+use Rattle.std.proofs.Common.{◌≡◌, ◌⊎◌, inl, inr, ℕ, List, [], ◌∷◌, ◌++◌, codes, map, append_assoc, append-nil, refl, sym, ap, ◌∙◌, subst, arith}
+use Rattle.std.specs.List.{AllByRecursion, Contains}
+use Rattle.gix_refspec_text.specs.Texts.Bytes.{head}
+use Rattle.gix_refspec_text.specs.Texts.Words.{BeginsWith, EndsWith}
+use Rattle.gix_refspec_text.specs.Matching.Side.{Fits}
+use Rattle.gix_refspec_text.proofs.lemmas.hits.MatchLemmas.{one_word}
+use Rattle.gix_refspec.specs.Matching.RefNames.{IsRefName}
+use Rattle.gix_refspec_lint.specs.Private.Lints.{IsDeciding, IsLongerPrefix, IsLongerSuffix, endings, parts}
+use Rattle.gix_refspec_lint.proofs.lemmas.ByteLemmas.{parted}
+
+-- ---- the parts of a text
+
+-- what it begins with
+abbrev AllPrefixes : (List ℕ → Type 0) → List ℕ → Type 0
+AllPrefixes P [] = P []
+AllPrefixes P (b ∷ x) = P [] × AllPrefixes (λ w. P (b ∷ w)) x
+
+-- what it ends with
+abbrev AllEndings : (List ℕ → Type 0) → List ℕ → Type 0
+AllEndings P [] = P []
+AllEndings P (b ∷ x) = P (b ∷ x) × AllEndings P x
+
+-- and any other part
+abbrev AllParts : (List ℕ → Type 0) → List ℕ → Type 0
+AllParts P [] = P []
+AllParts P (b ∷ x) = AllPrefixes P (b ∷ x) × AllParts P x
+
+prefix_of : (P : List ℕ → Type 0) (x v m : List ℕ) → AllPrefixes P x → x ≡ v ++ m → P v
+prefix_of P [] [] m all is = all
+prefix_of P (b ∷ x) [] m all is = all.0
+prefix_of P [] (c ∷ v) m all is = cc
+prefix_of P (b ∷ x) (c ∷ v) m all is =
+    let same : b ≡ c = cc in
+    let tails : x ≡ v ++ m = cc in
+    subst (λ d. P (d ∷ v)) same (prefix_of (λ w. P (b ∷ w)) x v m all.1 tails)
+
+ending_of : (P : List ℕ → Type 0) (x a m : List ℕ) → AllEndings P x → x ≡ a ++ m → P m
+ending_of P [] [] m all is = subst P is all
+ending_of P (b ∷ x) [] m all is = subst P is all.0
+ending_of P [] (c ∷ a) m all is = cc
+ending_of P (b ∷ x) (c ∷ a) m all is = let tails : x ≡ a ++ m = cc in ending_of P x a m all.1 tails
+
+part_of : (P : List ℕ → Type 0) (x a v m : List ℕ) → AllParts P x → x ≡ a ++ (v ++ m) → P v
+part_of P [] [] v m all is = prefix_of P [] v m all is
+part_of P (b ∷ x) [] v m all is = prefix_of P (b ∷ x) v m all.0 is
+part_of P [] (c ∷ a) v m all is = cc
+part_of P (b ∷ x) (c ∷ a) v m all is = let tails : x ≡ a ++ (v ++ m) = cc in part_of P x a v m all.1 tails
+
+refs_parts : AllParts (Contains parts) (codes "refs/")
+refs_parts = (((0, omega arith, refl), ((1, omega arith, refl), ((2, omega arith, refl), ((3, omega arith, refl), ((4, omega arith, refl), (5, omega arith, refl)))))), (((0, omega arith, refl), ((6, omega arith, refl), ((7, omega arith, refl), ((8, omega arith, refl), (9, omega arith, refl))))), (((0, omega arith, refl), ((10, omega arith, refl), ((11, omega arith, refl), (12, omega arith, refl)))), (((0, omega arith, refl), ((13, omega arith, refl), (14, omega arith, refl))), (((0, omega arith, refl), (15, omega arith, refl)), (0, omega arith, refl))))))
+
+head_parts : AllParts (Contains parts) head
+head_parts = (((0, omega arith, refl), ((16, omega arith, refl), ((17, omega arith, refl), ((18, omega arith, refl), (19, omega arith, refl))))), (((0, omega arith, refl), ((20, omega arith, refl), ((21, omega arith, refl), (22, omega arith, refl)))), (((0, omega arith, refl), ((23, omega arith, refl), (24, omega arith, refl))), (((0, omega arith, refl), (25, omega arith, refl)), (0, omega arith, refl)))))
+
+refs_endings : AllEndings (Contains endings) (codes "refs/")
+refs_endings = ((5, omega arith, refl), ((4, omega arith, refl), ((3, omega arith, refl), ((2, omega arith, refl), ((1, omega arith, refl), (0, omega arith, refl))))))
+
+-- ---- words that the names of refs contain
+
+-- the word begins with an ending of `refs/`, with which each of these texts begins `refs/`
+pub record HasEnding (v : List ℕ) (fronts : List (List ℕ)) : Type 0 where
+  pub ending : List ℕ
+  pub rest : List ℕ
+  pub is : v ≡ ending ++ rest
+  pub listed : Contains endings ending
+  pub begin : AllByRecursion (λ a. BeginsWith (codes "refs/") (a ++ ending)) fronts
+
+-- a text before the word, and one after it
+pub record Around : Type 0 where
+  pub front : List ℕ
+  pub back : List ℕ
+
+-- they make the name of a ref
+abbrev pub IsRefAround : List ℕ → Around → Type 0
+IsRefAround v t = IsRefName (t.front ++ (v ++ t.back))
+
+begins_later : (a e m : List ℕ) → BeginsWith (codes "refs/") (a ++ e) → BeginsWith (codes "refs/") (a ++ (e ++ m))
+begins_later a e m begins = record { after = begins.after ++ m; here = sym (append_assoc a e m) ∙ ap (λ x. x ++ m) begins.here ∙ append_assoc (codes "refs/") begins.after m }
+
+all_later : (e m : List ℕ) (fronts : List (List ℕ)) → AllByRecursion (λ a. BeginsWith (codes "refs/") (a ++ e)) fronts → AllByRecursion (λ a. BeginsWith (codes "refs/") (a ++ (e ++ m))) fronts
+all_later e m [] all = tt
+all_later e m (a ∷ fronts) all = (begins_later a e m all.0, all_later e m fronts all.1)
+
+one_ending : (v a b : List ℕ) → IsRefName (a ++ (v ++ b)) → Contains parts v ⊎ HasEnding v (a ∷ [])
+one_ending v a b (inr is) = inl (part_of (Contains parts) head a v b head_parts (sym is))
+one_ending v a b (inl (begins, named)) = elim (parted a (v ++ b) (codes "refs/") begins.after begins.here) [
+  | inl (m, whole, rest) ↦ elim (parted v b m begins.after rest) [
+    | inl (k, shorter, end) ↦ inl (part_of (Contains parts) (codes "refs/") a v k refs_parts (whole ∙ ap (λ x. a ++ x) shorter))
+    | inr (k, longer, end) ↦ inr (record {
+      ending = m;
+      rest = k;
+      is = longer;
+      listed = ending_of (Contains endings) (codes "refs/") a m refs_endings whole;
+      begin = (record { after = []; here = sym whole }, tt);
+    })
+  ]
+  | inr (m, longer, rest) ↦ inr (record {
+    ending = [];
+    rest = v;
+    is = refl;
+    listed = (0, omega arith, refl);
+    begin = (record { after = m; here = append-nil a ∙ longer }, tt);
+  })
+]
+
+both_endings : (v a : List ℕ) (fronts : List (List ℕ)) → HasEnding v (a ∷ []) → HasEnding v fronts → HasEnding v (a ∷ fronts)
+both_endings v a fronts one others = elim (parted one.ending one.rest others.ending others.rest (sym one.is ∙ others.is)) [
+  | inl (m, longer, rest) ↦ record {
+    ending = others.ending;
+    rest = others.rest;
+    is = others.is;
+    listed = others.listed;
+    begin = (subst (λ e. BeginsWith (codes "refs/") (a ++ e)) (sym longer) (begins_later a one.ending m one.begin.0), others.begin);
+  }
+  | inr (m, longer, rest) ↦ record {
+    ending = one.ending;
+    rest = one.rest;
+    is = one.is;
+    listed = one.listed;
+    begin = (one.begin.0, subst (λ e. AllByRecursion (λ x. BeginsWith (codes "refs/") (x ++ e)) fronts) (sym longer) (all_later others.ending m fronts others.begin));
+  }
+]
+
+-- a word in several names of refs is a part of `refs/` or `HEAD`, or it has such an ending
+pub ending_or_part : (v : List ℕ) (ts : List Around) → AllByRecursion (IsRefAround v) ts → Contains parts v ⊎ HasEnding v (map (λ t. t.front) ts)
+ending_or_part v [] all = inr (record { ending = []; rest = v; is = refl; listed = (0, omega arith, refl); begin = tt })
+ending_or_part v (t ∷ ts) all = elim (one_ending v t.front t.back all.0) [
+  | inl part ↦ inl part
+  | inr one ↦ elim (ending_or_part v ts all.1) [
+    | inl part ↦ inl part
+    | inr others ↦ inr (both_endings v t.front (map (λ (x : Around). x.front) ts) one others)
+  ]
+]
+
+-- ---- what two patterns have in common
+
+-- a name that fits two patterns, where their texts don't overlap: the texts of each, within those that are common, and the
+-- word of each
+pub record IsParted (a b c d prefix suffix n v w : List ℕ) : Type 0 where
+  pub word : List ℕ
+  pub x : List ℕ
+  pub y : List ℕ
+  pub p : List ℕ
+  pub q : List ℕ
+  pub whole : n ≡ prefix ++ (word ++ suffix)
+  pub before : prefix ≡ a ++ x
+  pub after : suffix ≡ y ++ b
+  pub front : prefix ≡ c ++ p
+  pub back : suffix ≡ q ++ d
+  pub one : v ≡ x ++ (word ++ y)
+  pub other : w ≡ p ++ (word ++ q)
+
+pub between : (a x m y b : List ℕ) → (a ++ x) ++ (m ++ (y ++ b)) ≡ a ++ ((x ++ (m ++ y)) ++ b)
+between a x m y b = simp append_assoc
+
+word_is : (a b prefix suffix n v m x y : List ℕ) → Fits a b n v → n ≡ prefix ++ (m ++ suffix) → prefix ≡ a ++ x → suffix ≡ y ++ b → v ≡ x ++ (m ++ y)
+word_is a b prefix suffix n v m x y fits whole front back = one_word a b n v (x ++ (m ++ y)) fits (whole ∙ ap (λ z. z ++ (m ++ suffix)) front ∙ ap (λ z. (a ++ x) ++ (m ++ z)) back ∙ between a x m y b)
+
+begins_common : (a b c d prefix n v w : List ℕ) → (prefix ≡ a) ⊎ (prefix ≡ c) → Fits a b n v → Fits c d n w → BeginsWith prefix n
+begins_common a b c d prefix n v w (inl is) one other = record { after = v ++ b; here = one ∙ ap (λ x. x ++ (v ++ b)) (sym is) }
+begins_common a b c d prefix n v w (inr is) one other = record { after = w ++ d; here = other ∙ ap (λ x. x ++ (w ++ d)) (sym is) }
+
+ends_common : (a b c d suffix n v w : List ℕ) → (suffix ≡ b) ⊎ (suffix ≡ d) → Fits a b n v → Fits c d n w → EndsWith suffix n
+ends_common a b c d suffix n v w (inl is) one other = record { before = a ++ v; here = one ∙ sym (append_assoc a v b) ∙ ap (λ x. (a ++ v) ++ x) (sym is) }
+ends_common a b c d suffix n v w (inr is) one other = record { before = c ++ w; here = other ∙ sym (append_assoc c w d) ∙ ap (λ x. (c ++ w) ++ x) (sym is) }
+
+-- such a name is parted, or it decides itself
+pub common_name : (words : List (List ℕ)) (a b c d prefix suffix n v w : List ℕ) → IsLongerPrefix a c prefix → IsLongerSuffix b d suffix → Fits a b n v → Fits c d n w
+    → IsParted a b c d prefix suffix n v w ⊎ IsDeciding words prefix suffix n
+common_name words a b c d prefix suffix n v w longer ends one other =
+    let starts = begins_common a b c d prefix n v w longer.is one other in
+    let stops = ends_common a b c d suffix n v w ends.is one other in
+    elim (parted prefix starts.after stops.before suffix (sym starts.here ∙ stops.here)) [
+      | inl (m, further, rest) ↦ inl (at m (starts.here ∙ ap (λ x. prefix ++ x) rest))
+      | inr (m, further, rest) ↦ overlapping m further rest
+    ]
+  where
+    at : (m : List ℕ) → n ≡ prefix ++ (m ++ suffix) → IsParted a b c d prefix suffix n v w
+    at m whole = record {
+      word = m;
+      x = longer.one.after;
+      y = ends.one.before;
+      p = longer.other.after;
+      q = ends.other.before;
+      whole = whole;
+      before = longer.one.here;
+      after = ends.one.here;
+      front = longer.other.here;
+      back = ends.other.here;
+      one = word_is a b prefix suffix n v m longer.one.after ends.one.before one whole longer.one.here ends.one.here;
+      other = word_is c d prefix suffix n w m longer.other.after ends.other.before other whole longer.other.here ends.other.here;
+    }
+
+    overlapping : (m : List ℕ) → prefix ≡ (ends_common a b c d suffix n v w ends.is one other).before ++ m → suffix ≡ m ++ (begins_common a b c d prefix n v w longer.is one other).after → IsParted a b c d prefix suffix n v w ⊎ IsDeciding words prefix suffix n
+    overlapping [] further rest = inl (at [] ((begins_common a b c d prefix n v w longer.is one other).here ∙ ap (λ x. prefix ++ x) (sym rest)))
+    overlapping (k ∷ m) further rest = inr (inr (k ∷ m, (begins_common a b c d prefix n v w longer.is one other).after, (λ none. cc), rest, record { before = (ends_common a b c d suffix n v w ends.is one other).before; here = further }, (begins_common a b c d prefix n v w longer.is one other).here))

@@ -1,0 +1,23 @@
+-- The byte is free if each spec lacks it.
+use Rattle.std.proofs.Common.{refl, sym, take_all, arith}
+use Rattle.std.proofs.lemmas.Bool.{false≢true}
+use Rattle.gix_refspec_text.specs.Views.Spec.{reading_of}
+use Rattle.gix_refspec_text.proofs.lemmas.lists.MapLemmas.{each_mapped, one_more_mapped}
+use Rattle.gix_refspec.specs.Laws.Plans.{SidesLack}
+use Rattle.gix_refspec_lint.proofs.letter.is_free.Goals as goal
+
+pub returns-then-has_byte : goal.returns-then-has_byte
+returns-then-has_byte c = (
+  (λ told. absurd (false≢true told)),
+  (λ free. absurd (c.if-has_byte.ensures (each_mapped reading_of (SidesLack c.args.byte) c.args.specs.now c.loop-spec.spec-index c.spec-item.result free.lacks c.loop-spec-test.true c.spec-item.is))),
+)
+
+pub loop-spec-preserved : goal.loop-spec-preserved
+loop-spec-preserved c =
+    one_more_mapped reading_of (SidesLack c.args.byte) c.args.specs.now c.loop-spec.spec-index c.spec-item.result c.loop-spec.invariant c.loop-spec-test.true c.spec-item.is c.if-has_byte.ensures
+
+pub returns : goal.returns
+returns c = (
+  (λ told. record { byte = omega (arith, c.ranges.byte.fits); usable = sym c.if-not-is_usable.ensures; lacks = rw (take_all c.loop-spec.spec-index c.args.specs.now (omega arith)) at c.loop-spec.invariant }),
+  (λ free. refl),
+)

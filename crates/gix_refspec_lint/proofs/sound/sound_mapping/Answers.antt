@@ -1,0 +1,25 @@
+-- The spec alone keeps what it makes.
+use Rattle.std.proofs.Common.{◌≡◌, length, map, map-id, sym, ◌∙◌, subst, rules}
+use Rattle.std.specs.List.{AllByRecursion}
+use Rattle.std.proofs.lemmas.Iterator.Adapters.{YieldsList-from_vec}
+use Rattle.std.proofs.lemmas.Iterator.Consumers.{YieldsList-end, YieldsList-turn}
+use Rattle.gix_refspec_text.specs.Views.Spec.{reading_of}
+use Rattle.gix_refspec_match.specs.Views.Mapping.{mapped_of, ref_of, start_of}
+use Rattle.gix_refspec_plan.specs.Matching.Plan.{IsSound}
+use Rattle.gix_refspec_lint.proofs.lemmas.SoundLemmas.{none_sound, sound_there}
+use Rattle.gix_refspec_lint.proofs.sound.sound_mapping.Goals as goal
+
+pub returns-then-is_sound : goal.returns-then-is_sound
+returns-then-is_sound c =
+    let ms = c.in_ok-mapping-items.mapping-items.items in
+    let turn = YieldsList-turn (YieldsList-from_vec {s = c.into_iter-mapping-iterator.result} ms (search rules) (search rules))
+    c.loop-mapping.yielded c.loop-mapping.mapping-iterator c.loop-mapping.yielded_by c.next.result c.next.new.self c.in-Some.mapping c.in-Some.is c.next.ensures.steps in
+    sound_there (reading_of c.args.spec) (map ref_of c.args.items.now) ms (length c.loop-mapping.yielded) c.in-Some.mapping (start_of c.args.source.now) (rw c.as_slice.ensures at c.in_ok-mapping-items.ensures) turn.0 turn.1
+    (c.same_source.ensures.0 c.if-same_source.true) (c.is_sound.ensures.0 c.if-is_sound.true)
+
+pub returns : goal.returns
+returns c =
+    let ms = c.in_ok-mapping-items.mapping-items.items in
+    let all = YieldsList-end (YieldsList-from_vec {s = c.into_iter-mapping-iterator.result} ms (search rules) (search rules)) c.loop-mapping.yielded c.loop-mapping.mapping-iterator c.loop-mapping.yielded_by c.next.result c.next.new.self c.in-None.is c.next.ensures.steps in
+    none_sound (reading_of c.args.spec) (map ref_of c.args.items.now) (map mapped_of ms) (start_of c.args.source.now) (rw c.as_slice.ensures at c.in_ok-mapping-items.ensures)
+    (subst (λ l. AllByRecursion (λ m. m.source ≡ start_of c.args.source.now → ¬ (IsSound m)) (map mapped_of l)) (sym (map-id c.loop-mapping.yielded) ∙ all.0) c.loop-mapping.invariant)

@@ -1,0 +1,36 @@
+-- One of the two ends with the other, or no text ends with both.
+use Rattle.std.proofs.Common.{[], inl, inr, refl, sym, ◌∙◌}
+use Rattle.std.proofs.lemmas.Bool.{false≢true}
+use Rattle.std.proofs.lemmas.Bool.Decides.{Decides-eqb}
+use Rattle.std.proofs.lemmas.Slice.Eq.{ends_is}
+use Rattle.gix_refspec_lint.proofs.lemmas.NameAtLemmas.{ends_either}
+use Rattle.gix_refspec_lint.proofs.words.longer_suffix.Goals as goal
+
+pub returns-then-ends_with : goal.returns-then-ends_with
+returns-then-ends_with c =
+    let one = c.args.one.now in
+    let other = c.args.other.now in
+    record {
+      one = record { before = []; here = refl };
+      other = record { before = _; here = (ends_is Decides-eqb one other c.ends_with.result c.ends_with.ensures.value).0 c.if-ends_with.true };
+      is = inl refl;
+    }
+
+pub returns-then-ends_with-2 : goal.returns-then-ends_with-2
+returns-then-ends_with-2 c =
+    let one = c.args.one.now in
+    let other = c.args.other.now in
+    record {
+      one = record { before = _; here = (ends_is Decides-eqb other one c.ends_with-else-ends_with.result c.ends_with-else-ends_with.ensures.value).0 c.if-ends_with-2.true };
+      other = record { before = []; here = refl };
+      is = inr refl;
+    }
+
+pub returns-else-ends_with-2 : goal.returns-else-ends_with-2
+returns-else-ends_with-2 c n by_one by_other =
+    let one = c.args.one.now in
+    let other = c.args.other.now in
+    elim (ends_either one other n by_one by_other) [
+      | inl (m, longer) ↦ false≢true (sym c.if-ends_with.false ∙ (ends_is Decides-eqb one other c.ends_with.result c.ends_with.ensures.value).1 m longer)
+      | inr (m, longer) ↦ false≢true (sym c.if-ends_with-2.false ∙ (ends_is Decides-eqb other one c.ends_with-else-ends_with.result c.ends_with-else-ends_with.ensures.value).1 m longer)
+    ]

@@ -1,0 +1,2 @@
+-- The laws of what is found, which follow from the other definitions.
+pub mod Lint

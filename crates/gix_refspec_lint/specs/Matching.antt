@@ -1,0 +1,2 @@
+-- What specs do together, whatever refs a remote has.
+pub mod Lint

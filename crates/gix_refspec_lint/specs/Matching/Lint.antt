@@ -1,0 +1,149 @@
+-- What specs do together, whatever refs a remote has: which two can write one ref from two sources, and which do nothing.
+-- By git-fetch(1) under `<refspec>`; that Git refuses to fetch two sources to one ref isn't in the manual of Git 2.39.
+use Rattle.std.specs.Prelude.{◌≡◌, ◌≢◌, ◌<◌, ℕ, Bool, ◌||◌, not, ◌==◌, List, [], ◌∷◌, ◌++◌, codes, Option, Some, IsTrue}
+use Rattle.std.specs.List.{AllByRecursion, list_any, slice_get}
+use Rattle.gix_refspec_lint.specs.declared.Reason.{Reason}
+use Rattle.gix_refspec_lint.specs.declared.Reason.TheVariants as reason
+use Rattle.gix_refspec_text.specs.Texts.Name.{is_refused_byte}
+use Rattle.gix_refspec_text.specs.Specs.Reading.{Reading, Negative}
+use Rattle.gix_refspec_text.specs.Specs.Grammar.{IsPositive}
+use Rattle.gix_refspec_text.specs.Matching.Match.{Ref}
+use Rattle.gix_refspec_match.specs.Matching.Lists.{IsMadeFrom, IsJoinedFrom}
+use Rattle.gix_refspec_match.specs.Matching.Mappings.{Source, name, id, IsExcludedBy, IsSourceExcluded}
+use Rattle.gix_refspec.specs.Matching.RefNames.{IsRefName, IsValidSource}
+use Rattle.gix_refspec_plan.specs.Matching.Plan.{CanBeWritten, IsCompleted}
+use Rattle.gix_refspec_plan.specs.Matching.Stale.{ref_named}
+use Rattle.gix_refspec.specs.Laws.Matching.{MakesForward}
+use Rattle.gix_refspec.specs.Laws.Plans.{SidesLack}
+
+-- ---- what a spec maps
+
+-- over the refs, the spec at index k maps the source to the destination, as a fetch completes that, whether or not an
+-- earlier spec does so too or a negative one excludes the source
+pub record Maps (g : List Reading) (refs : List Ref) (k : ℕ) (s : Source) (d : Option (List ℕ)) : Type 0 where
+  pub reading : Reading
+  pub at : slice_get g k ≡ Some reading
+  pub completed : Reading
+  pub is : IsCompleted reading completed
+  pub makes : MakesForward refs s d completed
+
+-- and neither side is invalid
+pub record MapsSoundly (g : List Reading) (refs : List Ref) (k : ℕ) (s : Source) (d : Option (List ℕ)) : Type 0 where
+  pub maps : Maps g refs k s d
+  pub source : IsValidSource s
+  pub destination : CanBeWritten d
+
+-- and no spec excludes the source
+pub record Fetches (g : List Reading) (refs : List Ref) (k : ℕ) (s : Source) (d : Option (List ℕ)) : Type 0 where
+  pub maps : MapsSoundly g refs k s d
+  pub included : ¬ (IsSourceExcluded g s)
+
+-- ---- possible conflicts
+
+-- over the refs, the specs at these indexes fetch different sources to one destination
+pub record ConflictOver (g : List Reading) (refs : List Ref) (i j : ℕ) (s t : Source) (d : List ℕ) : Type 0 where
+  pub one : Fetches g refs i s (Some d)
+  pub other : Fetches g refs j t (Some d)
+  pub differ : s ≢ t
+
+-- the specs at these indexes conflict over some refs
+abbrev pub CanConflict : List Reading → ℕ → ℕ → Type 0
+CanConflict g i j = (refs : List Ref) × (s : Source) × (t : Source) × (d : List ℕ) × ConflictOver g refs i j s t d
+
+-- the ref of a source, if it is one
+abbrev pub refs_of : Source → List Ref
+refs_of (name n) = ref_named n ∷ []
+refs_of (id bytes) = []
+
+-- an example of a conflict: the indexes of two specs, a source of each, and their destination
+pub record Example : Type 0 where
+  pub first : ℕ
+  pub second : ℕ
+  pub one : Source
+  pub other : Source
+  pub destination : List ℕ
+
+-- over the refs of the two sources alone the specs, which are at these indexes, conflict so
+pub record IsExample (g : List Reading) (i j : ℕ) (e : Example) : Type 0 where
+  pub first : e.first ≡ i
+  pub second : e.second ≡ j
+  pub order : i < j
+  pub conflict : ConflictOver g (refs_of e.one ++ refs_of e.other) i j e.one e.other e.destination
+
+-- an example for each two specs that conflict over the refs of two sources, by the first and then by the second
+abbrev pub AreExamples : List Reading → List Example → Type 0
+AreExamples g found = IsJoinedFrom (λ i r of_first. IsMadeFrom (λ j q e. IsExample g i j e) 0 g of_first) 0 g found
+
+-- ---- idle specs
+
+-- the refs have valid names
+abbrev pub AreValid : List Ref → Type 0
+AreValid refs = AllByRecursion (λ r. IsRefName r.name) refs
+
+-- the spec has no sound mapping over any refs
+abbrev pub NeverMaps : List Reading → ℕ → Type 0
+NeverMaps g k = (refs : List Ref) (s : Source) (d : Option (List ℕ)) → ¬ (MapsSoundly g refs k s d)
+
+-- a negative spec excludes each source of its sound mappings
+abbrev pub IsAlwaysExcluded : List Reading → ℕ → Type 0
+IsAlwaysExcluded g k = (refs : List Ref) (s : Source) (d : Option (List ℕ)) → ¬ (Fetches g refs k s d)
+
+-- an earlier spec maps what it fetches to the same destinations, whatever valid refs there are
+abbrev pub IsAlwaysEarlier : List Reading → ℕ → Type 0
+IsAlwaysEarlier g k = (refs : List Ref) (s : Source) (d : Option (List ℕ)) → AreValid refs → Fetches g refs k s d → (h : ℕ) × (h < k) × Maps g refs h s d
+
+-- the spec at index n excludes a source of a sound mapping
+pub record ExcludesOne (g : List Reading) (k n : ℕ) : Type 0 where
+  pub refs : List Ref
+  pub source : List ℕ
+  pub destination : Option (List ℕ)
+  pub maps : MapsSoundly g refs k (name source) destination
+  pub negative : Reading
+  pub at : slice_get g n ≡ Some negative
+  pub excludes : IsExcludedBy source negative
+
+-- the spec at index h comes before the spec at index k, and maps something that this fetches
+pub record DoesBefore (g : List Reading) (k h : ℕ) : Type 0 where
+  pub refs : List Ref
+  pub valid : AreValid refs
+  pub source : Source
+  pub destination : Option (List ℕ)
+  pub fetches : Fetches g refs k source destination
+  pub before : h < k
+  pub maps : Maps g refs h source destination
+
+-- why no mapping of the spec at index k is ever kept
+abbrev pub IsIdleBy : List Reading → ℕ → Reason → Type 0
+IsIdleBy g k reason.Invalid = NeverMaps g k
+IsIdleBy g k (reason.Excluded n) = IsAlwaysExcluded g k × ExcludesOne g k n
+IsIdleBy g k (reason.Duplicate h) = IsAlwaysEarlier g k × DoesBefore g k h
+
+-- an idle spec: its index, and why
+pub record Unused : Type 0 where
+  pub spec : ℕ
+  pub reason : Reason
+
+-- the positive specs that are idle, in order
+abbrev pub AreIdle : List Reading → List Unused → Type 0
+AreIdle g idle = IsMadeFrom (λ k r u. (u.spec ≡ k) × IsPositive r.mode × IsIdleBy g k u.reason) 0 g idle
+
+-- the reading is negative and excludes no source of a sound mapping
+pub record IsIdleExclusion (g : List Reading) (r : Reading) : Type 0 where
+  pub negative : r.mode ≡ Negative
+  pub excludes : (refs : List Ref) (i : ℕ) (n : List ℕ) (d : Option (List ℕ)) → MapsSoundly g refs i (name n) d → ¬ (IsExcludedBy n r)
+
+-- the indexes of these, in order
+abbrev pub AreIdleExclusions : List Reading → List ℕ → Type 0
+AreIdleExclusions g idle = IsMadeFrom (λ k r made. (made ≡ k) × IsIdleExclusion g r) 0 g idle
+
+-- ---- the byte that all this rests on
+
+-- a ref name may have the byte anywhere, and neither the folders of gitrevisions(7), nor `HEAD`, nor `.lock` has it
+abbrev pub is_usable : ℕ → Bool
+is_usable b = not (is_refused_byte b || list_any (λ c. b == c) (codes "refs/tags/heads/remotes/HEAD.lock*@{"))
+
+-- and no side of a spec has it
+pub record IsFree (g : List Reading) (b : ℕ) : Type 0 where
+  pub byte : b < 256
+  pub usable : IsTrue (is_usable b)
+  pub lacks : AllByRecursion (SidesLack b) g

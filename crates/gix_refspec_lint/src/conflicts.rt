@@ -1,0 +1,264 @@
+//! Specs that can conflict.
+
+ghost use Rattle.std.specs.Prelude.{◌≡◌, ◌<◌, ◌↔◌, ◌++◌, List, ℕ, length, map, option_map, IfOk, IsTrue, MatchOption, Some};
+ghost use Rattle.bstr.specs.BStr.{bstr_bytes};
+ghost use Rattle.bstr.specs.Owned.{bstring_bytes};
+ghost use Rattle.gix_refspec_text.specs.Specs.Reading.{Reading};
+ghost use Rattle.gix_refspec_text.specs.Views.Spec.{reading_of};
+ghost use Rattle.gix_refspec_match.specs.Matching.Lists.{IsMadeFrom};
+ghost use Rattle.gix_refspec_match.specs.Matching.Mappings.{IsSourceExcluded};
+ghost use Rattle.gix_refspec_match.specs.Views.Mapping.{start_of};
+ghost use Rattle.gix_refspec_lint.specs.Matching.Lint.{AreExamples, ConflictOver, IsExample, refs_of};
+ghost use Rattle.gix_refspec_plan.specs.Matching.Plan.{CanBeWritten};
+ghost use Rattle.gix_refspec.specs.Matching.RefNames.{IsValidSource};
+ghost use Rattle.gix_refspec_lint.specs.Private.Lints.{HaveCommon, HaveParts, IsFound, IsFoundAt, IsGroupOf, NoneAt};
+ghost use Rattle.gix_refspec_lint.specs.Views.Lint.{example_of};
+
+use super::PossibleConflict;
+use super::group::{Group, add_item, any_target, makes, same_source, sources_for};
+use super::words::Common;
+use bstr::{BStr, BString};
+use gix_refspec::match_group::Source;
+use gix_refspec_plan::mapped::{is_below_refs, is_valid_source};
+use gix_refspec_plan::stale::parts_of;
+use gix_refspec_text::RefSpecRef;
+use gix_refspec_text::oid::ObjectId;
+use std::alloc::{AllocError, Global};
+
+// The texts before and after the star of a destination. `None` if it has no star, or is missing.
+type Parts<'g> = Option<(&'g [u8], &'g [u8])>;
+
+// The specs that can conflict, by the first and then by the second.
+pub(super) fn conflicts_in(
+    alloc: Global,
+    group: &Group<'_, '_>,
+) -> Result<Vec<PossibleConflict>, AllocError>
+    ensures { (g : List Reading) → IsGroupOf g group.now → IfOk result (λ found.
+        AreExamples g (map example_of found.items)) }
+{
+    let parts = parts_in(alloc, group.specs)?;
+    let mut found = Vec::new(alloc);
+    for first in 0..group.specs.len() {
+        let mut of_first = conflicts_with(alloc, group, parts.as_slice(), first)?;
+        found.append(&mut of_first)?;
+    }
+    Ok(found)
+}
+
+// The texts before and after the star of each destination. Looked for once, and not for each two specs.
+fn parts_in<'g>(alloc: Global, specs: &[RefSpecRef<'g>]) -> Result<Vec<Parts<'g>>, AllocError>
+    ensures { IfOk result (λ parts. HaveParts specs.now parts.items) }
+{
+    let mut parts = Vec::with_capacity(alloc, specs.len())?;
+    for spec in specs {
+        parts.push(parts_of(spec.destination()))?;
+    }
+    Ok(parts)
+}
+
+// The conflicts of one spec with later ones.
+fn conflicts_with(
+    alloc: Global,
+    group: &Group<'_, '_>,
+    parts: &[Parts<'_>],
+    first: usize,
+) -> Result<Vec<PossibleConflict>, AllocError>
+    requires { (first < length group.now.specs.now) × (length parts.now ≡ length group.now.specs.now) }
+    ensures { (g : List Reading) → IsGroupOf g group.now → HaveParts group.now.specs.now parts.now →
+        IfOk result (λ found. IsMadeFrom (λ j q e. IsExample g first j e) 0 g (map example_of found.items)) }
+{
+    let mut found = Vec::new(alloc);
+    for second in 0..group.specs.len() {
+        if first < second {
+            if let Some(conflict) = conflict_between(alloc, group, parts, first, second)? {
+                found.push(conflict)?;
+            }
+        }
+    }
+    Ok(found)
+}
+
+// An example of a conflict of two specs.
+fn conflict_between(
+    alloc: Global,
+    group: &Group<'_, '_>,
+    parts: &[Parts<'_>],
+    first: usize,
+    second: usize,
+) -> Result<Option<PossibleConflict>, AllocError>
+    requires { (first < second) × (second < length group.now.specs.now) × (length parts.now ≡ length group.now.specs.now) }
+    ensures { (g : List Reading) → IsGroupOf g group.now → HaveParts group.now.specs.now parts.now →
+        IfOk result (λ found. IsFound g first second (option_map example_of found)) }
+{
+    let Some(one_name) = group.specs[first].destination() else {
+        return Ok(None);
+    };
+    let Some(other_name) = group.specs[second].destination() else {
+        return Ok(None);
+    };
+    match (parts[first], parts[second]) {
+        (None, None) => {
+            if one_name != other_name {
+                return Ok(None);
+            }
+            conflict_at(alloc, group, first, second, one_name)
+        }
+        (None, Some(_)) => conflict_at(alloc, group, first, second, one_name),
+        (Some(_), None) => conflict_at(alloc, group, first, second, other_name),
+        (Some(one_parts), Some(other_parts)) => match Common::of(one_parts, other_parts) {
+            None => Ok(None),
+            Some(common) => {
+                if have_same_sides(&group.specs[first], &group.specs[second]) {
+                    return Ok(None);
+                }
+                conflict_among(alloc, group, first, second, &common)
+            }
+        },
+    }
+}
+
+// Whether two specs have the same source and the same destination: then they map alike.
+fn have_same_sides(one: &RefSpecRef<'_>, other: &RefSpecRef<'_>) -> bool
+    ensures { IsTrue result → ((reading_of one.now).source ≡ (reading_of other.now).source)
+        × ((reading_of one.now).destination ≡ (reading_of other.now).destination) }
+{
+    one.source() == other.source() && one.destination() == other.destination()
+}
+
+// The same of two patterns: at one of the names that decide.
+fn conflict_among(
+    alloc: Global,
+    group: &Group<'_, '_>,
+    first: usize,
+    second: usize,
+    common: &Common<'_>,
+) -> Result<Option<PossibleConflict>, AllocError>
+    requires { (first < second) × (second < length group.now.specs.now) }
+    ensures { (g : List Reading) → IsGroupOf g group.now → HaveCommon group.now first second common.now →
+        IfOk result (λ found. IsFound g first second (option_map example_of found)) }
+{
+    let words = group.words.as_slice();
+    for index in 0..common.count(words) {
+        let name = common.name_at(alloc, words, index)?;
+        if let Some(conflict) = conflict_named(alloc, group, first, second, &name)? {
+            return Ok(Some(conflict));
+        }
+    }
+    Ok(None)
+}
+
+// The same at one of these names, if it is one.
+fn conflict_named(
+    alloc: Global,
+    group: &Group<'_, '_>,
+    first: usize,
+    second: usize,
+    name: &Option<BString>,
+) -> Result<Option<PossibleConflict>, AllocError>
+    requires { (first < second) × (second < length group.now.specs.now) }
+    ensures { (g : List Reading) → IsGroupOf g group.now → IfOk result (λ found. MatchOption found
+        ((d : List ℕ) → option_map bstring_bytes name.now ≡ Some d → NoneAt g first second d)
+        (λ c. IsExample g first second (example_of c))) }
+{
+    match name {
+        None => Ok(None),
+        Some(name) => conflict_at(alloc, group, first, second, name.as_bstr()),
+    }
+}
+
+// The same at one destination.
+fn conflict_at(
+    alloc: Global,
+    group: &Group<'_, '_>,
+    first: usize,
+    second: usize,
+    destination: BStr<'_>,
+) -> Result<Option<PossibleConflict>, AllocError>
+    requires { (first < second) × (second < length group.now.specs.now) }
+    ensures { (g : List Reading) → IsGroupOf g group.now → IfOk result (λ found.
+        IsFoundAt g first second (bstr_bytes destination.entry) (option_map example_of found)) }
+{
+    let others = sources_for(alloc, &group.specs[second], destination.as_bytes())?;
+    if others.is_empty() {
+        return Ok(None);
+    }
+    if !is_below_refs(destination) {
+        return Ok(None);
+    }
+    let ones = sources_for(alloc, &group.specs[first], destination.as_bytes())?;
+    let target = any_target();
+    for one in &ones {
+        for other in &others {
+            if do_conflict(
+                alloc,
+                group,
+                first,
+                one,
+                second,
+                other,
+                destination,
+                &target,
+            )? {
+                return Ok(Some(PossibleConflict {
+                    first_spec: first,
+                    second_spec: second,
+                    first_source: one.clone(alloc)?,
+                    second_source: other.clone(alloc)?,
+                    destination: BString::from_slice(alloc, destination)?,
+                }));
+            }
+        }
+    }
+    Ok(None)
+}
+
+// Whether two specs, each with a source, conflict at a valid destination on a remote with these sources.
+fn do_conflict<'x>(
+    alloc: Global,
+    group: &Group<'_, '_>,
+    first: usize,
+    one: &'x Source,
+    second: usize,
+    other: &'x Source,
+    destination: BStr<'_>,
+    target: &'x ObjectId,
+) -> Result<bool, AllocError>
+    requires { (first < length group.now.specs.now) × (second < length group.now.specs.now) }
+    ensures { (g : List Reading) → IsGroupOf g group.now → CanBeWritten (Some (bstr_bytes destination.entry)) →
+        IfOk result (λ is. IsTrue is ↔ ConflictOver g
+        (refs_of (start_of one.now) ++ refs_of (start_of other.now)) first second
+        (start_of one.now) (start_of other.now) (bstr_bytes destination.entry)) }
+{
+    if same_source(one, other) {
+        return Ok(false);
+    }
+    if !is_fetched(group, one) {
+        return Ok(false);
+    }
+    if !is_fetched(group, other) {
+        return Ok(false);
+    }
+    let mut items = Vec::new(alloc);
+    add_item(&mut items, one, target)?;
+    add_item(&mut items, other, target)?;
+    let refs = items.as_slice();
+    let to = Some(destination);
+    if !makes(alloc, group.specs[first], refs, one, to)? {
+        return Ok(false);
+    }
+    makes(alloc, group.specs[second], refs, other, to)
+}
+
+// Whether a source is valid, and no spec excludes it.
+fn is_fetched(group: &Group<'_, '_>, source: &Source) -> bool
+    ensures { (g : List Reading) → IsGroupOf g group.now → IsTrue result ↔
+        (IsValidSource (start_of source.now) × ¬ (IsSourceExcluded g (start_of source.now))) }
+{
+    if !is_valid_source(source) {
+        return false;
+    }
+    match group.excluding(source) {
+        None => true,
+        Some(_) => false,
+    }
+}

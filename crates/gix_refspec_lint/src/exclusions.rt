@@ -1,0 +1,216 @@
+//! Negative specs that exclude nothing.
+
+ghost use Rattle.std.specs.Prelude.{◌≡◌, ◌↔◌, ◌∷◌, [], List, ℕ, Option, Some, map, option_map, IfOk, IsTrue, MatchBool};
+ghost use Rattle.bstr.specs.Owned.{bstring_bytes};
+ghost use Rattle.std.specs.List.{Any};
+ghost use Rattle.gix_refspec_text.specs.Specs.Reading.{Reading, Negative};
+ghost use Rattle.gix_refspec_text.specs.Views.Spec.{reading_of};
+ghost use Rattle.gix_refspec_match.specs.Matching.Mappings.{IsSourceExcluded, name};
+ghost use Rattle.gix_refspec_match.specs.Views.Mapping.{start_of};
+ghost use Rattle.gix_refspec_lint.specs.Matching.Lint.{AreIdleExclusions, IsIdleExclusion, refs_of};
+ghost use Rattle.gix_refspec_lint.specs.Private.Idles.{ExcludesFrom, ExcludesSome, HasPlainSource, MakesSoundly, ShareSources};
+ghost use Rattle.gix_refspec_lint.specs.Private.Lints.{IsGroupOf};
+
+use super::group::{Group, add_item, any_target, named_sources, source_named};
+use super::sound::sound_mapping;
+use super::words::Common;
+use bstr::BString;
+use gix_refspec::match_group::{Source, SourceRef};
+use gix_refspec_match::needle::word_between;
+use gix_refspec_plan::stale::parts_of;
+use gix_refspec_text::RefSpecRef;
+use gix_refspec_text::oid::ObjectId;
+use std::alloc::{AllocError, Global};
+
+// The indexes of the negative specs that exclude nothing, in order.
+pub(super) fn idle_exclusions_in(
+    alloc: Global,
+    group: &Group<'_, '_>,
+) -> Result<Vec<usize>, AllocError>
+    ensures { (g : List Reading) → IsGroupOf g group.now → IfOk result (λ idle.
+        AreIdleExclusions g idle.items) }
+{
+    let mut idle = Vec::new(alloc);
+    for (index, spec) in group.specs.iter().enumerate() {
+        if is_idle(alloc, group, spec)? {
+            idle.push(index)?;
+        }
+    }
+    Ok(idle)
+}
+
+// Whether a spec is negative and excludes nothing.
+fn is_idle(alloc: Global, group: &Group<'_, '_>, spec: &RefSpecRef<'_>) -> Result<bool, AllocError>
+    ensures { (g : List Reading) → IsGroupOf g group.now → IfOk result (λ is. MatchBool is
+        (IsIdleExclusion g (reading_of spec.now)) (¬ (IsIdleExclusion g (reading_of spec.now)))) }
+{
+    if !spec.is_negative() {
+        return Ok(false);
+    }
+    let excludes = excludes_any(alloc, group, spec)?;
+    Ok(!excludes)
+}
+
+// Whether a negative spec excludes a source of a sound mapping.
+fn excludes_any(
+    alloc: Global,
+    group: &Group<'_, '_>,
+    negative: &RefSpecRef<'_>,
+) -> Result<bool, AllocError>
+    requires { (reading_of negative.now).mode ≡ Negative }
+    ensures { (g : List Reading) → IsGroupOf g group.now → IfOk result (λ does. MatchBool does
+        (Any (ExcludesSome (reading_of negative.now)) (map reading_of group.now.specs.now))
+        (¬ (Any (ExcludesSome (reading_of negative.now)) (map reading_of group.now.specs.now)))) }
+{
+    for spec in group.specs {
+        if excludes_of(alloc, group, negative, spec)? {
+            return Ok(true);
+        }
+    }
+    Ok(false)
+}
+
+// The same of the mappings of one spec.
+fn excludes_of(
+    alloc: Global,
+    group: &Group<'_, '_>,
+    negative: &RefSpecRef<'_>,
+    spec: &RefSpecRef<'_>,
+) -> Result<bool, AllocError>
+    requires { (reading_of negative.now).mode ≡ Negative }
+    ensures { (g : List Reading) → IsGroupOf g group.now → IfOk result (λ does. MatchBool does
+        (ExcludesSome (reading_of negative.now) (reading_of spec.now))
+        (¬ (ExcludesSome (reading_of negative.now) (reading_of spec.now)))) }
+{
+    if spec.is_negative() {
+        return Ok(false);
+    }
+    let Some(excluded) = negative.source() else {
+        return Ok(false);
+    };
+    let Some(taken) = parts_of(spec.source()) else {
+        return excludes_named(alloc, negative, spec);
+    };
+    let Some(parts) = parts_of(negative.source()) else {
+        let name = source_named(BString::from_slice(alloc, excluded)?);
+        return excludes_at(alloc, negative, spec, &name);
+    };
+    match Common::of(parts, taken) {
+        None => Ok(false),
+        Some(common) => excludes_common(alloc, group, negative, spec, &common),
+    }
+}
+
+// The same of a spec without a star, by its sources.
+fn excludes_named(
+    alloc: Global,
+    negative: &RefSpecRef<'_>,
+    spec: &RefSpecRef<'_>,
+) -> Result<bool, AllocError>
+    requires { (reading_of negative.now).mode ≡ Negative }
+    ensures { HasPlainSource (reading_of spec.now) → IfOk result (λ does. MatchBool does
+        (ExcludesSome (reading_of negative.now) (reading_of spec.now))
+        (¬ (ExcludesSome (reading_of negative.now) (reading_of spec.now)))) }
+{
+    for source in &named_sources(alloc, spec)? {
+        if excludes_at(alloc, negative, spec, source)? {
+            return Ok(true);
+        }
+    }
+    Ok(false)
+}
+
+// The same of two patterns, by the names that decide.
+fn excludes_common(
+    alloc: Global,
+    group: &Group<'_, '_>,
+    negative: &RefSpecRef<'_>,
+    spec: &RefSpecRef<'_>,
+    common: &Common<'_>,
+) -> Result<bool, AllocError>
+    requires { (reading_of negative.now).mode ≡ Negative }
+    ensures { (g : List Reading) → IsGroupOf g group.now →
+        ShareSources (reading_of negative.now) (reading_of spec.now) common.now →
+        IfOk result (λ does. MatchBool does
+        (ExcludesSome (reading_of negative.now) (reading_of spec.now))
+        (¬ (ExcludesSome (reading_of negative.now) (reading_of spec.now)))) }
+{
+    let words = group.words.as_slice();
+    for index in 0..common.count(words) {
+        let name = common.name_at(alloc, words, index)?;
+        if excludes_name(alloc, negative, spec, name)? {
+            return Ok(true);
+        }
+    }
+    Ok(false)
+}
+
+// The same of one of these names, if it is one.
+fn excludes_name(
+    alloc: Global,
+    negative: &RefSpecRef<'_>,
+    spec: &RefSpecRef<'_>,
+    decides: Option<BString>,
+) -> Result<bool, AllocError>
+    requires { (reading_of negative.now).mode ≡ Negative }
+    ensures { IfOk result (λ does. MatchBool does
+        (ExcludesSome (reading_of negative.now) (reading_of spec.now))
+        ((n : List ℕ) → option_map bstring_bytes decides ≡ Some n →
+        ¬ (ExcludesFrom (reading_of negative.now) (reading_of spec.now) (name n)))) }
+{
+    match decides {
+        None => Ok(false),
+        Some(name) => excludes_at(alloc, negative, spec, &source_named(name)),
+    }
+}
+
+// Whether a negative spec excludes this source, and the other one maps it soundly on a remote with this ref alone.
+fn excludes_at(
+    alloc: Global,
+    negative: &RefSpecRef<'_>,
+    spec: &RefSpecRef<'_>,
+    source: &Source,
+) -> Result<bool, AllocError>
+    requires { (reading_of negative.now).mode ≡ Negative }
+    ensures { IfOk result (λ does. MatchBool does
+        (ExcludesFrom (reading_of negative.now) (reading_of spec.now) (start_of source.now))
+        (¬ (ExcludesFrom (reading_of negative.now) (reading_of spec.now) (start_of source.now)))) }
+{
+    if !does_exclude(negative, source) {
+        return Ok(false);
+    }
+    let target = any_target();
+    maps_alone(alloc, spec, source, &target)
+}
+
+// Whether a spec maps a source soundly on a remote with this ref alone.
+fn maps_alone<'x>(
+    alloc: Global,
+    spec: &RefSpecRef<'_>,
+    source: &'x Source,
+    target: &'x ObjectId,
+) -> Result<bool, AllocError>
+    ensures { IfOk result (λ does. MatchBool does
+        ((d : Option (List ℕ)) × MakesSoundly (refs_of (start_of source.now)) (start_of source.now) d (reading_of spec.now))
+        ((d : Option (List ℕ)) → ¬ (MakesSoundly (refs_of (start_of source.now)) (start_of source.now) d (reading_of spec.now)))) }
+{
+    let mut items = Vec::new(alloc);
+    add_item(&mut items, source, target)?;
+    let mapping = sound_mapping(alloc, *spec, items.as_slice(), source)?;
+    Ok(mapping.is_some())
+}
+
+// Whether a negative spec excludes a source.
+fn does_exclude(negative: &RefSpecRef<'_>, source: &Source) -> bool
+    requires { (reading_of negative.now).mode ≡ Negative }
+    ensures { IsTrue result ↔ IsSourceExcluded (reading_of negative.now ∷ []) (start_of source.now) }
+{
+    let (Some(side), SourceRef::FullName(name)) = (negative.source(), source) else {
+        return false;
+    };
+    let name = name.as_bstr();
+    match parts_of(Some(side)) {
+        None => side == name,
+        Some((before, after)) => word_between(before, after, name.as_bytes()).is_some(),
+    }
+}

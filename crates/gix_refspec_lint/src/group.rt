@@ -1,0 +1,218 @@
+//! The specs of a group, and what one of them maps.
+
+ghost use Rattle.std.specs.Prelude.{◌≡◌, ◌↔◌, ◌++◌, List, ℕ, Option, Some, map, option_map, IfOk, IsTrue, OnOk};
+ghost use Rattle.std.specs.List.{Contains};
+ghost use Rattle.bstr.specs.BStr.{bstr_bytes};
+ghost use Rattle.bstr.specs.Owned.{bstring_bytes};
+ghost use Rattle.gix_refspec_text.specs.Texts.Name.{IsSplit};
+ghost use Rattle.gix_refspec_text.specs.Specs.Reading.{Reading};
+ghost use Rattle.gix_refspec_text.specs.Matching.Match.{Ref};
+ghost use Rattle.gix_refspec_text.specs.Views.Spec.{reading_of};
+ghost use Rattle.gix_refspec_match.specs.Matching.Mappings.{IsSamePair, Source, name};
+ghost use Rattle.gix_refspec_match.specs.Views.Mapping.{mapped_of, name_bytes, ref_of, start_of};
+ghost use Rattle.gix_refspec.specs.Laws.Items.{HaveSameNames};
+ghost use Rattle.gix_refspec.specs.Laws.Matching.{MakesForward};
+ghost use Rattle.gix_refspec_lint.specs.Matching.Lint.{refs_of};
+ghost use Rattle.gix_refspec_plan.specs.Matching.Plan.{IsCompleted};
+ghost use Rattle.gix_refspec_lint.specs.Private.Lints.{HasSourcesOf, pair_of};
+
+use super::words::words_of;
+use bstr::{BStr, BString};
+use gix_refspec::match_group::{Item, Mapping, NameRef, Source, SourceRef};
+use gix_refspec_match::exclusions::Exclusions;
+use gix_refspec_match::match_forward;
+use gix_refspec_match::needle::word_between;
+use gix_refspec_plan::stale::parts_of;
+use gix_refspec_text::RefSpecRef;
+use gix_refspec_text::oid::{Kind, ObjectId};
+use gix_refspec_text::side::{SideKind, candidates, joined, kind_of, split_at_first_star};
+use std::alloc::{AllocError, Global};
+
+// Specs with completed destinations, what the negative ones exclude, and the words to try for a star.
+#[derive(Drop)]
+pub(super) struct Group<'g, 's> {
+    pub(super) specs: &'g [RefSpecRef<'g>],
+    pub(super) exclusions: Exclusions<'s>,
+    pub(super) words: Vec<BString>,
+}
+
+impl<'g, 's> Group<'g, 's> {
+    ghost use Rattle.std.specs.Prelude.{MatchOption};
+    ghost use Rattle.std.specs.List.{AllZip, slice_get};
+    ghost use Rattle.gix_refspec_match.specs.Matching.Mappings.{IsExcludedBy, IsSourceExcluded};
+    ghost use Rattle.gix_refspec_lint.specs.Matching.Lint.{IsFree};
+    ghost use Rattle.gix_refspec_lint.specs.Private.Lints.{IsGroupOf};
+
+    // The group of these specs, whose destinations were completed, with a free byte.
+    pub(super) fn of(
+        alloc: Global,
+        specs: &[RefSpecRef<'s>],
+        completed: &'g [RefSpecRef<'g>],
+        letter: u8,
+    ) -> Result<Group<'g, 's>, AllocError>
+        requires completed { AllZip IsCompleted (map reading_of specs.now) (map reading_of completed.now) }
+        requires free { IsFree (map reading_of specs.now) letter }
+        ensures { IfOk result (IsGroupOf (map reading_of specs.now)) }
+    {
+        Ok(Group {
+            specs: completed,
+            exclusions: Exclusions::of(alloc, specs)?,
+            words: words_of(alloc, letter)?,
+        })
+    }
+
+    // The index of a spec that excludes a source.
+    pub(super) fn excluding(&self, source: &SourceRef<'_>) -> Option<usize>
+        ensures { (g : List Reading) → IsGroupOf g self.now → MatchOption result
+            (¬ (IsSourceExcluded g (start_of source.now)))
+            (λ k. (n : List ℕ) × (start_of source.now ≡ name n) ×
+            ((r : Reading) × (slice_get g k ≡ Some r) × IsExcludedBy n r)) }
+    {
+        match source {
+            SourceRef::FullName(name) => self.exclusions.spec_of(name.as_bstr().as_bytes()),
+            SourceRef::ObjectId(_) => None,
+        }
+    }
+}
+
+// Adds an item for the name of a source, whatever it points to.
+pub(super) fn add_item<'i>(
+    items: &mut Vec<Item<'i>>,
+    source: &'i Source,
+    target: &'i ObjectId,
+) -> Result<(), AllocError>
+    ensures { OnOk result (HaveSameNames (map ref_of items.new.items)
+        (map ref_of items.old.items ++ refs_of (start_of source.now))) }
+{
+    if let SourceRef::FullName(name) = source {
+        items.push(Item {
+            full_ref_name: name.as_bstr(),
+            target,
+            object: None,
+        })?;
+    }
+    Ok(())
+}
+
+// What the items point to, as no source is compared with it.
+pub(super) fn any_target() -> ObjectId {
+    ObjectId::null(Kind::Sha1)
+}
+
+// Whether a spec, whatever others do, maps a source to this destination among the items.
+pub(super) fn makes(
+    alloc: Global,
+    spec: RefSpecRef<'_>,
+    items: &[Item<'_>],
+    source: &SourceRef<'_>,
+    destination: Option<BStr<'_>>,
+) -> Result<bool, AllocError>
+    ensures { IfOk result (λ is. IsTrue is ↔ MakesForward
+        (map ref_of items.now) (start_of source.now) (option_map bstr_bytes destination.entry) (reading_of spec.entry)) }
+{
+    let specs = [spec];
+    let mappings = match_forward(alloc, specs.as_slice(), items)?;
+    for mapping in &mappings {
+        if is_pair(mapping, source, destination) {
+            return Ok(true);
+        }
+    }
+    Ok(false)
+}
+
+// Whether a mapping is from this source to this destination.
+fn is_pair(mapping: &Mapping<'_, '_>, source: &SourceRef<'_>, destination: Option<BStr<'_>>) -> bool
+    ensures { IsTrue result ↔ IsSamePair (mapped_of mapping.now)
+        (pair_of (start_of source.now) (option_map bstr_bytes destination.entry)) }
+{
+    same_source(&mapping.lhs, source) && same_name(&mapping.rhs, destination)
+}
+
+// Whether two sources are the same name or the same id.
+pub(super) fn same_source(one: &SourceRef<'_>, other: &SourceRef<'_>) -> bool
+    ensures { IsTrue result ↔ (start_of one.now ≡ start_of other.now) }
+{
+    one == other
+}
+
+// Whether two destinations are the same, or both are missing.
+fn same_name(one: &Option<NameRef<'_>>, other: Option<BStr<'_>>) -> bool
+    ensures { IsTrue result ↔ (option_map name_bytes one.now ≡ option_map bstr_bytes other.entry) }
+{
+    match (one, other) {
+        (None, None) => true,
+        (Some(one), Some(other)) => one.as_bstr() == other,
+        _ => false,
+    }
+}
+
+// The bytes of a destination.
+pub(super) fn name_of<'n>(name: &'n Option<NameRef<'_>>) -> Option<BStr<'n>>
+    ensures { option_map bstr_bytes result ≡ option_map name_bytes name.now }
+{
+    match name {
+        None => None,
+        Some(name) => Some(name.as_bstr()),
+    }
+}
+
+// The sources from which a spec may be able to write a destination.
+pub(super) fn sources_for(
+    alloc: Global,
+    spec: &RefSpecRef<'_>,
+    destination: &[u8],
+) -> Result<Vec<Source>, AllocError>
+    ensures { (r : Reading) → IsCompleted r (reading_of spec.now) → IfOk result (λ sources.
+        HasSourcesOf (reading_of spec.now) destination.now (map start_of sources.items)) }
+{
+    let Some(side) = spec.destination() else {
+        return Ok(Vec::new(alloc));
+    };
+    let Some((before, after)) = split_at_first_star(side.as_bytes()) else {
+        if side.as_bytes() != destination {
+            return Ok(Vec::new(alloc));
+        }
+        return named_sources(alloc, spec);
+    };
+    let Some((prefix, suffix)) = parts_of(spec.source()) else {
+        return Ok(Vec::new(alloc));
+    };
+    let mut sources = Vec::new(alloc);
+    if let Some(word) = word_between(before, after, destination) {
+        sources.push(source_named(joined(alloc, prefix, word, suffix)?))?;
+    }
+    Ok(sources)
+}
+
+// The sources that a spec without a star may map.
+pub(super) fn named_sources(alloc: Global, spec: &RefSpecRef<'_>) -> Result<Vec<Source>, AllocError>
+    ensures { ((x before after : List ℕ) → (reading_of spec.now).source ≡ Some x → ¬ (IsSplit before after x)) →
+        IfOk result (λ sources. (refs : List Ref) (s : Source) (d : Option (List ℕ)) →
+        MakesForward refs s d (reading_of spec.now) → Contains (map start_of sources.items) s) }
+{
+    let mut sources = Vec::new(alloc);
+    let Some(side) = spec.source() else {
+        return Ok(sources);
+    };
+    if spec.is_negative() {
+        return Ok(sources);
+    }
+    match kind_of(side.as_bytes()) {
+        SideKind::Pattern { .. } => {}
+        SideKind::FullName(_) => sources.push(source_named(BString::from_slice(alloc, side)?))?,
+        SideKind::Object(id) => sources.push(SourceRef::ObjectId(id))?,
+        SideKind::Partial(name) => {
+            for candidate in candidates(alloc, name)? {
+                sources.push(source_named(candidate))?;
+            }
+        }
+    }
+    Ok(sources)
+}
+
+// The name of a ref as a source.
+pub(super) fn source_named(text: BString) -> Source
+    ensures { start_of result ≡ name (bstring_bytes text) }
+{
+    SourceRef::FullName(NameRef::Owned(text))
+}

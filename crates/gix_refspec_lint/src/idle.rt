@@ -1,0 +1,381 @@
+//! Specs that never do anything.
+
+ghost use Rattle.std.specs.Prelude.{◌≡◌, ◌↔◌, ◌⊎◌, ◌++◌, ◌<◌, List, ℕ, Option, Some, length, map, option_map, IfOk, IsTrue, MatchBool, MatchOption, OnOk};
+ghost use Rattle.std.specs.List.{Contains, slice_get};
+ghost use Rattle.bstr.specs.BStr.{bstr_bytes};
+ghost use Rattle.bstr.specs.Owned.{bstring_bytes};
+ghost use Rattle.gix_refspec_text.specs.Specs.Reading.{Reading};
+ghost use Rattle.gix_refspec_text.specs.Specs.Grammar.{IsPositive};
+ghost use Rattle.gix_refspec_text.specs.Matching.Match.{Ref};
+ghost use Rattle.gix_refspec_text.specs.Views.Spec.{reading_of};
+ghost use Rattle.gix_refspec_match.specs.Matching.Mappings.{Source, name};
+ghost use Rattle.gix_refspec_match.specs.Views.Mapping.{ref_of, start_of};
+ghost use Rattle.gix_refspec_lint.specs.declared.Reason.TheVariants as reason;
+ghost use Rattle.gix_refspec.specs.Laws.Items.{HaveSameNames};
+ghost use Rattle.gix_refspec.specs.Laws.Matching.{MakesForward};
+ghost use Rattle.gix_refspec_lint.specs.Matching.Lint.{AreIdle, Maps};
+ghost use Rattle.gix_refspec.specs.Matching.RefNames.{IsRefName};
+ghost use Rattle.gix_refspec_plan.specs.Matching.Stale.{ref_named};
+ghost use Rattle.gix_refspec_lint.specs.Private.Idles.{AreAllowed, AreFreeing, ArePreferred, AreTriedBefore, Explains, HasPlainSource, IsReasonOf, IsShown, IsWhy, IsWhyAt, ShareSources};
+ghost use Rattle.gix_refspec_lint.specs.Private.Lints.{IsGroupOf};
+ghost use Rattle.gix_refspec_lint.specs.Views.Lint.{unused_of};
+
+use super::group::{Group, add_item, any_target, makes, name_of, named_sources, source_named};
+use super::sound::sound_mapping;
+use super::words::Common;
+use super::{IdleSpec, Reason};
+use bstr::{BStr, BString};
+use gix_refspec::match_group::ref_names::is_ref_name;
+use gix_refspec::match_group::{Item, Source, SourceRef};
+use gix_refspec_match::needle::word_between;
+use gix_refspec_plan::stale::parts_of;
+use gix_refspec_text::RefSpecRef;
+use gix_refspec_text::oid::ObjectId;
+use gix_refspec_text::side::{SideKind, candidates, kind_of};
+use std::alloc::{AllocError, Global};
+
+// The positive specs that are idle, in order.
+pub(super) fn idle_in(alloc: Global, group: &Group<'_, '_>) -> Result<Vec<IdleSpec>, AllocError>
+    ensures { (g : List Reading) → IsGroupOf g group.now → IfOk result (λ idle.
+        AreIdle g (map unused_of idle.items)) }
+{
+    let mut idle = Vec::new(alloc);
+    for spec_index in 0..group.specs.len() {
+        match idle_reason(alloc, group, spec_index)? {
+            None => {}
+            Some(reason) => idle.push(IdleSpec { spec_index, reason })?,
+        }
+    }
+    Ok(idle)
+}
+
+// Why a spec is idle. `None` if it isn't, or is negative.
+fn idle_reason(
+    alloc: Global,
+    group: &Group<'_, '_>,
+    index: usize,
+) -> Result<Option<Reason>, AllocError>
+    requires { index < length group.now.specs.now }
+    ensures { (g : List Reading) → IsGroupOf g group.now → IfOk result (λ why. (c : Reading) →
+        slice_get (map reading_of group.now.specs.now) index ≡ Some c → IsReasonOf g index c why) }
+{
+    let spec = &group.specs[index];
+    if spec.is_negative() {
+        return Ok(None);
+    }
+    let Some(parts) = parts_of(spec.source()) else {
+        return idle_by_sources(alloc, group, index);
+    };
+    match Common::of(parts, parts) {
+        None => Ok(Some(Reason::Invalid)),
+        Some(common) => idle_by_words(alloc, group, index, &common),
+    }
+}
+
+// The same of a spec without a star, by its sources.
+fn idle_by_sources(
+    alloc: Global,
+    group: &Group<'_, '_>,
+    index: usize,
+) -> Result<Option<Reason>, AllocError>
+    requires { index < length group.now.specs.now }
+    ensures { (g : List Reading) → IsGroupOf g group.now → IfOk result (λ why. (c : Reading) →
+        slice_get (map reading_of group.now.specs.now) index ≡ Some c → HasPlainSource c → IsWhy g index why) }
+{
+    let mut reason = Reason::Invalid;
+    for source in &named_sources(alloc, &group.specs[index])? {
+        match idle_at(alloc, group, index, source)? {
+            None => return Ok(None),
+            Some(found) => reason = stronger(reason, found),
+        }
+    }
+    Ok(Some(reason))
+}
+
+// The same of a pattern, by the names that decide.
+fn idle_by_words(
+    alloc: Global,
+    group: &Group<'_, '_>,
+    index: usize,
+    common: &Common<'_>,
+) -> Result<Option<Reason>, AllocError>
+    requires { index < length group.now.specs.now }
+    ensures { (g : List Reading) → IsGroupOf g group.now → IfOk result (λ why. (c : Reading) →
+        slice_get (map reading_of group.now.specs.now) index ≡ Some c → IsPositive c.mode →
+        ShareSources c c common.now → IsWhy g index why) }
+{
+    let words = group.words.as_slice();
+    let mut reason = Reason::Invalid;
+    for at in 0..common.count(words) {
+        let name = common.name_at(alloc, words, at)?;
+        match idle_name(alloc, group, index, name)? {
+            None => return Ok(None),
+            Some(found) => reason = stronger(reason, found),
+        }
+    }
+    Ok(Some(reason))
+}
+
+// Why no mapping of one of these names is kept, if it is one.
+fn idle_name(
+    alloc: Global,
+    group: &Group<'_, '_>,
+    index: usize,
+    decides: Option<BString>,
+) -> Result<Option<Reason>, AllocError>
+    requires { index < length group.now.specs.now }
+    ensures { (g : List Reading) → IsGroupOf g group.now → IfOk result (λ why. MatchOption (option_map bstring_bytes decides)
+        (why ≡ Some reason.Invalid)
+        (λ n. IsWhyAt g index (name n) why)) }
+{
+    match decides {
+        None => Ok(Some(Reason::Invalid)),
+        Some(name) => idle_at(alloc, group, index, &source_named(name)),
+    }
+}
+
+// The reason that explains two mappings that aren't kept: the last of the two, in the order of `Reason`.
+fn stronger(one: Reason, other: Reason) -> Reason
+    ensures explains { (g : List Reading) (k : ℕ) (s : Source) →
+        Explains g k s one ⊎ Explains g k s other → Explains g k s result }
+    ensures shown { (g : List Reading) (k : ℕ) → IsShown g k one → IsShown g k other → IsShown g k result }
+{
+    match one {
+        Reason::Invalid => other,
+        Reason::Excluded(_) => match other {
+            Reason::Duplicate(_) => other,
+            Reason::Invalid => one,
+            Reason::Excluded(_) => one,
+        },
+        Reason::Duplicate(_) => one,
+    }
+}
+
+// Why no mapping of this source by the spec is ever kept. `None` if one is.
+fn idle_at(
+    alloc: Global,
+    group: &Group<'_, '_>,
+    index: usize,
+    source: &Source,
+) -> Result<Option<Reason>, AllocError>
+    requires { index < length group.now.specs.now }
+    ensures { (g : List Reading) → IsGroupOf g group.now → IfOk result
+        (IsWhyAt g index (start_of source.now)) }
+{
+    let names = freeing_names(alloc, group, index, source)?;
+    let target = any_target();
+    idle_beside(alloc, group, index, source, names.as_slice(), &target)
+}
+
+// The same on a remote that has refs of these names besides.
+fn idle_beside<'x>(
+    alloc: Global,
+    group: &Group<'_, '_>,
+    index: usize,
+    source: &'x Source,
+    names: &'x [BString],
+    target: &'x ObjectId,
+) -> Result<Option<Reason>, AllocError>
+    requires { index < length group.now.specs.now }
+    ensures { (g : List Reading) → IsGroupOf g group.now →
+        AreFreeing g index (start_of source.now) (map bstring_bytes names.now) → IfOk result
+        (IsWhyAt g index (start_of source.now)) }
+{
+    let mut items = Vec::new(alloc);
+    add_item(&mut items, source, target)?;
+    add_names(&mut items, names, target)?;
+    let items = items.as_slice();
+    let Some(mapping) = sound_mapping(alloc, group.specs[index], items, source)? else {
+        return Ok(Some(Reason::Invalid));
+    };
+    if let Some(spec) = group.excluding(source) {
+        return Ok(Some(Reason::Excluded(spec)));
+    }
+    let destination = name_of(&mapping.rhs);
+    match earlier(alloc, group, index, items, source, destination)? {
+        None => Ok(None),
+        Some(spec) => Ok(Some(Reason::Duplicate(spec))),
+    }
+}
+
+// Adds an item for each name, whatever it points to.
+fn add_names<'i>(
+    items: &mut Vec<Item<'i>>,
+    names: &'i [BString],
+    target: &'i ObjectId,
+) -> Result<(), AllocError>
+    ensures { OnOk result (HaveSameNames (map ref_of items.new.items)
+        (map ref_of items.old.items ++ map ref_named (map bstring_bytes names.now))) }
+{
+    for name in names {
+        items.push(Item {
+            full_ref_name: name.as_bstr(),
+            target,
+            object: None,
+        })?;
+    }
+    Ok(())
+}
+
+// The first of the specs before an index that maps a source to a destination among the items.
+fn earlier(
+    alloc: Global,
+    group: &Group<'_, '_>,
+    index: usize,
+    items: &[Item<'_>],
+    source: &Source,
+    destination: Option<BStr<'_>>,
+) -> Result<Option<usize>, AllocError>
+    requires { index < length group.now.specs.now }
+    ensures { (g : List Reading) → IsGroupOf g group.now → IfOk result (λ found. MatchOption found
+        ((h : ℕ) → h < index →
+        ¬ (Maps g (map ref_of items.now) h (start_of source.now) (option_map bstr_bytes destination.entry)))
+        (λ h. (h < index) ×
+        Maps g (map ref_of items.now) h (start_of source.now) (option_map bstr_bytes destination.entry))) }
+{
+    for at in 0..index {
+        if does_map(alloc, group, at, items, source, destination)? {
+            return Ok(Some(at));
+        }
+    }
+    Ok(None)
+}
+
+// Whether the spec at an index maps a source to a destination among the items.
+fn does_map(
+    alloc: Global,
+    group: &Group<'_, '_>,
+    at: usize,
+    items: &[Item<'_>],
+    source: &Source,
+    destination: Option<BStr<'_>>,
+) -> Result<bool, AllocError>
+    requires { at < length group.now.specs.now }
+    ensures { (g : List Reading) → IsGroupOf g group.now → IfOk result (λ does. MatchBool does
+        (Maps g (map ref_of items.now) at (start_of source.now) (option_map bstr_bytes destination.entry))
+        (¬ (Maps g (map ref_of items.now) at (start_of source.now) (option_map bstr_bytes destination.entry)))) }
+{
+    let spec = group.specs[at];
+    if !may_take(&spec, source) {
+        return Ok(false);
+    }
+    makes(alloc, spec, items, source, destination)
+}
+
+// Whether a spec may take a source: false only if it never does. It saves most calls that match.
+fn may_take(spec: &RefSpecRef<'_>, source: &Source) -> bool
+    ensures { (refs : List Ref) (d : Option (List ℕ)) →
+        MakesForward refs (start_of source.now) d (reading_of spec.now) → IsTrue result }
+{
+    let (Some(side), SourceRef::FullName(name)) = (spec.source(), source) else {
+        return true;
+    };
+    let name = name.as_bstr().as_bytes();
+    match parts_of(Some(side)) {
+        Some((before, after)) => word_between(before, after, name).is_some(),
+        None => name.ends_with(side.as_bytes()) || name.ends_with(b"/HEAD"),
+    }
+}
+
+// Names of refs because of which earlier specs with a partial source don't take this source, although the spec at the index
+// does: their other candidates, without those that this one tries before the source.
+fn freeing_names(
+    alloc: Global,
+    group: &Group<'_, '_>,
+    index: usize,
+    source: &Source,
+) -> Result<Vec<BString>, AllocError>
+    requires { index < length group.now.specs.now }
+    ensures { (g : List Reading) → IsGroupOf g group.now → IfOk result (λ names.
+        AreFreeing g index (start_of source.now) (map bstring_bytes names.items)) }
+{
+    let mut names = Vec::new(alloc);
+    let kept_away = candidates_before(alloc, &group.specs[index], source)?;
+    for at in 0..index {
+        let before = candidates_before(alloc, &group.specs[at], source)?;
+        add_allowed(&mut names, before, kept_away.as_slice())?;
+    }
+    Ok(names)
+}
+
+// Adds those names of the second list that are valid, and not in the third.
+fn add_allowed(
+    names: &mut Vec<BString>,
+    before: Vec<BString>,
+    kept_away: &[BString],
+) -> Result<(), AllocError>
+    ensures { OnOk result (AreAllowed (map bstring_bytes names.old.items) (map bstring_bytes before.items)
+        (map bstring_bytes kept_away.now) (map bstring_bytes names.new.items)) }
+{
+    for name in before {
+        if is_allowed(name.as_bstr(), kept_away) {
+            names.push(name)?;
+        }
+    }
+    Ok(())
+}
+
+// Whether a name is valid, and not in a list.
+fn is_allowed(name: BStr<'_>, kept_away: &[BString]) -> bool
+    ensures { MatchBool result
+        (IsRefName (bstr_bytes name.entry) × ¬ (Contains (map bstring_bytes kept_away.now) (bstr_bytes name.entry)))
+        (¬ (IsRefName (bstr_bytes name.entry) × ¬ (Contains (map bstring_bytes kept_away.now) (bstr_bytes name.entry)))) }
+{
+    if !is_ref_name(name.as_bytes()) {
+        return false;
+    }
+    !contains(kept_away, name)
+}
+
+// The candidates that a partial source tries before a name. None if it isn't one of them.
+fn candidates_before(
+    alloc: Global,
+    spec: &RefSpecRef<'_>,
+    source: &Source,
+) -> Result<Vec<BString>, AllocError>
+    ensures { IfOk result (λ before. ArePreferred (reading_of spec.now) (start_of source.now)
+        (map bstring_bytes before.items)) }
+{
+    let (Some(side), SourceRef::FullName(name)) = (spec.source(), source) else {
+        return Ok(Vec::new(alloc));
+    };
+    if spec.is_negative() || !may_take(spec, source) {
+        return Ok(Vec::new(alloc));
+    }
+    match kind_of(side.as_bytes()) {
+        SideKind::Partial(text) => tried_before(alloc, text, name.as_bstr()),
+        SideKind::Pattern { .. } => Ok(Vec::new(alloc)),
+        SideKind::FullName(_) => Ok(Vec::new(alloc)),
+        SideKind::Object(_) => Ok(Vec::new(alloc)),
+    }
+}
+
+// The candidates of a partial name before one of them. None if it isn't one.
+fn tried_before(
+    alloc: Global,
+    partial: &[u8],
+    candidate: BStr<'_>,
+) -> Result<Vec<BString>, AllocError>
+    ensures { IfOk result (λ before. AreTriedBefore partial.now (bstr_bytes candidate.entry)
+        (map bstring_bytes before.items)) }
+{
+    let mut names = candidates(alloc, partial)?;
+    for at in 0..names.len() {
+        if names[at].as_bstr() == candidate {
+            names.truncate(at);
+            return Ok(names);
+        }
+    }
+    Ok(Vec::new(alloc))
+}
+
+fn contains(names: &[BString], name: BStr<'_>) -> bool
+    ensures { IsTrue result ↔ Contains (map bstring_bytes names.now) (bstr_bytes name.entry) }
+{
+    for one in names {
+        if one.as_bstr() == name {
+            return true;
+        }
+    }
+    false
+}

@@ -1,0 +1,238 @@
+-- Examples of the definitions on plans: what Git completes and leaves out, and the verdicts.
+use Rattle.std.proofs.Common.{◌≡◌, inl, inr, ℕ, zero, suc, true, false, List, [], ◌∷◌, ◌++◌, None, Some, codes, map, option_map, take, refl, sym, ap, ◌∙◌, subst, arith}
+use Rattle.std.specs.List.{Contains}
+use Rattle.bstr.specs.BStr.{bstr_bytes}
+use Rattle.bstr.specs.Owned.{bstring_bytes}
+use Rattle.gix_refspec_plan.specs.declared.Asked.{Asked as DeclaredAsked}
+use Rattle.gix_refspec_plan.specs.declared.Update.{Update}
+use Rattle.gix_refspec_plan.specs.declared.Wish.{Wish as DeclaredWish}
+use Rattle.gix_refspec_plan.specs.declared.Origin.TheVariants as origin
+use Rattle.gix_refspec_plan.specs.declared.Verdict.TheVariants as verdict
+use Rattle.gix_refspec_plan.specs.declared.Verdict.{Verdict}
+use Rattle.gix_refspec.specs.declared.match_group.ref_names.InvalidSide.TheVariants as invalid
+use Rattle.gix_refspec_text.specs.Texts.Bytes.{star}
+use Rattle.gix_refspec_text.specs.Specs.Reading.{Normal, Forced, Negative, Reading, all_tags, fetched_alone, with_destination}
+use Rattle.gix_refspec_text.specs.Specs.Grammar.{fetched}
+use Rattle.gix_refspec_text.specs.Matching.Side.{IsCandidate, partial}
+use Rattle.gix_refspec_text.specs.Matching.Match.{Matches}
+use Rattle.gix_refspec_text.specs.Views.Spec.{reading_of}
+use Rattle.gix_refspec_match.specs.Matching.Mappings.{Mapped}
+use Rattle.gix_refspec_match.specs.Matching.Missing.{AreMissing, LacksSource}
+use Rattle.gix_refspec_match.specs.Views.Mapping.{start_of}
+use Rattle.gix_refspec_match.proofs.lemmas.lists.JoinLemmas.{nothing_made}
+use Rattle.gix_refspec_plan.specs.Matching.Plan.{AreLacking, AreMerges, AreThose, CanBeWritten, Covers, HasSecondVerdict, HasVerdict, IsCarriedOut, IsCompleted, IsContested, IsNegativeReading, IsPositiveReading, IsSound, IsTakenOver, IsUnwritableAt, MayBeMissing, Planned, tags_asked}
+use Rattle.std.proofs.lemmas.Option.{same_Some}
+use Rattle.gix_refspec_text.proofs.lemmas.texts.TestedLemmas.{IsName-tested}
+use Rattle.gix_refspec_text.proofs.lemmas.texts.TextLemmas.{Lacks-ContainsText}
+use Rattle.gix_refspec_text.proofs.facts.ManualFacts.{Lacks-tested, other_length}
+use Rattle.gix_refspec_text.proofs.facts.FitFacts.{every, main_ref, no_dev, other_byte, short, short_kind}
+use Rattle.gix_refspec_match.proofs.facts.MatchFacts.{bytes_in, mapping}
+use Rattle.gix_refspec.specs.Matching.RefNames.{IsRefName}
+use Rattle.gix_refspec_plan.specs.Views.Plan.{asked_of, planned_of, wish_of}
+use Rattle.gix_refspec_plan.proofs.lemmas.plan.CarriedLemmas.{tags_lack_nothing}
+use Rattle.gix_refspec.proofs.facts.RefNameFacts.{no_ref_names, ref_names}
+
+-- ---- sides
+
+-- a destination may be missing, and has to begin `refs/`
+pub writable : CanBeWritten None × CanBeWritten (Some (codes "refs/heads/main")) × ¬ (CanBeWritten (Some (codes "HEAD"))) × ¬ (CanBeWritten (Some (codes "refs/../x")))
+writable = (
+  tt,
+  (record { after = codes "heads/main"; here = refl }, IsName-tested (codes "refs/heads/main") refl),
+  (λ can. other_byte 0 (codes "HEAD") (codes "refs/" ++ can.0.after) (λ byte. omega (arith, byte)) can.0.here),
+  λ can. no_ref_names.2 (inl can),
+)
+
+-- two sources with one destination, mappings to `HEAD` and to no name, and one from no name
+abbrev a_to_x : Mapped
+a_to_x = mapping 0 (codes "refs/heads/a") (Some (codes "refs/x")) 0
+
+abbrev b_to_x : Mapped
+b_to_x = mapping 1 (codes "refs/heads/b") (Some (codes "refs/x")) 0
+
+abbrev to_head : Mapped
+to_head = mapping 0 (codes "HEAD") (Some (codes "HEAD")) 0
+
+abbrev from_bad : Mapped
+from_bad = mapping 2 (codes "refs/../x") (Some (codes "refs/x")) 0
+
+abbrev all_bad : Mapped
+all_bad = mapping 2 (codes "refs/../x") (Some (codes "HEAD")) 0
+
+x_writable : CanBeWritten (Some (codes "refs/x"))
+x_writable = (record { after = codes "x"; here = refl }, IsName-tested (codes "refs/x") refl)
+
+a_sound : IsSound a_to_x
+a_sound = record { source = inl (record { after = codes "heads/a"; here = refl }, IsName-tested (codes "refs/heads/a") refl); destination = x_writable }
+
+b_sound : IsSound b_to_x
+b_sound = record { source = inl (record { after = codes "heads/b"; here = refl }, IsName-tested (codes "refs/heads/b") refl); destination = x_writable }
+
+-- `HEAD` is a source, but no destination
+pub sides : IsUnwritableAt invalid.Destination to_head × IsUnwritableAt invalid.Source from_bad × IsUnwritableAt invalid.Both all_bad
+sides = ((inr refl, writable.2), (no_ref_names.2, x_writable), (no_ref_names.2, writable.2))
+
+pub no_other_sides : ¬ (IsUnwritableAt invalid.Both to_head) × ¬ (IsUnwritableAt invalid.Destination from_bad) × ¬ (IsUnwritableAt invalid.Source all_bad) × ¬ (IsUnwritableAt invalid.Destination a_to_x)
+no_other_sides = ((λ is. is.0 (inr refl)), (λ is. is.1 x_writable), (λ is. writable.2 is.1), (λ is. is.1 x_writable))
+
+nothing_in_none : {X : Type 0} (x : X) → ¬ (Contains [] x)
+nothing_in_none x (i, below, at) = omega (arith, below)
+
+-- ---- specs
+
+-- all tags are asked for, or not
+pub tags : (tags_asked true ≡ record { reading = all_tags; origin = origin.AllTags } ∷ []) × (tags_asked false ≡ [])
+tags = (refl, refl)
+
+-- each negative spec and each positive one has its index among all
+pub parts : AreThose IsPositiveReading origin.Given (no_dev ∷ every ∷ []) (record { reading = every; origin = origin.Given 1 } ∷ [])
+    × AreThose IsNegativeReading origin.Given (no_dev ∷ every ∷ []) (record { reading = no_dev; origin = origin.Given 0 } ∷ [])
+parts = (
+  (None, _, (λ a both. both.1), (Some (record { reading = every; origin = origin.Given 1 }), [], (refl, tt), refl, refl), refl),
+  (Some (record { reading = no_dev; origin = origin.Given 0 }), [], (refl, refl), (None, [], (λ a both. let other : Forced ≡ Negative = both.1 in cc), refl, refl), refl),
+)
+
+abbrev main_to : List ℕ → Reading
+main_to d = fetched Normal (codes "main") (Some d)
+
+-- `refs/` is put before `heads/x`, and `refs/heads/` before `x`; other destinations stay, and so do patterns
+pub completed : IsCompleted (main_to (codes "heads/x")) (main_to (codes "refs/heads/x")) × IsCompleted (main_to (codes "x")) (main_to (codes "refs/heads/x"))
+    × IsCompleted (main_to (codes "refs/x")) (main_to (codes "refs/x")) × IsCompleted every every × IsCompleted (fetched_alone (codes "main")) (fetched_alone (codes "main"))
+completed = (
+  record { operation = refl; mode = refl; source = refl; destination = inr (Lacks-tested star (codes "heads/x") refl, refl) },
+  record { operation = refl; mode = refl; source = refl; destination = inr (Lacks-tested star (codes "x") refl, refl) },
+  record { operation = refl; mode = refl; source = refl; destination = inr (Lacks-tested star (codes "refs/x") refl, refl) },
+  record { operation = refl; mode = refl; source = refl; destination = inl (record { before = codes "refs/remotes/origin/"; after = []; here = refl }, refl) },
+  record { operation = refl; mode = refl; source = refl; destination = refl },
+)
+
+-- not as `match_lhs` fills them, and not without a change
+pub not_completed : ¬ (IsCompleted (main_to (codes "heads/x")) (main_to (codes "refs/heads/heads/x"))) × ¬ (IsCompleted (main_to (codes "x")) (main_to (codes "x")))
+not_completed = (
+  (λ is. elim is.destination [
+    | inl (starred, same) ↦ other_length _ _ (λ size. omega (arith, size)) (same_Some (codes "refs/heads/heads/x") (codes "heads/x") same)
+    | inr (plain, same) ↦ other_length _ _ (λ size. omega (arith, size)) (same_Some (codes "refs/heads/heads/x") (codes "refs/heads/x") same)
+  ]),
+  (λ is. elim is.destination [
+    | inl (starred, same) ↦ absurd (Lacks-ContainsText star (codes "x") (Lacks-tested star (codes "x") refl) starred)
+    | inr (plain, same) ↦ other_length _ _ (λ size. omega (arith, size)) (same_Some (codes "x") (codes "refs/heads/x") same)
+  ]),
+)
+
+-- another destination changes nothing else
+pub moved : with_destination every (codes "refs/x/*") ≡ fetched Forced (codes "refs/heads/*") (Some (codes "refs/x/*"))
+moved = refl
+
+-- a merged ref is fetched by its full name, and once; no other value is
+pub merges : AreMerges (codes "refs/heads/main" ∷ codes "main" ∷ codes "refs/heads/main" ∷ []) [] (record { reading = fetched_alone (codes "refs/heads/main"); origin = origin.Merge 0 } ∷ [])
+merges = (
+  Some (record { reading = fetched_alone (codes "refs/heads/main"); origin = origin.Merge 0 }),
+  [],
+  (refl, ref_names.0, (λ (m, has, sound, is). nothing_in_none m has), (λ has. nothing_in_none _ has)),
+  (None, [], (λ a told. no_ref_names.0 told.1), (None, [], (λ a told. told.3 (0, omega arith, refl)), refl, refl), refl),
+  refl,
+)
+
+-- nor is one that a spec fetches already
+pub covered : AreMerges (codes "refs/heads/a" ∷ []) (a_to_x ∷ []) [] × ¬ (AreMerges (codes "refs/heads/a" ∷ []) (b_to_x ∷ []) [])
+covered = (
+  (None, [], (λ a told. told.2 (a_to_x, (0, omega arith, refl), a_sound, refl)), refl, refl),
+  λ are. nothing_made (λ k n a. (a ≡ record { reading = fetched_alone n; origin = origin.Merge k }) × IsRefName n × ¬ (Covers (b_to_x ∷ []) n) × ¬ (Contains (take k (codes "refs/heads/a" ∷ [])) n)) 0 [] (codes "refs/heads/a") []
+      (record { reading = fetched_alone (codes "refs/heads/a"); origin = origin.Merge 0 }) are (refl, a_sound.source, no_a, (λ has. nothing_in_none _ has)),
+)
+  where
+    no_a : ¬ (Covers (b_to_x ∷ []) (codes "refs/heads/a"))
+    no_a (m, (zero, below, at), sound, is) = other_byte 11 (codes "refs/heads/b") (codes "refs/heads/a") (λ byte. omega (arith, byte)) (ap bytes_in (ap (λ (n : Mapped). n.source) at ∙ is))
+    no_a (m, (suc i, below, at), sound, is) = omega (arith, below)
+
+-- ---- verdicts
+
+one_of : (x m : Mapped) → Contains (x ∷ []) m → m ≡ x
+one_of x m (zero, below, at) = sym at
+one_of x m (suc i, below, at) = absurd (omega (arith, below))
+
+-- another source with the same destination makes a conflict, but not if its name is no ref name
+pub contested : HasVerdict (a_to_x ∷ b_to_x ∷ []) a_to_x verdict.InConflict × HasVerdict (a_to_x ∷ []) a_to_x verdict.Written × HasVerdict (from_bad ∷ []) a_to_x verdict.Written
+    × ¬ (HasVerdict (a_to_x ∷ b_to_x ∷ []) a_to_x verdict.Written) × ¬ (HasVerdict (a_to_x ∷ []) a_to_x verdict.InConflict)
+contested = (
+  (a_sound, by_b),
+  (a_sound, alone),
+  (a_sound, (λ (n, has, sound, share, differ). no_ref_names.2 (subst (λ (m : Mapped). IsSound m) (one_of from_bad n has) sound).source)),
+  (λ is. is.1 by_b),
+  (λ is. alone is.1),
+)
+  where
+    by_b : IsContested (a_to_x ∷ b_to_x ∷ []) a_to_x
+    by_b = (b_to_x, (1, omega arith, refl), b_sound, (codes "refs/x", refl, refl), (λ same. other_byte 11 (codes "refs/heads/a") (codes "refs/heads/b") (λ byte. omega (arith, byte)) (ap bytes_in same)))
+
+    alone : ¬ (IsContested (a_to_x ∷ []) a_to_x)
+    alone (n, has, sound, share, differ) = differ (sym (ap (λ (m : Mapped). m.source) (one_of a_to_x n has)))
+
+-- an invalid side comes before all other verdicts
+pub left_out : HasVerdict (b_to_x ∷ []) from_bad (verdict.LeftOut invalid.Source) × ¬ (HasVerdict (b_to_x ∷ []) from_bad verdict.InConflict) × ¬ (HasSecondVerdict (b_to_x ∷ []) [] from_bad verdict.Overruled)
+left_out = (sides.1, (λ is. no_ref_names.2 is.0.source), (λ is. no_ref_names.2 is.0.source))
+
+-- what is fetched to the destination of another mapping wins over it, and isn't a conflict
+pub overruled : HasSecondVerdict (a_to_x ∷ []) (b_to_x ∷ []) b_to_x verdict.Overruled × ¬ (HasSecondVerdict (a_to_x ∷ []) (b_to_x ∷ []) b_to_x verdict.Written) × ¬ (HasSecondVerdict (a_to_x ∷ []) (a_to_x ∷ b_to_x ∷ []) b_to_x verdict.InConflict)
+overruled = ((b_sound, by_a), (λ is. is.1 by_a), (λ is. is.1 by_a))
+  where
+    by_a : IsTakenOver (a_to_x ∷ []) b_to_x
+    by_a = (a_to_x, (0, omega arith, refl), a_sound, (codes "refs/x", refl, refl))
+
+-- ---- missing sources
+
+main_lacking : LacksSource [] short
+main_lacking = record { positive = tt; source = codes "main"; is = refl; named = inr short_kind; absent = λ ref word has. absurd (nothing_in_none ref has) }
+
+main_candidate : IsCandidate (codes "main") (codes "refs/heads/main")
+main_candidate = record { earlier = codes "main" ∷ codes "refs/main" ∷ codes "refs/tags/main" ∷ []; later = codes "refs/remotes/main" ∷ codes "refs/remotes/main/HEAD" ∷ []; here = refl }
+
+-- `main` is missing among no refs, but not beside a branch of that name; a negative spec and a pattern lack nothing
+pub missing : AreMissing (no_dev ∷ short ∷ all_tags ∷ []) [] (1 ∷ []) × AreMissing (short ∷ []) (main_ref ∷ []) []
+missing = (
+  (None, _, (λ k told. told.1.positive), (Some 1, [], (refl, main_lacking), (None, [], (λ k told. tags_lack_nothing [] told.1), refl, refl), refl), refl),
+  (None, [], (λ k told. found told.1), refl, refl),
+)
+  where
+    found : ¬ (LacksSource (main_ref ∷ []) short)
+    found lacks = lacks.absent main_ref None (0, omega arith, refl)
+        (subst (λ (x : List ℕ). Matches x main_ref None) (same_Some (codes "main") lacks.source lacks.is) (record { kind = partial (codes "main"); of = short_kind; is = (refl, main_candidate) }))
+
+-- ---- whether it is carried out
+
+-- only a merged ref may be missing
+pub may_be_missing : MayBeMissing (origin.Merge 0) × ¬ (MayBeMissing (origin.Given 0)) × ¬ (MayBeMissing (origin.Configured 0)) × ¬ (MayBeMissing origin.Default)
+may_be_missing = (tt, (λ may. may), (λ may. may), (λ may. may))
+
+-- of a name, a merged ref and all tags only the name is missing
+pub lacking : AreLacking [] (record { reading = short; origin = origin.Given 0 } ∷ record { reading = fetched_alone (codes "refs/heads/main"); origin = origin.Merge 0 } ∷ tags_asked true) (origin.Given 0 ∷ [])
+lacking = (
+  Some (origin.Given 0),
+  [],
+  (refl, (λ may. may), main_lacking),
+  (None, [], (λ o told. told.1 (subst MayBeMissing (sym told.0) tt)), (None, [], (λ o told. tags_lack_nothing [] told.2), refl, refl), refl),
+  refl,
+)
+
+abbrev pub planned : Verdict → Planned
+planned v = record { source = a_to_x.source; item = Some 0; destination = a_to_x.destination; origin = origin.Given 0; verdict = v }
+
+-- what is left out or overruled doesn't stop a fetch, and a conflict or a missing source does
+pub carried_out : IsCarriedOut [] [] × IsCarriedOut (planned (verdict.LeftOut invalid.Source) ∷ planned verdict.Overruled ∷ []) [] × ¬ (IsCarriedOut (planned verdict.Written ∷ planned verdict.InConflict ∷ []) []) × ¬ (IsCarriedOut [] (origin.Default ∷ []))
+carried_out = (
+  record { whole = refl; free = tt },
+  record { whole = refl; free = ((λ same. cc), ((λ same. cc), tt)) },
+  (λ carried. carried.free.1.0 refl),
+  (λ carried. let none = carried.whole in cc),
+)
+
+-- ---- the plain data of Rust values
+
+pub wish_seen : (w : DeclaredWish) → ((wish_of w).given ≡ map reading_of w.given.now) × ((wish_of w).configured ≡ map reading_of w.configured.now) × ((wish_of w).merges ≡ map bstr_bytes w.merges.now) × ((wish_of w).tags ≡ w.tags)
+wish_seen w = (refl, refl, refl, refl)
+
+pub asked_seen : (a : DeclaredAsked) → ((asked_of a).reading ≡ reading_of a.spec) × ((asked_of a).origin ≡ a.origin)
+asked_seen a = (refl, refl)
+
+pub update_seen : (u : Update) → ((planned_of u).source ≡ start_of u.source) × ((planned_of u).item ≡ u.item_index) × ((planned_of u).destination ≡ option_map bstring_bytes u.destination) × ((planned_of u).origin ≡ u.origin) × ((planned_of u).verdict ≡ u.verdict)
+update_seen u = (refl, refl, refl, refl, refl)

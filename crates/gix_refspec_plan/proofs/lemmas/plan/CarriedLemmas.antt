@@ -1,0 +1,155 @@
+-- A plan is carried out exactly if no source is missing that has to be there, and no two updates conflict.
+use Rattle.std.proofs.Common.{◌≡◌, ◌≢◌, ◌⊎◌, inl, inr, ◌↔◌, ℕ, zero, suc, Bool, true, false, List, [], ◌∷◌, ◌++◌, codes, take, get_or, refl, sym, ap, subst, arith}
+use Rattle.std.specs.List.{Contains}
+use Rattle.std.proofs.lemmas.List.Elements.{All-from_recursion, Contains-append_cases, Contains-append_left, Contains-get_or, recursion_from_All}
+use Rattle.std.proofs.lemmas.Option.{same_Some}
+use Rattle.gix_refspec_plan.specs.declared.Origin.{Origin}
+use Rattle.gix_refspec_plan.specs.declared.Origin.TheVariants as origin
+use Rattle.gix_refspec_plan.specs.declared.Verdict.TheVariants as verdict
+use Rattle.gix_refspec_text.specs.Texts.Bytes.{star}
+use Rattle.gix_refspec_text.specs.Texts.Words.{Lacks}
+use Rattle.gix_refspec_text.specs.Specs.Reading.{Reading, all_tags, fetched_alone}
+use Rattle.gix_refspec_text.specs.Texts.Bytes.{head}
+use Rattle.gix_refspec_text.specs.Matching.Match.{Ref}
+use Rattle.gix_refspec_match.specs.Matching.Missing.{LacksSource}
+use Rattle.gix_refspec_plan.specs.Matching.Plan.{AreAsked, AreConfigured, AreThose, AreUncovered, Asked, Covers, IsCarriedOut, IsPlan, MayBeMissing, Planned, Wish, tags_asked}
+use Rattle.gix_refspec.specs.Matching.RefNames.{IsRefName}
+use Rattle.gix_refspec_plan.specs.Laws.Fetches.{CarriedOutExactly, DoConflict, IsRequired}
+use Rattle.gix_refspec_plan.proofs.lemmas.plan.OnceLemmas.{made_from}
+use Rattle.gix_refspec_plan.proofs.lemmas.plan.OpposedLemmas.{in_conflict, made_has, opposed}
+
+nothing_in : {X : Type 0} (l : List X) (x : X) → l ≡ [] → ¬ (Contains l x)
+nothing_in {X} l x empty has = let (i, below, at) = subst (λ (m : List X). Contains m x) empty has in omega (arith, below)
+
+one_in : {X : Type 0} (l : List X) (x y : X) → l ≡ x ∷ [] → Contains l y → y ≡ x
+one_in {X} l x y is has = by (subst (λ (m : List X). Contains m y) is has)
+  where
+    by : Contains (x ∷ []) y → y ≡ x
+    by (zero, below, at) = sym at
+    by (suc i, below, at) = absurd (omega (arith, below))
+
+-- ---- the specs that are asked for
+
+-- a spec with this reading, whose source has to be there
+abbrev IsAskedWith : List Asked → Reading → Type 0
+IsAskedWith asked r = (a : Asked) × Contains asked a × ((a.reading ≡ r) × ¬ (MayBeMissing a.origin))
+
+with_more : (l more asked : List Asked) (r : Reading) → asked ≡ l ++ more → IsAskedWith l r → IsAskedWith asked r
+with_more l more asked r is (a, has, told) = (a, subst (λ (all : List Asked). Contains all a) (sym is) (Contains-append_left l more a has), told)
+
+those_have : (origin_at : ℕ → Origin) (specs : List Reading) (asked : List Asked) (r : Reading) → ((k : ℕ) → ¬ (MayBeMissing (origin_at k))) → AreThose (λ r. Unit {0}) origin_at specs asked → Contains specs r → IsAskedWith asked r
+those_have origin_at specs asked r stays those has =
+    made_has (λ (k : ℕ) (r : Reading) (a : Asked). (a ≡ record { reading = r; origin = origin_at k }) × Unit {0}) (λ (a : Asked). (a.reading ≡ r) × ¬ (MayBeMissing a.origin)) 0 specs asked r those has
+    (λ k. (record { reading = r; origin = origin_at k }, (refl, tt)))
+    (λ k a (is, any). (ap (λ (x : Asked). x.reading) is, λ may. stays k (subst MayBeMissing (ap (λ (x : Asked). x.origin) is) may)))
+
+-- the reading of one of those
+those_are : (origin_at : ℕ → Origin) (specs : List Reading) (asked : List Asked) (a : Asked) → AreThose (λ r. Unit {0}) origin_at specs asked → Contains asked a → Contains specs a.reading
+those_are origin_at specs asked a those has =
+    let (k, r, inside, (is, any)) = made_from (λ (k : ℕ) (r : Reading) (a : Asked). (a ≡ record { reading = r; origin = origin_at k }) × Unit {0}) 0 specs asked a those has in
+    subst (Contains specs) (sym (ap (λ (x : Asked). x.reading) is)) inside
+
+-- what is merged may be missing
+merges_may : (wish : Wish) (refs : List Ref) (merges : List Asked) (a : Asked) → AreUncovered wish refs merges → Contains merges a → MayBeMissing a.origin
+merges_may wish refs merges a (inl (none, empty)) has = absurd (nothing_in merges a empty has)
+merges_may wish refs merges a (inr (configured, mapped, those, are_mapped, made)) has =
+    let (k, n, inside, told) = made_from (λ k n a. (a ≡ record { reading = fetched_alone n; origin = origin.Merge k }) × IsRefName n × ¬ (Covers mapped n) × ¬ (Contains (take k wish.merges) n)) 0 wish.merges merges a made has in
+    subst MayBeMissing (sym (ap (λ (x : Asked). x.origin) told.0)) tt
+
+-- the spec for all tags lacks nothing
+pub tags_lack_nothing : (refs : List Ref) → ¬ (LacksSource refs all_tags)
+tags_lack_nothing refs lacks = elim lacks.named [
+  | inl full ↦ starred full.1
+  | inr short ↦ starred short.1
+]
+  where
+    starred : ¬ (Lacks star lacks.source)
+    starred lack = (subst (Lacks star) (sym (same_Some (codes "refs/tags/*") lacks.source lacks.is)) lack).1.1.1.1.1.1.1.1.1.1.0 refl
+
+tags_are : (b : Bool) (a : Asked) → Contains (tags_asked b) a → a.reading ≡ all_tags
+tags_are false a has = absurd (nothing_in [] a refl has)
+tags_are true a has = ap (λ (x : Asked). x.reading) (one_in (tags_asked true) _ a refl has)
+
+-- a source that has to be there is asked for
+required_asked : (wish : Wish) (refs : List Ref) (asked : List Asked) (r : Reading) → AreAsked wish refs asked → IsRequired wish r → IsAskedWith asked r
+required_asked wish refs asked r (AreAsked.by_call given some those is) (IsRequired.by_call has) = with_more given (tags_asked wish.tags) asked r is (those_have origin.Given wish.given given r (λ k may. may) those has)
+required_asked wish refs asked r (AreAsked.by_call given some those is) (IsRequired.by_configuration none has) = absurd (some none)
+required_asked wish refs asked r (AreAsked.by_call given some those is) (IsRequired.by_default none empty alone same) = absurd (some none)
+required_asked wish refs asked r (AreAsked.without configured none are is) (IsRequired.by_call has) = absurd (nothing_in wish.given r none has)
+required_asked wish refs asked r (AreAsked.without all none are is) (IsRequired.by_configuration also has) = with_more all (tags_asked wish.tags) asked r is (by are)
+  where
+    by : AreConfigured wish refs all → IsAskedWith all r
+    by (AreConfigured.by_configuration configured merges some those uncovered joined) = with_more configured merges all r joined (those_have origin.Configured wish.configured configured r (λ k may. may) those has)
+    by (AreConfigured.by_default empty alone same) = absurd (nothing_in wish.configured r empty has)
+required_asked wish refs asked r (AreAsked.without all none are is) (IsRequired.by_default also empty alone same) = with_more all (tags_asked wish.tags) asked r is (by are)
+  where
+    by : AreConfigured wish refs all → IsAskedWith all r
+    by (AreConfigured.by_configuration configured merges (inl some) those uncovered joined) = absurd (some empty)
+    by (AreConfigured.by_configuration configured merges (inr some) those uncovered joined) = absurd (some alone)
+    by (AreConfigured.by_default none_configured none_merged only) = (
+      record { reading = fetched_alone head; origin = origin.Default },
+      subst (λ (l : List Asked). Contains l (record { reading = fetched_alone head; origin = origin.Default })) (sym only) (0, omega arith, refl),
+      (sym same, λ may. may),
+    )
+
+-- a spec whose source has to be there is required, or it is that for all tags
+asked_required : (wish : Wish) (refs : List Ref) (asked : List Asked) (a : Asked) → AreAsked wish refs asked → Contains asked a → ¬ (MayBeMissing a.origin) → IsRequired wish a.reading ⊎ (a.reading ≡ all_tags)
+asked_required wish refs asked a (AreAsked.by_call given some those is) has stays = elim (Contains-append_cases given (tags_asked wish.tags) a (subst (λ (l : List Asked). Contains l a) is has)) [
+  | inl before ↦ inl (IsRequired.by_call (those_are origin.Given wish.given given a those before))
+  | inr tags ↦ inr (tags_are wish.tags a tags)
+]
+asked_required wish refs asked a (AreAsked.without all none are is) has stays = elim (Contains-append_cases all (tags_asked wish.tags) a (subst (λ (l : List Asked). Contains l a) is has)) [
+  | inl before ↦ inl (by are before)
+  | inr tags ↦ inr (tags_are wish.tags a tags)
+]
+  where
+    by : AreConfigured wish refs all → Contains all a → IsRequired wish a.reading
+    by (AreConfigured.by_configuration configured merges some those uncovered joined) inside = elim (Contains-append_cases configured merges a (subst (λ (l : List Asked). Contains l a) joined inside)) [
+      | inl configures ↦ IsRequired.by_configuration none (those_are origin.Configured wish.configured configured a those configures)
+      | inr merged ↦ absurd (stays (merges_may wish refs merges a uncovered merged))
+    ]
+    by (AreConfigured.by_default none_configured none_merged only) inside = IsRequired.by_default none none_configured none_merged (ap (λ (x : Asked). x.reading) (one_in all _ a only inside))
+
+-- ---- whether the plan is carried out
+
+module _ (wish : Wish) (refs : List Ref) (planned : List Planned) (missing : List Origin) (plan : IsPlan wish refs planned missing) where
+  -- a spec whose source is missing is told, unless it may be missing
+  lacking_told : (a : Asked) → Contains plan.asked a → ¬ (MayBeMissing a.origin) → LacksSource refs a.reading → missing ≢ []
+  lacking_told a has stays lacks empty =
+      let (o, inside, any) = made_has (λ (k : ℕ) (a : Asked) (o : Origin). (o ≡ a.origin) × ¬ (MayBeMissing o) × LacksSource refs a.reading) (λ o. Unit {0}) 0 plan.asked missing a plan.lacks has
+      (λ k. (a.origin, (refl, stays, lacks))) (λ k o told. tt) in
+      nothing_in missing o empty inside
+
+  -- what is told is required
+  told_lacking : ((r : Reading) → IsRequired wish r → ¬ (LacksSource refs r)) → (l : List Origin) → missing ≡ l → l ≡ []
+  told_lacking none [] is = refl
+  told_lacking none (o ∷ l) is =
+      let (k, a, has, (same, stays, lacks)) = made_from (λ (k : ℕ) (a : Asked) (o : Origin). (o ≡ a.origin) × ¬ (MayBeMissing o) × LacksSource refs a.reading) 0 plan.asked missing o plan.lacks
+      (subst (λ (all : List Origin). Contains all o) (sym is) (0, omega arith, refl)) in
+      absurd (elim (asked_required wish refs plan.asked a plan.are_asked has (λ may. stays (subst MayBeMissing (sym same) may))) [
+        | inl required ↦ none a.reading required lacks
+        | inr tags ↦ tags_lack_nothing refs (subst (LacksSource refs) tags lacks)
+      ])
+
+  carried_out : IsCarriedOut planned missing ↔ (((r : Reading) → IsRequired wish r → ¬ (LacksSource refs r)) × ((p q : Planned) → Contains planned p → Contains planned q → ¬ (DoConflict p q)))
+  carried_out = (
+    (λ carried. (
+      (λ r required lacks.
+          let (a, has, (is, stays)) = required_asked wish refs plan.asked r plan.are_asked required in
+          lacking_told a has stays (subst (LacksSource refs) (sym is) lacks) carried.whole),
+      (λ p q has_p has_q both.
+          let (k, below, at) = has_p in
+          subst (λ (x : Planned). x.verdict ≢ verdict.InConflict) at (All-from_recursion (λ (x : Planned). x.verdict ≢ verdict.InConflict) planned carried.free k p below) (in_conflict wish refs planned missing plan p q has_p has_q both)),
+    )),
+    (λ (none, apart). record {
+      whole = told_lacking none missing refl;
+      free = recursion_from_All (λ (p : Planned). p.verdict ≢ verdict.InConflict) planned (λ k d below is.
+          let p = get_or planned k d in
+          let has = Contains-get_or planned k d below in
+          let (q, has_q, both) = opposed wish refs planned missing plan p has is in
+          apart p q has has_q both);
+    }),
+  )
+
+pub carried_out_exactly : (wish : Wish) (refs : List Ref) → CarriedOutExactly wish refs
+carried_out_exactly = carried_out

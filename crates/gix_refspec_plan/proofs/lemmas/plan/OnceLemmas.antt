@@ -1,0 +1,87 @@
+-- No ref is written twice.
+use Rattle.std.proofs.Common.{◌≡◌, ℕ, suc, ◌+◌, List, [], ◌∷◌, ◌++◌, None, Some, get_or, refl, sym, ◌∙◌, subst, arith}
+use Rattle.std.specs.List.{AllByRecursion, Contains}
+use Rattle.std.proofs.lemmas.List.Elements.{Contains-get_or, recursion_from_All}
+use Rattle.gix_refspec_plan.specs.declared.Verdict.TheVariants as verdict
+use Rattle.gix_refspec_text.specs.Matching.Match.{Ref}
+use Rattle.gix_refspec_text.proofs.lemmas.lists.AllLemmas.{all_join}
+use Rattle.gix_refspec_match.specs.Matching.Lists.{IsMadeFrom}
+use Rattle.gix_refspec_match.specs.Matching.Mappings.{AreApart, IsSamePair, Mapped}
+use Rattle.gix_refspec_match.proofs.lemmas.lists.SomeLemmas.{made_any, some_at, some_of}
+use Rattle.gix_refspec_plan.specs.Matching.Plan.{Asked, HasSecondVerdict, HasVerdict, IsContested, IsPlanned, IsPlannedBesides, IsSound, Planned, Wish}
+use Rattle.gix_refspec_plan.specs.Laws.Fetches.{AreWrittenApart, AreWrittenOnce, WritesOnce}
+use Rattle.gix_refspec_plan.proofs.lemmas.plan.JudgeLemmas.{mappings_of, tracked_mappings}
+
+-- ---- elements of lists
+
+there : {X : Type 0} (y : X) (xs : List X) (x : X) → Contains xs x → Contains (y ∷ xs) x
+there y xs x (i, below, at) = (suc i, omega (arith, below), at)
+
+-- what a relation makes is made of some element
+pub made_from : {X Y : Type 0} (R : ℕ → X → Y → Type 0) (k : ℕ) (xs : List X) (ys : List Y) (y : Y) → IsMadeFrom R k xs ys → Contains ys y → (j : ℕ) × (x : X) × Contains xs x × R j x y
+made_from {X} {Y} R k xs ys y made (i, below, at) =
+    let is_y = λ (z : Y). z ≡ y in
+    let (n, x, inside, here, (j, z, makes, same)) = some_at (λ (x : X). (j : ℕ) × (z : Y) × R j x z × (z ≡ y)) xs (made_any R is_y k xs ys made (some_of is_y ys (i, y, below, at, refl))) in
+    (j, x, (n, inside, here), subst (R j x) same makes)
+
+-- ---- one list of updates
+
+-- what is written of a list of mappings is sound, and nothing else of that list has its destination
+module _ (all : List Mapped) (R : ℕ → Mapped → Planned → Type 0)
+    (told : (k : ℕ) (m : Mapped) (p : Planned) → R k m p → (p.destination ≡ m.destination) × (p.verdict ≡ verdict.Written → IsSound m × ¬ (IsContested all m))) where
+  pair_apart : (j k : ℕ) (m n : Mapped) (p q : Planned) → R j m p → R k n q → Contains all n → ¬ (IsSamePair m n) → AreWrittenApart p q
+  pair_apart j k m n p q of_p of_q has differ p_written q_written d p_to q_to =
+      let (p_is, p_told) = told j m p of_p in
+      let (q_is, q_told) = told k n q of_q in
+      let m_to = sym p_is ∙ p_to in
+      let n_to = sym q_is ∙ q_to in
+      (p_told p_written).1 (n, has, (q_told q_written).0, (d, m_to, n_to), λ same. differ (record { source = same; destination = m_to ∙ sym n_to }))
+
+  each_apart : (j k : ℕ) (m : Mapped) (p : Planned) (l : List Mapped) (ps : List Planned) → R j m p → ((n : Mapped) → Contains l n → Contains all n)
+      → AllByRecursion (λ n. ¬ (IsSamePair m n)) l → IsMadeFrom R k l ps → AllByRecursion (AreWrittenApart p) ps
+  each_apart j k m p [] ps of_p inside differ none = rw none tt
+  each_apart j k m p (n ∷ l) ps of_p inside (here, later) (None, rest, none, more, is) =
+      rw is (each_apart j (k + 1) m p l rest of_p (λ x has. inside x (there n l x has)) later more)
+  each_apart j k m p (n ∷ l) ps of_p inside (here, later) (Some q, rest, of_q, more, is) =
+      rw is (
+        pair_apart j k m n p q of_p of_q (inside n (0, omega arith, refl)) here,
+        each_apart j (k + 1) m p l rest of_p (λ x has. inside x (there n l x has)) later more,
+      )
+
+  list_once : (k : ℕ) (l : List Mapped) (ps : List Planned) → ((n : Mapped) → Contains l n → Contains all n) → AreApart l → IsMadeFrom R k l ps → AreWrittenOnce ps
+  list_once k [] ps inside apart none = rw none tt
+  list_once k (m ∷ l) ps inside (differ, apart) (None, rest, none, more, is) = rw is (list_once (k + 1) l rest (λ x has. inside x (there m l x has)) apart more)
+  list_once k (m ∷ l) ps inside (differ, apart) (Some p, rest, of_p, more, is) =
+      rw is (
+        each_apart k (k + 1) m p l rest of_p (λ x has. inside x (there m l x has)) differ more,
+        list_once (k + 1) l rest (λ x has. inside x (there m l x has)) apart more,
+      )
+
+-- ---- both lists
+
+once_join : (xs ys : List Planned) → AreWrittenOnce xs → AreWrittenOnce ys → ((p q : Planned) → Contains xs p → Contains ys q → AreWrittenApart p q) → AreWrittenOnce (xs ++ ys)
+once_join [] ys once_xs once_ys apart = once_ys
+once_join (p ∷ xs) ys (later, once_xs) once_ys apart = (
+  all_join (AreWrittenApart p) xs ys later (recursion_from_All (AreWrittenApart p) ys (λ k d below. apart p (get_or ys k d) (0, omega arith, refl) (Contains-get_or ys k d below))),
+  once_join xs ys once_xs once_ys (λ x y has. apart x y (there p xs x has)),
+)
+
+-- what the first list writes, the second one doesn't
+first_wins : (asked tracking : List Asked) (indexes : List ℕ) (firsts seconds : List Mapped) (m n : Mapped) (p q : Planned) → Contains firsts m → IsPlanned asked firsts m p → IsPlannedBesides tracking indexes firsts seconds n q → AreWrittenApart p q
+first_wins asked tracking indexes firsts seconds m n p q has of_p of_q p_written q_written d p_to q_to =
+    let first = subst (HasVerdict firsts m) p_written of_p.verdict in
+    let second = subst (HasSecondVerdict firsts seconds n) q_written of_q.verdict in
+    second.1 (m, has, first.0, (d, sym of_q.destination ∙ q_to, sym of_p.destination ∙ p_to))
+
+pub writes_once : (wish : Wish) (refs : List Ref) → WritesOnce wish refs
+writes_once wish refs planned missing plan = subst AreWrittenOnce (sym plan.all) (once_join plan.before plan.behind
+    (list_once plan.firsts (λ k m p. IsPlanned plan.asked plan.firsts m p)
+    (λ k m p of. (of.destination, λ written. subst (HasVerdict plan.firsts m) written of.verdict))
+    0 plan.firsts plan.before (λ n has. has) (mappings_of plan.asked refs plan.firsts plan.are_firsts).apart plan.are_before)
+    (list_once plan.seconds (λ k m p. IsPlannedBesides plan.tracking plan.indexes plan.firsts plan.seconds m p)
+    (λ k m p of. (of.destination, λ written. let is = subst (HasSecondVerdict plan.firsts plan.seconds m) written of.verdict in (is.0, is.2)))
+    0 plan.seconds plan.behind (λ n has. has) (tracked_mappings wish refs plan.tracking plan.indexes plan.seconds plan.are_seconds).apart plan.are_behind)
+    (λ p q has_p has_q.
+    let (j, m, has, of_p) = made_from (λ k m p. IsPlanned plan.asked plan.firsts m p) 0 plan.firsts plan.before p plan.are_before has_p in
+    let (k, n, also, of_q) = made_from (λ k m p. IsPlannedBesides plan.tracking plan.indexes plan.firsts plan.seconds m p) 0 plan.seconds plan.behind q plan.are_behind has_q in
+    first_wins plan.asked plan.tracking plan.indexes plan.firsts plan.seconds m n p q has of_p of_q))

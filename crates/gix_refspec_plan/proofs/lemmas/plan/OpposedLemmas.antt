@@ -1,0 +1,170 @@
+-- An update is in conflict exactly if it conflicts with another one.
+use Rattle.std.proofs.Common.{◌≡◌, ◌⊎◌, inl, inr, ◌↔◌, ℕ, suc, ◌<◌, List, [], ◌∷◌, Option, None, Some, IsSome, MatchOption, get_or, length, refl, sym, ◌∙◌, subst, arith}
+use Rattle.std.specs.List.{Contains, slice_get}
+use Rattle.std.proofs.lemmas.List.{get_or_default}
+use Rattle.std.proofs.lemmas.List.Elements.{All-from_recursion, Contains-append_cases, Contains-append_left, Contains-append_right, Contains-get_or, recursion_from_All}
+use Rattle.std.proofs.lemmas.Option.{slice_get_read}
+use Rattle.gix_refspec_plan.specs.declared.Origin.{Origin}
+use Rattle.gix_refspec_plan.specs.declared.Verdict.{Verdict}
+use Rattle.gix_refspec_plan.specs.declared.Verdict.TheVariants as verdict
+use Rattle.gix_refspec.specs.declared.match_group.ref_names.InvalidSide.{InvalidSide}
+use Rattle.gix_refspec.specs.declared.match_group.ref_names.InvalidSide.TheVariants as invalid
+use Rattle.gix_refspec_text.specs.Matching.Match.{Ref}
+use Rattle.gix_refspec_match.specs.Matching.Lists.{IsMadeFrom}
+use Rattle.gix_refspec_match.specs.Matching.Mappings.{HasPair, IsSamePair, Mapped}
+use Rattle.gix_refspec_match.proofs.lemmas.lists.SomeLemmas.{MakesOnly, any_made, some_at, some_of}
+use Rattle.gix_refspec.specs.Matching.RefNames.{IsValidSource}
+use Rattle.gix_refspec_plan.specs.Matching.Plan.{Asked, CanBeWritten, HasOrigin, HasSecondVerdict, HasVerdict, IsContested, IsPlan, IsPlanned, IsPlannedBesides, IsSound, IsTakenOver, IsUnwritableAt, Planned, Wish}
+use Rattle.gix_refspec_plan.specs.Laws.Fetches.{ConflictsExactly, DoConflict}
+use Rattle.gix_refspec_plan.proofs.lemmas.plan.JudgeLemmas.{mappings_of, tracked_mappings}
+use Rattle.gix_refspec_plan.proofs.lemmas.plan.OnceLemmas.{made_from}
+
+-- what is made of an element, if something is, and each such thing is as P says
+pub made_has : {X Y : Type 0} (R : ℕ → X → Y → Type 0) (P : Y → Type 0) (k : ℕ) (xs : List X) (ys : List Y) (x : X) → IsMadeFrom R k xs ys → Contains xs x
+    → ((j : ℕ) → (y : Y) × R j x y) → ((j : ℕ) (z : Y) → R j x z → P z) → (z : Y) × Contains ys z × P z
+made_has R P k xs ys x made (i, below, at) makes only =
+    let (n, z, inside, here, is) = some_at P ys (any_made R P k xs ys made (some_of (MakesOnly R P) xs (i, x, below, at, λ j. ((makes j).0, (makes j).1, only j)))) in
+    (z, (n, inside, here), is)
+
+-- ---- verdicts
+
+-- a mapping with an invalid side isn't sound
+pub unsound : (side : InvalidSide) (m : Mapped) → IsUnwritableAt side m → ¬ (IsSound m)
+unsound invalid.Source m (bad, good) sound = bad sound.source
+unsound invalid.Destination m (good, bad) sound = bad sound.destination
+unsound invalid.Both m (bad, also) sound = bad sound.source
+
+module _ (l : List Mapped) (m : Mapped) where
+  sound_of : (v : Verdict) → HasVerdict l m v → (v ≡ verdict.Written) ⊎ (v ≡ verdict.InConflict) → IsSound m
+  sound_of v has (inl is) = (subst (HasVerdict l m) is has).0
+  sound_of v has (inr is) = (subst (HasVerdict l m) is has).0
+
+  pub conflict_of : (v : Verdict) → IsSound m → IsContested l m → HasVerdict l m v → v ≡ verdict.InConflict
+  conflict_of verdict.Written sound contested has = absurd (has.1 contested)
+  conflict_of (verdict.LeftOut side) sound contested has = absurd (unsound side m has sound)
+  conflict_of verdict.InConflict sound contested has = refl
+  conflict_of verdict.Overruled sound contested has = absurd has
+
+module _ (firsts l : List Mapped) (m : Mapped) where
+  second_sound_of : (v : Verdict) → HasSecondVerdict firsts l m v → (v ≡ verdict.Written) ⊎ (v ≡ verdict.InConflict) → IsSound m × ¬ (IsTakenOver firsts m)
+  second_sound_of v has (inl is) = let told = subst (HasSecondVerdict firsts l m) is has in (told.0, told.1)
+  second_sound_of v has (inr is) = let told = subst (HasSecondVerdict firsts l m) is has in (told.0, told.1)
+
+  pub second_conflict_of : (v : Verdict) → IsSound m → ¬ (IsTakenOver firsts m) → IsContested l m → HasSecondVerdict firsts l m v → v ≡ verdict.InConflict
+  second_conflict_of verdict.Written sound free contested has = absurd (has.2 contested)
+  second_conflict_of (verdict.LeftOut side) sound free contested has = absurd (unsound side m has sound)
+  second_conflict_of verdict.InConflict sound free contested has = refl
+  second_conflict_of verdict.Overruled sound free contested has = absurd (free has.1)
+
+-- ---- what is planned for a mapping
+
+-- the origin of a spec at an index
+origin_of : (asked : List Asked) (m : Mapped) → m.spec < length asked → (o : Origin) × HasOrigin asked m o
+origin_of [] m below = absurd (omega (arith, below))
+origin_of (a ∷ asked) m below =
+    let all = a ∷ asked in
+    let b = get_or all m.spec a in
+    (b.origin, (b, slice_get_read all (length all) m.spec b refl below (get_or_default all m.spec a b below), refl))
+
+-- the index among all refs, of an index among those that are taken
+item_of : (indexes : List ℕ) (j : Option ℕ) → (item : Option ℕ) × MatchOption j (item ≡ None) (λ i. slice_get indexes i ≡ item)
+item_of indexes None = (None, refl)
+item_of indexes (Some j) = (slice_get indexes j, refl)
+
+-- a pair that some mapping has
+pub pair_in : (l : List Mapped) (m : Mapped) → HasPair l m → (n : Mapped) × Contains l n × IsSamePair n m
+pair_in [] m has = absurd has
+pair_in (x ∷ l) m (inl same) = (x, (0, omega arith, refl), same)
+pair_in (x ∷ l) m (inr has) = let (n, (i, below, at), same) = pair_in l m has in (n, (suc i, omega (arith, below), at), same)
+
+sound_pair : (m n : Mapped) → IsSamePair m n → IsSound n → IsSound m
+sound_pair m n same sound = record { source = subst IsValidSource (sym same.source) sound.source; destination = subst CanBeWritten (sym same.destination) sound.destination }
+
+-- a mapping whose destination some first one has
+taken_from : (firsts : List Mapped) (m n : Mapped) (d : List ℕ) → m.destination ≡ Some d → n.destination ≡ Some d → IsTakenOver firsts n → IsTakenOver firsts m
+taken_from firsts m n d m_to n_to (x, has, sound, (e, from, to)) = (x, has, sound, (d, m_to, to ∙ sym from ∙ n_to))
+
+-- the updates of a plan
+module _ (wish : Wish) (refs : List Ref) (planned : List Planned) (missing : List Origin) (plan : IsPlan wish refs planned missing) where
+  -- an update is made of a mapping of the first list, or of the second
+  update_cases : (p : Planned) → Contains planned p
+      → ((m : Mapped) × Contains plan.firsts m × IsPlanned plan.asked plan.firsts m p) ⊎ ((m : Mapped) × Contains plan.seconds m × IsPlannedBesides plan.tracking plan.indexes plan.firsts plan.seconds m p)
+  update_cases p has = elim (Contains-append_cases plan.before plan.behind p (subst (λ (l : List Planned). Contains l p) plan.all has)) [
+    | inl before ↦ let (j, m, in_firsts, of_p) = made_from (λ k m p. IsPlanned plan.asked plan.firsts m p) 0 plan.firsts plan.before p plan.are_before before in inl (m, in_firsts, of_p)
+    | inr behind ↦ let (j, m, in_seconds, of_p) = made_from (λ k m p. IsPlannedBesides plan.tracking plan.indexes plan.firsts plan.seconds m p) 0 plan.seconds plan.behind p plan.are_behind behind in inr (m, in_seconds, of_p)
+  ]
+
+  -- a contested mapping of the first list has an update in conflict
+  first_in_conflict : (n : Mapped) → Contains plan.firsts n → IsSound n → IsContested plan.firsts n
+      → (q : Planned) × Contains planned q × ((q.verdict ≡ verdict.InConflict) × (q.source ≡ n.source) × (q.destination ≡ n.destination))
+  first_in_conflict n has sound contested =
+      let (o, from) = origin_of plan.asked n (spec_in n has) in
+      let (q, inside, is) = made_has (λ k m p. IsPlanned plan.asked plan.firsts m p) (λ q. (q.verdict ≡ verdict.InConflict) × (q.source ≡ n.source) × (q.destination ≡ n.destination)) 0 plan.firsts plan.before n plan.are_before has
+      (λ j. (record { source = n.source; item = n.item; destination = n.destination; origin = o; verdict = verdict.InConflict }, record { source = refl; item = refl; destination = refl; origin = from; verdict = (sound, contested) }))
+      (λ j z of_z. (conflict_of plan.firsts n z.verdict sound contested of_z.verdict, of_z.source, of_z.destination)) in
+      (q, subst (λ (l : List Planned). Contains l q) (sym plan.all) (Contains-append_left plan.before plan.behind q inside), is)
+    where
+      spec_in : (n : Mapped) → Contains plan.firsts n → n.spec < length plan.asked
+      spec_in n (i, below, at) = subst (λ (x : Mapped). x.spec < length plan.asked) at (All-from_recursion (λ x. x.spec < length plan.asked) plan.firsts (mappings_of plan.asked refs plan.firsts plan.are_firsts).fit i n below)
+
+  -- so has one of the second list, unless it is overruled
+  second_in_conflict : (n : Mapped) (d : List ℕ) → Contains plan.seconds n → IsSound n → n.destination ≡ Some d → ¬ (IsTakenOver plan.firsts n) → IsContested plan.seconds n
+      → (q : Planned) × Contains planned q × ((q.verdict ≡ verdict.InConflict) × (q.source ≡ n.source) × (q.destination ≡ n.destination))
+  second_in_conflict n d has sound to free contested =
+      let (o, from) = origin_of plan.tracking n (spec_in n has) in
+      let (item, among) = item_of plan.indexes n.item in
+      let (q, inside, is) = made_has (λ k m p. IsPlannedBesides plan.tracking plan.indexes plan.firsts plan.seconds m p) (λ q. (q.verdict ≡ verdict.InConflict) × (q.source ≡ n.source) × (q.destination ≡ n.destination)) 0 plan.seconds plan.behind n plan.are_behind has
+      (λ j. (
+        record { source = n.source; item = item; destination = n.destination; origin = o; verdict = verdict.InConflict },
+        record { updates = subst IsSome (sym to) refl; new = unpaired; source = refl; item = among; destination = refl; origin = from; verdict = (sound, free, contested) },
+      ))
+      (λ j z of_z. (second_conflict_of plan.firsts plan.seconds n z.verdict sound free contested of_z.verdict, of_z.source, of_z.destination)) in
+      (q, subst (λ (l : List Planned). Contains l q) (sym plan.all) (Contains-append_right plan.before plan.behind q inside), is)
+    where
+      spec_in : (n : Mapped) → Contains plan.seconds n → n.spec < length plan.tracking
+      spec_in n (i, below, at) = subst (λ (x : Mapped). x.spec < length plan.tracking) at (All-from_recursion (λ x. x.spec < length plan.tracking) plan.seconds (tracked_mappings wish refs plan.tracking plan.indexes plan.seconds plan.are_seconds).fit i n below)
+
+      unpaired : ¬ (HasPair plan.firsts n)
+      unpaired pair = let (x, inside, same) = pair_in plan.firsts n pair in free (x, inside, sound_pair x n same sound, (d, to, same.destination ∙ to))
+
+  pub opposed : (p : Planned) → Contains planned p → p.verdict ≡ verdict.InConflict → (q : Planned) × Contains planned q × DoConflict p q
+  opposed p has is = elim (update_cases p has) [
+    | inl (m, inside, of_p) ↦
+        let (sound, (n, also, sound_n, (d, from, to), differ)) = subst (HasVerdict plan.firsts m) is of_p.verdict in
+        let (q, has_q, (q_is, q_source, q_destination)) = first_in_conflict n also sound_n (m, inside, sound, (d, to, from), λ same. differ (sym same)) in
+        (q, has_q, record { one = inr is; other = inr q_is; destination = d; one_to = of_p.destination ∙ from; other_to = q_destination ∙ to; differ = λ same. differ (sym of_p.source ∙ same ∙ q_source) })
+    | inr (m, inside, of_p) ↦
+        let (sound, free, (n, also, sound_n, (d, from, to), differ)) = subst (HasSecondVerdict plan.firsts plan.seconds m) is of_p.verdict in
+        let (q, has_q, (q_is, q_source, q_destination)) = second_in_conflict n d also sound_n to (λ taken. free (taken_from plan.firsts m n d from to taken)) (m, inside, sound, (d, to, from), λ same. differ (sym same)) in
+        (q, has_q, record { one = inr is; other = inr q_is; destination = d; one_to = of_p.destination ∙ from; other_to = q_destination ∙ to; differ = λ same. differ (sym of_p.source ∙ same ∙ q_source) })
+  ]
+
+  -- an update that conflicts with another one is in conflict
+  pub in_conflict : (p q : Planned) → Contains planned p → Contains planned q → DoConflict p q → p.verdict ≡ verdict.InConflict
+  in_conflict p q has_p has_q both = by (update_cases p has_p) (update_cases q has_q)
+    where
+      by : ((m : Mapped) × Contains plan.firsts m × IsPlanned plan.asked plan.firsts m p) ⊎ ((m : Mapped) × Contains plan.seconds m × IsPlannedBesides plan.tracking plan.indexes plan.firsts plan.seconds m p)
+          → ((m : Mapped) × Contains plan.firsts m × IsPlanned plan.asked plan.firsts m q) ⊎ ((m : Mapped) × Contains plan.seconds m × IsPlannedBesides plan.tracking plan.indexes plan.firsts plan.seconds m q)
+          → p.verdict ≡ verdict.InConflict
+      by (inl (m, in_m, of_p)) (inl (n, in_n, of_q)) =
+          conflict_of plan.firsts m p.verdict (sound_of plan.firsts m p.verdict of_p.verdict both.one)
+          (n, in_n, sound_of plan.firsts n q.verdict of_q.verdict both.other, (both.destination, sym of_p.destination ∙ both.one_to, sym of_q.destination ∙ both.other_to), λ same. both.differ (of_p.source ∙ same ∙ sym of_q.source))
+          of_p.verdict
+      by (inl (m, in_m, of_p)) (inr (n, in_n, of_q)) =
+          absurd ((second_sound_of plan.firsts plan.seconds n q.verdict of_q.verdict both.other).1 (m, in_m, sound_of plan.firsts m p.verdict of_p.verdict both.one, (both.destination, sym of_q.destination ∙ both.other_to, sym of_p.destination ∙ both.one_to)))
+      by (inr (m, in_m, of_p)) (inl (n, in_n, of_q)) =
+          absurd ((second_sound_of plan.firsts plan.seconds m p.verdict of_p.verdict both.one).1 (n, in_n, sound_of plan.firsts n q.verdict of_q.verdict both.other, (both.destination, sym of_p.destination ∙ both.one_to, sym of_q.destination ∙ both.other_to)))
+      by (inr (m, in_m, of_p)) (inr (n, in_n, of_q)) =
+          let (sound, free) = second_sound_of plan.firsts plan.seconds m p.verdict of_p.verdict both.one in
+          let (sound_n, free_n) = second_sound_of plan.firsts plan.seconds n q.verdict of_q.verdict both.other in
+          second_conflict_of plan.firsts plan.seconds m p.verdict sound free
+          (n, in_n, sound_n, (both.destination, sym of_p.destination ∙ both.one_to, sym of_q.destination ∙ both.other_to), λ same. both.differ (of_p.source ∙ same ∙ sym of_q.source))
+          of_p.verdict
+
+  in_conflict_exactly : (p : Planned) → Contains planned p → (p.verdict ≡ verdict.InConflict) ↔ ((q : Planned) × Contains planned q × DoConflict p q)
+  in_conflict_exactly p has = ((λ is. opposed p has is), (λ (q, has_q, both). in_conflict p q has has_q both))
+
+pub conflicts_exactly : (wish : Wish) (refs : List Ref) → ConflictsExactly wish refs
+conflicts_exactly wish refs planned missing plan =
+    recursion_from_All (λ p. (p.verdict ≡ verdict.InConflict) ↔ ((q : Planned) × Contains planned q × DoConflict p q)) planned
+    (λ k d below. in_conflict_exactly wish refs planned missing plan (get_or planned k d) (Contains-get_or planned k d below))

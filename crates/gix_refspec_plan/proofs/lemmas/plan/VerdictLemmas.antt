@@ -1,0 +1,213 @@
+-- Which destinations are written, and the verdicts by that.
+use Rattle.std.proofs.Common.{◌≡◌, ◌≢◌, ◌⊎◌, ◌↔◌, inl, inr, ℕ, zero, suc, ◌+◌, ◌<◌, Bool, Bor, true, false, cond, List, [], ◌∷◌, ◌++◌, Option, None, Some, is_some, unwrap_or, bytes_eq, map, take, get_or, length, refl, sym, ap, ◌∙◌, subst, arith}
+use Rattle.std.specs.BTreeMap.{BTreeMap, UpdatesBy, get_by, is_at}
+use Rattle.std.specs.Map.{lookup}
+use Rattle.std.specs.Cmp.Lexicographic.{slice_cmp}
+use Rattle.std.specs.Ordering.{nat_cmp}
+use Rattle.std.specs.List.{Any, Contains}
+use Rattle.std.proofs.lemmas.Bool.{false≢true}
+use Rattle.std.proofs.lemmas.List.{map_more}
+use Rattle.std.proofs.lemmas.List.Elements.{All-from_recursion, Contains-append_left, Contains-push_cases}
+use Rattle.std.proofs.lemmas.List.Quantifiers.{Any-push}
+use Rattle.std.proofs.lemmas.Map.Text.{btree_map_updates_str}
+use Rattle.std.proofs.lemmas.Slice.Eq.{bytes_eq-Decides}
+use Rattle.gix_refspec_match.specs.declared.types.Mapping.{Mapping}
+use Rattle.gix_refspec_match.specs.Matching.Mappings.{Mapped, IsSamePair, AreApart}
+use Rattle.gix_refspec_match.specs.Views.Mapping.{mapped_of}
+use Rattle.gix_refspec.specs.Matching.Validation.{HasConflictAt}
+use Rattle.gix_refspec_plan.specs.Matching.Plan.{IsContested, IsSound, IsTakenOver}
+use Rattle.gix_refspec_plan.specs.Private.Verdicts.{CountDestinations, HasTwo, IsCount, TellContested, WritesTo}
+use Rattle.gix_refspec.proofs.lemmas.validate.FirstLemmas.{start_cases}
+
+-- ---- one element or two
+
+module _ {X : Type 0} (P : X → Type 0) where
+  any_left : (l : List X) (x : X) → Any P l → Any P (l ++ x ∷ [])
+  any_left l x (i, y, below, at, is) = let has = Contains-append_left l (x ∷ []) y (i, below, at) in (has.0, y, has.1, has.2, is)
+
+  any_cases : (l : List X) (x : X) → Any P (l ++ x ∷ []) → Any P l ⊎ P x
+  any_cases l x (i, y, below, at, is) = elim (Contains-push_cases l x y (i, below, at)) [
+    | inl has ↦ inl (has.0, y, has.1, has.2, is)
+    | inr same ↦ inr (subst P (sym same) is)
+  ]
+
+  any_later : (l : List X) (x : X) → Any P l → Any P (x ∷ l)
+  any_later l x (i, y, below, at, is) = (suc i, y, omega (arith, below), at, is)
+
+  two_any : (l : List X) → HasTwo P l → Any P l
+  two_any [] two = absurd two
+  two_any (x ∷ l) (inl (is, any)) = (0, x, omega arith, refl, is)
+  two_any (x ∷ l) (inr two) = any_later l x (two_any l two)
+
+  two_left : (l : List X) (x : X) → HasTwo P l → HasTwo P (l ++ x ∷ [])
+  two_left [] x two = absurd two
+  two_left (y ∷ l) x (inl (is, any)) = inl (is, any_left l x any)
+  two_left (y ∷ l) x (inr two) = inr (two_left l x two)
+
+  two_push : (l : List X) (x : X) → Any P l → P x → HasTwo P (l ++ x ∷ [])
+  two_push [] x (i, y, below, at, is) last = absurd (omega (arith, below))
+  two_push (z ∷ l) x (zero, y, below, at, is) last = inl (subst P (sym at) is, Any-push P l x last)
+  two_push (z ∷ l) x (suc i, y, below, at, is) last = inr (two_push l x (i, y, omega (arith, below), at, is) last)
+
+  two_cases : (l : List X) (x : X) → HasTwo P (l ++ x ∷ []) → HasTwo P l ⊎ (Any P l × P x)
+  two_cases [] x (inl (is, (i, y, below, at, also))) = absurd (omega (arith, below))
+  two_cases [] x (inr two) = absurd two
+  two_cases (y ∷ l) x (inl (is, any)) = elim (any_cases l x any) [
+    | inl before ↦ inl (inl (is, before))
+    | inr last ↦ inr ((0, y, omega arith, refl, is), last)
+  ]
+  two_cases (y ∷ l) x (inr two) = elim (two_cases l x two) [
+    | inl before ↦ inl (inr before)
+    | inr (any, last) ↦ inr (any_later l y any, last)
+  ]
+
+  -- two different elements are two
+  two_of : (l : List X) (m n : X) → Contains l m → Contains l n → P m → P n → m ≢ n → HasTwo P l
+  two_of [] m n (i, below, at) has is also differ = absurd (omega (arith, below))
+  two_of (x ∷ l) m n (zero, below, at) (zero, below2, at2) is also differ = absurd (differ (sym at ∙ at2))
+  two_of (x ∷ l) m n (zero, below, at) (suc j, below2, at2) is also differ = inl (subst P (sym at) is, (j, n, omega (arith, below2), at2, also))
+  two_of (x ∷ l) m n (suc i, below, at) (zero, below2, at2) is also differ = inl (subst P (sym at2) also, (i, m, omega (arith, below), at, is))
+  two_of (x ∷ l) m n (suc i, below, at) (suc j, below2, at2) is also differ = inr (two_of l m n (i, omega (arith, below), at) (j, omega (arith, below2), at2) is also differ)
+
+-- ---- destinations that are counted
+
+count_same : (l : List Mapped) (x : Mapped) (d : List ℕ) (w : Option Bool) → ¬ (WritesTo d x) → IsCount l d w → IsCount (l ++ x ∷ []) d w
+count_same l x d None other none = λ any. elim (any_cases (WritesTo d) l x any) [
+  | inl before ↦ none before
+  | inr last ↦ other last
+]
+count_same l x d (Some several) other (any, told) = (
+  any_left (WritesTo d) l x any,
+  (
+    (λ is. two_left (WritesTo d) l x (told.0 is)),
+    (λ two. elim (two_cases (WritesTo d) l x two) [
+      | inl before ↦ told.1 before
+      | inr (before, last) ↦ absurd (other last)
+    ]),
+  ),
+)
+
+count_next : (l : List Mapped) (x : Mapped) (d : List ℕ) (w : Option Bool) → WritesTo d x → IsCount l d w → IsCount (l ++ x ∷ []) d (Some (is_some w))
+count_next l x d None is none = (
+  Any-push (WritesTo d) l x is,
+  (
+    (λ told. absurd (false≢true told)),
+    (λ two. elim (two_cases (WritesTo d) l x two) [
+      | inl before ↦ absurd (none (two_any (WritesTo d) l before))
+      | inr (before, last) ↦ absurd (none before)
+    ]),
+  ),
+)
+count_next l x d (Some several) is (any, told) = (Any-push (WritesTo d) l x is, ((λ true. two_push (WritesTo d) l x any is), (λ two. refl)))
+
+-- what is known of a destination
+abbrev pub count_at : BTreeMap (Bor (List ℕ)) Bool → List ℕ → Option Bool
+count_at counts d = get_by (λ k. slice_cmp nat_cmp d k.now) counts
+
+module _ (ms : List Mapping) (i : ℕ) (m : Mapping) (old : BTreeMap (Bor (List ℕ)) Bool) (below : i < length ms) (is : m ≡ get_or ms i m) (so_far : CountDestinations (map mapped_of (take i ms)) old) where
+  with_mapping : (new : BTreeMap (Bor (List ℕ)) Bool) → CountDestinations (map mapped_of (take i ms) ++ mapped_of m ∷ []) new → CountDestinations (map mapped_of (take (i + 1) ms)) new
+  with_mapping new are = rw (map_more mapped_of ms i m below, ← is) are
+
+  -- a mapping that writes no destination
+  pub counted_same : ((d : List ℕ) → ¬ (WritesTo d (mapped_of m))) → CountDestinations (map mapped_of (take (i + 1) ms)) old
+  counted_same none = with_mapping old (λ d. count_same (map mapped_of (take i ms)) (mapped_of m) d (count_at old d) (none d) (so_far d))
+
+  -- the destination of one more mapping
+  pub counted_more : (new : BTreeMap (Bor (List ℕ)) Bool) (e : Bor (List ℕ)) (several : Bool) → WritesTo e.now (mapped_of m) → several ≡ is_some (count_at old e.now)
+      → UpdatesBy (λ x y. slice_cmp nat_cmp x.now y.now) (λ k. slice_cmp nat_cmp e.now k.now) old new (Some several) → CountDestinations (map mapped_of (take (i + 1) ms)) new
+  counted_more new e several writes known updates = with_mapping new (λ d. by d (bytes_eq e.now d) refl (btree_map_updates_str e.now old new (Some several) updates d))
+    where
+      l : List Mapped
+      l = map mapped_of (take i ms)
+
+      one : (d : List ℕ) → WritesTo d (mapped_of m) → e.now ≡ d
+      one d also = let both : Some e.now ≡ Some d = sym writes.1 ∙ also.1 in cc
+
+      by : (d : List ℕ) (b : Bool) → bytes_eq e.now d ≡ b → count_at new d ≡ cond b (Some several) (count_at old d) → IsCount (l ++ mapped_of m ∷ []) d (count_at new d)
+      by d true same found =
+          let here : e.now ≡ d = (bytes_eq-Decides e.now d).0 same in
+          subst (IsCount (l ++ mapped_of m ∷ []) d) (sym (found ∙ ap Some (known ∙ ap (λ x. is_some (count_at old x)) here))) (count_next l (mapped_of m) d (count_at old d) (subst (λ x. WritesTo x (mapped_of m)) here writes) (so_far d))
+      by d false other found =
+          subst (IsCount (l ++ mapped_of m ∷ []) d) (sym found) (count_same l (mapped_of m) d (count_at old d) (λ also. false≢true (sym other ∙ (bytes_eq-Decides e.now d).1 (one d also))) (so_far d))
+
+-- ---- verdicts
+
+-- two mappings to a destination, from different sources
+record IsRivalry (l : List Mapped) (d : List ℕ) : Type 0 where
+  one : Mapped
+  other : Mapped
+  has_one : Contains l one
+  has_other : Contains l other
+  one_writes : WritesTo d one
+  other_writes : WritesTo d other
+  differ : one.source ≢ other.source
+
+rivalry : (l : List Mapped) (d : List ℕ) → AreApart l → HasTwo (WritesTo d) l → IsRivalry l d
+rivalry [] d apart two = absurd two
+rivalry (x ∷ l) d apart (inl (writes, (i, y, below, at, also))) = record {
+  one = x;
+  other = y;
+  has_one = (0, omega arith, refl);
+  has_other = (suc i, omega (arith, below), at);
+  one_writes = writes;
+  other_writes = also;
+  differ = λ same. subst (λ (z : Mapped). ¬ (IsSamePair x z)) at (All-from_recursion (λ z. ¬ (IsSamePair x z)) l apart.0 i y below) (record { source = same; destination = writes.1 ∙ sym also.1 });
+}
+rivalry (x ∷ l) d apart (inr two) = let r = rivalry l d apart.1 two in record {
+  one = r.one;
+  other = r.other;
+  has_one = (let has = r.has_one in (suc has.0, (let below = has.1 in omega (arith, below)), has.2));
+  has_other = (let has = r.has_other in (suc has.0, (let below = has.1 in omega (arith, below)), has.2));
+  one_writes = r.one_writes;
+  other_writes = r.other_writes;
+  differ = r.differ;
+}
+
+-- what is counted tells of each destination whether it is contested
+pub counted_contested : (l : List Mapped) (counts : BTreeMap (Bor (List ℕ)) Bool) → CountDestinations l counts → TellContested l counts
+counted_contested l counts are d = by (count_at counts d) (are d)
+  where
+    by : (w : Option Bool) → IsCount l d w → (unwrap_or w false ≡ true) ↔ HasTwo (WritesTo d) l
+    by None none = ((λ told. absurd (false≢true told)), (λ two. absurd (none (two_any (WritesTo d) l two))))
+    by (Some several) (any, told) = told
+
+-- where no destination is in conflict, an empty map tells that
+pub none_contested : (l : List Mapped) (empty : BTreeMap (Bor (List ℕ)) Bool) → AreApart l → ((d : List ℕ) → ¬ (HasConflictAt l d)) → empty.entries ≡ [] → TellContested l empty
+none_contested l empty apart free none d = (
+  (λ told. absurd (false≢true (subst (λ (es : List (Bor (List ℕ) × Bool)). unwrap_or (lookup (is_at (λ k. slice_cmp nat_cmp d k.now)) es) false ≡ true) none told))),
+  (λ two.
+      let r = rivalry l d apart two in
+      absurd (free d (record {
+        one = r.one;
+        other = r.other;
+        has_one = r.has_one;
+        has_other = r.has_other;
+        one_to = r.one_writes.1;
+        other_to = r.other_writes.1;
+        differ = r.differ;
+      }))),
+)
+
+module _ (m : Mapped) (d : List ℕ) (goes : m.destination ≡ Some d) where
+  taken_any : (l : List Mapped) → IsTakenOver l m → Any (WritesTo d) l
+  taken_any l (n, (i, below, at), sound, (e, from, to)) = (i, n, below, at, (sound, to ∙ sym from ∙ goes))
+
+  pub is_taken : (l : List Mapped) (w : Option Bool) → IsCount l d w → is_some w ≡ true → IsTakenOver l m
+  is_taken l None none told = absurd (false≢true told)
+  is_taken l (Some several) ((i, n, below, at, (sound, to)), whether) told = (n, (i, below, at), sound, (d, goes, to))
+
+  pub not_taken : (l : List Mapped) (w : Option Bool) → IsCount l d w → is_some w ≡ false → ¬ (IsTakenOver l m)
+  not_taken l None none told = λ taken. none (taken_any l taken)
+  not_taken l (Some several) count told = absurd (false≢true (sym told))
+
+  pub is_contested : (l : List Mapped) (several : Bool) → AreApart l → (several ≡ true) ↔ HasTwo (WritesTo d) l → several ≡ true → IsContested l m
+  is_contested l several apart tells told =
+      let r = rivalry l d apart (tells.0 told) in
+      elim (start_cases m.source r.one.source) [
+        | inl same ↦ (r.other, r.has_other, r.other_writes.0, (d, goes, r.other_writes.1), (λ also. r.differ (sym same ∙ also)))
+        | inr differ ↦ (r.one, r.has_one, r.one_writes.0, (d, goes, r.one_writes.1), differ)
+      ]
+
+  pub not_contested : (l : List Mapped) (several : Bool) → IsSound m → Contains l m → (several ≡ true) ↔ HasTwo (WritesTo d) l → several ≡ false → ¬ (IsContested l m)
+  not_contested l several sound has tells told =
+      λ (n, contains, sound_n, (e, from, to), differ). false≢true (sym told ∙ tells.1 (two_of (WritesTo d) l m n has contains (sound, goes) (sound_n, to ∙ sym from ∙ goes) (λ same. differ (ap (λ (x : Mapped). x.source) same))))

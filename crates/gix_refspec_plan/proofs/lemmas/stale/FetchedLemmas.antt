@@ -1,0 +1,353 @@
+-- What a fetch writes, and what could be written from an object or from a ref of the remote.
+use Rattle.std.proofs.Common.{◌≡◌, ◌⊎◌, inl, inr, ℕ, zero, suc, List, [], ◌∷◌, ◌++◌, ◌||◌, if◌then◌else◌, ◌≢◌, MatchOption, Bool, true, false, Option, None, Some, length, codes, drop, nat_eq, refl, sym, ap, ◌∙◌, subst, arith}
+use Rattle.std.specs.List.{AllByRecursion, Any, Contains, starts_with}
+use Rattle.std.proofs.lemmas.Bool.Decides.{Decides-eqb}
+use Rattle.std.proofs.lemmas.Slice.Eq.{starts_is}
+use Rattle.gix_refspec_text.specs.Texts.Bytes.{star}
+use Rattle.gix_refspec_text.specs.Texts.Words.{BeginsWith, Lacks}
+use Rattle.gix_refspec_text.specs.Texts.Name.{HasOneStar, HasStar}
+use Rattle.gix_refspec_text.specs.declared.oid.Kind.{Kind}
+use Rattle.gix_refspec_text.specs.declared.oid.Kind.TheVariants.{Sha1, Sha256}
+use Rattle.gix_refspec_text.specs.Texts.ObjectId.{IsIdText, bytes_of}
+use Rattle.gix_refspec_text.specs.Specs.Reading.{Reading}
+use Rattle.gix_refspec_text.specs.Specs.Grammar.{IsAccepted, IsPositive}
+use Rattle.gix_refspec_text.specs.Matching.Side.{SideKind, pattern, full_name, object, partial, HasKind, IsCandidate, filled, written_name_of}
+use Rattle.gix_refspec_text.specs.Matching.Match.{Ref, HasName, Matches, MatchesAs, IsFirstCandidate, Takes}
+use Rattle.gix_refspec_text.proofs.lemmas.hits.CandidateLemmas.{first_candidate, some_first}
+use Rattle.gix_refspec_text.proofs.lemmas.lists.AllLemmas.{all_join}
+use Rattle.gix_refspec_text.proofs.lemmas.lists.LacksLemmas.{Lacks-here}
+use Rattle.gix_refspec_text.proofs.lemmas.texts.TextLemmas.{Lacks-ContainsText}
+use Rattle.gix_refspec_text.proofs.facts.ManualFacts.{Lacks-tested}
+use Rattle.gix_refspec_match.specs.Matching.Mappings.{Source, name, id, Mapped, HasPair, IsSamePair, IsExcluded, IsSourceExcluded}
+use Rattle.gix_refspec_match.specs.Matching.Hits.{AreKeptForward, IsFilled}
+use Rattle.gix_refspec_match.proofs.lemmas.hits.HitLemmas.{matches_as, one_forward, one_kind}
+use Rattle.gix_refspec.specs.Laws.Matching.{IsPaired, MakesForward, PairsId}
+use Rattle.gix_refspec_plan.specs.Matching.Plan.{IsCompleted}
+use Rattle.gix_refspec_plan.specs.Matching.Stale.{CanWriteFrom, CanWriteObject, IsFetched, IsSourceOf, IsWritableFromObject, ref_named}
+use Rattle.gix_refspec_plan.specs.Private.Plans.{AreMappedBy}
+use Rattle.gix_refspec_plan.specs.Private.Stales.{HasDestination}
+use Rattle.gix_refspec.proofs.lemmas.keep.PairMadeLemmas.{kept_exactly}
+use Rattle.gix_refspec.proofs.lemmas.specs.SideLawLemmas.{sides_agree}
+use Rattle.gix_refspec_plan.proofs.lemmas.plan.OnePlanLemmas.{completed_once, reading_once}
+use Rattle.gix_refspec_plan.proofs.lemmas.plan.OpposedLemmas.{pair_in}
+use Rattle.gix_refspec_plan.proofs.lemmas.stale.ZipLemmas.{completed_excluded, there_any, zip_first, zip_partner, zip_there}
+
+-- ---- lists
+
+pub contained_pair : (l : List Mapped) (m : Mapped) → Contains l m → HasPair l m
+contained_pair [] m (k, below, is) = absurd (omega (arith, below))
+contained_pair (x ∷ l) m (zero, below, is) = inl (subst (λ (y : Mapped). IsSamePair y m) (sym is) (record { source = refl; destination = refl }))
+contained_pair (x ∷ l) m (suc k, below, is) = inr (contained_pair l m (k, omega (arith, below), is))
+
+-- a name that refs have is that of one
+pub named_some : (P : Ref → Type 0) (refs : List Ref) (n : List ℕ) → HasName refs n → ((r : Ref) → r.name ≡ n → P r) → Any P refs
+named_some P [] n none holds = absurd none
+named_some P (r ∷ refs) n (inl is) holds = (zero, r, omega arith, refl, holds r is)
+named_some P (r ∷ refs) n (inr later) holds = let (k, x, below, is, has) = named_some P refs n later holds in (suc k, x, omega (arith, below), is, has)
+
+pub some_named : (P : Ref → Type 0) (refs : List Ref) (n : List ℕ) → ((r : Ref) → P r → r.name ≡ n) → Any P refs → HasName refs n
+some_named P [] n names (k, x, below, is, has) = absurd (omega (arith, below))
+some_named P (r ∷ refs) n names (zero, x, below, is, has) = inl (subst (λ (y : Ref). y.name ≡ n) (sym is) (names x has))
+some_named P (r ∷ refs) n names (suc k, x, below, is, has) = inr (some_named P refs n names (k, x, omega (arith, below), is, has))
+
+-- ---- sides
+
+-- what a fetch writes for a destination without a star begins `refs/`
+below_if : (b c : Bool) (x : List ℕ) → b ≡ starts_with nat_eq x (codes "refs/") → BeginsWith (codes "refs/") (if b then x else (if c then codes "refs/" ++ x else codes "refs/heads/" ++ x))
+below_if true c x is = record { after = drop (length (codes "refs/")) x; here = (starts_is Decides-eqb x (codes "refs/") (starts_with nat_eq x (codes "refs/")) refl).0 (sym is) }
+below_if false true x is = record { after = x; here = refl }
+below_if false false x is = record { after = codes "heads/" ++ x; here = refl }
+
+pub written_below : (x : List ℕ) → BeginsWith (codes "refs/") (written_name_of x)
+written_below x = below_if (starts_with nat_eq x (codes "refs/")) (starts_with nat_eq x (codes "heads/") || starts_with nat_eq x (codes "tags/") || starts_with nat_eq x (codes "remotes/")) x refl
+
+-- and has no star
+lacks_if : (b c : Bool) (x : List ℕ) → Lacks star x → Lacks star (if b then x else (if c then codes "refs/" ++ x else codes "refs/heads/" ++ x))
+lacks_if true c x lacks = lacks
+lacks_if false true x lacks = all_join (λ c. c ≢ star) (codes "refs/") x (Lacks-tested star (codes "refs/") refl) lacks
+lacks_if false false x lacks = all_join (λ c. c ≢ star) (codes "refs/heads/") x (Lacks-tested star (codes "refs/heads/") refl) lacks
+
+pub written_lacks : (x : List ℕ) → Lacks star x → Lacks star (written_name_of x)
+written_lacks x lacks = lacks_if (starts_with nat_eq x (codes "refs/")) (starts_with nat_eq x (codes "heads/") || starts_with nat_eq x (codes "tags/") || starts_with nat_eq x (codes "remotes/")) x lacks
+
+-- a destination with a star is completed to itself
+pub completed_destination : (side full : Option (List ℕ)) (d : List ℕ)
+    → MatchOption side (full ≡ None) (λ x. (HasStar x × (full ≡ Some x)) ⊎ (Lacks star x × (full ≡ Some (written_name_of x)))) → full ≡ Some d
+    → (x : List ℕ) × (side ≡ Some x) × ((HasStar x × (x ≡ d)) ⊎ (Lacks star x × (written_name_of x ≡ d)))
+completed_destination None full d none is = absurd (cc (none, is))
+completed_destination (Some x) full d (inl (has, same)) is = (x, refl, inl (has, cc (same, is)))
+completed_destination (Some x) full d (inr (lacks, same)) is = (x, refl, inr (lacks, cc (same, is)))
+
+-- so a completed destination is a pattern where the destination is one, and otherwise a full name
+completed_side : (side full : Option (List ℕ)) (d : List ℕ)
+    → MatchOption side (full ≡ None) (λ x. (HasStar x × (full ≡ Some x)) ⊎ (Lacks star x × (full ≡ Some (written_name_of x)))) → full ≡ Some d
+    → (x : List ℕ) × (side ≡ Some x) × ((HasStar x × HasStar d) ⊎ (Lacks star x × Lacks star d × BeginsWith (codes "refs/") d))
+completed_side side full d completed is =
+    let (x, was, shape) = completed_destination side full d completed is in (
+      x,
+      was,
+      elim shape [
+        | inl (has, same) ↦ inl (has, subst HasStar same has)
+        | inr (lacks, same) ↦ inr (lacks, subst (Lacks star) same (written_lacks x lacks), subst (BeginsWith (codes "refs/")) same (written_below x))
+      ],
+    )
+
+-- an id has bytes
+id_bytes_some : (x bytes : List ℕ) → IsIdText x bytes → ¬ (bytes ≡ [])
+id_bytes_some x bytes text empty = by text.kind text.bytes
+  where
+    by : (k : Kind) → length bytes ≡ bytes_of k → ⊥
+    by Sha1 long = omega (arith, long, ap length empty)
+    by Sha256 long = omega (arith, long, ap length empty)
+
+-- a ref that is known by its name alone is no object
+pub no_object_named : (x n : List ℕ) (word : Option (List ℕ)) (bytes : List ℕ) → HasKind x (object bytes) → ¬ (MatchesAs (object bytes) (ref_named n) word)
+no_object_named x n word bytes kind (none, inl same) = id_bytes_some x bytes kind.2 (sym same)
+no_object_named x n word bytes kind (none, inr other) = absurd (cc (other))
+
+-- a side matches by names alone, unless it is an object
+same_match : (x : List ℕ) (r : Ref) (n : List ℕ) (word : Option (List ℕ)) → r.name ≡ n → Matches x (ref_named n) word → Matches x r word
+same_match x r n word is matches = record { kind = matches.kind; of = matches.of; is = by_kind matches.kind matches.of word matches.is }
+  where
+    by_kind : (k : SideKind) → HasKind x k → (w : Option (List ℕ)) → MatchesAs k (ref_named n) w → MatchesAs k r w
+    by_kind (pattern before after) of None holds = holds
+    by_kind (pattern before after) of (Some w) holds = is ∙ holds
+    by_kind (full_name m) of w holds = (holds.0, is ∙ holds.1)
+    by_kind (object bytes) of w holds = absurd (no_object_named x n w bytes of holds)
+    by_kind (partial m) of w holds = (holds.0, subst (IsCandidate m) (sym is) holds.1)
+
+name_match : (x : List ℕ) (r : Ref) (n : List ℕ) (word : Option (List ℕ)) → ((bytes : List ℕ) → ¬ (HasKind x (object bytes))) → r.name ≡ n → Matches x r word → Matches x (ref_named n) word
+name_match x r n word no_object is matches = record { kind = matches.kind; of = matches.of; is = by_kind matches.kind matches.of word matches.is }
+  where
+    by_kind : (k : SideKind) → HasKind x k → (w : Option (List ℕ)) → MatchesAs k r w → MatchesAs k (ref_named n) w
+    by_kind (pattern before after) of None holds = holds
+    by_kind (pattern before after) of (Some w) holds = sym is ∙ holds
+    by_kind (full_name m) of w holds = (holds.0, sym is ∙ holds.1)
+    by_kind (object bytes) of w holds = absurd (no_object bytes of)
+    by_kind (partial m) of w holds = (holds.0, subst (IsCandidate m) is holds.1)
+
+-- a side without a star matches without a word
+plain_word : (x : List ℕ) (r : Ref) (word : Option (List ℕ)) → Lacks star x → Matches x r word → word ≡ None
+plain_word x r word lacks matches = by_kind matches.kind matches.of matches.is
+  where
+    by_kind : (k : SideKind) → HasKind x k → MatchesAs k r word → word ≡ None
+    by_kind (pattern before after) of holds = absurd (Lacks-here star before after (subst (Lacks star) of.starred lacks))
+    by_kind (full_name m) of holds = holds.0
+    by_kind (object bytes) of holds = holds.0
+    by_kind (partial m) of holds = holds.0
+
+-- a pattern with one
+word_there : (before after : List ℕ) (r : Ref) (word : Option (List ℕ)) → MatchesAs (pattern before after) r word → (w : List ℕ) × (word ≡ Some w)
+word_there before after r None holds = absurd holds
+word_there before after r (Some w) holds = (w, refl)
+
+-- both sides of a spec, with its destination completed, are patterns, or neither is
+abbrev AreAlike : List ℕ → List ℕ → Type 0
+AreAlike x d = (HasOneStar x × HasStar d) ⊎ (Lacks star x × Lacks star d × BeginsWith (codes "refs/") d)
+
+-- what a destination becomes where its source takes a ref is the name that it matches with the same word
+filled_matches : (x d : List ℕ) (r : Ref) (word : Option (List ℕ)) (n : List ℕ) → AreAlike x d → Matches x r word → IsFilled (Some d) word (Some n) → Matches d (ref_named n) word
+filled_matches x d r word n (inl (one, has)) takes (kind, of, is) =
+    let (w, some) = word_there one.0 one.1 r word (matches_as x (pattern one.0 one.1) r word one.2 takes) in
+    record { kind = kind; of = of; is = by_kind kind of w some (subst (λ (v : Option (List ℕ)). Some n ≡ Some (filled kind v)) some is) }
+  where
+    by_kind : (k : SideKind) → HasKind d k → (w : List ℕ) → word ≡ Some w → Some n ≡ Some (filled k (Some w)) → MatchesAs k (ref_named n) word
+    by_kind (pattern before after) of w some same = subst (MatchesAs (pattern before after) (ref_named n)) (sym some) (cc (same))
+    by_kind (full_name m) of w some same = absurd (Lacks-ContainsText star d of.1 has)
+    by_kind (object bytes) of w some same = absurd (Lacks-ContainsText star d of.0 has)
+    by_kind (partial m) of w some same = absurd (Lacks-ContainsText star d of.1 has)
+filled_matches x d r word n (inr (lacks_x, lacks, begins)) takes (kind, of, is) = record { kind = kind; of = of; is = by_kind kind of is }
+  where
+    by_kind : (k : SideKind) → HasKind d k → Some n ≡ Some (filled k word) → MatchesAs k (ref_named n) word
+    by_kind (pattern before after) of same = absurd (Lacks-here star before after (subst (Lacks star) of.starred lacks))
+    by_kind (full_name m) of same = (plain_word x r word lacks_x takes, cc (same))
+    by_kind (object bytes) of same = absurd (of.1 begins)
+    by_kind (partial m) of same = absurd (of.2 begins)
+
+-- and the other way round
+matches_filled : (d : List ℕ) (word : Option (List ℕ)) (n : List ℕ) → HasStar d ⊎ BeginsWith (codes "refs/") d → Matches d (ref_named n) word → IsFilled (Some d) word (Some n)
+matches_filled d word n shape matches = by_kind matches.kind matches.of word matches.is
+  where
+    by_kind : (k : SideKind) → HasKind d k → (v : Option (List ℕ)) → MatchesAs k (ref_named n) v → IsFilled (Some d) v (Some n)
+    by_kind (pattern before after) of None holds = absurd holds
+    by_kind (pattern before after) of (Some w) holds = (pattern before after, of, ap Some holds)
+    by_kind (full_name m) of v holds = (full_name m, of, ap Some holds.1)
+    by_kind (object bytes) of v holds = absurd (no_object_named d n v bytes of holds)
+    by_kind (partial m) of v holds = elim shape [
+      | inl has ↦ absurd (Lacks-ContainsText star d of.1 has)
+      | inr begins ↦ absurd (of.2 begins)
+    ]
+
+pub far_there : (side word : Option (List ℕ)) (n : List ℕ) → IsFilled side word (Some n) → (d : List ℕ) × (side ≡ Some d) × IsFilled (Some d) word (Some n)
+far_there None word n none = absurd (cc (none))
+far_there (Some d) word n is = (d, refl, is)
+
+-- ---- readings
+
+-- an accepted reading and the same with its destination completed
+module _ (r c : Reading) (accepted : ∥ IsAccepted r ∥₁) (done : IsCompleted r c) where
+  sides_alike : (x d : List ℕ) → c.source ≡ Some x → c.destination ≡ Some d → AreAlike x d
+  sides_alike x d source destination =
+      let (e, was, shape) = completed_side r.destination c.destination d done.destination destination in
+      elim ((sides_agree r accepted).both x e (sym done.source ∙ source) was) [
+        | inl (one_x, one_e) ↦ elim shape [
+          | inl (has_e, has) ↦ inl (one_x, has)
+          | inr (lacks, lacks_d, begins) ↦ absurd (Lacks-here star one_e.0 one_e.1 (subst (Lacks star) one_e.2.starred lacks))
+        ]
+        | inr (lacks_x, lacks_e) ↦ elim shape [
+          | inl (has_e, has) ↦ absurd (Lacks-ContainsText star e lacks_e has_e)
+          | inr (lacks, lacks_d, begins) ↦ inr (lacks_x, lacks_d, begins)
+        ]
+      ]
+
+  destination_shape : (d : List ℕ) → c.destination ≡ Some d → HasStar d ⊎ BeginsWith (codes "refs/") d
+  destination_shape d destination =
+      let (e, was, shape) = completed_side r.destination c.destination d done.destination destination in
+      elim shape [ inl (has_e, has) ↦ inl has | inr (lacks, lacks_d, begins) ↦ inr begins ]
+
+  -- a pair that the spec makes is one that it can write
+  pair_writes : (items : List Ref) (s n : List ℕ) → MakesForward items (name s) (Some n) c → CanWriteFrom r n s
+  pair_writes items s n makes =
+      let (k, item, below, is, paired) = makes.one in
+      let (d, far, becomes) = far_there makes.ends.far paired.word n paired.becomes in
+      record {
+        word = paired.word;
+        writes = record {
+          positive = subst IsPositive done.mode makes.has.positive;
+          completed = c;
+          is = done;
+          destination = d;
+          has = makes.has.far ∙ far;
+          matches = filled_matches makes.ends.near d item paired.word n (sides_alike makes.ends.near d makes.has.near (makes.has.far ∙ far)) paired.takes.matches becomes;
+        };
+        source = makes.ends.near;
+        is = sym done.source ∙ makes.has.near;
+        matches = name_match makes.ends.near item s paired.word makes.has.no_object paired.name paired.takes.matches;
+      }
+
+  object_writes : (bytes n : List ℕ) → PairsId bytes (Some n) c → CanWriteObject r n
+  object_writes bytes n makes =
+      let (d, far, becomes) = far_there c.destination None n makes.becomes in
+      record {
+        writes = record {
+          positive = subst IsPositive done.mode makes.positive;
+          completed = c;
+          is = done;
+          destination = d;
+          has = far;
+          matches = filled_matches makes.text d (record { name = []; target = bytes; object = None }) None n (sides_alike makes.text d makes.side far) (record { kind = object bytes; of = makes.object; is = (refl, inl refl) }) becomes;
+        };
+        source = makes.text;
+        is = sym done.source ∙ makes.side;
+        bytes = bytes;
+        asks = makes.object;
+      }
+
+  -- an object that it can be written from makes its pair
+  object_makes : (n : List ℕ) (w : CanWriteObject r n) → PairsId w.bytes (Some n) c
+  object_makes n w =
+      let same : w.writes.completed ≡ c = reading_once r w.writes.completed c w.writes.is done in
+      let has : c.destination ≡ Some w.writes.destination = ap (λ (q : Reading). q.destination) (sym same) ∙ w.writes.has in
+      record {
+        positive = subst IsPositive (sym done.mode) w.writes.positive;
+        text = w.source;
+        side = done.source ∙ w.is;
+        object = w.asks;
+        becomes = subst (λ (side : Option (List ℕ)). IsFilled side None (Some n)) (sym has) (matches_filled w.writes.destination None n (destination_shape w.writes.destination has) w.writes.matches);
+      }
+
+  -- a ref that it can be written from, or the first candidate of a partial name among the refs, makes its pair
+  source_makes : (items : List Ref) (n s : List ℕ) → HasName items s → CanWriteFrom r n s → (t : List ℕ) × CanWriteFrom r n t × MakesForward items (name t) (Some n) c
+  source_makes items n s there w = by_kind w.matches.kind w.matches.of w.matches.is
+    where
+      same : w.writes.completed ≡ c
+      same = reading_once r w.writes.completed c w.writes.is done
+
+      has : c.destination ≡ Some w.writes.destination
+      has = ap (λ (q : Reading). q.destination) (sym same) ∙ w.writes.has
+
+      becomes : IsFilled (Some w.writes.destination) w.word (Some n)
+      becomes = matches_filled w.writes.destination w.word n (destination_shape w.writes.destination has) w.writes.matches
+
+      -- the spec takes each ref of this name
+      makes : (t : List ℕ) → Matches w.source (ref_named t) w.word → HasName items t → ((id : List ℕ) → ¬ (HasKind w.source (object id))) → ((m : List ℕ) → HasKind w.source (partial m) → IsFirstCandidate items m t)
+          → MakesForward items (name t) (Some n) c
+      makes t matches present no_object first = record {
+        ends = record { near = w.source; far = Some w.writes.destination };
+        has = record { positive = subst IsPositive (sym done.mode) w.writes.positive; near = done.source ∙ w.is; far = has; no_object = no_object };
+        one = named_some (IsPaired (Takes items) (record { near = w.source; far = Some w.writes.destination }) t (Some n)) items t present (λ item named. record {
+          word = w.word;
+          name = named;
+          takes = record { matches = same_match w.source item t w.word named matches; first = λ m kind. subst (IsFirstCandidate items m) (sym named) (first m kind) };
+          becomes = becomes;
+        });
+      }
+
+      no_partial : (k : SideKind) → HasKind w.source k → ((m : List ℕ) → ¬ (k ≡ partial m)) → (m : List ℕ) → ¬ (HasKind w.source (partial m))
+      no_partial k of other m kind = other m (one_kind w.source k (partial m) of kind)
+
+      by_kind : (k : SideKind) → HasKind w.source k → MatchesAs k (ref_named s) w.word → (t : List ℕ) × CanWriteFrom r n t × MakesForward items (name t) (Some n) c
+      by_kind (pattern before after) of holds =
+          (s, w, makes s w.matches there (λ bytes kind. let e = one_kind w.source (pattern before after) (object bytes) of kind in cc (e)) (λ m kind. let e = one_kind w.source (pattern before after) (partial m) of kind in absurd (cc (e))))
+      by_kind (full_name x) of holds =
+          (s, w, makes s w.matches there (λ bytes kind. let e = one_kind w.source (full_name x) (object bytes) of kind in cc (e)) (λ m kind. let e = one_kind w.source (full_name x) (partial m) of kind in absurd (cc (e))))
+      by_kind (object bytes) of holds = absurd (no_object_named w.source s w.word bytes of holds)
+      by_kind (partial x) of holds =
+          let (t, first) = some_first items x s holds.1 there in
+          let matches : Matches w.source (ref_named t) w.word = record { kind = partial x; of = of; is = (holds.0, first_candidate items x t first) } in (
+            t,
+            record { word = w.word; writes = w.writes; source = w.source; is = w.is; matches = matches },
+            makes t matches first.present (λ bytes kind. let e = one_kind w.source (partial x) (object bytes) of kind in cc (e))
+                (λ m kind. let e : partial x ≡ partial m = one_kind w.source (partial x) (partial m) of kind in let one : x ≡ m = cc (e) in subst (λ (z : List ℕ). IsFirstCandidate items z t) one first),
+          )
+
+-- ---- groups
+
+-- each reading is accepted
+pub accepted_in : (h : List Reading) (r : Reading) → AllByRecursion (λ q. ∥ IsAccepted q ∥₁) h → Contains h r → ∥ IsAccepted r ∥₁
+accepted_in [] r all (k, below, is) = absurd (omega (arith, below))
+accepted_in (q ∷ h) r all (zero, below, is) = subst (λ (x : Reading). ∥ IsAccepted x ∥₁) is all.0
+accepted_in (q ∷ h) r all (suc k, below, is) = accepted_in h r all.1 (k, omega (arith, below), is)
+
+module _ (g : List Reading) (remote : List Ref) (mapped : List Mapped) (accepted : AllByRecursion (λ r. ∥ IsAccepted r ∥₁) g) (by : AreMappedBy g remote mapped) where
+  -- what is written comes from an object or from a ref of the remote
+  pub written_from : (n : List ℕ) → HasDestination mapped n → IsWritableFromObject g n ⊎ ((s : List ℕ) × IsSourceOf g n s × HasName remote s)
+  written_from n (m, inside, is) =
+      let made = ((kept_exactly by.completed remote).forward mapped by.kept m).0 (contained_pair mapped m inside) in
+      let (r, c, at, done, makes) = zip_first IsCompleted (MakesForward remote m.source m.destination) g by.completed by.are made.0 in
+      from r c at done m.source (subst (λ (far : Option (List ℕ)). MakesForward remote m.source far c) is makes)
+    where
+      from : (r c : Reading) → Contains g r → IsCompleted r c → (start : Source) → MakesForward remote start (Some n) c → IsWritableFromObject g n ⊎ ((s : List ℕ) × IsSourceOf g n s × HasName remote s)
+      from r c at done (name s) makes =
+          inr (s, (r, at, pair_writes r c (accepted_in g r accepted at) done remote s n makes), some_named (IsPaired (Takes remote) makes.ends s (Some n)) remote s (λ item paired. paired.name) makes.one)
+      from r c at done (id bytes) makes = inl (r, at, object_writes r c (accepted_in g r accepted at) done bytes n makes)
+
+  kept_destination : (start : Source) (n : List ℕ) → Any (MakesForward remote start (Some n)) by.completed → ¬ (IsSourceExcluded by.completed start) → HasDestination mapped n
+  kept_destination start n any included =
+      let (m, inside, same) = pair_in mapped _ (((kept_exactly by.completed remote).forward mapped by.kept (record { item = None; source = start; destination = Some n; spec = 0 })).1 (any, included)) in
+      (m, inside, same.destination)
+
+  completed_any : (P : Reading → Type 0) (r : Reading) → Contains g r → ((c : Reading) → IsCompleted r c → P c) → Any P by.completed
+  completed_any P r at holds = zip_there IsCompleted g by.completed P r by.are at holds
+
+  -- an object is always written
+  pub object_written : (n : List ℕ) → IsWritableFromObject g n → HasDestination mapped n
+  object_written n (r, at, w) =
+      kept_destination (id w.bytes) n (completed_any (MakesForward remote (id w.bytes) (Some n)) r at (λ c done. object_makes r c (accepted_in g r accepted at) done n w)) (λ none. none)
+
+  -- and so is what could be written from a ref of the remote, where none is excluded from which it could be
+  pub present_written : (n s : List ℕ) → IsSourceOf g n s → HasName remote s → ((t : List ℕ) → IsSourceOf g n t → ¬ (IsExcluded g t)) → HasDestination mapped n
+  present_written n s (r, at, w) there included =
+      let (c, done, inside) = zip_partner IsCompleted g by.completed r by.are at in
+      let (t, from, makes) = source_makes r c (accepted_in g r accepted at) done remote n s there w in
+      kept_destination (name t) n (there_any (MakesForward remote (name t) (Some n)) c by.completed inside makes) (λ excluded. included t (r, at, from) (completed_excluded g by.completed t by.are excluded))
+
+  -- what is fetched is written
+  pub fetched_written : (n : List ℕ) → IsFetched g remote n → HasDestination mapped n
+  fetched_written n f =
+      let same : f.completed ≡ by.completed = completed_once g f.completed by.completed f.are by.are in
+      let one : f.mapped ≡ mapped = one_forward by.completed remote f.mapped mapped (subst (λ (l : List Reading). AreKeptForward l remote f.mapped) same f.kept) by.kept in
+      (f.mapping, subst (λ (l : List Mapped). Contains l f.mapping) one f.has, f.destination)
+
+  pub written_fetched : (n : List ℕ) → HasDestination mapped n → IsFetched g remote n
+  written_fetched n (m, inside, is) = record { completed = by.completed; are = by.are; mapped = mapped; kept = by.kept; mapping = m; has = inside; destination = is }

@@ -1,0 +1,139 @@
+-- Sides with a star and without one, the refs for which a source may stand, and one of them that is excluded.
+use Rattle.std.proofs.Common.{◌≡◌, ℕ, true, zero, suc, ◌<◌, List, ◌∷◌, ◌++◌, Option, None, Some, MatchOption, All, drop, drop-cons, get_or, length, map, take, take-append-drop, refl, sym, ap, ◌∙◌, subst, arith}
+use Rattle.std.specs.Borrow.{Bor}
+use Rattle.std.specs.List.{Contains}
+use Rattle.std.specs.Option.{is_some}
+use Rattle.std.proofs.lemmas.Bool.{false≢true}
+use Rattle.std.proofs.lemmas.List.{get_or-map, length-map}
+use Rattle.std.proofs.lemmas.List.Elements.{Contains-append_right}
+use Rattle.bstr.specs.declared.bstring.BString.{BString}
+use Rattle.bstr.specs.Owned.{bstring_bytes}
+use Rattle.gix_refspec_text.specs.Texts.Bytes.{star}
+use Rattle.gix_refspec_text.specs.Texts.Words.{Lacks}
+use Rattle.gix_refspec_text.specs.Texts.Name.{HasSeveralStars, IsSplit}
+use Rattle.gix_refspec_text.specs.Specs.Reading.{Reading}
+use Rattle.gix_refspec_text.specs.Matching.Side.{SideKind, pattern, full_name, object, partial, HasKind, IsCandidate, Fits, candidates}
+use Rattle.gix_refspec_text.specs.Matching.Match.{Matches, MatchesAs}
+use Rattle.gix_refspec_text.proofs.lemmas.hits.MatchLemmas.{lacks_no_pattern, one_word}
+use Rattle.gix_refspec_text.proofs.lemmas.lists.LacksLemmas.{Lacks-here}
+use Rattle.gix_refspec_text.proofs.lemmas.texts.TextLemmas.{Lacks-from_absent}
+use Rattle.gix_refspec_match.specs.declared.exclusions.Exclusions.{Exclusions}
+use Rattle.gix_refspec_match.specs.Private.Kept.{ExcludeName, ExcludeNameAt}
+use Rattle.gix_refspec_match.proofs.lemmas.duplicates.FlagLemmas.{some_element}
+use Rattle.gix_refspec_match.proofs.lemmas.hits.HitLemmas.{matches_as, same_side}
+use Rattle.gix_refspec_plan.specs.declared.stale.Pattern.{Pattern}
+use Rattle.gix_refspec_plan.specs.declared.stale.State.TheVariants as state
+use Rattle.gix_refspec_plan.specs.Matching.Stale.{ref_named}
+use Rattle.gix_refspec_plan.specs.Private.Stales.{HasParts, HasPatternState, IsNamedBy, IsPatternSource, WritesName, WritesPattern}
+use Rattle.gix_refspec_plan.proofs.lemmas.stale.FetchedLemmas.{no_object_named}
+
+-- ---- sides
+
+-- what splitting a side at its first star says of it
+abbrev IsSplitAt : List ℕ → Option (Bor (List ℕ) × Bor (List ℕ)) → Type 0
+IsSplitAt x found = MatchOption found (Lacks star x) (λ parts. (x ≡ parts.0.now ++ (star ∷ parts.1.now)) × Lacks star parts.0.now)
+
+-- a destination with a star writes no name
+pub starred_unwritten : (r : Reading) (d n : List ℕ) (found : Option (Bor (List ℕ) × Bor (List ℕ))) → r.destination ≡ Some d → true ≡ is_some found → IsSplitAt d found → ¬ (WritesName r n)
+starred_unwritten r d n None is some lacks by = false≢true (sym some)
+starred_unwritten r d n (Some parts) is some (starred, first) by =
+    Lacks-here star parts.0.now parts.1.now (subst (Lacks star) (same_side r.destination by.destination d by.has is ∙ starred) by.lacks)
+
+-- the texts before and after the only star
+pub parts_split : (x : List ℕ) (found : Option (Bor (List ℕ) × Bor (List ℕ))) → ¬ (HasSeveralStars x) → IsSplitAt x found → HasParts (Some x) found
+parts_split x None few lacks = λ y before after is split. lacks_no_pattern x before after lacks (let same : x ≡ y = cc (is) in subst (IsSplit before after) (sym same) split)
+parts_split x (Some parts) few (starred, first) = (
+  x,
+  refl,
+  record {
+    starred = starred;
+    first = first;
+    last = Lacks-from_absent star parts.1.now (λ more. few (record {
+      before = parts.0.now;
+      between = more.before;
+      after = more.after;
+      here = starred ∙ ap (λ (y : List ℕ). parts.0.now ++ (star ∷ y)) more.here;
+    }));
+  },
+)
+
+-- without these texts a reading writes by no pattern
+pub unsplit_unwritten : (r : Reading) (p : Pattern) → HasParts r.destination None → ¬ (WritesPattern r p)
+unsplit_unwritten r p none by = none by.destination p.before.now p.after.now by.has by.split
+
+-- ---- candidates
+
+contained_split : (l : List (List ℕ)) (n : List ℕ) → Contains l n → (earlier : List (List ℕ)) × (later : List (List ℕ)) × (l ≡ earlier ++ (n ∷ later))
+contained_split l n (k, below, is) =
+    (take k l, drop (suc k) l, sym (take-append-drop k l) ∙ ap (λ (t : List (List ℕ)). take k l ++ t) (drop-cons l k n below ∙ ap (λ (x : List ℕ). x ∷ drop (suc k) l) is))
+
+pub candidate_contained : (x n : List ℕ) → IsCandidate x n → Contains (candidates x) n
+candidate_contained x n one = subst (λ (l : List (List ℕ)). Contains l n) (sym one.here) (Contains-append_right one.earlier (n ∷ one.later) n (zero, omega arith, refl))
+
+contained_candidate : (x n : List ℕ) → Contains (candidates x) n → IsCandidate x n
+contained_candidate x n there = let (earlier, later, here) = contained_split (candidates x) n there in record { earlier = earlier; later = later; here = here }
+
+-- the text at an index is one of the texts
+pub text_contained : (texts : List BString) (i : ℕ) (b : BString) (l : List (List ℕ)) → map bstring_bytes texts ≡ l → i < length texts → b ≡ get_or texts i b → Contains l (bstring_bytes b)
+text_contained texts i b l same below is =
+    subst (λ (m : List (List ℕ)). Contains m (bstring_bytes b)) same (i, rw (length-map texts bstring_bytes) below, get_or-map bstring_bytes texts i b (bstring_bytes b) below ∙ ap bstring_bytes (sym is))
+
+-- where none of the texts is so, none is
+pub none_contained : (P : List ℕ → Type 0) (texts : List BString) (l : List (List ℕ)) → map bstring_bytes texts ≡ l → All (λ b. ¬ (P (bstring_bytes b))) texts → (s : List ℕ) → Contains l s → ¬ (P s)
+none_contained P texts l same all s there = by (subst (λ (m : List (List ℕ)). Contains m s) (sym same) there)
+  where
+    by : Contains (map bstring_bytes texts) s → ¬ (P s)
+    by (k, below, is) holds =
+        let inside : k < length texts = rw (length-map texts bstring_bytes) at below in
+        let b = some_element texts k inside in
+        all k b inside (subst P (sym is ∙ get_or-map bstring_bytes texts k b s inside) holds)
+
+-- ---- by the kind of the source
+
+-- the spec at an index excludes a ref for which the source may stand, or none does
+abbrev pub ExcludesNamed : Exclusions → Reading → Option ℕ → Type 0
+ExcludesNamed es r by = MatchOption by ((s : List ℕ) → IsNamedBy r s → ¬ (ExcludeName es s)) (λ k. (s : List ℕ) × IsNamedBy r s × ExcludeNameAt es s k)
+
+module _ (es : Exclusions) (r : Reading) (x : List ℕ) (source : r.source ≡ Some x) where
+  named_as : (k : SideKind) (s : List ℕ) → HasKind x k → IsNamedBy r s → MatchesAs k (ref_named s) None
+  named_as k s of named = matches_as x k (ref_named s) None of (subst (λ (y : List ℕ). Matches y (ref_named s) None) (same_side r.source named.source x named.is source) named.stands)
+
+  as_named : (k : SideKind) (s : List ℕ) → HasKind x k → MatchesAs k (ref_named s) None → IsNamedBy r s
+  as_named k s of holds = record { source = x; is = source; stands = record { kind = k; of = of; is = holds } }
+
+  pub full_excluded : (n : List ℕ) (by : Option ℕ) → HasKind x (full_name n) → MatchOption by (¬ (ExcludeName es n)) (ExcludeNameAt es n) → ExcludesNamed es r by
+  full_excluded n None of none = λ s named excluded. none (subst (ExcludeName es) (named_as (full_name n) s of named).1 excluded)
+  full_excluded n (Some k) of at = (n, as_named (full_name n) n of (refl, refl), at)
+
+  pub partial_excluded : (n : List ℕ) (by : Option ℕ) → HasKind x (partial n)
+      → MatchOption by ((s : List ℕ) → Contains (candidates n) s → ¬ (ExcludeName es s)) (λ k. (s : List ℕ) × Contains (candidates n) s × ExcludeNameAt es s k) → ExcludesNamed es r by
+  partial_excluded n None of none = λ s named excluded. none s (candidate_contained n s (named_as (partial n) s of named).1) excluded
+  partial_excluded n (Some k) of (s, there, at) = (s, as_named (partial n) s of (refl, contained_candidate n s there), at)
+
+  -- a pattern and an id stand for no ref
+  pub pattern_unnamed : (before after s : List ℕ) → HasKind x (pattern before after) → ¬ (IsNamedBy r s)
+  pattern_unnamed before after s of named = named_as (pattern before after) s of named
+
+  pub object_unnamed : (bytes s : List ℕ) → HasKind x (object bytes) → ¬ (IsNamedBy r s)
+  object_unnamed bytes s of named = no_object_named x s None bytes of (named_as (object bytes) s of named)
+
+-- ---- patterns
+
+-- a pattern writes a ref from one
+source_once : (p : Pattern) (n s word : List ℕ) (parts : Bor (List ℕ) × Bor (List ℕ)) → Fits p.before.now p.after.now n word → p.source ≡ Some parts → IsPatternSource p n s → s ≡ parts.0.now ++ (word ++ parts.1.now)
+source_once p n s word parts fits has from =
+    let same_word : from.word ≡ word = one_word p.before.now p.after.now n from.word word from.fits fits in
+    let some : Some from.parts ≡ Some parts = sym from.has ∙ has in
+    let same : from.parts ≡ parts = cc (some) in
+    from.is ∙ ap (λ (w : List ℕ). from.parts.0.now ++ (w ++ from.parts.1.now)) same_word ∙ ap (λ (q : Bor (List ℕ) × Bor (List ℕ)). q.0.now ++ (word ++ q.1.now)) same
+
+-- so what is known of it says what the pattern does
+module _ (es : Exclusions) (p : Pattern) (n word : List ℕ) (fits : Fits p.before.now p.after.now n word) where
+  pub without_source : p.source ≡ None → HasPatternState es p n state.Included
+  without_source none = ((word, fits), λ s from. absurd (let never : None ≡ Some from.parts = sym none ∙ from.has in cc (never)))
+
+  pub source_included : (parts : Bor (List ℕ) × Bor (List ℕ)) → p.source ≡ Some parts → ¬ (ExcludeName es (parts.0.now ++ (word ++ parts.1.now))) → HasPatternState es p n state.Included
+  source_included parts has included = ((word, fits), λ s from excluded. included (subst (ExcludeName es) (source_once p n s word parts fits has from) excluded))
+
+  pub source_excluded : (parts : Bor (List ℕ) × Bor (List ℕ)) (k : ℕ) → p.source ≡ Some parts → ExcludeNameAt es (parts.0.now ++ (word ++ parts.1.now)) k → HasPatternState es p n (state.Excluded k)
+  source_excluded parts k has at = (parts.0.now ++ (word ++ parts.1.now), record { word = word; fits = fits; parts = parts; has = has; is = refl }, at)

@@ -1,0 +1,128 @@
+-- Which local refs are stale or kept, by what a fetch writes and what the specs say of a name.
+use Rattle.std.proofs.Common.{◌≡◌, ◌⊎◌, inl, inr, ℕ, ◌+◌, ◌<◌, ◌++◌, ◌∷◌, zero, suc, ◌↔◌, Bool, List, [], Option, None, Some, option_to_list, MatchOption, append-nil, length, map, take, get_or, sym, ap, ◌∙◌, subst, arith}
+use Rattle.std.specs.List.{AllByRecursion, Contains}
+use Rattle.std.proofs.lemmas.List.{get_or-map, length-map, map-append, take-map}
+use Rattle.bstr.specs.BStr.{bstr_bytes}
+use Rattle.gix_refspec_text.specs.declared.spec.RefSpecRef.{RefSpecRef}
+use Rattle.gix_refspec_text.specs.Views.Spec.{reading_of}
+use Rattle.gix_refspec_match.specs.declared.types.Item.{Item}
+use Rattle.gix_refspec_match.specs.Matching.Lists.{IsMadeFrom, MakesOf}
+use Rattle.gix_refspec_match.specs.Views.Mapping.{ref_of}
+use Rattle.gix_refspec_match.specs.Private.Kept.{IsFlagged}
+use Rattle.gix_refspec_match.proofs.lemmas.lists.JoinLemmas.{made_more}
+use Rattle.gix_refspec_plan.specs.declared.stale.Stale.{Stale}
+use Rattle.gix_refspec_plan.specs.Views.Stale.{found_of}
+use Rattle.gix_refspec_text.specs.Specs.Reading.{Reading}
+use Rattle.gix_refspec_text.specs.Specs.Grammar.{IsAccepted}
+use Rattle.gix_refspec_text.specs.Matching.Match.{Ref, HasName}
+use Rattle.gix_refspec_match.specs.Matching.Mappings.{Mapped}
+use Rattle.gix_refspec_plan.specs.declared.stale.State.TheVariants as state
+use Rattle.gix_refspec_plan.specs.Matching.Stale.{Found, IsKeptBy, IsStale, IsWritable}
+use Rattle.gix_refspec_plan.specs.Private.Plans.{AreMappedBy}
+use Rattle.gix_refspec_plan.specs.Private.Stales.{FlagWritten, HasDestination, HasState, ref_names}
+use Rattle.gix_refspec_plan.proofs.lemmas.stale.FetchedLemmas.{fetched_written, object_written, present_written, written_fetched, written_from}
+
+-- the names of refs are those that they have
+pub named_among : (refs : List Ref) (n : List ℕ) → HasName refs n → Contains (ref_names refs) n
+named_among [] n none = absurd none
+named_among (r ∷ refs) n (inl is) = (zero, omega arith, is)
+named_among (r ∷ refs) n (inr later) = let (k, below, is) = named_among refs n later in (suc k, omega (arith, below), is)
+
+pub among_named : (refs : List Ref) (n : List ℕ) → Contains (ref_names refs) n → HasName refs n
+among_named [] n (k, below, is) = absurd (omega (arith, below))
+among_named (r ∷ refs) n (zero, below, is) = inl is
+among_named (r ∷ refs) n (suc k, below, is) = inr (among_named refs n (k, omega (arith, below), is))
+
+module _ (g : List Reading) (remote : List Ref) (mapped : List Mapped) (accepted : AllByRecursion (λ r. ∥ IsAccepted r ∥₁) g) (by : AreMappedBy g remote mapped) (n : List ℕ) where
+  -- what is written is neither stale nor kept
+  pub written_untold : HasDestination mapped n → (kept : Option ℕ) → ¬ (MatchOption kept (IsStale g remote n) (IsKeptBy g remote n))
+  written_untold has None stale = elim (written_from g remote mapped accepted by n has) [
+    | inl object ↦ stale.no_object object
+    | inr (s, source, there) ↦ stale.absent s source there
+  ]
+  written_untold has (Some k) kept = kept.unwritten (written_fetched g remote mapped accepted by n has)
+
+  -- and nor is what no spec can write
+  pub unwritable_untold : ¬ (IsWritable g n) → (kept : Option ℕ) → ¬ (MatchOption kept (IsStale g remote n) (IsKeptBy g remote n))
+  unwritable_untold none None stale = none stale.writable
+  unwritable_untold none (Some k) kept = let (r, at, from) = kept.is_source in none (r, from.word, at, from.writes)
+
+  -- what isn't written is stale, if no ref is excluded from which it could be written, and otherwise kept
+  pub included_stale : ¬ (HasDestination mapped n) → HasState g n state.Included → IsStale g remote n
+  included_stale unwritten (writable, included) = record {
+    writable = writable;
+    no_object = λ object. unwritten (object_written g remote mapped accepted by n object);
+    absent = λ s source there. unwritten (present_written g remote mapped accepted by n s source there included);
+    included = included;
+  }
+
+  pub excluded_kept : (k : ℕ) → ¬ (HasDestination mapped n) → HasState g n (state.Excluded k) → IsKeptBy g remote n k
+  excluded_kept k unwritten (s, source, (r, at, excludes)) = record {
+    unwritten = λ fetched. unwritten (fetched_written g remote mapped accepted by n fetched);
+    source = s;
+    is_source = source;
+    negative = r;
+    at = at;
+    excludes = excludes;
+  }
+
+-- what is told of the local ref at index k
+abbrev pub Tells : List Reading → List Ref → List Ref → ℕ → Ref → Found → Type 0
+Tells g remote locals k local f = (f.item ≡ k) × ¬ (HasName (take k locals) local.name) × MatchOption f.kept_by (IsStale g remote local.name) (IsKeptBy g remote local.name)
+
+-- each reading of a spec is accepted
+pub all_accepted : (specs : List RefSpecRef) → AllByRecursion (λ r. ∥ IsAccepted r ∥₁) (map reading_of specs)
+all_accepted [] = tt
+all_accepted (s ∷ specs) = (s.accepted, all_accepted specs)
+
+module _ (specs : List RefSpecRef) (remote : List Ref) (mapped : List Mapped) (by : AreMappedBy (map reading_of specs) remote mapped) (local : List Item) (flags : List Bool) (told : FlagWritten mapped (ref_names (map ref_of local)) flags)
+    (i : ℕ) (d : Item) (below : i < length local) (old : List Stale)
+    (so_far : IsMadeFrom (Tells (map reading_of specs) remote (map ref_of local)) 0 (map ref_of (take i local)) (map found_of old)) where
+  abbrev n : List ℕ
+  n = bstr_bytes (get_or local i d).full_ref_name
+
+  abbrev refs : List Ref
+  refs = map ref_of local
+
+  named : get_or (ref_names refs) i [] ≡ n
+  named = get_or-map (λ (r : Ref). r.name) refs i (ref_of d) [] (rw (length-map local ref_of) below) ∙ ap (λ (r : Ref). r.name) (get_or-map ref_of local i d (ref_of d) below)
+
+  flagged : IsFlagged flags i ↔ (HasDestination mapped n ⊎ HasName (take i refs) n)
+  flagged =
+      let at = told i [] (rw (length-map (map ref_of local) (λ (r : Ref). r.name), length-map local ref_of) below) in
+      let here : IsFlagged flags i ↔ (HasDestination mapped n ⊎ Contains (ref_names (take i refs)) n) = rw (named, take-map (λ (r : Ref). r.name) i refs) at at in (
+        (λ flag. elim (here.0 flag) [ inl has ↦ inl has | inr before ↦ inr (among_named (take i refs) n before) ]),
+        (λ either. here.1 (elim either [ inl has ↦ inl has | inr before ↦ inr (named_among (take i refs) n before) ])),
+      )
+
+  add : (made : Option Found) (new : List Found) → MakesOf (Tells (map reading_of specs) remote refs) i (ref_of (get_or local i d)) made → new ≡ map found_of old ++ option_to_list made
+      → IsMadeFrom (Tells (map reading_of specs) remote refs) 0 (map ref_of (take (i + 1) local)) new
+  add made new makes more =
+      made_more (Tells (map reading_of specs) remote refs) ref_of local i d (map found_of old) new made below so_far makes more
+
+  -- a ref that is told
+  pub tell_next : (new : List Stale) (s : Stale) → s.item_index ≡ i → ¬ (IsFlagged flags i) → (¬ (HasDestination mapped n) → MatchOption s.kept_by (IsStale (map reading_of specs) remote n) (IsKeptBy (map reading_of specs) remote n))
+      → new ≡ old ++ s ∷ [] → IsMadeFrom (Tells (map reading_of specs) remote refs) 0 (map ref_of (take (i + 1) local)) (map found_of new)
+  tell_next new s at unflagged state more =
+      add (Some (found_of s)) (map found_of new) (at, (λ before. unflagged (flagged.1 (inr before))), state (λ has. unflagged (flagged.1 (inl has)))) (ap (map found_of) more ∙ map-append found_of old (s ∷ []))
+
+  -- and one that isn't
+  pub tell_none : IsFlagged flags i ⊎ ¬ (IsWritable (map reading_of specs) n) → IsMadeFrom (Tells (map reading_of specs) remote refs) 0 (map ref_of (take (i + 1) local)) (map found_of old)
+  tell_none either =
+      add None (map found_of old) (λ f (at, new, state). elim either [
+        | inl flag ↦ elim (flagged.0 flag) [
+          | inl has ↦ written_untold (map reading_of specs) remote mapped (all_accepted specs) by n has f.kept_by state
+          | inr before ↦ new before
+        ]
+        | inr none ↦ unwritable_untold (map reading_of specs) remote mapped (all_accepted specs) by n none f.kept_by state
+      ]) (sym (append-nil (map found_of old)))
+
+  pub tell_included : (new : List Stale) (s : Stale) → s.item_index ≡ i → s.kept_by ≡ None → ¬ (IsFlagged flags i) → HasState (map reading_of specs) n state.Included
+      → new ≡ old ++ s ∷ [] → IsMadeFrom (Tells (map reading_of specs) remote refs) 0 (map ref_of (take (i + 1) local)) (map found_of new)
+  tell_included new s at none unflagged is_state =
+      tell_next new s at unflagged (λ unwritten. subst (λ (o : Option ℕ). MatchOption o (IsStale (map reading_of specs) remote n) (IsKeptBy (map reading_of specs) remote n)) (sym none) (included_stale (map reading_of specs) remote mapped (all_accepted specs) by n unwritten is_state))
+
+  pub tell_excluded : (new : List Stale) (s : Stale) (k : ℕ) → s.item_index ≡ i → s.kept_by ≡ Some k → ¬ (IsFlagged flags i) → HasState (map reading_of specs) n (state.Excluded k)
+      → new ≡ old ++ s ∷ [] → IsMadeFrom (Tells (map reading_of specs) remote refs) 0 (map ref_of (take (i + 1) local)) (map found_of new)
+  tell_excluded new s k at some unflagged is_state =
+      tell_next new s at unflagged (λ unwritten. subst (λ (o : Option ℕ). MatchOption o (IsStale (map reading_of specs) remote n) (IsKeptBy (map reading_of specs) remote n)) (sym some) (excluded_kept (map reading_of specs) remote mapped (all_accepted specs) by n k unwritten is_state))

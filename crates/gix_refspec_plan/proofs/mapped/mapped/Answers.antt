@@ -1,0 +1,21 @@
+-- The specs are completed without where they come from.
+use Rattle.std.proofs.Common.{List, map, option_map, ap, sym, ◌∙◌, subst}
+use Rattle.std.specs.List.{AllZip}
+use Rattle.bstr.specs.Owned.{bstring_bytes}
+use Rattle.gix_refspec_text.specs.Specs.Reading.{Reading}
+use Rattle.gix_refspec_text.specs.Views.Spec.{reading_of}
+use Rattle.gix_refspec_match.proofs.lemmas.duplicates.FlagLemmas.{ok_weaker}
+use Rattle.gix_refspec_plan.specs.Matching.Plan.{IsCompleted}
+use Rattle.gix_refspec_plan.specs.Private.Plans.{AreNewDestinations}
+use Rattle.gix_refspec_plan.proofs.mapped.mapped.Goals as goal
+
+pub mapped_by_specs-requires : goal.mapped_by_specs-requires
+mapped_by_specs-requires c =
+    subst (λ (g : List Reading). AreNewDestinations g (map (option_map bstring_bytes) c.args.names.now)) (sym (ap (map reading_of) c.as_slice.ensures.value ∙ c.in_ok-specs.ensures)) c.requires
+
+pub returns : goal.returns
+returns c = ok_weaker c.mapped_by_specs.result _ _ (λ all by. record {
+  completed = by.completed;
+  are = subst (λ (g : List Reading). AllZip IsCompleted g by.completed) (ap (map reading_of) c.as_slice.ensures.value ∙ c.in_ok-specs.ensures) by.are;
+  kept = by.kept;
+}) c.mapped_by_specs.ensures

@@ -1,0 +1,8 @@
+-- the specs so far
+use Rattle.std.proofs.Common.{◌≡◌, map, take}
+use Rattle.gix_refspec_text.specs.Views.Spec.{reading_of}
+use Rattle.gix_refspec_plan.specs.Views.Plan.{asked_of}
+use Rattle.gix_refspec_plan.proofs.mapped.specs_in.Given as goal
+
+abbrev pub invariant-loop-one : goal.invariant-loop-one
+invariant-loop-one l = map reading_of l.specs.items ≡ map (λ a. a.reading) (map asked_of (take l.one-index l.asked))

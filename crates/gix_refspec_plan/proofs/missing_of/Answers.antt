@@ -1,0 +1,46 @@
+-- The origin at each index of a missing source, unless it may be missing.
+use Rattle.std.proofs.Common.{None, Some, append-nil, map, sym, ◌∙◌, slice_index_or, subst, take_all, arith, rules}
+use Rattle.std.proofs.lemmas.Bool.{MatchBool-at_false, MatchBool-at_true}
+use Rattle.gix_refspec_match.specs.Views.Mapping.{ref_of}
+use Rattle.gix_refspec_plan.specs.Matching.Plan.{MayBeMissing}
+use Rattle.gix_refspec_plan.specs.Views.Plan.{asked_of}
+use Rattle.gix_refspec_plan.proofs.lemmas.plan.LackingLemmas.{all_lacking, missing_within, origin_at, origin_next}
+use Rattle.gix_refspec_plan.proofs.missing_of.Goals as goal
+use Rattle.gix_refspec_plan.proofs.missing_of.Goals.{then-not-may_be_missing+in_ok-push, else-not-may_be_missing}
+
+pub bounds-asked-index : goal.bounds-asked-index
+bounds-asked-index c =
+    missing_within c.args.asked.now c.in_ok-specs.specs.items c.as_slice.result.now (map ref_of c.args.items.now) c.in_ok-missing_sources.field-0.items c.as_slice-index-items.result.now c.loop-index.index-index
+    c.in_ok-specs.ensures c.as_slice.ensures.value c.in_ok-missing_sources.ensures c.as_slice-index-items.ensures.value c.loop-index-test.true
+
+pub bounds-asked-index-in-loop-index : goal.bounds-asked-index-in-loop-index
+bounds-asked-index-in-loop-index c = bounds-asked-index c
+
+pub offset_bounds-asked-index : goal.offset_bounds-asked-index
+offset_bounds-asked-index c = let below = bounds-asked-index c in search rules
+
+pub loop-index-preserved : goal.loop-index-preserved
+loop-index-preserved c =
+    let asked = c.args.asked.now in
+    let indexes = c.as_slice-index-items.result.now in
+    let i = c.loop-index.index-index in
+    let a = c.index-asked-index.result in
+    let inside =
+    missing_within asked c.in_ok-specs.specs.items c.as_slice.result.now (map ref_of c.args.items.now) c.in_ok-missing_sources.field-0.items indexes i
+    c.in_ok-specs.ensures c.as_slice.ensures.value c.in_ok-missing_sources.ensures c.as_slice-index-items.ensures.value c.loop-index-test.true in
+    let n = slice_index_or indexes i 0 in
+    let from = origin_at asked n a inside in
+    elim c.if-not-may_be_missing.branch [
+      | then-not-may_be_missing+in_ok-push w ↦ rw w.missing-is
+          (origin_next (map asked_of asked) indexes i 0 c.loop-index.missing.items _ (Some (slice_index_or asked n a).origin) c.loop-index-test.true c.loop-index.invariant
+          (from, MatchBool-at_false _ _ w.if-not-may_be_missing.true c.may_be_missing.ensures) w.in_ok-push.ensures.items)
+      | else-not-may_be_missing w ↦ rw w.missing-is
+          (origin_next (map asked_of asked) indexes i 0 c.loop-index.missing.items _ None c.loop-index-test.true c.loop-index.invariant
+          (λ o both. both.1 (subst MayBeMissing (from (asked_of a) ∙ sym (both.0 (asked_of a))) (MatchBool-at_true _ _ w.if-not-may_be_missing.false c.may_be_missing.ensures))) (sym (append-nil c.loop-index.missing.items)))
+    ]
+
+pub returns : goal.returns
+returns c =
+    all_lacking (map ref_of c.args.items.now) c.args.asked.now c.in_ok-specs.specs.items c.as_slice.result.now c.in_ok-missing_sources.field-0.items c.as_slice-index-items.result.now _
+    c.in_ok-specs.ensures c.as_slice.ensures.value c.in_ok-missing_sources.ensures c.as_slice-index-items.ensures.value
+    (rw (take_all c.loop-index.index-index c.as_slice-index-items.result.now (omega arith)) at c.loop-index.invariant)

@@ -1,0 +1,20 @@
+-- The merged refs stand behind the names of sound mappings' refs.
+use Rattle.std.proofs.Common.{length, ap, arith}
+use Rattle.gix_refspec_plan.proofs.lemmas.plan.CoveredLemmas.{copied_next, covered_flagged, names_long}
+use Rattle.gix_refspec_plan.proofs.specs.covered_flags.Goals as goal
+
+pub loop-index-init : goal.loop-index-init
+loop-index-init c = (ap length c.in_ok-flags.ensures.items, λ k below. absurd (omega arith))
+
+pub loop-index-preserved : goal.loop-index-preserved
+loop-index-preserved c =
+    let long = names_long c.args.merges.now c.in_ok-names.names.items _ c.in_ok-names.ensures in
+    let names = c.in_ok-names.names in
+    copied_next c.in_ok-all.all.items _ _ _ c.loop-index.index c.saturating_add.result c.is_flagged.result c.loop-index.invariant
+    (omega (arith, long, names.ok, names.small, c.saturating_add.ensures, c.saturating_sub-fetched.ensures, c.len.ensures, c.loop-index-test.true)) (rw c.as_slice-in-loop-index.ensures.value at c.is_flagged.ensures) c.in_ok-push.ensures.items
+
+pub returns : goal.returns
+returns c = covered_flagged c.args.merges.now c.in_ok-names.names.items _ c.in_ok-names.ensures c.in_ok-all.all.items _ c.saturating_sub-fetched.result
+    (omega (arith, c.saturating_sub-fetched.ensures, c.len.ensures))
+    (rw c.as_slice.ensures.value at c.in_ok-all.ensures.ok)
+    (λ k below. c.loop-index.invariant.1 k (omega (arith, c.loop-index-test.false)))

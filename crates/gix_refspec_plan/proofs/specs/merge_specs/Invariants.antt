@@ -1,0 +1,11 @@
+-- the merged refs that are asked for so far
+use Rattle.std.proofs.Common.{map, take}
+use Rattle.bstr.specs.BStr.{bstr_bytes}
+use Rattle.gix_refspec_match.specs.Matching.Lists.{IsMadeFrom}
+use Rattle.gix_refspec_match.specs.Views.Mapping.{mapped_of}
+use Rattle.gix_refspec_plan.specs.Views.Plan.{asked_of}
+use Rattle.gix_refspec_plan.proofs.lemmas.plan.MergeLemmas.{Merges}
+use Rattle.gix_refspec_plan.proofs.specs.merge_specs.Given as goal
+
+abbrev pub invariant-loop-index : goal.invariant-loop-index
+invariant-loop-index l = IsMadeFrom (Merges (map bstr_bytes l.merges) (map mapped_of l.fn.configured)) 0 (map bstr_bytes (take l.index l.merges)) (map asked_of l.made.items)

@@ -1,0 +1,10 @@
+-- what the names and the patterns so far say
+use Rattle.std.proofs.Common.{List, take}
+use Rattle.bstr.specs.BStr.{bstr_bytes}
+use Rattle.gix_refspec_text.specs.Specs.Reading.{Reading}
+use Rattle.gix_refspec_plan.specs.Private.Stales.{AreWritersOf}
+use Rattle.gix_refspec_plan.proofs.lemmas.stale.PatternLemmas.{HasStateAmong}
+use Rattle.gix_refspec_plan.proofs.stale.Writers.state_of.Given as goal
+
+abbrev pub invariant-loop-pattern : goal.invariant-loop-pattern
+invariant-loop-pattern l = (g : List Reading) → AreWritersOf g l.self → HasStateAmong l.self.exclusions g (take l.pattern-index l.pattern-items) (bstr_bytes l.name) l.state

@@ -1,0 +1,11 @@
+-- A destination with a star writes no name.
+use Rattle.std.proofs.Common.{Some, option_map, sym, ap, ◌∙◌}
+use Rattle.bstr.specs.BStr.{bstr_bytes}
+use Rattle.gix_refspec_text.specs.Views.Spec.{reading_of}
+use Rattle.gix_refspec_plan.proofs.lemmas.stale.SourceLemmas.{starred_unwritten}
+use Rattle.gix_refspec_plan.proofs.stale.written_by.Goals as goal
+
+pub returns-then-is_some : goal.returns-then-is_some
+returns-then-is_some c n =
+    starred_unwritten (reading_of c.args.spec.now) c.as_bytes-destination.result.now n c.split_at_first_star.result
+    (sym c.destination.ensures ∙ ap (option_map bstr_bytes) c.in-Some.is ∙ ap Some (sym c.as_bytes-destination.ensures)) c.if-is_some.ensures c.split_at_first_star.ensures

@@ -1,0 +1,28 @@
+-- The names of local refs stand behind the destinations.
+use Rattle.std.proofs.Common.{length, map, ap, arith}
+use Rattle.std.proofs.lemmas.List.{length-map}
+use Rattle.gix_refspec_match.specs.Views.Mapping.{ref_of}
+use Rattle.gix_refspec_plan.specs.Private.Stales.{ref_names}
+use Rattle.gix_refspec_plan.proofs.lemmas.plan.CoveredLemmas.{copied_next}
+use Rattle.gix_refspec_plan.proofs.lemmas.stale.NamedLemmas.{names_long, written_flagged}
+use Rattle.gix_refspec_plan.proofs.stale.written_flags.Goals as goal
+
+pub loop-index-init : goal.loop-index-init
+loop-index-init c = (ap length c.in_ok-flags.ensures.items, λ k below. absurd (omega arith))
+
+pub loop-index-preserved : goal.loop-index-preserved
+loop-index-preserved c =
+    let refs = map ref_of c.args.local.now in
+    let names = c.in_ok-names.names in
+    let long = names_long (ref_names refs) names.items _ c.in_ok-names.ensures in
+    copied_next c.in_ok-all.all.items _ _ _ c.loop-index.index c.saturating_add.result c.is_flagged.result c.loop-index.invariant
+    (omega (arith, long, length-map refs (λ r. r.name), length-map c.args.local.now ref_of, names.ok, names.small, c.saturating_add.ensures, c.saturating_sub-before.ensures, c.len.ensures, c.loop-index-test.true))
+    (rw c.as_slice-in-loop-index.ensures.value at c.is_flagged.ensures) c.in_ok-push.ensures.items
+
+pub returns : goal.returns
+returns c =
+    let refs = map ref_of c.args.local.now in
+    written_flagged (ref_names refs) c.in_ok-names.names.items _ c.in_ok-names.ensures c.in_ok-all.all.items _ c.saturating_sub-before.result
+    (omega (arith, length-map refs (λ r. r.name), length-map c.args.local.now ref_of, c.saturating_sub-before.ensures, c.len.ensures))
+    (rw c.as_slice.ensures.value at c.in_ok-all.ensures.ok)
+    (λ k below. c.loop-index.invariant.1 k (omega (arith, length-map refs (λ r. r.name), length-map c.args.local.now ref_of, below, c.loop-index-test.false)))

@@ -1,0 +1,8 @@
+-- the updates of the mappings so far
+use Rattle.std.proofs.Common.{◌≡◌, length, map}
+use Rattle.gix_refspec_plan.specs.Views.Plan.{asked_of}
+use Rattle.gix_refspec_plan.proofs.lemmas.plan.JudgeLemmas.{AreSoMany}
+use Rattle.gix_refspec_plan.proofs.verdicts.first_updates.Given as goal
+
+abbrev pub invariant-loop-mapping : goal.invariant-loop-mapping
+invariant-loop-mapping l = AreSoMany (map asked_of l.asked) l.fn.mappings.items l.updates.items × (length l.updates.items ≡ length l.yielded)

@@ -1,0 +1,17 @@
+-- One more verdict, which nothing overrules.
+use Rattle.std.proofs.Common.{[], map, take_all, arith}
+use Rattle.gix_refspec_match.specs.Views.Mapping.{mapped_of}
+use Rattle.gix_refspec_plan.proofs.lemmas.plan.JudgeLemmas.{has_mapping, none_counted, verdict_next}
+use Rattle.gix_refspec_plan.proofs.verdicts.first_verdicts.Goals as goal
+
+pub loop-mapping-preserved : goal.loop-mapping-preserved
+loop-mapping-preserved c =
+    let ms = c.args.mappings.now in
+    let i = c.loop-mapping.mapping-index in
+    let m = c.mapping-item.result in
+    verdict_next ms i m (map mapped_of ms) _ _ _ c.loop-mapping-test.true c.mapping-item.is c.loop-mapping.invariant
+    (c.verdict_on.ensures [] (map mapped_of ms) (none_counted c.new-nothing.result c.new-nothing.ensures.empty) c.in_ok-contested.ensures c.requires (has_mapping ms i m c.loop-mapping-test.true c.mapping-item.is))
+    c.in_ok-push.ensures.items
+
+pub returns : goal.returns
+returns c = rw (take_all c.loop-mapping.mapping-index c.args.mappings.now (omega arith)) at c.loop-mapping.invariant

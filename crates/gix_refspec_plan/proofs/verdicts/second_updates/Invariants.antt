@@ -1,0 +1,10 @@
+-- the updates of the mappings so far
+use Rattle.std.proofs.Common.{map, take}
+use Rattle.gix_refspec_match.specs.Views.Mapping.{mapped_of}
+use Rattle.gix_refspec_match.specs.Matching.Lists.{IsMadeFrom}
+use Rattle.gix_refspec_plan.specs.Matching.Plan.{IsPlannedBesides}
+use Rattle.gix_refspec_plan.specs.Views.Plan.{asked_of, planned_of}
+use Rattle.gix_refspec_plan.proofs.verdicts.second_updates.Given as goal
+
+abbrev pub invariant-loop-index : goal.invariant-loop-index
+invariant-loop-index l = IsMadeFrom (λ k m p. IsPlannedBesides (map asked_of l.specs) l.indexes (map mapped_of l.firsts) (map mapped_of l.mappings) m p) 0 (map mapped_of (take l.index l.mappings)) (map planned_of l.updates.items)

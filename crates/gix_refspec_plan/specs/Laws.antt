@@ -1,0 +1,2 @@
+-- The laws of plans, which follow from the other definitions.
+pub mod Fetches
