@@ -61,7 +61,7 @@ int main(int argc, char **argv)
     do { /* After TOO_SMALL, count and len are what the plan needs. */
         size_t count_room = count, len_room = len;
         plan = realloc(plan, count_room * sizeof *plan);
-        text = realloc(text, len_room);
+        text = realloc(text, len_room + 1);
         outcome = gix_refspec_plan(&wish, names, names_count, plan, count_room, text, len_room, &count, &len);
     } while (outcome == GIX_REFSPEC_TOO_SMALL);
     if (outcome != GIX_REFSPEC_OK && outcome != GIX_REFSPEC_IN_CONFLICT && outcome != GIX_REFSPEC_MISSING_SOURCE) {

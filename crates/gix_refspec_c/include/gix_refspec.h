@@ -2,7 +2,7 @@
  *
  * Each call returns GIX_REFSPEC_OK, or why it failed. A text is a pointer and a length; the pointer may be NULL if the
  * length is 0. The caller owns all memory. Nothing is kept from call to call. What a call doesn't set is unchanged.
- * C.md says when threads may call, what a caller owes, and what is proved. */
+ * C.md explains outcomes and threads, what a caller owes, and what is proved. */
 #ifndef GIX_REFSPEC_H
 #define GIX_REFSPEC_H
 
@@ -61,7 +61,7 @@ enum { GIX_REFSPEC_FORWARD = 1, GIX_REFSPEC_BACKWARD = 2 };
 #define GIX_REFSPEC_NO_ITEM SIZE_MAX
 #define GIX_REFSPEC_NO_SPEC SIZE_MAX
 
-/* What to fetch. Without given refspecs the configured ones are fetched; else these also map what the given ones fetch.
+/* What to fetch. If no refspecs are given, the configured ones are fetched; else they also map what the given ones fetch.
  *   given       the arguments of git fetch
  *   configured  the values of remote.<name>.fetch
  *   merges      the values of branch.<name>.merge of the current branch, if its remote is this one
@@ -77,7 +77,7 @@ typedef struct {
 } gix_refspec_wish;
 #define GIX_REFSPEC_WISH_INIT { NULL, 0, NULL, 0, NULL, 0, 0 }
 
-/* What makes an update: a given refspec, a configured one or a merged ref; HEAD, if nothing is asked for; or all tags,
+/* What makes an update: a given refspec, a configured one or a merged ref; HEAD, if there is none of these; or all tags,
  * if asked for. */
 enum { GIX_REFSPEC_GIVEN = 1, GIX_REFSPEC_CONFIGURED = 2, GIX_REFSPEC_MERGE = 3, GIX_REFSPEC_DEFAULT = 4,
        GIX_REFSPEC_ALL_TAGS = 5 };
@@ -89,7 +89,7 @@ enum {
     GIX_REFSPEC_INVALID_DESTINATION = 3, /* left out: the destination isn't a valid ref name, or is HEAD */
     GIX_REFSPEC_INVALID_SIDES = 4,       /* left out: both */
     GIX_REFSPEC_CONTESTED = 5,           /* another source has the same destination, so nothing is fetched */
-    GIX_REFSPEC_OVERRULED = 6,           /* a given refspec writes another ref to its destination */
+    GIX_REFSPEC_OVERRULED = 6,           /* not written: a given refspec or all tags write its destination */
     GIX_REFSPEC_MISSING = 7              /* the remote lacks the source of a refspec: only origin and spec matter */
 };
 
@@ -100,7 +100,7 @@ enum {
  *   forced             1 if refs may move without a fast-forward, else 0
  *   origin, verdict    0 after match
  *   id_at, id_len      the offset and length of the id, if item is NO_ITEM; else the length is 0
- *   made_at, made_len  those of the destination (backward: of the source, even an id) */
+ *   made_at, made_len  those of the destination (backward: of the source) */
 typedef struct {
     size_t spec, item;
     uint32_t has_destination, forced, origin, verdict;
@@ -131,8 +131,8 @@ uint32_t gix_refspec_compare(const uint8_t *a, size_t a_len, const uint8_t *b, s
  * none. Points into the text, or is the constant HEAD. */
 uint32_t gix_refspec_prefix(const uint8_t *text, size_t text_len, uint32_t operation, gix_refspec_text *prefix);
 
-/* That prefix, or the six candidates of a partial name, each with a newline; none for an id or a negative refspec. To
- * ask a server, call gix_refspec_prefixes: this may be empty, contain a star, or for HEAD be incomplete. *len is set as
+/* That prefix, or the six candidates of a partial name, each with a newline; none for an id or a negative refspec. It
+ * may be empty, contain a star, or for HEAD be incomplete: to ask a server, call gix_refspec_prefixes. *len is set as
  * by canonical. */
 uint32_t gix_refspec_expand_prefixes(const uint8_t *text, size_t text_len, uint32_t operation, uint8_t *buffer,
                                      size_t buffer_len, size_t *len);
@@ -154,8 +154,8 @@ uint32_t gix_refspec_plan(const gix_refspec_wish *wish, const gix_refspec_text *
                           gix_refspec_mapping *mappings, size_t mappings_count, uint8_t *buffer, size_t buffer_len,
                           size_t *count, size_t *len);
 
-/* Which local refs look stale, if the remote has these names. *count is set as by match. Symbolic refs are like others
- * here, so leave them out of the local ones. */
+/* Which local refs look stale by these fetch refspecs, if the remote has these names. *count is set as by match. Leave
+ * symbolic refs out of the local ones. */
 uint32_t gix_refspec_stale(const gix_refspec_text *texts, size_t texts_count, const gix_refspec_text *remote,
                            size_t remote_count, const gix_refspec_text *local, size_t local_count,
                            gix_refspec_stale_ref *stale, size_t stale_count, size_t *count);

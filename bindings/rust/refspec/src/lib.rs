@@ -71,7 +71,7 @@ pub enum Error {
     NegativeWithDestination,
     /// A negative spec has no source.
     NegativeEmpty,
-    /// A negative spec is an object id.
+    /// A negative spec is 40 hex digits or more.
     NegativeObjectHash,
     /// A push has a source and nothing after its last colon.
     PushToEmpty,
