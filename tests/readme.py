@@ -108,6 +108,16 @@ def git_folder(folder):
     return local, env
 
 
+def run_shown(lines, folder, env):
+    """Runs each line of a block without output: it has to print something, and to end with status 0, or 1 for a warning."""
+    for command in lines.splitlines():
+        made = subprocess.run(["bash", "-c", command], cwd=folder, env=env, text=True, stdout=subprocess.PIPE,
+                              stderr=subprocess.STDOUT, check=False)
+        if made.returncode > 1 or not made.stdout:
+            sys.exit(f"tests/readme.py: {command}: status {made.returncode}:\n{made.stdout}")
+    return len(lines.splitlines())
+
+
 def lines_in_a_clone(text, folder, refspec, programs):
     """The lines of README.md that begin with `git refspec`, and those of refspec.1."""
     if not shutil.which("git"):
@@ -115,7 +125,8 @@ def lines_in_a_clone(text, folder, refspec, programs):
     local, env = git_folder(folder)
     env.update(GIT_REFSPEC_PROGRAM=refspec, PATH=os.pathsep.join([programs, os.path.join(ROOT, "bin"), env["PATH"]]))
     lines = [block(text, "console", "$ git refspec"), *manual_examples("refspec.1")]
-    return f"{sum(run_lines(one, local, env) for one in lines)} commands of git refspec and refspec.1"
+    count = sum(run_lines(one, local, env) for one in lines) + run_shown(block(text, "sh", "git refspec"), local, env)
+    return f"{count} commands of git refspec and refspec.1"
 
 
 def lines_alone(text, folder, programs):
