@@ -61,7 +61,7 @@ enum { GIX_REFSPEC_FORWARD = 1, GIX_REFSPEC_BACKWARD = 2 };
 #define GIX_REFSPEC_NO_ITEM SIZE_MAX
 #define GIX_REFSPEC_NO_SPEC SIZE_MAX
 
-/* What to fetch. If no refspecs are given, the configured ones are fetched; else they also map what the given ones fetch.
+/* What to fetch. The configured refspecs are fetched if none are given; else they also map what the given ones fetch.
  *   given       the arguments of git fetch
  *   configured  the values of remote.<name>.fetch
  *   merges      the values of branch.<name>.merge of the current branch, if its remote is this one
