@@ -18,9 +18,9 @@ use std::alloc::{AllocError, Global};
 
 /// A refspec that borrows its sides from the text that it was parsed from, or from a [`RefSpec`].
 ///
-/// Only [`parse`](crate::parse) makes specs, and all others are copies of these. So each spec is a reading
-/// of some text of the grammar. Specs are compared, ordered and hashed by meaning, which is their
-/// instruction: a push of `main` equals one of `main:main`, and a push never equals a fetch.
+/// Specs come from [`parse`](crate::parse), or from [`fetch_of`](RefSpecRef::fetch_of) and the functions beside it, which
+/// ask for valid names. So each spec is a reading of some text of the grammar. Specs are compared, ordered and hashed by
+/// meaning, which is their instruction: a push of `main` equals one of `main:main`, and a push never equals a fetch.
 #[derive(Clone, Copy, Debug)]
 pub struct RefSpecRef<'a> {
     pub(crate) op: Operation,
