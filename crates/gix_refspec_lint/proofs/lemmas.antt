@@ -1,10 +1,19 @@
 -- Lemmas on what specs do together.
 pub mod FewerLemmas
 pub mod ByteLemmas
+pub mod RepeatLemmas
+pub mod RepeatNameLemmas
+pub mod BorderLemmas
+pub mod ChainLemmas
 pub mod WordLemmas
+pub mod FailLemmas
 pub mod PatternLemmas
+pub mod SharedLemmas
 pub mod NameAtLemmas
+pub mod RunLemmas
+pub mod OverlapLemmas
 pub mod OneSpecLemmas
+pub mod PairLemmas
 pub mod FreeLemmas
 pub mod FoundLemmas
 pub mod PlanFreeLemmas
@@ -18,6 +27,7 @@ pub mod ExclusionLemmas
 pub mod DecidingLemmas
 pub mod DecideLemmas
 pub mod IdleExclusionLemmas
+pub mod NothingLemmas
 pub mod IdleLemmas
 pub mod PreferredLemmas
 pub mod WhyLemmas

@@ -1,3 +1,6 @@
 -- The definitions that only private functions use, for their steps.
+pub mod Borders
+pub mod Overlaps
 pub mod Lints
 pub mod Idles
+pub mod Runs

@@ -1,6 +1,7 @@
 //! Specs that can conflict.
 
-ghost use Rattle.std.specs.Prelude.{◌≡◌, ◌<◌, ◌↔◌, ◌++◌, List, ℕ, length, map, option_map, IfOk, IsTrue, MatchOption, Some};
+ghost use Rattle.std.specs.Prelude.{◌≡◌, ◌<◌, ◌≤◌, ◌↔◌, ◌++◌, List, ℕ, drop, length, map, option_map, IfOk, IfSome, IsTrue, MatchOption, Some};
+ghost use Rattle.std.specs.List.{slice_get};
 ghost use Rattle.bstr.specs.BStr.{bstr_bytes};
 ghost use Rattle.bstr.specs.Owned.{bstring_bytes};
 ghost use Rattle.gix_refspec_text.specs.Specs.Reading.{Reading};
@@ -11,14 +12,18 @@ ghost use Rattle.gix_refspec_match.specs.Views.Mapping.{start_of};
 ghost use Rattle.gix_refspec_lint.specs.Matching.Lint.{AreExamples, ConflictOver, IsExample, refs_of};
 ghost use Rattle.gix_refspec_plan.specs.Matching.Plan.{CanBeWritten};
 ghost use Rattle.gix_refspec.specs.Matching.RefNames.{IsValidSource};
-ghost use Rattle.gix_refspec_lint.specs.Private.Lints.{HaveCommon, HaveParts, IsFound, IsFoundAt, IsGroupOf, NoneAt};
+ghost use Rattle.gix_refspec_lint.specs.Private.Lints.{HaveCommon, HaveParts, IsBounded, IsFound, IsFoundAt, IsGroupOf, NoneAt};
+ghost use Rattle.gix_refspec_lint.specs.Private.Overlaps.{IsOverlap};
+ghost use Rattle.gix_refspec_lint.specs.Private.Runs.{Fails, IsNotFetched, IsTried};
 ghost use Rattle.gix_refspec_lint.specs.Views.Lint.{example_of};
 
 use super::PossibleConflict;
-use super::group::{Group, add_item, any_target, makes, same_source, sources_for};
+use super::group::{Group, add_item, any_target, makes, same_source, source_of, sources_for};
+use super::runs::{Of, Run, Why};
 use super::words::Common;
 use bstr::{BStr, BString};
 use gix_refspec::match_group::Source;
+use gix_refspec::match_group::ref_names::is_ref_name;
 use gix_refspec_plan::mapped::{is_below_refs, is_valid_source};
 use gix_refspec_plan::stale::parts_of;
 use gix_refspec_text::RefSpecRef;
@@ -133,36 +138,128 @@ fn conflict_among(
     second: usize,
     common: &Common<'_>,
 ) -> Result<Option<PossibleConflict>, AllocError>
-    requires { (first < second) × (second < length group.now.specs.now) }
+    requires { (first < second) × (second < length group.now.specs.now) × IsBounded common.now }
     ensures { (g : List Reading) → IsGroupOf g group.now → HaveCommon group.now first second common.now →
         IfOk result (λ found. IsFound g first second (option_map example_of found)) }
 {
-    let words = group.words.as_slice();
-    for index in 0..common.count(words) {
-        let name = common.name_at(alloc, words, index)?;
-        if let Some(conflict) = conflict_named(alloc, group, first, second, &name)? {
+    for word in &group.words {
+        let name = common.with_word(alloc, word)?;
+        if let Some(conflict) = conflict_at(alloc, group, first, second, name.as_bstr())? {
             return Ok(Some(conflict));
         }
     }
-    Ok(None)
+    conflict_overlapping(alloc, group, first, second, common)
 }
 
-// The same at one of these names, if it is one.
-fn conflict_named(
+// The same at the names in which the texts overlap.
+fn conflict_overlapping(
     alloc: Global,
     group: &Group<'_, '_>,
     first: usize,
     second: usize,
-    name: &Option<BString>,
+    common: &Common<'_>,
 ) -> Result<Option<PossibleConflict>, AllocError>
-    requires { (first < second) × (second < length group.now.specs.now) }
-    ensures { (g : List Reading) → IsGroupOf g group.now → IfOk result (λ found. MatchOption found
-        ((d : List ℕ) → option_map bstring_bytes name.now ≡ Some d → NoneAt g first second d)
+    requires { (first < second) × (second < length group.now.specs.now) × IsBounded common.now }
+    ensures { (g : List Reading) → IsGroupOf g group.now → HaveCommon group.now first second common.now →
+        IfOk result (λ found. MatchOption found
+        ((k : ℕ) → k ≤ common.now.most → IsOverlap common.now.prefix.now common.now.suffix.now k →
+        NoneAt g first second (common.now.prefix.now ++ drop k common.now.suffix.now))
         (λ c. IsExample g first second (example_of c))) }
 {
-    match name {
-        None => Ok(None),
-        Some(name) => conflict_at(alloc, group, first, second, name.as_bstr()),
+    let mut run = Run::none();
+    for shared in &common.overlaps(alloc)? {
+        let why = match run.at(*shared) {
+            Some(why) => why,
+            None => {
+                let name = common.overlapping(alloc, *shared)?;
+                match conflict_or_why(alloc, group, first, second, name.as_bstr())? {
+                    Tried::Conflict(conflict) => return Ok(Some(conflict)),
+                    Tried::Nothing(why) => why,
+                }
+            }
+        };
+        run = run.with(*shared, why);
+    }
+    Ok(None)
+}
+
+// What there is at one destination.
+#[derive(Drop)]
+enum Tried {
+    Conflict(PossibleConflict),
+    Nothing(Why),
+}
+
+// A conflict at one destination, or why there is none.
+fn conflict_or_why(
+    alloc: Global,
+    group: &Group<'_, '_>,
+    first: usize,
+    second: usize,
+    destination: BStr<'_>,
+) -> Result<Tried, AllocError>
+    requires { (first < second) × (second < length group.now.specs.now) }
+    ensures { (g : List Reading) → IsGroupOf g group.now → (one other : Reading) →
+        slice_get (map reading_of group.now.specs.now) first ≡ Some one →
+        slice_get (map reading_of group.now.specs.now) second ≡ Some other →
+        IfOk result (IsTried g one other first second (bstr_bytes destination.entry)) }
+{
+    match conflict_at(alloc, group, first, second, destination)? {
+        Some(conflict) => Ok(Tried::Conflict(conflict)),
+        None => Ok(Tried::Nothing(why_none(
+            alloc,
+            group,
+            &group.specs[first],
+            &group.specs[second],
+            destination,
+        )?)),
+    }
+}
+
+// Why two specs of patterns don't conflict at one destination, if it is seen from the names alone.
+fn why_none(
+    alloc: Global,
+    group: &Group<'_, '_>,
+    one: &RefSpecRef<'_>,
+    other: &RefSpecRef<'_>,
+    destination: BStr<'_>,
+) -> Result<Why, AllocError>
+    ensures { (g : List Reading) → IsGroupOf g group.now → IfOk result (λ why.
+        Fails g (reading_of one.now) (reading_of other.now) why (bstr_bytes destination.entry)) }
+{
+    if !is_below_refs(destination) {
+        return Ok(Why::Unwritable);
+    }
+    let Some(source) = source_of(alloc, one, destination.as_bytes())? else {
+        return Ok(Why::Unknown);
+    };
+    if let Some(why) = why_not_fetched(group, Of::First, &source) {
+        return Ok(why);
+    }
+    let Some(other_source) = source_of(alloc, other, destination.as_bytes())? else {
+        return Ok(Why::Unknown);
+    };
+    if let Some(why) = why_not_fetched(group, Of::Second, &other_source) {
+        return Ok(why);
+    }
+    if source == other_source {
+        return Ok(Why::Same);
+    }
+    Ok(Why::Unknown)
+}
+
+// Why one of two specs doesn't fetch its source. `None` if it does.
+fn why_not_fetched(group: &Group<'_, '_>, of: Of, source: &BString) -> Option<Why>
+    ensures { (g : List Reading) → IsGroupOf g group.now → IfSome result
+        (IsNotFetched g of (bstring_bytes source.now)) }
+{
+    let name = source.as_bstr().as_bytes();
+    if !is_ref_name(name) {
+        return Some(Why::Invalid(of));
+    }
+    match group.exclusions.spec_of(name) {
+        None => None,
+        Some(spec) => Some(Why::Excluded(of, spec)),
     }
 }
 

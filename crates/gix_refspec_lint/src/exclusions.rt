@@ -1,6 +1,6 @@
 //! Negative specs that exclude nothing.
 
-ghost use Rattle.std.specs.Prelude.{◌≡◌, ◌↔◌, ◌∷◌, [], List, ℕ, Option, Some, map, option_map, IfOk, IsTrue, MatchBool};
+ghost use Rattle.std.specs.Prelude.{◌≡◌, ◌↔◌, ◌≤◌, ◌∷◌, ◌++◌, [], List, ℕ, Option, Some, drop, map, option_map, IfOk, IsTrue, MatchBool};
 ghost use Rattle.bstr.specs.Owned.{bstring_bytes};
 ghost use Rattle.std.specs.List.{Any};
 ghost use Rattle.gix_refspec_text.specs.Specs.Reading.{Reading, Negative};
@@ -9,14 +9,19 @@ ghost use Rattle.gix_refspec_match.specs.Matching.Mappings.{IsSourceExcluded, na
 ghost use Rattle.gix_refspec_match.specs.Views.Mapping.{start_of};
 ghost use Rattle.gix_refspec_lint.specs.Matching.Lint.{AreIdleExclusions, IsIdleExclusion, refs_of};
 ghost use Rattle.gix_refspec_lint.specs.Private.Idles.{ExcludesFrom, ExcludesSome, HasPlainSource, MakesSoundly, ShareSources};
-ghost use Rattle.gix_refspec_lint.specs.Private.Lints.{IsGroupOf};
+ghost use Rattle.gix_refspec_lint.specs.Private.Lints.{IsBounded, IsGroupOf};
+ghost use Rattle.gix_refspec_lint.specs.Private.Overlaps.{IsOverlap};
+ghost use Rattle.gix_refspec_lint.specs.Private.Runs.{IsUnsound};
 
-use super::group::{Group, add_item, any_target, named_sources, source_named};
+use super::group::{Group, add_item, any_target, destination_of, named_sources, source_named};
+use super::runs::{Of, Run, Why};
 use super::sound::sound_mapping;
 use super::words::Common;
 use bstr::BString;
+use gix_refspec::match_group::ref_names::is_ref_name;
 use gix_refspec::match_group::{Source, SourceRef};
 use gix_refspec_match::needle::word_between;
+use gix_refspec_plan::mapped::is_below_refs;
 use gix_refspec_plan::stale::parts_of;
 use gix_refspec_text::RefSpecRef;
 use gix_refspec_text::oid::ObjectId;
@@ -128,39 +133,65 @@ fn excludes_common(
     spec: &RefSpecRef<'_>,
     common: &Common<'_>,
 ) -> Result<bool, AllocError>
-    requires { (reading_of negative.now).mode ≡ Negative }
+    requires { ((reading_of negative.now).mode ≡ Negative) × IsBounded common.now }
     ensures { (g : List Reading) → IsGroupOf g group.now →
         ShareSources (reading_of negative.now) (reading_of spec.now) common.now →
         IfOk result (λ does. MatchBool does
         (ExcludesSome (reading_of negative.now) (reading_of spec.now))
         (¬ (ExcludesSome (reading_of negative.now) (reading_of spec.now)))) }
 {
-    let words = group.words.as_slice();
-    for index in 0..common.count(words) {
-        let name = common.name_at(alloc, words, index)?;
-        if excludes_name(alloc, negative, spec, name)? {
+    for word in &group.words {
+        let source = source_named(common.with_word(alloc, word)?);
+        if excludes_at(alloc, negative, spec, &source)? {
             return Ok(true);
         }
+    }
+    excludes_overlapping(alloc, negative, spec, common)
+}
+
+// The same of the names in which the texts overlap.
+fn excludes_overlapping(
+    alloc: Global,
+    negative: &RefSpecRef<'_>,
+    spec: &RefSpecRef<'_>,
+    common: &Common<'_>,
+) -> Result<bool, AllocError>
+    requires { ((reading_of negative.now).mode ≡ Negative) × IsBounded common.now }
+    ensures { IfOk result (λ does. MatchBool does
+        (ExcludesSome (reading_of negative.now) (reading_of spec.now))
+        ((k : ℕ) → k ≤ common.now.most → IsOverlap common.now.prefix.now common.now.suffix.now k →
+        ¬ (ExcludesFrom (reading_of negative.now) (reading_of spec.now)
+        (name (common.now.prefix.now ++ drop k common.now.suffix.now))))) }
+{
+    let mut run = Run::none();
+    for shared in &common.overlaps(alloc)? {
+        let why = match run.at(*shared) {
+            Some(why) => why,
+            None => {
+                let name = common.overlapping(alloc, *shared)?;
+                let why = why_unsound(alloc, spec, &name)?;
+                if excludes_at(alloc, negative, spec, &source_named(name))? {
+                    return Ok(true);
+                }
+                why
+            }
+        };
+        run = run.with(*shared, why);
     }
     Ok(false)
 }
 
-// The same of one of these names, if it is one.
-fn excludes_name(
-    alloc: Global,
-    negative: &RefSpecRef<'_>,
-    spec: &RefSpecRef<'_>,
-    decides: Option<BString>,
-) -> Result<bool, AllocError>
-    requires { (reading_of negative.now).mode ≡ Negative }
-    ensures { IfOk result (λ does. MatchBool does
-        (ExcludesSome (reading_of negative.now) (reading_of spec.now))
-        ((n : List ℕ) → option_map bstring_bytes decides ≡ Some n →
-        ¬ (ExcludesFrom (reading_of negative.now) (reading_of spec.now) (name n)))) }
+// Why a spec doesn't map a name soundly, if it is one of patterns and that is seen from the names alone.
+fn why_unsound(alloc: Global, spec: &RefSpecRef<'_>, name: &BString) -> Result<Why, AllocError>
+    ensures { IfOk result (λ why. IsUnsound (reading_of spec.now) why (bstring_bytes name.now)) }
 {
-    match decides {
-        None => Ok(false),
-        Some(name) => excludes_at(alloc, negative, spec, &source_named(name)),
+    let name = name.as_bstr().as_bytes();
+    if !is_ref_name(name) {
+        return Ok(Why::Invalid(Of::First));
+    }
+    match destination_of(alloc, spec, name)? {
+        Some(destination) if !is_below_refs(destination.as_bstr()) => Ok(Why::Unwritable),
+        _ => Ok(Why::Unknown),
     }
 }
 

@@ -1,12 +1,13 @@
 //! The specs of a group, and what one of them maps.
 
-ghost use Rattle.std.specs.Prelude.{◌≡◌, ◌↔◌, ◌++◌, List, ℕ, Option, Some, map, option_map, IfOk, IsTrue, OnOk};
+ghost use Rattle.std.specs.Prelude.{◌≡◌, ◌↔◌, ◌++◌, List, ℕ, Option, Some, map, option_map, IfOk, IfSome, IsTrue, MatchOption, OnOk};
 ghost use Rattle.std.specs.List.{Contains};
 ghost use Rattle.bstr.specs.BStr.{bstr_bytes};
 ghost use Rattle.bstr.specs.Owned.{bstring_bytes};
 ghost use Rattle.gix_refspec_text.specs.Texts.Name.{IsSplit};
 ghost use Rattle.gix_refspec_text.specs.Specs.Reading.{Reading};
 ghost use Rattle.gix_refspec_text.specs.Matching.Match.{Ref};
+ghost use Rattle.gix_refspec_text.specs.Matching.Side.{Fits};
 ghost use Rattle.gix_refspec_text.specs.Views.Spec.{reading_of};
 ghost use Rattle.gix_refspec_match.specs.Matching.Mappings.{IsSamePair, Source, name};
 ghost use Rattle.gix_refspec_match.specs.Views.Mapping.{mapped_of, name_bytes, ref_of, start_of};
@@ -15,6 +16,7 @@ ghost use Rattle.gix_refspec.specs.Laws.Matching.{MakesForward};
 ghost use Rattle.gix_refspec_lint.specs.Matching.Lint.{refs_of};
 ghost use Rattle.gix_refspec_plan.specs.Matching.Plan.{IsCompleted};
 ghost use Rattle.gix_refspec_lint.specs.Private.Lints.{HasSourcesOf, pair_of};
+ghost use Rattle.gix_refspec_lint.specs.Private.Runs.{ArePaired};
 
 use super::words::words_of;
 use bstr::{BStr, BString};
@@ -37,7 +39,6 @@ pub(super) struct Group<'g, 's> {
 }
 
 impl<'g, 's> Group<'g, 's> {
-    ghost use Rattle.std.specs.Prelude.{MatchOption};
     ghost use Rattle.std.specs.List.{AllZip, slice_get};
     ghost use Rattle.gix_refspec_match.specs.Matching.Mappings.{IsExcludedBy, IsSourceExcluded};
     ghost use Rattle.gix_refspec_lint.specs.Matching.Lint.{IsFree};
@@ -168,20 +169,68 @@ pub(super) fn sources_for(
     let Some(side) = spec.destination() else {
         return Ok(Vec::new(alloc));
     };
-    let Some((before, after)) = split_at_first_star(side.as_bytes()) else {
+    let Some(far) = split_at_first_star(side.as_bytes()) else {
         if side.as_bytes() != destination {
             return Ok(Vec::new(alloc));
         }
         return named_sources(alloc, spec);
     };
-    let Some((prefix, suffix)) = parts_of(spec.source()) else {
+    let Some(near) = parts_of(spec.source()) else {
         return Ok(Vec::new(alloc));
     };
     let mut sources = Vec::new(alloc);
-    if let Some(word) = word_between(before, after, destination) {
-        sources.push(source_named(joined(alloc, prefix, word, suffix)?))?;
+    if let Some(name) = with_its_word(alloc, far, near, destination)? {
+        sources.push(source_named(name))?;
     }
     Ok(sources)
+}
+
+// The source from which a spec of patterns writes a destination. `None` if it doesn't, or isn't one of patterns.
+pub(super) fn source_of(
+    alloc: Global,
+    spec: &RefSpecRef<'_>,
+    destination: &[u8],
+) -> Result<Option<BString>, AllocError>
+    ensures { IfOk result (λ source. IfSome source (λ n.
+        ArePaired (reading_of spec.now) (bstring_bytes n) destination.now)) }
+{
+    match (parts_of(spec.source()), parts_of(spec.destination())) {
+        (Some(near), Some(far)) => with_its_word(alloc, far, near, destination),
+        _ => Ok(None),
+    }
+}
+
+// The destination to which it writes a source.
+pub(super) fn destination_of(
+    alloc: Global,
+    spec: &RefSpecRef<'_>,
+    source: &[u8],
+) -> Result<Option<BString>, AllocError>
+    ensures { IfOk result (λ destination. IfSome destination (λ d.
+        ArePaired (reading_of spec.now) source.now (bstring_bytes d))) }
+{
+    match (parts_of(spec.source()), parts_of(spec.destination())) {
+        (Some(near), Some(far)) => with_its_word(alloc, near, far, source),
+        _ => Ok(None),
+    }
+}
+
+// What a pattern becomes with the word that another one has in a name. `None` if that doesn't match.
+fn with_its_word(
+    alloc: Global,
+    matching: (&[u8], &[u8]),
+    pattern: (&[u8], &[u8]),
+    name: &[u8],
+) -> Result<Option<BString>, AllocError>
+    ensures { IfOk result (λ other. MatchOption other
+        ((word : List ℕ) → ¬ (Fits matching.entry.0.now matching.entry.1.now name.now word))
+        (λ n. (word : List ℕ) × Fits matching.entry.0.now matching.entry.1.now name.now word ×
+        (bstring_bytes n ≡ pattern.entry.0.now ++ (word ++ pattern.entry.1.now)))) }
+{
+    match word_between(matching.0, matching.1, name) {
+        None => Ok(None),
+        Some(word) => Ok(Some(joined(alloc, pattern.0, word, pattern.1)?)),
+    }
 }
 
 // The sources that a spec without a star may map.

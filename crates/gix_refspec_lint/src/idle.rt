@@ -16,13 +16,12 @@ ghost use Rattle.gix_refspec.specs.Laws.Matching.{MakesForward};
 ghost use Rattle.gix_refspec_lint.specs.Matching.Lint.{AreIdle, Maps};
 ghost use Rattle.gix_refspec.specs.Matching.RefNames.{IsRefName};
 ghost use Rattle.gix_refspec_plan.specs.Matching.Stale.{ref_named};
-ghost use Rattle.gix_refspec_lint.specs.Private.Idles.{AreAllowed, AreFreeing, ArePreferred, AreTriedBefore, Explains, HasPlainSource, IsReasonOf, IsShown, IsWhy, IsWhyAt, ShareSources};
+ghost use Rattle.gix_refspec_lint.specs.Private.Idles.{AreAllowed, AreFreeing, ArePreferred, AreTriedBefore, Explains, HasPlainSource, HasSourcePattern, IsReasonOf, IsShown, IsWhy, IsWhyAt};
 ghost use Rattle.gix_refspec_lint.specs.Private.Lints.{IsGroupOf};
 ghost use Rattle.gix_refspec_lint.specs.Views.Lint.{unused_of};
 
 use super::group::{Group, add_item, any_target, makes, name_of, named_sources, source_named};
 use super::sound::sound_mapping;
-use super::words::Common;
 use super::{IdleSpec, Reason};
 use bstr::{BStr, BString};
 use gix_refspec::match_group::ref_names::is_ref_name;
@@ -31,7 +30,7 @@ use gix_refspec_match::needle::word_between;
 use gix_refspec_plan::stale::parts_of;
 use gix_refspec_text::RefSpecRef;
 use gix_refspec_text::oid::ObjectId;
-use gix_refspec_text::side::{SideKind, candidates, kind_of};
+use gix_refspec_text::side::{SideKind, candidates, joined, kind_of};
 use std::alloc::{AllocError, Global};
 
 // The positive specs that are idle, in order.
@@ -63,12 +62,9 @@ fn idle_reason(
     if spec.is_negative() {
         return Ok(None);
     }
-    let Some(parts) = parts_of(spec.source()) else {
-        return idle_by_sources(alloc, group, index);
-    };
-    match Common::of(parts, parts) {
-        None => Ok(Some(Reason::Invalid)),
-        Some(common) => idle_by_words(alloc, group, index, &common),
+    match parts_of(spec.source()) {
+        None => idle_by_sources(alloc, group, index),
+        Some((prefix, suffix)) => idle_by_words(alloc, group, index, prefix, suffix),
     }
 }
 
@@ -92,46 +88,28 @@ fn idle_by_sources(
     Ok(Some(reason))
 }
 
-// The same of a pattern, by the names that decide.
+// The same of a pattern with these texts, by the words to try.
 fn idle_by_words(
     alloc: Global,
     group: &Group<'_, '_>,
     index: usize,
-    common: &Common<'_>,
+    prefix: &[u8],
+    suffix: &[u8],
 ) -> Result<Option<Reason>, AllocError>
     requires { index < length group.now.specs.now }
     ensures { (g : List Reading) → IsGroupOf g group.now → IfOk result (λ why. (c : Reading) →
         slice_get (map reading_of group.now.specs.now) index ≡ Some c → IsPositive c.mode →
-        ShareSources c c common.now → IsWhy g index why) }
+        HasSourcePattern c prefix.now suffix.now → IsWhy g index why) }
 {
-    let words = group.words.as_slice();
     let mut reason = Reason::Invalid;
-    for at in 0..common.count(words) {
-        let name = common.name_at(alloc, words, at)?;
-        match idle_name(alloc, group, index, name)? {
+    for word in &group.words {
+        let name = joined(alloc, prefix, word.as_bstr().as_bytes(), suffix)?;
+        match idle_at(alloc, group, index, &source_named(name))? {
             None => return Ok(None),
             Some(found) => reason = stronger(reason, found),
         }
     }
     Ok(Some(reason))
-}
-
-// Why no mapping of one of these names is kept, if it is one.
-fn idle_name(
-    alloc: Global,
-    group: &Group<'_, '_>,
-    index: usize,
-    decides: Option<BString>,
-) -> Result<Option<Reason>, AllocError>
-    requires { index < length group.now.specs.now }
-    ensures { (g : List Reading) → IsGroupOf g group.now → IfOk result (λ why. MatchOption (option_map bstring_bytes decides)
-        (why ≡ Some reason.Invalid)
-        (λ n. IsWhyAt g index (name n) why)) }
-{
-    match decides {
-        None => Ok(Some(Reason::Invalid)),
-        Some(name) => idle_at(alloc, group, index, &source_named(name)),
-    }
 }
 
 // The reason that explains two mappings that aren't kept: the last of the two, in the order of `Reason`.

@@ -17,12 +17,14 @@ ghost use Rattle.gix_refspec_lint.specs.Matching.Lint.{AreExamples, AreIdle, Are
 ghost use Rattle.gix_refspec_lint.specs.Views.Lint.{example_of, unused_of};
 ghost use Rattle.gix_refspec_lint.specs.declared.Error.TheVariants as error;
 
+mod borders;
 mod conflicts;
 mod exclusions;
 mod group;
 mod idle;
 pub mod laws;
 mod letter;
+mod runs;
 mod sound;
 mod words;
 

@@ -1,10 +1,12 @@
 //! The names that decide what two patterns have in common.
 
-ghost use Rattle.std.specs.Prelude.{◌≡◌, ◌+◌, ◌<◌, List, ℕ, length, map, option_map, IfOk, MatchOption};
+ghost use Rattle.std.specs.Prelude.{◌≡◌, ◌+◌, ◌++◌, ◌≤◌, List, ℕ, drop, length, map, IfOk, MatchOption};
 ghost use Rattle.bstr.specs.Owned.{bstring_bytes};
 ghost use Rattle.gix_refspec_text.specs.Texts.Words.{BeginsWith, EndsWith};
-ghost use Rattle.gix_refspec_lint.specs.Private.Lints.{AreApart, AreCommon, IsLongerPrefix, IsLongerSuffix, IsNameAt, words_with};
+ghost use Rattle.gix_refspec_lint.specs.Private.Lints.{AreApart, AreCommon, IsBounded, IsLongerPrefix, IsLongerSuffix, words_with};
+ghost use Rattle.gix_refspec_lint.specs.Private.Overlaps.{AreOverlaps};
 
+use super::borders::borders;
 use bstr::BString;
 use gix_refspec_text::side::joined;
 use std::alloc::{AllocError, Global};
@@ -33,11 +35,12 @@ pub(super) fn words_of(alloc: Global, letter: u8) -> Result<Vec<BString>, AllocE
     Ok(words)
 }
 
-// The texts that each name begins and ends with that two patterns match.
+// The texts that each name begins and ends with that two patterns match, and in how many bytes these may overlap in one.
 #[derive(Clone, Copy)]
 pub(super) struct Common<'a> {
     prefix: &'a [u8],
     suffix: &'a [u8],
+    most: usize,
 }
 
 impl<'a> Common<'a> {
@@ -55,37 +58,66 @@ impl<'a> Common<'a> {
         let Some(suffix) = longer_suffix(one.1, other.1) else {
             return None;
         };
-        Some(Common { prefix, suffix })
+        let most = smaller(
+            smaller(prefix.len(), suffix.len()),
+            smaller(
+                beyond(prefix, suffix, one.0, one.1),
+                beyond(prefix, suffix, other.0, other.1),
+            ),
+        );
+        Some(Common {
+            prefix,
+            suffix,
+            most,
+        })
     }
 
-    // How many names there are to try.
-    pub(super) fn count(&self, words: &[BString]) -> usize
-        ensures { result ≡ length words.now + length self.now.suffix.now }
+    // The name with a word between the texts.
+    pub(super) fn with_word(&self, alloc: Global, word: &BString) -> Result<BString, AllocError>
+        ensures { IfOk result (λ name. bstring_bytes name ≡
+            self.now.prefix.now ++ (bstring_bytes word.now ++ self.now.suffix.now)) }
     {
-        words.len().saturating_add(self.suffix.len())
+        joined(alloc, self.prefix, word.as_bstr().as_bytes(), self.suffix)
     }
 
-    // The name at an index: with one of the words, or one in which both texts overlap. `None` where they can't.
-    pub(super) fn name_at(
-        &self,
-        alloc: Global,
-        words: &[BString],
-        index: usize,
-    ) -> Result<Option<BString>, AllocError>
-        requires { index < length words.now + length self.now.suffix.now }
-        ensures { IfOk result (λ name. IsNameAt
-            (map bstring_bytes words.now) self.now.prefix.now self.now.suffix.now index (option_map bstring_bytes name)) }
+    // The name in which the texts overlap in so many bytes.
+    pub(super) fn overlapping(&self, alloc: Global, shared: usize) -> Result<BString, AllocError>
+        requires { shared ≤ length self.now.suffix.now }
+        ensures { IfOk result (λ name. bstring_bytes name ≡ self.now.prefix.now ++ drop shared self.now.suffix.now) }
     {
-        if index < words.len() {
-            let word = words[index].as_bstr().as_bytes();
-            return Ok(Some(joined(alloc, self.prefix, word, self.suffix)?));
-        }
-        let (shared, rest) = self.suffix.split_at(index - words.len() + 1);
-        if !self.prefix.ends_with(shared) {
-            return Ok(None);
-        }
-        Ok(Some(joined(alloc, self.prefix, b"", rest)?))
+        joined(alloc, self.prefix, b"", &self.suffix[shared..])
     }
+
+    // In how many bytes the texts can overlap, the most first: in so many as one ends with and the other begins with.
+    pub(super) fn overlaps(&self, alloc: Global) -> Result<Vec<usize>, AllocError>
+        requires { IsBounded self.now }
+        ensures { IfOk result (λ shared. AreOverlaps self.now.prefix.now self.now.suffix.now self.now.most shared.items) }
+    {
+        let front = &self.suffix[..self.most];
+        let end = &self.prefix[self.prefix.len() - self.most..];
+        let text = joined(alloc, front, b"", end)?;
+        let mut shared = Vec::new(alloc);
+        for length in &borders(alloc, text.as_bstr().as_bytes())? {
+            if *length <= self.most {
+                shared.push(*length)?;
+            }
+        }
+        Ok(shared)
+    }
+}
+
+// How many bytes two texts have more than two others, which are no longer.
+fn beyond(prefix: &[u8], suffix: &[u8], before: &[u8], after: &[u8]) -> usize
+    requires { (length before.now ≤ length prefix.now) × (length after.now ≤ length suffix.now) }
+    ensures { result + (length before.now + length after.now) ≡ length prefix.now + length suffix.now }
+{
+    (prefix.len() - before.len()).saturating_add(suffix.len() - after.len())
+}
+
+fn smaller(one: usize, other: usize) -> usize
+    ensures { (result ≤ one) × (result ≤ other) × ((x : ℕ) → x ≤ one → x ≤ other → x ≤ result) }
+{
+    if one < other { one } else { other }
 }
 
 // The longer of two texts, if it begins with the other.

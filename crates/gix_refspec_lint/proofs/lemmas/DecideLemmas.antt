@@ -19,7 +19,7 @@ use Rattle.gix_refspec_lint.specs.Matching.Lint.{IsFree}
 use Rattle.gix_refspec_plan.specs.Matching.Plan.{CanBeWritten}
 use Rattle.gix_refspec.specs.Matching.RefNames.{IsRefName}
 use Rattle.gix_refspec_lint.specs.Private.Idles.{MakesSoundly}
-use Rattle.gix_refspec_lint.specs.Private.Lints.{IsDeciding, IsLongerPrefix, IsLongerSuffix, endings, parts, words_with}
+use Rattle.gix_refspec_lint.specs.Private.Lints.{IsDeciding, IsLongerPrefix, IsLongerSuffix, IsMost, endings, parts, words_with}
 use Rattle.gix_refspec.proofs.lemmas.specs.SideLawLemmas.{sides_agree}
 use Rattle.gix_refspec_plan.proofs.lemmas.stale.FetchedLemmas.{named_some, some_named}
 use Rattle.gix_refspec.proofs.lemmas.keep.FilterLemmas.{mapped_there}
@@ -133,10 +133,10 @@ pub record IsMoved (z : ℕ) (c : Reading) (prefix m n : List ℕ) (d e : Option
   pub far : IsMovedFar z c prefix word d e
 
 -- a name that decides, fits a pattern, and is mapped soundly: m itself, or moved from it
-pub record Decided (z : ℕ) (c : Reading) (a b prefix suffix m : List ℕ) (d : Option (List ℕ)) : Type 0 where
+pub record Decided (z : ℕ) (c : Reading) (a b prefix suffix : List ℕ) (most : ℕ) (m : List ℕ) (d : Option (List ℕ)) : Type 0 where
   pub source : List ℕ
   pub destination : Option (List ℕ)
-  pub deciding : IsDeciding (words_with z) prefix suffix source
+  pub deciding : IsDeciding (words_with z) prefix suffix most source
   pub word : List ℕ
   pub fits : Fits a b source word
   pub sound : (few : List Ref) → HasName few source → MakesSoundly few (name source) destination c
@@ -182,8 +182,8 @@ module _ (g : List Reading) (z : ℕ) (free : IsFree g z) (c : Reading) (p t : L
         (lacks_ending g z free e listed),
   )
 
-  module _ (a b prefix suffix : List ℕ) (longer : IsLongerPrefix a p prefix) (ends : IsLongerSuffix b t suffix) (refs : List Ref) (m : List ℕ) (d : Option (List ℕ)) (v : List ℕ) (fits : Fits a b m v) (makes : MakesSoundly refs (name m) d c) where
-    by_itself : IsDeciding (words_with z) prefix suffix m → Decided z c a b prefix suffix m d
+  module _ (a b prefix suffix : List ℕ) (most : ℕ) (longer : IsLongerPrefix a p prefix) (ends : IsLongerSuffix b t suffix) (is_most : IsMost a b p t prefix suffix most) (refs : List Ref) (m : List ℕ) (d : Option (List ℕ)) (v : List ℕ) (fits : Fits a b m v) (makes : MakesSoundly refs (name m) d c) where
+    by_itself : IsDeciding (words_with z) prefix suffix most m → Decided z c a b prefix suffix most m d
     by_itself deciding =
         let (w, source, far, there) = spec_made c p t spec refs m d makes.makes in
         record {
@@ -201,7 +201,7 @@ module _ (g : List Reading) (z : ℕ) (free : IsFree g z) (c : Reading) (p t : L
         }
 
     module _ (w : List ℕ) (source : m ≡ p ++ (w ++ t)) (far : d ≡ spec.far w) (q : IsParted a b p t prefix suffix m v w) where
-      by_ending : HasEnding q.word (map (λ (s : Around). s.front) (around q.p q.q)) → Decided z c a b prefix suffix m d
+      by_ending : HasEnding q.word (map (λ (s : Around). s.front) (around q.p q.q)) → Decided z c a b prefix suffix most m d
       by_ending ending =
           let e = ending.ending in
           let rest = ending.rest in
@@ -233,7 +233,7 @@ module _ (g : List Reading) (z : ℕ) (free : IsFree g z) (c : Reading) (p t : L
             });
           }
 
-      by_word : Decided z c a b prefix suffix m d
+      by_word : Decided z c a b prefix suffix most m d
       by_word = elim (ending_or_part q.word (around q.p q.q) (
         subst IsRefName (source ∙ ap (λ u. p ++ (u ++ t)) q.other ∙ sym (between p q.p q.word q.q t)) makes.source,
         valid_far spec.shape q.p q.word q.q (subst CanBeWritten (far ∙ ap spec.far q.other) makes.destination),
@@ -242,10 +242,10 @@ module _ (g : List Reading) (z : ℕ) (free : IsFree g z) (c : Reading) (p t : L
         | inr ending ↦ by_ending ending
       ]
 
-    pub decide : Decided z c a b prefix suffix m d
+    pub decide : Decided z c a b prefix suffix most m d
     decide =
         let (w, source, far, there) = spec_made c p t spec refs m d makes.makes in
-        elim (common_name (words_with z) a b p t prefix suffix m v w longer ends fits source) [
+        elim (common_name (words_with z) a b p t prefix suffix most m v w longer ends is_most fits source) [
           | inr deciding ↦ by_itself deciding
           | inl parted ↦ by_word w source far parted
         ]

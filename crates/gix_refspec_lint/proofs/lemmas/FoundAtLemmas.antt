@@ -1,9 +1,7 @@
 -- What is found of two specs at some names, and of one spec with all others.
-use Rattle.std.proofs.Common.{◌≡◌, ℕ, ◌+◌, ◌<◌, ◌≤◌, List, ◌++◌, Option, None, Some, MatchOption, append-nil, length, get_or, map, option_map, option_to_list, take, refl, sym, ◌∙◌, subst, arith}
+use Rattle.std.proofs.Common.{◌≡◌, ℕ, ◌+◌, ◌<◌, ◌≤◌, List, ◌++◌, Option, None, Some, append-nil, length, get_or, map, option_to_list, take, refl, sym, ◌∙◌, subst, arith}
 use Rattle.std.specs.List.{AllByRecursion, Contains}
 use Rattle.std.proofs.lemmas.List.{length-map, length-take-le, take_more}
-use Rattle.std.proofs.lemmas.Option.{same_Some}
-use Rattle.gix_refspec_lint.specs.declared.PossibleConflict.{PossibleConflict}
 use Rattle.gix_refspec_lint.specs.declared.group.Group.{Group}
 use Rattle.gix_refspec_text.specs.Specs.Reading.{Reading}
 use Rattle.gix_refspec_text.specs.Views.Spec.{reading_of}
@@ -13,8 +11,7 @@ use Rattle.gix_refspec_match.proofs.lemmas.duplicates.FlagLemmas.{some_element}
 use Rattle.gix_refspec_match.proofs.lemmas.lists.JoinLemmas.{joined_next, made_next}
 use Rattle.gix_refspec_lint.specs.Matching.Lint.{ConflictOver, Example, IsExample, refs_of}
 use Rattle.gix_refspec_plan.specs.Matching.Plan.{IsCompleted}
-use Rattle.gix_refspec_lint.specs.Private.Lints.{IsFound, IsFoundAt, IsGroupOf, NoneAt}
-use Rattle.gix_refspec_lint.specs.Views.Lint.{example_of}
+use Rattle.gix_refspec_lint.specs.Private.Lints.{IsFound, IsGroupOf, NoneAt}
 use Rattle.gix_refspec_lint.proofs.lemmas.PatternLemmas.{listed_at}
 use Rattle.gix_refspec_plan.proofs.lemmas.plan.NameLemmas.{zip_long}
 
@@ -39,12 +36,6 @@ copied_example g i j s t u v d n order first second to c = record {
   order = order;
   conflict = subst (λ a. ConflictOver g (refs_of a ++ refs_of v) i j a v n) (sym first) (subst (λ b. ConflictOver g (refs_of s ++ refs_of b) i j s b n) (sym second) (subst (ConflictOver g (refs_of s ++ refs_of t) i j s t) (sym to) c));
 }
-
--- the same of a name that there may be
-pub named_found : (g : List Reading) (i j : ℕ) (o : Option (List ℕ)) (n : List ℕ) (found : Option PossibleConflict) → o ≡ Some n → IsFoundAt g i j n (option_map example_of found)
-    → MatchOption found ((d : List ℕ) → o ≡ Some d → NoneAt g i j d) (λ c. IsExample g i j (example_of c))
-named_found g i j o n None is none = λ d at. subst (NoneAt g i j) (same_Some _ _ (sym is ∙ at)) none
-named_found g i j o n (Some c) is shown = shown
 
 -- ---- of one spec with each other, and of all
 

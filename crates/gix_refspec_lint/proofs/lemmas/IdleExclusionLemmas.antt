@@ -1,5 +1,5 @@
 -- Negative specs that exclude nothing.
-use Rattle.std.proofs.Common.{◌≡◌, inl, inr, ℕ, zero, suc, ◌+◌, ◌<◌, Bool, true, false, MatchBool, not, take, List, [], ◌∷◌, ◌++◌, Option, None, Some, length, map, option_to_list, get_or, refl, sym, ap, ◌∙◌, subst, arith}
+use Rattle.std.proofs.Common.{◌≡◌, inl, inr, ℕ, zero, suc, ◌+◌, ◌<◌, ◌≤◌, Bool, true, false, MatchBool, not, drop, take, List, [], ◌∷◌, ◌++◌, Option, None, Some, length, map, option_to_list, get_or, refl, sym, ap, ◌∙◌, subst, arith}
 use Rattle.std.specs.List.{AllByRecursion, AllZip, Any, slice_get}
 use Rattle.std.proofs.lemmas.Option.{same_Some}
 use Rattle.gix_refspec_lint.specs.declared.words.Common.{Common}
@@ -15,8 +15,10 @@ use Rattle.gix_refspec_plan.specs.Matching.Plan.{IsCompleted}
 use Rattle.gix_refspec_plan.specs.Matching.Stale.{ref_named}
 use Rattle.gix_refspec_lint.specs.Private.Idles.{ExcludesFrom, ExcludesSome, HasSourcePattern, ShareSources}
 use Rattle.gix_refspec_lint.specs.Private.Lints.{IsDeciding, words_with}
+use Rattle.gix_refspec_lint.specs.Private.Overlaps.{IsOverlap}
 use Rattle.gix_refspec_match.proofs.lemmas.lists.JoinLemmas.{made_more}
 use Rattle.gix_refspec_plan.proofs.lemmas.plan.OnePlanLemmas.{reading_once}
+use Rattle.gix_refspec_lint.proofs.lemmas.DecidingLemmas.{each_deciding}
 use Rattle.gix_refspec_lint.proofs.lemmas.DecideLemmas.{decide, pattern_spec, spec_made}
 use Rattle.gix_refspec_lint.proofs.lemmas.ExclusionLemmas.{excludes_by, text_excludes}
 use Rattle.gix_refspec.proofs.lemmas.prefixes.CoverLemmas.{some_at}
@@ -31,20 +33,29 @@ fits_excluded x before after n split (by_pattern front back w parts fits) =
 
 -- what is excluded and mapped is so at a name that decides
 pub none_shared : (g : List Reading) (z : ℕ) (free : IsFree g z) (negative c : Reading) (common : Common) → negative.mode ≡ Negative → ∥ IsAccepted c ∥₁ → ShareSources negative c common
-    → ((n : List ℕ) → IsDeciding (words_with z) common.prefix.now common.suffix.now n → ¬ (ExcludesFrom negative c (name n))) → ¬ (ExcludesSome negative c)
+    → ((n : List ℕ) → IsDeciding (words_with z) common.prefix.now common.suffix.now common.most n → ¬ (ExcludesFrom negative c (name n))) → ¬ (ExcludesSome negative c)
 none_shared g z free negative c common is accepted share none (id bytes, e) = e.excludes
 none_shared g z free negative c common is accepted share none (name m, e) =
     let one = share.one in
     let other = share.other in
     let (v, fits) = fits_excluded one.text share.before share.after m one.split (text_excludes negative one.text is one.has m e.excludes) in
     let spec = pattern_spec c share.prefix share.suffix other.text accepted e.makes.makes.has.positive other.has other.split in
-    let d = decide g z free c share.prefix share.suffix spec share.before share.after common.prefix.now common.suffix.now share.shared.prefix share.shared.suffix e.refs m e.destination v fits e.makes in
+    let d = decide g z free c share.prefix share.suffix spec share.before share.after common.prefix.now common.suffix.now common.most share.shared.prefix share.shared.suffix share.shared.most e.refs m e.destination v fits e.makes in
     none d.source d.deciding (record {
       refs = ref_named d.source ∷ [];
       destination = d.destination;
       makes = d.sound (ref_named d.source ∷ []) (inl refl);
       excludes = excludes_by negative one.text is one.has d.source (by_pattern share.before share.after d.word one.split d.fits);
     })
+
+-- by what is found in the overlaps, and not with the words
+pub shared_told : (g : List Reading) (z : ℕ) (free : IsFree g z) (negative c : Reading) (common : Common) → negative.mode ≡ Negative → ∥ IsAccepted c ∥₁ → ShareSources negative c common → (does : Bool)
+    → AllByRecursion (λ w. ¬ (ExcludesFrom negative c (name (common.prefix.now ++ (w ++ common.suffix.now))))) (words_with z)
+    → MatchBool does (ExcludesSome negative c) ((k : ℕ) → k ≤ common.most → IsOverlap common.prefix.now common.suffix.now k → ¬ (ExcludesFrom negative c (name (common.prefix.now ++ drop k common.suffix.now))))
+    → MatchBool does (ExcludesSome negative c) (¬ (ExcludesSome negative c))
+shared_told g z free negative c common is accepted share true by_word some = some
+shared_told g z free negative c common is accepted share false by_word none =
+    none_shared g z free negative c common is accepted share (each_deciding (λ n. ¬ (ExcludesFrom negative c (name n))) (words_with z) common.prefix.now common.suffix.now common.most by_word none)
 
 -- without a star only its own name
 pub plain_only : (negative c : Reading) (x : List ℕ) (b : Bool) → negative.mode ≡ Negative → negative.source ≡ Some x → ((y before after : List ℕ) → negative.source ≡ Some y → ¬ (IsSplit before after y))

@@ -1,17 +1,16 @@
 -- Why a spec does nothing, from what becomes of its mappings at the names that decide.
-use Rattle.std.proofs.Common.{◌≡◌, ◌≢◌, inl, inr, ℕ, zero, suc, ◌+◌, ◌<◌, MatchOption, option_to_list, take, List, [], ◌∷◌, ◌++◌, Option, None, Some, codes, length, map, get_or, refl, sym, ap, ◌∙◌, subst, arith}
+use Rattle.std.proofs.Common.{◌≡◌, ◌≢◌, inl, inr, ℕ, zero, suc, ◌+◌, ◌<◌, option_to_list, take, List, [], ◌∷◌, ◌++◌, Option, None, Some, codes, length, map, get_or, append-nil, refl, sym, ap, ◌∙◌, subst, arith}
 use Rattle.std.specs.List.{AllByRecursion, AllZip, Contains, slice_get}
 use Rattle.std.proofs.lemmas.Option.{same_Some}
 use Rattle.gix_refspec_lint.specs.declared.Reason.{Reason}
 use Rattle.gix_refspec_lint.specs.declared.Reason.TheVariants as reason
-use Rattle.gix_refspec_lint.specs.declared.words.Common.{Common}
 use Rattle.gix_refspec_text.specs.declared.spec.RefSpecRef.{RefSpecRef}
 use Rattle.gix_refspec_text.specs.Texts.Bytes.{star}
 use Rattle.gix_refspec_text.specs.Texts.Words.{Lacks}
 use Rattle.gix_refspec_text.specs.Texts.Name.{IsSplit}
 use Rattle.gix_refspec_text.specs.Specs.Reading.{Reading}
 use Rattle.gix_refspec_text.specs.Specs.Grammar.{IsAccepted, IsPositive}
-use Rattle.gix_refspec_text.specs.Matching.Side.{SideKind, pattern, full_name, object, partial, HasKind, Fits, IsCandidate}
+use Rattle.gix_refspec_text.specs.Matching.Side.{SideKind, pattern, full_name, object, partial, HasKind, IsCandidate}
 use Rattle.gix_refspec_text.specs.Matching.Match.{Ref, HasName, MatchesAs, Takes}
 use Rattle.gix_refspec_text.specs.Views.Spec.{reading_of}
 use Rattle.gix_refspec_text.proofs.lemmas.hits.MatchLemmas.{lacks_no_pattern}
@@ -26,13 +25,13 @@ use Rattle.gix_refspec.specs.Laws.Matching.{IsPaired, MakesForward}
 use Rattle.gix_refspec_lint.specs.Matching.Lint.{AreIdle, AreValid, Fetches, IsFree, IsIdleBy, Maps, MapsSoundly, Unused}
 use Rattle.gix_refspec_plan.specs.Matching.Plan.{IsCompleted}
 use Rattle.gix_refspec_plan.specs.Matching.Stale.{ref_named}
-use Rattle.gix_refspec_lint.specs.Private.Idles.{Explains, HasPlainSource, HasSourcePattern, IsAtWork, IsReasonOf, IsShown, IsWhy, IsWhyAt, ShareSources}
-use Rattle.gix_refspec_lint.specs.Private.Lints.{IsDeciding, words_with}
+use Rattle.gix_refspec_lint.specs.Private.Idles.{Explains, HasPlainSource, HasSourcePattern, IsAtWork, IsReasonOf, IsShown, IsWhy}
+use Rattle.gix_refspec_lint.specs.Private.Lints.{IsDeciding, IsLongerPrefix, IsLongerSuffix, IsMost, words_with}
 use Rattle.gix_refspec_lint.proofs.lemmas.ByteLemmas.{excluded_moved, fits_byte, lacks_kept}
 use Rattle.gix_refspec_lint.proofs.lemmas.DecideLemmas.{Decided, HasShape, IsMovedFar, decide, pattern_spec, spec_made, spec_maps}
 use Rattle.gix_refspec_lint.proofs.lemmas.FreeLemmas.{accepted_at}
 use Rattle.gix_refspec_lint.proofs.lemmas.IdleExclusionLemmas.{made_completed, zip_to}
-use Rattle.gix_refspec_lint.proofs.lemmas.PatternLemmas.{lacks_destination, lacks_longer, lacks_parts, lacks_source}
+use Rattle.gix_refspec_lint.proofs.lemmas.PatternLemmas.{lacks_destination, lacks_parts, lacks_source, listed_at}
 use Rattle.gix_refspec_lint.proofs.lemmas.PreferredLemmas.{reading_at}
 use Rattle.gix_refspec_lint.proofs.lemmas.WordLemmas.{between}
 use Rattle.gix_refspec_plan.proofs.lemmas.stale.StateLemmas.{all_accepted}
@@ -62,18 +61,6 @@ not_idle g k works (reason.Excluded n) (never, shown) = never works.refs works.s
 not_idle g k works (reason.Duplicate h) (always, shown) =
     let (i, below, maps) = always works.refs works.source works.destination works.valid works.fetches in
     works.first i below maps
-
--- what a name that decides says, if it is one
-pub name_told : (g : List Reading) (k : ℕ) (x : Option (List ℕ)) (r : Reason) → MatchOption x (Some r ≡ Some reason.Invalid) (λ n. IsWhyAt g k (name n) (Some r)) → ((n : List ℕ) → x ≡ Some n → Explains g k (name n) r) × IsShown g k r
-name_told g k None r is = ((λ n none. absurd (cc (none))), subst (IsShown g k) (sym (same_invalid r is)) tt)
-  where
-    same_invalid : (r : Reason) → Some r ≡ Some reason.Invalid → r ≡ reason.Invalid
-    same_invalid r same = cc
-name_told g k (Some m) r both = ((λ n same. subst (λ y. Explains g k (name y) r) (same_Some _ _ same) both.0), both.1)
-
-pub name_works : (g : List Reading) (k : ℕ) (x : Option (List ℕ)) (why : Option Reason) → why ≡ None → MatchOption x (why ≡ Some reason.Invalid) (λ n. IsWhyAt g k (name n) why) → IsAtWork g k
-name_works g k None why none is = absurd (cc (none, is))
-name_works g k (Some n) why none works = subst (IsWhyAt g k (name n)) none works
 
 -- ---- what takes a name with the free byte
 
@@ -168,16 +155,22 @@ module _ (z : ℕ) (g : List Reading) (free : IsFree g z) where
 
   -- ---- all sources of a pattern
 
-  module _ (cs : List RefSpecRef) (all : AllZip IsCompleted g (map reading_of cs)) (k : ℕ) (c : Reading) (at : slice_get (map reading_of cs) k ≡ Some c) (positive : IsPositive c.mode) (common : Common) (share : ShareSources c c common) where
-    p : List ℕ
-    p = share.prefix
+  module _ (cs : List RefSpecRef) (all : AllZip IsCompleted g (map reading_of cs)) (k : ℕ) (c : Reading) (at : slice_get (map reading_of cs) k ≡ Some c) (positive : IsPositive c.mode) (p t : List ℕ) (source : HasSourcePattern c p t) where
+    alone : IsMost p t p t p t 0
+    alone k in_prefix in_suffix one other = omega (arith, one)
+
+    begins : IsLongerPrefix p p p
+    begins = record { one = record { after = []; here = sym (append-nil p) }; other = record { after = []; here = sym (append-nil p) }; is = inl refl }
+
+    ends : IsLongerSuffix t t t
+    ends = record { one = record { before = []; here = refl }; other = record { before = []; here = refl }; is = inl refl }
 
     same_reading : (refs : List Ref) (s : Source) (d : Option (List ℕ)) (m : Maps g refs k s d) → m.completed ≡ c
     same_reading refs s d m = same_Some _ _ (sym (zip_to g (map reading_of cs) k m.reading m.completed all m.at m.is) ∙ at)
 
     -- the name that decides for a sound mapping
     record Found (refs : List Ref) (n : List ℕ) (d : Option (List ℕ)) : Type 0 where
-      decided : Decided z c share.before share.after common.prefix.now common.suffix.now n d
+      decided : Decided z c p t p t 0 n d
       maps : (few : List Ref) → HasName few decided.source → MapsSoundly g few k (name decided.source) decided.destination
 
     found : (refs : List Ref) (n : List ℕ) (d : Option (List ℕ)) → MapsSoundly g refs k (name n) d → Found refs n d
@@ -185,10 +178,9 @@ module _ (z : ℕ) (g : List Reading) (free : IsFree g z) where
         let same = same_reading refs (name n) d m.maps in
         let makes : MakesForward refs (name n) d c = subst (MakesForward refs (name n) d) same m.maps.makes in
         let accepted = accepted_at (map reading_of cs) k c (all_accepted cs) at in
-        let spec = pattern_spec c share.prefix share.suffix share.other.text accepted positive share.other.has share.other.split in
-        let one = pattern_spec c share.before share.after share.one.text accepted positive share.one.has share.one.split in
-        let (v, fits, far, there) = spec_made c share.before share.after one refs n d makes in
-        let decided = decide g z free c share.prefix share.suffix spec share.before share.after common.prefix.now common.suffix.now share.shared.prefix share.shared.suffix refs n d v fits (record { makes = makes; source = m.source; destination = m.destination }) in
+        let spec = pattern_spec c p t source.text accepted positive source.has source.split in
+        let (v, fits, far, there) = spec_made c p t spec refs n d makes in
+        let decided = decide g z free c p t spec p t p t 0 begins ends alone refs n d v fits (record { makes = makes; source = m.source; destination = m.destination }) in
         record {
           decided = decided;
           maps = λ few has.
@@ -201,19 +193,16 @@ module _ (z : ℕ) (g : List Reading) (free : IsFree g z) where
         }
 
     -- no spec excludes it, if none excludes the source
-    included_there : (n : List ℕ) (d : Option (List ℕ)) (q : Decided z c share.before share.after common.prefix.now common.suffix.now n d) → ¬ (IsSourceExcluded g (name n)) → ¬ (IsSourceExcluded g (name q.source))
+    included_there : (n : List ℕ) (d : Option (List ℕ)) (q : Decided z c p t p t 0 n d) → ¬ (IsSourceExcluded g (name n)) → ¬ (IsSourceExcluded g (name q.source))
     included_there n d q none by = elim q.moved [
       | inl (same, also) ↦ none (subst (λ x. IsSourceExcluded g (name x)) same by)
       | inr moved ↦ none (subst (λ x. IsSourceExcluded g (name x)) (sym moved.was) (excluded_moved z free.usable g moved.front moved.word moved.back free.lacks (subst (λ x. IsSourceExcluded g (name x)) moved.is by)))
     ]
 
-    lacks_common : (r : Reading) → slice_get g k ≡ Some r → IsCompleted r c → Lacks z common.prefix.now
-    lacks_common r here done =
-        let one = lacks_parts g z free share.one.text share.before share.after (lacks_source g z free k r c share.one.text here done share.one.has) share.one.split in
-        let other = lacks_parts g z free share.other.text share.prefix share.suffix (lacks_source g z free k r c share.other.text here done share.other.has) share.other.split in
-        lacks_longer z share.before share.prefix common.prefix.now one.0 other.0 share.shared.prefix.is
+    lacks_prefix : (r : Reading) → slice_get g k ≡ Some r → IsCompleted r c → Lacks z p
+    lacks_prefix r here done = (lacks_parts g z free source.text p t (lacks_source g z free k r c source.text here done source.has) source.split).0
 
-    named : (r : Reason) → ((n : List ℕ) → IsDeciding (words_with z) common.prefix.now common.suffix.now n → Explains g k (name n) r) → (n : List ℕ) → Explains g k (name n) r
+    named : (r : Reason) → ((n : List ℕ) → IsDeciding (words_with z) p t 0 n → Explains g k (name n) r) → (n : List ℕ) → Explains g k (name n) r
     named reason.Invalid decides n = λ refs d m.
         let q = found refs n d m in
         decides q.decided.source q.decided.deciding (ref_named q.decided.source ∷ []) q.decided.destination (q.maps (ref_named q.decided.source ∷ []) (inl refl))
@@ -232,12 +221,12 @@ module _ (z : ℕ) (g : List Reading) (free : IsFree g z) where
               let r = f.maps.maps.reading in
               let same = same_reading refs (name n) d f.maps.maps in
               let done : IsCompleted r c = subst (IsCompleted r) same f.maps.maps.is in
-              let prefix = lacks_common r f.maps.maps.at done in
+              let prefix = lacks_prefix r f.maps.maps.at done in
               let present = spec_there refs d (subst (MakesForward refs (name n) d) same f.maps.maps.makes) in (
                 i,
                 below,
                 subst (λ x. Maps g refs i (name x) d) (sym moved.was)
-                    (maps_back cs all few refs i moved.front moved.back moved.word d q.decided.destination c common.prefix.now (subst (λ x. Maps g few i (name x) q.decided.destination) moved.is maps) (subst (HasName refs) moved.was present)
+                    (maps_back cs all few refs i moved.front moved.back moved.word d q.decided.destination c p (subst (λ x. Maps g few i (name x) q.decided.destination) moved.is maps) (subst (HasName refs) moved.was present)
                     (moved.lacks prefix) prefix moved.far (λ x a b has split. lacks_destination g z free k r c x a b f.maps.maps.at done has split)),
               )
         ]
@@ -245,28 +234,20 @@ module _ (z : ℕ) (g : List Reading) (free : IsFree g z) where
             spec_there : (refs : List Ref) (d : Option (List ℕ)) → MakesForward refs (name n) d c → HasName refs n
             spec_there refs d makes =
                 let accepted = accepted_at (map reading_of cs) k c (all_accepted cs) at in
-                let one = pattern_spec c share.before share.after share.one.text accepted positive share.one.has share.one.split in
-                (spec_made c share.before share.after one refs n d makes).3
+                let spec = pattern_spec c p t source.text accepted positive source.has source.split in
+                (spec_made c p t spec refs n d makes).3
 
-    pub words_explain : (r : Reason) → ((n : List ℕ) → IsDeciding (words_with z) common.prefix.now common.suffix.now n → Explains g k (name n) r) → (s : Source) → Explains g k s r
-    words_explain r decides (name n) = named r decides n
-    words_explain r decides (id bytes) = explains_if g k (id bytes) r (λ refs d m.
+    -- what explains the names with the words explains all
+    pub words_explain : (r : Reason) → AllByRecursion (λ w. Explains g k (name (p ++ (w ++ t))) r) (words_with z) → (s : Source) → Explains g k s r
+    words_explain r explained (name n) = named r by_word n
+      where
+        by_word : (n : List ℕ) → IsDeciding (words_with z) p t 0 n → Explains g k (name n) r
+        by_word n (inl (w, there, is)) = subst (λ x. Explains g k (name x) r) (sym is) (listed_at (λ w. Explains g k (name (p ++ (w ++ t))) r) (words_with z) w explained there)
+        by_word n (inr (l, none, overlap, is)) = absurd (omega (arith, none, overlap.some))
+    words_explain r explained (id bytes) = explains_if g k (id bytes) r (λ refs d m.
         let makes : MakesForward refs (id bytes) d c = subst (MakesForward refs (id bytes) d) (same_reading refs (id bytes) d m) m.makes in
-        let near : makes.text ≡ share.one.text = same_Some _ _ (sym makes.side ∙ share.one.has) in
-        absurd (lacks_no_pattern share.one.text share.before share.after (subst (Lacks star) near makes.object.0) share.one.split))
-
--- a spec whose source no name fits maps nothing
-pub never_maps : (g : List Reading) (cs : List RefSpecRef) (all : AllZip IsCompleted g (map reading_of cs)) (k : ℕ) (c : Reading) (p t : List ℕ) → slice_get (map reading_of cs) k ≡ Some c → HasSourcePattern c p t → ((n v w : List ℕ) → Fits p t n v → Fits p t n w → ⊥) → IsIdleBy g k reason.Invalid
-never_maps g cs all k c p t at source apart = λ refs s d m. by_source refs s d (subst (MakesForward refs s d) (same_Some _ _ (sym (zip_to g (map reading_of cs) k m.maps.reading m.maps.completed all m.maps.at m.maps.is) ∙ at)) m.maps.makes)
-  where
-    by_source : (refs : List Ref) (s : Source) (d : Option (List ℕ)) → ¬ (MakesForward refs s d c)
-    by_source refs (id bytes) d makes =
         let near : makes.text ≡ source.text = same_Some _ _ (sym makes.side ∙ source.has) in
-        lacks_no_pattern source.text p t (subst (Lacks star) near makes.object.0) source.split
-    by_source refs (name n) d makes =
-        let spec = pattern_spec c p t source.text (accepted_at (map reading_of cs) k c (all_accepted cs) at) makes.has.positive source.has source.split in
-        let (w, fits, far, there) = spec_made c p t spec refs n d makes in
-        apart n w w fits fits
+        absurd (lacks_no_pattern source.text p t (subst (Lacks star) near makes.object.0) source.split))
 
 -- what is explained at each source that the spec may map is at all
 pub sources_explain : (g : List Reading) (cs : List RefSpecRef) (all : AllZip IsCompleted g (map reading_of cs)) (k : ℕ) (c e : Reading) → slice_get (map reading_of cs) k ≡ Some c → slice_get (map reading_of cs) k ≡ Some e → (sources : List Source)

@@ -8,7 +8,7 @@ use Rattle.gix_refspec_text.specs.Texts.Words.{BeginsWith, Lacks}
 use Rattle.gix_refspec_text.specs.Texts.Name.{HasOneStar, IsName, IsSplit}
 use Rattle.gix_refspec_text.specs.Specs.Reading.{Reading}
 use Rattle.gix_refspec_text.specs.Specs.Grammar.{IsAccepted, IsPositive}
-use Rattle.gix_refspec_text.specs.Matching.Side.{SideKind, pattern, full_name, object, partial, HasKind, Fits}
+use Rattle.gix_refspec_text.specs.Matching.Side.{SideKind, pattern, object, HasKind, Fits}
 use Rattle.gix_refspec_text.specs.Matching.Match.{Ref, HasName, MatchesAs, Takes}
 use Rattle.gix_refspec_text.proofs.lemmas.hits.MatchLemmas.{lacks_no_pattern}
 use Rattle.gix_refspec_text.proofs.lemmas.lists.AllLemmas.{all_join, all_left, all_right}
@@ -21,7 +21,7 @@ use Rattle.gix_refspec.specs.Laws.Plans.{LacksIn, SidesLack}
 use Rattle.gix_refspec_lint.specs.Matching.Lint.{ConflictOver, Fetches, IsFree, refs_of}
 use Rattle.gix_refspec_plan.specs.Matching.Plan.{CanBeWritten, IsCompleted}
 use Rattle.gix_refspec.specs.Matching.RefNames.{IsRefName, IsValidSource}
-use Rattle.gix_refspec_lint.specs.Private.Lints.{IsDeciding, IsLongerPrefix, IsLongerSuffix, endings, parts, words_with}
+use Rattle.gix_refspec_lint.specs.Private.Lints.{IsDeciding, IsLongerPrefix, IsLongerSuffix, IsMost, endings, parts, words_with}
 use Rattle.gix_refspec.proofs.lemmas.specs.SideLawLemmas.{sides_agree}
 use Rattle.gix_refspec_plan.proofs.lemmas.stale.FetchedLemmas.{completed_destination, named_some, written_lacks}
 use Rattle.gix_refspec.proofs.lemmas.keep.FilterLemmas.{mapped_there}
@@ -209,9 +209,9 @@ module _ (g : List Reading) (z : ℕ) (free : IsFree g z) where
 -- ---- conflicts of two patterns
 
 -- a name that decides, and a conflict there
-pub record DecidesConflict (g : List Reading) (z : ℕ) (prefix suffix : List ℕ) (i j : ℕ) : Type 0 where
+pub record DecidesConflict (g : List Reading) (z : ℕ) (prefix suffix : List ℕ) (most i j : ℕ) : Type 0 where
   pub name : List ℕ
-  pub deciding : IsDeciding (words_with z) prefix suffix name
+  pub deciding : IsDeciding (words_with z) prefix suffix most name
   pub one : Source
   pub other : Source
   pub conflict : ConflictOver g (refs_of one ++ refs_of other) i j one other name
@@ -232,14 +232,14 @@ has_right n m = inr (inl refl)
 module _ (g : List Reading) (z : ℕ) (free : IsFree g z) (i j : ℕ) (refs : List Ref) (s t : Source) (n : List ℕ) (c : ConflictOver g refs i j s t n)
     (accepted : ∥ IsAccepted c.one.maps.maps.completed ∥₁) (d a b : List ℕ) (has : c.one.maps.maps.completed.destination ≡ Some d) (split : IsSplit a b d)
     (also : ∥ IsAccepted c.other.maps.maps.completed ∥₁) (e p q : List ℕ) (also_has : c.other.maps.maps.completed.destination ≡ Some e) (also_split : IsSplit p q e)
-    (prefix suffix : List ℕ) (longer : IsLongerPrefix a p prefix) (ends : IsLongerSuffix b q suffix) where
+    (prefix suffix : List ℕ) (most : ℕ) (longer : IsLongerPrefix a p prefix) (ends : IsLongerSuffix b q suffix) (is_most : IsMost a b p q prefix suffix most) where
   abbrev one : MapsPattern c.one.maps.maps.completed a b s n
   one = mapped_so g z free refs i s n c.one accepted d a b has split
 
   abbrev other : MapsPattern c.other.maps.maps.completed p q t n
   other = mapped_so g z free refs j t n c.other also e p q also_has also_split
 
-  by_itself : IsDeciding (words_with z) prefix suffix n → DecidesConflict g z prefix suffix i j
+  by_itself : IsDeciding (words_with z) prefix suffix most n → DecidesConflict g z prefix suffix most i j
   by_itself deciding = record { name = n; deciding = deciding; one = s; other = t; conflict = conflict_of_two g refs i j s t n c }
 
   -- the word and the texts around it in the two sources and the destination
@@ -295,7 +295,7 @@ module _ (g : List Reading) (z : ℕ) (free : IsFree g z) (i j : ℕ) (refs : Li
         ∙ ap (λ v. name (((other.before ++ w.p) ++ ending.ending) ++ (ending.rest ++ v))) both.1
         ∙ sym (old_source g z free refs j t n c.other also e p q also_has also_split w.p ending.ending ending.rest w.q other_word_is)
 
-    by_ending : DecidesConflict g z prefix suffix i j
+    by_ending : DecidesConflict g z prefix suffix most i j
     by_ending = record {
       name = m;
       deciding = inl (ending.ending ++ z ∷ [], Contains-append_left (map (λ v. v ++ z ∷ []) endings) parts (ending.ending ++ z ∷ []) (mapped_there (λ v. v ++ z ∷ []) endings ending.ending ending.listed), refl);
@@ -318,8 +318,8 @@ module _ (g : List Reading) (z : ℕ) (free : IsFree g z) (i j : ℕ) (refs : Li
   )
 
   -- a conflict of two patterns is one at a name that decides
-  pub decided : DecidesConflict g z prefix suffix i j
-  decided = elim (common_name (words_with z) a b p q prefix suffix n one.word other.word longer ends one.fits other.fits) [
+  pub decided : DecidesConflict g z prefix suffix most i j
+  decided = elim (common_name (words_with z) a b p q prefix suffix most n one.word other.word longer ends is_most one.fits other.fits) [
     | inr deciding ↦ by_itself deciding
     | inl w ↦ elim (ending_or_part w.word (around w) (valid_around w)) [
       | inl part ↦ by_itself (inl (w.word, Contains-append_right (map (λ v. v ++ z ∷ []) endings) parts w.word part, w.whole))

@@ -1,12 +1,12 @@
 -- Which words decide what a star may match.
-use Rattle.std.proofs.Common.{◌≡◌, ◌⊎◌, inl, inr, ℕ, List, [], ◌∷◌, ◌++◌, codes, map, append_assoc, append-nil, refl, sym, ap, ◌∙◌, subst, arith}
+use Rattle.std.proofs.Common.{◌≡◌, ◌⊎◌, inl, inr, ℕ, ◌+◌, ◌≤◌, List, [], ◌∷◌, ◌++◌, codes, drop, length, map, take, append_assoc, append-nil, length-append, refl, sym, ap, ◌∙◌, subst, arith}
 use Rattle.std.specs.List.{AllByRecursion, Contains}
 use Rattle.gix_refspec_text.specs.Texts.Bytes.{head}
 use Rattle.gix_refspec_text.specs.Texts.Words.{BeginsWith, EndsWith}
 use Rattle.gix_refspec_text.specs.Matching.Side.{Fits}
 use Rattle.gix_refspec_text.proofs.lemmas.hits.MatchLemmas.{one_word}
 use Rattle.gix_refspec.specs.Matching.RefNames.{IsRefName}
-use Rattle.gix_refspec_lint.specs.Private.Lints.{IsDeciding, IsLongerPrefix, IsLongerSuffix, endings, parts}
+use Rattle.gix_refspec_lint.specs.Private.Lints.{IsDeciding, IsLongerPrefix, IsLongerSuffix, IsMost, endings, parts}
 use Rattle.gix_refspec_lint.proofs.lemmas.ByteLemmas.{parted}
 
 -- ---- the parts of a text
@@ -165,17 +165,28 @@ ends_common : (a b c d suffix n v w : List ℕ) → (suffix ≡ b) ⊎ (suffix �
 ends_common a b c d suffix n v w (inl is) one other = record { before = a ++ v; here = one ∙ sym (append_assoc a v b) ∙ ap (λ x. (a ++ v) ++ x) (sym is) }
 ends_common a b c d suffix n v w (inr is) one other = record { before = c ++ w; here = other ∙ sym (append_assoc c w d) ∙ ap (λ x. (c ++ w) ++ x) (sym is) }
 
+pub take_front : (m x : List ℕ) → take (length m) (m ++ x) ≡ m
+take_front [] x = refl
+take_front (b ∷ m) x = ap (λ y. b ∷ y) (take_front m x)
+
+pub drop_front : (m x : List ℕ) → drop (length m) (m ++ x) ≡ x
+drop_front [] x = refl
+drop_front (b ∷ m) x = drop_front m x
+
 -- such a name is parted, or it decides itself
-pub common_name : (words : List (List ℕ)) (a b c d prefix suffix n v w : List ℕ) → IsLongerPrefix a c prefix → IsLongerSuffix b d suffix → Fits a b n v → Fits c d n w
-    → IsParted a b c d prefix suffix n v w ⊎ IsDeciding words prefix suffix n
-common_name words a b c d prefix suffix n v w longer ends one other =
-    let starts = begins_common a b c d prefix n v w longer.is one other in
-    let stops = ends_common a b c d suffix n v w ends.is one other in
-    elim (parted prefix starts.after stops.before suffix (sym starts.here ∙ stops.here)) [
-      | inl (m, further, rest) ↦ inl (at m (starts.here ∙ ap (λ x. prefix ++ x) rest))
-      | inr (m, further, rest) ↦ overlapping m further rest
-    ]
+pub common_name : (words : List (List ℕ)) (a b c d prefix suffix : List ℕ) (most : ℕ) (n v w : List ℕ) → IsLongerPrefix a c prefix → IsLongerSuffix b d suffix → IsMost a b c d prefix suffix most → Fits a b n v → Fits c d n w
+    → IsParted a b c d prefix suffix n v w ⊎ IsDeciding words prefix suffix most n
+common_name words a b c d prefix suffix most n v w longer ends is_most one other = elim (parted prefix starts.after stops.before suffix (sym starts.here ∙ stops.here)) [
+  | inl (m, further, rest) ↦ inl (at m (starts.here ∙ ap (λ x. prefix ++ x) rest))
+  | inr (m, further, rest) ↦ overlapping m further rest
+]
   where
+    starts : BeginsWith prefix n
+    starts = begins_common a b c d prefix n v w longer.is one other
+
+    stops : EndsWith suffix n
+    stops = ends_common a b c d suffix n v w ends.is one other
+
     at : (m : List ℕ) → n ≡ prefix ++ (m ++ suffix) → IsParted a b c d prefix suffix n v w
     at m whole = record {
       word = m;
@@ -192,6 +203,25 @@ common_name words a b c d prefix suffix n v w longer ends one other =
       other = word_is c d prefix suffix n w m longer.other.after ends.other.before other whole longer.other.here ends.other.here;
     }
 
-    overlapping : (m : List ℕ) → prefix ≡ (ends_common a b c d suffix n v w ends.is one other).before ++ m → suffix ≡ m ++ (begins_common a b c d prefix n v w longer.is one other).after → IsParted a b c d prefix suffix n v w ⊎ IsDeciding words prefix suffix n
-    overlapping [] further rest = inl (at [] ((begins_common a b c d prefix n v w longer.is one other).here ∙ ap (λ x. prefix ++ x) (sym rest)))
-    overlapping (k ∷ m) further rest = inr (inr (k ∷ m, (begins_common a b c d prefix n v w longer.is one other).after, (λ none. cc), rest, record { before = (ends_common a b c d suffix n v w ends.is one other).before; here = further }, (begins_common a b c d prefix n v w longer.is one other).here))
+    -- a name that fits is long enough
+    long : (x y u : List ℕ) → Fits x y n u → length x + length y ≤ length prefix + length starts.after
+    long x y u fits =
+        let sizes : length prefix + length starts.after ≡ length x + (length u + length y) = sym (length-append prefix starts.after) ∙ ap length (sym starts.here ∙ fits) ∙ length-append x (u ++ y) ∙ ap (λ k. length x + k) (length-append u y) in
+        omega (arith, sizes)
+
+    overlapping : (m : List ℕ) → prefix ≡ stops.before ++ m → suffix ≡ m ++ starts.after → IsParted a b c d prefix suffix n v w ⊎ IsDeciding words prefix suffix most n
+    overlapping [] further rest = inl (at [] (starts.here ∙ ap (λ x. prefix ++ x) (sym rest)))
+    overlapping (byte ∷ m) further rest =
+        let k = length (byte ∷ m) in
+        let in_suffix : length suffix ≡ k + length starts.after = ap length rest ∙ length-append (byte ∷ m) starts.after in
+        let in_prefix : length prefix ≡ length stops.before + k = ap length further ∙ length-append stops.before (byte ∷ m) in
+        inr (inr (
+          k,
+          is_most k (omega (arith, in_prefix)) (omega (arith, in_suffix)) (omega (arith, in_suffix, long a b v one)) (omega (arith, in_suffix, long c d w other)),
+          record {
+            some = omega arith;
+            within = omega (arith, in_suffix);
+            ends = record { before = stops.before; here = further ∙ ap (λ x. stops.before ++ x) (sym (ap (take k) rest ∙ take_front (byte ∷ m) starts.after)) };
+          },
+          starts.here ∙ ap (λ x. prefix ++ x) (sym (ap (drop k) rest ∙ drop_front (byte ∷ m) starts.after)),
+        ))

@@ -1,5 +1,5 @@
 -- How specs are held against one another. Only private functions use these definitions.
-use Rattle.std.specs.Prelude.{◌≡◌, ◌≢◌, ◌⊎◌, ◌<◌, ◌+◌, ℕ, List, [], ◌∷◌, ◌++◌, length, map, codes, Option, None, Some}
+use Rattle.std.specs.Prelude.{◌≡◌, ◌⊎◌, ◌≤◌, ◌+◌, ℕ, List, [], ◌∷◌, ◌++◌, drop, length, map, codes, Option, None, Some}
 use Rattle.std.specs.Borrow.{Bor}
 use Rattle.std.specs.List.{AllZip, Contains, slice_get}
 use Rattle.bstr.specs.Owned.{bstring_bytes}
@@ -18,6 +18,7 @@ use Rattle.gix_refspec.specs.Laws.Matching.{MakesForward}
 use Rattle.gix_refspec_lint.specs.Matching.Lint.{ConflictOver, Example, IsExample, IsFree, refs_of}
 use Rattle.gix_refspec_plan.specs.Matching.Plan.{IsCompleted}
 use Rattle.gix_refspec_plan.specs.Private.Stales.{HasParts}
+use Rattle.gix_refspec_lint.specs.Private.Overlaps.{IsOverlap}
 
 -- ---- the words to try for a star
 
@@ -51,25 +52,31 @@ pub record IsLongerSuffix (x y longer : List ℕ) : Type 0 where
   pub other : EndsWith y longer
   pub is : (longer ≡ x) ⊎ (longer ≡ y)
 
--- the texts that each name begins and ends with that both patterns match
+-- what is left of prefix and suffix, where they overlap in more than that, is too short for one of the patterns
+abbrev pub IsMost : List ℕ → List ℕ → List ℕ → List ℕ → List ℕ → List ℕ → ℕ → Type 0
+IsMost a b c d prefix suffix most =
+    (k : ℕ) → k ≤ length prefix → k ≤ length suffix → k + (length a + length b) ≤ length prefix + length suffix → k + (length c + length d) ≤ length prefix + length suffix → k ≤ most
+
+-- neither text is shorter than they overlap at most
+abbrev pub IsBounded : Common → Type 0
+IsBounded common = (common.most ≤ length common.prefix.now) × (common.most ≤ length common.suffix.now)
+
+-- the texts that each name begins and ends with that both patterns match, and in how many bytes they overlap in one at most
 pub record AreCommon (a b c d : List ℕ) (common : Common) : Type 0 where
   pub prefix : IsLongerPrefix a c common.prefix.now
   pub suffix : IsLongerSuffix b d common.suffix.now
+  pub bounded : IsBounded common
+  pub most : IsMost a b c d common.prefix.now common.suffix.now common.most
 
 -- no name fits both patterns
 abbrev pub AreApart : List ℕ → List ℕ → List ℕ → List ℕ → Type 0
 AreApart a b c d = (n v w : List ℕ) → Fits a b n v → Fits c d n w → ⊥
 
--- n is a name that decides: both texts with one of the words between them, or overlapping
-abbrev pub IsDeciding : List (List ℕ) → List ℕ → List ℕ → List ℕ → Type 0
-IsDeciding words prefix suffix n =
+-- n is a name that decides: both texts with one of the words between them, or overlapping in up to so many bytes
+abbrev pub IsDeciding : List (List ℕ) → List ℕ → List ℕ → ℕ → List ℕ → Type 0
+IsDeciding words prefix suffix most n =
     ((w : List ℕ) × Contains words w × (n ≡ prefix ++ (w ++ suffix)))
-    ⊎ ((x : List ℕ) × (y : List ℕ) × (x ≢ []) × (suffix ≡ x ++ y) × EndsWith x prefix × (n ≡ prefix ++ y))
-
--- the name at an index: first those with a word, then those in which the texts overlap in one byte, two, and so on
-pub record IsNameAt (words : List (List ℕ)) (prefix suffix : List ℕ) (index : ℕ) (n : Option (List ℕ)) : Type 0 where
-  pub by_word : (w : List ℕ) → slice_get words index ≡ Some w → n ≡ Some (prefix ++ (w ++ suffix))
-  pub overlapping : (x y : List ℕ) → suffix ≡ x ++ y → EndsWith x prefix → length words + length x ≡ index + 1 → length words < index + 1 → n ≡ Some (prefix ++ y)
+    ⊎ ((k : ℕ) × (k ≤ most) × IsOverlap prefix suffix k × (n ≡ prefix ++ drop k suffix))
 
 -- ---- groups
 
@@ -115,11 +122,6 @@ pub record HaveCommon (group : Group) (i j : ℕ) (common : Common) : Type 0 whe
 -- the specs don't conflict at the destination, over the refs of two sources
 abbrev pub NoneAt : List Reading → ℕ → ℕ → List ℕ → Type 0
 NoneAt g i j d = (s t : Source) → ¬ (ConflictOver g (refs_of s ++ refs_of t) i j s t d)
-
--- nor at a name that decides, at an index before this one
-pub record NoneBefore (g : List Reading) (i j : ℕ) (words : List (List ℕ)) (prefix suffix : List ℕ) (index : ℕ) : Type 0 where
-  pub by_word : (k : ℕ) (w : List ℕ) → k < index → slice_get words k ≡ Some w → NoneAt g i j (prefix ++ (w ++ suffix))
-  pub overlapping : (x y : List ℕ) → x ≢ [] → suffix ≡ x ++ y → EndsWith x prefix → length words + length x < index + 1 → NoneAt g i j (prefix ++ y)
 
 -- an example of a conflict, or there is none at the destination
 abbrev pub IsFoundAt : List Reading → ℕ → ℕ → List ℕ → Option Example → Type 0

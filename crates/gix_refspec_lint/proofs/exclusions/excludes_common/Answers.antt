@@ -1,29 +1,29 @@
 -- What is excluded and mapped is so at a name that decides.
-use Rattle.std.proofs.Common.{ℕ, List, ap, map, length, subst, arith}
+use Rattle.std.proofs.Common.{◌++◌, ℕ, List, map, subst, take_all, arith}
+use Rattle.std.specs.List.{AllByRecursion}
 use Rattle.std.proofs.lemmas.Bool.{MatchBool-at_false}
-use Rattle.std.proofs.lemmas.List.{length-map}
+use Rattle.std.proofs.lemmas.Result.{IfOk-weaker}
 use Rattle.bstr.specs.Owned.{bstring_bytes}
 use Rattle.gix_refspec_text.specs.Views.Spec.{reading_of}
+use Rattle.gix_refspec_text.proofs.lemmas.lists.MapLemmas.{one_more_mapped}
 use Rattle.gix_refspec_match.specs.Matching.Mappings.{name}
 use Rattle.gix_refspec_lint.specs.Private.Idles.{ExcludesFrom}
-use Rattle.gix_refspec_lint.specs.Private.Lints.{IsDeciding}
-use Rattle.gix_refspec_lint.proofs.lemmas.DecidingLemmas.{each_deciding, none_yet, one_more}
-use Rattle.gix_refspec_lint.proofs.lemmas.IdleExclusionLemmas.{none_shared}
+use Rattle.gix_refspec_lint.proofs.lemmas.IdleExclusionLemmas.{shared_told}
 use Rattle.gix_refspec_lint.proofs.exclusions.excludes_common.Goals as goal
 
-pub loop-index-init : goal.loop-index-init
-loop-index-init c = none_yet _ _ _ _
+pub loop-word-init : goal.loop-word-init
+loop-word-init c = tt
 
-pub loop-index-preserved : goal.loop-index-preserved
-loop-index-preserved c =
-    one_more (λ n. ¬ (ExcludesFrom (reading_of c.args.negative.now) (reading_of c.args.spec.now) (name n))) (map bstring_bytes c.args.group.now.words.items) c.args.common.now.prefix.now c.args.common.now.suffix.now
-    c.loop-index.index _ (rw c.as_slice-words.ensures.value at c.in_ok-name.ensures) (MatchBool-at_false _ _ c.if-branch.false c.in_ok-excludes_name.ensures) c.loop-index.invariant
+pub loop-word-preserved : goal.loop-word-preserved
+loop-word-preserved c =
+    one_more_mapped bstring_bytes (λ w. ¬ (ExcludesFrom (reading_of c.args.negative.now) (reading_of c.args.spec.now) (name (c.args.common.now.prefix.now ++ (w ++ c.args.common.now.suffix.now))))) c.deref-word-items.result.now
+    c.loop-word.word-index c.word-item.result c.loop-word.invariant c.loop-word-test.true c.word-item.is
+    (rw (c.source_named-source.ensures, c.in_ok-with_word.ensures) at (MatchBool-at_false _ _ c.if-branch.false c.in_ok-excludes_at.ensures))
 
 pub returns : goal.returns
 returns c g is share =
-    let words = c.args.group.now.words.items in
-    let none = λ (n : List ℕ). ¬ (ExcludesFrom (reading_of c.args.negative.now) (reading_of c.args.spec.now) (name n)) in
-    none_shared g is.letter is.free (reading_of c.args.negative.now) (reading_of c.args.spec.now) c.args.common.now c.requires c.args.spec.now.accepted share
-    (subst (λ ws. (n : List ℕ) → IsDeciding ws c.args.common.now.prefix.now c.args.common.now.suffix.now n → none n) is.words
-    (each_deciding none (map bstring_bytes words) c.args.common.now.prefix.now c.args.common.now.suffix.now c.loop-index.index
-    (omega (arith, c.loop-index-test.false, c.count-index-end.ensures, ap length c.as_slice-words.ensures.value, length-map words bstring_bytes)) c.loop-index.invariant))
+    let P : List ℕ → Type 0 = λ w. ¬ (ExcludesFrom (reading_of c.args.negative.now) (reading_of c.args.spec.now) (name (c.args.common.now.prefix.now ++ (w ++ c.args.common.now.suffix.now)))) in
+    let all : AllByRecursion P (map bstring_bytes c.args.group.now.words.items) = rw (take_all c.loop-word.word-index c.deref-word-items.result.now (omega arith), c.deref-word-items.ensures.value) at c.loop-word.invariant in
+    IfOk-weaker c.excludes_overlapping.result _ _
+    (λ does. shared_told g is.letter is.free (reading_of c.args.negative.now) (reading_of c.args.spec.now) c.args.common.now c.requires.0 c.args.spec.now.accepted share does (subst (AllByRecursion P) is.words all))
+    c.excludes_overlapping.ensures

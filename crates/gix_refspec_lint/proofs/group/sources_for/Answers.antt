@@ -14,7 +14,7 @@ use Rattle.gix_refspec_plan.specs.Private.Stales.{HasParts}
 use Rattle.gix_refspec_lint.proofs.lemmas.SourceLemmas.{has_one, none_fits, none_unsplit, only_pushed, pattern_there, plain_made, source_unsplit}
 use Rattle.gix_refspec_plan.proofs.lemmas.stale.SourceLemmas.{parts_split}
 use Rattle.gix_refspec_lint.proofs.group.sources_for.Goals as goal
-use Rattle.gix_refspec_lint.proofs.group.sources_for.Goals.{in-Some-word_between+in_ok-joined+in_ok-push, in_default-word_between}
+use Rattle.gix_refspec_lint.proofs.group.sources_for.Goals.{in-Some-2+in_ok-push, in_default-2}
 
 pub returns-then-ne : goal.returns-then-ne
 returns-then-ne c r done refs s makes =
@@ -40,7 +40,7 @@ returns-in_default-parts_of c r done refs s makes =
     let e = bstr_bytes c.in-Some.side in
     let has : option_map bstr_bytes c.args.spec.now.dst ≡ Some e = sym c.destination.ensures ∙ ap (option_map bstr_bytes) c.in-Some.is in
     let few = accepted_few (reading_of c.args.spec.now) e c.args.spec.now.accepted (inr has) in
-    let parts : HasParts (Some e) (Some (c.in-Some-split_at_first_star.before, c.in-Some-split_at_first_star.after)) = parts_split e (Some (c.in-Some-split_at_first_star.before, c.in-Some-split_at_first_star.after)) few (rw c.as_bytes.ensures at c.in-Some-split_at_first_star.ensures) in
+    let parts : HasParts (Some e) (Some c.in-Some-split_at_first_star.far) = parts_split e (Some c.in-Some-split_at_first_star.far) few (rw c.as_bytes.ensures at c.in-Some-split_at_first_star.ensures) in
     let same : parts.0 ≡ e = cc (parts.1) in
     absurd (none_unsplit (reading_of c.args.spec.now) c.args.spec.now.accepted e _ _ has (rw same at parts.2) (rw c.source.ensures at c.in_default-parts_of.ensures) refs s c.args.destination.now makes)
 
@@ -49,13 +49,15 @@ returns c r done refs s makes =
     let e = bstr_bytes c.in-Some.side in
     let has : option_map bstr_bytes c.args.spec.now.dst ≡ Some e = sym c.destination.ensures ∙ ap (option_map bstr_bytes) c.in-Some.is in
     let few = accepted_few (reading_of c.args.spec.now) e c.args.spec.now.accepted (inr has) in
-    let parts : HasParts (Some e) (Some (c.in-Some-split_at_first_star.before, c.in-Some-split_at_first_star.after)) = parts_split e (Some (c.in-Some-split_at_first_star.before, c.in-Some-split_at_first_star.after)) few (rw c.as_bytes.ensures at c.in-Some-split_at_first_star.ensures) in
+    let parts : HasParts (Some e) (Some c.in-Some-split_at_first_star.far) = parts_split e (Some c.in-Some-split_at_first_star.far) few (rw c.as_bytes.ensures at c.in-Some-split_at_first_star.ensures) in
     let same : parts.0 ≡ e = cc (parts.1) in
     let split = rw same at parts.2 in
     let (x, is, of) = c.in-Some-parts_of.ensures in
-    elim c.match-word_between.branch [
-      | in-Some-word_between+in_ok-joined+in_ok-push w ↦ rw w.sources-is
-          (has_one _ _ _ (only_pushed _ _ _ _ c.new-sources.ensures.items w.in_ok-push.ensures.items (w.source_named.ensures ∙ ap name w.in_ok-joined.ensures))
-          (pattern_there (reading_of c.args.spec.now) c.args.spec.now.accepted e _ _ has split x _ _ (sym c.source.ensures ∙ is) of c.args.destination.now _ w.in-Some-word_between.ensures refs s makes))
-      | in_default-word_between w ↦ absurd (none_fits (reading_of c.args.spec.now) c.args.spec.now.accepted e _ _ has split c.args.destination.now w.in_default-word_between.ensures refs s makes)
+    elim c.match-branch-2.branch [
+      | in-Some-2+in_ok-push w ↦
+          let (word, fits, made) = rw w.in-Some-2.is at c.in_ok-name.ensures in
+          rw w.sources-is
+          (has_one _ _ _ (only_pushed _ _ _ _ c.new-sources.ensures.items w.in_ok-push.ensures.items (w.source_named.ensures ∙ ap name made))
+          (pattern_there (reading_of c.args.spec.now) c.args.spec.now.accepted e _ _ has split x _ _ (sym c.source.ensures ∙ is) of c.args.destination.now word fits refs s makes))
+      | in_default-2 w ↦ absurd (none_fits (reading_of c.args.spec.now) c.args.spec.now.accepted e _ _ has split c.args.destination.now (rw w.in_default-2.is at c.in_ok-name.ensures) refs s makes)
     ]

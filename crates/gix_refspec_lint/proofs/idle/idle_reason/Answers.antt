@@ -6,8 +6,8 @@ use Rattle.gix_refspec_text.specs.Specs.Reading.{Reading}
 use Rattle.gix_refspec_text.specs.Specs.Grammar.{IsPositive}
 use Rattle.gix_refspec_text.specs.Views.Spec.{reading_of}
 use Rattle.gix_refspec_text.proofs.lemmas.specs.AcceptedLemmas.{accepted_few}
-use Rattle.gix_refspec_lint.specs.Private.Idles.{HasPlainSource, HasSourcePattern, ShareSources}
-use Rattle.gix_refspec_lint.proofs.lemmas.IdleSpecLemmas.{never_maps, reason_of}
+use Rattle.gix_refspec_lint.specs.Private.Idles.{HasPlainSource, HasSourcePattern}
+use Rattle.gix_refspec_lint.proofs.lemmas.IdleSpecLemmas.{reason_of}
 use Rattle.gix_refspec_lint.proofs.lemmas.PreferredLemmas.{reading_at}
 use Rattle.gix_refspec_lint.proofs.idle.idle_reason.Goals as goal
 
@@ -16,41 +16,26 @@ parts_of-requires c x is =
     let spec = get_or c.args.group.now.specs.now c.args.index c.index-group-index.result in
     accepted_few (reading_of spec) x spec.accepted (inl (sym c.source.ensures ∙ is))
 
-pub returns-in_default : goal.returns-in_default
-returns-in_default c g is =
+pub returns-in-None : goal.returns-in-None
+returns-in-None c g is =
     let cs = c.args.group.now.specs.now in
     let k = c.args.index in
     let e = reading_of (get_or cs k c.index-group-index.result) in
-    let plain : HasPlainSource e = rw c.source.ensures at c.in_default.ensures in
+    let plain : HasPlainSource e = rw c.source.ensures at c.in-None.ensures in
     IfOk-weaker c.idle_by_sources.result _ _ (λ why told r at.
     let same : e ≡ r = same_Some _ _ (sym (reading_at cs k c.index-group-index.result c.requires) ∙ at) in
     reason_of g k r (subst (λ (q : Reading). IsPositive q.mode) same c.if-is_negative.ensures) why (told r at (subst HasPlainSource same plain))) (c.idle_by_sources.ensures g is)
 
-pub returns-in-None : goal.returns-in-None
-returns-in-None c g is r at =
-    let cs = c.args.group.now.specs.now in
-    let k = c.args.index in
-    let e = reading_of (get_or cs k c.index-group-index.result) in
-    let same : e ≡ r = same_Some _ _ (sym (reading_at cs k c.index-group-index.result c.requires) ∙ at) in
-    let (x, has, split) = c.in-Some.ensures in
-    let p = c.in-Some.parts.0.now in
-    let t = c.in-Some.parts.1.now in
-    let source : HasSourcePattern e p t = record { text = x; has = sym c.source.ensures ∙ has; split = split } in (
-      subst (λ (q : Reading). IsPositive q.mode) same c.if-is_negative.ensures,
-      never_maps g cs is.completed k r p t at (subst (λ q. HasSourcePattern q p t) same source) c.in-None.ensures,
-    )
-
-pub returns-in-Some-of : goal.returns-in-Some-of
-returns-in-Some-of c g is =
+pub returns-in-Some : goal.returns-in-Some
+returns-in-Some c g is =
     let cs = c.args.group.now.specs.now in
     let k = c.args.index in
     let e = reading_of (get_or cs k c.index-group-index.result) in
     let (x, has, split) = c.in-Some.ensures in
-    let p = c.in-Some.parts.0.now in
-    let t = c.in-Some.parts.1.now in
+    let p = c.in-Some.prefix.now in
+    let t = c.in-Some.suffix.now in
     let source : HasSourcePattern e p t = record { text = x; has = sym c.source.ensures ∙ has; split = split } in
-    let share : ShareSources e e c.in-Some-of.common = record { before = p; after = t; prefix = p; suffix = t; one = source; other = source; shared = c.in-Some-of.ensures } in
     IfOk-weaker c.idle_by_words.result _ _ (λ why told r at.
     let same : e ≡ r = same_Some _ _ (sym (reading_at cs k c.index-group-index.result c.requires) ∙ at) in
     let positive = subst (λ (q : Reading). IsPositive q.mode) same c.if-is_negative.ensures in
-    reason_of g k r positive why (told r at positive (subst (λ q. ShareSources q q c.in-Some-of.common) same share))) (c.idle_by_words.ensures g is)
+    reason_of g k r positive why (told r at positive (subst (λ q. HasSourcePattern q p t) same source))) (c.idle_by_words.ensures g is)

@@ -1,0 +1,48 @@
+-- One more overlap, which is tried or passed over.
+use Rattle.std.proofs.Common.{get_or, take_all, arith}
+use Rattle.gix_refspec_lint.specs.Private.Lints.{NoneAt}
+use Rattle.gix_refspec_lint.specs.Private.Overlaps.{AreOverlaps, IsOverlap}
+use Rattle.gix_refspec_lint.specs.Private.Runs.{Fails}
+use Rattle.gix_refspec_lint.proofs.lemmas.DecidingLemmas.{each_overlap}
+use Rattle.gix_refspec_lint.proofs.lemmas.FailLemmas.{fails_again}
+use Rattle.gix_refspec_lint.proofs.lemmas.NothingLemmas.{fails_none}
+use Rattle.gix_refspec_lint.proofs.lemmas.OverlapLemmas.{AreSoFar, none_so_far, one_more, passed_over}
+use Rattle.gix_refspec_lint.proofs.lemmas.SharedLemmas.{at_same, held_at}
+use Rattle.gix_refspec_lint.proofs.conflicts.conflict_overlapping.Goals as goal
+use Rattle.gix_refspec_lint.proofs.conflicts.conflict_overlapping.Goals.{in-Some, in-None+in_ok-name-in-None+in_ok-conflict-in-None+in-Nothing}
+
+pub loop-shared-init : goal.loop-shared-init
+loop-shared-init c g is have = none_so_far (NoneAt g c.args.first c.args.second) (Fails g have.one.reading have.other.reading) c.args.common.now.prefix.now c.args.common.now.suffix.now c.none-run.result tt c.none-run.ensures
+
+pub returns-in-Conflict : goal.returns-in-Conflict
+returns-in-Conflict c g is have = rw c.in-Conflict.is at (c.in_ok-conflict-in-None.ensures g is have.one.reading have.other.reading have.one.at have.other.at)
+
+pub loop-shared-preserved : goal.loop-shared-preserved
+loop-shared-preserved c g is have =
+    let prefix = c.args.common.now.prefix.now in
+    let suffix = c.args.common.now.suffix.now in
+    let one = have.one.reading in
+    let other = have.other.reading in
+    let list = c.deref-shared-items.result.now in
+    let i = c.loop-shared.shared-index in
+    let below = c.loop-shared-test.true in
+    let are : AreOverlaps prefix suffix c.args.common.now.most list = rw c.deref-shared-items.ensures.value c.in_ok-overlaps.ensures in
+    let overlap = held_at (IsOverlap prefix suffix) list i are.each below in
+    elim c.match-at.branch [
+      | in-Some w ↦ passed_over (NoneAt g c.args.first c.args.second) (Fails g one other) prefix suffix list i c.loop-shared.run (c.loop-shared.invariant g is have) (get_or list i 0) below (at_same list i below) overlap
+          (fails_again g one other) (λ why n known reason. fails_none g c.args.group.now is c.args.first c.args.second one other have.one.at have.other.at n why known reason)
+          c.match-at.why c.with-run.result (rw w.why-is (rw w.in-Some.is at c.at.ensures)) c.with-run.ensures
+      | in-None+in_ok-name-in-None+in_ok-conflict-in-None+in-Nothing w ↦
+          let told = rw (w.as_bstr.ensures, w.in_ok-name-in-None.ensures) at (rw w.in-Nothing.is at (w.in_ok-conflict-in-None.ensures g is one other have.one.at have.other.at)) in
+          one_more (NoneAt g c.args.first c.args.second) (Fails g one other) prefix suffix list i c.loop-shared.run (c.loop-shared.invariant g is have) (get_or list i 0) below (at_same list i below) overlap
+          c.match-at.why c.with-run.result told.0 (rw w.why-is told.1) c.with-run.ensures
+    ]
+
+pub returns : goal.returns
+returns c g is have =
+    let prefix = c.args.common.now.prefix.now in
+    let suffix = c.args.common.now.suffix.now in
+    let list = c.deref-shared-items.result.now in
+    let are : AreOverlaps prefix suffix c.args.common.now.most list = rw c.deref-shared-items.ensures.value c.in_ok-overlaps.ensures in
+    let all : AreSoFar (NoneAt g c.args.first c.args.second) (Fails g have.one.reading have.other.reading) prefix suffix list c.loop-shared.run = rw (take_all c.loop-shared.shared-index list (omega arith)) at (c.loop-shared.invariant g is have) in
+    each_overlap (NoneAt g c.args.first c.args.second) prefix suffix c.args.common.now.most list are all.all

@@ -1,0 +1,12 @@
+-- no conflict in the overlaps so far
+use Rattle.std.proofs.Common.{List, take}
+use Rattle.gix_refspec_text.specs.Specs.Reading.{Reading}
+use Rattle.gix_refspec_lint.specs.Private.Lints.{HaveCommon, IsGroupOf, NoneAt}
+use Rattle.gix_refspec_lint.specs.Private.Runs.{Fails}
+use Rattle.gix_refspec_lint.proofs.lemmas.OverlapLemmas.{AreSoFar}
+use Rattle.gix_refspec_lint.proofs.conflicts.conflict_overlapping.Given as goal
+
+abbrev pub invariant-loop-shared : goal.invariant-loop-shared
+invariant-loop-shared l =
+    (g : List Reading) → IsGroupOf g l.group → (have : HaveCommon l.group l.first l.second l.common)
+    → AreSoFar (NoneAt g l.first l.second) (Fails g have.one.reading have.other.reading) l.common.prefix.now l.common.suffix.now (take l.shared-index l.shared-items) l.run

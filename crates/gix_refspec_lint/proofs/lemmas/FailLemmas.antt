@@ -1,0 +1,230 @@
+-- Reasons for which names come to nothing, where a word repeats in the names: they hold with the word once more.
+use Rattle.std.proofs.Common.{◌≡◌, ◌≢◌, ℕ, zero, suc, ◌+◌, ◌*◌, ◌≤◌, List, [], ◌++◌, Option, Some, length, refl, sym, ap, ◌∙◌, subst, arith}
+use Rattle.std.proofs.lemmas.List.{nil_from_length}
+use Rattle.std.proofs.lemmas.Option.{same_Some}
+use Rattle.gix_refspec_text.specs.Texts.Name.{IsSplit}
+use Rattle.gix_refspec_text.specs.Specs.Reading.{Reading}
+use Rattle.gix_refspec_text.specs.Matching.Side.{Fits, Excludes, the_name, by_pattern}
+use Rattle.gix_refspec_text.proofs.lemmas.hits.MatchLemmas.{one_word, split_once, lacks_no_pattern}
+use Rattle.gix_refspec_match.specs.Matching.Mappings.{IsExcludedBy}
+use Rattle.gix_refspec.specs.Matching.RefNames.{IsRefName}
+use Rattle.gix_refspec_plan.specs.Matching.Plan.{CanBeWritten}
+use Rattle.gix_refspec_lint.specs.declared.runs.Of.TheVariants.{First, Second}
+use Rattle.gix_refspec_lint.specs.declared.runs.Why.{Why}
+use Rattle.gix_refspec_lint.specs.declared.runs.Why.TheVariants.{Unknown, Unwritable, Invalid, Excluded, Same}
+use Rattle.gix_refspec_lint.specs.Private.Overlaps.{power}
+use Rattle.gix_refspec_lint.specs.Private.Runs.{ArePaired, IsExcludedAt, Fails, IsUnsound}
+use Rattle.gix_refspec_lint.proofs.lemmas.RepeatLemmas.{power_length, power_one, words_repeat, same_repeats, differ_again}
+use Rattle.gix_refspec_lint.proofs.lemmas.WordLemmas.{between}
+use Rattle.gix_refspec_lint.proofs.lemmas.RepeatNameLemmas.{names_again, written_again}
+
+-- ---- paired names
+
+-- two texts with one star that are equal are split alike, and a name that fits one of them fits the other
+fits_same : (side : Option (List ℕ)) (one other : List ℕ) (a b p q : List ℕ) → side ≡ Some one → side ≡ Some other → IsSplit a b one → IsSplit p q other → (n w : List ℕ) → Fits p q n w → Fits a b n w
+fits_same side one other a b p q is also split parts n w fits =
+    let same : one ≡ other = same_Some _ _ (sym is ∙ also) in
+    let ends = split_once other a b p q (subst (IsSplit a b) same split) parts in
+    fits ∙ ap (λ z. z ++ (w ++ q)) (sym ends.0) ∙ ap (λ z. a ++ (w ++ z)) (sym ends.1)
+
+-- the patterns of one pair are those of each
+takes_too : (r : Reading) (n d m e : List ℕ) (one : ArePaired r n d) (other : ArePaired r m e) → Fits one.prefix one.suffix m other.word
+takes_too r n d m e one other =
+    fits_same r.source one.source.text other.source.text one.prefix one.suffix other.prefix other.suffix one.source.has other.source.has one.source.split other.source.split m other.word other.takes
+
+makes_too : (r : Reading) (n d m e : List ℕ) (one : ArePaired r n d) (other : ArePaired r m e) → Fits one.before one.after e other.word
+makes_too r n d m e one other =
+    fits_same r.destination one.destination.text other.destination.text one.before one.after other.before other.after one.destination.has other.destination.has one.destination.split other.destination.split e other.word other.makes
+
+-- a destination is paired with one source only
+pub paired_once : (r : Reading) (n m d : List ℕ) → ArePaired r n d → ArePaired r m d → n ≡ m
+paired_once r n m d one other =
+    let word : one.word ≡ other.word = one_word one.before one.after d one.word other.word one.makes (makes_too r n d m d one other) in
+    one.takes ∙ ap (λ w. one.prefix ++ (w ++ one.suffix)) word ∙ sym (takes_too r n d m d one other)
+
+-- and a source with one destination only
+pub paired_once_source : (r : Reading) (n d e : List ℕ) → ArePaired r n d → ArePaired r n e → d ≡ e
+paired_once_source r n d e one other =
+    let word : one.word ≡ other.word = one_word one.prefix one.suffix n one.word other.word one.takes (takes_too r n d n e one other) in
+    one.makes ∙ ap (λ w. one.before ++ (w ++ one.after)) word ∙ sym (makes_too r n d n e one other)
+
+-- the sources paired with the destinations in which a word repeats have a word as long that repeats in them
+pub record SourcesRepeat (r : Reading) (x v y : List ℕ) : Type 0 where
+  pub front : List ℕ
+  pub word : List ℕ
+  pub back : List ℕ
+  pub size : length word ≡ length v
+  pub pairs : (i : ℕ) → ArePaired r (front ++ (power word i ++ back)) (x ++ (power v i ++ y))
+
+-- and the same of the destinations paired with such sources
+pub record DestinationsRepeat (r : Reading) (x v y : List ℕ) : Type 0 where
+  pub front : List ℕ
+  pub word : List ℕ
+  pub back : List ℕ
+  pub size : length word ≡ length v
+  pub pairs : (i : ℕ) → ArePaired r (x ++ (power v i ++ y)) (front ++ (power word i ++ back))
+
+-- where the destinations without the word and with it once are paired, they all are
+pub sources_repeat : (r : Reading) (x v y n0 n1 : List ℕ) → ArePaired r n0 (x ++ y) → ArePaired r n1 (x ++ (power v 1 ++ y)) → SourcesRepeat r x v y
+sources_repeat r x v y n0 n1 without once =
+    let all = words_repeat without.before without.after v x y without.word once.word without.makes (ap (λ z. x ++ z) (sym (power_one v y)) ∙ makes_too r n0 (x ++ y) n1 (x ++ (power v 1 ++ y)) without once) in
+    record {
+      front = without.prefix ++ all.front;
+      word = all.word;
+      back = all.back ++ without.suffix;
+      size = all.size;
+      pairs = λ i. record {
+        prefix = without.prefix;
+        suffix = without.suffix;
+        before = without.before;
+        after = without.after;
+        word = all.front ++ (power all.word i ++ all.back);
+        source = without.source;
+        destination = without.destination;
+        takes = between without.prefix all.front (power all.word i) all.back without.suffix;
+        makes = all.fits i;
+      };
+    }
+
+-- and where the sources are
+pub destinations_repeat : (r : Reading) (x v y d0 d1 : List ℕ) → ArePaired r (x ++ y) d0 → ArePaired r (x ++ (power v 1 ++ y)) d1 → DestinationsRepeat r x v y
+destinations_repeat r x v y d0 d1 without once =
+    let all = words_repeat without.prefix without.suffix v x y without.word once.word without.takes (ap (λ z. x ++ z) (sym (power_one v y)) ∙ takes_too r (x ++ y) d0 (x ++ (power v 1 ++ y)) d1 without once) in
+    record {
+      front = without.before ++ all.front;
+      word = all.word;
+      back = all.back ++ without.after;
+      size = all.size;
+      pairs = λ i. record {
+        prefix = without.prefix;
+        suffix = without.suffix;
+        before = without.before;
+        after = without.after;
+        word = all.front ++ (power all.word i ++ all.back);
+        source = without.source;
+        destination = without.destination;
+        takes = all.fits i;
+        makes = between without.before all.front (power all.word i) all.back without.after;
+      };
+    }
+
+-- ---- excluded names
+
+excludes_again : (text x v y : List ℕ) → v ≢ [] → Excludes text (x ++ y) → Excludes text (x ++ (v ++ y)) → (i : ℕ) → Excludes text (x ++ (power v i ++ y))
+excludes_again text x v y some (the_name lacks is) (the_name whole also) i = absurd (differ_again text v x y some (sym is) (sym also))
+excludes_again text x v y some (the_name lacks is) (by_pattern before after word split fits) i = absurd (lacks_no_pattern text before after lacks split)
+excludes_again text x v y some (by_pattern before after word split fits) (the_name lacks is) i = absurd (lacks_no_pattern text before after lacks split)
+excludes_again text x v y some (by_pattern a b word split fits) (by_pattern p q second parts also) i =
+    let ends = split_once text a b p q split parts in
+    let once : Fits a b (x ++ (v ++ y)) second = also ∙ ap (λ z. z ++ (second ++ q)) (sym ends.0) ∙ ap (λ z. a ++ (second ++ z)) (sym ends.1) in
+    let all = words_repeat a b v x y word second fits once in
+    by_pattern a b (all.front ++ (power all.word i ++ all.back)) split (all.fits i)
+
+-- the spec that excludes a name without a word and with it once excludes it however often the word stands there
+pub excluded_again : (g : List Reading) (k : ℕ) (x v y : List ℕ) → IsExcludedAt g k (x ++ y) → IsExcludedAt g k (x ++ (v ++ y)) → v ≢ [] → (i : ℕ) → IsExcludedAt g k (x ++ (power v i ++ y))
+excluded_again g k x v y (r, at, by) (q, there, too) some i =
+    let same : q ≡ r = same_Some _ _ (sym there ∙ at) in
+    let also : IsExcludedBy (x ++ (v ++ y)) r = subst (IsExcludedBy (x ++ (v ++ y))) same too in
+    let text : also.text ≡ by.text = same_Some _ _ (sym also.source ∙ by.source) in (
+      r,
+      at,
+      record {
+        negative = by.negative;
+        text = by.text;
+        source = by.source;
+        excludes = excludes_again by.text x v y some by.excludes (subst (λ t. Excludes t (x ++ (v ++ y))) text also.excludes) i;
+      },
+    )
+
+-- ---- a word of the same length
+
+as_long : (v w : List ℕ) (i : ℕ) → length w ≡ length v → 5 ≤ length (power v i) → 5 ≤ length (power w i)
+as_long v w i size long = subst (λ n. 5 ≤ n) (power_length v i ∙ ap (λ n. i * n) (sym size) ∙ sym (power_length w i)) long
+
+as_full : (v w : List ℕ) → length w ≡ length v → v ≢ [] → w ≢ []
+as_full v w size some none = some (nil_from_length v (sym size ∙ ap length none))
+
+-- so long is the word only if it is there
+is_there : (v : List ℕ) (i : ℕ) → 5 ≤ length (power v i) → 1 ≤ i
+is_there v zero long = absurd (omega (arith, long))
+is_there v (suc i) long = omega arith
+
+-- ---- reasons
+
+module _ (r : Reading) (x v y : List ℕ) (i : ℕ) (long : 5 ≤ length (power v i)) where
+  -- where the sources of the destinations up to the i-th are no ref names, that of the next is none
+  invalid_again : ((j : ℕ) → j ≤ i → (n : List ℕ) × ArePaired r n (x ++ (power v j ++ y)) × ¬ (IsRefName n)) → (n : List ℕ) × ArePaired r n (x ++ (power v (i + 1) ++ y)) × ¬ (IsRefName n)
+  invalid_again all =
+      let first = all 0 (omega arith) in
+      let second = all 1 (is_there v i long) in
+      let last = all i (omega arith) in
+      let names = sources_repeat r x v y first.0 second.0 first.1 second.1 in
+      let same = paired_once r last.0 (names.front ++ (power names.word i ++ names.back)) (x ++ (power v i ++ y)) last.1 (names.pairs i) in (
+        names.front ++ (power names.word (i + 1) ++ names.back),
+        names.pairs (i + 1),
+        names_again names.front names.word names.back i (as_long v names.word i names.size long) (subst (λ n. ¬ (IsRefName n)) same last.2),
+      )
+
+  -- and where one spec excludes them, it excludes that of the next
+  source_excluded_again : (g : List Reading) (k : ℕ) → v ≢ [] → ((j : ℕ) → j ≤ i → (n : List ℕ) × ArePaired r n (x ++ (power v j ++ y)) × IsExcludedAt g k n) → (n : List ℕ) × ArePaired r n (x ++ (power v (i + 1) ++ y)) × IsExcludedAt g k n
+  source_excluded_again g k some all =
+      let first = all 0 (omega arith) in
+      let second = all 1 (is_there v i long) in
+      let names = sources_repeat r x v y first.0 second.0 first.1 second.1 in
+      let without = paired_once r first.0 (names.front ++ names.back) (x ++ y) first.1 (names.pairs 0) in
+      let once = paired_once r second.0 (names.front ++ (power names.word 1 ++ names.back)) (x ++ (power v 1 ++ y)) second.1 (names.pairs 1) ∙ ap (λ z. names.front ++ z) (power_one names.word names.back) in (
+        names.front ++ (power names.word (i + 1) ++ names.back),
+        names.pairs (i + 1),
+        excluded_again g k names.front names.word names.back (subst (IsExcludedAt g k) without first.2) (subst (IsExcludedAt g k) once second.2) (as_full v names.word names.size some) (i + 1),
+      )
+
+  -- where the destinations of the sources up to the i-th can't be written, that of the next can't
+  unwritable_again : ((j : ℕ) → j ≤ i → (d : List ℕ) × ArePaired r (x ++ (power v j ++ y)) d × ¬ (CanBeWritten (Some d))) → (d : List ℕ) × ArePaired r (x ++ (power v (i + 1) ++ y)) d × ¬ (CanBeWritten (Some d))
+  unwritable_again all =
+      let first = all 0 (omega arith) in
+      let second = all 1 (is_there v i long) in
+      let last = all i (omega arith) in
+      let names = destinations_repeat r x v y first.0 second.0 first.1 second.1 in
+      let same = paired_once_source r (x ++ (power v i ++ y)) last.0 (names.front ++ (power names.word i ++ names.back)) last.1 (names.pairs i) in (
+        names.front ++ (power names.word (i + 1) ++ names.back),
+        names.pairs (i + 1),
+        written_again names.front names.word names.back i (as_long v names.word i names.size long) (subst (λ d. ¬ (CanBeWritten (Some d))) same last.2),
+      )
+
+-- where two readings have one source for the destinations without the word and with it once, they have one for each
+same_again : (one other : Reading) (x v y : List ℕ) → (n : List ℕ) × ArePaired one n (x ++ y) × ArePaired other n (x ++ y) → (n : List ℕ) × ArePaired one n (x ++ (power v 1 ++ y)) × ArePaired other n (x ++ (power v 1 ++ y))
+    → (i : ℕ) → (n : List ℕ) × ArePaired one n (x ++ (power v i ++ y)) × ArePaired other n (x ++ (power v i ++ y))
+same_again one other x v y first second i =
+    let names = sources_repeat one x v y first.0 second.0 first.1 second.1 in
+    let others = sources_repeat other x v y first.0 second.0 first.2 second.2 in
+    let without : names.front ++ names.back ≡ others.front ++ others.back =
+    sym (paired_once one first.0 (names.front ++ names.back) (x ++ y) first.1 (names.pairs 0)) ∙ paired_once other first.0 (others.front ++ others.back) (x ++ y) first.2 (others.pairs 0) in
+    let once : names.front ++ (power names.word 1 ++ names.back) ≡ others.front ++ (power others.word 1 ++ others.back) =
+    sym (paired_once one second.0 (names.front ++ (power names.word 1 ++ names.back)) (x ++ (power v 1 ++ y)) second.1 (names.pairs 1))
+    ∙ paired_once other second.0 (others.front ++ (power others.word 1 ++ others.back)) (x ++ (power v 1 ++ y)) second.2 (others.pairs 1) in
+    let single : names.front ++ (names.word ++ names.back) ≡ others.front ++ (others.word ++ others.back) =
+    ap (λ z. names.front ++ z) (sym (power_one names.word names.back)) ∙ once ∙ ap (λ z. others.front ++ z) (power_one others.word others.back) in
+    let same = same_repeats others.front others.back others.word names.word names.front names.back without single i in
+    (names.front ++ (power names.word i ++ names.back), names.pairs i, subst (λ n. ArePaired other n (x ++ (power v i ++ y))) (sym same) (others.pairs i))
+
+-- a reason for which two specs don't conflict at the destinations up to the i-th, whose word so often has five bytes or
+-- more, holds at the next
+pub fails_again : (g : List Reading) (one other : Reading) (why : Why) (x v y : List ℕ) (i : ℕ) → why ≢ Unknown → v ≢ [] → 5 ≤ length (power v i)
+    → ((j : ℕ) → j ≤ i → Fails g one other why (x ++ (power v j ++ y))) → Fails g one other why (x ++ (power v (i + 1) ++ y))
+fails_again g one other Unknown x v y i known some long all = absurd (known refl)
+fails_again g one other Unwritable x v y i known some long all = written_again x v y i long (all i (omega arith))
+fails_again g one other (Invalid First) x v y i known some long all = invalid_again one x v y i long all
+fails_again g one other (Invalid Second) x v y i known some long all = invalid_again other x v y i long all
+fails_again g one other (Excluded First k) x v y i known some long all = source_excluded_again one x v y i long g k some all
+fails_again g one other (Excluded Second k) x v y i known some long all = source_excluded_again other x v y i long g k some all
+fails_again g one other Same x v y i known some long all = same_again one other x v y (all 0 (omega arith)) (all 1 (is_there v i long)) (i + 1)
+
+-- and so does one for which a spec doesn't map the sources soundly
+pub unsound_again : (r : Reading) (why : Why) (x v y : List ℕ) (i : ℕ) → why ≢ Unknown → v ≢ [] → 5 ≤ length (power v i)
+    → ((j : ℕ) → j ≤ i → IsUnsound r why (x ++ (power v j ++ y))) → IsUnsound r why (x ++ (power v (i + 1) ++ y))
+unsound_again r Unknown x v y i known some long all = absurd (known refl)
+unsound_again r Unwritable x v y i known some long all = unwritable_again r x v y i long all
+unsound_again r (Invalid First) x v y i known some long all = names_again x v y i long (all i (omega arith))
+unsound_again r (Invalid Second) x v y i known some long all = absurd (all 0 (omega arith))
+unsound_again r (Excluded of k) x v y i known some long all = absurd (all 0 (omega arith))
+unsound_again r Same x v y i known some long all = absurd (all 0 (omega arith))

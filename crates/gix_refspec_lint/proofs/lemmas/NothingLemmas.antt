@@ -1,0 +1,96 @@
+-- Where a reason holds there is nothing.
+use Rattle.std.proofs.Common.{◌≡◌, ◌≢◌, List, ℕ, ◌++◌, Option, Some, map, refl, sym, ap, ◌∙◌, subst}
+use Rattle.std.specs.List.{slice_get}
+use Rattle.gix_refspec_lint.specs.declared.group.Group.{Group}
+use Rattle.gix_refspec_lint.specs.declared.runs.Of.TheVariants.{First, Second}
+use Rattle.gix_refspec_lint.specs.declared.runs.Why.{Why}
+use Rattle.gix_refspec_lint.specs.declared.runs.Why.TheVariants.{Unknown, Unwritable, Invalid, Excluded, Same}
+use Rattle.gix_refspec_text.specs.Specs.Reading.{Reading}
+use Rattle.gix_refspec_text.specs.Specs.Grammar.{IsAccepted}
+use Rattle.gix_refspec_text.specs.Matching.Side.{pattern}
+use Rattle.gix_refspec_text.specs.Matching.Match.{Ref}
+use Rattle.gix_refspec_text.specs.Views.Spec.{reading_of}
+use Rattle.gix_refspec_text.proofs.lemmas.hits.MatchLemmas.{one_word}
+use Rattle.gix_refspec_match.specs.Matching.Hits.{IsFilled}
+use Rattle.gix_refspec_match.specs.Matching.Mappings.{Source, name, IsSourceExcluded}
+use Rattle.gix_refspec.specs.Laws.Matching.{MakesForward}
+use Rattle.gix_refspec.specs.Matching.RefNames.{IsValidSource}
+use Rattle.gix_refspec_plan.specs.Matching.Plan.{CanBeWritten}
+use Rattle.gix_refspec_lint.specs.Matching.Lint.{ConflictOver, refs_of}
+use Rattle.gix_refspec_lint.specs.Private.Idles.{ExcludesFrom}
+use Rattle.gix_refspec_lint.specs.Private.Lints.{IsGroupOf, NoneAt}
+use Rattle.gix_refspec_lint.specs.Private.Runs.{ArePaired, Fails, IsNotFetched, IsUnsound}
+use Rattle.gix_refspec_lint.proofs.lemmas.AmongLemmas.{accepted_here, same_completed}
+use Rattle.gix_refspec_lint.proofs.lemmas.DecideLemmas.{destination_once, pattern_spec, spec_made}
+use Rattle.gix_refspec_lint.proofs.lemmas.OneSpecLemmas.{excluded_at}
+use Rattle.gix_refspec_lint.proofs.lemmas.SourceLemmas.{pattern_there}
+
+-- ---- one spec of patterns
+
+-- it writes a destination from the source with the same word alone
+paired_source : (c : Reading) → ∥ IsAccepted c ∥₁ → (n d : List ℕ) → ArePaired c n d → (refs : List Ref) (s : Source) → MakesForward refs s (Some d) c → s ≡ name n
+paired_source c accepted n d paired refs s makes =
+    pattern_there c accepted paired.destination.text paired.before paired.after paired.destination.has paired.destination.split paired.source.text paired.prefix paired.suffix paired.source.has paired.source.split d paired.word paired.makes refs s makes
+    ∙ ap name (sym paired.takes)
+
+-- and a source to the destination with the same word
+paired_destination : (c : Reading) → ∥ IsAccepted c ∥₁ → (n d : List ℕ) → ArePaired c n d → (refs : List Ref) (e : Option (List ℕ)) → MakesForward refs (name n) e c → e ≡ Some d
+paired_destination c accepted n d paired refs e makes =
+    let spec = pattern_spec c paired.prefix paired.suffix paired.source.text accepted makes.has.positive paired.source.has paired.source.split in
+    let (w, fits, far, there) = spec_made c paired.prefix paired.suffix spec refs n e makes in
+    let same : w ≡ paired.word = one_word paired.prefix paired.suffix n w paired.word fits paired.takes in
+    far ∙ ap spec.far same ∙ destination_once c (Some paired.word) (spec.far paired.word) (Some d) (spec.fills paired.word)
+    (subst (λ x. IsFilled x (Some paired.word) (Some d)) (sym paired.destination.has) (pattern paired.before paired.after, paired.destination.split, ap Some paired.makes))
+
+-- a name that it doesn't map soundly isn't one that is excluded and mapped
+pub unsound_none : (negative c : Reading) → ∥ IsAccepted c ∥₁ → (why : Why) (n : List ℕ) → why ≢ Unknown → IsUnsound c why n → ¬ (ExcludesFrom negative c (name n))
+unsound_none negative c accepted Unknown n known unsound e = known refl
+unsound_none negative c accepted Unwritable n known (d, paired, bad) e =
+    bad (subst CanBeWritten (paired_destination c accepted n d paired e.refs e.destination e.makes.makes) e.makes.destination)
+unsound_none negative c accepted (Invalid First) n known bad e = bad e.makes.source
+unsound_none negative c accepted (Invalid Second) n known bad e = bad
+unsound_none negative c accepted (Excluded of k) n known bad e = bad
+unsound_none negative c accepted Same n known bad e = bad
+
+-- ---- two specs of a group
+
+module _ (g : List Reading) (group : Group) (is : IsGroupOf g group) (i j : ℕ) (one other : Reading)
+    (at : slice_get (map reading_of group.specs.now) i ≡ Some one) (also : slice_get (map reading_of group.specs.now) j ≡ Some other) (d : List ℕ) where
+  module _ (s t : Source) (c : ConflictOver g (refs_of s ++ refs_of t) i j s t d) where
+    first : (n : List ℕ) → ArePaired one n d → s ≡ name n
+    first n paired = paired_source one (accepted_here g group is i one at) n d paired (refs_of s ++ refs_of t) s
+        (subst (MakesForward (refs_of s ++ refs_of t) s (Some d)) (sym (same_completed g group is i c.one.maps.maps.reading c.one.maps.maps.completed one c.one.maps.maps.at c.one.maps.maps.is at)) c.one.maps.maps.makes)
+
+    second : (n : List ℕ) → ArePaired other n d → t ≡ name n
+    second n paired = paired_source other (accepted_here g group is j other also) n d paired (refs_of s ++ refs_of t) t
+        (subst (MakesForward (refs_of s ++ refs_of t) t (Some d)) (sym (same_completed g group is j c.other.maps.maps.reading c.other.maps.maps.completed other c.other.maps.maps.at c.other.maps.maps.is also)) c.other.maps.maps.makes)
+
+  -- they don't conflict at a destination where a reason holds
+  pub fails_none : (why : Why) → why ≢ Unknown → Fails g one other why d → NoneAt g i j d
+  fails_none Unknown known fails s t c = known refl
+  fails_none Unwritable known bad s t c = bad c.one.maps.destination
+  fails_none (Invalid First) known (n, paired, bad) s t c = bad (subst IsValidSource (first s t c n paired) c.one.maps.source)
+  fails_none (Invalid Second) known (n, paired, bad) s t c = bad (subst IsValidSource (second s t c n paired) c.other.maps.source)
+  fails_none (Excluded First k) known (n, paired, (r, there, by)) s t c = c.one.included (subst (IsSourceExcluded g) (sym (first s t c n paired)) (excluded_at g k r n there by))
+  fails_none (Excluded Second k) known (n, paired, (r, there, by)) s t c = c.other.included (subst (IsSourceExcluded g) (sym (second s t c n paired)) (excluded_at g k r n there by))
+  fails_none Same known (n, paired, too) s t c = c.differ (first s t c n paired ∙ sym (second s t c n too))
+
+-- ---- what isn't fetched
+
+pub first_fails : (g : List Reading) (one other : Reading) (why : Why) (n d : List ℕ) → IsNotFetched g First n why → ArePaired one n d → Fails g one other why d
+first_fails g one other Unknown n d is paired = absurd is
+first_fails g one other Unwritable n d is paired = absurd is
+first_fails g one other (Invalid First) n d is paired = (n, paired, is.1)
+first_fails g one other (Invalid Second) n d is paired = absurd (cc (is.0))
+first_fails g one other (Excluded First k) n d is paired = (n, paired, is.1)
+first_fails g one other (Excluded Second k) n d is paired = absurd (cc (is.0))
+first_fails g one other Same n d is paired = absurd is
+
+pub second_fails : (g : List Reading) (one other : Reading) (why : Why) (n d : List ℕ) → IsNotFetched g Second n why → ArePaired other n d → Fails g one other why d
+second_fails g one other Unknown n d is paired = absurd is
+second_fails g one other Unwritable n d is paired = absurd is
+second_fails g one other (Invalid First) n d is paired = absurd (cc (is.0))
+second_fails g one other (Invalid Second) n d is paired = (n, paired, is.1)
+second_fails g one other (Excluded First k) n d is paired = absurd (cc (is.0))
+second_fails g one other (Excluded Second k) n d is paired = (n, paired, is.1)
+second_fails g one other Same n d is paired = absurd is
