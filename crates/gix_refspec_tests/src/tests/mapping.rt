@@ -2,19 +2,24 @@
 
 use bstr::BStr;
 use gix_refspec::match_group::{Item, Mapping, NameRef, Outcome, SourceRef, match_lhs};
-use gix_refspec::oid::ObjectId;
+use gix_refspec::oid::{Kind, ObjectId};
 use gix_refspec::parsing::Operation;
 use gix_refspec::{MatchGroup, parse};
 use std::alloc::{AllocError, Global};
 use std::process::Abort;
 use std::test::Fail;
 
-// What items point to.
+// The digits of what items point to.
 pub(super) const TARGET: &str = "1111111111111111111111111111111111111111";
+
+// What items point to. `TARGET` is an id, so this is never the null one.
+pub(super) fn target() -> ObjectId {
+    ObjectId::from_hex(TARGET.as_bytes()).unwrap_or(ObjectId::null(Kind::Sha1))
+}
 
 // From which side specs are matched.
 #[derive(Clone, Copy)]
-enum Direction {
+pub(super) enum Direction {
     // From the left one.
     Forward,
     // From the right one.
@@ -58,29 +63,39 @@ pub(super) fn items_of<'a>(
     Ok(items)
 }
 
-// A mapping as rows write it: the indexes of item and spec, source and destination, with `-` for
-// what is missing and a `=` before a name that is owned.
-fn line(alloc: Global, mapping: &Mapping<'_, '_>) -> Result<String, AllocError> {
-    let source = match &mapping.lhs {
-        SourceRef::FullName(name) => shown(alloc, name)?,
-        SourceRef::ObjectId(id) => format!(in alloc; "{id}")?,
-    };
-    let destination = match &mapping.rhs {
-        None => format!(in alloc; "-")?,
-        Some(name) => shown(alloc, name)?,
-    };
-    let spec = mapping.spec_index;
-    match mapping.item_index {
-        None => format!(in alloc; "- {spec} {source} {destination}\n"),
-        Some(item) => format!(in alloc; "{item} {spec} {source} {destination}\n"),
+// What rows write before a name: a `=` if it is owned.
+fn mark_of(name: &NameRef<'_>) -> &'static str {
+    match name {
+        NameRef::Borrowed(_) => "",
+        NameRef::Owned(_) => "=",
     }
 }
 
-// A name, with a `=` before one that is owned.
-fn shown(alloc: Global, name: &NameRef<'_>) -> Result<String, AllocError> {
-    match name {
-        NameRef::Borrowed(name) => format!(in alloc; "{name}"),
-        NameRef::Owned(name) => format!(in alloc; "={name}"),
+// Adds a mapping as rows write it: the indexes of item and spec, source and destination, with `-` for
+// what is missing and a `=` before a name that is owned.
+fn add_line(text: &mut String, mapping: &Mapping<'_, '_>) -> Result<(), AllocError> {
+    let spec = mapping.spec_index;
+    let source = &mapping.lhs;
+    let mark = match source {
+        SourceRef::FullName(name) => mark_of(name),
+        SourceRef::ObjectId(_) => "",
+    };
+    match mapping.item_index {
+        None => write!(text, "- {spec} {mark}{source} ")?,
+        Some(item) => write!(text, "{item} {spec} {mark}{source} ")?,
+    }
+    match &mapping.rhs {
+        None => writeln!(text, "-"),
+        Some(name) => writeln!(text, "{}{}", mark_of(name), name.as_bstr()),
+    }
+}
+
+// Adds `source:destination`, or `source` without a destination.
+pub(super) fn add_pair(text: &mut String, mapping: &Mapping<'_, '_>) -> Result<(), AllocError> {
+    let source = &mapping.lhs;
+    match &mapping.rhs {
+        None => writeln!(text, "{source}"),
+        Some(name) => writeln!(text, "{source}:{}", name.as_bstr()),
     }
 }
 
@@ -88,7 +103,7 @@ fn shown(alloc: Global, name: &NameRef<'_>) -> Result<String, AllocError> {
 pub(super) fn lines(alloc: Global, mappings: &[Mapping<'_, '_>]) -> Result<String, AllocError> {
     let mut text = String::new(alloc);
     for mapping in mappings {
-        text.push_str(line(alloc, mapping)?.as_str())?;
+        add_line(&mut text, mapping)?;
     }
     Ok(text)
 }
@@ -139,12 +154,15 @@ pub(super) fn mapped<'s, 'i>(
 }
 
 // Whether fetches map items from left to right as is written beside them.
-fn check_forward(rt: &(impl Abort + AllocGlobal), rows: &[(&str, &str, &str)]) -> Result<(), Fail> {
+pub(super) fn check_forward(
+    rt: &(impl Abort + AllocGlobal),
+    rows: &[(&str, &str, &str)],
+) -> Result<(), Fail> {
     check(rt, Direction::Forward, Operation::Fetch, rows)
 }
 
 // Likewise from right to left.
-fn check_backward(
+pub(super) fn check_backward(
     rt: &(impl Abort + AllocGlobal),
     rows: &[(&str, &str, &str)],
 ) -> Result<(), Fail> {
@@ -152,18 +170,16 @@ fn check_backward(
 }
 
 // Whether specs map items as is written beside them, and a copy of the outcome says the same.
-fn check(
+pub(super) fn check(
     rt: &(impl Abort + AllocGlobal),
     direction: Direction,
     operation: Operation,
     rows: &[(&str, &str, &str)],
 ) -> Result<(), Fail> {
     let alloc = rt.alloc();
-    let target = ObjectId::from_hex(TARGET.as_bytes())?;
     for (specs, names, wanted) in rows {
-        let items = items_of(alloc, names, &target)?;
         let group = group_of(alloc, operation, specs)?;
-        let (found, copied) = in_direction(alloc, direction, group, items.as_slice())?;
+        let (found, copied) = in_direction(alloc, direction, group, names)?;
         assert_eq!(rt;
             (found.as_str(), copied.as_str()),
             (*wanted, *wanted),
@@ -173,24 +189,27 @@ fn check(
     Ok(())
 }
 
-// What a group maps items to in a direction, and a copy of the outcome, as rows write them.
+// What a group maps items of these names to in a direction, and a copy of the outcome, as rows write
+// them.
 fn in_direction(
     alloc: Global,
     direction: Direction,
     group: MatchGroup<'_>,
-    items: &[Item<'_>],
+    names: &str,
 ) -> Result<(String, String), Fail> {
-    Ok(match direction {
-        Direction::Forward => with_copy(alloc, &group.match_lhs(alloc, items)?)?,
-        Direction::Backward => with_copy(alloc, &group.match_rhs(alloc, items)?)?,
-    })
+    let target = target();
+    let items = items_of(alloc, names, &target)?;
+    match direction {
+        Direction::Forward => with_copy(alloc, &group.match_lhs(alloc, items.as_slice())?),
+        Direction::Backward => with_copy(alloc, &group.match_rhs(alloc, items.as_slice())?),
+    }
 }
 
 // The mappings of an outcome, and of a copy of it, as rows write them.
 fn with_copy<const FORWARD: bool>(
     alloc: Global,
     outcome: &Outcome<'_, '_, '_, FORWARD>,
-) -> Result<(String, String), AllocError> {
+) -> Result<(String, String), Fail> {
     let copy = outcome.clone(alloc)?;
     Ok((
         lines(alloc, outcome.mappings.as_slice())?,
@@ -362,22 +381,16 @@ fn maps_equal_specs_once(rt: HostRuntime) -> Result<(), Fail> {
 // Two items of one name, of which the second one points to the id that is asked for.
 #[test]
 fn takes_the_item_that_points_to_an_id(rt: HostRuntime) -> Result<(), Fail> {
-    let alloc = rt.alloc();
-    let target = ObjectId::from_hex(TARGET.as_bytes())?;
+    let target = target();
     let other = ObjectId::from_hex(b"2222222222222222222222222222222222222222")?;
-    let group = group_of(
-        alloc,
-        Operation::Fetch,
-        "main:1111111111111111111111111111111111111111",
-    )?;
-    let mut items = items_of(alloc, "refs/a refs/a", &other)?;
-    items.push(item_of(b"refs/a", &target))?;
-    check_match_rhs(
-        &rt,
-        group,
-        items.as_slice(),
-        "2 0 =refs/heads/main refs/a\n",
-    )
+    let items = [
+        item_of(b"refs/a", &other),
+        item_of(b"refs/a", &other),
+        item_of(b"refs/a", &target),
+    ];
+    let specs = "main:1111111111111111111111111111111111111111";
+    let group = group_of(rt.alloc(), Operation::Fetch, specs)?;
+    check_match_rhs(&rt, group, &items, "2 0 =refs/heads/main refs/a\n")
 }
 
 #[test]
@@ -506,7 +519,7 @@ const FIRST: &[(&str, &str, &str)] = &[
 // specs follow from the names, by hand.
 #[test]
 fn looks_patterns_up(rt: HostRuntime) -> Result<(), Fail> {
-    let forward = [(
+    const FORWARD: &[(&str, &str, &str)] = &[(
         "refs/heads/a*:refs/x0/* refs/heads/ab*:refs/x1/* refs/heads/a/*:refs/x2/* refs/heads/*:refs/x3/* \
          refs/*:refs/x4/* refs/heads/a*b:refs/x5/* *:refs/x6/* refs/heads/abc*c:refs/x7/* \
          refs/tags/*:refs/x8/* refs/heads/b*:refs/x9/*",
@@ -530,15 +543,15 @@ fn looks_patterns_up(rt: HostRuntime) -> Result<(), Fail> {
          2 8 refs/tags/a =refs/x8/a\n\
          7 9 refs/heads/b =refs/x9/\n",
     )];
-    check_forward(&rt, &forward)?;
-    let backward = [(
+    check_forward(&rt, FORWARD)?;
+    const BACKWARD: &[(&str, &str, &str)] = &[(
         "refs/x0/*:refs/h/a* refs/x1/*:refs/h/ab* refs/x2/*:refs/h/a/* refs/x3/*:refs/h/b* refs/x4/*:refs/h/c* \
          refs/x5/*:refs/t/* refs/x6/*:refs/h/d* refs/x7/*:refs/h/e*a",
         "refs/h/ab refs/t/a refs/h/a/b refs/h/ea refs/h/a",
         "0 0 =refs/x0/b refs/h/ab\n2 0 =refs/x0//b refs/h/a/b\n4 0 =refs/x0/ refs/h/a\n\
          0 1 =refs/x1/ refs/h/ab\n2 2 =refs/x2/b refs/h/a/b\n1 5 =refs/x5/a refs/t/a\n3 7 =refs/x7/ refs/h/ea\n",
     )];
-    check_backward(&rt, &backward)
+    check_backward(&rt, BACKWARD)
 }
 
 #[test]
@@ -663,18 +676,18 @@ fn maps_ids_from_right_to_left(rt: HostRuntime) -> Result<(), Fail> {
 #[test]
 fn maps_pushes_from_right_to_left(rt: HostRuntime) -> Result<(), Fail> {
     // Only the last one has both sides.
-    let rows = [(
+    const ROWS: &[(&str, &str, &str)] = &[(
         ":refs/heads/x : refs/heads/x ^refs/heads/a refs/heads/*:refs/heads/*",
         "refs/heads/x refs/heads/a",
         "0 4 =refs/heads/x refs/heads/x\n",
     )];
-    check(&rt, Direction::Backward, Operation::Push, &rows)
+    check(&rt, Direction::Backward, Operation::Push, ROWS)
 }
 
 #[test]
 fn matches_tags_by_their_objects(rt: HostRuntime) -> Result<(), Fail> {
     let alloc = rt.alloc();
-    let target = ObjectId::from_hex(TARGET.as_bytes())?;
+    let target = target();
     let object = ObjectId::from_hex(b"aaaaaaaaaaaaaaaaaaaaaaaaaaaaaaaaaaaaaaaa")?;
     let items = [Item {
         full_ref_name: BStr::new(b"refs/q"),
