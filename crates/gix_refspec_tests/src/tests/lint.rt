@@ -2,42 +2,52 @@
 //! written down before it was asked for.
 
 use super::plans::specs_of;
+use gix_refspec::RefSpecRef;
 use gix_refspec_lint::{Error, Reason, idle_exclusions, idle_specs, possible_conflicts};
 use std::alloc::Global;
 use std::process::Abort;
 use std::test::Fail;
 
-// One line for each conflict, idle spec and idle negative spec.
-fn text_of(alloc: Global, specs: &str) -> Result<String, Fail> {
-    let parsed = specs_of(alloc, specs)?;
-    let mut text = String::new(alloc);
-    for c in &possible_conflicts(alloc, parsed.as_slice())? {
-        let line = format!(in alloc;
-            "{} {} {} {} {}\n",
+// Adds a line for each conflict.
+fn add_conflicts(alloc: Global, text: &mut String, specs: &[RefSpecRef<'_>]) -> Result<(), Fail> {
+    for c in &possible_conflicts(alloc, specs)? {
+        writeln!(
+            text,
+            "{} {} {} {} {}",
             c.first_spec, c.second_spec, c.first_source, c.second_source, c.destination
         )?;
-        text.push_str(line.as_str())?;
     }
-    for idle in &idle_specs(alloc, parsed.as_slice())? {
-        let line = match idle.reason {
-            Reason::Invalid => format!(in alloc; "{} invalid\n", idle.spec_index)?,
-            Reason::Excluded(by) => format!(in alloc; "{} excluded by {by}\n", idle.spec_index)?,
-            Reason::Duplicate(of) => format!(in alloc; "{} as {of}\n", idle.spec_index)?,
-        };
-        text.push_str(line.as_str())?;
+    Ok(())
+}
+
+// Adds a line for each idle spec.
+fn add_idle_specs(alloc: Global, text: &mut String, specs: &[RefSpecRef<'_>]) -> Result<(), Fail> {
+    for idle in &idle_specs(alloc, specs)? {
+        match idle.reason {
+            Reason::Invalid => writeln!(text, "{} invalid", idle.spec_index)?,
+            Reason::Excluded(by) => writeln!(text, "{} excluded by {by}", idle.spec_index)?,
+            Reason::Duplicate(of) => writeln!(text, "{} as {of}", idle.spec_index)?,
+        }
     }
-    for index in &idle_exclusions(alloc, parsed.as_slice())? {
-        let line = format!(in alloc; "{index} excludes nothing\n")?;
-        text.push_str(line.as_str())?;
+    Ok(())
+}
+
+// One line for each conflict, idle spec and idle negative spec.
+fn text_of(alloc: Global, specs: &[RefSpecRef<'_>]) -> Result<String, Fail> {
+    let mut text = String::new(alloc);
+    add_conflicts(alloc, &mut text, specs)?;
+    add_idle_specs(alloc, &mut text, specs)?;
+    for index in &idle_exclusions(alloc, specs)? {
+        writeln!(text, "{index} excludes nothing")?;
     }
     Ok(text)
 }
 
 fn check(rt: &(impl Abort + AllocGlobal), rows: &[(&str, &str)]) -> Result<(), Fail> {
-    for row in rows {
-        let (specs, found) = *row;
-        let text = text_of(rt.alloc(), specs)?;
-        assert_eq!(rt; text.as_str(), found, "with {specs}");
+    for (specs, found) in rows {
+        let parsed = specs_of(rt.alloc(), specs)?;
+        let text = text_of(rt.alloc(), parsed.as_slice())?;
+        assert_eq!(rt; text.as_str(), *found, "with {specs}");
     }
     Ok(())
 }
@@ -46,7 +56,7 @@ const ORIGIN: &str = "+refs/heads/*:refs/remotes/origin/*";
 
 #[test]
 fn finds_nothing_wrong_with_usual_configurations(rt: HostRuntime) -> Result<(), Fail> {
-    let rows = [
+    const ROWS: &[(&str, &str)] = &[
         ("", ""),
         // a clone, one of a single branch, a mirror, and one with all tags
         (ORIGIN, ""),
@@ -78,11 +88,11 @@ fn finds_nothing_wrong_with_usual_configurations(rt: HostRuntime) -> Result<(), 
         // one ref to two destinations
         ("refs/heads/*:refs/a/* refs/heads/*:refs/b/*", ""),
     ];
-    check(&rt, rows.as_slice())
+    check(&rt, ROWS)
 }
 
 // Specs, and what is found.
-const CONFLICTS: [(&str, &str); 17] = [
+const CONFLICTS: &[(&str, &str)] = &[
     // pull requests in the folder of the branches, and two ways out
     (
         "+refs/heads/*:refs/remotes/origin/* +refs/pull/*/head:refs/remotes/origin/pr/*",
@@ -163,12 +173,12 @@ const CONFLICTS: [(&str, &str); 17] = [
 
 #[test]
 fn finds_conflicts(rt: HostRuntime) -> Result<(), Fail> {
-    check(&rt, CONFLICTS.as_slice())
+    check(&rt, CONFLICTS)
 }
 
 #[test]
 fn finds_idle_specs(rt: HostRuntime) -> Result<(), Fail> {
-    let rows = [
+    const ROWS: &[(&str, &str)] = &[
         (
             "+refs/heads/*:refs/remotes/origin/* +refs/heads/*:refs/remotes/origin/*",
             "1 as 0\n",
@@ -201,12 +211,12 @@ fn finds_idle_specs(rt: HostRuntime) -> Result<(), Fail> {
             "0 1 refs/x refs/x/HEAD refs/y\n0 2 refs/x refs/remotes/x/HEAD refs/y\n1 2 refs/x/HEAD refs/remotes/x/HEAD refs/y\n",
         ),
     ];
-    check(&rt, rows.as_slice())
+    check(&rt, ROWS)
 }
 
 #[test]
 fn finds_idle_negative_specs(rt: HostRuntime) -> Result<(), Fail> {
-    let rows = [
+    const ROWS: &[(&str, &str)] = &[
         (
             "+refs/heads/*:refs/remotes/origin/* ^refs/tags/*",
             "1 excludes nothing\n",
@@ -231,7 +241,7 @@ fn finds_idle_negative_specs(rt: HostRuntime) -> Result<(), Fail> {
             "0 excluded by 1\n",
         ),
     ];
-    check(&rt, rows.as_slice())
+    check(&rt, ROWS)
 }
 
 // Each byte that may stand for a word is in a side.

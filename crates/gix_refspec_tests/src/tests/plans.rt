@@ -1,12 +1,10 @@
 //! What fetches plan. Each row is what git 2.39 fetches, by `tests/git-refspec.py` and by hand.
 
-use super::mapping::{TARGET, items_of};
+use super::mapping::{group_of, items_of, target};
 use bstr::BStr;
-use gix_refspec::match_group::SourceRef;
+use gix_refspec::RefSpecRef;
 use gix_refspec::match_group::ref_names::InvalidSide;
-use gix_refspec::oid::ObjectId;
 use gix_refspec::parsing::Operation;
-use gix_refspec::{RefSpecRef, parse};
 use gix_refspec_plan::{Origin, Plan, Update, Verdict, Wish, plan_fetch};
 use std::alloc::{AllocError, Global};
 use std::process::Abort;
@@ -35,14 +33,10 @@ const NOTHING: Row<'static> = Row {
 const ORIGIN: &str = "+refs/heads/*:refs/remotes/origin/*";
 
 pub(super) fn specs_of<'a>(alloc: Global, words: &'a str) -> Result<Vec<RefSpecRef<'a>>, Fail> {
-    let mut specs = Vec::new(alloc);
     if words.is_empty() {
-        return Ok(specs);
+        return Ok(Vec::new(alloc));
     }
-    for word in words.split(' ') {
-        specs.push(parse(alloc, BStr::new(word.as_bytes()), Operation::Fetch)?)?;
-    }
-    Ok(specs)
+    Ok(group_of(alloc, Operation::Fetch, words)?.specs)
 }
 
 fn names_of<'a>(alloc: Global, words: &'a str) -> Result<Vec<BStr<'a>>, AllocError> {
@@ -56,13 +50,13 @@ fn names_of<'a>(alloc: Global, words: &'a str) -> Result<Vec<BStr<'a>>, AllocErr
     Ok(names)
 }
 
-fn origin_text(alloc: Global, origin: Origin) -> Result<String, AllocError> {
+fn add_origin(text: &mut String, origin: Origin) -> Result<(), AllocError> {
     match origin {
-        Origin::Given(index) => format!(in alloc; "given {index}"),
-        Origin::Configured(index) => format!(in alloc; "configured {index}"),
-        Origin::Merge(index) => format!(in alloc; "merge {index}"),
-        Origin::Default => format!(in alloc; "default"),
-        Origin::AllTags => format!(in alloc; "tags"),
+        Origin::Given(index) => write!(text, "given {index}"),
+        Origin::Configured(index) => write!(text, "configured {index}"),
+        Origin::Merge(index) => write!(text, "merge {index}"),
+        Origin::Default => text.push_str("default"),
+        Origin::AllTags => text.push_str("tags"),
     }
 }
 
@@ -77,45 +71,59 @@ fn verdict_text(verdict: Verdict) -> &'static str {
     }
 }
 
-// The spec, the source with the index of its item, the destination and the verdict.
-fn line_of(alloc: Global, update: &Update<'_>) -> Result<String, AllocError> {
-    let origin = origin_text(alloc, update.origin)?;
-    let item = match update.item_index {
-        None => format!(in alloc; "-")?,
-        Some(index) => format!(in alloc; "{index}")?,
-    };
-    let source = match &update.source {
-        SourceRef::FullName(name) => format!(in alloc; "{}", name.as_bstr())?,
-        SourceRef::ObjectId(id) => format!(in alloc; "{id}")?,
-    };
+// Adds the spec, the source with the index of its item, the destination and the verdict.
+fn add_line(text: &mut String, update: &Update<'_>) -> Result<(), AllocError> {
+    add_origin(text, update.origin)?;
+    match update.item_index {
+        None => text.push_str(" -")?,
+        Some(index) => write!(text, " {index}")?,
+    }
+    let source = &update.source;
     let verdict = verdict_text(update.verdict);
     match &update.destination {
-        None => format!(in alloc; "{origin} {item} {source} - {verdict}\n"),
-        Some(name) => format!(in alloc; "{origin} {item} {source} {name} {verdict}\n"),
+        None => writeln!(text, " {source} - {verdict}"),
+        Some(name) => writeln!(text, " {source} {name} {verdict}"),
     }
+}
+
+// Adds a spec whose source is missing.
+fn add_missing(text: &mut String, origin: Origin) -> Result<(), AllocError> {
+    text.push_str("missing ")?;
+    add_origin(text, origin)?;
+    text.push('\n')
 }
 
 fn text_of(alloc: Global, plan: &Plan<'_>) -> Result<String, AllocError> {
     let mut text = String::new(alloc);
     for update in &plan.updates {
-        text.push_str(line_of(alloc, update)?.as_str())?;
+        add_line(&mut text, update)?;
     }
     for origin in &plan.missing {
-        let origin = origin_text(alloc, *origin)?;
-        text.push_str(format!(in alloc; "missing {origin}\n")?.as_str())?;
+        add_missing(&mut text, *origin)?;
     }
     Ok(text)
 }
 
 // The lines of what is planned, and whether it is carried out.
-fn planned<'r>(alloc: Global, row: Row<'r>, target: &'r ObjectId) -> Result<(String, bool), Fail> {
+fn planned(alloc: Global, row: Row<'_>) -> Result<(String, bool), Fail> {
     let given = specs_of(alloc, row.given)?;
     let configured = specs_of(alloc, row.configured)?;
+    planned_by(alloc, row, given.as_slice(), configured.as_slice())
+}
+
+// The same by parsed specs.
+fn planned_by<'r>(
+    alloc: Global,
+    row: Row<'r>,
+    given: &[RefSpecRef<'r>],
+    configured: &[RefSpecRef<'r>],
+) -> Result<(String, bool), Fail> {
+    let target = target();
     let merges = names_of(alloc, row.merges)?;
-    let items = items_of(alloc, row.names, target)?;
+    let items = items_of(alloc, row.names, &target)?;
     let wish = Wish {
-        given: given.as_slice(),
-        configured: configured.as_slice(),
+        given,
+        configured,
         merges: merges.as_slice(),
         tags: row.tags,
     };
@@ -124,10 +132,8 @@ fn planned<'r>(alloc: Global, row: Row<'r>, target: &'r ObjectId) -> Result<(Str
 }
 
 fn check(rt: &(impl Abort + AllocGlobal), rows: &[Row<'_>]) -> Result<(), Fail> {
-    let alloc = rt.alloc();
-    let target = ObjectId::from_hex(TARGET.as_bytes())?;
     for row in rows {
-        let (lines, is_carried_out) = planned(alloc, *row, &target)?;
+        let (lines, is_carried_out) = planned(rt.alloc(), *row)?;
         assert_eq!(rt; lines.as_str(), row.planned);
         let stops = row.planned.contains(" conflict\n") || row.planned.contains("missing ");
         assert_eq!(rt; is_carried_out, !stops, "{}", row.planned);

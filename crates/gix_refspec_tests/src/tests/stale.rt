@@ -1,10 +1,9 @@
 //! Which local refs look stale, held against `git fetch --prune` of git 2.39. Each test says what that does with its rows.
 
-use super::mapping::{TARGET, items_of};
+use super::mapping::{items_of, target};
 use super::plans::specs_of;
-use gix_refspec::oid::ObjectId;
 use gix_refspec_plan::stale::{Stale, stale_refs};
-use std::alloc::{AllocError, Global};
+use std::alloc::Global;
 use std::process::Abort;
 use std::test::Fail;
 
@@ -12,38 +11,32 @@ use std::test::Fail;
 const ID: &str = "1111111111111111111111111111111111111111:refs/x";
 
 // The index of the local ref, and whether it is stale or kept by a spec.
-fn text_of(alloc: Global, found: &[Stale]) -> Result<String, AllocError> {
+fn text_of(alloc: Global, found: &[Stale]) -> Result<String, Fail> {
     let mut text = String::new(alloc);
     for one in found {
-        let line = match one.kept_by {
-            None => format!(in alloc; "{} stale\n", one.item_index)?,
-            Some(spec) => format!(in alloc; "{} kept by {spec}\n", one.item_index)?,
-        };
-        text.push_str(line.as_str())?;
+        match one.kept_by {
+            None => writeln!(text, "{} stale", one.item_index)?,
+            Some(spec) => writeln!(text, "{} kept by {spec}", one.item_index)?,
+        }
     }
     Ok(text)
 }
 
+// What is told of specs, refs of the remote and local ones, one a word.
+fn told(alloc: Global, specs: &str, remote: &str, local: &str) -> Result<String, Fail> {
+    let target = target();
+    let specs = specs_of(alloc, specs)?;
+    let remote = items_of(alloc, remote, &target)?;
+    let local = items_of(alloc, local, &target)?;
+    let found = stale_refs(alloc, specs.as_slice(), remote.as_slice(), local.as_slice())?;
+    text_of(alloc, found.as_slice())
+}
+
 // The specs, the refs of the remote, and the local ones, one a word; and what is told.
 fn check(rt: &(impl Abort + AllocGlobal), rows: &[(&str, &str, &str, &str)]) -> Result<(), Fail> {
-    let alloc = rt.alloc();
-    let target = ObjectId::from_hex(TARGET.as_bytes())?;
-    for row in rows {
-        let (specs, remote, local, told) = *row;
-        let parsed = specs_of(alloc, specs)?;
-        let remote = items_of(alloc, remote, &target)?;
-        let local = items_of(alloc, local, &target)?;
-        let found = stale_refs(
-            alloc,
-            parsed.as_slice(),
-            remote.as_slice(),
-            local.as_slice(),
-        )?;
-        assert_eq!(rt;
-            text_of(alloc, found.as_slice())?.as_str(),
-            told,
-            "with {specs}"
-        );
+    for (specs, remote, local, wanted) in rows {
+        let found = told(rt.alloc(), specs, remote, local)?;
+        assert_eq!(rt; found.as_str(), *wanted, "with {specs}");
     }
     Ok(())
 }
