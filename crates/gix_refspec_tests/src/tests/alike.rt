@@ -1,37 +1,47 @@
 //! Groups that map alike, what covers the sources of a group, and which items may be left out.
 
-use super::mapping::{TARGET, check_lines, check_match_lhs, check_match_rhs, group_of, items_of};
+use super::mapping::{
+    check_backward, check_forward, check_match_lhs, group_of, items_of, mapped, target,
+};
 use bstr::BString;
 use gix_refspec::match_group::{Item, Mapping, SourceRef};
-use gix_refspec::oid::ObjectId;
 use gix_refspec::parsing::Operation;
 use gix_refspec::{MatchGroup, laws};
-use std::alloc::{AllocError, Global};
+use std::alloc::Global;
 use std::process::Abort;
 use std::test::Fail;
 
 // The canonical texts of the specs of a group, one a word.
-fn printed(alloc: Global, group: &MatchGroup<'_>) -> Result<String, AllocError> {
+fn printed(alloc: Global, group: &MatchGroup<'_>) -> Result<String, Fail> {
     let mut words = String::new(alloc);
     for spec in &group.specs {
         let text = spec.to_bstring(alloc)?;
-        if !words.is_empty() {
-            words.push(' ')?;
-        }
-        words.push_str(format!(in alloc; "{text}")?.as_str())?;
+        let space = if words.is_empty() { "" } else { " " };
+        write!(words, "{space}{text}")?;
     }
     Ok(words)
 }
 
-// Whether a group maps items in both directions as is written.
-fn check_mappings(
+// The canonical texts of specs. A law says that the group of these texts maps alike.
+fn texts_of(alloc: Global, specs: &str, texts: &str, names: &str) -> Result<String, Fail> {
+    let target = target();
+    let items = items_of(alloc, names, &target)?;
+    let group = group_of(alloc, Operation::Fetch, specs)?;
+    let again = group_of(alloc, Operation::Fetch, texts)?;
+    laws::fetch_group_reads_back(&group, &again, items.as_slice());
+    printed(alloc, &group)
+}
+
+// Whether specs print these texts.
+fn check_texts(
     rt: &(impl Abort + AllocGlobal),
-    group: MatchGroup<'_>,
-    items: &[Item<'_>],
-    wanted: (&str, &str),
+    specs: &str,
+    texts: &str,
+    names: &str,
 ) -> Result<(), Fail> {
-    check_match_lhs(rt, group.clone(rt.alloc())?, items, wanted.0)?;
-    check_match_rhs(rt, group, items, wanted.1)
+    let words = texts_of(rt.alloc(), specs, texts, names)?;
+    assert_eq!(rt; words.as_str(), texts, "{specs}");
+    Ok(())
 }
 
 #[test]
@@ -53,19 +63,22 @@ fn maps_as_the_canonical_texts(rt: HostRuntime) -> Result<(), Fail> {
             "2 0 =refs/heads/b refs/x/b\n",
         ),
     ];
-    let alloc = rt.alloc();
-    let target = ObjectId::from_hex(TARGET.as_bytes())?;
     for (specs, texts, names, forward, backward) in ROWS {
-        let items = items_of(alloc, names, &target)?;
-        let group = group_of(alloc, Operation::Fetch, specs)?;
-        let again = group_of(alloc, Operation::Fetch, texts)?;
-        let words = printed(alloc, &group)?;
-        assert_eq!(rt; words.as_str(), *texts, "{specs}");
-        laws::fetch_group_reads_back(&group, &again, items.as_slice());
-        check_mappings(&rt, group, items.as_slice(), (forward, backward))?;
-        check_mappings(&rt, again, items.as_slice(), (forward, backward))?;
+        check_texts(&rt, specs, texts, names)?;
+        check_forward(&rt, &[(specs, names, forward), (texts, names, forward)])?;
+        check_backward(&rt, &[(specs, names, backward), (texts, names, backward)])?;
     }
     Ok(())
+}
+
+// Whether two groups of fetches are equal. A law says that such groups map alike.
+fn are_equal(alloc: Global, specs: &str, others: &str, names: &str) -> Result<bool, Fail> {
+    let target = target();
+    let items = items_of(alloc, names, &target)?;
+    let group = group_of(alloc, Operation::Fetch, specs)?;
+    let other = group_of(alloc, Operation::Fetch, others)?;
+    laws::equal_groups(&group, &other, items.as_slice());
+    Ok(group.specs == other.specs)
 }
 
 #[test]
@@ -105,16 +118,10 @@ fn equal_fetches_map_alike(rt: HostRuntime) -> Result<(), Fail> {
             "0 0 refs/heads/main -\n",
         ),
     ];
-    let alloc = rt.alloc();
-    let target = ObjectId::from_hex(TARGET.as_bytes())?;
     for (specs, others, equal, names, wanted, of_others) in ROWS {
-        let items = items_of(alloc, names, &target)?;
-        let group = group_of(alloc, Operation::Fetch, specs)?;
-        let other = group_of(alloc, Operation::Fetch, others)?;
-        laws::equal_groups(&group, &other, items.as_slice());
-        assert_eq!(rt; group.specs == other.specs, *equal, "{specs} and {others}");
-        check_match_lhs(&rt, group, items.as_slice(), wanted)?;
-        check_match_lhs(&rt, other, items.as_slice(), of_others)?;
+        let found = are_equal(rt.alloc(), specs, others, names)?;
+        assert_eq!(rt; found, *equal, "{specs} and {others}");
+        check_forward(&rt, &[(specs, names, wanted), (others, names, of_others)])?;
     }
     Ok(())
 }
@@ -190,8 +197,9 @@ fn begins_with_one(name: &[u8], entries: &[BString]) -> bool {
         .any(|entry: &BString| name.starts_with(entry.as_bytes()))
 }
 
-// What the specs of a group expand to.
-fn entries_of(alloc: Global, group: &MatchGroup<'_>) -> Result<Vec<BString>, AllocError> {
+// The entries that fetches expand to.
+fn entries_of(alloc: Global, specs: &str) -> Result<Vec<BString>, Fail> {
+    let group = group_of(alloc, Operation::Fetch, specs)?;
     let mut entries = Vec::new(alloc);
     for spec in &group.specs {
         spec.expand_prefixes(alloc, &mut entries)?;
@@ -199,39 +207,69 @@ fn entries_of(alloc: Global, group: &MatchGroup<'_>) -> Result<Vec<BString>, All
     Ok(entries)
 }
 
+// Whether each fetch has a covering source. A law says what then covers the sources of their mappings.
+fn has_covering_sources(alloc: Global, specs: &str, names: &str) -> Result<bool, Fail> {
+    let target = target();
+    let items = items_of(alloc, names, &target)?;
+    let group = group_of(alloc, Operation::Fetch, specs)?;
+    laws::cover(&group, items.as_slice());
+    Ok(group.has_covering_sources())
+}
+
+// Whether the entries of fetches cover the sources of all of their mappings, and of some.
+fn are_covered(alloc: Global, specs: &str, names: &str) -> Result<(bool, bool), Fail> {
+    let target = target();
+    let entries = entries_of(alloc, specs)?;
+    let outcome = mapped(alloc, specs, names, &target)?;
+    let (mut all, mut some) = (true, false);
+    for mapping in &outcome.mappings {
+        let is = is_covered(mapping, entries.as_slice());
+        all &= is;
+        some |= is;
+    }
+    Ok((all, some))
+}
+
 #[test]
 fn covers_the_sources(rt: HostRuntime) -> Result<(), Fail> {
     let alloc = rt.alloc();
-    let target = ObjectId::from_hex(TARGET.as_bytes())?;
     for (specs, names, wanted, covering, covered) in COVERING {
-        let items = items_of(alloc, names, &target)?;
-        let group = group_of(alloc, Operation::Fetch, specs)?;
-        let entries = entries_of(alloc, &group)?;
-        assert_eq!(rt; group.has_covering_sources(), *covering, "{specs}");
-        laws::cover(&group, items.as_slice());
-        let outcome = group.match_lhs(alloc, items.as_slice())?;
-        check_lines(&rt, outcome.mappings.as_slice(), wanted)?;
-        for mapping in &outcome.mappings {
-            let is = is_covered(mapping, entries.as_slice());
-            assert_eq!(rt; is, *covered, "{specs} over {names}");
-        }
+        check_forward(&rt, &[(specs, names, wanted)])?;
+        let found = has_covering_sources(alloc, specs, names)?;
+        let (all, some) = are_covered(alloc, specs, names)?;
+        let wanted = (*covering, *covered, *covered);
+        assert_eq!(rt; (found, all, some), wanted, "{specs} over {names}");
     }
     Ok(())
 }
 
-// The items whose names begin with one of the entries.
-fn listed_of<'a>(
-    alloc: Global,
-    items: &[Item<'a>],
-    entries: &[BString],
-) -> Result<Vec<Item<'a>>, AllocError> {
+// The items whose names begin with an entry of fetches.
+fn listed_of<'a>(alloc: Global, specs: &str, items: &[Item<'a>]) -> Result<Vec<Item<'a>>, Fail> {
+    let entries = entries_of(alloc, specs)?;
     let mut listed = Vec::new(alloc);
     for item in items {
-        if begins_with_one(item.full_ref_name.as_bytes(), entries) {
+        if begins_with_one(item.full_ref_name.as_bytes(), entries.as_slice()) {
             listed.push(*item)?;
         }
     }
     Ok(listed)
+}
+
+// Whether fetches map the listed items of these names as is written. Two laws speak of such a part of the
+// items.
+fn check_listed(
+    rt: &(impl Abort + AllocGlobal),
+    specs: &str,
+    names: &str,
+    wanted: &str,
+) -> Result<(), Fail> {
+    let target = target();
+    let items = items_of(rt.alloc(), names, &target)?;
+    let listed = listed_of(rt.alloc(), specs, items.as_slice())?;
+    let group = group_of(rt.alloc(), Operation::Fetch, specs)?;
+    laws::fewer_items(&group, items.as_slice(), listed.as_slice());
+    laws::listed_items(&group, items.as_slice(), listed.as_slice());
+    check_match_lhs(rt, group, listed.as_slice(), wanted)
 }
 
 #[test]
@@ -265,17 +303,9 @@ fn listed_refs_lose_no_pair(rt: HostRuntime) -> Result<(), Fail> {
             "0 1 refs/tags/a =refs/x/a\n",
         ),
     ];
-    let alloc = rt.alloc();
-    let target = ObjectId::from_hex(TARGET.as_bytes())?;
     for (specs, names, wanted, of_listed) in ROWS {
-        let items = items_of(alloc, names, &target)?;
-        let group = group_of(alloc, Operation::Fetch, specs)?;
-        let entries = entries_of(alloc, &group)?;
-        let listed = listed_of(alloc, items.as_slice(), entries.as_slice())?;
-        laws::fewer_items(&group, items.as_slice(), listed.as_slice());
-        laws::listed_items(&group, items.as_slice(), listed.as_slice());
-        check_match_lhs(&rt, group.clone(alloc)?, items.as_slice(), wanted)?;
-        check_match_lhs(&rt, group, listed.as_slice(), of_listed)?;
+        check_forward(&rt, &[(specs, names, wanted)])?;
+        check_listed(&rt, specs, names, of_listed)?;
     }
     Ok(())
 }
