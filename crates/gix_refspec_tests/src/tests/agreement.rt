@@ -1,11 +1,11 @@
 //! Both directions of matching agree on the names of two lists, where specs go both ways.
 
-use super::mapping::{group_of, items_of};
+use super::mapping::{group_of, items_of, target};
 use gix_refspec::match_group::{Item, Mapping, SourceRef, has_id_destination};
-use gix_refspec::oid::ObjectId;
 use gix_refspec::parsing::Operation;
 use gix_refspec::{MatchGroup, laws};
-use std::alloc::{AllocError, Global};
+use std::alloc::Global;
+use std::process::Abort;
 use std::test::Fail;
 
 // Whether one of the items has the name.
@@ -21,15 +21,14 @@ fn pairs(
     mappings: &[Mapping<'_, '_>],
     from: &[Item<'_>],
     to: &[Item<'_>],
-) -> Result<String, AllocError> {
+) -> Result<String, Fail> {
     let mut text = String::new(alloc);
     for mapping in mappings {
         if let (SourceRef::FullName(source), Some(destination)) = (&mapping.lhs, &mapping.rhs) {
             let source = source.as_bstr();
             let destination = destination.as_bstr();
             if has_name(from, source.as_bytes()) && has_name(to, destination.as_bytes()) {
-                let line = format!(in alloc; "{source} {destination}\n")?;
-                text.push_str(line.as_str())?;
+                writeln!(text, "{source} {destination}")?;
             }
         }
     }
@@ -45,9 +44,19 @@ fn pairs_of(
 ) -> Result<(String, String), Fail> {
     let there = group.match_lhs(alloc, left)?;
     let forward = pairs(alloc, there.mappings.as_slice(), left, right)?;
-    let back = there.group.match_rhs(alloc, right)?;
-    let backward = pairs(alloc, back.mappings.as_slice(), left, right)?;
+    let backward = pairs_back(alloc, there.group, left, right)?;
     Ok((forward, backward))
+}
+
+// The pairs that a group maps back.
+fn pairs_back(
+    alloc: Global,
+    group: MatchGroup<'_>,
+    left: &[Item<'_>],
+    right: &[Item<'_>],
+) -> Result<String, Fail> {
+    let back = group.match_rhs(alloc, right)?;
+    pairs(alloc, back.mappings.as_slice(), left, right)
 }
 
 // Specs, whether they go both ways, items on the left, items on the right, and the pairs of these that are mapped from
@@ -96,23 +105,30 @@ const ROWS: &[(&str, bool, &str, &str, &str, &str)] = &[
     ),
 ];
 
+// Whether specs go both ways, and map pairs from left to right and from right to left, as is written.
+fn check(
+    rt: &(impl Abort + AllocGlobal),
+    specs: &str,
+    left: &[Item<'_>],
+    right: &[Item<'_>],
+    wanted: (bool, &str, &str),
+) -> Result<(), Fail> {
+    let group = group_of(rt.alloc(), Operation::Fetch, specs)?;
+    let goes = group.goes_both_ways();
+    laws::transpose(&group, left, right);
+    let (there, back) = pairs_of(rt.alloc(), group, left, right)?;
+    assert_eq!(rt; (goes, there.as_str(), back.as_str()), wanted, "{specs}");
+    Ok(())
+}
+
 #[test]
 fn agrees_in_both_directions(rt: HostRuntime) -> Result<(), Fail> {
-    let alloc = rt.alloc();
-    let target = ObjectId::from_hex(b"1111111111111111111111111111111111111111")?;
+    let target = target();
     for (specs, both, left, right, forward, backward) in ROWS {
-        let left = items_of(alloc, left, &target)?;
-        let right = items_of(alloc, right, &target)?;
-        let (left, right) = (left.as_slice(), right.as_slice());
-        let group = group_of(alloc, Operation::Fetch, specs)?;
-        let goes = group.goes_both_ways();
-        laws::transpose(&group, left, right);
-        let (there, back) = pairs_of(alloc, group, left, right)?;
-        assert_eq!(&rt;
-            (goes, there.as_str(), back.as_str()),
-            (*both, *forward, *backward),
-            "{specs}"
-        );
+        let left = items_of(rt.alloc(), left, &target)?;
+        let right = items_of(rt.alloc(), right, &target)?;
+        let wanted = (*both, *forward, *backward);
+        check(&rt, specs, left.as_slice(), right.as_slice(), wanted)?;
     }
     Ok(())
 }
