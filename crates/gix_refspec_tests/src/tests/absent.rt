@@ -1,9 +1,8 @@
 //! Sources that no ref of the remote has.
 
-use super::mapping::{TARGET, group_of, items_of};
+use super::mapping::{group_of, items_of, target};
 use gix_refspec::RefSpecRef;
 use gix_refspec::match_group::Item;
-use gix_refspec::oid::ObjectId;
 use gix_refspec::parsing::Operation;
 use gix_refspec_match::missing_sources;
 use std::alloc::{AllocError, Global};
@@ -18,7 +17,7 @@ fn missing(
     let mut text = String::new(alloc);
     for index in &missing_sources(alloc, specs, items)? {
         let space = if text.is_empty() { "" } else { " " };
-        text.push_str(format!(in alloc; "{space}{index}")?.as_str())?;
+        write!(text, "{space}{index}")?;
     }
     Ok(text)
 }
@@ -26,7 +25,7 @@ fn missing(
 #[test]
 fn finds_missing_sources(rt: HostRuntime) -> Result<(), Fail> {
     let alloc = rt.alloc();
-    let target = ObjectId::from_hex(TARGET.as_bytes())?;
+    let target = target();
     // Specs, names of refs, and the indexes of the specs whose source is missing.
     const ROWS: &[(&str, &str, &str)] = &[
         (

@@ -3,29 +3,34 @@
 use bstr::{BStr, BString};
 use gix_refspec::parsing::Operation;
 use gix_refspec::{MatchGroup, parse};
-use std::alloc::{AllocError, Global};
+use std::alloc::Global;
 use std::test::Fail;
 
 const ID: &str = "aaaaaaaaaaaaaaaaaaaaaaaaaaaaaaaaaaaaaaaa";
 
 // The names to ask for, or `None` where all refs have to be asked for.
-fn names_to_ask(alloc: Global, texts: &[&str]) -> Result<Option<Vec<BString>>, Fail> {
+fn names_to_ask(
+    alloc: Global,
+    operation: Operation,
+    texts: &[&str],
+) -> Result<Option<Vec<BString>>, Fail> {
     let mut specs = Vec::new(alloc);
     for text in texts {
-        specs.push(parse(alloc, BStr::new(text.as_bytes()), Operation::Fetch)?)?;
+        specs.push(parse(alloc, BStr::new(text.as_bytes()), operation)?)?;
     }
     Ok(MatchGroup { specs }.ref_prefixes(alloc)?)
 }
 
 // The names to ask for, one a line, or `all`.
-fn asked(alloc: Global, names: Option<Vec<BString>>) -> Result<String, AllocError> {
-    let Some(names) = names else {
-        return format!(in alloc; "all");
-    };
+fn asked(alloc: Global, operation: Operation, texts: &[&str]) -> Result<String, Fail> {
     let mut text = String::new(alloc);
-    for name in &names {
-        let line = format!(in alloc; "{name}\n")?;
-        text.push_str(line.as_str())?;
+    match names_to_ask(alloc, operation, texts)? {
+        None => text.push_str("all")?,
+        Some(names) => {
+            for name in &names {
+                writeln!(text, "{name}")?;
+            }
+        }
     }
     Ok(text)
 }
@@ -65,7 +70,7 @@ fn gathers_what_a_group_asks_for(rt: HostRuntime) -> Result<(), Fail> {
     ];
     let alloc = rt.alloc();
     for (texts, wanted) in ROWS {
-        let found = asked(alloc, names_to_ask(alloc, texts)?)?;
+        let found = asked(alloc, Operation::Fetch, texts)?;
         assert_eq!(rt; found.as_str(), *wanted, "at {texts:?}");
     }
     Ok(())
@@ -84,9 +89,7 @@ fn gathers_what_a_push_asks_for(rt: HostRuntime) -> Result<(), Fail> {
     ];
     let alloc = rt.alloc();
     for (text, wanted) in ROWS {
-        let mut specs = Vec::new(alloc);
-        specs.push(parse(alloc, BStr::new(text.as_bytes()), Operation::Push)?)?;
-        let found = asked(alloc, MatchGroup { specs }.ref_prefixes(alloc)?)?;
+        let found = asked(alloc, Operation::Push, &[*text])?;
         assert_eq!(rt; found.as_str(), *wanted, "at {text}");
     }
     Ok(())
