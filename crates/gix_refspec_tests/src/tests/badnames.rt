@@ -1,39 +1,24 @@
 //! Mappings of which a side is no name of a ref.
 
-use super::mapping::{TARGET, group_of, items_of};
+use super::mapping::{add_pair, group_of, mapped, target};
 use bstr::BStr;
 use gix_refspec::match_group::ref_names::{InvalidSide, OutOfMemory, is_ref_name};
 use gix_refspec::match_group::validate::is_writable;
 use gix_refspec::match_group::{Mapping, NameRef, SourceRef, match_lhs};
-use gix_refspec::oid::ObjectId;
 use gix_refspec::parsing::Operation;
 use std::alloc::Global;
 use std::test::Fail;
-
-// `source:destination`, or `source` without a destination.
-fn shown(alloc: Global, mapping: &Mapping<'_, '_>) -> Result<String, Fail> {
-    let source = &mapping.lhs;
-    Ok(match &mapping.rhs {
-        None => format!(in alloc; "{source}")?,
-        Some(name) => {
-            let name = name.as_bstr();
-            format!(in alloc; "{source}:{name}")?
-        }
-    })
-}
 
 // The mappings that are kept, and then those that are left out with their side, each in a line.
 fn checked(alloc: Global, outcome: match_lhs::Outcome<'_, '_>) -> Result<String, Fail> {
     let (left, bad) = outcome.without_invalid_names(alloc)?;
     let mut told = String::new(alloc);
     for mapping in &left.mappings {
-        let line = shown(alloc, mapping)?;
-        told.push_str(format!(in alloc; "{line}\n")?.as_str())?;
+        add_pair(&mut told, mapping)?;
     }
     for out in &bad {
-        let line = shown(alloc, &out.mapping)?;
-        let side = out.side;
-        told.push_str(format!(in alloc; "{side:?} {line}\n")?.as_str())?;
+        write!(told, "{:?} ", out.side)?;
+        add_pair(&mut told, &out.mapping)?;
     }
     Ok(told)
 }
@@ -105,11 +90,9 @@ const CHECKED: &[(&str, &str, &str)] = &[
 #[test]
 fn keeps_names_of_refs(rt: HostRuntime) -> Result<(), Fail> {
     let alloc = rt.alloc();
-    let target = ObjectId::from_hex(TARGET.as_bytes())?;
+    let target = target();
     for (texts, names, told) in CHECKED {
-        let items = items_of(alloc, names, &target)?;
-        let group = group_of(alloc, Operation::Fetch, texts)?;
-        let answer = checked(alloc, group.match_lhs(alloc, items.as_slice())?)?;
+        let answer = checked(alloc, mapped(alloc, texts, names, &target)?)?;
         assert_eq!(rt; answer.as_str(), *told, "at {texts}");
     }
     Ok(())
@@ -118,14 +101,9 @@ fn keeps_names_of_refs(rt: HostRuntime) -> Result<(), Fail> {
 #[test]
 fn keeps_names_of_refs_after_a_validation(rt: HostRuntime) -> Result<(), Fail> {
     let alloc = rt.alloc();
-    let target = ObjectId::from_hex(TARGET.as_bytes())?;
-    let items = items_of(alloc, "refs/heads/a refs/heads/../b", &target)?;
-    let group = group_of(
-        alloc,
-        Operation::Fetch,
-        "refs/heads/*:refs/x/* refs/heads/*:y/*",
-    )?;
-    let outcome = group.match_lhs(alloc, items.as_slice())?;
+    let target = target();
+    let specs = "refs/heads/*:refs/x/* refs/heads/*:y/*";
+    let outcome = mapped(alloc, specs, "refs/heads/a refs/heads/../b", &target)?;
     assert!(&rt; outcome.indexes_fit());
     let (left, fixes) = outcome.validated(alloc)?;
     assert_eq!(&rt; fixes.len(), 2);

@@ -1,10 +1,9 @@
 //! Conflicts, fixes, and outcomes that were changed by hand.
 
-use super::mapping::{TARGET, group_of, items_of};
+use super::mapping::{add_pair, group_of, mapped, target};
 use bstr::{BStr, BString};
 use gix_refspec::match_group::validate::{Error, Fix, Issue, Refusal};
-use gix_refspec::match_group::{Mapping, NameRef, SourceRef, match_lhs};
-use gix_refspec::oid::ObjectId;
+use gix_refspec::match_group::{Mapping, NameRef, Source, SourceRef, match_lhs};
 use gix_refspec::parsing::Operation;
 use gix_refspec::{laws, parse};
 use std::alloc::Global;
@@ -13,10 +12,8 @@ use std::test::Fail;
 // What a validation answers of what a group of these texts gives over items of these names, and of a
 // copy of that.
 fn validated_matches(alloc: Global, texts: &str, names: &str) -> Result<(String, String), Fail> {
-    let target = ObjectId::from_hex(TARGET.as_bytes())?;
-    let items = items_of(alloc, names, &target)?;
-    let group = group_of(alloc, Operation::Fetch, texts)?;
-    let outcome = group.match_lhs(alloc, items.as_slice())?;
+    let target = target();
+    let outcome = mapped(alloc, texts, names, &target)?;
     let copy = outcome.clone(alloc)?;
     laws::one_validation(&outcome);
     laws::copied_outcome(&outcome, &copy);
@@ -39,17 +36,12 @@ fn validated(alloc: Global, outcome: match_lhs::Outcome<'_, '_>) -> Result<Strin
 fn text_of(alloc: Global, left: &[Mapping<'_, '_>], fixes: &[Fix]) -> Result<String, Fail> {
     let mut told = String::new(alloc);
     for mapping in left {
-        let source = &mapping.lhs;
-        let line = match &mapping.rhs {
-            None => format!(in alloc; "{source}\n")?,
-            Some(name) => format!(in alloc; "{source}:{}\n", name.as_bstr())?,
-        };
-        told.push_str(line.as_str())?;
+        add_pair(&mut told, mapping)?;
     }
     for fix in fixes {
         let Fix::MappingWithPartialDestinationRemoved { name, spec } = fix;
         let text = spec.to_ref().to_bstring(alloc)?;
-        told.push_str(format!(in alloc; "fix {name} {text}\n")?.as_str())?;
+        writeln!(told, "fix {name} {text}")?;
     }
     Ok(told)
 }
@@ -169,7 +161,7 @@ fn validates_what_was_matched(rt: HostRuntime) -> Result<(), Fail> {
 // A source as a row writes it: `=` before a name that is owned, and `#` for the id.
 fn source_of<'a>(alloc: Global, text: &'a str) -> Result<SourceRef<'a>, Fail> {
     if text == "#" {
-        return Ok(SourceRef::ObjectId(ObjectId::from_hex(TARGET.as_bytes())?));
+        return Ok(SourceRef::ObjectId(target()));
     }
     Ok(SourceRef::FullName(match text.strip_prefix("=") {
         Some(name) => NameRef::Owned(BString::from_slice(alloc, name.as_bytes())?),
@@ -270,15 +262,21 @@ fn issue_of<'a>(
     source: &'a str,
     text: &'a str,
 ) -> Result<Issue, Fail> {
-    let mut sources = Vec::new(alloc);
-    sources.push(source_of(alloc, source)?.into_owned(alloc)?)?;
+    let destination = BString::from_slice(alloc, destination.as_bytes())?;
     let mut specs = Vec::new(alloc);
     specs.push(BString::from_slice(alloc, text.as_bytes())?)?;
     Ok(Issue::Conflict {
-        destination_full_ref_name: BString::from_slice(alloc, destination.as_bytes())?,
-        sources,
+        destination_full_ref_name: destination,
+        sources: sources_of(alloc, source)?,
         specs,
     })
+}
+
+// The list of one source, as a row writes it.
+fn sources_of(alloc: Global, text: &str) -> Result<Vec<Source>, Fail> {
+    let mut sources = Vec::new(alloc);
+    sources.push(source_of(alloc, text)?.into_owned(alloc)?)?;
+    Ok(sources)
 }
 
 // A fix, as a row writes it.
@@ -291,7 +289,7 @@ fn fix_of<'a>(alloc: Global, name: &'a str, text: &'a str) -> Result<Fix, Fail> 
 }
 
 #[test]
-fn compares_issues_and_fixes(rt: HostRuntime) -> Result<(), Fail> {
+fn compares_issues(rt: HostRuntime) -> Result<(), Fail> {
     let alloc = rt.alloc();
     // Whether the issue of a row equals the first row's.
     const ISSUES: &[(&str, &str, &str, bool)] = &[
@@ -306,7 +304,13 @@ fn compares_issues_and_fixes(rt: HostRuntime) -> Result<(), Fail> {
         let issue = issue_of(alloc, destination, source, text)?;
         assert_eq!(rt; issue == first, *same, "at {destination} {source} {text}");
     }
-    // The same of fixes, whose specs are compared by what they say.
+    Ok(())
+}
+
+#[test]
+fn compares_fixes(rt: HostRuntime) -> Result<(), Fail> {
+    let alloc = rt.alloc();
+    // Whether the fix of a row equals the first row's. Specs are compared by what they say.
     const FIXES: &[(&str, &str, bool)] = &[
         ("x", "a", true),
         ("x", "+a:", true),
