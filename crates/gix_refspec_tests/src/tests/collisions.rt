@@ -64,13 +64,7 @@ fn tells_pairs_of_one_hash_apart(rt: HostRuntime) -> Result<(), Fail> {
     let specs = "refs/heads/*:refs/remotes/origin/* refs/heads/*:refs/x/*";
     let group = group_of(alloc, Operation::Fetch, specs)?;
     let outcome = group.match_lhs(alloc, items.as_slice())?;
-    let mut places = Vec::new(alloc);
-    for mapping in &outcome.mappings {
-        places.push(mapping.item_index)?;
-    }
-    assert_eq!(rt;
-        places.as_slice(),
-        [Some(0), Some(1), Some(0), Some(1)].as_slice()
-    );
+    let places = outcome.mappings.iter().map(|mapping| mapping.item_index);
+    assert!(rt; places.eq([Some(0), Some(1), Some(0), Some(1)]));
     Ok(())
 }

@@ -1,6 +1,6 @@
 //! Thousands of names at once, for which `tests/large.py` gives little time and memory.
 
-use super::mapping::{TARGET, item_of};
+use super::mapping::{item_of, target};
 use bstr::BStr;
 use gix_refspec::match_group::{Item, Mapping};
 use gix_refspec::oid::ObjectId;
@@ -46,8 +46,8 @@ fn group_of(alloc: Global, specs: &[String]) -> Result<MatchGroup<'_>, Fail> {
 fn check_names(rt: &impl Abort, mappings: &[Mapping<'_, '_>], count: usize) {
     assert_eq!(rt; mappings.len(), count);
     for (place, mapping) in mappings.iter().enumerate() {
-        assert_eq!(rt; mapping.item_index, Some(place));
-        assert_eq!(rt; mapping.spec_index, place);
+        let indexes = (mapping.item_index, mapping.spec_index);
+        assert_eq!(rt; indexes, (Some(place), place));
     }
 }
 
@@ -64,32 +64,60 @@ fn joined(
     Ok(specs)
 }
 
+// Looks whether a group maps each of these names by the spec at its index, also after a validation.
+fn check_there(
+    rt: &(impl Abort + AllocGlobal),
+    group: MatchGroup<'_>,
+    names: &[String],
+) -> Result<(), Fail> {
+    let target = target();
+    let items = items_of(rt.alloc(), names, &target)?;
+    let there = group.match_lhs(rt.alloc(), items.as_slice())?;
+    check_names(rt, there.mappings.as_slice(), names.len());
+    assert!(rt; there.indexes_fit());
+    let (kept, fixes) = there.validated(rt.alloc())?;
+    check_names(rt, kept.mappings.as_slice(), names.len());
+    assert!(rt; fixes.is_empty());
+    Ok(())
+}
+
+// Likewise from right to left.
+fn check_back(
+    rt: &(impl Abort + AllocGlobal),
+    group: MatchGroup<'_>,
+    names: &[String],
+) -> Result<(), Fail> {
+    let target = target();
+    let items = items_of(rt.alloc(), names, &target)?;
+    let back = group.match_rhs(rt.alloc(), items.as_slice())?;
+    check_names(rt, back.mappings.as_slice(), names.len());
+    Ok(())
+}
+
+// Looks whether specs from each name on the left to the one at its index on the right map them, in both
+// directions.
+fn check_joined(
+    rt: &(impl Abort + AllocGlobal),
+    left: &[String],
+    right: &[String],
+) -> Result<(), Fail> {
+    let specs = joined(rt.alloc(), left, right)?;
+    let group = group_of(rt.alloc(), specs.as_slice())?;
+    check_there(rt, group.clone(rt.alloc())?, left)?;
+    check_back(rt, group, right)
+}
+
 #[test]
 fn maps_many_full_names(rt: HostRuntime) -> Result<(), Fail> {
-    let alloc = rt.alloc();
-    let target = ObjectId::from_hex(TARGET.as_bytes())?;
-    let count = 30_000;
-    let left = numbered(alloc, "refs/heads/", count)?;
-    let right = numbered(alloc, "refs/x/", count)?;
-    let specs = joined(alloc, left.as_slice(), right.as_slice())?;
-    let group = group_of(alloc, specs.as_slice())?;
-    let remote = items_of(alloc, left.as_slice(), &target)?;
-    let there = group.clone(alloc)?.match_lhs(alloc, remote.as_slice())?;
-    check_names(&rt, there.mappings.as_slice(), count);
-    assert!(rt; there.indexes_fit());
-    let (kept, fixes) = there.validated(alloc)?;
-    check_names(&rt, kept.mappings.as_slice(), count);
-    assert!(rt; fixes.is_empty());
-    let local = items_of(alloc, right.as_slice(), &target)?;
-    let back = group.match_rhs(alloc, local.as_slice())?;
-    check_names(&rt, back.mappings.as_slice(), count);
-    Ok(())
+    let left = numbered(rt.alloc(), "refs/heads/", 30_000)?;
+    let right = numbered(rt.alloc(), "refs/x/", 30_000)?;
+    check_joined(&rt, left.as_slice(), right.as_slice())
 }
 
 #[test]
 fn maps_many_refs(rt: HostRuntime) -> Result<(), Fail> {
     let alloc = rt.alloc();
-    let target = ObjectId::from_hex(TARGET.as_bytes())?;
+    let target = target();
     let names = numbered(alloc, "refs/heads/", 50_000)?;
     let remote = items_of(alloc, names.as_slice(), &target)?;
     let text = BStr::new(b"refs/heads/*:refs/x/*");
@@ -97,8 +125,8 @@ fn maps_many_refs(rt: HostRuntime) -> Result<(), Fail> {
     let outcome = group.match_lhs(alloc, remote.as_slice())?;
     assert_eq!(rt; outcome.mappings.len(), 50_000);
     for (place, mapping) in outcome.mappings.iter().enumerate() {
-        assert_eq!(rt; mapping.item_index, Some(place));
-        assert_eq!(rt; mapping.spec_index, 0);
+        let indexes = (mapping.item_index, mapping.spec_index);
+        assert_eq!(rt; indexes, (Some(place), 0));
     }
     Ok(())
 }
@@ -136,58 +164,77 @@ fn repeated<'a>(
     Ok(items)
 }
 
+// How many mappings specs have from left to right.
+fn count_there(alloc: Global, specs: &[String], items: &[Item<'_>]) -> Result<usize, Fail> {
+    let there = group_of(alloc, specs)?.match_lhs(alloc, items)?;
+    Ok(there.mappings.len())
+}
+
+// Likewise from right to left.
+fn count_back(alloc: Global, specs: &[String], items: &[Item<'_>]) -> Result<usize, Fail> {
+    let back = group_of(alloc, specs)?.match_rhs(alloc, items)?;
+    Ok(back.mappings.len())
+}
+
+// How many mappings so many patterns have from left to right, and as many turned ones from right to left.
+fn counts(alloc: Global, count: usize, items: &[Item<'_>]) -> Result<(usize, usize), Fail> {
+    let there = count_there(alloc, patterns(alloc, count)?.as_slice(), items)?;
+    let back = count_back(alloc, turned_patterns(alloc, count)?.as_slice(), items)?;
+    Ok((there, back))
+}
+
 #[test]
 fn maps_one_name_listed_often(rt: HostRuntime) -> Result<(), Fail> {
     let alloc = rt.alloc();
-    let target = ObjectId::from_hex(TARGET.as_bytes())?;
+    let target = target();
     let names = numbered(alloc, "refs/heads/", 299)?;
-    let items = repeated(
-        alloc,
-        names.as_slice(),
-        b"refs/heads/main",
-        100_000,
-        &target,
-    )?;
-    let specs = patterns(alloc, 20)?;
-    let there = group_of(alloc, specs.as_slice())?.match_lhs(alloc, items.as_slice())?;
-    assert_eq!(rt; there.mappings.len(), 6_000);
-    let turned = turned_patterns(alloc, 20)?;
-    let back = group_of(alloc, turned.as_slice())?.match_rhs(alloc, items.as_slice())?;
-    assert_eq!(rt; back.mappings.len(), 6_000);
+    let name = b"refs/heads/main";
+    let items = repeated(alloc, names.as_slice(), name, 100_000, &target)?;
+    assert_eq!(rt; counts(alloc, 20, items.as_slice())?, (6_000, 6_000));
     Ok(())
+}
+
+// A name of so many bytes.
+fn long_name(alloc: Global, len: usize) -> Result<Vec<u8>, AllocError> {
+    let mut name = Vec::new(alloc);
+    name.extend_from_slice(b"refs/heads/")?;
+    name.resize(len, b'a')?;
+    Ok(name)
 }
 
 #[test]
 fn maps_one_long_name_by_many_patterns(rt: HostRuntime) -> Result<(), Fail> {
     let alloc = rt.alloc();
-    let target = ObjectId::from_hex(TARGET.as_bytes())?;
-    let mut name = Vec::new(alloc);
-    name.extend_from_slice(b"refs/heads/")?;
-    name.resize(16_000, b'a')?;
+    let target = target();
+    let name = long_name(alloc, 16_000)?;
     let items = repeated(alloc, &[], name.as_slice(), 100, &target)?;
-    let specs = patterns(alloc, 100)?;
-    let there = group_of(alloc, specs.as_slice())?.match_lhs(alloc, items.as_slice())?;
-    assert_eq!(rt; there.mappings.len(), 100);
-    let turned = turned_patterns(alloc, 100)?;
-    let back = group_of(alloc, turned.as_slice())?.match_rhs(alloc, items.as_slice())?;
-    assert_eq!(rt; back.mappings.len(), 100);
+    assert_eq!(rt; counts(alloc, 100, items.as_slice())?, (100, 100));
     Ok(())
+}
+
+// So many patterns, each with a longer prefix than the one before it. The last prefix is left.
+fn nested_patterns(
+    alloc: Global,
+    prefix: &mut String,
+    count: usize,
+) -> Result<Vec<String>, AllocError> {
+    let mut specs = Vec::with_capacity(alloc, count)?;
+    for number in 0..count {
+        prefix.push_str("a/")?;
+        specs.push(format!(in alloc; "{prefix}*:refs/{number:05}/*")?)?;
+    }
+    Ok(specs)
 }
 
 #[test]
 fn maps_nested_prefixes(rt: HostRuntime) -> Result<(), Fail> {
     let alloc = rt.alloc();
-    let target = ObjectId::from_hex(TARGET.as_bytes())?;
-    let count = 1_000;
-    let mut specs = Vec::with_capacity(alloc, count)?;
-    let mut prefix = format!(in alloc; "refs/")?;
-    for number in 0..count {
-        prefix = format!(in alloc; "{prefix}a/")?;
-        specs.push(format!(in alloc; "{prefix}*:refs/{number:05}/*")?)?;
-    }
-    let name = format!(in alloc; "{prefix}b")?;
+    let target = target();
+    let mut name = format!(in alloc; "refs/")?;
+    let specs = nested_patterns(alloc, &mut name, 1_000)?;
+    name.push('b')?;
     let items = repeated(alloc, &[], name.as_bytes(), 100, &target)?;
-    let there = group_of(alloc, specs.as_slice())?.match_lhs(alloc, items.as_slice())?;
-    assert_eq!(rt; there.mappings.len(), count);
+    let count = count_there(alloc, specs.as_slice(), items.as_slice())?;
+    assert_eq!(rt; count, 1_000);
     Ok(())
 }
