@@ -23,9 +23,9 @@ fn mark(alloc: Global) -> Result<(), AllocError> {
 // What a call answers, between two marks.
 macro_rules! marked {
     ($alloc:expr, $call:expr) => {{
-        mark($alloc)?;
+        let begun = mark($alloc);
         let answer = $call;
-        mark($alloc)?;
+        begun.and(mark($alloc))?;
         answer
     }};
 }

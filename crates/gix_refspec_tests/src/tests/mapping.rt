@@ -10,7 +10,7 @@ use std::process::Abort;
 use std::test::Fail;
 
 // The digits of what items point to.
-pub(super) const TARGET: &str = "1111111111111111111111111111111111111111";
+const TARGET: &str = "1111111111111111111111111111111111111111";
 
 // What items point to. `TARGET` is an id, so this is never the null one.
 pub(super) fn target() -> ObjectId {

@@ -1,7 +1,7 @@
 //! Pairs of one hash, which the calls tell apart by hashing them by another seed.
 
 use super::super::collisions::COLLIDING;
-use super::super::mapping::{TARGET, group_of, item_of, items_of};
+use super::super::mapping::{group_of, item_of, items_of, target};
 use super::{mark, marked, say_answered, say_refused};
 use gix_refspec::match_group::validate::Refusal;
 use gix_refspec::match_group::{Item, match_lhs};
@@ -45,7 +45,7 @@ fn maps_four(outcome: &match_lhs::Outcome<'_, '_>) -> bool {
 #[test]
 fn maps_pairs_of_one_hash(rt: HostRuntime) -> Result<(), Fail> {
     let alloc = rt.alloc();
-    let target = ObjectId::from_hex(TARGET.as_bytes())?;
+    let target = target();
     let items = items_with(alloc, "refs/heads/b refs/tags/b", &target)?;
     let group = group_of(alloc, Operation::Fetch, SPECS)?;
     match marked!(alloc, group.match_lhs(alloc, items.as_slice())) {
@@ -64,7 +64,7 @@ fn maps_pairs_of_one_hash(rt: HostRuntime) -> Result<(), Fail> {
 #[test]
 fn reports_among_pairs_of_one_hash(rt: HostRuntime) -> Result<(), Fail> {
     let alloc = rt.alloc();
-    let target = ObjectId::from_hex(TARGET.as_bytes())?;
+    let target = target();
     let items = items_with(alloc, "refs/heads/b refs/tags/b", &target)?;
     let given = group_of(alloc, Operation::Fetch, SPECS)?.match_lhs(alloc, items.as_slice())?;
     assert!(&rt; given.indexes_fit());

@@ -1,10 +1,12 @@
 //! Matching in both directions, clones of outcomes, and validation.
 
-use super::super::mapping::{TARGET, check_lines, group_of, items_of, lines, mapped};
+use super::super::mapping::{
+    check_lines, check_match_lhs, check_match_rhs, group_of, items_of, lines, mapped, target,
+};
 use super::{answer_of, mark, marked, say_answered, say_refused};
-use gix_refspec::match_group::match_lhs;
+use gix_refspec::MatchGroup;
 use gix_refspec::match_group::validate::Refusal;
-use gix_refspec::oid::ObjectId;
+use gix_refspec::match_group::{Outcome, match_lhs};
 use gix_refspec::parsing::Operation;
 use std::process::Abort;
 use std::test::Fail;
@@ -29,25 +31,40 @@ const TRACKED: &str = "0 0 =refs/heads/a refs/x/a\n1 1 refs/heads/a refs/y/a\n\
     6 3 =refs/heads/v refs/tags/w\n9 4 =refs/heads/1111111111111111111111111111111111111111 refs/i\n\
     7 6 refs/q refs/heads/u\n";
 
+// Looks whether a group has the specs.
+fn check_specs(
+    rt: &(impl Abort + AllocGlobal + Print),
+    group: &MatchGroup<'_>,
+) -> Result<(), Fail> {
+    let given = group_of(rt.alloc(), Operation::Fetch, SPECS)?;
+    assert!(rt; group.specs.as_slice() == given.specs.as_slice());
+    Ok(())
+}
+
+// Says that a call answered, with the specs and with these mappings.
+fn say_mapped<const FORWARD: bool>(
+    rt: &(impl Abort + AllocGlobal + Print),
+    outcome: &Outcome<'_, '_, '_, FORWARD>,
+    wanted: &str,
+) -> Result<(), Fail> {
+    check_specs(rt, &outcome.group)?;
+    check_lines(rt, outcome.mappings.as_slice(), wanted)?;
+    say_answered(rt)
+}
+
 // Has the specs match items of these names by a call, from left to right or back. The group is the same
 // after it, and if memory ran out it matches the same items at the next call.
 macro_rules! check_matching {
-    ($rt:expr, $call:ident, $names:expr, $wanted:expr) => {{
+    ($rt:expr, $call:ident, $check:ident, $names:expr, $wanted:expr) => {{
         let alloc = $rt.alloc();
-        let target = ObjectId::from_hex(TARGET.as_bytes())?;
+        let target = target();
         let items = items_of(alloc, $names, &target)?;
-        let given = group_of(alloc, Operation::Fetch, SPECS)?;
-        let group = given.clone(alloc)?;
+        let group = group_of(alloc, Operation::Fetch, SPECS)?;
         match marked!(alloc, group.$call(alloc, items.as_slice())) {
-            Ok(outcome) => {
-                check_lines($rt, outcome.mappings.as_slice(), $wanted)?;
-                assert!($rt; outcome.group.specs.as_slice() == given.specs.as_slice());
-                say_answered($rt)
-            }
+            Ok(outcome) => say_mapped($rt, &outcome, $wanted),
             Err(refused) => {
-                assert!($rt; refused.group.specs.as_slice() == given.specs.as_slice());
-                let again = refused.group.$call(alloc, items.as_slice())?;
-                check_lines($rt, again.mappings.as_slice(), $wanted)?;
+                check_specs($rt, &refused.group)?;
+                $check($rt, refused.group, items.as_slice(), $wanted)?;
                 say_refused($rt)
             }
         }
@@ -56,7 +73,7 @@ macro_rules! check_matching {
 
 #[test]
 fn maps_from_left_to_right(rt: HostRuntime) -> Result<(), Fail> {
-    check_matching!(&rt, match_lhs, LEFT, MAPPED)
+    check_matching!(&rt, match_lhs, check_match_lhs, LEFT, MAPPED)
 }
 
 // Whether the specs map items of these names back as is written.
@@ -65,7 +82,7 @@ fn check_back(
     names: &str,
     wanted: &str,
 ) -> Result<(), Fail> {
-    check_matching!(rt, match_rhs, names, wanted)
+    check_matching!(rt, match_rhs, check_match_rhs, names, wanted)
 }
 
 #[test]
@@ -82,7 +99,7 @@ fn maps_nothing(rt: HostRuntime) -> Result<(), Fail> {
 #[test]
 fn clones_outcomes(rt: HostRuntime) -> Result<(), Fail> {
     let alloc = rt.alloc();
-    let target = ObjectId::from_hex(TARGET.as_bytes())?;
+    let target = target();
     let outcome = mapped(alloc, SPECS, LEFT, &target)?;
     if let Some(copy) = answer_of(&rt, marked!(alloc, outcome.clone(alloc)))? {
         check_lines(&rt, copy.mappings.as_slice(), MAPPED)?;
@@ -106,7 +123,7 @@ fn say_left(
 #[test]
 fn validates_and_fixes(rt: HostRuntime) -> Result<(), Fail> {
     let alloc = rt.alloc();
-    let target = ObjectId::from_hex(TARGET.as_bytes())?;
+    let target = target();
     let specs = "refs/heads/*:foo/* +refs/heads/*:refs/x/*";
     let given = mapped(alloc, specs, "refs/heads/a refs/heads/b", &target)?;
     let before = lines(alloc, given.mappings.as_slice())?;
@@ -126,7 +143,7 @@ fn validates_and_fixes(rt: HostRuntime) -> Result<(), Fail> {
 #[test]
 fn leaves_bad_names_out(rt: HostRuntime) -> Result<(), Fail> {
     let alloc = rt.alloc();
-    let target = ObjectId::from_hex(TARGET.as_bytes())?;
+    let target = target();
     let names = "refs/heads/a refs/heads/../b refs/heads/c.";
     let given = mapped(alloc, "refs/heads/*:refs/x/*", names, &target)?;
     let before = lines(alloc, given.mappings.as_slice())?;
@@ -144,7 +161,7 @@ fn leaves_bad_names_out(rt: HostRuntime) -> Result<(), Fail> {
 #[test]
 fn validates_and_reports(rt: HostRuntime) -> Result<(), Fail> {
     let alloc = rt.alloc();
-    let target = ObjectId::from_hex(TARGET.as_bytes())?;
+    let target = target();
     let specs = "refs/heads/*:refs/x/* refs/tags/*:refs/x/*";
     let given = mapped(alloc, specs, "refs/heads/a refs/tags/a", &target)?;
     let before = lines(alloc, given.mappings.as_slice())?;
