@@ -131,6 +131,19 @@ const CONFLICTS: &[(&str, &str)] = &[
         "refs/a/*:refs/x/ab* refs/c/*:refs/x/*bb ^refs/a/*bb",
         "0 1 refs/a/b refs/c/a refs/x/abb\n",
     ),
+    // periodic texts overlap again and again: excluded each time, but for the shortest name, and but for the longest
+    (
+        "refs/heads/*:refs/x/aaaaaaaaaaaa* refs/tags/*:refs/x/*aaaaaaaaaaaa ^refs/heads/*",
+        "0 excluded by 2\n",
+    ),
+    (
+        "refs/heads/*:refs/x/aaaaaaaaaaaa* refs/tags/*:refs/x/*aaaaaaaaaaaa ^refs/tags/aaaaaaaaaaaa*",
+        "0 1 refs/heads/a refs/tags/a refs/x/aaaaaaaaaaaaa\n",
+    ),
+    (
+        "refs/heads/*:refs/x/aabaabaabaabaa* refs/tags/*:refs/x/*aabaabaabaabaa ^refs/heads/baa* ^refs/tags/aabaabaabaabaa*",
+        "0 1 refs/heads/abaabaabaabaa refs/tags/aabaabaabaaba refs/x/aabaabaabaabaaabaabaabaabaa\n",
+    ),
     // a single branch beside a pattern: the same source is no conflict
     (
         "+refs/heads/*:refs/remotes/origin/* refs/heads/a:refs/remotes/origin/a",
