@@ -371,6 +371,25 @@ def check_many_values(program):
             fail(f"check of 1,000 values took {took:.2f} seconds")
 
 
+def check_long_values(program):
+    """Two patterns that overlap in up to 100,000 equal letters are checked soon."""
+    with tempfile.TemporaryDirectory() as folder:
+        variables = environment(program)
+        subprocess.run(["git", "init", "-q", folder], env=variables, check=True)
+        letters = "a" * 100_000
+        with open(os.path.join(folder, ".git", "config"), "a", encoding="ascii") as file:
+            file.write('[remote "origin"]\n\turl = x\n\tfetch = ^refs/heads/*\n')
+            file.write(f"\tfetch = refs/heads/*:refs/x/{letters}*\n\tfetch = refs/tags/*:refs/x/*{letters}\n")
+        before = resource.getrusage(resource.RUSAGE_CHILDREN)
+        made = shell("git refspec check", folder, variables)
+        after = resource.getrusage(resource.RUSAGE_CHILDREN)
+        if made.returncode or made.stdout or made.stderr.count(b"warning: ") != 1:
+            fail(f"check of two long values: status {made.returncode}, {made.stderr[:200]!r}")
+        took = after.ru_utime + after.ru_stime - before.ru_utime - before.ru_stime
+        if took > BOUND:
+            fail(f"check of two long values took {took:.2f} seconds")
+
+
 def on_terminal(words, folder, variables):
     """What a command writes to a terminal."""
     ours, theirs = pty.openpty()
@@ -565,6 +584,7 @@ def main():
             return
         check_many_remotes(program)
         check_many_values(program)
+        check_long_values(program)
         commands = check_manual(program)
         check_terminal(program)
         shells = check_completion(program)
