@@ -1,14 +1,9 @@
 -- Which sources are covering.
-use Rattle.std.proofs.Common.{ℕ, List, [], None, Some, codes, refl, subst, arith}
-use Rattle.gix_refspec_text.specs.Texts.Bytes.{star, bracket}
-use Rattle.gix_refspec_text.specs.Specs.Reading.{Normal}
-use Rattle.gix_refspec_text.specs.Specs.Grammar.{pushed}
-use Rattle.gix_refspec_text.specs.Matching.Prefix.{IsPrefix, of_head, of_name, of_pattern}
-use Rattle.gix_refspec_text.specs.Laws.Covering.{IsCovering, by_prefix, by_candidates, HasCoveringSource}
+use Rattle.gix_refspec_text.proofs.Common.{ℕ, List, [], None, Some, codes, refl, subst, arith, star, bracket, Normal, pushed, IsPrefix, of_head, of_name, of_pattern, IsCovering, by_prefix, by_candidates}
+use Rattle.gix_refspec_text.proofs.Common.{HasCoveringSource, same_Some}
 use Rattle.gix_refspec_text.proofs.lemmas.hits.MatchLemmas.{split_once}
 use Rattle.gix_refspec_text.proofs.facts.ManualFacts.{Lacks-tested, other_length}
 use Rattle.gix_refspec_text.proofs.facts.FitFacts.{split_at_end, no_dev, short, short_kind, other_byte, other_first, push_is_none}
-use Rattle.std.proofs.lemmas.Option.{same_Some}
 use Rattle.gix_refspec_text.proofs.lemmas.lists.LacksLemmas.{Lacks-here}
 
 -- the prefix of a pattern

@@ -1,16 +1,9 @@
 -- The faults of ref names, each with a text that has it and a similar one that hasn't: which words a text contains,
 -- and in which of its components.
-use Rattle.std.proofs.Common.{◌≡◌, ◌≢◌, ℕ, Bool, true, false, ◌==◌, ◌||◌, nat_eq, List, [], ◌∷◌, ◌++◌, codes, refl, sym, ap, ◌∙◌, subst}
-use Rattle.std.specs.List.{All, AllByRecursion, starts_with, ends_with, slice_split, join_with_byte, list_any}
-use Rattle.std.proofs.lemmas.List.Elements.{All-nil, All-cons}
-use Rattle.std.proofs.lemmas.Bool.{true≢false, false≢true, eqb-true}
-use Rattle.std.proofs.lemmas.Bool.Decides.{Decides-eqb}
-use Rattle.std.proofs.lemmas.Slice.Eq.{starts_is, ends_is}
+use Rattle.gix_refspec_text.proofs.Common.{◌≡◌, ◌≢◌, ℕ, Bool, true, false, ◌==◌, ◌||◌, nat_eq, List, [], ◌∷◌, ◌++◌, codes, refl, sym, ap, ◌∙◌, subst, All, AllByRecursion, starts_with, ends_with, slice_split}
+use Rattle.gix_refspec_text.proofs.Common.{join_with_byte, list_any, All-nil, All-cons, true≢false, false≢true, eqb-true, Decides-eqb, starts_is, ends_is, Empty, EmptyComponent, StartsWithDot, LockSuffix, EndsWithDot}
+use Rattle.gix_refspec_text.proofs.Common.{RepeatedDot, ReflogPortion, Asterisk, InvalidByte, Lacks, ContainsText, BeginsWith, EndsWith, SomeComponent, HasFault, HasStar, slash}
 use Rattle.std.proofs.lemmas.List.Splits.{slice_split_none, slice_split_at}
-use Rattle.gix_refspec_text.specs.declared.name.Error.TheVariants.{Empty, EmptyComponent, StartsWithDot, LockSuffix, EndsWithDot, RepeatedDot, ReflogPortion, Asterisk, InvalidByte}
-use Rattle.gix_refspec_text.specs.Texts.Words.{Lacks, ContainsText, BeginsWith, EndsWith}
-use Rattle.gix_refspec_text.specs.Texts.Name.{SomeComponent, HasFault, HasStar}
-use Rattle.gix_refspec_text.specs.Texts.Bytes.{slash}
 use Rattle.gix_refspec_text.proofs.lemmas.texts.ComponentLemmas.{AllByRecursion-parts}
 use Rattle.gix_refspec_text.proofs.facts.ManualFacts.{Lacks-tested, full}
 

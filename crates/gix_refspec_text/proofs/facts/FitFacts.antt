@@ -1,18 +1,7 @@
 -- The definitions on sides of specs, and the readings and names that other examples use.
-use Rattle.std.proofs.Common.{◌≡◌, ◌≢◌, ℕ, zero, suc, ◌==◌, false, List, [], ◌∷◌, ◌++◌, None, Some, length, get_or, codes, refl, ap, ◌∙◌, subst, arith}
-use Rattle.std.specs.List.{AllByRecursion, Contains, list_any}
-use Rattle.std.proofs.lemmas.List.{length-append}
-use Rattle.gix_refspec_text.specs.declared.oid.Kind.{Kind}
-use Rattle.gix_refspec_text.specs.declared.oid.Kind.TheVariants.{Sha1, Sha256}
-use Rattle.gix_refspec_text.specs.declared.parsing.Operation.TheVariants.{Fetch, Push}
-use Rattle.gix_refspec_text.specs.Texts.Words.{BeginsWith}
-use Rattle.gix_refspec_text.specs.Texts.Name.{IsSplit}
-use Rattle.gix_refspec_text.specs.Texts.Bytes.{star}
-use Rattle.gix_refspec_text.specs.Texts.ObjectId.{IsIdText, digits_of}
-use Rattle.gix_refspec_text.specs.Specs.Reading.{Normal, Forced, Negative, Reading}
-use Rattle.gix_refspec_text.specs.Specs.Grammar.{fetched}
-use Rattle.gix_refspec_text.specs.Matching.Side.{full_name, object, partial, HasKind, Fits, Excludes, the_name, by_pattern, filled}
-use Rattle.gix_refspec_text.specs.Matching.Match.{Ref}
+use Rattle.gix_refspec_text.proofs.Common.{◌≡◌, ◌≢◌, ℕ, zero, suc, ◌==◌, false, List, [], ◌∷◌, ◌++◌, None, Some, length, get_or, codes, refl, ap, ◌∙◌, subst, arith, AllByRecursion, Contains, list_any, length-append}
+use Rattle.gix_refspec_text.proofs.Common.{Kind, Sha1, Sha256, Fetch, Push, BeginsWith, IsSplit, star, IsIdText, digits_of, Normal, Forced, Negative, Reading, fetched, full_name, object, partial, HasKind, Fits, Excludes}
+use Rattle.gix_refspec_text.proofs.Common.{the_name, by_pattern, filled, Ref}
 use Rattle.gix_refspec_text.proofs.lemmas.hits.MatchLemmas.{split_once, lacks_no_pattern}
 use Rattle.gix_refspec_text.proofs.facts.ManualFacts.{Lacks-tested, other_length, named}
 use Rattle.gix_refspec_text.proofs.facts.ObjectIdFacts.{empty_blob, IsIdText-empty_blob, lower_of-empty_blob}

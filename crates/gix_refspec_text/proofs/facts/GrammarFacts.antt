@@ -1,19 +1,10 @@
 -- The definitions of the grammar, and each of its thirteen forms at texts like those of git-fetch(1) and
 -- git-push(1), with `+` and without.
-use Rattle.std.proofs.Common.{◌≡◌, ◌≢◌, ◌<◌, ℕ, ◌==◌, ◌||◌, Bool, true, false, List, [], ◌∷◌, ◌++◌, Option, None, Some, unwrap_or, length, codes, refl, ap, inl, inr, arith}
-use Rattle.std.specs.Prelude.{replicate}
-use Rattle.std.specs.List.{list_any}
-use Rattle.std.proofs.lemmas.Bool.{or_parts, false≢true}
-use Rattle.std.proofs.lemmas.List.{length-replicate}
-use Rattle.std.proofs.lemmas.List.Sums.{AllPass-from_list_all, list_all-from_AllPass}
-use Rattle.std.specs.Char.{is_ascii_hexdigit}
-use Rattle.gix_refspec_text.specs.declared.parsing.Operation.{Operation}
-use Rattle.gix_refspec_text.specs.declared.parsing.Operation.TheVariants.{Push, Fetch}
-use Rattle.gix_refspec_text.specs.Texts.Bytes.{slash, star, letter, plus, caret, colon}
-use Rattle.gix_refspec_text.specs.Specs.Reading.{Mode, Normal, Forced, Negative, Reading}
-use Rattle.gix_refspec_text.specs.Specs.Grammar.{IsUnsigned, IsSigned, with_colon, LastLacksColon, AreParts, IsPositive, named_by, LooksLikeObjectHash, IsNameOrPattern, AreAlike, fetched, pushed, Reads, fetches_nothing_named, fetches_colon, fetches, updates, updates_from_head, fetch_excludes, pushes_plus, pushes_colon, pushes, deletes, pushes_pattern, pushes_to, push_excludes}
-use Rattle.gix_refspec_text.specs.declared.name.Error.TheVariants.{Asterisk, InvalidByte}
-use Rattle.gix_refspec_text.specs.Texts.Name.{is_refused_byte, HasFault, IsName, IsPattern}
+use Rattle.gix_refspec_text.proofs.Common.{◌≡◌, ◌≢◌, ◌<◌, ℕ, ◌==◌, ◌||◌, Bool, true, false, List, [], ◌∷◌, ◌++◌, Option, None, Some, unwrap_or, length, codes, refl, ap, inl, inr, arith, replicate, list_any, or_parts}
+use Rattle.gix_refspec_text.proofs.Common.{false≢true, length-replicate, AllPass-from_list_all, list_all-from_AllPass, is_ascii_hexdigit, Operation, Push, Fetch, slash, star, letter, plus, caret, colon, Mode, Normal}
+use Rattle.gix_refspec_text.proofs.Common.{Forced, Negative, Reading, IsUnsigned, IsSigned, with_colon, LastLacksColon, AreParts, IsPositive, named_by, LooksLikeObjectHash, IsNameOrPattern, AreAlike, fetched, pushed}
+use Rattle.gix_refspec_text.proofs.Common.{Reads, fetches_nothing_named, fetches_colon, fetches, updates, updates_from_head, fetch_excludes, pushes_plus, pushes_colon, pushes, deletes, pushes_pattern, pushes_to}
+use Rattle.gix_refspec_text.proofs.Common.{push_excludes, Asterisk, InvalidByte, is_refused_byte, HasFault, IsName, IsPattern, same_Some}
 use Rattle.gix_refspec_text.proofs.lemmas.parsing.ReadOnceLemmas.{reads_once}
 use Rattle.gix_refspec_text.proofs.lemmas.texts.TextLemmas.{Lacks-ContainsText}
 use Rattle.gix_refspec_text.proofs.lemmas.parsing.SideLemmas.{HasStar-pattern}
@@ -21,7 +12,6 @@ use Rattle.gix_refspec_text.proofs.facts.FitFacts.{other_byte}
 use Rattle.gix_refspec_text.proofs.lemmas.texts.TestedLemmas.{is_suspect, IsName-tested}
 use Rattle.gix_refspec_text.proofs.facts.ManualFacts.{Lacks-tested, IsPattern-tested, full, none_some, some_none, other_length, no_sign}
 use Rattle.gix_refspec_text.proofs.facts.RefusalFacts.{too_short}
-use Rattle.std.proofs.lemmas.Option.{same_Some}
 use Rattle.gix_refspec_text.proofs.lemmas.lists.LacksLemmas.{Lacks-here}
 
 -- ---- texts and their parts

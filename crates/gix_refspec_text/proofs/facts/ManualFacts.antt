@@ -1,29 +1,17 @@
 -- The definitions of names and refspecs at the examples of git-check-ref-format(1), git-fetch(1) and git-push(1), and
 -- at similar ones on both sides of a boundary, so that a wrong definition fails here.
-use Rattle.std.proofs.Common.{◌≡◌, ◌≢◌, ◌≤◌, ℕ, ◌==◌, ◌||◌, true, false, List, [], ◌∷◌, ◌++◌, Option, None, Some, map, length, get_or, codes, refl, sym, ap, ◌∙◌, is_some, subst, inl, inr, arith}
-use Rattle.std.specs.Prelude.{replicate}
-use Rattle.std.specs.List.{list_any, filter, range_with_len}
-use Rattle.std.proofs.lemmas.List.{length-replicate}
-use Rattle.std.proofs.lemmas.Bool.{eqb-false, true≢false, false≢true}
-use Rattle.gix_refspec_text.specs.declared.name.Error.TheVariants.{LockSuffix, RepeatedDot, ReflogPortion}
-use Rattle.gix_refspec_text.specs.declared.parsing.Operation.{Operation}
-use Rattle.gix_refspec_text.specs.declared.parsing.Operation.TheVariants.{Push, Fetch}
+use Rattle.gix_refspec_text.proofs.Common.{◌≡◌, ◌≢◌, ◌≤◌, ℕ, ◌==◌, ◌||◌, true, false, List, [], ◌∷◌, ◌++◌, Option, None, Some, map, length, get_or, codes, refl, sym, ap, ◌∙◌, is_some, subst, inl, inr, arith, replicate}
+use Rattle.gix_refspec_text.proofs.Common.{list_any, filter, range_with_len, length-replicate, eqb-false, true≢false, false≢true, LockSuffix, RepeatedDot, ReflogPortion, Operation, Push, Fetch, Lacks, is_refused_byte}
+use Rattle.gix_refspec_text.proofs.Common.{HasFault, HasSeveralStars, IsSplit, ReplacesStar, IsPattern, IsPatternFault, slash, star, letter, plus, caret, colon, Mode, Normal, Forced, Negative, Reading, HasSide}
+use Rattle.gix_refspec_text.proofs.Common.{remote_of, local_of, named_by, IsSigned, AreParts, LooksLikeObjectHash, Reads, updates, pushes_colon, pushes, deletes, pushes_to, push_excludes, pushed, fetched, Meaning}
+use Rattle.gix_refspec_text.proofs.Common.{push_all_matching, push_delete, push_matching, push_exclude, fetch_and_update, meaning_of, text_of, PatternUnsupported, PushToEmpty, NegativeWithDestination, ReferenceName}
+use Rattle.gix_refspec_text.proofs.Common.{IsBadPattern, NeedsMemory, NoReasonBeforeSource, ReachesMemory, MayNeedMemory, pattern, full_name, object, partial, HasKind, candidates, filled, Ref, Matches, MatchesAs}
+use Rattle.gix_refspec_text.proofs.Common.{same_Some}
 use Rattle.gix_refspec_text.specs.declared.name.PatternError.TheVariants.{Memory}
-use Rattle.gix_refspec_text.specs.Texts.Words.{Lacks}
-use Rattle.gix_refspec_text.specs.Texts.Name.{is_refused_byte, HasFault, HasSeveralStars, IsSplit, ReplacesStar, IsPattern}
-use Rattle.gix_refspec_text.specs.Texts.PatternError.{IsPatternFault}
-use Rattle.gix_refspec_text.specs.Texts.Bytes.{slash, star, letter, plus, caret, colon}
-use Rattle.gix_refspec_text.specs.Specs.Reading.{Mode, Normal, Forced, Negative, Reading, HasSide, remote_of, local_of}
-use Rattle.gix_refspec_text.specs.Specs.Grammar.{named_by, IsSigned, AreParts, LooksLikeObjectHash, Reads, updates, pushes_colon, pushes, deletes, pushes_to, push_excludes, pushed, fetched}
-use Rattle.gix_refspec_text.specs.Specs.Meaning.{Meaning, push_all_matching, push_delete, push_matching, push_exclude, fetch_and_update, meaning_of, text_of}
-use Rattle.gix_refspec_text.specs.Specs.Refusal.{PatternUnsupported, PushToEmpty, NegativeWithDestination, ReferenceName, IsBadPattern, NeedsMemory, NoReasonBeforeSource, ReachesMemory, MayNeedMemory}
-use Rattle.gix_refspec_text.specs.Matching.Side.{pattern, full_name, object, partial, HasKind, candidates, filled}
-use Rattle.gix_refspec_text.specs.Matching.Match.{Ref, Matches, MatchesAs}
 use Rattle.gix_refspec_text.proofs.lemmas.texts.TextLemmas.{Lacks-ContainsText}
 use Rattle.gix_refspec_text.proofs.lemmas.texts.TestedLemmas.{is_suspect, IsName-tested}
 use Rattle.gix_refspec_text.proofs.lemmas.parsing.SideLemmas.{HasSeveralStars-replaced, HasStar-stars, HasStar-bad}
 use Rattle.gix_refspec_text.proofs.lemmas.parsing.PartsLemmas.{parts_once}
-use Rattle.std.proofs.lemmas.Option.{same_Some}
 use Rattle.gix_refspec_text.proofs.lemmas.lists.LacksLemmas.{Lacks-here}
 
 -- a text lacks a byte if a test of each byte says so

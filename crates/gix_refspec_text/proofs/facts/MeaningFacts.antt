@@ -1,15 +1,10 @@
 -- Examples for this project's own rules on meanings, canonical texts, order and reasons: where a sign has a meaning,
 -- which text gets another one, and how instructions compare.
-use Rattle.std.proofs.Common.{◌≡◌, true, false, [], None, Some, codes, refl}
-use Rattle.std.specs.declared.cmp.Ordering.TheVariants.{Less, Equal, Greater}
-use Rattle.gix_refspec_text.specs.declared.parsing.Operation.TheVariants.{Push, Fetch}
+use Rattle.gix_refspec_text.proofs.Common.{◌≡◌, true, false, [], None, Some, codes, refl, Less, Equal, Greater, Push, Fetch, Normal, Forced, Negative, fetched, pushed, push_all_matching, push_delete, push_matching}
+use Rattle.gix_refspec_text.proofs.Common.{push_exclude, fetch_only, fetch_exclude, fetch_and_update, meaning_of, text_of, printed, order, is_same, Refusal, NegativeWithDestination, PushToEmpty, PatternUnbalanced}
+use Rattle.gix_refspec_text.proofs.Common.{NegativeEmpty, NegativeObjectHash, meant_for, IsShownAs}
+use Rattle.gix_refspec_text.specs.Specs.Refusal.{Empty}
 use Rattle.gix_refspec_text.specs.declared.parsing.Error.TheVariants as error
-use Rattle.gix_refspec_text.specs.Specs.Reading.{Normal, Forced, Negative}
-use Rattle.gix_refspec_text.specs.Specs.Grammar.{fetched, pushed}
-use Rattle.gix_refspec_text.specs.Specs.Meaning.{push_all_matching, push_delete, push_matching, push_exclude, fetch_only, fetch_exclude, fetch_and_update, meaning_of, text_of, printed}
-use Rattle.gix_refspec_text.specs.Specs.Order.{order, is_same}
-use Rattle.gix_refspec_text.specs.Specs.Refusal.{Refusal, Empty, NegativeWithDestination, PushToEmpty, PatternUnbalanced, NegativeEmpty, NegativeObjectHash}
-use Rattle.gix_refspec_text.specs.Views.Instruction.{meant_for, IsShownAs}
 
 -- a sign has no meaning where no ref is updated: in a fetch without a destination, and in a deletion
 pub signs : (meaning_of (fetched Forced (codes "main") None) ≡ Some (fetch_only (codes "main")))

@@ -1,18 +1,10 @@
 -- Texts that are names and patterns, and texts that are not, by git-check-ref-format(1): for each of its
 -- rules a text that breaks it, and one that just doesn't.
-use Rattle.std.proofs.Common.{◌≡◌, ℕ, ◌==◌, false, List, [], ◌∷◌, codes, refl, inl, inr, arith}
-use Rattle.std.specs.List.{AllByRecursion, list_any}
-use Rattle.std.proofs.lemmas.Bool.{or_parts}
-use Rattle.gix_refspec_text.specs.declared.name.Error.{Error}
-use Rattle.gix_refspec_text.specs.declared.name.Error.TheVariants.{Empty, EmptyComponent, StartsWithDot, LockSuffix, EndsWithDot, RepeatedDot, ReflogPortion, Asterisk, InvalidByte}
+use Rattle.gix_refspec_text.proofs.Common.{◌≡◌, ℕ, ◌==◌, false, List, [], ◌∷◌, codes, refl, inl, inr, arith, AllByRecursion, list_any, or_parts, Error, Empty, EmptyComponent, StartsWithDot, LockSuffix, EndsWithDot}
+use Rattle.gix_refspec_text.proofs.Common.{RepeatedDot, ReflogPortion, Asterisk, InvalidByte, Lacks, BeginsWith, EndsWith, ArePartsAt, slash, star, IsName, IsPattern, IsPatternFault, ReferenceName, with_letters}
+use Rattle.gix_refspec_text.proofs.Common.{IsStarCount, IsCalm, lowest_of}
 use Rattle.gix_refspec_text.specs.declared.name.PatternError.TheVariants.{Name}
-use Rattle.gix_refspec_text.specs.Texts.Words.{Lacks, BeginsWith, EndsWith, ArePartsAt}
-use Rattle.gix_refspec_text.specs.Texts.Bytes.{slash, star}
-use Rattle.gix_refspec_text.specs.Texts.Name.{IsName, IsPattern}
-use Rattle.gix_refspec_text.specs.Texts.PatternError.{IsPatternFault}
-use Rattle.gix_refspec_text.specs.Specs.Refusal.{ReferenceName}
 use lib.Count.{count_trailing_zeros}
-use Rattle.gix_refspec_text.specs.Private.Scan.{with_letters, IsStarCount, IsCalm, lowest_of}
 use Rattle.gix_refspec_text.proofs.lemmas.texts.TextLemmas.{Lacks-ContainsText}
 use Rattle.gix_refspec_text.proofs.lemmas.texts.TestedLemmas.{is_suspect, IsName-tested}
 use Rattle.gix_refspec_text.proofs.lemmas.parsing.SideLemmas.{HasStar-pattern, HasSeveralStars-replaced, pattern_fine}

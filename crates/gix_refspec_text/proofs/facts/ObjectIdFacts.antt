@@ -1,14 +1,8 @@
 -- The definitions of ids, at the ids that git hash-object prints for the empty blob, and at other lengths.
-use Rattle.std.proofs.Common.{◌≡◌, ◌≢◌, ℕ, ◌+◌, ◌*◌, List, [], ◌∷◌, Option, None, Some, unwrap_or, codes, refl, sym, ap, ◌∙◌, arith}
-use Rattle.std.specs.List.{filter, range_with_len}
-use Rattle.std.proofs.lemmas.Bool.{false≢true}
-use Rattle.std.proofs.lemmas.List.Sums.{AllPass-from_list_all}
+use Rattle.gix_refspec_text.proofs.Common.{◌≡◌, ◌≢◌, ℕ, ◌+◌, ◌*◌, List, [], ◌∷◌, Option, None, Some, unwrap_or, codes, refl, sym, ap, ◌∙◌, arith, filter, range_with_len, false≢true, AllPass-from_list_all, Digit, Length}
+use Rattle.gix_refspec_text.proofs.Common.{Kind, Sha1, Sha256, bytes_of, id_bytes, is_lower_digit, IsSpelledBy, Spells, IsIdText, IsLowerText, IsIdLength, HasIdFault, lower_of}
 use Rattle.hex.specs.Hex.{hex_digit_value}
 use Rattle.hex.proofs.OnLiterals.{hex_on_literals}
-use Rattle.gix_refspec_text.specs.declared.oid.Error.TheVariants.{Digit, Length}
-use Rattle.gix_refspec_text.specs.declared.oid.Kind.{Kind}
-use Rattle.gix_refspec_text.specs.declared.oid.Kind.TheVariants.{Sha1, Sha256}
-use Rattle.gix_refspec_text.specs.Texts.ObjectId.{bytes_of, id_bytes, is_lower_digit, IsSpelledBy, Spells, IsIdText, IsLowerText, IsIdLength, HasIdFault, lower_of}
 use Rattle.gix_refspec_text.proofs.lemmas.texts.ObjectIdLemmas.{IsIdText-decoded, IsIdText-sound, Spells-decode_pairs}
 
 -- the bytes of the id under SHA-1

@@ -1,15 +1,7 @@
 -- Sides with and without a ref prefix, and their expansions.
-use Rattle.std.proofs.Common.{◌≡◌, ◌≢◌, ℕ, List, [], ◌∷◌, ◌++◌, None, Some, length, codes, refl, sym, ap, subst, inl, inr, arith}
-use Rattle.gix_refspec_text.specs.declared.oid.Kind.{Kind}
-use Rattle.gix_refspec_text.specs.declared.oid.Kind.TheVariants.{Sha1, Sha256}
-use Rattle.gix_refspec_text.specs.Texts.Words.{Lacks}
-use Rattle.gix_refspec_text.specs.Texts.Name.{IsSplit}
-use Rattle.gix_refspec_text.specs.Texts.Bytes.{star, slash, bracket}
-use Rattle.gix_refspec_text.specs.Texts.ObjectId.{IsIdText, digits_of}
-use Rattle.gix_refspec_text.specs.Specs.Reading.{Normal, Negative}
-use Rattle.gix_refspec_text.specs.Specs.Grammar.{fetched, pushed}
-use Rattle.gix_refspec_text.specs.Matching.Side.{candidates}
-use Rattle.gix_refspec_text.specs.Matching.Prefix.{IsRefPrefix, IsPrefix, of_head, of_name, of_pattern, HasNoPrefix, Expands, to_prefix, to_itself, below_refs, of_object, to_candidates, IsAsked, HasPrefix, IsExpansion}
+use Rattle.gix_refspec_text.proofs.Common.{◌≡◌, ◌≢◌, ℕ, List, [], ◌∷◌, ◌++◌, None, Some, length, codes, refl, sym, ap, subst, inl, inr, arith, Kind, Sha1, Sha256, Lacks, IsSplit, star, slash, bracket, IsIdText}
+use Rattle.gix_refspec_text.proofs.Common.{digits_of, Normal, Negative, fetched, pushed, candidates, IsRefPrefix, IsPrefix, of_head, of_name, of_pattern, HasNoPrefix, Expands, to_prefix, to_itself, below_refs, of_object}
+use Rattle.gix_refspec_text.proofs.Common.{to_candidates, IsAsked, HasPrefix, IsExpansion, same_Some}
 use Rattle.gix_refspec_text.proofs.lemmas.hits.MatchLemmas.{split_once, outside_none}
 use Rattle.gix_refspec_text.proofs.lemmas.prefixes.OnePrefixLemmas.{one_prefix}
 use Rattle.gix_refspec_text.proofs.facts.ManualFacts.{Lacks-tested, other_length, none_some}
@@ -17,7 +9,6 @@ use Rattle.gix_refspec_text.proofs.facts.FaultFacts.{begins_not}
 use Rattle.gix_refspec_text.proofs.facts.ObjectIdFacts.{empty_blob, IsIdText-empty_blob}
 use Rattle.gix_refspec_text.proofs.facts.FitFacts.{split_at_end, other_byte, every, no_dev, short_kind, blob_kind}
 use Rattle.gix_refspec_text.proofs.facts.CoveringFacts.{below_heads}
-use Rattle.std.proofs.lemmas.Option.{same_Some}
 use Rattle.gix_refspec_text.proofs.lemmas.lists.LacksLemmas.{Lacks-here}
 
 -- `HEAD` and a full name are their own prefix

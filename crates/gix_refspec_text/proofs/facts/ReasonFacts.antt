@@ -1,26 +1,16 @@
 -- The reasons to refuse a text, each with parts that it applies to, and similar parts that it doesn't apply to.
-use Rattle.std.proofs.Common.{◌≡◌, ◌≢◌, ◌≤◌, ℕ, List, [], ◌∷◌, ◌++◌, Option, None, Some, codes, refl, sym, subst, inl, inr, arith}
-use Rattle.std.specs.Prelude.{replicate}
-use Rattle.std.specs.Char.{is_ascii_hexdigit}
-use Rattle.std.proofs.lemmas.Bool.{false≢true}
-use Rattle.std.proofs.lemmas.List.{length-replicate}
-use Rattle.std.proofs.lemmas.List.Sums.{AllPass-from_list_all}
-use Rattle.gix_refspec_text.specs.declared.name.Error.TheVariants.{LockSuffix, RepeatedDot, Asterisk, Empty as NoName}
+use Rattle.gix_refspec_text.proofs.Common.{◌≡◌, ◌≢◌, ◌≤◌, ℕ, List, [], ◌∷◌, ◌++◌, Option, None, Some, codes, refl, sym, subst, inl, inr, arith, replicate, is_ascii_hexdigit, false≢true, length-replicate}
+use Rattle.gix_refspec_text.proofs.Common.{AllPass-from_list_all, LockSuffix, RepeatedDot, Asterisk, NoName, Operation, Push, Fetch, IsName, HasStar, HasFault, HasOneStar, IsSplit, IsPatternFault, star, letter, Normal}
+use Rattle.gix_refspec_text.proofs.Common.{Forced, Negative, LooksLikeObjectHash, Refusal, NegativeWithDestination, PushToEmpty, PatternUnsupported, ReferenceName, PatternUnbalanced, NegativeEmpty, NegativeObjectHash}
+use Rattle.gix_refspec_text.proofs.Common.{IsBadName, IsBadPattern, IsEmptyPush, HasNegativeDestination, PushesNowhere, IsBadSourceFor, HasBadSource, HasBadDestination, IsOneStarred, IsUnbalanced, ExcludesNothing}
+use Rattle.gix_refspec_text.proofs.Common.{ExcludesObject, Never, OrElse, IsFirstReason, same_Some}
 use Rattle.gix_refspec_text.specs.declared.name.PatternError.TheVariants.{Name}
-use Rattle.gix_refspec_text.specs.declared.parsing.Operation.{Operation}
-use Rattle.gix_refspec_text.specs.declared.parsing.Operation.TheVariants.{Push, Fetch}
-use Rattle.gix_refspec_text.specs.Texts.Name.{IsName, HasStar, HasFault, HasOneStar, IsSplit}
-use Rattle.gix_refspec_text.specs.Texts.PatternError.{IsPatternFault}
-use Rattle.gix_refspec_text.specs.Texts.Bytes.{star, letter}
-use Rattle.gix_refspec_text.specs.Specs.Reading.{Normal, Forced, Negative}
-use Rattle.gix_refspec_text.specs.Specs.Grammar.{LooksLikeObjectHash}
-use Rattle.gix_refspec_text.specs.Specs.Refusal.{Refusal, Empty, NegativeWithDestination, PushToEmpty, PatternUnsupported, ReferenceName, PatternUnbalanced, NegativeEmpty, NegativeObjectHash, IsBadName, IsBadPattern, IsEmptyPush, HasNegativeDestination, PushesNowhere, IsBadSourceFor, HasBadSource, HasBadDestination, IsOneStarred, IsUnbalanced, ExcludesNothing, ExcludesObject, Never, OrElse, IsFirstReason}
+use Rattle.gix_refspec_text.specs.Specs.Refusal.{Empty}
 use Rattle.gix_refspec_text.proofs.lemmas.texts.TextLemmas.{Lacks-ContainsText, one_not_two}
 use Rattle.gix_refspec_text.proofs.lemmas.parsing.SideLemmas.{name_not_bad, replaced_once, HasStar-replaced, HasStar-bad}
 use Rattle.gix_refspec_text.proofs.facts.ManualFacts.{Lacks-tested, full, none_some, some_none}
 use Rattle.gix_refspec_text.proofs.facts.FaultFacts.{holds_not}
 use Rattle.gix_refspec_text.proofs.facts.RefusalFacts.{replaces_star, locked, normal_positive}
-use Rattle.std.proofs.lemmas.Option.{same_Some}
 use Rattle.gix_refspec_text.proofs.lemmas.lists.LacksLemmas.{Lacks-here}
 
 -- ---- stars

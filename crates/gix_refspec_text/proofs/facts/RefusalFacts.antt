@@ -1,21 +1,13 @@
 -- The order of refusals: texts with two reasons, of which the first in the order is returned, and the other
 -- isn't.
-use Rattle.std.proofs.Common.{◌≢◌, ◌⊎◌, ℕ, List, [], Option, None, Some, codes, refl, inl, inr, arith}
-use Rattle.std.specs.Prelude.{replicate}
-use Rattle.std.proofs.lemmas.List.{length-replicate}
-use Rattle.gix_refspec_text.specs.declared.name.Error.TheVariants.{LockSuffix}
-use Rattle.gix_refspec_text.specs.declared.parsing.Operation.{Operation}
-use Rattle.gix_refspec_text.specs.declared.parsing.Operation.TheVariants.{Push, Fetch}
-use Rattle.gix_refspec_text.specs.Texts.Name.{ReplacesStar, HasFault, HasSeveralStars}
-use Rattle.gix_refspec_text.specs.Texts.Bytes.{slash, letter}
-use Rattle.gix_refspec_text.specs.Specs.Reading.{Normal, Forced, Negative}
-use Rattle.gix_refspec_text.specs.Specs.Grammar.{LooksLikeObjectHash}
-use Rattle.gix_refspec_text.specs.Specs.Refusal.{IsBadName, IsBadPattern, Refusal, Empty, NegativeWithDestination, PushToEmpty, PatternUnsupported, ReferenceName, PatternUnbalanced, Never, IsEmptyPush, HasNegativeDestination, PushesNowhere, HasBadSource, HasBadDestination, IsUnbalanced, IsFirstReason}
+use Rattle.gix_refspec_text.proofs.Common.{◌≢◌, ◌⊎◌, ℕ, List, [], Option, None, Some, codes, refl, inl, inr, arith, replicate, length-replicate, LockSuffix, Operation, Push, Fetch, ReplacesStar, HasFault}
+use Rattle.gix_refspec_text.proofs.Common.{HasSeveralStars, slash, letter, Normal, Forced, Negative, LooksLikeObjectHash, IsBadName, IsBadPattern, Refusal, NegativeWithDestination, PushToEmpty, PatternUnsupported}
+use Rattle.gix_refspec_text.proofs.Common.{ReferenceName, PatternUnbalanced, Never, IsEmptyPush, HasNegativeDestination, PushesNowhere, HasBadSource, HasBadDestination, IsUnbalanced, IsFirstReason, same_Some}
+use Rattle.gix_refspec_text.specs.Specs.Refusal.{Empty}
 use Rattle.gix_refspec_text.proofs.lemmas.texts.TestedLemmas.{IsName-tested}
 use Rattle.gix_refspec_text.proofs.lemmas.parsing.SideLemmas.{name_not_bad}
 use Rattle.gix_refspec_text.proofs.facts.ManualFacts.{Lacks-tested, ReplacesStar-tested, full}
 use Rattle.gix_refspec_text.proofs.facts.FitFacts.{other_byte}
-use Rattle.std.proofs.lemmas.Option.{same_Some}
 
 pub normal_positive : Normal ≢ Negative
 normal_positive same = cc

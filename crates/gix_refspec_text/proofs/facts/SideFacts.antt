@@ -1,10 +1,7 @@
 -- Sides, candidates and matches: also texts of another kind, names that aren't candidates, and refs that aren't
 -- matched.
-use Rattle.std.proofs.Common.{◌≡◌, ◌≢◌, ℕ, List, [], ◌∷◌, Option, None, Some, codes, refl, sym, subst, arith}
-use Rattle.std.specs.List.{AllByRecursion}
-use Rattle.gix_refspec_text.specs.Texts.Bytes.{star}
-use Rattle.gix_refspec_text.specs.Matching.Side.{SideKind, pattern, full_name, object, partial, IsId, HasKind, candidates, IsCandidate, Excludes, the_name, by_pattern, filled}
-use Rattle.gix_refspec_text.specs.Matching.Match.{MatchesAs, Matches}
+use Rattle.gix_refspec_text.proofs.Common.{◌≡◌, ◌≢◌, ℕ, List, [], ◌∷◌, Option, None, Some, codes, refl, sym, subst, arith, AllByRecursion, star, SideKind, pattern, full_name, object, partial, IsId, HasKind, candidates}
+use Rattle.gix_refspec_text.proofs.Common.{IsCandidate, Excludes, the_name, by_pattern, filled, MatchesAs, Matches}
 use Rattle.gix_refspec_text.proofs.lemmas.texts.TextLemmas.{one_not_two}
 use Rattle.gix_refspec_text.proofs.lemmas.texts.ComponentLemmas.{AllByRecursion-parts}
 use Rattle.gix_refspec_text.proofs.lemmas.hits.MatchLemmas.{has_candidates, lacks_no_pattern}

@@ -1,18 +1,10 @@
 -- Readings whose sides agree, and what a caller concludes from the laws on sides.
-use Rattle.std.proofs.Common.{◌≡◌, ◌⊎◌, inl, inr, ℕ, List, [], None, Some, codes, refl, subst}
-use Rattle.gix_refspec_text.specs.Texts.Words.{Lacks}
-use Rattle.gix_refspec_text.specs.Texts.Bytes.{star}
-use Rattle.gix_refspec_text.specs.Texts.Name.{HasOneStar}
-use Rattle.gix_refspec_text.specs.Texts.ObjectId.{IsIdText}
-use Rattle.gix_refspec_text.specs.Specs.Reading.{Normal}
-use Rattle.gix_refspec_text.specs.Specs.Grammar.{fetched, pushed}
-use Rattle.gix_refspec_text.specs.Matching.Side.{SideKind, partial, object, HasKind, Fits}
+use Rattle.gix_refspec_text.proofs.Common.{◌≡◌, ◌⊎◌, inl, inr, ℕ, List, [], None, Some, codes, refl, subst, Lacks, star, HasOneStar, IsIdText, Normal, fetched, pushed, SideKind, partial, object, HasKind, Fits, same_Some}
 use Rattle.gix_refspec_text.specs.Laws.Sides.{SidesAgree, OneKind, OneId, OneOfEach}
 use Rattle.gix_refspec_text.proofs.facts.ManualFacts.{Lacks-tested}
 use Rattle.gix_refspec_text.proofs.facts.FitFacts.{blob_kind, every, heads_split, origin_split, short, short_kind}
 use Rattle.gix_refspec_text.proofs.facts.ObjectIdFacts.{empty_blob, IsIdText-empty_blob}
 use Rattle.gix_refspec_text.proofs.facts.ReasonFacts.{one_star_alone}
-use Rattle.std.proofs.lemmas.Option.{same_Some}
 use Rattle.gix_refspec_text.proofs.lemmas.lists.LacksLemmas.{Lacks-here}
 
 -- the sides of what `git clone` writes agree, and so does a source alone

@@ -1,18 +1,12 @@
 -- For each condition of the forms a text that breaks it, with the reason to refuse it, so that it has no reading; and
 -- readings that no text has.
-use Rattle.std.proofs.Common.{◌≡◌, ◌≢◌, ◌⊎◌, ℕ, ◌==◌, false, List, [], ◌∷◌, Option, None, Some, unwrap_or, codes, refl, sym, ◌∙◌, inl, inr}
-use Rattle.std.specs.Prelude.{replicate}
-use Rattle.std.specs.List.{list_any}
-use Rattle.gix_refspec_text.specs.declared.parsing.Operation.{Operation}
-use Rattle.gix_refspec_text.specs.declared.parsing.Operation.TheVariants.{Push, Fetch}
-use Rattle.gix_refspec_text.specs.Texts.Bytes.{star, letter, caret, colon}
-use Rattle.gix_refspec_text.specs.Specs.Reading.{Mode, Normal, Forced, Negative, Reading}
-use Rattle.gix_refspec_text.specs.Specs.Grammar.{with_colon, IsPositive, fetched, pushed, Reads, IsAccepted}
-use Rattle.gix_refspec_text.specs.declared.name.Error.TheVariants.{StartsWithDot, InvalidByte}
-use Rattle.gix_refspec_text.specs.declared.parsing.reading.Shape.TheVariants.{Plain, Pattern}
-use Rattle.gix_refspec_text.specs.Specs.Meaning.{printed}
-use Rattle.gix_refspec_text.specs.Specs.Refusal.{Refusal, Empty, NegativeWithDestination, PushToEmpty, PatternUnsupported, ReferenceName, PatternUnbalanced, NegativeEmpty, NegativeObjectHash, IsBadName, IsBadPattern, HasBadDestination, IsFirstReason, IsRefused}
-use Rattle.gix_refspec_text.proofs.lemmas.parsing.ReasonLemmas.{no_negative, fetch_reaches, push_reaches, push_alone_reaches, negative_reaches, reason_at_source, reason_at_destination, reason_against_object, reason_against_nothing, fetch_source_fine, push_source_fine, unbalanced_fetch, unbalanced_push, bad_negative}
+use Rattle.gix_refspec_text.proofs.Common.{◌≡◌, ◌≢◌, ◌⊎◌, ℕ, ◌==◌, false, List, [], ◌∷◌, Option, None, Some, unwrap_or, codes, refl, sym, ◌∙◌, inl, inr, replicate, list_any, Operation, Push, Fetch, star, letter, caret}
+use Rattle.gix_refspec_text.proofs.Common.{colon, Mode, Normal, Forced, Negative, Reading, with_colon, IsPositive, fetched, pushed, Reads, IsAccepted, StartsWithDot, InvalidByte, Plain, Pattern, printed, Refusal}
+use Rattle.gix_refspec_text.proofs.Common.{NegativeWithDestination, PushToEmpty, PatternUnsupported, ReferenceName, PatternUnbalanced, NegativeEmpty, NegativeObjectHash, IsBadName, IsBadPattern, HasBadDestination}
+use Rattle.gix_refspec_text.proofs.Common.{IsFirstReason, IsRefused}
+use Rattle.gix_refspec_text.specs.Specs.Refusal.{Empty}
+use Rattle.gix_refspec_text.proofs.lemmas.parsing.ReasonLemmas.{no_negative, fetch_reaches, push_reaches, push_alone_reaches, negative_reaches, reason_at_source, reason_at_destination, reason_against_object}
+use Rattle.gix_refspec_text.proofs.lemmas.parsing.ReasonLemmas.{reason_against_nothing, fetch_source_fine, push_source_fine, unbalanced_fetch, unbalanced_push, bad_negative}
 use Rattle.gix_refspec_text.proofs.lemmas.parsing.ReadsLemmas.{refused}
 use Rattle.gix_refspec_text.proofs.lemmas.specs.FormsBackLemmas.{read_back}
 use Rattle.gix_refspec_text.proofs.lemmas.specs.AcceptedLemmas.{accepted_balanced}

@@ -1,34 +1,22 @@
 -- Refspecs, instructions, reasons and ids as contracts see them, at values whose fields differ, so that no field is
 -- lost or taken for another. That some text reads as a spec is a premise.
-use Rattle.std.proofs.Common.{Option, ◌≡◌, ◌≢◌, ℕ, suc, List, [], ◌∷◌, ◌++◌, None, Some, true, false, map, length, get_or, replicate, option_map, codes, refl, sym, ap, ◌∙◌, inl, inr, arith}
+use Rattle.gix_refspec_text.proofs.Common.{Option, ◌≡◌, ◌≢◌, ℕ, suc, List, [], ◌∷◌, ◌++◌, None, Some, true, false, map, length, get_or, replicate, option_map, codes, refl, sym, ap, ◌∙◌, inl, inr, arith, bstring_bytes}
+use Rattle.gix_refspec_text.proofs.Common.{LockSuffix, RepeatedDot, Digit, Length, Sha1, ObjectId, Operation, Push, Fetch, fault_name, Normal, Forced, Negative, fetched, pushed, fetch_only, meaning_of, text_of}
+use Rattle.gix_refspec_text.proofs.Common.{WritesPrinted, keys, Refusal, NegativeWithDestination, PushToEmpty, PatternUnsupported, ReferenceName, PatternUnbalanced, NegativeEmpty, NegativeObjectHash, IsFirstReason}
+use Rattle.gix_refspec_text.proofs.Common.{reading_of, owned_reading_of, key_of_spec, key_of_owned, meaning_of_instruction, meant_for, IsShownAs, ShowsRefusal, AppendsExpansion, to_prefix}
 use Rattle.bstr.specs.declared.bstr.BStr.{BStr}
 use Rattle.bstr.specs.declared.bstring.BString.{BString}
-use Rattle.bstr.specs.Owned.{bstring_bytes}
-use Rattle.gix_refspec_text.specs.declared.instruction.Fetch.TheVariants as fetch
-use Rattle.gix_refspec_text.specs.declared.instruction.Push.TheVariants as push
-use Rattle.gix_refspec_text.specs.declared.name.Error.TheVariants.{LockSuffix, RepeatedDot}
-use Rattle.gix_refspec_text.specs.declared.oid.Error.TheVariants.{Digit, Length}
-use Rattle.gix_refspec_text.specs.declared.oid.Kind.TheVariants.{Sha1}
-use Rattle.gix_refspec_text.specs.declared.oid.ObjectId.{ObjectId}
-use Rattle.gix_refspec_text.specs.declared.parsing.Error.TheVariants as error
-use Rattle.gix_refspec_text.specs.declared.parsing.Operation.{Operation}
-use Rattle.gix_refspec_text.specs.declared.parsing.Operation.TheVariants.{Push, Fetch}
 use Rattle.gix_refspec_text.specs.declared.spec.RefSpec.{RefSpec, accepted-type as owned-type}
 use Rattle.gix_refspec_text.specs.declared.spec.RefSpecRef.{RefSpecRef, accepted-type}
 use Rattle.gix_refspec_text.specs.declared.types.Instruction.{Instruction}
-use Rattle.gix_refspec_text.specs.declared.types.Instruction.TheVariants as instruction
 use Rattle.gix_refspec_text.specs.declared.types.Mode.{Mode}
-use Rattle.gix_refspec_text.specs.declared.types.Mode.TheVariants as mode
-use Rattle.gix_refspec_text.specs.Texts.ObjectId.{fault_name}
-use Rattle.gix_refspec_text.specs.Specs.Reading.{Normal, Forced, Negative}
-use Rattle.gix_refspec_text.specs.Specs.Grammar.{fetched, pushed}
-use Rattle.gix_refspec_text.specs.Specs.Meaning.{fetch_only, meaning_of, text_of, WritesPrinted}
-use Rattle.gix_refspec_text.specs.Specs.Order.{keys}
-use Rattle.gix_refspec_text.specs.Specs.Refusal.{Refusal, Empty, NegativeWithDestination, PushToEmpty, PatternUnsupported, ReferenceName, PatternUnbalanced, NegativeEmpty, NegativeObjectHash, IsFirstReason}
-use Rattle.gix_refspec_text.specs.Views.Spec.{reading_of, owned_reading_of, key_of_spec, key_of_owned}
+use Rattle.gix_refspec_text.specs.Specs.Refusal.{Empty}
 use Rattle.gix_refspec_text.specs.Views.Errors.{IsSameError}
-use Rattle.gix_refspec_text.specs.Views.Instruction.{meaning_of_instruction, meant_for, IsShownAs, ShowsRefusal}
-use Rattle.gix_refspec_text.specs.Matching.Prefix.{AppendsExpansion, to_prefix}
+use Rattle.gix_refspec_text.specs.declared.instruction.Fetch.TheVariants as fetch
+use Rattle.gix_refspec_text.specs.declared.instruction.Push.TheVariants as push
+use Rattle.gix_refspec_text.specs.declared.parsing.Error.TheVariants as error
+use Rattle.gix_refspec_text.specs.declared.types.Instruction.TheVariants as instruction
+use Rattle.gix_refspec_text.specs.declared.types.Mode.TheVariants as mode
 use Rattle.gix_refspec_text.proofs.facts.ManualFacts.{other_length, none_some}
 use Rattle.gix_refspec_text.proofs.facts.FitFacts.{other_byte, no_dev}
 use Rattle.gix_refspec_text.proofs.facts.ObjectIdFacts.{empty_blob}

@@ -1,12 +1,6 @@
 -- The name that a partial source takes: the first of its candidates that a ref has.
-use Rattle.std.proofs.Common.{◌≡◌, ◌⊎◌, inl, inr, ℕ, List, [], ◌∷◌, ◌++◌, None, Bool, true, false, refl, sym, ap, ◌∙◌, subst}
-use Rattle.std.specs.List.{AllByRecursion}
-use Rattle.std.specs.Str.{bytes_eq}
-use Rattle.std.proofs.lemmas.Bool.{false≢true}
-use Rattle.std.proofs.lemmas.Slice.Eq.{bytes_eq-Decides}
-use Rattle.gix_refspec_text.specs.Matching.Side.{partial, HasKind, IsCandidate}
-use Rattle.gix_refspec_text.specs.Matching.Match.{Ref, HasName, IsFirstCandidate, Takes}
-use Rattle.gix_refspec_text.specs.Laws.Readings.{FirstCandidate}
+use Rattle.gix_refspec_text.proofs.Common.{◌≡◌, ◌⊎◌, inl, inr, ℕ, List, [], ◌∷◌, ◌++◌, None, Bool, true, false, refl, sym, ap, ◌∙◌, subst, AllByRecursion, bytes_eq, false≢true, bytes_eq-Decides, partial, HasKind}
+use Rattle.gix_refspec_text.proofs.Common.{IsCandidate, Ref, HasName, IsFirstCandidate, Takes, FirstCandidate}
 
 has_name : (refs : List Ref) (n : List ℕ) → HasName refs n ⊎ (HasName refs n → ⊥)
 has_name [] n = inr (λ none. none)

@@ -1,13 +1,7 @@
 -- The refs that sides match, and the prefixes and candidates of sides.
-use Rattle.std.proofs.Common.{◌≡◌, ◌≢◌, ℕ, List, [], ◌∷◌, ◌++◌, codes, Option, None, Some, refl, sym, ap, ◌∙◌, subst}
-use Rattle.std.proofs.lemmas.List.{append-nil, append_cancel_left, append_cancel_right}
-use Rattle.gix_refspec_text.specs.Texts.Words.{Lacks, BeginsWith}
-use Rattle.gix_refspec_text.specs.Texts.Name.{IsSplit}
-use Rattle.gix_refspec_text.specs.Texts.Bytes.{star, head}
-use Rattle.gix_refspec_text.specs.Matching.Side.{SideKind, pattern, full_name, object, partial, HasKind, IsId, candidates, IsCandidate}
-use Rattle.gix_refspec_text.specs.Matching.Match.{Ref, MatchesAs}
-use Rattle.gix_refspec_text.specs.Matching.Prefix.{of_head, of_name, of_pattern, HasNoPrefix, Expands, to_prefix, to_itself, below_refs, of_object, to_candidates}
-use Rattle.gix_refspec_text.specs.Laws.Readings.{OneWord, PrefixBegins, Candidates}
+use Rattle.gix_refspec_text.proofs.Common.{◌≡◌, ◌≢◌, ℕ, List, [], ◌∷◌, ◌++◌, codes, Option, None, Some, refl, sym, ap, ◌∙◌, subst, append-nil, append_cancel_left, append_cancel_right, Lacks, BeginsWith, IsSplit, star}
+use Rattle.gix_refspec_text.proofs.Common.{head, SideKind, pattern, full_name, object, partial, HasKind, IsId, candidates, IsCandidate, Ref, MatchesAs, of_head, of_name, of_pattern, HasNoPrefix, Expands, to_prefix}
+use Rattle.gix_refspec_text.proofs.Common.{to_itself, below_refs, of_object, to_candidates, OneWord, PrefixBegins, Candidates}
 use Rattle.gix_refspec_text.proofs.lemmas.hits.CandidateLemmas.{first_candidate, first_of_one, takes_first}
 use Rattle.gix_refspec_text.proofs.lemmas.lists.LacksLemmas.{Lacks-here, first_once}
 

@@ -1,23 +1,10 @@
 -- Tests of the premises of laws.
-use Rattle.std.proofs.Common.{◌≡◌, ◌⊎◌, inl, inr, ◌↔◌, IsTrue, ℕ, Bool, Bor, true, false, not, List, ◌∷◌, ◌++◌, codes, refl, ap, ◌∙◌, subst}
-use Rattle.std.proofs.lemmas.Bool.{false≢true}
-use Rattle.std.proofs.lemmas.List.{append_assoc}
-use denote.Enum.Bare.{sameb}
+use Rattle.gix_refspec_text.proofs.Common.{◌≡◌, ◌⊎◌, inl, inr, ◌↔◌, IsTrue, ℕ, Bool, Bor, true, false, not, List, ◌∷◌, ◌++◌, codes, refl, ap, ◌∙◌, subst, false≢true, append_assoc, sameb, Operation, Fetch, Push, ObjectId}
+use Rattle.gix_refspec_text.proofs.Common.{BeginsWith, star, IsSplit, Reading, id_bytes, HasKind, IsRefPrefix, of_name, of_pattern, IsAsked, IsCovering, by_prefix, by_candidates, HasCoveringSource}
 use Rattle.gix_refspec_text.specs.contracts.parsing.Operation.{the_type as the_operation}
-use Rattle.gix_refspec_text.specs.declared.parsing.Operation.{Operation}
-use Rattle.gix_refspec_text.specs.declared.parsing.Operation.TheVariants.{Fetch, Push}
-use Rattle.gix_refspec_text.specs.declared.oid.ObjectId.{ObjectId}
 use Rattle.gix_refspec_text.specs.declared.side.SideKind.{SideKind as DeclaredKind}
-use Rattle.gix_refspec_text.specs.declared.side.SideKind.TheVariants as kind
-use Rattle.gix_refspec_text.specs.Texts.Words.{BeginsWith}
-use Rattle.gix_refspec_text.specs.Texts.Bytes.{star}
-use Rattle.gix_refspec_text.specs.Texts.Name.{IsSplit}
-use Rattle.gix_refspec_text.specs.Specs.Reading.{Reading}
-use Rattle.gix_refspec_text.specs.Texts.ObjectId.{id_bytes}
-use Rattle.gix_refspec_text.specs.Matching.Side.{HasKind}
 use Rattle.gix_refspec_text.specs.Private.SideViews.{kind_of_side}
-use Rattle.gix_refspec_text.specs.Matching.Prefix.{IsRefPrefix, of_name, of_pattern, IsAsked}
-use Rattle.gix_refspec_text.specs.Laws.Covering.{IsCovering, by_prefix, by_candidates, HasCoveringSource}
+use Rattle.gix_refspec_text.specs.declared.side.SideKind.TheVariants as kind
 use Rattle.gix_refspec_text.proofs.lemmas.hits.MatchLemmas.{lacks_no_pattern}
 use Rattle.gix_refspec_text.proofs.lemmas.prefixes.PrefixLemmas.{id_not_head, no_prefix, one_asked}
 

@@ -1,6 +1,5 @@
 -- Texts that are empty, and texts that aren't.
-use Rattle.std.proofs.Common.{◌≡◌, ◌≢◌, ◌==◌, ◌<◌, ℕ, List, [], ◌∷◌, true, false, length, refl, sym, ap, ◌∙◌, arith}
-use Rattle.std.proofs.lemmas.Bool.{false≢true, eqb-true}
+use Rattle.gix_refspec_text.proofs.Common.{◌≡◌, ◌≢◌, ◌==◌, ◌<◌, ℕ, List, [], ◌∷◌, true, false, length, refl, sym, ap, ◌∙◌, arith, false≢true, eqb-true}
 
 -- a text isn't empty if the test says so
 pub full_from_test : (x : List ℕ) → false ≡ (length x == 0) → x ≢ []

@@ -1,6 +1,5 @@
 -- The first and the last occurrence of a byte.
-use Rattle.std.proofs.Common.{◌≡◌, ℕ, List, [], ◌∷◌, ◌++◌, refl, sym, subst}
-use Rattle.gix_refspec_text.specs.Texts.Words.{Lacks}
+use Rattle.gix_refspec_text.proofs.Common.{◌≡◌, ℕ, List, [], ◌∷◌, ◌++◌, refl, sym, subst, Lacks}
 
 pub Lacks-here : (b : ℕ) (front back : List ℕ) → Lacks b (front ++ (b ∷ back)) → ⊥
 Lacks-here b [] back lacks = lacks.0 refl

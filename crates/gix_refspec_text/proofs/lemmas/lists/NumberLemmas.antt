@@ -1,6 +1,5 @@
 -- Numbers below a bound.
-use Rattle.std.proofs.Common.{◌≡◌, ◌⊎◌, inl, inr, ℕ, ◌+◌, ◌<◌, arith}
-use Rattle.std.proofs.lemmas.Bool.{cases_lt}
+use Rattle.gix_refspec_text.proofs.Common.{◌≡◌, ◌⊎◌, inl, inr, ℕ, ◌+◌, ◌<◌, arith, cases_lt}
 
 pub upto : (k n : ℕ) → k < n + 1 → (k < n) ⊎ (k ≡ n)
 upto k n under = elim (cases_lt k n) [

@@ -1,9 +1,6 @@
 -- The error `Memory`, and the others.
-use Rattle.std.proofs.Common.{◌≡◌, ◌≢◌, refl, subst}
+use Rattle.gix_refspec_text.proofs.Common.{◌≡◌, ◌≢◌, refl, subst, Refusal, MemoryOr, ShowsRefusal}
 use Rattle.gix_refspec_text.specs.declared.parsing.Error.{Error}
-use Rattle.gix_refspec_text.specs.Specs.Refusal.{Refusal}
-use Rattle.gix_refspec_text.specs.Private.Sides.{MemoryOr}
-use Rattle.gix_refspec_text.specs.Views.Instruction.{ShowsRefusal}
 use Rattle.gix_refspec_text.specs.declared.parsing.Error.TheVariants as error
 
 -- an error other than `Memory` is a refusal

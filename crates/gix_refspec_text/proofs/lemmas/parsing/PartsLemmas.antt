@@ -1,9 +1,6 @@
 -- A text has only one sign, source and destination.
-use Rattle.std.proofs.Common.{◌≡◌, ◌≢◌, ℕ, List, ◌∷◌, Option, None, Some, refl, sym, ap, ◌∙◌, subst, arith}
-use Rattle.gix_refspec_text.specs.Texts.Words.{Lacks}
-use Rattle.gix_refspec_text.specs.Specs.Reading.{Mode, Normal, Forced, Negative}
-use Rattle.gix_refspec_text.specs.Texts.Bytes.{plus, caret, colon}
-use Rattle.gix_refspec_text.specs.Specs.Grammar.{IsUnsigned, IsSigned, with_colon, LastLacksColon, AreParts}
+use Rattle.gix_refspec_text.proofs.Common.{◌≡◌, ◌≢◌, ℕ, List, ◌∷◌, Option, None, Some, refl, sym, ap, ◌∙◌, subst, arith, Lacks, Mode, Normal, Forced, Negative, plus, caret, colon, IsUnsigned, IsSigned, with_colon}
+use Rattle.gix_refspec_text.proofs.Common.{LastLacksColon, AreParts}
 use Rattle.gix_refspec_text.proofs.lemmas.lists.LacksLemmas.{Lacks-here, last_once}
 
 -- a text with its parts
@@ -17,27 +14,20 @@ pub record Parted (text : List ℕ) : Type 0 where
 signed_not_unsigned : (r s : List ℕ) (b : ℕ) → r ≡ b ∷ s → IsUnsigned r → (b ≢ plus) × (b ≢ caret)
 signed_not_unsigned r s b same unsigned = subst IsUnsigned same unsigned
 
--- lists that are equal have equal heads and tails
+-- lists that are equal have equal heads
 heads : (b c : ℕ) (r s : List ℕ) → b ∷ r ≡ c ∷ s → b ≡ c
 heads b c r s same = cc
-
-tails : (b c : ℕ) (r s : List ℕ) → b ∷ r ≡ c ∷ s → r ≡ s
-tails b c r s same = cc
-
--- `+` isn't `^`
-plus_not_caret : plus ≡ caret → ⊥
-plus_not_caret same = omega arith
 
 pub signed_once : (m n : Mode) (text r s : List ℕ) → IsSigned m text r → IsSigned n text s → (m ≡ n) × (r ≡ s)
 signed_once Normal Normal text r s a b = (refl, sym a.0 ∙ b.0)
 signed_once Normal Forced text r s a b = absurd ((signed_not_unsigned r s plus (sym a.0 ∙ b) a.1).0 refl)
 signed_once Normal Negative text r s a b = absurd ((signed_not_unsigned r s caret (sym a.0 ∙ b) a.1).1 refl)
 signed_once Forced Normal text r s a b = absurd ((signed_not_unsigned s r plus (sym b.0 ∙ a) b.1).0 refl)
-signed_once Forced Forced text r s a b = (refl, tails plus plus r s (sym a ∙ b))
-signed_once Forced Negative text r s a b = absurd (plus_not_caret (heads plus caret r s (sym a ∙ b)))
+signed_once Forced Forced text r s a b = (refl, cc)
+signed_once Forced Negative text r s a b = absurd (omega (arith, heads plus caret r s (sym a ∙ b)))
 signed_once Negative Normal text r s a b = absurd ((signed_not_unsigned s r caret (sym b.0 ∙ a) b.1).1 refl)
-signed_once Negative Forced text r s a b = absurd (plus_not_caret (sym (heads caret plus r s (sym a ∙ b))))
-signed_once Negative Negative text r s a b = (refl, tails caret caret r s (sym a ∙ b))
+signed_once Negative Forced text r s a b = absurd (omega (arith, heads caret plus r s (sym a ∙ b)))
+signed_once Negative Negative text r s a b = (refl, cc)
 
 pub split_once : (s t : List ℕ) (d e : Option (List ℕ)) → LastLacksColon s d → LastLacksColon t e → with_colon s d ≡ with_colon t e → (s ≡ t) × (d ≡ e)
 split_once s t None None a b same = (same, refl)

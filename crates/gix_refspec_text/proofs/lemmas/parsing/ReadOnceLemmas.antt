@@ -1,10 +1,7 @@
 -- A text has at most one reading, which is made from its parts.
-use Rattle.std.proofs.Common.{◌≡◌, ◌≢◌, ◌⊎◌, inl, inr, ℕ, List, [], ◌∷◌, Option, None, Some, unwrap_or, refl, sym, ap, ◌∙◌}
-use Rattle.gix_refspec_text.specs.declared.parsing.Operation.{Operation}
-use Rattle.gix_refspec_text.specs.declared.parsing.Operation.TheVariants.{Push, Fetch}
-use Rattle.gix_refspec_text.specs.Specs.Reading.{Mode, Forced, Negative, Reading}
-use Rattle.gix_refspec_text.specs.Specs.Grammar.{named_by, AreAlike, AreParts, fetched, pushed, Reads, fetches_nothing_named, fetches_colon, fetches, updates, updates_from_head, fetch_excludes, pushes_plus, pushes_colon, pushes, deletes, pushes_pattern, pushes_to, push_excludes}
-use Rattle.gix_refspec_text.specs.Private.Sides.{side_of, named_or_head}
+use Rattle.gix_refspec_text.proofs.Common.{◌≡◌, ◌≢◌, ◌⊎◌, inl, inr, ℕ, List, [], ◌∷◌, Option, None, Some, unwrap_or, refl, sym, ap, ◌∙◌, Operation, Push, Fetch, Mode, Forced, Negative, Reading, named_by, AreAlike}
+use Rattle.gix_refspec_text.proofs.Common.{AreParts, fetched, pushed, Reads, fetches_nothing_named, fetches_colon, fetches, updates, updates_from_head, fetch_excludes, pushes_plus, pushes_colon, pushes, deletes}
+use Rattle.gix_refspec_text.proofs.Common.{pushes_pattern, pushes_to, push_excludes, side_of, named_or_head}
 use Rattle.gix_refspec_text.proofs.lemmas.parsing.PartsLemmas.{Parted, parts_once}
 use Rattle.gix_refspec_text.proofs.lemmas.parsing.ReadsLemmas.{side_of-named, name_not_empty, pattern_not_empty, either_not_empty}
 
@@ -14,9 +11,9 @@ made Fetch m s d = fetched m (named_or_head s) (side_of (unwrap_or d []))
 made Push m s d = pushed m (side_of (named_by s)) (side_of (unwrap_or d []))
 
 -- a reading and the parts that make it
-record IsMade (op : Operation) (text : List ℕ) (r : Reading) : Type 0 where
-  of : Parted text
-  is : r ≡ made op of.mode of.source of.destination
+pub record IsMade (op : Operation) (text : List ℕ) (r : Reading) : Type 0 where
+  pub of : Parted text
+  pub is : r ≡ made op of.mode of.source of.destination
 
 -- a source that isn't empty, in a fetch and as a side
 named_or_head-full : (s : List ℕ) → s ≢ [] → named_or_head s ≡ named_by s
@@ -51,7 +48,7 @@ made_alone op text r m s fetch (inl parts) full is = made_for op text r Fetch m 
 made_alone op text r m s fetch (inr parts) full is = made_for op text r Fetch m s (Some []) fetch parts (is ∙ sym (ap (λ (x : List ℕ). fetched m x None) (named_or_head-full s full)))
 
 -- each reading of a text is made from its parts
-is_made : (op : Operation) (text : List ℕ) (r : Reading) → Reads op text r → IsMade op text r
+pub is_made : (op : Operation) (text : List ℕ) (r : Reading) → Reads op text r → IsMade op text r
 is_made op text r (fetches_nothing_named m fetch pos parts is) = made_for op text r Fetch m [] None fetch parts is
 is_made op text r (fetches_colon m fetch pos parts is) = made_for op text r Fetch m [] (Some []) fetch parts is
 is_made op text r (fetches m s fetch pos parts name is) = made_alone op text r m s fetch parts (name_not_empty s name) is
@@ -68,15 +65,10 @@ is_made op text r (pushes_pattern m s d push pos parts source destination is) = 
 is_made op text r (pushes_to m s d push pos parts full plain name is) = made_for op text r Push m s (Some d) push parts (is ∙ pushed_alike m _ _ _ _ (sym (side_of-named_full s full)) (sym (side_of-full d (name_not_empty d name))))
 is_made op text r (push_excludes s push parts either hash is) = made_for op text r Push Negative s None push parts (is ∙ pushed_alike Negative _ _ _ _ (sym (side_of-named_full s (either_not_empty s either))) refl)
 
--- equal parts make equal readings
-made_same : (op : Operation) (m n : Mode) (s t : List ℕ) (d e : Option (List ℕ)) → m ≡ n → s ≡ t → d ≡ e → made op m s d ≡ made op n t e
-made_same op m n s t d e mode source destination =
-    ap (λ (x : Mode). made op x s d) mode ∙ (ap (λ (x : List ℕ). made op n x d) source ∙ ap (λ (x : Option (List ℕ)). made op n t x) destination)
-
 -- a text has at most one reading
 pub reads_once : (op : Operation) (text : List ℕ) (r q : Reading) → Reads op text r → Reads op text q → r ≡ q
 reads_once op text r q by_r by_q =
     let a = is_made op text r by_r in
     let b = is_made op text q by_q in
     let same = parts_once a.of.mode b.of.mode a.of.source b.of.source a.of.destination b.of.destination text a.of.parts b.of.parts in
-    a.is ∙ (made_same op a.of.mode b.of.mode a.of.source b.of.source a.of.destination b.of.destination same.mode same.source same.destination ∙ sym b.is)
+    a.is ∙ rw (same.mode, same.source, same.destination) (sym b.is)

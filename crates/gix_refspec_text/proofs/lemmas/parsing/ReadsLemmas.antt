@@ -1,21 +1,12 @@
 -- A text with valid parts has the reading with their sides, and each text with a reading has valid parts.
-use Rattle.std.proofs.Common.{◌≡◌, ◌≢◌, ◌⊎◌, inl, inr, ℕ, ◌==◌, true, false, if◌then◌else◌, List, [], ◌∷◌, Option, None, Some, option_map, unwrap_or, refl, sym, ap, subst}
-use Rattle.gix_refspec_text.specs.declared.name.Error.TheVariants.{Empty}
+use Rattle.gix_refspec_text.proofs.Common.{◌≡◌, ◌≢◌, ◌⊎◌, inl, inr, ℕ, ◌==◌, true, false, if◌then◌else◌, List, [], ◌∷◌, Option, None, Some, option_map, unwrap_or, refl, sym, ap, subst, Empty, Operation, Push, Fetch}
+use Rattle.gix_refspec_text.proofs.Common.{Shape, Plain, Pattern, IsName, IsPattern, Mode, Normal, Forced, Negative, Reading, Refusal, Never, IsFirstReason, IsRefused, ReachesMemory, MayNeedMemory, head, named_by}
+use Rattle.gix_refspec_text.proofs.Common.{IsPositive, IsNameOrPattern, LooksLikeObjectHash, AreAlike, AreParts, fetched, pushed, Reads, fetches_nothing_named, fetches_colon, fetches, updates, updates_from_head}
+use Rattle.gix_refspec_text.proofs.Common.{fetch_excludes, pushes_plus, pushes_colon, pushes, deletes, pushes_pattern, pushes_to, push_excludes, mode_of, IsErrorOf, HasShape, HasCheckedShape, side_of, named_or_head}
+use Rattle.gix_refspec_text.proofs.Common.{destination_of, HasParts, read_as, IsReasonAgainst, bstr_bytes}
 use Rattle.gix_refspec_text.specs.declared.parsing.Error.{Error}
-use Rattle.gix_refspec_text.specs.declared.parsing.Operation.{Operation}
-use Rattle.gix_refspec_text.specs.declared.parsing.Operation.TheVariants.{Push, Fetch}
-use Rattle.gix_refspec_text.specs.declared.parsing.reading.Shape.{Shape}
-use Rattle.gix_refspec_text.specs.declared.parsing.reading.Shape.TheVariants.{Plain, Pattern}
 use Rattle.gix_refspec_text.specs.declared.parsing.reading.Parts.{Parts}
 use Rattle.gix_refspec_text.specs.declared.parsing.reading.Sides.{Sides}
-use Rattle.gix_refspec_text.specs.Texts.Name.{IsName, IsPattern}
-use Rattle.gix_refspec_text.specs.Specs.Reading.{Mode, Normal, Forced, Negative, Reading}
-use Rattle.gix_refspec_text.specs.Specs.Refusal.{Refusal, Never, IsFirstReason, IsRefused, ReachesMemory, MayNeedMemory}
-use Rattle.gix_refspec_text.specs.Texts.Bytes.{head}
-use Rattle.gix_refspec_text.specs.Specs.Grammar.{named_by, IsPositive, IsNameOrPattern, LooksLikeObjectHash, AreAlike, AreParts, fetched, pushed, Reads, fetches_nothing_named, fetches_colon, fetches, updates, updates_from_head, fetch_excludes, pushes_plus, pushes_colon, pushes, deletes, pushes_pattern, pushes_to, push_excludes}
-use Rattle.gix_refspec_text.specs.Views.Instruction.{mode_of}
-use Rattle.gix_refspec_text.specs.Private.Sides.{IsErrorOf, HasShape, HasCheckedShape, side_of, named_or_head, destination_of, HasParts, read_as, IsReasonAgainst}
-use Rattle.bstr.specs.BStr.{bstr_bytes}
 use Rattle.gix_refspec_text.proofs.lemmas.parsing.SideLemmas.{Never-or, checked_starred, empty_no_pattern}
 use Rattle.gix_refspec_text.proofs.lemmas.parsing.PartsLemmas.{Parted, parts_once}
 use Rattle.gix_refspec_text.proofs.lemmas.parsing.ReasonLemmas.{MemoryOr-map, positive, no_empty_fetch, no_negative, no_fetch_nowhere, fetch_source_fine, push_source_fine, alone_fine, destination_fine, sides_balanced}
@@ -115,10 +106,6 @@ pub either_not_empty : (x : List ℕ) → IsNameOrPattern x → x ≢ []
 either_not_empty x (inl name) = name_not_empty x name
 either_not_empty x (inr pattern) = pattern_not_empty x pattern
 
--- a forced mode isn't the normal one
-forced_not_normal : Forced ≡ Normal → ⊥
-forced_not_normal same = absurd (cc)
-
 -- a text with its parts, which are valid
 pub record FineParts (op : Operation) (text : List ℕ) : Type 0 where
   pub of : Parted text
@@ -148,7 +135,7 @@ fine_parts op text r (fetches m s fetch pos parts name _) = one_fine op m s text
 fine_parts op text r (updates m s d fetch pos parts alike _) = with_fine op m s (Some d) text parts (alike_fine op m s d fetch pos alike)
 fine_parts op text r (updates_from_head m d fetch pos parts name _) = with_fine op m [] (Some d) text parts (fine_fetch Plain fetch pos tt (checked_name d name))
 fine_parts op text r (fetch_excludes s fetch parts either hash _) = negative_fine op s text parts either hash
-fine_parts op text r (pushes_plus push parts _) = with_fine op Forced [] None text parts (fine_alone Plain push tt refl (λ _ forced. forced_not_normal forced) tt)
+fine_parts op text r (pushes_plus push parts _) = with_fine op Forced [] None text parts (fine_alone Plain push tt refl (λ _ forced. cc) tt)
 fine_parts op text r (pushes_colon m push pos parts _) = with_fine op m [] (Some []) text parts (fine_push Plain [] push pos refl (λ full _. full refl) tt tt)
 fine_parts op text r (pushes m s push pos parts either _) =
     let side = checked_either s either in
@@ -190,17 +177,10 @@ no_reason_negative op s k full a hash =
 
 -- no reason applies to valid parts
 pub no_reason : (op : Operation) (m : Mode) (s : List ℕ) (d : Option (List ℕ)) → AreFine op m s d → Never (IsFirstReason op m s d)
-no_reason op m s d (fine_fetch k fetch pos a b) e =
-    subst (λ (o : Operation). ¬ (IsFirstReason o m s d e)) (sym fetch) (no_reason_fetch m s d k pos a b e)
-no_reason op m s d (fine_alone k push pos none full a) e =
-    subst (λ (o : Operation). ¬ (IsFirstReason o m s d e)) (sym push)
-    (subst (λ (x : Option (List ℕ)). ¬ (IsFirstReason Push m s x e)) (sym none) (no_reason_alone m s k pos full a e))
-no_reason op m s d (fine_push k t push pos some somewhere a b) e =
-    subst (λ (o : Operation). ¬ (IsFirstReason o m s d e)) (sym push)
-    (subst (λ (x : Option (List ℕ)). ¬ (IsFirstReason Push m s x e)) (sym some) (no_reason_push m s t k pos somewhere a b e))
-no_reason op m s d (fine_negative k negative none full a hash) e =
-    subst (λ (n : Mode). ¬ (IsFirstReason op n s d e)) (sym negative)
-    (subst (λ (x : Option (List ℕ)). ¬ (IsFirstReason op Negative s x e)) (sym none) (no_reason_negative op s k full a hash e))
+no_reason op m s d (fine_fetch k fetch pos a b) e = rw fetch (no_reason_fetch m s d k pos a b e)
+no_reason op m s d (fine_alone k push pos none full a) e = rw (push, none) (no_reason_alone m s k pos full a e)
+no_reason op m s d (fine_push k t push pos some somewhere a b) e = rw (push, some) (no_reason_push m s t k pos somewhere a b e)
+no_reason op m s d (fine_negative k negative none full a hash) e = rw (negative, none) (no_reason_negative op s k full a hash e)
 
 -- a text has no reading if a reason applies to its parts
 pub unread : (op : Operation) (m : Mode) (s : List ℕ) (d : Option (List ℕ)) (text : List ℕ) (e : Refusal) (r : Reading) → AreParts m s d text → IsFirstReason op m s d e → ¬ (Reads op text r)
@@ -208,10 +188,7 @@ unread op m s d text e r parts first reads =
     let fine = fine_parts op text r reads in
     let p = fine.of in
     let same = parts_once m p.mode s p.source d p.destination text parts p.parts in
-    let moved_mode = subst (λ (n : Mode). IsFirstReason op n s d e) same.mode first in
-    let moved_source = subst (λ (t : List ℕ). IsFirstReason op p.mode t d e) same.source moved_mode in
-    let moved = subst (λ (u : Option (List ℕ)). IsFirstReason op p.mode p.source u e) same.destination moved_source in
-    no_reason op p.mode p.source p.destination fine.fine e moved
+    no_reason op p.mode p.source p.destination fine.fine e (rw (same.mode, same.source, same.destination) at first)
 
 -- a text is refused for the first reason that applies to its parts
 pub refused : (op : Operation) (m : Mode) (s : List ℕ) (d : Option (List ℕ)) (text : List ℕ) (e : Refusal) → AreParts m s d text → IsFirstReason op m s d e → IsRefused op text e

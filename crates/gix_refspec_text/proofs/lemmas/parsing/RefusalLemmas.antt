@@ -1,18 +1,11 @@
 -- A text is refused for only one reason, apart from which fault of a name it holds.
-use Rattle.std.proofs.Common.{◌≡◌, ◌⊎◌, inl, inr, ℕ, List, Option, None, Some, refl, sym, ap, ◌∙◌, subst}
-use Rattle.gix_refspec_text.specs.declared.name.Error.{Error}
-use Rattle.gix_refspec_text.specs.declared.parsing.Operation.{Operation}
-use Rattle.gix_refspec_text.specs.declared.parsing.Operation.TheVariants.{Push, Fetch}
-use Rattle.gix_refspec_text.specs.Texts.Words.{Lacks}
-use Rattle.gix_refspec_text.specs.Texts.Name.{HasSeveralStars, ReplacesStar}
-use Rattle.gix_refspec_text.specs.Texts.Bytes.{star}
-use Rattle.gix_refspec_text.specs.Specs.Reading.{Mode}
-use Rattle.gix_refspec_text.specs.Specs.Refusal.{Refusal, Empty, NegativeWithDestination, PushToEmpty, PatternUnsupported, ReferenceName, PatternUnbalanced, NegativeEmpty, NegativeObjectHash, IsBadName, IsBadPattern, IsBadSourceFor, HasBadDestination, OrElse, IsFirstReason}
-use Rattle.gix_refspec_text.specs.Laws.Readings.{IsSameReason, OneRefusal}
+use Rattle.gix_refspec_text.proofs.Common.{◌≡◌, ◌⊎◌, inl, inr, ℕ, List, Option, None, Some, refl, sym, ap, ◌∙◌, subst, Error, Operation, Push, Fetch, Lacks, HasSeveralStars, ReplacesStar, star, Mode, Refusal}
+use Rattle.gix_refspec_text.proofs.Common.{NegativeWithDestination, PushToEmpty, PatternUnsupported, ReferenceName, PatternUnbalanced, NegativeEmpty, NegativeObjectHash, IsBadName, IsBadPattern, IsBadSourceFor}
+use Rattle.gix_refspec_text.proofs.Common.{HasBadDestination, OrElse, IsFirstReason, IsSameReason, OneRefusal, same_Some}
+use Rattle.gix_refspec_text.specs.Specs.Refusal.{Empty}
 use Rattle.gix_refspec_text.proofs.lemmas.texts.TextLemmas.{Lacks-ContainsText}
 use Rattle.gix_refspec_text.proofs.lemmas.parsing.SideLemmas.{HasStar-bad, HasSeveralStars-replaced}
 use Rattle.gix_refspec_text.proofs.lemmas.parsing.PartsLemmas.{parts_once}
-use Rattle.std.proofs.lemmas.Option.{same_Some}
 
 -- two refusals that satisfy P are for the same reason
 abbrev Agree : (Refusal → Type 0) → Type 0
@@ -97,7 +90,4 @@ Agree-first op mode s d =
 pub one_refusal : (op : Operation) (text : List ℕ) → OneRefusal op text
 one_refusal op text e f a b =
     let same = parts_once b.mode a.mode b.source a.source b.destination a.destination text b.parts a.parts in
-    Agree-first op a.mode a.source a.destination e f a.first
-    (subst (λ (m : Mode). IsFirstReason op m a.source a.destination f) same.mode
-    (subst (λ (s : List ℕ). IsFirstReason op b.mode s a.destination f) same.source
-    (subst (λ (d : Option (List ℕ)). IsFirstReason op b.mode b.source d f) same.destination b.first)))
+    Agree-first op a.mode a.source a.destination e f a.first (rw (same.mode, same.source, same.destination) at b.first)

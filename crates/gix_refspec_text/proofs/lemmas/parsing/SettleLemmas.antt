@@ -1,23 +1,14 @@
 -- Each text has parts, and parts have a reading or a first reason to refuse them.
-use Rattle.std.proofs.Common.{◌≡◌, ◌≢◌, ◌⊎◌, inl, inr, ℕ, true, List, [], ◌∷◌, ◌++◌, Option, None, Some, unwrap_or, length, nat_le, refl, sym, ap, ◌∙◌, subst}
-use Rattle.std.specs.List.{AllByRecursion}
-use Rattle.std.specs.Char.{is_ascii_hexdigit}
-use Rattle.std.proofs.lemmas.Bool.{false≢true, leb-true, le-leb}
-use Rattle.std.proofs.lemmas.List.Elements.{All-from_recursion, recursion_from_All}
-use Rattle.gix_refspec_text.specs.declared.parsing.Operation.{Operation}
-use Rattle.gix_refspec_text.specs.declared.parsing.Operation.TheVariants.{Push, Fetch}
-use Rattle.gix_refspec_text.specs.declared.parsing.reading.Shape.{Shape}
-use Rattle.gix_refspec_text.specs.declared.parsing.reading.Shape.TheVariants.{Plain, Pattern}
-use Rattle.gix_refspec_text.specs.Texts.Words.{Lacks}
-use Rattle.gix_refspec_text.specs.Texts.Bytes.{star, letter, plus, caret, colon}
-use Rattle.gix_refspec_text.specs.Texts.Name.{ReplacesStar}
-use Rattle.gix_refspec_text.specs.Specs.Reading.{Mode, Normal, Forced, Negative, Reading}
-use Rattle.gix_refspec_text.specs.Specs.Refusal.{Refusal, Empty, NegativeWithDestination, PushToEmpty, PatternUnsupported, ReferenceName, PatternUnbalanced, NegativeEmpty, NegativeObjectHash, IsBadPattern, IsFirstReason, IsRefused}
-use Rattle.gix_refspec_text.specs.Specs.Grammar.{named_by, IsSigned, IsPositive, with_colon, LastLacksColon, AreParts, LooksLikeObjectHash, Reads, fetched, pushed}
-use Rattle.gix_refspec_text.specs.Private.Sides.{HasShape, HasCheckedShape, IsBadSide, side_of, named_or_head}
-use Rattle.gix_refspec_text.proofs.lemmas.parsing.DecideLemmas.{Decided, FirstIndex, tested, decided_byte, name_or_fault, lacks_or_first}
+use Rattle.gix_refspec_text.proofs.Common.{◌≡◌, ◌≢◌, ◌⊎◌, inl, inr, ℕ, List, [], ◌∷◌, ◌++◌, Option, None, Some, unwrap_or, length, nat_le, refl, sym, ap, ◌∙◌, subst, is_ascii_hexdigit, false≢true, leb-true, le-leb}
+use Rattle.gix_refspec_text.proofs.Common.{Operation, Push, Fetch, Shape, Plain, Pattern, Lacks, star, letter, plus, caret, colon, ReplacesStar, Mode, Normal, Forced, Negative, Reading, Refusal, NegativeWithDestination}
+use Rattle.gix_refspec_text.proofs.Common.{PushToEmpty, PatternUnsupported, ReferenceName, PatternUnbalanced, NegativeEmpty, NegativeObjectHash, IsBadPattern, IsFirstReason, IsRefused, named_by, IsSigned, IsPositive}
+use Rattle.gix_refspec_text.proofs.Common.{with_colon, LastLacksColon, AreParts, LooksLikeObjectHash, Reads, fetched, pushed, HasShape, HasCheckedShape, IsBadSide, side_of, named_or_head, cases_eq, list_all, ◌&&◌}
+use Rattle.gix_refspec_text.proofs.Common.{and_parts, and_from, AllPass-from_list_all, list_all-from_AllPass}
+use Rattle.gix_refspec_text.specs.Specs.Refusal.{Empty}
+use Rattle.gix_refspec_text.proofs.lemmas.parsing.DecideLemmas.{Decided, FirstIndex, tested, name_or_fault, lacks_or_first}
 use Rattle.gix_refspec_text.proofs.lemmas.parsing.PartsLemmas.{Parted}
-use Rattle.gix_refspec_text.proofs.lemmas.parsing.ReasonLemmas.{fetch_reaches, push_reaches, push_alone_reaches, negative_reaches, reason_at_source, reason_at_destination, reason_against_object, reason_against_nothing, fetch_source_fine, push_source_fine, bad_destination, bad_source_of_push, unbalanced_fetch, unbalanced_push, bad_negative, no_negative}
+use Rattle.gix_refspec_text.proofs.lemmas.parsing.ReasonLemmas.{fetch_reaches, push_reaches, push_alone_reaches, negative_reaches, reason_at_source, reason_at_destination, reason_against_object, reason_against_nothing}
+use Rattle.gix_refspec_text.proofs.lemmas.parsing.ReasonLemmas.{fetch_source_fine, push_source_fine, bad_destination, bad_source_of_push, unbalanced_fetch, unbalanced_push, bad_negative, no_negative}
 use Rattle.gix_refspec_text.proofs.lemmas.parsing.ReadsLemmas.{fetch_reads, push_alone_reads, push_reads, negative_reads, refused}
 
 -- a text without a star or a pattern, or a bad pattern
@@ -63,30 +54,21 @@ checked (b ∷ x) = elim (starred (b ∷ x)) [
 -- two sides have the same shape or not
 decided_side : (j k : Shape) → Decided (j ≡ k)
 decided_side Plain Plain = inl refl
-decided_side Plain Pattern = inr (λ same. absurd (cc))
-decided_side Pattern Plain = inr (λ same. absurd (cc))
 decided_side Pattern Pattern = inl refl
+decided_side _ _ = inr (λ same. absurd (cc))
 
 -- a text is empty or not
 decided_empty : (x : List ℕ) → Decided (x ≡ [])
 decided_empty [] = inl refl
 decided_empty (b ∷ x) = inr (λ same. cc)
 
--- a text has only hex digits or not, and looks like an object hash or not
-all_digits : (x : List ℕ) → Decided (AllByRecursion (λ b. is_ascii_hexdigit b ≡ true) x)
-all_digits [] = inl tt
-all_digits (b ∷ x) = elim (tested (is_ascii_hexdigit b)) [
-  | inr other ↦ inr (λ all. false≢true (sym other ∙ all.0))
-  | inl digit ↦ elim (all_digits x) [ inl digits ↦ inl (digit, digits) | inr other ↦ inr (λ all. other all.1) ]
-]
-
+-- a text looks like an object hash or not
 decided_hash : (x : List ℕ) → Decided (LooksLikeObjectHash x)
-decided_hash x = elim (tested (nat_le 40 (length x))) [
-  | inr short ↦ inr (λ hash. false≢true (sym short ∙ le-leb 40 (length x) hash.long))
-  | inl long ↦ elim (all_digits x) [
-    | inr other ↦ inr (λ hash. other (recursion_from_All (λ b. is_ascii_hexdigit b ≡ true) x hash.digits))
-    | inl digits ↦ inl (record { long = leb-true 40 (length x) long; digits = All-from_recursion (λ b. is_ascii_hexdigit b ≡ true) x digits })
-  ]
+decided_hash x = elim (tested (nat_le 40 (length x) && list_all is_ascii_hexdigit x)) [
+  | inl so ↦
+      let both = and_parts (nat_le 40 (length x)) (list_all is_ascii_hexdigit x) so in
+      inl (record { long = leb-true 40 (length x) both.0; digits = AllPass-from_list_all is_ascii_hexdigit x both.1 })
+  | inr other ↦ inr (λ hash. false≢true (sym other ∙ and_from _ _ (le-leb 40 (length x) hash.long) (list_all-from_AllPass is_ascii_hexdigit x hash.digits)))
 ]
 
 -- r is the reading of each text with these parts
@@ -179,9 +161,9 @@ record Signs (text : List ℕ) : Type 0 where
 
 signs : (text : List ℕ) → Signs text
 signs [] = record { mode = Normal; rest = []; signed = (refl, tt) }
-signs (b ∷ x) = elim (decided_byte b plus) [
+signs (b ∷ x) = elim (cases_eq b plus) [
   | inl same ↦ record { mode = Forced; rest = x; signed = ap (λ c. c ∷ x) same }
-  | inr no_plus ↦ elim (decided_byte b caret) [
+  | inr no_plus ↦ elim (cases_eq b caret) [
     | inl same ↦ record { mode = Negative; rest = x; signed = ap (λ c. c ∷ x) same }
     | inr no_caret ↦ record { mode = Normal; rest = b ∷ x; signed = (refl, (no_plus, no_caret)) }
   ]
@@ -196,7 +178,7 @@ record Split (x : List ℕ) : Type 0 where
 
 split_before : (b : ℕ) (x s : List ℕ) (d : Option (List ℕ)) → x ≡ with_colon s d → LastLacksColon s d → Split (b ∷ x)
 split_before b x s (Some d) whole last = record { source = b ∷ s; destination = Some d; whole = ap (λ (y : List ℕ). b ∷ y) whole; last = last }
-split_before b x s None whole lacks = elim (decided_byte b colon) [
+split_before b x s None whole lacks = elim (cases_eq b colon) [
   | inl same ↦ record { source = []; destination = Some x; whole = ap (λ c. c ∷ x) same; last = subst (Lacks colon) (sym whole) lacks }
   | inr other ↦ record { source = b ∷ s; destination = None; whole = ap (λ (y : List ℕ). b ∷ y) whole; last = (other, lacks) }
 ]

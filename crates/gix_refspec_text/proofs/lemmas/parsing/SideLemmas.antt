@@ -1,20 +1,8 @@
 -- Names and patterns as sides, and the reasons to refuse a side.
-use Rattle.std.proofs.Common.{◌≡◌, ◌⊎◌, inl, inr, ℕ, List, [], ◌∷◌, ◌++◌, Option, None, Some, option_map, unwrap_or, is_some, Bor, false, refl, sym, ap, ◌∙◌, subst}
-use Rattle.std.proofs.lemmas.Bool.{false≢true}
-use denote.Enum.Bare.{sameb}
+use Rattle.gix_refspec_text.proofs.Common.{◌≡◌, ◌⊎◌, inl, inr, ℕ, List, [], ◌∷◌, ◌++◌, Option, None, Some, option_map, unwrap_or, is_some, Bor, false, refl, sym, ap, ◌∙◌, subst, false≢true, sameb, DeclaredMode, Asterisk}
+use Rattle.gix_refspec_text.proofs.Common.{Shape, Plain, Pattern, Lacks, IsName, IsPattern, HasStar, HasSeveralStars, ReplacesStar, HasFault, star, Normal, Refusal, PatternUnsupported, ReferenceName, IsBadName}
+use Rattle.gix_refspec_text.proofs.Common.{IsBadPattern, Never, OrElse, mode_of, NothingAgainst, HasShape, HasCheckedShape, IsBadSide}
 use Rattle.gix_refspec_text.specs.contracts.types.Mode.{the_type as the_mode}
-use Rattle.gix_refspec_text.specs.declared.types.Mode.{Mode as DeclaredMode}
-use Rattle.gix_refspec_text.specs.declared.name.Error.TheVariants.{Asterisk}
-use Rattle.gix_refspec_text.specs.declared.parsing.reading.Shape.{Shape}
-use Rattle.gix_refspec_text.specs.declared.parsing.reading.Shape.TheVariants.{Plain, Pattern}
-use Rattle.gix_refspec_text.specs.Texts.Words.{Lacks}
-use Rattle.gix_refspec_text.specs.Texts.Name.{IsName, IsPattern, HasStar, HasSeveralStars, ReplacesStar, HasFault}
-use Rattle.gix_refspec_text.specs.Texts.Bytes.{star}
-use Rattle.gix_refspec_text.specs.Specs.Reading.{Normal}
-use Rattle.gix_refspec_text.specs.Specs.Refusal.{Refusal, PatternUnsupported, ReferenceName, IsBadName, IsBadPattern, Never, OrElse}
-use Rattle.gix_refspec_text.specs.Views.Instruction.{mode_of}
-use Rattle.gix_refspec_text.specs.Laws.Readings.{NothingAgainst}
-use Rattle.gix_refspec_text.specs.Private.Sides.{HasShape, HasCheckedShape, IsBadSide}
 use Rattle.gix_refspec_text.specs.declared.types.Mode.TheVariants as declared_mode
 use Rattle.gix_refspec_text.specs.declared.name.PatternError.TheVariants as found
 use Rattle.gix_refspec_text.proofs.lemmas.texts.TextLemmas.{Lacks-ContainsText, Lacks-from_absent, one_not_two}

@@ -1,13 +1,14 @@
 -- A side has at most one prefix and at most one expansion.
-use Rattle.std.proofs.Common.{◌≡◌, ℕ, List, [], ◌∷◌, ◌++◌, codes, sym, ap, ◌∙◌, subst}
-use Rattle.std.proofs.lemmas.List.{append_cancel_left}
-use Rattle.gix_refspec_text.specs.Texts.Words.{Lacks, ContainsText, BeginsWith}
-use Rattle.gix_refspec_text.specs.Texts.Bytes.{slash}
-use Rattle.gix_refspec_text.specs.Matching.Prefix.{IsPrefix, of_head, of_name, of_pattern, Expands, to_prefix, to_itself, below_refs, of_object, to_candidates}
-use Rattle.gix_refspec_text.specs.Laws.Readings.{OnePrefix}
+use Rattle.gix_refspec_text.proofs.Common.{◌≡◌, ℕ, List, [], ◌∷◌, ◌++◌, codes, sym, ap, ◌∙◌, subst, append_cancel_left, Lacks, ContainsText, BeginsWith, slash, IsPrefix, of_head, of_name, of_pattern, Expands, to_prefix}
+use Rattle.gix_refspec_text.proofs.Common.{to_itself, below_refs, of_object, to_candidates, OnePrefix, head, star, IsSplit}
 use Rattle.gix_refspec_text.proofs.lemmas.texts.TextLemmas.{Lacks-ContainsText}
 use Rattle.gix_refspec_text.proofs.lemmas.hits.MatchLemmas.{lacks_no_pattern, split_once}
-use Rattle.gix_refspec_text.proofs.lemmas.prefixes.PrefixLemmas.{head_no_split}
+use Rattle.gix_refspec_text.proofs.lemmas.parsing.SideLemmas.{Lacks-name}
+use Rattle.gix_refspec_text.proofs.lemmas.texts.HeadLemmas.{IsName-head}
+
+-- `HEAD` has no star
+pub head_no_split : (x before after : List ℕ) → x ≡ head → IsSplit before after x → ⊥
+head_no_split x before after is split = lacks_no_pattern x before after (subst (Lacks star) (sym is) (Lacks-name head IsName-head)) split
 
 prefix_once : (x p q : List ℕ) → IsPrefix x p → IsPrefix x q → p ≡ q
 prefix_once x p q (of_head _ a) (of_head _ b) = a ∙ sym b

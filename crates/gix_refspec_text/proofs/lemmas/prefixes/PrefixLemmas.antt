@@ -1,25 +1,16 @@
 -- Prefixes and expansions of sides.
-use Rattle.std.proofs.Common.{◌≡◌, ◌≢◌, inl, inr, ◌≤◌, ◌<◌, ℕ, Bool, true, false, not, ◌↔◌, IsTrue, MatchBool, MatchOption, Bor, if◌then◌else◌, List, [], ◌∷◌, ◌++◌, codes, map, length, get_or, is_ok, Result, Ok, Err, OnOk, OnErr, refl, sym, ap, ◌∙◌, subst, length-append, arith}
+use Rattle.gix_refspec_text.proofs.Common.{◌≡◌, ◌≢◌, inl, inr, ◌≤◌, ◌<◌, ℕ, Bool, true, false, not, ◌↔◌, IsTrue, MatchBool, MatchOption, Bor, if◌then◌else◌, List, [], ◌∷◌, ◌++◌, codes, map, length, get_or, is_ok, Result}
+use Rattle.gix_refspec_text.proofs.Common.{Ok, Err, OnOk, OnErr, refl, sym, ap, ◌∙◌, subst, length-append, arith, append_cancel_left, length-map, map-append, false≢true, IsIdText, digits_of, Lacks, ContainsText}
+use Rattle.gix_refspec_text.proofs.Common.{BeginsWith, IsSplit, HasOneStar, star, slash, head, bracket, Reading, IsId, IsRefPrefix, IsPrefix, of_head, of_name, of_pattern, HasNoPrefix, Expands, to_prefix, to_itself}
+use Rattle.gix_refspec_text.proofs.Common.{below_refs, of_object, to_candidates, IsAsked, IsExpansion, Kind, Sha1, Sha256}
 use Rattle.std.specs.Prelude.{⊤}
 use Rattle.std.specs.Bool.{then_some}
 use Rattle.std.proofs.Math.Seq.{get_or-append_seam}
-use Rattle.std.proofs.lemmas.List.{append_cancel_left, length-map, map-append}
-use Rattle.std.proofs.lemmas.Bool.{false≢true}
-use Rattle.gix_refspec_text.specs.Texts.ObjectId.{IsIdText, digits_of}
-use Rattle.gix_refspec_text.specs.Texts.Words.{Lacks, ContainsText, BeginsWith}
-use Rattle.gix_refspec_text.specs.Texts.Name.{IsSplit, HasOneStar}
-use Rattle.gix_refspec_text.specs.Texts.Bytes.{star, slash, head, bracket}
-use Rattle.gix_refspec_text.specs.Specs.Reading.{Reading}
-use Rattle.gix_refspec_text.specs.Matching.Side.{IsId}
-use Rattle.gix_refspec_text.specs.Matching.Prefix.{IsRefPrefix, IsPrefix, of_head, of_name, of_pattern, HasNoPrefix, Expands, to_prefix, to_itself, below_refs, of_object, to_candidates, IsAsked, IsExpansion}
-use Rattle.gix_refspec_text.specs.declared.oid.Kind.{Kind}
-use Rattle.gix_refspec_text.specs.declared.oid.Kind.TheVariants.{Sha1, Sha256}
+use Rattle.hex.specs.Hex.{is_hex_digit}
 use Rattle.gix_refspec_text.proofs.lemmas.texts.TextLemmas.{Lacks-ContainsText}
-use Rattle.gix_refspec_text.proofs.lemmas.parsing.SideLemmas.{Lacks-name}
-use Rattle.gix_refspec_text.proofs.lemmas.texts.HeadLemmas.{IsName-head}
 use Rattle.gix_refspec_text.proofs.lemmas.hits.MatchLemmas.{lacks_no_pattern, split_once}
 use Rattle.gix_refspec_text.proofs.lemmas.texts.ObjectIdLemmas.{AllPass-IsIdText}
-use Rattle.hex.specs.Hex.{is_hex_digit}
+use Rattle.gix_refspec_text.proofs.lemmas.prefixes.OnePrefixLemmas.{head_no_split, one_prefix}
 
 -- four digits are too few for an id
 short : (kind : Kind) → 4 ≡ digits_of kind → ⊥
@@ -30,19 +21,13 @@ short Sha256 same = omega (arith, same)
 pub id_not_head : (x id : List ℕ) → IsIdText x id → x ≢ head
 id_not_head x id text is = short text.kind (sym (ap length is) ∙ text.digits)
 
--- `HEAD` has no star
-pub head_no_split : (x before after : List ℕ) → x ≡ head → IsSplit before after x → ⊥
-head_no_split x before after is split = lacks_no_pattern x before after (subst (Lacks star) (sym is) (Lacks-name head IsName-head)) split
-
 -- a pattern has no prefix if the texts around its star don't give one
 pub no_prefix : (x before after : List ℕ) → IsSplit before after x → ¬ (IsRefPrefix before after) → HasNoPrefix x
 no_prefix x before after split vague p (of_head is _) = head_no_split x before after is split
 no_prefix x before after split vague p (of_name begins lacks _) = lacks_no_pattern x before after lacks split
 no_prefix x before after split vague p (of_pattern first last other tells _) =
     let once = split_once x first last before after other split in
-    let same_first : first ≡ before = once.0 in
-    let same_last : last ≡ after = once.1 in
-    vague (subst (λ (a : List ℕ). IsRefPrefix before a) same_last (subst (λ (b : List ℕ). IsRefPrefix b last) same_first tells))
+    vague (rw (once.0, once.1) at tells)
 
 -- the text before a star is a prefix if it continues after `refs/` and the pattern contains no bracket
 pub tells : (before after rest : List ℕ) → before ≡ codes "refs/" ++ rest → 1 ≤ length rest → Lacks bracket before → Lacks bracket after → IsRefPrefix before after
@@ -64,11 +49,7 @@ told_bracket before after false lacks holds = absurd (Lacks-ContainsText bracket
 
 -- the expansion of a side with a prefix isn't empty
 pub prefix_expands : (x p : List ℕ) → IsPrefix x p → ¬ (Expands x [])
-prefix_expands x p is (to_prefix q has one) = absurd (cc)
-prefix_expands x p is (to_itself rest none below lacks one) = absurd (cc)
-prefix_expands x p is (below_refs rest none below holds empty) = none p is
-prefix_expands x p is (of_object none outside id empty) = none p is
-prefix_expands x p is (to_candidates none outside unlike six) = absurd (cc)
+prefix_expands x p is nothing = let same = (one_prefix x).expanded (p ∷ []) [] (to_prefix p is refl) nothing in cc
 
 -- nor is that of a side with only one component after `refs/`
 pub itself_expands : (x rest : List ℕ) → x ≡ codes "refs/" ++ rest → Lacks slash rest → ¬ (Expands x [])
@@ -88,14 +69,6 @@ partial_expands x outside unlike (below_refs rest none below holds empty) = outs
 partial_expands x outside unlike (of_object none outside2 id empty) = unlike id
 partial_expands x outside unlike (to_candidates none outside2 unlike2 six) = absurd (cc)
 
--- a side with an empty expansion has no other expansion
-pub nothing_else : (x : List ℕ) (list : List (List ℕ)) → Expands x list → Expands x [] → list ≡ []
-nothing_else x list (to_prefix p is one) nothing = absurd (prefix_expands x p is nothing)
-nothing_else x list (to_itself rest none below lacks one) nothing = absurd (itself_expands x rest below lacks nothing)
-nothing_else x list (below_refs rest none below holds empty) nothing = empty
-nothing_else x list (of_object none outside id empty) nothing = empty
-nothing_else x list (to_candidates none outside unlike six) nothing = absurd (partial_expands x outside unlike nothing)
-
 -- a reading has at most one side on the remote
 pub one_asked : (r : Reading) (x y : List ℕ) → IsAsked r x → IsAsked r y → x ≡ y
 one_asked r x y a b = let p = a.side in let q = b.side in cc
@@ -112,7 +85,7 @@ on_any_error (Err e) holds = holds
 
 -- if the expansion of a reading is empty, that side has no entries
 pub no_entries : {X : Type 0} (f : X → List ℕ) (r : Reading) (x : List ℕ) (entries : List X) → IsAsked r x → Expands x (map f entries) → IsExpansion r [] → length entries ≡ 0
-no_entries f r x entries asked expands nothing = sym (length-map entries f) ∙ ap length (nothing_else x (map f entries) expands (asked_nothing r x asked nothing))
+no_entries f r x entries asked expands nothing = sym (length-map entries f) ∙ ap length ((one_prefix x).expanded (map f entries) [] expands (asked_nothing r x asked nothing))
 
 -- a list with the items of another one appended, mapped by f
 pub appended_ok : {X : Type 0} {E : Type 0} (f : X → List ℕ) (r : Result ⊤ E) (old more new : List X) → new ≡ (if is_ok r then old ++ more else old) → OnOk r (map f new ≡ map f old ++ map f more)

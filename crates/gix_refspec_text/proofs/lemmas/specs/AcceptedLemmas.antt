@@ -1,14 +1,7 @@
 -- The sides of each reading that some text has.
-use Rattle.std.proofs.Common.{◌≡◌, ◌⊎◌, inl, inr, ℕ, List, [], Option, None, Some, sym, subst}
-use Rattle.std.proofs.Math.Logic.{∥∥₁_elim}
-use Rattle.gix_refspec_text.specs.declared.parsing.Operation.{Operation}
-use Rattle.gix_refspec_text.specs.Texts.Words.{Lacks}
-use Rattle.gix_refspec_text.specs.Texts.Name.{IsName, IsPattern, HasStar, HasSeveralStars}
-use Rattle.gix_refspec_text.specs.Texts.Bytes.{star, head}
-use Rattle.gix_refspec_text.specs.Specs.Reading.{Reading, side_on_remote, remote_of}
-use Rattle.gix_refspec_text.specs.Specs.Grammar.{named_by, IsNameOrPattern, AreAlike, Reads, IsAccepted, fetches_nothing_named, fetches_colon, fetches, updates, updates_from_head, fetch_excludes, pushes_plus, pushes_colon, pushes, deletes, pushes_pattern, pushes_to, push_excludes}
-use Rattle.gix_refspec_text.specs.Specs.Refusal.{IsOneStarred}
-use Rattle.gix_refspec_text.specs.declared.parsing.Operation.TheVariants.{Push, Fetch}
+use Rattle.gix_refspec_text.proofs.Common.{◌≡◌, ◌⊎◌, inl, inr, ℕ, List, [], Option, None, Some, sym, subst, ∥∥₁_elim, Operation, Lacks, IsName, IsPattern, HasStar, HasSeveralStars, star, head, Reading, side_on_remote}
+use Rattle.gix_refspec_text.proofs.Common.{remote_of, named_by, IsNameOrPattern, AreAlike, Reads, IsAccepted, fetches_nothing_named, fetches_colon, fetches, updates, updates_from_head, fetch_excludes, pushes_plus}
+use Rattle.gix_refspec_text.proofs.Common.{pushes_colon, pushes, deletes, pushes_pattern, pushes_to, push_excludes, IsOneStarred, Push, Fetch}
 use Rattle.gix_refspec_text.proofs.lemmas.texts.TextLemmas.{Lacks-ContainsText}
 use Rattle.gix_refspec_text.proofs.lemmas.parsing.SideLemmas.{Lacks-name, HasStar-pattern, HasStar-stars, HasSeveralStars-replaced}
 use Rattle.gix_refspec_text.proofs.lemmas.texts.HeadLemmas.{IsName-head}
@@ -40,46 +33,6 @@ alike_few s d (inr patterns) = (pattern_few s patterns.0, pattern_few d patterns
 named_few : (s : List ℕ) → ¬ (HasSeveralStars s) → ¬ (HasSeveralStars (named_by s))
 named_few s few = named_so (λ (x : List ℕ). ¬ (HasSeveralStars x)) s (name_few head IsName-head) few
 
--- both sides of a reading have at most one star
-abbrev pub SidesHaveFew : Reading → Type 0
-SidesHaveFew r = HasFew r.source × HasFew r.destination
-
--- the same for an equal reading
-for_reading : (r q : Reading) → r ≡ q → SidesHaveFew q → SidesHaveFew r
-for_reading r q same few = subst SidesHaveFew (sym same) few
-
-pub reads_few : (op : Operation) (text : List ℕ) (r : Reading) → Reads op text r → SidesHaveFew r
-reads_few op text r (fetches_nothing_named mode _ _ _ is) = for_reading r _ is (name_few head IsName-head, tt)
-reads_few op text r (fetches_colon mode _ _ _ is) = for_reading r _ is (name_few head IsName-head, tt)
-reads_few op text r (fetches mode s _ _ _ name is) = for_reading r _ is (named_few s (name_few s name), tt)
-reads_few op text r (updates mode s d _ _ _ alike is) = let few = alike_few s d alike in for_reading r _ is (named_few s few.0, few.1)
-reads_few op text r (updates_from_head mode d _ _ _ name is) = for_reading r _ is (name_few head IsName-head, name_few d name)
-reads_few op text r (fetch_excludes s _ _ either _ is) = for_reading r _ is (named_few s (either_few s either), tt)
-reads_few op text r (pushes_plus _ _ is) = for_reading r _ is (tt, tt)
-reads_few op text r (pushes_colon mode _ _ _ is) = for_reading r _ is (tt, tt)
-reads_few op text r (pushes mode s _ _ _ either is) = for_reading r _ is (named_few s (either_few s either), tt)
-reads_few op text r (deletes mode d _ _ _ name is) = for_reading r _ is (tt, name_few d name)
-reads_few op text r (pushes_pattern mode s d _ _ _ of_s of_d is) = for_reading r _ is (named_few s (pattern_few s of_s), pattern_few d of_d)
-reads_few op text r (pushes_to mode s d _ _ _ full lacks name is) = for_reading r _ is (named_few s (lacks_few s lacks), name_few d name)
-reads_few op text r (push_excludes s _ _ either _ is) = for_reading r _ is (named_few s (either_few s either), tt)
-
--- so one of the sides doesn't have several stars
-one_few : (r : Reading) (x : List ℕ) → SidesHaveFew r → (r.source ≡ Some x) ⊎ (r.destination ≡ Some x) → ¬ (HasSeveralStars x)
-one_few r x few (inl is) = subst HasFew is few.0
-one_few r x few (inr is) = subst HasFew is few.1
-
--- a side of a reading that some text has doesn't have several stars
-pub accepted_few : (r : Reading) (x : List ℕ) → ∥ IsAccepted r ∥₁ → (r.source ≡ Some x) ⊎ (r.destination ≡ Some x) → ¬ (HasSeveralStars x)
-accepted_few r x accepted side = ∥∥₁_elim accepted (hlevel []) (λ by. one_few r x (reads_few r.operation by.0 r by.1) side)
-
--- the side on the remote is one of the sides
-remote_is : (op : Operation) (s d : Option (List ℕ)) (x : List ℕ) → side_on_remote op s d ≡ Some x → (s ≡ Some x) ⊎ (d ≡ Some x)
-remote_is Push s d x is = inr is
-remote_is Fetch s d x is = inl is
-
-pub remote_few : (r : Reading) (x : List ℕ) → ∥ IsAccepted r ∥₁ → remote_of r ≡ Some x → ¬ (HasSeveralStars x)
-remote_few r x accepted is = accepted_few r x accepted (remote_is r.operation r.source r.destination x is)
-
 -- two texts without a star are balanced, and so are two texts with one
 neither_starred : (s d : List ℕ) → Lacks star s → Lacks star d → ¬ (IsOneStarred s d)
 neither_starred s d lacks_s lacks_d (inl one) = Lacks-ContainsText star s lacks_s one.0
@@ -95,30 +48,48 @@ alike_balanced s d (inr patterns) = both_starred (named_by s) d (subst HasStar (
 
 -- if both sides are present, not exactly one of them has a star
 abbrev pub AreBalanced : Option (List ℕ) → Option (List ℕ) → Type 0
-AreBalanced None d = Unit {0}
-AreBalanced (Some s) None = Unit {0}
 AreBalanced (Some s) (Some d) = ¬ (IsOneStarred s d)
+AreBalanced s d = Unit {0}
 
--- the same for an equal reading
-for_sides : (r q : Reading) → r ≡ q → AreBalanced q.source q.destination → AreBalanced r.source r.destination
-for_sides r q same balanced = subst (λ (x : Reading). AreBalanced x.source x.destination) (sym same) balanced
+-- both sides of a reading have at most one star, and not exactly one of them has one
+abbrev pub AreSound : Reading → Type 0
+AreSound r = HasFew r.source × HasFew r.destination × AreBalanced r.source r.destination
 
-reads_balanced : (op : Operation) (text : List ℕ) (r : Reading) → Reads op text r → AreBalanced r.source r.destination
-reads_balanced op text r (fetches_nothing_named mode _ _ _ is) = for_sides r _ is tt
-reads_balanced op text r (fetches_colon mode _ _ _ is) = for_sides r _ is tt
-reads_balanced op text r (fetches mode s _ _ _ name is) = for_sides r _ is tt
-reads_balanced op text r (updates mode s d _ _ _ alike is) = for_sides r _ is (alike_balanced s d alike)
-reads_balanced op text r (updates_from_head mode d _ _ _ name is) = for_sides r _ is (neither_starred head d (Lacks-name head IsName-head) (Lacks-name d name))
-reads_balanced op text r (fetch_excludes s _ _ either _ is) = for_sides r _ is tt
-reads_balanced op text r (pushes_plus _ _ is) = for_sides r _ is tt
-reads_balanced op text r (pushes_colon mode _ _ _ is) = for_sides r _ is tt
-reads_balanced op text r (pushes mode s _ _ _ either is) = for_sides r _ is tt
-reads_balanced op text r (deletes mode d _ _ _ name is) = for_sides r _ is tt
-reads_balanced op text r (pushes_pattern mode s d _ _ _ of_s of_d is) = for_sides r _ is (alike_balanced s d (inr (of_s, of_d)))
-reads_balanced op text r (pushes_to mode s d _ _ _ full lacks name is) = for_sides r _ is (neither_starred (named_by s) d (named_so (Lacks star) s (Lacks-name head IsName-head) lacks) (Lacks-name d name))
-reads_balanced op text r (push_excludes s _ _ either _ is) = for_sides r _ is tt
+reads_sound : (op : Operation) (text : List ℕ) (r : Reading) → Reads op text r → AreSound r
+reads_sound op text r (fetches_nothing_named _ _ _ _ is) = subst AreSound (sym is) (name_few head IsName-head, tt, tt)
+reads_sound op text r (fetches_colon _ _ _ _ is) = subst AreSound (sym is) (name_few head IsName-head, tt, tt)
+reads_sound op text r (fetches _ s _ _ _ name is) = subst AreSound (sym is) (named_few s (name_few s name), tt, tt)
+reads_sound op text r (updates _ s d _ _ _ alike is) = let few = alike_few s d alike in subst AreSound (sym is) (named_few s few.0, few.1, alike_balanced s d alike)
+reads_sound op text r (updates_from_head _ d _ _ _ name is) = subst AreSound (sym is) (name_few head IsName-head, name_few d name, neither_starred head d (Lacks-name head IsName-head) (Lacks-name d name))
+reads_sound op text r (fetch_excludes s _ _ either _ is) = subst AreSound (sym is) (named_few s (either_few s either), tt, tt)
+reads_sound op text r (pushes_plus _ _ is) = subst AreSound (sym is) (tt, tt, tt)
+reads_sound op text r (pushes_colon _ _ _ _ is) = subst AreSound (sym is) (tt, tt, tt)
+reads_sound op text r (pushes _ s _ _ _ either is) = subst AreSound (sym is) (named_few s (either_few s either), tt, tt)
+reads_sound op text r (deletes _ d _ _ _ name is) = subst AreSound (sym is) (tt, name_few d name, tt)
+reads_sound op text r (pushes_pattern _ s d _ _ _ of_s of_d is) = subst AreSound (sym is) (named_few s (pattern_few s of_s), pattern_few d of_d, alike_balanced s d (inr (of_s, of_d)))
+reads_sound op text r (pushes_to _ s d _ _ _ full lacks name is) =
+    let source = named_so (Lacks star) s (Lacks-name head IsName-head) lacks in
+    subst AreSound (sym is) (lacks_few (named_by s) source, name_few d name, neither_starred (named_by s) d source (Lacks-name d name))
+reads_sound op text r (push_excludes s _ _ either _ is) = subst AreSound (sym is) (named_few s (either_few s either), tt, tt)
+
+-- so one of the sides doesn't have several stars
+one_few : (r : Reading) (x : List ℕ) → AreSound r → (r.source ≡ Some x) ⊎ (r.destination ≡ Some x) → ¬ (HasSeveralStars x)
+one_few r x sound (inl is) = subst HasFew is sound.0
+one_few r x sound (inr is) = subst HasFew is sound.1
+
+-- a side of a reading that some text has doesn't have several stars
+pub accepted_few : (r : Reading) (x : List ℕ) → ∥ IsAccepted r ∥₁ → (r.source ≡ Some x) ⊎ (r.destination ≡ Some x) → ¬ (HasSeveralStars x)
+accepted_few r x accepted side = ∥∥₁_elim accepted (hlevel []) (λ by. one_few r x (reads_sound r.operation by.0 r by.1) side)
+
+-- the side on the remote is one of the sides
+remote_is : (op : Operation) (s d : Option (List ℕ)) (x : List ℕ) → side_on_remote op s d ≡ Some x → (s ≡ Some x) ⊎ (d ≡ Some x)
+remote_is Push s d x is = inr is
+remote_is Fetch s d x is = inl is
+
+pub remote_few : (r : Reading) (x : List ℕ) → ∥ IsAccepted r ∥₁ → remote_of r ≡ Some x → ¬ (HasSeveralStars x)
+remote_few r x accepted is = accepted_few r x accepted (remote_is r.operation r.source r.destination x is)
 
 -- if some text has the reading, not exactly one of its two sides has a star
 pub accepted_balanced : (r : Reading) (s d : List ℕ) → ∥ IsAccepted r ∥₁ → r.source ≡ Some s → r.destination ≡ Some d → ¬ (IsOneStarred s d)
 accepted_balanced r s d accepted source destination =
-    ∥∥₁_elim accepted (hlevel []) (λ by. subst (λ y. AreBalanced (Some s) y) destination (subst (λ x. AreBalanced x r.destination) source (reads_balanced r.operation by.0 r by.1)))
+    ∥∥₁_elim accepted (hlevel []) (λ by. subst (λ y. AreBalanced (Some s) y) destination (subst (λ x. AreBalanced x r.destination) source (reads_sound r.operation by.0 r by.1).2))

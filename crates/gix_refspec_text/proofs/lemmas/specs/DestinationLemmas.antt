@@ -1,13 +1,7 @@
 -- A reading with another destination.
-use Rattle.std.proofs.Common.{inl, inr, ℕ, List, [], ◌∷◌, Some, IfSome, IsSome, refl, sym, ap, subst}
-use Rattle.std.proofs.Math.Logic.{∥∥₁_map}
-use Rattle.gix_refspec_text.specs.declared.parsing.Operation.{Operation}
-use Rattle.gix_refspec_text.specs.Texts.Words.{Lacks}
-use Rattle.gix_refspec_text.specs.Texts.Name.{IsName}
-use Rattle.gix_refspec_text.specs.declared.name.Error.TheVariants.{Empty}
-use Rattle.gix_refspec_text.specs.Texts.Bytes.{star, head, colon, plus}
-use Rattle.gix_refspec_text.specs.Specs.Reading.{Mode, Normal, Forced, Negative, Reading, with_destination}
-use Rattle.gix_refspec_text.specs.Specs.Grammar.{named_by, AreParts, IsAccepted, IsPositive, Reads, fetched, pushed, fetches_nothing_named, fetches_colon, fetches, updates, updates_from_head, fetch_excludes, pushes_plus, pushes_colon, pushes, deletes, pushes_pattern, pushes_to, push_excludes}
+use Rattle.gix_refspec_text.proofs.Common.{inl, inr, ℕ, List, [], ◌∷◌, Some, IfSome, IsSome, refl, sym, ap, subst, ∥∥₁_map, Operation, Lacks, IsName, Empty, star, head, colon, plus, Mode, Normal, Forced, Negative}
+use Rattle.gix_refspec_text.proofs.Common.{Reading, with_destination, named_by, AreParts, IsAccepted, IsPositive, Reads, fetched, pushed, fetches_nothing_named, fetches_colon, fetches, updates, updates_from_head}
+use Rattle.gix_refspec_text.proofs.Common.{fetch_excludes, pushes_plus, pushes_colon, pushes, deletes, pushes_pattern, pushes_to, push_excludes}
 use Rattle.gix_refspec_text.proofs.lemmas.texts.TextLemmas.{Lacks-ContainsText}
 use Rattle.gix_refspec_text.proofs.lemmas.texts.HeadLemmas.{IsName-head, Lacks-colon_name}
 use Rattle.gix_refspec_text.proofs.lemmas.parsing.SideLemmas.{HasStar-pattern, Lacks-name}

@@ -1,10 +1,6 @@
 -- Readings of fetches that no text was given for.
-use Rattle.std.proofs.Common.{◌≡◌, ◌⊎◌, inl, inr, ℕ, List, [], Some, codes, refl, sym, subst, arith}
-use Rattle.gix_refspec_text.specs.Texts.Words.{BeginsWith}
-use Rattle.gix_refspec_text.specs.Texts.Name.{IsName}
-use Rattle.gix_refspec_text.specs.Texts.Bytes.{head}
-use Rattle.gix_refspec_text.specs.Specs.Reading.{Normal, fetched_alone, all_tags}
-use Rattle.gix_refspec_text.specs.Specs.Grammar.{IsAccepted, IsUnsigned, fetches, named_by, updates}
+use Rattle.gix_refspec_text.proofs.Common.{◌≡◌, ◌⊎◌, inl, inr, ℕ, List, [], Some, codes, refl, sym, subst, arith, BeginsWith, IsName, head, Normal, fetched_alone, all_tags, IsAccepted, IsUnsigned, fetches, named_by}
+use Rattle.gix_refspec_text.proofs.Common.{updates}
 use Rattle.gix_refspec_text.proofs.lemmas.texts.HeadLemmas.{Lacks-colon_name}
 use Rattle.gix_refspec_text.proofs.facts.GrammarFacts.{parts}
 use Rattle.gix_refspec_text.proofs.facts.ManualFacts.{IsPattern-tested}

@@ -1,22 +1,17 @@
 -- Each form is printed as a text that reads back with the same meaning.
-use Rattle.std.proofs.Common.{◌≡◌, ◌≢◌, ◌⊎◌, inl, inr, ℕ, Bool, List, [], ◌∷◌, ◌++◌, Option, None, Some, option_map, refl, sym, ap, ◌∙◌, subst, arith}
-use Rattle.gix_refspec_text.specs.declared.parsing.Operation.{Operation}
-use Rattle.gix_refspec_text.specs.declared.parsing.Operation.TheVariants.{Push, Fetch}
-use Rattle.gix_refspec_text.specs.Texts.Words.{Lacks}
-use Rattle.gix_refspec_text.specs.Texts.Name.{IsName, IsPattern}
-use Rattle.gix_refspec_text.specs.Texts.Bytes.{star, plus, caret, colon, head}
-use Rattle.gix_refspec_text.specs.Specs.Reading.{Mode, Normal, Forced, Negative, Reading}
-use Rattle.gix_refspec_text.specs.Specs.Grammar.{named_by, IsPositive, IsNameOrPattern, AreAlike, AreParts, LooksLikeObjectHash, fetched, pushed, Reads, fetches_nothing_named, fetches_colon, fetches, updates, updates_from_head, fetch_excludes, pushes_plus, pushes_colon, pushes, deletes, pushes_pattern, pushes_to, push_excludes}
-use Rattle.gix_refspec_text.specs.Specs.Meaning.{meaning, meaning_of, included, printed, text_of, sign, begins_with_plus, push_all_matching, push_delete, push_matching, push_exclude, fetch_only, fetch_exclude, fetch_and_update}
-use Rattle.gix_refspec_text.specs.Laws.Readings.{IsPrintedBack, ReadsOrRefused, EqualTexts}
+use Rattle.gix_refspec_text.proofs.Common.{◌≡◌, ◌≢◌, ◌⊎◌, inl, inr, ℕ, Bool, List, [], ◌∷◌, ◌++◌, Option, None, Some, option_map, refl, sym, ap, ◌∙◌, subst, arith, Operation, Push, Fetch, Lacks, IsName, IsPattern, star}
+use Rattle.gix_refspec_text.proofs.Common.{plus, caret, colon, head, Mode, Normal, Forced, Negative, Reading, named_by, IsPositive, IsNameOrPattern, AreAlike, AreParts, LooksLikeObjectHash, fetched, pushed, Reads}
+use Rattle.gix_refspec_text.proofs.Common.{fetches_nothing_named, fetches_colon, fetches, updates, updates_from_head, fetch_excludes, pushes_plus, pushes_colon, pushes, deletes, pushes_pattern, pushes_to, push_excludes}
+use Rattle.gix_refspec_text.proofs.Common.{meaning, meaning_of, included, printed, text_of, sign, begins_with_plus, push_all_matching, push_delete, push_matching, push_exclude, fetch_only, fetch_exclude}
+use Rattle.gix_refspec_text.proofs.Common.{fetch_and_update, IsPrintedBack, ReadsOrRefused, EqualTexts, same_Some}
 use Rattle.gix_refspec_text.proofs.lemmas.parsing.SideLemmas.{Lacks-name}
 use Rattle.gix_refspec_text.proofs.lemmas.parsing.DecideLemmas.{tested}
 use Rattle.gix_refspec_text.proofs.lemmas.texts.HeadLemmas.{IsName-head, Lacks-colon_name, unsigned_name}
 use Rattle.gix_refspec_text.proofs.lemmas.parsing.ReadsLemmas.{name_not_empty, pattern_not_empty, either_not_empty}
 use Rattle.gix_refspec_text.proofs.lemmas.parsing.ReadOnceLemmas.{reads_once, alike_full}
 use Rattle.gix_refspec_text.proofs.lemmas.parsing.SettleLemmas.{read_or_refused}
-use Rattle.gix_refspec_text.proofs.lemmas.specs.ReadBackLemmas.{printed_back, named_so, named_name, named_once, named_pattern, named_either, named_alike, named_full, named_parts, is_forced, Lacks-colon_either, head_unsigned, colon_unsigned}
-use Rattle.std.proofs.lemmas.Option.{same_Some}
+use Rattle.gix_refspec_text.proofs.lemmas.specs.ReadBackLemmas.{printed_back, named_so, named_name, named_once, named_pattern, named_either, named_alike, named_full, named_parts, is_forced, Lacks-colon_either}
+use Rattle.gix_refspec_text.proofs.lemmas.specs.ReadBackLemmas.{head_unsigned, colon_unsigned}
 
 -- the meaning of a positive spec
 means : (op : Operation) (m : Mode) (s d : Option (List ℕ)) → IsPositive m → meaning op m s d ≡ included op (is_forced m) s d

@@ -1,14 +1,7 @@
 -- The canonical text of each form reads back with the same meaning.
-use Rattle.std.proofs.Common.{◌≡◌, ◌≢◌, ◌⊎◌, inl, inr, ◌==◌, ℕ, Bool, true, false, if◌then◌else◌, List, [], ◌∷◌, ◌++◌, Option, None, Some, option_map, refl, sym, ap, ◌∙◌, subst, arith}
-use Rattle.gix_refspec_text.specs.declared.parsing.Operation.{Operation}
-use Rattle.gix_refspec_text.specs.Texts.Words.{Lacks}
-use Rattle.gix_refspec_text.specs.Texts.Name.{IsName, IsPattern}
-use Rattle.gix_refspec_text.specs.Texts.Bytes.{star, plus, caret, colon, at, head}
-use Rattle.gix_refspec_text.specs.Specs.Reading.{Mode, Normal, Forced, Negative, Reading}
-use Rattle.gix_refspec_text.specs.Specs.Grammar.{named_by, IsUnsigned, IsPositive, IsNameOrPattern, AreAlike, AreParts, with_colon, Reads}
-use Rattle.gix_refspec_text.specs.Specs.Meaning.{Meaning, meaning_of, text_of, sign}
-use Rattle.gix_refspec_text.specs.Laws.Readings.{IsPrintedBack}
-use Rattle.std.proofs.lemmas.Bool.{eqb-true}
+use Rattle.gix_refspec_text.proofs.Common.{◌≡◌, ◌≢◌, ◌⊎◌, inl, inr, ◌==◌, ℕ, Bool, true, false, if◌then◌else◌, List, [], ◌∷◌, ◌++◌, Option, None, Some, option_map, refl, sym, ap, ◌∙◌, subst, arith, Operation, Lacks}
+use Rattle.gix_refspec_text.proofs.Common.{IsName, IsPattern, star, plus, caret, colon, at, head, Mode, Normal, Forced, Negative, Reading, named_by, IsUnsigned, IsPositive, IsNameOrPattern, AreAlike, AreParts}
+use Rattle.gix_refspec_text.proofs.Common.{with_colon, Reads, Meaning, meaning_of, text_of, sign, IsPrintedBack, eqb-true}
 use Rattle.gix_refspec_text.proofs.lemmas.texts.TextLemmas.{Lacks-ContainsText}
 use Rattle.gix_refspec_text.proofs.lemmas.parsing.SideLemmas.{HasStar-pattern}
 use Rattle.gix_refspec_text.proofs.lemmas.parsing.DecideLemmas.{tested}

@@ -1,41 +1,22 @@
 -- Facts on accepted readings, without a text that has the reading at hand.
-use Rattle.std.proofs.Common.{◌≡◌, ℕ, Bool, true, false, List, Option, None, Some, option_map, refl, sym, ap, ◌∙◌, subst, inl, inr}
-use Rattle.std.specs.Prelude.{nat_eq, ◌↔◌}
-use Rattle.std.specs.Cmp.Lexicographic.{pointwise}
-use Rattle.std.proofs.lemmas.Bool.{false≢true}
-use Rattle.std.proofs.lemmas.Grind.{not_there}
-use Rattle.gix_refspec_text.specs.declared.parsing.Operation.{Operation}
-use Rattle.gix_refspec_text.specs.declared.parsing.Operation.TheVariants.{Push, Fetch}
-use Rattle.gix_refspec_text.specs.Specs.Reading.{Mode, Normal, Forced, Negative, Reading}
-use Rattle.gix_refspec_text.specs.Specs.Grammar.{Reads, fetches_nothing_named, fetches_colon, fetches, updates, updates_from_head, fetch_excludes, pushes_plus, pushes_colon, pushes, deletes, pushes_pattern, pushes_to, push_excludes, IsAccepted}
-use Rattle.gix_refspec_text.specs.Specs.Meaning.{Meaning, included, excluded, meaning, meaning_of, text_of, printed}
-use Rattle.gix_refspec_text.specs.Specs.Order.{keys}
+use Rattle.gix_refspec_text.proofs.Common.{◌≡◌, ℕ, Bool, true, false, List, Option, None, Some, option_map, refl, sym, ap, ◌∙◌, subst, inl, inr, nat_eq, ◌↔◌, pointwise, false≢true, not_there, Operation, Push, Fetch}
+use Rattle.gix_refspec_text.proofs.Common.{Mode, Normal, Forced, Negative, Reading, Reads, IsAccepted, Meaning, included, excluded, meaning, meaning_of, text_of, printed, keys, meant_for, IsPrintedBack, KeepsOperation}
+use Rattle.gix_refspec_text.proofs.Common.{SaysForOperation, EqualReadings, same_Some}
 use Rattle.gix_refspec_text.specs.Laws.Order.{same_meaning, same_keys}
-use Rattle.gix_refspec_text.specs.Views.Instruction.{meant_for}
-use Rattle.gix_refspec_text.specs.Laws.Readings.{IsPrintedBack, KeepsOperation, SaysForOperation, EqualReadings}
 use Rattle.gix_refspec_text.proofs.lemmas.specs.FormsBackLemmas.{read_back, once_or_refused, equal_texts}
-use Rattle.std.proofs.lemmas.Option.{same_Some}
+use Rattle.gix_refspec_text.proofs.lemmas.parsing.ReadOnceLemmas.{made, is_made}
 
 -- ---- operations
 
-of_operation : (op o : Operation) (r q : Reading) → op ≡ o → r ≡ q → q.operation ≡ o → r.operation ≡ op
-of_operation op o r q same is at = ap (λ (x : Reading). x.operation) is ∙ (at ∙ sym same)
-
 -- each reading of a text for an operation has that operation
 pub keeps_operation : (op : Operation) (text : List ℕ) → KeepsOperation op text
-keeps_operation op text r (fetches_nothing_named m fetch pos parts is) = of_operation op Fetch r _ fetch is refl
-keeps_operation op text r (fetches_colon m fetch pos parts is) = of_operation op Fetch r _ fetch is refl
-keeps_operation op text r (fetches m s fetch pos parts name is) = of_operation op Fetch r _ fetch is refl
-keeps_operation op text r (updates m s d fetch pos parts alike is) = of_operation op Fetch r _ fetch is refl
-keeps_operation op text r (updates_from_head m d fetch pos parts name is) = of_operation op Fetch r _ fetch is refl
-keeps_operation op text r (fetch_excludes s fetch parts either hash is) = of_operation op Fetch r _ fetch is refl
-keeps_operation op text r (pushes_plus push parts is) = of_operation op Push r _ push is refl
-keeps_operation op text r (pushes_colon m push pos parts is) = of_operation op Push r _ push is refl
-keeps_operation op text r (pushes m s push pos parts either is) = of_operation op Push r _ push is refl
-keeps_operation op text r (deletes m d push pos parts name is) = of_operation op Push r _ push is refl
-keeps_operation op text r (pushes_pattern m s d push pos parts source destination is) = of_operation op Push r _ push is refl
-keeps_operation op text r (pushes_to m s d push pos parts full plain name is) = of_operation op Push r _ push is refl
-keeps_operation op text r (push_excludes s push parts either hash is) = of_operation op Push r _ push is refl
+keeps_operation op text r reads =
+    let parts = is_made op text r reads in
+    ap (λ (x : Reading). x.operation) parts.is ∙ made_for op parts.of.mode parts.of.source parts.of.destination
+  where
+    made_for : (o : Operation) (m : Mode) (s : List ℕ) (d : Option (List ℕ)) → (made o m s d).operation ≡ o
+    made_for Push m s d = refl
+    made_for Fetch m s d = refl
 
 -- the operation of a meaning, or a default
 abbrev operation_or : Operation → Option Meaning → Operation

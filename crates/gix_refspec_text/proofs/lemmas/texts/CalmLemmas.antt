@@ -1,15 +1,11 @@
 -- Which bytes are calm, by the mask of two loads: of the bytes, and of the bytes before them.
-use Rattle.std.proofs.Common.{◌≡◌, ◌≢◌, ℕ, ◌+◌, ◌-◌, ◌%◌, ◌^◌, ◌<◌, ◌≤◌, ◌||◌, eqb, ltb, cond, Bool, true, false, not, List, [], ◌∷◌, map, length, get_or, replicate, bit_and, bit_or, Fits, w8, refl, sym, ap, ap₂, ◌∙◌, subst, inl, inr, arith}
-use Rattle.std.proofs.lemmas.Bool.{agree_below_at, not-true, cond-true, cond-false, eq-eqb, ne_eqb, cases_eq}
-use Rattle.std.proofs.lemmas.Simd.{mask_l-mod, length-zip2, get_or-zip2, length-chunk, get_or-chunk, leading_from_mask_l, trailing_mask_l}
-use Rattle.std.proofs.lemmas.List.{length-map, get_or-map}
-use Rattle.std.specs.List.{prefix_len}
-use Rattle.std.proofs.lemmas.List.Sums.{prefix_len-le-length, prefix_len_passes}
-use lib.Lanes.{chunk, zip2, mask_l, top}
+use Rattle.gix_refspec_text.proofs.Common.{◌≡◌, ◌≢◌, ℕ, ◌+◌, ◌-◌, ◌%◌, ◌^◌, ◌<◌, ◌≤◌, ◌||◌, eqb, ltb, cond, Bool, true, false, not, List, [], ◌∷◌, map, length, get_or, replicate, bit_and, bit_or, w8, refl, sym, ap, ap₂}
+use Rattle.gix_refspec_text.proofs.Common.{◌∙◌, subst, inl, inr, arith, agree_below_at, not-true, cond-true, cond-false, eq-eqb, ne_eqb, cases_eq, mask_l-mod, length-zip2, get_or-zip2, length-chunk, get_or-chunk}
+use Rattle.gix_refspec_text.proofs.Common.{leading_from_mask_l, trailing_mask_l, length-map, get_or-map, prefix_len, prefix_len-le-length, prefix_len_passes, chunk, zip2, mask_l, top, slash, class_at, IsCalm, AreCalm}
+use Rattle.gix_refspec_text.proofs.Common.{lowest_of}
+use Rattle.std.proofs.Common.{Fits}
 use Rattle.gix_refspec_text.specs.declared.name.class.Class.{Class}
 use Rattle.gix_refspec_text.specs.declared.name.class.Class.TheVariants.{Plain, Slash, Dot, Brace, Star, Refused}
-use Rattle.gix_refspec_text.specs.Texts.Bytes.{slash}
-use Rattle.gix_refspec_text.specs.Private.Scan.{class_at, IsCalm, AreCalm, lowest_of}
 
 zip2-map : (h : ℕ → ℕ → ℕ) (f g : ℕ → ℕ) (xs : List ℕ) → zip2 h (map f xs) (map g xs) ≡ map (λ x. h (f x) (g x)) xs
 zip2-map h f g [] = refl

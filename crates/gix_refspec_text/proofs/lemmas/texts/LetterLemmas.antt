@@ -1,15 +1,9 @@
 -- A text with letters in place of its stars has the faults that one pass over the text finds.
-use Rattle.std.proofs.Common.{◌≡◌, ◌≢◌, ℕ, List, [], ◌∷◌, ◌++◌, codes, length, take, drop, get_or, suc, ◌<◌, Option, Some, None, MatchOption, true, refl, sym, ap, ◌∙◌, subst, inl, inr, if◌then◌else◌, arith, append_assoc, Bool, zero, ◌-◌, ◌≤◌, false, ◌==◌, ◌+◌}
-use Rattle.std.proofs.lemmas.Bool.{false≢true, cases_eq, eq-eqb, ne_eqb}
-use Rattle.std.proofs.lemmas.List.{map-append, take_more}
-use Rattle.std.proofs.lemmas.List.Sums.{count_by_more_no}
+use Rattle.gix_refspec_text.proofs.Common.{◌≡◌, ◌≢◌, ℕ, List, [], ◌∷◌, ◌++◌, codes, length, take, drop, get_or, suc, ◌<◌, Option, Some, None, MatchOption, true, refl, sym, ap, ◌∙◌, subst, inl, inr, if◌then◌else◌, arith}
+use Rattle.gix_refspec_text.proofs.Common.{append_assoc, Bool, zero, ◌-◌, ◌≤◌, false, ◌==◌, ◌+◌, false≢true, cases_eq, eq-eqb, ne_eqb, map-append, take_more, count_by_more_no, Error, Empty, EmptyComponent, StartsWithDot}
+use Rattle.gix_refspec_text.proofs.Common.{LockSuffix, EndsWithDot, RepeatedDot, ReflogPortion, Asterisk, InvalidByte, Lacks, EndsWith, slash, star, letter, dot, brace, is_refused_byte, HasFault, IsName, IsSplit}
+use Rattle.gix_refspec_text.proofs.Common.{IsPattern, HasOneStar, ReplacesStar, class_at, AddsFault, IsClean, LeavesFault, Finds, letter_for, with_letters, IsScanned, IsCalm, AreCalm}
 use Rattle.gix_refspec_text.specs.declared.name.class.Class.TheVariants.{Plain, Slash, Dot, Brace, Star, Refused}
-use Rattle.gix_refspec_text.specs.declared.name.Error.{Error}
-use Rattle.gix_refspec_text.specs.declared.name.Error.TheVariants.{Empty, EmptyComponent, StartsWithDot, LockSuffix, EndsWithDot, RepeatedDot, ReflogPortion, Asterisk, InvalidByte}
-use Rattle.gix_refspec_text.specs.Texts.Words.{Lacks, EndsWith}
-use Rattle.gix_refspec_text.specs.Texts.Bytes.{slash, star, letter, dot, brace}
-use Rattle.gix_refspec_text.specs.Texts.Name.{is_refused_byte, HasFault, IsName, IsSplit, IsPattern, HasOneStar, ReplacesStar}
-use Rattle.gix_refspec_text.specs.Private.Scan.{class_at, AddsFault, IsClean, LeavesFault, Finds, letter_for, with_letters, IsScanned, IsCalm, AreCalm}
 use Rattle.gix_refspec_text.proofs.lemmas.texts.TextLemmas.{split_at}
 use Rattle.gix_refspec_text.proofs.lemmas.texts.NameLemmas.{IsClean-more, HasFault-added, answer_at_end, slash_adds, last_byte}
 
@@ -31,20 +25,14 @@ same_byte b c other same =
     ]
 
 same_word : (y w : List ℕ) → Lacks letter w → with_letters y ≡ w → y ≡ w
-same_word [] [] lacks same = refl
-same_word [] (c ∷ w) lacks same = cc
-same_word (b ∷ y) [] lacks same = cc
-same_word (b ∷ y) (c ∷ w) lacks same =
-    let heads : letter_for b ≡ c = cc in
-    let tails : with_letters y ≡ w = cc in
-    ap (λ d. d ∷ y) (same_byte b c lacks.0 heads) ∙ ap (λ z. c ∷ z) (same_word y w lacks.1 tails)
+same_word (b ∷ y) (c ∷ w) lacks same = ap (λ d. d ∷ y) (same_byte b c lacks.0 (cc)) ∙ ap (λ z. c ∷ z) (same_word y w lacks.1 (cc))
+same_word y w lacks same = cc
 
 end_before : (y p w : List ℕ) → Lacks letter w → with_letters y ≡ p ++ w → EndsWith w y
 end_before y [] w lacks same = record { before = []; here = same_word y w lacks same }
 end_before [] (c ∷ p) w lacks same = cc
 end_before (b ∷ y) (c ∷ p) w lacks same =
-    let tails : with_letters y ≡ p ++ w = cc in
-    let end = end_before y p w lacks tails in
+    let end = end_before y p w lacks (cc) in
     record { before = b ∷ end.before; here = ap (λ z. b ∷ z) end.here }
 
 -- a word without the letter and without a star
@@ -94,15 +82,8 @@ LeavesFault-as x y ends EndsWithDot left = ends (codes ".") dot_kept left
 LeavesFault-as x y ends _ left = left
 
 letter_adds_nothing : (y : List ℕ) (e : Error) → ¬ (AddsFault y letter e)
-letter_adds_nothing y Empty fault = fault
-letter_adds_nothing y EmptyComponent fault = absurd (omega (arith, fault.0))
-letter_adds_nothing y StartsWithDot fault = absurd (omega (arith, fault.0))
-letter_adds_nothing y LockSuffix fault = absurd (omega (arith, fault.0))
-letter_adds_nothing y EndsWithDot fault = fault
-letter_adds_nothing y RepeatedDot fault = absurd (omega (arith, fault.0))
-letter_adds_nothing y ReflogPortion fault = absurd (omega (arith, fault.0))
-letter_adds_nothing y Asterisk fault = absurd (omega (arith, fault))
 letter_adds_nothing y (InvalidByte c) fault = false≢true (subst (λ b. is_refused_byte b ≡ true) (sym fault.0) fault.1)
+letter_adds_nothing y _ fault = search arith
 
 -- one more byte adds none: a star, or another one that adds none to the text
 pub clean_after_star : (y : List ℕ) (b : ℕ) → b ≡ star → IsClean (with_letters y) → IsClean (with_letters (y ++ (b ∷ [])))

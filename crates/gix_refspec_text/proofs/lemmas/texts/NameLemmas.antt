@@ -1,21 +1,12 @@
 -- The faults that one pass over the bytes finds are the faults of a name.
-use Rattle.std.proofs.Common.{◌≡◌, ◌≢◌, ℕ, List, [], ◌∷◌, ◌++◌, codes, length, take, drop, get_or, ◌+◌, ◌<◌, ◌≤◌, suc, Option, Some, None, MatchOption, true, IsTrue, refl, sym, ap, ◌∙◌, subst, inl, inr, append_assoc, arith, add-one, drop-cons, take-append-drop, Bool, ◌-◌, nat_eq, Decides}
-use Rattle.std.specs.List.{ends_with}
-use Rattle.std.proofs.lemmas.Slice.Eq.{ends_is}
-use Rattle.std.proofs.lemmas.Bool.Decides.{Decides-eqb}
-use Rattle.std.proofs.lemmas.List.{append-nil, append_cancel_left}
-use Rattle.std.specs.Prelude.{◌⊎◌}
-use Rattle.std.proofs.lemmas.Bool.{false≢true}
-use Rattle.gix_refspec_text.specs.declared.name.Error.{Error}
-use Rattle.gix_refspec_text.specs.declared.name.Error.TheVariants.{Empty, EmptyComponent, StartsWithDot, LockSuffix, EndsWithDot, RepeatedDot, ReflogPortion, Asterisk, InvalidByte}
-use Rattle.gix_refspec_text.specs.Texts.Words.{Lacks, ContainsText, BeginsWith, EndsWith}
-use Rattle.gix_refspec_text.specs.Texts.Bytes.{slash, star, dot, brace}
-use Rattle.gix_refspec_text.specs.Texts.Name.{is_refused_byte, SomeComponent, HasFault, IsName}
-use Rattle.gix_refspec_text.specs.Private.Scan.{AddsFault, Added, IsClean, LeavesFault, Finds}
-use Rattle.std.proofs.Math.ListN.{drop_of_length-le}
+use Rattle.gix_refspec_text.proofs.Common.{◌≡◌, ◌≢◌, ℕ, List, [], ◌∷◌, ◌++◌, codes, length, take, drop, get_or, ◌+◌, ◌<◌, ◌≤◌, suc, Option, Some, None, MatchOption, true, IsTrue, refl, sym, ap, ◌∙◌, subst, inl, inr}
+use Rattle.gix_refspec_text.proofs.Common.{append_assoc, arith, add-one, drop-cons, take-append-drop, Bool, ◌-◌, nat_eq, Decides, ends_with, ends_is, Decides-eqb, append-nil, ◌⊎◌, false≢true, Error, Empty}
+use Rattle.gix_refspec_text.proofs.Common.{EmptyComponent, StartsWithDot, LockSuffix, EndsWithDot, RepeatedDot, ReflogPortion, Asterisk, InvalidByte, Lacks, ContainsText, BeginsWith, EndsWith, slash, star, dot, brace}
+use Rattle.gix_refspec_text.proofs.Common.{is_refused_byte, SomeComponent, HasFault, IsName, AddsFault, Added, IsClean, LeavesFault, Finds, drop_of_length-le, length-append}
 use Rattle.gix_refspec_text.proofs.lemmas.texts.TextLemmas.{split_at}
 use Rattle.gix_refspec_text.proofs.lemmas.texts.ComponentLemmas.{IsEnd, IsComponent, Pieces, pieces_of, fenced, fenced-IsEnd, LastSlash, last_slash_after_one, SomeComponent-from, SomeComponent-index}
 use Rattle.gix_refspec_text.proofs.lemmas.lists.AllLemmas.{all_join}
+use Rattle.std.proofs.Math.Seq.{get_or-append_seam}
 
 drop_at : (x : List ℕ) (i : ℕ) → i < length x → drop i x ≡ get_or x i 0 ∷ drop (i + 1) x
 drop_at x i below = rw (add-one, drop-cons x i 0)
@@ -34,26 +25,18 @@ index_with_one_more [] [] r c b same = inl (refl, cc)
 index_with_one_more (x ∷ y) [] r c b same = inr (record { after = y; here = cc })
 index_with_one_more [] (q ∷ p) r c b same = let tails : [] ≡ p ++ (b ∷ r) = cc in absurd (no_middle p r b tails)
 index_with_one_more (x ∷ y) (q ∷ p) r c b same =
-    let heads : x ≡ q = cc in
-    let tails : y ++ (c ∷ []) ≡ p ++ (b ∷ r) = cc in
-    elim (index_with_one_more y p r c b tails) [
-      | inl last ↦ inl (ap (λ z. x ∷ z) last.0 ∙ ap (λ h. h ∷ p) heads, last.1)
-      | inr index ↦ inr (record { after = index.after; here = ap (λ z. x ∷ z) index.here ∙ ap (λ h. h ∷ (p ++ (b ∷ index.after))) heads })
+    elim (index_with_one_more y p r c b (cc)) [
+      | inl last ↦ inl ((let fronts = last.0 in cc), last.1)
+      | inr index ↦ inr (record { after = index.after; here = let fronts = index.here in cc })
     ]
-
-rest_of_last : (p y after : List ℕ) (c b : ℕ) → y ≡ p ++ (b ∷ after) → y ++ (c ∷ []) ≡ p ++ (b ∷ []) → after ++ (c ∷ []) ≡ []
-rest_of_last p y after c b here same =
-    let whole : p ++ ((b ∷ after) ++ (c ∷ [])) ≡ p ++ (b ∷ []) = sym (append_assoc p (b ∷ after) (c ∷ [])) ∙ ap (λ z. z ++ (c ∷ [])) (sym here) ∙ same in
-    let tails : b ∷ (after ++ (c ∷ [])) ≡ b ∷ [] = append_cancel_left p _ _ whole in
-    cc
 
 -- a text has only one last byte
 pub last_byte : (y : List ℕ) (c b : ℕ) → EndsWith (c ∷ []) y → EndsWith (b ∷ []) y → c ≡ b
 last_byte y c b by_c by_b =
-    elim (index_with_one_more by_c.before by_b.before [] c b (sym by_c.here ∙ by_b.here)) [
-      | inl same ↦ same.1
-      | inr index ↦ absurd (no_middle index.after [] c (sym (rest_of_last by_b.before by_c.before index.after c b index.here (sym by_c.here ∙ by_b.here))))
-    ]
+    let at_c = ap (λ z. get_or z (length by_c.before) 0) by_c.here ∙ get_or-append_seam by_c.before c [] 0 in
+    let at_b = ap (λ z. get_or z (length by_b.before) 0) by_b.here ∙ get_or-append_seam by_b.before b [] 0 in
+    let same : length by_c.before ≡ length by_b.before = omega (arith, ap length by_c.here, ap length by_b.here, length-append by_c.before (c ∷ []), length-append by_b.before (b ∷ [])) in
+    cc
 
 pub IsClean-more : (y : List ℕ) (c : ℕ) → IsClean y → ((e : Error) → ¬ (AddsFault y c e)) → IsClean (y ++ (c ∷ []))
 IsClean-more y c clean none e added =
@@ -62,22 +45,22 @@ IsClean-more y c clean none e added =
       | inr index ↦ clean e (record { before = added.before; byte = added.byte; after = index.after; here = index.here; fault = added.fault })
     ]
 
-IsClean-nil : IsClean []
-IsClean-nil e added = no_middle added.before added.after added.byte added.here
+dot_no_slash : dot ≢ slash
+dot_no_slash same = omega (arith, same)
 
-slash_adds_nothing : (e : Error) → ¬ (AddsFault [] slash e)
-slash_adds_nothing Empty fault = fault
-slash_adds_nothing EmptyComponent fault = no_middle fault.1.before [] 47 fault.1.here
-slash_adds_nothing StartsWithDot fault = no_middle fault.1.before [] 47 fault.1.here
-slash_adds_nothing LockSuffix fault = no_middle fault.1.before _ 46 fault.1.here
-slash_adds_nothing EndsWithDot fault = fault
-slash_adds_nothing RepeatedDot fault = no_middle fault.1.before [] 46 fault.1.here
-slash_adds_nothing ReflogPortion fault = no_middle fault.1.before [] 64 fault.1.here
-slash_adds_nothing Asterisk fault = absurd (omega (arith, fault))
-slash_adds_nothing (InvalidByte c) fault = false≢true (subst (λ b. is_refused_byte b ≡ true) (sym fault.0) fault.1)
+refused_no_slash : (c : ℕ) → IsTrue (is_refused_byte c) → c ≢ slash
+refused_no_slash c refused same = false≢true (subst (λ b. is_refused_byte b ≡ true) same refused)
+
+-- a slash adds no other fault
+pub slash_adds : (y : List ℕ) (e : Error) → ¬ (EndsWith (codes "/") y) → ¬ (EndsWith (codes ".lock") y) → ¬ (AddsFault y slash e)
+slash_adds y EmptyComponent whole unlocked fault = whole fault.1
+slash_adds y LockSuffix whole unlocked fault = unlocked fault.1
+slash_adds y (InvalidByte c) whole unlocked fault = refused_no_slash c fault.1 (sym fault.0)
+slash_adds y _ whole unlocked fault = search arith
 
 pub IsClean-start : IsClean (slash ∷ [])
-IsClean-start = IsClean-more [] slash IsClean-nil slash_adds_nothing
+IsClean-start = IsClean-more [] slash (λ e added. no_middle added.before added.after added.byte added.here) (λ e.
+    slash_adds [] e (λ ends. no_middle ends.before [] 47 ends.here) (λ ends. no_middle ends.before _ 46 ends.here))
 
 -- x ends with w: this holds if a slash and x end with w, and w doesn't begin with a slash
 record InText (x w : List ℕ) : Type 0 where
@@ -91,9 +74,6 @@ after_slash x (c ∷ p) w b other here = record { before = p; here = cc }
 empty_component : (x p after : List ℕ) → slash ∷ x ≡ (p ++ (slash ∷ [])) ++ after → IsEnd after → SomeComponent (λ w. w ≡ []) x
 empty_component x p after here ends =
     SomeComponent-from (λ w. w ≡ []) [] x (record { before = p; after = after; here = here ∙ append_assoc p (slash ∷ []) after; whole = tt; ends = ends }) refl
-
-dot_no_slash : dot ≢ slash
-dot_no_slash same = omega (arith, same)
 
 dotted_component : (x p after : List ℕ) → slash ∷ x ≡ (p ++ (slash ∷ [])) ++ (dot ∷ after) → SomeComponent (BeginsWith (codes ".")) x
 dotted_component x p after here =
@@ -143,34 +123,25 @@ pair_in_text x p after a b c other here ends same =
     let found : InText x (a ∷ c ∷ after) = after_slash x ends.before (c ∷ after) a other whole in
     record { before = found.before; after = after; here = found.here }
 
-refused_no_slash : (c : ℕ) → IsTrue (is_refused_byte c) → c ≢ slash
-refused_no_slash c refused same = false≢true (subst (λ b. is_refused_byte b ≡ true) same refused)
-
 -- a fault that a byte adds is a fault of the text
 pub HasFault-added : (x : List ℕ) (e : Error) → x ≢ [] → Added (slash ∷ x) e → HasFault x e
-HasFault-added x Empty some added = absurd added.fault
 HasFault-added x EmptyComponent some added = (some, empty_component x added.fault.1.before (added.byte ∷ added.after) (added.here ∙ ap (λ p. p ++ (added.byte ∷ added.after)) added.fault.1.here) added.fault.0)
 HasFault-added x StartsWithDot some added = dotted_component x added.fault.1.before added.after (added.here ∙ ap (λ p. p ++ (added.byte ∷ added.after)) added.fault.1.here ∙ ap (λ b. (added.fault.1.before ++ (slash ∷ [])) ++ (b ∷ added.after)) added.fault.0)
 HasFault-added x LockSuffix some added = locked_component x added.fault.1.before (added.byte ∷ added.after) (added.here ∙ ap (λ p. p ++ (added.byte ∷ added.after)) added.fault.1.here) added.fault.0
-HasFault-added x EndsWithDot some added = absurd added.fault
 HasFault-added x RepeatedDot some added = pair_in_text x added.before added.after dot added.byte dot dot_no_slash added.here added.fault.1 added.fault.0
 HasFault-added x ReflogPortion some added = pair_in_text x added.before added.after 64 added.byte brace (λ e. omega (arith, e)) added.here added.fault.1 added.fault.0
 HasFault-added x Asterisk some added = byte_in_text x added.before added.after added.byte star (λ e. omega (arith, e)) added.here added.fault
 HasFault-added x (InvalidByte c) some added = (byte_in_text x added.before added.after added.byte c (refused_no_slash c added.fault.1) added.here added.fault.0, added.fault.1)
+HasFault-added x _ some added = absurd added.fault
 
 -- a fault that is left at the end is a fault of the text
 pub HasFault-left : (x : List ℕ) (e : Error) → x ≢ [] → LeavesFault (slash ∷ x) e → HasFault x e
-HasFault-left x Empty some left = absurd left
 HasFault-left x EmptyComponent some left = (some, empty_component x left.before [] (left.here ∙ sym (append-nil _)) tt)
-HasFault-left x StartsWithDot some left = absurd left
 HasFault-left x LockSuffix some left = locked_component x left.before [] (left.here ∙ sym (append-nil _)) tt
 HasFault-left x EndsWithDot some left =
     let found : InText x (codes ".") = after_slash x left.before [] dot dot_no_slash left.here in
     record { before = found.before; here = found.here }
-HasFault-left x RepeatedDot some left = absurd left
-HasFault-left x ReflogPortion some left = absurd left
-HasFault-left x Asterisk some left = absurd left
-HasFault-left x (InvalidByte c) some left = absurd left
+HasFault-left x _ some left = absurd left
 
 -- a fault that is found at a slash or at the end
 shown_by_end : (y p after : List ℕ) (e : Error) → y ≡ p ++ after → IsEnd after → AddsFault p slash e → LeavesFault p e → Added y e ⊎ LeavesFault y e
@@ -238,29 +209,12 @@ added_at x i e below fault = record {
   fault = fault;
 }
 
--- a slash adds no other fault
-pub slash_adds : (y : List ℕ) (e : Error) → ¬ (EndsWith (codes "/") y) → ¬ (EndsWith (codes ".lock") y) → ¬ (AddsFault y slash e)
-slash_adds y Empty whole unlocked fault = fault
-slash_adds y EmptyComponent whole unlocked fault = whole fault.1
-slash_adds y StartsWithDot whole unlocked fault = dot_no_slash (sym fault.0)
-slash_adds y LockSuffix whole unlocked fault = unlocked fault.1
-slash_adds y EndsWithDot whole unlocked fault = fault
-slash_adds y RepeatedDot whole unlocked fault = dot_no_slash (sym fault.0)
-slash_adds y ReflogPortion whole unlocked fault = absurd (omega (arith, fault.0))
-slash_adds y Asterisk whole unlocked fault = absurd (omega (arith, fault))
-slash_adds y (InvalidByte c) whole unlocked fault = refused_no_slash c fault.1 (sym fault.0)
-
 -- the end leaves no other fault
 pub end_leaves : (y : List ℕ) (e : Error) → ¬ (EndsWith (codes "/") y) → ¬ (EndsWith (codes ".") y) → ¬ (EndsWith (codes ".lock") y) → ¬ (LeavesFault y e)
-end_leaves y Empty whole undotted unlocked left = left
 end_leaves y EmptyComponent whole undotted unlocked left = whole left
-end_leaves y StartsWithDot whole undotted unlocked left = left
 end_leaves y LockSuffix whole undotted unlocked left = unlocked left
 end_leaves y EndsWithDot whole undotted unlocked left = undotted left
-end_leaves y RepeatedDot whole undotted unlocked left = left
-end_leaves y ReflogPortion whole undotted unlocked left = left
-end_leaves y Asterisk whole undotted unlocked left = left
-end_leaves y (InvalidByte c) whole undotted unlocked left = left
+end_leaves y _ whole undotted unlocked left = left
 
 -- a test for `.lock` at the end of x decides the same for x with a slash before it
 pub locked_after_slash : (x : List ℕ) (tested : Bool) → tested ≡ ends_with nat_eq x (codes ".lock") → Decides tested (EndsWith (codes ".lock") (slash ∷ x))

@@ -1,13 +1,9 @@
 -- The texts of ids: which texts they are, that each is the text of only one id, and that decoding finds it.
-use Rattle.std.proofs.Common.{◌≡◌, ℕ, zero, suc, ◌+◌, ◌-◌, ◌*◌, ◌/◌, ◌%◌, ◌<◌, ◌≤◌, Bool, List, [], ◌∷◌, length, slice_index, take, nat_le, nat_lt, ◌&&◌, ◌⊎◌, inl, inr, Option, Some, None, unwrap_or, is_some, true, false, Result, Ok, Err, refl, sym, ap, ◌∙◌, subst, arith, ◌++◌, drop}
-use Rattle.std.specs.Prelude.{IsOk, MatchBool, MatchResult}
-use Rattle.std.specs.List.{AllPass, SomeIndex, list_all}
+use Rattle.gix_refspec_text.proofs.Common.{◌≡◌, ℕ, zero, suc, ◌+◌, ◌-◌, ◌*◌, ◌/◌, ◌%◌, ◌<◌, ◌≤◌, Bool, List, [], ◌∷◌, length, slice_index, take, nat_lt, ◌⊎◌, inl, inr, Option, Some, None, is_some, true, false, Result}
+use Rattle.gix_refspec_text.proofs.Common.{Ok, Err, refl, sym, ap, ◌∙◌, subst, arith, ◌++◌, drop, IsOk, MatchBool, MatchResult, AllPass, SomeIndex, list_all, IsAscii, IsUtf8, false≢true, cases_Bool, cases_eq, ltb-true}
+use Rattle.gix_refspec_text.proofs.Common.{length-take-le, take-append-le, take_all, All-cons, All-head, All-nil, All-tail, All-weaker, AllPass-from_list_all, Digit, Length, Kind, Sha1, Sha256, HasIdFault, IsIdLength}
+use Rattle.gix_refspec_text.proofs.Common.{IsIdText, IsLowerText, IsSpelledBy, Spells, bytes_of, digits_of, is_lower_digit, lower_of, IsId, HasOneId, HasOneFault, IdOrFault, OneLowerText, list_all-from_AllPass}
 use Rattle.std.specs.Result.{is_err, result_unwrap_or}
-use Rattle.std.specs.Str.{IsAscii, IsUtf8}
-use Rattle.std.proofs.lemmas.Bool.{and_cases, false≢true, and_parts, cases_Bool, cases_eq, leb-true, ltb-true, or_cases}
-use Rattle.std.proofs.lemmas.List.{length-take-le, take-append-le, take_all}
-use Rattle.std.proofs.lemmas.List.Elements.{All-cons, All-head, All-nil, All-tail, All-weaker}
-use Rattle.std.proofs.lemmas.List.Sums.{AllPass-from_list_all}
 use Rattle.std.proofs.lemmas.Str.{IsUtf8-from_ascii}
 use Rattle.std.proofs.lemmas.Str.Ascii.{IsAscii-from_all}
 use Rattle.hex.specs.Hex.{IsBytes, decode_of, decode_pairs, decode_sized, encode_with, hex_digit_value, is_hex_digit, lower_digits, pair_value}
@@ -15,12 +11,7 @@ use Rattle.hex.specs.declared.error.FromHexError.{FromHexError}
 use Rattle.hex.proofs.HexLemmas.{IsAscii-encode_with, IsOk-decode_sized, decode_of-ok, decode_of-same, decode_pairs-ok, decode_sized-encode_lower, decode_sized-twice, length-encode_with}
 use Rattle.hex.proofs.Pairs.{cons_byte, decode_pairs-ok_pair, decode_sized-pairs}
 use Rattle.gix_refspec_text.specs.declared.oid.Error.{Error}
-use Rattle.gix_refspec_text.specs.declared.oid.Error.TheVariants.{Digit, Length}
-use Rattle.gix_refspec_text.specs.declared.oid.Kind.{Kind}
-use Rattle.gix_refspec_text.specs.declared.oid.Kind.TheVariants.{Sha1, Sha256}
-use Rattle.gix_refspec_text.specs.Texts.ObjectId.{HasIdFault, IsIdLength, IsIdText, IsLowerText, IsSpelledBy, Spells, bytes_of, digits_of, is_lower_digit, lower_of}
-use Rattle.gix_refspec_text.specs.Matching.Side.{IsId}
-use Rattle.gix_refspec_text.specs.Laws.Readings.{HasOneId, HasOneFault, IdOrFault, OneLowerText}
+use Rattle.std.proofs.lemmas.Bool.Decides.{nat_tests}
 
 -- an id has two digits for each byte
 pub digits_of-twice : (kind : Kind) → digits_of kind ≡ 2 * bytes_of kind
@@ -51,20 +42,16 @@ Spells-cons a b x t i first rest (suc k) below =
 
 -- two digits decode to the byte that they spell
 pair_value-spelled : (n a b x : ℕ) → IsSpelledBy x a b → pair_value a b n ≡ Ok x
-pair_value-spelled n a b x s =
-    let value : s.high_value * 16 + s.low_value ≡ x = let v = s.value in omega arith in
-    rw (s.high_read, s.low_read) (ap Ok value)
+pair_value-spelled n a b x s = rw (s.high_read, s.low_read) (ap Ok (let v = s.value in omega arith))
 
 -- digits decode to the bytes that they spell
 pub decode_pairs-spelled : (n : ℕ) (t i : List ℕ) → length t ≡ 2 * length i → Spells t i → decode_pairs n t ≡ Ok i
 unfolding decode_pairs
 decode_pairs-spelled n [] [] twice spelled = refl
-decode_pairs-spelled n [] (x ∷ i) twice spelled = absurd (omega arith)
-decode_pairs-spelled n (a ∷ []) i twice spelled = absurd (omega arith)
-decode_pairs-spelled n (a ∷ b ∷ t) [] twice spelled = absurd (omega arith)
 decode_pairs-spelled n (a ∷ b ∷ t) (x ∷ i) twice spelled =
-    let rest = decode_pairs-spelled (n + 2) t i (omega arith) (Spells-tail a b x t i spelled) in
-    decode_pairs-ok_pair n a b x t (pair_value-spelled n a b x (spelled 0 (omega arith))) ∙ ap (cons_byte x) rest
+    decode_pairs-ok_pair n a b x t (pair_value-spelled n a b x (spelled 0 (omega arith)))
+    ∙ ap (cons_byte x) (decode_pairs-spelled (n + 2) t i (omega arith) (Spells-tail a b x t i spelled))
+decode_pairs-spelled n t i twice spelled = absurd (omega arith)
 
 -- the value of a digit
 value_of_digit : (o : Option ℕ) → is_some o ≡ true → (v : ℕ) × (o ≡ Some v)
@@ -84,50 +71,45 @@ spelled_byte a b digit_a digit_b =
 pub spelled_bytes : (n : ℕ) (t : List ℕ) → length t ≡ 2 * n → AllPass is_hex_digit t
     → (i : List ℕ) × (length i ≡ n) × Spells t i
 spelled_bytes zero t twice digits = ([], refl, λ k below. absurd (omega arith))
-spelled_bytes (suc n) [] twice digits = absurd (omega arith)
-spelled_bytes (suc n) (a ∷ []) twice digits = absurd (omega arith)
 spelled_bytes (suc n) (a ∷ b ∷ t) twice digits =
     let tail = All-tail (λ c. is_hex_digit c ≡ true) a (b ∷ t) digits in
     let rest = spelled_bytes n t (omega arith) (All-tail (λ c. is_hex_digit c ≡ true) b t tail) in
     let first = spelled_byte a b (All-head (λ c. is_hex_digit c ≡ true) a (b ∷ t) digits) (All-head (λ c. is_hex_digit c ≡ true) b t tail) in
     let len = rest.1 in
     (first.0 ∷ rest.0, omega arith, Spells-cons a b first.0 t rest.0 first.1 rest.2)
+spelled_bytes n t twice digits = absurd (omega arith)
 
 -- digits spell the bytes that they decode to
 pub Spells-decode_pairs : (t i : List ℕ) → decode_pairs 0 t ≡ Ok i → Spells t i
 Spells-decode_pairs t i decoded =
     let ok = decode_pairs-ok 0 t i decoded in
     let made = spelled_bytes (length i) t ok.1 ok.0 in
-    let twice : length t ≡ 2 * length made.0 = let a = made.1 in let b = ok.1 in omega arith in
-    let again : decode_pairs 0 t ≡ Ok made.0 = decode_pairs-spelled 0 t made.0 twice made.2 in
-    let same : made.0 ≡ i = ap (λ (r : Result (List ℕ) FromHexError). result_unwrap_or r []) (sym again ∙ decoded) in
-    let P : List ℕ → Type 0 = λ bytes. Spells t bytes in
-    subst P same made.2
+    let again : decode_pairs 0 t ≡ Ok made.0 = decode_pairs-spelled 0 t made.0 (omega (arith, made.1, ok.1)) made.2 in
+    subst (Spells t) (ap (λ (r : Result (List ℕ) FromHexError). result_unwrap_or r []) (sym again ∙ decoded)) made.2
 
 -- ---- texts of ids
 
+-- a text as long as an id is decoded pair by pair
+decoded_pairs : (kind : Kind) (t i : List ℕ) → length t ≡ digits_of kind → decode_sized t (bytes_of kind) ≡ Ok i → decode_pairs 0 t ≡ Ok i
+decoded_pairs kind t i digits decoded = let two = digits_of-twice kind in sym (decode_sized-pairs t (bytes_of kind) (omega arith) (omega arith)) ∙ decoded
+
 -- a text as long as an id decodes to as many bytes as an id has
 decoded_long : (kind : Kind) (t i : List ℕ) → length t ≡ digits_of kind → decode_sized t (bytes_of kind) ≡ Ok i → length i ≡ bytes_of kind
-decoded_long kind t i digits decoded =
-    let two = digits_of-twice kind in
-    let pairs = sym (decode_sized-pairs t (bytes_of kind) (omega arith) (omega arith)) ∙ decoded in
-    let len = (decode_pairs-ok 0 t i pairs).1 in
-    omega arith
+decoded_long kind t i digits decoded = omega (arith, digits_of-twice kind, (decode_pairs-ok 0 t i (decoded_pairs kind t i digits decoded)).1)
 
 -- a text that decodes to as many bytes as an id has is the text of that id
 pub IsIdText-decoded : (kind : Kind) (t i : List ℕ) → length t ≡ digits_of kind → decode_sized t (bytes_of kind) ≡ Ok i → IsIdText t i
-IsIdText-decoded kind t i digits decoded =
-    let two = digits_of-twice kind in
-    let pairs = sym (decode_sized-pairs t (bytes_of kind) (omega arith) (omega arith)) ∙ decoded in
-    record { kind = kind; digits = digits; bytes = decoded_long kind t i digits decoded; spelled = Spells-decode_pairs t i pairs }
+IsIdText-decoded kind t i digits decoded = record {
+  kind = kind;
+  digits = digits;
+  bytes = decoded_long kind t i digits decoded;
+  spelled = Spells-decode_pairs t i (decoded_pairs kind t i digits decoded);
+}
 
 -- the text of an id decodes to its bytes
 pub decode_of-IsIdText : (t i : List ℕ) → IsIdText t i → decode_of t ≡ Ok i
 decode_of-IsIdText t i text =
-    let two = digits_of-twice text.kind in
-    let a = text.digits in
-    let b = text.bytes in
-    let twice : length t ≡ 2 * length i = omega arith in
+    let twice : length t ≡ 2 * length i = omega (arith, digits_of-twice text.kind, text.digits, text.bytes) in
     sym (decode_sized-twice t (length i) twice)
     ∙ decode_sized-pairs t (length i) (omega arith) (omega arith) ∙ decode_pairs-spelled 0 t i twice text.spelled
 
@@ -142,8 +124,7 @@ AllPass-IsIdText t i text = (decode_of-ok t i (decode_of-IsIdText t i text)).1
 -- hex digits, as many as an id has, are the text of an id
 pub IsIdText-digits : (t : List ℕ) → IsIdLength (length t) → AllPass is_hex_digit t → (i : List ℕ) × IsIdText t i
 IsIdText-digits t (kind, digits) all =
-    let two = digits_of-twice kind in
-    let made = spelled_bytes (bytes_of kind) t (omega arith) all in
+    let made = spelled_bytes (bytes_of kind) t (omega (arith, digits_of-twice kind)) all in
     (made.0, record { kind = kind; digits = digits; bytes = made.1; spelled = made.2 })
 
 -- the text of an id has no fault
@@ -204,36 +185,21 @@ pub id_size : (n : ℕ) → (n ≡ 40) ⊎ (n ≡ 64) → IsIdLength n
 id_size n (inl same) = (Sha1, same)
 id_size n (inr same) = (Sha256, same)
 
-not_all : (t : List ℕ) → list_all is_hex_digit t ≡ false → ¬ (AllPass is_hex_digit t)
-not_all [] other all = false≢true (sym other)
-not_all (c ∷ t) other all = elim (and_cases (is_hex_digit c) (list_all is_hex_digit t) other) [
-  | inl here ↦ false≢true (sym here ∙ All-head (λ d. is_hex_digit d ≡ true) c t all)
-  | inr later ↦ not_all t later (All-tail (λ d. is_hex_digit d ≡ true) c t all)
-]
-
 -- a text as long as an id spells one exactly if all its bytes are digits
 pub IsId-by_digits : (t : List ℕ) (digits : Bool) → IsIdLength (length t) → digits ≡ list_all is_hex_digit t → MatchBool digits (IsId t) (¬ (IsId t))
 IsId-by_digits t true size same = IsIdText-digits t size (AllPass-from_list_all is_hex_digit t (sym same))
-IsId-by_digits t false size same = λ id. not_all t (sym same) (AllPass-IsIdText t id.0 id.1)
+IsId-by_digits t false size same = λ id. false≢true (same ∙ list_all-from_AllPass is_hex_digit t (AllPass-IsIdText t id.0 id.1))
 
 -- ---- bytes that are decoded into a buffer
 
 -- a buffer of 32 bytes has room for the bytes of an id
 length-room : (kind : Kind) (buffer : List ℕ) → length buffer ≡ 32 → length (take (bytes_of kind) buffer) ≡ bytes_of kind
-length-room kind buffer room =
-    let fits = bytes_of-fits kind in
-    length-take-le (bytes_of kind) buffer (omega arith)
+length-room kind buffer room = length-take-le (bytes_of kind) buffer (omega (arith, bytes_of-fits kind))
 
 -- the call that decodes fails exactly if the text doesn't decode, and otherwise writes the bytes
 decoded : (d : Result (List ℕ) FromHexError) (r : Result (Unit {0}) FromHexError) (new : List ℕ) → MatchResult d (λ bytes. (r ≡ Ok tt) × (new ≡ bytes)) (λ e. r ≡ Err e) → MatchBool (is_err r) (¬ (IsOk d)) (d ≡ Ok new)
-decoded (Ok bytes) r new (is, same) =
-    let d : Result (List ℕ) FromHexError = Ok bytes in
-    let made : d ≡ Ok new = ap Ok (sym same) in
-    subst (λ x. MatchBool (is_err x) (¬ (IsOk d)) (d ≡ Ok new)) (sym is) made
-decoded (Err e) r new is =
-    let d : Result (List ℕ) FromHexError = Err e in
-    let refused : ¬ (IsOk d) = λ (ok : IsOk d). cc ok in
-    subst (λ x. MatchBool (is_err x) (¬ (IsOk d)) (d ≡ Ok new)) (sym is) refused
+decoded (Ok bytes) r new (is, same) = rw is (ap Ok (sym same))
+decoded (Err e) r new is = rw is (λ ok. false≢true ok)
 
 -- so it reads the id, or finds that some byte isn't a digit
 reads : (kind : Kind) (t room new : List ℕ) (n : ℕ) (failed : Bool) → n ≡ bytes_of kind → length t ≡ digits_of kind → MatchBool failed (¬ (IsOk (decode_sized t (bytes_of kind)))) (decode_sized t (bytes_of kind) ≡ Ok new) → MatchBool failed (HasIdFault t Digit) (IsIdText t (take (bytes_of kind) (new ++ drop n room)))
@@ -258,8 +224,7 @@ read_id kind t room new n r size fits digits told =
 -- the sixteen digits are ASCII
 IsAscii-lower_digits : IsAscii lower_digits
 IsAscii-lower_digits =
-    let below = AllPass-from_list_all (λ c. nat_lt c 128) lower_digits refl in
-    IsAscii-from_all lower_digits (All-weaker (λ c. nat_lt c 128 ≡ true) (λ c. c < 128) (λ c h. ltb-true c 128 h) lower_digits below)
+    IsAscii-from_all lower_digits (All-weaker (λ c. nat_lt c 128 ≡ true) (λ c. c < 128) (λ c h. ltb-true c 128 h) lower_digits (AllPass-from_list_all (λ c. nat_lt c 128) lower_digits refl))
 
 -- the lower-case text of bytes is UTF-8
 pub IsUtf8-lower_of : (i : List ℕ) → IsUtf8 (lower_of i)
@@ -289,58 +254,19 @@ lower_digits-lower d below = AllPass-from_list_all is_lower_digit lower_digits r
 -- the text that is computed is in lower case
 pub IsLowerText-lower_of : (kind : Kind) (i : List ℕ) → length i ≡ bytes_of kind → IsBytes i → IsLowerText (lower_of i) i
 IsLowerText-lower_of kind i size fits =
-    let two = digits_of-twice kind in
-    let len = length-encode_with lower_digits i in
-    let digits : length (lower_of i) ≡ digits_of kind = omega arith in (
+    let digits : length (lower_of i) ≡ digits_of kind = omega (arith, digits_of-twice kind, length-encode_with lower_digits i) in (
       IsIdText-decoded kind (lower_of i) i digits (decode_sized-encode_lower i (bytes_of kind) size fits),
       AllPass-encode_with is_lower_digit lower_digits i lower_digits-lower fits,
     )
-
--- the values of `0` to `9`
-hex_digit_value-decimal : (c : ℕ) → 48 ≤ c → c ≤ 57 → hex_digit_value c ≡ Some (c - 48)
-hex_digit_value-decimal c low high = grind arith
-
--- the values of `a` to `f`
-hex_digit_value-letter : (c : ℕ) → 97 ≤ c → c ≤ 102 → hex_digit_value c ≡ Some (c - 87)
-hex_digit_value-letter c low high = grind arith
 
 -- a digit's value is below 16
 pub hex_digit_value-small : (c v : ℕ) → hex_digit_value c ≡ Some v → v < 16
 hex_digit_value-small c v read = grind arith
 
--- the two ranges of the digits in lower case
-is_lower_digit-cases : (c : ℕ) → is_lower_digit c ≡ true → ((48 ≤ c) × (c ≤ 57)) ⊎ ((97 ≤ c) × (c ≤ 102))
-is_lower_digit-cases c lower =
-    elim (or_cases (nat_le 48 c && nat_le c 57) (nat_le 97 c && nat_le c 102) lower) [
-      | inl decimal ↦
-          let ends = and_parts (nat_le 48 c) (nat_le c 57) decimal in
-          inl (leb-true 48 c ends.0, leb-true c 57 ends.1)
-      | inr letter ↦
-          let ends = and_parts (nat_le 97 c) (nat_le c 102) letter in
-          inr (leb-true 97 c ends.0, leb-true c 102 ends.1)
-    ]
-
--- a digit in lower case is determined by its value
-lower_digit-value : (c v : ℕ) → is_lower_digit c ≡ true → hex_digit_value c ≡ Some v
-    → ((v < 10) × (c ≡ v + 48)) ⊎ ((10 ≤ v) × (c ≡ v + 87))
-lower_digit-value c v lower read =
-    elim (is_lower_digit-cases c lower) [
-      | inl decimal ↦
-          let same : c - 48 ≡ v = ap (λ (o : Option ℕ). unwrap_or o 0) (sym (hex_digit_value-decimal c decimal.0 decimal.1) ∙ read) in
-          inl (omega arith, omega arith)
-      | inr letter ↦
-          let same : c - 87 ≡ v = ap (λ (o : Option ℕ). unwrap_or o 0) (sym (hex_digit_value-letter c letter.0 letter.1) ∙ read) in
-          inr (omega arith, omega arith)
-    ]
-
 -- a digit in lower case is the only one of its value
 lower_digit-unique : (c d v : ℕ) → is_lower_digit c ≡ true → is_lower_digit d ≡ true
     → hex_digit_value c ≡ Some v → hex_digit_value d ≡ Some v → c ≡ d
-lower_digit-unique c d v lower_c lower_d read_c read_d =
-    elim (lower_digit-value c v lower_c read_c) [
-      | inl first ↦ elim (lower_digit-value d v lower_d read_d) [ inl second ↦ omega arith | inr second ↦ omega arith ]
-      | inr first ↦ elim (lower_digit-value d v lower_d read_d) [ inl second ↦ omega arith | inr second ↦ omega arith ]
-    ]
+lower_digit-unique c d v lower_c lower_d read_c read_d = grind (arith, nat_tests)
 
 -- two digits in lower case are the only two that spell their byte
 lower_pair-unique : (x a b c d : ℕ) → is_lower_digit a ≡ true → is_lower_digit b ≡ true → is_lower_digit c ≡ true → is_lower_digit d ≡ true
@@ -359,11 +285,6 @@ lower_pair-unique x a b c d lower_a lower_b lower_c lower_d first second =
 lower_texts-same : (t u i : List ℕ) → length t ≡ 2 * length i → length u ≡ 2 * length i
     → AllPass is_lower_digit t → AllPass is_lower_digit u → Spells t i → Spells u i → t ≡ u
 lower_texts-same [] [] i len_t len_u lower_t lower_u by_t by_u = refl
-lower_texts-same [] (c ∷ u) i len_t len_u lower_t lower_u by_t by_u = absurd (omega arith)
-lower_texts-same (a ∷ []) u i len_t len_u lower_t lower_u by_t by_u = absurd (omega arith)
-lower_texts-same (a ∷ b ∷ t) [] i len_t len_u lower_t lower_u by_t by_u = absurd (omega arith)
-lower_texts-same (a ∷ b ∷ t) (c ∷ []) i len_t len_u lower_t lower_u by_t by_u = absurd (omega arith)
-lower_texts-same (a ∷ b ∷ t) (c ∷ d ∷ u) [] len_t len_u lower_t lower_u by_t by_u = absurd (omega arith)
 lower_texts-same (a ∷ b ∷ t) (c ∷ d ∷ u) (x ∷ i) len_t len_u lower_t lower_u by_t by_u =
     let tail_t = All-tail is_lower a (b ∷ t) lower_t in
     let tail_u = All-tail is_lower c (d ∷ u) lower_u in
@@ -372,9 +293,8 @@ lower_texts-same (a ∷ b ∷ t) (c ∷ d ∷ u) (x ∷ i) len_t len_u lower_t l
     (by_t 0 (omega arith)) (by_u 0 (omega arith)) in
     let rest = lower_texts-same t u i (omega arith) (omega arith) (All-tail is_lower b t tail_t) (All-tail is_lower d u tail_u)
     (Spells-tail a b x t i by_t) (Spells-tail c d x u i by_u) in
-    let first = pair.0 in
-    let second = pair.1 in
-    cc
+    cc (pair.0, pair.1, rest)
+lower_texts-same t u i len_t len_u lower_t lower_u by_t by_u = absurd (omega arith)
 
 -- the digits that an id is printed with are lower-case ones
 pub lower_of-digits : (t i : List ℕ) → IsIdText t i → AllPass is_lower_digit (lower_of i)
@@ -385,9 +305,8 @@ lower_of-digits t i text =
 -- an id has only one text in lower case
 pub IsLowerText-unique : (t u i : List ℕ) → IsLowerText t i → IsLowerText u i → t ≡ u
 IsLowerText-unique t u i (text_t, lower_t) (text_u, lower_u) =
-    let two_t = digits_of-twice text_t.kind in
-    let two_u = digits_of-twice text_u.kind in
-    lower_texts-same t u i (omega arith) (omega arith) lower_t lower_u text_t.spelled text_u.spelled
+    lower_texts-same t u i (omega (arith, digits_of-twice text_t.kind, text_t.digits, text_t.bytes)) (omega (arith, digits_of-twice text_u.kind, text_u.digits, text_u.bytes))
+    lower_t lower_u text_t.spelled text_u.spelled
 
 -- the first of a list of bytes are bytes
 IsBytes-take : (n : ℕ) (x : List ℕ) → IsBytes x → IsBytes (take n x)

@@ -1,11 +1,6 @@
 -- How many stars a text has.
-use Rattle.std.proofs.Common.{◌≡◌, ◌≢◌, ◌<◌, ℕ, suc, ◌+◌, ◌==◌, cond, List, [], ◌∷◌, ◌++◌, take, drop, get_or, length, append_assoc, refl, sym, ap, ◌∙◌, inl, inr, zero-add, arith}
-use Rattle.std.specs.List.{count_by}
-use Rattle.std.proofs.lemmas.Bool.{cases_eq, eq-eqb, ne_eqb}
-use Rattle.std.proofs.lemmas.List.Sums.{sum_by-append}
-use Rattle.gix_refspec_text.specs.Texts.Words.{Lacks}
-use Rattle.gix_refspec_text.specs.Texts.Bytes.{star}
-use Rattle.gix_refspec_text.specs.Texts.Name.{HasOneStar, HasSeveralStars}
+use Rattle.gix_refspec_text.proofs.Common.{◌≡◌, ◌≢◌, ◌<◌, ℕ, suc, ◌+◌, ◌==◌, cond, List, [], ◌∷◌, ◌++◌, take, drop, get_or, length, append_assoc, refl, sym, ap, ◌∙◌, inl, inr, zero-add, arith, count_by, cases_eq, eq-eqb}
+use Rattle.gix_refspec_text.proofs.Common.{ne_eqb, sum_by-append, Lacks, star, HasOneStar, HasSeveralStars}
 use Rattle.gix_refspec_text.proofs.lemmas.texts.TextLemmas.{split_at}
 
 stars : List ℕ → ℕ

@@ -1,14 +1,7 @@
 -- A test of each byte and the one before it, which only names pass, and most names do. So examples can
 -- be computed.
-use Rattle.std.proofs.Common.{◌≡◌, ℕ, ◌==◌, ◌||◌, ◌&&◌, Bool, false, List, [], ◌∷◌, ◌++◌, codes, sym, ap, eq-eqb, ◌∙◌, append_assoc}
-use Rattle.std.proofs.lemmas.List.{append-nil}
-use Rattle.std.proofs.lemmas.Bool.{or_parts, true≢false}
-use Rattle.gix_refspec_text.specs.declared.name.Error.{Error}
-use Rattle.gix_refspec_text.specs.declared.name.Error.TheVariants.{Empty, EmptyComponent, StartsWithDot, LockSuffix, EndsWithDot, RepeatedDot, ReflogPortion, Asterisk, InvalidByte}
-use Rattle.gix_refspec_text.specs.Texts.Words.{EndsWith}
-use Rattle.gix_refspec_text.specs.Texts.Bytes.{slash, star, dot, at, brace}
-use Rattle.gix_refspec_text.specs.Texts.Name.{is_refused_byte, IsName}
-use Rattle.gix_refspec_text.specs.Private.Scan.{LeavesFault, IsClean}
+use Rattle.gix_refspec_text.proofs.Common.{◌≡◌, ℕ, ◌==◌, ◌||◌, ◌&&◌, Bool, false, List, [], ◌∷◌, ◌++◌, codes, sym, ap, eq-eqb, ◌∙◌, append_assoc, append-nil, or_parts, true≢false, Error, EmptyComponent, StartsWithDot}
+use Rattle.gix_refspec_text.proofs.Common.{LockSuffix, EndsWithDot, RepeatedDot, ReflogPortion, Asterisk, InvalidByte, EndsWith, slash, star, dot, at, brace, is_refused_byte, IsName, LeavesFault, IsClean}
 use Rattle.gix_refspec_text.proofs.lemmas.texts.NameLemmas.{IsName-from_clean}
 
 -- `k`, the last byte of `.lock`
@@ -52,26 +45,20 @@ after_byte : (y before after : List ℕ) (byte c b : ℕ) (word : List ℕ) → 
 after_byte y before after byte c b word none here same ends = after_word y before (c ∷ after) b word none (here ∙ ap (λ d. before ++ (d ∷ after)) same) ends
 
 clean : (y : List ℕ) → is_suspect 0 y ≡ false → IsClean y
-clean y none Empty added = added.fault
 clean y none EmptyComponent added = true≢false (after_byte y added.before added.after added.byte slash slash [] none added.here added.fault.0 added.fault.1)
 clean y none StartsWithDot added = true≢false (after_byte y added.before added.after added.byte dot slash [] none added.here added.fault.0 added.fault.1)
 clean y none LockSuffix added = true≢false (after_byte y added.before added.after added.byte slash dot (codes "lock") none added.here added.fault.0 added.fault.1)
-clean y none EndsWithDot added = added.fault
 clean y none RepeatedDot added = true≢false (after_byte y added.before added.after added.byte dot dot [] none added.here added.fault.0 added.fault.1)
 clean y none ReflogPortion added = true≢false (after_byte y added.before added.after added.byte brace at [] none added.here added.fault.0 added.fault.1)
 clean y none Asterisk added = true≢false (sym (eq-eqb added.byte star added.fault) ∙ (sound_in y none added.before added.byte added.after added.here).unstarred)
 clean y none (InvalidByte c) added = true≢false (sym added.fault.1 ∙ ap is_refused_byte (sym added.fault.0) ∙ (sound_in y none added.before added.byte added.after added.here).allowed)
+clean y none _ added = added.fault
 
 left : (y : List ℕ) (e : Error) → is_suspect 0 y ≡ false → ¬ (LeavesFault y e)
-left y Empty none fault = fault
 left y EmptyComponent none fault = true≢false (after_word y y [] slash [] none (sym (append-nil y)) fault)
-left y StartsWithDot none fault = fault
 left y LockSuffix none fault = true≢false (after_word y y [] dot (codes "lock") none (sym (append-nil y)) fault)
 left y EndsWithDot none fault = true≢false (after_word y y [] dot [] none (sym (append-nil y)) fault)
-left y RepeatedDot none fault = fault
-left y ReflogPortion none fault = fault
-left y Asterisk none fault = fault
-left y (InvalidByte c) none fault = fault
+left y _ none fault = fault
 
 -- a text in which nothing is suspect, with a slash before it, is a name
 pub IsName-tested : (x : List ℕ) → is_suspect slash x ≡ false → IsName x

@@ -1,10 +1,8 @@
 -- Bytes that a text lacks, and texts that are split at an index.
-use Rattle.std.proofs.Common.{◌≡◌, ◌||◌, MatchBool, inl, inr, nat_eq, ℕ, suc, ◌+◌, ◌-◌, ◌<◌, ◌≤◌, ◌==◌, Bool, true, false, List, [], ◌∷◌, ◌++◌, length, get_or, take, drop, refl, sym, ap, ◌∙◌, subst, arith, eq-eqb, take-append-drop, drop-cons, length-drop}
-use Rattle.std.proofs.lemmas.List.{drop-drop, get_or-drop, take_all}
-use Rattle.std.proofs.lemmas.Bool.{cases_eq, eqb-true, false≢true}
-use Rattle.std.proofs.Math.Numerals.{add-one}
-use Rattle.gix_refspec_text.specs.Texts.Words.{Lacks, ContainsText}
+use Rattle.gix_refspec_text.proofs.Common.{◌≡◌, ◌||◌, MatchBool, nat_eq, ℕ, suc, ◌+◌, ◌-◌, ◌<◌, ◌≤◌, ◌==◌, Bool, true, false, List, [], ◌∷◌, ◌++◌, length, get_or, take, drop, refl, sym, ap, ◌∙◌, subst, arith, eq-eqb}
+use Rattle.gix_refspec_text.proofs.Common.{take-append-drop, drop-cons, length-drop, drop-drop, get_or-drop, take_all, eqb-true, false≢true, add-one, Lacks, ContainsText}
 use Rattle.gix_refspec_text.proofs.lemmas.lists.LacksLemmas.{Lacks-here}
+use Rattle.std.proofs.Common.{below_more}
 
 -- no index of x from n on has the byte b
 abbrev pub NoneFrom : ℕ → List ℕ → ℕ → Type 0
@@ -17,9 +15,7 @@ Lacks-from_indexes b (c ∷ x) none = (λ e. none 0 (omega arith) (eq-eqb c b e)
 
 -- the text from n on lacks b, if no index from n on has it
 pub Lacks-drop : (b : ℕ) (x : List ℕ) (n : ℕ) → NoneFrom b x n → Lacks b (drop n x)
-Lacks-drop b x n none = Lacks-from_indexes b (drop n x) (λ k below.
-    let inside : n + k < length x = omega (arith, length-drop n x) in
-    rw get_or-drop (none (n + k) (omega arith) inside))
+Lacks-drop b x n none = Lacks-from_indexes b (drop n x) (λ k below. rw get_or-drop (none (n + k) (omega arith) (omega (arith, length-drop n x))))
 
 -- x is the text before an index, its byte, and the text after it
 pub split_at : (x : List ℕ) (n b : ℕ) → n < length x → get_or x n 0 ≡ b → x ≡ take n x ++ (b ∷ drop (suc n) x)
@@ -27,11 +23,7 @@ split_at x n b inside here = sym (take-append-drop n x) ∙ ap (λ y. take n x +
 
 -- the text after an index, as the code computes it
 pub after_index : (x : List ℕ) (n : ℕ) → n < length x → take (length (drop n x) - 1) (drop 1 (drop n x)) ≡ drop (suc n) x
-after_index x n inside =
-    let later : drop 1 (drop n x) ≡ drop (n + 1) x = drop-drop 1 n x in
-    let size = length-drop n x in
-    let size_later = length-drop (n + 1) x in
-    rw later (rw add-one (take_all (length (drop n x) - 1) (drop (suc n) x) (omega (arith, length-drop (suc n) x))))
+after_index x n inside = rw (drop-drop, add-one) (take_all (length (drop n x) - 1) (drop (suc n) x) (omega (arith, length-drop n x, length-drop (suc n) x)))
 
 -- a text is split at the last index of b
 pub split_at_last : (x front back : List ℕ) (n b : ℕ) → n < length x → (get_or x n 0 == b) ≡ true → NoneFrom b x (n + 1) → front ≡ take n x → back ≡ drop n x → (x ≡ front ++ (b ∷ take (length back - 1) (drop 1 back))) × Lacks b (take (length back - 1) (drop 1 back))
@@ -48,10 +40,7 @@ FoundBefore b x n found = MatchBool found (ContainsText (b ∷ []) x) ((k : ℕ)
 
 found_by : (b : ℕ) (x : List ℕ) (n : ℕ) (test : Bool) → n < length x → (get_or x n 0 == b) ≡ test → ((k : ℕ) → k < n → ¬ ((get_or x k 0 == b) ≡ true)) → FoundBefore b x (n + 1) test
 found_by b x n true inside is none = record { before = take n x; after = drop (suc n) x; here = split_at x n b inside (eqb-true (get_or x n 0) b is) }
-found_by b x n false inside is none = λ k below. elim (cases_eq k n) [
-  | inl same ↦ λ here. false≢true (sym is ∙ subst (λ j. (get_or x j 0 == b) ≡ true) same here)
-  | inr other ↦ none k (omega arith)
-]
+found_by b x n false inside is none = below_more (λ k. ¬ ((get_or x k 0 == b) ≡ true)) n none (λ here. false≢true (sym is ∙ here))
 
 -- one more index is checked
 pub found_further : (b : ℕ) (x : List ℕ) (n : ℕ) (found : Bool) → n < length x → FoundBefore b x n found → FoundBefore b x (n + 1) (found || nat_eq (get_or x n 0) b)
@@ -79,6 +68,4 @@ pub one_not_two : (b : ℕ) (u v p q r : List ℕ) → Lacks b u → Lacks b v �
 one_not_two b [] v [] q r lacks_u lacks_v same = let rest : v ≡ q ++ (b ∷ r) = cc in Lacks-here b q r (subst (Lacks b) rest lacks_v)
 one_not_two b [] v (c ∷ p) q r lacks_u lacks_v same = let rest : v ≡ p ++ (b ∷ (q ++ (b ∷ r))) = cc in Lacks-here b p (q ++ (b ∷ r)) (subst (Lacks b) rest lacks_v)
 one_not_two b (c ∷ u) v [] q r lacks_u lacks_v same = lacks_u.0 (let e : c ≡ b = cc in e)
-one_not_two b (c ∷ u) v (d ∷ p) q r lacks_u lacks_v same =
-    let tails : u ++ (b ∷ v) ≡ p ++ (b ∷ (q ++ (b ∷ r))) = cc in
-    one_not_two b u v p q r lacks_u.1 lacks_v tails
+one_not_two b (c ∷ u) v (d ∷ p) q r lacks_u lacks_v same = one_not_two b u v p q r lacks_u.1 lacks_v (cc)

@@ -1,6 +1,5 @@
 -- A text without stars that is a name with letters for its stars is a name.
-use Rattle.std.proofs.Common.{ap, ◌∙◌}
-use Rattle.gix_refspec_text.specs.Private.Scan.{one_if}
+use Rattle.gix_refspec_text.proofs.Common.{ap, ◌∙◌, one_if}
 use Rattle.gix_refspec_text.proofs.lemmas.texts.StarLemmas.{Lacks-count_by}
 use Rattle.gix_refspec_text.proofs.lemmas.texts.LetterLemmas.{name_without_stars}
 use Rattle.gix_refspec_text.proofs.name.fault_of.Goals as goal

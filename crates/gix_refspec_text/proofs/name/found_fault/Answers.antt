@@ -1,10 +1,7 @@
-use Rattle.std.proofs.Common.{◌≡◌, ◌+◌, [], ◌∷◌, ◌++◌, take, get_or, sym, ap, subst, arith}
-use Rattle.std.proofs.lemmas.List.{take_all, take_more}
-use Rattle.gix_refspec_text.specs.Texts.Bytes.{slash}
-use Rattle.gix_refspec_text.specs.Private.Scan.{IsClean}
+use Rattle.gix_refspec_text.proofs.Common.{◌≡◌, ◌+◌, [], ◌∷◌, ◌++◌, take, get_or, sym, ap, subst, arith, take_all, take_more, slash, IsClean}
 use Rattle.gix_refspec_text.proofs.lemmas.texts.NameLemmas.{IsClean-start, IsClean-more, HasFault-added, added_at, answer_at_end}
-use Rattle.gix_refspec_text.proofs.name.found_fault.Goals as goal
 use Rattle.gix_refspec_text.proofs.lemmas.lists.EmptyLemmas.{full_from_test}
+use Rattle.gix_refspec_text.proofs.name.found_fault.Goals as goal
 
 pub loop-index-init : goal.loop-index-init
 loop-index-init c = IsClean-start

@@ -1,9 +1,5 @@
 -- One star is counted exactly if the text has one star.
-use Rattle.std.proofs.Common.{◌≡◌, ◌==◌, sym, ◌∙◌, rules, eq-eqb}
-use Rattle.std.proofs.lemmas.Bool.{eqb-true}
-use Rattle.std.specs.List.{count_by}
-use Rattle.bstr.specs.BStr.{bstr_bytes}
-use Rattle.gix_refspec_text.specs.Texts.Bytes.{star}
+use Rattle.gix_refspec_text.proofs.Common.{◌≡◌, ◌==◌, sym, ◌∙◌, rules, eq-eqb, eqb-true, count_by, bstr_bytes, star}
 use Rattle.gix_refspec_text.proofs.lemmas.texts.StarLemmas.{HasOneStar-count_by, count_by-HasOneStar}
 use Rattle.gix_refspec_text.proofs.name.has_one_star.Goals as goal
 

@@ -1,7 +1,4 @@
-use Rattle.std.proofs.Common.{◌≡◌, ℕ, [], ◌∷◌, codes, arith}
-use Rattle.std.proofs.lemmas.Bool.{both_ways}
-use Rattle.gix_refspec_text.specs.Texts.Words.{EndsWith}
-use Rattle.gix_refspec_text.specs.Texts.Bytes.{slash}
+use Rattle.gix_refspec_text.proofs.Common.{◌≡◌, ℕ, [], ◌∷◌, codes, arith, both_ways, EndsWith, slash}
 use Rattle.gix_refspec_text.proofs.lemmas.texts.NameLemmas.{end_leaves, last_byte, locked_after_slash}
 use Rattle.gix_refspec_text.proofs.name.left_fault.Goals as goal
 

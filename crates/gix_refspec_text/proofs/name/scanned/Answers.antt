@@ -1,6 +1,5 @@
 -- Of each sixteen bytes those after the calm run are checked one by one.
-use Rattle.std.proofs.Common.{◌≡◌, ◌+◌, ◌≤◌, length, refl, subst, arith}
-use Rattle.gix_refspec_text.specs.Private.Scan.{IsScanned}
+use Rattle.gix_refspec_text.proofs.Common.{◌≡◌, ◌+◌, ◌≤◌, length, refl, subst, arith, IsScanned}
 use Rattle.gix_refspec_text.proofs.lemmas.texts.NameLemmas.{IsClean-start}
 use Rattle.gix_refspec_text.proofs.lemmas.texts.LetterLemmas.{calm_to}
 use Rattle.gix_refspec_text.proofs.name.scanned.Goals as goal

@@ -1,5 +1,4 @@
-use Rattle.std.proofs.Common.{◌-◌, ◌≤◌, length}
-use Rattle.gix_refspec_text.specs.Private.Scan.{IsScanned}
+use Rattle.gix_refspec_text.proofs.Common.{◌-◌, ◌≤◌, length, IsScanned}
 use Rattle.gix_refspec_text.proofs.name.scanned.Given as goal
 
 -- no fault so far with letters for the stars, and at least one byte was scanned

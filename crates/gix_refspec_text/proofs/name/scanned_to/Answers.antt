@@ -1,11 +1,5 @@
-use Rattle.std.proofs.Common.{◌≡◌, ◌≢◌, ◌+◌, [], ◌∷◌, ◌++◌, ◌==◌, take, get_or, sym, ap, ◌∙◌, subst, arith}
-use Rattle.std.proofs.lemmas.Bool.{eq-eqb, ne_eqb}
-use Rattle.std.proofs.lemmas.Grind.{common_steps}
-use Rattle.std.proofs.lemmas.List.{take_more}
-use Rattle.std.proofs.lemmas.List.Sums.{count_by_more_no, count_by_more_yes}
-use Rattle.gix_refspec_text.specs.declared.name.Error.TheVariants.{Asterisk}
-use Rattle.gix_refspec_text.specs.Texts.Bytes.{slash, star}
-use Rattle.gix_refspec_text.specs.Private.Scan.{IsClean, IsScanned, one_if, with_letters}
+use Rattle.gix_refspec_text.proofs.Common.{◌≡◌, ◌≢◌, ◌+◌, [], ◌∷◌, ◌++◌, ◌==◌, take, get_or, sym, ap, ◌∙◌, subst, arith, eq-eqb, ne_eqb, common_steps, take_more, count_by_more_no, count_by_more_yes, Asterisk, slash}
+use Rattle.gix_refspec_text.proofs.Common.{star, IsClean, IsScanned, one_if, with_letters}
 use Rattle.gix_refspec_text.proofs.lemmas.texts.StarLemmas.{second_star}
 use Rattle.gix_refspec_text.proofs.lemmas.texts.LetterLemmas.{clean_after_star, clean_after_other, some_index, fault_with_letters}
 use Rattle.gix_refspec_text.proofs.name.scanned_to.Goals as goal

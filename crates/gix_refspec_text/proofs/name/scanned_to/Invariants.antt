@@ -1,4 +1,4 @@
-use Rattle.gix_refspec_text.specs.Private.Scan.{IsScanned}
+use Rattle.gix_refspec_text.proofs.Common.{IsScanned}
 use Rattle.gix_refspec_text.proofs.name.scanned_to.Given as goal
 
 -- no fault so far with letters for the stars, and at most one star

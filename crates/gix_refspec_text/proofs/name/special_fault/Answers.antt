@@ -1,9 +1,4 @@
-use Rattle.std.proofs.Common.{◌≡◌, ◌∷◌, codes, sym, subst, arith}
-use Rattle.std.proofs.lemmas.Bool.{both_ways}
-use Rattle.std.proofs.lemmas.Grind.{common_steps}
-use Rattle.gix_refspec_text.specs.Texts.Words.{EndsWith}
-use Rattle.gix_refspec_text.specs.Texts.Bytes.{slash}
-use Rattle.gix_refspec_text.specs.Private.Scan.{AddsFault}
+use Rattle.gix_refspec_text.proofs.Common.{◌≡◌, ◌∷◌, codes, sym, subst, arith, both_ways, common_steps, EndsWith, slash, AddsFault}
 use Rattle.gix_refspec_text.proofs.lemmas.texts.NameLemmas.{slash_adds, last_byte, locked_after_slash}
 use Rattle.gix_refspec_text.proofs.name.special_fault.Goals as goal
 

@@ -1,11 +1,8 @@
 -- With letters for its stars the text has a fault if a byte adds one, or if one is left at its end.
-use Rattle.std.proofs.Common.{◌≡◌, ◌∷◌, Some, None, take, length, subst, arith}
-use Rattle.std.proofs.lemmas.List.{take_all}
-use Rattle.gix_refspec_text.specs.Texts.Bytes.{slash}
-use Rattle.gix_refspec_text.specs.Private.Scan.{IsClean, IsStarCount, one_if, with_letters}
+use Rattle.gix_refspec_text.proofs.Common.{◌≡◌, ◌∷◌, Some, None, take, length, subst, arith, take_all, slash, IsClean, IsStarCount, one_if, with_letters}
 use Rattle.gix_refspec_text.proofs.lemmas.texts.LetterLemmas.{answer_with_letters}
-use Rattle.gix_refspec_text.proofs.name.starred_name.Goals as goal
 use Rattle.gix_refspec_text.proofs.lemmas.lists.EmptyLemmas.{full_from_test}
+use Rattle.gix_refspec_text.proofs.name.starred_name.Goals as goal
 
 pub returns-in-Some : goal.returns-in-Some
 returns-in-Some c =

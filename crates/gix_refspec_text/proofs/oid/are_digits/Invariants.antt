@@ -1,5 +1,4 @@
-use Rattle.std.proofs.Common.{◌≡◌, take}
-use Rattle.std.specs.List.{list_all}
+use Rattle.gix_refspec_text.proofs.Common.{◌≡◌, take, list_all}
 use Rattle.hex.specs.Hex.{is_hex_digit}
 use Rattle.gix_refspec_text.proofs.oid.are_digits.Given as goal
 

@@ -1,6 +1,5 @@
 -- The only star makes a pattern. Without one, a side that doesn't begin with `refs/` and isn't an id is a partial name.
-use Rattle.std.proofs.Common.{refl, rules, ◌∷◌, ◌++◌, ◌∙◌, ap}
-use Rattle.gix_refspec_text.specs.Texts.Bytes.{star}
+use Rattle.gix_refspec_text.proofs.Common.{refl, rules, ◌∷◌, ◌++◌, ◌∙◌, ap, star}
 use Rattle.gix_refspec_text.proofs.lemmas.texts.ObjectIdLemmas.{IsIdText-sound}
 use Rattle.gix_refspec_text.proofs.lemmas.texts.TextLemmas.{Lacks-from_absent}
 use Rattle.gix_refspec_text.proofs.side.kind_of.Goals as goal

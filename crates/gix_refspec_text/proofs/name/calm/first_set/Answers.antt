@@ -1,5 +1,4 @@
-use Rattle.std.proofs.Common.{sym}
-use Rattle.std.proofs.lemmas.Bool.{cond-true, cond-false, eq-eqb, ne_eqb}
+use Rattle.gix_refspec_text.proofs.Common.{sym, cond-true, cond-false, eq-eqb, ne_eqb}
 use Rattle.gix_refspec_text.proofs.name.calm.first_set.Goals as goal
 
 pub returns-then-mask-eq0 : goal.returns-then-mask-eq0

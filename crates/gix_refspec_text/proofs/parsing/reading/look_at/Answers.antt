@@ -1,6 +1,5 @@
 -- A side with a star is a pattern, and one without is a name.
-use Rattle.std.proofs.Common.{ap, ◌∙◌}
-use Rattle.gix_refspec_text.specs.Private.Scan.{one_if}
+use Rattle.gix_refspec_text.proofs.Common.{ap, ◌∙◌, one_if}
 use Rattle.gix_refspec_text.proofs.lemmas.texts.StarLemmas.{Lacks-count_by, HasOneStar-count_by}
 use Rattle.gix_refspec_text.proofs.lemmas.texts.LetterLemmas.{name_without_stars, pattern_with_letter}
 use Rattle.gix_refspec_text.proofs.parsing.reading.look_at.Goals as goal

@@ -1,16 +1,10 @@
 -- A negative spec with a checked source that isn't empty and doesn't look like an object hash.
-use Rattle.std.proofs.Common.{None, refl, ap, ◌∙◌}
-use Rattle.std.proofs.lemmas.Bool.{false≢true}
-use Rattle.gix_refspec_text.specs.Specs.Grammar.{LooksLikeObjectHash, AreParts, named_by}
-use Rattle.gix_refspec_text.specs.Specs.Reading.{Negative}
-use Rattle.gix_refspec_text.specs.Specs.Refusal.{NegativeObjectHash}
-use Rattle.gix_refspec_text.specs.Views.Instruction.{mode_of}
-use Rattle.gix_refspec_text.specs.Private.Sides.{side_of}
+use Rattle.gix_refspec_text.proofs.Common.{None, refl, ap, ◌∙◌, false≢true, LooksLikeObjectHash, AreParts, named_by, Negative, NegativeObjectHash, mode_of, side_of}
 use Rattle.gix_refspec_text.proofs.lemmas.parsing.SideLemmas.{none_from_test}
 use Rattle.gix_refspec_text.proofs.lemmas.parsing.ReasonLemmas.{reason_against_object}
 use Rattle.gix_refspec_text.proofs.lemmas.parsing.ReadsLemmas.{read_with, negative_reads}
-use Rattle.gix_refspec_text.proofs.parsing.reading.negative_sides.Goals as goal
 use Rattle.gix_refspec_text.proofs.lemmas.lists.EmptyLemmas.{full_from_test}
+use Rattle.gix_refspec_text.proofs.parsing.reading.negative_sides.Goals as goal
 
 pub returns-then-looks_like_object_hash-clause-err : goal.returns-then-looks_like_object_hash-clause-err
 returns-then-looks_like_object_hash-clause-err c =

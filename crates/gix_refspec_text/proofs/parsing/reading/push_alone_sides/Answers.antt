@@ -1,15 +1,10 @@
 -- A source alone was checked. If it is empty, the text has a sign.
-use Rattle.std.proofs.Common.{◌≡◌, [], None, refl, ap, ◌∙◌}
-use Rattle.gix_refspec_text.specs.declared.parsing.Operation.TheVariants.{Push}
-use Rattle.gix_refspec_text.specs.Specs.Grammar.{AreParts, named_by}
-use Rattle.gix_refspec_text.specs.Specs.Reading.{Normal}
-use Rattle.gix_refspec_text.specs.Views.Instruction.{mode_of}
-use Rattle.gix_refspec_text.specs.Private.Sides.{side_of}
+use Rattle.gix_refspec_text.proofs.Common.{◌≡◌, [], None, refl, ap, ◌∙◌, Push, AreParts, named_by, Normal, mode_of, side_of}
 use Rattle.gix_refspec_text.proofs.lemmas.parsing.SideLemmas.{signed_from_test}
 use Rattle.gix_refspec_text.proofs.lemmas.parsing.ReadsLemmas.{read_with, push_alone_reads}
+use Rattle.gix_refspec_text.proofs.lemmas.lists.EmptyLemmas.{full_from_test}
 use Rattle.gix_refspec_text.proofs.parsing.reading.push_alone_sides.Goals as goal
 use Rattle.gix_refspec_text.proofs.parsing.reading.push_alone_sides.Goals.{else-eq-via-then-eq+else-is_empty, else-eq-via-else-eq}
-use Rattle.gix_refspec_text.proofs.lemmas.lists.EmptyLemmas.{full_from_test}
 
 pub returns-clause-ok : goal.returns-clause-ok
 returns-clause-ok c = λ text parts.

@@ -1,14 +1,7 @@
 -- No reason before those of the source applies to a positive push to a destination. The checks return the reasons of
 -- its sides.
-use Rattle.std.proofs.Common.{Some, refl, sym, ap, ◌∙◌, subst, rules}
-use Rattle.std.proofs.lemmas.Result.{err_from_is_err_and}
-use denote.Enum.Bare.{differs_true, differs_false}
-use Rattle.gix_refspec_text.specs.contracts.parsing.reading.Shape.{the_type}
-use Rattle.gix_refspec_text.specs.declared.parsing.Operation.TheVariants.{Push}
-use Rattle.gix_refspec_text.specs.Specs.Grammar.{AreParts, named_by}
-use Rattle.gix_refspec_text.specs.Specs.Refusal.{PatternUnbalanced, IsBadPattern}
-use Rattle.gix_refspec_text.specs.Views.Instruction.{mode_of}
-use Rattle.gix_refspec_text.specs.Private.Sides.{HasCheckedShape, side_of}
+use Rattle.gix_refspec_text.proofs.Common.{Some, refl, sym, ap, ◌∙◌, subst, rules, err_from_is_err_and, differs_true, differs_false, the_type, Push, AreParts, named_by, PatternUnbalanced, IsBadPattern, mode_of}
+use Rattle.gix_refspec_text.proofs.Common.{HasCheckedShape, side_of}
 use Rattle.gix_refspec_text.proofs.lemmas.parsing.ReasonLemmas.{push_reaches, bad_source_of_push, error_at_source, error_at_destination, push_source_fine, unbalanced_push}
 use Rattle.gix_refspec_text.proofs.lemmas.parsing.ReadsLemmas.{read_with, push_reads}
 use Rattle.gix_refspec_text.proofs.parsing.reading.push_sides.Goals as goal

@@ -1,7 +1,5 @@
 -- The fault is one of the side, or of the side with a letter for its one star.
-use Rattle.std.proofs.Common.{refl}
-use Rattle.gix_refspec_text.specs.Specs.Refusal.{ReferenceName}
-use Rattle.gix_refspec_text.specs.Private.Scan.{with_letters}
+use Rattle.gix_refspec_text.proofs.Common.{refl, ReferenceName, with_letters}
 use Rattle.gix_refspec_text.proofs.lemmas.texts.LetterLemmas.{fault_without_stars, replaces_one}
 use Rattle.gix_refspec_text.proofs.parsing.reading.with_fault.Goals as goal
 

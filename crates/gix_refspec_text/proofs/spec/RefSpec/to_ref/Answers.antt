@@ -1,8 +1,5 @@
 -- Borrowed sides have the bytes of the owned ones, so they are accepted too.
-use Rattle.std.proofs.Common.{sym, subst}
-use Rattle.gix_refspec_text.specs.Specs.Reading.{Reading}
-use Rattle.gix_refspec_text.specs.Specs.Grammar.{IsAccepted}
-use Rattle.gix_refspec_text.specs.Views.Instruction.{mode_of}
+use Rattle.gix_refspec_text.proofs.Common.{sym, subst, Reading, IsAccepted, mode_of}
 use Rattle.gix_refspec_text.proofs.lemmas.parsing.ReadsLemmas.{same_reading}
 use Rattle.gix_refspec_text.proofs.spec.RefSpec.to_ref.Goals as goal
 

@@ -1,5 +1,5 @@
 -- The text that reads as it.
-use Rattle.bstr.specs.BStr.{bstr_bytes}
+use Rattle.gix_refspec_text.proofs.Common.{bstr_bytes}
 use Rattle.gix_refspec_text.proofs.lemmas.specs.FetchLemmas.{alone_accepted}
 use Rattle.gix_refspec_text.proofs.spec.RefSpecRef.fetch_of.Goals as goal
 

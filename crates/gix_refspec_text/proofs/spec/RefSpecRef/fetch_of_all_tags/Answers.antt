@@ -1,8 +1,5 @@
 -- The text that reads as it.
-use Rattle.std.proofs.Common.{ℕ, List, Some, sym, subst}
-use Rattle.gix_refspec_text.specs.declared.parsing.Operation.TheVariants.{Fetch}
-use Rattle.gix_refspec_text.specs.Specs.Reading.{Normal}
-use Rattle.gix_refspec_text.specs.Specs.Grammar.{IsAccepted}
+use Rattle.gix_refspec_text.proofs.Common.{ℕ, List, Some, sym, subst, Fetch, Normal, IsAccepted}
 use Rattle.gix_refspec_text.proofs.lemmas.specs.FetchLemmas.{all_tags_accepted}
 use Rattle.gix_refspec_text.proofs.spec.RefSpecRef.fetch_of_all_tags.Goals as goal
 

@@ -1,8 +1,5 @@
 -- The side on the remote has no prefix.
-use Rattle.std.proofs.Common.{List, ℕ, subst, sym, MatchOption}
-use Rattle.bstr.specs.BStr.{bstr_bytes}
-use Rattle.gix_refspec_text.specs.Matching.Prefix.{HasPrefix, IsPrefix}
-use Rattle.gix_refspec_text.specs.Views.Spec.{reading_of}
+use Rattle.gix_refspec_text.proofs.Common.{List, ℕ, subst, sym, MatchOption, bstr_bytes, HasPrefix, IsPrefix, reading_of}
 use Rattle.gix_refspec_text.proofs.lemmas.prefixes.PrefixLemmas.{one_asked}
 use Rattle.gix_refspec_text.proofs.spec.RefSpecRef.prefix.Goals as goal
 

@@ -1,5 +1,5 @@
 -- The kind of the source decides.
-use Rattle.std.proofs.Common.{refl}
+use Rattle.gix_refspec_text.proofs.Common.{refl}
 use Rattle.gix_refspec_text.proofs.lemmas.hits.PremiseLemmas.{told_name, told_pattern}
 use Rattle.gix_refspec_text.proofs.spec.prefix.is_covering.Goals as goal
 

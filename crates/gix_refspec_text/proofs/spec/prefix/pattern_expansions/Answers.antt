@@ -1,8 +1,5 @@
 -- The pattern itself, its candidates or nothing. Only entries need memory.
-use Rattle.std.proofs.Common.{ap, map}
-use Rattle.std.proofs.lemmas.Result.{IfOk-weaker}
-use Rattle.bstr.specs.Owned.{bstring_bytes}
-use Rattle.gix_refspec_text.specs.Matching.Prefix.{to_itself, below_refs, to_candidates}
+use Rattle.gix_refspec_text.proofs.Common.{ap, map, IfOk-weaker, bstring_bytes, to_itself, below_refs, to_candidates}
 use Rattle.gix_refspec_text.proofs.lemmas.prefixes.PrefixLemmas.{itself_expands, partial_expands, starred_no_id, on_any_error}
 use Rattle.gix_refspec_text.proofs.spec.prefix.pattern_expansions.Goals as goal
 
