@@ -10,7 +10,6 @@ pub mod ReasonFacts
 pub mod FaultFacts
 pub mod MeaningFacts
 pub mod SideFacts
-pub mod SideLawFacts
 pub mod CoveringFacts
 pub mod PrefixFacts
 pub mod ViewFacts

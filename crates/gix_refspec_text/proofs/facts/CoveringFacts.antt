@@ -1,6 +1,6 @@
 -- Which sources are covering.
-use Rattle.gix_refspec_text.proofs.Common.{ℕ, List, [], None, Some, codes, refl, subst, arith, star, bracket, Normal, pushed, IsPrefix, of_head, of_name, of_pattern, IsCovering, by_prefix, by_candidates}
-use Rattle.gix_refspec_text.proofs.Common.{HasCoveringSource, same_Some}
+use Rattle.gix_refspec_text.proofs.Common.{[], None, Some, codes, refl, subst, arith, star, bracket, Normal, pushed, IsPrefix, of_head, of_name, of_pattern, IsCovering, by_prefix, by_candidates}
+use Rattle.gix_refspec_text.proofs.Common.{HasCoveringSource, same_Some, HasNoPrefix}
 use Rattle.gix_refspec_text.proofs.lemmas.hits.MatchLemmas.{split_once}
 use Rattle.gix_refspec_text.proofs.facts.ManualFacts.{Lacks-tested, other_length}
 use Rattle.gix_refspec_text.proofs.facts.FitFacts.{split_at_end, no_dev, short, short_kind, other_byte, other_first, push_is_none}
@@ -23,26 +23,19 @@ covering = (
   by_candidates short_kind.1 (other_byte 0 (codes "main") (codes "HEAD") (λ same. omega (arith, same))) short_kind.2,
 )
 
+-- a pattern with its star right after `refs/` has no prefix
+pub no_bare_prefix : HasNoPrefix (codes "refs/*")
+no_bare_prefix p (of_head is_head same) = other_length _ _ (λ size. omega (arith, size)) is_head
+no_bare_prefix p (of_name begins lacks same) = Lacks-here star (codes "refs/") [] lacks
+no_bare_prefix p (of_pattern before after split tells same) = tells.further ((split_once (codes "refs/*") before after (codes "refs/") [] split (split_at_end (codes "refs/") refl)).0)
+
 -- `HEAD`, `*` and `refs/*` aren't
 pub not_covering : ¬ (IsCovering (codes "HEAD")) × ¬ (IsCovering (codes "*")) × ¬ (IsCovering (codes "refs/*"))
-not_covering = (no_head, no_star, no_refs)
-  where
-    no_head : ¬ (IsCovering (codes "HEAD"))
-    no_head (by_prefix p begins prefix) = other_first 72 (codes "EAD") (λ same. omega (arith, same)) begins
-    no_head (by_candidates lacks other outside) = other refl
-
-    no_star : ¬ (IsCovering (codes "*"))
-    no_star (by_prefix p begins prefix) = other_first 42 [] (λ same. omega (arith, same)) begins
-    no_star (by_candidates lacks other outside) = Lacks-here star [] [] lacks
-
-    no_prefix : (p : List ℕ) → ¬ (IsPrefix (codes "refs/*") p)
-    no_prefix p (of_head is_head same) = other_length _ _ (λ size. omega (arith, size)) is_head
-    no_prefix p (of_name begins lacks same) = Lacks-here star (codes "refs/") [] lacks
-    no_prefix p (of_pattern before after split tells same) = tells.further ((split_once (codes "refs/*") before after (codes "refs/") [] split (split_at_end (codes "refs/") refl)).0)
-
-    no_refs : ¬ (IsCovering (codes "refs/*"))
-    no_refs (by_prefix p begins prefix) = no_prefix p prefix
-    no_refs (by_candidates lacks other outside) = Lacks-here star (codes "refs/") [] lacks
+not_covering = (
+  (λ covers. elim covers [ by_prefix p begins prefix ↦ other_first 72 (codes "EAD") (λ same. omega (arith, same)) begins | by_candidates lacks other outside ↦ other refl ]),
+  (λ covers. elim covers [ by_prefix p begins prefix ↦ other_first 42 [] (λ same. omega (arith, same)) begins | by_candidates lacks other outside ↦ Lacks-here star [] [] lacks ]),
+  λ covers. elim covers [ by_prefix p begins prefix ↦ no_bare_prefix p prefix | by_candidates lacks other outside ↦ Lacks-here star (codes "refs/") [] lacks ],
+)
 
 -- a negative spec and a partial name have a covering source; a push never has one, whatever its source
 pub covering_sources : HasCoveringSource no_dev × HasCoveringSource short × ¬ (HasCoveringSource (pushed Normal (Some (codes "main")) None))

@@ -1,11 +1,13 @@
 -- The faults of ref names, each with a text that has it and a similar one that hasn't: which words a text contains,
 -- and in which of its components.
-use Rattle.gix_refspec_text.proofs.Common.{◌≡◌, ◌≢◌, ℕ, Bool, true, false, ◌==◌, ◌||◌, nat_eq, List, [], ◌∷◌, ◌++◌, codes, refl, sym, ap, ◌∙◌, subst, All, AllByRecursion, starts_with, ends_with, slice_split}
-use Rattle.gix_refspec_text.proofs.Common.{join_with_byte, list_any, All-nil, All-cons, true≢false, false≢true, eqb-true, Decides-eqb, starts_is, ends_is, Empty, EmptyComponent, StartsWithDot, LockSuffix, EndsWithDot}
-use Rattle.gix_refspec_text.proofs.Common.{RepeatedDot, ReflogPortion, Asterisk, InvalidByte, Lacks, ContainsText, BeginsWith, EndsWith, SomeComponent, HasFault, HasStar, slash}
+use Rattle.gix_refspec_text.proofs.Common.{◌≡◌, ◌≢◌, ℕ, Bool, true, false, ◌==◌, ◌||◌, nat_eq, List, [], ◌∷◌, ◌++◌, codes, refl, sym, ap, ◌∙◌, subst, All, AllByRecursion, starts_with, ends_with}
+use Rattle.gix_refspec_text.proofs.Common.{slice_split, join_with_byte, list_any, true≢false, false≢true, Decides-eqb, starts_is, ends_is, Empty, EmptyComponent, StartsWithDot, LockSuffix}
+use Rattle.gix_refspec_text.proofs.Common.{EndsWithDot, RepeatedDot, ReflogPortion, Asterisk, InvalidByte, Lacks, ContainsText, BeginsWith, EndsWith, SomeComponent, HasFault, HasStar, slash}
+use Rattle.gix_refspec_text.proofs.Common.{All-from_recursion, ne_eqb}
 use Rattle.std.proofs.lemmas.List.Splits.{slice_split_none, slice_split_at}
 use Rattle.gix_refspec_text.proofs.lemmas.texts.ComponentLemmas.{AllByRecursion-parts}
 use Rattle.gix_refspec_text.proofs.facts.ManualFacts.{Lacks-tested, full}
+use Rattle.gix_refspec_text.proofs.lemmas.lists.AllLemmas.{all_weaker}
 
 -- a text doesn't begin with a word, end with it or contain it, by tests that compute
 pub begins_not : (w x : List ℕ) → starts_with nat_eq x w ≡ false → ¬ (BeginsWith w x)
@@ -24,8 +26,7 @@ holds_after w [] after [] here = (starts_is Decides-eqb [] w (starts_with nat_eq
 holds_after w [] after (b ∷ x) here = ap (λ v. v || holds w x) ((starts_is Decides-eqb (b ∷ x) w (starts_with nat_eq (b ∷ x) w) refl).1 after here)
 holds_after w (c ∷ before) after [] here = cc
 holds_after w (c ∷ before) after (b ∷ x) here =
-    let tails : x ≡ before ++ (w ++ after) = cc in
-    ap (λ v. starts_with nat_eq (b ∷ x) w || v) (holds_after w before after x tails) ∙ or_true (starts_with nat_eq (b ∷ x) w)
+    ap (λ v. starts_with nat_eq (b ∷ x) w || v) (holds_after w before after x (cc)) ∙ or_true (starts_with nat_eq (b ∷ x) w)
   where
     or_true : (v : Bool) → (v || true) ≡ true
     or_true true = refl
@@ -36,15 +37,8 @@ holds_not w x none has = true≢false (sym (holds_after w has.before has.after x
 
 -- ---- components
 
-unlike : (c b : ℕ) → c ≢ b → (c == b) ≡ false
-unlike c b differ = elim (c == b) as (λ v. (c == b) ≡ v → v ≡ false) [
-  | true ↦ λ same. absurd (differ (eqb-true c b same))
-  | false ↦ λ other. refl
-] refl
-
 no_slash : (x : List ℕ) → Lacks slash x → All (λ c. (c == slash) ≡ false) x
-no_slash [] lacks = All-nil (λ c. (c == slash) ≡ false)
-no_slash (c ∷ x) lacks = All-cons (λ c. (c == slash) ≡ false) c x (unlike c slash lacks.0) (no_slash x lacks.1)
+no_slash x lacks = All-from_recursion (λ c. (c == slash) ≡ false) x (all_weaker (λ c. c ≢ slash) (λ c. (c == slash) ≡ false) (λ c other. ne_eqb c slash other) x lacks)
 
 -- parts without a slash are those that a text is split into at its slashes
 split_joined : (p : List ℕ) (ps : List (List ℕ)) → AllByRecursion (Lacks slash) (p ∷ ps) → slice_split (λ c. c == slash) (join_with_byte slash (p ∷ ps)) ≡ p ∷ ps

@@ -1,11 +1,12 @@
 -- The definitions on sides of specs, and the readings and names that other examples use.
-use Rattle.gix_refspec_text.proofs.Common.{◌≡◌, ◌≢◌, ℕ, zero, suc, ◌==◌, false, List, [], ◌∷◌, ◌++◌, None, Some, length, get_or, codes, refl, ap, ◌∙◌, subst, arith, AllByRecursion, Contains, list_any, length-append}
-use Rattle.gix_refspec_text.proofs.Common.{Kind, Sha1, Sha256, Fetch, Push, BeginsWith, IsSplit, star, IsIdText, digits_of, Normal, Forced, Negative, Reading, fetched, full_name, object, partial, HasKind, Fits, Excludes}
-use Rattle.gix_refspec_text.proofs.Common.{the_name, by_pattern, filled, Ref}
+use Rattle.gix_refspec_text.proofs.Common.{◌≡◌, ◌≢◌, ℕ, zero, suc, ◌==◌, false, List, [], ◌∷◌, ◌++◌, None, Some, length, get_or, codes, refl, ap, ◌∙◌, subst, arith, AllByRecursion, Contains, list_any}
+use Rattle.gix_refspec_text.proofs.Common.{length-append, Fetch, Push, BeginsWith, IsSplit, star, IsIdText, Normal, Forced, Negative, Reading, fetched, full_name, object, partial, HasKind, Fits}
+use Rattle.gix_refspec_text.proofs.Common.{Excludes, the_name, by_pattern, filled, Ref}
 use Rattle.gix_refspec_text.proofs.lemmas.hits.MatchLemmas.{split_once, lacks_no_pattern}
 use Rattle.gix_refspec_text.proofs.facts.ManualFacts.{Lacks-tested, other_length, named}
 use Rattle.gix_refspec_text.proofs.facts.ObjectIdFacts.{empty_blob, IsIdText-empty_blob, lower_of-empty_blob}
 use Rattle.gix_refspec_text.proofs.lemmas.lists.LacksLemmas.{Lacks-here}
+use Rattle.gix_refspec_text.proofs.lemmas.texts.ObjectIdLemmas.{no_kind}
 
 -- texts that differ at an index differ
 pub other_byte : (k : ℕ) (x y : List ℕ) → get_or x k 0 ≢ get_or y k 0 → x ≢ y
@@ -96,11 +97,7 @@ blob_kind = (
 )
 
 pub short_no_id : (bytes : List ℕ) → ¬ (IsIdText (codes "main") bytes)
-short_no_id bytes text = no_digits text.kind text.digits
-  where
-    no_digits : (kind : Kind) → 4 ≢ digits_of kind
-    no_digits Sha1 same = omega (arith, same)
-    no_digits Sha256 same = omega (arith, same)
+short_no_id bytes text = no_kind 4 (λ same. omega (arith, same)) (λ same. omega (arith, same)) (text.kind, text.digits)
 
 pub short_kind : HasKind (codes "main") (partial (codes "main"))
 short_kind = (

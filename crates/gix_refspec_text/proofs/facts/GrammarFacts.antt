@@ -1,44 +1,19 @@
 -- The definitions of the grammar, and each of its thirteen forms at texts like those of git-fetch(1) and
 -- git-push(1), with `+` and without.
-use Rattle.gix_refspec_text.proofs.Common.{◌≡◌, ◌≢◌, ◌<◌, ℕ, ◌==◌, ◌||◌, Bool, true, false, List, [], ◌∷◌, ◌++◌, Option, None, Some, unwrap_or, length, codes, refl, ap, inl, inr, arith, replicate, list_any, or_parts}
-use Rattle.gix_refspec_text.proofs.Common.{false≢true, length-replicate, AllPass-from_list_all, list_all-from_AllPass, is_ascii_hexdigit, Operation, Push, Fetch, slash, star, letter, plus, caret, colon, Mode, Normal}
-use Rattle.gix_refspec_text.proofs.Common.{Forced, Negative, Reading, IsUnsigned, IsSigned, with_colon, LastLacksColon, AreParts, IsPositive, named_by, LooksLikeObjectHash, IsNameOrPattern, AreAlike, fetched, pushed}
-use Rattle.gix_refspec_text.proofs.Common.{Reads, fetches_nothing_named, fetches_colon, fetches, updates, updates_from_head, fetch_excludes, pushes_plus, pushes_colon, pushes, deletes, pushes_pattern, pushes_to}
-use Rattle.gix_refspec_text.proofs.Common.{push_excludes, Asterisk, InvalidByte, is_refused_byte, HasFault, IsName, IsPattern, same_Some}
+use Rattle.gix_refspec_text.proofs.Common.{◌≡◌, ◌≢◌, ◌<◌, ℕ, ◌==◌, true, false, List, [], ◌∷◌, ◌++◌, None, Some, length, codes, refl, ap, inl, inr, arith, replicate, list_any, false≢true}
+use Rattle.gix_refspec_text.proofs.Common.{length-replicate, AllPass-from_list_all, list_all-from_AllPass, is_ascii_hexdigit, Operation, Push, Fetch, slash, star, letter, caret, colon, Mode, Normal}
+use Rattle.gix_refspec_text.proofs.Common.{Forced, Negative, Reading, IsUnsigned, IsSigned, with_colon, LastLacksColon, AreParts, IsPositive, named_by, LooksLikeObjectHash, IsNameOrPattern, AreAlike}
+use Rattle.gix_refspec_text.proofs.Common.{fetched, pushed, Reads, fetches_nothing_named, fetches_colon, fetches, updates, updates_from_head, fetch_excludes, pushes_plus, pushes_colon, pushes}
+use Rattle.gix_refspec_text.proofs.Common.{deletes, pushes_pattern, push_excludes, Asterisk, InvalidByte, is_refused_byte, HasFault, IsName, IsPattern, same_Some}
 use Rattle.gix_refspec_text.proofs.lemmas.parsing.ReadOnceLemmas.{reads_once}
 use Rattle.gix_refspec_text.proofs.lemmas.texts.TextLemmas.{Lacks-ContainsText}
 use Rattle.gix_refspec_text.proofs.lemmas.parsing.SideLemmas.{HasStar-pattern}
 use Rattle.gix_refspec_text.proofs.facts.FitFacts.{other_byte}
 use Rattle.gix_refspec_text.proofs.lemmas.texts.TestedLemmas.{is_suspect, IsName-tested}
-use Rattle.gix_refspec_text.proofs.facts.ManualFacts.{Lacks-tested, IsPattern-tested, full, none_some, some_none, other_length, no_sign}
+use Rattle.gix_refspec_text.proofs.facts.ManualFacts.{begins_signed, with_sign, parts, updates_name, pushes_name, pushes_object, Lacks-tested, IsPattern-tested, none_some, some_none, other_length}
+use Rattle.gix_refspec_text.proofs.facts.ManualFacts.{no_sign}
 use Rattle.gix_refspec_text.proofs.facts.RefusalFacts.{too_short}
 use Rattle.gix_refspec_text.proofs.lemmas.lists.LacksLemmas.{Lacks-here}
-
--- ---- texts and their parts
-
--- whether the first byte is a sign, although the mode has none
-abbrev pub begins_signed : Mode → List ℕ → Bool
-begins_signed Normal (b ∷ rest) = b == plus || b == caret
-begins_signed mode rest = false
-
-abbrev pub with_sign : Mode → List ℕ → List ℕ
-with_sign Normal rest = rest
-with_sign Forced rest = plus ∷ rest
-with_sign Negative rest = caret ∷ rest
-
-signed_tested : (mode : Mode) (rest : List ℕ) → begins_signed mode rest ≡ false → IsSigned mode (with_sign mode rest) rest
-signed_tested Normal [] none = (refl, tt)
-signed_tested Normal (b ∷ rest) none = let signs = or_parts (b == plus) (b == caret) none in no_sign b rest signs.0 signs.1
-signed_tested Forced rest none = refl
-signed_tested Negative rest none = refl
-
-last_tested : (s : List ℕ) (d : Option (List ℕ)) → list_any (λ c. c == colon) (unwrap_or d s) ≡ false → LastLacksColon s d
-last_tested s None none = Lacks-tested colon s none
-last_tested s (Some d) none = Lacks-tested colon d none
-
--- a text has these parts if tests find no further sign and no further colon
-pub parts : (mode : Mode) (s : List ℕ) (d : Option (List ℕ)) → begins_signed mode (with_colon s d) ≡ false → list_any (λ c. c == colon) (unwrap_or d s) ≡ false → AreParts mode s d (with_sign mode (with_colon s d))
-parts mode s d unsigned last = record { signed = signed_tested mode (with_colon s d) unsigned; last = last_tested s d last }
 
 -- ---- the words of the forms
 
@@ -97,23 +72,16 @@ no_name_with_star x pattern name = name Asterisk (HasStar-pattern x pattern)
 
 -- a name, a pattern, and a text that is neither
 pub names_and_patterns : IsNameOrPattern (codes "b") × IsNameOrPattern (codes "a*") × ¬ (IsNameOrPattern (codes "a b"))
-names_and_patterns = (inl b_name, inr a_star, neither)
-  where
-    neither : ¬ (IsNameOrPattern (codes "a b"))
-    neither (inl name) = no_name name
-    neither (inr pattern) = no_pattern (codes "a b") refl pattern
+names_and_patterns = (inl b_name, inr a_star, λ side. elim side [ inl name ↦ no_name name | inr pattern ↦ no_pattern (codes "a b") refl pattern ])
 
 -- two names, two patterns, and one of each
 pub alike : AreAlike (codes "b") (codes "b") × AreAlike (codes "a*") (codes "a*") × ¬ (AreAlike (codes "a*") (codes "b")) × ¬ (AreAlike (codes "b") (codes "a*"))
-alike = (inl (b_name, b_name), inr (a_star, a_star), pattern_first, name_first)
-  where
-    pattern_first : ¬ (AreAlike (codes "a*") (codes "b"))
-    pattern_first (inl names) = no_name_with_star (codes "a*") a_star names.0
-    pattern_first (inr patterns) = no_pattern (codes "b") refl patterns.1
-
-    name_first : ¬ (AreAlike (codes "b") (codes "a*"))
-    name_first (inl names) = no_name_with_star (codes "a*") a_star names.1
-    name_first (inr patterns) = no_pattern (codes "b") refl patterns.0
+alike = (
+  inl (b_name, b_name),
+  inr (a_star, a_star),
+  (λ sides. elim sides [ inl names ↦ no_name_with_star (codes "a*") a_star names.0 | inr patterns ↦ no_pattern (codes "b") refl patterns.1 ]),
+  λ sides. elim sides [ inl names ↦ no_name_with_star (codes "a*") a_star names.1 | inr patterns ↦ no_pattern (codes "b") refl patterns.0 ],
+)
 
 no_digit : ¬ (LooksLikeObjectHash (codes "g" ++ replicate 39 letter))
 no_digit hash = false≢true (list_all-from_AllPass is_ascii_hexdigit (codes "g" ++ replicate 39 letter) hash.digits)
@@ -150,9 +118,6 @@ fetches_to_nothing mode s positive unsigned sound = fetches mode s refl positive
 -- a colon after a name changes nothing
 pub fetches_main_colon : Reads Fetch (codes "main:") (fetched Normal (codes "main") None) × Reads Fetch (codes "+main:") (fetched Forced (codes "main") None) × Reads Fetch (codes "@:") (fetched Normal (codes "HEAD") None)
 fetches_main_colon = (fetches_to_nothing Normal (codes "main") tt refl refl, fetches_to_nothing Forced (codes "main") tt refl refl, fetches_to_nothing Normal (codes "@") tt refl refl)
-
-updates_name : (mode : Mode) (s d : List ℕ) → IsPositive mode → begins_signed mode (with_colon s (Some d)) ≡ false → list_any (λ c. c == colon) d ≡ false → is_suspect slash s ≡ false → is_suspect slash d ≡ false → Reads Fetch (with_sign mode (with_colon s (Some d))) (fetched mode (named_by s) (Some d))
-updates_name mode s d positive unsigned last sound also = updates mode s d refl positive (parts mode s (Some d) unsigned last) (inl (IsName-tested s sound, IsName-tested d also)) refl
 
 -- two names, of which only the source may be short for `HEAD`
 pub updates_names : Reads Fetch (codes "main:refs/x/b") (fetched Normal (codes "main") (Some (codes "refs/x/b"))) × Reads Fetch (codes "+main:refs/x/b") (fetched Forced (codes "main") (Some (codes "refs/x/b"))) × Reads Fetch (codes "@:@") (fetched Normal (codes "HEAD") (Some (codes "@")))
@@ -206,9 +171,6 @@ pushes_matching = (
   pushes_colon Forced refl tt (parts Forced [] (Some []) refl refl) refl,
 )
 
-pushes_name : (mode : Mode) (s : List ℕ) → IsPositive mode → begins_signed mode s ≡ false → list_any (λ c. c == colon) s ≡ false → is_suspect slash s ≡ false → Reads Push (with_sign mode s) (pushed mode (Some (named_by s)) None)
-pushes_name mode s positive unsigned last sound = pushes mode s refl positive (parts mode s None unsigned last) (inl (IsName-tested s sound)) refl
-
 -- a name alone, or a pattern
 pub pushes_alone : Reads Push (codes "main") (pushed Normal (Some (codes "main")) None) × Reads Push (codes "++main") (pushed Forced (Some (codes "+main")) None) × Reads Push (codes "@") (pushed Normal (Some (codes "HEAD")) None) × Reads Push (codes "+refs/heads/*") (pushed Forced (Some (codes "refs/heads/*")) None)
 pushes_alone = (
@@ -231,9 +193,6 @@ pushes_below mode positive unsigned = pushes_pattern mode (codes "refs/heads/*")
 -- two patterns
 pub pushes_patterns : Reads Push (codes "refs/heads/*:refs/x/*") (pushed Normal (Some (codes "refs/heads/*")) (Some (codes "refs/x/*"))) × Reads Push (codes "+refs/heads/*:refs/x/*") (pushed Forced (Some (codes "refs/heads/*")) (Some (codes "refs/x/*")))
 pushes_patterns = (pushes_below Normal tt refl, pushes_below Forced tt refl)
-
-pushes_object : (mode : Mode) (b : ℕ) (s d : List ℕ) → IsPositive mode → begins_signed mode (with_colon (b ∷ s) (Some d)) ≡ false → list_any (λ c. c == colon) d ≡ false → list_any (λ c. c == star) (b ∷ s) ≡ false → is_suspect slash d ≡ false → Reads Push (with_sign mode (with_colon (b ∷ s) (Some d))) (pushed mode (Some (named_by (b ∷ s))) (Some d))
-pushes_object mode b s d positive unsigned last plain sound = pushes_to mode (b ∷ s) d refl positive (parts mode (b ∷ s) (Some d) unsigned last) (full b s) (Lacks-tested star (b ∷ s) plain) (IsName-tested d sound) refl
 
 -- any expression for an object may be a source, even if it isn't a ref name; it goes up to the last colon
 pub pushes_objects : Reads Push (codes "main~2:refs/heads/x") (pushed Normal (Some (codes "main~2")) (Some (codes "refs/heads/x"))) × Reads Push (codes ":/message:refs/heads/x") (pushed Normal (Some (codes ":/message")) (Some (codes "refs/heads/x"))) × Reads Push (codes "+^a..b:x") (pushed Forced (Some (codes "^a..b")) (Some (codes "x"))) × Reads Push (codes "@:@") (pushed Normal (Some (codes "HEAD")) (Some (codes "@"))) × Reads Push (codes "::x") (pushed Normal (Some (codes ":")) (Some (codes "x")))

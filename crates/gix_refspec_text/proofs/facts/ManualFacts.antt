@@ -1,12 +1,13 @@
 -- The definitions of names and refspecs at the examples of git-check-ref-format(1), git-fetch(1) and git-push(1), and
 -- at similar ones on both sides of a boundary, so that a wrong definition fails here.
-use Rattle.gix_refspec_text.proofs.Common.{◌≡◌, ◌≢◌, ◌≤◌, ℕ, ◌==◌, ◌||◌, true, false, List, [], ◌∷◌, ◌++◌, Option, None, Some, map, length, get_or, codes, refl, sym, ap, ◌∙◌, is_some, subst, inl, inr, arith, replicate}
-use Rattle.gix_refspec_text.proofs.Common.{list_any, filter, range_with_len, length-replicate, eqb-false, true≢false, false≢true, LockSuffix, RepeatedDot, ReflogPortion, Operation, Push, Fetch, Lacks, is_refused_byte}
-use Rattle.gix_refspec_text.proofs.Common.{HasFault, HasSeveralStars, IsSplit, ReplacesStar, IsPattern, IsPatternFault, slash, star, letter, plus, caret, colon, Mode, Normal, Forced, Negative, Reading, HasSide}
-use Rattle.gix_refspec_text.proofs.Common.{remote_of, local_of, named_by, IsSigned, AreParts, LooksLikeObjectHash, Reads, updates, pushes_colon, pushes, deletes, pushes_to, push_excludes, pushed, fetched, Meaning}
-use Rattle.gix_refspec_text.proofs.Common.{push_all_matching, push_delete, push_matching, push_exclude, fetch_and_update, meaning_of, text_of, PatternUnsupported, PushToEmpty, NegativeWithDestination, ReferenceName}
-use Rattle.gix_refspec_text.proofs.Common.{IsBadPattern, NeedsMemory, NoReasonBeforeSource, ReachesMemory, MayNeedMemory, pattern, full_name, object, partial, HasKind, candidates, filled, Ref, Matches, MatchesAs}
-use Rattle.gix_refspec_text.proofs.Common.{same_Some}
+use Rattle.gix_refspec_text.proofs.Common.{◌≡◌, ◌≢◌, ◌≤◌, ℕ, ◌==◌, true, false, List, [], ◌∷◌, ◌++◌, Option, None, Some, map, length, get_or, codes, refl, sym, ap, ◌∙◌, is_some, subst, inl, inr}
+use Rattle.gix_refspec_text.proofs.Common.{arith, replicate, list_any, filter, range_with_len, length-replicate, eqb-false, false≢true, LockSuffix, RepeatedDot, ReflogPortion, Operation, Push, Fetch}
+use Rattle.gix_refspec_text.proofs.Common.{Lacks, is_refused_byte, HasFault, HasSeveralStars, IsSplit, ReplacesStar, IsPattern, IsPatternFault, slash, star, letter, plus, caret, colon, Mode, Normal}
+use Rattle.gix_refspec_text.proofs.Common.{Forced, Negative, Reading, HasSide, remote_of, local_of, named_by, IsSigned, AreParts, LooksLikeObjectHash, Reads, updates, pushes_colon, pushes, deletes}
+use Rattle.gix_refspec_text.proofs.Common.{pushes_to, push_excludes, pushed, fetched, Meaning, push_all_matching, push_delete, push_matching, push_exclude, fetch_and_update, meaning_of, text_of}
+use Rattle.gix_refspec_text.proofs.Common.{PatternUnsupported, PushToEmpty, NegativeWithDestination, ReferenceName, IsBadPattern, NeedsMemory, NoReasonBeforeSource, ReachesMemory, MayNeedMemory}
+use Rattle.gix_refspec_text.proofs.Common.{pattern, full_name, object, partial, HasKind, candidates, filled, Ref, Matches, MatchesAs, same_Some, or_parts, unwrap_or, IsPositive, with_colon}
+use Rattle.gix_refspec_text.proofs.Common.{LastLacksColon, Bool, ◌||◌}
 use Rattle.gix_refspec_text.specs.declared.name.PatternError.TheVariants.{Memory}
 use Rattle.gix_refspec_text.proofs.lemmas.texts.TextLemmas.{Lacks-ContainsText}
 use Rattle.gix_refspec_text.proofs.lemmas.texts.TestedLemmas.{is_suspect, IsName-tested}
@@ -17,10 +18,7 @@ use Rattle.gix_refspec_text.proofs.lemmas.lists.LacksLemmas.{Lacks-here}
 -- a text lacks a byte if a test of each byte says so
 pub Lacks-tested : (b : ℕ) (x : List ℕ) → list_any (λ c. c == b) x ≡ false → Lacks b x
 Lacks-tested b [] none = tt
-Lacks-tested b (c ∷ x) none = elim (c == b) as (λ v. (c == b) ≡ v → (v || list_any (λ c. c == b) x) ≡ false → Lacks b (c ∷ x)) [
-  | true ↦ λ same found. absurd (true≢false found)
-  | false ↦ λ other later. (eqb-false c b other, Lacks-tested b x later)
-] refl none
+Lacks-tested b (c ∷ x) none = let both = or_parts (c == b) (list_any (λ c. c == b) x) none in (eqb-false c b both.0, Lacks-tested b x both.1)
 
 -- a text with a byte isn't empty
 pub full : (b : ℕ) (bs : List ℕ) → b ∷ bs ≢ []
@@ -53,13 +51,7 @@ refused_bytes = refl
 pub faults : HasFault (codes "foo..bar") RepeatedDot × HasFault (codes "foo.lock") LockSuffix × HasFault (codes "foo.lock/bar") LockSuffix × HasFault (codes "foo@{bar") ReflogPortion
 faults = (
   record { before = codes "foo"; after = codes "bar"; here = refl },
-  record {
-    before = [];
-    component = codes "foo.lock";
-    after = [];
-    components = record { joined = refl; whole = (Lacks-tested slash (codes "foo.lock") refl, tt) };
-    fact = record { before = codes "foo"; here = refl };
-  },
+  record { before = []; component = codes "foo.lock"; after = []; components = record { joined = refl; whole = (Lacks-tested slash (codes "foo.lock") refl, tt) }; fact = record { before = codes "foo"; here = refl } },
   record {
     before = [];
     component = codes "foo.lock";
@@ -103,75 +95,79 @@ at_sign = (refl, refl)
 pub no_sign : (b : ℕ) (bs : List ℕ) → (b == plus) ≡ false → (b == caret) ≡ false → IsSigned Normal (b ∷ bs) (b ∷ bs)
 no_sign b bs no_plus no_caret = (refl, (eqb-false b plus no_plus, eqb-false b caret no_caret))
 
+-- whether the first byte is a sign, although the mode has none
+abbrev pub begins_signed : Mode → List ℕ → Bool
+begins_signed Normal (b ∷ rest) = b == plus || b == caret
+begins_signed mode rest = false
+
+abbrev pub with_sign : Mode → List ℕ → List ℕ
+with_sign Normal rest = rest
+with_sign Forced rest = plus ∷ rest
+with_sign Negative rest = caret ∷ rest
+
+signed_tested : (mode : Mode) (rest : List ℕ) → begins_signed mode rest ≡ false → IsSigned mode (with_sign mode rest) rest
+signed_tested Normal [] none = (refl, tt)
+signed_tested Normal (b ∷ rest) none = let signs = or_parts (b == plus) (b == caret) none in no_sign b rest signs.0 signs.1
+signed_tested Forced rest none = refl
+signed_tested Negative rest none = refl
+
+last_tested : (s : List ℕ) (d : Option (List ℕ)) → list_any (λ c. c == colon) (unwrap_or d s) ≡ false → LastLacksColon s d
+last_tested s None none = Lacks-tested colon s none
+last_tested s (Some d) none = Lacks-tested colon d none
+
+-- a text has these parts if tests find no further sign and no further colon
+pub parts : (mode : Mode) (s : List ℕ) (d : Option (List ℕ)) → begins_signed mode (with_colon s d) ≡ false → list_any (λ c. c == colon) (unwrap_or d s) ≡ false → AreParts mode s d (with_sign mode (with_colon s d))
+parts mode s d unsigned last = record { signed = signed_tested mode (with_colon s d) unsigned; last = last_tested s d last }
+
+-- then it has the reading with these sides, if they are valid
+pub updates_name : (mode : Mode) (s d : List ℕ) → IsPositive mode → begins_signed mode (with_colon s (Some d)) ≡ false → list_any (λ c. c == colon) d ≡ false → is_suspect slash s ≡ false → is_suspect slash d ≡ false → Reads Fetch (with_sign mode (with_colon s (Some d))) (fetched mode (named_by s) (Some d))
+updates_name mode s d positive unsigned last sound also = updates mode s d refl positive (parts mode s (Some d) unsigned last) (inl (IsName-tested s sound, IsName-tested d also)) refl
+
+pub pushes_name : (mode : Mode) (s : List ℕ) → IsPositive mode → begins_signed mode s ≡ false → list_any (λ c. c == colon) s ≡ false → is_suspect slash s ≡ false → Reads Push (with_sign mode s) (pushed mode (Some (named_by s)) None)
+pushes_name mode s positive unsigned last sound = pushes mode s refl positive (parts mode s None unsigned last) (inl (IsName-tested s sound)) refl
+
+pub pushes_object : (mode : Mode) (b : ℕ) (s d : List ℕ) → IsPositive mode → begins_signed mode (with_colon (b ∷ s) (Some d)) ≡ false → list_any (λ c. c == colon) d ≡ false → list_any (λ c. c == star) (b ∷ s) ≡ false → is_suspect slash d ≡ false → Reads Push (with_sign mode (with_colon (b ∷ s) (Some d))) (pushed mode (Some (named_by (b ∷ s))) (Some d))
+pushes_object mode b s d positive unsigned last plain sound = pushes_to mode (b ∷ s) d refl positive (parts mode (b ∷ s) (Some d) unsigned last) (full b s) (Lacks-tested star (b ∷ s) plain) (IsName-tested d sound) refl
+
 -- git fetch origin +refs/heads/*:refs/remotes/origin/*
 pub fetches_every_branch : Says Fetch (codes "+refs/heads/*:refs/remotes/origin/*") (fetch_and_update (codes "refs/heads/*") (codes "refs/remotes/origin/*") true)
 fetches_every_branch =
-    let s = codes "refs/heads/*" in
-    let d = codes "refs/remotes/origin/*" in
-    let parts : AreParts Forced s (Some d) (codes "+refs/heads/*:refs/remotes/origin/*") = record { signed = refl; last = Lacks-tested colon d refl } in
     let alike = inr (every_branch, IsPattern-tested (codes "refs/remotes/origin/") [] refl refl refl) in
-    (fetched Forced s (Some d), updates Forced s d refl tt parts alike refl, refl)
+    (_, updates Forced (codes "refs/heads/*") (codes "refs/remotes/origin/*") refl tt (parts Forced (codes "refs/heads/*") (Some (codes "refs/remotes/origin/*")) refl refl) alike refl, refl)
 
 -- git fetch origin +seen:seen
 pub fetches_seen : Says Fetch (codes "+seen:seen") (fetch_and_update (codes "seen") (codes "seen") true)
-fetches_seen =
-    let s = codes "seen" in
-    let name = IsName-tested s refl in
-    let parts : AreParts Forced s (Some s) (codes "+seen:seen") = record { signed = refl; last = Lacks-tested colon s refl } in
-    (fetched Forced s (Some s), updates Forced s s refl tt parts (inl (name, name)) refl, refl)
+fetches_seen = (_, updates_name Forced (codes "seen") (codes "seen") tt refl refl refl refl, refl)
 
 -- git push origin master
 pub pushes_master : Says Push (codes "master") (push_matching (codes "master") (codes "master") false)
-pushes_master =
-    let s = codes "master" in
-    let parts : AreParts Normal s None s = record { signed = no_sign 109 (codes "aster") refl refl; last = Lacks-tested colon s refl } in
-    (pushed Normal (Some s) None, pushes Normal s refl tt parts (inl (IsName-tested s refl)) refl, refl)
+pushes_master = (_, pushes_name Normal (codes "master") tt refl refl refl, refl)
 
 -- git push origin HEAD:master
 pub pushes_head : Says Push (codes "HEAD:master") (push_matching (codes "HEAD") (codes "master") false)
-pushes_head =
-    let s = codes "HEAD" in
-    let d = codes "master" in
-    let parts : AreParts Normal s (Some d) (codes "HEAD:master") = record { signed = no_sign 72 (codes "EAD:master") refl refl; last = Lacks-tested colon d refl } in
-    (pushed Normal (Some s) (Some d), pushes_to Normal s d refl tt parts (full _ _) (Lacks-tested star s refl) (IsName-tested d refl) refl, refl)
+pushes_head = (_, pushes_object Normal 72 (codes "EAD") (codes "master") tt refl refl refl refl, refl)
 
 -- git push origin master:refs/heads/experimental
 pub pushes_experimental : Says Push (codes "master:refs/heads/experimental") (push_matching (codes "master") (codes "refs/heads/experimental") false)
-pushes_experimental =
-    let s = codes "master" in
-    let d = codes "refs/heads/experimental" in
-    let parts : AreParts Normal s (Some d) (codes "master:refs/heads/experimental") = record { signed = no_sign 109 (codes "aster:refs/heads/experimental") refl refl; last = Lacks-tested colon d refl } in
-    (pushed Normal (Some s) (Some d), pushes_to Normal s d refl tt parts (full _ _) (Lacks-tested star s refl) (IsName-tested d refl) refl, refl)
+pushes_experimental = (_, pushes_object Normal 109 (codes "aster") (codes "refs/heads/experimental") tt refl refl refl refl, refl)
 
 -- git push origin +dev:master
 pub pushes_dev : Says Push (codes "+dev:master") (push_matching (codes "dev") (codes "master") true)
-pushes_dev =
-    let s = codes "dev" in
-    let d = codes "master" in
-    let parts : AreParts Forced s (Some d) (codes "+dev:master") = record { signed = refl; last = Lacks-tested colon d refl } in
-    (pushed Forced (Some s) (Some d), pushes_to Forced s d refl tt parts (full _ _) (Lacks-tested star s refl) (IsName-tested d refl) refl, refl)
+pushes_dev = (_, pushes_object Forced 100 (codes "ev") (codes "master") tt refl refl refl refl, refl)
 
 -- git push origin :experimental
 pub deletes_experimental : Says Push (codes ":experimental") (push_delete (codes "experimental"))
-deletes_experimental =
-    let d = codes "experimental" in
-    let parts : AreParts Normal [] (Some d) (codes ":experimental") = record { signed = no_sign colon d refl refl; last = Lacks-tested colon d refl } in
-    (pushed Normal None (Some d), deletes Normal d refl tt parts (IsName-tested d refl) refl, refl)
+deletes_experimental = (_, deletes Normal (codes "experimental") refl tt (parts Normal [] (Some (codes "experimental")) refl refl) (IsName-tested (codes "experimental") refl) refl, refl)
 
 -- git push origin :
 pub pushes_matching_branches : Says Push (codes ":") (push_all_matching false)
-pushes_matching_branches =
-    let parts : AreParts Normal [] (Some []) (codes ":") = record { signed = no_sign colon [] refl refl; last = tt } in
-    (pushed Normal None None, pushes_colon Normal refl tt parts refl, refl)
+pushes_matching_branches = (_, pushes_colon Normal refl tt (parts Normal [] (Some []) refl refl) refl, refl)
 
 -- an exclusion as in git-fetch(1), given to a push
 pub leaves_out_dev : Says Push (codes "^refs/heads/dev-*") (push_exclude (codes "refs/heads/dev-*"))
 leaves_out_dev =
-    let s = codes "refs/heads/dev-*" in
-    let parts : AreParts Negative s None (codes "^refs/heads/dev-*") = record { signed = refl; last = Lacks-tested colon s refl } in
-    let pattern = IsPattern-tested (codes "refs/heads/dev-") [] refl refl refl in
-    let short : ¬ (LooksLikeObjectHash s) = λ hash. let long : 40 ≤ 16 = hash.long in omega (arith, long) in
-    (pushed Negative (Some s) None, push_excludes s refl parts (inr pattern) short refl, refl)
+    let short : ¬ (LooksLikeObjectHash (codes "refs/heads/dev-*")) = λ hash. let long : 40 ≤ 16 = hash.long in omega (arith, long) in
+    (_, push_excludes (codes "refs/heads/dev-*") refl (parts Negative (codes "refs/heads/dev-*") None refl refl) (inr (IsPattern-tested (codes "refs/heads/dev-") [] refl refl refl)) short refl, refl)
 
 -- the canonical texts of these
 pub texts : (text_of (push_matching (codes "master") (codes "master") false) ≡ codes "master:master")
@@ -268,7 +264,16 @@ long_name_needs_none (inr (starry, long)) = Lacks-ContainsText star (replicate 2
 
 -- the text is a source alone
 starred_parts : (n : ℕ) → list_any (λ c. c == colon) (starred n) ≡ false → AreParts Normal (starred n) None (starred n)
-starred_parts n none = record { signed = no_sign star (replicate n letter) refl refl; last = Lacks-tested colon (starred n) none }
+starred_parts n none = parts Normal (starred n) None refl none
+
+-- no reason before those of the source applies, if the source isn't empty, a negative spec has no colon, and the
+-- destination isn't empty
+pub before_source : (op : Operation) (mode : Mode) (s : List ℕ) (d : Option (List ℕ)) → s ≢ [] → (mode ≡ Negative → d ≡ None) → d ≢ Some [] → NoReasonBeforeSource op mode s d
+before_source op mode s d not_empty alone somewhere = (
+  (λ e empty. not_empty empty.no_source),
+  (λ e negative. false≢true (ap is_some (sym (alone negative.negative)) ∙ negative.colon)),
+  (λ e nowhere. somewhere nowhere.nowhere),
+)
 
 pub text_may_need_memory : MayNeedMemory Fetch (starred 256)
 text_may_need_memory = record {
@@ -276,10 +281,7 @@ text_may_need_memory = record {
   source = starred 256;
   destination = None;
   parts = starred_parts 256 refl;
-  reaches = (
-    (λ e empty. full star (replicate 256 letter) empty.no_source, λ e negative. false≢true negative.colon, λ e nowhere. none_some [] nowhere.nowhere),
-    needs_memory,
-  );
+  reaches = (before_source Fetch Normal (starred 256) None (full _ _) (λ negative. refl) (none_some []), needs_memory);
 }
 
 pub text_needs_no_memory : ¬ (MayNeedMemory Fetch (starred 255))
@@ -292,27 +294,15 @@ text_needs_no_memory may =
 pub pattern_too_long : IsPatternFault Memory (starred 256) × ¬ (IsPatternFault Memory (starred 255))
 pattern_too_long = (omega (arith, length-replicate 256 letter), λ long. omega (arith, length-replicate 255 letter, long))
 
--- no reason before those of the source applies, if the source isn't empty, a negative spec has no colon, and the
--- destination isn't empty
-pub before_source : (op : Operation) (mode : Mode) (s : List ℕ) (d : Option (List ℕ)) → s ≢ [] → (mode ≡ Negative → d ≡ None) → d ≢ Some [] → NoReasonBeforeSource op mode s d
-before_source op mode s d not_empty alone somewhere = (
-  (λ e empty. not_empty empty.no_source),
-  (λ e negative. false≢true (ap is_some (sym (alone negative.negative)) ∙ negative.colon)),
-  (λ e nowhere. somewhere nowhere.nowhere),
-)
-
 -- so a destination may need memory too
 pub destination_needs_memory : ReachesMemory Push Normal (codes "a..b") (Some (codes "c*d*"))
 destination_needs_memory = (
-  before_source Push Normal (codes "a..b") (Some (codes "c*d*")) (full _ _) (λ negative. absurd (normal_no_negative negative)) (λ same. full 99 (codes "*d*") (same_Some (codes "c*d*") [] same)),
+  before_source Push Normal (codes "a..b") (Some (codes "c*d*")) (full _ _) (λ negative. absurd (cc)) (λ same. full 99 (codes "*d*") (same_Some (codes "c*d*") [] same)),
   inr (
     (λ e bad. Lacks-ContainsText star (codes "a..b") (Lacks-tested star (codes "a..b") refl) (HasStar-bad (codes "a..b") e bad.refusal)),
     inl (record { before = codes "c"; between = codes "d"; after = []; here = refl }),
   ),
 )
-  where
-    normal_no_negative : Normal ≢ Negative
-    normal_no_negative same = cc
 
 -- but not after a bad source; nor may the source of a push to an empty destination, or of a negative spec with a
 -- colon
@@ -333,11 +323,7 @@ memory_after_reasons = (
 
 -- either side alone is enough
 pub sides : HasSide (pushed Normal (Some (codes "a")) None) × HasSide (pushed Normal None (Some (codes "a"))) × ¬ (HasSide (pushed Normal None None))
-sides = (inl refl, inr refl, none)
-  where
-    none : ¬ (HasSide (pushed Normal None None))
-    none (inl source) = false≢true source
-    none (inr destination) = false≢true destination
+sides = (inl refl, inr refl, λ side. elim side [ inl source ↦ false≢true source | inr destination ↦ false≢true destination ])
 
 -- a fetch has its source on the remote, and a push its destination
 pub remote_sides : (remote_of (fetched Normal (codes "a") (Some (codes "b"))) ≡ Some (codes "a")) × (local_of (fetched Normal (codes "a") (Some (codes "b"))) ≡ Some (codes "b")) × (remote_of (pushed Normal (Some (codes "a")) (Some (codes "b"))) ≡ Some (codes "b")) × (local_of (pushed Normal (Some (codes "a")) (Some (codes "b"))) ≡ Some (codes "a"))

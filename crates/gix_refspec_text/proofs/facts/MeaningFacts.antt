@@ -1,8 +1,8 @@
 -- Examples for this project's own rules on meanings, canonical texts, order and reasons: where a sign has a meaning,
 -- which text gets another one, and how instructions compare.
-use Rattle.gix_refspec_text.proofs.Common.{◌≡◌, true, false, [], None, Some, codes, refl, Less, Equal, Greater, Push, Fetch, Normal, Forced, Negative, fetched, pushed, push_all_matching, push_delete, push_matching}
-use Rattle.gix_refspec_text.proofs.Common.{push_exclude, fetch_only, fetch_exclude, fetch_and_update, meaning_of, text_of, printed, order, is_same, Refusal, NegativeWithDestination, PushToEmpty, PatternUnbalanced}
-use Rattle.gix_refspec_text.proofs.Common.{NegativeEmpty, NegativeObjectHash, meant_for, IsShownAs}
+use Rattle.gix_refspec_text.proofs.Common.{◌≡◌, true, false, [], None, Some, codes, refl, Less, Equal, Greater, Push, Fetch, Normal, Forced, Negative, fetched, pushed, push_all_matching, push_delete}
+use Rattle.gix_refspec_text.proofs.Common.{push_matching, push_exclude, fetch_only, fetch_exclude, fetch_and_update, meaning_of, text_of, printed, order, is_same, Refusal, NegativeWithDestination}
+use Rattle.gix_refspec_text.proofs.Common.{PushToEmpty, PatternUnbalanced, NegativeEmpty, NegativeObjectHash, meant_for, IsShownAs}
 use Rattle.gix_refspec_text.specs.Specs.Refusal.{Empty}
 use Rattle.gix_refspec_text.specs.declared.parsing.Error.TheVariants as error
 

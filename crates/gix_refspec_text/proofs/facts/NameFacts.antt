@@ -1,8 +1,8 @@
 -- Texts that are names and patterns, and texts that are not, by git-check-ref-format(1): for each of its
 -- rules a text that breaks it, and one that just doesn't.
-use Rattle.gix_refspec_text.proofs.Common.{◌≡◌, ℕ, ◌==◌, false, List, [], ◌∷◌, codes, refl, inl, inr, arith, AllByRecursion, list_any, or_parts, Error, Empty, EmptyComponent, StartsWithDot, LockSuffix, EndsWithDot}
-use Rattle.gix_refspec_text.proofs.Common.{RepeatedDot, ReflogPortion, Asterisk, InvalidByte, Lacks, BeginsWith, EndsWith, ArePartsAt, slash, star, IsName, IsPattern, IsPatternFault, ReferenceName, with_letters}
-use Rattle.gix_refspec_text.proofs.Common.{IsStarCount, IsCalm, lowest_of}
+use Rattle.gix_refspec_text.proofs.Common.{◌≡◌, ℕ, ◌==◌, false, List, [], ◌∷◌, codes, refl, inl, inr, arith, AllByRecursion, list_any, or_parts, Error, Empty, EmptyComponent, StartsWithDot}
+use Rattle.gix_refspec_text.proofs.Common.{LockSuffix, EndsWithDot, RepeatedDot, ReflogPortion, Asterisk, InvalidByte, Lacks, BeginsWith, EndsWith, ArePartsAt, slash, star, IsName, IsPattern}
+use Rattle.gix_refspec_text.proofs.Common.{IsPatternFault, ReferenceName, with_letters, IsStarCount, IsCalm, lowest_of}
 use Rattle.gix_refspec_text.specs.declared.name.PatternError.TheVariants.{Name}
 use lib.Count.{count_trailing_zeros}
 use Rattle.gix_refspec_text.proofs.lemmas.texts.TextLemmas.{Lacks-ContainsText}
@@ -103,21 +103,15 @@ star_counts = (refl, refl, (λ same. omega (arith, same)), (λ same. omega (arit
 
 -- ---- calm bytes
 
-slash_after_slash : ¬ (IsCalm 47 47)
-slash_after_slash (inl plain) = cc
-slash_after_slash (inr quiet) = quiet.1 refl
-
-slash_after_k : ¬ (IsCalm 107 47)
-slash_after_k (inl plain) = cc
-slash_after_k (inr quiet) = quiet.2 refl
-
-dot_after_letter : ¬ (IsCalm 97 46)
-dot_after_letter (inl plain) = cc
-dot_after_letter (inr quiet) = absurd (omega (arith, quiet.0))
-
 -- a letter after a slash, and a slash after a letter; but no slash after a slash or a `k`, and no dot
 pub calm_bytes : IsCalm 47 97 × IsCalm 97 47 × ¬ (IsCalm 47 47) × ¬ (IsCalm 107 47) × ¬ (IsCalm 97 46)
-calm_bytes = (inl refl, inr (refl, (λ e. omega (arith, e)), (λ e. omega (arith, e))), slash_after_slash, slash_after_k, dot_after_letter)
+calm_bytes = (
+  inl refl,
+  inr (refl, (λ e. omega (arith, e)), (λ e. omega (arith, e))),
+  (λ calm. elim calm [ inl plain ↦ cc | inr quiet ↦ quiet.1 refl ]),
+  (λ calm. elim calm [ inl plain ↦ cc | inr quiet ↦ quiet.2 refl ]),
+  λ calm. elim calm [ inl plain ↦ cc | inr quiet ↦ absurd (omega (arith, quiet.0)) ],
+)
 
 -- ---- parts of texts
 

@@ -1,9 +1,9 @@
 -- The definitions of ids, at the ids that git hash-object prints for the empty blob, and at other lengths.
-use Rattle.gix_refspec_text.proofs.Common.{◌≡◌, ◌≢◌, ℕ, ◌+◌, ◌*◌, List, [], ◌∷◌, Option, None, Some, unwrap_or, codes, refl, sym, ap, ◌∙◌, arith, filter, range_with_len, false≢true, AllPass-from_list_all, Digit, Length}
-use Rattle.gix_refspec_text.proofs.Common.{Kind, Sha1, Sha256, bytes_of, id_bytes, is_lower_digit, IsSpelledBy, Spells, IsIdText, IsLowerText, IsIdLength, HasIdFault, lower_of}
+use Rattle.gix_refspec_text.proofs.Common.{◌≡◌, ◌≢◌, ℕ, ◌+◌, ◌*◌, List, [], ◌∷◌, Option, Some, unwrap_or, codes, refl, sym, ap, ◌∙◌, arith, filter, range_with_len, false≢true, AllPass-from_list_all}
+use Rattle.gix_refspec_text.proofs.Common.{Digit, Length, Kind, Sha1, Sha256, bytes_of, id_bytes, is_lower_digit, IsSpelledBy, Spells, IsIdText, IsLowerText, IsIdLength, HasIdFault, lower_of}
 use Rattle.hex.specs.Hex.{hex_digit_value}
 use Rattle.hex.proofs.OnLiterals.{hex_on_literals}
-use Rattle.gix_refspec_text.proofs.lemmas.texts.ObjectIdLemmas.{IsIdText-decoded, IsIdText-sound, Spells-decode_pairs}
+use Rattle.gix_refspec_text.proofs.lemmas.texts.ObjectIdLemmas.{no_kind, IsIdText-decoded, IsIdText-sound, Spells-decode_pairs}
 
 -- the bytes of the id under SHA-1
 abbrev pub empty_blob : List ℕ
@@ -34,21 +34,14 @@ pub bytes_in_front : (id_bytes (record { kind = Sha1; buffer = range_with_len 10
 bytes_in_front = (refl, refl)
 
 -- an id has 40 digits or 64, and not 39, 41, 32 or 20
-no_length : (n : ℕ) → n ≢ 40 → n ≢ 64 → ¬ (IsIdLength n)
-no_length n other another (Sha1, same) = other same
-no_length n other another (Sha256, same) = another same
-
 pub lengths : IsIdLength 40 × IsIdLength 64 × ¬ (IsIdLength 39) × ¬ (IsIdLength 41) × ¬ (IsIdLength 32) × ¬ (IsIdLength 20)
-lengths = ((Sha1, refl), (Sha256, refl), no_length 39 (λ same. omega (arith, same)) (λ same. omega (arith, same)), no_length 41 (λ same. omega (arith, same)) (λ same. omega (arith, same)), no_length 32 (λ same. omega (arith, same)) (λ same. omega (arith, same)), no_length 20 (λ same. omega (arith, same)) (λ same. omega (arith, same)))
+lengths = ((Sha1, refl), (Sha256, refl), no_kind 39 (λ same. omega (arith, same)) (λ same. omega (arith, same)), no_kind 41 (λ same. omega (arith, same)) (λ same. omega (arith, same)), no_kind 32 (λ same. omega (arith, same)) (λ same. omega (arith, same)), no_kind 20 (λ same. omega (arith, same)) (λ same. omega (arith, same)))
 
 -- digits with these values spell one byte
 spelled_value : (b c d high low : ℕ) → hex_digit_value c ≡ Some high → hex_digit_value d ≡ Some low → IsSpelledBy b c d → b ≡ 16 * high + low
 spelled_value b c d high low high_read low_read by =
     let value = λ (o : Option ℕ). unwrap_or o 0 in
     omega (arith, by.value, ap value (sym high_read ∙ by.high_read), ap value (sym low_read ∙ by.low_read))
-
-unread : (n : ℕ) → None ≢ Some n
-unread n same = cc
 
 -- `e6`, `E6` and `eE` spell a byte each, `6e` spells another, and `g6` and `6g` don't spell any
 pub two_digits : IsSpelledBy 230 101 54 × IsSpelledBy 230 69 54 × IsSpelledBy 238 101 69 × ¬ (IsSpelledBy 230 54 101) × ((b : ℕ) → ¬ (IsSpelledBy b 103 54) × ¬ (IsSpelledBy b 54 103))
@@ -57,7 +50,7 @@ two_digits = (
   record { high_value = 14; low_value = 6; high_read = refl; low_read = refl; value = refl },
   record { high_value = 14; low_value = 14; high_read = refl; low_read = refl; value = refl },
   (λ by. omega (arith, spelled_value 230 54 101 6 14 refl refl by)),
-  λ b. ((λ by. unread by.high_value by.high_read), (λ by. unread by.low_value by.low_read)),
+  λ b. ((λ by. let none = by.high_read in cc), (λ by. let none = by.low_read in cc)),
 )
 
 -- the digits of each byte are at its index, also those of the last one
@@ -73,7 +66,7 @@ spelled = (
 pub other_texts : ¬ (IsIdText (codes "e69de29bb2d1d6434b8b29ae775ad8c2e48c5390") empty_blob) × ((i : List ℕ) → ¬ (IsIdText (codes "e69de2") i)) × ¬ (IsIdText (codes "e69de29bb2d1d6434b8b29ae775ad8c2e48c5391") [])
 other_texts = (
   (λ text. omega (arith, spelled_value 0x91 57 48 9 0 refl refl (text.spelled 19 (omega arith)))),
-  (λ i text. no_length 6 (λ same. omega (arith, same)) (λ same. omega (arith, same)) (text.kind, text.digits)),
+  (λ i text. no_kind 6 (λ same. omega (arith, same)) (λ same. omega (arith, same)) (text.kind, text.digits)),
   λ text. no_bytes text.kind text.bytes,
 )
   where
@@ -94,7 +87,7 @@ IsLowerText-empty_blob = (
 
 -- a fault of the length holds the length of the text
 pub HasIdFault-length : HasIdFault (codes "e69de2") (Length 6) × ¬ (HasIdFault (codes "e69de2") (Length 5))
-HasIdFault-length = ((refl, no_length 6 (λ same. omega (arith, same)) (λ same. omega (arith, same))), λ fault. omega (arith, fault.0))
+HasIdFault-length = ((refl, no_kind 6 (λ same. omega (arith, same)) (λ same. omega (arith, same))), λ fault. omega (arith, fault.0))
 
 -- and a text of 40 digits doesn't have it
 pub HasIdFault-none : ¬ (HasIdFault (codes "e69de29bb2d1d6434b8b29ae775ad8c2e48c5391") (Length 40))
@@ -106,5 +99,5 @@ HasIdFault-digit = (
   ((Sha1, refl), (0, omega arith, refl)),
   ((Sha1, refl), (39, omega arith, refl)),
   IsIdText-sound (codes "e69de29bb2d1d6434b8b29ae775ad8c2e48c5391") empty_blob Digit IsIdText-empty_blob,
-  λ fault. no_length 6 (λ same. omega (arith, same)) (λ same. omega (arith, same)) fault.0,
+  λ fault. no_kind 6 (λ same. omega (arith, same)) (λ same. omega (arith, same)) fault.0,
 )

@@ -1,6 +1,6 @@
 -- Sides with and without a ref prefix, and their expansions.
-use Rattle.gix_refspec_text.proofs.Common.{◌≡◌, ◌≢◌, ℕ, List, [], ◌∷◌, ◌++◌, None, Some, length, codes, refl, sym, ap, subst, inl, inr, arith, Kind, Sha1, Sha256, Lacks, IsSplit, star, slash, bracket, IsIdText}
-use Rattle.gix_refspec_text.proofs.Common.{digits_of, Normal, Negative, fetched, pushed, candidates, IsRefPrefix, IsPrefix, of_head, of_name, of_pattern, HasNoPrefix, Expands, to_prefix, to_itself, below_refs, of_object}
+use Rattle.gix_refspec_text.proofs.Common.{◌≡◌, ◌≢◌, ℕ, List, [], ◌∷◌, ◌++◌, None, Some, length, codes, refl, sym, ap, subst, inl, inr, arith, Lacks, IsSplit, star, slash, bracket, Normal, Negative}
+use Rattle.gix_refspec_text.proofs.Common.{fetched, pushed, candidates, IsRefPrefix, IsPrefix, of_head, of_name, of_pattern, HasNoPrefix, Expands, to_prefix, to_itself, below_refs, of_object}
 use Rattle.gix_refspec_text.proofs.Common.{to_candidates, IsAsked, HasPrefix, IsExpansion, same_Some}
 use Rattle.gix_refspec_text.proofs.lemmas.hits.MatchLemmas.{split_once, outside_none}
 use Rattle.gix_refspec_text.proofs.lemmas.prefixes.OnePrefixLemmas.{one_prefix}
@@ -8,21 +8,25 @@ use Rattle.gix_refspec_text.proofs.facts.ManualFacts.{Lacks-tested, other_length
 use Rattle.gix_refspec_text.proofs.facts.FaultFacts.{begins_not}
 use Rattle.gix_refspec_text.proofs.facts.ObjectIdFacts.{empty_blob, IsIdText-empty_blob}
 use Rattle.gix_refspec_text.proofs.facts.FitFacts.{split_at_end, other_byte, every, no_dev, short_kind, blob_kind}
-use Rattle.gix_refspec_text.proofs.facts.CoveringFacts.{below_heads}
+use Rattle.gix_refspec_text.proofs.facts.CoveringFacts.{below_heads, no_bare_prefix}
 use Rattle.gix_refspec_text.proofs.lemmas.lists.LacksLemmas.{Lacks-here}
+use Rattle.gix_refspec_text.proofs.lemmas.prefixes.PrefixLemmas.{starred_no_id}
 
 -- `HEAD` and a full name are their own prefix
 pub whole_prefixes : IsPrefix (codes "HEAD") (codes "HEAD") × IsPrefix (codes "refs/a]b") (codes "refs/a]b")
 whole_prefixes = (of_head refl refl, of_name (record { after = codes "a]b"; here = refl }) (Lacks-tested star (codes "refs/a]b") refl) refl)
 
+-- the text before a star is a prefix if it begins with `refs/` and is longer, and no bracket is on either side
+pub tells : IsRefPrefix (codes "refs/a") (codes "/b") × ((after : List ℕ) → ¬ (IsRefPrefix (codes "refs/") after) × ¬ (IsRefPrefix (codes "heads/") after) × ¬ (IsRefPrefix (codes "refs/a]") after)) × ¬ (IsRefPrefix (codes "refs/a") (codes "/]"))
+tells = (
+  record { below = record { after = codes "a"; here = refl }; further = other_length _ _ (λ size. omega (arith, size)); first = Lacks-tested bracket (codes "refs/a") refl; last = Lacks-tested bracket (codes "/b") refl },
+  (λ after. ((λ is. is.further refl), (λ is. begins_not (codes "refs/") (codes "heads/") refl is.below), λ is. Lacks-here bracket (codes "refs/a") [] is.first)),
+  λ is. Lacks-here bracket (codes "/") [] is.last,
+)
+
 -- the prefix of a pattern is the text before its star, also within a component and before a suffix
 pub pattern_prefix : IsPrefix (codes "refs/a*/b") (codes "refs/a")
-pattern_prefix = of_pattern (codes "refs/a") (codes "/b") (record { starred = refl; first = Lacks-tested star (codes "refs/a") refl; last = Lacks-tested star (codes "/b") refl }) (record {
-  below = record { after = codes "a"; here = refl };
-  further = other_length _ _ (λ size. omega (arith, size));
-  first = Lacks-tested bracket (codes "refs/a") refl;
-  last = Lacks-tested bracket (codes "/b") refl;
-}) refl
+pattern_prefix = of_pattern (codes "refs/a") (codes "/b") (record { starred = refl; first = Lacks-tested star (codes "refs/a") refl; last = Lacks-tested star (codes "/b") refl }) tells.0 refl
 
 pub bracket_split : IsSplit (codes "refs/a]") [] (codes "refs/a]*")
 bracket_split = split_at_end (codes "refs/a]") refl
@@ -32,13 +36,8 @@ suffix_split = record { starred = refl; first = Lacks-tested star (codes "refs/a
 
 -- a pattern with its star right after `refs/`, or with a bracket, has none
 pub no_prefixes : HasNoPrefix (codes "refs/*") × HasNoPrefix (codes "refs/a]*") × HasNoPrefix (codes "refs/a*/]") × HasNoPrefix (codes "heads/*")
-no_prefixes = (bare, before_star, after_star, outside_none (codes "heads/*") (other_length _ _ (λ size. omega (arith, size))) (λ begins. other_byte 0 (codes "heads/*") (codes "refs/" ++ begins.after) (λ byte. omega (arith, byte)) begins.here))
+no_prefixes = (no_bare_prefix, before_star, after_star, outside_none (codes "heads/*") (other_length _ _ (λ size. omega (arith, size))) (λ begins. other_byte 0 (codes "heads/*") (codes "refs/" ++ begins.after) (λ byte. omega (arith, byte)) begins.here))
   where
-    bare : HasNoPrefix (codes "refs/*")
-    bare p (of_head is_head same) = other_length _ _ (λ size. omega (arith, size)) is_head
-    bare p (of_name begins lacks same) = Lacks-here star (codes "refs/") [] lacks
-    bare p (of_pattern before after split tells same) = tells.further ((split_once (codes "refs/*") before after (codes "refs/") [] split (split_at_end (codes "refs/") refl)).0)
-
     before_star : HasNoPrefix (codes "refs/a]*")
     before_star p (of_head is_head same) = other_length _ _ (λ size. omega (arith, size)) is_head
     before_star p (of_name begins lacks same) = Lacks-here star (codes "refs/a]") [] lacks
@@ -77,20 +76,12 @@ other_prefixes = (
   outside_none (codes "HEAD/x") (other_length _ _ (λ size. omega (arith, size))) (begins_not (codes "refs/") (codes "HEAD/x") refl),
 )
 
--- the text before a star is a prefix if it begins with `refs/` and is longer, and no bracket is on either side
-pub tells : IsRefPrefix (codes "refs/a") (codes "/b") × ((after : List ℕ) → ¬ (IsRefPrefix (codes "refs/") after) × ¬ (IsRefPrefix (codes "heads/") after) × ¬ (IsRefPrefix (codes "refs/a]") after)) × ¬ (IsRefPrefix (codes "refs/a") (codes "/]"))
-tells = (
-  record { below = record { after = codes "a"; here = refl }; further = other_length _ _ (λ size. omega (arith, size)); first = Lacks-tested bracket (codes "refs/a") refl; last = Lacks-tested bracket (codes "/b") refl },
-  (λ after. ((λ is. is.further refl), (λ is. begins_not (codes "refs/") (codes "heads/") refl is.below), λ is. Lacks-here bracket (codes "refs/a") [] is.first)),
-  λ is. Lacks-here bracket (codes "/") [] is.last,
-)
-
 -- a partial name is expanded to its candidates, also with a star, but an id and `HEAD` are not; and a star before a
 -- further slash leaves nothing
 pub other_expansions : Expands (codes "heads/*") (candidates (codes "heads/*")) × ¬ (Expands (codes "main") (codes "main" ∷ [])) × ¬ (Expands (codes "e69de29bb2d1d6434b8b29ae775ad8c2e48c5391") (candidates (codes "e69de29bb2d1d6434b8b29ae775ad8c2e48c5391"))) × ¬ (Expands (codes "HEAD") (candidates (codes "HEAD"))) × ¬ (Expands (codes "refs/a*/]") (codes "refs/a*/]" ∷ [])) × ¬ (Expands (codes "refs/*") [])
 other_expansions = (
-  to_candidates no_prefixes.3 (begins_not (codes "refs/") (codes "heads/*") refl) (λ is. starred_no_id is.1) refl,
-  (λ one. counts (codes "main") (codes "main" ∷ []) (candidates (codes "main")) (λ size. omega (arith, size)) one (to_candidates other_prefixes_of_main short_kind.2 short_kind.3 refl)),
+  to_candidates no_prefixes.3 (begins_not (codes "refs/") (codes "heads/*") refl) (starred_no_id (codes "heads/*") (codes "heads/", [], split_at_end (codes "heads/") refl)) refl,
+  (λ one. counts (codes "main") (codes "main" ∷ []) (candidates (codes "main")) (λ size. omega (arith, size)) one (to_candidates other_prefixes.3 short_kind.2 short_kind.3 refl)),
   (λ all. counts (codes "e69de29bb2d1d6434b8b29ae775ad8c2e48c5391") (candidates (codes "e69de29bb2d1d6434b8b29ae775ad8c2e48c5391")) [] (λ size. omega (arith, size)) all expansions_outside.0),
   (λ all. counts (codes "HEAD") (candidates (codes "HEAD")) (codes "HEAD" ∷ []) (λ size. omega (arith, size)) all expansions_outside.1),
   (λ itself. counts (codes "refs/a*/]") (codes "refs/a*/]" ∷ []) [] (λ size. omega (arith, size)) itself expansions_below.2),
@@ -99,16 +90,6 @@ other_expansions = (
   where
     counts : (x : List ℕ) (list other : List (List ℕ)) → length list ≢ length other → Expands x list → Expands x other → ⊥
     counts x list other differ one another = differ (ap length ((one_prefix x).expanded list other one another))
-
-    other_prefixes_of_main : HasNoPrefix (codes "main")
-    other_prefixes_of_main = outside_none (codes "main") (other_byte 0 (codes "main") (codes "HEAD") (λ byte. omega (arith, byte))) short_kind.2
-
-    no_digits : (kind : Kind) → 7 ≢ digits_of kind
-    no_digits Sha1 same = omega (arith, same)
-    no_digits Sha256 same = omega (arith, same)
-
-    starred_no_id : {bytes : List ℕ} → IsIdText (codes "heads/*") bytes → ⊥
-    starred_no_id text = no_digits text.kind text.digits
 
 -- ---- the prefixes of a reading
 
@@ -136,7 +117,7 @@ expansions = (
   inr ((λ x. (asked.3 x).1), refl),
   inr ((λ x. (asked.3 x).0), refl),
   head_alone,
-  none_at_all,
+  λ expansion. elim expansion [ inl some ↦ some.1.positive | inr none ↦ let same = none.1 in cc ],
 )
   where
     head_alone : ¬ (IsExpansion (fetched Normal (codes "HEAD") None) [])
@@ -145,7 +126,3 @@ expansions = (
         let same : 0 ≡ 1 = ap length ((one_prefix (codes "HEAD")).expanded [] (codes "HEAD" ∷ []) expands_head expansions_outside.1) in
         omega (arith, same)
     head_alone (inr (none, same)) = none (codes "HEAD") (record { positive = tt; side = refl })
-
-    none_at_all : ¬ (IsExpansion no_dev (codes "refs/heads/dev-" ∷ []))
-    none_at_all (inl (x, is, expands)) = is.positive
-    none_at_all (inr (none, same)) = cc

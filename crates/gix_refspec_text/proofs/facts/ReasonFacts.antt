@@ -1,9 +1,9 @@
 -- The reasons to refuse a text, each with parts that it applies to, and similar parts that it doesn't apply to.
-use Rattle.gix_refspec_text.proofs.Common.{◌≡◌, ◌≢◌, ◌≤◌, ℕ, List, [], ◌∷◌, ◌++◌, Option, None, Some, codes, refl, sym, subst, inl, inr, arith, replicate, is_ascii_hexdigit, false≢true, length-replicate}
-use Rattle.gix_refspec_text.proofs.Common.{AllPass-from_list_all, LockSuffix, RepeatedDot, Asterisk, NoName, Operation, Push, Fetch, IsName, HasStar, HasFault, HasOneStar, IsSplit, IsPatternFault, star, letter, Normal}
-use Rattle.gix_refspec_text.proofs.Common.{Forced, Negative, LooksLikeObjectHash, Refusal, NegativeWithDestination, PushToEmpty, PatternUnsupported, ReferenceName, PatternUnbalanced, NegativeEmpty, NegativeObjectHash}
-use Rattle.gix_refspec_text.proofs.Common.{IsBadName, IsBadPattern, IsEmptyPush, HasNegativeDestination, PushesNowhere, IsBadSourceFor, HasBadSource, HasBadDestination, IsOneStarred, IsUnbalanced, ExcludesNothing}
-use Rattle.gix_refspec_text.proofs.Common.{ExcludesObject, Never, OrElse, IsFirstReason, same_Some}
+use Rattle.gix_refspec_text.proofs.Common.{◌≡◌, ◌≢◌, ◌≤◌, ℕ, List, [], ◌∷◌, ◌++◌, Option, None, Some, codes, refl, sym, subst, inl, inr, arith, replicate, is_ascii_hexdigit, false≢true}
+use Rattle.gix_refspec_text.proofs.Common.{length-replicate, AllPass-from_list_all, LockSuffix, RepeatedDot, Asterisk, NoName, Operation, Push, Fetch, IsName, HasStar, HasFault, HasOneStar, IsSplit}
+use Rattle.gix_refspec_text.proofs.Common.{IsPatternFault, star, letter, Normal, Forced, Negative, LooksLikeObjectHash, Refusal, NegativeWithDestination, PushToEmpty, PatternUnsupported}
+use Rattle.gix_refspec_text.proofs.Common.{ReferenceName, PatternUnbalanced, NegativeEmpty, NegativeObjectHash, IsBadName, IsBadPattern, IsEmptyPush, HasNegativeDestination, PushesNowhere}
+use Rattle.gix_refspec_text.proofs.Common.{IsBadSourceFor, HasBadSource, HasBadDestination, IsOneStarred, IsUnbalanced, ExcludesNothing, ExcludesObject, Never, OrElse, IsFirstReason, same_Some}
 use Rattle.gix_refspec_text.specs.declared.name.PatternError.TheVariants.{Name}
 use Rattle.gix_refspec_text.specs.Specs.Refusal.{Empty}
 use Rattle.gix_refspec_text.proofs.lemmas.texts.TextLemmas.{Lacks-ContainsText, one_not_two}
@@ -54,10 +54,7 @@ bad_names = (dots_bad, (λ bad. full _ _ bad.1), (λ bad. Lacks-here star (codes
 
 -- a push of a source, or of a colon, isn't empty
 pub no_empty_pushes : ((e : Refusal) → ¬ (IsEmptyPush Push Normal (codes "a") None e)) × ((e : Refusal) → ¬ (IsEmptyPush Push Normal [] (Some []) e)) × ¬ (IsEmptyPush Push Normal [] None PushToEmpty)
-no_empty_pushes = ((λ e is. full _ _ is.no_source), (λ e is. some_none [] is.no_colon), λ is. other is.refusal)
-  where
-    other : PushToEmpty ≢ Empty
-    other same = cc
+no_empty_pushes = ((λ e is. full _ _ is.no_source), (λ e is. some_none [] is.no_colon), λ is. let same = is.refusal in cc)
 
 -- `^a:b` and `^a:` have a destination, and `^a` and `a:b` are fine
 pub negative_destinations : HasNegativeDestination Negative (Some (codes "b")) NegativeWithDestination × HasNegativeDestination Negative (Some []) NegativeWithDestination × ((e : Refusal) → ¬ (HasNegativeDestination Negative None e) × ¬ (HasNegativeDestination Normal (Some (codes "b")) e)) × ¬ (HasNegativeDestination Negative (Some (codes "b")) PushToEmpty)
@@ -65,25 +62,16 @@ negative_destinations = (
   record { negative = refl; colon = refl; refusal = refl },
   record { negative = refl; colon = refl; refusal = refl },
   (λ e. ((λ is. false≢true is.colon), λ is. normal_positive is.negative)),
-  λ is. other is.refusal,
+  λ is. let same = is.refusal in cc,
 )
-  where
-    other : PushToEmpty ≢ NegativeWithDestination
-    other same = cc
-
-fetch_no_push : Fetch ≢ Push
-fetch_no_push same = cc
 
 -- a push of `a:` has an empty destination; a push of `:`, `a` or `a:b` isn't refused so, nor is a fetch of `a:`
 pub nowhere : PushesNowhere Push (codes "a") (Some []) PushToEmpty × ((e : Refusal) → ¬ (PushesNowhere Push [] (Some []) e) × ¬ (PushesNowhere Push (codes "a") None e) × ¬ (PushesNowhere Push (codes "a") (Some (codes "b")) e) × ¬ (PushesNowhere Fetch (codes "a") (Some []) e)) × ¬ (PushesNowhere Push (codes "a") (Some []) Empty)
 nowhere = (
   record { push = refl; source = full _ _; nowhere = refl; refusal = refl },
-  (λ e. ((λ is. is.source refl), (λ is. none_some [] is.nowhere), (λ is. full _ _ (same_Some (codes "b") [] is.nowhere)), λ is. fetch_no_push is.push)),
-  λ is. other is.refusal,
+  (λ e. ((λ is. is.source refl), (λ is. none_some [] is.nowhere), (λ is. full _ _ (same_Some (codes "b") [] is.nowhere)), λ is. let same = is.push in cc)),
+  λ is. let same = is.refusal in cc,
 )
-  where
-    other : Empty ≢ PushToEmpty
-    other same = cc
 
 -- ---- sources and destinations
 
@@ -122,17 +110,12 @@ pub one_starred : IsOneStarred (codes "a*") (codes "b") × IsOneStarred (codes "
 one_starred = (
   inl (has_star (codes "a") [], Lacks-tested star (codes "b") refl),
   inr (Lacks-tested star (codes "b") refl, has_star (codes "a") []),
-  both,
-  none,
+  (λ one. elim one [ inl first ↦ Lacks-here star (codes "b") [] first.1 | inr second ↦ Lacks-here star (codes "a") [] second.0 ]),
+  λ one. elim one [
+    | inl first ↦ Lacks-ContainsText star (codes "a") (Lacks-tested star (codes "a") refl) first.0
+    | inr second ↦ Lacks-ContainsText star (codes "b") (Lacks-tested star (codes "b") refl) second.1
+  ],
 )
-  where
-    both : ¬ (IsOneStarred (codes "a*") (codes "b*"))
-    both (inl first) = Lacks-here star (codes "b") [] first.1
-    both (inr second) = Lacks-here star (codes "a") [] second.0
-
-    none : ¬ (IsOneStarred (codes "a") (codes "b"))
-    none (inl first) = Lacks-ContainsText star (codes "a") (Lacks-tested star (codes "a") refl) first.0
-    none (inr second) = Lacks-ContainsText star (codes "b") (Lacks-tested star (codes "b") refl) second.1
 
 -- a push of `a*:b` is unbalanced, and so is one of `+:b*`, but not one of `a*:`
 pub unbalanced_pushes : IsUnbalanced Push Normal (codes "a*") (Some (codes "b")) PatternUnbalanced × IsUnbalanced Push Forced [] (Some (codes "b*")) PatternUnbalanced × ((e : Refusal) → ¬ (IsUnbalanced Push Normal (codes "a*") (Some []) e)) × ¬ (IsUnbalanced Push Normal (codes "a*") (Some (codes "b")) NegativeEmpty)
@@ -140,11 +123,8 @@ unbalanced_pushes = (
   record { positive = tt; one = one_starred.0; has_destination = λ push. full _ _; refusal = refl },
   record { positive = tt; one = inr (tt, has_star (codes "b") []); has_destination = λ push. full _ _; refusal = refl },
   (λ e is. is.has_destination refl refl),
-  λ is. other is.refusal,
+  λ is. let same = is.refusal in cc,
 )
-  where
-    other : NegativeEmpty ≢ PatternUnbalanced
-    other same = cc
 
 -- ---- negative specs
 
@@ -153,17 +133,11 @@ hash = record { long = let size = length-replicate 40 letter in omega (arith, si
 
 -- `^` is refused for excluding nothing; the empty text and `^a` aren't
 pub excludes_nothing : ExcludesNothing Negative [] NegativeEmpty × ((e : Refusal) → ¬ (ExcludesNothing Normal [] e) × ¬ (ExcludesNothing Negative (codes "a") e)) × ¬ (ExcludesNothing Negative [] NegativeObjectHash)
-excludes_nothing = (record { negative = refl; no_source = refl; refusal = refl }, (λ e. ((λ is. normal_positive is.negative), λ is. full _ _ is.no_source)), λ is. other is.refusal)
-  where
-    other : NegativeObjectHash ≢ NegativeEmpty
-    other same = cc
+excludes_nothing = (record { negative = refl; no_source = refl; refusal = refl }, (λ e. ((λ is. normal_positive is.negative), λ is. full _ _ is.no_source)), λ is. let same = is.refusal in cc)
 
 -- `^` and 40 digits exclude an object, and the digits alone and `^` and 39 don't
 pub excludes_object : ExcludesObject Negative (replicate 40 letter) NegativeObjectHash × ((e : Refusal) → ¬ (ExcludesObject Normal (replicate 40 letter) e) × ¬ (ExcludesObject Negative (replicate 39 letter) e)) × ¬ (ExcludesObject Negative (replicate 40 letter) NegativeEmpty)
-excludes_object = (record { negative = refl; hash = hash; refusal = refl }, (λ e. ((λ is. normal_positive is.negative), λ is. let long : 40 ≤ 39 = is.hash.long in omega (arith, long))), λ is. other is.refusal)
-  where
-    other : NegativeEmpty ≢ NegativeObjectHash
-    other same = cc
+excludes_object = (record { negative = refl; hash = hash; refusal = refl }, (λ e. ((λ is. normal_positive is.negative), λ is. let long : 40 ≤ 39 = is.hash.long in omega (arith, long))), λ is. let same = is.refusal in cc)
 
 -- ---- one of two reasons
 
@@ -172,23 +146,13 @@ pub or_else : OrElse (ExcludesNothing Negative []) (ExcludesObject Negative []) 
 or_else = (
   inl excludes_nothing.0,
   inr ((λ e is. full _ _ is.no_source), excludes_object.0),
-  hidden,
+  (λ second. elim second [ inl same ↦ cc | inr hidden ↦ hidden.0 NegativeEmpty refl ]),
   λ never. never PushToEmpty refl,
 )
-  where
-    other : PushToEmpty ≢ NegativeEmpty
-    other same = cc
-
-    hidden : ¬ (OrElse (λ e. e ≡ NegativeEmpty) (λ e. e ≡ PushToEmpty) PushToEmpty)
-    hidden (inl same) = other same
-    hidden (inr (never, same)) = never NegativeEmpty refl
 
 -- the last reasons follow all others
 pub last_reasons : IsFirstReason Fetch Negative [] None NegativeEmpty × (IsName (replicate 40 letter) → IsFirstReason Push Negative (replicate 40 letter) None NegativeObjectHash)
 last_reasons = (
-  inr ((λ e is. fetch_no_push is.push), inr ((λ e is. false≢true is.colon), inr ((λ e is. fetch_no_push is.push), inr ((λ e is. is.source refl), inr ((λ e is. none_some is.word is.is), inr ((λ e is. is.positive), inl excludes_nothing.0)))))),
-  λ is_name. inr ((λ e is. signed is.unsigned), inr ((λ e is. false≢true is.colon), inr ((λ e is. none_some [] is.nowhere), inr ((λ e is. name_not_bad (replicate 40 letter) is_name e is.refusal), inr ((λ e is. none_some is.word is.is), inr ((λ e is. is.positive), or_else.1)))))),
+  inr ((λ e is. let same = is.push in cc), inr ((λ e is. false≢true is.colon), inr ((λ e is. let same = is.push in cc), inr ((λ e is. is.source refl), inr ((λ e is. none_some is.word is.is), inr ((λ e is. is.positive), inl excludes_nothing.0)))))),
+  λ is_name. inr ((λ e is. let same = is.unsigned in cc), inr ((λ e is. false≢true is.colon), inr ((λ e is. none_some [] is.nowhere), inr ((λ e is. name_not_bad (replicate 40 letter) is_name e is.refusal), inr ((λ e is. none_some is.word is.is), inr ((λ e is. is.positive), or_else.1)))))),
 )
-  where
-    signed : Negative ≢ Normal
-    signed same = cc

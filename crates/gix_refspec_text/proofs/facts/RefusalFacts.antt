@@ -1,8 +1,9 @@
 -- The order of refusals: texts with two reasons, of which the first in the order is returned, and the other
 -- isn't.
-use Rattle.gix_refspec_text.proofs.Common.{◌≢◌, ◌⊎◌, ℕ, List, [], Option, None, Some, codes, refl, inl, inr, arith, replicate, length-replicate, LockSuffix, Operation, Push, Fetch, ReplacesStar, HasFault}
-use Rattle.gix_refspec_text.proofs.Common.{HasSeveralStars, slash, letter, Normal, Forced, Negative, LooksLikeObjectHash, IsBadName, IsBadPattern, Refusal, NegativeWithDestination, PushToEmpty, PatternUnsupported}
-use Rattle.gix_refspec_text.proofs.Common.{ReferenceName, PatternUnbalanced, Never, IsEmptyPush, HasNegativeDestination, PushesNowhere, HasBadSource, HasBadDestination, IsUnbalanced, IsFirstReason, same_Some}
+use Rattle.gix_refspec_text.proofs.Common.{◌≢◌, ℕ, List, [], Option, None, Some, codes, refl, inl, inr, arith, replicate, length-replicate, LockSuffix, Operation, Push, Fetch, ReplacesStar, HasFault}
+use Rattle.gix_refspec_text.proofs.Common.{HasSeveralStars, slash, letter, Normal, Forced, Negative, LooksLikeObjectHash, Refusal, NegativeWithDestination, PushToEmpty, PatternUnsupported}
+use Rattle.gix_refspec_text.proofs.Common.{ReferenceName, PatternUnbalanced, Never, IsEmptyPush, HasNegativeDestination, PushesNowhere, HasBadSource, HasBadDestination, IsUnbalanced, IsFirstReason}
+use Rattle.gix_refspec_text.proofs.Common.{same_Some}
 use Rattle.gix_refspec_text.specs.Specs.Refusal.{Empty}
 use Rattle.gix_refspec_text.proofs.lemmas.texts.TestedLemmas.{IsName-tested}
 use Rattle.gix_refspec_text.proofs.lemmas.parsing.SideLemmas.{name_not_bad}
@@ -14,13 +15,7 @@ normal_positive same = cc
 
 -- a push of the empty text is empty; a push of `+` isn't, nor is a fetch of the empty text
 pub empty_push : IsFirstReason Push Normal [] None Empty × ((e : Refusal) → ¬ (IsEmptyPush Push Forced [] None e)) × ((e : Refusal) → ¬ (IsEmptyPush Fetch Normal [] None e))
-empty_push = (inl (record { push = refl; unsigned = refl; no_source = refl; no_colon = refl; refusal = refl }), (λ e is. forced is.unsigned), (λ e is. fetch is.push))
-  where
-    forced : Forced ≢ Normal
-    forced same = cc
-
-    fetch : Fetch ≢ Push
-    fetch same = cc
+empty_push = (inl (record { push = refl; unsigned = refl; no_source = refl; no_colon = refl; refusal = refl }), (λ e is. let same = is.unsigned in cc), (λ e is. let same = is.push in cc))
 
 -- push `^a:`
 pub negative_before_nowhere : IsFirstReason Push Negative (codes "a") (Some []) NegativeWithDestination × ¬ (IsFirstReason Push Negative (codes "a") (Some []) PushToEmpty)
@@ -32,12 +27,9 @@ negative_before_nowhere = (
     no_empty : Never (IsEmptyPush Push Negative (codes "a") (Some []))
     no_empty e empty = full 97 [] empty.no_source
 
-    other : PushToEmpty ≢ NegativeWithDestination
-    other same = cc
-
     not_nowhere : ¬ (IsFirstReason Push Negative (codes "a") (Some []) PushToEmpty)
     not_nowhere (inl is) = no_empty PushToEmpty is
-    not_nowhere (inr (_, inl is)) = other is.refusal
+    not_nowhere (inr (_, inl is)) = let same = is.refusal in cc
     not_nowhere (inr (_, inr (never, _))) = never NegativeWithDestination (record { negative = refl; colon = refl; refusal = refl })
 
 -- two stars in `a*b*`
@@ -60,13 +52,10 @@ nowhere_before_source = (
     nowhere : PushesNowhere Push (codes "a*b*") (Some []) PushToEmpty
     nowhere = record { push = refl; source = full _ _; nowhere = refl; refusal = refl }
 
-    other : PatternUnsupported (codes "a*b*") ≢ PushToEmpty
-    other same = cc
-
     not_source : ¬ (IsFirstReason Push Normal (codes "a*b*") (Some []) (PatternUnsupported (codes "a*b*")))
     not_source (inl is) = no_empty_stars Push (Some []) (PatternUnsupported (codes "a*b*")) is
     not_source (inr (_, inl is)) = no_negative (Some []) (PatternUnsupported (codes "a*b*")) is
-    not_source (inr (_, inr (_, inl is))) = other is.refusal
+    not_source (inr (_, inr (_, inl is))) = let same = is.refusal in cc
     not_source (inr (_, inr (_, inr (never, _)))) = never PushToEmpty nowhere
 
 -- fetch `a*b*:c*d*`
@@ -122,23 +111,16 @@ not_unbalanced (inl is) = no_empty_a PatternUnbalanced is
 not_unbalanced (inr (_, inl is)) = no_negative (Some (codes "b*.lock")) PatternUnbalanced is
 not_unbalanced (inr (_, inr (_, inl is))) = no_nowhere_lock PatternUnbalanced is
 not_unbalanced (inr (_, inr (_, inr (_, inl is)))) = no_bad_name PatternUnbalanced is
-not_unbalanced (inr (_, inr (_, inr (_, inr (_, inl is))))) = neither is.word is.refusal
-  where
-    neither : (word : List ℕ) → ¬ (IsBadName word PatternUnbalanced ⊎ IsBadPattern word PatternUnbalanced)
-    neither word (inl none) = none
-    neither word (inr none) = none
+not_unbalanced (inr (_, inr (_, inr (_, inr (_, inl is))))) = elim is.refusal [ inl none ↦ none | inr none ↦ none ]
 not_unbalanced (inr (_, inr (_, inr (_, inr (_, inr (never, _)))))) = never (ReferenceName LockSuffix) bad_destination
 
 -- a source alone with a star is unbalanced in a fetch, but not in a push, nor is a negative spec
 pub unbalanced : IsUnbalanced Fetch Normal (codes "a*") None PatternUnbalanced × ((e : Refusal) → ¬ (IsUnbalanced Push Normal (codes "a*") None e)) × ((e : Refusal) → ¬ (IsUnbalanced Fetch Negative (codes "a*") None e))
 unbalanced = (
-  record { positive = tt; one = inl (record { before = codes "a"; after = []; here = refl }, tt); has_destination = λ push. absurd (fetch push); refusal = refl },
+  record { positive = tt; one = inl (record { before = codes "a"; after = []; here = refl }, tt); has_destination = λ push. absurd (cc); refusal = refl },
   (λ e is. is.has_destination refl refl),
   (λ e is. is.positive),
 )
-  where
-    fetch : Fetch ≢ Push
-    fetch same = cc
 
 -- 39 digits don't look like an id
 pub too_short : ¬ (LooksLikeObjectHash (replicate 39 letter))

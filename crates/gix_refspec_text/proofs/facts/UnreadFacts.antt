@@ -1,21 +1,21 @@
 -- For each condition of the forms a text that breaks it, with the reason to refuse it, so that it has no reading; and
 -- readings that no text has.
-use Rattle.gix_refspec_text.proofs.Common.{◌≡◌, ◌≢◌, ◌⊎◌, ℕ, ◌==◌, false, List, [], ◌∷◌, Option, None, Some, unwrap_or, codes, refl, sym, ◌∙◌, inl, inr, replicate, list_any, Operation, Push, Fetch, star, letter, caret}
-use Rattle.gix_refspec_text.proofs.Common.{colon, Mode, Normal, Forced, Negative, Reading, with_colon, IsPositive, fetched, pushed, Reads, IsAccepted, StartsWithDot, InvalidByte, Plain, Pattern, printed, Refusal}
-use Rattle.gix_refspec_text.proofs.Common.{NegativeWithDestination, PushToEmpty, PatternUnsupported, ReferenceName, PatternUnbalanced, NegativeEmpty, NegativeObjectHash, IsBadName, IsBadPattern, HasBadDestination}
-use Rattle.gix_refspec_text.proofs.Common.{IsFirstReason, IsRefused}
+use Rattle.gix_refspec_text.proofs.Common.{◌≡◌, ◌⊎◌, ℕ, ◌==◌, false, List, [], ◌∷◌, Option, None, Some, unwrap_or, codes, refl, sym, ◌∙◌, inl, inr, replicate, list_any, Operation, Push, Fetch, star}
+use Rattle.gix_refspec_text.proofs.Common.{letter, caret, colon, Mode, Normal, Forced, Negative, Reading, with_colon, IsPositive, fetched, pushed, Reads, IsAccepted, StartsWithDot, InvalidByte, Plain}
+use Rattle.gix_refspec_text.proofs.Common.{Pattern, printed, Refusal, NegativeWithDestination, PushToEmpty, PatternUnsupported, ReferenceName, PatternUnbalanced, NegativeEmpty, NegativeObjectHash}
+use Rattle.gix_refspec_text.proofs.Common.{IsBadName, IsBadPattern, HasBadDestination, IsFirstReason, IsRefused}
 use Rattle.gix_refspec_text.specs.Specs.Refusal.{Empty}
-use Rattle.gix_refspec_text.proofs.lemmas.parsing.ReasonLemmas.{no_negative, fetch_reaches, push_reaches, push_alone_reaches, negative_reaches, reason_at_source, reason_at_destination, reason_against_object}
-use Rattle.gix_refspec_text.proofs.lemmas.parsing.ReasonLemmas.{reason_against_nothing, fetch_source_fine, push_source_fine, unbalanced_fetch, unbalanced_push, bad_negative}
+use Rattle.gix_refspec_text.proofs.lemmas.parsing.ReasonLemmas.{no_negative, fetch_reaches, push_reaches, push_alone_reaches, negative_reaches, reason_at_source, reason_at_destination}
+use Rattle.gix_refspec_text.proofs.lemmas.parsing.ReasonLemmas.{reason_against_object, reason_against_nothing, fetch_source_fine, push_source_fine, unbalanced_fetch, unbalanced_push, bad_negative}
 use Rattle.gix_refspec_text.proofs.lemmas.parsing.ReadsLemmas.{refused}
 use Rattle.gix_refspec_text.proofs.lemmas.specs.FormsBackLemmas.{read_back}
 use Rattle.gix_refspec_text.proofs.lemmas.specs.AcceptedLemmas.{accepted_balanced}
 use Rattle.gix_refspec_text.proofs.lemmas.parsing.SideLemmas.{HasStar-pattern}
 use Rattle.gix_refspec_text.proofs.lemmas.texts.TestedLemmas.{IsName-tested}
-use Rattle.gix_refspec_text.proofs.facts.ManualFacts.{Lacks-tested, full, none_some, some_none}
+use Rattle.gix_refspec_text.proofs.facts.ManualFacts.{begins_signed, with_sign, parts, Lacks-tested, full, none_some, some_none}
 use Rattle.gix_refspec_text.proofs.facts.NameFacts.{stars_in_bad_names}
 use Rattle.gix_refspec_text.proofs.facts.RefusalFacts.{empty_push}
-use Rattle.gix_refspec_text.proofs.facts.GrammarFacts.{begins_signed, with_sign, parts, a_star, b_name, refused_byte, hashes, fetches_main, pushes_matching, deletes_x}
+use Rattle.gix_refspec_text.proofs.facts.GrammarFacts.{a_star, b_name, refused_byte, hashes, fetches_main, pushes_matching, deletes_x}
 
 -- ---- refused texts, which have no reading
 
@@ -78,29 +78,23 @@ bad_destinations = (
     spaced : HasBadDestination (Some (codes "b c")) (ReferenceName (InvalidByte 32))
     spaced = record { word = codes "b c"; is = refl; destination = full _ _; refusal = inl (Lacks-tested star (codes "b c") refl, refused_byte (codes "b") (codes "c") 32 refl) }
 
-plain_no_pattern : Plain ≢ Pattern
-plain_no_pattern same = absurd (cc)
-
-pattern_no_plain : Pattern ≢ Plain
-pattern_no_plain same = absurd (cc)
-
 -- a star on only one side, also if the other is missing
 pub unbalanced_fetches : IsRefused Fetch (codes "a*:b") PatternUnbalanced × IsRefused Fetch (codes "b:a*") PatternUnbalanced × IsRefused Fetch (codes ":a*") PatternUnbalanced × IsRefused Fetch (codes "a*:") PatternUnbalanced × IsRefused Fetch (codes "+a*") PatternUnbalanced × IsRefused Fetch (codes "a*") PatternUnbalanced
 unbalanced_fetches = (
-  refused_for Fetch Normal (codes "a*") (Some (codes "b")) _ refl refl (unbalanced_fetch Normal (codes "a*") (Some (codes "b")) Pattern Plain tt a_star b_name pattern_no_plain),
-  refused_for Fetch Normal (codes "b") (Some (codes "a*")) _ refl refl (unbalanced_fetch Normal (codes "b") (Some (codes "a*")) Plain Pattern tt b_name a_star plain_no_pattern),
-  refused_for Fetch Normal [] (Some (codes "a*")) _ refl refl (unbalanced_fetch Normal [] (Some (codes "a*")) Plain Pattern tt tt a_star plain_no_pattern),
-  refused_for Fetch Normal (codes "a*") (Some []) _ refl refl (unbalanced_fetch Normal (codes "a*") (Some []) Pattern Plain tt a_star tt pattern_no_plain),
-  refused_for Fetch Forced (codes "a*") None _ refl refl (unbalanced_fetch Forced (codes "a*") None Pattern Plain tt a_star tt pattern_no_plain),
-  refused_for Fetch Normal (codes "a*") None _ refl refl (unbalanced_fetch Normal (codes "a*") None Pattern Plain tt a_star tt pattern_no_plain),
+  refused_for Fetch Normal (codes "a*") (Some (codes "b")) _ refl refl (unbalanced_fetch Normal (codes "a*") (Some (codes "b")) Pattern Plain tt a_star b_name (λ same. absurd (cc))),
+  refused_for Fetch Normal (codes "b") (Some (codes "a*")) _ refl refl (unbalanced_fetch Normal (codes "b") (Some (codes "a*")) Plain Pattern tt b_name a_star (λ same. absurd (cc))),
+  refused_for Fetch Normal [] (Some (codes "a*")) _ refl refl (unbalanced_fetch Normal [] (Some (codes "a*")) Plain Pattern tt tt a_star (λ same. absurd (cc))),
+  refused_for Fetch Normal (codes "a*") (Some []) _ refl refl (unbalanced_fetch Normal (codes "a*") (Some []) Pattern Plain tt a_star tt (λ same. absurd (cc))),
+  refused_for Fetch Forced (codes "a*") None _ refl refl (unbalanced_fetch Forced (codes "a*") None Pattern Plain tt a_star tt (λ same. absurd (cc))),
+  refused_for Fetch Normal (codes "a*") None _ refl refl (unbalanced_fetch Normal (codes "a*") None Pattern Plain tt a_star tt (λ same. absurd (cc))),
 )
 
 -- the same in a push, which may have a source alone, though
 pub pushes_of_one_star : IsRefused Push (codes "a*:b") PatternUnbalanced × IsRefused Push (codes "b:a*") PatternUnbalanced × IsRefused Push (codes ":a*") PatternUnbalanced
 pushes_of_one_star = (
-  refused_for Push Normal (codes "a*") (Some (codes "b")) _ refl refl (unbalanced_push Normal (codes "a*") (codes "b") Pattern Plain tt (λ some empty. full _ _ empty) a_star b_name pattern_no_plain),
-  refused_for Push Normal (codes "b") (Some (codes "a*")) _ refl refl (unbalanced_push Normal (codes "b") (codes "a*") Plain Pattern tt (λ some empty. full _ _ empty) (Lacks-tested star (codes "b") refl) a_star plain_no_pattern),
-  refused_for Push Normal [] (Some (codes "a*")) _ refl refl (unbalanced_push Normal [] (codes "a*") Plain Pattern tt (λ some empty. full _ _ empty) tt a_star plain_no_pattern),
+  refused_for Push Normal (codes "a*") (Some (codes "b")) _ refl refl (unbalanced_push Normal (codes "a*") (codes "b") Pattern Plain tt (λ some empty. full _ _ empty) a_star b_name (λ same. absurd (cc))),
+  refused_for Push Normal (codes "b") (Some (codes "a*")) _ refl refl (unbalanced_push Normal (codes "b") (codes "a*") Plain Pattern tt (λ some empty. full _ _ empty) (Lacks-tested star (codes "b") refl) a_star (λ same. absurd (cc))),
+  refused_for Push Normal [] (Some (codes "a*")) _ refl refl (unbalanced_push Normal [] (codes "a*") Plain Pattern tt (λ some empty. full _ _ empty) tt a_star (λ same. absurd (cc))),
 )
 
 -- in either operation `^` and nothing, 40 digits, or a text that isn't a name

@@ -1,9 +1,10 @@
 -- Refspecs, instructions, reasons and ids as contracts see them, at values whose fields differ, so that no field is
 -- lost or taken for another. That some text reads as a spec is a premise.
-use Rattle.gix_refspec_text.proofs.Common.{Option, ◌≡◌, ◌≢◌, ℕ, suc, List, [], ◌∷◌, ◌++◌, None, Some, true, false, map, length, get_or, replicate, option_map, codes, refl, sym, ap, ◌∙◌, inl, inr, arith, bstring_bytes}
-use Rattle.gix_refspec_text.proofs.Common.{LockSuffix, RepeatedDot, Digit, Length, Sha1, ObjectId, Operation, Push, Fetch, fault_name, Normal, Forced, Negative, fetched, pushed, fetch_only, meaning_of, text_of}
-use Rattle.gix_refspec_text.proofs.Common.{WritesPrinted, keys, Refusal, NegativeWithDestination, PushToEmpty, PatternUnsupported, ReferenceName, PatternUnbalanced, NegativeEmpty, NegativeObjectHash, IsFirstReason}
-use Rattle.gix_refspec_text.proofs.Common.{reading_of, owned_reading_of, key_of_spec, key_of_owned, meaning_of_instruction, meant_for, IsShownAs, ShowsRefusal, AppendsExpansion, to_prefix}
+use Rattle.gix_refspec_text.proofs.Common.{Option, ◌≡◌, ◌≢◌, ℕ, suc, List, [], ◌∷◌, ◌++◌, None, Some, true, false, map, length, get_or, replicate, option_map, codes, refl, sym, ap, ◌∙◌, inl, inr}
+use Rattle.gix_refspec_text.proofs.Common.{arith, bstring_bytes, LockSuffix, RepeatedDot, Digit, Length, Sha1, ObjectId, Operation, Push, Fetch, fault_name, Normal, Forced, Negative, fetched, pushed}
+use Rattle.gix_refspec_text.proofs.Common.{fetch_only, meaning_of, text_of, WritesPrinted, keys, NegativeWithDestination, PushToEmpty, PatternUnsupported, ReferenceName, PatternUnbalanced}
+use Rattle.gix_refspec_text.proofs.Common.{NegativeEmpty, NegativeObjectHash, IsFirstReason, reading_of, owned_reading_of, key_of_spec, key_of_owned, meaning_of_instruction, meant_for, IsShownAs}
+use Rattle.gix_refspec_text.proofs.Common.{ShowsRefusal, AppendsExpansion, to_prefix}
 use Rattle.bstr.specs.declared.bstr.BStr.{BStr}
 use Rattle.bstr.specs.declared.bstring.BString.{BString}
 use Rattle.gix_refspec_text.specs.declared.spec.RefSpec.{RefSpec, accepted-type as owned-type}
@@ -117,14 +118,7 @@ instructions_of = (refl, refl)
 
 -- the error of a side with two stars has its whole text, and that of a bad name its fault
 pub reasons_with_fields : (p : BString) → bstring_bytes p ≡ codes "a*b*" → IsShownAs (error.PatternUnsupported p) (PatternUnsupported (codes "a*b*")) × ¬ (IsShownAs (error.PatternUnsupported p) (PatternUnsupported (codes "a*b"))) × IsShownAs (error.ReferenceName LockSuffix) (ReferenceName LockSuffix) × ¬ (IsShownAs (error.ReferenceName LockSuffix) (ReferenceName RepeatedDot))
-reasons_with_fields p is = (ap PatternUnsupported (sym is), shorter, refl, λ same. cc)
-  where
-    text_in : Refusal → List ℕ
-    text_in (PatternUnsupported x) = x
-    text_in _ = []
-
-    shorter : ¬ (IsShownAs (error.PatternUnsupported p) (PatternUnsupported (codes "a*b")))
-    shorter same = other_length (codes "a*b") (codes "a*b*") (λ size. omega (arith, size)) (ap text_in same ∙ is)
+reasons_with_fields p is = (ap PatternUnsupported (sym is), (λ same. let short : codes "a*b" ≡ codes "a*b*" = cc in other_length _ _ (λ size. omega (arith, size)) short), refl, λ same. cc)
 
 -- an error doesn't stand for the reason of another
 pub other_reasons : (p : BString) → ¬ (IsShownAs error.Empty NegativeEmpty) × ¬ (IsShownAs error.NegativeEmpty Empty) × ¬ (IsShownAs error.NegativeWithDestination NegativeObjectHash) × ¬ (IsShownAs error.NegativeObjectHash NegativeWithDestination) × ¬ (IsShownAs error.PushToEmpty Empty) × ¬ (IsShownAs error.PatternUnbalanced (PatternUnsupported (bstring_bytes p))) × ¬ (IsShownAs (error.PatternUnsupported p) PatternUnbalanced) × ¬ (IsShownAs (error.ReferenceName LockSuffix) (PatternUnsupported (bstring_bytes p)))
@@ -139,10 +133,7 @@ other_errors p q differ = (differ, (λ same. cc), (λ same. cc), (λ same. cc), 
 
 -- a push of an empty text is refused as empty
 pub refusal_shown : ShowsRefusal (IsFirstReason Push Normal [] None) error.Empty × ShowsRefusal (λ f. f ≡ PushToEmpty) error.PushToEmpty × ¬ (ShowsRefusal (λ f. f ≡ PushToEmpty) error.Empty)
-refusal_shown = ((Empty, refl, empty_push.0), (PushToEmpty, refl, refl), λ shows. other (sym shows.1 ∙ shows.2))
-  where
-    other : Empty ≢ PushToEmpty
-    other same = cc
+refusal_shown = ((Empty, refl, empty_push.0), (PushToEmpty, refl, refl), λ shows. let same = sym shows.1 ∙ shows.2 in cc)
 
 -- `Memory` is never a refusal of the grammar, nor is a variant that is kept for callers
 pub nothing_shown : ¬ (ShowsRefusal (λ f. Unit {0}) error.Memory) × ¬ (ShowsRefusal (λ f. Unit {0}) error.NegativePartialName)

@@ -1,4 +1,3 @@
--- Lemmas on the refs that sides match and take, and on tests of the premises of laws.
+-- Lemmas on the refs that sides match and take.
 pub mod CandidateLemmas
 pub mod MatchLemmas
-pub mod PremiseLemmas

@@ -2,7 +2,6 @@
 pub mod SideLemmas
 pub mod PartsLemmas
 pub mod ReasonLemmas
-pub mod MemoryLemmas
 pub mod DecideLemmas
 pub mod SettleLemmas
 pub mod ReadsLemmas

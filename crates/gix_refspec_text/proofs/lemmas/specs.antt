@@ -1,7 +1,5 @@
 -- Lemmas on accepted readings, and on the canonical text.
 pub mod AcceptedLemmas
 pub mod DestinationLemmas
-pub mod FetchLemmas
 pub mod SpecLemmas
-pub mod ReadBackLemmas
 pub mod FormsBackLemmas

@@ -6,6 +6,5 @@ pub mod NameLemmas
 pub mod LetterLemmas
 pub mod CalmLemmas
 pub mod TestedLemmas
-pub mod TableLemmas
 pub mod ObjectIdLemmas
 pub mod HeadLemmas

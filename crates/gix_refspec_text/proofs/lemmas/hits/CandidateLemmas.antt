@@ -1,18 +1,16 @@
 -- The name that a partial source takes: the first of its candidates that a ref has.
-use Rattle.gix_refspec_text.proofs.Common.{◌≡◌, ◌⊎◌, inl, inr, ℕ, List, [], ◌∷◌, ◌++◌, None, Bool, true, false, refl, sym, ap, ◌∙◌, subst, AllByRecursion, bytes_eq, false≢true, bytes_eq-Decides, partial, HasKind}
-use Rattle.gix_refspec_text.proofs.Common.{IsCandidate, Ref, HasName, IsFirstCandidate, Takes, FirstCandidate}
+use Rattle.gix_refspec_text.proofs.Common.{◌≡◌, ◌⊎◌, inl, inr, ℕ, List, [], ◌∷◌, ◌++◌, None, refl, sym, ap, ◌∙◌, subst, AllByRecursion, bytes_eq, false≢true, bytes_eq-Decides, partial, HasKind}
+use Rattle.gix_refspec_text.proofs.Common.{IsCandidate, Ref, HasName, IsFirstCandidate, Takes, FirstCandidate, cases_Bool}
 
 has_name : (refs : List Ref) (n : List ℕ) → HasName refs n ⊎ (HasName refs n → ⊥)
 has_name [] n = inr (λ none. none)
-has_name (r ∷ refs) n = here (bytes_eq r.name n) refl (has_name refs n)
-  where
-    here : (b : Bool) → b ≡ bytes_eq r.name n → HasName refs n ⊎ (HasName refs n → ⊥) → HasName (r ∷ refs) n ⊎ (HasName (r ∷ refs) n → ⊥)
-    here true is rest = inl (inl ((bytes_eq-Decides r.name n).0 (sym is)))
-    here false is (inl later) = inl (inr later)
-    here false is (inr none) = inr (λ has. elim has [
-      | inl same ↦ false≢true (is ∙ (bytes_eq-Decides r.name n).1 same)
-      | inr later ↦ none later
-    ])
+has_name (r ∷ refs) n = elim (cases_Bool (bytes_eq r.name n)) [
+  | inl same ↦ inl (inl ((bytes_eq-Decides r.name n).0 same))
+  | inr other ↦ elim (has_name refs n) [
+    | inl later ↦ inl (inr later)
+    | inr none ↦ inr (λ has. elim has [ inl same ↦ false≢true (sym other ∙ (bytes_eq-Decides r.name n).1 same) | inr later ↦ none later ])
+  ]
+]
 
 -- no ref has one of the names
 abbrev AreAbsent : List Ref → List (List ℕ) → Type 0

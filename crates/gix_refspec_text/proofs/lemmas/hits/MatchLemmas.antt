@@ -1,7 +1,7 @@
 -- The refs that sides match, and the prefixes and candidates of sides.
-use Rattle.gix_refspec_text.proofs.Common.{◌≡◌, ◌≢◌, ℕ, List, [], ◌∷◌, ◌++◌, codes, Option, None, Some, refl, sym, ap, ◌∙◌, subst, append-nil, append_cancel_left, append_cancel_right, Lacks, BeginsWith, IsSplit, star}
-use Rattle.gix_refspec_text.proofs.Common.{head, SideKind, pattern, full_name, object, partial, HasKind, IsId, candidates, IsCandidate, Ref, MatchesAs, of_head, of_name, of_pattern, HasNoPrefix, Expands, to_prefix}
-use Rattle.gix_refspec_text.proofs.Common.{to_itself, below_refs, of_object, to_candidates, OneWord, PrefixBegins, Candidates}
+use Rattle.gix_refspec_text.proofs.Common.{◌≡◌, ◌≢◌, ℕ, List, [], ◌∷◌, ◌++◌, codes, Option, None, Some, refl, sym, ap, ◌∙◌, subst, append-nil, append_cancel_left, append_cancel_right, Lacks}
+use Rattle.gix_refspec_text.proofs.Common.{BeginsWith, IsSplit, star, head, SideKind, pattern, full_name, object, partial, HasKind, IsId, candidates, IsCandidate, Ref, MatchesAs, of_head, of_name}
+use Rattle.gix_refspec_text.proofs.Common.{of_pattern, HasNoPrefix, Expands, to_prefix, to_itself, below_refs, of_object, to_candidates, OneWord, PrefixBegins, Candidates}
 use Rattle.gix_refspec_text.proofs.lemmas.hits.CandidateLemmas.{first_candidate, first_of_one, takes_first}
 use Rattle.gix_refspec_text.proofs.lemmas.lists.LacksLemmas.{Lacks-here, first_once}
 
@@ -17,14 +17,10 @@ lacks_no_pattern x before after lacks split = Lacks-here star before after (subs
 pub split_once : (x before after fixed rest : List ℕ) → IsSplit before after x → IsSplit fixed rest x → (before ≡ fixed) × (after ≡ rest)
 split_once x before after fixed rest a b = first_once star before fixed after rest a.first b.first (sym a.starred ∙ b.starred)
 
--- a text begins with itself
-begins_itself : (x n : List ℕ) → n ≡ x → BeginsWith x n
-begins_itself x n same = record { after = []; here = same ∙ sym (append-nil x) }
-
 -- the case of a full name: it is its own prefix
 name_begins : (x : List ℕ) (k : SideKind) (r : Ref) (word : Option (List ℕ)) → BeginsWith (codes "refs/") x → Lacks star x → HasKind x k → MatchesAs k r word → BeginsWith x r.name
 name_begins x (pattern before after) r word begins lacks kind fits = absurd (lacks_no_pattern x before after lacks kind)
-name_begins x (full_name n) r word begins lacks kind fits = begins_itself x r.name (fits.1 ∙ kind.0)
+name_begins x (full_name n) r word begins lacks kind fits = record { after = []; here = fits.1 ∙ (kind.0 ∙ sym (append-nil x)) }
 name_begins x (object id) r word begins lacks kind fits = absurd (kind.1 begins)
 name_begins x (partial n) r word begins lacks kind fits = absurd (kind.2 begins)
 

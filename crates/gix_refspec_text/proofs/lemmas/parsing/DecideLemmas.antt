@@ -1,7 +1,8 @@
 -- Each text is a name or has a fault, and each side is valid or bad for a reason.
-use Rattle.gix_refspec_text.proofs.Common.{◌≡◌, ◌≢◌, ◌⊎◌, inl, inr, ℕ, Bool, true, false, List, [], ◌∷◌, ◌++◌, codes, nat_eq, IsTrue, refl, sym, ap, ◌∙◌, subst, append_assoc, length, take, ◌-◌, ends_with, ends_is}
-use Rattle.gix_refspec_text.proofs.Common.{false≢true, append-nil, Decides-eqb, Error, Empty, EmptyComponent, StartsWithDot, LockSuffix, EndsWithDot, RepeatedDot, ReflogPortion, Asterisk, InvalidByte, Lacks, EndsWith}
-use Rattle.gix_refspec_text.proofs.Common.{slash, star, dot, brace, is_refused_byte, HasFault, IsName, AddsFault, LeavesFault, Added, IsClean, cases_Bool, cases_eq}
+use Rattle.gix_refspec_text.proofs.Common.{◌≡◌, ◌≢◌, ◌⊎◌, inl, inr, ℕ, Bool, true, false, List, [], ◌∷◌, ◌++◌, codes, nat_eq, IsTrue, refl, sym, ap, ◌∙◌, subst, append_assoc, length, take, ◌-◌}
+use Rattle.gix_refspec_text.proofs.Common.{ends_with, ends_is, false≢true, append-nil, Decides-eqb, Error, Empty, EmptyComponent, StartsWithDot, LockSuffix, EndsWithDot, RepeatedDot, ReflogPortion}
+use Rattle.gix_refspec_text.proofs.Common.{Asterisk, InvalidByte, Lacks, EndsWith, slash, star, dot, brace, is_refused_byte, HasFault, IsName, AddsFault, LeavesFault, Added, IsClean, cases_Bool}
+use Rattle.gix_refspec_text.proofs.Common.{cases_eq}
 use Rattle.gix_refspec_text.proofs.lemmas.texts.NameLemmas.{IsClean-more, IsClean-start, HasFault-added, HasFault-left, IsName-from_clean, end_leaves}
 
 -- P holds, or it doesn't

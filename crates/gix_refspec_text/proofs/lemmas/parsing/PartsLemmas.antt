@@ -1,6 +1,6 @@
 -- A text has only one sign, source and destination.
-use Rattle.gix_refspec_text.proofs.Common.{◌≡◌, ◌≢◌, ℕ, List, ◌∷◌, Option, None, Some, refl, sym, ap, ◌∙◌, subst, arith, Lacks, Mode, Normal, Forced, Negative, plus, caret, colon, IsUnsigned, IsSigned, with_colon}
-use Rattle.gix_refspec_text.proofs.Common.{LastLacksColon, AreParts}
+use Rattle.gix_refspec_text.proofs.Common.{◌≡◌, ◌≢◌, ℕ, List, ◌∷◌, Option, None, Some, refl, sym, ap, ◌∙◌, subst, arith, Lacks, Mode, Normal, Forced, Negative, plus, caret, colon, IsUnsigned}
+use Rattle.gix_refspec_text.proofs.Common.{IsSigned, with_colon, LastLacksColon, AreParts}
 use Rattle.gix_refspec_text.proofs.lemmas.lists.LacksLemmas.{Lacks-here, last_once}
 
 -- a text with its parts

@@ -1,15 +1,17 @@
 -- A text with valid parts has the reading with their sides, and each text with a reading has valid parts.
-use Rattle.gix_refspec_text.proofs.Common.{◌≡◌, ◌≢◌, ◌⊎◌, inl, inr, ℕ, ◌==◌, true, false, if◌then◌else◌, List, [], ◌∷◌, Option, None, Some, option_map, unwrap_or, refl, sym, ap, subst, Empty, Operation, Push, Fetch}
-use Rattle.gix_refspec_text.proofs.Common.{Shape, Plain, Pattern, IsName, IsPattern, Mode, Normal, Forced, Negative, Reading, Refusal, Never, IsFirstReason, IsRefused, ReachesMemory, MayNeedMemory, head, named_by}
-use Rattle.gix_refspec_text.proofs.Common.{IsPositive, IsNameOrPattern, LooksLikeObjectHash, AreAlike, AreParts, fetched, pushed, Reads, fetches_nothing_named, fetches_colon, fetches, updates, updates_from_head}
-use Rattle.gix_refspec_text.proofs.Common.{fetch_excludes, pushes_plus, pushes_colon, pushes, deletes, pushes_pattern, pushes_to, push_excludes, mode_of, IsErrorOf, HasShape, HasCheckedShape, side_of, named_or_head}
-use Rattle.gix_refspec_text.proofs.Common.{destination_of, HasParts, read_as, IsReasonAgainst, bstr_bytes}
+use Rattle.gix_refspec_text.proofs.Common.{◌≡◌, ◌≢◌, ◌⊎◌, inl, inr, ℕ, ◌==◌, true, false, if◌then◌else◌, List, [], ◌∷◌, Option, None, Some, option_map, unwrap_or, refl, sym, ap, subst, Empty}
+use Rattle.gix_refspec_text.proofs.Common.{Operation, Push, Fetch, Shape, Plain, Pattern, IsName, IsPattern, Mode, Normal, Forced, Negative, Reading, Refusal, Never, IsFirstReason, IsRefused}
+use Rattle.gix_refspec_text.proofs.Common.{ReachesMemory, MayNeedMemory, head, named_by, IsPositive, IsNameOrPattern, LooksLikeObjectHash, AreAlike, AreParts, fetched, pushed, Reads}
+use Rattle.gix_refspec_text.proofs.Common.{fetches_nothing_named, fetches_colon, fetches, updates, updates_from_head, fetch_excludes, pushes_plus, pushes_colon, pushes, deletes, pushes_pattern}
+use Rattle.gix_refspec_text.proofs.Common.{pushes_to, push_excludes, mode_of, IsErrorOf, HasShape, HasCheckedShape, side_of, named_or_head, destination_of, HasParts, read_as, IsReasonAgainst}
+use Rattle.gix_refspec_text.proofs.Common.{bstr_bytes, NoReasonBeforeSource, HasBadSource, HasBadDestination, IsUnbalanced, ExcludesNothing, ExcludesObject}
 use Rattle.gix_refspec_text.specs.declared.parsing.Error.{Error}
 use Rattle.gix_refspec_text.specs.declared.parsing.reading.Parts.{Parts}
 use Rattle.gix_refspec_text.specs.declared.parsing.reading.Sides.{Sides}
 use Rattle.gix_refspec_text.proofs.lemmas.parsing.SideLemmas.{Never-or, checked_starred, empty_no_pattern}
 use Rattle.gix_refspec_text.proofs.lemmas.parsing.PartsLemmas.{Parted, parts_once}
-use Rattle.gix_refspec_text.proofs.lemmas.parsing.ReasonLemmas.{MemoryOr-map, positive, no_empty_fetch, no_negative, no_fetch_nowhere, fetch_source_fine, push_source_fine, alone_fine, destination_fine, sides_balanced}
+use Rattle.gix_refspec_text.proofs.lemmas.parsing.ReasonLemmas.{MemoryOr-map, positive, fetch_reaches, push_reaches, push_alone_reaches, negative_reaches, fetch_source_fine, push_source_fine}
+use Rattle.gix_refspec_text.proofs.lemmas.parsing.ReasonLemmas.{alone_fine, destination_fine, sides_balanced}
 
 -- readings with equal sides are equal
 pub same_reading : (op : Operation) (m : Mode) (s t d e : Option (List ℕ)) → s ≡ t → d ≡ e → ◌≡◌ {A = Reading} (record { operation = op; mode = m; source = s; destination = d }) (record { operation = op; mode = m; source = t; destination = e })
@@ -145,42 +147,25 @@ fine_parts op text r (pushes_pattern m s d push pos parts source destination _) 
 fine_parts op text r (pushes_to m s d push pos parts full plain name _) = with_fine op m s (Some d) text parts (fine_push Plain d push pos refl (λ _ empty. name_not_empty d name empty) plain (checked_name d name))
 fine_parts op text r (push_excludes s push parts either hash _) = negative_fine op s text parts either hash
 
--- no reason applies to a positive fetch, a push of a source alone, a push, or a negative spec with valid parts
-no_reason_fetch : (m : Mode) (s : List ℕ) (d : Option (List ℕ)) (k : Shape) → IsPositive m → HasCheckedShape s k → HasCheckedShape (unwrap_or d []) k → Never (IsFirstReason Fetch m s d)
-no_reason_fetch m s d k pos a b =
-    Never-or (no_empty_fetch m s d) (Never-or (no_negative m d pos) (Never-or (no_fetch_nowhere s d)
-    (Never-or (fetch_source_fine s d k a) (Never-or (destination_fine d k b)
-    (Never-or (λ e h. sides_balanced s (unwrap_or d []) k (checked_starred s k a) (checked_starred (unwrap_or d []) k b) h.one)
-    (Never-or (λ e h. positive m pos h.negative) (λ e h. positive m pos h.negative)))))))
-
-no_reason_alone : (m : Mode) (s : List ℕ) (k : Shape) → IsPositive m → (s ≡ [] → m ≡ Normal → ⊥) → HasCheckedShape s k → Never (IsFirstReason Push m s None)
-no_reason_alone m s k pos full a =
-    Never-or (λ e h. full h.no_source h.unsigned) (Never-or (no_negative m None pos) (Never-or (λ e h. let i = h.nowhere in absurd (cc))
-    (Never-or (alone_fine Push s k a) (Never-or (λ e h. let i = h.is in absurd (cc))
-    (Never-or (λ e h. h.has_destination refl refl)
-    (Never-or (λ e h. positive m pos h.negative) (λ e h. positive m pos h.negative)))))))
-
-no_reason_push : (m : Mode) (s t : List ℕ) (k : Shape) → IsPositive m → (s ≢ [] → t ≡ [] → ⊥) → HasShape s k → HasCheckedShape t k → Never (IsFirstReason Push m s (Some t))
-no_reason_push m s t k pos somewhere a b =
-    Never-or (λ e h. let i = h.no_colon in absurd (cc)) (Never-or (no_negative m (Some t) pos)
-    (Never-or (λ e h. let i = h.nowhere in let empty : t ≡ [] = cc in somewhere h.source empty)
-    (Never-or (push_source_fine s t k a) (Never-or (destination_fine (Some t) k b)
-    (Never-or (λ e h. sides_balanced s t k a (checked_starred t k b) h.one)
-    (Never-or (λ e h. positive m pos h.negative) (λ e h. positive m pos h.negative)))))))
-
-no_reason_negative : (op : Operation) (s : List ℕ) (k : Shape) → s ≢ [] → HasCheckedShape s k → ¬ (LooksLikeObjectHash s) → Never (IsFirstReason op Negative s None)
-no_reason_negative op s k full a hash =
-    Never-or (λ e h. let i = h.unsigned in absurd (cc)) (Never-or (λ e h. let i = h.colon in absurd (cc)) (Never-or (λ e h. let i = h.nowhere in absurd (cc))
-    (Never-or (alone_fine op s k a) (Never-or (λ e h. let i = h.is in absurd (cc))
-    (Never-or (λ e h. h.positive)
-    (Never-or (λ e h. full h.no_source) (λ e h. hash h.hash)))))))
+-- no reason is the first if none ever applies
+none_first : (op : Operation) (m : Mode) (s : List ℕ) (d : Option (List ℕ)) → NoReasonBeforeSource op m s d → Never (HasBadSource op s d) → Never (HasBadDestination d) → Never (IsUnbalanced op m s d) → Never (ExcludesNothing m s)
+    → Never (ExcludesObject m s) → Never (IsFirstReason op m s d)
+none_first op m s d before source destination balance nothing object =
+    Never-or before.0 (Never-or before.1 (Never-or before.2 (Never-or source (Never-or destination (Never-or balance (Never-or nothing object))))))
 
 -- no reason applies to valid parts
 pub no_reason : (op : Operation) (m : Mode) (s : List ℕ) (d : Option (List ℕ)) → AreFine op m s d → Never (IsFirstReason op m s d)
-no_reason op m s d (fine_fetch k fetch pos a b) e = rw fetch (no_reason_fetch m s d k pos a b e)
-no_reason op m s d (fine_alone k push pos none full a) e = rw (push, none) (no_reason_alone m s k pos full a e)
-no_reason op m s d (fine_push k t push pos some somewhere a b) e = rw (push, some) (no_reason_push m s t k pos somewhere a b e)
-no_reason op m s d (fine_negative k negative none full a hash) e = rw (negative, none) (no_reason_negative op s k full a hash e)
+no_reason op m s d (fine_fetch k fetch pos a b) e =
+    rw fetch (none_first Fetch m s d (fetch_reaches m s d pos) (fetch_source_fine s d k a) (destination_fine d k b)
+    (λ f h. sides_balanced s (unwrap_or d []) k (checked_starred s k a) (checked_starred (unwrap_or d []) k b) h.one) (λ f h. positive m pos h.negative) (λ f h. positive m pos h.negative) e)
+no_reason op m s d (fine_alone k push pos none full a) e =
+    rw (push, none) (none_first Push m s None (push_alone_reaches m s pos full) (alone_fine Push s k a) (λ f h. let i = h.is in absurd (cc))
+    (λ f h. h.has_destination refl refl) (λ f h. positive m pos h.negative) (λ f h. positive m pos h.negative) e)
+no_reason op m s d (fine_push k t push pos some somewhere a b) e =
+    rw (push, some) (none_first Push m s (Some t) (push_reaches m s t pos somewhere) (push_source_fine s t k a) (destination_fine (Some t) k b)
+    (λ f h. sides_balanced s t k a (checked_starred t k b) h.one) (λ f h. positive m pos h.negative) (λ f h. positive m pos h.negative) e)
+no_reason op m s d (fine_negative k negative none full a hash) e =
+    rw (negative, none) (none_first op Negative s None (negative_reaches op s) (alone_fine op s k a) (λ f h. let i = h.is in absurd (cc)) (λ f h. h.positive) (λ f h. full h.no_source) (λ f h. hash h.hash) e)
 
 -- a text has no reading if a reason applies to its parts
 pub unread : (op : Operation) (m : Mode) (s : List ℕ) (d : Option (List ℕ)) (text : List ℕ) (e : Refusal) (r : Reading) → AreParts m s d text → IsFirstReason op m s d e → ¬ (Reads op text r)

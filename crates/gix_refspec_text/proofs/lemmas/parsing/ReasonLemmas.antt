@@ -1,11 +1,21 @@
 -- The first reason that applies to parts, and that none applies to valid ones.
-use Rattle.gix_refspec_text.proofs.Common.{◌≡◌, ◌≢◌, inl, inr, ℕ, List, [], Option, None, Some, unwrap_or, refl, ap, subst, Operation, Push, Fetch, Shape, Plain, Pattern, HasStar, star, Mode, Normal, Negative, Refusal}
-use Rattle.gix_refspec_text.proofs.Common.{PatternUnbalanced, NegativeEmpty, NegativeObjectHash, IsBadPattern, IsEmptyPush, HasNegativeDestination, PushesNowhere, HasBadSource, HasBadDestination, IsUnbalanced}
-use Rattle.gix_refspec_text.proofs.Common.{IsOneStarred, Never, IsFirstReason, NeedsMemory, NoReasonBeforeSource, ReachesMemory, IsPositive, LooksLikeObjectHash, MemoryOr, HasShape, HasCheckedShape, IsBadSide, IsReason}
+use Rattle.gix_refspec_text.proofs.Common.{◌≡◌, ◌≢◌, inl, inr, ℕ, List, [], Option, None, Some, unwrap_or, refl, ap, subst, Operation, Push, Fetch, Shape, Plain, Pattern, HasStar, star, Mode, Normal}
+use Rattle.gix_refspec_text.proofs.Common.{Negative, Refusal, PatternUnbalanced, NegativeEmpty, NegativeObjectHash, IsBadPattern, HasNegativeDestination, HasBadSource, HasBadDestination, IsUnbalanced}
+use Rattle.gix_refspec_text.proofs.Common.{IsOneStarred, Never, IsFirstReason, NeedsMemory, NoReasonBeforeSource, ReachesMemory, IsPositive, LooksLikeObjectHash, MemoryOr, HasShape, HasCheckedShape}
+use Rattle.gix_refspec_text.proofs.Common.{IsBadSide, IsReason, ShowsRefusal}
 use Rattle.gix_refspec_text.specs.declared.parsing.Error.{Error}
 use Rattle.gix_refspec_text.specs.declared.parsing.Error.TheVariants as error
 use Rattle.gix_refspec_text.proofs.lemmas.texts.TextLemmas.{Lacks-ContainsText}
 use Rattle.gix_refspec_text.proofs.lemmas.parsing.SideLemmas.{checked_fine, starred_fine, checked_starred, HasStar-pattern, HasStar-bad}
+
+-- an error other than `Memory` is a refusal
+pub shows_refusal : (M : Type 0) (P : Refusal → Type 0) (e : Error) → MemoryOr M P e → e ≢ error.Memory → ShowsRefusal P e
+shows_refusal M P error.Memory told other = absurd (other refl)
+shows_refusal M P e told other = told
+
+-- if the error is `Memory`, memory may be needed
+pub needs_memory : (M : Type 0) (P : Refusal → Type 0) (e : Error) → MemoryOr M P e → e ≡ error.Memory → M
+needs_memory M P e told same = subst (MemoryOr M P) same told
 
 -- an error that is `Memory` or satisfies P may be weakened to other conditions that follow
 pub MemoryOr-map : (M N : Type 0) (P Q : Refusal → Type 0) (e : Error) → (M → N) → ((f : Refusal) → P f → Q f) → MemoryOr M P e → MemoryOr N Q e
@@ -16,18 +26,12 @@ MemoryOr-map M N P Q e m p h = (h.0, h.1, p h.0 h.2)
 pub positive : (m : Mode) → IsPositive m → m ≡ Negative → ⊥
 positive m pos same = subst IsPositive same pos
 
-pub no_empty_fetch : (m : Mode) (s : List ℕ) (d : Option (List ℕ)) → Never (IsEmptyPush Fetch m s d)
-no_empty_fetch m s d e h = let p = h.push in absurd (cc)
-
-pub no_fetch_nowhere : (s : List ℕ) (d : Option (List ℕ)) → Never (PushesNowhere Fetch s d)
-no_fetch_nowhere s d e h = let p = h.push in absurd (cc)
-
 pub no_negative : (m : Mode) (d : Option (List ℕ)) → IsPositive m → Never (HasNegativeDestination m d)
 no_negative m d pos e h = positive m pos h.negative
 
 -- no reason before those of the source applies to a positive fetch
 pub fetch_reaches : (m : Mode) (s : List ℕ) (d : Option (List ℕ)) → IsPositive m → NoReasonBeforeSource Fetch m s d
-fetch_reaches m s d pos = (no_empty_fetch m s d, no_negative m d pos, no_fetch_nowhere s d)
+fetch_reaches m s d pos = (λ e h. let p = h.push in absurd (cc), no_negative m d pos, λ e h. let p = h.push in absurd (cc))
 
 -- nor to a positive push to a destination
 pub push_reaches : (m : Mode) (s t : List ℕ) → IsPositive m → (s ≢ [] → t ≡ [] → ⊥) → NoReasonBeforeSource Push m s (Some t)
@@ -71,12 +75,9 @@ fetch_source_fine s d k fine e bad = checked_fine s k fine e (bad.source, bad.re
 pub push_source_fine : (s d : List ℕ) (k : Shape) → HasShape s k → Never (HasBadSource Push s (Some d))
 push_source_fine s d k fine e bad = starred_fine s k fine e bad.refusal
 
-pub push_alone_fine : (s : List ℕ) (k : Shape) → HasCheckedShape s k → Never (HasBadSource Push s None)
-push_alone_fine s k fine e bad = checked_fine s k fine e (bad.source, bad.refusal)
-
 pub alone_fine : (op : Operation) (s : List ℕ) (k : Shape) → HasCheckedShape s k → Never (HasBadSource op s None)
-alone_fine Push s k fine = push_alone_fine s k fine
-alone_fine Fetch s k fine = fetch_source_fine s None k fine
+alone_fine Push s k fine e bad = checked_fine s k fine e (bad.source, bad.refusal)
+alone_fine Fetch s k fine e bad = checked_fine s k fine e (bad.source, bad.refusal)
 
 -- a checked destination isn't bad
 pub destination_fine : (d : Option (List ℕ)) (k : Shape) → HasCheckedShape (unwrap_or d []) k → Never (HasBadDestination d)

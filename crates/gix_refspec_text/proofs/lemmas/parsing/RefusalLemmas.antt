@@ -1,10 +1,8 @@
 -- A text is refused for only one reason, apart from which fault of a name it holds.
-use Rattle.gix_refspec_text.proofs.Common.{◌≡◌, ◌⊎◌, inl, inr, ℕ, List, Option, None, Some, refl, sym, ap, ◌∙◌, subst, Error, Operation, Push, Fetch, Lacks, HasSeveralStars, ReplacesStar, star, Mode, Refusal}
-use Rattle.gix_refspec_text.proofs.Common.{NegativeWithDestination, PushToEmpty, PatternUnsupported, ReferenceName, PatternUnbalanced, NegativeEmpty, NegativeObjectHash, IsBadName, IsBadPattern, IsBadSourceFor}
-use Rattle.gix_refspec_text.proofs.Common.{HasBadDestination, OrElse, IsFirstReason, IsSameReason, OneRefusal, same_Some}
-use Rattle.gix_refspec_text.specs.Specs.Refusal.{Empty}
+use Rattle.gix_refspec_text.proofs.Common.{◌≡◌, ◌⊎◌, inl, inr, ℕ, List, Option, None, Some, refl, sym, ap, ◌∙◌, subst, Operation, Push, Fetch, star, Mode, Refusal, PatternUnsupported, ReferenceName}
+use Rattle.gix_refspec_text.proofs.Common.{IsBadName, IsBadPattern, IsBadSourceFor, HasBadDestination, OrElse, IsFirstReason, IsSameReason, OneRefusal, same_Some}
 use Rattle.gix_refspec_text.proofs.lemmas.texts.TextLemmas.{Lacks-ContainsText}
-use Rattle.gix_refspec_text.proofs.lemmas.parsing.SideLemmas.{HasStar-bad, HasSeveralStars-replaced}
+use Rattle.gix_refspec_text.proofs.lemmas.parsing.SideLemmas.{bad_name, HasStar-bad, HasSeveralStars-replaced}
 use Rattle.gix_refspec_text.proofs.lemmas.parsing.PartsLemmas.{parts_once}
 
 -- two refusals that satisfy P are for the same reason
@@ -17,49 +15,26 @@ Agree-or p q e f (inl a) (inr b) = absurd (b.0 e a)
 Agree-or p q e f (inr a) (inl b) = absurd (a.0 f b)
 Agree-or p q e f (inr a) (inr b) = q e f a.1 b.1
 
--- both are the same refusal
-both_are : (k e f : Refusal) → e ≡ k → f ≡ k → IsSameReason e f
-both_are k e f a b = inl (a ∙ sym b)
-
--- the refusal of a bad pattern is for several stars, or for the fault of a name
-record IsForFault (e : Refusal) : Type 0 where
-  fault : Error
-  is : e ≡ ReferenceName fault
-
-record IsForStars (x : List ℕ) (e : Refusal) : Type 0 where
-  several : HasSeveralStars x
-  is : e ≡ PatternUnsupported x
-
-both_for_fault : (e f : Refusal) → IsForFault e → IsForFault f → IsSameReason e f
-both_for_fault e f a b = inr (a.fault, b.fault, a.is, b.is)
-
-reason_of_pattern : (x : List ℕ) (e : Refusal) → IsBadPattern x e → IsForStars x e ⊎ (((y : List ℕ) × ReplacesStar x y) × IsForFault e)
-reason_of_pattern x (PatternUnsupported p) bad = inl (record { several = bad.0; is = ap PatternUnsupported bad.1 })
-reason_of_pattern x (ReferenceName fault) bad = inr ((bad.0, bad.1), record { fault = fault; is = refl })
-reason_of_pattern x _ bad = absurd bad
-
-reason_of_name : (x : List ℕ) (e : Refusal) → IsBadName x e → Lacks star x × IsForFault e
-reason_of_name x (ReferenceName fault) bad = (bad.0, record { fault = fault; is = refl })
-reason_of_name x _ bad = absurd bad
-
 Agree-pattern : (x : List ℕ) → Agree (IsBadPattern x)
-Agree-pattern x e f a b = elim (reason_of_pattern x e a) [
-  | inl stars ↦ elim (reason_of_pattern x f b) [
-    | inl again ↦ both_are (PatternUnsupported x) e f stars.is again.is
-    | inr one ↦ absurd (HasSeveralStars-replaced x one.0.0 one.0.1 stars.several)
-  ]
-  | inr one ↦ elim (reason_of_pattern x f b) [
-    | inl stars ↦ absurd (HasSeveralStars-replaced x one.0.0 one.0.1 stars.several)
-    | inr again ↦ both_for_fault e f one.1 again.1
-  ]
-]
+Agree-pattern x (PatternUnsupported p) (PatternUnsupported q) a b = inl (ap PatternUnsupported (a.1 ∙ sym b.1))
+Agree-pattern x (PatternUnsupported p) (ReferenceName g) a b = absurd (HasSeveralStars-replaced x b.0 b.1 a.0)
+Agree-pattern x (ReferenceName f) (PatternUnsupported q) a b = absurd (HasSeveralStars-replaced x a.0 a.1 b.0)
+Agree-pattern x (ReferenceName f) (ReferenceName g) a b = inr (f, g, refl, refl)
+Agree-pattern x (PatternUnsupported p) _ a b = absurd b
+Agree-pattern x (ReferenceName f) _ a b = absurd b
+Agree-pattern x _ f a b = absurd a
+
+Agree-name : (x : List ℕ) → Agree (IsBadName x)
+Agree-name x (ReferenceName f) (ReferenceName g) a b = inr (f, g, refl, refl)
+Agree-name x (ReferenceName f) _ a b = absurd b
+Agree-name x _ f a b = absurd a
 
 -- a bad name isn't a bad pattern
 name_no_pattern : (x : List ℕ) (e f : Refusal) → IsBadName x e → IsBadPattern x f → ⊥
-name_no_pattern x e f name pattern = Lacks-ContainsText star x (reason_of_name x e name).0 (HasStar-bad x f pattern)
+name_no_pattern x e f name pattern = Lacks-ContainsText star x (bad_name x e name).0 (HasStar-bad x f pattern)
 
 Agree-side : (x : List ℕ) → Agree (λ e. IsBadName x e ⊎ IsBadPattern x e)
-Agree-side x e f (inl a) (inl b) = both_for_fault e f (reason_of_name x e a).1 (reason_of_name x f b).1
+Agree-side x e f (inl a) (inl b) = Agree-name x e f a b
 Agree-side x e f (inl a) (inr b) = absurd (name_no_pattern x e f a b)
 Agree-side x e f (inr a) (inl b) = absurd (name_no_pattern x f e b a)
 Agree-side x e f (inr a) (inr b) = Agree-pattern x e f a b
@@ -77,14 +52,14 @@ Agree-destination d e f a b =
 -- only one reason is the first that applies to parts
 Agree-first : (op : Operation) (mode : Mode) (s : List ℕ) (d : Option (List ℕ)) → Agree (IsFirstReason op mode s d)
 Agree-first op mode s d =
-    Agree-or (λ e f a b. both_are Empty e f a.refusal b.refusal)
-    (Agree-or (λ e f a b. both_are NegativeWithDestination e f a.refusal b.refusal)
-    (Agree-or (λ e f a b. both_are PushToEmpty e f a.refusal b.refusal)
+    Agree-or (λ e f a b. inl (a.refusal ∙ sym b.refusal))
+    (Agree-or (λ e f a b. inl (a.refusal ∙ sym b.refusal))
+    (Agree-or (λ e f a b. inl (a.refusal ∙ sym b.refusal))
     (Agree-or (λ e f a b. Agree-source op d s e f a.refusal b.refusal)
     (Agree-or (Agree-destination d)
-    (Agree-or (λ e f a b. both_are PatternUnbalanced e f a.refusal b.refusal)
-    (Agree-or (λ e f a b. both_are NegativeEmpty e f a.refusal b.refusal)
-    (λ e f a b. both_are NegativeObjectHash e f a.refusal b.refusal)))))))
+    (Agree-or (λ e f a b. inl (a.refusal ∙ sym b.refusal))
+    (Agree-or (λ e f a b. inl (a.refusal ∙ sym b.refusal))
+    (λ e f a b. inl (a.refusal ∙ sym b.refusal))))))))
 
 -- a text is refused for only one reason
 pub one_refusal : (op : Operation) (text : List ℕ) → OneRefusal op text

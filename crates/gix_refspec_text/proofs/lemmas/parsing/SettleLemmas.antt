@@ -1,14 +1,15 @@
 -- Each text has parts, and parts have a reading or a first reason to refuse them.
-use Rattle.gix_refspec_text.proofs.Common.{◌≡◌, ◌≢◌, ◌⊎◌, inl, inr, ℕ, List, [], ◌∷◌, ◌++◌, Option, None, Some, unwrap_or, length, nat_le, refl, sym, ap, ◌∙◌, subst, is_ascii_hexdigit, false≢true, leb-true, le-leb}
-use Rattle.gix_refspec_text.proofs.Common.{Operation, Push, Fetch, Shape, Plain, Pattern, Lacks, star, letter, plus, caret, colon, ReplacesStar, Mode, Normal, Forced, Negative, Reading, Refusal, NegativeWithDestination}
-use Rattle.gix_refspec_text.proofs.Common.{PushToEmpty, PatternUnsupported, ReferenceName, PatternUnbalanced, NegativeEmpty, NegativeObjectHash, IsBadPattern, IsFirstReason, IsRefused, named_by, IsSigned, IsPositive}
-use Rattle.gix_refspec_text.proofs.Common.{with_colon, LastLacksColon, AreParts, LooksLikeObjectHash, Reads, fetched, pushed, HasShape, HasCheckedShape, IsBadSide, side_of, named_or_head, cases_eq, list_all, ◌&&◌}
-use Rattle.gix_refspec_text.proofs.Common.{and_parts, and_from, AllPass-from_list_all, list_all-from_AllPass}
+use Rattle.gix_refspec_text.proofs.Common.{◌≡◌, ◌≢◌, ◌⊎◌, inl, inr, ℕ, List, [], ◌∷◌, ◌++◌, Option, None, Some, unwrap_or, length, nat_le, refl, sym, ap, ◌∙◌, subst, is_ascii_hexdigit, false≢true}
+use Rattle.gix_refspec_text.proofs.Common.{leb-true, le-leb, Operation, Push, Fetch, Shape, Plain, Pattern, Lacks, star, letter, plus, caret, colon, ReplacesStar, Mode, Normal, Forced, Negative}
+use Rattle.gix_refspec_text.proofs.Common.{Reading, Refusal, NegativeWithDestination, PushToEmpty, PatternUnsupported, ReferenceName, PatternUnbalanced, NegativeEmpty, NegativeObjectHash}
+use Rattle.gix_refspec_text.proofs.Common.{IsBadPattern, IsFirstReason, IsRefused, named_by, IsSigned, IsPositive, with_colon, LastLacksColon, AreParts, LooksLikeObjectHash, Reads, fetched, pushed}
+use Rattle.gix_refspec_text.proofs.Common.{HasShape, HasCheckedShape, IsBadSide, side_of, named_or_head, cases_eq, list_all, ◌&&◌, and_parts, and_from, AllPass-from_list_all, list_all-from_AllPass}
 use Rattle.gix_refspec_text.specs.Specs.Refusal.{Empty}
 use Rattle.gix_refspec_text.proofs.lemmas.parsing.DecideLemmas.{Decided, FirstIndex, tested, name_or_fault, lacks_or_first}
 use Rattle.gix_refspec_text.proofs.lemmas.parsing.PartsLemmas.{Parted}
-use Rattle.gix_refspec_text.proofs.lemmas.parsing.ReasonLemmas.{fetch_reaches, push_reaches, push_alone_reaches, negative_reaches, reason_at_source, reason_at_destination, reason_against_object, reason_against_nothing}
-use Rattle.gix_refspec_text.proofs.lemmas.parsing.ReasonLemmas.{fetch_source_fine, push_source_fine, bad_destination, bad_source_of_push, unbalanced_fetch, unbalanced_push, bad_negative, no_negative}
+use Rattle.gix_refspec_text.proofs.lemmas.parsing.ReasonLemmas.{fetch_reaches, push_reaches, push_alone_reaches, negative_reaches, reason_at_source, reason_at_destination, reason_against_object}
+use Rattle.gix_refspec_text.proofs.lemmas.parsing.ReasonLemmas.{reason_against_nothing, fetch_source_fine, push_source_fine, bad_destination, bad_source_of_push, unbalanced_fetch, unbalanced_push}
+use Rattle.gix_refspec_text.proofs.lemmas.parsing.ReasonLemmas.{bad_negative, no_negative}
 use Rattle.gix_refspec_text.proofs.lemmas.parsing.ReadsLemmas.{fetch_reads, push_alone_reads, push_reads, negative_reads, refused}
 
 -- a text without a star or a pattern, or a bad pattern
@@ -71,13 +72,9 @@ decided_hash x = elim (tested (nat_le 40 (length x) && list_all is_ascii_hexdigi
   | inr other ↦ inr (λ hash. false≢true (sym other ∙ and_from _ _ (le-leb 40 (length x) hash.long) (list_all-from_AllPass is_ascii_hexdigit x hash.digits)))
 ]
 
--- r is the reading of each text with these parts
-abbrev pub PartsRead : Operation → Mode → List ℕ → Option (List ℕ) → Reading → Type 0
-PartsRead op m s d r = (text : List ℕ) → AreParts m s d text → Reads op text r
-
 -- parts have a reading, or a first reason to refuse them
 abbrev pub Settled : Operation → Mode → List ℕ → Option (List ℕ) → Type 0
-Settled op m s d = ((r : Reading) × PartsRead op m s d r) ⊎ ((e : Refusal) × IsFirstReason op m s d e)
+Settled op m s d = ((r : Reading) × ((text : List ℕ) → AreParts m s d text → Reads op text r)) ⊎ ((e : Refusal) × IsFirstReason op m s d e)
 
 settled_fetch : (m : Mode) (s : List ℕ) (d : Option (List ℕ)) → IsPositive m → Settled Fetch m s d
 settled_fetch m s d pos = elim (checked s) [

@@ -1,7 +1,7 @@
 -- Names and patterns as sides, and the reasons to refuse a side.
-use Rattle.gix_refspec_text.proofs.Common.{◌≡◌, ◌⊎◌, inl, inr, ℕ, List, [], ◌∷◌, ◌++◌, Option, None, Some, option_map, unwrap_or, is_some, Bor, false, refl, sym, ap, ◌∙◌, subst, false≢true, sameb, DeclaredMode, Asterisk}
-use Rattle.gix_refspec_text.proofs.Common.{Shape, Plain, Pattern, Lacks, IsName, IsPattern, HasStar, HasSeveralStars, ReplacesStar, HasFault, star, Normal, Refusal, PatternUnsupported, ReferenceName, IsBadName}
-use Rattle.gix_refspec_text.proofs.Common.{IsBadPattern, Never, OrElse, mode_of, NothingAgainst, HasShape, HasCheckedShape, IsBadSide}
+use Rattle.gix_refspec_text.proofs.Common.{◌≡◌, ◌⊎◌, inl, inr, ℕ, List, [], ◌∷◌, ◌++◌, Option, None, Some, option_map, unwrap_or, is_some, Bor, false, refl, sym, ap, ◌∙◌, subst, false≢true, sameb}
+use Rattle.gix_refspec_text.proofs.Common.{DeclaredMode, Asterisk, Shape, Plain, Pattern, Lacks, IsName, IsPattern, HasStar, HasSeveralStars, ReplacesStar, HasFault, star, Normal, Refusal}
+use Rattle.gix_refspec_text.proofs.Common.{PatternUnsupported, ReferenceName, IsBadName, IsBadPattern, Never, OrElse, mode_of, NothingAgainst, HasShape, HasCheckedShape, IsBadSide}
 use Rattle.gix_refspec_text.specs.contracts.types.Mode.{the_type as the_mode}
 use Rattle.gix_refspec_text.specs.declared.types.Mode.TheVariants as declared_mode
 use Rattle.gix_refspec_text.specs.declared.name.PatternError.TheVariants as found
@@ -31,11 +31,7 @@ HasStar-stars x stars = record { before = stars.before; after = stars.between ++
 pub replaced_once : (x y z : List ℕ) → ReplacesStar x y → ReplacesStar x z → y ≡ z
 replaced_once x y z a b =
     let same = first_once star a.before b.before a.after b.after a.split.first b.split.first (sym a.split.starred ∙ b.split.starred) in
-    let fronts : a.before ≡ b.before = same.0 in
-    let backs : a.after ≡ b.after = same.1 in
-    let of_y = a.replaced in
-    let of_z = b.replaced in
-    cc
+    cc (same.0, same.1, a.replaced, b.replaced)
 
 -- a text with one star doesn't have several
 pub HasSeveralStars-replaced : (x y : List ℕ) → ReplacesStar x y → HasSeveralStars x → ⊥

@@ -1,6 +1,6 @@
 -- A side has at most one prefix and at most one expansion.
-use Rattle.gix_refspec_text.proofs.Common.{◌≡◌, ℕ, List, [], ◌∷◌, ◌++◌, codes, sym, ap, ◌∙◌, subst, append_cancel_left, Lacks, ContainsText, BeginsWith, slash, IsPrefix, of_head, of_name, of_pattern, Expands, to_prefix}
-use Rattle.gix_refspec_text.proofs.Common.{to_itself, below_refs, of_object, to_candidates, OnePrefix, head, star, IsSplit}
+use Rattle.gix_refspec_text.proofs.Common.{◌≡◌, ℕ, List, [], ◌∷◌, ◌++◌, codes, sym, ap, ◌∙◌, subst, append_cancel_left, Lacks, ContainsText, BeginsWith, slash, IsPrefix, of_head, of_name, of_pattern}
+use Rattle.gix_refspec_text.proofs.Common.{Expands, to_prefix, to_itself, below_refs, of_object, to_candidates, OnePrefix, head, star, IsSplit}
 use Rattle.gix_refspec_text.proofs.lemmas.texts.TextLemmas.{Lacks-ContainsText}
 use Rattle.gix_refspec_text.proofs.lemmas.hits.MatchLemmas.{lacks_no_pattern, split_once}
 use Rattle.gix_refspec_text.proofs.lemmas.parsing.SideLemmas.{Lacks-name}

@@ -1,25 +1,25 @@
 -- Prefixes and expansions of sides.
-use Rattle.gix_refspec_text.proofs.Common.{◌≡◌, ◌≢◌, inl, inr, ◌≤◌, ◌<◌, ℕ, Bool, true, false, not, ◌↔◌, IsTrue, MatchBool, MatchOption, Bor, if◌then◌else◌, List, [], ◌∷◌, ◌++◌, codes, map, length, get_or, is_ok, Result}
-use Rattle.gix_refspec_text.proofs.Common.{Ok, Err, OnOk, OnErr, refl, sym, ap, ◌∙◌, subst, length-append, arith, append_cancel_left, length-map, map-append, false≢true, IsIdText, digits_of, Lacks, ContainsText}
-use Rattle.gix_refspec_text.proofs.Common.{BeginsWith, IsSplit, HasOneStar, star, slash, head, bracket, Reading, IsId, IsRefPrefix, IsPrefix, of_head, of_name, of_pattern, HasNoPrefix, Expands, to_prefix, to_itself}
-use Rattle.gix_refspec_text.proofs.Common.{below_refs, of_object, to_candidates, IsAsked, IsExpansion, Kind, Sha1, Sha256}
+use Rattle.gix_refspec_text.proofs.Common.{◌≡◌, ◌≢◌, inl, inr, ◌≤◌, ◌<◌, ℕ, Bool, true, false, not, ◌↔◌, IsTrue, MatchBool, MatchOption, Bor, if◌then◌else◌, List, [], ◌∷◌, ◌++◌, codes, map, length}
+use Rattle.gix_refspec_text.proofs.Common.{get_or, is_ok, Result, Ok, Err, OnOk, OnErr, refl, sym, ap, ◌∙◌, subst, length-append, arith, append_cancel_left, length-map, map-append, false≢true}
+use Rattle.gix_refspec_text.proofs.Common.{IsIdText, Lacks, ContainsText, BeginsWith, IsSplit, HasOneStar, star, slash, head, bracket, Reading, IsId, IsRefPrefix, IsPrefix, of_head, of_name}
+use Rattle.gix_refspec_text.proofs.Common.{of_pattern, HasNoPrefix, Expands, to_prefix, to_itself, below_refs, of_object, to_candidates, IsAsked, IsExpansion, ◌⊎◌, sameb, Operation, Fetch, Push}
+use Rattle.gix_refspec_text.proofs.Common.{ObjectId, id_bytes, HasKind, IsCovering, by_prefix, by_candidates, HasCoveringSource}
 use Rattle.std.specs.Prelude.{⊤}
 use Rattle.std.specs.Bool.{then_some}
 use Rattle.std.proofs.Math.Seq.{get_or-append_seam}
 use Rattle.hex.specs.Hex.{is_hex_digit}
 use Rattle.gix_refspec_text.proofs.lemmas.texts.TextLemmas.{Lacks-ContainsText}
-use Rattle.gix_refspec_text.proofs.lemmas.hits.MatchLemmas.{lacks_no_pattern, split_once}
-use Rattle.gix_refspec_text.proofs.lemmas.texts.ObjectIdLemmas.{AllPass-IsIdText}
+use Rattle.gix_refspec_text.proofs.lemmas.hits.MatchLemmas.{lacks_no_pattern, split_once, begins_split}
+use Rattle.gix_refspec_text.proofs.lemmas.texts.ObjectIdLemmas.{AllPass-IsIdText, no_kind}
 use Rattle.gix_refspec_text.proofs.lemmas.prefixes.OnePrefixLemmas.{head_no_split, one_prefix}
-
--- four digits are too few for an id
-short : (kind : Kind) → 4 ≡ digits_of kind → ⊥
-short Sha1 same = omega (arith, same)
-short Sha256 same = omega (arith, same)
+use Rattle.gix_refspec_text.specs.contracts.parsing.Operation.{the_type as the_operation}
+use Rattle.gix_refspec_text.specs.declared.side.SideKind.{SideKind as DeclaredKind}
+use Rattle.gix_refspec_text.specs.Private.SideViews.{kind_of_side}
+use Rattle.gix_refspec_text.specs.declared.side.SideKind.TheVariants as kind
 
 -- the id of an object isn't `HEAD`, which is too short
 pub id_not_head : (x id : List ℕ) → IsIdText x id → x ≢ head
-id_not_head x id text is = short text.kind (sym (ap length is) ∙ text.digits)
+id_not_head x id text is = no_kind 4 (λ same. omega (arith, same)) (λ same. omega (arith, same)) (text.kind, sym (ap length is) ∙ text.digits)
 
 -- a pattern has no prefix if the texts around its star don't give one
 pub no_prefix : (x before after : List ℕ) → IsSplit before after x → ¬ (IsRefPrefix before after) → HasNoPrefix x
@@ -105,3 +105,35 @@ starred_no_id x (before, after, split) id =
 pub pattern_prefix : (x : List ℕ) (before after : Bor (List ℕ)) (r : Bool) → IsSplit before.now after.now x → IsTrue r ↔ IsRefPrefix before.now after.now → MatchOption (then_some r before) (HasNoPrefix x) (λ p. IsPrefix x p.now)
 pattern_prefix x before after true split told = of_pattern before.now after.now split (told.0 refl) refl
 pattern_prefix x before after false split told = no_prefix x before.now after.now split (λ tells. false≢true (told.1 tells))
+
+-- ---- covering sources
+
+-- a pattern is covering exactly if it has a ref prefix
+pub told_pattern : (x before after : List ℕ) (r : Bool) → IsSplit before after x → IsTrue r ↔ IsRefPrefix before after → IsTrue r ↔ IsCovering x
+told_pattern x before after true split told =
+    let tells = told.0 refl in
+    ((λ _. by_prefix before (begins_split x before after split tells.below) (of_pattern before after split tells refl)), (λ _. refl))
+told_pattern x before after false split told = ((λ so. absurd (false≢true so)), never)
+  where
+    never : IsCovering x → false ≡ true
+    never (by_prefix p below is) = absurd (no_prefix x before after split (λ tells. false≢true (told.1 tells)) p is)
+    never (by_candidates lacks other outside) = absurd (lacks_no_pattern x before after lacks split)
+
+-- a positive fetch has a covering source exactly if its source is covering
+pub told_source : (r : Reading) (x : List ℕ) (b : Bool) → r.operation ≡ Fetch → IsAsked r x → IsTrue b ↔ IsCovering x → IsTrue b ↔ HasCoveringSource r
+told_source r x b fetch asked told = (
+  (λ so. record { fetch = fetch; source = λ y also. subst IsCovering (one_asked r x y asked also) (told.0 so) }),
+  (λ has. told.1 (has.source x asked)),
+)
+
+-- an operation that passes the test is a fetch
+pub fetch_from_test : (o : Operation) → false ≡ not (sameb the_operation o Fetch) → o ≡ Fetch
+fetch_from_test Fetch test = refl
+fetch_from_test Push test = absurd (false≢true test)
+
+-- a full name and an id are covering
+pub told_name : (x : List ℕ) (k : DeclaredKind) → HasKind x (kind_of_side k) → ((n : Bor (List ℕ)) × (k ≡ kind.FullName n)) ⊎ ((i : ObjectId) × (k ≡ kind.Object i)) → IsCovering x
+told_name x (kind.FullName n) has one = by_prefix x has.2 (of_name has.2 has.1 refl)
+told_name x (kind.Object i) has one = by_candidates has.0 (id_not_head x (id_bytes i) has.2) has.1
+told_name x _ has (inl some) = let same = some.1 in absurd (cc)
+told_name x _ has (inr some) = let same = some.1 in absurd (cc)

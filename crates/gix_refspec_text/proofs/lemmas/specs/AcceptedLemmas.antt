@@ -1,11 +1,11 @@
 -- The sides of each reading that some text has.
-use Rattle.gix_refspec_text.proofs.Common.{◌≡◌, ◌⊎◌, inl, inr, ℕ, List, [], Option, None, Some, sym, subst, ∥∥₁_elim, Operation, Lacks, IsName, IsPattern, HasStar, HasSeveralStars, star, head, Reading, side_on_remote}
-use Rattle.gix_refspec_text.proofs.Common.{remote_of, named_by, IsNameOrPattern, AreAlike, Reads, IsAccepted, fetches_nothing_named, fetches_colon, fetches, updates, updates_from_head, fetch_excludes, pushes_plus}
-use Rattle.gix_refspec_text.proofs.Common.{pushes_colon, pushes, deletes, pushes_pattern, pushes_to, push_excludes, IsOneStarred, Push, Fetch}
+use Rattle.gix_refspec_text.proofs.Common.{◌≡◌, ◌⊎◌, inl, inr, ℕ, List, [], Option, None, Some, sym, subst, ∥∥₁_elim, Operation, Lacks, IsName, IsPattern, HasStar, HasSeveralStars, star, head}
+use Rattle.gix_refspec_text.proofs.Common.{Reading, side_on_remote, remote_of, named_by, IsNameOrPattern, AreAlike, Reads, IsAccepted, fetches_nothing_named, fetches_colon, fetches, updates}
+use Rattle.gix_refspec_text.proofs.Common.{updates_from_head, fetch_excludes, pushes_plus, pushes_colon, pushes, deletes, pushes_pattern, pushes_to, push_excludes, IsOneStarred, Push, Fetch}
 use Rattle.gix_refspec_text.proofs.lemmas.texts.TextLemmas.{Lacks-ContainsText}
 use Rattle.gix_refspec_text.proofs.lemmas.parsing.SideLemmas.{Lacks-name, HasStar-pattern, HasStar-stars, HasSeveralStars-replaced}
 use Rattle.gix_refspec_text.proofs.lemmas.texts.HeadLemmas.{IsName-head}
-use Rattle.gix_refspec_text.proofs.lemmas.specs.ReadBackLemmas.{named_so, named_name, named_pattern}
+use Rattle.gix_refspec_text.proofs.lemmas.specs.FormsBackLemmas.{named_so, named_name, named_pattern}
 
 -- a present side has at most one star
 abbrev pub HasFew : Option (List ℕ) → Type 0

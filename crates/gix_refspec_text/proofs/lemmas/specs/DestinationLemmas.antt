@@ -1,12 +1,13 @@
 -- A reading with another destination.
-use Rattle.gix_refspec_text.proofs.Common.{inl, inr, ℕ, List, [], ◌∷◌, Some, IfSome, IsSome, refl, sym, ap, subst, ∥∥₁_map, Operation, Lacks, IsName, Empty, star, head, colon, plus, Mode, Normal, Forced, Negative}
-use Rattle.gix_refspec_text.proofs.Common.{Reading, with_destination, named_by, AreParts, IsAccepted, IsPositive, Reads, fetched, pushed, fetches_nothing_named, fetches_colon, fetches, updates, updates_from_head}
-use Rattle.gix_refspec_text.proofs.Common.{fetch_excludes, pushes_plus, pushes_colon, pushes, deletes, pushes_pattern, pushes_to, push_excludes}
+use Rattle.gix_refspec_text.proofs.Common.{inl, inr, ℕ, List, [], ◌∷◌, Some, IfSome, IsSome, refl, sym, ap, subst, ∥∥₁_map, Operation, Lacks, IsName, Empty, star, head, colon, plus, Mode, Normal}
+use Rattle.gix_refspec_text.proofs.Common.{Forced, Negative, Reading, with_destination, named_by, AreParts, IsAccepted, IsPositive, Reads, fetched, pushed, fetches_nothing_named, fetches_colon}
+use Rattle.gix_refspec_text.proofs.Common.{fetches, updates, updates_from_head, fetch_excludes, pushes_plus, pushes_colon, pushes, deletes, pushes_pattern, pushes_to, push_excludes, ◌≡◌, ◌⊎◌, codes}
+use Rattle.gix_refspec_text.proofs.Common.{arith, BeginsWith, fetched_alone, all_tags, IsUnsigned}
 use Rattle.gix_refspec_text.proofs.lemmas.texts.TextLemmas.{Lacks-ContainsText}
 use Rattle.gix_refspec_text.proofs.lemmas.texts.HeadLemmas.{IsName-head, Lacks-colon_name}
 use Rattle.gix_refspec_text.proofs.lemmas.parsing.SideLemmas.{HasStar-pattern, Lacks-name}
-use Rattle.gix_refspec_text.proofs.lemmas.specs.ReadBackLemmas.{colon_unsigned, named_full, named_name, named_once, named_parts, named_so}
-use Rattle.gix_refspec_text.proofs.lemmas.specs.FormsBackLemmas.{head_parts}
+use Rattle.gix_refspec_text.proofs.lemmas.specs.FormsBackLemmas.{colon_unsigned, named_full, named_name, named_once, named_parts, named_so, head_parts}
+use Rattle.gix_refspec_text.proofs.facts.ManualFacts.{parts, IsPattern-tested}
 
 -- a spec from a name to a name is accepted with another one
 from_name : (m : Mode) (s d new text : List ℕ) → IsPositive m → IsName s → AreParts m s (Some d) text → IsName new → IsAccepted (fetched m (named_by s) (Some new))
@@ -54,3 +55,29 @@ replaced_read op text r new some lacks name (push_excludes s _ _ _ _ is) = absur
 -- a reading whose destination has no star is accepted with another name as its destination
 pub replaced_accepted : (r : Reading) (new : List ℕ) → IsSome r.destination → IfSome r.destination (Lacks star) → IsName new → ∥ IsAccepted r ∥₁ → ∥ IsAccepted (with_destination r new) ∥₁
 replaced_accepted r new some lacks name accepted = ∥∥₁_map accepted (λ by. replaced_read r.operation by.0 r new some lacks name by.1)
+
+-- ---- fetches that no text was given for
+
+-- a name without a sign that isn't `@` is read as it is
+read_alone : (n : List ℕ) → IsName n → IsUnsigned n → named_by n ≡ n → IsAccepted (fetched_alone n)
+read_alone n name unsigned same = (
+  n,
+  fetches Normal n refl tt (inl (record { signed = (refl, unsigned); last = Lacks-colon_name n name })) name
+      (subst (λ (x : List ℕ). fetched_alone n ≡ fetched_alone x) (sym same) refl),
+)
+
+pub alone_accepted : (n : List ℕ) → IsName n → BeginsWith (codes "refs/") n ⊎ (n ≡ head) → IsAccepted (fetched_alone n)
+alone_accepted n name (inl below) = read_alone n name
+    (subst IsUnsigned (sym below.here) ((λ same. omega arith), (λ same. omega arith)))
+    (subst (λ (x : List ℕ). named_by x ≡ x) (sym below.here) refl)
+alone_accepted n name (inr is) = read_alone n name
+    (subst IsUnsigned (sym is) ((λ same. omega arith), (λ same. omega arith)))
+    (subst (λ (x : List ℕ). named_by x ≡ x) (sym is) refl)
+
+pub all_tags_accepted : IsAccepted all_tags
+all_tags_accepted = (
+  _,
+  updates Normal (codes "refs/tags/*") (codes "refs/tags/*") refl tt
+      (parts Normal (codes "refs/tags/*") (Some (codes "refs/tags/*")) refl refl)
+      (inr (IsPattern-tested (codes "refs/tags/") [] refl refl refl, IsPattern-tested (codes "refs/tags/") [] refl refl refl)) refl,
+)

@@ -1,7 +1,7 @@
 -- Facts on accepted readings, without a text that has the reading at hand.
-use Rattle.gix_refspec_text.proofs.Common.{◌≡◌, ℕ, Bool, true, false, List, Option, None, Some, option_map, refl, sym, ap, ◌∙◌, subst, inl, inr, nat_eq, ◌↔◌, pointwise, false≢true, not_there, Operation, Push, Fetch}
-use Rattle.gix_refspec_text.proofs.Common.{Mode, Normal, Forced, Negative, Reading, Reads, IsAccepted, Meaning, included, excluded, meaning, meaning_of, text_of, printed, keys, meant_for, IsPrintedBack, KeepsOperation}
-use Rattle.gix_refspec_text.proofs.Common.{SaysForOperation, EqualReadings, same_Some}
+use Rattle.gix_refspec_text.proofs.Common.{◌≡◌, ℕ, Bool, true, false, List, Option, None, Some, option_map, refl, sym, ap, ◌∙◌, subst, inl, inr, nat_eq, ◌↔◌, pointwise, false≢true, not_there}
+use Rattle.gix_refspec_text.proofs.Common.{Operation, Push, Fetch, Mode, Normal, Forced, Negative, Reading, Reads, IsAccepted, Meaning, included, excluded, meaning, meaning_of, text_of, printed, keys}
+use Rattle.gix_refspec_text.proofs.Common.{meant_for, IsPrintedBack, KeepsOperation, SaysForOperation, EqualReadings, same_Some}
 use Rattle.gix_refspec_text.specs.Laws.Order.{same_meaning, same_keys}
 use Rattle.gix_refspec_text.proofs.lemmas.specs.FormsBackLemmas.{read_back, once_or_refused, equal_texts}
 use Rattle.gix_refspec_text.proofs.lemmas.parsing.ReadOnceLemmas.{made, is_made}
@@ -58,15 +58,13 @@ meaning_shown : {P : Type 0} (m n : Option Meaning) → ∥ P ∥₁ → (P → 
 meaning_shown m n there shows =
     same_meaning m n (test_shown (pointwise (pointwise nat_eq) (keys m) (keys n)) there (λ fact. same_keys m n (shows fact)))
 
-none_not_some : (text : List ℕ) → None ≡ Some text → ⊥
-none_not_some text same = cc
-
 -- ---- accepted readings
 
 says_by : (r : Reading) (m : Option Meaning) → meaning_of r ≡ m → ∥ IsAccepted r ∥₁ → (n : Meaning) × (meaning_of r ≡ Some n)
 says_by r None is accepted = absurd (not_there accepted (λ a.
     let back = read_back r.operation a.0 r a.1 in
-    none_not_some back.text (sym (ap (option_map text_of) is) ∙ back.is)))
+    let none = sym (ap (option_map text_of) is) ∙ back.is in
+    cc))
 says_by r (Some m) is accepted = (m, is)
 
 -- an accepted reading has a meaning

@@ -1,11 +1,11 @@
 -- Which bytes are calm, by the mask of two loads: of the bytes, and of the bytes before them.
-use Rattle.gix_refspec_text.proofs.Common.{◌≡◌, ◌≢◌, ℕ, ◌+◌, ◌-◌, ◌%◌, ◌^◌, ◌<◌, ◌≤◌, ◌||◌, eqb, ltb, cond, Bool, true, false, not, List, [], ◌∷◌, map, length, get_or, replicate, bit_and, bit_or, w8, refl, sym, ap, ap₂}
-use Rattle.gix_refspec_text.proofs.Common.{◌∙◌, subst, inl, inr, arith, agree_below_at, not-true, cond-true, cond-false, eq-eqb, ne_eqb, cases_eq, mask_l-mod, length-zip2, get_or-zip2, length-chunk, get_or-chunk}
-use Rattle.gix_refspec_text.proofs.Common.{leading_from_mask_l, trailing_mask_l, length-map, get_or-map, prefix_len, prefix_len-le-length, prefix_len_passes, chunk, zip2, mask_l, top, slash, class_at, IsCalm, AreCalm}
-use Rattle.gix_refspec_text.proofs.Common.{lowest_of}
+use Rattle.gix_refspec_text.proofs.Common.{◌≡◌, ◌≢◌, ℕ, ◌+◌, ◌-◌, ◌%◌, ◌^◌, ◌<◌, ◌≤◌, ◌||◌, eqb, ltb, cond, Bool, true, false, not, List, [], ◌∷◌, map, length, get_or, replicate, bit_and, bit_or, w8}
+use Rattle.gix_refspec_text.proofs.Common.{refl, sym, ap, ap₂, ◌∙◌, subst, inl, inr, arith, agree_below_at, not-true, cond-true, cond-false, eq-eqb, ne_eqb, cases_eq, mask_l-mod, length-zip2}
+use Rattle.gix_refspec_text.proofs.Common.{get_or-zip2, length-chunk, get_or-chunk, leading_from_mask_l, trailing_mask_l, length-map, get_or-map, prefix_len, prefix_len-le-length, prefix_len_passes}
+use Rattle.gix_refspec_text.proofs.Common.{chunk, zip2, mask_l, top, slash, class_at, IsCalm, AreCalm, lowest_of, or_cases, eqb-true}
 use Rattle.std.proofs.Common.{Fits}
 use Rattle.gix_refspec_text.specs.declared.name.class.Class.{Class}
-use Rattle.gix_refspec_text.specs.declared.name.class.Class.TheVariants.{Plain, Slash, Dot, Brace, Star, Refused}
+use Rattle.gix_refspec_text.specs.declared.name.class.Class.TheVariants.{Plain}
 
 zip2-map : (h : ℕ → ℕ → ℕ) (f g : ℕ → ℕ) (xs : List ℕ) → zip2 h (map f xs) (map g xs) ≡ map (λ x. h (f x) (g x)) xs
 zip2-map h f g [] = refl
@@ -25,19 +25,11 @@ from_splat h v n y long = ap (λ k. zip2 h (replicate k y) v) (sym long) ∙ spl
 
 abbrev is_plain_class : Class → Bool
 is_plain_class Plain = true
-is_plain_class Slash = false
-is_plain_class Dot = false
-is_plain_class Brace = false
-is_plain_class Star = false
-is_plain_class Refused = false
+is_plain_class _ = false
 
 plain_class : (c : Class) → is_plain_class c ≡ true → c ≡ Plain
 plain_class Plain same = refl
-plain_class Slash same = cc
-plain_class Dot same = cc
-plain_class Brace same = cc
-plain_class Star same = cc
-plain_class Refused same = cc
+plain_class _ same = cc
 
 -- the lowest set bit of a mask is at the first lane that passes p
 run_is : (p : ℕ → Bool) (z : List ℕ) (n : ℕ) → length z ≡ n → n ≤ 64 → lowest_of n (mask_l (map p z)) ≡ prefix_len (λ x. not (p x)) z
@@ -113,14 +105,7 @@ ending-other y not_slash not_k = ap₂ (λ s t. bit_or (cond s 255 0) (cond t 25
 
 calm_after_other : (x y : ℕ) → y ≢ 47 → y ≢ 107 → (is_plain_class (class_at x) || eqb x slash) ≡ true → IsCalm y x
 calm_after_other x y not_slash not_k even =
-    elim (cases_eq x slash) [
-      | inl same ↦ inr (same, not_slash, not_k)
-      | inr other ↦ inl (plain_class (class_at x) (or_false (is_plain_class (class_at x)) (sym (ap (λ t. is_plain_class (class_at x) || t) (ne_eqb x slash other)) ∙ even)))
-    ]
-  where
-    or_false : (t : Bool) → (t || false) ≡ true → t ≡ true
-    or_false true same = refl
-    or_false false same = cc
+    elim (or_cases (is_plain_class (class_at x)) (eqb x slash) even) [ inl plain ↦ inl (plain_class (class_at x) plain) | inr same ↦ inr (eqb-true x slash same, not_slash, not_k) ]
 
 calm_from_clear : (x y : ℕ) → x < 256 → top 7 (bit_or (stop x) (bit_and (slashed x) (ending y))) ≡ false → IsCalm y x
 calm_from_clear x y below clear =

@@ -1,6 +1,7 @@
 -- The components of a text, found by the slashes around them. A slash is written before the text, so that
 -- each component follows one.
-use Rattle.gix_refspec_text.proofs.Common.{◌≡◌, ℕ, List, [], ◌∷◌, ◌++◌, refl, sym, ap, ◌∙◌, inl, inr, append_assoc, ◌⊎◌, AllByRecursion, join_with_byte, cases_eq, append-nil, Lacks, slash, SomeComponent}
+use Rattle.gix_refspec_text.proofs.Common.{◌≡◌, ℕ, List, [], ◌∷◌, ◌++◌, refl, sym, ap, ◌∙◌, inl, inr, append_assoc, ◌⊎◌, AllByRecursion, join_with_byte, cases_eq, append-nil, Lacks, slash}
+use Rattle.gix_refspec_text.proofs.Common.{SomeComponent}
 use Rattle.gix_refspec_text.proofs.lemmas.lists.AllLemmas.{all_join}
 
 -- what may follow a component: nothing, or a text that begins with a slash

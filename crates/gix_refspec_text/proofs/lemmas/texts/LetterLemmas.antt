@@ -1,11 +1,12 @@
 -- A text with letters in place of its stars has the faults that one pass over the text finds.
-use Rattle.gix_refspec_text.proofs.Common.{◌≡◌, ◌≢◌, ℕ, List, [], ◌∷◌, ◌++◌, codes, length, take, drop, get_or, suc, ◌<◌, Option, Some, None, MatchOption, true, refl, sym, ap, ◌∙◌, subst, inl, inr, if◌then◌else◌, arith}
-use Rattle.gix_refspec_text.proofs.Common.{append_assoc, Bool, zero, ◌-◌, ◌≤◌, false, ◌==◌, ◌+◌, false≢true, cases_eq, eq-eqb, ne_eqb, map-append, take_more, count_by_more_no, Error, Empty, EmptyComponent, StartsWithDot}
-use Rattle.gix_refspec_text.proofs.Common.{LockSuffix, EndsWithDot, RepeatedDot, ReflogPortion, Asterisk, InvalidByte, Lacks, EndsWith, slash, star, letter, dot, brace, is_refused_byte, HasFault, IsName, IsSplit}
-use Rattle.gix_refspec_text.proofs.Common.{IsPattern, HasOneStar, ReplacesStar, class_at, AddsFault, IsClean, LeavesFault, Finds, letter_for, with_letters, IsScanned, IsCalm, AreCalm}
+use Rattle.gix_refspec_text.proofs.Common.{◌≡◌, ◌≢◌, ℕ, List, [], ◌∷◌, ◌++◌, codes, length, take, drop, get_or, suc, ◌<◌, Option, Some, None, MatchOption, true, refl, sym, ap, ◌∙◌, subst, inl, inr}
+use Rattle.gix_refspec_text.proofs.Common.{if◌then◌else◌, arith, append_assoc, Bool, zero, ◌-◌, ◌≤◌, false, ◌==◌, ◌+◌, false≢true, cases_eq, eq-eqb, ne_eqb, map-append, count_by_more_no, Error}
+use Rattle.gix_refspec_text.proofs.Common.{EmptyComponent, StartsWithDot, LockSuffix, EndsWithDot, RepeatedDot, ReflogPortion, Asterisk, InvalidByte, Lacks, EndsWith, slash, star, letter, dot, brace}
+use Rattle.gix_refspec_text.proofs.Common.{is_refused_byte, HasFault, IsName, IsSplit, IsPattern, HasOneStar, ReplacesStar, class_at, AddsFault, IsClean, LeavesFault, Finds, letter_for, with_letters}
+use Rattle.gix_refspec_text.proofs.Common.{IsScanned, IsCalm, AreCalm, count_by_more_yes}
 use Rattle.gix_refspec_text.specs.declared.name.class.Class.TheVariants.{Plain, Slash, Dot, Brace, Star, Refused}
 use Rattle.gix_refspec_text.proofs.lemmas.texts.TextLemmas.{split_at}
-use Rattle.gix_refspec_text.proofs.lemmas.texts.NameLemmas.{IsClean-more, HasFault-added, answer_at_end, slash_adds, last_byte}
+use Rattle.gix_refspec_text.proofs.lemmas.texts.NameLemmas.{one_more, IsClean-more, HasFault-added, answer_at_end, slash_adds, last_byte}
 
 letter_for-star : (b : ℕ) → b ≡ star → letter_for b ≡ letter
 letter_for-star b same = ap (λ t. if t then letter else b) (eq-eqb b star same)
@@ -86,15 +87,28 @@ letter_adds_nothing y (InvalidByte c) fault = false≢true (subst (λ b. is_refu
 letter_adds_nothing y _ fault = search arith
 
 -- one more byte adds none: a star, or another one that adds none to the text
-pub clean_after_star : (y : List ℕ) (b : ℕ) → b ≡ star → IsClean (with_letters y) → IsClean (with_letters (y ++ (b ∷ [])))
+clean_after_star : (y : List ℕ) (b : ℕ) → b ≡ star → IsClean (with_letters y) → IsClean (with_letters (y ++ (b ∷ [])))
 clean_after_star y b same clean =
     subst IsClean (sym (letters-append y (b ∷ []))) (IsClean-more (with_letters y) (letter_for b) clean
     (λ e fault. letter_adds_nothing (with_letters y) e (subst (λ c. AddsFault (with_letters y) c e) (letter_for-star b same) fault)))
 
-pub clean_after_other : (y : List ℕ) (b : ℕ) → ((e : Error) → ¬ (AddsFault y b e)) → IsClean (with_letters y) → IsClean (with_letters (y ++ (b ∷ [])))
+clean_after_other : (y : List ℕ) (b : ℕ) → ((e : Error) → ¬ (AddsFault y b e)) → IsClean (with_letters y) → IsClean (with_letters (y ++ (b ∷ [])))
 clean_after_other y b none clean =
     subst IsClean (sym (letters-append y (b ∷ []))) (IsClean-more (with_letters y) (letter_for b) clean
     (λ e fault. none e (AddsFault-as (with_letters y) y b (ends_before y) e (subst (λ c. AddsFault (with_letters y) c e) (letter_for-other b (none Asterisk)) fault))))
+
+-- so the bytes up to an index stay scanned with one that adds no fault, which isn't a star, or with the first star
+pub scanned_other : (x : List ℕ) (i : ℕ) (s : Bool) → i < length x → ((e : Error) → ¬ (AddsFault (slash ∷ take i x) (get_or x i 0) e)) → IsScanned x i s → IsScanned x (i + 1) s
+scanned_other x i s below none scanned = (
+  subst (λ z. IsClean (with_letters z)) (sym (one_more x i below)) (clean_after_other (slash ∷ take i x) (get_or x i 0) none scanned.0),
+  count_by_more_no (λ d. d == star) x i 0 below (ne_eqb (get_or x i 0) star (none Asterisk)) ∙ scanned.1,
+)
+
+pub scanned_star : (x : List ℕ) (i : ℕ) → i < length x → get_or x i 0 ≡ star → IsScanned x i false → IsScanned x (i + 1) true
+scanned_star x i below same scanned = (
+  subst (λ z. IsClean (with_letters z)) (sym (one_more x i below)) (clean_after_star (slash ∷ take i x) (get_or x i 0) same scanned.0),
+  count_by_more_yes (λ d. d == star) x i 0 below (eq-eqb (get_or x i 0) star same) ∙ ap (λ n. n + 1) scanned.1,
+)
 
 some_letters : (x : List ℕ) → x ≢ [] → with_letters x ≢ []
 some_letters [] some same = some refl
@@ -166,15 +180,14 @@ plain_not_refused b plain refused =
     (sym (ap (λ v. if b == slash then Slash else if b == dot then Dot else if b == brace then Brace else if b == star then Star else if v then Refused else Plain) refused) ∙ plain)
 
 plain_adds_nothing : (y : List ℕ) (b : ℕ) → class_at b ≡ Plain → (e : Error) → ¬ (AddsFault y b e)
-plain_adds_nothing y b plain Empty fault = fault
 plain_adds_nothing y b plain EmptyComponent fault = let no = plain_as b slash plain fault.0 in absurd (cc)
 plain_adds_nothing y b plain StartsWithDot fault = let no = plain_as b dot plain fault.0 in absurd (cc)
 plain_adds_nothing y b plain LockSuffix fault = let no = plain_as b slash plain fault.0 in absurd (cc)
-plain_adds_nothing y b plain EndsWithDot fault = fault
 plain_adds_nothing y b plain RepeatedDot fault = let no = plain_as b dot plain fault.0 in absurd (cc)
 plain_adds_nothing y b plain ReflogPortion fault = let no = plain_as b brace plain fault.0 in absurd (cc)
 plain_adds_nothing y b plain Asterisk fault = let no = plain_as b star plain fault in absurd (cc)
 plain_adds_nothing y b plain (InvalidByte c) fault = plain_not_refused b plain (subst (λ d. is_refused_byte d ≡ true) (sym fault.0) fault.1)
+plain_adds_nothing y b plain _ fault = fault
 
 locked_ends : (y : List ℕ) → EndsWith (codes ".lock") y → EndsWith (107 ∷ []) y
 locked_ends y ends = record { before = ends.before ++ codes ".loc"; here = ends.here ∙ sym (append_assoc ends.before (codes ".loc") (107 ∷ [])) }
@@ -188,19 +201,13 @@ calm_adds_nothing y p b last (inr quiet) = λ e fault.
 
 -- the last byte before an index
 last_before : (x : List ℕ) (i : ℕ) → i < length x → EndsWith (get_or x i 0 ∷ []) (slash ∷ take (i + 1) x)
-last_before x i below = record { before = slash ∷ take i x; here = ap (λ z. slash ∷ z) (take_more x i 0 below) }
+last_before x i below = record { before = slash ∷ take i x; here = one_more x i below }
 
 calm_more : (x : List ℕ) (i : ℕ) (s : Bool) → 0 < i → i < length x → IsCalm (get_or x (i - 1) 0) (get_or x i 0) → IsScanned x i s → IsScanned x (i + 1) s
 calm_more x i s some below calm scanned =
-    let b = get_or x i 0 in
-    let y = slash ∷ take i x in
     let back : i - 1 + 1 ≡ i = omega (arith, some) in
-    let last : EndsWith (get_or x (i - 1) 0 ∷ []) y = subst (λ j. EndsWith (get_or x (i - 1) 0 ∷ []) (slash ∷ take j x)) back (last_before x (i - 1) (omega (arith, some, below))) in
-    let none = calm_adds_nothing y (get_or x (i - 1) 0) b last calm in
-    let one_more : slash ∷ take (i + 1) x ≡ y ++ (b ∷ []) = ap (λ z. slash ∷ z) (take_more x i 0 below) in (
-      subst (λ z. IsClean (with_letters z)) (sym one_more) (clean_after_other y b none scanned.0),
-      count_by_more_no (λ d. d == star) x i 0 below (ne_eqb b star (none Asterisk)) ∙ scanned.1,
-    )
+    let last : EndsWith (get_or x (i - 1) 0 ∷ []) (slash ∷ take i x) = subst (λ j. EndsWith (get_or x (i - 1) 0 ∷ []) (slash ∷ take j x)) back (last_before x (i - 1) (omega (arith, some, below))) in
+    scanned_other x i s below (calm_adds_nothing (slash ∷ take i x) (get_or x (i - 1) 0) (get_or x i 0) last calm) scanned
 
 -- calm bytes add no fault and aren't stars
 pub calm_scanned : (m : ℕ) (x : List ℕ) (i : ℕ) (s : Bool) → 0 < i → i + m ≤ length x → AreCalm x i (i + m) → IsScanned x i s → IsScanned x (i + m) s

@@ -1,15 +1,12 @@
 -- The faults that one pass over the bytes finds are the faults of a name.
-use Rattle.gix_refspec_text.proofs.Common.{◌≡◌, ◌≢◌, ℕ, List, [], ◌∷◌, ◌++◌, codes, length, take, drop, get_or, ◌+◌, ◌<◌, ◌≤◌, suc, Option, Some, None, MatchOption, true, IsTrue, refl, sym, ap, ◌∙◌, subst, inl, inr}
-use Rattle.gix_refspec_text.proofs.Common.{append_assoc, arith, add-one, drop-cons, take-append-drop, Bool, ◌-◌, nat_eq, Decides, ends_with, ends_is, Decides-eqb, append-nil, ◌⊎◌, false≢true, Error, Empty}
-use Rattle.gix_refspec_text.proofs.Common.{EmptyComponent, StartsWithDot, LockSuffix, EndsWithDot, RepeatedDot, ReflogPortion, Asterisk, InvalidByte, Lacks, ContainsText, BeginsWith, EndsWith, slash, star, dot, brace}
-use Rattle.gix_refspec_text.proofs.Common.{is_refused_byte, SomeComponent, HasFault, IsName, AddsFault, Added, IsClean, LeavesFault, Finds, drop_of_length-le, length-append}
+use Rattle.gix_refspec_text.proofs.Common.{◌≡◌, ◌≢◌, ℕ, List, [], ◌∷◌, ◌++◌, codes, length, take, drop, get_or, ◌+◌, ◌<◌, ◌≤◌, suc, Option, Some, None, MatchOption, true, IsTrue, refl, sym, ap, ◌∙◌}
+use Rattle.gix_refspec_text.proofs.Common.{subst, inl, inr, append_assoc, arith, Bool, ◌-◌, nat_eq, Decides, ends_with, ends_is, Decides-eqb, append-nil, ◌⊎◌, false≢true, Error, Empty, EmptyComponent}
+use Rattle.gix_refspec_text.proofs.Common.{StartsWithDot, LockSuffix, EndsWithDot, RepeatedDot, ReflogPortion, Asterisk, InvalidByte, Lacks, ContainsText, BeginsWith, EndsWith, slash, star, dot}
+use Rattle.gix_refspec_text.proofs.Common.{brace, is_refused_byte, SomeComponent, HasFault, IsName, AddsFault, Added, IsClean, LeavesFault, Finds, drop_of_length-le, length-append, take_more}
 use Rattle.gix_refspec_text.proofs.lemmas.texts.TextLemmas.{split_at}
 use Rattle.gix_refspec_text.proofs.lemmas.texts.ComponentLemmas.{IsEnd, IsComponent, Pieces, pieces_of, fenced, fenced-IsEnd, LastSlash, last_slash_after_one, SomeComponent-from, SomeComponent-index}
 use Rattle.gix_refspec_text.proofs.lemmas.lists.AllLemmas.{all_join}
 use Rattle.std.proofs.Math.Seq.{get_or-append_seam}
-
-drop_at : (x : List ℕ) (i : ℕ) → i < length x → drop i x ≡ get_or x i 0 ∷ drop (i + 1) x
-drop_at x i below = rw (add-one, drop-cons x i 0)
 
 no_middle : (p r : List ℕ) (b : ℕ) → [] ≡ p ++ (b ∷ r) → ⊥
 no_middle [] r b same = cc
@@ -62,12 +59,8 @@ pub IsClean-start : IsClean (slash ∷ [])
 IsClean-start = IsClean-more [] slash (λ e added. no_middle added.before added.after added.byte added.here) (λ e.
     slash_adds [] e (λ ends. no_middle ends.before [] 47 ends.here) (λ ends. no_middle ends.before _ 46 ends.here))
 
--- x ends with w: this holds if a slash and x end with w, and w doesn't begin with a slash
-record InText (x w : List ℕ) : Type 0 where
-  before : List ℕ
-  here : x ≡ before ++ w
-
-after_slash : (x p w : List ℕ) (b : ℕ) → b ≢ slash → slash ∷ x ≡ p ++ (b ∷ w) → InText x (b ∷ w)
+-- x ends with w if a slash and x end with w, and w doesn't begin with a slash
+after_slash : (x p w : List ℕ) (b : ℕ) → b ≢ slash → slash ∷ x ≡ p ++ (b ∷ w) → EndsWith (b ∷ w) x
 after_slash x [] w b other here = absurd (other cc)
 after_slash x (c ∷ p) w b other here = record { before = p; here = cc }
 
@@ -94,8 +87,11 @@ dot_lock_whole = ((λ e. omega (arith, e)), ((λ e. omega (arith, e)), ((λ e. o
 regroup : (a b c d : List ℕ) → ((a ++ b) ++ c) ++ d ≡ a ++ ((b ++ c) ++ d)
 regroup a b c d = simp append_assoc
 
-locked_component_after : (x p after : List ℕ) → LastSlash p → slash ∷ x ≡ (p ++ codes ".lock") ++ after → IsEnd after → SomeComponent (EndsWith (codes ".lock")) x
-locked_component_after x p after split here ends =
+locked_component : (x p after : List ℕ) → slash ∷ x ≡ (p ++ codes ".lock") ++ after → IsEnd after → SomeComponent (EndsWith (codes ".lock")) x
+locked_component x [] after here ends = let first : slash ≡ dot = cc in absurd (dot_no_slash (sym first))
+locked_component x (c ∷ p) after here ends =
+    let first : slash ≡ c = cc in
+    let split : LastSlash (c ∷ p) = subst (λ b. LastSlash (b ∷ p)) first (last_slash_after_one p) in
     SomeComponent-from (EndsWith (codes ".lock")) (split.after ++ codes ".lock") x
     (record {
       before = split.before;
@@ -106,21 +102,15 @@ locked_component_after x p after split here ends =
     })
     (record { before = split.after; here = refl })
 
-locked_component : (x p after : List ℕ) → slash ∷ x ≡ (p ++ codes ".lock") ++ after → IsEnd after → SomeComponent (EndsWith (codes ".lock")) x
-locked_component x [] after here ends = let first : slash ≡ dot = cc in absurd (dot_no_slash (sym first))
-locked_component x (c ∷ p) after here ends =
-    let first : slash ≡ c = cc in
-    locked_component_after x (c ∷ p) after (subst (λ b. LastSlash (b ∷ p)) first (last_slash_after_one p)) here ends
-
 byte_in_text : (x p after : List ℕ) (b c : ℕ) → c ≢ slash → slash ∷ x ≡ p ++ (b ∷ after) → b ≡ c → ContainsText (c ∷ []) x
 byte_in_text x p after b c other here same =
-    let found : InText x (c ∷ after) = after_slash x p after c other (here ∙ ap (λ d. p ++ (d ∷ after)) same) in
+    let found : EndsWith (c ∷ after) x = after_slash x p after c other (here ∙ ap (λ d. p ++ (d ∷ after)) same) in
     record { before = found.before; after = after; here = found.here }
 
 pair_in_text : (x p after : List ℕ) (a b c : ℕ) → a ≢ slash → slash ∷ x ≡ p ++ (b ∷ after) → EndsWith (a ∷ []) p → b ≡ c → ContainsText (a ∷ c ∷ []) x
 pair_in_text x p after a b c other here ends same =
     let whole : slash ∷ x ≡ ends.before ++ (a ∷ (c ∷ after)) = here ∙ ap (λ d. p ++ (d ∷ after)) same ∙ ap (λ z. z ++ (c ∷ after)) ends.here ∙ append_assoc ends.before (a ∷ []) (c ∷ after) in
-    let found : InText x (a ∷ c ∷ after) = after_slash x ends.before (c ∷ after) a other whole in
+    let found : EndsWith (a ∷ c ∷ after) x = after_slash x ends.before (c ∷ after) a other whole in
     record { before = found.before; after = after; here = found.here }
 
 -- a fault that a byte adds is a fault of the text
@@ -138,9 +128,7 @@ HasFault-added x _ some added = absurd added.fault
 pub HasFault-left : (x : List ℕ) (e : Error) → x ≢ [] → LeavesFault (slash ∷ x) e → HasFault x e
 HasFault-left x EmptyComponent some left = (some, empty_component x left.before [] (left.here ∙ sym (append-nil _)) tt)
 HasFault-left x LockSuffix some left = locked_component x left.before [] (left.here ∙ sym (append-nil _)) tt
-HasFault-left x EndsWithDot some left =
-    let found : InText x (codes ".") = after_slash x left.before [] dot dot_no_slash left.here in
-    record { before = found.before; here = found.here }
+HasFault-left x EndsWithDot some left = after_slash x left.before [] dot dot_no_slash left.here
 HasFault-left x _ some left = absurd left
 
 -- a fault that is found at a slash or at the end
@@ -199,13 +187,17 @@ pub answer_at_end : (x : List ℕ) (fault : Option Error) → x ≢ [] → IsCle
 answer_at_end x None some clean none = IsName-from_clean x some clean none
 answer_at_end x (Some e) some clean left = HasFault-left x e some left
 
+-- a text up to an index, and the byte there
+pub one_more : (x : List ℕ) (i : ℕ) → i < length x → slash ∷ take (i + 1) x ≡ (slash ∷ take i x) ++ (get_or x i 0 ∷ [])
+one_more x i below = ap (λ z. slash ∷ z) (take_more x i 0 below)
+
 -- the fault that the byte at an index adds
 pub added_at : (x : List ℕ) (i : ℕ) (e : Error) → i < length x → AddsFault (slash ∷ take i x) (get_or x i 0) e → Added (slash ∷ x) e
 added_at x i e below fault = record {
   before = slash ∷ take i x;
   byte = get_or x i 0;
-  after = drop (i + 1) x;
-  here = ap (λ z. slash ∷ z) (sym (take-append-drop i x) ∙ ap (λ z. take i x ++ z) (drop_at x i below));
+  after = drop (suc i) x;
+  here = ap (λ z. slash ∷ z) (split_at x i (get_or x i 0) below refl);
   fault = fault;
 }
 
@@ -221,7 +213,7 @@ pub locked_after_slash : (x : List ℕ) (tested : Bool) → tested ≡ ends_with
 locked_after_slash x tested by_test =
     let ends = ends_is Decides-eqb x (codes ".lock") tested by_test in (
       (λ yes. record { before = slash ∷ take (length x - 5) x; here = ap (λ z. slash ∷ z) (ends.0 yes) }),
-      (λ locked. let found : InText x (codes ".lock") = after_slash x locked.before (codes "lock") dot dot_no_slash locked.here in ends.1 found.before found.here),
+      (λ locked. let found : EndsWith (codes ".lock") x = after_slash x locked.before (codes "lock") dot dot_no_slash locked.here in ends.1 found.before found.here),
     )
 
 -- a text that isn't empty ends with its last byte

@@ -1,8 +1,9 @@
 -- The texts of ids: which texts they are, that each is the text of only one id, and that decoding finds it.
-use Rattle.gix_refspec_text.proofs.Common.{◌≡◌, ℕ, zero, suc, ◌+◌, ◌-◌, ◌*◌, ◌/◌, ◌%◌, ◌<◌, ◌≤◌, Bool, List, [], ◌∷◌, length, slice_index, take, nat_lt, ◌⊎◌, inl, inr, Option, Some, None, is_some, true, false, Result}
-use Rattle.gix_refspec_text.proofs.Common.{Ok, Err, refl, sym, ap, ◌∙◌, subst, arith, ◌++◌, drop, IsOk, MatchBool, MatchResult, AllPass, SomeIndex, list_all, IsAscii, IsUtf8, false≢true, cases_Bool, cases_eq, ltb-true}
-use Rattle.gix_refspec_text.proofs.Common.{length-take-le, take-append-le, take_all, All-cons, All-head, All-nil, All-tail, All-weaker, AllPass-from_list_all, Digit, Length, Kind, Sha1, Sha256, HasIdFault, IsIdLength}
-use Rattle.gix_refspec_text.proofs.Common.{IsIdText, IsLowerText, IsSpelledBy, Spells, bytes_of, digits_of, is_lower_digit, lower_of, IsId, HasOneId, HasOneFault, IdOrFault, OneLowerText, list_all-from_AllPass}
+use Rattle.gix_refspec_text.proofs.Common.{◌≡◌, ℕ, zero, suc, ◌+◌, ◌-◌, ◌*◌, ◌/◌, ◌%◌, ◌<◌, ◌≤◌, Bool, List, [], ◌∷◌, length, slice_index, take, nat_lt, ◌⊎◌, inl, inr, Option, Some, None, is_some}
+use Rattle.gix_refspec_text.proofs.Common.{true, false, Result, Ok, Err, refl, sym, ap, ◌∙◌, subst, arith, ◌++◌, drop, IsOk, MatchBool, MatchResult, AllPass, SomeIndex, list_all, IsAscii, IsUtf8}
+use Rattle.gix_refspec_text.proofs.Common.{false≢true, cases_Bool, cases_eq, ltb-true, length-take-le, take-append-le, take_all, All-cons, All-head, All-nil, All-tail, All-weaker}
+use Rattle.gix_refspec_text.proofs.Common.{AllPass-from_list_all, Digit, Length, Kind, Sha1, Sha256, HasIdFault, IsIdLength, IsIdText, IsLowerText, IsSpelledBy, Spells, bytes_of, digits_of}
+use Rattle.gix_refspec_text.proofs.Common.{is_lower_digit, lower_of, IsId, HasOneFault, IdOrFault, OneLowerText, list_all-from_AllPass}
 use Rattle.std.specs.Result.{is_err, result_unwrap_or}
 use Rattle.std.proofs.lemmas.Str.{IsUtf8-from_ascii}
 use Rattle.std.proofs.lemmas.Str.Ascii.{IsAscii-from_all}
@@ -139,9 +140,6 @@ one_fault t (Length n) Digit a b = absurd (a.1 b.0)
 one_fault t Digit (Length m) a b = absurd (b.1 a.0)
 one_fault t Digit Digit a b = refl
 
-has_one_id : (t i : List ℕ) → IsIdText t i → HasOneId t
-has_one_id t i text = record { id = i; text = text; only = λ j other. IsIdText-unique t j i other text; sound = λ e. IsIdText-sound t i e text }
-
 has_one_fault : (t : List ℕ) (e : Error) → HasIdFault t e → HasOneFault t
 has_one_fault t e fault = record { fault = e; has = fault; only = λ f other. one_fault t f e other fault; unread = λ i text. IsIdText-sound t i e text fault }
 
@@ -156,26 +154,23 @@ digits_or_not (c ∷ t) = elim (cases_Bool (is_hex_digit c)) [
   ]
 ]
 
-no_kind : (n : ℕ) → (n ≡ 40 → ⊥) → (n ≡ 64 → ⊥) → ¬ (IsIdLength n)
+-- no other length is that of an id
+pub no_kind : (n : ℕ) → (n ≡ 40 → ⊥) → (n ≡ 64 → ⊥) → ¬ (IsIdLength n)
 no_kind n other another (Sha1, same) = other same
 no_kind n other another (Sha256, same) = another same
 
 -- a length is that of an id, or not
 length_or_not : (n : ℕ) → IsIdLength n ⊎ ¬ (IsIdLength n)
-length_or_not n = elim (cases_eq n 40) [
-  | inl same ↦ inl (Sha1, same)
-  | inr other ↦ elim (cases_eq n 64) [
-    | inl same ↦ inl (Sha256, same)
-    | inr another ↦ inr (no_kind n other another)
-  ]
-]
+length_or_not n = elim (cases_eq n 40) [ inl same ↦ inl (Sha1, same) | inr other ↦ elim (cases_eq n 64) [ inl same ↦ inl (Sha256, same) | inr another ↦ inr (no_kind n other another) ] ]
 
 -- a text spells exactly one id, or it has exactly one fault
 pub id_or_fault : (t : List ℕ) → IdOrFault t
 id_or_fault t = elim (length_or_not (length t)) [
   | inr other ↦ inr (has_one_fault t (Length (length t)) (refl, other))
   | inl len ↦ elim (digits_or_not t) [
-    | inl digits ↦ let id = IsIdText-digits t len digits in inl (has_one_id t id.0 id.1)
+    | inl digits ↦
+        let id = IsIdText-digits t len digits in
+        inl (record { id = id.0; text = id.1; only = λ j other. IsIdText-unique t j id.0 other id.1; sound = λ e. IsIdText-sound t id.0 e id.1 })
     | inr index ↦ inr (has_one_fault t Digit (len, index))
   ]
 ]
@@ -247,16 +242,12 @@ AllPass-encode_with p digits (b ∷ i) each fits =
     let low = All-cons (λ c. p c ≡ true) (slice_index digits (b % 16)) (encode_with digits i) (each (b % 16) (omega arith)) rest in
     All-cons (λ c. p c ≡ true) (slice_index digits (b / 16)) (slice_index digits (b % 16) ∷ encode_with digits i) (each (b / 16) (omega arith)) low
 
--- the sixteen digits are in lower case
-lower_digits-lower : (d : ℕ) → d < 16 → is_lower_digit (slice_index lower_digits d) ≡ true
-lower_digits-lower d below = AllPass-from_list_all is_lower_digit lower_digits refl d 0 below
-
 -- the text that is computed is in lower case
 pub IsLowerText-lower_of : (kind : Kind) (i : List ℕ) → length i ≡ bytes_of kind → IsBytes i → IsLowerText (lower_of i) i
 IsLowerText-lower_of kind i size fits =
     let digits : length (lower_of i) ≡ digits_of kind = omega (arith, digits_of-twice kind, length-encode_with lower_digits i) in (
       IsIdText-decoded kind (lower_of i) i digits (decode_sized-encode_lower i (bytes_of kind) size fits),
-      AllPass-encode_with is_lower_digit lower_digits i lower_digits-lower fits,
+      AllPass-encode_with is_lower_digit lower_digits i (λ d below. AllPass-from_list_all is_lower_digit lower_digits refl d 0 below) fits,
     )
 
 -- a digit's value is below 16
@@ -274,9 +265,8 @@ lower_pair-unique : (x a b c d : ℕ) → is_lower_digit a ≡ true → is_lower
 lower_pair-unique x a b c d lower_a lower_b lower_c lower_d first second =
     let small_b = hex_digit_value-small b first.low_value first.low_read in
     let small_d = hex_digit_value-small d second.low_value second.low_read in
-    let byte : 16 * first.high_value + first.low_value ≡ 16 * second.high_value + second.low_value = sym first.value ∙ second.value in
-    let high : second.high_value ≡ first.high_value = omega arith in
-    let low : second.low_value ≡ first.low_value = omega arith in (
+    let high : second.high_value ≡ first.high_value = omega (arith, first.value, second.value) in
+    let low : second.low_value ≡ first.low_value = omega (arith, first.value, second.value) in (
       lower_digit-unique a c first.high_value lower_a lower_c first.high_read (second.high_read ∙ ap Some high),
       lower_digit-unique b d first.low_value lower_b lower_d first.low_read (second.low_read ∙ ap Some low),
     )
@@ -298,9 +288,7 @@ lower_texts-same t u i len_t len_u lower_t lower_u by_t by_u = absurd (omega ari
 
 -- the digits that an id is printed with are lower-case ones
 pub lower_of-digits : (t i : List ℕ) → IsIdText t i → AllPass is_lower_digit (lower_of i)
-lower_of-digits t i text =
-    let bytes = (decode_of-ok t i (decode_of-IsIdText t i text)).3 in
-    (IsLowerText-lower_of text.kind i text.bytes bytes).1
+lower_of-digits t i text = (IsLowerText-lower_of text.kind i text.bytes (decode_of-ok t i (decode_of-IsIdText t i text)).3).1
 
 -- an id has only one text in lower case
 pub IsLowerText-unique : (t u i : List ℕ) → IsLowerText t i → IsLowerText u i → t ≡ u

@@ -1,6 +1,6 @@
 -- How many stars a text has.
-use Rattle.gix_refspec_text.proofs.Common.{◌≡◌, ◌≢◌, ◌<◌, ℕ, suc, ◌+◌, ◌==◌, cond, List, [], ◌∷◌, ◌++◌, take, drop, get_or, length, append_assoc, refl, sym, ap, ◌∙◌, inl, inr, zero-add, arith, count_by, cases_eq, eq-eqb}
-use Rattle.gix_refspec_text.proofs.Common.{ne_eqb, sum_by-append, Lacks, star, HasOneStar, HasSeveralStars}
+use Rattle.gix_refspec_text.proofs.Common.{◌≡◌, ◌≢◌, ◌<◌, ℕ, suc, ◌+◌, ◌==◌, cond, List, [], ◌∷◌, ◌++◌, take, drop, get_or, length, append_assoc, refl, sym, ap, ◌∙◌, inl, inr, zero-add, arith}
+use Rattle.gix_refspec_text.proofs.Common.{count_by, cases_eq, eq-eqb, ne_eqb, sum_by-append, Lacks, star, HasOneStar, HasSeveralStars}
 use Rattle.gix_refspec_text.proofs.lemmas.texts.TextLemmas.{split_at}
 
 stars : List ℕ → ℕ
@@ -35,19 +35,15 @@ star_in_front b x same one =
 one_after : (b : ℕ) (x : List ℕ) → b ≢ star → HasOneStar x → HasOneStar (b ∷ x)
 one_after b x other one = (b ∷ one.0, one.1, record { starred = ap (λ y. b ∷ y) one.2.starred; first = (other, one.2.first); last = one.2.last })
 
-one_star : (x : List ℕ) → stars x ≡ 1 → HasOneStar x
-unfolding stars
-one_star [] one = absurd (omega (arith, one))
-one_star (b ∷ x) one =
-    elim (cases_eq b star) [
-      | inl same ↦ star_in_front b x same one
-      | inr other ↦ one_after b x other (one_star x (sym (stars-other b x other) ∙ one))
-    ]
-
 -- a text in which one star is counted has one
 pub HasOneStar-count_by : (x : List ℕ) → count_by (λ b. b == star) x ≡ 1 → HasOneStar x
 unfolding stars
-HasOneStar-count_by x one = one_star x one
+HasOneStar-count_by [] one = absurd (omega (arith, one))
+HasOneStar-count_by (b ∷ x) one =
+    elim (cases_eq b star) [
+      | inl same ↦ star_in_front b x same one
+      | inr other ↦ one_after b x other (HasOneStar-count_by x (sym (stars-other b x other) ∙ one))
+    ]
 
 stars-append : (x y : List ℕ) → stars (x ++ y) ≡ stars x + stars y
 unfolding stars

@@ -6,6 +6,4 @@ use Rattle.gix_refspec_text.proofs.name.fault_of.Goals as goal
 
 pub returns-in-Ok-false : goal.returns-in-Ok-false
 returns-in-Ok-false c =
-    let x = c.args.text.now in
-    let told = c.in-Ok-false.ensures in
-    name_without_stars x (Lacks-count_by x (told.0 ∙ ap one_if c.in-Ok-false.field-0-test)) told.1
+    name_without_stars c.args.text.now (Lacks-count_by c.args.text.now (c.in-Ok-false.ensures.0 ∙ ap one_if c.in-Ok-false.field-0-test)) c.in-Ok-false.ensures.1

@@ -1,5 +1,5 @@
-use Rattle.gix_refspec_text.proofs.Common.{◌≡◌, ◌+◌, [], ◌∷◌, ◌++◌, take, get_or, sym, ap, subst, arith, take_all, take_more, slash, IsClean}
-use Rattle.gix_refspec_text.proofs.lemmas.texts.NameLemmas.{IsClean-start, IsClean-more, HasFault-added, added_at, answer_at_end}
+use Rattle.gix_refspec_text.proofs.Common.{◌≡◌, ◌∷◌, take, get_or, sym, subst, arith, take_all, slash, IsClean}
+use Rattle.gix_refspec_text.proofs.lemmas.texts.NameLemmas.{one_more, IsClean-start, IsClean-more, HasFault-added, added_at, answer_at_end}
 use Rattle.gix_refspec_text.proofs.lemmas.lists.EmptyLemmas.{full_from_test}
 use Rattle.gix_refspec_text.proofs.name.found_fault.Goals as goal
 
@@ -17,8 +17,7 @@ pub loop-index-preserved : goal.loop-index-preserved
 loop-index-preserved c =
     let x = c.args.text.now in
     let i = c.loop-index.index in
-    let one_more : slash ∷ take (i + 1) x ≡ (slash ∷ take i x) ++ (get_or x i 0 ∷ []) = ap (λ z. slash ∷ z) (take_more x i 0 (omega arith)) in
-    subst IsClean (sym one_more) (IsClean-more (slash ∷ take i x) (get_or x i 0) c.loop-index.invariant c.in_default.ensures)
+    subst IsClean (sym (one_more x i (omega arith))) (IsClean-more (slash ∷ take i x) (get_or x i 0) c.loop-index.invariant c.in_default.ensures)
 
 -- no byte adds a fault, so the end decides
 pub returns : goal.returns

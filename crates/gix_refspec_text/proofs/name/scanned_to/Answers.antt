@@ -1,22 +1,14 @@
-use Rattle.gix_refspec_text.proofs.Common.{◌≡◌, ◌≢◌, ◌+◌, [], ◌∷◌, ◌++◌, ◌==◌, take, get_or, sym, ap, ◌∙◌, subst, arith, eq-eqb, ne_eqb, common_steps, take_more, count_by_more_no, count_by_more_yes, Asterisk, slash}
-use Rattle.gix_refspec_text.proofs.Common.{star, IsClean, IsScanned, one_if, with_letters}
+use Rattle.gix_refspec_text.proofs.Common.{◌≡◌, ◌≢◌, ◌+◌, ◌∷◌, take, get_or, sym, ap, ◌∙◌, subst, arith, common_steps, slash, star, IsScanned, one_if}
 use Rattle.gix_refspec_text.proofs.lemmas.texts.StarLemmas.{second_star}
-use Rattle.gix_refspec_text.proofs.lemmas.texts.LetterLemmas.{clean_after_star, clean_after_other, some_index, fault_with_letters}
+use Rattle.gix_refspec_text.proofs.lemmas.texts.LetterLemmas.{scanned_other, scanned_star, some_index, fault_with_letters}
 use Rattle.gix_refspec_text.proofs.name.scanned_to.Goals as goal
 use Rattle.gix_refspec_text.proofs.name.scanned_to.Goals.{then-byte-eq42+else-starred, else-byte-eq42+in_default}
 
 -- a plain byte isn't a star, and adds no fault
 pub loop-index-preserved-then-is_plain : goal.loop-index-preserved-then-is_plain
 loop-index-preserved-then-is_plain c =
-    let x = c.args.text.now in
     let i = c.loop-index.index in
-    let b = get_or x i 0 in
-    let y = slash ∷ take i x in
-    let one_more : slash ∷ take (i + 1) x ≡ y ++ (b ∷ []) = ap (λ z. slash ∷ z) (take_more x i 0 (omega arith)) in
-    let plain = c.if-is_plain.ensures in (
-      subst (λ z. IsClean (with_letters z)) (sym one_more) (clean_after_other y b (plain y) c.loop-index.invariant.0),
-      count_by_more_no (λ d. d == star) x i 0 (omega arith) (ne_eqb b star (plain y Asterisk)) ∙ c.loop-index.invariant.1,
-    )
+    scanned_other c.args.text.now i c.loop-index.starred (omega arith) (c.if-is_plain.ensures (slash ∷ take i c.args.text.now)) c.loop-index.invariant
 
 -- there is a star already, and this is another
 pub returns-then-starred : goal.returns-then-starred
@@ -38,20 +30,11 @@ pub loop-index-preserved : goal.loop-index-preserved
 loop-index-preserved c =
     let x = c.args.text.now in
     let i = c.loop-index.index in
-    let b = get_or x i 0 in
-    let y = slash ∷ take i x in
-    let one_more : slash ∷ take (i + 1) x ≡ y ++ (b ∷ []) = ap (λ z. slash ∷ z) (take_more x i 0 (omega arith)) in
     elim c.if-byte-eq42.branch [
       | then-byte-eq42+else-starred w ↦
-          let same : b ≡ star = grind (arith, common_steps) in (
-            subst (λ z. IsClean (with_letters z)) (sym one_more) (clean_after_star y b same c.loop-index.invariant.0),
-            count_by_more_yes (λ d. d == star) x i 0 (omega arith) (eq-eqb b star same) ∙ ap (λ n. n + 1) (c.loop-index.invariant.1 ∙ ap one_if w.if-starred.false) ∙ sym (ap one_if w.starred-is),
-          )
-      | else-byte-eq42+in_default w ↦
-          let none = w.in_default.ensures in (
-            subst (λ z. IsClean (with_letters z)) (sym one_more) (clean_after_other y b none c.loop-index.invariant.0),
-            count_by_more_no (λ d. d == star) x i 0 (omega arith) (ne_eqb b star (none Asterisk)) ∙ c.loop-index.invariant.1 ∙ sym (ap one_if w.starred-is),
-          )
+          let before = subst (λ s. IsScanned x i s) w.if-starred.false c.loop-index.invariant in
+          subst (λ s. IsScanned x (i + 1) s) (sym w.starred-is) (scanned_star x i (omega arith) (grind (arith, common_steps)) before)
+      | else-byte-eq42+in_default w ↦ subst (λ s. IsScanned x (i + 1) s) (sym w.starred-is) (scanned_other x i c.loop-index.starred (omega arith) w.in_default.ensures c.loop-index.invariant)
     ]
 
 -- all bytes before the index `to` were scanned

@@ -1,6 +1,6 @@
 -- No reason before those of the source applies to a positive fetch. The checks return the reasons of its sides.
-use Rattle.gix_refspec_text.proofs.Common.{[], Some, unwrap_or, refl, sym, ap, ◌∙◌, subst, rules, err_from_is_err_and, differs_true, differs_false, the_type, Fetch, PatternUnbalanced, mode_of, HasCheckedShape}
-use Rattle.gix_refspec_text.proofs.Common.{destination_of, named_or_head, side_of}
+use Rattle.gix_refspec_text.proofs.Common.{[], Some, unwrap_or, refl, sym, ap, ◌∙◌, subst, rules, err_from_is_err_and, differs_true, differs_false, the_type, Fetch, PatternUnbalanced, mode_of}
+use Rattle.gix_refspec_text.proofs.Common.{HasCheckedShape, destination_of, named_or_head, side_of}
 use Rattle.gix_refspec_text.proofs.lemmas.parsing.SideLemmas.{now-unwrap_or}
 use Rattle.gix_refspec_text.proofs.lemmas.parsing.ReasonLemmas.{fetch_reaches, error_at_destination, fetch_source_fine, unbalanced_fetch}
 use Rattle.gix_refspec_text.proofs.lemmas.parsing.ReadsLemmas.{read_with, fetch_reads, side_of-named_or_head}

@@ -6,12 +6,8 @@ use Rattle.gix_refspec_text.proofs.parsing.reading.look_at.Goals as goal
 
 pub returns-in-Ok-true-clause-ok : goal.returns-in-Ok-true-clause-ok
 returns-in-Ok-true-clause-ok c =
-    let x = c.args.side.now in
-    let told = c.in-Ok-true.ensures in
-    pattern_with_letter x (HasOneStar-count_by x (told.0 ∙ ap one_if c.in-Ok-true.field-0-test)) told.1
+    pattern_with_letter c.args.side.now (HasOneStar-count_by c.args.side.now (c.in-Ok-true.ensures.0 ∙ ap one_if c.in-Ok-true.field-0-test)) c.in-Ok-true.ensures.1
 
 pub returns-in-Ok-false-clause-ok : goal.returns-in-Ok-false-clause-ok
 returns-in-Ok-false-clause-ok c =
-    let x = c.args.side.now in
-    let told = c.in-Ok-false.ensures in
-    name_without_stars x (Lacks-count_by x (told.0 ∙ ap one_if c.in-Ok-false.field-0-test)) told.1
+    name_without_stars c.args.side.now (Lacks-count_by c.args.side.now (c.in-Ok-false.ensures.0 ∙ ap one_if c.in-Ok-false.field-0-test)) c.in-Ok-false.ensures.1

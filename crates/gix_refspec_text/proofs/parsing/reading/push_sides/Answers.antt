@@ -1,7 +1,7 @@
 -- No reason before those of the source applies to a positive push to a destination. The checks return the reasons of
 -- its sides.
-use Rattle.gix_refspec_text.proofs.Common.{Some, refl, sym, ap, ◌∙◌, subst, rules, err_from_is_err_and, differs_true, differs_false, the_type, Push, AreParts, named_by, PatternUnbalanced, IsBadPattern, mode_of}
-use Rattle.gix_refspec_text.proofs.Common.{HasCheckedShape, side_of}
+use Rattle.gix_refspec_text.proofs.Common.{Some, refl, sym, ap, ◌∙◌, subst, rules, err_from_is_err_and, differs_true, differs_false, the_type, Push, AreParts, named_by, PatternUnbalanced}
+use Rattle.gix_refspec_text.proofs.Common.{IsBadPattern, mode_of, HasCheckedShape, side_of}
 use Rattle.gix_refspec_text.proofs.lemmas.parsing.ReasonLemmas.{push_reaches, bad_source_of_push, error_at_source, error_at_destination, push_source_fine, unbalanced_push}
 use Rattle.gix_refspec_text.proofs.lemmas.parsing.ReadsLemmas.{read_with, push_reads}
 use Rattle.gix_refspec_text.proofs.parsing.reading.push_sides.Goals as goal

@@ -7,6 +7,4 @@ pub returns-in-No-clause-ok : goal.returns-in-No-clause-ok
 returns-in-No-clause-ok c = (c.in-No.ensures, fault_without_stars c.args.side.now c.args.fault c.in-No.ensures c.requires)
 
 pub returns-in-One-clause-err : goal.returns-in-One-clause-err
-returns-in-One-clause-err c =
-    let x = c.args.side.now in
-    (ReferenceName c.args.fault, refl, (with_letters x, replaces_one _ _ x c.in-One.ensures, c.requires))
+returns-in-One-clause-err c = (ReferenceName c.args.fault, refl, (with_letters c.args.side.now, replaces_one _ _ c.args.side.now c.in-One.ensures, c.requires))

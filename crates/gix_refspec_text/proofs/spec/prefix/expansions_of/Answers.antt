@@ -10,25 +10,23 @@ pattern_expansions-requires c =
 
 pub returns-in-Pattern-clause-ok : goal.returns-in-Pattern-clause-ok
 returns-in-Pattern-clause-ok c =
-    let k = c.in-Pattern in
-    IfOk-weaker c.one_entry.result _ _ (λ list is. to_prefix k.before.now (of_pattern k.before.now k.after.now k.ensures (c.if-is_ref_prefix.ensures.0 refl) refl) is) c.one_entry.ensures
+    IfOk-weaker c.one_entry.result _ _ (λ list is. to_prefix c.in-Pattern.before.now (of_pattern _ _ c.in-Pattern.ensures (c.if-is_ref_prefix.ensures.0 refl) refl) is) c.one_entry.ensures
 
 pub returns-in-Pattern-clause-memory : goal.returns-in-Pattern-clause-memory
 returns-in-Pattern-clause-memory c =
-    let k = c.in-Pattern in
-    on_any_error c.one_entry.result (prefix_expands c.args.side.now k.before.now (of_pattern k.before.now k.after.now k.ensures (c.if-is_ref_prefix.ensures.0 refl) refl))
+    on_any_error c.one_entry.result (prefix_expands c.args.side.now c.in-Pattern.before.now (of_pattern _ _ c.in-Pattern.ensures (c.if-is_ref_prefix.ensures.0 refl) refl))
 
 pub returns-in-FullName-clause-ok : goal.returns-in-FullName-clause-ok
 returns-in-FullName-clause-ok c =
-    let k = c.in-FullName in
-    IfOk-weaker c.one_entry-in-FullName.result _ _ (λ list is. to_prefix k.name.now (of_name k.ensures.2 k.ensures.1 k.ensures.0) is) c.one_entry-in-FullName.ensures
+    let k = c.in-FullName.ensures in
+    IfOk-weaker c.one_entry-in-FullName.result _ _ (λ list is. to_prefix c.in-FullName.name.now (of_name k.2 k.1 k.0) is) c.one_entry-in-FullName.ensures
 
 pub returns-in-FullName-clause-memory : goal.returns-in-FullName-clause-memory
 returns-in-FullName-clause-memory c =
-    let k = c.in-FullName in
-    on_any_error c.one_entry-in-FullName.result (prefix_expands c.args.side.now k.name.now (of_name k.ensures.2 k.ensures.1 k.ensures.0))
+    let k = c.in-FullName.ensures in
+    on_any_error c.one_entry-in-FullName.result (prefix_expands c.args.side.now c.in-FullName.name.now (of_name k.2 k.1 k.0))
 
 pub returns-in-Partial-clause-ok : goal.returns-in-Partial-clause-ok
 returns-in-Partial-clause-ok c =
-    let k = c.in-Partial in
-    IfOk-weaker c.one_entry-in-Partial.result _ _ (λ list is. to_prefix k.name.now (of_head (sym k.ensures.0 ∙ c.if-is_head.ensures.0 refl) k.ensures.0) is) c.one_entry-in-Partial.ensures
+    let is_name = c.in-Partial.ensures.0 in
+    IfOk-weaker c.one_entry-in-Partial.result _ _ (λ list is. to_prefix c.in-Partial.name.now (of_head (sym is_name ∙ c.if-is_head.ensures.0 refl) is_name) is) c.one_entry-in-Partial.ensures
