@@ -3,7 +3,6 @@ pub mod SideLemmas
 pub mod PartsLemmas
 pub mod ReasonLemmas
 pub mod DecideLemmas
-pub mod SettleLemmas
 pub mod ReadsLemmas
 pub mod ReadOnceLemmas
 pub mod RefusalLemmas

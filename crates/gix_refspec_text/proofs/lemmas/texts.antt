@@ -1,7 +1,6 @@
 -- Lemmas on bytes, names, patterns and ids.
 pub mod TextLemmas
 pub mod ComponentLemmas
-pub mod StarLemmas
 pub mod NameLemmas
 pub mod LetterLemmas
 pub mod CalmLemmas

@@ -2,8 +2,18 @@
 use Rattle.gix_refspec_text.proofs.Common.{◌≡◌, ◌≢◌, ◌⊎◌, inl, inr, ℕ, Bool, true, false, List, [], ◌∷◌, ◌++◌, codes, nat_eq, IsTrue, refl, sym, ap, ◌∙◌, subst, append_assoc, length, take, ◌-◌}
 use Rattle.gix_refspec_text.proofs.Common.{ends_with, ends_is, false≢true, append-nil, Decides-eqb, Error, Empty, EmptyComponent, StartsWithDot, LockSuffix, EndsWithDot, RepeatedDot, ReflogPortion}
 use Rattle.gix_refspec_text.proofs.Common.{Asterisk, InvalidByte, Lacks, EndsWith, slash, star, dot, brace, is_refused_byte, HasFault, IsName, AddsFault, LeavesFault, Added, IsClean, cases_Bool}
-use Rattle.gix_refspec_text.proofs.Common.{cases_eq}
+use Rattle.gix_refspec_text.proofs.Common.{cases_eq, Option, None, Some, unwrap_or, nat_le, is_ascii_hexdigit, leb-true, le-leb, Operation, Push, Fetch, Shape, Plain, Pattern, letter, plus, caret}
+use Rattle.gix_refspec_text.proofs.Common.{colon, ReplacesStar, Mode, Normal, Forced, Negative, Reading, Refusal, NegativeWithDestination, PushToEmpty, PatternUnsupported, ReferenceName}
+use Rattle.gix_refspec_text.proofs.Common.{PatternUnbalanced, NegativeEmpty, NegativeObjectHash, IsBadPattern, IsFirstReason, IsRefused, named_by, IsSigned, IsPositive, with_colon, LastLacksColon}
+use Rattle.gix_refspec_text.proofs.Common.{AreParts, LooksLikeObjectHash, Reads, fetched, pushed, HasShape, HasCheckedShape, IsBadSide, side_of, named_or_head, list_all, ◌&&◌, and_parts, and_from}
+use Rattle.gix_refspec_text.proofs.Common.{AllPass-from_list_all, list_all-from_AllPass}
 use Rattle.gix_refspec_text.proofs.lemmas.texts.NameLemmas.{IsClean-more, IsClean-start, HasFault-added, HasFault-left, IsName-from_clean, end_leaves}
+use Rattle.gix_refspec_text.specs.Specs.Refusal.{Empty}
+use Rattle.gix_refspec_text.proofs.lemmas.parsing.PartsLemmas.{Parted}
+use Rattle.gix_refspec_text.proofs.lemmas.parsing.ReasonLemmas.{fetch_reaches, push_reaches, push_alone_reaches, negative_reaches, reason_at_source, reason_at_destination, reason_against_object}
+use Rattle.gix_refspec_text.proofs.lemmas.parsing.ReasonLemmas.{reason_against_nothing, fetch_source_fine, push_source_fine, bad_destination, bad_source_of_push, unbalanced_fetch, unbalanced_push}
+use Rattle.gix_refspec_text.proofs.lemmas.parsing.ReasonLemmas.{bad_negative, no_negative}
+use Rattle.gix_refspec_text.proofs.lemmas.parsing.ReadsLemmas.{fetch_reads, push_alone_reads, push_reads, negative_reads, refused}
 
 -- P holds, or it doesn't
 abbrev pub Decided : Type 0 → Type 0
@@ -103,3 +113,193 @@ lacks_or_first b (c ∷ x) = elim (cases_eq c b) [
     | inr index ↦ inr (record { before = c ∷ index.before; after = index.after; here = ap (λ y. c ∷ y) index.here; first = (other, index.first) })
   ]
 ]
+
+-- ---- each text has parts, and parts have a reading or a first reason to refuse them
+
+-- a text without a star or a pattern, or a bad pattern
+abbrev pub Starred : List ℕ → Type 0
+Starred x = ((k : Shape) × HasShape x k) ⊎ ((e : Refusal) × IsBadPattern x e)
+
+one_star : (x : List ℕ) (index : FirstIndex star x) → Lacks star index.after → Starred x
+one_star x index lacks =
+    let y = index.before ++ (letter ∷ index.after) in
+    let replaces : ReplacesStar x y = record { before = index.before; after = index.after; split = record { starred = index.here; first = index.first; last = lacks }; replaced = refl } in
+    elim (name_or_fault y) [
+      | inl name ↦ inl (Pattern, record { with_letter = y; replaces = replaces; name = name })
+      | inr fault ↦ inr (ReferenceName fault.0, (y, replaces, fault.1))
+    ]
+
+pub starred : (x : List ℕ) → Starred x
+starred x = elim (lacks_or_first star x) [
+  | inl lacks ↦ inl (Plain, lacks)
+  | inr index ↦ elim (lacks_or_first star index.after) [
+    | inl lacks ↦ one_star x index lacks
+    | inr second ↦ inr (PatternUnsupported x, (record { before = index.before; between = second.before; after = second.after; here = index.here ∙ ap (λ z. index.before ++ (star ∷ z)) second.here }, refl))
+  ]
+]
+
+-- a missing side, a name or a pattern, or a bad side
+abbrev pub Checked : List ℕ → Type 0
+Checked x = ((k : Shape) × HasCheckedShape x k) ⊎ ((e : Refusal) × IsBadSide x e)
+
+checked_by : (b : ℕ) (x : List ℕ) (k : Shape) → HasShape (b ∷ x) k → Checked (b ∷ x)
+checked_by b x Plain lacks = elim (name_or_fault (b ∷ x)) [
+  | inl name ↦ inl (Plain, name)
+  | inr fault ↦ inr (ReferenceName fault.0, ((λ same. cc), inl (lacks, fault.1)))
+]
+checked_by b x Pattern pattern = inl (Pattern, pattern)
+
+pub checked : (x : List ℕ) → Checked x
+checked [] = inl (Plain, tt)
+checked (b ∷ x) = elim (starred (b ∷ x)) [
+  | inl side ↦ checked_by b x side.0 side.1
+  | inr bad ↦ inr (bad.0, ((λ same. cc), inr bad.1))
+]
+
+-- two sides have the same shape or not
+decided_side : (j k : Shape) → Decided (j ≡ k)
+decided_side Plain Plain = inl refl
+decided_side Pattern Pattern = inl refl
+decided_side _ _ = inr (λ same. absurd (cc))
+
+-- a text is empty or not
+decided_empty : (x : List ℕ) → Decided (x ≡ [])
+decided_empty [] = inl refl
+decided_empty (b ∷ x) = inr (λ same. cc)
+
+-- a text looks like an object hash or not
+decided_hash : (x : List ℕ) → Decided (LooksLikeObjectHash x)
+decided_hash x = elim (tested (nat_le 40 (length x) && list_all is_ascii_hexdigit x)) [
+  | inl so ↦
+      let both = and_parts (nat_le 40 (length x)) (list_all is_ascii_hexdigit x) so in
+      inl (record { long = leb-true 40 (length x) both.0; digits = AllPass-from_list_all is_ascii_hexdigit x both.1 })
+  | inr other ↦ inr (λ hash. false≢true (sym other ∙ and_from _ _ (le-leb 40 (length x) hash.long) (list_all-from_AllPass is_ascii_hexdigit x hash.digits)))
+]
+
+-- parts have a reading, or a first reason to refuse them
+abbrev pub Settled : Operation → Mode → List ℕ → Option (List ℕ) → Type 0
+Settled op m s d = ((r : Reading) × ((text : List ℕ) → AreParts m s d text → Reads op text r)) ⊎ ((e : Refusal) × IsFirstReason op m s d e)
+
+settled_fetch : (m : Mode) (s : List ℕ) (d : Option (List ℕ)) → IsPositive m → Settled Fetch m s d
+settled_fetch m s d pos = elim (checked s) [
+  | inr bad ↦ inr (bad.0, reason_at_source Fetch m s d bad.0 (fetch_reaches m s d pos) (record { source = bad.1.0; refusal = bad.1.1 }))
+  | inl source ↦ elim (checked (unwrap_or d [])) [
+    | inr bad ↦ inr (bad.0, reason_at_destination Fetch m s d bad.0 (fetch_reaches m s d pos) (fetch_source_fine s d source.0 source.1) (bad_destination d bad.0 bad.1))
+    | inl target ↦ elim (decided_side source.0 target.0) [
+      | inl same ↦ inl (
+        fetched m (named_or_head s) (side_of (unwrap_or d [])),
+        λ text parts. fetch_reads m s d source.0 text pos source.1 (subst (λ (k : Shape). HasCheckedShape (unwrap_or d []) k) (sym same) target.1) parts,
+      )
+      | inr differ ↦ inr (PatternUnbalanced, unbalanced_fetch m s d source.0 target.0 pos source.1 target.1 differ)
+    ]
+  ]
+]
+
+settled_alone : (m : Mode) (s : List ℕ) → IsPositive m → (s ≡ [] → m ≡ Normal → ⊥) → Settled Push m s None
+settled_alone m s pos full = elim (checked s) [
+  | inr bad ↦ inr (bad.0, reason_at_source Push m s None bad.0 (push_alone_reaches m s pos full) (record { source = bad.1.0; refusal = bad.1.1 }))
+  | inl source ↦ inl (pushed m (side_of (named_by s)) None, λ text parts. push_alone_reads m s source.0 text pos full source.1 parts)
+]
+
+settled_push_alone : (m : Mode) (s : List ℕ) → IsPositive m → Settled Push m s None
+settled_push_alone Normal [] pos = inr (Empty, inl (record { push = refl; unsigned = refl; no_source = refl; no_colon = refl; refusal = refl }))
+settled_push_alone Normal (b ∷ s) pos = settled_alone Normal (b ∷ s) pos (λ empty normal. cc)
+settled_push_alone Forced s pos = settled_alone Forced s pos (λ empty normal. absurd (cc))
+settled_push_alone Negative s pos = absurd pos
+
+settled_to : (m : Mode) (s t : List ℕ) → IsPositive m → (s ≢ [] → t ≡ [] → ⊥) → Settled Push m s (Some t)
+settled_to m s t pos somewhere = elim (starred s) [
+  | inr bad ↦ inr (bad.0, reason_at_source Push m s (Some t) bad.0 (push_reaches m s t pos somewhere) (bad_source_of_push s t bad.0 bad.1))
+  | inl source ↦ elim (checked t) [
+    | inr bad ↦ inr (bad.0, reason_at_destination Push m s (Some t) bad.0 (push_reaches m s t pos somewhere) (push_source_fine s t source.0 source.1) (bad_destination (Some t) bad.0 bad.1))
+    | inl target ↦ elim (decided_side source.0 target.0) [
+      | inl same ↦ inl (
+        pushed m (side_of (named_by s)) (side_of t),
+        λ text parts. push_reads m s t source.0 text pos somewhere source.1 (subst (λ (k : Shape). HasCheckedShape t k) (sym same) target.1) parts,
+      )
+      | inr differ ↦ inr (PatternUnbalanced, unbalanced_push m s t source.0 target.0 pos somewhere source.1 target.1 differ)
+    ]
+  ]
+]
+
+settled_push : (m : Mode) (s t : List ℕ) → IsPositive m → Settled Push m s (Some t)
+settled_push m s t pos = elim (decided_empty t) [
+  | inr full ↦ settled_to m s t pos (λ _ empty. full empty)
+  | inl empty ↦ elim (decided_empty s) [
+    | inl nothing ↦ settled_to m s t pos (λ full _. full nothing)
+    | inr full ↦ inr (PushToEmpty, inr ((λ e h. let i = h.no_colon in absurd (cc)), inr (no_negative m (Some t) pos, inl (record { push = refl; source = full; nowhere = ap (λ (x : List ℕ). Some x) empty; refusal = refl }))))
+  ]
+]
+
+settled_negative : (op : Operation) (s : List ℕ) (d : Option (List ℕ)) → Settled op Negative s d
+settled_negative op s (Some t) = inr (NegativeWithDestination, inr ((λ e h. let i = h.no_colon in absurd (cc)), inl (record { negative = refl; colon = refl; refusal = refl })))
+settled_negative op s None = elim (checked s) [
+  | inr bad ↦ inr (bad.0, reason_at_source op Negative s None bad.0 (negative_reaches op s) (bad_negative op s bad.0 bad.1))
+  | inl source ↦ elim (decided_empty s) [
+    | inl empty ↦ inr (NegativeEmpty, reason_against_nothing op s source.0 empty source.1)
+    | inr full ↦ elim (decided_hash s) [
+      | inl hash ↦ inr (NegativeObjectHash, reason_against_object op s source.0 full source.1 hash)
+      | inr other ↦ inl (record { operation = op; mode = Negative; source = side_of (named_by s); destination = None }, λ text parts. negative_reads op s source.0 text full source.1 other parts)
+    ]
+  ]
+]
+
+-- any parts have a reading, or a first reason to refuse them
+pub settled : (op : Operation) (m : Mode) (s : List ℕ) (d : Option (List ℕ)) → Settled op m s d
+settled op Negative s d = settled_negative op s d
+settled Fetch Normal s d = settled_fetch Normal s d tt
+settled Fetch Forced s d = settled_fetch Forced s d tt
+settled Push Normal s None = settled_push_alone Normal s tt
+settled Push Forced s None = settled_push_alone Forced s tt
+settled Push Normal s (Some t) = settled_push Normal s t tt
+settled Push Forced s (Some t) = settled_push Forced s t tt
+
+-- a text with its sign, or without one
+record Signs (text : List ℕ) : Type 0 where
+  mode : Mode
+  rest : List ℕ
+  signed : IsSigned mode text rest
+
+signs : (text : List ℕ) → Signs text
+signs [] = record { mode = Normal; rest = []; signed = (refl, tt) }
+signs (b ∷ x) = elim (cases_eq b plus) [
+  | inl same ↦ record { mode = Forced; rest = x; signed = ap (λ c. c ∷ x) same }
+  | inr no_plus ↦ elim (cases_eq b caret) [
+    | inl same ↦ record { mode = Negative; rest = x; signed = ap (λ c. c ∷ x) same }
+    | inr no_caret ↦ record { mode = Normal; rest = b ∷ x; signed = (refl, (no_plus, no_caret)) }
+  ]
+]
+
+-- a text split at its last colon, or whole if it has none
+record Split (x : List ℕ) : Type 0 where
+  source : List ℕ
+  destination : Option (List ℕ)
+  whole : x ≡ with_colon source destination
+  last : LastLacksColon source destination
+
+split_before : (b : ℕ) (x s : List ℕ) (d : Option (List ℕ)) → x ≡ with_colon s d → LastLacksColon s d → Split (b ∷ x)
+split_before b x s (Some d) whole last = record { source = b ∷ s; destination = Some d; whole = ap (λ (y : List ℕ). b ∷ y) whole; last = last }
+split_before b x s None whole lacks = elim (cases_eq b colon) [
+  | inl same ↦ record { source = []; destination = Some x; whole = ap (λ c. c ∷ x) same; last = subst (Lacks colon) (sym whole) lacks }
+  | inr other ↦ record { source = b ∷ s; destination = None; whole = ap (λ (y : List ℕ). b ∷ y) whole; last = (other, lacks) }
+]
+
+split : (x : List ℕ) → Split x
+split [] = record { source = []; destination = None; whole = refl; last = tt }
+split (b ∷ x) = let later = split x in split_before b x later.source later.destination later.whole later.last
+
+-- each text has parts
+pub parted : (text : List ℕ) → Parted text
+parted text =
+    let s = signs text in
+    let c = split s.rest in
+    record { mode = s.mode; source = c.source; destination = c.destination; parts = record { signed = subst (IsSigned s.mode text) c.whole s.signed; last = c.last } }
+
+-- each text has a reading or is refused
+pub read_or_refused : (op : Operation) (text : List ℕ) → ((r : Reading) × Reads op text r) ⊎ ((e : Refusal) × IsRefused op text e)
+read_or_refused op text =
+    let p = parted text in
+    elim (settled op p.mode p.source p.destination) [
+      | inl reading ↦ inl (reading.0, reading.1 text p.parts)
+      | inr reason ↦ inr (reason.0, refused op p.mode p.source p.destination text reason.0 p.parts reason.1)
+    ]

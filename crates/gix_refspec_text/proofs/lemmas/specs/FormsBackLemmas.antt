@@ -6,11 +6,10 @@ use Rattle.gix_refspec_text.proofs.Common.{pushes_colon, pushes, deletes, pushes
 use Rattle.gix_refspec_text.proofs.Common.{push_all_matching, push_delete, push_matching, push_exclude, fetch_only, fetch_exclude, fetch_and_update, IsPrintedBack, ReadsOrRefused, EqualTexts}
 use Rattle.gix_refspec_text.proofs.Common.{same_Some, ◌==◌, true, false, if◌then◌else◌, at, IsUnsigned, with_colon, Meaning, eqb-true}
 use Rattle.gix_refspec_text.proofs.lemmas.parsing.SideLemmas.{Lacks-name, HasStar-pattern}
-use Rattle.gix_refspec_text.proofs.lemmas.parsing.DecideLemmas.{tested}
+use Rattle.gix_refspec_text.proofs.lemmas.parsing.DecideLemmas.{tested, read_or_refused}
 use Rattle.gix_refspec_text.proofs.lemmas.texts.HeadLemmas.{IsName-head, Lacks-colon_name, unsigned_name, Lacks-colon_pattern}
 use Rattle.gix_refspec_text.proofs.lemmas.parsing.ReadsLemmas.{name_not_empty, pattern_not_empty, either_not_empty}
 use Rattle.gix_refspec_text.proofs.lemmas.parsing.ReadOnceLemmas.{reads_once, alike_full}
-use Rattle.gix_refspec_text.proofs.lemmas.parsing.SettleLemmas.{read_or_refused}
 use Rattle.gix_refspec_text.proofs.lemmas.texts.TextLemmas.{Lacks-ContainsText}
 
 -- a reading is printed back, given its meaning, its canonical text and the reading of that text

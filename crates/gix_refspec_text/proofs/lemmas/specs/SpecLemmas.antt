@@ -24,13 +24,10 @@ operation_or op None = op
 operation_or op (Some m) = meant_for m
 
 included_for : (op : Operation) (forced : Bool) (s d : Option (List ℕ)) → operation_or op (included op forced s d) ≡ op
-included_for Push forced None None = refl
 included_for Push forced None (Some d) = refl
-included_for Push forced (Some s) None = refl
 included_for Push forced (Some s) (Some d) = refl
-included_for Fetch forced None d = refl
-included_for Fetch forced (Some s) None = refl
 included_for Fetch forced (Some s) (Some d) = refl
+included_for _ forced _ _ = refl
 
 excluded_for : (op : Operation) (s d : Option (List ℕ)) → operation_or op (excluded op s d) ≡ op
 excluded_for op None d = refl

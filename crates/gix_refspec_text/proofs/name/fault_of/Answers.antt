@@ -1,7 +1,6 @@
 -- A text without stars that is a name with letters for its stars is a name.
 use Rattle.gix_refspec_text.proofs.Common.{ap, ◌∙◌, one_if}
-use Rattle.gix_refspec_text.proofs.lemmas.texts.StarLemmas.{Lacks-count_by}
-use Rattle.gix_refspec_text.proofs.lemmas.texts.LetterLemmas.{name_without_stars}
+use Rattle.gix_refspec_text.proofs.lemmas.texts.LetterLemmas.{Lacks-count_by, name_without_stars}
 use Rattle.gix_refspec_text.proofs.name.fault_of.Goals as goal
 
 pub returns-in-Ok-false : goal.returns-in-Ok-false

@@ -1,6 +1,5 @@
 use Rattle.gix_refspec_text.proofs.Common.{◌≡◌, ◌≢◌, ◌+◌, ◌∷◌, take, get_or, sym, ap, ◌∙◌, subst, arith, common_steps, slash, star, IsScanned, one_if}
-use Rattle.gix_refspec_text.proofs.lemmas.texts.StarLemmas.{second_star}
-use Rattle.gix_refspec_text.proofs.lemmas.texts.LetterLemmas.{scanned_other, scanned_star, some_index, fault_with_letters}
+use Rattle.gix_refspec_text.proofs.lemmas.texts.LetterLemmas.{second_star, scanned_other, scanned_star, some_index, fault_with_letters}
 use Rattle.gix_refspec_text.proofs.name.scanned_to.Goals as goal
 use Rattle.gix_refspec_text.proofs.name.scanned_to.Goals.{then-byte-eq42+else-starred, else-byte-eq42+in_default}
 
