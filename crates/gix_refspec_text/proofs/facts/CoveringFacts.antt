@@ -1,10 +1,10 @@
 -- Which sources are covering.
-use Rattle.gix_refspec_text.proofs.Common.{[], None, Some, codes, refl, subst, arith, star, bracket, Normal, pushed, IsPrefix, of_head, of_name, of_pattern, IsCovering, by_prefix, by_candidates}
+use Rattle.gix_refspec_text.proofs.Common.{[], None, Some, codes, refl, subst, arith, star, bracket, Normal, pushed, IsPrefix, of_name, of_pattern, IsCovering, by_prefix, by_candidates}
 use Rattle.gix_refspec_text.proofs.Common.{HasCoveringSource, same_Some, HasNoPrefix}
-use Rattle.gix_refspec_text.proofs.lemmas.hits.MatchLemmas.{split_once}
 use Rattle.gix_refspec_text.proofs.facts.ManualFacts.{Lacks-tested, other_length}
 use Rattle.gix_refspec_text.proofs.facts.FitFacts.{split_at_end, no_dev, short, short_kind, other_byte, other_first, push_is_none}
 use Rattle.gix_refspec_text.proofs.lemmas.lists.LacksLemmas.{Lacks-here}
+use Rattle.gix_refspec_text.proofs.lemmas.prefixes.PrefixLemmas.{no_prefix}
 
 -- the prefix of a pattern
 pub below_heads : IsPrefix (codes "refs/heads/*") (codes "refs/heads/")
@@ -25,9 +25,7 @@ covering = (
 
 -- a pattern with its star right after `refs/` has no prefix
 pub no_bare_prefix : HasNoPrefix (codes "refs/*")
-no_bare_prefix p (of_head is_head same) = other_length _ _ (λ size. omega (arith, size)) is_head
-no_bare_prefix p (of_name begins lacks same) = Lacks-here star (codes "refs/") [] lacks
-no_bare_prefix p (of_pattern before after split tells same) = tells.further ((split_once (codes "refs/*") before after (codes "refs/") [] split (split_at_end (codes "refs/") refl)).0)
+no_bare_prefix = no_prefix (codes "refs/*") (codes "refs/") [] (split_at_end (codes "refs/") refl) (λ is. is.further refl)
 
 -- `HEAD`, `*` and `refs/*` aren't
 pub not_covering : ¬ (IsCovering (codes "HEAD")) × ¬ (IsCovering (codes "*")) × ¬ (IsCovering (codes "refs/*"))

@@ -8,6 +8,7 @@ use Rattle.std.proofs.lemmas.List.Splits.{slice_split_none, slice_split_at}
 use Rattle.gix_refspec_text.proofs.lemmas.texts.ComponentLemmas.{AllByRecursion-parts}
 use Rattle.gix_refspec_text.proofs.facts.ManualFacts.{Lacks-tested, full}
 use Rattle.gix_refspec_text.proofs.lemmas.lists.AllLemmas.{all_weaker}
+use Rattle.std.proofs.Math.Bool.{or-true}
 
 -- a text doesn't begin with a word, end with it or contain it, by tests that compute
 pub begins_not : (w x : List ℕ) → starts_with nat_eq x w ≡ false → ¬ (BeginsWith w x)
@@ -26,11 +27,7 @@ holds_after w [] after [] here = (starts_is Decides-eqb [] w (starts_with nat_eq
 holds_after w [] after (b ∷ x) here = ap (λ v. v || holds w x) ((starts_is Decides-eqb (b ∷ x) w (starts_with nat_eq (b ∷ x) w) refl).1 after here)
 holds_after w (c ∷ before) after [] here = cc
 holds_after w (c ∷ before) after (b ∷ x) here =
-    ap (λ v. starts_with nat_eq (b ∷ x) w || v) (holds_after w before after x (cc)) ∙ or_true (starts_with nat_eq (b ∷ x) w)
-  where
-    or_true : (v : Bool) → (v || true) ≡ true
-    or_true true = refl
-    or_true false = refl
+    ap (λ v. starts_with nat_eq (b ∷ x) w || v) (holds_after w before after x (cc)) ∙ or-true (starts_with nat_eq (b ∷ x) w)
 
 pub holds_not : (w x : List ℕ) → holds w x ≡ false → ¬ (ContainsText w x)
 holds_not w x none has = true≢false (sym (holds_after w has.before has.after x has.here) ∙ none)

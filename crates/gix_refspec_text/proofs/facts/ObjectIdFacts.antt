@@ -1,9 +1,9 @@
 -- The definitions of ids, at the ids that git hash-object prints for the empty blob, and at other lengths.
 use Rattle.gix_refspec_text.proofs.Common.{◌≡◌, ◌≢◌, ℕ, ◌+◌, ◌*◌, List, [], ◌∷◌, Option, Some, unwrap_or, codes, refl, sym, ap, ◌∙◌, arith, filter, range_with_len, false≢true, AllPass-from_list_all}
-use Rattle.gix_refspec_text.proofs.Common.{Digit, Length, Kind, Sha1, Sha256, bytes_of, id_bytes, is_lower_digit, IsSpelledBy, Spells, IsIdText, IsLowerText, IsIdLength, HasIdFault, lower_of}
+use Rattle.gix_refspec_text.proofs.Common.{Digit, Length, Sha1, Sha256, id_bytes, is_lower_digit, IsSpelledBy, Spells, IsIdText, IsLowerText, IsIdLength, HasIdFault, lower_of}
 use Rattle.hex.specs.Hex.{hex_digit_value}
 use Rattle.hex.proofs.OnLiterals.{hex_on_literals}
-use Rattle.gix_refspec_text.proofs.lemmas.texts.ObjectIdLemmas.{no_kind, IsIdText-decoded, IsIdText-sound, Spells-decode_pairs}
+use Rattle.gix_refspec_text.proofs.lemmas.texts.ObjectIdLemmas.{digits_of-twice, no_kind, IsIdText-decoded, IsIdText-sound, Spells-decode_pairs}
 
 -- the bytes of the id under SHA-1
 abbrev pub empty_blob : List ℕ
@@ -67,12 +67,8 @@ pub other_texts : ¬ (IsIdText (codes "e69de29bb2d1d6434b8b29ae775ad8c2e48c5390"
 other_texts = (
   (λ text. omega (arith, spelled_value 0x91 57 48 9 0 refl refl (text.spelled 19 (omega arith)))),
   (λ i text. no_kind 6 (λ same. omega (arith, same)) (λ same. omega (arith, same)) (text.kind, text.digits)),
-  λ text. no_bytes text.kind text.bytes,
+  λ text. no_kind 0 (λ same. omega (arith, same)) (λ same. omega (arith, same)) (text.kind, omega (arith, digits_of-twice text.kind, text.bytes)),
 )
-  where
-    no_bytes : (kind : Kind) → 0 ≢ bytes_of kind
-    no_bytes Sha1 same = omega (arith, same)
-    no_bytes Sha256 same = omega (arith, same)
 
 -- of the 256 bytes, the digits in lower case
 pub lower_digits : filter is_lower_digit (range_with_len 0 256) ≡ codes "0123456789abcdef"

@@ -1,8 +1,8 @@
 -- Sides with and without a ref prefix, and their expansions.
-use Rattle.gix_refspec_text.proofs.Common.{◌≡◌, ◌≢◌, ℕ, List, [], ◌∷◌, ◌++◌, None, Some, length, codes, refl, sym, ap, subst, inl, inr, arith, Lacks, IsSplit, star, slash, bracket, Normal, Negative}
-use Rattle.gix_refspec_text.proofs.Common.{fetched, pushed, candidates, IsRefPrefix, IsPrefix, of_head, of_name, of_pattern, HasNoPrefix, Expands, to_prefix, to_itself, below_refs, of_object}
-use Rattle.gix_refspec_text.proofs.Common.{to_candidates, IsAsked, HasPrefix, IsExpansion, same_Some}
-use Rattle.gix_refspec_text.proofs.lemmas.hits.MatchLemmas.{split_once, outside_none}
+use Rattle.gix_refspec_text.proofs.Common.{◌≡◌, ◌≢◌, ℕ, List, [], ◌∷◌, None, Some, length, codes, refl, sym, ap, subst, inl, inr, arith, IsSplit, star, slash, bracket, Normal, Negative, fetched}
+use Rattle.gix_refspec_text.proofs.Common.{pushed, candidates, IsRefPrefix, IsPrefix, of_head, of_name, of_pattern, HasNoPrefix, Expands, to_prefix, to_itself, below_refs, of_object, to_candidates}
+use Rattle.gix_refspec_text.proofs.Common.{IsAsked, HasPrefix, IsExpansion, same_Some}
+use Rattle.gix_refspec_text.proofs.lemmas.hits.MatchLemmas.{outside_none}
 use Rattle.gix_refspec_text.proofs.lemmas.prefixes.OnePrefixLemmas.{one_prefix}
 use Rattle.gix_refspec_text.proofs.facts.ManualFacts.{Lacks-tested, other_length, none_some}
 use Rattle.gix_refspec_text.proofs.facts.FaultFacts.{begins_not}
@@ -10,7 +10,7 @@ use Rattle.gix_refspec_text.proofs.facts.ObjectIdFacts.{empty_blob, IsIdText-emp
 use Rattle.gix_refspec_text.proofs.facts.FitFacts.{split_at_end, other_byte, every, no_dev, short_kind, blob_kind}
 use Rattle.gix_refspec_text.proofs.facts.CoveringFacts.{below_heads, no_bare_prefix}
 use Rattle.gix_refspec_text.proofs.lemmas.lists.LacksLemmas.{Lacks-here}
-use Rattle.gix_refspec_text.proofs.lemmas.prefixes.PrefixLemmas.{starred_no_id}
+use Rattle.gix_refspec_text.proofs.lemmas.prefixes.PrefixLemmas.{no_prefix, starred_no_id}
 
 -- `HEAD` and a full name are their own prefix
 pub whole_prefixes : IsPrefix (codes "HEAD") (codes "HEAD") × IsPrefix (codes "refs/a]b") (codes "refs/a]b")
@@ -36,17 +36,12 @@ suffix_split = record { starred = refl; first = Lacks-tested star (codes "refs/a
 
 -- a pattern with its star right after `refs/`, or with a bracket, has none
 pub no_prefixes : HasNoPrefix (codes "refs/*") × HasNoPrefix (codes "refs/a]*") × HasNoPrefix (codes "refs/a*/]") × HasNoPrefix (codes "heads/*")
-no_prefixes = (no_bare_prefix, before_star, after_star, outside_none (codes "heads/*") (other_length _ _ (λ size. omega (arith, size))) (λ begins. other_byte 0 (codes "heads/*") (codes "refs/" ++ begins.after) (λ byte. omega (arith, byte)) begins.here))
-  where
-    before_star : HasNoPrefix (codes "refs/a]*")
-    before_star p (of_head is_head same) = other_length _ _ (λ size. omega (arith, size)) is_head
-    before_star p (of_name begins lacks same) = Lacks-here star (codes "refs/a]") [] lacks
-    before_star p (of_pattern before after split tells same) = Lacks-here bracket (codes "refs/a") [] (subst (Lacks bracket) ((split_once (codes "refs/a]*") before after (codes "refs/a]") [] split bracket_split).0) tells.first)
-
-    after_star : HasNoPrefix (codes "refs/a*/]")
-    after_star p (of_head is_head same) = other_length _ _ (λ size. omega (arith, size)) is_head
-    after_star p (of_name begins lacks same) = Lacks-here star (codes "refs/a") (codes "/]") lacks
-    after_star p (of_pattern before after split tells same) = Lacks-here bracket (codes "/") [] (subst (Lacks bracket) ((split_once (codes "refs/a*/]") before after (codes "refs/a") (codes "/]") split suffix_split).1) tells.last)
+no_prefixes = (
+  no_bare_prefix,
+  no_prefix (codes "refs/a]*") (codes "refs/a]") [] bracket_split (tells.1 []).2,
+  no_prefix (codes "refs/a*/]") (codes "refs/a") (codes "/]") suffix_split tells.2,
+  outside_none (codes "heads/*") (other_length _ _ (λ size. omega (arith, size))) (begins_not (codes "refs/") (codes "heads/*") refl),
+)
 
 -- without a prefix, a side with one component after `refs/` is expanded to itself, and with a further slash to
 -- nothing

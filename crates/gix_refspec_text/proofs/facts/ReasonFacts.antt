@@ -3,7 +3,7 @@ use Rattle.gix_refspec_text.proofs.Common.{◌≡◌, ◌≢◌, ◌≤◌, ℕ,
 use Rattle.gix_refspec_text.proofs.Common.{length-replicate, AllPass-from_list_all, LockSuffix, RepeatedDot, Asterisk, NoName, Operation, Push, Fetch, IsName, HasStar, HasFault, HasOneStar, IsSplit}
 use Rattle.gix_refspec_text.proofs.Common.{IsPatternFault, star, letter, Normal, Forced, Negative, LooksLikeObjectHash, Refusal, NegativeWithDestination, PushToEmpty, PatternUnsupported}
 use Rattle.gix_refspec_text.proofs.Common.{ReferenceName, PatternUnbalanced, NegativeEmpty, NegativeObjectHash, IsBadName, IsBadPattern, IsEmptyPush, HasNegativeDestination, PushesNowhere}
-use Rattle.gix_refspec_text.proofs.Common.{IsBadSourceFor, HasBadSource, HasBadDestination, IsOneStarred, IsUnbalanced, ExcludesNothing, ExcludesObject, Never, OrElse, IsFirstReason, same_Some}
+use Rattle.gix_refspec_text.proofs.Common.{IsBadSourceFor, HasBadSource, HasBadDestination, IsOneStarred, IsUnbalanced, ExcludesNothing, ExcludesObject, Never, OrElse, IsFirstReason, same_Some, Plain}
 use Rattle.gix_refspec_text.specs.declared.name.PatternError.TheVariants.{Name}
 use Rattle.gix_refspec_text.specs.Specs.Refusal.{Empty}
 use Rattle.gix_refspec_text.proofs.lemmas.texts.TextLemmas.{Lacks-ContainsText, one_not_two}
@@ -12,6 +12,7 @@ use Rattle.gix_refspec_text.proofs.facts.ManualFacts.{Lacks-tested, full, none_s
 use Rattle.gix_refspec_text.proofs.facts.FaultFacts.{holds_not}
 use Rattle.gix_refspec_text.proofs.facts.RefusalFacts.{replaces_star, locked, normal_positive}
 use Rattle.gix_refspec_text.proofs.lemmas.lists.LacksLemmas.{Lacks-here}
+use Rattle.gix_refspec_text.proofs.lemmas.parsing.ReasonLemmas.{reason_against_nothing, reason_against_object}
 
 -- ---- stars
 
@@ -152,7 +153,4 @@ or_else = (
 
 -- the last reasons follow all others
 pub last_reasons : IsFirstReason Fetch Negative [] None NegativeEmpty × (IsName (replicate 40 letter) → IsFirstReason Push Negative (replicate 40 letter) None NegativeObjectHash)
-last_reasons = (
-  inr ((λ e is. let same = is.push in cc), inr ((λ e is. false≢true is.colon), inr ((λ e is. let same = is.push in cc), inr ((λ e is. is.source refl), inr ((λ e is. none_some is.word is.is), inr ((λ e is. is.positive), inl excludes_nothing.0)))))),
-  λ is_name. inr ((λ e is. let same = is.unsigned in cc), inr ((λ e is. false≢true is.colon), inr ((λ e is. none_some [] is.nowhere), inr ((λ e is. name_not_bad (replicate 40 letter) is_name e is.refusal), inr ((λ e is. none_some is.word is.is), inr ((λ e is. is.positive), or_else.1)))))),
-)
+last_reasons = (reason_against_nothing Fetch [] Plain refl tt, λ is_name. reason_against_object Push (replicate 40 letter) Plain (full _ _) is_name hash)

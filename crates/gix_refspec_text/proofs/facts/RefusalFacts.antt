@@ -1,14 +1,15 @@
 -- The order of refusals: texts with two reasons, of which the first in the order is returned, and the other
 -- isn't.
 use Rattle.gix_refspec_text.proofs.Common.{◌≢◌, ℕ, List, [], Option, None, Some, codes, refl, inl, inr, arith, replicate, length-replicate, LockSuffix, Operation, Push, Fetch, ReplacesStar, HasFault}
-use Rattle.gix_refspec_text.proofs.Common.{HasSeveralStars, slash, letter, Normal, Forced, Negative, LooksLikeObjectHash, Refusal, NegativeWithDestination, PushToEmpty, PatternUnsupported}
-use Rattle.gix_refspec_text.proofs.Common.{ReferenceName, PatternUnbalanced, Never, IsEmptyPush, HasNegativeDestination, PushesNowhere, HasBadSource, HasBadDestination, IsUnbalanced, IsFirstReason}
-use Rattle.gix_refspec_text.proofs.Common.{same_Some}
+use Rattle.gix_refspec_text.proofs.Common.{slash, letter, Normal, Forced, Negative, LooksLikeObjectHash, Refusal, NegativeWithDestination, PushToEmpty, PatternUnsupported, ReferenceName}
+use Rattle.gix_refspec_text.proofs.Common.{PatternUnbalanced, Never, IsEmptyPush, HasBadSource, HasBadDestination, IsUnbalanced, IsFirstReason, ◌≡◌, Mode, IsSameReason}
 use Rattle.gix_refspec_text.specs.Specs.Refusal.{Empty}
 use Rattle.gix_refspec_text.proofs.lemmas.texts.TestedLemmas.{IsName-tested}
 use Rattle.gix_refspec_text.proofs.lemmas.parsing.SideLemmas.{name_not_bad}
 use Rattle.gix_refspec_text.proofs.facts.ManualFacts.{Lacks-tested, ReplacesStar-tested, full}
 use Rattle.gix_refspec_text.proofs.facts.FitFacts.{other_byte}
+use Rattle.gix_refspec_text.proofs.lemmas.parsing.RefusalLemmas.{Agree-first}
+use Rattle.gix_refspec_text.proofs.lemmas.parsing.ReasonLemmas.{fetch_reaches, reason_at_source, reason_at_destination}
 
 pub normal_positive : Normal ≢ Negative
 normal_positive same = cc
@@ -17,80 +18,37 @@ normal_positive same = cc
 pub empty_push : IsFirstReason Push Normal [] None Empty × ((e : Refusal) → ¬ (IsEmptyPush Push Forced [] None e)) × ((e : Refusal) → ¬ (IsEmptyPush Fetch Normal [] None e))
 empty_push = (inl (record { push = refl; unsigned = refl; no_source = refl; no_colon = refl; refusal = refl }), (λ e is. let same = is.unsigned in cc), (λ e is. let same = is.push in cc))
 
+-- no other reason is the first
+other_reason : (op : Operation) (m : Mode) (s : List ℕ) (d : Option (List ℕ)) (e f : Refusal) → IsFirstReason op m s d e → ¬ (IsSameReason e f) → ¬ (IsFirstReason op m s d f)
+other_reason op m s d e f first differ second = differ (Agree-first op m s d e f first second)
+
 -- push `^a:`
 pub negative_before_nowhere : IsFirstReason Push Negative (codes "a") (Some []) NegativeWithDestination × ¬ (IsFirstReason Push Negative (codes "a") (Some []) PushToEmpty)
-negative_before_nowhere = (
-  inr (no_empty, inl (record { negative = refl; colon = refl; refusal = refl })),
-  not_nowhere,
-)
+negative_before_nowhere = (first, other_reason Push Negative (codes "a") (Some []) NegativeWithDestination PushToEmpty first (λ same. elim same [ inl is ↦ cc | inr names ↦ let is = names.2 in cc ]))
   where
-    no_empty : Never (IsEmptyPush Push Negative (codes "a") (Some []))
-    no_empty e empty = full 97 [] empty.no_source
-
-    not_nowhere : ¬ (IsFirstReason Push Negative (codes "a") (Some []) PushToEmpty)
-    not_nowhere (inl is) = no_empty PushToEmpty is
-    not_nowhere (inr (_, inl is)) = let same = is.refusal in cc
-    not_nowhere (inr (_, inr (never, _))) = never NegativeWithDestination (record { negative = refl; colon = refl; refusal = refl })
-
--- two stars in `a*b*`
-stars : HasSeveralStars (codes "a*b*")
-stars = record { before = codes "a"; between = codes "b"; after = []; here = refl }
-
-no_empty_stars : (op : Operation) (d : Option (List ℕ)) → Never (IsEmptyPush op Normal (codes "a*b*") d)
-no_empty_stars op d e empty = full 97 (codes "*b*") empty.no_source
-
-no_negative : (d : Option (List ℕ)) → Never (HasNegativeDestination Normal d)
-no_negative d e negative = normal_positive negative.negative
+    first : IsFirstReason Push Negative (codes "a") (Some []) NegativeWithDestination
+    first = inr ((λ e empty. full _ _ empty.no_source), inl (record { negative = refl; colon = refl; refusal = refl }))
 
 -- push `a*b*:`
 pub nowhere_before_source : IsFirstReason Push Normal (codes "a*b*") (Some []) PushToEmpty × ¬ (IsFirstReason Push Normal (codes "a*b*") (Some []) (PatternUnsupported (codes "a*b*")))
-nowhere_before_source = (
-  inr (no_empty_stars Push (Some []), inr (no_negative (Some []), inl nowhere)),
-  not_source,
-)
+nowhere_before_source = (first, other_reason Push Normal (codes "a*b*") (Some []) PushToEmpty (PatternUnsupported (codes "a*b*")) first (λ same. elim same [ inl is ↦ cc | inr names ↦ let is = names.2 in cc ]))
   where
-    nowhere : PushesNowhere Push (codes "a*b*") (Some []) PushToEmpty
-    nowhere = record { push = refl; source = full _ _; nowhere = refl; refusal = refl }
-
-    not_source : ¬ (IsFirstReason Push Normal (codes "a*b*") (Some []) (PatternUnsupported (codes "a*b*")))
-    not_source (inl is) = no_empty_stars Push (Some []) (PatternUnsupported (codes "a*b*")) is
-    not_source (inr (_, inl is)) = no_negative (Some []) (PatternUnsupported (codes "a*b*")) is
-    not_source (inr (_, inr (_, inl is))) = let same = is.refusal in cc
-    not_source (inr (_, inr (_, inr (never, _)))) = never PushToEmpty nowhere
+    first : IsFirstReason Push Normal (codes "a*b*") (Some []) PushToEmpty
+    first = inr ((λ e empty. full _ _ empty.no_source), inr ((λ e negative. normal_positive negative.negative), inl (record { push = refl; source = full _ _; nowhere = refl; refusal = refl })))
 
 -- fetch `a*b*:c*d*`
 pub source_before_destination : IsFirstReason Fetch Normal (codes "a*b*") (Some (codes "c*d*")) (PatternUnsupported (codes "a*b*")) × ¬ (IsFirstReason Fetch Normal (codes "a*b*") (Some (codes "c*d*")) (PatternUnsupported (codes "c*d*")))
-source_before_destination = (
-  inr (no_empty_stars Fetch (Some (codes "c*d*")), inr (no_negative (Some (codes "c*d*")), inr (no_nowhere, inl bad))),
-  not_destination,
-)
+source_before_destination = (first, other_reason Fetch Normal (codes "a*b*") (Some (codes "c*d*")) (PatternUnsupported (codes "a*b*")) (PatternUnsupported (codes "c*d*")) first differ)
   where
-    no_nowhere : Never (PushesNowhere Fetch (codes "a*b*") (Some (codes "c*d*")))
-    no_nowhere e nowhere = full 99 (codes "*d*") (same_Some (codes "c*d*") [] nowhere.nowhere)
+    first : IsFirstReason Fetch Normal (codes "a*b*") (Some (codes "c*d*")) (PatternUnsupported (codes "a*b*"))
+    first = reason_at_source Fetch Normal (codes "a*b*") (Some (codes "c*d*")) (PatternUnsupported (codes "a*b*")) (fetch_reaches Normal (codes "a*b*") (Some (codes "c*d*")) tt)
+        (record { source = full _ _; refusal = inr (record { before = codes "a"; between = codes "b"; after = []; here = refl }, refl) })
 
-    bad : HasBadSource Fetch (codes "a*b*") (Some (codes "c*d*")) (PatternUnsupported (codes "a*b*"))
-    bad = record { source = full _ _; refusal = inr (stars, refl) }
-
-    not_other : ¬ (HasBadSource Fetch (codes "a*b*") (Some (codes "c*d*")) (PatternUnsupported (codes "c*d*")))
-    not_other is = elim is.refusal [
-      | inl name ↦ absurd name
-      | inr both ↦ other_byte 0 (codes "c*d*") (codes "a*b*") (λ same. omega (arith, same)) both.1
-    ]
-
-    not_destination : ¬ (IsFirstReason Fetch Normal (codes "a*b*") (Some (codes "c*d*")) (PatternUnsupported (codes "c*d*")))
-    not_destination (inl is) = no_empty_stars Fetch (Some (codes "c*d*")) (PatternUnsupported (codes "c*d*")) is
-    not_destination (inr (_, inl is)) = no_negative (Some (codes "c*d*")) (PatternUnsupported (codes "c*d*")) is
-    not_destination (inr (_, inr (_, inl is))) = no_nowhere (PatternUnsupported (codes "c*d*")) is
-    not_destination (inr (_, inr (_, inr (_, inl is)))) = not_other is
-    not_destination (inr (_, inr (_, inr (_, inr (never, _))))) = never (PatternUnsupported (codes "a*b*")) bad
+    differ : ¬ (IsSameReason (PatternUnsupported (codes "a*b*")) (PatternUnsupported (codes "c*d*")))
+    differ (inl is) = let same : codes "a*b*" ≡ codes "c*d*" = cc in other_byte 0 (codes "a*b*") (codes "c*d*") (λ byte. omega (arith, byte)) same
+    differ (inr names) = let is = names.2 in cc
 
 -- fetch `a:b*.lock`
-no_empty_a : Never (IsEmptyPush Fetch Normal (codes "a") (Some (codes "b*.lock")))
-no_empty_a e empty = full 97 [] empty.no_source
-
-no_nowhere_lock : Never (PushesNowhere Fetch (codes "a") (Some (codes "b*.lock")))
-no_nowhere_lock e nowhere = full 98 (codes "*.lock") (same_Some (codes "b*.lock") [] nowhere.nowhere)
-
 no_bad_name : Never (HasBadSource Fetch (codes "a") (Some (codes "b*.lock")))
 no_bad_name e is = name_not_bad (codes "a") (IsName-tested (codes "a") refl) e is.refusal
 
@@ -104,15 +62,10 @@ pub bad_destination : HasBadDestination (Some (codes "b*.lock")) (ReferenceName 
 bad_destination = record { word = codes "b*.lock"; is = refl; destination = full _ _; refusal = inr (codes "ba.lock", replaces_star, locked) }
 
 pub destination_before_balance : IsFirstReason Fetch Normal (codes "a") (Some (codes "b*.lock")) (ReferenceName LockSuffix)
-destination_before_balance = inr (no_empty_a, inr (no_negative (Some (codes "b*.lock")), inr (no_nowhere_lock, inr (no_bad_name, inl bad_destination))))
+destination_before_balance = reason_at_destination Fetch Normal (codes "a") (Some (codes "b*.lock")) (ReferenceName LockSuffix) (fetch_reaches Normal (codes "a") (Some (codes "b*.lock")) tt) no_bad_name bad_destination
 
 pub not_unbalanced : ¬ (IsFirstReason Fetch Normal (codes "a") (Some (codes "b*.lock")) PatternUnbalanced)
-not_unbalanced (inl is) = no_empty_a PatternUnbalanced is
-not_unbalanced (inr (_, inl is)) = no_negative (Some (codes "b*.lock")) PatternUnbalanced is
-not_unbalanced (inr (_, inr (_, inl is))) = no_nowhere_lock PatternUnbalanced is
-not_unbalanced (inr (_, inr (_, inr (_, inl is)))) = no_bad_name PatternUnbalanced is
-not_unbalanced (inr (_, inr (_, inr (_, inr (_, inl is))))) = elim is.refusal [ inl none ↦ none | inr none ↦ none ]
-not_unbalanced (inr (_, inr (_, inr (_, inr (_, inr (never, _)))))) = never (ReferenceName LockSuffix) bad_destination
+not_unbalanced = other_reason Fetch Normal (codes "a") (Some (codes "b*.lock")) (ReferenceName LockSuffix) PatternUnbalanced destination_before_balance (λ same. elim same [ inl is ↦ cc | inr names ↦ let is = names.3 in cc ])
 
 -- a source alone with a star is unbalanced in a fetch, but not in a push, nor is a negative spec
 pub unbalanced : IsUnbalanced Fetch Normal (codes "a*") None PatternUnbalanced × ((e : Refusal) → ¬ (IsUnbalanced Push Normal (codes "a*") None e)) × ((e : Refusal) → ¬ (IsUnbalanced Fetch Negative (codes "a*") None e))

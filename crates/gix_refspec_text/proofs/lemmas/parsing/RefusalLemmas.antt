@@ -50,7 +50,7 @@ Agree-destination d e f a b =
     Agree-side a.word e f a.refusal (subst (λ (x : List ℕ). IsBadName x f ⊎ IsBadPattern x f) word b.refusal)
 
 -- only one reason is the first that applies to parts
-Agree-first : (op : Operation) (mode : Mode) (s : List ℕ) (d : Option (List ℕ)) → Agree (IsFirstReason op mode s d)
+pub Agree-first : (op : Operation) (mode : Mode) (s : List ℕ) (d : Option (List ℕ)) → Agree (IsFirstReason op mode s d)
 Agree-first op mode s d =
     Agree-or (λ e f a b. inl (a.refusal ∙ sym b.refusal))
     (Agree-or (λ e f a b. inl (a.refusal ∙ sym b.refusal))

@@ -123,9 +123,6 @@ slash_kept = (((λ e. omega (arith, e)), tt), refl)
 dot_kept : IsKept (codes ".")
 dot_kept = (((λ e. omega (arith, e)), tt), refl)
 
-at_kept : IsKept (codes "@")
-at_kept = (((λ e. omega (arith, e)), tt), refl)
-
 lock_kept : IsKept (codes ".lock")
 lock_kept = (((λ e. omega (arith, e)), ((λ e. omega (arith, e)), ((λ e. omega (arith, e)), ((λ e. omega (arith, e)), ((λ e. omega (arith, e)), tt))))), refl)
 
@@ -149,7 +146,7 @@ AddsFault-as x y b ends EmptyComponent fault = (fault.0, ends (codes "/") slash_
 AddsFault-as x y b ends StartsWithDot fault = (fault.0, ends (codes "/") slash_kept fault.1)
 AddsFault-as x y b ends LockSuffix fault = (fault.0, ends (codes ".lock") lock_kept fault.1)
 AddsFault-as x y b ends RepeatedDot fault = (fault.0, ends (codes ".") dot_kept fault.1)
-AddsFault-as x y b ends ReflogPortion fault = (fault.0, ends (codes "@") at_kept fault.1)
+AddsFault-as x y b ends ReflogPortion fault = (fault.0, ends (codes "@") (((λ e. omega (arith, e)), tt), refl) fault.1)
 AddsFault-as x y b ends _ fault = fault
 
 -- and the same faults are left at their ends
