@@ -4,8 +4,8 @@ use Rattle.gix_refspec_text.proofs.Common.{length-replicate, AllPass-from_list_a
 use Rattle.gix_refspec_text.proofs.Common.{IsPatternFault, star, letter, Normal, Forced, Negative, LooksLikeObjectHash, Refusal, NegativeWithDestination, PushToEmpty, PatternUnsupported}
 use Rattle.gix_refspec_text.proofs.Common.{ReferenceName, PatternUnbalanced, NegativeEmpty, NegativeObjectHash, IsBadName, IsBadPattern, IsEmptyPush, HasNegativeDestination, PushesNowhere}
 use Rattle.gix_refspec_text.proofs.Common.{IsBadSourceFor, HasBadSource, HasBadDestination, IsOneStarred, IsUnbalanced, ExcludesNothing, ExcludesObject, Never, OrElse, IsFirstReason, same_Some, Plain}
+use Rattle.gix_refspec_text.proofs.Common.{Empty}
 use Rattle.gix_refspec_text.specs.declared.name.PatternError.TheVariants.{Name}
-use Rattle.gix_refspec_text.specs.Specs.Refusal.{Empty}
 use Rattle.gix_refspec_text.proofs.lemmas.texts.TextLemmas.{Lacks-ContainsText, one_not_two}
 use Rattle.gix_refspec_text.proofs.lemmas.parsing.SideLemmas.{name_not_bad, replaced_once, HasStar-replaced, HasStar-bad}
 use Rattle.gix_refspec_text.proofs.facts.ManualFacts.{Lacks-tested, full, none_some, some_none}

@@ -2,8 +2,7 @@
 -- isn't.
 use Rattle.gix_refspec_text.proofs.Common.{◌≢◌, ℕ, List, [], Option, None, Some, codes, refl, inl, inr, arith, replicate, length-replicate, LockSuffix, Operation, Push, Fetch, ReplacesStar, HasFault}
 use Rattle.gix_refspec_text.proofs.Common.{slash, letter, Normal, Forced, Negative, LooksLikeObjectHash, Refusal, NegativeWithDestination, PushToEmpty, PatternUnsupported, ReferenceName}
-use Rattle.gix_refspec_text.proofs.Common.{PatternUnbalanced, Never, IsEmptyPush, HasBadSource, HasBadDestination, IsUnbalanced, IsFirstReason, ◌≡◌, Mode, IsSameReason}
-use Rattle.gix_refspec_text.specs.Specs.Refusal.{Empty}
+use Rattle.gix_refspec_text.proofs.Common.{PatternUnbalanced, Never, IsEmptyPush, HasBadSource, HasBadDestination, IsUnbalanced, IsFirstReason, ◌≡◌, Mode, IsSameReason, Empty}
 use Rattle.gix_refspec_text.proofs.lemmas.texts.TestedLemmas.{IsName-tested}
 use Rattle.gix_refspec_text.proofs.lemmas.parsing.SideLemmas.{name_not_bad}
 use Rattle.gix_refspec_text.proofs.facts.ManualFacts.{Lacks-tested, ReplacesStar-tested, full}

@@ -3,8 +3,7 @@
 use Rattle.gix_refspec_text.proofs.Common.{◌≡◌, ◌⊎◌, ℕ, ◌==◌, false, List, [], ◌∷◌, Option, None, Some, unwrap_or, codes, refl, sym, ◌∙◌, inl, inr, replicate, list_any, Operation, Push, Fetch, star}
 use Rattle.gix_refspec_text.proofs.Common.{letter, caret, colon, Mode, Normal, Forced, Negative, Reading, with_colon, IsPositive, fetched, pushed, Reads, IsAccepted, StartsWithDot, InvalidByte, Plain}
 use Rattle.gix_refspec_text.proofs.Common.{Pattern, printed, Refusal, NegativeWithDestination, PushToEmpty, PatternUnsupported, ReferenceName, PatternUnbalanced, NegativeEmpty, NegativeObjectHash}
-use Rattle.gix_refspec_text.proofs.Common.{IsBadName, IsBadPattern, HasBadDestination, IsFirstReason, IsRefused}
-use Rattle.gix_refspec_text.specs.Specs.Refusal.{Empty}
+use Rattle.gix_refspec_text.proofs.Common.{IsBadName, IsBadPattern, HasBadDestination, IsFirstReason, IsRefused, Empty}
 use Rattle.gix_refspec_text.proofs.lemmas.parsing.ReasonLemmas.{no_negative, fetch_reaches, push_reaches, push_alone_reaches, negative_reaches, reason_at_source, reason_at_destination}
 use Rattle.gix_refspec_text.proofs.lemmas.parsing.ReasonLemmas.{reason_against_object, reason_against_nothing, fetch_source_fine, push_source_fine, unbalanced_fetch, unbalanced_push, bad_negative}
 use Rattle.gix_refspec_text.proofs.lemmas.parsing.ReadsLemmas.{refused}

@@ -4,14 +4,13 @@ use Rattle.gix_refspec_text.proofs.Common.{Option, ◌≡◌, ◌≢◌, ℕ, su
 use Rattle.gix_refspec_text.proofs.Common.{arith, bstring_bytes, LockSuffix, RepeatedDot, Digit, Length, Sha1, ObjectId, Operation, Push, Fetch, fault_name, Normal, Forced, Negative, fetched, pushed}
 use Rattle.gix_refspec_text.proofs.Common.{fetch_only, meaning_of, text_of, WritesPrinted, keys, NegativeWithDestination, PushToEmpty, PatternUnsupported, ReferenceName, PatternUnbalanced}
 use Rattle.gix_refspec_text.proofs.Common.{NegativeEmpty, NegativeObjectHash, IsFirstReason, reading_of, owned_reading_of, key_of_spec, key_of_owned, meaning_of_instruction, meant_for, IsShownAs}
-use Rattle.gix_refspec_text.proofs.Common.{ShowsRefusal, AppendsExpansion, to_prefix}
+use Rattle.gix_refspec_text.proofs.Common.{ShowsRefusal, AppendsExpansion, to_prefix, Empty}
 use Rattle.bstr.specs.declared.bstr.BStr.{BStr}
 use Rattle.bstr.specs.declared.bstring.BString.{BString}
 use Rattle.gix_refspec_text.specs.declared.spec.RefSpec.{RefSpec, accepted-type as owned-type}
 use Rattle.gix_refspec_text.specs.declared.spec.RefSpecRef.{RefSpecRef, accepted-type}
 use Rattle.gix_refspec_text.specs.declared.types.Instruction.{Instruction}
 use Rattle.gix_refspec_text.specs.declared.types.Mode.{Mode}
-use Rattle.gix_refspec_text.specs.Specs.Refusal.{Empty}
 use Rattle.gix_refspec_text.specs.Views.Errors.{IsSameError}
 use Rattle.gix_refspec_text.specs.declared.instruction.Fetch.TheVariants as fetch
 use Rattle.gix_refspec_text.specs.declared.instruction.Push.TheVariants as push

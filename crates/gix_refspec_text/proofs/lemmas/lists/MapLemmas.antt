@@ -1,5 +1,5 @@
 -- Lists that a function is mapped over.
-use Rattle.gix_refspec_text.proofs.Common.{◌≡◌, ℕ, zero, suc, ◌+◌, ◌<◌, map, take, get_or, List, [], ◌∷◌, ◌++◌, length, sym, ap, ◌∙◌, subst, arith, AllByRecursion, map_more}
+use Rattle.gix_refspec_text.proofs.Common.{◌≡◌, ℕ, zero, suc, ◌+◌, ◌<◌, map, take, get_or, List, [], ◌∷◌, ◌++◌, length, sym, ap, ◌∙◌, subst, arith, AllByRecursion, map_more, add-one}
 
 -- the first i + 1 mapped elements are the first i and the next one
 pub map_next : {A B : Type 0} (f : A → B) (xs : List A) (i : ℕ) (x : A) → i < length xs → x ≡ get_or xs i x → map f (take (i + 1) xs) ≡ map f (take i xs) ++ f x ∷ []
@@ -18,6 +18,4 @@ one_more_suc f P (y ∷ xs) (suc k) x all below is holds = (all.0, one_more_suc 
 
 -- if P holds for the first k values of f and for the next, it holds for the first k + 1
 pub one_more_mapped : {A B : Type 0} (f : A → B) (P : B → Type 0) (xs : List A) (k : ℕ) (x : A) → AllByRecursion P (map f (take k xs)) → k < length xs → x ≡ get_or xs k x → P (f x) → AllByRecursion P (map f (take (k + 1) xs))
-one_more_mapped f P xs k x all below is holds =
-    let same : suc k ≡ k + 1 = omega arith in
-    subst (λ (j : ℕ). AllByRecursion P (map f (take j xs))) same (one_more_suc f P xs k x all below is holds)
+one_more_mapped f P xs k x all below is holds = rw add-one (one_more_suc f P xs k x all below is holds)

@@ -8,7 +8,6 @@ use Rattle.gix_refspec_text.proofs.Common.{PatternUnbalanced, NegativeEmpty, Neg
 use Rattle.gix_refspec_text.proofs.Common.{AreParts, LooksLikeObjectHash, Reads, fetched, pushed, HasShape, HasCheckedShape, IsBadSide, side_of, named_or_head, list_all, ◌&&◌, and_parts, and_from}
 use Rattle.gix_refspec_text.proofs.Common.{AllPass-from_list_all, list_all-from_AllPass}
 use Rattle.gix_refspec_text.proofs.lemmas.texts.NameLemmas.{IsClean-more, IsClean-start, HasFault-added, HasFault-left, IsName-from_clean, end_leaves}
-use Rattle.gix_refspec_text.specs.Specs.Refusal.{Empty}
 use Rattle.gix_refspec_text.proofs.lemmas.parsing.PartsLemmas.{Parted}
 use Rattle.gix_refspec_text.proofs.lemmas.parsing.ReasonLemmas.{fetch_reaches, push_reaches, push_alone_reaches, negative_reaches, reason_at_source, reason_at_destination, reason_against_object}
 use Rattle.gix_refspec_text.proofs.lemmas.parsing.ReasonLemmas.{reason_against_nothing, fetch_source_fine, push_source_fine, bad_destination, bad_source_of_push, unbalanced_fetch, unbalanced_push}

@@ -1,6 +1,6 @@
 -- A text has only one sign, source and destination.
-use Rattle.gix_refspec_text.proofs.Common.{◌≡◌, ◌≢◌, ℕ, List, ◌∷◌, Option, None, Some, refl, sym, ap, ◌∙◌, subst, arith, Lacks, Mode, Normal, Forced, Negative, plus, caret, colon, IsUnsigned}
-use Rattle.gix_refspec_text.proofs.Common.{IsSigned, with_colon, LastLacksColon, AreParts}
+use Rattle.gix_refspec_text.proofs.Common.{◌≡◌, ℕ, List, Option, None, Some, refl, sym, ap, ◌∙◌, subst, arith, Lacks, Mode, Normal, Forced, Negative, plus, caret, colon, IsUnsigned, IsSigned}
+use Rattle.gix_refspec_text.proofs.Common.{with_colon, LastLacksColon, AreParts}
 use Rattle.gix_refspec_text.proofs.lemmas.lists.LacksLemmas.{Lacks-here, last_once}
 
 -- a text with its parts
@@ -10,23 +10,15 @@ pub record Parted (text : List ℕ) : Type 0 where
   pub destination : Option (List ℕ)
   pub parts : AreParts mode source destination text
 
--- a text that begins with a sign isn't unsigned
-signed_not_unsigned : (r s : List ℕ) (b : ℕ) → r ≡ b ∷ s → IsUnsigned r → (b ≢ plus) × (b ≢ caret)
-signed_not_unsigned r s b same unsigned = subst IsUnsigned same unsigned
-
--- lists that are equal have equal heads
-heads : (b c : ℕ) (r s : List ℕ) → b ∷ r ≡ c ∷ s → b ≡ c
-heads b c r s same = cc
-
 pub signed_once : (m n : Mode) (text r s : List ℕ) → IsSigned m text r → IsSigned n text s → (m ≡ n) × (r ≡ s)
 signed_once Normal Normal text r s a b = (refl, sym a.0 ∙ b.0)
-signed_once Normal Forced text r s a b = absurd ((signed_not_unsigned r s plus (sym a.0 ∙ b) a.1).0 refl)
-signed_once Normal Negative text r s a b = absurd ((signed_not_unsigned r s caret (sym a.0 ∙ b) a.1).1 refl)
-signed_once Forced Normal text r s a b = absurd ((signed_not_unsigned s r plus (sym b.0 ∙ a) b.1).0 refl)
+signed_once Normal Forced text r s a b = absurd ((subst IsUnsigned (sym a.0 ∙ b) a.1).0 refl)
+signed_once Normal Negative text r s a b = absurd ((subst IsUnsigned (sym a.0 ∙ b) a.1).1 refl)
+signed_once Forced Normal text r s a b = absurd ((subst IsUnsigned (sym b.0 ∙ a) b.1).0 refl)
 signed_once Forced Forced text r s a b = (refl, cc)
-signed_once Forced Negative text r s a b = absurd (omega (arith, heads plus caret r s (sym a ∙ b)))
-signed_once Negative Normal text r s a b = absurd ((signed_not_unsigned s r caret (sym b.0 ∙ a) b.1).1 refl)
-signed_once Negative Forced text r s a b = absurd (omega (arith, heads caret plus r s (sym a ∙ b)))
+signed_once Forced Negative text r s a b = let heads : plus ≡ caret = cc in absurd (omega (arith, heads))
+signed_once Negative Normal text r s a b = absurd ((subst IsUnsigned (sym b.0 ∙ a) b.1).1 refl)
+signed_once Negative Forced text r s a b = let heads : caret ≡ plus = cc in absurd (omega (arith, heads))
 signed_once Negative Negative text r s a b = (refl, cc)
 
 pub split_once : (s t : List ℕ) (d e : Option (List ℕ)) → LastLacksColon s d → LastLacksColon t e → with_colon s d ≡ with_colon t e → (s ≡ t) × (d ≡ e)

@@ -3,7 +3,7 @@ use Rattle.gix_refspec_text.proofs.Common.{◌≡◌, ◌≢◌, ◌⊎◌, inl,
 use Rattle.gix_refspec_text.proofs.Common.{named_by, AreAlike, AreParts, fetched, pushed, Reads, fetches_nothing_named, fetches_colon, fetches, updates, updates_from_head, fetch_excludes, pushes_plus}
 use Rattle.gix_refspec_text.proofs.Common.{pushes_colon, pushes, deletes, pushes_pattern, pushes_to, push_excludes, side_of, named_or_head}
 use Rattle.gix_refspec_text.proofs.lemmas.parsing.PartsLemmas.{Parted, parts_once}
-use Rattle.gix_refspec_text.proofs.lemmas.parsing.ReadsLemmas.{side_of-named, name_not_empty, pattern_not_empty, either_not_empty}
+use Rattle.gix_refspec_text.proofs.lemmas.parsing.ReadsLemmas.{same_reading, side_of-named, name_not_empty, pattern_not_empty, either_not_empty}
 
 -- the reading made from parts, if they have one
 abbrev pub made : Operation → Mode → List ℕ → Option (List ℕ) → Reading
@@ -36,13 +36,6 @@ alike_full s d (inr patterns) = (pattern_not_empty s patterns.0, pattern_not_emp
 made_for : (op : Operation) (text : List ℕ) (r : Reading) (o : Operation) (m : Mode) (s : List ℕ) (d : Option (List ℕ)) → op ≡ o → AreParts m s d text → r ≡ made o m s d → IsMade op text r
 made_for op text r o m s d same parts is = record { of = record { mode = m; source = s; destination = d; parts = parts }; is = is ∙ sym (ap (λ (x : Operation). made x m s d) same) }
 
--- readings of a fetch, and of a push, with equal sides
-fetched_alike : (m : Mode) (s t : List ℕ) (d e : Option (List ℕ)) → s ≡ t → d ≡ e → fetched m s d ≡ fetched m t e
-fetched_alike m s t d e source destination = cc
-
-pushed_alike : (m : Mode) (s t d e : Option (List ℕ)) → s ≡ t → d ≡ e → pushed m s d ≡ pushed m t e
-pushed_alike m s t d e source destination = cc
-
 made_alone : (op : Operation) (text : List ℕ) (r : Reading) (m : Mode) (s : List ℕ) → op ≡ Fetch → AreParts m s None text ⊎ AreParts m s (Some []) text → s ≢ [] → r ≡ fetched m (named_by s) None → IsMade op text r
 made_alone op text r m s fetch (inl parts) full is = made_for op text r Fetch m s None fetch parts (is ∙ sym (ap (λ (x : List ℕ). fetched m x None) (named_or_head-full s full)))
 made_alone op text r m s fetch (inr parts) full is = made_for op text r Fetch m s (Some []) fetch parts (is ∙ sym (ap (λ (x : List ℕ). fetched m x None) (named_or_head-full s full)))
@@ -54,16 +47,16 @@ is_made op text r (fetches_colon m fetch pos parts is) = made_for op text r Fetc
 is_made op text r (fetches m s fetch pos parts name is) = made_alone op text r m s fetch parts (name_not_empty s name) is
 is_made op text r (updates m s d fetch pos parts alike is) =
     let full = alike_full s d alike in
-    made_for op text r Fetch m s (Some d) fetch parts (is ∙ fetched_alike m _ _ _ _ (sym (named_or_head-full s full.0)) (sym (side_of-full d full.1)))
-is_made op text r (updates_from_head m d fetch pos parts name is) = made_for op text r Fetch m [] (Some d) fetch parts (is ∙ fetched_alike m _ _ _ _ refl (sym (side_of-full d (name_not_empty d name))))
-is_made op text r (fetch_excludes s fetch parts either hash is) = made_for op text r Fetch Negative s None fetch parts (is ∙ fetched_alike Negative _ _ _ _ (sym (named_or_head-full s (either_not_empty s either))) refl)
+    made_for op text r Fetch m s (Some d) fetch parts (is ∙ same_reading Fetch m _ _ _ _ (ap Some (sym (named_or_head-full s full.0))) (sym (side_of-full d full.1)))
+is_made op text r (updates_from_head m d fetch pos parts name is) = made_for op text r Fetch m [] (Some d) fetch parts (is ∙ same_reading Fetch m _ _ _ _ refl (sym (side_of-full d (name_not_empty d name))))
+is_made op text r (fetch_excludes s fetch parts either hash is) = made_for op text r Fetch Negative s None fetch parts (is ∙ same_reading Fetch Negative _ _ _ _ (ap Some (sym (named_or_head-full s (either_not_empty s either)))) refl)
 is_made op text r (pushes_plus push parts is) = made_for op text r Push Forced [] None push parts is
 is_made op text r (pushes_colon m push pos parts is) = made_for op text r Push m [] (Some []) push parts is
-is_made op text r (pushes m s push pos parts either is) = made_for op text r Push m s None push parts (is ∙ pushed_alike m _ _ _ _ (sym (side_of-named_full s (either_not_empty s either))) refl)
-is_made op text r (deletes m d push pos parts name is) = made_for op text r Push m [] (Some d) push parts (is ∙ pushed_alike m _ _ _ _ refl (sym (side_of-full d (name_not_empty d name))))
-is_made op text r (pushes_pattern m s d push pos parts source destination is) = made_for op text r Push m s (Some d) push parts (is ∙ pushed_alike m _ _ _ _ (sym (side_of-named_full s (pattern_not_empty s source))) (sym (side_of-full d (pattern_not_empty d destination))))
-is_made op text r (pushes_to m s d push pos parts full plain name is) = made_for op text r Push m s (Some d) push parts (is ∙ pushed_alike m _ _ _ _ (sym (side_of-named_full s full)) (sym (side_of-full d (name_not_empty d name))))
-is_made op text r (push_excludes s push parts either hash is) = made_for op text r Push Negative s None push parts (is ∙ pushed_alike Negative _ _ _ _ (sym (side_of-named_full s (either_not_empty s either))) refl)
+is_made op text r (pushes m s push pos parts either is) = made_for op text r Push m s None push parts (is ∙ same_reading Push m _ _ _ _ (sym (side_of-named_full s (either_not_empty s either))) refl)
+is_made op text r (deletes m d push pos parts name is) = made_for op text r Push m [] (Some d) push parts (is ∙ same_reading Push m _ _ _ _ refl (sym (side_of-full d (name_not_empty d name))))
+is_made op text r (pushes_pattern m s d push pos parts source destination is) = made_for op text r Push m s (Some d) push parts (is ∙ same_reading Push m _ _ _ _ (sym (side_of-named_full s (pattern_not_empty s source))) (sym (side_of-full d (pattern_not_empty d destination))))
+is_made op text r (pushes_to m s d push pos parts full plain name is) = made_for op text r Push m s (Some d) push parts (is ∙ same_reading Push m _ _ _ _ (sym (side_of-named_full s full)) (sym (side_of-full d (name_not_empty d name))))
+is_made op text r (push_excludes s push parts either hash is) = made_for op text r Push Negative s None push parts (is ∙ same_reading Push Negative _ _ _ _ (sym (side_of-named_full s (either_not_empty s either))) refl)
 
 -- a text has at most one reading
 pub reads_once : (op : Operation) (text : List ℕ) (r q : Reading) → Reads op text r → Reads op text q → r ≡ q

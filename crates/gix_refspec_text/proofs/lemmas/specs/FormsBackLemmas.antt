@@ -177,15 +177,10 @@ back_all m pos =
     (pushes_colon m refl pos (colon_parts m pos) refl)
     (means Push m None None pos)
 
--- a push of s to d
-reads_pair : (m : Mode) (s d text : List ℕ) → IsPositive m → AreParts m s (Some d) text → (IsName s × IsName d) ⊎ (IsPattern s × IsPattern d) → Reads Push text (pushed m (Some (named_by s)) (Some d))
-reads_pair m s d text pos parts (inl names) = pushes_to m s d refl pos parts (name_not_empty s names.0) (Lacks-name s names.0) names.1 refl
-reads_pair m s d text pos parts (inr patterns) = pushes_pattern m s d refl pos parts patterns.0 patterns.1 refl
-
--- the same name or pattern on both sides
-twice : (s : List ℕ) → IsNameOrPattern s → AreAlike s s
-twice s (inl name) = inl (name, name)
-twice s (inr pattern) = inr (pattern, pattern)
+-- a push of a name or a pattern to itself
+reads_twice : (m : Mode) (s text : List ℕ) → IsPositive m → AreParts m s (Some s) text → IsNameOrPattern s → Reads Push text (pushed m (Some (named_by s)) (Some s))
+reads_twice m s text pos parts (inl name) = pushes_to m s s refl pos parts (name_not_empty s name) (Lacks-name s name) name refl
+reads_twice m s text pos parts (inr pattern) = pushes_pattern m s s refl pos parts pattern pattern refl
 
 -- a push of a source alone
 back_alone : (m : Mode) (s text : List ℕ) → IsPositive m → AreParts m s None text → IsNameOrPattern s → IsPrintedBack Push (pushed m (Some (named_by s)) None)
@@ -193,7 +188,7 @@ back_alone m s text pos parts either =
     let t = named_by s in
     let either_t = named_either s either in
     printed_back Push (pushed m (Some t) None) (push_matching t t (is_forced m)) (sign (is_forced m) ++ (t ++ (colon ∷ t))) (pushed m (Some (named_by t)) (Some t)) (means Push m (Some t) None pos) refl
-    (reads_pair m t t _ pos (named_parts m s t None text pos (either_not_empty s either) parts (Lacks-colon_either t either_t)) (twice t either_t))
+    (reads_twice m t _ pos (named_parts m s t None text pos (either_not_empty s either) parts (Lacks-colon_either t either_t)) either_t)
     (means Push m (Some (named_by t)) (Some t) pos ∙ ap (λ (x : List ℕ). Some (push_matching x t (is_forced m))) (named_once s))
 
 -- a push that deletes
