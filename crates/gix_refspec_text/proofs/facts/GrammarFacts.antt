@@ -166,10 +166,7 @@ pushes_without = (
 
 -- all matching branches, as `:` without a sign
 pub pushes_matching : Reads Push (codes "+") (pushed Forced None None) × Reads Push (codes "+:") (pushed Forced None None)
-pushes_matching = (
-  pushes_plus refl (parts Forced [] None refl refl) refl,
-  pushes_colon Forced refl tt (parts Forced [] (Some []) refl refl) refl,
-)
+pushes_matching = (pushes_plus refl (parts Forced [] None refl refl) refl, pushes_colon Forced refl tt (parts Forced [] (Some []) refl refl) refl)
 
 -- a name alone, or a pattern
 pub pushes_alone : Reads Push (codes "main") (pushed Normal (Some (codes "main")) None) × Reads Push (codes "++main") (pushed Forced (Some (codes "+main")) None) × Reads Push (codes "@") (pushed Normal (Some (codes "HEAD")) None) × Reads Push (codes "+refs/heads/*") (pushed Forced (Some (codes "refs/heads/*")) None)

@@ -98,14 +98,8 @@ filled_with_words = (refl, refl, refl, refl, refl)
 -- the sides of what `git clone` writes agree, and so does a source alone
 pub agree : SidesAgree every × SidesAgree short
 agree = (
-  record {
-    each = λ x side. inl (of_every x side);
-    both = λ s d source destination. inl (of_every s (inl source), of_every d (inr destination));
-  },
-  record {
-    each = λ x side. inr (of_short x side);
-    both = λ s d source destination. inr (of_short s (inl source), of_short d (inr destination));
-  },
+  record { each = λ x side. inl (of_every x side); both = λ s d source destination. inl (of_every s (inl source), of_every d (inr destination)) },
+  record { each = λ x side. inr (of_short x side); both = λ s d source destination. inr (of_short s (inl source), of_short d (inr destination)) },
 )
   where
     of_every : (x : List ℕ) → (Some (codes "refs/heads/*") ≡ Some x) ⊎ (Some (codes "refs/remotes/origin/*") ≡ Some x) → HasOneStar x

@@ -150,10 +150,7 @@ checked_by b x Pattern pattern = inl (Pattern, pattern)
 
 pub checked : (x : List ℕ) → Checked x
 checked [] = inl (Plain, tt)
-checked (b ∷ x) = elim (starred (b ∷ x)) [
-  | inl side ↦ checked_by b x side.0 side.1
-  | inr bad ↦ inr (bad.0, ((λ same. cc), inr bad.1))
-]
+checked (b ∷ x) = elim (starred (b ∷ x)) [ inl side ↦ checked_by b x side.0 side.1 | inr bad ↦ inr (bad.0, ((λ same. cc), inr bad.1)) ]
 
 -- two sides have the same shape or not
 decided_side : (j k : Shape) → Decided (j ≡ k)

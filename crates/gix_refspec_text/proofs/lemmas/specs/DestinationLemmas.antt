@@ -67,12 +67,8 @@ read_alone n name unsigned same = (
 )
 
 pub alone_accepted : (n : List ℕ) → IsName n → BeginsWith (codes "refs/") n ⊎ (n ≡ head) → IsAccepted (fetched_alone n)
-alone_accepted n name (inl below) = read_alone n name
-    (subst IsUnsigned (sym below.here) ((λ same. omega arith), (λ same. omega arith)))
-    (subst (λ (x : List ℕ). named_by x ≡ x) (sym below.here) refl)
-alone_accepted n name (inr is) = read_alone n name
-    (subst IsUnsigned (sym is) ((λ same. omega arith), (λ same. omega arith)))
-    (subst (λ (x : List ℕ). named_by x ≡ x) (sym is) refl)
+alone_accepted n name (inl below) = read_alone n name (rw below.here ((λ same. omega arith), (λ same. omega arith))) (rw below.here)
+alone_accepted n name (inr is) = read_alone n name (rw is ((λ same. omega arith), (λ same. omega arith))) (rw is)
 
 pub all_tags_accepted : IsAccepted all_tags
 all_tags_accepted = (

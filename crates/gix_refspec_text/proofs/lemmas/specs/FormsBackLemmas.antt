@@ -245,7 +245,4 @@ same_meaning_by_text op r q back_r back_q same =
 
 -- readings of two texts have the same meaning exactly if their canonical texts are equal
 pub equal_texts : (op : Operation) (a b : List ℕ) → EqualTexts op a b
-equal_texts op a b r q by_r by_q = (
-  λ same. ap (option_map text_of) same,
-  λ same. same_meaning_by_text op r q (read_back op a r by_r) (read_back op b q by_q) same,
-)
+equal_texts op a b r q by_r by_q = (λ same. ap (option_map text_of) same, λ same. same_meaning_by_text op r q (read_back op a r by_r) (read_back op b q by_q) same)

@@ -21,8 +21,7 @@ lacks_unreplaced b (c ∷ front) back other lacks = (lacks.0, lacks_unreplaced b
 pub Lacks-colon_pattern : (x : List ℕ) → IsPattern x → Lacks colon x
 Lacks-colon_pattern x pattern =
     let r = pattern.replaces in
-    let lacks = subst (Lacks colon) r.replaced (Lacks-colon_name pattern.with_letter pattern.name) in
-    subst (Lacks colon) (sym r.split.starred) (lacks_unreplaced colon r.before r.after (λ h. omega arith) lacks)
+    subst (Lacks colon) (sym r.split.starred) (lacks_unreplaced colon r.before r.after (λ h. omega arith) (subst (Lacks colon) r.replaced (Lacks-colon_name pattern.with_letter pattern.name)))
 
 -- a name that doesn't begin with `+` is unsigned
 pub unsigned_name : (x : List ℕ) → IsName x → begins_with_plus x ≡ false → IsUnsigned x

@@ -3,7 +3,7 @@ use Rattle.gix_refspec_text.proofs.Common.{◌≡◌, ◌≢◌, ℕ, List, [], 
 use Rattle.gix_refspec_text.proofs.Common.{if◌then◌else◌, arith, append_assoc, Bool, zero, ◌-◌, ◌≤◌, false, ◌==◌, ◌+◌, false≢true, cases_eq, eq-eqb, ne_eqb, map-append, count_by_more_no, Error}
 use Rattle.gix_refspec_text.proofs.Common.{EmptyComponent, StartsWithDot, LockSuffix, EndsWithDot, RepeatedDot, ReflogPortion, Asterisk, InvalidByte, Lacks, EndsWith, slash, star, letter, dot, brace}
 use Rattle.gix_refspec_text.proofs.Common.{is_refused_byte, HasFault, IsName, IsSplit, IsPattern, HasOneStar, ReplacesStar, class_at, AddsFault, IsClean, LeavesFault, Finds, letter_for, with_letters}
-use Rattle.gix_refspec_text.proofs.Common.{IsScanned, IsCalm, AreCalm, count_by_more_yes, cond, zero-add, count_by, sum_by-append, HasSeveralStars}
+use Rattle.gix_refspec_text.proofs.Common.{IsScanned, IsCalm, AreCalm, count_by_more_yes, cond, zero-add, count_by, sum_by-append, HasSeveralStars, take_all, IsStarCount, one_if}
 use Rattle.gix_refspec_text.specs.declared.name.class.Class.TheVariants.{Plain, Slash, Dot, Brace, Star, Refused}
 use Rattle.gix_refspec_text.proofs.lemmas.texts.TextLemmas.{split_at}
 use Rattle.gix_refspec_text.proofs.lemmas.texts.NameLemmas.{one_more, IsClean-more, HasFault-added, answer_at_end, slash_adds, last_byte}
@@ -45,10 +45,7 @@ pub HasOneStar-count_by : (x : List ℕ) → count_by (λ b. b == star) x ≡ 1 
 unfolding stars
 HasOneStar-count_by [] one = absurd (omega (arith, one))
 HasOneStar-count_by (b ∷ x) one =
-    elim (cases_eq b star) [
-      | inl same ↦ star_in_front b x same one
-      | inr other ↦ one_after b x other (HasOneStar-count_by x (sym (stars-other b x other) ∙ one))
-    ]
+    elim (cases_eq b star) [ inl same ↦ star_in_front b x same one | inr other ↦ one_after b x other (HasOneStar-count_by x (sym (stars-other b x other) ∙ one)) ]
 
 stars-append : (x y : List ℕ) → stars (x ++ y) ≡ stars x + stars y
 unfolding stars
@@ -97,10 +94,7 @@ letters-append x y = map-append letter_for x y
 -- a byte of the text with letters that isn't the letter is a byte of the text
 same_byte : (b c : ℕ) → c ≢ letter → letter_for b ≡ c → b ≡ c
 same_byte b c other same =
-    elim (cases_eq b star) [
-      | inl starred ↦ absurd (other (sym same ∙ letter_for-star b starred))
-      | inr plain ↦ sym (letter_for-other b plain) ∙ same
-    ]
+    elim (cases_eq b star) [ inl starred ↦ absurd (other (sym same ∙ letter_for-star b starred)) | inr plain ↦ sym (letter_for-other b plain) ∙ same ]
 
 same_word : (y w : List ℕ) → Lacks letter w → with_letters y ≡ w → y ≡ w
 same_word (b ∷ y) (c ∷ w) lacks same = ap (λ d. d ∷ y) (same_byte b c lacks.0 (cc)) ∙ ap (λ z. c ∷ z) (same_word y w lacks.1 (cc))
@@ -183,6 +177,10 @@ scanned_star x i below same scanned = (
   subst (λ z. IsClean (with_letters z)) (sym (one_more x i below)) (clean_after_star (slash ∷ take i x) (get_or x i 0) same scanned.0),
   count_by_more_yes (λ d. d == star) x i 0 below (eq-eqb (get_or x i 0) star same) ∙ ap (λ n. n + 1) scanned.1,
 )
+
+-- a text that was scanned whole
+pub scanned_whole : (x : List ℕ) (s : Bool) → IsScanned x (length x) s → IsClean (with_letters (slash ∷ x)) × IsStarCount x (one_if s)
+scanned_whole x s scanned = subst (λ y. IsClean (with_letters (slash ∷ y)) × IsStarCount y (one_if s)) (take_all (length x) x (omega arith)) scanned
 
 some_letters : (x : List ℕ) → x ≢ [] → with_letters x ≢ []
 some_letters [] some same = some refl

@@ -1,4 +1,4 @@
-use Rattle.gix_refspec_text.proofs.Common.{◌≡◌, ◌∷◌, take, get_or, sym, subst, arith, take_all, slash, IsClean}
+use Rattle.gix_refspec_text.proofs.Common.{◌∷◌, take, get_or, sym, subst, arith, take_all, slash, IsClean}
 use Rattle.gix_refspec_text.proofs.lemmas.texts.NameLemmas.{one_more, IsClean-start, IsClean-more, HasFault-added, added_at, answer_at_end}
 use Rattle.gix_refspec_text.proofs.lemmas.lists.EmptyLemmas.{full_from_test}
 use Rattle.gix_refspec_text.proofs.name.found_fault.Goals as goal
@@ -23,5 +23,5 @@ loop-index-preserved c =
 pub returns : goal.returns
 returns c =
     let x = c.args.text.now in
-    let whole : take c.loop-index.index x ≡ x = take_all c.loop-index.index x (omega arith) in
-    answer_at_end x c.left_fault.result (full_from_test x c.if-is_empty.ensures) (subst (λ z. IsClean (slash ∷ z)) whole c.loop-index.invariant) c.left_fault.ensures
+    let clean = subst (λ z. IsClean (slash ∷ z)) (take_all c.loop-index.index x (omega arith)) c.loop-index.invariant in
+    answer_at_end x c.left_fault.result (full_from_test x c.if-is_empty.ensures) clean c.left_fault.ensures
