@@ -1,6 +1,6 @@
 -- Which sources are covering.
-use Rattle.gix_refspec_text.proofs.Common.{[], None, Some, codes, refl, subst, arith, star, bracket, Normal, pushed, IsPrefix, of_name, of_pattern, IsCovering, by_prefix, by_candidates}
-use Rattle.gix_refspec_text.proofs.Common.{HasCoveringSource, same_Some, HasNoPrefix}
+use Rattle.gix_refspec_text.proofs.Common.{[], None, Some, codes, refl, arith, star, bracket, Normal, pushed, IsPrefix, of_name, of_pattern, IsCovering, by_prefix, by_candidates, HasCoveringSource}
+use Rattle.gix_refspec_text.proofs.Common.{same_Some, HasNoPrefix}
 use Rattle.gix_refspec_text.proofs.facts.ManualFacts.{Lacks-tested, other_length}
 use Rattle.gix_refspec_text.proofs.facts.FitFacts.{split_at_end, no_dev, short, short_kind, other_byte, other_first, push_is_none}
 use Rattle.gix_refspec_text.proofs.lemmas.lists.LacksLemmas.{Lacks-here}
@@ -37,8 +37,4 @@ not_covering = (
 
 -- a negative spec and a partial name have a covering source; a push never has one, whatever its source
 pub covering_sources : HasCoveringSource no_dev × HasCoveringSource short × ¬ (HasCoveringSource (pushed Normal (Some (codes "main")) None))
-covering_sources = (
-  record { fetch = refl; source = λ x asked. absurd asked.positive },
-  record { fetch = refl; source = λ x asked. subst IsCovering (same_Some (codes "main") x asked.side) covering.2 },
-  λ has. push_is_none has.fetch,
-)
+covering_sources = search (arith, same_Some, covering, push_is_none)

@@ -90,22 +90,13 @@ pub below_tags : HasKind (codes "refs/tags/blob") (full_name (codes "refs/tags/b
 below_tags = (refl, Lacks-tested star (codes "refs/tags/blob") refl, record { after = codes "tags/blob"; here = refl })
 
 pub blob_kind : HasKind (codes "e69de29bb2d1d6434b8b29ae775ad8c2e48c5391") (object empty_blob)
-blob_kind = (
-  Lacks-tested star (codes "e69de29bb2d1d6434b8b29ae775ad8c2e48c5391") refl,
-  (λ begins. other_byte 0 (codes "e69de29bb2d1d6434b8b29ae775ad8c2e48c5391") (codes "refs/" ++ begins.after) (λ byte. omega (arith, byte)) begins.here),
-  IsIdText-empty_blob,
-)
+blob_kind = search (arith, Lacks-tested, other_byte, IsIdText-empty_blob)
 
 pub short_no_id : (bytes : List ℕ) → ¬ (IsIdText (codes "main") bytes)
 short_no_id bytes text = no_kind 4 (λ same. omega (arith, same)) (λ same. omega (arith, same)) (text.kind, text.digits)
 
 pub short_kind : HasKind (codes "main") (partial (codes "main"))
-short_kind = (
-  refl,
-  Lacks-tested star (codes "main") refl,
-  (λ begins. other_byte 0 (codes "main") (codes "refs/" ++ begins.after) (λ byte. omega (arith, byte)) begins.here),
-  (λ is_id. short_no_id is_id.0 is_id.1),
-)
+short_kind = search (arith, Lacks-tested, other_byte, short_no_id)
 
 -- what a full name and an id become on the other side
 pub filled_others : (filled (full_name (codes "refs/tags/blob")) None ≡ codes "refs/tags/blob") × (filled (object empty_blob) None ≡ codes "refs/heads/e69de29bb2d1d6434b8b29ae775ad8c2e48c5391")

@@ -23,14 +23,7 @@ unsigned = (tt, (no_sign 97 (codes "+^") refl refl).1, (λ none. none.0 refl), (
 
 -- a sign is stripped once, and a text without a sign has no sign to strip
 pub signed : IsSigned Normal (codes "a") (codes "a") × IsSigned Forced (codes "++a") (codes "+a") × IsSigned Negative (codes "^+a") (codes "+a") × ¬ (IsSigned Normal (codes "+a") (codes "+a")) × ¬ (IsSigned Forced (codes "++a") (codes "a")) × ¬ (IsSigned Negative (codes "+a") (codes "a"))
-signed = (
-  no_sign 97 [] refl refl,
-  refl,
-  refl,
-  (λ of. of.1.0 refl),
-  (λ of. other_length (codes "++a") (codes "+a") (λ size. omega (arith, size)) of),
-  (λ of. other_byte 0 (codes "+a") (codes "^a") (λ same. omega (arith, same)) of),
-)
+signed = search (arith, no_sign, other_length, other_byte)
 
 -- a spec with `+` or without a sign is positive, and one with `^` isn't
 pub positive : IsPositive Normal × IsPositive Forced × ¬ (IsPositive Negative)
@@ -88,11 +81,7 @@ no_digit hash = false≢true (list_all-from_AllPass is_ascii_hexdigit (codes "g"
 
 -- 40 hex digits and more look like an id, in either case; 40 bytes of which one isn't a hex digit don't
 pub hashes : LooksLikeObjectHash (replicate 40 letter) × LooksLikeObjectHash (replicate 41 65) × ¬ (LooksLikeObjectHash (codes "g" ++ replicate 39 letter))
-hashes = (
-  record { long = omega (arith, length-replicate 40 letter); digits = AllPass-from_list_all is_ascii_hexdigit (replicate 40 letter) refl },
-  record { long = omega (arith, length-replicate {A = ℕ} 41 65); digits = AllPass-from_list_all is_ascii_hexdigit (replicate 41 65) refl },
-  no_digit,
-)
+hashes = search (arith, length-replicate, AllPass-from_list_all, no_digit)
 
 -- ---- forms of a fetch
 
@@ -221,8 +210,4 @@ no_destination_read = (
 
 -- `@` doesn't stay `@`; a sign isn't part of a name; and a push isn't split at its first colon
 pub no_other_source_read : ¬ (Reads Fetch (codes "@") (fetched Normal (codes "@") None)) × ¬ (Reads Fetch (codes "+main") (fetched Normal (codes "+main") None)) × ¬ (Reads Push (codes ":/message:refs/heads/x") (pushed Normal None (Some (codes "/message:refs/heads/x"))))
-no_other_source_read = (
-  no_other Fetch (codes "@") _ _ fetches_main.3 (other_source _ _ (λ same. other_length (codes "HEAD") (codes "@") (λ size. omega (arith, size)) (same_Some _ _ same))),
-  no_other Fetch (codes "+main") _ _ fetches_main.1 (other_source _ _ (λ same. other_length (codes "main") (codes "+main") (λ size. omega (arith, size)) (same_Some _ _ same))),
-  no_other Push (codes ":/message:refs/heads/x") _ _ pushes_objects.1 (other_source _ _ (some_none (codes ":/message"))),
-)
+no_other_source_read = search (arith, no_other, fetches_main, other_source, other_length, same_Some, pushes_objects, some_none)

@@ -1,10 +1,10 @@
 -- The definitions of names and refspecs at the examples of git-check-ref-format(1), git-fetch(1) and git-push(1), and
 -- at similar ones on both sides of a boundary, so that a wrong definition fails here.
-use Rattle.gix_refspec_text.proofs.Common.{◌≡◌, ◌≢◌, ◌≤◌, ℕ, ◌==◌, true, false, List, [], ◌∷◌, ◌++◌, Option, None, Some, map, length, get_or, codes, refl, sym, ap, ◌∙◌, is_some, subst, inl, inr}
-use Rattle.gix_refspec_text.proofs.Common.{arith, replicate, list_any, filter, range_with_len, length-replicate, eqb-false, false≢true, LockSuffix, RepeatedDot, ReflogPortion, Operation, Push, Fetch}
-use Rattle.gix_refspec_text.proofs.Common.{Lacks, is_refused_byte, HasFault, HasSeveralStars, IsSplit, ReplacesStar, IsPattern, IsPatternFault, slash, star, letter, plus, caret, colon, Mode, Normal}
-use Rattle.gix_refspec_text.proofs.Common.{Forced, Negative, Reading, HasSide, remote_of, local_of, named_by, IsSigned, AreParts, LooksLikeObjectHash, Reads, updates, pushes_colon, pushes, deletes}
-use Rattle.gix_refspec_text.proofs.Common.{pushes_to, push_excludes, pushed, fetched, Meaning, push_all_matching, push_delete, push_matching, push_exclude, fetch_and_update, meaning_of, text_of}
+use Rattle.gix_refspec_text.proofs.Common.{◌≡◌, ◌≢◌, ◌≤◌, ℕ, ◌==◌, true, false, List, [], ◌∷◌, ◌++◌, Option, None, Some, map, length, get_or, codes, refl, ap, subst, inl, inr, arith, replicate}
+use Rattle.gix_refspec_text.proofs.Common.{list_any, filter, range_with_len, length-replicate, eqb-false, false≢true, LockSuffix, RepeatedDot, ReflogPortion, Operation, Push, Fetch, Lacks}
+use Rattle.gix_refspec_text.proofs.Common.{is_refused_byte, HasFault, HasSeveralStars, IsSplit, ReplacesStar, IsPattern, IsPatternFault, slash, star, letter, plus, caret, colon, Mode, Normal, Forced}
+use Rattle.gix_refspec_text.proofs.Common.{Negative, Reading, HasSide, remote_of, local_of, named_by, IsSigned, AreParts, LooksLikeObjectHash, Reads, updates, pushes_colon, pushes, deletes, pushes_to}
+use Rattle.gix_refspec_text.proofs.Common.{push_excludes, pushed, fetched, Meaning, push_all_matching, push_delete, push_matching, push_exclude, fetch_and_update, meaning_of, text_of}
 use Rattle.gix_refspec_text.proofs.Common.{PatternUnsupported, PushToEmpty, NegativeWithDestination, ReferenceName, IsBadPattern, NeedsMemory, NoReasonBeforeSource, ReachesMemory, MayNeedMemory}
 use Rattle.gix_refspec_text.proofs.Common.{pattern, full_name, object, partial, HasKind, candidates, filled, Ref, Matches, MatchesAs, same_Some, or_parts, unwrap_or, IsPositive, with_colon}
 use Rattle.gix_refspec_text.proofs.Common.{LastLacksColon, Bool, ◌||◌}
@@ -269,11 +269,7 @@ starred_parts n none = parts Normal (starred n) None refl none
 -- no reason before those of the source applies, if the source isn't empty, a negative spec has no colon, and the
 -- destination isn't empty
 pub before_source : (op : Operation) (mode : Mode) (s : List ℕ) (d : Option (List ℕ)) → s ≢ [] → (mode ≡ Negative → d ≡ None) → d ≢ Some [] → NoReasonBeforeSource op mode s d
-before_source op mode s d not_empty alone somewhere = (
-  (λ e empty. not_empty empty.no_source),
-  (λ e negative. false≢true (ap is_some (sym (alone negative.negative)) ∙ negative.colon)),
-  (λ e nowhere. somewhere nowhere.nowhere),
-)
+before_source op mode s d not_empty alone somewhere = search (arith, false≢true)
 
 pub text_may_need_memory : MayNeedMemory Fetch (starred 256)
 text_may_need_memory = record {

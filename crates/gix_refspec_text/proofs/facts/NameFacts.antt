@@ -1,8 +1,8 @@
 -- Texts that are names and patterns, and texts that are not, by git-check-ref-format(1): for each of its
 -- rules a text that breaks it, and one that just doesn't.
-use Rattle.gix_refspec_text.proofs.Common.{◌≡◌, ℕ, ◌==◌, false, List, [], ◌∷◌, codes, refl, inl, inr, arith, AllByRecursion, list_any, or_parts, Error, Empty, EmptyComponent, StartsWithDot}
-use Rattle.gix_refspec_text.proofs.Common.{LockSuffix, EndsWithDot, RepeatedDot, ReflogPortion, Asterisk, InvalidByte, Lacks, BeginsWith, EndsWith, ArePartsAt, slash, star, IsName, IsPattern}
-use Rattle.gix_refspec_text.proofs.Common.{IsPatternFault, ReferenceName, with_letters, IsStarCount, IsCalm, lowest_of}
+use Rattle.gix_refspec_text.proofs.Common.{◌≡◌, ℕ, ◌==◌, false, List, [], ◌∷◌, codes, refl, arith, AllByRecursion, list_any, or_parts, Error, Empty, EmptyComponent, StartsWithDot, LockSuffix}
+use Rattle.gix_refspec_text.proofs.Common.{EndsWithDot, RepeatedDot, ReflogPortion, Asterisk, InvalidByte, Lacks, BeginsWith, EndsWith, ArePartsAt, slash, star, IsName, IsPattern, IsPatternFault}
+use Rattle.gix_refspec_text.proofs.Common.{ReferenceName, with_letters, IsStarCount, IsCalm, lowest_of}
 use Rattle.gix_refspec_text.specs.declared.name.PatternError.TheVariants.{Name}
 use lib.Count.{count_trailing_zeros}
 use Rattle.gix_refspec_text.proofs.lemmas.texts.TextLemmas.{Lacks-ContainsText}
@@ -105,13 +105,7 @@ star_counts = (refl, refl, (λ same. omega (arith, same)), (λ same. omega (arit
 
 -- a letter after a slash, and a slash after a letter; but no slash after a slash or a `k`, and no dot
 pub calm_bytes : IsCalm 47 97 × IsCalm 97 47 × ¬ (IsCalm 47 47) × ¬ (IsCalm 107 47) × ¬ (IsCalm 97 46)
-calm_bytes = (
-  inl refl,
-  inr (refl, (λ e. omega (arith, e)), (λ e. omega (arith, e))),
-  (λ calm. elim calm [ inl plain ↦ cc | inr quiet ↦ quiet.1 refl ]),
-  (λ calm. elim calm [ inl plain ↦ cc | inr quiet ↦ quiet.2 refl ]),
-  λ calm. elim calm [ inl plain ↦ cc | inr quiet ↦ absurd (omega (arith, quiet.0)) ],
-)
+calm_bytes = search (arith)
 
 -- ---- parts of texts
 
@@ -121,12 +115,7 @@ each_part (w ∷ parts) none = let both = or_parts (list_any (λ c. c == slash) 
 
 -- no part contains a slash; the empty text has no parts, or one empty part
 pub parts_at_slashes : ArePartsAt slash (codes "a" ∷ [] ∷ codes "b" ∷ []) (codes "a//b") × ¬ (ArePartsAt slash (codes "a/b" ∷ []) (codes "a/b")) × ArePartsAt slash [] [] × ArePartsAt slash ([] ∷ []) []
-parts_at_slashes = (
-  record { joined = refl; whole = each_part (codes "a" ∷ [] ∷ codes "b" ∷ []) refl },
-  (λ parts. Lacks-here slash (codes "a") (codes "b") parts.whole.0),
-  record { joined = refl; whole = tt },
-  record { joined = refl; whole = (tt, tt) },
-)
+parts_at_slashes = search (arith, each_part, Lacks-here)
 
 -- the lowest set bit, and a mask without one
 pub lowest_bits : (lowest_of 16 8 ≡ 3) × (lowest_of 16 12 ≡ 2) × (lowest_of 16 1 ≡ 0) × (lowest_of 16 0 ≡ 16)

@@ -1,6 +1,6 @@
 -- The definitions of ids, at the ids that git hash-object prints for the empty blob, and at other lengths.
-use Rattle.gix_refspec_text.proofs.Common.{◌≡◌, ◌≢◌, ℕ, ◌+◌, ◌*◌, List, [], ◌∷◌, Option, Some, unwrap_or, codes, refl, sym, ap, ◌∙◌, arith, filter, range_with_len, false≢true, AllPass-from_list_all}
-use Rattle.gix_refspec_text.proofs.Common.{Digit, Length, Sha1, Sha256, id_bytes, is_lower_digit, IsSpelledBy, Spells, IsIdText, IsLowerText, IsIdLength, HasIdFault, lower_of}
+use Rattle.gix_refspec_text.proofs.Common.{◌≡◌, ◌≢◌, ℕ, ◌+◌, ◌*◌, List, [], ◌∷◌, Some, codes, refl, arith, filter, range_with_len, false≢true, AllPass-from_list_all, Digit, Length, Sha1, Sha256}
+use Rattle.gix_refspec_text.proofs.Common.{id_bytes, is_lower_digit, IsSpelledBy, Spells, IsIdText, IsLowerText, IsIdLength, HasIdFault, lower_of}
 use Rattle.hex.specs.Hex.{hex_digit_value}
 use Rattle.hex.proofs.OnLiterals.{hex_on_literals}
 use Rattle.gix_refspec_text.proofs.lemmas.texts.ObjectIdLemmas.{digits_of-twice, no_kind, IsIdText-decoded, IsIdText-sound, Spells-decode_pairs}
@@ -39,9 +39,7 @@ lengths = ((Sha1, refl), (Sha256, refl), no_kind 39 (λ same. omega (arith, same
 
 -- digits with these values spell one byte
 spelled_value : (b c d high low : ℕ) → hex_digit_value c ≡ Some high → hex_digit_value d ≡ Some low → IsSpelledBy b c d → b ≡ 16 * high + low
-spelled_value b c d high low high_read low_read by =
-    let value = λ (o : Option ℕ). unwrap_or o 0 in
-    omega (arith, by.value, ap value (sym high_read ∙ by.high_read), ap value (sym low_read ∙ by.low_read))
+spelled_value b c d high low high_read low_read by = search (arith)
 
 -- `e6`, `E6` and `eE` spell a byte each, `6e` spells another, and `g6` and `6g` don't spell any
 pub two_digits : IsSpelledBy 230 101 54 × IsSpelledBy 230 69 54 × IsSpelledBy 238 101 69 × ¬ (IsSpelledBy 230 54 101) × ((b : ℕ) → ¬ (IsSpelledBy b 103 54) × ¬ (IsSpelledBy b 54 103))

@@ -1,7 +1,7 @@
 -- Sides with and without a ref prefix, and their expansions.
-use Rattle.gix_refspec_text.proofs.Common.{◌≡◌, ◌≢◌, ℕ, List, [], ◌∷◌, None, Some, length, codes, refl, sym, ap, subst, inl, inr, arith, IsSplit, star, slash, bracket, Normal, Negative, fetched}
-use Rattle.gix_refspec_text.proofs.Common.{pushed, candidates, IsRefPrefix, IsPrefix, of_head, of_name, of_pattern, HasNoPrefix, Expands, to_prefix, to_itself, below_refs, of_object, to_candidates}
-use Rattle.gix_refspec_text.proofs.Common.{IsAsked, HasPrefix, IsExpansion, same_Some}
+use Rattle.gix_refspec_text.proofs.Common.{◌≢◌, ℕ, List, [], ◌∷◌, None, Some, length, codes, refl, ap, arith, IsSplit, star, slash, Normal, Negative, fetched, pushed, candidates, IsRefPrefix}
+use Rattle.gix_refspec_text.proofs.Common.{IsPrefix, of_head, of_name, of_pattern, HasNoPrefix, Expands, to_prefix, to_itself, below_refs, of_object, to_candidates, IsAsked, HasPrefix, IsExpansion}
+use Rattle.gix_refspec_text.proofs.Common.{same_Some}
 use Rattle.gix_refspec_text.proofs.lemmas.hits.MatchLemmas.{outside_none}
 use Rattle.gix_refspec_text.proofs.lemmas.prefixes.OnePrefixLemmas.{one_prefix}
 use Rattle.gix_refspec_text.proofs.facts.ManualFacts.{Lacks-tested, other_length, none_some}
@@ -18,11 +18,7 @@ whole_prefixes = (of_head refl refl, of_name (record { after = codes "a]b"; here
 
 -- the text before a star is a prefix if it begins with `refs/` and is longer, and no bracket is on either side
 pub tells : IsRefPrefix (codes "refs/a") (codes "/b") × ((after : List ℕ) → ¬ (IsRefPrefix (codes "refs/") after) × ¬ (IsRefPrefix (codes "heads/") after) × ¬ (IsRefPrefix (codes "refs/a]") after)) × ¬ (IsRefPrefix (codes "refs/a") (codes "/]"))
-tells = (
-  record { below = record { after = codes "a"; here = refl }; further = other_length _ _ (λ size. omega (arith, size)); first = Lacks-tested bracket (codes "refs/a") refl; last = Lacks-tested bracket (codes "/b") refl },
-  (λ after. ((λ is. is.further refl), (λ is. begins_not (codes "refs/") (codes "heads/") refl is.below), λ is. Lacks-here bracket (codes "refs/a") [] is.first)),
-  λ is. Lacks-here bracket (codes "/") [] is.last,
-)
+tells = search (arith, other_length, Lacks-tested, begins_not, Lacks-here)
 
 -- the prefix of a pattern is the text before its star, also within a component and before a suffix
 pub pattern_prefix : IsPrefix (codes "refs/a*/b") (codes "refs/a")
@@ -63,13 +59,7 @@ expansions_outside = (
 
 -- the prefix of a name is the whole name, and that of a pattern goes up to its star
 pub other_prefixes : ¬ (IsPrefix (codes "refs/heads/main") (codes "refs/heads/")) × ¬ (IsPrefix (codes "refs/a*/b") (codes "refs/")) × ¬ (IsPrefix (codes "refs/a*/b") (codes "refs/a*/b")) × HasNoPrefix (codes "main") × HasNoPrefix (codes "HEAD/x")
-other_prefixes = (
-  (λ prefix. other_length _ _ (λ size. omega (arith, size)) ((one_prefix (codes "refs/heads/main")).prefix (codes "refs/heads/") (codes "refs/heads/main") prefix (of_name (record { after = codes "heads/main"; here = refl }) (Lacks-tested star (codes "refs/heads/main") refl) refl))),
-  (λ prefix. other_length _ _ (λ size. omega (arith, size)) ((one_prefix (codes "refs/a*/b")).prefix (codes "refs/") (codes "refs/a") prefix pattern_prefix)),
-  (λ prefix. other_length _ _ (λ size. omega (arith, size)) ((one_prefix (codes "refs/a*/b")).prefix (codes "refs/a*/b") (codes "refs/a") prefix pattern_prefix)),
-  outside_none (codes "main") (other_byte 0 (codes "main") (codes "HEAD") (λ byte. omega (arith, byte))) short_kind.2,
-  outside_none (codes "HEAD/x") (other_length _ _ (λ size. omega (arith, size))) (begins_not (codes "refs/") (codes "HEAD/x") refl),
-)
+other_prefixes = search (arith, other_length, one_prefix, Lacks-tested, pattern_prefix, outside_none, other_byte, short_kind, begins_not)
 
 -- a partial name is expanded to its candidates, also with a star, but an id and `HEAD` are not; and a star before a
 -- further slash leaves nothing
@@ -91,33 +81,12 @@ other_expansions = (
 -- the prefix of a spec is by the source of a fetch or the destination of a push, and not by the other side; a negative
 -- spec and a push of a source alone have no such side
 pub asked : IsAsked (fetched Normal (codes "a") (Some (codes "b"))) (codes "a") × IsAsked (pushed Normal (Some (codes "a")) (Some (codes "b"))) (codes "b") × ¬ (IsAsked (pushed Normal (Some (codes "a")) (Some (codes "b"))) (codes "a")) × ((x : List ℕ) → ¬ (IsAsked no_dev x) × ¬ (IsAsked (pushed Normal (Some (codes "a")) None) x))
-asked = (
-  record { positive = tt; side = refl },
-  record { positive = tt; side = refl },
-  (λ is. other_byte 0 (codes "b") (codes "a") (λ byte. omega (arith, byte)) (same_Some (codes "b") (codes "a") is.side)),
-  λ x. ((λ is. is.positive), λ is. none_some x is.side),
-)
+asked = search (arith, other_byte, same_Some, none_some)
 
 -- a reading has the prefix of its side on the remote, and a negative one has none
 pub prefixes : HasPrefix every (codes "refs/heads/") × HasPrefix (pushed Normal (Some (codes "refs/x/a")) (Some (codes "HEAD"))) (codes "HEAD") × ((p : List ℕ) → ¬ (HasPrefix (fetched Negative (codes "HEAD") None) p) × ¬ (HasPrefix (pushed Normal (Some (codes "HEAD")) (Some (codes "main"))) p))
-prefixes = (
-  (codes "refs/heads/*", record { positive = tt; side = refl }, below_heads),
-  (codes "HEAD", record { positive = tt; side = refl }, whole_prefixes.0),
-  λ p. ((λ has. has.1.positive), λ has. other_prefixes.3 p (subst (λ (x : List ℕ). IsPrefix x p) (sym (same_Some (codes "main") has.0 has.1.side)) has.2)),
-)
+prefixes = search (arith, below_heads, whole_prefixes, other_prefixes, same_Some)
 
 -- a negative reading, or one without a side on the remote, is expanded to nothing; a fetch of `HEAD` isn't
 pub expansions : IsExpansion (pushed Normal (Some (codes "a")) None) [] × IsExpansion no_dev [] × ¬ (IsExpansion (fetched Normal (codes "HEAD") None) []) × ¬ (IsExpansion no_dev (codes "refs/heads/dev-" ∷ []))
-expansions = (
-  inr ((λ x. (asked.3 x).1), refl),
-  inr ((λ x. (asked.3 x).0), refl),
-  head_alone,
-  λ expansion. elim expansion [ inl some ↦ some.1.positive | inr none ↦ let same = none.1 in cc ],
-)
-  where
-    head_alone : ¬ (IsExpansion (fetched Normal (codes "HEAD") None) [])
-    head_alone (inl (x, is, expands)) =
-        let expands_head = subst (λ (y : List ℕ). Expands y []) (sym (same_Some (codes "HEAD") x is.side)) expands in
-        let same : 0 ≡ 1 = ap length ((one_prefix (codes "HEAD")).expanded [] (codes "HEAD" ∷ []) expands_head expansions_outside.1) in
-        omega (arith, same)
-    head_alone (inr (none, same)) = none (codes "HEAD") (record { positive = tt; side = refl })
+expansions = search (arith, asked, same_Some, one_prefix, expansions_outside)

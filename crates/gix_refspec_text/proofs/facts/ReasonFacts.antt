@@ -59,20 +59,11 @@ no_empty_pushes = ((λ e is. full _ _ is.no_source), (λ e is. some_none [] is.n
 
 -- `^a:b` and `^a:` have a destination, and `^a` and `a:b` are fine
 pub negative_destinations : HasNegativeDestination Negative (Some (codes "b")) NegativeWithDestination × HasNegativeDestination Negative (Some []) NegativeWithDestination × ((e : Refusal) → ¬ (HasNegativeDestination Negative None e) × ¬ (HasNegativeDestination Normal (Some (codes "b")) e)) × ¬ (HasNegativeDestination Negative (Some (codes "b")) PushToEmpty)
-negative_destinations = (
-  record { negative = refl; colon = refl; refusal = refl },
-  record { negative = refl; colon = refl; refusal = refl },
-  (λ e. ((λ is. false≢true is.colon), λ is. normal_positive is.negative)),
-  λ is. let same = is.refusal in cc,
-)
+negative_destinations = search (arith, false≢true, normal_positive)
 
 -- a push of `a:` has an empty destination; a push of `:`, `a` or `a:b` isn't refused so, nor is a fetch of `a:`
 pub nowhere : PushesNowhere Push (codes "a") (Some []) PushToEmpty × ((e : Refusal) → ¬ (PushesNowhere Push [] (Some []) e) × ¬ (PushesNowhere Push (codes "a") None e) × ¬ (PushesNowhere Push (codes "a") (Some (codes "b")) e) × ¬ (PushesNowhere Fetch (codes "a") (Some []) e)) × ¬ (PushesNowhere Push (codes "a") (Some []) Empty)
-nowhere = (
-  record { push = refl; source = full _ _; nowhere = refl; refusal = refl },
-  (λ e. ((λ is. is.source refl), (λ is. none_some [] is.nowhere), (λ is. full _ _ (same_Some (codes "b") [] is.nowhere)), λ is. let same = is.push in cc)),
-  λ is. let same = is.refusal in cc,
-)
+nowhere = search (arith, full, none_some, same_Some)
 
 -- ---- sources and destinations
 
@@ -144,12 +135,7 @@ excludes_object = (record { negative = refl; hash = hash; refusal = refl }, (λ 
 
 -- the second reason is returned only if the first never applies
 pub or_else : OrElse (ExcludesNothing Negative []) (ExcludesObject Negative []) NegativeEmpty × OrElse (ExcludesNothing Negative (replicate 40 letter)) (ExcludesObject Negative (replicate 40 letter)) NegativeObjectHash × ¬ (OrElse (λ e. e ≡ NegativeEmpty) (λ e. e ≡ PushToEmpty) PushToEmpty) × ¬ (Never (λ e. e ≡ PushToEmpty))
-or_else = (
-  inl excludes_nothing.0,
-  inr ((λ e is. full _ _ is.no_source), excludes_object.0),
-  (λ second. elim second [ inl same ↦ cc | inr hidden ↦ hidden.0 NegativeEmpty refl ]),
-  λ never. never PushToEmpty refl,
-)
+or_else = search (arith, excludes_nothing, full, excludes_object)
 
 -- the last reasons follow all others
 pub last_reasons : IsFirstReason Fetch Negative [] None NegativeEmpty × (IsName (replicate 40 letter) → IsFirstReason Push Negative (replicate 40 letter) None NegativeObjectHash)

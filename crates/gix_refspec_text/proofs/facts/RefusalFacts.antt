@@ -23,17 +23,11 @@ other_reason op m s d e f first differ second = differ (Agree-first op m s d e f
 
 -- push `^a:`
 pub negative_before_nowhere : IsFirstReason Push Negative (codes "a") (Some []) NegativeWithDestination × ¬ (IsFirstReason Push Negative (codes "a") (Some []) PushToEmpty)
-negative_before_nowhere = (first, other_reason Push Negative (codes "a") (Some []) NegativeWithDestination PushToEmpty first (λ same. elim same [ inl is ↦ cc | inr names ↦ let is = names.2 in cc ]))
-  where
-    first : IsFirstReason Push Negative (codes "a") (Some []) NegativeWithDestination
-    first = inr ((λ e empty. full _ _ empty.no_source), inl (record { negative = refl; colon = refl; refusal = refl }))
+negative_before_nowhere = search (arith, other_reason, full)
 
 -- push `a*b*:`
 pub nowhere_before_source : IsFirstReason Push Normal (codes "a*b*") (Some []) PushToEmpty × ¬ (IsFirstReason Push Normal (codes "a*b*") (Some []) (PatternUnsupported (codes "a*b*")))
-nowhere_before_source = (first, other_reason Push Normal (codes "a*b*") (Some []) PushToEmpty (PatternUnsupported (codes "a*b*")) first (λ same. elim same [ inl is ↦ cc | inr names ↦ let is = names.2 in cc ]))
-  where
-    first : IsFirstReason Push Normal (codes "a*b*") (Some []) PushToEmpty
-    first = inr ((λ e empty. full _ _ empty.no_source), inr ((λ e negative. normal_positive negative.negative), inl (record { push = refl; source = full _ _; nowhere = refl; refusal = refl })))
+nowhere_before_source = search (arith, other_reason, full, normal_positive)
 
 -- fetch `a*b*:c*d*`
 pub source_before_destination : IsFirstReason Fetch Normal (codes "a*b*") (Some (codes "c*d*")) (PatternUnsupported (codes "a*b*")) × ¬ (IsFirstReason Fetch Normal (codes "a*b*") (Some (codes "c*d*")) (PatternUnsupported (codes "c*d*")))

@@ -1,8 +1,8 @@
 -- Sides, candidates and matches: also texts of another kind, names that aren't candidates, and refs that aren't
 -- matched.
 use Rattle.gix_refspec_text.proofs.Common.{◌≡◌, ◌≢◌, ℕ, List, [], ◌∷◌, Option, None, Some, codes, refl, sym, subst, arith, AllByRecursion, star, SideKind, pattern, full_name, object, partial, IsId}
-use Rattle.gix_refspec_text.proofs.Common.{HasKind, candidates, IsCandidate, Excludes, the_name, by_pattern, filled, MatchesAs, Matches, ◌⊎◌, inl, inr, Lacks, HasOneStar, IsIdText, Normal, fetched}
-use Rattle.gix_refspec_text.proofs.Common.{pushed, Fits, same_Some}
+use Rattle.gix_refspec_text.proofs.Common.{HasKind, candidates, IsCandidate, Excludes, the_name, by_pattern, filled, MatchesAs, Matches, inl, inr, Lacks, HasOneStar, IsIdText, Normal, fetched, pushed}
+use Rattle.gix_refspec_text.proofs.Common.{Fits, same_Some}
 use Rattle.gix_refspec_text.proofs.lemmas.texts.TextLemmas.{one_not_two}
 use Rattle.gix_refspec_text.proofs.lemmas.texts.ComponentLemmas.{AllByRecursion-parts}
 use Rattle.gix_refspec_text.proofs.lemmas.hits.MatchLemmas.{has_candidates, lacks_no_pattern}
@@ -20,22 +20,11 @@ ids = ((empty_blob, IsIdText-empty_blob), (empty_blob, IsIdText-empty_blob_in_up
 
 -- a full name isn't a partial one, and `refs` and a pattern aren't full names
 pub full_names : ¬ (HasKind (codes "refs/heads/main") (partial (codes "refs/heads/main"))) × ¬ (HasKind (codes "refs") (full_name (codes "refs"))) × ¬ (HasKind (codes "refs/heads/*") (full_name (codes "refs/heads/*"))) × ¬ (HasKind (codes "refs/heads/main") (full_name (codes "refs/heads/mai")))
-full_names = (
-  (λ kind. kind.2 (record { after = codes "heads/main"; here = refl })),
-  (λ kind. begins_not (codes "refs/") (codes "refs") refl kind.2),
-  (λ kind. Lacks-here star (codes "refs/heads/") [] kind.1),
-  λ kind. other_length _ _ (λ size. omega (arith, size)) kind.0,
-)
+full_names = search (arith, begins_not, Lacks-here, other_length)
 
 -- an id and a pattern aren't partial names, and a partial name isn't another text, a full name or an id
 pub partial_names : ¬ (HasKind (codes "e69de29bb2d1d6434b8b29ae775ad8c2e48c5391") (partial (codes "e69de29bb2d1d6434b8b29ae775ad8c2e48c5391"))) × ¬ (HasKind (codes "a*") (partial (codes "a*"))) × ¬ (HasKind (codes "main") (partial (codes "mai"))) × ¬ (HasKind (codes "main") (full_name (codes "main"))) × ((bytes : List ℕ) → ¬ (HasKind (codes "main") (object bytes)))
-partial_names = (
-  (λ kind. kind.3 ids.0),
-  (λ kind. Lacks-here star (codes "a") [] kind.1),
-  (λ kind. other_length _ _ (λ size. omega (arith, size)) kind.0),
-  (λ kind. short_kind.2 kind.2),
-  λ bytes kind. short_no_id bytes kind.2,
-)
+partial_names = search (arith, ids, Lacks-here, other_length, short_kind, short_no_id)
 
 -- a side with two stars has no kind
 pub no_kind : (kind : SideKind) → ¬ (HasKind (codes "a*b*") kind)
@@ -66,12 +55,7 @@ partial_matches = (
 
 -- a pattern matches with its word, but not with another word, and not without
 pub pattern_matches : MatchesAs (pattern (codes "refs/") (codes "/a")) (named (codes "refs/x/a")) (Some (codes "x")) × ¬ (MatchesAs (pattern (codes "refs/") (codes "/a")) (named (codes "refs/x/a")) (Some (codes "xy"))) × ¬ (MatchesAs (pattern (codes "refs/") (codes "/a")) (named (codes "refs/x/a")) None) × ¬ (MatchesAs (pattern (codes "refs/") (codes "/a")) (named (codes "refs/x/b")) (Some (codes "x")))
-pattern_matches = (
-  refl,
-  (λ matches. other_length _ _ (λ size. omega (arith, size)) matches),
-  (λ none. none),
-  λ matches. other_byte 7 (codes "refs/x/b") (codes "refs/x/a") (λ byte. omega (arith, byte)) matches,
-)
+pattern_matches = search (arith, other_length, other_byte)
 
 -- a text with two stars excludes nothing; a pattern excludes by its prefix and suffix, and a name only itself
 pub excludes_little : ((n : List ℕ) → ¬ (Excludes (codes "a*b*") n)) × Excludes (codes "a/*/c") (codes "a/b/c") × ¬ (Excludes (codes "a/b") (codes "a/bc"))
@@ -97,18 +81,7 @@ filled_with_words = (refl, refl, refl, refl, refl)
 
 -- the sides of what `git clone` writes agree, and so does a source alone
 pub agree : SidesAgree every × SidesAgree short
-agree = (
-  record { each = λ x side. inl (of_every x side); both = λ s d source destination. inl (of_every s (inl source), of_every d (inr destination)) },
-  record { each = λ x side. inr (of_short x side); both = λ s d source destination. inr (of_short s (inl source), of_short d (inr destination)) },
-)
-  where
-    of_every : (x : List ℕ) → (Some (codes "refs/heads/*") ≡ Some x) ⊎ (Some (codes "refs/remotes/origin/*") ≡ Some x) → HasOneStar x
-    of_every x (inl is) = subst HasOneStar (same_Some (codes "refs/heads/*") x is) (codes "refs/heads/", [], heads_split)
-    of_every x (inr is) = subst HasOneStar (same_Some (codes "refs/remotes/origin/*") x is) (codes "refs/remotes/origin/", [], origin_split)
-
-    of_short : (x : List ℕ) → (Some (codes "main") ≡ Some x) ⊎ (None ≡ Some x) → Lacks star x
-    of_short x (inl is) = subst (Lacks star) (same_Some (codes "main") x is) short_kind.1
-    of_short x (inr none) = absurd (cc)
+agree = search (arith, same_Some, heads_split, origin_split)
 
 no_star_in_b : ¬ (HasOneStar (codes "b"))
 no_star_in_b (before, after, split) = Lacks-here star before after (subst (Lacks star) split.starred (Lacks-tested star (codes "b") refl))

@@ -1,10 +1,10 @@
 -- Refspecs, instructions, reasons and ids as contracts see them, at values whose fields differ, so that no field is
 -- lost or taken for another. That some text reads as a spec is a premise.
-use Rattle.gix_refspec_text.proofs.Common.{Option, ◌≡◌, ◌≢◌, ℕ, suc, List, [], ◌∷◌, ◌++◌, None, Some, true, false, map, length, get_or, replicate, option_map, codes, refl, sym, ap, ◌∙◌, inl, inr}
-use Rattle.gix_refspec_text.proofs.Common.{arith, bstring_bytes, LockSuffix, RepeatedDot, Digit, Length, Sha1, ObjectId, Operation, Push, Fetch, fault_name, Normal, Forced, Negative, fetched, pushed}
-use Rattle.gix_refspec_text.proofs.Common.{fetch_only, meaning_of, text_of, WritesPrinted, keys, NegativeWithDestination, PushToEmpty, PatternUnsupported, ReferenceName, PatternUnbalanced}
-use Rattle.gix_refspec_text.proofs.Common.{NegativeEmpty, NegativeObjectHash, IsFirstReason, reading_of, owned_reading_of, key_of_spec, key_of_owned, meaning_of_instruction, meant_for, IsShownAs}
-use Rattle.gix_refspec_text.proofs.Common.{ShowsRefusal, AppendsExpansion, to_prefix, Empty}
+use Rattle.gix_refspec_text.proofs.Common.{Option, ◌≡◌, ◌≢◌, ℕ, List, [], ◌∷◌, ◌++◌, None, Some, true, false, map, get_or, replicate, option_map, codes, refl, sym, ap, ◌∙◌, inl, arith, bstring_bytes}
+use Rattle.gix_refspec_text.proofs.Common.{LockSuffix, RepeatedDot, Digit, Length, Sha1, ObjectId, Operation, Push, Fetch, fault_name, Normal, Forced, Negative, fetched, pushed, fetch_only}
+use Rattle.gix_refspec_text.proofs.Common.{meaning_of, text_of, WritesPrinted, keys, NegativeWithDestination, PushToEmpty, PatternUnsupported, ReferenceName, PatternUnbalanced, NegativeEmpty}
+use Rattle.gix_refspec_text.proofs.Common.{NegativeObjectHash, IsFirstReason, reading_of, owned_reading_of, key_of_spec, key_of_owned, meaning_of_instruction, meant_for, IsShownAs, ShowsRefusal}
+use Rattle.gix_refspec_text.proofs.Common.{AppendsExpansion, to_prefix, Empty}
 use Rattle.bstr.specs.declared.bstr.BStr.{BStr}
 use Rattle.bstr.specs.declared.bstring.BString.{BString}
 use Rattle.gix_refspec_text.specs.declared.spec.RefSpec.{RefSpec, accepted-type as owned-type}
@@ -157,13 +157,7 @@ entries_after = (
 
 -- a negative spec adds none
 pub none_after : AppendsExpansion no_dev (codes "old" ∷ []) (codes "old" ∷ []) × ¬ (AppendsExpansion no_dev (codes "old" ∷ []) (codes "old" ∷ codes "refs/heads/dev-" ∷ []))
-none_after = (
-  record { list = []; is = inr ((λ x asked. asked.positive), refl); appended = refl },
-  λ appends. elim appends.is [
-    | inl some ↦ some.1.positive
-    | inr none ↦ let longer : 2 ≡ suc (length appends.list) = ap length appends.appended in omega (arith, longer, ap length none.1)
-  ],
-)
+none_after = search (arith)
 
 -- ---- ids
 

@@ -34,7 +34,4 @@ pub record SameParts (m n : Mode) (s t : List ℕ) (d e : Option (List ℕ)) : T
   pub destination : d ≡ e
 
 pub parts_once : (m n : Mode) (s t : List ℕ) (d e : Option (List ℕ)) (text : List ℕ) → AreParts m s d text → AreParts n t e text → SameParts m n s t d e
-parts_once m n s t d e text a b =
-    let signed = signed_once m n text (with_colon s d) (with_colon t e) a.signed b.signed in
-    let split = split_once s t d e a.last b.last signed.1 in
-    record { mode = signed.0; source = split.0; destination = split.1 }
+parts_once m n s t d e text a b = search (arith, signed_once, split_once)

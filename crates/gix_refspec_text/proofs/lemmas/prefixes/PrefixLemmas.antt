@@ -31,12 +31,7 @@ no_prefix x before after split vague p (of_pattern first last other tells _) =
 
 -- the text before a star is a prefix if it continues after `refs/` and the pattern contains no bracket
 pub tells : (before after rest : List ℕ) → before ≡ codes "refs/" ++ rest → 1 ≤ length rest → Lacks bracket before → Lacks bracket after → IsRefPrefix before after
-tells before after rest below full first last = record {
-  below = record { after = rest; here = below };
-  further = λ same. let none : rest ≡ [] = append_cancel_left (codes "refs/") rest [] (sym below ∙ same) in let size = ap length none in omega (arith, size, full);
-  first = first;
-  last = last;
-}
+tells before after rest below full first last = search (arith, append_cancel_left)
 
 -- a test for a bracket decides whether a pattern that begins with `refs/` has a prefix
 pub told_clear : (before after rest : List ℕ) → before ≡ codes "refs/" ++ rest → 1 ≤ length rest → Lacks bracket before → (r : Bool) → MatchBool r (ContainsText (bracket ∷ []) after) (Lacks bracket after) → IsTrue (not r) ↔ IsRefPrefix before after

@@ -1,8 +1,8 @@
 -- Which bytes are calm, by the mask of two loads: of the bytes, and of the bytes before them.
 use Rattle.gix_refspec_text.proofs.Common.{◌≡◌, ◌≢◌, ℕ, ◌+◌, ◌-◌, ◌%◌, ◌^◌, ◌<◌, ◌≤◌, ◌||◌, eqb, ltb, cond, Bool, true, false, not, List, [], ◌∷◌, map, length, get_or, replicate, bit_and, bit_or, w8}
-use Rattle.gix_refspec_text.proofs.Common.{refl, sym, ap, ap₂, ◌∙◌, subst, inl, inr, arith, agree_below_at, not-true, cond-true, cond-false, eq-eqb, ne_eqb, cases_eq, mask_l-mod, length-zip2}
-use Rattle.gix_refspec_text.proofs.Common.{get_or-zip2, length-chunk, get_or-chunk, leading_from_mask_l, trailing_mask_l, length-map, get_or-map, prefix_len, prefix_len-le-length, prefix_len_passes}
-use Rattle.gix_refspec_text.proofs.Common.{chunk, zip2, mask_l, top, slash, class_at, IsCalm, AreCalm, lowest_of, or_cases, eqb-true}
+use Rattle.gix_refspec_text.proofs.Common.{refl, sym, ap, ap₂, ◌∙◌, inl, inr, arith, agree_below_at, not-true, cond-true, cond-false, eq-eqb, ne_eqb, cases_eq, mask_l-mod, length-zip2, get_or-zip2}
+use Rattle.gix_refspec_text.proofs.Common.{length-chunk, get_or-chunk, leading_from_mask_l, trailing_mask_l, length-map, get_or-map, prefix_len, prefix_len-le-length, prefix_len_passes, chunk, zip2}
+use Rattle.gix_refspec_text.proofs.Common.{mask_l, top, slash, class_at, IsCalm, AreCalm, lowest_of, or_cases, eqb-true}
 use Rattle.std.proofs.Common.{Fits}
 use Rattle.gix_refspec_text.specs.declared.name.class.Class.{Class}
 use Rattle.gix_refspec_text.specs.declared.name.class.Class.TheVariants.{Plain}
@@ -104,18 +104,10 @@ ending-other : (y : ℕ) → y ≢ 47 → y ≢ 107 → ending y ≡ 0
 ending-other y not_slash not_k = ap₂ (λ s t. bit_or (cond s 255 0) (cond t 255 0)) (ne_eqb y 47 not_slash) (ne_eqb y 107 not_k)
 
 calm_after_other : (x y : ℕ) → y ≢ 47 → y ≢ 107 → (is_plain_class (class_at x) || eqb x slash) ≡ true → IsCalm y x
-calm_after_other x y not_slash not_k even =
-    elim (or_cases (is_plain_class (class_at x)) (eqb x slash) even) [ inl plain ↦ inl (plain_class (class_at x) plain) | inr same ↦ inr (eqb-true x slash same, not_slash, not_k) ]
+calm_after_other x y not_slash not_k even = search (arith, or_cases, plain_class, eqb-true)
 
 calm_from_clear : (x y : ℕ) → x < 256 → top 7 (bit_or (stop x) (bit_and (slashed x) (ending y))) ≡ false → IsCalm y x
-calm_from_clear x y below clear =
-    elim (cases_eq y 47) [
-      | inl same ↦ inl (plain_after_end x below (subst (λ b. top 7 (bit_or (stop x) (bit_and (slashed x) (ending b))) ≡ false) same clear))
-      | inr not_slash ↦ elim (cases_eq y 107) [
-        | inl same ↦ inl (plain_after_end x below (subst (λ b. top 7 (bit_or (stop x) (bit_and (slashed x) (ending b))) ≡ false) same clear))
-        | inr not_k ↦ calm_after_other x y not_slash not_k (plain_or_slash x below (subst (λ n. top 7 (bit_or (stop x) (bit_and (slashed x) n)) ≡ false) (ending-other y not_slash not_k) clear))
-      ]
-    ]
+calm_from_clear x y below clear = search (arith, cases_eq, plain_after_end, calm_after_other, plain_or_slash, ending-other)
 
 -- bytes below the lowest set lane are calm
 pub calm_from_lanes : (d : List ℕ) (i r : ℕ) (s a b : List ℕ) → ((k : ℕ) → Fits w8 (get_or d k 0)) → 0 < i → i + 16 ≤ length d → s ≡ map stop (chunk i 16 d) → a ≡ map slashed (chunk i 16 d) → b ≡ map ending (chunk (i - 1) 16 d)

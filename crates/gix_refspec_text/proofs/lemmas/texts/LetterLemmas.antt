@@ -4,7 +4,7 @@ use Rattle.gix_refspec_text.proofs.Common.{if◌then◌else◌, arith, append_as
 use Rattle.gix_refspec_text.proofs.Common.{EmptyComponent, StartsWithDot, LockSuffix, EndsWithDot, RepeatedDot, ReflogPortion, Asterisk, InvalidByte, Lacks, EndsWith, slash, star, letter, dot, brace}
 use Rattle.gix_refspec_text.proofs.Common.{is_refused_byte, HasFault, IsName, IsSplit, IsPattern, HasOneStar, ReplacesStar, class_at, AddsFault, IsClean, LeavesFault, Finds, letter_for, with_letters}
 use Rattle.gix_refspec_text.proofs.Common.{IsScanned, IsCalm, AreCalm, count_by_more_yes, cond, zero-add, count_by, sum_by-append, HasSeveralStars, take_all, IsStarCount, one_if}
-use Rattle.gix_refspec_text.specs.declared.name.class.Class.TheVariants.{Plain, Slash, Dot, Brace, Star, Refused}
+use Rattle.gix_refspec_text.specs.declared.name.class.Class.TheVariants.{Plain}
 use Rattle.gix_refspec_text.proofs.lemmas.texts.TextLemmas.{split_at}
 use Rattle.gix_refspec_text.proofs.lemmas.texts.NameLemmas.{one_more, IsClean-more, HasFault-added, answer_at_end, slash_adds, last_byte}
 
@@ -93,8 +93,7 @@ letters-append x y = map-append letter_for x y
 
 -- a byte of the text with letters that isn't the letter is a byte of the text
 same_byte : (b c : ℕ) → c ≢ letter → letter_for b ≡ c → b ≡ c
-same_byte b c other same =
-    elim (cases_eq b star) [ inl starred ↦ absurd (other (sym same ∙ letter_for-star b starred)) | inr plain ↦ sym (letter_for-other b plain) ∙ same ]
+same_byte b c other same = search (arith, cases_eq, letter_for-star, letter_for-other)
 
 same_word : (y w : List ℕ) → Lacks letter w → with_letters y ≡ w → y ≡ w
 same_word (b ∷ y) (c ∷ w) lacks same = ap (λ d. d ∷ y) (same_byte b c lacks.0 (cc)) ∙ ap (λ z. c ∷ z) (same_word y w lacks.1 (cc))
@@ -129,10 +128,7 @@ ends_before : (y : List ℕ) → EndsAs (with_letters y) y
 ends_before y w kept ends = end_before y ends.before w kept.0 ends.here
 
 ends_with_letters : (y : List ℕ) → EndsAs y (with_letters y)
-ends_with_letters y w kept ends = record {
-  before = with_letters ends.before;
-  here = ap with_letters ends.here ∙ letters-append ends.before w ∙ ap (λ z. with_letters ends.before ++ z) kept.1;
-}
+ends_with_letters y w kept ends = search (arith, letters-append)
 
 -- so a byte adds the same faults to both
 AddsFault-as : (x y : List ℕ) (b : ℕ) → EndsAs x y → (e : Error) → AddsFault x b e → AddsFault y b e
@@ -218,8 +214,7 @@ letters-Lacks [] lacks = refl
 letters-Lacks (b ∷ x) lacks = ap (λ c. c ∷ with_letters x) (letter_for-other b lacks.0) ∙ ap (λ y. b ∷ y) (letters-Lacks x lacks.1)
 
 letters-split : (before after x : List ℕ) → IsSplit before after x → with_letters x ≡ before ++ (letter ∷ after)
-letters-split before after x split =
-    ap with_letters split.starred ∙ letters-append before (star ∷ after) ∙ ap (λ y. y ++ (letter ∷ with_letters after)) (letters-Lacks before split.first) ∙ ap (λ y. before ++ (letter ∷ y)) (letters-Lacks after split.last)
+letters-split before after x split = search (arith, letters-append, letters-Lacks)
 
 -- in a text with one star, letters for all stars replace this one
 pub replaces_one : (before after x : List ℕ) → IsSplit before after x → ReplacesStar x (with_letters x)
@@ -239,13 +234,8 @@ name_without_stars x lacks name = subst IsName (letters-Lacks x lacks) name
 plain_as : (b c : ℕ) → class_at b ≡ Plain → b ≡ c → class_at c ≡ Plain
 plain_as b c plain same = subst (λ d. class_at d ≡ Plain) same plain
 
-refused_class : (s d r t : Bool) → (if s then Slash else if d then Dot else if r then Brace else if t then Star else Refused) ≡ Plain → ⊥
-refused_class s d r t same = grind arith
-
 plain_not_refused : (b : ℕ) → class_at b ≡ Plain → is_refused_byte b ≡ true → ⊥
-plain_not_refused b plain refused =
-    refused_class (b == slash) (b == dot) (b == brace) (b == star)
-    (sym (ap (λ v. if b == slash then Slash else if b == dot then Dot else if b == brace then Brace else if b == star then Star else if v then Refused else Plain) refused) ∙ plain)
+plain_not_refused b plain refused = grind arith
 
 plain_adds_nothing : (y : List ℕ) (b : ℕ) → class_at b ≡ Plain → (e : Error) → ¬ (AddsFault y b e)
 plain_adds_nothing y b plain EmptyComponent fault = let no = plain_as b slash plain fault.0 in absurd (cc)

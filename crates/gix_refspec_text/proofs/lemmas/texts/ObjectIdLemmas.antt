@@ -9,7 +9,7 @@ use Rattle.std.proofs.lemmas.Str.{IsUtf8-from_ascii}
 use Rattle.std.proofs.lemmas.Str.Ascii.{IsAscii-from_all}
 use Rattle.hex.specs.Hex.{IsBytes, decode_of, decode_pairs, decode_sized, encode_with, hex_digit_value, is_hex_digit, lower_digits, pair_value}
 use Rattle.hex.specs.declared.error.FromHexError.{FromHexError}
-use Rattle.hex.proofs.HexLemmas.{IsAscii-encode_with, IsOk-decode_sized, decode_of-ok, decode_of-same, decode_pairs-ok, decode_sized-encode_lower, decode_sized-twice, length-encode_with}
+use Rattle.hex.proofs.HexLemmas.{IsAscii-encode_with, IsOk-decode_sized, decode_of-ok, decode_of-same, decode_pairs-ok, decode_sized-encode_lower, length-encode_with}
 use Rattle.hex.proofs.Pairs.{cons_byte, decode_pairs-ok_pair, decode_sized-pairs}
 use Rattle.gix_refspec_text.specs.declared.oid.Error.{Error}
 use Rattle.std.proofs.lemmas.Bool.Decides.{nat_tests}
@@ -100,19 +100,11 @@ decoded_long kind t i digits decoded = omega (arith, digits_of-twice kind, (deco
 
 -- a text that decodes to as many bytes as an id has is the text of that id
 pub IsIdText-decoded : (kind : Kind) (t i : List ℕ) → length t ≡ digits_of kind → decode_sized t (bytes_of kind) ≡ Ok i → IsIdText t i
-IsIdText-decoded kind t i digits decoded = record {
-  kind = kind;
-  digits = digits;
-  bytes = decoded_long kind t i digits decoded;
-  spelled = Spells-decode_pairs t i (decoded_pairs kind t i digits decoded);
-}
+IsIdText-decoded kind t i digits decoded = search (arith, decoded_long, Spells-decode_pairs, decoded_pairs)
 
 -- the text of an id decodes to its bytes
 pub decode_of-IsIdText : (t i : List ℕ) → IsIdText t i → decode_of t ≡ Ok i
-decode_of-IsIdText t i text =
-    let twice : length t ≡ 2 * length i = omega (arith, digits_of-twice text.kind, text.digits, text.bytes) in
-    sym (decode_sized-twice t (length i) twice)
-    ∙ decode_sized-pairs t (length i) (omega arith) (omega arith) ∙ decode_pairs-spelled 0 t i twice text.spelled
+decode_of-IsIdText t i text = search (arith, digits_of-twice, decode_pairs-spelled)
 
 -- a text is the text of at most one id
 pub IsIdText-unique : (t i j : List ℕ) → IsIdText t i → IsIdText t j → i ≡ j
@@ -210,9 +202,7 @@ reads kind t room new n false size digits made =
 
 -- an id is read into the first bytes of a buffer
 pub read_id : (kind : Kind) (t room new : List ℕ) (n : ℕ) (r : Result (Unit {0}) FromHexError) → n ≡ bytes_of kind → length room ≡ 32 → length t ≡ digits_of kind → MatchResult (decode_sized t (length (take n room))) (λ bytes. (r ≡ Ok tt) × (new ≡ bytes)) (λ e. r ≡ Err e) → MatchBool (is_err r) (HasIdFault t Digit) (IsIdText t (take (bytes_of kind) (new ++ drop n room)))
-read_id kind t room new n r size fits digits told =
-    let long : length (take n room) ≡ bytes_of kind = ap (λ k. length (take k room)) size ∙ length-room kind room fits in
-    reads kind t room new n (is_err r) size digits (decoded (decode_sized t (bytes_of kind)) r new (subst (λ k. MatchResult (decode_sized t k) (λ bytes. (r ≡ Ok tt) × (new ≡ bytes)) (λ e. r ≡ Err e)) long told))
+read_id kind t room new n r size fits digits told = search (arith, length-room, reads, decoded)
 
 -- ---- texts in lower case
 

@@ -1,4 +1,4 @@
-use Rattle.gix_refspec_text.proofs.Common.{◌≡◌, ◌≢◌, ◌+◌, ◌∷◌, take, get_or, sym, ap, ◌∙◌, subst, arith, common_steps, slash, star, IsScanned, one_if}
+use Rattle.gix_refspec_text.proofs.Common.{◌≡◌, ◌≢◌, ◌+◌, ◌∷◌, take, get_or, sym, subst, arith, common_steps, slash, star, IsScanned}
 use Rattle.gix_refspec_text.proofs.lemmas.texts.LetterLemmas.{second_star, scanned_other, scanned_star, some_index, fault_with_letters}
 use Rattle.gix_refspec_text.proofs.name.scanned_to.Goals as goal
 use Rattle.gix_refspec_text.proofs.name.scanned_to.Goals.{then-byte-eq42+else-starred, else-byte-eq42+in_default}
@@ -11,10 +11,7 @@ loop-index-preserved-then-is_plain c =
 
 -- there is a star already, and this is another
 pub returns-then-starred : goal.returns-then-starred
-returns-then-starred c =
-    let x = c.args.text.now in
-    let i = c.loop-index.index in
-    second_star x i (omega arith) (grind (arith, common_steps)) (c.loop-index.invariant.1 ∙ ap one_if c.if-starred.true)
+returns-then-starred c = search (arith, second_star)
 
 -- the byte at the index adds the fault, and isn't a star
 pub returns-in-Some : goal.returns-in-Some

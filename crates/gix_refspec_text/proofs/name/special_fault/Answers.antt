@@ -3,9 +3,7 @@ use Rattle.gix_refspec_text.proofs.lemmas.texts.NameLemmas.{slash_adds, last_byt
 use Rattle.gix_refspec_text.proofs.name.special_fault.Goals as goal
 
 pub returns-then-ends_with : goal.returns-then-ends_with
-returns-then-ends_with c =
-    let same : c.args.byte ≡ slash = grind (arith, common_steps) in
-    (same, (locked_after_slash c.args.before.now _ c.ends_with.ensures.value).0 c.if-ends_with.true)
+returns-then-ends_with c = search (arith, locked_after_slash)
 
 pub returns-else-ends_with : goal.returns-else-ends_with
 returns-else-ends_with c e =

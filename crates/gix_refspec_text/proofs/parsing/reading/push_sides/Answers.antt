@@ -2,17 +2,9 @@
 -- its sides.
 use Rattle.gix_refspec_text.proofs.Common.{Some, refl, sym, ap, ◌∙◌, subst, rules, err_from_is_err_and, differs_true, differs_false, the_type, Push, AreParts, named_by, PatternUnbalanced, mode_of}
 use Rattle.gix_refspec_text.proofs.Common.{HasCheckedShape, side_of}
-use Rattle.gix_refspec_text.proofs.lemmas.parsing.ReasonLemmas.{push_reaches, bad_source_of_push, error_at_source, error_at_destination, push_source_fine, unbalanced_push}
+use Rattle.gix_refspec_text.proofs.lemmas.parsing.ReasonLemmas.{push_reaches, error_at_destination, push_source_fine, unbalanced_push}
 use Rattle.gix_refspec_text.proofs.lemmas.parsing.ReadsLemmas.{read_with, push_reads}
 use Rattle.gix_refspec_text.proofs.parsing.reading.push_sides.Goals as goal
-
-pub returns-in_err-starred-clause-err : goal.returns-in_err-starred-clause-err
-returns-in_err-starred-clause-err c =
-    let before = push_reaches _ _ c.args.target.now c.requires.positive.positive c.if-pushes_nowhere.ensures in
-    let bad = bad_source_of_push c.args.parts.source.now c.args.target.now in
-    let reason = error_at_source Push _ _ (Some c.args.target.now) _ c.in_err-starred.field-0.0 before bad c.in_err-starred.ensures.err in
-    let q = err_from_is_err_and c.from_residual.result c.from_residual.ensures.1 in
-    rw (q.1, q.2, c.requires.positive.operation, c.requires.target) reason
 
 pub returns-in_err-checked-clause-err : goal.returns-in_err-checked-clause-err
 returns-in_err-checked-clause-err c =
