@@ -106,10 +106,7 @@ with_sign Forced rest = plus ∷ rest
 with_sign Negative rest = caret ∷ rest
 
 signed_tested : (mode : Mode) (rest : List ℕ) → begins_signed mode rest ≡ false → IsSigned mode (with_sign mode rest) rest
-signed_tested Normal [] none = (refl, tt)
-signed_tested Normal (b ∷ rest) none = let signs = or_parts (b == plus) (b == caret) none in no_sign b rest signs.0 signs.1
-signed_tested Forced rest none = refl
-signed_tested Negative rest none = refl
+signed_tested mode rest none = grind (arith, or_parts, no_sign)
 
 last_tested : (s : List ℕ) (d : Option (List ℕ)) → list_any (λ c. c == colon) (unwrap_or d s) ≡ false → LastLacksColon s d
 last_tested s None none = Lacks-tested colon s none
@@ -210,8 +207,7 @@ pub id_matches : MatchesAs (object (1 ∷ [])) tag None × MatchesAs (object (2 
 id_matches = ((refl, inl refl), (refl, inr refl))
 
 pub other_id_differs : ¬ (MatchesAs (object (3 ∷ [])) tag None)
-other_id_differs (none, inl target) = first_byte 1 3 [] (λ same. omega (arith, same)) target
-other_id_differs (none, inr tagged) = first_byte 2 3 [] (λ same. omega (arith, same)) (same_Some _ _ tagged)
+other_id_differs h = grind (arith, first_byte, same_Some)
 
 -- an id and a partial name match without a word, too
 pub others_have_no_word : (word : List ℕ) → ¬ (MatchesAs (object (1 ∷ [])) tag (Some word)) × ¬ (MatchesAs (partial (codes "main")) (named (codes "main")) (Some word))

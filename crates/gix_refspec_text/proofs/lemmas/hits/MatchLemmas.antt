@@ -1,7 +1,7 @@
 -- The refs that sides match, and the prefixes and candidates of sides.
-use Rattle.gix_refspec_text.proofs.Common.{◌≡◌, ◌≢◌, ℕ, List, [], ◌∷◌, ◌++◌, codes, Option, None, Some, refl, sym, ap, ◌∙◌, subst, append-nil, append_cancel_left, append_cancel_right, Lacks}
-use Rattle.gix_refspec_text.proofs.Common.{BeginsWith, IsSplit, star, head, SideKind, pattern, full_name, object, partial, HasKind, IsId, candidates, IsCandidate, Ref, MatchesAs, of_head, of_name}
-use Rattle.gix_refspec_text.proofs.Common.{of_pattern, HasNoPrefix, Expands, to_prefix, to_itself, below_refs, of_object, to_candidates, OneWord, PrefixBegins, Candidates}
+use Rattle.gix_refspec_text.proofs.Common.{arith, ◌≡◌, ◌≢◌, ℕ, List, [], ◌∷◌, ◌++◌, codes, Option, None, Some, refl, sym, ap, ◌∙◌, subst, append-nil, append_cancel_left, append_cancel_right, Lacks}
+use Rattle.gix_refspec_text.proofs.Common.{BeginsWith, IsSplit, star, head, SideKind, pattern, full_name, object, partial, HasKind, IsId, candidates, IsCandidate, Ref, MatchesAs, HasNoPrefix, Expands}
+use Rattle.gix_refspec_text.proofs.Common.{to_prefix, to_itself, below_refs, of_object, to_candidates, OneWord, PrefixBegins, Candidates}
 use Rattle.gix_refspec_text.proofs.lemmas.hits.CandidateLemmas.{first_candidate, first_of_one, takes_first}
 use Rattle.gix_refspec_text.proofs.lemmas.lists.LacksLemmas.{Lacks-here, first_once}
 
@@ -19,10 +19,7 @@ split_once x before after fixed rest a b = first_once star before fixed after re
 
 -- the case of a full name: it is its own prefix
 name_begins : (x : List ℕ) (k : SideKind) (r : Ref) (word : Option (List ℕ)) → BeginsWith (codes "refs/") x → Lacks star x → HasKind x k → MatchesAs k r word → BeginsWith x r.name
-name_begins x (pattern before after) r word begins lacks kind fits = absurd (lacks_no_pattern x before after lacks kind)
-name_begins x (full_name n) r word begins lacks kind fits = record { after = []; here = fits.1 ∙ (kind.0 ∙ sym (append-nil x)) }
-name_begins x (object id) r word begins lacks kind fits = absurd (kind.1 begins)
-name_begins x (partial n) r word begins lacks kind fits = absurd (kind.2 begins)
+name_begins x k r word begins lacks kind fits = grind (arith, lacks_no_pattern, append-nil)
 
 -- the case of a pattern: its prefix is the text before its star
 pattern_begins : (x fixed rest : List ℕ) (k : SideKind) (r : Ref) (word : Option (List ℕ)) → IsSplit fixed rest x → HasKind x k → MatchesAs k r word → BeginsWith fixed r.name
@@ -36,10 +33,7 @@ pattern_begins x fixed rest (partial n) r word split kind fits = absurd (lacks_n
 
 -- the name of each ref that a side matches begins with the prefix of the side
 pub prefix_begins : (x : List ℕ) → PrefixBegins x
-prefix_begins x p r word (of_head is_head _) other matches = absurd (other is_head)
-prefix_begins x p r word (of_name begins lacks same) other matches = subst (λ (y : List ℕ). BeginsWith y r.name) (sym same) (name_begins x matches.kind r word begins lacks matches.of matches.is)
-prefix_begins x p r word (of_pattern before after split tells same) other matches =
-    subst (λ (y : List ℕ). BeginsWith y r.name) (sym same) (pattern_begins x before after matches.kind r word split matches.of matches.is)
+prefix_begins x p r word h other matches = grind (arith, name_begins, pattern_begins)
 
 -- a text whose part before the star begins with `refs/` begins with `refs/`
 pub begins_split : (x before after : List ℕ) → IsSplit before after x → BeginsWith (codes "refs/") before → BeginsWith (codes "refs/") x
@@ -47,9 +41,7 @@ begins_split x before after split below = record { after = below.after ++ (star 
 
 -- a side that isn't `HEAD` and doesn't begin with `refs/` has no prefix
 pub outside_none : (x : List ℕ) → x ≢ head → ¬ (BeginsWith (codes "refs/") x) → HasNoPrefix x
-outside_none x other outside p (of_head is_head _) = other is_head
-outside_none x other outside p (of_name begins _ _) = outside begins
-outside_none x other outside p (of_pattern before after split tells _) = outside (begins_split x before after split tells.below)
+outside_none x other outside p h = grind (arith, begins_split)
 
 -- such a side that isn't an id is expanded to its candidates only
 only_candidates : (x : List ℕ) → x ≢ head → ¬ (BeginsWith (codes "refs/") x) → ¬ (IsId x) → (list : List (List ℕ)) → Expands x list → list ≡ candidates x

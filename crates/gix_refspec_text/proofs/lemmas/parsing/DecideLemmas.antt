@@ -1,5 +1,5 @@
 -- Each text is a name or has a fault, and each side is valid or bad for a reason.
-use Rattle.gix_refspec_text.proofs.Common.{◌≡◌, ◌≢◌, ◌⊎◌, inl, inr, ℕ, Bool, true, false, List, [], ◌∷◌, ◌++◌, codes, nat_eq, IsTrue, refl, sym, ap, ◌∙◌, subst, append_assoc, length, take, ◌-◌}
+use Rattle.gix_refspec_text.proofs.Common.{arith, ◌≡◌, ◌≢◌, ◌⊎◌, inl, inr, ℕ, Bool, true, false, List, [], ◌∷◌, ◌++◌, codes, nat_eq, IsTrue, refl, sym, ap, ◌∙◌, subst, append_assoc, length, take, ◌-◌}
 use Rattle.gix_refspec_text.proofs.Common.{ends_with, ends_is, false≢true, append-nil, Decides-eqb, Error, Empty, EmptyComponent, StartsWithDot, LockSuffix, EndsWithDot, RepeatedDot, ReflogPortion}
 use Rattle.gix_refspec_text.proofs.Common.{Asterisk, InvalidByte, Lacks, EndsWith, slash, star, dot, brace, is_refused_byte, HasFault, IsName, AddsFault, LeavesFault, Added, IsClean, cases_Bool}
 use Rattle.gix_refspec_text.proofs.Common.{cases_eq, Option, None, Some, unwrap_or, nat_le, is_ascii_hexdigit, leb-true, le-leb, Operation, Push, Fetch, Shape, Plain, Pattern, letter, plus, caret}
@@ -23,9 +23,7 @@ pub tested : (b : Bool) → (b ≡ true) ⊎ (b ≡ false)
 tested = cases_Bool
 
 both : {P Q : Type 0} → Decided P → Decided Q → Decided (P × Q)
-both (inl p) (inl q) = inl (p, q)
-both (inl p) (inr q) = inr (λ h. q h.1)
-both (inr p) q = inr (λ h. p h.0)
+both h q = grind arith
 
 -- what a test shows, and what shows the test, holds or doesn't
 pub decided_by : {P : Type 0} (b : Bool) → (b ≡ true → P) → (P → b ≡ true) → Decided P
@@ -43,8 +41,7 @@ Found P = ((e : Error) × P e) ⊎ ((e : Error) → ¬ (P e))
 
 -- the fault e satisfies P, or the search goes on
 or_else : (P : Error → Type 0) (e : Error) → Decided (P e) → (¬ (P e) → Found P) → Found P
-or_else P e (inl found) later = inl (e, found)
-or_else P e (inr none) later = later none
+or_else P e h later = grind arith
 
 -- a byte adds only these faults
 added_fault : (y : List ℕ) (b : ℕ) → Found (AddsFault y b)
@@ -154,9 +151,7 @@ checked (b ∷ x) = elim (starred (b ∷ x)) [ inl side ↦ checked_by b x side.
 
 -- two sides have the same shape or not
 decided_side : (j k : Shape) → Decided (j ≡ k)
-decided_side Plain Plain = inl refl
-decided_side Pattern Pattern = inl refl
-decided_side _ _ = inr (λ same. absurd (cc))
+decided_side j k = grind arith
 
 -- a text is empty or not
 decided_empty : (x : List ℕ) → Decided (x ≡ [])

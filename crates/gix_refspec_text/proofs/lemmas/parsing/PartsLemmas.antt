@@ -1,6 +1,5 @@
 -- A text has only one sign, source and destination.
-use Rattle.gix_refspec_text.proofs.Common.{◌≡◌, ℕ, List, Option, None, Some, refl, sym, ap, ◌∙◌, subst, arith, Lacks, Mode, Normal, Forced, Negative, plus, caret, colon, IsUnsigned, IsSigned}
-use Rattle.gix_refspec_text.proofs.Common.{with_colon, LastLacksColon, AreParts}
+use Rattle.gix_refspec_text.proofs.Common.{◌≡◌, ℕ, List, Option, refl, sym, ◌∙◌, subst, arith, Mode, Normal, Forced, Negative, plus, caret, IsUnsigned, IsSigned, with_colon, LastLacksColon, AreParts}
 use Rattle.gix_refspec_text.proofs.lemmas.lists.LacksLemmas.{Lacks-here, last_once}
 
 -- a text with its parts
@@ -22,10 +21,7 @@ signed_once Negative Forced text r s a b = let heads : caret ≡ plus = cc in ab
 signed_once Negative Negative text r s a b = (refl, cc)
 
 pub split_once : (s t : List ℕ) (d e : Option (List ℕ)) → LastLacksColon s d → LastLacksColon t e → with_colon s d ≡ with_colon t e → (s ≡ t) × (d ≡ e)
-split_once s t None None a b same = (same, refl)
-split_once s t None (Some e) a b same = absurd (Lacks-here colon t e (subst (Lacks colon) same a))
-split_once s t (Some d) None a b same = absurd (Lacks-here colon s d (subst (Lacks colon) (sym same) b))
-split_once s t (Some d) (Some e) a b same = let once = last_once colon s t d e a b same in (once.0, ap (λ (x : List ℕ). Some x) once.1)
+split_once s t d e a b same = grind (arith, Lacks-here, last_once)
 
 -- two splits of a text into parts are the same
 pub record SameParts (m n : Mode) (s t : List ℕ) (d e : Option (List ℕ)) : Type 0 where

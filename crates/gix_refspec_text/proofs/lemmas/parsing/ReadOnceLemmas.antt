@@ -1,5 +1,5 @@
 -- A text has at most one reading, which is made from its parts.
-use Rattle.gix_refspec_text.proofs.Common.{◌≡◌, ◌≢◌, ◌⊎◌, inl, inr, ℕ, List, [], ◌∷◌, Option, None, Some, unwrap_or, refl, sym, ap, ◌∙◌, Operation, Push, Fetch, Mode, Forced, Negative, Reading}
+use Rattle.gix_refspec_text.proofs.Common.{arith, ◌≡◌, ◌≢◌, ◌⊎◌, inl, inr, ℕ, List, [], Option, None, Some, unwrap_or, refl, sym, ap, ◌∙◌, Operation, Push, Fetch, Mode, Forced, Negative, Reading}
 use Rattle.gix_refspec_text.proofs.Common.{named_by, AreAlike, AreParts, fetched, pushed, Reads, fetches_nothing_named, fetches_colon, fetches, updates, updates_from_head, fetch_excludes, pushes_plus}
 use Rattle.gix_refspec_text.proofs.Common.{pushes_colon, pushes, deletes, pushes_pattern, pushes_to, push_excludes, side_of, named_or_head}
 use Rattle.gix_refspec_text.proofs.lemmas.parsing.PartsLemmas.{Parted, parts_once}
@@ -17,16 +17,13 @@ pub record IsMade (op : Operation) (text : List ℕ) (r : Reading) : Type 0 wher
 
 -- a source that isn't empty, in a fetch and as a side
 named_or_head-full : (s : List ℕ) → s ≢ [] → named_or_head s ≡ named_by s
-named_or_head-full [] full = absurd (full refl)
-named_or_head-full (b ∷ s) full = refl
+named_or_head-full s full = grind arith
 
 side_of-full : (s : List ℕ) → s ≢ [] → side_of s ≡ Some s
-side_of-full [] full = absurd (full refl)
-side_of-full (b ∷ s) full = refl
+side_of-full s full = grind arith
 
 side_of-named_full : (s : List ℕ) → s ≢ [] → side_of (named_by s) ≡ Some (named_by s)
-side_of-named_full [] full = absurd (full refl)
-side_of-named_full (b ∷ s) full = side_of-named b s
+side_of-named_full s full = grind (arith, side_of-named)
 
 pub alike_full : (s d : List ℕ) → AreAlike s d → (s ≢ []) × (d ≢ [])
 alike_full s d (inl names) = (name_not_empty s names.0, name_not_empty d names.1)

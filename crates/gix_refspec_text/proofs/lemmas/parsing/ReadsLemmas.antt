@@ -1,10 +1,10 @@
 -- A text with valid parts has the reading with their sides, and each text with a reading has valid parts.
-use Rattle.gix_refspec_text.proofs.Common.{◌≡◌, ◌≢◌, ◌⊎◌, inl, inr, ℕ, ◌==◌, true, false, if◌then◌else◌, List, [], ◌∷◌, Option, None, Some, option_map, unwrap_or, refl, sym, ap, subst, Empty}
-use Rattle.gix_refspec_text.proofs.Common.{Operation, Push, Fetch, Shape, Plain, Pattern, IsName, IsPattern, Mode, Normal, Forced, Negative, Reading, Refusal, Never, IsFirstReason, IsRefused}
-use Rattle.gix_refspec_text.proofs.Common.{ReachesMemory, MayNeedMemory, head, named_by, IsPositive, IsNameOrPattern, LooksLikeObjectHash, AreAlike, AreParts, fetched, pushed, Reads}
-use Rattle.gix_refspec_text.proofs.Common.{fetches_nothing_named, fetches_colon, fetches, updates, updates_from_head, fetch_excludes, pushes_plus, pushes_colon, pushes, deletes, pushes_pattern}
-use Rattle.gix_refspec_text.proofs.Common.{pushes_to, push_excludes, mode_of, IsErrorOf, HasShape, HasCheckedShape, side_of, named_or_head, destination_of, HasParts, read_as, IsReasonAgainst}
-use Rattle.gix_refspec_text.proofs.Common.{bstr_bytes, NoReasonBeforeSource, HasBadSource, HasBadDestination, IsUnbalanced, ExcludesNothing, ExcludesObject}
+use Rattle.gix_refspec_text.proofs.Common.{arith, ◌≡◌, ◌≢◌, ◌⊎◌, inl, inr, ℕ, List, [], ◌∷◌, Option, None, Some, option_map, unwrap_or, refl, sym, ap, subst, Empty, Operation, Push, Fetch, Shape}
+use Rattle.gix_refspec_text.proofs.Common.{Plain, Pattern, IsName, IsPattern, Mode, Normal, Forced, Negative, Reading, Refusal, Never, IsFirstReason, IsRefused, ReachesMemory, MayNeedMemory, named_by}
+use Rattle.gix_refspec_text.proofs.Common.{IsPositive, IsNameOrPattern, LooksLikeObjectHash, AreAlike, AreParts, fetched, pushed, Reads, fetches_nothing_named, fetches_colon, fetches, updates}
+use Rattle.gix_refspec_text.proofs.Common.{updates_from_head, fetch_excludes, pushes_plus, pushes_colon, pushes, deletes, pushes_pattern, pushes_to, push_excludes, mode_of, IsErrorOf, HasShape}
+use Rattle.gix_refspec_text.proofs.Common.{HasCheckedShape, side_of, named_or_head, destination_of, HasParts, read_as, IsReasonAgainst, bstr_bytes, NoReasonBeforeSource, HasBadSource}
+use Rattle.gix_refspec_text.proofs.Common.{HasBadDestination, IsUnbalanced, ExcludesNothing, ExcludesObject}
 use Rattle.gix_refspec_text.specs.declared.parsing.Error.{Error}
 use Rattle.gix_refspec_text.specs.declared.parsing.reading.Parts.{Parts}
 use Rattle.gix_refspec_text.specs.declared.parsing.reading.Sides.{Sides}
@@ -26,13 +26,11 @@ read_with p sides text op m s d same_op same_mode same_source same_destination r
 
 -- a source that isn't empty names a text that isn't empty
 pub side_of-named : (b : ℕ) (bs : List ℕ) → side_of (named_by (b ∷ bs)) ≡ Some (named_by (b ∷ bs))
-side_of-named b [] = elim (b == 64) as (λ v. side_of (if v then head else b ∷ []) ≡ Some (if v then head else b ∷ [])) [ true ↦ refl | false ↦ refl ]
-side_of-named b (c ∷ bs) = refl
+side_of-named b bs = grind arith
 
 -- the source of a fetch never names the empty text
 pub side_of-named_or_head : (s : List ℕ) → side_of (named_or_head s) ≡ Some (named_or_head s)
-side_of-named_or_head [] = refl
-side_of-named_or_head (b ∷ bs) = side_of-named b bs
+side_of-named_or_head s = grind (arith, side_of-named)
 
 -- the reading of a positive fetch whose sides have one shape
 pub fetch_reads : (m : Mode) (s : List ℕ) (d : Option (List ℕ)) (k : Shape) (text : List ℕ) → IsPositive m → HasCheckedShape s k → HasCheckedShape (unwrap_or d []) k → AreParts m s d text → Reads Fetch text (fetched m (named_or_head s) (side_of (unwrap_or d [])))
@@ -49,8 +47,7 @@ fetch_reads m (x ∷ xs) (Some (c ∷ cs)) Pattern text pos a b parts = updates 
 
 -- a side that isn't empty is a name or a pattern
 checked_name_or_pattern : (b : ℕ) (bs : List ℕ) (k : Shape) → HasCheckedShape (b ∷ bs) k → IsNameOrPattern (b ∷ bs)
-checked_name_or_pattern b bs Plain fine = inl fine
-checked_name_or_pattern b bs Pattern fine = inr fine
+checked_name_or_pattern b bs k fine = grind arith
 
 -- the reading of a positive push of a source alone
 pub push_alone_reads : (m : Mode) (s : List ℕ) (k : Shape) (text : List ℕ) → IsPositive m → (s ≡ [] → m ≡ Normal → ⊥) → HasCheckedShape s k → AreParts m s None text → Reads Push text (pushed m (side_of (named_by s)) None)
@@ -84,17 +81,14 @@ pub data AreFine (op : Operation) (m : Mode) (s : List ℕ) (d : Option (List �
 
 -- a name, and a pattern, as checked sides
 checked_name : (x : List ℕ) → IsName x → HasCheckedShape x Plain
-checked_name [] name = tt
-checked_name (b ∷ bs) name = name
+checked_name x name = grind arith
 
 checked_from_pattern : (x : List ℕ) → IsPattern x → HasCheckedShape x Pattern
-checked_from_pattern [] pattern = pattern
-checked_from_pattern (b ∷ bs) pattern = pattern
+checked_from_pattern x pattern = grind arith
 
 -- a name or a pattern as a checked side of some shape
 checked_either : (x : List ℕ) → IsNameOrPattern x → (k : Shape) × HasCheckedShape x k
-checked_either x (inl name) = (Plain, checked_name x name)
-checked_either x (inr pattern) = (Pattern, checked_from_pattern x pattern)
+checked_either x k = grind (arith, checked_name, checked_from_pattern)
 
 -- a name isn't empty
 pub name_not_empty : (x : List ℕ) → IsName x → x ≢ []

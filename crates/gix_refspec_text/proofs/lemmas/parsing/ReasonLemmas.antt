@@ -1,8 +1,8 @@
 -- The first reason that applies to parts, and that none applies to valid ones.
-use Rattle.gix_refspec_text.proofs.Common.{◌≡◌, ◌≢◌, inl, inr, ℕ, List, [], Option, None, Some, unwrap_or, refl, ap, subst, Operation, Push, Fetch, Shape, Plain, Pattern, HasStar, star, Mode, Normal}
-use Rattle.gix_refspec_text.proofs.Common.{Negative, Refusal, PatternUnbalanced, NegativeEmpty, NegativeObjectHash, IsBadPattern, HasNegativeDestination, HasBadSource, HasBadDestination, IsUnbalanced}
-use Rattle.gix_refspec_text.proofs.Common.{IsOneStarred, Never, IsFirstReason, NeedsMemory, NoReasonBeforeSource, ReachesMemory, IsPositive, LooksLikeObjectHash, MemoryOr, HasShape, HasCheckedShape}
-use Rattle.gix_refspec_text.proofs.Common.{IsBadSide, IsReason, ShowsRefusal}
+use Rattle.gix_refspec_text.proofs.Common.{arith, ◌≡◌, ◌≢◌, inl, inr, ℕ, List, [], Option, None, Some, unwrap_or, refl, ap, subst, Operation, Push, Fetch, Shape, Plain, Pattern, HasStar, star, Mode}
+use Rattle.gix_refspec_text.proofs.Common.{Normal, Negative, Refusal, PatternUnbalanced, NegativeEmpty, NegativeObjectHash, IsBadPattern, HasNegativeDestination, HasBadSource, HasBadDestination}
+use Rattle.gix_refspec_text.proofs.Common.{IsUnbalanced, IsOneStarred, Never, IsFirstReason, NeedsMemory, NoReasonBeforeSource, ReachesMemory, IsPositive, LooksLikeObjectHash, MemoryOr, HasShape}
+use Rattle.gix_refspec_text.proofs.Common.{HasCheckedShape, IsBadSide, IsReason, ShowsRefusal}
 use Rattle.gix_refspec_text.specs.declared.parsing.Error.{Error}
 use Rattle.gix_refspec_text.specs.declared.parsing.Error.TheVariants as error
 use Rattle.gix_refspec_text.proofs.lemmas.texts.TextLemmas.{Lacks-ContainsText}
@@ -10,8 +10,7 @@ use Rattle.gix_refspec_text.proofs.lemmas.parsing.SideLemmas.{checked_fine, star
 
 -- an error other than `Memory` is a refusal
 pub shows_refusal : (M : Type 0) (P : Refusal → Type 0) (e : Error) → MemoryOr M P e → e ≢ error.Memory → ShowsRefusal P e
-shows_refusal M P error.Memory told other = absurd (other refl)
-shows_refusal M P e told other = told
+shows_refusal M P e told other = grind arith
 
 -- if the error is `Memory`, memory may be needed
 pub needs_memory : (M : Type 0) (P : Refusal → Type 0) (e : Error) → MemoryOr M P e → e ≡ error.Memory → M
@@ -19,8 +18,7 @@ needs_memory M P e told same = subst (MemoryOr M P) same told
 
 -- an error that is `Memory` or satisfies P may be weakened to other conditions that follow
 pub MemoryOr-map : (M N : Type 0) (P Q : Refusal → Type 0) (e : Error) → (M → N) → ((f : Refusal) → P f → Q f) → MemoryOr M P e → MemoryOr N Q e
-MemoryOr-map M N P Q error.Memory m p h = m h
-MemoryOr-map M N P Q e m p h = (h.0, h.1, p h.0 h.2)
+MemoryOr-map M N P Q e m p h = grind arith
 
 -- a positive mode isn't negative
 pub positive : (m : Mode) → IsPositive m → m ≡ Negative → ⊥
@@ -55,8 +53,7 @@ push_alone_reaches m s pos full = (λ e h. full h.no_source h.unsigned, no_negat
 
 -- memory may be needed at the source
 pub memory_at_source : (op : Operation) (m : Mode) (s : List ℕ) (d : Option (List ℕ)) → NoReasonBeforeSource op m s d → NeedsMemory s → ReachesMemory op m s d
-memory_at_source op m s None reached needs = (reached, needs)
-memory_at_source op m s (Some d) reached needs = (reached, inl needs)
+memory_at_source op m s d reached needs = grind arith
 
 -- the reasons at the source, at the destination, and of unbalanced sides
 pub reason_at_source : (op : Operation) (m : Mode) (s : List ℕ) (d : Option (List ℕ)) (e : Refusal) → NoReasonBeforeSource op m s d → HasBadSource op s d e → IsFirstReason op m s d e
@@ -76,8 +73,7 @@ pub push_source_fine : (s d : List ℕ) (k : Shape) → HasShape s k → Never (
 push_source_fine s d k fine e bad = starred_fine s k fine e bad.refusal
 
 pub alone_fine : (op : Operation) (s : List ℕ) (k : Shape) → HasCheckedShape s k → Never (HasBadSource op s None)
-alone_fine Push s k fine e bad = checked_fine s k fine e (bad.source, bad.refusal)
-alone_fine Fetch s k fine e bad = checked_fine s k fine e (bad.source, bad.refusal)
+alone_fine op s k fine e bad = grind (arith, checked_fine)
 
 -- a checked destination isn't bad
 pub destination_fine : (d : Option (List ℕ)) (k : Shape) → HasCheckedShape (unwrap_or d []) k → Never (HasBadDestination d)
@@ -111,8 +107,7 @@ empty_needs_none (inr long) = Lacks-ContainsText star [] tt long.0
 
 -- a bad side after the colon is a bad destination
 pub bad_destination : (d : Option (List ℕ)) (e : Refusal) → IsBadSide (unwrap_or d []) e → HasBadDestination d e
-bad_destination None e bad = absurd (bad.0 refl)
-bad_destination (Some d) e bad = record { word = d; is = refl; destination = bad.0; refusal = bad.1 }
+bad_destination d e bad = grind arith
 
 pub memory_at_destination : (op : Operation) (m : Mode) (s : List ℕ) (d : Option (List ℕ)) → NoReasonBeforeSource op m s d → Never (HasBadSource op s d) → NeedsMemory (unwrap_or d []) → ReachesMemory op m s d
 memory_at_destination op m s None before source needs = absurd (empty_needs_none needs)
@@ -148,8 +143,7 @@ reason_against_nothing op s k empty a =
 
 -- a bad side alone is a bad source
 pub bad_negative : (op : Operation) (s : List ℕ) (e : Refusal) → IsBadSide s e → HasBadSource op s None e
-bad_negative Push s e bad = record { source = bad.0; refusal = bad.1 }
-bad_negative Fetch s e bad = record { source = bad.0; refusal = bad.1 }
+bad_negative op s e bad = grind arith
 
 -- the reason to refuse a fetch with sides of different shapes
 pub unbalanced_fetch : (m : Mode) (s : List ℕ) (d : Option (List ℕ)) (j k : Shape) → IsPositive m → HasCheckedShape s j → HasCheckedShape (unwrap_or d []) k → j ≢ k → IsFirstReason Fetch m s d PatternUnbalanced

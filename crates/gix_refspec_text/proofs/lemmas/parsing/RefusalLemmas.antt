@@ -1,6 +1,6 @@
 -- A text is refused for only one reason, apart from which fault of a name it holds.
-use Rattle.gix_refspec_text.proofs.Common.{◌≡◌, ◌⊎◌, inl, inr, ℕ, List, Option, None, Some, refl, sym, ap, ◌∙◌, subst, Operation, Push, Fetch, star, Mode, Refusal, PatternUnsupported, ReferenceName}
-use Rattle.gix_refspec_text.proofs.Common.{IsBadName, IsBadPattern, IsBadSourceFor, HasBadDestination, OrElse, IsFirstReason, IsSameReason, OneRefusal, same_Some}
+use Rattle.gix_refspec_text.proofs.Common.{arith, ◌≡◌, ◌⊎◌, inl, inr, ℕ, List, Option, None, Some, refl, sym, ap, ◌∙◌, subst, Operation, Push, Fetch, star, Mode, Refusal, PatternUnsupported}
+use Rattle.gix_refspec_text.proofs.Common.{ReferenceName, IsBadName, IsBadPattern, IsBadSourceFor, HasBadDestination, OrElse, IsFirstReason, IsSameReason, OneRefusal, same_Some}
 use Rattle.gix_refspec_text.proofs.lemmas.texts.TextLemmas.{Lacks-ContainsText}
 use Rattle.gix_refspec_text.proofs.lemmas.parsing.SideLemmas.{bad_name, HasStar-bad, HasSeveralStars-replaced}
 use Rattle.gix_refspec_text.proofs.lemmas.parsing.PartsLemmas.{parts_once}
@@ -25,9 +25,7 @@ Agree-pattern x (ReferenceName f) _ a b = absurd b
 Agree-pattern x _ f a b = absurd a
 
 Agree-name : (x : List ℕ) → Agree (IsBadName x)
-Agree-name x (ReferenceName f) (ReferenceName g) a b = inr (f, g, refl, refl)
-Agree-name x (ReferenceName f) _ a b = absurd b
-Agree-name x _ f a b = absurd a
+Agree-name x h f a b = grind arith
 
 -- a bad name isn't a bad pattern
 name_no_pattern : (x : List ℕ) (e f : Refusal) → IsBadName x e → IsBadPattern x f → ⊥

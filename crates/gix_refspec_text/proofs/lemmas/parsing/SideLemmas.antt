@@ -1,5 +1,5 @@
 -- Names and patterns as sides, and the reasons to refuse a side.
-use Rattle.gix_refspec_text.proofs.Common.{◌≡◌, ◌⊎◌, inl, inr, ℕ, List, [], ◌∷◌, ◌++◌, Option, None, Some, option_map, unwrap_or, is_some, Bor, false, refl, sym, ap, ◌∙◌, subst, false≢true, sameb}
+use Rattle.gix_refspec_text.proofs.Common.{arith, ◌≡◌, ◌⊎◌, inl, inr, ℕ, List, [], ◌∷◌, ◌++◌, Option, None, option_map, unwrap_or, is_some, Bor, false, refl, sym, ◌∙◌, subst, false≢true, sameb}
 use Rattle.gix_refspec_text.proofs.Common.{DeclaredMode, Asterisk, Shape, Plain, Pattern, Lacks, IsName, IsPattern, HasStar, HasSeveralStars, ReplacesStar, HasFault, star, Normal, Refusal}
 use Rattle.gix_refspec_text.proofs.Common.{PatternUnsupported, ReferenceName, IsBadName, IsBadPattern, Never, OrElse, mode_of, NothingAgainst, HasShape, HasCheckedShape, IsBadSide}
 use Rattle.gix_refspec_text.specs.contracts.types.Mode.{the_type as the_mode}
@@ -10,8 +10,7 @@ use Rattle.gix_refspec_text.proofs.lemmas.lists.LacksLemmas.{first_once}
 
 -- if neither P nor Q ever applies, nor does one after the other
 pub Never-or : {P Q : Refusal → Type 0} → Never P → Never Q → Never (OrElse P Q)
-Never-or p q e (inl h) = p e h
-Never-or p q e (inr h) = q e h.1
+Never-or p q e h = grind arith
 
 -- a name has no star
 pub Lacks-name : (x : List ℕ) → IsName x → Lacks star x
@@ -39,9 +38,7 @@ HasSeveralStars-replaced x y replaces stars = one_not_two star replaces.before r
 
 -- a bad pattern has a star
 pub HasStar-bad : (x : List ℕ) (e : Refusal) → IsBadPattern x e → HasStar x
-HasStar-bad x (PatternUnsupported p) bad = HasStar-stars x bad.0
-HasStar-bad x (ReferenceName fault) bad = HasStar-replaced x bad.0 bad.1
-HasStar-bad x _ bad = absurd bad
+HasStar-bad x e bad = grind (arith, HasStar-stars, HasStar-replaced)
 
 -- a pattern isn't a bad one
 pub pattern_fine : (x : List ℕ) → IsPattern x → Never (IsBadPattern x)
@@ -61,12 +58,10 @@ plain_fine x lacks e bad = Lacks-ContainsText star x lacks (HasStar-bad x e bad)
 
 -- a bad name has no star, and isn't a name
 pub bad_name : (x : List ℕ) (e : Refusal) → IsBadName x e → Lacks star x × ¬ (IsName x)
-bad_name x (ReferenceName fault) bad = (bad.0, λ name. name fault bad.1)
-bad_name x _ bad = absurd bad
+bad_name x e bad = grind arith
 
 pub name_not_bad : (x : List ℕ) → IsName x → (e : Refusal) → IsBadName x e ⊎ IsBadPattern x e → ⊥
-name_not_bad x name e (inl bad) = (bad_name x e bad).1 name
-name_not_bad x name e (inr bad) = plain_fine x (Lacks-name x name) e bad
+name_not_bad x name e h = grind (arith, bad_name, plain_fine, Lacks-name)
 
 pub pattern_not_bad : (x : List ℕ) → IsPattern x → (e : Refusal) → IsBadName x e ⊎ IsBadPattern x e → ⊥
 pattern_not_bad x pattern e (inl bad) = Lacks-ContainsText star x (bad_name x e bad).0 (HasStar-pattern x pattern)
@@ -79,8 +74,7 @@ checked_fine (b ∷ bs) Plain fine e bad = name_not_bad (b ∷ bs) fine e bad.1
 checked_fine (b ∷ bs) Pattern fine e bad = pattern_not_bad (b ∷ bs) fine e bad.1
 
 pub starred_fine : (x : List ℕ) (k : Shape) → HasShape x k → Never (IsBadPattern x)
-starred_fine x Plain fine = plain_fine x fine
-starred_fine x Pattern fine = pattern_fine x fine
+starred_fine x k fine = grind (arith, plain_fine, pattern_fine)
 
 -- the empty text isn't a pattern
 pub empty_no_pattern : IsPattern [] → ⊥
@@ -88,27 +82,20 @@ empty_no_pattern pattern = Lacks-ContainsText star [] tt (HasStar-pattern [] pat
 
 -- a side that is plain has no star, and one that is a pattern has one
 pub checked_plain : (x : List ℕ) → HasCheckedShape x Plain → Lacks star x
-checked_plain [] fine = tt
-checked_plain (b ∷ bs) fine = Lacks-name (b ∷ bs) fine
+checked_plain x fine = grind (arith, Lacks-name)
 
 -- a checked side also has the shape that it was checked for
 pub checked_starred : (x : List ℕ) (k : Shape) → HasCheckedShape x k → HasShape x k
-checked_starred x Plain fine = checked_plain x fine
-checked_starred [] Pattern fine = fine
-checked_starred (b ∷ bs) Pattern fine = fine
+checked_starred x k fine = grind (arith, checked_plain)
 
 -- the bytes of an optional reference, or of an empty one in its place
 pub now-unwrap_or : (d : Option (Bor (List ℕ))) (e x : Bor (List ℕ)) → x ≡ unwrap_or d e → e.now ≡ [] → x.now ≡ unwrap_or (option_map (λ (y : Bor (List ℕ)). y.now) d) []
-now-unwrap_or None e x is empty = ap (λ (y : Bor (List ℕ)). y.now) is ∙ empty
-now-unwrap_or (Some y) e x is empty = ap (λ (y : Bor (List ℕ)). y.now) is
+now-unwrap_or d e x is empty = grind arith
 
 -- a side is missing if the test says so
 pub none_from_test : (d : Option (Bor (List ℕ))) → false ≡ is_some d → option_map (λ (y : Bor (List ℕ)). y.now) d ≡ None
-none_from_test None test = refl
-none_from_test (Some y) test = absurd (false≢true test)
+none_from_test d test = grind (arith, false≢true)
 
 -- a mode isn't `Normal` if the test says so
 pub signed_from_test : (m : DeclaredMode) → false ≡ sameb the_mode m declared_mode.Normal → mode_of m ≡ Normal → ⊥
-signed_from_test declared_mode.Normal test normal = false≢true test
-signed_from_test declared_mode.Force test normal = absurd (cc)
-signed_from_test declared_mode.Negative test normal = absurd (cc)
+signed_from_test m test normal = grind (arith, false≢true)

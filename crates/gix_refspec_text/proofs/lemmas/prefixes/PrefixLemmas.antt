@@ -1,9 +1,8 @@
 -- Prefixes and expansions of sides.
 use Rattle.gix_refspec_text.proofs.Common.{◌≡◌, ◌≢◌, inl, inr, ◌≤◌, ◌<◌, ℕ, Bool, true, false, not, ◌↔◌, IsTrue, MatchBool, MatchOption, Bor, if◌then◌else◌, List, [], ◌∷◌, ◌++◌, codes, map, length}
-use Rattle.gix_refspec_text.proofs.Common.{get_or, is_ok, Result, Ok, Err, OnOk, OnErr, refl, sym, ap, ◌∙◌, subst, length-append, arith, append_cancel_left, length-map, map-append, false≢true}
-use Rattle.gix_refspec_text.proofs.Common.{IsIdText, Lacks, ContainsText, BeginsWith, IsSplit, HasOneStar, star, slash, head, bracket, Reading, IsId, IsRefPrefix, IsPrefix, of_head, of_name}
-use Rattle.gix_refspec_text.proofs.Common.{of_pattern, HasNoPrefix, Expands, to_prefix, to_itself, below_refs, of_object, to_candidates, IsAsked, IsExpansion, ◌⊎◌, sameb, Operation, Fetch, Push}
-use Rattle.gix_refspec_text.proofs.Common.{ObjectId, id_bytes, HasKind, IsCovering, by_prefix, by_candidates, HasCoveringSource}
+use Rattle.gix_refspec_text.proofs.Common.{get_or, is_ok, Result, OnOk, OnErr, refl, sym, ap, ◌∙◌, subst, length-append, arith, append_cancel_left, length-map, map-append, false≢true, IsIdText, Lacks}
+use Rattle.gix_refspec_text.proofs.Common.{ContainsText, BeginsWith, IsSplit, HasOneStar, star, slash, head, bracket, Reading, IsId, IsRefPrefix, IsPrefix, of_head, of_name, of_pattern, HasNoPrefix}
+use Rattle.gix_refspec_text.proofs.Common.{Expands, to_prefix, IsAsked, IsExpansion, ◌⊎◌, sameb, Operation, Fetch, ObjectId, id_bytes, HasKind, IsCovering, by_prefix, by_candidates, HasCoveringSource}
 use Rattle.std.specs.Prelude.{⊤}
 use Rattle.std.specs.Bool.{then_some}
 use Rattle.std.proofs.Math.Seq.{get_or-append_seam}
@@ -35,12 +34,10 @@ tells before after rest below full first last = search (arith, append_cancel_lef
 
 -- a test for a bracket decides whether a pattern that begins with `refs/` has a prefix
 pub told_clear : (before after rest : List ℕ) → before ≡ codes "refs/" ++ rest → 1 ≤ length rest → Lacks bracket before → (r : Bool) → MatchBool r (ContainsText (bracket ∷ []) after) (Lacks bracket after) → IsTrue (not r) ↔ IsRefPrefix before after
-told_clear before after rest below full first true holds = ((λ so. absurd (false≢true so)), (λ told. absurd (Lacks-ContainsText bracket after told.last holds)))
-told_clear before after rest below full first false lacks = ((λ _. tells before after rest below full first lacks), (λ _. refl))
+told_clear before after rest below full first h holds = grind (arith, false≢true, Lacks-ContainsText, tells)
 
 pub told_bracket : (before after : List ℕ) (r : Bool) → MatchBool r (ContainsText (bracket ∷ []) before) (Lacks bracket before) → ContainsText (bracket ∷ []) before → IsTrue (not r) ↔ IsRefPrefix before after
-told_bracket before after true told holds = ((λ so. absurd (false≢true so)), (λ tells. absurd (Lacks-ContainsText bracket before tells.first holds)))
-told_bracket before after false lacks holds = absurd (Lacks-ContainsText bracket before lacks holds)
+told_bracket before after r told holds = grind (arith, false≢true, Lacks-ContainsText)
 
 -- the expansion of a side with a prefix isn't empty
 pub prefix_expands : (x p : List ℕ) → IsPrefix x p → ¬ (Expands x [])
@@ -48,21 +45,11 @@ prefix_expands x p is nothing = let same = (one_prefix x).expanded (p ∷ []) []
 
 -- nor is that of a side with only one component after `refs/`
 pub itself_expands : (x rest : List ℕ) → x ≡ codes "refs/" ++ rest → Lacks slash rest → ¬ (Expands x [])
-itself_expands x rest below lacks (to_prefix q has one) = absurd (cc)
-itself_expands x rest below lacks (to_itself rest2 none below2 lacks2 one) = absurd (cc)
-itself_expands x rest below lacks (below_refs rest2 none below2 holds empty) =
-    let same : rest ≡ rest2 = append_cancel_left (codes "refs/") rest rest2 (sym below ∙ below2) in
-    Lacks-ContainsText slash rest2 (subst (Lacks slash) same lacks) holds
-itself_expands x rest below lacks (of_object none outside id empty) = outside (record { after = rest; here = below })
-itself_expands x rest below lacks (to_candidates none outside unlike six) = absurd (cc)
+itself_expands x rest below lacks h = grind (arith, append_cancel_left, Lacks-ContainsText)
 
 -- nor that of a partial name
 pub partial_expands : (x : List ℕ) → ¬ (BeginsWith (codes "refs/") x) → ¬ (IsId x) → ¬ (Expands x [])
-partial_expands x outside unlike (to_prefix q has one) = absurd (cc)
-partial_expands x outside unlike (to_itself rest none below lacks one) = absurd (cc)
-partial_expands x outside unlike (below_refs rest none below holds empty) = outside (record { after = rest; here = below })
-partial_expands x outside unlike (of_object none outside2 id empty) = unlike id
-partial_expands x outside unlike (to_candidates none outside2 unlike2 six) = absurd (cc)
+partial_expands x outside unlike h = grind arith
 
 -- a reading has at most one side on the remote
 pub one_asked : (r : Reading) (x y : List ℕ) → IsAsked r x → IsAsked r y → x ≡ y
@@ -75,8 +62,7 @@ asked_nothing r x asked (inr (unasked, empty)) = absurd (unasked x asked)
 
 -- what always holds, also holds if a call fails
 pub on_any_error : {T E P : Type 0} (r : Result T E) → P → OnErr r P
-on_any_error (Ok x) holds = tt
-on_any_error (Err e) holds = holds
+on_any_error r holds = grind arith
 
 -- if the expansion of a reading is empty, that side has no entries
 pub no_entries : {X : Type 0} (f : X → List ℕ) (r : Reading) (x : List ℕ) (entries : List X) → IsAsked r x → Expands x (map f entries) → IsExpansion r [] → length entries ≡ 0
@@ -84,8 +70,7 @@ no_entries f r x entries asked expands nothing = sym (length-map entries f) ∙ 
 
 -- a list with the items of another one appended, mapped by f
 pub appended_ok : {X : Type 0} {E : Type 0} (f : X → List ℕ) (r : Result ⊤ E) (old more new : List X) → new ≡ (if is_ok r then old ++ more else old) → OnOk r (map f new ≡ map f old ++ map f more)
-appended_ok f (Ok u) old more new is = ap (map f) is ∙ map-append f old more
-appended_ok f (Err e) old more new is = tt
+appended_ok f r old more new is = grind (arith, map-append)
 
 -- a text with one star isn't an id
 pub starred_no_id : (x : List ℕ) → HasOneStar x → ¬ (IsId x)
@@ -123,8 +108,7 @@ told_source r x b fetch asked told = (
 
 -- an operation that passes the test is a fetch
 pub fetch_from_test : (o : Operation) → false ≡ not (sameb the_operation o Fetch) → o ≡ Fetch
-fetch_from_test Fetch test = refl
-fetch_from_test Push test = absurd (false≢true test)
+fetch_from_test o test = grind (arith, false≢true)
 
 -- a full name and an id are covering
 pub told_name : (x : List ℕ) (k : DeclaredKind) → HasKind x (kind_of_side k) → ((n : Bor (List ℕ)) × (k ≡ kind.FullName n)) ⊎ ((i : ObjectId) × (k ≡ kind.Object i)) → IsCovering x

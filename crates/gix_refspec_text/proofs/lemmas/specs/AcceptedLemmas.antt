@@ -1,7 +1,7 @@
 -- The sides of each reading that some text has.
-use Rattle.gix_refspec_text.proofs.Common.{◌≡◌, ◌⊎◌, inl, inr, ℕ, List, [], Option, None, Some, sym, subst, ∥∥₁_elim, Operation, Lacks, IsName, IsPattern, HasStar, HasSeveralStars, star, head}
+use Rattle.gix_refspec_text.proofs.Common.{arith, ◌≡◌, ◌⊎◌, inl, inr, ℕ, List, [], Option, None, Some, sym, subst, ∥∥₁_elim, Operation, Lacks, IsName, IsPattern, HasStar, HasSeveralStars, star, head}
 use Rattle.gix_refspec_text.proofs.Common.{Reading, side_on_remote, remote_of, named_by, IsNameOrPattern, AreAlike, Reads, IsAccepted, fetches_nothing_named, fetches_colon, fetches, updates}
-use Rattle.gix_refspec_text.proofs.Common.{updates_from_head, fetch_excludes, pushes_plus, pushes_colon, pushes, deletes, pushes_pattern, pushes_to, push_excludes, IsOneStarred, Push, Fetch}
+use Rattle.gix_refspec_text.proofs.Common.{updates_from_head, fetch_excludes, pushes_plus, pushes_colon, pushes, deletes, pushes_pattern, pushes_to, push_excludes, IsOneStarred}
 use Rattle.gix_refspec_text.proofs.lemmas.texts.TextLemmas.{Lacks-ContainsText}
 use Rattle.gix_refspec_text.proofs.lemmas.parsing.SideLemmas.{Lacks-name, HasStar-pattern, HasStar-stars, HasSeveralStars-replaced}
 use Rattle.gix_refspec_text.proofs.lemmas.texts.HeadLemmas.{IsName-head}
@@ -35,12 +35,10 @@ named_few s few = named_so (λ (x : List ℕ). ¬ (HasSeveralStars x)) s (name_f
 
 -- two texts without a star are balanced, and so are two texts with one
 neither_starred : (s d : List ℕ) → Lacks star s → Lacks star d → ¬ (IsOneStarred s d)
-neither_starred s d lacks_s lacks_d (inl one) = Lacks-ContainsText star s lacks_s one.0
-neither_starred s d lacks_s lacks_d (inr one) = Lacks-ContainsText star d lacks_d one.1
+neither_starred s d lacks_s lacks_d h = grind (arith, Lacks-ContainsText)
 
 both_starred : (s d : List ℕ) → HasStar s → HasStar d → ¬ (IsOneStarred s d)
-both_starred s d has_s has_d (inl one) = Lacks-ContainsText star d one.1 has_d
-both_starred s d has_s has_d (inr one) = Lacks-ContainsText star s one.0 has_s
+both_starred s d has_s has_d h = grind (arith, Lacks-ContainsText)
 
 alike_balanced : (s d : List ℕ) → AreAlike s d → ¬ (IsOneStarred (named_by s) d)
 alike_balanced s d (inl names) = neither_starred (named_by s) d (Lacks-name (named_by s) (named_name s names.0)) (Lacks-name d names.1)
@@ -74,8 +72,7 @@ reads_sound op text r (push_excludes s _ _ either _ is) = subst AreSound (sym is
 
 -- so one of the sides doesn't have several stars
 one_few : (r : Reading) (x : List ℕ) → AreSound r → (r.source ≡ Some x) ⊎ (r.destination ≡ Some x) → ¬ (HasSeveralStars x)
-one_few r x sound (inl is) = subst HasFew is sound.0
-one_few r x sound (inr is) = subst HasFew is sound.1
+one_few r x sound h = grind arith
 
 -- a side of a reading that some text has doesn't have several stars
 pub accepted_few : (r : Reading) (x : List ℕ) → ∥ IsAccepted r ∥₁ → (r.source ≡ Some x) ⊎ (r.destination ≡ Some x) → ¬ (HasSeveralStars x)
@@ -83,8 +80,7 @@ accepted_few r x accepted side = ∥∥₁_elim accepted (hlevel []) (λ by. one
 
 -- the side on the remote is one of the sides
 remote_is : (op : Operation) (s d : Option (List ℕ)) (x : List ℕ) → side_on_remote op s d ≡ Some x → (s ≡ Some x) ⊎ (d ≡ Some x)
-remote_is Push s d x is = inr is
-remote_is Fetch s d x is = inl is
+remote_is op s d x is = grind arith
 
 pub remote_few : (r : Reading) (x : List ℕ) → ∥ IsAccepted r ∥₁ → remote_of r ≡ Some x → ¬ (HasSeveralStars x)
 remote_few r x accepted is = accepted_few r x accepted (remote_is r.operation r.source r.destination x is)

@@ -67,8 +67,7 @@ read_alone n name unsigned same = (
 )
 
 pub alone_accepted : (n : List ℕ) → IsName n → BeginsWith (codes "refs/") n ⊎ (n ≡ head) → IsAccepted (fetched_alone n)
-alone_accepted n name (inl below) = read_alone n name (rw below.here ((λ same. omega arith), (λ same. omega arith))) (rw below.here)
-alone_accepted n name (inr is) = read_alone n name (rw is ((λ same. omega arith), (λ same. omega arith))) (rw is)
+alone_accepted n name h = grind (arith, read_alone)
 
 pub all_tags_accepted : IsAccepted all_tags
 all_tags_accepted = (

@@ -30,9 +30,7 @@ colon_unsigned = ((λ same. omega arith), (λ same. omega arith))
 
 -- a source names `HEAD` or itself
 pub named_by-cases : (s : List ℕ) → (named_by s ≡ head) ⊎ (named_by s ≡ s)
-named_by-cases [] = inr refl
-named_by-cases (b ∷ []) = elim (b == at) as (λ v. ((if v then head else b ∷ []) ≡ head) ⊎ ((if v then head else b ∷ []) ≡ b ∷ [])) [ true ↦ inl refl | false ↦ inr refl ]
-named_by-cases (b ∷ c ∷ bs) = inr refl
+named_by-cases s = grind arith
 
 -- what holds for `HEAD` and for s holds for what s names
 pub named_so : (P : List ℕ → Type 0) (s : List ℕ) → P head → P s → P (named_by s)
@@ -43,14 +41,11 @@ named_name s name = named_so IsName s IsName-head name
 
 -- naming a single byte twice is the same as naming it once, by the test for `@`
 named_single : (b : ℕ) (v : Bool) → (b == at) ≡ v → named_by (if v then head else b ∷ []) ≡ (if v then head else b ∷ [])
-named_single b true is_at = refl
-named_single b false other = ap (λ v. if v then head else b ∷ []) other
+named_single b v is_at = grind arith
 
 -- naming twice is the same as naming once
 pub named_once : (s : List ℕ) → named_by (named_by s) ≡ named_by s
-named_once [] = refl
-named_once (b ∷ []) = named_single b (b == at) refl
-named_once (b ∷ c ∷ bs) = refl
+named_once s = grind (arith, named_single)
 
 -- a pattern names itself, as it isn't `@`, which has no star
 pub named_pattern : (s : List ℕ) → IsPattern s → named_by s ≡ s
@@ -71,16 +66,11 @@ named_alike s d (inr patterns) = inr (subst IsPattern (sym (named_pattern s patt
 
 -- a name or a pattern doesn't contain a colon
 pub Lacks-colon_either : (s : List ℕ) → IsNameOrPattern s → Lacks colon s
-Lacks-colon_either s (inl name) = Lacks-colon_name s name
-Lacks-colon_either s (inr pattern) = Lacks-colon_pattern s pattern
+Lacks-colon_either s h = grind (arith, Lacks-colon_name, Lacks-colon_pattern)
 
 -- what a source names doesn't begin with a sign if the source doesn't
 pub unsigned_named : (s : List ℕ) (d : Option (List ℕ)) → s ≢ [] → IsUnsigned (with_colon s d) → IsUnsigned (with_colon (named_by s) d)
-unsigned_named [] d full unsigned = absurd (full refl)
-unsigned_named (b ∷ []) None full unsigned = named_so IsUnsigned (b ∷ []) head_unsigned unsigned
-unsigned_named (b ∷ []) (Some d) full unsigned = named_so (λ (x : List ℕ). IsUnsigned (x ++ (colon ∷ d))) (b ∷ []) head_unsigned unsigned
-unsigned_named (b ∷ c ∷ bs) None full unsigned = unsigned
-unsigned_named (b ∷ c ∷ bs) (Some d) full unsigned = unsigned
+unsigned_named s d full unsigned = grind (arith, named_so, head_unsigned)
 
 -- if the source isn't empty, it alone decides whether the text has a sign
 pub unsigned_front : (s : List ℕ) (d e : Option (List ℕ)) → s ≢ [] → IsUnsigned (with_colon s d) → IsUnsigned (with_colon s e)
@@ -101,15 +91,11 @@ is_forced _ = false
 
 -- parts with what the source names, after the sign of the mode
 pub named_parts : (m : Mode) (s t : List ℕ) (d : Option (List ℕ)) (text : List ℕ) → IsPositive m → s ≢ [] → AreParts m s d text → Lacks colon t → AreParts m (named_by s) (Some t) (sign (is_forced m) ++ (named_by s ++ (colon ∷ t)))
-named_parts Normal s t d text pos full parts lacks = record { signed = (refl, unsigned_named s (Some t) full (unsigned_front s d (Some t) full (subst IsUnsigned refl parts.signed.1))); last = lacks }
-named_parts Forced s t d text pos full parts lacks = record { signed = refl; last = lacks }
-named_parts Negative s t d text pos full parts lacks = absurd pos
+named_parts m s t d text pos full parts lacks = grind (arith, unsigned_named, unsigned_front)
 
 -- the meaning of a positive spec
 means : (op : Operation) (m : Mode) (s d : Option (List ℕ)) → IsPositive m → meaning op m s d ≡ included op (is_forced m) s d
-means op Normal s d pos = refl
-means op Forced s d pos = refl
-means op Negative s d pos = absurd pos
+means op m s d pos = grind arith
 
 -- the same for an equal operation and an equal reading
 for_form : (op o : Operation) (r q : Reading) → op ≡ o → r ≡ q → IsPrintedBack o q → IsPrintedBack op r
@@ -137,9 +123,7 @@ back_update m s d text pos parts alike =
 
 -- `HEAD` and a destination after the sign of the mode
 pub head_parts : (m : Mode) (d : List ℕ) → IsPositive m → Lacks colon d → AreParts m head (Some d) (sign (is_forced m) ++ (head ++ (colon ∷ d)))
-head_parts Normal d pos lacks = record { signed = (refl, head_unsigned); last = lacks }
-head_parts Forced d pos lacks = record { signed = refl; last = lacks }
-head_parts Negative d pos lacks = absurd pos
+head_parts m d pos lacks = grind (arith, head_unsigned)
 
 -- a fetch of `HEAD` to a destination
 back_from_head : (m : Mode) (d : List ℕ) → IsPositive m → IsName d → IsPrintedBack Fetch (fetched m head (Some d))
@@ -166,9 +150,7 @@ back_push_exclude s either other =
 
 -- a colon after the sign of the mode
 colon_parts : (m : Mode) → IsPositive m → AreParts m [] (Some []) (sign (is_forced m) ++ (colon ∷ []))
-colon_parts Normal pos = record { signed = (refl, colon_unsigned); last = tt }
-colon_parts Forced pos = record { signed = refl; last = tt }
-colon_parts Negative pos = absurd pos
+colon_parts m pos = grind (arith, colon_unsigned)
 
 -- a push of all matching branches
 back_all : (m : Mode) → IsPositive m → IsPrintedBack Push (pushed m None None)

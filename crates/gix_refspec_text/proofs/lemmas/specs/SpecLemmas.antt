@@ -1,7 +1,7 @@
 -- Facts on accepted readings, without a text that has the reading at hand.
-use Rattle.gix_refspec_text.proofs.Common.{◌≡◌, ℕ, Bool, true, false, List, Option, None, Some, option_map, refl, sym, ap, ◌∙◌, subst, inl, inr, nat_eq, ◌↔◌, pointwise, false≢true, not_there}
-use Rattle.gix_refspec_text.proofs.Common.{Operation, Push, Fetch, Mode, Normal, Forced, Negative, Reading, Reads, IsAccepted, Meaning, included, excluded, meaning, meaning_of, text_of, printed, keys}
-use Rattle.gix_refspec_text.proofs.Common.{meant_for, IsPrintedBack, KeepsOperation, SaysForOperation, EqualReadings, same_Some}
+use Rattle.gix_refspec_text.proofs.Common.{arith, ◌≡◌, ℕ, Bool, true, false, List, Option, None, Some, option_map, refl, sym, ap, ◌∙◌, subst, inl, inr, nat_eq, ◌↔◌, pointwise, false≢true, not_there}
+use Rattle.gix_refspec_text.proofs.Common.{Operation, Push, Fetch, Mode, Reading, Reads, IsAccepted, Meaning, included, excluded, meaning, meaning_of, text_of, printed, keys, meant_for, IsPrintedBack}
+use Rattle.gix_refspec_text.proofs.Common.{KeepsOperation, SaysForOperation, EqualReadings, same_Some}
 use Rattle.gix_refspec_text.specs.Laws.Order.{same_meaning, same_keys}
 use Rattle.gix_refspec_text.proofs.lemmas.specs.FormsBackLemmas.{read_back, once_or_refused, equal_texts}
 use Rattle.gix_refspec_text.proofs.lemmas.parsing.ReadOnceLemmas.{made, is_made}
@@ -24,21 +24,13 @@ operation_or op None = op
 operation_or op (Some m) = meant_for m
 
 included_for : (op : Operation) (forced : Bool) (s d : Option (List ℕ)) → operation_or op (included op forced s d) ≡ op
-included_for Push forced None (Some d) = refl
-included_for Push forced (Some s) (Some d) = refl
-included_for Fetch forced (Some s) (Some d) = refl
-included_for _ forced _ _ = refl
+included_for op forced s d = grind arith
 
 excluded_for : (op : Operation) (s d : Option (List ℕ)) → operation_or op (excluded op s d) ≡ op
-excluded_for op None d = refl
-excluded_for op (Some s) (Some d) = refl
-excluded_for Push (Some s) None = refl
-excluded_for Fetch (Some s) None = refl
+excluded_for op s d = grind arith
 
 meaning_for : (op : Operation) (mode : Mode) (s d : Option (List ℕ)) → operation_or op (meaning op mode s d) ≡ op
-meaning_for op Normal s d = included_for op false s d
-meaning_for op Forced s d = included_for op true s d
-meaning_for op Negative s d = excluded_for op s d
+meaning_for op mode s d = grind (arith, included_for, excluded_for)
 
 -- the meaning of a reading is for its operation
 pub says_for_operation : (r : Reading) → SaysForOperation r

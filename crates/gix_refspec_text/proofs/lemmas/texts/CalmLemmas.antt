@@ -28,8 +28,7 @@ is_plain_class Plain = true
 is_plain_class _ = false
 
 plain_class : (c : Class) → is_plain_class c ≡ true → c ≡ Plain
-plain_class Plain same = refl
-plain_class _ same = cc
+plain_class c same = grind arith
 
 -- the lowest set bit of a mask is at the first lane that passes p
 run_is : (p : ℕ → Bool) (z : List ℕ) (n : ℕ) → length z ≡ n → n ≤ 64 → lowest_of n (mask_l (map p z)) ≡ prefix_len (λ x. not (p x)) z

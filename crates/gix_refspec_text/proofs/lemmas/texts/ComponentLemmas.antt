@@ -1,6 +1,6 @@
 -- The components of a text, found by the slashes around them. A slash is written before the text, so that
 -- each component follows one.
-use Rattle.gix_refspec_text.proofs.Common.{◌≡◌, ℕ, List, [], ◌∷◌, ◌++◌, refl, sym, ap, ◌∙◌, inl, inr, append_assoc, ◌⊎◌, AllByRecursion, join_with_byte, cases_eq, append-nil, Lacks, slash}
+use Rattle.gix_refspec_text.proofs.Common.{arith, ◌≡◌, ℕ, List, [], ◌∷◌, ◌++◌, refl, sym, ap, ◌∙◌, inl, inr, append_assoc, ◌⊎◌, AllByRecursion, join_with_byte, cases_eq, append-nil, Lacks, slash}
 use Rattle.gix_refspec_text.proofs.Common.{SomeComponent}
 use Rattle.gix_refspec_text.proofs.lemmas.lists.AllLemmas.{all_join}
 
@@ -88,8 +88,7 @@ pub record IsComponent (w x : List ℕ) : Type 0 where
   pub ends : IsEnd after
 
 front_IsEnd : (x before w : List ℕ) → slash ∷ x ≡ before ++ (slash ∷ w) → IsEnd before
-front_IsEnd x [] w here = tt
-front_IsEnd x (b ∷ before) w here = cc
+front_IsEnd x before w here = grind arith
 
 pub SomeComponent-from : (P : List ℕ → Type 0) (w x : List ℕ) → IsComponent w x → P w → SomeComponent P x
 SomeComponent-from P w x found fact =

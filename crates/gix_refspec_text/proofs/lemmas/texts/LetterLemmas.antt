@@ -1,9 +1,9 @@
 -- A text with letters in place of its stars has the faults that one pass over the text finds.
 use Rattle.gix_refspec_text.proofs.Common.{◌≡◌, ◌≢◌, ℕ, List, [], ◌∷◌, ◌++◌, codes, length, take, drop, get_or, suc, ◌<◌, Option, Some, None, MatchOption, true, refl, sym, ap, ◌∙◌, subst, inl, inr}
 use Rattle.gix_refspec_text.proofs.Common.{if◌then◌else◌, arith, append_assoc, Bool, zero, ◌-◌, ◌≤◌, false, ◌==◌, ◌+◌, false≢true, cases_eq, eq-eqb, ne_eqb, map-append, count_by_more_no, Error}
-use Rattle.gix_refspec_text.proofs.Common.{EmptyComponent, StartsWithDot, LockSuffix, EndsWithDot, RepeatedDot, ReflogPortion, Asterisk, InvalidByte, Lacks, EndsWith, slash, star, letter, dot, brace}
-use Rattle.gix_refspec_text.proofs.Common.{is_refused_byte, HasFault, IsName, IsSplit, IsPattern, HasOneStar, ReplacesStar, class_at, AddsFault, IsClean, LeavesFault, Finds, letter_for, with_letters}
-use Rattle.gix_refspec_text.proofs.Common.{IsScanned, IsCalm, AreCalm, count_by_more_yes, cond, zero-add, count_by, sum_by-append, HasSeveralStars, take_all, IsStarCount, one_if}
+use Rattle.gix_refspec_text.proofs.Common.{Asterisk, Lacks, EndsWith, slash, star, letter, is_refused_byte, HasFault, IsName, IsSplit, IsPattern, HasOneStar, ReplacesStar, class_at, AddsFault}
+use Rattle.gix_refspec_text.proofs.Common.{IsClean, LeavesFault, Finds, letter_for, with_letters, IsScanned, IsCalm, AreCalm, count_by_more_yes, cond, zero-add, count_by, sum_by-append}
+use Rattle.gix_refspec_text.proofs.Common.{HasSeveralStars, take_all, IsStarCount, one_if}
 use Rattle.gix_refspec_text.specs.declared.name.class.Class.TheVariants.{Plain}
 use Rattle.gix_refspec_text.proofs.lemmas.texts.TextLemmas.{split_at}
 use Rattle.gix_refspec_text.proofs.lemmas.texts.NameLemmas.{one_more, IsClean-more, HasFault-added, answer_at_end, slash_adds, last_byte}
@@ -132,23 +132,14 @@ ends_with_letters y w kept ends = search (arith, letters-append)
 
 -- so a byte adds the same faults to both
 AddsFault-as : (x y : List ℕ) (b : ℕ) → EndsAs x y → (e : Error) → AddsFault x b e → AddsFault y b e
-AddsFault-as x y b ends EmptyComponent fault = (fault.0, ends (codes "/") slash_kept fault.1)
-AddsFault-as x y b ends StartsWithDot fault = (fault.0, ends (codes "/") slash_kept fault.1)
-AddsFault-as x y b ends LockSuffix fault = (fault.0, ends (codes ".lock") lock_kept fault.1)
-AddsFault-as x y b ends RepeatedDot fault = (fault.0, ends (codes ".") dot_kept fault.1)
-AddsFault-as x y b ends ReflogPortion fault = (fault.0, ends (codes "@") (((λ e. omega (arith, e)), tt), refl) fault.1)
-AddsFault-as x y b ends _ fault = fault
+AddsFault-as x y b ends h fault = grind (arith, slash_kept, lock_kept, dot_kept)
 
 -- and the same faults are left at their ends
 LeavesFault-as : (x y : List ℕ) → EndsAs x y → (e : Error) → LeavesFault x e → LeavesFault y e
-LeavesFault-as x y ends EmptyComponent left = ends (codes "/") slash_kept left
-LeavesFault-as x y ends LockSuffix left = ends (codes ".lock") lock_kept left
-LeavesFault-as x y ends EndsWithDot left = ends (codes ".") dot_kept left
-LeavesFault-as x y ends _ left = left
+LeavesFault-as x y ends h left = grind (arith, slash_kept, lock_kept, dot_kept)
 
 letter_adds_nothing : (y : List ℕ) (e : Error) → ¬ (AddsFault y letter e)
-letter_adds_nothing y (InvalidByte c) fault = false≢true (subst (λ b. is_refused_byte b ≡ true) (sym fault.0) fault.1)
-letter_adds_nothing y _ fault = search arith
+letter_adds_nothing y e fault = grind (arith, false≢true)
 
 -- one more byte adds none: a star, or another one that adds none to the text
 clean_after_star : (y : List ℕ) (b : ℕ) → b ≡ star → IsClean (with_letters y) → IsClean (with_letters (y ++ (b ∷ [])))
@@ -184,8 +175,7 @@ some_letters (b ∷ x) some same = cc
 
 -- a text with an index isn't empty
 pub some_index : (x : List ℕ) (i : ℕ) → i < length x → x ≢ []
-some_index [] i below same = absurd (omega (arith, below))
-some_index (b ∷ x) i below same = cc
+some_index x i below same = grind arith
 
 -- a fault that a byte other than a star adds is a fault of the text with letters
 pub fault_with_letters : (x : List ℕ) (i : ℕ) (e : Error) → x ≢ [] → i < length x → get_or x i 0 ≢ star → AddsFault (slash ∷ take i x) (get_or x i 0) e → HasFault (with_letters x) e
@@ -238,14 +228,7 @@ plain_not_refused : (b : ℕ) → class_at b ≡ Plain → is_refused_byte b ≡
 plain_not_refused b plain refused = grind arith
 
 plain_adds_nothing : (y : List ℕ) (b : ℕ) → class_at b ≡ Plain → (e : Error) → ¬ (AddsFault y b e)
-plain_adds_nothing y b plain EmptyComponent fault = let no = plain_as b slash plain fault.0 in absurd (cc)
-plain_adds_nothing y b plain StartsWithDot fault = let no = plain_as b dot plain fault.0 in absurd (cc)
-plain_adds_nothing y b plain LockSuffix fault = let no = plain_as b slash plain fault.0 in absurd (cc)
-plain_adds_nothing y b plain RepeatedDot fault = let no = plain_as b dot plain fault.0 in absurd (cc)
-plain_adds_nothing y b plain ReflogPortion fault = let no = plain_as b brace plain fault.0 in absurd (cc)
-plain_adds_nothing y b plain Asterisk fault = let no = plain_as b star plain fault in absurd (cc)
-plain_adds_nothing y b plain (InvalidByte c) fault = plain_not_refused b plain (subst (λ d. is_refused_byte d ≡ true) (sym fault.0) fault.1)
-plain_adds_nothing y b plain _ fault = fault
+plain_adds_nothing y b plain h fault = grind (arith, plain_as, plain_not_refused)
 
 locked_ends : (y : List ℕ) → EndsWith (codes ".lock") y → EndsWith (107 ∷ []) y
 locked_ends y ends = record { before = ends.before ++ codes ".loc"; here = ends.here ∙ sym (append_assoc ends.before (codes ".loc") (107 ∷ [])) }

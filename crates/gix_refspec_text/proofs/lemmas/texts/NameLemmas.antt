@@ -1,6 +1,6 @@
 -- The faults that one pass over the bytes finds are the faults of a name.
-use Rattle.gix_refspec_text.proofs.Common.{◌≡◌, ◌≢◌, ℕ, List, [], ◌∷◌, ◌++◌, codes, length, take, drop, get_or, ◌+◌, ◌<◌, ◌≤◌, suc, Option, Some, None, MatchOption, true, IsTrue, refl, sym, ap, ◌∙◌}
-use Rattle.gix_refspec_text.proofs.Common.{subst, inl, inr, append_assoc, arith, Bool, ◌-◌, nat_eq, Decides, ends_with, ends_is, Decides-eqb, append-nil, ◌⊎◌, false≢true, Error, Empty, EmptyComponent}
+use Rattle.gix_refspec_text.proofs.Common.{◌≡◌, ◌≢◌, ℕ, List, [], ◌∷◌, ◌++◌, codes, length, take, drop, get_or, ◌+◌, ◌<◌, ◌≤◌, suc, Option, MatchOption, true, IsTrue, refl, sym, ap, ◌∙◌, subst, inl}
+use Rattle.gix_refspec_text.proofs.Common.{inr, append_assoc, arith, Bool, ◌-◌, nat_eq, Decides, ends_with, ends_is, Decides-eqb, append-nil, ◌⊎◌, false≢true, Error, Empty, EmptyComponent}
 use Rattle.gix_refspec_text.proofs.Common.{StartsWithDot, LockSuffix, EndsWithDot, RepeatedDot, ReflogPortion, Asterisk, InvalidByte, Lacks, ContainsText, BeginsWith, EndsWith, slash, star, dot}
 use Rattle.gix_refspec_text.proofs.Common.{brace, is_refused_byte, SomeComponent, HasFault, IsName, AddsFault, Added, IsClean, LeavesFault, Finds, drop_of_length-le, length-append, take_more}
 use Rattle.gix_refspec_text.proofs.lemmas.texts.TextLemmas.{split_at}
@@ -50,10 +50,7 @@ refused_no_slash c refused same = false≢true (subst (λ b. is_refused_byte b �
 
 -- a slash adds no other fault
 pub slash_adds : (y : List ℕ) (e : Error) → ¬ (EndsWith (codes "/") y) → ¬ (EndsWith (codes ".lock") y) → ¬ (AddsFault y slash e)
-slash_adds y EmptyComponent whole unlocked fault = whole fault.1
-slash_adds y LockSuffix whole unlocked fault = unlocked fault.1
-slash_adds y (InvalidByte c) whole unlocked fault = refused_no_slash c fault.1 (sym fault.0)
-slash_adds y _ whole unlocked fault = search arith
+slash_adds y e whole unlocked fault = grind (arith, refused_no_slash)
 
 pub IsClean-start : IsClean (slash ∷ [])
 IsClean-start = IsClean-more [] slash (λ e added. no_middle added.before added.after added.byte added.here) (λ e.
@@ -115,14 +112,7 @@ pair_in_text x p after a b c other here ends same =
 
 -- a fault that a byte adds is a fault of the text
 pub HasFault-added : (x : List ℕ) (e : Error) → x ≢ [] → Added (slash ∷ x) e → HasFault x e
-HasFault-added x EmptyComponent some added = (some, empty_component x added.fault.1.before (added.byte ∷ added.after) (added.here ∙ ap (λ p. p ++ (added.byte ∷ added.after)) added.fault.1.here) added.fault.0)
-HasFault-added x StartsWithDot some added = dotted_component x added.fault.1.before added.after (added.here ∙ ap (λ p. p ++ (added.byte ∷ added.after)) added.fault.1.here ∙ ap (λ b. (added.fault.1.before ++ (slash ∷ [])) ++ (b ∷ added.after)) added.fault.0)
-HasFault-added x LockSuffix some added = locked_component x added.fault.1.before (added.byte ∷ added.after) (added.here ∙ ap (λ p. p ++ (added.byte ∷ added.after)) added.fault.1.here) added.fault.0
-HasFault-added x RepeatedDot some added = pair_in_text x added.before added.after dot added.byte dot dot_no_slash added.here added.fault.1 added.fault.0
-HasFault-added x ReflogPortion some added = pair_in_text x added.before added.after 64 added.byte brace (λ e. omega (arith, e)) added.here added.fault.1 added.fault.0
-HasFault-added x Asterisk some added = byte_in_text x added.before added.after added.byte star (λ e. omega (arith, e)) added.here added.fault
-HasFault-added x (InvalidByte c) some added = (byte_in_text x added.before added.after added.byte c (refused_no_slash c added.fault.1) added.here added.fault.0, added.fault.1)
-HasFault-added x _ some added = absurd added.fault
+HasFault-added x e some added = grind (arith, empty_component, dotted_component, locked_component, pair_in_text, dot_no_slash, byte_in_text, refused_no_slash)
 
 -- a fault that is left at the end is a fault of the text
 pub HasFault-left : (x : List ℕ) (e : Error) → x ≢ [] → LeavesFault (slash ∷ x) e → HasFault x e
@@ -133,8 +123,7 @@ HasFault-left x _ some left = absurd left
 
 -- a fault that is found at a slash or at the end
 shown_by_end : (y p after : List ℕ) (e : Error) → y ≡ p ++ after → IsEnd after → AddsFault p slash e → LeavesFault p e → Added y e ⊎ LeavesFault y e
-shown_by_end y p [] e here ends adds leaves = inr (subst (λ z. LeavesFault z e) (sym (here ∙ append-nil p)) leaves)
-shown_by_end y p (b ∷ after) e here ends adds leaves = inl (record { before = p; byte = b; after = after; here = here; fault = subst (λ c. AddsFault p c e) (sym ends) adds })
+shown_by_end y p after e here ends adds leaves = grind (arith, append-nil)
 
 pair_added : (x : List ℕ) (a b : ℕ) (e : Error) → ContainsText (a ∷ b ∷ []) x → ((p : List ℕ) → EndsWith (a ∷ []) p → AddsFault p b e) → Added (slash ∷ x) e
 pair_added x a b e held adds =
@@ -184,8 +173,7 @@ IsName-from_clean x some clean none e fault = elim (found_fault x e some fault) 
 
 -- the answer at the end of a text in which no byte adds a fault
 pub answer_at_end : (x : List ℕ) (fault : Option Error) → x ≢ [] → IsClean (slash ∷ x) → Finds fault (LeavesFault (slash ∷ x)) → MatchOption fault (IsName x) (HasFault x)
-answer_at_end x None some clean none = IsName-from_clean x some clean none
-answer_at_end x (Some e) some clean left = HasFault-left x e some left
+answer_at_end x fault some clean none = grind (arith, IsName-from_clean, HasFault-left)
 
 -- a text up to an index, and the byte there
 pub one_more : (x : List ℕ) (i : ℕ) → i < length x → slash ∷ take (i + 1) x ≡ (slash ∷ take i x) ++ (get_or x i 0 ∷ [])
@@ -203,10 +191,7 @@ added_at x i e below fault = record {
 
 -- the end leaves no other fault
 pub end_leaves : (y : List ℕ) (e : Error) → ¬ (EndsWith (codes "/") y) → ¬ (EndsWith (codes ".") y) → ¬ (EndsWith (codes ".lock") y) → ¬ (LeavesFault y e)
-end_leaves y EmptyComponent whole undotted unlocked left = whole left
-end_leaves y LockSuffix whole undotted unlocked left = unlocked left
-end_leaves y EndsWithDot whole undotted unlocked left = undotted left
-end_leaves y _ whole undotted unlocked left = left
+end_leaves y e whole undotted unlocked left = grind arith
 
 -- a test for `.lock` at the end of x decides the same for x with a slash before it
 pub locked_after_slash : (x : List ℕ) (tested : Bool) → tested ≡ ends_with nat_eq x (codes ".lock") → Decides tested (EndsWith (codes ".lock") (slash ∷ x))

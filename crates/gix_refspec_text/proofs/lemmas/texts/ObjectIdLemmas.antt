@@ -1,6 +1,6 @@
 -- The texts of ids: which texts they are, that each is the text of only one id, and that decoding finds it.
-use Rattle.gix_refspec_text.proofs.Common.{◌≡◌, ℕ, zero, suc, ◌+◌, ◌-◌, ◌*◌, ◌/◌, ◌%◌, ◌<◌, ◌≤◌, Bool, List, [], ◌∷◌, length, slice_index, take, nat_lt, ◌⊎◌, inl, inr, Option, Some, None, is_some}
-use Rattle.gix_refspec_text.proofs.Common.{true, false, Result, Ok, Err, refl, sym, ap, ◌∙◌, subst, arith, ◌++◌, drop, IsOk, MatchBool, MatchResult, AllPass, SomeIndex, list_all, IsAscii, IsUtf8}
+use Rattle.gix_refspec_text.proofs.Common.{◌≡◌, ℕ, zero, suc, ◌+◌, ◌-◌, ◌*◌, ◌/◌, ◌%◌, ◌<◌, ◌≤◌, Bool, List, [], ◌∷◌, length, slice_index, take, nat_lt, ◌⊎◌, inl, inr, Option, Some, is_some, true}
+use Rattle.gix_refspec_text.proofs.Common.{false, Result, Ok, Err, refl, sym, ap, ◌∙◌, subst, arith, ◌++◌, drop, IsOk, MatchBool, MatchResult, AllPass, SomeIndex, list_all, IsAscii, IsUtf8}
 use Rattle.gix_refspec_text.proofs.Common.{false≢true, cases_Bool, cases_eq, ltb-true, length-take-le, take-append-le, take_all, All-cons, All-head, All-nil, All-tail, All-weaker}
 use Rattle.gix_refspec_text.proofs.Common.{AllPass-from_list_all, Digit, Length, Kind, Sha1, Sha256, HasIdFault, IsIdLength, IsIdText, IsLowerText, IsSpelledBy, Spells, bytes_of, digits_of}
 use Rattle.gix_refspec_text.proofs.Common.{is_lower_digit, lower_of, IsId, HasOneFault, IdOrFault, OneLowerText, list_all-from_AllPass}
@@ -16,13 +16,11 @@ use Rattle.std.proofs.lemmas.Bool.Decides.{nat_tests}
 
 -- an id has two digits for each byte
 pub digits_of-twice : (kind : Kind) → digits_of kind ≡ 2 * bytes_of kind
-digits_of-twice Sha1 = refl
-digits_of-twice Sha256 = refl
+digits_of-twice kind = grind arith
 
 -- an id has at most 32 bytes
 pub bytes_of-fits : (kind : Kind) → bytes_of kind ≤ 32
-bytes_of-fits Sha1 = omega arith
-bytes_of-fits Sha256 = omega arith
+bytes_of-fits kind = grind arith
 
 -- ---- bytes and the pairs of digits that spell them
 
@@ -56,8 +54,7 @@ decode_pairs-spelled n t i twice spelled = absurd (omega arith)
 
 -- the value of a digit
 value_of_digit : (o : Option ℕ) → is_some o ≡ true → (v : ℕ) × (o ≡ Some v)
-value_of_digit (Some v) h = (v, refl)
-value_of_digit None h = cc h
+value_of_digit o h = grind arith
 
 -- two digits spell a byte
 spelled_byte : (a b : ℕ) → is_hex_digit a ≡ true → is_hex_digit b ≡ true → (x : ℕ) × IsSpelledBy x a b
@@ -127,10 +124,7 @@ IsIdText-sound t i Digit text (len, index) = cc (sym index.2 ∙ AllPass-IsIdTex
 
 -- a text has at most one fault
 one_fault : (t : List ℕ) (e f : Error) → HasIdFault t e → HasIdFault t f → e ≡ f
-one_fault t (Length n) (Length m) a b = ap Length (a.0 ∙ sym b.0)
-one_fault t (Length n) Digit a b = absurd (a.1 b.0)
-one_fault t Digit (Length m) a b = absurd (b.1 a.0)
-one_fault t Digit Digit a b = refl
+one_fault t e f a b = grind arith
 
 has_one_fault : (t : List ℕ) (e : Error) → HasIdFault t e → HasOneFault t
 has_one_fault t e fault = record { fault = e; has = fault; only = λ f other. one_fault t f e other fault; unread = λ i text. IsIdText-sound t i e text fault }
@@ -169,8 +163,7 @@ id_or_fault t = elim (length_or_not (length t)) [
 
 -- these are the lengths of ids
 pub id_size : (n : ℕ) → (n ≡ 40) ⊎ (n ≡ 64) → IsIdLength n
-id_size n (inl same) = (Sha1, same)
-id_size n (inr same) = (Sha256, same)
+id_size n h = grind arith
 
 -- a text as long as an id spells one exactly if all its bytes are digits
 pub IsId-by_digits : (t : List ℕ) (digits : Bool) → IsIdLength (length t) → digits ≡ list_all is_hex_digit t → MatchBool digits (IsId t) (¬ (IsId t))
@@ -185,8 +178,7 @@ length-room kind buffer room = length-take-le (bytes_of kind) buffer (omega (ari
 
 -- the call that decodes fails exactly if the text doesn't decode, and otherwise writes the bytes
 decoded : (d : Result (List ℕ) FromHexError) (r : Result (Unit {0}) FromHexError) (new : List ℕ) → MatchResult d (λ bytes. (r ≡ Ok tt) × (new ≡ bytes)) (λ e. r ≡ Err e) → MatchBool (is_err r) (¬ (IsOk d)) (d ≡ Ok new)
-decoded (Ok bytes) r new (is, same) = rw is (ap Ok (sym same))
-decoded (Err e) r new is = rw is (λ ok. false≢true ok)
+decoded d r new is = grind (arith, false≢true)
 
 -- so it reads the id, or finds that some byte isn't a digit
 reads : (kind : Kind) (t room new : List ℕ) (n : ℕ) (failed : Bool) → n ≡ bytes_of kind → length t ≡ digits_of kind → MatchBool failed (¬ (IsOk (decode_sized t (bytes_of kind)))) (decode_sized t (bytes_of kind) ≡ Ok new) → MatchBool failed (HasIdFault t Digit) (IsIdText t (take (bytes_of kind) (new ++ drop n room)))
@@ -305,5 +297,4 @@ one_lower_text kind buffer room fits =
 -- a result is `Ok` if each error contradicts a fact
 pub IsOk-unless : {T E : Type 0} {R : Type 0} (r : Result T E) (P : T → Type 0) (Q : E → Type 0) → R
     → MatchResult r P (λ e. ¬ R × Q e) → IsOk r
-IsOk-unless (Ok x) P Q fact cases = refl
-IsOk-unless (Err e) P Q fact cases = absurd (cases.0 fact)
+IsOk-unless r P Q fact cases = grind arith

@@ -1,6 +1,6 @@
 -- Bytes that a text lacks, and texts that are split at an index.
-use Rattle.gix_refspec_text.proofs.Common.{◌≡◌, ◌||◌, MatchBool, nat_eq, ℕ, suc, ◌+◌, ◌-◌, ◌<◌, ◌≤◌, ◌==◌, Bool, true, false, List, [], ◌∷◌, ◌++◌, length, get_or, take, drop, refl, sym, ap, ◌∙◌}
-use Rattle.gix_refspec_text.proofs.Common.{subst, arith, eq-eqb, take-append-drop, drop-cons, length-drop, drop-drop, get_or-drop, take_all, eqb-true, false≢true, add-one, Lacks, ContainsText}
+use Rattle.gix_refspec_text.proofs.Common.{◌≡◌, ◌||◌, MatchBool, nat_eq, ℕ, suc, ◌+◌, ◌-◌, ◌<◌, ◌≤◌, ◌==◌, Bool, true, false, List, [], ◌∷◌, ◌++◌, length, get_or, take, drop, sym, ap, ◌∙◌, subst}
+use Rattle.gix_refspec_text.proofs.Common.{arith, eq-eqb, take-append-drop, drop-cons, length-drop, drop-drop, get_or-drop, take_all, eqb-true, false≢true, add-one, Lacks, ContainsText}
 use Rattle.gix_refspec_text.proofs.lemmas.lists.LacksLemmas.{Lacks-here}
 use Rattle.std.proofs.Common.{below_more}
 
@@ -44,13 +44,11 @@ found_by b x n false inside is none = below_more (λ k. ¬ ((get_or x k 0 == b) 
 
 -- one more index is checked
 pub found_further : (b : ℕ) (x : List ℕ) (n : ℕ) (found : Bool) → n < length x → FoundBefore b x n found → FoundBefore b x (n + 1) (found || nat_eq (get_or x n 0) b)
-found_further b x n true inside known = known
-found_further b x n false inside known = found_by b x n (nat_eq (get_or x n 0) b) inside refl known
+found_further b x n found inside known = grind (arith, found_by)
 
 -- all indexes were checked
 pub found_whole : (b : ℕ) (x : List ℕ) (n : ℕ) (found : Bool) → length x ≤ n → FoundBefore b x n found → MatchBool found (ContainsText (b ∷ []) x) (Lacks b x)
-found_whole b x n true past known = known
-found_whole b x n false past known = Lacks-from_indexes b x (λ k below. known k (omega arith))
+found_whole b x n found past known = grind (arith, Lacks-from_indexes)
 
 pub Lacks-ContainsText : (b : ℕ) (x : List ℕ) → Lacks b x → ContainsText (b ∷ []) x → ⊥
 Lacks-ContainsText b x lacks holds = Lacks-here b holds.before holds.after (subst (Lacks b) holds.here lacks)
