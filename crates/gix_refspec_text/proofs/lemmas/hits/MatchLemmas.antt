@@ -1,7 +1,7 @@
 -- The refs that sides match, and the prefixes and candidates of sides.
 use Rattle.gix_refspec_text.proofs.Common.{arith, ◌≡◌, ◌≢◌, ℕ, List, [], ◌∷◌, ◌++◌, codes, Option, None, Some, refl, sym, ap, ◌∙◌, subst, append-nil, append_cancel_left, append_cancel_right, Lacks}
 use Rattle.gix_refspec_text.proofs.Common.{BeginsWith, IsSplit, star, head, SideKind, pattern, full_name, object, partial, HasKind, IsId, candidates, IsCandidate, Ref, MatchesAs, HasNoPrefix, Expands}
-use Rattle.gix_refspec_text.proofs.Common.{to_prefix, to_itself, below_refs, of_object, to_candidates, OneWord, PrefixBegins, Candidates}
+use Rattle.gix_refspec_text.proofs.Common.{to_candidates, OneWord, PrefixBegins, Candidates}
 use Rattle.gix_refspec_text.proofs.lemmas.hits.CandidateLemmas.{first_candidate, first_of_one, takes_first}
 use Rattle.gix_refspec_text.proofs.lemmas.lists.LacksLemmas.{Lacks-here, first_once}
 
@@ -45,18 +45,11 @@ outside_none x other outside p h = grind (arith, begins_split)
 
 -- such a side that isn't an id is expanded to its candidates only
 only_candidates : (x : List ℕ) → x ≢ head → ¬ (BeginsWith (codes "refs/") x) → ¬ (IsId x) → (list : List (List ℕ)) → Expands x list → list ≡ candidates x
-only_candidates x other outside no_id list (to_prefix p prefix _) = absurd (outside_none x other outside p prefix)
-only_candidates x other outside no_id list (to_itself rest _ below _ _) = absurd (outside (record { after = rest; here = below }))
-only_candidates x other outside no_id list (below_refs rest _ below _ _) = absurd (outside (record { after = rest; here = below }))
-only_candidates x other outside no_id list (of_object _ _ id _) = absurd (no_id id)
-only_candidates x other outside no_id list (to_candidates _ _ _ is) = is
+only_candidates x other outside no_id list h = grind (arith, outside_none)
 
 -- a partial name matches only by its candidates
 short_matches : (x : List ℕ) (k : SideKind) (r : Ref) (word : Option (List ℕ)) → Lacks star x → ¬ (BeginsWith (codes "refs/") x) → ¬ (IsId x) → HasKind x k → MatchesAs k r word → IsCandidate x r.name
-short_matches x (pattern before after) r word lacks outside no_id kind fits = absurd (lacks_no_pattern x before after lacks kind)
-short_matches x (full_name n) r word lacks outside no_id kind fits = absurd (outside kind.2)
-short_matches x (object id) r word lacks outside no_id kind fits = absurd (no_id (id, kind.2))
-short_matches x (partial n) r word lacks outside no_id kind fits = subst (λ (y : List ℕ). IsCandidate y r.name) kind.0 fits.1
+short_matches x k r word lacks outside no_id kind fits = grind (arith, lacks_no_pattern)
 
 -- a partial name is expanded to its candidates, and matches exactly these
 pub has_candidates : (x : List ℕ) → Candidates x

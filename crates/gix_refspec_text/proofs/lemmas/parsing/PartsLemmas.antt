@@ -1,5 +1,5 @@
 -- A text has only one sign, source and destination.
-use Rattle.gix_refspec_text.proofs.Common.{◌≡◌, ℕ, List, Option, refl, sym, ◌∙◌, subst, arith, Mode, Normal, Forced, Negative, plus, caret, IsUnsigned, IsSigned, with_colon, LastLacksColon, AreParts}
+use Rattle.gix_refspec_text.proofs.Common.{◌≡◌, ℕ, List, Option, arith, Mode, IsSigned, with_colon, LastLacksColon, AreParts}
 use Rattle.gix_refspec_text.proofs.lemmas.lists.LacksLemmas.{Lacks-here, last_once}
 
 -- a text with its parts
@@ -10,15 +10,7 @@ pub record Parted (text : List ℕ) : Type 0 where
   pub parts : AreParts mode source destination text
 
 pub signed_once : (m n : Mode) (text r s : List ℕ) → IsSigned m text r → IsSigned n text s → (m ≡ n) × (r ≡ s)
-signed_once Normal Normal text r s a b = (refl, sym a.0 ∙ b.0)
-signed_once Normal Forced text r s a b = absurd ((subst IsUnsigned (sym a.0 ∙ b) a.1).0 refl)
-signed_once Normal Negative text r s a b = absurd ((subst IsUnsigned (sym a.0 ∙ b) a.1).1 refl)
-signed_once Forced Normal text r s a b = absurd ((subst IsUnsigned (sym b.0 ∙ a) b.1).0 refl)
-signed_once Forced Forced text r s a b = (refl, cc)
-signed_once Forced Negative text r s a b = let heads : plus ≡ caret = cc in absurd (omega (arith, heads))
-signed_once Negative Normal text r s a b = absurd ((subst IsUnsigned (sym b.0 ∙ a) b.1).1 refl)
-signed_once Negative Forced text r s a b = let heads : caret ≡ plus = cc in absurd (omega (arith, heads))
-signed_once Negative Negative text r s a b = (refl, cc)
+signed_once m n text r s a b = grind arith
 
 pub split_once : (s t : List ℕ) (d e : Option (List ℕ)) → LastLacksColon s d → LastLacksColon t e → with_colon s d ≡ with_colon t e → (s ≡ t) × (d ≡ e)
 split_once s t d e a b same = grind (arith, Lacks-here, last_once)

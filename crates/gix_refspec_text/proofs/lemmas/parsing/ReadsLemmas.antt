@@ -149,17 +149,8 @@ none_first op m s d before source destination balance nothing object =
 
 -- no reason applies to valid parts
 pub no_reason : (op : Operation) (m : Mode) (s : List ℕ) (d : Option (List ℕ)) → AreFine op m s d → Never (IsFirstReason op m s d)
-no_reason op m s d (fine_fetch k fetch pos a b) e =
-    rw fetch (none_first Fetch m s d (fetch_reaches m s d pos) (fetch_source_fine s d k a) (destination_fine d k b)
-    (λ f h. sides_balanced s (unwrap_or d []) k (checked_starred s k a) (checked_starred (unwrap_or d []) k b) h.one) (λ f h. positive m pos h.negative) (λ f h. positive m pos h.negative) e)
-no_reason op m s d (fine_alone k push pos none full a) e =
-    rw (push, none) (none_first Push m s None (push_alone_reaches m s pos full) (alone_fine Push s k a) (λ f h. let i = h.is in absurd (cc))
-    (λ f h. h.has_destination refl refl) (λ f h. positive m pos h.negative) (λ f h. positive m pos h.negative) e)
-no_reason op m s d (fine_push k t push pos some somewhere a b) e =
-    rw (push, some) (none_first Push m s (Some t) (push_reaches m s t pos somewhere) (push_source_fine s t k a) (destination_fine (Some t) k b)
-    (λ f h. sides_balanced s t k a (checked_starred t k b) h.one) (λ f h. positive m pos h.negative) (λ f h. positive m pos h.negative) e)
-no_reason op m s d (fine_negative k negative none full a hash) e =
-    rw (negative, none) (none_first op Negative s None (negative_reaches op s) (alone_fine op s k a) (λ f h. let i = h.is in absurd (cc)) (λ f h. h.positive) (λ f h. full h.no_source) (λ f h. hash h.hash) e)
+no_reason op m s d h e =
+    grind (arith, none_first, fetch_reaches, fetch_source_fine, destination_fine, sides_balanced, checked_starred, positive, push_alone_reaches, alone_fine, push_reaches, push_source_fine, negative_reaches)
 
 -- a text has no reading if a reason applies to its parts
 pub unread : (op : Operation) (m : Mode) (s : List ℕ) (d : Option (List ℕ)) (text : List ℕ) (e : Refusal) (r : Reading) → AreParts m s d text → IsFirstReason op m s d e → ¬ (Reads op text r)

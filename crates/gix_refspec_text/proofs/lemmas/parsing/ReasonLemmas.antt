@@ -1,8 +1,8 @@
 -- The first reason that applies to parts, and that none applies to valid ones.
-use Rattle.gix_refspec_text.proofs.Common.{arith, ◌≡◌, ◌≢◌, inl, inr, ℕ, List, [], Option, None, Some, unwrap_or, refl, ap, subst, Operation, Push, Fetch, Shape, Plain, Pattern, HasStar, star, Mode}
-use Rattle.gix_refspec_text.proofs.Common.{Normal, Negative, Refusal, PatternUnbalanced, NegativeEmpty, NegativeObjectHash, IsBadPattern, HasNegativeDestination, HasBadSource, HasBadDestination}
-use Rattle.gix_refspec_text.proofs.Common.{IsUnbalanced, IsOneStarred, Never, IsFirstReason, NeedsMemory, NoReasonBeforeSource, ReachesMemory, IsPositive, LooksLikeObjectHash, MemoryOr, HasShape}
-use Rattle.gix_refspec_text.proofs.Common.{HasCheckedShape, IsBadSide, IsReason, ShowsRefusal}
+use Rattle.gix_refspec_text.proofs.Common.{arith, ◌≡◌, ◌≢◌, inl, inr, ℕ, List, [], Option, None, Some, unwrap_or, refl, ap, subst, Operation, Push, Fetch, Shape, HasStar, star, Mode, Normal, Negative}
+use Rattle.gix_refspec_text.proofs.Common.{Refusal, PatternUnbalanced, NegativeEmpty, NegativeObjectHash, IsBadPattern, HasNegativeDestination, HasBadSource, HasBadDestination, IsUnbalanced}
+use Rattle.gix_refspec_text.proofs.Common.{IsOneStarred, Never, IsFirstReason, NeedsMemory, NoReasonBeforeSource, ReachesMemory, IsPositive, LooksLikeObjectHash, MemoryOr, HasShape, HasCheckedShape}
+use Rattle.gix_refspec_text.proofs.Common.{IsBadSide, IsReason, ShowsRefusal}
 use Rattle.gix_refspec_text.specs.declared.parsing.Error.{Error}
 use Rattle.gix_refspec_text.specs.declared.parsing.Error.TheVariants as error
 use Rattle.gix_refspec_text.proofs.lemmas.texts.TextLemmas.{Lacks-ContainsText}
@@ -83,17 +83,11 @@ destination_fine d k fine e bad =
 
 -- two sides of one shape are balanced
 pub sides_balanced : (s t : List ℕ) (k : Shape) → HasShape s k → HasShape t k → IsOneStarred s t → ⊥
-sides_balanced s t Plain a b (inl h) = Lacks-ContainsText star s a h.0
-sides_balanced s t Plain a b (inr h) = Lacks-ContainsText star t b h.1
-sides_balanced s t Pattern a b (inl h) = Lacks-ContainsText star t h.1 (HasStar-pattern t b)
-sides_balanced s t Pattern a b (inr h) = Lacks-ContainsText star s h.0 (HasStar-pattern s a)
+sides_balanced s t k a b h = grind (arith, Lacks-ContainsText, HasStar-pattern)
 
 -- two sides of different shapes are unbalanced
 pub sides_unbalanced : (s t : List ℕ) (j k : Shape) → HasShape s j → HasShape t k → j ≢ k → IsOneStarred s t
-sides_unbalanced s t Plain Plain a b differ = absurd (differ refl)
-sides_unbalanced s t Plain Pattern a b differ = inr (a, HasStar-pattern t b)
-sides_unbalanced s t Pattern Plain a b differ = inl (HasStar-pattern s a, b)
-sides_unbalanced s t Pattern Pattern a b differ = absurd (differ refl)
+sides_unbalanced s t j k a b differ = grind (arith, HasStar-pattern)
 
 -- an unbalanced push has a destination
 pub unbalanced_somewhere : (s t : List ℕ) → IsOneStarred s t → (s ≢ [] → t ≡ [] → ⊥) → t ≢ []

@@ -1,6 +1,6 @@
 -- A text is refused for only one reason, apart from which fault of a name it holds.
-use Rattle.gix_refspec_text.proofs.Common.{arith, ◌≡◌, ◌⊎◌, inl, inr, ℕ, List, Option, None, Some, refl, sym, ap, ◌∙◌, subst, Operation, Push, Fetch, star, Mode, Refusal, PatternUnsupported}
-use Rattle.gix_refspec_text.proofs.Common.{ReferenceName, IsBadName, IsBadPattern, IsBadSourceFor, HasBadDestination, OrElse, IsFirstReason, IsSameReason, OneRefusal, same_Some}
+use Rattle.gix_refspec_text.proofs.Common.{arith, ◌≡◌, ◌⊎◌, inl, inr, ℕ, List, Option, refl, sym, ap, ◌∙◌, subst, Operation, star, Mode, Refusal, PatternUnsupported, ReferenceName, IsBadName}
+use Rattle.gix_refspec_text.proofs.Common.{IsBadPattern, IsBadSourceFor, HasBadDestination, OrElse, IsFirstReason, IsSameReason, OneRefusal, same_Some}
 use Rattle.gix_refspec_text.proofs.lemmas.texts.TextLemmas.{Lacks-ContainsText}
 use Rattle.gix_refspec_text.proofs.lemmas.parsing.SideLemmas.{bad_name, HasStar-bad, HasSeveralStars-replaced}
 use Rattle.gix_refspec_text.proofs.lemmas.parsing.PartsLemmas.{parts_once}
@@ -32,15 +32,10 @@ name_no_pattern : (x : List ℕ) (e f : Refusal) → IsBadName x e → IsBadPatt
 name_no_pattern x e f name pattern = Lacks-ContainsText star x (bad_name x e name).0 (HasStar-bad x f pattern)
 
 Agree-side : (x : List ℕ) → Agree (λ e. IsBadName x e ⊎ IsBadPattern x e)
-Agree-side x e f (inl a) (inl b) = Agree-name x e f a b
-Agree-side x e f (inl a) (inr b) = absurd (name_no_pattern x e f a b)
-Agree-side x e f (inr a) (inl b) = absurd (name_no_pattern x f e b a)
-Agree-side x e f (inr a) (inr b) = Agree-pattern x e f a b
+Agree-side x e f h h2 = grind (arith, Agree-name, name_no_pattern, Agree-pattern)
 
 Agree-source : (op : Operation) (d : Option (List ℕ)) (s : List ℕ) → Agree (IsBadSourceFor op d s)
-Agree-source Push None s = Agree-side s
-Agree-source Push (Some d) s = Agree-pattern s
-Agree-source Fetch d s = Agree-side s
+Agree-source op d s = grind (arith, Agree-side, Agree-pattern)
 
 Agree-destination : (d : Option (List ℕ)) → Agree (HasBadDestination d)
 Agree-destination d e f a b =

@@ -1,7 +1,7 @@
 -- Names and patterns as sides, and the reasons to refuse a side.
-use Rattle.gix_refspec_text.proofs.Common.{arith, ◌≡◌, ◌⊎◌, inl, inr, ℕ, List, [], ◌∷◌, ◌++◌, Option, None, option_map, unwrap_or, is_some, Bor, false, refl, sym, ◌∙◌, subst, false≢true, sameb}
-use Rattle.gix_refspec_text.proofs.Common.{DeclaredMode, Asterisk, Shape, Plain, Pattern, Lacks, IsName, IsPattern, HasStar, HasSeveralStars, ReplacesStar, HasFault, star, Normal, Refusal}
-use Rattle.gix_refspec_text.proofs.Common.{PatternUnsupported, ReferenceName, IsBadName, IsBadPattern, Never, OrElse, mode_of, NothingAgainst, HasShape, HasCheckedShape, IsBadSide}
+use Rattle.gix_refspec_text.proofs.Common.{arith, ◌≡◌, ◌⊎◌, ℕ, List, [], ◌∷◌, ◌++◌, Option, None, option_map, unwrap_or, is_some, Bor, false, refl, sym, ◌∙◌, subst, false≢true, sameb, DeclaredMode}
+use Rattle.gix_refspec_text.proofs.Common.{Asterisk, Shape, Plain, Pattern, Lacks, IsName, IsPattern, HasStar, HasSeveralStars, ReplacesStar, HasFault, star, Normal, Refusal, PatternUnsupported}
+use Rattle.gix_refspec_text.proofs.Common.{ReferenceName, IsBadName, IsBadPattern, Never, OrElse, mode_of, NothingAgainst, HasShape, HasCheckedShape, IsBadSide}
 use Rattle.gix_refspec_text.specs.contracts.types.Mode.{the_type as the_mode}
 use Rattle.gix_refspec_text.specs.declared.types.Mode.TheVariants as declared_mode
 use Rattle.gix_refspec_text.specs.declared.name.PatternError.TheVariants as found
@@ -64,8 +64,7 @@ pub name_not_bad : (x : List ℕ) → IsName x → (e : Refusal) → IsBadName x
 name_not_bad x name e h = grind (arith, bad_name, plain_fine, Lacks-name)
 
 pub pattern_not_bad : (x : List ℕ) → IsPattern x → (e : Refusal) → IsBadName x e ⊎ IsBadPattern x e → ⊥
-pattern_not_bad x pattern e (inl bad) = Lacks-ContainsText star x (bad_name x e bad).0 (HasStar-pattern x pattern)
-pattern_not_bad x pattern e (inr bad) = pattern_fine x pattern e bad
+pattern_not_bad x pattern e h = grind (arith, Lacks-ContainsText, bad_name, HasStar-pattern, pattern_fine)
 
 -- a checked side isn't bad
 pub checked_fine : (x : List ℕ) (k : Shape) → HasCheckedShape x k → Never (IsBadSide x)

@@ -57,12 +57,10 @@ named_pattern (b ∷ []) pattern = elim (tested (b == at)) [
 named_pattern (b ∷ c ∷ bs) pattern = refl
 
 pub named_either : (s : List ℕ) → IsNameOrPattern s → IsNameOrPattern (named_by s)
-named_either s (inl name) = inl (named_name s name)
-named_either s (inr pattern) = inr (subst IsPattern (sym (named_pattern s pattern)) pattern)
+named_either s h = grind (arith, named_name, named_pattern)
 
 pub named_alike : (s d : List ℕ) → AreAlike s d → AreAlike (named_by s) d
-named_alike s d (inl names) = inl (named_name s names.0, names.1)
-named_alike s d (inr patterns) = inr (subst IsPattern (sym (named_pattern s patterns.0)) patterns.0, patterns.1)
+named_alike s d h = grind (arith, named_name, named_pattern)
 
 -- a name or a pattern doesn't contain a colon
 pub Lacks-colon_either : (s : List ℕ) → IsNameOrPattern s → Lacks colon s
