@@ -1,5 +1,5 @@
 -- The definitions of ids, at the ids that git hash-object prints for the empty blob, and at other lengths.
-use Rattle.gix_refspec_text.proofs.Common.{◌≡◌, ◌≢◌, ℕ, ◌+◌, ◌*◌, List, [], ◌∷◌, Some, codes, refl, arith, filter, range_with_len, false≢true, AllPass-from_list_all, Digit, Length, Sha1, Sha256}
+use Rattle.gix_refspec_text.proofs.Common.{◌≡◌, ℕ, ◌+◌, ◌*◌, List, [], ◌∷◌, Some, codes, refl, arith, filter, range_with_len, false≢true, AllPass-from_list_all, Digit, Length, Sha1, Sha256}
 use Rattle.gix_refspec_text.proofs.Common.{id_bytes, is_lower_digit, IsSpelledBy, Spells, IsIdText, IsLowerText, IsIdLength, HasIdFault, lower_of}
 use Rattle.hex.specs.Hex.{hex_digit_value}
 use Rattle.hex.proofs.OnLiterals.{hex_on_literals}

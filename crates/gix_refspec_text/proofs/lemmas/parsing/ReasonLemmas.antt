@@ -51,10 +51,6 @@ starred_not_empty t has empty = Lacks-ContainsText star [] tt (subst HasStar emp
 pub push_alone_reaches : (m : Mode) (s : List ℕ) → IsPositive m → (s ≡ [] → m ≡ Normal → ⊥) → NoReasonBeforeSource Push m s None
 push_alone_reaches m s pos full = (λ e h. full h.no_source h.unsigned, no_negative m None pos, λ e h. let i = h.nowhere in absurd (cc))
 
--- memory may be needed at the source
-pub memory_at_source : (op : Operation) (m : Mode) (s : List ℕ) (d : Option (List ℕ)) → NoReasonBeforeSource op m s d → NeedsMemory s → ReachesMemory op m s d
-memory_at_source op m s d reached needs = grind arith
-
 -- the reasons at the source, at the destination, and of unbalanced sides
 pub reason_at_source : (op : Operation) (m : Mode) (s : List ℕ) (d : Option (List ℕ)) (e : Refusal) → NoReasonBeforeSource op m s d → HasBadSource op s d e → IsFirstReason op m s d e
 reason_at_source op m s d e before bad = inr (before.0, inr (before.1, inr (before.2, inl bad)))
@@ -106,12 +102,6 @@ bad_destination d e bad = grind arith
 pub memory_at_destination : (op : Operation) (m : Mode) (s : List ℕ) (d : Option (List ℕ)) → NoReasonBeforeSource op m s d → Never (HasBadSource op s d) → NeedsMemory (unwrap_or d []) → ReachesMemory op m s d
 memory_at_destination op m s None before source needs = absurd (empty_needs_none needs)
 memory_at_destination op m s (Some d) before source needs = (before, inr (source, needs))
-
--- an error at the source
-pub error_at_source : (op : Operation) (m : Mode) (s : List ℕ) (d : Option (List ℕ)) (P : Refusal → Type 0) (e : Error) → NoReasonBeforeSource op m s d → ((f : Refusal) → P f → HasBadSource op s d f) → MemoryOr (NeedsMemory s) P e → IsReason op m s d e
-error_at_source op m s d P e before bad =
-    MemoryOr-map (NeedsMemory s) (ReachesMemory op m s d) P (IsFirstReason op m s d) e (memory_at_source op m s d before)
-    (λ f h. reason_at_source op m s d f before (bad f h))
 
 -- an error at the destination
 pub error_at_destination : (op : Operation) (m : Mode) (s : List ℕ) (d : Option (List ℕ)) (e : Error) → NoReasonBeforeSource op m s d → Never (HasBadSource op s d) → MemoryOr (NeedsMemory (unwrap_or d [])) (IsBadSide (unwrap_or d [])) e → IsReason op m s d e
