@@ -1,16 +1,7 @@
 -- Examples of ref prefixes, for sides and groups like those of git-fetch(1), and what a caller concludes from them.
-use Rattle.std.proofs.Common.{◌≡◌, inl, inr, ℕ, zero, suc, List, [], ◌∷◌, ◌++◌, None, Some, codes, length, refl, sym, ap, subst, arith}
-use Rattle.std.specs.List.{Any}
-use Rattle.gix_refspec_text.specs.Texts.Bytes.{bracket, star}
-use Rattle.gix_refspec_text.specs.Texts.Words.{BeginsWith}
-use Rattle.gix_refspec_text.specs.Specs.Reading.{Normal, Reading}
-use Rattle.gix_refspec_text.specs.Specs.Grammar.{fetched, pushed}
-use Rattle.gix_refspec_text.specs.Matching.Side.{pattern, partial, object, HasKind, candidates}
-use Rattle.gix_refspec_text.specs.Matching.Prefix.{IsRefPrefix}
-use Rattle.gix_refspec_text.specs.Matching.Match.{Ref}
-use Rattle.gix_refspec_match.specs.Matching.Mappings.{Mapped}
-use Rattle.gix_refspec_match.specs.Matching.Hits.{AreKeptForward}
-use Rattle.gix_refspec.specs.Matching.Asked.{HasNoList, Lists, ListsGroup, ListsSide, Serves}
+use Rattle.gix_refspec.proofs.Common.{◌≡◌, inl, inr, ℕ, zero, suc, List, [], ◌∷◌, ◌++◌, None, Some, codes, length, refl, sym, ap, subst, arith, Any, bracket, star, BeginsWith, Normal}
+use Rattle.gix_refspec.proofs.Common.{Reading, fetched, pushed, pattern, partial, object, HasKind, candidates, IsRefPrefix, Ref, Mapped, AreKeptForward, HasNoList, Lists, ListsGroup}
+use Rattle.gix_refspec.proofs.Common.{ListsSide, Serves}
 use Rattle.gix_refspec.proofs.lemmas.prefixes.AskedLemmas.{list_as, no_list}
 use Rattle.gix_refspec_text.proofs.facts.ManualFacts.{Lacks-tested, other_length}
 use Rattle.gix_refspec_text.proofs.facts.FitFacts.{blob_kind, split_at_end, every, no_dev, other_byte, short_kind}

@@ -1,13 +1,6 @@
 -- Which fetches mean the same, and what a caller concludes from the law on groups of them.
-use Rattle.std.proofs.Common.{◌≡◌, ◌≢◌, ℕ, true, false, List, [], ◌∷◌, None, Some, codes, refl}
-use Rattle.std.proofs.lemmas.Bool.{false≢true}
-use Rattle.gix_refspec_text.specs.declared.parsing.Operation.TheVariants.{Push, Fetch}
-use Rattle.gix_refspec_text.specs.Specs.Reading.{Normal, Forced, Reading}
-use Rattle.gix_refspec_text.specs.Specs.Grammar.{fetched, pushed}
-use Rattle.gix_refspec_text.specs.Specs.Meaning.{fetch_and_update, meaning_of}
-use Rattle.gix_refspec_match.specs.Matching.Mappings.{Mapped}
-use Rattle.gix_refspec_match.specs.Matching.Hits.{AreKeptForward, AreKeptBackward}
-use Rattle.gix_refspec.specs.Laws.Matching.{EqualGroups, AreFetches, FetchTheSame}
+use Rattle.gix_refspec.proofs.Common.{◌≡◌, ◌≢◌, ℕ, true, false, List, [], ◌∷◌, None, Some, codes, refl, false≢true, Push, Fetch, Normal, Forced, Reading, fetched, pushed, fetch_and_update}
+use Rattle.gix_refspec.proofs.Common.{meaning_of, Mapped, AreKeptForward, AreKeptBackward, EqualGroups, AreFetches, FetchTheSame}
 use Rattle.gix_refspec_text.proofs.facts.ManualFacts.{named}
 use Rattle.gix_refspec_text.proofs.facts.FitFacts.{every, no_dev, short}
 use Rattle.gix_refspec_match.proofs.facts.MatchFacts.{tracks_nothing}

@@ -1,39 +1,20 @@
 -- The plain data of names, items, mappings, groups and issues, for values whose fields differ: so none is lost or taken
 -- for another.
-use Rattle.std.proofs.Common.{Option, ◌≡◌, ◌≢◌, ℕ, List, [], ◌∷◌, ◌++◌, None, Some, true, false, map, filter, option_map, length, replicate, Vec, Global, codes, refl, sym, ap, ap₂, ◌∙◌, arith}
+use Rattle.gix_refspec.proofs.Common.{Option, ◌≡◌, ◌≢◌, ℕ, List, [], ◌∷◌, ◌++◌, None, Some, true, false, map, filter, option_map, length, replicate, Vec, Global, codes, refl, sym, ap, ap₂}
+use Rattle.gix_refspec.proofs.Common.{◌∙◌, arith, BString, bstring_bytes, Item, Mapping, MatchGroup, NameRef, Borrowed, Owned, SourceRef, Fix, MappingWithPartialDestinationRemoved, Issue}
+use Rattle.gix_refspec.proofs.Common.{Sha1, Push, Fetch, RefSpecRef, Normal, Forced, fetched, pushed, fetch_only, push_matching, reading_of, name, id, Conflict, name_bytes, start_of}
+use Rattle.gix_refspec.proofs.Common.{mapped_of, ref_of, text_of_source, readings_of, is_for, is_same_operation, IsGathered, ForwardOutcome, mappings_of, conflict_of, conflicts_of}
+use Rattle.gix_refspec.proofs.Common.{removed_of, IsSameFix, IfConflicts, IfMemory}
 use Rattle.std.specs.Char.{encode_utf8}
 use Rattle.std.specs.Iterator.{YieldsFirst, Drains}
-use Rattle.bstr.specs.declared.bstring.BString.{BString}
-use Rattle.bstr.specs.Owned.{bstring_bytes}
 use Rattle.bstr.specs.Utf8.{pieces_from}
-use Rattle.gix_refspec_match.specs.declared.types.Item.{Item}
-use Rattle.gix_refspec_match.specs.declared.types.Mapping.{Mapping}
-use Rattle.gix_refspec.specs.declared.match_group.types.MatchGroup.{MatchGroup}
-use Rattle.gix_refspec_match.specs.declared.types.NameRef.{NameRef}
-use Rattle.gix_refspec_match.specs.declared.types.NameRef.TheVariants.{Borrowed, Owned}
-use Rattle.gix_refspec_match.specs.declared.types.SourceRef.{SourceRef}
 use Rattle.gix_refspec_match.specs.declared.types.SourceRef.TheVariants.{FullName, ObjectId as IdSource}
 use Rattle.gix_refspec.specs.declared.match_group.validate.Error.{Error}
-use Rattle.gix_refspec.specs.declared.match_group.validate.Fix.{Fix}
-use Rattle.gix_refspec.specs.declared.match_group.validate.Fix.TheVariants.{MappingWithPartialDestinationRemoved}
-use Rattle.gix_refspec.specs.declared.match_group.validate.Issue.{Issue}
 use Rattle.gix_refspec.specs.declared.match_group.validate.Issue.TheVariants as issue
 use Rattle.gix_refspec.specs.declared.match_group.validate.Refusal.TheVariants.{Conflicts, Memory}
-use Rattle.gix_refspec_text.specs.declared.oid.Kind.TheVariants.{Sha1}
 use Rattle.gix_refspec_text.specs.declared.oid.ObjectId.{ObjectId}
-use Rattle.gix_refspec_text.specs.declared.parsing.Operation.TheVariants.{Push, Fetch}
 use Rattle.gix_refspec_text.specs.declared.spec.RefSpec.{accepted-type}
-use Rattle.gix_refspec_text.specs.declared.spec.RefSpecRef.{RefSpecRef}
 use Rattle.gix_refspec_text.specs.declared.types.Mode.TheVariants as mode
-use Rattle.gix_refspec_text.specs.Specs.Reading.{Normal, Forced}
-use Rattle.gix_refspec_text.specs.Specs.Grammar.{fetched, pushed}
-use Rattle.gix_refspec_text.specs.Specs.Meaning.{fetch_only, push_matching}
-use Rattle.gix_refspec_text.specs.Views.Spec.{reading_of}
-use Rattle.gix_refspec_match.specs.Matching.Mappings.{name, id}
-use Rattle.gix_refspec.specs.Matching.Validation.{Conflict}
-use Rattle.gix_refspec_match.specs.Views.Mapping.{name_bytes, start_of, mapped_of, ref_of, text_of_source}
-use Rattle.gix_refspec.specs.Views.Group.{readings_of, is_for, is_same_operation, IsGathered}
-use Rattle.gix_refspec.specs.Views.Issue.{ForwardOutcome, mappings_of, conflict_of, conflicts_of, removed_of, IsSameFix, IfConflicts, IfMemory}
 use Rattle.gix_refspec_match.proofs.facts.MatchFacts.{mapping}
 use Rattle.gix_refspec_text.proofs.facts.ObjectIdFacts.{empty_blob, lower_of-empty_blob}
 use Rattle.gix_refspec_text.proofs.facts.ViewFacts.{lent, Accepted, spec_of, owned_of, blob_id}

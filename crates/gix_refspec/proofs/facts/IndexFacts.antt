@@ -1,15 +1,7 @@
 -- What the spec and the item at an index make, and what a caller concludes about one mapping from the laws on these.
-use Rattle.std.proofs.Common.{◌≡◌, inl, inr, ℕ, List, [], ◌∷◌, ◌++◌, None, Some, codes, refl, sym, ap, ◌∙◌, subst, arith}
-use Rattle.std.specs.List.{Contains, slice_get}
-use Rattle.gix_refspec_text.specs.Specs.Reading.{Reading}
-use Rattle.gix_refspec_text.specs.Specs.Grammar.{IsPositive}
-use Rattle.gix_refspec_text.specs.Matching.Side.{partial, full_name}
-use Rattle.gix_refspec_text.specs.Matching.Match.{Ref}
-use Rattle.gix_refspec_match.specs.Matching.Mappings.{name, id, Mapped}
-use Rattle.gix_refspec_match.specs.Matching.Hits.{AreKeptForward, AreKeptBackward}
-use Rattle.gix_refspec.specs.Laws.Indexes.{MakesForwardOf, MakesBackwardOf, MadeAtIndexes, RemainsExactly}
-use Rattle.gix_refspec.specs.Matching.Validation.{IsValidated, IsWritable, Removed}
-use Rattle.gix_refspec.specs.Matching.RefNames.{KeepsRefNames, LeftOut}
+use Rattle.gix_refspec.proofs.Common.{◌≡◌, inl, inr, ℕ, List, [], ◌∷◌, ◌++◌, None, Some, codes, refl, sym, ap, ◌∙◌, subst, arith, Contains, slice_get, Reading, IsPositive, partial}
+use Rattle.gix_refspec.proofs.Common.{full_name, Ref, name, id, Mapped, AreKeptForward, AreKeptBackward, MakesForwardOf, MakesBackwardOf, MadeAtIndexes, RemainsExactly, IsValidated}
+use Rattle.gix_refspec.proofs.Common.{IsWritable, Removed, KeepsRefNames, LeftOut}
 use Rattle.gix_refspec_match.proofs.facts.CandidateFacts.{branch_and_tag, main_tag, main_ends, main_to_x, takes_the_tag, x_kind}
 use Rattle.gix_refspec.proofs.facts.KeptFacts.{blob_paired}
 use Rattle.gix_refspec_text.proofs.facts.ManualFacts.{named, other_length}

@@ -1,24 +1,9 @@
 -- Which items may be left out, and what a caller concludes from the laws on that.
-use Rattle.std.proofs.Common.{◌≡◌, ◌≢◌, inl, inr, ℕ, zero, suc, List, [], ◌∷◌, None, Some, codes, refl, sym, ap, subst, arith, Bool, true, false, map}
-use Rattle.std.specs.List.{filter, Any, Contains}
-use Rattle.gix_refspec_text.specs.declared.parsing.Operation.TheVariants.{Push, Fetch}
-use Rattle.bstr.specs.BStr.{bstr_bytes}
-use Rattle.std.proofs.lemmas.Bool.{false≢true}
-use Rattle.gix_refspec_match.specs.declared.types.Item.{Item}
-use Rattle.gix_refspec_text.specs.Texts.Words.{BeginsWith}
-use Rattle.gix_refspec_text.specs.Texts.Bytes.{head}
-use Rattle.gix_refspec_text.specs.Specs.Reading.{Normal, Reading}
-use Rattle.gix_refspec_text.specs.Specs.Grammar.{fetched, pushed}
-use Rattle.gix_refspec_text.specs.Matching.Side.{pattern, filled}
-use Rattle.gix_refspec_text.specs.Matching.Prefix.{to_prefix}
-use Rattle.gix_refspec_text.specs.Matching.Match.{Ref, HasName, Matches, Takes}
-use Rattle.gix_refspec_match.specs.Matching.Mappings.{name, Mapped, HasPair}
-use Rattle.gix_refspec_match.specs.Matching.Hits.{AreForwardEnds, AreBackwardEnds, Hit, AreKeptForward, AreKeptBackward}
-use Rattle.gix_refspec_match.specs.Views.Mapping.{ref_of}
-use Rattle.gix_refspec_text.specs.Laws.Covering.{HasCoveringSource, IsCovering}
-use Rattle.gix_refspec.specs.Laws.Matching.{BeginsWithOne, IsCoveredBy, AreExpansions, MakesForward}
-use Rattle.gix_refspec.specs.Laws.Items.{AreAskedFor, ArePart, AskedItems, TakesItem, HasTaken, HaveSamePairs, FewerItems, FetchesHead, IsListed, AreListedItems, ListedItems, PassesTaken, FilteredItems, is_begun, FilteredByEntries, FilteredByList}
-use Rattle.gix_refspec.specs.Matching.Asked.{ListsGroup}
+use Rattle.gix_refspec.proofs.Common.{◌≡◌, ◌≢◌, inl, inr, ℕ, zero, suc, List, [], ◌∷◌, None, Some, codes, refl, sym, ap, subst, arith, Bool, true, false, map, filter, Any, Contains, Push}
+use Rattle.gix_refspec.proofs.Common.{Fetch, bstr_bytes, false≢true, Item, BeginsWith, head, Normal, Reading, fetched, pushed, pattern, filled, to_prefix, Ref, HasName, Matches, Takes, name}
+use Rattle.gix_refspec.proofs.Common.{Mapped, HasPair, AreForwardEnds, AreBackwardEnds, Hit, AreKeptForward, AreKeptBackward, ref_of, HasCoveringSource, IsCovering, BeginsWithOne}
+use Rattle.gix_refspec.proofs.Common.{IsCoveredBy, AreExpansions, MakesForward, AreAskedFor, ArePart, AskedItems, TakesItem, HasTaken, HaveSamePairs, FewerItems, FetchesHead, IsListed}
+use Rattle.gix_refspec.proofs.Common.{AreListedItems, ListedItems, PassesTaken, FilteredItems, is_begun, FilteredByEntries, FilteredByList, ListsGroup, same_Some}
 use Rattle.gix_refspec.proofs.facts.AskedFacts.{lists_of_specs}
 use Rattle.gix_refspec_match.proofs.facts.CandidateFacts.{branch_and_tag, main_branch, main_tag, main_ends, main_to_x, takes_the_tag}
 use Rattle.gix_refspec.proofs.lemmas.prefixes.CoverLemmas.{joined_covers}
@@ -27,7 +12,6 @@ use Rattle.gix_refspec_text.proofs.facts.CoveringFacts.{below_heads, covering, n
 use Rattle.gix_refspec_text.proofs.facts.ManualFacts.{named, other_length}
 use Rattle.gix_refspec_text.proofs.facts.FitFacts.{dev_ref, every, main_ref, no_dev, origin_split, other_byte, short, short_no_id, tag_ref}
 use Rattle.gix_refspec_match.proofs.facts.MatchFacts.{are_forward_ends, bytes_in, fetches_all_but_dev, forward_ends, taken_by, takes_no_tag, tracked, tracks_all_but_dev}
-use Rattle.std.proofs.lemmas.Option.{same_Some}
 
 abbrev group : List Reading
 group = every ∷ no_dev ∷ []

@@ -1,20 +1,13 @@
 -- What a caller concludes from the laws on kept mappings: that a pair is kept, that one isn't, and by which spec and
 -- item.
-use Rattle.std.proofs.Common.{◌≡◌, inl, inr, ℕ, zero, suc, List, [], ◌∷◌, ◌++◌, Option, None, Some, codes, refl, sym, ap, ◌∙◌, subst, arith}
-use Rattle.std.specs.List.{AllByRecursion, Any, Contains, slice_get}
-use Rattle.gix_refspec_text.specs.Specs.Reading.{Reading}
-use Rattle.gix_refspec_text.specs.Matching.Side.{partial, full_name, HasKind}
-use Rattle.gix_refspec_text.specs.Matching.Match.{Ref, IsFirstCandidate}
-use Rattle.gix_refspec_match.specs.Matching.Mappings.{name, Mapped, HasPair, IsExcluded}
-use Rattle.gix_refspec_match.specs.Matching.Hits.{AreKeptForward, AreKeptBackward}
-use Rattle.gix_refspec.specs.Laws.Matching.{MakesForward, MakesBackward, PairsId, KeptExactly, FirstStays, NothingExcluded}
-use Rattle.gix_refspec.specs.Matching.Validation.{ForwardIndexes, IsValidated, ItemIndexesFit, Removed}
+use Rattle.gix_refspec.proofs.Common.{◌≡◌, inl, inr, ℕ, zero, suc, List, [], ◌∷◌, ◌++◌, Option, None, Some, codes, refl, sym, ap, ◌∙◌, subst, arith, AllByRecursion, Any, Contains, slice_get}
+use Rattle.gix_refspec.proofs.Common.{Reading, partial, full_name, HasKind, Ref, IsFirstCandidate, name, Mapped, HasPair, IsExcluded, AreKeptForward, AreKeptBackward, MakesForward}
+use Rattle.gix_refspec.proofs.Common.{MakesBackward, PairsId, KeptExactly, FirstStays, NothingExcluded, ForwardIndexes, IsValidated, ItemIndexesFit, Removed, same_Some}
 use Rattle.gix_refspec_match.proofs.facts.CandidateFacts.{branch_and_tag, main_tag, main_ends, main_to_x, no_tags, no_other_first, not_excluded, tags_excluded, takes_the_tag, x_kind}
 use Rattle.gix_refspec_text.proofs.facts.ManualFacts.{named, other_length}
 use Rattle.gix_refspec_text.proofs.facts.ObjectIdFacts.{empty_blob}
 use Rattle.gix_refspec_text.proofs.facts.FitFacts.{below_tags, blob, blob_kind, dev_ref, every, main_ref, no_dev, short_kind, short_no_id, tag_ref}
 use Rattle.gix_refspec_match.proofs.facts.MatchFacts.{blob_mapping, bytes_in, dev_excluded, main_stays, mapping, maps_all, only_dev, tracked, tracks_all}
-use Rattle.std.proofs.lemmas.Option.{same_Some}
 
 -- with any indexes
 abbrev tag_pair : Mapped

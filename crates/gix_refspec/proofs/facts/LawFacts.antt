@@ -1,33 +1,20 @@
 -- Examples of the definitions that only laws use: which specs go both ways, what a covering source covers, what a
 -- canonical text reads as, and the expansion of a group.
-use Rattle.std.proofs.Common.{◌≡◌, ◌≢◌, ◌⊎◌, ◌<◌, ℕ, zero, suc, List, [], ◌∷◌, ◌++◌, Option, None, Some, length, codes, refl, sym, ap, ◌∙◌, subst, inl, inr, arith}
-use Rattle.std.specs.List.{AllByRecursion}
-use Rattle.gix_refspec_text.specs.declared.parsing.Operation.TheVariants.{Push, Fetch}
-use Rattle.gix_refspec_text.specs.Texts.Words.{BeginsWith}
-use Rattle.gix_refspec_text.specs.Texts.Name.{HasStar, IsPattern}
-use Rattle.gix_refspec_text.specs.Texts.Bytes.{star, colon}
-use Rattle.gix_refspec_text.specs.Specs.Reading.{Normal, Forced, Negative, Reading}
-use Rattle.gix_refspec_text.specs.Specs.Grammar.{AreParts, Reads, fetches, fetched, pushed}
-use Rattle.gix_refspec_text.specs.Matching.Side.{candidates, IsCandidate, Fits}
-use Rattle.gix_refspec_match.specs.Matching.Mappings.{name, id, Mapped, HasPair, AreApart}
-use Rattle.gix_refspec_match.specs.Matching.Hits.{AreKeptForward, AreKeptBackward, OneForward, OneBackward, KeptOnce}
-use Rattle.gix_refspec_text.specs.Matching.Match.{Ref, Matches, HasName, Takes}
-use Rattle.gix_refspec.specs.Matching.Validation.{ValidatedOnce, DestinationsHaveOneSource, HaveDistinctDestinations, ForwardFits, IndexesFit}
+use Rattle.gix_refspec.proofs.Common.{◌≡◌, ◌≢◌, ◌⊎◌, ◌<◌, ℕ, zero, suc, List, [], ◌∷◌, ◌++◌, Option, None, Some, length, codes, refl, sym, ap, ◌∙◌, subst, inl, inr, arith, AllByRecursion}
+use Rattle.gix_refspec.proofs.Common.{Push, Fetch, BeginsWith, HasStar, IsPattern, star, colon, Normal, Forced, Negative, Reading, AreParts, Reads, fetches, fetched, pushed, candidates}
+use Rattle.gix_refspec.proofs.Common.{IsCandidate, Fits, name, id, Mapped, HasPair, AreApart, AreKeptForward, AreKeptBackward, OneForward, OneBackward, KeptOnce, Ref, Matches, HasName}
+use Rattle.gix_refspec.proofs.Common.{Takes, ValidatedOnce, DestinationsHaveOneSource, HaveDistinctDestinations, ForwardFits, IndexesFit, push_delete, fetch_only, printed, meaning_of}
+use Rattle.gix_refspec.proofs.Common.{Refusal, PatternUnbalanced, NegativeEmpty, ReferenceName, IsRefused, IsIdText, IsLowerText, HasIdFault, LockSuffix, RepeatedDot, IsAsked, IsPrefix}
+use Rattle.gix_refspec.proofs.Common.{Expands, to_prefix, to_candidates, IsCovering, HasCoveringSource, MapAlike, AreReadAgain, AsksFor, AtSpec, EachSource, Transpose, Cover, CoverTogether}
+use Rattle.gix_refspec.proofs.Common.{FetchGroupReadsBack, IsCoveredBy, IsSourceAmong, IsDestinationAmong, GoesBothWays, ReadsAgainAs, BeginsWithOne, AreExpansions, same_Some}
 use Rattle.gix_refspec_text.specs.Laws.Readings.{ReadsOnce, ReadsOrRefused, IsSameReason, SaysForOperation, IsPrintedBack, ReadsBack, EqualReadings, HasOneId, HasOneFault, HasCandidates, KeepsOperation, EqualTexts, NothingAgainst, ClonesExactly, OneWord, PrefixBegins, OnePrefix, Candidates, IdOrFault, OneLowerText, OneRefusal}
-use Rattle.gix_refspec_text.specs.Specs.Meaning.{push_delete, fetch_only, printed, meaning_of}
 use Rattle.gix_refspec_text.specs.Texts.PatternError.{IsPatternFault}
 use Rattle.gix_refspec_text.specs.declared.name.PatternError.{PatternError}
 use Rattle.gix_refspec_text.specs.declared.name.PatternError.TheVariants.{Name, Memory}
-use Rattle.gix_refspec_text.specs.Specs.Refusal.{Refusal, PatternUnbalanced, NegativeEmpty, ReferenceName, IsRefused}
-use Rattle.gix_refspec_text.specs.Texts.ObjectId.{IsIdText, IsLowerText, HasIdFault}
 use Rattle.gix_refspec_text.specs.declared.name.Error.{Error as NameError}
-use Rattle.gix_refspec_text.specs.declared.name.Error.TheVariants.{LockSuffix, RepeatedDot}
 use Rattle.gix_refspec_text.specs.declared.oid.Error.{Error as IdError}
 use Rattle.gix_refspec_text.specs.declared.oid.Error.TheVariants.{Length}
-use Rattle.gix_refspec_text.specs.Matching.Prefix.{IsAsked, IsPrefix, Expands, to_prefix, to_candidates}
-use Rattle.gix_refspec_text.specs.Laws.Covering.{IsCovering, HasCoveringSource}
 use Rattle.gix_refspec.specs.Laws.Reasons.{ReasonRefuses}
-use Rattle.gix_refspec.specs.Laws.Matching.{MapAlike, AreReadAgain, AsksFor, AtSpec, EachSource, Transpose, Cover, CoverTogether, FetchGroupReadsBack, IsCoveredBy, IsSourceAmong, IsDestinationAmong, GoesBothWays, ReadsAgainAs, BeginsWithOne, AreExpansions}
 use Rattle.gix_refspec_text.proofs.lemmas.texts.TextLemmas.{Lacks-ContainsText}
 use Rattle.gix_refspec_text.proofs.lemmas.texts.TestedLemmas.{IsName-tested}
 use Rattle.gix_refspec_text.proofs.lemmas.hits.MatchLemmas.{outside_none}
@@ -40,7 +27,6 @@ use Rattle.gix_refspec.proofs.facts.ValidationFacts.{both_to_x, foo_fix, validat
 use Rattle.gix_refspec_text.proofs.facts.FitFacts.{every, no_dev, short, short_kind, other_byte, other_first, push_is_none}
 use Rattle.gix_refspec_match.proofs.facts.MatchFacts.{bytes_in, mapping, tracked, fetches_all_but_dev, tracks_all_but_dev, tracks_nothing, tag_to_x, tag_to_foo, tag_alone}
 use Rattle.gix_refspec_text.proofs.facts.CoveringFacts.{below_heads, covering, not_covering}
-use Rattle.std.proofs.lemmas.Option.{same_Some}
 
 -- ---- both directions
 

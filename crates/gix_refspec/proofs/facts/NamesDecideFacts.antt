@@ -1,20 +1,12 @@
 -- From left to right names alone decide, from right to left ids too.
-use Rattle.std.proofs.Common.{◌≡◌, ◌≢◌, ◌⊎◌, inl, inr, ℕ, List, [], ◌∷◌, None, Some, codes, length, get_or, refl, ap, ◌∙◌, arith}
+use Rattle.gix_refspec.proofs.Common.{◌≡◌, ◌≢◌, ◌⊎◌, inl, inr, ℕ, List, [], ◌∷◌, None, Some, codes, length, get_or, refl, ap, ◌∙◌, arith, Sha1, Sha256, IsIdText, bytes_of, digits_of}
+use Rattle.gix_refspec.proofs.Common.{SideKind, pattern, full_name, object, partial, HasKind, Ref, MatchesAs, Matches, Normal, Reading, fetched, Mapped, AreKeptForward, AreKeptBackward}
+use Rattle.gix_refspec.proofs.Common.{AsksForNoId, HasIdDestination, HaveSameNames, NamesDecide, NamesDecideBack, same_Some}
 use Rattle.gix_refspec_text.specs.declared.oid.Kind.{Kind}
-use Rattle.gix_refspec_text.specs.declared.oid.Kind.TheVariants.{Sha1, Sha256}
-use Rattle.gix_refspec_text.specs.Texts.ObjectId.{IsIdText, bytes_of, digits_of}
-use Rattle.gix_refspec_text.specs.Matching.Side.{SideKind, pattern, full_name, object, partial, HasKind}
-use Rattle.gix_refspec_text.specs.Matching.Match.{Ref, MatchesAs, Matches}
-use Rattle.gix_refspec_text.specs.Specs.Reading.{Normal, Reading}
-use Rattle.gix_refspec_text.specs.Specs.Grammar.{fetched}
-use Rattle.gix_refspec_match.specs.Matching.Mappings.{Mapped}
-use Rattle.gix_refspec_match.specs.Matching.Hits.{AreKeptForward, AreKeptBackward}
-use Rattle.gix_refspec.specs.Laws.Items.{AsksForNoId, HasIdDestination, HaveSameNames, NamesDecide, NamesDecideBack}
 use Rattle.gix_refspec_text.proofs.facts.ManualFacts.{named, none_some, other_length}
 use Rattle.gix_refspec_text.proofs.facts.ObjectIdFacts.{empty_blob, IsIdText-empty_blob}
 use Rattle.gix_refspec_text.proofs.facts.FitFacts.{blob_kind, dev_ref, every, main_ref, no_dev, tag_ref}
 use Rattle.gix_refspec_match.proofs.facts.MatchFacts.{fetches_all_but_dev, tracked}
-use Rattle.std.proofs.lemmas.Option.{same_Some}
 
 -- a ref with this name, and other ids than in the example
 abbrev moved : List ℕ → Ref

@@ -1,14 +1,7 @@
 -- The contracts of the match calls for a given group and items: for the examples of matching, they determine the
 -- outcome, and there is one.
-use Rattle.std.proofs.Common.{◌≡◌, List, [], ◌∷◌, map, length, codes, refl, ap, arith}
-use Rattle.gix_refspec_match.specs.declared.types.Item.{Item}
-use Rattle.gix_refspec.specs.declared.match_group.types.MatchGroup.{MatchGroup}
-use Rattle.gix_refspec.specs.declared.match_group.types.Outcome.{Outcome}
-use Rattle.gix_refspec_text.specs.Matching.Match.{Ref}
-use Rattle.gix_refspec_match.specs.Matching.Mappings.{Mapped}
-use Rattle.gix_refspec_match.specs.Matching.Hits.{AreForward, AreBackward, AreKeptForward, AreKeptBackward}
-use Rattle.gix_refspec_match.specs.Views.Mapping.{mapped_of, ref_of}
-use Rattle.gix_refspec.specs.Views.Group.{IsOutcome, Maps, readings_of}
+use Rattle.gix_refspec.proofs.Common.{◌≡◌, List, [], ◌∷◌, map, length, codes, refl, ap, arith, Item, MatchGroup, Outcome, Ref, Mapped, AreForward, AreBackward, AreKeptForward}
+use Rattle.gix_refspec.proofs.Common.{AreKeptBackward, mapped_of, ref_of, IsOutcome, Maps, readings_of}
 use Rattle.gix_refspec_match.proofs.lemmas.hits.HitLemmas.{one_forward, one_backward}
 use Rattle.gix_refspec_text.proofs.facts.ManualFacts.{named}
 use Rattle.gix_refspec_text.proofs.facts.FitFacts.{every, no_dev}

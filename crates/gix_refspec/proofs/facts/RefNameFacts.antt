@@ -1,18 +1,9 @@
 -- Examples of the definitions on ref names, for mappings with valid and invalid ones, and what a caller concludes from
 -- their law.
-use Rattle.std.proofs.Common.{◌≡◌, inl, inr, ℕ, List, [], ◌∷◌, ◌++◌, None, Some, codes, refl, arith}
-use Rattle.std.specs.List.{AllByRecursion}
-use Rattle.gix_refspec_text.specs.declared.name.Error.TheVariants.{RepeatedDot}
-use Rattle.gix_refspec.specs.declared.match_group.ref_names.InvalidMapping.{InvalidMapping}
+use Rattle.gix_refspec.proofs.Common.{◌≡◌, inl, inr, ℕ, List, [], ◌∷◌, ◌++◌, None, Some, codes, refl, arith, AllByRecursion, RepeatedDot, InvalidMapping, slash, Reading, Ref, id, Mapped}
+use Rattle.gix_refspec.proofs.Common.{mapped_of, AreKeptForward, ForwardIndexes, IndexesFit, IsValidated, Removed, AreLeftOut, HaveRefNames, IsInvalidAt, IsLeftOut, HasRefNames}
+use Rattle.gix_refspec.proofs.Common.{IsValidDestination, IsValidSource, IsRefName, KeepsRefNames, LeftOut, StaysAmongRefs, WritesRefs, left_out_of}
 use Rattle.gix_refspec.specs.declared.match_group.ref_names.InvalidSide.TheVariants.{Source, Destination, Both}
-use Rattle.gix_refspec_text.specs.Texts.Bytes.{slash}
-use Rattle.gix_refspec_text.specs.Specs.Reading.{Reading}
-use Rattle.gix_refspec_text.specs.Matching.Match.{Ref}
-use Rattle.gix_refspec_match.specs.Matching.Mappings.{id, Mapped}
-use Rattle.gix_refspec_match.specs.Views.Mapping.{mapped_of}
-use Rattle.gix_refspec_match.specs.Matching.Hits.{AreKeptForward}
-use Rattle.gix_refspec.specs.Matching.Validation.{ForwardIndexes, IndexesFit, IsValidated, Removed}
-use Rattle.gix_refspec.specs.Matching.RefNames.{AreLeftOut, HaveRefNames, IsInvalidAt, IsLeftOut, HasRefNames, IsValidDestination, IsValidSource, IsRefName, KeepsRefNames, LeftOut, StaysAmongRefs, WritesRefs, left_out_of}
 use Rattle.gix_refspec_match.proofs.lemmas.lists.JoinLemmas.{nothing_made}
 use Rattle.gix_refspec_text.proofs.facts.ManualFacts.{Lacks-tested, other_length}
 use Rattle.gix_refspec_text.proofs.facts.FitFacts.{other_byte}

@@ -1,22 +1,14 @@
 -- Examples of the definitions on validation, for mappings to one destination and to others: their conflicts, survivors
 -- and fixes.
-use Rattle.std.proofs.Common.{◌≡◌, ◌≢◌, ◌⊎◌, ℕ, suc, ◌<◌, List, [], ◌∷◌, ◌++◌, Option, None, Some, option_map, length, map, codes, refl, sym, ap, ◌∙◌, subst, inl, inr, arith}
-use Rattle.std.specs.List.{Contains}
-use Rattle.std.specs.List.Sorted.{IsStrictlySortedBy}
-use Rattle.std.specs.Ordering.{nat_cmp}
-use Rattle.std.specs.Cmp.Lexicographic.{slice_cmp}
-use Rattle.std.specs.declared.cmp.Ordering.TheVariants.{Less, Equal, Greater}
-use Rattle.gix_refspec_text.specs.Specs.Reading.{Normal, Forced, Reading}
-use Rattle.gix_refspec_text.specs.Specs.Grammar.{fetched}
-use Rattle.gix_refspec_text.specs.Specs.Meaning.{printed}
-use Rattle.gix_refspec_match.specs.Matching.Mappings.{name, Mapped, HasPair}
-use Rattle.gix_refspec.specs.Matching.Validation.{IndexesFit, HasConflictAt, IsFirstTo, IsTextAt, Conflict, IsConflict, AreConflicts, IsWritable, Survives, AreSurvivors, Removed, IsFix, AreFixes, IsValidated, DestinationsHaveOneSource, ShareDestination, HaveDistinctDestinations}
+use Rattle.gix_refspec.proofs.Common.{◌≡◌, ◌≢◌, ◌⊎◌, ℕ, suc, ◌<◌, List, [], ◌∷◌, ◌++◌, Option, None, Some, option_map, length, map, codes, refl, sym, ap, ◌∙◌, subst, inl, inr, arith}
+use Rattle.gix_refspec.proofs.Common.{Contains, IsStrictlySortedBy, nat_cmp, slice_cmp, Less, Equal, Greater, Normal, Forced, Reading, fetched, printed, name, Mapped, HasPair, IndexesFit}
+use Rattle.gix_refspec.proofs.Common.{HasConflictAt, IsFirstTo, IsTextAt, Conflict, IsConflict, AreConflicts, IsWritable, Survives, AreSurvivors, Removed, IsFix, AreFixes, IsValidated}
+use Rattle.gix_refspec.proofs.Common.{DestinationsHaveOneSource, ShareDestination, HaveDistinctDestinations, same_Some}
 use Rattle.gix_refspec.proofs.lemmas.validate.ConflictLemmas.{no_conflicts}
 use Rattle.gix_refspec_match.proofs.lemmas.lists.JoinLemmas.{nothing_made}
 use Rattle.gix_refspec_text.proofs.facts.ManualFacts.{other_length, none_some}
 use Rattle.gix_refspec_text.proofs.facts.FitFacts.{other_byte, of_element}
 use Rattle.gix_refspec_match.proofs.facts.MatchFacts.{bytes_in, mapping, tag_to_x, branch_to_x, tag_again, tag_to_foo, tag_alone, pairs}
-use Rattle.std.proofs.lemmas.Option.{same_Some}
 
 -- specs with the same pattern as destination, the second of which is forced
 abbrev pub both_to_x : List Reading

@@ -1,7 +1,5 @@
 -- For all readings and refs.
-use Rattle.std.proofs.Common.{map}
-use Rattle.gix_refspec_match.specs.Views.Mapping.{ref_of}
-use Rattle.gix_refspec.specs.Views.Group.{readings_of}
+use Rattle.gix_refspec.proofs.Common.{map, ref_of, readings_of}
 use Rattle.gix_refspec.proofs.lemmas.keep.AskedItemLemmas.{asked_items}
 use Rattle.gix_refspec.proofs.lemmas.keep.FilterLemmas.{filtered_by_list}
 use Rattle.gix_refspec.proofs.laws.asked_items.Goals as goal

@@ -1,7 +1,5 @@
 -- A name that a side matches begins with an entry of its expansion, and kept mappings are a subset of all.
-use Rattle.std.proofs.Common.{map}
-use Rattle.gix_refspec_match.specs.Views.Mapping.{ref_of}
-use Rattle.gix_refspec.specs.Views.Group.{readings_of}
+use Rattle.gix_refspec.proofs.Common.{map, ref_of, readings_of}
 use Rattle.gix_refspec.proofs.lemmas.prefixes.CoverLemmas.{cover, cover_together}
 use Rattle.gix_refspec.proofs.laws.cover.Goals as goal
 

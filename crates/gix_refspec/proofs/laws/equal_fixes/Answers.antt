@@ -1,16 +1,9 @@
 -- Names are compared by their bytes, specs by their meaning.
-use Rattle.std.proofs.Common.{◌↔◌, IsTrue}
-use Rattle.bstr.specs.Owned.{bstring_bytes}
-use Rattle.std.proofs.lemmas.Slice.Eq.{bytes_eq-Decides}
+use Rattle.gix_refspec.proofs.Common.{◌↔◌, IsTrue, bstring_bytes, bytes_eq-Decides, Fix, meaning_of, owned_reading_of, IsSameFix, and_parts, and_from}
 use Rattle.gix_refspec.specs.contracts.match_group.validate.FixPartialEq.TheImpl.{ghosts}
-use Rattle.gix_refspec.specs.declared.match_group.validate.Fix.{Fix}
 use Rattle.gix_refspec.specs.declared.match_group.validate.Fix.TheVariants as fix
-use Rattle.gix_refspec_text.specs.Specs.Meaning.{meaning_of}
-use Rattle.gix_refspec_text.specs.Views.Spec.{owned_reading_of}
-use Rattle.gix_refspec.specs.Views.Issue.{IsSameFix}
 use Rattle.gix_refspec_text.proofs.lemmas.specs.SpecLemmas.{equal_keys}
 use Rattle.gix_refspec.proofs.laws.equal_fixes.Goals as goal
-use Rattle.std.proofs.lemmas.Bool.{and_parts, and_from}
 
 same_fix : (a b : Fix) → IsTrue (ghosts.eq a b) ↔ IsSameFix a b
 same_fix (fix.MappingWithPartialDestinationRemoved n s) (fix.MappingWithPartialDestinationRemoved m t) =

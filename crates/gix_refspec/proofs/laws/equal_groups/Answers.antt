@@ -1,6 +1,5 @@
 -- Equal fetches have the same sides, and both are negative or neither.
-use Rattle.std.proofs.Common.{map}
-use Rattle.gix_refspec_match.specs.Views.Mapping.{ref_of}
+use Rattle.gix_refspec.proofs.Common.{map, ref_of}
 use Rattle.gix_refspec.proofs.lemmas.keep.AlikeLemmas.{equal_groups, equal_lists}
 use Rattle.gix_refspec.proofs.laws.equal_groups.Goals as goal
 

@@ -1,22 +1,13 @@
 -- Destinations and texts are compared by their bytes, sources as names and ids.
-use Rattle.std.proofs.Common.{◌≡◌, ◌↔◌, true, ap, IsTrue}
-use Rattle.bstr.specs.Owned.{bstring_bytes}
+use Rattle.gix_refspec.proofs.Common.{◌≡◌, ◌↔◌, true, ap, IsTrue, bstring_bytes, bytes_eq-Decides, SourceRef, Issue, name, id, id_bytes, name_bytes, start_of, Conflict, conflict_of}
+use Rattle.gix_refspec.proofs.Common.{and_parts, and_from}
 use Rattle.bstr.specs.contracts.bstring.BStringPartialEq.TheImpl.{ghosts as compared_texts}
-use Rattle.std.proofs.lemmas.Slice.Eq.{bytes_eq-Decides}
 use Rattle.gix_refspec_match.specs.contracts.types.SourceRefPartialEq.TheImpl.{ghosts as compared_sources}
 use Rattle.gix_refspec.specs.contracts.match_group.validate.IssuePartialEq.TheImpl.{ghosts}
-use Rattle.gix_refspec_match.specs.declared.types.SourceRef.{SourceRef}
 use Rattle.gix_refspec_match.specs.declared.types.SourceRef.TheVariants as source_ref
-use Rattle.gix_refspec.specs.declared.match_group.validate.Issue.{Issue}
 use Rattle.gix_refspec.specs.declared.match_group.validate.Issue.TheVariants as issue
-use Rattle.gix_refspec_match.specs.Matching.Mappings.{name, id}
-use Rattle.gix_refspec_text.specs.Texts.ObjectId.{id_bytes}
-use Rattle.gix_refspec_match.specs.Views.Mapping.{name_bytes, start_of}
-use Rattle.gix_refspec.specs.Matching.Validation.{Conflict}
-use Rattle.gix_refspec.specs.Views.Issue.{conflict_of}
 use Rattle.gix_refspec_text.proofs.lemmas.lists.EqualLemmas.{same_keys}
 use Rattle.gix_refspec.proofs.laws.equal_issues.Goals as goal
-use Rattle.std.proofs.lemmas.Bool.{and_parts, and_from}
 
 same_source : (a b : SourceRef) → (compared_sources.eq a b ≡ true) ↔ (start_of a ≡ start_of b)
 same_source (source_ref.FullName n) (source_ref.FullName m) = let names = bytes_eq-Decides (name_bytes n) (name_bytes m) in ((λ told. ap name (names.0 told)), (λ same. names.1 (cc)))

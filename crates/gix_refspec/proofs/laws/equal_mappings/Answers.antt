@@ -1,9 +1,5 @@
 -- both parts of the pair are the same
-use Rattle.std.proofs.Common.{◌≡◌, ◌↔◌, Bool, true, false, ◌&&◌, refl}
-use Rattle.std.specs.Prelude.{IsTrue}
-use Rattle.std.proofs.lemmas.Bool.{false≢true}
-use Rattle.gix_refspec_match.specs.Views.Mapping.{mapped_of}
-use Rattle.gix_refspec_match.specs.Matching.Mappings.{Mapped, IsSamePair}
+use Rattle.gix_refspec.proofs.Common.{◌≡◌, ◌↔◌, Bool, true, false, ◌&&◌, refl, IsTrue, false≢true, mapped_of, Mapped, IsSamePair}
 use Rattle.gix_refspec.proofs.laws.equal_mappings.Goals as goal
 
 both_same : (p q : Bool) (m n : Mapped) → (IsTrue p ↔ (m.source ≡ n.source)) → (IsTrue q ↔ (m.destination ≡ n.destination)) → IsTrue (p && q) ↔ IsSamePair m n

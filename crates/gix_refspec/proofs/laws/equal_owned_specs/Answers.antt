@@ -1,6 +1,5 @@
 -- Each spec is accepted for some text.
-use Rattle.gix_refspec_text.specs.Specs.Meaning.{meaning_of}
-use Rattle.gix_refspec_text.specs.Views.Spec.{owned_reading_of}
+use Rattle.gix_refspec.proofs.Common.{meaning_of, owned_reading_of}
 use Rattle.gix_refspec_text.proofs.lemmas.specs.SpecLemmas.{equal_readings, equal_keys}
 use Rattle.gix_refspec.proofs.laws.equal_owned_specs.Goals as goal
 

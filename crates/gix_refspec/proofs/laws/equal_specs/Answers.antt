@@ -1,6 +1,5 @@
 -- Each spec is accepted for some text.
-use Rattle.gix_refspec_text.specs.Specs.Meaning.{meaning_of}
-use Rattle.gix_refspec_text.specs.Views.Spec.{reading_of}
+use Rattle.gix_refspec.proofs.Common.{meaning_of, reading_of}
 use Rattle.gix_refspec_text.proofs.lemmas.specs.SpecLemmas.{equal_readings, equal_keys}
 use Rattle.gix_refspec.proofs.laws.equal_specs.Goals as goal
 

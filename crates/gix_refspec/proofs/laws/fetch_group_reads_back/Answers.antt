@@ -1,7 +1,5 @@
 -- Fetches with the same meaning have the same sides, and both are negative or neither is.
-use Rattle.std.proofs.Common.{map}
-use Rattle.gix_refspec_match.specs.Views.Mapping.{ref_of}
-use Rattle.gix_refspec.specs.Views.Group.{readings_of}
+use Rattle.gix_refspec.proofs.Common.{map, ref_of, readings_of}
 use Rattle.gix_refspec.proofs.lemmas.keep.AlikeLemmas.{reads_back}
 use Rattle.gix_refspec.proofs.laws.fetch_group_reads_back.Goals as goal
 

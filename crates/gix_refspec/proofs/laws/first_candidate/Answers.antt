@@ -1,6 +1,5 @@
 -- A partial source takes the first of its candidates that some item has.
-use Rattle.std.proofs.Common.{map}
-use Rattle.gix_refspec_match.specs.Views.Mapping.{ref_of}
+use Rattle.gix_refspec.proofs.Common.{map, ref_of}
 use Rattle.gix_refspec_text.proofs.lemmas.hits.CandidateLemmas.{takes_first}
 use Rattle.gix_refspec.proofs.laws.first_candidate.Goals as goal
 

@@ -1,7 +1,5 @@
 -- Each mapping comes from an id or a hit of a spec.
-use Rattle.std.proofs.Common.{map}
-use Rattle.gix_refspec_match.specs.Views.Mapping.{ref_of}
-use Rattle.gix_refspec.specs.Views.Group.{readings_of}
+use Rattle.gix_refspec.proofs.Common.{map, ref_of, readings_of}
 use Rattle.gix_refspec.proofs.lemmas.validate.AfterLemmas.{forward_fits}
 use Rattle.gix_refspec.proofs.laws.forward_fits.Goals as goal
 

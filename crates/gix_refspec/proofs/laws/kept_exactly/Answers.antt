@@ -1,7 +1,5 @@
 -- For all readings and refs.
-use Rattle.std.proofs.Common.{map}
-use Rattle.gix_refspec_match.specs.Views.Mapping.{ref_of}
-use Rattle.gix_refspec.specs.Views.Group.{readings_of}
+use Rattle.gix_refspec.proofs.Common.{map, ref_of, readings_of}
 use Rattle.gix_refspec.proofs.lemmas.keep.PairMadeLemmas.{kept_exactly}
 use Rattle.gix_refspec.proofs.laws.kept_exactly.Goals as goal
 

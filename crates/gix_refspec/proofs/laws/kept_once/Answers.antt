@@ -1,5 +1,5 @@
 -- In both directions the kept mappings are those kept of some list.
-use Rattle.std.proofs.Common.{inl, inr}
+use Rattle.gix_refspec.proofs.Common.{inl, inr}
 use Rattle.gix_refspec_match.proofs.lemmas.keep.KeptLemmas.{kept_once}
 use Rattle.gix_refspec.proofs.laws.kept_once.Goals as goal
 

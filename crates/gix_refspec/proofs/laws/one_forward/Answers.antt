@@ -1,7 +1,5 @@
 -- Each part of the list is determined.
-use Rattle.std.proofs.Common.{map}
-use Rattle.gix_refspec_match.specs.Views.Mapping.{ref_of}
-use Rattle.gix_refspec.specs.Views.Group.{readings_of}
+use Rattle.gix_refspec.proofs.Common.{map, ref_of, readings_of}
 use Rattle.gix_refspec_match.proofs.lemmas.hits.HitLemmas.{one_forward}
 use Rattle.gix_refspec.proofs.laws.one_forward.Goals as goal
 

@@ -1,5 +1,5 @@
 -- The digits of the table are in lower case, each at the index of its value.
-use Rattle.std.proofs.Common.{rules}
+use Rattle.gix_refspec.proofs.Common.{rules}
 use Rattle.gix_refspec_text.proofs.lemmas.texts.ObjectIdLemmas.{one_lower_text}
 use Rattle.gix_refspec.proofs.laws.one_lower_text.Goals as goal
 

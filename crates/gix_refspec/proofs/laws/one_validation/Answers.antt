@@ -1,6 +1,5 @@
 -- For all readings and mappings.
-use Rattle.gix_refspec.specs.Views.Group.{readings_of}
-use Rattle.gix_refspec.specs.Views.Issue.{mappings_of}
+use Rattle.gix_refspec.proofs.Common.{readings_of, mappings_of}
 use Rattle.gix_refspec.proofs.lemmas.validate.OneValidationLemmas.{one_validation}
 use Rattle.gix_refspec.proofs.laws.one_validation.Goals as goal
 

@@ -1,5 +1,5 @@
 -- The spec is accepted for some text.
-use Rattle.gix_refspec_text.specs.Views.Spec.{owned_reading_of}
+use Rattle.gix_refspec.proofs.Common.{owned_reading_of}
 use Rattle.gix_refspec.proofs.lemmas.specs.SideLawLemmas.{sides_agree}
 use Rattle.gix_refspec.proofs.laws.owned_sides_agree.Goals as goal
 

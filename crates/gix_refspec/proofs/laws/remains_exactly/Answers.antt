@@ -1,6 +1,5 @@
 -- For all mappings.
-use Rattle.gix_refspec.specs.Views.Group.{readings_of}
-use Rattle.gix_refspec.specs.Views.Issue.{mappings_of}
+use Rattle.gix_refspec.proofs.Common.{readings_of, mappings_of}
 use Rattle.gix_refspec.proofs.lemmas.validate.MadeAtLemmas.{remains_exactly}
 use Rattle.gix_refspec.proofs.laws.remains_exactly.Goals as goal
 

@@ -1,5 +1,5 @@
 -- By cases on the meaning of a reading.
-use Rattle.gix_refspec_text.specs.Views.Spec.{reading_of}
+use Rattle.gix_refspec.proofs.Common.{reading_of}
 use Rattle.gix_refspec_text.proofs.lemmas.specs.SpecLemmas.{says_for_operation}
 use Rattle.gix_refspec.proofs.laws.says_for_operation.Goals as goal
 

@@ -1,6 +1,5 @@
 -- Each spec is accepted for some text.
-use Rattle.std.proofs.Common.{map}
-use Rattle.gix_refspec_match.specs.Views.Mapping.{ref_of}
+use Rattle.gix_refspec.proofs.Common.{map, ref_of}
 use Rattle.gix_refspec.proofs.lemmas.hits.TransposeLemmas.{transpose}
 use Rattle.gix_refspec.proofs.laws.transpose.Goals as goal
 

@@ -1,12 +1,7 @@
 -- Gathering a group, for a caller that knows what its iterator yields. `YieldsList` says that of a chain of adapters:
 -- `YieldsList-from_vec`, `YieldsList-from_slice` and `YieldsList-from_copied` of std begin and extend one.
-use Rattle.std.proofs.Common.{◌≡◌, List, Option, sym, ap, ◌∙◌, map-id}
-use Rattle.std.specs.List.{filter}
+use Rattle.gix_refspec.proofs.Common.{◌≡◌, List, Option, sym, ap, ◌∙◌, map-id, filter, MatchGroup, Operation, RefSpecRef, is_for, IsGathered}
 use Rattle.std.proofs.lemmas.Iterator.{YieldsList, items_from_drains}
-use Rattle.gix_refspec.specs.declared.match_group.types.MatchGroup.{MatchGroup}
-use Rattle.gix_refspec_text.specs.declared.parsing.Operation.{Operation}
-use Rattle.gix_refspec_text.specs.declared.spec.RefSpecRef.{RefSpecRef}
-use Rattle.gix_refspec.specs.Views.Group.{is_for, IsGathered}
 
 -- a group gathered from an iterator has the specs for the operation among all that it yields
 pub gathered : {U T : Type 0} {becomes : U → T → Type 0} {steps : T → Option RefSpecRef → T → Type 0} {op : Operation} {source : U} (all : List RefSpecRef) → ((it : T) → becomes source it → YieldsList steps (λ x. x) it all) → (g : MatchGroup) → IsGathered becomes steps op source g → g.specs.items ≡ filter (is_for op) all

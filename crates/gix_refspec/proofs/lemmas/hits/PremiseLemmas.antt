@@ -1,14 +1,8 @@
 -- A test of the sides decides whether a reading goes both ways.
-use Rattle.std.proofs.Common.{◌≡◌, ◌⊎◌, inl, inr, ◌↔◌, IsTrue, ℕ, Bool, true, List, [], ◌∷◌, codes, Some, refl, ap, subst}
-use Rattle.std.proofs.lemmas.Bool.{cases_eq}
-use Rattle.gix_refspec_text.specs.Texts.Words.{BeginsWith, Lacks}
-use Rattle.gix_refspec_text.specs.Texts.Bytes.{star}
-use Rattle.gix_refspec_text.specs.Texts.Name.{HasStar}
-use Rattle.gix_refspec_text.specs.Specs.Reading.{Reading}
-use Rattle.gix_refspec_text.specs.Specs.Grammar.{IsAccepted, IsPositive}
+use Rattle.gix_refspec.proofs.Common.{◌≡◌, ◌⊎◌, inl, inr, ◌↔◌, IsTrue, ℕ, Bool, true, List, [], ◌∷◌, codes, Some, refl, ap, subst, cases_eq, BeginsWith, Lacks, star, HasStar, Reading}
+use Rattle.gix_refspec.proofs.Common.{IsAccepted, IsPositive, GoesBothWays}
 use Rattle.gix_refspec_text.proofs.lemmas.texts.TextLemmas.{Lacks-ContainsText}
 use Rattle.gix_refspec_text.proofs.lemmas.specs.AcceptedLemmas.{accepted_balanced}
-use Rattle.gix_refspec.specs.Laws.Matching.{GoesBothWays}
 use Rattle.gix_refspec_match.proofs.lemmas.hits.HitLemmas.{same_side}
 
 star_or_none : (x : List ℕ) → HasStar x ⊎ Lacks star x

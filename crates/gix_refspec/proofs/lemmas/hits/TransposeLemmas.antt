@@ -1,22 +1,9 @@
 -- The two directions agree: a reading that goes both ways makes the same pair of the one name and of the other.
-use Rattle.std.proofs.Common.{◌≡◌, ◌⊎◌, inl, inr, ℕ, List, [], ◌∷◌, ◌++◌, codes, Option, None, Some, map, unwrap_or, refl, sym, ap, ◌∙◌, subst}
-use Rattle.std.specs.List.{AllByRecursion}
-use Rattle.std.specs.Prelude.{IsSome}
-use Rattle.std.proofs.lemmas.Bool.{false≢true}
-use Rattle.gix_refspec_match.specs.declared.matcher.Candidates.TheVariants.{First, All}
-use Rattle.gix_refspec_text.specs.declared.spec.RefSpecRef.{RefSpecRef}
-use Rattle.gix_refspec_text.specs.Texts.Words.{Lacks, BeginsWith}
-use Rattle.gix_refspec_text.specs.Texts.Bytes.{star}
-use Rattle.gix_refspec_text.specs.Texts.Name.{HasStar, HasSeveralStars, HasOneStar, IsSplit}
-use Rattle.gix_refspec_text.specs.Specs.Reading.{Reading}
-use Rattle.gix_refspec_text.specs.Specs.Grammar.{IsAccepted, IsPositive}
-use Rattle.gix_refspec_text.specs.Specs.Refusal.{IsOneStarred}
-use Rattle.gix_refspec_text.specs.Views.Spec.{reading_of}
-use Rattle.gix_refspec_text.specs.Matching.Side.{SideKind, pattern, full_name, object, partial, HasKind, Fits, filled}
-use Rattle.gix_refspec_text.specs.Matching.Match.{Ref, MatchesAs, Matches, HasName, Takes}
-use Rattle.gix_refspec_match.specs.Matching.Mappings.{name, Mapped, IsSamePair, HasPair}
-use Rattle.gix_refspec_match.specs.Matching.Hits.{Ends, AreForwardEnds, AreBackwardEnds, IsFilled, Hit, forward_of, backward_of, IsIdMapping, AreForward, AreBackward}
-use Rattle.gix_refspec.specs.Laws.Matching.{IsSourceAmong, IsDestinationAmong, GoesBothWays, Transpose}
+use Rattle.gix_refspec.proofs.Common.{◌≡◌, ◌⊎◌, inl, inr, ℕ, List, [], ◌∷◌, ◌++◌, codes, Option, None, Some, map, unwrap_or, refl, sym, ap, ◌∙◌, subst, AllByRecursion, IsSome, false≢true}
+use Rattle.gix_refspec.proofs.Common.{First, All, RefSpecRef, Lacks, BeginsWith, star, HasStar, HasSeveralStars, HasOneStar, IsSplit, Reading, IsAccepted, IsPositive, IsOneStarred}
+use Rattle.gix_refspec.proofs.Common.{reading_of, SideKind, pattern, full_name, object, partial, HasKind, Fits, filled, Ref, MatchesAs, Matches, HasName, Takes, name, Mapped, IsSamePair}
+use Rattle.gix_refspec.proofs.Common.{HasPair, Ends, AreForwardEnds, AreBackwardEnds, IsFilled, Hit, forward_of, backward_of, IsIdMapping, AreForward, AreBackward, IsSourceAmong}
+use Rattle.gix_refspec.proofs.Common.{IsDestinationAmong, GoesBothWays, Transpose}
 use Rattle.gix_refspec_text.proofs.lemmas.texts.TextLemmas.{Lacks-ContainsText}
 use Rattle.gix_refspec_text.proofs.lemmas.parsing.DecideLemmas.{FirstIndex, lacks_or_first}
 use Rattle.gix_refspec_text.proofs.lemmas.specs.AcceptedLemmas.{accepted_few, accepted_balanced}

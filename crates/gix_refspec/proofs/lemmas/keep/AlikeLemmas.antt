@@ -1,24 +1,11 @@
 -- Fetches map alike if they are equal, or if the canonical text of one reads as the other.
-use Rattle.std.proofs.Common.{◌≡◌, inl, inr, ◌↔◌, ℕ, ◌+◌, Bool, true, false, List, [], ◌∷◌, map, Option, None, Some, refl, sym, ap, ◌∙◌, subst}
-use Rattle.std.specs.Prelude.{nat_eq}
-use Rattle.std.specs.Cmp.Lexicographic.{pointwise}
-use Rattle.std.specs.List.{AllZip}
-use Rattle.std.proofs.lemmas.Bool.{false≢true}
-use Rattle.gix_refspec_text.specs.declared.parsing.Operation.{Operation}
-use Rattle.gix_refspec_text.specs.declared.parsing.Operation.TheVariants.{Fetch}
-use Rattle.gix_refspec_text.specs.declared.spec.RefSpecRef.{RefSpecRef}
-use Rattle.gix_refspec_text.specs.Specs.Reading.{Mode, Normal, Forced, Negative, Reading}
-use Rattle.gix_refspec_text.specs.Specs.Grammar.{IsPositive, IsAccepted, Reads}
-use Rattle.gix_refspec_text.specs.Specs.Meaning.{Meaning, fetch_only, fetch_exclude, fetch_and_update, meaning, meaning_of}
-use Rattle.gix_refspec_text.specs.Views.Spec.{key_of_spec, reading_of}
-use Rattle.gix_refspec_text.specs.Matching.Match.{Ref, Matches, Takes}
-use Rattle.gix_refspec_match.specs.Matching.Lists.{MakesOf, IsMadeFrom, IsJoinedFrom}
-use Rattle.gix_refspec_match.specs.Matching.Mappings.{Source, name, id, Mapped, IsExcludedBy, IsExcluded, IsSourceExcluded, IsKeptAt, IsKept}
-use Rattle.gix_refspec_match.specs.Matching.Hits.{Ends, AreForwardEnds, AreBackwardEnds, Hit, IsFilled, AreSpecHits, AreHits, IsIdMapping, AreKeptForward, AreKeptBackward}
-use Rattle.gix_refspec.specs.Laws.Matching.{ReadsAgainAs, AreReadAgain, MapAlike, FetchGroupReadsBack, FetchTheSame, EqualGroups, AreFetches}
+use Rattle.gix_refspec.proofs.Common.{◌≡◌, inl, inr, ◌↔◌, ℕ, ◌+◌, Bool, true, false, List, [], ◌∷◌, map, Option, None, Some, refl, sym, ap, ◌∙◌, subst, nat_eq, pointwise, AllZip, false≢true}
+use Rattle.gix_refspec.proofs.Common.{Operation, Fetch, RefSpecRef, Mode, Normal, Forced, Negative, Reading, IsPositive, IsAccepted, Reads, Meaning, fetch_only, fetch_exclude}
+use Rattle.gix_refspec.proofs.Common.{fetch_and_update, meaning, meaning_of, key_of_spec, reading_of, Ref, Matches, Takes, MakesOf, IsMadeFrom, IsJoinedFrom, Source, name, id, Mapped}
+use Rattle.gix_refspec.proofs.Common.{IsExcludedBy, IsExcluded, IsSourceExcluded, IsKeptAt, IsKept, Ends, AreForwardEnds, AreBackwardEnds, Hit, IsFilled, AreSpecHits, AreHits, IsIdMapping}
+use Rattle.gix_refspec.proofs.Common.{AreKeptForward, AreKeptBackward, ReadsAgainAs, AreReadAgain, MapAlike, FetchGroupReadsBack, FetchTheSame, EqualGroups, AreFetches, same_Some}
 use Rattle.gix_refspec_text.proofs.lemmas.lists.EqualLemmas.{same_keys}
 use Rattle.gix_refspec_text.proofs.lemmas.specs.SpecLemmas.{equal_keys, keeps_operation, printed_back, says, says_for_operation}
-use Rattle.std.proofs.lemmas.Option.{same_Some}
 
 -- ---- readings alike
 

@@ -1,15 +1,6 @@
 -- Over the items that a server lists for the ref prefixes, the same pairs are kept.
-use Rattle.std.proofs.Common.{◌≡◌, inl, inr, ℕ, ◌+◌, List, [], ◌∷◌, sym, subst}
-use Rattle.gix_refspec_text.specs.declared.parsing.Operation.TheVariants.{Fetch}
-use Rattle.gix_refspec_text.specs.Texts.Words.{BeginsWith}
-use Rattle.gix_refspec_text.specs.Specs.Grammar.{IsPositive}
-use Rattle.gix_refspec_text.specs.Specs.Reading.{Reading}
-use Rattle.gix_refspec_text.specs.Matching.Match.{Ref, Takes}
-use Rattle.gix_refspec_match.specs.Matching.Lists.{IsJoinedFrom}
-use Rattle.gix_refspec_match.specs.Matching.Hits.{AreForwardEnds}
-use Rattle.gix_refspec.specs.Laws.Matching.{AreFetches}
-use Rattle.gix_refspec.specs.Matching.Asked.{Lists, ListsSide}
-use Rattle.gix_refspec.specs.Laws.Items.{AskedItems, TakesItem}
+use Rattle.gix_refspec.proofs.Common.{◌≡◌, inl, inr, ℕ, ◌+◌, List, [], ◌∷◌, sym, subst, Fetch, BeginsWith, IsPositive, Reading, Ref, Takes, IsJoinedFrom, AreForwardEnds, AreFetches, Lists}
+use Rattle.gix_refspec.proofs.Common.{ListsSide, AskedItems, TakesItem}
 use Rattle.gix_refspec.proofs.lemmas.prefixes.AskedLemmas.{side_serves}
 use Rattle.gix_refspec.proofs.lemmas.prefixes.CoverLemmas.{source_asked}
 use Rattle.gix_refspec.proofs.lemmas.keep.ItemLemmas.{fewer_items}

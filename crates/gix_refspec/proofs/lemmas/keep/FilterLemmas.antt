@@ -1,22 +1,10 @@
 -- Filters of items.
-use Rattle.std.proofs.Common.{◌≡◌, ℕ, zero, suc, Bool, true, List, [], ◌∷◌, Option, map, refl, sym, ap, ◌∙◌, subst, arith}
-use Rattle.std.specs.Prelude.{nat_eq}
-use Rattle.std.specs.List.{Any, Contains, filter, starts_with}
-use Rattle.std.proofs.lemmas.Bool.{or_left, or_right}
+use Rattle.gix_refspec.proofs.Common.{◌≡◌, ℕ, zero, suc, Bool, true, List, [], ◌∷◌, Option, map, refl, sym, ap, ◌∙◌, subst, arith, nat_eq, Any, Contains, filter, starts_with, or_left}
+use Rattle.gix_refspec.proofs.Common.{or_right, get_or-map, length-map, All-contains_itself, All-filter, starts_is, bstr_bytes, Item, BeginsWith, Reading, Ref, Matches, Takes, Ends}
+use Rattle.gix_refspec.proofs.Common.{AreForwardEnds, AreBackwardEnds, ref_of, BeginsWithOne, ArePart, TakesItem, HasTaken, PassesTaken, FilteredItems, FilteredByEntries, FilteredByList}
+use Rattle.gix_refspec.proofs.Common.{is_begun}
 use Rattle.std.proofs.lemmas.Bool.Decides.{Decides-eqb}
-use Rattle.std.proofs.lemmas.List.{get_or-map, length-map}
-use Rattle.std.proofs.lemmas.List.Elements.{All-contains_itself, All-filter}
-use Rattle.std.proofs.lemmas.Slice.Eq.{starts_is}
-use Rattle.bstr.specs.BStr.{bstr_bytes}
-use Rattle.gix_refspec_match.specs.declared.types.Item.{Item}
-use Rattle.gix_refspec_text.specs.Texts.Words.{BeginsWith}
-use Rattle.gix_refspec_text.specs.Specs.Reading.{Reading}
-use Rattle.gix_refspec_text.specs.Matching.Match.{Ref, Matches, Takes}
-use Rattle.gix_refspec_match.specs.Matching.Hits.{Ends, AreForwardEnds, AreBackwardEnds}
-use Rattle.gix_refspec_match.specs.Views.Mapping.{ref_of}
 use Rattle.gix_refspec_match.proofs.lemmas.duplicates.HashKeyLemmas.{contains_filter}
-use Rattle.gix_refspec.specs.Laws.Matching.{BeginsWithOne}
-use Rattle.gix_refspec.specs.Laws.Items.{ArePart, TakesItem, HasTaken, PassesTaken, FilteredItems, FilteredByEntries, FilteredByList, is_begun}
 
 -- ---- elements
 

@@ -1,13 +1,7 @@
 -- Of the mappings with one pair only the first is kept.
-use Rattle.std.proofs.Common.{◌≡◌, inl, inr, ◌↔◌, ℕ, zero, suc, ◌+◌, List, [], ◌∷◌, ◌++◌, None, Some, option_to_list, length, length-append, take, refl, sym, ap, ◌∙◌, subst, arith}
-use Rattle.std.specs.List.{Contains}
+use Rattle.gix_refspec.proofs.Common.{◌≡◌, inl, inr, ◌↔◌, ℕ, zero, suc, ◌+◌, List, [], ◌∷◌, ◌++◌, None, Some, option_to_list, length, length-append, take, refl, sym, ap, ◌∙◌, subst, arith}
+use Rattle.gix_refspec.proofs.Common.{Contains, append_assoc, Reading, Ref, IsMadeFrom, Mapped, HasPair, IsKept, IsSourceExcluded, IsKeptAt, IsFirstOfPair, FirstStays}
 use Rattle.std.proofs.Math.Seq.{take-append_seam}
-use Rattle.std.proofs.lemmas.List.{append_assoc}
-use Rattle.gix_refspec_text.specs.Specs.Reading.{Reading}
-use Rattle.gix_refspec_text.specs.Matching.Match.{Ref}
-use Rattle.gix_refspec_match.specs.Matching.Lists.{IsMadeFrom}
-use Rattle.gix_refspec_match.specs.Matching.Mappings.{Mapped, HasPair, IsKept, IsSourceExcluded, IsKeptAt}
-use Rattle.gix_refspec.specs.Laws.Matching.{IsFirstOfPair, FirstStays}
 use Rattle.gix_refspec_match.proofs.lemmas.hits.HitLemmas.{forward_once, backward_once}
 use Rattle.gix_refspec_match.proofs.lemmas.keep.KeptPairLemmas.{Keeps}
 use Rattle.gix_refspec_match.proofs.lemmas.lists.SomeLemmas.{Any, Any-right}

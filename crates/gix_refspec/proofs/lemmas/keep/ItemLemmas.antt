@@ -1,22 +1,12 @@
 -- Over a subset of the items the same pairs are kept, if no item that some spec takes is left out.
-use Rattle.std.proofs.Common.{◌≡◌, inl, inr, ◌↔◌, ℕ, zero, suc, List, [], ◌∷◌, Option, None, Some, refl, sym, ap, ◌∙◌, subst, arith}
-use Rattle.std.specs.List.{AllByRecursion, Any, Contains}
-use Rattle.std.proofs.lemmas.List.{append-nil}
-use Rattle.gix_refspec_text.specs.Texts.Words.{Lacks}
-use Rattle.gix_refspec_text.specs.Texts.Bytes.{star, head}
-use Rattle.gix_refspec_text.specs.Specs.Reading.{Reading}
-use Rattle.gix_refspec_text.specs.Matching.Side.{SideKind, pattern, full_name, object, partial, HasKind}
-use Rattle.gix_refspec_text.specs.Matching.Match.{Ref, HasName, IsFirstCandidate, Matches, Takes}
-use Rattle.gix_refspec_text.specs.Matching.Prefix.{of_head, to_prefix}
-use Rattle.gix_refspec_match.specs.Matching.Mappings.{Source, name, id, Mapped, HasPair, IsSourceExcluded}
-use Rattle.gix_refspec_match.specs.Matching.Hits.{Ends, AreForwardEnds, AreBackwardEnds, AreKeptForward, AreKeptBackward}
-use Rattle.gix_refspec.specs.Laws.Matching.{PairsItem, MakesForward, MakesBackward, IsCoveredBy}
-use Rattle.gix_refspec.specs.Laws.Items.{ArePart, TakesItem, HasTaken, HaveSamePairs, FewerItems, IsListed, AreListedItems, ListedItems}
+use Rattle.gix_refspec.proofs.Common.{◌≡◌, inl, inr, ◌↔◌, ℕ, zero, suc, List, [], ◌∷◌, Option, None, Some, refl, sym, ap, ◌∙◌, subst, arith, AllByRecursion, Any, Contains, append-nil, Lacks}
+use Rattle.gix_refspec.proofs.Common.{star, head, Reading, SideKind, pattern, full_name, object, partial, HasKind, Ref, HasName, IsFirstCandidate, Matches, Takes, of_head, to_prefix, Source}
+use Rattle.gix_refspec.proofs.Common.{name, id, Mapped, HasPair, IsSourceExcluded, Ends, AreForwardEnds, AreBackwardEnds, AreKeptForward, AreKeptBackward, PairsItem, MakesForward}
+use Rattle.gix_refspec.proofs.Common.{MakesBackward, IsCoveredBy, ArePart, TakesItem, HasTaken, HaveSamePairs, FewerItems, IsListed, AreListedItems, ListedItems, same_Some}
 use Rattle.gix_refspec_text.proofs.lemmas.hits.CandidateLemmas.{first_candidate, first_once, some_first, taken_by_first}
 use Rattle.gix_refspec.proofs.lemmas.prefixes.CoverLemmas.{below_not_head, joined_covers, side_covers, source_asked}
 use Rattle.gix_refspec_text.proofs.lemmas.hits.MatchLemmas.{lacks_no_pattern}
 use Rattle.gix_refspec.proofs.lemmas.keep.PairMadeLemmas.{kept_exactly}
-use Rattle.std.proofs.lemmas.Option.{same_Some}
 use Rattle.gix_refspec_text.proofs.lemmas.lists.AllLemmas.{all_weaker}
 
 -- ---- names and items

@@ -1,12 +1,8 @@
 -- Refs with the same names have the same mappings from left to right, as no source that takes refs depends on their
 -- ids; and from right to left if no destination is an id.
-use Rattle.std.proofs.Common.{◌≡◌, ℕ, ◌+◌, inl, inr, List, [], ◌∷◌, Option, None, Some, map, refl, sym, ap, ◌∙◌, subst, length, arith}
-use Rattle.gix_refspec_text.specs.Specs.Reading.{Reading}
-use Rattle.gix_refspec_text.specs.Matching.Side.{SideKind, pattern, full_name, object, partial, HasKind, Fits, IsCandidate}
-use Rattle.gix_refspec_text.specs.Matching.Match.{Ref, Matches, MatchesAs, HasName, IsFirstCandidate, Takes}
-use Rattle.gix_refspec_match.specs.Matching.Lists.{MakesOf, IsMadeFrom, IsJoinedFrom}
-use Rattle.gix_refspec_match.specs.Matching.Hits.{Ends, AreBackwardEnds, AreForwardEnds, Hit, IsHit, AreSpecHits}
-use Rattle.gix_refspec.specs.Laws.Items.{AsksForNoId, HasIdDestination, HaveSameNames, NamesDecide, NamesDecideBack}
+use Rattle.gix_refspec.proofs.Common.{◌≡◌, ℕ, ◌+◌, inl, inr, List, [], ◌∷◌, Option, None, Some, map, refl, sym, ap, ◌∙◌, subst, length, arith, Reading, SideKind, pattern, full_name, object}
+use Rattle.gix_refspec.proofs.Common.{partial, HasKind, Fits, IsCandidate, Ref, Matches, MatchesAs, HasName, IsFirstCandidate, Takes, MakesOf, IsMadeFrom, IsJoinedFrom, Ends}
+use Rattle.gix_refspec.proofs.Common.{AreBackwardEnds, AreForwardEnds, Hit, IsHit, AreSpecHits, AsksForNoId, HasIdDestination, HaveSameNames, NamesDecide, NamesDecideBack}
 use Rattle.gix_refspec_text.proofs.lemmas.lists.AllLemmas.{all_weaker}
 
 no_name : (r : Ref) (refs : List Ref) → HaveSameNames [] (r ∷ refs) → ⊥

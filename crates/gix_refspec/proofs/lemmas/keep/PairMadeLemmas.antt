@@ -1,16 +1,9 @@
 -- A pair is kept exactly if some reading makes it, and none excludes it.
-use Rattle.std.proofs.Common.{◌≡◌, ◌⊎◌, inl, inr, ◌↔◌, ℕ, ◌+◌, List, [], ◌∷◌, ◌++◌, Option, None, Some, map, unwrap_or, refl, sym, ap, ◌∙◌, subst}
+use Rattle.gix_refspec.proofs.Common.{◌≡◌, ◌⊎◌, inl, inr, ◌↔◌, ℕ, ◌+◌, List, [], ◌∷◌, ◌++◌, Option, None, Some, map, unwrap_or, refl, sym, ap, ◌∙◌, subst, AllByRecursion, IsSome, false≢true}
+use Rattle.gix_refspec.proofs.Common.{First, All, Reading, Ref, Matches, Takes, IsMadeFrom, Source, name, id, Mapped, HasPair, IsSourceExcluded, IsKeptAt, Ends, AreForwardEnds}
+use Rattle.gix_refspec.proofs.Common.{AreBackwardEnds, IsFilled, Hit, IsIdMapping, AreForward, AreBackward, AreKeptForward, AreKeptBackward, forward_of, backward_of, IsPaired, PairsId}
+use Rattle.gix_refspec.proofs.Common.{MakesForward, MakesBackward, KeptExactly, NothingExcluded}
 use Rattle.std.specs.List as lists
-use Rattle.std.specs.List.{AllByRecursion}
-use Rattle.std.specs.Prelude.{IsSome}
-use Rattle.std.proofs.lemmas.Bool.{false≢true}
-use Rattle.gix_refspec_match.specs.declared.matcher.Candidates.TheVariants.{First, All}
-use Rattle.gix_refspec_text.specs.Specs.Reading.{Reading}
-use Rattle.gix_refspec_text.specs.Matching.Match.{Ref, Matches, Takes}
-use Rattle.gix_refspec_match.specs.Matching.Lists.{IsMadeFrom}
-use Rattle.gix_refspec_match.specs.Matching.Mappings.{Source, name, id, Mapped, HasPair, IsSourceExcluded, IsKeptAt}
-use Rattle.gix_refspec_match.specs.Matching.Hits.{Ends, AreForwardEnds, AreBackwardEnds, IsFilled, Hit, IsIdMapping, AreForward, AreBackward, AreKeptForward, AreKeptBackward, forward_of, backward_of}
-use Rattle.gix_refspec.specs.Laws.Matching.{IsPaired, PairsId, MakesForward, MakesBackward, KeptExactly, NothingExcluded}
 use Rattle.gix_refspec_match.proofs.lemmas.hits.HitLemmas.{id_once}
 use Rattle.gix_refspec_match.proofs.lemmas.keep.KeptPairLemmas.{IsOfPair, Any-HasPair, HasPair-Any, kept_pairs}
 use Rattle.gix_refspec_match.proofs.lemmas.hits.ReachLemmas.{Reaches, hits_reach, reach_hits}

@@ -1,27 +1,10 @@
 -- Ref prefixes, for which a server lists each ref that a group of fetches maps.
-use Rattle.std.proofs.Common.{◌≡◌, inl, inr, ℕ, suc, ◌+◌, ◌<◌, List, [], ◌∷◌, ◌++◌, Option, None, Some, MatchOption, Vec, Global, length, map, take, drop, get_or, refl, sym, ap, ◌∙◌, subst, arith}
-use Rattle.bstr.specs.declared.bstring.BString.{BString}
-use Rattle.bstr.specs.Owned.{bstring_bytes}
+use Rattle.gix_refspec.proofs.Common.{◌≡◌, inl, inr, ℕ, suc, ◌+◌, ◌<◌, List, [], ◌∷◌, ◌++◌, Option, None, Some, MatchOption, Vec, Global, length, map, take, drop, get_or, refl, sym, ap, ◌∙◌}
+use Rattle.gix_refspec.proofs.Common.{subst, arith, BString, bstring_bytes, AllByRecursion, append-nil, get_or-map, length-map, map-append, map_more, recursion_from_All, Operation, Fetch}
+use Rattle.gix_refspec.proofs.Common.{RefSpecRef, reading_of, BeginsWith, IsSplit, IsPositive, Reading, side_on_remote, SideKind, pattern, full_name, object, partial, HasKind, Ref, Matches}
+use Rattle.gix_refspec.proofs.Common.{MatchesAs, Takes, IsRefPrefix, IsAsked, IsJoinedFrom, Source, name, AreForwardEnds, MakesForward, PairsItem, HasNoList, Lists, ListsAs, ListsGroup}
+use Rattle.gix_refspec.proofs.Common.{ListsSide, Serves}
 use Rattle.std.specs.List as lists
-use Rattle.std.specs.List.{AllByRecursion}
-use Rattle.std.proofs.lemmas.List.{append-nil, get_or-map, length-map, map-append, map_more}
-use Rattle.std.proofs.lemmas.List.Elements.{recursion_from_All}
-use Rattle.gix_refspec_text.specs.declared.parsing.Operation.{Operation}
-use Rattle.gix_refspec_text.specs.declared.parsing.Operation.TheVariants.{Fetch}
-use Rattle.gix_refspec_text.specs.declared.spec.RefSpecRef.{RefSpecRef}
-use Rattle.gix_refspec_text.specs.Views.Spec.{reading_of}
-use Rattle.gix_refspec_text.specs.Texts.Words.{BeginsWith}
-use Rattle.gix_refspec_text.specs.Texts.Name.{IsSplit}
-use Rattle.gix_refspec_text.specs.Specs.Grammar.{IsPositive}
-use Rattle.gix_refspec_text.specs.Specs.Reading.{Reading, side_on_remote}
-use Rattle.gix_refspec_text.specs.Matching.Side.{SideKind, pattern, full_name, object, partial, HasKind}
-use Rattle.gix_refspec_text.specs.Matching.Match.{Ref, Matches, MatchesAs, Takes}
-use Rattle.gix_refspec_text.specs.Matching.Prefix.{IsRefPrefix, IsAsked}
-use Rattle.gix_refspec_match.specs.Matching.Lists.{IsJoinedFrom}
-use Rattle.gix_refspec_match.specs.Matching.Mappings.{Source, name}
-use Rattle.gix_refspec_match.specs.Matching.Hits.{AreForwardEnds}
-use Rattle.gix_refspec.specs.Laws.Matching.{MakesForward, PairsItem}
-use Rattle.gix_refspec.specs.Matching.Asked.{HasNoList, Lists, ListsAs, ListsGroup, ListsSide, Serves}
 use Rattle.gix_refspec_match.proofs.lemmas.hits.HitLemmas.{one_kind}
 use Rattle.gix_refspec_match.proofs.lemmas.lists.JoinLemmas.{joined_next, map_split, map_long, nothing_joined}
 use Rattle.gix_refspec_match.proofs.lemmas.keep.KeptLemmas.{HasPair-from_place}

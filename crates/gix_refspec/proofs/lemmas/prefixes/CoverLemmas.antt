@@ -1,25 +1,13 @@
 -- The expansions of the specs of a group cover the names that they match.
-use Rattle.std.proofs.Common.{◌≡◌, ◌≢◌, inl, inr, ℕ, zero, suc, ◌+◌, List, [], ◌∷◌, ◌++◌, length, codes, map, Option, None, Some, get_or, refl, sym, ap, ◌∙◌, subst, length-append, arith}
-use Rattle.std.proofs.lemmas.List.{append-nil, append_assoc, get_or_append_left}
-use Rattle.std.specs.List.{AllByRecursion, Any, slice_get}
-use Rattle.gix_refspec_text.specs.declared.parsing.Operation.{Operation}
-use Rattle.gix_refspec_text.specs.declared.parsing.Operation.TheVariants.{Fetch}
-use Rattle.gix_refspec_text.specs.Texts.Words.{Lacks, BeginsWith}
-use Rattle.gix_refspec_text.specs.Texts.Bytes.{star, head}
-use Rattle.gix_refspec_text.specs.Specs.Reading.{Reading, side_on_remote}
-use Rattle.gix_refspec_text.specs.Matching.Side.{SideKind, pattern, full_name, object, partial, HasKind, IsId, IsCandidate, candidates}
-use Rattle.gix_refspec_text.specs.Matching.Match.{Ref, Matches, Takes}
-use Rattle.gix_refspec_text.specs.Matching.Prefix.{of_head, IsAsked, Expands, to_prefix, IsExpansion}
-use Rattle.gix_refspec_match.specs.Matching.Lists.{IsMadeFrom, IsJoinedFrom}
-use Rattle.gix_refspec_match.specs.Matching.Mappings.{name, Mapped, IsKeptAt}
-use Rattle.gix_refspec_match.specs.Matching.Hits.{Ends, AreForwardEnds, Hit, IsHit, AreSpecHits, IsIdMapping, forward_of, AreForward}
-use Rattle.gix_refspec_text.specs.Laws.Covering.{IsCovering, by_prefix, by_candidates}
-use Rattle.gix_refspec.specs.Laws.Matching.{BeginsWithOne, IsCoveredBy, AsksFor, AtSpec, Cover, CoverTogether}
+use Rattle.gix_refspec.proofs.Common.{◌≡◌, ◌≢◌, inl, inr, ℕ, zero, suc, ◌+◌, List, [], ◌∷◌, ◌++◌, length, codes, map, Option, None, Some, get_or, refl, sym, ap, ◌∙◌, subst, length-append}
+use Rattle.gix_refspec.proofs.Common.{arith, append-nil, append_assoc, get_or_append_left, AllByRecursion, Any, slice_get, Operation, Fetch, Lacks, BeginsWith, star, head, Reading}
+use Rattle.gix_refspec.proofs.Common.{side_on_remote, SideKind, pattern, full_name, object, partial, HasKind, IsId, IsCandidate, candidates, Ref, Matches, Takes, of_head, IsAsked, Expands}
+use Rattle.gix_refspec.proofs.Common.{to_prefix, IsExpansion, IsMadeFrom, IsJoinedFrom, name, Mapped, IsKeptAt, Ends, AreForwardEnds, Hit, IsHit, AreSpecHits, IsIdMapping, forward_of}
+use Rattle.gix_refspec.proofs.Common.{AreForward, IsCovering, by_prefix, by_candidates, BeginsWithOne, IsCoveredBy, AsksFor, AtSpec, Cover, CoverTogether, same_Some}
 use Rattle.gix_refspec_text.proofs.lemmas.hits.MatchLemmas.{lacks_no_pattern, prefix_begins, has_candidates}
 use Rattle.gix_refspec_text.proofs.lemmas.prefixes.OnePrefixLemmas.{one_prefix}
 use Rattle.gix_refspec_text.proofs.lemmas.prefixes.PrefixLemmas.{one_asked}
 use Rattle.gix_refspec.proofs.lemmas.validate.IndexFitLemmas.{stands_behind}
-use Rattle.std.proofs.lemmas.Option.{same_Some}
 use Rattle.gix_refspec_text.proofs.lemmas.lists.AllLemmas.{all_join, all_weaker}
 use Rattle.gix_refspec.proofs.lemmas.keep.PairMadeLemmas.{one_name, no_id}
 

@@ -1,14 +1,10 @@
 -- Texts of plain components have no fault: each fault is an empty component or has a special byte other than a slash.
-use Rattle.std.proofs.Common.{◌≡◌, ◌≢◌, ◌⊎◌, inl, inr, ℕ, Bool, true, false, not, ◌==◌, List, [], ◌∷◌, ◌++◌, codes, refl, sym, ap, ◌∙◌, subst, append_assoc, arith}
-use Rattle.std.specs.List.{AllByRecursion, join_with_byte, list_all, list_any, slice_split}
-use Rattle.std.proofs.lemmas.Bool.{and_parts, false≢true, or_left, or_parts, true≢false}
+use Rattle.gix_refspec.proofs.Common.{◌≡◌, ◌≢◌, ◌⊎◌, inl, inr, ℕ, Bool, true, false, not, ◌==◌, List, [], ◌∷◌, ◌++◌, codes, refl, sym, ap, ◌∙◌, subst, append_assoc, arith, AllByRecursion}
+use Rattle.gix_refspec.proofs.Common.{join_with_byte, list_all, list_any, slice_split, and_parts, false≢true, or_left, or_parts, true≢false, Empty, EmptyComponent, StartsWithDot, LockSuffix}
+use Rattle.gix_refspec.proofs.Common.{EndsWithDot, RepeatedDot, ReflogPortion, Asterisk, InvalidByte, at, brace, dot, slash, star, BeginsWith, EndsWith, ContainsText, is_refused_byte}
+use Rattle.gix_refspec.proofs.Common.{HasFault, SomeComponent, is_plain_component, is_plain_name, is_special_byte, PlainNames}
 use Rattle.std.proofs.lemmas.List.Splits.{join_with_byte-slice_split}
 use Rattle.gix_refspec_text.specs.declared.name.Error.{Error}
-use Rattle.gix_refspec_text.specs.declared.name.Error.TheVariants.{Empty, EmptyComponent, StartsWithDot, LockSuffix, EndsWithDot, RepeatedDot, ReflogPortion, Asterisk, InvalidByte}
-use Rattle.gix_refspec_text.specs.Texts.Bytes.{at, brace, dot, slash, star}
-use Rattle.gix_refspec_text.specs.Texts.Words.{BeginsWith, EndsWith, ContainsText}
-use Rattle.gix_refspec_text.specs.Texts.Name.{is_refused_byte, HasFault, SomeComponent}
-use Rattle.gix_refspec.specs.Laws.Names.{is_plain_component, is_plain_name, is_special_byte, PlainNames}
 use Rattle.gix_refspec_text.proofs.lemmas.texts.ComponentLemmas.{AllByRecursion-parts}
 use Rattle.gix_refspec_text.proofs.facts.FaultFacts.{no_component}
 use Rattle.gix_refspec_text.proofs.lemmas.lists.AllLemmas.{all_join}

@@ -1,11 +1,5 @@
 -- Both sides of an accepted reading have a star or neither has, and kind, word and id are unique.
-use Rattle.std.proofs.Common.{◌⊎◌, inl, inr, ℕ, List}
-use Rattle.gix_refspec_text.specs.Texts.Words.{Lacks}
-use Rattle.gix_refspec_text.specs.Texts.Bytes.{star}
-use Rattle.gix_refspec_text.specs.Texts.Name.{HasStar, HasSeveralStars, HasOneStar}
-use Rattle.gix_refspec_text.specs.Specs.Reading.{Reading}
-use Rattle.gix_refspec_text.specs.Specs.Grammar.{IsAccepted}
-use Rattle.gix_refspec_text.specs.Specs.Refusal.{IsOneStarred}
+use Rattle.gix_refspec.proofs.Common.{◌⊎◌, inl, inr, ℕ, List, Lacks, star, HasStar, HasSeveralStars, HasOneStar, Reading, IsAccepted, IsOneStarred}
 use Rattle.gix_refspec_text.specs.Laws.Sides.{SidesAgree, OneOfEach}
 use Rattle.gix_refspec_text.proofs.lemmas.specs.AcceptedLemmas.{accepted_few, accepted_balanced}
 use Rattle.gix_refspec_match.proofs.lemmas.hits.HitLemmas.{one_kind}

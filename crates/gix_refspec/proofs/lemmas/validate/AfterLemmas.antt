@@ -1,13 +1,8 @@
 -- What holds of mappings before and after a validation.
-use Rattle.std.proofs.Common.{◌≡◌, inl, inr, ℕ, suc, ◌+◌, ◌<◌, ◌≤◌, List, [], ◌∷◌, None, Some, length, map, get_or, refl, sym, ◌∙◌, subst, arith}
-use Rattle.std.specs.List.{AllByRecursion, Contains}
-use Rattle.std.proofs.lemmas.List.Elements.{All-contains_itself, All-from_recursion, Contains-get_or, recursion_from_All}
-use Rattle.gix_refspec_text.specs.Specs.Reading.{Reading}
-use Rattle.gix_refspec_match.specs.Matching.Lists.{IsMadeFrom, IsJoinedFrom}
-use Rattle.gix_refspec_text.specs.Matching.Match.{Ref, Takes}
-use Rattle.gix_refspec_match.specs.Matching.Mappings.{Mapped, IsSamePair, AreApart, IsKeptAt}
-use Rattle.gix_refspec_match.specs.Matching.Hits.{AreForwardEnds, AreKeptForward, AreSpecHits, Hit, IsHit, IsIdMapping, forward_of}
-use Rattle.gix_refspec.specs.Matching.Validation.{AreConflicts, ForwardFits, DestinationsHaveOneSource, IsValidated, ShareDestination, HaveDistinctDestinations, Removed, Survives, ValidatedOnce}
+use Rattle.gix_refspec.proofs.Common.{◌≡◌, inl, inr, ℕ, suc, ◌+◌, ◌<◌, ◌≤◌, List, [], ◌∷◌, None, Some, length, map, get_or, refl, sym, ◌∙◌, subst, arith, AllByRecursion, Contains}
+use Rattle.gix_refspec.proofs.Common.{All-contains_itself, All-from_recursion, Contains-get_or, recursion_from_All, Reading, IsMadeFrom, IsJoinedFrom, Ref, Takes, Mapped, IsSamePair}
+use Rattle.gix_refspec.proofs.Common.{AreApart, IsKeptAt, AreForwardEnds, AreKeptForward, AreSpecHits, Hit, IsHit, IsIdMapping, forward_of, AreConflicts, ForwardFits}
+use Rattle.gix_refspec.proofs.Common.{DestinationsHaveOneSource, IsValidated, ShareDestination, HaveDistinctDestinations, Removed, Survives, ValidatedOnce}
 use Rattle.gix_refspec.proofs.lemmas.validate.FirstLemmas.{start_cases}
 use Rattle.gix_refspec_match.proofs.lemmas.keep.KeptLemmas.{kept_once}
 use Rattle.gix_refspec_text.proofs.lemmas.lists.AllLemmas.{all_join}

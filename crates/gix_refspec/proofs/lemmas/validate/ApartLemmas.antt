@@ -1,15 +1,7 @@
 -- If all destinations differ, nothing is in conflict.
-use Rattle.std.proofs.Common.{◌≡◌, ◌≢◌, ℕ, zero, suc, ◌<◌, List, [], ◌∷◌, ◌++◌, Option, None, Some, Bool, false, option_to_list, map, length, get_or, refl, sym, ap, ◌∙◌, subst, arith}
-use Rattle.std.specs.List.{slice_get}
-use Rattle.std.proofs.lemmas.Bool.{false≢true}
-use Rattle.std.proofs.lemmas.List.{get_or-map, get_or_past, length-map}
-use Rattle.bstr.specs.BStr.{bstr_bytes}
-use Rattle.bstr.specs.declared.bstr.BStr.{BStr}
-use Rattle.gix_refspec_match.specs.Matching.Mappings.{Mapped}
-use Rattle.gix_refspec_match.specs.Private.Duplicates.{FlagsDuplicates}
-use Rattle.gix_refspec_match.specs.Private.Orders.{bytes_order, equal_texts}
-use Rattle.gix_refspec.specs.Matching.Validation.{HasConflictAt}
-use Rattle.gix_refspec.specs.Private.Updates.{all_destinations}
+use Rattle.gix_refspec.proofs.Common.{◌≡◌, ◌≢◌, ℕ, zero, suc, ◌<◌, List, [], ◌∷◌, ◌++◌, Option, None, Some, Bool, false, option_to_list, map, length, get_or, refl, sym, ap, ◌∙◌, subst}
+use Rattle.gix_refspec.proofs.Common.{arith, slice_get, false≢true, get_or-map, get_or_past, length-map, bstr_bytes, BStr, Mapped, FlagsDuplicates, bytes_order, equal_texts, HasConflictAt}
+use Rattle.gix_refspec.proofs.Common.{all_destinations}
 use Rattle.gix_refspec.proofs.lemmas.validate.FirstLemmas.{at_contained}
 
 -- the list has no duplicates

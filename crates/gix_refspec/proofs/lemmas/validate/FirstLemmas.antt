@@ -1,14 +1,7 @@
 -- The first mappings from each source to each destination, by their indexes.
-use Rattle.std.proofs.Common.{◌≡◌, ◌≢◌, ◌⊎◌, inl, inr, ◌↔◌, ℕ, zero, suc, ◌+◌, ◌-◌, ◌<◌, ◌≤◌, List, [], ◌∷◌, Option, None, Some, Bool, true, false, take, refl, sym, ap, ◌∙◌, subst, arith}
-use Rattle.std.specs.List.{AllByRecursion, AllZip, Contains, slice_get}
-use Rattle.std.specs.Str.{bytes_eq}
-use Rattle.std.proofs.lemmas.Bool.{cases_lt, false≢true}
-use Rattle.std.proofs.lemmas.Option.{get_or_from_slice_get, slice_get-get_or, slice_get_within}
-use Rattle.std.proofs.lemmas.Slice.Eq.{bytes_eq-Decides}
-use Rattle.gix_refspec_match.specs.Matching.Lists.{IsMadeFrom}
-use Rattle.gix_refspec_match.specs.Matching.Mappings.{Source, name, id, Mapped, IsSamePair, HasPair}
-use Rattle.gix_refspec.specs.Matching.Validation.{HasConflictAt}
-use Rattle.gix_refspec.specs.Private.Updates.{IsFirstAt}
+use Rattle.gix_refspec.proofs.Common.{◌≡◌, ◌≢◌, ◌⊎◌, inl, inr, ◌↔◌, ℕ, zero, suc, ◌+◌, ◌-◌, ◌<◌, ◌≤◌, List, [], ◌∷◌, Option, None, Some, Bool, true, false, take, refl, sym, ap, ◌∙◌, subst}
+use Rattle.gix_refspec.proofs.Common.{arith, AllByRecursion, AllZip, Contains, slice_get, bytes_eq, cases_lt, false≢true, get_or_from_slice_get, slice_get-get_or, slice_get_within}
+use Rattle.gix_refspec.proofs.Common.{bytes_eq-Decides, IsMadeFrom, Source, name, id, Mapped, IsSamePair, HasPair, HasConflictAt, IsFirstAt}
 use Rattle.gix_refspec_text.proofs.lemmas.lists.AllLemmas.{all_weaker}
 
 -- k is one of the numbers

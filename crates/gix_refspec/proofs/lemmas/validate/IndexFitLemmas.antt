@@ -1,15 +1,8 @@
 -- The indexes of kept mappings.
-use Rattle.std.proofs.Common.{◌≡◌, inl, inr, ℕ, ◌+◌, ◌<◌, List, [], ◌∷◌, ◌++◌, Option, None, Some, length, length-append, map, refl, sym, ap, ◌∙◌, subst, arith}
-use Rattle.std.specs.List.{AllByRecursion, slice_get}
-use Rattle.std.proofs.lemmas.List.{append_assoc}
+use Rattle.gix_refspec.proofs.Common.{◌≡◌, inl, inr, ℕ, ◌+◌, ◌<◌, List, [], ◌∷◌, ◌++◌, Option, None, Some, length, length-append, map, refl, sym, ap, ◌∙◌, subst, arith, AllByRecursion}
+use Rattle.gix_refspec.proofs.Common.{slice_get, append_assoc, First, All, Reading, Ref, IsMadeFrom, name, Mapped, IsKeptAt, Ends, AreSpecHits, AreHits, Hit, IsHit, IsIdMapping, AreForward}
+use Rattle.gix_refspec.proofs.Common.{AreBackward, forward_of, backward_of, BackwardIndexes, ForwardIndexes, ItemIndexesFit, Survives}
 use Rattle.gix_refspec_match.specs.declared.matcher.Candidates.{Candidates}
-use Rattle.gix_refspec_match.specs.declared.matcher.Candidates.TheVariants.{First, All}
-use Rattle.gix_refspec_text.specs.Specs.Reading.{Reading}
-use Rattle.gix_refspec_text.specs.Matching.Match.{Ref}
-use Rattle.gix_refspec_match.specs.Matching.Lists.{IsMadeFrom}
-use Rattle.gix_refspec_match.specs.Matching.Mappings.{name, Mapped, IsKeptAt}
-use Rattle.gix_refspec_match.specs.Matching.Hits.{Ends, AreSpecHits, AreHits, Hit, IsHit, IsIdMapping, AreForward, AreBackward, forward_of, backward_of}
-use Rattle.gix_refspec.specs.Matching.Validation.{BackwardIndexes, ForwardIndexes, ItemIndexesFit, Survives}
 use Rattle.gix_refspec_match.specs.Private.Matchers.{HasEnds, TakesIn}
 use Rattle.gix_refspec.proofs.lemmas.validate.AfterLemmas.{joined_each, made_each, stays_each}
 use Rattle.gix_refspec_text.proofs.lemmas.lists.AllLemmas.{all_join}

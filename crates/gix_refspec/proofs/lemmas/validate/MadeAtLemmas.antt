@@ -1,16 +1,8 @@
 -- What the spec and the item at the indexes of a mapping make, and which mappings remain after a check.
-use Rattle.std.proofs.Common.{◌≡◌, inl, inr, ◌↔◌, ℕ, ◌+◌, List, [], ◌∷◌, ◌++◌, Option, None, Some, option_to_list, length, length-append, map, unwrap_or, refl, sym, ap, ◌∙◌, subst, arith}
-use Rattle.std.specs.List.{AllByRecursion, Contains, slice_get}
-use Rattle.std.proofs.lemmas.List.{append_assoc}
-use Rattle.gix_refspec_text.specs.Specs.Reading.{Reading}
-use Rattle.gix_refspec_text.specs.Matching.Match.{Ref, Matches, Takes}
-use Rattle.gix_refspec_match.specs.Matching.Lists.{IsMadeFrom, IsJoinedFrom}
-use Rattle.gix_refspec_match.specs.Matching.Mappings.{Source, Mapped, IsKeptAt}
-use Rattle.gix_refspec_match.specs.Matching.Hits.{Ends, AreForwardEnds, AreBackwardEnds, Hit, IsHit, AreSpecHits, AreHits, IsIdMapping, AreForward, AreBackward, forward_of, backward_of}
-use Rattle.gix_refspec.specs.Laws.Matching.{AtSpec}
-use Rattle.gix_refspec.specs.Laws.Indexes.{TakesAt, MakesForwardOf, MakesBackwardOf, MadeAtIndexes, RemainsExactly}
-use Rattle.gix_refspec.specs.Matching.Validation.{Survives}
-use Rattle.gix_refspec.specs.Matching.RefNames.{HasRefNames}
+use Rattle.gix_refspec.proofs.Common.{◌≡◌, inl, inr, ◌↔◌, ℕ, ◌+◌, List, [], ◌∷◌, ◌++◌, Option, None, Some, option_to_list, length, length-append, map, unwrap_or, refl, sym, ap, ◌∙◌, subst}
+use Rattle.gix_refspec.proofs.Common.{arith, AllByRecursion, Contains, slice_get, append_assoc, Reading, Ref, Matches, Takes, IsMadeFrom, IsJoinedFrom, Source, Mapped, IsKeptAt, Ends}
+use Rattle.gix_refspec.proofs.Common.{AreForwardEnds, AreBackwardEnds, Hit, IsHit, AreSpecHits, AreHits, IsIdMapping, AreForward, AreBackward, forward_of, backward_of, AtSpec, TakesAt}
+use Rattle.gix_refspec.proofs.Common.{MakesForwardOf, MakesBackwardOf, MadeAtIndexes, RemainsExactly, Survives, HasRefNames}
 use Rattle.gix_refspec.proofs.lemmas.validate.AfterLemmas.{stays_each}
 use Rattle.gix_refspec.proofs.lemmas.keep.FirstStaysLemmas.{there, back}
 use Rattle.gix_refspec.proofs.lemmas.keep.PairMadeLemmas.{there_far}

@@ -1,25 +1,10 @@
 -- A validation has one result, and a copy of an outcome has the same.
-use Rattle.std.proofs.Common.{◌≡◌, inl, inr, ℕ, zero, suc, List, [], ◌∷◌, Some, map, refl, sym, ap, ◌∙◌, subst, arith}
-use Rattle.std.specs.List.{AllByRecursion, Contains}
-use Rattle.std.specs.List.Sorted.{IsStrictlySortedBy}
-use Rattle.std.specs.declared.cmp.Ordering.TheVariants.{Less}
-use Rattle.std.specs.Ordering.{nat_cmp}
-use Rattle.std.specs.Cmp.Lexicographic.{slice_cmp}
-use Rattle.gix_refspec_match.specs.declared.types.Mapping.{Mapping}
-use Rattle.gix_refspec.specs.declared.match_group.types.Outcome.{Outcome}
-use Rattle.gix_refspec_text.specs.Specs.Reading.{Reading}
-use Rattle.gix_refspec_text.specs.Views.Spec.{reading_of}
-use Rattle.gix_refspec_match.specs.Matching.Lists.{IsMadeFrom}
-use Rattle.gix_refspec_text.specs.Specs.Meaning.{printed}
-use Rattle.gix_refspec_match.specs.Matching.Mappings.{Source, Mapped}
-use Rattle.gix_refspec_match.specs.Views.Mapping.{mapped_of, AreMappingCopies}
-use Rattle.gix_refspec.specs.Views.Group.{readings_of}
-use Rattle.gix_refspec.specs.Matching.Validation.{IsFirstTo, IsTextAt, Conflict, IsConflict, AreConflicts, Survives, Removed, IsFix}
-use Rattle.gix_refspec.specs.Laws.Validation.{ValidateAlike, OneValidation, CopiedOutcome}
+use Rattle.gix_refspec.proofs.Common.{◌≡◌, inl, inr, ℕ, zero, suc, List, [], ◌∷◌, Some, map, refl, sym, ap, ◌∙◌, subst, arith, AllByRecursion, Contains, IsStrictlySortedBy, Less, nat_cmp}
+use Rattle.gix_refspec.proofs.Common.{slice_cmp, Mapping, Outcome, Reading, reading_of, IsMadeFrom, printed, Source, Mapped, mapped_of, AreMappingCopies, readings_of, IsFirstTo, IsTextAt}
+use Rattle.gix_refspec.proofs.Common.{Conflict, IsConflict, AreConflicts, Survives, Removed, IsFix, ValidateAlike, OneValidation, CopiedOutcome, same_Some}
 use Rattle.gix_refspec.proofs.lemmas.validate.UpdateLemmas.{below_trans}
 use Rattle.gix_refspec_match.proofs.lemmas.lists.ListsLemmas.{made_once}
 use Rattle.gix_refspec_match.proofs.lemmas.lists.SomeLemmas.{Any}
-use Rattle.std.proofs.lemmas.Option.{same_Some}
 use Rattle.gix_refspec_text.proofs.lemmas.lists.OrderLemmas.{not_below_itself}
 use Rattle.gix_refspec.proofs.lemmas.validate.RefNameLemmas.{copied_mapping}
 

@@ -1,29 +1,16 @@
 -- For a caller that writes out a validation: destinations of fixes are distinct, the mappings of ids are those of their
 -- specs, and canonical texts of fetches contain no control character.
-use Rattle.std.proofs.Common.{◌≡◌, ◌≢◌, inl, inr, ℕ, ◌+◌, ◌<◌, ◌==◌, Bool, true, false, if◌then◌else◌, IsTrue, List, [], ◌∷◌, ◌++◌, Option, None, Some, length, length-append, map, refl, sym, ap, ◌∙◌, subst, arith}
-use Rattle.std.specs.List.{AllByRecursion, slice_get}
-use Rattle.std.proofs.lemmas.List.{append_assoc}
-use Rattle.gix_refspec_text.specs.declared.name.Error.TheVariants.{InvalidByte}
-use Rattle.gix_refspec_text.specs.declared.parsing.Operation.TheVariants.{Push, Fetch}
-use Rattle.gix_refspec_text.specs.Texts.Words.{Lacks}
-use Rattle.gix_refspec_text.specs.Texts.Bytes.{star, letter, at, head, colon}
-use Rattle.gix_refspec_text.specs.Texts.Name.{IsName, IsPattern, is_refused_byte}
-use Rattle.gix_refspec_text.specs.Specs.Reading.{Mode, Normal, Forced, Negative, Reading}
-use Rattle.gix_refspec_text.specs.Specs.Grammar.{Reads, fetches_nothing_named, fetches_colon, fetches, updates, updates_from_head, fetch_excludes, pushes_plus, pushes_colon, pushes, deletes, pushes_pattern, pushes_to, push_excludes, IsNameOrPattern, AreAlike, fetched, named_by}
-use Rattle.gix_refspec_text.specs.Specs.Meaning.{printed, sign, begins_with_plus}
-use Rattle.gix_refspec_text.specs.Matching.Match.{Ref}
-use Rattle.gix_refspec_match.specs.Matching.Lists.{IsMadeFrom}
-use Rattle.gix_refspec_text.specs.Texts.ObjectId.{IsIdText}
-use Rattle.gix_refspec_match.specs.Matching.Mappings.{id, Mapped, IsKeptAt}
-use Rattle.gix_refspec_match.specs.Matching.Hits.{Hit, IsIdMapping, AreKeptForward, forward_of}
-use Rattle.gix_refspec.specs.Matching.Validation.{IsFix, ShareDestination, HaveDistinctDestinations, Removed}
-use Rattle.gix_refspec.specs.Laws.Plans.{AreFixesApart, LacksIn, SidesLack}
+use Rattle.gix_refspec.proofs.Common.{◌≡◌, ◌≢◌, inl, inr, ℕ, ◌+◌, ◌<◌, ◌==◌, Bool, true, false, if◌then◌else◌, IsTrue, List, [], ◌∷◌, ◌++◌, Option, None, Some, length, length-append, map}
+use Rattle.gix_refspec.proofs.Common.{refl, sym, ap, ◌∙◌, subst, arith, AllByRecursion, slice_get, append_assoc, InvalidByte, Push, Fetch, Lacks, star, letter, at, head, colon, IsName}
+use Rattle.gix_refspec.proofs.Common.{IsPattern, is_refused_byte, Mode, Normal, Forced, Negative, Reading, Reads, fetches_nothing_named, fetches_colon, fetches, updates, updates_from_head}
+use Rattle.gix_refspec.proofs.Common.{fetch_excludes, pushes_plus, pushes_colon, pushes, deletes, pushes_pattern, pushes_to, push_excludes, IsNameOrPattern, AreAlike, fetched, named_by}
+use Rattle.gix_refspec.proofs.Common.{printed, sign, begins_with_plus, Ref, IsMadeFrom, IsIdText, id, Mapped, IsKeptAt, Hit, IsIdMapping, AreKeptForward, forward_of, IsFix, ShareDestination}
+use Rattle.gix_refspec.proofs.Common.{HaveDistinctDestinations, Removed, AreFixesApart, LacksIn, SidesLack, same_Some}
 use Rattle.gix_refspec_text.proofs.lemmas.texts.TextLemmas.{Lacks-from_absent}
 use Rattle.gix_refspec_text.proofs.lemmas.texts.HeadLemmas.{IsName-head}
 use Rattle.gix_refspec_text.proofs.lemmas.texts.ObjectIdLemmas.{IsIdText-unique}
 use Rattle.gix_refspec.proofs.lemmas.validate.AfterLemmas.{stays_each}
 use Rattle.gix_refspec.proofs.lemmas.validate.IndexFitLemmas.{stands_behind}
-use Rattle.std.proofs.lemmas.Option.{same_Some}
 use Rattle.gix_refspec_text.proofs.lemmas.lists.AllLemmas.{all_left, all_right, all_join}
 
 -- ---- fixes

@@ -1,11 +1,6 @@
 -- A validation leaves no duplicate mappings and no duplicate fixes.
-use Rattle.std.proofs.Common.{◌≡◌, ℕ, List, [], ◌∷◌, Option, None, Some, refl, sym, ap, ◌∙◌}
-use Rattle.std.specs.List.{AllByRecursion}
-use Rattle.gix_refspec_text.specs.Specs.Reading.{Reading}
-use Rattle.gix_refspec_text.specs.Matching.Match.{Ref}
-use Rattle.gix_refspec_match.specs.Matching.Mappings.{name, Mapped}
-use Rattle.gix_refspec.specs.Matching.Validation.{ForwardIndexes, Survives}
-use Rattle.gix_refspec.specs.Laws.Plans.{HaveOneSource, HaveSourcesByIndex, PlansApart}
+use Rattle.gix_refspec.proofs.Common.{◌≡◌, ℕ, List, [], ◌∷◌, Option, None, Some, refl, sym, ap, ◌∙◌, AllByRecursion, Reading, Ref, name, Mapped, ForwardIndexes, Survives, HaveOneSource}
+use Rattle.gix_refspec.proofs.Common.{HaveSourcesByIndex, PlansApart}
 use Rattle.gix_refspec_match.proofs.lemmas.keep.KeptLemmas.{kept_once}
 use Rattle.gix_refspec.proofs.lemmas.validate.AfterLemmas.{apart_still, kept_distinct_destinations, stays_each, validated_once}
 use Rattle.gix_refspec.proofs.lemmas.validate.IndexFitLemmas.{item_indexes_fit}

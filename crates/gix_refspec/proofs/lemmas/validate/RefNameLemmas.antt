@@ -1,26 +1,11 @@
 -- Mappings that are split by their ref names, and what holds of the kept ones.
-use Rattle.std.proofs.Common.{◌≡◌, ◌≢◌, inl, inr, ℕ, ◌+◌, ◌<◌, ◌≤◌, List, [], ◌∷◌, ◌++◌, Option, None, Some, length, map, get_or, option_map, codes, refl, sym, ap, ◌∙◌, subst, append_assoc, arith}
-use Rattle.std.specs.List.{AllByRecursion}
-use Rattle.std.specs.List.{list_any}
-use Rattle.std.specs.Prelude.{◌⊎◌, ◌||◌, ◌==◌, IsTrue}
-use Rattle.std.proofs.lemmas.Bool.{cases_lt, lt-ltb}
-use Rattle.std.proofs.lemmas.List.{get_or-map, length-map}
-use Rattle.std.proofs.lemmas.List.Elements.{All-from_recursion}
-use Rattle.gix_refspec_match.specs.declared.types.Mapping.{Mapping}
-use Rattle.gix_refspec_match.specs.declared.types.NameRef.{NameRef}
+use Rattle.gix_refspec.proofs.Common.{◌≡◌, ◌≢◌, inl, inr, ℕ, ◌+◌, ◌<◌, ◌≤◌, List, [], ◌∷◌, ◌++◌, Option, None, Some, length, map, get_or, option_map, codes, refl, sym, ap, ◌∙◌, subst}
+use Rattle.gix_refspec.proofs.Common.{append_assoc, arith, AllByRecursion, list_any, ◌⊎◌, ◌||◌, ◌==◌, IsTrue, cases_lt, lt-ltb, get_or-map, length-map, All-from_recursion, Mapping, NameRef}
+use Rattle.gix_refspec.proofs.Common.{Empty, EmptyComponent, StartsWithDot, InvalidByte, head, slash, ArePartsAt, BeginsWith, is_refused_byte, IsName, Reading, IsMadeFrom, Ref, Mapped}
+use Rattle.gix_refspec.proofs.Common.{mapped_of, name_bytes, IsMappingCopy, IsDestinationCopy, ForwardIndexes, ShareDestination, HaveDistinctDestinations, Survives, HaveRefNames}
+use Rattle.gix_refspec.proofs.Common.{IsInvalidAt, HasRefNames, IsValidDestination, IsRefName, StaysAmongRefs, WritesRef, WritesRefs}
 use Rattle.gix_refspec.specs.declared.match_group.ref_names.InvalidSide.{InvalidSide}
 use Rattle.gix_refspec.specs.declared.match_group.ref_names.InvalidSide.TheVariants.{Source, Destination, Both}
-use Rattle.gix_refspec_text.specs.declared.name.Error.TheVariants.{Empty, EmptyComponent, StartsWithDot, InvalidByte}
-use Rattle.gix_refspec_text.specs.Texts.Bytes.{head, slash}
-use Rattle.gix_refspec_text.specs.Texts.Words.{ArePartsAt, BeginsWith}
-use Rattle.gix_refspec_text.specs.Texts.Name.{is_refused_byte, IsName}
-use Rattle.gix_refspec_text.specs.Specs.Reading.{Reading}
-use Rattle.gix_refspec_match.specs.Matching.Lists.{IsMadeFrom}
-use Rattle.gix_refspec_text.specs.Matching.Match.{Ref}
-use Rattle.gix_refspec_match.specs.Matching.Mappings.{Mapped}
-use Rattle.gix_refspec_match.specs.Views.Mapping.{mapped_of, name_bytes, IsMappingCopy, IsDestinationCopy}
-use Rattle.gix_refspec.specs.Matching.Validation.{ForwardIndexes, ShareDestination, HaveDistinctDestinations, Survives}
-use Rattle.gix_refspec.specs.Matching.RefNames.{HaveRefNames, IsInvalidAt, HasRefNames, IsValidDestination, IsRefName, StaysAmongRefs, WritesRef, WritesRefs}
 use Rattle.gix_refspec.proofs.lemmas.validate.AfterLemmas.{apart_still, made_each, distinct_destinations_after, stays_each, validated_once}
 use Rattle.gix_refspec.proofs.lemmas.validate.ConflictLemmas.{copied_name, copied_source}
 use Rattle.gix_refspec_text.proofs.lemmas.texts.HeadLemmas.{IsName-head}

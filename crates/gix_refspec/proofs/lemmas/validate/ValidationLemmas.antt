@@ -1,23 +1,9 @@
 -- What a validation removes, and what holds of the remaining mappings.
-use Rattle.std.proofs.Common.{◌≡◌, ◌↔◌, ℕ, ◌+◌, ◌<◌, List, [], ◌∷◌, ◌++◌, Option, None, Some, option_map, option_to_list, Bool, true, false, length, map, take, get_or, refl, sym, ap, ◌∙◌, subst, arith}
+use Rattle.gix_refspec.proofs.Common.{◌≡◌, ◌↔◌, ℕ, ◌+◌, ◌<◌, List, [], ◌∷◌, ◌++◌, Option, None, Some, option_map, option_to_list, Bool, true, false, length, map, take, get_or, refl, sym, ap}
+use Rattle.gix_refspec.proofs.Common.{◌∙◌, subst, arith, AllByRecursion, items_where_true, MatchOption, false≢true, append-nil, map_more, slice_get-map, slice_get_read, Mapping, NameRef}
+use Rattle.gix_refspec.proofs.Common.{Fix, Issue, RefSpecRef, Reading, reading_of, MakesOf, IsMadeFrom, Mapped, mapped_of, name_bytes, conflict_of, removed_of, AreConflicts, AreFixes}
+use Rattle.gix_refspec.proofs.Common.{AreSurvivors, IsFix, IsValidated, IsWritable, Removed, Survives}
 use Rattle.std.specs.List.Retain.{ReturnsInTurn, IsFiltered}
-use Rattle.std.specs.List.{AllByRecursion, items_where_true}
-use Rattle.std.specs.Prelude.{MatchOption}
-use Rattle.std.proofs.lemmas.Bool.{false≢true}
-use Rattle.std.proofs.lemmas.List.{append-nil, map_more}
-use Rattle.std.proofs.lemmas.Option.{slice_get-map, slice_get_read}
-use Rattle.gix_refspec_match.specs.declared.types.Mapping.{Mapping}
-use Rattle.gix_refspec_match.specs.declared.types.NameRef.{NameRef}
-use Rattle.gix_refspec.specs.declared.match_group.validate.Fix.{Fix}
-use Rattle.gix_refspec.specs.declared.match_group.validate.Issue.{Issue}
-use Rattle.gix_refspec_text.specs.declared.spec.RefSpecRef.{RefSpecRef}
-use Rattle.gix_refspec_text.specs.Specs.Reading.{Reading}
-use Rattle.gix_refspec_text.specs.Views.Spec.{reading_of}
-use Rattle.gix_refspec_match.specs.Matching.Lists.{MakesOf, IsMadeFrom}
-use Rattle.gix_refspec_match.specs.Matching.Mappings.{Mapped}
-use Rattle.gix_refspec_match.specs.Views.Mapping.{mapped_of, name_bytes}
-use Rattle.gix_refspec.specs.Views.Issue.{conflict_of, removed_of}
-use Rattle.gix_refspec.specs.Matching.Validation.{AreConflicts, AreFixes, AreSurvivors, IsFix, IsValidated, IsWritable, Removed, Survives}
 use Rattle.gix_refspec_match.proofs.lemmas.lists.JoinLemmas.{made_next, map_long}
 use Rattle.gix_refspec_text.proofs.lemmas.lists.AllLemmas.{all_join}
 

@@ -1,6 +1,5 @@
 -- a pattern without a ref prefix has no list
-use Rattle.std.proofs.Common.{sym, ◌∙◌}
-use Rattle.std.proofs.lemmas.Bool.{false≢true}
+use Rattle.gix_refspec.proofs.Common.{sym, ◌∙◌, false≢true}
 use Rattle.gix_refspec.proofs.lemmas.prefixes.AskedLemmas.{no_list}
 use Rattle.gix_refspec.proofs.match_group.prefixes.list_of.Goals as goal
 

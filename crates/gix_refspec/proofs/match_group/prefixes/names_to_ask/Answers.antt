@@ -1,6 +1,6 @@
 -- the list of a positive spec is that of its side
+use Rattle.gix_refspec.proofs.Common.{reading_of}
 use Rattle.std.proofs.lemmas.Result.{IfOk-weaker}
-use Rattle.gix_refspec_text.specs.Views.Spec.{reading_of}
 use Rattle.gix_refspec.proofs.lemmas.prefixes.AskedLemmas.{list_of_side}
 use Rattle.gix_refspec.proofs.match_group.prefixes.names_to_ask.Goals as goal
 

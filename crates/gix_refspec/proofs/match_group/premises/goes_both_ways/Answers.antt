@@ -1,8 +1,5 @@
 -- Both sides have a star exactly if the source has one.
-use Rattle.std.proofs.Common.{◌↔◌, IsTrue, List, ℕ, Some, option_map, sym, ap, ◌∙◌, subst}
-use Rattle.bstr.specs.BStr.{bstr_bytes}
-use Rattle.gix_refspec_text.specs.Views.Spec.{reading_of}
-use Rattle.gix_refspec.specs.Laws.Matching.{GoesBothWays}
+use Rattle.gix_refspec.proofs.Common.{◌↔◌, IsTrue, List, ℕ, Some, option_map, sym, ap, ◌∙◌, subst, bstr_bytes, reading_of, GoesBothWays}
 use Rattle.gix_refspec.proofs.lemmas.hits.PremiseLemmas.{goes_below_refs, goes_by_star}
 use Rattle.gix_refspec.proofs.match_group.premises.goes_both_ways.Goals as goal
 

@@ -1,10 +1,6 @@
 -- a copy of a mapping with an invalid side is appended
-use Rattle.std.proofs.Common.{◌≡◌, [], ◌∷◌, ◌++◌, ◌+◌, Vec, Global, map, take, sym, ap, ◌∙◌, subst, rules}
-use Rattle.std.specs.List.{AllByRecursion}
-use Rattle.std.proofs.lemmas.List.{map-append}
-use Rattle.gix_refspec.specs.declared.match_group.ref_names.InvalidMapping.{InvalidMapping}
-use Rattle.gix_refspec_match.specs.Views.Mapping.{mapped_of}
-use Rattle.gix_refspec.specs.Matching.RefNames.{AreLeftOut, IsLeftOut, HasRefNames, left_out_of}
+use Rattle.gix_refspec.proofs.Common.{◌≡◌, [], ◌∷◌, ◌++◌, ◌+◌, Vec, Global, map, take, sym, ap, ◌∙◌, subst, rules, AllByRecursion, map-append, InvalidMapping, mapped_of, AreLeftOut}
+use Rattle.gix_refspec.proofs.Common.{IsLeftOut, HasRefNames, left_out_of}
 use Rattle.gix_refspec.proofs.lemmas.validate.ValidationLemmas.{all_next, not_empty, nothing_more, one_more}
 use Rattle.gix_refspec.proofs.lemmas.validate.RefNameLemmas.{bad_unnamed, copied_mapping, some_unnamed}
 use Rattle.gix_refspec.proofs.match_group.ref_names.invalid_mappings.Goals as goal

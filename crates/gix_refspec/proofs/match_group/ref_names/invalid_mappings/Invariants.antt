@@ -1,8 +1,5 @@
 -- the mappings so far with an invalid side are listed; if there are none, all have ref names
-use Rattle.std.proofs.Common.{◌≡◌, [], map, take}
-use Rattle.std.specs.List.{AllByRecursion}
-use Rattle.gix_refspec_match.specs.Views.Mapping.{mapped_of}
-use Rattle.gix_refspec.specs.Matching.RefNames.{AreLeftOut, HasRefNames, left_out_of}
+use Rattle.gix_refspec.proofs.Common.{◌≡◌, [], map, take, AllByRecursion, mapped_of, AreLeftOut, HasRefNames, left_out_of}
 use Rattle.gix_refspec.proofs.match_group.ref_names.invalid_mappings.Given as goal
 
 abbrev pub invariant-loop-mapping : goal.invariant-loop-mapping

@@ -1,10 +1,5 @@
 -- one more copy is appended
-use Rattle.std.proofs.Common.{◌≡◌, ◌++◌, ◌∷◌, [], ◌+◌, ◌<◌, length, take, List, sym, ap, ◌∙◌, subst, arith}
-use Rattle.std.specs.List.{AllZip}
-use Rattle.std.proofs.lemmas.List.{take_more}
-use Rattle.std.proofs.lemmas.List.Elements.{AllZip-push}
-use Rattle.gix_refspec_match.specs.declared.types.Mapping.{Mapping}
-use Rattle.gix_refspec_match.specs.Views.Mapping.{IsMappingCopy}
+use Rattle.gix_refspec.proofs.Common.{◌≡◌, ◌++◌, ◌∷◌, [], ◌+◌, ◌<◌, length, take, List, sym, ap, ◌∙◌, subst, arith, AllZip, take_more, AllZip-push, Mapping, IsMappingCopy}
 use Rattle.gix_refspec.proofs.match_group.types.clone_all.Goals as goal
 
 pub loop-mapping-preserved : goal.loop-mapping-preserved

@@ -1,6 +1,5 @@
 -- the copies are of the mappings so far
-use Rattle.std.proofs.Common.{take}
-use Rattle.gix_refspec_match.specs.Views.Mapping.{AreMappingCopies}
+use Rattle.gix_refspec.proofs.Common.{take, AreMappingCopies}
 use Rattle.gix_refspec.proofs.match_group.types.clone_all.Given as goal
 
 abbrev pub invariant-loop-mapping : goal.invariant-loop-mapping

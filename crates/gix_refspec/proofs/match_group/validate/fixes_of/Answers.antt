@@ -1,14 +1,7 @@
 -- a mapping that can't be written has a fix
-use Rattle.std.proofs.Common.{◌∷◌, [], ◌++◌, ◌+◌, ◌≡◌, Vec, Global, map, take, sym, ap, ◌∙◌, subst, rules}
-use Rattle.std.specs.List.{AllByRecursion}
-use Rattle.std.proofs.lemmas.Bool.{false≢true}
-use Rattle.std.proofs.lemmas.List.{map-append}
-use Rattle.gix_refspec.specs.declared.match_group.validate.Fix.{Fix}
+use Rattle.gix_refspec.proofs.Common.{◌∷◌, [], ◌++◌, ◌+◌, ◌≡◌, Vec, Global, map, take, sym, ap, ◌∙◌, subst, rules, AllByRecursion, false≢true, map-append, Fix, reading_of, mapped_of}
+use Rattle.gix_refspec.proofs.Common.{AreFixes, IsFix, Survives, removed_of}
 use Rattle.gix_refspec.specs.declared.match_group.validate.Fix.TheVariants as fix
-use Rattle.gix_refspec_text.specs.Views.Spec.{reading_of}
-use Rattle.gix_refspec_match.specs.Views.Mapping.{mapped_of}
-use Rattle.gix_refspec.specs.Matching.Validation.{AreFixes, IsFix, Survives}
-use Rattle.gix_refspec.specs.Views.Issue.{removed_of}
 use Rattle.gix_refspec.proofs.lemmas.validate.ConflictLemmas.{spec_fits}
 use Rattle.gix_refspec.proofs.lemmas.validate.ValidationLemmas.{all_next, fix_of, no_fix_nowhere, no_fix_written, not_empty, nothing_more, one_more, survives_nowhere, survives_to}
 use Rattle.gix_refspec.proofs.match_group.validate.fixes_of.Goals as goal

@@ -1,10 +1,5 @@
 -- there are the fixes of the mappings so far; if there are none, all survive
-use Rattle.std.proofs.Common.{◌≡◌, [], map, take}
-use Rattle.std.specs.List.{AllByRecursion}
-use Rattle.gix_refspec_text.specs.Views.Spec.{reading_of}
-use Rattle.gix_refspec_match.specs.Views.Mapping.{mapped_of}
-use Rattle.gix_refspec.specs.Matching.Validation.{AreFixes, Survives}
-use Rattle.gix_refspec.specs.Views.Issue.{removed_of}
+use Rattle.gix_refspec.proofs.Common.{◌≡◌, [], map, take, AllByRecursion, reading_of, mapped_of, AreFixes, Survives, removed_of}
 use Rattle.gix_refspec.proofs.match_group.validate.fixes_of.Given as goal
 
 abbrev pub invariant-loop-mapping : goal.invariant-loop-mapping

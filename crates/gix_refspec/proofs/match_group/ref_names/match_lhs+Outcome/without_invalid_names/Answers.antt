@@ -1,13 +1,8 @@
 -- if none is listed, all have ref names; otherwise those that the filter keeps have, and the others are listed
-use Rattle.std.proofs.Common.{◌≡◌, [], List, map, refl, sym, ◌∙◌, subst, arith, rules}
-use Rattle.std.specs.List.{AllByRecursion}
-use Rattle.std.proofs.lemmas.Bool.{eqb-true}
-use Rattle.gix_refspec_match.specs.declared.types.Mapping.{Mapping}
-use Rattle.gix_refspec_match.specs.Views.Mapping.{mapped_of}
-use Rattle.gix_refspec.specs.Matching.RefNames.{AreLeftOut, HasRefNames, left_out_of}
+use Rattle.gix_refspec.proofs.Common.{◌≡◌, [], List, map, refl, sym, ◌∙◌, subst, arith, rules, AllByRecursion, eqb-true, Mapping, mapped_of, AreLeftOut, HasRefNames, left_out_of}
+use Rattle.gix_refspec.proofs.Common.{nil_from_length}
 use Rattle.gix_refspec.proofs.lemmas.validate.ValidationLemmas.{filtered_so, kept_whole}
 use Rattle.gix_refspec.proofs.match_group.ref_names.match_lhs+Outcome.without_invalid_names.Goals as goal
-use Rattle.std.proofs.lemmas.List.{nil_from_length}
 
 pub returns-then-is_empty-clause-ok : goal.returns-then-is_empty-clause-ok
 returns-then-is_empty-clause-ok c =

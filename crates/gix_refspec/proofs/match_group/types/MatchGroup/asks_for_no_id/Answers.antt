@@ -1,10 +1,6 @@
 -- A spec with an id as its destination is against the claim.
-use Rattle.std.proofs.Common.{◌+◌, List, map, take, sym, subst}
-use Rattle.std.proofs.lemmas.Bool.{false≢true}
-use Rattle.gix_refspec_text.specs.declared.spec.RefSpecRef.{RefSpecRef}
-use Rattle.gix_refspec_text.specs.Views.Spec.{reading_of}
+use Rattle.gix_refspec.proofs.Common.{◌+◌, List, map, take, sym, subst, false≢true, RefSpecRef, reading_of, AsksForNoId, HasIdDestination}
 use Rattle.gix_refspec_text.proofs.lemmas.lists.MapLemmas.{each_mapped, one_more_mapped}
-use Rattle.gix_refspec.specs.Laws.Items.{AsksForNoId, HasIdDestination}
 use Rattle.gix_refspec.proofs.match_group.types.MatchGroup.asks_for_no_id.Goals as goal
 
 pub returns-then-has_id_destination : goal.returns-then-has_id_destination

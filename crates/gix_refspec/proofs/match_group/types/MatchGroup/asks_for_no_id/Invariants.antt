@@ -1,6 +1,4 @@
-use Rattle.std.proofs.Common.{map, take}
-use Rattle.gix_refspec_text.specs.Views.Spec.{reading_of}
-use Rattle.gix_refspec.specs.Laws.Items.{AsksForNoId}
+use Rattle.gix_refspec.proofs.Common.{map, take, reading_of, AsksForNoId}
 use Rattle.gix_refspec.proofs.match_group.types.MatchGroup.asks_for_no_id.Given as goal
 
 -- no destination of the specs so far is an id

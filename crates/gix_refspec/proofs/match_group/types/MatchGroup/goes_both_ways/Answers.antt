@@ -1,10 +1,5 @@
 -- a spec for which the test fails refutes the claim
-use Rattle.std.proofs.Common.{◌+◌, List, map, take, sym, subst}
-use Rattle.std.specs.List.{AllByRecursion}
-use Rattle.gix_refspec_text.specs.declared.spec.RefSpecRef.{RefSpecRef}
-use Rattle.gix_refspec.specs.Laws.Matching.{GoesBothWays}
-use Rattle.gix_refspec_text.specs.Views.Spec.{reading_of}
-use Rattle.std.proofs.lemmas.Bool.{false≢true}
+use Rattle.gix_refspec.proofs.Common.{◌+◌, List, map, take, sym, subst, AllByRecursion, RefSpecRef, GoesBothWays, reading_of, false≢true}
 use Rattle.gix_refspec.proofs.match_group.types.MatchGroup.goes_both_ways.Goals as goal
 use Rattle.gix_refspec_text.proofs.lemmas.lists.MapLemmas.{one_more_mapped, each_mapped}
 

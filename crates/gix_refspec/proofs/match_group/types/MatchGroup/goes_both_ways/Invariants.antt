@@ -1,8 +1,5 @@
 -- the test holds of the specs so far
-use Rattle.std.proofs.Common.{map, take}
-use Rattle.std.specs.List.{AllByRecursion}
-use Rattle.gix_refspec.specs.Laws.Matching.{GoesBothWays}
-use Rattle.gix_refspec_text.specs.Views.Spec.{reading_of}
+use Rattle.gix_refspec.proofs.Common.{map, take, AllByRecursion, GoesBothWays, reading_of}
 use Rattle.gix_refspec.proofs.match_group.types.MatchGroup.goes_both_ways.Given as goal
 
 abbrev pub invariant-loop-spec : goal.invariant-loop-spec

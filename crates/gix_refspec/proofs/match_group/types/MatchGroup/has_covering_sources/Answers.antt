@@ -1,10 +1,5 @@
 -- a spec for which the test fails refutes the claim
-use Rattle.std.proofs.Common.{List, map, sym, subst}
-use Rattle.std.specs.List.{AllByRecursion}
-use Rattle.gix_refspec_text.specs.declared.spec.RefSpecRef.{RefSpecRef}
-use Rattle.gix_refspec_text.specs.Laws.Covering.{HasCoveringSource}
-use Rattle.gix_refspec_text.specs.Views.Spec.{reading_of}
-use Rattle.std.proofs.lemmas.Bool.{false≢true}
+use Rattle.gix_refspec.proofs.Common.{List, map, sym, subst, AllByRecursion, RefSpecRef, HasCoveringSource, reading_of, false≢true}
 use Rattle.gix_refspec.proofs.match_group.types.MatchGroup.has_covering_sources.Goals as goal
 use Rattle.gix_refspec_text.proofs.lemmas.lists.MapLemmas.{each_mapped}
 

@@ -1,7 +1,5 @@
 -- the group has the specs for the operation among those taken so far
-use Rattle.std.proofs.Common.{◌≡◌}
-use Rattle.std.specs.List.{filter}
-use Rattle.gix_refspec.specs.Views.Group.{is_for}
+use Rattle.gix_refspec.proofs.Common.{◌≡◌, filter, is_for}
 use Rattle.gix_refspec.proofs.match_group.types.MatchGroup.of.Given as goal
 
 abbrev pub invariant-loop-spec : goal.invariant-loop-spec

@@ -1,11 +1,5 @@
 -- the list of each spec is appended
-use Rattle.std.proofs.Common.{◌≡◌, ◌<◌, List, [], length, map, get_or, sym, ap, subst, arith}
-use Rattle.std.proofs.lemmas.List.{take_all}
-use Rattle.bstr.specs.Owned.{bstring_bytes}
-use Rattle.gix_refspec_text.specs.declared.spec.RefSpecRef.{RefSpecRef}
-use Rattle.gix_refspec_text.specs.Views.Spec.{reading_of}
-use Rattle.gix_refspec.specs.Views.Group.{readings_of}
-use Rattle.gix_refspec.specs.Matching.Asked.{HasNoList, ListsGroup}
+use Rattle.gix_refspec.proofs.Common.{◌≡◌, ◌<◌, List, [], length, map, get_or, sym, ap, subst, arith, take_all, bstring_bytes, RefSpecRef, reading_of, readings_of, HasNoList, ListsGroup}
 use Rattle.gix_refspec.proofs.lemmas.prefixes.AskedLemmas.{asks_no_names, asks_something, given_list, missing_list, none_at, one_more_list, serves}
 use Rattle.gix_refspec_text.proofs.lemmas.prefixes.PrefixLemmas.{on_any_error}
 use Rattle.gix_refspec.proofs.match_group.types.MatchGroup.ref_prefixes.Goals as goal

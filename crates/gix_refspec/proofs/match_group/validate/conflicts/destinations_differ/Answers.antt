@@ -1,10 +1,5 @@
 -- no flags are set, and so the destinations differ
-use Rattle.std.proofs.Common.{List, ◌≡◌, length, map, subst, sym, ◌∙◌, arith}
-use Rattle.std.proofs.lemmas.Bool.{eqb-true}
-use Rattle.bstr.specs.BStr.{bstr_bytes}
-use Rattle.bstr.specs.declared.bstr.BStr.{BStr}
-use Rattle.gix_refspec_match.specs.Views.Mapping.{mapped_of}
-use Rattle.gix_refspec.specs.Private.Updates.{all_destinations}
+use Rattle.gix_refspec.proofs.Common.{List, ◌≡◌, length, map, subst, sym, ◌∙◌, arith, eqb-true, bstr_bytes, BStr, mapped_of, all_destinations}
 use Rattle.gix_refspec.proofs.lemmas.validate.ApartLemmas.{none_contested}
 use Rattle.gix_refspec.proofs.match_group.validate.conflicts.destinations_differ.Goals as goal
 

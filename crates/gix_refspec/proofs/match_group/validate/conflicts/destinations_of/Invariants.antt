@@ -1,8 +1,5 @@
 -- the destinations so far are those of the mappings so far
-use Rattle.std.proofs.Common.{◌≡◌, map, take}
-use Rattle.bstr.specs.BStr.{bstr_bytes}
-use Rattle.gix_refspec_match.specs.Views.Mapping.{mapped_of}
-use Rattle.gix_refspec.specs.Private.Updates.{all_destinations}
+use Rattle.gix_refspec.proofs.Common.{◌≡◌, map, take, bstr_bytes, mapped_of, all_destinations}
 use Rattle.gix_refspec.proofs.match_group.validate.conflicts.destinations_of.Given as goal
 
 abbrev pub invariant-loop-mapping : goal.invariant-loop-mapping

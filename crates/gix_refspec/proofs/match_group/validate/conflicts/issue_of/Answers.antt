@@ -1,13 +1,6 @@
 -- each update gives its source and its text
-use Rattle.std.proofs.Common.{◌≡◌, ◌∷◌, ◌++◌, ◌+◌, [], ℕ, List, map, take, get_or, sym, ap, ◌∙◌, subst, arith, rules}
-use Rattle.bstr.specs.Owned.{bstring_bytes}
-use Rattle.std.proofs.lemmas.List.{map-append, take_all}
-use Rattle.std.proofs.lemmas.List.Elements.{All-from_recursion}
-use Rattle.gix_refspec.specs.declared.match_group.validate.conflicts.Update.{Update}
-use Rattle.gix_refspec_text.specs.Views.Spec.{reading_of}
-use Rattle.gix_refspec_match.specs.Matching.Mappings.{Source}
-use Rattle.gix_refspec_match.specs.Views.Mapping.{mapped_of, start_of}
-use Rattle.gix_refspec.specs.Private.Updates.{updated_indexes}
+use Rattle.gix_refspec.proofs.Common.{◌≡◌, ◌∷◌, ◌++◌, ◌+◌, [], ℕ, List, map, take, get_or, sym, ap, ◌∙◌, subst, arith, rules, bstring_bytes, map-append, take_all, All-from_recursion, Update}
+use Rattle.gix_refspec.proofs.Common.{reading_of, Source, mapped_of, start_of, updated_indexes}
 use Rattle.gix_refspec.proofs.lemmas.validate.ConflictLemmas.{AreTold, conflict_from_conflicting, copied_source, conflicting_fits, spec_fits, text_at, told_more}
 use Rattle.gix_refspec.proofs.match_group.validate.conflicts.issue_of.Goals as goal
 

@@ -1,9 +1,5 @@
 -- the updates so far have given their sources and texts
-use Rattle.std.proofs.Common.{map, take}
-use Rattle.bstr.specs.Owned.{bstring_bytes}
-use Rattle.gix_refspec_text.specs.Views.Spec.{reading_of}
-use Rattle.gix_refspec_match.specs.Views.Mapping.{mapped_of, start_of}
-use Rattle.gix_refspec.specs.Private.Updates.{updated_indexes}
+use Rattle.gix_refspec.proofs.Common.{map, take, bstring_bytes, reading_of, mapped_of, start_of, updated_indexes}
 use Rattle.gix_refspec.proofs.lemmas.validate.ConflictLemmas.{AreTold}
 use Rattle.gix_refspec.proofs.match_group.validate.conflicts.issue_of.Given as goal
 

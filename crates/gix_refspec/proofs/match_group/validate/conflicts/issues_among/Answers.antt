@@ -1,12 +1,6 @@
 -- one more run is settled
-use Rattle.std.proofs.Common.{◌≡◌, ◌-◌, ◌<◌, ◌≤◌, List, length, map, take, drop, sym, ap, subst, arith}
-use Rattle.std.proofs.lemmas.List.{drop-drop, length-drop, take_all}
-use Rattle.gix_refspec.specs.declared.match_group.validate.conflicts.Update.{Update}
-use Rattle.gix_refspec_text.specs.Views.Spec.{reading_of}
-use Rattle.gix_refspec_match.specs.Views.Mapping.{mapped_of}
-use Rattle.gix_refspec.specs.Matching.Validation.{Conflict}
-use Rattle.gix_refspec.specs.Views.Issue.{conflict_of}
-use Rattle.gix_refspec.specs.Private.Updates.{AddsConflict, AreConflicting, IsRun}
+use Rattle.gix_refspec.proofs.Common.{◌≡◌, ◌-◌, ◌<◌, ◌≤◌, List, length, map, take, drop, sym, ap, subst, arith, drop-drop, length-drop, take_all, Update, reading_of, mapped_of, Conflict}
+use Rattle.gix_refspec.proofs.Common.{conflict_of, AddsConflict, AreConflicting, IsRun}
 use Rattle.gix_refspec.proofs.lemmas.validate.ConflictLemmas.{AreReported, all_reported, conflicting_of_run, reported_more, reported_none}
 use Rattle.gix_refspec.proofs.match_group.validate.conflicts.issues_among.Goals as goal
 

@@ -1,8 +1,5 @@
 -- the updates so far are settled
-use Rattle.std.proofs.Common.{◌≤◌, ◌-◌, length, map, drop}
-use Rattle.gix_refspec_text.specs.Views.Spec.{reading_of}
-use Rattle.gix_refspec_match.specs.Views.Mapping.{mapped_of}
-use Rattle.gix_refspec.specs.Views.Issue.{conflict_of}
+use Rattle.gix_refspec.proofs.Common.{◌≤◌, ◌-◌, length, map, drop, reading_of, mapped_of, conflict_of}
 use Rattle.gix_refspec.proofs.lemmas.validate.ConflictLemmas.{AreReported}
 use Rattle.gix_refspec.proofs.match_group.validate.conflicts.issues_among.Given as goal
 

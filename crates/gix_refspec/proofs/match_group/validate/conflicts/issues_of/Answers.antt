@@ -1,13 +1,6 @@
 -- if the destinations differ nothing is in conflict, and otherwise the updates that aren't flagged as duplicates are
 -- the first ones
-use Rattle.std.proofs.Common.{List, Bool, map, sym, ap, ◌∙◌, subst}
-use Rattle.std.proofs.lemmas.Bool.{eqb-true}
-use Rattle.gix_refspec.specs.declared.match_group.validate.conflicts.Update.{Update}
-use Rattle.gix_refspec_text.specs.Views.Spec.{reading_of}
-use Rattle.gix_refspec_match.specs.Views.Mapping.{mapped_of}
-use Rattle.gix_refspec.specs.Matching.Validation.{AreConflicts, Conflict}
-use Rattle.gix_refspec.specs.Views.Issue.{conflict_of}
-use Rattle.gix_refspec.specs.Private.Updates.{AreUpdates, AreFirstUpdates}
+use Rattle.gix_refspec.proofs.Common.{List, Bool, map, sym, ap, ◌∙◌, subst, eqb-true, Update, reading_of, mapped_of, AreConflicts, Conflict, conflict_of, AreUpdates, AreFirstUpdates}
 use Rattle.gix_refspec.proofs.lemmas.validate.ConflictLemmas.{firsts_from_updates, free_empty, no_conflicts}
 use Rattle.gix_refspec.proofs.match_group.validate.conflicts.issues_of.Goals as goal
 

@@ -1,7 +1,5 @@
 -- the updates so far have the first one's destination
-use Rattle.std.proofs.Common.{◌≡◌, take, get_or}
-use Rattle.std.specs.List.{AllByRecursion}
-use Rattle.gix_refspec.specs.declared.match_group.validate.conflicts.Update.{Update}
+use Rattle.gix_refspec.proofs.Common.{◌≡◌, take, get_or, AllByRecursion, Update}
 use Rattle.gix_refspec.proofs.match_group.validate.conflicts.len_of_run.Given as goal
 
 abbrev pub invariant-loop-len : goal.invariant-loop-len

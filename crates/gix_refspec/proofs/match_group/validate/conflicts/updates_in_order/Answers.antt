@@ -1,10 +1,5 @@
 -- a mapping with a destination makes an update, unless it is flagged
-use Rattle.std.proofs.Common.{ℕ, List, Vec, Global, ◌+◌, map, sym, ◌∙◌, subst, arith}
-use Rattle.std.proofs.lemmas.Bool.{false≢true}
-use Rattle.std.proofs.lemmas.List.{length-map}
-use Rattle.gix_refspec.specs.declared.match_group.validate.conflicts.Update.{Update}
-use Rattle.gix_refspec_match.specs.Views.Mapping.{mapped_of}
-use Rattle.gix_refspec.specs.Private.Updates.{GoesTo}
+use Rattle.gix_refspec.proofs.Common.{ℕ, List, Vec, Global, ◌+◌, map, sym, ◌∙◌, subst, arith, false≢true, length-map, Update, mapped_of, GoesTo}
 use Rattle.gix_refspec.proofs.lemmas.validate.UpdateLemmas.{AreUpdatesUpto, updates_more, updates_same, updates_sorted, goes_nowhere, goes_to_name}
 use Rattle.gix_refspec.proofs.match_group.validate.conflicts.updates_in_order.Goals as goal
 use Rattle.gix_refspec.proofs.match_group.validate.conflicts.updates_in_order.Goals.{then-not-is_flagged+in_ok-push, else-not-is_flagged}

@@ -1,6 +1,5 @@
 -- the updates are those of the mappings so far
-use Rattle.std.proofs.Common.{map}
-use Rattle.gix_refspec_match.specs.Views.Mapping.{mapped_of}
+use Rattle.gix_refspec.proofs.Common.{map, mapped_of}
 use Rattle.gix_refspec.proofs.lemmas.validate.UpdateLemmas.{AreUpdatesUpto}
 use Rattle.gix_refspec.proofs.match_group.validate.conflicts.updates_in_order.Given as goal
 

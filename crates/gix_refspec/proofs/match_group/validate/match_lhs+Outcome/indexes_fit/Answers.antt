@@ -1,9 +1,5 @@
 -- a mapping whose spec index isn't in the group refutes the claim
-use Rattle.std.proofs.Common.{List, map, sym, subst, arith}
-use Rattle.gix_refspec_match.specs.declared.types.Mapping.{Mapping}
-use Rattle.gix_refspec_match.specs.Views.Mapping.{mapped_of}
-use Rattle.gix_refspec.specs.Views.Group.{readings_of}
-use Rattle.gix_refspec.specs.Matching.Validation.{IndexesFit}
+use Rattle.gix_refspec.proofs.Common.{List, map, sym, subst, arith, Mapping, mapped_of, readings_of, IndexesFit}
 use Rattle.gix_refspec.proofs.lemmas.validate.ConflictLemmas.{spec_fits}
 use Rattle.gix_refspec.proofs.match_group.validate.match_lhs+Outcome.indexes_fit.Goals as goal
 

@@ -1,13 +1,7 @@
 -- without an issue nothing is in conflict; without a fix all survive, and otherwise those that the filter keeps do
-use Rattle.std.proofs.Common.{◌≡◌, [], List, map, refl, sym, ◌∙◌, subst, arith, rules}
-use Rattle.std.specs.List.{AllByRecursion}
-use Rattle.std.proofs.lemmas.Bool.{eqb-true}
-use Rattle.gix_refspec_match.specs.declared.types.Mapping.{Mapping}
-use Rattle.gix_refspec_match.specs.Views.Mapping.{mapped_of}
-use Rattle.gix_refspec.specs.Matching.Validation.{Survives}
+use Rattle.gix_refspec.proofs.Common.{◌≡◌, [], List, map, refl, sym, ◌∙◌, subst, arith, rules, AllByRecursion, eqb-true, Mapping, mapped_of, Survives, nil_from_length}
 use Rattle.gix_refspec.proofs.lemmas.validate.ValidationLemmas.{filtered_so, kept_whole, validated_so}
 use Rattle.gix_refspec.proofs.match_group.validate.match_lhs+Outcome.validated.Goals as goal
-use Rattle.std.proofs.lemmas.List.{nil_from_length}
 
 pub returns-then-is_empty-clause-ok : goal.returns-then-is_empty-clause-ok
 returns-then-is_empty-clause-ok c =
