@@ -1,4 +1,5 @@
 -- Lemmas that several proofs use, by subject.
+pub mod MadeLemmas
 pub mod specs
 pub mod prefixes
 pub mod hits

@@ -1,9 +1,10 @@
 -- Examples of ref prefixes, for sides and groups like those of git-fetch(1), and what a caller concludes from them.
-use Rattle.gix_refspec.proofs.Common.{◌≡◌, inl, inr, ℕ, zero, suc, List, [], ◌∷◌, ◌++◌, None, Some, codes, length, refl, sym, ap, subst, arith, Any, bracket, star, BeginsWith, Normal}
-use Rattle.gix_refspec.proofs.Common.{Reading, fetched, pushed, pattern, partial, object, HasKind, candidates, IsRefPrefix, Ref, Mapped, AreKeptForward, HasNoList, Lists, ListsGroup}
-use Rattle.gix_refspec.proofs.Common.{ListsSide, Serves}
+use Rattle.gix_refspec.proofs.Common.{◌≡◌, inl, inr, ℕ, List, [], ◌∷◌, ◌++◌, None, Some, codes, length, refl, ap, subst, arith, bracket, star, BeginsWith, Normal, fetched, pushed, pattern}
+use Rattle.gix_refspec.proofs.Common.{partial, object, HasKind, candidates, IsRefPrefix, Ref, Mapped, AreKeptForward, HasNoList, Lists, ListsGroup, ListsSide, Serves}
 use Rattle.gix_refspec.proofs.lemmas.prefixes.AskedLemmas.{list_as, no_list}
 use Rattle.gix_refspec_text.proofs.facts.ManualFacts.{Lacks-tested, other_length}
+use Rattle.gix_refspec.proofs.facts.KeptFacts.{of_one}
+use Rattle.gix_refspec_text.proofs.facts.FaultFacts.{begins_not}
 use Rattle.gix_refspec_text.proofs.facts.FitFacts.{blob_kind, split_at_end, every, no_dev, other_byte, short_kind}
 use Rattle.gix_refspec_match.proofs.facts.MatchFacts.{mapping}
 use Rattle.gix_refspec_text.proofs.facts.PrefixFacts.{bracket_split, suffix_split, tells}
@@ -68,13 +69,14 @@ every_lists = inr (codes "refs/heads/*", record { positive = tt; side = refl }, 
 
 -- the list of a negative spec is empty, and a push without a destination has none
 pub lists_of_specs : Lists every (codes "refs/heads/" ∷ []) × Lists no_dev [] × ((list : List (List ℕ)) → ¬ (Lists (pushed Normal (Some (codes "main")) None) list))
-lists_of_specs = (every_lists, inl (refl, refl), none)
-  where
-    none : (list : List (List ℕ)) → ¬ (Lists (pushed Normal (Some (codes "main")) None) list)
-    none list lists = elim lists [
-      | inl negative ↦ let same = negative.0 in absurd (cc)
-      | inr asked ↦ let missing = asked.1.side in absurd (cc)
-    ]
+lists_of_specs = (
+  every_lists,
+  inl (refl, refl),
+  λ list lists. elim lists [
+    | inl negative ↦ let same = negative.0 in absurd (cc)
+    | inr asked ↦ let missing = asked.1.side in absurd (cc)
+  ],
+)
 
 -- the lists of a group are one after the other, in order
 pub lists_of_groups : ListsGroup (fetched Normal (codes "main") None ∷ no_dev ∷ every ∷ []) (candidates (codes "main") ++ codes "refs/heads/" ∷ [])
@@ -99,19 +101,11 @@ none_for_all = (
       | inr asked ↦ (no_lists_of_sides list).0 (subst (λ (x : List ℕ). ListsSide x list) (one_asked (fetched Normal (codes "refs/*") (Some (codes "refs/x/*"))) asked.0 (codes "refs/*") asked.1 (record { positive = tt; side = refl })) asked.2)
     ],
   ),
-  (λ none. only none),
+  λ none. of_one (λ r. (list : List (List ℕ)) → ¬ (Lists r list)) every none (codes "refs/heads/" ∷ []) every_lists,
 )
-  where
-    only : ¬ (HasNoList (every ∷ []))
-    only (zero, r, below, here, missing) = missing (codes "refs/heads/" ∷ []) (subst (λ (q : Reading). Lists q (codes "refs/heads/" ∷ [])) here every_lists)
-    only (suc i, r, below, here, missing) = absurd (omega (arith, below))
 
 -- if the list serves, no tag is a source, over any items
 pub no_tag_served : Serves (codes "refs/heads/" ∷ []) (every ∷ []) → (items : List Ref) (d : ℕ) (rest : List Mapped) → ¬ (AreKeptForward (every ∷ []) items (mapping 0 (codes "refs/tags/v1") None d ∷ rest))
-no_tag_served serves items d rest are = one ((serves (refl, tt) items (mapping 0 (codes "refs/tags/v1") None d ∷ rest) are).0 (codes "refs/tags/v1") refl)
-  where
-    one : ¬ (Any (λ p. BeginsWith p (codes "refs/tags/v1")) (codes "refs/heads/" ∷ []))
-    one (zero, p, below, here, begins) =
-        let is = subst (λ (q : List ℕ). BeginsWith q (codes "refs/tags/v1")) (sym here) begins in
-        other_byte 5 (codes "refs/tags/v1") (codes "refs/heads/" ++ is.after) (λ byte. omega (arith, byte)) is.here
-    one (suc i, p, below, here, begins) = absurd (omega (arith, below))
+no_tag_served serves items d rest are =
+    let begins = (serves (refl, tt) items (mapping 0 (codes "refs/tags/v1") None d ∷ rest) are).0 (codes "refs/tags/v1") refl in
+    begins_not (codes "refs/heads/") (codes "refs/tags/v1") refl (of_one (λ p. BeginsWith p (codes "refs/tags/v1")) (codes "refs/heads/") begins)

@@ -1,8 +1,8 @@
 -- Which fetches mean the same, and what a caller concludes from the law on groups of them.
-use Rattle.gix_refspec.proofs.Common.{◌≡◌, ◌≢◌, ℕ, true, false, List, [], ◌∷◌, None, Some, codes, refl, false≢true, Push, Fetch, Normal, Forced, Reading, fetched, pushed, fetch_and_update}
-use Rattle.gix_refspec.proofs.Common.{meaning_of, Mapped, AreKeptForward, AreKeptBackward, EqualGroups, AreFetches, FetchTheSame}
+use Rattle.gix_refspec.proofs.Common.{◌≡◌, ℕ, true, false, List, [], ◌∷◌, None, Some, codes, refl, false≢true, Normal, Forced, Reading, fetched, pushed, fetch_and_update, meaning_of, Mapped}
+use Rattle.gix_refspec.proofs.Common.{AreKeptForward, AreKeptBackward, EqualGroups, AreFetches, FetchTheSame}
 use Rattle.gix_refspec_text.proofs.facts.ManualFacts.{named}
-use Rattle.gix_refspec_text.proofs.facts.FitFacts.{every, no_dev, short}
+use Rattle.gix_refspec_text.proofs.facts.FitFacts.{every, no_dev, short, push_is_none}
 use Rattle.gix_refspec_match.proofs.facts.MatchFacts.{tracks_nothing}
 
 abbrev forced : Reading
@@ -17,9 +17,6 @@ push_to_main = pushed Normal (Some (codes "main")) (Some (codes "main"))
 
 abbrev every_unforced : Reading
 every_unforced = fetched Normal (codes "refs/heads/*") (Some (codes "refs/remotes/origin/*"))
-
-push_is_none : Push ≢ Fetch
-push_is_none same = cc
 
 force_told : (s d : List ℕ) → Some (fetch_and_update s d false) ≡ Some (fetch_and_update s d true) → false ≡ true
 force_told s d same = cc

@@ -1,10 +1,10 @@
 -- The plain data of names, items, mappings, groups and issues, for values whose fields differ: so none is lost or taken
 -- for another.
-use Rattle.gix_refspec.proofs.Common.{Option, ◌≡◌, ◌≢◌, ℕ, List, [], ◌∷◌, ◌++◌, None, Some, true, false, map, filter, option_map, length, replicate, Vec, Global, codes, refl, sym, ap, ap₂}
-use Rattle.gix_refspec.proofs.Common.{◌∙◌, arith, BString, bstring_bytes, Item, Mapping, MatchGroup, NameRef, Borrowed, Owned, SourceRef, Fix, MappingWithPartialDestinationRemoved, Issue}
-use Rattle.gix_refspec.proofs.Common.{Sha1, Push, Fetch, RefSpecRef, Normal, Forced, fetched, pushed, fetch_only, push_matching, reading_of, name, id, Conflict, name_bytes, start_of}
-use Rattle.gix_refspec.proofs.Common.{mapped_of, ref_of, text_of_source, readings_of, is_for, is_same_operation, IsGathered, ForwardOutcome, mappings_of, conflict_of, conflicts_of}
-use Rattle.gix_refspec.proofs.Common.{removed_of, IsSameFix, IfConflicts, IfMemory}
+use Rattle.gix_refspec.proofs.Common.{Option, ◌≡◌, ◌≢◌, ℕ, List, [], ◌∷◌, ◌++◌, None, Some, true, false, map, filter, option_map, length, replicate, Vec, Global, codes, refl, sym, ap, ◌∙◌}
+use Rattle.gix_refspec.proofs.Common.{arith, BString, bstring_bytes, Item, Mapping, MatchGroup, NameRef, Borrowed, Owned, SourceRef, Fix, MappingWithPartialDestinationRemoved, Issue, Sha1}
+use Rattle.gix_refspec.proofs.Common.{Push, Fetch, RefSpecRef, Normal, Forced, fetched, pushed, fetch_only, push_matching, reading_of, name, id, Conflict, name_bytes, start_of, mapped_of}
+use Rattle.gix_refspec.proofs.Common.{ref_of, text_of_source, readings_of, is_for, is_same_operation, IsGathered, ForwardOutcome, mappings_of, conflict_of, conflicts_of, removed_of}
+use Rattle.gix_refspec.proofs.Common.{IsSameFix, IfConflicts, IfMemory}
 use Rattle.std.specs.Char.{encode_utf8}
 use Rattle.std.specs.Iterator.{YieldsFirst, Drains}
 use Rattle.bstr.specs.Utf8.{pieces_from}
@@ -118,10 +118,7 @@ module _
 -- the sources of a conflict and the texts of specs are in order, and none is taken for another
 pub conflict_seen : (d t u : BString) (sources : Vec SourceRef Global) (texts : Vec BString Global) → sources.items ≡ FullName (lent_name (codes "refs/heads/a")) ∷ IdSource blob_id ∷ [] → texts.items ≡ t ∷ u ∷ []
     → conflict_of (issue.Conflict d sources texts) ≡ record { destination = bstring_bytes d; sources = name (codes "refs/heads/a") ∷ id empty_blob ∷ []; texts = bstring_bytes t ∷ bstring_bytes u ∷ [] }
-conflict_seen d t u sources texts come say = ap₂ (λ (xs : List SourceRef) (ys : List BString). the_conflict xs ys) come say
-  where
-    the_conflict : List SourceRef → List BString → Conflict
-    the_conflict xs ys = record { destination = bstring_bytes d; sources = map start_of xs; texts = map bstring_bytes ys }
+conflict_seen d t u sources texts come say = λ i. record { destination = bstring_bytes d; sources = map start_of (come i); texts = map bstring_bytes (say i) }
 
 -- all issues of an error are conflicts, in order
 pub conflicts_seen : (e : Error) (i j : Issue) → e.issues.items ≡ i ∷ j ∷ [] → conflicts_of e ≡ conflict_of i ∷ conflict_of j ∷ []

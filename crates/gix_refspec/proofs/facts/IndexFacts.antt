@@ -1,17 +1,15 @@
 -- What the spec and the item at an index make, and what a caller concludes about one mapping from the laws on these.
-use Rattle.gix_refspec.proofs.Common.{◌≡◌, inl, inr, ℕ, List, [], ◌∷◌, ◌++◌, None, Some, codes, refl, sym, ap, ◌∙◌, subst, arith, Contains, slice_get, Reading, IsPositive, partial}
-use Rattle.gix_refspec.proofs.Common.{full_name, Ref, name, id, Mapped, AreKeptForward, AreKeptBackward, MakesForwardOf, MakesBackwardOf, MadeAtIndexes, RemainsExactly, IsValidated}
-use Rattle.gix_refspec.proofs.Common.{IsWritable, Removed, KeepsRefNames, LeftOut}
+use Rattle.gix_refspec.proofs.Common.{◌≡◌, inl, ℕ, List, [], ◌∷◌, None, Some, codes, refl, sym, ap, ◌∙◌, subst, arith, Contains, slice_get, Reading, IsPositive, partial, full_name, Ref}
+use Rattle.gix_refspec.proofs.Common.{name, id, Mapped, AreKeptForward, AreKeptBackward, MakesForwardOf, MakesBackwardOf, MadeAtIndexes, RemainsExactly, IsValidated, Removed, KeepsRefNames}
+use Rattle.gix_refspec.proofs.Common.{LeftOut, same_Some}
 use Rattle.gix_refspec_match.proofs.facts.CandidateFacts.{branch_and_tag, main_tag, main_ends, main_to_x, takes_the_tag, x_kind}
 use Rattle.gix_refspec.proofs.facts.KeptFacts.{blob_paired}
+use Rattle.gix_refspec.proofs.facts.ValidationFacts.{unwritable}
 use Rattle.gix_refspec_text.proofs.facts.ManualFacts.{named, other_length}
-use Rattle.gix_refspec_text.proofs.facts.FitFacts.{blob, dev_ref, every, main_ref, no_dev, other_byte, short_kind, short_no_id, tag_ref}
+use Rattle.gix_refspec_text.proofs.facts.FitFacts.{blob, dev_ref, every, main_ref, no_dev, short_kind, short_no_id, tag_ref}
 use Rattle.gix_refspec_match.proofs.facts.MatchFacts.{mapping, tracked}
 use Rattle.gix_refspec_text.proofs.facts.ObjectIdFacts.{empty_blob}
 use Rattle.gix_refspec.proofs.facts.RefNameFacts.{good, kept, no_ref_names, sides, to_bad}
-
-some_index : (i j : ℕ) → Some i ≡ Some j → i ≡ j
-some_index i j same = cc
 
 -- ---- what is made at an index
 
@@ -33,7 +31,7 @@ tag_not_there = (at_branch, λ taken. let none = taken.is in absurd (cc))
   where
     at_branch : ¬ (MakesForwardOf branch_and_tag (Some 0) (name (codes "refs/tags/main")) (Some (codes "refs/x")) main_to_x)
     at_branch taken =
-        let index : 0 ≡ taken.index = some_index 0 taken.index taken.is in
+        let index : 0 ≡ taken.index = same_Some 0 taken.index taken.is in
         let stands : slice_get branch_and_tag 0 ≡ Some taken.ref = subst (λ (j : ℕ). slice_get branch_and_tag j ≡ Some taken.ref) (sym index) taken.stands in
         let is : named (codes "refs/heads/main") ≡ taken.ref = cc in
         other_length (codes "refs/heads/main") (codes "refs/tags/main") (λ size. omega (arith, size)) (ap (λ (x : Ref). x.name) is ∙ taken.paired.name)
@@ -78,7 +76,7 @@ not_of_negative law rest are =
 pub not_of_tag : MadeAtIndexes (every ∷ no_dev ∷ []) refs → (rest : List Mapped) → ¬ (AreKeptForward (every ∷ no_dev ∷ []) refs (tracked 1 (codes "main") ∷ rest))
 not_of_tag law rest are =
     let (r, here, makes) = (law.forward (tracked 1 (codes "main") ∷ rest) are).0 in
-    let index : 1 ≡ makes.index = some_index 1 makes.index makes.is in
+    let index : 1 ≡ makes.index = same_Some 1 makes.index makes.is in
     let stands : slice_get refs 1 ≡ Some makes.ref = subst (λ (j : ℕ). slice_get refs j ≡ Some makes.ref) (sym index) makes.stands in
     let is : tag_ref ≡ makes.ref = cc in
     other_length (codes "refs/tags/v1") (codes "refs/heads/main") (λ size. omega (arith, size)) (ap (λ (x : Ref). x.name) is ∙ makes.paired.name)
@@ -95,15 +93,11 @@ not_of_negative_back items law rest are =
 abbrev to_partial : Mapped
 to_partial = mapping 1 good (Some (codes "main")) 0
 
-partial_unwritable : ¬ (IsWritable (codes "main"))
-partial_unwritable (inl begins) = other_byte 0 (codes "main") (codes "refs/" ++ begins.after) (λ byte. omega (arith, byte)) begins.here
-partial_unwritable (inr is_head) = other_byte 0 (codes "main") (codes "HEAD") (λ byte. omega (arith, byte)) is_head
-
 -- by the law a mapping to a full name remains, and one to a partial name doesn't
 pub good_remains : (g : List Reading) → RemainsExactly g (kept ∷ to_partial ∷ []) → (rest : List Mapped) (fixes : List Removed) → IsValidated g (kept ∷ to_partial ∷ []) rest fixes → Contains rest kept × ¬ (Contains rest to_partial)
 good_remains g law rest fixes valid = (
   (law.validated rest fixes valid kept).1 ((0, omega arith, refl), inl (record { after = codes "heads/main"; here = refl })),
-  λ has. partial_unwritable ((law.validated rest fixes valid to_partial).0 has).1,
+  λ has. unwritable (codes "main") refl refl ((law.validated rest fixes valid to_partial).0 has).1,
 )
 
 -- and after a check of names, one to an invalid ref name doesn't

@@ -1,16 +1,17 @@
 -- Which items may be left out, and what a caller concludes from the laws on that.
-use Rattle.gix_refspec.proofs.Common.{◌≡◌, ◌≢◌, inl, inr, ℕ, zero, suc, List, [], ◌∷◌, None, Some, codes, refl, sym, ap, subst, arith, Bool, true, false, map, filter, Any, Contains, Push}
-use Rattle.gix_refspec.proofs.Common.{Fetch, bstr_bytes, false≢true, Item, BeginsWith, head, Normal, Reading, fetched, pushed, pattern, filled, to_prefix, Ref, HasName, Matches, Takes, name}
+use Rattle.gix_refspec.proofs.Common.{◌≡◌, ◌≢◌, inl, inr, ℕ, zero, suc, List, [], ◌∷◌, None, Some, codes, refl, sym, ap, subst, arith, Bool, true, false, map, filter, Any, Contains}
+use Rattle.gix_refspec.proofs.Common.{bstr_bytes, false≢true, Item, BeginsWith, head, Normal, Reading, fetched, pushed, pattern, filled, to_prefix, Ref, HasName, Matches, Takes, name}
 use Rattle.gix_refspec.proofs.Common.{Mapped, HasPair, AreForwardEnds, AreBackwardEnds, Hit, AreKeptForward, AreKeptBackward, ref_of, HasCoveringSource, IsCovering, BeginsWithOne}
 use Rattle.gix_refspec.proofs.Common.{IsCoveredBy, AreExpansions, MakesForward, AreAskedFor, ArePart, AskedItems, TakesItem, HasTaken, HaveSamePairs, FewerItems, FetchesHead, IsListed}
 use Rattle.gix_refspec.proofs.Common.{AreListedItems, ListedItems, PassesTaken, FilteredItems, is_begun, FilteredByEntries, FilteredByList, ListsGroup, same_Some}
 use Rattle.gix_refspec.proofs.facts.AskedFacts.{lists_of_specs}
+use Rattle.gix_refspec.proofs.facts.KeptFacts.{of_one}
 use Rattle.gix_refspec_match.proofs.facts.CandidateFacts.{branch_and_tag, main_branch, main_tag, main_ends, main_to_x, takes_the_tag}
 use Rattle.gix_refspec.proofs.lemmas.prefixes.CoverLemmas.{joined_covers}
 use Rattle.gix_refspec_text.proofs.facts.FaultFacts.{begins_not}
 use Rattle.gix_refspec_text.proofs.facts.CoveringFacts.{below_heads, covering, not_covering}
 use Rattle.gix_refspec_text.proofs.facts.ManualFacts.{named, other_length}
-use Rattle.gix_refspec_text.proofs.facts.FitFacts.{dev_ref, every, main_ref, no_dev, origin_split, other_byte, short, short_no_id, tag_ref}
+use Rattle.gix_refspec_text.proofs.facts.FitFacts.{dev_ref, every, main_ref, no_dev, origin_split, other_byte, short, short_no_id, tag_ref, of_element, push_is_none}
 use Rattle.gix_refspec_match.proofs.facts.MatchFacts.{are_forward_ends, bytes_in, fetches_all_but_dev, forward_ends, taken_by, takes_no_tag, tracked, tracks_all_but_dev}
 
 abbrev group : List Reading
@@ -28,19 +29,16 @@ no_dev_main same = other_length _ _ (λ size. omega (arith, size)) (ap (λ (r : 
 
 -- the branches are a subset, and refs that aren't there aren't one
 pub branches_part : ArePart all_refs branches
-branches_part item (zero, below, is) = (2, omega arith, is)
-branches_part item (suc zero, below, is) = (0, omega arith, is)
-branches_part item (suc (suc k), below, is) = absurd (omega (arith, below))
+branches_part item = of_element (Contains all_refs) branches item ((2, omega arith, refl), ((0, omega arith, refl), tt))
 
 pub no_part : ¬ (ArePart (dev_ref ∷ []) branches) × ¬ (ArePart [] (main_ref ∷ []))
-no_part = ((λ part. other (part main_ref (0, omega arith, refl))), λ part. nowhere (part main_ref (0, omega arith, refl)))
-  where
-    other : ¬ (Contains (dev_ref ∷ []) main_ref)
-    other (zero, below, is) = no_dev_main is
-    other (suc k, below, is) = omega (arith, below)
+no_part = (
+  (λ part. of_element (λ r. r ≢ main_ref) (dev_ref ∷ []) main_ref (no_dev_main, tt) (part main_ref (0, omega arith, refl)) refl),
+  λ part. of_element (λ r. ⊥) [] main_ref tt (part main_ref (0, omega arith, refl)),
+)
 
-    nowhere : ¬ (Contains [] main_ref)
-    nowhere (k, below, is) = omega (arith, below)
+main_alone : ¬ (Contains (main_ref ∷ []) dev_ref)
+main_alone has = of_element (λ r. r ≢ dev_ref) (main_ref ∷ []) dev_ref ((λ same. no_dev_main (sym same)), tt) has refl
 
 -- ---- what is taken
 
@@ -71,19 +69,14 @@ no_tag_by_some (suc (suc k), r, below, is, taken) = omega (arith, below)
 
 -- so the tag may be left out
 pub branches_enough : HasTaken AreForwardEnds (Takes all_refs) group all_refs branches
-branches_enough item (zero, below, is) taken = (1, omega arith, is)
-branches_enough item (suc zero, below, is) taken = absurd (no_tag_by_some (subst (λ (r : Ref). Any (TakesItem AreForwardEnds (Takes all_refs) r) group) (sym is) taken))
-branches_enough item (suc (suc zero), below, is) taken = (0, omega arith, is)
-branches_enough item (suc (suc (suc zero)), below, is) taken = (0, omega arith, is)
-branches_enough item (suc (suc (suc (suc k))), below, is) taken = absurd (omega (arith, below))
+branches_enough item = of_element (λ r. Any (TakesItem AreForwardEnds (Takes all_refs) r) group → Contains branches r) all_refs item
+    ((λ taken. (1, omega arith, refl)), ((λ taken. absurd (no_tag_by_some taken)), ((λ taken. (0, omega arith, refl)), ((λ taken. (0, omega arith, refl)), tt))))
 
 -- of a branch and a tag with the same name, a partial source takes the tag: so it may not be left out
 pub tag_wanted : ¬ (HasTaken AreForwardEnds (Takes branch_and_tag) (main_to_x ∷ []) branch_and_tag (main_branch ∷ []))
-tag_wanted has = other (has main_tag (1, omega arith, refl) (0, main_to_x, omega arith, refl, record { ends = main_ends; has = record { positive = tt; near = refl; far = refl; no_object = λ bytes kind. short_no_id bytes kind.2 }; word = None; takes = takes_the_tag.0 }))
-  where
-    other : ¬ (Contains (main_branch ∷ []) main_tag)
-    other (zero, below, is) = other_length _ _ (λ size. omega (arith, size)) (ap (λ (r : Ref). r.name) is)
-    other (suc k, below, is) = omega (arith, below)
+tag_wanted has =
+    let there = has main_tag (1, omega arith, refl) (0, main_to_x, omega arith, refl, record { ends = main_ends; has = record { positive = tt; near = refl; far = refl; no_object = λ bytes kind. short_no_id bytes kind.2 }; word = None; takes = takes_the_tag.0 }) in
+    of_element (λ r. r ≢ main_tag) (main_branch ∷ []) main_tag ((λ is. other_length _ _ (λ size. omega (arith, size)) (ap (λ (r : Ref). r.name) is)), tt) there refl
 
 -- ---- pairs
 
@@ -122,17 +115,10 @@ abbrev turned : List Ref
 turned = named (codes "refs/remotes/origin/main") ∷ named (codes "refs/remotes/origin/dev-a") ∷ []
 
 pub mapped_back : FewerItems group tracking turned → (fewer : List Mapped) → AreKeptBackward group turned fewer → HasPair fewer (tracked 7 (codes "main"))
-mapped_back law fewer are = (law.backward part enough (tracked 1 (codes "main") ∷ []) fewer tracks_all_but_dev are (tracked 7 (codes "main"))).0 (inl (record { source = refl; destination = refl }))
-  where
-    part : ArePart tracking turned
-    part item (zero, below, is) = (1, omega arith, is)
-    part item (suc zero, below, is) = (0, omega arith, is)
-    part item (suc (suc k), below, is) = absurd (omega (arith, below))
-
-    enough : HasTaken AreBackwardEnds Matches group tracking turned
-    enough item (zero, below, is) taken = (1, omega arith, is)
-    enough item (suc zero, below, is) taken = (0, omega arith, is)
-    enough item (suc (suc k), below, is) taken = absurd (omega (arith, below))
+mapped_back law fewer are =
+    let part : ArePart tracking turned = λ item. of_element (Contains tracking) turned item ((1, omega arith, refl), ((0, omega arith, refl), tt)) in
+    let enough : HasTaken AreBackwardEnds Matches group tracking turned = λ item there taken. of_element (Contains turned) tracking item ((1, omega arith, refl), ((0, omega arith, refl), tt)) there in
+    (law.backward part enough (tracked 1 (codes "main") ∷ []) fewer tracks_all_but_dev are (tracked 7 (codes "main"))).0 (inl (record { source = refl; destination = refl }))
 
 -- ---- listed items
 
@@ -151,9 +137,6 @@ head_listed = (
     no_head : ¬ (HasName (named (codes "refs/heads/HEAD") ∷ []) head)
     no_head (inl same) = other_length _ _ (λ size. omega (arith, size)) same
     no_head (inr none) = none
-
-    push_is_none : Push ≢ Fetch
-    push_is_none same = cc
 
 every_covering : HasCoveringSource every
 every_covering = record { fetch = refl; source = λ x asked. subst IsCovering (same_Some (codes "refs/heads/*") x asked.side) covering.0 }
@@ -178,33 +161,27 @@ expanded : AreExpansions group (codes "refs/heads/" ∷ [])
 expanded = (codes "refs/heads/" ∷ [], [], inl (codes "refs/heads/*", record { positive = tt; side = refl }, to_prefix (codes "refs/heads/") below_heads refl), ([], [], inr ((λ x asked. asked.positive), refl), refl, refl), refl)
 
 tag_not_begun : ¬ (BeginsWithOne (codes "refs/heads/" ∷ []) (codes "refs/tags/v1"))
-tag_not_begun (zero, entry, below, is, begins) = begins_not (codes "refs/heads/") (codes "refs/tags/v1") refl (subst (λ (x : List ℕ). BeginsWith x (codes "refs/tags/v1")) (sym is) begins)
-tag_not_begun (suc k, entry, below, is, begins) = absurd (omega (arith, below))
+tag_not_begun begun = begins_not (codes "refs/heads/") (codes "refs/tags/v1") refl (of_one (λ entry. BeginsWith entry (codes "refs/tags/v1")) (codes "refs/heads/") begun)
 
 -- the branches are what a server lists for that
 pub branches_listed : AreListedItems group all_refs branches
-branches_listed = record { entries = codes "refs/heads/" ∷ []; expansions = expanded; part = branches_part; listed = listed }
-  where
-    listed : (item : Ref) → Contains all_refs item → BeginsWithOne (codes "refs/heads/" ∷ []) item.name → Contains branches item
-    listed item (zero, below, is) begins = (1, omega arith, is)
-    listed item (suc zero, below, is) begins = absurd (tag_not_begun (subst (λ (r : Ref). BeginsWithOne (codes "refs/heads/" ∷ []) r.name) (sym is) begins))
-    listed item (suc (suc zero), below, is) begins = (0, omega arith, is)
-    listed item (suc (suc (suc zero)), below, is) begins = (0, omega arith, is)
-    listed item (suc (suc (suc (suc k))), below, is) begins = absurd (omega (arith, below))
+branches_listed = record {
+  entries = codes "refs/heads/" ∷ [];
+  expansions = expanded;
+  part = branches_part;
+  listed = λ item. of_element (λ r. BeginsWithOne (codes "refs/heads/" ∷ []) r.name → Contains branches r) all_refs item
+      ((λ begins. (1, omega arith, refl)), ((λ begins. absurd (tag_not_begun begins)), ((λ begins. (0, omega arith, refl)), ((λ begins. (0, omega arith, refl)), tt))));
+}
 
 -- it doesn't list fewer, nor refs that aren't there
 pub not_listed : ¬ (AreListedItems group all_refs (main_ref ∷ [])) × ¬ (AreListedItems group [] (main_ref ∷ []))
-not_listed = ((λ are. no_dev_there (are.listed dev_ref (0, omega arith, refl) (begins_with are.entries are.expansions))), λ are. no_part.1 are.part)
+not_listed = ((λ are. main_alone (are.listed dev_ref (0, omega arith, refl) (begins_with are.entries are.expansions))), λ are. no_part.1 are.part)
   where
     dev_covered : IsCoveredBy (codes "refs/heads/dev-a") every
     dev_covered = record { entries = codes "refs/heads/" ∷ []; expansion = inl (codes "refs/heads/*", record { positive = tt; side = refl }, to_prefix (codes "refs/heads/") below_heads refl); one = (0, codes "refs/heads/", omega arith, refl, record { after = codes "dev-a"; here = refl }) }
 
     begins_with : (entries : List (List ℕ)) → AreExpansions group entries → BeginsWithOne entries (codes "refs/heads/dev-a")
     begins_with entries are = joined_covers (codes "refs/heads/dev-a") group 0 entries (0, every, omega arith, refl, dev_covered) are
-
-    no_dev_there : ¬ (Contains (main_ref ∷ []) dev_ref)
-    no_dev_there (zero, below, is) = no_dev_main (sym is)
-    no_dev_there (suc k, below, is) = omega (arith, below)
 
 -- so by the law it loses no pair: neither of one spec, nor of all
 main_made : MakesForward all_refs (name (codes "refs/heads/main")) (Some (codes "refs/remotes/origin/main")) every
@@ -249,10 +226,6 @@ by_entries items some law is = law (codes "refs/heads/" ∷ []) expanded is
 
 group_lists : ListsGroup group (codes "refs/heads/" ∷ [])
 group_lists = (codes "refs/heads/" ∷ [], [], lists_of_specs.0, ([], [], lists_of_specs.1, refl, refl), refl)
-
-main_alone : ¬ (Contains (main_ref ∷ []) dev_ref)
-main_alone (zero, below, is) = no_dev_main (sym is)
-main_alone (suc k, below, is) = omega (arith, below)
 
 -- the branches are what a server lists for the ref prefix, and one of two isn't
 pub branches_asked : AreAskedFor (codes "refs/heads/" ∷ []) all_refs branches × ¬ (AreAskedFor (codes "refs/heads/" ∷ []) all_refs (main_ref ∷ [])) × ¬ (AreAskedFor [] [] (main_ref ∷ []))

@@ -1,8 +1,8 @@
 -- What a caller concludes from the laws on kept mappings: that a pair is kept, that one isn't, and by which spec and
 -- item.
 use Rattle.gix_refspec.proofs.Common.{◌≡◌, inl, inr, ℕ, zero, suc, List, [], ◌∷◌, ◌++◌, Option, None, Some, codes, refl, sym, ap, ◌∙◌, subst, arith, AllByRecursion, Any, Contains, slice_get}
-use Rattle.gix_refspec.proofs.Common.{Reading, partial, full_name, HasKind, Ref, IsFirstCandidate, name, Mapped, HasPair, IsExcluded, AreKeptForward, AreKeptBackward, MakesForward}
-use Rattle.gix_refspec.proofs.Common.{MakesBackward, PairsId, KeptExactly, FirstStays, NothingExcluded, ForwardIndexes, IsValidated, ItemIndexesFit, Removed, same_Some}
+use Rattle.gix_refspec.proofs.Common.{partial, full_name, HasKind, Ref, IsFirstCandidate, name, Mapped, HasPair, IsExcluded, AreKeptForward, AreKeptBackward, MakesForward, MakesBackward}
+use Rattle.gix_refspec.proofs.Common.{PairsId, KeptExactly, FirstStays, NothingExcluded, ForwardIndexes, IsValidated, ItemIndexesFit, Removed, same_Some}
 use Rattle.gix_refspec_match.proofs.facts.CandidateFacts.{branch_and_tag, main_tag, main_ends, main_to_x, no_tags, no_other_first, not_excluded, tags_excluded, takes_the_tag, x_kind}
 use Rattle.gix_refspec_text.proofs.facts.ManualFacts.{named, other_length}
 use Rattle.gix_refspec_text.proofs.facts.ObjectIdFacts.{empty_blob}
@@ -36,10 +36,10 @@ branch_unmade made =
     let first : IsFirstCandidate branch_and_tag (codes "main") item.name = paired.takes.first (codes "main") (subst (λ (x : List ℕ). HasKind x (partial (codes "main"))) (sym near) short_kind) in
     no_other_first.0 (subst (IsFirstCandidate branch_and_tag (codes "main")) paired.name first)
 
--- what holds of some reading of a list of one holds of that one
-of_one : (P : Reading → Type 0) (r : Reading) → Any P (r ∷ []) → P r
-of_one P r (zero, x, below, is, holds) = subst P (sym is) holds
-of_one P r (suc at, x, below, is, holds) = absurd (omega (arith, below))
+-- what holds of some element of a list of one holds of that one
+pub of_one : {X : Type 0} (P : X → Type 0) (x : X) → Any P (x ∷ []) → P x
+of_one P x (zero, y, below, is, holds) = subst P (sym is) holds
+of_one P x (suc at, y, below, is, holds) = absurd (omega (arith, below))
 
 -- so by the law it isn't kept
 pub pair_not_there : KeptExactly (main_to_x ∷ []) branch_and_tag → (kept : List Mapped) → AreKeptForward (main_to_x ∷ []) branch_and_tag kept → ¬ (HasPair kept branch_pair)

@@ -1,11 +1,11 @@
 -- Examples of the definitions that only laws use: which specs go both ways, what a covering source covers, what a
 -- canonical text reads as, and the expansion of a group.
-use Rattle.gix_refspec.proofs.Common.{◌≡◌, ◌≢◌, ◌⊎◌, ◌<◌, ℕ, zero, suc, List, [], ◌∷◌, ◌++◌, Option, None, Some, length, codes, refl, sym, ap, ◌∙◌, subst, inl, inr, arith, AllByRecursion}
-use Rattle.gix_refspec.proofs.Common.{Push, Fetch, BeginsWith, HasStar, IsPattern, star, colon, Normal, Forced, Negative, Reading, AreParts, Reads, fetches, fetched, pushed, candidates}
-use Rattle.gix_refspec.proofs.Common.{IsCandidate, Fits, name, id, Mapped, HasPair, AreApart, AreKeptForward, AreKeptBackward, OneForward, OneBackward, KeptOnce, Ref, Matches, HasName}
-use Rattle.gix_refspec.proofs.Common.{Takes, ValidatedOnce, DestinationsHaveOneSource, HaveDistinctDestinations, ForwardFits, IndexesFit, push_delete, fetch_only, printed, meaning_of}
-use Rattle.gix_refspec.proofs.Common.{Refusal, PatternUnbalanced, NegativeEmpty, ReferenceName, IsRefused, IsIdText, IsLowerText, HasIdFault, LockSuffix, RepeatedDot, IsAsked, IsPrefix}
-use Rattle.gix_refspec.proofs.Common.{Expands, to_prefix, to_candidates, IsCovering, HasCoveringSource, MapAlike, AreReadAgain, AsksFor, AtSpec, EachSource, Transpose, Cover, CoverTogether}
+use Rattle.gix_refspec.proofs.Common.{◌≡◌, ◌≢◌, ◌⊎◌, ◌<◌, ℕ, List, [], ◌∷◌, ◌++◌, Option, None, Some, length, codes, refl, sym, ap, ◌∙◌, subst, inl, inr, arith, AllByRecursion, Push, Fetch}
+use Rattle.gix_refspec.proofs.Common.{BeginsWith, HasStar, IsPattern, star, colon, Normal, Forced, Negative, Reading, AreParts, Reads, fetches, fetched, pushed, candidates, IsCandidate}
+use Rattle.gix_refspec.proofs.Common.{Fits, name, id, Mapped, HasPair, AreApart, AreKeptForward, AreKeptBackward, OneForward, OneBackward, KeptOnce, Ref, Matches, HasName, Takes}
+use Rattle.gix_refspec.proofs.Common.{ValidatedOnce, DestinationsHaveOneSource, HaveDistinctDestinations, ForwardFits, IndexesFit, push_delete, fetch_only, printed, meaning_of, Refusal}
+use Rattle.gix_refspec.proofs.Common.{PatternUnbalanced, NegativeEmpty, ReferenceName, IsRefused, IsIdText, IsLowerText, HasIdFault, LockSuffix, RepeatedDot, IsAsked, IsPrefix, Expands}
+use Rattle.gix_refspec.proofs.Common.{to_prefix, to_candidates, IsCovering, HasCoveringSource, MapAlike, AreReadAgain, AsksFor, AtSpec, EachSource, Transpose, Cover, CoverTogether}
 use Rattle.gix_refspec.proofs.Common.{FetchGroupReadsBack, IsCoveredBy, IsSourceAmong, IsDestinationAmong, GoesBothWays, ReadsAgainAs, BeginsWithOne, AreExpansions, same_Some}
 use Rattle.gix_refspec_text.specs.Laws.Readings.{ReadsOnce, ReadsOrRefused, IsSameReason, SaysForOperation, IsPrintedBack, ReadsBack, EqualReadings, HasOneId, HasOneFault, HasCandidates, KeepsOperation, EqualTexts, NothingAgainst, ClonesExactly, OneWord, PrefixBegins, OnePrefix, Candidates, IdOrFault, OneLowerText, OneRefusal}
 use Rattle.gix_refspec_text.specs.Texts.PatternError.{IsPatternFault}
@@ -23,6 +23,7 @@ use Rattle.gix_refspec_text.proofs.facts.ManualFacts.{Lacks-tested, IsPattern-te
 use Rattle.gix_refspec_text.proofs.facts.FaultFacts.{begins_not}
 use Rattle.gix_refspec_text.proofs.facts.UnreadFacts.{unbalanced_fetches}
 use Rattle.gix_refspec_text.proofs.facts.ObjectIdFacts.{empty_blob, IsIdText-empty_blob, lower_of-empty_blob, HasIdFault-length}
+use Rattle.gix_refspec.proofs.facts.KeptFacts.{of_one}
 use Rattle.gix_refspec.proofs.facts.ValidationFacts.{both_to_x, foo_fix, validated}
 use Rattle.gix_refspec_text.proofs.facts.FitFacts.{every, no_dev, short, short_kind, other_byte, other_first, push_is_none}
 use Rattle.gix_refspec_match.proofs.facts.MatchFacts.{bytes_in, mapping, tracked, fetches_all_but_dev, tracks_all_but_dev, tracks_nothing, tag_to_x, tag_to_foo, tag_alone}
@@ -86,10 +87,8 @@ pub reads_no_force : ¬ (ReadsAgainAs (fetched Forced (codes "main") None) (fetc
 unfolding reads_unforced
 reads_no_force again =
     let reads = subst (λ (x : List ℕ). Reads Fetch x (fetched Forced (codes "main") None)) (sym (same_Some (codes "main") again.text again.is)) again.reads in
-    forced_no_normal (ap (λ (r : Reading). r.mode) (reads_once Fetch (codes "main") (fetched Forced (codes "main") None) short reads reads_unforced.reads))
-  where
-    forced_no_normal : Forced ≢ Normal
-    forced_no_normal same = cc
+    let modes : Forced ≡ Normal = ap (λ (r : Reading). r.mode) (reads_once Fetch (codes "main") (fetched Forced (codes "main") None) short reads reads_unforced.reads) in
+    cc
 
 -- `ReadsAgainAs` holds of no push
 pub no_push_again : (s d : Option (List ℕ)) (q : Reading) → ¬ (ReadsAgainAs (pushed Normal s d) q)
@@ -101,14 +100,8 @@ no_push_again s d q again = push_is_none again.fetch
 pub begins_with_one : BeginsWithOne (codes "refs/tags/" ∷ codes "refs/heads/" ∷ []) (codes "refs/heads/main") × ¬ (BeginsWithOne (codes "heads/" ∷ []) (codes "refs/heads/main"))
 begins_with_one = (
   (1, codes "refs/heads/", omega arith, refl, record { after = codes "main"; here = refl }),
-  none,
+  λ begins. begins_not (codes "heads/") (codes "refs/heads/main") refl (of_one (λ entry. BeginsWith entry (codes "refs/heads/main")) (codes "heads/") begins),
 )
-  where
-    none : ¬ (BeginsWithOne (codes "heads/" ∷ []) (codes "refs/heads/main"))
-    none (zero, entry, below, is, begins) =
-        let here : codes "refs/heads/main" ≡ codes "heads/" ++ begins.after = begins.here ∙ ap (λ (y : List ℕ). y ++ begins.after) (sym is) in
-        other_byte 0 (codes "refs/heads/main") (codes "heads/" ++ begins.after) (λ same. omega (arith, same)) here
-    none (suc k, entry, below, is, begins) = absurd (omega (arith, below))
 
 -- the expansions of the specs of a group, one after the other; that of a negative spec is empty
 pub expanded : AreExpansions (every ∷ no_dev ∷ short ∷ []) (codes "refs/heads/" ∷ candidates (codes "main"))
@@ -148,9 +141,6 @@ looked_up law m back = ((law (go_both_ways.0, (go_both_ways.3, tt)) (tracked 2 (
 pub looked_back : Transpose (every ∷ no_dev ∷ []) remote_refs tracking_refs → (l : List Mapped) → AreKeptForward (every ∷ no_dev ∷ []) remote_refs l → HasPair l (tracked 0 (codes "main"))
 looked_back law l forward = ((law (go_both_ways.0, (go_both_ways.3, tt)) l (tracked 1 (codes "main") ∷ []) forward tracks_all_but_dev (tracked 0 (codes "main"))).1 (inl (record { source = refl; destination = refl }), inr (inr (inl refl)))).0
 
-one_reading : (q r : Reading) → Some q ≡ Some r → q ≡ r
-one_reading q r same = cc
-
 every_covering : HasCoveringSource every
 every_covering = record { fetch = refl; source = λ x asked. subst IsCovering (same_Some (codes "refs/heads/*") x asked.side) covering.0 }
 
@@ -178,7 +168,7 @@ every_asks n = (inl every_covering, no_push)
 
 -- the spec of a mapping is the one at its index
 pub at_its_spec : (P : Reading → Type 0) → AtSpec (no_dev ∷ every ∷ []) (mapping 0 (codes "refs/heads/main") None 1) P → P every
-at_its_spec P (r, here, holds) = subst P (sym (one_reading every r here)) holds
+at_its_spec P (r, here, holds) = subst P (sym (same_Some every r here)) holds
 
 pub no_spec_there : (P : Reading → Type 0) → ¬ (AtSpec (every ∷ []) (mapping 0 (codes "refs/heads/main") None 1) P)
 no_spec_there P (r, here, holds) = absurd (cc)
@@ -187,19 +177,19 @@ no_spec_there P (r, here, holds) = absurd (cc)
 pub covered : Cover (every ∷ no_dev ∷ []) remote_refs → IsCoveredBy (codes "refs/heads/main") every
 covered law =
     let (r, here, covers) = (law (tracked 2 (codes "main") ∷ []) fetches_all_but_dev).0 (codes "refs/heads/main") refl in
-    let same : every ≡ r = one_reading every r here in
+    let same : every ≡ r = same_Some every r here in
     subst (IsCoveredBy (codes "refs/heads/main")) (sym same) (covers (subst (λ (q : Reading). AsksFor q (codes "refs/heads/main")) same (inl every_covering)))
 
 pub covered_among_others : (others : List Reading) (kept : List Mapped) → Cover (every ∷ others) remote_refs → AreKeptForward (every ∷ others) remote_refs (tracked 2 (codes "main") ∷ kept) → IsCoveredBy (codes "refs/heads/main") every
 covered_among_others others kept law are =
     let (r, here, covers) = (law (tracked 2 (codes "main") ∷ kept) are).0 (codes "refs/heads/main") refl in
-    let same : every ≡ r = one_reading every r here in
+    let same : every ≡ r = same_Some every r here in
     subst (IsCoveredBy (codes "refs/heads/main")) (sym same) (covers (subst (λ (q : Reading). AsksFor q (codes "refs/heads/main")) same (inl every_covering)))
 
 pub covered_together : CoverTogether (every ∷ no_dev ∷ []) remote_refs → (entries : List (List ℕ)) → AreExpansions (every ∷ no_dev ∷ []) entries → BeginsWithOne entries (codes "refs/heads/main")
 covered_together law entries are =
     let (r, here, covers) = (law entries are (tracked 2 (codes "main") ∷ []) fetches_all_but_dev).0 (codes "refs/heads/main") refl in
-    let same : every ≡ r = one_reading every r here in
+    let same : every ≡ r = same_Some every r here in
     covers (subst (λ (q : Reading). AsksFor q (codes "refs/heads/main")) same (inl every_covering))
 
 -- a group and the one read from its canonical texts map alike, in both directions
@@ -251,15 +241,9 @@ one_text law t lower = law.only t lower ∙ lower_of-empty_blob
 -- a text is refused for one reason, except that any fault of a name may be reported
 pub one_reason : OneRefusal Fetch (codes "a*") → ¬ (IsRefused Fetch (codes "a*") NegativeEmpty)
 one_reason law empty = elim (law PatternUnbalanced NegativeEmpty unbalanced_fetches.5 empty) [
-  | inl same ↦ apart same
-  | inr (a, b, is_name, also) ↦ no_name a is_name
+  | inl same ↦ cc
+  | inr (a, b, is_name, also) ↦ cc
 ]
-  where
-    apart : PatternUnbalanced ≢ NegativeEmpty
-    apart same = cc
-
-    no_name : (a : NameError) → PatternUnbalanced ≢ ReferenceName a
-    no_name a same = cc
 
 -- a text has no reading if a reason applies to its parts
 pub star_unread : ReasonRefuses Fetch (codes "a*") → (r : Reading) → ¬ (Reads Fetch (codes "a*") r)
@@ -297,15 +281,7 @@ never_both reads e refused = refused.unread short reads
 
 -- faults of a name are one reason, but a fault and another reason, or two others, are two
 pub same_reasons : IsSameReason (ReferenceName LockSuffix) (ReferenceName RepeatedDot) × IsSameReason NegativeEmpty NegativeEmpty × ¬ (IsSameReason NegativeEmpty (ReferenceName LockSuffix)) × ¬ (IsSameReason (ReferenceName LockSuffix) PatternUnbalanced)
-same_reasons = (inr (LockSuffix, RepeatedDot, refl, refl), inl refl, empty_no_name, name_no_balance)
-  where
-    empty_no_name : ¬ (IsSameReason NegativeEmpty (ReferenceName LockSuffix))
-    empty_no_name (inl same) = cc
-    empty_no_name (inr (a, b, first, second)) = cc
-
-    name_no_balance : ¬ (IsSameReason (ReferenceName LockSuffix) PatternUnbalanced)
-    name_no_balance (inl same) = cc
-    name_no_balance (inr (a, b, first, second)) = cc
+same_reasons = (inr (LockSuffix, RepeatedDot, refl, refl), inl refl, (λ same. grind arith), λ same. grind arith)
 
 pub said_for : (r : Reading) → SaysForOperation r → (d : List ℕ) → meaning_of r ≡ Some (push_delete d) → r.operation ≡ Push
 said_for r law d means = sym (law (push_delete d) means)
@@ -370,7 +346,7 @@ all_alike g h items alike kept = ((alike.forward kept).1, (alike.backward kept).
 pub each_source : (P : Reading → List ℕ → Type 0) → EachSource (every ∷ no_dev ∷ []) remote_refs P → P every (codes "refs/heads/main")
 each_source P each =
     let (r, here, holds) = (each (tracked 2 (codes "main") ∷ []) fetches_all_but_dev).0 (codes "refs/heads/main") refl in
-    subst (λ (q : Reading). P q (codes "refs/heads/main")) (sym (one_reading every r here)) holds
+    subst (λ (q : Reading). P q (codes "refs/heads/main")) (sym (same_Some every r here)) holds
 
 pub no_tag_source : OneForward (every ∷ no_dev ∷ []) remote_refs → EachSource (every ∷ no_dev ∷ []) remote_refs (λ r n. (r ≡ every) × (n ≡ codes "refs/heads/main"))
 no_tag_source law kept are =
@@ -382,8 +358,7 @@ pub not_covered : OnePrefix (codes "refs/heads/*") → ¬ (IsCoveredBy (codes "r
 not_covered law = (by_every, by_none)
   where
     outside : ¬ (BeginsWithOne (codes "refs/heads/" ∷ []) (codes "refs/tags/v1"))
-    outside (zero, entry, below, is, begins) = begins_not (codes "refs/heads/") (codes "refs/tags/v1") refl (subst (λ (x : List ℕ). BeginsWith x (codes "refs/tags/v1")) (sym is) begins)
-    outside (suc k, entry, below, is, begins) = absurd (omega (arith, below))
+    outside begins = begins_not (codes "refs/heads/") (codes "refs/tags/v1") refl (of_one (λ entry. BeginsWith entry (codes "refs/tags/v1")) (codes "refs/heads/") begins)
 
     by_every : ¬ (IsCoveredBy (codes "refs/tags/v1") every)
     by_every covers = elim covers.expansion [

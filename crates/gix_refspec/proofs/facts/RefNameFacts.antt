@@ -5,10 +5,10 @@ use Rattle.gix_refspec.proofs.Common.{mapped_of, AreKeptForward, ForwardIndexes,
 use Rattle.gix_refspec.proofs.Common.{IsValidDestination, IsValidSource, IsRefName, KeepsRefNames, LeftOut, StaysAmongRefs, WritesRefs, left_out_of}
 use Rattle.gix_refspec.specs.declared.match_group.ref_names.InvalidSide.TheVariants.{Source, Destination, Both}
 use Rattle.gix_refspec_match.proofs.lemmas.lists.JoinLemmas.{nothing_made}
-use Rattle.gix_refspec_text.proofs.facts.ManualFacts.{Lacks-tested, other_length}
-use Rattle.gix_refspec_text.proofs.facts.FitFacts.{other_byte}
+use Rattle.gix_refspec_text.proofs.facts.ManualFacts.{Lacks-tested}
 use Rattle.gix_refspec_match.proofs.facts.MatchFacts.{mapping}
-use Rattle.gix_refspec.proofs.lemmas.validate.RefNameLemmas.{bad_unnamed, stays_among_refs}
+use Rattle.gix_refspec.proofs.lemmas.validate.RefNameLemmas.{bad_unnamed, below_refs, name_of_ref, stays_among_refs}
+use Rattle.gix_refspec.proofs.facts.ValidationFacts.{unwritable}
 use Rattle.gix_refspec_text.proofs.lemmas.texts.TestedLemmas.{IsName-tested}
 
 -- a name that begins `refs/`, and `HEAD`
@@ -17,19 +17,11 @@ ref_names = (inl (record { after = codes "heads/main"; here = refl }, IsName-tes
 
 -- not a name outside `refs/`, nor a text with a fault
 pub no_ref_names : ¬ (IsRefName (codes "main")) × ¬ (IsRefName (codes "HEADS")) × ¬ (IsRefName (codes "refs/../x"))
-no_ref_names = (elsewhere, longer, faulty)
-  where
-    elsewhere : ¬ (IsRefName (codes "main"))
-    elsewhere (inl (begins, name)) = other_byte 0 (codes "main") (codes "refs/" ++ begins.after) (λ byte. omega (arith, byte)) begins.here
-    elsewhere (inr is_head) = other_byte 0 (codes "main") (codes "HEAD") (λ byte. omega (arith, byte)) is_head
-
-    longer : ¬ (IsRefName (codes "HEADS"))
-    longer (inl (begins, name)) = other_byte 0 (codes "HEADS") (codes "refs/" ++ begins.after) (λ byte. omega (arith, byte)) begins.here
-    longer (inr is_head) = other_length _ _ (λ size. omega (arith, size)) is_head
-
-    faulty : ¬ (IsRefName (codes "refs/../x"))
-    faulty (inl (begins, name)) = name RepeatedDot (record { before = codes "refs/"; after = codes "/x"; here = refl })
-    faulty (inr is_head) = other_length _ _ (λ size. omega (arith, size)) is_head
+no_ref_names = (
+  (λ ref. unwritable (codes "main") refl refl (below_refs (codes "main") ref)),
+  (λ ref. unwritable (codes "HEADS") refl refl (below_refs (codes "HEADS") ref)),
+  λ ref. name_of_ref (codes "refs/../x") ref RepeatedDot (record { before = codes "refs/"; after = codes "/x"; here = refl }),
+)
 
 abbrev bad : List ℕ
 bad = codes "refs/../x"
@@ -128,10 +120,7 @@ pub leads_away : ¬ (StaysAmongRefs (codes "refs/../x")) × ¬ (StaysAmongRefs (
 leads_away = (
   (λ stays. let each = stays.components (codes "refs" ∷ codes ".." ∷ codes "x" ∷ []) (record { joined = refl; whole = (Lacks-tested slash (codes "refs") refl, (Lacks-tested slash (codes "..") refl, (Lacks-tested slash (codes "x") refl, tt))) }) in each.1.0.1 (record { after = codes "."; here = refl })),
   (λ stays. let each = stays.components (codes "refs" ∷ [] ∷ codes "x" ∷ []) (record { joined = refl; whole = (Lacks-tested slash (codes "refs") refl, (tt, (Lacks-tested slash (codes "x") refl, tt))) }) in each.1.0.0 refl),
-  (λ stays. elim stays.below [
-    | inl begins ↦ other_byte 0 (codes "x") (codes "refs/" ++ begins.after) (λ byte. omega (arith, byte)) begins.here
-    | inr is_head ↦ other_length _ _ (λ size. omega (arith, size)) is_head
-  ]),
+  (λ stays. unwritable (codes "x") refl refl stays.below),
   (λ stays. let low = stays.bytes.1.1.1.1.1.0.0 in omega (arith, low)),
   (λ stays. stays.bytes.1.1.1.1.1.0.1 refl),
 )

@@ -1,12 +1,14 @@
 -- Examples of the definitions on validation, for mappings to one destination and to others: their conflicts, survivors
 -- and fixes.
-use Rattle.gix_refspec.proofs.Common.{◌≡◌, ◌≢◌, ◌⊎◌, ℕ, suc, ◌<◌, List, [], ◌∷◌, ◌++◌, Option, None, Some, option_map, length, map, codes, refl, sym, ap, ◌∙◌, subst, inl, inr, arith}
-use Rattle.gix_refspec.proofs.Common.{Contains, IsStrictlySortedBy, nat_cmp, slice_cmp, Less, Equal, Greater, Normal, Forced, Reading, fetched, printed, name, Mapped, HasPair, IndexesFit}
+use Rattle.gix_refspec.proofs.Common.{◌≡◌, ◌⊎◌, ℕ, ◌<◌, List, [], ◌∷◌, Option, None, Some, option_map, length, codes, refl, sym, ap, ◌∙◌, subst, inl, inr, arith, Contains}
+use Rattle.gix_refspec.proofs.Common.{IsStrictlySortedBy, nat_cmp, slice_cmp, Less, Equal, Greater, Normal, Forced, Reading, fetched, printed, name, Mapped, HasPair, IndexesFit}
 use Rattle.gix_refspec.proofs.Common.{HasConflictAt, IsFirstTo, IsTextAt, Conflict, IsConflict, AreConflicts, IsWritable, Survives, AreSurvivors, Removed, IsFix, AreFixes, IsValidated}
-use Rattle.gix_refspec.proofs.Common.{DestinationsHaveOneSource, ShareDestination, HaveDistinctDestinations, same_Some}
+use Rattle.gix_refspec.proofs.Common.{DestinationsHaveOneSource, ShareDestination, HaveDistinctDestinations, same_Some, false, nat_eq, AllByRecursion, starts_with, false≢true}
+use Rattle.gix_refspec.proofs.Common.{bytes_eq-Decides, bytes_eq, head}
 use Rattle.gix_refspec.proofs.lemmas.validate.ConflictLemmas.{no_conflicts}
 use Rattle.gix_refspec_match.proofs.lemmas.lists.JoinLemmas.{nothing_made}
 use Rattle.gix_refspec_text.proofs.facts.ManualFacts.{other_length, none_some}
+use Rattle.gix_refspec_text.proofs.facts.FaultFacts.{begins_not}
 use Rattle.gix_refspec_text.proofs.facts.FitFacts.{other_byte, of_element}
 use Rattle.gix_refspec_match.proofs.facts.MatchFacts.{bytes_in, mapping, tag_to_x, branch_to_x, tag_again, tag_to_foo, tag_alone, pairs}
 
@@ -127,41 +129,28 @@ conflicts_at_x = record {
 pub no_conflict : (c : Conflict) → c.destination ≡ codes "refs/x/b" → ¬ (IsConflict both_to_x meeting c)
 no_conflict c is conflicts = other_byte 7 (codes "refs/x/b") (codes "refs/x/a") (λ byte. omega (arith, byte)) (sym is ∙ only_x c.destination conflicts.contested)
 
+one_tag : (l : List Mapped) → AllByRecursion (λ n. n.source ≡ name (codes "refs/tags/a")) l → (d : List ℕ) → ¬ (HasConflictAt l d)
+one_tag l all d contested = contested.differ (of_element _ l contested.one all contested.has_one ∙ sym (of_element _ l contested.other all contested.has_other))
+
 pub one_source : (d : List ℕ) → ¬ (HasConflictAt (tag_to_x ∷ tag_to_foo ∷ tag_alone ∷ tag_again ∷ []) d)
-one_source d contested =
-    let l = tag_to_x ∷ tag_to_foo ∷ tag_alone ∷ tag_again ∷ [] in
-    let tag = of_element (λ n. n.source ≡ name (codes "refs/tags/a")) l in
-    contested.differ (tag contested.one (refl, (refl, (refl, (refl, tt)))) contested.has_one ∙ sym (tag contested.other (refl, (refl, (refl, (refl, tt)))) contested.has_other))
+one_source = one_tag _ (refl, (refl, (refl, (refl, tt))))
 
 -- conflicts are strictly increasing by destination
 pub rising : (c d : Conflict) → c.destination ≡ codes "refs/x/b" → d.destination ≡ codes "refs/x/aa" → ¬ (AreConflicts both_to_x meeting (c ∷ d ∷ [])) × ¬ (AreConflicts both_to_x meeting (c ∷ c ∷ []))
 unfolding IsStrictlySortedBy
 rising c d to_b to_aa = (
-  (λ are. greater_less (subst (λ (x : List ℕ). slice_cmp nat_cmp x (codes "refs/x/aa") ≡ Less) to_b (subst (λ (x : List ℕ). slice_cmp nat_cmp c.destination x ≡ Less) to_aa are.order.0.0))),
-  (λ are. equal_less (subst (λ (x : List ℕ). slice_cmp nat_cmp x x ≡ Less) to_b are.order.0.0)),
+  (λ are. let less : Greater ≡ Less = subst (λ (x : List ℕ). slice_cmp nat_cmp x (codes "refs/x/aa") ≡ Less) to_b (subst (λ (x : List ℕ). slice_cmp nat_cmp c.destination x ≡ Less) to_aa are.order.0.0) in cc),
+  (λ are. let less : Equal ≡ Less = subst (λ (x : List ℕ). slice_cmp nat_cmp x x ≡ Less) to_b are.order.0.0 in cc),
 )
-  where
-    greater_less : Greater ≢ Less
-    greater_less same = cc
 
-    equal_less : Equal ≢ Less
-    equal_less same = cc
+-- a text that computes to begin otherwise, and not to be `HEAD`, can't be written
+pub unwritable : (d : List ℕ) → starts_with nat_eq d (codes "refs/") ≡ false → bytes_eq d head ≡ false → ¬ (IsWritable d)
+unwritable d elsewhere other (inl begins) = begins_not (codes "refs/") d elsewhere begins
+unwritable d elsewhere other (inr is_head) = false≢true (sym other ∙ (bytes_eq-Decides d head).1 is_head)
 
 -- destinations that begin `refs/`, and `HEAD`, can be written
 pub writable : IsWritable (codes "refs/x") × IsWritable (codes "HEAD") × ¬ (IsWritable (codes "refs")) × ¬ (IsWritable (codes "HEADS")) × ¬ (IsWritable (codes "foo"))
-writable = (inl (record { after = codes "x"; here = refl }), inr refl, no_slash, longer, no_foo)
-  where
-    no_slash : ¬ (IsWritable (codes "refs"))
-    no_slash (inl begins) = let size : 4 ≡ suc (suc (suc (suc (suc (length begins.after))))) = ap length begins.here in omega (arith, size)
-    no_slash (inr is_head) = other_byte 0 (codes "refs") (codes "HEAD") (λ byte. omega (arith, byte)) is_head
-
-    longer : ¬ (IsWritable (codes "HEADS"))
-    longer (inl begins) = other_byte 0 (codes "HEADS") (codes "refs/" ++ begins.after) (λ byte. omega (arith, byte)) begins.here
-    longer (inr is_head) = other_length _ _ (λ size. omega (arith, size)) is_head
-
-    no_foo : ¬ (IsWritable (codes "foo"))
-    no_foo (inl begins) = other_byte 0 (codes "foo") (codes "refs/" ++ begins.after) (λ byte. omega (arith, byte)) begins.here
-    no_foo (inr is_head) = other_length _ _ (λ size. omega (arith, size)) is_head
+writable = (inl (record { after = codes "x"; here = refl }), inr refl, unwritable (codes "refs") refl refl, unwritable (codes "HEADS") refl refl, unwritable (codes "foo") refl refl)
 
 -- the fix of a mapping to a partial name by the second spec
 abbrev pub foo_fix : Removed
@@ -170,7 +159,7 @@ foo_fix = record { destination = codes "foo"; spec = fetched Forced (codes "refs
 -- of mappings from one source, the one to a partial name goes
 pub validated : IsValidated both_to_x (tag_to_x ∷ tag_to_foo ∷ tag_alone ∷ []) (tag_to_x ∷ tag_alone ∷ []) (foo_fix ∷ [])
 validated = record {
-  free = no_conflicts both_to_x (tag_to_x ∷ tag_to_foo ∷ tag_alone ∷ []) apart_all;
+  free = no_conflicts both_to_x (tag_to_x ∷ tag_to_foo ∷ tag_alone ∷ []) (one_tag _ (refl, (refl, (refl, tt))));
   survive = (
     Some tag_to_x,
     tag_alone ∷ [],
@@ -192,11 +181,6 @@ validated = record {
     refl,
   );
 }
-  where
-    apart_all : (d : List ℕ) → ¬ (HasConflictAt (tag_to_x ∷ tag_to_foo ∷ tag_alone ∷ []) d)
-    apart_all d contested =
-        let tag = of_element (λ n. n.source ≡ name (codes "refs/tags/a")) (tag_to_x ∷ tag_to_foo ∷ tag_alone ∷ []) in
-        contested.differ (tag contested.one (refl, (refl, (refl, tt))) contested.has_one ∙ sym (tag contested.other (refl, (refl, (refl, tt))) contested.has_other))
 
 -- the index of the first spec is in a group, and one after the last isn't
 pub indexes : IndexesFit both_to_x (tag_to_x ∷ tag_again ∷ []) × ¬ (IndexesFit both_to_x (tag_to_x ∷ mapping 0 (codes "a") None 2 ∷ []))
@@ -231,12 +215,9 @@ texts_at = (
   (fetched Normal (codes "refs/tags/*") (Some (codes "refs/x/*")), refl, refl),
   (fetched Forced (codes "main") None, refl, refl),
   at_one,
-  λ text is. none_reading is.0 is.1,
+  λ text is. let gone : Path (Option Reading) None (Some is.0) = is.1 in cc,
 )
   where
-    none_reading : (r : Reading) → Path (Option Reading) None (Some r) → ⊥
-    none_reading r same = cc
-
     at_one : ¬ (IsTextAt both_to_x 1 (codes "refs/tags/*:refs/x/*"))
     at_one (r, is, prints) =
         let r_is : fetched Forced (codes "refs/heads/*") (Some (codes "refs/x/*")) ≡ r = cc in
@@ -245,10 +226,7 @@ texts_at = (
 -- a destination with several sources is listed as a conflict, and so there is no validation
 pub no_less : ¬ (AreConflicts both_to_x meeting []) × ((rest : List Mapped) (fixes : List Removed) → ¬ (IsValidated both_to_x meeting rest fixes))
 unfolding at_x
-no_less = ((λ are. none_in (are.every (codes "refs/x/a") at_x)), λ rest fixes is. none_in (is.free.every (codes "refs/x/a") at_x))
-  where
-    none_in : ¬ (Contains (map (λ (c : Conflict). c.destination) []) (codes "refs/x/a"))
-    none_in (k, below, is) = omega (arith, below)
+no_less = ((λ are. of_element (λ d. ⊥) [] _ tt (are.every (codes "refs/x/a") at_x)), λ rest fixes is. of_element (λ d. ⊥) [] _ tt (is.free.every (codes "refs/x/a") at_x))
 
 -- a mapping survives without a destination, and with one that can be written
 pub survivors : Survives tag_alone × Survives tag_to_x × ¬ (Survives tag_to_foo) × ¬ (AreSurvivors (tag_to_foo ∷ []) (tag_to_foo ∷ [])) × ¬ (AreSurvivors (tag_alone ∷ []) [])
@@ -269,15 +247,12 @@ pub fixes : IsFix both_to_x tag_to_foo foo_fix × ((fix : Removed) → ¬ (IsFix
 fixes = (
   foo,
   (λ fix. ((λ is. is.unwritable (subst IsWritable (same_Some (codes "refs/x/a") fix.destination is.goes) (inl (record { after = codes "x/a"; here = refl })))), λ is. none_some fix.destination is.goes)),
-  (λ is. forced_normal is.spec),
+  (λ is. let modes : Some Forced ≡ Some Normal = ap (λ (o : Option Reading). option_map (λ (r : Reading). r.mode) o) is.spec in cc),
   λ are. nothing_made (λ k m fix. IsFix both_to_x m fix) 0 [] tag_to_foo [] foo_fix are foo,
 )
   where
     foo : IsFix both_to_x tag_to_foo foo_fix
     foo = record { goes = refl; unwritable = writable.4; spec = refl }
-
-    forced_normal : Path (Option Reading) (Some (fetched Forced (codes "refs/heads/*") (Some (codes "refs/x/*")))) (Some (fetched Normal (codes "refs/tags/*") (Some (codes "refs/x/*")))) → ⊥
-    forced_normal same = let modes : Some Forced ≡ Some Normal = ap (λ (o : Option Reading). option_map (λ (r : Reading). r.mode) o) same in cc
 
 -- mappings share a destination that both have
 pub meetings : ShareDestination tag_to_x branch_to_x × ¬ (ShareDestination tag_to_x tag_to_foo) × ¬ (ShareDestination tag_alone tag_alone)

@@ -1,4 +1,3 @@
 -- Lemmas on both directions, and on gathering a group.
 pub mod TransposeLemmas
-pub mod PremiseLemmas
 pub mod GatherLemmas

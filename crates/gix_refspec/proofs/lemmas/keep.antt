@@ -3,6 +3,5 @@ pub mod FirstStaysLemmas
 pub mod PairMadeLemmas
 pub mod ItemLemmas
 pub mod NameOnlyLemmas
-pub mod AskedItemLemmas
 pub mod AlikeLemmas
 pub mod FilterLemmas

@@ -6,9 +6,7 @@ pub mod ApartLemmas
 pub mod ValidationLemmas
 pub mod OneValidationLemmas
 pub mod AfterLemmas
-pub mod IndexFitLemmas
 pub mod MadeAtLemmas
-pub mod PlacedOnceLemmas
 pub mod PlanLemmas
 pub mod ClearLemmas
 pub mod RefNameLemmas

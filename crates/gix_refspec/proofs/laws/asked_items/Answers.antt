@@ -1,6 +1,6 @@
 -- For all readings and refs.
 use Rattle.gix_refspec.proofs.Common.{map, ref_of, readings_of}
-use Rattle.gix_refspec.proofs.lemmas.keep.AskedItemLemmas.{asked_items}
+use Rattle.gix_refspec.proofs.lemmas.prefixes.AskedLemmas.{asked_items}
 use Rattle.gix_refspec.proofs.lemmas.keep.FilterLemmas.{filtered_by_list}
 use Rattle.gix_refspec.proofs.laws.asked_items.Goals as goal
 

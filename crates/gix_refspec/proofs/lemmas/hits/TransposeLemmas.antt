@@ -1,16 +1,16 @@
--- The two directions agree: a reading that goes both ways makes the same pair of the one name and of the other.
-use Rattle.gix_refspec.proofs.Common.{◌≡◌, ◌⊎◌, inl, inr, ℕ, List, [], ◌∷◌, ◌++◌, codes, Option, None, Some, map, unwrap_or, refl, sym, ap, ◌∙◌, subst, AllByRecursion, IsSome, false≢true}
-use Rattle.gix_refspec.proofs.Common.{First, All, RefSpecRef, Lacks, BeginsWith, star, HasStar, HasSeveralStars, HasOneStar, IsSplit, Reading, IsAccepted, IsPositive, IsOneStarred}
-use Rattle.gix_refspec.proofs.Common.{reading_of, SideKind, pattern, full_name, object, partial, HasKind, Fits, filled, Ref, MatchesAs, Matches, HasName, Takes, name, Mapped, IsSamePair}
-use Rattle.gix_refspec.proofs.Common.{HasPair, Ends, AreForwardEnds, AreBackwardEnds, IsFilled, Hit, forward_of, backward_of, IsIdMapping, AreForward, AreBackward, IsSourceAmong}
-use Rattle.gix_refspec.proofs.Common.{IsDestinationAmong, GoesBothWays, Transpose}
+-- The two directions agree: a reading that goes both ways makes the same pair of the one name and of the other. A test
+-- of the sides decides whether a reading goes both ways.
+use Rattle.gix_refspec.proofs.Common.{◌≡◌, ◌⊎◌, inl, inr, ℕ, List, [], ◌∷◌, ◌++◌, codes, Option, None, Some, map, refl, ap, ◌∙◌, subst, AllByRecursion, IsSome, false≢true, RefSpecRef, Lacks}
+use Rattle.gix_refspec.proofs.Common.{BeginsWith, star, HasStar, HasSeveralStars, HasOneStar, IsSplit, Reading, IsAccepted, IsPositive, IsOneStarred, reading_of, SideKind, pattern}
+use Rattle.gix_refspec.proofs.Common.{full_name, object, partial, HasKind, Fits, filled, Ref, MatchesAs, Matches, HasName, Takes, name, Ends, AreForwardEnds, AreBackwardEnds, IsFilled}
+use Rattle.gix_refspec.proofs.Common.{IsSourceAmong, IsDestinationAmong, GoesBothWays, Transpose, true, Bool, IsTrue, ◌↔◌, Source, MakesForward, MakesBackward, PairsItem, id, IsPaired}
 use Rattle.gix_refspec_text.proofs.lemmas.texts.TextLemmas.{Lacks-ContainsText}
 use Rattle.gix_refspec_text.proofs.lemmas.parsing.DecideLemmas.{FirstIndex, lacks_or_first}
 use Rattle.gix_refspec_text.proofs.lemmas.specs.AcceptedLemmas.{accepted_few, accepted_balanced}
-use Rattle.gix_refspec_match.proofs.lemmas.hits.HitLemmas.{one_kind, matches_as}
-use Rattle.gix_refspec_match.proofs.lemmas.keep.KeptPairLemmas.{IsOfPair, Any-HasPair, HasPair-Any, kept_pairs}
-use Rattle.gix_refspec_match.proofs.lemmas.hits.ReachLemmas.{Reaches, hits_reach, reach_hits}
-use Rattle.gix_refspec_match.proofs.lemmas.lists.SomeLemmas.{Any, Any-right, Any-cases, Any-from_map, Any-map, Any-all, Any-weaker, Any-fact, Any-both, made_any}
+use Rattle.std.specs.List as lists
+use Rattle.gix_refspec_match.proofs.lemmas.hits.HitLemmas.{one_kind, matches_as, same_side}
+use Rattle.gix_refspec.proofs.lemmas.keep.PairMadeLemmas.{kept_exactly}
+use Rattle.gix_refspec_match.proofs.lemmas.lists.SomeLemmas.{Any, Any-all, Any-both, Any-weaker, some_at, some_of}
 
 -- ---- two sides
 
@@ -53,16 +53,23 @@ starred x = elim (lacks_or_first star x) [
   | inr index ↦ inr (record { before = index.before; after = index.after; here = index.here })
 ]
 
+-- of two texts of which not exactly one has a star, both have one or neither has
+pub both_or_neither : (s d : List ℕ) → ¬ (HasSeveralStars s) → ¬ (HasSeveralStars d) → ¬ (IsOneStarred s d) → (HasOneStar s × HasOneStar d) ⊎ (Lacks star s × Lacks star d)
+both_or_neither s d few_s few_d balanced = by_stars (starred s) (starred d)
+  where
+    by_stars : Lacks star s ⊎ HasStar s → Lacks star d ⊎ HasStar d → (HasOneStar s × HasOneStar d) ⊎ (Lacks star s × Lacks star d)
+    by_stars (inl no_s) (inl no_d) = inr (no_s, no_d)
+    by_stars (inl no_s) (inr of_d) = absurd (balanced (inr (no_s, of_d)))
+    by_stars (inr of_s) (inl no_d) = absurd (balanced (inl (of_s, no_d)))
+    by_stars (inr of_s) (inr of_d) = inl (one_star s of_s few_s, one_star d of_d few_d)
+
 -- two sides that both begin `refs/`, or both have a star
 twins : (x y : List ℕ) → ¬ (HasSeveralStars x) → ¬ (HasSeveralStars y) → ¬ (IsOneStarred x y) → (HasStar x × HasStar y) ⊎ (BeginsWith (codes "refs/") x × BeginsWith (codes "refs/") y) → AreTwins x y
 twins x y few_x few_y balanced (inl stars) = patterns (one_star x stars.0 few_x) (one_star y stars.1 few_y)
-twins x y few_x few_y balanced (inr below) = by_stars (starred x) (starred y)
-  where
-    by_stars : Lacks star x ⊎ HasStar x → Lacks star y ⊎ HasStar y → AreTwins x y
-    by_stars (inl no_x) (inl no_y) = names (refl, no_x, below.0) (refl, no_y, below.1)
-    by_stars (inl no_x) (inr of_y) = absurd (balanced (inr (no_x, of_y)))
-    by_stars (inr of_x) (inl no_y) = absurd (balanced (inl (of_x, no_y)))
-    by_stars (inr of_x) (inr of_y) = patterns (one_star x of_x few_x) (one_star y of_y few_y)
+twins x y few_x few_y balanced (inr below) = elim (both_or_neither x y few_x few_y balanced) [
+  | inl one ↦ patterns one.0 one.1
+  | inr none ↦ names (refl, none.0, below.0) (refl, none.1, below.1)
+]
 
 -- the name that a side is filled in to, by its kind
 filled_as : (y m : List ℕ) (kind : SideKind) (word : Option (List ℕ)) → HasKind y kind → IsFilled (Some y) word (Some m) → m ≡ filled kind word
@@ -100,21 +107,14 @@ no_partial x y n (names of_x of_y) is = let same : full_name x ≡ partial n = o
 
 -- ---- one pair
 
--- the pair is what the two sides of the reading make of one another
-record Carries (r : Reading) (pair : Mapped) : Type 0 where
+-- the two sides of the reading make these names of one another
+record Carries (r : Reading) (n m : List ℕ) : Type 0 where
   positive : IsPositive r.mode
   left : List ℕ
   right : List ℕ
   source : r.source ≡ Some left
   destination : r.destination ≡ Some right
-  start : List ℕ
-  goal : List ℕ
-  mirrored : AreMirrored left right start goal
-  is_source : pair.source ≡ name start
-  is_destination : pair.destination ≡ Some goal
-
-carried : (r : Reading) (pair : Mapped) (left right start goal : List ℕ) → IsPositive r.mode → r.source ≡ Some left → r.destination ≡ Some right → AreMirrored left right start goal → pair.source ≡ name start → pair.destination ≡ Some goal → Carries r pair
-carried r pair left right start goal positive source destination mirrored is_source is_destination = record { positive = positive; left = left; right = right; source = source; destination = destination; start = start; goal = goal; mirrored = mirrored; is_source = is_source; is_destination = is_destination }
+  mirrored : AreMirrored left right n m
 
 -- the reading is accepted, and goes both ways
 abbrev IsFine : Reading → Type 0
@@ -124,20 +124,19 @@ fine_twins : (r : Reading) (x y : List ℕ) → IsFine r → IsPositive r.mode �
 fine_twins r x y fine positive source destination =
     twins x y (accepted_few r x fine.0 (inl source)) (accepted_few r y fine.0 (inr destination)) (accepted_balanced r x y fine.0 source destination) (fine.1 positive x y source destination)
 
-some_item : (P : Ref → Type 0) (items : List Ref) → Any P items → (i : Ref) × P i × HasName items i.name
-some_item P [] any = absurd any
-some_item P (i ∷ items) (inl here) = (i, here, inl refl)
-some_item P (i ∷ items) (inr later) = let found = some_item P items later in (found.0, found.1, inr found.2)
+-- a name among the items is that of one of them, and conversely
+name_among : (n : List ℕ) (items : List Ref) (P : Ref → Type 0) → ((i : Ref) → P i → i.name ≡ n) → lists.Any P items → HasName items n
+name_among n items P named any = Any-name items (Any-weaker P (λ i. i.name ≡ n) named items (some_of P items any))
+  where
+    Any-name : (items : List Ref) → Any (λ (i : Ref). i.name ≡ n) items → HasName items n
+    Any-name [] any = absurd any
+    Any-name (i ∷ items) (inl here) = inl here
+    Any-name (i ∷ items) (inr later) = inr (Any-name items later)
 
 named_item : (items : List Ref) (n : List ℕ) → HasName items n → Any (λ (i : Ref). i.name ≡ n) items
 named_item [] n has = absurd has
 named_item (i ∷ items) n (inl same) = inl same
 named_item (i ∷ items) n (inr has) = inr (named_item items n has)
-
--- a destination among the items is some name
-to_some : (items : List Ref) (d : Option (List ℕ)) → IsDestinationAmong items d → (n : List ℕ) × (d ≡ Some n)
-to_some items None to = absurd to
-to_some items (Some n) to = (n, refl)
 
 -- a side that becomes a name is present
 far_there : (far : Option (List ℕ)) (word : Option (List ℕ)) (m : List ℕ) → IsFilled far word (Some m) → (y : List ℕ) × (far ≡ Some y)
@@ -148,105 +147,76 @@ side_there : (far : Option (List ℕ)) → IsSome far → (x : List ℕ) × (far
 side_there None some = absurd (false≢true some)
 side_there (Some x) some = (x, refl)
 
--- a present side becomes some name
-becomes_some : (x : List ℕ) (word far : Option (List ℕ)) → IsFilled (Some x) word far → (m : List ℕ) × (far ≡ Some m)
-becomes_some x word far (kind, has, is) = (filled kind word, is)
+forward_carries : (A : List Ref) (n m : List ℕ) (r : Reading) → IsFine r → PairsItem AreForwardEnds (Takes A) A n (Some m) r → Carries r n m
+forward_carries A n m r fine makes =
+    let (k, i, below, at, paired) = makes.one in
+    let there = far_there makes.ends.far paired.word m paired.becomes in
+    let right_is : r.destination ≡ Some there.0 = makes.has.far ∙ there.1 in
+    let twin : AreTwins makes.ends.near there.0 = fine_twins r makes.ends.near there.0 fine makes.has.positive makes.has.near right_is in
+    record {
+      positive = makes.has.positive;
+      left = makes.ends.near;
+      right = there.0;
+      source = makes.has.near;
+      destination = right_is;
+      mirrored = subst (λ (x : List ℕ). AreMirrored makes.ends.near there.0 x m) paired.name (taken_mirrored makes.ends.near there.0 m i paired.word twin paired.takes.matches (subst (λ (o : Option (List ℕ)). IsFilled o paired.word (Some m)) there.1 paired.becomes));
+    }
 
--- the pair of a hit from left to right, and from right to left
-abbrev IsForwardPair : Mapped → List ℕ → Option (List ℕ) → Type 0
-IsForwardPair pair near far = (name near ≡ pair.source) × (far ≡ pair.destination)
-
-abbrev IsBackwardPair : Mapped → List ℕ → Option (List ℕ) → Type 0
-IsBackwardPair pair near far = (name (unwrap_or far []) ≡ pair.source) × (Some near ≡ pair.destination)
-
-forward_carries : (A B : List Ref) (pair : Mapped) → IsDestinationAmong B pair.destination → (r : Reading) → IsFine r → Reaches AreForwardEnds (Takes A) A (IsForwardPair pair) r → Carries r pair × IsSourceAmong A pair.source
-forward_carries A B pair to r fine (ends, has, any) =
-    let found = some_item _ A any in
-    let i : Ref = found.0 in
-    let (word, far, takes, becomes, (source, destination)) = found.1 in
-    let goal = to_some B pair.destination to in
-    let filled_far : IsFilled ends.far word (Some goal.0) = subst (IsFilled ends.far word) (destination ∙ goal.1) becomes in
-    let there = far_there ends.far word goal.0 filled_far in
-    let right_is : r.destination ≡ Some there.0 = has.far ∙ there.1 in
-    let twin : AreTwins ends.near there.0 = fine_twins r ends.near there.0 fine has.positive has.near right_is in (
-      carried r pair ends.near there.0 i.name goal.0 has.positive has.near right_is (taken_mirrored ends.near there.0 goal.0 i word twin takes.matches (subst (λ (o : Option (List ℕ)). IsFilled o word (Some goal.0)) there.1 filled_far)) (sym source) goal.1,
-      subst (IsSourceAmong A) source found.2,
-    )
-
-carries_forward : (A : List Ref) (pair : Mapped) → IsSourceAmong A pair.source → (r : Reading) → Carries r pair → Reaches AreForwardEnds (Takes A) A (IsForwardPair pair) r
-carries_forward A pair from r c =
+carries_forward : (A : List Ref) (n m : List ℕ) (r : Reading) → HasName A n → Carries r n m → PairsItem AreForwardEnds (Takes A) A n (Some m) r
+carries_forward A n m r from c =
+    let twin = mirrored_twins c.left c.right n m c.mirrored in
     let ends : Ends = record { near = c.left; far = Some c.right } in
-    (ends, record { positive = c.positive; near = c.source; far = c.destination; no_object = λ bytes. no_object c.left c.right bytes (mirrored_twins c.left c.right c.start c.goal c.mirrored) }, Any-weaker _ _ of_item A (named_item A c.start (subst (IsSourceAmong A) c.is_source from)))
-  where
-    of_item : (i : Ref) → i.name ≡ c.start → (word : Option (List ℕ)) × (far : Option (List ℕ)) × Takes A c.left i word × IsFilled (Some c.right) word far × IsForwardPair pair i.name far
-    of_item i same =
-        let taken = mirrored_taken c.left c.right c.start c.goal i c.mirrored same in
-        (taken.0, Some c.goal, record { matches = taken.1; first = λ n kind. absurd (no_partial c.left c.right n (mirrored_twins c.left c.right c.start c.goal c.mirrored) kind) }, taken.2, (ap name same ∙ sym c.is_source, sym c.is_destination))
+    let of_item : (i : Ref) → i.name ≡ n → IsPaired (Takes A) ends n (Some m) i = λ i same.
+    let taken = mirrored_taken c.left c.right n m i c.mirrored same in
+    record { word = taken.0; name = same; takes = record { matches = taken.1; first = λ x kind. absurd (no_partial c.left c.right x twin kind) }; becomes = taken.2 } in
+    record {
+      ends = ends;
+      has = record { positive = c.positive; near = c.source; far = c.destination; no_object = λ bytes. no_object c.left c.right bytes twin };
+      one = some_at (IsPaired (Takes A) ends n (Some m)) A (Any-weaker _ _ of_item A (named_item A n from));
+    }
 
-backward_carries : (B : List Ref) (pair : Mapped) → (r : Reading) → IsFine r → Reaches AreBackwardEnds Matches B (IsBackwardPair pair) r → Carries r pair × IsDestinationAmong B pair.destination
-backward_carries B pair r fine (ends, has, any) =
-    let found = some_item _ B any in
-    let i : Ref = found.0 in
-    let (word, far, takes, becomes, (source, destination)) = found.1 in
-    let there = side_there ends.far has.both in
-    let left_is : r.source ≡ Some there.0 = has.far ∙ there.1 in
-    let filled_far : IsFilled (Some there.0) word far = subst (λ (o : Option (List ℕ)). IsFilled o word far) there.1 becomes in
-    let start = becomes_some there.0 word far filled_far in
-    let twin : AreTwins there.0 ends.near = fine_twins r there.0 ends.near fine has.positive left_is has.near in
-    let back = taken_mirrored ends.near there.0 start.0 i word (twins_back there.0 ends.near twin) takes (subst (IsFilled (Some there.0) word) start.1 filled_far) in (
-      carried r pair there.0 ends.near start.0 i.name has.positive left_is has.near (mirrored_back ends.near there.0 i.name start.0 back) (sym source ∙ ap (λ (o : Option (List ℕ)). name (unwrap_or o [])) start.1) (sym destination),
-      subst (IsDestinationAmong B) destination found.2,
-    )
+backward_carries : (B : List Ref) (n m : List ℕ) (r : Reading) → IsFine r → PairsItem AreBackwardEnds Matches B m (Some n) r → Carries r n m
+backward_carries B n m r fine makes =
+    let (k, i, below, at, paired) = makes.one in
+    let there = side_there makes.ends.far makes.has.both in
+    let left_is : r.source ≡ Some there.0 = makes.has.far ∙ there.1 in
+    let twin : AreTwins there.0 makes.ends.near = fine_twins r there.0 makes.ends.near fine makes.has.positive left_is makes.has.near in
+    let back = taken_mirrored makes.ends.near there.0 n i paired.word (twins_back there.0 makes.ends.near twin) paired.takes (subst (λ (o : Option (List ℕ)). IsFilled o paired.word (Some n)) there.1 paired.becomes) in
+    record {
+      positive = makes.has.positive;
+      left = there.0;
+      right = makes.ends.near;
+      source = left_is;
+      destination = makes.has.near;
+      mirrored = subst (λ (x : List ℕ). AreMirrored there.0 makes.ends.near n x) paired.name (mirrored_back makes.ends.near there.0 i.name n back);
+    }
 
-carries_backward : (B : List Ref) (pair : Mapped) → IsDestinationAmong B pair.destination → (r : Reading) → Carries r pair → Reaches AreBackwardEnds Matches B (IsBackwardPair pair) r
-carries_backward B pair to r c =
+carries_backward : (B : List Ref) (n m : List ℕ) (r : Reading) → HasName B m → Carries r n m → PairsItem AreBackwardEnds Matches B m (Some n) r
+carries_backward B n m r to c =
     let ends : Ends = record { near = c.right; far = Some c.left } in
-    (ends, record { positive = c.positive; near = c.destination; far = c.source; both = refl }, Any-weaker _ _ of_item B (named_item B c.goal (subst (IsDestinationAmong B) c.is_destination to)))
-  where
-    of_item : (i : Ref) → i.name ≡ c.goal → (word : Option (List ℕ)) × (far : Option (List ℕ)) × Matches c.right i word × IsFilled (Some c.left) word far × IsBackwardPair pair i.name far
-    of_item i same =
-        let taken = mirrored_taken c.right c.left c.goal c.start i (mirrored_back c.left c.right c.start c.goal c.mirrored) same in
-        (taken.0, Some c.start, taken.1, taken.2, (sym c.is_source, ap Some same ∙ sym c.is_destination))
+    let of_item : (i : Ref) → i.name ≡ m → IsPaired Matches ends m (Some n) i = λ i same.
+    let taken = mirrored_taken c.right c.left m n i (mirrored_back c.left c.right n m c.mirrored) same in
+    record { word = taken.0; name = same; takes = taken.1; becomes = taken.2 } in
+    record {
+      ends = ends;
+      has = record { positive = c.positive; near = c.destination; far = c.source; both = refl };
+      one = some_at (IsPaired Matches ends m (Some n)) B (Any-weaker _ _ of_item B (named_item B m to));
+    }
 
--- ---- the lists of both directions
+-- ---- both directions
 
--- a reading that goes both ways maps no id to a name
-no_id_mapped : (B : List Ref) (pair : Mapped) → IsDestinationAmong B pair.destination → (r : Reading) → IsFine r → (k : ℕ) × (m : Mapped) × IsIdMapping k r m × IsSamePair m pair → ⊥
-no_id_mapped B pair to r fine (k, m, is, same) =
-    let goal = to_some B pair.destination to in
-    let becomes : IsFilled r.destination None (Some goal.0) = subst (IsFilled r.destination None) (same.destination ∙ goal.1) is.destination in
-    let there = far_there r.destination None goal.0 becomes in
-    no_object is.text there.0 is.bytes (fine_twins r is.text there.0 fine is.positive is.side there.1) is.object
+-- what a fine reading makes from left to right it makes from right to left, and conversely
+turned : (A B : List Ref) (s : Source) (d : Option (List ℕ)) (r : Reading) → IsFine r → IsDestinationAmong B d → MakesForward A s d r → MakesBackward B s d r × IsSourceAmong A s
+turned A B (name n) (Some m) r fine to makes = (carries_backward B n m r to (forward_carries A n m r fine makes), name_among n A (IsPaired (Takes A) makes.ends n (Some m)) (λ i is. is.name) makes.one)
+turned A B (id bytes) (Some m) r fine to makes =
+    let there = far_there r.destination None m makes.becomes in
+    absurd (no_object makes.text there.0 bytes (fine_twins r makes.text there.0 fine makes.positive makes.side there.1) makes.object)
+turned A B s None r fine to makes = absurd to
 
-forward_pairs : (g : List Reading) (A B : List Ref) (l : List Mapped) (pair : Mapped) → AllByRecursion IsFine g → AreForward g A l → HasPair l pair → IsDestinationAmong B pair.destination → Any (λ (r : Reading). Carries r pair) g × IsSourceAmong A pair.source
-forward_pairs g A B l pair fine are has to =
-    by_part (Any-cases (IsOfPair pair) are.ids (map forward_of are.hits) (Any-HasPair (are.ids ++ map forward_of are.hits) pair (subst (λ (z : List Mapped). HasPair z pair) are.all has)))
-  where
-    by_part : Any (IsOfPair pair) are.ids ⊎ Any (IsOfPair pair) (map forward_of are.hits) → Any (λ (r : Reading). Carries r pair) g × IsSourceAmong A pair.source
-    by_part (inl ids) = absurd (Any-fact ⊥ g (Any-all IsFine _ (λ (r : Reading). ⊥) (no_id_mapped B pair to) g fine (made_any IsIdMapping (IsOfPair pair) 0 g are.ids are.are_ids ids)))
-    by_part (inr hits) =
-        let pairs : Any (λ (h : Hit). IsForwardPair pair h.near h.far) are.hits = Any-weaker _ _ (λ (h : Hit) same. (same.source, same.destination)) are.hits (Any-from_map (IsOfPair pair) forward_of are.hits hits) in
-        Any-both (λ (r : Reading). Carries r pair) (IsSourceAmong A pair.source) g (Any-all IsFine _ _ (forward_carries A B pair to) g fine (hits_reach First g A are.hits (IsForwardPair pair) are.are_hits pairs))
-
-pairs_forward : (g : List Reading) (A : List Ref) (l : List Mapped) (pair : Mapped) → AreForward g A l → Any (λ (r : Reading). Carries r pair) g → IsSourceAmong A pair.source → HasPair l pair
-pairs_forward g A l pair are any from =
-    let hits : Any (λ (h : Hit). IsForwardPair pair h.near h.far) are.hits = reach_hits First g A are.hits (IsForwardPair pair) are.are_hits (Any-weaker _ _ (carries_forward A pair from) g any) in
-    let same : Any (λ (h : Hit). IsSamePair (forward_of h) pair) are.hits = Any-weaker _ _ (λ (h : Hit) both. record { source = both.0; destination = both.1 }) are.hits hits in
-    subst (λ (z : List Mapped). HasPair z pair) (sym are.all)
-    (HasPair-Any (are.ids ++ map forward_of are.hits) pair (Any-right _ are.ids (map forward_of are.hits) (Any-map (IsOfPair pair) forward_of are.hits same)))
-
-backward_pairs : (g : List Reading) (B : List Ref) (l : List Mapped) (pair : Mapped) → AllByRecursion IsFine g → AreBackward g B l → HasPair l pair → Any (λ (r : Reading). Carries r pair) g × IsDestinationAmong B pair.destination
-backward_pairs g B l pair fine are has =
-    let any = Any-HasPair (map backward_of are.hits) pair (subst (λ (z : List Mapped). HasPair z pair) are.all has) in
-    let pairs : Any (λ (h : Hit). IsBackwardPair pair h.near h.far) are.hits = Any-weaker _ _ (λ (h : Hit) same. (same.source, same.destination)) are.hits (Any-from_map (IsOfPair pair) backward_of are.hits any) in
-    Any-both (λ (r : Reading). Carries r pair) (IsDestinationAmong B pair.destination) g (Any-all IsFine _ _ (backward_carries B pair) g fine (hits_reach All g B are.hits (IsBackwardPair pair) are.are_hits pairs))
-
-pairs_backward : (g : List Reading) (B : List Ref) (l : List Mapped) (pair : Mapped) → AreBackward g B l → Any (λ (r : Reading). Carries r pair) g → IsDestinationAmong B pair.destination → HasPair l pair
-pairs_backward g B l pair are any to =
-    let hits : Any (λ (h : Hit). IsBackwardPair pair h.near h.far) are.hits = reach_hits All g B are.hits (IsBackwardPair pair) are.are_hits (Any-weaker _ _ (carries_backward B pair to) g any) in
-    let same : Any (λ (h : Hit). IsSamePair (backward_of h) pair) are.hits = Any-weaker _ _ (λ (h : Hit) both. record { source = both.0; destination = both.1 }) are.hits hits in
-    subst (λ (z : List Mapped). HasPair z pair) (sym are.all)
-    (HasPair-Any (map backward_of are.hits) pair (Any-map (IsOfPair pair) backward_of are.hits same))
+turned_back : (A B : List Ref) (s : Source) (d : Option (List ℕ)) (r : Reading) → IsFine r → IsSourceAmong A s → MakesBackward B s d r → MakesForward A s d r × IsDestinationAmong B d
+turned_back A B (name n) (Some m) r fine from makes = (carries_forward A n m r from (backward_carries B n m r fine makes), name_among m B (IsPaired Matches makes.ends m (Some n)) (λ i is. is.name) makes.one)
+turned_back A B (name n) None r fine from makes = absurd makes
+turned_back A B (id bytes) d r fine from makes = absurd from
 
 -- each reading is accepted
 fine_all : (specs : List RefSpecRef) → AllByRecursion GoesBothWays (map reading_of specs) → AllByRecursion IsFine (map reading_of specs)
@@ -254,19 +224,47 @@ fine_all [] all = tt
 fine_all (s ∷ specs) all = ((s.accepted, all.0), fine_all specs all.1)
 
 pub transpose : (specs : List RefSpecRef) (A B : List Ref) → Transpose (map reading_of specs) A B
-transpose specs A B both_ways l m forward backward pair = (
-  (λ (has, to).
-      let of_l = (kept_pairs g forward.all l pair forward.is).0 has in
-      let carried = forward_pairs g A B forward.all pair fine forward.forward of_l.0 to in
-      ((kept_pairs g backward.all m pair backward.is).1 (pairs_backward g B backward.all pair backward.backward carried.0 to, of_l.1), carried.1)),
-  (λ (has, from).
-      let of_m = (kept_pairs g backward.all m pair backward.is).0 has in
-      let carried = backward_pairs g B backward.all pair fine backward.backward of_m.0 in
-      ((kept_pairs g forward.all l pair forward.is).1 (pairs_forward g A forward.all pair forward.forward carried.0 from, of_m.1), carried.1)),
-)
-  where
-    g : List Reading
-    g = map reading_of specs
+transpose specs A B both_ways l m forward backward pair =
+    let g = map reading_of specs in
+    let fine = fine_all specs both_ways in
+    let of_l = (kept_exactly g A).forward l forward pair in
+    let of_m = (kept_exactly g B).backward m backward pair in
+    let Forward = MakesForward A pair.source pair.destination in
+    let Backward = MakesBackward B pair.source pair.destination in (
+      (λ (has, to).
+          let made = of_l.0 has in
+          let both = Any-both Backward (IsSourceAmong A pair.source) g (Any-all IsFine Forward _ (λ r of_r makes. turned A B pair.source pair.destination r of_r to makes) g fine (some_of Forward g made.0)) in
+          (of_m.1 (some_at Backward g both.0, made.1), both.1)),
+      (λ (has, from).
+          let made = of_m.0 has in
+          let both = Any-both Forward (IsDestinationAmong B pair.destination) g (Any-all IsFine Backward _ (λ r of_r makes. turned_back A B pair.source pair.destination r of_r from makes) g fine (some_of Backward g made.0)) in
+          (of_l.1 (some_at Forward g both.0, made.1), both.1)),
+    )
 
-    fine : AllByRecursion IsFine g
-    fine = fine_all specs both_ways
+-- ---- a test
+
+-- if the source has a star, so has the destination
+pub goes_by_star : (r : Reading) (s : List ℕ) → ∥ IsAccepted r ∥₁ → r.source ≡ Some s → HasStar s → IsTrue true ↔ GoesBothWays r
+goes_by_star r s accepted source has = ((λ _ _ x y is_x is_y. inl (has_star x is_x, other x y is_x is_y)), (λ _. refl))
+  where
+    has_star : (x : List ℕ) → r.source ≡ Some x → HasStar x
+    has_star x is_x = subst HasStar (same_side r.source s x source is_x) has
+
+    other : (x y : List ℕ) → r.source ≡ Some x → r.destination ≡ Some y → HasStar y
+    other x y is_x is_y = elim (starred y) [
+      | inr too ↦ too
+      | inl lacks ↦ absurd (accepted_balanced r x y accepted is_x is_y (inl (has_star x is_x, lacks)))
+    ]
+
+-- if it has none, both sides have to begin `refs/`
+pub goes_below_refs : (r : Reading) (s d : List ℕ) (told : Bool) → IsPositive r.mode → r.source ≡ Some s → r.destination ≡ Some d → Lacks star s → IsTrue told ↔ (BeginsWith (codes "refs/") s × BeginsWith (codes "refs/") d) → IsTrue told ↔ GoesBothWays r
+goes_below_refs r s d told positive source destination lacks below = (
+  (λ so _ x y is_x is_y. inr (
+    subst (BeginsWith (codes "refs/")) (same_side r.source s x source is_x) (below.0 so).0,
+    subst (BeginsWith (codes "refs/")) (same_side r.destination d y destination is_y) (below.0 so).1,
+  )),
+  (λ goes. elim (goes positive s d source destination) [
+    | inl stars ↦ absurd (Lacks-ContainsText star s lacks stars.0)
+    | inr both ↦ below.1 both
+  ]),
+)

@@ -3,7 +3,7 @@ use Rattle.gix_refspec.proofs.Common.{◌≡◌, inl, inr, ◌↔◌, ℕ, ◌+�
 use Rattle.gix_refspec.proofs.Common.{Operation, Fetch, RefSpecRef, Mode, Normal, Forced, Negative, Reading, IsPositive, IsAccepted, Reads, Meaning, fetch_only, fetch_exclude}
 use Rattle.gix_refspec.proofs.Common.{fetch_and_update, meaning, meaning_of, key_of_spec, reading_of, Ref, Matches, Takes, MakesOf, IsMadeFrom, IsJoinedFrom, Source, name, id, Mapped}
 use Rattle.gix_refspec.proofs.Common.{IsExcludedBy, IsExcluded, IsSourceExcluded, IsKeptAt, IsKept, Ends, AreForwardEnds, AreBackwardEnds, Hit, IsFilled, AreSpecHits, AreHits, IsIdMapping}
-use Rattle.gix_refspec.proofs.Common.{AreKeptForward, AreKeptBackward, ReadsAgainAs, AreReadAgain, MapAlike, FetchGroupReadsBack, FetchTheSame, EqualGroups, AreFetches, same_Some}
+use Rattle.gix_refspec.proofs.Common.{AreKeptForward, AreKeptBackward, ReadsAgainAs, MapAlike, FetchGroupReadsBack, FetchTheSame, EqualGroups, AreFetches, same_Some}
 use Rattle.gix_refspec_text.proofs.lemmas.lists.EqualLemmas.{same_keys}
 use Rattle.gix_refspec_text.proofs.lemmas.specs.SpecLemmas.{equal_keys, keeps_operation, printed_back, says, says_for_operation}
 
@@ -29,15 +29,10 @@ zip_back [] (q ∷ h) alike = absurd alike
 zip_back (r ∷ g) [] alike = absurd alike
 zip_back (r ∷ g) (q ∷ h) alike = (alike_back r q alike.0, zip_back g h alike.1)
 
-positive_sign : (mode : Mode) → IsPositive mode → is_negative mode ≡ false
-positive_sign Normal positive = refl
-positive_sign Forced positive = refl
-positive_sign Negative positive = absurd positive
-
-sign_positive : (mode : Mode) → is_negative mode ≡ false → IsPositive mode
-sign_positive Normal sign = tt
-sign_positive Forced sign = tt
-sign_positive Negative sign = absurd (false≢true (sym sign))
+positive_sign : (mode : Mode) → IsPositive mode ↔ (is_negative mode ≡ false)
+positive_sign Normal = ((λ positive. refl), λ sign. tt)
+positive_sign Forced = ((λ positive. refl), λ sign. tt)
+positive_sign Negative = ((λ positive. absurd positive), λ sign. false≢true (sym sign))
 
 sign_negative : (mode : Mode) → is_negative mode ≡ true → mode ≡ Negative
 sign_negative Normal sign = absurd (false≢true sign)
@@ -45,7 +40,7 @@ sign_negative Forced sign = absurd (false≢true sign)
 sign_negative Negative sign = refl
 
 alike_positive : (r q : Reading) → AreAlike r q → IsPositive r.mode → IsPositive q.mode
-alike_positive r q alike positive = sign_positive q.mode (sym alike.negative ∙ positive_sign r.mode positive)
+alike_positive r q alike positive = (positive_sign q.mode).1 (sym alike.negative ∙ (positive_sign r.mode).0 positive)
 
 alike_negative : (r q : Reading) → AreAlike r q → r.mode ≡ Negative → q.mode ≡ Negative
 alike_negative r q alike negative = sign_negative q.mode (sym alike.negative ∙ ap is_negative negative)
@@ -110,11 +105,12 @@ again_alike r q accepted again =
     let reads : Reads r.operation back.text q = subst (λ (t : List ℕ). Reads r.operation t q) text (subst (λ (op : Operation). Reads op again.text q) (sym again.fetch) again.reads) in
     said_alike r q said.0 again.fetch (keeps_operation Fetch again.text q again.reads) said.1 (ap meaning_of (back.again.only q reads) ∙ back.same)
 
-specs_alike : (specs : List RefSpecRef) (h : List Reading) → AreReadAgain (map reading_of specs) h → AllZip AreAlike (map reading_of specs) h
-specs_alike [] [] again = tt
-specs_alike [] (q ∷ h) again = absurd again
-specs_alike (s ∷ specs) [] again = absurd again
-specs_alike (s ∷ specs) (q ∷ h) again = (again_alike (reading_of s) q s.accepted again.0, specs_alike specs h again.1)
+-- what follows of each pair of elements follows of both lists
+zip_mapped : {A B C : Type 0} (f : A → C) (P Q : C → B → Type 0) → ((a : A) (b : B) → P (f a) b → Q (f a) b) → (xs : List A) (ys : List B) → AllZip P (map f xs) ys → AllZip Q (map f xs) ys
+zip_mapped f P Q of [] [] all = tt
+zip_mapped f P Q of [] (b ∷ ys) all = absurd all
+zip_mapped f P Q of (a ∷ xs) [] all = absurd all
+zip_mapped f P Q of (a ∷ xs) (b ∷ ys) all = (of a b all.0, zip_mapped f P Q of xs ys all.1)
 
 -- ---- lists that are made alike
 
@@ -122,7 +118,7 @@ makes_alike : {X Z Y : Type 0} (R : ℕ → X → Y → Type 0) (S : ℕ → Z �
 makes_alike R S k x z None both none = λ y makes. none y ((both y).1 makes)
 makes_alike R S k x z (Some y) both makes = (both y).0 makes
 
-made_zip : {X Z Y : Type 0} (T : X → Z → Type 0) (R : ℕ → X → Y → Type 0) (S : ℕ → Z → Y → Type 0) → ((k : ℕ) (x : X) (z : Z) (y : Y) → T x z → R k x y ↔ S k z y) → (k : ℕ) (xs : List X) (zs : List Z) (ys : List Y) → AllZip T xs zs → IsMadeFrom R k xs ys → IsMadeFrom S k zs ys
+pub made_zip : {X Z Y : Type 0} (T : X → Z → Type 0) (R : ℕ → X → Y → Type 0) (S : ℕ → Z → Y → Type 0) → ((k : ℕ) (x : X) (z : Z) (y : Y) → T x z → R k x y ↔ S k z y) → (k : ℕ) (xs : List X) (zs : List Z) (ys : List Y) → AllZip T xs zs → IsMadeFrom R k xs ys → IsMadeFrom S k zs ys
 made_zip T R S both k [] [] ys alike made = made
 made_zip T R S both k [] (z ∷ zs) ys alike made = absurd alike
 made_zip T R S both k (x ∷ xs) [] ys alike made = absurd alike
@@ -240,23 +236,17 @@ map_alike g h items alike = record {
 
 -- a group of specs and the group read from its canonical texts map alike
 pub reads_back : (specs : List RefSpecRef) (h : List Reading) (items : List Ref) → FetchGroupReadsBack (map reading_of specs) h items
-reads_back specs h items again = map_alike (map reading_of specs) h items (specs_alike specs h again)
+reads_back specs h items again = map_alike (map reading_of specs) h items (zip_mapped reading_of ReadsAgainAs AreAlike (λ s q of_s. again_alike (reading_of s) q s.accepted of_s) specs h again)
 
 -- specs with the same meaning are alike
-equal_alike : (s t : RefSpecRef) → FetchTheSame (reading_of s) (reading_of t) → AreAlike (reading_of s) (reading_of t)
-equal_alike s t equal =
+equal_alike : (s : RefSpecRef) (q : Reading) → FetchTheSame (reading_of s) q → AreAlike (reading_of s) q
+equal_alike s q equal =
     let said = says (reading_of s) s.accepted in
-    let fetch = sym (says_for_operation (reading_of t) said.0 (sym equal.same ∙ said.1)) ∙ (says_for_operation (reading_of s) said.0 said.1 ∙ equal.fetch) in
-    said_alike (reading_of s) (reading_of t) said.0 equal.fetch fetch said.1 (sym equal.same)
-
-all_equal_alike : (specs other : List RefSpecRef) → AllZip FetchTheSame (map reading_of specs) (map reading_of other) → AllZip AreAlike (map reading_of specs) (map reading_of other)
-all_equal_alike [] [] equal = tt
-all_equal_alike [] (t ∷ other) equal = absurd equal
-all_equal_alike (s ∷ specs) [] equal = absurd equal
-all_equal_alike (s ∷ specs) (t ∷ other) equal = (equal_alike s t equal.0, all_equal_alike specs other equal.1)
+    let fetch = sym (says_for_operation q said.0 (sym equal.same ∙ said.1)) ∙ (says_for_operation (reading_of s) said.0 said.1 ∙ equal.fetch) in
+    said_alike (reading_of s) q said.0 equal.fetch fetch said.1 (sym equal.same)
 
 pub equal_groups : (specs other : List RefSpecRef) (items : List Ref) → EqualGroups (map reading_of specs) (map reading_of other) items
-equal_groups specs other items equal = map_alike (map reading_of specs) (map reading_of other) items (all_equal_alike specs other equal)
+equal_groups specs other items equal = map_alike (map reading_of specs) (map reading_of other) items (zip_mapped reading_of FetchTheSame AreAlike equal_alike specs (map reading_of other) equal)
 
 -- lists of specs that are equal by `==`
 equal_fetches : (specs other : List RefSpecRef) → AreFetches (map reading_of specs) → map (λ (s : RefSpecRef). meaning_of (reading_of s)) specs ≡ map (λ (s : RefSpecRef). meaning_of (reading_of s)) other → AllZip FetchTheSame (map reading_of specs) (map reading_of other)

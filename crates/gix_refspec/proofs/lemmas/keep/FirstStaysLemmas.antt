@@ -1,40 +1,29 @@
 -- Of the mappings with one pair only the first is kept.
-use Rattle.gix_refspec.proofs.Common.{◌≡◌, inl, inr, ◌↔◌, ℕ, zero, suc, ◌+◌, List, [], ◌∷◌, ◌++◌, None, Some, option_to_list, length, length-append, take, refl, sym, ap, ◌∙◌, subst, arith}
-use Rattle.gix_refspec.proofs.Common.{Contains, append_assoc, Reading, Ref, IsMadeFrom, Mapped, HasPair, IsKept, IsSourceExcluded, IsKeptAt, IsFirstOfPair, FirstStays}
+use Rattle.gix_refspec.proofs.Common.{◌≡◌, inl, ◌↔◌, ℕ, ◌+◌, List, [], ◌∷◌, ◌++◌, None, Some, option_to_list, length, take, refl, sym, ap, ◌∙◌, subst, arith, Contains, Reading, Ref}
+use Rattle.gix_refspec.proofs.Common.{IsMadeFrom, Mapped, HasPair, IsKept, IsKeptAt, IsFirstOfPair, FirstStays, drop, slice_get, slice_get_within, get_or_from_slice_get, take-append-drop}
+use Rattle.gix_refspec.proofs.Common.{drop_more, All-from_recursion}
 use Rattle.std.proofs.Math.Seq.{take-append_seam}
 use Rattle.gix_refspec_match.proofs.lemmas.hits.HitLemmas.{forward_once, backward_once}
 use Rattle.gix_refspec_match.proofs.lemmas.keep.KeptPairLemmas.{Keeps}
-use Rattle.gix_refspec_match.proofs.lemmas.lists.SomeLemmas.{Any, Any-right}
+use Rattle.gix_refspec_match.proofs.lemmas.lists.SomeLemmas.{Any, Any-right, some_at, some_of}
+use Rattle.gix_refspec.proofs.lemmas.MadeLemmas.{each_made}
 
 -- an element of a list, by index and by recursion
-pub there : (ys : List Mapped) (m : Mapped) → Contains ys m → Any (λ y. y ≡ m) ys
-there [] m (i, below, is) = absurd (omega (arith, below))
-there (y ∷ ys) m (zero, below, is) = inl is
-there (y ∷ ys) m (suc i, below, is) = inr (there ys m (i, omega (arith, below), is))
+pub there : {X : Type 0} (ys : List X) (m : X) → Contains ys m → Any (λ y. y ≡ m) ys
+there ys m (i, below, is) = some_of (λ y. y ≡ m) ys (i, m, below, is, refl)
 
-pub back : (ys : List Mapped) (m : Mapped) → Any (λ y. y ≡ m) ys → Contains ys m
-back [] m any = absurd any
-back (y ∷ ys) m (inl here) = (0, omega arith, here)
-back (y ∷ ys) m (inr later) = let at = back ys m later in (suc at.0, omega (arith, at.1), at.2)
+pub back : {X : Type 0} (ys : List X) (m : X) → Any (λ y. y ≡ m) ys → Contains ys m
+back ys m any = let (i, y, below, is, same) = some_at (λ y. y ≡ m) ys any in subst (Contains ys) same (i, below, is)
 
 -- a kept mapping is the first of its pair
-kept_first : (g : List Reading) (l before xs ys : List Mapped) (k : ℕ) (m : Mapped) → before ++ xs ≡ l → length before ≡ k → IsMadeFrom (Keeps g l) k xs ys → Any (λ y. y ≡ m) ys → IsFirstOfPair g l m
-kept_first g l before [] ys k m whole index empty any = absurd (subst (Any (λ y. y ≡ m)) empty any)
-kept_first g l before (x ∷ xs) ys k m whole index (None, rest, none, more, is) any =
-    kept_first g l (before ++ x ∷ []) xs rest (k + 1) m (append_assoc before (x ∷ []) xs ∙ whole) (omega (arith, length-append before (x ∷ []), index)) more (subst (Any (λ y. y ≡ m)) is any)
-kept_first g l before (x ∷ xs) ys k m whole index (Some y, rest, keeps, more, is) any = elim (subst (Any (λ z. z ≡ m)) is any) [
-  | inl here ↦
-      let same : x ≡ m = sym keeps.0 ∙ here in
-      let front : take k l ≡ before = ap (λ (z : List Mapped). take k z) (sym whole) ∙ ap (λ (n : ℕ). take n (before ++ (x ∷ xs))) (sym index) ∙ take-append_seam before (x ∷ xs) in
-      record {
-        before = before;
-        after = xs;
-        here = sym whole ∙ ap (λ (z : Mapped). before ++ (z ∷ xs)) same;
-        first = subst (λ (z : Mapped). ¬ (HasPair before z)) same (subst (λ (z : List Mapped). ¬ (HasPair z x)) front keeps.1.first);
-        included = subst (λ (z : Mapped). ¬ (IsSourceExcluded g z.source)) same keeps.1.included;
-      }
-  | inr later ↦ kept_first g l (before ++ x ∷ []) xs rest (k + 1) m (append_assoc before (x ∷ []) xs ∙ whole) (omega (arith, length-append before (x ∷ []), index)) more later
-]
+kept_first : (g : List Reading) (l : List Mapped) (k : ℕ) (x y : Mapped) → slice_get l k ≡ Some x → Keeps g l k x y → IsFirstOfPair g l y
+kept_first g l k x y stands (same, keeps) = subst (IsFirstOfPair g l) (sym same) (record {
+  before = take k l;
+  after = drop (k + 1) l;
+  here = sym (take-append-drop k l) ∙ ap (λ (z : List Mapped). take k l ++ z) (drop_more l k x (slice_get_within l k x stands) ∙ ap (λ (z : Mapped). z ∷ drop (k + 1) l) (get_or_from_slice_get l k x x stands));
+  first = keeps.first;
+  included = keeps.included;
+})
 
 -- and a mapping that is kept at its index is in the list of kept mappings
 kept_at : (g : List Reading) (l : List Mapped) (k : ℕ) (before : List Mapped) (x : Mapped) (after ys : List Mapped) → IsMadeFrom (Keeps g l) k (before ++ (x ∷ after)) ys → IsKeptAt g l (k + length before) x → Any (λ y. y ≡ x) ys
@@ -51,7 +40,7 @@ first_kept g l kept m is first =
 
 of_list : (g : List Reading) (l all kept : List Mapped) (m : Mapped) → l ≡ all → IsKept g l kept → Contains kept m ↔ IsFirstOfPair g all m
 of_list g l all kept m same is = subst (λ (z : List Mapped). Contains kept m ↔ IsFirstOfPair g z m) same (
-  (λ has. kept_first g l [] l kept 0 m refl refl is (there kept m has)),
+  (λ (i, below, at). subst (IsFirstOfPair g l) at (All-from_recursion (IsFirstOfPair g l) kept (each_made (Keeps g l) (IsFirstOfPair g l) l kept (kept_first g l) is) i m below)),
   (λ first. back kept m (first_kept g l kept m is first)),
 )
 

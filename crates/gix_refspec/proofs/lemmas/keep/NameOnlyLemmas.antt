@@ -1,8 +1,9 @@
 -- Refs with the same names have the same mappings from left to right, as no source that takes refs depends on their
 -- ids; and from right to left if no destination is an id.
 use Rattle.gix_refspec.proofs.Common.{◌≡◌, ℕ, ◌+◌, inl, inr, List, [], ◌∷◌, Option, None, Some, map, refl, sym, ap, ◌∙◌, subst, length, arith, Reading, SideKind, pattern, full_name, object}
-use Rattle.gix_refspec.proofs.Common.{partial, HasKind, Fits, IsCandidate, Ref, Matches, MatchesAs, HasName, IsFirstCandidate, Takes, MakesOf, IsMadeFrom, IsJoinedFrom, Ends}
-use Rattle.gix_refspec.proofs.Common.{AreBackwardEnds, AreForwardEnds, Hit, IsHit, AreSpecHits, AsksForNoId, HasIdDestination, HaveSameNames, NamesDecide, NamesDecideBack}
+use Rattle.gix_refspec.proofs.Common.{partial, HasKind, Fits, IsCandidate, Ref, Matches, MatchesAs, HasName, IsFirstCandidate, Takes, IsJoinedFrom, Ends, AreBackwardEnds, AreForwardEnds}
+use Rattle.gix_refspec.proofs.Common.{Hit, IsHit, AreSpecHits, AsksForNoId, HasIdDestination, HaveSameNames, NamesDecide, NamesDecideBack, AllZip}
+use Rattle.gix_refspec.proofs.lemmas.keep.AlikeLemmas.{made_zip}
 use Rattle.gix_refspec_text.proofs.lemmas.lists.AllLemmas.{all_weaker}
 
 no_name : (r : Ref) (refs : List Ref) → HaveSameNames [] (r ∷ refs) → ⊥
@@ -62,27 +63,22 @@ hit_also T U ends k j a b hit also named is = record {
   item = is.item;
 }
 
--- both refs make the same hit
-makes_also : (R S : ℕ → Ref → Hit → Type 0) (j : ℕ) (a b : Ref) (made : Option Hit) → ((hit : Hit) → R j a hit → S j b hit) → ((hit : Hit) → S j b hit → R j a hit) → MakesOf R j a made → MakesOf S j b made
-makes_also R S j a b None to back none = λ hit is. none hit (back hit is)
-makes_also R S j a b (Some hit) to back is = to hit is
-
-made_also : (R S : ℕ → Ref → Hit → Type 0) (j : ℕ) (A B : List Ref) (hits : List Hit) → ((i : ℕ) (a b : Ref) (hit : Hit) → a.name ≡ b.name → R i a hit → S i b hit) → ((i : ℕ) (a b : Ref) (hit : Hit) → a.name ≡ b.name → S i b hit → R i a hit) → HaveSameNames A B → IsMadeFrom R j A hits → IsMadeFrom S j B hits
-made_also R S j [] [] hits to back same made = made
-made_also R S j [] (b ∷ B) hits to back same made = absurd (no_name b B same)
-made_also R S j (a ∷ A) [] hits to back same made = absurd (no_name a A (sym same))
-made_also R S j (a ∷ A) (b ∷ B) hits to back same (made, rest, of, more, is) =
-    let first = first_name a b A B same in
-    (made, rest, makes_also R S j a b made (λ hit. to j a b hit first.0) (λ hit. back j a b hit first.0) of, made_also R S (j + 1) A B rest to back first.1 more, is)
+named_zip : (A B : List Ref) → HaveSameNames A B → AllZip (λ a b. a.name ≡ b.name) A B
+named_zip [] [] same = tt
+named_zip [] (b ∷ B) same = absurd (no_name b B same)
+named_zip (a ∷ A) [] same = absurd (no_name a A (sym same))
+named_zip (a ∷ A) (b ∷ B) same = let first = first_name a b A B same in (first.0, named_zip A B first.1)
 
 -- a spec takes the same refs
 spec_also : (A B : List Ref) (k : ℕ) (r : Reading) (hits : List Hit) → HaveSameNames A B → AreSpecHits AreForwardEnds (Takes A) A k r hits → AreSpecHits AreForwardEnds (Takes B) B k r hits
 spec_also A B k r hits same (inl (ends, has, made)) = inl (
   ends,
   has,
-  made_also (IsHit (Takes A) ends k) (IsHit (Takes B) ends k) 0 A B hits
-      (λ j a b hit named. hit_also (Takes A) (Takes B) ends k j a b hit (λ word. takes_also A B ends a b word same named has.no_object) named)
-      (λ j a b hit named. hit_also (Takes B) (Takes A) ends k j b a hit (λ word. takes_also B A ends b a word (sym same) (sym named) has.no_object) (sym named)) same made,
+  made_zip (λ a b. a.name ≡ b.name) (IsHit (Takes A) ends k) (IsHit (Takes B) ends k)
+      (λ j a b hit named. (
+        hit_also (Takes A) (Takes B) ends k j a b hit (λ word. takes_also A B ends a b word same named has.no_object) named,
+        hit_also (Takes B) (Takes A) ends k j b a hit (λ word. takes_also B A ends b a word (sym same) (sym named) has.no_object) (sym named),
+      )) 0 A B hits (named_zip A B same) made,
 )
 spec_also A B k r hits same (inr none) = inr none
 
@@ -98,9 +94,11 @@ spec_back : (A B : List Ref) (k : ℕ) (r : Reading) (hits : List Hit) → ¬ (H
 spec_back A B k r hits none same (inl (ends, has, made)) = inl (
   ends,
   has,
-  made_also (IsHit Matches ends k) (IsHit Matches ends k) 0 A B hits
-      (λ j a b hit named. hit_also Matches Matches ends k j a b hit (λ word. matches_by_name ends a b word named (no_object r ends none has)) named)
-      (λ j a b hit named. hit_also Matches Matches ends k j b a hit (λ word. matches_by_name ends b a word (sym named) (no_object r ends none has)) (sym named)) same made,
+  made_zip (λ a b. a.name ≡ b.name) (IsHit Matches ends k) (IsHit Matches ends k)
+      (λ j a b hit named. (
+        hit_also Matches Matches ends k j a b hit (λ word. matches_by_name ends a b word named (no_object r ends none has)) named,
+        hit_also Matches Matches ends k j b a hit (λ word. matches_by_name ends b a word (sym named) (no_object r ends none has)) (sym named),
+      )) 0 A B hits (named_zip A B same) made,
 )
 spec_back A B k r hits none same (inr no_ends) = inr no_ends
 

@@ -1,16 +1,18 @@
--- Ref prefixes, for which a server lists each ref that a group of fetches maps.
+-- Ref prefixes, for which a server lists each ref that a group of fetches maps: over the items that it lists, the same
+-- pairs are kept.
 use Rattle.gix_refspec.proofs.Common.{◌≡◌, inl, inr, ℕ, suc, ◌+◌, ◌<◌, List, [], ◌∷◌, ◌++◌, Option, None, Some, MatchOption, Vec, Global, length, map, take, drop, get_or, refl, sym, ap, ◌∙◌}
-use Rattle.gix_refspec.proofs.Common.{subst, arith, BString, bstring_bytes, AllByRecursion, append-nil, get_or-map, length-map, map-append, map_more, recursion_from_All, Operation, Fetch}
-use Rattle.gix_refspec.proofs.Common.{RefSpecRef, reading_of, BeginsWith, IsSplit, IsPositive, Reading, side_on_remote, SideKind, pattern, full_name, object, partial, HasKind, Ref, Matches}
-use Rattle.gix_refspec.proofs.Common.{MatchesAs, Takes, IsRefPrefix, IsAsked, IsJoinedFrom, Source, name, AreForwardEnds, MakesForward, PairsItem, HasNoList, Lists, ListsAs, ListsGroup}
-use Rattle.gix_refspec.proofs.Common.{ListsSide, Serves}
+use Rattle.gix_refspec.proofs.Common.{subst, arith, BString, bstring_bytes, append-nil, get_or-map, length-map, map-append, map_more, recursion_from_All, Fetch, RefSpecRef, reading_of}
+use Rattle.gix_refspec.proofs.Common.{BeginsWith, IsSplit, IsPositive, Reading, SideKind, pattern, full_name, object, partial, HasKind, Ref, Matches, MatchesAs, Takes, IsRefPrefix, IsAsked}
+use Rattle.gix_refspec.proofs.Common.{Source, name, AreForwardEnds, MakesForward, PairsItem, HasNoList, Lists, ListsAs, ListsGroup, ListsSide, Serves, AreFetches, AskedItems, TakesItem}
 use Rattle.std.specs.List as lists
 use Rattle.gix_refspec_match.proofs.lemmas.hits.HitLemmas.{one_kind}
 use Rattle.gix_refspec_match.proofs.lemmas.lists.JoinLemmas.{joined_next, map_split, map_long, nothing_joined}
 use Rattle.gix_refspec_match.proofs.lemmas.keep.KeptLemmas.{HasPair-from_place}
 use Rattle.gix_refspec.proofs.lemmas.keep.PairMadeLemmas.{kept_exactly}
 use Rattle.gix_refspec_text.proofs.lemmas.prefixes.PrefixLemmas.{one_asked}
-use Rattle.gix_refspec_match.proofs.lemmas.lists.SomeLemmas.{Any, Any-left, Any-right, some_at, some_of}
+use Rattle.gix_refspec_match.proofs.lemmas.lists.SomeLemmas.{Any, Any-all, Any-right, any_joined, some_at, some_of}
+use Rattle.gix_refspec.proofs.lemmas.prefixes.CoverLemmas.{source_asked}
+use Rattle.gix_refspec.proofs.lemmas.keep.ItemLemmas.{fewer_items}
 
 -- ---- sides without a list, and lists that aren't empty
 
@@ -37,19 +39,24 @@ kind_serves x (partial n) list r word of no_object matches lists = subst (Begins
 pub side_serves : (x : List ℕ) (list : List (List ℕ)) (r : Ref) (word : Option (List ℕ)) → ((bytes : List ℕ) → ¬ (HasKind x (object bytes))) → Matches x r word → ListsSide x list → BeginsWithSome r.name list
 side_serves x list r word no_object matches lists = kind_serves x matches.kind list r word matches.of no_object matches.is (list_as x matches.kind list matches.of lists)
 
--- so does the name of an item that a fetch pairs
-reading_serves : (r : Reading) (items : List Ref) (n : List ℕ) (far : Option (List ℕ)) (list : List (List ℕ)) → r.operation ≡ Fetch → PairsItem AreForwardEnds (Takes items) items n far r → Lists r list → BeginsWithSome n list
-reading_serves r items n far list fetch pairs (inl (negative, empty)) = absurd (subst IsPositive negative pairs.has.positive)
-reading_serves r items n far list fetch pairs (inr (x, asked, lists)) =
-    let near : IsAsked r pairs.ends.near = record { positive = pairs.has.positive; side = ap (λ (op : Operation). side_on_remote op r.source r.destination) fetch ∙ pairs.has.near } in
-    let (index, item, below, at, one) = pairs.one in
-    subst (λ (m : List ℕ). BeginsWithSome m list) one.name
-    (side_serves pairs.ends.near list item one.word pairs.has.no_object one.takes.matches (subst (λ (y : List ℕ). ListsSide y list) (one_asked r x pairs.ends.near asked near) lists))
+-- so does the name of an item that a fetch takes
+reading_asks : (r : Reading) (A : List Ref) (item : Ref) (list : List (List ℕ)) → r.operation ≡ Fetch → TakesItem AreForwardEnds (Takes A) item r → Lists r list → BeginsWithSome item.name list
+reading_asks r A item list fetch takes (inl (negative, empty)) = absurd (subst IsPositive negative takes.has.positive)
+reading_asks r A item list fetch takes (inr (x, asked, told)) =
+    let near = source_asked r takes.ends fetch takes.has in
+    side_serves takes.ends.near list item takes.word takes.has.no_object takes.takes.matches (subst (λ (y : List ℕ). ListsSide y list) (one_asked r x takes.ends.near asked near) told)
 
-group_serves : (g : List Reading) (items : List Ref) (n : List ℕ) (far : Option (List ℕ)) (k : ℕ) (list : List (List ℕ)) → AllByRecursion (λ r. r.operation ≡ Fetch) g → Any (PairsItem AreForwardEnds (Takes items) items n far) g → IsJoinedFrom (λ i r names. Lists r names) k g list → BeginsWithSome n list
-group_serves [] items n far k list fetches any joined = absurd any
-group_serves (r ∷ g) items n far k list fetches (inl pairs) (first, rest, lists, more, is) = subst (BeginsWithSome n) (sym is) (Any-left (λ p. BeginsWith p n) first rest (reading_serves r items n far first fetches.0 pairs lists))
-group_serves (r ∷ g) items n far k list fetches (inr later) (first, rest, lists, more, is) = subst (BeginsWithSome n) (sym is) (Any-right (λ p. BeginsWith p n) first rest (group_serves g items n far (k + 1) rest fetches.1 later more))
+-- and of one that it pairs
+reading_serves : (r : Reading) (items : List Ref) (n : List ℕ) (far : Option (List ℕ)) (list : List (List ℕ)) → r.operation ≡ Fetch → PairsItem AreForwardEnds (Takes items) items n far r → Lists r list → BeginsWithSome n list
+reading_serves r items n far list fetch pairs lists =
+    let (index, item, below, at, one) = pairs.one in
+    subst (λ (m : List ℕ). BeginsWithSome m list) one.name (reading_asks r items item list fetch (record { ends = pairs.ends; has = pairs.has; word = one.word; takes = one.takes }) lists)
+
+-- if the name begins with an entry of the list of each fetch of which P holds, and P holds of one, it begins with an
+-- entry of the list of the group
+group_begins : (P : Reading → Type 0) (n : List ℕ) → ((r : Reading) (list : List (List ℕ)) → r.operation ≡ Fetch → P r → Lists r list → BeginsWithSome n list) → (g : List Reading) (list : List (List ℕ)) → AreFetches g → lists.Any P g → ListsGroup g list → lists.Any (λ p. BeginsWith p n) list
+group_begins P n begins g list fetches any joined =
+    some_at (λ p. BeginsWith p n) list (any_joined (λ k r names. Lists r names) (λ p. BeginsWith p n) 0 g list joined (Any-all _ P _ (λ r fetch holds k names told. begins r names fetch holds told) g fetches (some_of P g any)))
 
 pub serves : (g : List Reading) (list : List (List ℕ)) → ListsGroup g list → Serves list g
 serves g list joined fetches items kept are =
@@ -57,7 +64,11 @@ serves g list joined fetches items kept are =
     let m = get_or kept k d in
     let made = (((kept_exactly g items).forward kept are m).0 (HasPair-from_place kept k d m below (record { source = refl; destination = refl }))).0 in
     let pairs : lists.Any (MakesForward items (name n) m.destination) g = subst (λ (s : Source). lists.Any (MakesForward items s m.destination) g) is made in
-    some_at (λ p. BeginsWith p n) list (group_serves g items n m.destination 0 list fetches (some_of (MakesForward items (name n) m.destination) g pairs) joined))
+    group_begins (MakesForward items (name n) m.destination) n (λ r names fetch makes told. reading_serves r items n m.destination names fetch makes told) g list fetches pairs joined)
+
+pub asked_items : (g : List Reading) (A B : List Ref) → AskedItems g A B
+asked_items g A B list told fetches are kept fewer of_all of_part =
+    (fewer_items g A B).forward are.part (λ item there any. are.asked item there (group_begins (TakesItem AreForwardEnds (Takes A) item) item.name (λ r names fetch takes told. reading_asks r A item names fetch takes told) g list fetches any told)) kept fewer of_all of_part
 
 -- ---- the lists that the code makes
 

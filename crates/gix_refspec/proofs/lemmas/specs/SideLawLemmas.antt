@@ -1,28 +1,21 @@
 -- Both sides of an accepted reading have a star or neither has, and kind, word and id are unique.
-use Rattle.gix_refspec.proofs.Common.{◌⊎◌, inl, inr, ℕ, List, Lacks, star, HasStar, HasSeveralStars, HasOneStar, Reading, IsAccepted, IsOneStarred}
+use Rattle.gix_refspec.proofs.Common.{◌⊎◌, inl, inr, ℕ, List, Lacks, star, HasStar, HasSeveralStars, HasOneStar, Reading, IsAccepted}
 use Rattle.gix_refspec_text.specs.Laws.Sides.{SidesAgree, OneOfEach}
 use Rattle.gix_refspec_text.proofs.lemmas.specs.AcceptedLemmas.{accepted_few, accepted_balanced}
 use Rattle.gix_refspec_match.proofs.lemmas.hits.HitLemmas.{one_kind}
 use Rattle.gix_refspec_text.proofs.lemmas.hits.MatchLemmas.{one_word}
 use Rattle.gix_refspec_text.proofs.lemmas.texts.ObjectIdLemmas.{IsIdText-unique}
-use Rattle.gix_refspec.proofs.lemmas.hits.TransposeLemmas.{one_star, starred}
+use Rattle.gix_refspec.proofs.lemmas.hits.TransposeLemmas.{both_or_neither, one_star, starred}
 
 -- a text without several stars has one or none
 one_or_none : (x : List ℕ) → ¬ (HasSeveralStars x) → Lacks star x ⊎ HasStar x → HasOneStar x ⊎ Lacks star x
 one_or_none x few (inl lacks) = inr lacks
 one_or_none x few (inr has) = inl (one_star x has few)
 
--- and of two texts of which not exactly one has a star, both have one or neither has
-both_or_neither : (s d : List ℕ) → ¬ (HasSeveralStars s) → ¬ (HasSeveralStars d) → ¬ (IsOneStarred s d) → Lacks star s ⊎ HasStar s → Lacks star d ⊎ HasStar d → (HasOneStar s × HasOneStar d) ⊎ (Lacks star s × Lacks star d)
-both_or_neither s d few_s few_d balanced (inl no_s) (inl no_d) = inr (no_s, no_d)
-both_or_neither s d few_s few_d balanced (inl no_s) (inr of_d) = absurd (balanced (inr (no_s, of_d)))
-both_or_neither s d few_s few_d balanced (inr of_s) (inl no_d) = absurd (balanced (inl (of_s, no_d)))
-both_or_neither s d few_s few_d balanced (inr of_s) (inr of_d) = inl (one_star s of_s few_s, one_star d of_d few_d)
-
 pub sides_agree : (r : Reading) → ∥ IsAccepted r ∥₁ → SidesAgree r
 sides_agree r accepted = record {
   each = λ x side. one_or_none x (accepted_few r x accepted side) (starred x);
-  both = λ s d source destination. both_or_neither s d (accepted_few r s accepted (inl source)) (accepted_few r d accepted (inr destination)) (accepted_balanced r s d accepted source destination) (starred s) (starred d);
+  both = λ s d source destination. both_or_neither s d (accepted_few r s accepted (inl source)) (accepted_few r d accepted (inr destination)) (accepted_balanced r s d accepted source destination);
 }
 
 pub one_of_each : OneOfEach

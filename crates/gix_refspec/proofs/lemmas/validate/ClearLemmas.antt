@@ -1,14 +1,106 @@
--- Mappings contain no control character, if no name of an item does.
-use Rattle.gix_refspec.proofs.Common.{◌≡◌, ◌≢◌, inl, inr, ℕ, ◌+◌, ◌<◌, ◌==◌, ◌&&◌, ◌||◌, Bool, true, false, IsTrue, nat_le, if◌then◌else◌, List, [], ◌∷◌, ◌++◌, Option, None, Some, codes}
-use Rattle.gix_refspec.proofs.Common.{get_or, map, sym, ap, ◌∙◌, subst, nat_eq, arith, AllByRecursion, list_any, starts_with, eqb-true, false≢true, lt-leb, lt-ltb, Lacks, star}
-use Rattle.gix_refspec.proofs.Common.{is_refused_byte, IsIdText, is_lower_digit, lower_of, Reading, SideKind, pattern, full_name, object, partial, HasKind, filled, Ref, MatchesAs, Takes}
-use Rattle.gix_refspec.proofs.Common.{IsMadeFrom, IsJoinedFrom, Mapped, IsKeptAt, Ends, AreForwardEnds, AreSpecHits, IsFilled, Hit, IsHit, IsIdMapping, AreKeptForward, forward_of, LacksIn}
-use Rattle.gix_refspec.proofs.Common.{MappedLacks, NoControlCharacter, SidesLack, SourceLacks}
-use Rattle.gix_refspec_text.proofs.lemmas.texts.TextLemmas.{Lacks-from_indexes}
+-- Canonical texts of fetches contain no control character, nor do mappings, if no name of an item does.
+use Rattle.gix_refspec.proofs.Common.{at, fetches_nothing_named, fetches_colon, fetches, updates, updates_from_head, fetch_excludes, pushes_plus, pushes_colon, pushes, deletes}
+use Rattle.gix_refspec.proofs.Common.{pushes_pattern, pushes_to, push_excludes, ◌≡◌, ◌≢◌, inl, inr, ℕ, ◌<◌, ◌==◌, ◌&&◌, ◌||◌, Bool, true, false, IsTrue, nat_le, if◌then◌else◌, List, [], ◌∷◌}
+use Rattle.gix_refspec.proofs.Common.{◌++◌, Option, None, Some, codes, get_or, map, sym, ap, ◌∙◌, subst, nat_eq, arith, AllByRecursion, list_any, starts_with, eqb-true, false≢true, lt-leb}
+use Rattle.gix_refspec.proofs.Common.{lt-ltb, Lacks, star, is_refused_byte, IsIdText, is_lower_digit, lower_of, Reading, SideKind, pattern, full_name, object, partial, HasKind, filled, Ref}
+use Rattle.gix_refspec.proofs.Common.{MatchesAs, Takes, Mapped, IsKeptAt, AreForwardEnds, AreSpecHits, IsFilled, Hit, IsHit, IsIdMapping, AreKeptForward, forward_of, LacksIn, MappedLacks}
+use Rattle.gix_refspec.proofs.Common.{NoControlCharacter, SidesLack, SourceLacks, same_Some, head, colon, letter, Mode, fetched, Reads, IsNameOrPattern, AreAlike, named_by, Push, Fetch}
+use Rattle.gix_refspec.proofs.Common.{printed, sign, begins_with_plus, IsPattern, IsName, InvalidByte, Normal, Forced, Negative, name}
+use Rattle.gix_refspec_text.proofs.lemmas.texts.TextLemmas.{Lacks-from_absent, Lacks-from_indexes}
 use Rattle.gix_refspec_text.proofs.lemmas.texts.ObjectIdLemmas.{lower_of-digits}
-use Rattle.gix_refspec.proofs.lemmas.validate.AfterLemmas.{stays_each}
-use Rattle.gix_refspec.proofs.lemmas.validate.PlacedOnceLemmas.{printed_lacks, sides_lack}
+use Rattle.gix_refspec.proofs.lemmas.MadeLemmas.{all_at, each_joined, made_all, map_each, stays_each}
+use Rattle.gix_refspec_text.proofs.lemmas.texts.HeadLemmas.{IsName-head}
 use Rattle.gix_refspec_text.proofs.lemmas.lists.AllLemmas.{all_left, all_right, all_join}
+
+-- ---- canonical texts
+
+-- a fetch, whose sides contain no byte b
+record IsClearFetch (b : ℕ) (r : Reading) : Type 0 where
+  mode : Mode
+  source : List ℕ
+  destination : Option (List ℕ)
+  first : Lacks b source
+  last : LacksIn b destination
+  is : r ≡ fetched mode source destination
+
+module _ (b : ℕ) (below : b < 32) (refused : IsTrue (is_refused_byte b)) where
+  -- names and patterns contain no such byte
+  name_lacks : (x : List ℕ) → IsName x → Lacks b x
+  name_lacks x named = Lacks-from_absent b x (λ holds. named (InvalidByte b) (holds, refused))
+
+  pattern_lacks : (x : List ℕ) → IsPattern x → Lacks b x
+  pattern_lacks x starred =
+      let r = starred.replaces in
+      let lacks = subst (Lacks b) r.replaced (name_lacks starred.with_letter starred.name) in
+      subst (Lacks b) (sym r.split.starred) (all_join (λ c. c ≢ b) r.before (star ∷ r.after) (all_left (λ c. c ≢ b) r.before (letter ∷ r.after) lacks) ((λ same. omega (arith, same, below)), (all_right (λ c. c ≢ b) r.before (letter ∷ r.after) lacks).1))
+
+  head_lacks : Lacks b head
+  head_lacks = name_lacks head IsName-head
+
+  head_or_lacks : (v : Bool) (s : List ℕ) → Lacks b s → Lacks b (if v then head else s)
+  head_or_lacks true s lacks = head_lacks
+  head_or_lacks false s lacks = lacks
+
+  named_lacks : (s : List ℕ) → Lacks b s → Lacks b (named_by s)
+  named_lacks [] lacks = tt
+  named_lacks (c ∷ []) lacks = head_or_lacks (c == at) (c ∷ []) lacks
+  named_lacks (c ∷ d ∷ s) lacks = lacks
+
+  sign_lacks : (forced : Bool) → Lacks b (sign forced)
+  sign_lacks true = ((λ same. omega (arith, same, below)), tt)
+  sign_lacks false = tt
+
+  forced_lacks : (forced : Bool) (s d : List ℕ) → Lacks b s → Lacks b d → Lacks b (sign forced ++ (s ++ (colon ∷ d)))
+  forced_lacks forced s d source destination = all_join (λ c. c ≢ b) (sign forced) (s ++ (colon ∷ d)) (sign_lacks forced) (all_join (λ c. c ≢ b) s (colon ∷ d) source ((λ same. omega (arith, same, below)), destination))
+
+  alone_lacks : (s : List ℕ) → Lacks b s → Lacks b (sign (begins_with_plus s) ++ s)
+  alone_lacks s source = all_join (λ c. c ≢ b) (sign (begins_with_plus s)) s (sign_lacks (begins_with_plus s)) source
+
+  fetch_lacks : (mode : Mode) (s : List ℕ) (d : Option (List ℕ)) (t : List ℕ) → Lacks b s → LacksIn b d → printed (fetched mode s d) ≡ Some t → Lacks b t
+  fetch_lacks Normal s None t source destination is = subst (Lacks b) (same_Some _ t is) (alone_lacks s source)
+  fetch_lacks Forced s None t source destination is = subst (Lacks b) (same_Some _ t is) (alone_lacks s source)
+  fetch_lacks Negative s None t source destination is = subst (Lacks b) (same_Some _ t is) ((λ same. omega (arith, same, below)), source)
+  fetch_lacks Normal s (Some d) t source destination is = subst (Lacks b) (same_Some _ t is) (forced_lacks false s d source destination)
+  fetch_lacks Forced s (Some d) t source destination is = subst (Lacks b) (same_Some _ t is) (forced_lacks true s d source destination)
+  fetch_lacks Negative s (Some d) t source destination is = absurd (cc)
+
+  alike_lack : (s d : List ℕ) → AreAlike s d → Lacks b s × Lacks b d
+  alike_lack s d (inl both) = (name_lacks s both.0, name_lacks d both.1)
+  alike_lack s d (inr both) = (pattern_lacks s both.0, pattern_lacks d both.1)
+
+  either_lacks : (s : List ℕ) → IsNameOrPattern s → Lacks b s
+  either_lacks s (inl named) = name_lacks s named
+  either_lacks s (inr starred) = pattern_lacks s starred
+
+  fetch_not_push : Fetch ≡ Push → ⊥
+  fetch_not_push same = cc
+
+  clear : (mode : Mode) (s : List ℕ) (d : Option (List ℕ)) (r : Reading) → Lacks b s → LacksIn b d → r ≡ fetched mode s d → IsClearFetch b r
+  clear mode s d r first last is = record { mode = mode; source = s; destination = d; first = first; last = last; is = is }
+
+  clear_fetch : (text : List ℕ) (r : Reading) → Reads Fetch text r → IsClearFetch b r
+  clear_fetch text r (fetches_nothing_named mode op positive parts is) = clear mode head None r head_lacks tt is
+  clear_fetch text r (fetches_colon mode op positive parts is) = clear mode head None r head_lacks tt is
+  clear_fetch text r (fetches mode s op positive parts named is) = clear mode (named_by s) None r (named_lacks s (name_lacks s named)) tt is
+  clear_fetch text r (updates mode s d op positive parts alike is) = let lack = alike_lack s d alike in clear mode (named_by s) (Some d) r (named_lacks s lack.0) lack.1 is
+  clear_fetch text r (updates_from_head mode d op positive parts named is) = clear mode head (Some d) r head_lacks (name_lacks d named) is
+  clear_fetch text r (fetch_excludes s op parts either unlike is) = clear Negative (named_by s) None r (named_lacks s (either_lacks s either)) tt is
+  clear_fetch text r (pushes_plus op parts is) = absurd (fetch_not_push op)
+  clear_fetch text r (pushes_colon mode op positive parts is) = absurd (fetch_not_push op)
+  clear_fetch text r (pushes mode s op positive parts either is) = absurd (fetch_not_push op)
+  clear_fetch text r (deletes mode d op positive parts named is) = absurd (fetch_not_push op)
+  clear_fetch text r (pushes_pattern mode s d op positive parts source destination is) = absurd (fetch_not_push op)
+  clear_fetch text r (pushes_to mode s d op positive parts full lacks named is) = absurd (fetch_not_push op)
+  clear_fetch text r (push_excludes s op parts either unlike is) = absurd (fetch_not_push op)
+
+  -- nor do the sides of fetches, and their canonical texts
+  sides_lack : (text : List ℕ) (r : Reading) → Reads Fetch text r → SidesLack b r
+  sides_lack text r reads = let fetch = clear_fetch text r reads in subst (SidesLack b) (sym fetch.is) (fetch.first, fetch.last)
+
+  printed_lacks : (text : List ℕ) (r : Reading) (t : List ℕ) → Reads Fetch text r → printed r ≡ Some t → Lacks b t
+  printed_lacks text r t reads prints = let fetch = clear_fetch text r reads in fetch_lacks fetch.mode fetch.source fetch.destination t fetch.first fetch.last (ap printed (sym fetch.is) ∙ prints)
+
+-- ---- mappings
 
 -- a hit contains no byte b
 abbrev HitLacks : ℕ → Hit → Type 0
@@ -58,41 +150,23 @@ module _ (b : ℕ) (below : b < 32) (no_digit : is_lower_digit b ≡ false) wher
   far_lacks None word n is lacks clear = subst (LacksIn b) (sym is) tt
   far_lacks (Some x) word n (kind, has, is) lacks clear = subst (LacksIn b) (sym is) (filled_lacks x kind word has lacks clear)
 
-  hits_lack : (items : List Ref) (ends : Ends) (k j : ℕ) (xs : List Ref) (hits : List Hit) → AllByRecursion (λ r. Lacks b r.name) xs → LacksIn b ends.far → IsMadeFrom (IsHit (Takes items) ends k) j xs hits → AllByRecursion (HitLacks b) hits
-  hits_lack items ends k j [] hits names far empty = subst (AllByRecursion (HitLacks b)) (sym empty) tt
-  hits_lack items ends k j (x ∷ xs) hits names far (None, rest, none, more, is) = subst (AllByRecursion (HitLacks b)) (sym is) (hits_lack items ends k (j + 1) xs rest names.1 far more)
-  hits_lack items ends k j (x ∷ xs) hits names far (Some h, rest, hit, more, is) = subst (AllByRecursion (HitLacks b)) (sym is) (
-    (subst (Lacks b) (sym hit.near) names.0, far_lacks ends.far hit.word h.far hit.far far (word_lacks hit.takes.matches.kind x hit.word hit.takes.matches.is names.0)),
-    hits_lack items ends k (j + 1) xs rest names.1 far more,
-  )
-
   spec_lacks : (items : List Ref) (k : ℕ) (r : Reading) (hits : List Hit) → AllByRecursion (λ x. Lacks b x.name) items → SidesLack b r → AreSpecHits AreForwardEnds (Takes items) items k r hits → AllByRecursion (HitLacks b) hits
-  spec_lacks items k r hits names sides (inl (ends, has, made)) = hits_lack items ends k 0 items hits names (subst (LacksIn b) has.far sides.1) made
+  spec_lacks items k r hits names sides (inl (ends, has, made)) =
+      made_all (IsHit (Takes items) ends k) (λ x. Lacks b x.name) (HitLacks b)
+      (λ j x h clear hit. (subst (Lacks b) (sym hit.near) clear, far_lacks ends.far hit.word h.far hit.far (subst (LacksIn b) has.far sides.1) (word_lacks hit.takes.matches.kind x hit.word hit.takes.matches.is clear))) 0 items hits names made
   spec_lacks items k r hits names sides (inr (none, empty)) = subst (AllByRecursion (HitLacks b)) (sym empty) tt
-
-  group_lacks : (items : List Ref) (k : ℕ) (g : List Reading) (hits : List Hit) → AllByRecursion (λ x. Lacks b x.name) items → AllByRecursion (SidesLack b) g → IsJoinedFrom (AreSpecHits AreForwardEnds (Takes items) items) k g hits → AllByRecursion (HitLacks b) hits
-  group_lacks items k [] hits names sides empty = subst (AllByRecursion (HitLacks b)) (sym empty) tt
-  group_lacks items k (r ∷ g) hits names sides (first, rest, of_spec, more, is) =
-      subst (AllByRecursion (HitLacks b)) (sym is) (all_join (HitLacks b) first rest (spec_lacks items k r first names sides.0 of_spec) (group_lacks items (k + 1) g rest names sides.1 more))
-
-  forward_lacks : (hits : List Hit) → AllByRecursion (HitLacks b) hits → AllByRecursion (MappedLacks b) (map forward_of hits)
-  forward_lacks [] all = tt
-  forward_lacks (h ∷ hits) all = (all.0, forward_lacks hits all.1)
-
-  ids_lack : (k : ℕ) (g : List Reading) (ids : List Mapped) → AllByRecursion (SidesLack b) g → IsMadeFrom IsIdMapping k g ids → AllByRecursion (MappedLacks b) ids
-  ids_lack k [] ids sides empty = subst (AllByRecursion (MappedLacks b)) (sym empty) tt
-  ids_lack k (r ∷ g) ids sides (None, rest, none, more, is) = subst (AllByRecursion (MappedLacks b)) (sym is) (ids_lack (k + 1) g rest sides.1 more)
-  ids_lack k (r ∷ g) ids sides (Some m, rest, made, more, is) = subst (AllByRecursion (MappedLacks b)) (sym is) (
-    (subst (SourceLacks b) (sym made.source) (lower_lacks made.text made.bytes made.object.2), far_lacks r.destination None m.destination made.destination sides.0.1 tt),
-    ids_lack (k + 1) g rest sides.1 more,
-  )
 
   -- nor does any kept mapping
   kept_lacks : (g : List Reading) (items : List Ref) (l : List Mapped) → AllByRecursion (SidesLack b) g → AllByRecursion (λ r. Lacks b r.name) items → AreKeptForward g items l → AllByRecursion (MappedLacks b) l
   kept_lacks g items l sides names kept =
       let are = kept.forward in
       stays_each (λ k m. IsKeptAt g kept.all k m) (MappedLacks b) 0 kept.all l
-      (subst (AllByRecursion (MappedLacks b)) (sym are.all) (all_join (MappedLacks b) are.ids (map forward_of are.hits) (ids_lack 0 g are.ids sides are.are_ids) (forward_lacks are.hits (group_lacks items 0 g are.hits names sides are.are_hits)))) kept.is
+      (subst (AllByRecursion (MappedLacks b)) (sym are.all)
+      (all_join (MappedLacks b) are.ids (map forward_of are.hits)
+      (made_all IsIdMapping (SidesLack b) (MappedLacks b)
+      (λ k r m clear made. (subst (SourceLacks b) (sym made.source) (lower_lacks made.text made.bytes made.object.2), far_lacks r.destination None m.destination made.destination clear.1 tt)) 0 g are.ids sides are.are_ids)
+      (map_each (HitLacks b) (MappedLacks b) forward_of (λ h clear. clear) are.hits
+      (each_joined (AreSpecHits AreForwardEnds (Takes items) items) (HitLacks b) g are.hits (λ k r hits here of_spec. spec_lacks items k r hits names (all_at (SidesLack b) g k r sides here) of_spec) are.are_hits)))) kept.is
 
 -- a name contains no control character, and no digit is one
 control_refused : (b : ℕ) → b < 32 → IsTrue (is_refused_byte b)

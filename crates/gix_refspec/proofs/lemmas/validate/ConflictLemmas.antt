@@ -1,6 +1,6 @@
 -- Conflicts, from sorted updates.
 use Rattle.gix_refspec.proofs.Common.{◌≡◌, ◌⊎◌, inl, inr, ◌↔◌, ℕ, ◌+◌, ◌<◌, ◌≤◌, List, [], ◌∷◌, ◌++◌, Some, option_map, Bool, length, map, take, drop, get_or, refl, sym, ap, ◌∙◌, subst}
-use Rattle.gix_refspec.proofs.Common.{arith, AllByRecursion, AllZip, Contains, slice_get, IsStrictlySortedBy, Less, nat_cmp, slice_cmp, get_or-map, length-map, length-take-le, map-append}
+use Rattle.gix_refspec.proofs.Common.{arith, AllByRecursion, AllZip, Contains, slice_get, IsStrictlySortedBy, Less, nat_cmp, slice_cmp, length-map, length-take-le, map-append}
 use Rattle.gix_refspec.proofs.Common.{take-append-drop, take_more, All-from_recursion, Contains-append_left, Contains-push, slice_get-get_or, slice_get-map, slice_get_read, slice_get_within}
 use Rattle.gix_refspec.proofs.Common.{Mapping, NameRef, SourceRef, Update, RefSpecRef, Reading, printed, reading_of, Source, name, id, Mapped, HasPair, mapped_of, name_bytes, start_of}
 use Rattle.gix_refspec.proofs.Common.{IsNameCopy, IsSourceCopy, id_bytes, AreConflicts, Conflict, IndexesFit, IsConflict, HasConflictAt, IsFirstTo, IsTextAt, FlagsDuplicates, IsFlagged}
@@ -13,6 +13,7 @@ use Rattle.gix_refspec.proofs.lemmas.validate.UpdateLemmas.{HasUpdate-cases, Has
 use Rattle.gix_refspec.proofs.lemmas.validate.FirstLemmas.{Has, Increase, IsOfIndex, contested_from_firsts, made_at_indexes, one_mapping, two_firsts}
 use Rattle.std.proofs.lemmas.Slice.Zip.{all_zipped_more}
 use Rattle.gix_refspec_text.proofs.lemmas.lists.AllLemmas.{all_right, all_join, all_weaker}
+use Rattle.gix_refspec_text.proofs.lemmas.lists.MapLemmas.{each_mapped}
 use Rattle.gix_refspec_text.proofs.lemmas.lists.OrderLemmas.{not_below_itself}
 
 -- the mappings at the indexes have these sources, and their specs these texts
@@ -127,9 +128,8 @@ told_more g ms run i d m source text sources texts below fits is is_source is_te
 -- the spec index of a mapping is among the specs
 pub spec_fits : (specs : List RefSpecRef) (ms : List Mapping) (k : ℕ) (m : Mapping) → IndexesFit (map reading_of specs) (map mapped_of ms) → k < length ms → m ≡ get_or ms k m → m.spec_index < length specs
 spec_fits specs ms k m fits below is =
-    let told : (get_or (map mapped_of ms) k (mapped_of m)).spec < length (map reading_of specs) = All-from_recursion (λ n. n.spec < length (map reading_of specs)) (map mapped_of ms) fits k (mapped_of m) (omega (arith, below, length-map ms mapped_of)) in
-    let here : (get_or (map mapped_of ms) k (mapped_of m)).spec ≡ m.spec_index = ap (λ (n : Mapped). n.spec) (get_or-map mapped_of ms k m (mapped_of m) below) ∙ ap (λ (n : Mapping). n.spec_index) (sym is) in
-    omega (arith, told, here, length-map specs reading_of)
+    let told : m.spec_index < length (map reading_of specs) = each_mapped mapped_of (λ n. n.spec < length (map reading_of specs)) ms k m fits below is in
+    omega (arith, told, length-map specs reading_of)
 
 -- the conflicts of the first mappings whose updates aren't among the rest
 pub record AreReported (g : List Reading) (l : List Mapped) (rest : List Update) (cs : List Conflict) : Type 0 where

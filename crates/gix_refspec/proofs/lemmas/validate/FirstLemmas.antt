@@ -1,7 +1,9 @@
 -- The first mappings from each source to each destination, by their indexes.
-use Rattle.gix_refspec.proofs.Common.{◌≡◌, ◌≢◌, ◌⊎◌, inl, inr, ◌↔◌, ℕ, zero, suc, ◌+◌, ◌-◌, ◌<◌, ◌≤◌, List, [], ◌∷◌, Option, None, Some, Bool, true, false, take, refl, sym, ap, ◌∙◌, subst}
-use Rattle.gix_refspec.proofs.Common.{arith, AllByRecursion, AllZip, Contains, slice_get, bytes_eq, cases_lt, false≢true, get_or_from_slice_get, slice_get-get_or, slice_get_within}
-use Rattle.gix_refspec.proofs.Common.{bytes_eq-Decides, IsMadeFrom, Source, name, id, Mapped, IsSamePair, HasPair, HasConflictAt, IsFirstAt}
+use Rattle.gix_refspec.proofs.Common.{◌≡◌, ◌≢◌, ◌⊎◌, inl, inr, ◌↔◌, ℕ, zero, suc, ◌+◌, ◌-◌, ◌<◌, ◌≤◌, List, [], ◌∷◌, None, Some, Bool, true, false, take, refl, sym, ap, ◌∙◌, subst, arith}
+use Rattle.gix_refspec.proofs.Common.{AllByRecursion, AllZip, Contains, slice_get, bytes_eq, cases_lt, false≢true, get_or_from_slice_get, slice_get-get_or, slice_get_within}
+use Rattle.gix_refspec.proofs.Common.{bytes_eq-Decides, IsMadeFrom, Source, name, id, Mapped, IsSamePair, HasPair, HasConflictAt, IsFirstAt, Less, Equal, Greater}
+use Rattle.std.specs.declared.cmp.Ordering.{Ordering}
+use Rattle.gix_refspec_match.specs.Private.Orders.{equal_pair, pair_order, same_pair}
 use Rattle.gix_refspec_text.proofs.lemmas.lists.AllLemmas.{all_weaker}
 
 -- k is one of the numbers
@@ -92,12 +94,12 @@ earlier_pair (x ∷ l) j zero m n is before same = absurd (omega arith)
 earlier_pair (x ∷ l) zero (suc k) m n is before same = let one : x ≡ m = cc in inl (subst (λ (y : Mapped). IsSamePair y n) (sym one) same)
 earlier_pair (x ∷ l) (suc j) (suc k) m n is before same = inr (earlier_pair l j k m n is (omega arith) same)
 
+cases_of : {P : Type 0} (b : Bool) → (b ≡ true → P) × (P → b ≡ true) → P ⊎ ¬ P
+cases_of true told = inl (told.0 refl)
+cases_of false told = inr (λ holds. false≢true (told.1 holds))
+
 text_cases : (x y : List ℕ) → (x ≡ y) ⊎ (x ≢ y)
-text_cases x y = go (bytes_eq x y) refl
-  where
-    go : (b : Bool) → b ≡ bytes_eq x y → (x ≡ y) ⊎ (x ≢ y)
-    go true is = inl ((bytes_eq-Decides x y).0 (sym is))
-    go false is = inr (λ same. false≢true (is ∙ (bytes_eq-Decides x y).1 same))
+text_cases x y = cases_of (bytes_eq x y) (bytes_eq-Decides x y)
 
 pub start_cases : (a b : Source) → (a ≡ b) ⊎ (a ≢ b)
 start_cases (name x) (name y) = elim (text_cases x y) [
@@ -111,25 +113,20 @@ start_cases (id x) (id y) = elim (text_cases x y) [
   | inr apart ↦ inr (λ same. apart (cc))
 ]
 
-destination_cases : (o : Option (List ℕ)) (d : List ℕ) → (o ≡ Some d) ⊎ (o ≢ Some d)
-destination_cases None d = inr (λ same. absurd (cc))
-destination_cases (Some e) d = elim (text_cases e d) [
-  | inl same ↦ inl (ap Some same)
-  | inr apart ↦ inr (λ same. apart (cc))
-]
-
 -- the mapping goes from the source to the destination
 abbrev Links : Source → List ℕ → Mapped → Type 0
 Links source d m = (m.source ≡ source) × (m.destination ≡ Some d)
 
 links_cases : (source : Source) (d : List ℕ) (m : Mapped) → Links source d m ⊎ ¬ (Links source d m)
-links_cases source d m = elim (start_cases m.source source) [
-  | inl from ↦ elim (destination_cases m.destination d) [
-    | inl to ↦ inl (from, to)
-    | inr apart ↦ inr (λ both. apart both.1)
-  ]
-  | inr apart ↦ inr (λ both. apart both.0)
-]
+links_cases source d m = by (pair_order m pair) refl
+  where
+    pair : Mapped
+    pair = record { item = None; source = source; destination = Some d; spec = 0 }
+
+    by : (o : Ordering) → pair_order m pair ≡ o → Links source d m ⊎ ¬ (Links source d m)
+    by Equal is = let same = same_pair m pair is in inl (same.source, same.destination)
+    by Less is = inr (λ both. let equal = equal_pair m pair (record { source = both.0; destination = both.1 }) in cc)
+    by Greater is = inr (λ both. let equal = equal_pair m pair (record { source = both.0; destination = both.1 }) in cc)
 
 -- of the mappings from a source to a destination, the first
 first_link : (source : Source) (d : List ℕ) (l : List Mapped) (i : ℕ) (m : Mapped) → slice_get l i ≡ Some m → Links source d m → (j : ℕ) × (n : Mapped) × (slice_get l j ≡ Some n) × Links source d n × ¬ (HasPair (take j l) n)

@@ -1,37 +1,14 @@
--- What the spec and the item at the indexes of a mapping make, and which mappings remain after a check.
-use Rattle.gix_refspec.proofs.Common.{◌≡◌, inl, inr, ◌↔◌, ℕ, ◌+◌, List, [], ◌∷◌, ◌++◌, Option, None, Some, option_to_list, length, length-append, map, unwrap_or, refl, sym, ap, ◌∙◌, subst}
-use Rattle.gix_refspec.proofs.Common.{arith, AllByRecursion, Contains, slice_get, append_assoc, Reading, Ref, Matches, Takes, IsMadeFrom, IsJoinedFrom, Source, Mapped, IsKeptAt, Ends}
-use Rattle.gix_refspec.proofs.Common.{AreForwardEnds, AreBackwardEnds, Hit, IsHit, AreSpecHits, AreHits, IsIdMapping, AreForward, AreBackward, forward_of, backward_of, AtSpec, TakesAt}
-use Rattle.gix_refspec.proofs.Common.{MakesForwardOf, MakesBackwardOf, MadeAtIndexes, RemainsExactly, Survives, HasRefNames}
-use Rattle.gix_refspec.proofs.lemmas.validate.AfterLemmas.{stays_each}
+-- What the spec and the item at the indexes of a mapping make, that its indexes fit, and which mappings remain after a
+-- check.
+use Rattle.gix_refspec.proofs.Common.{slice_get_within, ◌≡◌, inl, inr, ◌↔◌, ℕ, List, [], Option, None, Some, map, unwrap_or, refl, sym, ap, ◌∙◌, subst, AllByRecursion, Contains, slice_get}
+use Rattle.gix_refspec.proofs.Common.{Reading, Ref, Matches, Takes, IsMadeFrom, Source, Mapped, IsKeptAt, Ends, AreForwardEnds, AreBackwardEnds, Hit, IsHit, AreSpecHits, AreHits}
+use Rattle.gix_refspec.proofs.Common.{IsIdMapping, AreForward, AreBackward, forward_of, backward_of, AtSpec, TakesAt, MakesForwardOf, MakesBackwardOf, MadeAtIndexes, RemainsExactly}
+use Rattle.gix_refspec.proofs.Common.{Survives, HasRefNames, same_Some, ForwardIndexes, ItemIndexesFit, BackwardIndexes, name, id}
+use Rattle.gix_refspec.proofs.lemmas.MadeLemmas.{each_joined, each_made, map_each, stays_each}
 use Rattle.gix_refspec.proofs.lemmas.keep.FirstStaysLemmas.{there, back}
 use Rattle.gix_refspec.proofs.lemmas.keep.PairMadeLemmas.{there_far}
-use Rattle.gix_refspec.proofs.lemmas.validate.IndexFitLemmas.{stands_behind, map_each}
-use Rattle.gix_refspec_match.proofs.lemmas.lists.SomeLemmas.{Any, Any-right}
-use Rattle.gix_refspec_text.proofs.lemmas.lists.AllLemmas.{all_join}
-
--- ---- what is made of the elements of a list, by their indexes
-
-stands_at : {X : Type 0} (all before : List X) (x : X) (after : List X) (k : ℕ) → before ++ (x ∷ after) ≡ all → length before ≡ k → slice_get all k ≡ Some x
-stands_at {X} all before x after k whole index = subst (λ (i : ℕ). slice_get all i ≡ Some x) index (subst (λ (z : List X). slice_get z (length before) ≡ Some x) whole (stands_behind before x after))
-
-made_standing : {X Y : Type 0} (R : ℕ → X → Y → Type 0) (P : Y → Type 0) (all : List X) → ((k : ℕ) (x : X) (y : Y) → slice_get all k ≡ Some x → R k x y → P y)
-    → (before xs : List X) (k : ℕ) (ys : List Y) → before ++ xs ≡ all → length before ≡ k → IsMadeFrom R k xs ys → AllByRecursion P ys
-made_standing R P all each before [] k ys whole index empty = subst (AllByRecursion P) (sym empty) tt
-made_standing R P all each before (x ∷ xs) k ys whole index (None, rest, none, more, is) =
-    subst (AllByRecursion P) (sym is) (made_standing R P all each (before ++ x ∷ []) xs (k + 1) rest (append_assoc before (x ∷ []) xs ∙ whole) (omega (arith, length-append before (x ∷ []), index)) more)
-made_standing R P all each before (x ∷ xs) k ys whole index (Some y, rest, makes, more, is) = subst (AllByRecursion P) (sym is) (
-  each k x y (stands_at all before x xs k whole index) makes,
-  made_standing R P all each (before ++ x ∷ []) xs (k + 1) rest (append_assoc before (x ∷ []) xs ∙ whole) (omega (arith, length-append before (x ∷ []), index)) more,
-)
-
-joined_standing : {X Y : Type 0} (R : ℕ → X → List Y → Type 0) (P : Y → Type 0) (all : List X) → ((k : ℕ) (x : X) (ys : List Y) → slice_get all k ≡ Some x → R k x ys → AllByRecursion P ys)
-    → (before xs : List X) (k : ℕ) (ys : List Y) → before ++ xs ≡ all → length before ≡ k → IsJoinedFrom R k xs ys → AllByRecursion P ys
-joined_standing R P all each before [] k ys whole index empty = subst (AllByRecursion P) (sym empty) tt
-joined_standing R P all each before (x ∷ xs) k ys whole index (made, rest, makes, more, is) =
-    subst (AllByRecursion P) (sym is)
-    (all_join P made rest (each k x made (stands_at all before x xs k whole index) makes)
-    (joined_standing R P all each (before ++ x ∷ []) xs (k + 1) rest (append_assoc before (x ∷ []) xs ∙ whole) (omega (arith, length-append before (x ∷ []), index)) more))
+use Rattle.gix_refspec_match.proofs.lemmas.lists.SomeLemmas.{Any-both, Any-weaker, any_made, made_any}
+use Rattle.gix_refspec_text.proofs.lemmas.lists.AllLemmas.{all_join, all_weaker}
 
 -- ---- hits
 
@@ -43,21 +20,19 @@ record IsTakenHit (HasEnds : Reading → Ends → Type 0) (Taken : List ℕ → 
 
 spec_takes : (HasEnds : Reading → Ends → Type 0) (Taken : List ℕ → Ref → Option (List ℕ) → Type 0) (g : List Reading) (items : List Ref) (k : ℕ) (r : Reading) (hits : List Hit) → slice_get g k ≡ Some r → AreSpecHits HasEnds Taken items k r hits → AllByRecursion (IsTakenHit HasEnds Taken g items) hits
 spec_takes HasEnds Taken g items k r hits here (inl (ends, has, made)) =
-    made_standing (IsHit Taken ends k) (IsTakenHit HasEnds Taken g items) items
-    (λ j ref hit stands is. record {
+    each_made (IsHit Taken ends k) (IsTakenHit HasEnds Taken g items) items hits (λ j ref hit stands is. record {
       reading = r;
       here = subst (λ (i : ℕ). slice_get g i ≡ Some r) (sym is.spec) here;
       takes = record { index = j; is = ap Some is.item; ref = ref; stands = stands; ends = ends; has = has; paired = record { word = is.word; name = sym is.near; takes = is.takes; becomes = is.far } };
-    })
-    [] items 0 hits refl refl made
+    }) made
 spec_takes HasEnds Taken g items k r hits here (inr (none, empty)) = subst (AllByRecursion (IsTakenHit HasEnds Taken g items)) (sym empty) tt
 
 hits_taken : (HasEnds : Reading → Ends → Type 0) (Taken : List ℕ → Ref → Option (List ℕ) → Type 0) (g : List Reading) (items : List Ref) (hits : List Hit) → AreHits HasEnds Taken g items hits → AllByRecursion (IsTakenHit HasEnds Taken g items) hits
-hits_taken HasEnds Taken g items hits are = joined_standing (AreSpecHits HasEnds Taken items) (IsTakenHit HasEnds Taken g items) g (spec_takes HasEnds Taken g items) [] g 0 hits refl refl are
+hits_taken HasEnds Taken g items hits are = each_joined (AreSpecHits HasEnds Taken items) (IsTakenHit HasEnds Taken g items) g hits (spec_takes HasEnds Taken g items) are
 
 -- ---- mappings
 
-abbrev ForwardAt : List Reading → List Ref → Mapped → Type 0
+abbrev pub ForwardAt : List Reading → List Ref → Mapped → Type 0
 ForwardAt g items m = AtSpec g m (MakesForwardOf items m.item m.source m.destination)
 
 abbrev BackwardAt : List Reading → List Ref → Mapped → Type 0
@@ -81,7 +56,7 @@ forward_all : (g : List Reading) (items : List Ref) (l : List Mapped) → AreFor
 forward_all g items l are =
     subst (AllByRecursion (ForwardAt g items)) (sym are.all)
     (all_join (ForwardAt g items) are.ids (map forward_of are.hits)
-    (made_standing IsIdMapping (ForwardAt g items) g (id_at g items) [] g 0 are.ids refl refl are.are_ids)
+    (each_made IsIdMapping (ForwardAt g items) g are.ids (id_at g items) are.are_ids)
     (map_each (IsTakenHit AreForwardEnds (Takes items) g items) _ forward_of (λ h taken. (taken.reading, taken.here, taken.takes)) are.hits (hits_taken AreForwardEnds (Takes items) g items are.hits are.are_hits)))
 
 backward_all : (g : List Reading) (items : List Ref) (l : List Mapped) → AreBackward g items l → AllByRecursion (BackwardAt g items) l
@@ -93,26 +68,39 @@ made_at_indexes g items = record {
   backward = λ kept are. stays_each (λ k m. IsKeptAt g are.all k m) (BackwardAt g items) 0 are.all kept (backward_all g items are.all are.backward) are.is;
 }
 
+-- so the indexes fit
+fits_forward : (g : List Reading) (items : List Ref) (m : Mapped) (s : Source) → m.source ≡ s → AtSpec g m (MakesForwardOf items m.item s m.destination) → ForwardIndexes g items m
+fits_forward g items m (name n) is (r, here, at) = record {
+  spec = slice_get_within g m.spec r here;
+  item = λ j some. (at.ref, subst (λ (i : ℕ). slice_get items i ≡ Some at.ref) (same_Some at.index j (sym at.is ∙ some)) at.stands, is ∙ ap name (sym at.paired.name));
+  start = λ none. let gone : Some at.index ≡ None = sym at.is ∙ none in absurd (cc);
+}
+fits_forward g items m (id bytes) is (r, here, (none, made)) = record {
+  spec = slice_get_within g m.spec r here;
+  item = λ j some. let gone : Some j ≡ None = sym some ∙ none in absurd (cc);
+  start = λ _. (bytes, is);
+}
+
+fits_backward : (g : List Reading) (items : List Ref) (m : Mapped) (s : Source) (d : Option (List ℕ)) → m.destination ≡ d → AtSpec g m (MakesBackwardOf items m.item s d) → BackwardIndexes g items m
+fits_backward g items m (name n) (Some d) is (r, here, at) = record { spec = slice_get_within g m.spec r here; index = at.index; ref = at.ref; item = at.is; stands = at.stands; named = is ∙ ap Some (sym at.paired.name) }
+fits_backward g items m (name n) None is (r, here, none) = absurd none
+fits_backward g items m (id bytes) d is (r, here, none) = absurd none
+
+pub item_indexes_fit : (g : List Reading) (items : List Ref) → ItemIndexesFit g items
+item_indexes_fit g items = record {
+  forward = λ l are. all_weaker (ForwardAt g items) (ForwardIndexes g items) (λ m at. fits_forward g items m m.source refl at) l ((made_at_indexes g items).forward l are);
+  backward = λ l are. all_weaker (BackwardAt g items) (BackwardIndexes g items) (λ m at. fits_backward g items m m.source m.destination refl at) l ((made_at_indexes g items).backward l are);
+  validated = λ l rest fixes valid fit. stays_each (λ j x. Survives x) (ForwardIndexes g items) 0 l rest fit valid.survive;
+}
+
 -- ---- what remains
-
-remained : (S : Mapped → Type 0) (k : ℕ) (xs ys : List Mapped) (m : Mapped) → IsMadeFrom (λ j x y. (y ≡ x) × S x) k xs ys → Any (λ y. y ≡ m) ys → Any (λ x. x ≡ m) xs × S m
-remained S k [] ys m empty any = absurd (subst (Any (λ y. y ≡ m)) empty any)
-remained S k (x ∷ xs) ys m (None, rest, none, more, is) any = let later = remained S (k + 1) xs rest m more (subst (Any (λ y. y ≡ m)) is any) in (inr later.0, later.1)
-remained S k (x ∷ xs) ys m (Some y, rest, keeps, more, is) any = elim (subst (Any (λ z. z ≡ m)) is any) [
-  | inl here ↦ let same : x ≡ m = sym keeps.0 ∙ here in (inl same, subst S same keeps.1)
-  | inr there ↦ let later = remained S (k + 1) xs rest m more there in (inr later.0, later.1)
-]
-
-remains : (S : Mapped → Type 0) (k : ℕ) (xs ys : List Mapped) (m : Mapped) → IsMadeFrom (λ j x y. (y ≡ x) × S x) k xs ys → Any (λ x. x ≡ m) xs → S m → Any (λ y. y ≡ m) ys
-remains S k [] ys m empty any holds = absurd any
-remains S k (x ∷ xs) ys m (None, rest, none, more, is) (inl here) holds = absurd (none x (refl, subst S (sym here) holds))
-remains S k (x ∷ xs) ys m (Some y, rest, keeps, more, is) (inl here) holds = subst (Any (λ z. z ≡ m)) (sym is) (inl (keeps.0 ∙ here))
-remains S k (x ∷ xs) ys m (made, rest, makes, more, is) (inr later) holds = subst (Any (λ z. z ≡ m)) (sym is) (Any-right (λ z. z ≡ m) (option_to_list made) rest (remains S (k + 1) xs rest m more later holds))
 
 exactly : (S : Mapped → Type 0) (xs ys : List Mapped) → IsMadeFrom (λ j x y. (y ≡ x) × S x) 0 xs ys → (m : Mapped) → Contains ys m ↔ (Contains xs m × S m)
 exactly S xs ys made m = (
-  (λ has. let both = remained S 0 xs ys m made (there ys m has) in (back xs m both.0, both.1)),
-  (λ both. back ys m (remains S 0 xs ys m made (there xs m both.0) both.1)),
+  (λ has.
+      let both = Any-both (λ x. x ≡ m) (S m) xs (Any-weaker _ _ (λ x (j, y, keeps, here). let same : x ≡ m = sym keeps.0 ∙ here in (same, subst S same keeps.1)) xs (made_any _ (λ y. y ≡ m) 0 xs ys made (there ys m has))) in
+      (back xs m both.0, both.1)),
+  (λ both. back ys m (any_made _ (λ y. y ≡ m) 0 xs ys made (Any-weaker _ _ (λ x here j. (x, (refl, subst S (sym here) both.1), λ z keeps. keeps.0 ∙ here)) xs (there xs m both.0)))),
 )
 
 pub remains_exactly : (g : List Reading) (l : List Mapped) → RemainsExactly g l

@@ -1,26 +1,19 @@
 -- A validation has one result, and a copy of an outcome has the same.
-use Rattle.gix_refspec.proofs.Common.{◌≡◌, inl, inr, ℕ, zero, suc, List, [], ◌∷◌, Some, map, refl, sym, ap, ◌∙◌, subst, arith, AllByRecursion, Contains, IsStrictlySortedBy, Less, nat_cmp}
-use Rattle.gix_refspec.proofs.Common.{slice_cmp, Mapping, Outcome, Reading, reading_of, IsMadeFrom, printed, Source, Mapped, mapped_of, AreMappingCopies, readings_of, IsFirstTo, IsTextAt}
-use Rattle.gix_refspec.proofs.Common.{Conflict, IsConflict, AreConflicts, Survives, Removed, IsFix, ValidateAlike, OneValidation, CopiedOutcome, same_Some}
+use Rattle.gix_refspec.proofs.Common.{◌≡◌, inl, inr, ℕ, List, [], ◌∷◌, Some, map, refl, sym, ap, ◌∙◌, subst, AllByRecursion, IsStrictlySortedBy, Less, nat_cmp, slice_cmp, Mapping, Outcome}
+use Rattle.gix_refspec.proofs.Common.{Reading, reading_of, IsMadeFrom, printed, Mapped, mapped_of, AreMappingCopies, readings_of, IsFirstTo, IsTextAt, Conflict, IsConflict, AreConflicts}
+use Rattle.gix_refspec.proofs.Common.{Survives, Removed, IsFix, ValidateAlike, OneValidation, CopiedOutcome, same_Some}
 use Rattle.gix_refspec.proofs.lemmas.validate.UpdateLemmas.{below_trans}
 use Rattle.gix_refspec_match.proofs.lemmas.lists.ListsLemmas.{made_once}
-use Rattle.gix_refspec_match.proofs.lemmas.lists.SomeLemmas.{Any}
+use Rattle.gix_refspec_match.proofs.lemmas.lists.SomeLemmas.{Any, Any-all, Any-fact, Any-from_map}
+use Rattle.gix_refspec.proofs.lemmas.keep.FirstStaysLemmas.{there}
 use Rattle.gix_refspec_text.proofs.lemmas.lists.OrderLemmas.{not_below_itself}
 use Rattle.gix_refspec.proofs.lemmas.validate.RefNameLemmas.{copied_mapping}
 
 -- ---- conflicts
 
--- an element of a list, by index and by recursion
-among : (xs : List (List ℕ)) (d : List ℕ) → Contains xs d → Any (λ x. x ≡ d) xs
-among [] d (k, below, is) = absurd (omega (arith, below))
-among (x ∷ xs) d (zero, below, is) = inl is
-among (x ∷ xs) d (suc k, below, is) = inr (among xs d (k, omega (arith, below), is))
-
 -- a text after another in a sorted list is greater
 above : (x d : List ℕ) (xs : List (List ℕ)) → AllByRecursion (λ y. slice_cmp nat_cmp x y ≡ Less) xs → Any (λ y. y ≡ d) xs → slice_cmp nat_cmp x d ≡ Less
-above x d [] all any = absurd any
-above x d (y ∷ xs) all (inl here) = subst (λ (z : List ℕ). slice_cmp nat_cmp x z ≡ Less) here all.0
-above x d (y ∷ xs) all (inr later) = above x d xs all.1 later
+above x d xs all any = Any-fact _ xs (Any-all _ _ _ (λ y less here. subst (λ (z : List ℕ). slice_cmp nat_cmp x z ≡ Less) here less) xs all any)
 
 -- two sorted lists whose first texts are in each other have the same first text
 same_first : (x y : List ℕ) (xs ys : List (List ℕ)) → AllByRecursion (λ z. slice_cmp nat_cmp x z ≡ Less) xs → AllByRecursion (λ z. slice_cmp nat_cmp y z ≡ Less) ys → Any (λ z. z ≡ x) (y ∷ ys) → Any (λ z. z ≡ y) (x ∷ xs) → x ≡ y
@@ -46,9 +39,9 @@ one_order (x ∷ xs) (y ∷ ys) rise also to back =
 
 -- the destinations of conflicts are among those of all conflicts
 contested : (g : List Reading) (l : List Mapped) (cs other : List Conflict) (d : List ℕ) → AllByRecursion (IsConflict g l) cs → AreConflicts g l other → Any (λ x. x ≡ d) (map (λ (c : Conflict). c.destination) cs) → Any (λ x. x ≡ d) (map (λ (c : Conflict). c.destination) other)
-contested g l [] other d each are any = absurd any
-contested g l (c ∷ cs) other d each are (inl here) = subst (λ (z : List ℕ). Any (λ x. x ≡ z) (map (λ (e : Conflict). e.destination) other)) here (among (map (λ (e : Conflict). e.destination) other) c.destination (are.every c.destination each.0.contested))
-contested g l (c ∷ cs) other d each are (inr later) = contested g l cs other d each.1 are later
+contested g l cs other d each are any =
+    let destinations = map (λ (c : Conflict). c.destination) other in
+    Any-fact _ cs (Any-all (IsConflict g l) _ _ (λ c is here. subst (λ (z : List ℕ). Any (λ x. x ≡ z) destinations) here (there destinations c.destination (are.every c.destination is.contested))) cs each (Any-from_map _ (λ (c : Conflict). c.destination) cs any))
 
 -- an index has one text
 one_text : (g : List Reading) (index : ℕ) (text other : List ℕ) → IsTextAt g index text → IsTextAt g index other → text ≡ other
@@ -56,20 +49,15 @@ one_text g index text other (r, stands, prints) (q, stood, also) =
     let reading : q ≡ r = same_Some q r (sym stood ∙ stands) in
     same_Some text other (sym prints ∙ subst (λ (z : Reading). printed z ≡ Some other) reading also)
 
-same_conflict : (c e : Conflict) → c.destination ≡ e.destination → c.sources ≡ e.sources → c.texts ≡ e.texts → c ≡ e
-same_conflict c e destination sources texts =
-    let build : List ℕ → List Source → List (List ℕ) → Conflict = λ d s t. record { destination = d; sources = s; texts = t } in
-    ap (λ (d : List ℕ). build d c.sources c.texts) destination ∙ ap (λ (s : List Source). build e.destination s c.texts) sources ∙ ap (build e.destination e.sources) texts
-
 -- a destination has one conflict
 one_conflict : (g : List Reading) (l : List Mapped) (c e : Conflict) → c.destination ≡ e.destination → IsConflict g l c → IsConflict g l e → c ≡ e
 one_conflict g l c e same a b =
     let to = c.destination in
     let sources = subst (λ (d : List ℕ). IsMadeFrom (λ k m source. IsFirstTo d l k m × (source ≡ m.source)) 0 l e.sources) (sym same) b.sources in
     let texts = subst (λ (d : List ℕ). IsMadeFrom (λ k m text. IsFirstTo d l k m × IsTextAt g m.spec text) 0 l e.texts) (sym same) b.texts in
-    same_conflict c e same
-    (made_once (λ k m source. IsFirstTo to l k m × (source ≡ m.source)) (λ k m x y is_x is_y. is_x.1 ∙ sym is_y.1) 0 l c.sources e.sources a.sources sources)
-    (made_once (λ k m text. IsFirstTo to l k m × IsTextAt g m.spec text) (λ k m x y is_x is_y. one_text g m.spec x y is_x.1 is_y.1) 0 l c.texts e.texts a.texts texts)
+    let from = made_once (λ k m source. IsFirstTo to l k m × (source ≡ m.source)) (λ k m x y is_x is_y. is_x.1 ∙ sym is_y.1) 0 l c.sources e.sources a.sources sources in
+    let by = made_once (λ k m text. IsFirstTo to l k m × IsTextAt g m.spec text) (λ k m x y is_x is_y. one_text g m.spec x y is_x.1 is_y.1) 0 l c.texts e.texts a.texts texts in
+    λ i. record { destination = same i; sources = from i; texts = by i }
 
 -- so lists of conflicts with the same destinations are equal
 one_list : (g : List Reading) (l : List Mapped) (cs other : List Conflict) → AllByRecursion (IsConflict g l) cs → AllByRecursion (IsConflict g l) other → map (λ (c : Conflict). c.destination) cs ≡ map (λ (c : Conflict). c.destination) other → cs ≡ other
@@ -86,14 +74,12 @@ one_conflicts g l cs other a b = one_list g l cs other a.each b.each (one_order 
 
 -- ---- survivors and fixes
 
-same_removed : (a b : Removed) → a.destination ≡ b.destination → a.spec ≡ b.spec → a ≡ b
-same_removed a b destination spec =
-    let build : List ℕ → Reading → Removed = λ d r. record { destination = d; spec = r } in
-    ap (λ (d : List ℕ). build d a.spec) destination ∙ ap (build b.destination) spec
-
 -- a mapping has one fix
 one_fix : (g : List Reading) (m : Mapped) (a b : Removed) → IsFix g m a → IsFix g m b → a ≡ b
-one_fix g m a b is_a is_b = same_removed a b (same_Some a.destination b.destination (sym is_a.goes ∙ is_b.goes)) (same_Some a.spec b.spec (sym is_a.spec ∙ is_b.spec))
+one_fix g m a b is_a is_b =
+    let destination = same_Some a.destination b.destination (sym is_a.goes ∙ is_b.goes) in
+    let spec = same_Some a.spec b.spec (sym is_a.spec ∙ is_b.spec) in
+    λ i. record { destination = destination i; spec = spec i }
 
 pub one_validation : (g : List Reading) (l : List Mapped) → OneValidation g l
 one_validation g l = record {

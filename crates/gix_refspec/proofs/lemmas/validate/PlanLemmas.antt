@@ -1,38 +1,51 @@
 -- A validation leaves no duplicate mappings and no duplicate fixes.
-use Rattle.gix_refspec.proofs.Common.{◌≡◌, ℕ, List, [], ◌∷◌, Option, None, Some, refl, sym, ap, ◌∙◌, AllByRecursion, Reading, Ref, name, Mapped, ForwardIndexes, Survives, HaveOneSource}
-use Rattle.gix_refspec.proofs.Common.{HaveSourcesByIndex, PlansApart}
+use Rattle.gix_refspec.proofs.Common.{◌≡◌, ℕ, List, [], ◌∷◌, Option, None, Some, sym, ap, ◌∙◌, AllByRecursion, Reading, Ref, name, Mapped, Survives, HaveOneSource, HaveSourcesByIndex}
+use Rattle.gix_refspec.proofs.Common.{PlansApart, subst, ◌≢◌, ◌+◌, slice_get, same_Some, IsIdText, Source, IsMadeFrom, Removed, HaveDistinctDestinations, IsFix, ShareDestination}
+use Rattle.gix_refspec.proofs.Common.{MakesForwardOf, AreFixesApart, id}
 use Rattle.gix_refspec_match.proofs.lemmas.keep.KeptLemmas.{kept_once}
-use Rattle.gix_refspec.proofs.lemmas.validate.AfterLemmas.{apart_still, kept_distinct_destinations, stays_each, validated_once}
-use Rattle.gix_refspec.proofs.lemmas.validate.IndexFitLemmas.{item_indexes_fit}
-use Rattle.gix_refspec.proofs.lemmas.validate.PlacedOnceLemmas.{IsOfItsSpec, fixes_apart, kept_of_specs, one_id}
+use Rattle.gix_refspec.proofs.lemmas.validate.AfterLemmas.{apart_still, kept_distinct_destinations, validated_once}
+use Rattle.gix_refspec.proofs.lemmas.MadeLemmas.{made_all, stays_each}
+use Rattle.gix_refspec_text.proofs.lemmas.lists.AllLemmas.{all_weaker}
+use Rattle.gix_refspec_text.proofs.lemmas.texts.ObjectIdLemmas.{IsIdText-unique}
+use Rattle.gix_refspec.proofs.lemmas.validate.MadeAtLemmas.{ForwardAt, item_indexes_fit, made_at_indexes}
 
-one_ref : (r q : Ref) → Some r ≡ Some q → r ≡ q
-one_ref r q same = cc
+-- no two fixes have the same destination, if no two mappings have
+fixes_apart : (g : List Reading) (k : ℕ) (l : List Mapped) (fixes : List Removed) → HaveDistinctDestinations l → IsMadeFrom (λ j m fix. IsFix g m fix) k l fixes → AreFixesApart fixes
+fixes_apart g k [] fixes apart empty = subst AreFixesApart (sym empty) tt
+fixes_apart g k (m ∷ l) fixes apart (None, rest, no_fix, more, is) = subst AreFixesApart (sym is) (fixes_apart g (k + 1) l rest apart.1 more)
+fixes_apart g k (m ∷ l) fixes apart (Some f, rest, fix, more, is) = subst AreFixesApart (sym is) (
+  made_all (λ j n h. IsFix g n h) (λ n. ¬ (ShareDestination m n)) (λ h. h.destination ≢ f.destination) (λ j n h none of_n same. none (f.destination, fix.goes, of_n.goes ∙ ap Some same)) (k + 1) l rest apart.0 more,
+  fixes_apart g (k + 1) l rest apart.1 more,
+)
 
--- two mappings of one spec and one item have the same source
-one_start : (g : List Reading) (items : List Ref) (m n : Mapped) → ForwardIndexes g items m → ForwardIndexes g items n → IsOfItsSpec g m → IsOfItsSpec g n → m.spec ≡ n.spec → m.item ≡ n.item → (i : Option ℕ) → m.item ≡ i → m.source ≡ n.source
-one_start g items m n at_m at_n of_m of_n spec item None is = one_id g m n of_m of_n is (sym item ∙ is) spec
-one_start g items m n at_m at_n of_m of_n spec item (Some j) is =
-    let (r, here, named) = at_m.item j is in
-    let (q, there, also) = at_n.item j (sym item ∙ is) in
-    named ∙ ap (λ (x : Ref). name x.name) (one_ref r q (sym here ∙ there)) ∙ sym also
+-- what one spec makes of one item, or without an item, has one source
+one_start : (items : List Ref) (item : Option ℕ) (r : Reading) (s t : Source) (d e : Option (List ℕ)) → MakesForwardOf items item s d r → MakesForwardOf items item t e r → s ≡ t
+one_start items item r (name n) (name m) d e at also =
+    let index : at.index ≡ also.index = same_Some at.index also.index (sym at.is ∙ also.is) in
+    let one : at.ref ≡ also.ref = same_Some at.ref also.ref (sym at.stands ∙ ap (slice_get items) index ∙ also.stands) in
+    ap name (sym at.paired.name ∙ ap (λ (x : Ref). x.name) one ∙ also.paired.name)
+one_start items item r (name n) (id j) d e at (none, made) = let gone : Some at.index ≡ None = sym at.is ∙ none in absurd (cc)
+one_start items item r (id i) (name m) d e (none, made) also = let gone : Some also.index ≡ None = sym also.is ∙ none in absurd (cc)
+one_start items item r (id i) (id j) d e (none, made) (no_item, also) =
+    let text : made.text ≡ also.text = same_Some made.text also.text (sym made.side ∙ also.side) in
+    ap id (IsIdText-unique also.text i j (subst (λ (t : List ℕ). IsIdText t i) text made.object.2) also.object.2)
 
-others_by_index : (g : List Reading) (items : List Ref) (m : Mapped) (l : List Mapped) → ForwardIndexes g items m → IsOfItsSpec g m → AllByRecursion (ForwardIndexes g items) l → AllByRecursion (IsOfItsSpec g) l → AllByRecursion (HaveOneSource m) l
-others_by_index g items m [] at_m of_m indexes of_specs = tt
-others_by_index g items m (n ∷ l) at_m of_m indexes of_specs = (λ spec item. one_start g items m n at_m indexes.0 of_m of_specs.0 spec item m.item refl, others_by_index g items m l at_m of_m indexes.1 of_specs.1)
+one_source : (g : List Reading) (items : List Ref) (m n : Mapped) → ForwardAt g items m → ForwardAt g items n → HaveOneSource m n
+one_source g items m n (r, here, made) (q, there, also) spec item =
+    let same : r ≡ q = same_Some r q (sym here ∙ ap (slice_get g) spec ∙ there) in
+    one_start items n.item q m.source n.source m.destination n.destination (subst (λ (x : Reading). MakesForwardOf items n.item m.source m.destination x) same (subst (λ (i : Option ℕ). MakesForwardOf items i m.source m.destination r) item made)) also
 
-sources_by_index : (g : List Reading) (items : List Ref) (l : List Mapped) → AllByRecursion (ForwardIndexes g items) l → AllByRecursion (IsOfItsSpec g) l → HaveSourcesByIndex l
-sources_by_index g items [] indexes of_specs = tt
-sources_by_index g items (m ∷ l) indexes of_specs = (others_by_index g items m l indexes.0 of_specs.0 indexes.1 of_specs.1, sources_by_index g items l indexes.1 of_specs.1)
+sources_by_index : (g : List Reading) (items : List Ref) (l : List Mapped) → AllByRecursion (ForwardAt g items) l → HaveSourcesByIndex l
+sources_by_index g items [] made = tt
+sources_by_index g items (m ∷ l) made = (all_weaker (ForwardAt g items) (HaveOneSource m) (λ n also. one_source g items m n made.0 also) l made.1, sources_by_index g items l made.1)
 
 pub plans_apart : PlansApart
 plans_apart g items l rest fixes kept valid =
     let law = item_indexes_fit g items in
     let indexes = law.validated l rest fixes valid (law.forward l kept) in
-    let of_specs = stays_each (λ j m. Survives m) (IsOfItsSpec g) 0 l rest (kept_of_specs g items l kept) valid.survive in
     record {
       indexes = indexes;
-      starts = sources_by_index g items rest indexes of_specs;
+      starts = sources_by_index g items rest (stays_each (λ j m. Survives m) (ForwardAt g items) 0 l rest ((made_at_indexes g items).forward l kept) valid.survive);
       pairs = apart_still (λ j m. Survives m) 0 l rest (kept_once g kept.all l kept.is) valid.survive;
       destinations = (validated_once g items l rest fixes valid).1 kept;
       fixed = fixes_apart g 0 l fixes (kept_distinct_destinations g items l kept valid.free) valid.fixed;

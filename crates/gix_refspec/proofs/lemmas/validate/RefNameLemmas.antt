@@ -1,12 +1,15 @@
 -- Mappings that are split by their ref names, and what holds of the kept ones.
 use Rattle.gix_refspec.proofs.Common.{◌≡◌, ◌≢◌, inl, inr, ℕ, ◌+◌, ◌<◌, ◌≤◌, List, [], ◌∷◌, ◌++◌, Option, None, Some, length, map, get_or, option_map, codes, refl, sym, ap, ◌∙◌, subst}
-use Rattle.gix_refspec.proofs.Common.{append_assoc, arith, AllByRecursion, list_any, ◌⊎◌, ◌||◌, ◌==◌, IsTrue, cases_lt, lt-ltb, get_or-map, length-map, All-from_recursion, Mapping, NameRef}
-use Rattle.gix_refspec.proofs.Common.{Empty, EmptyComponent, StartsWithDot, InvalidByte, head, slash, ArePartsAt, BeginsWith, is_refused_byte, IsName, Reading, IsMadeFrom, Ref, Mapped}
-use Rattle.gix_refspec.proofs.Common.{mapped_of, name_bytes, IsMappingCopy, IsDestinationCopy, ForwardIndexes, ShareDestination, HaveDistinctDestinations, Survives, HaveRefNames}
-use Rattle.gix_refspec.proofs.Common.{IsInvalidAt, HasRefNames, IsValidDestination, IsRefName, StaysAmongRefs, WritesRef, WritesRefs}
+use Rattle.gix_refspec.proofs.Common.{append_assoc, AllByRecursion, list_any, ◌⊎◌, ◌||◌, ◌==◌, IsTrue, cases_lt, lt-ltb, Mapping, NameRef, Empty, EmptyComponent, StartsWithDot, InvalidByte}
+use Rattle.gix_refspec.proofs.Common.{head, slash, ArePartsAt, BeginsWith, is_refused_byte, IsName, Reading, IsMadeFrom, Ref, Mapped, mapped_of, name_bytes, IsMappingCopy, IsDestinationCopy}
+use Rattle.gix_refspec.proofs.Common.{ForwardIndexes, ShareDestination, HaveDistinctDestinations, Survives, HaveRefNames, IsInvalidAt, HasRefNames, IsValidDestination, IsRefName}
+use Rattle.gix_refspec.proofs.Common.{StaysAmongRefs, WritesRef, WritesRefs}
 use Rattle.gix_refspec.specs.declared.match_group.ref_names.InvalidSide.{InvalidSide}
 use Rattle.gix_refspec.specs.declared.match_group.ref_names.InvalidSide.TheVariants.{Source, Destination, Both}
-use Rattle.gix_refspec.proofs.lemmas.validate.AfterLemmas.{apart_still, made_each, distinct_destinations_after, stays_each, validated_once}
+use Rattle.gix_refspec.proofs.lemmas.validate.AfterLemmas.{apart_still, distinct_destinations_after, validated_once}
+use Rattle.gix_refspec.proofs.lemmas.MadeLemmas.{each_made, stays_each}
+use Rattle.gix_refspec_text.proofs.lemmas.lists.AllLemmas.{all_weaker}
+use Rattle.gix_refspec_text.proofs.lemmas.lists.MapLemmas.{each_mapped}
 use Rattle.gix_refspec.proofs.lemmas.validate.ConflictLemmas.{copied_name, copied_source}
 use Rattle.gix_refspec_text.proofs.lemmas.texts.HeadLemmas.{IsName-head}
 use Rattle.gix_refspec_match.proofs.lemmas.keep.KeptLemmas.{kept_once}
@@ -19,9 +22,7 @@ bad_unnamed Both m bad named = bad.0 named.source
 
 -- nor do all mappings of a list that has it
 pub some_unnamed : (ms : List Mapping) (i : ℕ) (m : Mapping) (side : InvalidSide) → i < length ms → m ≡ get_or ms i m → IsInvalidAt side (mapped_of m) → ¬ (AllByRecursion HasRefNames (map mapped_of ms))
-some_unnamed ms i m side below is bad all =
-    let named = All-from_recursion HasRefNames (map mapped_of ms) all i (mapped_of m) (omega (arith, below, length-map ms mapped_of)) in
-    bad_unnamed side (mapped_of m) bad (subst HasRefNames (get_or-map mapped_of ms i m (mapped_of m) below ∙ ap mapped_of (sym is)) named)
+some_unnamed ms i m side below is bad all = bad_unnamed side (mapped_of m) bad (each_mapped mapped_of HasRefNames ms i m all below is)
 
 pub copied_destination : (d e : Option NameRef) → IsDestinationCopy d e → option_map name_bytes e ≡ option_map name_bytes d
 copied_destination None None copy = refl
@@ -42,7 +43,7 @@ pub name_of_ref : (n : List ℕ) → IsRefName n → IsName n
 name_of_ref n (inl full) = full.1
 name_of_ref n (inr is) = subst IsName (sym is) IsName-head
 
-below_refs : (n : List ℕ) → IsRefName n → BeginsWith (codes "refs/") n ⊎ (n ≡ head)
+pub below_refs : (n : List ℕ) → IsRefName n → BeginsWith (codes "refs/") n ⊎ (n ≡ head)
 below_refs n (inl full) = inl full.0
 below_refs n (inr is) = inr is
 
@@ -87,11 +88,7 @@ named_writes m named d to =
     (ref, stays_among_refs d ref)
 
 each_named : (l named : List Mapped) → HaveRefNames l named → AllByRecursion HasRefNames named
-each_named l named are = made_each (λ k m made. (made ≡ m) × HasRefNames m) HasRefNames (length l) (λ k m made below one. subst HasRefNames (sym one.0) one.1) 0 l named (omega arith) are
-
-each_writes : (l : List Mapped) → AllByRecursion HasRefNames l → AllByRecursion WritesRef l
-each_writes [] all = tt
-each_writes (m ∷ l) all = (named_writes m all.0, each_writes l all.1)
+each_named l named are = each_made (λ k m made. (made ≡ m) × HasRefNames m) HasRefNames l named (λ k m made stands one. subst HasRefNames (sym one.0) one.1) are
 
 -- kept mappings have distinct destinations, if all have
 never_meets : (k : ℕ) (l named : List Mapped) → HaveDistinctDestinations l → IsMadeFrom (λ j m made. (made ≡ m) × HasRefNames m) k l named → HaveDistinctDestinations named
@@ -105,11 +102,11 @@ never_meets k (m ∷ l) named apart (Some made, rest, one, more, is) = subst Hav
 pub writes_refs : (g : List Reading) (items : List Ref) → WritesRefs g items
 writes_refs g items = record {
   before = λ l named rest out fixes keeps valid. (
-    each_writes rest (stays_each (λ j x. Survives x) HasRefNames 0 named rest (each_named l named keeps.named) valid.survive),
+    all_weaker HasRefNames WritesRef named_writes rest (stays_each (λ j x. Survives x) HasRefNames 0 named rest (each_named l named keeps.named) valid.survive),
     λ kept. distinct_destinations_after g named rest fixes valid (apart_still (λ j x. HasRefNames x) 0 l named (kept_once g kept.all l kept.is) keeps.named),
   );
   after = λ l rest named fixes out valid keeps. (
-    each_writes named (each_named rest named keeps.named),
+    all_weaker HasRefNames WritesRef named_writes named (each_named rest named keeps.named),
     λ kept. never_meets 0 rest named ((validated_once g items l rest fixes valid).1 kept) keeps.named,
   );
   fits = λ l named out keeps fit. stays_each (λ j x. HasRefNames x) (λ m. m.spec < length g) 0 l named fit keeps.named;

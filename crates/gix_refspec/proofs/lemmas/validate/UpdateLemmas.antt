@@ -4,7 +4,7 @@ use Rattle.gix_refspec.proofs.Common.{get_or, refl, sym, ap, ◌∙◌, subst, a
 use Rattle.gix_refspec.proofs.Common.{nat_cmp, ordering_then, ordering_reverse, slice_cmp, nat_list_cmp_total, cases_lt, false≢true, not-false, not-true, bytes_eq-Decides, bytes_eq}
 use Rattle.gix_refspec.proofs.Common.{get_or-map, length-map, map-append, take-append-drop, take_more, drop_more, length-drop, All-from_recursion, slice_get-map, slice_get_read}
 use Rattle.gix_refspec.proofs.Common.{slice_get_within, Update, Mapping, NameRef, Mapped, mapped_of, name_bytes, IsFlagged, Rises, AreUpdates, GoesTo, HasUpdate, IsRun, update_cmp}
-use Rattle.gix_refspec.proofs.Common.{updated_indexes, same_texts, both_equal}
+use Rattle.gix_refspec.proofs.Common.{updated_indexes, same_texts, both_equal, rules, same_Some}
 use Rattle.std.specs.declared.cmp.Ordering.{Ordering}
 use Rattle.std.specs.Cmp.{IsTotalOrder}
 use Rattle.std.proofs.lemmas.Cmp.{nat_cmp_total, on_total, ranked, then_total}
@@ -87,8 +87,7 @@ HasUpdate-permuted xs ys k d moved has =
 
 pub HasUpdate-left : (xs ys : List Update) (k : ℕ) (d : List ℕ) → HasUpdate xs k d → HasUpdate (xs ++ ys) k d
 HasUpdate-left [] ys k d has = absurd has
-HasUpdate-left (x ∷ xs) ys k d (inl is) = inl is
-HasUpdate-left (x ∷ xs) ys k d (inr has) = inr (HasUpdate-left xs ys k d has)
+HasUpdate-left (x ∷ xs) ys k d has = search (rules, HasUpdate-left xs ys k d)
 
 pub HasUpdate-right : (xs ys : List Update) (k : ℕ) (d : List ℕ) → HasUpdate ys k d → HasUpdate (xs ++ ys) k d
 HasUpdate-right [] ys k d has = has
@@ -96,11 +95,7 @@ HasUpdate-right (x ∷ xs) ys k d has = inr (HasUpdate-right xs ys k d has)
 
 pub HasUpdate-cases : (xs ys : List Update) (k : ℕ) (d : List ℕ) → HasUpdate (xs ++ ys) k d → HasUpdate xs k d ⊎ HasUpdate ys k d
 HasUpdate-cases [] ys k d has = inr has
-HasUpdate-cases (x ∷ xs) ys k d (inl is) = inl (inl is)
-HasUpdate-cases (x ∷ xs) ys k d (inr has) = elim (HasUpdate-cases xs ys k d has) [
-  | inl left ↦ inl (inr left)
-  | inr right ↦ inr right
-]
+HasUpdate-cases (x ∷ xs) ys k d has = search (rules, HasUpdate-cases xs ys k d)
 
 -- the sorted updates are those of all mappings
 pub updates_sorted : (l : List Mapped) (flags : List Bool) (p : ℕ) (cs new : List Update) → length l ≤ p → AreUpdatesUpto l flags p cs → IsPermutation cs new → IsSorted (λ (x : Update) (y : Update). ordering_then (slice_cmp nat_cmp x.destination.now y.destination.now) (nat_cmp x.index y.index)) new → AreUpdates l flags new
@@ -114,10 +109,8 @@ updates_sorted l flags p cs new past made moved sorted = record {
 
 one_index : (l : List Mapped) (k : ℕ) (d e : List ℕ) → GoesTo l k d → GoesTo l k e → d ≡ e
 one_index l k d e (m, is_m, to_d) (n, is_n, to_e) =
-    let same : Some m ≡ Some n = sym is_m ∙ is_n in
-    let one : m ≡ n = cc in
-    let both : Some d ≡ Some e = sym to_d ∙ ap (λ (x : Mapped). x.destination) one ∙ to_e in
-    cc
+    let one : m ≡ n = same_Some m n (sym is_m ∙ is_n) in
+    same_Some d e (sym to_d ∙ ap (λ (x : Mapped). x.destination) one ∙ to_e)
 
 -- one more update is appended
 pub updates_more : (l : List Mapped) (flags : List Bool) (cs new : List Update) (c : Update) → new ≡ cs ++ c ∷ [] → GoesTo l c.index c.destination.now → ¬ (IsFlagged flags c.index) → AreUpdatesUpto l flags c.index cs → AreUpdatesUpto l flags (c.index + 1) new
@@ -227,3 +220,7 @@ goes_nowhere ms k m d below is none (n, is_n, to) =
 
 pub goes_to_name : (ms : List Mapping) (k : ℕ) (m : Mapping) (n : NameRef) → k < length ms → m ≡ get_or ms k m → m.rhs ≡ Some n → GoesTo (map mapped_of ms) k (name_bytes n)
 goes_to_name ms k m n below is to = (mapped_of m, mapped_at ms k m below is, ap (option_map name_bytes) to)
+
+-- the value of a read past the end
+abbrev pub past_end : Update
+past_end = record { destination = record { ref_ptr = (0, 0); now = [] }; index = 0 }

@@ -2,10 +2,9 @@
 use Rattle.gix_refspec.proofs.Common.{◌≡◌, ◌↔◌, ℕ, ◌+◌, ◌<◌, List, [], ◌∷◌, ◌++◌, Option, None, Some, option_map, option_to_list, Bool, true, false, length, map, take, get_or, refl, sym, ap}
 use Rattle.gix_refspec.proofs.Common.{◌∙◌, subst, arith, AllByRecursion, items_where_true, MatchOption, false≢true, append-nil, map_more, slice_get-map, slice_get_read, Mapping, NameRef}
 use Rattle.gix_refspec.proofs.Common.{Fix, Issue, RefSpecRef, Reading, reading_of, MakesOf, IsMadeFrom, Mapped, mapped_of, name_bytes, conflict_of, removed_of, AreConflicts, AreFixes}
-use Rattle.gix_refspec.proofs.Common.{AreSurvivors, IsFix, IsValidated, IsWritable, Removed, Survives}
+use Rattle.gix_refspec.proofs.Common.{AreSurvivors, IsFix, IsValidated, IsWritable, Removed, Survives, length-append}
 use Rattle.std.specs.List.Retain.{ReturnsInTurn, IsFiltered}
 use Rattle.gix_refspec_match.proofs.lemmas.lists.JoinLemmas.{made_next, map_long}
-use Rattle.gix_refspec_text.proofs.lemmas.lists.AllLemmas.{all_join}
 
 -- elements made of one more mapping are appended
 made_of_next : {Y : Type 0} (R : ℕ → Mapped → Y → Type 0) (ms : List Mapping) (i : ℕ) (m : Mapping) (ys : List Y) (made : Option Y) → i < length ms → m ≡ get_or ms i m → IsMadeFrom R 0 (map mapped_of (take i ms)) ys → MakesOf R i (mapped_of m) made → IsMadeFrom R 0 (map mapped_of (take (i + 1) ms)) (ys ++ option_to_list made)
@@ -21,15 +20,8 @@ nothing_more {Y} R ms i m ys below is none so_far = subst (λ (xs : List Y). IsM
 pub one_more : {Y : Type 0} (R : ℕ → Mapped → Y → Type 0) (ms : List Mapping) (i : ℕ) (m : Mapping) (ys new : List Y) (y : Y) → i < length ms → m ≡ get_or ms i m → new ≡ ys ++ y ∷ [] → R i (mapped_of m) y → IsMadeFrom R 0 (map mapped_of (take i ms)) ys → IsMadeFrom R 0 (map mapped_of (take (i + 1) ms)) new
 one_more {Y} R ms i m ys new y below is pushed one so_far = subst (λ (xs : List Y). IsMadeFrom R 0 (map mapped_of (take (i + 1) ms)) xs) (sym pushed) (made_of_next R ms i m ys (Some y) below is so_far one)
 
--- one more mapping of which P holds
-pub all_next : (P : Mapped → Type 0) (ms : List Mapping) (i : ℕ) (m : Mapping) → i < length ms → m ≡ get_or ms i m → P (mapped_of m) → AllByRecursion P (map mapped_of (take i ms)) → AllByRecursion P (map mapped_of (take (i + 1) ms))
-all_next P ms i m below is one so_far =
-    subst (λ (l : List Mapped). AllByRecursion P l) (ap (λ (x : Mapping). map mapped_of (take i ms) ++ mapped_of x ∷ []) is ∙ sym (map_more mapped_of ms i m below))
-    (all_join P (map mapped_of (take i ms)) (mapped_of m ∷ []) so_far (one, tt))
-
 pub not_empty : {X : Type 0} (xs new : List X) (x : X) → new ≡ xs ++ x ∷ [] → ¬ (new ≡ [])
-not_empty [] new x grown empty = absurd (cc)
-not_empty (y ∷ xs) new x grown empty = absurd (cc)
+not_empty xs new x grown empty = omega (arith, length-append xs (x ∷ []), ap length grown, ap length empty)
 
 -- if P holds of a whole list, all of it is kept
 pub kept_whole : (P : Mapped → Type 0) (k : ℕ) (l : List Mapped) → AllByRecursion P l → IsMadeFrom (λ j m made. (made ≡ m) × P m) k l l

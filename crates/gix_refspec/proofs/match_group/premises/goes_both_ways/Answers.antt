@@ -1,6 +1,6 @@
 -- Both sides have a star exactly if the source has one.
 use Rattle.gix_refspec.proofs.Common.{◌↔◌, IsTrue, List, ℕ, Some, option_map, sym, ap, ◌∙◌, subst, bstr_bytes, reading_of, GoesBothWays}
-use Rattle.gix_refspec.proofs.lemmas.hits.PremiseLemmas.{goes_below_refs, goes_by_star}
+use Rattle.gix_refspec.proofs.lemmas.hits.TransposeLemmas.{goes_below_refs, goes_by_star}
 use Rattle.gix_refspec.proofs.match_group.premises.goes_both_ways.Goals as goal
 
 pub returns-then-contains : goal.returns-then-contains

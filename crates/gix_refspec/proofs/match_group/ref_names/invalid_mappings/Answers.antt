@@ -1,8 +1,9 @@
 -- a copy of a mapping with an invalid side is appended
 use Rattle.gix_refspec.proofs.Common.{◌≡◌, [], ◌∷◌, ◌++◌, ◌+◌, Vec, Global, map, take, sym, ap, ◌∙◌, subst, rules, AllByRecursion, map-append, InvalidMapping, mapped_of, AreLeftOut}
 use Rattle.gix_refspec.proofs.Common.{IsLeftOut, HasRefNames, left_out_of}
-use Rattle.gix_refspec.proofs.lemmas.validate.ValidationLemmas.{all_next, not_empty, nothing_more, one_more}
+use Rattle.gix_refspec.proofs.lemmas.validate.ValidationLemmas.{not_empty, nothing_more, one_more}
 use Rattle.gix_refspec.proofs.lemmas.validate.RefNameLemmas.{bad_unnamed, copied_mapping, some_unnamed}
+use Rattle.gix_refspec_text.proofs.lemmas.lists.MapLemmas.{one_more_mapped}
 use Rattle.gix_refspec.proofs.match_group.ref_names.invalid_mappings.Goals as goal
 use Rattle.gix_refspec.proofs.match_group.ref_names.invalid_mappings.Goals.{in-Some+in_ok-clone+in_ok-push, in_default}
 
@@ -35,6 +36,6 @@ loop-mapping-preserved c =
       | in_default w ↦
           subst stays (sym w.bad-is) (
             nothing_more (λ k n made. IsLeftOut n made) ms i m bad c.loop-mapping-test.true c.mapping-item.is (λ made out. bad_unnamed made.side (mapped_of m) out.bad w.in_default.ensures) c.loop-mapping.invariant.0,
-            λ empty. all_next HasRefNames ms i m c.loop-mapping-test.true c.mapping-item.is w.in_default.ensures (c.loop-mapping.invariant.1 empty),
+            λ empty. one_more_mapped mapped_of HasRefNames ms i m (c.loop-mapping.invariant.1 empty) c.loop-mapping-test.true c.mapping-item.is w.in_default.ensures,
           )
     ]

@@ -1,25 +1,19 @@
 -- the index of the first update of another destination splits off the run
-use Rattle.gix_refspec.proofs.Common.{◌≡◌, ℕ, [], get_or, length, take, drop, ap, ◌∙◌, subst, arith, get_or_default, Update, IsRun}
-use Rattle.gix_refspec.proofs.lemmas.validate.UpdateLemmas.{all_more, split_at, differ_from_test, same_from_test}
+use Rattle.gix_refspec.proofs.Common.{◌≡◌, ℕ, get_or, length, take, drop, ap, ◌∙◌, subst, arith, get_or_default, Update, IsRun}
+use Rattle.gix_refspec.proofs.lemmas.validate.UpdateLemmas.{all_more, past_end, split_at, differ_from_test, same_from_test}
 use Rattle.gix_refspec.proofs.match_group.validate.conflicts.len_of_run.Goals as goal
 
--- the value of a read past the end
-none : Update
-none = record { destination = record { ref_ptr = (0, 0); now = [] }; index = 0 }
-
 pub returns-then-ne-clause-split : goal.returns-then-ne-clause-split
-unfolding none
-returns-then-ne-clause-split c = split_at c.args.updates.now c.loop-len.len none c.requires.some c.requires.order (c.loop-len.invariant none) (λ below. differ_from_test (get_or c.args.updates.now c.loop-len.len none).destination.now (get_or c.args.updates.now 0 none).destination.now c.ne.result c.ne.ensures c.if-ne.true)
+returns-then-ne-clause-split c = split_at c.args.updates.now c.loop-len.len past_end c.requires.some c.requires.order (c.loop-len.invariant past_end) (λ below. differ_from_test (get_or c.args.updates.now c.loop-len.len past_end).destination.now (get_or c.args.updates.now 0 past_end).destination.now c.ne.result c.ne.ensures c.if-ne.true)
 
 pub loop-len-preserved : goal.loop-len-preserved
-unfolding none
 loop-len-preserved c d =
     let cs = c.args.updates.now in
-    let same : (get_or cs c.loop-len.len none).destination.now ≡ (get_or cs 0 none).destination.now = same_from_test (get_or cs c.loop-len.len none).destination.now (get_or cs 0 none).destination.now c.ne.result c.ne.ensures c.if-ne.false in
-    all_more (λ (x : Update). x.destination.now ≡ (get_or cs 0 d).destination.now) cs c.loop-len.len none c.loop-len-test.true (c.loop-len.invariant d) (same ∙ ap (λ (x : Update). x.destination.now) (get_or_default cs 0 none d (omega arith)))
+    let same : (get_or cs c.loop-len.len past_end).destination.now ≡ (get_or cs 0 past_end).destination.now = same_from_test (get_or cs c.loop-len.len past_end).destination.now (get_or cs 0 past_end).destination.now c.ne.result c.ne.ensures c.if-ne.false in
+    all_more (λ (x : Update). x.destination.now ≡ (get_or cs 0 d).destination.now) cs c.loop-len.len past_end c.loop-len-test.true (c.loop-len.invariant d) (same ∙ ap (λ (x : Update). x.destination.now) (get_or_default cs 0 past_end d (omega arith)))
 
 pub returns-clause-split : goal.returns-clause-split
 returns-clause-split c =
     let cs = c.args.updates.now in
     let whole : c.loop-len.len ≡ length cs = omega arith in
-    subst (λ (n : ℕ). IsRun (take n cs) (drop n cs)) whole (split_at cs c.loop-len.len none c.requires.some c.requires.order (c.loop-len.invariant none) (λ below. absurd (omega arith)))
+    subst (λ (n : ℕ). IsRun (take n cs) (drop n cs)) whole (split_at cs c.loop-len.len past_end c.requires.some c.requires.order (c.loop-len.invariant past_end) (λ below. absurd (omega arith)))
