@@ -14,7 +14,7 @@ pub use Rattle.std.proofs.lemmas.Slice.Eq.{bytes_eq-Decides, starts_is}
 pub use Rattle.std.specs.Prelude.{IsSome}
 pub use Rattle.std.proofs.lemmas.List.{get_or-map, length-map, append-nil, map-append, map_more, get_or_append_left, get_or_past, length-take-le, take-append-drop, take_more, drop_more}
 pub use Rattle.std.proofs.lemmas.List.{length-drop, nil_from_length, take_all, drop-drop, get_or_default}
-pub use Rattle.std.proofs.lemmas.List.Elements.{All-contains_itself, All-filter, recursion_from_All, All-from_recursion, Contains-get_or, Contains-append_left, Contains-push, AllZip-push}
+pub use Rattle.std.proofs.lemmas.List.Elements.{All-contains, All-contains_itself, All-filter, recursion_from_All, All-from_recursion, Contains-get_or, Contains-append_left, Contains-push, AllZip-push}
 pub use Rattle.std.specs.Str.{bytes_eq}
 pub use Rattle.bstr.specs.declared.bstring.BString.{BString}
 pub use Rattle.bstr.specs.Owned.{bstring_bytes}
@@ -81,3 +81,16 @@ pub use Rattle.gix_refspec.specs.Laws.Validation.{OneValidation, IsOutcomeCopy, 
 pub use Rattle.gix_refspec.specs.Private.Updates.{all_destinations, AddsConflict, AreUpdates, AreFirstUpdates, AreConflicting, HasUpdate, IsRun, IsFirstAt, IsConflictOf, update_cmp}
 pub use Rattle.gix_refspec.specs.Private.Updates.{updated_indexes, GoesTo}
 pub use Rattle.gix_refspec.specs.declared.match_group.validate.conflicts.Update.{Update}
+pub use Rattle.gix_refspec_text.proofs.lemmas.lists.AllLemmas.{all_join, all_weaker, all_left, all_right}
+pub use Rattle.gix_refspec_text.proofs.lemmas.lists.MapLemmas.{each_mapped, one_more_mapped}
+pub use Rattle.gix_refspec_match.proofs.lemmas.lists.JoinLemmas.{nothing_made, joined_next, map_split, map_long, nothing_joined, made_next}
+pub use Rattle.gix_refspec_text.proofs.facts.ManualFacts.{named, other_length, Lacks-tested, none_some, IsPattern-tested, no_sign}
+pub use Rattle.gix_refspec_text.proofs.facts.FitFacts.{blob, dev_ref, every, main_ref, no_dev, short_kind, short_no_id, tag_ref, blob_kind, split_at_end, other_byte, of_element}
+pub use Rattle.gix_refspec_text.proofs.facts.FitFacts.{origin_split, short, push_is_none, below_tags, other_first}
+pub use Rattle.gix_refspec_text.proofs.facts.FaultFacts.{begins_not, no_component}
+pub use Rattle.gix_refspec_text.proofs.facts.ObjectIdFacts.{empty_blob, lower_of-empty_blob, IsIdText-empty_blob, HasIdFault-length}
+pub use Rattle.gix_refspec_match.proofs.facts.MatchFacts.{mapping, tracked, bytes_in, tag_to_x, branch_to_x, tag_again, tag_to_foo, tag_alone, pairs, are_forward_ends, fetches_all_but_dev}
+pub use Rattle.gix_refspec_match.proofs.facts.MatchFacts.{forward_ends, taken_by, takes_no_tag, tracks_all_but_dev, blob_mapping, dev_excluded, main_stays, maps_all, only_dev, tracks_all}
+pub use Rattle.gix_refspec_match.proofs.facts.MatchFacts.{tracks_nothing}
+pub use Rattle.gix_refspec_match.proofs.facts.CandidateFacts.{branch_and_tag, main_tag, main_ends, main_to_x, takes_the_tag, x_kind, main_branch, no_tags, no_other_first, not_excluded}
+pub use Rattle.gix_refspec_match.proofs.facts.CandidateFacts.{tags_excluded}

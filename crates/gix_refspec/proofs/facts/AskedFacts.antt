@@ -1,12 +1,9 @@
 -- Examples of ref prefixes, for sides and groups like those of git-fetch(1), and what a caller concludes from them.
-use Rattle.gix_refspec.proofs.Common.{◌≡◌, inl, inr, ℕ, List, [], ◌∷◌, ◌++◌, None, Some, codes, length, refl, ap, subst, arith, bracket, star, BeginsWith, Normal, fetched, pushed, pattern}
-use Rattle.gix_refspec.proofs.Common.{partial, object, HasKind, candidates, IsRefPrefix, Ref, Mapped, AreKeptForward, HasNoList, Lists, ListsGroup, ListsSide, Serves}
+use Rattle.gix_refspec.proofs.Common.{Lacks-tested, other_length, begins_not, blob_kind, split_at_end, every, no_dev, other_byte, short_kind, mapping, ◌≡◌, inl, inr, ℕ, List, [], ◌∷◌, ◌++◌}
+use Rattle.gix_refspec.proofs.Common.{None, Some, codes, length, refl, ap, subst, arith, bracket, star, BeginsWith, Normal, fetched, pushed, pattern, partial, object, HasKind, candidates}
+use Rattle.gix_refspec.proofs.Common.{IsRefPrefix, Ref, Mapped, AreKeptForward, HasNoList, Lists, ListsGroup, ListsSide, Serves}
 use Rattle.gix_refspec.proofs.lemmas.prefixes.AskedLemmas.{list_as, no_list}
-use Rattle.gix_refspec_text.proofs.facts.ManualFacts.{Lacks-tested, other_length}
 use Rattle.gix_refspec.proofs.facts.KeptFacts.{of_one}
-use Rattle.gix_refspec_text.proofs.facts.FaultFacts.{begins_not}
-use Rattle.gix_refspec_text.proofs.facts.FitFacts.{blob_kind, split_at_end, every, no_dev, other_byte, short_kind}
-use Rattle.gix_refspec_match.proofs.facts.MatchFacts.{mapping}
 use Rattle.gix_refspec_text.proofs.facts.PrefixFacts.{bracket_split, suffix_split, tells}
 use Rattle.gix_refspec_text.proofs.lemmas.prefixes.PrefixLemmas.{id_not_head, one_asked}
 use Rattle.gix_refspec_text.proofs.lemmas.lists.LacksLemmas.{Lacks-here}

@@ -1,18 +1,16 @@
 -- Which items may be left out, and what a caller concludes from the laws on that.
-use Rattle.gix_refspec.proofs.Common.{◌≡◌, ◌≢◌, inl, inr, ℕ, zero, suc, List, [], ◌∷◌, None, Some, codes, refl, sym, ap, subst, arith, Bool, true, false, map, filter, Any, Contains}
-use Rattle.gix_refspec.proofs.Common.{bstr_bytes, false≢true, Item, BeginsWith, head, Normal, Reading, fetched, pushed, pattern, filled, to_prefix, Ref, HasName, Matches, Takes, name}
-use Rattle.gix_refspec.proofs.Common.{Mapped, HasPair, AreForwardEnds, AreBackwardEnds, Hit, AreKeptForward, AreKeptBackward, ref_of, HasCoveringSource, IsCovering, BeginsWithOne}
-use Rattle.gix_refspec.proofs.Common.{IsCoveredBy, AreExpansions, MakesForward, AreAskedFor, ArePart, AskedItems, TakesItem, HasTaken, HaveSamePairs, FewerItems, FetchesHead, IsListed}
-use Rattle.gix_refspec.proofs.Common.{AreListedItems, ListedItems, PassesTaken, FilteredItems, is_begun, FilteredByEntries, FilteredByList, ListsGroup, same_Some}
+use Rattle.gix_refspec.proofs.Common.{branch_and_tag, main_branch, main_tag, main_ends, main_to_x, takes_the_tag, begins_not, named, other_length, dev_ref, every, main_ref, no_dev}
+use Rattle.gix_refspec.proofs.Common.{origin_split, other_byte, short, short_no_id, tag_ref, of_element, push_is_none, are_forward_ends, bytes_in, fetches_all_but_dev, forward_ends}
+use Rattle.gix_refspec.proofs.Common.{taken_by, takes_no_tag, tracked, tracks_all_but_dev, ◌≡◌, ◌≢◌, inl, inr, ℕ, zero, suc, List, [], ◌∷◌, None, Some, codes, refl, sym, ap, subst, arith}
+use Rattle.gix_refspec.proofs.Common.{Bool, true, false, map, filter, Any, Contains, bstr_bytes, false≢true, Item, BeginsWith, head, Normal, Reading, fetched, pushed, pattern, filled}
+use Rattle.gix_refspec.proofs.Common.{to_prefix, Ref, HasName, Matches, Takes, name, Mapped, HasPair, AreForwardEnds, AreBackwardEnds, Hit, AreKeptForward, AreKeptBackward, ref_of}
+use Rattle.gix_refspec.proofs.Common.{HasCoveringSource, IsCovering, BeginsWithOne, IsCoveredBy, AreExpansions, MakesForward, AreAskedFor, ArePart, AskedItems, TakesItem, HasTaken}
+use Rattle.gix_refspec.proofs.Common.{HaveSamePairs, FewerItems, FetchesHead, IsListed, AreListedItems, ListedItems, PassesTaken, FilteredItems, is_begun, FilteredByEntries, FilteredByList}
+use Rattle.gix_refspec.proofs.Common.{same_Some}
 use Rattle.gix_refspec.proofs.facts.AskedFacts.{lists_of_specs}
 use Rattle.gix_refspec.proofs.facts.KeptFacts.{of_one}
-use Rattle.gix_refspec_match.proofs.facts.CandidateFacts.{branch_and_tag, main_branch, main_tag, main_ends, main_to_x, takes_the_tag}
 use Rattle.gix_refspec.proofs.lemmas.prefixes.CoverLemmas.{joined_covers}
-use Rattle.gix_refspec_text.proofs.facts.FaultFacts.{begins_not}
 use Rattle.gix_refspec_text.proofs.facts.CoveringFacts.{below_heads, covering, not_covering}
-use Rattle.gix_refspec_text.proofs.facts.ManualFacts.{named, other_length}
-use Rattle.gix_refspec_text.proofs.facts.FitFacts.{dev_ref, every, main_ref, no_dev, origin_split, other_byte, short, short_no_id, tag_ref, of_element, push_is_none}
-use Rattle.gix_refspec_match.proofs.facts.MatchFacts.{are_forward_ends, bytes_in, fetches_all_but_dev, forward_ends, taken_by, takes_no_tag, tracked, tracks_all_but_dev}
 
 abbrev group : List Reading
 group = every ∷ no_dev ∷ []
@@ -224,9 +222,6 @@ by_entries items some law is = law (codes "refs/heads/" ∷ []) expanded is
 
 -- ---- ref prefixes
 
-group_lists : ListsGroup group (codes "refs/heads/" ∷ [])
-group_lists = (codes "refs/heads/" ∷ [], [], lists_of_specs.0, ([], [], lists_of_specs.1, refl, refl), refl)
-
 -- the branches are what a server lists for the ref prefix, and one of two isn't
 pub branches_asked : AreAskedFor (codes "refs/heads/" ∷ []) all_refs branches × ¬ (AreAskedFor (codes "refs/heads/" ∷ []) all_refs (main_ref ∷ [])) × ¬ (AreAskedFor [] [] (main_ref ∷ []))
 unfolding branches_listed
@@ -238,7 +233,7 @@ branches_asked = (
 
 -- so by the law the same pairs are kept
 pub same_pairs_asked : AskedItems group all_refs branches → (fewer : List Mapped) → AreKeptForward group branches fewer → HaveSamePairs (tracked 2 (codes "main") ∷ []) fewer
-same_pairs_asked law fewer are = law (codes "refs/heads/" ∷ []) group_lists (refl, (refl, tt)) branches_asked.0 (tracked 2 (codes "main") ∷ []) fewer fetches_all_but_dev are
+same_pairs_asked law fewer are = law (codes "refs/heads/" ∷ []) (codes "refs/heads/" ∷ [], [], lists_of_specs.0, ([], [], lists_of_specs.1, refl, refl), refl) (refl, (refl, tt)) branches_asked.0 (tracked 2 (codes "main") ∷ []) fewer fetches_all_but_dev are
 
 -- and they can't be lost
 pub none_lost_asked : AskedItems group all_refs branches → ¬ (AreKeptForward group branches [])

@@ -1,13 +1,11 @@
 -- What a caller concludes from the laws on kept mappings: that a pair is kept, that one isn't, and by which spec and
 -- item.
-use Rattle.gix_refspec.proofs.Common.{◌≡◌, inl, inr, ℕ, zero, suc, List, [], ◌∷◌, ◌++◌, Option, None, Some, codes, refl, sym, ap, ◌∙◌, subst, arith, AllByRecursion, Any, Contains, slice_get}
-use Rattle.gix_refspec.proofs.Common.{partial, full_name, HasKind, Ref, IsFirstCandidate, name, Mapped, HasPair, IsExcluded, AreKeptForward, AreKeptBackward, MakesForward, MakesBackward}
-use Rattle.gix_refspec.proofs.Common.{PairsId, KeptExactly, FirstStays, NothingExcluded, ForwardIndexes, IsValidated, ItemIndexesFit, Removed, same_Some}
-use Rattle.gix_refspec_match.proofs.facts.CandidateFacts.{branch_and_tag, main_tag, main_ends, main_to_x, no_tags, no_other_first, not_excluded, tags_excluded, takes_the_tag, x_kind}
-use Rattle.gix_refspec_text.proofs.facts.ManualFacts.{named, other_length}
-use Rattle.gix_refspec_text.proofs.facts.ObjectIdFacts.{empty_blob}
-use Rattle.gix_refspec_text.proofs.facts.FitFacts.{below_tags, blob, blob_kind, dev_ref, every, main_ref, no_dev, short_kind, short_no_id, tag_ref}
-use Rattle.gix_refspec_match.proofs.facts.MatchFacts.{blob_mapping, bytes_in, dev_excluded, main_stays, mapping, maps_all, only_dev, tracked, tracks_all}
+use Rattle.gix_refspec.proofs.Common.{branch_and_tag, main_tag, main_ends, main_to_x, no_tags, no_other_first, not_excluded, tags_excluded, takes_the_tag, x_kind, named, other_length}
+use Rattle.gix_refspec.proofs.Common.{empty_blob, below_tags, blob, blob_kind, dev_ref, every, main_ref, no_dev, short_kind, short_no_id, tag_ref, blob_mapping, bytes_in, dev_excluded}
+use Rattle.gix_refspec.proofs.Common.{main_stays, mapping, maps_all, only_dev, tracked, tracks_all, ◌≡◌, inl, inr, ℕ, zero, suc, List, [], ◌∷◌, ◌++◌, Option, None, Some, codes, refl, sym}
+use Rattle.gix_refspec.proofs.Common.{ap, ◌∙◌, subst, arith, AllByRecursion, Any, Contains, slice_get, partial, full_name, HasKind, Ref, IsFirstCandidate, name, Mapped, HasPair, IsExcluded}
+use Rattle.gix_refspec.proofs.Common.{AreKeptForward, AreKeptBackward, MakesForward, MakesBackward, PairsId, KeptExactly, FirstStays, NothingExcluded, ForwardIndexes, IsValidated}
+use Rattle.gix_refspec.proofs.Common.{ItemIndexesFit, Removed, same_Some}
 
 -- with any indexes
 abbrev tag_pair : Mapped

@@ -1,12 +1,15 @@
 -- Examples of the definitions that only laws use: which specs go both ways, what a covering source covers, what a
 -- canonical text reads as, and the expansion of a group.
-use Rattle.gix_refspec.proofs.Common.{◌≡◌, ◌≢◌, ◌⊎◌, ◌<◌, ℕ, List, [], ◌∷◌, ◌++◌, Option, None, Some, length, codes, refl, sym, ap, ◌∙◌, subst, inl, inr, arith, AllByRecursion, Push, Fetch}
-use Rattle.gix_refspec.proofs.Common.{BeginsWith, HasStar, IsPattern, star, colon, Normal, Forced, Negative, Reading, AreParts, Reads, fetches, fetched, pushed, candidates, IsCandidate}
-use Rattle.gix_refspec.proofs.Common.{Fits, name, id, Mapped, HasPair, AreApart, AreKeptForward, AreKeptBackward, OneForward, OneBackward, KeptOnce, Ref, Matches, HasName, Takes}
-use Rattle.gix_refspec.proofs.Common.{ValidatedOnce, DestinationsHaveOneSource, HaveDistinctDestinations, ForwardFits, IndexesFit, push_delete, fetch_only, printed, meaning_of, Refusal}
-use Rattle.gix_refspec.proofs.Common.{PatternUnbalanced, NegativeEmpty, ReferenceName, IsRefused, IsIdText, IsLowerText, HasIdFault, LockSuffix, RepeatedDot, IsAsked, IsPrefix, Expands}
-use Rattle.gix_refspec.proofs.Common.{to_prefix, to_candidates, IsCovering, HasCoveringSource, MapAlike, AreReadAgain, AsksFor, AtSpec, EachSource, Transpose, Cover, CoverTogether}
-use Rattle.gix_refspec.proofs.Common.{FetchGroupReadsBack, IsCoveredBy, IsSourceAmong, IsDestinationAmong, GoesBothWays, ReadsAgainAs, BeginsWithOne, AreExpansions, same_Some}
+use Rattle.gix_refspec.proofs.Common.{Lacks-tested, IsPattern-tested, other_length, none_some, named, no_sign, begins_not, empty_blob, IsIdText-empty_blob, lower_of-empty_blob}
+use Rattle.gix_refspec.proofs.Common.{HasIdFault-length, every, no_dev, short, short_kind, other_byte, other_first, push_is_none, bytes_in, mapping, tracked, fetches_all_but_dev}
+use Rattle.gix_refspec.proofs.Common.{tracks_all_but_dev, tracks_nothing, tag_to_x, tag_to_foo, tag_alone, ◌≡◌, ◌≢◌, ◌⊎◌, ◌<◌, ℕ, List, [], ◌∷◌, ◌++◌, Option, None, Some, length, codes}
+use Rattle.gix_refspec.proofs.Common.{refl, sym, ap, ◌∙◌, subst, inl, inr, arith, AllByRecursion, Push, Fetch, BeginsWith, HasStar, IsPattern, star, colon, Normal, Forced, Negative, Reading}
+use Rattle.gix_refspec.proofs.Common.{AreParts, Reads, fetches, fetched, pushed, candidates, IsCandidate, Fits, name, id, Mapped, HasPair, AreApart, AreKeptForward, AreKeptBackward}
+use Rattle.gix_refspec.proofs.Common.{OneForward, OneBackward, KeptOnce, Ref, Matches, HasName, Takes, ValidatedOnce, DestinationsHaveOneSource, HaveDistinctDestinations, ForwardFits}
+use Rattle.gix_refspec.proofs.Common.{IndexesFit, push_delete, fetch_only, printed, meaning_of, Refusal, PatternUnbalanced, NegativeEmpty, ReferenceName, IsRefused, IsIdText, IsLowerText}
+use Rattle.gix_refspec.proofs.Common.{HasIdFault, LockSuffix, RepeatedDot, IsAsked, IsPrefix, Expands, to_prefix, to_candidates, IsCovering, HasCoveringSource, MapAlike, AreReadAgain}
+use Rattle.gix_refspec.proofs.Common.{AsksFor, AtSpec, EachSource, Transpose, Cover, CoverTogether, FetchGroupReadsBack, IsCoveredBy, IsSourceAmong, IsDestinationAmong, GoesBothWays}
+use Rattle.gix_refspec.proofs.Common.{ReadsAgainAs, BeginsWithOne, AreExpansions, same_Some}
 use Rattle.gix_refspec_text.specs.Laws.Readings.{ReadsOnce, ReadsOrRefused, IsSameReason, SaysForOperation, IsPrintedBack, ReadsBack, EqualReadings, HasOneId, HasOneFault, HasCandidates, KeepsOperation, EqualTexts, NothingAgainst, ClonesExactly, OneWord, PrefixBegins, OnePrefix, Candidates, IdOrFault, OneLowerText, OneRefusal}
 use Rattle.gix_refspec_text.specs.Texts.PatternError.{IsPatternFault}
 use Rattle.gix_refspec_text.specs.declared.name.PatternError.{PatternError}
@@ -19,14 +22,9 @@ use Rattle.gix_refspec_text.proofs.lemmas.texts.TextLemmas.{Lacks-ContainsText}
 use Rattle.gix_refspec_text.proofs.lemmas.texts.TestedLemmas.{IsName-tested}
 use Rattle.gix_refspec_text.proofs.lemmas.hits.MatchLemmas.{outside_none}
 use Rattle.gix_refspec_text.proofs.lemmas.parsing.ReadOnceLemmas.{reads_once}
-use Rattle.gix_refspec_text.proofs.facts.ManualFacts.{Lacks-tested, IsPattern-tested, other_length, none_some, named, no_sign}
-use Rattle.gix_refspec_text.proofs.facts.FaultFacts.{begins_not}
 use Rattle.gix_refspec_text.proofs.facts.UnreadFacts.{unbalanced_fetches}
-use Rattle.gix_refspec_text.proofs.facts.ObjectIdFacts.{empty_blob, IsIdText-empty_blob, lower_of-empty_blob, HasIdFault-length}
 use Rattle.gix_refspec.proofs.facts.KeptFacts.{of_one}
 use Rattle.gix_refspec.proofs.facts.ValidationFacts.{both_to_x, foo_fix, validated}
-use Rattle.gix_refspec_text.proofs.facts.FitFacts.{every, no_dev, short, short_kind, other_byte, other_first, push_is_none}
-use Rattle.gix_refspec_match.proofs.facts.MatchFacts.{bytes_in, mapping, tracked, fetches_all_but_dev, tracks_all_but_dev, tracks_nothing, tag_to_x, tag_to_foo, tag_alone}
 use Rattle.gix_refspec_text.proofs.facts.CoveringFacts.{below_heads, covering, not_covering}
 
 -- ---- both directions

@@ -1,12 +1,9 @@
 -- From left to right names alone decide, from right to left ids too.
+use Rattle.gix_refspec.proofs.Common.{named, none_some, other_length, empty_blob, IsIdText-empty_blob, blob_kind, dev_ref, every, main_ref, no_dev, tag_ref, fetches_all_but_dev, tracked}
 use Rattle.gix_refspec.proofs.Common.{◌≡◌, ◌≢◌, ◌⊎◌, inl, inr, ℕ, List, [], ◌∷◌, None, Some, codes, length, get_or, refl, ap, ◌∙◌, arith, Sha1, Sha256, IsIdText, bytes_of, digits_of}
 use Rattle.gix_refspec.proofs.Common.{SideKind, pattern, full_name, object, partial, HasKind, Ref, MatchesAs, Matches, Normal, Reading, fetched, Mapped, AreKeptForward, AreKeptBackward}
 use Rattle.gix_refspec.proofs.Common.{AsksForNoId, HasIdDestination, HaveSameNames, NamesDecide, NamesDecideBack, same_Some}
 use Rattle.gix_refspec_text.specs.declared.oid.Kind.{Kind}
-use Rattle.gix_refspec_text.proofs.facts.ManualFacts.{named, none_some, other_length}
-use Rattle.gix_refspec_text.proofs.facts.ObjectIdFacts.{empty_blob, IsIdText-empty_blob}
-use Rattle.gix_refspec_text.proofs.facts.FitFacts.{blob_kind, dev_ref, every, main_ref, no_dev, tag_ref}
-use Rattle.gix_refspec_match.proofs.facts.MatchFacts.{fetches_all_but_dev, tracked}
 
 -- a ref with this name, and other ids than in the example
 abbrev moved : List ℕ → Ref

@@ -1,10 +1,7 @@
 -- Examples of the definitions of the laws on plans, and what a caller concludes from these laws.
-use Rattle.gix_refspec.proofs.Common.{◌≢◌, ℕ, List, [], ◌∷◌, None, Some, codes, refl, sym, ap, subst, arith, AllByRecursion, Fetch, Lacks, Reading, Reads, printed, Ref, id, Mapped}
-use Rattle.gix_refspec.proofs.Common.{AreKeptForward, Removed, IsValidated, AreFixesApart, HaveSourcesByIndex, LacksIn, MappedLacks, NoControlCharacter, PlansApart, SidesLack, SourceLacks}
-use Rattle.gix_refspec_text.proofs.facts.FitFacts.{other_byte}
-use Rattle.gix_refspec_text.proofs.facts.ManualFacts.{Lacks-tested}
-use Rattle.gix_refspec_text.proofs.facts.ObjectIdFacts.{empty_blob, lower_of-empty_blob}
-use Rattle.gix_refspec_match.proofs.facts.MatchFacts.{branch_to_x, bytes_in, mapping, tag_alone, tag_to_x}
+use Rattle.gix_refspec.proofs.Common.{other_byte, Lacks-tested, empty_blob, lower_of-empty_blob, branch_to_x, bytes_in, mapping, tag_alone, tag_to_x, ◌≢◌, ℕ, List, [], ◌∷◌, None, Some}
+use Rattle.gix_refspec.proofs.Common.{codes, refl, sym, ap, subst, arith, AllByRecursion, Fetch, Lacks, Reading, Reads, printed, Ref, id, Mapped, AreKeptForward, Removed, IsValidated}
+use Rattle.gix_refspec.proofs.Common.{AreFixesApart, HaveSourcesByIndex, LacksIn, MappedLacks, NoControlCharacter, PlansApart, SidesLack, SourceLacks}
 use Rattle.gix_refspec.proofs.facts.ValidationFacts.{foo_fix}
 
 -- ---- no duplicates

@@ -1,12 +1,9 @@
 -- Examples of the definitions on ref names, for mappings with valid and invalid ones, and what a caller concludes from
 -- their law.
-use Rattle.gix_refspec.proofs.Common.{◌≡◌, inl, inr, ℕ, List, [], ◌∷◌, ◌++◌, None, Some, codes, refl, arith, AllByRecursion, RepeatedDot, InvalidMapping, slash, Reading, Ref, id, Mapped}
-use Rattle.gix_refspec.proofs.Common.{mapped_of, AreKeptForward, ForwardIndexes, IndexesFit, IsValidated, Removed, AreLeftOut, HaveRefNames, IsInvalidAt, IsLeftOut, HasRefNames}
-use Rattle.gix_refspec.proofs.Common.{IsValidDestination, IsValidSource, IsRefName, KeepsRefNames, LeftOut, StaysAmongRefs, WritesRefs, left_out_of}
+use Rattle.gix_refspec.proofs.Common.{nothing_made, Lacks-tested, mapping, ◌≡◌, inl, inr, ℕ, List, [], ◌∷◌, ◌++◌, None, Some, codes, refl, arith, AllByRecursion, RepeatedDot, InvalidMapping}
+use Rattle.gix_refspec.proofs.Common.{slash, Reading, Ref, id, Mapped, mapped_of, AreKeptForward, ForwardIndexes, IndexesFit, IsValidated, Removed, AreLeftOut, HaveRefNames, IsInvalidAt}
+use Rattle.gix_refspec.proofs.Common.{IsLeftOut, HasRefNames, IsValidDestination, IsValidSource, IsRefName, KeepsRefNames, LeftOut, StaysAmongRefs, WritesRefs, left_out_of}
 use Rattle.gix_refspec.specs.declared.match_group.ref_names.InvalidSide.TheVariants.{Source, Destination, Both}
-use Rattle.gix_refspec_match.proofs.lemmas.lists.JoinLemmas.{nothing_made}
-use Rattle.gix_refspec_text.proofs.facts.ManualFacts.{Lacks-tested}
-use Rattle.gix_refspec_match.proofs.facts.MatchFacts.{mapping}
 use Rattle.gix_refspec.proofs.lemmas.validate.RefNameLemmas.{bad_unnamed, below_refs, name_of_ref, stays_among_refs}
 use Rattle.gix_refspec.proofs.facts.ValidationFacts.{unwritable}
 use Rattle.gix_refspec_text.proofs.lemmas.texts.TestedLemmas.{IsName-tested}

@@ -1,16 +1,12 @@
 -- Examples of the definitions on validation, for mappings to one destination and to others: their conflicts, survivors
 -- and fixes.
-use Rattle.gix_refspec.proofs.Common.{◌≡◌, ◌⊎◌, ℕ, ◌<◌, List, [], ◌∷◌, Option, None, Some, option_map, length, codes, refl, sym, ap, ◌∙◌, subst, inl, inr, arith, Contains}
+use Rattle.gix_refspec.proofs.Common.{nothing_made, other_length, none_some, begins_not, other_byte, of_element, bytes_in, mapping, tag_to_x, branch_to_x, tag_again, tag_to_foo, tag_alone}
+use Rattle.gix_refspec.proofs.Common.{pairs, ◌≡◌, ◌⊎◌, ℕ, ◌<◌, List, [], ◌∷◌, Option, None, Some, option_map, length, codes, refl, sym, ap, ◌∙◌, subst, inl, inr, arith, Contains}
 use Rattle.gix_refspec.proofs.Common.{IsStrictlySortedBy, nat_cmp, slice_cmp, Less, Equal, Greater, Normal, Forced, Reading, fetched, printed, name, Mapped, HasPair, IndexesFit}
 use Rattle.gix_refspec.proofs.Common.{HasConflictAt, IsFirstTo, IsTextAt, Conflict, IsConflict, AreConflicts, IsWritable, Survives, AreSurvivors, Removed, IsFix, AreFixes, IsValidated}
 use Rattle.gix_refspec.proofs.Common.{DestinationsHaveOneSource, ShareDestination, HaveDistinctDestinations, same_Some, false, nat_eq, AllByRecursion, starts_with, false≢true}
 use Rattle.gix_refspec.proofs.Common.{bytes_eq-Decides, bytes_eq, head}
 use Rattle.gix_refspec.proofs.lemmas.validate.ConflictLemmas.{no_conflicts}
-use Rattle.gix_refspec_match.proofs.lemmas.lists.JoinLemmas.{nothing_made}
-use Rattle.gix_refspec_text.proofs.facts.ManualFacts.{other_length, none_some}
-use Rattle.gix_refspec_text.proofs.facts.FaultFacts.{begins_not}
-use Rattle.gix_refspec_text.proofs.facts.FitFacts.{other_byte, of_element}
-use Rattle.gix_refspec_match.proofs.facts.MatchFacts.{bytes_in, mapping, tag_to_x, branch_to_x, tag_again, tag_to_foo, tag_alone, pairs}
 
 -- specs with the same pattern as destination, the second of which is forced
 abbrev pub both_to_x : List Reading

@@ -1,8 +1,7 @@
 -- What a caller concludes from the laws on the results of a validation: the conflicts, survivors and fixes of an
 -- outcome and of a copy of it.
-use Rattle.gix_refspec.proofs.Common.{◌≡◌, ◌≢◌, List, [], ◌∷◌, map, sym, subst, Mapping, Outcome, Reading, Mapped, mapped_of, AreMappingCopies, readings_of, Conflict, AreConflicts}
-use Rattle.gix_refspec.proofs.Common.{AreSurvivors, Removed, AreFixes, IsValidated, OneValidation, IsOutcomeCopy, CopiedOutcome}
-use Rattle.gix_refspec_match.proofs.facts.MatchFacts.{tag_alone, tag_to_foo, tag_to_x}
+use Rattle.gix_refspec.proofs.Common.{tag_alone, tag_to_foo, tag_to_x, ◌≡◌, ◌≢◌, List, [], ◌∷◌, map, sym, subst, Mapping, Outcome, Reading, Mapped, mapped_of, AreMappingCopies, readings_of}
+use Rattle.gix_refspec.proofs.Common.{Conflict, AreConflicts, AreSurvivors, Removed, AreFixes, IsValidated, OneValidation, IsOutcomeCopy, CopiedOutcome}
 use Rattle.gix_refspec.proofs.facts.ValidationFacts.{both_to_x, conflict, conflicts_at_x, foo_fix, meeting, validated}
 
 -- the conflict of two specs is the only one

@@ -1,7 +1,6 @@
 -- What holds of each element that is made of the elements of a list, or joined of them.
-use Rattle.gix_refspec.proofs.Common.{◌≡◌, [], ◌∷◌, ◌++◌, length, refl, sym, subst, arith, map, ◌∙◌, ◌+◌, length-append, append_assoc, slice_get, AllByRecursion, slice_get_within}
+use Rattle.gix_refspec.proofs.Common.{all_join, ◌≡◌, [], ◌∷◌, ◌++◌, length, refl, sym, subst, arith, map, ◌∙◌, ◌+◌, length-append, append_assoc, slice_get, AllByRecursion, slice_get_within}
 use Rattle.gix_refspec.proofs.Common.{get_or_from_slice_get, All-from_recursion, IsMadeFrom, IsJoinedFrom, ℕ, List, None, Some}
-use Rattle.gix_refspec_text.proofs.lemmas.lists.AllLemmas.{all_join}
 
 -- what holds of all elements holds of the one at an index
 pub all_at : {X : Type 0} (P : X → Type 0) (xs : List X) (k : ℕ) (x : X) → AllByRecursion P xs → slice_get xs k ≡ Some x → P x

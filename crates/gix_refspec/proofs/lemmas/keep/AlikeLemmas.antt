@@ -42,9 +42,6 @@ sign_negative Negative sign = refl
 alike_positive : (r q : Reading) → AreAlike r q → IsPositive r.mode → IsPositive q.mode
 alike_positive r q alike positive = (positive_sign q.mode).1 (sym alike.negative ∙ (positive_sign r.mode).0 positive)
 
-alike_negative : (r q : Reading) → AreAlike r q → r.mode ≡ Negative → q.mode ≡ Negative
-alike_negative r q alike negative = sign_negative q.mode (sym alike.negative ∙ ap is_negative negative)
-
 -- ---- fetches with one meaning
 
 -- the sides and the sign of a fetch with this meaning
@@ -174,7 +171,7 @@ id_mapping k r q m alike is = record {
 -- and exclude the same names
 excluded_by : (n : List ℕ) (r q : Reading) → AreAlike r q → IsExcludedBy n r → IsExcludedBy n q
 excluded_by n r q alike by = record {
-  negative = alike_negative r q alike by.negative;
+  negative = sign_negative q.mode (sym alike.negative ∙ ap is_negative by.negative);
   text = by.text;
   source = sym alike.source ∙ by.source;
   excludes = by.excludes;

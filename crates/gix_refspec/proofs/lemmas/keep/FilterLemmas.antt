@@ -2,15 +2,11 @@
 use Rattle.gix_refspec.proofs.Common.{◌≡◌, ℕ, zero, suc, Bool, true, List, [], ◌∷◌, Option, map, refl, sym, ap, ◌∙◌, subst, arith, nat_eq, Any, Contains, filter, starts_with, or_left}
 use Rattle.gix_refspec.proofs.Common.{or_right, get_or-map, length-map, All-contains_itself, All-filter, starts_is, bstr_bytes, Item, BeginsWith, Reading, Ref, Matches, Takes, Ends}
 use Rattle.gix_refspec.proofs.Common.{AreForwardEnds, AreBackwardEnds, ref_of, BeginsWithOne, ArePart, TakesItem, HasTaken, PassesTaken, FilteredItems, FilteredByEntries, FilteredByList}
-use Rattle.gix_refspec.proofs.Common.{is_begun}
+use Rattle.gix_refspec.proofs.Common.{is_begun, All-contains}
 use Rattle.std.proofs.lemmas.Bool.Decides.{Decides-eqb}
 use Rattle.gix_refspec_match.proofs.lemmas.duplicates.HashKeyLemmas.{contains_filter}
 
 -- ---- elements
-
--- an element that passes was in the list
-was_there : {X : Type 0} (p : X → Bool) (xs : List X) (x : X) → Contains (filter p xs) x → Contains xs x
-was_there p xs x (k, below, is) = subst (Contains xs) is (All-filter p (Contains xs) xs (All-contains_itself xs) k x below)
 
 pub mapped_there : {X Y : Type 0} (f : X → Y) (xs : List X) (x : X) → Contains xs x → Contains (map f xs) (f x)
 mapped_there f xs x (k, below, is) = (k, omega (arith, below, length-map xs f), get_or-map f xs k x (f x) below ∙ ap f is)
@@ -24,7 +20,7 @@ mapped_from f (x ∷ xs) y (suc k, below, is) = let (z, (j, inside, at), same) =
 
 -- the items that pass a filter are a subset
 filtered_part : (p : Item → Bool) (items : List Item) → ArePart (map ref_of items) (map ref_of (filter p items))
-filtered_part p items ref has = let (item, there, same) = mapped_from ref_of (filter p items) ref has in subst (Contains (map ref_of items)) same (mapped_there ref_of items item (was_there p items item there))
+filtered_part p items ref has = let (item, there, same) = mapped_from ref_of (filter p items) ref has in subst (Contains (map ref_of items)) same (mapped_there ref_of items item (All-contains (Contains items) (filter p items) item (All-filter p (Contains items) items (All-contains_itself items)) there))
 
 -- a ref is among them if each item of that ref passes
 passed : (p : Item → Bool) (items : List Item) (P : Ref → Type 0) → ((item : Item) → Contains items item → P (ref_of item) → p item ≡ true) → (ref : Ref) → Contains (map ref_of items) ref → P ref → Contains (map ref_of (filter p items)) ref

@@ -1,7 +1,7 @@
 -- Of the mappings with one pair only the first is kept.
 use Rattle.gix_refspec.proofs.Common.{◌≡◌, inl, ◌↔◌, ℕ, ◌+◌, List, [], ◌∷◌, ◌++◌, None, Some, option_to_list, length, take, refl, sym, ap, ◌∙◌, subst, arith, Contains, Reading, Ref}
 use Rattle.gix_refspec.proofs.Common.{IsMadeFrom, Mapped, HasPair, IsKept, IsKeptAt, IsFirstOfPair, FirstStays, drop, slice_get, slice_get_within, get_or_from_slice_get, take-append-drop}
-use Rattle.gix_refspec.proofs.Common.{drop_more, All-from_recursion}
+use Rattle.gix_refspec.proofs.Common.{drop_more, All-from_recursion, All-contains}
 use Rattle.std.proofs.Math.Seq.{take-append_seam}
 use Rattle.gix_refspec_match.proofs.lemmas.hits.HitLemmas.{forward_once, backward_once}
 use Rattle.gix_refspec_match.proofs.lemmas.keep.KeptPairLemmas.{Keeps}
@@ -40,7 +40,7 @@ first_kept g l kept m is first =
 
 of_list : (g : List Reading) (l all kept : List Mapped) (m : Mapped) → l ≡ all → IsKept g l kept → Contains kept m ↔ IsFirstOfPair g all m
 of_list g l all kept m same is = subst (λ (z : List Mapped). Contains kept m ↔ IsFirstOfPair g z m) same (
-  (λ (i, below, at). subst (IsFirstOfPair g l) at (All-from_recursion (IsFirstOfPair g l) kept (each_made (Keeps g l) (IsFirstOfPair g l) l kept (kept_first g l) is) i m below)),
+  (λ has. All-contains (IsFirstOfPair g l) kept m (All-from_recursion (IsFirstOfPair g l) kept (each_made (Keeps g l) (IsFirstOfPair g l) l kept (kept_first g l) is)) has),
   (λ first. back kept m (first_kept g l kept m is first)),
 )
 

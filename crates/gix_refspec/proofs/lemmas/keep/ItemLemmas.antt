@@ -1,13 +1,13 @@
 -- Over a subset of the items the same pairs are kept, if no item that some spec takes is left out.
-use Rattle.gix_refspec.proofs.Common.{◌≡◌, inl, inr, ◌↔◌, ℕ, zero, suc, List, [], ◌∷◌, Option, None, Some, refl, sym, ap, ◌∙◌, subst, arith, AllByRecursion, Any, Contains, append-nil, Lacks}
+use Rattle.gix_refspec.proofs.Common.{all_weaker, ◌≡◌, inl, inr, ◌↔◌, ℕ, zero, suc, List, [], ◌∷◌, Option, None, Some, refl, sym, ap, ◌∙◌, subst, arith, Any, Contains, append-nil, Lacks}
 use Rattle.gix_refspec.proofs.Common.{star, head, Reading, SideKind, pattern, full_name, object, partial, HasKind, Ref, HasName, IsFirstCandidate, Matches, Takes, of_head, to_prefix, Source}
 use Rattle.gix_refspec.proofs.Common.{name, id, Mapped, HasPair, IsSourceExcluded, Ends, AreForwardEnds, AreBackwardEnds, AreKeptForward, AreKeptBackward, PairsItem, MakesForward}
-use Rattle.gix_refspec.proofs.Common.{MakesBackward, IsCoveredBy, ArePart, TakesItem, HasTaken, HaveSamePairs, FewerItems, IsListed, AreListedItems, ListedItems, same_Some}
+use Rattle.gix_refspec.proofs.Common.{MakesBackward, IsCoveredBy, ArePart, TakesItem, HasTaken, HaveSamePairs, FewerItems, IsListed, AreListedItems, ListedItems, same_Some, All-contains}
+use Rattle.gix_refspec.proofs.Common.{All-from_recursion}
 use Rattle.gix_refspec_text.proofs.lemmas.hits.CandidateLemmas.{first_candidate, first_once, some_first, taken_by_first}
 use Rattle.gix_refspec.proofs.lemmas.prefixes.CoverLemmas.{below_not_head, joined_covers, side_covers, source_asked}
 use Rattle.gix_refspec_text.proofs.lemmas.hits.MatchLemmas.{lacks_no_pattern}
 use Rattle.gix_refspec.proofs.lemmas.keep.PairMadeLemmas.{kept_exactly}
-use Rattle.gix_refspec_text.proofs.lemmas.lists.AllLemmas.{all_weaker}
 
 -- ---- names and items
 
@@ -167,16 +167,11 @@ listed_taken : (g : List Reading) (A B : List Ref) → AreListedItems g A B → 
 listed_taken g A B listed r (k, below, is) of_r item there takes =
     listed.listed item there (joined_covers item.name g 0 listed.entries (k, r, below, is, listed_covers A r takes.ends item takes.word of_r takes.has takes.takes) listed.expansions)
 
-each_listed : (P : Reading → Type 0) (g : List Reading) → AllByRecursion P g → (r : Reading) → Contains g r → P r
-each_listed P [] all r (k, below, is) = absurd (omega (arith, below))
-each_listed P (q ∷ g) all r (zero, below, is) = subst P is all.0
-each_listed P (q ∷ g) all r (suc k, below, is) = each_listed P g all.1 r (k, omega (arith, below), is)
-
 pub listed_items : (g : List Reading) (A B : List Ref) → ListedItems g A B
 listed_items g A B = record {
   some = λ listed kept fewer of_all of_part pair has any.
       let included = ((kept_exactly g A).forward kept of_all pair).0 has in
       let made = any_each (λ r. IsListed A r × MakesForward A pair.source pair.destination r) (MakesForward B pair.source pair.destination) g (λ r there both. forward_in_part A B listed.part pair.source pair.destination r (listed_taken g A B listed r there both.0) both.1) any in
       ((kept_exactly g B).forward fewer of_part pair).1 (made, included.1);
-  all = λ listed each kept fewer of_all of_part. forward_fewer g A B listed.part (λ r there. listed_taken g A B listed r there (each_listed (IsListed A) g each r there)) kept fewer of_all of_part;
+  all = λ listed each kept fewer of_all of_part. forward_fewer g A B listed.part (λ r there. listed_taken g A B listed r there (All-contains (IsListed A) g r (All-from_recursion (IsListed A) g each) there)) kept fewer of_all of_part;
 }

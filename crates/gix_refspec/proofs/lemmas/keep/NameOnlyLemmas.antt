@@ -1,10 +1,9 @@
 -- Refs with the same names have the same mappings from left to right, as no source that takes refs depends on their
 -- ids; and from right to left if no destination is an id.
-use Rattle.gix_refspec.proofs.Common.{◌≡◌, ℕ, ◌+◌, inl, inr, List, [], ◌∷◌, Option, None, Some, map, refl, sym, ap, ◌∙◌, subst, length, arith, Reading, SideKind, pattern, full_name, object}
-use Rattle.gix_refspec.proofs.Common.{partial, HasKind, Fits, IsCandidate, Ref, Matches, MatchesAs, HasName, IsFirstCandidate, Takes, IsJoinedFrom, Ends, AreBackwardEnds, AreForwardEnds}
-use Rattle.gix_refspec.proofs.Common.{Hit, IsHit, AreSpecHits, AsksForNoId, HasIdDestination, HaveSameNames, NamesDecide, NamesDecideBack, AllZip}
+use Rattle.gix_refspec.proofs.Common.{all_weaker, ◌≡◌, ℕ, ◌+◌, inl, inr, List, [], ◌∷◌, Option, None, Some, map, refl, sym, ap, ◌∙◌, subst, length, arith, Reading, SideKind, pattern}
+use Rattle.gix_refspec.proofs.Common.{full_name, object, partial, HasKind, Fits, IsCandidate, Ref, Matches, MatchesAs, HasName, IsFirstCandidate, Takes, IsJoinedFrom, Ends, AreBackwardEnds}
+use Rattle.gix_refspec.proofs.Common.{AreForwardEnds, Hit, IsHit, AreSpecHits, AsksForNoId, HasIdDestination, HaveSameNames, NamesDecide, NamesDecideBack, AllZip}
 use Rattle.gix_refspec.proofs.lemmas.keep.AlikeLemmas.{made_zip}
-use Rattle.gix_refspec_text.proofs.lemmas.lists.AllLemmas.{all_weaker}
 
 no_name : (r : Ref) (refs : List Ref) → HaveSameNames [] (r ∷ refs) → ⊥
 no_name r refs same = omega (arith, ap length same)

@@ -1,12 +1,12 @@
 -- Ref prefixes, for which a server lists each ref that a group of fetches maps: over the items that it lists, the same
 -- pairs are kept.
-use Rattle.gix_refspec.proofs.Common.{◌≡◌, inl, inr, ℕ, suc, ◌+◌, ◌<◌, List, [], ◌∷◌, ◌++◌, Option, None, Some, MatchOption, Vec, Global, length, map, take, drop, get_or, refl, sym, ap, ◌∙◌}
-use Rattle.gix_refspec.proofs.Common.{subst, arith, BString, bstring_bytes, append-nil, get_or-map, length-map, map-append, map_more, recursion_from_All, Fetch, RefSpecRef, reading_of}
-use Rattle.gix_refspec.proofs.Common.{BeginsWith, IsSplit, IsPositive, Reading, SideKind, pattern, full_name, object, partial, HasKind, Ref, Matches, MatchesAs, Takes, IsRefPrefix, IsAsked}
-use Rattle.gix_refspec.proofs.Common.{Source, name, AreForwardEnds, MakesForward, PairsItem, HasNoList, Lists, ListsAs, ListsGroup, ListsSide, Serves, AreFetches, AskedItems, TakesItem}
+use Rattle.gix_refspec.proofs.Common.{joined_next, map_split, map_long, nothing_joined, ◌≡◌, inl, inr, ℕ, suc, ◌+◌, ◌<◌, List, [], ◌∷◌, ◌++◌, Option, None, Some, MatchOption, Vec, Global}
+use Rattle.gix_refspec.proofs.Common.{length, map, take, drop, get_or, refl, sym, ap, ◌∙◌, subst, arith, BString, bstring_bytes, append-nil, get_or-map, length-map, map-append, map_more}
+use Rattle.gix_refspec.proofs.Common.{recursion_from_All, Fetch, RefSpecRef, reading_of, BeginsWith, IsSplit, IsPositive, Reading, SideKind, pattern, full_name, object, partial, HasKind}
+use Rattle.gix_refspec.proofs.Common.{Ref, Matches, MatchesAs, Takes, IsRefPrefix, IsAsked, Source, name, AreForwardEnds, MakesForward, PairsItem, HasNoList, Lists, ListsAs, ListsGroup}
+use Rattle.gix_refspec.proofs.Common.{ListsSide, Serves, AreFetches, AskedItems, TakesItem}
 use Rattle.std.specs.List as lists
 use Rattle.gix_refspec_match.proofs.lemmas.hits.HitLemmas.{one_kind}
-use Rattle.gix_refspec_match.proofs.lemmas.lists.JoinLemmas.{joined_next, map_split, map_long, nothing_joined}
 use Rattle.gix_refspec_match.proofs.lemmas.keep.KeptLemmas.{HasPair-from_place}
 use Rattle.gix_refspec.proofs.lemmas.keep.PairMadeLemmas.{kept_exactly}
 use Rattle.gix_refspec_text.proofs.lemmas.prefixes.PrefixLemmas.{one_asked}

@@ -1,10 +1,10 @@
 -- What holds of mappings before and after a validation.
-use Rattle.gix_refspec.proofs.Common.{◌≡◌, inl, inr, ℕ, suc, ◌+◌, ◌<◌, List, [], ◌∷◌, None, Some, length, get_or, refl, sym, ◌∙◌, subst, arith, AllByRecursion, Contains, All-contains_itself}
-use Rattle.gix_refspec.proofs.Common.{All-from_recursion, Contains-get_or, recursion_from_All, Reading, IsMadeFrom, Ref, Mapped, IsSamePair, AreApart, AreKeptForward, AreConflicts}
-use Rattle.gix_refspec.proofs.Common.{ForwardFits, DestinationsHaveOneSource, IsValidated, ShareDestination, HaveDistinctDestinations, Removed, Survives, ValidatedOnce, ForwardIndexes}
+use Rattle.gix_refspec.proofs.Common.{all_weaker, ◌≡◌, inl, inr, ℕ, suc, ◌+◌, ◌<◌, List, [], ◌∷◌, None, Some, length, get_or, refl, sym, ◌∙◌, subst, arith, AllByRecursion, Contains}
+use Rattle.gix_refspec.proofs.Common.{All-contains_itself, All-from_recursion, Contains-get_or, recursion_from_All, Reading, IsMadeFrom, Ref, Mapped, IsSamePair, AreApart, AreKeptForward}
+use Rattle.gix_refspec.proofs.Common.{AreConflicts, ForwardFits, DestinationsHaveOneSource, IsValidated, ShareDestination, HaveDistinctDestinations, Removed, Survives, ValidatedOnce}
+use Rattle.gix_refspec.proofs.Common.{ForwardIndexes}
 use Rattle.gix_refspec.proofs.lemmas.validate.FirstLemmas.{start_cases}
 use Rattle.gix_refspec_match.proofs.lemmas.keep.KeptLemmas.{kept_once}
-use Rattle.gix_refspec_text.proofs.lemmas.lists.AllLemmas.{all_weaker}
 use Rattle.gix_refspec.proofs.lemmas.MadeLemmas.{stays_each}
 use Rattle.gix_refspec.proofs.lemmas.validate.MadeAtLemmas.{item_indexes_fit}
 

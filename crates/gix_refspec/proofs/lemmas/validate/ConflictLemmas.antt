@@ -1,10 +1,11 @@
 -- Conflicts, from sorted updates.
-use Rattle.gix_refspec.proofs.Common.{◌≡◌, ◌⊎◌, inl, inr, ◌↔◌, ℕ, ◌+◌, ◌<◌, ◌≤◌, List, [], ◌∷◌, ◌++◌, Some, option_map, Bool, length, map, take, drop, get_or, refl, sym, ap, ◌∙◌, subst}
-use Rattle.gix_refspec.proofs.Common.{arith, AllByRecursion, AllZip, Contains, slice_get, IsStrictlySortedBy, Less, nat_cmp, slice_cmp, length-map, length-take-le, map-append}
-use Rattle.gix_refspec.proofs.Common.{take-append-drop, take_more, All-from_recursion, Contains-append_left, Contains-push, slice_get-get_or, slice_get-map, slice_get_read, slice_get_within}
-use Rattle.gix_refspec.proofs.Common.{Mapping, NameRef, SourceRef, Update, RefSpecRef, Reading, printed, reading_of, Source, name, id, Mapped, HasPair, mapped_of, name_bytes, start_of}
-use Rattle.gix_refspec.proofs.Common.{IsNameCopy, IsSourceCopy, id_bytes, AreConflicts, Conflict, IndexesFit, IsConflict, HasConflictAt, IsFirstTo, IsTextAt, FlagsDuplicates, IsFlagged}
-use Rattle.gix_refspec.proofs.Common.{AddsConflict, AreUpdates, AreFirstUpdates, AreConflicting, HasUpdate, IsRun, IsFirstAt, IsConflictOf, update_cmp, updated_indexes}
+use Rattle.gix_refspec.proofs.Common.{all_right, all_join, all_weaker, each_mapped, ◌≡◌, ◌⊎◌, inl, inr, ◌↔◌, ℕ, ◌+◌, ◌<◌, ◌≤◌, List, [], ◌∷◌, ◌++◌, Some, option_map, Bool, length, map, take}
+use Rattle.gix_refspec.proofs.Common.{drop, get_or, refl, sym, ap, ◌∙◌, subst, arith, AllByRecursion, AllZip, Contains, slice_get, IsStrictlySortedBy, Less, nat_cmp, slice_cmp, length-map}
+use Rattle.gix_refspec.proofs.Common.{length-take-le, map-append, take-append-drop, take_more, All-from_recursion, Contains-append_left, Contains-push, slice_get-get_or, slice_get-map}
+use Rattle.gix_refspec.proofs.Common.{slice_get_read, slice_get_within, Mapping, NameRef, SourceRef, Update, RefSpecRef, Reading, printed, reading_of, Source, name, id, Mapped, HasPair}
+use Rattle.gix_refspec.proofs.Common.{mapped_of, name_bytes, start_of, IsNameCopy, IsSourceCopy, id_bytes, AreConflicts, Conflict, IndexesFit, IsConflict, HasConflictAt, IsFirstTo, IsTextAt}
+use Rattle.gix_refspec.proofs.Common.{FlagsDuplicates, IsFlagged, AddsConflict, AreUpdates, AreFirstUpdates, AreConflicting, HasUpdate, IsRun, IsFirstAt, IsConflictOf, update_cmp}
+use Rattle.gix_refspec.proofs.Common.{updated_indexes}
 use Rattle.gix_refspec_match.specs.declared.types.NameRef.TheVariants as name_ref
 use Rattle.gix_refspec_match.specs.declared.types.SourceRef.TheVariants as source_ref
 use Rattle.gix_refspec_match.proofs.lemmas.keep.RepeatLemmas.{some_mapping}
@@ -12,8 +13,6 @@ use Rattle.gix_refspec_match.proofs.lemmas.keep.KeptLemmas.{by_pair, duplicate_a
 use Rattle.gix_refspec.proofs.lemmas.validate.UpdateLemmas.{HasUpdate-cases, HasUpdate-left, HasUpdate-right, later, mapped_at, strict_left, strict_right}
 use Rattle.gix_refspec.proofs.lemmas.validate.FirstLemmas.{Has, Increase, IsOfIndex, contested_from_firsts, made_at_indexes, one_mapping, two_firsts}
 use Rattle.std.proofs.lemmas.Slice.Zip.{all_zipped_more}
-use Rattle.gix_refspec_text.proofs.lemmas.lists.AllLemmas.{all_right, all_join, all_weaker}
-use Rattle.gix_refspec_text.proofs.lemmas.lists.MapLemmas.{each_mapped}
 use Rattle.gix_refspec_text.proofs.lemmas.lists.OrderLemmas.{not_below_itself}
 
 -- the mappings at the indexes have these sources, and their specs these texts

@@ -1,14 +1,13 @@
 -- What the spec and the item at the indexes of a mapping make, that its indexes fit, and which mappings remain after a
 -- check.
-use Rattle.gix_refspec.proofs.Common.{slice_get_within, ◌≡◌, inl, inr, ◌↔◌, ℕ, List, [], Option, None, Some, map, unwrap_or, refl, sym, ap, ◌∙◌, subst, AllByRecursion, Contains, slice_get}
-use Rattle.gix_refspec.proofs.Common.{Reading, Ref, Matches, Takes, IsMadeFrom, Source, Mapped, IsKeptAt, Ends, AreForwardEnds, AreBackwardEnds, Hit, IsHit, AreSpecHits, AreHits}
-use Rattle.gix_refspec.proofs.Common.{IsIdMapping, AreForward, AreBackward, forward_of, backward_of, AtSpec, TakesAt, MakesForwardOf, MakesBackwardOf, MadeAtIndexes, RemainsExactly}
+use Rattle.gix_refspec.proofs.Common.{all_join, all_weaker, slice_get_within, ◌≡◌, inl, inr, ◌↔◌, ℕ, List, [], Option, None, Some, map, unwrap_or, refl, sym, ap, ◌∙◌, subst, AllByRecursion}
+use Rattle.gix_refspec.proofs.Common.{Contains, slice_get, Reading, Ref, Matches, Takes, IsMadeFrom, Source, Mapped, IsKeptAt, Ends, AreForwardEnds, AreBackwardEnds, Hit, IsHit, AreSpecHits}
+use Rattle.gix_refspec.proofs.Common.{AreHits, IsIdMapping, AreForward, AreBackward, forward_of, backward_of, AtSpec, TakesAt, MakesForwardOf, MakesBackwardOf, MadeAtIndexes, RemainsExactly}
 use Rattle.gix_refspec.proofs.Common.{Survives, HasRefNames, same_Some, ForwardIndexes, ItemIndexesFit, BackwardIndexes, name, id}
 use Rattle.gix_refspec.proofs.lemmas.MadeLemmas.{each_joined, each_made, map_each, stays_each}
 use Rattle.gix_refspec.proofs.lemmas.keep.FirstStaysLemmas.{there, back}
 use Rattle.gix_refspec.proofs.lemmas.keep.PairMadeLemmas.{there_far}
 use Rattle.gix_refspec_match.proofs.lemmas.lists.SomeLemmas.{Any-both, Any-weaker, any_made, made_any}
-use Rattle.gix_refspec_text.proofs.lemmas.lists.AllLemmas.{all_join, all_weaker}
 
 -- ---- hits
 

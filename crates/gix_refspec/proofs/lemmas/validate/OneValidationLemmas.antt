@@ -69,9 +69,6 @@ one_list g l (c ∷ cs) (e ∷ other) a b same =
     let rest : map (λ (x : Conflict). x.destination) cs ≡ map (λ (x : Conflict). x.destination) other = cc in
     ap (λ (x : Conflict). x ∷ cs) (one_conflict g l c e first a.0 b.0) ∙ ap (λ (xs : List Conflict). e ∷ xs) (one_list g l cs other a.1 b.1 rest)
 
-one_conflicts : (g : List Reading) (l : List Mapped) (cs other : List Conflict) → AreConflicts g l cs → AreConflicts g l other → cs ≡ other
-one_conflicts g l cs other a b = one_list g l cs other a.each b.each (one_order (map (λ (c : Conflict). c.destination) cs) (map (λ (c : Conflict). c.destination) other) a.order b.order (λ d any. contested g l cs other d a.each b any) (λ d any. contested g l other cs d b.each a any))
-
 -- ---- survivors and fixes
 
 -- a mapping has one fix
@@ -83,7 +80,8 @@ one_fix g m a b is_a is_b =
 
 pub one_validation : (g : List Reading) (l : List Mapped) → OneValidation g l
 one_validation g l = record {
-  conflicts = λ cs other a b. one_conflicts g l cs other a b;
+  conflicts = λ cs other a b. one_list g l cs other a.each b.each
+      (one_order (map (λ (c : Conflict). c.destination) cs) (map (λ (c : Conflict). c.destination) other) a.order b.order (λ d any. contested g l cs other d a.each b any) (λ d any. contested g l other cs d b.each a any));
   survivors = λ rest other a b. made_once (λ k m made. (made ≡ m) × Survives m) (λ k m x y is_x is_y. is_x.0 ∙ sym is_y.0) 0 l rest other a b;
   fixes = λ fixes other a b. made_once (λ k m fix. IsFix g m fix) (λ k m x y is_x is_y. one_fix g m x y is_x is_y) 0 l fixes other a b;
 }

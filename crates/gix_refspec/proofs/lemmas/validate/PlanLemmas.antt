@@ -1,11 +1,10 @@
 -- A validation leaves no duplicate mappings and no duplicate fixes.
-use Rattle.gix_refspec.proofs.Common.{◌≡◌, ℕ, List, [], ◌∷◌, Option, None, Some, sym, ap, ◌∙◌, AllByRecursion, Reading, Ref, name, Mapped, Survives, HaveOneSource, HaveSourcesByIndex}
-use Rattle.gix_refspec.proofs.Common.{PlansApart, subst, ◌≢◌, ◌+◌, slice_get, same_Some, IsIdText, Source, IsMadeFrom, Removed, HaveDistinctDestinations, IsFix, ShareDestination}
-use Rattle.gix_refspec.proofs.Common.{MakesForwardOf, AreFixesApart, id}
+use Rattle.gix_refspec.proofs.Common.{all_weaker, ◌≡◌, ℕ, List, [], ◌∷◌, Option, None, Some, sym, ap, ◌∙◌, AllByRecursion, Reading, Ref, name, Mapped, Survives, HaveOneSource}
+use Rattle.gix_refspec.proofs.Common.{HaveSourcesByIndex, PlansApart, subst, ◌≢◌, ◌+◌, slice_get, same_Some, IsIdText, Source, IsMadeFrom, Removed, HaveDistinctDestinations, IsFix}
+use Rattle.gix_refspec.proofs.Common.{ShareDestination, MakesForwardOf, AreFixesApart, id}
 use Rattle.gix_refspec_match.proofs.lemmas.keep.KeptLemmas.{kept_once}
 use Rattle.gix_refspec.proofs.lemmas.validate.AfterLemmas.{apart_still, kept_distinct_destinations, validated_once}
 use Rattle.gix_refspec.proofs.lemmas.MadeLemmas.{made_all, stays_each}
-use Rattle.gix_refspec_text.proofs.lemmas.lists.AllLemmas.{all_weaker}
 use Rattle.gix_refspec_text.proofs.lemmas.texts.ObjectIdLemmas.{IsIdText-unique}
 use Rattle.gix_refspec.proofs.lemmas.validate.MadeAtLemmas.{ForwardAt, item_indexes_fit, made_at_indexes}
 

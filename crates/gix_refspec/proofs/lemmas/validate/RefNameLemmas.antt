@@ -1,15 +1,13 @@
 -- Mappings that are split by their ref names, and what holds of the kept ones.
-use Rattle.gix_refspec.proofs.Common.{◌≡◌, ◌≢◌, inl, inr, ℕ, ◌+◌, ◌<◌, ◌≤◌, List, [], ◌∷◌, ◌++◌, Option, None, Some, length, map, get_or, option_map, codes, refl, sym, ap, ◌∙◌, subst}
-use Rattle.gix_refspec.proofs.Common.{append_assoc, AllByRecursion, list_any, ◌⊎◌, ◌||◌, ◌==◌, IsTrue, cases_lt, lt-ltb, Mapping, NameRef, Empty, EmptyComponent, StartsWithDot, InvalidByte}
-use Rattle.gix_refspec.proofs.Common.{head, slash, ArePartsAt, BeginsWith, is_refused_byte, IsName, Reading, IsMadeFrom, Ref, Mapped, mapped_of, name_bytes, IsMappingCopy, IsDestinationCopy}
-use Rattle.gix_refspec.proofs.Common.{ForwardIndexes, ShareDestination, HaveDistinctDestinations, Survives, HaveRefNames, IsInvalidAt, HasRefNames, IsValidDestination, IsRefName}
-use Rattle.gix_refspec.proofs.Common.{StaysAmongRefs, WritesRef, WritesRefs}
+use Rattle.gix_refspec.proofs.Common.{all_weaker, each_mapped, ◌≡◌, ◌≢◌, inl, inr, ℕ, ◌+◌, ◌<◌, ◌≤◌, List, [], ◌∷◌, ◌++◌, Option, None, Some, length, map, get_or, option_map, codes, refl}
+use Rattle.gix_refspec.proofs.Common.{sym, ap, ◌∙◌, subst, append_assoc, AllByRecursion, list_any, ◌⊎◌, ◌||◌, ◌==◌, IsTrue, cases_lt, lt-ltb, Mapping, NameRef, Empty, EmptyComponent}
+use Rattle.gix_refspec.proofs.Common.{StartsWithDot, InvalidByte, head, slash, ArePartsAt, BeginsWith, is_refused_byte, IsName, Reading, IsMadeFrom, Ref, Mapped, mapped_of, name_bytes}
+use Rattle.gix_refspec.proofs.Common.{IsMappingCopy, IsDestinationCopy, ForwardIndexes, ShareDestination, HaveDistinctDestinations, Survives, HaveRefNames, IsInvalidAt, HasRefNames}
+use Rattle.gix_refspec.proofs.Common.{IsValidDestination, IsRefName, StaysAmongRefs, WritesRef, WritesRefs}
 use Rattle.gix_refspec.specs.declared.match_group.ref_names.InvalidSide.{InvalidSide}
 use Rattle.gix_refspec.specs.declared.match_group.ref_names.InvalidSide.TheVariants.{Source, Destination, Both}
 use Rattle.gix_refspec.proofs.lemmas.validate.AfterLemmas.{apart_still, distinct_destinations_after, validated_once}
 use Rattle.gix_refspec.proofs.lemmas.MadeLemmas.{each_made, stays_each}
-use Rattle.gix_refspec_text.proofs.lemmas.lists.AllLemmas.{all_weaker}
-use Rattle.gix_refspec_text.proofs.lemmas.lists.MapLemmas.{each_mapped}
 use Rattle.gix_refspec.proofs.lemmas.validate.ConflictLemmas.{copied_name, copied_source}
 use Rattle.gix_refspec_text.proofs.lemmas.texts.HeadLemmas.{IsName-head}
 use Rattle.gix_refspec_match.proofs.lemmas.keep.KeptLemmas.{kept_once}

@@ -1,10 +1,10 @@
 -- Sorted updates, and where they are split.
-use Rattle.gix_refspec.proofs.Common.{◌≡◌, ◌≢◌, ◌⊎◌, inl, inr, ◌↔◌, ℕ, zero, suc, ◌+◌, ◌<◌, ◌≤◌, List, [], ◌∷◌, ◌++◌, None, Some, option_map, Bool, true, false, not, length, map, take, drop}
-use Rattle.gix_refspec.proofs.Common.{get_or, refl, sym, ap, ◌∙◌, subst, arith, AllByRecursion, Contains, slice_get, IsPermutation, IsSorted, IsStrictlySortedBy, Less, Equal, Greater, is_lt}
-use Rattle.gix_refspec.proofs.Common.{nat_cmp, ordering_then, ordering_reverse, slice_cmp, nat_list_cmp_total, cases_lt, false≢true, not-false, not-true, bytes_eq-Decides, bytes_eq}
-use Rattle.gix_refspec.proofs.Common.{get_or-map, length-map, map-append, take-append-drop, take_more, drop_more, length-drop, All-from_recursion, slice_get-map, slice_get_read}
-use Rattle.gix_refspec.proofs.Common.{slice_get_within, Update, Mapping, NameRef, Mapped, mapped_of, name_bytes, IsFlagged, Rises, AreUpdates, GoesTo, HasUpdate, IsRun, update_cmp}
-use Rattle.gix_refspec.proofs.Common.{updated_indexes, same_texts, both_equal, rules, same_Some}
+use Rattle.gix_refspec.proofs.Common.{all_left, all_right, all_join, all_weaker, ◌≡◌, ◌≢◌, ◌⊎◌, inl, inr, ◌↔◌, ℕ, zero, suc, ◌+◌, ◌<◌, ◌≤◌, List, [], ◌∷◌, ◌++◌, None, Some, option_map, Bool}
+use Rattle.gix_refspec.proofs.Common.{true, false, not, length, map, take, drop, get_or, refl, sym, ap, ◌∙◌, subst, arith, AllByRecursion, Contains, slice_get, IsPermutation, IsSorted}
+use Rattle.gix_refspec.proofs.Common.{IsStrictlySortedBy, Less, Equal, Greater, is_lt, nat_cmp, ordering_then, ordering_reverse, slice_cmp, nat_list_cmp_total, cases_lt, false≢true}
+use Rattle.gix_refspec.proofs.Common.{not-false, not-true, bytes_eq-Decides, bytes_eq, get_or-map, length-map, map-append, take-append-drop, take_more, drop_more, length-drop}
+use Rattle.gix_refspec.proofs.Common.{All-from_recursion, slice_get-map, slice_get_read, slice_get_within, Update, Mapping, NameRef, Mapped, mapped_of, name_bytes, IsFlagged, Rises}
+use Rattle.gix_refspec.proofs.Common.{AreUpdates, GoesTo, HasUpdate, IsRun, update_cmp, updated_indexes, same_texts, both_equal, rules, same_Some}
 use Rattle.std.specs.declared.cmp.Ordering.{Ordering}
 use Rattle.std.specs.Cmp.{IsTotalOrder}
 use Rattle.std.proofs.lemmas.Cmp.{nat_cmp_total, on_total, ranked, then_total}
@@ -12,7 +12,6 @@ use Rattle.std.proofs.lemmas.List.Quantifiers.{all_pairs_push}
 use Rattle.std.proofs.lemmas.List.Sorted.{Contains-permutation, IsPermutation-map, IsPermutation-sym}
 use Rattle.std.proofs.lemmas.Map.Keys.{sorted_from_all_adjacent}
 use Rattle.gix_refspec_match.proofs.lemmas.keep.RepeatLemmas.{apart_places}
-use Rattle.gix_refspec_text.proofs.lemmas.lists.AllLemmas.{all_left, all_right, all_join, all_weaker}
 use Rattle.gix_refspec_text.proofs.lemmas.lists.NumberLemmas.{upto}
 
 -- the updates of the mappings before index p that have a destination and aren't flagged, by index

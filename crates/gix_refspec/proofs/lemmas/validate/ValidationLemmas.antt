@@ -1,10 +1,9 @@
 -- What a validation removes, and what holds of the remaining mappings.
-use Rattle.gix_refspec.proofs.Common.{◌≡◌, ◌↔◌, ℕ, ◌+◌, ◌<◌, List, [], ◌∷◌, ◌++◌, Option, None, Some, option_map, option_to_list, Bool, true, false, length, map, take, get_or, refl, sym, ap}
-use Rattle.gix_refspec.proofs.Common.{◌∙◌, subst, arith, AllByRecursion, items_where_true, MatchOption, false≢true, append-nil, map_more, slice_get-map, slice_get_read, Mapping, NameRef}
-use Rattle.gix_refspec.proofs.Common.{Fix, Issue, RefSpecRef, Reading, reading_of, MakesOf, IsMadeFrom, Mapped, mapped_of, name_bytes, conflict_of, removed_of, AreConflicts, AreFixes}
-use Rattle.gix_refspec.proofs.Common.{AreSurvivors, IsFix, IsValidated, IsWritable, Removed, Survives, length-append}
+use Rattle.gix_refspec.proofs.Common.{made_next, map_long, ◌≡◌, ◌↔◌, ℕ, ◌+◌, ◌<◌, List, [], ◌∷◌, ◌++◌, Option, None, Some, option_map, option_to_list, Bool, true, false, length, map, take}
+use Rattle.gix_refspec.proofs.Common.{get_or, refl, sym, ap, ◌∙◌, subst, arith, AllByRecursion, items_where_true, false≢true, append-nil, map_more, slice_get-map, slice_get_read, Mapping}
+use Rattle.gix_refspec.proofs.Common.{NameRef, Fix, Issue, RefSpecRef, Reading, reading_of, MakesOf, IsMadeFrom, Mapped, mapped_of, name_bytes, conflict_of, removed_of, AreConflicts}
+use Rattle.gix_refspec.proofs.Common.{AreFixes, AreSurvivors, IsFix, IsValidated, IsWritable, Removed, length-append}
 use Rattle.std.specs.List.Retain.{ReturnsInTurn, IsFiltered}
-use Rattle.gix_refspec_match.proofs.lemmas.lists.JoinLemmas.{made_next, map_long}
 
 -- elements made of one more mapping are appended
 made_of_next : {Y : Type 0} (R : ℕ → Mapped → Y → Type 0) (ms : List Mapping) (i : ℕ) (m : Mapping) (ys : List Y) (made : Option Y) → i < length ms → m ≡ get_or ms i m → IsMadeFrom R 0 (map mapped_of (take i ms)) ys → MakesOf R i (mapped_of m) made → IsMadeFrom R 0 (map mapped_of (take (i + 1) ms)) (ys ++ option_to_list made)
@@ -28,20 +27,11 @@ pub kept_whole : (P : Mapped → Type 0) (k : ℕ) (l : List Mapped) → AllByRe
 kept_whole P k [] all = refl
 kept_whole P k (m ∷ l) all = (Some m, l, (refl, all.0), kept_whole P (k + 1) l all.1, refl)
 
-pub no_fix_nowhere : (g : List Reading) (m : Mapping) → m.rhs ≡ None → (fix : Removed) → ¬ (IsFix g (mapped_of m) fix)
-no_fix_nowhere g m none fix is = let gone : None ≡ Some fix.destination = sym (ap (option_map name_bytes) none) ∙ is.goes in absurd (cc)
-
 pub no_fix_written : (g : List Reading) (m : Mapping) (n : NameRef) → m.rhs ≡ Some n → IsWritable (name_bytes n) → (fix : Removed) → ¬ (IsFix g (mapped_of m) fix)
 no_fix_written g m n to writable fix is =
     let both : Some (name_bytes n) ≡ Some fix.destination = sym (ap (option_map name_bytes) to) ∙ is.goes in
     let same : name_bytes n ≡ fix.destination = cc in
     is.unwritable (subst IsWritable same writable)
-
-pub survives_nowhere : (m : Mapping) → m.rhs ≡ None → Survives (mapped_of m)
-survives_nowhere m none = subst (λ (d : Option NameRef). MatchOption (option_map name_bytes d) (Unit {0}) IsWritable) (sym none) tt
-
-pub survives_to : (m : Mapping) (n : NameRef) → m.rhs ≡ Some n → IsWritable (name_bytes n) → Survives (mapped_of m)
-survives_to m n to writable = subst (λ (d : Option NameRef). MatchOption (option_map name_bytes d) (Unit {0}) IsWritable) (sym to) writable
 
 -- the fix of a mapping to a name that can't be written
 pub fix_of : (specs : List RefSpecRef) (m : Mapping) (n : NameRef) (spec : RefSpecRef) (fix : Removed) → m.rhs ≡ Some n → ¬ (IsWritable (name_bytes n)) → m.spec_index < length specs → spec ≡ get_or specs m.spec_index spec → fix.destination ≡ name_bytes n → fix.spec ≡ reading_of spec → IsFix (map reading_of specs) (mapped_of m) fix

@@ -1,9 +1,8 @@
 -- a copy of a mapping with an invalid side is appended
-use Rattle.gix_refspec.proofs.Common.{◌≡◌, [], ◌∷◌, ◌++◌, ◌+◌, Vec, Global, map, take, sym, ap, ◌∙◌, subst, rules, AllByRecursion, map-append, InvalidMapping, mapped_of, AreLeftOut}
-use Rattle.gix_refspec.proofs.Common.{IsLeftOut, HasRefNames, left_out_of}
+use Rattle.gix_refspec.proofs.Common.{one_more_mapped, ◌≡◌, [], ◌∷◌, ◌++◌, ◌+◌, Vec, Global, map, take, sym, ap, ◌∙◌, subst, rules, AllByRecursion, map-append, InvalidMapping, mapped_of}
+use Rattle.gix_refspec.proofs.Common.{AreLeftOut, IsLeftOut, HasRefNames, left_out_of}
 use Rattle.gix_refspec.proofs.lemmas.validate.ValidationLemmas.{not_empty, nothing_more, one_more}
 use Rattle.gix_refspec.proofs.lemmas.validate.RefNameLemmas.{bad_unnamed, copied_mapping, some_unnamed}
-use Rattle.gix_refspec_text.proofs.lemmas.lists.MapLemmas.{one_more_mapped}
 use Rattle.gix_refspec.proofs.match_group.ref_names.invalid_mappings.Goals as goal
 use Rattle.gix_refspec.proofs.match_group.ref_names.invalid_mappings.Goals.{in-Some+in_ok-clone+in_ok-push, in_default}
 

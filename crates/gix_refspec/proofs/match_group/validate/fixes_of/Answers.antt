@@ -1,10 +1,9 @@
 -- a mapping that can't be written has a fix
-use Rattle.gix_refspec.proofs.Common.{◌∷◌, [], ◌++◌, ◌+◌, ◌≡◌, Vec, Global, map, take, sym, ap, ◌∙◌, subst, rules, AllByRecursion, false≢true, map-append, Fix, reading_of, mapped_of}
-use Rattle.gix_refspec.proofs.Common.{AreFixes, IsFix, Survives, removed_of}
+use Rattle.gix_refspec.proofs.Common.{one_more_mapped, ◌∷◌, [], ◌++◌, ◌+◌, ◌≡◌, Vec, Global, map, take, sym, ap, ◌∙◌, subst, rules, AllByRecursion, false≢true, map-append, Fix, reading_of}
+use Rattle.gix_refspec.proofs.Common.{mapped_of, AreFixes, IsFix, Survives, removed_of, None, Some, option_map, name_bytes}
 use Rattle.gix_refspec.specs.declared.match_group.validate.Fix.TheVariants as fix
 use Rattle.gix_refspec.proofs.lemmas.validate.ConflictLemmas.{spec_fits}
-use Rattle.gix_refspec.proofs.lemmas.validate.ValidationLemmas.{fix_of, no_fix_nowhere, no_fix_written, not_empty, nothing_more, one_more, survives_nowhere, survives_to}
-use Rattle.gix_refspec_text.proofs.lemmas.lists.MapLemmas.{one_more_mapped}
+use Rattle.gix_refspec.proofs.lemmas.validate.ValidationLemmas.{fix_of, no_fix_written, not_empty, nothing_more, one_more}
 use Rattle.gix_refspec.proofs.match_group.validate.fixes_of.Goals as goal
 use Rattle.gix_refspec.proofs.match_group.validate.fixes_of.Goals.{in-Some+then-not-can_be_written+in_ok-from_slice+in_ok-to_owned+in_ok-push, in-Some+else-not-can_be_written, in_default}
 
@@ -37,11 +36,11 @@ loop-mapping-preserved c =
           let writable = w.can_be_written.ensures.0 w.if-not-can_be_written.false in
           subst stays (sym w.fixes-is) (
             nothing_more (λ k n fix. IsFix g n fix) ms i m fixes c.loop-mapping-test.true c.mapping-item.is (no_fix_written g m w.in-Some.name w.in-Some.is writable) c.loop-mapping.invariant.0,
-            λ empty. one_more_mapped mapped_of Survives ms i m (c.loop-mapping.invariant.1 empty) c.loop-mapping-test.true c.mapping-item.is (survives_to m w.in-Some.name w.in-Some.is writable),
+            λ empty. one_more_mapped mapped_of Survives ms i m (c.loop-mapping.invariant.1 empty) c.loop-mapping-test.true c.mapping-item.is (rw w.in-Some.is writable),
           )
       | in_default w ↦
           subst stays (sym w.fixes-is) (
-            nothing_more (λ k n fix. IsFix g n fix) ms i m fixes c.loop-mapping-test.true c.mapping-item.is (no_fix_nowhere g m w.in_default.is) c.loop-mapping.invariant.0,
-            λ empty. one_more_mapped mapped_of Survives ms i m (c.loop-mapping.invariant.1 empty) c.loop-mapping-test.true c.mapping-item.is (survives_nowhere m w.in_default.is),
+            nothing_more (λ k n fix. IsFix g n fix) ms i m fixes c.loop-mapping-test.true c.mapping-item.is (λ fix is. let gone : None ≡ Some fix.destination = sym (ap (option_map name_bytes) w.in_default.is) ∙ is.goes in cc) c.loop-mapping.invariant.0,
+            λ empty. one_more_mapped mapped_of Survives ms i m (c.loop-mapping.invariant.1 empty) c.loop-mapping-test.true c.mapping-item.is (rw w.in_default.is tt),
           )
     ]

@@ -1,6 +1,5 @@
 -- A spec with an id as its destination is against the claim.
-use Rattle.gix_refspec.proofs.Common.{◌+◌, List, map, take, sym, subst, false≢true, RefSpecRef, reading_of, AsksForNoId, HasIdDestination}
-use Rattle.gix_refspec_text.proofs.lemmas.lists.MapLemmas.{each_mapped, one_more_mapped}
+use Rattle.gix_refspec.proofs.Common.{each_mapped, one_more_mapped, ◌+◌, List, map, take, sym, subst, false≢true, RefSpecRef, reading_of, AsksForNoId, HasIdDestination}
 use Rattle.gix_refspec.proofs.match_group.types.MatchGroup.asks_for_no_id.Goals as goal
 
 pub returns-then-has_id_destination : goal.returns-then-has_id_destination

@@ -1,7 +1,6 @@
 -- a spec for which the test fails refutes the claim
-use Rattle.gix_refspec.proofs.Common.{◌+◌, List, map, take, sym, subst, AllByRecursion, RefSpecRef, GoesBothWays, reading_of, false≢true}
+use Rattle.gix_refspec.proofs.Common.{one_more_mapped, each_mapped, ◌+◌, List, map, take, sym, subst, AllByRecursion, RefSpecRef, GoesBothWays, reading_of, false≢true}
 use Rattle.gix_refspec.proofs.match_group.types.MatchGroup.goes_both_ways.Goals as goal
-use Rattle.gix_refspec_text.proofs.lemmas.lists.MapLemmas.{one_more_mapped, each_mapped}
 
 pub returns-then-not-goes_both_ways : goal.returns-then-not-goes_both_ways
 returns-then-not-goes_both_ways c = (

@@ -1,7 +1,6 @@
 -- a spec for which the test fails refutes the claim
-use Rattle.gix_refspec.proofs.Common.{List, map, sym, subst, AllByRecursion, RefSpecRef, HasCoveringSource, reading_of, false≢true}
+use Rattle.gix_refspec.proofs.Common.{each_mapped, List, map, sym, subst, AllByRecursion, RefSpecRef, HasCoveringSource, reading_of, false≢true}
 use Rattle.gix_refspec.proofs.match_group.types.MatchGroup.has_covering_sources.Goals as goal
-use Rattle.gix_refspec_text.proofs.lemmas.lists.MapLemmas.{each_mapped}
 
 pub returns-then-not-has_covering_source : goal.returns-then-not-has_covering_source
 returns-then-not-has_covering_source c = (
