@@ -2,7 +2,6 @@
 -- a wrong definition is noticed.
 pub mod OutcomeFacts
 pub mod ValidationFacts
-pub mod ValidationLawFacts
 pub mod PlanLawFacts
 pub mod RefNameFacts
 pub mod PlainNameFacts

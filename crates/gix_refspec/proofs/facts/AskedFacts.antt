@@ -1,7 +1,7 @@
 -- Examples of ref prefixes, for sides and groups like those of git-fetch(1), and what a caller concludes from them.
-use Rattle.gix_refspec.proofs.Common.{Lacks-tested, other_length, begins_not, blob_kind, split_at_end, every, no_dev, other_byte, short_kind, mapping, ◌≡◌, inl, inr, ℕ, List, [], ◌∷◌, ◌++◌}
-use Rattle.gix_refspec.proofs.Common.{None, Some, codes, length, refl, ap, subst, arith, bracket, star, BeginsWith, Normal, fetched, pushed, pattern, partial, object, HasKind, candidates}
-use Rattle.gix_refspec.proofs.Common.{IsRefPrefix, Ref, Mapped, AreKeptForward, HasNoList, Lists, ListsGroup, ListsSide, Serves}
+use Rattle.gix_refspec.proofs.Common.{Lacks-tested, other_length, begins_not, blob_kind, split_at_end, every, no_dev, other_byte, short_kind, mapping, ◌≡◌, inl, inr, ℕ, List, [], ◌∷◌, ◌++◌, None}
+use Rattle.gix_refspec.proofs.Common.{Some, codes, length, refl, ap, subst, arith, bracket, star, BeginsWith, Normal, fetched, pushed, pattern, partial, object, HasKind, candidates, IsRefPrefix, Ref}
+use Rattle.gix_refspec.proofs.Common.{Mapped, AreKeptForward, HasNoList, Lists, ListsGroup, ListsSide, Serves, by_cases}
 use Rattle.gix_refspec.proofs.lemmas.prefixes.AskedLemmas.{list_as, no_list}
 use Rattle.gix_refspec.proofs.facts.KeptFacts.{of_one}
 use Rattle.gix_refspec_text.proofs.facts.PrefixFacts.{bracket_split, suffix_split, tells}
@@ -69,10 +69,7 @@ pub lists_of_specs : Lists every (codes "refs/heads/" ∷ []) × Lists no_dev []
 lists_of_specs = (
   every_lists,
   inl (refl, refl),
-  λ list lists. elim lists [
-    | inl negative ↦ let same = negative.0 in absurd (cc)
-    | inr asked ↦ let missing = asked.1.side in absurd (cc)
-  ],
+  λ list lists. by_cases lists (λ negative. let same = negative.0 in absurd (cc)) (λ asked. let missing = asked.1.side in absurd (cc)),
 )
 
 -- the lists of a group are one after the other, in order

@@ -1,6 +1,6 @@
 -- Which fetches mean the same, and what a caller concludes from the law on groups of them.
-use Rattle.gix_refspec.proofs.Common.{named, every, no_dev, short, push_is_none, tracks_nothing, ◌≡◌, ℕ, true, false, List, [], ◌∷◌, None, Some, codes, refl, false≢true, Normal, Forced}
-use Rattle.gix_refspec.proofs.Common.{Reading, fetched, pushed, fetch_and_update, meaning_of, Mapped, AreKeptForward, AreKeptBackward, EqualGroups, AreFetches, FetchTheSame}
+use Rattle.gix_refspec.proofs.Common.{named, every, no_dev, short, push_is_none, tracks_nothing, ◌≡◌, ℕ, true, false, List, [], ◌∷◌, None, Some, codes, refl, false≢true, Normal, Forced, Reading}
+use Rattle.gix_refspec.proofs.Common.{fetched, pushed, fetch_and_update, meaning_of, Mapped, AreKeptForward, AreKeptBackward, EqualGroups, AreFetches, FetchTheSame}
 
 abbrev forced : Reading
 forced = fetched Forced (codes "main") None

@@ -1,8 +1,8 @@
 -- What the spec and the item at an index make, and what a caller concludes about one mapping from the laws on these.
-use Rattle.gix_refspec.proofs.Common.{branch_and_tag, main_tag, main_ends, main_to_x, takes_the_tag, x_kind, named, other_length, blob, dev_ref, every, main_ref, no_dev, short_kind}
-use Rattle.gix_refspec.proofs.Common.{short_no_id, tag_ref, mapping, tracked, empty_blob, ◌≡◌, inl, ℕ, List, [], ◌∷◌, None, Some, codes, refl, sym, ap, ◌∙◌, subst, arith, Contains}
-use Rattle.gix_refspec.proofs.Common.{slice_get, Reading, IsPositive, partial, full_name, Ref, name, id, Mapped, AreKeptForward, AreKeptBackward, MakesForwardOf, MakesBackwardOf}
-use Rattle.gix_refspec.proofs.Common.{MadeAtIndexes, RemainsExactly, IsValidated, Removed, KeepsRefNames, LeftOut, same_Some}
+use Rattle.gix_refspec.proofs.Common.{branch_and_tag, main_tag, main_ends, main_to_x, takes_the_tag, x_kind, named, other_length, blob, dev_ref, every, main_ref, no_dev, short_kind, short_no_id}
+use Rattle.gix_refspec.proofs.Common.{tag_ref, mapping, tracked, empty_blob, ◌≡◌, inl, ℕ, List, [], ◌∷◌, None, Some, codes, refl, sym, ap, ◌∙◌, subst, arith, Contains, slice_get, Reading, IsPositive}
+use Rattle.gix_refspec.proofs.Common.{partial, full_name, Ref, name, id, Mapped, AreKeptForward, AreKeptBackward, MakesForwardOf, MakesBackwardOf, MadeAtIndexes, RemainsExactly, IsValidated, Removed}
+use Rattle.gix_refspec.proofs.Common.{KeepsRefNames, LeftOut, same_Some}
 use Rattle.gix_refspec.proofs.facts.KeptFacts.{blob_paired}
 use Rattle.gix_refspec.proofs.facts.ValidationFacts.{unwritable}
 use Rattle.gix_refspec.proofs.facts.RefNameFacts.{good, kept, no_ref_names, sides, to_bad}

@@ -1,12 +1,11 @@
 -- Which items may be left out, and what a caller concludes from the laws on that.
-use Rattle.gix_refspec.proofs.Common.{branch_and_tag, main_branch, main_tag, main_ends, main_to_x, takes_the_tag, begins_not, named, other_length, dev_ref, every, main_ref, no_dev}
-use Rattle.gix_refspec.proofs.Common.{origin_split, other_byte, short, short_no_id, tag_ref, of_element, push_is_none, are_forward_ends, bytes_in, fetches_all_but_dev, forward_ends}
-use Rattle.gix_refspec.proofs.Common.{taken_by, takes_no_tag, tracked, tracks_all_but_dev, ◌≡◌, ◌≢◌, inl, inr, ℕ, zero, suc, List, [], ◌∷◌, None, Some, codes, refl, sym, ap, subst, arith}
-use Rattle.gix_refspec.proofs.Common.{Bool, true, false, map, filter, Any, Contains, bstr_bytes, false≢true, Item, BeginsWith, head, Normal, Reading, fetched, pushed, pattern, filled}
-use Rattle.gix_refspec.proofs.Common.{to_prefix, Ref, HasName, Matches, Takes, name, Mapped, HasPair, AreForwardEnds, AreBackwardEnds, Hit, AreKeptForward, AreKeptBackward, ref_of}
-use Rattle.gix_refspec.proofs.Common.{HasCoveringSource, IsCovering, BeginsWithOne, IsCoveredBy, AreExpansions, MakesForward, AreAskedFor, ArePart, AskedItems, TakesItem, HasTaken}
-use Rattle.gix_refspec.proofs.Common.{HaveSamePairs, FewerItems, FetchesHead, IsListed, AreListedItems, ListedItems, PassesTaken, FilteredItems, is_begun, FilteredByEntries, FilteredByList}
-use Rattle.gix_refspec.proofs.Common.{same_Some}
+use Rattle.gix_refspec.proofs.Common.{branch_and_tag, main_branch, main_tag, main_ends, main_to_x, takes_the_tag, begins_not, named, other_length, dev_ref, every, main_ref, no_dev, origin_split}
+use Rattle.gix_refspec.proofs.Common.{other_byte, short, short_no_id, tag_ref, of_element, push_is_none, are_forward_ends, bytes_in, fetches_all_but_dev, forward_ends, taken_by, takes_no_tag, tracked}
+use Rattle.gix_refspec.proofs.Common.{tracks_all_but_dev, ◌≡◌, ◌≢◌, inl, inr, ℕ, zero, suc, List, [], ◌∷◌, None, Some, codes, refl, sym, ap, subst, arith, Bool, true, false, map, filter, Any}
+use Rattle.gix_refspec.proofs.Common.{Contains, bstr_bytes, false≢true, Item, BeginsWith, head, Normal, Reading, fetched, pushed, pattern, filled, to_prefix, Ref, Matches, Takes, name, Mapped}
+use Rattle.gix_refspec.proofs.Common.{HasPair, AreForwardEnds, AreBackwardEnds, Hit, AreKeptForward, AreKeptBackward, ref_of, HasCoveringSource, IsCovering, BeginsWithOne, IsCoveredBy, AreExpansions}
+use Rattle.gix_refspec.proofs.Common.{MakesForward, AreAskedFor, ArePart, AskedItems, TakesItem, HasTaken, HaveSamePairs, FewerItems, FetchesHead, IsListed, AreListedItems, ListedItems, PassesTaken}
+use Rattle.gix_refspec.proofs.Common.{FilteredItems, is_begun, FilteredByEntries, FilteredByList, same_Some, by_cases}
 use Rattle.gix_refspec.proofs.facts.AskedFacts.{lists_of_specs}
 use Rattle.gix_refspec.proofs.facts.KeptFacts.{of_one}
 use Rattle.gix_refspec.proofs.lemmas.prefixes.CoverLemmas.{joined_covers}
@@ -99,11 +98,7 @@ same_pairs = (
 pub mapped_still : FewerItems group all_refs branches → (fewer : List Mapped) → AreKeptForward group branches fewer → HasPair fewer (tracked 7 (codes "main")) × ¬ (HasPair fewer (tracked 0 (codes "dev-a")))
 mapped_still law fewer are =
     let same = law.forward branches_part branches_enough (tracked 2 (codes "main") ∷ []) fewer fetches_all_but_dev are in
-    ((same (tracked 7 (codes "main"))).0 (inl (record { source = refl; destination = refl })), λ has. not_dev ((same (tracked 0 (codes "dev-a"))).1 has))
-  where
-    not_dev : ¬ (HasPair (tracked 2 (codes "main") ∷ []) (tracked 0 (codes "dev-a")))
-    not_dev (inl same) = other_length _ _ (λ size. omega (arith, size)) (ap bytes_in same.source)
-    not_dev (inr none) = none
+    ((same (tracked 7 (codes "main"))).0 (inl (record { source = refl; destination = refl })), λ has. by_cases ((same (tracked 0 (codes "dev-a"))).1 has) (λ pair. other_length _ _ (λ size. omega (arith, size)) (ap bytes_in pair.source)) (λ none. none))
 
 -- and so from right to left
 abbrev tracking : List Ref
@@ -127,14 +122,10 @@ fetch_head = fetched Normal head None
 pub head_listed : FetchesHead (named head ∷ []) fetch_head × ¬ (FetchesHead (named (codes "refs/heads/HEAD") ∷ []) fetch_head) × ¬ (FetchesHead (named head ∷ []) (pushed Normal (Some head) None)) × ¬ (FetchesHead (named head ∷ []) short)
 head_listed = (
   record { fetch = refl; source = refl; there = inl refl },
-  (λ fetches. no_head fetches.there),
+  (λ fetches. by_cases fetches.there (other_length _ _ (λ size. omega (arith, size))) (λ none. none)),
   (λ fetches. push_is_none fetches.fetch),
   λ fetches. other_byte 0 (codes "main") head (λ same. omega (arith, same)) (same_Some (codes "main") head fetches.source),
 )
-  where
-    no_head : ¬ (HasName (named (codes "refs/heads/HEAD") ∷ []) head)
-    no_head (inl same) = other_length _ _ (λ size. omega (arith, size)) same
-    no_head (inr none) = none
 
 every_covering : HasCoveringSource every
 every_covering = record { fetch = refl; source = λ x asked. subst IsCovering (same_Some (codes "refs/heads/*") x asked.side) covering.0 }
@@ -144,15 +135,13 @@ no_dev_covering = record { fetch = refl; source = λ x asked. absurd asked.posit
 
 -- a covering source is listed, whatever the refs are, and a star outside `refs/` isn't
 pub listed_sources : IsListed [] every × IsListed [] no_dev × IsListed (named head ∷ []) fetch_head × ¬ (IsListed [] fetch_head) × ¬ (IsListed (named head ∷ []) (fetched Normal (codes "*") None))
-listed_sources = (inl every_covering, inl no_dev_covering, inr (record { fetch = refl; source = refl; there = inl refl }), no_head, no_star)
-  where
-    no_head : ¬ (IsListed [] fetch_head)
-    no_head (inl covering) = not_covering.0 (covering.source head (record { positive = tt; side = refl }))
-    no_head (inr fetches) = fetches.there
-
-    no_star : ¬ (IsListed (named head ∷ []) (fetched Normal (codes "*") None))
-    no_star (inl covering) = not_covering.1 (covering.source (codes "*") (record { positive = tt; side = refl }))
-    no_star (inr fetches) = other_length _ _ (λ size. omega (arith, size)) (same_Some (codes "*") head fetches.source)
+listed_sources = (
+  inl every_covering,
+  inl no_dev_covering,
+  inr (record { fetch = refl; source = refl; there = inl refl }),
+  (λ listed. by_cases listed (λ covering. not_covering.0 (covering.source head (record { positive = tt; side = refl }))) (λ fetches. fetches.there)),
+  λ listed. by_cases listed (λ covering. not_covering.1 (covering.source (codes "*") (record { positive = tt; side = refl }))) (λ fetches. other_length _ _ (λ size. omega (arith, size)) (same_Some (codes "*") head fetches.source)),
+)
 
 -- the expansion of the group
 expanded : AreExpansions group (codes "refs/heads/" ∷ [])

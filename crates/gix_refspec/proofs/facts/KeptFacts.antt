@@ -1,11 +1,10 @@
 -- What a caller concludes from the laws on kept mappings: that a pair is kept, that one isn't, and by which spec and
 -- item.
-use Rattle.gix_refspec.proofs.Common.{branch_and_tag, main_tag, main_ends, main_to_x, no_tags, no_other_first, not_excluded, tags_excluded, takes_the_tag, x_kind, named, other_length}
-use Rattle.gix_refspec.proofs.Common.{empty_blob, below_tags, blob, blob_kind, dev_ref, every, main_ref, no_dev, short_kind, short_no_id, tag_ref, blob_mapping, bytes_in, dev_excluded}
-use Rattle.gix_refspec.proofs.Common.{main_stays, mapping, maps_all, only_dev, tracked, tracks_all, ◌≡◌, inl, inr, ℕ, zero, suc, List, [], ◌∷◌, ◌++◌, Option, None, Some, codes, refl, sym}
-use Rattle.gix_refspec.proofs.Common.{ap, ◌∙◌, subst, arith, AllByRecursion, Any, Contains, slice_get, partial, full_name, HasKind, Ref, IsFirstCandidate, name, Mapped, HasPair, IsExcluded}
-use Rattle.gix_refspec.proofs.Common.{AreKeptForward, AreKeptBackward, MakesForward, MakesBackward, PairsId, KeptExactly, FirstStays, NothingExcluded, ForwardIndexes, IsValidated}
-use Rattle.gix_refspec.proofs.Common.{ItemIndexesFit, Removed, same_Some}
+use Rattle.gix_refspec.proofs.Common.{branch_and_tag, main_tag, main_ends, main_to_x, no_tags, no_other_first, not_excluded, tags_excluded, takes_the_tag, x_kind, named, other_length, empty_blob}
+use Rattle.gix_refspec.proofs.Common.{below_tags, blob, blob_kind, dev_ref, every, main_ref, no_dev, short_kind, short_no_id, tag_ref, blob_mapping, bytes_in, dev_excluded, main_stays, mapping}
+use Rattle.gix_refspec.proofs.Common.{maps_all, only_dev, tracked, tracks_all, ◌≡◌, inl, inr, ℕ, zero, suc, List, [], ◌∷◌, ◌++◌, Option, None, Some, codes, refl, sym, ap, ◌∙◌, subst, arith}
+use Rattle.gix_refspec.proofs.Common.{AllByRecursion, Any, Contains, slice_get, partial, full_name, HasKind, Ref, IsFirstCandidate, name, Mapped, HasPair, IsExcluded, AreKeptForward, AreKeptBackward}
+use Rattle.gix_refspec.proofs.Common.{MakesForward, MakesBackward, PairsId, KeptExactly, FirstStays, NothingExcluded, ForwardIndexes, IsValidated, ItemIndexesFit, Removed, same_Some}
 
 -- with any indexes
 abbrev tag_pair : Mapped
@@ -77,10 +76,7 @@ id_there items law kept are = (law.forward kept are blob_mapping).1 ((0, blob, o
 
 -- in both directions: no list of kept mappings begins with one whose source is excluded
 pub none_of_a_tag : (items : List Ref) → NothingExcluded (main_to_x ∷ no_tags ∷ []) items → (rest : List Mapped) → ¬ (AreKeptForward (main_to_x ∷ no_tags ∷ []) items (tag_pair ∷ rest)) × ¬ (AreKeptBackward (main_to_x ∷ no_tags ∷ []) items (tag_pair ∷ rest))
-none_of_a_tag items law rest = (
-  (λ are. (law.names (tag_pair ∷ rest) (inl are)).0 tag_excluded),
-  λ are. (law.names (tag_pair ∷ rest) (inr are)).0 tag_excluded,
-)
+none_of_a_tag items law rest = ((λ are. (law.names (tag_pair ∷ rest) (inl are)).0 tag_excluded), λ are. (law.names (tag_pair ∷ rest) (inr are)).0 tag_excluded)
 
 -- ---- which duplicate is kept
 

@@ -1,15 +1,14 @@
 -- Examples of the definitions that only laws use: which specs go both ways, what a covering source covers, what a
 -- canonical text reads as, and the expansion of a group.
-use Rattle.gix_refspec.proofs.Common.{Lacks-tested, IsPattern-tested, other_length, none_some, named, no_sign, begins_not, empty_blob, IsIdText-empty_blob, lower_of-empty_blob}
-use Rattle.gix_refspec.proofs.Common.{HasIdFault-length, every, no_dev, short, short_kind, other_byte, other_first, push_is_none, bytes_in, mapping, tracked, fetches_all_but_dev}
-use Rattle.gix_refspec.proofs.Common.{tracks_all_but_dev, tracks_nothing, tag_to_x, tag_to_foo, tag_alone, ◌≡◌, ◌≢◌, ◌⊎◌, ◌<◌, ℕ, List, [], ◌∷◌, ◌++◌, Option, None, Some, length, codes}
-use Rattle.gix_refspec.proofs.Common.{refl, sym, ap, ◌∙◌, subst, inl, inr, arith, AllByRecursion, Push, Fetch, BeginsWith, HasStar, IsPattern, star, colon, Normal, Forced, Negative, Reading}
-use Rattle.gix_refspec.proofs.Common.{AreParts, Reads, fetches, fetched, pushed, candidates, IsCandidate, Fits, name, id, Mapped, HasPair, AreApart, AreKeptForward, AreKeptBackward}
-use Rattle.gix_refspec.proofs.Common.{OneForward, OneBackward, KeptOnce, Ref, Matches, HasName, Takes, ValidatedOnce, DestinationsHaveOneSource, HaveDistinctDestinations, ForwardFits}
-use Rattle.gix_refspec.proofs.Common.{IndexesFit, push_delete, fetch_only, printed, meaning_of, Refusal, PatternUnbalanced, NegativeEmpty, ReferenceName, IsRefused, IsIdText, IsLowerText}
-use Rattle.gix_refspec.proofs.Common.{HasIdFault, LockSuffix, RepeatedDot, IsAsked, IsPrefix, Expands, to_prefix, to_candidates, IsCovering, HasCoveringSource, MapAlike, AreReadAgain}
-use Rattle.gix_refspec.proofs.Common.{AsksFor, AtSpec, EachSource, Transpose, Cover, CoverTogether, FetchGroupReadsBack, IsCoveredBy, IsSourceAmong, IsDestinationAmong, GoesBothWays}
-use Rattle.gix_refspec.proofs.Common.{ReadsAgainAs, BeginsWithOne, AreExpansions, same_Some}
+use Rattle.gix_refspec.proofs.Common.{Lacks-tested, IsPattern-tested, other_length, none_some, named, no_sign, begins_not, empty_blob, IsIdText-empty_blob, lower_of-empty_blob, HasIdFault-length}
+use Rattle.gix_refspec.proofs.Common.{every, no_dev, short, short_kind, other_byte, other_first, push_is_none, bytes_in, mapping, tracked, fetches_all_but_dev, tracks_all_but_dev, tracks_nothing}
+use Rattle.gix_refspec.proofs.Common.{tag_to_x, tag_to_foo, tag_alone, ◌≡◌, ◌≢◌, ◌⊎◌, ◌<◌, ℕ, List, [], ◌∷◌, ◌++◌, Option, None, Some, length, codes, refl, sym, ap, ◌∙◌, subst, inl, inr, arith}
+use Rattle.gix_refspec.proofs.Common.{AllByRecursion, Push, Fetch, BeginsWith, HasStar, IsPattern, star, colon, Normal, Forced, Negative, Reading, AreParts, Reads, fetches, fetched, pushed}
+use Rattle.gix_refspec.proofs.Common.{candidates, IsCandidate, Fits, name, id, Mapped, HasPair, AreApart, AreKeptForward, AreKeptBackward, OneForward, OneBackward, KeptOnce, Ref, Matches, HasName}
+use Rattle.gix_refspec.proofs.Common.{Takes, ValidatedOnce, DestinationsHaveOneSource, HaveDistinctDestinations, ForwardFits, IndexesFit, push_delete, fetch_only, printed, meaning_of, Refusal}
+use Rattle.gix_refspec.proofs.Common.{PatternUnbalanced, NegativeEmpty, ReferenceName, IsRefused, IsIdText, IsLowerText, HasIdFault, LockSuffix, RepeatedDot, IsAsked, IsPrefix, Expands, to_prefix}
+use Rattle.gix_refspec.proofs.Common.{to_candidates, IsCovering, HasCoveringSource, MapAlike, AreReadAgain, AsksFor, AtSpec, EachSource, Transpose, Cover, CoverTogether, FetchGroupReadsBack}
+use Rattle.gix_refspec.proofs.Common.{IsCoveredBy, IsSourceAmong, IsDestinationAmong, GoesBothWays, ReadsAgainAs, BeginsWithOne, AreExpansions, same_Some, by_cases}
 use Rattle.gix_refspec_text.specs.Laws.Readings.{ReadsOnce, ReadsOrRefused, IsSameReason, SaysForOperation, IsPrintedBack, ReadsBack, EqualReadings, HasOneId, HasOneFault, HasCandidates, KeepsOperation, EqualTexts, NothingAgainst, ClonesExactly, OneWord, PrefixBegins, OnePrefix, Candidates, IdOrFault, OneLowerText, OneRefusal}
 use Rattle.gix_refspec_text.specs.Texts.PatternError.{IsPatternFault}
 use Rattle.gix_refspec_text.specs.declared.name.PatternError.{PatternError}
@@ -50,27 +49,16 @@ go_both_ways = (
 
 -- a spec with a partial name on one side doesn't
 pub go_one_way : ¬ (GoesBothWays (fetched Normal (codes "main") (Some (codes "refs/x/main")))) × ¬ (GoesBothWays (fetched Normal (codes "refs/heads/a") (Some (codes "b"))))
-go_one_way = (from_partial, to_partial)
-  where
-    from_partial : ¬ (GoesBothWays (fetched Normal (codes "main") (Some (codes "refs/x/main"))))
-    from_partial goes = elim (goes tt (codes "main") (codes "refs/x/main") refl refl) [
-      | inl stars ↦ Lacks-ContainsText star (codes "main") (Lacks-tested star (codes "main") refl) stars.0
-      | inr below ↦ other_first 109 (codes "ain") (λ same. omega (arith, same)) below.0
-    ]
-
-    to_partial : ¬ (GoesBothWays (fetched Normal (codes "refs/heads/a") (Some (codes "b"))))
-    to_partial goes = elim (goes tt (codes "refs/heads/a") (codes "b") refl refl) [
-      | inl stars ↦ Lacks-ContainsText star (codes "b") (Lacks-tested star (codes "b") refl) stars.1
-      | inr below ↦ other_first 98 [] (λ same. omega (arith, same)) below.1
-    ]
+go_one_way = (
+  (λ goes. by_cases (goes tt (codes "main") (codes "refs/x/main") refl refl)
+      (λ stars. Lacks-ContainsText star (codes "main") (Lacks-tested star (codes "main") refl) stars.0) (λ below. other_first 109 (codes "ain") (λ same. omega (arith, same)) below.0)),
+  λ goes. by_cases (goes tt (codes "refs/heads/a") (codes "b") refl refl)
+      (λ stars. Lacks-ContainsText star (codes "b") (Lacks-tested star (codes "b") refl) stars.1) (λ below. other_first 98 [] (λ same. omega (arith, same)) below.1),
+)
 
 -- a name is that of the second of two refs; an id isn't a name, nor is a missing destination
 pub among : IsSourceAmong (named (codes "a") ∷ named (codes "b") ∷ []) (name (codes "b")) × ¬ (IsSourceAmong (named (codes "a") ∷ []) (id (codes "a"))) × IsDestinationAmong (named (codes "a") ∷ []) (Some (codes "a")) × ¬ (IsDestinationAmong (named (codes "a") ∷ []) None) × ¬ (HasName (named (codes "a") ∷ []) (codes "aa"))
-among = (inr (inl refl), (λ none. none), inl refl, (λ none. none), longer)
-  where
-    longer : ¬ (HasName (named (codes "a") ∷ []) (codes "aa"))
-    longer (inl same) = other_length _ _ (λ size. omega (arith, size)) same
-    longer (inr none) = none
+among = (inr (inl refl), (λ none. none), inl refl, (λ none. none), λ has. by_cases has (other_length _ _ (λ size. omega (arith, size))) (λ none. none))
 
 -- ---- groups that map alike
 
@@ -147,22 +135,13 @@ abbrev head_spec : Reading
 head_spec = fetched Normal (codes "HEAD") None
 
 pub head_asks : AsksFor head_spec (codes "HEAD") × ¬ (AsksFor head_spec (codes "refs/heads/HEAD"))
-head_asks = (inr (refl, asked, refl), no_branch)
-  where
-    asked : IsAsked head_spec (codes "HEAD")
-    asked = record { positive = tt; side = refl }
-
-    no_branch : ¬ (AsksFor head_spec (codes "refs/heads/HEAD"))
-    no_branch (inl has) = not_covering.0 (has.source (codes "HEAD") asked)
-    no_branch (inr (fetch, also, same)) = other_length (codes "refs/heads/HEAD") (codes "HEAD") (λ size. omega (arith, size)) same
+head_asks =
+    let asked : IsAsked head_spec (codes "HEAD") = record { positive = tt; side = refl } in
+    (inr (refl, asked, refl), λ asks. by_cases asks (λ has. not_covering.0 (has.source (codes "HEAD") asked)) (λ (fetch, also, same). other_length (codes "refs/heads/HEAD") (codes "HEAD") (λ size. omega (arith, size)) same))
 
 -- a covering source covers each name, and a push none, not even `HEAD`
 pub every_asks : (n : List ℕ) → AsksFor every n × ¬ (AsksFor (pushed Normal (Some (codes "HEAD")) None) n)
-every_asks n = (inl every_covering, no_push)
-  where
-    no_push : ¬ (AsksFor (pushed Normal (Some (codes "HEAD")) None) n)
-    no_push (inl has) = push_is_none has.fetch
-    no_push (inr (fetch, asked, same)) = push_is_none fetch
+every_asks n = (inl every_covering, λ asks. by_cases asks (λ has. push_is_none has.fetch) (λ (fetch, asked, same). push_is_none fetch))
 
 -- the spec of a mapping is the one at its index
 pub at_its_spec : (P : Reading → Type 0) → AtSpec (no_dev ∷ every ∷ []) (mapping 0 (codes "refs/heads/main") None 1) P → P every
@@ -238,10 +217,7 @@ one_text law t lower = law.only t lower ∙ lower_of-empty_blob
 
 -- a text is refused for one reason, except that any fault of a name may be reported
 pub one_reason : OneRefusal Fetch (codes "a*") → ¬ (IsRefused Fetch (codes "a*") NegativeEmpty)
-one_reason law empty = elim (law PatternUnbalanced NegativeEmpty unbalanced_fetches.5 empty) [
-  | inl same ↦ cc
-  | inr (a, b, is_name, also) ↦ cc
-]
+one_reason law empty = by_cases (law PatternUnbalanced NegativeEmpty unbalanced_fetches.5 empty) (λ same. cc) (λ (a, b, is_name, also). cc)
 
 -- a text has no reading if a reason applies to its parts
 pub star_unread : ReasonRefuses Fetch (codes "a*") → (r : Reading) → ¬ (Reads Fetch (codes "a*") r)
@@ -371,10 +347,8 @@ not_covered law = (by_every, by_none)
     no_entry (k, entry, below, is, begins) = omega (arith, below)
 
     by_none : ¬ (IsCoveredBy (codes "refs/heads/dev-a") no_dev)
-    by_none covers = elim covers.expansion [
-      | inl (x, asked, expands) ↦ asked.positive
-      | inr (none, same) ↦ no_entry (subst (λ (l : List (List ℕ)). BeginsWithOne l (codes "refs/heads/dev-a")) same covers.one)
-    ]
+    by_none covers = by_cases covers.expansion (λ (x, asked, expands). asked.positive)
+        (λ (none, same). no_entry (subst (λ (l : List (List ℕ)). BeginsWithOne l (codes "refs/heads/dev-a")) same covers.one))
 
 -- the spec index of the branch is in its group
 pub fits : ForwardFits (every ∷ no_dev ∷ []) remote_refs → IndexesFit (every ∷ no_dev ∷ []) (tracked 2 (codes "main") ∷ [])

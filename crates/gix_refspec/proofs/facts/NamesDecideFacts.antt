@@ -1,8 +1,8 @@
 -- From left to right names alone decide, from right to left ids too.
-use Rattle.gix_refspec.proofs.Common.{named, none_some, other_length, empty_blob, IsIdText-empty_blob, blob_kind, dev_ref, every, main_ref, no_dev, tag_ref, fetches_all_but_dev, tracked}
-use Rattle.gix_refspec.proofs.Common.{◌≡◌, ◌≢◌, ◌⊎◌, inl, inr, ℕ, List, [], ◌∷◌, None, Some, codes, length, get_or, refl, ap, ◌∙◌, arith, Sha1, Sha256, IsIdText, bytes_of, digits_of}
-use Rattle.gix_refspec.proofs.Common.{SideKind, pattern, full_name, object, partial, HasKind, Ref, MatchesAs, Matches, Normal, Reading, fetched, Mapped, AreKeptForward, AreKeptBackward}
-use Rattle.gix_refspec.proofs.Common.{AsksForNoId, HasIdDestination, HaveSameNames, NamesDecide, NamesDecideBack, same_Some}
+use Rattle.gix_refspec.proofs.Common.{named, none_some, other_length, empty_blob, IsIdText-empty_blob, blob_kind, dev_ref, every, main_ref, no_dev, tag_ref, fetches_all_but_dev, tracked, ◌≡◌, ◌≢◌}
+use Rattle.gix_refspec.proofs.Common.{◌⊎◌, inl, inr, ℕ, List, [], ◌∷◌, None, Some, codes, length, get_or, refl, ap, ◌∙◌, arith, Sha1, Sha256, IsIdText, bytes_of, digits_of, SideKind, pattern}
+use Rattle.gix_refspec.proofs.Common.{full_name, object, partial, HasKind, Ref, MatchesAs, Matches, Normal, Reading, fetched, Mapped, AreKeptForward, AreKeptBackward, AsksForNoId, HasIdDestination}
+use Rattle.gix_refspec.proofs.Common.{HaveSameNames, NamesDecide, NamesDecideBack, same_Some}
 use Rattle.gix_refspec_text.specs.declared.oid.Kind.{Kind}
 
 -- a ref with this name, and other ids than in the example

@@ -1,7 +1,7 @@
 -- The contracts of the match calls for a given group and items: for the examples of matching, they determine the
 -- outcome, and there is one.
-use Rattle.gix_refspec.proofs.Common.{named, every, no_dev, tracked, fetches_all_but_dev, tracks_all_but_dev, ◌≡◌, List, [], ◌∷◌, map, length, codes, refl, ap, arith, Item, MatchGroup}
-use Rattle.gix_refspec.proofs.Common.{Outcome, Ref, Mapped, AreForward, AreBackward, AreKeptForward, AreKeptBackward, mapped_of, ref_of, IsOutcome, Maps, readings_of}
+use Rattle.gix_refspec.proofs.Common.{named, every, no_dev, tracked, fetches_all_but_dev, tracks_all_but_dev, ◌≡◌, List, [], ◌∷◌, map, length, codes, refl, ap, arith, Item, MatchGroup, Outcome, Ref}
+use Rattle.gix_refspec.proofs.Common.{Mapped, AreForward, AreBackward, AreKeptForward, AreKeptBackward, mapped_of, ref_of, IsOutcome, Maps, readings_of}
 use Rattle.gix_refspec_match.proofs.lemmas.hits.HitLemmas.{one_forward, one_backward}
 
 -- a group with a spec for all branches and one without those that begin `dev-`

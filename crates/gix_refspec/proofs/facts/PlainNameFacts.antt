@@ -1,6 +1,5 @@
 -- The law of plain names: texts that it covers, similar ones that it doesn't, and what a caller concludes from it.
-use Rattle.gix_refspec.proofs.Common.{◌≡◌, inl, ℕ, true, false, List, [], ◌∷◌, ◌++◌, IsTrue, codes, refl, list_all, list_any, IsName, IsRefName, is_plain_component, is_plain_name}
-use Rattle.gix_refspec.proofs.Common.{PlainNames}
+use Rattle.gix_refspec.proofs.Common.{◌≡◌, inl, ℕ, true, false, List, [], ◌∷◌, ◌++◌, IsTrue, codes, refl, list_all, list_any, IsName, IsRefName, is_plain_component, is_plain_name, PlainNames}
 use Rattle.gix_refspec_text.proofs.facts.NameFacts.{no_names, names_close_to_faults}
 
 -- full names and others, components that end with a part of `.lock`, and the bytes next to the special ones

@@ -1,8 +1,8 @@
 -- Examples of the definitions on ref names, for mappings with valid and invalid ones, and what a caller concludes from
 -- their law.
-use Rattle.gix_refspec.proofs.Common.{nothing_made, Lacks-tested, mapping, ◌≡◌, inl, inr, ℕ, List, [], ◌∷◌, ◌++◌, None, Some, codes, refl, arith, AllByRecursion, RepeatedDot, InvalidMapping}
-use Rattle.gix_refspec.proofs.Common.{slash, Reading, Ref, id, Mapped, mapped_of, AreKeptForward, ForwardIndexes, IndexesFit, IsValidated, Removed, AreLeftOut, HaveRefNames, IsInvalidAt}
-use Rattle.gix_refspec.proofs.Common.{IsLeftOut, HasRefNames, IsValidDestination, IsValidSource, IsRefName, KeepsRefNames, LeftOut, StaysAmongRefs, WritesRefs, left_out_of}
+use Rattle.gix_refspec.proofs.Common.{nothing_made, Lacks-tested, mapping, ◌≡◌, inl, inr, ℕ, List, [], ◌∷◌, ◌++◌, None, Some, codes, refl, arith, AllByRecursion, RepeatedDot, InvalidMapping, slash}
+use Rattle.gix_refspec.proofs.Common.{Reading, Ref, id, Mapped, mapped_of, AreKeptForward, ForwardIndexes, IndexesFit, IsValidated, Removed, AreLeftOut, HaveRefNames, IsInvalidAt, IsLeftOut}
+use Rattle.gix_refspec.proofs.Common.{HasRefNames, IsValidDestination, IsValidSource, IsRefName, KeepsRefNames, LeftOut, StaysAmongRefs, WritesRefs, left_out_of}
 use Rattle.gix_refspec.specs.declared.match_group.ref_names.InvalidSide.TheVariants.{Source, Destination, Both}
 use Rattle.gix_refspec.proofs.lemmas.validate.RefNameLemmas.{bad_unnamed, below_refs, name_of_ref, stays_among_refs}
 use Rattle.gix_refspec.proofs.facts.ValidationFacts.{unwritable}
@@ -52,13 +52,7 @@ sides = (
 )
 
 pub no_other_sides : ¬ (IsInvalidAt Both from_bad) × ¬ (IsInvalidAt Source all_bad) × ¬ (IsInvalidAt Source to_bad) × ¬ (IsInvalidAt Destination all_bad) × ¬ (IsInvalidAt Destination kept)
-no_other_sides = (
-  (λ is. is.1 ref_names.0),
-  (λ is. no_ref_names.2 is.1),
-  (λ is. is.0 ref_names.0),
-  (λ is. no_ref_names.2 is.0),
-  (λ is. is.1 ref_names.0),
-)
+no_other_sides = ((λ is. is.1 ref_names.0), (λ is. no_ref_names.2 is.1), (λ is. is.0 ref_names.0), (λ is. no_ref_names.2 is.0), (λ is. is.1 ref_names.0))
 
 -- the plain data of an `InvalidMapping`
 pub left_out_seen : (b : InvalidMapping) → ((left_out_of b).mapping ≡ mapped_of b.mapping) × ((left_out_of b).side ≡ b.side)
@@ -69,40 +63,38 @@ left = record { mapping = from_bad; side = Source } ∷ record { mapping = to_ba
 
 -- one of four is kept, and the others are listed in order, each with its side
 pub parted : KeepsRefNames (from_bad ∷ kept ∷ to_bad ∷ all_bad ∷ []) (kept ∷ []) left
-parted = record {
-  named = (
-    None,
-    kept ∷ [],
-    (λ m made. bad_unnamed Source from_bad sides.1 made.1),
-    (
-      Some kept,
-      [],
-      (refl, sides.0),
-      (None, [], (λ m made. bad_unnamed Destination to_bad sides.2 made.1), (None, [], (λ m made. bad_unnamed Both all_bad sides.3 made.1), refl, refl), refl),
-      refl,
-    ),
-    refl,
-  );
-  others = (
-    Some (record { mapping = from_bad; side = Source }),
-    record { mapping = to_bad; side = Destination } ∷ record { mapping = all_bad; side = Both } ∷ [],
-    record { same = refl; bad = sides.1 },
-    (
-      None,
-      record { mapping = to_bad; side = Destination } ∷ record { mapping = all_bad; side = Both } ∷ [],
-      (λ out is. bad_unnamed out.side kept is.bad sides.0),
-      (
-        Some (record { mapping = to_bad; side = Destination }),
-        record { mapping = all_bad; side = Both } ∷ [],
-        record { same = refl; bad = sides.2 },
-        (Some (record { mapping = all_bad; side = Both }), [], record { same = refl; bad = sides.3 }, refl, refl),
+parted =
+    let from : LeftOut = record { mapping = from_bad; side = Source } in
+    let to : LeftOut = record { mapping = to_bad; side = Destination } in
+    let all : LeftOut = record { mapping = all_bad; side = Both } in
+    record {
+      named = (
+        None,
+        kept ∷ [],
+        (λ m made. bad_unnamed Source from_bad sides.1 made.1),
+        (
+          Some kept,
+          [],
+          (refl, sides.0),
+          (None, [], (λ m made. bad_unnamed Destination to_bad sides.2 made.1), (None, [], (λ m made. bad_unnamed Both all_bad sides.3 made.1), refl, refl), refl),
+          refl,
+        ),
         refl,
-      ),
-      refl,
-    ),
-    refl,
-  );
-}
+      );
+      others = (
+        Some from,
+        to ∷ all ∷ [],
+        record { same = refl; bad = sides.1 },
+        (
+          None,
+          to ∷ all ∷ [],
+          (λ out is. bad_unnamed out.side kept is.bad sides.0),
+          (Some to, all ∷ [], record { same = refl; bad = sides.2 }, (Some all, [], record { same = refl; bad = sides.3 }, refl, refl), refl),
+          refl,
+        ),
+        refl,
+      );
+    }
 
 -- a valid mapping isn't lost, and an invalid one is listed
 pub none_lost : ¬ (HaveRefNames (kept ∷ []) []) × ¬ (AreLeftOut (to_bad ∷ []) [])

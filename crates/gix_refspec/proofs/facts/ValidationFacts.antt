@@ -1,11 +1,11 @@
 -- Examples of the definitions on validation, for mappings to one destination and to others: their conflicts, survivors
 -- and fixes.
-use Rattle.gix_refspec.proofs.Common.{nothing_made, other_length, none_some, begins_not, other_byte, of_element, bytes_in, mapping, tag_to_x, branch_to_x, tag_again, tag_to_foo, tag_alone}
-use Rattle.gix_refspec.proofs.Common.{pairs, ◌≡◌, ◌⊎◌, ℕ, ◌<◌, List, [], ◌∷◌, Option, None, Some, option_map, length, codes, refl, sym, ap, ◌∙◌, subst, inl, inr, arith, Contains}
-use Rattle.gix_refspec.proofs.Common.{IsStrictlySortedBy, nat_cmp, slice_cmp, Less, Equal, Greater, Normal, Forced, Reading, fetched, printed, name, Mapped, HasPair, IndexesFit}
-use Rattle.gix_refspec.proofs.Common.{HasConflictAt, IsFirstTo, IsTextAt, Conflict, IsConflict, AreConflicts, IsWritable, Survives, AreSurvivors, Removed, IsFix, AreFixes, IsValidated}
-use Rattle.gix_refspec.proofs.Common.{DestinationsHaveOneSource, ShareDestination, HaveDistinctDestinations, same_Some, false, nat_eq, AllByRecursion, starts_with, false≢true}
-use Rattle.gix_refspec.proofs.Common.{bytes_eq-Decides, bytes_eq, head}
+use Rattle.gix_refspec.proofs.Common.{nothing_made, other_length, none_some, begins_not, other_byte, of_element, bytes_in, mapping, tag_to_x, branch_to_x, tag_again, tag_to_foo, tag_alone, pairs, ◌≡◌}
+use Rattle.gix_refspec.proofs.Common.{◌⊎◌, ℕ, ◌<◌, List, [], ◌∷◌, Option, None, Some, option_map, length, codes, refl, sym, ap, ◌∙◌, subst, inl, inr, arith, Contains, IsStrictlySortedBy, nat_cmp}
+use Rattle.gix_refspec.proofs.Common.{slice_cmp, Less, Equal, Greater, Normal, Forced, Reading, fetched, printed, name, Mapped, IndexesFit, HasConflictAt, IsFirstTo, IsTextAt, Conflict, IsConflict}
+use Rattle.gix_refspec.proofs.Common.{AreConflicts, IsWritable, Survives, AreSurvivors, Removed, IsFix, AreFixes, IsValidated, DestinationsHaveOneSource, ShareDestination, HaveDistinctDestinations}
+use Rattle.gix_refspec.proofs.Common.{same_Some, false, nat_eq, AllByRecursion, starts_with, false≢true, bytes_eq-Decides, bytes_eq, head, by_cases, ◌≢◌, map, Mapping, Outcome, mapped_of}
+use Rattle.gix_refspec.proofs.Common.{AreMappingCopies, readings_of, OneValidation, IsOutcomeCopy, CopiedOutcome, IsMadeFrom}
 use Rattle.gix_refspec.proofs.lemmas.validate.ConflictLemmas.{no_conflicts}
 
 -- specs with the same pattern as destination, the second of which is forced
@@ -30,19 +30,12 @@ conflict = record {
 -- only the one destination is in conflict
 at_x_or_y : (d : List ℕ) (m : Mapped) → Contains meeting m → m.destination ≡ Some d → (d ≡ codes "refs/x/a") ⊎ (m ≡ branch_to_y)
 at_x_or_y d m has to =
-    elim (of_element (λ n. (n.destination ≡ Some (codes "refs/x/a")) ⊎ (n ≡ branch_to_y)) meeting m (inr refl, (inl refl, (inl refl, (inl refl, tt)))) has) [
-      | inl x ↦ inl (same_Some d (codes "refs/x/a") (sym to ∙ x))
-      | inr y ↦ inr y
-    ]
+    by_cases (of_element (λ n. (n.destination ≡ Some (codes "refs/x/a")) ⊎ (n ≡ branch_to_y)) meeting m (inr refl, (inl refl, (inl refl, (inl refl, tt)))) has)
+    (λ x. inl (same_Some d (codes "refs/x/a") (sym to ∙ x))) (λ y. inr y)
 
 pub only_x : (d : List ℕ) → HasConflictAt meeting d → d ≡ codes "refs/x/a"
-only_x d contested = elim (at_x_or_y d contested.one contested.has_one contested.one_to) [
-  | inl x ↦ x
-  | inr y ↦ elim (at_x_or_y d contested.other contested.has_other contested.other_to) [
-    | inl x ↦ x
-    | inr z ↦ absurd (contested.differ (ap (λ (m : Mapped). m.source) (y ∙ sym z)))
-  ]
-]
+only_x d contested = by_cases (at_x_or_y d contested.one contested.has_one contested.one_to) (λ x. x)
+    (λ y. by_cases (at_x_or_y d contested.other contested.has_other contested.other_to) (λ x. x) (λ z. absurd (contested.differ (ap (λ (m : Mapped). m.source) (y ∙ sym z)))))
 
 at_x : HasConflictAt meeting (codes "refs/x/a")
 at_x = record {
@@ -62,19 +55,23 @@ not_first : ¬ (IsFirstTo (codes "refs/x/a") meeting 3 tag_again)
 not_first first = first.first (inr (inl pairs.0))
 
 first_tag : IsFirstTo (codes "refs/x/a") meeting 1 tag_to_x
-first_tag = record { goes = refl; first = none }
-  where
-    none : ¬ (HasPair (branch_to_y ∷ []) tag_to_x)
-    none (inl same) = other_byte 5 (codes "refs/heads/b") (codes "refs/tags/a") (λ byte. omega (arith, byte)) (ap bytes_in same.source)
-    none (inr never) = never
+first_tag = record { goes = refl; first = λ has. by_cases has (λ same. other_byte 5 (codes "refs/heads/b") (codes "refs/tags/a") (λ byte. omega (arith, byte)) (ap bytes_in same.source)) (λ none. none) }
 
 first_branch : IsFirstTo (codes "refs/x/a") meeting 2 branch_to_x
-first_branch = record { goes = refl; first = none }
-  where
-    none : ¬ (HasPair (branch_to_y ∷ tag_to_x ∷ []) branch_to_x)
-    none (inl same) = other_byte 11 (codes "refs/heads/b") (codes "refs/heads/a") (λ byte. omega (arith, byte)) (ap bytes_in same.source)
-    none (inr (inl same)) = pairs.1 same
-    none (inr (inr never)) = never
+first_branch = record {
+  goes = refl;
+  first = λ has. by_cases has (λ same. other_byte 11 (codes "refs/heads/b") (codes "refs/heads/a") (λ byte. omega (arith, byte)) (ap bytes_in same.source)) (λ later. by_cases later pairs.1 (λ none. none));
+}
+
+-- of these mappings a conflict has what the two first ones to its destination give
+of_firsts : {Y : Type 0} (Q : Mapped → Y → Type 0) (y z : Y) → Q tag_to_x y → Q branch_to_x z → IsMadeFrom (λ k m made. IsFirstTo (codes "refs/x/a") meeting k m × Q m made) 0 meeting (y ∷ z ∷ [])
+of_firsts Q y z of_tag of_branch = (
+  None,
+  y ∷ z ∷ [],
+  (λ made is. not_to_x 0 is.0),
+  (Some y, z ∷ [], (first_tag, of_tag), (Some z, [], (first_branch, of_branch), (None, [], (λ made is. not_first is.0), refl, refl), refl), refl),
+  refl,
+)
 
 pub conflicts_at_x : AreConflicts both_to_x meeting (conflict ∷ [])
 unfolding IsStrictlySortedBy
@@ -82,38 +79,9 @@ conflicts_at_x = record {
   each = (
     record {
       contested = at_x;
-      sources = (
-        None,
-        conflict.sources,
-        (λ source made. not_to_x 0 made.0),
-        (
-          Some (name (codes "refs/tags/a")),
-          name (codes "refs/heads/a") ∷ [],
-          (first_tag, refl),
-          (Some (name (codes "refs/heads/a")), [], (first_branch, refl), (None, [], (λ source made. not_first made.0), refl, refl), refl),
-          refl,
-        ),
-        refl,
-      );
-      texts = (
-        None,
-        conflict.texts,
-        (λ text made. not_to_x 0 made.0),
-        (
-          Some (codes "refs/tags/*:refs/x/*"),
-          codes "+refs/heads/*:refs/x/*" ∷ [],
-          (first_tag, (fetched Normal (codes "refs/tags/*") (Some (codes "refs/x/*")), refl, refl)),
-          (
-            Some (codes "+refs/heads/*:refs/x/*"),
-            [],
-            (first_branch, (fetched Forced (codes "refs/heads/*") (Some (codes "refs/x/*")), refl, refl)),
-            (None, [], (λ text made. not_first made.0), refl, refl),
-            refl,
-          ),
-          refl,
-        ),
-        refl,
-      );
+      sources = of_firsts (λ m source. source ≡ m.source) (name (codes "refs/tags/a")) (name (codes "refs/heads/a")) refl refl;
+      texts = of_firsts (λ m text. IsTextAt both_to_x m.spec text) (codes "refs/tags/*:refs/x/*") (codes "+refs/heads/*:refs/x/*")
+          (fetched Normal (codes "refs/tags/*") (Some (codes "refs/x/*")), refl, refl) (fetched Forced (codes "refs/heads/*") (Some (codes "refs/x/*")), refl, refl);
     },
     tt,
   );
@@ -195,10 +163,7 @@ meet = (
       (λ at. other_length _ _ (λ size. omega (arith, size)) (same_Some (codes "refs/x/a") (codes "foo") (at.1 ∙ sym at.2))),
       ((λ at. none_some at.0 at.2), ((λ at. none_some at.0 at.2), tt)),
     ),
-    (
-      ((λ at. none_some at.0 at.2), ((λ at. none_some at.0 at.2), tt)),
-      (((λ at. none_some at.0 at.2), tt), (tt, tt)),
-    ),
+    (((λ at. none_some at.0 at.2), ((λ at. none_some at.0 at.2), tt)), (((λ at. none_some at.0 at.2), tt), (tt, tt))),
   ),
   λ never. never.0.1.0 (codes "refs/x/a", refl, refl),
 )
@@ -257,3 +222,50 @@ meetings = (
   (λ at. other_length _ _ (λ size. omega (arith, size)) (same_Some (codes "refs/x/a") (codes "foo") (at.1 ∙ sym at.2))),
   λ at. none_some at.0 at.1,
 )
+
+-- ---- what a caller concludes from the laws on the results of a validation
+
+-- the conflict of two specs is the only one
+pub one_at_x : OneValidation both_to_x meeting → (cs : List Conflict) → AreConflicts both_to_x meeting cs → cs ≡ conflict ∷ []
+one_at_x law cs are = law.conflicts cs (conflict ∷ []) are conflicts_at_x
+
+-- exactly one of three mappings is removed, with one fix
+abbrev of_one_tag : List Mapped
+of_one_tag = tag_to_x ∷ tag_to_foo ∷ tag_alone ∷ []
+
+pub two_survive : OneValidation both_to_x of_one_tag → (rest : List Mapped) (fixes : List Removed) → IsValidated both_to_x of_one_tag rest fixes → (rest ≡ tag_to_x ∷ tag_alone ∷ []) × (fixes ≡ foo_fix ∷ [])
+two_survive law rest fixes is = (law.survivors rest (tag_to_x ∷ tag_alone ∷ []) is.survive validated.survive, law.fixes fixes (foo_fix ∷ []) is.fixed validated.fixed)
+
+-- an outcome with the same specs and copies of the mappings is a copy, and one that lacks a mapping or has one more
+-- isn't
+pub outcome_copies : (o copy : Outcome 1) (m : Mapping) → copy.group.specs.items ≡ o.group.specs.items
+    → (AreMappingCopies o.mappings.items copy.mappings.items → IsOutcomeCopy o copy)
+    × (o.mappings.items ≡ m ∷ [] → copy.mappings.items ≡ [] → ¬ (IsOutcomeCopy o copy))
+    × (o.mappings.items ≡ [] → copy.mappings.items ≡ m ∷ [] → ¬ (IsOutcomeCopy o copy))
+outcome_copies o copy m specs = (
+  (λ are. record { specs = specs; mappings = are }),
+  (λ some none is. subst (λ (l : List Mapping). AreMappingCopies l []) some (subst (AreMappingCopies o.mappings.items) none is.mappings)),
+  (λ none some is. subst (λ (l : List Mapping). AreMappingCopies l (m ∷ [])) none (subst (AreMappingCopies o.mappings.items) some is.mappings)),
+)
+
+-- nor is one with other specs
+pub no_copy : (o copy : Outcome 1) → copy.group.specs.items ≢ o.group.specs.items → ¬ (IsOutcomeCopy o copy)
+no_copy o copy other is = other is.specs
+
+-- a copy has the specs and the mappings of its original, and so its conflicts, survivors and fixes
+pub copied : (o copy : Outcome 0) → CopiedOutcome o copy → IsOutcomeCopy o copy → (readings_of copy.group ≡ readings_of o.group) × (map mapped_of copy.mappings.items ≡ map mapped_of o.mappings.items)
+copied o copy law is = ((law is).readings, (law is).mappings)
+
+pub copied_conflict : (o copy : Outcome 1) → CopiedOutcome o copy → IsOutcomeCopy o copy → readings_of o.group ≡ both_to_x → map mapped_of o.mappings.items ≡ meeting
+    → (cs : List Conflict) → AreConflicts (readings_of copy.group) (map mapped_of copy.mappings.items) cs → cs ≡ conflict ∷ []
+copied_conflict o copy law is specs mappings cs are =
+    sym ((law is).validated.conflicts (conflict ∷ []) cs (subst (λ (g : List Reading). AreConflicts g (map mapped_of o.mappings.items) (conflict ∷ [])) (sym specs) (subst (λ (l : List Mapped). AreConflicts both_to_x l (conflict ∷ [])) (sym mappings) conflicts_at_x)) are)
+
+pub copied_survivors : (o copy : Outcome 1) → CopiedOutcome o copy → IsOutcomeCopy o copy → map mapped_of o.mappings.items ≡ of_one_tag
+    → (rest : List Mapped) → AreSurvivors (map mapped_of copy.mappings.items) rest → rest ≡ tag_to_x ∷ tag_alone ∷ []
+copied_survivors o copy law is mappings rest are = sym ((law is).validated.survivors (tag_to_x ∷ tag_alone ∷ []) rest (subst (λ (l : List Mapped). AreSurvivors l (tag_to_x ∷ tag_alone ∷ [])) (sym mappings) validated.survive) are)
+
+pub copied_fixes : (o copy : Outcome 1) → CopiedOutcome o copy → IsOutcomeCopy o copy → readings_of o.group ≡ both_to_x → map mapped_of o.mappings.items ≡ of_one_tag
+    → (fixes : List Removed) → AreFixes (readings_of copy.group) (map mapped_of copy.mappings.items) fixes → fixes ≡ foo_fix ∷ []
+copied_fixes o copy law is specs mappings fixes are =
+    sym ((law is).validated.fixes (foo_fix ∷ []) fixes (subst (λ (g : List Reading). AreFixes g (map mapped_of o.mappings.items) (foo_fix ∷ [])) (sym specs) (subst (λ (l : List Mapped). AreFixes both_to_x l (foo_fix ∷ [])) (sym mappings) validated.fixed)) are)

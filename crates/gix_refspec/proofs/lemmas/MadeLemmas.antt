@@ -1,6 +1,19 @@
 -- What holds of each element that is made of the elements of a list, or joined of them.
 use Rattle.gix_refspec.proofs.Common.{all_join, ◌≡◌, [], ◌∷◌, ◌++◌, length, refl, sym, subst, arith, map, ◌∙◌, ◌+◌, length-append, append_assoc, slice_get, AllByRecursion, slice_get_within}
-use Rattle.gix_refspec.proofs.Common.{get_or_from_slice_get, All-from_recursion, IsMadeFrom, IsJoinedFrom, ℕ, List, None, Some}
+use Rattle.gix_refspec.proofs.Common.{get_or_from_slice_get, All-from_recursion, IsMadeFrom, IsJoinedFrom, ℕ, List, None, Some, Contains}
+use Rattle.std.specs.List as lists
+use Rattle.gix_refspec_match.proofs.lemmas.lists.SomeLemmas.{Any, some_at, some_of}
+
+-- an element of a list, by index and by recursion
+pub there : {X : Type 0} (ys : List X) (m : X) → Contains ys m → Any (λ y. y ≡ m) ys
+there ys m (i, below, is) = some_of (λ y. y ≡ m) ys (i, m, below, is, refl)
+
+pub back : {X : Type 0} (ys : List X) (m : X) → Any (λ y. y ≡ m) ys → Contains ys m
+back ys m any = let (i, y, below, is, same) = some_at (λ y. y ≡ m) ys any in subst (Contains ys) same (i, below, is)
+
+-- what holds of the element at an index holds of some element
+pub any_at : {X : Type 0} (P : X → Type 0) (xs : List X) (k : ℕ) (x : X) → slice_get xs k ≡ Some x → P x → lists.Any P xs
+any_at P xs k x is holds = (k, x, slice_get_within xs k x is, get_or_from_slice_get xs k x x is, holds)
 
 -- what holds of all elements holds of the one at an index
 pub all_at : {X : Type 0} (P : X → Type 0) (xs : List X) (k : ℕ) (x : X) → AllByRecursion P xs → slice_get xs k ≡ Some x → P x

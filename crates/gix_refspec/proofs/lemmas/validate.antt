@@ -2,11 +2,9 @@
 pub mod UpdateLemmas
 pub mod FirstLemmas
 pub mod ConflictLemmas
-pub mod ApartLemmas
 pub mod ValidationLemmas
 pub mod OneValidationLemmas
 pub mod AfterLemmas
 pub mod MadeAtLemmas
-pub mod PlanLemmas
 pub mod ClearLemmas
 pub mod RefNameLemmas

@@ -1,7 +1,6 @@
 -- For all readings and refs.
 use Rattle.gix_refspec.proofs.Common.{map, ref_of, readings_of}
-use Rattle.gix_refspec.proofs.lemmas.keep.FilterLemmas.{filtered_items}
-use Rattle.gix_refspec.proofs.lemmas.keep.ItemLemmas.{fewer_items}
+use Rattle.gix_refspec.proofs.lemmas.keep.FilterLemmas.{filtered_items, fewer_items}
 use Rattle.gix_refspec.proofs.laws.fewer_items.Goals as goal
 
 pub returns-clause-kept : goal.returns-clause-kept

@@ -1,7 +1,6 @@
 -- For all readings and refs.
 use Rattle.gix_refspec.proofs.Common.{map, ref_of, readings_of}
-use Rattle.gix_refspec.proofs.lemmas.keep.FilterLemmas.{filtered_by_entries}
-use Rattle.gix_refspec.proofs.lemmas.keep.ItemLemmas.{listed_items}
+use Rattle.gix_refspec.proofs.lemmas.keep.FilterLemmas.{filtered_by_entries, listed_items}
 use Rattle.gix_refspec.proofs.laws.listed_items.Goals as goal
 
 pub returns-clause-kept : goal.returns-clause-kept

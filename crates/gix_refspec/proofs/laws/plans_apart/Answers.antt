@@ -1,5 +1,5 @@
 -- Indexes determine sources, and no destination is in conflict.
-use Rattle.gix_refspec.proofs.lemmas.validate.PlanLemmas.{plans_apart}
+use Rattle.gix_refspec.proofs.lemmas.validate.AfterLemmas.{plans_apart}
 use Rattle.gix_refspec.proofs.laws.plans_apart.Goals as goal
 
 pub returns : goal.returns

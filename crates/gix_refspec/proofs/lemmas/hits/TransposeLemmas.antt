@@ -1,9 +1,9 @@
 -- The two directions agree: a reading that goes both ways makes the same pair of the one name and of the other. A test
 -- of the sides decides whether a reading goes both ways.
 use Rattle.gix_refspec.proofs.Common.{◌≡◌, ◌⊎◌, inl, inr, ℕ, List, [], ◌∷◌, ◌++◌, codes, Option, None, Some, map, refl, ap, ◌∙◌, subst, AllByRecursion, IsSome, false≢true, RefSpecRef, Lacks}
-use Rattle.gix_refspec.proofs.Common.{BeginsWith, star, HasStar, HasSeveralStars, HasOneStar, IsSplit, Reading, IsAccepted, IsPositive, IsOneStarred, reading_of, SideKind, pattern}
-use Rattle.gix_refspec.proofs.Common.{full_name, object, partial, HasKind, Fits, filled, Ref, MatchesAs, Matches, HasName, Takes, name, Ends, AreForwardEnds, AreBackwardEnds, IsFilled}
-use Rattle.gix_refspec.proofs.Common.{IsSourceAmong, IsDestinationAmong, GoesBothWays, Transpose, true, Bool, IsTrue, ◌↔◌, Source, MakesForward, MakesBackward, PairsItem, id, IsPaired}
+use Rattle.gix_refspec.proofs.Common.{BeginsWith, star, HasStar, HasSeveralStars, HasOneStar, IsSplit, Reading, IsAccepted, IsPositive, IsOneStarred, reading_of, SideKind, pattern, full_name, object}
+use Rattle.gix_refspec.proofs.Common.{partial, HasKind, Fits, filled, Ref, MatchesAs, Matches, HasName, Takes, name, Ends, AreForwardEnds, AreBackwardEnds, IsFilled, IsSourceAmong, IsDestinationAmong}
+use Rattle.gix_refspec.proofs.Common.{GoesBothWays, Transpose, true, Bool, IsTrue, ◌↔◌, Source, MakesForward, MakesBackward, PairsItem, id, IsPaired, by_cases}
 use Rattle.gix_refspec_text.proofs.lemmas.texts.TextLemmas.{Lacks-ContainsText}
 use Rattle.gix_refspec_text.proofs.lemmas.parsing.DecideLemmas.{FirstIndex, lacks_or_first}
 use Rattle.gix_refspec_text.proofs.lemmas.specs.AcceptedLemmas.{accepted_few, accepted_balanced}
@@ -38,20 +38,14 @@ twins_back x y (names of_x of_y) = names of_y of_x
 
 -- a text with a star, but not several, has one star
 pub one_star : (x : List ℕ) → HasStar x → ¬ (HasSeveralStars x) → HasOneStar x
-one_star x has few = elim (lacks_or_first star x) [
-  | inl lacks ↦ absurd (Lacks-ContainsText star x lacks has)
-  | inr index ↦ split index (lacks_or_first star index.after)
-]
+one_star x has few = by_cases (lacks_or_first star x) (λ lacks. absurd (Lacks-ContainsText star x lacks has)) (λ index. split index (lacks_or_first star index.after))
   where
     split : (p : FirstIndex star x) → Lacks star p.after ⊎ FirstIndex star p.after → HasOneStar x
     split p (inl lacks) = (p.before, p.after, record { starred = p.here; first = p.first; last = lacks })
     split p (inr next) = absurd (few (record { before = p.before; between = next.before; after = next.after; here = p.here ∙ ap (λ (y : List ℕ). p.before ++ (star ∷ y)) next.here }))
 
 pub starred : (x : List ℕ) → Lacks star x ⊎ HasStar x
-starred x = elim (lacks_or_first star x) [
-  | inl lacks ↦ inl lacks
-  | inr index ↦ inr (record { before = index.before; after = index.after; here = index.here })
-]
+starred x = by_cases (lacks_or_first star x) (λ lacks. inl lacks) (λ index. inr (record { before = index.before; after = index.after; here = index.here }))
 
 -- of two texts of which not exactly one has a star, both have one or neither has
 pub both_or_neither : (s d : List ℕ) → ¬ (HasSeveralStars s) → ¬ (HasSeveralStars d) → ¬ (IsOneStarred s d) → (HasOneStar s × HasOneStar d) ⊎ (Lacks star s × Lacks star d)
@@ -66,10 +60,7 @@ both_or_neither s d few_s few_d balanced = by_stars (starred s) (starred d)
 -- two sides that both begin `refs/`, or both have a star
 twins : (x y : List ℕ) → ¬ (HasSeveralStars x) → ¬ (HasSeveralStars y) → ¬ (IsOneStarred x y) → (HasStar x × HasStar y) ⊎ (BeginsWith (codes "refs/") x × BeginsWith (codes "refs/") y) → AreTwins x y
 twins x y few_x few_y balanced (inl stars) = patterns (one_star x stars.0 few_x) (one_star y stars.1 few_y)
-twins x y few_x few_y balanced (inr below) = elim (both_or_neither x y few_x few_y balanced) [
-  | inl one ↦ patterns one.0 one.1
-  | inr none ↦ names (refl, none.0, below.0) (refl, none.1, below.1)
-]
+twins x y few_x few_y balanced (inr below) = by_cases (both_or_neither x y few_x few_y balanced) (λ one. patterns one.0 one.1) (λ none. names (refl, none.0, below.0) (refl, none.1, below.1))
 
 -- the name that a side is filled in to, by its kind
 filled_as : (y m : List ℕ) (kind : SideKind) (word : Option (List ℕ)) → HasKind y kind → IsFilled (Some y) word (Some m) → m ≡ filled kind word
@@ -263,8 +254,5 @@ goes_below_refs r s d told positive source destination lacks below = (
     subst (BeginsWith (codes "refs/")) (same_side r.source s x source is_x) (below.0 so).0,
     subst (BeginsWith (codes "refs/")) (same_side r.destination d y destination is_y) (below.0 so).1,
   )),
-  (λ goes. elim (goes positive s d source destination) [
-    | inl stars ↦ absurd (Lacks-ContainsText star s lacks stars.0)
-    | inr both ↦ below.1 both
-  ]),
+  (λ goes. by_cases (goes positive s d source destination) (λ stars. absurd (Lacks-ContainsText star s lacks stars.0)) (λ both. below.1 both)),
 )

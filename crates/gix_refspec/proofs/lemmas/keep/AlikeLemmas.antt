@@ -1,9 +1,9 @@
 -- Fetches map alike if they are equal, or if the canonical text of one reads as the other.
 use Rattle.gix_refspec.proofs.Common.{◌≡◌, inl, inr, ◌↔◌, ℕ, ◌+◌, Bool, true, false, List, [], ◌∷◌, map, Option, None, Some, refl, sym, ap, ◌∙◌, subst, nat_eq, pointwise, AllZip, false≢true}
-use Rattle.gix_refspec.proofs.Common.{Operation, Fetch, RefSpecRef, Mode, Normal, Forced, Negative, Reading, IsPositive, IsAccepted, Reads, Meaning, fetch_only, fetch_exclude}
-use Rattle.gix_refspec.proofs.Common.{fetch_and_update, meaning, meaning_of, key_of_spec, reading_of, Ref, Matches, Takes, MakesOf, IsMadeFrom, IsJoinedFrom, Source, name, id, Mapped}
-use Rattle.gix_refspec.proofs.Common.{IsExcludedBy, IsExcluded, IsSourceExcluded, IsKeptAt, IsKept, Ends, AreForwardEnds, AreBackwardEnds, Hit, IsFilled, AreSpecHits, AreHits, IsIdMapping}
-use Rattle.gix_refspec.proofs.Common.{AreKeptForward, AreKeptBackward, ReadsAgainAs, MapAlike, FetchGroupReadsBack, FetchTheSame, EqualGroups, AreFetches, same_Some}
+use Rattle.gix_refspec.proofs.Common.{Operation, Fetch, RefSpecRef, Mode, Normal, Forced, Negative, Reading, IsPositive, IsAccepted, Reads, Meaning, fetch_only, fetch_exclude, fetch_and_update}
+use Rattle.gix_refspec.proofs.Common.{meaning, meaning_of, key_of_spec, reading_of, Ref, Matches, Takes, MakesOf, IsMadeFrom, IsJoinedFrom, Source, name, id, Mapped, IsExcludedBy, IsExcluded}
+use Rattle.gix_refspec.proofs.Common.{IsSourceExcluded, IsKeptAt, IsKept, Ends, AreForwardEnds, AreBackwardEnds, Hit, IsFilled, AreSpecHits, AreHits, IsIdMapping, AreKeptForward, AreKeptBackward}
+use Rattle.gix_refspec.proofs.Common.{ReadsAgainAs, MapAlike, FetchGroupReadsBack, FetchTheSame, EqualGroups, AreFetches, same_Some}
 use Rattle.gix_refspec_text.proofs.lemmas.lists.EqualLemmas.{same_keys}
 use Rattle.gix_refspec_text.proofs.lemmas.specs.SpecLemmas.{equal_keys, keeps_operation, printed_back, says, says_for_operation}
 
@@ -193,13 +193,9 @@ stays g h all k m alike is = record { first = is.first; included = λ by. is.inc
 -- so they keep the same of a list
 kept : (g h : List Reading) (all list : List Mapped) → AllZip AreAlike g h → IsKept g all list → IsKept h all list
 kept g h all list alike is =
-    made_zip (λ x y. x ≡ y) (λ k m made. (made ≡ m) × IsKeptAt g all k m) (λ k m made. (made ≡ m) × IsKeptAt h all k m) both 0 all all list (same_zip all) is
-  where
-    both : (k : ℕ) (m n made : Mapped) → m ≡ n → ((made ≡ m) × IsKeptAt g all k m) ↔ ((made ≡ n) × IsKeptAt h all k n)
-    both k m n made same = (
-      λ of_g. (of_g.0 ∙ same, stays g h all k n alike (subst (IsKeptAt g all k) same of_g.1)),
-      λ of_h. (of_h.0 ∙ sym same, stays h g all k m (zip_back g h alike) (subst (IsKeptAt h all k) (sym same) of_h.1)),
-    )
+    made_zip (λ x y. x ≡ y) (λ k m made. (made ≡ m) × IsKeptAt g all k m) (λ k m made. (made ≡ m) × IsKeptAt h all k m)
+    (λ k m n made same. subst (λ (x : Mapped). ((made ≡ m) × IsKeptAt g all k m) ↔ ((made ≡ x) × IsKeptAt h all k x)) same ((λ of_g. (of_g.0, stays g h all k m alike of_g.1)), λ of_h. (of_h.0, stays h g all k m (zip_back g h alike) of_h.1)))
+    0 all all list (same_zip all) is
 
 forward : (g h : List Reading) (items : List Ref) (list : List Mapped) → AllZip AreAlike g h → AreKeptForward g items list → AreKeptForward h items list
 forward g h items list alike are = record {

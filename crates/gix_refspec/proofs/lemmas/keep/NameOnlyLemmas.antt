@@ -1,8 +1,8 @@
 -- Refs with the same names have the same mappings from left to right, as no source that takes refs depends on their
 -- ids; and from right to left if no destination is an id.
-use Rattle.gix_refspec.proofs.Common.{all_weaker, ◌≡◌, ℕ, ◌+◌, inl, inr, List, [], ◌∷◌, Option, None, Some, map, refl, sym, ap, ◌∙◌, subst, length, arith, Reading, SideKind, pattern}
-use Rattle.gix_refspec.proofs.Common.{full_name, object, partial, HasKind, Fits, IsCandidate, Ref, Matches, MatchesAs, HasName, IsFirstCandidate, Takes, IsJoinedFrom, Ends, AreBackwardEnds}
-use Rattle.gix_refspec.proofs.Common.{AreForwardEnds, Hit, IsHit, AreSpecHits, AsksForNoId, HasIdDestination, HaveSameNames, NamesDecide, NamesDecideBack, AllZip}
+use Rattle.gix_refspec.proofs.Common.{all_weaker, ◌≡◌, ℕ, ◌+◌, inl, inr, List, [], ◌∷◌, Option, None, Some, map, refl, sym, ap, ◌∙◌, subst, length, arith, Reading, SideKind, pattern, full_name}
+use Rattle.gix_refspec.proofs.Common.{object, partial, HasKind, Fits, IsCandidate, Ref, Matches, MatchesAs, HasName, IsFirstCandidate, Takes, IsJoinedFrom, Ends, AreBackwardEnds, AreForwardEnds, Hit}
+use Rattle.gix_refspec.proofs.Common.{IsHit, AreSpecHits, AsksForNoId, HasIdDestination, HaveSameNames, NamesDecide, NamesDecideBack, AllZip}
 use Rattle.gix_refspec.proofs.lemmas.keep.AlikeLemmas.{made_zip}
 
 no_name : (r : Ref) (refs : List Ref) → HaveSameNames [] (r ∷ refs) → ⊥
@@ -122,10 +122,6 @@ names_decide g A B same kept are = record {
 pub names_decide_back : (g : List Reading) (A : List Ref) → NamesDecideBack g A
 names_decide_back g A none B same kept are = record {
   all = are.all;
-  backward = record {
-    hits = are.backward.hits;
-    are_hits = joined_back A B 0 g are.backward.hits none same are.backward.are_hits;
-    all = are.backward.all;
-  };
+  backward = record { hits = are.backward.hits; are_hits = joined_back A B 0 g are.backward.hits none same are.backward.are_hits; all = are.backward.all };
   is = are.is;
 }

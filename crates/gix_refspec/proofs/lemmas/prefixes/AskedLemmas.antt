@@ -1,10 +1,10 @@
 -- Ref prefixes, for which a server lists each ref that a group of fetches maps: over the items that it lists, the same
 -- pairs are kept.
-use Rattle.gix_refspec.proofs.Common.{joined_next, map_split, map_long, nothing_joined, ◌≡◌, inl, inr, ℕ, suc, ◌+◌, ◌<◌, List, [], ◌∷◌, ◌++◌, Option, None, Some, MatchOption, Vec, Global}
-use Rattle.gix_refspec.proofs.Common.{length, map, take, drop, get_or, refl, sym, ap, ◌∙◌, subst, arith, BString, bstring_bytes, append-nil, get_or-map, length-map, map-append, map_more}
-use Rattle.gix_refspec.proofs.Common.{recursion_from_All, Fetch, RefSpecRef, reading_of, BeginsWith, IsSplit, IsPositive, Reading, SideKind, pattern, full_name, object, partial, HasKind}
-use Rattle.gix_refspec.proofs.Common.{Ref, Matches, MatchesAs, Takes, IsRefPrefix, IsAsked, Source, name, AreForwardEnds, MakesForward, PairsItem, HasNoList, Lists, ListsAs, ListsGroup}
-use Rattle.gix_refspec.proofs.Common.{ListsSide, Serves, AreFetches, AskedItems, TakesItem}
+use Rattle.gix_refspec.proofs.Common.{joined_next, map_split, map_long, nothing_joined, ◌≡◌, inl, inr, ℕ, suc, ◌+◌, ◌<◌, List, [], ◌∷◌, ◌++◌, Option, None, Some, MatchOption, Vec, Global, length, map}
+use Rattle.gix_refspec.proofs.Common.{take, drop, get_or, refl, sym, ap, ◌∙◌, subst, arith, BString, bstring_bytes, append-nil, get_or-map, length-map, map-append, map_more, recursion_from_All, Fetch}
+use Rattle.gix_refspec.proofs.Common.{RefSpecRef, reading_of, BeginsWith, IsSplit, IsPositive, Reading, SideKind, pattern, full_name, object, partial, HasKind, Ref, Matches, MatchesAs, Takes}
+use Rattle.gix_refspec.proofs.Common.{IsRefPrefix, IsAsked, Source, name, AreForwardEnds, MakesForward, PairsItem, HasNoList, Lists, ListsAs, ListsGroup, ListsSide, Serves, AreFetches, AskedItems}
+use Rattle.gix_refspec.proofs.Common.{TakesItem, by_cases}
 use Rattle.std.specs.List as lists
 use Rattle.gix_refspec_match.proofs.lemmas.hits.HitLemmas.{one_kind}
 use Rattle.gix_refspec_match.proofs.lemmas.keep.KeptLemmas.{HasPair-from_place}
@@ -12,7 +12,7 @@ use Rattle.gix_refspec.proofs.lemmas.keep.PairMadeLemmas.{kept_exactly}
 use Rattle.gix_refspec_text.proofs.lemmas.prefixes.PrefixLemmas.{one_asked}
 use Rattle.gix_refspec_match.proofs.lemmas.lists.SomeLemmas.{Any, Any-all, Any-right, any_joined, some_at, some_of}
 use Rattle.gix_refspec.proofs.lemmas.prefixes.CoverLemmas.{source_asked}
-use Rattle.gix_refspec.proofs.lemmas.keep.ItemLemmas.{fewer_items}
+use Rattle.gix_refspec.proofs.lemmas.keep.FilterLemmas.{fewer_items}
 
 -- ---- sides without a list, and lists that aren't empty
 
@@ -54,7 +54,8 @@ reading_serves r items n far list fetch pairs lists =
 
 -- if the name begins with an entry of the list of each fetch of which P holds, and P holds of one, it begins with an
 -- entry of the list of the group
-group_begins : (P : Reading → Type 0) (n : List ℕ) → ((r : Reading) (list : List (List ℕ)) → r.operation ≡ Fetch → P r → Lists r list → BeginsWithSome n list) → (g : List Reading) (list : List (List ℕ)) → AreFetches g → lists.Any P g → ListsGroup g list → lists.Any (λ p. BeginsWith p n) list
+group_begins : (P : Reading → Type 0) (n : List ℕ) → ((r : Reading) (list : List (List ℕ)) → r.operation ≡ Fetch → P r → Lists r list → BeginsWithSome n list)
+    → (g : List Reading) (list : List (List ℕ)) → AreFetches g → lists.Any P g → ListsGroup g list → lists.Any (λ p. BeginsWith p n) list
 group_begins P n begins g list fetches any joined =
     some_at (λ p. BeginsWith p n) list (any_joined (λ k r names. Lists r names) (λ p. BeginsWith p n) 0 g list joined (Any-all _ P _ (λ r fetch holds k names told. begins r names fetch holds told) g fetches (some_of P g any)))
 
@@ -74,10 +75,8 @@ asked_items g A B list told fetches are kept fewer of_all of_part =
 
 -- the list of the side on the remote is that of the spec
 pub list_of_side : (r : Reading) (x : List ℕ) (asked : Option (Vec BString Global)) → IsAsked r x → MatchOption asked ((list : List (List ℕ)) → ¬ (ListsSide x list)) (λ v. ListsSide x (map bstring_bytes v.items)) → MatchOption asked ((list : List (List ℕ)) → ¬ (Lists r list)) (λ v. Lists r (map bstring_bytes v.items))
-list_of_side r x None is none = λ list lists. elim lists [
-  | inl negative ↦ subst IsPositive negative.0 is.positive
-  | inr other ↦ none list (subst (λ (z : List ℕ). ListsSide z list) (one_asked r other.0 x other.1 is) other.2)
-]
+list_of_side r x None is none = λ list lists. by_cases lists (λ negative. subst IsPositive negative.0 is.positive)
+    (λ other. none list (subst (λ (z : List ℕ). ListsSide z list) (one_asked r other.0 x other.1 is) other.2))
 list_of_side r x (Some v) is lists = inr (x, is, lists)
 
 as_once : (k : SideKind) (a b : List (List ℕ)) → ListsAs k a → ListsAs k b → a ≡ b

@@ -1,14 +1,13 @@
 -- The expansions of the specs of a group cover the names that they match.
-use Rattle.gix_refspec.proofs.Common.{all_join, all_weaker, ◌≡◌, ◌≢◌, inl, inr, ℕ, List, [], ◌∷◌, codes, map, Option, Some, get_or, refl, sym, ap, ◌∙◌, subst, arith, append-nil}
-use Rattle.gix_refspec.proofs.Common.{AllByRecursion, Any, slice_get, Operation, Fetch, Lacks, BeginsWith, star, head, Reading, side_on_remote, SideKind, pattern, full_name, object, partial}
-use Rattle.gix_refspec.proofs.Common.{HasKind, IsId, IsCandidate, candidates, Ref, Matches, Takes, of_head, IsAsked, Expands, to_prefix, IsExpansion, IsJoinedFrom, name, Mapped, IsKeptAt}
-use Rattle.gix_refspec.proofs.Common.{Ends, AreForwardEnds, Hit, IsHit, AreSpecHits, IsIdMapping, forward_of, AreForward, IsCovering, by_prefix, by_candidates, BeginsWithOne, IsCoveredBy}
-use Rattle.gix_refspec.proofs.Common.{AsksFor, AtSpec, Cover, CoverTogether, slice_get_within, get_or_from_slice_get}
+use Rattle.gix_refspec.proofs.Common.{all_join, all_weaker, ◌≡◌, ◌≢◌, inl, inr, ℕ, List, [], ◌∷◌, codes, map, Option, Some, get_or, refl, sym, ap, ◌∙◌, subst, arith, append-nil, AllByRecursion, Any}
+use Rattle.gix_refspec.proofs.Common.{slice_get, Operation, Fetch, Lacks, BeginsWith, star, head, Reading, side_on_remote, SideKind, pattern, full_name, object, partial, HasKind, IsId, IsCandidate}
+use Rattle.gix_refspec.proofs.Common.{candidates, Ref, Matches, Takes, of_head, IsAsked, Expands, to_prefix, IsExpansion, IsJoinedFrom, name, Mapped, IsKeptAt, Ends, AreForwardEnds, Hit, IsHit}
+use Rattle.gix_refspec.proofs.Common.{AreSpecHits, IsIdMapping, forward_of, AreForward, IsCovering, by_prefix, by_candidates, BeginsWithOne, IsCoveredBy, AsksFor, AtSpec, Cover, CoverTogether}
 use Rattle.gix_refspec_text.proofs.lemmas.hits.MatchLemmas.{lacks_no_pattern, prefix_begins, has_candidates}
 use Rattle.gix_refspec_text.proofs.lemmas.prefixes.OnePrefixLemmas.{one_prefix}
 use Rattle.gix_refspec_text.proofs.lemmas.prefixes.PrefixLemmas.{one_asked}
 use Rattle.gix_refspec_match.proofs.lemmas.lists.SomeLemmas.{Any-right, Any-weaker, any_joined, some_at as at_place, some_of}
-use Rattle.gix_refspec.proofs.lemmas.MadeLemmas.{each_joined, each_made, map_each, stays_each}
+use Rattle.gix_refspec.proofs.lemmas.MadeLemmas.{any_at, each_joined, each_made, map_each, stays_each}
 use Rattle.gix_refspec.proofs.lemmas.keep.PairMadeLemmas.{one_name, no_id}
 
 -- ---- one side
@@ -50,11 +49,7 @@ hit_covered : (r : Reading) (ends : Ends) (items : List Ref) (k j : ℕ) (item :
 hit_covered r ends items k j item hit are is (inl covering) =
     let asked = source_asked r ends covering.fetch are in
     let covers = side_covers ends.near item is.word (covering.source ends.near asked) are.no_object is.takes.matches in
-    record {
-      entries = covers.0;
-      expansion = inl (ends.near, asked, covers.1);
-      one = subst (BeginsWithOne covers.0) (sym is.near) covers.2;
-    }
+    record { entries = covers.0; expansion = inl (ends.near, asked, covers.1); one = subst (BeginsWithOne covers.0) (sym is.near) covers.2 }
 hit_covered r ends items k j item hit are is (inr (fetch, asked, named)) = record {
   entries = head ∷ [];
   expansion = inl (head, asked, to_prefix head (of_head refl refl) refl);
@@ -106,7 +101,7 @@ joined_covers n g k entries covered joined =
 
 -- what holds of the reading at an index holds of some reading
 pub some_at : (P : Reading → Type 0) (g : List Reading) (i : ℕ) (r : Reading) → slice_get g i ≡ Some r → P r → Any P g
-some_at P g i r here holds = (i, r, slice_get_within g i r here, get_or_from_slice_get g i r r here, holds)
+some_at P g i r here holds = any_at P g i r here holds
 
 pub cover_together : (g : List Reading) (items : List Ref) → CoverTogether g items
 cover_together g items entries joined kept stays =

@@ -1,8 +1,8 @@
 -- Texts of plain components have no fault: each fault is an empty component or has a special byte other than a slash.
-use Rattle.gix_refspec.proofs.Common.{no_component, all_join, ◌≡◌, ◌≢◌, ◌⊎◌, inl, inr, ℕ, Bool, true, false, not, ◌==◌, List, [], ◌∷◌, ◌++◌, codes, refl, sym, ap, ◌∙◌, subst, append_assoc}
-use Rattle.gix_refspec.proofs.Common.{arith, AllByRecursion, join_with_byte, list_all, list_any, slice_split, and_parts, false≢true, or_left, or_parts, true≢false, Empty, EmptyComponent}
-use Rattle.gix_refspec.proofs.Common.{StartsWithDot, LockSuffix, EndsWithDot, RepeatedDot, ReflogPortion, Asterisk, InvalidByte, at, brace, dot, slash, star, BeginsWith, EndsWith}
-use Rattle.gix_refspec.proofs.Common.{is_refused_byte, HasFault, SomeComponent, is_plain_component, is_plain_name, is_special_byte, PlainNames}
+use Rattle.gix_refspec.proofs.Common.{no_component, all_join, ◌≡◌, ◌≢◌, ◌⊎◌, inl, inr, ℕ, Bool, true, false, not, ◌==◌, List, [], ◌∷◌, ◌++◌, codes, refl, sym, ap, ◌∙◌, subst, append_assoc, arith}
+use Rattle.gix_refspec.proofs.Common.{AllByRecursion, join_with_byte, list_all, list_any, slice_split, and_parts, false≢true, or_left, or_parts, true≢false, Empty, EmptyComponent, StartsWithDot}
+use Rattle.gix_refspec.proofs.Common.{LockSuffix, EndsWithDot, RepeatedDot, ReflogPortion, Asterisk, InvalidByte, at, brace, dot, slash, star, BeginsWith, EndsWith, is_refused_byte, HasFault}
+use Rattle.gix_refspec.proofs.Common.{SomeComponent, is_plain_component, is_plain_name, is_special_byte, PlainNames, by_cases}
 use Rattle.std.proofs.lemmas.List.Splits.{join_with_byte-slice_split}
 use Rattle.gix_refspec_text.specs.declared.name.Error.{Error}
 use Rattle.gix_refspec_text.proofs.lemmas.texts.ComponentLemmas.{AllByRecursion-parts}
@@ -36,10 +36,8 @@ joined_fine (w ∷ v ∷ parts) plain =
 
 -- so no special byte but a slash is there
 not_there : (b : ℕ) (before after x : List ℕ) → b ≢ slash → is_special_byte b ≡ true → AllByRecursion Fine x → x ≡ before ++ (b ∷ after) → ⊥
-not_there b before after x other special fine here = elim (AllByRecursion-parts Fine before b after (subst (AllByRecursion Fine) here fine)) [
-  | inl same ↦ other same
-  | inr none ↦ true≢false (sym special ∙ none)
-]
+not_there b before after x other special fine here = by_cases (AllByRecursion-parts Fine before b after (subst (AllByRecursion Fine) here fine)) (λ same. other same)
+    (λ none. true≢false (sym special ∙ none))
 
 no_dot : (before after x : List ℕ) → AllByRecursion Fine x → ¬ (x ≡ before ++ (dot ∷ after))
 no_dot before after x fine here = not_there dot before after x (λ e. omega (arith, e)) refl fine here

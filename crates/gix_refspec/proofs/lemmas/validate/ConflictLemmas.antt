@@ -1,17 +1,17 @@
--- Conflicts, from sorted updates.
-use Rattle.gix_refspec.proofs.Common.{all_right, all_join, all_weaker, each_mapped, ◌≡◌, ◌⊎◌, inl, inr, ◌↔◌, ℕ, ◌+◌, ◌<◌, ◌≤◌, List, [], ◌∷◌, ◌++◌, Some, option_map, Bool, length, map, take}
-use Rattle.gix_refspec.proofs.Common.{drop, get_or, refl, sym, ap, ◌∙◌, subst, arith, AllByRecursion, AllZip, Contains, slice_get, IsStrictlySortedBy, Less, nat_cmp, slice_cmp, length-map}
-use Rattle.gix_refspec.proofs.Common.{length-take-le, map-append, take-append-drop, take_more, All-from_recursion, Contains-append_left, Contains-push, slice_get-get_or, slice_get-map}
-use Rattle.gix_refspec.proofs.Common.{slice_get_read, slice_get_within, Mapping, NameRef, SourceRef, Update, RefSpecRef, Reading, printed, reading_of, Source, name, id, Mapped, HasPair}
-use Rattle.gix_refspec.proofs.Common.{mapped_of, name_bytes, start_of, IsNameCopy, IsSourceCopy, id_bytes, AreConflicts, Conflict, IndexesFit, IsConflict, HasConflictAt, IsFirstTo, IsTextAt}
-use Rattle.gix_refspec.proofs.Common.{FlagsDuplicates, IsFlagged, AddsConflict, AreUpdates, AreFirstUpdates, AreConflicting, HasUpdate, IsRun, IsFirstAt, IsConflictOf, update_cmp}
-use Rattle.gix_refspec.proofs.Common.{updated_indexes}
+-- Conflicts, from sorted updates; and if all destinations differ, nothing is in conflict.
+use Rattle.gix_refspec.proofs.Common.{all_right, all_join, all_weaker, each_mapped, ◌≡◌, ◌⊎◌, inl, inr, ◌↔◌, ℕ, ◌+◌, ◌<◌, ◌≤◌, List, [], ◌∷◌, ◌++◌, Some, option_map, Bool, length, map, take, drop}
+use Rattle.gix_refspec.proofs.Common.{get_or, refl, sym, ap, ◌∙◌, subst, arith, AllByRecursion, AllZip, Contains, slice_get, IsStrictlySortedBy, Less, nat_cmp, slice_cmp, length-map, length-take-le}
+use Rattle.gix_refspec.proofs.Common.{map-append, take-append-drop, take_more, All-from_recursion, Contains-append_left, Contains-push, slice_get-get_or, slice_get-map, slice_get_read}
+use Rattle.gix_refspec.proofs.Common.{slice_get_within, Mapping, NameRef, SourceRef, Update, RefSpecRef, Reading, printed, reading_of, Source, name, id, Mapped, HasPair, mapped_of, name_bytes}
+use Rattle.gix_refspec.proofs.Common.{start_of, IsNameCopy, IsSourceCopy, id_bytes, AreConflicts, Conflict, IndexesFit, IsConflict, HasConflictAt, IsFirstTo, IsTextAt, FlagsDuplicates, IsFlagged}
+use Rattle.gix_refspec.proofs.Common.{AddsConflict, AreUpdates, AreFirstUpdates, AreConflicting, HasUpdate, IsRun, IsFirstAt, IsConflictOf, update_cmp, updated_indexes, by_cases, ◌≢◌, zero, suc}
+use Rattle.gix_refspec.proofs.Common.{Option, None, false, option_to_list, false≢true, get_or-map, get_or_past, bstr_bytes, BStr, bytes_order, equal_texts, all_destinations}
 use Rattle.gix_refspec_match.specs.declared.types.NameRef.TheVariants as name_ref
 use Rattle.gix_refspec_match.specs.declared.types.SourceRef.TheVariants as source_ref
 use Rattle.gix_refspec_match.proofs.lemmas.keep.RepeatLemmas.{some_mapping}
 use Rattle.gix_refspec_match.proofs.lemmas.keep.KeptLemmas.{by_pair, duplicate_at}
 use Rattle.gix_refspec.proofs.lemmas.validate.UpdateLemmas.{HasUpdate-cases, HasUpdate-left, HasUpdate-right, later, mapped_at, strict_left, strict_right}
-use Rattle.gix_refspec.proofs.lemmas.validate.FirstLemmas.{Has, Increase, IsOfIndex, contested_from_firsts, made_at_indexes, one_mapping, two_firsts}
+use Rattle.gix_refspec.proofs.lemmas.validate.FirstLemmas.{Has, Increase, IsOfIndex, contested_from_firsts, made_at_indexes, one_mapping, two_firsts, at_contained}
 use Rattle.std.proofs.lemmas.Slice.Zip.{all_zipped_more}
 use Rattle.gix_refspec_text.proofs.lemmas.lists.OrderLemmas.{not_below_itself}
 
@@ -24,14 +24,8 @@ pub record AreTold (g : List Reading) (l : List Mapped) (ns : List ℕ) (sources
 pub indexes_to_one : (x : List ℕ) (cs : List Update) (k : ℕ) → AllByRecursion (λ c. c.destination.now ≡ x) cs → Has (updated_indexes cs) k ↔ HasUpdate cs k x
 indexes_to_one x [] k same = ((λ none. none), (λ none. none))
 indexes_to_one x (c ∷ cs) k same = (
-  (λ has. elim has [
-    | inl here ↦ inl (here, same.0)
-    | inr there ↦ inr ((indexes_to_one x cs k same.1).0 there)
-  ]),
-  (λ has. elim has [
-    | inl here ↦ inl here.0
-    | inr there ↦ inr ((indexes_to_one x cs k same.1).1 there)
-  ]),
+  (λ has. by_cases has (λ here. inl (here, same.0)) (λ there. inr ((indexes_to_one x cs k same.1).0 there))),
+  (λ has. by_cases has (λ here. inl here.0) (λ there. inr ((indexes_to_one x cs k same.1).1 there))),
 )
 
 -- and if the updates are sorted, the indexes are strictly increasing
@@ -157,10 +151,7 @@ reported_none g l firsts are = record {
 pub all_reported : (g : List Reading) (l : List Mapped) (rest : List Update) (cs : List Conflict) → length rest ≡ 0 → AreReported g l rest cs → AreConflicts g l cs
 all_reported g l [] cs empty settled = record {
   each = settled.each;
-  every = λ d contested. elim (settled.every d contested) [
-    | inl told ↦ told
-    | inr has ↦ absurd has.1
-  ];
+  every = λ d contested. by_cases (settled.every d contested) (λ told. told) (λ has. absurd has.1);
   order = settled.rise;
 }
 all_reported g l (c ∷ rest) cs empty settled = absurd (omega arith)
@@ -181,10 +172,7 @@ firsts_of_run g l [] others cs some split settled k = absurd (omega arith)
 firsts_of_run g l (c ∷ run) others cs some split settled k = (
   (λ has. settled.left k split.destination (HasUpdate-left (c ∷ run) others k split.destination has)),
   (λ first. elim (settled.all k split.destination first) [
-    | inl has ↦ elim (HasUpdate-cases (c ∷ run) others k split.destination has) [
-      | inl here ↦ here
-      | inr there ↦ absurd (not_beyond split.destination others k split.beyond there)
-    ]
+    | inl has ↦ by_cases (HasUpdate-cases (c ∷ run) others k split.destination has) (λ here. here) (λ there. absurd (not_beyond split.destination others k split.beyond there))
     | inr past ↦ absurd (not_beyond split.destination ((c ∷ run) ++ others) c.index past (inl (refl, split.same.0)))
   ]),
 )
@@ -314,3 +302,62 @@ firsts_from_updates ms flags cs repeats made = record {
           (λ is_so. subst (HasPair (take k (map mapped_of ms))) same (duplicate.0 ((repeats k).0 is_so))),
           (λ has. (repeats k).1 (duplicate.1 (subst (HasPair (take k (map mapped_of ms))) (sym same) has))),
         )
+
+-- ---- destinations that all differ
+
+-- the list has no duplicates
+abbrev AreApart : List (List ℕ) → Type 0
+AreApart ds = (i j : ℕ) (d : List ℕ) → i < j → j < length ds → get_or ds i d ≢ get_or ds j d
+
+-- the list has the text
+abbrev HasText : List (List ℕ) → List ℕ → Type 0
+HasText ds d = (at : ℕ) × (at < length ds) × ((e : List ℕ) → get_or ds at e ≡ d)
+
+-- what is in a list is so behind another text
+has_behind : (o : Option (List ℕ)) (ds : List (List ℕ)) (d : List ℕ) → HasText ds d → HasText (option_to_list o ++ ds) d
+has_behind None ds d has = has
+has_behind (Some y) ds d has = let inside = has.1 in (suc has.0, omega (arith, inside), λ e. has.2 e)
+
+-- the destination that some mapping has
+has_destination : (l : List Mapped) (k : ℕ) (m : Mapped) (d : List ℕ) → slice_get l k ≡ Some m → m.destination ≡ Some d → HasText (all_destinations l) d
+has_destination [] k m d is goes = absurd (cc)
+has_destination (x ∷ xs) zero m d is goes =
+    let same : Some x ≡ Some m = is in
+    let to_x : x.destination ≡ Some d = cc in
+    subst (λ (o : Option (List ℕ)). HasText (option_to_list o ++ all_destinations xs) d) (sym to_x) (0, omega arith, λ e. refl)
+has_destination (x ∷ xs) (suc k) m d is goes = has_behind x.destination (all_destinations xs) d (has_destination xs k m d is goes)
+
+-- a list without duplicates has none behind its first text
+apart_behind : (o : Option (List ℕ)) (ds : List (List ℕ)) → AreApart (option_to_list o ++ ds) → AreApart ds
+apart_behind None ds apart = apart
+apart_behind (Some y) ds apart = λ i j d before below. apart (suc i) (suc j) d (omega arith) (omega arith)
+
+-- the first text of a list without duplicates isn't among the others
+apart_first : (d : List ℕ) (ds : List (List ℕ)) → AreApart (d ∷ ds) → ¬ (HasText ds d)
+apart_first d ds apart has = let inside = has.1 in apart 0 (suc has.0) d (omega arith) (omega (arith, inside)) (sym (has.2 d))
+
+-- another mapping would have the destination of the first
+first_alone : (x : Mapped) (xs : List Mapped) (k : ℕ) (m : Mapped) (d : List ℕ) → AreApart (option_to_list x.destination ++ all_destinations xs) → x.destination ≡ Some d → slice_get xs k ≡ Some m → m.destination ≡ Some d → ⊥
+first_alone x xs k m d apart goes is also =
+    apart_first d (all_destinations xs) (subst (λ (o : Option (List ℕ)). AreApart (option_to_list o ++ all_destinations xs)) goes apart) (has_destination xs k m d is also)
+
+-- if the destinations have no duplicates, mappings with the same destination have the same index
+one_index : (l : List Mapped) (j k : ℕ) (m n : Mapped) (d : List ℕ) → AreApart (all_destinations l) → slice_get l j ≡ Some m → slice_get l k ≡ Some n → m.destination ≡ Some d → n.destination ≡ Some d → m ≡ n
+one_index [] j k m n d apart is_m is_n to_m to_n = absurd (cc)
+one_index (x ∷ xs) zero zero m n d apart is_m is_n to_m to_n = let same : Some m ≡ Some n = sym is_m ∙ is_n in cc
+one_index (x ∷ xs) zero (suc k) m n d apart is_m is_n to_m to_n = let same : Some x ≡ Some m = is_m in let to_x : x.destination ≡ Some d = cc in absurd (first_alone x xs k n d apart to_x is_n to_n)
+one_index (x ∷ xs) (suc j) zero m n d apart is_m is_n to_m to_n = let same : Some x ≡ Some n = is_n in let to_x : x.destination ≡ Some d = cc in absurd (first_alone x xs j m d apart to_x is_m to_m)
+one_index (x ∷ xs) (suc j) (suc k) m n d apart is_m is_n to_m to_n = one_index xs j k m n d (apart_behind x.destination (all_destinations xs) apart) is_m is_n to_m to_n
+
+-- if none of the destinations is flagged, there are no duplicates, and so no conflicts
+pub none_contested : (l : List Mapped) (ds : List BStr) (flags : List Bool) → map bstr_bytes ds ≡ all_destinations l → FlagsDuplicates (λ (x : BStr) (y : BStr). bytes_order (bstr_bytes x) (bstr_bytes y)) ds flags → length flags ≡ 0 → (d : List ℕ) → ¬ (HasConflictAt l d)
+none_contested l ds flags are all none d c =
+    let one = at_contained l c.one c.has_one in
+    let other = at_contained l c.other c.has_other in
+    c.differ (ap (λ (m : Mapped). m.source) (one_index l one.0 other.0 c.one c.other d (subst AreApart are apart) one.1 other.1 c.one_to c.other_to))
+  where
+    apart : (i j : ℕ) (e : List ℕ) → i < j → j < length (map bstr_bytes ds) → get_or (map bstr_bytes ds) i e ≢ get_or (map bstr_bytes ds) j e
+    apart i j e before below same =
+        let inside : j < length ds = (let size = length-map ds bstr_bytes in omega (arith, below, size)) in
+        let flagged = (all j).1 (inside, (i, before, λ n. equal_texts (bstr_bytes (get_or ds i n)) (bstr_bytes (get_or ds j n)) (sym (get_or-map bstr_bytes ds i n e (omega (arith, before, inside))) ∙ same ∙ get_or-map bstr_bytes ds j n e inside))) in
+        false≢true (sym (get_or_past flags j false (omega (arith, none))) ∙ flagged)

@@ -1,7 +1,7 @@
 -- The first mappings from each source to each destination, by their indexes.
-use Rattle.gix_refspec.proofs.Common.{all_weaker, ◌≡◌, ◌≢◌, ◌⊎◌, inl, inr, ◌↔◌, ℕ, zero, suc, ◌+◌, ◌-◌, ◌<◌, ◌≤◌, List, [], ◌∷◌, None, Some, Bool, true, false, take, refl, sym, ap, ◌∙◌}
-use Rattle.gix_refspec.proofs.Common.{subst, arith, AllByRecursion, AllZip, Contains, slice_get, bytes_eq, cases_lt, false≢true, get_or_from_slice_get, slice_get-get_or, slice_get_within}
-use Rattle.gix_refspec.proofs.Common.{bytes_eq-Decides, IsMadeFrom, Source, name, id, Mapped, IsSamePair, HasPair, HasConflictAt, IsFirstAt, Less, Equal, Greater}
+use Rattle.gix_refspec.proofs.Common.{all_weaker, ◌≡◌, ◌≢◌, ◌⊎◌, inl, inr, ◌↔◌, ℕ, zero, suc, ◌+◌, ◌-◌, ◌<◌, ◌≤◌, List, [], ◌∷◌, None, Some, Bool, true, false, take, refl, sym, ap, ◌∙◌, subst, arith}
+use Rattle.gix_refspec.proofs.Common.{AllByRecursion, AllZip, Contains, slice_get, bytes_eq, cases_lt, false≢true, get_or_from_slice_get, slice_get-get_or, slice_get_within, bytes_eq-Decides}
+use Rattle.gix_refspec.proofs.Common.{IsMadeFrom, Source, name, id, Mapped, IsSamePair, HasPair, HasConflictAt, IsFirstAt, Less, Equal, Greater, by_cases}
 use Rattle.std.specs.declared.cmp.Ordering.{Ordering}
 use Rattle.gix_refspec_match.specs.Private.Orders.{equal_pair, pair_order, same_pair}
 
@@ -80,10 +80,7 @@ made_at_indexes {Y} P Q l k (x ∷ rest) (n ∷ ns) (y ∷ ys) at has rises abov
     later : n ≡ k → (j : ℕ) (m : Mapped) → k + 1 ≤ j → slice_get l j ≡ Some m → Has ns j ↔ P j m
     later same j m low is = (
       (λ there. (has j m (omega arith) is).0 (inr there)),
-      (λ holds. elim ((has j m (omega arith) is).1 holds) [
-        | inl first ↦ absurd (omega (arith, first, same, low))
-        | inr there ↦ there
-      ]),
+      (λ holds. by_cases ((has j m (omega arith) is).1 holds) (λ first. absurd (omega (arith, first, same, low))) (λ there. there)),
     )
 
 -- a pair at an earlier index
@@ -101,16 +98,10 @@ text_cases : (x y : List ℕ) → (x ≡ y) ⊎ (x ≢ y)
 text_cases x y = cases_of (bytes_eq x y) (bytes_eq-Decides x y)
 
 pub start_cases : (a b : Source) → (a ≡ b) ⊎ (a ≢ b)
-start_cases (name x) (name y) = elim (text_cases x y) [
-  | inl same ↦ inl (ap name same)
-  | inr apart ↦ inr (λ same. apart (cc))
-]
+start_cases (name x) (name y) = by_cases (text_cases x y) (λ same. inl (ap name same)) (λ apart. inr (λ same. apart (cc)))
 start_cases (name x) (id y) = inr (λ same. absurd (cc))
 start_cases (id x) (name y) = inr (λ same. absurd (cc))
-start_cases (id x) (id y) = elim (text_cases x y) [
-  | inl same ↦ inl (ap id same)
-  | inr apart ↦ inr (λ same. apart (cc))
-]
+start_cases (id x) (id y) = by_cases (text_cases x y) (λ same. inl (ap id same)) (λ apart. inr (λ same. apart (cc)))
 
 -- the mapping goes from the source to the destination
 abbrev Links : Source → List ℕ → Mapped → Type 0
@@ -130,10 +121,7 @@ links_cases source d m = by (pair_order m pair) refl
 -- of the mappings from a source to a destination, the first
 first_link : (source : Source) (d : List ℕ) (l : List Mapped) (i : ℕ) (m : Mapped) → slice_get l i ≡ Some m → Links source d m → (j : ℕ) × (n : Mapped) × (slice_get l j ≡ Some n) × Links source d n × ¬ (HasPair (take j l) n)
 first_link source d [] i m is links = absurd (cc)
-first_link source d (x ∷ l) i m is links = elim (links_cases source d x) [
-  | inl here ↦ (0, x, refl, here, λ none. none)
-  | inr apart ↦ behind i is apart (λ k is_m. first_link source d l k m is_m links)
-]
+first_link source d (x ∷ l) i m is links = by_cases (links_cases source d x) (λ here. (0, x, refl, here, λ none. none)) (λ apart. behind i is apart (λ k is_m. first_link source d l k m is_m links))
   where
     behind : (i : ℕ) → slice_get (x ∷ l) i ≡ Some m → ¬ (Links source d x) → ((k : ℕ) → slice_get l k ≡ Some m → (j : ℕ) × (n : Mapped) × (slice_get l j ≡ Some n) × Links source d n × ¬ (HasPair (take j l) n)) → (j : ℕ) × (n : Mapped) × (slice_get (x ∷ l) j ≡ Some n) × Links source d n × ¬ (HasPair (take j (x ∷ l)) n)
     behind zero is_x apart in_rest = let one : x ≡ m = cc in absurd (apart (subst (λ (y : Mapped). Links source d y) (sym one) links))
@@ -143,10 +131,7 @@ first_link source d (x ∷ l) i m is links = elim (links_cases source d x) [
           at.1,
           at.2,
           at.3,
-          λ has. elim has [
-            | inl same ↦ apart (same.source ∙ at.3.0, same.destination ∙ at.3.1)
-            | inr there ↦ at.4 there
-          ],
+          λ has. by_cases has (λ same. apart (same.source ∙ at.3.0, same.destination ∙ at.3.1)) (λ there. at.4 there),
         )
 
 -- a destination in conflict has first mappings at two indexes

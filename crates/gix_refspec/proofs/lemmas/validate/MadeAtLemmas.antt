@@ -1,12 +1,10 @@
 -- What the spec and the item at the indexes of a mapping make, that its indexes fit, and which mappings remain after a
 -- check.
-use Rattle.gix_refspec.proofs.Common.{all_join, all_weaker, slice_get_within, ◌≡◌, inl, inr, ◌↔◌, ℕ, List, [], Option, None, Some, map, unwrap_or, refl, sym, ap, ◌∙◌, subst, AllByRecursion}
-use Rattle.gix_refspec.proofs.Common.{Contains, slice_get, Reading, Ref, Matches, Takes, IsMadeFrom, Source, Mapped, IsKeptAt, Ends, AreForwardEnds, AreBackwardEnds, Hit, IsHit, AreSpecHits}
-use Rattle.gix_refspec.proofs.Common.{AreHits, IsIdMapping, AreForward, AreBackward, forward_of, backward_of, AtSpec, TakesAt, MakesForwardOf, MakesBackwardOf, MadeAtIndexes, RemainsExactly}
-use Rattle.gix_refspec.proofs.Common.{Survives, HasRefNames, same_Some, ForwardIndexes, ItemIndexesFit, BackwardIndexes, name, id}
-use Rattle.gix_refspec.proofs.lemmas.MadeLemmas.{each_joined, each_made, map_each, stays_each}
-use Rattle.gix_refspec.proofs.lemmas.keep.FirstStaysLemmas.{there, back}
-use Rattle.gix_refspec.proofs.lemmas.keep.PairMadeLemmas.{there_far}
+use Rattle.gix_refspec.proofs.Common.{all_join, all_weaker, slice_get_within, ◌≡◌, inl, inr, ◌↔◌, ℕ, List, [], Option, None, Some, map, unwrap_or, refl, sym, ap, ◌∙◌, subst, AllByRecursion, Contains}
+use Rattle.gix_refspec.proofs.Common.{slice_get, Reading, Ref, Matches, Takes, IsMadeFrom, Source, Mapped, IsKeptAt, Ends, AreForwardEnds, AreBackwardEnds, Hit, IsHit, AreSpecHits, AreHits}
+use Rattle.gix_refspec.proofs.Common.{IsIdMapping, AreForward, AreBackward, forward_of, backward_of, AtSpec, TakesAt, MakesForwardOf, MakesBackwardOf, MadeAtIndexes, RemainsExactly, Survives}
+use Rattle.gix_refspec.proofs.Common.{HasRefNames, same_Some, ForwardIndexes, ItemIndexesFit, BackwardIndexes, name, id, false≢true, IsSome, IsFilled}
+use Rattle.gix_refspec.proofs.lemmas.MadeLemmas.{back, there, each_joined, each_made, map_each, stays_each}
 use Rattle.gix_refspec_match.proofs.lemmas.lists.SomeLemmas.{Any-both, Any-weaker, any_made, made_any}
 
 -- ---- hits
@@ -34,7 +32,7 @@ hits_taken HasEnds Taken g items hits are = each_joined (AreSpecHits HasEnds Tak
 abbrev pub ForwardAt : List Reading → List Ref → Mapped → Type 0
 ForwardAt g items m = AtSpec g m (MakesForwardOf items m.item m.source m.destination)
 
-abbrev BackwardAt : List Reading → List Ref → Mapped → Type 0
+abbrev pub BackwardAt : List Reading → List Ref → Mapped → Type 0
 BackwardAt g items m = AtSpec g m (MakesBackwardOf items m.item m.source m.destination)
 
 id_at : (g : List Reading) (items : List Ref) (k : ℕ) (r : Reading) (m : Mapped) → slice_get g k ≡ Some r → IsIdMapping k r m → ForwardAt g items m
@@ -44,6 +42,13 @@ id_at g items k r m here is = (
   subst (λ (s : Source). MakesForwardOf items m.item s m.destination r) (sym is.source) (is.item, record { positive = is.positive; text = is.text; side = is.side; object = is.object; becomes = is.destination }),
 )
 
+there_far : (r : Reading) (ends : Ends) (word far : Option (List ℕ)) → AreBackwardEnds r ends → IsFilled ends.far word far → (n : List ℕ) × (far ≡ Some n)
+there_far r ends word far has becomes = of_far ends.far has.both becomes
+  where
+    of_far : (x : Option (List ℕ)) → IsSome x → IsFilled x word far → (n : List ℕ) × (far ≡ Some n)
+    of_far None none filled = absurd (false≢true none)
+    of_far (Some x) some filled = (_, filled.2)
+
 hit_back : (g : List Reading) (items : List Ref) (h : Hit) → IsTakenHit AreBackwardEnds Matches g items h → BackwardAt g items (backward_of h)
 hit_back g items h taken =
     let at = taken.takes in
@@ -51,14 +56,14 @@ hit_back g items h taken =
     let same : h.far ≡ Some (unwrap_or h.far []) = far.1 ∙ ap (λ (x : Option (List ℕ)). Some (unwrap_or x [])) (sym far.1) in
     (taken.reading, taken.here, subst (λ (x : Option (List ℕ)). TakesAt AreBackwardEnds Matches items (Some h.item) h.near x taken.reading) same at)
 
-forward_all : (g : List Reading) (items : List Ref) (l : List Mapped) → AreForward g items l → AllByRecursion (ForwardAt g items) l
+pub forward_all : (g : List Reading) (items : List Ref) (l : List Mapped) → AreForward g items l → AllByRecursion (ForwardAt g items) l
 forward_all g items l are =
     subst (AllByRecursion (ForwardAt g items)) (sym are.all)
     (all_join (ForwardAt g items) are.ids (map forward_of are.hits)
     (each_made IsIdMapping (ForwardAt g items) g are.ids (id_at g items) are.are_ids)
     (map_each (IsTakenHit AreForwardEnds (Takes items) g items) _ forward_of (λ h taken. (taken.reading, taken.here, taken.takes)) are.hits (hits_taken AreForwardEnds (Takes items) g items are.hits are.are_hits)))
 
-backward_all : (g : List Reading) (items : List Ref) (l : List Mapped) → AreBackward g items l → AllByRecursion (BackwardAt g items) l
+pub backward_all : (g : List Reading) (items : List Ref) (l : List Mapped) → AreBackward g items l → AllByRecursion (BackwardAt g items) l
 backward_all g items l are = subst (AllByRecursion (BackwardAt g items)) (sym are.all) (map_each _ _ backward_of (hit_back g items) are.hits (hits_taken AreBackwardEnds Matches g items are.hits are.are_hits))
 
 pub made_at_indexes : (g : List Reading) (items : List Ref) → MadeAtIndexes g items

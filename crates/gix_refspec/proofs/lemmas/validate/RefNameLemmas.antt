@@ -1,9 +1,9 @@
 -- Mappings that are split by their ref names, and what holds of the kept ones.
-use Rattle.gix_refspec.proofs.Common.{all_weaker, each_mapped, ◌≡◌, ◌≢◌, inl, inr, ℕ, ◌+◌, ◌<◌, ◌≤◌, List, [], ◌∷◌, ◌++◌, Option, None, Some, length, map, get_or, option_map, codes, refl}
-use Rattle.gix_refspec.proofs.Common.{sym, ap, ◌∙◌, subst, append_assoc, AllByRecursion, list_any, ◌⊎◌, ◌||◌, ◌==◌, IsTrue, cases_lt, lt-ltb, Mapping, NameRef, Empty, EmptyComponent}
-use Rattle.gix_refspec.proofs.Common.{StartsWithDot, InvalidByte, head, slash, ArePartsAt, BeginsWith, is_refused_byte, IsName, Reading, IsMadeFrom, Ref, Mapped, mapped_of, name_bytes}
-use Rattle.gix_refspec.proofs.Common.{IsMappingCopy, IsDestinationCopy, ForwardIndexes, ShareDestination, HaveDistinctDestinations, Survives, HaveRefNames, IsInvalidAt, HasRefNames}
-use Rattle.gix_refspec.proofs.Common.{IsValidDestination, IsRefName, StaysAmongRefs, WritesRef, WritesRefs}
+use Rattle.gix_refspec.proofs.Common.{all_weaker, each_mapped, ◌≡◌, ◌≢◌, inl, inr, ℕ, ◌+◌, ◌<◌, ◌≤◌, List, [], ◌∷◌, ◌++◌, Option, None, Some, length, map, get_or, option_map, codes, refl, sym, ap}
+use Rattle.gix_refspec.proofs.Common.{◌∙◌, subst, append_assoc, AllByRecursion, list_any, ◌⊎◌, ◌||◌, ◌==◌, IsTrue, cases_lt, lt-ltb, Mapping, NameRef, Empty, EmptyComponent, StartsWithDot}
+use Rattle.gix_refspec.proofs.Common.{InvalidByte, head, slash, ArePartsAt, BeginsWith, is_refused_byte, IsName, Reading, IsMadeFrom, Ref, Mapped, mapped_of, name_bytes, IsMappingCopy}
+use Rattle.gix_refspec.proofs.Common.{IsDestinationCopy, ForwardIndexes, ShareDestination, HaveDistinctDestinations, Survives, HaveRefNames, IsInvalidAt, HasRefNames, IsValidDestination, IsRefName}
+use Rattle.gix_refspec.proofs.Common.{StaysAmongRefs, WritesRef, WritesRefs, by_cases}
 use Rattle.gix_refspec.specs.declared.match_group.ref_names.InvalidSide.{InvalidSide}
 use Rattle.gix_refspec.specs.declared.match_group.ref_names.InvalidSide.TheVariants.{Source, Destination, Both}
 use Rattle.gix_refspec.proofs.lemmas.validate.AfterLemmas.{apart_still, distinct_destinations_after, validated_once}
@@ -58,10 +58,7 @@ components_fine n is before (w ∷ after) are = (
 
 plain_byte : (b : ℕ) → ¬ (IsTrue (is_refused_byte b)) → (32 ≤ b) × (b ≢ 127)
 plain_byte b fine = (
-  elim (cases_lt b 32) [
-    | inl less ↦ absurd (fine (ap (λ t. t || b == 127 || list_any (λ c. b == c) (codes " ~^:?[\\")) (lt-ltb b 32 less)))
-    | inr fits ↦ fits
-  ],
+  by_cases (cases_lt b 32) (λ less. absurd (fine (ap (λ t. t || b == 127 || list_any (λ c. b == c) (codes " ~^:?[\\")) (lt-ltb b 32 less)))) (λ fits. fits),
   λ delete. fine (subst (λ c. IsTrue (is_refused_byte c)) (sym delete) refl),
 )
 

@@ -1,10 +1,10 @@
 -- Sorted updates, and where they are split.
-use Rattle.gix_refspec.proofs.Common.{all_left, all_right, all_join, all_weaker, ◌≡◌, ◌≢◌, ◌⊎◌, inl, inr, ◌↔◌, ℕ, zero, suc, ◌+◌, ◌<◌, ◌≤◌, List, [], ◌∷◌, ◌++◌, None, Some, option_map, Bool}
-use Rattle.gix_refspec.proofs.Common.{true, false, not, length, map, take, drop, get_or, refl, sym, ap, ◌∙◌, subst, arith, AllByRecursion, Contains, slice_get, IsPermutation, IsSorted}
-use Rattle.gix_refspec.proofs.Common.{IsStrictlySortedBy, Less, Equal, Greater, is_lt, nat_cmp, ordering_then, ordering_reverse, slice_cmp, nat_list_cmp_total, cases_lt, false≢true}
-use Rattle.gix_refspec.proofs.Common.{not-false, not-true, bytes_eq-Decides, bytes_eq, get_or-map, length-map, map-append, take-append-drop, take_more, drop_more, length-drop}
-use Rattle.gix_refspec.proofs.Common.{All-from_recursion, slice_get-map, slice_get_read, slice_get_within, Update, Mapping, NameRef, Mapped, mapped_of, name_bytes, IsFlagged, Rises}
-use Rattle.gix_refspec.proofs.Common.{AreUpdates, GoesTo, HasUpdate, IsRun, update_cmp, updated_indexes, same_texts, both_equal, rules, same_Some}
+use Rattle.gix_refspec.proofs.Common.{all_left, all_right, all_join, all_weaker, ◌≡◌, ◌≢◌, ◌⊎◌, inl, inr, ◌↔◌, ℕ, zero, suc, ◌+◌, ◌<◌, ◌≤◌, List, [], ◌∷◌, ◌++◌, None, Some, option_map, Bool, true}
+use Rattle.gix_refspec.proofs.Common.{false, not, length, map, take, drop, get_or, refl, sym, ap, ◌∙◌, subst, arith, AllByRecursion, Contains, slice_get, IsPermutation, IsSorted, IsStrictlySortedBy}
+use Rattle.gix_refspec.proofs.Common.{Less, Equal, Greater, is_lt, nat_cmp, ordering_then, ordering_reverse, slice_cmp, nat_list_cmp_total, cases_lt, false≢true, not-false, not-true, bytes_eq-Decides}
+use Rattle.gix_refspec.proofs.Common.{bytes_eq, get_or-map, length-map, map-append, take-append-drop, take_more, drop_more, length-drop, All-from_recursion, slice_get-map, slice_get_read}
+use Rattle.gix_refspec.proofs.Common.{slice_get_within, Update, Mapping, NameRef, Mapped, mapped_of, name_bytes, IsFlagged, Rises, AreUpdates, GoesTo, HasUpdate, IsRun, update_cmp, updated_indexes}
+use Rattle.gix_refspec.proofs.Common.{same_texts, both_equal, rules, same_Some, by_cases}
 use Rattle.std.specs.declared.cmp.Ordering.{Ordering}
 use Rattle.std.specs.Cmp.{IsTotalOrder}
 use Rattle.std.proofs.lemmas.Cmp.{nat_cmp_total, on_total, ranked, then_total}
@@ -30,10 +30,8 @@ less_of_two Greater b is = absurd (cc)
 
 -- a greater update has a greater destination, or the same one and a greater index
 pub later : (x y : Update) → update_cmp x y ≡ Less → (slice_cmp nat_cmp x.destination.now y.destination.now ≡ Less) ⊎ ((x.destination.now ≡ y.destination.now) × (x.index < y.index))
-later x y is = elim (less_of_two (slice_cmp nat_cmp x.destination.now y.destination.now) (nat_cmp x.index y.index) is) [
-  | inl less ↦ inl less
-  | inr tied ↦ inr (same_texts x.destination.now y.destination.now tied.0, ranked x.index y.index Less (sym tied.1))
-]
+later x y is = by_cases (less_of_two (slice_cmp nat_cmp x.destination.now y.destination.now) (nat_cmp x.index y.index) is) (λ less. inl less)
+    (λ tied. inr (same_texts x.destination.now y.destination.now tied.0, ranked x.index y.index Less (sym tied.1)))
 
 update_total : IsTotalOrder update_cmp
 update_total = then_total (on_total (λ (c : Update). c.destination.now) nat_list_cmp_total) (on_total (λ (c : Update). c.index) nat_cmp_total)
@@ -116,14 +114,9 @@ pub updates_more : (l : List Mapped) (flags : List Bool) (cs new : List Update) 
 updates_more l flags cs new c is goes unflagged made =
     let indexes : updated_indexes new ≡ updated_indexes cs ++ c.index ∷ [] = ap updated_indexes is ∙ map-append (λ (x : Update). x.index) cs (c ∷ []) in record {
       are = λ k d. subst (λ (xs : List Update). HasUpdate xs k d ↔ ((k < c.index + 1) × (GoesTo l k d × ¬ (IsFlagged flags k)))) (sym is) (
-        (λ has. elim (HasUpdate-cases cs (c ∷ []) k d has) [
-          | inl old ↦ let told = (made.are k d).0 old in ((let less = told.0 in omega (arith, less)), told.1)
-          | inr last ↦ only last
-        ]),
-        (λ told. elim (upto k c.index told.0) [
-          | inl less ↦ HasUpdate-left cs (c ∷ []) k d ((made.are k d).1 (less, told.1))
-          | inr here ↦ HasUpdate-right cs (c ∷ []) k d (inl (sym here, one_index l k c.destination.now d (subst (λ (n : ℕ). GoesTo l n c.destination.now) (sym here) goes) told.1.0))
-        ]),
+        (λ has. by_cases (HasUpdate-cases cs (c ∷ []) k d has) (λ old. let told = (made.are k d).0 old in ((let less = told.0 in omega (arith, less)), told.1)) (λ last. only last)),
+        (λ told. by_cases (upto k c.index told.0) (λ less. HasUpdate-left cs (c ∷ []) k d ((made.are k d).1 (less, told.1)))
+            (λ here. HasUpdate-right cs (c ∷ []) k d (inl (sym here, one_index l k c.destination.now d (subst (λ (n : ℕ). GoesTo l n c.destination.now) (sym here) goes) told.1.0)))),
       );
       rises = subst Rises (sym indexes) (all_pairs_push (λ n m. n < m) (updated_indexes cs) c.index made.rises (All-from_recursion (λ n. n < c.index) (updated_indexes cs) made.below));
       below = subst (λ (ns : List ℕ). AllByRecursion (λ n. n < c.index + 1) ns) (sym indexes) (all_join (λ n. n < c.index + 1) (updated_indexes cs) (c.index ∷ []) (all_weaker (λ n. n < c.index) (λ n. n < c.index + 1) (λ n less. omega arith) (updated_indexes cs) made.below) (omega arith, tt));
@@ -141,10 +134,8 @@ pub updates_same : (l : List Mapped) (flags : List Bool) (p : ℕ) (cs : List Up
 updates_same l flags p cs none made = record {
   are = λ k d. (
     (λ has. let told = (made.are k d).0 has in ((let less = told.0 in omega (arith, less)), told.1)),
-    (λ told. elim (upto k p told.0) [
-      | inl less ↦ (made.are k d).1 (less, told.1)
-      | inr here ↦ absurd (none d (subst (λ (n : ℕ). GoesTo l n d) here told.1.0) (subst (λ (n : ℕ). ¬ (IsFlagged flags n)) here told.1.1))
-    ]),
+    (λ told. by_cases (upto k p told.0) (λ less. (made.are k d).1 (less, told.1))
+        (λ here. absurd (none d (subst (λ (n : ℕ). GoesTo l n d) here told.1.0) (subst (λ (n : ℕ). ¬ (IsFlagged flags n)) here told.1.1)))),
   );
   rises = made.rises;
   below = all_weaker (λ n. n < p) (λ n. n < p + 1) (λ n less. omega arith) (updated_indexes cs) made.below;
@@ -161,19 +152,13 @@ same_from_test xs ys b is told = (bytes_eq-Decides xs ys).0 (not-false (bytes_eq
 
 -- if the destination of an update is greater than x, so is that of a greater update
 behind : (x : List ℕ) (o y : Update) → slice_cmp nat_cmp x o.destination.now ≡ Less → update_cmp o y ≡ Less → slice_cmp nat_cmp x y.destination.now ≡ Less
-behind x o y first is = elim (later o y is) [
-  | inl less ↦ below_trans x o.destination.now y.destination.now first less
-  | inr tied ↦ subst (λ (d : List ℕ). slice_cmp nat_cmp x d ≡ Less) tied.0 first
-]
+behind x o y first is = by_cases (later o y is) (λ less. below_trans x o.destination.now y.destination.now first less) (λ tied. subst (λ (d : List ℕ). slice_cmp nat_cmp x d ≡ Less) tied.0 first)
 
 all_behind : (x : List ℕ) (cs : List Update) → IsStrictlySortedBy update_cmp cs → AllByRecursion (λ c. (slice_cmp nat_cmp x c.destination.now ≡ Less) ⊎ (x ≡ c.destination.now)) cs → ((c : Update) (rest : List Update) → cs ≡ c ∷ rest → x ≢ c.destination.now) → AllByRecursion (λ c. slice_cmp nat_cmp x c.destination.now ≡ Less) cs
 unfolding IsStrictlySortedBy
 all_behind x [] strict from other = tt
 all_behind x (c ∷ cs) strict from other =
-    let first : slice_cmp nat_cmp x c.destination.now ≡ Less = elim from.0 [
-      | inl less ↦ less
-      | inr same ↦ absurd (other c cs refl same)
-    ] in
+    let first : slice_cmp nat_cmp x c.destination.now ≡ Less = by_cases from.0 (λ less. less) (λ same. absurd (other c cs refl same)) in
     (first, all_weaker (λ y. update_cmp c y ≡ Less) (λ y. slice_cmp nat_cmp x y.destination.now ≡ Less) (λ y is. behind x c y first is) cs strict.0)
 
 -- if the updates before an index have the first one's destination, and the one at the index hasn't, the index splits
@@ -200,10 +185,7 @@ split_at (h ∷ cs) (suc n) d some strict same end =
     }
   where
     not_before : (y : Update) → update_cmp h y ≡ Less → (slice_cmp nat_cmp h.destination.now y.destination.now ≡ Less) ⊎ (h.destination.now ≡ y.destination.now)
-    not_before y is = elim (later h y is) [
-      | inl less ↦ inl less
-      | inr tied ↦ inr tied.0
-    ]
+    not_before y is = by_cases (later h y is) (λ less. inl less) (λ tied. inr tied.0)
 
 -- the mapping at an index, as plain data
 pub mapped_at : (ms : List Mapping) (k : ℕ) (m : Mapping) → k < length ms → m ≡ get_or ms k m → slice_get (map mapped_of ms) k ≡ Some (mapped_of m)

@@ -1,26 +1,25 @@
 -- What a validation removes, and what holds of the remaining mappings.
-use Rattle.gix_refspec.proofs.Common.{made_next, map_long, ◌≡◌, ◌↔◌, ℕ, ◌+◌, ◌<◌, List, [], ◌∷◌, ◌++◌, Option, None, Some, option_map, option_to_list, Bool, true, false, length, map, take}
-use Rattle.gix_refspec.proofs.Common.{get_or, refl, sym, ap, ◌∙◌, subst, arith, AllByRecursion, items_where_true, false≢true, append-nil, map_more, slice_get-map, slice_get_read, Mapping}
-use Rattle.gix_refspec.proofs.Common.{NameRef, Fix, Issue, RefSpecRef, Reading, reading_of, MakesOf, IsMadeFrom, Mapped, mapped_of, name_bytes, conflict_of, removed_of, AreConflicts}
-use Rattle.gix_refspec.proofs.Common.{AreFixes, AreSurvivors, IsFix, IsValidated, IsWritable, Removed, length-append}
+use Rattle.gix_refspec.proofs.Common.{◌≡◌, ◌↔◌, ℕ, ◌+◌, ◌<◌, List, [], ◌∷◌, ◌++◌, None, Some, option_map, Bool, true, false, length, map, take, get_or, refl, sym, ap, ◌∙◌, subst, arith}
+use Rattle.gix_refspec.proofs.Common.{AllByRecursion, items_where_true, false≢true, append-nil, slice_get-map, slice_get_read, Mapping, NameRef, Fix, Issue, RefSpecRef, Reading, reading_of}
+use Rattle.gix_refspec.proofs.Common.{IsMadeFrom, Mapped, mapped_of, name_bytes, conflict_of, removed_of, AreConflicts, AreFixes, AreSurvivors, IsFix, IsValidated, IsWritable, Removed, length-append}
+use Rattle.gix_refspec.proofs.Common.{made_more, map-append, one_more_mapped}
 use Rattle.std.specs.List.Retain.{ReturnsInTurn, IsFiltered}
 
--- elements made of one more mapping are appended
-made_of_next : {Y : Type 0} (R : ℕ → Mapped → Y → Type 0) (ms : List Mapping) (i : ℕ) (m : Mapping) (ys : List Y) (made : Option Y) → i < length ms → m ≡ get_or ms i m → IsMadeFrom R 0 (map mapped_of (take i ms)) ys → MakesOf R i (mapped_of m) made → IsMadeFrom R 0 (map mapped_of (take (i + 1) ms)) (ys ++ option_to_list made)
-made_of_next R ms i m ys made below is so_far makes =
-    subst (λ (l : List Mapped). IsMadeFrom R 0 l (ys ++ option_to_list made)) (ap (λ (x : Mapping). map mapped_of (take i ms) ++ mapped_of x ∷ []) is ∙ sym (map_more mapped_of ms i m below))
-    (made_next R i (map mapped_of (take i ms)) (mapped_of m) ys made (map_long mapped_of ms i below) so_far makes)
+-- one more mapping of which P holds, and of which nothing is made
+pub nothing_more : {Y E : Type 0} (R : ℕ → Mapped → Y → Type 0) (P : Mapped → Type 0) (ms : List Mapping) (i : ℕ) (m : Mapping) (ys : List Y) → i < length ms → m ≡ get_or ms i m → ((y : Y) → ¬ (R i (mapped_of m) y)) → P (mapped_of m)
+    → IsMadeFrom R 0 (map mapped_of (take i ms)) ys × (E → AllByRecursion P (map mapped_of (take i ms))) → IsMadeFrom R 0 (map mapped_of (take (i + 1) ms)) ys × (E → AllByRecursion P (map mapped_of (take (i + 1) ms)))
+nothing_more R P ms i m ys below is none holds so_far = (
+  made_more R mapped_of ms i m ys ys None below so_far.0 (λ y. subst (λ (x : Mapping). ¬ (R i (mapped_of x) y)) is (none y)) (sym (append-nil ys)),
+  λ empty. one_more_mapped mapped_of P ms i m (so_far.1 empty) below is holds,
+)
 
--- nothing is made of one more mapping
-pub nothing_more : {Y : Type 0} (R : ℕ → Mapped → Y → Type 0) (ms : List Mapping) (i : ℕ) (m : Mapping) (ys : List Y) → i < length ms → m ≡ get_or ms i m → ((y : Y) → ¬ (R i (mapped_of m) y)) → IsMadeFrom R 0 (map mapped_of (take i ms)) ys → IsMadeFrom R 0 (map mapped_of (take (i + 1) ms)) ys
-nothing_more {Y} R ms i m ys below is none so_far = subst (λ (xs : List Y). IsMadeFrom R 0 (map mapped_of (take (i + 1) ms)) xs) (append-nil ys) (made_of_next R ms i m ys None below is so_far none)
-
--- and one element is made
-pub one_more : {Y : Type 0} (R : ℕ → Mapped → Y → Type 0) (ms : List Mapping) (i : ℕ) (m : Mapping) (ys new : List Y) (y : Y) → i < length ms → m ≡ get_or ms i m → new ≡ ys ++ y ∷ [] → R i (mapped_of m) y → IsMadeFrom R 0 (map mapped_of (take i ms)) ys → IsMadeFrom R 0 (map mapped_of (take (i + 1) ms)) new
-one_more {Y} R ms i m ys new y below is pushed one so_far = subst (λ (xs : List Y). IsMadeFrom R 0 (map mapped_of (take (i + 1) ms)) xs) (sym pushed) (made_of_next R ms i m ys (Some y) below is so_far one)
-
-pub not_empty : {X : Type 0} (xs new : List X) (x : X) → new ≡ xs ++ x ∷ [] → ¬ (new ≡ [])
-not_empty xs new x grown empty = omega (arith, length-append xs (x ∷ []), ap length grown, ap length empty)
+-- and one of which an element is made: then the list isn't empty
+pub one_more : {Y Z : Type 0} (R : ℕ → Mapped → Y → Type 0) (P : Mapped → Type 0) (f : Z → Y) (ms : List Mapping) (i : ℕ) (m : Mapping) (zs new : List Z) (z : Z) → i < length ms → m ≡ get_or ms i m → new ≡ zs ++ z ∷ [] → R i (mapped_of m) (f z)
+    → IsMadeFrom R 0 (map mapped_of (take i ms)) (map f zs) → IsMadeFrom R 0 (map mapped_of (take (i + 1) ms)) (map f new) × (new ≡ [] → AllByRecursion P (map mapped_of (take (i + 1) ms)))
+one_more R P f ms i m zs new z below is grown one so_far = (
+  made_more R mapped_of ms i m (map f zs) (map f new) (Some (f z)) below so_far (subst (λ (x : Mapping). R i (mapped_of x) (f z)) is one) (ap (map f) grown ∙ map-append f zs (z ∷ [])),
+  λ empty. absurd (omega (arith, length-append zs (z ∷ []), ap length grown, ap length empty)),
+)
 
 -- if P holds of a whole list, all of it is kept
 pub kept_whole : (P : Mapped → Type 0) (k : ℕ) (l : List Mapped) → AllByRecursion P l → IsMadeFrom (λ j m made. (made ≡ m) × P m) k l l

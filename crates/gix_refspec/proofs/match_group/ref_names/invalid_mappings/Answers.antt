@@ -1,20 +1,17 @@
 -- a copy of a mapping with an invalid side is appended
-use Rattle.gix_refspec.proofs.Common.{one_more_mapped, ◌≡◌, [], ◌∷◌, ◌++◌, ◌+◌, Vec, Global, map, take, sym, ap, ◌∙◌, subst, rules, AllByRecursion, map-append, InvalidMapping, mapped_of}
-use Rattle.gix_refspec.proofs.Common.{AreLeftOut, IsLeftOut, HasRefNames, left_out_of}
-use Rattle.gix_refspec.proofs.lemmas.validate.ValidationLemmas.{not_empty, nothing_more, one_more}
+use Rattle.gix_refspec.proofs.Common.{◌≡◌, [], ◌+◌, Vec, Global, map, take, sym, subst, rules, AllByRecursion, InvalidMapping, mapped_of, AreLeftOut, IsLeftOut, HasRefNames, left_out_of}
+use Rattle.gix_refspec.proofs.lemmas.validate.ValidationLemmas.{nothing_more, one_more}
 use Rattle.gix_refspec.proofs.lemmas.validate.RefNameLemmas.{bad_unnamed, copied_mapping, some_unnamed}
 use Rattle.gix_refspec.proofs.match_group.ref_names.invalid_mappings.Goals as goal
 use Rattle.gix_refspec.proofs.match_group.ref_names.invalid_mappings.Goals.{in-Some+in_ok-clone+in_ok-push, in_default}
 
 pub returns-in_err-clone-clause-memory : goal.returns-in_err-clone-clause-memory
 returns-in_err-clone-clause-memory c =
-    let none : ¬ (AllByRecursion HasRefNames (map mapped_of c.args.mappings.now)) = some_unnamed c.args.mappings.now c.loop-mapping.mapping-index c.mapping-item.result c.in-Some.side c.loop-mapping-test.true c.mapping-item.is c.in-Some.ensures in
-    search rules
+    search (rules, some_unnamed c.args.mappings.now c.loop-mapping.mapping-index c.mapping-item.result c.in-Some.side c.loop-mapping-test.true c.mapping-item.is c.in-Some.ensures)
 
 pub returns-in_err-push-clause-memory : goal.returns-in_err-push-clause-memory
 returns-in_err-push-clause-memory c =
-    let none : ¬ (AllByRecursion HasRefNames (map mapped_of c.args.mappings.now)) = some_unnamed c.args.mappings.now c.loop-mapping.mapping-index c.mapping-item.result c.in-Some.side c.loop-mapping-test.true c.mapping-item.is c.in-Some.ensures in
-    search rules
+    search (rules, some_unnamed c.args.mappings.now c.loop-mapping.mapping-index c.mapping-item.result c.in-Some.side c.loop-mapping-test.true c.mapping-item.is c.in-Some.ensures)
 
 pub loop-mapping-preserved : goal.loop-mapping-preserved
 loop-mapping-preserved c =
@@ -27,14 +24,9 @@ loop-mapping-preserved c =
     elim c.match-invalid_side.branch [
       | in-Some+in_ok-clone+in_ok-push w ↦
           let one : InvalidMapping = record { mapping = w.in_ok-clone.field-0; side = w.in-Some.side } in
-          let pushed : map left_out_of w.push.new.self.items ≡ bad ++ left_out_of one ∷ [] = ap (map left_out_of) w.in_ok-push.ensures.items ∙ map-append left_out_of c.loop-mapping.bad.items (one ∷ []) in
-          subst stays (sym w.bad-is) (
-            one_more (λ k n made. IsLeftOut n made) ms i m bad (map left_out_of w.push.new.self.items) (left_out_of one) c.loop-mapping-test.true c.mapping-item.is pushed (record { same = copied_mapping m w.in_ok-clone.field-0 w.in_ok-clone.ensures.keeps; bad = w.in-Some.ensures }) c.loop-mapping.invariant.0,
-            λ empty. absurd (not_empty c.loop-mapping.bad.items w.push.new.self.items one w.in_ok-push.ensures.items empty),
-          )
+          let left : IsLeftOut (mapped_of m) (left_out_of one) = record { same = copied_mapping m w.in_ok-clone.field-0 w.in_ok-clone.ensures.keeps; bad = w.in-Some.ensures } in
+          subst stays (sym w.bad-is) (one_more (λ k n made. IsLeftOut n made) HasRefNames left_out_of ms i m c.loop-mapping.bad.items w.push.new.self.items one c.loop-mapping-test.true c.mapping-item.is w.in_ok-push.ensures.items left c.loop-mapping.invariant.0)
       | in_default w ↦
-          subst stays (sym w.bad-is) (
-            nothing_more (λ k n made. IsLeftOut n made) ms i m bad c.loop-mapping-test.true c.mapping-item.is (λ made out. bad_unnamed made.side (mapped_of m) out.bad w.in_default.ensures) c.loop-mapping.invariant.0,
-            λ empty. one_more_mapped mapped_of HasRefNames ms i m (c.loop-mapping.invariant.1 empty) c.loop-mapping-test.true c.mapping-item.is w.in_default.ensures,
-          )
+          subst stays (sym w.bad-is)
+          (nothing_more (λ k n made. IsLeftOut n made) HasRefNames ms i m bad c.loop-mapping-test.true c.mapping-item.is (λ made out. bad_unnamed made.side (mapped_of m) out.bad w.in_default.ensures) w.in_default.ensures c.loop-mapping.invariant)
     ]

@@ -1,20 +1,18 @@
 -- the list of each spec is appended
-use Rattle.gix_refspec.proofs.Common.{◌≡◌, ◌<◌, List, [], length, map, get_or, sym, ap, subst, arith, take_all, bstring_bytes, RefSpecRef, reading_of, readings_of, HasNoList, ListsGroup}
+use Rattle.gix_refspec.proofs.Common.{◌≡◌, ◌<◌, List, length, map, get_or, ap, subst, arith, take_all, bstring_bytes, RefSpecRef, reading_of, readings_of, ListsGroup}
 use Rattle.gix_refspec.proofs.lemmas.prefixes.AskedLemmas.{asks_no_names, asks_something, given_list, missing_list, none_at, one_more_list, serves}
 use Rattle.gix_refspec_text.proofs.lemmas.prefixes.PrefixLemmas.{on_any_error}
 use Rattle.gix_refspec.proofs.match_group.types.MatchGroup.ref_prefixes.Goals as goal
 
 pub returns-in_err-names-clause-memory : goal.returns-in_err-names-clause-memory
 returns-in_err-names-clause-memory c =
-    let specs = c.deref-spec-items.result.now in
-    let some = asks_something specs c.loop-spec.spec-index c.spec-item.result c.loop-spec-test.true c.spec-item.is c.in_err-names.ensures.memory in
-    on_any_error c.from_residual.result (subst (λ (xs : List RefSpecRef). ¬ (ListsGroup (map reading_of xs) [])) c.deref-spec-items.ensures.value some)
+    on_any_error c.from_residual.result
+    (rw (← c.deref-spec-items.ensures.value) (asks_something c.deref-spec-items.result.now c.loop-spec.spec-index c.spec-item.result c.loop-spec-test.true c.spec-item.is c.in_err-names.ensures.memory))
 
 pub returns-in_default-clause-ok : goal.returns-in_default-clause-ok
 returns-in_default-clause-ok c =
-    let specs = c.deref-spec-items.result.now in
     let none = missing_list (reading_of c.spec-item.result) c.in_ok-names.field-0 c.in_default.is c.in_ok-names.ensures.ok in
-    subst (λ (xs : List RefSpecRef). HasNoList (map reading_of xs)) c.deref-spec-items.ensures.value (none_at specs c.loop-spec.spec-index c.spec-item.result c.loop-spec-test.true c.spec-item.is none)
+    rw (← c.deref-spec-items.ensures.value) (none_at c.deref-spec-items.result.now c.loop-spec.spec-index c.spec-item.result c.loop-spec-test.true c.spec-item.is none)
 
 pub returns-in_err-append-clause-memory : goal.returns-in_err-append-clause-memory
 returns-in_err-append-clause-memory c =
@@ -23,7 +21,7 @@ returns-in_err-append-clause-memory c =
     let names = c.in-Some.names in
     let given = given_list (reading_of c.spec-item.result) c.in_ok-names.field-0 names c.in-Some.is c.in_ok-names.ensures.ok in
     on_any_error c.from_residual-in_err-append.result (λ asks.
-    let nothing = subst (λ (xs : List RefSpecRef). ListsGroup (map reading_of xs) []) (sym c.deref-spec-items.ensures.value) asks in
+    let nothing = rw (← c.deref-spec-items.ensures.value) at asks in
     omega (arith, c.in_err-append.ensures.full, list.ok.1, names.ok.0, asks_no_names specs c.loop-spec.spec-index c.spec-item.result names.items c.loop-spec-test.true c.spec-item.is given nothing))
 
 pub loop-spec-preserved : goal.loop-spec-preserved

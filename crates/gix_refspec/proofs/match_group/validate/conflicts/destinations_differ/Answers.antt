@@ -1,6 +1,6 @@
 -- no flags are set, and so the destinations differ
 use Rattle.gix_refspec.proofs.Common.{List, ◌≡◌, length, map, subst, sym, ◌∙◌, arith, eqb-true, bstr_bytes, BStr, mapped_of, all_destinations}
-use Rattle.gix_refspec.proofs.lemmas.validate.ApartLemmas.{none_contested}
+use Rattle.gix_refspec.proofs.lemmas.validate.ConflictLemmas.{none_contested}
 use Rattle.gix_refspec.proofs.match_group.validate.conflicts.destinations_differ.Goals as goal
 
 pub returns : goal.returns

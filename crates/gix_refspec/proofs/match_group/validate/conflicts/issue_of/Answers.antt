@@ -1,6 +1,6 @@
 -- each update gives its source and its text
 use Rattle.gix_refspec.proofs.Common.{◌≡◌, List, map, get_or, ◌∙◌, subst, arith, rules, bstring_bytes, map-append, take_all, All-from_recursion, Update, reading_of, mapped_of, start_of}
-use Rattle.gix_refspec.proofs.Common.{updated_indexes}
+use Rattle.gix_refspec.proofs.Common.{updated_indexes, [], ◌∷◌}
 use Rattle.gix_refspec.proofs.lemmas.validate.ConflictLemmas.{AreTold, conflict_from_conflicting, copied_source, conflicting_fits, spec_fits, text_at, told_more}
 use Rattle.gix_refspec.proofs.lemmas.validate.UpdateLemmas.{past_end}
 use Rattle.gix_refspec.proofs.match_group.validate.conflicts.issue_of.Goals as goal
@@ -33,7 +33,7 @@ loop-update-preserved c =
     (c.in_ok-into_owned.ensures.keeps ∙ copied_source m.lhs c.in_ok-clone.field-0 c.in_ok-clone.ensures.keeps)
     (text_at c.args.specs.now m.spec_index c.index-specs-mapping.result (bstring_bytes text) (spec_fits c.args.specs.now ms (get_or run i past_end).index m c.requires.fits fits c.index-mappings-update.is) c.index-specs-mapping.is c.in_ok-to_bstring.ensures)
     c.loop-update.invariant in
-    rw (c.in_ok-push.ensures.items, c.in_ok-push-2.ensures.items, map-append, map-append) told
+    rw (c.in_ok-push.ensures.items, c.in_ok-push-2.ensures.items, map-append start_of c.loop-update.sources.items (source ∷ []), map-append bstring_bytes c.loop-update.texts.items (text ∷ [])) told
 
 pub returns : goal.returns
 returns c =

@@ -1,6 +1,5 @@
 -- one more run is settled
-use Rattle.gix_refspec.proofs.Common.{◌≡◌, ◌-◌, ◌<◌, ◌≤◌, List, length, map, take, drop, sym, ap, subst, arith, drop-drop, length-drop, take_all, Update, reading_of, mapped_of, Conflict}
-use Rattle.gix_refspec.proofs.Common.{conflict_of, AddsConflict, AreConflicting, IsRun}
+use Rattle.gix_refspec.proofs.Common.{◌≡◌, ◌-◌, ◌≤◌, List, length, map, take, drop, sym, ap, subst, arith, drop-drop, length-drop, take_all, reading_of, mapped_of, Conflict, conflict_of}
 use Rattle.gix_refspec.proofs.lemmas.validate.ConflictLemmas.{AreReported, all_reported, conflicting_of_run, reported_more, reported_none}
 use Rattle.gix_refspec.proofs.match_group.validate.conflicts.issues_among.Goals as goal
 
@@ -14,13 +13,8 @@ pub add_issue-requires-clause-conflicting : goal.add_issue-requires-clause-confl
 add_issue-requires-clause-conflicting c =
     let firsts = c.args.firsts.now in
     let at = c.loop-at.at in
-    let n = c.len_of_run-len.result in
-    let g = map reading_of c.args.specs.now in
-    let l = map mapped_of c.args.mappings.now in
-    let cs = map conflict_of c.loop-at.issues.items in
     let rest : take (length firsts - at) (drop at firsts) ≡ drop at firsts = take_all (length firsts - at) (drop at firsts) (omega (arith, length-drop at firsts)) in
-    subst (λ (xs : List Update). IsRun (take n xs) (drop n xs) → 1 < length (take n xs) → AreConflicting l (take n xs)) (sym rest)
-    (λ split several. conflicting_of_run g l (drop at firsts) n cs several split c.loop-at.invariant.1) c.len_of_run-len.ensures.split
+    rw rest (λ several. conflicting_of_run _ _ (drop at firsts) c.len_of_run-len.result _ several (rw rest at c.len_of_run-len.ensures.split) c.loop-at.invariant.1)
 
 pub loop-at-preserved : goal.loop-at-preserved
 loop-at-preserved c =
@@ -28,15 +22,10 @@ loop-at-preserved c =
     let at = c.loop-at.at in
     let n = c.len_of_run-len.result in
     let told = c.len_of_run-len.ensures in
-    let g = map reading_of c.args.specs.now in
-    let l = map mapped_of c.args.mappings.now in
-    let cs = map conflict_of c.loop-at.issues.items in
-    let new = map conflict_of c.add_issue.new.issues.items in
     let rest : take (length firsts - at) (drop at firsts) ≡ drop at firsts = take_all (length firsts - at) (drop at firsts) (omega (arith, length-drop at firsts)) in
-    let fits : n ≤ length (drop at firsts) = subst (λ (xs : List Update). n ≤ length xs) rest told.fits in (
+    let fits : n ≤ length (drop at firsts) = rw rest at told.fits in (
       omega (arith, fits, length-drop at firsts),
-      subst (λ (xs : List Update). AreReported g l xs new) (drop-drop n at firsts)
-          (reported_more g l (drop at firsts) n cs new told.some fits (subst (λ (xs : List Update). IsRun (take n xs) (drop n xs)) rest told.split) (subst (λ (xs : List Update). AddsConflict g l (take n xs) cs new) rest c.in_ok-add_issue.ensures) c.loop-at.invariant.1),
+      rw (← drop-drop n at firsts) (reported_more _ _ (drop at firsts) n _ _ told.some fits (rw rest at told.split) (rw rest at c.in_ok-add_issue.ensures) c.loop-at.invariant.1),
     )
 
 pub returns : goal.returns
