@@ -9,6 +9,7 @@ pub use Rattle.std.specs.List.Sorted.{IsPermutation, IsSorted}
 unfoldable pub use Rattle.std.specs.List.Sorted.{IsStrictlySortedBy}
 pub use Rattle.std.specs.Ordering.{nat_cmp, is_lt, ordering_then, ordering_reverse}
 pub use Rattle.std.specs.Cmp.Lexicographic.{slice_cmp, pointwise, nat_list_cmp_total}
+pub use Rattle.std.specs.declared.cmp.Ordering.{Ordering}
 pub use Rattle.std.specs.declared.cmp.Ordering.TheVariants.{Less, Equal, Greater}
 pub use Rattle.std.proofs.lemmas.Slice.Eq.{bytes_eq-Decides, starts_is}
 pub use Rattle.std.specs.Prelude.{IsSome}
@@ -37,7 +38,7 @@ pub use Rattle.gix_refspec_text.specs.Views.Spec.{reading_of, owned_reading_of, 
 pub use Rattle.gix_refspec_text.specs.Laws.Covering.{HasCoveringSource, IsCovering, by_prefix, by_candidates}
 pub use Rattle.gix_refspec_text.specs.Texts.Name.{HasStar, IsPattern, IsName, HasSeveralStars, HasOneStar, IsSplit, is_refused_byte, HasFault, SomeComponent}
 pub use Rattle.gix_refspec_text.specs.Specs.Refusal.{Refusal, PatternUnbalanced, NegativeEmpty, ReferenceName, IsRefused, IsOneStarred}
-pub use Rattle.gix_refspec_text.specs.Texts.ObjectId.{IsIdText, IsLowerText, HasIdFault, bytes_of, digits_of, id_bytes, is_lower_digit, lower_of}
+pub use Rattle.gix_refspec_text.specs.Texts.ObjectId.{IsIdText, IsLowerText, HasIdFault, digits_of, id_bytes, is_lower_digit, lower_of}
 pub use Rattle.gix_refspec_text.specs.declared.name.Error.TheVariants.{LockSuffix, RepeatedDot, Empty, EmptyComponent, StartsWithDot, EndsWithDot, ReflogPortion, Asterisk, InvalidByte}
 pub use Rattle.gix_refspec_text.specs.declared.parsing.Operation.{Operation}
 pub use Rattle.gix_refspec_match.specs.Matching.Mappings.{Mapped, name, id, HasPair, IsExcluded, AreApart, IsSamePair, Source, IsExcludedBy, IsSourceExcluded, IsKeptAt, IsKept}
@@ -52,7 +53,7 @@ pub use Rattle.gix_refspec_match.specs.Views.Mapping.{name_bytes, start_of, mapp
 pub use Rattle.gix_refspec_match.specs.declared.matcher.Candidates.TheVariants.{First, All}
 pub use Rattle.gix_refspec_match.specs.Matching.Lists.{MakesOf, IsMadeFrom, IsJoinedFrom}
 pub use Rattle.gix_refspec_match.specs.Private.Duplicates.{FlagsDuplicates}
-pub use Rattle.gix_refspec_match.specs.Private.Orders.{bytes_order, equal_texts, same_texts, both_equal}
+pub use Rattle.gix_refspec_match.specs.Private.Orders.{equal_pair, pair_order, same_pair, bytes_order, equal_texts, same_texts, both_equal}
 pub use Rattle.gix_refspec_match.specs.Private.Kept.{IsFlagged, Rises}
 pub use Rattle.gix_refspec.specs.Matching.Asked.{HasNoList, Lists, ListsGroup, ListsSide, Serves, ListsAs}
 pub use Rattle.gix_refspec.specs.Laws.Matching.{EqualGroups, AreFetches, FetchTheSame, BeginsWithOne, IsCoveredBy, AreExpansions, MakesForward, MakesBackward, PairsId, KeptExactly, FirstStays}
@@ -82,12 +83,15 @@ pub use Rattle.gix_refspec.specs.Private.Updates.{GoesTo}
 pub use Rattle.gix_refspec.specs.declared.match_group.validate.conflicts.Update.{Update}
 pub use Rattle.gix_refspec_text.proofs.lemmas.lists.AllLemmas.{all_join, all_weaker, all_left, all_right}
 pub use Rattle.gix_refspec_text.proofs.lemmas.lists.MapLemmas.{each_mapped, one_more_mapped}
+pub use Rattle.gix_refspec_text.proofs.lemmas.lists.EqualLemmas.{same_keys}
+pub use Rattle.gix_refspec_text.proofs.lemmas.lists.OrderLemmas.{not_below_itself}
 pub use Rattle.gix_refspec_match.proofs.lemmas.lists.JoinLemmas.{nothing_made, joined_next, map_split, map_long, nothing_joined, made_more}
 pub use Rattle.gix_refspec_text.proofs.facts.ManualFacts.{named, other_length, Lacks-tested, none_some, IsPattern-tested, no_sign}
 pub use Rattle.gix_refspec_text.proofs.facts.FitFacts.{blob, dev_ref, every, main_ref, no_dev, short_kind, short_no_id, tag_ref, blob_kind, split_at_end, other_byte, of_element, origin_split, short}
 pub use Rattle.gix_refspec_text.proofs.facts.FitFacts.{push_is_none, below_tags, other_first}
 pub use Rattle.gix_refspec_text.proofs.facts.FaultFacts.{begins_not, no_component}
 pub use Rattle.gix_refspec_text.proofs.facts.ObjectIdFacts.{empty_blob, lower_of-empty_blob, IsIdText-empty_blob, HasIdFault-length}
+pub use Rattle.gix_refspec_text.proofs.facts.CoveringFacts.{below_heads, covering, not_covering}
 pub use Rattle.gix_refspec_match.proofs.facts.MatchFacts.{mapping, tracked, bytes_in, tag_to_x, branch_to_x, tag_again, tag_to_foo, tag_alone, pairs, are_forward_ends, fetches_all_but_dev}
 pub use Rattle.gix_refspec_match.proofs.facts.MatchFacts.{forward_ends, taken_by, takes_no_tag, tracks_all_but_dev, blob_mapping, dev_excluded, main_stays, maps_all, only_dev, tracks_all}
 pub use Rattle.gix_refspec_match.proofs.facts.MatchFacts.{tracks_nothing}

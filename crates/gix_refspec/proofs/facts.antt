@@ -1,6 +1,5 @@
 -- Examples of the definitions in specs/, of this crate and of those below it, each on one side of a border, so that
 -- a wrong definition is noticed.
-pub mod OutcomeFacts
 pub mod ValidationFacts
 pub mod PlanLawFacts
 pub mod RefNameFacts
@@ -8,8 +7,6 @@ pub mod PlainNameFacts
 pub mod AskedFacts
 pub mod IndexFacts
 pub mod LawFacts
-pub mod EqualGroupFacts
 pub mod ItemFacts
 pub mod KeptFacts
 pub mod GroupFacts
-pub mod NamesDecideFacts

@@ -1,15 +1,17 @@
--- Which items may be left out, and what a caller concludes from the laws on that.
-use Rattle.gix_refspec.proofs.Common.{branch_and_tag, main_branch, main_tag, main_ends, main_to_x, takes_the_tag, begins_not, named, other_length, dev_ref, every, main_ref, no_dev, origin_split}
-use Rattle.gix_refspec.proofs.Common.{other_byte, short, short_no_id, tag_ref, of_element, push_is_none, are_forward_ends, bytes_in, fetches_all_but_dev, forward_ends, taken_by, takes_no_tag, tracked}
-use Rattle.gix_refspec.proofs.Common.{tracks_all_but_dev, ◌≡◌, ◌≢◌, inl, inr, ℕ, zero, suc, List, [], ◌∷◌, None, Some, codes, refl, sym, ap, subst, arith, Bool, true, false, map, filter, Any}
-use Rattle.gix_refspec.proofs.Common.{Contains, bstr_bytes, false≢true, Item, BeginsWith, head, Normal, Reading, fetched, pushed, pattern, filled, to_prefix, Ref, Matches, Takes, name, Mapped}
-use Rattle.gix_refspec.proofs.Common.{HasPair, AreForwardEnds, AreBackwardEnds, Hit, AreKeptForward, AreKeptBackward, ref_of, HasCoveringSource, IsCovering, BeginsWithOne, IsCoveredBy, AreExpansions}
-use Rattle.gix_refspec.proofs.Common.{MakesForward, AreAskedFor, ArePart, AskedItems, TakesItem, HasTaken, HaveSamePairs, FewerItems, FetchesHead, IsListed, AreListedItems, ListedItems, PassesTaken}
-use Rattle.gix_refspec.proofs.Common.{FilteredItems, is_begun, FilteredByEntries, FilteredByList, same_Some, by_cases}
+-- Which items may be left out, what of an item decides, and what a caller concludes from the laws on that.
+use Rattle.gix_refspec.proofs.Common.{below_heads, covering, not_covering, branch_and_tag, main_branch, main_tag, main_ends, main_to_x, takes_the_tag, begins_not, named, other_length, dev_ref, every}
+use Rattle.gix_refspec.proofs.Common.{main_ref, no_dev, origin_split, other_byte, short, short_no_id, tag_ref, of_element, push_is_none, are_forward_ends, bytes_in, fetches_all_but_dev, forward_ends}
+use Rattle.gix_refspec.proofs.Common.{taken_by, takes_no_tag, tracked, tracks_all_but_dev, ◌≡◌, ◌≢◌, inl, inr, ℕ, zero, suc, List, [], ◌∷◌, None, Some, codes, refl, sym, ap, subst, arith, Bool, true}
+use Rattle.gix_refspec.proofs.Common.{false, map, filter, Any, Contains, bstr_bytes, false≢true, Item, BeginsWith, head, Normal, Reading, fetched, pushed, pattern, filled, to_prefix, Ref, Matches}
+use Rattle.gix_refspec.proofs.Common.{Takes, name, Mapped, HasPair, AreForwardEnds, AreBackwardEnds, Hit, AreKeptForward, AreKeptBackward, ref_of, HasCoveringSource, IsCovering, BeginsWithOne}
+use Rattle.gix_refspec.proofs.Common.{IsCoveredBy, AreExpansions, MakesForward, AreAskedFor, ArePart, AskedItems, TakesItem, HasTaken, HaveSamePairs, FewerItems, FetchesHead, IsListed, AreListedItems}
+use Rattle.gix_refspec.proofs.Common.{ListedItems, PassesTaken, FilteredItems, is_begun, FilteredByEntries, FilteredByList, same_Some, by_cases, none_some, empty_blob, IsIdText-empty_blob, blob_kind}
+use Rattle.gix_refspec.proofs.Common.{length, get_or, ◌∙◌, Sha1, Sha256, digits_of, object, AsksForNoId, HaveSameNames, NamesDecide, NamesDecideBack}
 use Rattle.gix_refspec.proofs.facts.AskedFacts.{lists_of_specs}
 use Rattle.gix_refspec.proofs.facts.KeptFacts.{of_one}
 use Rattle.gix_refspec.proofs.lemmas.prefixes.CoverLemmas.{joined_covers}
-use Rattle.gix_refspec_text.proofs.facts.CoveringFacts.{below_heads, covering, not_covering}
+use Rattle.gix_refspec_text.specs.declared.oid.Kind.{Kind}
+use Rattle.gix_refspec_match.proofs.lemmas.hits.HitLemmas.{matches_as}
 
 abbrev group : List Reading
 group = every ∷ no_dev ∷ []
@@ -80,19 +82,13 @@ tag_wanted has =
 -- the same pairs, whatever the indexes and the order are
 pub same_pairs : HaveSamePairs (tracked 2 (codes "main") ∷ []) (tracked 5 (codes "main") ∷ tracked 3 (codes "main") ∷ []) × ¬ (HaveSamePairs (tracked 2 (codes "main") ∷ []) []) × ¬ (HaveSamePairs [] (tracked 2 (codes "main") ∷ []))
 same_pairs = (
-  (λ pair. ((λ has. to_others pair has), λ has. from_others pair has)),
+  (λ pair. (
+    (λ has. by_cases has (λ same. inl (record { source = same.source; destination = same.destination })) (λ none. absurd none)),
+    λ has. inl (by_cases has (λ same. record { source = same.source; destination = same.destination }) (λ later. by_cases later (λ same. record { source = same.source; destination = same.destination }) (λ none. absurd none))),
+  )),
   (λ same. (same (tracked 2 (codes "main"))).0 (inl (record { source = refl; destination = refl }))),
   λ same. (same (tracked 2 (codes "main"))).1 (inl (record { source = refl; destination = refl })),
 )
-  where
-    to_others : (pair : Mapped) → HasPair (tracked 2 (codes "main") ∷ []) pair → HasPair (tracked 5 (codes "main") ∷ tracked 3 (codes "main") ∷ []) pair
-    to_others pair (inl same) = inl (record { source = same.source; destination = same.destination })
-    to_others pair (inr none) = absurd none
-
-    from_others : (pair : Mapped) → HasPair (tracked 5 (codes "main") ∷ tracked 3 (codes "main") ∷ []) pair → HasPair (tracked 2 (codes "main") ∷ []) pair
-    from_others pair (inl same) = inl (record { source = same.source; destination = same.destination })
-    from_others pair (inr (inl same)) = inl (record { source = same.source; destination = same.destination })
-    from_others pair (inr (inr none)) = absurd none
 
 -- by the law the branch is mapped over the branches alone, and the excluded one isn't
 pub mapped_still : FewerItems group all_refs branches → (fewer : List Mapped) → AreKeptForward group branches fewer → HasPair fewer (tracked 7 (codes "main")) × ¬ (HasPair fewer (tracked 0 (codes "dev-a")))
@@ -231,3 +227,48 @@ none_lost_asked law are = (same_pairs_asked law [] are (tracked 2 (codes "main")
 -- and a client that filters by the list keeps them
 pub by_list : (items some : List Item) → FilteredByList items some → some ≡ filter (λ item. is_begun (codes "refs/heads/" ∷ []) (bstr_bytes item.full_ref_name)) items → AreAskedFor (codes "refs/heads/" ∷ []) (map ref_of items) (map ref_of some)
 by_list items some law is = law (codes "refs/heads/" ∷ []) is
+
+-- ---- from left to right names alone decide, from right to left ids too
+
+-- a ref with this name, and other ids than in the example
+abbrev moved : List ℕ → Ref
+moved n = record { name = n; target = 2 ∷ []; object = Some (3 ∷ []) }
+
+-- other ids change no mapping from left to right
+pub names_alone : NamesDecide (every ∷ no_dev ∷ []) (dev_ref ∷ tag_ref ∷ main_ref ∷ main_ref ∷ []) → AreKeptForward (every ∷ no_dev ∷ []) (moved dev_ref.name ∷ moved tag_ref.name ∷ moved main_ref.name ∷ moved main_ref.name ∷ []) (tracked 2 (codes "main") ∷ [])
+names_alone law = law (moved dev_ref.name ∷ moved tag_ref.name ∷ moved main_ref.name ∷ moved main_ref.name ∷ []) refl (tracked 2 (codes "main") ∷ []) fetches_all_but_dev
+
+-- nor from right to left, if no destination is an id
+abbrev to_blob : Reading
+to_blob = fetched Normal (codes "main") (Some (codes "e69de29bb2d1d6434b8b29ae775ad8c2e48c5391"))
+
+abbrev to_x : Reading
+to_x = fetched Normal (codes "main") (Some (codes "refs/x"))
+
+pub ids_asked_for : AsksForNoId (no_dev ∷ to_x ∷ []) × ¬ (AsksForNoId (to_x ∷ to_blob ∷ []))
+ids_asked_for = (
+  ((λ has. none_some has.0 has.1), ((λ (text, is, (bytes, spelled)). no_digits spelled.kind (ap length (same_Some (codes "refs/x") text is) ∙ spelled.digits)), tt)),
+  λ none. none.1.0 (codes "e69de29bb2d1d6434b8b29ae775ad8c2e48c5391", refl, (empty_blob, IsIdText-empty_blob)),
+)
+  where
+    no_digits : (kind : Kind) → 6 ≢ digits_of kind
+    no_digits Sha1 same = omega (arith, same)
+    no_digits Sha256 same = omega (arith, same)
+
+pub names_alone_back : NamesDecideBack (no_dev ∷ to_x ∷ []) (main_ref ∷ []) → (l : List Mapped) → AreKeptBackward (no_dev ∷ to_x ∷ []) (main_ref ∷ []) l → AreKeptBackward (no_dev ∷ to_x ∷ []) (moved main_ref.name ∷ []) l
+names_alone_back law l kept = law ids_asked_for.0 (moved main_ref.name ∷ []) refl l kept
+
+-- lists with another name, or with a duplicate, don't have the same names
+pub other_names : ¬ (HaveSameNames (main_ref ∷ []) (dev_ref ∷ [])) × ¬ (HaveSameNames (main_ref ∷ []) (main_ref ∷ main_ref ∷ []))
+other_names = (
+  (λ same. other_length _ _ (λ size. omega (arith, size)) (ap (λ (l : List (List ℕ)). get_or l 0 []) same)),
+  λ same. let size : 1 ≡ 2 = ap length same in omega (arith, size),
+)
+
+-- of two refs with the same name, a destination that is an id matches the one with this id
+pub ids_decide_too : Matches (codes "e69de29bb2d1d6434b8b29ae775ad8c2e48c5391") (record { name = codes "refs/tags/blob"; target = empty_blob; object = None }) None × ¬ (Matches (codes "e69de29bb2d1d6434b8b29ae775ad8c2e48c5391") (named (codes "refs/tags/blob")) None)
+ids_decide_too = (
+  record { kind = object empty_blob; of = blob_kind; is = (refl, inl refl) },
+  λ matches. by_cases (matches_as (codes "e69de29bb2d1d6434b8b29ae775ad8c2e48c5391") (object empty_blob) (named (codes "refs/tags/blob")) None blob_kind matches).1
+      (other_length (1 ∷ []) empty_blob (λ size. omega (arith, size))) (none_some empty_blob),
+)

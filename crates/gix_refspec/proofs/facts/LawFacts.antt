@@ -1,14 +1,15 @@
 -- Examples of the definitions that only laws use: which specs go both ways, what a covering source covers, what a
 -- canonical text reads as, and the expansion of a group.
-use Rattle.gix_refspec.proofs.Common.{Lacks-tested, IsPattern-tested, other_length, none_some, named, no_sign, begins_not, empty_blob, IsIdText-empty_blob, lower_of-empty_blob, HasIdFault-length}
-use Rattle.gix_refspec.proofs.Common.{every, no_dev, short, short_kind, other_byte, other_first, push_is_none, bytes_in, mapping, tracked, fetches_all_but_dev, tracks_all_but_dev, tracks_nothing}
-use Rattle.gix_refspec.proofs.Common.{tag_to_x, tag_to_foo, tag_alone, ◌≡◌, ◌≢◌, ◌⊎◌, ◌<◌, ℕ, List, [], ◌∷◌, ◌++◌, Option, None, Some, length, codes, refl, sym, ap, ◌∙◌, subst, inl, inr, arith}
-use Rattle.gix_refspec.proofs.Common.{AllByRecursion, Push, Fetch, BeginsWith, HasStar, IsPattern, star, colon, Normal, Forced, Negative, Reading, AreParts, Reads, fetches, fetched, pushed}
-use Rattle.gix_refspec.proofs.Common.{candidates, IsCandidate, Fits, name, id, Mapped, HasPair, AreApart, AreKeptForward, AreKeptBackward, OneForward, OneBackward, KeptOnce, Ref, Matches, HasName}
-use Rattle.gix_refspec.proofs.Common.{Takes, ValidatedOnce, DestinationsHaveOneSource, HaveDistinctDestinations, ForwardFits, IndexesFit, push_delete, fetch_only, printed, meaning_of, Refusal}
-use Rattle.gix_refspec.proofs.Common.{PatternUnbalanced, NegativeEmpty, ReferenceName, IsRefused, IsIdText, IsLowerText, HasIdFault, LockSuffix, RepeatedDot, IsAsked, IsPrefix, Expands, to_prefix}
-use Rattle.gix_refspec.proofs.Common.{to_candidates, IsCovering, HasCoveringSource, MapAlike, AreReadAgain, AsksFor, AtSpec, EachSource, Transpose, Cover, CoverTogether, FetchGroupReadsBack}
-use Rattle.gix_refspec.proofs.Common.{IsCoveredBy, IsSourceAmong, IsDestinationAmong, GoesBothWays, ReadsAgainAs, BeginsWithOne, AreExpansions, same_Some, by_cases}
+use Rattle.gix_refspec.proofs.Common.{below_heads, covering, not_covering, Lacks-tested, IsPattern-tested, other_length, none_some, named, no_sign, begins_not, empty_blob, IsIdText-empty_blob}
+use Rattle.gix_refspec.proofs.Common.{lower_of-empty_blob, HasIdFault-length, every, no_dev, short, short_kind, other_byte, other_first, push_is_none, bytes_in, mapping, tracked, fetches_all_but_dev}
+use Rattle.gix_refspec.proofs.Common.{tracks_all_but_dev, tracks_nothing, tag_to_x, tag_to_foo, tag_alone, ◌≡◌, ◌≢◌, ◌⊎◌, ◌<◌, ℕ, List, [], ◌∷◌, ◌++◌, Option, None, Some, length, codes, refl, sym, ap}
+use Rattle.gix_refspec.proofs.Common.{◌∙◌, subst, inl, inr, arith, AllByRecursion, Push, Fetch, BeginsWith, HasStar, IsPattern, star, colon, Normal, Forced, Negative, Reading, AreParts, Reads}
+use Rattle.gix_refspec.proofs.Common.{fetches, fetched, pushed, candidates, IsCandidate, Fits, name, id, Mapped, HasPair, AreApart, AreKeptForward, AreKeptBackward, OneForward, OneBackward, KeptOnce}
+use Rattle.gix_refspec.proofs.Common.{Ref, Matches, HasName, Takes, ValidatedOnce, DestinationsHaveOneSource, HaveDistinctDestinations, ForwardFits, IndexesFit, push_delete, fetch_only, printed}
+use Rattle.gix_refspec.proofs.Common.{meaning_of, Refusal, PatternUnbalanced, NegativeEmpty, ReferenceName, IsRefused, IsIdText, IsLowerText, HasIdFault, LockSuffix, RepeatedDot, IsAsked, IsPrefix}
+use Rattle.gix_refspec.proofs.Common.{Expands, to_prefix, to_candidates, IsCovering, HasCoveringSource, MapAlike, AreReadAgain, AsksFor, AtSpec, EachSource, Transpose, Cover, CoverTogether}
+use Rattle.gix_refspec.proofs.Common.{FetchGroupReadsBack, IsCoveredBy, IsSourceAmong, IsDestinationAmong, GoesBothWays, ReadsAgainAs, BeginsWithOne, AreExpansions, same_Some, by_cases, true, false}
+use Rattle.gix_refspec.proofs.Common.{false≢true, fetch_and_update, EqualGroups, AreFetches, FetchTheSame}
 use Rattle.gix_refspec_text.specs.Laws.Readings.{ReadsOnce, ReadsOrRefused, IsSameReason, SaysForOperation, IsPrintedBack, ReadsBack, EqualReadings, HasOneId, HasOneFault, HasCandidates, KeepsOperation, EqualTexts, NothingAgainst, ClonesExactly, OneWord, PrefixBegins, OnePrefix, Candidates, IdOrFault, OneLowerText, OneRefusal}
 use Rattle.gix_refspec_text.specs.Texts.PatternError.{IsPatternFault}
 use Rattle.gix_refspec_text.specs.declared.name.PatternError.{PatternError}
@@ -24,7 +25,6 @@ use Rattle.gix_refspec_text.proofs.lemmas.parsing.ReadOnceLemmas.{reads_once}
 use Rattle.gix_refspec_text.proofs.facts.UnreadFacts.{unbalanced_fetches}
 use Rattle.gix_refspec.proofs.facts.KeptFacts.{of_one}
 use Rattle.gix_refspec.proofs.facts.ValidationFacts.{both_to_x, foo_fix, validated}
-use Rattle.gix_refspec_text.proofs.facts.CoveringFacts.{below_heads, covering, not_covering}
 
 -- ---- both directions
 
@@ -329,26 +329,17 @@ no_tag_source law kept are =
 
 -- a name that begins with no entry of the expansion of a spec isn't covered by it
 pub not_covered : OnePrefix (codes "refs/heads/*") → ¬ (IsCoveredBy (codes "refs/tags/v1") every) × ¬ (IsCoveredBy (codes "refs/heads/dev-a") no_dev)
-not_covered law = (by_every, by_none)
-  where
-    outside : ¬ (BeginsWithOne (codes "refs/heads/" ∷ []) (codes "refs/tags/v1"))
-    outside begins = begins_not (codes "refs/heads/") (codes "refs/tags/v1") refl (of_one (λ entry. BeginsWith entry (codes "refs/tags/v1")) (codes "refs/heads/") begins)
-
-    by_every : ¬ (IsCoveredBy (codes "refs/tags/v1") every)
-    by_every covers = elim covers.expansion [
-      | inl (x, asked, expands) ↦
-          let of_source = subst (λ (y : List ℕ). Expands y covers.entries) (sym (same_Some (codes "refs/heads/*") x asked.side)) expands in
-          let same = law.expanded covers.entries (codes "refs/heads/" ∷ []) of_source (to_prefix (codes "refs/heads/") below_heads refl) in
-          outside (subst (λ (l : List (List ℕ)). BeginsWithOne l (codes "refs/tags/v1")) same covers.one)
-      | inr (none, same) ↦ none (codes "refs/heads/*") (record { positive = tt; side = refl })
-    ]
-
-    no_entry : ¬ (BeginsWithOne [] (codes "refs/heads/dev-a"))
-    no_entry (k, entry, below, is, begins) = omega (arith, below)
-
-    by_none : ¬ (IsCoveredBy (codes "refs/heads/dev-a") no_dev)
-    by_none covers = by_cases covers.expansion (λ (x, asked, expands). asked.positive)
-        (λ (none, same). no_entry (subst (λ (l : List (List ℕ)). BeginsWithOne l (codes "refs/heads/dev-a")) same covers.one))
+not_covered law = (
+  (λ covers. by_cases covers.expansion
+      (λ (x, asked, expands).
+      let of_source = subst (λ (y : List ℕ). Expands y covers.entries) (sym (same_Some (codes "refs/heads/*") x asked.side)) expands in
+      let same = law.expanded covers.entries (codes "refs/heads/" ∷ []) of_source (to_prefix (codes "refs/heads/") below_heads refl) in
+      let begins = of_one (λ entry. BeginsWith entry (codes "refs/tags/v1")) (codes "refs/heads/") (subst (λ (l : List (List ℕ)). BeginsWithOne l (codes "refs/tags/v1")) same covers.one) in
+      begins_not (codes "refs/heads/") (codes "refs/tags/v1") refl begins)
+      (λ (none, same). none (codes "refs/heads/*") (record { positive = tt; side = refl }))),
+  λ covers. by_cases covers.expansion (λ (x, asked, expands). asked.positive)
+      (λ (none, same). let (k, entry, below, is, begins) = subst (λ (l : List (List ℕ)). BeginsWithOne l (codes "refs/heads/dev-a")) same covers.one in omega (arith, below)),
+)
 
 -- the spec index of the branch is in its group
 pub fits : ForwardFits (every ∷ no_dev ∷ []) remote_refs → IndexesFit (every ∷ no_dev ∷ []) (tracked 2 (codes "main") ∷ [])
@@ -357,3 +348,38 @@ fits law = law (tracked 2 (codes "main") ∷ []) fetches_all_but_dev
 -- and so is that of a later mapping
 pub later_fits : (g : List Reading) (items : List Ref) (m n : Mapped) → ForwardFits g items → AreKeptForward g items (m ∷ n ∷ []) → n.spec < length g
 later_fits g items m n law kept = (law (m ∷ n ∷ []) kept).1.0
+
+-- ---- which fetches mean the same, and what a caller concludes from the law on groups of them
+
+abbrev forced : Reading
+forced = fetched Forced (codes "main") None
+
+-- a push, and one with the same meaning and a destination
+abbrev push_main : Reading
+push_main = pushed Normal (Some (codes "main")) None
+
+abbrev push_to_main : Reading
+push_to_main = pushed Normal (Some (codes "main")) (Some (codes "main"))
+
+abbrev every_unforced : Reading
+every_unforced = fetched Normal (codes "refs/heads/*") (Some (codes "refs/remotes/origin/*"))
+
+force_told : (s d : List ℕ) → Some (fetch_and_update s d false) ≡ Some (fetch_and_update s d true) → false ≡ true
+force_told s d same = cc
+
+-- the force of a fetch counts only if it has a destination
+pub same_fetches : FetchTheSame forced short × ¬ (FetchTheSame every_unforced every)
+same_fetches = (record { fetch = refl; same = refl }, λ equal. false≢true (force_told (codes "refs/heads/*") (codes "refs/remotes/origin/*") equal.same))
+
+-- pushes with the same meaning don't count
+pub no_pushes : (meaning_of push_main ≡ meaning_of push_to_main) × ¬ (FetchTheSame push_main push_to_main)
+no_pushes = (refl, λ equal. push_is_none equal.fetch)
+
+-- no push is among fetches, wherever it is
+pub all_fetches : AreFetches (every ∷ no_dev ∷ []) × AreFetches [] × ¬ (AreFetches (push_main ∷ every ∷ [])) × ¬ (AreFetches (every ∷ push_main ∷ []))
+all_fetches = ((refl, (refl, tt)), tt, (λ are. push_is_none are.0), λ are. push_is_none are.1.0)
+
+-- a group maps in both directions as one of equal fetches
+pub equals_mapped : EqualGroups (forced ∷ []) (short ∷ []) (named (codes "refs/heads/main") ∷ []) → (kept : List Mapped)
+    → (AreKeptForward (forced ∷ []) (named (codes "refs/heads/main") ∷ []) kept → AreKeptForward (short ∷ []) (named (codes "refs/heads/main") ∷ []) kept) × AreKeptBackward (forced ∷ []) (named (codes "refs/heads/main") ∷ []) []
+equals_mapped law kept = let alike = law (same_fetches.0, tt) in ((alike.forward kept).0, (alike.backward []).1 tracks_nothing)

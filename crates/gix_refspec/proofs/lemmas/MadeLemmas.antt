@@ -1,7 +1,6 @@
 -- What holds of each element that is made of the elements of a list, or joined of them.
-use Rattle.gix_refspec.proofs.Common.{all_join, ◌≡◌, [], ◌∷◌, ◌++◌, length, refl, sym, subst, arith, map, ◌∙◌, ◌+◌, length-append, append_assoc, slice_get, AllByRecursion, slice_get_within}
-use Rattle.gix_refspec.proofs.Common.{get_or_from_slice_get, All-from_recursion, IsMadeFrom, IsJoinedFrom, ℕ, List, None, Some, Contains}
-use Rattle.std.specs.List as lists
+use Rattle.gix_refspec.proofs.Common.{Any as AnyAt, all_join, ◌≡◌, [], ◌∷◌, ◌++◌, length, refl, sym, subst, arith, map, ◌∙◌, ◌+◌, length-append, append_assoc, slice_get, AllByRecursion}
+use Rattle.gix_refspec.proofs.Common.{slice_get_within, get_or_from_slice_get, All-from_recursion, IsMadeFrom, IsJoinedFrom, ℕ, List, None, Some, Contains}
 use Rattle.gix_refspec_match.proofs.lemmas.lists.SomeLemmas.{Any, some_at, some_of}
 
 -- an element of a list, by index and by recursion
@@ -12,7 +11,7 @@ pub back : {X : Type 0} (ys : List X) (m : X) → Any (λ y. y ≡ m) ys → Con
 back ys m any = let (i, y, below, is, same) = some_at (λ y. y ≡ m) ys any in subst (Contains ys) same (i, below, is)
 
 -- what holds of the element at an index holds of some element
-pub any_at : {X : Type 0} (P : X → Type 0) (xs : List X) (k : ℕ) (x : X) → slice_get xs k ≡ Some x → P x → lists.Any P xs
+pub any_at : {X : Type 0} (P : X → Type 0) (xs : List X) (k : ℕ) (x : X) → slice_get xs k ≡ Some x → P x → AnyAt P xs
 any_at P xs k x is holds = (k, x, slice_get_within xs k x is, get_or_from_slice_get xs k x x is, holds)
 
 -- what holds of all elements holds of the one at an index

@@ -1,12 +1,11 @@
 -- Names are compared by their bytes, specs by their meaning.
-use Rattle.gix_refspec.proofs.Common.{◌↔◌, IsTrue, bstring_bytes, bytes_eq-Decides, Fix, meaning_of, owned_reading_of, IsSameFix, and_parts, and_from}
+use Rattle.gix_refspec.proofs.Common.{MappingWithPartialDestinationRemoved, ◌↔◌, IsTrue, bstring_bytes, bytes_eq-Decides, Fix, meaning_of, owned_reading_of, IsSameFix, and_parts, and_from}
 use Rattle.gix_refspec.specs.contracts.match_group.validate.FixPartialEq.TheImpl.{ghosts}
-use Rattle.gix_refspec.specs.declared.match_group.validate.Fix.TheVariants as fix
 use Rattle.gix_refspec_text.proofs.lemmas.specs.SpecLemmas.{equal_keys}
 use Rattle.gix_refspec.proofs.laws.equal_fixes.Goals as goal
 
 same_fix : (a b : Fix) → IsTrue (ghosts.eq a b) ↔ IsSameFix a b
-same_fix (fix.MappingWithPartialDestinationRemoved n s) (fix.MappingWithPartialDestinationRemoved m t) =
+same_fix (MappingWithPartialDestinationRemoved n s) (MappingWithPartialDestinationRemoved m t) =
     let names = bytes_eq-Decides (bstring_bytes n) (bstring_bytes m) in
     let specs = equal_keys (meaning_of (owned_reading_of s)) (meaning_of (owned_reading_of t)) in (
       (λ told. let both = and_parts _ _ told in record { destination = names.0 both.0; spec = specs.0 both.1 }),

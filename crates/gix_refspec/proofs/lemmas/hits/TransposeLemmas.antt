@@ -1,13 +1,12 @@
 -- The two directions agree: a reading that goes both ways makes the same pair of the one name and of the other. A test
 -- of the sides decides whether a reading goes both ways.
-use Rattle.gix_refspec.proofs.Common.{◌≡◌, ◌⊎◌, inl, inr, ℕ, List, [], ◌∷◌, ◌++◌, codes, Option, None, Some, map, refl, ap, ◌∙◌, subst, AllByRecursion, IsSome, false≢true, RefSpecRef, Lacks}
-use Rattle.gix_refspec.proofs.Common.{BeginsWith, star, HasStar, HasSeveralStars, HasOneStar, IsSplit, Reading, IsAccepted, IsPositive, IsOneStarred, reading_of, SideKind, pattern, full_name, object}
-use Rattle.gix_refspec.proofs.Common.{partial, HasKind, Fits, filled, Ref, MatchesAs, Matches, HasName, Takes, name, Ends, AreForwardEnds, AreBackwardEnds, IsFilled, IsSourceAmong, IsDestinationAmong}
-use Rattle.gix_refspec.proofs.Common.{GoesBothWays, Transpose, true, Bool, IsTrue, ◌↔◌, Source, MakesForward, MakesBackward, PairsItem, id, IsPaired, by_cases}
+use Rattle.gix_refspec.proofs.Common.{Any as AnyAt, ◌≡◌, ◌⊎◌, inl, inr, ℕ, List, [], ◌∷◌, ◌++◌, codes, Option, None, Some, map, refl, ap, ◌∙◌, subst, AllByRecursion, IsSome, false≢true, RefSpecRef}
+use Rattle.gix_refspec.proofs.Common.{Lacks, BeginsWith, star, HasStar, HasSeveralStars, HasOneStar, IsSplit, Reading, IsAccepted, IsPositive, IsOneStarred, reading_of, SideKind, pattern, full_name}
+use Rattle.gix_refspec.proofs.Common.{object, partial, HasKind, Fits, filled, Ref, MatchesAs, Matches, HasName, Takes, name, Ends, AreForwardEnds, AreBackwardEnds, IsFilled, IsSourceAmong}
+use Rattle.gix_refspec.proofs.Common.{IsDestinationAmong, GoesBothWays, Transpose, true, Bool, IsTrue, ◌↔◌, Source, MakesForward, MakesBackward, PairsItem, id, IsPaired, by_cases}
 use Rattle.gix_refspec_text.proofs.lemmas.texts.TextLemmas.{Lacks-ContainsText}
 use Rattle.gix_refspec_text.proofs.lemmas.parsing.DecideLemmas.{FirstIndex, lacks_or_first}
 use Rattle.gix_refspec_text.proofs.lemmas.specs.AcceptedLemmas.{accepted_few, accepted_balanced}
-use Rattle.std.specs.List as lists
 use Rattle.gix_refspec_match.proofs.lemmas.hits.HitLemmas.{one_kind, matches_as, same_side}
 use Rattle.gix_refspec.proofs.lemmas.keep.PairMadeLemmas.{kept_exactly}
 use Rattle.gix_refspec_match.proofs.lemmas.lists.SomeLemmas.{Any, Any-all, Any-both, Any-weaker, some_at, some_of}
@@ -116,7 +115,7 @@ fine_twins r x y fine positive source destination =
     twins x y (accepted_few r x fine.0 (inl source)) (accepted_few r y fine.0 (inr destination)) (accepted_balanced r x y fine.0 source destination) (fine.1 positive x y source destination)
 
 -- a name among the items is that of one of them, and conversely
-name_among : (n : List ℕ) (items : List Ref) (P : Ref → Type 0) → ((i : Ref) → P i → i.name ≡ n) → lists.Any P items → HasName items n
+name_among : (n : List ℕ) (items : List Ref) (P : Ref → Type 0) → ((i : Ref) → P i → i.name ≡ n) → AnyAt P items → HasName items n
 name_among n items P named any = Any-name items (Any-weaker P (λ i. i.name ≡ n) named items (some_of P items any))
   where
     Any-name : (items : List Ref) → Any (λ (i : Ref). i.name ≡ n) items → HasName items n

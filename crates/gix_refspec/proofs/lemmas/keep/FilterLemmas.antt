@@ -205,10 +205,7 @@ head_taken A x item word (full_name n) is there none kind takes = absurd (below_
 head_taken A x item word (object bytes) is there none kind takes = absurd (none bytes kind)
 head_taken A x item word (partial n) is there none kind takes =
     let has : HasName A n = subst (HasName A) (sym (kind.0 ∙ is)) there in
-    first_once A n item.name n (takes.first n kind) (itself n has) ∙ kind.0
-  where
-    itself : (m : List ℕ) → HasName A m → IsFirstCandidate A m m
-    itself m has = record { earlier = []; later = _; here = refl; absent = tt; present = has }
+    first_once A n item.name n (takes.first n kind) (record { earlier = []; later = _; here = refl; absent = tt; present = has }) ∙ kind.0
 
 -- the name of an item that a listed reading takes begins with an entry of its expansion
 listed_covers : (A : List Ref) (r : Reading) (ends : Ends) (item : Ref) (word : Option (List ℕ)) → IsListed A r → AreForwardEnds r ends → Takes A ends.near item word → IsCoveredBy item.name r

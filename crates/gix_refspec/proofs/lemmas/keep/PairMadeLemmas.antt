@@ -1,11 +1,10 @@
 -- A pair is kept exactly if some reading makes it, and none excludes it; and of the mappings with one pair only the
 -- first is kept.
-use Rattle.gix_refspec.proofs.Common.{◌≡◌, ◌⊎◌, inl, inr, ◌↔◌, ℕ, ◌+◌, List, [], ◌∷◌, ◌++◌, Option, None, Some, map, unwrap_or, refl, sym, ap, ◌∙◌, subst, AllByRecursion, First, All, Reading, Ref}
-use Rattle.gix_refspec.proofs.Common.{Matches, Takes, IsMadeFrom, Source, name, id, Mapped, HasPair, IsSourceExcluded, IsKeptAt, AreForwardEnds, AreBackwardEnds, Hit, IsIdMapping, AreForward}
-use Rattle.gix_refspec.proofs.Common.{AreBackward, AreKeptForward, AreKeptBackward, forward_of, backward_of, IsPaired, PairsId, MakesForward, MakesBackward, KeptExactly, NothingExcluded}
+use Rattle.gix_refspec.proofs.Common.{Any as AnyAt, ◌≡◌, ◌⊎◌, inl, inr, ◌↔◌, ℕ, ◌+◌, List, [], ◌∷◌, ◌++◌, Option, None, Some, map, unwrap_or, refl, sym, ap, ◌∙◌, subst, AllByRecursion, First, All}
+use Rattle.gix_refspec.proofs.Common.{Reading, Ref, Matches, Takes, IsMadeFrom, Source, name, id, Mapped, HasPair, IsSourceExcluded, IsKeptAt, AreForwardEnds, AreBackwardEnds, Hit, IsIdMapping}
+use Rattle.gix_refspec.proofs.Common.{AreForward, AreBackward, AreKeptForward, AreKeptBackward, forward_of, backward_of, IsPaired, PairsId, MakesForward, MakesBackward, KeptExactly, NothingExcluded}
 use Rattle.gix_refspec.proofs.Common.{option_to_list, length, take, arith, Contains, IsKept, IsFirstOfPair, FirstStays, drop, slice_get, slice_get_within, get_or_from_slice_get, take-append-drop}
 use Rattle.gix_refspec.proofs.Common.{drop_more, All-from_recursion, All-contains, MakesForwardOf, MakesBackwardOf}
-use Rattle.std.specs.List as lists
 use Rattle.gix_refspec_match.proofs.lemmas.hits.HitLemmas.{id_once, forward_once, backward_once}
 use Rattle.gix_refspec_match.proofs.lemmas.keep.KeptPairLemmas.{IsOfPair, Any-HasPair, HasPair-Any, kept_pairs, Keeps}
 use Rattle.gix_refspec_match.proofs.lemmas.hits.ReachLemmas.{Reaches, reach_hits}
@@ -108,7 +107,7 @@ backward_pairs g items l pair are = (made_backward g items l pair are, λ any. f
 kept_by : (g : List Reading) (l kept : List Mapped) (pair : Mapped) (M : Type 0) → HasPair kept pair ↔ (HasPair l pair × ¬ (IsSourceExcluded g pair.source)) → HasPair l pair ↔ M → HasPair kept pair ↔ (M × ¬ (IsSourceExcluded g pair.source))
 kept_by g l kept pair M stays made = ((λ has. (made.0 (stays.0 has).0, (stays.0 has).1)), (λ both. stays.1 (made.1 both.0, both.1)))
 
-placed : {H : Type 0} (P : Reading → Type 0) (g : List Reading) → H ↔ Any P g → H ↔ lists.Any P g
+placed : {H : Type 0} (P : Reading → Type 0) (g : List Reading) → H ↔ Any P g → H ↔ AnyAt P g
 placed P g is = ((λ h. some_at P g (is.0 h)), (λ any. is.1 (some_of P g any)))
 
 pub kept_exactly : (g : List Reading) (items : List Ref) → KeptExactly g items

@@ -1,11 +1,10 @@
 -- Ref prefixes, for which a server lists each ref that a group of fetches maps: over the items that it lists, the same
 -- pairs are kept.
-use Rattle.gix_refspec.proofs.Common.{joined_next, map_split, map_long, nothing_joined, ◌≡◌, inl, inr, ℕ, suc, ◌+◌, ◌<◌, List, [], ◌∷◌, ◌++◌, Option, None, Some, MatchOption, Vec, Global, length, map}
-use Rattle.gix_refspec.proofs.Common.{take, drop, get_or, refl, sym, ap, ◌∙◌, subst, arith, BString, bstring_bytes, append-nil, get_or-map, length-map, map-append, map_more, recursion_from_All, Fetch}
-use Rattle.gix_refspec.proofs.Common.{RefSpecRef, reading_of, BeginsWith, IsSplit, IsPositive, Reading, SideKind, pattern, full_name, object, partial, HasKind, Ref, Matches, MatchesAs, Takes}
-use Rattle.gix_refspec.proofs.Common.{IsRefPrefix, IsAsked, Source, name, AreForwardEnds, MakesForward, PairsItem, HasNoList, Lists, ListsAs, ListsGroup, ListsSide, Serves, AreFetches, AskedItems}
-use Rattle.gix_refspec.proofs.Common.{TakesItem, by_cases}
-use Rattle.std.specs.List as lists
+use Rattle.gix_refspec.proofs.Common.{Any as AnyAt, joined_next, map_split, map_long, nothing_joined, ◌≡◌, inl, inr, ℕ, suc, ◌+◌, ◌<◌, List, [], ◌∷◌, ◌++◌, Option, None, Some, MatchOption, Vec}
+use Rattle.gix_refspec.proofs.Common.{Global, length, map, take, drop, get_or, refl, sym, ap, ◌∙◌, subst, arith, BString, bstring_bytes, append-nil, get_or-map, length-map, map-append, map_more}
+use Rattle.gix_refspec.proofs.Common.{recursion_from_All, Fetch, RefSpecRef, reading_of, BeginsWith, IsSplit, IsPositive, Reading, SideKind, pattern, full_name, object, partial, HasKind, Ref, Matches}
+use Rattle.gix_refspec.proofs.Common.{MatchesAs, Takes, IsRefPrefix, IsAsked, Source, name, AreForwardEnds, MakesForward, PairsItem, HasNoList, Lists, ListsAs, ListsGroup, ListsSide, Serves}
+use Rattle.gix_refspec.proofs.Common.{AreFetches, AskedItems, TakesItem, by_cases}
 use Rattle.gix_refspec_match.proofs.lemmas.hits.HitLemmas.{one_kind}
 use Rattle.gix_refspec_match.proofs.lemmas.keep.KeptLemmas.{HasPair-from_place}
 use Rattle.gix_refspec.proofs.lemmas.keep.PairMadeLemmas.{kept_exactly}
@@ -55,16 +54,16 @@ reading_serves r items n far list fetch pairs lists =
 -- if the name begins with an entry of the list of each fetch of which P holds, and P holds of one, it begins with an
 -- entry of the list of the group
 group_begins : (P : Reading → Type 0) (n : List ℕ) → ((r : Reading) (list : List (List ℕ)) → r.operation ≡ Fetch → P r → Lists r list → BeginsWithSome n list)
-    → (g : List Reading) (list : List (List ℕ)) → AreFetches g → lists.Any P g → ListsGroup g list → lists.Any (λ p. BeginsWith p n) list
+    → (g : List Reading) (list : List (List ℕ)) → AreFetches g → AnyAt P g → ListsGroup g list → AnyAt (λ p. BeginsWith p n) list
 group_begins P n begins g list fetches any joined =
     some_at (λ p. BeginsWith p n) list (any_joined (λ k r names. Lists r names) (λ p. BeginsWith p n) 0 g list joined (Any-all _ P _ (λ r fetch holds k names told. begins r names fetch holds told) g fetches (some_of P g any)))
 
 pub serves : (g : List Reading) (list : List (List ℕ)) → ListsGroup g list → Serves list g
 serves g list joined fetches items kept are =
-    recursion_from_All (λ m. (n : List ℕ) → m.source ≡ name n → lists.Any (λ p. BeginsWith p n) list) kept (λ k d below n is.
+    recursion_from_All (λ m. (n : List ℕ) → m.source ≡ name n → AnyAt (λ p. BeginsWith p n) list) kept (λ k d below n is.
     let m = get_or kept k d in
     let made = (((kept_exactly g items).forward kept are m).0 (HasPair-from_place kept k d m below (record { source = refl; destination = refl }))).0 in
-    let pairs : lists.Any (MakesForward items (name n) m.destination) g = subst (λ (s : Source). lists.Any (MakesForward items s m.destination) g) is made in
+    let pairs : AnyAt (MakesForward items (name n) m.destination) g = subst (λ (s : Source). AnyAt (MakesForward items s m.destination) g) is made in
     group_begins (MakesForward items (name n) m.destination) n (λ r names fetch makes told. reading_serves r items n m.destination names fetch makes told) g list fetches pairs joined)
 
 pub asked_items : (g : List Reading) (A B : List Ref) → AskedItems g A B

@@ -1,5 +1,5 @@
 -- Both sides of an accepted reading have a star or neither has, and kind, word and id are unique.
-use Rattle.gix_refspec.proofs.Common.{◌⊎◌, inl, inr, ℕ, List, Lacks, star, HasStar, HasSeveralStars, HasOneStar, Reading, IsAccepted}
+use Rattle.gix_refspec.proofs.Common.{◌⊎◌, inl, inr, ℕ, List, Lacks, star, HasStar, HasSeveralStars, HasOneStar, Reading, IsAccepted, by_cases}
 use Rattle.gix_refspec_text.specs.Laws.Sides.{SidesAgree, OneOfEach}
 use Rattle.gix_refspec_text.proofs.lemmas.specs.AcceptedLemmas.{accepted_few, accepted_balanced}
 use Rattle.gix_refspec_match.proofs.lemmas.hits.HitLemmas.{one_kind}
@@ -9,8 +9,7 @@ use Rattle.gix_refspec.proofs.lemmas.hits.TransposeLemmas.{both_or_neither, one_
 
 -- a text without several stars has one or none
 one_or_none : (x : List ℕ) → ¬ (HasSeveralStars x) → Lacks star x ⊎ HasStar x → HasOneStar x ⊎ Lacks star x
-one_or_none x few (inl lacks) = inr lacks
-one_or_none x few (inr has) = inl (one_star x has few)
+one_or_none x few either = by_cases either (λ lacks. inr lacks) (λ has. inl (one_star x has few))
 
 pub sides_agree : (r : Reading) → ∥ IsAccepted r ∥₁ → SidesAgree r
 sides_agree r accepted = record {

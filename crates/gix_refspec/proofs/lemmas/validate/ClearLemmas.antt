@@ -5,7 +5,7 @@ use Rattle.gix_refspec.proofs.Common.{◌++◌, Option, None, Some, codes, get_o
 use Rattle.gix_refspec.proofs.Common.{Lacks, star, is_refused_byte, IsIdText, is_lower_digit, lower_of, Reading, SideKind, pattern, full_name, object, partial, HasKind, filled, Ref, MatchesAs, Takes}
 use Rattle.gix_refspec.proofs.Common.{Mapped, IsKeptAt, AreForwardEnds, AreSpecHits, IsFilled, Hit, IsHit, IsIdMapping, AreKeptForward, forward_of, LacksIn, MappedLacks, NoControlCharacter, SidesLack}
 use Rattle.gix_refspec.proofs.Common.{SourceLacks, same_Some, head, colon, letter, Mode, fetched, Reads, IsNameOrPattern, AreAlike, named_by, Push, Fetch, printed, sign, begins_with_plus, IsPattern}
-use Rattle.gix_refspec.proofs.Common.{IsName, InvalidByte, Normal, Forced, Negative, name}
+use Rattle.gix_refspec.proofs.Common.{IsName, InvalidByte, Normal, Forced, Negative, name, by_cases}
 use Rattle.gix_refspec_text.proofs.lemmas.texts.TextLemmas.{Lacks-from_absent, Lacks-from_indexes}
 use Rattle.gix_refspec_text.proofs.lemmas.texts.ObjectIdLemmas.{lower_of-digits}
 use Rattle.gix_refspec.proofs.lemmas.MadeLemmas.{all_at, each_joined, made_all, map_each, stays_each}
@@ -64,12 +64,10 @@ module _ (b : ℕ) (below : b < 32) (refused : IsTrue (is_refused_byte b)) where
   fetch_lacks Negative s (Some d) t source destination is = absurd (cc)
 
   alike_lack : (s d : List ℕ) → AreAlike s d → Lacks b s × Lacks b d
-  alike_lack s d (inl both) = (name_lacks s both.0, name_lacks d both.1)
-  alike_lack s d (inr both) = (pattern_lacks s both.0, pattern_lacks d both.1)
+  alike_lack s d alike = by_cases alike (λ both. (name_lacks s both.0, name_lacks d both.1)) (λ both. (pattern_lacks s both.0, pattern_lacks d both.1))
 
   either_lacks : (s : List ℕ) → IsNameOrPattern s → Lacks b s
-  either_lacks s (inl named) = name_lacks s named
-  either_lacks s (inr starred) = pattern_lacks s starred
+  either_lacks s either = by_cases either (name_lacks s) (pattern_lacks s)
 
   fetch_not_push : Fetch ≡ Push → ⊥
   fetch_not_push same = cc

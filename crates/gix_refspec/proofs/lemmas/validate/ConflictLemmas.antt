@@ -1,19 +1,17 @@
 -- Conflicts, from sorted updates; and if all destinations differ, nothing is in conflict.
-use Rattle.gix_refspec.proofs.Common.{all_right, all_join, all_weaker, each_mapped, ◌≡◌, ◌⊎◌, inl, inr, ◌↔◌, ℕ, ◌+◌, ◌<◌, ◌≤◌, List, [], ◌∷◌, ◌++◌, Some, option_map, Bool, length, map, take, drop}
-use Rattle.gix_refspec.proofs.Common.{get_or, refl, sym, ap, ◌∙◌, subst, arith, AllByRecursion, AllZip, Contains, slice_get, IsStrictlySortedBy, Less, nat_cmp, slice_cmp, length-map, length-take-le}
-use Rattle.gix_refspec.proofs.Common.{map-append, take-append-drop, take_more, All-from_recursion, Contains-append_left, Contains-push, slice_get-get_or, slice_get-map, slice_get_read}
-use Rattle.gix_refspec.proofs.Common.{slice_get_within, Mapping, NameRef, SourceRef, Update, RefSpecRef, Reading, printed, reading_of, Source, name, id, Mapped, HasPair, mapped_of, name_bytes}
-use Rattle.gix_refspec.proofs.Common.{start_of, IsNameCopy, IsSourceCopy, id_bytes, AreConflicts, Conflict, IndexesFit, IsConflict, HasConflictAt, IsFirstTo, IsTextAt, FlagsDuplicates, IsFlagged}
-use Rattle.gix_refspec.proofs.Common.{AddsConflict, AreUpdates, AreFirstUpdates, AreConflicting, HasUpdate, IsRun, IsFirstAt, IsConflictOf, update_cmp, updated_indexes, by_cases, ◌≢◌, zero, suc}
-use Rattle.gix_refspec.proofs.Common.{Option, None, false, option_to_list, false≢true, get_or-map, get_or_past, bstr_bytes, BStr, bytes_order, equal_texts, all_destinations}
-use Rattle.gix_refspec_match.specs.declared.types.NameRef.TheVariants as name_ref
+use Rattle.gix_refspec.proofs.Common.{not_below_itself, Borrowed, Owned, all_right, all_join, all_weaker, each_mapped, ◌≡◌, ◌⊎◌, inl, inr, ◌↔◌, ℕ, ◌+◌, ◌<◌, ◌≤◌, List, [], ◌∷◌, ◌++◌, Some, option_map}
+use Rattle.gix_refspec.proofs.Common.{Bool, length, map, take, drop, get_or, refl, sym, ap, ◌∙◌, subst, arith, AllByRecursion, AllZip, Contains, slice_get, IsStrictlySortedBy, Less, nat_cmp}
+use Rattle.gix_refspec.proofs.Common.{slice_cmp, length-map, length-take-le, map-append, take-append-drop, take_more, All-from_recursion, Contains-append_left, Contains-push, slice_get-get_or}
+use Rattle.gix_refspec.proofs.Common.{slice_get-map, slice_get_read, slice_get_within, Mapping, NameRef, SourceRef, Update, RefSpecRef, Reading, printed, reading_of, Source, name, id, Mapped, HasPair}
+use Rattle.gix_refspec.proofs.Common.{mapped_of, name_bytes, start_of, IsNameCopy, IsSourceCopy, id_bytes, AreConflicts, Conflict, IndexesFit, IsConflict, HasConflictAt, IsFirstTo, IsTextAt}
+use Rattle.gix_refspec.proofs.Common.{FlagsDuplicates, IsFlagged, AddsConflict, AreUpdates, AreFirstUpdates, AreConflicting, HasUpdate, IsRun, IsFirstAt, IsConflictOf, update_cmp, updated_indexes}
+use Rattle.gix_refspec.proofs.Common.{by_cases, ◌≢◌, zero, suc, Option, None, false, option_to_list, false≢true, get_or-map, get_or_past, bstr_bytes, BStr, bytes_order, equal_texts, all_destinations}
 use Rattle.gix_refspec_match.specs.declared.types.SourceRef.TheVariants as source_ref
 use Rattle.gix_refspec_match.proofs.lemmas.keep.RepeatLemmas.{some_mapping}
 use Rattle.gix_refspec_match.proofs.lemmas.keep.KeptLemmas.{by_pair, duplicate_at}
 use Rattle.gix_refspec.proofs.lemmas.validate.UpdateLemmas.{HasUpdate-cases, HasUpdate-left, HasUpdate-right, later, mapped_at, strict_left, strict_right}
 use Rattle.gix_refspec.proofs.lemmas.validate.FirstLemmas.{Has, Increase, IsOfIndex, contested_from_firsts, made_at_indexes, one_mapping, two_firsts, at_contained}
 use Rattle.std.proofs.lemmas.Slice.Zip.{all_zipped_more}
-use Rattle.gix_refspec_text.proofs.lemmas.lists.OrderLemmas.{not_below_itself}
 
 -- the mappings at the indexes have these sources, and their specs these texts
 pub record AreTold (g : List Reading) (l : List Mapped) (ns : List ℕ) (sources : List Source) (texts : List (List ℕ)) : Type 0 where
@@ -91,10 +89,10 @@ conflict_from_conflicting g l run d sources texts conflicting told to = subst (�
     two (c ∷ y ∷ cs) several up first = contested_from_firsts l x c.index y.index up.0.0 (first c.index (inl refl)) (first y.index (inr (inl refl)))
 
 pub copied_name : (n m : NameRef) → IsNameCopy n m → name_bytes m ≡ name_bytes n
-copied_name (name_ref.Borrowed n) (name_ref.Borrowed m) same = same
-copied_name (name_ref.Borrowed n) (name_ref.Owned m) same = absurd same
-copied_name (name_ref.Owned n) (name_ref.Borrowed m) same = absurd same
-copied_name (name_ref.Owned n) (name_ref.Owned m) same = same
+copied_name (Borrowed n) (Borrowed m) same = same
+copied_name (Borrowed n) (Owned m) same = absurd same
+copied_name (Owned n) (Borrowed m) same = absurd same
+copied_name (Owned n) (Owned m) same = same
 
 -- a copy of a source is the same
 pub copied_source : (a b : SourceRef) → IsSourceCopy a b → start_of b ≡ start_of a

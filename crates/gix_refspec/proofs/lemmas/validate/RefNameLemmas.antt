@@ -38,12 +38,10 @@ copied_mapping m copy is =
 -- ---- names and paths
 
 pub name_of_ref : (n : List ℕ) → IsRefName n → IsName n
-name_of_ref n (inl full) = full.1
-name_of_ref n (inr is) = subst IsName (sym is) IsName-head
+name_of_ref n ref = by_cases ref (λ full. full.1) (λ is. subst IsName (sym is) IsName-head)
 
 pub below_refs : (n : List ℕ) → IsRefName n → BeginsWith (codes "refs/") n ⊎ (n ≡ head)
-below_refs n (inl full) = inl full.0
-below_refs n (inr is) = inr is
+below_refs n ref = by_cases ref (λ full. inl full.0) (λ is. inr is)
 
 -- no component of a name is empty or begins with a dot
 components_fine : (n : List ℕ) → IsName n → (before parts : List (List ℕ)) → ArePartsAt slash (before ++ parts) n → AllByRecursion (λ w. (w ≢ []) × ¬ (BeginsWith (codes ".") w)) parts
