@@ -86,7 +86,7 @@ pub use Rattle.gix_refspec_text.proofs.lemmas.lists.MapLemmas.{each_mapped, one_
 pub use Rattle.gix_refspec_text.proofs.lemmas.lists.EqualLemmas.{same_keys}
 pub use Rattle.gix_refspec_text.proofs.lemmas.lists.OrderLemmas.{not_below_itself}
 pub use Rattle.gix_refspec_match.proofs.lemmas.lists.JoinLemmas.{nothing_made, joined_next, map_split, map_long, nothing_joined, made_more}
-pub use Rattle.gix_refspec_text.proofs.facts.ManualFacts.{named, other_length, Lacks-tested, none_some, IsPattern-tested, no_sign}
+pub use Rattle.gix_refspec_text.proofs.facts.ManualFacts.{some_none, named, other_length, Lacks-tested, none_some, IsPattern-tested, no_sign}
 pub use Rattle.gix_refspec_text.proofs.facts.FitFacts.{blob, dev_ref, every, main_ref, no_dev, short_kind, short_no_id, tag_ref, blob_kind, split_at_end, other_byte, of_element, origin_split, short}
 pub use Rattle.gix_refspec_text.proofs.facts.FitFacts.{push_is_none, below_tags, other_first}
 pub use Rattle.gix_refspec_text.proofs.facts.FaultFacts.{begins_not, no_component}

@@ -151,17 +151,14 @@ pub no_spec_there : (P : Reading → Type 0) → ¬ (AtSpec (every ∷ []) (mapp
 no_spec_there P (r, here, holds) = absurd (cc)
 
 -- the branch begins with an entry of the expansion of its spec, and of its group, whatever the other specs are
-pub covered : Cover (every ∷ no_dev ∷ []) remote_refs → IsCoveredBy (codes "refs/heads/main") every
-covered law =
-    let (r, here, covers) = (law (tracked 2 (codes "main") ∷ []) fetches_all_but_dev).0 (codes "refs/heads/main") refl in
-    let same : every ≡ r = same_Some every r here in
-    subst (IsCoveredBy (codes "refs/heads/main")) (sym same) (covers (subst (λ (q : Reading). AsksFor q (codes "refs/heads/main")) same (inl every_covering)))
-
 pub covered_among_others : (others : List Reading) (kept : List Mapped) → Cover (every ∷ others) remote_refs → AreKeptForward (every ∷ others) remote_refs (tracked 2 (codes "main") ∷ kept) → IsCoveredBy (codes "refs/heads/main") every
 covered_among_others others kept law are =
     let (r, here, covers) = (law (tracked 2 (codes "main") ∷ kept) are).0 (codes "refs/heads/main") refl in
     let same : every ≡ r = same_Some every r here in
     subst (IsCoveredBy (codes "refs/heads/main")) (sym same) (covers (subst (λ (q : Reading). AsksFor q (codes "refs/heads/main")) same (inl every_covering)))
+
+pub covered : Cover (every ∷ no_dev ∷ []) remote_refs → IsCoveredBy (codes "refs/heads/main") every
+covered law = covered_among_others (no_dev ∷ []) [] law fetches_all_but_dev
 
 pub covered_together : CoverTogether (every ∷ no_dev ∷ []) remote_refs → (entries : List (List ℕ)) → AreExpansions (every ∷ no_dev ∷ []) entries → BeginsWithOne entries (codes "refs/heads/main")
 covered_together law entries are =

@@ -2,14 +2,15 @@
 -- of the sides decides whether a reading goes both ways.
 use Rattle.gix_refspec.proofs.Common.{Any as AnyAt, ◌≡◌, ◌⊎◌, inl, inr, ℕ, List, [], ◌∷◌, ◌++◌, codes, Option, None, Some, map, refl, ap, ◌∙◌, subst, AllByRecursion, IsSome, false≢true, RefSpecRef}
 use Rattle.gix_refspec.proofs.Common.{Lacks, BeginsWith, star, HasStar, HasSeveralStars, HasOneStar, IsSplit, Reading, IsAccepted, IsPositive, IsOneStarred, reading_of, SideKind, pattern, full_name}
-use Rattle.gix_refspec.proofs.Common.{object, partial, HasKind, Fits, filled, Ref, MatchesAs, Matches, HasName, Takes, name, Ends, AreForwardEnds, AreBackwardEnds, IsFilled, IsSourceAmong}
+use Rattle.gix_refspec.proofs.Common.{object, partial, HasKind, Fits, filled, Ref, MatchesAs, Matches, HasName, Takes, name, AreForwardEnds, AreBackwardEnds, IsFilled, IsSourceAmong}
 use Rattle.gix_refspec.proofs.Common.{IsDestinationAmong, GoesBothWays, Transpose, true, Bool, IsTrue, ◌↔◌, Source, MakesForward, MakesBackward, PairsItem, id, IsPaired, by_cases}
 use Rattle.gix_refspec_text.proofs.lemmas.texts.TextLemmas.{Lacks-ContainsText}
 use Rattle.gix_refspec_text.proofs.lemmas.parsing.DecideLemmas.{FirstIndex, lacks_or_first}
 use Rattle.gix_refspec_text.proofs.lemmas.specs.AcceptedLemmas.{accepted_few, accepted_balanced}
 use Rattle.gix_refspec_match.proofs.lemmas.hits.HitLemmas.{one_kind, matches_as, same_side}
+use Rattle.gix_refspec.proofs.lemmas.keep.FilterLemmas.{item_named, name_there}
 use Rattle.gix_refspec.proofs.lemmas.keep.PairMadeLemmas.{kept_exactly}
-use Rattle.gix_refspec_match.proofs.lemmas.lists.SomeLemmas.{Any, Any-all, Any-both, Any-weaker, some_at, some_of}
+use Rattle.gix_refspec_match.proofs.lemmas.lists.SomeLemmas.{Any-all, Any-both, some_at, some_of}
 
 -- ---- two sides
 
@@ -114,19 +115,9 @@ fine_twins : (r : Reading) (x y : List ℕ) → IsFine r → IsPositive r.mode �
 fine_twins r x y fine positive source destination =
     twins x y (accepted_few r x fine.0 (inl source)) (accepted_few r y fine.0 (inr destination)) (accepted_balanced r x y fine.0 source destination) (fine.1 positive x y source destination)
 
--- a name among the items is that of one of them, and conversely
+-- an item of which a fact gives the name has that name
 name_among : (n : List ℕ) (items : List Ref) (P : Ref → Type 0) → ((i : Ref) → P i → i.name ≡ n) → AnyAt P items → HasName items n
-name_among n items P named any = Any-name items (Any-weaker P (λ i. i.name ≡ n) named items (some_of P items any))
-  where
-    Any-name : (items : List Ref) → Any (λ (i : Ref). i.name ≡ n) items → HasName items n
-    Any-name [] any = absurd any
-    Any-name (i ∷ items) (inl here) = inl here
-    Any-name (i ∷ items) (inr later) = inr (Any-name items later)
-
-named_item : (items : List Ref) (n : List ℕ) → HasName items n → Any (λ (i : Ref). i.name ≡ n) items
-named_item [] n has = absurd has
-named_item (i ∷ items) n (inl same) = inl same
-named_item (i ∷ items) n (inr has) = inr (named_item items n has)
+name_among n items P named (k, i, below, at, holds) = subst (HasName items) (named i holds) (name_there items i (k, below, at))
 
 -- a side that becomes a name is present
 far_there : (far : Option (List ℕ)) (word : Option (List ℕ)) (m : List ℕ) → IsFilled far word (Some m) → (y : List ℕ) × (far ≡ Some y)
@@ -155,14 +146,12 @@ forward_carries A n m r fine makes =
 carries_forward : (A : List Ref) (n m : List ℕ) (r : Reading) → HasName A n → Carries r n m → PairsItem AreForwardEnds (Takes A) A n (Some m) r
 carries_forward A n m r from c =
     let twin = mirrored_twins c.left c.right n m c.mirrored in
-    let ends : Ends = record { near = c.left; far = Some c.right } in
-    let of_item : (i : Ref) → i.name ≡ n → IsPaired (Takes A) ends n (Some m) i = λ i same.
+    let (i, (k, below, at), same) = item_named A n from in
     let taken = mirrored_taken c.left c.right n m i c.mirrored same in
-    record { word = taken.0; name = same; takes = record { matches = taken.1; first = λ x kind. absurd (no_partial c.left c.right x twin kind) }; becomes = taken.2 } in
     record {
-      ends = ends;
+      ends = record { near = c.left; far = Some c.right };
       has = record { positive = c.positive; near = c.source; far = c.destination; no_object = λ bytes. no_object c.left c.right bytes twin };
-      one = some_at (IsPaired (Takes A) ends n (Some m)) A (Any-weaker _ _ of_item A (named_item A n from));
+      one = (k, i, below, at, record { word = taken.0; name = same; takes = record { matches = taken.1; first = λ x kind. absurd (no_partial c.left c.right x twin kind) }; becomes = taken.2 });
     }
 
 backward_carries : (B : List Ref) (n m : List ℕ) (r : Reading) → IsFine r → PairsItem AreBackwardEnds Matches B m (Some n) r → Carries r n m
@@ -183,14 +172,12 @@ backward_carries B n m r fine makes =
 
 carries_backward : (B : List Ref) (n m : List ℕ) (r : Reading) → HasName B m → Carries r n m → PairsItem AreBackwardEnds Matches B m (Some n) r
 carries_backward B n m r to c =
-    let ends : Ends = record { near = c.right; far = Some c.left } in
-    let of_item : (i : Ref) → i.name ≡ m → IsPaired Matches ends m (Some n) i = λ i same.
+    let (i, (k, below, at), same) = item_named B m to in
     let taken = mirrored_taken c.right c.left m n i (mirrored_back c.left c.right n m c.mirrored) same in
-    record { word = taken.0; name = same; takes = taken.1; becomes = taken.2 } in
     record {
-      ends = ends;
+      ends = record { near = c.right; far = Some c.left };
       has = record { positive = c.positive; near = c.destination; far = c.source; both = refl };
-      one = some_at (IsPaired Matches ends m (Some n)) B (Any-weaker _ _ of_item B (named_item B m to));
+      one = (k, i, below, at, record { word = taken.0; name = same; takes = taken.1; becomes = taken.2 });
     }
 
 -- ---- both directions
@@ -241,10 +228,7 @@ goes_by_star r s accepted source has = ((λ _ _ x y is_x is_y. inl (has_star x i
     has_star x is_x = subst HasStar (same_side r.source s x source is_x) has
 
     other : (x y : List ℕ) → r.source ≡ Some x → r.destination ≡ Some y → HasStar y
-    other x y is_x is_y = elim (starred y) [
-      | inr too ↦ too
-      | inl lacks ↦ absurd (accepted_balanced r x y accepted is_x is_y (inl (has_star x is_x, lacks)))
-    ]
+    other x y is_x is_y = by_cases (starred y) (λ lacks. absurd (accepted_balanced r x y accepted is_x is_y (inl (has_star x is_x, lacks)))) (λ too. too)
 
 -- if it has none, both sides have to begin `refs/`
 pub goes_below_refs : (r : Reading) (s d : List ℕ) (told : Bool) → IsPositive r.mode → r.source ≡ Some s → r.destination ≡ Some d → Lacks star s → IsTrue told ↔ (BeginsWith (codes "refs/") s × BeginsWith (codes "refs/") d) → IsTrue told ↔ GoesBothWays r

@@ -75,12 +75,12 @@ filtered_by_entries g items some entries are is =
 -- ---- names and items
 
 -- a name among the items is that of some item
-item_named : (items : List Ref) (n : List ℕ) → HasName items n → (item : Ref) × Contains items item × (item.name ≡ n)
+pub item_named : (items : List Ref) (n : List ℕ) → HasName items n → (item : Ref) × Contains items item × (item.name ≡ n)
 item_named [] n has = absurd has
 item_named (r ∷ items) n (inl same) = (r, (0, omega arith, refl), same)
 item_named (r ∷ items) n (inr later) = let (item, (k, below, is), same) = item_named items n later in (item, (suc k, omega (arith, below), is), same)
 
-name_there : (items : List Ref) (item : Ref) → Contains items item → HasName items item.name
+pub name_there : (items : List Ref) (item : Ref) → Contains items item → HasName items item.name
 name_there [] item (k, below, is) = absurd (omega (arith, below))
 name_there (r ∷ items) item (zero, below, is) = inl (ap (λ (x : Ref). x.name) is)
 name_there (r ∷ items) item (suc k, below, is) = inr (name_there items item (k, omega (arith, below), is))

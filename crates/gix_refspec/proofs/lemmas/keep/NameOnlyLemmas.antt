@@ -68,18 +68,21 @@ named_zip [] (b ∷ B) same = absurd (no_name b B same)
 named_zip (a ∷ A) [] same = absurd (no_name a A (sym same))
 named_zip (a ∷ A) (b ∷ B) same = let first = first_name a b A B same in (first.0, named_zip A B first.1)
 
--- a spec takes the same refs
-spec_also : (A B : List Ref) (k : ℕ) (r : Reading) (hits : List Hit) → HaveSameNames A B → AreSpecHits AreForwardEnds (Takes A) A k r hits → AreSpecHits AreForwardEnds (Takes B) B k r hits
-spec_also A B k r hits same (inl (ends, has, made)) = inl (
+-- a spec whose side takes refs by their names takes the same refs
+spec_zip : (HasEnds : Reading → Ends → Type 0) (T U : List ℕ → Ref → Option (List ℕ) → Type 0) (A B : List Ref) (k : ℕ) (r : Reading) (hits : List Hit) → HaveSameNames A B
+    → ((ends : Ends) (a b : Ref) (word : Option (List ℕ)) → HasEnds r ends → a.name ≡ b.name → (T ends.near a word → U ends.near b word) × (U ends.near b word → T ends.near a word))
+    → AreSpecHits HasEnds T A k r hits → AreSpecHits HasEnds U B k r hits
+spec_zip HasEnds T U A B k r hits same also (inl (ends, has, made)) = inl (
   ends,
   has,
-  made_zip (λ a b. a.name ≡ b.name) (IsHit (Takes A) ends k) (IsHit (Takes B) ends k)
-      (λ j a b hit named. (
-        hit_also (Takes A) (Takes B) ends k j a b hit (λ word. takes_also A B ends a b word same named has.no_object) named,
-        hit_also (Takes B) (Takes A) ends k j b a hit (λ word. takes_also B A ends b a word (sym same) (sym named) has.no_object) (sym named),
-      )) 0 A B hits (named_zip A B same) made,
+  made_zip (λ a b. a.name ≡ b.name) (IsHit T ends k) (IsHit U ends k)
+      (λ j a b hit named. (hit_also T U ends k j a b hit (λ word. (also ends a b word has named).0) named, hit_also U T ends k j b a hit (λ word. (also ends a b word has named).1) (sym named))) 0 A B hits (named_zip A B same) made,
 )
-spec_also A B k r hits same (inr none) = inr none
+spec_zip HasEnds T U A B k r hits same also (inr none) = inr none
+
+spec_also : (A B : List Ref) (k : ℕ) (r : Reading) (hits : List Hit) → HaveSameNames A B → AreSpecHits AreForwardEnds (Takes A) A k r hits → AreSpecHits AreForwardEnds (Takes B) B k r hits
+spec_also A B k r hits same =
+    spec_zip AreForwardEnds (Takes A) (Takes B) A B k r hits same (λ ends a b word has named. (takes_also A B ends a b word same named has.no_object, takes_also B A ends b a word (sym same) (sym named) has.no_object))
 
 joined_also : (A B : List Ref) (k : ℕ) (g : List Reading) (hits : List Hit) → HaveSameNames A B → IsJoinedFrom (AreSpecHits AreForwardEnds (Takes A) A) k g hits → IsJoinedFrom (AreSpecHits AreForwardEnds (Takes B) B) k g hits
 joined_also A B k [] hits same joined = joined
@@ -90,16 +93,8 @@ no_object : (r : Reading) (ends : Ends) → ¬ (HasIdDestination r) → AreBackw
 no_object r ends none has id is = none (ends.near, has.near, (id, is.2))
 
 spec_back : (A B : List Ref) (k : ℕ) (r : Reading) (hits : List Hit) → ¬ (HasIdDestination r) → HaveSameNames A B → AreSpecHits AreBackwardEnds Matches A k r hits → AreSpecHits AreBackwardEnds Matches B k r hits
-spec_back A B k r hits none same (inl (ends, has, made)) = inl (
-  ends,
-  has,
-  made_zip (λ a b. a.name ≡ b.name) (IsHit Matches ends k) (IsHit Matches ends k)
-      (λ j a b hit named. (
-        hit_also Matches Matches ends k j a b hit (λ word. matches_by_name ends a b word named (no_object r ends none has)) named,
-        hit_also Matches Matches ends k j b a hit (λ word. matches_by_name ends b a word (sym named) (no_object r ends none has)) (sym named),
-      )) 0 A B hits (named_zip A B same) made,
-)
-spec_back A B k r hits none same (inr no_ends) = inr no_ends
+spec_back A B k r hits none same =
+    spec_zip AreBackwardEnds Matches Matches A B k r hits same (λ ends a b word has named. (matches_by_name ends a b word named (no_object r ends none has), matches_by_name ends b a word (sym named) (no_object r ends none has)))
 
 joined_back : (A B : List Ref) (k : ℕ) (g : List Reading) (hits : List Hit) → AsksForNoId g → HaveSameNames A B → IsJoinedFrom (AreSpecHits AreBackwardEnds Matches A) k g hits → IsJoinedFrom (AreSpecHits AreBackwardEnds Matches B) k g hits
 joined_back A B k [] hits none same joined = joined

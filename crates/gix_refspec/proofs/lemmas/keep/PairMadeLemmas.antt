@@ -1,10 +1,10 @@
 -- A pair is kept exactly if some reading makes it, and none excludes it; and of the mappings with one pair only the
 -- first is kept.
-use Rattle.gix_refspec.proofs.Common.{Any as AnyAt, ◌≡◌, ◌⊎◌, inl, inr, ◌↔◌, ℕ, ◌+◌, List, [], ◌∷◌, ◌++◌, Option, None, Some, map, unwrap_or, refl, sym, ap, ◌∙◌, subst, AllByRecursion, First, All}
-use Rattle.gix_refspec.proofs.Common.{Reading, Ref, Matches, Takes, IsMadeFrom, Source, name, id, Mapped, HasPair, IsSourceExcluded, IsKeptAt, AreForwardEnds, AreBackwardEnds, Hit, IsIdMapping}
-use Rattle.gix_refspec.proofs.Common.{AreForward, AreBackward, AreKeptForward, AreKeptBackward, forward_of, backward_of, IsPaired, PairsId, MakesForward, MakesBackward, KeptExactly, NothingExcluded}
-use Rattle.gix_refspec.proofs.Common.{option_to_list, length, take, arith, Contains, IsKept, IsFirstOfPair, FirstStays, drop, slice_get, slice_get_within, get_or_from_slice_get, take-append-drop}
-use Rattle.gix_refspec.proofs.Common.{drop_more, All-from_recursion, All-contains, MakesForwardOf, MakesBackwardOf}
+use Rattle.gix_refspec.proofs.Common.{Any as AnyAt, ◌≡◌, inl, ◌↔◌, ℕ, ◌+◌, List, [], ◌∷◌, ◌++◌, Option, None, Some, map, unwrap_or, refl, sym, ap, ◌∙◌, subst, AllByRecursion, First, All, Reading, Ref}
+use Rattle.gix_refspec.proofs.Common.{Matches, Takes, IsMadeFrom, Source, name, id, Mapped, HasPair, IsSourceExcluded, IsKeptAt, AreForwardEnds, AreBackwardEnds, Hit, IsIdMapping, AreForward}
+use Rattle.gix_refspec.proofs.Common.{AreBackward, forward_of, backward_of, IsPaired, PairsId, MakesForward, MakesBackward, KeptExactly, NothingExcluded, option_to_list, length, take, arith, Contains}
+use Rattle.gix_refspec.proofs.Common.{IsKept, IsFirstOfPair, FirstStays, drop, slice_get, slice_get_within, get_or_from_slice_get, take-append-drop, drop_more, All-from_recursion, All-contains}
+use Rattle.gix_refspec.proofs.Common.{MakesForwardOf, MakesBackwardOf, by_cases}
 use Rattle.gix_refspec_match.proofs.lemmas.hits.HitLemmas.{id_once, forward_once, backward_once}
 use Rattle.gix_refspec_match.proofs.lemmas.keep.KeptPairLemmas.{IsOfPair, Any-HasPair, HasPair-Any, kept_pairs, Keeps}
 use Rattle.gix_refspec_match.proofs.lemmas.hits.ReachLemmas.{Reaches, reach_hits}
@@ -116,20 +116,14 @@ kept_exactly g items = record {
   backward = λ kept are pair. kept_by g are.all kept pair _ (kept_pairs g are.all kept pair are.is) (placed (MakesBackward items pair.source pair.destination) g (backward_pairs g items are.all pair are.backward));
 }
 
-included : (g : List Reading) (l : List Mapped) (k : ℕ) (xs ys : List Mapped) → IsMadeFrom (λ j m made. (made ≡ m) × IsKeptAt g l j m) k xs ys → AllByRecursion (λ y. ¬ (IsSourceExcluded g y.source)) ys
-included g l k [] ys empty = subst (AllByRecursion (λ y. ¬ (IsSourceExcluded g y.source))) (sym empty) tt
-included g l k (x ∷ xs) ys (None, rest, none, more, is) = subst (AllByRecursion (λ y. ¬ (IsSourceExcluded g y.source))) (sym is) (included g l (k + 1) xs rest more)
-included g l k (x ∷ xs) ys (Some y, rest, stays, more, is) = subst (AllByRecursion (λ y. ¬ (IsSourceExcluded g y.source))) (sym is) (
-  subst (λ (z : Mapped). ¬ (IsSourceExcluded g z.source)) (sym stays.0) stays.1.included,
-  included g l (k + 1) xs rest more,
-)
+included : (g : List Reading) (l list : List Mapped) → IsKept g l list → AllByRecursion (λ m. ¬ (IsSourceExcluded g m.source)) list
+included g l list is = each_made (Keeps g l) (λ m. ¬ (IsSourceExcluded g m.source)) l list (λ k x y stands keeps. subst (λ (z : Mapped). ¬ (IsSourceExcluded g z.source)) (sym keeps.0) keeps.1.included) is
 
 pub nothing_excluded : (g : List Reading) (items : List Ref) → NothingExcluded g items
-nothing_excluded g items = record { names = both; ids = λ bytes excluded. excluded }
-  where
-    both : (list : List Mapped) → AreKeptForward g items list ⊎ AreKeptBackward g items list → AllByRecursion (λ m. ¬ (IsSourceExcluded g m.source)) list
-    both list (inl are) = included g are.all 0 are.all list are.is
-    both list (inr are) = included g are.all 0 are.all list are.is
+nothing_excluded g items = record {
+  names = λ list either. by_cases either (λ are. included g are.all list are.is) (λ are. included g are.all list are.is);
+  ids = λ bytes excluded. excluded;
+}
 
 -- ---- the first of its pair
 

@@ -115,9 +115,7 @@ none_at specs i spec below is none = (i, reading_of spec, omega (arith, below, l
 
 -- a missing list, and a present one
 pub missing_list : (r : Reading) (asked : Option (Vec BString Global)) → asked ≡ None → MatchOption asked ((list : List (List ℕ)) → ¬ (Lists r list)) (λ v. Lists r (map bstring_bytes v.items)) → (list : List (List ℕ)) → ¬ (Lists r list)
-missing_list r None none told = told
-missing_list r (Some v) none told = absurd (cc)
+missing_list r asked none told = rw none at told
 
 pub given_list : (r : Reading) (asked : Option (Vec BString Global)) (v : Vec BString Global) → asked ≡ Some v → MatchOption asked ((list : List (List ℕ)) → ¬ (Lists r list)) (λ w. Lists r (map bstring_bytes w.items)) → Lists r (map bstring_bytes v.items)
-given_list r None v some told = absurd (cc)
-given_list r (Some w) v some told = let same : w ≡ v = cc in subst (λ (u : Vec BString Global). Lists r (map bstring_bytes u.items)) same told
+given_list r asked v some told = rw some at told

@@ -1,8 +1,8 @@
 -- Texts of plain components have no fault: each fault is an empty component or has a special byte other than a slash.
-use Rattle.gix_refspec.proofs.Common.{no_component, all_join, ◌≡◌, ◌≢◌, ◌⊎◌, inl, inr, ℕ, Bool, true, false, not, ◌==◌, List, [], ◌∷◌, ◌++◌, codes, refl, sym, ap, ◌∙◌, subst, append_assoc, arith}
-use Rattle.gix_refspec.proofs.Common.{AllByRecursion, join_with_byte, list_all, list_any, slice_split, and_parts, false≢true, or_left, or_parts, true≢false, Empty, EmptyComponent, StartsWithDot}
-use Rattle.gix_refspec.proofs.Common.{LockSuffix, EndsWithDot, RepeatedDot, ReflogPortion, Asterisk, InvalidByte, at, brace, dot, slash, star, BeginsWith, EndsWith, is_refused_byte, HasFault}
-use Rattle.gix_refspec.proofs.Common.{SomeComponent, is_plain_component, is_plain_name, is_special_byte, PlainNames, by_cases}
+use Rattle.gix_refspec.proofs.Common.{no_component, all_join, ◌≡◌, ◌≢◌, ◌⊎◌, inl, inr, ℕ, true, false, ◌==◌, List, [], ◌∷◌, ◌++◌, codes, refl, sym, ap, ◌∙◌, subst, append_assoc, arith, AllByRecursion}
+use Rattle.gix_refspec.proofs.Common.{join_with_byte, list_all, list_any, slice_split, and_parts, false≢true, or_left, or_parts, true≢false, Empty, EmptyComponent, StartsWithDot, LockSuffix}
+use Rattle.gix_refspec.proofs.Common.{EndsWithDot, RepeatedDot, ReflogPortion, Asterisk, InvalidByte, at, brace, dot, slash, star, BeginsWith, EndsWith, is_refused_byte, HasFault, SomeComponent}
+use Rattle.gix_refspec.proofs.Common.{is_plain_component, is_plain_name, is_special_byte, PlainNames, by_cases, not-true}
 use Rattle.std.proofs.lemmas.List.Splits.{join_with_byte-slice_split}
 use Rattle.gix_refspec_text.specs.declared.name.Error.{Error}
 use Rattle.gix_refspec_text.proofs.lemmas.texts.ComponentLemmas.{AllByRecursion-parts}
@@ -20,11 +20,7 @@ fine_bytes (b ∷ w) none = let parts = or_parts (is_special_byte b) (list_any i
 
 none_special : (w : List ℕ) → is_plain_component w ≡ true → AllByRecursion Fine w
 none_special [] plain = absurd (false≢true plain)
-none_special (b ∷ w) plain = fine_bytes (b ∷ w) (unless_true (list_any is_special_byte (b ∷ w)) plain)
-  where
-    unless_true : (v : Bool) → not v ≡ true → v ≡ false
-    unless_true true no_v = absurd (false≢true no_v)
-    unless_true false no_v = refl
+none_special (b ∷ w) plain = fine_bytes (b ∷ w) (not-true (list_any is_special_byte (b ∷ w)) plain)
 
 -- no byte of plain components joined by slashes is special, except for the slashes
 joined_fine : (parts : List (List ℕ)) → list_all is_plain_component parts ≡ true → AllByRecursion Fine (join_with_byte slash parts)

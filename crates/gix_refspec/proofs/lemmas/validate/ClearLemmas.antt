@@ -4,8 +4,8 @@ use Rattle.gix_refspec.proofs.Common.{deletes, pushes_pattern, pushes_to, push_e
 use Rattle.gix_refspec.proofs.Common.{◌++◌, Option, None, Some, codes, get_or, map, sym, ap, ◌∙◌, subst, nat_eq, arith, AllByRecursion, list_any, starts_with, eqb-true, false≢true, lt-leb, lt-ltb}
 use Rattle.gix_refspec.proofs.Common.{Lacks, star, is_refused_byte, IsIdText, is_lower_digit, lower_of, Reading, SideKind, pattern, full_name, object, partial, HasKind, filled, Ref, MatchesAs, Takes}
 use Rattle.gix_refspec.proofs.Common.{Mapped, IsKeptAt, AreForwardEnds, AreSpecHits, IsFilled, Hit, IsHit, IsIdMapping, AreKeptForward, forward_of, LacksIn, MappedLacks, NoControlCharacter, SidesLack}
-use Rattle.gix_refspec.proofs.Common.{SourceLacks, same_Some, head, colon, letter, Mode, fetched, Reads, IsNameOrPattern, AreAlike, named_by, Push, Fetch, printed, sign, begins_with_plus, IsPattern}
-use Rattle.gix_refspec.proofs.Common.{IsName, InvalidByte, Normal, Forced, Negative, name, by_cases}
+use Rattle.gix_refspec.proofs.Common.{SourceLacks, same_Some, head, colon, letter, Mode, fetched, Reads, IsNameOrPattern, AreAlike, named_by, Fetch, printed, sign, begins_with_plus, IsPattern, IsName}
+use Rattle.gix_refspec.proofs.Common.{InvalidByte, Normal, Forced, Negative, by_cases, some_none, push_is_none}
 use Rattle.gix_refspec_text.proofs.lemmas.texts.TextLemmas.{Lacks-from_absent, Lacks-from_indexes}
 use Rattle.gix_refspec_text.proofs.lemmas.texts.ObjectIdLemmas.{lower_of-digits}
 use Rattle.gix_refspec.proofs.lemmas.MadeLemmas.{all_at, each_joined, made_all, map_each, stays_each}
@@ -69,9 +69,6 @@ module _ (b : ℕ) (below : b < 32) (refused : IsTrue (is_refused_byte b)) where
   either_lacks : (s : List ℕ) → IsNameOrPattern s → Lacks b s
   either_lacks s either = by_cases either (name_lacks s) (pattern_lacks s)
 
-  fetch_not_push : Fetch ≡ Push → ⊥
-  fetch_not_push same = cc
-
   clear : (mode : Mode) (s : List ℕ) (d : Option (List ℕ)) (r : Reading) → Lacks b s → LacksIn b d → r ≡ fetched mode s d → IsClearFetch b r
   clear mode s d r first last is = record { mode = mode; source = s; destination = d; first = first; last = last; is = is }
 
@@ -82,13 +79,13 @@ module _ (b : ℕ) (below : b < 32) (refused : IsTrue (is_refused_byte b)) where
   clear_fetch text r (updates mode s d op positive parts alike is) = let lack = alike_lack s d alike in clear mode (named_by s) (Some d) r (named_lacks s lack.0) lack.1 is
   clear_fetch text r (updates_from_head mode d op positive parts named is) = clear mode head (Some d) r head_lacks (name_lacks d named) is
   clear_fetch text r (fetch_excludes s op parts either unlike is) = clear Negative (named_by s) None r (named_lacks s (either_lacks s either)) tt is
-  clear_fetch text r (pushes_plus op parts is) = absurd (fetch_not_push op)
-  clear_fetch text r (pushes_colon mode op positive parts is) = absurd (fetch_not_push op)
-  clear_fetch text r (pushes mode s op positive parts either is) = absurd (fetch_not_push op)
-  clear_fetch text r (deletes mode d op positive parts named is) = absurd (fetch_not_push op)
-  clear_fetch text r (pushes_pattern mode s d op positive parts source destination is) = absurd (fetch_not_push op)
-  clear_fetch text r (pushes_to mode s d op positive parts full lacks named is) = absurd (fetch_not_push op)
-  clear_fetch text r (push_excludes s op parts either unlike is) = absurd (fetch_not_push op)
+  clear_fetch text r (pushes_plus op parts is) = absurd (push_is_none (sym op))
+  clear_fetch text r (pushes_colon mode op positive parts is) = absurd (push_is_none (sym op))
+  clear_fetch text r (pushes mode s op positive parts either is) = absurd (push_is_none (sym op))
+  clear_fetch text r (deletes mode d op positive parts named is) = absurd (push_is_none (sym op))
+  clear_fetch text r (pushes_pattern mode s d op positive parts source destination is) = absurd (push_is_none (sym op))
+  clear_fetch text r (pushes_to mode s d op positive parts full lacks named is) = absurd (push_is_none (sym op))
+  clear_fetch text r (push_excludes s op parts either unlike is) = absurd (push_is_none (sym op))
 
   -- nor do the sides of fetches, and their canonical texts
   sides_lack : (text : List ℕ) (r : Reading) → Reads Fetch text r → SidesLack b r
@@ -132,9 +129,6 @@ module _ (b : ℕ) (below : b < 32) (no_digit : is_lower_digit b ≡ false) wher
   filled_lacks x (full_name n) word has lacks clear = subst (Lacks b) (sym has.0) lacks
   filled_lacks x (object i) word has lacks clear = all_join (λ c. c ≢ b) (codes "refs/heads/") (lower_of i) branch_lacks (lower_lacks x i has.2)
   filled_lacks x (partial n) word has lacks clear = chosen_lacks (starts_with nat_eq n (codes "tags/") || starts_with nat_eq n (codes "remotes/")) n (subst (Lacks b) (sym has.0) lacks)
-
-  some_none : (w : List ℕ) → Some w ≡ None → ⊥
-  some_none w same = cc
 
   word_lacks : (kind : SideKind) (r : Ref) (word : Option (List ℕ)) → MatchesAs kind r word → Lacks b r.name → LacksIn b word
   word_lacks kind r None is lacks = tt

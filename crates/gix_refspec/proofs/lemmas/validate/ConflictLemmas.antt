@@ -6,6 +6,7 @@ use Rattle.gix_refspec.proofs.Common.{slice_get-map, slice_get_read, slice_get_w
 use Rattle.gix_refspec.proofs.Common.{mapped_of, name_bytes, start_of, IsNameCopy, IsSourceCopy, id_bytes, AreConflicts, Conflict, IndexesFit, IsConflict, HasConflictAt, IsFirstTo, IsTextAt}
 use Rattle.gix_refspec.proofs.Common.{FlagsDuplicates, IsFlagged, AddsConflict, AreUpdates, AreFirstUpdates, AreConflicting, HasUpdate, IsRun, IsFirstAt, IsConflictOf, update_cmp, updated_indexes}
 use Rattle.gix_refspec.proofs.Common.{by_cases, ◌≢◌, zero, suc, Option, None, false, option_to_list, false≢true, get_or-map, get_or_past, bstr_bytes, BStr, bytes_order, equal_texts, all_destinations}
+use Rattle.gix_refspec.proofs.Common.{recursion_from_All}
 use Rattle.gix_refspec_match.specs.declared.types.SourceRef.TheVariants as source_ref
 use Rattle.gix_refspec_match.proofs.lemmas.keep.RepeatLemmas.{some_mapping}
 use Rattle.gix_refspec_match.proofs.lemmas.keep.KeptLemmas.{by_pair, duplicate_at}
@@ -34,13 +35,11 @@ indexes_rise x (c ∷ cs) same strict = (each cs same.1 strict.0, indexes_rise x
   where
     each : (ys : List Update) → AllByRecursion (λ y. y.destination.now ≡ x) ys → AllByRecursion (λ y. update_cmp c y ≡ Less) ys → AllByRecursion (λ n. c.index < n) (updated_indexes ys)
     each [] same2 less = tt
-    each (y ∷ ys) same2 less = (one y same2.0 less.0, each ys same2.1 less.1)
-      where
-        one : (y : Update) → y.destination.now ≡ x → update_cmp c y ≡ Less → c.index < y.index
-        one y to_x is = elim (later c y is) [
-          | inl below ↦ absurd (not_below_itself x (subst (λ (d : List ℕ). slice_cmp nat_cmp d x ≡ Less) same.0 (subst (λ (d : List ℕ). slice_cmp nat_cmp c.destination.now d ≡ Less) to_x below)))
-          | inr tied ↦ tied.1
-        ]
+    each (y ∷ ys) same2 less = (
+      by_cases (later c y less.0)
+          (λ below. absurd (not_below_itself x (subst (λ (d : List ℕ). slice_cmp nat_cmp d x ≡ Less) same.0 (subst (λ (d : List ℕ). slice_cmp nat_cmp c.destination.now d ≡ Less) same2.0 below)))) (λ tied. tied.1),
+      each ys same2.1 less.1,
+    )
 
 -- the index of each conflicting update is among the mappings
 pub conflicting_fits : (ms : List Mapping) (run : List Update) (i : ℕ) (d : Update) → AreConflicting (map mapped_of ms) run → i < length run → (get_or run i d).index < length ms
@@ -74,8 +73,7 @@ conflict_from_conflicting g l run d sources texts conflicting told to = subst (�
     at j = let same : j ≡ 0 + j = omega arith in ap (slice_get l) same
 
     any_above : (ns : List ℕ) → AllByRecursion (λ n. 0 ≤ n) ns
-    any_above [] = tt
-    any_above (n ∷ ns) = (omega arith, any_above ns)
+    any_above ns = recursion_from_All (λ n. 0 ≤ n) ns (λ k d below. omega arith)
 
     has : (j : ℕ) (m : Mapped) → 0 ≤ j → slice_get l j ≡ Some m → Has (updated_indexes run) j ↔ IsFirstTo x l j m
     has j m low is = (

@@ -172,7 +172,7 @@ split_at (h ∷ cs) (suc n) d some strict same end =
       same = same;
       beyond = all_behind h.destination.now (drop n cs)
           (strict_right update_cmp (take n cs) (drop n cs) (subst (λ (xs : List Update). IsStrictlySortedBy update_cmp xs) (sym split) strict.1))
-          (all_weaker (λ y. update_cmp h y ≡ Less) (λ y. (slice_cmp nat_cmp h.destination.now y.destination.now ≡ Less) ⊎ (h.destination.now ≡ y.destination.now)) not_before (drop n cs)
+          (all_weaker (λ y. update_cmp h y ≡ Less) (λ y. (slice_cmp nat_cmp h.destination.now y.destination.now ≡ Less) ⊎ (h.destination.now ≡ y.destination.now)) (λ y is. by_cases (later h y is) (λ less. inl less) (λ tied. inr tied.0)) (drop n cs)
           (all_right (λ y. update_cmp h y ≡ Less) (take n cs) (drop n cs) (subst (λ (xs : List Update). AllByRecursion (λ y. update_cmp h y ≡ Less) xs) (sym split) strict.0)))
           (λ c rest is same2. elim (cases_lt n (length cs)) [
             | inl inside ↦
@@ -182,9 +182,6 @@ split_at (h ∷ cs) (suc n) d some strict same end =
             | inr past ↦ let none : length (drop n cs) ≡ 0 = omega (arith, length-drop n cs) in let some2 : length (drop n cs) ≡ suc (length rest) = ap length is in absurd (omega (arith, none, some2))
           ]);
     }
-  where
-    not_before : (y : Update) → update_cmp h y ≡ Less → (slice_cmp nat_cmp h.destination.now y.destination.now ≡ Less) ⊎ (h.destination.now ≡ y.destination.now)
-    not_before y is = by_cases (later h y is) (λ less. inl less) (λ tied. inr tied.0)
 
 -- the mapping at an index, as plain data
 pub mapped_at : (ms : List Mapping) (k : ℕ) (m : Mapping) → k < length ms → m ≡ get_or ms k m → slice_get (map mapped_of ms) k ≡ Some (mapped_of m)

@@ -54,13 +54,4 @@ module _ {F : Type 0} (P : Mapped → Type 0) (R : F → Mapping → Bool → F 
 
 -- without an issue, the fixes and the survivors are the result of a validation
 pub validated_so : (lent specs : List RefSpecRef) (front back ms : List Mapping) (issues : List Issue) (fixes : List Fix) (rest : List Mapped) → lent ≡ specs → front ≡ ms → back ≡ ms → issues ≡ [] → AreConflicts (map reading_of lent) (map mapped_of front) (map conflict_of issues) → AreFixes (map reading_of lent) (map mapped_of back) (map removed_of fixes) → AreSurvivors (map mapped_of ms) rest → IsValidated (map reading_of specs) (map mapped_of ms) rest (map removed_of fixes)
-validated_so lent specs front back ms issues fixes rest same same_front same_back none conflicts fixed survive =
-    let g = map reading_of specs in
-    let conflicts2 = subst (λ (xs : List RefSpecRef). AreConflicts (map reading_of xs) (map mapped_of front) (map conflict_of issues)) same conflicts in
-    let conflicts3 = subst (λ (xs : List Mapping). AreConflicts g (map mapped_of xs) (map conflict_of issues)) same_front conflicts2 in
-    let fixed2 = subst (λ (xs : List RefSpecRef). AreFixes (map reading_of xs) (map mapped_of back) (map removed_of fixes)) same fixed in
-    record {
-      free = subst (λ (xs : List Issue). AreConflicts g (map mapped_of ms) (map conflict_of xs)) none conflicts3;
-      survive = survive;
-      fixed = subst (λ (xs : List Mapping). AreFixes g (map mapped_of xs) (map removed_of fixes)) same_back fixed2;
-    }
+validated_so lent specs front back ms issues fixes rest same same_front same_back none conflicts fixed survive = record { free = rw (same, same_front, none) at conflicts; survive = survive; fixed = rw (same, same_back) at fixed }
