@@ -1,8 +1,8 @@
 -- What holds of mappings before and after a validation, which leaves no duplicate mappings and no duplicate fixes.
-use Rattle.gix_refspec.proofs.Common.{all_weaker, ◌≡◌, inl, inr, ℕ, suc, ◌+◌, ◌<◌, List, [], ◌∷◌, None, Some, length, get_or, refl, sym, ◌∙◌, subst, arith, AllByRecursion, Contains}
-use Rattle.gix_refspec.proofs.Common.{All-contains_itself, All-from_recursion, Contains-get_or, recursion_from_All, Reading, IsMadeFrom, Ref, Mapped, IsSamePair, AreApart, AreKeptForward}
-use Rattle.gix_refspec.proofs.Common.{AreConflicts, ForwardFits, DestinationsHaveOneSource, IsValidated, ShareDestination, HaveDistinctDestinations, Removed, Survives, ValidatedOnce, ForwardIndexes}
-use Rattle.gix_refspec.proofs.Common.{Option, ap, name, HaveOneSource, HaveSourcesByIndex, PlansApart, ◌≢◌, slice_get, same_Some, IsIdText, Source, IsFix, MakesForwardOf, AreFixesApart, id}
+use Rattle.gix_refspec.proofs.Common.{all_weaker, ◌≡◌, ℕ, suc, ◌+◌, ◌<◌, List, [], ◌∷◌, None, Some, length, get_or, refl, sym, ◌∙◌, subst, arith, AllByRecursion, Contains, All-contains_itself}
+use Rattle.gix_refspec.proofs.Common.{All-from_recursion, Contains-get_or, recursion_from_All, Reading, IsMadeFrom, Ref, Mapped, IsSamePair, AreApart, AreKeptForward, AreConflicts, ForwardFits}
+use Rattle.gix_refspec.proofs.Common.{DestinationsHaveOneSource, IsValidated, ShareDestination, HaveDistinctDestinations, Removed, Survives, ValidatedOnce, ForwardIndexes, Option, ap, name}
+use Rattle.gix_refspec.proofs.Common.{HaveOneSource, HaveSourcesByIndex, PlansApart, ◌≢◌, slice_get, same_Some, IsIdText, Source, IsFix, MakesForwardOf, AreFixesApart, id, by_cases}
 use Rattle.gix_refspec.proofs.lemmas.validate.FirstLemmas.{start_cases}
 use Rattle.gix_refspec_match.proofs.lemmas.keep.KeptLemmas.{kept_once}
 use Rattle.gix_refspec.proofs.lemmas.MadeLemmas.{stays_each, made_all}
@@ -38,10 +38,8 @@ distinct_destinations (m ∷ l) one apart = (
 
 -- mappings without conflicts have one source for each destination
 pub free_one_source : (g : List Reading) (l : List Mapped) → AreConflicts g l [] → DestinationsHaveOneSource l
-free_one_source g l free m n d has_m has_n m_to n_to = elim (start_cases m.source n.source) [
-  | inl same ↦ same
-  | inr apart ↦ let none = free.every d (record { one = m; other = n; has_one = has_m; has_other = has_n; one_to = m_to; other_to = n_to; differ = apart }) in let inside = none.1 in absurd (omega (arith, inside))
-]
+free_one_source g l free m n d has_m has_n m_to n_to = by_cases (start_cases m.source n.source) (λ same. same) (λ apart.
+    let none = free.every d (record { one = m; other = n; has_one = has_m; has_other = has_n; one_to = m_to; other_to = n_to; differ = apart }) in let inside = none.1 in absurd (omega (arith, inside)))
 
 -- so if they came from items, no two have the same destination
 pub kept_distinct_destinations : (g : List Reading) (items : List Ref) (l : List Mapped) → AreKeptForward g items l → AreConflicts g l [] → HaveDistinctDestinations l

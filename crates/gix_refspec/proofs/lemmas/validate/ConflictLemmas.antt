@@ -22,10 +22,7 @@ pub record AreTold (g : List Reading) (l : List Mapped) (ns : List ℕ) (sources
 -- the indexes of updates of one destination are those of its updates
 pub indexes_to_one : (x : List ℕ) (cs : List Update) (k : ℕ) → AllByRecursion (λ c. c.destination.now ≡ x) cs → Has (updated_indexes cs) k ↔ HasUpdate cs k x
 indexes_to_one x [] k same = ((λ none. none), (λ none. none))
-indexes_to_one x (c ∷ cs) k same = (
-  (λ has. by_cases has (λ here. inl (here, same.0)) (λ there. inr ((indexes_to_one x cs k same.1).0 there))),
-  (λ has. by_cases has (λ here. inl here.0) (λ there. inr ((indexes_to_one x cs k same.1).1 there))),
-)
+indexes_to_one x (c ∷ cs) k same = let rest = indexes_to_one x cs k same.1 in ((λ has. grind (arith, rest, same)), λ has. grind (arith, rest))
 
 -- and if the updates are sorted, the indexes are strictly increasing
 pub indexes_rise : (x : List ℕ) (cs : List Update) → AllByRecursion (λ c. c.destination.now ≡ x) cs → IsStrictlySortedBy update_cmp cs → Increase (updated_indexes cs)
@@ -154,13 +151,11 @@ all_reported g l (c ∷ rest) cs empty settled = absurd (omega arith)
 
 not_beyond : (x : List ℕ) (cs : List Update) (k : ℕ) → AllByRecursion (λ c. slice_cmp nat_cmp x c.destination.now ≡ Less) cs → HasUpdate cs k x → ⊥
 not_beyond x [] k beyond has = has
-not_beyond x (c ∷ cs) k beyond (inl is) = not_below_itself x (subst (λ (d : List ℕ). slice_cmp nat_cmp x d ≡ Less) is.1 beyond.0)
-not_beyond x (c ∷ cs) k beyond (inr has) = not_beyond x cs k beyond.1 has
+not_beyond x (c ∷ cs) k beyond has = by_cases has (λ is. not_below_itself x (subst (λ (d : List ℕ). slice_cmp nat_cmp x d ≡ Less) is.1 beyond.0)) (not_beyond x cs k beyond.1)
 
 to_same : (x : List ℕ) (cs : List Update) (k : ℕ) (d : List ℕ) → AllByRecursion (λ c. c.destination.now ≡ x) cs → HasUpdate cs k d → d ≡ x
 to_same x [] k d same has = absurd has
-to_same x (c ∷ cs) k d same (inl is) = sym is.1 ∙ same.0
-to_same x (c ∷ cs) k d same (inr has) = to_same x cs k d same.1 has
+to_same x (c ∷ cs) k d same has = by_cases has (λ is. sym is.1 ∙ same.0) (to_same x cs k d same.1)
 
 -- the run at the start of the rest has all first mappings to its destination
 firsts_of_run : (g : List Reading) (l : List Mapped) (run others : List Update) (cs : List Conflict) → 0 < length run → (split : IsRun run others) → AreReported g l (run ++ others) cs → (k : ℕ) → HasUpdate run k split.destination ↔ IsFirstAt l k split.destination
@@ -267,10 +262,8 @@ no_conflicts g l free = record { each = tt; every = λ d contested. absurd (free
 pub reported_more : (g : List Reading) (l : List Mapped) (rest : List Update) (n : ℕ) (cs new : List Conflict) → 0 < n → n ≤ length rest → IsRun (take n rest) (drop n rest) → AddsConflict g l (take n rest) cs new → AreReported g l rest cs → AreReported g l (drop n rest) new
 reported_more g l rest n cs new some fits split added settled =
     let whole : AreReported g l (take n rest ++ drop n rest) cs = subst (λ (xs : List Update). AreReported g l xs cs) (sym (take-append-drop n rest)) settled in
-    elim added [
-      | inl few ↦ subst (λ (ds : List Conflict). AreReported g l (drop n rest) ds) (sym few.1) (skipped g l (take n rest) (drop n rest) cs (omega (arith, some, length-take-le n rest fits)) few.0 split whole)
-      | inr more ↦ subst (λ (ds : List Conflict). AreReported g l (drop n rest) ds) (sym more.3) (reported g l (take n rest) (drop n rest) cs more.0 more.1 split more.2 whole)
-    ]
+    by_cases added (λ few. rw few.1 (skipped g l (take n rest) (drop n rest) cs (omega (arith, some, length-take-le n rest fits)) few.0 split whole))
+    (λ more. rw more.3 (reported g l (take n rest) (drop n rest) cs more.0 more.1 split more.2 whole))
 
 -- without mappings nothing is in conflict
 pub free_empty : (g : List Reading) (ms : List Mapping) → length ms ≡ 0 → AreConflicts g (map mapped_of ms) []
