@@ -10,9 +10,8 @@ use Rattle.gix_refspec.proofs.laws.equal_issues.Goals as goal
 
 same_source : (a b : SourceRef) → (compared_sources.eq a b ≡ true) ↔ (start_of a ≡ start_of b)
 same_source (source_ref.FullName n) (source_ref.FullName m) = let names = bytes_eq-Decides (name_bytes n) (name_bytes m) in ((λ told. ap name (names.0 told)), (λ same. names.1 (cc)))
-same_source (source_ref.FullName n) (source_ref.ObjectId j) = ((λ told. absurd (cc)), (λ same. absurd (cc)))
-same_source (source_ref.ObjectId i) (source_ref.FullName m) = ((λ told. absurd (cc)), (λ same. absurd (cc)))
 same_source (source_ref.ObjectId i) (source_ref.ObjectId j) = let ids = bytes_eq-Decides (id_bytes i) (id_bytes j) in ((λ told. ap id (ids.0 told)), (λ same. ids.1 (cc)))
+same_source a b = ((λ told. absurd (cc)), (λ same. absurd (cc)))
 
 same_issue : (a b : Issue) → IsTrue (ghosts.eq a b) ↔ (conflict_of a ≡ conflict_of b)
 same_issue (issue.Conflict d sources specs) (issue.Conflict e others texts) =

@@ -192,8 +192,7 @@ turned A B s None r fine to makes = absurd to
 
 turned_back : (A B : List Ref) (s : Source) (d : Option (List ℕ)) (r : Reading) → IsFine r → IsSourceAmong A s → MakesBackward B s d r → MakesForward A s d r × IsDestinationAmong B d
 turned_back A B (name n) (Some m) r fine from makes = (carries_forward A n m r from (backward_carries B n m r fine makes), name_among m B (IsPaired Matches makes.ends m (Some n)) (λ i is. is.name) makes.one)
-turned_back A B (name n) None r fine from makes = absurd makes
-turned_back A B (id bytes) d r fine from makes = absurd from
+turned_back A B s d r fine from makes = absurd makes
 
 -- each reading is accepted
 fine_all : (specs : List RefSpecRef) → AllByRecursion GoesBothWays (map reading_of specs) → AllByRecursion IsFine (map reading_of specs)

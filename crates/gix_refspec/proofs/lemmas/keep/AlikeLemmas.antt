@@ -24,19 +24,16 @@ alike_back r q alike = record { source = sym alike.source; destination = sym ali
 
 zip_back : (g h : List Reading) → AllZip AreAlike g h → AllZip AreAlike h g
 zip_back [] [] alike = tt
-zip_back [] (q ∷ h) alike = absurd alike
-zip_back (r ∷ g) [] alike = absurd alike
 zip_back (r ∷ g) (q ∷ h) alike = (alike_back r q alike.0, zip_back g h alike.1)
+zip_back g h alike = absurd alike
 
 positive_sign : (mode : Mode) → IsPositive mode ↔ (is_negative mode ≡ false)
-positive_sign Normal = ((λ positive. refl), λ sign. tt)
-positive_sign Forced = ((λ positive. refl), λ sign. tt)
 positive_sign Negative = ((λ positive. absurd positive), λ sign. false≢true (sym sign))
+positive_sign mode = ((λ positive. refl), λ sign. tt)
 
 sign_negative : (mode : Mode) → is_negative mode ≡ true → mode ≡ Negative
-sign_negative Normal sign = absurd (false≢true sign)
-sign_negative Forced sign = absurd (false≢true sign)
 sign_negative Negative sign = refl
+sign_negative mode sign = absurd (false≢true sign)
 
 alike_positive : (r q : Reading) → AreAlike r q → IsPositive r.mode → IsPositive q.mode
 alike_positive r q alike positive = (positive_sign q.mode).1 (sym alike.negative ∙ (positive_sign r.mode).0 positive)
@@ -66,15 +63,12 @@ record IsSaid (mode : Mode) (s d : Option (List ℕ)) (m : Option Meaning) : Typ
 
 is_said : (mode : Mode) (s d : Option (List ℕ)) (m : Meaning) → meaning Fetch mode s d ≡ Some m → IsSaid mode s d (meaning Fetch mode s d)
 unfolding said_source said_destination said_negative
-is_said Normal None d m means = absurd (cc)
 is_said Normal (Some s) None m means = record { source = refl; destination = refl; negative = refl }
 is_said Normal (Some s) (Some d) m means = record { source = refl; destination = refl; negative = refl }
-is_said Forced None d m means = absurd (cc)
 is_said Forced (Some s) None m means = record { source = refl; destination = refl; negative = refl }
 is_said Forced (Some s) (Some d) m means = record { source = refl; destination = refl; negative = refl }
-is_said Negative None d m means = absurd (cc)
 is_said Negative (Some s) None m means = record { source = refl; destination = refl; negative = refl }
-is_said Negative (Some s) (Some d) m means = absurd (cc)
+is_said mode s d m means = absurd (cc)
 
 fetch_said : (r : Reading) (m : Meaning) → r.operation ≡ Fetch → meaning_of r ≡ Some m → IsSaid r.mode r.source r.destination (meaning_of r)
 fetch_said r m fetch means =
@@ -104,9 +98,8 @@ again_alike r q accepted again =
 -- what follows of each pair of elements follows of both lists
 zip_mapped : {A B C : Type 0} (f : A → C) (P Q : C → B → Type 0) → ((a : A) (b : B) → P (f a) b → Q (f a) b) → (xs : List A) (ys : List B) → AllZip P (map f xs) ys → AllZip Q (map f xs) ys
 zip_mapped f P Q of [] [] all = tt
-zip_mapped f P Q of [] (b ∷ ys) all = absurd all
-zip_mapped f P Q of (a ∷ xs) [] all = absurd all
 zip_mapped f P Q of (a ∷ xs) (b ∷ ys) all = (of a b all.0, zip_mapped f P Q of xs ys all.1)
+zip_mapped f P Q of xs ys all = absurd all
 
 -- ---- lists that are made alike
 
@@ -116,17 +109,15 @@ makes_alike R S k x z (Some y) both makes = (both y).0 makes
 
 pub made_zip : {X Z Y : Type 0} (T : X → Z → Type 0) (R : ℕ → X → Y → Type 0) (S : ℕ → Z → Y → Type 0) → ((k : ℕ) (x : X) (z : Z) (y : Y) → T x z → R k x y ↔ S k z y) → (k : ℕ) (xs : List X) (zs : List Z) (ys : List Y) → AllZip T xs zs → IsMadeFrom R k xs ys → IsMadeFrom S k zs ys
 made_zip T R S both k [] [] ys alike made = made
-made_zip T R S both k [] (z ∷ zs) ys alike made = absurd alike
-made_zip T R S both k (x ∷ xs) [] ys alike made = absurd alike
 made_zip T R S both k (x ∷ xs) (z ∷ zs) ys alike (made, rest, here, more, is) =
     (made, rest, makes_alike R S k x z made (λ y. both k x z y alike.0) here, made_zip T R S both (k + 1) xs zs rest alike.1 more, is)
+made_zip T R S both k xs zs ys alike made = absurd alike
 
 joined_zip : {X Z Y : Type 0} (T : X → Z → Type 0) (R : ℕ → X → List Y → Type 0) (S : ℕ → Z → List Y → Type 0) → ((k : ℕ) (x : X) (z : Z) (ys : List Y) → T x z → R k x ys → S k z ys) → (k : ℕ) (xs : List X) (zs : List Z) (ys : List Y) → AllZip T xs zs → IsJoinedFrom R k xs ys → IsJoinedFrom S k zs ys
 joined_zip T R S each k [] [] ys alike joined = joined
-joined_zip T R S each k [] (z ∷ zs) ys alike joined = absurd alike
-joined_zip T R S each k (x ∷ xs) [] ys alike joined = absurd alike
 joined_zip T R S each k (x ∷ xs) (z ∷ zs) ys alike (made, rest, here, more, is) =
     (made, rest, each k x z made alike.0 here, joined_zip T R S each (k + 1) xs zs rest alike.1 more, is)
+joined_zip T R S each k xs zs ys alike joined = absurd alike
 
 same_zip : {X : Type 0} (xs : List X) → AllZip (λ x y. x ≡ y) xs xs
 same_zip [] = tt
@@ -243,12 +234,11 @@ equal_groups specs other items equal = map_alike (map reading_of specs) (map rea
 -- lists of specs that are equal by `==`
 equal_fetches : (specs other : List RefSpecRef) → AreFetches (map reading_of specs) → map (λ (s : RefSpecRef). meaning_of (reading_of s)) specs ≡ map (λ (s : RefSpecRef). meaning_of (reading_of s)) other → AllZip FetchTheSame (map reading_of specs) (map reading_of other)
 equal_fetches [] [] fetches same = tt
-equal_fetches [] (t ∷ other) fetches same = absurd (cc)
-equal_fetches (s ∷ specs) [] fetches same = absurd (cc)
 equal_fetches (s ∷ specs) (t ∷ other) fetches same =
     let first : meaning_of (reading_of s) ≡ meaning_of (reading_of t) = cc in
     let rest : map (λ (x : RefSpecRef). meaning_of (reading_of x)) specs ≡ map (λ (x : RefSpecRef). meaning_of (reading_of x)) other = cc in
     (record { fetch = fetches.0; same = first }, equal_fetches specs other fetches.1 rest)
+equal_fetches specs other fetches same = absurd (cc)
 
 pub equal_lists : (specs other : List RefSpecRef) (items : List Ref) → pointwise (λ (a : RefSpecRef) (b : RefSpecRef). pointwise (pointwise nat_eq) (key_of_spec a) (key_of_spec b)) specs other ≡ true → AreFetches (map reading_of specs) → MapAlike (map reading_of specs) (map reading_of other) items
 equal_lists specs other items told fetches =

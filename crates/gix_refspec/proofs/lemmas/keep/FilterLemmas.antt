@@ -154,13 +154,11 @@ backward_in_part : (A B : List Ref) (s : Source) (far : Option (List ℕ)) (r : 
 backward_in_part A B (name n) (Some d) r has makes =
     pairs_moved AreBackwardEnds Matches Matches A B d (Some n) r (λ ends item word of_r there takes.
     (has item there (record { ends = ends; has = of_r; word = word; takes = takes }), takes)) makes
-backward_in_part A B (name n) None r has makes = makes
-backward_in_part A B (id bytes) far r has makes = makes
+backward_in_part A B s far r has makes = makes
 
 backward_in_all : (A B : List Ref) → ArePart A B → (s : Source) (far : Option (List ℕ)) (r : Reading) → MakesBackward B s far r → MakesBackward A s far r
 backward_in_all A B part (name n) (Some d) r makes = pairs_moved AreBackwardEnds Matches Matches B A d (Some n) r (λ ends item word of_r there takes. (part item there, takes)) makes
-backward_in_all A B part (name n) None r makes = makes
-backward_in_all A B part (id bytes) far r makes = makes
+backward_in_all A B part s far r makes = makes
 
 -- ---- groups
 

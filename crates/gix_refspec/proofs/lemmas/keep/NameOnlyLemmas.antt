@@ -5,9 +5,6 @@ use Rattle.gix_refspec.proofs.Common.{object, partial, HasKind, Fits, IsCandidat
 use Rattle.gix_refspec.proofs.Common.{IsHit, AreSpecHits, AsksForNoId, HasIdDestination, HaveSameNames, NamesDecide, NamesDecideBack, AllZip}
 use Rattle.gix_refspec.proofs.lemmas.keep.AlikeLemmas.{made_zip}
 
-no_name : (r : Ref) (refs : List Ref) → HaveSameNames [] (r ∷ refs) → ⊥
-no_name r refs same = omega (arith, ap length same)
-
 first_name : (r q : Ref) (refs others : List Ref) → HaveSameNames (r ∷ refs) (q ∷ others) → (r.name ≡ q.name) × HaveSameNames refs others
 first_name r q refs others same =
     let both : r.name ∷ map (λ (x : Ref). x.name) refs ≡ q.name ∷ map (λ (x : Ref). x.name) others = same in
@@ -16,7 +13,7 @@ first_name r q refs others same =
 -- a name in one list is in the other
 pub has_also : (A B : List Ref) (n : List ℕ) → HaveSameNames A B → HasName A n → HasName B n
 has_also [] B n same has = absurd has
-has_also (a ∷ A) [] n same has = absurd (no_name a A (sym same))
+has_also (a ∷ A) [] n same has = absurd (omega (arith, ap length same))
 has_also (a ∷ A) (b ∷ B) n same (inl here) = inl (sym (first_name a b A B same).0 ∙ here)
 has_also (a ∷ A) (b ∷ B) n same (inr later) = inr (has_also A B n (first_name a b A B same).1 later)
 
@@ -64,9 +61,8 @@ hit_also T U ends k j a b hit also named is = record {
 
 named_zip : (A B : List Ref) → HaveSameNames A B → AllZip (λ a b. a.name ≡ b.name) A B
 named_zip [] [] same = tt
-named_zip [] (b ∷ B) same = absurd (no_name b B same)
-named_zip (a ∷ A) [] same = absurd (no_name a A (sym same))
 named_zip (a ∷ A) (b ∷ B) same = let first = first_name a b A B same in (first.0, named_zip A B first.1)
+named_zip A B same = absurd (omega (arith, ap length same))
 
 -- a spec whose side takes refs by their names takes the same refs
 spec_zip : (HasEnds : Reading → Ends → Type 0) (T U : List ℕ → Ref → Option (List ℕ) → Type 0) (A B : List Ref) (k : ℕ) (r : Reading) (hits : List Hit) → HaveSameNames A B

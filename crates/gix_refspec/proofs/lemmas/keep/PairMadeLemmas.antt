@@ -21,8 +21,7 @@ makes_forward items item (id bytes) d r made = made.1
 
 makes_backward : (items : List Ref) (item : Option ℕ) (s : Source) (d : Option (List ℕ)) (r : Reading) → MakesBackwardOf items item s d r → MakesBackward items s d r
 makes_backward items item (name n) (Some m) r at = record { ends = at.ends; has = at.has; one = any_at (IsPaired Matches at.ends m (Some n)) items at.index at.ref at.stands at.paired }
-makes_backward items item (name n) None r none = none
-makes_backward items item (id bytes) d r none = none
+makes_backward items item s d r none = none
 
 -- so some reading makes the pair of each mapping
 made_forward : (g : List Reading) (items : List Ref) (l : List Mapped) (pair : Mapped) → AreForward g items l → HasPair l pair → Any (MakesForward items pair.source pair.destination) g

@@ -133,9 +133,7 @@ module _ (b : ℕ) (below : b < 32) (no_digit : is_lower_digit b ≡ false) wher
   word_lacks : (kind : SideKind) (r : Ref) (word : Option (List ℕ)) → MatchesAs kind r word → Lacks b r.name → LacksIn b word
   word_lacks kind r None is lacks = tt
   word_lacks (pattern before after) r (Some w) is lacks = all_left (λ c. c ≢ b) w after (all_right (λ c. c ≢ b) before (w ++ after) (subst (Lacks b) is lacks))
-  word_lacks (full_name n) r (Some w) is lacks = absurd (some_none w is.0)
-  word_lacks (object i) r (Some w) is lacks = absurd (some_none w is.0)
-  word_lacks (partial n) r (Some w) is lacks = absurd (some_none w is.0)
+  word_lacks kind r (Some w) is lacks = absurd (some_none w is.0)
 
   far_lacks : (far word n : Option (List ℕ)) → IsFilled far word n → LacksIn b far → LacksIn b word → LacksIn b n
   far_lacks None word n is lacks clear = subst (LacksIn b) (sym is) tt

@@ -10,6 +10,7 @@ use Rattle.gix_refspec.proofs.Common.{recursion_from_All}
 use Rattle.gix_refspec_match.specs.declared.types.SourceRef.TheVariants as source_ref
 use Rattle.gix_refspec_match.proofs.lemmas.keep.RepeatLemmas.{some_mapping}
 use Rattle.gix_refspec_match.proofs.lemmas.keep.KeptLemmas.{by_pair, duplicate_at}
+use Rattle.gix_refspec.proofs.lemmas.MadeLemmas.{map_each}
 use Rattle.gix_refspec.proofs.lemmas.validate.UpdateLemmas.{HasUpdate-cases, HasUpdate-left, HasUpdate-right, later, mapped_at, strict_left, strict_right}
 use Rattle.gix_refspec.proofs.lemmas.validate.FirstLemmas.{Has, Increase, IsOfIndex, contested_from_firsts, made_at_indexes, one_mapping, two_firsts, at_contained}
 use Rattle.std.proofs.lemmas.Slice.Zip.{all_zipped_more}
@@ -85,16 +86,14 @@ conflict_from_conflicting g l run d sources texts conflicting told to = subst (�
 
 pub copied_name : (n m : NameRef) → IsNameCopy n m → name_bytes m ≡ name_bytes n
 copied_name (Borrowed n) (Borrowed m) same = same
-copied_name (Borrowed n) (Owned m) same = absurd same
-copied_name (Owned n) (Borrowed m) same = absurd same
 copied_name (Owned n) (Owned m) same = same
+copied_name n m same = absurd same
 
 -- a copy of a source is the same
 pub copied_source : (a b : SourceRef) → IsSourceCopy a b → start_of b ≡ start_of a
 copied_source (source_ref.FullName n) (source_ref.FullName m) copy = ap name (copied_name n m copy)
-copied_source (source_ref.FullName n) (source_ref.ObjectId j) copy = absurd copy
-copied_source (source_ref.ObjectId i) (source_ref.FullName m) copy = absurd copy
 copied_source (source_ref.ObjectId i) (source_ref.ObjectId j) copy = ap (λ k. id (id_bytes k)) copy
+copied_source a b copy = absurd copy
 
 -- the text of a spec of the group
 pub text_at : (specs : List RefSpecRef) (k : ℕ) (spec : RefSpecRef) (text : List ℕ) → k < length specs → spec ≡ get_or specs k spec → printed (reading_of spec) ≡ Some text → IsTextAt (map reading_of specs) k text
@@ -237,7 +236,7 @@ reported g l (r ∷ run) others cs c several split over settled =
       order = strict_right update_cmp (r ∷ run) others settled.order;
       each = all_join (IsConflict g l) cs (c ∷ []) settled.each (over.is, tt);
       below = all_join (λ y. AllByRecursion (λ z. slice_cmp nat_cmp y.destination z.destination.now ≡ Less) others) cs (c ∷ []) (all_still_below (r ∷ run) others cs settled.below) (subst (λ (d : List ℕ). AllByRecursion (λ z. slice_cmp nat_cmp d z.destination.now ≡ Less) others) (sym to) split.beyond, tt);
-      rise = subst (λ (ds : List (List ℕ)). IsStrictlySortedBy (slice_cmp nat_cmp) ds) (sym destinations) (rise_more (map (λ (y : Conflict). y.destination) cs) c.destination settled.rise (lower cs settled.below));
+      rise = subst (λ (ds : List (List ℕ)). IsStrictlySortedBy (slice_cmp nat_cmp) ds) (sym destinations) (rise_more (map (λ (y : Conflict). y.destination) cs) c.destination settled.rise (map_each _ (λ d. slice_cmp nat_cmp d c.destination ≡ Less) (λ (y : Conflict). y.destination) (λ y below. subst (λ (d : List ℕ). slice_cmp nat_cmp y.destination d ≡ Less) over.same.0 below.0) cs settled.below));
       every = λ d contested. subst (λ (ds : List (List ℕ)). Contains ds d ⊎ ((k : ℕ) × HasUpdate others k d)) (sym destinations) (elim (settled.every d contested) [
         | inl told ↦ inl (Contains-append_left (map (λ (y : Conflict). y.destination) cs) (c.destination ∷ []) d told)
         | inr has ↦ elim (HasUpdate-cases (r ∷ run) others has.0 d has.1) [
@@ -248,10 +247,6 @@ reported g l (r ∷ run) others cs c several split over settled =
         ]
       ]);
     }
-  where
-    lower : (ys : List Conflict) → AllByRecursion (λ y. AllByRecursion (λ z. slice_cmp nat_cmp y.destination z.destination.now ≡ Less) ((r ∷ run) ++ others)) ys → AllByRecursion (λ d. slice_cmp nat_cmp d c.destination ≡ Less) (map (λ y. y.destination) ys)
-    lower [] below = tt
-    lower (y ∷ ys) below = (subst (λ (d : List ℕ). slice_cmp nat_cmp y.destination d ≡ Less) over.same.0 below.0.0, lower ys below.1)
 
 -- if nothing is in conflict, the list of conflicts is empty
 pub no_conflicts : (g : List Reading) (l : List Mapped) → ((d : List ℕ) → ¬ (HasConflictAt l d)) → AreConflicts g l []

@@ -43,15 +43,12 @@ tail_at l k x rest at j = let same : k + suc j ≡ (k + 1) + j = omega arith in 
 -- elements made of the mappings at strictly increasing indexes, which are those where P holds
 pub made_at_indexes : {Y : Type 0} (P : ℕ → Mapped → Type 0) (Q : Mapped → Y → Type 0) (l : List Mapped) (k : ℕ) (rest : List Mapped) (ns : List ℕ) (ys : List Y) → ((j : ℕ) → slice_get rest j ≡ slice_get l (k + j)) → ((j : ℕ) (m : Mapped) → k ≤ j → slice_get l j ≡ Some m → Has ns j ↔ P j m) → Increase ns → AllByRecursion (λ n. k ≤ n) ns → AllZip (IsOfIndex Q l) ns ys → IsMadeFrom (λ j m y. P j m × Q m y) k rest ys
 made_at_indexes P Q l k [] [] [] at has rises above zip = refl
-made_at_indexes P Q l k [] [] (y ∷ ys) at has rises above zip = absurd zip
-made_at_indexes P Q l k [] (n ∷ ns) [] at has rises above zip = absurd zip
 made_at_indexes P Q l k [] (n ∷ ns) (y ∷ ys) at has rises above zip =
     let same : k + (n - k) ≡ n = (let low = above.0 in omega (arith, low)) in
     let none : None ≡ Some zip.0.0 = at (n - k) ∙ ap (slice_get l) same ∙ zip.0.1 in
     absurd (cc)
 made_at_indexes {Y} P Q l k (x ∷ rest) [] ys at has rises above zip =
     (None, ys, (λ y both. (has k x (omega arith) (here_at l k x rest at)).1 both.0), made_at_indexes P Q l (k + 1) rest [] ys (tail_at l k x rest at) (λ j m low is. has j m (omega arith) is) rises tt zip, refl)
-made_at_indexes {Y} P Q l k (x ∷ rest) (n ∷ ns) [] at has rises above zip = absurd zip
 made_at_indexes {Y} P Q l k (x ∷ rest) (n ∷ ns) (y ∷ ys) at has rises above zip = elim (cases_lt k n) [
   | inl less ↦ (
     None,
@@ -81,6 +78,7 @@ made_at_indexes {Y} P Q l k (x ∷ rest) (n ∷ ns) (y ∷ ys) at has rises abov
       (λ there. (has j m (omega arith) is).0 (inr there)),
       (λ holds. by_cases ((has j m (omega arith) is).1 holds) (λ first. absurd (omega (arith, first, same, low))) (λ there. there)),
     )
+made_at_indexes P Q l k rest ns ys at has rises above zip = absurd zip
 
 -- a pair at an earlier index
 pub earlier_pair : (l : List Mapped) (j k : ℕ) (m n : Mapped) → slice_get l j ≡ Some m → j < k → IsSamePair m n → HasPair (take k l) n
@@ -98,9 +96,8 @@ text_cases x y = cases_of (bytes_eq x y) (bytes_eq-Decides x y)
 
 pub start_cases : (a b : Source) → (a ≡ b) ⊎ (a ≢ b)
 start_cases (name x) (name y) = by_cases (text_cases x y) (λ same. inl (ap name same)) (λ apart. inr (λ same. apart (cc)))
-start_cases (name x) (id y) = inr (λ same. absurd (cc))
-start_cases (id x) (name y) = inr (λ same. absurd (cc))
 start_cases (id x) (id y) = by_cases (text_cases x y) (λ same. inl (ap id same)) (λ apart. inr (λ same. apart (cc)))
+start_cases a b = inr (λ same. absurd (cc))
 
 -- the mapping goes from the source to the destination
 abbrev Links : Source → List ℕ → Mapped → Type 0

@@ -87,8 +87,7 @@ fits_forward g items m (id bytes) is (r, here, (none, made)) = record {
 
 fits_backward : (g : List Reading) (items : List Ref) (m : Mapped) (s : Source) (d : Option (List ℕ)) → m.destination ≡ d → AtSpec g m (MakesBackwardOf items m.item s d) → BackwardIndexes g items m
 fits_backward g items m (name n) (Some d) is (r, here, at) = record { spec = slice_get_within g m.spec r here; index = at.index; ref = at.ref; item = at.is; stands = at.stands; named = is ∙ ap Some (sym at.paired.name) }
-fits_backward g items m (name n) None is (r, here, none) = absurd none
-fits_backward g items m (id bytes) d is (r, here, none) = absurd none
+fits_backward g items m s d is (r, here, none) = absurd none
 
 pub item_indexes_fit : (g : List Reading) (items : List Ref) → ItemIndexesFit g items
 item_indexes_fit g items = record {

@@ -61,12 +61,11 @@ one_conflict g l c e same a b =
 -- so lists of conflicts with the same destinations are equal
 one_list : (g : List Reading) (l : List Mapped) (cs other : List Conflict) → AllByRecursion (IsConflict g l) cs → AllByRecursion (IsConflict g l) other → map (λ (c : Conflict). c.destination) cs ≡ map (λ (c : Conflict). c.destination) other → cs ≡ other
 one_list g l [] [] a b same = refl
-one_list g l [] (e ∷ other) a b same = absurd (cc)
-one_list g l (c ∷ cs) [] a b same = absurd (cc)
 one_list g l (c ∷ cs) (e ∷ other) a b same =
     let first : c.destination ≡ e.destination = cc in
     let rest : map (λ (x : Conflict). x.destination) cs ≡ map (λ (x : Conflict). x.destination) other = cc in
     ap (λ (x : Conflict). x ∷ cs) (one_conflict g l c e first a.0 b.0) ∙ ap (λ (xs : List Conflict). e ∷ xs) (one_list g l cs other a.1 b.1 rest)
+one_list g l cs other a b same = absurd (cc)
 
 -- ---- survivors and fixes
 
@@ -89,9 +88,8 @@ one_validation g l = record {
 
 copied_mappings : (ms copies : List Mapping) → AreMappingCopies ms copies → map mapped_of copies ≡ map mapped_of ms
 copied_mappings [] [] are = refl
-copied_mappings [] (c ∷ copies) are = absurd are
-copied_mappings (m ∷ ms) [] are = absurd are
 copied_mappings (m ∷ ms) (c ∷ copies) are = ap (λ (x : Mapped). x ∷ map mapped_of copies) (copied_mapping m c are.0) ∙ ap (λ (xs : List Mapped). mapped_of m ∷ xs) (copied_mappings ms copies are.1)
+copied_mappings ms copies are = absurd are
 
 validate_alike : (g h : List Reading) (l m : List Mapped) → h ≡ g → m ≡ l → ValidateAlike g l h m
 validate_alike g h l m readings mappings = subst (λ (z : List Reading). ValidateAlike g l z m) (sym readings) (subst (λ (z : List Mapped). ValidateAlike g l g z) (sym mappings) (one_validation g l))

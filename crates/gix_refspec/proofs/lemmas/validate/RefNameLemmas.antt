@@ -5,7 +5,7 @@ use Rattle.gix_refspec.proofs.Common.{InvalidByte, head, slash, ArePartsAt, Begi
 use Rattle.gix_refspec.proofs.Common.{IsDestinationCopy, ForwardIndexes, ShareDestination, HaveDistinctDestinations, Survives, HaveRefNames, IsInvalidAt, HasRefNames, IsValidDestination, IsRefName}
 use Rattle.gix_refspec.proofs.Common.{StaysAmongRefs, WritesRef, WritesRefs, by_cases}
 use Rattle.gix_refspec.specs.declared.match_group.ref_names.InvalidSide.{InvalidSide}
-use Rattle.gix_refspec.specs.declared.match_group.ref_names.InvalidSide.TheVariants.{Source, Destination, Both}
+use Rattle.gix_refspec.specs.declared.match_group.ref_names.InvalidSide.TheVariants.{Destination}
 use Rattle.gix_refspec.proofs.lemmas.validate.AfterLemmas.{apart_still, distinct_destinations_after, validated_once}
 use Rattle.gix_refspec.proofs.lemmas.MadeLemmas.{each_made, stays_each}
 use Rattle.gix_refspec.proofs.lemmas.validate.ConflictLemmas.{copied_name, copied_source}
@@ -14,9 +14,8 @@ use Rattle.gix_refspec_match.proofs.lemmas.keep.KeptLemmas.{kept_once}
 
 -- a mapping with an invalid side doesn't have ref names
 pub bad_unnamed : (side : InvalidSide) (m : Mapped) → IsInvalidAt side m → ¬ (HasRefNames m)
-bad_unnamed Source m bad named = bad.0 named.source
 bad_unnamed Destination m bad named = bad.1 named.destination
-bad_unnamed Both m bad named = bad.0 named.source
+bad_unnamed side m bad named = bad.0 named.source
 
 -- nor do all mappings of a list that has it
 pub some_unnamed : (ms : List Mapping) (i : ℕ) (m : Mapping) (side : InvalidSide) → i < length ms → m ≡ get_or ms i m → IsInvalidAt side (mapped_of m) → ¬ (AllByRecursion HasRefNames (map mapped_of ms))
@@ -24,9 +23,8 @@ some_unnamed ms i m side below is bad all = bad_unnamed side (mapped_of m) bad (
 
 pub copied_destination : (d e : Option NameRef) → IsDestinationCopy d e → option_map name_bytes e ≡ option_map name_bytes d
 copied_destination None None copy = refl
-copied_destination None (Some m) copy = absurd copy
-copied_destination (Some n) None copy = absurd copy
 copied_destination (Some n) (Some m) copy = ap Some (copied_name n m copy)
+copied_destination d e copy = absurd copy
 
 -- a copy of a mapping is the same as plain data
 pub copied_mapping : (m copy : Mapping) → IsMappingCopy m copy → mapped_of copy ≡ mapped_of m

@@ -44,10 +44,9 @@ fix_of specs m n spec fix to unwritable below is destination reads = record {
 module _ {F : Type 0} (P : Mapped → Type 0) (R : F → Mapping → Bool → F → Type 0) (tells : (p : F) (m : Mapping) (b : Bool) (q : F) → R p m b q → (b ≡ true) ↔ P (mapped_of m)) where
   kept_so : (k : ℕ) (p q : F) (bs : List Bool) (ms : List Mapping) → length bs ≡ length ms → ReturnsInTurn R p bs ms q → IsMadeFrom (λ j m made. (made ≡ m) × P m) k (map mapped_of ms) (map mapped_of (items_where_true bs ms))
   kept_so k p q [] [] size told = refl
-  kept_so k p q [] (m ∷ ms) size told = absurd (omega arith)
-  kept_so k p q (b ∷ bs) [] size told = absurd told
   kept_so k p q (true ∷ bs) (m ∷ ms) size (j, is, more) = (Some (mapped_of m), map mapped_of (items_where_true bs ms), (refl, (tells p m true j is).0 refl), kept_so (k + 1) j q bs ms (omega arith) more, refl)
   kept_so k p q (false ∷ bs) (m ∷ ms) size (j, is, more) = (None, map mapped_of (items_where_true bs ms), (λ made both. false≢true ((tells p m false j is).1 both.1)), kept_so (k + 1) j q bs ms (omega arith) more, refl)
+  kept_so k p q bs ms size told = absurd (omega arith)
 
   pub filtered_so : (p : F) (ms rest : List Mapping) → IsFiltered R p ms rest → IsMadeFrom (λ j m made. (made ≡ m) × P m) 0 (map mapped_of ms) (map mapped_of rest)
   filtered_so p ms rest (bs, q, size, told, is) = subst (λ (xs : List Mapping). IsMadeFrom (λ j m made. (made ≡ m) × P m) 0 (map mapped_of ms) (map mapped_of xs)) (sym is) (kept_so 0 p q bs ms size told)
