@@ -261,8 +261,7 @@ said_for r law d means = sym (law (push_delete d) means)
 pub read_back_once : ReadsBack Fetch (codes "+main") → Reads Fetch (codes "+main") (fetched Forced (codes "main") None) → (q : Reading) → Reads Fetch (codes "main") q → meaning_of q ≡ Some (fetch_only (codes "main"))
 read_back_once law reads q again =
     let back = law (fetched Forced (codes "main") None) reads in
-    let text = same_Some (codes "main") back.text back.is in
-    ap meaning_of (back.again.only q (subst (λ (x : List ℕ). Reads Fetch x q) text again)) ∙ back.same
+    ap meaning_of (back.again.only q (subst (λ (x : List ℕ). Reads Fetch x q) (same_Some (codes "main") back.text back.is) again)) ∙ back.same
 
 pub reads_its_text : IsPrintedBack Fetch (fetched Forced (codes "main") None) → (q : Reading) × Reads Fetch (codes "main") q
 reads_its_text back = (back.again.reading, subst (λ (x : List ℕ). Reads Fetch x back.again.reading) (sym (same_Some (codes "main") back.text back.is)) back.again.reads)

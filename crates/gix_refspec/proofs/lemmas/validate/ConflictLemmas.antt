@@ -47,8 +47,7 @@ conflicting_fits ms run i d conflicting below = All-from_recursion (λ (c : Upda
     each [] same told = tt
     each (c ∷ cs) same told =
         let first = told c.index (inl (refl, same.0)) in
-        let below = slice_get_within (map mapped_of ms) c.index first.0 first.1 in
-        (omega (arith, below, length-map ms mapped_of), each cs same.1 (λ k has. told k (inr has)))
+        (omega (arith, (slice_get_within (map mapped_of ms) c.index first.0 first.1), length-map ms mapped_of), each cs same.1 (λ k has. told k (inr has)))
 
 -- the sources and texts of the updates of all sources of a destination are its conflict
 pub conflict_from_conflicting : (g : List Reading) (l : List Mapped) (run : List Update) (d : List ℕ) (sources : List Source) (texts : List (List ℕ)) → (conflicting : AreConflicting l run) → AreTold g l (updated_indexes run) sources texts → d ≡ conflicting.destination → IsConflictOf g l run (record { destination = d; sources = sources; texts = texts })
@@ -80,9 +79,8 @@ conflict_from_conflicting g l run d sources texts conflicting told to = subst (�
     )
 
     two : (cs : List Update) → 1 < length cs → Increase (updated_indexes cs) → ((k : ℕ) → Has (updated_indexes cs) k → IsFirstAt l k x) → HasConflictAt l x
-    two [] several up first = absurd (omega arith)
-    two (c ∷ []) several up first = absurd (omega arith)
     two (c ∷ y ∷ cs) several up first = contested_from_firsts l x c.index y.index up.0.0 (first c.index (inl refl)) (first y.index (inr (inl refl)))
+    two cs several up first = absurd (omega arith)
 
 pub copied_name : (n m : NameRef) → IsNameCopy n m → name_bytes m ≡ name_bytes n
 copied_name (Borrowed n) (Borrowed m) same = same
@@ -236,7 +234,8 @@ reported g l (r ∷ run) others cs c several split over settled =
       order = strict_right update_cmp (r ∷ run) others settled.order;
       each = all_join (IsConflict g l) cs (c ∷ []) settled.each (over.is, tt);
       below = all_join (λ y. AllByRecursion (λ z. slice_cmp nat_cmp y.destination z.destination.now ≡ Less) others) cs (c ∷ []) (all_still_below (r ∷ run) others cs settled.below) (subst (λ (d : List ℕ). AllByRecursion (λ z. slice_cmp nat_cmp d z.destination.now ≡ Less) others) (sym to) split.beyond, tt);
-      rise = subst (λ (ds : List (List ℕ)). IsStrictlySortedBy (slice_cmp nat_cmp) ds) (sym destinations) (rise_more (map (λ (y : Conflict). y.destination) cs) c.destination settled.rise (map_each _ (λ d. slice_cmp nat_cmp d c.destination ≡ Less) (λ (y : Conflict). y.destination) (λ y below. subst (λ (d : List ℕ). slice_cmp nat_cmp y.destination d ≡ Less) over.same.0 below.0) cs settled.below));
+      rise = subst (λ (ds : List (List ℕ)). IsStrictlySortedBy (slice_cmp nat_cmp) ds) (sym destinations) (rise_more (map (λ (y : Conflict). y.destination) cs) c.destination settled.rise
+          (map_each _ (λ d. slice_cmp nat_cmp d c.destination ≡ Less) (λ (y : Conflict). y.destination) (λ y below. subst (λ (d : List ℕ). slice_cmp nat_cmp y.destination d ≡ Less) over.same.0 below.0) cs settled.below));
       every = λ d contested. subst (λ (ds : List (List ℕ)). Contains ds d ⊎ ((k : ℕ) × HasUpdate others k d)) (sym destinations) (elim (settled.every d contested) [
         | inl told ↦ inl (Contains-append_left (map (λ (y : Conflict). y.destination) cs) (c.destination ∷ []) d told)
         | inr has ↦ elim (HasUpdate-cases (r ∷ run) others has.0 d has.1) [
@@ -277,8 +276,7 @@ firsts_from_updates ms flags cs repeats made = record {
   where
     flagged : (k : ℕ) (m : Mapped) → slice_get (map mapped_of ms) k ≡ Some m → IsFlagged flags k ↔ HasPair (take k (map mapped_of ms)) m
     flagged k m is =
-        let inside = slice_get_within (map mapped_of ms) k m is in
-        let below : k < length ms = omega (arith, inside, length-map ms mapped_of) in
+        let below : k < length ms = omega (arith, (slice_get_within (map mapped_of ms) k m is), length-map ms mapped_of) in
         let e = some_mapping ms k below in
         let here : slice_get (map mapped_of ms) k ≡ Some (mapped_of (get_or ms k e)) = slice_get-map mapped_of ms k ∙ ap (option_map mapped_of) (slice_get-get_or ms k e below) in
         let same : mapped_of (get_or ms k e) ≡ m = one_mapping (map mapped_of ms) k (mapped_of (get_or ms k e)) m here is in

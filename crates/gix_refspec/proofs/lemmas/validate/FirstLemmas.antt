@@ -1,8 +1,7 @@
 -- The first mappings from each source to each destination, by their indexes.
 use Rattle.gix_refspec.proofs.Common.{Ordering, equal_pair, pair_order, same_pair, all_weaker, ◌≡◌, ◌≢◌, ◌⊎◌, inl, inr, ◌↔◌, ℕ, zero, suc, ◌+◌, ◌-◌, ◌<◌, ◌≤◌, List, [], ◌∷◌, None, Some, Bool, true}
 use Rattle.gix_refspec.proofs.Common.{false, take, refl, sym, ap, ◌∙◌, subst, arith, AllByRecursion, AllZip, Contains, slice_get, bytes_eq, cases_lt, false≢true, get_or_from_slice_get}
-use Rattle.gix_refspec.proofs.Common.{slice_get-get_or, slice_get_within, bytes_eq-Decides, IsMadeFrom, Source, name, id, Mapped, IsSamePair, HasPair, HasConflictAt, IsFirstAt, Less, Equal, Greater}
-use Rattle.gix_refspec.proofs.Common.{by_cases}
+use Rattle.gix_refspec.proofs.Common.{slice_get-get_or, slice_get_within, bytes_eq-Decides, IsMadeFrom, Source, name, id, Mapped, IsSamePair, HasPair, HasConflictAt, IsFirstAt, Equal, by_cases}
 
 -- k is one of the numbers
 abbrev pub Has : List ℕ → ℕ → Type 0
@@ -111,8 +110,7 @@ links_cases source d m = by (pair_order m pair) refl
 
     by : (o : Ordering) → pair_order m pair ≡ o → Links source d m ⊎ ¬ (Links source d m)
     by Equal is = let same = same_pair m pair is in inl (same.source, same.destination)
-    by Less is = inr (λ both. let equal = equal_pair m pair (record { source = both.0; destination = both.1 }) in cc)
-    by Greater is = inr (λ both. let equal = equal_pair m pair (record { source = both.0; destination = both.1 }) in cc)
+    by o is = inr (λ both. let equal = equal_pair m pair (record { source = both.0; destination = both.1 }) in cc)
 
 -- of the mappings from a source to a destination, the first
 first_link : (source : Source) (d : List ℕ) (l : List Mapped) (i : ℕ) (m : Mapped) → slice_get l i ≡ Some m → Links source d m → (j : ℕ) × (n : Mapped) × (slice_get l j ≡ Some n) × Links source d n × ¬ (HasPair (take j l) n)

@@ -36,7 +36,6 @@ loop-spec-preserved c =
 
 pub returns-clause-serves : goal.returns-clause-serves
 returns-clause-serves c =
-    let specs = c.args.self.now.specs.items in
     let list = map bstring_bytes c.loop-spec.list.items in
-    let all = take_all c.loop-spec.spec-index specs (omega (arith, c.loop-spec-test.false, ap length c.deref-spec-items.ensures.value)) in
+    let all = take_all c.loop-spec.spec-index c.args.self.now.specs.items (omega (arith, c.loop-spec-test.false, ap length c.deref-spec-items.ensures.value)) in
     serves (readings_of c.args.self.now) list (subst (λ (xs : List RefSpecRef). ListsGroup (map reading_of xs) list) all c.loop-spec.invariant)

@@ -17,7 +17,6 @@ returns-then-branch-clause-ok c =
 pub issues_among-requires-clause-firsts : goal.issues_among-requires-clause-firsts
 issues_among-requires-clause-firsts c =
     let ms = c.args.mappings.now in
-    let flags = c.in_ok-repeats.repeats.items in
     subst (λ (cs : List Update). AreFirstUpdates (map mapped_of ms) cs) (sym c.as_slice-2.ensures.value)
-    (firsts_from_updates ms flags c.in_ok-firsts.firsts.items c.in_ok-repeats.ensures.ok
+    (firsts_from_updates ms c.in_ok-repeats.repeats.items c.in_ok-firsts.firsts.items c.in_ok-repeats.ensures.ok
     (subst (λ (fs : List Bool). AreUpdates (map mapped_of ms) fs c.in_ok-firsts.firsts.items) c.as_slice.ensures.value c.in_ok-firsts.ensures))

@@ -11,7 +11,5 @@ returns-then-mapping-len c = (
       let ms = c.deref-mapping-items.result.now in
       let told = subst (λ (xs : List Mapping). IndexesFit (readings_of c.args.self.now.group) (map mapped_of xs)) (sym c.deref-mapping-items.ensures.value) fits in
       let inside = spec_fits specs.items ms c.loop-mapping.mapping-index c.mapping-item.result told c.loop-mapping-test.true c.mapping-item.is in
-      let past = c.if-mapping-len.true in
-      let len = c.len.ensures in
-      absurd (omega (arith, inside, past, len, specs.ok.0, specs.ok.1)),
+      absurd (omega (arith, inside, c.if-mapping-len.true, c.len.ensures, specs.ok.0, specs.ok.1)),
 )
