@@ -3,9 +3,7 @@
 pub mod ValidationFacts
 pub mod PlanLawFacts
 pub mod RefNameFacts
-pub mod PlainNameFacts
 pub mod AskedFacts
-pub mod IndexFacts
 pub mod LawFacts
 pub mod ItemFacts
 pub mod KeptFacts

@@ -2,7 +2,6 @@
 pub mod UpdateLemmas
 pub mod FirstLemmas
 pub mod ConflictLemmas
-pub mod ValidationLemmas
 pub mod OneValidationLemmas
 pub mod AfterLemmas
 pub mod MadeAtLemmas

@@ -1,6 +1,6 @@
 -- a copy of a mapping with an invalid side is appended
 use Rattle.gix_refspec.proofs.Common.{◌≡◌, [], ◌+◌, Vec, Global, map, take, sym, subst, rules, AllByRecursion, InvalidMapping, mapped_of, AreLeftOut, IsLeftOut, HasRefNames, left_out_of}
-use Rattle.gix_refspec.proofs.lemmas.validate.ValidationLemmas.{nothing_more, one_more}
+use Rattle.gix_refspec.proofs.lemmas.validate.AfterLemmas.{nothing_more, one_more}
 use Rattle.gix_refspec.proofs.lemmas.validate.RefNameLemmas.{bad_unnamed, copied_mapping, some_unnamed}
 use Rattle.gix_refspec.proofs.match_group.ref_names.invalid_mappings.Goals as goal
 use Rattle.gix_refspec.proofs.match_group.ref_names.invalid_mappings.Goals.{in-Some+in_ok-clone+in_ok-push, in_default}

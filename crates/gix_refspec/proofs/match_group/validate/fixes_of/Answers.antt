@@ -2,7 +2,7 @@
 use Rattle.gix_refspec.proofs.Common.{MappingWithPartialDestinationRemoved, [], ◌+◌, ◌≡◌, Vec, Global, map, take, sym, ap, ◌∙◌, subst, rules, AllByRecursion, false≢true, Fix, reading_of, mapped_of}
 use Rattle.gix_refspec.proofs.Common.{AreFixes, IsFix, Survives, removed_of, None, Some, option_map, name_bytes, Removed}
 use Rattle.gix_refspec.proofs.lemmas.validate.ConflictLemmas.{spec_fits}
-use Rattle.gix_refspec.proofs.lemmas.validate.ValidationLemmas.{fix_of, no_fix_written, nothing_more, one_more}
+use Rattle.gix_refspec.proofs.lemmas.validate.AfterLemmas.{fix_of, no_fix_written, nothing_more, one_more}
 use Rattle.gix_refspec.proofs.match_group.validate.fixes_of.Goals as goal
 use Rattle.gix_refspec.proofs.match_group.validate.fixes_of.Goals.{in-Some+then-not-can_be_written+in_ok-from_slice+in_ok-to_owned+in_ok-push, in-Some+else-not-can_be_written, in_default}
 
