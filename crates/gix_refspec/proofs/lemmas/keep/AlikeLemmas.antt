@@ -40,51 +40,42 @@ alike_positive r q alike positive = (positive_sign q.mode).1 (sym alike.negative
 
 -- ---- fetches with one meaning
 
--- the sides and the sign of a fetch with this meaning
-said_source : Option Meaning → Option (List ℕ)
-said_source (Some (fetch_only s)) = Some s
-said_source (Some (fetch_exclude s)) = Some s
-said_source (Some (fetch_and_update s d forced)) = Some s
-said_source _ = None
+-- the sides of a fetch, and whether its sign is `^`
+record Parts : Type 0 where
+  source : Option (List ℕ)
+  destination : Option (List ℕ)
+  negative : Bool
 
-said_destination : Option Meaning → Option (List ℕ)
-said_destination (Some (fetch_and_update s d forced)) = Some d
-said_destination _ = None
+abbrev parts : Reading → Parts
+parts r = record { source = r.source; destination = r.destination; negative = is_negative r.mode }
 
-said_negative : Option Meaning → Bool
-said_negative (Some (fetch_exclude s)) = true
-said_negative _ = false
+-- those of a fetch with this meaning
+parts_of : Option Meaning → Parts
+parts_of (Some (fetch_only s)) = record { source = Some s; destination = None; negative = false }
+parts_of (Some (fetch_exclude s)) = record { source = Some s; destination = None; negative = true }
+parts_of (Some (fetch_and_update s d forced)) = record { source = Some s; destination = Some d; negative = false }
+parts_of _ = record { source = None; destination = None; negative = false }
 
--- the reading has the sides and the sign of its meaning
-record IsSaid (mode : Mode) (s d : Option (List ℕ)) (m : Option Meaning) : Type 0 where
-  pub source : s ≡ said_source m
-  pub destination : d ≡ said_destination m
-  pub negative : is_negative mode ≡ said_negative m
+-- a fetch has the parts of its meaning
+are_parts : (mode : Mode) (s d : Option (List ℕ)) (m : Meaning) → meaning Fetch mode s d ≡ Some m → parts_of (meaning Fetch mode s d) ≡ record { source = s; destination = d; negative = is_negative mode }
+unfolding parts_of
+are_parts Normal (Some s) None m means = refl
+are_parts Normal (Some s) (Some d) m means = refl
+are_parts Forced (Some s) None m means = refl
+are_parts Forced (Some s) (Some d) m means = refl
+are_parts Negative (Some s) None m means = refl
+are_parts mode s d m means = absurd (cc)
 
-is_said : (mode : Mode) (s d : Option (List ℕ)) (m : Meaning) → meaning Fetch mode s d ≡ Some m → IsSaid mode s d (meaning Fetch mode s d)
-unfolding said_source said_destination said_negative
-is_said Normal (Some s) None m means = record { source = refl; destination = refl; negative = refl }
-is_said Normal (Some s) (Some d) m means = record { source = refl; destination = refl; negative = refl }
-is_said Forced (Some s) None m means = record { source = refl; destination = refl; negative = refl }
-is_said Forced (Some s) (Some d) m means = record { source = refl; destination = refl; negative = refl }
-is_said Negative (Some s) None m means = record { source = refl; destination = refl; negative = refl }
-is_said mode s d m means = absurd (cc)
-
-fetch_said : (r : Reading) (m : Meaning) → r.operation ≡ Fetch → meaning_of r ≡ Some m → IsSaid r.mode r.source r.destination (meaning_of r)
-fetch_said r m fetch means =
+fetch_parts : (r : Reading) (m : Meaning) → r.operation ≡ Fetch → meaning_of r ≡ Some m → parts_of (meaning_of r) ≡ parts r
+fetch_parts r m fetch means =
     let same : meaning_of r ≡ meaning Fetch r.mode r.source r.destination = ap (λ (op : Operation). meaning op r.mode r.source r.destination) fetch in
-    subst (IsSaid r.mode r.source r.destination) (sym same) (is_said r.mode r.source r.destination m (sym same ∙ means))
+    ap parts_of same ∙ are_parts r.mode r.source r.destination m (sym same ∙ means)
 
 -- two fetches with the same meaning are alike: only the force of one without a destination may differ
 said_alike : (r q : Reading) (m : Meaning) → r.operation ≡ Fetch → q.operation ≡ Fetch → meaning_of r ≡ Some m → meaning_of q ≡ meaning_of r → AreAlike r q
 said_alike r q m fetch_r fetch_q means same =
-    let of_r = fetch_said r m fetch_r means in
-    let of_q = fetch_said q m fetch_q (same ∙ means) in
-    record {
-      source = of_r.source ∙ sym (of_q.source ∙ ap said_source same);
-      destination = of_r.destination ∙ sym (of_q.destination ∙ ap said_destination same);
-      negative = of_r.negative ∙ sym (of_q.negative ∙ ap said_negative same);
-    }
+    let both : parts r ≡ parts q = sym (fetch_parts r m fetch_r means) ∙ ap parts_of (sym same) ∙ fetch_parts q m fetch_q (same ∙ means) in
+    record { source = ap (λ (p : Parts). p.source) both; destination = ap (λ (p : Parts). p.destination) both; negative = ap (λ (p : Parts). p.negative) both }
 
 -- an accepted fetch and the reading of its canonical text are alike
 again_alike : (r q : Reading) → ∥ IsAccepted r ∥₁ → ReadsAgainAs r q → AreAlike r q

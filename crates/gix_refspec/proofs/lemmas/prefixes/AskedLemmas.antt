@@ -89,13 +89,10 @@ lists_once r a b (inr (x, asked, lists)) (inl (negative, empty)) = absurd (subst
 lists_once r a b (inr (x, asked, one)) (inr (y, also, other)) = as_once one.kind a b one.is (list_as x one.kind b one.of (subst (λ (z : List ℕ). ListsSide z b) (one_asked r y x also asked) other))
 
 -- if the list of a group is empty, so is that of each of its specs
-nothing_at : (specs : List RefSpecRef) (i : ℕ) (spec : RefSpecRef) → i < length specs → spec ≡ get_or specs i spec → ListsGroup (map reading_of specs) [] → Lists (reading_of spec) []
+pub nothing_at : (specs : List RefSpecRef) (i : ℕ) (spec : RefSpecRef) → i < length specs → spec ≡ get_or specs i spec → ListsGroup (map reading_of specs) [] → Lists (reading_of spec) []
 nothing_at specs i spec below is asks =
     nothing_joined (λ k r names. Lists r names) 0 (map reading_of (take i specs)) (reading_of spec) (map reading_of (drop (suc i) specs))
     (subst (λ (g : List Reading). ListsGroup g []) (map_split reading_of specs i spec below ∙ ap (λ (s : RefSpecRef). map reading_of (take i specs) ++ (reading_of s ∷ map reading_of (drop (suc i) specs))) (sym is)) asks)
-
-pub asks_something : (specs : List RefSpecRef) (i : ℕ) (spec : RefSpecRef) → i < length specs → spec ≡ get_or specs i spec → ¬ (Lists (reading_of spec) []) → ¬ (ListsGroup (map reading_of specs) [])
-asks_something specs i spec below is some asks = some (nothing_at specs i spec below is asks)
 
 pub asks_no_names : (specs : List RefSpecRef) (i : ℕ) (spec : RefSpecRef) (names : List BString) → i < length specs → spec ≡ get_or specs i spec → Lists (reading_of spec) (map bstring_bytes names) → ListsGroup (map reading_of specs) [] → length names ≡ 0
 asks_no_names specs i spec names below is lists asks = sym (length-map names bstring_bytes) ∙ ap length (lists_once (reading_of spec) (map bstring_bytes names) [] lists (nothing_at specs i spec below is asks))

@@ -1,13 +1,13 @@
 -- the list of each spec is appended
 use Rattle.gix_refspec.proofs.Common.{◌≡◌, ◌<◌, List, length, map, get_or, ap, subst, arith, take_all, bstring_bytes, RefSpecRef, reading_of, readings_of, ListsGroup}
-use Rattle.gix_refspec.proofs.lemmas.prefixes.AskedLemmas.{asks_no_names, asks_something, given_list, missing_list, none_at, one_more_list, serves}
+use Rattle.gix_refspec.proofs.lemmas.prefixes.AskedLemmas.{asks_no_names, given_list, missing_list, none_at, nothing_at, one_more_list, serves}
 use Rattle.gix_refspec_text.proofs.lemmas.prefixes.PrefixLemmas.{on_any_error}
 use Rattle.gix_refspec.proofs.match_group.types.MatchGroup.ref_prefixes.Goals as goal
 
 pub returns-in_err-names-clause-memory : goal.returns-in_err-names-clause-memory
 returns-in_err-names-clause-memory c =
     on_any_error c.from_residual.result
-    (rw (← c.deref-spec-items.ensures.value) (asks_something c.deref-spec-items.result.now c.loop-spec.spec-index c.spec-item.result c.loop-spec-test.true c.spec-item.is c.in_err-names.ensures.memory))
+    (rw (← c.deref-spec-items.ensures.value) (λ asks. c.in_err-names.ensures.memory (nothing_at c.deref-spec-items.result.now c.loop-spec.spec-index c.spec-item.result c.loop-spec-test.true c.spec-item.is asks)))
 
 pub returns-in_default-clause-ok : goal.returns-in_default-clause-ok
 returns-in_default-clause-ok c =
