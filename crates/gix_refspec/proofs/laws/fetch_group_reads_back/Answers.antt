@@ -1,7 +1,6 @@
 -- Fetches with the same meaning have the same sides, and both are negative or neither is.
-use Rattle.gix_refspec.proofs.Common.{map, ref_of, readings_of}
 use Rattle.gix_refspec.proofs.lemmas.keep.AlikeLemmas.{reads_back}
 use Rattle.gix_refspec.proofs.laws.fetch_group_reads_back.Goals as goal
 
 pub returns : goal.returns
-returns c = reads_back c.args.group.now.specs.items (readings_of c.args.again.now) (map ref_of c.args.items.now)
+returns c = reads_back c.args.group.now.specs.items _ _

@@ -1,7 +1,6 @@
 -- A partial source takes the first of its candidates that some item has.
-use Rattle.gix_refspec.proofs.Common.{map, ref_of}
 use Rattle.gix_refspec_text.proofs.lemmas.hits.CandidateLemmas.{takes_first}
 use Rattle.gix_refspec.proofs.laws.first_candidate.Goals as goal
 
 pub returns : goal.returns
-returns c = takes_first c.args.side.now (map ref_of c.args.items.now)
+returns c = takes_first c.args.side.now _

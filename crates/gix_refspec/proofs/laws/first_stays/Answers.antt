@@ -1,7 +1,6 @@
 -- For all readings and refs.
-use Rattle.gix_refspec.proofs.Common.{map, ref_of, readings_of}
 use Rattle.gix_refspec.proofs.lemmas.keep.PairMadeLemmas.{first_stays}
 use Rattle.gix_refspec.proofs.laws.first_stays.Goals as goal
 
 pub returns : goal.returns
-returns c = first_stays (readings_of c.args.group.now) (map ref_of c.args.items.now)
+returns c = first_stays _ _

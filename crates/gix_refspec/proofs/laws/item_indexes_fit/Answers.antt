@@ -1,7 +1,6 @@
 -- For all readings and refs.
-use Rattle.gix_refspec.proofs.Common.{map, ref_of, readings_of}
 use Rattle.gix_refspec.proofs.lemmas.validate.MadeAtLemmas.{item_indexes_fit}
 use Rattle.gix_refspec.proofs.laws.item_indexes_fit.Goals as goal
 
 pub returns : goal.returns
-returns c = item_indexes_fit (readings_of c.args.group.now) (map ref_of c.args.items.now)
+returns c = item_indexes_fit _ _

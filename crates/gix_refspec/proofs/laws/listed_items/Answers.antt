@@ -1,10 +1,9 @@
 -- For all readings and refs.
-use Rattle.gix_refspec.proofs.Common.{map, ref_of, readings_of}
 use Rattle.gix_refspec.proofs.lemmas.keep.FilterLemmas.{filtered_by_entries, listed_items}
 use Rattle.gix_refspec.proofs.laws.listed_items.Goals as goal
 
 pub returns-clause-kept : goal.returns-clause-kept
-returns-clause-kept c = listed_items (readings_of c.args.group.now) (map ref_of c.args.items.now) (map ref_of c.args.listed.now)
+returns-clause-kept c = listed_items _ _ _
 
 pub returns-clause-filtered : goal.returns-clause-filtered
-returns-clause-filtered c = filtered_by_entries (readings_of c.args.group.now) c.args.items.now c.args.listed.now
+returns-clause-filtered c = filtered_by_entries _ c.args.items.now c.args.listed.now

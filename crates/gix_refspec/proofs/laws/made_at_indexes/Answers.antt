@@ -1,7 +1,6 @@
 -- For all readings and refs.
-use Rattle.gix_refspec.proofs.Common.{map, ref_of, readings_of}
 use Rattle.gix_refspec.proofs.lemmas.validate.MadeAtLemmas.{made_at_indexes}
 use Rattle.gix_refspec.proofs.laws.made_at_indexes.Goals as goal
 
 pub returns : goal.returns
-returns c = made_at_indexes (readings_of c.args.group.now) (map ref_of c.args.items.now)
+returns c = made_at_indexes _ _

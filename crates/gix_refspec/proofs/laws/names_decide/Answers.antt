@@ -1,7 +1,6 @@
 -- For all readings and refs.
-use Rattle.gix_refspec.proofs.Common.{map, ref_of, readings_of}
 use Rattle.gix_refspec.proofs.lemmas.keep.NameOnlyLemmas.{names_decide}
 use Rattle.gix_refspec.proofs.laws.names_decide.Goals as goal
 
 pub returns : goal.returns
-returns c = names_decide (readings_of c.args.group.now) (map ref_of c.args.items.now)
+returns c = names_decide _ _

@@ -1,7 +1,6 @@
 -- Kept mappings aren't excluded.
-use Rattle.gix_refspec.proofs.Common.{map, ref_of, readings_of}
 use Rattle.gix_refspec.proofs.lemmas.keep.PairMadeLemmas.{nothing_excluded}
 use Rattle.gix_refspec.proofs.laws.nothing_excluded.Goals as goal
 
 pub returns : goal.returns
-returns c = nothing_excluded (readings_of c.args.group.now) (map ref_of c.args.items.now)
+returns c = nothing_excluded _ _

@@ -1,7 +1,6 @@
 -- For all mappings.
-use Rattle.gix_refspec.proofs.Common.{readings_of, mappings_of}
 use Rattle.gix_refspec.proofs.lemmas.validate.MadeAtLemmas.{remains_exactly}
 use Rattle.gix_refspec.proofs.laws.remains_exactly.Goals as goal
 
 pub returns : goal.returns
-returns c = remains_exactly (readings_of c.args.outcome.now.group) (mappings_of c.args.outcome.now)
+returns c = remains_exactly _ _

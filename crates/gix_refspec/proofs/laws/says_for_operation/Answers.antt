@@ -1,7 +1,6 @@
 -- By cases on the meaning of a reading.
-use Rattle.gix_refspec.proofs.Common.{reading_of}
 use Rattle.gix_refspec_text.proofs.lemmas.specs.SpecLemmas.{says_for_operation}
 use Rattle.gix_refspec.proofs.laws.says_for_operation.Goals as goal
 
 pub returns : goal.returns
-returns c = says_for_operation (reading_of c.args.spec.now)
+returns c = says_for_operation _
