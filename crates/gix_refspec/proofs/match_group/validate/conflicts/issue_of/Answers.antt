@@ -1,7 +1,6 @@
 -- each update gives its source and its text
-use Rattle.gix_refspec.proofs.Common.{◌≡◌, List, map, get_or, ◌∙◌, subst, arith, rules, bstring_bytes, map-append, take_all, All-from_recursion, Update, reading_of, mapped_of, start_of}
-use Rattle.gix_refspec.proofs.Common.{updated_indexes, [], ◌∷◌}
-use Rattle.gix_refspec.proofs.lemmas.validate.ConflictLemmas.{AreTold, conflict_from_conflicting, copied_source, conflicting_fits, spec_fits, text_at, told_more}
+use Rattle.gix_refspec.proofs.Common.{◌≡◌, get_or, ◌∙◌, arith, rules, bstring_bytes, map-append, take_all, All-from_recursion, Update, start_of, [], ◌∷◌}
+use Rattle.gix_refspec.proofs.lemmas.validate.ConflictLemmas.{conflict_from_conflicting, copied_source, conflicting_fits, spec_fits, text_at, told_more}
 use Rattle.gix_refspec.proofs.lemmas.validate.UpdateLemmas.{past_end}
 use Rattle.gix_refspec.proofs.match_group.validate.conflicts.issue_of.Goals as goal
 
@@ -24,12 +23,11 @@ loop-update-preserved c =
     let ms = c.args.mappings.now in
     let run = c.args.run.now in
     let i = c.loop-update.update-index in
-    let g = map reading_of c.args.specs.now in
     let m = c.index-mappings-update.result in
     let fits = conflicting_fits ms run i past_end c.requires.conflicting c.loop-update-test.true in
     let source = c.in_ok-into_owned.field-0 in
     let text = c.in_ok-to_bstring.field-0 in
-    let told = told_more g ms run i past_end m (start_of source) (bstring_bytes text) (map start_of c.loop-update.sources.items) (map bstring_bytes c.loop-update.texts.items) c.loop-update-test.true fits c.index-mappings-update.is
+    let told = told_more _ ms run i past_end m (start_of source) (bstring_bytes text) _ _ c.loop-update-test.true fits c.index-mappings-update.is
     (c.in_ok-into_owned.ensures.keeps ∙ copied_source m.lhs c.in_ok-clone.field-0 c.in_ok-clone.ensures.keeps)
     (text_at c.args.specs.now m.spec_index c.index-specs-mapping.result (bstring_bytes text) (spec_fits c.args.specs.now ms (get_or run i past_end).index m c.requires.fits fits c.index-mappings-update.is) c.index-specs-mapping.is c.in_ok-to_bstring.ensures)
     c.loop-update.invariant in
@@ -38,11 +36,7 @@ loop-update-preserved c =
 pub returns : goal.returns
 returns c =
     let run = c.args.run.now in
-    let g = map reading_of c.args.specs.now in
-    let l = map mapped_of c.args.mappings.now in
     let conflicting = c.requires.conflicting in
     let several = conflicting.several in
     let first : (get_or run 0 past_end).destination.now ≡ conflicting.destination = All-from_recursion (λ (x : Update). x.destination.now ≡ conflicting.destination) run conflicting.same 0 past_end (omega (arith, several)) in
-    conflict_from_conflicting g l run (bstring_bytes c.in_ok-from_slice.field-0) (map start_of c.loop-update.sources.items) (map bstring_bytes c.loop-update.texts.items) conflicting
-    (subst (λ (cs : List Update). AreTold g l (updated_indexes cs) (map start_of c.loop-update.sources.items) (map bstring_bytes c.loop-update.texts.items)) (take_all c.loop-update.update-index run (omega arith)) c.loop-update.invariant)
-    (c.in_ok-from_slice.ensures ∙ c.new.ensures ∙ first)
+    conflict_from_conflicting _ _ run _ _ _ conflicting (rw (take_all c.loop-update.update-index run (omega arith)) at c.loop-update.invariant) (c.in_ok-from_slice.ensures ∙ c.new.ensures ∙ first)

@@ -1,12 +1,12 @@
 -- one more run is settled
-use Rattle.gix_refspec.proofs.Common.{◌≡◌, ◌-◌, ◌≤◌, List, length, map, take, drop, sym, ap, subst, arith, drop-drop, length-drop, take_all, reading_of, mapped_of, Conflict, conflict_of}
-use Rattle.gix_refspec.proofs.lemmas.validate.ConflictLemmas.{AreReported, all_reported, conflicting_of_run, reported_more, reported_none}
+use Rattle.gix_refspec.proofs.Common.{◌≡◌, ◌-◌, ◌≤◌, length, take, drop, arith, drop-drop, length-drop, take_all}
+use Rattle.gix_refspec.proofs.lemmas.validate.ConflictLemmas.{all_reported, conflicting_of_run, reported_more, reported_none}
 use Rattle.gix_refspec.proofs.match_group.validate.conflicts.issues_among.Goals as goal
 
 pub loop-at-init : goal.loop-at-init
 loop-at-init c = (
   omega arith,
-  subst (λ (cs : List Conflict). AreReported (map reading_of c.args.specs.now) (map mapped_of c.args.mappings.now) c.args.firsts.now cs) (sym (ap (map conflict_of) c.new-issues.ensures.items)) (reported_none (map reading_of c.args.specs.now) (map mapped_of c.args.mappings.now) c.args.firsts.now c.requires.firsts),
+  rw c.new-issues.ensures.items (reported_none _ _ c.args.firsts.now c.requires.firsts),
 )
 
 pub add_issue-requires-clause-conflicting : goal.add_issue-requires-clause-conflicting
@@ -29,4 +29,4 @@ loop-at-preserved c =
     )
 
 pub returns : goal.returns
-returns c = all_reported (map reading_of c.args.specs.now) (map mapped_of c.args.mappings.now) (drop c.loop-at.at c.args.firsts.now) (map conflict_of c.loop-at.issues.items) (omega (arith, length-drop c.loop-at.at c.args.firsts.now)) c.loop-at.invariant.1
+returns c = all_reported _ _ (drop c.loop-at.at c.args.firsts.now) _ (omega (arith, length-drop c.loop-at.at c.args.firsts.now)) c.loop-at.invariant.1
