@@ -1,5 +1,5 @@
 -- a copy of a mapping with an invalid side is appended
-use Rattle.gix_refspec.proofs.Common.{◌≡◌, [], ◌+◌, Vec, Global, map, take, sym, subst, rules, AllByRecursion, InvalidMapping, mapped_of, AreLeftOut, IsLeftOut, HasRefNames, left_out_of}
+use Rattle.gix_refspec.proofs.Common.{map, rules, InvalidMapping, mapped_of, IsLeftOut, HasRefNames, left_out_of}
 use Rattle.gix_refspec.proofs.lemmas.validate.AfterLemmas.{nothing_more, one_more}
 use Rattle.gix_refspec.proofs.lemmas.validate.RefNameLemmas.{bad_unnamed, copied_mapping, some_unnamed}
 use Rattle.gix_refspec.proofs.match_group.ref_names.invalid_mappings.Goals as goal
@@ -19,14 +19,12 @@ loop-mapping-preserved c =
     let i = c.loop-mapping.mapping-index in
     let m = c.mapping-item.result in
     let bad = map left_out_of c.loop-mapping.bad.items in
-    let after = map mapped_of (take (i + 1) ms) in
-    let stays : Vec InvalidMapping Global → Type 0 = λ v. AreLeftOut after (map left_out_of v.items) × (v.items ≡ [] → AllByRecursion HasRefNames after) in
     elim c.match-invalid_side.branch [
       | in-Some+in_ok-clone+in_ok-push w ↦
           let one : InvalidMapping = record { mapping = w.in_ok-clone.field-0; side = w.in-Some.side } in
           let left : IsLeftOut (mapped_of m) (left_out_of one) = record { same = copied_mapping m w.in_ok-clone.field-0 w.in_ok-clone.ensures.keeps; bad = w.in-Some.ensures } in
-          subst stays (sym w.bad-is) (one_more (λ k n made. IsLeftOut n made) HasRefNames left_out_of ms i m c.loop-mapping.bad.items w.push.new.self.items one c.loop-mapping-test.true c.mapping-item.is w.in_ok-push.ensures.items left c.loop-mapping.invariant.0)
+          rw w.bad-is (one_more (λ k n made. IsLeftOut n made) HasRefNames left_out_of ms i m c.loop-mapping.bad.items w.push.new.self.items one c.loop-mapping-test.true c.mapping-item.is w.in_ok-push.ensures.items left c.loop-mapping.invariant.0)
       | in_default w ↦
-          subst stays (sym w.bad-is)
+          rw w.bad-is
           (nothing_more (λ k n made. IsLeftOut n made) HasRefNames ms i m bad c.loop-mapping-test.true c.mapping-item.is (λ made out. bad_unnamed made.side (mapped_of m) out.bad w.in_default.ensures) w.in_default.ensures c.loop-mapping.invariant)
     ]

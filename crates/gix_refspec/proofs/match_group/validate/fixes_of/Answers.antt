@@ -1,6 +1,6 @@
 -- a mapping that can't be written has a fix
-use Rattle.gix_refspec.proofs.Common.{MappingWithPartialDestinationRemoved, [], ◌+◌, ◌≡◌, Vec, Global, map, take, sym, ap, ◌∙◌, subst, rules, AllByRecursion, false≢true, Fix, reading_of, mapped_of}
-use Rattle.gix_refspec.proofs.Common.{AreFixes, IsFix, Survives, removed_of, None, Some, option_map, name_bytes, Removed}
+use Rattle.gix_refspec.proofs.Common.{MappingWithPartialDestinationRemoved, ◌≡◌, map, sym, ap, ◌∙◌, rules, false≢true, Fix, reading_of, mapped_of, IsFix, Survives, removed_of, None, Some, option_map}
+use Rattle.gix_refspec.proofs.Common.{name_bytes, Removed}
 use Rattle.gix_refspec.proofs.lemmas.validate.ConflictLemmas.{spec_fits}
 use Rattle.gix_refspec.proofs.lemmas.validate.AfterLemmas.{fix_of, no_fix_written, nothing_more, one_more}
 use Rattle.gix_refspec.proofs.match_group.validate.fixes_of.Goals as goal
@@ -20,17 +20,15 @@ loop-mapping-preserved c =
     let i = c.loop-mapping.mapping-index in
     let m = c.mapping-item.result in
     let fixes = map removed_of c.loop-mapping.fixes.items in
-    let after = map mapped_of (take (i + 1) ms) in
-    let stays : Vec Fix Global → Type 0 = λ v. AreFixes g after (map removed_of v.items) × (v.items ≡ [] → AllByRecursion Survives after) in
     elim c.match-mapping.branch [
       | in-Some+then-not-can_be_written+in_ok-from_slice+in_ok-to_owned+in_ok-push w ↦
           let one : Fix = MappingWithPartialDestinationRemoved w.in_ok-from_slice.field-0 w.in_ok-to_owned.field-0 in
           let is = fix_of specs m w.in-Some.name w.index-specs-mapping.result (removed_of one) w.in-Some.is (λ writable. false≢true (sym w.if-not-can_be_written.true ∙ w.can_be_written.ensures.1 writable)) (spec_fits specs ms i m c.requires c.loop-mapping-test.true c.mapping-item.is) w.index-specs-mapping.is (w.in_ok-from_slice.ensures ∙ w.as_bstr.ensures) w.in_ok-to_owned.ensures.keeps in
-          subst stays (sym w.fixes-is) (one_more (λ k n fix. IsFix g n fix) Survives removed_of ms i m c.loop-mapping.fixes.items w.push.new.self.items one c.loop-mapping-test.true c.mapping-item.is w.in_ok-push.ensures.items is c.loop-mapping.invariant.0)
+          rw w.fixes-is (one_more (λ k n fix. IsFix g n fix) Survives removed_of ms i m c.loop-mapping.fixes.items w.push.new.self.items one c.loop-mapping-test.true c.mapping-item.is w.in_ok-push.ensures.items is c.loop-mapping.invariant.0)
       | in-Some+else-not-can_be_written w ↦
           let writable = w.can_be_written.ensures.0 w.if-not-can_be_written.false in
-          subst stays (sym w.fixes-is) (nothing_more (λ k n fix. IsFix g n fix) Survives ms i m fixes c.loop-mapping-test.true c.mapping-item.is (no_fix_written g m w.in-Some.name w.in-Some.is writable) (rw w.in-Some.is writable) c.loop-mapping.invariant)
+          rw w.fixes-is (nothing_more (λ k n fix. IsFix g n fix) Survives ms i m fixes c.loop-mapping-test.true c.mapping-item.is (no_fix_written g m w.in-Some.name w.in-Some.is writable) (rw w.in-Some.is writable) c.loop-mapping.invariant)
       | in_default w ↦
           let no_fix : (fix : Removed) → ¬ (IsFix g (mapped_of m) fix) = λ fix is. let gone : None ≡ Some fix.destination = sym (ap (option_map name_bytes) w.in_default.is) ∙ is.goes in cc in
-          subst stays (sym w.fixes-is) (nothing_more (λ k n fix. IsFix g n fix) Survives ms i m fixes c.loop-mapping-test.true c.mapping-item.is no_fix (rw w.in_default.is tt) c.loop-mapping.invariant)
+          rw w.fixes-is (nothing_more (λ k n fix. IsFix g n fix) Survives ms i m fixes c.loop-mapping-test.true c.mapping-item.is no_fix (rw w.in_default.is tt) c.loop-mapping.invariant)
     ]

@@ -1,5 +1,5 @@
 -- the list of each spec is appended
-use Rattle.gix_refspec.proofs.Common.{◌≡◌, ◌<◌, List, length, map, get_or, ap, subst, arith, take_all, bstring_bytes, RefSpecRef, reading_of, readings_of, ListsGroup}
+use Rattle.gix_refspec.proofs.Common.{length, ap, arith, take_all, reading_of}
 use Rattle.gix_refspec.proofs.lemmas.prefixes.AskedLemmas.{asks_no_names, given_list, missing_list, none_at, nothing_at, one_more_list, serves}
 use Rattle.gix_refspec_text.proofs.lemmas.prefixes.PrefixLemmas.{on_any_error}
 use Rattle.gix_refspec.proofs.match_group.types.MatchGroup.ref_prefixes.Goals as goal
@@ -26,16 +26,13 @@ returns-in_err-append-clause-memory c =
 
 pub loop-spec-preserved : goal.loop-spec-preserved
 loop-spec-preserved c =
-    let specs = c.args.self.now.specs.items in
-    let i = c.loop-spec.spec-index in
-    let spec = c.spec-item.result in
+    let specs = c.deref-spec-items.result.now in
     let names = c.in-Some.names in
-    let value = c.deref-spec-items.ensures.value in
-    let given = given_list (reading_of spec) c.in_ok-names.field-0 names c.in-Some.is c.in_ok-names.ensures.ok in
-    one_more_list specs i spec c.loop-spec.list.items names.items c.append.new.self.items (subst (λ (xs : List RefSpecRef). i < length xs) value c.loop-spec-test.true) (subst (λ (xs : List RefSpecRef). spec ≡ get_or xs i spec) value c.spec-item.is) c.in_ok-append.ensures.items given c.loop-spec.invariant
+    let given = given_list (reading_of c.spec-item.result) c.in_ok-names.field-0 names c.in-Some.is c.in_ok-names.ensures.ok in
+    rw (← c.deref-spec-items.ensures.value)
+    (one_more_list specs c.loop-spec.spec-index c.spec-item.result c.loop-spec.list.items names.items c.append.new.self.items c.loop-spec-test.true c.spec-item.is c.in_ok-append.ensures.items given (rw (← c.deref-spec-items.ensures.value) at c.loop-spec.invariant))
 
 pub returns-clause-serves : goal.returns-clause-serves
 returns-clause-serves c =
-    let list = map bstring_bytes c.loop-spec.list.items in
     let all = take_all c.loop-spec.spec-index c.args.self.now.specs.items (omega (arith, c.loop-spec-test.false, ap length c.deref-spec-items.ensures.value)) in
-    serves (readings_of c.args.self.now) list (subst (λ (xs : List RefSpecRef). ListsGroup (map reading_of xs) list) all c.loop-spec.invariant)
+    serves _ _ (rw all at c.loop-spec.invariant)
