@@ -1,23 +1,17 @@
 -- What most proofs of this crate need: names of std, and the words of specs/ of this crate and of those below it.
-pub use Rattle.std.proofs.Common.{◌≡◌, inl, inr, ℕ, zero, suc, List, [], ◌∷◌, ◌++◌, None, Some, codes, length, refl, sym, ap, subst, arith, ◌≢◌, true, false, Option, map, option_map, replicate, Vec}
-pub use Rattle.std.proofs.Common.{Global, ◌∙◌, Bool, ◌⊎◌, ◌<◌, get_or, IsTrue, ◌↔◌, ◌&&◌, rules, map-id, unwrap_or, ◌+◌, nat_eq, option_to_list, length-append, take, append_assoc, MatchOption, drop}
-pub use Rattle.std.proofs.Common.{not, ◌==◌, ◌≤◌, ◌||◌, nat_le, if◌then◌else◌, ◌-◌}
+pub use Rattle.std.proofs.Common.{◌≡◌, inl, inr, ℕ, zero, suc, List, [], ◌∷◌, ◌++◌, None, Some, codes, length, refl, sym, ap, subst, arith, ◌≢◌, true, false, Option, map, option_map, replicate, Vec, Global}
+pub use Rattle.std.proofs.Common.{◌∙◌, Bool, ◌⊎◌, ◌<◌, get_or, IsTrue, ◌↔◌, ◌&&◌, rules, map-id, unwrap_or, ◌+◌, nat_eq, option_to_list, length-append, take, append_assoc, MatchOption, drop, not, ◌==◌, ◌≤◌}
+pub use Rattle.std.proofs.Common.{◌||◌, nat_le, if◌then◌else◌, ◌-◌, IsPermutation, IsSorted, Ordering, Less, Equal, Greater, IsSome, bytes_eq, take_all, drop-drop}
 pub use Rattle.std.specs.List.{Any, filter, Contains, slice_get, AllByRecursion, list_all, list_any, AllZip, starts_with, join_with_byte, slice_split, items_where_true}
 pub use Rattle.std.proofs.lemmas.Bool.{false≢true, and_parts, and_from, or_left, or_right, or_parts, true≢false, eqb-true, lt-leb, lt-ltb, cases_lt, not-false, not-true}
 pub use Rattle.std.proofs.lemmas.Option.{same_Some, slice_get-get_or, slice_get-map, slice_get_read, slice_get_within, get_or_from_slice_get}
-pub use Rattle.std.specs.List.Sorted.{IsPermutation, IsSorted}
 unfoldable pub use Rattle.std.specs.List.Sorted.{IsStrictlySortedBy}
 pub use Rattle.std.specs.Ordering.{nat_cmp, is_lt, ordering_then, ordering_reverse}
 pub use Rattle.std.specs.Cmp.Lexicographic.{slice_cmp, pointwise, nat_list_cmp_total}
-pub use Rattle.std.specs.declared.cmp.Ordering.{Ordering}
-pub use Rattle.std.specs.declared.cmp.Ordering.TheVariants.{Less, Equal, Greater}
 pub use Rattle.std.proofs.lemmas.Slice.Eq.{bytes_eq-Decides, starts_is}
-pub use Rattle.std.specs.Prelude.{IsSome}
 pub use Rattle.std.proofs.lemmas.List.{get_or-map, length-map, append-nil, map-append, map_more, get_or_past, length-take-le, take-append-drop, take_more, drop_more, length-drop, nil_from_length}
-pub use Rattle.std.proofs.lemmas.List.{take_all, drop-drop, get_or_default}
-pub use Rattle.std.proofs.lemmas.List.Elements.{All-contains, All-contains_itself, All-filter, recursion_from_All, All-from_recursion, Contains-get_or, Contains-append_left, Contains-push}
-pub use Rattle.std.proofs.lemmas.List.Elements.{all_zip_more}
-pub use Rattle.std.specs.Str.{bytes_eq}
+pub use Rattle.std.proofs.lemmas.List.{get_or_default}
+pub use Rattle.std.proofs.lemmas.List.Elements.{All-contains, All-contains_itself, All-filter, recursion_from_All, All-from_recursion, Contains-get_or, Contains-append_left, Contains-push, all_zip_more}
 pub use Rattle.bstr.specs.declared.bstring.BString.{BString}
 pub use Rattle.bstr.specs.Owned.{bstring_bytes}
 pub use Rattle.bstr.specs.BStr.{bstr_bytes}
@@ -25,8 +19,8 @@ pub use Rattle.bstr.specs.declared.bstr.BStr.{BStr}
 pub use Rattle.gix_refspec_text.specs.Texts.Bytes.{bracket, star, head, colon, slash, at, brace, dot, letter}
 pub use Rattle.gix_refspec_text.specs.Texts.Words.{BeginsWith, Lacks, EndsWith, ArePartsAt}
 pub use Rattle.gix_refspec_text.specs.Specs.Reading.{Normal, Reading, Forced, Negative, Mode, side_on_remote}
-pub use Rattle.gix_refspec_text.specs.Specs.Grammar.{fetched, pushed, IsPositive, AreParts, Reads, fetches, IsAccepted, fetches_nothing_named, fetches_colon, updates, updates_from_head}
-pub use Rattle.gix_refspec_text.specs.Specs.Grammar.{fetch_excludes, pushes_plus, pushes_colon, pushes, deletes, pushes_pattern, pushes_to, push_excludes, IsNameOrPattern, AreAlike, named_by}
+pub use Rattle.gix_refspec_text.specs.Specs.Grammar.{fetched, pushed, IsPositive, AreParts, Reads, fetches, IsAccepted, fetches_nothing_named, fetches_colon, updates, updates_from_head, fetch_excludes}
+pub use Rattle.gix_refspec_text.specs.Specs.Grammar.{pushes_plus, pushes_colon, pushes, deletes, pushes_pattern, pushes_to, push_excludes, IsNameOrPattern, AreAlike, named_by}
 pub use Rattle.gix_refspec_text.specs.Matching.Side.{pattern, partial, object, HasKind, candidates, full_name, filled, IsCandidate, Fits, SideKind, IsId}
 pub use Rattle.gix_refspec_text.specs.Matching.Prefix.{IsRefPrefix, to_prefix, IsAsked, IsPrefix, Expands, to_candidates, of_head, IsExpansion}
 pub use Rattle.gix_refspec_text.specs.Matching.Match.{Ref, HasName, Matches, Takes, IsFirstCandidate, MatchesAs}
@@ -57,8 +51,8 @@ pub use Rattle.gix_refspec_match.specs.Private.Orders.{equal_pair, pair_order, s
 pub use Rattle.gix_refspec_match.specs.Private.Kept.{IsFlagged, Rises}
 pub use Rattle.gix_refspec.specs.Matching.Asked.{HasNoList, Lists, ListsGroup, ListsSide, Serves, ListsAs}
 pub use Rattle.gix_refspec.specs.Laws.Matching.{EqualGroups, AreFetches, FetchTheSame, BeginsWithOne, IsCoveredBy, AreExpansions, MakesForward, MakesBackward, PairsId, KeptExactly, FirstStays}
-pub use Rattle.gix_refspec.specs.Laws.Matching.{NothingExcluded, MapAlike, AreReadAgain, AsksFor, AtSpec, EachSource, Transpose, Cover, CoverTogether, FetchGroupReadsBack, IsSourceAmong}
-pub use Rattle.gix_refspec.specs.Laws.Matching.{IsDestinationAmong, GoesBothWays, ReadsAgainAs, IsFirstOfPair, PairsItem, IsPaired}
+pub use Rattle.gix_refspec.specs.Laws.Matching.{NothingExcluded, MapAlike, AreReadAgain, AsksFor, AtSpec, EachSource, Transpose, Cover, CoverTogether, FetchGroupReadsBack, IsSourceAmong, IsDestinationAmong}
+pub use Rattle.gix_refspec.specs.Laws.Matching.{GoesBothWays, ReadsAgainAs, IsFirstOfPair, PairsItem, IsPaired}
 pub use Rattle.gix_refspec.specs.declared.match_group.types.MatchGroup.{MatchGroup}
 pub use Rattle.gix_refspec.specs.declared.match_group.validate.Fix.{Fix}
 pub use Rattle.gix_refspec.specs.declared.match_group.validate.Fix.TheVariants.{MappingWithPartialDestinationRemoved}
@@ -71,15 +65,14 @@ pub use Rattle.gix_refspec.specs.Views.Issue.{ForwardOutcome, mappings_of, confl
 pub use Rattle.gix_refspec.specs.Laws.Indexes.{MakesForwardOf, MakesBackwardOf, MadeAtIndexes, RemainsExactly, TakesAt}
 pub use Rattle.gix_refspec.specs.Matching.RefNames.{KeepsRefNames, LeftOut, IsRefName, AreLeftOut, HaveRefNames, IsInvalidAt, IsLeftOut, HasRefNames, IsValidDestination, IsValidSource, StaysAmongRefs}
 pub use Rattle.gix_refspec.specs.Matching.RefNames.{WritesRefs, left_out_of, WritesRef}
-pub use Rattle.gix_refspec.specs.Laws.Items.{AreAskedFor, ArePart, AskedItems, TakesItem, HasTaken, HaveSamePairs, FewerItems, FetchesHead, IsListed, AreListedItems, ListedItems, PassesTaken}
-pub use Rattle.gix_refspec.specs.Laws.Items.{FilteredItems, is_begun, FilteredByEntries, FilteredByList, AsksForNoId, HasIdDestination, HaveSameNames, NamesDecide, NamesDecideBack}
+pub use Rattle.gix_refspec.specs.Laws.Items.{AreAskedFor, ArePart, AskedItems, TakesItem, HasTaken, HaveSamePairs, FewerItems, FetchesHead, IsListed, AreListedItems, ListedItems, PassesTaken, FilteredItems}
+pub use Rattle.gix_refspec.specs.Laws.Items.{is_begun, FilteredByEntries, FilteredByList, AsksForNoId, HasIdDestination, HaveSameNames, NamesDecide, NamesDecideBack}
 pub use Rattle.gix_refspec.specs.declared.match_group.types.Outcome.{Outcome}
 pub use Rattle.gix_refspec.specs.Laws.Names.{is_plain_component, is_plain_name, PlainNames, is_special_byte}
 pub use Rattle.gix_refspec.specs.Laws.Plans.{AreFixesApart, HaveSourcesByIndex, LacksIn, MappedLacks, NoControlCharacter, PlansApart, SidesLack, SourceLacks, HaveOneSource}
 pub use Rattle.gix_refspec.specs.declared.match_group.ref_names.InvalidMapping.{InvalidMapping}
 pub use Rattle.gix_refspec.specs.Laws.Validation.{OneValidation, IsOutcomeCopy, CopiedOutcome, ValidateAlike}
-pub use Rattle.gix_refspec.specs.Private.Updates.{all_destinations, AddsConflict, AreUpdates, AreFirstUpdates, AreConflicting, HasUpdate, IsRun, IsFirstAt, IsConflictOf, update_cmp, updated_indexes}
-pub use Rattle.gix_refspec.specs.Private.Updates.{GoesTo}
+pub use Rattle.gix_refspec.specs.Private.Updates.{all_destinations, AddsConflict, AreUpdates, AreFirstUpdates, AreConflicting, HasUpdate, IsRun, IsFirstAt, IsConflictOf, update_cmp, updated_indexes, GoesTo}
 pub use Rattle.gix_refspec.specs.declared.match_group.validate.conflicts.Update.{Update}
 pub use Rattle.gix_refspec_text.proofs.lemmas.lists.AllLemmas.{all_join, all_weaker, all_left, all_right}
 pub use Rattle.gix_refspec_text.proofs.lemmas.lists.MapLemmas.{each_mapped, one_more_mapped}
@@ -92,9 +85,8 @@ pub use Rattle.gix_refspec_text.proofs.facts.FitFacts.{push_is_none, below_tags,
 pub use Rattle.gix_refspec_text.proofs.facts.FaultFacts.{begins_not, no_component}
 pub use Rattle.gix_refspec_text.proofs.facts.ObjectIdFacts.{empty_blob, lower_of-empty_blob, IsIdText-empty_blob, HasIdFault-length}
 pub use Rattle.gix_refspec_text.proofs.facts.CoveringFacts.{below_heads, covering, not_covering}
-pub use Rattle.gix_refspec_match.proofs.facts.MatchFacts.{mapping, tracked, bytes_in, tag_to_x, branch_to_x, tag_again, tag_to_foo, tag_alone, pairs, are_forward_ends, fetches_all_but_dev}
-pub use Rattle.gix_refspec_match.proofs.facts.MatchFacts.{forward_ends, taken_by, takes_no_tag, tracks_all_but_dev, blob_mapping, dev_excluded, main_stays, maps_all, only_dev, tracks_all}
-pub use Rattle.gix_refspec_match.proofs.facts.MatchFacts.{tracks_nothing}
+pub use Rattle.gix_refspec_match.proofs.facts.MatchFacts.{mapping, tracked, bytes_in, tag_to_x, branch_to_x, tag_again, tag_to_foo, tag_alone, pairs, are_forward_ends, fetches_all_but_dev, forward_ends}
+pub use Rattle.gix_refspec_match.proofs.facts.MatchFacts.{taken_by, takes_no_tag, tracks_all_but_dev, blob_mapping, dev_excluded, main_stays, maps_all, only_dev, tracks_all, tracks_nothing}
 pub use Rattle.gix_refspec_match.proofs.facts.CandidateFacts.{branch_and_tag, main_tag, main_ends, main_to_x, takes_the_tag, x_kind, main_branch, no_tags, no_other_first, not_excluded, tags_excluded}
 use Rattle.std.proofs.Common.{◌⊎◌, inl, inr}
 
