@@ -1,7 +1,7 @@
 -- Examples of ref prefixes, for sides and groups like those of git-fetch(1), and what a caller concludes from them.
-use Rattle.gix_refspec.proofs.Common.{Lacks-tested, other_length, begins_not, blob_kind, split_at_end, every, no_dev, other_byte, short_kind, mapping, ◌≡◌, inl, inr, ℕ, List, [], ◌∷◌, ◌++◌, None}
-use Rattle.gix_refspec.proofs.Common.{Some, codes, length, refl, ap, subst, arith, bracket, star, BeginsWith, Normal, fetched, pushed, pattern, partial, object, HasKind, candidates, IsRefPrefix, Ref}
-use Rattle.gix_refspec.proofs.Common.{Mapped, AreKeptForward, HasNoList, Lists, ListsGroup, ListsSide, Serves, by_cases}
+use Rattle.gix_refspec.proofs.Common.{Lacks-tested, other_length, begins_not, blob_kind, split_at_end, every, no_dev, other_byte, short_kind, mapping, ◌≡◌, inl, inr, ℕ, List, [], ◌∷◌, ◌++◌, None, Some}
+use Rattle.gix_refspec.proofs.Common.{codes, length, refl, ap, subst, arith, bracket, star, BeginsWith, Normal, fetched, pushed, pattern, partial, object, HasKind, candidates, IsRefPrefix, Ref, Mapped}
+use Rattle.gix_refspec.proofs.Common.{AreKeptForward, HasNoList, Lists, ListsGroup, ListsSide, Serves, by_cases}
 use Rattle.gix_refspec.proofs.lemmas.prefixes.AskedLemmas.{list_as, no_list}
 use Rattle.gix_refspec.proofs.facts.KeptFacts.{of_one}
 use Rattle.gix_refspec_text.proofs.facts.PrefixFacts.{bracket_split, suffix_split, tells}

@@ -1,11 +1,11 @@
 -- The plain data of names, items, mappings, groups and issues, for values whose fields differ: so none is lost or taken
 -- for another.
-use Rattle.gix_refspec.proofs.Common.{mapping, empty_blob, lower_of-empty_blob, Option, ◌≡◌, ◌≢◌, ℕ, List, [], ◌∷◌, ◌++◌, None, Some, true, false, map, filter, option_map, length, replicate, Vec}
-use Rattle.gix_refspec.proofs.Common.{Global, codes, refl, sym, ap, ◌∙◌, arith, BString, bstring_bytes, Item, Mapping, MatchGroup, NameRef, Borrowed, Owned, SourceRef, Fix}
-use Rattle.gix_refspec.proofs.Common.{MappingWithPartialDestinationRemoved, Issue, Sha1, Push, Fetch, RefSpecRef, Normal, Forced, fetched, pushed, fetch_only, push_matching, reading_of, name, id}
-use Rattle.gix_refspec.proofs.Common.{Conflict, name_bytes, start_of, mapped_of, ref_of, text_of_source, readings_of, is_for, is_same_operation, IsGathered, ForwardOutcome, mappings_of, conflict_of}
-use Rattle.gix_refspec.proofs.Common.{conflicts_of, removed_of, IsSameFix, IfConflicts, IfMemory, named, every, no_dev, tracked, fetches_all_but_dev, tracks_all_but_dev, Outcome, Ref, Mapped}
-use Rattle.gix_refspec.proofs.Common.{AreForward, AreBackward, AreKeptForward, AreKeptBackward, IsOutcome, Maps}
+use Rattle.gix_refspec.proofs.Common.{mapping, empty_blob, lower_of-empty_blob, Option, ◌≡◌, ◌≢◌, ℕ, List, [], ◌∷◌, ◌++◌, None, Some, true, false, map, filter, option_map, length, replicate, Vec, Global}
+use Rattle.gix_refspec.proofs.Common.{codes, refl, sym, ap, ◌∙◌, arith, BString, bstring_bytes, Item, Mapping, MatchGroup, NameRef, Borrowed, Owned, SourceRef, Fix, MappingWithPartialDestinationRemoved}
+use Rattle.gix_refspec.proofs.Common.{Issue, Sha1, Push, Fetch, RefSpecRef, Normal, Forced, fetched, pushed, fetch_only, push_matching, reading_of, name, id, Conflict, name_bytes, start_of, mapped_of}
+use Rattle.gix_refspec.proofs.Common.{ref_of, text_of_source, readings_of, is_for, is_same_operation, IsGathered, ForwardOutcome, mappings_of, conflict_of, conflicts_of, removed_of, IsSameFix, IfConflicts}
+use Rattle.gix_refspec.proofs.Common.{IfMemory, named, every, no_dev, tracked, fetches_all_but_dev, tracks_all_but_dev, Outcome, Ref, Mapped, AreForward, AreBackward, AreKeptForward, AreKeptBackward}
+use Rattle.gix_refspec.proofs.Common.{IsOutcome, Maps}
 use Rattle.std.specs.Char.{encode_utf8}
 use Rattle.std.specs.Iterator.{YieldsFirst, Drains}
 use Rattle.bstr.specs.Utf8.{pieces_from}

@@ -1,12 +1,12 @@
 -- Which items may be left out, what of an item decides, and what a caller concludes from the laws on that.
 use Rattle.gix_refspec.proofs.Common.{below_heads, covering, not_covering, branch_and_tag, main_branch, main_tag, main_ends, main_to_x, takes_the_tag, begins_not, named, other_length, dev_ref, every}
 use Rattle.gix_refspec.proofs.Common.{main_ref, no_dev, origin_split, other_byte, short, short_no_id, tag_ref, of_element, push_is_none, are_forward_ends, bytes_in, fetches_all_but_dev, forward_ends}
-use Rattle.gix_refspec.proofs.Common.{taken_by, takes_no_tag, tracked, tracks_all_but_dev, ◌≡◌, ◌≢◌, inl, inr, ℕ, zero, suc, List, [], ◌∷◌, None, Some, codes, refl, sym, ap, subst, arith, Bool, true}
-use Rattle.gix_refspec.proofs.Common.{false, map, filter, Any, Contains, bstr_bytes, false≢true, Item, BeginsWith, head, Normal, Reading, fetched, pushed, pattern, filled, to_prefix, Ref, Matches}
-use Rattle.gix_refspec.proofs.Common.{Takes, name, Mapped, HasPair, AreForwardEnds, AreBackwardEnds, Hit, AreKeptForward, AreKeptBackward, ref_of, HasCoveringSource, IsCovering, BeginsWithOne}
-use Rattle.gix_refspec.proofs.Common.{IsCoveredBy, AreExpansions, MakesForward, AreAskedFor, ArePart, AskedItems, TakesItem, HasTaken, HaveSamePairs, FewerItems, FetchesHead, IsListed, AreListedItems}
-use Rattle.gix_refspec.proofs.Common.{ListedItems, PassesTaken, FilteredItems, is_begun, FilteredByEntries, FilteredByList, same_Some, by_cases, none_some, empty_blob, IsIdText-empty_blob, blob_kind}
-use Rattle.gix_refspec.proofs.Common.{length, get_or, ◌∙◌, Sha1, Sha256, digits_of, object, AsksForNoId, HaveSameNames, NamesDecide, NamesDecideBack}
+use Rattle.gix_refspec.proofs.Common.{taken_by, takes_no_tag, tracked, tracks_all_but_dev, ◌≡◌, ◌≢◌, inl, inr, ℕ, zero, suc, List, [], ◌∷◌, None, Some, codes, refl, sym, ap, subst, arith, Bool, true, false}
+use Rattle.gix_refspec.proofs.Common.{map, filter, Any, Contains, bstr_bytes, false≢true, Item, BeginsWith, head, Normal, Reading, fetched, pushed, pattern, filled, to_prefix, Ref, Matches, Takes, name}
+use Rattle.gix_refspec.proofs.Common.{Mapped, HasPair, AreForwardEnds, AreBackwardEnds, Hit, AreKeptForward, AreKeptBackward, ref_of, HasCoveringSource, IsCovering, BeginsWithOne, IsCoveredBy}
+use Rattle.gix_refspec.proofs.Common.{AreExpansions, MakesForward, AreAskedFor, ArePart, AskedItems, TakesItem, HasTaken, HaveSamePairs, FewerItems, FetchesHead, IsListed, AreListedItems, ListedItems}
+use Rattle.gix_refspec.proofs.Common.{PassesTaken, FilteredItems, is_begun, FilteredByEntries, FilteredByList, same_Some, by_cases, none_some, empty_blob, IsIdText-empty_blob, blob_kind, length, get_or}
+use Rattle.gix_refspec.proofs.Common.{◌∙◌, Sha1, Sha256, digits_of, object, AsksForNoId, HaveSameNames, NamesDecide, NamesDecideBack}
 use Rattle.gix_refspec.proofs.facts.AskedFacts.{lists_of_specs}
 use Rattle.gix_refspec.proofs.facts.KeptFacts.{of_one}
 use Rattle.gix_refspec.proofs.lemmas.prefixes.CoverLemmas.{joined_covers}

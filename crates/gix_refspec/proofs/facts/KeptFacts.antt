@@ -1,11 +1,11 @@
 -- What a caller concludes from the laws on kept mappings: that a pair is kept, that one isn't, and by which spec and
 -- item.
 use Rattle.gix_refspec.proofs.Common.{branch_and_tag, main_tag, main_ends, main_to_x, no_tags, no_other_first, not_excluded, tags_excluded, takes_the_tag, x_kind, named, other_length, empty_blob}
-use Rattle.gix_refspec.proofs.Common.{below_tags, blob, blob_kind, dev_ref, every, main_ref, no_dev, short_kind, short_no_id, tag_ref, blob_mapping, bytes_in, dev_excluded, main_stays, mapping}
-use Rattle.gix_refspec.proofs.Common.{maps_all, only_dev, tracked, tracks_all, ◌≡◌, inl, inr, ℕ, zero, suc, List, [], ◌∷◌, ◌++◌, Option, None, Some, codes, refl, sym, ap, ◌∙◌, subst, arith}
-use Rattle.gix_refspec.proofs.Common.{AllByRecursion, Any, Contains, slice_get, partial, full_name, HasKind, Ref, IsFirstCandidate, name, Mapped, HasPair, IsExcluded, AreKeptForward, AreKeptBackward}
-use Rattle.gix_refspec.proofs.Common.{MakesForward, MakesBackward, PairsId, KeptExactly, FirstStays, NothingExcluded, ForwardIndexes, IsValidated, ItemIndexesFit, Removed, same_Some, Reading}
-use Rattle.gix_refspec.proofs.Common.{IsPositive, id, MakesForwardOf, MakesBackwardOf, MadeAtIndexes, RemainsExactly, KeepsRefNames, LeftOut}
+use Rattle.gix_refspec.proofs.Common.{below_tags, blob, blob_kind, dev_ref, every, main_ref, no_dev, short_kind, short_no_id, tag_ref, blob_mapping, bytes_in, dev_excluded, main_stays, mapping, maps_all}
+use Rattle.gix_refspec.proofs.Common.{only_dev, tracked, tracks_all, ◌≡◌, inl, inr, ℕ, zero, suc, List, [], ◌∷◌, ◌++◌, Option, None, Some, codes, refl, sym, ap, ◌∙◌, subst, arith, AllByRecursion, Any}
+use Rattle.gix_refspec.proofs.Common.{Contains, slice_get, partial, full_name, HasKind, Ref, IsFirstCandidate, name, Mapped, HasPair, IsExcluded, AreKeptForward, AreKeptBackward, MakesForward}
+use Rattle.gix_refspec.proofs.Common.{MakesBackward, PairsId, KeptExactly, FirstStays, NothingExcluded, ForwardIndexes, IsValidated, ItemIndexesFit, Removed, same_Some, Reading, IsPositive, id}
+use Rattle.gix_refspec.proofs.Common.{MakesForwardOf, MakesBackwardOf, MadeAtIndexes, RemainsExactly, KeepsRefNames, LeftOut}
 use Rattle.gix_refspec.proofs.facts.ValidationFacts.{unwritable}
 use Rattle.gix_refspec.proofs.facts.RefNameFacts.{good, kept, no_ref_names, sides, to_bad}
 

@@ -2,14 +2,14 @@
 -- canonical text reads as, and the expansion of a group.
 use Rattle.gix_refspec.proofs.Common.{below_heads, covering, not_covering, Lacks-tested, IsPattern-tested, other_length, none_some, named, no_sign, begins_not, empty_blob, IsIdText-empty_blob}
 use Rattle.gix_refspec.proofs.Common.{lower_of-empty_blob, HasIdFault-length, every, no_dev, short, short_kind, other_byte, other_first, push_is_none, bytes_in, mapping, tracked, fetches_all_but_dev}
-use Rattle.gix_refspec.proofs.Common.{tracks_all_but_dev, tracks_nothing, tag_to_x, tag_to_foo, tag_alone, ◌≡◌, ◌≢◌, ◌⊎◌, ◌<◌, ℕ, List, [], ◌∷◌, ◌++◌, Option, None, Some, length, codes, refl, sym, ap}
-use Rattle.gix_refspec.proofs.Common.{◌∙◌, subst, inl, inr, arith, AllByRecursion, Push, Fetch, BeginsWith, HasStar, IsPattern, star, colon, Normal, Forced, Negative, Reading, AreParts, Reads}
-use Rattle.gix_refspec.proofs.Common.{fetches, fetched, pushed, candidates, IsCandidate, Fits, name, id, Mapped, HasPair, AreApart, AreKeptForward, AreKeptBackward, OneForward, OneBackward, KeptOnce}
-use Rattle.gix_refspec.proofs.Common.{Ref, Matches, HasName, Takes, ValidatedOnce, DestinationsHaveOneSource, HaveDistinctDestinations, ForwardFits, IndexesFit, push_delete, fetch_only, printed}
-use Rattle.gix_refspec.proofs.Common.{meaning_of, Refusal, PatternUnbalanced, NegativeEmpty, ReferenceName, IsRefused, IsIdText, IsLowerText, HasIdFault, LockSuffix, RepeatedDot, IsAsked, IsPrefix}
-use Rattle.gix_refspec.proofs.Common.{Expands, to_prefix, to_candidates, IsCovering, HasCoveringSource, MapAlike, AreReadAgain, AsksFor, AtSpec, EachSource, Transpose, Cover, CoverTogether}
-use Rattle.gix_refspec.proofs.Common.{FetchGroupReadsBack, IsCoveredBy, IsSourceAmong, IsDestinationAmong, GoesBothWays, ReadsAgainAs, BeginsWithOne, AreExpansions, same_Some, by_cases, true, false}
-use Rattle.gix_refspec.proofs.Common.{false≢true, fetch_and_update, EqualGroups, AreFetches, FetchTheSame}
+use Rattle.gix_refspec.proofs.Common.{tracks_all_but_dev, tracks_nothing, tag_to_x, tag_to_foo, tag_alone, ◌≡◌, ◌≢◌, ◌⊎◌, ◌<◌, ℕ, List, [], ◌∷◌, ◌++◌, Option, None, Some, length, codes, refl, sym, ap, ◌∙◌}
+use Rattle.gix_refspec.proofs.Common.{subst, inl, inr, arith, AllByRecursion, Push, Fetch, BeginsWith, HasStar, IsPattern, star, colon, Normal, Forced, Negative, Reading, AreParts, Reads, fetches, fetched}
+use Rattle.gix_refspec.proofs.Common.{pushed, candidates, IsCandidate, Fits, name, id, Mapped, HasPair, AreApart, AreKeptForward, AreKeptBackward, OneForward, OneBackward, KeptOnce, Ref, Matches, HasName}
+use Rattle.gix_refspec.proofs.Common.{Takes, ValidatedOnce, DestinationsHaveOneSource, HaveDistinctDestinations, ForwardFits, IndexesFit, push_delete, fetch_only, printed, meaning_of, Refusal}
+use Rattle.gix_refspec.proofs.Common.{PatternUnbalanced, NegativeEmpty, ReferenceName, IsRefused, IsIdText, IsLowerText, HasIdFault, LockSuffix, RepeatedDot, IsAsked, IsPrefix, Expands, to_prefix}
+use Rattle.gix_refspec.proofs.Common.{to_candidates, IsCovering, HasCoveringSource, MapAlike, AreReadAgain, AsksFor, AtSpec, EachSource, Transpose, Cover, CoverTogether, FetchGroupReadsBack, IsCoveredBy}
+use Rattle.gix_refspec.proofs.Common.{IsSourceAmong, IsDestinationAmong, GoesBothWays, ReadsAgainAs, BeginsWithOne, AreExpansions, same_Some, by_cases, true, false, false≢true, fetch_and_update}
+use Rattle.gix_refspec.proofs.Common.{EqualGroups, AreFetches, FetchTheSame}
 use Rattle.gix_refspec_text.specs.Laws.Readings.{ReadsOnce, ReadsOrRefused, IsSameReason, SaysForOperation, IsPrintedBack, ReadsBack, EqualReadings, HasOneId, HasOneFault, HasCandidates, KeepsOperation, EqualTexts, NothingAgainst, ClonesExactly, OneWord, PrefixBegins, OnePrefix, Candidates, IdOrFault, OneLowerText, OneRefusal}
 use Rattle.gix_refspec_text.specs.Texts.PatternError.{IsPatternFault}
 use Rattle.gix_refspec_text.specs.declared.name.PatternError.{PatternError}

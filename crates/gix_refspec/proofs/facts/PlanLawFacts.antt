@@ -1,7 +1,7 @@
 -- Examples of the definitions of the laws on plans, and what a caller concludes from these laws.
-use Rattle.gix_refspec.proofs.Common.{other_byte, Lacks-tested, empty_blob, lower_of-empty_blob, branch_to_x, bytes_in, mapping, tag_alone, tag_to_x, ◌≢◌, ℕ, List, [], ◌∷◌, None, Some, codes, refl}
-use Rattle.gix_refspec.proofs.Common.{sym, ap, subst, arith, AllByRecursion, Fetch, Lacks, Reading, Reads, printed, Ref, id, Mapped, AreKeptForward, Removed, IsValidated, AreFixesApart}
-use Rattle.gix_refspec.proofs.Common.{HaveSourcesByIndex, LacksIn, MappedLacks, NoControlCharacter, PlansApart, SidesLack, SourceLacks}
+use Rattle.gix_refspec.proofs.Common.{other_byte, Lacks-tested, empty_blob, lower_of-empty_blob, branch_to_x, bytes_in, mapping, tag_alone, tag_to_x, ◌≢◌, ℕ, List, [], ◌∷◌, None, Some, codes, refl, sym, ap}
+use Rattle.gix_refspec.proofs.Common.{subst, arith, AllByRecursion, Fetch, Lacks, Reading, Reads, printed, Ref, id, Mapped, AreKeptForward, Removed, IsValidated, AreFixesApart, HaveSourcesByIndex, LacksIn}
+use Rattle.gix_refspec.proofs.Common.{MappedLacks, NoControlCharacter, PlansApart, SidesLack, SourceLacks}
 use Rattle.gix_refspec.proofs.facts.ValidationFacts.{foo_fix}
 
 -- ---- no duplicates

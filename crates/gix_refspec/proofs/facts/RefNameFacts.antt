@@ -1,9 +1,9 @@
 -- Examples of the definitions on ref names, for mappings with valid and invalid ones, and what a caller concludes from
 -- their law.
-use Rattle.gix_refspec.proofs.Common.{nothing_made, Lacks-tested, mapping, ◌≡◌, inl, inr, ℕ, List, [], ◌∷◌, ◌++◌, None, Some, codes, refl, arith, AllByRecursion, RepeatedDot, InvalidMapping, slash}
-use Rattle.gix_refspec.proofs.Common.{Reading, Ref, id, Mapped, mapped_of, AreKeptForward, ForwardIndexes, IndexesFit, IsValidated, Removed, AreLeftOut, HaveRefNames, IsInvalidAt, IsLeftOut}
-use Rattle.gix_refspec.proofs.Common.{HasRefNames, IsValidDestination, IsValidSource, IsRefName, KeepsRefNames, LeftOut, StaysAmongRefs, WritesRefs, left_out_of, true, false, IsTrue, list_all}
-use Rattle.gix_refspec.proofs.Common.{list_any, IsName, is_plain_component, is_plain_name, PlainNames}
+use Rattle.gix_refspec.proofs.Common.{nothing_made, Lacks-tested, mapping, ◌≡◌, inl, inr, ℕ, List, [], ◌∷◌, ◌++◌, None, Some, codes, refl, arith, AllByRecursion, RepeatedDot, InvalidMapping, slash, Reading}
+use Rattle.gix_refspec.proofs.Common.{Ref, id, Mapped, mapped_of, AreKeptForward, ForwardIndexes, IndexesFit, IsValidated, Removed, AreLeftOut, HaveRefNames, IsInvalidAt, IsLeftOut, HasRefNames}
+use Rattle.gix_refspec.proofs.Common.{IsValidDestination, IsValidSource, IsRefName, KeepsRefNames, LeftOut, StaysAmongRefs, WritesRefs, left_out_of, true, false, IsTrue, list_all, list_any, IsName}
+use Rattle.gix_refspec.proofs.Common.{is_plain_component, is_plain_name, PlainNames}
 use Rattle.gix_refspec.specs.declared.match_group.ref_names.InvalidSide.TheVariants.{Source, Destination, Both}
 use Rattle.gix_refspec.proofs.lemmas.validate.RefNameLemmas.{bad_unnamed, below_refs, name_of_ref, stays_among_refs}
 use Rattle.gix_refspec.proofs.facts.ValidationFacts.{unwritable}

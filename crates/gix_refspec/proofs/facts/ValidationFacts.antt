@@ -1,11 +1,11 @@
 -- Examples of the definitions on validation, for mappings to one destination and to others: their conflicts, survivors
 -- and fixes.
-use Rattle.gix_refspec.proofs.Common.{nothing_made, other_length, none_some, begins_not, other_byte, of_element, bytes_in, mapping, tag_to_x, branch_to_x, tag_again, tag_to_foo, tag_alone, pairs, ◌≡◌}
-use Rattle.gix_refspec.proofs.Common.{◌⊎◌, ℕ, ◌<◌, List, [], ◌∷◌, Option, None, Some, option_map, length, codes, refl, sym, ap, ◌∙◌, subst, inl, inr, arith, Contains, IsStrictlySortedBy, nat_cmp}
-use Rattle.gix_refspec.proofs.Common.{slice_cmp, Less, Equal, Greater, Normal, Forced, Reading, fetched, printed, name, Mapped, IndexesFit, HasConflictAt, IsFirstTo, IsTextAt, Conflict, IsConflict}
-use Rattle.gix_refspec.proofs.Common.{AreConflicts, IsWritable, Survives, AreSurvivors, Removed, IsFix, AreFixes, IsValidated, DestinationsHaveOneSource, ShareDestination, HaveDistinctDestinations}
-use Rattle.gix_refspec.proofs.Common.{same_Some, false, nat_eq, AllByRecursion, starts_with, false≢true, bytes_eq-Decides, bytes_eq, head, by_cases, ◌≢◌, map, Mapping, Outcome, mapped_of}
-use Rattle.gix_refspec.proofs.Common.{AreMappingCopies, readings_of, OneValidation, IsOutcomeCopy, CopiedOutcome, IsMadeFrom}
+use Rattle.gix_refspec.proofs.Common.{nothing_made, other_length, none_some, begins_not, other_byte, of_element, bytes_in, mapping, tag_to_x, branch_to_x, tag_again, tag_to_foo, tag_alone, pairs, ◌≡◌, ◌⊎◌}
+use Rattle.gix_refspec.proofs.Common.{ℕ, ◌<◌, List, [], ◌∷◌, Option, None, Some, option_map, length, codes, refl, sym, ap, ◌∙◌, subst, inl, inr, arith, Contains, IsStrictlySortedBy, nat_cmp, slice_cmp}
+use Rattle.gix_refspec.proofs.Common.{Less, Equal, Greater, Normal, Forced, Reading, fetched, printed, name, Mapped, IndexesFit, HasConflictAt, IsFirstTo, IsTextAt, Conflict, IsConflict, AreConflicts}
+use Rattle.gix_refspec.proofs.Common.{IsWritable, Survives, AreSurvivors, Removed, IsFix, AreFixes, IsValidated, DestinationsHaveOneSource, ShareDestination, HaveDistinctDestinations, same_Some, false}
+use Rattle.gix_refspec.proofs.Common.{nat_eq, AllByRecursion, starts_with, false≢true, bytes_eq-Decides, bytes_eq, head, by_cases, ◌≢◌, map, Mapping, Outcome, mapped_of, AreMappingCopies, readings_of}
+use Rattle.gix_refspec.proofs.Common.{OneValidation, IsOutcomeCopy, CopiedOutcome, IsMadeFrom}
 use Rattle.gix_refspec.proofs.lemmas.validate.ConflictLemmas.{no_conflicts}
 
 -- specs with the same pattern as destination, the second of which is forced

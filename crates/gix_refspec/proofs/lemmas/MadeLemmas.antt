@@ -1,6 +1,6 @@
 -- What holds of each element that is made of the elements of a list, or joined of them.
-use Rattle.gix_refspec.proofs.Common.{Any as AnyAt, all_join, ◌≡◌, [], ◌∷◌, ◌++◌, length, refl, sym, subst, arith, map, ◌∙◌, ◌+◌, length-append, append_assoc, slice_get, AllByRecursion}
-use Rattle.gix_refspec.proofs.Common.{slice_get_within, get_or_from_slice_get, All-from_recursion, IsMadeFrom, IsJoinedFrom, ℕ, List, None, Some, Contains}
+use Rattle.gix_refspec.proofs.Common.{Any as AnyAt, all_join, ◌≡◌, [], ◌∷◌, ◌++◌, length, refl, sym, subst, arith, map, ◌∙◌, ◌+◌, length-append, append_assoc, slice_get, AllByRecursion, slice_get_within}
+use Rattle.gix_refspec.proofs.Common.{get_or_from_slice_get, All-from_recursion, IsMadeFrom, IsJoinedFrom, ℕ, List, None, Some, Contains}
 use Rattle.gix_refspec_match.proofs.lemmas.lists.SomeLemmas.{Any, some_at, some_of}
 
 -- an element of a list, by index and by recursion

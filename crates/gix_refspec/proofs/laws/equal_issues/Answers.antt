@@ -1,6 +1,6 @@
 -- Destinations and texts are compared by their bytes, sources as names and ids.
-use Rattle.gix_refspec.proofs.Common.{same_keys, ◌≡◌, ◌↔◌, true, ap, IsTrue, bstring_bytes, bytes_eq-Decides, SourceRef, Issue, name, id, id_bytes, name_bytes, start_of, Conflict, conflict_of}
-use Rattle.gix_refspec.proofs.Common.{and_parts, and_from}
+use Rattle.gix_refspec.proofs.Common.{same_keys, ◌≡◌, ◌↔◌, true, ap, IsTrue, bstring_bytes, bytes_eq-Decides, SourceRef, Issue, name, id, id_bytes, name_bytes, start_of, Conflict, conflict_of, and_parts}
+use Rattle.gix_refspec.proofs.Common.{and_from}
 use Rattle.bstr.specs.contracts.bstring.BStringPartialEq.TheImpl.{ghosts as compared_texts}
 use Rattle.gix_refspec_match.specs.contracts.types.SourceRefPartialEq.TheImpl.{ghosts as compared_sources}
 use Rattle.gix_refspec.specs.contracts.match_group.validate.IssuePartialEq.TheImpl.{ghosts}

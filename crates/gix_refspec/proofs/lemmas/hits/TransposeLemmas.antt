@@ -1,9 +1,9 @@
 -- The two directions agree: a reading that goes both ways makes the same pair of the one name and of the other. A test
 -- of the sides decides whether a reading goes both ways.
-use Rattle.gix_refspec.proofs.Common.{Any as AnyAt, ◌≡◌, ◌⊎◌, inl, inr, ℕ, List, [], ◌∷◌, ◌++◌, codes, Option, None, Some, map, refl, ap, ◌∙◌, subst, AllByRecursion, IsSome, false≢true, RefSpecRef}
-use Rattle.gix_refspec.proofs.Common.{Lacks, BeginsWith, star, HasStar, HasSeveralStars, HasOneStar, IsSplit, Reading, IsAccepted, IsPositive, IsOneStarred, reading_of, SideKind, pattern, full_name}
-use Rattle.gix_refspec.proofs.Common.{object, partial, HasKind, Fits, filled, Ref, MatchesAs, Matches, HasName, Takes, name, AreForwardEnds, AreBackwardEnds, IsFilled, IsSourceAmong}
-use Rattle.gix_refspec.proofs.Common.{IsDestinationAmong, GoesBothWays, Transpose, true, Bool, IsTrue, ◌↔◌, Source, MakesForward, MakesBackward, PairsItem, id, IsPaired, by_cases}
+use Rattle.gix_refspec.proofs.Common.{Any as AnyAt, ◌≡◌, ◌⊎◌, inl, inr, ℕ, List, [], ◌∷◌, ◌++◌, codes, Option, None, Some, map, refl, ap, ◌∙◌, subst, AllByRecursion, IsSome, false≢true, RefSpecRef, Lacks}
+use Rattle.gix_refspec.proofs.Common.{BeginsWith, star, HasStar, HasSeveralStars, HasOneStar, IsSplit, Reading, IsAccepted, IsPositive, IsOneStarred, reading_of, SideKind, pattern, full_name, object}
+use Rattle.gix_refspec.proofs.Common.{partial, HasKind, Fits, filled, Ref, MatchesAs, Matches, HasName, Takes, name, AreForwardEnds, AreBackwardEnds, IsFilled, IsSourceAmong, IsDestinationAmong}
+use Rattle.gix_refspec.proofs.Common.{GoesBothWays, Transpose, true, Bool, IsTrue, ◌↔◌, Source, MakesForward, MakesBackward, PairsItem, id, IsPaired, by_cases}
 use Rattle.gix_refspec_text.proofs.lemmas.texts.TextLemmas.{Lacks-ContainsText}
 use Rattle.gix_refspec_text.proofs.lemmas.parsing.DecideLemmas.{FirstIndex, lacks_or_first}
 use Rattle.gix_refspec_text.proofs.lemmas.specs.AcceptedLemmas.{accepted_few, accepted_balanced}

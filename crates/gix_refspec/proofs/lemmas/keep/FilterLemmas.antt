@@ -1,11 +1,11 @@
 -- Which items may be left out: filters of items, and that over a subset of the items the same pairs are kept, if no item
 -- that some spec takes is left out.
-use Rattle.gix_refspec.proofs.Common.{◌≡◌, ℕ, zero, suc, Bool, true, List, [], ◌∷◌, Option, map, refl, sym, ap, ◌∙◌, subst, arith, nat_eq, Any, Contains, filter, starts_with, or_left, or_right}
-use Rattle.gix_refspec.proofs.Common.{get_or-map, length-map, All-contains_itself, All-filter, starts_is, bstr_bytes, Item, BeginsWith, Reading, Ref, Matches, Takes, Ends, AreForwardEnds}
-use Rattle.gix_refspec.proofs.Common.{AreBackwardEnds, ref_of, BeginsWithOne, ArePart, TakesItem, HasTaken, PassesTaken, FilteredItems, FilteredByEntries, FilteredByList, is_begun, All-contains}
-use Rattle.gix_refspec.proofs.Common.{all_weaker, inl, inr, ◌↔◌, None, Some, append-nil, Lacks, star, head, SideKind, pattern, full_name, object, partial, HasKind, HasName, IsFirstCandidate, of_head}
-use Rattle.gix_refspec.proofs.Common.{to_prefix, Source, name, id, Mapped, HasPair, IsSourceExcluded, AreKeptForward, AreKeptBackward, PairsItem, MakesForward, MakesBackward, IsCoveredBy}
-use Rattle.gix_refspec.proofs.Common.{HaveSamePairs, FewerItems, IsListed, AreListedItems, ListedItems, same_Some, All-from_recursion}
+use Rattle.gix_refspec.proofs.Common.{◌≡◌, ℕ, zero, suc, Bool, true, List, [], ◌∷◌, Option, map, refl, sym, ap, ◌∙◌, subst, arith, nat_eq, Any, Contains, filter, starts_with, or_left, or_right, get_or-map}
+use Rattle.gix_refspec.proofs.Common.{length-map, All-contains_itself, All-filter, starts_is, bstr_bytes, Item, BeginsWith, Reading, Ref, Matches, Takes, Ends, AreForwardEnds, AreBackwardEnds, ref_of}
+use Rattle.gix_refspec.proofs.Common.{BeginsWithOne, ArePart, TakesItem, HasTaken, PassesTaken, FilteredItems, FilteredByEntries, FilteredByList, is_begun, All-contains, all_weaker, inl, inr, ◌↔◌, None}
+use Rattle.gix_refspec.proofs.Common.{Some, append-nil, Lacks, star, head, SideKind, pattern, full_name, object, partial, HasKind, HasName, IsFirstCandidate, of_head, to_prefix, Source, name, id, Mapped}
+use Rattle.gix_refspec.proofs.Common.{HasPair, IsSourceExcluded, AreKeptForward, AreKeptBackward, PairsItem, MakesForward, MakesBackward, IsCoveredBy, HaveSamePairs, FewerItems, IsListed, AreListedItems}
+use Rattle.gix_refspec.proofs.Common.{ListedItems, same_Some, All-from_recursion}
 use Rattle.std.proofs.lemmas.Bool.Decides.{Decides-eqb}
 use Rattle.gix_refspec_match.proofs.lemmas.duplicates.HashKeyLemmas.{contains_filter}
 use Rattle.gix_refspec_text.proofs.lemmas.hits.CandidateLemmas.{first_candidate, first_once, some_first, taken_by_first}

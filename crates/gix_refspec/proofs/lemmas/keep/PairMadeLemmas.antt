@@ -1,10 +1,10 @@
 -- A pair is kept exactly if some reading makes it, and none excludes it; and of the mappings with one pair only the
 -- first is kept.
 use Rattle.gix_refspec.proofs.Common.{Any as AnyAt, ◌≡◌, inl, ◌↔◌, ℕ, ◌+◌, List, [], ◌∷◌, ◌++◌, Option, None, Some, map, unwrap_or, refl, sym, ap, ◌∙◌, subst, AllByRecursion, First, All, Reading, Ref}
-use Rattle.gix_refspec.proofs.Common.{Matches, Takes, IsMadeFrom, Source, name, id, Mapped, HasPair, IsSourceExcluded, IsKeptAt, AreForwardEnds, AreBackwardEnds, Hit, IsIdMapping, AreForward}
-use Rattle.gix_refspec.proofs.Common.{AreBackward, forward_of, backward_of, IsPaired, PairsId, MakesForward, MakesBackward, KeptExactly, NothingExcluded, option_to_list, length, take, arith, Contains}
-use Rattle.gix_refspec.proofs.Common.{IsKept, IsFirstOfPair, FirstStays, drop, slice_get, slice_get_within, get_or_from_slice_get, take-append-drop, drop_more, All-from_recursion, All-contains}
-use Rattle.gix_refspec.proofs.Common.{MakesForwardOf, MakesBackwardOf, by_cases}
+use Rattle.gix_refspec.proofs.Common.{Matches, Takes, IsMadeFrom, Source, name, id, Mapped, HasPair, IsSourceExcluded, IsKeptAt, AreForwardEnds, AreBackwardEnds, Hit, IsIdMapping, AreForward, AreBackward}
+use Rattle.gix_refspec.proofs.Common.{forward_of, backward_of, IsPaired, PairsId, MakesForward, MakesBackward, KeptExactly, NothingExcluded, option_to_list, length, take, arith, Contains, IsKept}
+use Rattle.gix_refspec.proofs.Common.{IsFirstOfPair, FirstStays, drop, slice_get, slice_get_within, get_or_from_slice_get, take-append-drop, drop_more, All-from_recursion, All-contains, MakesForwardOf}
+use Rattle.gix_refspec.proofs.Common.{MakesBackwardOf, by_cases}
 use Rattle.gix_refspec_match.proofs.lemmas.hits.HitLemmas.{id_once, forward_once, backward_once}
 use Rattle.gix_refspec_match.proofs.lemmas.keep.KeptPairLemmas.{IsOfPair, Any-HasPair, HasPair-Any, kept_pairs, Keeps}
 use Rattle.gix_refspec_match.proofs.lemmas.hits.ReachLemmas.{Reaches, reach_hits}

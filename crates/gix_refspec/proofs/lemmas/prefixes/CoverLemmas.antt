@@ -1,8 +1,8 @@
 -- The expansions of the specs of a group cover the names that they match.
 use Rattle.gix_refspec.proofs.Common.{all_join, all_weaker, ◌≡◌, ◌≢◌, inl, inr, ℕ, List, [], ◌∷◌, codes, map, Option, Some, get_or, refl, sym, ap, ◌∙◌, subst, arith, append-nil, AllByRecursion, Any}
 use Rattle.gix_refspec.proofs.Common.{slice_get, Operation, Fetch, Lacks, BeginsWith, star, head, Reading, side_on_remote, SideKind, pattern, full_name, object, partial, HasKind, IsId, IsCandidate}
-use Rattle.gix_refspec.proofs.Common.{candidates, Ref, Matches, Takes, of_head, IsAsked, Expands, to_prefix, IsExpansion, IsJoinedFrom, name, Mapped, IsKeptAt, Ends, AreForwardEnds, Hit, IsHit}
-use Rattle.gix_refspec.proofs.Common.{AreSpecHits, IsIdMapping, forward_of, AreForward, IsCovering, by_prefix, by_candidates, BeginsWithOne, IsCoveredBy, AsksFor, AtSpec, Cover, CoverTogether}
+use Rattle.gix_refspec.proofs.Common.{candidates, Ref, Matches, Takes, of_head, IsAsked, Expands, to_prefix, IsExpansion, IsJoinedFrom, name, Mapped, IsKeptAt, Ends, AreForwardEnds, Hit, IsHit, AreSpecHits}
+use Rattle.gix_refspec.proofs.Common.{IsIdMapping, forward_of, AreForward, IsCovering, by_prefix, by_candidates, BeginsWithOne, IsCoveredBy, AsksFor, AtSpec, Cover, CoverTogether}
 use Rattle.gix_refspec_text.proofs.lemmas.hits.MatchLemmas.{lacks_no_pattern, prefix_begins, has_candidates}
 use Rattle.gix_refspec_text.proofs.lemmas.prefixes.OnePrefixLemmas.{one_prefix}
 use Rattle.gix_refspec_text.proofs.lemmas.prefixes.PrefixLemmas.{one_asked}

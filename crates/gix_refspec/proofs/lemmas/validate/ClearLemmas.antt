@@ -1,11 +1,11 @@
 -- Canonical texts of fetches contain no control character, nor do mappings, if no name of an item does.
 use Rattle.gix_refspec.proofs.Common.{all_left, all_right, all_join, at, fetches_nothing_named, fetches_colon, fetches, updates, updates_from_head, fetch_excludes, pushes_plus, pushes_colon, pushes}
-use Rattle.gix_refspec.proofs.Common.{deletes, pushes_pattern, pushes_to, push_excludes, ◌≡◌, ◌≢◌, inl, inr, ℕ, ◌<◌, ◌==◌, ◌&&◌, ◌||◌, Bool, true, false, IsTrue, nat_le, if◌then◌else◌, List, [], ◌∷◌}
-use Rattle.gix_refspec.proofs.Common.{◌++◌, Option, None, Some, codes, get_or, map, sym, ap, ◌∙◌, subst, nat_eq, arith, AllByRecursion, list_any, starts_with, eqb-true, false≢true, lt-leb, lt-ltb}
-use Rattle.gix_refspec.proofs.Common.{Lacks, star, is_refused_byte, IsIdText, is_lower_digit, lower_of, Reading, SideKind, pattern, full_name, object, partial, HasKind, filled, Ref, MatchesAs, Takes}
-use Rattle.gix_refspec.proofs.Common.{Mapped, IsKeptAt, AreForwardEnds, AreSpecHits, IsFilled, Hit, IsHit, IsIdMapping, AreKeptForward, forward_of, LacksIn, MappedLacks, NoControlCharacter, SidesLack}
-use Rattle.gix_refspec.proofs.Common.{SourceLacks, same_Some, head, colon, letter, Mode, fetched, Reads, IsNameOrPattern, AreAlike, named_by, Fetch, printed, sign, begins_with_plus, IsPattern, IsName}
-use Rattle.gix_refspec.proofs.Common.{InvalidByte, Normal, Forced, Negative, by_cases, some_none, push_is_none}
+use Rattle.gix_refspec.proofs.Common.{deletes, pushes_pattern, pushes_to, push_excludes, ◌≡◌, ◌≢◌, inl, inr, ℕ, ◌<◌, ◌==◌, ◌&&◌, ◌||◌, Bool, true, false, IsTrue, nat_le, if◌then◌else◌, List, [], ◌∷◌, ◌++◌}
+use Rattle.gix_refspec.proofs.Common.{Option, None, Some, codes, get_or, map, sym, ap, ◌∙◌, subst, nat_eq, arith, AllByRecursion, list_any, starts_with, eqb-true, false≢true, lt-leb, lt-ltb, Lacks, star}
+use Rattle.gix_refspec.proofs.Common.{is_refused_byte, IsIdText, is_lower_digit, lower_of, Reading, SideKind, pattern, full_name, object, partial, HasKind, filled, Ref, MatchesAs, Takes, Mapped, IsKeptAt}
+use Rattle.gix_refspec.proofs.Common.{AreForwardEnds, AreSpecHits, IsFilled, Hit, IsHit, IsIdMapping, AreKeptForward, forward_of, LacksIn, MappedLacks, NoControlCharacter, SidesLack, SourceLacks, same_Some}
+use Rattle.gix_refspec.proofs.Common.{head, colon, letter, Mode, fetched, Reads, IsNameOrPattern, AreAlike, named_by, Fetch, printed, sign, begins_with_plus, IsPattern, IsName, InvalidByte, Normal, Forced}
+use Rattle.gix_refspec.proofs.Common.{Negative, by_cases, some_none, push_is_none}
 use Rattle.gix_refspec_text.proofs.lemmas.texts.TextLemmas.{Lacks-from_absent, Lacks-from_indexes}
 use Rattle.gix_refspec_text.proofs.lemmas.texts.ObjectIdLemmas.{lower_of-digits}
 use Rattle.gix_refspec.proofs.lemmas.MadeLemmas.{all_at, each_joined, made_all, map_each, stays_each}

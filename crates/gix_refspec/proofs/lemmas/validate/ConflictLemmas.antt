@@ -1,12 +1,11 @@
 -- Conflicts, from sorted updates; and if all destinations differ, nothing is in conflict.
-use Rattle.gix_refspec.proofs.Common.{not_below_itself, Borrowed, Owned, all_right, all_join, all_weaker, each_mapped, ◌≡◌, ◌⊎◌, inl, inr, ◌↔◌, ℕ, ◌+◌, ◌<◌, ◌≤◌, List, [], ◌∷◌, ◌++◌, Some, option_map}
-use Rattle.gix_refspec.proofs.Common.{Bool, length, map, take, drop, get_or, refl, sym, ap, ◌∙◌, subst, arith, AllByRecursion, AllZip, Contains, slice_get, IsStrictlySortedBy, Less, nat_cmp}
-use Rattle.gix_refspec.proofs.Common.{slice_cmp, length-map, length-take-le, map-append, take-append-drop, take_more, All-from_recursion, Contains-append_left, Contains-push, slice_get-get_or}
-use Rattle.gix_refspec.proofs.Common.{slice_get-map, slice_get_read, slice_get_within, Mapping, NameRef, SourceRef, Update, RefSpecRef, Reading, printed, reading_of, Source, name, id, Mapped, HasPair}
-use Rattle.gix_refspec.proofs.Common.{mapped_of, name_bytes, start_of, IsNameCopy, IsSourceCopy, id_bytes, AreConflicts, Conflict, IndexesFit, IsConflict, HasConflictAt, IsFirstTo, IsTextAt}
-use Rattle.gix_refspec.proofs.Common.{FlagsDuplicates, IsFlagged, AddsConflict, AreUpdates, AreFirstUpdates, AreConflicting, HasUpdate, IsRun, IsFirstAt, IsConflictOf, update_cmp, updated_indexes}
-use Rattle.gix_refspec.proofs.Common.{by_cases, ◌≢◌, zero, suc, Option, None, false, option_to_list, false≢true, get_or-map, get_or_past, bstr_bytes, BStr, bytes_order, equal_texts, all_destinations}
-use Rattle.gix_refspec.proofs.Common.{recursion_from_All}
+use Rattle.gix_refspec.proofs.Common.{not_below_itself, Borrowed, Owned, all_right, all_join, all_weaker, each_mapped, ◌≡◌, ◌⊎◌, inl, inr, ◌↔◌, ℕ, ◌+◌, ◌<◌, ◌≤◌, List, [], ◌∷◌, ◌++◌, Some, option_map, Bool}
+use Rattle.gix_refspec.proofs.Common.{length, map, take, drop, get_or, refl, sym, ap, ◌∙◌, subst, arith, AllByRecursion, AllZip, Contains, slice_get, IsStrictlySortedBy, Less, nat_cmp, slice_cmp}
+use Rattle.gix_refspec.proofs.Common.{length-map, length-take-le, map-append, take-append-drop, take_more, All-from_recursion, Contains-append_left, Contains-push, slice_get-get_or, slice_get-map}
+use Rattle.gix_refspec.proofs.Common.{slice_get_read, slice_get_within, Mapping, NameRef, SourceRef, Update, RefSpecRef, Reading, printed, reading_of, Source, name, id, Mapped, HasPair, mapped_of}
+use Rattle.gix_refspec.proofs.Common.{name_bytes, start_of, IsNameCopy, IsSourceCopy, id_bytes, AreConflicts, Conflict, IndexesFit, IsConflict, HasConflictAt, IsFirstTo, IsTextAt, FlagsDuplicates}
+use Rattle.gix_refspec.proofs.Common.{IsFlagged, AddsConflict, AreUpdates, AreFirstUpdates, AreConflicting, HasUpdate, IsRun, IsFirstAt, IsConflictOf, update_cmp, updated_indexes, by_cases, ◌≢◌, zero, suc}
+use Rattle.gix_refspec.proofs.Common.{Option, None, false, option_to_list, false≢true, get_or-map, get_or_past, bstr_bytes, BStr, bytes_order, equal_texts, all_destinations, recursion_from_All}
 use Rattle.gix_refspec_match.specs.declared.types.SourceRef.TheVariants as source_ref
 use Rattle.gix_refspec_match.proofs.lemmas.keep.RepeatLemmas.{some_mapping}
 use Rattle.gix_refspec_match.proofs.lemmas.keep.KeptLemmas.{by_pair, duplicate_at}

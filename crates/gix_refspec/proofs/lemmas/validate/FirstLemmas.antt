@@ -1,7 +1,7 @@
 -- The first mappings from each source to each destination, by their indexes.
-use Rattle.gix_refspec.proofs.Common.{Ordering, equal_pair, pair_order, same_pair, all_weaker, ◌≡◌, ◌≢◌, ◌⊎◌, inl, inr, ◌↔◌, ℕ, zero, suc, ◌+◌, ◌-◌, ◌<◌, ◌≤◌, List, [], ◌∷◌, None, Some, Bool, true}
-use Rattle.gix_refspec.proofs.Common.{false, take, refl, sym, ap, ◌∙◌, subst, arith, AllByRecursion, AllZip, Contains, slice_get, bytes_eq, cases_lt, false≢true, get_or_from_slice_get}
-use Rattle.gix_refspec.proofs.Common.{slice_get-get_or, slice_get_within, bytes_eq-Decides, IsMadeFrom, Source, name, id, Mapped, IsSamePair, HasPair, HasConflictAt, IsFirstAt, Equal, by_cases}
+use Rattle.gix_refspec.proofs.Common.{Ordering, equal_pair, pair_order, same_pair, all_weaker, ◌≡◌, ◌≢◌, ◌⊎◌, inl, inr, ◌↔◌, ℕ, zero, suc, ◌+◌, ◌-◌, ◌<◌, ◌≤◌, List, [], ◌∷◌, None, Some, Bool, true, false}
+use Rattle.gix_refspec.proofs.Common.{take, refl, sym, ap, ◌∙◌, subst, arith, AllByRecursion, AllZip, Contains, slice_get, bytes_eq, cases_lt, false≢true, get_or_from_slice_get, slice_get-get_or}
+use Rattle.gix_refspec.proofs.Common.{slice_get_within, bytes_eq-Decides, IsMadeFrom, Source, name, id, Mapped, IsSamePair, HasPair, HasConflictAt, IsFirstAt, Equal, by_cases}
 
 -- k is one of the numbers
 abbrev pub Has : List ℕ → ℕ → Type 0

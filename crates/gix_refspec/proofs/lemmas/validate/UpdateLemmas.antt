@@ -1,10 +1,10 @@
 -- Sorted updates, and where they are split.
-use Rattle.gix_refspec.proofs.Common.{Ordering, all_left, all_right, all_join, all_weaker, ◌≡◌, ◌≢◌, ◌⊎◌, inl, inr, ◌↔◌, ℕ, zero, suc, ◌+◌, ◌<◌, ◌≤◌, List, [], ◌∷◌, ◌++◌, None, Some, option_map, Bool}
-use Rattle.gix_refspec.proofs.Common.{true, false, not, length, map, take, drop, get_or, refl, sym, ap, ◌∙◌, subst, arith, AllByRecursion, Contains, slice_get, IsPermutation, IsSorted}
-use Rattle.gix_refspec.proofs.Common.{IsStrictlySortedBy, Less, Equal, Greater, is_lt, nat_cmp, ordering_then, ordering_reverse, slice_cmp, nat_list_cmp_total, cases_lt, false≢true, not-false}
-use Rattle.gix_refspec.proofs.Common.{not-true, bytes_eq-Decides, bytes_eq, get_or-map, length-map, map-append, take-append-drop, take_more, drop_more, length-drop, All-from_recursion, slice_get-map}
-use Rattle.gix_refspec.proofs.Common.{slice_get_read, slice_get_within, Update, Mapping, NameRef, Mapped, mapped_of, name_bytes, IsFlagged, Rises, AreUpdates, GoesTo, HasUpdate, IsRun, update_cmp}
-use Rattle.gix_refspec.proofs.Common.{updated_indexes, same_texts, both_equal, rules, same_Some, by_cases}
+use Rattle.gix_refspec.proofs.Common.{Ordering, all_left, all_right, all_join, all_weaker, ◌≡◌, ◌≢◌, ◌⊎◌, inl, inr, ◌↔◌, ℕ, zero, suc, ◌+◌, ◌<◌, ◌≤◌, List, [], ◌∷◌, ◌++◌, None, Some, option_map, Bool, true}
+use Rattle.gix_refspec.proofs.Common.{false, not, length, map, take, drop, get_or, refl, sym, ap, ◌∙◌, subst, arith, AllByRecursion, Contains, slice_get, IsPermutation, IsSorted, IsStrictlySortedBy, Less}
+use Rattle.gix_refspec.proofs.Common.{Equal, Greater, is_lt, nat_cmp, ordering_then, ordering_reverse, slice_cmp, nat_list_cmp_total, cases_lt, false≢true, not-false, not-true, bytes_eq-Decides, bytes_eq}
+use Rattle.gix_refspec.proofs.Common.{get_or-map, length-map, map-append, take-append-drop, take_more, drop_more, length-drop, All-from_recursion, slice_get-map, slice_get_read, slice_get_within, Update}
+use Rattle.gix_refspec.proofs.Common.{Mapping, NameRef, Mapped, mapped_of, name_bytes, IsFlagged, Rises, AreUpdates, GoesTo, HasUpdate, IsRun, update_cmp, updated_indexes, same_texts, both_equal, rules}
+use Rattle.gix_refspec.proofs.Common.{same_Some, by_cases}
 use Rattle.std.specs.Cmp.{IsTotalOrder}
 use Rattle.std.proofs.lemmas.Cmp.{nat_cmp_total, on_total, ranked, then_total}
 use Rattle.std.proofs.lemmas.List.Quantifiers.{all_pairs_push}

@@ -1,6 +1,5 @@
 -- a mapping that can't be written has a fix
-use Rattle.gix_refspec.proofs.Common.{MappingWithPartialDestinationRemoved, ◌≡◌, map, sym, ap, ◌∙◌, rules, false≢true, Fix, reading_of, mapped_of, IsFix, Survives, removed_of, None, Some, option_map}
-use Rattle.gix_refspec.proofs.Common.{name_bytes, Removed}
+use Rattle.gix_refspec.proofs.Common.{MappingWithPartialDestinationRemoved, map, sym, ◌∙◌, rules, false≢true, Fix, reading_of, mapped_of, IsFix, Survives, removed_of, Removed}
 use Rattle.gix_refspec.proofs.lemmas.validate.ConflictLemmas.{spec_fits}
 use Rattle.gix_refspec.proofs.lemmas.validate.AfterLemmas.{fix_of, no_fix_written, nothing_more, one_more}
 use Rattle.gix_refspec.proofs.match_group.validate.fixes_of.Goals as goal
@@ -29,6 +28,6 @@ loop-mapping-preserved c =
           let writable = w.can_be_written.ensures.0 w.if-not-can_be_written.false in
           rw w.fixes-is (nothing_more (λ k n fix. IsFix g n fix) Survives ms i m fixes c.loop-mapping-test.true c.mapping-item.is (no_fix_written g m w.in-Some.name w.in-Some.is writable) (rw w.in-Some.is writable) c.loop-mapping.invariant)
       | in_default w ↦
-          let no_fix : (fix : Removed) → ¬ (IsFix g (mapped_of m) fix) = λ fix is. let gone : None ≡ Some fix.destination = sym (ap (option_map name_bytes) w.in_default.is) ∙ is.goes in cc in
+          let no_fix : (fix : Removed) → ¬ (IsFix g (mapped_of m) fix) = λ fix is. let gone = rw w.in_default.is at is.goes in cc in
           rw w.fixes-is (nothing_more (λ k n fix. IsFix g n fix) Survives ms i m fixes c.loop-mapping-test.true c.mapping-item.is no_fix (rw w.in_default.is tt) c.loop-mapping.invariant)
     ]

@@ -1,5 +1,5 @@
 -- a mapping whose spec index isn't in the group refutes the claim
-use Rattle.gix_refspec.proofs.Common.{List, map, sym, subst, arith, Mapping, mapped_of, readings_of, IndexesFit}
+use Rattle.gix_refspec.proofs.Common.{arith}
 use Rattle.gix_refspec.proofs.lemmas.validate.ConflictLemmas.{spec_fits}
 use Rattle.gix_refspec.proofs.match_group.validate.match_lhs+Outcome.indexes_fit.Goals as goal
 
@@ -8,8 +8,6 @@ returns-then-mapping-len c = (
   λ none. absurd (cc),
   λ fits.
       let specs = c.args.self.now.group.specs in
-      let ms = c.deref-mapping-items.result.now in
-      let told = subst (λ (xs : List Mapping). IndexesFit (readings_of c.args.self.now.group) (map mapped_of xs)) (sym c.deref-mapping-items.ensures.value) fits in
-      let inside = spec_fits specs.items ms c.loop-mapping.mapping-index c.mapping-item.result told c.loop-mapping-test.true c.mapping-item.is in
+      let inside = spec_fits specs.items c.deref-mapping-items.result.now c.loop-mapping.mapping-index c.mapping-item.result (rw (← c.deref-mapping-items.ensures.value) at fits) c.loop-mapping-test.true c.mapping-item.is in
       absurd (omega (arith, inside, c.if-mapping-len.true, c.len.ensures, specs.ok.0, specs.ok.1)),
 )
