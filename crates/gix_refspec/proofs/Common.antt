@@ -88,7 +88,6 @@ pub use Rattle.gix_refspec_text.proofs.facts.CoveringFacts.{below_heads, coverin
 pub use Rattle.gix_refspec_match.proofs.facts.MatchFacts.{mapping, tracked, bytes_in, tag_to_x, branch_to_x, tag_again, tag_to_foo, tag_alone, pairs, are_forward_ends, fetches_all_but_dev, forward_ends}
 pub use Rattle.gix_refspec_match.proofs.facts.MatchFacts.{taken_by, takes_no_tag, tracks_all_but_dev, blob_mapping, dev_excluded, main_stays, maps_all, only_dev, tracks_all, tracks_nothing}
 pub use Rattle.gix_refspec_match.proofs.facts.CandidateFacts.{branch_and_tag, main_tag, main_ends, main_to_x, takes_the_tag, x_kind, main_branch, no_tags, no_other_first, not_excluded, tags_excluded}
-use Rattle.std.proofs.Common.{◌⊎◌, inl, inr}
 
 -- what follows in each of two cases follows if either holds
 pub by_cases : {A B C : Type 0} → A ⊎ B → (A → C) → (B → C) → C

@@ -3,7 +3,7 @@ use Rattle.gix_refspec.proofs.Common.{same_keys, ◌≡◌, inl, inr, ◌↔◌,
 use Rattle.gix_refspec.proofs.Common.{Operation, Fetch, RefSpecRef, Mode, Normal, Forced, Negative, Reading, IsPositive, IsAccepted, Reads, Meaning, fetch_only, fetch_exclude, fetch_and_update, meaning}
 use Rattle.gix_refspec.proofs.Common.{meaning_of, key_of_spec, reading_of, Ref, Matches, Takes, MakesOf, IsMadeFrom, IsJoinedFrom, Source, name, id, Mapped, IsExcludedBy, IsExcluded, IsSourceExcluded}
 use Rattle.gix_refspec.proofs.Common.{IsKeptAt, IsKept, Ends, AreForwardEnds, AreBackwardEnds, Hit, IsFilled, AreSpecHits, AreHits, IsIdMapping, AreKeptForward, AreKeptBackward, ReadsAgainAs, MapAlike}
-use Rattle.gix_refspec.proofs.Common.{FetchGroupReadsBack, FetchTheSame, EqualGroups, AreFetches, same_Some}
+use Rattle.gix_refspec.proofs.Common.{FetchGroupReadsBack, FetchTheSame, EqualGroups, AreFetches, same_Some, by_cases}
 use Rattle.gix_refspec_text.proofs.lemmas.specs.SpecLemmas.{equal_keys, keeps_operation, printed_back, says, says_for_operation}
 
 -- ---- readings alike
@@ -161,8 +161,7 @@ excluded_by n r q alike by = record {
 excluded : (n : List ℕ) (g h : List Reading) → AllZip AreAlike g h → IsExcluded g n → IsExcluded h n
 excluded n [] h alike is = absurd is
 excluded n (r ∷ g) [] alike is = absurd alike
-excluded n (r ∷ g) (q ∷ h) alike (inl by) = inl (excluded_by n r q alike.0 by)
-excluded n (r ∷ g) (q ∷ h) alike (inr is) = inr (excluded n g h alike.1 is)
+excluded n (r ∷ g) (q ∷ h) alike is = by_cases is (λ by. inl (excluded_by n r q alike.0 by)) (λ later. inr (excluded n g h alike.1 later))
 
 start_excluded : (s : Source) (g h : List Reading) → AllZip AreAlike g h → IsSourceExcluded g s → IsSourceExcluded h s
 start_excluded (name n) g h alike is = excluded n g h alike is

@@ -2,7 +2,7 @@
 -- ids; and from right to left if no destination is an id.
 use Rattle.gix_refspec.proofs.Common.{all_weaker, ◌≡◌, ℕ, ◌+◌, inl, inr, List, [], ◌∷◌, Option, None, Some, map, refl, sym, ap, ◌∙◌, subst, length, arith, Reading, SideKind, pattern, full_name, object}
 use Rattle.gix_refspec.proofs.Common.{partial, HasKind, Fits, IsCandidate, Ref, Matches, MatchesAs, HasName, IsFirstCandidate, Takes, IsJoinedFrom, Ends, AreBackwardEnds, AreForwardEnds, Hit, IsHit}
-use Rattle.gix_refspec.proofs.Common.{AreSpecHits, AsksForNoId, HasIdDestination, HaveSameNames, NamesDecide, NamesDecideBack, AllZip}
+use Rattle.gix_refspec.proofs.Common.{AreSpecHits, AsksForNoId, HasIdDestination, HaveSameNames, NamesDecide, NamesDecideBack, AllZip, by_cases}
 use Rattle.gix_refspec.proofs.lemmas.keep.AlikeLemmas.{made_zip}
 
 first_name : (r q : Ref) (refs others : List Ref) → HaveSameNames (r ∷ refs) (q ∷ others) → (r.name ≡ q.name) × HaveSameNames refs others
@@ -14,8 +14,7 @@ first_name r q refs others same =
 pub has_also : (A B : List Ref) (n : List ℕ) → HaveSameNames A B → HasName A n → HasName B n
 has_also [] B n same has = absurd has
 has_also (a ∷ A) [] n same has = absurd (omega (arith, ap length same))
-has_also (a ∷ A) (b ∷ B) n same (inl here) = inl (sym (first_name a b A B same).0 ∙ here)
-has_also (a ∷ A) (b ∷ B) n same (inr later) = inr (has_also A B n (first_name a b A B same).1 later)
+has_also (a ∷ A) (b ∷ B) n same has = let first = first_name a b A B same in by_cases has (λ here. inl (sym first.0 ∙ here)) (λ later. inr (has_also A B n first.1 later))
 
 -- so the first candidate in one list is that in the other
 first_also : (A B : List Ref) (x n : List ℕ) → HaveSameNames A B → IsFirstCandidate A x n → IsFirstCandidate B x n

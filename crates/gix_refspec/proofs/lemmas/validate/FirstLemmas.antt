@@ -16,8 +16,7 @@ Increase (n ∷ ns) = AllByRecursion (λ m. n < m) ns × Increase ns
 -- a number that is below all is not there
 not_below : (ns : List ℕ) (n k : ℕ) → AllByRecursion (λ m. n < m) ns → Has ns k → n < k
 not_below [] n k all has = absurd has
-not_below (m ∷ ns) n k all (inl same) = subst (λ (x : ℕ). n < x) same all.0
-not_below (m ∷ ns) n k all (inr has) = not_below ns n k all.1 has
+not_below (m ∷ ns) n k all has = by_cases has (λ same. subst (λ (x : ℕ). n < x) same all.0) (not_below ns n k all.1)
 
 -- Q makes y of the mapping at index n
 abbrev pub IsOfIndex : {Y : Type 0} → (Mapped → Y → Type 0) → List Mapped → ℕ → Y → Type 0
@@ -69,8 +68,7 @@ made_at_indexes {Y} P Q l k (x ∷ rest) (n ∷ ns) (y ∷ ys) at has rises abov
 ]
   where
     not_there : k < n → Has (n ∷ ns) k → ⊥
-    not_there less (inl same) = omega (arith, less, same)
-    not_there less (inr in_rest) = let past = not_below ns n k rises.0 in_rest in omega (arith, less, past)
+    not_there less has = by_cases has (λ same. omega (arith, less, same)) (λ in_rest. let past = not_below ns n k rises.0 in_rest in omega (arith, less, past))
 
     later : n ≡ k → (j : ℕ) (m : Mapped) → k + 1 ≤ j → slice_get l j ≡ Some m → Has ns j ↔ P j m
     later same j m low is = (
