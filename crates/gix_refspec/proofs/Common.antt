@@ -76,7 +76,6 @@ pub use Rattle.gix_refspec.specs.Private.Updates.{all_destinations, AddsConflict
 pub use Rattle.gix_refspec.specs.declared.match_group.validate.conflicts.Update.{Update}
 pub use Rattle.gix_refspec_text.proofs.lemmas.lists.AllLemmas.{all_join, all_weaker, all_left, all_right}
 pub use Rattle.gix_refspec_text.proofs.lemmas.lists.MapLemmas.{each_mapped, one_more_mapped}
-pub use Rattle.gix_refspec_text.proofs.lemmas.lists.EqualLemmas.{same_keys}
 pub use Rattle.gix_refspec_text.proofs.lemmas.lists.OrderLemmas.{not_below_itself}
 pub use Rattle.gix_refspec_match.proofs.lemmas.lists.JoinLemmas.{nothing_made, joined_next, map_split, map_long, nothing_joined, made_more}
 pub use Rattle.gix_refspec_text.proofs.facts.ManualFacts.{some_none, named, other_length, Lacks-tested, none_some, IsPattern-tested, no_sign}

@@ -1,12 +1,12 @@
 -- Destinations and texts are compared by their bytes, sources as names and ids.
-use Rattle.gix_refspec.proofs.Common.{same_keys, ◌≡◌, ◌↔◌, true, ap, IsTrue, bstring_bytes, bytes_eq-Decides, SourceRef, Issue, name, id, id_bytes, name_bytes, start_of, Conflict, conflict_of, and_parts}
-use Rattle.gix_refspec.proofs.Common.{and_from}
+use Rattle.gix_refspec.proofs.Common.{◌≡◌, ◌↔◌, true, ap, IsTrue, bstring_bytes, bytes_eq-Decides, SourceRef, Issue, name, id, id_bytes, name_bytes, start_of, Conflict, conflict_of, and_parts, and_from}
 use Rattle.bstr.specs.contracts.bstring.BStringPartialEq.TheImpl.{ghosts as compared_texts}
 use Rattle.gix_refspec_match.specs.contracts.types.SourceRefPartialEq.TheImpl.{ghosts as compared_sources}
 use Rattle.gix_refspec.specs.contracts.match_group.validate.IssuePartialEq.TheImpl.{ghosts}
 use Rattle.gix_refspec_match.specs.declared.types.SourceRef.TheVariants as source_ref
 use Rattle.gix_refspec.specs.declared.match_group.validate.Issue.TheVariants as issue
 use Rattle.gix_refspec.proofs.laws.equal_issues.Goals as goal
+use Rattle.gix_refspec_text.proofs.lemmas.lists.EqualLemmas.{same_keys}
 
 same_source : (a b : SourceRef) → (compared_sources.eq a b ≡ true) ↔ (start_of a ≡ start_of b)
 same_source (source_ref.FullName n) (source_ref.FullName m) = let names = bytes_eq-Decides (name_bytes n) (name_bytes m) in ((λ told. ap name (names.0 told)), (λ same. names.1 (cc)))

@@ -1,10 +1,11 @@
 -- Fetches map alike if they are equal, or if the canonical text of one reads as the other.
-use Rattle.gix_refspec.proofs.Common.{same_keys, ◌≡◌, inl, inr, ◌↔◌, ℕ, ◌+◌, Bool, true, false, List, [], ◌∷◌, map, Option, None, Some, refl, sym, ap, ◌∙◌, subst, nat_eq, pointwise, AllZip, false≢true}
-use Rattle.gix_refspec.proofs.Common.{Operation, Fetch, RefSpecRef, Mode, Normal, Forced, Negative, Reading, IsPositive, IsAccepted, Reads, Meaning, fetch_only, fetch_exclude, fetch_and_update, meaning}
-use Rattle.gix_refspec.proofs.Common.{meaning_of, key_of_spec, reading_of, Ref, Matches, Takes, MakesOf, IsMadeFrom, IsJoinedFrom, Source, name, id, Mapped, IsExcludedBy, IsExcluded, IsSourceExcluded}
-use Rattle.gix_refspec.proofs.Common.{IsKeptAt, IsKept, Ends, AreForwardEnds, AreBackwardEnds, Hit, IsFilled, AreSpecHits, AreHits, IsIdMapping, AreKeptForward, AreKeptBackward, ReadsAgainAs, MapAlike}
-use Rattle.gix_refspec.proofs.Common.{FetchGroupReadsBack, FetchTheSame, EqualGroups, AreFetches, same_Some, by_cases}
+use Rattle.gix_refspec.proofs.Common.{◌≡◌, inl, inr, ◌↔◌, ℕ, ◌+◌, Bool, true, false, List, [], ◌∷◌, map, Option, None, Some, refl, sym, ap, ◌∙◌, subst, nat_eq, pointwise, AllZip, false≢true, Operation}
+use Rattle.gix_refspec.proofs.Common.{Fetch, RefSpecRef, Mode, Normal, Forced, Negative, Reading, IsPositive, IsAccepted, Reads, Meaning, fetch_only, fetch_exclude, fetch_and_update, meaning, meaning_of}
+use Rattle.gix_refspec.proofs.Common.{key_of_spec, reading_of, Ref, Matches, Takes, MakesOf, IsMadeFrom, IsJoinedFrom, Source, name, id, Mapped, IsExcludedBy, IsExcluded, IsSourceExcluded, IsKeptAt, IsKept}
+use Rattle.gix_refspec.proofs.Common.{Ends, AreForwardEnds, AreBackwardEnds, Hit, IsFilled, AreSpecHits, AreHits, IsIdMapping, AreKeptForward, AreKeptBackward, ReadsAgainAs, MapAlike, FetchGroupReadsBack}
+use Rattle.gix_refspec.proofs.Common.{FetchTheSame, EqualGroups, AreFetches, same_Some, by_cases}
 use Rattle.gix_refspec_text.proofs.lemmas.specs.SpecLemmas.{equal_keys, keeps_operation, printed_back, says, says_for_operation}
+use Rattle.gix_refspec_text.proofs.lemmas.lists.EqualLemmas.{same_keys}
 
 -- ---- readings alike
 
