@@ -51,9 +51,6 @@ at_x = record {
 not_to_x : (k : ℕ) → ¬ (IsFirstTo (codes "refs/x/a") meeting k branch_to_y)
 not_to_x k first = other_byte 7 (codes "refs/x/b") (codes "refs/x/a") (λ byte. omega (arith, byte)) (same_Some (codes "refs/x/b") (codes "refs/x/a") first.goes)
 
-not_first : ¬ (IsFirstTo (codes "refs/x/a") meeting 3 tag_again)
-not_first first = first.first (inr (inl pairs.0))
-
 first_tag : IsFirstTo (codes "refs/x/a") meeting 1 tag_to_x
 first_tag = record { goes = refl; first = λ has. by_cases has (λ same. other_byte 5 (codes "refs/heads/b") (codes "refs/tags/a") (λ byte. omega (arith, byte)) (ap bytes_in same.source)) (λ none. none) }
 
@@ -69,7 +66,7 @@ of_firsts Q y z of_tag of_branch = (
   None,
   y ∷ z ∷ [],
   (λ made is. not_to_x 0 is.0),
-  (Some y, z ∷ [], (first_tag, of_tag), (Some z, [], (first_branch, of_branch), (None, [], (λ made is. not_first is.0), refl, refl), refl), refl),
+  (Some y, z ∷ [], (first_tag, of_tag), (Some z, [], (first_branch, of_branch), (None, [], (λ made is. is.0.first (inr (inl pairs.0))), refl, refl), refl), refl),
   refl,
 )
 

@@ -5,7 +5,7 @@ use Rattle.gix_refspec.proofs.Common.{length-map, All-contains_itself, All-filte
 use Rattle.gix_refspec.proofs.Common.{BeginsWithOne, ArePart, TakesItem, HasTaken, PassesTaken, FilteredItems, FilteredByEntries, FilteredByList, is_begun, All-contains, all_weaker, inl, inr, ◌↔◌, None}
 use Rattle.gix_refspec.proofs.Common.{Some, append-nil, Lacks, star, head, SideKind, pattern, full_name, object, partial, HasKind, HasName, IsFirstCandidate, of_head, to_prefix, Source, name, id, Mapped}
 use Rattle.gix_refspec.proofs.Common.{HasPair, IsSourceExcluded, AreKeptForward, AreKeptBackward, PairsItem, MakesForward, MakesBackward, IsCoveredBy, HaveSamePairs, FewerItems, IsListed, AreListedItems}
-use Rattle.gix_refspec.proofs.Common.{ListedItems, same_Some, All-from_recursion}
+use Rattle.gix_refspec.proofs.Common.{ListedItems, same_Some, All-from_recursion, Lacks-tested}
 use Rattle.std.proofs.lemmas.Bool.Decides.{Decides-eqb}
 use Rattle.gix_refspec_match.proofs.lemmas.duplicates.HashKeyLemmas.{contains_filter}
 use Rattle.gix_refspec_text.proofs.lemmas.hits.CandidateLemmas.{first_candidate, first_once, some_first, taken_by_first}
@@ -193,12 +193,9 @@ fewer_items g A B = record {
 
 -- ---- listed items
 
-lacks_star : Lacks star head
-lacks_star = ((λ same. omega (arith, same)), ((λ same. omega (arith, same)), ((λ same. omega (arith, same)), ((λ same. omega (arith, same)), tt))))
-
 -- `HEAD` takes only itself, if it is among the refs
 head_taken : (A : List Ref) (x : List ℕ) (item : Ref) (word : Option (List ℕ)) (kind : SideKind) → x ≡ head → HasName A head → ((bytes : List ℕ) → ¬ (HasKind x (object bytes))) → HasKind x kind → Takes A x item word → item.name ≡ x
-head_taken A x item word (pattern before after) is there none kind takes = absurd (lacks_no_pattern x before after (subst (Lacks star) (sym is) lacks_star) kind)
+head_taken A x item word (pattern before after) is there none kind takes = absurd (lacks_no_pattern x before after (subst (Lacks star) (sym is) (Lacks-tested star head refl)) kind)
 head_taken A x item word (full_name n) is there none kind takes = absurd (below_not_head x kind.2 is)
 head_taken A x item word (object bytes) is there none kind takes = absurd (none bytes kind)
 head_taken A x item word (partial n) is there none kind takes =

@@ -49,9 +49,6 @@ BackwardTo s d near far = (name (unwrap_or far []) ≡ s) × (Some near ≡ d)
 pub one_name : (n m : List ℕ) → name n ≡ name m → n ≡ m
 one_name n m same = cc
 
-pub no_id : (n i : List ℕ) → name n ≡ id i → ⊥
-no_id n i same = cc
-
 forward_reach : (items : List Ref) (n : List ℕ) (d : Option (List ℕ)) (r : Reading) → MakesForward items (name n) d r → Reaches AreForwardEnds (Takes items) items (ForwardTo (name n) d) r
 forward_reach items n d r makes = (makes.ends, makes.has, Any-weaker _ _ (λ i is. (is.word, d, is.takes, is.becomes, (ap name is.name, refl))) items (some_of (IsPaired (Takes items) makes.ends n d) items makes.one))
 

@@ -1,5 +1,5 @@
 -- The expansions of the specs of a group cover the names that they match.
-use Rattle.gix_refspec.proofs.Common.{all_join, all_weaker, ◌≡◌, ◌≢◌, inl, inr, ℕ, List, [], ◌∷◌, codes, map, Option, Some, get_or, refl, sym, ap, ◌∙◌, subst, arith, append-nil, AllByRecursion, Any}
+use Rattle.gix_refspec.proofs.Common.{id, all_join, all_weaker, ◌≡◌, ◌≢◌, inl, inr, ℕ, List, [], ◌∷◌, codes, map, Option, Some, get_or, refl, sym, ap, ◌∙◌, subst, arith, append-nil, AllByRecursion, Any}
 use Rattle.gix_refspec.proofs.Common.{slice_get, Operation, Fetch, Lacks, BeginsWith, star, head, Reading, side_on_remote, SideKind, pattern, full_name, object, partial, HasKind, IsId, IsCandidate}
 use Rattle.gix_refspec.proofs.Common.{candidates, Ref, Matches, Takes, of_head, IsAsked, Expands, to_prefix, IsExpansion, IsJoinedFrom, name, Mapped, IsKeptAt, Ends, AreForwardEnds, Hit, IsHit, AreSpecHits}
 use Rattle.gix_refspec.proofs.Common.{IsIdMapping, forward_of, AreForward, IsCovering, by_prefix, by_candidates, BeginsWithOne, IsCoveredBy, AsksFor, AtSpec, Cover, CoverTogether}
@@ -8,7 +8,7 @@ use Rattle.gix_refspec_text.proofs.lemmas.prefixes.OnePrefixLemmas.{one_prefix}
 use Rattle.gix_refspec_text.proofs.lemmas.prefixes.PrefixLemmas.{one_asked}
 use Rattle.gix_refspec_match.proofs.lemmas.lists.SomeLemmas.{Any-right, Any-weaker, any_joined, some_at as at_place, some_of}
 use Rattle.gix_refspec.proofs.lemmas.MadeLemmas.{any_at, each_joined, each_made, map_each, stays_each}
-use Rattle.gix_refspec.proofs.lemmas.keep.PairMadeLemmas.{one_name, no_id}
+use Rattle.gix_refspec.proofs.lemmas.keep.PairMadeLemmas.{one_name}
 
 -- ---- one side
 
@@ -79,7 +79,7 @@ forward_covered : (g : List Reading) (items : List Ref) (all : List Mapped) → 
 forward_covered g items all are =
     subst (SourcesAre (IsSourceCovered g)) (sym are.all)
     (all_join (λ m. (n : List ℕ) → m.source ≡ name n → IsSourceCovered g m n) are.ids (map forward_of are.hits)
-    (each_made IsIdMapping (λ m. (n : List ℕ) → m.source ≡ name n → IsSourceCovered g m n) g are.ids (λ k r m stands is n same. absurd (no_id n is.bytes (sym same ∙ is.source))) are.are_ids)
+    (each_made IsIdMapping (λ m. (n : List ℕ) → m.source ≡ name n → IsSourceCovered g m n) g are.ids (λ k r m stands is n same. let gone : name n ≡ id is.bytes = sym same ∙ is.source in absurd (cc)) are.are_ids)
     (map_each (IsHitCovered g) _ forward_of (λ hit covered n is. subst (IsSourceCovered g (forward_of hit)) (one_name hit.near n is) covered) are.hits
     (each_joined (AreSpecHits AreForwardEnds (Takes items) items) (IsHitCovered g) g are.hits (λ k r hits here of_spec. spec_covers g r items k hits here of_spec) are.are_hits)))
 

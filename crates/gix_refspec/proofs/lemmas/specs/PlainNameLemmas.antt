@@ -40,9 +40,6 @@ no_dot before after x fine here = not_there dot before after x (λ e. omega (ari
 
 -- ---- components
 
-not_empty : (w : List ℕ) → is_plain_component w ≡ true → w ≢ []
-not_empty w plain empty = false≢true (ap is_plain_component (sym empty) ∙ plain)
-
 -- what holds of no plain component holds of no component of a plain name
 no_such : (P : List ℕ → Type 0) (x : List ℕ) → ((w : List ℕ) → is_plain_component w ≡ true → ¬ (P w)) → is_plain_name x ≡ true → ¬ (SomeComponent P x)
 no_such P x unless plain = no_component P x (each (slice_split (λ b. b == slash) x) plain)
@@ -55,7 +52,7 @@ no_such P x unless plain = no_component P x (each (slice_split (λ b. b == slash
 
 faultless : (x : List ℕ) → is_plain_name x ≡ true → AllByRecursion Fine x → (e : Error) → ¬ (HasFault x e)
 faultless x plain fine Empty fault = false≢true (ap is_plain_name (sym fault) ∙ plain)
-faultless x plain fine EmptyComponent fault = no_such (λ w. w ≡ []) x not_empty plain fault.1
+faultless x plain fine EmptyComponent fault = no_such (λ w. w ≡ []) x (λ w each empty. false≢true (ap is_plain_component (sym empty) ∙ each)) plain fault.1
 faultless x plain fine StartsWithDot fault = no_such (BeginsWith (codes ".")) x (λ w each begins. no_dot [] begins.after w (none_special w each) begins.here) plain fault
 faultless x plain fine LockSuffix fault = no_such (EndsWith (codes ".lock")) x (λ w each ends. no_dot ends.before (codes "lock") w (none_special w each) ends.here) plain fault
 faultless x plain fine EndsWithDot fault = no_dot fault.before [] x fine fault.here

@@ -1,5 +1,5 @@
 -- Both sides of an accepted reading have a star or neither has, and kind, word and id are unique.
-use Rattle.gix_refspec.proofs.Common.{◌⊎◌, inl, inr, ℕ, List, Lacks, star, HasStar, HasSeveralStars, HasOneStar, Reading, IsAccepted, by_cases}
+use Rattle.gix_refspec.proofs.Common.{inl, inr, Reading, IsAccepted, by_cases}
 use Rattle.gix_refspec_text.specs.Laws.Sides.{SidesAgree, OneOfEach}
 use Rattle.gix_refspec_text.proofs.lemmas.specs.AcceptedLemmas.{accepted_few, accepted_balanced}
 use Rattle.gix_refspec_match.proofs.lemmas.hits.HitLemmas.{one_kind}
@@ -7,13 +7,9 @@ use Rattle.gix_refspec_text.proofs.lemmas.hits.MatchLemmas.{one_word}
 use Rattle.gix_refspec_text.proofs.lemmas.texts.ObjectIdLemmas.{IsIdText-unique}
 use Rattle.gix_refspec.proofs.lemmas.hits.TransposeLemmas.{both_or_neither, one_star, starred}
 
--- a text without several stars has one or none
-one_or_none : (x : List ℕ) → ¬ (HasSeveralStars x) → Lacks star x ⊎ HasStar x → HasOneStar x ⊎ Lacks star x
-one_or_none x few either = by_cases either (λ lacks. inr lacks) (λ has. inl (one_star x has few))
-
 pub sides_agree : (r : Reading) → ∥ IsAccepted r ∥₁ → SidesAgree r
 sides_agree r accepted = record {
-  each = λ x side. one_or_none x (accepted_few r x accepted side) (starred x);
+  each = λ x side. by_cases (starred x) (λ lacks. inr lacks) (λ has. inl (one_star x has (accepted_few r x accepted side)));
   both = λ s d source destination. both_or_neither s d (accepted_few r s accepted (inl source)) (accepted_few r d accepted (inr destination)) (accepted_balanced r s d accepted source destination);
 }
 
