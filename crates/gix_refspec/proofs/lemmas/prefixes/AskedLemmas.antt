@@ -107,10 +107,3 @@ one_more_list specs i spec list names new below is appended lists so_far =
 -- a group has no list if one spec has none
 pub none_at : (specs : List RefSpecRef) (i : ℕ) (spec : RefSpecRef) → i < length specs → spec ≡ get_or specs i spec → ((list : List (List ℕ)) → ¬ (Lists (reading_of spec) list)) → HasNoList (map reading_of specs)
 none_at specs i spec below is none = (i, reading_of spec, omega (arith, below, length-map specs reading_of), get_or-map reading_of specs i spec (reading_of spec) below ∙ ap reading_of (sym is), none)
-
--- a missing list, and a present one
-pub missing_list : (r : Reading) (asked : Option (Vec BString Global)) → asked ≡ None → MatchOption asked ((list : List (List ℕ)) → ¬ (Lists r list)) (λ v. Lists r (map bstring_bytes v.items)) → (list : List (List ℕ)) → ¬ (Lists r list)
-missing_list r asked none told = rw none at told
-
-pub given_list : (r : Reading) (asked : Option (Vec BString Global)) (v : Vec BString Global) → asked ≡ Some v → MatchOption asked ((list : List (List ℕ)) → ¬ (Lists r list)) (λ w. Lists r (map bstring_bytes w.items)) → Lists r (map bstring_bytes v.items)
-given_list r asked v some told = rw some at told

@@ -1,6 +1,6 @@
 -- the list of each spec is appended
-use Rattle.gix_refspec.proofs.Common.{length, ap, arith, take_all, reading_of}
-use Rattle.gix_refspec.proofs.lemmas.prefixes.AskedLemmas.{asks_no_names, given_list, missing_list, none_at, nothing_at, one_more_list, serves}
+use Rattle.gix_refspec.proofs.Common.{length, ap, arith, take_all}
+use Rattle.gix_refspec.proofs.lemmas.prefixes.AskedLemmas.{asks_no_names, none_at, nothing_at, one_more_list, serves}
 use Rattle.gix_refspec_text.proofs.lemmas.prefixes.PrefixLemmas.{on_any_error}
 use Rattle.gix_refspec.proofs.match_group.types.MatchGroup.ref_prefixes.Goals as goal
 
@@ -11,7 +11,7 @@ returns-in_err-names-clause-memory c =
 
 pub returns-in_default-clause-ok : goal.returns-in_default-clause-ok
 returns-in_default-clause-ok c =
-    let none = missing_list (reading_of c.spec-item.result) c.in_ok-names.field-0 c.in_default.is c.in_ok-names.ensures.ok in
+    let none = rw c.in_default.is at c.in_ok-names.ensures.ok in
     rw (← c.deref-spec-items.ensures.value) (none_at c.deref-spec-items.result.now c.loop-spec.spec-index c.spec-item.result c.loop-spec-test.true c.spec-item.is none)
 
 pub returns-in_err-append-clause-memory : goal.returns-in_err-append-clause-memory
@@ -19,7 +19,7 @@ returns-in_err-append-clause-memory c =
     let specs = c.deref-spec-items.result.now in
     let list = c.loop-spec.list in
     let names = c.in-Some.names in
-    let given = given_list (reading_of c.spec-item.result) c.in_ok-names.field-0 names c.in-Some.is c.in_ok-names.ensures.ok in
+    let given = rw c.in-Some.is at c.in_ok-names.ensures.ok in
     on_any_error c.from_residual-in_err-append.result (λ asks.
     let nothing = rw (← c.deref-spec-items.ensures.value) at asks in
     omega (arith, c.in_err-append.ensures.full, list.ok.1, names.ok.0, asks_no_names specs c.loop-spec.spec-index c.spec-item.result names.items c.loop-spec-test.true c.spec-item.is given nothing))
@@ -28,7 +28,7 @@ pub loop-spec-preserved : goal.loop-spec-preserved
 loop-spec-preserved c =
     let specs = c.deref-spec-items.result.now in
     let names = c.in-Some.names in
-    let given = given_list (reading_of c.spec-item.result) c.in_ok-names.field-0 names c.in-Some.is c.in_ok-names.ensures.ok in
+    let given = rw c.in-Some.is at c.in_ok-names.ensures.ok in
     rw (← c.deref-spec-items.ensures.value)
     (one_more_list specs c.loop-spec.spec-index c.spec-item.result c.loop-spec.list.items names.items c.append.new.self.items c.loop-spec-test.true c.spec-item.is c.in_ok-append.ensures.items given (rw (← c.deref-spec-items.ensures.value) at c.loop-spec.invariant))
 
