@@ -1,19 +1,11 @@
 -- Examples of the definitions of the laws on fetches, and what a caller concludes from these laws.
-use Rattle.std.proofs.Common.{◌≡◌, ◌≢◌, inl, inr, zero, suc, false, List, [], ◌∷◌, Some, codes, refl, sym, ap, arith}
-use Rattle.std.specs.List.{Contains}
-use Rattle.gix_refspec_plan.specs.declared.Origin.{Origin}
-use Rattle.gix_refspec_plan.specs.declared.Origin.TheVariants as origin
-use Rattle.gix_refspec_plan.specs.declared.Verdict.{Verdict}
-use Rattle.gix_refspec_plan.specs.declared.Verdict.TheVariants as verdict
-use Rattle.gix_refspec_text.specs.Texts.Bytes.{head}
-use Rattle.gix_refspec_text.specs.Specs.Reading.{Forced, Normal, Reading, fetched_alone}
-use Rattle.gix_refspec_text.specs.Matching.Match.{Ref}
-use Rattle.gix_refspec_match.specs.Matching.Mappings.{name}
-use Rattle.gix_refspec_match.specs.Matching.Missing.{LacksSource}
-use Rattle.gix_refspec_plan.specs.Matching.Plan.{IsCarriedOut, IsPlan, Planned, Wish}
-use Rattle.gix_refspec_plan.specs.Laws.Fetches.{AreWrittenOnce, CarriedOutExactly, ConflictsExactly, DoConflict, IsRequired, OnePlan, WritesOnce}
+use Rattle.gix_refspec_plan.proofs.Common.{◌≡◌, ◌≢◌, inl, inr, false, List, [], ◌∷◌, Some, codes, refl, sym, ap, arith, Origin, Verdict, head, Forced, Normal, Reading, fetched_alone, Ref, name}
+use Rattle.gix_refspec_plan.proofs.Common.{LacksSource, IsCarriedOut, IsPlan, Planned, Wish, AreWrittenOnce, CarriedOutExactly, ConflictsExactly, DoConflict, IsRequired, OnePlan, WritesOnce}
 use Rattle.gix_refspec_text.proofs.facts.FitFacts.{every, other_byte, short, short_kind}
 use Rattle.gix_refspec_match.proofs.facts.MatchFacts.{bytes_in}
+use Rattle.gix_refspec_plan.specs.declared.Origin.TheVariants as origin
+use Rattle.gix_refspec_plan.specs.declared.Verdict.TheVariants as verdict
+use Rattle.gix_refspec_plan.proofs.lemmas.plan.MadeLemmas.{nothing_in, one_in}
 
 -- two updates from different sources to the same ref, and one to another
 abbrev from_a : Verdict → Planned
@@ -54,11 +46,7 @@ conflict = (
 
 -- by the law no update is in conflict alone, and of two sources with one destination none is written
 pub not_alone : (wish : Wish) (refs : List Ref) → ConflictsExactly wish refs → (missing : List Origin) → ¬ (IsPlan wish refs (from_a verdict.InConflict ∷ []) missing)
-not_alone wish refs law missing plan = let (q, has, both) = (law _ missing plan).0.0 refl in by q has both
-  where
-    by : (q : Planned) → Contains (from_a verdict.InConflict ∷ []) q → ¬ (DoConflict (from_a verdict.InConflict) q)
-    by q (zero, below, at) both = both.differ (ap (λ (p : Planned). p.source) at)
-    by q (suc i, below, at) both = omega (arith, below)
+not_alone wish refs law missing plan = let (q, has, both) = (law _ missing plan).0.0 refl in both.differ (ap (λ (p : Planned). p.source) (sym (one_in (from_a verdict.InConflict) q has)))
 
 pub not_written : (wish : Wish) (refs : List Ref) → ConflictsExactly wish refs → (missing : List Origin) → ¬ (IsPlan wish refs (from_b verdict.Written ∷ from_a verdict.InConflict ∷ []) missing)
 not_written wish refs law missing plan = let told : verdict.Written ≡ verdict.InConflict = (law _ missing plan).0.1 (from_a verdict.InConflict, (1, omega arith, refl), record { one = inl refl; other = inr refl; destination = codes "refs/x"; one_to = refl; other_to = refl; differ = λ same. a_not_b (sym same) }) in cc
@@ -75,35 +63,31 @@ fetch_merged = record { given = []; configured = []; merges = codes "refs/heads/
 abbrev fetch_nothing : Wish
 fetch_nothing = record { given = []; configured = []; merges = []; tags = false }
 
-nothing_in_none : {X : Type 0} (x : X) → ¬ (Contains [] x)
-nothing_in_none x (i, below, at) = omega (arith, below)
-
 -- a source of the call has to be there, and none of the configuration beside it; without a spec `HEAD`, unless a ref is merged
 pub required : IsRequired fetch_main short × ¬ (IsRequired fetch_main every) × IsRequired fetch_nothing (fetched_alone head) × ¬ (IsRequired fetch_merged (fetched_alone head))
 required = (IsRequired.by_call (0, omega arith, refl), configured, IsRequired.by_default refl refl refl refl, merged)
   where
     configured : ¬ (IsRequired fetch_main every)
-    configured (IsRequired.by_call (zero, below, at)) = let same : Normal ≡ Forced = ap (λ (r : Reading). r.mode) at in cc
-    configured (IsRequired.by_call (suc i, below, at)) = omega (arith, below)
+    configured (IsRequired.by_call has) = let same : Forced ≡ Normal = ap (λ (r : Reading). r.mode) (one_in short every has) in cc
     configured (IsRequired.by_configuration none has) = let empty : short ∷ [] ≡ [] = none in cc
     configured (IsRequired.by_default none no_configured no_merged same) = let empty : short ∷ [] ≡ [] = none in cc
 
     merged : ¬ (IsRequired fetch_merged (fetched_alone head))
-    merged (IsRequired.by_call has) = nothing_in_none _ has
-    merged (IsRequired.by_configuration none has) = nothing_in_none _ has
+    merged (IsRequired.by_call has) = nothing_in [] _ refl has
+    merged (IsRequired.by_configuration none has) = nothing_in [] _ refl has
     merged (IsRequired.by_default none no_configured no_merged same) = let empty : codes "refs/heads/main" ∷ [] ≡ [] = no_merged in cc
 
 -- by the law nothing is written if the remote has no refs
 pub main_missing : CarriedOutExactly fetch_main [] → (planned : List Planned) (missing : List Origin) → IsPlan fetch_main [] planned missing → ¬ (IsCarriedOut planned missing)
-main_missing law planned missing plan carried = ((law planned missing plan).0 carried).0 short required.0 (record { positive = tt; source = codes "main"; is = refl; named = inr short_kind; absent = λ ref word has. absurd (nothing_in_none ref has) })
+main_missing law planned missing plan carried = ((law planned missing plan).0 carried).0 short required.0 (record { positive = tt; source = codes "main"; is = refl; named = inr short_kind; absent = λ ref word has. absurd (nothing_in [] ref refl has) })
 
 -- but a merged ref may be missing
 pub merged_missing : CarriedOutExactly fetch_merged [] → (missing : List Origin) → IsPlan fetch_merged [] [] missing → IsCarriedOut [] missing
-merged_missing law missing plan = (law [] missing plan).1 (none, (λ p q has. absurd (nothing_in_none p has)))
+merged_missing law missing plan = (law [] missing plan).1 (none, (λ p q has. absurd (nothing_in [] p refl has)))
   where
     none : (r : Reading) → IsRequired fetch_merged r → ¬ (LacksSource [] r)
-    none r (IsRequired.by_call has) = absurd (nothing_in_none r has)
-    none r (IsRequired.by_configuration no_given has) = absurd (nothing_in_none r has)
+    none r (IsRequired.by_call has) = absurd (nothing_in [] r refl has)
+    none r (IsRequired.by_configuration no_given has) = absurd (nothing_in [] r refl has)
     none r (IsRequired.by_default no_given no_configured no_merged same) = absurd (let empty : codes "refs/heads/main" ∷ [] ≡ [] = no_merged in cc)
 
 -- nor does a conflict let anything be written

@@ -1,36 +1,20 @@
 -- Examples of the definitions on plans: what Git completes and leaves out, and the verdicts.
-use Rattle.std.proofs.Common.{◌≡◌, inl, inr, ℕ, zero, suc, true, false, List, [], ◌∷◌, ◌++◌, None, Some, codes, map, option_map, take, refl, sym, ap, ◌∙◌, subst, arith}
-use Rattle.std.specs.List.{Contains}
-use Rattle.bstr.specs.BStr.{bstr_bytes}
-use Rattle.bstr.specs.Owned.{bstring_bytes}
-use Rattle.gix_refspec_plan.specs.declared.Asked.{Asked as DeclaredAsked}
-use Rattle.gix_refspec_plan.specs.declared.Update.{Update}
+use Rattle.gix_refspec_plan.proofs.Common.{◌≡◌, inl, inr, ℕ, true, false, List, [], ◌∷◌, ◌++◌, None, Some, codes, map, option_map, take, refl, sym, ap, ◌∙◌, subst, arith, Contains, bstr_bytes}
+use Rattle.gix_refspec_plan.proofs.Common.{bstring_bytes, DeclaredAsked, Update, Verdict, star, Normal, Forced, Negative, Reading, all_tags, fetched_alone, with_destination, fetched, IsCandidate}
+use Rattle.gix_refspec_plan.proofs.Common.{partial, Matches, reading_of, Mapped, AreMissing, LacksSource, start_of, nothing_made, AreLacking, AreMerges, AreThose, CanBeWritten, Covers}
+use Rattle.gix_refspec_plan.proofs.Common.{HasSecondVerdict, HasVerdict, IsCarriedOut, IsCompleted, IsContested, IsNegativeReading, IsPositiveReading, IsSound, IsTakenOver, IsUnwritableAt}
+use Rattle.gix_refspec_plan.proofs.Common.{MayBeMissing, Planned, tags_asked, same_Some, Lacks-ContainsText, IsRefName, asked_of, planned_of, wish_of}
 use Rattle.gix_refspec_plan.specs.declared.Wish.{Wish as DeclaredWish}
-use Rattle.gix_refspec_plan.specs.declared.Origin.TheVariants as origin
-use Rattle.gix_refspec_plan.specs.declared.Verdict.TheVariants as verdict
-use Rattle.gix_refspec_plan.specs.declared.Verdict.{Verdict}
-use Rattle.gix_refspec.specs.declared.match_group.ref_names.InvalidSide.TheVariants as invalid
-use Rattle.gix_refspec_text.specs.Texts.Bytes.{star}
-use Rattle.gix_refspec_text.specs.Specs.Reading.{Normal, Forced, Negative, Reading, all_tags, fetched_alone, with_destination}
-use Rattle.gix_refspec_text.specs.Specs.Grammar.{fetched}
-use Rattle.gix_refspec_text.specs.Matching.Side.{IsCandidate, partial}
-use Rattle.gix_refspec_text.specs.Matching.Match.{Matches}
-use Rattle.gix_refspec_text.specs.Views.Spec.{reading_of}
-use Rattle.gix_refspec_match.specs.Matching.Mappings.{Mapped}
-use Rattle.gix_refspec_match.specs.Matching.Missing.{AreMissing, LacksSource}
-use Rattle.gix_refspec_match.specs.Views.Mapping.{start_of}
-use Rattle.gix_refspec_match.proofs.lemmas.lists.JoinLemmas.{nothing_made}
-use Rattle.gix_refspec_plan.specs.Matching.Plan.{AreLacking, AreMerges, AreThose, CanBeWritten, Covers, HasSecondVerdict, HasVerdict, IsCarriedOut, IsCompleted, IsContested, IsNegativeReading, IsPositiveReading, IsSound, IsTakenOver, IsUnwritableAt, MayBeMissing, Planned, tags_asked}
-use Rattle.std.proofs.lemmas.Option.{same_Some}
 use Rattle.gix_refspec_text.proofs.lemmas.texts.TestedLemmas.{IsName-tested}
-use Rattle.gix_refspec_text.proofs.lemmas.texts.TextLemmas.{Lacks-ContainsText}
 use Rattle.gix_refspec_text.proofs.facts.ManualFacts.{Lacks-tested, other_length}
 use Rattle.gix_refspec_text.proofs.facts.FitFacts.{every, main_ref, no_dev, other_byte, short, short_kind}
 use Rattle.gix_refspec_match.proofs.facts.MatchFacts.{bytes_in, mapping}
-use Rattle.gix_refspec.specs.Matching.RefNames.{IsRefName}
-use Rattle.gix_refspec_plan.specs.Views.Plan.{asked_of, planned_of, wish_of}
-use Rattle.gix_refspec_plan.proofs.lemmas.plan.CarriedLemmas.{tags_lack_nothing}
 use Rattle.gix_refspec.proofs.facts.RefNameFacts.{no_ref_names, ref_names}
+use Rattle.gix_refspec_plan.specs.declared.Origin.TheVariants as origin
+use Rattle.gix_refspec_plan.specs.declared.Verdict.TheVariants as verdict
+use Rattle.gix_refspec.specs.declared.match_group.ref_names.InvalidSide.TheVariants as invalid
+use Rattle.gix_refspec_plan.proofs.lemmas.plan.CarriedLemmas.{tags_lack_nothing}
+use Rattle.gix_refspec_plan.proofs.lemmas.plan.MadeLemmas.{nothing_in, one_in}
 
 -- ---- sides
 
@@ -74,9 +58,6 @@ sides = ((inr refl, writable.2), (no_ref_names.2, x_writable), (no_ref_names.2, 
 
 pub no_other_sides : ¬ (IsUnwritableAt invalid.Both to_head) × ¬ (IsUnwritableAt invalid.Destination from_bad) × ¬ (IsUnwritableAt invalid.Source all_bad) × ¬ (IsUnwritableAt invalid.Destination a_to_x)
 no_other_sides = ((λ is. is.0 (inr refl)), (λ is. is.1 x_writable), (λ is. writable.2 is.1), (λ is. is.1 x_writable))
-
-nothing_in_none : {X : Type 0} (x : X) → ¬ (Contains [] x)
-nothing_in_none x (i, below, at) = omega (arith, below)
 
 -- ---- specs
 
@@ -128,7 +109,7 @@ pub merges : AreMerges (codes "refs/heads/main" ∷ codes "main" ∷ codes "refs
 merges = (
   Some (record { reading = fetched_alone (codes "refs/heads/main"); origin = origin.Merge 0 }),
   [],
-  (refl, ref_names.0, (λ (m, has, sound, is). nothing_in_none m has), (λ has. nothing_in_none _ has)),
+  (refl, ref_names.0, (λ (m, has, sound, is). nothing_in [] m refl has), (λ has. nothing_in [] _ refl has)),
   (None, [], (λ a told. no_ref_names.0 told.1), (None, [], (λ a told. told.3 (0, omega arith, refl)), refl, refl), refl),
   refl,
 )
@@ -138,18 +119,13 @@ pub covered : AreMerges (codes "refs/heads/a" ∷ []) (a_to_x ∷ []) [] × ¬ (
 covered = (
   (None, [], (λ a told. told.2 (a_to_x, (0, omega arith, refl), a_sound, refl)), refl, refl),
   λ are. nothing_made (λ k n a. (a ≡ record { reading = fetched_alone n; origin = origin.Merge k }) × IsRefName n × ¬ (Covers (b_to_x ∷ []) n) × ¬ (Contains (take k (codes "refs/heads/a" ∷ [])) n)) 0 [] (codes "refs/heads/a") []
-      (record { reading = fetched_alone (codes "refs/heads/a"); origin = origin.Merge 0 }) are (refl, a_sound.source, no_a, (λ has. nothing_in_none _ has)),
+      (record { reading = fetched_alone (codes "refs/heads/a"); origin = origin.Merge 0 }) are (refl, a_sound.source, no_a, (λ has. nothing_in [] _ refl has)),
 )
   where
     no_a : ¬ (Covers (b_to_x ∷ []) (codes "refs/heads/a"))
-    no_a (m, (zero, below, at), sound, is) = other_byte 11 (codes "refs/heads/b") (codes "refs/heads/a") (λ byte. omega (arith, byte)) (ap bytes_in (ap (λ (n : Mapped). n.source) at ∙ is))
-    no_a (m, (suc i, below, at), sound, is) = omega (arith, below)
+    no_a (m, has, sound, is) = other_byte 11 (codes "refs/heads/b") (codes "refs/heads/a") (λ byte. omega (arith, byte)) (ap bytes_in (ap (λ (n : Mapped). n.source) (sym (one_in b_to_x m has)) ∙ is))
 
 -- ---- verdicts
-
-one_of : (x m : Mapped) → Contains (x ∷ []) m → m ≡ x
-one_of x m (zero, below, at) = sym at
-one_of x m (suc i, below, at) = absurd (omega (arith, below))
 
 -- another source with the same destination makes a conflict, but not if its name is no ref name
 pub contested : HasVerdict (a_to_x ∷ b_to_x ∷ []) a_to_x verdict.InConflict × HasVerdict (a_to_x ∷ []) a_to_x verdict.Written × HasVerdict (from_bad ∷ []) a_to_x verdict.Written
@@ -157,7 +133,7 @@ pub contested : HasVerdict (a_to_x ∷ b_to_x ∷ []) a_to_x verdict.InConflict 
 contested = (
   (a_sound, by_b),
   (a_sound, alone),
-  (a_sound, (λ (n, has, sound, share, differ). no_ref_names.2 (subst (λ (m : Mapped). IsSound m) (one_of from_bad n has) sound).source)),
+  (a_sound, (λ (n, has, sound, share, differ). no_ref_names.2 (subst (λ (m : Mapped). IsSound m) (one_in from_bad n has) sound).source)),
   (λ is. is.1 by_b),
   (λ is. alone is.1),
 )
@@ -166,7 +142,7 @@ contested = (
     by_b = (b_to_x, (1, omega arith, refl), b_sound, (codes "refs/x", refl, refl), (λ same. other_byte 11 (codes "refs/heads/a") (codes "refs/heads/b") (λ byte. omega (arith, byte)) (ap bytes_in same)))
 
     alone : ¬ (IsContested (a_to_x ∷ []) a_to_x)
-    alone (n, has, sound, share, differ) = differ (sym (ap (λ (m : Mapped). m.source) (one_of a_to_x n has)))
+    alone (n, has, sound, share, differ) = differ (sym (ap (λ (m : Mapped). m.source) (one_in a_to_x n has)))
 
 -- an invalid side comes before all other verdicts
 pub left_out : HasVerdict (b_to_x ∷ []) from_bad (verdict.LeftOut invalid.Source) × ¬ (HasVerdict (b_to_x ∷ []) from_bad verdict.InConflict) × ¬ (HasSecondVerdict (b_to_x ∷ []) [] from_bad verdict.Overruled)
@@ -182,7 +158,7 @@ overruled = ((b_sound, by_a), (λ is. is.1 by_a), (λ is. is.1 by_a))
 -- ---- missing sources
 
 main_lacking : LacksSource [] short
-main_lacking = record { positive = tt; source = codes "main"; is = refl; named = inr short_kind; absent = λ ref word has. absurd (nothing_in_none ref has) }
+main_lacking = record { positive = tt; source = codes "main"; is = refl; named = inr short_kind; absent = λ ref word has. absurd (nothing_in [] ref refl has) }
 
 main_candidate : IsCandidate (codes "main") (codes "refs/heads/main")
 main_candidate = record { earlier = codes "main" ∷ codes "refs/main" ∷ codes "refs/tags/main" ∷ []; later = codes "refs/remotes/main" ∷ codes "refs/remotes/main/HEAD" ∷ []; here = refl }

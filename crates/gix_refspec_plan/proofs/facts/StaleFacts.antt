@@ -1,20 +1,12 @@
 -- Examples of the definition of stale refs: what keeps a local ref from being stale, and one that is.
-use Rattle.std.proofs.Common.{◌≡◌, ◌⊎◌, inl, inr, ℕ, zero, suc, List, [], ◌∷◌, ◌++◌, None, Some, codes, refl, sym, ap, ◌∙◌, subst, arith}
-use Rattle.std.specs.List.{Contains}
-use Rattle.std.proofs.lemmas.List.{append_cancel_left}
-use Rattle.std.proofs.lemmas.Option.{same_Some}
-use Rattle.gix_refspec_text.specs.Texts.Bytes.{star}
-use Rattle.gix_refspec_text.specs.Texts.Words.{Lacks}
-use Rattle.gix_refspec_text.specs.Specs.Reading.{Negative, Normal, Reading}
-use Rattle.gix_refspec_text.specs.Specs.Grammar.{IsPositive, fetched}
-use Rattle.gix_refspec_text.specs.Matching.Side.{full_name, partial, pattern, the_name}
-use Rattle.gix_refspec_text.proofs.lemmas.hits.MatchLemmas.{split_once}
-use Rattle.gix_refspec_text.proofs.lemmas.lists.LacksLemmas.{Lacks-here}
+use Rattle.gix_refspec_plan.proofs.Common.{◌≡◌, ◌⊎◌, inl, inr, ℕ, List, [], ◌∷◌, ◌++◌, None, Some, codes, refl, sym, ap, ◌∙◌, subst, arith, Contains, append_cancel_left, same_Some, star, Lacks}
+use Rattle.gix_refspec_plan.proofs.Common.{Negative, Normal, Reading, IsPositive, fetched, full_name, partial, pattern, the_name, split_once, Lacks-here, CanWrite, CanWriteFrom, CanWriteObject}
+use Rattle.gix_refspec_plan.proofs.Common.{IsStale}
 use Rattle.gix_refspec_text.proofs.facts.ManualFacts.{Lacks-tested, named, other_length}
 use Rattle.gix_refspec_text.proofs.facts.ObjectIdFacts.{empty_blob}
 use Rattle.gix_refspec_text.proofs.facts.FitFacts.{blob_kind, every, heads_split, main_ref, origin_split, short_kind}
-use Rattle.gix_refspec_plan.specs.Matching.Stale.{CanWrite, CanWriteFrom, CanWriteObject, IsStale}
 use Rattle.gix_refspec_plan.proofs.lemmas.stale.PatternLemmas.{word_taken, writes_cases}
+use Rattle.gix_refspec_plan.proofs.lemmas.plan.MadeLemmas.{one_in}
 
 -- a fetch into `x`, which is refs/heads/x, and a negative spec
 abbrev to_x : List ℕ → Reading
@@ -67,11 +59,6 @@ not_stale = (
   (λ stale. stale.no_object (to_x _, first _ [], from_blob)),
 )
 
--- a spec of one is it
-only_every : (r : Reading) → Contains (every ∷ []) r → every ≡ r
-only_every r (zero, below, is) = is
-only_every r (suc k, below, is) = absurd (omega (arith, below))
-
 -- the one ref from which the pattern could write the branch `dev` of the remote
 only_dev : (s : List ℕ) → CanWriteFrom every (codes "refs/remotes/origin/dev") s → s ≡ codes "refs/heads/dev"
 only_dev s from = elim (writes_cases every (codes "refs/remotes/origin/dev") from.word from.writes) [
@@ -100,8 +87,8 @@ dev_stale = record {
       matches = record { kind = pattern (codes "refs/remotes/origin/") []; of = origin_split; is = refl };
     },
   );
-  no_object = λ (r, there, w). no_object r (only_every r there) w;
-  absent = λ s (r, there, from) has. absent s (only_dev s (rw (sym (only_every r there)) at from)) has;
+  no_object = λ (r, there, w). no_object r (sym (one_in every r there)) w;
+  absent = λ s (r, there, from) has. absent s (only_dev s (rw (one_in every r there) at from)) has;
   included = λ s of excluded. elim excluded [ inl by ↦ subst IsPositive by.negative tt | inr none ↦ none ];
 }
   where

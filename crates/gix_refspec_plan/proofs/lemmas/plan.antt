@@ -1,8 +1,8 @@
 -- Lemmas on the plan of a fetch.
 pub mod CoveredLemmas
 pub mod JudgeLemmas
+pub mod MadeLemmas
 pub mod LackingLemmas
-pub mod MergeLemmas
 pub mod NameLemmas
 pub mod OnePlanLemmas
 pub mod OnceLemmas

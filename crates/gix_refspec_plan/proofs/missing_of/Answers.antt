@@ -1,12 +1,7 @@
 -- The origin at each index of a missing source, unless it may be missing.
-use Rattle.std.proofs.Common.{None, Some, append-nil, map, sym, ◌∙◌, slice_index_or, subst, take_all, arith, rules}
-use Rattle.std.proofs.lemmas.Bool.{MatchBool-at_false, MatchBool-at_true}
-use Rattle.gix_refspec_match.specs.Views.Mapping.{ref_of}
-use Rattle.gix_refspec_plan.specs.Matching.Plan.{MayBeMissing}
-use Rattle.gix_refspec_plan.specs.Views.Plan.{asked_of}
+use Rattle.gix_refspec_plan.proofs.Common.{None, Some, append-nil, map, sym, ◌∙◌, slice_index_or, subst, take_all, arith, rules, MatchBool-at_false, MatchBool-at_true, ref_of, MayBeMissing, asked_of}
 use Rattle.gix_refspec_plan.proofs.lemmas.plan.LackingLemmas.{all_lacking, missing_within, origin_at, origin_next}
 use Rattle.gix_refspec_plan.proofs.missing_of.Goals as goal
-use Rattle.gix_refspec_plan.proofs.missing_of.Goals.{then-not-may_be_missing+in_ok-push, else-not-may_be_missing}
 
 pub bounds-asked-index : goal.bounds-asked-index
 bounds-asked-index c =
@@ -31,10 +26,10 @@ loop-index-preserved c =
     let n = slice_index_or indexes i 0 in
     let from = origin_at asked n a inside in
     elim c.if-not-may_be_missing.branch [
-      | then-not-may_be_missing+in_ok-push w ↦ rw w.missing-is
+      | goal.then-not-may_be_missing+in_ok-push w ↦ rw w.missing-is
           (origin_next (map asked_of asked) indexes i 0 c.loop-index.missing.items _ (Some (slice_index_or asked n a).origin) c.loop-index-test.true c.loop-index.invariant
           (from, MatchBool-at_false _ _ w.if-not-may_be_missing.true c.may_be_missing.ensures) w.in_ok-push.ensures.items)
-      | else-not-may_be_missing w ↦ rw w.missing-is
+      | goal.else-not-may_be_missing w ↦ rw w.missing-is
           (origin_next (map asked_of asked) indexes i 0 c.loop-index.missing.items _ None c.loop-index-test.true c.loop-index.invariant
           (λ o both. both.1 (subst MayBeMissing (from (asked_of a) ∙ sym (both.0 (asked_of a))) (MatchBool-at_true _ _ w.if-not-may_be_missing.false c.may_be_missing.ensures))) (sym (append-nil c.loop-index.missing.items)))
     ]

@@ -1,7 +1,5 @@
 -- the origins of the missing sources so far
-use Rattle.std.proofs.Common.{map, take}
-use Rattle.gix_refspec_match.specs.Matching.Lists.{IsMadeFrom}
-use Rattle.gix_refspec_plan.specs.Views.Plan.{asked_of}
+use Rattle.gix_refspec_plan.proofs.Common.{map, take, IsMadeFrom, asked_of}
 use Rattle.gix_refspec_plan.proofs.lemmas.plan.LackingLemmas.{Origins}
 use Rattle.gix_refspec_plan.proofs.missing_of.Given as goal
 

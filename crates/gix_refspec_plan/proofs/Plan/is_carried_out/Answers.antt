@@ -1,25 +1,14 @@
 -- An update that is in conflict stops the fetch.
-use Rattle.std.proofs.Common.{◌≡◌, ◌≢◌, ℕ, ◌<◌, List, [], map, get_or, length, refl, sym, ap, ◌∙◌, subst, take_all, arith}
-use Rattle.std.specs.List.{AllByRecursion}
-use Rattle.std.proofs.lemmas.Bool.{eqb-true, false≢true}
-use Rattle.std.proofs.lemmas.List.{get_or-map, length-map, nil_from_length}
-use Rattle.std.proofs.lemmas.List.Elements.{All-from_recursion, All-map, All-more, recursion_from_All}
-use Rattle.gix_refspec_plan.specs.declared.Update.{Update}
-use Rattle.gix_refspec_plan.specs.declared.Verdict.TheVariants as verdict
-use Rattle.gix_refspec_plan.specs.Matching.Plan.{IsCarriedOut, Planned}
-use Rattle.gix_refspec_plan.specs.Views.Plan.{planned_of}
+use Rattle.gix_refspec_plan.proofs.Common.{◌≡◌, ◌≢◌, [], map, refl, sym, subst, take_all, arith, eqb-true, false≢true, nil_from_length, All-map, All-more, recursion_from_All, Update, IsCarriedOut}
+use Rattle.gix_refspec_plan.proofs.Common.{Planned, planned_of, each_mapped, InConflict}
 use Rattle.gix_refspec_plan.proofs.Plan.is_carried_out.Goals as goal
 
 -- the update, or what is planned, isn't in conflict
 abbrev IsFree : Update → Type 0
-IsFree u = u.verdict ≢ verdict.InConflict
+IsFree u = u.verdict ≢ InConflict
 
 abbrev IsPlannedFree : Planned → Type 0
-IsPlannedFree p = p.verdict ≢ verdict.InConflict
-
-free_at : (us : List Update) (i : ℕ) (u : Update) → AllByRecursion IsPlannedFree (map planned_of us) → i < length us → u ≡ get_or us i u → IsFree u
-free_at us i u all below is =
-    subst IsPlannedFree (get_or-map planned_of us i u (planned_of u) below ∙ ap planned_of (sym is)) (All-from_recursion IsPlannedFree (map planned_of us) all i (planned_of u) (omega (arith, length-map us planned_of)))
+IsPlannedFree p = p.verdict ≢ InConflict
 
 pub loop-update-preserved : goal.loop-update-preserved
 loop-update-preserved c =
@@ -28,7 +17,7 @@ loop-update-preserved c =
 pub returns-in-InConflict : goal.returns-in-InConflict
 returns-in-InConflict c = (
   (λ told. absurd (false≢true told)),
-  (λ carried. absurd (free_at c.args.self.now.updates.items c.loop-update.update-index c.update-item.result carried.free (rw c.deref-update-items.ensures.value at c.loop-update-test.true) (rw c.deref-update-items.ensures.value at c.update-item.is) c.in-InConflict.is)),
+  (λ carried. absurd (each_mapped planned_of IsPlannedFree c.args.self.now.updates.items c.loop-update.update-index c.update-item.result carried.free (rw c.deref-update-items.ensures.value at c.loop-update-test.true) (rw c.deref-update-items.ensures.value at c.update-item.is) c.in-InConflict.is)),
 )
 
 pub returns : goal.returns

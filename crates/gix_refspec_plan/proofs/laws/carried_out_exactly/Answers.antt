@@ -1,7 +1,5 @@
 -- The specs that are asked for are those whose sources have to be there, and some more.
-use Rattle.std.proofs.Common.{map}
-use Rattle.gix_refspec_match.specs.Views.Mapping.{ref_of}
-use Rattle.gix_refspec_plan.specs.Views.Plan.{wish_of}
+use Rattle.gix_refspec_plan.proofs.Common.{map, ref_of, wish_of}
 use Rattle.gix_refspec_plan.proofs.lemmas.plan.CarriedLemmas.{carried_out_exactly}
 use Rattle.gix_refspec_plan.proofs.laws.carried_out_exactly.Goals as goal
 

@@ -1,7 +1,5 @@
 -- By the verdicts on mappings.
-use Rattle.std.proofs.Common.{map}
-use Rattle.gix_refspec_match.specs.Views.Mapping.{ref_of}
-use Rattle.gix_refspec_plan.specs.Views.Plan.{wish_of}
+use Rattle.gix_refspec_plan.proofs.Common.{map, ref_of, wish_of}
 use Rattle.gix_refspec_plan.proofs.lemmas.plan.OpposedLemmas.{conflicts_exactly}
 use Rattle.gix_refspec_plan.proofs.laws.conflicts_exactly.Goals as goal
 

@@ -1,7 +1,5 @@
 -- Each part of the plan is determined by those before it.
-use Rattle.std.proofs.Common.{map}
-use Rattle.gix_refspec_match.specs.Views.Mapping.{ref_of}
-use Rattle.gix_refspec_plan.specs.Views.Plan.{wish_of}
+use Rattle.gix_refspec_plan.proofs.Common.{map, ref_of, wish_of}
 use Rattle.gix_refspec_plan.proofs.lemmas.plan.OnePlanLemmas.{one_plan}
 use Rattle.gix_refspec_plan.proofs.laws.one_plan.Goals as goal
 

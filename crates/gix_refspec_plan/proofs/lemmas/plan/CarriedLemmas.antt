@@ -1,32 +1,10 @@
 -- A plan is carried out exactly if no source is missing that has to be there, and no two updates conflict.
-use Rattle.std.proofs.Common.{◌≡◌, ◌≢◌, ◌⊎◌, inl, inr, ◌↔◌, ℕ, zero, suc, Bool, true, false, List, [], ◌∷◌, ◌++◌, codes, take, get_or, refl, sym, ap, subst, arith}
-use Rattle.std.specs.List.{Contains}
-use Rattle.std.proofs.lemmas.List.Elements.{All-from_recursion, Contains-append_cases, Contains-append_left, Contains-get_or, recursion_from_All}
-use Rattle.std.proofs.lemmas.Option.{same_Some}
-use Rattle.gix_refspec_plan.specs.declared.Origin.{Origin}
-use Rattle.gix_refspec_plan.specs.declared.Origin.TheVariants as origin
-use Rattle.gix_refspec_plan.specs.declared.Verdict.TheVariants as verdict
-use Rattle.gix_refspec_text.specs.Texts.Bytes.{star}
-use Rattle.gix_refspec_text.specs.Texts.Words.{Lacks}
-use Rattle.gix_refspec_text.specs.Specs.Reading.{Reading, all_tags, fetched_alone}
-use Rattle.gix_refspec_text.specs.Texts.Bytes.{head}
-use Rattle.gix_refspec_text.specs.Matching.Match.{Ref}
-use Rattle.gix_refspec_match.specs.Matching.Missing.{LacksSource}
-use Rattle.gix_refspec_plan.specs.Matching.Plan.{AreAsked, AreConfigured, AreThose, AreUncovered, Asked, Covers, IsCarriedOut, IsPlan, MayBeMissing, Planned, Wish, tags_asked}
-use Rattle.gix_refspec.specs.Matching.RefNames.{IsRefName}
-use Rattle.gix_refspec_plan.specs.Laws.Fetches.{CarriedOutExactly, DoConflict, IsRequired}
-use Rattle.gix_refspec_plan.proofs.lemmas.plan.OnceLemmas.{made_from}
-use Rattle.gix_refspec_plan.proofs.lemmas.plan.OpposedLemmas.{in_conflict, made_has, opposed}
-
-nothing_in : {X : Type 0} (l : List X) (x : X) → l ≡ [] → ¬ (Contains l x)
-nothing_in {X} l x empty has = let (i, below, at) = subst (λ (m : List X). Contains m x) empty has in omega (arith, below)
-
-one_in : {X : Type 0} (l : List X) (x y : X) → l ≡ x ∷ [] → Contains l y → y ≡ x
-one_in {X} l x y is has = by (subst (λ (m : List X). Contains m y) is has)
-  where
-    by : Contains (x ∷ []) y → y ≡ x
-    by (zero, below, at) = sym at
-    by (suc i, below, at) = absurd (omega (arith, below))
+use Rattle.gix_refspec_plan.proofs.Common.{◌≡◌, ◌≢◌, ◌⊎◌, inl, inr, ℕ, Bool, true, false, List, [], ◌∷◌, ◌++◌, codes, take, get_or, refl, sym, ap, subst, arith, Contains, All-from_recursion}
+use Rattle.gix_refspec_plan.proofs.Common.{Contains-append_cases, Contains-append_left, Contains-get_or, recursion_from_All, same_Some, Origin, star, Lacks, Reading, all_tags, fetched_alone, head}
+use Rattle.gix_refspec_plan.proofs.Common.{Ref, LacksSource, AreAsked, AreConfigured, AreThose, AreUncovered, Asked, Covers, IsPlan, MayBeMissing, Planned, Wish, tags_asked, IsRefName}
+use Rattle.gix_refspec_plan.proofs.Common.{CarriedOutExactly, IsRequired, All-contains, InConflict, Configured, Default, Given, Merge}
+use Rattle.gix_refspec_plan.proofs.lemmas.plan.MadeLemmas.{made_from, made_has, nothing_in, one_in}
+use Rattle.gix_refspec_plan.proofs.lemmas.plan.OpposedLemmas.{in_conflict, opposed}
 
 -- ---- the specs that are asked for
 
@@ -53,7 +31,7 @@ those_are origin_at specs asked a those has =
 merges_may : (wish : Wish) (refs : List Ref) (merges : List Asked) (a : Asked) → AreUncovered wish refs merges → Contains merges a → MayBeMissing a.origin
 merges_may wish refs merges a (inl (none, empty)) has = absurd (nothing_in merges a empty has)
 merges_may wish refs merges a (inr (configured, mapped, those, are_mapped, made)) has =
-    let (k, n, inside, told) = made_from (λ k n a. (a ≡ record { reading = fetched_alone n; origin = origin.Merge k }) × IsRefName n × ¬ (Covers mapped n) × ¬ (Contains (take k wish.merges) n)) 0 wish.merges merges a made has in
+    let (k, n, inside, told) = made_from (λ k n a. (a ≡ record { reading = fetched_alone n; origin = Merge k }) × IsRefName n × ¬ (Covers mapped n) × ¬ (Contains (take k wish.merges) n)) 0 wish.merges merges a made has in
     subst MayBeMissing (sym (ap (λ (x : Asked). x.origin) told.0)) tt
 
 -- the spec for all tags lacks nothing
@@ -68,34 +46,33 @@ tags_lack_nothing refs lacks = elim lacks.named [
 
 tags_are : (b : Bool) (a : Asked) → Contains (tags_asked b) a → a.reading ≡ all_tags
 tags_are false a has = absurd (nothing_in [] a refl has)
-tags_are true a has = ap (λ (x : Asked). x.reading) (one_in (tags_asked true) _ a refl has)
+tags_are true a has = ap (λ (x : Asked). x.reading) (one_in _ a has)
 
 -- a source that has to be there is asked for
 required_asked : (wish : Wish) (refs : List Ref) (asked : List Asked) (r : Reading) → AreAsked wish refs asked → IsRequired wish r → IsAskedWith asked r
-required_asked wish refs asked r (AreAsked.by_call given some those is) (IsRequired.by_call has) = with_more given (tags_asked wish.tags) asked r is (those_have origin.Given wish.given given r (λ k may. may) those has)
+required_asked wish refs asked r (AreAsked.by_call given some those is) (IsRequired.by_call has) = with_more given (tags_asked wish.tags) asked r is (those_have Given wish.given given r (λ k may. may) those has)
 required_asked wish refs asked r (AreAsked.by_call given some those is) (IsRequired.by_configuration none has) = absurd (some none)
 required_asked wish refs asked r (AreAsked.by_call given some those is) (IsRequired.by_default none empty alone same) = absurd (some none)
 required_asked wish refs asked r (AreAsked.without configured none are is) (IsRequired.by_call has) = absurd (nothing_in wish.given r none has)
 required_asked wish refs asked r (AreAsked.without all none are is) (IsRequired.by_configuration also has) = with_more all (tags_asked wish.tags) asked r is (by are)
   where
     by : AreConfigured wish refs all → IsAskedWith all r
-    by (AreConfigured.by_configuration configured merges some those uncovered joined) = with_more configured merges all r joined (those_have origin.Configured wish.configured configured r (λ k may. may) those has)
+    by (AreConfigured.by_configuration configured merges some those uncovered joined) = with_more configured merges all r joined (those_have Configured wish.configured configured r (λ k may. may) those has)
     by (AreConfigured.by_default empty alone same) = absurd (nothing_in wish.configured r empty has)
 required_asked wish refs asked r (AreAsked.without all none are is) (IsRequired.by_default also empty alone same) = with_more all (tags_asked wish.tags) asked r is (by are)
   where
     by : AreConfigured wish refs all → IsAskedWith all r
-    by (AreConfigured.by_configuration configured merges (inl some) those uncovered joined) = absurd (some empty)
-    by (AreConfigured.by_configuration configured merges (inr some) those uncovered joined) = absurd (some alone)
+    by (AreConfigured.by_configuration configured merges some those uncovered joined) = absurd (elim some [ inl has ↦ has empty | inr has ↦ has alone ])
     by (AreConfigured.by_default none_configured none_merged only) = (
-      record { reading = fetched_alone head; origin = origin.Default },
-      subst (λ (l : List Asked). Contains l (record { reading = fetched_alone head; origin = origin.Default })) (sym only) (0, omega arith, refl),
+      record { reading = fetched_alone head; origin = Default },
+      subst (λ (l : List Asked). Contains l (record { reading = fetched_alone head; origin = Default })) (sym only) (0, omega arith, refl),
       (sym same, λ may. may),
     )
 
 -- a spec whose source has to be there is required, or it is that for all tags
 asked_required : (wish : Wish) (refs : List Ref) (asked : List Asked) (a : Asked) → AreAsked wish refs asked → Contains asked a → ¬ (MayBeMissing a.origin) → IsRequired wish a.reading ⊎ (a.reading ≡ all_tags)
 asked_required wish refs asked a (AreAsked.by_call given some those is) has stays = elim (Contains-append_cases given (tags_asked wish.tags) a (subst (λ (l : List Asked). Contains l a) is has)) [
-  | inl before ↦ inl (IsRequired.by_call (those_are origin.Given wish.given given a those before))
+  | inl before ↦ inl (IsRequired.by_call (those_are Given wish.given given a those before))
   | inr tags ↦ inr (tags_are wish.tags a tags)
 ]
 asked_required wish refs asked a (AreAsked.without all none are is) has stays = elim (Contains-append_cases all (tags_asked wish.tags) a (subst (λ (l : List Asked). Contains l a) is has)) [
@@ -105,10 +82,10 @@ asked_required wish refs asked a (AreAsked.without all none are is) has stays = 
   where
     by : AreConfigured wish refs all → Contains all a → IsRequired wish a.reading
     by (AreConfigured.by_configuration configured merges some those uncovered joined) inside = elim (Contains-append_cases configured merges a (subst (λ (l : List Asked). Contains l a) joined inside)) [
-      | inl configures ↦ IsRequired.by_configuration none (those_are origin.Configured wish.configured configured a those configures)
+      | inl configures ↦ IsRequired.by_configuration none (those_are Configured wish.configured configured a those configures)
       | inr merged ↦ absurd (stays (merges_may wish refs merges a uncovered merged))
     ]
-    by (AreConfigured.by_default none_configured none_merged only) inside = IsRequired.by_default none none_configured none_merged (ap (λ (x : Asked). x.reading) (one_in all _ a only inside))
+    by (AreConfigured.by_default none_configured none_merged only) inside = IsRequired.by_default none none_configured none_merged (ap (λ (x : Asked). x.reading) (one_in _ a (subst (λ (l : List Asked). Contains l a) only inside)))
 
 -- ---- whether the plan is carried out
 
@@ -131,25 +108,20 @@ module _ (wish : Wish) (refs : List Ref) (planned : List Planned) (missing : Lis
         | inr tags ↦ tags_lack_nothing refs (subst (LacksSource refs) tags lacks)
       ])
 
-  carried_out : IsCarriedOut planned missing ↔ (((r : Reading) → IsRequired wish r → ¬ (LacksSource refs r)) × ((p q : Planned) → Contains planned p → Contains planned q → ¬ (DoConflict p q)))
-  carried_out = (
-    (λ carried. (
-      (λ r required lacks.
-          let (a, has, (is, stays)) = required_asked wish refs plan.asked r plan.are_asked required in
-          lacking_told a has stays (subst (LacksSource refs) (sym is) lacks) carried.whole),
-      (λ p q has_p has_q both.
-          let (k, below, at) = has_p in
-          subst (λ (x : Planned). x.verdict ≢ verdict.InConflict) at (All-from_recursion (λ (x : Planned). x.verdict ≢ verdict.InConflict) planned carried.free k p below) (in_conflict wish refs planned missing plan p q has_p has_q both)),
-    )),
-    (λ (none, apart). record {
-      whole = told_lacking none missing refl;
-      free = recursion_from_All (λ (p : Planned). p.verdict ≢ verdict.InConflict) planned (λ k d below is.
-          let p = get_or planned k d in
-          let has = Contains-get_or planned k d below in
-          let (q, has_q, both) = opposed wish refs planned missing plan p has is in
-          apart p q has has_q both);
-    }),
-  )
-
 pub carried_out_exactly : (wish : Wish) (refs : List Ref) → CarriedOutExactly wish refs
-carried_out_exactly = carried_out
+carried_out_exactly wish refs planned missing plan = (
+  (λ carried. (
+    (λ r required lacks.
+        let (a, has, (is, stays)) = required_asked wish refs plan.asked r plan.are_asked required in
+        lacking_told wish refs planned missing plan a has stays (subst (LacksSource refs) (sym is) lacks) carried.whole),
+    (λ p q has_p has_q both.
+        All-contains (λ (x : Planned). x.verdict ≢ InConflict) planned p (All-from_recursion (λ (x : Planned). x.verdict ≢ InConflict) planned carried.free) has_p (in_conflict wish refs planned missing plan p q has_p has_q both)),
+  )),
+  (λ (none, apart). record {
+    whole = told_lacking wish refs planned missing plan none missing refl;
+    free = recursion_from_All (λ (p : Planned). p.verdict ≢ InConflict) planned (λ k d below is.
+        let has = Contains-get_or planned k d below in
+        let (q, has_q, both) = opposed wish refs planned missing plan (get_or planned k d) has is in
+        apart (get_or planned k d) q has has_q both);
+  }),
+)

@@ -1,28 +1,19 @@
--- The merged refs that sound mappings are of, or that are given before, as duplicates among names.
-use Rattle.std.proofs.Common.{◌≡◌, ◌⊎◌, inl, inr, ◌↔◌, IsTrue, Bool, false, ℕ, ◌+◌, ◌-◌, ◌<◌, ◌≤◌, List, [], ◌∷◌, ◌++◌, length, map, take, get_or, refl, sym, ap, ◌∙◌, subst, arith}
-use Rattle.std.specs.List.{Contains}
+-- Names that stand behind others, as duplicates among all: merged refs behind the refs of sound mappings, and local refs behind destinations.
+use Rattle.gix_refspec_plan.proofs.Common.{◌≡◌, ◌⊎◌, inl, inr, ◌↔◌, IsTrue, Bool, false, ℕ, ◌+◌, ◌-◌, ◌<◌, ◌≤◌, List, [], ◌∷◌, ◌++◌, length, map, take, get_or, sym, ap, ◌∙◌, arith, Contains}
+use Rattle.gix_refspec_plan.proofs.Common.{take-append-add, cases_lt, get_or-append-add, get_or-map, get_or-take, get_or_append_left, get_or_push, length-append, length-map, length-take-le}
+use Rattle.gix_refspec_plan.proofs.Common.{length_push, Contains-append_cases, Contains-append_left, Contains-append_right, BStr, bstr_bytes, Mapped, name, FlagsDuplicates, IsDuplicate, IsFlagged}
+use Rattle.gix_refspec_plan.proofs.Common.{some_element, Covers, IsSound, AreNames, same_Some, HasDestination, ref_names, Ref, Some}
 use Rattle.std.specs.declared.cmp.Ordering.{Ordering}
-use Rattle.std.proofs.Math.Seq.{take-append-add}
-use Rattle.std.proofs.lemmas.Bool.{cases_lt}
-use Rattle.std.proofs.lemmas.List.{get_or-append-add, get_or-map, get_or-take, get_or_append_left, get_or_push, length-append, length-map, length-take-le, length_push}
-use Rattle.std.proofs.lemmas.List.Elements.{Contains-append_cases, Contains-append_left, Contains-append_right}
-use Rattle.bstr.specs.declared.bstr.BStr.{BStr}
-use Rattle.bstr.specs.BStr.{bstr_bytes}
-use Rattle.gix_refspec_match.specs.Matching.Mappings.{Mapped, name}
-use Rattle.gix_refspec_match.specs.Private.Duplicates.{FlagsDuplicates, IsDuplicate}
-use Rattle.gix_refspec_match.specs.Private.Kept.{IsFlagged}
 use Rattle.gix_refspec_match.specs.Private.Orders.{bytes_order, equal_texts, same_texts}
-use Rattle.gix_refspec_match.proofs.lemmas.duplicates.FlagLemmas.{some_element}
-use Rattle.gix_refspec_match.proofs.lemmas.lists.SomeLemmas.{MakesOnly, any_made, made_any, some_at, some_of}
-use Rattle.gix_refspec_plan.specs.Matching.Plan.{Covers, IsSound}
-use Rattle.gix_refspec_plan.specs.Private.Plans.{AreNames, AreSoundNames, FlagCovered}
+use Rattle.gix_refspec_plan.specs.Private.Stales.{AreNames as AreLocalNames}
+use Rattle.gix_refspec_plan.proofs.lemmas.plan.MadeLemmas.{made_exactly}
 
 -- the order of names
 abbrev pub by_text : BStr → BStr → Ordering
 by_text x y = bytes_order (bstr_bytes x) (bstr_bytes y)
 
 -- a name is a duplicate exactly where an earlier one is the same
-pub duplicate_text : (names : List BStr) (k : ℕ) (e : List ℕ) → k < length names
+duplicate_text : (names : List BStr) (k : ℕ) (e : List ℕ) → k < length names
     → IsDuplicate by_text names k ↔ Contains (take k (map bstr_bytes names)) (get_or (map bstr_bytes names) k e)
 duplicate_text names k e below = (
   (λ (_, (j, before, equal)).
@@ -39,56 +30,50 @@ duplicate_text names k e below = (
     at : (j : ℕ) (d : BStr) (n : List ℕ) → j < k → get_or (take k (map bstr_bytes names)) j n ≡ bstr_bytes (get_or names j d)
     at j d n before = get_or-take k (map bstr_bytes names) j n before ∙ get_or-map bstr_bytes names j d n (omega (arith, before))
 
--- the mapping is sound, and its ref has the name
-abbrev Names : ℕ → Mapped → List ℕ → Type 0
-Names k m n = IsSound m × (m.source ≡ name n)
+-- the last names are ms, and those before them are as P says
+abbrev pub StandBehind : (List ℕ → Type 0) → List (List ℕ) → List BStr → Type 0
+StandBehind P ms names = (before : List (List ℕ)) × ((n : List ℕ) → Contains before n ↔ P n) × (map bstr_bytes names ≡ before ++ ms)
 
-abbrev Is : List ℕ → List ℕ → Type 0
-Is n s = s ≡ n
+-- the merged refs stand behind those that sound mappings are of
+pub behind_sources : (merges : List (List ℕ)) (mapped : List Mapped) (names : List BStr) → AreNames merges mapped (map bstr_bytes names) → StandBehind (Covers mapped) merges names
+behind_sources merges mapped names (sources, are, whole) = (sources, exactly, whole)
+  where
+    exactly : (n : List ℕ) → Contains sources n ↔ Covers mapped n
+    exactly n =
+        let told = made_exactly (λ (m : Mapped) (n : List ℕ). IsSound m × (m.source ≡ name n)) (λ m y z of also. let one : name z ≡ name y = sym also.1 ∙ of.1 in cc) mapped sources are n in
+        ((λ has. let (m, inside, (sound, source)) = told.0 has in (m, inside, sound, source)), (λ (m, inside, sound, source). told.1 (m, inside, (sound, source))))
 
--- the names of sound mappings' refs are those that such mappings are of
-source_covered : (mapped : List Mapped) (sources : List (List ℕ)) (n : List ℕ) → AreSoundNames mapped sources → Contains sources n ↔ Covers mapped n
-source_covered mapped sources n are = (
-  (λ (i, below, is).
-      let (k, m, inside, at, (j, s, (sound, source), same)) = some_at _ mapped (made_any Names (Is n) 0 mapped sources are (some_of (Is n) sources (i, n, below, is, refl))) in
-      (m, (k, inside, at), sound, source ∙ ap name same)),
-  (λ (m, (i, inside, at), sound, source).
-      let only : MakesOnly Names (Is n) m = λ j. (n, (sound, source), λ s of. let one : name s ≡ name n = sym of.1 ∙ source in cc) in
-      let (k, s, below, is, same) = some_at (Is n) sources (any_made Names (Is n) 0 mapped sources are (some_of (MakesOnly Names (Is n)) mapped (i, m, inside, at, only))) in
-      (k, below, subst (λ (x : List ℕ). get_or sources k x ≡ x) same is)),
-)
+-- the names of local refs stand behind the destinations of mappings
+pub behind_destinations : (mapped : List Mapped) (locals : List Ref) (names : List BStr) → AreLocalNames mapped locals (map bstr_bytes names) → StandBehind (HasDestination mapped) (ref_names locals) names
+behind_destinations mapped locals names (destinations, are, whole) =
+    (destinations, made_exactly (λ (m : Mapped) (n : List ℕ). m.destination ≡ Some n) (λ m y z of also. same_Some z y (sym also ∙ of)) mapped destinations are, whole)
 
--- the merged refs stand behind those names
-module _ (merges names : List BStr) (mapped : List Mapped) (are : AreNames (map bstr_bytes merges) mapped (map bstr_bytes names)) where
-  pub names_long : length merges ≤ length names
-  names_long = let (sources, sound, whole) = are in omega (arith, length-map names bstr_bytes, length-map merges bstr_bytes, length-append sources (map bstr_bytes merges), ap length whole)
+module _ (P : List ℕ → Type 0) (ms : List (List ℕ)) (names : List BStr) (behind : StandBehind P ms names) where
+  pub names_long : length ms ≤ length names
+  names_long = let (before, exactly, whole) = behind in omega (arith, length-map names bstr_bytes, length-append before ms, ap length whole)
 
-  -- so one is a duplicate exactly where it is covered, or given before
-  duplicate_covered : (k : ℕ) (d : List ℕ) → k < length merges
-      → IsDuplicate by_text names (length names - length merges + k) ↔ (Covers mapped (get_or (map bstr_bytes merges) k d) ⊎ Contains (take k (map bstr_bytes merges)) (get_or (map bstr_bytes merges) k d))
-  duplicate_covered k d inside =
-      let (sources, sound, whole) = are in
-      let ms = map bstr_bytes merges in
+  -- so one of ms is a duplicate exactly where it is as P says, or is listed before
+  duplicate_behind : (k : ℕ) (d : List ℕ) → k < length ms → IsDuplicate by_text names (length names - length ms + k) ↔ (P (get_or ms k d) ⊎ Contains (take k ms) (get_or ms k d))
+  duplicate_behind k d inside =
+      let (before, exactly, whole) = behind in
       let n = get_or ms k d in
-      let long : length names ≡ length sources + length merges = omega (arith, length-map names bstr_bytes, length-map merges bstr_bytes, length-append sources ms, ap length whole) in
-      let place : length names - length merges + k ≡ length sources + k = omega arith in
-      let told = duplicate_text names (length sources + k) d (omega arith) in
-      let split : IsDuplicate by_text names (length sources + k) ↔ Contains (sources ++ take k ms) n = rw (whole, take-append-add, get_or-append-add) at told in
-      let covered = source_covered mapped sources n sound in
+      let long : length names ≡ length before + length ms = omega (arith, length-map names bstr_bytes, length-append before ms, ap length whole) in
+      let place : length names - length ms + k ≡ length before + k = omega arith in
+      let told = duplicate_text names (length before + k) d (omega arith) in
+      let split : IsDuplicate by_text names (length before + k) ↔ Contains (before ++ take k ms) n = rw (whole, take-append-add, get_or-append-add) at told in
       rw place (
-        (λ repeats. elim (Contains-append_cases sources (take k ms) n (split.0 repeats)) [ inl has ↦ inl (covered.0 has) | inr before ↦ inr before ]),
-        (λ either. split.1 (elim either [ inl covers ↦ Contains-append_left sources (take k ms) n (covered.1 covers) | inr before ↦ Contains-append_right sources (take k ms) n before ])),
+        (λ repeats. elim (Contains-append_cases before (take k ms) n (split.0 repeats)) [ inl has ↦ inl ((exactly n).0 has) | inr earlier ↦ inr earlier ]),
+        (λ either. split.1 (elim either [ inl is ↦ Contains-append_left before (take k ms) n ((exactly n).1 is) | inr earlier ↦ Contains-append_right before (take k ms) n earlier ])),
       )
 
   -- flags copied from those of duplicates
-  pub covered_flagged : (all flags : List Bool) (fetched : ℕ) → fetched ≡ length names - length merges → FlagsDuplicates by_text names all
-      → ((k : ℕ) → k < length merges → IsFlagged flags k ↔ IsFlagged all (fetched + k)) → FlagCovered (map bstr_bytes merges) mapped flags
-  covered_flagged all flags fetched from duplicates copied k d below =
-      let inside : k < length merges = omega (arith, length-map merges bstr_bytes) in
+  pub behind_flagged : (all flags : List Bool) (first : ℕ) → first ≡ length names - length ms → FlagsDuplicates by_text names all → ((k : ℕ) → k < length ms → IsFlagged flags k ↔ IsFlagged all (first + k))
+      → (k : ℕ) (d : List ℕ) → k < length ms → IsFlagged flags k ↔ (P (get_or ms k d) ⊎ Contains (take k ms) (get_or ms k d))
+  behind_flagged all flags first from duplicates copied k d inside =
       let copy = rw from at (copied k inside) in
-      let duplicate = duplicates (length names - length merges + k) in
-      let covered = duplicate_covered k d inside in
-      ((λ flagged. covered.0 (duplicate.0 (copy.0 flagged))), (λ either. copy.1 (duplicate.1 (covered.1 either))))
+      let duplicate = duplicates (length names - length ms + k) in
+      let told = duplicate_behind k d inside in
+      ((λ flagged. told.0 (duplicate.0 (copy.0 flagged))), (λ either. copy.1 (duplicate.1 (told.1 either))))
 
 -- the flags so far are copied from a place on
 abbrev pub AreCopied : List Bool → ℕ → ℕ → List Bool → Type 0

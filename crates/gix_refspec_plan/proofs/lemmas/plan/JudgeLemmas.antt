@@ -1,36 +1,16 @@
 -- The updates of mappings, one by one.
-use Rattle.std.proofs.Common.{◌≡◌, ◌⊎◌, inl, inr, ◌↔◌, IsTrue, ℕ, zero, suc, ◌+◌, ◌<◌, Bool, Bor, true, false, List, [], ◌∷◌, ◌++◌, Option, None, Some, IsSome, MatchOption, option_map, length, length-append, map, take, drop, get_or, append-nil, refl, sym, ap, ◌∙◌, subst, arith, rules}
-use Rattle.std.specs.BTreeMap.{BTreeMap, is_at}
-use Rattle.std.specs.Map.{lookup}
-use Rattle.std.specs.Cmp.Lexicographic.{slice_cmp}
-use Rattle.std.specs.Ordering.{nat_cmp}
-use Rattle.std.specs.List.{AllByRecursion, AllZip, Contains, slice_get}
-use Rattle.std.proofs.Math.Seq.{drop-append_seam, take-append-add, take-append_seam}
-use Rattle.std.proofs.lemmas.Bool.{false≢true}
-use Rattle.std.proofs.lemmas.List.{get_or-append-add, get_or-map, get_or_default, length-map, map-append, take_more}
-use Rattle.std.proofs.lemmas.List.Elements.{All-from_recursion}
-use Rattle.std.proofs.lemmas.Option.{slice_get-map, slice_get_read}
-use Rattle.gix_refspec_plan.specs.declared.Asked.{Asked as DeclaredAsked}
-use Rattle.gix_refspec_plan.specs.declared.Origin.{Origin}
-use Rattle.gix_refspec_plan.specs.declared.Update.{Update}
-use Rattle.gix_refspec_plan.specs.declared.Verdict.{Verdict}
-use Rattle.gix_refspec_plan.specs.declared.Verdict.TheVariants as verdict
-use Rattle.gix_refspec_match.specs.declared.types.Mapping.{Mapping}
-use Rattle.gix_refspec_text.specs.Matching.Match.{Ref}
-use Rattle.gix_refspec_match.specs.Matching.Lists.{IsMadeFrom}
-use Rattle.gix_refspec_match.specs.Matching.Mappings.{AreApart, HasPair, IsSamePair, Mapped}
-use Rattle.gix_refspec_match.specs.Private.Duplicates.{FlagsDuplicates, IsDuplicate}
-use Rattle.gix_refspec_match.specs.Private.Kept.{IsFlagged}
-use Rattle.gix_refspec_match.specs.Views.Mapping.{IsMappingCopy, mapped_of}
+use Rattle.gix_refspec_plan.proofs.Common.{◌≡◌, ◌⊎◌, inl, inr, ◌↔◌, IsTrue, ℕ, zero, suc, ◌+◌, ◌<◌, Bool, Bor, true, false, List, [], ◌∷◌, ◌++◌, Option, None, IsSome, MatchOption, option_map, length}
+use Rattle.gix_refspec_plan.proofs.Common.{length-append, map, take, drop, get_or, append-nil, refl, sym, ap, ◌∙◌, subst, arith, rules, BTreeMap, is_at, lookup, slice_cmp, nat_cmp, AllByRecursion}
+use Rattle.gix_refspec_plan.proofs.Common.{AllZip, Contains, slice_get, drop-append_seam, take-append-add, take-append_seam, false≢true, get_or-append-add, get_or-map, get_or_default, length-map}
+use Rattle.gix_refspec_plan.proofs.Common.{map-append, take_more, All-from_recursion, slice_get-map, slice_get_read, DeclaredAsked, Origin, Update, Verdict, Mapping, Ref, IsMadeFrom, AreApart}
+use Rattle.gix_refspec_plan.proofs.Common.{HasPair, IsSamePair, Mapped, FlagsDuplicates, IsDuplicate, IsFlagged, IsMappingCopy, mapped_of, AreAsked, AreLacking, AreMapped, Asked, HasOrigin}
+use Rattle.gix_refspec_plan.proofs.Common.{HasSecondVerdict, HasVerdict, IsCompleted, IsPlan, IsPlanned, IsPlannedBesides, IsTracked, Planned, Wish, AreFirst, AreJudged, AreMappings, AreSecond}
+use Rattle.gix_refspec_plan.proofs.Common.{CountDestinations, FlagKnown, IsCount, planned_by, asked_of, planned_of, copied_mapping, each_mapped, Written, LeftOut, InConflict, Overruled}
 use Rattle.gix_refspec_match.proofs.lemmas.keep.KeptLemmas.{HasPair-left, by_pair, duplicate_at, kept_once}
 use Rattle.gix_refspec_match.proofs.lemmas.keep.RepeatLemmas.{some_mapping}
-use Rattle.gix_refspec_match.proofs.lemmas.lists.JoinLemmas.{made_more}
-use Rattle.gix_refspec_plan.specs.Matching.Plan.{AreAsked, AreLacking, AreMapped, Asked, HasOrigin, HasSecondVerdict, HasVerdict, IsCompleted, IsPlan, IsPlanned, IsPlannedBesides, IsTracked, Planned, Wish}
-use Rattle.gix_refspec_plan.specs.Private.Verdicts.{AreFirst, AreJudged, AreMappings, AreSecond, CountDestinations, FlagKnown, IsCount, planned_by}
-use Rattle.gix_refspec_plan.specs.Views.Plan.{asked_of, planned_of}
-use Rattle.gix_refspec_plan.proofs.lemmas.plan.NameLemmas.{zip_at, zip_long, zip_more}
 use Rattle.gix_refspec.proofs.lemmas.validate.AfterLemmas.{forward_fits}
-use Rattle.gix_refspec.proofs.lemmas.validate.RefNameLemmas.{copied_mapping}
+use Rattle.gix_refspec_plan.proofs.lemmas.plan.NameLemmas.{zip_at, zip_long, zip_more}
+use Rattle.gix_refspec_plan.proofs.lemmas.plan.MadeLemmas.{made_one, made_none}
 
 -- ---- one mapping of a list
 
@@ -42,22 +22,15 @@ module _ (ms : List Mapping) (i : ℕ) (m : Mapping) (below : i < length ms) (is
   has_mapping = (i, omega (arith, below, length-map ms mapped_of), mapped_here (mapped_of m))
 
   pub spec_inside : (asked : List DeclaredAsked) → AreMappings (map asked_of asked) (map mapped_of ms) → m.spec_index < length asked
-  spec_inside asked are =
-      let told = All-from_recursion (λ n. n.spec < length (map asked_of asked)) (map mapped_of ms) are.fit i (mapped_of m) (omega (arith, below, length-map ms mapped_of)) in
-      let here : m.spec_index < length (map asked_of asked) = subst (λ (n : Mapped). n.spec < length (map asked_of asked)) (mapped_here (mapped_of m)) told in
-      omega (arith, here, length-map asked asked_of)
+  spec_inside asked are = let here = each_mapped mapped_of (λ n. n.spec < length (map asked_of asked)) ms i m are.fit below is in omega (arith, here, length-map asked asked_of)
 
   -- the verdict at its place
   pub verdict_at : (l : List Mapped) (verdicts : List Verdict) (e : Verdict) → AllZip (HasVerdict l) (map mapped_of ms) verdicts → HasVerdict l (mapped_of m) (get_or verdicts i e)
-  verdict_at l verdicts e all =
-      subst (λ (x : Mapped). HasVerdict l x (get_or verdicts i e)) (mapped_here (mapped_of m))
-      (zip_at (HasVerdict l) (map mapped_of ms) verdicts i (mapped_of m) e all (omega (arith, below, length-map ms mapped_of)))
+  verdict_at l verdicts e all = rw (mapped_here (mapped_of m)) at (zip_at (HasVerdict l) (map mapped_of ms) verdicts i (mapped_of m) e all (omega (arith, below, length-map ms mapped_of)))
 
   -- whether its pair is among those of other mappings
   pub known_here : (xs : List Mapping) (flags : List Bool) → FlagKnown (map mapped_of xs) (map mapped_of ms) flags → IsFlagged flags (length xs + i) ↔ HasPair (map mapped_of xs) (mapped_of m)
-  known_here xs flags known =
-      subst (λ (n : ℕ). IsFlagged flags (n + i) ↔ HasPair (map mapped_of xs) (mapped_of m)) (length-map xs mapped_of)
-      (subst (λ (x : Mapped). IsFlagged flags (length (map mapped_of xs) + i) ↔ HasPair (map mapped_of xs) x) (mapped_here (mapped_of m)) (known i (mapped_of m) (omega (arith, below, length-map ms mapped_of))))
+  known_here xs flags known = rw (length-map xs mapped_of, mapped_here (mapped_of m)) at (known i (mapped_of m) (omega (arith, below, length-map ms mapped_of)))
 
 -- the origin of the spec at an index
 pub origin_at : (asked : List DeclaredAsked) (m : Mapped) (d : DeclaredAsked) → m.spec < length asked → HasOrigin (map asked_of asked) m (get_or asked m.spec d).origin
@@ -71,10 +44,10 @@ none_counted counts empty d = subst (λ (es : List (Bor (List ℕ) × Bool)). Is
 
 -- where nothing overrules a mapping
 pub only_verdict : (l : List Mapped) (m : Mapped) (v : Verdict) → HasSecondVerdict [] l m v → HasVerdict l m v
-only_verdict l m verdict.Written (sound, none, free) = (sound, free)
-only_verdict l m (verdict.LeftOut side) is = is
-only_verdict l m verdict.InConflict (sound, none, contested) = (sound, contested)
-only_verdict l m verdict.Overruled (sound, (n, (i, below, at), sound_n, share)) = omega (arith, below)
+only_verdict l m Written (sound, none, free) = (sound, free)
+only_verdict l m (LeftOut side) is = is
+only_verdict l m InConflict (sound, none, contested) = (sound, contested)
+only_verdict l m Overruled (sound, (n, (i, below, at), sound_n, share)) = omega (arith, below)
 
 -- one more verdict, where nothing overrules
 pub verdict_next : (ms : List Mapping) (i : ℕ) (m : Mapping) (l : List Mapped) (old new : List Verdict) (v : Verdict) → i < length ms → m ≡ get_or ms i m → AllZip (HasVerdict l) (map mapped_of (take i ms)) old
@@ -85,42 +58,27 @@ verdict_next ms i m l old new v below is so_far judged more =
 
 -- ---- one more update
 
-module _ (ms : List Mapping) (i : ℕ) (m : Mapping) (old : List Update) (below : i < length ms) (is : m ≡ get_or ms i m) where
-  -- of the first list
-  pub first_next : (asked : List Asked) (l : List Mapped) (new : List Update) (u : Update) (o : Origin) (v : Verdict) → IsMadeFrom (λ k x p. IsPlanned asked l x p) 0 (map mapped_of (take i ms)) (map planned_of old)
-      → HasOrigin asked (mapped_of m) o → HasVerdict l (mapped_of m) v → planned_of u ≡ planned_by (mapped_of m) m.item_index o v → new ≡ old ++ u ∷ []
-      → IsMadeFrom (λ k x p. IsPlanned asked l x p) 0 (map mapped_of (take (i + 1) ms)) (map planned_of new)
-  first_next asked l new u o v so_far origin judged same more =
-      made_more (λ k x p. IsPlanned asked l x p) mapped_of ms i m (map planned_of old) (map planned_of new) (Some (planned_of u)) below so_far
-      (subst (λ (x : Mapping). IsPlanned asked l (mapped_of x) (planned_of u)) is
-      (subst (λ (p : Planned). IsPlanned asked l (mapped_of m) p) (sym same) (record { source = refl; item = refl; destination = refl; origin = origin; verdict = judged })))
-      (ap (map planned_of) more ∙ map-append planned_of old (u ∷ []))
+module _ (ms : List Mapping) (i : ℕ) (m : Mapping) (old : List Update) (below : i < length ms) (is : m ≡ get_or ms i m) (asked : List Asked) (indexes : List ℕ) (firsts l : List Mapped)
+    (so_far : IsMadeFrom (λ k x p. IsPlannedBesides asked indexes firsts l x p) 0 (map mapped_of (take i ms)) (map planned_of old))
+    (flags : List Bool) (n : ℕ) (known : IsFlagged flags n ↔ HasPair firsts (mapped_of m)) (b : Bool) (told : IsTrue b ↔ (IsSome (mapped_of m).destination × ¬ (IsFlagged flags n))) where
+  -- of the second list
+  pub second_next : (new : List Update) (u : Update) (item : Option ℕ) (o : Origin) (v : Verdict) → b ≡ true → MatchOption m.item_index (item ≡ None) (λ j. slice_get indexes j ≡ item)
+      → HasOrigin asked (mapped_of m) o → HasSecondVerdict firsts l (mapped_of m) v → planned_of u ≡ planned_by (mapped_of m) item o v → new ≡ old ++ u ∷ []
+      → IsMadeFrom (λ k x p. IsPlannedBesides asked indexes firsts l x p) 0 (map mapped_of (take (i + 1) ms)) (map planned_of new)
+  second_next new u item o v is_new among origin judged same more = made_one (λ k x p. IsPlannedBesides asked indexes firsts l x p) mapped_of planned_of ms i m old below is so_far new u
+      (subst (λ (p : Planned). IsPlannedBesides asked indexes firsts l (mapped_of m) p) (sym same) (record {
+        updates = (told.0 is_new).0;
+        new = λ has. (told.0 is_new).1 (known.1 has);
+        source = refl;
+        item = among;
+        destination = refl;
+        origin = origin;
+        verdict = judged;
+      })) more
 
-  module _ (asked : List Asked) (indexes : List ℕ) (firsts l : List Mapped) (so_far : IsMadeFrom (λ k x p. IsPlannedBesides asked indexes firsts l x p) 0 (map mapped_of (take i ms)) (map planned_of old))
-      (flags : List Bool) (n : ℕ) (known : IsFlagged flags n ↔ HasPair firsts (mapped_of m)) (b : Bool) (told : IsTrue b ↔ (IsSome (mapped_of m).destination × ¬ (IsFlagged flags n))) where
-    -- of the second
-    pub second_next : (new : List Update) (u : Update) (item : Option ℕ) (o : Origin) (v : Verdict) → b ≡ true → MatchOption m.item_index (item ≡ None) (λ j. slice_get indexes j ≡ item)
-        → HasOrigin asked (mapped_of m) o → HasSecondVerdict firsts l (mapped_of m) v → planned_of u ≡ planned_by (mapped_of m) item o v → new ≡ old ++ u ∷ []
-        → IsMadeFrom (λ k x p. IsPlannedBesides asked indexes firsts l x p) 0 (map mapped_of (take (i + 1) ms)) (map planned_of new)
-    second_next new u item o v is_new among origin judged same more =
-        made_more (λ k x p. IsPlannedBesides asked indexes firsts l x p) mapped_of ms i m (map planned_of old) (map planned_of new) (Some (planned_of u)) below so_far
-        (subst (λ (x : Mapping). IsPlannedBesides asked indexes firsts l (mapped_of x) (planned_of u)) is
-        (subst (λ (p : Planned). IsPlannedBesides asked indexes firsts l (mapped_of m) p) (sym same) (record {
-          updates = (told.0 is_new).0;
-          new = λ has. (told.0 is_new).1 (known.1 has);
-          source = refl;
-          item = among;
-          destination = refl;
-          origin = origin;
-          verdict = judged;
-        })))
-        (ap (map planned_of) more ∙ map-append planned_of old (u ∷ []))
-
-    pub second_same : b ≡ false → IsMadeFrom (λ k x p. IsPlannedBesides asked indexes firsts l x p) 0 (map mapped_of (take (i + 1) ms)) (map planned_of old)
-    second_same is_old =
-        made_more (λ k x p. IsPlannedBesides asked indexes firsts l x p) mapped_of ms i m (map planned_of old) (map planned_of old) None below so_far
-        (subst (λ (x : Mapping). (p : Planned) → ¬ (IsPlannedBesides asked indexes firsts l (mapped_of x) p)) is (λ p planned. false≢true (sym is_old ∙ told.1 (planned.updates, λ flagged. planned.new (known.0 flagged)))))
-        (sym (append-nil (map planned_of old)))
+  pub second_same : b ≡ false → IsMadeFrom (λ k x p. IsPlannedBesides asked indexes firsts l x p) 0 (map mapped_of (take (i + 1) ms)) (map planned_of old)
+  second_same is_old = made_none (λ k x p. IsPlannedBesides asked indexes firsts l x p) mapped_of planned_of ms i m old below is so_far
+      (λ p planned. false≢true (sym is_old ∙ told.1 (planned.updates, λ flagged. planned.new (known.0 flagged))))
 
 -- the updates of as many mappings as there are updates
 abbrev pub AreSoMany : List Asked → List Mapping → List Update → Type 0
@@ -131,16 +89,11 @@ pub first_more : (ms xs : List Mapping) (m : Mapping) (asked : List Asked) (verd
     → AreSoMany asked ms old × (length old ≡ length xs) → AllZip (HasVerdict (map mapped_of ms)) (map mapped_of ms) verdicts → n ≡ length old → HasOrigin asked (mapped_of m) o
     → planned_of u ≡ planned_by (mapped_of m) m.item_index o (get_or verdicts n e) → new ≡ old ++ u ∷ [] → AreSoMany asked ms new × (length new ≡ length (xs ++ m ∷ []))
 first_more ms xs m asked verdicts old new u o n e (below, is) (so_far, long) all at origin same more =
-    let here : n ≡ length xs = at ∙ long in
     let longer : length new ≡ length old + 1 = ap length more ∙ length-append old (u ∷ []) in
-    let judged = subst (λ (k : ℕ). HasVerdict (map mapped_of ms) (mapped_of m) (get_or verdicts k e)) (sym here) (verdict_at ms (length xs) m below is (map mapped_of ms) verdicts e all) in (
-      subst (λ (k : ℕ). IsMadeFrom (λ j x p. IsPlanned asked (map mapped_of ms) x p) 0 (map mapped_of (take k ms)) (map planned_of new)) (sym longer)
-          (first_next ms (length old) m old (omega (arith, below, long)) (is ∙ ap (λ (k : ℕ). get_or ms k m) (sym long)) asked (map mapped_of ms) new u o (get_or verdicts n e) so_far origin judged same more),
-      omega (arith, longer, long, length-append xs (m ∷ [])),
-    )
-
-pub verdicts_long : (ms : List Mapping) (l : List Mapped) (verdicts : List Verdict) → AllZip (HasVerdict l) (map mapped_of ms) verdicts → length ms ≡ length verdicts
-verdicts_long ms l verdicts all = sym (length-map ms mapped_of) ∙ zip_long (HasVerdict l) (map mapped_of ms) verdicts all
+    let judged = subst (λ (k : ℕ). HasVerdict (map mapped_of ms) (mapped_of m) (get_or verdicts k e)) (sym (at ∙ long)) (verdict_at ms (length xs) m below is (map mapped_of ms) verdicts e all) in
+    let planned = subst (λ (p : Planned). IsPlanned asked (map mapped_of ms) (mapped_of m) p) (sym same) (record { source = refl; item = refl; destination = refl; origin = origin; verdict = judged }) in
+    let next = made_one (λ j x p. IsPlanned asked (map mapped_of ms) x p) mapped_of planned_of ms (length old) m old (omega (arith, below, long)) (is ∙ ap (λ (k : ℕ). get_or ms k m) (sym long)) so_far new u planned more in
+    (subst (λ (k : ℕ). IsMadeFrom (λ j x p. IsPlanned asked (map mapped_of ms) x p) 0 (map mapped_of (take k ms)) (map planned_of new)) (sym longer) next, omega (arith, longer, long, length-append xs (m ∷ [])))
 
 -- an update by a copy of a mapping
 pub planned_copy : (m copy : Mapping) (u : Update) (item : Option ℕ) (o : Origin) (v : Verdict) → IsMappingCopy m copy → planned_of u ≡ planned_by (mapped_of copy) item o v → planned_of u ≡ planned_by (mapped_of m) item o v
@@ -161,34 +114,21 @@ apart_before (x ∷ l) (suc k) m apart below at (inl same) = subst (λ (z : Mapp
 apart_before (x ∷ l) (suc k) m apart below at (inr has) = apart_before l k m apart.1 (omega (arith, below)) at has
 
 pub flag_known : (xs ys : List Mapping) (flags : List Bool) → AreApart (map mapped_of ys) → FlagsDuplicates by_pair (xs ++ ys) flags → FlagKnown (map mapped_of xs) (map mapped_of ys) flags
-flag_known xs ys flags apart flagged k d below = (
-  (λ is. elim (pair_cases (map mapped_of xs) (take k (map mapped_of ys)) m (dup.0 ((flagged n).0 is))) [
-    | inl has ↦ has
-    | inr has ↦ absurd (apart_before (map mapped_of ys) k m apart below (get_or_default (map mapped_of ys) k m d below) has)
-  ]),
-  (λ has. (flagged n).1 (dup.1 (HasPair-left (map mapped_of xs) (take k (map mapped_of ys)) m has))),
-)
-  where
-    m : Mapped
-    m = get_or (map mapped_of ys) k d
-
-    n : ℕ
-    n = length (map mapped_of xs) + k
-
-    inside : k < length ys
-    inside = omega (arith, below, length-map ys mapped_of)
-
-    e : Mapping
-    e = some_mapping ys k inside
-
-    at : n ≡ length xs + k
-    at = ap (λ (j : ℕ). j + k) (length-map xs mapped_of)
-
-    same : mapped_of (get_or (xs ++ ys) n e) ≡ m
-    same = ap (λ (j : ℕ). mapped_of (get_or (xs ++ ys) j e)) at ∙ ap mapped_of (get_or-append-add xs ys k e) ∙ sym (get_or-map mapped_of ys k e d inside)
-
-    dup : IsDuplicate by_pair (xs ++ ys) n ↔ HasPair (map mapped_of xs ++ take k (map mapped_of ys)) m
-    dup = rw (map-append mapped_of xs ys, take-append-add (map mapped_of xs) (map mapped_of ys) k, same) at (duplicate_at (xs ++ ys) n e (omega (arith, at, inside, length-append xs ys)))
+flag_known xs ys flags apart flagged k d below =
+    let m = get_or (map mapped_of ys) k d in
+    let n = length (map mapped_of xs) + k in
+    let inside : k < length ys = omega (arith, below, length-map ys mapped_of) in
+    let e = some_mapping ys k inside in
+    let at : n ≡ length xs + k = ap (λ (j : ℕ). j + k) (length-map xs mapped_of) in
+    let same : mapped_of (get_or (xs ++ ys) n e) ≡ m = ap (λ (j : ℕ). mapped_of (get_or (xs ++ ys) j e)) at ∙ ap mapped_of (get_or-append-add xs ys k e) ∙ sym (get_or-map mapped_of ys k e d inside) in
+    let told : IsDuplicate by_pair (xs ++ ys) n ↔ HasPair (map mapped_of xs ++ take k (map mapped_of ys)) m =
+    rw (map-append mapped_of xs ys, take-append-add (map mapped_of xs) (map mapped_of ys) k, same) at (duplicate_at (xs ++ ys) n e (omega (arith, at, inside, length-append xs ys))) in (
+      (λ is. elim (pair_cases (map mapped_of xs) (take k (map mapped_of ys)) m (told.0 ((flagged n).0 is))) [
+        | inl has ↦ has
+        | inr has ↦ absurd (apart_before (map mapped_of ys) k m apart below (get_or_default (map mapped_of ys) k m d below) has)
+      ]),
+      (λ has. (flagged n).1 (told.1 (HasPair-left (map mapped_of xs) (take k (map mapped_of ys)) m has))),
+    )
 
 -- ---- the mappings of specs
 
@@ -218,8 +158,7 @@ judged_of asked tracking indexes xs ys fs bs before behind new (first, second) a
   before = map planned_of before;
   behind = map planned_of behind;
   are_before = are_before;
-  are_behind = subst (λ (l : List Mapping). AreSecond tracking indexes (map mapped_of xs) (map mapped_of l) (map planned_of behind)) second
-      (subst (λ (l : List Mapping). AreSecond tracking indexes (map mapped_of l) (map mapped_of bs) (map planned_of behind)) first are_behind);
+  are_behind = rw (first, second) at are_behind;
   all = ap (map planned_of) joined ∙ map-append planned_of before behind;
 }
 

@@ -1,34 +1,15 @@
 -- No ref is written twice.
-use Rattle.std.proofs.Common.{◌≡◌, ℕ, suc, ◌+◌, List, [], ◌∷◌, ◌++◌, None, Some, get_or, refl, sym, ◌∙◌, subst, arith}
-use Rattle.std.specs.List.{AllByRecursion, Contains}
-use Rattle.std.proofs.lemmas.List.Elements.{Contains-get_or, recursion_from_All}
-use Rattle.gix_refspec_plan.specs.declared.Verdict.TheVariants as verdict
-use Rattle.gix_refspec_text.specs.Matching.Match.{Ref}
-use Rattle.gix_refspec_text.proofs.lemmas.lists.AllLemmas.{all_join}
-use Rattle.gix_refspec_match.specs.Matching.Lists.{IsMadeFrom}
-use Rattle.gix_refspec_match.specs.Matching.Mappings.{AreApart, IsSamePair, Mapped}
-use Rattle.gix_refspec_match.proofs.lemmas.lists.SomeLemmas.{made_any, some_at, some_of}
-use Rattle.gix_refspec_plan.specs.Matching.Plan.{Asked, HasSecondVerdict, HasVerdict, IsContested, IsPlanned, IsPlannedBesides, IsSound, Planned, Wish}
-use Rattle.gix_refspec_plan.specs.Laws.Fetches.{AreWrittenApart, AreWrittenOnce, WritesOnce}
+use Rattle.gix_refspec_plan.proofs.Common.{◌≡◌, ℕ, ◌+◌, List, [], ◌∷◌, ◌++◌, None, Some, get_or, refl, sym, ◌∙◌, subst, arith, AllByRecursion, Contains, Contains-get_or, recursion_from_All, Ref}
+use Rattle.gix_refspec_plan.proofs.Common.{all_join, IsMadeFrom, AreApart, IsSamePair, Mapped, Asked, HasSecondVerdict, HasVerdict, IsContested, IsPlanned, IsPlannedBesides, IsSound, Planned, Wish}
+use Rattle.gix_refspec_plan.proofs.Common.{AreWrittenApart, AreWrittenOnce, WritesOnce, Written}
 use Rattle.gix_refspec_plan.proofs.lemmas.plan.JudgeLemmas.{mappings_of, tracked_mappings}
-
--- ---- elements of lists
-
-there : {X : Type 0} (y : X) (xs : List X) (x : X) → Contains xs x → Contains (y ∷ xs) x
-there y xs x (i, below, at) = (suc i, omega (arith, below), at)
-
--- what a relation makes is made of some element
-pub made_from : {X Y : Type 0} (R : ℕ → X → Y → Type 0) (k : ℕ) (xs : List X) (ys : List Y) (y : Y) → IsMadeFrom R k xs ys → Contains ys y → (j : ℕ) × (x : X) × Contains xs x × R j x y
-made_from {X} {Y} R k xs ys y made (i, below, at) =
-    let is_y = λ (z : Y). z ≡ y in
-    let (n, x, inside, here, (j, z, makes, same)) = some_at (λ (x : X). (j : ℕ) × (z : Y) × R j x z × (z ≡ y)) xs (made_any R is_y k xs ys made (some_of is_y ys (i, y, below, at, refl))) in
-    (j, x, (n, inside, here), subst (R j x) same makes)
+use Rattle.gix_refspec_plan.proofs.lemmas.plan.MadeLemmas.{there, made_from}
 
 -- ---- one list of updates
 
 -- what is written of a list of mappings is sound, and nothing else of that list has its destination
 module _ (all : List Mapped) (R : ℕ → Mapped → Planned → Type 0)
-    (told : (k : ℕ) (m : Mapped) (p : Planned) → R k m p → (p.destination ≡ m.destination) × (p.verdict ≡ verdict.Written → IsSound m × ¬ (IsContested all m))) where
+    (told : (k : ℕ) (m : Mapped) (p : Planned) → R k m p → (p.destination ≡ m.destination) × (p.verdict ≡ Written → IsSound m × ¬ (IsContested all m))) where
   pair_apart : (j k : ℕ) (m n : Mapped) (p q : Planned) → R j m p → R k n q → Contains all n → ¬ (IsSamePair m n) → AreWrittenApart p q
   pair_apart j k m n p q of_p of_q has differ p_written q_written d p_to q_to =
       let (p_is, p_told) = told j m p of_p in

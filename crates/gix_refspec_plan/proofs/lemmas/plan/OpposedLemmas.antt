@@ -1,30 +1,12 @@
 -- An update is in conflict exactly if it conflicts with another one.
-use Rattle.std.proofs.Common.{◌≡◌, ◌⊎◌, inl, inr, ◌↔◌, ℕ, suc, ◌<◌, List, [], ◌∷◌, Option, None, Some, IsSome, MatchOption, get_or, length, refl, sym, ◌∙◌, subst, arith}
-use Rattle.std.specs.List.{Contains, slice_get}
-use Rattle.std.proofs.lemmas.List.{get_or_default}
-use Rattle.std.proofs.lemmas.List.Elements.{All-from_recursion, Contains-append_cases, Contains-append_left, Contains-append_right, Contains-get_or, recursion_from_All}
-use Rattle.std.proofs.lemmas.Option.{slice_get_read}
-use Rattle.gix_refspec_plan.specs.declared.Origin.{Origin}
-use Rattle.gix_refspec_plan.specs.declared.Verdict.{Verdict}
-use Rattle.gix_refspec_plan.specs.declared.Verdict.TheVariants as verdict
-use Rattle.gix_refspec.specs.declared.match_group.ref_names.InvalidSide.{InvalidSide}
+use Rattle.gix_refspec_plan.proofs.Common.{◌≡◌, ◌⊎◌, inl, inr, ◌↔◌, ℕ, suc, ◌<◌, List, [], ◌∷◌, Option, None, Some, IsSome, MatchOption, get_or, length, refl, sym, ◌∙◌, subst, arith, Contains}
+use Rattle.gix_refspec_plan.proofs.Common.{slice_get, get_or_default, All-from_recursion, Contains-append_cases, Contains-append_left, Contains-append_right, Contains-get_or, recursion_from_All}
+use Rattle.gix_refspec_plan.proofs.Common.{slice_get_read, Origin, Verdict, InvalidSide, Ref, HasPair, IsSamePair, Mapped, IsValidSource, Asked, CanBeWritten, HasOrigin, HasSecondVerdict, HasVerdict}
+use Rattle.gix_refspec_plan.proofs.Common.{IsContested, IsPlan, IsPlanned, IsPlannedBesides, IsSound, IsTakenOver, IsUnwritableAt, Planned, Wish, ConflictsExactly, DoConflict, All-contains, Written}
+use Rattle.gix_refspec_plan.proofs.Common.{LeftOut, InConflict, Overruled}
 use Rattle.gix_refspec.specs.declared.match_group.ref_names.InvalidSide.TheVariants as invalid
-use Rattle.gix_refspec_text.specs.Matching.Match.{Ref}
-use Rattle.gix_refspec_match.specs.Matching.Lists.{IsMadeFrom}
-use Rattle.gix_refspec_match.specs.Matching.Mappings.{HasPair, IsSamePair, Mapped}
-use Rattle.gix_refspec_match.proofs.lemmas.lists.SomeLemmas.{MakesOnly, any_made, some_at, some_of}
-use Rattle.gix_refspec.specs.Matching.RefNames.{IsValidSource}
-use Rattle.gix_refspec_plan.specs.Matching.Plan.{Asked, CanBeWritten, HasOrigin, HasSecondVerdict, HasVerdict, IsContested, IsPlan, IsPlanned, IsPlannedBesides, IsSound, IsTakenOver, IsUnwritableAt, Planned, Wish}
-use Rattle.gix_refspec_plan.specs.Laws.Fetches.{ConflictsExactly, DoConflict}
 use Rattle.gix_refspec_plan.proofs.lemmas.plan.JudgeLemmas.{mappings_of, tracked_mappings}
-use Rattle.gix_refspec_plan.proofs.lemmas.plan.OnceLemmas.{made_from}
-
--- what is made of an element, if something is, and each such thing is as P says
-pub made_has : {X Y : Type 0} (R : ℕ → X → Y → Type 0) (P : Y → Type 0) (k : ℕ) (xs : List X) (ys : List Y) (x : X) → IsMadeFrom R k xs ys → Contains xs x
-    → ((j : ℕ) → (y : Y) × R j x y) → ((j : ℕ) (z : Y) → R j x z → P z) → (z : Y) × Contains ys z × P z
-made_has R P k xs ys x made (i, below, at) makes only =
-    let (n, z, inside, here, is) = some_at P ys (any_made R P k xs ys made (some_of (MakesOnly R P) xs (i, x, below, at, λ j. ((makes j).0, (makes j).1, only j)))) in
-    (z, (n, inside, here), is)
+use Rattle.gix_refspec_plan.proofs.lemmas.plan.MadeLemmas.{made_from, nothing_in, made_has}
 
 -- ---- verdicts
 
@@ -34,27 +16,33 @@ unsound invalid.Source m (bad, good) sound = bad sound.source
 unsound invalid.Destination m (good, bad) sound = bad sound.destination
 unsound invalid.Both m (bad, also) sound = bad sound.source
 
-module _ (l : List Mapped) (m : Mapped) where
-  sound_of : (v : Verdict) → HasVerdict l m v → (v ≡ verdict.Written) ⊎ (v ≡ verdict.InConflict) → IsSound m
-  sound_of v has (inl is) = (subst (HasVerdict l m) is has).0
-  sound_of v has (inr is) = (subst (HasVerdict l m) is has).0
-
-  pub conflict_of : (v : Verdict) → IsSound m → IsContested l m → HasVerdict l m v → v ≡ verdict.InConflict
-  conflict_of verdict.Written sound contested has = absurd (has.1 contested)
-  conflict_of (verdict.LeftOut side) sound contested has = absurd (unsound side m has sound)
-  conflict_of verdict.InConflict sound contested has = refl
-  conflict_of verdict.Overruled sound contested has = absurd has
-
 module _ (firsts l : List Mapped) (m : Mapped) where
-  second_sound_of : (v : Verdict) → HasSecondVerdict firsts l m v → (v ≡ verdict.Written) ⊎ (v ≡ verdict.InConflict) → IsSound m × ¬ (IsTakenOver firsts m)
+  second_sound_of : (v : Verdict) → HasSecondVerdict firsts l m v → (v ≡ Written) ⊎ (v ≡ InConflict) → IsSound m × ¬ (IsTakenOver firsts m)
   second_sound_of v has (inl is) = let told = subst (HasSecondVerdict firsts l m) is has in (told.0, told.1)
   second_sound_of v has (inr is) = let told = subst (HasSecondVerdict firsts l m) is has in (told.0, told.1)
 
-  pub second_conflict_of : (v : Verdict) → IsSound m → ¬ (IsTakenOver firsts m) → IsContested l m → HasSecondVerdict firsts l m v → v ≡ verdict.InConflict
-  second_conflict_of verdict.Written sound free contested has = absurd (has.2 contested)
-  second_conflict_of (verdict.LeftOut side) sound free contested has = absurd (unsound side m has sound)
-  second_conflict_of verdict.InConflict sound free contested has = refl
-  second_conflict_of verdict.Overruled sound free contested has = absurd (free has.1)
+  pub second_conflict_of : (v : Verdict) → IsSound m → ¬ (IsTakenOver firsts m) → IsContested l m → HasSecondVerdict firsts l m v → v ≡ InConflict
+  second_conflict_of Written sound free contested has = absurd (has.2 contested)
+  second_conflict_of (LeftOut side) sound free contested has = absurd (unsound side m has sound)
+  second_conflict_of InConflict sound free contested has = refl
+  second_conflict_of Overruled sound free contested has = absurd (free has.1)
+
+-- a verdict of one list is the same where another list without mappings wins
+module _ (l : List Mapped) (m : Mapped) where
+  untaken : ¬ (IsTakenOver [] m)
+  untaken (n, has, sound, share) = nothing_in [] n refl has
+
+  pub as_second : (v : Verdict) → HasVerdict l m v → HasSecondVerdict [] l m v
+  as_second Written (sound, free) = (sound, untaken, free)
+  as_second (LeftOut side) is = is
+  as_second InConflict (sound, contested) = (sound, untaken, contested)
+  as_second Overruled none = absurd none
+
+  sound_of : (v : Verdict) → HasVerdict l m v → (v ≡ Written) ⊎ (v ≡ InConflict) → IsSound m
+  sound_of v has either = (second_sound_of [] l m v (as_second v has) either).0
+
+  conflict_of : (v : Verdict) → IsSound m → IsContested l m → HasVerdict l m v → v ≡ InConflict
+  conflict_of v sound contested has = second_conflict_of [] l m v sound untaken contested (as_second v has)
 
 -- ---- what is planned for a mapping
 
@@ -96,38 +84,38 @@ module _ (wish : Wish) (refs : List Ref) (planned : List Planned) (missing : Lis
 
   -- a contested mapping of the first list has an update in conflict
   first_in_conflict : (n : Mapped) → Contains plan.firsts n → IsSound n → IsContested plan.firsts n
-      → (q : Planned) × Contains planned q × ((q.verdict ≡ verdict.InConflict) × (q.source ≡ n.source) × (q.destination ≡ n.destination))
+      → (q : Planned) × Contains planned q × ((q.verdict ≡ InConflict) × (q.source ≡ n.source) × (q.destination ≡ n.destination))
   first_in_conflict n has sound contested =
       let (o, from) = origin_of plan.asked n (spec_in n has) in
-      let (q, inside, is) = made_has (λ k m p. IsPlanned plan.asked plan.firsts m p) (λ q. (q.verdict ≡ verdict.InConflict) × (q.source ≡ n.source) × (q.destination ≡ n.destination)) 0 plan.firsts plan.before n plan.are_before has
-      (λ j. (record { source = n.source; item = n.item; destination = n.destination; origin = o; verdict = verdict.InConflict }, record { source = refl; item = refl; destination = refl; origin = from; verdict = (sound, contested) }))
+      let (q, inside, is) = made_has (λ k m p. IsPlanned plan.asked plan.firsts m p) (λ q. (q.verdict ≡ InConflict) × (q.source ≡ n.source) × (q.destination ≡ n.destination)) 0 plan.firsts plan.before n plan.are_before has
+      (λ j. (record { source = n.source; item = n.item; destination = n.destination; origin = o; verdict = InConflict }, record { source = refl; item = refl; destination = refl; origin = from; verdict = (sound, contested) }))
       (λ j z of_z. (conflict_of plan.firsts n z.verdict sound contested of_z.verdict, of_z.source, of_z.destination)) in
       (q, subst (λ (l : List Planned). Contains l q) (sym plan.all) (Contains-append_left plan.before plan.behind q inside), is)
     where
       spec_in : (n : Mapped) → Contains plan.firsts n → n.spec < length plan.asked
-      spec_in n (i, below, at) = subst (λ (x : Mapped). x.spec < length plan.asked) at (All-from_recursion (λ x. x.spec < length plan.asked) plan.firsts (mappings_of plan.asked refs plan.firsts plan.are_firsts).fit i n below)
+      spec_in n = All-contains (λ x. x.spec < length plan.asked) plan.firsts n (All-from_recursion (λ x. x.spec < length plan.asked) plan.firsts (mappings_of plan.asked refs plan.firsts plan.are_firsts).fit)
 
   -- so has one of the second list, unless it is overruled
   second_in_conflict : (n : Mapped) (d : List ℕ) → Contains plan.seconds n → IsSound n → n.destination ≡ Some d → ¬ (IsTakenOver plan.firsts n) → IsContested plan.seconds n
-      → (q : Planned) × Contains planned q × ((q.verdict ≡ verdict.InConflict) × (q.source ≡ n.source) × (q.destination ≡ n.destination))
+      → (q : Planned) × Contains planned q × ((q.verdict ≡ InConflict) × (q.source ≡ n.source) × (q.destination ≡ n.destination))
   second_in_conflict n d has sound to free contested =
       let (o, from) = origin_of plan.tracking n (spec_in n has) in
       let (item, among) = item_of plan.indexes n.item in
-      let (q, inside, is) = made_has (λ k m p. IsPlannedBesides plan.tracking plan.indexes plan.firsts plan.seconds m p) (λ q. (q.verdict ≡ verdict.InConflict) × (q.source ≡ n.source) × (q.destination ≡ n.destination)) 0 plan.seconds plan.behind n plan.are_behind has
+      let (q, inside, is) = made_has (λ k m p. IsPlannedBesides plan.tracking plan.indexes plan.firsts plan.seconds m p) (λ q. (q.verdict ≡ InConflict) × (q.source ≡ n.source) × (q.destination ≡ n.destination)) 0 plan.seconds plan.behind n plan.are_behind has
       (λ j. (
-        record { source = n.source; item = item; destination = n.destination; origin = o; verdict = verdict.InConflict },
+        record { source = n.source; item = item; destination = n.destination; origin = o; verdict = InConflict },
         record { updates = subst IsSome (sym to) refl; new = unpaired; source = refl; item = among; destination = refl; origin = from; verdict = (sound, free, contested) },
       ))
       (λ j z of_z. (second_conflict_of plan.firsts plan.seconds n z.verdict sound free contested of_z.verdict, of_z.source, of_z.destination)) in
       (q, subst (λ (l : List Planned). Contains l q) (sym plan.all) (Contains-append_right plan.before plan.behind q inside), is)
     where
       spec_in : (n : Mapped) → Contains plan.seconds n → n.spec < length plan.tracking
-      spec_in n (i, below, at) = subst (λ (x : Mapped). x.spec < length plan.tracking) at (All-from_recursion (λ x. x.spec < length plan.tracking) plan.seconds (tracked_mappings wish refs plan.tracking plan.indexes plan.seconds plan.are_seconds).fit i n below)
+      spec_in n = All-contains (λ x. x.spec < length plan.tracking) plan.seconds n (All-from_recursion (λ x. x.spec < length plan.tracking) plan.seconds (tracked_mappings wish refs plan.tracking plan.indexes plan.seconds plan.are_seconds).fit)
 
       unpaired : ¬ (HasPair plan.firsts n)
       unpaired pair = let (x, inside, same) = pair_in plan.firsts n pair in free (x, inside, sound_pair x n same sound, (d, to, same.destination ∙ to))
 
-  pub opposed : (p : Planned) → Contains planned p → p.verdict ≡ verdict.InConflict → (q : Planned) × Contains planned q × DoConflict p q
+  pub opposed : (p : Planned) → Contains planned p → p.verdict ≡ InConflict → (q : Planned) × Contains planned q × DoConflict p q
   opposed p has is = elim (update_cases p has) [
     | inl (m, inside, of_p) ↦
         let (sound, (n, also, sound_n, (d, from, to), differ)) = subst (HasVerdict plan.firsts m) is of_p.verdict in
@@ -140,12 +128,12 @@ module _ (wish : Wish) (refs : List Ref) (planned : List Planned) (missing : Lis
   ]
 
   -- an update that conflicts with another one is in conflict
-  pub in_conflict : (p q : Planned) → Contains planned p → Contains planned q → DoConflict p q → p.verdict ≡ verdict.InConflict
+  pub in_conflict : (p q : Planned) → Contains planned p → Contains planned q → DoConflict p q → p.verdict ≡ InConflict
   in_conflict p q has_p has_q both = by (update_cases p has_p) (update_cases q has_q)
     where
       by : ((m : Mapped) × Contains plan.firsts m × IsPlanned plan.asked plan.firsts m p) ⊎ ((m : Mapped) × Contains plan.seconds m × IsPlannedBesides plan.tracking plan.indexes plan.firsts plan.seconds m p)
           → ((m : Mapped) × Contains plan.firsts m × IsPlanned plan.asked plan.firsts m q) ⊎ ((m : Mapped) × Contains plan.seconds m × IsPlannedBesides plan.tracking plan.indexes plan.firsts plan.seconds m q)
-          → p.verdict ≡ verdict.InConflict
+          → p.verdict ≡ InConflict
       by (inl (m, in_m, of_p)) (inl (n, in_n, of_q)) =
           conflict_of plan.firsts m p.verdict (sound_of plan.firsts m p.verdict of_p.verdict both.one)
           (n, in_n, sound_of plan.firsts n q.verdict of_q.verdict both.other, (both.destination, sym of_p.destination ∙ both.one_to, sym of_q.destination ∙ both.other_to), λ same. both.differ (of_p.source ∙ same ∙ sym of_q.source))
@@ -161,10 +149,8 @@ module _ (wish : Wish) (refs : List Ref) (planned : List Planned) (missing : Lis
           (n, in_n, sound_n, (both.destination, sym of_p.destination ∙ both.one_to, sym of_q.destination ∙ both.other_to), λ same. both.differ (of_p.source ∙ same ∙ sym of_q.source))
           of_p.verdict
 
-  in_conflict_exactly : (p : Planned) → Contains planned p → (p.verdict ≡ verdict.InConflict) ↔ ((q : Planned) × Contains planned q × DoConflict p q)
-  in_conflict_exactly p has = ((λ is. opposed p has is), (λ (q, has_q, both). in_conflict p q has has_q both))
-
 pub conflicts_exactly : (wish : Wish) (refs : List Ref) → ConflictsExactly wish refs
-conflicts_exactly wish refs planned missing plan =
-    recursion_from_All (λ p. (p.verdict ≡ verdict.InConflict) ↔ ((q : Planned) × Contains planned q × DoConflict p q)) planned
-    (λ k d below. in_conflict_exactly wish refs planned missing plan (get_or planned k d) (Contains-get_or planned k d below))
+conflicts_exactly wish refs planned missing plan = recursion_from_All (λ p. (p.verdict ≡ InConflict) ↔ ((q : Planned) × Contains planned q × DoConflict p q)) planned (λ k d below.
+    let p = get_or planned k d in
+    let has = Contains-get_or planned k d below in
+    ((λ is. opposed wish refs planned missing plan p has is), (λ (q, has_q, both). in_conflict wish refs planned missing plan p q has has_q both)))

@@ -1,18 +1,8 @@
 -- The items that sound mappings are of.
-use Rattle.std.proofs.Common.{◌≡◌, ◌≢◌, ◌⊎◌, inl, inr, ◌↔◌, Bool, true, false, ℕ, ◌+◌, ◌-◌, ◌<◌, ◌≤◌, List, [], ◌∷◌, ◌++◌, Option, None, Some, length, map, take, get_or, set, replicate, refl, sym, ap, ◌∙◌, subst, arith}
-use Rattle.std.proofs.lemmas.Bool.{cases_eq, false≢true}
-use Rattle.std.proofs.lemmas.List.{append-nil, get_or-replicate, get_or-set_other, get_or-set_same, length-replicate, length-set, map-append, map_more, take_all}
-use Rattle.std.proofs.lemmas.List.Elements.{Contains-append_left, Contains-push, Contains-push_cases}
-use Rattle.gix_refspec_match.specs.declared.types.Item.{Item}
-use Rattle.gix_refspec_match.specs.declared.types.Mapping.{Mapping}
-use Rattle.gix_refspec_text.specs.Matching.Match.{Ref}
-use Rattle.gix_refspec_match.specs.Matching.Lists.{IsMadeFrom}
-use Rattle.gix_refspec_match.specs.Matching.Mappings.{Mapped}
-use Rattle.gix_refspec_match.specs.Private.Kept.{IsFlagged}
-use Rattle.gix_refspec_match.specs.Views.Mapping.{mapped_of, ref_of}
-use Rattle.gix_refspec_match.proofs.lemmas.lists.JoinLemmas.{made_more}
-use Rattle.gix_refspec_plan.specs.Matching.Plan.{IsSound, IsTakenAt}
-use Rattle.gix_refspec_plan.specs.Private.Plans.{FlagsTaken}
+use Rattle.gix_refspec_plan.proofs.Common.{◌≡◌, ◌≢◌, ◌⊎◌, inl, inr, ◌↔◌, Bool, true, false, ℕ, ◌+◌, ◌-◌, ◌<◌, ◌≤◌, List, [], ◌∷◌, ◌++◌, Option, None, Some, length, map, take, get_or, set, replicate}
+use Rattle.gix_refspec_plan.proofs.Common.{refl, sym, ap, ◌∙◌, subst, arith, cases_eq, false≢true, append-nil, get_or-replicate, get_or-set_other, get_or-set_same, length-replicate, length-set}
+use Rattle.gix_refspec_plan.proofs.Common.{map-append, map_more, take_all, Contains-append_left, Contains-push, Contains-push_cases, Item, Mapping, Ref, IsMadeFrom, Mapped, IsFlagged, mapped_of}
+use Rattle.gix_refspec_plan.proofs.Common.{ref_of, made_more, IsSound, IsTakenAt, FlagsTaken}
 
 -- one more mapping takes its item, if it is sound
 taken_cases : (l : List Mapped) (m : Mapped) (k : ℕ) → IsTakenAt (l ++ m ∷ []) k ↔ (IsTakenAt l k ⊎ (IsSound m × (m.item ≡ Some k)))

@@ -1,23 +1,13 @@
 -- Which destinations are written, and the verdicts by that.
-use Rattle.std.proofs.Common.{◌≡◌, ◌≢◌, ◌⊎◌, ◌↔◌, inl, inr, ℕ, zero, suc, ◌+◌, ◌<◌, Bool, Bor, true, false, cond, List, [], ◌∷◌, ◌++◌, Option, None, Some, is_some, unwrap_or, bytes_eq, map, take, get_or, length, refl, sym, ap, ◌∙◌, subst, arith}
-use Rattle.std.specs.BTreeMap.{BTreeMap, UpdatesBy, get_by, is_at}
-use Rattle.std.specs.Map.{lookup}
-use Rattle.std.specs.Cmp.Lexicographic.{slice_cmp}
-use Rattle.std.specs.Ordering.{nat_cmp}
-use Rattle.std.specs.List.{Any, Contains}
-use Rattle.std.proofs.lemmas.Bool.{false≢true}
-use Rattle.std.proofs.lemmas.List.{map_more}
-use Rattle.std.proofs.lemmas.List.Elements.{All-from_recursion, Contains-append_left, Contains-push_cases}
+use Rattle.gix_refspec_plan.proofs.Common.{◌≡◌, ◌≢◌, ◌⊎◌, ◌↔◌, inl, inr, ℕ, zero, suc, ◌+◌, ◌<◌, Bool, Bor, true, false, cond, List, [], ◌∷◌, ◌++◌, Option, None, Some, is_some, unwrap_or, bytes_eq}
+use Rattle.gix_refspec_plan.proofs.Common.{map, take, get_or, length, refl, sym, ap, ◌∙◌, subst, arith, BTreeMap, UpdatesBy, get_by, is_at, lookup, slice_cmp, nat_cmp, Any, Contains, false≢true}
+use Rattle.gix_refspec_plan.proofs.Common.{map_more, All-from_recursion, Contains-append_left, Contains-push_cases, bytes_eq-Decides, Mapping, Mapped, IsSamePair, AreApart, mapped_of, IsContested}
+use Rattle.gix_refspec_plan.proofs.Common.{IsSound, IsTakenOver, CountDestinations, HasTwo, IsCount, TellContested, WritesTo}
 use Rattle.std.proofs.lemmas.List.Quantifiers.{Any-push}
 use Rattle.std.proofs.lemmas.Map.Text.{btree_map_updates_str}
-use Rattle.std.proofs.lemmas.Slice.Eq.{bytes_eq-Decides}
-use Rattle.gix_refspec_match.specs.declared.types.Mapping.{Mapping}
-use Rattle.gix_refspec_match.specs.Matching.Mappings.{Mapped, IsSamePair, AreApart}
-use Rattle.gix_refspec_match.specs.Views.Mapping.{mapped_of}
 use Rattle.gix_refspec.specs.Matching.Validation.{HasConflictAt}
-use Rattle.gix_refspec_plan.specs.Matching.Plan.{IsContested, IsSound, IsTakenOver}
-use Rattle.gix_refspec_plan.specs.Private.Verdicts.{CountDestinations, HasTwo, IsCount, TellContested, WritesTo}
 use Rattle.gix_refspec.proofs.lemmas.validate.FirstLemmas.{start_cases}
+use Rattle.gix_refspec_plan.proofs.lemmas.plan.MadeLemmas.{there}
 
 -- ---- one element or two
 
@@ -133,35 +123,15 @@ module _ (ms : List Mapping) (i : ℕ) (m : Mapping) (old : BTreeMap (Bor (List 
 -- ---- verdicts
 
 -- two mappings to a destination, from different sources
-record IsRivalry (l : List Mapped) (d : List ℕ) : Type 0 where
-  one : Mapped
-  other : Mapped
-  has_one : Contains l one
-  has_other : Contains l other
-  one_writes : WritesTo d one
-  other_writes : WritesTo d other
-  differ : one.source ≢ other.source
+abbrev IsRivalry : List Mapped → List ℕ → Mapped → Mapped → Type 0
+IsRivalry l d m n = Contains l m × Contains l n × WritesTo d m × WritesTo d n × (m.source ≢ n.source)
 
-rivalry : (l : List Mapped) (d : List ℕ) → AreApart l → HasTwo (WritesTo d) l → IsRivalry l d
+rivalry : (l : List Mapped) (d : List ℕ) → AreApart l → HasTwo (WritesTo d) l → (m : Mapped) × (n : Mapped) × IsRivalry l d m n
 rivalry [] d apart two = absurd two
-rivalry (x ∷ l) d apart (inl (writes, (i, y, below, at, also))) = record {
-  one = x;
-  other = y;
-  has_one = (0, omega arith, refl);
-  has_other = (suc i, omega (arith, below), at);
-  one_writes = writes;
-  other_writes = also;
-  differ = λ same. subst (λ (z : Mapped). ¬ (IsSamePair x z)) at (All-from_recursion (λ z. ¬ (IsSamePair x z)) l apart.0 i y below) (record { source = same; destination = writes.1 ∙ sym also.1 });
-}
-rivalry (x ∷ l) d apart (inr two) = let r = rivalry l d apart.1 two in record {
-  one = r.one;
-  other = r.other;
-  has_one = (let has = r.has_one in (suc has.0, (let below = has.1 in omega (arith, below)), has.2));
-  has_other = (let has = r.has_other in (suc has.0, (let below = has.1 in omega (arith, below)), has.2));
-  one_writes = r.one_writes;
-  other_writes = r.other_writes;
-  differ = r.differ;
-}
+rivalry (x ∷ l) d apart (inl (writes, (i, y, below, at, also))) =
+    let differ = subst (λ (z : Mapped). ¬ (IsSamePair x z)) at (All-from_recursion (λ z. ¬ (IsSamePair x z)) l apart.0 i y below) in
+    (x, y, ((0, omega arith, refl), (suc i, omega (arith, below), at), writes, also, λ same. differ (record { source = same; destination = writes.1 ∙ sym also.1 })))
+rivalry (x ∷ l) d apart (inr two) = let (m, n, (has_m, has_n, m_writes, n_writes, differ)) = rivalry l d apart.1 two in (m, n, (there x l m has_m, there x l n has_n, m_writes, n_writes, differ))
 
 -- what is counted tells of each destination whether it is contested
 pub counted_contested : (l : List Mapped) (counts : BTreeMap (Bor (List ℕ)) Bool) → CountDestinations l counts → TellContested l counts
@@ -176,16 +146,8 @@ pub none_contested : (l : List Mapped) (empty : BTreeMap (Bor (List ℕ)) Bool) 
 none_contested l empty apart free none d = (
   (λ told. absurd (false≢true (subst (λ (es : List (Bor (List ℕ) × Bool)). unwrap_or (lookup (is_at (λ k. slice_cmp nat_cmp d k.now)) es) false ≡ true) none told))),
   (λ two.
-      let r = rivalry l d apart two in
-      absurd (free d (record {
-        one = r.one;
-        other = r.other;
-        has_one = r.has_one;
-        has_other = r.has_other;
-        one_to = r.one_writes.1;
-        other_to = r.other_writes.1;
-        differ = r.differ;
-      }))),
+      let (m, n, (has_m, has_n, m_writes, n_writes, differ)) = rivalry l d apart two in
+      absurd (free d (record { one = m; other = n; has_one = has_m; has_other = has_n; one_to = m_writes.1; other_to = n_writes.1; differ = differ }))),
 )
 
 module _ (m : Mapped) (d : List ℕ) (goes : m.destination ≡ Some d) where
@@ -202,10 +164,10 @@ module _ (m : Mapped) (d : List ℕ) (goes : m.destination ≡ Some d) where
 
   pub is_contested : (l : List Mapped) (several : Bool) → AreApart l → (several ≡ true) ↔ HasTwo (WritesTo d) l → several ≡ true → IsContested l m
   is_contested l several apart tells told =
-      let r = rivalry l d apart (tells.0 told) in
-      elim (start_cases m.source r.one.source) [
-        | inl same ↦ (r.other, r.has_other, r.other_writes.0, (d, goes, r.other_writes.1), (λ also. r.differ (sym same ∙ also)))
-        | inr differ ↦ (r.one, r.has_one, r.one_writes.0, (d, goes, r.one_writes.1), differ)
+      let (x, y, (has_x, has_y, x_writes, y_writes, differ)) = rivalry l d apart (tells.0 told) in
+      elim (start_cases m.source x.source) [
+        | inl same ↦ (y, has_y, y_writes.0, (d, goes, y_writes.1), (λ also. differ (sym same ∙ also)))
+        | inr other ↦ (x, has_x, x_writes.0, (d, goes, x_writes.1), other)
       ]
 
   pub not_contested : (l : List Mapped) (several : Bool) → IsSound m → Contains l m → (several ≡ true) ↔ HasTwo (WritesTo d) l → several ≡ false → ¬ (IsContested l m)

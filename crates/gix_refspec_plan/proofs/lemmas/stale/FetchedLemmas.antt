@@ -1,33 +1,18 @@
 -- What a fetch writes, and what could be written from an object or from a ref of the remote.
-use Rattle.std.proofs.Common.{◌≡◌, ◌⊎◌, inl, inr, ℕ, zero, suc, List, [], ◌∷◌, ◌++◌, ◌||◌, if◌then◌else◌, ◌≢◌, MatchOption, Bool, true, false, Option, None, Some, length, codes, drop, nat_eq, refl, sym, ap, ◌∙◌, subst, arith}
-use Rattle.std.specs.List.{AllByRecursion, Any, Contains, starts_with}
+use Rattle.gix_refspec_plan.proofs.Common.{◌≡◌, ◌⊎◌, inl, inr, ℕ, zero, suc, List, [], ◌∷◌, ◌++◌, ◌||◌, if◌then◌else◌, ◌≢◌, MatchOption, Bool, true, false, Option, None, Some, length, codes, drop}
+use Rattle.gix_refspec_plan.proofs.Common.{nat_eq, refl, sym, ap, ◌∙◌, subst, arith, AllByRecursion, Any, Contains, starts_with, starts_is, star, BeginsWith, Lacks, HasOneStar, HasStar, Reading}
+use Rattle.gix_refspec_plan.proofs.Common.{IsAccepted, IsPositive, SideKind, pattern, full_name, object, partial, HasKind, IsCandidate, filled, written_name_of, Ref, HasName, Matches, MatchesAs}
+use Rattle.gix_refspec_plan.proofs.Common.{IsFirstCandidate, Takes, all_join, Lacks-here, Lacks-ContainsText, Source, name, id, Mapped, HasPair, IsSamePair, IsExcluded, IsSourceExcluded}
+use Rattle.gix_refspec_plan.proofs.Common.{AreKeptForward, IsFilled, matches_as, one_forward, one_kind, IsCompleted, CanWriteFrom, CanWriteObject, IsFetched, IsSourceOf, IsWritableFromObject}
+use Rattle.gix_refspec_plan.proofs.Common.{ref_named, AreMappedBy, HasDestination, sides_agree, All-contains, All-from_recursion}
 use Rattle.std.proofs.lemmas.Bool.Decides.{Decides-eqb}
-use Rattle.std.proofs.lemmas.Slice.Eq.{starts_is}
-use Rattle.gix_refspec_text.specs.Texts.Bytes.{star}
-use Rattle.gix_refspec_text.specs.Texts.Words.{BeginsWith, Lacks}
-use Rattle.gix_refspec_text.specs.Texts.Name.{HasOneStar, HasStar}
 use Rattle.gix_refspec_text.specs.declared.oid.Kind.{Kind}
 use Rattle.gix_refspec_text.specs.declared.oid.Kind.TheVariants.{Sha1, Sha256}
 use Rattle.gix_refspec_text.specs.Texts.ObjectId.{IsIdText, bytes_of}
-use Rattle.gix_refspec_text.specs.Specs.Reading.{Reading}
-use Rattle.gix_refspec_text.specs.Specs.Grammar.{IsAccepted, IsPositive}
-use Rattle.gix_refspec_text.specs.Matching.Side.{SideKind, pattern, full_name, object, partial, HasKind, IsCandidate, filled, written_name_of}
-use Rattle.gix_refspec_text.specs.Matching.Match.{Ref, HasName, Matches, MatchesAs, IsFirstCandidate, Takes}
 use Rattle.gix_refspec_text.proofs.lemmas.hits.CandidateLemmas.{first_candidate, some_first}
-use Rattle.gix_refspec_text.proofs.lemmas.lists.AllLemmas.{all_join}
-use Rattle.gix_refspec_text.proofs.lemmas.lists.LacksLemmas.{Lacks-here}
-use Rattle.gix_refspec_text.proofs.lemmas.texts.TextLemmas.{Lacks-ContainsText}
-use Rattle.gix_refspec_text.proofs.facts.ManualFacts.{Lacks-tested}
-use Rattle.gix_refspec_match.specs.Matching.Mappings.{Source, name, id, Mapped, HasPair, IsSamePair, IsExcluded, IsSourceExcluded}
-use Rattle.gix_refspec_match.specs.Matching.Hits.{AreKeptForward, IsFilled}
-use Rattle.gix_refspec_match.proofs.lemmas.hits.HitLemmas.{matches_as, one_forward, one_kind}
 use Rattle.gix_refspec.specs.Laws.Matching.{IsPaired, MakesForward, PairsId}
-use Rattle.gix_refspec_plan.specs.Matching.Plan.{IsCompleted}
-use Rattle.gix_refspec_plan.specs.Matching.Stale.{CanWriteFrom, CanWriteObject, IsFetched, IsSourceOf, IsWritableFromObject, ref_named}
-use Rattle.gix_refspec_plan.specs.Private.Plans.{AreMappedBy}
-use Rattle.gix_refspec_plan.specs.Private.Stales.{HasDestination}
 use Rattle.gix_refspec.proofs.lemmas.keep.PairMadeLemmas.{kept_exactly}
-use Rattle.gix_refspec.proofs.lemmas.specs.SideLawLemmas.{sides_agree}
+use Rattle.gix_refspec_text.proofs.facts.ManualFacts.{Lacks-tested}
 use Rattle.gix_refspec_plan.proofs.lemmas.plan.OnePlanLemmas.{completed_once, reading_once}
 use Rattle.gix_refspec_plan.proofs.lemmas.plan.OpposedLemmas.{pair_in}
 use Rattle.gix_refspec_plan.proofs.lemmas.stale.ZipLemmas.{completed_excluded, there_any, zip_first, zip_partner, zip_there}
@@ -106,25 +91,15 @@ no_object_named x n word bytes kind (none, inl same) = id_bytes_some x bytes kin
 no_object_named x n word bytes kind (none, inr other) = absurd (cc (other))
 
 -- a side matches by names alone, unless it is an object
-same_match : (x : List ℕ) (r : Ref) (n : List ℕ) (word : Option (List ℕ)) → r.name ≡ n → Matches x (ref_named n) word → Matches x r word
-same_match x r n word is matches = record { kind = matches.kind; of = matches.of; is = by_kind matches.kind matches.of word matches.is }
+match_named : (x : List ℕ) (q r : Ref) (word : Option (List ℕ)) → q.name ≡ r.name → ((bytes : List ℕ) → HasKind x (object bytes) → ¬ (MatchesAs (object bytes) q word)) → Matches x q word → Matches x r word
+match_named x q r word same no_object matches = record { kind = matches.kind; of = matches.of; is = by_kind matches.kind matches.of word no_object matches.is }
   where
-    by_kind : (k : SideKind) → HasKind x k → (w : Option (List ℕ)) → MatchesAs k (ref_named n) w → MatchesAs k r w
-    by_kind (pattern before after) of None holds = holds
-    by_kind (pattern before after) of (Some w) holds = is ∙ holds
-    by_kind (full_name m) of w holds = (holds.0, is ∙ holds.1)
-    by_kind (object bytes) of w holds = absurd (no_object_named x n w bytes of holds)
-    by_kind (partial m) of w holds = (holds.0, subst (IsCandidate m) (sym is) holds.1)
-
-name_match : (x : List ℕ) (r : Ref) (n : List ℕ) (word : Option (List ℕ)) → ((bytes : List ℕ) → ¬ (HasKind x (object bytes))) → r.name ≡ n → Matches x r word → Matches x (ref_named n) word
-name_match x r n word no_object is matches = record { kind = matches.kind; of = matches.of; is = by_kind matches.kind matches.of word matches.is }
-  where
-    by_kind : (k : SideKind) → HasKind x k → (w : Option (List ℕ)) → MatchesAs k r w → MatchesAs k (ref_named n) w
-    by_kind (pattern before after) of None holds = holds
-    by_kind (pattern before after) of (Some w) holds = sym is ∙ holds
-    by_kind (full_name m) of w holds = (holds.0, sym is ∙ holds.1)
-    by_kind (object bytes) of w holds = absurd (no_object bytes of)
-    by_kind (partial m) of w holds = (holds.0, subst (IsCandidate m) is holds.1)
+    by_kind : (k : SideKind) → HasKind x k → (w : Option (List ℕ)) → ((bytes : List ℕ) → HasKind x (object bytes) → ¬ (MatchesAs (object bytes) q w)) → MatchesAs k q w → MatchesAs k r w
+    by_kind (pattern before after) of None none holds = holds
+    by_kind (pattern before after) of (Some w) none holds = sym same ∙ holds
+    by_kind (full_name m) of w none holds = (holds.0, sym same ∙ holds.1)
+    by_kind (object bytes) of w none holds = absurd (none bytes of holds)
+    by_kind (partial m) of w none holds = (holds.0, subst (IsCandidate m) same holds.1)
 
 -- a side without a star matches without a word
 plain_word : (x : List ℕ) (r : Ref) (word : Option (List ℕ)) → Lacks star x → Matches x r word → word ≡ None
@@ -132,9 +107,7 @@ plain_word x r word lacks matches = by_kind matches.kind matches.of matches.is
   where
     by_kind : (k : SideKind) → HasKind x k → MatchesAs k r word → word ≡ None
     by_kind (pattern before after) of holds = absurd (Lacks-here star before after (subst (Lacks star) of.starred lacks))
-    by_kind (full_name m) of holds = holds.0
-    by_kind (object bytes) of holds = holds.0
-    by_kind (partial m) of holds = holds.0
+    by_kind k of holds = holds.0
 
 -- a pattern with one
 word_there : (before after : List ℕ) (r : Ref) (word : Option (List ℕ)) → MatchesAs (pattern before after) r word → (w : List ℕ) × (word ≡ Some w)
@@ -222,7 +195,7 @@ module _ (r c : Reading) (accepted : ∥ IsAccepted r ∥₁) (done : IsComplete
         };
         source = makes.ends.near;
         is = sym done.source ∙ makes.has.near;
-        matches = name_match makes.ends.near item s paired.word makes.has.no_object paired.name paired.takes.matches;
+        matches = match_named makes.ends.near item (ref_named s) paired.word paired.name (λ bytes kind. absurd (makes.has.no_object bytes kind)) paired.takes.matches;
       }
 
   object_writes : (bytes n : List ℕ) → PairsId bytes (Some n) c → CanWriteObject r n
@@ -278,19 +251,12 @@ module _ (r c : Reading) (accepted : ∥ IsAccepted r ∥₁) (done : IsComplete
         one = named_some (IsPaired (Takes items) (record { near = w.source; far = Some w.writes.destination }) t (Some n)) items t present (λ item named. record {
           word = w.word;
           name = named;
-          takes = record { matches = same_match w.source item t w.word named matches; first = λ m kind. subst (IsFirstCandidate items m) (sym named) (first m kind) };
+          takes = record { matches = match_named w.source (ref_named t) item w.word (sym named) (λ bytes kind. no_object_named w.source t w.word bytes kind) matches; first = λ m kind. subst (IsFirstCandidate items m) (sym named) (first m kind) };
           becomes = becomes;
         });
       }
 
-      no_partial : (k : SideKind) → HasKind w.source k → ((m : List ℕ) → ¬ (k ≡ partial m)) → (m : List ℕ) → ¬ (HasKind w.source (partial m))
-      no_partial k of other m kind = other m (one_kind w.source k (partial m) of kind)
-
       by_kind : (k : SideKind) → HasKind w.source k → MatchesAs k (ref_named s) w.word → (t : List ℕ) × CanWriteFrom r n t × MakesForward items (name t) (Some n) c
-      by_kind (pattern before after) of holds =
-          (s, w, makes s w.matches there (λ bytes kind. let e = one_kind w.source (pattern before after) (object bytes) of kind in cc (e)) (λ m kind. let e = one_kind w.source (pattern before after) (partial m) of kind in absurd (cc (e))))
-      by_kind (full_name x) of holds =
-          (s, w, makes s w.matches there (λ bytes kind. let e = one_kind w.source (full_name x) (object bytes) of kind in cc (e)) (λ m kind. let e = one_kind w.source (full_name x) (partial m) of kind in absurd (cc (e))))
       by_kind (object bytes) of holds = absurd (no_object_named w.source s w.word bytes of holds)
       by_kind (partial x) of holds =
           let (t, first) = some_first items x s holds.1 there in
@@ -300,14 +266,14 @@ module _ (r c : Reading) (accepted : ∥ IsAccepted r ∥₁) (done : IsComplete
             makes t matches first.present (λ bytes kind. let e = one_kind w.source (partial x) (object bytes) of kind in cc (e))
                 (λ m kind. let e : partial x ≡ partial m = one_kind w.source (partial x) (partial m) of kind in let one : x ≡ m = cc (e) in subst (λ (z : List ℕ). IsFirstCandidate items z t) one first),
           )
+      by_kind k of holds =
+          (s, w, makes s w.matches there (λ bytes kind. let e = one_kind w.source k (object bytes) of kind in cc (e)) (λ m kind. let e = one_kind w.source k (partial m) of kind in absurd (cc (e))))
 
 -- ---- groups
 
 -- each reading is accepted
 pub accepted_in : (h : List Reading) (r : Reading) → AllByRecursion (λ q. ∥ IsAccepted q ∥₁) h → Contains h r → ∥ IsAccepted r ∥₁
-accepted_in [] r all (k, below, is) = absurd (omega (arith, below))
-accepted_in (q ∷ h) r all (zero, below, is) = subst (λ (x : Reading). ∥ IsAccepted x ∥₁) is all.0
-accepted_in (q ∷ h) r all (suc k, below, is) = accepted_in h r all.1 (k, omega (arith, below), is)
+accepted_in h r all there = All-contains (λ q. ∥ IsAccepted q ∥₁) h r (All-from_recursion (λ q. ∥ IsAccepted q ∥₁) h all) there
 
 module _ (g : List Reading) (remote : List Ref) (mapped : List Mapped) (accepted : AllByRecursion (λ r. ∥ IsAccepted r ∥₁) g) (by : AreMappedBy g remote mapped) where
   -- what is written comes from an object or from a ref of the remote

@@ -1,31 +1,9 @@
 -- Sides with a star and without one, the refs for which a source may stand, and one of them that is excluded.
-use Rattle.std.proofs.Common.{◌≡◌, ℕ, true, zero, suc, ◌<◌, List, ◌∷◌, ◌++◌, Option, None, Some, MatchOption, All, drop, drop-cons, get_or, length, map, take, take-append-drop, refl, sym, ap, ◌∙◌, subst, arith}
-use Rattle.std.specs.Borrow.{Bor}
-use Rattle.std.specs.List.{Contains}
-use Rattle.std.specs.Option.{is_some}
-use Rattle.std.proofs.lemmas.Bool.{false≢true}
-use Rattle.std.proofs.lemmas.List.{get_or-map, length-map}
-use Rattle.std.proofs.lemmas.List.Elements.{Contains-append_right}
-use Rattle.bstr.specs.declared.bstring.BString.{BString}
-use Rattle.bstr.specs.Owned.{bstring_bytes}
-use Rattle.gix_refspec_text.specs.Texts.Bytes.{star}
-use Rattle.gix_refspec_text.specs.Texts.Words.{Lacks}
-use Rattle.gix_refspec_text.specs.Texts.Name.{HasSeveralStars, IsSplit}
-use Rattle.gix_refspec_text.specs.Specs.Reading.{Reading}
-use Rattle.gix_refspec_text.specs.Matching.Side.{SideKind, pattern, full_name, object, partial, HasKind, IsCandidate, Fits, candidates}
-use Rattle.gix_refspec_text.specs.Matching.Match.{Matches, MatchesAs}
-use Rattle.gix_refspec_text.proofs.lemmas.hits.MatchLemmas.{lacks_no_pattern, one_word}
-use Rattle.gix_refspec_text.proofs.lemmas.lists.LacksLemmas.{Lacks-here}
-use Rattle.gix_refspec_text.proofs.lemmas.texts.TextLemmas.{Lacks-from_absent}
-use Rattle.gix_refspec_match.specs.declared.exclusions.Exclusions.{Exclusions}
-use Rattle.gix_refspec_match.specs.Private.Kept.{ExcludeName, ExcludeNameAt}
-use Rattle.gix_refspec_match.proofs.lemmas.duplicates.FlagLemmas.{some_element}
-use Rattle.gix_refspec_match.proofs.lemmas.hits.HitLemmas.{matches_as, same_side}
-use Rattle.gix_refspec_plan.specs.declared.stale.Pattern.{Pattern}
-use Rattle.gix_refspec_plan.specs.declared.stale.State.TheVariants as state
-use Rattle.gix_refspec_plan.specs.Matching.Stale.{ref_named}
-use Rattle.gix_refspec_plan.specs.Private.Stales.{HasParts, HasPatternState, IsNamedBy, IsPatternSource, WritesName, WritesPattern}
-use Rattle.gix_refspec_plan.proofs.lemmas.stale.FetchedLemmas.{no_object_named}
+use Rattle.gix_refspec_plan.proofs.Common.{◌≡◌, ℕ, true, zero, suc, ◌<◌, List, ◌∷◌, ◌++◌, Option, None, Some, MatchOption, All, drop, drop-cons, get_or, length, map, take, take-append-drop, refl, sym}
+use Rattle.gix_refspec_plan.proofs.Common.{ap, ◌∙◌, subst, arith, Bor, Contains, is_some, false≢true, get_or-map, length-map, Contains-append_right, BString, bstring_bytes, star, Lacks}
+use Rattle.gix_refspec_plan.proofs.Common.{HasSeveralStars, IsSplit, Reading, SideKind, full_name, partial, HasKind, IsCandidate, Fits, candidates, Matches, MatchesAs, lacks_no_pattern, one_word}
+use Rattle.gix_refspec_plan.proofs.Common.{Lacks-here, Lacks-from_absent, Exclusions, ExcludeName, ExcludeNameAt, matches_as, same_side, Pattern, ref_named, HasParts, HasPatternState, IsNamedBy}
+use Rattle.gix_refspec_plan.proofs.Common.{IsPatternSource, WritesName, WritesPattern, Included, All-contains, All-map}
 
 -- ---- sides
 
@@ -80,13 +58,7 @@ text_contained texts i b l same below is =
 
 -- where none of the texts is so, none is
 pub none_contained : (P : List ℕ → Type 0) (texts : List BString) (l : List (List ℕ)) → map bstring_bytes texts ≡ l → All (λ b. ¬ (P (bstring_bytes b))) texts → (s : List ℕ) → Contains l s → ¬ (P s)
-none_contained P texts l same all s there = by (subst (λ (m : List (List ℕ)). Contains m s) (sym same) there)
-  where
-    by : Contains (map bstring_bytes texts) s → ¬ (P s)
-    by (k, below, is) holds =
-        let inside : k < length texts = rw (length-map texts bstring_bytes) at below in
-        let b = some_element texts k inside in
-        all k b inside (subst P (sym is ∙ get_or-map bstring_bytes texts k b s inside) holds)
+none_contained P texts l same all s there = All-contains (λ t. ¬ (P t)) l s (subst (All (λ t. ¬ (P t))) same (All-map (λ t. ¬ (P t)) bstring_bytes texts all)) there
 
 -- ---- by the kind of the source
 
@@ -95,7 +67,7 @@ abbrev pub ExcludesNamed : Exclusions → Reading → Option ℕ → Type 0
 ExcludesNamed es r by = MatchOption by ((s : List ℕ) → IsNamedBy r s → ¬ (ExcludeName es s)) (λ k. (s : List ℕ) × IsNamedBy r s × ExcludeNameAt es s k)
 
 module _ (es : Exclusions) (r : Reading) (x : List ℕ) (source : r.source ≡ Some x) where
-  named_as : (k : SideKind) (s : List ℕ) → HasKind x k → IsNamedBy r s → MatchesAs k (ref_named s) None
+  pub named_as : (k : SideKind) (s : List ℕ) → HasKind x k → IsNamedBy r s → MatchesAs k (ref_named s) None
   named_as k s of named = matches_as x k (ref_named s) None of (subst (λ (y : List ℕ). Matches y (ref_named s) None) (same_side r.source named.source x named.is source) named.stands)
 
   as_named : (k : SideKind) (s : List ℕ) → HasKind x k → MatchesAs k (ref_named s) None → IsNamedBy r s
@@ -110,13 +82,6 @@ module _ (es : Exclusions) (r : Reading) (x : List ℕ) (source : r.source ≡ S
   partial_excluded n None of none = λ s named excluded. none s (candidate_contained n s (named_as (partial n) s of named).1) excluded
   partial_excluded n (Some k) of (s, there, at) = (s, as_named (partial n) s of (refl, contained_candidate n s there), at)
 
-  -- a pattern and an id stand for no ref
-  pub pattern_unnamed : (before after s : List ℕ) → HasKind x (pattern before after) → ¬ (IsNamedBy r s)
-  pattern_unnamed before after s of named = named_as (pattern before after) s of named
-
-  pub object_unnamed : (bytes s : List ℕ) → HasKind x (object bytes) → ¬ (IsNamedBy r s)
-  object_unnamed bytes s of named = no_object_named x s None bytes of (named_as (object bytes) s of named)
-
 -- ---- patterns
 
 -- a pattern writes a ref from one
@@ -129,11 +94,8 @@ source_once p n s word parts fits has from =
 
 -- so what is known of it says what the pattern does
 module _ (es : Exclusions) (p : Pattern) (n word : List ℕ) (fits : Fits p.before.now p.after.now n word) where
-  pub without_source : p.source ≡ None → HasPatternState es p n state.Included
+  pub without_source : p.source ≡ None → HasPatternState es p n Included
   without_source none = ((word, fits), λ s from. absurd (let never : None ≡ Some from.parts = sym none ∙ from.has in cc (never)))
 
-  pub source_included : (parts : Bor (List ℕ) × Bor (List ℕ)) → p.source ≡ Some parts → ¬ (ExcludeName es (parts.0.now ++ (word ++ parts.1.now))) → HasPatternState es p n state.Included
+  pub source_included : (parts : Bor (List ℕ) × Bor (List ℕ)) → p.source ≡ Some parts → ¬ (ExcludeName es (parts.0.now ++ (word ++ parts.1.now))) → HasPatternState es p n Included
   source_included parts has included = ((word, fits), λ s from excluded. included (subst (ExcludeName es) (source_once p n s word parts fits has from) excluded))
-
-  pub source_excluded : (parts : Bor (List ℕ) × Bor (List ℕ)) (k : ℕ) → p.source ≡ Some parts → ExcludeNameAt es (parts.0.now ++ (word ++ parts.1.now)) k → HasPatternState es p n (state.Excluded k)
-  source_excluded parts k has at = (parts.0.now ++ (word ++ parts.1.now), record { word = word; fits = fits; parts = parts; has = has; is = refl }, at)

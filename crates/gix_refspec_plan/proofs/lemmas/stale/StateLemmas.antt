@@ -1,25 +1,9 @@
 -- Which local refs are stale or kept, by what a fetch writes and what the specs say of a name.
-use Rattle.std.proofs.Common.{◌≡◌, ◌⊎◌, inl, inr, ℕ, ◌+◌, ◌<◌, ◌++◌, ◌∷◌, zero, suc, ◌↔◌, Bool, List, [], Option, None, Some, option_to_list, MatchOption, append-nil, length, map, take, get_or, sym, ap, ◌∙◌, subst, arith}
-use Rattle.std.specs.List.{AllByRecursion, Contains}
-use Rattle.std.proofs.lemmas.List.{get_or-map, length-map, map-append, take-map}
-use Rattle.bstr.specs.BStr.{bstr_bytes}
-use Rattle.gix_refspec_text.specs.declared.spec.RefSpecRef.{RefSpecRef}
-use Rattle.gix_refspec_text.specs.Views.Spec.{reading_of}
-use Rattle.gix_refspec_match.specs.declared.types.Item.{Item}
-use Rattle.gix_refspec_match.specs.Matching.Lists.{IsMadeFrom, MakesOf}
-use Rattle.gix_refspec_match.specs.Views.Mapping.{ref_of}
-use Rattle.gix_refspec_match.specs.Private.Kept.{IsFlagged}
-use Rattle.gix_refspec_match.proofs.lemmas.lists.JoinLemmas.{made_more}
+use Rattle.gix_refspec_plan.proofs.Common.{◌≡◌, ◌⊎◌, inl, inr, ℕ, ◌+◌, ◌<◌, ◌++◌, ◌∷◌, zero, suc, ◌↔◌, Bool, List, [], Option, None, Some, option_to_list, MatchOption, append-nil, length, map, take}
+use Rattle.gix_refspec_plan.proofs.Common.{get_or, sym, ap, ◌∙◌, arith, AllByRecursion, Contains, get_or-map, length-map, map-append, take-map, bstr_bytes, RefSpecRef, reading_of, Item, IsMadeFrom}
+use Rattle.gix_refspec_plan.proofs.Common.{MakesOf, ref_of, IsFlagged, made_more, found_of, Reading, IsAccepted, Ref, HasName, Mapped, Found, IsKeptBy, IsStale, IsWritable, AreMappedBy, FlagWritten}
+use Rattle.gix_refspec_plan.proofs.Common.{HasDestination, HasState, ref_names, Excluded, Included}
 use Rattle.gix_refspec_plan.specs.declared.stale.Stale.{Stale}
-use Rattle.gix_refspec_plan.specs.Views.Stale.{found_of}
-use Rattle.gix_refspec_text.specs.Specs.Reading.{Reading}
-use Rattle.gix_refspec_text.specs.Specs.Grammar.{IsAccepted}
-use Rattle.gix_refspec_text.specs.Matching.Match.{Ref, HasName}
-use Rattle.gix_refspec_match.specs.Matching.Mappings.{Mapped}
-use Rattle.gix_refspec_plan.specs.declared.stale.State.TheVariants as state
-use Rattle.gix_refspec_plan.specs.Matching.Stale.{Found, IsKeptBy, IsStale, IsWritable}
-use Rattle.gix_refspec_plan.specs.Private.Plans.{AreMappedBy}
-use Rattle.gix_refspec_plan.specs.Private.Stales.{FlagWritten, HasDestination, HasState, ref_names}
 use Rattle.gix_refspec_plan.proofs.lemmas.stale.FetchedLemmas.{fetched_written, object_written, present_written, written_fetched, written_from}
 
 -- the names of refs are those that they have
@@ -48,7 +32,7 @@ module _ (g : List Reading) (remote : List Ref) (mapped : List Mapped) (accepted
   unwritable_untold none (Some k) kept = let (r, at, from) = kept.is_source in none (r, from.word, at, from.writes)
 
   -- what isn't written is stale, if no ref is excluded from which it could be written, and otherwise kept
-  pub included_stale : ¬ (HasDestination mapped n) → HasState g n state.Included → IsStale g remote n
+  pub included_stale : ¬ (HasDestination mapped n) → HasState g n Included → IsStale g remote n
   included_stale unwritten (writable, included) = record {
     writable = writable;
     no_object = λ object. unwritten (object_written g remote mapped accepted by n object);
@@ -56,7 +40,7 @@ module _ (g : List Reading) (remote : List Ref) (mapped : List Mapped) (accepted
     included = included;
   }
 
-  pub excluded_kept : (k : ℕ) → ¬ (HasDestination mapped n) → HasState g n (state.Excluded k) → IsKeptBy g remote n k
+  pub excluded_kept : (k : ℕ) → ¬ (HasDestination mapped n) → HasState g n (Excluded k) → IsKeptBy g remote n k
   excluded_kept k unwritten (s, source, (r, at, excludes)) = record {
     unwritten = λ fetched. unwritten (fetched_written g remote mapped accepted by n fetched);
     source = s;
@@ -116,13 +100,3 @@ module _ (specs : List RefSpecRef) (remote : List Ref) (mapped : List Mapped) (b
         ]
         | inr none ↦ unwritable_untold (map reading_of specs) remote mapped (all_accepted specs) by n none f.kept_by state
       ]) (sym (append-nil (map found_of old)))
-
-  pub tell_included : (new : List Stale) (s : Stale) → s.item_index ≡ i → s.kept_by ≡ None → ¬ (IsFlagged flags i) → HasState (map reading_of specs) n state.Included
-      → new ≡ old ++ s ∷ [] → IsMadeFrom (Tells (map reading_of specs) remote refs) 0 (map ref_of (take (i + 1) local)) (map found_of new)
-  tell_included new s at none unflagged is_state =
-      tell_next new s at unflagged (λ unwritten. subst (λ (o : Option ℕ). MatchOption o (IsStale (map reading_of specs) remote n) (IsKeptBy (map reading_of specs) remote n)) (sym none) (included_stale (map reading_of specs) remote mapped (all_accepted specs) by n unwritten is_state))
-
-  pub tell_excluded : (new : List Stale) (s : Stale) (k : ℕ) → s.item_index ≡ i → s.kept_by ≡ Some k → ¬ (IsFlagged flags i) → HasState (map reading_of specs) n (state.Excluded k)
-      → new ≡ old ++ s ∷ [] → IsMadeFrom (Tells (map reading_of specs) remote refs) 0 (map ref_of (take (i + 1) local)) (map found_of new)
-  tell_excluded new s k at some unflagged is_state =
-      tell_next new s at unflagged (λ unwritten. subst (λ (o : Option ℕ). MatchOption o (IsStale (map reading_of specs) remote n) (IsKeptBy (map reading_of specs) remote n)) (sym some) (excluded_kept (map reading_of specs) remote mapped (all_accepted specs) by n k unwritten is_state))

@@ -1,9 +1,5 @@
 -- Readings and the same with completed destinations.
-use Rattle.std.proofs.Common.{inl, inr, ℕ, zero, suc, List, [], ◌∷◌, refl, sym, ◌∙◌, subst, arith}
-use Rattle.std.specs.List.{AllZip, Any, Contains}
-use Rattle.gix_refspec_text.specs.Specs.Reading.{Reading}
-use Rattle.gix_refspec_match.specs.Matching.Mappings.{IsExcluded, IsExcludedBy}
-use Rattle.gix_refspec_plan.specs.Matching.Plan.{IsCompleted}
+use Rattle.gix_refspec_plan.proofs.Common.{inl, inr, ℕ, zero, suc, List, [], ◌∷◌, refl, sym, ◌∙◌, subst, arith, AllZip, Any, Contains, Reading, IsExcluded, IsExcludedBy, IsCompleted}
 
 -- what an element is paired with in a zip
 pub zip_partner : {X Y : Type 0} (R : X → Y → Type 0) (xs : List X) (ys : List Y) (x : X) → AllZip R xs ys → Contains xs x → (y : Y) × R x y × Contains ys y

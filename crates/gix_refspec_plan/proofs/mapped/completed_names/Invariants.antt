@@ -1,8 +1,5 @@
 -- the specs so far have these destinations
-use Rattle.std.proofs.Common.{map, option_map, take}
-use Rattle.bstr.specs.Owned.{bstring_bytes}
-use Rattle.gix_refspec_text.specs.Views.Spec.{reading_of}
-use Rattle.gix_refspec_plan.specs.Private.Plans.{AreNewDestinations}
+use Rattle.gix_refspec_plan.proofs.Common.{map, option_map, take, bstring_bytes, reading_of, AreNewDestinations}
 use Rattle.gix_refspec_plan.proofs.mapped.completed_names.Given as goal
 
 abbrev pub invariant-loop-spec : goal.invariant-loop-spec

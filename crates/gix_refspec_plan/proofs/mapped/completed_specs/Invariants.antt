@@ -1,8 +1,5 @@
 -- the specs so far are completed
-use Rattle.std.proofs.Common.{map, take}
-use Rattle.std.specs.List.{AllZip}
-use Rattle.gix_refspec_text.specs.Views.Spec.{reading_of}
-use Rattle.gix_refspec_plan.specs.Matching.Plan.{IsCompleted}
+use Rattle.gix_refspec_plan.proofs.Common.{map, take, AllZip, reading_of, IsCompleted}
 use Rattle.gix_refspec_plan.proofs.mapped.completed_specs.Given as goal
 
 abbrev pub invariant-loop-index : goal.invariant-loop-index

@@ -1,12 +1,5 @@
 -- The specs are completed without where they come from.
-use Rattle.std.proofs.Common.{List, map, option_map, ap, sym, ◌∙◌, subst}
-use Rattle.std.specs.List.{AllZip}
-use Rattle.bstr.specs.Owned.{bstring_bytes}
-use Rattle.gix_refspec_text.specs.Specs.Reading.{Reading}
-use Rattle.gix_refspec_text.specs.Views.Spec.{reading_of}
-use Rattle.gix_refspec_match.proofs.lemmas.duplicates.FlagLemmas.{ok_weaker}
-use Rattle.gix_refspec_plan.specs.Matching.Plan.{IsCompleted}
-use Rattle.gix_refspec_plan.specs.Private.Plans.{AreNewDestinations}
+use Rattle.gix_refspec_plan.proofs.Common.{List, map, option_map, ap, sym, ◌∙◌, subst, AllZip, bstring_bytes, Reading, reading_of, ok_weaker, IsCompleted, AreNewDestinations}
 use Rattle.gix_refspec_plan.proofs.mapped.mapped.Goals as goal
 
 pub mapped_by_specs-requires : goal.mapped_by_specs-requires

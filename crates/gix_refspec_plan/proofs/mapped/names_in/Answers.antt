@@ -1,10 +1,5 @@
 -- The specs are those without where they come from.
-use Rattle.std.proofs.Common.{List, map, option_map, ap, ◌∙◌, subst}
-use Rattle.bstr.specs.Owned.{bstring_bytes}
-use Rattle.gix_refspec_text.specs.Specs.Reading.{Reading}
-use Rattle.gix_refspec_text.specs.Views.Spec.{reading_of}
-use Rattle.gix_refspec_match.proofs.lemmas.duplicates.FlagLemmas.{ok_weaker}
-use Rattle.gix_refspec_plan.specs.Private.Plans.{AreNewDestinations}
+use Rattle.gix_refspec_plan.proofs.Common.{List, map, option_map, ap, ◌∙◌, subst, bstring_bytes, Reading, reading_of, ok_weaker, AreNewDestinations}
 use Rattle.gix_refspec_plan.proofs.mapped.names_in.Goals as goal
 
 pub returns : goal.returns

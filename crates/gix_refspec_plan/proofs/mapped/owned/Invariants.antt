@@ -1,6 +1,5 @@
 -- the mappings so far are the same
-use Rattle.std.proofs.Common.{◌≡◌, map}
-use Rattle.gix_refspec_match.specs.Views.Mapping.{mapped_of}
+use Rattle.gix_refspec_plan.proofs.Common.{◌≡◌, map, mapped_of}
 use Rattle.gix_refspec_plan.proofs.mapped.owned.Given as goal
 
 abbrev pub invariant-loop-mapping : goal.invariant-loop-mapping

@@ -1,5 +1,5 @@
 -- One more spec.
-use Rattle.std.proofs.Common.{take_all, arith}
+use Rattle.gix_refspec_plan.proofs.Common.{take_all, arith}
 use Rattle.gix_refspec_plan.proofs.lemmas.plan.LackingLemmas.{readings_next}
 use Rattle.gix_refspec_plan.proofs.mapped.specs_in.Goals as goal
 

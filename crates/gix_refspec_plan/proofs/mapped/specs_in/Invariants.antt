@@ -1,7 +1,5 @@
 -- the specs so far
-use Rattle.std.proofs.Common.{◌≡◌, map, take}
-use Rattle.gix_refspec_text.specs.Views.Spec.{reading_of}
-use Rattle.gix_refspec_plan.specs.Views.Plan.{asked_of}
+use Rattle.gix_refspec_plan.proofs.Common.{◌≡◌, map, take, reading_of, asked_of}
 use Rattle.gix_refspec_plan.proofs.mapped.specs_in.Given as goal
 
 abbrev pub invariant-loop-one : goal.invariant-loop-one

@@ -1,10 +1,6 @@
 -- the merged refs that are asked for so far
-use Rattle.std.proofs.Common.{map, take}
-use Rattle.bstr.specs.BStr.{bstr_bytes}
-use Rattle.gix_refspec_match.specs.Matching.Lists.{IsMadeFrom}
-use Rattle.gix_refspec_match.specs.Views.Mapping.{mapped_of}
-use Rattle.gix_refspec_plan.specs.Views.Plan.{asked_of}
-use Rattle.gix_refspec_plan.proofs.lemmas.plan.MergeLemmas.{Merges}
+use Rattle.gix_refspec_plan.proofs.Common.{map, take, bstr_bytes, IsMadeFrom, mapped_of, asked_of}
+use Rattle.gix_refspec_plan.proofs.lemmas.plan.SpecLemmas.{Merges}
 use Rattle.gix_refspec_plan.proofs.specs.merge_specs.Given as goal
 
 abbrev pub invariant-loop-index : goal.invariant-loop-index

@@ -1,6 +1,5 @@
 -- One more merged ref behind the others.
-use Rattle.std.proofs.Common.{append-nil, sym, take_all, arith}
-use Rattle.std.proofs.lemmas.List.{get_or_default}
+use Rattle.gix_refspec_plan.proofs.Common.{append-nil, sym, take_all, arith, get_or_default}
 use Rattle.gix_refspec_plan.proofs.lemmas.plan.SpecLemmas.{names_next}
 use Rattle.gix_refspec_plan.proofs.specs.names_of.Goals as goal
 

@@ -1,12 +1,7 @@
 -- An item is taken where its index is flagged.
-use Rattle.std.proofs.Common.{map, sym, ◌∙◌, take_all, arith}
-use Rattle.std.proofs.lemmas.Bool.{false≢true}
-use Rattle.gix_refspec_match.specs.Views.Mapping.{mapped_of}
-use Rattle.gix_refspec_match.proofs.lemmas.duplicates.FlagLemmas.{some_element}
-use Rattle.gix_refspec_plan.specs.Views.Plan.{asked_of}
+use Rattle.gix_refspec_plan.proofs.Common.{map, sym, ◌∙◌, take_all, arith, false≢true, mapped_of, some_element, asked_of}
 use Rattle.gix_refspec_plan.proofs.lemmas.plan.TakenLemmas.{picked_here, picked_same}
 use Rattle.gix_refspec_plan.proofs.specs.taken_by.Goals as goal
-use Rattle.gix_refspec_plan.proofs.specs.taken_by.Goals.{then-is_flagged+in_ok-push+in_ok-push-2, else-is_flagged}
 
 pub loop-index-preserved : goal.loop-index-preserved
 loop-index-preserved c =
@@ -18,9 +13,9 @@ loop-index-preserved c =
     let all = rw c.as_slice-4.ensures.value at c.in_ok-flags.ensures in
     let each = all.each i below in
     elim c.if-is_flagged.branch [
-      | then-is_flagged+in_ok-push+in_ok-push-2 w ↦ rw w.taken-is
+      | goal.then-is_flagged+in_ok-push+in_ok-push-2 w ↦ rw w.taken-is
           (picked_here (map mapped_of c.in_ok-mappings.mappings.items) items i _ taken.indexes.items taken.items.items below c.loop-index.invariant _ _ (each.0 (flag.0 w.if-is_flagged.true)) w.in_ok-push.ensures.items w.in_ok-push-2.ensures.items)
-      | else-is_flagged w ↦ rw w.taken-is
+      | goal.else-is_flagged w ↦ rw w.taken-is
           (picked_same (map mapped_of c.in_ok-mappings.mappings.items) items i (some_element items i below) taken.indexes.items taken.items.items below c.loop-index.invariant (λ takes. false≢true (sym w.if-is_flagged.false ∙ flag.1 (each.1 takes))))
     ]
 

@@ -1,9 +1,7 @@
 -- A sound mapping of an item flags it.
-use Rattle.std.proofs.Common.{sym, ◌∙◌, take_all, arith}
-use Rattle.std.proofs.lemmas.Bool.{false≢true}
+use Rattle.gix_refspec_plan.proofs.Common.{sym, ◌∙◌, take_all, arith, false≢true}
 use Rattle.gix_refspec_plan.proofs.lemmas.plan.TakenLemmas.{none_taken, some_apart, taken_here, taken_same}
 use Rattle.gix_refspec_plan.proofs.specs.taken_flags.Goals as goal
-use Rattle.gix_refspec_plan.proofs.specs.taken_flags.Goals.{in-Some+then-index-len+then-is_sound, in-Some+else-index-len, else-index-len-via-then-index-len+else-is_sound, else-index-len-via-else-index-len, in_default}
 
 pub loop-mapping-init : goal.loop-mapping-init
 loop-mapping-init c = none_taken c.args.len _ c.new-flags.result.items c.resize.new.self.items c.new-flags.ensures.items c.new-flags.ensures.len c.in_ok-resize.ensures.items
@@ -15,15 +13,15 @@ loop-mapping-preserved c =
     let flags = c.loop-mapping.flags in
     let long = c.loop-mapping.invariant.0 in
     elim c.match-mapping.branch [
-      | in-Some+then-index-len+then-is_sound w ↦ rw w.flags-is
+      | goal.in-Some+then-index-len+then-is_sound w ↦ rw w.flags-is
           (taken_here c.args.mappings.now i m c.args.len flags.items c.loop-mapping-test.true c.mapping-item.is c.loop-mapping.invariant w.in-Some.index (w.is_sound.ensures.0 w.if-is_sound.true) w.in-Some.is (omega (arith, w.if-index-len.true, w.len.ensures, long, flags.ok)))
-      | in-Some+else-index-len w ↦ rw w.flags-is
+      | goal.in-Some+else-index-len w ↦ rw w.flags-is
           (taken_same c.args.mappings.now i m c.args.len flags.items c.loop-mapping-test.true c.mapping-item.is c.loop-mapping.invariant
           (elim w.else-index-len.branch [
-            | else-index-len-via-then-index-len+else-is_sound v ↦ λ k below sound. absurd (false≢true (sym v.if-is_sound.false ∙ v.is_sound.ensures.1 sound))
-            | else-index-len-via-else-index-len v ↦ λ k below sound. some_apart m.item_index w.in-Some.index k c.args.len w.in-Some.is (omega (arith, v.if-index-len.false, w.len.ensures, long, flags.ok)) below
+            | goal.else-index-len-via-then-index-len+else-is_sound v ↦ λ k below sound. absurd (false≢true (sym v.if-is_sound.false ∙ v.is_sound.ensures.1 sound))
+            | goal.else-index-len-via-else-index-len v ↦ λ k below sound. some_apart m.item_index w.in-Some.index k c.args.len w.in-Some.is (omega (arith, v.if-index-len.false, w.len.ensures, long, flags.ok)) below
           ]))
-      | in_default w ↦ rw w.flags-is
+      | goal.in_default w ↦ rw w.flags-is
           (taken_same c.args.mappings.now i m c.args.len flags.items c.loop-mapping-test.true c.mapping-item.is c.loop-mapping.invariant (λ k below sound. w.in_default.not-Some k))
     ]
 

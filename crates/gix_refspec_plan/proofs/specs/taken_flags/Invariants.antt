@@ -1,6 +1,5 @@
 -- the items of the mappings so far
-use Rattle.std.proofs.Common.{map, take}
-use Rattle.gix_refspec_match.specs.Views.Mapping.{mapped_of}
+use Rattle.gix_refspec_plan.proofs.Common.{map, take, mapped_of}
 use Rattle.gix_refspec_plan.proofs.lemmas.plan.TakenLemmas.{AreTakenFlags}
 use Rattle.gix_refspec_plan.proofs.specs.taken_flags.Given as goal
 

@@ -1,18 +1,18 @@
 -- A mapping with a destination adds it.
-use Rattle.std.proofs.Common.{take_all, arith}
-use Rattle.gix_refspec_plan.proofs.lemmas.stale.NamedLemmas.{destination_here, no_destination}
+use Rattle.gix_refspec_plan.proofs.Common.{take_all, arith, mapped_of, bstr_bytes, option_map, name_bytes, Some, ap, ◌∙◌, sym}
+use Rattle.gix_refspec_plan.proofs.lemmas.stale.NamedLemmas.{no_side}
+use Rattle.gix_refspec_plan.proofs.lemmas.plan.MadeLemmas.{made_one, made_none}
 use Rattle.gix_refspec_plan.proofs.stale.destinations_of.Goals as goal
-use Rattle.gix_refspec_plan.proofs.stale.destinations_of.Goals.{in-Some+in_ok-push, in_default}
 
 pub loop-mapping-preserved : goal.loop-mapping-preserved
 loop-mapping-preserved c =
+    let ms = c.args.written.now in
     let i = c.loop-mapping.mapping-index in
-    let m = c.mapping-item.result in
     elim c.match-mapping.branch [
-      | in-Some+in_ok-push w ↦ rw w.names-is
-          (destination_here c.args.written.now i m c.loop-mapping.names.items c.loop-mapping-test.true c.mapping-item.is c.loop-mapping.invariant _ _ _ w.in-Some.is w.as_bstr.ensures w.in_ok-push.ensures.items)
-      | in_default w ↦ rw w.names-is
-          (no_destination c.args.written.now i m c.loop-mapping.names.items c.loop-mapping-test.true c.mapping-item.is c.loop-mapping.invariant w.in_default.not-Some)
+      | goal.in-Some+in_ok-push w ↦ rw w.names-is
+          (made_one _ mapped_of bstr_bytes ms i c.mapping-item.result _ c.loop-mapping-test.true c.mapping-item.is c.loop-mapping.invariant _ _ (ap (option_map name_bytes) w.in-Some.is ∙ ap Some (sym w.as_bstr.ensures)) w.in_ok-push.ensures.items)
+      | goal.in_default w ↦ rw w.names-is
+          (made_none _ mapped_of bstr_bytes ms i c.mapping-item.result _ c.loop-mapping-test.true c.mapping-item.is c.loop-mapping.invariant (no_side c.mapping-item.result.rhs w.in_default.not-Some))
     ]
 
 pub returns : goal.returns

@@ -1,8 +1,5 @@
 -- The candidates are tried in order.
-use Rattle.std.proofs.Common.{◌∙◌, ap, map, take_all}
-use Rattle.std.proofs.lemmas.List.Elements.{All-more}
-use Rattle.bstr.specs.Owned.{bstring_bytes}
-use Rattle.gix_refspec_match.specs.Private.Kept.{ExcludeName}
+use Rattle.gix_refspec_plan.proofs.Common.{◌∙◌, ap, map, take_all, All-more, bstring_bytes, ExcludeName}
 use Rattle.gix_refspec_plan.proofs.lemmas.stale.SourceLemmas.{none_contained, text_contained}
 use Rattle.gix_refspec_plan.proofs.stale.excluded_candidate.Goals as goal
 

@@ -1,7 +1,5 @@
 -- no candidate so far is excluded
-use Rattle.std.proofs.Common.{All, take}
-use Rattle.bstr.specs.Owned.{bstring_bytes}
-use Rattle.gix_refspec_match.specs.Private.Kept.{ExcludeName}
+use Rattle.gix_refspec_plan.proofs.Common.{All, take, bstring_bytes, ExcludeName}
 use Rattle.gix_refspec_plan.proofs.stale.excluded_candidate.Given as goal
 
 abbrev pub invariant-loop-candidate : goal.invariant-loop-candidate

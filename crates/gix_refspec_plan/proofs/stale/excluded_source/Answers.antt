@@ -1,10 +1,7 @@
 -- What the source may stand for is told by its kind.
-use Rattle.std.proofs.Common.{inl, inr, Some, option_map, sym, ap, ◌∙◌}
-use Rattle.std.proofs.lemmas.Result.{IfOk-weaker}
-use Rattle.bstr.specs.BStr.{bstr_bytes}
-use Rattle.gix_refspec_text.specs.Views.Spec.{reading_of}
-use Rattle.gix_refspec_text.proofs.lemmas.specs.AcceptedLemmas.{accepted_few}
-use Rattle.gix_refspec_plan.proofs.lemmas.stale.SourceLemmas.{full_excluded, object_unnamed, partial_excluded, pattern_unnamed}
+use Rattle.gix_refspec_plan.proofs.Common.{inl, inr, Some, option_map, sym, ap, ◌∙◌, IfOk-weaker, bstr_bytes, reading_of, accepted_few, pattern, None, object}
+use Rattle.gix_refspec_plan.proofs.lemmas.stale.SourceLemmas.{full_excluded, named_as, partial_excluded}
+use Rattle.gix_refspec_plan.proofs.lemmas.stale.FetchedLemmas.{no_object_named}
 use Rattle.gix_refspec_plan.proofs.stale.excluded_source.Goals as goal
 
 pub kind_of-requires : goal.kind_of-requires
@@ -25,6 +22,6 @@ pub returns-in-Pattern : goal.returns-in-Pattern
 returns-in-Pattern c s named excluded =
     let source = sym c.source.ensures ∙ ap (option_map bstr_bytes) c.in-Some.is ∙ ap Some (sym c.as_bytes.ensures) in
     elim c.in-Pattern.is [
-      | inl (before, after, is) ↦ pattern_unnamed c.args.exclusions.now (reading_of c.args.spec.now) c.as_bytes.result.now source before.now after.now s (rw is at c.kind_of.ensures) named
-      | inr (object, is) ↦ object_unnamed c.args.exclusions.now (reading_of c.args.spec.now) c.as_bytes.result.now source _ s (rw is at c.kind_of.ensures) named
+      | inl (before, after, is) ↦ named_as c.args.exclusions.now (reading_of c.args.spec.now) c.as_bytes.result.now source (pattern before.now after.now) s (rw is at c.kind_of.ensures) named
+      | inr (found, is) ↦ let kind = rw is at c.kind_of.ensures in no_object_named _ s None _ kind (named_as c.args.exclusions.now (reading_of c.args.spec.now) c.as_bytes.result.now source (object _) s kind named)
     ]

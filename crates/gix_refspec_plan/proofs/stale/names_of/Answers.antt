@@ -1,5 +1,5 @@
 -- One more local ref behind the others.
-use Rattle.std.proofs.Common.{append-nil, sym, take_all, arith}
+use Rattle.gix_refspec_plan.proofs.Common.{append-nil, sym, take_all, arith}
 use Rattle.gix_refspec_plan.proofs.lemmas.stale.NamedLemmas.{local_next}
 use Rattle.gix_refspec_plan.proofs.stale.names_of.Goals as goal
 

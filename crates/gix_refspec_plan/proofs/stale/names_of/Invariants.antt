@@ -1,7 +1,5 @@
 -- the destinations, and the names of the local refs so far
-use Rattle.std.proofs.Common.{map, take}
-use Rattle.bstr.specs.BStr.{bstr_bytes}
-use Rattle.gix_refspec_match.specs.Views.Mapping.{mapped_of, ref_of}
+use Rattle.gix_refspec_plan.proofs.Common.{map, take, bstr_bytes, mapped_of, ref_of}
 use Rattle.gix_refspec_plan.specs.Private.Stales.{AreNames}
 use Rattle.gix_refspec_plan.proofs.stale.names_of.Given as goal
 

@@ -1,6 +1,5 @@
 -- The only star splits a side.
-use Rattle.std.proofs.Common.{◌≡◌, Some, option_map, sym, ap, ◌∙◌}
-use Rattle.bstr.specs.BStr.{bstr_bytes}
+use Rattle.gix_refspec_plan.proofs.Common.{◌≡◌, Some, option_map, sym, ap, ◌∙◌, bstr_bytes}
 use Rattle.gix_refspec_plan.proofs.lemmas.stale.SourceLemmas.{parts_split}
 use Rattle.gix_refspec_plan.proofs.stale.parts_of.Goals as goal
 

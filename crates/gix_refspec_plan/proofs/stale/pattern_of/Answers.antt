@@ -1,7 +1,5 @@
 -- Accepted specs have sides with one star or none.
-use Rattle.std.proofs.Common.{inl, inr, sym, ◌∙◌}
-use Rattle.gix_refspec_text.specs.Views.Spec.{reading_of}
-use Rattle.gix_refspec_text.proofs.lemmas.specs.AcceptedLemmas.{accepted_few}
+use Rattle.gix_refspec_plan.proofs.Common.{inl, inr, sym, ◌∙◌, reading_of, accepted_few}
 use Rattle.gix_refspec_plan.proofs.lemmas.stale.SourceLemmas.{unsplit_unwritten}
 use Rattle.gix_refspec_plan.proofs.stale.pattern_of.Goals as goal
 

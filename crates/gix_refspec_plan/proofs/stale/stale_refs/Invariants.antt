@@ -1,9 +1,5 @@
 -- what is told of the local refs so far
-use Rattle.std.proofs.Common.{map, take}
-use Rattle.gix_refspec_text.specs.Views.Spec.{reading_of}
-use Rattle.gix_refspec_match.specs.Matching.Lists.{IsMadeFrom}
-use Rattle.gix_refspec_match.specs.Views.Mapping.{ref_of}
-use Rattle.gix_refspec_plan.specs.Views.Stale.{found_of}
+use Rattle.gix_refspec_plan.proofs.Common.{map, take, reading_of, IsMadeFrom, ref_of, found_of}
 use Rattle.gix_refspec_plan.proofs.lemmas.stale.StateLemmas.{Tells}
 use Rattle.gix_refspec_plan.proofs.stale.stale_refs.Given as goal
 

@@ -1,7 +1,5 @@
 -- A destination with a star writes no name.
-use Rattle.std.proofs.Common.{Some, option_map, sym, ap, ◌∙◌}
-use Rattle.bstr.specs.BStr.{bstr_bytes}
-use Rattle.gix_refspec_text.specs.Views.Spec.{reading_of}
+use Rattle.gix_refspec_plan.proofs.Common.{Some, option_map, sym, ap, ◌∙◌, bstr_bytes, reading_of}
 use Rattle.gix_refspec_plan.proofs.lemmas.stale.SourceLemmas.{starred_unwritten}
 use Rattle.gix_refspec_plan.proofs.stale.written_by.Goals as goal
 

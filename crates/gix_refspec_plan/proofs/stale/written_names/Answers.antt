@@ -1,8 +1,5 @@
 -- One more spec has one more name.
-use Rattle.std.proofs.Common.{option_map, take_all, arith}
-use Rattle.bstr.specs.Owned.{bstring_bytes}
-use Rattle.gix_refspec_text.specs.Views.Spec.{reading_of}
-use Rattle.gix_refspec_plan.specs.Private.Stales.{IsWrittenBy}
+use Rattle.gix_refspec_plan.proofs.Common.{option_map, take_all, arith, bstring_bytes, reading_of, IsWrittenBy}
 use Rattle.gix_refspec_plan.proofs.lemmas.plan.NameLemmas.{zip_next}
 use Rattle.gix_refspec_plan.proofs.stale.written_names.Goals as goal
 

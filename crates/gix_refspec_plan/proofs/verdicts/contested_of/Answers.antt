@@ -1,7 +1,5 @@
 -- Where the destinations differ nothing is contested.
-use Rattle.gix_refspec_match.specs.Views.Mapping.{mapped_of}
-use Rattle.std.proofs.Common.{map}
-use Rattle.std.proofs.lemmas.Result.{IfOk-weaker}
+use Rattle.gix_refspec_plan.proofs.Common.{mapped_of, map, IfOk-weaker}
 use Rattle.gix_refspec_plan.proofs.lemmas.plan.VerdictLemmas.{counted_contested, none_contested}
 use Rattle.gix_refspec_plan.proofs.verdicts.contested_of.Goals as goal
 

@@ -1,7 +1,5 @@
 -- the destinations of the sound mappings so far are counted
-use Rattle.std.proofs.Common.{map, take}
-use Rattle.gix_refspec_match.specs.Views.Mapping.{mapped_of}
-use Rattle.gix_refspec_plan.specs.Private.Verdicts.{CountDestinations}
+use Rattle.gix_refspec_plan.proofs.Common.{map, take, mapped_of, CountDestinations}
 use Rattle.gix_refspec_plan.proofs.verdicts.counts_of.Given as goal
 
 abbrev pub invariant-loop-mapping : goal.invariant-loop-mapping

@@ -1,10 +1,9 @@
 -- Each mapping has an update, with the verdict at its place.
-use Rattle.std.proofs.Common.{◌≡◌, length, map, arith, rules}
+use Rattle.gix_refspec_plan.proofs.Common.{◌≡◌, length, map, arith, rules, mapped_of, asked_of, length-map}
 use Rattle.std.proofs.lemmas.Iterator.Adapters.{YieldsList-from_vec}
 use Rattle.std.proofs.lemmas.Iterator.Consumers.{YieldsList-turn}
-use Rattle.gix_refspec_match.specs.Views.Mapping.{mapped_of}
-use Rattle.gix_refspec_plan.specs.Views.Plan.{asked_of}
-use Rattle.gix_refspec_plan.proofs.lemmas.plan.JudgeLemmas.{first_more, origin_at, spec_inside, verdicts_long}
+use Rattle.gix_refspec_plan.proofs.lemmas.plan.JudgeLemmas.{first_more, origin_at, spec_inside}
+use Rattle.gix_refspec_plan.proofs.lemmas.plan.NameLemmas.{zip_long}
 use Rattle.gix_refspec_plan.proofs.verdicts.first_updates.Goals as goal
 
 pub bounds-asked-mapping : goal.bounds-asked-mapping
@@ -14,10 +13,7 @@ bounds-asked-mapping c =
     spec_inside c.args.mappings.items (length c.loop-mapping.yielded) c.in-Some.mapping turn.0 turn.1 c.args.asked.now c.requires.mappings
 
 pub bounds-asked-mapping-in-Some : goal.bounds-asked-mapping-in-Some
-bounds-asked-mapping-in-Some c =
-    let turn = YieldsList-turn (YieldsList-from_vec {s = c.into_iter-mapping-iterator.result} c.args.mappings.items (search rules) (search rules))
-    c.loop-mapping.yielded c.loop-mapping.mapping-iterator c.loop-mapping.yielded_by c.next.result c.next.new.self c.in-Some.mapping c.in-Some.is c.next.ensures.steps in
-    spec_inside c.args.mappings.items (length c.loop-mapping.yielded) c.in-Some.mapping turn.0 turn.1 c.args.asked.now c.requires.mappings
+bounds-asked-mapping-in-Some c = bounds-asked-mapping c
 
 pub offset_bounds-asked-mapping : goal.offset_bounds-asked-mapping
 offset_bounds-asked-mapping c = let below = bounds-asked-mapping c in search rules
@@ -28,7 +24,7 @@ bounds-verdicts-len c =
     let updates = c.loop-mapping.updates in
     let turn = YieldsList-turn (YieldsList-from_vec {s = c.into_iter-mapping-iterator.result} c.args.mappings.items (search rules) (search rules))
     c.loop-mapping.yielded c.loop-mapping.mapping-iterator c.loop-mapping.yielded_by c.next.result c.next.new.self c.in-Some.mapping c.in-Some.is c.next.ensures.steps in
-    omega (arith, verdicts_long ms (map mapped_of ms) c.args.verdicts.now c.requires.verdicts, turn.0, c.loop-mapping.invariant.1, c.len-in-loop-mapping.ensures, updates.ok.0, updates.ok.1)
+    omega (arith, zip_long _ _ _ c.requires.verdicts, length-map ms mapped_of, turn.0, c.loop-mapping.invariant.1, c.len-in-loop-mapping.ensures, updates.ok.0, updates.ok.1)
 
 pub loop-mapping-preserved : goal.loop-mapping-preserved
 loop-mapping-preserved c =

@@ -1,6 +1,5 @@
 -- the updates of the mappings so far
-use Rattle.std.proofs.Common.{◌≡◌, length, map}
-use Rattle.gix_refspec_plan.specs.Views.Plan.{asked_of}
+use Rattle.gix_refspec_plan.proofs.Common.{◌≡◌, length, map, asked_of}
 use Rattle.gix_refspec_plan.proofs.lemmas.plan.JudgeLemmas.{AreSoMany}
 use Rattle.gix_refspec_plan.proofs.verdicts.first_updates.Given as goal
 

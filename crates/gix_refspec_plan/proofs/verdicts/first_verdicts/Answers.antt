@@ -1,6 +1,5 @@
 -- One more verdict, which nothing overrules.
-use Rattle.std.proofs.Common.{[], map, take_all, arith}
-use Rattle.gix_refspec_match.specs.Views.Mapping.{mapped_of}
+use Rattle.gix_refspec_plan.proofs.Common.{[], map, take_all, arith, mapped_of}
 use Rattle.gix_refspec_plan.proofs.lemmas.plan.JudgeLemmas.{has_mapping, none_counted, verdict_next}
 use Rattle.gix_refspec_plan.proofs.verdicts.first_verdicts.Goals as goal
 

@@ -1,8 +1,5 @@
 -- the verdicts on the mappings so far
-use Rattle.std.proofs.Common.{map, take}
-use Rattle.std.specs.List.{AllZip}
-use Rattle.gix_refspec_match.specs.Views.Mapping.{mapped_of}
-use Rattle.gix_refspec_plan.specs.Matching.Plan.{HasVerdict}
+use Rattle.gix_refspec_plan.proofs.Common.{map, take, AllZip, mapped_of, HasVerdict}
 use Rattle.gix_refspec_plan.proofs.verdicts.first_verdicts.Given as goal
 
 abbrev pub invariant-loop-mapping : goal.invariant-loop-mapping

@@ -1,12 +1,6 @@
 -- The lists are joined, to find which pairs of the second one are in the first, and split again.
-use Rattle.std.proofs.Common.{◌++◌, ◌≡◌, [], List, length, map, sym, ◌∙◌, subst, arith}
-use Rattle.std.proofs.lemmas.Bool.{eqb-true}
-use Rattle.std.proofs.lemmas.List.{nil_from_length}
-use Rattle.gix_refspec_match.specs.declared.types.Mapping.{Mapping}
-use Rattle.gix_refspec_match.specs.Views.Mapping.{mapped_of}
-use Rattle.gix_refspec_match.proofs.lemmas.duplicates.FlagLemmas.{ok_weaker}
-use Rattle.gix_refspec_plan.specs.Private.Verdicts.{AreFirst, AreMappings, AreVerdicts}
-use Rattle.gix_refspec_plan.specs.Views.Plan.{asked_of, planned_of}
+use Rattle.gix_refspec_plan.proofs.Common.{◌++◌, ◌≡◌, [], List, length, map, sym, ◌∙◌, subst, arith, eqb-true, nil_from_length, Mapping, mapped_of, ok_weaker, AreFirst, AreMappings, AreVerdicts}
+use Rattle.gix_refspec_plan.proofs.Common.{asked_of, planned_of}
 use Rattle.gix_refspec_plan.proofs.lemmas.plan.JudgeLemmas.{front_again, judged_alone, judged_of, known_of, split_again}
 use Rattle.gix_refspec_plan.proofs.verdicts.judged.Goals as goal
 
@@ -27,21 +21,14 @@ second_updates-requires-clause-repeated c =
     let at : c.len-firsts_len.result ≡ length xs = omega (arith, c.len-firsts_len.ensures, c.args.firsts.ok.0, c.args.firsts.ok.1) in
     known_of xs ys _ _ c.as_slice-2.result.now _ _ (split_again xs ys c.as_slice-3.result.now _ _ _ whole at c.split_at.ensures.front c.split_at.ensures.back) (c.as_slice-2.ensures.value ∙ c.in_ok-append.ensures.items) c.as_slice-6.ensures.value c.requires.seconds.apart c.in_ok-repeated.ensures.ok
 
-pub first_updates-requires-2-clause-mappings : goal.first_updates-requires-2-clause-mappings
-first_updates-requires-2-clause-mappings c =
+pub first_updates-requires-2 : goal.first_updates-requires-2
+first_updates-requires-2 c =
     let xs = c.args.firsts.items in
-    let ys = c.args.tracked.mappings.items in
     let at : c.len-firsts_len.result ≡ length xs = omega (arith, c.len-firsts_len.ensures, c.args.firsts.ok.0, c.args.firsts.ok.1) in
-    let back : c.truncate.new.self.items ≡ xs = front_again xs ys _ _ _ c.in_ok-append.ensures.items at c.truncate.ensures.items in
-    subst (λ (l : List Mapping). AreMappings (map asked_of c.args.asked.now) (map mapped_of l)) (sym back) c.requires.firsts
-
-pub first_updates-requires-2-clause-verdicts : goal.first_updates-requires-2-clause-verdicts
-first_updates-requires-2-clause-verdicts c =
-    let xs = c.args.firsts.items in
-    let ys = c.args.tracked.mappings.items in
-    let at : c.len-firsts_len.result ≡ length xs = omega (arith, c.len-firsts_len.ensures, c.args.firsts.ok.0, c.args.firsts.ok.1) in
-    let back : c.truncate.new.self.items ≡ xs = front_again xs ys _ _ _ c.in_ok-append.ensures.items at c.truncate.ensures.items in
-    subst (λ (l : List Mapping). AreVerdicts (map mapped_of l) c.as_slice-7.result.now) (sym back) (rw (c.as_slice-7.ensures.value, ← c.as_slice.ensures.value) c.in_ok-verdicts.ensures)
+    let back : c.truncate.new.self.items ≡ xs = front_again xs c.args.tracked.mappings.items _ _ _ c.in_ok-append.ensures.items at c.truncate.ensures.items in record {
+      mappings = subst (λ (l : List Mapping). AreMappings (map asked_of c.args.asked.now) (map mapped_of l)) (sym back) c.requires.firsts;
+      verdicts = subst (λ (l : List Mapping). AreVerdicts (map mapped_of l) c.as_slice-7.result.now) (sym back) (rw (c.as_slice-7.ensures.value, ← c.as_slice.ensures.value) c.in_ok-verdicts.ensures);
+    }
 
 pub returns : goal.returns
 returns c =

@@ -1,10 +1,7 @@
 -- A mapping that is new has an update.
-use Rattle.std.proofs.Common.{length, map, take_all, arith, rules, ◌+◌}
-use Rattle.gix_refspec_match.specs.Views.Mapping.{mapped_of}
-use Rattle.gix_refspec_plan.specs.Views.Plan.{asked_of}
+use Rattle.gix_refspec_plan.proofs.Common.{length, map, take_all, arith, rules, ◌+◌, mapped_of, asked_of}
 use Rattle.gix_refspec_plan.proofs.lemmas.plan.JudgeLemmas.{has_mapping, known_here, origin_at, planned_copy, second_next, second_same, spec_inside}
 use Rattle.gix_refspec_plan.proofs.verdicts.second_updates.Goals as goal
-use Rattle.gix_refspec_plan.proofs.verdicts.second_updates.Goals.{then-is_new+in_ok-copy+in_ok-update_of+in_ok-push, else-is_new}
 
 pub contested_of-requires : goal.contested_of-requires
 contested_of-requires c = c.requires.mappings.apart
@@ -27,13 +24,13 @@ loop-index-preserved c =
     let m = c.index-mappings-index.result in
     let known = known_here ms i m c.loop-index-test.true c.index-mappings-index.is xs c.args.repeated.now c.requires.repeated in
     elim c.if-is_new.branch [
-      | then-is_new+in_ok-copy+in_ok-update_of+in_ok-push w ↦ rw w.updates-is
+      | goal.then-is_new+in_ok-copy+in_ok-update_of+in_ok-push w ↦ rw w.updates-is
           (second_next ms i m c.loop-index.updates.items c.loop-index-test.true c.index-mappings-index.is (map asked_of specs) c.args.indexes.now (map mapped_of xs) (map mapped_of ms) c.loop-index.invariant
           c.args.repeated.now (length xs + i) known c.is_new.result c.is_new.ensures _ _ _ _ _ w.if-is_new.true w.index_among_all-item_index.ensures
           (origin_at specs (mapped_of m) w.index-specs-mapping.result (spec_inside ms i m c.loop-index-test.true c.index-mappings-index.is specs c.requires.mappings))
           (w.verdict_on-verdict.ensures (map mapped_of xs) (map mapped_of ms) c.requires.winning c.in_ok-contested.ensures c.requires.mappings.apart (has_mapping ms i m c.loop-index-test.true c.index-mappings-index.is))
           (planned_copy m w.in_ok-copy.copy _ _ _ _ w.in_ok-copy.ensures.keeps w.in_ok-update_of.ensures) w.in_ok-push.ensures.items)
-      | else-is_new w ↦ rw w.updates-is
+      | goal.else-is_new w ↦ rw w.updates-is
           (second_same ms i m c.loop-index.updates.items c.loop-index-test.true c.index-mappings-index.is (map asked_of specs) c.args.indexes.now (map mapped_of xs) (map mapped_of ms) c.loop-index.invariant
           c.args.repeated.now (length xs + i) known c.is_new.result c.is_new.ensures w.if-is_new.false)
     ]

@@ -1,9 +1,5 @@
 -- the updates of the mappings so far
-use Rattle.std.proofs.Common.{map, take}
-use Rattle.gix_refspec_match.specs.Views.Mapping.{mapped_of}
-use Rattle.gix_refspec_match.specs.Matching.Lists.{IsMadeFrom}
-use Rattle.gix_refspec_plan.specs.Matching.Plan.{IsPlannedBesides}
-use Rattle.gix_refspec_plan.specs.Views.Plan.{asked_of, planned_of}
+use Rattle.gix_refspec_plan.proofs.Common.{map, take, mapped_of, IsMadeFrom, IsPlannedBesides, asked_of, planned_of}
 use Rattle.gix_refspec_plan.proofs.verdicts.second_updates.Given as goal
 
 abbrev pub invariant-loop-index : goal.invariant-loop-index

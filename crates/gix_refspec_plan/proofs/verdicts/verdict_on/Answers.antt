@@ -1,6 +1,5 @@
 -- The destination is looked up among those that win, and among those of the same list.
-use Rattle.std.proofs.Common.{◌≡◌, Bool, Option, Some, option_map, unwrap_or, sym, ap, ◌∙◌, false, true}
-use Rattle.gix_refspec_match.specs.Views.Mapping.{mapped_of, name_bytes}
+use Rattle.gix_refspec_plan.proofs.Common.{◌≡◌, Bool, Option, Some, option_map, unwrap_or, sym, ap, ◌∙◌, false, true, mapped_of, name_bytes}
 use Rattle.gix_refspec_plan.proofs.lemmas.plan.VerdictLemmas.{count_at, is_contested, is_taken, not_contested, not_taken}
 use Rattle.gix_refspec_plan.proofs.verdicts.verdict_on.Goals as goal
 

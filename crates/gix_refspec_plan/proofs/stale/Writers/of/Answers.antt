@@ -1,15 +1,10 @@
 -- One more spec.
-use Rattle.std.proofs.Common.{option_map, map, refl, sym, take, take_all, arith}
-use Rattle.bstr.specs.Owned.{bstring_bytes}
-use Rattle.std.proofs.lemmas.List.{length-map}
-use Rattle.gix_refspec_text.specs.Views.Spec.{reading_of}
+use Rattle.gix_refspec_plan.proofs.Common.{option_map, map, refl, sym, take, take_all, arith, bstring_bytes, length-map, reading_of, IsWrittenBy}
 use Rattle.gix_refspec_text.proofs.lemmas.lists.MapLemmas.{map_next}
-use Rattle.gix_refspec_plan.specs.Private.Stales.{IsWrittenBy}
 use Rattle.gix_refspec_plan.proofs.lemmas.plan.NameLemmas.{zip_long, zip_mapped_at}
 use Rattle.gix_refspec_plan.proofs.lemmas.stale.StateLemmas.{all_accepted}
 use Rattle.gix_refspec_plan.proofs.lemmas.stale.WriterLemmas.{none_written, writers_next}
 use Rattle.gix_refspec_plan.proofs.stale.Writers.of.Goals as goal
-use Rattle.gix_refspec_plan.proofs.stale.Writers.of.Goals.{in-Some+in_ok-add_name-in-Some, in-None+in_ok-add_pattern-in-None}
 
 pub loop-index-init : goal.loop-index-init
 loop-index-init c = (c.in_ok-of.ensures.names, c.in_ok-of.ensures.indexes, none_written c.in_ok-of.field-0 _ refl c.new.ensures.len c.new-2.ensures.items)
@@ -26,9 +21,9 @@ loop-index-preserved c =
     let n = c.index-names-index.result in
     let written = zip_mapped_at IsWrittenBy reading_of (option_map bstring_bytes) specs c.args.names.now i s n c.requires c.loop-index-test.true c.index-specs-index.is c.index-names-index.is in
     rw (map_next reading_of specs i s c.loop-index-test.true c.index-specs-index.is) (elim c.match-names-index.branch [
-      | in-Some+in_ok-add_name-in-Some w ↦ rw w.writers-is (writers_next (map reading_of specs) (map reading_of (take i specs)) _ c.loop-index.writers w.add_name.new.self c.loop-index.invariant
+      | goal.in-Some+in_ok-add_name-in-Some w ↦ rw w.writers-is (writers_next (map reading_of specs) (map reading_of (take i specs)) _ c.loop-index.writers w.add_name.new.self c.loop-index.invariant
           (w.in_ok-add_name-in-Some.ensures (map reading_of (take i specs)) c.loop-index.writers.exclusions (rw (w.in-Some.is, sym w.as_bstr.ensures) at written)))
-      | in-None+in_ok-add_pattern-in-None w ↦ rw w.writers-is (writers_next (map reading_of specs) (map reading_of (take i specs)) _ c.loop-index.writers w.add_pattern.new.self c.loop-index.invariant
+      | goal.in-None+in_ok-add_pattern-in-None w ↦ rw w.writers-is (writers_next (map reading_of specs) (map reading_of (take i specs)) _ c.loop-index.writers w.add_pattern.new.self c.loop-index.invariant
           (w.in_ok-add_pattern-in-None.ensures (map reading_of (take i specs)) c.loop-index.writers.exclusions (rw w.in-None.is at written)))
     ])
 

@@ -1,6 +1,5 @@
 -- what the specs so far write
-use Rattle.std.proofs.Common.{map, take}
-use Rattle.gix_refspec_text.specs.Views.Spec.{reading_of}
+use Rattle.gix_refspec_plan.proofs.Common.{map, take, reading_of}
 use Rattle.gix_refspec_plan.proofs.lemmas.stale.WriterLemmas.{AreWritersSoFar}
 use Rattle.gix_refspec_plan.proofs.stale.Writers.of.Given as goal
 

@@ -1,10 +1,7 @@
 -- One more pattern.
-use Rattle.std.proofs.Common.{Some, sym, ap, ◌∙◌, subst, take_all}
-use Rattle.bstr.specs.BStr.{bstr_bytes}
-use Rattle.gix_refspec_plan.specs.Private.Stales.{HasNameState}
+use Rattle.gix_refspec_plan.proofs.Common.{Some, sym, ap, ◌∙◌, subst, take_all, bstr_bytes, HasNameState}
 use Rattle.gix_refspec_plan.proofs.lemmas.stale.PatternLemmas.{all_among, among_name, among_none, name_excluded, next_excluded, next_fit, next_unfit}
 use Rattle.gix_refspec_plan.proofs.stale.Writers.state_of.Goals as goal
-use Rattle.gix_refspec_plan.proofs.stale.Writers.state_of.Goals.{in-None, in-Some-None, in-Unwritable, in-Included}
 
 pub returns-in-Some-Some : goal.returns-in-Some-Some
 returns-in-Some-Some c g are =
@@ -23,8 +20,8 @@ loop-pattern-init c g are =
     let n = bstr_bytes c.args.name in
     let w = c.args.self.now in
     elim c.match-get.branch [
-      | in-None v ↦ rw v.state-is (among_none g are.accepted w.exclusions w.patterns.items are.are.patterns n (subst (HasNameState w.exclusions g n) (sym v.in-None.ensures.value) (are.are.names n)))
-      | in-Some-None v ↦ rw v.state-is (among_name g are.accepted w.exclusions w.patterns.items are.are.patterns n
+      | goal.in-None v ↦ rw v.state-is (among_none g are.accepted w.exclusions w.patterns.items are.are.patterns n (subst (HasNameState w.exclusions g n) (sym v.in-None.ensures.value) (are.are.names n)))
+      | goal.in-Some-None v ↦ rw v.state-is (among_name g are.accepted w.exclusions w.patterns.items are.are.patterns n
           (subst (HasNameState w.exclusions g n) (sym v.in-Some-None.ensures.value ∙ ap Some v.in-Some-None.field-0-is) (are.are.names n)))
     ]
 
@@ -35,9 +32,9 @@ loop-pattern-preserved c g are =
     let ps = c.deref-pattern-items.result.now in
     let i = c.loop-pattern.pattern-index in
     elim c.match-branch-2.branch [
-      | in-Unwritable w ↦ rw w.state-is (next_unfit g are.accepted es ps (rw c.deref-pattern-items.ensures.value are.are.patterns) n i _ c.loop-pattern-test.true c.loop-pattern.state (c.loop-pattern.invariant g are)
+      | goal.in-Unwritable w ↦ rw w.state-is (next_unfit g are.accepted es ps (rw c.deref-pattern-items.ensures.value are.are.patterns) n i _ c.loop-pattern-test.true c.loop-pattern.state (c.loop-pattern.invariant g are)
           (rw (c.as_bytes.ensures, w.in-Unwritable.is) at c.in_ok-pattern_state.ensures))
-      | in-Included w ↦ rw w.state-is (next_fit g are.accepted es ps (rw c.deref-pattern-items.ensures.value are.are.patterns) n i _ c.loop-pattern-test.true c.loop-pattern.state (c.loop-pattern.invariant g are)
+      | goal.in-Included w ↦ rw w.state-is (next_fit g are.accepted es ps (rw c.deref-pattern-items.ensures.value are.are.patterns) n i _ c.loop-pattern-test.true c.loop-pattern.state (c.loop-pattern.invariant g are)
           (rw (c.as_bytes.ensures, w.in-Included.is) at c.in_ok-pattern_state.ensures))
     ]
 

@@ -1,8 +1,5 @@
 -- what the names and the patterns so far say
-use Rattle.std.proofs.Common.{List, take}
-use Rattle.bstr.specs.BStr.{bstr_bytes}
-use Rattle.gix_refspec_text.specs.Specs.Reading.{Reading}
-use Rattle.gix_refspec_plan.specs.Private.Stales.{AreWritersOf}
+use Rattle.gix_refspec_plan.proofs.Common.{List, take, bstr_bytes, Reading, AreWritersOf}
 use Rattle.gix_refspec_plan.proofs.lemmas.stale.PatternLemmas.{HasStateAmong}
 use Rattle.gix_refspec_plan.proofs.stale.Writers.state_of.Given as goal
 
