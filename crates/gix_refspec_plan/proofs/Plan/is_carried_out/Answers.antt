@@ -3,16 +3,13 @@ use Rattle.gix_refspec_plan.proofs.Common.{◌≡◌, ◌≢◌, [], map, refl, 
 use Rattle.gix_refspec_plan.proofs.Common.{Planned, planned_of, each_mapped, InConflict}
 use Rattle.gix_refspec_plan.proofs.Plan.is_carried_out.Goals as goal
 
--- the update, or what is planned, isn't in conflict
-abbrev IsFree : Update → Type 0
-IsFree u = u.verdict ≢ InConflict
-
+-- what is planned isn't in conflict
 abbrev IsPlannedFree : Planned → Type 0
 IsPlannedFree p = p.verdict ≢ InConflict
 
 pub loop-update-preserved : goal.loop-update-preserved
 loop-update-preserved c =
-    All-more IsFree c.deref-update-items.result.now c.loop-update.update-index c.update-item.result c.loop-update-test.true c.loop-update.invariant (subst IsFree c.update-item.is c.in_default.not-InConflict)
+    All-more (λ u. u.verdict ≢ InConflict) c.deref-update-items.result.now c.loop-update.update-index c.update-item.result c.loop-update-test.true c.loop-update.invariant (subst (λ (u : Update). u.verdict ≢ InConflict) c.update-item.is c.in_default.not-InConflict)
 
 pub returns-in-InConflict : goal.returns-in-InConflict
 returns-in-InConflict c = (

@@ -181,19 +181,4 @@ known_of xs ys fs bs all flags given (first, second) whole same apart flagged =
 -- the plan from its parts
 pub plan_of : (wish : Wish) (refs : List Ref) (asked : List Asked) (firsts : List Mapped) (tracking : List Asked) (indexes : List ℕ) (seconds : List Mapped) (planned : List Planned) (missing : List Origin)
     → AreAsked wish refs asked → AreMapped asked refs firsts → IsTracked wish refs tracking indexes seconds → AreJudged asked firsts tracking indexes seconds planned → AreLacking refs asked missing → IsPlan wish refs planned missing
-plan_of wish refs asked firsts tracking indexes seconds planned missing are_asked are_firsts are_seconds judged lacks = record {
-  asked = asked;
-  firsts = firsts;
-  tracking = tracking;
-  indexes = indexes;
-  seconds = seconds;
-  before = judged.before;
-  behind = judged.behind;
-  are_asked = are_asked;
-  are_firsts = are_firsts;
-  are_seconds = are_seconds;
-  are_before = judged.are_before;
-  are_behind = judged.are_behind;
-  all = judged.all;
-  lacks = lacks;
-}
+plan_of wish refs asked firsts tracking indexes seconds planned missing are_asked are_firsts are_seconds judged lacks = search rules

@@ -86,20 +86,19 @@ module _ (wish : Wish) (refs : List Ref) (planned : List Planned) (missing : Lis
   first_in_conflict : (n : Mapped) → Contains plan.firsts n → IsSound n → IsContested plan.firsts n
       → (q : Planned) × Contains planned q × ((q.verdict ≡ InConflict) × (q.source ≡ n.source) × (q.destination ≡ n.destination))
   first_in_conflict n has sound contested =
-      let (o, from) = origin_of plan.asked n (spec_in n has) in
+      let fit = All-from_recursion (λ (x : Mapped). x.spec < length plan.asked) plan.firsts (mappings_of plan.asked refs plan.firsts plan.are_firsts).fit in
+      let (o, from) = origin_of plan.asked n (All-contains (λ (x : Mapped). x.spec < length plan.asked) plan.firsts n fit has) in
       let (q, inside, is) = made_has (λ k m p. IsPlanned plan.asked plan.firsts m p) (λ q. (q.verdict ≡ InConflict) × (q.source ≡ n.source) × (q.destination ≡ n.destination)) 0 plan.firsts plan.before n plan.are_before has
       (λ j. (record { source = n.source; item = n.item; destination = n.destination; origin = o; verdict = InConflict }, record { source = refl; item = refl; destination = refl; origin = from; verdict = (sound, contested) }))
       (λ j z of_z. (conflict_of plan.firsts n z.verdict sound contested of_z.verdict, of_z.source, of_z.destination)) in
       (q, subst (λ (l : List Planned). Contains l q) (sym plan.all) (Contains-append_left plan.before plan.behind q inside), is)
-    where
-      spec_in : (n : Mapped) → Contains plan.firsts n → n.spec < length plan.asked
-      spec_in n = All-contains (λ x. x.spec < length plan.asked) plan.firsts n (All-from_recursion (λ x. x.spec < length plan.asked) plan.firsts (mappings_of plan.asked refs plan.firsts plan.are_firsts).fit)
 
   -- so has one of the second list, unless it is overruled
   second_in_conflict : (n : Mapped) (d : List ℕ) → Contains plan.seconds n → IsSound n → n.destination ≡ Some d → ¬ (IsTakenOver plan.firsts n) → IsContested plan.seconds n
       → (q : Planned) × Contains planned q × ((q.verdict ≡ InConflict) × (q.source ≡ n.source) × (q.destination ≡ n.destination))
   second_in_conflict n d has sound to free contested =
-      let (o, from) = origin_of plan.tracking n (spec_in n has) in
+      let fit = All-from_recursion (λ (x : Mapped). x.spec < length plan.tracking) plan.seconds (tracked_mappings wish refs plan.tracking plan.indexes plan.seconds plan.are_seconds).fit in
+      let (o, from) = origin_of plan.tracking n (All-contains (λ (x : Mapped). x.spec < length plan.tracking) plan.seconds n fit has) in
       let (item, among) = item_of plan.indexes n.item in
       let (q, inside, is) = made_has (λ k m p. IsPlannedBesides plan.tracking plan.indexes plan.firsts plan.seconds m p) (λ q. (q.verdict ≡ InConflict) × (q.source ≡ n.source) × (q.destination ≡ n.destination)) 0 plan.seconds plan.behind n plan.are_behind has
       (λ j. (
@@ -109,9 +108,6 @@ module _ (wish : Wish) (refs : List Ref) (planned : List Planned) (missing : Lis
       (λ j z of_z. (second_conflict_of plan.firsts plan.seconds n z.verdict sound free contested of_z.verdict, of_z.source, of_z.destination)) in
       (q, subst (λ (l : List Planned). Contains l q) (sym plan.all) (Contains-append_right plan.before plan.behind q inside), is)
     where
-      spec_in : (n : Mapped) → Contains plan.seconds n → n.spec < length plan.tracking
-      spec_in n = All-contains (λ x. x.spec < length plan.tracking) plan.seconds n (All-from_recursion (λ x. x.spec < length plan.tracking) plan.seconds (tracked_mappings wish refs plan.tracking plan.indexes plan.seconds plan.are_seconds).fit)
-
       unpaired : ¬ (HasPair plan.firsts n)
       unpaired pair = let (x, inside, same) = pair_in plan.firsts n pair in free (x, inside, sound_pair x n same sound, (d, to, same.destination ∙ to))
 

@@ -4,7 +4,7 @@ use Rattle.gix_refspec_plan.proofs.Common.{nat_eq, refl, sym, ap, ◌∙◌, sub
 use Rattle.gix_refspec_plan.proofs.Common.{IsAccepted, IsPositive, SideKind, pattern, full_name, object, partial, HasKind, IsCandidate, filled, written_name_of, Ref, HasName, Matches, MatchesAs}
 use Rattle.gix_refspec_plan.proofs.Common.{IsFirstCandidate, Takes, all_join, Lacks-here, Lacks-ContainsText, Source, name, id, Mapped, HasPair, IsSamePair, IsExcluded, IsSourceExcluded}
 use Rattle.gix_refspec_plan.proofs.Common.{AreKeptForward, IsFilled, matches_as, one_forward, one_kind, IsCompleted, CanWriteFrom, CanWriteObject, IsFetched, IsSourceOf, IsWritableFromObject}
-use Rattle.gix_refspec_plan.proofs.Common.{ref_named, AreMappedBy, HasDestination, sides_agree, All-contains, All-from_recursion}
+use Rattle.gix_refspec_plan.proofs.Common.{ref_named, AreMappedBy, HasDestination, sides_agree, All-contains, All-from_recursion, CanWrite}
 use Rattle.std.proofs.lemmas.Bool.Decides.{Decides-eqb}
 use Rattle.gix_refspec_text.specs.declared.oid.Kind.{Kind}
 use Rattle.gix_refspec_text.specs.declared.oid.Kind.TheVariants.{Sha1, Sha256}
@@ -178,21 +178,19 @@ module _ (r c : Reading) (accepted : ∥ IsAccepted r ∥₁) (done : IsComplete
       let (e, was, shape) = completed_side r.destination c.destination d done.destination destination in
       elim shape [ inl (has_e, has) ↦ inl has | inr (lacks, lacks_d, begins) ↦ inr begins ]
 
+  -- the spec can write what its completed destination matches
+  completed_writes : (d n : List ℕ) (word : Option (List ℕ)) → IsPositive c.mode → c.destination ≡ Some d → Matches d (ref_named n) word → CanWrite r n word
+  completed_writes d n word positive has matches = record { positive = subst IsPositive done.mode positive; completed = c; is = done; destination = d; has = has; matches = matches }
+
   -- a pair that the spec makes is one that it can write
   pair_writes : (items : List Ref) (s n : List ℕ) → MakesForward items (name s) (Some n) c → CanWriteFrom r n s
   pair_writes items s n makes =
       let (k, item, below, is, paired) = makes.one in
       let (d, far, becomes) = far_there makes.ends.far paired.word n paired.becomes in
+      let has : c.destination ≡ Some d = makes.has.far ∙ far in
       record {
         word = paired.word;
-        writes = record {
-          positive = subst IsPositive done.mode makes.has.positive;
-          completed = c;
-          is = done;
-          destination = d;
-          has = makes.has.far ∙ far;
-          matches = filled_matches makes.ends.near d item paired.word n (sides_alike makes.ends.near d makes.has.near (makes.has.far ∙ far)) paired.takes.matches becomes;
-        };
+        writes = completed_writes d n paired.word makes.has.positive has (filled_matches makes.ends.near d item paired.word n (sides_alike makes.ends.near d makes.has.near has) paired.takes.matches becomes);
         source = makes.ends.near;
         is = sym done.source ∙ makes.has.near;
         matches = match_named makes.ends.near item (ref_named s) paired.word paired.name (λ bytes kind. absurd (makes.has.no_object bytes kind)) paired.takes.matches;
@@ -201,15 +199,9 @@ module _ (r c : Reading) (accepted : ∥ IsAccepted r ∥₁) (done : IsComplete
   object_writes : (bytes n : List ℕ) → PairsId bytes (Some n) c → CanWriteObject r n
   object_writes bytes n makes =
       let (d, far, becomes) = far_there c.destination None n makes.becomes in
+      let matches : Matches makes.text (record { name = []; target = bytes; object = None }) None = record { kind = object bytes; of = makes.object; is = (refl, inl refl) } in
       record {
-        writes = record {
-          positive = subst IsPositive done.mode makes.positive;
-          completed = c;
-          is = done;
-          destination = d;
-          has = far;
-          matches = filled_matches makes.text d (record { name = []; target = bytes; object = None }) None n (sides_alike makes.text d makes.side far) (record { kind = object bytes; of = makes.object; is = (refl, inl refl) }) becomes;
-        };
+        writes = completed_writes d n None makes.positive far (filled_matches makes.text d (record { name = []; target = bytes; object = None }) None n (sides_alike makes.text d makes.side far) matches becomes);
         source = makes.text;
         is = sym done.source ∙ makes.side;
         bytes = bytes;
@@ -293,13 +285,10 @@ module _ (g : List Reading) (remote : List Ref) (mapped : List Mapped) (accepted
       let (m, inside, same) = pair_in mapped _ (((kept_exactly by.completed remote).forward mapped by.kept (record { item = None; source = start; destination = Some n; spec = 0 })).1 (any, included)) in
       (m, inside, same.destination)
 
-  completed_any : (P : Reading → Type 0) (r : Reading) → Contains g r → ((c : Reading) → IsCompleted r c → P c) → Any P by.completed
-  completed_any P r at holds = zip_there IsCompleted g by.completed P r by.are at holds
-
   -- an object is always written
   pub object_written : (n : List ℕ) → IsWritableFromObject g n → HasDestination mapped n
   object_written n (r, at, w) =
-      kept_destination (id w.bytes) n (completed_any (MakesForward remote (id w.bytes) (Some n)) r at (λ c done. object_makes r c (accepted_in g r accepted at) done n w)) (λ none. none)
+      kept_destination (id w.bytes) n (zip_there IsCompleted g by.completed (MakesForward remote (id w.bytes) (Some n)) r by.are at (λ c done. object_makes r c (accepted_in g r accepted at) done n w)) (λ none. none)
 
   -- and so is what could be written from a ref of the remote, where none is excluded from which it could be
   pub present_written : (n s : List ℕ) → IsSourceOf g n s → HasName remote s → ((t : List ℕ) → IsSourceOf g n t → ¬ (IsExcluded g t)) → HasDestination mapped n

@@ -15,9 +15,6 @@ pub side_cases : (side : Option (List ℕ)) → (side ≡ None) ⊎ ((x : List �
 side_cases None = inl refl
 side_cases (Some x) = inr (x, refl)
 
-split_star : (before after x : List ℕ) → IsSplit before after x → HasStar x
-split_star before after x split = record { before = before; after = after; here = split.starred }
-
 -- ---- patterns that specs write by
 
 -- an accepted reading writes by the pattern of its destination
@@ -52,7 +49,7 @@ pub pattern_writes : (r : Reading) (p : Pattern) (n word : List ℕ) → WritesP
 pattern_writes r p n word by fits = record {
   positive = by.positive;
   completed = r;
-  is = record { operation = refl; mode = refl; source = refl; destination = star_completed r.destination by.destination by.has (split_star p.before.now p.after.now by.destination by.split) };
+  is = record { operation = refl; mode = refl; source = refl; destination = star_completed r.destination by.destination by.has (record { before = p.before.now; after = p.after.now; here = by.split.starred }) };
   destination = by.destination;
   has = by.has;
   matches = record { kind = pattern p.before.now p.after.now; of = by.split; is = fits };

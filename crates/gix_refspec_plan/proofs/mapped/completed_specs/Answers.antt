@@ -1,5 +1,5 @@
 -- Each spec gets the destination at its index.
-use Rattle.gix_refspec_plan.proofs.Common.{take_all, arith, length-map, reading_of, option_map, bstring_bytes, IsCompleted}
+use Rattle.gix_refspec_plan.proofs.Common.{arith, length-map, reading_of, option_map, bstring_bytes, IsCompleted}
 use Rattle.gix_refspec_plan.proofs.lemmas.plan.NameLemmas.{zip_long, zip_mapped_at, zip_next}
 use Rattle.gix_refspec_plan.proofs.mapped.completed_specs.Goals as goal
 
@@ -11,6 +11,3 @@ completed_spec-requires c = zip_mapped_at _ reading_of (option_map bstring_bytes
 
 pub loop-index-preserved : goal.loop-index-preserved
 loop-index-preserved c = zip_next IsCompleted reading_of reading_of c.args.specs.now c.loop-index.index c.index-specs-index.result _ _ _ c.loop-index-test.true c.index-specs-index.is c.loop-index.invariant c.in_ok-completed_spec.ensures c.in_ok-push.ensures.items
-
-pub returns : goal.returns
-returns c = rw (take_all c.loop-index.index c.args.specs.now (omega arith)) at c.loop-index.invariant

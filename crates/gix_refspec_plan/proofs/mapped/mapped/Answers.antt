@@ -1,10 +1,6 @@
 -- The specs are completed without where they come from.
-use Rattle.gix_refspec_plan.proofs.Common.{List, map, option_map, ap, sym, ◌∙◌, subst, AllZip, bstring_bytes, Reading, reading_of, ok_weaker, IsCompleted, AreNewDestinations}
+use Rattle.gix_refspec_plan.proofs.Common.{List, map, ap, ◌∙◌, subst, AllZip, Reading, reading_of, ok_weaker, IsCompleted}
 use Rattle.gix_refspec_plan.proofs.mapped.mapped.Goals as goal
-
-pub mapped_by_specs-requires : goal.mapped_by_specs-requires
-mapped_by_specs-requires c =
-    subst (λ (g : List Reading). AreNewDestinations g (map (option_map bstring_bytes) c.args.names.now)) (sym (ap (map reading_of) c.as_slice.ensures.value ∙ c.in_ok-specs.ensures)) c.requires
 
 pub returns : goal.returns
 returns c = ok_weaker c.mapped_by_specs.result _ _ (λ all by. record {

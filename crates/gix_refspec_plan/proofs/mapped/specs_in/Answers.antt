@@ -1,10 +1,6 @@
 -- One more spec.
-use Rattle.gix_refspec_plan.proofs.Common.{take_all, arith}
 use Rattle.gix_refspec_plan.proofs.lemmas.plan.LackingLemmas.{readings_next}
 use Rattle.gix_refspec_plan.proofs.mapped.specs_in.Goals as goal
 
 pub loop-one-preserved : goal.loop-one-preserved
 loop-one-preserved c = readings_next c.args.asked.now c.loop-one.one-index c.one-item.result c.loop-one.specs.items _ c.loop-one-test.true c.one-item.is c.loop-one.invariant c.in_ok-push.ensures.items
-
-pub returns : goal.returns
-returns c = rw (take_all c.loop-one.one-index c.args.asked.now (omega arith)) at c.loop-one.invariant

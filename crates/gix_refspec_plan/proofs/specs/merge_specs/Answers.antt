@@ -1,5 +1,5 @@
 -- A merged ref that isn't flagged is asked for, if it is a ref name.
-use Rattle.gix_refspec_plan.proofs.Common.{[], sym, ◌∙◌, inl, inr, subst, take_all, arith, false≢true, BStr, IsRefName, name_of_ref, bstr_bytes, asked_of, slice_index_or, get_or_default, Merge}
+use Rattle.gix_refspec_plan.proofs.Common.{[], sym, ◌∙◌, inl, inr, subst, false≢true, BStr, IsRefName, name_of_ref, bstr_bytes, asked_of, slice_index_or, get_or_default, Merge}
 use Rattle.gix_refspec_plan.proofs.lemmas.plan.SpecLemmas.{merge_flag}
 use Rattle.gix_refspec_plan.proofs.lemmas.plan.MadeLemmas.{made_one, made_none}
 use Rattle.gix_refspec_plan.proofs.specs.merge_specs.Goals as goal
@@ -29,6 +29,3 @@ loop-index-preserved c =
         | goal.else-not-is_flagged-via-else-not-is_flagged v ↦ elim (told.0 (flag.0 v.if-not-is_flagged.false)) [ inl covers ↦ uncovered covers | inr before ↦ new before ]
       ]))
     ]
-
-pub returns : goal.returns
-returns c = rw (take_all c.loop-index.index c.args.merges.now (omega arith)) at c.loop-index.invariant

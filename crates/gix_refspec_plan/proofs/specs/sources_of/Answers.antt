@@ -1,5 +1,5 @@
 -- A sound mapping of a ref adds its name.
-use Rattle.gix_refspec_plan.proofs.Common.{take_all, arith, mapped_of, bstr_bytes, start_of, ap, name, sym, ◌∙◌, false≢true}
+use Rattle.gix_refspec_plan.proofs.Common.{mapped_of, bstr_bytes, start_of, ap, name, sym, ◌∙◌, false≢true}
 use Rattle.gix_refspec_plan.proofs.lemmas.plan.SpecLemmas.{not_named}
 use Rattle.gix_refspec_plan.proofs.lemmas.plan.MadeLemmas.{made_one, made_none}
 use Rattle.gix_refspec_plan.proofs.specs.sources_of.Goals as goal
@@ -17,6 +17,3 @@ loop-mapping-preserved c =
       | goal.in_default w ↦ rw w.names-is
           (made_none _ mapped_of bstr_bytes ms i m _ c.loop-mapping-test.true c.mapping-item.is c.loop-mapping.invariant (λ n both. not_named m.lhs w.in_default.not-FullName n both.1))
     ]
-
-pub returns : goal.returns
-returns c = rw (take_all c.loop-mapping.mapping-index c.args.mappings.now (omega arith)) at c.loop-mapping.invariant

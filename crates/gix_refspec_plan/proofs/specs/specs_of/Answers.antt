@@ -1,5 +1,5 @@
 -- One more spec, if it is in the part.
-use Rattle.gix_refspec_plan.proofs.Common.{take_all, arith, reading_of, asked_of}
+use Rattle.gix_refspec_plan.proofs.Common.{reading_of, asked_of}
 use Rattle.gix_refspec_plan.proofs.lemmas.plan.MadeLemmas.{made_one, made_none}
 use Rattle.gix_refspec_plan.proofs.specs.specs_of.Goals as goal
 
@@ -14,6 +14,3 @@ loop-index-preserved c =
       | goal.else-has w ↦ rw w.asked-is
           (made_none _ reading_of asked_of specs i s _ c.loop-index-test.true c.index-specs-index.is c.loop-index.invariant (λ a both. (rw w.if-has.false at c.has.ensures) both.1))
     ]
-
-pub returns : goal.returns
-returns c = rw (take_all c.loop-index.index c.args.specs.now (omega arith)) at c.loop-index.invariant

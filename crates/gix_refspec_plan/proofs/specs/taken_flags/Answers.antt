@@ -1,5 +1,5 @@
 -- A sound mapping of an item flags it.
-use Rattle.gix_refspec_plan.proofs.Common.{sym, ◌∙◌, take_all, arith, false≢true}
+use Rattle.gix_refspec_plan.proofs.Common.{sym, ◌∙◌, arith, false≢true}
 use Rattle.gix_refspec_plan.proofs.lemmas.plan.TakenLemmas.{none_taken, some_apart, taken_here, taken_same}
 use Rattle.gix_refspec_plan.proofs.specs.taken_flags.Goals as goal
 
@@ -24,6 +24,3 @@ loop-mapping-preserved c =
       | goal.in_default w ↦ rw w.flags-is
           (taken_same c.args.mappings.now i m c.args.len flags.items c.loop-mapping-test.true c.mapping-item.is c.loop-mapping.invariant (λ k below sound. w.in_default.not-Some k))
     ]
-
-pub returns : goal.returns
-returns c = let flags = rw (take_all c.loop-mapping.mapping-index c.args.mappings.now (omega arith)) at c.loop-mapping.invariant in flags.1

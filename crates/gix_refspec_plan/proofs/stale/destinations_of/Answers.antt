@@ -1,5 +1,5 @@
 -- A mapping with a destination adds it.
-use Rattle.gix_refspec_plan.proofs.Common.{take_all, arith, mapped_of, bstr_bytes, option_map, name_bytes, Some, ap, ◌∙◌, sym}
+use Rattle.gix_refspec_plan.proofs.Common.{mapped_of, bstr_bytes, option_map, name_bytes, Some, ap, ◌∙◌, sym}
 use Rattle.gix_refspec_plan.proofs.lemmas.stale.NamedLemmas.{no_side}
 use Rattle.gix_refspec_plan.proofs.lemmas.plan.MadeLemmas.{made_one, made_none}
 use Rattle.gix_refspec_plan.proofs.stale.destinations_of.Goals as goal
@@ -14,6 +14,3 @@ loop-mapping-preserved c =
       | goal.in_default w ↦ rw w.names-is
           (made_none _ mapped_of bstr_bytes ms i c.mapping-item.result _ c.loop-mapping-test.true c.mapping-item.is c.loop-mapping.invariant (no_side c.mapping-item.result.rhs w.in_default.not-Some))
     ]
-
-pub returns : goal.returns
-returns c = rw (take_all c.loop-mapping.mapping-index c.args.written.now (omega arith)) at c.loop-mapping.invariant

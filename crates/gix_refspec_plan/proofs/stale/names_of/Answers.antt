@@ -1,13 +1,6 @@
 -- One more local ref behind the others.
-use Rattle.gix_refspec_plan.proofs.Common.{append-nil, sym, take_all, arith}
 use Rattle.gix_refspec_plan.proofs.lemmas.stale.NamedLemmas.{local_next}
 use Rattle.gix_refspec_plan.proofs.stale.names_of.Goals as goal
 
-pub loop-item-init : goal.loop-item-init
-loop-item-init c = (_, c.in_ok-names.ensures, sym (append-nil _))
-
 pub loop-item-preserved : goal.loop-item-preserved
 loop-item-preserved c = local_next c.args.local.now c.loop-item.item-index _ _ _ _ c.loop-item-test.true c.loop-item.invariant c.in_ok-push.ensures.items
-
-pub returns : goal.returns
-returns c = rw (take_all c.loop-item.item-index c.args.local.now (omega arith)) at c.loop-item.invariant

@@ -1,5 +1,5 @@
 -- One more local ref.
-use Rattle.gix_refspec_plan.proofs.Common.{inl, inr, map, refl, take_all, arith, false≢true, IfOk-at_ok, reading_of, mapped_of, ref_of, some_element}
+use Rattle.gix_refspec_plan.proofs.Common.{inl, inr, map, refl, false≢true, IfOk-at_ok, reading_of, mapped_of, ref_of, some_element}
 use Rattle.gix_refspec_plan.proofs.lemmas.stale.StateLemmas.{all_accepted, excluded_kept, included_stale, tell_next, tell_none}
 use Rattle.gix_refspec_plan.proofs.stale.stale_refs.Goals as goal
 
@@ -30,6 +30,3 @@ loop-item_index-preserved c =
           (tell_next specs remote mapped c.in_ok-written.ensures c.args.local.now flags told i _ c.loop-item_index-test.true old c.loop-item_index.invariant _ _ refl (λ flag. false≢true (flagged.1 flag))
           (λ unwritten. excluded_kept (map reading_of specs) remote mapped (all_accepted specs) c.in_ok-written.ensures _ _ unwritten (rw w.in-Excluded.is at state)) w.in_ok-push-in-Excluded.ensures.items)
     ]
-
-pub returns : goal.returns
-returns c = rw (take_all c.loop-item_index.item_index c.args.local.now (omega arith)) at c.loop-item_index.invariant

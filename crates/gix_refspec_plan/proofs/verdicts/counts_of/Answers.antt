@@ -1,5 +1,4 @@
 -- One more destination is counted, if the mapping is sound.
-use Rattle.gix_refspec_plan.proofs.Common.{take_all, arith}
 use Rattle.gix_refspec_plan.proofs.lemmas.plan.VerdictLemmas.{counted_more, counted_same}
 use Rattle.gix_refspec_plan.proofs.verdicts.counts_of.Goals as goal
 
@@ -13,6 +12,3 @@ loop-mapping-preserved c =
       | goal.in_default w ↦ rw w.counts-is
           (counted_same c.args.mappings.now i m c.loop-mapping.counts c.loop-mapping-test.true c.mapping-item.is c.loop-mapping.invariant w.in_default.ensures)
     ]
-
-pub returns : goal.returns
-returns c = rw (take_all c.loop-mapping.mapping-index c.args.mappings.now (omega arith)) at c.loop-mapping.invariant

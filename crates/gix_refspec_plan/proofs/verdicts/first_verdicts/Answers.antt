@@ -1,5 +1,5 @@
 -- One more verdict, which nothing overrules.
-use Rattle.gix_refspec_plan.proofs.Common.{[], map, take_all, arith, mapped_of}
+use Rattle.gix_refspec_plan.proofs.Common.{[], map, mapped_of}
 use Rattle.gix_refspec_plan.proofs.lemmas.plan.JudgeLemmas.{has_mapping, none_counted, verdict_next}
 use Rattle.gix_refspec_plan.proofs.verdicts.first_verdicts.Goals as goal
 
@@ -11,6 +11,3 @@ loop-mapping-preserved c =
     verdict_next ms i m (map mapped_of ms) _ _ _ c.loop-mapping-test.true c.mapping-item.is c.loop-mapping.invariant
     (c.verdict_on.ensures [] (map mapped_of ms) (none_counted c.new-nothing.result c.new-nothing.ensures.empty) c.in_ok-contested.ensures c.requires (has_mapping ms i m c.loop-mapping-test.true c.mapping-item.is))
     c.in_ok-push.ensures.items
-
-pub returns : goal.returns
-returns c = rw (take_all c.loop-mapping.mapping-index c.args.mappings.now (omega arith)) at c.loop-mapping.invariant

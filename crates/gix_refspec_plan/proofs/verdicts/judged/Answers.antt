@@ -4,9 +4,6 @@ use Rattle.gix_refspec_plan.proofs.Common.{asked_of, planned_of}
 use Rattle.gix_refspec_plan.proofs.lemmas.plan.JudgeLemmas.{front_again, judged_alone, judged_of, known_of, split_again}
 use Rattle.gix_refspec_plan.proofs.verdicts.judged.Goals as goal
 
-pub first_updates-requires-clause-verdicts : goal.first_updates-requires-clause-verdicts
-first_updates-requires-clause-verdicts c = rw (c.as_slice-then-is_empty.ensures.value, ← c.as_slice.ensures.value) c.in_ok-verdicts.ensures
-
 pub returns-then-is_empty : goal.returns-then-is_empty
 returns-then-is_empty c =
     let seconds = c.args.tracked.mappings in

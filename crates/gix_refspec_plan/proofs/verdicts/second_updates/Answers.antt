@@ -3,9 +3,6 @@ use Rattle.gix_refspec_plan.proofs.Common.{length, map, take_all, arith, rules, 
 use Rattle.gix_refspec_plan.proofs.lemmas.plan.JudgeLemmas.{has_mapping, known_here, origin_at, planned_copy, second_next, second_same, spec_inside}
 use Rattle.gix_refspec_plan.proofs.verdicts.second_updates.Goals as goal
 
-pub contested_of-requires : goal.contested_of-requires
-contested_of-requires c = c.requires.mappings.apart
-
 pub bounds-specs-mapping : goal.bounds-specs-mapping
 bounds-specs-mapping c = spec_inside c.args.mappings.now c.loop-index.index c.index-mappings-index.result c.loop-index-test.true c.index-mappings-index.is c.args.specs.now c.requires.mappings
 
