@@ -2,7 +2,7 @@
 use Rattle.gix_refspec_plan.proofs.Common.{◌≡◌, ◌⊎◌, inl, inr, ◌↔◌, IsTrue, Bool, false, ℕ, ◌+◌, ◌-◌, ◌<◌, ◌≤◌, List, [], ◌∷◌, ◌++◌, length, map, take, get_or, sym, ap, ◌∙◌, arith, Contains}
 use Rattle.gix_refspec_plan.proofs.Common.{take-append-add, cases_lt, get_or-append-add, get_or-map, get_or-take, get_or_append_left, get_or_push, length-append, length-map, length-take-le}
 use Rattle.gix_refspec_plan.proofs.Common.{length_push, Contains-append_cases, Contains-append_left, Contains-append_right, BStr, bstr_bytes, Mapped, name, FlagsDuplicates, IsDuplicate, IsFlagged}
-use Rattle.gix_refspec_plan.proofs.Common.{some_element, Covers, IsSound, AreNames, same_Some, HasDestination, ref_names, Ref, Some}
+use Rattle.gix_refspec_plan.proofs.Common.{some_element, Covers, IsSound, AreNames, same_Some, HasDestination, ref_names, Ref, Some, rules}
 use Rattle.std.specs.declared.cmp.Ordering.{Ordering}
 use Rattle.gix_refspec_match.specs.Private.Orders.{bytes_order, equal_texts, same_texts}
 use Rattle.gix_refspec_plan.specs.Private.Stales.{AreNames as AreLocalNames}
@@ -61,19 +61,14 @@ module _ (P : List ℕ → Type 0) (ms : List (List ℕ)) (names : List BStr) (b
       let place : length names - length ms + k ≡ length before + k = omega arith in
       let told = duplicate_text names (length before + k) d (omega arith) in
       let split : IsDuplicate by_text names (length before + k) ↔ Contains (before ++ take k ms) n = rw (whole, take-append-add, get_or-append-add) at told in
-      rw place (
-        (λ repeats. elim (Contains-append_cases before (take k ms) n (split.0 repeats)) [ inl has ↦ inl ((exactly n).0 has) | inr earlier ↦ inr earlier ]),
-        (λ either. split.1 (elim either [ inl is ↦ Contains-append_left before (take k ms) n ((exactly n).1 is) | inr earlier ↦ Contains-append_right before (take k ms) n earlier ])),
-      )
+      rw place (search (rules, split, exactly n, Contains-append_cases before (take k ms) n, Contains-append_left before (take k ms) n, Contains-append_right before (take k ms) n))
 
   -- flags copied from those of duplicates
   pub behind_flagged : (all flags : List Bool) (first : ℕ) → first ≡ length names - length ms → FlagsDuplicates by_text names all → ((k : ℕ) → k < length ms → IsFlagged flags k ↔ IsFlagged all (first + k))
       → (k : ℕ) (d : List ℕ) → k < length ms → IsFlagged flags k ↔ (P (get_or ms k d) ⊎ Contains (take k ms) (get_or ms k d))
   behind_flagged all flags first from duplicates copied k d inside =
       let copy = rw from at (copied k inside) in
-      let duplicate = duplicates (length names - length ms + k) in
-      let told = duplicate_behind k d inside in
-      ((λ flagged. told.0 (duplicate.0 (copy.0 flagged))), (λ either. copy.1 (duplicate.1 (told.1 either))))
+      search (rules, copy, duplicates (length names - length ms + k), duplicate_behind k d inside)
 
 -- the flags so far are copied from a place on
 abbrev pub AreCopied : List Bool → ℕ → ℕ → List Bool → Type 0

@@ -5,15 +5,13 @@ use Rattle.gix_refspec_plan.proofs.Common.{take_more}
 -- one more pair of a zip
 pub zip_more : {X Y : Type 0} (R : X → Y → Type 0) (xs : List X) (ys : List Y) (x : X) (y : Y) → AllZip R xs ys → R x y → AllZip R (xs ++ x ∷ []) (ys ++ y ∷ [])
 zip_more R [] [] x y all here = (here, tt)
-zip_more R [] (z ∷ ys) x y all here = absurd all
-zip_more R (w ∷ xs) [] x y all here = absurd all
 zip_more R (w ∷ xs) (z ∷ ys) x y all here = (all.0, zip_more R xs ys x y all.1 here)
+zip_more R xs ys x y all here = absurd all
 
 pub zip_long : {X Y : Type 0} (R : X → Y → Type 0) (xs : List X) (ys : List Y) → AllZip R xs ys → length xs ≡ length ys
 zip_long R [] [] all = refl
-zip_long R [] (y ∷ ys) all = absurd all
-zip_long R (x ∷ xs) [] all = absurd all
 zip_long R (x ∷ xs) (y ∷ ys) all = ap suc (zip_long R xs ys all.1)
+zip_long R xs ys all = absurd all
 
 pub zip_at : {X Y : Type 0} (R : X → Y → Type 0) (xs : List X) (ys : List Y) (i : ℕ) (d : X) (e : Y) → AllZip R xs ys → i < length xs → R (get_or xs i d) (get_or ys i e)
 zip_at R [] ys i d e all below = absurd (omega arith)

@@ -34,11 +34,8 @@ reading_once r a b is also =
 
 pub completed_once : (g a b : List Reading) → AllZip IsCompleted g a → AllZip IsCompleted g b → a ≡ b
 completed_once [] [] [] all also = refl
-completed_once [] [] (y ∷ b) all also = absurd also
-completed_once [] (x ∷ a) b all also = absurd all
-completed_once (r ∷ g) [] b all also = absurd all
-completed_once (r ∷ g) (x ∷ a) [] all also = absurd also
 completed_once (r ∷ g) (x ∷ a) (y ∷ b) all also = let here = reading_once r x y all.0 also.0 in let rest = completed_once g a b all.1 also.1 in cc
+completed_once g a b all also = absurd (search rules)
 
 mapped_once : (a b : List Asked) (refs : List Ref) (l m : List Mapped) → a ≡ b → AreMapped a refs l → AreMapped b refs m → l ≡ m
 mapped_once a b refs l m same is other =

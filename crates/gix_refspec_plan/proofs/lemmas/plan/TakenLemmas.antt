@@ -2,7 +2,7 @@
 use Rattle.gix_refspec_plan.proofs.Common.{◌≡◌, ◌≢◌, ◌⊎◌, inl, inr, ◌↔◌, Bool, true, false, ℕ, ◌+◌, ◌-◌, ◌<◌, ◌≤◌, List, [], ◌∷◌, ◌++◌, Option, None, Some, length, map, take, get_or, set, replicate}
 use Rattle.gix_refspec_plan.proofs.Common.{refl, sym, ap, ◌∙◌, subst, arith, cases_eq, false≢true, append-nil, get_or-replicate, get_or-set_other, get_or-set_same, length-replicate, length-set}
 use Rattle.gix_refspec_plan.proofs.Common.{map-append, map_more, take_all, Contains-append_left, Contains-push, Contains-push_cases, Item, Mapping, Ref, IsMadeFrom, Mapped, IsFlagged, mapped_of}
-use Rattle.gix_refspec_plan.proofs.Common.{ref_of, made_more, IsSound, IsTakenAt, FlagsTaken}
+use Rattle.gix_refspec_plan.proofs.Common.{ref_of, made_more, IsSound, IsTakenAt, FlagsTaken, rules}
 
 -- one more mapping takes its item, if it is sound
 taken_cases : (l : List Mapped) (m : Mapped) (k : ℕ) → IsTakenAt (l ++ m ∷ []) k ↔ (IsTakenAt l k ⊎ (IsSound m × (m.item ≡ Some k)))
@@ -45,16 +45,7 @@ module _ (mappings : List Mapping) (i : ℕ) (m : Mapping) (len : ℕ) (flags : 
   with_mapping new long each =
       let whole : map mapped_of (take (i + 1) mappings) ≡ map mapped_of (take i mappings) ++ mapped_of m ∷ [] = map_more mapped_of mappings i m below ∙ ap (λ (x : Mapping). map mapped_of (take i mappings) ++ mapped_of x ∷ []) (sym is) in (
         long,
-        record {
-          each = λ k inside.
-              let cases = taken_cases (map mapped_of (take i mappings)) (mapped_of m) k in
-              let old = so_far.1.each k inside in
-              let now = each k inside in
-              rw whole (
-                (λ flagged. cases.1 (elim (now.0 flagged) [ inl before ↦ inl (old.0 before) | inr here ↦ inr here ])),
-                (λ taken. now.1 (elim (cases.0 taken) [ inl before ↦ inl (old.1 before) | inr here ↦ inr here ])),
-              );
-        },
+        record { each = λ k inside. rw whole (search (rules, taken_cases (map mapped_of (take i mappings)) (mapped_of m) k, so_far.1.each k inside, each k inside)) },
       )
 
   -- a sound mapping of an item
@@ -76,10 +67,7 @@ module _ (mappings : List Mapping) (i : ℕ) (m : Mapping) (len : ℕ) (flags : 
 
   -- another one
   pub taken_same : ((k : ℕ) → k < len → IsSound (mapped_of m) → m.item_index ≢ Some k) → AreTakenFlags (map mapped_of (take (i + 1) mappings)) len flags
-  taken_same none = with_mapping flags so_far.0 (λ k under. (
-    (λ flagged. inl flagged),
-    (λ either. elim either [ inl before ↦ before | inr (sound, here) ↦ absurd (none k under sound here) ]),
-  ))
+  taken_same none = with_mapping flags so_far.0 (λ k under. search (rules, none k under))
 
 -- ---- the items that are taken
 

@@ -2,7 +2,7 @@
 use Rattle.gix_refspec_plan.proofs.Common.{◌≡◌, ◌≢◌, ◌⊎◌, ◌↔◌, inl, inr, ℕ, zero, suc, ◌+◌, ◌<◌, Bool, Bor, true, false, cond, List, [], ◌∷◌, ◌++◌, Option, None, Some, is_some, unwrap_or, bytes_eq}
 use Rattle.gix_refspec_plan.proofs.Common.{map, take, get_or, length, refl, sym, ap, ◌∙◌, subst, arith, BTreeMap, UpdatesBy, get_by, is_at, lookup, slice_cmp, nat_cmp, Any, Contains, false≢true}
 use Rattle.gix_refspec_plan.proofs.Common.{map_more, All-from_recursion, Contains-append_left, Contains-push_cases, bytes_eq-Decides, Mapping, Mapped, IsSamePair, AreApart, mapped_of, IsContested}
-use Rattle.gix_refspec_plan.proofs.Common.{IsSound, IsTakenOver, CountDestinations, HasTwo, IsCount, TellContested, WritesTo}
+use Rattle.gix_refspec_plan.proofs.Common.{IsSound, IsTakenOver, CountDestinations, HasTwo, IsCount, TellContested, WritesTo, rules}
 use Rattle.std.proofs.lemmas.List.Quantifiers.{Any-push}
 use Rattle.std.proofs.lemmas.Map.Text.{btree_map_updates_str}
 use Rattle.gix_refspec.specs.Matching.Validation.{HasConflictAt}
@@ -42,14 +42,8 @@ module _ {X : Type 0} (P : X → Type 0) where
   two_cases : (l : List X) (x : X) → HasTwo P (l ++ x ∷ []) → HasTwo P l ⊎ (Any P l × P x)
   two_cases [] x (inl (is, (i, y, below, at, also))) = absurd (omega (arith, below))
   two_cases [] x (inr two) = absurd two
-  two_cases (y ∷ l) x (inl (is, any)) = elim (any_cases l x any) [
-    | inl before ↦ inl (inl (is, before))
-    | inr last ↦ inr ((0, y, omega arith, refl, is), last)
-  ]
-  two_cases (y ∷ l) x (inr two) = elim (two_cases l x two) [
-    | inl before ↦ inl (inr before)
-    | inr (any, last) ↦ inr (any_later l y any, last)
-  ]
+  two_cases (y ∷ l) x (inl (is, any)) = let here : Any P (y ∷ l) = (0, y, omega arith, refl, is) in search (rules, any_cases l x any)
+  two_cases (y ∷ l) x (inr two) = search (rules, two_cases l x two, any_later l y)
 
   -- two different elements are two
   two_of : (l : List X) (m n : X) → Contains l m → Contains l n → P m → P n → m ≢ n → HasTwo P l
@@ -62,32 +56,11 @@ module _ {X : Type 0} (P : X → Type 0) where
 -- ---- destinations that are counted
 
 count_same : (l : List Mapped) (x : Mapped) (d : List ℕ) (w : Option Bool) → ¬ (WritesTo d x) → IsCount l d w → IsCount (l ++ x ∷ []) d w
-count_same l x d None other none = λ any. elim (any_cases (WritesTo d) l x any) [
-  | inl before ↦ none before
-  | inr last ↦ other last
-]
-count_same l x d (Some several) other (any, told) = (
-  any_left (WritesTo d) l x any,
-  (
-    (λ is. two_left (WritesTo d) l x (told.0 is)),
-    (λ two. elim (two_cases (WritesTo d) l x two) [
-      | inl before ↦ told.1 before
-      | inr (before, last) ↦ absurd (other last)
-    ]),
-  ),
-)
+count_same l x d None other none = λ any. search (rules, any_cases (WritesTo d) l x any)
+count_same l x d (Some several) other (any, told) = search (rules, any_left (WritesTo d) l x any, two_left (WritesTo d) l x, two_cases (WritesTo d) l x)
 
 count_next : (l : List Mapped) (x : Mapped) (d : List ℕ) (w : Option Bool) → WritesTo d x → IsCount l d w → IsCount (l ++ x ∷ []) d (Some (is_some w))
-count_next l x d None is none = (
-  Any-push (WritesTo d) l x is,
-  (
-    (λ told. absurd (false≢true told)),
-    (λ two. elim (two_cases (WritesTo d) l x two) [
-      | inl before ↦ absurd (none (two_any (WritesTo d) l before))
-      | inr (before, last) ↦ absurd (none before)
-    ]),
-  ),
-)
+count_next l x d None is none = search (rules, Any-push (WritesTo d) l x is, two_cases (WritesTo d) l x, two_any (WritesTo d) l, false≢true)
 count_next l x d (Some several) is (any, told) = (Any-push (WritesTo d) l x is, ((λ true. two_push (WritesTo d) l x any is), (λ two. refl)))
 
 -- what is known of a destination

@@ -2,7 +2,7 @@
 use Rattle.gix_refspec_plan.proofs.Common.{◌≡◌, ◌⊎◌, inl, inr, ℕ, ◌+◌, ◌<◌, ◌++◌, ◌∷◌, zero, suc, ◌↔◌, Bool, List, [], Option, None, Some, option_to_list, MatchOption, append-nil, length, map, take}
 use Rattle.gix_refspec_plan.proofs.Common.{get_or, sym, ap, ◌∙◌, arith, AllByRecursion, Contains, get_or-map, length-map, map-append, take-map, bstr_bytes, RefSpecRef, reading_of, Item, IsMadeFrom}
 use Rattle.gix_refspec_plan.proofs.Common.{MakesOf, ref_of, IsFlagged, made_more, found_of, Reading, IsAccepted, Ref, HasName, Mapped, Found, IsKeptBy, IsStale, IsWritable, AreMappedBy, FlagWritten}
-use Rattle.gix_refspec_plan.proofs.Common.{HasDestination, HasState, ref_names, Excluded, Included}
+use Rattle.gix_refspec_plan.proofs.Common.{HasDestination, HasState, ref_names, Excluded, Included, rules}
 use Rattle.gix_refspec_plan.specs.declared.stale.Stale.{Stale}
 use Rattle.gix_refspec_plan.proofs.lemmas.stale.FetchedLemmas.{fetched_written, object_written, present_written, written_fetched, written_from}
 
@@ -20,10 +20,7 @@ among_named (r ∷ refs) n (suc k, below, is) = inr (among_named refs n (k, omeg
 module _ (g : List Reading) (remote : List Ref) (mapped : List Mapped) (accepted : AllByRecursion (λ r. ∥ IsAccepted r ∥₁) g) (by : AreMappedBy g remote mapped) (n : List ℕ) where
   -- what is written is neither stale nor kept
   pub written_untold : HasDestination mapped n → (kept : Option ℕ) → ¬ (MatchOption kept (IsStale g remote n) (IsKeptBy g remote n))
-  written_untold has None stale = elim (written_from g remote mapped accepted by n has) [
-    | inl object ↦ stale.no_object object
-    | inr (s, source, there) ↦ stale.absent s source there
-  ]
+  written_untold has None stale = search (rules, written_from g remote mapped accepted by n has)
   written_untold has (Some k) kept = kept.unwritten (written_fetched g remote mapped accepted by n has)
 
   -- and nor is what no spec can write
@@ -33,22 +30,10 @@ module _ (g : List Reading) (remote : List Ref) (mapped : List Mapped) (accepted
 
   -- what isn't written is stale, if no ref is excluded from which it could be written, and otherwise kept
   pub included_stale : ¬ (HasDestination mapped n) → HasState g n Included → IsStale g remote n
-  included_stale unwritten (writable, included) = record {
-    writable = writable;
-    no_object = λ object. unwritten (object_written g remote mapped accepted by n object);
-    absent = λ s source there. unwritten (present_written g remote mapped accepted by n s source there included);
-    included = included;
-  }
+  included_stale unwritten (writable, included) = search (rules, object_written g remote mapped accepted by n, present_written g remote mapped accepted by n)
 
   pub excluded_kept : (k : ℕ) → ¬ (HasDestination mapped n) → HasState g n (Excluded k) → IsKeptBy g remote n k
-  excluded_kept k unwritten (s, source, (r, at, excludes)) = record {
-    unwritten = λ fetched. unwritten (fetched_written g remote mapped accepted by n fetched);
-    source = s;
-    is_source = source;
-    negative = r;
-    at = at;
-    excludes = excludes;
-  }
+  excluded_kept k unwritten (s, source, (r, at, excludes)) = search (rules, fetched_written g remote mapped accepted by n)
 
 -- what is told of the local ref at index k
 abbrev pub Tells : List Reading → List Ref → List Ref → ℕ → Ref → Found → Type 0
@@ -74,10 +59,8 @@ module _ (specs : List RefSpecRef) (remote : List Ref) (mapped : List Mapped) (b
   flagged : IsFlagged flags i ↔ (HasDestination mapped n ⊎ HasName (take i refs) n)
   flagged =
       let at = told i [] (rw (length-map (map ref_of local) (λ (r : Ref). r.name), length-map local ref_of) below) in
-      let here : IsFlagged flags i ↔ (HasDestination mapped n ⊎ Contains (ref_names (take i refs)) n) = rw (named, take-map (λ (r : Ref). r.name) i refs) at at in (
-        (λ flag. elim (here.0 flag) [ inl has ↦ inl has | inr before ↦ inr (among_named (take i refs) n before) ]),
-        (λ either. here.1 (elim either [ inl has ↦ inl has | inr before ↦ inr (named_among (take i refs) n before) ])),
-      )
+      let here : IsFlagged flags i ↔ (HasDestination mapped n ⊎ Contains (ref_names (take i refs)) n) = rw (named, take-map (λ (r : Ref). r.name) i refs) at at in
+      search (rules, here, among_named (take i refs) n, named_among (take i refs) n)
 
   add : (made : Option Found) (new : List Found) → MakesOf (Tells (map reading_of specs) remote refs) i (ref_of (get_or local i d)) made → new ≡ map found_of old ++ option_to_list made
       → IsMadeFrom (Tells (map reading_of specs) remote refs) 0 (map ref_of (take (i + 1) local)) new
@@ -92,11 +75,5 @@ module _ (specs : List RefSpecRef) (remote : List Ref) (mapped : List Mapped) (b
 
   -- and one that isn't
   pub tell_none : IsFlagged flags i ⊎ ¬ (IsWritable (map reading_of specs) n) → IsMadeFrom (Tells (map reading_of specs) remote refs) 0 (map ref_of (take (i + 1) local)) (map found_of old)
-  tell_none either =
-      add None (map found_of old) (λ f (at, new, state). elim either [
-        | inl flag ↦ elim (flagged.0 flag) [
-          | inl has ↦ written_untold (map reading_of specs) remote mapped (all_accepted specs) by n has f.kept_by state
-          | inr before ↦ new before
-        ]
-        | inr none ↦ unwritable_untold (map reading_of specs) remote mapped (all_accepted specs) by n none f.kept_by state
-      ]) (sym (append-nil (map found_of old)))
+  tell_none either = add None (map found_of old) (λ f (at, new, state). search (rules, flagged, written_untold (map reading_of specs) remote mapped (all_accepted specs) by n, unwritable_untold (map reading_of specs) remote mapped (all_accepted specs) by n))
+      (sym (append-nil (map found_of old)))

@@ -1,5 +1,5 @@
 -- Readings and the same with completed destinations.
-use Rattle.gix_refspec_plan.proofs.Common.{inl, inr, ℕ, zero, suc, List, [], ◌∷◌, refl, sym, ◌∙◌, subst, arith, AllZip, Any, Contains, Reading, IsExcluded, IsExcludedBy, IsCompleted}
+use Rattle.gix_refspec_plan.proofs.Common.{ℕ, zero, suc, List, [], ◌∷◌, refl, sym, ◌∙◌, subst, arith, AllZip, Any, Contains, Reading, IsExcluded, IsExcludedBy, IsCompleted, rules}
 
 -- what an element is paired with in a zip
 pub zip_partner : {X Y : Type 0} (R : X → Y → Type 0) (xs : List X) (ys : List Y) (x : X) → AllZip R xs ys → Contains xs x → (y : Y) × R x y × Contains ys y
@@ -29,8 +29,5 @@ pub same_excluded : (r c : Reading) (n : List ℕ) → IsCompleted r c → IsExc
 same_excluded r c n is by = record { negative = sym is.mode ∙ by.negative; text = by.text; source = sym is.source ∙ by.source; excludes = by.excludes }
 
 pub completed_excluded : (g c : List Reading) (n : List ℕ) → AllZip IsCompleted g c → IsExcluded c n → IsExcluded g n
-completed_excluded [] [] n all none = absurd none
-completed_excluded [] (x ∷ c) n all by = absurd all
-completed_excluded (r ∷ g) [] n all none = absurd none
-completed_excluded (r ∷ g) (x ∷ c) n all (inl by) = inl (same_excluded r x n all.0 by)
-completed_excluded (r ∷ g) (x ∷ c) n all (inr later) = inr (completed_excluded g c n all.1 later)
+completed_excluded (r ∷ g) (x ∷ c) n all by = search (rules, same_excluded r x n all.0, completed_excluded g c n all.1)
+completed_excluded g c n all by = absurd (search rules)

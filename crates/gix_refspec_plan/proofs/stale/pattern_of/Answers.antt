@@ -11,14 +11,3 @@ parts_of-source-requires c x is = accepted_few (reading_of c.args.spec.now) x c.
 
 pub returns-in_default : goal.returns-in_default
 returns-in_default c p = unsplit_unwritten (reading_of c.args.spec.now) p (rw c.destination.ensures at c.in_default.ensures)
-
-pub returns : goal.returns
-returns c =
-    let (x, is, split) = c.in-Some.ensures in
-    record {
-      positive = c.if-is_negative.ensures;
-      destination = x;
-      has = sym c.destination.ensures ∙ is;
-      split = split;
-      source = rw c.source.ensures at c.parts_of-source.ensures;
-    }
