@@ -2,7 +2,7 @@
 use Rattle.gix_refspec_plan.proofs.Common.{◌≡◌, ◌≢◌, ◌⊎◌, inl, inr, ℕ, Bool, true, false, List, [], ◌∷◌, ◌++◌, codes, take, get_or, refl, sym, ap, subst, arith, Contains, All-from_recursion}
 use Rattle.gix_refspec_plan.proofs.Common.{Contains-append_cases, Contains-append_left, Contains-get_or, recursion_from_All, same_Some, Origin, star, Lacks, Reading, all_tags, fetched_alone, head}
 use Rattle.gix_refspec_plan.proofs.Common.{Ref, LacksSource, AreAsked, AreConfigured, AreThose, AreUncovered, Asked, Covers, IsPlan, MayBeMissing, Planned, Wish, tags_asked, IsRefName}
-use Rattle.gix_refspec_plan.proofs.Common.{CarriedOutExactly, IsRequired, All-contains, InConflict, Configured, Default, Given, Merge}
+use Rattle.gix_refspec_plan.proofs.Common.{CarriedOutExactly, IsRequired, All-contains, InConflict, Configured, Default, Given, Merge, rules}
 use Rattle.gix_refspec_plan.proofs.lemmas.plan.MadeLemmas.{made_from, made_has, nothing_in, one_in}
 use Rattle.gix_refspec_plan.proofs.lemmas.plan.OpposedLemmas.{in_conflict, opposed}
 
@@ -71,14 +71,12 @@ required_asked wish refs asked r (AreAsked.without all none are is) (IsRequired.
 
 -- a spec whose source has to be there is required, or it is that for all tags
 asked_required : (wish : Wish) (refs : List Ref) (asked : List Asked) (a : Asked) → AreAsked wish refs asked → Contains asked a → ¬ (MayBeMissing a.origin) → IsRequired wish a.reading ⊎ (a.reading ≡ all_tags)
-asked_required wish refs asked a (AreAsked.by_call given some those is) has stays = elim (Contains-append_cases given (tags_asked wish.tags) a (subst (λ (l : List Asked). Contains l a) is has)) [
-  | inl before ↦ inl (IsRequired.by_call (those_are Given wish.given given a those before))
-  | inr tags ↦ inr (tags_are wish.tags a tags)
-]
-asked_required wish refs asked a (AreAsked.without all none are is) has stays = elim (Contains-append_cases all (tags_asked wish.tags) a (subst (λ (l : List Asked). Contains l a) is has)) [
-  | inl before ↦ inl (by are before)
-  | inr tags ↦ inr (tags_are wish.tags a tags)
-]
+asked_required wish refs asked a (AreAsked.by_call given some those is) has stays =
+    let inside = subst (λ (l : List Asked). Contains l a) is has in
+    search (rules, Contains-append_cases given (tags_asked wish.tags) a inside, those_are Given wish.given given a those, tags_are wish.tags a)
+asked_required wish refs asked a (AreAsked.without all none are is) has stays =
+    let inside = subst (λ (l : List Asked). Contains l a) is has in
+    search (rules, Contains-append_cases all (tags_asked wish.tags) a inside, by are, tags_are wish.tags a)
   where
     by : AreConfigured wish refs all → Contains all a → IsRequired wish a.reading
     by (AreConfigured.by_configuration configured merges some those uncovered joined) inside = elim (Contains-append_cases configured merges a (subst (λ (l : List Asked). Contains l a) joined inside)) [
@@ -103,10 +101,8 @@ module _ (wish : Wish) (refs : List Ref) (planned : List Planned) (missing : Lis
   told_lacking none (o ∷ l) is =
       let (k, a, has, (same, stays, lacks)) = made_from (λ (k : ℕ) (a : Asked) (o : Origin). (o ≡ a.origin) × ¬ (MayBeMissing o) × LacksSource refs a.reading) 0 plan.asked missing o plan.lacks
       (subst (λ (all : List Origin). Contains all o) (sym is) (0, omega arith, refl)) in
-      absurd (elim (asked_required wish refs plan.asked a plan.are_asked has (λ may. stays (subst MayBeMissing (sym same) may))) [
-        | inl required ↦ none a.reading required lacks
-        | inr tags ↦ tags_lack_nothing refs (subst (LacksSource refs) tags lacks)
-      ])
+      let free : ¬ (a.reading ≡ all_tags) = λ tags. tags_lack_nothing refs (subst (LacksSource refs) tags lacks) in
+      absurd (search (rules, asked_required wish refs plan.asked a plan.are_asked has (λ may. stays (subst MayBeMissing (sym same) may)), none a.reading, free))
 
 pub carried_out_exactly : (wish : Wish) (refs : List Ref) → CarriedOutExactly wish refs
 carried_out_exactly wish refs planned missing plan = (

@@ -5,7 +5,7 @@ use Rattle.gix_refspec_plan.proofs.Common.{AllZip, Contains, slice_get, drop-app
 use Rattle.gix_refspec_plan.proofs.Common.{map-append, take_more, All-from_recursion, slice_get-map, slice_get_read, DeclaredAsked, Origin, Update, Verdict, Mapping, Ref, IsMadeFrom, AreApart}
 use Rattle.gix_refspec_plan.proofs.Common.{HasPair, IsSamePair, Mapped, FlagsDuplicates, IsDuplicate, IsFlagged, IsMappingCopy, mapped_of, AreAsked, AreLacking, AreMapped, Asked, HasOrigin}
 use Rattle.gix_refspec_plan.proofs.Common.{HasSecondVerdict, HasVerdict, IsCompleted, IsPlan, IsPlanned, IsPlannedBesides, IsTracked, Planned, Wish, AreFirst, AreJudged, AreMappings, AreSecond}
-use Rattle.gix_refspec_plan.proofs.Common.{CountDestinations, FlagKnown, IsCount, planned_by, asked_of, planned_of, copied_mapping, each_mapped, Written, LeftOut, InConflict, Overruled}
+use Rattle.gix_refspec_plan.proofs.Common.{CountDestinations, FlagKnown, IsCount, planned_by, asked_of, planned_of, copied_mapping, each_mapped, Overruled}
 use Rattle.gix_refspec_match.proofs.lemmas.keep.KeptLemmas.{HasPair-left, by_pair, duplicate_at, kept_once}
 use Rattle.gix_refspec_match.proofs.lemmas.keep.RepeatLemmas.{some_mapping}
 use Rattle.gix_refspec.proofs.lemmas.validate.AfterLemmas.{forward_fits}
@@ -44,10 +44,8 @@ none_counted counts empty d = subst (λ (es : List (Bor (List ℕ) × Bool)). Is
 
 -- where nothing overrules a mapping
 pub only_verdict : (l : List Mapped) (m : Mapped) (v : Verdict) → HasSecondVerdict [] l m v → HasVerdict l m v
-only_verdict l m Written (sound, none, free) = (sound, free)
-only_verdict l m (LeftOut side) is = is
-only_verdict l m InConflict (sound, none, contested) = (sound, contested)
 only_verdict l m Overruled (sound, (n, (i, below, at), sound_n, share)) = omega (arith, below)
+only_verdict l m v is = search rules
 
 -- one more verdict, where nothing overrules
 pub verdict_next : (ms : List Mapping) (i : ℕ) (m : Mapping) (l : List Mapped) (old new : List Verdict) (v : Verdict) → i < length ms → m ≡ get_or ms i m → AllZip (HasVerdict l) (map mapped_of (take i ms)) old
@@ -66,15 +64,7 @@ module _ (ms : List Mapping) (i : ℕ) (m : Mapping) (old : List Update) (below 
       → HasOrigin asked (mapped_of m) o → HasSecondVerdict firsts l (mapped_of m) v → planned_of u ≡ planned_by (mapped_of m) item o v → new ≡ old ++ u ∷ []
       → IsMadeFrom (λ k x p. IsPlannedBesides asked indexes firsts l x p) 0 (map mapped_of (take (i + 1) ms)) (map planned_of new)
   second_next new u item o v is_new among origin judged same more = made_one (λ k x p. IsPlannedBesides asked indexes firsts l x p) mapped_of planned_of ms i m old below is so_far new u
-      (subst (λ (p : Planned). IsPlannedBesides asked indexes firsts l (mapped_of m) p) (sym same) (record {
-        updates = (told.0 is_new).0;
-        new = λ has. (told.0 is_new).1 (known.1 has);
-        source = refl;
-        item = among;
-        destination = refl;
-        origin = origin;
-        verdict = judged;
-      })) more
+      (subst (λ (p : Planned). IsPlannedBesides asked indexes firsts l (mapped_of m) p) (sym same) (search (rules, told.0 is_new, known, among, origin, judged))) more
 
   pub second_same : b ≡ false → IsMadeFrom (λ k x p. IsPlannedBesides asked indexes firsts l x p) 0 (map mapped_of (take (i + 1) ms)) (map planned_of old)
   second_same is_old = made_none (λ k x p. IsPlannedBesides asked indexes firsts l x p) mapped_of planned_of ms i m old below is so_far
@@ -103,8 +93,7 @@ planned_copy m copy u item o v copied same = same ∙ ap (λ (x : Mapped). plann
 
 pair_cases : (xs ys : List Mapped) (m : Mapped) → HasPair (xs ++ ys) m → HasPair xs m ⊎ HasPair ys m
 pair_cases [] ys m has = inr has
-pair_cases (x ∷ xs) ys m (inl same) = inl (inl same)
-pair_cases (x ∷ xs) ys m (inr has) = search (rules, pair_cases xs ys m)
+pair_cases (x ∷ xs) ys m has = search (rules, pair_cases xs ys m)
 
 -- of mappings without equal pairs, none has that of a later one
 apart_before : (l : List Mapped) (k : ℕ) (m : Mapped) → AreApart l → k < length l → get_or l k m ≡ m → HasPair (take k l) m → ⊥
@@ -122,13 +111,8 @@ flag_known xs ys flags apart flagged k d below =
     let at : n ≡ length xs + k = ap (λ (j : ℕ). j + k) (length-map xs mapped_of) in
     let same : mapped_of (get_or (xs ++ ys) n e) ≡ m = ap (λ (j : ℕ). mapped_of (get_or (xs ++ ys) j e)) at ∙ ap mapped_of (get_or-append-add xs ys k e) ∙ sym (get_or-map mapped_of ys k e d inside) in
     let told : IsDuplicate by_pair (xs ++ ys) n ↔ HasPair (map mapped_of xs ++ take k (map mapped_of ys)) m =
-    rw (map-append mapped_of xs ys, take-append-add (map mapped_of xs) (map mapped_of ys) k, same) at (duplicate_at (xs ++ ys) n e (omega (arith, at, inside, length-append xs ys))) in (
-      (λ is. elim (pair_cases (map mapped_of xs) (take k (map mapped_of ys)) m (told.0 ((flagged n).0 is))) [
-        | inl has ↦ has
-        | inr has ↦ absurd (apart_before (map mapped_of ys) k m apart below (get_or_default (map mapped_of ys) k m d below) has)
-      ]),
-      (λ has. (flagged n).1 (told.1 (HasPair-left (map mapped_of xs) (take k (map mapped_of ys)) m has))),
-    )
+    rw (map-append mapped_of xs ys, take-append-add (map mapped_of xs) (map mapped_of ys) k, same) at (duplicate_at (xs ++ ys) n e (omega (arith, at, inside, length-append xs ys))) in
+    search (rules, flagged n, told, pair_cases (map mapped_of xs) (take k (map mapped_of ys)) m, apart_before (map mapped_of ys) k m apart below (get_or_default (map mapped_of ys) k m d below), HasPair-left (map mapped_of xs) (take k (map mapped_of ys)) m)
 
 -- ---- the mappings of specs
 
@@ -154,13 +138,9 @@ split_again xs ys all fs bs n whole at front back = (
 pub judged_of : (asked tracking : List Asked) (indexes : List ℕ) (xs ys fs bs : List Mapping) (before behind new : List Update) → (fs ≡ xs) × (bs ≡ ys)
     → AreFirst asked (map mapped_of xs) (map planned_of before) → AreSecond tracking indexes (map mapped_of fs) (map mapped_of bs) (map planned_of behind) → new ≡ before ++ behind
     → AreJudged asked (map mapped_of xs) tracking indexes (map mapped_of ys) (map planned_of new)
-judged_of asked tracking indexes xs ys fs bs before behind new (first, second) are_before are_behind joined = record {
-  before = map planned_of before;
-  behind = map planned_of behind;
-  are_before = are_before;
-  are_behind = rw (first, second) at are_behind;
-  all = ap (map planned_of) joined ∙ map-append planned_of before behind;
-}
+judged_of asked tracking indexes xs ys fs bs before behind new (first, second) are_before are_behind joined =
+    let seconds = rw (first, second) at are_behind in
+    record { before = map planned_of before; behind = map planned_of behind; are_before = are_before; are_behind = seconds; all = ap (map planned_of) joined ∙ map-append planned_of before behind }
 
 -- the front of two lists that were joined
 pub front_again : (xs ys all fs : List Mapping) (n : ℕ) → all ≡ xs ++ ys → n ≡ length xs → fs ≡ take n all → fs ≡ xs

@@ -3,7 +3,7 @@ use Rattle.gix_refspec_plan.proofs.Common.{◌≡◌, ◌⊎◌, inl, inr, ◌�
 use Rattle.gix_refspec_plan.proofs.Common.{slice_get, get_or_default, All-from_recursion, Contains-append_cases, Contains-append_left, Contains-append_right, Contains-get_or, recursion_from_All}
 use Rattle.gix_refspec_plan.proofs.Common.{slice_get_read, Origin, Verdict, InvalidSide, Ref, HasPair, IsSamePair, Mapped, IsValidSource, Asked, CanBeWritten, HasOrigin, HasSecondVerdict, HasVerdict}
 use Rattle.gix_refspec_plan.proofs.Common.{IsContested, IsPlan, IsPlanned, IsPlannedBesides, IsSound, IsTakenOver, IsUnwritableAt, Planned, Wish, ConflictsExactly, DoConflict, All-contains, Written}
-use Rattle.gix_refspec_plan.proofs.Common.{LeftOut, InConflict, Overruled}
+use Rattle.gix_refspec_plan.proofs.Common.{LeftOut, InConflict, rules}
 use Rattle.gix_refspec.specs.declared.match_group.ref_names.InvalidSide.TheVariants as invalid
 use Rattle.gix_refspec_plan.proofs.lemmas.plan.JudgeLemmas.{mappings_of, tracked_mappings}
 use Rattle.gix_refspec_plan.proofs.lemmas.plan.MadeLemmas.{made_from, nothing_in, made_has}
@@ -13,8 +13,7 @@ use Rattle.gix_refspec_plan.proofs.lemmas.plan.MadeLemmas.{made_from, nothing_in
 -- a mapping with an invalid side isn't sound
 pub unsound : (side : InvalidSide) (m : Mapped) → IsUnwritableAt side m → ¬ (IsSound m)
 unsound invalid.Source m (bad, good) sound = bad sound.source
-unsound invalid.Destination m (good, bad) sound = bad sound.destination
-unsound invalid.Both m (bad, also) sound = bad sound.source
+unsound side m is sound = search rules
 
 module _ (firsts l : List Mapped) (m : Mapped) where
   second_sound_of : (v : Verdict) → HasSecondVerdict firsts l m v → (v ≡ Written) ⊎ (v ≡ InConflict) → IsSound m × ¬ (IsTakenOver firsts m)
@@ -22,10 +21,8 @@ module _ (firsts l : List Mapped) (m : Mapped) where
   second_sound_of v has (inr is) = let told = subst (HasSecondVerdict firsts l m) is has in (told.0, told.1)
 
   pub second_conflict_of : (v : Verdict) → IsSound m → ¬ (IsTakenOver firsts m) → IsContested l m → HasSecondVerdict firsts l m v → v ≡ InConflict
-  second_conflict_of Written sound free contested has = absurd (has.2 contested)
-  second_conflict_of (LeftOut side) sound free contested has = absurd (unsound side m has sound)
   second_conflict_of InConflict sound free contested has = refl
-  second_conflict_of Overruled sound free contested has = absurd (free has.1)
+  second_conflict_of v sound free contested has = absurd (search (rules, unsound))
 
 -- a verdict of one list is the same where another list without mappings wins
 module _ (l : List Mapped) (m : Mapped) where
@@ -33,10 +30,8 @@ module _ (l : List Mapped) (m : Mapped) where
   untaken (n, has, sound, share) = nothing_in [] n refl has
 
   pub as_second : (v : Verdict) → HasVerdict l m v → HasSecondVerdict [] l m v
-  as_second Written (sound, free) = (sound, untaken, free)
   as_second (LeftOut side) is = is
-  as_second InConflict (sound, contested) = (sound, untaken, contested)
-  as_second Overruled none = absurd none
+  as_second v is = search (rules, untaken)
 
   sound_of : (v : Verdict) → HasVerdict l m v → (v ≡ Written) ⊎ (v ≡ InConflict) → IsSound m
   sound_of v has either = (second_sound_of [] l m v (as_second v has) either).0

@@ -11,10 +11,7 @@ taken_cases l m k = (
     | inl before ↦ inl (n, before, sound, item)
     | inr same ↦ inr (subst (λ (x : Mapped). IsSound x × (x.item ≡ Some k)) (sym same) (sound, item))
   ]),
-  (λ either. elim either [
-    | inl (n, has, sound, item) ↦ (n, Contains-append_left l (m ∷ []) n has, sound, item)
-    | inr (sound, item) ↦ (m, Contains-push l m, sound, item)
-  ]),
+  (λ either. search (rules, Contains-append_left l (m ∷ []), Contains-push l m)),
 )
 
 -- the items of the mappings so far are flagged
@@ -43,10 +40,8 @@ module _ (mappings : List Mapping) (i : ℕ) (m : Mapping) (len : ℕ) (flags : 
   with_mapping : (new : List Bool) → length new ≡ len
       → ((k : ℕ) → k < len → IsFlagged new k ↔ (IsFlagged flags k ⊎ (IsSound (mapped_of m) × ((mapped_of m).item ≡ Some k)))) → AreTakenFlags (map mapped_of (take (i + 1) mappings)) len new
   with_mapping new long each =
-      let whole : map mapped_of (take (i + 1) mappings) ≡ map mapped_of (take i mappings) ++ mapped_of m ∷ [] = map_more mapped_of mappings i m below ∙ ap (λ (x : Mapping). map mapped_of (take i mappings) ++ mapped_of x ∷ []) (sym is) in (
-        long,
-        record { each = λ k inside. rw whole (search (rules, taken_cases (map mapped_of (take i mappings)) (mapped_of m) k, so_far.1.each k inside, each k inside)) },
-      )
+      let whole : map mapped_of (take (i + 1) mappings) ≡ map mapped_of (take i mappings) ++ mapped_of m ∷ [] = map_more mapped_of mappings i m below ∙ ap (λ (x : Mapping). map mapped_of (take i mappings) ++ mapped_of x ∷ []) (sym is) in
+      (long, record { each = λ k inside. rw whole (search (rules, taken_cases (map mapped_of (take i mappings)) (mapped_of m) k, so_far.1.each k inside, each k inside)) })
 
   -- a sound mapping of an item
   pub taken_here : (j : ℕ) → IsSound (mapped_of m) → m.item_index ≡ Some j → j < len → AreTakenFlags (map mapped_of (take (i + 1) mappings)) len (set flags j true)

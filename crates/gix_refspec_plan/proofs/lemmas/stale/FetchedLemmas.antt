@@ -4,7 +4,7 @@ use Rattle.gix_refspec_plan.proofs.Common.{nat_eq, refl, sym, ap, ◌∙◌, sub
 use Rattle.gix_refspec_plan.proofs.Common.{IsAccepted, IsPositive, SideKind, pattern, full_name, object, partial, HasKind, IsCandidate, filled, written_name_of, Ref, HasName, Matches, MatchesAs}
 use Rattle.gix_refspec_plan.proofs.Common.{IsFirstCandidate, Takes, all_join, Lacks-here, Lacks-ContainsText, Source, name, id, Mapped, HasPair, IsSamePair, IsExcluded, IsSourceExcluded}
 use Rattle.gix_refspec_plan.proofs.Common.{AreKeptForward, IsFilled, matches_as, one_forward, one_kind, IsCompleted, CanWriteFrom, CanWriteObject, IsFetched, IsSourceOf, IsWritableFromObject}
-use Rattle.gix_refspec_plan.proofs.Common.{ref_named, AreMappedBy, HasDestination, sides_agree, All-contains, All-from_recursion, CanWrite}
+use Rattle.gix_refspec_plan.proofs.Common.{ref_named, AreMappedBy, HasDestination, sides_agree, All-contains, All-from_recursion, CanWrite, rules}
 use Rattle.std.proofs.lemmas.Bool.Decides.{Decides-eqb}
 use Rattle.gix_refspec_text.specs.declared.oid.Kind.{Kind}
 use Rattle.gix_refspec_text.specs.declared.oid.Kind.TheVariants.{Sha1, Sha256}
@@ -126,16 +126,13 @@ filled_matches x d r word n (inl (one, has)) takes (kind, of, is) =
   where
     by_kind : (k : SideKind) → HasKind d k → (w : List ℕ) → word ≡ Some w → Some n ≡ Some (filled k (Some w)) → MatchesAs k (ref_named n) word
     by_kind (pattern before after) of w some same = subst (MatchesAs (pattern before after) (ref_named n)) (sym some) (cc (same))
-    by_kind (full_name m) of w some same = absurd (Lacks-ContainsText star d of.1 has)
-    by_kind (object bytes) of w some same = absurd (Lacks-ContainsText star d of.0 has)
-    by_kind (partial m) of w some same = absurd (Lacks-ContainsText star d of.1 has)
+    by_kind k of w some same = absurd (search (rules, Lacks-ContainsText star d))
 filled_matches x d r word n (inr (lacks_x, lacks, begins)) takes (kind, of, is) = record { kind = kind; of = of; is = by_kind kind of is }
   where
     by_kind : (k : SideKind) → HasKind d k → Some n ≡ Some (filled k word) → MatchesAs k (ref_named n) word
     by_kind (pattern before after) of same = absurd (Lacks-here star before after (subst (Lacks star) of.starred lacks))
     by_kind (full_name m) of same = (plain_word x r word lacks_x takes, cc (same))
-    by_kind (object bytes) of same = absurd (of.1 begins)
-    by_kind (partial m) of same = absurd (of.2 begins)
+    by_kind k of same = absurd (search rules)
 
 -- and the other way round
 matches_filled : (d : List ℕ) (word : Option (List ℕ)) (n : List ℕ) → HasStar d ⊎ BeginsWith (codes "refs/") d → Matches d (ref_named n) word → IsFilled (Some d) word (Some n)
@@ -146,10 +143,7 @@ matches_filled d word n shape matches = by_kind matches.kind matches.of word mat
     by_kind (pattern before after) of (Some w) holds = (pattern before after, of, ap Some holds)
     by_kind (full_name m) of v holds = (full_name m, of, ap Some holds.1)
     by_kind (object bytes) of v holds = absurd (no_object_named d n v bytes of holds)
-    by_kind (partial m) of v holds = elim shape [
-      | inl has ↦ absurd (Lacks-ContainsText star d of.1 has)
-      | inr begins ↦ absurd (of.2 begins)
-    ]
+    by_kind (partial m) of v holds = absurd (search (rules, shape, Lacks-ContainsText star d of.1, of.2))
 
 pub far_there : (side word : Option (List ℕ)) (n : List ℕ) → IsFilled side word (Some n) → (d : List ℕ) × (side ≡ Some d) × IsFilled (Some d) word (Some n)
 far_there None word n none = absurd (cc (none))
@@ -162,16 +156,8 @@ module _ (r c : Reading) (accepted : ∥ IsAccepted r ∥₁) (done : IsComplete
   sides_alike : (x d : List ℕ) → c.source ≡ Some x → c.destination ≡ Some d → AreAlike x d
   sides_alike x d source destination =
       let (e, was, shape) = completed_side r.destination c.destination d done.destination destination in
-      elim ((sides_agree r accepted).both x e (sym done.source ∙ source) was) [
-        | inl (one_x, one_e) ↦ elim shape [
-          | inl (has_e, has) ↦ inl (one_x, has)
-          | inr (lacks, lacks_d, begins) ↦ absurd (Lacks-here star one_e.0 one_e.1 (subst (Lacks star) one_e.2.starred lacks))
-        ]
-        | inr (lacks_x, lacks_e) ↦ elim shape [
-          | inl (has_e, has) ↦ absurd (Lacks-ContainsText star e lacks_e has_e)
-          | inr (lacks, lacks_d, begins) ↦ inr (lacks_x, lacks_d, begins)
-        ]
-      ]
+      let starred : HasOneStar e → HasStar e = λ one. record { before = one.0; after = one.1; here = one.2.starred } in
+      search (rules, (sides_agree r accepted).both x e (sym done.source ∙ source) was, shape, starred, Lacks-ContainsText star e)
 
   destination_shape : (d : List ℕ) → c.destination ≡ Some d → HasStar d ⊎ BeginsWith (codes "refs/") d
   destination_shape d destination =

@@ -3,7 +3,7 @@ use Rattle.gix_refspec_plan.proofs.Common.{◌≡◌, ◌⊎◌, inl, inr, ℕ, 
 use Rattle.gix_refspec_plan.proofs.Common.{AllByRecursion, Contains, get_or_default, take_more, Pattern, star, BeginsWith, Lacks, HasStar, IsSplit, Reading, with_destination, IsAccepted, IsPositive}
 use Rattle.gix_refspec_plan.proofs.Common.{SideKind, pattern, full_name, object, partial, HasKind, Fits, written_name_of, Matches, MatchesAs, split_once, Lacks-here, Lacks-ContainsText, Exclusions}
 use Rattle.gix_refspec_plan.proofs.Common.{IsMadeFrom, IsExcluded, AreExclusionsAt, AreExclusionsOf, ExcludeName, same_side, CanWrite, IsSourceOf, IsWritable, ref_named, HasNameState, HasParts}
-use Rattle.gix_refspec_plan.proofs.Common.{HasPatternState, HasState, IsPatternSource, WritesName, WritesNameFrom, WritesPattern, sides_agree, Excluded, Included, Unwritable}
+use Rattle.gix_refspec_plan.proofs.Common.{HasPatternState, HasState, IsPatternSource, WritesName, WritesNameFrom, WritesPattern, sides_agree, Excluded, Included, Unwritable, rules}
 use Rattle.gix_refspec_plan.specs.declared.stale.State.{State}
 use Rattle.gix_refspec_plan.proofs.lemmas.stale.FetchedLemmas.{accepted_in, completed_destination, no_object_named, written_below, written_lacks}
 use Rattle.gix_refspec_plan.proofs.lemmas.plan.MadeLemmas.{nothing_in, push_all, made_has, made_from}
@@ -76,9 +76,7 @@ writes_cases r n word by =
         → (WritesName r n × (v ≡ None)) ⊎ ((d : List ℕ) × (before : List ℕ) × (after : List ℕ) × (w : List ℕ) × (r.destination ≡ Some d) × IsSplit before after d × (v ≡ Some w) × Fits before after n w)
     by_kind x was (inl (has, same)) (pattern before after) of None holds = absurd holds
     by_kind x was (inl (has, same)) (pattern before after) of (Some w) holds = inr (by.destination, before, after, w, was ∙ ap Some same, of, refl, holds)
-    by_kind x was (inl (has, same)) (full_name m) of v holds = absurd (Lacks-ContainsText star by.destination of.1 (subst HasStar same has))
-    by_kind x was (inl (has, same)) (object bytes) of v holds = absurd (no_object_named by.destination n v bytes of holds)
-    by_kind x was (inl (has, same)) (partial m) of v holds = absurd (Lacks-ContainsText star by.destination of.1 (subst HasStar same has))
+    by_kind x was (inl (has, same)) k of v holds = absurd (search (rules, Lacks-ContainsText star by.destination, subst HasStar same has))
     by_kind x was (inr (lacks, same)) (pattern before after) of v holds = absurd (Lacks-here star before after (subst (Lacks star) (same ∙ of.starred) (written_lacks x lacks)))
     by_kind x was (inr (lacks, same)) (full_name m) of v holds = inl (record { positive = by.positive; destination = x; has = was; lacks = lacks; is = holds.1 ∙ of.0 ∙ sym same }, holds.0)
     by_kind x was (inr (lacks, same)) (object bytes) of v holds = absurd (no_object_named by.destination n v bytes of holds)

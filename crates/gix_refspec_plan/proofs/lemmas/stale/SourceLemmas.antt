@@ -20,20 +20,9 @@ starred_unwritten r d n (Some parts) is some (starred, first) by =
 -- the texts before and after the only star
 pub parts_split : (x : List ℕ) (found : Option (Bor (List ℕ) × Bor (List ℕ))) → ¬ (HasSeveralStars x) → IsSplitAt x found → HasParts (Some x) found
 parts_split x None few lacks = λ y before after is split. lacks_no_pattern x before after lacks (let same : x ≡ y = cc (is) in subst (IsSplit before after) (sym same) split)
-parts_split x (Some parts) few (starred, first) = (
-  x,
-  refl,
-  record {
-    starred = starred;
-    first = first;
-    last = Lacks-from_absent star parts.1.now (λ more. few (record {
-      before = parts.0.now;
-      between = more.before;
-      after = more.after;
-      here = starred ∙ ap (λ (y : List ℕ). parts.0.now ++ (star ∷ y)) more.here;
-    }));
-  },
-)
+parts_split x (Some parts) few (starred, first) =
+    let last = Lacks-from_absent star parts.1.now (λ more. few (record { before = parts.0.now; between = more.before; after = more.after; here = starred ∙ ap (λ (y : List ℕ). parts.0.now ++ (star ∷ y)) more.here })) in
+    (x, refl, record { starred = starred; first = first; last = last })
 
 -- without these texts a reading writes by no pattern
 pub unsplit_unwritten : (r : Reading) (p : Pattern) → HasParts r.destination None → ¬ (WritesPattern r p)

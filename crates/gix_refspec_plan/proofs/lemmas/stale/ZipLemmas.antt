@@ -1,12 +1,11 @@
 -- Readings and the same with completed destinations.
-use Rattle.gix_refspec_plan.proofs.Common.{ℕ, zero, suc, List, [], ◌∷◌, refl, sym, ◌∙◌, subst, arith, AllZip, Any, Contains, Reading, IsExcluded, IsExcludedBy, IsCompleted, rules}
+use Rattle.gix_refspec_plan.proofs.Common.{ℕ, zero, suc, List, ◌∷◌, refl, sym, ◌∙◌, subst, arith, AllZip, Any, Contains, Reading, IsExcluded, IsExcludedBy, IsCompleted, rules}
 
 -- what an element is paired with in a zip
 pub zip_partner : {X Y : Type 0} (R : X → Y → Type 0) (xs : List X) (ys : List Y) (x : X) → AllZip R xs ys → Contains xs x → (y : Y) × R x y × Contains ys y
-zip_partner R [] ys x all (k, below, is) = absurd (omega (arith, below))
-zip_partner R (z ∷ xs) [] x all there = absurd all
 zip_partner {X} R (z ∷ xs) (y ∷ ys) x all (zero, below, is) = (y, subst (λ (v : X). R v y) is all.0, (zero, omega arith, refl))
 zip_partner R (z ∷ xs) (y ∷ ys) x all (suc k, below, is) = let (w, related, (j, inside, at)) = zip_partner R xs ys x all.1 (k, omega (arith, below), is) in (w, related, (suc j, omega (arith, inside), at))
+zip_partner R xs ys x all there = absurd (first_of (search rules, omega arith))
 
 pub there_any : {Y : Type 0} (P : Y → Type 0) (y : Y) (ys : List Y) → Contains ys y → P y → Any P ys
 there_any P y ys (k, below, is) holds = (k, y, below, is, holds)
@@ -16,13 +15,11 @@ zip_there R xs ys P x all there holds = let (y, related, inside) = zip_partner R
 
 -- the pair of a second element
 pub zip_first : {X Y : Type 0} (R : X → Y → Type 0) (P : Y → Type 0) (xs : List X) (ys : List Y) → AllZip R xs ys → Any P ys → (x : X) × (y : Y) × Contains xs x × R x y × P y
-zip_first R P [] [] all (k, y, below, is, has) = absurd (omega (arith, below))
-zip_first R P [] (y ∷ ys) all any = absurd all
-zip_first R P (x ∷ xs) [] all any = absurd all
 zip_first R P (x ∷ xs) (y ∷ ys) all (zero, z, below, is, has) = (x, y, (zero, omega arith, refl), all.0, subst P (sym is) has)
 zip_first R P (x ∷ xs) (y ∷ ys) all (suc k, z, below, is, has) =
     let (v, w, (i, under, there), related, holds) = zip_first R P xs ys all.1 (k, z, omega (arith, below), is, has) in
     (v, w, (suc i, omega (arith, under), there), related, holds)
+zip_first R P xs ys all any = absurd (first_of (search rules, omega arith))
 
 -- they exclude the same
 pub same_excluded : (r c : Reading) (n : List ℕ) → IsCompleted r c → IsExcludedBy n c → IsExcludedBy n r

@@ -1,5 +1,5 @@
 -- An item is taken where its index is flagged.
-use Rattle.gix_refspec_plan.proofs.Common.{map, sym, ◌∙◌, take_all, arith, false≢true, mapped_of, some_element, asked_of}
+use Rattle.gix_refspec_plan.proofs.Common.{map, sym, ◌∙◌, take_all, arith, false≢true, mapped_of, some_element, rules}
 use Rattle.gix_refspec_plan.proofs.lemmas.plan.TakenLemmas.{picked_here, picked_same}
 use Rattle.gix_refspec_plan.proofs.specs.taken_by.Goals as goal
 
@@ -21,11 +21,6 @@ loop-index-preserved c =
 
 pub returns : goal.returns
 returns c =
-    let picked = rw (take_all c.loop-index.index c.args.items.now (omega arith)) at c.loop-index.invariant in record {
-      asked = map asked_of c.in_ok-positive.positive.items;
-      mapped = map mapped_of c.in_ok-mappings.mappings.items;
-      are_asked = c.in_ok-positive.ensures;
-      are_mapped = rw c.as_slice-2.ensures.value at c.in_ok-mappings.ensures;
-      are_indexes = picked.are_indexes;
-      are_taken = picked.are_taken;
-    }
+    let picked = rw (take_all c.loop-index.index c.args.items.now (omega arith)) at c.loop-index.invariant in
+    let mapped = rw c.as_slice-2.ensures.value at c.in_ok-mappings.ensures in
+    search (rules, picked.are_indexes, picked.are_taken, mapped, c.in_ok-positive.ensures)
