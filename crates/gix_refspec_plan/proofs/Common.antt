@@ -9,9 +9,9 @@ pub use Rattle.std.specs.Map.{lookup}
 pub use Rattle.std.specs.Option.{option_flatten, option_or}
 pub use Rattle.std.specs.Ordering.{nat_cmp}
 pub use Rattle.std.proofs.Math.Seq.{drop-append_seam, take-append-add, take-append_seam}
-pub use Rattle.std.proofs.lemmas.Bool.{MatchBool-at_false, MatchBool-at_true, cases_Bool, cases_eq, cases_lt, eqb-true, false≢true}
-pub use Rattle.std.proofs.lemmas.List.{append_cancel_left, get_or-append-add, get_or-map, get_or-replicate, get_or-set_other, get_or-set_same, get_or-take, get_or_append_left, get_or_default}
-pub use Rattle.std.proofs.lemmas.List.{get_or_push, length-map, length-replicate, length-set, length-take-le, length_push, map-append, map_more, nil_from_length, take-map, take_more}
+pub use Rattle.std.proofs.lemmas.Bool.{MatchBool-at_false, MatchBool-at_true, cases_eq, cases_lt, eqb-true, false≢true}
+pub use Rattle.std.proofs.lemmas.List.{append_cancel_left, get_or-append-add, get_or-map, get_or-replicate, get_or-set_other, get_or-set_same, get_or-take, get_or_append_left, get_or_default, get_or_push}
+pub use Rattle.std.proofs.lemmas.List.{length-map, length-replicate, length-set, length-take-le, length_push, map-append, map_more, nil_from_length, take-map, take_more}
 pub use Rattle.std.proofs.lemmas.List.Elements.{All-contains, All-from_recursion, All-map, All-more, Contains-append_cases, Contains-append_left, Contains-append_right, Contains-get_or, Contains-push}
 pub use Rattle.std.proofs.lemmas.List.Elements.{Contains-push_cases, recursion_from_All}
 pub use Rattle.std.proofs.lemmas.Option.{same_Some, slice_get-map, slice_get_read}
@@ -56,9 +56,9 @@ pub use Rattle.gix_refspec.specs.declared.match_group.ref_names.InvalidSide.{Inv
 pub use Rattle.gix_refspec.proofs.lemmas.specs.SideLawLemmas.{sides_agree}
 pub use Rattle.gix_refspec.proofs.lemmas.validate.RefNameLemmas.{copied_mapping, name_of_ref}
 pub use Rattle.gix_refspec_plan.specs.Laws.Fetches.{AreWrittenApart, AreWrittenOnce, CarriedOutExactly, ConflictsExactly, DoConflict, IsRequired, OnePlan, WritesOnce}
-pub use Rattle.gix_refspec_plan.specs.Matching.Plan.{AreAsked, AreConfigured, AreLacking, AreMapped, AreMerges, AreTaken, AreThose, AreUncovered, Asked, CanBeWritten, Covers, HasOrigin}
-pub use Rattle.gix_refspec_plan.specs.Matching.Plan.{HasSecondVerdict, HasVerdict, IsCarriedOut, IsCompleted, IsContested, IsNegativeReading, IsPlan, IsPlanned, IsPlannedBesides, IsPositiveReading}
-pub use Rattle.gix_refspec_plan.specs.Matching.Plan.{IsSound, IsTakenAt, IsTakenOver, IsTracked, IsUnwritableAt, MayBeMissing, Planned, Wish, tags_asked}
+pub use Rattle.gix_refspec_plan.specs.Matching.Plan.{AreAsked, AreConfigured, AreLacking, AreMapped, AreMerges, AreTaken, AreThose, AreUncovered, Asked, CanBeWritten, Covers, HasOrigin, HasSecondVerdict}
+pub use Rattle.gix_refspec_plan.specs.Matching.Plan.{HasVerdict, IsCarriedOut, IsCompleted, IsContested, IsNegativeReading, IsPlan, IsPlanned, IsPlannedBesides, IsPositiveReading, IsSound, IsTakenAt}
+pub use Rattle.gix_refspec_plan.specs.Matching.Plan.{IsTakenOver, IsTracked, IsUnwritableAt, MayBeMissing, Planned, Wish, tags_asked}
 pub use Rattle.gix_refspec_plan.specs.Matching.Stale.{CanWrite, CanWriteFrom, CanWriteObject, Found, IsFetched, IsKeptBy, IsSourceOf, IsStale, IsWritable, IsWritableFromObject, ref_named}
 pub use Rattle.gix_refspec_plan.specs.Private.Plans.{AreMappedBy, AreNames, AreNewDestinations, AreSoundNames, FlagCovered, FlagsTaken, IsIn, origin_in}
 pub use Rattle.gix_refspec_plan.specs.Private.Stales.{AddsName, AddsPattern, AreDestinations, AreWriters, AreWritersOf, FlagWritten, HasDestination, HasNameState, HasParts, HasPatternState, HasState}

@@ -1,6 +1,6 @@
 -- Examples of the definitions of the laws on fetches, and what a caller concludes from these laws.
-use Rattle.gix_refspec_plan.proofs.Common.{◌≡◌, ◌≢◌, inl, inr, false, List, [], ◌∷◌, Some, codes, refl, sym, ap, arith, Origin, Verdict, head, Forced, Normal, Reading, fetched_alone, Ref, name}
-use Rattle.gix_refspec_plan.proofs.Common.{LacksSource, IsCarriedOut, IsPlan, Planned, Wish, AreWrittenOnce, CarriedOutExactly, ConflictsExactly, DoConflict, IsRequired, OnePlan, WritesOnce}
+use Rattle.gix_refspec_plan.proofs.Common.{◌≡◌, ◌≢◌, inl, inr, false, List, [], ◌∷◌, Some, codes, refl, sym, ap, arith, Origin, Verdict, head, Forced, Normal, Reading, fetched_alone, Ref, name, LacksSource}
+use Rattle.gix_refspec_plan.proofs.Common.{IsCarriedOut, IsPlan, Planned, Wish, AreWrittenOnce, CarriedOutExactly, ConflictsExactly, DoConflict, IsRequired, OnePlan, WritesOnce}
 use Rattle.gix_refspec_text.proofs.facts.FitFacts.{every, other_byte, short, short_kind}
 use Rattle.gix_refspec_match.proofs.facts.MatchFacts.{bytes_in}
 use Rattle.gix_refspec_plan.specs.declared.Origin.TheVariants as origin

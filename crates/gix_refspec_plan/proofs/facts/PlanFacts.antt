@@ -1,9 +1,9 @@
 -- Examples of the definitions on plans: what Git completes and leaves out, and the verdicts.
 use Rattle.gix_refspec_plan.proofs.Common.{◌≡◌, inl, inr, ℕ, true, false, List, [], ◌∷◌, ◌++◌, None, Some, codes, map, option_map, take, refl, sym, ap, ◌∙◌, subst, arith, Contains, bstr_bytes}
-use Rattle.gix_refspec_plan.proofs.Common.{bstring_bytes, DeclaredAsked, Update, Verdict, star, Normal, Forced, Negative, Reading, all_tags, fetched_alone, with_destination, fetched, IsCandidate}
-use Rattle.gix_refspec_plan.proofs.Common.{partial, Matches, reading_of, Mapped, AreMissing, LacksSource, start_of, nothing_made, AreLacking, AreMerges, AreThose, CanBeWritten, Covers}
-use Rattle.gix_refspec_plan.proofs.Common.{HasSecondVerdict, HasVerdict, IsCarriedOut, IsCompleted, IsContested, IsNegativeReading, IsPositiveReading, IsSound, IsTakenOver, IsUnwritableAt}
-use Rattle.gix_refspec_plan.proofs.Common.{MayBeMissing, Planned, tags_asked, same_Some, Lacks-ContainsText, IsRefName, asked_of, planned_of, wish_of}
+use Rattle.gix_refspec_plan.proofs.Common.{bstring_bytes, DeclaredAsked, Update, Verdict, star, Normal, Forced, Negative, Reading, all_tags, fetched_alone, with_destination, fetched, IsCandidate, partial}
+use Rattle.gix_refspec_plan.proofs.Common.{Matches, reading_of, Mapped, AreMissing, LacksSource, start_of, nothing_made, AreLacking, AreMerges, AreThose, CanBeWritten, Covers, HasSecondVerdict, HasVerdict}
+use Rattle.gix_refspec_plan.proofs.Common.{IsCarriedOut, IsCompleted, IsContested, IsNegativeReading, IsPositiveReading, IsSound, IsTakenOver, IsUnwritableAt, MayBeMissing, Planned, tags_asked, same_Some}
+use Rattle.gix_refspec_plan.proofs.Common.{Lacks-ContainsText, IsRefName, asked_of, planned_of, wish_of}
 use Rattle.gix_refspec_plan.specs.declared.Wish.{Wish as DeclaredWish}
 use Rattle.gix_refspec_text.proofs.lemmas.texts.TestedLemmas.{IsName-tested}
 use Rattle.gix_refspec_text.proofs.facts.ManualFacts.{Lacks-tested, other_length}

@@ -1,7 +1,6 @@
 -- Examples of the definition of stale refs: what keeps a local ref from being stale, and one that is.
-use Rattle.gix_refspec_plan.proofs.Common.{◌≡◌, ◌⊎◌, inl, inr, ℕ, List, [], ◌∷◌, ◌++◌, None, Some, codes, refl, sym, ap, ◌∙◌, subst, arith, Contains, append_cancel_left, same_Some, star, Lacks}
-use Rattle.gix_refspec_plan.proofs.Common.{Negative, Normal, Reading, IsPositive, fetched, full_name, partial, pattern, the_name, split_once, Lacks-here, CanWrite, CanWriteFrom, CanWriteObject}
-use Rattle.gix_refspec_plan.proofs.Common.{IsStale}
+use Rattle.gix_refspec_plan.proofs.Common.{◌≡◌, ◌⊎◌, inl, inr, ℕ, List, [], ◌∷◌, ◌++◌, None, Some, codes, refl, sym, ap, ◌∙◌, subst, arith, Contains, append_cancel_left, same_Some, star, Lacks, Negative}
+use Rattle.gix_refspec_plan.proofs.Common.{Normal, Reading, IsPositive, fetched, full_name, partial, pattern, the_name, split_once, Lacks-here, CanWrite, CanWriteFrom, CanWriteObject, IsStale}
 use Rattle.gix_refspec_text.proofs.facts.ManualFacts.{Lacks-tested, named, other_length}
 use Rattle.gix_refspec_text.proofs.facts.ObjectIdFacts.{empty_blob}
 use Rattle.gix_refspec_text.proofs.facts.FitFacts.{blob_kind, every, heads_split, main_ref, origin_split, short_kind}
@@ -49,8 +48,7 @@ from_blob : CanWriteObject (to_x (codes "e69de29bb2d1d6434b8b29ae775ad8c2e48c539
 from_blob = record { writes = writes_x _; source = codes "e69de29bb2d1d6434b8b29ae775ad8c2e48c5391"; is = refl; bytes = empty_blob; asks = blob_kind }
 
 -- what could be written from a ref of the remote, from an excluded one or from an object isn't stale
-pub not_stale : ¬ (IsStale (to_x (codes "main") ∷ []) (named (codes "refs/tags/main") ∷ []) x)
-    × ¬ (IsStale (to_x (codes "main") ∷ no_tag ∷ []) [] x)
+pub not_stale : ¬ (IsStale (to_x (codes "main") ∷ []) (named (codes "refs/tags/main") ∷ []) x) × ¬ (IsStale (to_x (codes "main") ∷ no_tag ∷ []) [] x)
     × ¬ (IsStale (to_x (codes "e69de29bb2d1d6434b8b29ae775ad8c2e48c5391") ∷ []) [] x)
 not_stale = (
   (λ stale. stale.absent (codes "refs/tags/main") (to_x (codes "main"), first (to_x (codes "main")) [], from_tag) (inl refl)),

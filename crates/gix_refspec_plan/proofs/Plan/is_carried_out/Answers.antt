@@ -1,6 +1,6 @@
 -- An update that is in conflict stops the fetch.
-use Rattle.gix_refspec_plan.proofs.Common.{◌≡◌, ◌≢◌, [], map, refl, sym, subst, take_all, arith, eqb-true, false≢true, nil_from_length, All-map, All-more, recursion_from_All, Update, IsCarriedOut}
-use Rattle.gix_refspec_plan.proofs.Common.{Planned, planned_of, each_mapped, InConflict}
+use Rattle.gix_refspec_plan.proofs.Common.{◌≡◌, ◌≢◌, [], map, refl, sym, subst, take_all, arith, eqb-true, false≢true, nil_from_length, All-map, All-more, recursion_from_All, Update, IsCarriedOut, Planned}
+use Rattle.gix_refspec_plan.proofs.Common.{planned_of, each_mapped, InConflict}
 use Rattle.gix_refspec_plan.proofs.Plan.is_carried_out.Goals as goal
 
 -- what is planned isn't in conflict

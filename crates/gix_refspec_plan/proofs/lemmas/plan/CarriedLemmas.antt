@@ -1,8 +1,8 @@
 -- A plan is carried out exactly if no source is missing that has to be there, and no two updates conflict.
 use Rattle.gix_refspec_plan.proofs.Common.{◌≡◌, ◌≢◌, ◌⊎◌, inl, inr, ℕ, Bool, true, false, List, [], ◌∷◌, ◌++◌, codes, take, get_or, refl, sym, ap, subst, arith, Contains, All-from_recursion}
-use Rattle.gix_refspec_plan.proofs.Common.{Contains-append_cases, Contains-append_left, Contains-get_or, recursion_from_All, same_Some, Origin, star, Lacks, Reading, all_tags, fetched_alone, head}
-use Rattle.gix_refspec_plan.proofs.Common.{Ref, LacksSource, AreAsked, AreConfigured, AreThose, AreUncovered, Asked, Covers, IsPlan, MayBeMissing, Planned, Wish, tags_asked, IsRefName}
-use Rattle.gix_refspec_plan.proofs.Common.{CarriedOutExactly, IsRequired, All-contains, InConflict, Configured, Default, Given, Merge, rules}
+use Rattle.gix_refspec_plan.proofs.Common.{Contains-append_cases, Contains-append_left, Contains-get_or, recursion_from_All, same_Some, Origin, star, Lacks, Reading, all_tags, fetched_alone, head, Ref}
+use Rattle.gix_refspec_plan.proofs.Common.{LacksSource, AreAsked, AreConfigured, AreThose, AreUncovered, Asked, Covers, IsPlan, MayBeMissing, Planned, Wish, tags_asked, IsRefName, CarriedOutExactly}
+use Rattle.gix_refspec_plan.proofs.Common.{IsRequired, All-contains, InConflict, Configured, Default, Given, Merge, rules}
 use Rattle.gix_refspec_plan.proofs.lemmas.plan.MadeLemmas.{made_from, made_has, nothing_in, one_in}
 use Rattle.gix_refspec_plan.proofs.lemmas.plan.OpposedLemmas.{in_conflict, opposed}
 
@@ -36,10 +36,7 @@ merges_may wish refs merges a (inr (configured, mapped, those, are_mapped, made)
 
 -- the spec for all tags lacks nothing
 pub tags_lack_nothing : (refs : List Ref) → ¬ (LacksSource refs all_tags)
-tags_lack_nothing refs lacks = elim lacks.named [
-  | inl full ↦ starred full.1
-  | inr short ↦ starred short.1
-]
+tags_lack_nothing refs lacks = elim lacks.named [ inl full ↦ starred full.1 | inr short ↦ starred short.1 ]
   where
     starred : ¬ (Lacks star lacks.source)
     starred lack = (subst (Lacks star) (sym (same_Some (codes "refs/tags/*") lacks.source lacks.is)) lack).1.1.1.1.1.1.1.1.1.1.0 refl
@@ -79,10 +76,9 @@ asked_required wish refs asked a (AreAsked.without all none are is) has stays =
     search (rules, Contains-append_cases all (tags_asked wish.tags) a inside, by are, tags_are wish.tags a)
   where
     by : AreConfigured wish refs all → Contains all a → IsRequired wish a.reading
-    by (AreConfigured.by_configuration configured merges some those uncovered joined) inside = elim (Contains-append_cases configured merges a (subst (λ (l : List Asked). Contains l a) joined inside)) [
-      | inl configures ↦ IsRequired.by_configuration none (those_are Configured wish.configured configured a those configures)
-      | inr merged ↦ absurd (stays (merges_may wish refs merges a uncovered merged))
-    ]
+    by (AreConfigured.by_configuration configured merges some those uncovered joined) inside =
+        let cases = Contains-append_cases configured merges a (subst (λ (l : List Asked). Contains l a) joined inside) in
+        search (rules, cases, those_are Configured wish.configured configured a those, merges_may wish refs merges a uncovered)
     by (AreConfigured.by_default none_configured none_merged only) inside = IsRequired.by_default none none_configured none_merged (ap (λ (x : Asked). x.reading) (one_in _ a (subst (λ (l : List Asked). Contains l a) only inside)))
 
 -- ---- whether the plan is carried out

@@ -1,8 +1,8 @@
 -- Names that stand behind others, as duplicates among all: merged refs behind the refs of sound mappings, and local refs behind destinations.
 use Rattle.gix_refspec_plan.proofs.Common.{◌≡◌, ◌⊎◌, inl, inr, ◌↔◌, IsTrue, Bool, false, ℕ, ◌+◌, ◌-◌, ◌<◌, ◌≤◌, List, [], ◌∷◌, ◌++◌, length, map, take, get_or, sym, ap, ◌∙◌, arith, Contains}
-use Rattle.gix_refspec_plan.proofs.Common.{take-append-add, cases_lt, get_or-append-add, get_or-map, get_or-take, get_or_append_left, get_or_push, length-append, length-map, length-take-le}
-use Rattle.gix_refspec_plan.proofs.Common.{length_push, Contains-append_cases, Contains-append_left, Contains-append_right, BStr, bstr_bytes, Mapped, name, FlagsDuplicates, IsDuplicate, IsFlagged}
-use Rattle.gix_refspec_plan.proofs.Common.{some_element, Covers, IsSound, AreNames, same_Some, HasDestination, ref_names, Ref, Some, rules}
+use Rattle.gix_refspec_plan.proofs.Common.{take-append-add, cases_lt, get_or-append-add, get_or-map, get_or-take, get_or_append_left, get_or_push, length-append, length-map, length-take-le, length_push}
+use Rattle.gix_refspec_plan.proofs.Common.{Contains-append_cases, Contains-append_left, Contains-append_right, BStr, bstr_bytes, Mapped, name, FlagsDuplicates, IsDuplicate, IsFlagged, some_element, Covers}
+use Rattle.gix_refspec_plan.proofs.Common.{IsSound, AreNames, same_Some, HasDestination, ref_names, Ref, Some, rules}
 use Rattle.std.specs.declared.cmp.Ordering.{Ordering}
 use Rattle.gix_refspec_match.specs.Private.Orders.{bytes_order, equal_texts, same_texts}
 use Rattle.gix_refspec_plan.specs.Private.Stales.{AreNames as AreLocalNames}

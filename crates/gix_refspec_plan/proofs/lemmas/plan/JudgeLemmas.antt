@@ -1,11 +1,11 @@
 -- The updates of mappings, one by one.
 use Rattle.gix_refspec_plan.proofs.Common.{◌≡◌, ◌⊎◌, inl, inr, ◌↔◌, IsTrue, ℕ, zero, suc, ◌+◌, ◌<◌, Bool, Bor, true, false, List, [], ◌∷◌, ◌++◌, Option, None, IsSome, MatchOption, option_map, length}
-use Rattle.gix_refspec_plan.proofs.Common.{length-append, map, take, drop, get_or, append-nil, refl, sym, ap, ◌∙◌, subst, arith, rules, BTreeMap, is_at, lookup, slice_cmp, nat_cmp, AllByRecursion}
-use Rattle.gix_refspec_plan.proofs.Common.{AllZip, Contains, slice_get, drop-append_seam, take-append-add, take-append_seam, false≢true, get_or-append-add, get_or-map, get_or_default, length-map}
-use Rattle.gix_refspec_plan.proofs.Common.{map-append, take_more, All-from_recursion, slice_get-map, slice_get_read, DeclaredAsked, Origin, Update, Verdict, Mapping, Ref, IsMadeFrom, AreApart}
-use Rattle.gix_refspec_plan.proofs.Common.{HasPair, IsSamePair, Mapped, FlagsDuplicates, IsDuplicate, IsFlagged, IsMappingCopy, mapped_of, AreAsked, AreLacking, AreMapped, Asked, HasOrigin}
-use Rattle.gix_refspec_plan.proofs.Common.{HasSecondVerdict, HasVerdict, IsCompleted, IsPlan, IsPlanned, IsPlannedBesides, IsTracked, Planned, Wish, AreFirst, AreJudged, AreMappings, AreSecond}
-use Rattle.gix_refspec_plan.proofs.Common.{CountDestinations, FlagKnown, IsCount, planned_by, asked_of, planned_of, copied_mapping, each_mapped, Overruled}
+use Rattle.gix_refspec_plan.proofs.Common.{length-append, map, take, drop, get_or, append-nil, refl, sym, ap, ◌∙◌, subst, arith, rules, BTreeMap, is_at, lookup, slice_cmp, nat_cmp, AllByRecursion, AllZip}
+use Rattle.gix_refspec_plan.proofs.Common.{Contains, slice_get, drop-append_seam, take-append-add, take-append_seam, false≢true, get_or-append-add, get_or-map, get_or_default, length-map, map-append}
+use Rattle.gix_refspec_plan.proofs.Common.{take_more, All-from_recursion, slice_get-map, slice_get_read, DeclaredAsked, Origin, Update, Verdict, Mapping, Ref, IsMadeFrom, AreApart, HasPair, IsSamePair}
+use Rattle.gix_refspec_plan.proofs.Common.{Mapped, FlagsDuplicates, IsDuplicate, IsFlagged, IsMappingCopy, mapped_of, AreAsked, AreLacking, AreMapped, Asked, HasOrigin, HasSecondVerdict, HasVerdict}
+use Rattle.gix_refspec_plan.proofs.Common.{IsCompleted, IsPlan, IsPlanned, IsPlannedBesides, IsTracked, Planned, Wish, AreFirst, AreJudged, AreMappings, AreSecond, CountDestinations, FlagKnown, IsCount}
+use Rattle.gix_refspec_plan.proofs.Common.{planned_by, asked_of, planned_of, copied_mapping, each_mapped, Overruled}
 use Rattle.gix_refspec_match.proofs.lemmas.keep.KeptLemmas.{HasPair-left, by_pair, duplicate_at, kept_once}
 use Rattle.gix_refspec_match.proofs.lemmas.keep.RepeatLemmas.{some_mapping}
 use Rattle.gix_refspec.proofs.lemmas.validate.AfterLemmas.{forward_fits}

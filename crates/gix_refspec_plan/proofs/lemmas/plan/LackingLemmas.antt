@@ -1,7 +1,7 @@
 -- The origins of the specs whose source no ref has, by the indexes of these specs.
 use Rattle.gix_refspec_plan.proofs.Common.{◌≡◌, ℕ, suc, ◌+◌, ◌<◌, List, [], ◌∷◌, ◌++◌, Option, None, Some, option_to_list, length, map, take, get_or, refl, sym, ap, ◌∙◌, subst, zero-add, arith}
-use Rattle.gix_refspec_plan.proofs.Common.{AllByRecursion, get_or-map, get_or_default, length-map, length-take-le, map-append, take_more, All-from_recursion, DeclaredAsked, RefSpecRef, reading_of}
-use Rattle.gix_refspec_plan.proofs.Common.{asked_of, Origin, Reading, Ref, IsMadeFrom, MakesOf, AreMissing, LacksSource, made_next, AreLacking, Asked, MayBeMissing}
+use Rattle.gix_refspec_plan.proofs.Common.{AllByRecursion, get_or-map, get_or_default, length-map, length-take-le, map-append, take_more, All-from_recursion, DeclaredAsked, RefSpecRef, reading_of, asked_of}
+use Rattle.gix_refspec_plan.proofs.Common.{Origin, Reading, Ref, IsMadeFrom, MakesOf, AreMissing, LacksSource, made_next, AreLacking, Asked, MayBeMissing}
 
 -- the indexes are those of specs
 missing_below : (refs : List Ref) (len k : ℕ) (g : List Reading) (missing : List ℕ) → k + length g ≡ len → IsMadeFrom (λ n r made. (made ≡ n) × LacksSource refs r) k g missing → AllByRecursion (λ n. n < len) missing

@@ -1,6 +1,6 @@
 -- Elements of lists, and what a relation makes of them.
-use Rattle.gix_refspec_plan.proofs.Common.{◌≡◌, ◌↔◌, ◌<◌, ◌+◌, ◌++◌, ◌∙◌, ℕ, zero, suc, List, [], ◌∷◌, None, Some, length, map, take, get_or, append-nil, map-append, refl, sym, ap, subst, arith}
-use Rattle.gix_refspec_plan.proofs.Common.{Contains, IsMadeFrom, MakesOnly, any_made, made_any, made_more, some_at, some_of, inl, inr, Contains-push_cases}
+use Rattle.gix_refspec_plan.proofs.Common.{◌≡◌, ◌↔◌, ◌<◌, ◌+◌, ◌++◌, ◌∙◌, ℕ, zero, suc, List, [], ◌∷◌, None, Some, length, map, take, get_or, append-nil, map-append, refl, sym, ap, subst, arith, Contains}
+use Rattle.gix_refspec_plan.proofs.Common.{IsMadeFrom, MakesOnly, any_made, made_any, made_more, some_at, some_of, inl, inr, Contains-push_cases}
 
 pub nothing_in : {X : Type 0} (l : List X) (x : X) → l ≡ [] → ¬ (Contains l x)
 nothing_in {X} l x empty has = let (i, below, at) = subst (λ (m : List X). Contains m x) empty has in omega (arith, below)

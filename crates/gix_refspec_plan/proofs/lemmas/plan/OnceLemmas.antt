@@ -1,7 +1,7 @@
 -- No ref is written twice.
-use Rattle.gix_refspec_plan.proofs.Common.{◌≡◌, ℕ, ◌+◌, List, [], ◌∷◌, ◌++◌, None, Some, get_or, refl, sym, ◌∙◌, subst, arith, AllByRecursion, Contains, Contains-get_or, recursion_from_All, Ref}
-use Rattle.gix_refspec_plan.proofs.Common.{all_join, IsMadeFrom, AreApart, IsSamePair, Mapped, Asked, HasSecondVerdict, HasVerdict, IsContested, IsPlanned, IsPlannedBesides, IsSound, Planned, Wish}
-use Rattle.gix_refspec_plan.proofs.Common.{AreWrittenApart, AreWrittenOnce, WritesOnce, Written}
+use Rattle.gix_refspec_plan.proofs.Common.{◌≡◌, ℕ, ◌+◌, List, [], ◌∷◌, ◌++◌, None, Some, get_or, refl, sym, ◌∙◌, subst, arith, AllByRecursion, Contains, Contains-get_or, recursion_from_All, Ref, all_join}
+use Rattle.gix_refspec_plan.proofs.Common.{IsMadeFrom, AreApart, IsSamePair, Mapped, Asked, HasSecondVerdict, HasVerdict, IsContested, IsPlanned, IsPlannedBesides, IsSound, Planned, Wish, AreWrittenApart}
+use Rattle.gix_refspec_plan.proofs.Common.{AreWrittenOnce, WritesOnce, Written}
 use Rattle.gix_refspec_plan.proofs.lemmas.plan.JudgeLemmas.{mappings_of, tracked_mappings}
 use Rattle.gix_refspec_plan.proofs.lemmas.plan.MadeLemmas.{there, made_from}
 

@@ -1,9 +1,9 @@
 -- A wish and the refs of a remote have one plan.
-use Rattle.gix_refspec_plan.proofs.Common.{◌≡◌, ◌⊎◌, inl, inr, ℕ, List, [], ◌∷◌, ◌++◌, Option, None, Some, MatchOption, map, take, refl, sym, ap, ◌∙◌, subst, AllZip, Contains, slice_get, same_Some}
-use Rattle.gix_refspec_plan.proofs.Common.{Origin, Verdict, InvalidSide, star, Lacks, HasStar, Reading, fetched_alone, written_name_of, Ref, Lacks-ContainsText, Mapped, AreKeptForward, LacksSource}
-use Rattle.gix_refspec_plan.proofs.Common.{one_forward, IsRefName, AreAsked, AreConfigured, AreMapped, AreMerges, AreTaken, AreThose, AreUncovered, Asked, Covers, HasOrigin, HasSecondVerdict}
-use Rattle.gix_refspec_plan.proofs.Common.{HasVerdict, IsCompleted, IsNegativeReading, IsPlanned, IsPlannedBesides, IsPositiveReading, IsTakenAt, IsTracked, IsUnwritableAt, MayBeMissing, Planned}
-use Rattle.gix_refspec_plan.proofs.Common.{Wish, OnePlan, rules, Written, LeftOut, InConflict, Overruled, Configured, Given, Merge}
+use Rattle.gix_refspec_plan.proofs.Common.{◌≡◌, ◌⊎◌, inl, inr, ℕ, List, [], ◌∷◌, ◌++◌, Option, None, Some, MatchOption, map, take, refl, sym, ap, ◌∙◌, subst, AllZip, Contains, slice_get, same_Some, Origin}
+use Rattle.gix_refspec_plan.proofs.Common.{Verdict, InvalidSide, star, Lacks, HasStar, Reading, fetched_alone, written_name_of, Ref, Lacks-ContainsText, Mapped, AreKeptForward, LacksSource, one_forward}
+use Rattle.gix_refspec_plan.proofs.Common.{IsRefName, AreAsked, AreConfigured, AreMapped, AreMerges, AreTaken, AreThose, AreUncovered, Asked, Covers, HasOrigin, HasSecondVerdict, HasVerdict, IsCompleted}
+use Rattle.gix_refspec_plan.proofs.Common.{IsNegativeReading, IsPlanned, IsPlannedBesides, IsPositiveReading, IsTakenAt, IsTracked, IsUnwritableAt, MayBeMissing, Planned, Wish, OnePlan, rules, Written}
+use Rattle.gix_refspec_plan.proofs.Common.{LeftOut, InConflict, Overruled, Configured, Given, Merge}
 use Rattle.gix_refspec_match.proofs.lemmas.lists.ListsLemmas.{made_once}
 use Rattle.gix_refspec.specs.declared.match_group.ref_names.InvalidSide.TheVariants as invalid
 use Rattle.gix_refspec_plan.proofs.lemmas.plan.OpposedLemmas.{unsound, as_second}
@@ -26,11 +26,8 @@ destination_once (Some t) x y (inr (plain, is)) (inr (again, also)) = is ∙ sym
 
 pub reading_once : (r a b : Reading) → IsCompleted r a → IsCompleted r b → a ≡ b
 reading_once r a b is also =
-    let operation = is.operation ∙ sym also.operation in
-    let mode = is.mode ∙ sym also.mode in
-    let source = is.source ∙ sym also.source in
     let destination = destination_once r.destination a.destination b.destination is.destination also.destination in
-    λ i. record { operation = operation i; mode = mode i; source = source i; destination = destination i }
+    λ i. record { operation = (is.operation ∙ sym also.operation) i; mode = (is.mode ∙ sym also.mode) i; source = (is.source ∙ sym also.source) i; destination = destination i }
 
 pub completed_once : (g a b : List Reading) → AllZip IsCompleted g a → AllZip IsCompleted g b → a ≡ b
 completed_once [] [] [] all also = refl

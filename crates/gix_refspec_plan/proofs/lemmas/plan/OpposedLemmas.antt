@@ -1,9 +1,8 @@
 -- An update is in conflict exactly if it conflicts with another one.
-use Rattle.gix_refspec_plan.proofs.Common.{◌≡◌, ◌⊎◌, inl, inr, ◌↔◌, ℕ, suc, ◌<◌, List, [], ◌∷◌, Option, None, Some, IsSome, MatchOption, get_or, length, refl, sym, ◌∙◌, subst, arith, Contains}
-use Rattle.gix_refspec_plan.proofs.Common.{slice_get, get_or_default, All-from_recursion, Contains-append_cases, Contains-append_left, Contains-append_right, Contains-get_or, recursion_from_All}
-use Rattle.gix_refspec_plan.proofs.Common.{slice_get_read, Origin, Verdict, InvalidSide, Ref, HasPair, IsSamePair, Mapped, IsValidSource, Asked, CanBeWritten, HasOrigin, HasSecondVerdict, HasVerdict}
-use Rattle.gix_refspec_plan.proofs.Common.{IsContested, IsPlan, IsPlanned, IsPlannedBesides, IsSound, IsTakenOver, IsUnwritableAt, Planned, Wish, ConflictsExactly, DoConflict, All-contains, Written}
-use Rattle.gix_refspec_plan.proofs.Common.{LeftOut, InConflict, rules}
+use Rattle.gix_refspec_plan.proofs.Common.{◌≡◌, ◌⊎◌, inl, inr, ◌↔◌, ℕ, suc, ◌<◌, List, [], ◌∷◌, Option, None, Some, IsSome, MatchOption, get_or, length, refl, sym, ◌∙◌, subst, arith, Contains, slice_get}
+use Rattle.gix_refspec_plan.proofs.Common.{get_or_default, All-from_recursion, Contains-append_cases, Contains-append_left, Contains-append_right, Contains-get_or, recursion_from_All, slice_get_read}
+use Rattle.gix_refspec_plan.proofs.Common.{Origin, Verdict, InvalidSide, Ref, HasPair, IsSamePair, Mapped, IsValidSource, Asked, CanBeWritten, HasOrigin, HasSecondVerdict, HasVerdict, IsContested, IsPlan}
+use Rattle.gix_refspec_plan.proofs.Common.{IsPlanned, IsPlannedBesides, IsSound, IsTakenOver, IsUnwritableAt, Planned, Wish, ConflictsExactly, DoConflict, All-contains, Written, LeftOut, InConflict, rules}
 use Rattle.gix_refspec.specs.declared.match_group.ref_names.InvalidSide.TheVariants as invalid
 use Rattle.gix_refspec_plan.proofs.lemmas.plan.JudgeLemmas.{mappings_of, tracked_mappings}
 use Rattle.gix_refspec_plan.proofs.lemmas.plan.MadeLemmas.{made_from, nothing_in, made_has}

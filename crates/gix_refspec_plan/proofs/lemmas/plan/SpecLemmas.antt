@@ -1,8 +1,8 @@
 -- The specs and the merged refs that are asked for, one by one.
-use Rattle.gix_refspec_plan.proofs.Common.{◌≡◌, ◌≢◌, ◌⊎◌, inl, inr, ◌==◌, Bool, true, false, ℕ, ◌+◌, ◌<◌, List, [], ◌∷◌, ◌++◌, map, take, get_or, length, refl, sym, ap, ◌∙◌, append_assoc, arith}
-use Rattle.gix_refspec_plan.proofs.Common.{eqb-true, false≢true, map-append, BStr, bstr_bytes, NameRef, Mapped, name, start_of, AreNames, DeclaredAsked, Origin, Reading, Ref, reading_of, AreAsked}
-use Rattle.gix_refspec_plan.proofs.Common.{AreConfigured, AreThose, Asked, Wish, tags_asked, asked_of, map_next, Given, ◌↔◌, Contains, get_or-map, length-map, fetched_alone, IsFlagged, IsRefName}
-use Rattle.gix_refspec_plan.proofs.Common.{Covers, FlagCovered, Merge}
+use Rattle.gix_refspec_plan.proofs.Common.{◌≡◌, ◌≢◌, ◌⊎◌, inl, inr, ◌==◌, Bool, true, false, ℕ, ◌+◌, ◌<◌, List, [], ◌∷◌, ◌++◌, map, take, get_or, length, refl, sym, ap, ◌∙◌, append_assoc, arith, eqb-true}
+use Rattle.gix_refspec_plan.proofs.Common.{false≢true, map-append, BStr, bstr_bytes, NameRef, Mapped, name, start_of, AreNames, DeclaredAsked, Origin, Reading, Ref, reading_of, AreAsked, AreConfigured}
+use Rattle.gix_refspec_plan.proofs.Common.{AreThose, Asked, Wish, tags_asked, asked_of, map_next, Given, ◌↔◌, Contains, get_or-map, length-map, fetched_alone, IsFlagged, IsRefName, Covers, FlagCovered}
+use Rattle.gix_refspec_plan.proofs.Common.{Merge}
 use Rattle.gix_refspec_match.specs.declared.types.SourceRef.{SourceRef}
 use Rattle.gix_refspec_match.specs.declared.types.SourceRef.TheVariants as source_ref
 

@@ -1,8 +1,8 @@
 -- The items that sound mappings are of.
-use Rattle.gix_refspec_plan.proofs.Common.{◌≡◌, ◌≢◌, ◌⊎◌, inl, inr, ◌↔◌, Bool, true, false, ℕ, ◌+◌, ◌-◌, ◌<◌, ◌≤◌, List, [], ◌∷◌, ◌++◌, Option, None, Some, length, map, take, get_or, set, replicate}
-use Rattle.gix_refspec_plan.proofs.Common.{refl, sym, ap, ◌∙◌, subst, arith, cases_eq, false≢true, append-nil, get_or-replicate, get_or-set_other, get_or-set_same, length-replicate, length-set}
-use Rattle.gix_refspec_plan.proofs.Common.{map-append, map_more, take_all, Contains-append_left, Contains-push, Contains-push_cases, Item, Mapping, Ref, IsMadeFrom, Mapped, IsFlagged, mapped_of}
-use Rattle.gix_refspec_plan.proofs.Common.{ref_of, made_more, IsSound, IsTakenAt, FlagsTaken, rules}
+use Rattle.gix_refspec_plan.proofs.Common.{◌≡◌, ◌≢◌, ◌⊎◌, inl, inr, ◌↔◌, Bool, true, false, ℕ, ◌+◌, ◌-◌, ◌<◌, ◌≤◌, List, [], ◌∷◌, ◌++◌, Option, None, Some, length, map, take, get_or, set, replicate, refl}
+use Rattle.gix_refspec_plan.proofs.Common.{sym, ap, ◌∙◌, subst, arith, cases_eq, false≢true, append-nil, get_or-replicate, get_or-set_other, get_or-set_same, length-replicate, length-set, map-append}
+use Rattle.gix_refspec_plan.proofs.Common.{map_more, take_all, Contains-append_left, Contains-push, Contains-push_cases, Item, Mapping, Ref, IsMadeFrom, Mapped, IsFlagged, mapped_of, ref_of, made_more}
+use Rattle.gix_refspec_plan.proofs.Common.{IsSound, IsTakenAt, FlagsTaken, rules}
 
 -- one more mapping takes its item, if it is sound
 taken_cases : (l : List Mapped) (m : Mapped) (k : ℕ) → IsTakenAt (l ++ m ∷ []) k ↔ (IsTakenAt l k ⊎ (IsSound m × (m.item ≡ Some k)))
@@ -50,14 +50,7 @@ module _ (mappings : List Mapping) (i : ℕ) (m : Mapping) (len : ℕ) (flags : 
       (λ flagged. inr (sound, item ∙ ap Some (sym same))),
       (λ either. rw same (get_or-set_same flags j true false (omega (arith, so_far.0)))),
     )
-    | inr other ↦
-        let kept = get_or-set_other flags j k true false other in (
-          (λ flagged. inl (sym kept ∙ flagged)),
-          (λ either. elim either [
-            | inl before ↦ kept ∙ before
-            | inr (_, here) ↦ absurd (let one : Some j ≡ Some k = sym item ∙ here in let at : j ≡ k = cc in other (sym at))
-          ]),
-        )
+    | inr other ↦ let kept = get_or-set_other flags j k true false other in search (rules, kept, item)
   ])
 
   -- another one

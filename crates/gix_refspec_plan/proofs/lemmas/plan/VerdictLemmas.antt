@@ -1,8 +1,8 @@
 -- Which destinations are written, and the verdicts by that.
-use Rattle.gix_refspec_plan.proofs.Common.{◌≡◌, ◌≢◌, ◌⊎◌, ◌↔◌, inl, inr, ℕ, zero, suc, ◌+◌, ◌<◌, Bool, Bor, true, false, cond, List, [], ◌∷◌, ◌++◌, Option, None, Some, is_some, unwrap_or, bytes_eq}
-use Rattle.gix_refspec_plan.proofs.Common.{map, take, get_or, length, refl, sym, ap, ◌∙◌, subst, arith, BTreeMap, UpdatesBy, get_by, is_at, lookup, slice_cmp, nat_cmp, Any, Contains, false≢true}
-use Rattle.gix_refspec_plan.proofs.Common.{map_more, All-from_recursion, Contains-append_left, Contains-push_cases, bytes_eq-Decides, Mapping, Mapped, IsSamePair, AreApart, mapped_of, IsContested}
-use Rattle.gix_refspec_plan.proofs.Common.{IsSound, IsTakenOver, CountDestinations, HasTwo, IsCount, TellContested, WritesTo, rules}
+use Rattle.gix_refspec_plan.proofs.Common.{◌≡◌, ◌≢◌, ◌⊎◌, ◌↔◌, inl, inr, ℕ, zero, suc, ◌+◌, ◌<◌, Bool, Bor, true, false, cond, List, [], ◌∷◌, ◌++◌, Option, None, Some, is_some, unwrap_or, bytes_eq, map}
+use Rattle.gix_refspec_plan.proofs.Common.{take, get_or, length, refl, sym, ap, ◌∙◌, subst, arith, BTreeMap, UpdatesBy, get_by, is_at, lookup, slice_cmp, nat_cmp, Any, Contains, false≢true, map_more}
+use Rattle.gix_refspec_plan.proofs.Common.{All-from_recursion, Contains-append_left, Contains-push_cases, bytes_eq-Decides, Mapping, Mapped, IsSamePair, AreApart, mapped_of, IsContested, IsSound}
+use Rattle.gix_refspec_plan.proofs.Common.{IsTakenOver, CountDestinations, HasTwo, IsCount, TellContested, WritesTo, rules}
 use Rattle.std.proofs.lemmas.List.Quantifiers.{Any-push}
 use Rattle.std.proofs.lemmas.Map.Text.{btree_map_updates_str}
 use Rattle.gix_refspec.specs.Matching.Validation.{HasConflictAt}

@@ -1,10 +1,10 @@
 -- What a fetch writes, and what could be written from an object or from a ref of the remote.
-use Rattle.gix_refspec_plan.proofs.Common.{◌≡◌, ◌⊎◌, inl, inr, ℕ, zero, suc, List, [], ◌∷◌, ◌++◌, ◌||◌, if◌then◌else◌, ◌≢◌, MatchOption, Bool, true, false, Option, None, Some, length, codes, drop}
-use Rattle.gix_refspec_plan.proofs.Common.{nat_eq, refl, sym, ap, ◌∙◌, subst, arith, AllByRecursion, Any, Contains, starts_with, starts_is, star, BeginsWith, Lacks, HasOneStar, HasStar, Reading}
-use Rattle.gix_refspec_plan.proofs.Common.{IsAccepted, IsPositive, SideKind, pattern, full_name, object, partial, HasKind, IsCandidate, filled, written_name_of, Ref, HasName, Matches, MatchesAs}
-use Rattle.gix_refspec_plan.proofs.Common.{IsFirstCandidate, Takes, all_join, Lacks-here, Lacks-ContainsText, Source, name, id, Mapped, HasPair, IsSamePair, IsExcluded, IsSourceExcluded}
-use Rattle.gix_refspec_plan.proofs.Common.{AreKeptForward, IsFilled, matches_as, one_forward, one_kind, IsCompleted, CanWriteFrom, CanWriteObject, IsFetched, IsSourceOf, IsWritableFromObject}
-use Rattle.gix_refspec_plan.proofs.Common.{ref_named, AreMappedBy, HasDestination, sides_agree, All-contains, All-from_recursion, CanWrite, rules}
+use Rattle.gix_refspec_plan.proofs.Common.{◌≡◌, ◌⊎◌, inl, inr, ℕ, zero, suc, List, [], ◌∷◌, ◌++◌, ◌||◌, if◌then◌else◌, ◌≢◌, MatchOption, Bool, true, false, Option, None, Some, length, codes, drop, nat_eq}
+use Rattle.gix_refspec_plan.proofs.Common.{refl, sym, ap, ◌∙◌, subst, arith, AllByRecursion, Any, Contains, starts_with, starts_is, star, BeginsWith, Lacks, HasOneStar, HasStar, Reading, IsAccepted}
+use Rattle.gix_refspec_plan.proofs.Common.{IsPositive, SideKind, pattern, full_name, object, partial, HasKind, IsCandidate, filled, written_name_of, Ref, HasName, Matches, MatchesAs, IsFirstCandidate}
+use Rattle.gix_refspec_plan.proofs.Common.{Takes, all_join, Lacks-here, Lacks-ContainsText, Source, name, id, Mapped, HasPair, IsSamePair, IsExcluded, IsSourceExcluded, AreKeptForward, IsFilled, matches_as}
+use Rattle.gix_refspec_plan.proofs.Common.{one_forward, one_kind, IsCompleted, CanWriteFrom, CanWriteObject, IsFetched, IsSourceOf, IsWritableFromObject, ref_named, AreMappedBy, HasDestination, sides_agree}
+use Rattle.gix_refspec_plan.proofs.Common.{All-contains, All-from_recursion, CanWrite, rules}
 use Rattle.std.proofs.lemmas.Bool.Decides.{Decides-eqb}
 use Rattle.gix_refspec_text.specs.declared.oid.Kind.{Kind}
 use Rattle.gix_refspec_text.specs.declared.oid.Kind.TheVariants.{Sha1, Sha256}

@@ -1,6 +1,6 @@
 -- The destinations of mappings and the names of local refs, one by one.
-use Rattle.gix_refspec_plan.proofs.Common.{◌≡◌, ◌≢◌, ℕ, ◌+◌, ◌<◌, List, [], ◌∷◌, ◌++◌, Option, None, Some, option_map, append_assoc, length, map, take, get_or, refl, map-append, map_more, BStr}
-use Rattle.gix_refspec_plan.proofs.Common.{bstr_bytes, Item, NameRef, Mapped, name_bytes, ref_of}
+use Rattle.gix_refspec_plan.proofs.Common.{◌≡◌, ◌≢◌, ℕ, ◌+◌, ◌<◌, List, [], ◌∷◌, ◌++◌, Option, None, Some, option_map, append_assoc, length, map, take, get_or, refl, map-append, map_more, BStr, bstr_bytes}
+use Rattle.gix_refspec_plan.proofs.Common.{Item, NameRef, Mapped, name_bytes, ref_of}
 use Rattle.gix_refspec_plan.specs.Private.Stales.{AreNames}
 
 -- what is none of the names of a side isn't its text

@@ -1,9 +1,9 @@
 -- What specs say of a local ref, by the names that they write and by their patterns.
-use Rattle.gix_refspec_plan.proofs.Common.{◌≡◌, ◌⊎◌, inl, inr, ℕ, ◌+◌, ◌<◌, List, [], ◌∷◌, ◌++◌, Option, None, Some, MatchOption, codes, get_or, length, take, refl, sym, ap, ◌∙◌, subst, Bor}
-use Rattle.gix_refspec_plan.proofs.Common.{AllByRecursion, Contains, get_or_default, take_more, Pattern, star, BeginsWith, Lacks, HasStar, IsSplit, Reading, with_destination, IsAccepted, IsPositive}
-use Rattle.gix_refspec_plan.proofs.Common.{SideKind, pattern, full_name, object, partial, HasKind, Fits, written_name_of, Matches, MatchesAs, split_once, Lacks-here, Lacks-ContainsText, Exclusions}
-use Rattle.gix_refspec_plan.proofs.Common.{IsMadeFrom, IsExcluded, AreExclusionsAt, AreExclusionsOf, ExcludeName, same_side, CanWrite, IsSourceOf, IsWritable, ref_named, HasNameState, HasParts}
-use Rattle.gix_refspec_plan.proofs.Common.{HasPatternState, HasState, IsPatternSource, WritesName, WritesNameFrom, WritesPattern, sides_agree, Excluded, Included, Unwritable, rules}
+use Rattle.gix_refspec_plan.proofs.Common.{◌≡◌, ◌⊎◌, inl, inr, ℕ, ◌+◌, ◌<◌, List, [], ◌∷◌, ◌++◌, Option, None, Some, MatchOption, codes, get_or, length, take, refl, sym, ap, ◌∙◌, subst, Bor, AllByRecursion}
+use Rattle.gix_refspec_plan.proofs.Common.{Contains, get_or_default, take_more, Pattern, star, BeginsWith, Lacks, HasStar, IsSplit, Reading, with_destination, IsAccepted, IsPositive, SideKind, pattern}
+use Rattle.gix_refspec_plan.proofs.Common.{full_name, object, partial, HasKind, Fits, written_name_of, Matches, MatchesAs, split_once, Lacks-here, Lacks-ContainsText, Exclusions, IsMadeFrom, IsExcluded}
+use Rattle.gix_refspec_plan.proofs.Common.{AreExclusionsAt, AreExclusionsOf, ExcludeName, same_side, CanWrite, IsSourceOf, IsWritable, ref_named, HasNameState, HasParts, HasPatternState, HasState}
+use Rattle.gix_refspec_plan.proofs.Common.{IsPatternSource, WritesName, WritesNameFrom, WritesPattern, sides_agree, Excluded, Included, Unwritable, rules}
 use Rattle.gix_refspec_plan.specs.declared.stale.State.{State}
 use Rattle.gix_refspec_plan.proofs.lemmas.stale.FetchedLemmas.{accepted_in, completed_destination, no_object_named, written_below, written_lacks}
 use Rattle.gix_refspec_plan.proofs.lemmas.plan.MadeLemmas.{nothing_in, push_all, made_has, made_from}

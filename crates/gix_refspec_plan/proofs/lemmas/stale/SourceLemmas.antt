@@ -1,9 +1,9 @@
 -- Sides with a star and without one, the refs for which a source may stand, and one of them that is excluded.
-use Rattle.gix_refspec_plan.proofs.Common.{◌≡◌, ℕ, true, zero, suc, ◌<◌, List, ◌∷◌, ◌++◌, Option, None, Some, MatchOption, All, drop, drop-cons, get_or, length, map, take, take-append-drop, refl, sym}
-use Rattle.gix_refspec_plan.proofs.Common.{ap, ◌∙◌, subst, arith, Bor, Contains, is_some, false≢true, get_or-map, length-map, Contains-append_right, BString, bstring_bytes, star, Lacks}
-use Rattle.gix_refspec_plan.proofs.Common.{HasSeveralStars, IsSplit, Reading, SideKind, full_name, partial, HasKind, IsCandidate, Fits, candidates, Matches, MatchesAs, lacks_no_pattern, one_word}
-use Rattle.gix_refspec_plan.proofs.Common.{Lacks-here, Lacks-from_absent, Exclusions, ExcludeName, ExcludeNameAt, matches_as, same_side, Pattern, ref_named, HasParts, HasPatternState, IsNamedBy}
-use Rattle.gix_refspec_plan.proofs.Common.{IsPatternSource, WritesName, WritesPattern, Included, All-contains, All-map}
+use Rattle.gix_refspec_plan.proofs.Common.{◌≡◌, ℕ, true, zero, suc, ◌<◌, List, ◌∷◌, ◌++◌, Option, None, Some, MatchOption, All, drop, drop-cons, get_or, length, map, take, take-append-drop, refl, sym, ap}
+use Rattle.gix_refspec_plan.proofs.Common.{◌∙◌, subst, arith, Bor, Contains, is_some, false≢true, get_or-map, length-map, Contains-append_right, BString, bstring_bytes, star, Lacks, HasSeveralStars}
+use Rattle.gix_refspec_plan.proofs.Common.{IsSplit, Reading, SideKind, full_name, partial, HasKind, IsCandidate, Fits, candidates, Matches, MatchesAs, lacks_no_pattern, one_word, Lacks-here}
+use Rattle.gix_refspec_plan.proofs.Common.{Lacks-from_absent, Exclusions, ExcludeName, ExcludeNameAt, matches_as, same_side, Pattern, ref_named, HasParts, HasPatternState, IsNamedBy, IsPatternSource}
+use Rattle.gix_refspec_plan.proofs.Common.{WritesName, WritesPattern, Included, All-contains, All-map}
 
 -- ---- sides
 

@@ -1,8 +1,8 @@
 -- Which local refs are stale or kept, by what a fetch writes and what the specs say of a name.
-use Rattle.gix_refspec_plan.proofs.Common.{◌≡◌, ◌⊎◌, inl, inr, ℕ, ◌+◌, ◌<◌, ◌++◌, ◌∷◌, zero, suc, ◌↔◌, Bool, List, [], Option, None, Some, option_to_list, MatchOption, append-nil, length, map, take}
-use Rattle.gix_refspec_plan.proofs.Common.{get_or, sym, ap, ◌∙◌, arith, AllByRecursion, Contains, get_or-map, length-map, map-append, take-map, bstr_bytes, RefSpecRef, reading_of, Item, IsMadeFrom}
-use Rattle.gix_refspec_plan.proofs.Common.{MakesOf, ref_of, IsFlagged, made_more, found_of, Reading, IsAccepted, Ref, HasName, Mapped, Found, IsKeptBy, IsStale, IsWritable, AreMappedBy, FlagWritten}
-use Rattle.gix_refspec_plan.proofs.Common.{HasDestination, HasState, ref_names, Excluded, Included, rules}
+use Rattle.gix_refspec_plan.proofs.Common.{◌≡◌, ◌⊎◌, inl, inr, ℕ, ◌+◌, ◌<◌, ◌++◌, ◌∷◌, zero, suc, ◌↔◌, Bool, List, [], Option, None, Some, option_to_list, MatchOption, append-nil, length, map, take, get_or}
+use Rattle.gix_refspec_plan.proofs.Common.{sym, ap, ◌∙◌, arith, AllByRecursion, Contains, get_or-map, length-map, map-append, take-map, bstr_bytes, RefSpecRef, reading_of, Item, IsMadeFrom, MakesOf, ref_of}
+use Rattle.gix_refspec_plan.proofs.Common.{IsFlagged, made_more, found_of, Reading, IsAccepted, Ref, HasName, Mapped, Found, IsKeptBy, IsStale, IsWritable, AreMappedBy, FlagWritten, HasDestination}
+use Rattle.gix_refspec_plan.proofs.Common.{HasState, ref_names, Excluded, Included, rules}
 use Rattle.gix_refspec_plan.specs.declared.stale.Stale.{Stale}
 use Rattle.gix_refspec_plan.proofs.lemmas.stale.FetchedLemmas.{fetched_written, object_written, present_written, written_fetched, written_from}
 
@@ -64,8 +64,7 @@ module _ (specs : List RefSpecRef) (remote : List Ref) (mapped : List Mapped) (b
 
   add : (made : Option Found) (new : List Found) → MakesOf (Tells (map reading_of specs) remote refs) i (ref_of (get_or local i d)) made → new ≡ map found_of old ++ option_to_list made
       → IsMadeFrom (Tells (map reading_of specs) remote refs) 0 (map ref_of (take (i + 1) local)) new
-  add made new makes more =
-      made_more (Tells (map reading_of specs) remote refs) ref_of local i d (map found_of old) new made below so_far makes more
+  add made new makes more = made_more (Tells (map reading_of specs) remote refs) ref_of local i d (map found_of old) new made below so_far makes more
 
   -- a ref that is told
   pub tell_next : (new : List Stale) (s : Stale) → s.item_index ≡ i → ¬ (IsFlagged flags i) → (¬ (HasDestination mapped n) → MatchOption s.kept_by (IsStale (map reading_of specs) remote n) (IsKeptBy (map reading_of specs) remote n))

@@ -1,8 +1,8 @@
 -- What one more reading writes: a name, or by a pattern.
-use Rattle.gix_refspec_plan.proofs.Common.{◌≡◌, inl, inr, ℕ, Bool, cond, List, [], ◌∷◌, ◌++◌, Option, None, Some, MatchOption, append-nil, bytes_eq, length, refl, sym, ap, ◌∙◌, subst, Contains}
-use Rattle.gix_refspec_plan.proofs.Common.{lookup, option_flatten, option_or, bytes_decides, cases_Bool, false≢true, nil_from_length, BStr, bstr_bytes, Contains-append_left, Contains-push, Pattern}
-use Rattle.gix_refspec_plan.proofs.Common.{star, Lacks, Reading, written_name_of, Lacks-here, Exclusions, IsMadeFrom, AreExclusionsAt, AreExclusionsOf, ExcludeName, ExcludeNameAt, same_side}
-use Rattle.gix_refspec_plan.proofs.Common.{made_next, AddsName, AddsPattern, AreWriters, HasNameState, WritesName, WritesNameFrom, WritesPattern, state_for, option_to_list}
+use Rattle.gix_refspec_plan.proofs.Common.{◌≡◌, ℕ, Bool, cond, List, [], ◌∷◌, ◌++◌, Option, None, Some, MatchOption, append-nil, bytes_eq, length, refl, sym, ap, ◌∙◌, subst, Contains, lookup}
+use Rattle.gix_refspec_plan.proofs.Common.{option_flatten, option_or, bytes_decides, false≢true, nil_from_length, BStr, bstr_bytes, Contains-append_left, Contains-push, Pattern, star, Lacks, Reading}
+use Rattle.gix_refspec_plan.proofs.Common.{written_name_of, Lacks-here, Exclusions, IsMadeFrom, AreExclusionsAt, AreExclusionsOf, ExcludeName, ExcludeNameAt, same_side, made_next, AddsName, AddsPattern}
+use Rattle.gix_refspec_plan.proofs.Common.{AreWriters, HasNameState, WritesName, WritesNameFrom, WritesPattern, state_for, option_to_list, true, false}
 use Rattle.std.specs.HashMap.{hash_map_len}
 use Rattle.gix_refspec_plan.specs.declared.stale.Writers.{Writers}
 use Rattle.gix_refspec_plan.proofs.lemmas.stale.SourceLemmas.{ExcludesNamed}
@@ -39,16 +39,11 @@ module _ (es : Exclusions) (g : List Reading) (r : Reading) where
   -- so a map with one more name has what is known of each
   pub names_more : (n : List ℕ) (e : Option ℕ) (old new : List ℕ → Option (Option ℕ)) → WritesName r n → IsExcludedFor n e → ((m : List ℕ) → new m ≡ cond (bytes_eq n m) (Some (option_or (option_flatten (old n)) e)) (old m))
       → ((m : List ℕ) → HasNameState es g m (old m)) → (m : List ℕ) → HasNameState es (g ++ r ∷ []) m (new m)
-  names_more n e old new writes excluded updates state m = elim (cases_Bool (bytes_eq n m)) [
-    | inl same ↦
-        let is : n ≡ m = (bytes_decides n m).0 same in
-        let here : new m ≡ Some (option_or (option_flatten (old n)) e) = updates m ∙ ap (λ (b : Bool). cond b (Some (option_or (option_flatten (old n)) e)) (old m)) same in
-        subst (HasNameState es (g ++ r ∷ []) m) (sym here) (subst (λ (x : List ℕ). HasNameState es (g ++ r ∷ []) x (Some (option_or (option_flatten (old n)) e))) is (name_written n (old n) e writes excluded (state n)))
-    | inr differ ↦
-        let there : new m ≡ old m = updates m ∙ ap (λ (b : Bool). cond b (Some (option_or (option_flatten (old n)) e)) (old m)) differ in
-        subst (HasNameState es (g ++ r ∷ []) m) (sym there)
-        (name_stays m (old m) (λ also. false≢true (sym differ ∙ (bytes_decides n m).1 (one_written r n m writes also))) (state m))
-  ]
+  names_more n e old new writes excluded updates state m = subst (HasNameState es (g ++ r ∷ []) m) (sym (updates m)) (by (bytes_eq n m) refl)
+    where
+      by : (b : Bool) → bytes_eq n m ≡ b → HasNameState es (g ++ r ∷ []) m (cond b (Some (option_or (option_flatten (old n)) e)) (old m))
+      by true same = subst (λ (x : List ℕ). HasNameState es (g ++ r ∷ []) x (Some (option_or (option_flatten (old n)) e))) ((bytes_decides n m).0 same) (name_written n (old n) e writes excluded (state n))
+      by false differ = name_stays m (old m) (λ also. false≢true (sym differ ∙ (bytes_decides n m).1 (one_written r n m writes also))) (state m)
 
 -- a reading that writes by a pattern, or by none
 patterns_next : (g : List Reading) (r : Reading) (old new : List Pattern) (made : Option Pattern) → MatchOption made ((p : Pattern) → ¬ (WritesPattern r p)) (WritesPattern r) → new ≡ old ++ option_to_list made

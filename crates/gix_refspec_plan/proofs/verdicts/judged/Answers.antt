@@ -1,6 +1,6 @@
 -- The lists are joined, to find which pairs of the second one are in the first, and split again.
-use Rattle.gix_refspec_plan.proofs.Common.{◌++◌, ◌≡◌, [], List, length, map, sym, ◌∙◌, subst, arith, eqb-true, nil_from_length, Mapping, mapped_of, ok_weaker, AreFirst, AreMappings, AreVerdicts}
-use Rattle.gix_refspec_plan.proofs.Common.{asked_of, planned_of}
+use Rattle.gix_refspec_plan.proofs.Common.{◌++◌, ◌≡◌, [], List, length, map, sym, ◌∙◌, subst, arith, eqb-true, nil_from_length, Mapping, mapped_of, ok_weaker, AreFirst, AreMappings, AreVerdicts, asked_of}
+use Rattle.gix_refspec_plan.proofs.Common.{planned_of}
 use Rattle.gix_refspec_plan.proofs.lemmas.plan.JudgeLemmas.{front_again, judged_alone, judged_of, known_of, split_again}
 use Rattle.gix_refspec_plan.proofs.verdicts.judged.Goals as goal
 
