@@ -63,7 +63,7 @@ pub use Rattle.gix_refspec_plan.specs.Matching.Stale.{CanWrite, CanWriteFrom, Ca
 pub use Rattle.gix_refspec_plan.specs.Private.Plans.{AreMappedBy, AreNames, AreNewDestinations, AreSoundNames, FlagCovered, FlagsTaken, IsIn, origin_in}
 pub use Rattle.gix_refspec_plan.specs.Private.Stales.{AddsName, AddsPattern, AreDestinations, AreWriters, AreWritersOf, FlagWritten, HasDestination, HasNameState, HasParts, HasPatternState, HasState}
 pub use Rattle.gix_refspec_plan.specs.Private.Stales.{IsNamedBy, IsPatternSource, IsWrittenBy, WritesName, WritesNameFrom, WritesPattern, ref_names, state_for}
-pub use Rattle.gix_refspec_plan.specs.Private.Verdicts.{AreFirst, AreJudged, AreMappings, AreSecond, AreVerdicts, CountDestinations, FlagKnown, HasTwo, IsCount, TellContested, WritesTo, planned_by}
+pub use Rattle.gix_refspec_plan.specs.Private.Verdicts.{AreFirst, AreJudged, AreMappings, AreSecond, CountDestinations, FlagKnown, HasTwo, IsCount, TellContested, WritesTo, planned_by}
 pub use Rattle.gix_refspec_plan.specs.Views.Plan.{asked_of, planned_of, wish_of}
 pub use Rattle.gix_refspec_plan.specs.Views.Stale.{found_of}
 pub use Rattle.gix_refspec_plan.specs.declared.Asked.{Asked as DeclaredAsked}

@@ -1,7 +1,6 @@
 -- Lemmas on stale refs.
 pub mod ZipLemmas
 pub mod FetchedLemmas
-pub mod NamedLemmas
 pub mod SourceLemmas
 pub mod WriterLemmas
 pub mod PatternLemmas

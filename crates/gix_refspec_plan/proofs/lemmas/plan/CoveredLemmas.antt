@@ -2,7 +2,8 @@
 use Rattle.gix_refspec_plan.proofs.Common.{◌≡◌, ◌⊎◌, inl, inr, ◌↔◌, IsTrue, Bool, false, ℕ, ◌+◌, ◌-◌, ◌<◌, ◌≤◌, List, [], ◌∷◌, ◌++◌, length, map, take, get_or, sym, ap, ◌∙◌, arith, Contains}
 use Rattle.gix_refspec_plan.proofs.Common.{take-append-add, cases_lt, get_or-append-add, get_or-map, get_or-take, get_or_append_left, get_or_push, length-append, length-map, length-take-le, length_push}
 use Rattle.gix_refspec_plan.proofs.Common.{Contains-append_cases, Contains-append_left, Contains-append_right, BStr, bstr_bytes, Mapped, name, FlagsDuplicates, IsDuplicate, IsFlagged, some_element, Covers}
-use Rattle.gix_refspec_plan.proofs.Common.{IsSound, AreNames, same_Some, HasDestination, ref_names, Ref, Some, rules}
+use Rattle.gix_refspec_plan.proofs.Common.{IsSound, AreNames, same_Some, HasDestination, ref_names, Ref, Some, rules, ◌≢◌, Option, None, option_map, append_assoc, refl, map-append, map_more, Item, NameRef}
+use Rattle.gix_refspec_plan.proofs.Common.{name_bytes, ref_of}
 use Rattle.std.specs.declared.cmp.Ordering.{Ordering}
 use Rattle.gix_refspec_match.specs.Private.Orders.{bytes_order, equal_texts, same_texts}
 use Rattle.gix_refspec_plan.specs.Private.Stales.{AreNames as AreLocalNames}
@@ -84,3 +85,15 @@ copied_next all old new fetched i place b (long, so_far) here told more = (
     | inr past ↦ let same : k ≡ i = omega arith in rw (same, more, get_or_push old b false i long, ← here) told
   ],
 )
+
+-- ---- the names of local refs, one by one
+
+-- what is none of the names of a side isn't its text
+pub no_side : (side : Option NameRef) → ((x : NameRef) → side ≢ Some x) → (n : List ℕ) → option_map name_bytes side ≢ Some n
+no_side None none n same = cc (same)
+no_side (Some x) none n same = none x refl
+
+-- one more local ref behind the others
+pub local_next : (local : List Item) (i : ℕ) (d : Item) (mapped : List Mapped) (old new : List BStr) → i < length local
+    → AreLocalNames mapped (map ref_of (take i local)) (map bstr_bytes old) → new ≡ old ++ (get_or local i d).full_ref_name ∷ [] → AreLocalNames mapped (map ref_of (take (i + 1) local)) (map bstr_bytes new)
+local_next local i d mapped old new below (ds, are, whole) more = (ds, are, rw (more, map-append, whole, map_more ref_of local i d below, map-append) (append_assoc ds (map (λ r. r.name) (map ref_of (take i local))) _))

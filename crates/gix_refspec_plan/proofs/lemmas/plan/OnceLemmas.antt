@@ -24,19 +24,13 @@ module _ (all : List Mapped) (R : ℕ → Mapped → Planned → Type 0)
   each_apart j k m p (n ∷ l) ps of_p inside (here, later) (None, rest, none, more, is) =
       rw is (each_apart j (k + 1) m p l rest of_p (λ x has. inside x (there n l x has)) later more)
   each_apart j k m p (n ∷ l) ps of_p inside (here, later) (Some q, rest, of_q, more, is) =
-      rw is (
-        pair_apart j k m n p q of_p of_q (inside n (0, omega arith, refl)) here,
-        each_apart j (k + 1) m p l rest of_p (λ x has. inside x (there n l x has)) later more,
-      )
+      rw is (pair_apart j k m n p q of_p of_q (inside n (0, omega arith, refl)) here, each_apart j (k + 1) m p l rest of_p (λ x has. inside x (there n l x has)) later more)
 
   list_once : (k : ℕ) (l : List Mapped) (ps : List Planned) → ((n : Mapped) → Contains l n → Contains all n) → AreApart l → IsMadeFrom R k l ps → AreWrittenOnce ps
   list_once k [] ps inside apart none = rw none tt
   list_once k (m ∷ l) ps inside (differ, apart) (None, rest, none, more, is) = rw is (list_once (k + 1) l rest (λ x has. inside x (there m l x has)) apart more)
   list_once k (m ∷ l) ps inside (differ, apart) (Some p, rest, of_p, more, is) =
-      rw is (
-        each_apart k (k + 1) m p l rest of_p (λ x has. inside x (there m l x has)) differ more,
-        list_once (k + 1) l rest (λ x has. inside x (there m l x has)) apart more,
-      )
+      rw is (each_apart k (k + 1) m p l rest of_p (λ x has. inside x (there m l x has)) differ more, list_once (k + 1) l rest (λ x has. inside x (there m l x has)) apart more)
 
 -- ---- both lists
 

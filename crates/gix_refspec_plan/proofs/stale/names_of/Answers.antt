@@ -1,5 +1,5 @@
 -- One more local ref behind the others.
-use Rattle.gix_refspec_plan.proofs.lemmas.stale.NamedLemmas.{local_next}
+use Rattle.gix_refspec_plan.proofs.lemmas.plan.CoveredLemmas.{local_next}
 use Rattle.gix_refspec_plan.proofs.stale.names_of.Goals as goal
 
 pub loop-item-preserved : goal.loop-item-preserved

@@ -1,6 +1,5 @@
 -- The lists are joined, to find which pairs of the second one are in the first, and split again.
-use Rattle.gix_refspec_plan.proofs.Common.{◌++◌, ◌≡◌, [], List, length, map, sym, ◌∙◌, subst, arith, eqb-true, nil_from_length, Mapping, mapped_of, ok_weaker, AreFirst, AreMappings, AreVerdicts, asked_of}
-use Rattle.gix_refspec_plan.proofs.Common.{planned_of}
+use Rattle.gix_refspec_plan.proofs.Common.{◌++◌, ◌≡◌, [], List, length, map, sym, ◌∙◌, subst, arith, eqb-true, nil_from_length, Mapping, mapped_of, ok_weaker, AreFirst, asked_of, planned_of, rules}
 use Rattle.gix_refspec_plan.proofs.lemmas.plan.JudgeLemmas.{front_again, judged_alone, judged_of, known_of, split_again}
 use Rattle.gix_refspec_plan.proofs.verdicts.judged.Goals as goal
 
@@ -22,10 +21,8 @@ pub first_updates-requires-2 : goal.first_updates-requires-2
 first_updates-requires-2 c =
     let xs = c.args.firsts.items in
     let at : c.len-firsts_len.result ≡ length xs = omega (arith, c.len-firsts_len.ensures, c.args.firsts.ok.0, c.args.firsts.ok.1) in
-    let back : c.truncate.new.self.items ≡ xs = front_again xs c.args.tracked.mappings.items _ _ _ c.in_ok-append.ensures.items at c.truncate.ensures.items in record {
-      mappings = subst (λ (l : List Mapping). AreMappings (map asked_of c.args.asked.now) (map mapped_of l)) (sym back) c.requires.firsts;
-      verdicts = subst (λ (l : List Mapping). AreVerdicts (map mapped_of l) c.as_slice-7.result.now) (sym back) (rw (c.as_slice-7.ensures.value, ← c.as_slice.ensures.value) c.in_ok-verdicts.ensures);
-    }
+    let back : c.truncate.new.self.items ≡ xs = front_again xs c.args.tracked.mappings.items _ _ _ c.in_ok-append.ensures.items at c.truncate.ensures.items in
+    rw back (search rules)
 
 pub returns : goal.returns
 returns c =
