@@ -1,6 +1,6 @@
 -- Lists that are related element by element.
 use Rattle.gix_refspec_plan.proofs.Common.{◌≡◌, ℕ, zero, suc, ◌+◌, ◌<◌, List, [], ◌∷◌, ◌++◌, length, map, take, get_or, refl, sym, ap, ◌∙◌, subst, arith, AllZip, get_or-map, length-map, map-append}
-use Rattle.gix_refspec_plan.proofs.Common.{take_more}
+use Rattle.gix_refspec_plan.proofs.Common.{take_more, rules}
 
 -- one more pair of a zip
 pub zip_more : {X Y : Type 0} (R : X → Y → Type 0) (xs : List X) (ys : List Y) (x : X) (y : Y) → AllZip R xs ys → R x y → AllZip R (xs ++ x ∷ []) (ys ++ y ∷ [])
@@ -14,10 +14,9 @@ zip_long R (x ∷ xs) (y ∷ ys) all = ap suc (zip_long R xs ys all.1)
 zip_long R xs ys all = absurd all
 
 pub zip_at : {X Y : Type 0} (R : X → Y → Type 0) (xs : List X) (ys : List Y) (i : ℕ) (d : X) (e : Y) → AllZip R xs ys → i < length xs → R (get_or xs i d) (get_or ys i e)
-zip_at R [] ys i d e all below = absurd (omega arith)
-zip_at R (x ∷ xs) [] i d e all below = absurd all
 zip_at R (x ∷ xs) (y ∷ ys) zero d e all below = all.0
 zip_at R (x ∷ xs) (y ∷ ys) (suc i) d e all below = zip_at R xs ys i d e all.1 (omega arith)
+zip_at R xs ys i d e all below = absurd (first_of (search rules, omega arith))
 
 -- mapped lists with one more element each
 pub zip_next : {A X B Y : Type 0} (R : X → Y → Type 0) (f : A → X) (h : B → Y) (xs : List A) (i : ℕ) (x : A) (old new : List B) (y : B) → i < length xs → x ≡ get_or xs i x

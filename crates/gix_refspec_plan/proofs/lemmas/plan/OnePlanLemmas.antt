@@ -19,10 +19,7 @@ Becomes d x = MatchOption d (x ≡ None) (λ t. (HasStar t × (x ≡ Some t)) �
 
 destination_once : (d x y : Option (List ℕ)) → Becomes d x → Becomes d y → x ≡ y
 destination_once None x y is also = is ∙ sym also
-destination_once (Some t) x y (inl (starred, is)) (inl (again, also)) = is ∙ sym also
-destination_once (Some t) x y (inl (starred, is)) (inr (plain, also)) = absurd (Lacks-ContainsText star t plain starred)
-destination_once (Some t) x y (inr (plain, is)) (inl (starred, also)) = absurd (Lacks-ContainsText star t plain starred)
-destination_once (Some t) x y (inr (plain, is)) (inr (again, also)) = is ∙ sym also
+destination_once (Some t) x y of_x of_y = search (rules, of_x, of_y, Lacks-ContainsText star t)
 
 pub reading_once : (r a b : Reading) → IsCompleted r a → IsCompleted r b → a ≡ b
 reading_once r a b is also =

@@ -46,10 +46,7 @@ module _ (mappings : List Mapping) (i : ℕ) (m : Mapping) (len : ℕ) (flags : 
   -- a sound mapping of an item
   pub taken_here : (j : ℕ) → IsSound (mapped_of m) → m.item_index ≡ Some j → j < len → AreTakenFlags (map mapped_of (take (i + 1) mappings)) len (set flags j true)
   taken_here j sound item inside = with_mapping (set flags j true) (length-set flags j true ∙ so_far.0) (λ k under. elim (cases_eq k j) [
-    | inl same ↦ (
-      (λ flagged. inr (sound, item ∙ ap Some (sym same))),
-      (λ either. rw same (get_or-set_same flags j true false (omega (arith, so_far.0)))),
-    )
+    | inl same ↦ let told = get_or-set_same flags j true false (omega (arith, so_far.0)) in rw same (search (rules, told, sound, item))
     | inr other ↦ let kept = get_or-set_other flags j k true false other in search (rules, kept, item)
   ])
 
