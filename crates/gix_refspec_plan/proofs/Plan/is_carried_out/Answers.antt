@@ -9,7 +9,8 @@ IsPlannedFree p = p.verdict ≢ InConflict
 
 pub loop-update-preserved : goal.loop-update-preserved
 loop-update-preserved c =
-    All-more (λ u. u.verdict ≢ InConflict) c.deref-update-items.result.now c.loop-update.update-index c.update-item.result c.loop-update-test.true c.loop-update.invariant (subst (λ (u : Update). u.verdict ≢ InConflict) c.update-item.is c.in_default.not-InConflict)
+    All-more (λ u. u.verdict ≢ InConflict) c.deref-update-items.result.now c.loop-update.update-index c.update-item.result c.loop-update-test.true c.loop-update.invariant
+    (subst (λ (u : Update). u.verdict ≢ InConflict) c.update-item.is c.in_default.not-InConflict)
 
 pub returns-in-InConflict : goal.returns-in-InConflict
 returns-in-InConflict c = (

@@ -107,7 +107,8 @@ carried_out_exactly wish refs planned missing plan = (
         let (a, has, (is, stays)) = required_asked wish refs plan.asked r plan.are_asked required in
         lacking_told wish refs planned missing plan a has stays (subst (LacksSource refs) (sym is) lacks) carried.whole),
     (λ p q has_p has_q both.
-        All-contains (λ (x : Planned). x.verdict ≢ InConflict) planned p (All-from_recursion (λ (x : Planned). x.verdict ≢ InConflict) planned carried.free) has_p (in_conflict wish refs planned missing plan p q has_p has_q both)),
+        All-contains (λ (x : Planned). x.verdict ≢ InConflict) planned p
+        (All-from_recursion (λ (x : Planned). x.verdict ≢ InConflict) planned carried.free) has_p (in_conflict wish refs planned missing plan p q has_p has_q both)),
   )),
   (λ (none, apart). record {
     whole = told_lacking wish refs planned missing plan none missing refl;

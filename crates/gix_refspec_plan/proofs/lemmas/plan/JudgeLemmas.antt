@@ -112,7 +112,8 @@ flag_known xs ys flags apart flagged k d below =
     let same : mapped_of (get_or (xs ++ ys) n e) ≡ m = ap (λ (j : ℕ). mapped_of (get_or (xs ++ ys) j e)) at ∙ ap mapped_of (get_or-append-add xs ys k e) ∙ sym (get_or-map mapped_of ys k e d inside) in
     let told : IsDuplicate by_pair (xs ++ ys) n ↔ HasPair (map mapped_of xs ++ take k (map mapped_of ys)) m =
     rw (map-append mapped_of xs ys, take-append-add (map mapped_of xs) (map mapped_of ys) k, same) at (duplicate_at (xs ++ ys) n e (omega (arith, at, inside, length-append xs ys))) in
-    search (rules, flagged n, told, pair_cases (map mapped_of xs) (take k (map mapped_of ys)) m, apart_before (map mapped_of ys) k m apart below (get_or_default (map mapped_of ys) k m d below), HasPair-left (map mapped_of xs) (take k (map mapped_of ys)) m)
+    let before = apart_before (map mapped_of ys) k m apart below (get_or_default (map mapped_of ys) k m d below) in
+    search (rules, flagged n, told, pair_cases (map mapped_of xs) (take k (map mapped_of ys)) m, before, HasPair-left (map mapped_of xs) (take k (map mapped_of ys)) m)
 
 -- ---- the mappings of specs
 

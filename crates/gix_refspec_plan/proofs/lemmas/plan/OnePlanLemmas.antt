@@ -124,7 +124,8 @@ planned_once : (asked : List Asked) (firsts : List Mapped) (k : ℕ) (m : Mapped
 planned_once asked firsts k m p q is also = same_planned p q (is.source ∙ sym also.source) (is.item ∙ sym also.item) (is.destination ∙ sym also.destination)
     (origin_once asked m p.origin q.origin is.origin also.origin) (verdict_once firsts m p.verdict q.verdict is.verdict also.verdict)
 
-besides_once : (asked : List Asked) (indexes : List ℕ) (firsts seconds : List Mapped) (k : ℕ) (m : Mapped) (p q : Planned) → IsPlannedBesides asked indexes firsts seconds m p → IsPlannedBesides asked indexes firsts seconds m q → p ≡ q
+besides_once : (asked : List Asked) (indexes : List ℕ) (firsts seconds : List Mapped) (k : ℕ) (m : Mapped) (p q : Planned)
+    → IsPlannedBesides asked indexes firsts seconds m p → IsPlannedBesides asked indexes firsts seconds m q → p ≡ q
 besides_once asked indexes firsts seconds k m p q is also = same_planned p q (is.source ∙ sym also.source) (item_once indexes m.item p.item q.item is.item also.item) (is.destination ∙ sym also.destination)
     (origin_once asked m p.origin q.origin is.origin also.origin) (second_verdict_once firsts seconds m p.verdict q.verdict is.verdict also.verdict)
 
@@ -135,9 +136,10 @@ one_plan wish refs p q missing others is also =
     let asked = asked_once wish refs is.asked also.asked is.are_asked also.are_asked in
     let firsts = mapped_once is.asked also.asked refs is.firsts also.firsts asked is.are_firsts also.are_firsts in
     let (tracking, indexes, seconds) = tracked_once wish refs is.tracking also.tracking is.indexes also.indexes is.seconds also.seconds is.are_seconds also.are_seconds in
-    let before = made_once (λ (k : ℕ) (m : Mapped) (p : Planned). IsPlanned also.asked also.firsts m p) (planned_once also.asked also.firsts) 0 also.firsts is.before also.before (rw (asked, firsts) at is.are_before) also.are_before in
-    let behind = made_once (λ (k : ℕ) (m : Mapped) (p : Planned). IsPlannedBesides also.tracking also.indexes also.firsts also.seconds m p) (besides_once also.tracking also.indexes also.firsts also.seconds) 0 also.seconds is.behind also.behind
-    (rw (tracking, indexes, firsts, seconds) at is.are_behind) also.are_behind in (
+    let before = made_once (λ (k : ℕ) (m : Mapped) (p : Planned). IsPlanned also.asked also.firsts m p) (planned_once also.asked also.firsts) 0 also.firsts is.before also.before
+    (rw (asked, firsts) at is.are_before) also.are_before in
+    let behind = made_once (λ (k : ℕ) (m : Mapped) (p : Planned). IsPlannedBesides also.tracking also.indexes also.firsts also.seconds m p)
+    (besides_once also.tracking also.indexes also.firsts also.seconds) 0 also.seconds is.behind also.behind (rw (tracking, indexes, firsts, seconds) at is.are_behind) also.are_behind in (
       is.all ∙ ap (λ (l : List Planned). l ++ is.behind) before ∙ ap (λ (l : List Planned). also.before ++ l) behind ∙ sym also.all,
       made_once (λ (k : ℕ) (a : Asked) (o : Origin). (o ≡ a.origin) × ¬ (MayBeMissing o) × LacksSource refs a.reading) (λ k a x y of_x of_y. of_x.0 ∙ sym of_y.0) 0 also.asked missing others (rw asked at is.lacks) also.lacks,
     )

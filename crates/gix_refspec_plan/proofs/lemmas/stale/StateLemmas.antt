@@ -74,5 +74,6 @@ module _ (specs : List RefSpecRef) (remote : List Ref) (mapped : List Mapped) (b
 
   -- and one that isn't
   pub tell_none : IsFlagged flags i ⊎ ¬ (IsWritable (map reading_of specs) n) → IsMadeFrom (Tells (map reading_of specs) remote refs) 0 (map ref_of (take (i + 1) local)) (map found_of old)
-  tell_none either = add None (map found_of old) (λ f (at, new, state). search (rules, flagged, written_untold (map reading_of specs) remote mapped (all_accepted specs) by n, unwritable_untold (map reading_of specs) remote mapped (all_accepted specs) by n))
-      (sym (append-nil (map found_of old)))
+  tell_none either = add None (map found_of old) (λ f (at, new, state).
+      let untold = written_untold (map reading_of specs) remote mapped (all_accepted specs) by n in
+      search (rules, flagged, untold, unwritable_untold (map reading_of specs) remote mapped (all_accepted specs) by n)) (sym (append-nil (map found_of old)))

@@ -73,7 +73,8 @@ module _ (r : Reading) (old new : Writers) (keeps : new.exclusions ≡ old.exclu
       by_name g es n (Some k) writes (s, named, at) = (s, record { writes = writes; named = named }, at)
 
   -- which writes by the pattern, or nothing
-  pub adds_pattern : (made : Option Pattern) → ((m : List ℕ) → state_for new.names m ≡ state_for old.names m) → MatchOption made ((p : Pattern) → ¬ (WritesPattern r p)) (WritesPattern r) → new.patterns.items ≡ old.patterns.items ++ option_to_list made → AddsPattern r old new
+  pub adds_pattern : (made : Option Pattern) → ((m : List ℕ) → state_for new.names m ≡ state_for old.names m)
+      → MatchOption made ((p : Pattern) → ¬ (WritesPattern r p)) (WritesPattern r) → new.patterns.items ≡ old.patterns.items ++ option_to_list made → AddsPattern r old new
   adds_pattern made same makes more = λ g es none are. record {
     exclusions = keeps ∙ are.exclusions;
     names = λ m. subst (HasNameState es (g ++ r ∷ []) m) (sym (same m)) (name_stays es g r m (state_for old.names m) (none m) (are.names m));

@@ -11,7 +11,8 @@ loop-mapping-preserved c =
     let m = c.mapping-item.result in
     elim c.match-mapping.branch [
       | goal.in-FullName+then-is_sound+in_ok-push w ↦ rw w.names-is
-          (made_one _ mapped_of bstr_bytes ms i m _ c.loop-mapping-test.true c.mapping-item.is c.loop-mapping.invariant _ _ (w.is_sound.ensures.0 w.if-is_sound.true, ap start_of w.in-FullName.is ∙ ap name (sym w.as_bstr.ensures)) w.in_ok-push.ensures.items)
+          (made_one _ mapped_of bstr_bytes ms i m _ c.loop-mapping-test.true c.mapping-item.is c.loop-mapping.invariant _ _
+          (w.is_sound.ensures.0 w.if-is_sound.true, ap start_of w.in-FullName.is ∙ ap name (sym w.as_bstr.ensures)) w.in_ok-push.ensures.items)
       | goal.in-FullName+else-is_sound w ↦ rw w.names-is
           (made_none _ mapped_of bstr_bytes ms i m _ c.loop-mapping-test.true c.mapping-item.is c.loop-mapping.invariant (λ n both. false≢true (sym w.if-is_sound.false ∙ w.is_sound.ensures.1 both.0)))
       | goal.in_default w ↦ rw w.names-is

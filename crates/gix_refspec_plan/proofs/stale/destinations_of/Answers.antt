@@ -10,7 +10,8 @@ loop-mapping-preserved c =
     let i = c.loop-mapping.mapping-index in
     elim c.match-mapping.branch [
       | goal.in-Some+in_ok-push w ↦ rw w.names-is
-          (made_one _ mapped_of bstr_bytes ms i c.mapping-item.result _ c.loop-mapping-test.true c.mapping-item.is c.loop-mapping.invariant _ _ (ap (option_map name_bytes) w.in-Some.is ∙ ap Some (sym w.as_bstr.ensures)) w.in_ok-push.ensures.items)
+          (made_one _ mapped_of bstr_bytes ms i c.mapping-item.result _ c.loop-mapping-test.true c.mapping-item.is c.loop-mapping.invariant _ _
+          (ap (option_map name_bytes) w.in-Some.is ∙ ap Some (sym w.as_bstr.ensures)) w.in_ok-push.ensures.items)
       | goal.in_default w ↦ rw w.names-is
           (made_none _ mapped_of bstr_bytes ms i c.mapping-item.result _ c.loop-mapping-test.true c.mapping-item.is c.loop-mapping.invariant (no_side c.mapping-item.result.rhs w.in_default.not-Some))
     ]
