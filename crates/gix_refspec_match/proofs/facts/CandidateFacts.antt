@@ -1,21 +1,12 @@
 -- Which of its candidates a partial source takes among refs: the first that is there by the order of
 -- gitrevisions(7), and not the first in the list of refs.
-use Rattle.std.proofs.Common.{◌≡◌, ◌≢◌, ◌<◌, length, List, ℕ, [], ◌∷◌, None, Some, Option, codes, refl, sym, ap, subst, inl, inr, arith}
-use Rattle.gix_refspec_text.specs.Texts.Bytes.{star}
-use Rattle.gix_refspec_text.specs.Texts.ObjectId.{IsIdText}
-use Rattle.gix_refspec_text.specs.Specs.Reading.{Normal, Negative, Reading}
-use Rattle.gix_refspec_text.specs.Specs.Grammar.{fetched}
-use Rattle.gix_refspec_text.specs.Matching.Side.{partial, full_name, HasKind, Excludes, by_pattern}
-use Rattle.gix_refspec_text.specs.Matching.Match.{Ref, Matches, HasName, IsFirstCandidate, Takes}
-use Rattle.gix_refspec_match.specs.Matching.Mappings.{Mapped, IsExcluded, HasPair}
-use Rattle.gix_refspec_match.specs.Matching.Hits.{Ends, AreForwardEnds, Hit, IsHit, AreSpecHits, IsIdMapping, AreKeptForward, AreKeptBackward}
-use Rattle.gix_refspec_text.specs.Laws.Readings.{FirstCandidate}
-use Rattle.gix_refspec_text.proofs.lemmas.hits.CandidateLemmas.{first_once, taken_by_first}
-use Rattle.gix_refspec_text.proofs.facts.ManualFacts.{Lacks-tested, other_length, named}
+use Rattle.gix_refspec_match.proofs.Common.{List, [], ◌∷◌, None, Some, codes, refl, ◌≡◌, ℕ, Option, sym, arith, inl, inr, ◌≢◌, ap, length, same_Some, AllByRecursion, taken_by_first, first_once, FirstCandidate}
+use Rattle.gix_refspec_match.proofs.Common.{fetched, star, Ref, Matches, Takes, HasName, IsFirstCandidate, HasKind, full_name, Excludes, partial, by_pattern, Normal, Negative, Reading, IsMadeFrom, Ends}
+use Rattle.gix_refspec_match.proofs.Common.{AreForwardEnds, AreBackwardEnds, Hit, IsHit, AreSpecHits, AreKeptForward, AreKeptBackward, IsExcluded, IsKeptAt, HasPair}
+use Rattle.gix_refspec_text.proofs.facts.ManualFacts.{Lacks-tested, named}
 use Rattle.gix_refspec_text.proofs.facts.FitFacts.{below_tags, short_kind, short_no_id}
-use Rattle.gix_refspec_match.proofs.facts.MatchFacts.{mapping}
+use Rattle.gix_refspec_match.proofs.facts.MatchFacts.{mapping, main_candidate, no_main_id}
 use Rattle.gix_refspec_text.proofs.facts.SideFacts.{partial_matches}
-use Rattle.std.proofs.lemmas.Option.{same_Some}
 
 -- a branch and a tag of one name, and the name by itself
 abbrev pub main_branch : Ref
@@ -31,28 +22,24 @@ just_main = named (codes "main")
 abbrev pub branch_and_tag : List Ref
 branch_and_tag = main_branch ∷ main_tag ∷ []
 
+-- a name of another length than those of all refs is that of none
+no_name : (refs : List Ref) (n : List ℕ) → AllByRecursion (λ r. length r.name ≢ length n) refs → ¬ (HasName refs n)
+no_name [] n all has = has
+no_name (r ∷ refs) n (other, others) (inl same) = other (ap length same)
+no_name (r ∷ refs) n (other, others) (inr has) = no_name refs n others has
+
 no_main : ¬ (HasName branch_and_tag (codes "main"))
-no_main (inl same) = other_length _ _ (λ size. omega (arith, size)) same
-no_main (inr (inl same)) = other_length _ _ (λ size. omega (arith, size)) same
-no_main (inr (inr none)) = none
+no_main = no_name branch_and_tag (codes "main") (omega arith)
 
 no_refs_main : ¬ (HasName branch_and_tag (codes "refs/main"))
-no_refs_main (inl same) = other_length _ _ (λ size. omega (arith, size)) same
-no_refs_main (inr (inl same)) = other_length _ _ (λ size. omega (arith, size)) same
-no_refs_main (inr (inr none)) = none
+no_refs_main = no_name branch_and_tag (codes "refs/main") (omega arith)
 
 -- of a branch and a tag, the tag is the first candidate, wherever it is
 pub tag_first : IsFirstCandidate branch_and_tag (codes "main") (codes "refs/tags/main")
-tag_first = record {
-  earlier = codes "main" ∷ codes "refs/main" ∷ [];
-  later = codes "refs/heads/main" ∷ codes "refs/remotes/main" ∷ codes "refs/remotes/main/HEAD" ∷ [];
-  here = refl;
-  absent = (no_main, (no_refs_main, tt));
-  present = inr (inl refl);
-}
+tag_first = record { earlier = codes "main" ∷ codes "refs/main" ∷ []; later = _; here = refl; absent = (no_main, (no_refs_main, tt)); present = inr (inl refl) }
 
 no_tag : codes "refs/tags/main" ≢ codes "refs/heads/main"
-no_tag same = other_length _ _ (λ size. omega (arith, size)) same
+no_tag same = omega (arith, ap length same)
 
 -- so the branch isn't the first, nor is a name that no ref has
 pub no_other_first : ¬ (IsFirstCandidate branch_and_tag (codes "main") (codes "refs/heads/main")) × ¬ (IsFirstCandidate branch_and_tag (codes "main") (codes "main")) × ¬ (IsFirstCandidate [] (codes "main") (codes "refs/tags/main"))
@@ -64,50 +51,42 @@ no_other_first = (
 
 -- the name by itself is before all others
 pub itself_first : IsFirstCandidate (main_branch ∷ main_tag ∷ just_main ∷ []) (codes "main") (codes "main")
-itself_first = record { earlier = []; later = codes "refs/main" ∷ codes "refs/tags/main" ∷ codes "refs/heads/main" ∷ codes "refs/remotes/main" ∷ codes "refs/remotes/main/HEAD" ∷ []; here = refl; absent = tt; present = inr (inr (inl refl)) }
+itself_first = record { earlier = []; later = _; here = refl; absent = tt; present = inr (inr (inl refl)) }
 
 -- the last candidate is the first where it is there alone
 pub head_of_remote : IsFirstCandidate (named (codes "refs/remotes/x/HEAD") ∷ []) (codes "x") (codes "refs/remotes/x/HEAD")
-head_of_remote = record {
-  earlier = codes "x" ∷ codes "refs/x" ∷ codes "refs/tags/x" ∷ codes "refs/heads/x" ∷ codes "refs/remotes/x" ∷ [];
-  later = [];
-  here = refl;
-  absent = (other (codes "x") (omega arith), (other (codes "refs/x") (omega arith), (other (codes "refs/tags/x") (omega arith), (other (codes "refs/heads/x") (omega arith), (other (codes "refs/remotes/x") (omega arith), tt)))));
-  present = inl refl;
-}
-  where
-    other : (n : List ℕ) → length n < 19 → ¬ (HasName (named (codes "refs/remotes/x/HEAD") ∷ []) n)
-    other n shorter (inl same) = let size : 19 ≡ length n = ap length same in omega (arith, size, shorter)
-    other n shorter (inr none) = none
+head_of_remote =
+    let other = no_name (named (codes "refs/remotes/x/HEAD") ∷ []) in
+    record {
+      earlier = codes "x" ∷ codes "refs/x" ∷ codes "refs/tags/x" ∷ codes "refs/heads/x" ∷ codes "refs/remotes/x" ∷ [];
+      later = [];
+      here = refl;
+      absent = (other (codes "x") (omega arith), (other (codes "refs/x") (omega arith), (other (codes "refs/tags/x") (omega arith), (other (codes "refs/heads/x") (omega arith), (other (codes "refs/remotes/x") (omega arith), tt)))));
+      present = inl refl;
+    }
 
 -- the source takes the tag, and not the branch, though it matches both
 pub takes_the_tag : Takes branch_and_tag (codes "main") main_tag None × ((word : Option (List ℕ)) → ¬ (Takes branch_and_tag (codes "main") main_branch word)) × Matches (codes "main") main_branch None
 takes_the_tag = (
   taken_by_first branch_and_tag (codes "main") main_tag short_kind tag_first,
   (λ word takes. no_other_first.0 (takes.first (codes "main") short_kind)),
-  record { kind = partial (codes "main"); of = short_kind; is = (refl, record { earlier = codes "main" ∷ codes "refs/main" ∷ codes "refs/tags/main" ∷ []; later = codes "refs/remotes/main" ∷ codes "refs/remotes/main/HEAD" ∷ []; here = refl }) },
+  record { kind = partial (codes "main"); of = short_kind; is = (refl, main_candidate) },
 )
 
 -- a full name takes what it matches, whatever the refs are, and no side takes what it doesn't match
 pub takes : Takes [] (codes "refs/tags/blob") (named (codes "refs/tags/blob")) None × ((word : Option (List ℕ)) → ¬ (Takes (named (codes "refs/x/main") ∷ []) (codes "main") (named (codes "refs/x/main")) word))
 takes = (
-  record {
-    matches = record { kind = full_name (codes "refs/tags/blob"); of = below_tags; is = (refl, refl) };
-    first = λ n kind. absurd (kind.2 below_tags.2);
-  },
+  record { matches = record { kind = full_name (codes "refs/tags/blob"); of = below_tags; is = (refl, refl) }; first = λ n kind. absurd (kind.2 below_tags.2) },
   λ word taken. partial_matches.2 word taken.matches,
 )
 
 -- from the law: a caller with a branch and a tag gets the tag alone
 pub tag_concluded : FirstCandidate (codes "main") branch_and_tag → (r : Ref) (word : Option (List ℕ)) → Takes branch_and_tag (codes "main") r word → r.name ≡ codes "refs/tags/main"
-tag_concluded law r word takes =
-    let first = law short_kind.1 short_kind.2 short_kind.3 in
-    first.one r.name (codes "refs/tags/main") ((first.takes r).0 (word, takes)) tag_first
+tag_concluded law r word takes = let first = law short_kind.1 short_kind.2 short_kind.3 in first.one r.name (codes "refs/tags/main") ((first.takes r).0 (word, takes)) tag_first
 
 -- and one with a ref of some candidate gets one
 pub some_concluded : FirstCandidate (codes "main") branch_and_tag → (m : List ℕ) × IsFirstCandidate branch_and_tag (codes "main") m
-some_concluded law =
-    (law short_kind.1 short_kind.2 short_kind.3).some (codes "refs/heads/main") (record { earlier = codes "main" ∷ codes "refs/main" ∷ codes "refs/tags/main" ∷ []; later = codes "refs/remotes/main" ∷ codes "refs/remotes/main/HEAD" ∷ []; here = refl }) (inl refl)
+some_concluded law = (law short_kind.1 short_kind.2 short_kind.3).some (codes "refs/heads/main") main_candidate (inl refl)
 
 -- by the law the tag is taken
 pub tag_taken_by_law : FirstCandidate (codes "main") branch_and_tag → (word : Option (List ℕ)) × Takes branch_and_tag (codes "main") main_tag word
@@ -141,21 +120,15 @@ tag_taken = record { word = None; takes = takes_the_tag.0; far = (full_name (cod
 main_hits : AreSpecHits AreForwardEnds (Takes branch_and_tag) branch_and_tag 0 main_to_x (tag_hit ∷ [])
 main_hits = inl (main_ends, record { positive = tt; near = refl; far = refl; no_object = λ bytes kind. short_no_id bytes kind.2 }, (None, tag_hit ∷ [], branch_not_taken, (Some tag_hit, [], tag_taken, refl, refl), refl))
 
-no_main_id : (m : Mapped) → ¬ (IsIdMapping 0 main_to_x m)
-no_main_id m made = short_no_id made.bytes (subst (λ (x : List ℕ). IsIdText x made.bytes) (sym (same_Some (codes "main") made.text made.side)) made.object.2)
-
-normal_no_negative : Normal ≢ Negative
-normal_no_negative same = cc
-
 pub not_excluded : (n : List ℕ) → ¬ (IsExcluded (main_to_x ∷ []) n)
-not_excluded n (inl by) = absurd (normal_no_negative by.negative)
+not_excluded n (inl by) = cc (by.negative)
 not_excluded n (inr none) = none
 
 -- a branch that is before its tag isn't mapped, and the tag is
 pub maps_the_tag : AreKeptForward (main_to_x ∷ []) branch_and_tag (mapping 1 (codes "refs/tags/main") (Some (codes "refs/x")) 0 ∷ [])
 maps_the_tag = record {
-  all = mapping 1 (codes "refs/tags/main") (Some (codes "refs/x")) 0 ∷ [];
-  forward = record { ids = []; hits = tag_hit ∷ []; are_ids = (None, [], no_main_id, refl, refl); are_hits = (tag_hit ∷ [], [], main_hits, refl, refl); all = refl };
+  all = _;
+  forward = record { ids = []; hits = tag_hit ∷ []; are_ids = (None, [], no_main_id 0 main_to_x refl, refl, refl); are_hits = (tag_hit ∷ [], [], main_hits, refl, refl); all = refl };
   is = (Some (mapping 1 (codes "refs/tags/main") (Some (codes "refs/x")) 0), [], (refl, record { first = λ none. none; included = not_excluded (codes "refs/tags/main") }), refl, refl);
 }
 
@@ -165,15 +138,15 @@ tags_excluded = by_pattern (codes "refs/tags/") [] (codes "main") (record { star
 -- the choice is made before exclusions: where the tag is left out, the branch isn't mapped in its place
 pub maps_no_branch : AreKeptForward (main_to_x ∷ no_tags ∷ []) branch_and_tag []
 maps_no_branch = record {
-  all = mapping 1 (codes "refs/tags/main") (Some (codes "refs/x")) 0 ∷ [];
+  all = _;
   forward = record {
     ids = [];
     hits = tag_hit ∷ [];
-    are_ids = (None, [], no_main_id, (None, [], (λ m made. made.positive), refl, refl), refl);
+    are_ids = (None, [], no_main_id 0 main_to_x refl, (None, [], (λ m made. made.positive), refl, refl), refl);
     are_hits = (tag_hit ∷ [], [], main_hits, ([], [], inr ((λ ends are. are.positive), refl), refl, refl), refl);
     all = refl;
   };
-  is = (None, [], (λ m stays. stays.1.included (inr (inl (record { negative = refl; text = codes "refs/tags/*"; source = refl; excludes = tags_excluded })))), refl, refl);
+  is = (None, [], (λ m stays. stays.1.included (inr (inl (record { negative = refl; text = _; source = refl; excludes = tags_excluded })))), refl, refl);
 }
 
 -- ---- from right to left
@@ -198,7 +171,7 @@ tag_matches : Matches (codes "main") main_tag None
 tag_matches = takes_the_tag.0.matches
 
 q_not_excluded : (n : List ℕ) → ¬ (IsExcluded (q_to_main ∷ []) n)
-q_not_excluded n (inl by) = absurd (normal_no_negative by.negative)
+q_not_excluded n (inl by) = cc (by.negative)
 q_not_excluded n (inr none) = none
 
 no_branch_pair : ¬ (HasPair (mapping 0 (codes "refs/q") (Some (codes "refs/heads/main")) 0 ∷ []) (mapping 1 (codes "refs/q") (Some (codes "refs/tags/main")) 0))
@@ -207,28 +180,16 @@ no_branch_pair (inr none) = none
 
 -- the branch and the tag are both mapped back, in the order of the list
 pub tracks_both : AreKeptBackward (q_to_main ∷ []) branch_and_tag (mapping 0 (codes "refs/q") (Some (codes "refs/heads/main")) 0 ∷ mapping 1 (codes "refs/q") (Some (codes "refs/tags/main")) 0 ∷ [])
-tracks_both = record {
-  all = mapping 0 (codes "refs/q") (Some (codes "refs/heads/main")) 0 ∷ mapping 1 (codes "refs/q") (Some (codes "refs/tags/main")) 0 ∷ [];
-  backward = record {
-    hits = q_hit 0 main_branch ∷ q_hit 1 main_tag ∷ [];
-    are_hits = (
-      q_hit 0 main_branch ∷ q_hit 1 main_tag ∷ [],
-      [],
-      inl (
-        q_ends,
-        record { positive = tt; near = refl; far = refl; both = refl },
-        (Some (q_hit 0 main_branch), q_hit 1 main_tag ∷ [], tracked_at 0 main_branch takes_the_tag.2, (Some (q_hit 1 main_tag), [], tracked_at 1 main_tag tag_matches, refl, refl), refl),
-      ),
-      refl,
-      refl,
-    );
-    all = refl;
-  };
-  is = (
-    Some (mapping 0 (codes "refs/q") (Some (codes "refs/heads/main")) 0),
-    mapping 1 (codes "refs/q") (Some (codes "refs/tags/main")) 0 ∷ [],
-    (refl, record { first = λ none. none; included = q_not_excluded (codes "refs/q") }),
-    (Some (mapping 1 (codes "refs/q") (Some (codes "refs/tags/main")) 0), [], (refl, record { first = no_branch_pair; included = q_not_excluded (codes "refs/q") }), refl, refl),
-    refl,
-  );
-}
+tracks_both =
+    let branch = mapping 0 (codes "refs/q") (Some (codes "refs/heads/main")) 0 in
+    let tag = mapping 1 (codes "refs/q") (Some (codes "refs/tags/main")) 0 in
+    let hits = q_hit 0 main_branch ∷ q_hit 1 main_tag ∷ [] in
+    let taken : IsMadeFrom (IsHit Matches q_ends 0) 0 branch_and_tag hits =
+    (Some (q_hit 0 main_branch), q_hit 1 main_tag ∷ [], tracked_at 0 main_branch takes_the_tag.2, (Some (q_hit 1 main_tag), [], tracked_at 1 main_tag tag_matches, refl, refl), refl) in
+    let has : AreBackwardEnds q_to_main q_ends = record { positive = tt; near = refl; far = refl; both = refl } in
+    let last : IsKeptAt (q_to_main ∷ []) (branch ∷ tag ∷ []) 1 tag = record { first = no_branch_pair; included = q_not_excluded (codes "refs/q") } in
+    record {
+      all = branch ∷ tag ∷ [];
+      backward = record { hits = hits; are_hits = (hits, [], inl (q_ends, has, taken), refl, refl); all = refl };
+      is = (Some branch, tag ∷ [], (refl, record { first = λ none. none; included = q_not_excluded (codes "refs/q") }), (Some tag, [], (refl, last), refl, refl), refl);
+    }

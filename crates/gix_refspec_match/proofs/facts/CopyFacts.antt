@@ -1,15 +1,8 @@
 -- The words on names that are borrowed or owned, and on copies: which of both kinds they hold of.
-use Rattle.std.proofs.Common.{◌≡◌, ℕ, Option, None, Some, inl, inr}
-use Rattle.bstr.specs.declared.bstr.BStr.{BStr}
-use Rattle.bstr.specs.declared.bstring.BString.{BString}
-use Rattle.bstr.specs.BStr.{bstr_bytes}
-use Rattle.bstr.specs.Owned.{bstring_bytes}
-use Rattle.gix_refspec_match.specs.declared.types.NameRef.{NameRef}
-use Rattle.gix_refspec_match.specs.declared.types.NameRef.TheVariants.{Borrowed, Owned}
-use Rattle.gix_refspec_match.specs.declared.types.SourceRef.TheVariants.{FullName, ObjectId as IdSource}
-use Rattle.gix_refspec_match.specs.declared.types.Mapping.{Mapping}
-use Rattle.gix_refspec_text.specs.declared.oid.ObjectId.{ObjectId}
-use Rattle.gix_refspec_match.specs.Views.Mapping.{IsBorrowed, IsOwned, IsLent, IsOwnedSource, HasOwned, IsNameCopy, IsSourceCopy, IsDestinationCopy, IsMappingCopy}
+use Rattle.gix_refspec_match.proofs.Common.{None, Some, ◌≡◌, ℕ, Option, inl, inr, bstr_bytes, ObjectId, IsBorrowed, IsOwned, IsLent, IsOwnedSource, HasOwned, IsNameCopy, IsSourceCopy, IsDestinationCopy}
+use Rattle.gix_refspec_match.proofs.Common.{IsMappingCopy, Mapping, NameRef}
+use Rattle.bstr.specs.{Owned.bstring_bytes, declared.bstr.BStr.BStr, declared.bstring.BString.BString}
+use Rattle.gix_refspec_match.specs.declared.types.{NameRef.TheVariants.Borrowed, NameRef.TheVariants.Owned, SourceRef.TheVariants.FullName, SourceRef.TheVariants.ObjectId as IdSource}
 
 -- a name is either borrowed or owned
 pub one_kind : (b : BStr) (o : BString) → IsBorrowed (Borrowed b) × ¬ (IsBorrowed (Owned o)) × IsOwned (Owned o) × ¬ (IsOwned (Borrowed b))

@@ -1,59 +1,31 @@
 -- The words on hits and mappings on the other side of their border: which specs have no such ends, which
 -- items no hit, and which mappings no place.
-use Rattle.std.proofs.Common.{◌≡◌, ◌≢◌, ℕ, true, is_some, List, [], ◌∷◌, Option, None, Some, codes, refl, sym, subst, inl, inr, arith}
-use Rattle.std.proofs.lemmas.Bool.{false≢true}
-use Rattle.gix_refspec_text.specs.Texts.Bytes.{star}
-use Rattle.gix_refspec_text.specs.Texts.ObjectId.{IsIdText}
-use Rattle.gix_refspec_text.specs.Specs.Reading.{Normal, Forced, Negative}
-use Rattle.gix_refspec_text.specs.Specs.Grammar.{fetched, pushed}
-use Rattle.gix_refspec_text.specs.Matching.Side.{pattern, object, HasKind}
-use Rattle.gix_refspec_text.specs.Matching.Match.{Ref, Matches, Takes}
-use Rattle.gix_refspec_match.specs.Matching.Lists.{IsMadeFrom}
-use Rattle.gix_refspec_match.specs.Matching.Mappings.{name, id, Mapped, IsExcludedBy, IsExcluded, IsKeptAt, IsKept}
-use Rattle.gix_refspec_match.specs.Matching.Hits.{Ends, AreForwardEnds, AreBackwardEnds, IsFilled, Hit, IsHit, AreSpecHits, AreHits, forward_of, backward_of, IsIdMapping, AreBackward}
-use Rattle.gix_refspec_text.specs.Matching.Prefix.{of_name}
-use Rattle.gix_refspec_text.proofs.lemmas.hits.MatchLemmas.{prefix_begins}
-use Rattle.gix_refspec_text.proofs.facts.ManualFacts.{Lacks-tested, other_length, none_some, some_none}
-use Rattle.gix_refspec_match.proofs.lemmas.lists.JoinLemmas.{nothing_made}
-use Rattle.gix_refspec_text.proofs.facts.FaultFacts.{begins_not}
-use Rattle.gix_refspec_text.proofs.facts.ObjectIdFacts.{empty_blob}
-use Rattle.gix_refspec_text.proofs.facts.FitFacts.{every, no_dev, short, blob, blob_kind, short_no_id, dev_ref, main_ref}
-use Rattle.gix_refspec_match.proofs.facts.MatchFacts.{blob_mapping, mapping, tag_to_x, tag_again, dev_excluded, forward_ends, backward_ends, are_forward_ends, hit_by, taken_by}
-use Rattle.std.proofs.lemmas.Option.{same_Some}
+use Rattle.gix_refspec_match.proofs.Common.{List, [], ◌∷◌, None, Some, codes, refl, ◌≡◌, ℕ, Option, arith, inl, inr, subst, false≢true, same_Some, prefix_begins, of_name, fetched, pushed, star, Ref, Matches}
+use Rattle.gix_refspec_match.proofs.Common.{Takes, pattern, object, HasKind, Normal, Forced, Negative, IsMadeFrom, Ends, AreForwardEnds, AreBackwardEnds, IsFilled, Hit, IsHit, AreSpecHits, AreHits, forward_of}
+use Rattle.gix_refspec_match.proofs.Common.{backward_of, IsIdMapping, AreBackward, name, id, Mapped, IsExcludedBy, IsExcluded, IsKeptAt, IsKept, IsSamePair, nothing_made}
+use Rattle.gix_refspec_text.proofs.facts.{FaultFacts.begins_not, ManualFacts.Lacks-tested, ManualFacts.other_length, ManualFacts.none_some, ManualFacts.some_none, ObjectIdFacts.empty_blob}
+use Rattle.gix_refspec_text.proofs.facts.FitFacts.{every, no_dev, excludes_dev, short, blob, blob_kind, dev_ref, main_ref}
+use Rattle.gix_refspec_match.proofs.facts.MatchFacts.{blob_mapping, mapping, tag_to_x, tag_again, no_blob_ends, no_main_id, forward_ends, backward_ends, are_forward_ends, hit_by, taken_by}
 
 -- ---- exclusions
 
 -- a negative spec excludes wherever it is, and a positive one doesn't, nor one without a source
 pub exclusions : IsExcluded (no_dev ∷ every ∷ []) (codes "refs/heads/dev-a") × ¬ (IsExcluded (every ∷ []) (codes "refs/heads/dev-a")) × ¬ (IsExcluded [] (codes "refs/heads/dev-a")) × ¬ (IsExcludedBy (codes "a") (pushed Negative None (Some (codes "a"))))
-exclusions = (
-  inl dev_excluded_by,
-  positive,
-  (λ none. none),
-  λ by. none_some by.text by.source,
-)
+exclusions = (inl dev_excluded_by, positive, (λ none. none), λ by. none_some by.text by.source)
   where
-    forced_no_negative : Forced ≢ Negative
-    forced_no_negative same = cc
-
     dev_excluded_by : IsExcludedBy (codes "refs/heads/dev-a") no_dev
-    dev_excluded_by = elim dev_excluded [
-      | inl by ↦ absurd (forced_no_negative by.negative)
-      | inr rest ↦ elim rest [ inl by ↦ by | inr none ↦ absurd none ]
-    ]
+    dev_excluded_by = record { negative = refl; text = _; source = refl; excludes = excludes_dev }
 
     positive : ¬ (IsExcluded (every ∷ []) (codes "refs/heads/dev-a"))
-    positive (inl by) = forced_no_negative by.negative
+    positive (inl by) = cc (by.negative)
     positive (inr none) = none
 
 -- of two equal pairs the first is kept, and of a list only what is before counts
 pub stays_first : IsKeptAt [] (tag_to_x ∷ tag_again ∷ []) 0 tag_to_x × ¬ (IsKeptAt [] (tag_to_x ∷ tag_again ∷ []) 1 tag_again) × IsKept [] (tag_to_x ∷ tag_again ∷ []) (tag_to_x ∷ [])
-stays_first = (first, again, (Some tag_to_x, [], (refl, first), (None, [], (λ m made. made.1.first (inl (record { source = refl; destination = refl }))), refl, refl), refl))
-  where
-    first : IsKeptAt [] (tag_to_x ∷ tag_again ∷ []) 0 tag_to_x
-    first = record { first = λ none. none; included = λ none. none }
-
-    again : ¬ (IsKeptAt [] (tag_to_x ∷ tag_again ∷ []) 1 tag_again)
-    again stays = stays.first (inl (record { source = refl; destination = refl }))
+stays_first =
+    let same : IsSamePair tag_to_x tag_again = record { source = refl; destination = refl } in
+    let first : IsKeptAt [] (tag_to_x ∷ tag_again ∷ []) 0 tag_to_x = record { first = λ none. none; included = λ none. none } in
+    (first, (λ stays. stays.first (inl same)), (Some tag_to_x, [], (refl, first), (None, [], (λ m made. made.1.first (inl same)), refl, refl), refl))
 
 -- ---- ends
 
@@ -63,11 +35,7 @@ pub forward_ends_of : AreForwardEnds every forward_ends × AreForwardEnds (pushe
 forward_ends_of = (
   are_forward_ends,
   record { positive = tt; near = refl; far = refl; no_object = λ bytes kind. kind.1 (record { after = codes "x/a"; here = refl }) },
-  (λ ends. (
-    (λ are. are.positive),
-    (λ are. are.no_object empty_blob (subst (λ (x : List ℕ). HasKind x (object empty_blob)) (same_Some (codes "e69de29bb2d1d6434b8b29ae775ad8c2e48c5391") ends.near are.near) blob_kind)),
-    λ are. none_some ends.near are.near,
-  )),
+  (λ ends. ((λ are. are.positive), no_blob_ends ends, λ are. none_some ends.near are.near)),
   (λ are. other_length _ _ (λ size. omega (arith, size)) (same_Some (codes "refs/heads/*") (codes "refs/remotes/origin/*") are.near)),
   λ are. some_none (codes "refs/remotes/origin/*") are.far,
 )
@@ -82,12 +50,7 @@ backward_ends_of = (
   record { positive = tt; near = refl; far = refl; both = refl },
   record { positive = tt; near = refl; far = refl; both = refl },
   record { positive = tt; near = refl; far = refl; both = refl },
-  (λ ends. (
-    (λ are. are.positive),
-    (λ are. none_some ends.near are.near),
-    (λ are. false≢true (subst (λ (far : Option (List ℕ)). is_some far ≡ true) (sym are.far) are.both)),
-    λ are. are.positive,
-  )),
+  (λ ends. ((λ are. are.positive), (λ are. none_some ends.near are.near), (λ are. false≢true (rw (← are.far) at are.both)), λ are. are.positive)),
   λ are. other_length _ _ (λ size. omega (arith, size)) (same_Some (codes "refs/remotes/origin/*") (codes "refs/heads/*") are.near),
 )
 
@@ -101,13 +64,7 @@ x_kind = record { starred = refl; first = Lacks-tested star (codes "refs/x/") re
 
 -- the far side gets the word or keeps its star, and where there is none, nothing is there
 pub fills : IsFilled None (Some (codes "a")) None × ((n : List ℕ) → ¬ (IsFilled None None (Some n))) × IsFilled (Some x_side) (Some (codes "a")) (Some (codes "refs/x/a")) × IsFilled (Some x_side) None (Some x_side) × ((word : Option (List ℕ)) → ¬ (IsFilled (Some x_side) word None))
-fills = (
-  refl,
-  (λ n filled. some_none n filled),
-  (pattern (codes "refs/x/") [], x_kind, refl),
-  (pattern (codes "refs/x/") [], x_kind, refl),
-  λ word filled. none_some _ filled.2,
-)
+fills = (refl, some_none, (pattern (codes "refs/x/") [], x_kind, refl), (pattern (codes "refs/x/") [], x_kind, refl), λ word filled. none_some _ filled.2)
 
 -- a hit has the places of its spec and of its item, and not these swapped
 pub places_of_hits : IsHit (Takes []) forward_ends 5 3 main_ref (hit_by 5 3 (codes "main")) × ¬ (IsHit (Takes []) forward_ends 5 3 main_ref (hit_by 3 5 (codes "main"))) × ¬ (IsHit (Takes []) forward_ends 5 3 main_ref (hit_by 5 3 (codes "mai")))
@@ -124,13 +81,7 @@ taken k = (Some (hit_by k 0 (codes "dev-a")), hit_by k 1 (codes "main") ∷ [], 
 
 -- two specs that take two branches have four hits: both of the first spec, and then both of the second
 pub hits_by_spec : AreHits AreForwardEnds (Takes branches) (every ∷ every ∷ []) branches (hit_by 0 0 (codes "dev-a") ∷ hit_by 0 1 (codes "main") ∷ hit_by 1 0 (codes "dev-a") ∷ hit_by 1 1 (codes "main") ∷ [])
-hits_by_spec = (
-  of_spec 0,
-  of_spec 1,
-  inl (forward_ends, are_forward_ends, taken 0),
-  (of_spec 1, [], inl (forward_ends, are_forward_ends, taken 1), refl, refl),
-  refl,
-)
+hits_by_spec = (of_spec 0, of_spec 1, inl (forward_ends, are_forward_ends, taken 0), (of_spec 1, [], inl (forward_ends, are_forward_ends, taken 1), refl, refl), refl)
 
 -- a spec that takes an item has its hit, and one without such ends has none
 pub spec_hits : ¬ (AreSpecHits AreForwardEnds (Takes (main_ref ∷ [])) (main_ref ∷ []) 0 every []) × AreSpecHits AreForwardEnds (Takes branches) branches 0 no_dev [] × ¬ (AreSpecHits AreForwardEnds (Takes branches) branches 0 no_dev (of_spec 0))
@@ -140,14 +91,9 @@ spec_hits = (missing, inr ((λ ends are. are.positive), refl), added)
     missing (inl (ends, are, made)) =
         let near = same_Some (codes "refs/heads/*") ends.near are.near in
         let is = taken_by (main_ref ∷ []) 0 0 (codes "main") in
-        nothing_made (IsHit (Takes (main_ref ∷ [])) ends 0) 0 [] main_ref [] (hit_by 0 0 (codes "main")) made (record {
-          word = is.word;
-          takes = subst (λ (x : List ℕ). Takes (main_ref ∷ []) x main_ref is.word) near is.takes;
-          far = subst (λ (far : Option (List ℕ)). IsFilled far is.word (Some (codes "refs/remotes/origin/main"))) are.far is.far;
-          near = refl;
-          spec = refl;
-          item = refl;
-        })
+        let takes = subst (λ (x : List ℕ). Takes (main_ref ∷ []) x main_ref is.word) near is.takes in
+        let filled = subst (λ (far : Option (List ℕ)). IsFilled far is.word (Some (codes "refs/remotes/origin/main"))) are.far is.far in
+        nothing_made (IsHit (Takes (main_ref ∷ [])) ends 0) 0 [] main_ref [] (hit_by 0 0 (codes "main")) made (record { word = is.word; takes = takes; far = filled; near = refl; spec = refl; item = refl })
     missing (inr (no_ends, same)) = no_ends forward_ends are_forward_ends
 
     added : ¬ (AreSpecHits AreForwardEnds (Takes branches) branches 0 no_dev (of_spec 0))
@@ -168,26 +114,16 @@ pub id_mappings : IsIdMapping 7 (fetched Forced (codes "e69de29bb2d1d6434b8b29ae
     × ((m : Mapped) → ¬ (IsIdMapping 1 (fetched Negative (codes "e69de29bb2d1d6434b8b29ae775ad8c2e48c5391") None) m) × ¬ (IsIdMapping 1 short m))
     × ¬ (IsIdMapping 1 blob (record { item = None; source = name empty_blob; destination = Some (codes "refs/tags/blob"); spec = 1 }))
 id_mappings = (
-  record { positive = tt; text = codes "e69de29bb2d1d6434b8b29ae775ad8c2e48c5391"; bytes = empty_blob; side = refl; object = blob_kind; item = refl; source = refl; destination = refl; spec = refl },
+  record { positive = tt; text = _; bytes = empty_blob; side = refl; object = blob_kind; item = refl; source = refl; destination = refl; spec = refl },
   (λ made. omega (arith, made.spec)),
-  (λ made. item_no_none made.item),
-  (λ m. ((λ made. made.positive), λ made. short_no_id made.bytes (subst (λ (x : List ℕ). IsIdText x made.bytes) (sym (same_Some (codes "main") made.text made.side)) made.object.2))),
-  λ made. name_no_id made.bytes made.source,
+  (λ made. cc (made.item)),
+  (λ m. ((λ made. made.positive), no_main_id 1 short refl m)),
+  λ made. cc (made.source),
 )
-  where
-    item_no_none : Path (Option ℕ) (Some 0) None → ⊥
-    item_no_none same = cc
-
-    name_no_id : (bytes : List ℕ) → name empty_blob ≢ id bytes
-    name_no_id bytes same = cc
 
 -- from right to left the id of an object maps nothing where its destination matches nothing
 pub no_id_back : AreBackward (blob ∷ []) (main_ref ∷ []) []
-no_id_back = record {
-  hits = [];
-  are_hits = ([], [], inl (blob_back, backward_ends_of.2, (None, [], not_taken, refl, refl)), refl, refl);
-  all = refl;
-}
+no_id_back = record { hits = []; are_hits = ([], [], inl (blob_back, backward_ends_of.2, (None, [], not_taken, refl, refl)), refl, refl); all = refl }
   where
     not_taken : (hit : Hit) → ¬ (IsHit Matches blob_back 0 0 main_ref hit)
     not_taken hit is =

@@ -1,9 +1,6 @@
 -- The words on prefixes at small lists of refs.
-use Rattle.std.proofs.Common.{List, [], ◌∷◌, None, Some, codes, refl}
-use Rattle.gix_refspec_text.specs.Matching.Match.{Ref}
-use Rattle.gix_refspec_match.specs.Private.Index.{ArePlacesBehind}
-use Rattle.gix_refspec_text.proofs.facts.FaultFacts.{begins_not}
-use Rattle.gix_refspec_text.proofs.facts.ManualFacts.{named}
+use Rattle.gix_refspec_match.proofs.Common.{List, [], ◌∷◌, None, Some, codes, refl, Ref, ArePlacesBehind}
+use Rattle.gix_refspec_text.proofs.facts.{FaultFacts.begins_not, ManualFacts.named}
 
 abbrev refs : List Ref
 refs = named (codes "ab") ∷ named (codes "b") ∷ named (codes "a") ∷ []

@@ -1,9 +1,6 @@
 -- The words on lists that are made element by element, at relations of numbers: nothing is left out, added
 -- or turned round, and each element has its place.
-use Rattle.std.proofs.Common.{◌≡◌, ℕ, List, [], ◌∷◌, None, Some, refl, sym, ◌∙◌, arith}
-use Rattle.gix_refspec_match.specs.Matching.Lists.{MakesOf, IsMadeFrom, IsJoinedFrom}
-use Rattle.gix_refspec_match.proofs.lemmas.lists.JoinLemmas.{one_joined}
-use Rattle.gix_refspec_match.proofs.lemmas.lists.ListsLemmas.{made_once}
+use Rattle.gix_refspec_match.proofs.Common.{List, [], ◌∷◌, None, Some, refl, ◌≡◌, ℕ, sym, ◌∙◌, arith, MakesOf, IsMadeFrom, IsJoinedFrom, one_joined, made_once}
 
 -- of the element 5 its place is made, and nothing of another element
 pub record PlaceOfFive (k x y : ℕ) : Type 0 where
@@ -15,12 +12,7 @@ five_once k x y z one other = one.place ∙ sym other.place
 
 -- what is made of an element is there, and where nothing is, nothing can be made
 pub makes : MakesOf PlaceOfFive 7 5 (Some 7) × ¬ (MakesOf PlaceOfFive 7 5 None) × ¬ (MakesOf PlaceOfFive 7 6 (Some 7)) × MakesOf PlaceOfFive 7 6 None
-makes = (
-  record { five = refl; place = refl },
-  (λ none. none 7 (record { five = refl; place = refl })),
-  (λ made. omega (arith, made.five)),
-  (λ y made. omega (arith, made.five)),
-)
+makes = (record { five = refl; place = refl }, (λ none. none 7 (record { five = refl; place = refl })), (λ made. omega (arith, made.five)), (λ y made. omega (arith, made.five)))
 
 -- from place 7 on, the places of each 5, in order
 pub made : IsMadeFrom PlaceOfFive 7 (5 ∷ 6 ∷ 5 ∷ []) (7 ∷ 9 ∷ [])

@@ -1,27 +1,12 @@
 -- The words on matching at groups like those of git-fetch(1) under `<refspec>`: what is mapped, and
 -- what is not by a word or a place. So a wrong rule in the specs does not check.
-use Rattle.std.proofs.Common.{◌≡◌, ◌≢◌, ℕ, List, [], ◌∷◌, ◌++◌, Option, None, Some, codes, refl, sym, ap, ◌∙◌, subst, inl, inr, arith}
-use Rattle.std.proofs.lemmas.List.{append-nil}
-use Rattle.gix_refspec_text.specs.Texts.Words.{BeginsWith}
-use Rattle.gix_refspec_text.specs.Texts.Name.{IsSplit}
-use Rattle.gix_refspec_text.specs.Texts.Bytes.{star, bracket}
-use Rattle.gix_refspec_text.specs.Texts.ObjectId.{IsIdText}
-use Rattle.gix_refspec_text.specs.Specs.Reading.{Normal, Forced, Negative, Reading}
-use Rattle.gix_refspec_text.specs.Specs.Grammar.{fetched, IsPositive}
-use Rattle.gix_refspec_text.specs.Matching.Side.{pattern, full_name, object, HasKind, Excludes, the_name}
-use Rattle.gix_refspec_text.specs.Matching.Match.{Ref, Matches, Takes}
-use Rattle.gix_refspec_match.specs.Matching.Lists.{IsMadeFrom}
-use Rattle.gix_refspec_match.specs.Matching.Mappings.{Source, name, id, Mapped, IsExcluded, IsSourceExcluded, IsSamePair, HasPair, AreApart}
-use Rattle.gix_refspec_match.specs.Matching.Hits.{Ends, AreForwardEnds, AreBackwardEnds, AreHits, Hit, IsHit, IsIdMapping, AreForward, AreBackward, AreKeptForward, AreKeptBackward}
-use Rattle.gix_refspec_text.specs.Matching.Prefix.{of_pattern}
-use Rattle.gix_refspec_text.proofs.lemmas.hits.CandidateLemmas.{first_of_one, taken_by_first}
-use Rattle.gix_refspec_text.proofs.lemmas.hits.MatchLemmas.{lacks_no_pattern, prefix_begins}
-use Rattle.gix_refspec_text.proofs.facts.ManualFacts.{Lacks-tested, other_length, none_some, some_none, named}
-use Rattle.gix_refspec_text.proofs.facts.ObjectIdFacts.{empty_blob}
+use Rattle.gix_refspec_match.proofs.Common.{List, [], ◌∷◌, None, Some, codes, refl, ◌≡◌, ℕ, ◌++◌, Option, sym, ◌∙◌, arith, inl, inr, subst, ap, append-nil, same_Some, prefix_begins, lacks_no_pattern}
+use Rattle.gix_refspec_match.proofs.Common.{first_of_one, taken_by_first, of_pattern, fetched, IsPositive, star, bracket, IsSplit, IsIdText, BeginsWith, Ref, Matches, Takes, pattern, object, HasKind, full_name}
+use Rattle.gix_refspec_match.proofs.Common.{Excludes, the_name, IsCandidate, Negative, Reading, IsMadeFrom, Ends, AreForwardEnds, AreBackwardEnds, Hit, IsHit, AreHits, IsIdMapping, AreBackward, AreForward}
+use Rattle.gix_refspec_match.proofs.Common.{AreKeptForward, AreKeptBackward, name, id, Mapped, IsExcluded, Source, IsSourceExcluded, IsSamePair, HasPair}
+use Rattle.gix_refspec_text.proofs.facts.{ManualFacts.Lacks-tested, ManualFacts.other_length, ManualFacts.none_some, ManualFacts.some_none, ManualFacts.named, ObjectIdFacts.empty_blob}
+use Rattle.gix_refspec_match.specs.Matching.Mappings.{AreApart}
 use Rattle.gix_refspec_text.proofs.facts.FitFacts.{other_byte, excludes_dev, excludes_no_main, every, no_dev, dev_ref, tag_ref, main_ref, heads_split, origin_split, short, blob, below_tags, blob_kind, short_no_id, short_kind}
-use Rattle.std.proofs.lemmas.Option.{same_Some}
-
--- ---- sides
 
 -- ---- a group
 
@@ -51,14 +36,10 @@ abbrev hit_below : List ℕ → List ℕ → ℕ → ℕ → List ℕ → Hit
 hit_below near far spec item branch = record { spec = spec; item = item; near = near ++ branch; far = Some (far ++ (branch ++ [])) }
 
 takes_below : (near far : List ℕ) → IsSplit near [] (near ++ codes "*") → IsSplit far [] (far ++ codes "*") → (Taken : List ℕ → Ref → Option (List ℕ) → Type 0) → ((r : Ref) (word : Option (List ℕ)) → Matches (near ++ codes "*") r word → Taken (near ++ codes "*") r word) → (k j : ℕ) (branch : List ℕ) → IsHit Taken (record { near = near ++ codes "*"; far = Some (far ++ codes "*") }) k j (named (near ++ branch)) (hit_below near far k j branch)
-takes_below near far near_split far_split Taken taken k j branch = record {
-  word = Some branch;
-  takes = taken (named (near ++ branch)) (Some branch) (record { kind = pattern near []; of = near_split; is = ap (λ (y : List ℕ). near ++ y) (sym (append-nil branch)) });
-  far = (pattern far [], far_split, refl);
-  near = refl;
-  spec = refl;
-  item = refl;
-}
+takes_below near far near_split far_split Taken taken k j branch =
+    let matches : Matches (near ++ codes "*") (named (near ++ branch)) (Some branch) =
+    record { kind = pattern near []; of = near_split; is = ap (λ (y : List ℕ). near ++ y) (sym (append-nil branch)) } in
+    record { word = Some branch; takes = taken (named (near ++ branch)) (Some branch) matches; far = (pattern far [], far_split, refl); near = refl; spec = refl; item = refl }
 
 -- each branch is taken
 abbrev pub hit_by : ℕ → ℕ → List ℕ → Hit
@@ -69,12 +50,6 @@ taken_by items k j branch = takes_below (codes "refs/heads/") (codes "refs/remot
     (λ r word matches. record { matches = matches; first = λ n kind. absurd (lacks_no_pattern (codes "refs/heads/*") (codes "refs/heads/") [] kind.1 heads_split) })
     k j branch
 
-abbrev branch_hit : ℕ → List ℕ → Hit
-branch_hit item branch = hit_by 0 item branch
-
-takes_branch : (items : List Ref) (j : ℕ) (branch : List ℕ) → IsHit (Takes items) forward_ends 0 j (named (codes "refs/heads/" ++ branch)) (branch_hit j branch)
-takes_branch items j branch = taken_by items 0 j branch
-
 -- and no tag
 pub takes_no_tag : (items : List Ref) (j : ℕ) (hit : Hit) → ¬ (IsHit (Takes items) forward_ends 0 j tag_ref hit)
 takes_no_tag items j hit is =
@@ -82,12 +57,9 @@ takes_no_tag items j hit is =
     let begins = prefix_begins (codes "refs/heads/*") (codes "refs/heads/") tag_ref is.word prefix (other_length _ _ (λ same. omega (arith, same))) is.takes.matches in
     other_byte 5 (codes "refs/tags/v1") (codes "refs/heads/" ++ begins.after) (λ same. omega (arith, same)) begins.here
 
-forced_no_negative : Forced ≢ Negative
-forced_no_negative same = cc
-
 -- no spec of the group excludes a branch that doesn't begin so
 pub main_stays : ¬ (IsSourceExcluded (every ∷ no_dev ∷ []) (name (codes "refs/heads/main")))
-main_stays (inl by) = absurd (forced_no_negative by.negative)
+main_stays (inl by) = cc (by.negative)
 main_stays (inr (inl by)) = excludes_no_main (subst (λ (x : List ℕ). Excludes x (codes "refs/heads/main")) (sym (same_Some (codes "refs/heads/dev-*") by.text by.source)) by.excludes)
 main_stays (inr (inr none)) = none
 
@@ -112,44 +84,22 @@ hits_of_every HasEnds Taken items hits ends has none taken = (hits, [], inl (end
 pub fetches_all_but_dev : AreKeptForward (every ∷ no_dev ∷ []) (dev_ref ∷ tag_ref ∷ main_ref ∷ main_ref ∷ []) (tracked 2 (codes "main") ∷ [])
 fetches_all_but_dev =
     let items = dev_ref ∷ tag_ref ∷ main_ref ∷ main_ref ∷ [] in
-    let dev = branch_hit 0 (codes "dev-a") in
-    let main = branch_hit 2 (codes "main") in
-    let again = branch_hit 3 (codes "main") in
-    let taken : IsMadeFrom (IsHit (Takes items) forward_ends 0) 0 items (dev ∷ main ∷ again ∷ []) = (
-      Some dev,
-      main ∷ again ∷ [],
-      takes_branch items 0 (codes "dev-a"),
-      (
-        None,
-        main ∷ again ∷ [],
-        takes_no_tag items 1,
-        (Some main, again ∷ [], takes_branch items 2 (codes "main"), (Some again, [], takes_branch items 3 (codes "main"), refl, refl), refl),
-        refl,
-      ),
-      refl,
-    ) in
+    let dev = hit_by 0 0 (codes "dev-a") in
+    let main = hit_by 0 2 (codes "main") in
+    let again = hit_by 0 3 (codes "main") in
+    let mains : IsMadeFrom (IsHit (Takes items) forward_ends 0) 2 (main_ref ∷ main_ref ∷ []) (main ∷ again ∷ []) =
+    (Some main, again ∷ [], taken_by items 0 2 (codes "main"), (Some again, [], taken_by items 0 3 (codes "main"), refl, refl), refl) in
+    let taken : IsMadeFrom (IsHit (Takes items) forward_ends 0) 0 items (dev ∷ main ∷ again ∷ []) =
+    (Some dev, main ∷ again ∷ [], taken_by items 0 0 (codes "dev-a"), (None, main ∷ again ∷ [], takes_no_tag items 1, mains, refl), refl) in
+    let kept = tracked 2 (codes "main") in
+    let same : IsSamePair kept (tracked 3 (codes "main")) = record { source = refl; destination = refl } in
+    let no_ids : IsMadeFrom IsIdMapping 0 (every ∷ no_dev ∷ []) [] =
+    (None, [], no_id_mapping 0 every (codes "refs/heads/*") refl heads_below, (None, [], no_id_negative 1 no_dev refl, refl, refl), refl) in
+    let hits = hits_of_every AreForwardEnds (Takes items) items (dev ∷ main ∷ again ∷ []) forward_ends are_forward_ends (λ ends has. has.positive) taken in
     record {
-      all = tracked 0 (codes "dev-a") ∷ tracked 2 (codes "main") ∷ tracked 3 (codes "main") ∷ [];
-      forward = record {
-        ids = [];
-        hits = dev ∷ main ∷ again ∷ [];
-        are_ids = (None, [], no_id_mapping 0 every (codes "refs/heads/*") refl heads_below, (None, [], no_id_negative 1 no_dev refl, refl, refl), refl);
-        are_hits = hits_of_every AreForwardEnds (Takes items) items (dev ∷ main ∷ again ∷ []) forward_ends are_forward_ends (λ ends has. has.positive) taken;
-        all = refl;
-      };
-      is = (
-        None,
-        tracked 2 (codes "main") ∷ [],
-        (λ m stays. stays.1.included dev_excluded),
-        (
-          Some (tracked 2 (codes "main")),
-          [],
-          (refl, record { first = only_dev 2; included = main_stays }),
-          (None, [], (λ m stays. stays.1.first (inr (inl (record { source = refl; destination = refl })))), refl, refl),
-          refl,
-        ),
-        refl,
-      );
+      all = _;
+      forward = record { ids = []; hits = dev ∷ main ∷ again ∷ []; are_ids = no_ids; are_hits = hits; all = refl };
+      is = (None, kept ∷ [], (λ m is. is.1.included dev_excluded), (Some kept, [], (refl, record { first = only_dev 2; included = main_stays }), (None, [], (λ m is. is.1.first (inr (inl same))), refl, refl), refl), refl);
     }
 
 -- before that, all three are
@@ -172,27 +122,13 @@ tracks_all_but_dev =
     let items = named (codes "refs/remotes/origin/dev-a") ∷ named (codes "refs/remotes/origin/main") ∷ [] in
     let dev = back_hit 0 (codes "dev-a") in
     let main = back_hit 1 (codes "main") in
-    let taken : IsMadeFrom (IsHit Matches backward_ends 0) 0 items (dev ∷ main ∷ []) = (
-      Some dev,
-      main ∷ [],
-      takes_back 0 (codes "dev-a"),
-      (Some main, [], takes_back 1 (codes "main"), refl, refl),
-      refl,
-    ) in
+    let taken : IsMadeFrom (IsHit Matches backward_ends 0) 0 items (dev ∷ main ∷ []) =
+    (Some dev, main ∷ [], takes_back 0 (codes "dev-a"), (Some main, [], takes_back 1 (codes "main"), refl, refl), refl) in
+    let ends : AreBackwardEnds every backward_ends = record { positive = tt; near = refl; far = refl; both = refl } in
     record {
-      all = tracked 0 (codes "dev-a") ∷ tracked 1 (codes "main") ∷ [];
-      backward = record {
-        hits = dev ∷ main ∷ [];
-        are_hits = hits_of_every AreBackwardEnds Matches items (dev ∷ main ∷ []) backward_ends (record { positive = tt; near = refl; far = refl; both = refl }) (λ ends has. has.positive) taken;
-        all = refl;
-      };
-      is = (
-        None,
-        tracked 1 (codes "main") ∷ [],
-        (λ m stays. stays.1.included (inr (inl (record { negative = refl; text = codes "refs/heads/dev-*"; source = refl; excludes = excludes_dev })))),
-        (Some (tracked 1 (codes "main")), [], (refl, record { first = only_dev 1; included = main_stays }), refl, refl),
-        refl,
-      );
+      all = _;
+      backward = record { hits = _; are_hits = hits_of_every AreBackwardEnds Matches items (dev ∷ main ∷ []) backward_ends ends (λ ends has. has.positive) taken; all = refl };
+      is = (None, tracked 1 (codes "main") ∷ [], (λ m is. is.1.included dev_excluded), (Some (tracked 1 (codes "main")), [], (refl, record { first = only_dev 1; included = main_stays }), refl, refl), refl);
     }
 
 -- before that, both are
@@ -202,11 +138,7 @@ tracks_all = tracks_all_but_dev.backward
 
 -- a spec without a destination takes nothing from right to left
 pub tracks_nothing : AreKeptBackward (short ∷ []) (main_ref ∷ []) []
-tracks_nothing = record {
-  all = [];
-  backward = record { hits = []; are_hits = ([], [], inr ((λ ends has. none_some ends.near has.near), refl), refl, refl); all = refl };
-  is = refl;
-}
+tracks_nothing = record { all = []; backward = record { hits = []; are_hits = ([], [], inr ((λ ends has. none_some ends.near has.near), refl), refl, refl); all = refl }; is = refl }
 
 -- ---- pairs
 
@@ -239,19 +171,11 @@ pairs = (
 )
 
 pub apart : AreApart (tag_to_x ∷ branch_to_x ∷ tag_to_foo ∷ tag_alone ∷ []) × ¬ (AreApart (tag_to_x ∷ branch_to_x ∷ tag_again ∷ []))
-apart = (
-  (
-    (pairs.1, (pairs.2, (pairs.3, tt))),
-    (
-      (
-        (λ same. other_byte 5 (codes "refs/heads/a") (codes "refs/tags/a") (λ byte. omega (arith, byte)) (ap bytes_in same.source)),
-        ((λ same. some_none (codes "refs/x/a") same.destination), tt),
-      ),
-      (((λ same. some_none (codes "foo") same.destination), tt), (tt, tt)),
-    ),
-  ),
-  λ all. all.0.1.0 pairs.0,
-)
+apart =
+    let other : ¬ (IsSamePair branch_to_x tag_to_foo) = λ same. other_byte 5 (codes "refs/heads/a") (codes "refs/tags/a") (λ byte. omega (arith, byte)) (ap bytes_in same.source) in
+    let to_x : ¬ (IsSamePair branch_to_x tag_alone) = λ same. some_none (codes "refs/x/a") same.destination in
+    let to_foo : ¬ (IsSamePair tag_to_foo tag_alone) = λ same. some_none (codes "foo") same.destination in
+    (((pairs.1, (pairs.2, (pairs.3, tt))), ((other, (to_x, tt)), ((to_foo, tt), (tt, tt)))), λ all. all.0.1.0 pairs.0)
 
 -- no spec excludes the id of an object, and one that names it excludes that name alone
 pub ids_stay : ¬ (IsSourceExcluded (fetched Negative (codes "a") None ∷ []) (id (codes "a"))) × IsSourceExcluded (fetched Negative (codes "a") None ∷ []) (name (codes "a"))
@@ -260,81 +184,46 @@ ids_stay = (λ none. none, inl (record { negative = refl; text = codes "a"; sour
 abbrev pub blob_mapping : Mapped
 blob_mapping = record { item = None; source = id empty_blob; destination = Some (codes "refs/tags/blob"); spec = 1 }
 
+-- a candidate of a partial name
+pub main_candidate : IsCandidate (codes "main") (codes "refs/heads/main")
+main_candidate = record { earlier = codes "main" ∷ codes "refs/main" ∷ codes "refs/tags/main" ∷ []; later = _; here = refl }
+
+-- such a name is no id
+pub no_main_id : (k : ℕ) (r : Reading) → r.source ≡ Some (codes "main") → (m : Mapped) → ¬ (IsIdMapping k r m)
+no_main_id k r is m made = short_no_id made.bytes (subst (λ (x : List ℕ). IsIdText x made.bytes) (sym (same_Some (codes "main") made.text (sym is ∙ made.side))) made.object.2)
+
+-- and an id matches nothing from left to right
+pub no_blob_ends : (ends : Ends) → ¬ (AreForwardEnds blob ends)
+no_blob_ends ends are = are.no_object empty_blob (subst (λ (x : List ℕ). HasKind x (object empty_blob)) (same_Some (codes "e69de29bb2d1d6434b8b29ae775ad8c2e48c5391") ends.near are.near) blob_kind)
+
 -- an id is before all items, and has none. A partial name without a destination maps to nothing
 pub asks_for_ids_first : AreKeptForward (short ∷ blob ∷ []) (main_ref ∷ []) (blob_mapping ∷ mapping 0 (codes "refs/heads/main") None 0 ∷ [])
 asks_for_ids_first =
+    let main = mapping 0 (codes "refs/heads/main") None 0 in
     let hit : Hit = record { spec = 0; item = 0; near = codes "refs/heads/main"; far = None } in
     let ends : Ends = record { near = codes "main"; far = None } in
+    let asks : IsIdMapping 1 blob blob_mapping =
+    record { positive = tt; text = _; bytes = empty_blob; side = refl; object = blob_kind; item = refl; source = refl; destination = (full_name (codes "refs/tags/blob"), below_tags, refl); spec = refl } in
+    let has : AreForwardEnds short ends = record { positive = tt; near = refl; far = refl; no_object = λ bytes kind. short_no_id bytes kind.2 } in
+    let takes = taken_by_first (main_ref ∷ []) (codes "main") main_ref short_kind (first_of_one (codes "main") main_ref main_candidate) in
+    let taken : IsHit (Takes (main_ref ∷ [])) ends 0 0 main_ref hit = record { word = None; takes = takes; far = refl; near = refl; spec = refl; item = refl } in
     record {
-      all = blob_mapping ∷ mapping 0 (codes "refs/heads/main") None 0 ∷ [];
+      all = blob_mapping ∷ main ∷ [];
       forward = record {
         ids = blob_mapping ∷ [];
         hits = hit ∷ [];
-        are_ids = (
-          None,
-          blob_mapping ∷ [],
-          (λ m made. short_no_id made.bytes (subst (λ (x : List ℕ). IsIdText x made.bytes) (sym (same_Some (codes "main") made.text made.side)) made.object.2)),
-          (
-            Some blob_mapping,
-            [],
-            record { positive = tt; text = codes "e69de29bb2d1d6434b8b29ae775ad8c2e48c5391"; bytes = empty_blob; side = refl; object = blob_kind; item = refl; source = refl; destination = (full_name (codes "refs/tags/blob"), below_tags, refl); spec = refl },
-            refl,
-            refl,
-          ),
-          refl,
-        );
-        are_hits = (
-          hit ∷ [],
-          [],
-          inl (
-            ends,
-            record { positive = tt; near = refl; far = refl; no_object = λ bytes kind. short_no_id bytes kind.2 },
-            (
-              Some hit,
-              [],
-              record {
-                word = None;
-                takes = taken_by_first (main_ref ∷ []) (codes "main") main_ref short_kind (first_of_one (codes "main") main_ref (record { earlier = codes "main" ∷ codes "refs/main" ∷ codes "refs/tags/main" ∷ []; later = codes "refs/remotes/main" ∷ codes "refs/remotes/main/HEAD" ∷ []; here = refl }));
-                far = refl;
-                near = refl;
-                spec = refl;
-                item = refl;
-              },
-              refl,
-              refl,
-            ),
-          ),
-          (
-            [],
-            [],
-            inr ((λ other has. has.no_object empty_blob (subst (λ (x : List ℕ). HasKind x (object empty_blob)) (same_Some (codes "e69de29bb2d1d6434b8b29ae775ad8c2e48c5391") other.near has.near) blob_kind)), refl),
-            refl,
-            refl,
-          ),
-          refl,
-        );
+        are_ids = (None, blob_mapping ∷ [], no_main_id 0 short refl, (Some blob_mapping, [], asks, refl, refl), refl);
+        are_hits = (hit ∷ [], [], inl (ends, has, (Some hit, [], taken, refl, refl)), ([], [], inr (no_blob_ends, refl), refl, refl), refl);
         all = refl;
       };
-      is = (
-        Some blob_mapping,
-        mapping 0 (codes "refs/heads/main") None 0 ∷ [],
-        (refl, record { first = λ none. none; included = λ none. none }),
-        (Some (mapping 0 (codes "refs/heads/main") None 0), [], (refl, record { first = other_start; included = no_exclusion }), refl, refl),
-        refl,
-      );
+      is = (Some blob_mapping, main ∷ [], (refl, record { first = λ none. none; included = λ none. none }), (Some main, [], (refl, record { first = other_start; included = no_exclusion }), refl, refl), refl);
     }
   where
-    id_no_name : id empty_blob ≢ name (codes "refs/heads/main")
-    id_no_name same = cc
-
     other_start : ¬ (HasPair (blob_mapping ∷ []) (mapping 0 (codes "refs/heads/main") None 0))
-    other_start (inl same) = id_no_name same.source
+    other_start (inl same) = cc (same.source)
     other_start (inr none) = none
 
-    normal_no_negative : Normal ≢ Negative
-    normal_no_negative same = cc
-
     no_exclusion : ¬ (IsSourceExcluded (short ∷ blob ∷ []) (name (codes "refs/heads/main")))
-    no_exclusion (inl by) = absurd (normal_no_negative by.negative)
-    no_exclusion (inr (inl by)) = absurd (normal_no_negative by.negative)
+    no_exclusion (inl by) = cc (by.negative)
+    no_exclusion (inr (inl by)) = cc (by.negative)
     no_exclusion (inr (inr none)) = none

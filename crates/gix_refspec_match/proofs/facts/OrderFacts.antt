@@ -1,16 +1,10 @@
 -- The words on order and hash at pairs of instructions that differ in one field, and at what is fed to a
 -- hasher.
-use Rattle.std.proofs.Common.{◌≡◌, ℕ, true, false, [], ◌∷◌, ◌++◌, Option, None, Some, codes, refl}
-use Rattle.std.specs.declared.cmp.Ordering.TheVariants.{Less, Equal, Greater}
-use Rattle.std.specs.Ordering.{nat_cmp}
-use Rattle.std.specs.Cmp.Lexicographic.{slice_cmp}
+use Rattle.gix_refspec_match.proofs.Common.{[], ◌∷◌, None, Some, codes, refl, ◌≡◌, ℕ, true, false, ◌++◌, Option, Less, Equal, Greater, slice_cmp, pos, nat_cmp, source_writes, pair_writes, name, id}
 use Rattle.std.specs.Hash.{HashWrites, isize, bool, slice, u8}
-use Rattle.std.specs.Prelude.{pos}
 use Rattle.gix_refspec_text.specs.declared.parsing.Operation.TheVariants.{Push, Fetch}
 use Rattle.gix_refspec_text.specs.Specs.Meaning.{push_all_matching, push_delete, push_matching, push_exclude, fetch_only, fetch_exclude, fetch_and_update}
 use Rattle.gix_refspec_text.specs.Specs.Order.{rank_of, keys, order, is_same, writes}
-use Rattle.gix_refspec_match.specs.Matching.Mappings.{name, id}
-use Rattle.gix_refspec_match.specs.Views.Hashed.{source_writes, pair_writes}
 
 -- push is before fetch, and each is at one place
 pub ranks_of : (nat_cmp (rank_of Push) (rank_of Fetch) ≡ Less) × (nat_cmp (rank_of Fetch) (rank_of Push) ≡ Greater) × (nat_cmp (rank_of Fetch) (rank_of Fetch) ≡ Equal)

@@ -1,11 +1,5 @@
 -- A hit whose item isn't excluded adds its mapping.
-use Rattle.std.proofs.Common.{take_all, arith, refl, sym, ap, subst, ◌∙◌}
-use Rattle.std.proofs.lemmas.Bool.{false≢true}
-use Rattle.std.proofs.lemmas.List.Elements.{All-from_recursion}
-use Rattle.gix_refspec_match.specs.declared.matcher.Candidates.TheVariants.{First}
-use Rattle.gix_refspec_match.specs.Private.Hits.{hit_at}
-use Rattle.gix_refspec_match.specs.Private.Kept.{ExcludeName}
-use Rattle.gix_refspec_match.specs.Private.Needles.{filled_side}
+use Rattle.gix_refspec_match.proofs.Common.{refl, sym, ◌∙◌, arith, subst, ap, take_all, false≢true, All-from_recursion, hit_at, ExcludeName, filled_side, First}
 use Rattle.gix_refspec_match.proofs.lemmas.keep.ExclusionLemmas.{told_by_some}
 use Rattle.gix_refspec_match.proofs.lemmas.keep.FillLemmas.{excluded_next, included_next}
 use Rattle.gix_refspec_match.proofs.map_forward.Goals as goal
@@ -18,11 +12,9 @@ loop-hit-preserved-then-is_some c =
 
 pub loop-hit-preserved : goal.loop-hit-preserved
 loop-hit-preserved c =
-    let sound = rw (← c.deref-hit-items.ensures.value) at c.requires in
-    included_next First _ _ _ _ _ _ _ _ _ _ _ sound c.loop-hit-test.true c.loop-hit.invariant
+    included_next First _ _ _ _ _ _ _ _ _ _ _ (rw (← c.deref-hit-items.ensures.value) at c.requires) c.loop-hit-test.true c.loop-hit.invariant
     (c.in_ok-filled.ensures ∙ ap (filled_side _) c.word_in.ensures) _ _ c.in_ok-push.ensures.items refl
     (λ taken. false≢true (sym c.if-is_some.false ∙ (told_by_some c.args.exclusions.now c.as_bytes.result.now c.spec_of.result c.is_some.result c.spec_of.ensures c.is_some.ensures).1 (rw c.as_bytes.ensures taken)))
 
 pub returns : goal.returns
-returns c =
-    rw (take_all c.loop-hit.hit-index c.deref-hit-items.result.now (omega arith), c.deref-hit-items.ensures.value) at c.loop-hit.invariant
+returns c = rw (take_all c.loop-hit.hit-index c.deref-hit-items.result.now (omega arith), c.deref-hit-items.ensures.value) at c.loop-hit.invariant

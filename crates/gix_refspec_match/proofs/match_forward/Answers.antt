@@ -1,20 +1,16 @@
 -- The matchers' hits make most of the mappings, and what is kept of these is kept of all.
-use Rattle.std.proofs.Common.{refl}
-use Rattle.gix_refspec_match.specs.declared.matcher.Candidates.TheVariants.{First}
-use Rattle.gix_refspec_match.proofs.lemmas.duplicates.FlagLemmas.{ok_weaker}
+use Rattle.gix_refspec_match.proofs.Common.{refl, First, ok_weaker}
 use Rattle.gix_refspec_match.proofs.lemmas.keep.EngineLemmas.{kept_hits, objects_made, sound_among}
 use Rattle.gix_refspec_match.proofs.lemmas.keep.FillLemmas.{adds_both, both_sound}
 use Rattle.gix_refspec_match.proofs.match_forward.Goals as goal
 
 pub map_forward-requires : goal.map_forward-requires
 map_forward-requires c =
-    rw c.as_slice-list.ensures.value
-    (both_sound _ _ _ _ _ _ c.in_ok-later.ensures.items c.in_ok-later.ensures.tail (sound_among c.in_ok-matchers.matchers _ _ c.in_ok-hits.ensures)).0
+    rw c.as_slice-list.ensures.value (both_sound _ _ _ _ _ _ c.in_ok-later.ensures.items c.in_ok-later.ensures.tail (sound_among c.in_ok-matchers.matchers _ _ c.in_ok-hits.ensures)).0
 
 pub map_forward-requires-2 : goal.map_forward-requires-2
 map_forward-requires-2 c =
-    rw c.as_slice-list.ensures.value
-    (both_sound _ _ _ _ _ _ c.in_ok-later.ensures.items c.in_ok-later.ensures.tail (sound_among c.in_ok-matchers.matchers _ _ c.in_ok-hits.ensures)).1
+    rw c.as_slice-list.ensures.value (both_sound _ _ _ _ _ _ c.in_ok-later.ensures.items c.in_ok-later.ensures.tail (sound_among c.in_ok-matchers.matchers _ _ c.in_ok-hits.ensures)).1
 
 pub returns : goal.returns
 returns c =
@@ -25,6 +21,5 @@ returns c =
     let made = c.in_ok-matchers.ensures in
     ok_weaker c.without_duplicates.result _ _ (λ kept is.
     let (whole, are, stays) = kept_hits _ First _ _ _ _ _ _ _ made.matchers c.in_ok-hits.ensures c.in_ok-exclusions.ensures.names adds is in
-    let ids_are = objects_made 0 _ _ made.objects in
-    record { all = _; forward = record { ids = _; hits = whole; are_ids = ids_are; are_hits = are; all = refl }; is = stays })
+    record { all = _; forward = record { ids = _; hits = whole; are_ids = objects_made 0 _ _ made.objects; are_hits = are; all = refl }; is = stays })
     c.without_duplicates.ensures

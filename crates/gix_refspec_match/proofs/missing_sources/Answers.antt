@@ -1,29 +1,15 @@
 -- A matcher's spec is missing where the index has none for its name.
-use Rattle.std.proofs.Common.{[], None, Some, append-nil, map, refl, sym, ◌∙◌, take_all, arith}
-use Rattle.std.proofs.lemmas.Bool.{false≢true}
-use Rattle.gix_refspec_match.specs.declared.matcher.Matcher.{Matcher}
-use Rattle.gix_refspec_text.specs.declared.side.SideKind.TheVariants as side
-use Rattle.gix_refspec_text.specs.Views.Spec.{reading_of}
-use Rattle.gix_refspec_text.specs.Private.SideViews.{kind_of_side}
-use Rattle.gix_refspec_match.specs.declared.matcher.Candidates.TheVariants.{All}
-use Rattle.gix_refspec_match.specs.Views.Mapping.{ref_of}
-use Rattle.gix_refspec_match.specs.Matching.Lists.{IsMadeFrom}
-use Rattle.gix_refspec_match.proofs.lemmas.hits.MissingLemmas.{IsLacking, all_missing, lacking_next}
+use Rattle.gix_refspec_match.proofs.Common.{None, Some, refl, sym, ◌∙◌, arith, append-nil, map, take_all, false≢true, all_weaker, kind_of_side, reading_of, IsMadeFrom, ref_of, All}
+use Rattle.gix_refspec_match.proofs.lemmas.hits.MissingLemmas.{IsLacking, all_missing, blank_matcher, lacking_next}
 use Rattle.gix_refspec_match.proofs.lemmas.index.PlacedLemmas.{named_listed}
 use Rattle.gix_refspec_match.proofs.missing_sources.Goals as goal
-use Rattle.gix_refspec_match.proofs.missing_sources.Goals.{then-lacks+in_ok-push, else-lacks}
-use Rattle.gix_refspec_text.proofs.lemmas.lists.AllLemmas.{all_weaker}
-
--- what a read past the end gives
-abbrev none : Matcher
-none = record { spec_index = 0; needle = side.Pattern (record { ref_ptr = (0, 0); now = [] }) (record { ref_ptr = (0, 0); now = [] }); other = None }
 
 pub loop-matcher-preserved : goal.loop-matcher-preserved
 loop-matcher-preserved c = elim c.if-lacks.branch [
-  | then-lacks+in_ok-push w ↦ rw w.missing-is
-      (lacking_next c.in_ok-index.index _ c.loop-matcher.matcher-index none _ _ (Some _) c.loop-matcher-test.true c.loop-matcher.invariant (refl, c.lacks.ensures.0 w.if-lacks.true) w.in_ok-push.ensures.items)
-  | else-lacks w ↦ rw w.missing-is
-      (lacking_next c.in_ok-index.index _ c.loop-matcher.matcher-index none _ _ None c.loop-matcher-test.true c.loop-matcher.invariant (λ y both. false≢true (sym w.if-lacks.false ∙ c.lacks.ensures.1 both.1)) (sym (append-nil _)))
+  | goal.then-lacks+in_ok-push w ↦ rw w.missing-is
+      (lacking_next c.in_ok-index.index _ c.loop-matcher.matcher-index blank_matcher _ _ (Some _) c.loop-matcher-test.true c.loop-matcher.invariant (refl, c.lacks.ensures.0 w.if-lacks.true) w.in_ok-push.ensures.items)
+  | goal.else-lacks w ↦ rw w.missing-is
+      (lacking_next c.in_ok-index.index _ c.loop-matcher.matcher-index blank_matcher _ _ None c.loop-matcher-test.true c.loop-matcher.invariant (λ y both. false≢true (sym w.if-lacks.false ∙ c.lacks.ensures.1 both.1)) (sym (append-nil _)))
 ]
 
 pub returns : goal.returns

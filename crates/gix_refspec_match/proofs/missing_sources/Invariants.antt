@@ -1,8 +1,6 @@
 -- the matchers so far find none at these
-use Rattle.std.proofs.Common.{take}
-use Rattle.gix_refspec_match.specs.Matching.Lists.{IsMadeFrom}
+use Rattle.gix_refspec_match.proofs.Common.{take, IsMadeFrom}
 use Rattle.gix_refspec_match.proofs.lemmas.hits.MissingLemmas.{IsLacking}
-use Rattle.gix_refspec_match.proofs.missing_sources.Given as goal
 
-abbrev pub invariant-loop-matcher : goal.invariant-loop-matcher
+abbrev pub invariant-loop-matcher : Rattle.gix_refspec_match.proofs.missing_sources.Given.invariant-loop-matcher
 invariant-loop-matcher l = IsMadeFrom (IsLacking l.index) 0 (take l.matcher-index l.matcher-items) l.missing.items

@@ -1,10 +1,7 @@
 -- What isn't flagged is kept, and without flags all is.
-use Rattle.std.proofs.Common.{◌≡◌, [], ◌∙◌, sym, arith}
-use Rattle.std.proofs.lemmas.Bool.{eqb-true}
-use Rattle.std.proofs.lemmas.List.{nil_from_length}
+use Rattle.gix_refspec_match.proofs.Common.{[], ◌≡◌, sym, ◌∙◌, arith, eqb-true, nil_from_length}
 use Rattle.gix_refspec_match.proofs.lemmas.keep.KeptLemmas.{all_unflagged, kept_unflagged}
 use Rattle.gix_refspec_match.proofs.without_duplicates.Goals as goal
-use Rattle.gix_refspec_match.proofs.without_duplicates.Goals.{then-not-is_empty, else-not-is_empty}
 
 pub returns : goal.returns
 returns c =
@@ -12,9 +9,9 @@ returns c =
     let told = c.in_ok-flags.flags in
     let flags = rw c.as_slice.ensures.value at c.in_ok-flags.ensures.ok in
     elim c.if-not-is_empty.branch [
-      | then-not-is_empty w ↦ rw w.mappings-is
+      | goal.then-not-is_empty w ↦ rw w.mappings-is
           (kept_unflagged ms w.drop_flagged.new.mappings.items told.items flags (rw w.as_slice-then-not-is_empty.ensures.value at w.drop_flagged.ensures))
-      | else-not-is_empty w ↦
+      | goal.else-not-is_empty w ↦
           let none : told.items ≡ [] = nil_from_length told.items (let empty = eqb-true _ _ (sym c.is_empty.ensures ∙ w.if-not-is_empty.false) in omega (arith, empty, told.ok.0, told.ok.1)) in
           rw w.mappings-is (kept_unflagged ms ms told.items flags (all_unflagged ms told.items none))
     ]

@@ -1,12 +1,6 @@
 -- a mapping that isn't flagged goes to the front
-use Rattle.std.proofs.Common.{◌≡◌, ◌<◌, length, get_or, refl, sym, ◌∙◌, arith}
-use Rattle.std.proofs.lemmas.Bool.{false≢true}
-use Rattle.std.proofs.lemmas.List.{get_or_default}
-use Rattle.gix_refspec_match.specs.Private.Kept.{IsUnflagged}
-use Rattle.gix_refspec_match.proofs.lemmas.duplicates.FlagLemmas.{some_element}
-use Rattle.gix_refspec_match.proofs.lemmas.lists.ListsLemmas.{remains_more, goes_more}
+use Rattle.gix_refspec_match.proofs.Common.{refl, ◌≡◌, sym, ◌∙◌, arith, ◌<◌, length, get_or, false≢true, get_or_default, IsUnflagged, remains_more, goes_more, some_element}
 use Rattle.gix_refspec_match.proofs.duplicates.drop_flagged.Goals as goal
-use Rattle.gix_refspec_match.proofs.duplicates.drop_flagged.Goals.{then-not-is_flagged, else-not-is_flagged}
 
 pub loop-place-preserved : goal.loop-place-preserved
 loop-place-preserved c =
@@ -20,10 +14,9 @@ loop-place-preserved c =
     let m = get_or now place some in
     let here : m ≡ get_or now place m = get_or_default now place some m inside in
     elim c.if-not-is_flagged.branch [
-      | then-not-is_flagged w ↦ rw (w.mappings-is, w.kept-is)
+      | goal.then-not-is_flagged w ↦ rw (w.mappings-is, w.kept-is)
           (remains_more R all now w.swap.new.self.items c.loop-place.kept place m inside kept.0 kept.1 kept.2 kept.3
           here w.swap.ensures.by_index (refl, λ flagged. false≢true (sym w.if-not-is_flagged.true ∙ c.is_flagged.ensures.1 flagged)))
-      | else-not-is_flagged w ↦ rw (w.mappings-is, w.kept-is)
-          (goes_more R all now c.loop-place.kept place m inside kept.0 kept.1 kept.2 kept.3 here
-          (λ y is. is.1 (c.is_flagged.ensures.0 w.if-not-is_flagged.false)))
+      | goal.else-not-is_flagged w ↦ rw (w.mappings-is, w.kept-is)
+          (goes_more R all now c.loop-place.kept place m inside kept.0 kept.1 kept.2 kept.3 here (λ y is. is.1 (c.is_flagged.ensures.0 w.if-not-is_flagged.false)))
     ]

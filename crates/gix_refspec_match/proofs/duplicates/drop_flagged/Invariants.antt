@@ -1,10 +1,7 @@
 -- the mappings so far that are kept are in front, and those to come are where they were
-use Rattle.std.proofs.Common.{◌≡◌, ◌≤◌, length, take, drop}
-use Rattle.gix_refspec_match.specs.Matching.Lists.{IsMadeFrom}
-use Rattle.gix_refspec_match.specs.Private.Kept.{IsUnflagged}
-use Rattle.gix_refspec_match.proofs.duplicates.drop_flagged.Given as goal
+use Rattle.gix_refspec_match.proofs.Common.{◌≡◌, length, take, drop, ◌≤◌, IsMadeFrom, IsUnflagged}
 
-abbrev pub invariant-loop-place : goal.invariant-loop-place
+abbrev pub invariant-loop-place : Rattle.gix_refspec_match.proofs.duplicates.drop_flagged.Given.invariant-loop-place
 invariant-loop-place l =
     (l.kept ≤ l.place)
     × (length l.mappings.items ≡ length l.initial.mappings.items)

@@ -1,6 +1,5 @@
 -- the first of the current run has the upper bits of the last key, and the firsts of the runs so far are written
 use Rattle.gix_refspec_match.proofs.lemmas.duplicates.FirstLemmas.{AreFirstsBelow}
-use Rattle.gix_refspec_match.proofs.duplicates.firsts_by_key.Given as goal
 
-abbrev pub invariant-loop-at : goal.invariant-loop-at
+abbrev pub invariant-loop-at : Rattle.gix_refspec_match.proofs.duplicates.firsts_by_key.Given.invariant-loop-at
 invariant-loop-at l = AreFirstsBelow l.len l.bits l.keys l.firsts.items l.first l.at

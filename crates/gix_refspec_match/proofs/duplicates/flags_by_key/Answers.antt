@@ -1,37 +1,23 @@
 -- an element is flagged where it has an earlier first, which equals it
-use Rattle.std.proofs.Common.{refl, arith}
-use Rattle.gix_refspec_match.proofs.lemmas.duplicates.FlagLemmas.{flags_all, flags_raised}
+use Rattle.gix_refspec_match.proofs.Common.{refl, arith, flags_all, flags_raised}
 use Rattle.gix_refspec_match.proofs.lemmas.duplicates.FirstLemmas.{equal_is_duplicate, first_below, first_inside}
 use Rattle.gix_refspec_match.proofs.duplicates.flags_by_key.Goals as goal
 
 pub offset_bounds-elements-first : goal.offset_bounds-elements-first
 offset_bounds-elements-first g c =
-    let inside = (first_below c.in_ok-firsts.ensures c.loop-index.index _ (omega (
-      arith,
-      c.loop-index-test.true,
-      c.len-index-end.ensures,
-    )) c.index.ensures c.if-first-index.false) in
+    let inside = (first_below c.in_ok-firsts.ensures c.loop-index.index _ (omega (arith, c.loop-index-test.true, c.len-index-end.ensures)) c.index.ensures c.if-first-index.false) in
     omega (arith, inside.0, inside.1)
 
 pub bounds-elements-first : goal.bounds-elements-first
 bounds-elements-first g c =
-    let inside = (first_below c.in_ok-firsts.ensures c.loop-index.index _ (omega (
-      arith,
-      c.loop-index-test.true,
-      c.len-index-end.ensures,
-    )) c.index.ensures c.if-first-index.false) in
+    let inside = (first_below c.in_ok-firsts.ensures c.loop-index.index _ (omega (arith, c.loop-index-test.true, c.len-index-end.ensures)) c.index.ensures c.if-first-index.false) in
     omega (arith, inside.0, inside.1)
 
 pub loop-index-preserved : goal.loop-index-preserved
 loop-index-preserved g c =
-    let (less, inside) = first_below c.in_ok-firsts.ensures c.loop-index.index _ (omega (
-      arith,
-      c.loop-index-test.true,
-      c.len-index-end.ensures,
-    )) c.index.ensures c.if-first-index.false in
+    let (less, inside) = first_below c.in_ok-firsts.ensures c.loop-index.index _ (omega (arith, c.loop-index-test.true, c.len-index-end.ensures)) c.index.ensures c.if-first-index.false in
     flags_raised c.loop-index.invariant _ _ c.in_ok-raise.ensures.fits c.in_ok-raise.ensures.raised
-    (equal_is_duplicate g.T.Element.order _ less inside c.index-elements-first.is c.index-elements-index.is (c.equals.ensures.0 c.if-not-equals.false))
-    (λ k (here, told). here)
+    (equal_is_duplicate g.T.Element.order _ less inside c.index-elements-first.is c.index-elements-index.is (c.equals.ensures.0 c.if-not-equals.false)) (λ k (here, told). here)
 
 pub returns : goal.returns
 returns g c = flags_all c.loop-index.invariant (λ k duplicate.

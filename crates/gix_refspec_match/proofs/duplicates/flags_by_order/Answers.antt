@@ -1,10 +1,6 @@
 -- an element is flagged where it equals the one before it
-use Rattle.std.proofs.Common.{inl, sym, ap, ◌∙◌, ◌-◌, arith}
-use Rattle.std.proofs.lemmas.Bool.{false≢true}
-use Rattle.std.proofs.lemmas.List.{get_or_read}
-use Rattle.gix_refspec_match.proofs.lemmas.duplicates.FlagLemmas.{equal_told, flags_all, flags_raised, flags_same}
+use Rattle.gix_refspec_match.proofs.Common.{sym, ◌∙◌, arith, inl, ap, ◌-◌, false≢true, get_or_read, equal_told, flags_all, flags_raised, flags_same}
 use Rattle.gix_refspec_match.proofs.lemmas.duplicates.OrderedLemmas.{duplicate_follows, follower_is_duplicate}
-use Rattle.gix_refspec_match.proofs.duplicates.flags_by_order.Goals.{then-is_eq+in_ok-raise, else-is_eq}
 use Rattle.gix_refspec_match.proofs.duplicates.flags_by_order.Goals as goal
 
 pub loop-at-preserved : goal.loop-at-preserved
@@ -13,16 +9,14 @@ loop-at-preserved g c =
     let p = c.index-in-loop-at.result.now in
     let p_is = c.index-in-loop-at.ensures in
     elim c.if-is_eq.branch [
-      | then-is_eq+in_ok-raise w ↦
+      | goal.then-is_eq+in_ok-raise w ↦
           let same = equal_told c.compare.result (inl (sym c.is_eq.ensures ∙ w.if-is_eq.true)) in
           rw w.flags-is (flags_raised c.loop-at.invariant _ _ w.in_ok-raise.ensures.fits w.in_ok-raise.ensures.raised
           (follower_is_duplicate g.met.T.Element.total c.in_ok-placed.ensures.all c.in_ok-placed.ensures.order at _ _
-          (omega arith) (omega arith) c.index.ensures p_is (rw (← c.compare.ensures) same))
-          (λ k second. ap (λ x. x.index) p_is ∙ second.here p))
-      | else-is_eq w ↦ rw w.flags-is (flags_same c.loop-at.invariant (λ k second.
+          (omega arith) (omega arith) c.index.ensures p_is (rw (← c.compare.ensures) same)) (λ k second. ap (λ x. x.index) p_is ∙ second.here p))
+      | goal.else-is_eq w ↦ rw w.flags-is (flags_same c.loop-at.invariant (λ k second.
           let q_is = get_or_read c.in_ok-placed.placed.items (at - 1) _ (omega arith) c.index.ensures p in
-          let same = rw (← p_is, ← q_is) at (second.same p) in
-          false≢true (sym (rw (c.is_eq.ensures, c.compare.ensures, same) at w.if-is_eq.false))))
+          false≢true (sym (rw (c.is_eq.ensures, c.compare.ensures, rw (← p_is, ← q_is) at (second.same p)) at w.if-is_eq.false))))
     ]
 
 pub returns : goal.returns

@@ -1,5 +1,5 @@
 -- each index is pushed at its own
-use Rattle.std.proofs.Common.{refl, arith}
+use Rattle.gix_refspec_match.proofs.Common.{refl, arith}
 use Rattle.gix_refspec_match.proofs.lemmas.duplicates.FirstLemmas.{indexes_more}
 use Rattle.gix_refspec_match.proofs.duplicates.indexes_below.Goals as goal
 
@@ -10,7 +10,4 @@ pub loop-index-preserved : goal.loop-index-preserved
 loop-index-preserved c = rw c.in_ok-push.ensures.items (indexes_more c.loop-index.invariant)
 
 pub returns : goal.returns
-returns c = record {
-  size = omega (arith, c.loop-index.invariant.size);
-  at = c.loop-index.invariant.at;
-}
+returns c = record { size = omega (arith, c.loop-index.invariant.size); at = c.loop-index.invariant.at }

@@ -1,10 +1,5 @@
 -- one more element, and a sort that moves them
-use Rattle.std.proofs.Common.{rules, refl, arith}
-use Rattle.std.specs.Ordering.{is_lt}
-use Rattle.std.proofs.lemmas.Fn.{always_returns_same}
-use Rattle.std.proofs.lemmas.List.{get_or_read}
-use Rattle.std.proofs.lemmas.List.Sorted.{ranks_by}
-use Rattle.gix_refspec_match.specs.Private.Duplicates.{placed_order}
+use Rattle.gix_refspec_match.proofs.Common.{refl, arith, rules, always_returns_same, get_or_read, ranks_by, is_lt, placed_order}
 use Rattle.gix_refspec_match.proofs.lemmas.duplicates.OrderedLemmas.{numbered_more, placed_permuted, placed_total}
 use Rattle.gix_refspec_match.proofs.duplicates.placed_in_order.Goals as goal
 
@@ -19,6 +14,4 @@ returns-clause-all g c = placed_permuted (omega arith) c.loop-index.invariant c.
 
 pub returns-clause-order : goal.returns-clause-order
 returns-clause-order g c =
-    let order = placed_order g.T.Element.order in
-    c.sort_unstable_by.ensures.sorted (λ p q. is_lt (order p q)) (ranks_by (placed_total g.met.T.Element.total) (λ p. p))
-    (search (rules, always_returns_same))
+    c.sort_unstable_by.ensures.sorted (λ p q. is_lt (placed_order g.T.Element.order p q)) (ranks_by (placed_total g.met.T.Element.total) (λ p. p)) (search (rules, always_returns_same))

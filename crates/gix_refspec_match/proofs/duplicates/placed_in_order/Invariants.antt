@@ -1,7 +1,6 @@
 -- the elements so far are there, each with its index
-use Rattle.gix_refspec_match.specs.Private.Duplicates.{IsPlaced}
+use Rattle.gix_refspec_match.proofs.Common.{IsPlaced}
 use Rattle.gix_refspec_match.proofs.lemmas.duplicates.OrderedLemmas.{AreNumbered}
-use Rattle.gix_refspec_match.proofs.duplicates.placed_in_order.Given as goal
 
-abbrev pub invariant-loop-index : goal.invariant-loop-index
+abbrev pub invariant-loop-index : Rattle.gix_refspec_match.proofs.duplicates.placed_in_order.Given.invariant-loop-index
 invariant-loop-index g l = AreNumbered (λ p. p.index) (IsPlaced l.elements) l.placed.items l.index

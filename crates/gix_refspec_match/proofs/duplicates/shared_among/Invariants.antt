@@ -1,10 +1,7 @@
 -- the upper bits so far are met, and those that two keys so far have are shared
-use Rattle.std.proofs.Common.{ℕ, ◌<◌, ◌/◌, ◌^◌, get_or}
-use Rattle.gix_refspec_match.specs.Private.Bloom.{HasNumber, IsWhole}
-use Rattle.gix_refspec_match.specs.Private.Duplicates.{HaveSameUpper}
-use Rattle.gix_refspec_match.proofs.duplicates.shared_among.Given as goal
+use Rattle.gix_refspec_match.proofs.Common.{ℕ, ◌<◌, get_or, ◌^◌, ◌/◌, HasNumber, IsWhole, HaveSameUpper}
 
-abbrev pub invariant-loop-key : goal.invariant-loop-key
+abbrev pub invariant-loop-key : Rattle.gix_refspec_match.proofs.duplicates.shared_among.Given.invariant-loop-key
 invariant-loop-key l =
     IsWhole l.once
     × IsWhole l.shared

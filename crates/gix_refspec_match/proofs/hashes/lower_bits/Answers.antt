@@ -1,10 +1,7 @@
 -- a mask of the lower bits
-use Rattle.std.proofs.Common.{◌≡◌, ◌*◌, ◌%◌, ◌^◌, arith}
-use Rattle.std.proofs.Math.Pow.{pow-lt}
-use Rattle.std.proofs.lemmas.Nat.{and_mask}
-use Rattle.gix_refspec_match.proofs.hashes.lower_bits.Goals as goal
+use Rattle.gix_refspec_match.proofs.Common.{◌≡◌, arith, ◌*◌, ◌%◌, ◌^◌, pow-lt, and_mask}
 
-pub returns : goal.returns
+pub returns : Rattle.gix_refspec_match.proofs.hashes.lower_bits.Goals.returns
 returns c =
     let one : 1 * 2 ^ c.args.bits % 18446744073709551616 ≡ 2 ^ c.args.bits = omega (arith, pow-lt c.requires) in
     rw one (and_mask c.args.number c.args.bits)

@@ -1,12 +1,7 @@
 -- An item that matches is hit, and another isn't.
-use Rattle.std.proofs.Common.{map, take_all, sym, ◌∙◌, rules, arith}
-use Rattle.std.proofs.lemmas.Bool.{false≢true}
-use Rattle.std.proofs.lemmas.List.{length-map}
-use Rattle.gix_refspec_text.specs.Private.SideViews.{kind_of_side}
-use Rattle.gix_refspec_match.specs.Views.Mapping.{ref_of}
+use Rattle.gix_refspec_match.proofs.Common.{sym, ◌∙◌, arith, map, take_all, rules, false≢true, length-map, kind_of_side, ref_of}
 use Rattle.gix_refspec_match.proofs.lemmas.index.PlacedLemmas.{all_found, item_hit, item_missed, place_fits, place_hit, place_missed}
 use Rattle.gix_refspec_match.proofs.hits.add_hits.Goals as goal
-use Rattle.gix_refspec_match.proofs.hits.add_hits.Goals.{else-matches-via-then-matches+in_ok-add_hit-in-Some+else-not-branch, else-matches-via-else-matches, else-matches-2-via-then-matches-2+in_ok-add_hit-in-None+else-not-branch-2, else-matches-2-via-else-matches-2}
 
 pub bounds-items-index : goal.bounds-items-index
 bounds-items-index c =
@@ -21,10 +16,10 @@ loop-index-preserved c =
     let listed = c.in-Some.ensures c.args.candidates (map ref_of c.args.items.now) c.requires in
     let inside = rw length-map at (place_fits _ _ (kind_of_side c.args.needle) c.in-Some.indexes.now c.loop-index.index-index 0 listed c.loop-index-test.true) in
     elim c.else-matches.branch [
-      | else-matches-via-then-matches+in_ok-add_hit-in-Some+else-not-branch w ↦
+      | goal.else-matches-via-then-matches+in_ok-add_hit-in-Some+else-not-branch w ↦
           let hit = rw w.if-not-branch.false at w.in_ok-add_hit-in-Some.ensures in
           rw w.hits-is (place_hit _ _ _ _ _ 0 _ _ _ _ c.loop-index-test.true inside (c.matches.ensures.0 w.if-matches.true) hit c.loop-index.invariant)
-      | else-matches-via-else-matches w ↦
+      | goal.else-matches-via-else-matches w ↦
           rw w.hits-is (place_missed _ _ _ _ _ 0 _ _ _ c.loop-index-test.true inside (λ is. false≢true (sym w.if-matches.false ∙ c.matches.ensures.1 is)) c.loop-index.invariant)
     ]
 
@@ -32,10 +27,10 @@ pub loop-item_index-preserved : goal.loop-item_index-preserved
 loop-item_index-preserved c =
     let told = c.matches-in-loop-item_index.ensures in
     elim c.else-matches-2.branch [
-      | else-matches-2-via-then-matches-2+in_ok-add_hit-in-None+else-not-branch-2 w ↦
+      | goal.else-matches-2-via-then-matches-2+in_ok-add_hit-in-None+else-not-branch-2 w ↦
           let hit = rw w.if-not-branch-2.false at w.in_ok-add_hit-in-None.ensures in
           rw w.hits-is (item_hit _ _ _ _ _ _ _ _ _ _ c.in-None.ensures c.loop-item_index-test.true (told.0 w.if-matches-2.true) hit c.loop-item_index.invariant)
-      | else-matches-2-via-else-matches-2 w ↦
+      | goal.else-matches-2-via-else-matches-2 w ↦
           rw w.hits-is (item_missed _ _ _ _ _ _ _ _ _ c.loop-item_index-test.true (λ is. false≢true (sym w.if-matches-2.false ∙ told.1 is)) c.loop-item_index.invariant)
     ]
 

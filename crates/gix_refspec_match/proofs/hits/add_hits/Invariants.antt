@@ -1,7 +1,5 @@
 -- the hits on the items so far are behind the old ones
-use Rattle.std.proofs.Common.{map, take}
-use Rattle.gix_refspec_text.specs.Private.SideViews.{kind_of_side}
-use Rattle.gix_refspec_match.specs.Views.Mapping.{ref_of}
+use Rattle.gix_refspec_match.proofs.Common.{map, take, kind_of_side, ref_of}
 use Rattle.gix_refspec_match.proofs.lemmas.index.PlacedLemmas.{FoundSoFar, MatchedSoFar}
 use Rattle.gix_refspec_match.proofs.hits.add_hits.Given as goal
 

@@ -1,5 +1,5 @@
 -- The index has the names of each matcher, whose hits are behind those of the others.
-use Rattle.std.proofs.lemmas.List.Elements.{All-from_recursion}
+use Rattle.gix_refspec_match.proofs.Common.{All-from_recursion}
 use Rattle.gix_refspec_match.proofs.lemmas.index.PlacedLemmas.{found_next, named_listed}
 use Rattle.gix_refspec_match.proofs.hits.hits_within.Goals as goal
 
@@ -11,5 +11,4 @@ add_hits-requires c =
 pub loop-matcher_index-preserved : goal.loop-matcher_index-preserved
 loop-matcher_index-preserved c =
     let value = c.deref-matcher-items.ensures.value in
-    let so_far = rw (← value) at c.loop-matcher_index.invariant in
-    rw (← value) (found_next _ _ _ _ _ _ _ _ _ c.loop-matcher_index-test.true c.if-not-is_within.false c.in_ok-is_within.ensures so_far)
+    rw (← value) (found_next _ _ _ _ _ _ _ _ _ c.loop-matcher_index-test.true c.if-not-is_within.false c.in_ok-is_within.ensures (rw (← value) at c.loop-matcher_index.invariant))

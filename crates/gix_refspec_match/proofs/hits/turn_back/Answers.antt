@@ -1,12 +1,7 @@
 -- Each step writes the hit at its index, turned.
-use Rattle.std.proofs.Common.{◌≡◌, ℕ, ◌+◌, ◌<◌, List, ◌++◌, length, map, take, drop, get_or, slice_set, sym, ap, append_assoc}
-use Rattle.std.proofs.lemmas.List.{drop_more, get_or_at, get_or_past, map_more, set_at}
-use Rattle.std.proofs.lemmas.Bool.{ltb-false}
-use Rattle.gix_refspec_match.specs.declared.hits.Hit.{Hit}
-use Rattle.gix_refspec_match.specs.Private.Hits.{hit_at, turned}
-use Rattle.gix_refspec_match.proofs.lemmas.lists.JoinLemmas.{map_long}
+use Rattle.gix_refspec_match.proofs.Common.{List, ◌≡◌, ℕ, ◌++◌, sym, ap, ◌<◌, length, map, take, drop, ◌+◌, get_or, slice_set, append_assoc, ltb-false, drop_more, get_or_at, get_or_past, map_more, set_at}
+use Rattle.gix_refspec_match.proofs.Common.{turned, hit_at, DeclaredHit as Hit, map_long}
 use Rattle.gix_refspec_match.proofs.hits.turn_back.Goals as goal
-use Rattle.gix_refspec_match.proofs.hits.turn_back.Goals.{in-Some, in_default}
 
 -- one more element of a list is written anew
 one_written : {X : Type 0} (f : X → X) (now old : List X) (i : ℕ) (d x : X) → i < length old → x ≡ f (get_or now i d)
@@ -27,6 +22,6 @@ loop-hit-preserved c =
     let was = get_or now i (hit_at 0 0) in
     let written = λ (x : Hit) (is : x ≡ turned indexes was). one_written (turned indexes) now old i (hit_at 0 0) x c.loop-hit-test.true is c.loop-hit.invariant in
     elim c.match-get.branch [
-      | in-Some w ↦ rw w.hits-is (written _ (ap (hit_at was.matcher) (w.in-Some.ensures.lookup.3.1 was.item)))
-      | in_default w ↦ rw w.hits-is (written was (ap (hit_at was.matcher) (sym (get_or_past indexes was.item was.item (ltb-false was.item (length indexes) (sym w.in_default.ensures.lookup.0))))))
+      | goal.in-Some w ↦ rw w.hits-is (written _ (ap (hit_at was.matcher) (w.in-Some.ensures.lookup.3.1 was.item)))
+      | goal.in_default w ↦ rw w.hits-is (written was (ap (hit_at was.matcher) (sym (get_or_past indexes was.item was.item (ltb-false was.item (length indexes) (sym w.in_default.ensures.lookup.0))))))
     ]

@@ -1,7 +1,5 @@
 -- the hits so far have their indexes among all, and those to come are as they were
-use Rattle.std.proofs.Common.{◌≡◌, ◌++◌, map, take, drop}
-use Rattle.gix_refspec_match.specs.Private.Hits.{turned}
-use Rattle.gix_refspec_match.proofs.hits.turn_back.Given as goal
+use Rattle.gix_refspec_match.proofs.Common.{◌≡◌, ◌++◌, map, take, drop, turned}
 
-abbrev pub invariant-loop-hit : goal.invariant-loop-hit
+abbrev pub invariant-loop-hit : Rattle.gix_refspec_match.proofs.hits.turn_back.Given.invariant-loop-hit
 invariant-loop-hit l = l.hits ≡ map (turned l.indexes) (take l.hit-index l.initial.hits) ++ drop l.hit-index l.initial.hits

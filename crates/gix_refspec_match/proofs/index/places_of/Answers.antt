@@ -1,12 +1,8 @@
 -- A name that doesn't pass is no key, and to the list of a key the place is added.
-use Rattle.std.proofs.Common.{rules, refl, sym}
-use Rattle.gix_refspec_match.specs.Private.Index.{list_of}
-use Rattle.gix_refspec_match.specs.Private.Filter.{Passes}
-use Rattle.gix_refspec_match.proofs.lemmas.index.KeyLemmas.{key_of}
+use Rattle.gix_refspec_match.proofs.Common.{refl, sym, rules, Passes, list_of, key_of}
 use Rattle.gix_refspec_match.proofs.lemmas.index.IndexLemmas.{item_listed, item_unlisted}
 use Rattle.gix_refspec_match.proofs.lemmas.index.PlacesLemmas.{all_at}
 use Rattle.gix_refspec_match.proofs.index.places_of.Goals as goal
-use Rattle.gix_refspec_match.proofs.index.places_of.Goals.{in-Some+in_ok-push, in_default}
 
 pub loop-place-preserved-then-not-passes : goal.loop-place-preserved-then-not-passes
 loop-place-preserved-then-not-passes c =
@@ -21,13 +17,12 @@ loop-place-preserved c =
     let n = c.as_bytes-name.result.now in
     let old = list_of c.loop-place.places in
     elim c.match-get_mut.branch [
-      | in-Some+in_ok-push w ↦
+      | goal.in-Some+in_ok-push w ↦
           let list = w.push.new.self in
           let updates = (c.get_mut.follows.holds list).3 (rw (← w.in-Some.ensures.value) refl) in
           rw w.places-is (item_listed _ items i _ n w.in-Some.list.now list old _ c.loop-place-test.true c.as_bytes-name.ensures
           (sym w.in-Some.ensures.value) w.in_ok-push.ensures.items (λ q. updates.0 (key_of c.as_bytes-name.result q)) c.loop-place.invariant)
-      | in_default w ↦
-          rw (w.places-is, c.get_mut.follows.holds-at-none)
-          (item_unlisted _ items i _ n old c.loop-place-test.true c.as_bytes-name.ensures
+      | goal.in_default w ↦
+          rw (w.places-is, c.get_mut.follows.holds-at-none) (item_unlisted _ items i _ n old c.loop-place-test.true c.as_bytes-name.ensures
           (λ there. let at = c.loop-place.invariant.each n there in absurd (cc (w.in_default.ensures.value, at.1))) c.loop-place.invariant)
     ]

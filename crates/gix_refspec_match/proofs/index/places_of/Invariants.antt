@@ -1,8 +1,5 @@
 -- each name has its places among the items so far
-use Rattle.std.proofs.Common.{map, take}
-use Rattle.gix_refspec_match.specs.Views.Mapping.{name_bytes, ref_of}
-use Rattle.gix_refspec_match.specs.Private.Index.{HavePlaces, list_of}
-use Rattle.gix_refspec_match.proofs.index.places_of.Given as goal
+use Rattle.gix_refspec_match.proofs.Common.{map, take, HavePlaces, list_of, ref_of, name_bytes}
 
-abbrev pub invariant-loop-place : goal.invariant-loop-place
+abbrev pub invariant-loop-place : Rattle.gix_refspec_match.proofs.index.places_of.Given.invariant-loop-place
 invariant-loop-place l = HavePlaces (map name_bytes l.names) (map ref_of (take l.place l.items)) (list_of l.places)

@@ -1,8 +1,5 @@
 -- the keys are the names so far
-use Rattle.std.proofs.Common.{[], map, take}
-use Rattle.gix_refspec_match.specs.Views.Mapping.{name_bytes}
-use Rattle.gix_refspec_match.specs.Private.Index.{HavePlaces, list_of}
-use Rattle.gix_refspec_match.proofs.index.without_places.Given as goal
+use Rattle.gix_refspec_match.proofs.Common.{[], map, take, HavePlaces, list_of, name_bytes}
 
-abbrev pub invariant-loop-name : goal.invariant-loop-name
+abbrev pub invariant-loop-name : Rattle.gix_refspec_match.proofs.index.without_places.Given.invariant-loop-name
 invariant-loop-name l = HavePlaces (map name_bytes (take l.name-index l.names)) [] (list_of l.places)

@@ -1,11 +1,7 @@
 -- The flags of duplicates, as far as a list in order was gone through.
-use Rattle.std.proofs.Common.{◌≡◌, ◌⊎◌, inr, ◌↔◌, ℕ, ◌+◌, ◌<◌, List, [], ◌∷◌, length, refl, Bool, true, false, Result, Ok, Err, arith}
-use Rattle.std.specs.Prelude.{IfOk}
-use Rattle.std.specs.declared.cmp.Ordering.{Ordering}
-use Rattle.std.specs.declared.cmp.Ordering.TheVariants.{Less, Equal, Greater}
-use Rattle.std.specs.Ordering.{is_eq, is_ne}
-use Rattle.gix_refspec_match.specs.Private.Duplicates.{FlagsDuplicates, IsDuplicate}
-use Rattle.gix_refspec_match.specs.Private.Kept.{IsFlagged}
+use Rattle.std.proofs.Common.{List, [], ◌∷◌, refl, ◌≡◌, ℕ, true, false, Equal, arith, inr, ◌<◌, length, ◌+◌, ◌⊎◌, ◌↔◌, Bool, Result, Ok, Err, Ordering}
+use Rattle.std.specs.{Prelude.IfOk, Ordering.is_eq, Ordering.is_ne}
+use Rattle.gix_refspec_match.specs.{Private.Duplicates.FlagsDuplicates, Private.Duplicates.IsDuplicate, Private.Kept.IsFlagged}
 
 -- an element, where there is one
 pub some_element : {T : Type 0} (xs : List T) (k : ℕ) → k < length xs → T
@@ -19,9 +15,8 @@ ok_weaker (Err e) P Q make p = p
 
 -- what the tests of an ordering say
 pub equal_told : (o : Ordering) → (is_eq o ≡ true) ⊎ (is_ne o ≡ false) → o ≡ Equal
-equal_told Less told = grind arith
 equal_told Equal told = refl
-equal_told Greater told = grind arith
+equal_told o told = grind arith
 
 -- duplicates are flagged, and of these all that positions below at tell of
 pub record AreFlagged {T : Type 0} (order : T → T → Ordering) (xs : List T) (Tells : ℕ → ℕ → Type 0) (flags : List Bool)
@@ -33,14 +28,9 @@ pub record AreFlagged {T : Type 0} (order : T → T → Ordering) (xs : List T) 
 module _ {T : Type 0} {order : T → T → Ordering} {xs : List T} {Tells : ℕ → ℕ → Type 0} {flags : List Bool} {at : ℕ}
     (are : AreFlagged order xs Tells flags at) where
   pub flags_same : ((k : ℕ) → ¬ (Tells at k)) → AreFlagged order xs Tells flags (at + 1)
-  flags_same none = record {
-    fits = are.fits;
-    only = are.only;
-    found = λ i below k told. grind (arith, are.found i, none k);
-  }
+  flags_same none = record { fits = are.fits; only = are.only; found = λ i below k told. grind (arith, are.found i, none k) }
 
-  pub flags_raised : (new : List Bool) (i : ℕ) → length new ≡ length xs
-      → ((k : ℕ) → IsFlagged new k ↔ (IsFlagged flags k ⊎ (i ≡ k))) → IsDuplicate order xs i
+  pub flags_raised : (new : List Bool) (i : ℕ) → length new ≡ length xs → ((k : ℕ) → IsFlagged new k ↔ (IsFlagged flags k ⊎ (i ≡ k))) → IsDuplicate order xs i
       → ((k : ℕ) → Tells at k → i ≡ k) → AreFlagged order xs Tells new (at + 1)
   flags_raised new i fits raised duplicate here = record {
     fits = inr fits;
@@ -49,7 +39,4 @@ module _ {T : Type 0} {order : T → T → Ordering} {xs : List T} {Tells : ℕ 
   }
 
   pub flags_all : ((k : ℕ) → IsDuplicate order xs k → (i : ℕ) × (i < at) × Tells i k) → FlagsDuplicates order xs flags
-  flags_all finds k = (
-    are.only k,
-    λ duplicate. let (i, below, told) = finds k duplicate in are.found i below k told,
-  )
+  flags_all finds k = (are.only k, λ duplicate. let (i, below, told) = finds k duplicate in are.found i below k told)

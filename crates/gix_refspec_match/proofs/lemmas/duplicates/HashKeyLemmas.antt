@@ -1,61 +1,36 @@
 -- Keys of the upper bits of a hash and an index, and what their order says of hashes that are there twice.
-use Rattle.std.proofs.Common.{◌≡◌, ◌≢◌, inl, inr, ℕ, ◌+◌, ◌*◌, ◌/◌, ◌%◌, ◌^◌, ◌<◌, ◌≤◌, List, length, get_or, map, not, ap, refl, bit_or, Bool, true, arith}
-use Rattle.std.specs.List.{Contains, filter}
-use Rattle.std.specs.List.Sorted.{IsPermutation, IsSorted}
-use Rattle.std.specs.declared.cmp.Ordering.{Ordering}
-use Rattle.std.specs.declared.cmp.Ordering.TheVariants.{Equal}
-use Rattle.std.specs.Ordering.{nat_cmp}
-use Rattle.std.proofs.Math.Nat.{mod-eq_of_lt, div-mul-le_self}
-use Rattle.std.proofs.Math.Pow.{shr_mono}
-use Rattle.std.proofs.lemmas.Nat.{div-mul-add, mod-mul-add, or_shifted, shr_split}
-use Rattle.std.proofs.lemmas.Bool.{eq-eqb}
-use Rattle.std.proofs.lemmas.List.{get_or-map, length-map}
-use Rattle.std.proofs.lemmas.List.Elements.{All-contains, All-filter, Contains-append_cases, Contains-get_or, filter_passes}
-use Rattle.std.proofs.lemmas.List.Kept.{AllPairs-filter}
-use Rattle.std.proofs.lemmas.List.Sorted.{All-permutation, Contains-permutation, IsNonDecreasingBy-from_sort, IsPermutation-filter_both}
-use Rattle.gix_refspec_match.specs.declared.bloom.Bloom.{Bloom}
-use Rattle.gix_refspec_match.specs.Private.Bloom.{HasNumber}
-use Rattle.gix_refspec_match.specs.Private.Duplicates.{AreApart, AreKeysOf, FindDuplicates, HasIndex, HasShared, HaveSameUpper, IsKey, index_in, is_shared}
-use Rattle.gix_refspec_match.specs.Private.Kept.{Rises}
-use Rattle.gix_refspec_match.proofs.lemmas.duplicates.FlagLemmas.{some_element}
+use Rattle.gix_refspec_match.proofs.Common.{List, refl, ◌≡◌, ℕ, true, Equal, arith, inl, inr, ◌≢◌, ap, ◌<◌, length, map, ◌+◌, get_or, ◌≤◌, ◌*◌, ◌%◌, ◌^◌, Bool, Ordering, ◌/◌, not, bit_or, mod-eq_of_lt}
+use Rattle.gix_refspec_match.proofs.Common.{div-mul-le_self, shr_mono, AllPairs-filter, eq-eqb, length-map, get_or-map, All-contains, Contains-get_or, All-filter, Contains-append_cases, filter_passes}
+use Rattle.gix_refspec_match.proofs.Common.{All-permutation, Contains-permutation, IsNonDecreasingBy-from_sort, IsPermutation-filter_both, div-mul-add, mod-mul-add, or_shifted, shr_split, IsPermutation}
+use Rattle.gix_refspec_match.proofs.Common.{IsSorted, Contains, filter, nat_cmp, HasNumber, HaveSameUpper, index_in, AreApart, AreKeysOf, FindDuplicates, HasIndex, HasShared, IsKey, is_shared, Rises, Bloom}
+use Rattle.gix_refspec_match.proofs.Common.{some_element}
 use Rattle.gix_refspec_match.proofs.lemmas.duplicates.OrderedLemmas.{AreNumbered, apart_permuted, numbered_apart, second_found}
 
 -- the upper and the lower bits of a key
-pub packed : (hash index bits key : ℕ) → hash < 18446744073709551616 → index < 2 ^ bits
-    → key ≡ bit_or (hash / 2 ^ bits * 2 ^ bits % 18446744073709551616) index
+pub packed : (hash index bits key : ℕ) → hash < 18446744073709551616 → index < 2 ^ bits → key ≡ bit_or (hash / 2 ^ bits * 2 ^ bits % 18446744073709551616) index
     → (key / 2 ^ bits ≡ hash / 2 ^ bits) × (key % 2 ^ bits ≡ index)
 packed hash index bits key fits below is =
     let upper = hash / 2 ^ bits in
     let less : upper * 2 ^ bits < 18446744073709551616 = omega (arith, div-mul-le_self hash (2 ^ bits), fits) in
-    rw (is, mod-eq_of_lt less, or_shifted upper bits index below)
-    (div-mul-add upper (2 ^ bits) index below, mod-mul-add upper (2 ^ bits) index below)
+    rw (is, mod-eq_of_lt less, or_shifted upper bits index below) (div-mul-add upper (2 ^ bits) index below, mod-mul-add upper (2 ^ bits) index below)
 
 -- numbers with the same upper bits differ by their lower bits
 pub same_upper : (a b bits : ℕ) → HaveSameUpper bits a b → a + b % 2 ^ bits ≡ b + a % 2 ^ bits
-same_upper a b bits same =
-    let up : a / 2 ^ bits * 2 ^ bits ≡ b / 2 ^ bits * 2 ^ bits = ap (λ x. x * 2 ^ bits) same in
-    omega (arith, shr_split a bits, shr_split b bits, up)
+same_upper a b bits same = let up : a / 2 ^ bits * 2 ^ bits ≡ b / 2 ^ bits * 2 ^ bits = ap (λ x. x * 2 ^ bits) same in omega (arith, shr_split a bits, shr_split b bits, up)
 
 -- what passes a test stays
-pub contains_filter : {X : Type 0} (test : X → Bool) (xs : List X) (x : X) → Contains xs x → test x ≡ true
-    → Contains (filter test xs) x
+pub contains_filter : {X : Type 0} (test : X → Bool) (xs : List X) (x : X) → Contains xs x → test x ≡ true → Contains (filter test xs) x
 contains_filter {X} test xs x has passes =
     let other : X → Bool = λ y. not (test y) in
     let both = Contains-permutation xs _ x (IsPermutation-filter_both test other (λ y. refl) xs) has in
-    elim (Contains-append_cases _ _ x both) [
-      | inl kept ↦ kept
-      | inr out ↦ absurd (cc (passes, All-contains (λ y. other y ≡ true) _ x (filter_passes other xs) out))
-    ]
+    elim (Contains-append_cases _ _ x both) [ inl kept ↦ kept | inr out ↦ absurd (cc (passes, All-contains (λ y. other y ≡ true) _ x (filter_passes other xs) out)) ]
 
 -- of the keys of all elements, those with upper bits that others may have, sorted
 module _ {hashes : List ℕ} {bits : ℕ} {keys : List ℕ} {n : ℕ} {shared : Bloom} {ys : List ℕ} (past : length hashes ≤ n)
-    (are : AreNumbered (index_in bits) (IsKey hashes bits) keys n) (has : HasShared bits keys shared)
-    (moved : IsPermutation (filter (is_shared shared bits) keys) ys) where
+    (are : AreNumbered (index_in bits) (IsKey hashes bits) keys n) (has : HasShared bits keys shared) (moved : IsPermutation (filter (is_shared shared bits) keys) ys) where
   stays : (k : ℕ) → k < n → HasNumber shared (get_or keys k 0 / 2 ^ bits) → HasIndex (index_in bits) ys k
   stays k below number =
-      let there = Contains-get_or keys k 0 (omega (arith, are.size)) in
-      let kept = contains_filter (is_shared shared bits) keys _ there (eq-eqb _ 1 number) in
-      (get_or keys k 0, Contains-permutation _ ys _ moved kept, are.at k below 0)
+      (get_or keys k 0, Contains-permutation _ ys _ moved (contains_filter (is_shared shared bits) keys _ (Contains-get_or keys k 0 (omega (arith, are.size))) (eq-eqb _ 1 number)), are.at k below 0)
 
   pub sorted_keys : AreKeysOf hashes bits ys
   sorted_keys = record {
@@ -93,8 +68,7 @@ duplicates_from_keys {T} order hash xs bits keys alike are rises = record {
       let a_key = All-contains (IsKey (map hash xs) bits) keys a are.each has_a in
       let b_key = All-contains (IsKey (map hash xs) bits) keys b are.each has_b in
       let same : HaveSameUpper bits a b = cc (a_key.upper, b_key.upper) in
-      rw (← is_b) (second_found (index_in bits) (λ x y. x ≤ y) (HaveSameUpper bits) keys a b up has_a has_b
-      (λ le. omega (arith, same_upper a b bits same, is_a, is_b))
+      rw (← is_b) (second_found (index_in bits) (λ x y. x ≤ y) (HaveSameUpper bits) keys a b up has_a has_b (λ le. omega (arith, same_upper a b bits same, is_a, is_b))
       (λ m le more. omega (arith, shr_mono bits le, shr_mono bits more, same)));
 }
   where

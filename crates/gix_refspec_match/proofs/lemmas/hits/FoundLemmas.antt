@@ -1,16 +1,6 @@
 -- What hits make, and where patterns match.
-use Rattle.std.proofs.Common.{◌≡◌, ℕ, ◌<◌, List, [], Option, None, Some, MatchOption, IsTrue, is_some, option_map, Bool, Bor, ◌↔◌, map, get_or, length, sym, ◌∙◌, zero-add}
-use Rattle.std.proofs.lemmas.List.{map-id}
-use Rattle.std.proofs.lemmas.Bool.{false≢true}
-use Rattle.gix_refspec_match.specs.declared.matcher.Candidates.{Candidates}
-use Rattle.gix_refspec_text.specs.Matching.Side.{pattern, Fits}
-use Rattle.gix_refspec_text.specs.Matching.Match.{Ref, MatchesAs}
-use Rattle.gix_refspec_match.specs.Matching.Lists.{IsMadeFrom, MakesOf}
-use Rattle.gix_refspec_match.specs.Matching.Mappings.{Mapped}
-use Rattle.gix_refspec_match.specs.Matching.Hits.{Hit}
-use Rattle.gix_refspec_match.specs.Private.Fills.{mapping_of}
-use Rattle.gix_refspec_match.specs.Private.Needles.{IsMatched}
-use Rattle.gix_refspec_match.proofs.lemmas.lists.ListsLemmas.{made_map}
+use Rattle.gix_refspec_match.proofs.Common.{List, [], None, Some, ◌≡◌, ℕ, Option, sym, ◌∙◌, is_some, ◌<◌, length, map, get_or, option_map, ◌↔◌, MatchOption, Bor, IsTrue, Bool, zero-add, false≢true, map-id, Ref}
+use Rattle.gix_refspec_match.proofs.Common.{MatchesAs, pattern, Fits, MakesOf, IsMadeFrom, Hit, Mapped, mapping_of, IsMatched, Candidates, made_map}
 
 -- what a read past the end gives
 abbrev pub blank : Ref

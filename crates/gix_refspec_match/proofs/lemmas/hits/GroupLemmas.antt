@@ -1,24 +1,10 @@
 -- The hits of a group from those of its matchers. Specs that have the sides of an earlier one have none: their hits make
 -- no pair that is new.
-use Rattle.std.proofs.Common.{◌≡◌, inl, inr, ℕ, zero, suc, ◌+◌, ◌<◌, List, [], ◌∷◌, ◌++◌, Bool, map, get_or, length, refl, sym, ap, ◌∙◌, append_assoc, add-zero, arith}
-use Rattle.std.proofs.Math.Seq.{get_or-append_seam}
-use Rattle.std.proofs.lemmas.List.{append-nil, get_or_append_left, length-append, map-append}
-use Rattle.gix_refspec_match.specs.declared.matcher.Candidates.{Candidates}
-use Rattle.gix_refspec_match.specs.declared.matcher.Candidates.TheVariants.{First, All}
-use Rattle.gix_refspec_match.specs.declared.matcher.Matcher.{Matcher}
-use Rattle.gix_refspec_match.specs.declared.matcher.Matchers.{Matchers}
-use Rattle.gix_refspec_text.specs.Specs.Reading.{Reading}
-use Rattle.gix_refspec_text.specs.Specs.Grammar.{IsPositive}
-use Rattle.gix_refspec_text.specs.Matching.Match.{Ref}
-use Rattle.gix_refspec_match.specs.Matching.Lists.{IsMadeFrom, IsJoinedFrom}
-use Rattle.gix_refspec_match.specs.Matching.Mappings.{Mapped, IsSamePair, HasPair}
-use Rattle.gix_refspec_match.specs.Matching.Hits.{Ends, Hit, IsHit, AreHits, AreSpecHits}
-use Rattle.gix_refspec_match.specs.Private.Matchers.{AreMatcherOf, AreMatchersOf, HasEnds, HaveKinds, TakesIn}
-use Rattle.gix_refspec_match.specs.Private.EqualSpecs.{HaveSameSides, FlagsEqual}
-use Rattle.gix_refspec_match.specs.Private.Fills.{mapping_of, Thins}
-use Rattle.gix_refspec_match.specs.Private.Kept.{IsFlagged}
+use Rattle.gix_refspec_match.proofs.Common.{List, [], ◌∷◌, refl, ◌≡◌, ℕ, ◌++◌, sym, ◌∙◌, arith, inl, inr, ap, append-nil, ◌<◌, length, map, ◌+◌, get_or, append_assoc, zero, suc, Bool, add-zero, length-append}
+use Rattle.gix_refspec_match.proofs.Common.{get_or-append_seam, get_or_append_left, map-append, IsPositive, Ref, Reading, IsMadeFrom, IsJoinedFrom, Ends, Hit, IsHit, AreSpecHits, AreHits, Mapped, IsSamePair}
+use Rattle.gix_refspec_match.proofs.Common.{HasPair, HaveSameSides, FlagsEqual, mapping_of, Thins, IsFlagged, HaveKinds, HasEnds, TakesIn, AreMatcherOf, AreMatchersOf, Candidates, All, First, Matcher, Matchers}
+use Rattle.gix_refspec_match.proofs.Common.{joined_next}
 use Rattle.gix_refspec_match.proofs.lemmas.hits.FoundLemmas.{made_each, of_hits}
-use Rattle.gix_refspec_match.proofs.lemmas.lists.JoinLemmas.{joined_next}
 use Rattle.gix_refspec_match.proofs.lemmas.keep.KeptLemmas.{HasPair-left}
 use Rattle.gix_refspec_match.proofs.lemmas.keep.ThinLemmas.{pair_right, thins_both}
 
@@ -53,15 +39,13 @@ module _ (which : Candidates) (items : List Ref) where
       let moved = made_each (at_spec k) (IsHit (TakesIn which items) ends b) (IsHit (TakesIn which items) ends k) items hits
       (λ i d below. (hit_at ends b k i (get_or items i d), λ h here. (at_spec b h, hit_at ends k b i (get_or items i d) h here))) are in
       inl (ends, same_ends which r s ends same.positive_too same.source same.destination has, moved)
-  spec_at b k r s hits same (inr (none, is)) =
-      inr ((λ ends has. none ends (same_ends which s r ends same.positive (sym same.source) (sym same.destination) has)), ap (map (at_spec k)) is)
+  spec_at b k r s hits same (inr (none, is)) = inr ((λ ends has. none ends (same_ends which s r ends same.positive (sym same.source) (sym same.destination) has)), ap (map (at_spec k)) is)
 
   -- among the hits of a group are those of the spec at a place
   hits_of_spec : (g : List Reading) (k b : ℕ) (d : Reading) (hits : List Hit) → b < length g → IsJoinedFrom SpecHits k g hits
       → (here : List Hit) × SpecHits (k + b) (get_or g b d) here × Holds (of_hits which hits) (of_hits which here)
   hits_of_spec [] k b d hits below are = absurd (omega arith)
-  hits_of_spec (r ∷ g) k zero d hits below (first, rest, of, more, is) =
-      (first, rw add-zero of, λ m has. rw (is, map-append) (HasPair-left (of_hits which first) (of_hits which rest) m has))
+  hits_of_spec (r ∷ g) k zero d hits below (first, rest, of, more, is) = (first, rw add-zero of, λ m has. rw (is, map-append) (HasPair-left (of_hits which first) (of_hits which rest) m has))
   hits_of_spec (r ∷ g) k (suc b) d hits below (first, rest, of, more, is) =
       let (here, are, holds) = hits_of_spec g (k + 1) b d rest (omega arith) more in
       let place : (k + 1) + b ≡ k + suc b = omega arith in
@@ -127,14 +111,11 @@ module _ (g : List Reading) (which : Candidates) (items : List Ref) where
 
   most_from : (flags : List Bool) (front rest : List Reading) (n : ℕ) (ms : List Matcher) (some more : List Mapped) → FlagsEqual (front ++ rest) flags
       → IsJoinedFrom (AreMatcherOf which flags) (length front) rest ms → FindEnough n ms more → AreMostOf front some → AreMostOf (front ++ rest) (some ++ more)
-  most_from flags front [] n ms some more equal none found so_far =
-      let empty : more ≡ [] = rw none at found in
-      rw (append-nil, empty, append-nil) so_far
+  most_from flags front [] n ms some more equal none found so_far = let empty : more ≡ [] = rw none at found in rw (append-nil, empty, append-nil) so_far
   most_from flags front (r ∷ rest) n ms some more equal (made, others, of, behind, is) found so_far =
       let (n2, here, later, find, all, next) = most_of flags front rest r n made others some more equal of (rw is at found) so_far in
       let whole = append_assoc front (r ∷ []) rest in
-      let done = most_from flags (front ++ r ∷ []) rest n2 others (some ++ here) later (rw whole equal) (rw length-append behind) find next in
-      rw (all, ← append_assoc, ← whole) done
+      rw (all, ← append_assoc, ← whole) (most_from flags (front ++ r ∷ []) rest n2 others (some ++ here) later (rw whole equal) (rw length-append behind) find next)
 
   -- the hits of the matchers of a group make most of its mappings
   pub most_found : (ms : Matchers) (some : List Mapped) → AreMatchersOf which g ms → FindEnough 0 ms.list.items some → AreMostOf g some

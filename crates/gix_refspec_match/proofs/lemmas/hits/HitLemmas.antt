@@ -1,24 +1,9 @@
 -- What specs match, and what becomes of it.
-use Rattle.std.proofs.Common.{◌≡◌, ◌≢◌, ◌⊎◌, inl, inr, ℕ, List, [], ◌∷◌, ◌++◌, codes, ◌+◌, rules, arith, take, drop, Option, None, Some, MatchOption, Bor, refl, sym, ap, ◌∙◌, subst}
-use Rattle.std.specs.List.{AllByRecursion}
-use Rattle.std.proofs.lemmas.List.{append_cancel_left}
-use Rattle.gix_refspec_match.specs.declared.matcher.Candidates.{Candidates}
-use Rattle.gix_refspec_match.specs.declared.matcher.Candidates.TheVariants.{First, All}
-use Rattle.gix_refspec_match.specs.declared.matcher.Matcher.{Matcher}
-use Rattle.gix_refspec_text.specs.declared.side.SideKind.{SideKind as DeclaredKind}
-use Rattle.gix_refspec_text.specs.Specs.Reading.{Reading}
-use Rattle.gix_refspec_text.specs.Matching.Side.{SideKind, pattern, full_name, object, partial, HasKind, Fits, IsCandidate, candidates}
-use Rattle.gix_refspec_text.specs.Matching.Match.{Ref, MatchesAs, Matches}
-use Rattle.gix_refspec_match.specs.Matching.Mappings.{Mapped, IsKept, IsKeptAt}
-use Rattle.gix_refspec_match.specs.Matching.Hits.{Ends, OneForward, OneBackward, IsIdMapping, AreForward, AreBackward, AreSpecHits, Hit, IsHit, IsFilled}
-use Rattle.gix_refspec_text.specs.Private.SideViews.{kind_of_side}
-use Rattle.gix_refspec_match.specs.Private.Matchers.{HaveKinds, HasEnds, TakesIn}
-use Rattle.gix_refspec_match.specs.Private.Needles.{HasSideKind, IsFirstIn, filled_side}
-use Rattle.gix_refspec_text.proofs.lemmas.texts.ComponentLemmas.{AllByRecursion-parts}
-use Rattle.gix_refspec_text.proofs.lemmas.texts.ObjectIdLemmas.{IsIdText-unique}
-use Rattle.gix_refspec_text.proofs.lemmas.hits.MatchLemmas.{one_word, lacks_no_pattern, split_once}
-use Rattle.gix_refspec_match.proofs.lemmas.lists.ListsLemmas.{made_once}
-use Rattle.gix_refspec_match.proofs.lemmas.lists.JoinLemmas.{MakesOnce, one_joined}
+use Rattle.gix_refspec_match.proofs.Common.{List, [], ◌∷◌, None, Some, codes, refl, ◌≡◌, ℕ, ◌++◌, Option, sym, ◌∙◌, arith, inl, inr, ◌≢◌, subst, ap, take, drop, ◌+◌, rules, ◌⊎◌, MatchOption, Bor}
+use Rattle.gix_refspec_match.proofs.Common.{append_cancel_left, AllByRecursion, lacks_no_pattern, one_word, split_once, AllByRecursion-parts, IsIdText-unique, kind_of_side, DeclaredKind, Ref, Matches}
+use Rattle.gix_refspec_match.proofs.Common.{MatchesAs, pattern, object, HasKind, full_name, partial, SideKind, Fits, IsCandidate, candidates, Reading, Ends, IsFilled, Hit, IsHit, AreSpecHits, IsIdMapping}
+use Rattle.gix_refspec_match.proofs.Common.{AreBackward, AreForward, OneForward, OneBackward, Mapped, IsKeptAt, IsKept, HaveKinds, HasEnds, TakesIn, filled_side, HasSideKind, IsFirstIn, Candidates, All, First}
+use Rattle.gix_refspec_match.proofs.Common.{Matcher, one_joined, MakesOnce, made_once}
 
 -- the word is what is left of the name after its front, without its end
 pub word_left : (before after n rest : List ℕ) (r : Option (Bor (List ℕ))) → n ≡ before ++ rest → MatchOption r ((front : List ℕ) → rest ≢ front ++ after) (λ x. rest ≡ x.now ++ after) → MatchOption r ((word : List ℕ) → ¬ (Fits before after n word)) (λ word. Fits before after n word.now)
@@ -70,10 +55,7 @@ matches_as x k r word kind matches = rw (one_kind x matches.kind k matches.of ki
 
 -- what a side of the kind takes in a which is what it matches, and a partial source by its first candidate
 takes_in : (which : Candidates) (items : List Ref) (x : List ℕ) (k : SideKind) (r : Ref) (word : Option (List ℕ)) → HasKind x k → MatchesAs k r word → IsFirstIn k which items r.name → TakesIn which items x r word
-takes_in First items x k r word of is first = record {
-  matches = record { kind = k; of = of; is = is };
-  first = λ n partial_n. rw (one_kind x k (partial n) of partial_n) at first;
-}
+takes_in First items x k r word of is first = record { matches = record { kind = k; of = of; is = is }; first = λ n partial_n. rw (one_kind x k (partial n) of partial_n) at first }
 takes_in All items x k r word of is first = record { kind = k; of = of; is = is }
 
 pub taken_matches : (which : Candidates) (items : List Ref) (x : List ℕ) (r : Ref) (word : Option (List ℕ)) → TakesIn which items x r word → Matches x r word
@@ -94,9 +76,7 @@ far_filled side k word n kind same = absurd kind
 -- what is made where an end of the kinds takes an item
 pub is_hit : (which : Candidates) (items : List Ref) (ends : Ends) (kinds : Matcher) (k j : ℕ) (r : Ref) (word : Option (List ℕ)) (hit : Hit) → HaveKinds ends kinds → MatchesAs (kind_of_side kinds.needle) r word → IsFirstIn (kind_of_side kinds.needle) which items r.name → hit.far ≡ filled_side kinds.other word → hit.near ≡ r.name → hit.spec ≡ k → hit.item ≡ j → IsHit (TakesIn which items) ends k j r hit
 is_hit which items ends kinds k j r word hit have matches first far near spec item =
-    let takes = takes_in which items ends.near (kind_of_side kinds.needle) r word have.near matches first in
-    let filled = far_filled ends.far kinds.other word hit.far have.far far in
-    search (takes, filled)
+    search (takes_in which items ends.near (kind_of_side kinds.needle) r word have.near matches first, far_filled ends.far kinds.other word hit.far have.far far)
 
 pub same_side : (side : Option (List ℕ)) (x y : List ℕ) → side ≡ Some x → side ≡ Some y → x ≡ y
 same_side side x y of_x of_y = cc
@@ -117,14 +97,12 @@ filled_once (Some x) word n m a b = cc (a.2, b.2, one_kind x a.0 b.0 a.1 b.1)
 pub hit_once : (which : Candidates) (items : List Ref) (ends : Ends) (k : ℕ) → MakesOnce (IsHit (TakesIn which items) ends k)
 hit_once which items ends k j r g h a b =
     let of_g = taken_matches which items ends.near r a.word a.takes in
-    let of_h = taken_matches which items ends.near r b.word b.takes in
-    let word = same_word of_g.kind r a.word b.word of_g.is (matches_as ends.near of_g.kind r b.word of_g.of of_h) in
+    let word = same_word of_g.kind r a.word b.word of_g.is (matches_as ends.near of_g.kind r b.word of_g.of (taken_matches which items ends.near r b.word b.takes)) in
     let far = filled_once ends.far b.word g.far h.far (rw word at a.far) b.far in
     λ i. record { spec = (a.spec ∙ sym b.spec) i; item = (a.item ∙ sym b.item) i; near = (a.near ∙ sym b.near) i; far = far i }
 
 spec_hits_once : (which : Candidates) (items : List Ref) → MakesOnce (AreSpecHits (HasEnds which) (TakesIn which items) items)
-spec_hits_once which items k r g h (inl (ends, has, a)) (inl (others, have, b)) =
-    made_once _ (hit_once which items ends k) 0 items g h a (rw (one_pair which r others ends have has) at b)
+spec_hits_once which items k r g h (inl (ends, has, a)) (inl (others, have, b)) = made_once _ (hit_once which items ends k) 0 items g h a (rw (one_pair which r others ends have has) at b)
 spec_hits_once which items k r g h (inl (ends, has, a)) (inr (none, b)) = absurd (none ends has)
 spec_hits_once which items k r g h (inr (none, a)) (inl (others, have, b)) = absurd (none others have)
 spec_hits_once which items k r g h (inr (none, a)) (inr (_, b)) = a ∙ sym b
@@ -139,8 +117,7 @@ id_once k r m n a b =
     λ i. record { item = (a.item ∙ sym b.item) i; source = source i; destination = destination i; spec = (a.spec ∙ sym b.spec) i }
 
 pub forward_once : (rs : List Reading) (items : List Ref) (l m : List Mapped) → AreForward rs items l → AreForward rs items m → l ≡ m
-forward_once rs items l m a b =
-    cc (a.all, b.all, made_once _ id_once 0 rs a.ids b.ids a.are_ids b.are_ids, one_joined _ (spec_hits_once First items) 0 rs a.hits b.hits a.are_hits b.are_hits)
+forward_once rs items l m a b = cc (a.all, b.all, made_once _ id_once 0 rs a.ids b.ids a.are_ids b.are_ids, one_joined _ (spec_hits_once First items) 0 rs a.hits b.hits a.are_hits b.are_hits)
 
 pub backward_once : (rs : List Reading) (items : List Ref) (l m : List Mapped) → AreBackward rs items l → AreBackward rs items m → l ≡ m
 backward_once rs items l m a b = cc (a.all, b.all, one_joined _ (spec_hits_once All items) 0 rs a.hits b.hits a.are_hits b.are_hits)

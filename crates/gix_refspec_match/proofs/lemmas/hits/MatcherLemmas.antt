@@ -1,33 +1,10 @@
 -- The matchers and the objects of specs, spec by spec, and what duplicates among specs say of them.
-use Rattle.std.proofs.Common.{◌↔◌, ◌∙◌, IsTrue, false, true, ◌≡◌, ◌≢◌, inl, inr, sym, append-nil, Bool, ◌∷◌, [], ℕ, ◌+◌, ◌<◌, List, ◌++◌, Option, None, Some, map, take, get_or, length, refl, ◌≤◌, rules, arith}
-use Rattle.std.proofs.lemmas.Bool.{false≢true}
-use Rattle.std.proofs.lemmas.List.{get_or-map, length-map}
-use Rattle.std.specs.Ordering.{bool_cmp, ordering_then}
-use Rattle.std.specs.declared.cmp.Ordering.TheVariants.{Equal}
-use Rattle.gix_refspec_match.specs.declared.matcher.Candidates.{Candidates}
-use Rattle.gix_refspec_match.specs.declared.matcher.Candidates.TheVariants.{First, All}
-use Rattle.gix_refspec_match.specs.declared.matcher.Sides.{Sides}
-use Rattle.gix_refspec_text.specs.declared.oid.ObjectId.{ObjectId}
-use Rattle.gix_refspec_text.specs.declared.side.SideKind.{SideKind as DeclaredKind}
-use Rattle.gix_refspec_text.specs.declared.side.SideKind.TheVariants.{Object}
-use Rattle.gix_refspec_text.specs.declared.spec.RefSpecRef.{RefSpecRef}
-use Rattle.gix_refspec_text.specs.Texts.ObjectId.{id_bytes}
-use Rattle.gix_refspec_text.specs.Specs.Reading.{Reading, Mode, Negative}
-use Rattle.gix_refspec_text.specs.Matching.Side.{object, HasKind}
-use Rattle.gix_refspec_text.specs.Views.Spec.{reading_of}
-use Rattle.gix_refspec_text.specs.Private.SideViews.{kind_of_side}
-use Rattle.gix_refspec_match.specs.Matching.Lists.{IsJoinedFrom}
-use Rattle.gix_refspec_match.specs.Matching.Hits.{Ends, AreForwardEnds, AreBackwardEnds}
-use Rattle.gix_refspec_match.specs.Private.Kept.{IsFlagged}
-use Rattle.gix_refspec_match.specs.Private.Matchers.{AreMatcherOf, AreObjectOf, HaveSides, HasNoSides}
-use Rattle.gix_refspec_match.specs.Private.Needles.{HasSideKind}
+use Rattle.gix_refspec_match.proofs.Common.{List, [], ◌∷◌, None, Some, refl, ◌≡◌, ℕ, true, false, ◌++◌, Option, Equal, sym, ◌∙◌, arith, inl, inr, ◌≢◌, append-nil, ◌<◌, length, map, take, ◌+◌, get_or, rules}
+use Rattle.gix_refspec_match.proofs.Common.{◌≤◌, ◌↔◌, IsTrue, Bool, false≢true, length-map, get_or-map, bool_cmp, ordering_then, map_next, kind_of_side, IsPositive, id_bytes, reading_of, ObjectId, DeclaredKind}
+use Rattle.gix_refspec_match.proofs.Common.{Object, RefSpecRef, object, HasKind, Negative, Reading, Mode, IsJoinedFrom, Ends, AreForwardEnds, AreBackwardEnds, FlagsDuplicates, HaveSameSides, FlagsEqual}
+use Rattle.gix_refspec_match.proofs.Common.{excludes, side_order, sides_order, IsFlagged, HasNoSides, HaveSides, AreMatcherOf, AreObjectOf, HasSideKind, both_equal, same_options, Candidates, All, First, Sides}
+use Rattle.gix_refspec_match.proofs.Common.{map_long, joined_next}
 use Rattle.gix_refspec_match.proofs.lemmas.hits.HitLemmas.{one_kind}
-use Rattle.gix_refspec_match.proofs.lemmas.lists.JoinLemmas.{joined_next, map_long}
-use Rattle.gix_refspec_text.proofs.lemmas.lists.MapLemmas.{map_next}
-use Rattle.gix_refspec_text.specs.Specs.Grammar.{IsPositive}
-use Rattle.gix_refspec_match.specs.Private.Duplicates.{FlagsDuplicates}
-use Rattle.gix_refspec_match.specs.Private.EqualSpecs.{FlagsEqual, HaveSameSides, excludes, side_order, sides_order}
-use Rattle.gix_refspec_match.specs.Private.Orders.{both_equal, same_options}
 
 -- ---- a spec without sides
 

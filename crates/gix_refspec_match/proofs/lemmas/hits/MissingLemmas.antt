@@ -1,25 +1,15 @@
 -- Specs whose source is a name, and names that no ref has.
-use Rattle.std.proofs.Common.{◌≡◌, ◌⊎◌, ◌↔◌, inl, inr, ℕ, zero, suc, ◌+◌, ◌<◌, List, [], ◌∷◌, ◌++◌, Option, None, Some, option_to_list, length, map, take, get_or, refl, sym, ◌∙◌, subst, arith}
-use Rattle.std.specs.List.{AllByRecursion, Contains}
-use Rattle.std.proofs.lemmas.List.{get_or_default, length-take-le, take_more}
-use Rattle.gix_refspec_text.specs.declared.spec.RefSpecRef.{RefSpecRef}
+use Rattle.gix_refspec_match.proofs.Common.{List, [], ◌∷◌, None, Some, refl, ◌≡◌, ℕ, ◌++◌, Option, sym, ◌∙◌, arith, inl, inr, subst, ◌<◌, length, map, take, ◌+◌, get_or, ◌⊎◌, ◌↔◌, suc, option_to_list}
+use Rattle.gix_refspec_match.proofs.Common.{length-take-le, get_or_default, take_more, AllByRecursion, Contains, kind_of_side, reading_of, RefSpecRef, Ref, MatchesAs, pattern, object, HasKind, full_name}
+use Rattle.gix_refspec_match.proofs.Common.{partial, SideKind, Reading, MakesOf, IsMadeFrom, AreMissing, LacksSource, HasNone, IsIndexFor, TakesWhole, ArePlacesTaken, AreNamed, HasNoSides, HaveSides, IsNamed}
+use Rattle.gix_refspec_match.proofs.Common.{IsNameKind, Index, All, Matcher, Sides, made_more, made_next, made_none}
 use Rattle.gix_refspec_text.specs.declared.side.SideKind.TheVariants as side
-use Rattle.gix_refspec_text.specs.Specs.Reading.{Reading}
-use Rattle.gix_refspec_text.specs.Matching.Side.{SideKind, HasKind, pattern, full_name, object, partial}
-use Rattle.gix_refspec_text.specs.Matching.Match.{Ref, MatchesAs}
-use Rattle.gix_refspec_text.specs.Views.Spec.{reading_of}
-use Rattle.gix_refspec_text.specs.Private.SideViews.{kind_of_side}
-use Rattle.gix_refspec_match.specs.declared.index.Index.{Index}
-use Rattle.gix_refspec_match.specs.declared.matcher.Candidates.TheVariants.{All}
-use Rattle.gix_refspec_match.specs.declared.matcher.Matcher.{Matcher}
-use Rattle.gix_refspec_match.specs.declared.matcher.Sides.{Sides}
-use Rattle.gix_refspec_match.specs.Matching.Lists.{IsMadeFrom, MakesOf}
-use Rattle.gix_refspec_match.specs.Matching.Missing.{AreMissing, LacksSource}
-use Rattle.gix_refspec_match.specs.Private.Index.{HasNone, IsIndexFor, TakesWhole}
-use Rattle.gix_refspec_match.specs.Private.Matchers.{AreNamed, HasNoSides, HaveSides, IsNamed, IsNameKind}
 use Rattle.gix_refspec_match.proofs.lemmas.hits.HitLemmas.{one_kind}
 use Rattle.gix_refspec_match.proofs.lemmas.hits.MatcherLemmas.{side_shown}
-use Rattle.gix_refspec_match.proofs.lemmas.lists.JoinLemmas.{made_more, made_next}
+
+-- what a read past the end gives
+abbrev pub blank_matcher : Matcher
+blank_matcher = record { spec_index = 0; needle = side.Pattern (record { ref_ptr = (0, 0); now = [] }) (record { ref_ptr = (0, 0); now = [] }); other = None }
 
 -- ---- the matchers of names
 
@@ -41,16 +31,7 @@ pub named_next : (specs : List RefSpecRef) (i : ℕ) (s : RefSpecRef) (old new :
 named_next specs i s old new made below is so_far makes more =
     made_more IsNamed reading_of specs i s old new made below so_far (subst (λ (x : RefSpecRef). MakesOf IsNamed i (reading_of x) made) is makes) more
 
--- ---- where nothing is made
-
-made_none : {X Y : Type 0} (R : ℕ → X → Y → Type 0) (k : ℕ) (xs : List X) → IsMadeFrom R k xs [] → (i : ℕ) (d : X) → i < length xs → (y : Y) → ¬ (R (k + i) (get_or xs i d) y)
-made_none R k [] made i d below y holds = absurd (omega arith)
-made_none R k (x ∷ xs) (Some z, rest, here, more, is) i d below y holds = absurd (cc)
-made_none R k (x ∷ xs) (None, rest, none, more, is) zero d below y holds = none y (subst (λ (n : ℕ). R n x y) (omega arith) holds)
-made_none R k (x ∷ xs) (None, rest, none, more, is) (suc i) d below y holds =
-    let at : k + suc i ≡ k + 1 + i = omega arith in
-    made_none R (k + 1) xs (subst (IsMadeFrom R (k + 1) xs) (sym is) more) i d (omega arith) y (subst (λ (n : ℕ). R n (get_or xs i d) y) at holds)
-
+-- where nothing can be made, nothing is
 none_made : {X Y : Type 0} (R : ℕ → X → Y → Type 0) (k : ℕ) (xs : List X) (ys : List Y) → ((i : ℕ) (d : X) → i < length xs → (y : Y) → ¬ (R (k + i) (get_or xs i d) y)) → IsMadeFrom R k xs ys → ys ≡ []
 none_made R k [] ys none made = made
 none_made R k (x ∷ xs) ys none (Some z, rest, here, more, is) = absurd (none 0 x (omega arith) z (subst (λ (n : ℕ). R n x z) (omega arith) here))
@@ -61,33 +42,27 @@ none_made R k (x ∷ xs) ys none (None, rest, here, more, is) =
 
 -- a name matches a ref without a word
 without_word : (kind : SideKind) (ref : Ref) (word : Option (List ℕ)) → IsNameKind kind → MatchesAs kind ref word → MatchesAs kind ref None
-without_word (full_name n) ref word name is = (refl, is.1)
-without_word (partial n) ref word name is = (refl, is.1)
 without_word (pattern before after) ref word name is = absurd name
 without_word (object id) ref word name is = absurd name
+without_word kind ref word name is = (refl, is.1)
+
+-- no place is taken exactly where no ref is
+none_placed : (kind : SideKind) (refs : List Ref) (places : List ℕ) → ArePlacesTaken kind All refs places → (places ≡ []) ↔ ((ref : Ref) → Contains refs ref → ¬ (TakesWhole kind All refs ref))
+none_placed kind refs places are = (
+  (λ none ref (i, below, is) takes. made_none _ 0 refs (rw none at are) i ref below (0 + i) (rw is takes, refl)),
+  (λ none. none_made _ 0 refs places (λ i d below y holds. none (get_or refs i d) (i, below, get_or_default refs i (get_or refs i d) d below) holds.0) are),
+)
 
 -- a name has none in the index exactly where it matches no ref
 lacks_kind : (index : Index) (refs : List Ref) (kind : SideKind) → IsNameKind kind → IsIndexFor All refs index kind → HasNone index kind ↔ ((ref : Ref) → Contains refs ref → ¬ (MatchesAs kind ref None))
 lacks_kind index refs (pattern before after) name for = absurd name
 lacks_kind index refs (object id) name for = absurd name
-lacks_kind index refs (full_name x) name for = (
-  (λ none ref (i, below, is) matches.
-      made_none _ 0 refs (subst (IsMadeFrom (λ k r place. TakesWhole (full_name x) All refs r × (place ≡ k)) 0 refs) none for.names) i ref below (0 + i)
-      (subst (λ (r : Ref). MatchesAs (full_name x) r None) (sym is) matches, refl)),
-  (λ none. none_made _ 0 refs _ (λ i d below y holds. none (get_or refs i d) (i, below, get_or_default refs i (get_or refs i d) d below) holds.0) for.names),
-)
-lacks_kind index refs (partial x) name for = (
-  (λ none ref (i, below, is) matches.
-      made_none _ 0 refs (subst (IsMadeFrom (λ k r place. TakesWhole (partial x) All refs r × (place ≡ k)) 0 refs) none for.names) i ref below (0 + i)
-      (subst (λ (r : Ref). MatchesAs (partial x) r None) (sym is) matches, refl)),
-  (λ none. none_made _ 0 refs _ (λ i d below y holds. none (get_or refs i d) (i, below, get_or_default refs i (get_or refs i d) d below) holds.0) for.names),
-)
+lacks_kind index refs kind name for = none_placed kind refs _ for.names
 
 named_kind : (x : List ℕ) (kind : SideKind) → IsNameKind kind → HasKind x kind → HasKind x (full_name x) ⊎ HasKind x (partial x)
 named_kind x (full_name n) name of = inl (refl, of.1, of.2)
 named_kind x (partial n) name of = inr (refl, of.1, of.2, of.3)
-named_kind x (pattern before after) name of = absurd name
-named_kind x (object id) name of = absurd name
+named_kind x kind name of = absurd name
 
 -- a full or partial name is the kind of some side
 kind_named : (x : List ℕ) → HasKind x (full_name x) ⊎ HasKind x (partial x) → (m : Matcher) × HasKind x (kind_of_side m.needle) × IsNameKind (kind_of_side m.needle)
@@ -128,15 +103,13 @@ missing_step index refs k j r g m rest missing here for others (Some p, found, l
 
 missing_made : (index : Index) (refs : List Ref) (k j : ℕ) (g : List Reading) (ms : List Matcher) (missing : List ℕ) → AllByRecursion (λ m. IsIndexFor All refs index (kind_of_side m.needle)) ms
     → IsMadeFrom IsNamed k g ms → IsMadeFrom (IsLacking index) j ms missing → IsMadeFrom (λ n r made. (made ≡ n) × LacksSource refs r) k g missing
-missing_made index refs k j [] ms missing served named lacking = subst (λ (l : List Matcher). IsMadeFrom (IsLacking index) j l missing) named lacking
+missing_made index refs k j [] ms missing served named lacking = rw named at lacking
 missing_made index refs k j (r ∷ g) ms missing served (None, rest, none, more, is) lacking =
-    let still = subst (AllByRecursion (λ m. IsIndexFor All refs index (kind_of_side m.needle))) is served in
-    let others = missing_made index refs (k + 1) j g rest missing still more (subst (λ (l : List Matcher). IsMadeFrom (IsLacking index) j l missing) is lacking) in
+    let others = missing_made index refs (k + 1) j g rest missing (rw is at served) more (rw is at lacking) in
     (None, missing, (λ y both. let (m, kind, name) = kind_named both.1.source both.1.named in none (record { spec_index = k; needle = m.needle; other = None }) (record { positive = both.1.positive; source = both.1.source; is = both.1.is; kind = kind; name = name; spec = refl })), others, refl)
 missing_made index refs k j (r ∷ g) ms missing served (Some m, rest, here, more, is) lacking =
-    let for = subst (AllByRecursion (λ m. IsIndexFor All refs index (kind_of_side m.needle))) is served in
-    missing_step index refs k j r g m rest missing here for.0 (λ found later. missing_made index refs (k + 1) (j + 1) g rest found for.1 more later)
-    (subst (λ (l : List Matcher). IsMadeFrom (IsLacking index) j l missing) is lacking)
+    let for = rw is at served in
+    missing_step index refs k j r g m rest missing here for.0 (λ found later. missing_made index refs (k + 1) (j + 1) g rest found for.1 more later) (rw is at lacking)
 
 pub all_missing : (index : Index) (refs : List Ref) (g : List Reading) (ms : List Matcher) (missing : List ℕ) → AllByRecursion (λ m. IsIndexFor All refs index (kind_of_side m.needle)) ms
     → AreNamed g ms → IsMadeFrom (IsLacking index) 0 ms missing → AreMissing g refs missing

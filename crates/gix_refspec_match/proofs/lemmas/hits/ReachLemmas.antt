@@ -1,10 +1,5 @@
 -- What a reading takes and fills, among items.
-use Rattle.std.proofs.Common.{inl, inr, ℕ, List, Option, refl, subst}
-use Rattle.gix_refspec_match.specs.declared.matcher.Candidates.{Candidates}
-use Rattle.gix_refspec_text.specs.Specs.Reading.{Reading}
-use Rattle.gix_refspec_text.specs.Matching.Match.{Ref}
-use Rattle.gix_refspec_match.specs.Matching.Hits.{Ends, IsFilled, Hit, IsHit, AreSpecHits, AreHits}
-use Rattle.gix_refspec_match.specs.Private.Matchers.{HasEnds, TakesIn}
+use Rattle.gix_refspec_match.proofs.Common.{List, refl, ℕ, Option, inl, inr, subst, Ref, Reading, Ends, IsFilled, Hit, IsHit, AreSpecHits, AreHits, HasEnds, TakesIn, Candidates}
 use Rattle.gix_refspec_match.proofs.lemmas.hits.HitLemmas.{one_pair, hit_once}
 use Rattle.gix_refspec_match.proofs.lemmas.lists.SomeLemmas.{Any, Any-weaker, made_any, MakesOnly, any_made, joined_any, any_joined}
 

@@ -1,15 +1,8 @@
 -- The places that a partial name takes, as refs are added: those of the first candidate, or of all.
-use Rattle.std.proofs.Common.{◌≡◌, ◌↔◌, ◌⊎◌, inl, inr, ℕ, ◌+◌, ◌<◌, ◌≤◌, List, [], ◌∷◌, ◌++◌, None, Some, length, refl, sym, ◌∙◌, subst, arith}
-use Rattle.std.specs.List.{AllByRecursion}
-use Rattle.std.proofs.lemmas.List.{append-nil}
-use Rattle.gix_refspec_match.specs.declared.matcher.Candidates.{Candidates}
-use Rattle.gix_refspec_match.specs.declared.matcher.Candidates.TheVariants.{First, All}
-use Rattle.gix_refspec_text.specs.Matching.Side.{partial, IsCandidate}
-use Rattle.gix_refspec_text.specs.Matching.Match.{Ref, MatchesAs, HasName, IsFirstCandidate}
-use Rattle.gix_refspec_match.specs.Private.Index.{ArePlacesTaken, Joins, name_at}
-use Rattle.gix_refspec_text.proofs.lemmas.hits.CandidateLemmas.{first_candidate, first_once, some_first}
-use Rattle.gix_refspec_text.proofs.lemmas.lists.AllLemmas.{all_right}
-use Rattle.gix_refspec_match.proofs.lemmas.lists.JoinLemmas.{made_next}
+use Rattle.gix_refspec_match.proofs.Common.{List, [], ◌∷◌, None, Some, refl, ◌≡◌, ℕ, ◌++◌, sym, ◌∙◌, arith, inl, inr, subst, append-nil, ◌<◌, length, ◌+◌, get_or, ◌⊎◌, ◌≤◌, ◌↔◌, map-id, AllByRecursion}
+use Rattle.gix_refspec_match.proofs.Common.{all_right, first_once, first_candidate, some_first, Ref, HasName, IsFirstCandidate, MatchesAs, partial, IsCandidate, ArePlacesTaken, Joins, name_at, Candidates, All}
+use Rattle.gix_refspec_match.proofs.Common.{First, made_next}
+use Rattle.gix_refspec_match.proofs.lemmas.hits.FoundLemmas.{made_each}
 use Rattle.gix_refspec_match.proofs.lemmas.index.PlacesLemmas.{AreWhere, Lengthen, candidates_lengthen}
 
 -- the names of refs, with one more
@@ -29,45 +22,34 @@ pub record IsShortest (refs : List Ref) (x n : List ℕ) : Type 0 where
 
 -- of names that each are longer than those before, the first that refs have is the shortest that they have
 module _ (refs : List Ref) (f n : List ℕ) (has : HasName refs n) (least : length n ≤ length f) where
-  least_first : (e l d k : List (List ℕ)) → Lengthen (e ++ (f ∷ l)) → AllByRecursion (λ m. ¬ (HasName refs m)) e
-      → e ++ (f ∷ l) ≡ d ++ (n ∷ k) → f ≡ n
+  least_first : (e l d k : List (List ℕ)) → Lengthen (e ++ (f ∷ l)) → AllByRecursion (λ m. ¬ (HasName refs m)) e → e ++ (f ∷ l) ≡ d ++ (n ∷ k) → f ≡ n
   least_first [] l [] k longer absent same = cc
-  least_first [] l (c ∷ d) k longer absent same =
-      let others : l ≡ d ++ (n ∷ k) = cc in
-      absurd (omega (arith, (all_right (λ m. length f < length m) d (n ∷ k) (rw others at longer.0)).0))
+  least_first [] l (c ∷ d) k longer absent same = let others : l ≡ d ++ (n ∷ k) = cc in absurd (omega (arith, (all_right (λ m. length f < length m) d (n ∷ k) (rw others at longer.0)).0))
   least_first (c ∷ e) l [] k longer absent same = absurd (absent.0 (subst (HasName refs) (cc) has))
   least_first (c ∷ e) l (b ∷ d) k longer absent same = least_first e l d k longer.1 absent.1 (cc)
 
 shortest_first : (refs : List Ref) (x n : List ℕ) → IsShortest refs x n → IsFirstCandidate refs x n
 shortest_first refs x n short =
     let (f, first) = some_first refs x n short.one short.there in
-    let least = short.least f (first_candidate refs x f first) first.present in
-    let same = least_first refs f n short.there least first.earlier first.later short.one.earlier short.one.later
+    let same = least_first refs f n short.there (short.least f (first_candidate refs x f first) first.present) first.earlier first.later short.one.earlier short.one.later
     (subst Lengthen first.here (candidates_lengthen x)) first.absent (sym first.here ∙ short.one.here) in
     subst (IsFirstCandidate refs x) same first
 
 -- there is no place, where P holds of none of the refs
-none_where : (P : Ref → Type 0) (k : ℕ) (refs : List Ref) → ((r : Ref) → HasName refs r.name → ¬ (P r))
-    → AreWhere P k refs []
+none_where : (P : Ref → Type 0) (k : ℕ) (refs : List Ref) → ((r : Ref) → HasName refs r.name → ¬ (P r)) → AreWhere P k refs []
 none_where P k [] none = refl
-none_where P k (r ∷ refs) none =
-    (None, [], (λ y both. none r (inl refl) both.0), none_where P (k + 1) refs (λ s has. none s (inr has)), refl)
+none_where P k (r ∷ refs) none = (None, [], (λ y both. none r (inl refl) both.0), none_where P (k + 1) refs (λ s has. none s (inr has)), refl)
 
 -- the places are the same by a word that agrees
-module _ (P Q : Ref → Type 0) (alike : (r : Ref) → P r ↔ Q r) where
-  where_alike : (k : ℕ) (refs : List Ref) (ps : List ℕ) → AreWhere P k refs ps → AreWhere Q k refs ps
-  where_alike k [] ps empty = empty
-  where_alike k (r ∷ refs) ps (None, rest, none, more, is) =
-      (None, rest, (λ y both. none y ((alike r).1 both.0, both.1)), where_alike (k + 1) refs rest more, is)
-  where_alike k (r ∷ refs) ps (Some p, rest, here, more, is) =
-      (Some p, rest, ((alike r).0 here.0, here.1), where_alike (k + 1) refs rest more, is)
+where_alike : (P Q : Ref → Type 0) → ((r : Ref) → P r ↔ Q r) → (refs : List Ref) (ps : List ℕ) → AreWhere P 0 refs ps → AreWhere Q 0 refs ps
+where_alike P Q alike refs ps are = rw map-id at (made_each (λ p. p) (λ k r place. P r × (place ≡ k)) (λ k r place. Q r × (place ≡ k)) refs ps
+    (λ i d below. ((λ p both. ((alike (get_or refs i d)).0 both.0, both.1)), λ p both. (p, ((alike (get_or refs i d)).1 both.0, both.1)))) are)
 
 -- the places of all candidates among the refs so far, or of the shortest. all has these refs and those to come
 abbrev pub AreFound : Candidates → List Ref → List ℕ → List Ref → List ℕ → Type 0
 AreFound All all x refs ps = ArePlacesTaken (partial x) All refs ps
 AreFound First all x refs [] = (n : List ℕ) → IsCandidate x n → ¬ (HasName refs n)
-AreFound First all x refs (p ∷ ps) =
-    IsShortest refs x (name_at all p) × AreWhere (λ r. r.name ≡ name_at all p) 0 refs (p ∷ ps)
+AreFound First all x refs (p ∷ ps) = IsShortest refs x (name_at all p) × AreWhere (λ r. r.name ≡ name_at all p) 0 refs (p ∷ ps)
 
 -- one more ref, at place i
 module _ (all refs : List Ref) (r : Ref) (x : List ℕ) (i : ℕ) (long : length refs ≡ i) (here : r.name ≡ name_at all i) where
@@ -75,24 +57,15 @@ module _ (all refs : List Ref) (r : Ref) (x : List ℕ) (i : ℕ) (long : length
   where_more P ps are holds = made_next (λ k s place. P s × (place ≡ k)) i refs r ps (Some i) long are (holds, refl)
 
   where_same : (P : Ref → Type 0) (ps : List ℕ) → AreWhere P 0 refs ps → ¬ (P r) → AreWhere P 0 (refs ++ r ∷ []) ps
-  where_same P ps are other =
-      rw (← append-nil ps)
-      (made_next (λ k s place. P s × (place ≡ k)) i refs r ps None long are (λ place both. other both.0))
+  where_same P ps are other = rw (← append-nil ps) (made_next (λ k s place. P s × (place ≡ k)) i refs r ps None long are (λ place both. other both.0))
 
   -- n is the shortest with it
-  shortest_next : (n : List ℕ) → IsCandidate x n → HasName refs n ⊎ (r.name ≡ n)
-      → ((m : List ℕ) → IsCandidate x m → HasName refs m → length n ≤ length m)
+  shortest_next : (n : List ℕ) → IsCandidate x n → HasName refs n ⊎ (r.name ≡ n) → ((m : List ℕ) → IsCandidate x m → HasName refs m → length n ≤ length m)
       → (IsCandidate x r.name → length n ≤ length (name_at all i)) → IsShortest (refs ++ r ∷ []) x n
-  shortest_next n one there least last = record {
-    one = one;
-    there = has_more refs r n there;
-    least = λ m other has. let cases = has_cases refs r m has in grind (arith, cases, least m, last, here);
-  }
+  shortest_next n one there least last = record { one = one; there = has_more refs r n there; least = λ m other has. let cases = has_cases refs r m has in grind (arith, cases, least m, last, here) }
 
   -- it is a candidate, and shorter than those before
-  shorter_next : IsCandidate x r.name
-      → ((n : List ℕ) → IsCandidate x n → HasName refs n → length (name_at all i) < length n)
-      → AreFound First all x (refs ++ r ∷ []) (i ∷ [])
+  shorter_next : IsCandidate x r.name → ((n : List ℕ) → IsCandidate x n → HasName refs n → length (name_at all i) < length n) → AreFound First all x (refs ++ r ∷ []) (i ∷ [])
   shorter_next one least =
       let also = rw here at one in (
         shortest_next (name_at all i) also (inr here) (λ n other has. omega (arith, least n other has)) (λ _. omega arith),
@@ -101,46 +74,34 @@ module _ (all refs : List Ref) (r : Ref) (x : List ℕ) (i : ℕ) (long : length
       )
 
   -- it is no candidate, or longer than those before
-  longer_next : (p : ℕ) (ps : List ℕ) → AreFound First all x refs (p ∷ ps)
-      → (IsCandidate x r.name → length (name_at all p) < length (name_at all i))
-      → AreFound First all x (refs ++ r ∷ []) (p ∷ ps)
+  longer_next : (p : ℕ) (ps : List ℕ) → AreFound First all x refs (p ∷ ps) → (IsCandidate x r.name → length (name_at all p) < length (name_at all i)) → AreFound First all x (refs ++ r ∷ []) (p ∷ ps)
   longer_next p ps (short, are) longer = (
     shortest_next (name_at all p) short.one (inl short.there) short.least (λ one. omega (arith, longer one)),
     where_same (λ s. s.name ≡ name_at all p) (p ∷ ps) are (λ same. grind (arith, longer, short.one, here)),
   )
 
   -- a candidate joins those that are found, and another ref doesn't
-  pub found_next : (which : Candidates) (ps qs : List ℕ) → AreFound which all x refs ps
-      → (IsCandidate x r.name × Joins which all i ps qs) ⊎ (¬ (IsCandidate x r.name) × (qs ≡ ps))
+  pub found_next : (which : Candidates) (ps qs : List ℕ) → AreFound which all x refs ps → (IsCandidate x r.name × Joins which all i ps qs) ⊎ (¬ (IsCandidate x r.name) × (qs ≡ ps))
       → AreFound which all x (refs ++ r ∷ []) qs
   found_next All ps qs are (inl (one, is)) = rw is (where_more (λ s. MatchesAs (partial x) s None) ps are (refl, one))
-  found_next All ps qs are (inr (other, is)) =
-      rw is (where_same (λ s. MatchesAs (partial x) s None) ps are (λ also. other also.1))
+  found_next All ps qs are (inr (other, is)) = rw is (where_same (λ s. MatchesAs (partial x) s None) ps are (λ also. other also.1))
   found_next First [] qs none (inl (one, is)) = rw is (shorter_next one (λ n other has. absurd (none n other has)))
-  found_next First [] qs none (inr (other, is)) =
-      rw is (λ n one has. let cases = has_cases refs r n has in grind (arith, cases, none n))
+  found_next First [] qs none (inr (other, is)) = rw is (λ n one has. let cases = has_cases refs r n has in grind (arith, cases, none n))
   found_next First (p ∷ ps) qs are (inr (other, is)) = rw is (longer_next p ps are (λ one. absurd (other one)))
   found_next First (p ∷ ps) qs are (inl (one, inl (longer, is))) = rw is (longer_next p ps are (λ _. longer))
-  found_next First (p ∷ ps) qs (short, are) (inl (one, inr (inl (shorter, is)))) =
-      rw is (shorter_next one (λ n other has. omega (arith, shorter, short.least n other has)))
+  found_next First (p ∷ ps) qs (short, are) (inl (one, inr (inl (shorter, is)))) = rw is (shorter_next one (λ n other has. omega (arith, shorter, short.least n other has)))
   found_next First (p ∷ ps) qs (short, are) (inl (one, inr (inr (equal, is)))) =
       let first = λ (n : List ℕ). shortest_first (refs ++ r ∷ []) x n in
       let still = shortest_next (name_at all p) short.one (inl short.there) short.least (λ _. omega (arith, equal)) in
-      let also = shortest_next (name_at all i) (rw here at one) (inr here)
-      (λ n other has. omega (arith, equal, short.least n other has)) (λ _. omega arith) in
-      let same = first_once (refs ++ r ∷ []) x (name_at all i) (name_at all p) (first _ also) (first _ still) in
-      rw is (still, where_more (λ s. s.name ≡ name_at all p) (p ∷ ps) are (here ∙ same))
+      let also = shortest_next (name_at all i) (rw here at one) (inr here) (λ n other has. omega (arith, equal, short.least n other has)) (λ _. omega arith) in
+      rw is (still, where_more (λ s. s.name ≡ name_at all p) (p ∷ ps) are (here ∙ first_once (refs ++ r ∷ []) x (name_at all i) (name_at all p) (first _ also) (first _ still)))
 
 -- after all refs
-pub found_taken : (which : Candidates) (all : List Ref) (x : List ℕ) (ps : List ℕ) → AreFound which all x all ps
-    → ArePlacesTaken (partial x) which all ps
+pub found_taken : (which : Candidates) (all : List Ref) (x : List ℕ) (ps : List ℕ) → AreFound which all x all ps → ArePlacesTaken (partial x) which all ps
 found_taken All all x ps are = are
-found_taken First all x [] none =
-    none_where (λ s. IsFirstCandidate all x s.name) 0 all
-    (λ s has first. none s.name (first_candidate all x s.name first) has)
+found_taken First all x [] none = none_where (λ s. IsFirstCandidate all x s.name) 0 all (λ s has first. none s.name (first_candidate all x s.name first) has)
 found_taken First all x (p ∷ ps) (short, are) =
     let m = name_at all p in
     let first = shortest_first all x m short in
-    where_alike (λ s. s.name ≡ m) (λ s. IsFirstCandidate all x s.name)
-    (λ s. ((λ same. subst (IsFirstCandidate all x) (sym same) first), λ also. first_once all x s.name m also first))
-    0 all (p ∷ ps) are
+    where_alike (λ s. s.name ≡ m) (λ s. IsFirstCandidate all x s.name) (λ s. ((λ same. subst (IsFirstCandidate all x) (sym same) first), λ also. first_once all x s.name m also first))
+    all (p ∷ ps) are

@@ -1,18 +1,8 @@
 -- Where names are among refs.
-use Rattle.std.proofs.Common.{◌≡◌, ◌≢◌, ◌⊎◌, inl, inr, ℕ, ◌+◌, ◌<◌, List, [], ◌∷◌, ◌++◌, Option, None, Some, cond, length, map, take, get_or, refl, sym, ap, rules, ◌∙◌}
+use Rattle.gix_refspec_match.proofs.Common.{List, [], ◌∷◌, None, Some, refl, ◌≡◌, ℕ, ◌++◌, Option, sym, ◌∙◌, inl, inr, ◌≢◌, ap, append-nil, ◌<◌, length, map, take, ◌+◌, get_or, rules, ◌⊎◌, cond, bytes_eq}
+use Rattle.gix_refspec_match.proofs.Common.{not_from_Decides, bytes_eq-Decides, cases_Bool, Contains-append_left, Contains-push, Contains-push_cases, Contains, bstr_bytes, ArePlacesOf, HavePlaces, ref_of, Item}
+use Rattle.gix_refspec_match.proofs.Common.{made_more}
 use Rattle.std.specs.Global.{Vec}
-use Rattle.std.specs.List.{Contains}
-use Rattle.std.specs.Str.{bytes_eq}
-use Rattle.std.proofs.lemmas.Bool.{cases_Bool}
-use Rattle.std.proofs.lemmas.Bool.Decides.{not_from_Decides}
-use Rattle.std.proofs.lemmas.List.{append-nil}
-use Rattle.std.proofs.lemmas.List.Elements.{Contains-append_left, Contains-push, Contains-push_cases}
-use Rattle.std.proofs.lemmas.Slice.Eq.{bytes_eq-Decides}
-use Rattle.bstr.specs.BStr.{bstr_bytes}
-use Rattle.gix_refspec_match.specs.declared.types.Item.{Item}
-use Rattle.gix_refspec_match.specs.Views.Mapping.{ref_of}
-use Rattle.gix_refspec_match.specs.Private.Index.{ArePlacesOf, HavePlaces}
-use Rattle.gix_refspec_match.proofs.lemmas.lists.JoinLemmas.{made_more}
 
 -- what is listed for each name
 abbrev pub Listed : Type 0
@@ -44,8 +34,7 @@ one_more_name ns n v old new empty puts have = record {
 -- one more item, of another name
 elsewhere : (q : List ℕ) (items : List Item) (i : ℕ) (d : Item) (ps : List ℕ) → i < length items → bstr_bytes (get_or items i d).full_ref_name ≢ q
     → ArePlacesOf q (map ref_of (take i items)) ps → ArePlacesOf q (map ref_of (take (i + 1) items)) ps
-elsewhere q items i d ps below apart are =
-    made_more _ ref_of items i d ps ps None below are (λ place both. apart both.0.1) (sym (append-nil ps))
+elsewhere q items i d ps below apart are = made_more _ ref_of items i d ps ps None below are (λ place both. apart both.0.1) (sym (append-nil ps))
 
 -- an item whose name isn't listed
 pub item_unlisted : (ns : List (List ℕ)) (items : List Item) (i : ℕ) (d : Item) (n : List ℕ) (listed : Listed) → i < length items

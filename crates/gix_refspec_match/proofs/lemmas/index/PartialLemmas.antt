@@ -1,21 +1,12 @@
 -- An item's place is added for the partial names that may stand for its name.
-use Rattle.std.proofs.Common.{◌≡◌, ◌⊎◌, inl, inr, ℕ, ◌+◌, ◌<◌, List, [], ◌++◌, Option, Some, codes, length, drop, map, take, take_all, ◌≤◌, get_or, refl, ap, ◌∙◌, arith}
+use Rattle.gix_refspec_match.proofs.Common.{List, [], Some, codes, refl, ◌≡◌, ℕ, ◌++◌, Option, ◌∙◌, arith, inl, inr, ap, ◌<◌, length, map, take, drop, ◌+◌, get_or, take_all, ◌⊎◌, ◌≤◌, length-append}
+use Rattle.gix_refspec_match.proofs.Common.{map_more, slice_get-map, slice_get-get_or, AllByRecursion, Contains, Ref, Fits, IsCandidate, Joins, name_at, HavePlaces, AddsWhere, IsBelowPlace, ListPartials}
+use Rattle.gix_refspec_match.proofs.Common.{ref_of, Candidates, All, First, Item, map_long}
 use Rattle.std.specs.Global.{Vec}
-use Rattle.std.specs.List.{AllByRecursion, Contains}
-use Rattle.std.proofs.lemmas.List.{length-append, map_more}
-use Rattle.std.proofs.lemmas.Option.{slice_get-map, slice_get-get_or}
-use Rattle.gix_refspec_match.specs.declared.types.Item.{Item}
-use Rattle.gix_refspec_match.specs.declared.matcher.Candidates.{Candidates}
-use Rattle.gix_refspec_match.specs.declared.matcher.Candidates.TheVariants.{First, All}
-use Rattle.gix_refspec_text.specs.Matching.Side.{IsCandidate, Fits}
-use Rattle.gix_refspec_text.specs.Matching.Match.{Ref}
-use Rattle.gix_refspec_match.specs.Views.Mapping.{ref_of}
-use Rattle.gix_refspec_match.specs.Private.Index.{AddsWhere, HavePlaces, IsBelowPlace, Joins, ListPartials, name_at}
 use Rattle.gix_refspec_match.proofs.lemmas.index.FirstPlacesLemmas.{AreFound, found_next, found_taken}
 use Rattle.gix_refspec_match.proofs.lemmas.index.PlacesLemmas.{all_at}
 use Rattle.gix_refspec_match.proofs.lemmas.hits.HitLemmas.{candidate_cases, placed_candidate, remote_candidate}
 use Rattle.gix_refspec_match.proofs.lemmas.index.IndexLemmas.{Puts, put_cases}
-use Rattle.gix_refspec_match.proofs.lemmas.lists.JoinLemmas.{map_long}
 
 -- where P holds of no name that is known and listed
 pub adds_nothing : {Known P : List ℕ → Type 0} {R : List ℕ → List ℕ → Type 0} {listed : List ℕ → Option (Vec ℕ)}
@@ -50,10 +41,8 @@ candidate_from : (n x : List ℕ) → (n ≡ x) ⊎ IsInRefs n x → IsCandidate
 candidate_from n x (inl whole) = placed_candidate x n [] (inl refl) whole
 candidate_from n x (inr (is, inl e)) = placed_candidate x n (codes "refs/") (inr (inl refl)) (cc)
 candidate_from n x (inr (is, inr (inl (inl e)))) = placed_candidate x n (codes "refs/tags/") (inr (inr (inl refl))) (cc)
-candidate_from n x (inr (is, inr (inl (inr (inl e))))) =
-    placed_candidate x n (codes "refs/heads/") (inr (inr (inr (inl refl)))) (cc)
-candidate_from n x (inr (is, inr (inl (inr (inr e))))) =
-    placed_candidate x n (codes "refs/remotes/") (inr (inr (inr (inr refl)))) (cc)
+candidate_from n x (inr (is, inr (inl (inr (inl e))))) = placed_candidate x n (codes "refs/heads/") (inr (inr (inr (inl refl)))) (cc)
+candidate_from n x (inr (is, inr (inl (inr (inr e))))) = placed_candidate x n (codes "refs/remotes/") (inr (inr (inr (inr refl)))) (cc)
 candidate_from n x (inr (is, inr (inr e))) = remote_candidate x n (cc)
 
 candidate_in : (n x : List ℕ) → IsCandidate x n → (n ≡ x) ⊎ IsInRefs n x
@@ -72,41 +61,30 @@ pub one_place : (below x y : List ℕ) → IsBelowPlace below x → IsBelowPlace
 one_place below x y placed also = grind arith
 
 no_head : (below x : List ℕ) → IsBelowPlace below x → ¬ (IsHeadOf below x)
-no_head below x placed head =
-    omega (arith, ap length (one_place below x (x ++ codes "/HEAD") placed (inr (inr head))), length-append x (codes "/HEAD"))
+no_head below x placed head = omega (arith, ap length (one_place below x (x ++ codes "/HEAD") placed (inr (inr head))), length-append x (codes "/HEAD"))
 
 module _ {Known : List ℕ → Type 0} {R : List ℕ → List ℕ → Type 0} {old new : List ℕ → Option (Vec ℕ)} where
   -- for one name alone
-  pub adds_one : {p : List ℕ} {u : Vec ℕ} (t : Vec ℕ) → old p ≡ Some u → R u.items t.items → Puts p t old new
-      → AddsWhere Known (λ x. p ≡ x) R old new
+  pub adds_one : {p : List ℕ} {u : Vec ℕ} (t : Vec ℕ) → old p ≡ Some u → R u.items t.items → Puts p t old new → AddsWhere Known (λ x. p ≡ x) R old new
   adds_one {p = p} {u = u} t listed changes puts = record {
-    each = λ x w known was. elim (put_cases p t old new puts x) [
-      | inl here ↦ (t, here.1, grind (arith, here, ap old here.0))
-      | inr apart ↦ (w, apart.1 ∙ was, inr (apart.0, refl))
-    ];
+    each = λ x w known was. elim (put_cases p t old new puts x) [ inl here ↦ (t, here.1, grind (arith, here, ap old here.0)) | inr apart ↦ (w, apart.1 ∙ was, inr (apart.0, refl)) ];
   }
 
   -- for the one name of which Q holds
-  pub adds_only : {Q : List ℕ → Type 0} (p : List ℕ) → Q p → ((x : List ℕ) → Q x → p ≡ x)
-      → AddsWhere Known (λ x. p ≡ x) R old new → AddsWhere Known Q R old new
-  adds_only p holds only adds = record {
-    each = λ x w known was. let (v, is, told) = adds.each x w known was in (v, is, grind (arith, told, holds, only x));
-  }
+  pub adds_only : {Q : List ℕ → Type 0} (p : List ℕ) → Q p → ((x : List ℕ) → Q x → p ≡ x) → AddsWhere Known (λ x. p ≡ x) R old new → AddsWhere Known Q R old new
+  adds_only p holds only adds = record { each = λ x w known was. let (v, is, told) = adds.each x w known was in (v, is, grind (arith, told, holds, only x)) }
 
 module _ {Known : List ℕ → Type 0} {R : List ℕ → List ℕ → Type 0} {n : List ℕ} {a b c : List ℕ → Option (Vec ℕ)} where
   -- the place is added for what is below `refs/`, and for what is left of it with each place taken off
-  pub adds_below : {below : List ℕ} {d : List ℕ → Option (Vec ℕ)} → n ≡ codes "refs/" ++ below
-      → AddsWhere Known (λ x. below ≡ x) R a b → AddsWhere Known (IsBelowPlace below) R b c
+  pub adds_below : {below : List ℕ} {d : List ℕ → Option (Vec ℕ)} → n ≡ codes "refs/" ++ below → AddsWhere Known (λ x. below ≡ x) R a b → AddsWhere Known (IsBelowPlace below) R b c
       → AddsWhere Known (IsHeadOf below) R c d → AddsWhere Known (IsInRefs n) R a d
   adds_below {below = below} is whole placed head =
       let rest : drop 5 n ≡ below = ap (drop 5) is in
-      adds_both (λ x inside. rw rest (is, inside)) (λ x inside. rw rest at inside.1)
-      (λ x e behind. omega (arith, ap length e, behind_shorter below x behind)) whole
+      adds_both (λ x inside. rw rest (is, inside)) (λ x inside. rw rest at inside.1) (λ x e behind. omega (arith, ap length e, behind_shorter below x behind)) whole
       (adds_both (λ x behind. behind) (λ x behind. behind) (no_head below) placed head)
 
   -- and for the name itself
-  pub adds_candidates : AddsWhere Known (λ x. n ≡ x) R a b → AddsWhere Known (IsInRefs n) R b c
-      → AddsWhere Known (λ x. IsCandidate x n) R a c
+  pub adds_candidates : AddsWhere Known (λ x. n ≡ x) R a b → AddsWhere Known (IsInRefs n) R b c → AddsWhere Known (λ x. IsCandidate x n) R a c
   adds_candidates whole refs = adds_both (candidate_from n) (candidate_in n) (refs_longer n) whole refs
 
 -- each of the partial names is listed, with the places that it takes of the first i items
@@ -119,8 +97,7 @@ module _ {which : Candidates} {names : List (List ℕ)} {items : List Item} wher
   partials_started have = record {
     each = λ x there.
         let (v, is, none) = have.each x there in
-        let found = elim which as (λ w. AreFound w (map ref_of items) x [] []) [ First ↦ λ n one has. has | All ↦ refl ] in
-        (v, is, rw none found);
+        (v, is, rw none (elim which as (λ w. AreFound w (map ref_of items) x [] []) [ First ↦ λ n one has. has | All ↦ refl ]));
   }
 
   -- one more item
@@ -131,21 +108,15 @@ module _ {which : Candidates} {names : List (List ℕ)} {items : List Item} wher
   partials_more {i = i} {Known = Known} d below is known adds so_far = record {
     each = λ x there.
         let r : Ref = ref_of (get_or items i d) in
-        let long = map_long ref_of items i below in
         let here : r.name ≡ name_at (map ref_of items) i = simp (slice_get-map, slice_get-get_or items i d below) in
         let (w, was, found) = so_far.each x there in
         let (v, now, told) = adds.each x w (all_at Known names x known there) was in
-        let more = found_next (map ref_of items) _ r x i long here which w.items v.items found (rw is at told) in
-        (v, now, rw (map_more ref_of items i d below) more);
+        (v, now, rw (map_more ref_of items i d below) (found_next (map ref_of items) _ r x i (map_long ref_of items i below) here which w.items v.items found (rw is at told)));
   }
 
-  pub partials_all : {i : ℕ} {listed : List ℕ → Option (Vec ℕ)} → length items ≤ i
-      → ListSoFar which names items i listed → ListPartials which names (map ref_of items) listed
-  partials_all {i = i} past so_far x there =
-      let (v, is, found) = so_far.each x there in
-      (v, is, found_taken which (map ref_of items) x v.items (simp (take_all i items past) at found))
+  pub partials_all : {i : ℕ} {listed : List ℕ → Option (Vec ℕ)} → length items ≤ i → ListSoFar which names items i listed → ListPartials which names (map ref_of items) listed
+  partials_all {i = i} past so_far x there = let (v, is, found) = so_far.each x there in (v, is, found_taken which (map ref_of items) x v.items (simp (take_all i items past) at found))
 
 -- where there is no name to list
-pub no_partials : (which : Candidates) (names : List (List ℕ)) (refs : List Ref) (listed : List ℕ → Option (Vec ℕ))
-    → names ≡ [] → ListPartials which names refs listed
+pub no_partials : (which : Candidates) (names : List (List ℕ)) (refs : List Ref) (listed : List ℕ → Option (Vec ℕ)) → names ≡ [] → ListPartials which names refs listed
 no_partials which names refs listed none x there = let (k, inside, is) = rw none at there in absurd (omega (arith, inside))

@@ -1,26 +1,10 @@
 -- Which items needles take of those that the index lists.
-use Rattle.std.proofs.Common.{◌≡◌, ◌↔◌, ℕ, zero, suc, ◌+◌, ◌<◌, List, [], ◌∷◌, ◌++◌, map, take, drop, get_or, length, Option, None, Some, option_to_list, Bool, true, MatchBool, refl, rules, sym, ap, ◌∙◌, append_assoc, arith}
-use Rattle.std.proofs.lemmas.List.{append-nil, drop_more, get_or-map, length-drop, length-take-le, map_more, take_more}
-use Rattle.std.proofs.lemmas.Bool.{MatchBool-at_true}
-use Rattle.gix_refspec_match.specs.declared.types.Item.{Item}
-use Rattle.gix_refspec_match.specs.Views.Mapping.{ref_of}
-use Rattle.gix_refspec_match.specs.declared.hits.Hit.{Hit as DeclaredHit}
-use Rattle.gix_refspec_match.specs.declared.index.Index.{Index}
-use Rattle.gix_refspec_match.specs.declared.index.Names.{Names}
-use Rattle.gix_refspec_match.specs.declared.matcher.Candidates.{Candidates}
-use Rattle.gix_refspec_match.specs.declared.matcher.Candidates.TheVariants.{First, All}
-use Rattle.gix_refspec_match.specs.declared.matcher.Matcher.{Matcher}
-use Rattle.gix_refspec_text.specs.Texts.Words.{BeginsWith}
-use Rattle.gix_refspec_text.specs.Matching.Side.{SideKind, pattern, full_name, object, partial}
-use Rattle.gix_refspec_text.specs.Matching.Match.{Ref, MatchesAs}
-use Rattle.gix_refspec_text.specs.Private.SideViews.{kind_of_side}
-use Rattle.gix_refspec_match.specs.Matching.Lists.{MakesOf, IsJoinedFrom, IsMadeFrom}
-use Rattle.gix_refspec_match.specs.Private.Hits.{AddsFound, AreFound, IsFound, hit_at}
-use Rattle.gix_refspec_match.specs.Private.Index.{IsIndexFor, IsIndexOf, IsListed, HasNamesOf, ListsFor, TakesWhole}
-use Rattle.gix_refspec_match.specs.Private.Needles.{MatchesListed, IsTaken, TakesEach}
-use Rattle.gix_refspec_text.proofs.lemmas.hits.CandidateLemmas.{first_candidate}
+use Rattle.gix_refspec_match.proofs.Common.{List, [], ◌∷◌, None, Some, refl, ◌≡◌, ℕ, true, ◌++◌, Option, sym, ◌∙◌, arith, ap, append-nil, ◌<◌, length, map, take, drop, ◌+◌, get_or, append_assoc, rules, ◌↔◌}
+use Rattle.gix_refspec_match.proofs.Common.{zero, suc, option_to_list, Bool, MatchBool, length-drop, MatchBool-at_true, drop_more, map_more, length-take-le, take_more, get_or-map, first_candidate, kind_of_side}
+use Rattle.gix_refspec_match.proofs.Common.{BeginsWith, Ref, MatchesAs, pattern, object, full_name, partial, SideKind, MakesOf, IsMadeFrom, IsJoinedFrom, AreFound, hit_at, AddsFound, IsFound, IsIndexFor}
+use Rattle.gix_refspec_match.proofs.Common.{TakesWhole, IsIndexOf, IsListed, HasNamesOf, ListsFor, MatchesListed, IsTaken, TakesEach, ref_of, DeclaredHit, Index, Names, Candidates, First, Matcher, Item}
+use Rattle.gix_refspec_match.proofs.Common.{map_long, made_next, joined_next}
 use Rattle.gix_refspec_match.proofs.lemmas.hits.FoundLemmas.{blank}
-use Rattle.gix_refspec_match.proofs.lemmas.lists.JoinLemmas.{joined_next, made_next, map_long}
 
 -- ---- what is taken without a word
 
@@ -28,9 +12,7 @@ use Rattle.gix_refspec_match.proofs.lemmas.lists.JoinLemmas.{joined_next, made_n
 matches_taken : (kind : SideKind) (which : Candidates) (items : List Ref) (r : Ref)
     → (IsTaken which items kind r → MatchesListed kind r) × (TakesEach kind → MatchesListed kind r → IsTaken which items kind r)
 matches_taken (pattern before after) which items r = search rules
-matches_taken (full_name x) which items r = search rules
-matches_taken (object id) which items r = search rules
-matches_taken (partial x) which items r = search rules
+matches_taken kind which items r = search rules
 
 -- ---- what is taken of what is listed
 
@@ -75,13 +57,10 @@ through which items kind k P each j (r ∷ rest) places i hits at (Some place, o
 pub all_found : (which : Candidates) (items : List Ref) (kind : SideKind) (k : ℕ) (places : List ℕ) (hits : List DeclaredHit) → ListsFor which items kind places → IsMadeFrom (IsMatchedAt items kind k) 0 places hits → IsMadeFrom (IsFound which items kind k) 0 items hits
 all_found which items (pattern before after) k places hits lists over = through which items _ k (λ r. BeginsWith before r.name)
     (λ r. search (rules, begins_as before after r)) 0 items places 0 hits refl lists over
-all_found which items (full_name x) k places hits lists over = through which items _ k (TakesWhole (full_name x) which items)
-    (λ r. search rules) 0 items places 0 hits refl lists over
 all_found which items (object id) k places hits lists over = absurd lists
 all_found First items (partial x) k places hits lists over = through First items _ k (TakesWhole (partial x) First items)
     (λ r. search (rules, first_candidate items x r.name)) 0 items places 0 hits refl lists over
-all_found All items (partial x) k places hits lists over = through All items _ k (TakesWhole (partial x) All items)
-    (λ r. search rules) 0 items places 0 hits refl lists over
+all_found which items kind k places hits lists over = through which items kind k (TakesWhole kind which items) (λ r. search rules) 0 items places 0 hits refl lists over
 
 -- ---- place by place, and item by item
 
@@ -129,8 +108,7 @@ item_missed which items xs kind k i d old mid below none so_far =
 pub found_next : (which : Candidates) (items : List Ref) (ms : List Matcher) (i : ℕ) (d : Matcher) (P : Type 0) (within : Bool) (old new : List DeclaredHit) → i < length ms → within ≡ true → MatchBool within (AddsFound which items (kind_of_side (get_or ms i d).needle) i old new) P → IsJoinedFrom (AreFound which items) 0 (take i ms) old → IsJoinedFrom (AreFound which items) 0 (take (i + 1) ms) new
 found_next which items ms i d P within old new below is told so_far =
     let adds = MatchBool-at_true _ _ is told in
-    rw (adds.all, take_more ms i d below)
-    (joined_next (AreFound which items) i (take i ms) (get_or ms i d) old adds.made (length-take-le i ms (omega arith)) so_far adds.are)
+    rw (adds.all, take_more ms i d below) (joined_next (AreFound which items) i (take i ms) (get_or ms i d) old adds.made (length-take-le i ms (omega arith)) so_far adds.are)
 
 -- ---- each place is one of an item
 
@@ -142,10 +120,8 @@ place_below P j (r ∷ rest) places b (suc i) d end (Some place, others, here, m
     rw same (place_below P (j + 1) rest others b i d (omega arith) more (omega (arith, below, ap length same)))
 
 pub place_fits : (which : Candidates) (items : List Ref) (kind : SideKind) (places : List ℕ) (i d : ℕ) → ListsFor which items kind places → i < length places → get_or places i d < length items
-place_fits which items (pattern before after) places i d lists below = place_below _ 0 items places _ i d (omega arith) lists below
-place_fits which items (full_name x) places i d lists below = place_below _ 0 items places _ i d (omega arith) lists below
 place_fits which items (object id) places i d lists below = absurd lists
-place_fits which items (partial x) places i d lists below = place_below _ 0 items places _ i d (omega arith) lists below
+place_fits which items kind places i d lists below = place_below _ 0 items places _ i d (omega arith) lists below
 
 -- ---- the index serves each needle
 
@@ -153,7 +129,6 @@ pub named_listed : (which : Candidates) (refs : List Ref) (names : Names) (index
 named_listed which refs names index of_names kind named = record { names = listed kind named; prefixes = of_names.prefixes }
   where
     listed : (kind : SideKind) → HasNamesOf names kind → IsListed which refs index kind
-    listed (pattern before after) named = tt
     listed (full_name x) named = let at = of_names.full.each x named in rw at.1 at.2
-    listed (object id) named = tt
     listed (partial x) named = let at = of_names.partial x named in rw at.1 at.2
+    listed kind named = tt

@@ -1,11 +1,5 @@
 -- Places of refs, and the lengths of candidates.
-use Rattle.std.proofs.Common.{◌≡◌, ℕ, ◌+◌, ◌<◌, List, [], ◌∷◌, ◌++◌, codes, length, arith}
-use Rattle.std.specs.List.{AllByRecursion, Contains}
-use Rattle.std.proofs.lemmas.List.{length-append}
-use Rattle.std.proofs.lemmas.List.Elements.{All-contains, All-from_recursion}
-use Rattle.gix_refspec_text.specs.Matching.Side.{candidates}
-use Rattle.gix_refspec_text.specs.Matching.Match.{Ref}
-use Rattle.gix_refspec_match.specs.Matching.Lists.{IsMadeFrom}
+use Rattle.gix_refspec_match.proofs.Common.{List, [], ◌∷◌, codes, ◌≡◌, ℕ, ◌++◌, arith, ◌<◌, length, ◌+◌, length-append, All-from_recursion, All-contains, AllByRecursion, Contains, Ref, candidates, IsMadeFrom}
 
 -- the places of the refs of which P holds, the first one's being k
 abbrev pub AreWhere : (Ref → Type 0) → ℕ → List Ref → List ℕ → Type 0
@@ -17,9 +11,7 @@ Lengthen [] = Unit {0}
 Lengthen (n ∷ ns) = AllByRecursion (λ m. length n < length m) ns × Lengthen ns
 
 pub candidates_lengthen : (x : List ℕ) → Lengthen (candidates x)
-candidates_lengthen x =
-    let end : length (x ++ codes "/HEAD") ≡ length x + 5 = length-append x (codes "/HEAD") in
-    search (arith, end)
+candidates_lengthen x = let end : length (x ++ codes "/HEAD") ≡ length x + 5 = length-append x (codes "/HEAD") in search (arith, end)
 
 -- an element of which P holds, as of all
 pub all_at : (P : List ℕ → Type 0) (ns : List (List ℕ)) (n : List ℕ) → AllByRecursion P ns → Contains ns n → P n

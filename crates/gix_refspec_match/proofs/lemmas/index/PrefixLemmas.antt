@@ -1,18 +1,9 @@
 -- Where the names of refs begin as patterns do.
-use Rattle.std.proofs.Common.{◌≡◌, ◌⊎◌, inl, inr, ℕ, ◌+◌, ◌<◌, ◌≤◌, List, [], ◌∷◌, ◌++◌, None, Some, Bool, false, length, map, take, drop, take-append-drop, get_or, refl, rules, sym, ap, ◌∙◌, arith}
+use Rattle.gix_refspec_match.proofs.Common.{List, [], ◌∷◌, None, Some, refl, ◌≡◌, ℕ, false, ◌++◌, sym, ◌∙◌, arith, inl, inr, ap, append-nil, ◌<◌, length, map, take, drop, ◌+◌, get_or, rules, ◌⊎◌, ◌≤◌, Bool}
+use Rattle.gix_refspec_match.proofs.Common.{length-append, take-append-drop, take-append_seam, cases_Bool, cases_eq, cases_lt, length-take-le, nil_from_length, AllByRecursion, bstr_bytes, BeginsWith}
+use Rattle.gix_refspec_match.proofs.Common.{HavePlaces, AddsPlace, HaveLengths, ListPrefixes, IsFlagged, ref_of, Item, made_more}
 use Rattle.std.specs.Global.{Vec}
-use Rattle.std.specs.List.{AllByRecursion}
-use Rattle.std.proofs.Math.Seq.{take-append_seam}
-use Rattle.std.proofs.lemmas.Bool.{cases_Bool, cases_eq, cases_lt}
-use Rattle.std.proofs.lemmas.List.{append-nil, length-append, length-take-le, nil_from_length}
-use Rattle.bstr.specs.BStr.{bstr_bytes}
-use Rattle.gix_refspec_match.specs.declared.types.Item.{Item}
-use Rattle.gix_refspec_match.specs.Views.Mapping.{ref_of}
-use Rattle.gix_refspec_text.specs.Texts.Words.{BeginsWith}
-use Rattle.gix_refspec_match.specs.Private.Index.{AddsPlace, HaveLengths, HavePlaces, ListPrefixes}
-use Rattle.gix_refspec_match.specs.Private.Kept.{IsFlagged}
 use Rattle.gix_refspec_match.proofs.lemmas.index.IndexLemmas.{Listed, Puts, put_cases}
-use Rattle.gix_refspec_match.proofs.lemmas.lists.JoinLemmas.{made_more}
 use Rattle.gix_refspec_match.proofs.lemmas.index.PlacesLemmas.{all_at}
 
 -- a name begins with what is taken from it, and with nothing else of that length
@@ -35,8 +26,7 @@ AddsBelow l n place old new = (prefix : List ℕ) (v : Vec ℕ) → new prefix �
     × ((IsBelow l n prefix × (v.items ≡ w.items ++ place ∷ [])) ⊎ (¬ (IsBelow l n prefix) × (v.items ≡ w.items)))
 
 -- no prefix that is listed and that the name begins with has the length l
-pub adds_more : (l : ℕ) (n : List ℕ) (place : ℕ) (old new : Listed)
-    → ((prefix : List ℕ) (v w : Vec ℕ) → new prefix ≡ Some v → old prefix ≡ Some w → BeginsWith prefix n → length prefix ≡ l → ⊥)
+pub adds_more : (l : ℕ) (n : List ℕ) (place : ℕ) (old new : Listed) → ((prefix : List ℕ) (v w : Vec ℕ) → new prefix ≡ Some v → old prefix ≡ Some w → BeginsWith prefix n → length prefix ≡ l → ⊥)
     → AddsBelow l n place old new → AddsBelow (l + 1) n place old new
 adds_more l n place old new none so_far prefix v is =
     let (w, was, told) = so_far prefix v is in
@@ -61,8 +51,7 @@ adds_listed l n place u x old mid new fits listed more puts so_far prefix v is =
 ]
 
 -- no prefix that is listed and that the name begins with has the length l or more
-pub adds_all : (l : ℕ) (n : List ℕ) (place : ℕ) (old new : Listed)
-    → ((prefix : List ℕ) (w : Vec ℕ) → old prefix ≡ Some w → BeginsWith prefix n → l ≤ length prefix → ⊥)
+pub adds_all : (l : ℕ) (n : List ℕ) (place : ℕ) (old new : Listed) → ((prefix : List ℕ) (w : Vec ℕ) → old prefix ≡ Some w → BeginsWith prefix n → l ≤ length prefix → ⊥)
     → AddsBelow l n place old new → AddsPlace n place old new
 adds_all l n place old new none so_far prefix v is =
     let (w, was, told) = so_far prefix v is in
@@ -82,9 +71,7 @@ item_added items i d n old new below is adds listed prefix v now =
 
 -- before any ref, what is listed for a name is empty, and the length of the name is flagged
 pub fronts_started : (ns : List (List ℕ)) (listed : Listed) → HavePlaces ns [] listed → ListPrefixes [] listed
-fronts_started ns listed have prefix v is =
-    let cases = cases_eq (length v.items) 0 in
-    search (rules, nil_from_length v.items, have.others prefix, have.each prefix)
+fronts_started ns listed have prefix v is = let cases = cases_eq (length v.items) 0 in search (rules, nil_from_length v.items, have.others prefix, have.each prefix)
 
 pub lengths_started : (ns : List (List ℕ)) (lengths : List Bool) (listed : Listed) → AllByRecursion (λ n. IsFlagged lengths (length n)) ns → HavePlaces ns [] listed → HaveLengths lengths listed
 lengths_started ns lengths listed all have prefix v is =

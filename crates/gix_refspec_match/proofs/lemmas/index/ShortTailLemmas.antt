@@ -1,12 +1,6 @@
 -- A candidate of a partial name ends as that does, or in `HEAD`.
-use Rattle.std.proofs.Common.{◌≡◌, inl, inr, ℕ, ◌+◌, ◌-◌, ◌≤◌, List, ◌++◌, codes, length, refl, arith, rules, false}
-use Rattle.std.proofs.lemmas.Bool.{le-ltb}
-use Rattle.std.proofs.lemmas.List.{length-append}
-use Rattle.std.proofs.Math.Seq.{drop-append-add}
-use Rattle.gix_refspec_match.specs.declared.bloom.ShortTails.{ShortTails}
-use Rattle.gix_refspec_text.specs.Matching.Side.{IsCandidate}
-use Rattle.gix_refspec_match.specs.Private.Bloom.{HasNumber}
-use Rattle.gix_refspec_match.specs.Private.Filter.{AreWholeTails, HasTail, short_tail_number}
+use Rattle.gix_refspec_match.proofs.Common.{List, codes, refl, ◌≡◌, ℕ, false, ◌++◌, arith, inl, inr, length, ◌+◌, rules, ◌≤◌, length-append, ◌-◌, drop-append-add, le-ltb, IsCandidate, HasNumber, AreWholeTails}
+use Rattle.gix_refspec_match.proofs.Common.{HasTail, short_tail_number, ShortTails}
 use Rattle.gix_refspec_match.proofs.lemmas.hits.HitLemmas.{candidate_cases}
 
 -- what is before the last four bytes doesn't count

@@ -1,52 +1,27 @@
 -- From matchers and hits to the mappings that are kept.
-use Rattle.std.proofs.Common.{slice_get, append-nil, ◌≡◌, option_to_list, ◌<◌, length, drop, length-drop, inl, inr, ℕ, ◌+◌, List, [], ◌∷◌, ◌++◌, Option, None, Some, IsSome, map, get_or, refl, ap, ◌∙◌, subst, arith}
-use Rattle.std.specs.List.{AllByRecursion}
-use Rattle.std.proofs.lemmas.List.{drop_more, map-append}
-use Rattle.std.proofs.lemmas.List.Elements.{All-from_recursion}
-use Rattle.std.proofs.lemmas.Grind.{common_steps}
-use Rattle.std.proofs.lemmas.Option.{gets, get_or_from_slice_get, slice_get-get_or, slice_get_within}
-use Rattle.gix_refspec_match.specs.declared.hits.Hit.{Hit as DeclaredHit}
-use Rattle.gix_refspec_match.specs.declared.exclusions.Exclusions.{Exclusions}
-use Rattle.gix_refspec_match.specs.declared.matcher.Candidates.{Candidates}
-use Rattle.gix_refspec_match.specs.declared.matcher.Candidates.TheVariants.{All}
-use Rattle.gix_refspec_match.specs.declared.matcher.Matcher.{Matcher}
-use Rattle.gix_refspec_match.specs.declared.matcher.Matchers.{Matchers}
-use Rattle.gix_refspec_match.specs.declared.matcher.ObjectSpec.{ObjectSpec}
-use Rattle.gix_refspec_text.specs.declared.side.SideKind.{SideKind}
-use Rattle.gix_refspec_text.specs.Texts.ObjectId.{id_bytes}
-use Rattle.gix_refspec_text.specs.Specs.Reading.{Reading}
-use Rattle.gix_refspec_text.specs.Matching.Match.{Ref}
-use Rattle.gix_refspec_text.specs.Private.SideViews.{kind_of_side}
-use Rattle.gix_refspec_match.specs.Matching.Lists.{MakesOf, IsMadeFrom, IsJoinedFrom}
-use Rattle.gix_refspec_match.specs.Matching.Mappings.{Mapped, IsKept}
-use Rattle.gix_refspec_match.specs.Matching.Hits.{Hit, AreHits, IsIdMapping}
-use Rattle.gix_refspec_match.specs.Private.Fills.{AddsMapped, IsMappedHit, Thins, hit_of, object_mapping}
-use Rattle.gix_refspec_match.specs.Private.Hits.{AreFound, AreHitsAmong, AreSound, IsSound, hit_at, turned}
-use Rattle.gix_refspec_match.specs.Private.Kept.{AreExclusionsOf}
-use Rattle.gix_refspec_match.specs.Private.Matchers.{AreMatcherOf, AreMatchersOf, AreObjectOf, HasEnds, HaveOthers, TakesIn}
-use Rattle.gix_refspec_match.specs.Private.Needles.{HasSideKind, IsMatched}
-use Rattle.gix_refspec_match.specs.Private.Part.{place_among}
+use Rattle.gix_refspec_match.proofs.Common.{List, [], ◌∷◌, None, Some, refl, ◌≡◌, ℕ, ◌++◌, Option, ◌∙◌, arith, inl, inr, subst, ap, append-nil, ◌<◌, length, map, drop, ◌+◌, get_or, option_to_list, length-drop}
+use Rattle.gix_refspec_match.proofs.Common.{slice_get, IsSome, common_steps, drop_more, map-append, All-from_recursion, slice_get-get_or, gets, get_or_from_slice_get, slice_get_within, AllByRecursion, all_join}
+use Rattle.gix_refspec_match.proofs.Common.{kind_of_side, id_bytes, DeclaredKind as SideKind, Ref, Reading, MakesOf, IsMadeFrom, IsJoinedFrom, place_among, Hit, AreHits, IsIdMapping, Mapped, IsKept, AddsMapped}
+use Rattle.gix_refspec_match.proofs.Common.{Thins, IsMappedHit, hit_of, object_mapping, AreFound, turned, hit_at, AreHitsAmong, AreSound, IsSound, AreExclusionsOf, HasEnds, TakesIn, AreMatcherOf, AreMatchersOf}
+use Rattle.gix_refspec_match.proofs.Common.{AreObjectOf, HaveOthers, HasSideKind, IsMatched, Exclusions, DeclaredHit, Candidates, All, Matcher, Matchers, ObjectSpec}
 use Rattle.gix_refspec_match.proofs.lemmas.hits.FoundLemmas.{blank, of_hits}
 use Rattle.gix_refspec_match.proofs.lemmas.hits.GroupLemmas.{FindEnough, most_found}
 use Rattle.gix_refspec_match.proofs.lemmas.hits.HitLemmas.{far_filled}
 use Rattle.gix_refspec_match.proofs.lemmas.keep.KeptLemmas.{AreIncluded, kept_included, starts_agree}
 use Rattle.gix_refspec_match.proofs.lemmas.keep.PartLemmas.{all_enough, once_enough, part_read}
-use Rattle.gix_refspec_text.proofs.lemmas.lists.AllLemmas.{all_join}
 use Rattle.gix_refspec_match.proofs.lemmas.keep.ThinLemmas.{kept_thinned, thins_all, thins_behind, thins_both}
 
 -- ---- lists that are made or joined from others, element by element
 
 -- the first element that is left of a list, and the others
-cut_next : {X : Type 0} (all : List X) (k : ℕ) (x : X) (xs : List X) → drop k all ≡ x ∷ xs
-    → (slice_get all k ≡ Some x) × (drop (k + 1) all ≡ xs)
+cut_next : {X : Type 0} (all : List X) (k : ℕ) (x : X) (xs : List X) → drop k all ≡ x ∷ xs → (slice_get all k ≡ Some x) × (drop (k + 1) all ≡ xs)
 cut_next all k x xs left =
     let below : k < length all = omega (arith, simp length-drop at (ap length left)) in
     let split = drop_more all k x below in
     (grind (arith, common_steps, gets, split), cc)
 
 -- what holds for each thing that is made holds for all
-made_each : {X Y : Type 0} (R : ℕ → X → Y → Type 0) (P : Y → Type 0) (all : List X)
-    → ((j : ℕ) (x : X) (y : Y) → slice_get all j ≡ Some x → R j x y → P y)
+made_each : {X Y : Type 0} (R : ℕ → X → Y → Type 0) (P : Y → Type 0) (all : List X) → ((j : ℕ) (x : X) (y : Y) → slice_get all j ≡ Some x → R j x y → P y)
     → (k : ℕ) (xs : List X) (ys : List Y) → drop k all ≡ xs → IsMadeFrom R k xs ys → AllByRecursion P ys
 made_each R P all each k [] ys left none = rw none tt
 made_each {X} {Y} R P all each k (x ∷ xs) ys left (made, rest, of, more, is) =
@@ -57,8 +32,7 @@ made_each {X} {Y} R P all each k (x ∷ xs) ys left (made, rest, of, more, is) =
     first here None none = tt
     first here (Some y) makes = (each k x y here makes, tt)
 
-joined_each : {X Y : Type 0} (R : ℕ → X → List Y → Type 0) (P : Y → Type 0) (all : List X)
-    → ((j : ℕ) (x : X) (made : List Y) → slice_get all j ≡ Some x → R j x made → AllByRecursion P made)
+joined_each : {X Y : Type 0} (R : ℕ → X → List Y → Type 0) (P : Y → Type 0) (all : List X) → ((j : ℕ) (x : X) (made : List Y) → slice_get all j ≡ Some x → R j x made → AllByRecursion P made)
     → (k : ℕ) (xs : List X) (ys : List Y) → drop k all ≡ xs → IsJoinedFrom R k xs ys → AllByRecursion P ys
 joined_each R P all each k [] ys left none = rw none tt
 joined_each R P all each k (x ∷ xs) ys left (made, rest, of, more, is) =
@@ -66,15 +40,13 @@ joined_each R P all each k (x ∷ xs) ys left (made, rest, of, more, is) =
     rw is (all_join P made rest (each k x made here of) (joined_each R P all each (k + 1) xs rest next more))
 
 -- a function that keeps how lists are joined
-joined_map : {X Y Z : Type 0} (R : ℕ → X → List Y → Type 0) (S : X → List Z → Type 0) (F : List Y → List Z)
-    → F [] ≡ [] → ((a b : List Y) → F (a ++ b) ≡ F a ++ F b) → (all : List X)
+joined_map : {X Y Z : Type 0} (R : ℕ → X → List Y → Type 0) (S : X → List Z → Type 0) (F : List Y → List Z) → F [] ≡ [] → ((a b : List Y) → F (a ++ b) ≡ F a ++ F b) → (all : List X)
     → ((j : ℕ) (x : X) (made : List Y) → slice_get all j ≡ Some x → R j x made → S x (F made))
     → (k : ℕ) (xs : List X) (ys : List Y) → drop k all ≡ xs → IsJoinedFrom R k xs ys → IsJoinedFrom (λ n x made. S x made) k xs (F ys)
 joined_map R S F nil join all each k [] ys left none = ap F none ∙ nil
 joined_map R S F nil join all each k (x ∷ xs) ys left (made, rest, of, more, is) =
     let (here, next) = cut_next all k x xs left in
-    let later = joined_map R S F nil join all each (k + 1) xs rest next more in
-    (F made, F rest, each k x made here of, later, ap F is ∙ join made rest)
+    (F made, F rest, each k x made here of, joined_map R S F nil join all each (k + 1) xs rest next more, ap F is ∙ join made rest)
 
 -- ---- matcher by matcher
 
@@ -83,13 +55,10 @@ finds_enough : (g : List Reading) (ms : Matchers) (items : List Ref) (hits : Lis
     → FindEnough g ms.candidates items 0 ms.list.items (of_hits ms.candidates (map (hit_of ms.list.items items) hits))
 finds_enough g ms items hits (inl are) =
     let list = ms.list.items in
-    joined_map _ _ (λ hits. of_hits ms.candidates (map (hit_of list items) hits)) refl (λ a b. simp map-append) list
-    (all_enough g ms.candidates list items) 0 list hits refl are
+    joined_map _ _ (λ hits. of_hits ms.candidates (map (hit_of list items) hits)) refl (λ a b. simp map-append) list (all_enough g ms.candidates list items) 0 list hits refl are
 finds_enough g ms items hits (inr once) =
     let list = ms.list.items in
-    rw once.all
-    (joined_map _ _ (λ hits. of_hits ms.candidates (map (hit_of list items) (map (turned once.indexes) hits))) refl
-    (λ a b. simp map-append) list
+    rw once.all (joined_map _ _ (λ hits. of_hits ms.candidates (map (hit_of list items) (map (turned once.indexes) hits))) refl (λ a b. simp map-append) list
     (λ k m made at found. once_enough g ms.candidates list items once.part once.indexes k m made at once.is
     (rw (get_or_from_slice_get list k m m at) at (All-from_recursion _ list once.plain k m (slice_get_within list k m at)))
     found)
@@ -102,12 +71,8 @@ mapped_thins : (g : List Reading) (which : Candidates) (es : Exclusions) (ms : L
     → IsMadeFrom (IsMappedHit which es ms items) k hits made → Thins g before (of_hits which (map (hit_of ms items) hits)) made
 mapped_thins g which es ms items k [] made before are none = none
 mapped_thins g which es ms items k (h ∷ hits) made before are (None, rest, none, more, is) =
-    inr (
-      inr (λ free. none _ (refl, λ taken. free ((starts_agree g es _ are).0 taken))),
-      rw is (mapped_thins g which es ms items (k + 1) hits rest _ are more),
-    )
-mapped_thins g which es ms items k (h ∷ hits) made before are (Some y, rest, of, more, is) =
-    inl (rest, rw of.0 at is, mapped_thins g which es ms items (k + 1) hits rest _ are more)
+    inr (inr (λ free. none _ (refl, λ taken. free ((starts_agree g es _ are).0 taken))), rw is (mapped_thins g which es ms items (k + 1) hits rest _ are more))
+mapped_thins g which es ms items k (h ∷ hits) made before are (Some y, rest, of, more, is) = inl (rest, rw of.0 at is, mapped_thins g which es ms items (k + 1) hits rest _ are more)
 
 -- ---- ids
 
@@ -158,12 +123,10 @@ kept_hits g which items ms os hits es list kept matchers among are adds is =
     let views = map (hit_of ms.list.items items) hits in
     let enough = subst (λ (c : Candidates). FindEnough g c items 0 ms.list.items (of_hits c views)) matchers.candidates (finds_enough g ms items hits among) in
     let (whole, whole_are, most) = most_found g which items ms (of_hits which views) matchers enough in
-    let included = made_each (IsMappedHit which es ms.list.items items) _ hits
-    (λ k h m at of taken. of.1 ((starts_agree g es m.source are).1 taken))
+    let included = made_each (IsMappedHit which es ms.list.items items) _ hits (λ k h m at of taken. of.1 ((starts_agree g es m.source are).1 taken))
     0 hits adds.made refl adds.are in
-    let of_made = kept_included g _ 0 _ kept (ids_included g os adds.made included) (rw adds.all at is) in
-    let thins = mapped_thins g which es ms.list.items items 0 hits adds.made [] are adds.are in
-    let of_some = kept_thinned g (ids ++ of_hits which views) _ kept (thins_after g ids _ _ thins) of_made in
+    let of_made = kept_included g _ kept (ids_included g os adds.made included) (rw adds.all at is) in
+    let of_some = kept_thinned g (ids ++ of_hits which views) _ kept (thins_after g ids _ _ (mapped_thins g which es ms.list.items items 0 hits adds.made [] are adds.are)) of_made in
     (whole, whole_are, kept_thinned g _ _ kept (thins_after g ids _ _ most) of_some)
 
 -- ---- matchers and items that are there
@@ -179,14 +142,12 @@ sound_joined ms items view which part found each are =
 
 pub sound_among : (ms : Matchers) (items : List Ref) (hits : List DeclaredHit) → AreHitsAmong ms items hits → AreSound ms.list.items items hits
 sound_among ms items hits (inl are) =
-    sound_joined ms.list.items items (λ h. h) ms.candidates items hits
-    (λ k j m r is_m is_r matched. record { matcher = m; is_matcher = is_m; ref = r; is_ref = is_r; matched = matched }) are
+    sound_joined ms.list.items items (λ h. h) ms.candidates items hits (λ k j m r is_m is_r matched. record { matcher = m; is_matcher = is_m; ref = r; is_ref = is_r; matched = matched }) are
 sound_among ms items hits (inr once) =
     rw once.all (mapped once.found (sound_joined ms.list.items items (turned once.indexes) ms.candidates once.part once.found
     (λ k j m r is_m is_r matched. record { matcher = m; is_matcher = is_m; ref = r; is_ref = at_index j r is_r; matched = matched }) once.are))
   where
-    mapped : (found : List DeclaredHit) → AllByRecursion (λ h. IsSound ms.list.items items (turned once.indexes h)) found
-        → AreSound ms.list.items items (map (turned once.indexes) found)
+    mapped : (found : List DeclaredHit) → AllByRecursion (λ h. IsSound ms.list.items items (turned once.indexes h)) found → AreSound ms.list.items items (map (turned once.indexes) found)
     mapped [] all = tt
     mapped (h ∷ found) all = (all.0, mapped found all.1)
 

@@ -1,24 +1,9 @@
 -- What negative specs exclude.
-use Rattle.std.proofs.Common.{Any, Bool, cond, ◌≡◌, ◌⊎◌, inl, inr, ◌↔◌, ℕ, zero, suc, List, [], ◌∷◌, ◌++◌, Option, None, Some, IsSome, IsTrue, MatchOption, is_some, length, refl, sym, ap, subst, ◌∙◌, bytes_eq, arith}
-use Rattle.std.specs.Cmp.Lexicographic.{bytes_decides}
-use Rattle.std.specs.HashMap.{HashMap, hash_map_len}
-use Rattle.std.specs.List.{slice_get}
-use Rattle.std.specs.Map.{lookup}
-use Rattle.std.proofs.lemmas.Grind.{common_steps}
-use Rattle.std.proofs.lemmas.List.{nil_from_length}
-use Rattle.std.proofs.lemmas.List.Quantifiers.{Any-push}
-use Rattle.std.proofs.lemmas.Bool.{cases_Bool, false≢true}
-use Rattle.gix_refspec_match.specs.declared.exclusions.Exclusions.{Exclusions}
-use Rattle.gix_refspec_match.specs.declared.index.Key.{Key}
-use Rattle.gix_refspec_text.specs.Texts.Words.{Lacks}
-use Rattle.gix_refspec_text.specs.Texts.Bytes.{star}
-use Rattle.gix_refspec_text.specs.Specs.Reading.{Negative, Reading}
-use Rattle.gix_refspec_text.specs.Specs.Grammar.{IsAccepted}
-use Rattle.gix_refspec_text.specs.Matching.Side.{Fits, the_name, by_pattern}
-use Rattle.gix_refspec_match.specs.Matching.Mappings.{IsExcluded, IsExcludedBy}
-use Rattle.gix_refspec_match.specs.Private.Kept.{AreExclusionsAt, ExcludeName, ExcludeNameAt, index_of}
-use Rattle.gix_refspec_text.proofs.lemmas.specs.AcceptedLemmas.{accepted_few}
-use Rattle.gix_refspec_text.proofs.lemmas.texts.TextLemmas.{Lacks-from_absent}
+use Rattle.gix_refspec_match.proofs.Common.{List, [], ◌∷◌, None, Some, refl, ◌≡◌, ℕ, ◌++◌, Option, sym, ◌∙◌, arith, inl, inr, is_some, subst, ap, length, ◌⊎◌, ◌↔◌, zero, suc, MatchOption, IsTrue, Bool, cond}
+use Rattle.gix_refspec_match.proofs.Common.{bytes_eq, slice_get, IsSome, HashMap, common_steps, Any-push, false≢true, cases_Bool, nil_from_length, bytes_decides, hash_map_len, lookup, accepted_few}
+use Rattle.gix_refspec_match.proofs.Common.{Lacks-from_absent, IsAccepted, star, Lacks, the_name, by_pattern, Fits, Negative, Reading, IsExcludedBy, IsExcluded, ExcludeName, index_of, AreExclusionsAt}
+use Rattle.gix_refspec_match.proofs.Common.{ExcludeNameAt, Exclusions, Key}
+use Rattle.std.proofs.Common.{Any}
 use Rattle.gix_refspec_text.proofs.lemmas.lists.LacksLemmas.{Lacks-here, first_once}
 
 -- a source without a star excludes its name
@@ -49,12 +34,9 @@ pattern_excludes r x before after accepted negative source starred lacks n = (
         (record { before = before; between = more.before; after = more.after; here = rw more.here at starred }))
 
 -- one more reading excludes what it does
-pub exclusions_more : (g : List Reading) (r : Reading) (n : List ℕ) (Old New : Type 0)
-    → Old ↔ IsExcluded g n → New ↔ (Old ⊎ IsExcludedBy n r) → New ↔ IsExcluded (g ++ r ∷ []) n
+pub exclusions_more : (g : List Reading) (r : Reading) (n : List ℕ) (Old New : Type 0) → Old ↔ IsExcluded g n → New ↔ (Old ⊎ IsExcludedBy n r) → New ↔ IsExcluded (g ++ r ∷ []) n
 exclusions_more [] r n Old New before added = grind (arith, before, added)
-exclusions_more (q ∷ g) r n Old New before added =
-    let more = exclusions_more g r n (IsExcluded g n) (IsExcluded g n ⊎ IsExcludedBy n r) (grind arith) (grind arith) in
-    grind (arith, before, added, more)
+exclusions_more (q ∷ g) r n Old New before added = grind (arith, before, added, exclusions_more g r n (IsExcluded g n) (IsExcluded g n ⊎ IsExcludedBy n r) (grind arith) (grind arith))
 
 -- a map with one more name
 pub index_more : (old new : List ℕ → Option ℕ) (x : List ℕ) (i : ℕ) → ((n : List ℕ) → new n ≡ cond (bytes_eq x n) (Some i) (old n))

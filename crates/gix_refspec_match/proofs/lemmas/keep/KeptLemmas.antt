@@ -1,22 +1,12 @@
 -- What is kept of a list of mappings.
-use Rattle.std.proofs.Common.{Ordering, ◌≡◌, inl, ◌↔◌, ℕ, ◌+◌, ◌<◌, List, [], ◌∷◌, ◌++◌, Option, None, Some, Bool, option_map, option_to_list, append_assoc, length-append, length, take, get_or, map, refl, ap, ◌∙◌, zero-add, arith}
-use Rattle.std.specs.List.{AllByRecursion}
-use Rattle.std.proofs.Math.Seq.{take-append_seam}
-use Rattle.std.proofs.lemmas.Bool.{false≢true}
-use Rattle.std.proofs.lemmas.List.{get_or_default, get_or-map, get_or-take, length-map, length-take-le}
-use Rattle.gix_refspec_match.specs.declared.types.Mapping.{Mapping}
-use Rattle.gix_refspec_match.specs.declared.exclusions.Exclusions.{Exclusions}
-use Rattle.gix_refspec_text.specs.Specs.Reading.{Reading}
-use Rattle.gix_refspec_match.specs.Matching.Lists.{MakesOf, IsMadeFrom}
-use Rattle.gix_refspec_match.specs.Matching.Mappings.{Source, name, id, Mapped, IsSamePair, HasPair, AreApart, IsSourceExcluded, IsKept}
-use Rattle.gix_refspec_match.specs.Views.Mapping.{mapped_of}
-use Rattle.gix_refspec_match.specs.Private.Duplicates.{FlagsDuplicates, IsDuplicate}
-use Rattle.gix_refspec_match.specs.Private.Kept.{AreExclusionsOf, ExcludeStart, IsUnflagged}
-use Rattle.gix_refspec_match.specs.Private.Orders.{equal_pair, pair_order, same_pair}
+use Rattle.gix_refspec_match.proofs.Common.{List, [], ◌∷◌, None, Some, refl, ◌≡◌, ℕ, ◌++◌, Option, ◌∙◌, arith, inl, ap, ◌<◌, length, map, take, ◌+◌, get_or, append_assoc, option_map, ◌↔◌, option_to_list, Bool}
+use Rattle.gix_refspec_match.proofs.Common.{zero-add, length-append, Ordering, take-append_seam, false≢true, length-map, length-take-le, get_or_default, map-id, get_or-map, get_or-take, All-from_recursion}
+use Rattle.gix_refspec_match.proofs.Common.{AllByRecursion, all_weaker, Reading, MakesOf, IsMadeFrom, name, id, Mapped, IsKept, Source, IsSourceExcluded, IsSamePair, HasPair, FlagsDuplicates, IsDuplicate}
+use Rattle.gix_refspec_match.proofs.Common.{AreExclusionsOf, ExcludeStart, IsUnflagged, equal_pair, pair_order, same_pair, mapped_of, Exclusions, Mapping, made_map, made_all}
+use Rattle.gix_refspec_match.specs.Matching.Mappings.{AreApart}
 use Rattle.gix_refspec_match.proofs.lemmas.lists.SomeLemmas.{Any-left, Any-right, some_at, some_of}
 use Rattle.gix_refspec_match.proofs.lemmas.keep.KeptPairLemmas.{Any-HasPair, HasPair-Any, Keeps}
-use Rattle.gix_refspec_match.proofs.lemmas.lists.ListsLemmas.{made_all, made_map}
-use Rattle.gix_refspec_text.proofs.lemmas.lists.AllLemmas.{all_weaker}
+use Rattle.gix_refspec_match.proofs.lemmas.hits.FoundLemmas.{made_each}
 
 -- a pair that is in a list, by its place
 pub HasPair-from_place : (l : List Mapped) (j : ℕ) (d m : Mapped) → j < length l → IsSamePair (get_or l j d) m → HasPair l m
@@ -33,8 +23,7 @@ abbrev pub by_pair : Mapping → Mapping → Ordering
 by_pair m n = pair_order (mapped_of m) (mapped_of n)
 
 -- a mapping is a duplicate exactly where an earlier one has its pair
-pub duplicate_at : (ms : List Mapping) (k : ℕ) (d : Mapping) → k < length ms
-    → IsDuplicate by_pair ms k ↔ HasPair (take k (map mapped_of ms)) (mapped_of (get_or ms k d))
+pub duplicate_at : (ms : List Mapping) (k : ℕ) (d : Mapping) → k < length ms → IsDuplicate by_pair ms k ↔ HasPair (take k (map mapped_of ms)) (mapped_of (get_or ms k d))
 duplicate_at ms k d below = (
   (λ (_, (j, before, equal)). HasPair-from_place _ j (mapped_of d) _ (omega (arith, size, before)) (rw (at j d _ before) (same_pair _ _ (equal d)))),
   (λ has.
@@ -78,13 +67,11 @@ abbrev pub AreIncluded : List Reading → List Mapped → Type 0
 AreIncluded g l = AllByRecursion (λ m. ¬ (IsSourceExcluded g m.source)) l
 
 -- so the same ones are kept where nothing is excluded
-pub kept_included : (g : List Reading) (l : List Mapped) (k : ℕ) (xs kept : List Mapped) → AreIncluded g xs
-    → IsMadeFrom (Keeps [] l) k xs kept → IsMadeFrom (Keeps g l) k xs kept
-kept_included g l k [] kept free none = none
-kept_included g l k (x ∷ xs) kept free (None, rest, none, more, is) =
-    (None, rest, (λ y keeps. none y (keeps.0, record { first = keeps.1.first; included = none_excluded x.source })), kept_included g l (k + 1) xs rest free.1 more, is)
-kept_included g l k (x ∷ xs) kept free (Some y, rest, keeps, more, is) =
-    (Some y, rest, (keeps.0, record { first = keeps.1.first; included = free.0 }), kept_included g l (k + 1) xs rest free.1 more, is)
+pub kept_included : (g : List Reading) (l kept : List Mapped) → AreIncluded g l → IsKept [] l kept → IsKept g l kept
+kept_included g l kept free are = rw map-id at (made_each (λ m. m) (Keeps [] l) (Keeps g l) l kept (λ i d below. (
+  (λ m keeps. (keeps.0, record { first = keeps.1.first; included = All-from_recursion _ l free i d below })),
+  λ m keeps. (m, (keeps.0, record { first = keeps.1.first; included = none_excluded (get_or l i d).source })),
+)) are)
 
 -- what is kept has no pair from before it, and no pair twice
 apart_from : (g : List Reading) (l before xs ys : List Mapped) (k : ℕ) → before ++ xs ≡ l → length before ≡ k

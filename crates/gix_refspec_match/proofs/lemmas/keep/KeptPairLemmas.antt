@@ -1,10 +1,6 @@
 -- What is kept of a list of mappings, by pairs: those whose source isn't excluded.
-use Rattle.std.proofs.Common.{Ordering, Less, Equal, Greater, append_assoc, ◌≡◌, ◌⊎◌, inl, inr, ◌↔◌, ℕ, ◌+◌, List, [], ◌∷◌, ◌++◌, Option, None, Some, option_to_list, length, length-append, arith, refl, sym, ◌∙◌, subst}
-use Rattle.std.proofs.Math.Seq.{take-append_seam}
-use Rattle.gix_refspec_text.specs.Specs.Reading.{Reading}
-use Rattle.gix_refspec_match.specs.Matching.Lists.{MakesOf, IsMadeFrom}
-use Rattle.gix_refspec_match.specs.Matching.Mappings.{Mapped, IsSamePair, HasPair, IsSourceExcluded, IsKeptAt, IsKept}
-use Rattle.gix_refspec_match.specs.Private.Orders.{equal_pair, pair_order, same_pair}
+use Rattle.gix_refspec_match.proofs.Common.{List, [], ◌∷◌, None, Some, refl, ◌≡◌, ℕ, ◌++◌, Option, Equal, sym, ◌∙◌, arith, inl, inr, subst, length, ◌+◌, append_assoc, ◌⊎◌, ◌↔◌, option_to_list, length-append}
+use Rattle.gix_refspec_match.proofs.Common.{Ordering, take-append_seam, Reading, MakesOf, IsMadeFrom, Mapped, IsKeptAt, IsKept, IsSourceExcluded, IsSamePair, HasPair, equal_pair, pair_order, same_pair}
 use Rattle.gix_refspec_match.proofs.lemmas.lists.SomeLemmas.{Any, Any-right, Any-cases, Any-weaker, Any-both, made_any}
 
 -- m has the same pair
@@ -24,17 +20,15 @@ decided_pair : (pair m : Mapped) → IsOfPair pair m ⊎ ¬ (IsOfPair pair m)
 decided_pair pair m = by (pair_order m pair) refl
   where
     by : (o : Ordering) → pair_order m pair ≡ o → IsOfPair pair m ⊎ ¬ (IsOfPair pair m)
-    by Less is = inr (λ same. let equal = equal_pair m pair same in cc)
     by Equal is = inl (same_pair m pair is)
-    by Greater is = inr (λ same. let equal = equal_pair m pair same in cc)
+    by o is = inr (λ same. let equal = equal_pair m pair same in cc)
 
 -- m, at place k of the list, is kept as made
 abbrev pub Keeps : List Reading → List Mapped → ℕ → Mapped → Mapped → Type 0
 Keeps g l k m made = (made ≡ m) × IsKeptAt g l k m
 
 -- what has a pair, and nothing before it has
-kept_from : (g : List Reading) (l before xs ys : List Mapped) (k : ℕ) (pair : Mapped)
-    → before ++ xs ≡ l → length before ≡ k → ¬ (Any (IsOfPair pair) before) → ¬ (IsSourceExcluded g pair.source)
+kept_from : (g : List Reading) (l before xs ys : List Mapped) (k : ℕ) (pair : Mapped) → before ++ xs ≡ l → length before ≡ k → ¬ (Any (IsOfPair pair) before) → ¬ (IsSourceExcluded g pair.source)
     → IsMadeFrom (Keeps g l) k xs ys → Any (IsOfPair pair) xs → Any (IsOfPair pair) ys
 kept_from g l before [] ys k pair whole place new included made any = absurd any
 kept_from g l before (m ∷ xs) ys k pair whole place new included (made, rest, makes, more, is) any =
@@ -42,8 +36,7 @@ kept_from g l before (m ∷ xs) ys k pair whole place new included (made, rest, 
       | inl same ↦ here same made makes
       | inr other ↦
           let next : length (before ++ m ∷ []) ≡ k + 1 = omega (arith, length-append before (m ∷ []), place) in
-          Any-right (IsOfPair pair) (option_to_list made) rest
-          (kept_from g l (before ++ m ∷ []) xs rest (k + 1) pair (append_assoc before (m ∷ []) xs ∙ whole) next
+          Any-right (IsOfPair pair) (option_to_list made) rest (kept_from g l (before ++ m ∷ []) xs rest (k + 1) pair (append_assoc before (m ∷ []) xs ∙ whole) next
           (λ found. let cases = Any-cases (IsOfPair pair) before (m ∷ []) found in grind (arith, new, cases, other))
           included more (grind (arith, any, other)))
     ])
@@ -65,10 +58,9 @@ kept_from g l before (m ∷ xs) ys k pair whole place new included (made, rest, 
 pub kept_pairs : (g : List Reading) (l kept : List Mapped) (pair : Mapped) → IsKept g l kept → HasPair kept pair ↔ (HasPair l pair × ¬ (IsSourceExcluded g pair.source))
 kept_pairs g l kept pair is = (
   (λ has.
-      let made = made_any (Keeps g l) (IsOfPair pair) 0 l kept is (Any-HasPair kept pair has) in
       let both = Any-both (IsOfPair pair) (¬ (IsSourceExcluded g pair.source)) l (Any-weaker _ _ (λ m (j, y, keeps, same).
       let of_m : IsOfPair pair m = rw keeps.0 at same in
-      (of_m, λ by. keeps.1.included (rw of_m.source by))) l made) in
+      (of_m, λ by. keeps.1.included (rw of_m.source by))) l (made_any (Keeps g l) (IsOfPair pair) 0 l kept is (Any-HasPair kept pair has))) in
       (HasPair-Any l pair both.0, both.1)),
   (λ both. HasPair-Any kept pair (kept_from g l [] l kept 0 pair refl refl (λ none. none) both.1 is (Any-HasPair l pair both.0))),
 )

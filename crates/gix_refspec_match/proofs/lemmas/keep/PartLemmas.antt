@@ -1,28 +1,11 @@
 -- Items without some that have the name of an earlier one: a matcher's hits among them make what its hits among all make.
-use Rattle.std.proofs.Common.{◌≡◌, ◌⊎◌, inl, inr, ◌↔◌, ℕ, zero, suc, ◌+◌, ◌-◌, ◌<◌, List, [], ◌∷◌, ◌++◌, Option, None, Some, length, map, get_or, take, drop, refl, sym, ap, ◌∙◌, subst, append_assoc, arith}
-use Rattle.std.specs.List.{slice_get}
-use Rattle.std.proofs.Math.Seq.{drop-append_seam, get_or-append_seam, take-append_seam}
-use Rattle.std.proofs.lemmas.List.{append-nil, length-append}
-use Rattle.std.proofs.lemmas.Option.{slice_get-get_or}
-use Rattle.gix_refspec_match.specs.declared.hits.Hit.{Hit as DeclaredHit}
-use Rattle.gix_refspec_match.specs.declared.matcher.Candidates.{Candidates}
-use Rattle.gix_refspec_match.specs.declared.matcher.Candidates.TheVariants.{First, All}
-use Rattle.gix_refspec_match.specs.declared.matcher.Matcher.{Matcher}
-use Rattle.gix_refspec_text.specs.Specs.Reading.{Reading}
-use Rattle.gix_refspec_text.specs.Matching.Side.{SideKind, pattern, full_name, object, partial, IsCandidate}
-use Rattle.gix_refspec_text.specs.Matching.Match.{Ref, HasName, MatchesAs}
-use Rattle.gix_refspec_text.specs.Private.SideViews.{kind_of_side}
-use Rattle.gix_refspec_match.specs.Matching.Lists.{IsMadeFrom}
-use Rattle.gix_refspec_match.specs.Matching.Mappings.{Mapped, IsSamePair, HasPair}
-use Rattle.gix_refspec_match.specs.Matching.Hits.{Ends, IsHit}
-use Rattle.gix_refspec_match.specs.Private.Fills.{Thins, hit_by, hit_of, mapping_of}
-use Rattle.gix_refspec_match.specs.Private.Hits.{AreFound, IsFound, hit_at, turned}
-use Rattle.gix_refspec_match.specs.Private.Matchers.{HaveKinds, TakesIn}
-use Rattle.gix_refspec_match.specs.Private.Needles.{IsFirstIn, IsTaken, filled_side, word_in}
-use Rattle.gix_refspec_match.specs.Private.Part.{IsPartBehind, IsPart}
+use Rattle.gix_refspec_match.proofs.Common.{List, [], ◌∷◌, None, Some, refl, ◌≡◌, ℕ, ◌++◌, Option, sym, ◌∙◌, arith, inl, inr, subst, ap, append-nil, ◌<◌, length, map, take, drop, ◌+◌, get_or, append_assoc, ◌⊎◌}
+use Rattle.gix_refspec_match.proofs.Common.{◌↔◌, zero, suc, length-append, ◌-◌, slice_get, get_or-append_seam, take-append_seam, drop-append_seam, slice_get-get_or, all_weaker, kind_of_side, Ref, HasName}
+use Rattle.gix_refspec_match.proofs.Common.{MatchesAs, pattern, object, full_name, partial, SideKind, IsCandidate, Reading, IsMadeFrom, IsPartBehind, IsPart, Ends, IsHit, Mapped, IsSamePair, HasPair}
+use Rattle.gix_refspec_match.proofs.Common.{mapping_of, Thins, hit_of, hit_by, AreFound, turned, hit_at, IsFound, HaveKinds, TakesIn, filled_side, IsFirstIn, IsTaken, word_in, DeclaredHit, Candidates, All}
+use Rattle.gix_refspec_match.proofs.Common.{First, Matcher}
 use Rattle.gix_refspec_match.proofs.lemmas.keep.KeptLemmas.{HasPair-left, HasPair-last}
 use Rattle.gix_refspec_match.proofs.lemmas.keep.ThinLemmas.{cut, pair_alike, thins_all, thins_behind}
-use Rattle.gix_refspec_text.proofs.lemmas.lists.AllLemmas.{all_weaker}
 use Rattle.gix_refspec_match.proofs.lemmas.index.FirstPlacesLemmas.{has_cases}
 use Rattle.gix_refspec_match.proofs.lemmas.hits.FoundLemmas.{blank, made_each, of_hits}
 use Rattle.gix_refspec_match.proofs.lemmas.hits.GroupLemmas.{FindsEnough}
@@ -39,9 +22,7 @@ between before after n w is =
 matched_word : (k : SideKind) (r : Ref) (word : Option (List ℕ)) → MatchesAs k r word → word ≡ word_in k r.name
 matched_word (pattern before after) r None is = absurd is
 matched_word (pattern before after) r (Some w) is = ap Some (between before after r.name w is)
-matched_word (full_name n) r word is = is.0
-matched_word (object id) r word is = is.0
-matched_word (partial n) r word is = is.0
+matched_word k r word is = is.0
 
 -- the hit of a matcher and an item that are there
 hit_seen : (ms : List Matcher) (items : List Ref) (k i : ℕ) (m : Matcher) (d : Ref) → slice_get ms k ≡ Some m → i < length items → hit_of ms items (hit_at k i) ≡ hit_by m i (get_or items i d)
@@ -97,10 +78,7 @@ has_part P before [] part places is old new n has = absurd has
 has_part P before (r ∷ refs) part places (inl (rest, others, all, at, more)) old new n has =
     let both : EachName P (r ∷ rest) = rw all at new in
     let here = both r.name (inl refl) in
-    elim has [
-      | inl same ↦ subst P same here
-      | inr there ↦ has_part P (before ++ r ∷ []) refs rest others more (each_next P before r old here) (λ m later. both m (inr later)) n there
-    ]
+    elim has [ inl same ↦ subst P same here | inr there ↦ has_part P (before ++ r ∷ []) refs rest others more (each_next P before r old here) (λ m later. both m (inr later)) n there ]
 has_part P before (r ∷ refs) part places (inr (repeats, more)) old new n has = elim has [
   | inl same ↦ subst P same (old r.name repeats)
   | inr there ↦ has_part P (before ++ r ∷ []) refs part places more (each_next P before r old (old r.name repeats)) new n there
@@ -128,10 +106,6 @@ matched_named (object id) r s word plain same is = absurd (plain id refl)
 matched_named (partial n) r s word plain same is = (is.0, subst (IsCandidate n) same is.1)
 
 first_named : (kind : SideKind) (which : Candidates) (a b : List Ref) (n : List ℕ) → SameNames a b → IsFirstIn kind which a n → IsFirstIn kind which b n
-first_named (pattern before after) which a b n names first = tt
-first_named (full_name x) which a b n names first = tt
-first_named (object id) which a b n names first = tt
-first_named (partial x) All a b n names first = tt
 first_named (partial x) First a b n names first = record {
   earlier = first.earlier;
   later = first.later;
@@ -139,6 +113,7 @@ first_named (partial x) First a b n names first = record {
   absent = all_weaker (λ m. ¬ (HasName a m)) (λ m. ¬ (HasName b m)) (λ m none has. none ((names m).1 has)) first.earlier first.absent;
   present = (names n).0 first.present;
 }
+first_named kind which a b n names first = tt
 
 -- over lists of the same names a needle takes refs of one name alike
 taken_named : (which : Candidates) (kind : SideKind) (a b : List Ref) (r s : Ref) → ((id : List ℕ) → ¬ (kind ≡ object id)) → SameNames a b → r.name ≡ s.name → IsTaken which a kind r → IsTaken which b kind s
@@ -220,9 +195,7 @@ module _ (g : List Reading) (which : Candidates) (ms : List Matcher) (all : List
     missed before refs r made found none (hits, are, thins) = (hits, (None, hits, (λ h is. none ((takes all r (λ n. ((λ has. has), (λ has. has)))).0 is.0)), rw length-append at are, refl), thins)
 
     finds_from : (before refs rest : List Ref) (i : ℕ) (made : List Mapped) (found : List DeclaredHit) → all ≡ before ++ refs → IsPartBehind before refs rest (drop i places) → EachName (Settled made) before → Found part i rest found → Finds before refs made found
-    finds_from before [] rest i made found whole is known are =
-        let none : found ≡ [] = rw is.0 at are in
-        ([], refl, ap (λ l. makes (map (turned places) l)) none)
+    finds_from before [] rest i made found whole is known are = let none : found ≡ [] = rw is.0 at are in ([], refl, ap (λ l. makes (map (turned places) l)) none)
     finds_from before (r ∷ refs) rest i made found whole (inl (others, behind, all_of, first, more)) known are =
         let next = whole ∙ sym (append_assoc before (r ∷ []) refs) in
         let of_part = takes part r (λ n. ((names n).1, (names n).0)) in
@@ -231,8 +204,7 @@ module _ (g : List Reading) (which : Candidates) (ms : List Matcher) (all : List
         elim (made_cases (IsFound which part (kind_of_side m.needle) k) i r others found (rw all_of at are)) [
           | inr (none, more_found) ↦
               let misses : ¬ (Takes r.name) = λ of. none (hit_at k i) (of_part.1 of, refl) in
-              missed before refs r made found misses
-              (finds_from (before ++ r ∷ []) refs others (i + 1) made found next later (each_next (Settled made) before r known (inr misses)) more_found)
+              missed before refs r made found misses (finds_from (before ++ r ∷ []) refs others (i + 1) made found next later (each_next (Settled made) before r known (inr misses)) more_found)
           | inl (h, rest_found, of, same, more_found) ↦
               let taken = of_part.0 of.0 in
               let (hits, among_all, thins) = finds_from (before ++ r ∷ []) refs others (i + 1) (made ++ makes (here before ∷ [])) rest_found next later (settled_next made before refs r whole taken known) more_found in

@@ -1,12 +1,6 @@
 -- Numbers that rise, and mappings with the same pair.
-use Rattle.std.proofs.Common.{◌≢◌, ℕ, ◌<◌, List, [], ◌∷◌, length, get_or, eqb, sym, ◌∙◌, arith}
-use Rattle.std.specs.List.{IsDistinct}
-use Rattle.std.specs.List.Sorted.{IsPermutation}
-use Rattle.std.proofs.lemmas.Map.Keys.{IsDistinct-IsPermutation, IsDistinct-from_apart, apart_from_distinct}
-use Rattle.std.proofs.lemmas.Cmp.{nat_eq_equiv}
-use Rattle.std.proofs.lemmas.Bool.{eq-eqb, false≢true, ne_eqb}
-use Rattle.gix_refspec_match.specs.declared.types.Mapping.{Mapping}
-use Rattle.gix_refspec_match.specs.Private.Kept.{Rises}
+use Rattle.gix_refspec_match.proofs.Common.{List, [], ◌∷◌, ℕ, sym, ◌∙◌, arith, ◌≢◌, ◌<◌, length, get_or, eqb, false≢true, eq-eqb, ne_eqb, nat_eq_equiv, IsDistinct-IsPermutation, IsDistinct-from_apart}
+use Rattle.gix_refspec_match.proofs.Common.{apart_from_distinct, IsPermutation, IsDistinct, Rises, Mapping}
 
 -- numbers that rise stay apart in another order
 pub apart_places : (xs ys : List ℕ) → IsPermutation xs ys → Rises xs → (i j d : ℕ) → i < j → j < length ys → get_or ys i d ≢ get_or ys j d

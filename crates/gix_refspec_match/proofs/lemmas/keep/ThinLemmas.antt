@@ -1,10 +1,6 @@
 -- Mappings without some of those that repeat an earlier pair or are excluded: the same ones of them stay.
-use Rattle.std.proofs.Common.{◌≡◌, inl, inr, ◌↔◌, ℕ, ◌+◌, ◌<◌, List, [], ◌∷◌, ◌++◌, Option, None, Some, length, get_or, take, drop, refl, sym, ap, ◌∙◌, subst, append_assoc, arith}
-use Rattle.std.proofs.lemmas.List.{append-nil, drop_more, length-drop, take_more}
-use Rattle.gix_refspec_text.specs.Specs.Reading.{Reading}
-use Rattle.gix_refspec_match.specs.Matching.Lists.{MakesOf, IsMadeFrom}
-use Rattle.gix_refspec_match.specs.Matching.Mappings.{Mapped, IsSamePair, HasPair, IsSourceExcluded, IsKeptAt, IsKept}
-use Rattle.gix_refspec_match.specs.Private.Fills.{MayGo, Thins}
+use Rattle.gix_refspec_match.proofs.Common.{List, [], ◌∷◌, None, Some, refl, ◌≡◌, ℕ, ◌++◌, Option, sym, ◌∙◌, arith, inl, inr, subst, ap, append-nil, ◌<◌, length, take, drop, ◌+◌, get_or, append_assoc, ◌↔◌}
+use Rattle.gix_refspec_match.proofs.Common.{length-drop, drop_more, take_more, Reading, MakesOf, IsMadeFrom, Mapped, IsKeptAt, IsKept, IsSourceExcluded, IsSamePair, HasPair, Thins, MayGo}
 use Rattle.gix_refspec_match.proofs.lemmas.keep.KeptLemmas.{HasPair-left, HasPair-last}
 
 -- what is left of a list from an index on begins with the element there

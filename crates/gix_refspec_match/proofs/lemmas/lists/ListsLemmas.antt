@@ -1,7 +1,7 @@
 -- Lists that are made from lists.
-use Rattle.std.proofs.Common.{◌≡◌, ℕ, suc, ◌+◌, ◌<◌, ◌≤◌, List, [], ◌∷◌, ◌++◌, Option, None, Some, option_to_list, option_map, length, take, drop, get_or, map, refl, sym, ap, ◌∙◌, add-zero, arith}
+use Rattle.std.proofs.Common.{List, [], ◌∷◌, None, Some, refl, ◌≡◌, ℕ, ◌++◌, Option, sym, ◌∙◌, arith, ap, append-nil, ◌<◌, length, map, take, drop, ◌+◌, get_or, option_map, ◌≤◌, suc, option_to_list, add-zero}
+use Rattle.std.proofs.lemmas.List.{drop_more, length-take-le, take_more, drop-set-lt, length-set, take-set, take-set-le}
 use Rattle.std.specs.List.{SwappedAt}
-use Rattle.std.proofs.lemmas.List.{append-nil, drop_more, drop-set-lt, length-set, length-take-le, take_more, take-set, take-set-le}
 use Rattle.gix_refspec_match.specs.Matching.Lists.{MakesOf, IsMadeFrom}
 use Rattle.gix_refspec_match.proofs.lemmas.lists.JoinLemmas.{made_next}
 

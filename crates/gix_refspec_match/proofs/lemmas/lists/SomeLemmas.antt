@@ -1,9 +1,6 @@
 -- That some element is as P says, in lists that are made or joined from others.
-use Rattle.std.proofs.Common.{◌⊎◌, inl, inr, ℕ, zero, suc, ◌+◌, List, [], ◌∷◌, ◌++◌, None, Some, map, refl, sym, subst, rules, arith}
+use Rattle.gix_refspec_match.proofs.Common.{List, [], ◌∷◌, None, Some, refl, ℕ, ◌++◌, sym, arith, inl, inr, subst, map, ◌+◌, rules, ◌⊎◌, zero, suc, All-from_recursion, AllByRecursion, IsMadeFrom, IsJoinedFrom}
 use Rattle.std.specs.List as lists
-use Rattle.std.specs.List.{AllByRecursion}
-use Rattle.std.proofs.lemmas.List.Elements.{All-from_recursion}
-use Rattle.gix_refspec_match.specs.Matching.Lists.{IsMadeFrom, IsJoinedFrom}
 
 -- some element is as P says
 abbrev pub Any : {X : Type 0} → (X → Type 0) → List X → Type 0
@@ -43,8 +40,7 @@ Any-map P f (x ∷ xs) any = search (rules, Any-map P f xs)
 
 -- what is so of each element, and of some one, is so of that one
 pub Any-all : {X : Type 0} (P Q R : X → Type 0) → ((x : X) → P x → Q x → R x) → (xs : List X) → AllByRecursion P xs → Any Q xs → Any R xs
-Any-all P Q R both xs all any =
-    let (i, x, below, at, is) = some_at Q xs any in some_of R xs (i, x, below, at, both x (subst P at (All-from_recursion P xs all i x below)) is)
+Any-all P Q R both xs all any = let (i, x, below, at, is) = some_at Q xs any in some_of R xs (i, x, below, at, both x (subst P at (All-from_recursion P xs all i x below)) is)
 
 pub Any-weaker : {X : Type 0} (P Q : X → Type 0) → ((x : X) → P x → Q x) → (xs : List X) → Any P xs → Any Q xs
 Any-weaker P Q weaker xs any = let (i, x, below, at, is) = some_at P xs any in some_of Q xs (i, x, below, at, weaker x is)
@@ -76,10 +72,8 @@ any_made R P k (x ∷ xs) ys (Some y, rest, makes, more, is) (inr later) = rw is
 -- what was joined was made of some element
 pub joined_any : {X Y : Type 0} (R : ℕ → X → List Y → Type 0) (P : Y → Type 0) (k : ℕ) (xs : List X) (ys : List Y) → IsJoinedFrom R k xs ys → Any P ys → Any (λ x. (j : ℕ) × (made : List Y) × R j x made × Any P made) xs
 joined_any R P k [] ys empty any = absurd (subst (Any P) empty any)
-joined_any R P k (x ∷ xs) ys (made, rest, makes, more, is) any =
-    let some = Any-cases P made rest (subst (Any P) is any) in search (rules, joined_any R P (k + 1) xs rest more)
+joined_any R P k (x ∷ xs) ys (made, rest, makes, more, is) any = let some = Any-cases P made rest (subst (Any P) is any) in search (rules, joined_any R P (k + 1) xs rest more)
 
 pub any_joined : {X Y : Type 0} (R : ℕ → X → List Y → Type 0) (P : Y → Type 0) (k : ℕ) (xs : List X) (ys : List Y) → IsJoinedFrom R k xs ys → Any (λ x. (j : ℕ) (made : List Y) → R j x made → Any P made) xs → Any P ys
 any_joined R P k [] ys empty any = absurd any
-any_joined R P k (x ∷ xs) ys (made, rest, makes, more, is) any =
-    rw is (search (rules, Any-left P made rest, Any-right P made rest, any_joined R P (k + 1) xs rest more))
+any_joined R P k (x ∷ xs) ys (made, rest, makes, more, is) any = rw is (search (rules, Any-left P made rest, Any-right P made rest, any_joined R P (k + 1) xs rest more))

@@ -1,14 +1,8 @@
 -- What is left of the name after both cuts is the word, and without one of them there is none.
-use Rattle.std.proofs.Common.{◌≡◌, ◌++◌, Bor, Option, None, Some, ℕ, nat_eq, not, option_copied, true, refl, sym, ◌∙◌, ap, length, take-append-drop}
-use Rattle.std.proofs.Math.Seq.{take-append_seam}
-use Rattle.std.specs.Option.{option_eq}
-use Rattle.std.proofs.lemmas.Slice.Eq.{strip_suffix_is}
-use Rattle.std.specs.Cmp.Lexicographic.{pointwise_decides}
-use Rattle.std.proofs.lemmas.Bool.{false≢true, not-false}
-use Rattle.std.proofs.lemmas.Bool.Decides.{Decides-eqb}
+use Rattle.gix_refspec_match.proofs.Common.{None, Some, refl, ◌≡◌, ℕ, true, ◌++◌, Option, sym, ◌∙◌, ap, length, Bor, take-append-drop, not, nat_eq, option_copied, take-append_seam, Decides-eqb, strip_suffix_is}
+use Rattle.gix_refspec_match.proofs.Common.{false≢true, not-false, pointwise_decides, option_eq}
 use Rattle.gix_refspec_match.proofs.lemmas.hits.HitLemmas.{word_left}
 use Rattle.gix_refspec_match.proofs.needle.word_between.Goals as goal
-use Rattle.gix_refspec_match.proofs.needle.word_between.Goals.{then-ne-via-then-ne, then-ne-via-else-ne+then-ne-2}
 
 -- texts that are the same end with the same byte
 same_end : (a b : Option (Bor ℕ)) → option_copied a ≡ option_copied b → option_eq (λ x y. nat_eq x.now y.now) a b ≡ true
@@ -21,9 +15,9 @@ returns-then-ne c word fits =
     let front = c.in_ok-front.front.now in
     let same : front ≡ c.args.before.now = cc (c.in_ok-front.ensures.cases.1, take-append_seam c.args.before.now (word ++ c.args.after.now)) in
     elim c.then-ne.branch [
-      | then-ne-via-then-ne w ↦
+      | goal.then-ne-via-then-ne w ↦
           false≢true (sym (c.ne.ensures ∙ ap not (same_end c.last.result c.last-2.result (cc (c.last.ensures.value, c.last-2.ensures.value)))) ∙ w.if-ne.true)
-      | then-ne-via-else-ne+then-ne-2 w ↦ false≢true (sym (w.ne-else-ne.ensures ∙ ap not ((pointwise_decides Decides-eqb front _).1 same)) ∙ w.if-ne-2.true)
+      | goal.then-ne-via-else-ne+then-ne-2 w ↦ false≢true (sym (w.ne-else-ne.ensures ∙ ap not ((pointwise_decides Decides-eqb front _).1 same)) ∙ w.if-ne-2.true)
     ]
 
 pub returns : goal.returns

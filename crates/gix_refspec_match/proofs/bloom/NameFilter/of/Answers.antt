@@ -1,13 +1,7 @@
 -- one more name passes, and the earlier ones still do
-use Rattle.std.proofs.Common.{rules, subst, ◌∙◌}
-use Rattle.gix_refspec_match.specs.Views.Mapping.{name_bytes}
-use Rattle.gix_refspec_match.specs.declared.bloom.NameFilter.{NameFilter}
-use Rattle.gix_refspec_match.specs.Private.Filter.{Passes}
-use Rattle.gix_refspec_match.proofs.bloom.NameFilter.of.Goals as goal
-use Rattle.gix_refspec_text.proofs.lemmas.lists.AllLemmas.{all_weaker}
-use Rattle.gix_refspec_text.proofs.lemmas.lists.MapLemmas.{one_more_mapped}
+use Rattle.gix_refspec_match.proofs.Common.{◌∙◌, subst, rules, all_weaker, one_more_mapped, Passes, name_bytes, NameFilter}
 
-pub loop-name-preserved : goal.loop-name-preserved
+pub loop-name-preserved : Rattle.gix_refspec_match.proofs.bloom.NameFilter.of.Goals.loop-name-preserved
 loop-name-preserved c =
     let size = c.add.ensures in
     let tail = c.add-in-loop-name.ensures in

@@ -1,10 +1,5 @@
 -- a source without a star excludes its name, and one with a star the names of its pattern
-use Rattle.std.proofs.Common.{◌≡◌, inl, inr, arith, option_map, sym, ap, ◌∙◌, rules}
-use Rattle.bstr.specs.BStr.{bstr_bytes}
-use Rattle.gix_refspec_match.specs.declared.exclusions.Pattern.{Pattern}
-use Rattle.gix_refspec_text.specs.Views.Spec.{reading_of}
-use Rattle.gix_refspec_match.specs.Private.Kept.{FitsName, index_of}
-use Rattle.gix_refspec_match.proofs.lemmas.index.KeyLemmas.{key_of}
+use Rattle.gix_refspec_match.proofs.Common.{◌≡◌, sym, ◌∙◌, arith, inl, inr, ap, rules, option_map, bstr_bytes, reading_of, FitsName, index_of, Pattern, key_of}
 use Rattle.gix_refspec_match.proofs.lemmas.keep.ExclusionLemmas.{Any-push-cases, index_more, name_excludes, pattern_excludes}
 use Rattle.gix_refspec_match.proofs.exclusions.Exclusions.add.Goals as goal
 
@@ -21,10 +16,7 @@ returns-in_ok-insert-in-None-clause-indexes c n k at =
     let source = sym c.source.ensures ∙ ap (option_map bstr_bytes) c.in-Some.is in
     let excludes = name_excludes (reading_of c.args.spec) _ (search rules) source (rw c.as_bytes.ensures at c.in-None.ensures) n in
     let more = index_more (index_of c.args.self.now.names) (index_of c.insert.new.self) c.as_bytes-name.result.now c.args.spec_index (λ q. c.in_ok-insert-in-None.ensures.updates.0 (key_of c.as_bytes-name.result q)) n in
-    elim at [
-      | inl found ↦ elim (more.1 k found) [ inl was ↦ inl (inl was) | inr (same, is) ↦ inr (same, excludes.0 (is ∙ c.as_bytes-name.ensures)) ]
-      | inr fitted ↦ inl (inr fitted)
-    ]
+    elim at [ inl found ↦ elim (more.1 k found) [ inl was ↦ inl (inl was) | inr (same, is) ↦ inr (same, excludes.0 (is ∙ c.as_bytes-name.ensures)) ] | inr fitted ↦ inl (inr fitted) ]
 
 pub returns-in_ok-push-in-Some-split_at_first_star-clause-names : goal.returns-in_ok-push-in-Some-split_at_first_star-clause-names
 returns-in_ok-push-in-Some-split_at_first_star-clause-names c n =

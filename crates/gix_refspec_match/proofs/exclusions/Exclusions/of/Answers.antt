@@ -1,8 +1,5 @@
 -- one more spec
-use Rattle.std.proofs.Common.{take, take_all, arith}
-use Rattle.std.proofs.lemmas.List.{length-map, length-take-le}
-use Rattle.gix_refspec_text.specs.Views.Spec.{reading_of}
-use Rattle.gix_refspec_text.proofs.lemmas.lists.MapLemmas.{map_next}
+use Rattle.gix_refspec_match.proofs.Common.{arith, take, take_all, length-map, length-take-le, map_next, reading_of}
 use Rattle.gix_refspec_match.proofs.lemmas.keep.ExclusionLemmas.{exclusions_at_more, exclusions_more}
 use Rattle.gix_refspec_match.proofs.exclusions.Exclusions.of.Goals as goal
 

@@ -1,18 +1,8 @@
 -- What is listed of the slices is listed of the names, and without names there is nothing to list.
-use Rattle.std.proofs.Common.{◌≡◌, [], ◌∙◌, ap, ℕ, List, None, length, HashMap, Vec, Global, map, sym, arith}
-use Rattle.std.specs.Vec.{vec_len}
-use Rattle.std.specs.HashMap.{IsEmpty}
-use Rattle.std.specs.Map.{lookup}
-use Rattle.std.specs.Str.{bytes_eq}
-use Rattle.std.proofs.lemmas.Bool.{eqb-true}
-use Rattle.std.proofs.lemmas.List.{nil_from_length}
-use Rattle.gix_refspec_match.specs.declared.index.Key.{Key}
-use Rattle.gix_refspec_match.specs.declared.types.NameRef.{NameRef}
-use Rattle.gix_refspec_match.specs.Views.Mapping.{name_bytes, ref_of}
-use Rattle.gix_refspec_match.specs.Private.Index.{list_of}
+use Rattle.gix_refspec_match.proofs.Common.{List, [], None, ◌≡◌, ℕ, sym, ◌∙◌, arith, ap, length, map, Vec, bytes_eq, HashMap, Global, eqb-true, nil_from_length, IsEmpty, lookup, vec_len, list_of, ref_of}
+use Rattle.gix_refspec_match.proofs.Common.{name_bytes, Key, NameRef}
 use Rattle.gix_refspec_match.proofs.lemmas.index.PartialLemmas.{no_partials}
 use Rattle.gix_refspec_match.proofs.index.Index.of.Goals as goal
-use Rattle.gix_refspec_match.proofs.index.Index.of.Goals.{then-is_empty, else-is_empty+in_ok-full, then-is_empty-2, else-is_empty-2+in_ok-partials, then-len-lt-MANY, else-len-lt-MANY+in_ok-prefixes}
 
 -- an empty vector has no names
 unnamed : (names : Vec NameRef Global) → vec_len names ≡ 0 → map name_bytes names.items ≡ []
@@ -24,24 +14,23 @@ unlisted m empty n = ap (lookup (λ k. bytes_eq n k.name.now)) empty
 
 pub returns : goal.returns
 returns c =
-    let refs = map ref_of c.args.items.now in
     let names = c.args.names.now in
     record {
       full = elim c.if-is_empty.branch [
-        | then-is_empty w ↦
+        | goal.then-is_empty w ↦
             let none = unnamed names.full (eqb-true _ _ (sym c.is_empty.ensures ∙ w.if-is_empty.true)) in
             rw w.full-is (record {
               each = λ n there. let (k, inside, is) = there in absurd (omega (arith, inside, ap length none));
               others = λ n _. unlisted w.new-full.result w.new-full.ensures.empty n;
             })
-        | else-is_empty+in_ok-full w ↦ rw (w.full-is, ← w.as_slice.ensures.value) w.in_ok-full.ensures
+        | goal.else-is_empty+in_ok-full w ↦ rw (w.full-is, ← w.as_slice.ensures.value) w.in_ok-full.ensures
       ];
       partial = elim c.if-is_empty-2.branch [
-        | then-is_empty-2 w ↦ no_partials c.args.candidates _ refs _ (unnamed names.partial (eqb-true _ _ (sym c.is_empty-2.ensures ∙ w.if-is_empty-2.true)))
-        | else-is_empty-2+in_ok-partials w ↦ rw (w.partials-is, ← w.as_slice-else-is_empty-2.ensures.value) w.in_ok-partials.ensures
+        | goal.then-is_empty-2 w ↦ no_partials c.args.candidates _ (map ref_of c.args.items.now) _ (unnamed names.partial (eqb-true _ _ (sym c.is_empty-2.ensures ∙ w.if-is_empty-2.true)))
+        | goal.else-is_empty-2+in_ok-partials w ↦ rw (w.partials-is, ← w.as_slice-else-is_empty-2.ensures.value) w.in_ok-partials.ensures
       ];
       prefixes = elim c.if-len-lt-MANY.branch [
-        | then-len-lt-MANY w ↦ rw w.prefixes-is (λ prefix v is. let none = unlisted w.new-prefixes.result w.new-prefixes.ensures.empty prefix in absurd (cc (none)))
-        | else-len-lt-MANY+in_ok-prefixes w ↦ rw w.prefixes-is w.in_ok-prefixes.ensures
+        | goal.then-len-lt-MANY w ↦ rw w.prefixes-is (λ prefix v is. let none = unlisted w.new-prefixes.result w.new-prefixes.ensures.empty prefix in absurd (cc (none)))
+        | goal.else-len-lt-MANY+in_ok-prefixes w ↦ rw w.prefixes-is w.in_ok-prefixes.ensures
       ];
     }

@@ -1,23 +1,8 @@
 -- Each matcher adds the name that it looks for.
-use Rattle.std.proofs.Common.{◌≡◌, ◌∷◌, [], ◌++◌, ◌∙◌, ap, ℕ, List, None, Vec, Global, get_or, map, rules, take}
-use Rattle.std.proofs.lemmas.List.{map_push, take_more}
-use Rattle.std.proofs.lemmas.List.Elements.{Contains-append_left, Contains-push}
-use Rattle.std.specs.List.{Contains}
-use Rattle.gix_refspec_match.specs.declared.types.NameRef.{NameRef}
-use Rattle.gix_refspec_match.specs.Views.Mapping.{name_bytes}
-use Rattle.gix_refspec_match.specs.declared.matcher.Matcher.{Matcher}
-use Rattle.gix_refspec_text.specs.declared.side.SideKind.TheVariants as side
-use Rattle.gix_refspec_text.specs.Private.SideViews.{kind_of_side}
-use Rattle.gix_refspec_text.specs.Matching.Side.{SideKind, pattern, full_name, object, partial}
-use Rattle.gix_refspec_match.specs.declared.index.Names.{Names}
-use Rattle.gix_refspec_match.specs.Private.Index.{HasNamesOf}
-use Rattle.gix_refspec_text.proofs.lemmas.lists.AllLemmas.{all_join, all_weaker}
+use Rattle.gix_refspec_match.proofs.Common.{List, [], ◌∷◌, ◌≡◌, ℕ, ◌++◌, ◌∙◌, ap, map, take, get_or, rules, Vec, Global, take_more, map_push, Contains-append_left, Contains-push, Contains, all_weaker, all_join}
+use Rattle.gix_refspec_match.proofs.Common.{kind_of_side, full_name, partial, SideKind, HasNamesOf, name_bytes, Names, NameRef}
+use Rattle.gix_refspec_match.proofs.lemmas.hits.MissingLemmas.{blank_matcher}
 use Rattle.gix_refspec_match.proofs.index.Names.of.Goals as goal
-use Rattle.gix_refspec_match.proofs.index.Names.of.Goals.{in-FullName+in_ok-push-in-FullName, in-Partial+in_ok-push-in-Partial, in-Pattern+in_ok-push-in-Pattern, in-Object}
-
--- what a read past the end gives
-abbrev none : Matcher
-none = record { spec_index = 0; needle = side.Pattern (record { ref_ptr = (0, 0); now = [] }) (record { ref_ptr = (0, 0); now = [] }); other = None }
 
 -- the new names are the old ones, and those that a needle of the kind looks for
 record AddsNames (kind : SideKind) (old new : Names) : Type 0 where
@@ -27,10 +12,9 @@ record AddsNames (kind : SideKind) (old new : Names) : Type 0 where
 
 -- what was named still is
 still_named : (added : SideKind) (old new : Names) → AddsNames added old new → (kind : SideKind) → HasNamesOf old kind → HasNamesOf new kind
-still_named added old new adds (pattern before after) named = tt
 still_named added old new adds (full_name x) named = adds.full x named
-still_named added old new adds (object id) named = tt
 still_named added old new adds (partial x) named = adds.partial x named
+still_named added old new adds kind named = tt
 
 -- one more name
 pushed : (old new : Vec NameRef Global) (x : NameRef) → new.items ≡ old.items ++ x ∷ []
@@ -44,16 +28,15 @@ loop-matcher-preserved c =
     let xs = c.deref-matcher-items.result.now in
     let i = c.loop-matcher.matcher-index in
     let old = c.loop-matcher.names in
-    let adds : AddsNames (kind_of_side (get_or xs i none).needle) old c.match-matcher.names = elim c.match-matcher.branch [
-      | in-FullName+in_ok-push-in-FullName w ↦
+    let adds : AddsNames (kind_of_side (get_or xs i blank_matcher).needle) old c.match-matcher.names = elim c.match-matcher.branch [
+      | goal.in-FullName+in_ok-push-in-FullName w ↦
           let (keeps, here) = pushed old.full w.push.new.self _ w.in_ok-push-in-FullName.ensures.items in
           rw (w.in-FullName.is, w.names-is) (search (rules, keeps))
-      | in-Partial+in_ok-push-in-Partial w ↦
+      | goal.in-Partial+in_ok-push-in-Partial w ↦
           let (keeps, here) = pushed old.partial w.push-in-Partial.new.self _ w.in_ok-push-in-Partial.ensures.items in
           rw (w.in-Partial.is, w.names-is) (search (rules, keeps))
-      | in-Pattern+in_ok-push-in-Pattern w ↦ rw (w.in-Pattern.is, w.names-is) (search rules)
-      | in-Object w ↦ rw (w.in-Object.is, w.names-is) (search rules)
+      | goal.in-Pattern+in_ok-push-in-Pattern w ↦ rw (w.in-Pattern.is, w.names-is) (search rules)
+      | goal.in-Object w ↦ rw (w.in-Object.is, w.names-is) (search rules)
     ] in
-    rw (← c.deref-matcher-items.ensures.value, take_more xs i none c.loop-matcher-test.true)
-    (all_join _ (take i xs) (get_or xs i none ∷ [])
+    rw (← c.deref-matcher-items.ensures.value, take_more xs i blank_matcher c.loop-matcher-test.true) (all_join _ (take i xs) (get_or xs i blank_matcher ∷ [])
     (all_weaker _ _ (λ m. still_named _ old _ adds (kind_of_side m.needle)) _ (rw c.deref-matcher-items.ensures.value c.loop-matcher.invariant)) (adds.here, tt))

@@ -1,9 +1,5 @@
 -- the names are there that the matchers so far look for
-use Rattle.std.proofs.Common.{take}
-use Rattle.std.specs.List.{AllByRecursion}
-use Rattle.gix_refspec_text.specs.Private.SideViews.{kind_of_side}
-use Rattle.gix_refspec_match.specs.Private.Index.{HasNamesOf}
-use Rattle.gix_refspec_match.proofs.index.Names.of.Given as goal
+use Rattle.gix_refspec_match.proofs.Common.{take, AllByRecursion, kind_of_side, HasNamesOf}
 
-abbrev pub invariant-loop-matcher : goal.invariant-loop-matcher
+abbrev pub invariant-loop-matcher : Rattle.gix_refspec_match.proofs.index.Names.of.Given.invariant-loop-matcher
 invariant-loop-matcher l = AllByRecursion (λ m. HasNamesOf l.names (kind_of_side m.needle)) (take l.matcher-index l.matchers.list.items)

@@ -1,11 +1,7 @@
 -- Of each length that is flagged there is one prefix at most that the name begins with.
-use Rattle.std.proofs.Common.{ap, false, length, inr, refl, sym, arith}
-use Rattle.std.proofs.lemmas.List.{get_or_past}
-use Rattle.gix_refspec_match.specs.Private.Index.{list_of}
-use Rattle.gix_refspec_match.proofs.lemmas.index.KeyLemmas.{key_of}
+use Rattle.gix_refspec_match.proofs.Common.{refl, false, sym, arith, inr, ap, length, get_or_past, list_of, key_of}
 use Rattle.gix_refspec_match.proofs.lemmas.index.PrefixLemmas.{adds_all, adds_listed, adds_more, begins_long, taken_begins}
 use Rattle.gix_refspec_match.proofs.index.prefixes.add_place.Goals as goal
-use Rattle.gix_refspec_match.proofs.index.prefixes.add_place.Goals.{in-Some+in_ok-push, in_default}
 
 pub returns-then-name-len : goal.returns-then-name-len
 returns-then-name-len c = adds_all c.loop-len.len c.args.name.now _ _ _
@@ -23,15 +19,14 @@ loop-len-preserved c =
     let n = c.args.name.now in
     let l = c.loop-len.len in
     elim c.match-get_mut.branch [
-      | in-Some+in_ok-push w ↦
+      | goal.in-Some+in_ok-push w ↦
           let list = w.push.new.self in
           let updates = (c.get_mut.follows.holds list).3 (rw (← w.in-Some.ensures.value) refl) in
           rw w.places-is (adds_listed l n c.args.place w.in-Some.list.now list _ (list_of c.loop-len.places) _ (omega arith)
           (sym w.in-Some.ensures.value) w.in_ok-push.ensures.items (λ q. updates.0 (key_of c.args.name q)) c.loop-len.invariant)
-      | in_default w ↦ rw (w.places-is, c.get_mut.follows.holds-at-none) (adds_more l n c.args.place _ _
+      | goal.in_default w ↦ rw (w.places-is, c.get_mut.follows.holds-at-none) (adds_more l n c.args.place _ _
           (λ prefix v u is was begins long.
-          let taken = taken_begins prefix n l begins long in
-          absurd (cc (w.in_default.ensures.value, ap (list_of c.loop-len.places) taken)))
+          absurd (cc (w.in_default.ensures.value, ap (list_of c.loop-len.places) (taken_begins prefix n l begins long))))
           c.loop-len.invariant)
     ]
 

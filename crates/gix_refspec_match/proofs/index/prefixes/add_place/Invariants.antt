@@ -1,7 +1,6 @@
 -- the place is added for the prefixes of the lengths so far
-use Rattle.gix_refspec_match.specs.Private.Index.{list_of}
+use Rattle.gix_refspec_match.proofs.Common.{list_of}
 use Rattle.gix_refspec_match.proofs.lemmas.index.PrefixLemmas.{AddsBelow}
-use Rattle.gix_refspec_match.proofs.index.prefixes.add_place.Given as goal
 
-abbrev pub invariant-loop-len : goal.invariant-loop-len
+abbrev pub invariant-loop-len : Rattle.gix_refspec_match.proofs.index.prefixes.add_place.Given.invariant-loop-len
 invariant-loop-len l = AddsBelow l.len l.name l.place (list_of l.initial.places) (list_of l.places)

@@ -1,12 +1,7 @@
 -- one more length is flagged, and the earlier ones still are
-use Rattle.std.proofs.Common.{List, ℕ, length, subst, ◌∙◌}
-use Rattle.gix_refspec_match.specs.Views.Mapping.{name_bytes}
-use Rattle.gix_refspec_match.specs.Private.Kept.{IsFlagged}
-use Rattle.gix_refspec_match.proofs.index.prefixes.lengths_of.Goals as goal
-use Rattle.gix_refspec_text.proofs.lemmas.lists.AllLemmas.{all_weaker}
-use Rattle.gix_refspec_text.proofs.lemmas.lists.MapLemmas.{one_more_mapped}
+use Rattle.gix_refspec_match.proofs.Common.{List, ℕ, ◌∙◌, subst, length, all_weaker, one_more_mapped, IsFlagged, name_bytes}
 
-pub loop-text-preserved : goal.loop-text-preserved
+pub loop-text-preserved : Rattle.gix_refspec_match.proofs.index.prefixes.lengths_of.Goals.loop-text-preserved
 loop-text-preserved c =
     let new : List ℕ → Type 0 = λ m. IsFlagged c.flag_length.new.flags.items (length m) in
     one_more_mapped name_bytes new c.args.texts.now c.loop-text.text-index c.text-item.result

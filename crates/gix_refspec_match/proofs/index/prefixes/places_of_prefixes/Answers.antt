@@ -1,5 +1,5 @@
 -- Each item adds its place.
-use Rattle.std.proofs.Common.{take_all}
+use Rattle.gix_refspec_match.proofs.Common.{take_all}
 use Rattle.gix_refspec_match.proofs.lemmas.index.PrefixLemmas.{fronts_started, item_added, lengths_started}
 use Rattle.gix_refspec_match.proofs.index.prefixes.places_of_prefixes.Goals as goal
 
@@ -10,11 +10,9 @@ loop-place-init c =
 
 pub loop-place-preserved : goal.loop-place-preserved
 loop-place-preserved c =
-    let i = c.loop-place.place in
-    let n = c.as_bytes-name.result.now in
     let adds = c.in_ok-prefixes.ensures in (
       (λ prefix v is. let (w, was, told) = adds prefix v is in c.loop-place.invariant.0 prefix w was),
-      item_added c.args.items.now i _ n _ _ c.loop-place-test.true c.as_bytes-name.ensures adds c.loop-place.invariant.1,
+      item_added c.args.items.now c.loop-place.place _ c.as_bytes-name.result.now _ _ c.loop-place-test.true c.as_bytes-name.ensures adds c.loop-place.invariant.1,
     )
 
 pub returns : goal.returns

@@ -1,26 +1,22 @@
 -- Each spec has a matcher, an object or none.
-use Rattle.std.proofs.Common.{take_all, rules, arith}
+use Rattle.gix_refspec_match.proofs.Common.{arith, take_all, rules}
 use Rattle.gix_refspec_match.proofs.lemmas.hits.MatcherLemmas.{equal_from_duplicates, flagged_matcher, forward_matcher, no_id_object, no_matcher, no_object, object_here, object_unmatched, spec_joined, spec_skipped}
 use Rattle.gix_refspec_match.proofs.matcher.Matchers.forward.Goals as goal
-use Rattle.gix_refspec_match.proofs.matcher.Matchers.forward.Goals.{in-Object+in_ok-push-in-Object, in_default-source+then-not-is_flagged+in_ok-push-in_default-source, in_default-source+else-not-is_flagged}
 
 pub loop-spec_index-preserved-in_default : goal.loop-spec_index-preserved-in_default
 loop-spec_index-preserved-in_default c = search (rules, spec_skipped, no_matcher, no_object, c.in_default.ensures)
 
 pub loop-spec_index-preserved : goal.loop-spec_index-preserved
 loop-spec_index-preserved c = elim c.match-sides.branch [
-  | in-Object+in_ok-push-in-Object w ↦
-      let pushed = w.in_ok-push-in-Object.ensures.items in
-      rw (w.list-is, w.objects-is) (search (rules, spec_skipped, spec_joined, object_unmatched, object_here, c.in-Some.ensures, w.in-Object.is, pushed))
-  | in_default-source+then-not-is_flagged+in_ok-push-in_default-source w ↦
+  | goal.in-Object+in_ok-push-in-Object w ↦
+      rw (w.list-is, w.objects-is) (search (rules, spec_skipped, spec_joined, object_unmatched, object_here, c.in-Some.ensures, w.in-Object.is, w.in_ok-push-in-Object.ensures.items))
+  | goal.in_default-source+then-not-is_flagged+in_ok-push-in_default-source w ↦
       let told = rw w.as_slice.ensures.value at w.is_flagged.ensures in
       let pushed = w.in_ok-push-in_default-source.ensures.items in
-      let other = w.in_default-source.not-Object in
-      rw (w.list-is, w.objects-is) (search (rules, spec_skipped, spec_joined, forward_matcher, no_id_object, told, c.in-Some.ensures, other, pushed))
-  | in_default-source+else-not-is_flagged w ↦
+      rw (w.list-is, w.objects-is) (search (rules, spec_skipped, spec_joined, forward_matcher, no_id_object, told, c.in-Some.ensures, w.in_default-source.not-Object, pushed))
+  | goal.in_default-source+else-not-is_flagged w ↦
       let told = rw w.as_slice.ensures.value at w.is_flagged.ensures in
-      let other = w.in_default-source.not-Object in
-      rw (w.list-is, w.objects-is) (search (rules, spec_skipped, flagged_matcher, no_id_object, told, c.in-Some.ensures, other))
+      rw (w.list-is, w.objects-is) (search (rules, spec_skipped, flagged_matcher, no_id_object, told, c.in-Some.ensures, w.in_default-source.not-Object))
 ]
 
 pub returns-clause-matchers : goal.returns-clause-matchers

@@ -1,12 +1,7 @@
 -- the specs so far have these matchers and objects
-use Rattle.std.proofs.Common.{map, take}
-use Rattle.gix_refspec_text.specs.Views.Spec.{reading_of}
-use Rattle.gix_refspec_match.specs.declared.matcher.Candidates.TheVariants.{First}
-use Rattle.gix_refspec_match.specs.Matching.Lists.{IsJoinedFrom}
-use Rattle.gix_refspec_match.specs.Private.Matchers.{AreMatcherOf, AreObjectsOf}
-use Rattle.gix_refspec_match.proofs.matcher.Matchers.forward.Given as goal
+use Rattle.gix_refspec_match.proofs.Common.{map, take, reading_of, IsJoinedFrom, AreMatcherOf, AreObjectsOf, First}
 
-abbrev pub invariant-loop-spec_index : goal.invariant-loop-spec_index
+abbrev pub invariant-loop-spec_index : Rattle.gix_refspec_match.proofs.matcher.Matchers.forward.Given.invariant-loop-spec_index
 invariant-loop-spec_index l =
     IsJoinedFrom (AreMatcherOf First l.equal.items) 0 (map reading_of (take l.spec_index l.specs)) l.list.items
     × AreObjectsOf (map reading_of (take l.spec_index l.specs)) l.objects.items

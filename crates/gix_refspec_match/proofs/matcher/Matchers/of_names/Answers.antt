@@ -1,20 +1,14 @@
 -- A spec whose source is a name has a matcher, and any other has none.
-use Rattle.std.proofs.Common.{◌≡◌, None, Some, inl, inr, refl, append-nil, sym, take_all, arith}
-use Rattle.gix_refspec_text.specs.Views.Spec.{reading_of}
+use Rattle.gix_refspec_match.proofs.Common.{None, Some, refl, ◌≡◌, sym, arith, inl, inr, append-nil, take_all, kind_of_side, reading_of, DeclaredKind as SideKind, Partial, IsNameKind}
 use Rattle.gix_refspec_match.proofs.lemmas.hits.MissingLemmas.{named_here, named_next, none_here, other_here}
-use Rattle.gix_refspec_text.specs.declared.side.SideKind.{SideKind}
-use Rattle.gix_refspec_text.specs.declared.side.SideKind.TheVariants.{FullName, Object, Partial, Pattern}
-use Rattle.gix_refspec_text.specs.Private.SideViews.{kind_of_side}
-use Rattle.gix_refspec_match.specs.Private.Matchers.{IsNameKind}
+use Rattle.gix_refspec_text.specs.declared.side.SideKind.TheVariants.{FullName}
 use Rattle.gix_refspec_match.proofs.matcher.Matchers.of_names.Goals as goal
-use Rattle.gix_refspec_match.proofs.matcher.Matchers.of_names.Goals.{in-FullName+in_ok-push, in_default-source}
 
 -- a kind that is neither of the two is no name
 no_name : (s : SideKind) → ((x : _) → ¬ (s ≡ FullName x)) → ((x : _) → ¬ (s ≡ Partial x)) → ¬ (IsNameKind (kind_of_side s))
 no_name (FullName x) full short is = full x refl
 no_name (Partial x) full short is = short x refl
-no_name (Pattern before after) full short is = is
-no_name (Object id) full short is = is
+no_name s full short is = is
 
 pub loop-spec_index-preserved-in_default : goal.loop-spec_index-preserved-in_default
 loop-spec_index-preserved-in_default c =
@@ -23,10 +17,10 @@ loop-spec_index-preserved-in_default c =
 
 pub loop-spec_index-preserved : goal.loop-spec_index-preserved
 loop-spec_index-preserved c = elim c.match-sides.branch [
-  | in-FullName+in_ok-push w ↦ rw w.list-is
+  | goal.in-FullName+in_ok-push w ↦ rw w.list-is
       (named_next _ _ _ _ _ (Some _) c.loop-spec_index-test.true c.index-specs-spec_index.is c.loop-spec_index.invariant
       (named_here c.loop-spec_index.spec_index (reading_of c.index-specs-spec_index.result) c.in-Some.sides c.in-Some.ensures (elim w.in-FullName.is [ inl p ↦ rw p.1 tt | inr p ↦ rw p.1 tt ])) w.in_ok-push.ensures.items)
-  | in_default-source w ↦ rw w.list-is
+  | goal.in_default-source w ↦ rw w.list-is
       (named_next _ _ _ _ _ None c.loop-spec_index-test.true c.index-specs-spec_index.is c.loop-spec_index.invariant
       (other_here c.loop-spec_index.spec_index (reading_of c.index-specs-spec_index.result) c.in-Some.sides c.in-Some.ensures (no_name _ w.in_default-source.not-FullName w.in_default-source.not-Partial)) (sym (append-nil _)))
 ]

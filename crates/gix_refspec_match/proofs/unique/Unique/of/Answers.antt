@@ -1,16 +1,7 @@
 -- One more item, which is in the part unless it is flagged.
-use Rattle.std.proofs.Common.{◌≡◌, inl, inr, ℕ, zero, suc, ◌+◌, ◌<◌, List, [], ◌∷◌, ◌++◌, length, map, take, get_or, refl, sym, ap, ◌∙◌, subst, append_assoc, arith}
-use Rattle.std.proofs.lemmas.List.{append-nil, get_or-take, length-take-le, map-append, map_more}
-use Rattle.bstr.specs.BStr.{bstr_bytes}
-use Rattle.gix_refspec_match.specs.declared.types.Item.{Item}
-use Rattle.gix_refspec_text.specs.Matching.Match.{Ref, HasName}
-use Rattle.gix_refspec_match.specs.Views.Mapping.{ref_of}
-use Rattle.gix_refspec_match.specs.Private.Duplicates.{IsDuplicate}
-use Rattle.gix_refspec_match.specs.Private.Orders.{bytes_order, same_texts}
-use Rattle.gix_refspec_match.specs.Private.Part.{IsPart, IsPartBehind}
-use Rattle.gix_refspec_match.proofs.lemmas.lists.JoinLemmas.{map_long}
+use Rattle.gix_refspec_match.proofs.Common.{List, [], ◌∷◌, refl, ◌≡◌, ℕ, ◌++◌, sym, ◌∙◌, arith, inl, inr, subst, ap, append-nil, ◌<◌, length, map, take, ◌+◌, get_or, append_assoc, zero, suc, map_more}
+use Rattle.gix_refspec_match.proofs.Common.{length-take-le, map-append, get_or-take, bstr_bytes, Ref, HasName, IsPartBehind, IsPart, IsDuplicate, bytes_order, same_texts, ref_of, Item, map_long}
 use Rattle.gix_refspec_match.proofs.unique.Unique.of.Goals as goal
-use Rattle.gix_refspec_match.proofs.unique.Unique.of.Goals.{then-not-is_flagged+in_ok-push+in_ok-push-2, else-not-is_flagged}
 
 -- the name of an item
 abbrev name_of : Item → List ℕ
@@ -59,8 +50,8 @@ loop-index-preserved c =
     let d : Item = elim items as (λ l. i < length l → Item) [ [] ↦ λ none. absurd (omega arith) | x ∷ rest ↦ λ some. x ] below in
     let unique = c.loop-index.unique in
     elim c.if-not-is_flagged.branch [
-      | then-not-is_flagged+in_ok-push+in_ok-push-2 w ↦ rw w.unique-is
+      | goal.then-not-is_flagged+in_ok-push+in_ok-push-2 w ↦ rw w.unique-is
           (item_in items i _ below unique.items.items unique.indexes.items c.loop-index.invariant _ _ w.in_ok-push.ensures.items w.in_ok-push-2.ensures.items)
-      | else-not-is_flagged w ↦ rw w.unique-is
+      | goal.else-not-is_flagged w ↦ rw w.unique-is
           (item_left items i d below unique.items.items unique.indexes.items c.loop-index.invariant ((c.in_ok-flags.ensures.ok i).0 (rw c.as_slice.ensures.value at (c.is_flagged.ensures.0 w.if-not-is_flagged.false))))
     ]
