@@ -2,7 +2,7 @@
 -- gitrevisions(7), and not the first in the list of refs.
 use Rattle.gix_refspec_match.proofs.Common.{List, [], ◌∷◌, None, Some, codes, refl, ◌≡◌, ℕ, Option, sym, arith, inl, inr, ◌≢◌, ap, length, same_Some, AllByRecursion, taken_by_first, first_once, FirstCandidate}
 use Rattle.gix_refspec_match.proofs.Common.{fetched, star, Ref, Matches, Takes, HasName, IsFirstCandidate, HasKind, full_name, Excludes, partial, by_pattern, Normal, Negative, Reading, IsMadeFrom, Ends}
-use Rattle.gix_refspec_match.proofs.Common.{AreForwardEnds, AreBackwardEnds, Hit, IsHit, AreSpecHits, AreKeptForward, AreKeptBackward, IsExcluded, IsKeptAt, HasPair}
+use Rattle.gix_refspec_match.proofs.Common.{AreForwardEnds, AreBackwardEnds, Hit, IsHit, AreSpecHits, IsIdMapping, AreKeptForward, AreKeptBackward, IsExcluded, IsKeptAt, HasPair}
 use Rattle.gix_refspec_text.proofs.facts.ManualFacts.{Lacks-tested, named}
 use Rattle.gix_refspec_text.proofs.facts.FitFacts.{below_tags, short_kind, short_no_id}
 use Rattle.gix_refspec_match.proofs.facts.MatchFacts.{mapping, main_candidate, no_main_id}
@@ -137,17 +137,13 @@ tags_excluded = by_pattern (codes "refs/tags/") [] (codes "main") (record { star
 
 -- the choice is made before exclusions: where the tag is left out, the branch isn't mapped in its place
 pub maps_no_branch : AreKeptForward (main_to_x ∷ no_tags ∷ []) branch_and_tag []
-maps_no_branch = record {
-  all = _;
-  forward = record {
-    ids = [];
-    hits = tag_hit ∷ [];
-    are_ids = (None, [], no_main_id 0 main_to_x refl, (None, [], (λ m made. made.positive), refl, refl), refl);
-    are_hits = (tag_hit ∷ [], [], main_hits, ([], [], inr ((λ ends are. are.positive), refl), refl, refl), refl);
-    all = refl;
-  };
-  is = (None, [], (λ m stays. stays.1.included (inr (inl (record { negative = refl; text = _; source = refl; excludes = tags_excluded })))), refl, refl);
-}
+maps_no_branch =
+    let no_ids : IsMadeFrom IsIdMapping 0 (main_to_x ∷ no_tags ∷ []) [] = (None, [], no_main_id 0 main_to_x refl, (None, [], (λ m made. made.positive), refl, refl), refl) in
+    record {
+      all = _;
+      forward = record { ids = []; hits = tag_hit ∷ []; are_ids = no_ids; are_hits = (tag_hit ∷ [], [], main_hits, ([], [], inr ((λ ends are. are.positive), refl), refl, refl), refl); all = refl };
+      is = (None, [], (λ m stays. stays.1.included (inr (inl (record { negative = refl; text = _; source = refl; excludes = tags_excluded })))), refl, refl);
+    }
 
 -- ---- from right to left
 

@@ -1,7 +1,6 @@
 -- The matchers' hits make most of the mappings, and what is kept of these is kept of all.
 use Rattle.gix_refspec_match.proofs.Common.{refl, First, ok_weaker}
-use Rattle.gix_refspec_match.proofs.lemmas.keep.EngineLemmas.{kept_hits, objects_made, sound_among}
-use Rattle.gix_refspec_match.proofs.lemmas.keep.FillLemmas.{adds_both, both_sound}
+use Rattle.gix_refspec_match.proofs.lemmas.{keep.EngineLemmas.kept_hits, keep.EngineLemmas.objects_made, keep.EngineLemmas.sound_among, keep.FillLemmas.adds_both, keep.FillLemmas.both_sound}
 use Rattle.gix_refspec_match.proofs.match_forward.Goals as goal
 
 pub map_forward-requires : goal.map_forward-requires
@@ -16,8 +15,7 @@ pub returns : goal.returns
 returns c =
     let ids = rw (c.in_ok-mappings.ensures.items, c.as_slice.ensures.value) at c.in_ok-map_objects.ensures in
     let first = rw (c.as_slice-list.ensures.value, ids, c.in_ok-later.ensures.items) at c.in_ok-map_forward.ensures in
-    let later = rw (c.as_slice-list.ensures.value, c.in_ok-later.ensures.tail) at c.in_ok-map_forward-2.ensures in
-    let adds = adds_both _ _ _ _ _ _ _ _ _ first later in
+    let adds = adds_both _ _ _ _ _ _ _ _ _ first (rw (c.as_slice-list.ensures.value, c.in_ok-later.ensures.tail) at c.in_ok-map_forward-2.ensures) in
     let made = c.in_ok-matchers.ensures in
     ok_weaker c.without_duplicates.result _ _ (λ kept is.
     let (whole, are, stays) = kept_hits _ First _ _ _ _ _ _ _ made.matchers c.in_ok-hits.ensures c.in_ok-exclusions.ensures.names adds is in

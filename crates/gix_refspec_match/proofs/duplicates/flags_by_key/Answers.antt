@@ -3,15 +3,13 @@ use Rattle.gix_refspec_match.proofs.Common.{refl, arith, flags_all, flags_raised
 use Rattle.gix_refspec_match.proofs.lemmas.duplicates.FirstLemmas.{equal_is_duplicate, first_below, first_inside}
 use Rattle.gix_refspec_match.proofs.duplicates.flags_by_key.Goals as goal
 
-pub offset_bounds-elements-first : goal.offset_bounds-elements-first
-offset_bounds-elements-first g c =
-    let inside = (first_below c.in_ok-firsts.ensures c.loop-index.index _ (omega (arith, c.loop-index-test.true, c.len-index-end.ensures)) c.index.ensures c.if-first-index.false) in
-    omega (arith, inside.0, inside.1)
-
 pub bounds-elements-first : goal.bounds-elements-first
 bounds-elements-first g c =
     let inside = (first_below c.in_ok-firsts.ensures c.loop-index.index _ (omega (arith, c.loop-index-test.true, c.len-index-end.ensures)) c.index.ensures c.if-first-index.false) in
     omega (arith, inside.0, inside.1)
+
+pub offset_bounds-elements-first : goal.offset_bounds-elements-first
+offset_bounds-elements-first g c = let below = bounds-elements-first g c in omega (arith, below)
 
 pub loop-index-preserved : goal.loop-index-preserved
 loop-index-preserved g c =

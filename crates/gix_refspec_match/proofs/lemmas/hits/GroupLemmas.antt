@@ -4,9 +4,7 @@ use Rattle.gix_refspec_match.proofs.Common.{List, [], ◌∷◌, refl, ◌≡◌
 use Rattle.gix_refspec_match.proofs.Common.{get_or-append_seam, get_or_append_left, map-append, IsPositive, Ref, Reading, IsMadeFrom, IsJoinedFrom, Ends, Hit, IsHit, AreSpecHits, AreHits, Mapped, IsSamePair}
 use Rattle.gix_refspec_match.proofs.Common.{HasPair, HaveSameSides, FlagsEqual, mapping_of, Thins, IsFlagged, HaveKinds, HasEnds, TakesIn, AreMatcherOf, AreMatchersOf, Candidates, All, First, Matcher, Matchers}
 use Rattle.gix_refspec_match.proofs.Common.{joined_next}
-use Rattle.gix_refspec_match.proofs.lemmas.hits.FoundLemmas.{made_each, of_hits}
-use Rattle.gix_refspec_match.proofs.lemmas.keep.KeptLemmas.{HasPair-left}
-use Rattle.gix_refspec_match.proofs.lemmas.keep.ThinLemmas.{pair_right, thins_both}
+use Rattle.gix_refspec_match.proofs.lemmas.{hits.FoundLemmas.made_each, hits.FoundLemmas.of_hits, keep.KeptLemmas.HasPair-left, keep.ThinLemmas.pair_right, keep.ThinLemmas.thins_both}
 
 -- the same hit, by the spec at place k
 abbrev at_spec : ℕ → Hit → Hit
@@ -77,11 +75,9 @@ module _ (g : List Reading) (which : Candidates) (items : List Ref) where
   -- one more spec
   most_next : (front : List Reading) (r : Reading) (some more : List Mapped) (hits : List Hit) → SpecHits which items (length front) r hits
       → (so_far : AreMostOf front some) → Thins g (of_hits which so_far.0) (of_hits which hits) more → AreMostOf (front ++ r ∷ []) (some ++ more)
-  most_next front r some more hits are so_far thins = (
-    so_far.0 ++ hits,
-    joined_next (SpecHits which items) (length front) front r so_far.0 hits refl so_far.1 are,
-    rw map-append (thins_both g [] (of_hits which so_far.0) some (of_hits which hits) more so_far.2 thins),
-  )
+  most_next front r some more hits are so_far thins =
+      let joined = joined_next (SpecHits which items) (length front) front r so_far.0 hits refl so_far.1 are in
+      (so_far.0 ++ hits, joined, rw map-append (thins_both g [] (of_hits which so_far.0) some (of_hits which hits) more so_far.2 thins))
 
   -- a spec that is flagged makes nothing new
   flagged_next : (flags : List Bool) (front rest : List Reading) (r : Reading) (some : List Mapped) → FlagsEqual (front ++ (r ∷ rest)) flags → IsFlagged flags (length front) → IsPositive r.mode

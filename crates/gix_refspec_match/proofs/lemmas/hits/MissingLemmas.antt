@@ -4,8 +4,7 @@ use Rattle.gix_refspec_match.proofs.Common.{length-take-le, get_or_default, take
 use Rattle.gix_refspec_match.proofs.Common.{partial, SideKind, Reading, MakesOf, IsMadeFrom, AreMissing, LacksSource, HasNone, IsIndexFor, TakesWhole, ArePlacesTaken, AreNamed, HasNoSides, HaveSides, IsNamed}
 use Rattle.gix_refspec_match.proofs.Common.{IsNameKind, Index, All, Matcher, Sides, made_more, made_next, made_none}
 use Rattle.gix_refspec_text.specs.declared.side.SideKind.TheVariants as side
-use Rattle.gix_refspec_match.proofs.lemmas.hits.HitLemmas.{one_kind}
-use Rattle.gix_refspec_match.proofs.lemmas.hits.MatcherLemmas.{side_shown}
+use Rattle.gix_refspec_match.proofs.lemmas.{hits.HitLemmas.one_kind, hits.MatcherLemmas.side_shown}
 
 -- what a read past the end gives
 abbrev pub blank_matcher : Matcher

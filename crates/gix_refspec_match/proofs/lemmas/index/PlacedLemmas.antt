@@ -36,13 +36,9 @@ through : (which : Candidates) (items : List Ref) (kind : SideKind) (k : ℕ) (P
     (hits : List DeclaredHit) → rest ≡ drop j items → IsMadeFrom (λ n r place. P r × (place ≡ n)) j rest places
     → IsMadeFrom (IsMatchedAt items kind k) i places hits → IsMadeFrom (IsFound which items kind k) j rest hits
 through which items kind k P each j [] places i hits at none over = rw none at over
-through which items kind k P each j (r ∷ rest) places i hits at (None, others, none, more, same) over = (
-  None,
-  hits,
-  (λ hit is. none j (((each r).0 is.0).0, refl)),
-  through which items kind k P each (j + 1) rest others i hits (read_cut items j r rest at).1 more (rw same at over),
-  refl,
-)
+through which items kind k P each j (r ∷ rest) places i hits at (None, others, none, more, same) over =
+    let later = through which items kind k P each (j + 1) rest others i hits (read_cut items j r rest at).1 more (rw same at over) in
+    (None, hits, (λ hit is. none j (((each r).0 is.0).0, refl)), later, refl)
 through which items kind k P each j (r ∷ rest) places i hits at (Some place, others, here, more, same) over =
     let (made, further, makes, behind, all) : IsMadeFrom (IsMatchedAt items kind k) i (place ∷ others) hits = rw same at over in
     (made, further, of made makes, through which items kind k P each (j + 1) rest others (i + 1) further (read_cut items j r rest at).1 more behind, all)

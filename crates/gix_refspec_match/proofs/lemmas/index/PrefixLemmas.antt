@@ -3,8 +3,7 @@ use Rattle.gix_refspec_match.proofs.Common.{List, [], ◌∷◌, None, Some, ref
 use Rattle.gix_refspec_match.proofs.Common.{length-append, take-append-drop, take-append_seam, cases_Bool, cases_eq, cases_lt, length-take-le, nil_from_length, AllByRecursion, bstr_bytes, BeginsWith}
 use Rattle.gix_refspec_match.proofs.Common.{HavePlaces, AddsPlace, HaveLengths, ListPrefixes, IsFlagged, ref_of, Item, made_more}
 use Rattle.std.specs.Global.{Vec}
-use Rattle.gix_refspec_match.proofs.lemmas.index.IndexLemmas.{Listed, Puts, put_cases}
-use Rattle.gix_refspec_match.proofs.lemmas.index.PlacesLemmas.{all_at}
+use Rattle.gix_refspec_match.proofs.lemmas.{index.IndexLemmas.Listed, index.IndexLemmas.Puts, index.IndexLemmas.put_cases, index.PlacesLemmas.all_at}
 
 -- a name begins with what is taken from it, and with nothing else of that length
 begins_taken : (n : List ℕ) (l : ℕ) → BeginsWith (take l n) n

@@ -15,9 +15,6 @@ short_tail-append before x long =
 pub candidate_marked : (t : ShortTails) (n x : List ℕ) → AreWholeTails t → t.any ≡ false → HasTail t x → IsCandidate x n → HasNumber t.tails (short_tail_number n)
 candidate_marked t n x whole none has one = elim (candidate_cases x n one) [
   | inl (before, folder, is) ↦ rw is (search (rules, short_tail-append before x))
-  | inr head ↦ rw (
-    head,
-    short_tail-append (codes "refs/remotes/") (x ++ codes "/HEAD") (omega (arith, length-append x (codes "/HEAD"))),
-    short_tail-append x (codes "/HEAD") (omega arith),
-  ) whole.head
+  | inr head ↦
+      rw (head, short_tail-append (codes "refs/remotes/") (x ++ codes "/HEAD") (omega (arith, length-append x (codes "/HEAD"))), short_tail-append x (codes "/HEAD") (omega arith)) whole.head
 ]

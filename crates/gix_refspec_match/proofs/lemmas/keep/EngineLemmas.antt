@@ -4,12 +4,9 @@ use Rattle.gix_refspec_match.proofs.Common.{slice_get, IsSome, common_steps, dro
 use Rattle.gix_refspec_match.proofs.Common.{kind_of_side, id_bytes, DeclaredKind as SideKind, Ref, Reading, MakesOf, IsMadeFrom, IsJoinedFrom, place_among, Hit, AreHits, IsIdMapping, Mapped, IsKept, AddsMapped}
 use Rattle.gix_refspec_match.proofs.Common.{Thins, IsMappedHit, hit_of, object_mapping, AreFound, turned, hit_at, AreHitsAmong, AreSound, IsSound, AreExclusionsOf, HasEnds, TakesIn, AreMatcherOf, AreMatchersOf}
 use Rattle.gix_refspec_match.proofs.Common.{AreObjectOf, HaveOthers, HasSideKind, IsMatched, Exclusions, DeclaredHit, Candidates, All, Matcher, Matchers, ObjectSpec}
-use Rattle.gix_refspec_match.proofs.lemmas.hits.FoundLemmas.{blank, of_hits}
-use Rattle.gix_refspec_match.proofs.lemmas.hits.GroupLemmas.{FindEnough, most_found}
-use Rattle.gix_refspec_match.proofs.lemmas.hits.HitLemmas.{far_filled}
-use Rattle.gix_refspec_match.proofs.lemmas.keep.KeptLemmas.{AreIncluded, kept_included, starts_agree}
-use Rattle.gix_refspec_match.proofs.lemmas.keep.PartLemmas.{all_enough, once_enough, part_read}
-use Rattle.gix_refspec_match.proofs.lemmas.keep.ThinLemmas.{kept_thinned, thins_all, thins_behind, thins_both}
+use Rattle.gix_refspec_match.proofs.lemmas.{hits.FoundLemmas.blank, hits.FoundLemmas.of_hits, hits.GroupLemmas.FindEnough, hits.GroupLemmas.most_found, hits.HitLemmas.far_filled}
+use Rattle.gix_refspec_match.proofs.lemmas.{keep.KeptLemmas.AreIncluded, keep.KeptLemmas.kept_included, keep.KeptLemmas.starts_agree, keep.PartLemmas.all_enough, keep.PartLemmas.once_enough}
+use Rattle.gix_refspec_match.proofs.lemmas.{keep.PartLemmas.part_read, keep.ThinLemmas.kept_thinned, keep.ThinLemmas.thins_all, keep.ThinLemmas.thins_behind, keep.ThinLemmas.thins_both}
 
 -- ---- lists that are made or joined from others, element by element
 
@@ -78,30 +75,15 @@ mapped_thins g which es ms items k (h ∷ hits) made before are (Some y, rest, o
 
 pub objects_made : (k : ℕ) (g : List Reading) (os : List ObjectSpec) → IsJoinedFrom AreObjectOf k g os → IsMadeFrom IsIdMapping k g (map object_mapping os)
 objects_made k [] os none = ap (map object_mapping) none
-objects_made k (r ∷ g) os (made, rest, inl (o, is, one), more, all) = (
-  Some (object_mapping o),
-  map object_mapping rest,
-  record {
-    positive = is.asks.positive;
-    text = is.asks.text;
-    bytes = id_bytes o.id;
-    side = is.asks.side;
-    object = is.asks.kind;
-    item = refl;
-    source = refl;
-    destination = far_filled r.destination o.destination None (object_mapping o).destination is.destination refl;
-    spec = is.spec;
-  },
-  objects_made (k + 1) g rest more,
-  rw (all, one) refl,
-)
-objects_made k (r ∷ g) os (made, rest, inr (none, empty), more, all) = (
-  None,
-  map object_mapping rest,
-  (λ m is. none is.bytes (record { positive = is.positive; text = is.text; side = is.side; kind = is.object })),
-  objects_made (k + 1) g rest more,
-  rw (all, empty) refl,
-)
+objects_made k (r ∷ g) os (made, rest, inl (o, is, one), more, all) =
+    let asks = is.asks in
+    let far = far_filled r.destination o.destination None (object_mapping o).destination is.destination refl in
+    let here : IsIdMapping k r (object_mapping o) =
+    record { positive = asks.positive; text = asks.text; bytes = id_bytes o.id; side = asks.side; object = asks.kind; item = refl; source = refl; destination = far; spec = is.spec } in
+    (Some (object_mapping o), map object_mapping rest, here, objects_made (k + 1) g rest more, rw (all, one) refl)
+objects_made k (r ∷ g) os (made, rest, inr (none, empty), more, all) =
+    let nothing : (m : Mapped) → ¬ (IsIdMapping k r m) = λ m is. none is.bytes (record { positive = is.positive; text = is.text; side = is.side; kind = is.object }) in
+    (None, map object_mapping rest, nothing, objects_made (k + 1) g rest more, rw (all, empty) refl)
 
 ids_included : (g : List Reading) (os : List ObjectSpec) (made : List Mapped) → AreIncluded g made → AreIncluded g (map object_mapping os ++ made)
 ids_included g [] made free = free

@@ -4,12 +4,9 @@ use Rattle.gix_refspec_match.proofs.Common.{◌↔◌, zero, suc, length-append,
 use Rattle.gix_refspec_match.proofs.Common.{MatchesAs, pattern, object, full_name, partial, SideKind, IsCandidate, Reading, IsMadeFrom, IsPartBehind, IsPart, Ends, IsHit, Mapped, IsSamePair, HasPair}
 use Rattle.gix_refspec_match.proofs.Common.{mapping_of, Thins, hit_of, hit_by, AreFound, turned, hit_at, IsFound, HaveKinds, TakesIn, filled_side, IsFirstIn, IsTaken, word_in, DeclaredHit, Candidates, All}
 use Rattle.gix_refspec_match.proofs.Common.{First, Matcher}
-use Rattle.gix_refspec_match.proofs.lemmas.keep.KeptLemmas.{HasPair-left, HasPair-last}
-use Rattle.gix_refspec_match.proofs.lemmas.keep.ThinLemmas.{cut, pair_alike, thins_all, thins_behind}
-use Rattle.gix_refspec_match.proofs.lemmas.index.FirstPlacesLemmas.{has_cases}
-use Rattle.gix_refspec_match.proofs.lemmas.hits.FoundLemmas.{blank, made_each, of_hits}
-use Rattle.gix_refspec_match.proofs.lemmas.hits.GroupLemmas.{FindsEnough}
-use Rattle.gix_refspec_match.proofs.lemmas.hits.HitLemmas.{is_hit, matches_as, taken_first, taken_matches}
+use Rattle.gix_refspec_match.proofs.lemmas.{keep.KeptLemmas.HasPair-left, keep.KeptLemmas.HasPair-last, keep.ThinLemmas.cut, keep.ThinLemmas.pair_alike, keep.ThinLemmas.thins_all}
+use Rattle.gix_refspec_match.proofs.lemmas.{keep.ThinLemmas.thins_behind, index.FirstPlacesLemmas.has_cases, hits.FoundLemmas.blank, hits.FoundLemmas.made_each, hits.FoundLemmas.of_hits}
+use Rattle.gix_refspec_match.proofs.lemmas.{hits.GroupLemmas.FindsEnough, hits.HitLemmas.is_hit, hits.HitLemmas.matches_as, hits.HitLemmas.taken_first, hits.HitLemmas.taken_matches}
 
 -- ---- the hits of a matcher
 
@@ -40,16 +37,9 @@ found_hits which ms items ends k m found at have are =
           let far = ap (filled_side m.other) (sym (matched_word kind r word matches)) in
           let seen : hit_of ms items h ≡ hit_by m i r = ap (hit_of ms items) of.1 ∙ hit_seen ms items k i m d at below in
           rw seen (is_hit which items ends m m.spec_index i r word (hit_by m i r) have matches of.0.first far refl refl refl)),
-      (λ hit here. (
-        hit_at k i,
-        (
-          record {
-            matched = (here.word, matches_as ends.near kind r here.word have.near (taken_matches which items ends.near r here.word here.takes));
-            first = taken_first which items ends.near kind r here.word have.near here.takes;
-          },
-          refl,
-        ),
-      )),
+      (λ hit here.
+          let matched = matches_as ends.near kind r here.word have.near (taken_matches which items ends.near r here.word here.takes) in
+          (hit_at k i, (record { matched = (here.word, matched); first = taken_first which items ends.near kind r here.word have.near here.takes }, refl))),
     )) are
 
 -- ---- names of the part
@@ -106,13 +96,9 @@ matched_named (object id) r s word plain same is = absurd (plain id refl)
 matched_named (partial n) r s word plain same is = (is.0, subst (IsCandidate n) same is.1)
 
 first_named : (kind : SideKind) (which : Candidates) (a b : List Ref) (n : List ℕ) → SameNames a b → IsFirstIn kind which a n → IsFirstIn kind which b n
-first_named (partial x) First a b n names first = record {
-  earlier = first.earlier;
-  later = first.later;
-  here = first.here;
-  absent = all_weaker (λ m. ¬ (HasName a m)) (λ m. ¬ (HasName b m)) (λ m none has. none ((names m).1 has)) first.earlier first.absent;
-  present = (names n).0 first.present;
-}
+first_named (partial x) First a b n names first =
+    let absent = all_weaker (λ m. ¬ (HasName a m)) (λ m. ¬ (HasName b m)) (λ m none has. none ((names m).1 has)) first.earlier first.absent in
+    record { earlier = first.earlier; later = first.later; here = first.here; absent = absent; present = (names n).0 first.present }
 first_named kind which a b n names first = tt
 
 -- over lists of the same names a needle takes refs of one name alike

@@ -8,8 +8,7 @@ returns-in_ok-insert-in-None-clause-names c n =
     let source = sym c.source.ensures ∙ ap (option_map bstr_bytes) c.in-Some.is in
     let excludes = name_excludes (reading_of c.args.spec) _ (search rules) source (rw c.as_bytes.ensures at c.in-None.ensures) n in
     let more = index_more (index_of c.args.self.now.names) (index_of c.insert.new.self) c.as_bytes-name.result.now c.args.spec_index (λ q. c.in_ok-insert-in-None.ensures.updates.0 (key_of c.as_bytes-name.result q)) n in
-    let names = rw c.as_bytes-name.ensures at more.0 in
-    grind (arith, excludes, names)
+    grind (arith, excludes, rw c.as_bytes-name.ensures at more.0)
 
 pub returns-in_ok-insert-in-None-clause-indexes : goal.returns-in_ok-insert-in-None-clause-indexes
 returns-in_ok-insert-in-None-clause-indexes c n k at =
@@ -22,18 +21,15 @@ pub returns-in_ok-push-in-Some-split_at_first_star-clause-names : goal.returns-i
 returns-in_ok-push-in-Some-split_at_first_star-clause-names c n =
     let source = sym c.source.ensures ∙ ap (option_map bstr_bytes) c.in-Some.is in
     let cut = c.in-Some-split_at_first_star in
-    let starred = sym c.as_bytes.ensures ∙ cut.ensures.0 in
-    let excludes = pattern_excludes (reading_of c.args.spec) _ _ _ c.args.spec.accepted (search rules) source starred cut.ensures.1 n in
+    let excludes = pattern_excludes (reading_of c.args.spec) _ _ _ c.args.spec.accepted (search rules) source (sym c.as_bytes.ensures ∙ cut.ensures.0) cut.ensures.1 n in
     let p : Pattern = record { before = cut.before; after = cut.after; spec_index = c.args.spec_index } in
-    let fitted = Any-push-cases (λ p. FitsName p n) c.args.self.now.patterns.items p in
-    rw c.in_ok-push-in-Some-split_at_first_star.ensures.items (grind (arith, excludes, fitted))
+    rw c.in_ok-push-in-Some-split_at_first_star.ensures.items (grind (arith, excludes, Any-push-cases (λ p. FitsName p n) c.args.self.now.patterns.items p))
 
 pub returns-in_ok-push-in-Some-split_at_first_star-clause-indexes : goal.returns-in_ok-push-in-Some-split_at_first_star-clause-indexes
 returns-in_ok-push-in-Some-split_at_first_star-clause-indexes c n k =
     let source = sym c.source.ensures ∙ ap (option_map bstr_bytes) c.in-Some.is in
     let cut = c.in-Some-split_at_first_star in
-    let starred = sym c.as_bytes.ensures ∙ cut.ensures.0 in
-    let excludes = pattern_excludes (reading_of c.args.spec) _ _ _ c.args.spec.accepted (search rules) source starred cut.ensures.1 n in
+    let excludes = pattern_excludes (reading_of c.args.spec) _ _ _ c.args.spec.accepted (search rules) source (sym c.as_bytes.ensures ∙ cut.ensures.0) cut.ensures.1 n in
     let p : Pattern = record { before = cut.before; after = cut.after; spec_index = c.args.spec_index } in
     let fitted = Any-push-cases (λ q. (q.spec_index ≡ k) × FitsName q n) c.args.self.now.patterns.items p in
     rw c.in_ok-push-in-Some-split_at_first_star.ensures.items (λ at. elim at [
