@@ -1,7 +1,7 @@
 -- The words on hits and mappings on the other side of their border: which specs have no such ends, which
 -- items no hit, and which mappings no place.
 use Rattle.gix_refspec_match.proofs.Common.{List, [], ◌∷◌, None, Some, codes, refl, ◌≡◌, ℕ, Option, arith, inl, inr, subst, false≢true, same_Some, prefix_begins, of_name, fetched, pushed, star, Ref, Matches}
-use Rattle.gix_refspec_match.proofs.Common.{Takes, pattern, object, HasKind, Normal, Forced, Negative, IsMadeFrom, Ends, AreForwardEnds, AreBackwardEnds, IsFilled, Hit, IsHit, AreSpecHits, AreHits, forward_of}
+use Rattle.gix_refspec_match.proofs.Common.{Takes, pattern, HasKind, Normal, Forced, Negative, IsMadeFrom, Ends, AreForwardEnds, AreBackwardEnds, IsFilled, Hit, IsHit, AreSpecHits, AreHits, forward_of}
 use Rattle.gix_refspec_match.proofs.Common.{backward_of, IsIdMapping, AreBackward, name, id, Mapped, IsExcludedBy, IsExcluded, IsKeptAt, IsKept, IsSamePair, nothing_made}
 use Rattle.gix_refspec_text.proofs.facts.{FaultFacts.begins_not, ManualFacts.Lacks-tested, ManualFacts.other_length, ManualFacts.none_some, ManualFacts.some_none, ObjectIdFacts.empty_blob}
 use Rattle.gix_refspec_text.proofs.facts.FitFacts.{every, no_dev, excludes_dev, short, blob, blob_kind, dev_ref, main_ref}
