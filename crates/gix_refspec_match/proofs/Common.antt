@@ -1,8 +1,8 @@
 -- The names that most proofs of this crate cite, passed on from one place. Declares nothing.
 pub use Rattle.std.proofs.Common.{List, [], ◌∷◌, None, Some, codes, refl, ◌≡◌, ℕ, true, false, ◌++◌, Option, Less, Equal, Greater, sym, ◌∙◌, arith, inl, inr, ◌≢◌, is_some, subst, ap, append-nil, ◌<◌}
 pub use Rattle.std.proofs.Common.{length, map, take, drop, ◌+◌, get_or, slice_set, append_assoc, take_all, rules, option_map, ◌⊎◌, ◌≤◌, ◌*◌, ◌%◌, ◌^◌, ◌↔◌, zero, suc, option_to_list, MatchOption, Bor}
-pub use Rattle.std.proofs.Common.{IsTrue, Bool, zero-add, add-zero, length-append, take-append-drop, drop-cons, MatchBool, length-drop, cond, Vec, bytes_eq, ◌-◌, Result, Ok, Err, Ordering, set, eqb, ◌/◌}
-pub use Rattle.std.proofs.Common.{not, bit_or, slice_get, IsSome, HashMap, nat_eq, option_copied, Global}
+pub use Rattle.std.proofs.Common.{IsTrue, Bool, zero-add, add-zero, length-append, take-append-drop, drop-cons, MatchBool, length-drop, cond, bytes_eq, ◌-◌, Result, Ok, Err, Ordering, set, eqb, ◌/◌}
+pub use Rattle.std.proofs.Common.{not, bit_or, slice_get, IsSome, HashMap, nat_eq, option_copied}
 pub use Rattle.std.proofs.Math.{Nat.mod-eq_of_lt, Nat.div-mul-le_self, Pow.shr_mono, Pow.pow-lt}
 pub use Rattle.std.proofs.Math.Seq.{get_or-append_seam, take-append_seam, drop-append-add, drop-append_seam}
 pub use Rattle.std.proofs.lemmas.{Bool.Decides.nat_tests, Bool.Decides.not_from_Decides, Bool.Decides.Decides-eqb, Bool.Decides.same_from_decides, Fn.always_returns_same, Grind.common_steps}
@@ -19,7 +19,7 @@ pub use Rattle.std.proofs.lemmas.List.Sorted.{All-permutation, Contains-permutat
 pub use Rattle.std.proofs.lemmas.Map.Keys.{IsDistinct-IsPermutation, IsDistinct-from_apart, apart_from_distinct, ge_from_not_lt}
 pub use Rattle.std.proofs.lemmas.Nat.{pow_below, pow_pos, div-mul-add, mod-mul-add, or_shifted, shr_split, and_mask, leading_length}
 pub use Rattle.std.proofs.lemmas.Option.{same_Some, MatchOption-at_none, slice_get-map, slice_get-get_or, gets, get_or_from_slice_get, slice_get_within}
-pub use Rattle.std.specs.{Cmp.IsTotalOrder, Cmp.Lexicographic.slice_cmp, Cmp.Lexicographic.bytes_decides, Cmp.Lexicographic.pointwise_decides, Cmp.Lexicographic.texts_ties, HashMap.hash_map_len}
+pub use Rattle.std.specs.{Cmp.IsTotalOrder, Cmp.Lexicographic.slice_cmp, Cmp.Lexicographic.bytes_decides, Cmp.Lexicographic.pointwise_decides, Cmp.Lexicographic.texts_ties, Global.Vec, HashMap.hash_map_len}
 pub use Rattle.std.specs.{HashMap.IsEmpty, List.Sorted.IsPermutation, List.Sorted.IsSorted, Map.lookup, Option.option_eq, Prelude.pos, Prelude.IfOk, Vec.vec_len}
 pub use Rattle.std.specs.List.{AllByRecursion, Contains, SwappedAt, filter, IsDistinct}
 pub use Rattle.std.specs.Ordering.{nat_cmp, bool_cmp, ordering_then, is_eq, is_ne, is_lt, ordering_reverse}

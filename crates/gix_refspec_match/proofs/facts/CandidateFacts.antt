@@ -43,11 +43,7 @@ no_tag same = omega (arith, ap length same)
 
 -- so the branch isn't the first, nor is a name that no ref has
 pub no_other_first : ¬ (IsFirstCandidate branch_and_tag (codes "main") (codes "refs/heads/main")) × ¬ (IsFirstCandidate branch_and_tag (codes "main") (codes "main")) × ¬ (IsFirstCandidate [] (codes "main") (codes "refs/tags/main"))
-no_other_first = (
-  (λ first. no_tag (first_once branch_and_tag (codes "main") (codes "refs/tags/main") (codes "refs/heads/main") tag_first first)),
-  (λ first. no_main first.present),
-  λ first. first.present,
-)
+no_other_first = ((λ first. no_tag (first_once branch_and_tag (codes "main") (codes "refs/tags/main") (codes "refs/heads/main") tag_first first)), (λ first. no_main first.present), λ first. first.present)
 
 -- the name by itself is before all others
 pub itself_first : IsFirstCandidate (main_branch ∷ main_tag ∷ just_main ∷ []) (codes "main") (codes "main")
@@ -121,8 +117,7 @@ main_hits : AreSpecHits AreForwardEnds (Takes branch_and_tag) branch_and_tag 0 m
 main_hits = inl (main_ends, record { positive = tt; near = refl; far = refl; no_object = λ bytes kind. short_no_id bytes kind.2 }, (None, tag_hit ∷ [], branch_not_taken, (Some tag_hit, [], tag_taken, refl, refl), refl))
 
 pub not_excluded : (n : List ℕ) → ¬ (IsExcluded (main_to_x ∷ []) n)
-not_excluded n (inl by) = cc (by.negative)
-not_excluded n (inr none) = none
+not_excluded n by = grind arith
 
 -- a branch that is before its tag isn't mapped, and the tag is
 pub maps_the_tag : AreKeptForward (main_to_x ∷ []) branch_and_tag (mapping 1 (codes "refs/tags/main") (Some (codes "refs/x")) 0 ∷ [])
@@ -167,8 +162,7 @@ tag_matches : Matches (codes "main") main_tag None
 tag_matches = takes_the_tag.0.matches
 
 q_not_excluded : (n : List ℕ) → ¬ (IsExcluded (q_to_main ∷ []) n)
-q_not_excluded n (inl by) = cc (by.negative)
-q_not_excluded n (inr none) = none
+q_not_excluded n by = grind arith
 
 no_branch_pair : ¬ (HasPair (mapping 0 (codes "refs/q") (Some (codes "refs/heads/main")) 0 ∷ []) (mapping 1 (codes "refs/q") (Some (codes "refs/tags/main")) 0))
 no_branch_pair (inl same) = no_tag (same_Some (codes "refs/tags/main") (codes "refs/heads/main") (sym same.destination))

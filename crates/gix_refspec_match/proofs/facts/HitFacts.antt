@@ -11,14 +11,7 @@ use Rattle.gix_refspec_match.proofs.facts.MatchFacts.{blob_mapping, mapping, tag
 
 -- a negative spec excludes wherever it is, and a positive one doesn't, nor one without a source
 pub exclusions : IsExcluded (no_dev ∷ every ∷ []) (codes "refs/heads/dev-a") × ¬ (IsExcluded (every ∷ []) (codes "refs/heads/dev-a")) × ¬ (IsExcluded [] (codes "refs/heads/dev-a")) × ¬ (IsExcludedBy (codes "a") (pushed Negative None (Some (codes "a"))))
-exclusions = (inl dev_excluded_by, positive, (λ none. none), λ by. none_some by.text by.source)
-  where
-    dev_excluded_by : IsExcludedBy (codes "refs/heads/dev-a") no_dev
-    dev_excluded_by = record { negative = refl; text = _; source = refl; excludes = excludes_dev }
-
-    positive : ¬ (IsExcluded (every ∷ []) (codes "refs/heads/dev-a"))
-    positive (inl by) = cc (by.negative)
-    positive (inr none) = none
+exclusions = (inl (record { negative = refl; text = _; source = refl; excludes = excludes_dev }), (λ by. grind arith), (λ none. none), λ by. none_some by.text by.source)
 
 -- of two equal pairs the first is kept, and of a list only what is before counts
 pub stays_first : IsKeptAt [] (tag_to_x ∷ tag_again ∷ []) 0 tag_to_x × ¬ (IsKeptAt [] (tag_to_x ∷ tag_again ∷ []) 1 tag_again) × IsKept [] (tag_to_x ∷ tag_again ∷ []) (tag_to_x ∷ [])
@@ -85,7 +78,7 @@ hits_by_spec = (of_spec 0, of_spec 1, inl (forward_ends, are_forward_ends, taken
 
 -- a spec that takes an item has its hit, and one without such ends has none
 pub spec_hits : ¬ (AreSpecHits AreForwardEnds (Takes (main_ref ∷ [])) (main_ref ∷ []) 0 every []) × AreSpecHits AreForwardEnds (Takes branches) branches 0 no_dev [] × ¬ (AreSpecHits AreForwardEnds (Takes branches) branches 0 no_dev (of_spec 0))
-spec_hits = (missing, inr ((λ ends are. are.positive), refl), added)
+spec_hits = (missing, inr ((λ ends are. are.positive), refl), λ hits. grind arith)
   where
     missing : ¬ (AreSpecHits AreForwardEnds (Takes (main_ref ∷ [])) (main_ref ∷ []) 0 every [])
     missing (inl (ends, are, made)) =
@@ -95,10 +88,6 @@ spec_hits = (missing, inr ((λ ends are. are.positive), refl), added)
         let filled = subst (λ (far : Option (List ℕ)). IsFilled far is.word (Some (codes "refs/remotes/origin/main"))) are.far is.far in
         nothing_made (IsHit (Takes (main_ref ∷ [])) ends 0) 0 [] main_ref [] (hit_by 0 0 (codes "main")) made (record { word = is.word; takes = takes; far = filled; near = refl; spec = refl; item = refl })
     missing (inr (no_ends, same)) = no_ends forward_ends are_forward_ends
-
-    added : ¬ (AreSpecHits AreForwardEnds (Takes branches) branches 0 no_dev (of_spec 0))
-    added (inl (ends, are, made)) = are.positive
-    added (inr (no_ends, same)) = cc
 
 -- an item's name is the source in one which, and the destination in the other
 pub mapped_hits : (forward_of (record { spec = 5; item = 3; near = codes "a"; far = Some (codes "b") }) ≡ mapping 3 (codes "a") (Some (codes "b")) 5)

@@ -93,8 +93,7 @@ fetches_all_but_dev =
     (Some dev, main ∷ again ∷ [], taken_by items 0 0 (codes "dev-a"), (None, main ∷ again ∷ [], takes_no_tag items 1, mains, refl), refl) in
     let kept = tracked 2 (codes "main") in
     let same : IsSamePair kept (tracked 3 (codes "main")) = record { source = refl; destination = refl } in
-    let no_ids : IsMadeFrom IsIdMapping 0 (every ∷ no_dev ∷ []) [] =
-    (None, [], no_id_mapping 0 every (codes "refs/heads/*") refl heads_below, (None, [], no_id_negative 1 no_dev refl, refl, refl), refl) in
+    let no_ids : IsMadeFrom IsIdMapping 0 (every ∷ no_dev ∷ []) [] = (None, [], no_id_mapping 0 every (codes "refs/heads/*") refl heads_below, (None, [], no_id_negative 1 no_dev refl, refl, refl), refl) in
     let hits = hits_of_every AreForwardEnds (Takes items) items (dev ∷ main ∷ again ∷ []) forward_ends are_forward_ends (λ ends has. has.positive) taken in
     record {
       all = _;
@@ -122,8 +121,7 @@ tracks_all_but_dev =
     let items = named (codes "refs/remotes/origin/dev-a") ∷ named (codes "refs/remotes/origin/main") ∷ [] in
     let dev = back_hit 0 (codes "dev-a") in
     let main = back_hit 1 (codes "main") in
-    let taken : IsMadeFrom (IsHit Matches backward_ends 0) 0 items (dev ∷ main ∷ []) =
-    (Some dev, main ∷ [], takes_back 0 (codes "dev-a"), (Some main, [], takes_back 1 (codes "main"), refl, refl), refl) in
+    let taken : IsMadeFrom (IsHit Matches backward_ends 0) 0 items (dev ∷ main ∷ []) = (Some dev, main ∷ [], takes_back 0 (codes "dev-a"), (Some main, [], takes_back 1 (codes "main"), refl, refl), refl) in
     let ends : AreBackwardEnds every backward_ends = record { positive = tt; near = refl; far = refl; both = refl } in
     record {
       all = _;
@@ -213,14 +211,5 @@ asks_for_ids_first =
     record {
       all = _;
       forward = record { ids = blob_mapping ∷ []; hits = hit ∷ []; are_ids = ids; are_hits = hits; all = refl };
-      is = (Some blob_mapping, main ∷ [], (refl, record { first = λ none. none; included = λ none. none }), (Some main, [], (refl, record { first = other_start; included = no_exclusion }), refl, refl), refl);
+      is = (Some blob_mapping, main ∷ [], (refl, record { first = λ none. none; included = λ none. none }), (Some main, [], (refl, record { first = λ has. grind arith; included = λ by. grind arith }), refl, refl), refl);
     }
-  where
-    other_start : ¬ (HasPair (blob_mapping ∷ []) (mapping 0 (codes "refs/heads/main") None 0))
-    other_start (inl same) = cc (same.source)
-    other_start (inr none) = none
-
-    no_exclusion : ¬ (IsSourceExcluded (short ∷ blob ∷ []) (name (codes "refs/heads/main")))
-    no_exclusion (inl by) = cc (by.negative)
-    no_exclusion (inr (inl by)) = cc (by.negative)
-    no_exclusion (inr (inr none)) = none

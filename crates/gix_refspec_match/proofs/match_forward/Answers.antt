@@ -4,8 +4,7 @@ use Rattle.gix_refspec_match.proofs.lemmas.{keep.EngineLemmas.kept_hits, keep.En
 use Rattle.gix_refspec_match.proofs.match_forward.Goals as goal
 
 pub map_forward-requires : goal.map_forward-requires
-map_forward-requires c =
-    rw c.as_slice-list.ensures.value (both_sound _ _ _ _ _ _ c.in_ok-later.ensures.items c.in_ok-later.ensures.tail (sound_among c.in_ok-matchers.matchers _ _ c.in_ok-hits.ensures)).0
+map_forward-requires c = rw c.as_slice-list.ensures.value (both_sound _ _ _ _ _ _ c.in_ok-later.ensures.items c.in_ok-later.ensures.tail (sound_among c.in_ok-matchers.matchers _ _ c.in_ok-hits.ensures)).0
 
 pub map_forward-requires-2 : goal.map_forward-requires-2
 map_forward-requires-2 c =

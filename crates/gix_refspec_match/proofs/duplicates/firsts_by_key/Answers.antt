@@ -4,8 +4,7 @@ use Rattle.gix_refspec_match.proofs.lemmas.duplicates.FirstLemmas.{all_first, ar
 use Rattle.gix_refspec_match.proofs.duplicates.firsts_by_key.Goals as goal
 
 pub loop-at-init : goal.loop-at-init
-loop-at-init c =
-    rw c.new-firsts.ensures.items (record { before = omega arith; same = refl; size = inl refl; back = λ k. omega arith; found = λ i below k second. absurd (omega (arith, second.later)) })
+loop-at-init c = rw c.new-firsts.ensures.items (record { before = omega arith; same = refl; size = inl refl; back = λ k. omega arith; found = λ i below k second. absurd (omega (arith, second.later)) })
 
 pub bounds-keys-first : goal.bounds-keys-first
 bounds-keys-first c = omega (arith, c.loop-at.invariant.before)

@@ -16,11 +16,10 @@ one_written f now old i d x below is so_far =
 pub loop-hit-preserved : goal.loop-hit-preserved
 loop-hit-preserved c =
     let now = c.loop-hit.hits in
-    let old = c.args.hits.now in
     let indexes = c.args.indexes.now in
     let i = c.loop-hit.hit-index in
     let was = get_or now i (hit_at 0 0) in
-    let written = λ (x : Hit) (is : x ≡ turned indexes was). one_written (turned indexes) now old i (hit_at 0 0) x c.loop-hit-test.true is c.loop-hit.invariant in
+    let written = λ (x : Hit) (is : x ≡ turned indexes was). one_written (turned indexes) now c.args.hits.now i (hit_at 0 0) x c.loop-hit-test.true is c.loop-hit.invariant in
     elim c.match-get.branch [
       | goal.in-Some w ↦ rw w.hits-is (written _ (ap (hit_at was.matcher) (w.in-Some.ensures.lookup.3.1 was.item)))
       | goal.in_default w ↦ rw w.hits-is (written was (ap (hit_at was.matcher) (sym (get_or_past indexes was.item was.item (ltb-false was.item (length indexes) (sym w.in_default.ensures.lookup.0))))))

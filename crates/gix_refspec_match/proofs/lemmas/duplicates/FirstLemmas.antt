@@ -26,13 +26,8 @@ module _ {len bits : ℕ} {keys firsts : List ℕ} {first at : ℕ} (are : AreFi
 
   -- all are first in their runs as long as nothing is written
   pub all_first : {filled : List ℕ} → firsts ≡ [] → AreIndexesBelow len filled → AreFirstsBelow len bits keys filled first at
-  all_first empty filled = record {
-    before = are.before;
-    same = are.same;
-    size = inr filled.size;
-    back = λ k. omega (arith, filled.at k);
-    found = λ i below k second. grind (arith, elements, are.found i below k second, empty);
-  }
+  all_first empty filled =
+      record { before = are.before; same = are.same; size = inr filled.size; back = λ k. omega (arith, filled.at k); found = λ i below k second. grind (arith, elements, are.found i below k second, empty) }
 
   -- the key at `at` belongs to the run
   pub run_goes_on : Rises keys → All (λ key. key % 2 ^ bits < len) keys → length firsts ≡ len → at < length keys → HaveSameUpper bits (get_or keys first 0) (get_or keys at 0)

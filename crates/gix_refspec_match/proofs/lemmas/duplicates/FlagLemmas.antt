@@ -32,11 +32,8 @@ module _ {T : Type 0} {order : T → T → Ordering} {xs : List T} {Tells : ℕ 
 
   pub flags_raised : (new : List Bool) (i : ℕ) → length new ≡ length xs → ((k : ℕ) → IsFlagged new k ↔ (IsFlagged flags k ⊎ (i ≡ k))) → IsDuplicate order xs i
       → ((k : ℕ) → Tells at k → i ≡ k) → AreFlagged order xs Tells new (at + 1)
-  flags_raised new i fits raised duplicate here = record {
-    fits = inr fits;
-    only = λ k now. grind (arith, raised k, are.only k, duplicate);
-    found = λ i below k told. grind (arith, raised k, are.found i, here k);
-  }
+  flags_raised new i fits raised duplicate here =
+      record { fits = inr fits; only = λ k now. grind (arith, raised k, are.only k, duplicate); found = λ i below k told. grind (arith, raised k, are.found i, here k) }
 
   pub flags_all : ((k : ℕ) → IsDuplicate order xs k → (i : ℕ) × (i < at) × Tells i k) → FlagsDuplicates order xs flags
   flags_all finds k = (are.only k, λ duplicate. let (i, below, told) = finds k duplicate in are.found i below k told)

@@ -32,10 +32,8 @@ module _ {X : Type 0} (index : X → ℕ) where
   second_found Le E xs x y up (a, in_a, is_a) (b, in_b, is_b) apart squeeze =
       let x_at : (d : X) → get_or xs a d ≡ x = λ d. get_or_default xs a d x in_a ∙ is_a in
       let y_at : (d : X) → get_or xs b d ≡ y = λ d. get_or_default xs b d y in_b ∙ is_b in
-      let first : a < b = grind (arith, up b a x, x_at x, y_at x, apart) in (
-        b,
-        record { later = omega arith; inside = in_b; same = λ d. grind (arith, squeeze (get_or xs (b - 1) d), up a (b - 1) d, up (b - 1) b d, x_at d, y_at d); here = λ d. ap index (y_at d) },
-      )
+      let first : a < b = grind (arith, up b a x, x_at x, y_at x, apart) in
+      (b, record { later = omega arith; inside = in_b; same = λ d. grind (arith, squeeze (get_or xs (b - 1) d), up a (b - 1) d, up (b - 1) b d, x_at d, y_at d); here = λ d. ap index (y_at d) })
 
 -- all elements, in another order
 pub placed_permuted : {T : Type 0} {xs : List T} {ps qs : List (Placed T)} {n : ℕ} → length xs ≤ n → AreNumbered (λ p. p.index) (IsPlaced xs) ps n → IsPermutation ps qs → ArePlaced xs qs
@@ -81,8 +79,7 @@ module _ {T : Type 0} {order : T → T → Ordering} (total : IsTotalOrder order
         let q_at : q ≡ get_or ps (at - 1) p = get_or_read ps (at - 1) q (omega arith) is_q p in
         let a : IsPlaced xs q = rw (← q_at) at (are.each (at - 1) p (omega arith)) in
         let b : IsPlaced xs p = rw (← is_p) at (are.each at p below) in
-        let le = rw (← is_p, ← q_at) at (not_fallen (at - 1) at p (omega arith) below) in
-        let rise = rising_indexes q p le (tied_back total _ _ same) in
+        let rise = rising_indexes q p (rw (← is_p, ← q_at) at (not_fallen (at - 1) at p (omega arith) below)) (tied_back total _ _ same) in
         let less : q.index < p.index = grind (arith, rise, are.apart (at - 1) at p, is_p, q_at) in
         (b.inside, (q.index, less, λ d. rw (← a.is d, ← b.is d) same))
 

@@ -102,8 +102,7 @@ module _ (g : List Reading) (which : Candidates) (items : List Ref) where
       (n + 1, here, later, find, all, most_next front r some here hits (inl (is_m.ends, is_m.has, rw is_m.spec at are)) so_far (thins (of_hits which so_far.0)))
   most_of flags front rest r n made others some more equal (inr (inl (flagged, positive), none)) found so_far =
       (n, [], more, rw none at found, refl, flagged_next flags front rest r some equal flagged positive so_far)
-  most_of flags front rest r n made others some more equal (inr (inr no_ends, none)) found so_far =
-      (n, [], more, rw none at found, refl, most_next front r some [] [] (inr (no_ends, refl)) so_far refl)
+  most_of flags front rest r n made others some more equal (inr (inr no_ends, none)) found so_far = (n, [], more, rw none at found, refl, most_next front r some [] [] (inr (no_ends, refl)) so_far refl)
 
   most_from : (flags : List Bool) (front rest : List Reading) (n : ℕ) (ms : List Matcher) (some more : List Mapped) → FlagsEqual (front ++ rest) flags
       → IsJoinedFrom (AreMatcherOf which flags) (length front) rest ms → FindEnough n ms more → AreMostOf front some → AreMostOf (front ++ rest) (some ++ more)

@@ -5,13 +5,9 @@ use Rattle.gix_refspec_match.proofs.Common.{First, made_next}
 use Rattle.gix_refspec_match.proofs.lemmas.{hits.FoundLemmas.made_each, index.PlacesLemmas.AreWhere, index.PlacesLemmas.Lengthen, index.PlacesLemmas.candidates_lengthen}
 
 -- the names of refs, with one more
-has_more : (refs : List Ref) (r : Ref) (n : List ℕ) → HasName refs n ⊎ (r.name ≡ n) → HasName (refs ++ r ∷ []) n
-has_more [] r n there = grind arith
-has_more (s ∷ refs) r n there = let rest = has_more refs r n in grind (arith, rest)
-
-pub has_cases : (refs : List Ref) (r : Ref) (n : List ℕ) → HasName (refs ++ r ∷ []) n → HasName refs n ⊎ (r.name ≡ n)
-has_cases [] r n has = grind arith
-has_cases (s ∷ refs) r n has = let rest = has_cases refs r n in grind (arith, rest)
+pub has_last : (refs : List Ref) (r : Ref) (n : List ℕ) → HasName (refs ++ r ∷ []) n ↔ (HasName refs n ⊎ (r.name ≡ n))
+has_last [] r n = grind arith
+has_last (s ∷ refs) r n = grind (arith, has_last refs r n)
 
 -- n is the shortest of the candidates that the refs have
 pub record IsShortest (refs : List Ref) (x n : List ℕ) : Type 0 where
@@ -61,7 +57,7 @@ module _ (all refs : List Ref) (r : Ref) (x : List ℕ) (i : ℕ) (long : length
   -- n is the shortest with it
   shortest_next : (n : List ℕ) → IsCandidate x n → HasName refs n ⊎ (r.name ≡ n) → ((m : List ℕ) → IsCandidate x m → HasName refs m → length n ≤ length m)
       → (IsCandidate x r.name → length n ≤ length (name_at all i)) → IsShortest (refs ++ r ∷ []) x n
-  shortest_next n one there least last = record { one = one; there = has_more refs r n there; least = λ m other has. let cases = has_cases refs r m has in grind (arith, cases, least m, last, here) }
+  shortest_next n one there least last = record { one = one; there = (has_last refs r n).1 there; least = λ m other has. let cases = (has_last refs r m).0 has in grind (arith, cases, least m, last, here) }
 
   -- it is a candidate, and shorter than those before
   shorter_next : IsCandidate x r.name → ((n : List ℕ) → IsCandidate x n → HasName refs n → length (name_at all i) < length n) → AreFound First all x (refs ++ r ∷ []) (i ∷ [])
@@ -85,7 +81,7 @@ module _ (all refs : List Ref) (r : Ref) (x : List ℕ) (i : ℕ) (long : length
   found_next All ps qs are (inl (one, is)) = rw is (where_more (λ s. MatchesAs (partial x) s None) ps are (refl, one))
   found_next All ps qs are (inr (other, is)) = rw is (where_same (λ s. MatchesAs (partial x) s None) ps are (λ also. other also.1))
   found_next First [] qs none (inl (one, is)) = rw is (shorter_next one (λ n other has. absurd (none n other has)))
-  found_next First [] qs none (inr (other, is)) = rw is (λ n one has. let cases = has_cases refs r n has in grind (arith, cases, none n))
+  found_next First [] qs none (inr (other, is)) = rw is (λ n one has. let cases = (has_last refs r n).0 has in grind (arith, cases, none n))
   found_next First (p ∷ ps) qs are (inr (other, is)) = rw is (longer_next p ps are (λ one. absurd (other one)))
   found_next First (p ∷ ps) qs are (inl (one, inl (longer, is))) = rw is (longer_next p ps are (λ _. longer))
   found_next First (p ∷ ps) qs (short, are) (inl (one, inr (inl (shorter, is)))) = rw is (shorter_next one (λ n other has. omega (arith, shorter, short.least n other has)))

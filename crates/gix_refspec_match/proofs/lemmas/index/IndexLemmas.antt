@@ -1,8 +1,7 @@
 -- Where names are among refs.
 use Rattle.gix_refspec_match.proofs.Common.{List, [], ◌∷◌, None, Some, refl, ◌≡◌, ℕ, ◌++◌, Option, sym, ◌∙◌, inl, inr, ◌≢◌, ap, append-nil, ◌<◌, length, map, take, ◌+◌, get_or, rules, ◌⊎◌, cond, bytes_eq}
 use Rattle.gix_refspec_match.proofs.Common.{not_from_Decides, bytes_eq-Decides, cases_Bool, Contains-append_left, Contains-push, Contains-push_cases, Contains, bstr_bytes, ArePlacesOf, HavePlaces, ref_of, Item}
-use Rattle.gix_refspec_match.proofs.Common.{made_more}
-use Rattle.std.specs.Global.{Vec}
+use Rattle.gix_refspec_match.proofs.Common.{made_more, Vec}
 
 -- what is listed for each name
 abbrev pub Listed : Type 0
@@ -14,10 +13,8 @@ Puts n v old new = (q : List ℕ) → new q ≡ cond (bytes_eq n q) (Some v) (ol
 
 -- the name itself, and another one
 pub put_cases : (n : List ℕ) (v : Vec ℕ) (old new : Listed) → Puts n v old new → (q : List ℕ) → ((n ≡ q) × (new q ≡ Some v)) ⊎ ((n ≢ q) × (new q ≡ old q))
-put_cases n v old new puts q = elim (cases_Bool (bytes_eq n q)) [
-  | inl is ↦ inl ((bytes_eq-Decides n q).0 is, rw is at (puts q))
-  | inr is ↦ inr (not_from_Decides _ (bytes_eq-Decides n q) is, rw is at (puts q))
-]
+put_cases n v old new puts q =
+    elim (cases_Bool (bytes_eq n q)) [ inl is ↦ inl ((bytes_eq-Decides n q).0 is, rw is at (puts q)) | inr is ↦ inr (not_from_Decides _ (bytes_eq-Decides n q) is, rw is at (puts q)) ]
 
 -- one more name, without a place
 pub one_more_name : (ns : List (List ℕ)) (n : List ℕ) (v : Vec ℕ) (old new : Listed) → v.items ≡ [] → Puts n v old new → HavePlaces ns [] old → HavePlaces (ns ++ n ∷ []) [] new
@@ -26,9 +23,7 @@ one_more_name ns n v old new empty puts have = record {
     | inl here ↦ (v, here.1, empty)
     | inr apart ↦ let at = have.each q (let cases = Contains-push_cases ns n q there in search rules) in (at.0, apart.1 ∙ at.1, at.2)
   ];
-  others = λ q none.
-      let cases = put_cases n v old new puts q in
-      search (rules, Contains-push ns n, Contains-append_left ns (n ∷ []) q, have.others q);
+  others = λ q none. let cases = put_cases n v old new puts q in search (rules, Contains-push ns n, Contains-append_left ns (n ∷ []) q, have.others q);
 }
 
 -- one more item, of another name
@@ -41,9 +36,7 @@ pub item_unlisted : (ns : List (List ℕ)) (items : List Item) (i : ℕ) (d : It
     → n ≡ bstr_bytes (get_or items i d).full_ref_name → ¬ (Contains ns n) → HavePlaces ns (map ref_of (take i items)) listed
     → HavePlaces ns (map ref_of (take (i + 1) items)) listed
 item_unlisted ns items i d n listed below is none have = record {
-  each = λ q there.
-      let (v, at, are) = have.each q there in
-      (v, at, elsewhere q items i d v.items below (search rules) are);
+  each = λ q there. let (v, at, are) = have.each q there in (v, at, elsewhere q items i d v.items below (search rules) are);
   others = have.others;
 }
 

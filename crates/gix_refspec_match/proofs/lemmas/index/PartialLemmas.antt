@@ -1,8 +1,7 @@
 -- An item's place is added for the partial names that may stand for its name.
-use Rattle.gix_refspec_match.proofs.Common.{List, [], Some, codes, refl, ◌≡◌, ℕ, ◌++◌, Option, ◌∙◌, arith, inl, inr, ap, ◌<◌, length, map, take, drop, ◌+◌, get_or, take_all, ◌⊎◌, ◌≤◌, length-append}
-use Rattle.gix_refspec_match.proofs.Common.{map_more, slice_get-map, slice_get-get_or, AllByRecursion, Contains, Ref, Fits, IsCandidate, Joins, name_at, HavePlaces, AddsWhere, IsBelowPlace, ListPartials}
-use Rattle.gix_refspec_match.proofs.Common.{ref_of, Candidates, All, First, Item, map_long}
-use Rattle.std.specs.Global.{Vec}
+use Rattle.gix_refspec_match.proofs.Common.{List, [], Some, codes, refl, ◌≡◌, ℕ, ◌++◌, Option, ◌∙◌, arith, inl, inr, ap, ◌<◌, length, map, take, drop, ◌+◌, get_or, take_all, ◌⊎◌, ◌≤◌, length-append, map_more}
+use Rattle.gix_refspec_match.proofs.Common.{slice_get-map, slice_get-get_or, AllByRecursion, Contains, Ref, Fits, IsCandidate, Joins, name_at, HavePlaces, AddsWhere, IsBelowPlace, ListPartials, ref_of}
+use Rattle.gix_refspec_match.proofs.Common.{Candidates, All, First, Item, map_long, Vec}
 use Rattle.gix_refspec_match.proofs.lemmas.{index.FirstPlacesLemmas.AreFound, index.FirstPlacesLemmas.found_next, index.FirstPlacesLemmas.found_taken, index.PlacesLemmas.all_at}
 use Rattle.gix_refspec_match.proofs.lemmas.{hits.HitLemmas.candidate_cases, hits.HitLemmas.placed_candidate, hits.HitLemmas.remote_candidate, index.IndexLemmas.Puts, index.IndexLemmas.put_cases}
 
@@ -99,8 +98,7 @@ module _ {which : Candidates} {names : List (List ℕ)} {items : List Item} wher
   }
 
   -- one more item
-  pub partials_more : {i : ℕ} {n : List ℕ} {Known : List ℕ → Type 0} {old new : List ℕ → Option (Vec ℕ)} (d : Item)
-      → i < length items → n ≡ (ref_of (get_or items i d)).name → AllByRecursion Known names
+  pub partials_more : {i : ℕ} {n : List ℕ} {Known : List ℕ → Type 0} {old new : List ℕ → Option (Vec ℕ)} (d : Item) → i < length items → n ≡ (ref_of (get_or items i d)).name → AllByRecursion Known names
       → AddsWhere Known (λ x. IsCandidate x n) (Joins which (map ref_of items) i) old new
       → ListSoFar which names items i old → ListSoFar which names items (i + 1) new
   partials_more {i = i} {Known = Known} d below is known adds so_far = record {

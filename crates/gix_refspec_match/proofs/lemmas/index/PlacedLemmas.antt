@@ -66,11 +66,9 @@ Appends {X} {Y} R xs old now = (made : List Y) × IsMadeFrom R 0 xs made × (now
 
 append_made : {X Y : Type 0} (R : ℕ → X → Y → Type 0) (i : ℕ) (xs ys : List X) (x : X) (made : Option Y) (old mid new : List Y) → length xs ≡ i
     → ys ≡ xs ++ x ∷ [] → MakesOf R i x made → new ≡ mid ++ option_to_list made → Appends R xs old mid → Appends R ys old new
-append_made R i xs ys x made old mid new long whole makes more (so_far, are, all) = (
-  so_far ++ option_to_list made,
-  rw whole (made_next R i xs x so_far made long are makes),
-  more ∙ ap (λ l. l ++ option_to_list made) all ∙ append_assoc old so_far (option_to_list made),
-)
+append_made R i xs ys x made old mid new long whole makes more (so_far, are, all) =
+    let behind = more ∙ ap (λ l. l ++ option_to_list made) all ∙ append_assoc old so_far (option_to_list made) in
+    (so_far ++ option_to_list made, rw whole (made_next R i xs x so_far made long are makes), behind)
 
 -- behind the old hits are those on the items at some places
 abbrev pub MatchedSoFar : List Ref → SideKind → ℕ → List ℕ → List DeclaredHit → List DeclaredHit → Type 0
@@ -92,8 +90,7 @@ FoundSoFar which items kind k refs old now = Appends (IsFound which items kind k
 
 pub item_hit : (which : Candidates) (items : List Ref) (xs : List Item) (kind : SideKind) (k i : ℕ) (d : Item) (old mid new : List DeclaredHit) → TakesEach kind → i < length xs → MatchesListed kind (ref_of (get_or xs i d)) → new ≡ mid ++ hit_at k i ∷ [] → FoundSoFar which items kind k (map ref_of (take i xs)) old mid → FoundSoFar which items kind k (map ref_of (take (i + 1) xs)) old new
 item_hit which items xs kind k i d old mid new each below is more so_far =
-    append_made _ i _ _ _ (Some (hit_at k i)) old mid new (map_long ref_of xs i below) (map_more ref_of xs i d below)
-    ((matches_taken kind which items (ref_of (get_or xs i d))).1 each is, refl) more so_far
+    append_made _ i _ _ _ (Some (hit_at k i)) old mid new (map_long ref_of xs i below) (map_more ref_of xs i d below) ((matches_taken kind which items (ref_of (get_or xs i d))).1 each is, refl) more so_far
 
 pub item_missed : (which : Candidates) (items : List Ref) (xs : List Item) (kind : SideKind) (k i : ℕ) (d : Item) (old mid : List DeclaredHit) → i < length xs → ¬ (MatchesListed kind (ref_of (get_or xs i d))) → FoundSoFar which items kind k (map ref_of (take i xs)) old mid → FoundSoFar which items kind k (map ref_of (take (i + 1) xs)) old mid
 item_missed which items xs kind k i d old mid below none so_far =
@@ -112,8 +109,7 @@ place_below : (P : Ref → Type 0) (j : ℕ) (rest : List Ref) (places : List �
 place_below P j [] places b i d end none below = absurd (omega (arith, below, ap length none))
 place_below P j (r ∷ rest) places b i d end (None, others, here, more, same) below = place_below P (j + 1) rest places b i d (omega arith) (rw same more) below
 place_below P j (r ∷ rest) places b zero d end (Some place, others, here, more, same) below = rw (same, here.1) (omega arith)
-place_below P j (r ∷ rest) places b (suc i) d end (Some place, others, here, more, same) below =
-    rw same (place_below P (j + 1) rest others b i d (omega arith) more (omega (arith, below, ap length same)))
+place_below P j (r ∷ rest) places b (suc i) d end (Some place, others, here, more, same) below = rw same (place_below P (j + 1) rest others b i d (omega arith) more (omega (arith, below, ap length same)))
 
 pub place_fits : (which : Candidates) (items : List Ref) (kind : SideKind) (places : List ℕ) (i d : ℕ) → ListsFor which items kind places → i < length places → get_or places i d < length items
 place_fits which items (object id) places i d lists below = absurd lists

@@ -1,8 +1,7 @@
 -- Where the names of refs begin as patterns do.
 use Rattle.gix_refspec_match.proofs.Common.{List, [], ◌∷◌, None, Some, refl, ◌≡◌, ℕ, false, ◌++◌, sym, ◌∙◌, arith, inl, inr, ap, append-nil, ◌<◌, length, map, take, drop, ◌+◌, get_or, rules, ◌⊎◌, ◌≤◌, Bool}
-use Rattle.gix_refspec_match.proofs.Common.{length-append, take-append-drop, take-append_seam, cases_Bool, cases_eq, cases_lt, length-take-le, nil_from_length, AllByRecursion, bstr_bytes, BeginsWith}
-use Rattle.gix_refspec_match.proofs.Common.{HavePlaces, AddsPlace, HaveLengths, ListPrefixes, IsFlagged, ref_of, Item, made_more}
-use Rattle.std.specs.Global.{Vec}
+use Rattle.gix_refspec_match.proofs.Common.{length-append, take-append-drop, take-append_seam, cases_Bool, cases_eq, length-take-le, nil_from_length, AllByRecursion, bstr_bytes, BeginsWith, HavePlaces}
+use Rattle.gix_refspec_match.proofs.Common.{AddsPlace, HaveLengths, ListPrefixes, IsFlagged, ref_of, Item, made_more, Vec}
 use Rattle.gix_refspec_match.proofs.lemmas.{index.IndexLemmas.Listed, index.IndexLemmas.Puts, index.IndexLemmas.put_cases, index.PlacesLemmas.all_at}
 
 -- a name begins with what is taken from it, and with nothing else of that length
@@ -27,10 +26,7 @@ AddsBelow l n place old new = (prefix : List ℕ) (v : Vec ℕ) → new prefix �
 -- no prefix that is listed and that the name begins with has the length l
 pub adds_more : (l : ℕ) (n : List ℕ) (place : ℕ) (old new : Listed) → ((prefix : List ℕ) (v w : Vec ℕ) → new prefix ≡ Some v → old prefix ≡ Some w → BeginsWith prefix n → length prefix ≡ l → ⊥)
     → AddsBelow l n place old new → AddsBelow (l + 1) n place old new
-adds_more l n place old new none so_far prefix v is =
-    let (w, was, told) = so_far prefix v is in
-    let cases = cases_lt (length prefix) l in
-    (w, was, search (rules, none prefix v w is was))
+adds_more l n place old new none so_far prefix v is = let (w, was, told) = so_far prefix v is in (w, was, grind (arith, told, none prefix v w is was))
 
 -- it is listed, and gets the place
 pub adds_listed : (l : ℕ) (n : List ℕ) (place : ℕ) (u x : Vec ℕ) (old mid new : Listed) → l ≤ length n → mid (take l n) ≡ Some u
@@ -39,23 +35,17 @@ adds_listed l n place u x old mid new fits listed more puts so_far prefix v is =
   | inl here ↦
       let (w, was, told) = so_far prefix u (ap mid (sym here.0) ∙ listed) in
       let long : length prefix ≡ l = ap length (sym here.0) ∙ length-take-le l n fits in
-      let one : v ≡ x = cc in
       let begins : BeginsWith prefix n = rw (← here.0) (begins_taken n l) in
-      let same : u.items ≡ w.items = search rules in
-      (w, was, inl ((omega (arith, long), begins), cc))
+      (w, was, grind (arith, told, long, begins, here, is, more))
   | inr apart ↦
       let (w, was, told) = so_far prefix v (sym apart.1 ∙ is) in
-      let cases = cases_lt (length prefix) l in
-      (w, was, search (rules, taken_begins prefix n l))
+      (w, was, grind (arith, told, apart, taken_begins prefix n l))
 ]
 
 -- no prefix that is listed and that the name begins with has the length l or more
 pub adds_all : (l : ℕ) (n : List ℕ) (place : ℕ) (old new : Listed) → ((prefix : List ℕ) (w : Vec ℕ) → old prefix ≡ Some w → BeginsWith prefix n → l ≤ length prefix → ⊥)
     → AddsBelow l n place old new → AddsPlace n place old new
-adds_all l n place old new none so_far prefix v is =
-    let (w, was, told) = so_far prefix v is in
-    let cases = cases_lt (length prefix) l in
-    (w, was, search (rules, none prefix w was))
+adds_all l n place old new none so_far prefix v is = let (w, was, told) = so_far prefix v is in (w, was, grind (arith, told, none prefix w was))
 
 -- one more item
 pub item_added : (items : List Item) (i : ℕ) (d : Item) (n : List ℕ) (old new : Listed) → i < length items

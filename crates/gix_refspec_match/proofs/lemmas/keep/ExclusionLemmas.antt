@@ -1,8 +1,8 @@
 -- What negative specs exclude.
-use Rattle.gix_refspec_match.proofs.Common.{List, [], ◌∷◌, None, Some, refl, ◌≡◌, ℕ, ◌++◌, Option, sym, ◌∙◌, arith, inl, inr, is_some, subst, ap, length, ◌⊎◌, ◌↔◌, zero, suc, MatchOption, IsTrue, Bool, cond}
-use Rattle.gix_refspec_match.proofs.Common.{bytes_eq, slice_get, IsSome, HashMap, common_steps, Any-push, false≢true, cases_Bool, nil_from_length, bytes_decides, hash_map_len, lookup, accepted_few}
-use Rattle.gix_refspec_match.proofs.Common.{Lacks-from_absent, IsAccepted, star, Lacks, the_name, by_pattern, Fits, Negative, Reading, IsExcludedBy, IsExcluded, ExcludeName, index_of, AreExclusionsAt}
-use Rattle.gix_refspec_match.proofs.Common.{ExcludeNameAt, Exclusions, Key}
+use Rattle.gix_refspec_match.proofs.Common.{List, [], ◌∷◌, None, Some, refl, ◌≡◌, ℕ, ◌++◌, Option, sym, ◌∙◌, arith, inl, inr, is_some, subst, ap, length, ◌⊎◌, ◌↔◌, MatchOption, IsTrue, Bool, cond, bytes_eq}
+use Rattle.gix_refspec_match.proofs.Common.{IsSome, HashMap, common_steps, Any-push, false≢true, cases_Bool, nil_from_length, gets, bytes_decides, hash_map_len, lookup, accepted_few, Lacks-from_absent}
+use Rattle.gix_refspec_match.proofs.Common.{IsAccepted, star, Lacks, the_name, by_pattern, Fits, Negative, Reading, IsExcludedBy, IsExcluded, ExcludeName, index_of, AreExclusionsAt, ExcludeNameAt, Exclusions}
+use Rattle.gix_refspec_match.proofs.Common.{Key}
 use Rattle.std.proofs.Common.{Any}
 use Rattle.gix_refspec_text.proofs.lemmas.lists.LacksLemmas.{Lacks-here, first_once}
 
@@ -42,35 +42,16 @@ exclusions_more (q ∷ g) r n Old New before added = grind (arith, before, added
 pub index_more : (old new : List ℕ → Option ℕ) (x : List ℕ) (i : ℕ) → ((n : List ℕ) → new n ≡ cond (bytes_eq x n) (Some i) (old n))
     → (n : List ℕ) → (IsSome (new n) ↔ (IsSome (old n) ⊎ (n ≡ x))) × ((k : ℕ) → new n ≡ Some k → (old n ≡ Some k) ⊎ ((k ≡ i) × (n ≡ x)))
 index_more old new x i updates n = elim (cases_Bool (bytes_eq x n)) [
-  | inl same ↦
-      let is : x ≡ n = (bytes_decides x n).0 same in
-      let here : new n ≡ Some i = updates n ∙ ap (λ (b : Bool). cond b (Some i) (old n)) same in (
-        ((λ some. inr (sym is)), (λ either. subst IsSome (sym here) refl)),
-        (λ k has. let one : Some k ≡ Some i = sym has ∙ here in inr (cc (one), sym is)),
-      )
-  | inr differ ↦
-      let there : new n ≡ old n = updates n ∙ ap (λ (b : Bool). cond b (Some i) (old n)) differ in (
-        ((λ some. inl (subst IsSome there some)), (λ either. elim either [ inl was ↦ subst IsSome (sym there) was | inr is ↦ absurd (false≢true (sym differ ∙ (bytes_decides x n).1 (sym is))) ])),
-        (λ k has. inl (sym there ∙ has)),
-      )
+  | inl same ↦ let is = (bytes_decides x n).0 same in let here : new n ≡ Some i = rw same at (updates n) in grind (arith, is, here)
+  | inr differ ↦ let other = (bytes_decides x n).1 in let there : new n ≡ old n = rw differ at (updates n) in grind (arith, other, differ, there)
 ]
-
--- the element behind a list is at the index of its length, and those before stay
-at_behind : {X : Type 0} (xs : List X) (x : X) → slice_get (xs ++ x ∷ []) (length xs) ≡ Some x
-at_behind [] x = refl
-at_behind (y ∷ xs) x = at_behind xs x
-
-at_before : {X : Type 0} (xs : List X) (x : X) (k : ℕ) (y : X) → slice_get xs k ≡ Some y → slice_get (xs ++ x ∷ []) k ≡ Some y
-at_before [] x k y at = absurd (cc (at))
-at_before (z ∷ xs) x zero y at = at
-at_before (z ∷ xs) x (suc k) y at = at_before xs x k y at
 
 -- one more reading, at its index
 pub exclusions_at_more : (g : List Reading) (r : Reading) (i : ℕ) (old new : Exclusions) → i ≡ length g → AreExclusionsAt g old
     → ((n : List ℕ) (k : ℕ) → ExcludeNameAt new n k → ExcludeNameAt old n k ⊎ ((k ≡ i) × IsExcludedBy n r)) → AreExclusionsAt (g ++ r ∷ []) new
 exclusions_at_more g r i old new long before adds n k at = elim (adds n k at) [
-  | inl was ↦ let (q, there, by) = before n k was in (q, at_before g r k q there, by)
-  | inr (same, by) ↦ (r, subst (λ (j : ℕ). slice_get (g ++ r ∷ []) j ≡ Some r) (sym (same ∙ long)) (at_behind g r), by)
+  | inl was ↦ let (q, there, by) = before n k was in (q, grind (arith, common_steps, gets, there), by)
+  | inr (same, by) ↦ (r, grind (arith, common_steps, gets, same, long), by)
 ]
 
 -- what is excluded by some spec is excluded

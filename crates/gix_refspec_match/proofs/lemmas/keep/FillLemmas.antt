@@ -26,13 +26,9 @@ module _ (which : Candidates) (es : Exclusions) (ms : List Matcher) (xs : List I
   mapped_next : (new : List Mapped) (made : Option Mapped) → Makes made hit → new ≡ map mapped_of mid ++ option_to_list made → AddsMapped which es ms (map ref_of xs) (take (i + 1) hits) old new
   mapped_next new made makes more =
       let same = hit_there ms xs (get_or hits i d) dm dx (All-from_recursion (IsSound ms (map ref_of xs)) hits sound i d below) ∙ sym (λ j. record hit { far = is_far j }) in
-      record {
-        made = so_far.made ++ option_to_list made;
-        are = rw (take_more hits i d below)
-            (made_next (IsMappedHit which es ms (map ref_of xs)) i (take i hits) (get_or hits i d) so_far.made made
-            (length-take-le i hits (omega (arith, below))) so_far.are (subst (Makes made) (sym same) makes));
-        all = rw (so_far.all, append_assoc) at more;
-      }
+      let next = made_next (IsMappedHit which es ms (map ref_of xs)) i (take i hits) (get_or hits i d) so_far.made made
+      (length-take-le i hits (omega (arith, below))) so_far.are (subst (Makes made) (sym same) makes) in
+      record { made = so_far.made ++ option_to_list made; are = rw (take_more hits i d below) next; all = rw (so_far.all, append_assoc) at more }
 
   pub excluded_next : ExcludeStart es (mapping_of which hit).source → AddsMapped which es ms (map ref_of xs) (take (i + 1) hits) old (map mapped_of mid)
   excluded_next taken = mapped_next (map mapped_of mid) None (λ m is. is.1 (rw is.0 taken)) (sym (append-nil _))

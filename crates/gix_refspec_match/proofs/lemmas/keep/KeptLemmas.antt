@@ -49,8 +49,7 @@ none_excluded (id i) taken = taken
 -- what isn't flagged is kept, where nothing is excluded
 pub kept_unflagged : (ms rest : List Mapping) (flags : List Bool) → FlagsDuplicates by_pair ms flags → IsMadeFrom (IsUnflagged flags) 0 ms rest → IsKept [] (map mapped_of ms) (map mapped_of rest)
 kept_unflagged ms rest flags flagged made =
-    made_map mapped_of mapped_of (IsUnflagged flags) (Keeps [] (map mapped_of ms)) 0 ms rest
-    (λ i d below x makes. rw (zero-add i) (one i d (duplicate_at ms i d below) x (rw (zero-add i) at makes))) made
+    made_map mapped_of mapped_of (IsUnflagged flags) (Keeps [] (map mapped_of ms)) 0 ms rest (λ i d below x makes. rw (zero-add i) (one i d (duplicate_at ms i d below) x (rw (zero-add i) at makes))) made
   where
     one : (i : ℕ) (d : Mapping) → IsDuplicate by_pair ms i ↔ HasPair (take i (map mapped_of ms)) (mapped_of (get_or ms i d)) → (x : Option Mapping)
         → MakesOf (IsUnflagged flags) i (get_or ms i d) x → MakesOf (Keeps [] (map mapped_of ms)) i (mapped_of (get_or ms i d)) (option_map mapped_of x)
@@ -73,8 +72,7 @@ kept_included g l kept free are = rw map-id at (made_each (λ m. m) (Keeps [] l)
 )) are)
 
 -- what is kept has no pair from before it, and no pair twice
-apart_from : (g : List Reading) (l before xs ys : List Mapped) (k : ℕ) → before ++ xs ≡ l → length before ≡ k
-    → IsMadeFrom (Keeps g l) k xs ys → AllByRecursion (λ y. ¬ (HasPair before y)) ys × AreApart ys
+apart_from : (g : List Reading) (l before xs ys : List Mapped) (k : ℕ) → before ++ xs ≡ l → length before ≡ k → IsMadeFrom (Keeps g l) k xs ys → AllByRecursion (λ y. ¬ (HasPair before y)) ys × AreApart ys
 apart_from g l before [] ys k whole place none = rw none (tt, tt)
 apart_from g l before (x ∷ xs) ys k whole place (made, rest, makes, more, is) =
     let next : length (before ++ x ∷ []) ≡ k + 1 = omega (arith, length-append before (x ∷ []), place) in

@@ -5,7 +5,7 @@ use Rattle.gix_refspec_match.proofs.Common.{MatchesAs, pattern, object, full_nam
 use Rattle.gix_refspec_match.proofs.Common.{mapping_of, Thins, hit_of, hit_by, AreFound, turned, hit_at, IsFound, HaveKinds, TakesIn, filled_side, IsFirstIn, IsTaken, word_in, DeclaredHit, Candidates, All}
 use Rattle.gix_refspec_match.proofs.Common.{First, Matcher}
 use Rattle.gix_refspec_match.proofs.lemmas.{keep.KeptLemmas.HasPair-left, keep.KeptLemmas.HasPair-last, keep.ThinLemmas.cut, keep.ThinLemmas.pair_alike, keep.ThinLemmas.thins_all}
-use Rattle.gix_refspec_match.proofs.lemmas.{keep.ThinLemmas.thins_behind, index.FirstPlacesLemmas.has_cases, hits.FoundLemmas.blank, hits.FoundLemmas.made_each, hits.FoundLemmas.of_hits}
+use Rattle.gix_refspec_match.proofs.lemmas.{keep.ThinLemmas.thins_behind, index.FirstPlacesLemmas.has_last, hits.FoundLemmas.blank, hits.FoundLemmas.made_each, hits.FoundLemmas.of_hits}
 use Rattle.gix_refspec_match.proofs.lemmas.{hits.GroupLemmas.FindsEnough, hits.HitLemmas.is_hit, hits.HitLemmas.matches_as, hits.HitLemmas.taken_first, hits.HitLemmas.taken_matches}
 
 -- ---- the hits of a matcher
@@ -53,14 +53,12 @@ abbrev EachName : (List ℕ → Type 0) → List Ref → Type 0
 EachName P refs = (n : List ℕ) → HasName refs n → P n
 
 each_next : (P : List ℕ → Type 0) (before : List Ref) (r : Ref) → EachName P before → P r.name → EachName P (before ++ r ∷ [])
-each_next P before r all here n has = elim (has_cases before r n has) [ inl earlier ↦ all n earlier | inr same ↦ subst P same here ]
+each_next P before r all here n has = elim ((has_last before r n).0 has) [ inl earlier ↦ all n earlier | inr same ↦ subst P same here ]
 
 part_has : (before refs part : List Ref) (places : List ℕ) → IsPartBehind before refs part places → EachName (HasName refs) part
 part_has before [] part places is n has = rw is.0 at has
-part_has before (r ∷ refs) part places (inl (rest, others, all, at, more)) n has = elim (subst (λ l. HasName l n) all has) [
-  | inl same ↦ inl same
-  | inr there ↦ inr (part_has (before ++ r ∷ []) refs rest others more n there)
-]
+part_has before (r ∷ refs) part places (inl (rest, others, all, at, more)) n has =
+    let here : HasName (r ∷ rest) n = rw all at has in grind (arith, here, part_has (before ++ r ∷ []) refs rest others more n)
 part_has before (r ∷ refs) part places (inr (repeats, more)) n has = inr (part_has (before ++ r ∷ []) refs part places more n has)
 
 has_part : (P : List ℕ → Type 0) (before refs part : List Ref) (places : List ℕ) → IsPartBehind before refs part places → EachName P before → EachName P part → EachName P refs
@@ -69,10 +67,9 @@ has_part P before (r ∷ refs) part places (inl (rest, others, all, at, more)) o
     let both : EachName P (r ∷ rest) = rw all at new in
     let here = both r.name (inl refl) in
     elim has [ inl same ↦ subst P same here | inr there ↦ has_part P (before ++ r ∷ []) refs rest others more (each_next P before r old here) (λ m later. both m (inr later)) n there ]
-has_part P before (r ∷ refs) part places (inr (repeats, more)) old new n has = elim has [
-  | inl same ↦ subst P same (old r.name repeats)
-  | inr there ↦ has_part P (before ++ r ∷ []) refs part places more (each_next P before r old (old r.name repeats)) new n there
-]
+has_part P before (r ∷ refs) part places (inr (repeats, more)) old new n has =
+    let here = old r.name repeats in
+    elim has [ inl same ↦ subst P same here | inr there ↦ has_part P (before ++ r ∷ []) refs part places more (each_next P before r old here) new n there ]
 
 part_names : (refs part : List Ref) (places : List ℕ) → IsPart refs part places → SameNames refs part
 part_names refs part places is n = (has_part (HasName part) [] refs part places is (λ m none. absurd none) (λ m has. has) n, part_has [] refs part places is n)

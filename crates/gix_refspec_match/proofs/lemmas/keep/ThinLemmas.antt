@@ -1,7 +1,6 @@
 -- Mappings without some of those that repeat an earlier pair or are excluded: the same ones of them stay.
-use Rattle.gix_refspec_match.proofs.Common.{List, [], ◌∷◌, None, Some, refl, ◌≡◌, ℕ, ◌++◌, Option, sym, ◌∙◌, arith, inl, inr, subst, ap, append-nil, ◌<◌, length, take, drop, ◌+◌, get_or, append_assoc, ◌↔◌}
+use Rattle.gix_refspec_match.proofs.Common.{List, [], ◌∷◌, None, Some, refl, ◌≡◌, ℕ, ◌++◌, Option, sym, ◌∙◌, arith, inl, inr, subst, ap, append-nil, ◌<◌, length, take, drop, ◌+◌, get_or, append_assoc, ◌⊎◌, ◌↔◌}
 use Rattle.gix_refspec_match.proofs.Common.{length-drop, drop_more, take_more, Reading, MakesOf, IsMadeFrom, Mapped, IsKeptAt, IsKept, IsSourceExcluded, IsSamePair, HasPair, Thins, MayGo}
-use Rattle.gix_refspec_match.proofs.lemmas.keep.KeptLemmas.{HasPair-left, HasPair-last}
 
 -- what is left of a list from an index on begins with the element there
 pub cut : {X : Type 0} (xs rest : List X) (i : ℕ) (d x : X) → drop i xs ≡ x ∷ rest → (get_or xs i d ≡ x) × (take (i + 1) xs ≡ take i xs ++ x ∷ []) × (drop (i + 1) xs ≡ rest)
@@ -22,10 +21,9 @@ pair_alike (x ∷ l) m n same (inl here) = inl (record { source = here.source �
 pair_alike (x ∷ l) m n same (inr has) = inr (pair_alike l m n same has)
 
 -- a pair of a list with one more is before that one, or is that one's
-pair_cases : (C : Type 0) (l : List Mapped) (x m : Mapped) → (HasPair l m → C) → (IsSamePair x m → C) → HasPair (l ++ x ∷ []) m → C
-pair_cases C [] x m before last has = elim has [ inl same ↦ last same | inr none ↦ absurd none ]
-pair_cases C (y ∷ l) x m before last (inl same) = before (inl same)
-pair_cases C (y ∷ l) x m before last (inr has) = pair_cases C l x m (λ there. before (inr there)) last has
+pair_last : (l : List Mapped) (x m : Mapped) → HasPair (l ++ x ∷ []) m ↔ (HasPair l m ⊎ IsSamePair x m)
+pair_last [] x m = grind arith
+pair_last (y ∷ l) x m = grind (arith, pair_last l x m)
 
 module _ (g : List Reading) where
   pub thins_all : (before l : List Mapped) → Thins g before l l
@@ -44,29 +42,21 @@ module _ (g : List Reading) where
   pub thins_behind : (front before l some : List Mapped) → Thins g before l some → Thins g (front ++ before) l some
   thins_behind front before [] some none = none
   thins_behind front before (m ∷ l) some (inl (rest, is, thins)) = inl (rest, is, rw append_assoc (thins_behind front (before ++ m ∷ []) l rest thins))
-  thins_behind front before (m ∷ l) some (inr (may, thins)) = inr (
-    elim may [ inl has ↦ inl (pair_right front before m has) | inr excluded ↦ inr excluded ],
-    rw append_assoc (thins_behind front (before ++ m ∷ []) l some thins),
-  )
+  thins_behind front before (m ∷ l) some (inr (may, thins)) =
+      let still : MayGo g (front ++ before) m = elim may [ inl has ↦ inl (pair_right front before m has) | inr excluded ↦ inr excluded ] in
+      inr (still, rw append_assoc (thins_behind front (before ++ m ∷ []) l some thins))
 
   -- of what isn't excluded both have the same pairs
   abbrev SamePairs : List Mapped → List Mapped → Type 0
   SamePairs before some = (m : Mapped) → ¬ (IsSourceExcluded g m.source) → HasPair before m ↔ HasPair some m
 
   same_more : (before some : List Mapped) (x : Mapped) → SamePairs before some → SamePairs (before ++ x ∷ []) (some ++ x ∷ [])
-  same_more before some x same m free = (
-    pair_cases (HasPair (some ++ x ∷ []) m) before x m (λ has. HasPair-left some (x ∷ []) m ((same m free).0 has)) (HasPair-last some x m),
-    pair_cases (HasPair (before ++ x ∷ []) m) some x m (λ has. HasPair-left before (x ∷ []) m ((same m free).1 has)) (HasPair-last before x m),
-  )
+  same_more before some x same m free = grind (arith, same m free, pair_last before x m, pair_last some x m)
 
   same_without : (before some : List Mapped) (x : Mapped) → MayGo g before x → SamePairs before some → SamePairs (before ++ x ∷ []) some
-  same_without before some x may same m free = (
-    pair_cases (HasPair some m) before x m (same m free).0 (λ last. elim may [
-      | inl repeats ↦ (same m free).0 (pair_alike before x m last repeats)
-      | inr excluded ↦ absurd (excluded (λ of_x. free (subst (IsSourceExcluded g) last.source of_x)))
-    ]),
-    (λ has. HasPair-left before (x ∷ []) m ((same m free).1 has)),
-  )
+  same_without before some x may same m free =
+      let goes : IsSamePair x m → ¬ (IsSourceExcluded g x.source) = λ last of_x. free (subst (IsSourceExcluded g) last.source of_x) in
+      grind (arith, may, same m free, pair_last before x m, pair_alike before x m, goes)
 
   abbrev Keeps : List Mapped → ℕ → Mapped → Mapped → Type 0
   Keeps l k m made = (made ≡ m) × IsKeptAt g l k m

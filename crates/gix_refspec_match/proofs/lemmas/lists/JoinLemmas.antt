@@ -31,8 +31,7 @@ made_more R f xs i d ys zs made below so_far makes more = rw (map_more f xs i d 
 joined_after : {X Y : Type 0} (R : ℕ → X → List Y → Type 0) (k i : ℕ) (xs : List X) (x : X) (ys made : List Y) → k + length xs ≡ i
     → IsJoinedFrom R k xs ys → R i x made → IsJoinedFrom R k (xs ++ x ∷ []) (ys ++ made)
 joined_after R k i [] x ys made at none makes = let here : i ≡ k = omega (arith, at) in (made, [], rw here at makes, refl, rw none (sym (append-nil made)))
-joined_after R k i (z ∷ zs) x ys made at (first, rest, here, more, same) makes =
-    (first, rest ++ made, here, joined_after R (k + 1) i zs x rest made (omega (arith, at)) more makes, rw (same, append_assoc))
+joined_after R k i (z ∷ zs) x ys made at (first, rest, here, more, same) makes = (first, rest ++ made, here, joined_after R (k + 1) i zs x rest made (omega (arith, at)) more makes, rw (same, append_assoc))
 
 pub joined_next : {X Y : Type 0} (R : ℕ → X → List Y → Type 0) (i : ℕ) (xs : List X) (x : X) (ys made : List Y) → length xs ≡ i → IsJoinedFrom R 0 xs ys → R i x made → IsJoinedFrom R 0 (xs ++ x ∷ []) (ys ++ made)
 joined_next R i xs x ys made long so_far makes = joined_after R 0 i xs x ys made (omega arith) so_far makes

@@ -27,15 +27,10 @@ made_once R one k (x ∷ xs) ys zs (a, rest, of, more, is) (b, rest2, of2, more2
 -- the same list, seen element by element
 pub made_map : {X Y U V : Type 0} (f : X → U) (h : Y → V) (R : ℕ → X → Y → Type 0) (S : ℕ → U → V → Type 0) (k : ℕ) (xs : List X) (ys : List Y) → ((i : ℕ) (d : X) → i < length xs → (made : Option Y) → MakesOf R (k + i) (get_or xs i d) made → MakesOf S (k + i) (f (get_or xs i d)) (option_map h made)) → IsMadeFrom R k xs ys → IsMadeFrom S k (map f xs) (map h ys)
 made_map f h R S k [] ys each empty = ap (map h) empty
-made_map {X} {Y} {U} {V} f h R S k (x ∷ xs) ys each (made, rest, of, more, is) = (
-  option_map h made,
-  map h rest,
-  rw add-zero at (each 0 x (omega arith) made (rw add-zero of)),
-  made_map f h R S (k + 1) xs rest (λ i d below m makes.
-      let place : k + suc i ≡ k + 1 + i = omega arith in
-      rw place at (each (suc i) d (omega arith) m (rw place makes))) more,
-  ap (map h) is ∙ joined made,
-)
+made_map {X} {Y} {U} {V} f h R S k (x ∷ xs) ys each (made, rest, of, more, is) =
+    let others = made_map f h R S (k + 1) xs rest (λ i d below m makes.
+    let place : k + suc i ≡ k + 1 + i = omega arith in rw place at (each (suc i) d (omega arith) m (rw place makes))) more in
+    (option_map h made, map h rest, rw add-zero at (each 0 x (omega arith) made (rw add-zero of)), others, ap (map h) is ∙ joined made)
   where
     joined : (m : Option Y) → map h (option_to_list m ++ rest) ≡ option_to_list (option_map h m) ++ map h rest
     joined None = refl
@@ -50,8 +45,7 @@ kept_more R xs now new k m i x made below long same so_far here makes front back
     let also : i < length xs = omega (arith, long) in
     let both : get_or now i x ∷ drop (i + 1) now ≡ get_or xs i x ∷ drop (i + 1) xs = sym (drop_more now i x below) ∙ same ∙ drop_more xs i x also in
     let is : get_or xs i x ≡ x = cc in
-    let size = length-take-le i xs (omega arith) in
-    (cc, rw (take_more xs i x also, is, front) (made_next R i (take i xs) x (take k now) made size so_far makes))
+    (cc, rw (take_more xs i x also, is, front) (made_next R i (take i xs) x (take k now) made (length-take-le i xs (omega arith)) so_far makes))
 
 -- a loop's step: the element at the place is kept, and goes to the front
 pub remains_more : {X : Type 0} (R : ℕ → X → X → Type 0) (xs now new : List X) (k i : ℕ) (x : X) → i < length now → k ≤ i → length now ≡ length xs → drop i now ≡ drop i xs → IsMadeFrom R 0 (take i xs) (take k now) → x ≡ get_or now i x → SwappedAt now new k i → R i x x → (k + 1 ≤ i + 1) × (length new ≡ length xs) × (drop (i + 1) new ≡ drop (i + 1) xs) × IsMadeFrom R 0 (take (i + 1) xs) (take (k + 1) new)

@@ -5,15 +5,13 @@ use Rattle.gix_refspec_match.proofs.exclusions.Exclusions.add.Goals as goal
 
 pub returns-in_ok-insert-in-None-clause-names : goal.returns-in_ok-insert-in-None-clause-names
 returns-in_ok-insert-in-None-clause-names c n =
-    let source = sym c.source.ensures ∙ ap (option_map bstr_bytes) c.in-Some.is in
-    let excludes = name_excludes (reading_of c.args.spec) _ (search rules) source (rw c.as_bytes.ensures at c.in-None.ensures) n in
+    let excludes = name_excludes (reading_of c.args.spec) _ (search rules) (sym c.source.ensures ∙ ap (option_map bstr_bytes) c.in-Some.is) (rw c.as_bytes.ensures at c.in-None.ensures) n in
     let more = index_more (index_of c.args.self.now.names) (index_of c.insert.new.self) c.as_bytes-name.result.now c.args.spec_index (λ q. c.in_ok-insert-in-None.ensures.updates.0 (key_of c.as_bytes-name.result q)) n in
     grind (arith, excludes, rw c.as_bytes-name.ensures at more.0)
 
 pub returns-in_ok-insert-in-None-clause-indexes : goal.returns-in_ok-insert-in-None-clause-indexes
 returns-in_ok-insert-in-None-clause-indexes c n k at =
-    let source = sym c.source.ensures ∙ ap (option_map bstr_bytes) c.in-Some.is in
-    let excludes = name_excludes (reading_of c.args.spec) _ (search rules) source (rw c.as_bytes.ensures at c.in-None.ensures) n in
+    let excludes = name_excludes (reading_of c.args.spec) _ (search rules) (sym c.source.ensures ∙ ap (option_map bstr_bytes) c.in-Some.is) (rw c.as_bytes.ensures at c.in-None.ensures) n in
     let more = index_more (index_of c.args.self.now.names) (index_of c.insert.new.self) c.as_bytes-name.result.now c.args.spec_index (λ q. c.in_ok-insert-in-None.ensures.updates.0 (key_of c.as_bytes-name.result q)) n in
     elim at [ inl found ↦ elim (more.1 k found) [ inl was ↦ inl (inl was) | inr (same, is) ↦ inr (same, excludes.0 (is ∙ c.as_bytes-name.ensures)) ] | inr fitted ↦ inl (inr fitted) ]
 

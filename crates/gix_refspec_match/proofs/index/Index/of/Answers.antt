@@ -1,15 +1,15 @@
 -- What is listed of the slices is listed of the names, and without names there is nothing to list.
-use Rattle.gix_refspec_match.proofs.Common.{List, [], None, ◌≡◌, ℕ, sym, ◌∙◌, arith, ap, length, map, Vec, bytes_eq, HashMap, Global, eqb-true, nil_from_length, IsEmpty, lookup, vec_len, list_of, ref_of}
+use Rattle.gix_refspec_match.proofs.Common.{List, [], None, ◌≡◌, ℕ, sym, ◌∙◌, arith, ap, length, map, Vec, bytes_eq, HashMap, eqb-true, nil_from_length, IsEmpty, lookup, vec_len, list_of, ref_of}
 use Rattle.gix_refspec_match.proofs.Common.{name_bytes, Key, NameRef}
 use Rattle.gix_refspec_match.proofs.lemmas.index.PartialLemmas.{no_partials}
 use Rattle.gix_refspec_match.proofs.index.Index.of.Goals as goal
 
 -- an empty vector has no names
-unnamed : (names : Vec NameRef Global) → vec_len names ≡ 0 → map name_bytes names.items ≡ []
+unnamed : (names : Vec NameRef) → vec_len names ≡ 0 → map name_bytes names.items ≡ []
 unnamed names empty = ap (λ (l : List NameRef). map name_bytes l) (nil_from_length names.items (omega (arith, empty, names.ok.0, names.ok.1)))
 
 -- an empty map lists nothing
-unlisted : {S : Type 0} (m : HashMap Key (Vec ℕ Global) S) → IsEmpty m → (n : List ℕ) → list_of m n ≡ None
+unlisted : {S : Type 0} (m : HashMap Key (Vec ℕ) S) → IsEmpty m → (n : List ℕ) → list_of m n ≡ None
 unlisted m empty n = ap (lookup (λ k. bytes_eq n k.name.now)) empty
 
 pub returns : goal.returns
@@ -18,9 +18,8 @@ returns c =
     record {
       full = elim c.if-is_empty.branch [
         | goal.then-is_empty w ↦
-            let none = unnamed names.full (eqb-true _ _ (sym c.is_empty.ensures ∙ w.if-is_empty.true)) in
             rw w.full-is (record {
-              each = λ n there. let (k, inside, is) = there in absurd (omega (arith, inside, ap length none));
+              each = λ n there. let (k, inside, is) = there in absurd (omega (arith, inside, ap length (unnamed names.full (eqb-true _ _ (sym c.is_empty.ensures ∙ w.if-is_empty.true)))));
               others = λ n _. unlisted w.new-full.result w.new-full.ensures.empty n;
             })
         | goal.else-is_empty+in_ok-full w ↦ rw (w.full-is, ← w.as_slice.ensures.value) w.in_ok-full.ensures

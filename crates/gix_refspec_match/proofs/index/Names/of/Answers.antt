@@ -1,5 +1,5 @@
 -- Each matcher adds the name that it looks for.
-use Rattle.gix_refspec_match.proofs.Common.{List, [], ◌∷◌, ◌≡◌, ℕ, ◌++◌, ◌∙◌, ap, map, take, get_or, rules, Vec, Global, take_more, map_push, Contains-append_left, Contains-push, Contains, all_weaker, all_join}
+use Rattle.gix_refspec_match.proofs.Common.{List, [], ◌∷◌, ◌≡◌, ℕ, ◌++◌, ◌∙◌, ap, map, take, get_or, rules, Vec, take_more, map_push, Contains-append_left, Contains-push, Contains, all_weaker, all_join}
 use Rattle.gix_refspec_match.proofs.Common.{kind_of_side, full_name, partial, SideKind, HasNamesOf, name_bytes, Names, NameRef}
 use Rattle.gix_refspec_match.proofs.lemmas.hits.MissingLemmas.{blank_matcher}
 use Rattle.gix_refspec_match.proofs.index.Names.of.Goals as goal
@@ -17,7 +17,7 @@ still_named added old new adds (partial x) named = adds.partial x named
 still_named added old new adds kind named = tt
 
 -- one more name
-pushed : (old new : Vec NameRef Global) (x : NameRef) → new.items ≡ old.items ++ x ∷ []
+pushed : (old new : Vec NameRef) (x : NameRef) → new.items ≡ old.items ++ x ∷ []
     → ((y : List ℕ) → Contains (map name_bytes old.items) y → Contains (map name_bytes new.items) y) × Contains (map name_bytes new.items) (name_bytes x)
 pushed old new x is =
     let all : map name_bytes new.items ≡ map name_bytes old.items ++ name_bytes x ∷ [] = ap (map name_bytes) is ∙ map_push name_bytes old.items x in
