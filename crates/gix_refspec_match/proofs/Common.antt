@@ -58,7 +58,3 @@ pub use Rattle.gix_refspec_match.specs.declared.{bloom.Bloom.Bloom, bloom.NameFi
 pub use Rattle.gix_refspec_match.specs.declared.{exclusions.Pattern.Pattern, hits.Hit.Hit as DeclaredHit, index.Index.Index, index.Key.Key, index.Names.Names, matcher.Candidates.Candidates}
 pub use Rattle.gix_refspec_match.specs.declared.{matcher.Candidates.TheVariants.All, matcher.Candidates.TheVariants.First, matcher.Matcher.Matcher, matcher.Matchers.Matchers, matcher.ObjectSpec.ObjectSpec}
 pub use Rattle.gix_refspec_match.specs.declared.{matcher.Sides.Sides, types.Item.Item, types.Mapping.Mapping, types.NameRef.NameRef}
-pub use Rattle.gix_refspec_match.proofs.lemmas.lists.JoinLemmas.{one_joined, nothing_made, map_long, made_more, made_next, made_none, MakesOnce, joined_next}
-pub use Rattle.gix_refspec_match.proofs.lemmas.lists.ListsLemmas.{made_once, made_map, made_all, remains_more, goes_more}
-pub use Rattle.gix_refspec_match.proofs.lemmas.index.KeyLemmas.{key_of}
-pub use Rattle.gix_refspec_match.proofs.lemmas.duplicates.FlagLemmas.{ok_weaker, some_element, equal_told, AreFlagged, flags_all, flags_raised, flags_same}

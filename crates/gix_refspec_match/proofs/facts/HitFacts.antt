@@ -2,7 +2,8 @@
 -- items no hit, and which mappings no place.
 use Rattle.gix_refspec_match.proofs.Common.{List, [], ◌∷◌, None, Some, codes, refl, ◌≡◌, ℕ, Option, arith, inl, inr, subst, false≢true, same_Some, prefix_begins, of_name, fetched, pushed, star, Ref, Matches}
 use Rattle.gix_refspec_match.proofs.Common.{Takes, pattern, HasKind, Normal, Forced, Negative, IsMadeFrom, Ends, AreForwardEnds, AreBackwardEnds, IsFilled, Hit, IsHit, AreSpecHits, AreHits, forward_of}
-use Rattle.gix_refspec_match.proofs.Common.{backward_of, IsIdMapping, AreBackward, name, id, Mapped, IsExcludedBy, IsExcluded, IsKeptAt, IsKept, IsSamePair, nothing_made}
+use Rattle.gix_refspec_match.proofs.Common.{backward_of, IsIdMapping, AreBackward, name, id, Mapped, IsExcludedBy, IsExcluded, IsKeptAt, IsKept, IsSamePair}
+use Rattle.gix_refspec_match.proofs.lemmas.lists.JoinLemmas.{nothing_made}
 use Rattle.gix_refspec_text.proofs.facts.{FaultFacts.begins_not, ManualFacts.Lacks-tested, ManualFacts.other_length, ManualFacts.none_some, ManualFacts.some_none, ObjectIdFacts.empty_blob}
 use Rattle.gix_refspec_text.proofs.facts.FitFacts.{every, no_dev, excludes_dev, short, blob, blob_kind, dev_ref, main_ref}
 use Rattle.gix_refspec_match.proofs.facts.MatchFacts.{blob_mapping, mapping, tag_to_x, tag_again, no_blob_ends, no_main_id, forward_ends, backward_ends, are_forward_ends, hit_by, taken_by}

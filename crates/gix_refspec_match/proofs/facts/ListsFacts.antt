@@ -1,6 +1,8 @@
 -- The words on lists that are made element by element, at relations of numbers: nothing is left out, added
 -- or turned round, and each element has its place.
-use Rattle.gix_refspec_match.proofs.Common.{List, [], ◌∷◌, None, Some, refl, ◌≡◌, ℕ, sym, ◌∙◌, arith, MakesOf, IsMadeFrom, IsJoinedFrom, one_joined, made_once}
+use Rattle.gix_refspec_match.proofs.Common.{List, [], ◌∷◌, None, Some, refl, ◌≡◌, ℕ, sym, ◌∙◌, arith, MakesOf, IsMadeFrom, IsJoinedFrom}
+use Rattle.gix_refspec_match.proofs.lemmas.lists.JoinLemmas.{one_joined}
+use Rattle.gix_refspec_match.proofs.lemmas.lists.ListsLemmas.{made_once}
 
 -- of the element 5 its place is made, and nothing of another element
 pub record PlaceOfFive (k x y : ℕ) : Type 0 where

@@ -1,6 +1,7 @@
 -- A matcher's spec is missing where the index has none for its name.
 use Rattle.gix_refspec_match.proofs.Common.{None, Some, refl, sym, ◌∙◌, arith, append-nil, map, take_all, false≢true, all_weaker, kind_of_side, reading_of, IsMadeFrom, ref_of, All}
-use Rattle.gix_refspec_match.proofs.lemmas.{hits.MissingLemmas.IsLacking, hits.MissingLemmas.all_missing, hits.MissingLemmas.blank_matcher, hits.MissingLemmas.lacking_next, index.PlacedLemmas.named_listed}
+use Rattle.gix_refspec_match.proofs.lemmas.hits.MissingLemmas.{IsLacking, all_missing, blank_matcher, lacking_next}
+use Rattle.gix_refspec_match.proofs.lemmas.index.PlacedLemmas.{named_listed}
 use Rattle.gix_refspec_match.proofs.missing_sources.Goals as goal
 
 pub loop-matcher-preserved : goal.loop-matcher-preserved

@@ -1,6 +1,7 @@
 -- one more key, those that are kept, and a sort that moves them
 use Rattle.gix_refspec_match.proofs.Common.{refl, arith, ◌<◌, length, map, ◌≤◌, ◌^◌, length-map, get_or-map}
-use Rattle.gix_refspec_match.proofs.lemmas.{duplicates.OrderedLemmas.numbered_more, duplicates.HashKeyLemmas.packed, duplicates.HashKeyLemmas.sorted_keys, duplicates.HashKeyLemmas.sorted_keys_rise}
+use Rattle.gix_refspec_match.proofs.lemmas.duplicates.HashKeyLemmas.{packed, sorted_keys, sorted_keys_rise}
+use Rattle.gix_refspec_match.proofs.lemmas.duplicates.OrderedLemmas.{numbered_more}
 use Rattle.gix_refspec_match.proofs.duplicates.keys_in_order.Goals as goal
 
 pub loop-index-preserved : goal.loop-index-preserved

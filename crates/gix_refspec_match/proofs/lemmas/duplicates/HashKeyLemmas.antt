@@ -3,7 +3,7 @@ use Rattle.gix_refspec_match.proofs.Common.{List, refl, ◌≡◌, ℕ, true, Eq
 use Rattle.gix_refspec_match.proofs.Common.{div-mul-le_self, shr_mono, AllPairs-filter, eq-eqb, length-map, get_or-map, All-contains, Contains-get_or, All-filter, Contains-append_cases, filter_passes}
 use Rattle.gix_refspec_match.proofs.Common.{All-permutation, Contains-permutation, IsNonDecreasingBy-from_sort, IsPermutation-filter_both, div-mul-add, mod-mul-add, or_shifted, shr_split, IsPermutation}
 use Rattle.gix_refspec_match.proofs.Common.{IsSorted, Contains, filter, nat_cmp, HasNumber, HaveSameUpper, index_in, AreApart, AreKeysOf, FindDuplicates, HasIndex, HasShared, IsKey, is_shared, Rises, Bloom}
-use Rattle.gix_refspec_match.proofs.Common.{some_element}
+use Rattle.gix_refspec_match.proofs.lemmas.duplicates.FlagLemmas.{some_element}
 use Rattle.gix_refspec_match.proofs.lemmas.duplicates.OrderedLemmas.{AreNumbered, apart_permuted, numbered_apart, second_found}
 
 -- the upper and the lower bits of a key

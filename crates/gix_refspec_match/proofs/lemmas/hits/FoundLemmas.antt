@@ -1,6 +1,7 @@
 -- What hits make, and where patterns match.
 use Rattle.gix_refspec_match.proofs.Common.{List, [], None, Some, ◌≡◌, ℕ, Option, sym, ◌∙◌, is_some, ◌<◌, length, map, get_or, option_map, ◌↔◌, MatchOption, Bor, IsTrue, Bool, zero-add, false≢true, map-id, Ref}
-use Rattle.gix_refspec_match.proofs.Common.{MatchesAs, pattern, Fits, MakesOf, IsMadeFrom, Hit, Mapped, mapping_of, IsMatched, Candidates, made_map}
+use Rattle.gix_refspec_match.proofs.Common.{MatchesAs, pattern, Fits, MakesOf, IsMadeFrom, Hit, Mapped, mapping_of, IsMatched, Candidates}
+use Rattle.gix_refspec_match.proofs.lemmas.lists.ListsLemmas.{made_map}
 
 -- what a read past the end gives
 abbrev pub blank : Ref

@@ -3,8 +3,10 @@
 use Rattle.gix_refspec_match.proofs.Common.{List, [], ◌∷◌, refl, ◌≡◌, ℕ, ◌++◌, sym, ◌∙◌, arith, inl, inr, ap, append-nil, ◌<◌, length, map, ◌+◌, get_or, append_assoc, zero, suc, Bool, add-zero, length-append}
 use Rattle.gix_refspec_match.proofs.Common.{get_or-append_seam, get_or_append_left, map-append, IsPositive, Ref, Reading, IsMadeFrom, IsJoinedFrom, Ends, Hit, IsHit, AreSpecHits, AreHits, Mapped, IsSamePair}
 use Rattle.gix_refspec_match.proofs.Common.{HasPair, HaveSameSides, FlagsEqual, mapping_of, Thins, IsFlagged, HaveKinds, HasEnds, TakesIn, AreMatcherOf, AreMatchersOf, Candidates, All, First, Matcher, Matchers}
-use Rattle.gix_refspec_match.proofs.Common.{joined_next}
-use Rattle.gix_refspec_match.proofs.lemmas.{hits.FoundLemmas.made_each, hits.FoundLemmas.of_hits, keep.KeptLemmas.HasPair-left, keep.ThinLemmas.pair_right, keep.ThinLemmas.thins_both}
+use Rattle.gix_refspec_match.proofs.lemmas.hits.FoundLemmas.{made_each, of_hits}
+use Rattle.gix_refspec_match.proofs.lemmas.keep.KeptLemmas.{HasPair-left}
+use Rattle.gix_refspec_match.proofs.lemmas.keep.ThinLemmas.{pair_right, thins_both}
+use Rattle.gix_refspec_match.proofs.lemmas.lists.JoinLemmas.{joined_next}
 
 -- the same hit, by the spec at place k
 abbrev at_spec : ℕ → Hit → Hit

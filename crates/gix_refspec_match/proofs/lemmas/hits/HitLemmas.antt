@@ -3,7 +3,9 @@ use Rattle.gix_refspec_match.proofs.Common.{List, [], ◌∷◌, None, Some, cod
 use Rattle.gix_refspec_match.proofs.Common.{append_cancel_left, AllByRecursion, lacks_no_pattern, one_word, split_once, AllByRecursion-parts, IsIdText-unique, kind_of_side, DeclaredKind, Ref, Matches}
 use Rattle.gix_refspec_match.proofs.Common.{MatchesAs, pattern, object, HasKind, full_name, partial, SideKind, Fits, IsCandidate, candidates, Reading, Ends, IsFilled, Hit, IsHit, AreSpecHits, IsIdMapping}
 use Rattle.gix_refspec_match.proofs.Common.{AreBackward, AreForward, OneForward, OneBackward, Mapped, IsKeptAt, IsKept, HaveKinds, HasEnds, TakesIn, filled_side, HasSideKind, IsFirstIn, Candidates, All, First}
-use Rattle.gix_refspec_match.proofs.Common.{Matcher, one_joined, MakesOnce, made_once}
+use Rattle.gix_refspec_match.proofs.Common.{Matcher}
+use Rattle.gix_refspec_match.proofs.lemmas.lists.JoinLemmas.{one_joined, MakesOnce}
+use Rattle.gix_refspec_match.proofs.lemmas.lists.ListsLemmas.{made_once}
 
 -- the word is what is left of the name after its front, without its end
 pub word_left : (before after n rest : List ℕ) (r : Option (Bor (List ℕ))) → n ≡ before ++ rest → MatchOption r ((front : List ℕ) → rest ≢ front ++ after) (λ x. rest ≡ x.now ++ after) → MatchOption r ((word : List ℕ) → ¬ (Fits before after n word)) (λ word. Fits before after n word.now)

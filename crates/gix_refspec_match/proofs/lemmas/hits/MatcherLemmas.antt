@@ -3,8 +3,8 @@ use Rattle.gix_refspec_match.proofs.Common.{List, [], ◌∷◌, None, Some, ref
 use Rattle.gix_refspec_match.proofs.Common.{◌≤◌, ◌↔◌, IsTrue, Bool, false≢true, length-map, get_or-map, bool_cmp, ordering_then, map_next, kind_of_side, IsPositive, id_bytes, reading_of, ObjectId, DeclaredKind}
 use Rattle.gix_refspec_match.proofs.Common.{Object, RefSpecRef, object, HasKind, Negative, Reading, Mode, IsJoinedFrom, Ends, AreForwardEnds, AreBackwardEnds, FlagsDuplicates, HaveSameSides, FlagsEqual}
 use Rattle.gix_refspec_match.proofs.Common.{excludes, side_order, sides_order, IsFlagged, HasNoSides, HaveSides, AreMatcherOf, AreObjectOf, HasSideKind, both_equal, same_options, Candidates, All, First, Sides}
-use Rattle.gix_refspec_match.proofs.Common.{map_long, joined_next}
 use Rattle.gix_refspec_match.proofs.lemmas.hits.HitLemmas.{one_kind}
+use Rattle.gix_refspec_match.proofs.lemmas.lists.JoinLemmas.{map_long, joined_next}
 
 -- ---- a spec without sides
 

@@ -1,9 +1,12 @@
 -- An item's place is added for the partial names that may stand for its name.
 use Rattle.gix_refspec_match.proofs.Common.{List, [], Some, codes, refl, ◌≡◌, ℕ, ◌++◌, Option, ◌∙◌, arith, inl, inr, ap, ◌<◌, length, map, take, drop, ◌+◌, get_or, take_all, ◌⊎◌, ◌≤◌, length-append, map_more}
 use Rattle.gix_refspec_match.proofs.Common.{slice_get-map, slice_get-get_or, AllByRecursion, Contains, Ref, Fits, IsCandidate, Joins, name_at, HavePlaces, AddsWhere, IsBelowPlace, ListPartials, ref_of}
-use Rattle.gix_refspec_match.proofs.Common.{Candidates, All, First, Item, map_long, Vec}
-use Rattle.gix_refspec_match.proofs.lemmas.{index.FirstPlacesLemmas.AreFound, index.FirstPlacesLemmas.found_next, index.FirstPlacesLemmas.found_taken, index.PlacesLemmas.all_at}
-use Rattle.gix_refspec_match.proofs.lemmas.{hits.HitLemmas.candidate_cases, hits.HitLemmas.placed_candidate, hits.HitLemmas.remote_candidate, index.IndexLemmas.Puts, index.IndexLemmas.put_cases}
+use Rattle.gix_refspec_match.proofs.Common.{Candidates, All, First, Item, Vec}
+use Rattle.gix_refspec_match.proofs.lemmas.hits.HitLemmas.{candidate_cases, placed_candidate, remote_candidate}
+use Rattle.gix_refspec_match.proofs.lemmas.index.FirstPlacesLemmas.{AreFound, found_next, found_taken}
+use Rattle.gix_refspec_match.proofs.lemmas.index.IndexLemmas.{Puts, put_cases}
+use Rattle.gix_refspec_match.proofs.lemmas.index.PlacesLemmas.{all_at}
+use Rattle.gix_refspec_match.proofs.lemmas.lists.JoinLemmas.{map_long}
 
 -- where P holds of no name that is known and listed
 pub adds_nothing : {Known P : List ℕ → Type 0} {R : List ℕ → List ℕ → Type 0} {listed : List ℕ → Option (Vec ℕ)}

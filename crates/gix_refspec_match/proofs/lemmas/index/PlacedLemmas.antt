@@ -3,8 +3,8 @@ use Rattle.gix_refspec_match.proofs.Common.{List, [], ◌∷◌, None, Some, ref
 use Rattle.gix_refspec_match.proofs.Common.{zero, suc, option_to_list, Bool, MatchBool, length-drop, MatchBool-at_true, drop_more, map_more, length-take-le, take_more, get_or-map, first_candidate, kind_of_side}
 use Rattle.gix_refspec_match.proofs.Common.{BeginsWith, Ref, MatchesAs, pattern, object, full_name, partial, SideKind, MakesOf, IsMadeFrom, IsJoinedFrom, AreFound, hit_at, AddsFound, IsFound, IsIndexFor}
 use Rattle.gix_refspec_match.proofs.Common.{TakesWhole, IsIndexOf, IsListed, HasNamesOf, ListsFor, MatchesListed, IsTaken, TakesEach, ref_of, DeclaredHit, Index, Names, Candidates, First, Matcher, Item}
-use Rattle.gix_refspec_match.proofs.Common.{map_long, made_next, joined_next}
 use Rattle.gix_refspec_match.proofs.lemmas.hits.FoundLemmas.{blank}
+use Rattle.gix_refspec_match.proofs.lemmas.lists.JoinLemmas.{map_long, made_next, joined_next}
 
 -- ---- what is taken without a word
 

@@ -1,8 +1,10 @@
 -- Where the names of refs begin as patterns do.
 use Rattle.gix_refspec_match.proofs.Common.{List, [], ◌∷◌, None, Some, refl, ◌≡◌, ℕ, false, ◌++◌, sym, ◌∙◌, arith, inl, inr, ap, append-nil, ◌<◌, length, map, take, drop, ◌+◌, get_or, rules, ◌⊎◌, ◌≤◌, Bool}
 use Rattle.gix_refspec_match.proofs.Common.{length-append, take-append-drop, take-append_seam, cases_Bool, cases_eq, length-take-le, nil_from_length, AllByRecursion, bstr_bytes, BeginsWith, HavePlaces}
-use Rattle.gix_refspec_match.proofs.Common.{AddsPlace, HaveLengths, ListPrefixes, IsFlagged, ref_of, Item, made_more, Vec}
-use Rattle.gix_refspec_match.proofs.lemmas.{index.IndexLemmas.Listed, index.IndexLemmas.Puts, index.IndexLemmas.put_cases, index.PlacesLemmas.all_at}
+use Rattle.gix_refspec_match.proofs.Common.{AddsPlace, HaveLengths, ListPrefixes, IsFlagged, ref_of, Item, Vec}
+use Rattle.gix_refspec_match.proofs.lemmas.index.IndexLemmas.{Listed, Puts, put_cases}
+use Rattle.gix_refspec_match.proofs.lemmas.index.PlacesLemmas.{all_at}
+use Rattle.gix_refspec_match.proofs.lemmas.lists.JoinLemmas.{made_more}
 
 -- a name begins with what is taken from it, and with nothing else of that length
 begins_taken : (n : List ℕ) (l : ℕ) → BeginsWith (take l n) n

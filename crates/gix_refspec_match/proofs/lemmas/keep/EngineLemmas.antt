@@ -4,9 +4,12 @@ use Rattle.gix_refspec_match.proofs.Common.{slice_get, IsSome, common_steps, dro
 use Rattle.gix_refspec_match.proofs.Common.{kind_of_side, id_bytes, DeclaredKind as SideKind, Ref, Reading, MakesOf, IsMadeFrom, IsJoinedFrom, place_among, Hit, AreHits, IsIdMapping, Mapped, IsKept, AddsMapped}
 use Rattle.gix_refspec_match.proofs.Common.{Thins, IsMappedHit, hit_of, object_mapping, AreFound, turned, hit_at, AreHitsAmong, AreSound, IsSound, AreExclusionsOf, HasEnds, TakesIn, AreMatcherOf, AreMatchersOf}
 use Rattle.gix_refspec_match.proofs.Common.{AreObjectOf, HaveOthers, HasSideKind, IsMatched, Exclusions, DeclaredHit, Candidates, All, Matcher, Matchers, ObjectSpec}
-use Rattle.gix_refspec_match.proofs.lemmas.{hits.FoundLemmas.blank, hits.FoundLemmas.of_hits, hits.GroupLemmas.FindEnough, hits.GroupLemmas.most_found, hits.HitLemmas.far_filled}
-use Rattle.gix_refspec_match.proofs.lemmas.{keep.KeptLemmas.AreIncluded, keep.KeptLemmas.kept_included, keep.KeptLemmas.starts_agree, keep.PartLemmas.all_enough, keep.PartLemmas.once_enough}
-use Rattle.gix_refspec_match.proofs.lemmas.{keep.PartLemmas.part_read, keep.ThinLemmas.kept_thinned, keep.ThinLemmas.thins_all, keep.ThinLemmas.thins_behind, keep.ThinLemmas.thins_both}
+use Rattle.gix_refspec_match.proofs.lemmas.hits.FoundLemmas.{blank, of_hits}
+use Rattle.gix_refspec_match.proofs.lemmas.hits.GroupLemmas.{FindEnough, most_found}
+use Rattle.gix_refspec_match.proofs.lemmas.hits.HitLemmas.{far_filled}
+use Rattle.gix_refspec_match.proofs.lemmas.keep.KeptLemmas.{AreIncluded, kept_included, starts_agree}
+use Rattle.gix_refspec_match.proofs.lemmas.keep.PartLemmas.{all_enough, once_enough, part_read}
+use Rattle.gix_refspec_match.proofs.lemmas.keep.ThinLemmas.{kept_thinned, thins_all, thins_behind, thins_both}
 
 -- ---- lists that are made or joined from others, element by element
 

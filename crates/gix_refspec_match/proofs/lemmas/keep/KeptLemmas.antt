@@ -2,10 +2,12 @@
 use Rattle.gix_refspec_match.proofs.Common.{List, [], ◌∷◌, None, Some, refl, ◌≡◌, ℕ, ◌++◌, Option, ◌∙◌, arith, inl, ap, ◌<◌, length, map, take, ◌+◌, get_or, append_assoc, option_map, ◌↔◌, option_to_list, Bool}
 use Rattle.gix_refspec_match.proofs.Common.{zero-add, length-append, Ordering, take-append_seam, false≢true, length-map, length-take-le, get_or_default, map-id, get_or-map, get_or-take, All-from_recursion}
 use Rattle.gix_refspec_match.proofs.Common.{AllByRecursion, all_weaker, Reading, MakesOf, IsMadeFrom, name, id, Mapped, IsKept, Source, IsSourceExcluded, IsSamePair, HasPair, FlagsDuplicates, IsDuplicate}
-use Rattle.gix_refspec_match.proofs.Common.{AreExclusionsOf, ExcludeStart, IsUnflagged, equal_pair, pair_order, same_pair, mapped_of, Exclusions, Mapping, made_map, made_all}
+use Rattle.gix_refspec_match.proofs.Common.{AreExclusionsOf, ExcludeStart, IsUnflagged, equal_pair, pair_order, same_pair, mapped_of, Exclusions, Mapping}
+use Rattle.gix_refspec_match.proofs.lemmas.hits.FoundLemmas.{made_each}
+use Rattle.gix_refspec_match.proofs.lemmas.keep.KeptPairLemmas.{Any-HasPair, HasPair-Any, Keeps}
+use Rattle.gix_refspec_match.proofs.lemmas.lists.ListsLemmas.{made_map, made_all}
+use Rattle.gix_refspec_match.proofs.lemmas.lists.SomeLemmas.{Any-left, Any-right, some_at, some_of}
 use Rattle.gix_refspec_match.specs.Matching.Mappings.{AreApart}
-use Rattle.gix_refspec_match.proofs.lemmas.{lists.SomeLemmas.Any-left, lists.SomeLemmas.Any-right, lists.SomeLemmas.some_at, lists.SomeLemmas.some_of, keep.KeptPairLemmas.Any-HasPair}
-use Rattle.gix_refspec_match.proofs.lemmas.{keep.KeptPairLemmas.HasPair-Any, keep.KeptPairLemmas.Keeps, hits.FoundLemmas.made_each}
 
 -- a pair that is in a list, by its place
 pub HasPair-from_place : (l : List Mapped) (j : ℕ) (d m : Mapped) → j < length l → IsSamePair (get_or l j d) m → HasPair l m

@@ -4,9 +4,12 @@ use Rattle.gix_refspec_match.proofs.Common.{◌↔◌, zero, suc, length-append,
 use Rattle.gix_refspec_match.proofs.Common.{MatchesAs, pattern, object, full_name, partial, SideKind, IsCandidate, Reading, IsMadeFrom, IsPartBehind, IsPart, Ends, IsHit, Mapped, IsSamePair, HasPair}
 use Rattle.gix_refspec_match.proofs.Common.{mapping_of, Thins, hit_of, hit_by, AreFound, turned, hit_at, IsFound, HaveKinds, TakesIn, filled_side, IsFirstIn, IsTaken, word_in, DeclaredHit, Candidates, All}
 use Rattle.gix_refspec_match.proofs.Common.{First, Matcher}
-use Rattle.gix_refspec_match.proofs.lemmas.{keep.KeptLemmas.HasPair-left, keep.KeptLemmas.HasPair-last, keep.ThinLemmas.cut, keep.ThinLemmas.pair_alike, keep.ThinLemmas.thins_all}
-use Rattle.gix_refspec_match.proofs.lemmas.{keep.ThinLemmas.thins_behind, index.FirstPlacesLemmas.has_last, hits.FoundLemmas.blank, hits.FoundLemmas.made_each, hits.FoundLemmas.of_hits}
-use Rattle.gix_refspec_match.proofs.lemmas.{hits.GroupLemmas.FindsEnough, hits.HitLemmas.is_hit, hits.HitLemmas.matches_as, hits.HitLemmas.taken_first, hits.HitLemmas.taken_matches}
+use Rattle.gix_refspec_match.proofs.lemmas.hits.FoundLemmas.{blank, made_each, of_hits}
+use Rattle.gix_refspec_match.proofs.lemmas.hits.GroupLemmas.{FindsEnough}
+use Rattle.gix_refspec_match.proofs.lemmas.hits.HitLemmas.{is_hit, matches_as, taken_first, taken_matches}
+use Rattle.gix_refspec_match.proofs.lemmas.index.FirstPlacesLemmas.{has_last}
+use Rattle.gix_refspec_match.proofs.lemmas.keep.KeptLemmas.{HasPair-left, HasPair-last}
+use Rattle.gix_refspec_match.proofs.lemmas.keep.ThinLemmas.{cut, pair_alike, thins_all, thins_behind}
 
 -- ---- the hits of a matcher
 

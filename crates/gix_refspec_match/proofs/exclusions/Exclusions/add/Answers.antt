@@ -1,5 +1,6 @@
 -- a source without a star excludes its name, and one with a star the names of its pattern
-use Rattle.gix_refspec_match.proofs.Common.{◌≡◌, sym, ◌∙◌, arith, inl, inr, ap, rules, option_map, bstr_bytes, reading_of, FitsName, index_of, Pattern, key_of}
+use Rattle.gix_refspec_match.proofs.Common.{◌≡◌, sym, ◌∙◌, arith, inl, inr, ap, rules, option_map, bstr_bytes, reading_of, FitsName, index_of, Pattern}
+use Rattle.gix_refspec_match.proofs.lemmas.index.KeyLemmas.{key_of}
 use Rattle.gix_refspec_match.proofs.lemmas.keep.ExclusionLemmas.{Any-push-cases, index_more, name_excludes, pattern_excludes}
 use Rattle.gix_refspec_match.proofs.exclusions.Exclusions.add.Goals as goal
 

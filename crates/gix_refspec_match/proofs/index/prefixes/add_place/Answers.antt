@@ -1,5 +1,6 @@
 -- Of each length that is flagged there is one prefix at most that the name begins with.
-use Rattle.gix_refspec_match.proofs.Common.{refl, false, sym, arith, inr, ap, length, get_or_past, list_of, key_of}
+use Rattle.gix_refspec_match.proofs.Common.{refl, false, sym, arith, inr, ap, length, get_or_past, list_of}
+use Rattle.gix_refspec_match.proofs.lemmas.index.KeyLemmas.{key_of}
 use Rattle.gix_refspec_match.proofs.lemmas.index.PrefixLemmas.{adds_all, adds_listed, adds_more, begins_long, taken_begins}
 use Rattle.gix_refspec_match.proofs.index.prefixes.add_place.Goals as goal
 

@@ -1,5 +1,6 @@
 -- The place is added for the partial name alone.
-use Rattle.gix_refspec_match.proofs.Common.{refl, sym, arith, ap, on_ok_weaker, list_of, key_of}
+use Rattle.gix_refspec_match.proofs.Common.{refl, sym, arith, ap, on_ok_weaker, list_of}
+use Rattle.gix_refspec_match.proofs.lemmas.index.KeyLemmas.{key_of}
 use Rattle.gix_refspec_match.proofs.lemmas.index.PartialLemmas.{adds_nothing, adds_one}
 use Rattle.gix_refspec_match.proofs.index.partials.Lookup.add.Goals as goal
 
