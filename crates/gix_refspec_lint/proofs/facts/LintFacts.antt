@@ -1,31 +1,14 @@
 -- Examples of the definitions of what specs do together, on each side of a border.
-use Rattle.std.proofs.Common.{false, ◌≡◌, ◌≢◌, inl, inr, ℕ, List, [], ◌∷◌, ◌++◌, Option, None, Some, codes, refl, sym, ◌∙◌, subst, arith}
-use Rattle.std.specs.List.{AllByRecursion, Contains, slice_get}
-use Rattle.std.proofs.lemmas.Option.{same_Some}
+use Rattle.gix_refspec_lint.proofs.Common.{false, ◌≡◌, ◌≢◌, inl, inr, ℕ, List, [], ◌∷◌, ◌++◌, Option, None, Some, codes, refl, sym, ◌∙◌, subst, arith, AllByRecursion, Contains, slice_get, same_Some}
+use Rattle.gix_refspec_lint.proofs.Common.{HasName, Ref, Takes, Excludes, by_pattern, pattern, the_name, fetched, Forced, Negative, Reading, star, IsSplit, Lacks, Lacks-tested, lacks_no_pattern}
+use Rattle.gix_refspec_lint.proofs.Common.{AreKeptForward, Mapped, HasPair, IsExcluded, IsExcludedBy, name, IsPaired, MakesForward, IsRefName, one_name, CanBeWritten, IsCompleted, IsPlan, IsSound}
+use Rattle.gix_refspec_lint.proofs.Common.{Planned, Origin, named_some, ConflictFree, ConflictsShown, ExamplesConflict, HasSound, IdleExclusionLeftOut, IdleLeftOut, PlanConflictFree, AreExamples}
+use Rattle.gix_refspec_lint.proofs.Common.{AreIdle, AreIdleExclusions, AreValid, DoesBefore, Example, IsAlwaysEarlier, IsExample, IsIdleBy, IsIdleExclusion, MapsSoundly, refs_of}
 use Rattle.gix_refspec_lint.specs.declared.Reason.TheVariants as reason
-use Rattle.gix_refspec_plan.specs.declared.Origin.{Origin}
 use Rattle.gix_refspec_plan.specs.declared.Verdict.TheVariants as verdict
-use Rattle.gix_refspec_text.specs.Texts.Bytes.{star}
-use Rattle.gix_refspec_text.specs.Texts.Words.{Lacks}
-use Rattle.gix_refspec_text.specs.Texts.Name.{IsSplit}
-use Rattle.gix_refspec_text.specs.Specs.Reading.{Forced, Negative, Reading}
-use Rattle.gix_refspec_text.specs.Specs.Grammar.{fetched}
-use Rattle.gix_refspec_text.specs.Matching.Side.{Excludes, by_pattern, pattern, the_name}
-use Rattle.gix_refspec_text.specs.Matching.Match.{HasName, Ref, Takes}
 use Rattle.gix_refspec_text.proofs.facts.FitFacts.{every, heads_split, origin_split, other_byte, other_first, split_at_end}
-use Rattle.gix_refspec_text.proofs.facts.ManualFacts.{Lacks-tested}
-use Rattle.gix_refspec_text.proofs.lemmas.hits.MatchLemmas.{lacks_no_pattern}
 use Rattle.gix_refspec_text.proofs.lemmas.texts.TestedLemmas.{IsName-tested}
-use Rattle.gix_refspec_match.specs.Matching.Mappings.{Mapped, HasPair, IsExcluded, IsExcludedBy, name}
-use Rattle.gix_refspec_match.specs.Matching.Hits.{AreKeptForward}
-use Rattle.gix_refspec_lint.specs.Laws.Lint.{ConflictFree, ConflictsShown, ExamplesConflict, HasSound, IdleExclusionLeftOut, IdleLeftOut, PlanConflictFree}
-use Rattle.gix_refspec.specs.Laws.Matching.{IsPaired, MakesForward}
-use Rattle.gix_refspec_lint.specs.Matching.Lint.{AreExamples, AreIdle, AreIdleExclusions, AreValid, DoesBefore, Example, IsAlwaysEarlier, IsExample, IsIdleBy, IsIdleExclusion, MapsSoundly, refs_of}
-use Rattle.gix_refspec_plan.specs.Matching.Plan.{CanBeWritten, IsCompleted, IsPlan, IsSound, Planned}
 use Rattle.gix_refspec.specs.Matching.Validation.{ShareDestination}
-use Rattle.gix_refspec.specs.Matching.RefNames.{IsRefName}
-use Rattle.gix_refspec.proofs.lemmas.keep.PairMadeLemmas.{one_name}
-use Rattle.gix_refspec_plan.proofs.lemmas.stale.FetchedLemmas.{named_some}
 
 -- pull requests in the folder of the branches, and the way out
 abbrev pulls : Reading

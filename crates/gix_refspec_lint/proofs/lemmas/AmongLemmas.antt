@@ -1,20 +1,8 @@
 -- Without a conflict at the names that decide two specs of patterns don't conflict.
-use Rattle.std.proofs.Common.{◌≡◌, ℕ, zero, suc, ◌≤◌, List, [], ◌∷◌, ◌++◌, Option, None, Some, MatchOption, drop, map, option_map, subst}
-use Rattle.std.specs.List.{AllByRecursion, AllZip, slice_get}
-use Rattle.std.proofs.lemmas.Option.{same_Some}
+use Rattle.gix_refspec_lint.proofs.Common.{◌≡◌, ℕ, zero, suc, ◌≤◌, List, [], ◌∷◌, ◌++◌, Option, None, Some, MatchOption, drop, map, option_map, subst, AllByRecursion, AllZip, slice_get, same_Some}
+use Rattle.gix_refspec_lint.proofs.Common.{IsAccepted, Reading, reading_of, IsCompleted, reading_once, all_accepted, Example, IsExample, refs_of, HaveCommon, IsDeciding, IsFound, IsGroupOf, NoneAt}
+use Rattle.gix_refspec_lint.proofs.Common.{words_with, IsOverlap, example_of, Group, Common}
 use Rattle.gix_refspec_lint.specs.declared.PossibleConflict.{PossibleConflict}
-use Rattle.gix_refspec_lint.specs.declared.group.Group.{Group}
-use Rattle.gix_refspec_lint.specs.declared.words.Common.{Common}
-use Rattle.gix_refspec_text.specs.Specs.Reading.{Reading}
-use Rattle.gix_refspec_text.specs.Specs.Grammar.{IsAccepted}
-use Rattle.gix_refspec_text.specs.Views.Spec.{reading_of}
-use Rattle.gix_refspec_lint.specs.Matching.Lint.{Example, IsExample, refs_of}
-use Rattle.gix_refspec_plan.specs.Matching.Plan.{IsCompleted}
-use Rattle.gix_refspec_lint.specs.Private.Lints.{HaveCommon, IsDeciding, IsFound, IsGroupOf, NoneAt, words_with}
-use Rattle.gix_refspec_lint.specs.Private.Overlaps.{IsOverlap}
-use Rattle.gix_refspec_lint.specs.Views.Lint.{example_of}
-use Rattle.gix_refspec_plan.proofs.lemmas.plan.OnePlanLemmas.{reading_once}
-use Rattle.gix_refspec_plan.proofs.lemmas.stale.StateLemmas.{all_accepted}
 use Rattle.gix_refspec_lint.proofs.lemmas.DecidingLemmas.{each_deciding}
 use Rattle.gix_refspec_lint.proofs.lemmas.FreeLemmas.{accepted_at}
 use Rattle.gix_refspec_lint.proofs.lemmas.PatternLemmas.{decided}

@@ -1,7 +1,6 @@
 -- Borders of borders, and how a border grows by a byte.
-use Rattle.std.proofs.Common.{◌≡◌, ◌≢◌, ℕ, zero, suc, ◌+◌, ◌-◌, ◌<◌, List, get_or, set, length, sym, ap, subst, ◌∙◌, arith, ⊎_elim, get_or-set_same, get_or-set_other}
-use Rattle.std.proofs.lemmas.Bool.{cases_eq, cases_lt}
-use Rattle.gix_refspec_lint.specs.Private.Borders.{AreLongestTo, IsBorderAt, IsLongestAt}
+use Rattle.gix_refspec_lint.proofs.Common.{◌≡◌, ◌≢◌, ℕ, zero, suc, ◌+◌, ◌-◌, ◌<◌, List, get_or, set, length, sym, ap, subst, ◌∙◌, arith, ⊎_elim, get_or-set_same, get_or-set_other, cases_eq, cases_lt}
+use Rattle.gix_refspec_lint.proofs.Common.{AreLongestTo, IsBorderAt, IsLongestAt}
 
 module _ (text : List ℕ) where
   same : (i j : ℕ) → i ≡ j → get_or text i 0 ≡ get_or text j 0

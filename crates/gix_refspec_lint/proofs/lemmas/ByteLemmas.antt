@@ -1,21 +1,9 @@
 -- A byte between two texts that stands for any word there.
-use Rattle.std.proofs.Common.{◌≡◌, ◌≢◌, ◌⊎◌, inl, inr, ℕ, Bool, true, false, ◌||◌, not, ◌==◌, List, [], ◌∷◌, ◌++◌, Option, None, Some, codes, append_assoc, append-nil, refl, sym, ap, ◌∙◌, subst, IsTrue}
-use Rattle.std.specs.List.{AllByRecursion, list_any}
-use Rattle.std.proofs.lemmas.Bool.{eqb-false, true≢false, false≢true}
-use Rattle.gix_refspec_text.specs.declared.name.Error.{Error}
-use Rattle.gix_refspec_text.specs.declared.name.Error.TheVariants.{Empty, EmptyComponent, StartsWithDot, LockSuffix, EndsWithDot, RepeatedDot, ReflogPortion, Asterisk, InvalidByte}
-use Rattle.gix_refspec_text.specs.Private.Scan.{AddsFault, Added, LeavesFault}
-use Rattle.gix_refspec_text.specs.Texts.Bytes.{slash, star, dot, brace}
-use Rattle.gix_refspec_text.specs.Texts.Name.{is_refused_byte, IsName}
-use Rattle.gix_refspec_text.specs.Texts.Words.{EndsWith, Lacks}
-use Rattle.gix_refspec_text.specs.Specs.Reading.{Reading}
-use Rattle.gix_refspec_text.specs.Matching.Side.{Excludes, Fits, by_pattern, the_name}
-use Rattle.gix_refspec_text.proofs.lemmas.lists.AllLemmas.{all_left, all_right}
-use Rattle.gix_refspec_text.proofs.lemmas.lists.LacksLemmas.{Lacks-here}
-use Rattle.gix_refspec_text.proofs.lemmas.texts.NameLemmas.{HasFault-added, HasFault-left, IsName-from_clean}
-use Rattle.gix_refspec_match.specs.Matching.Mappings.{IsExcluded}
-use Rattle.gix_refspec.specs.Laws.Plans.{LacksIn, SidesLack}
-use Rattle.gix_refspec_lint.specs.Matching.Lint.{is_usable}
+use Rattle.gix_refspec_lint.proofs.Common.{◌≡◌, ◌≢◌, ◌⊎◌, inl, inr, ℕ, Bool, true, false, ◌||◌, not, ◌==◌, List, [], ◌∷◌, ◌++◌, Option, None, Some, codes, append_assoc, append-nil, refl, sym, ap, ◌∙◌}
+use Rattle.gix_refspec_lint.proofs.Common.{subst, IsTrue, AllByRecursion, list_any, eqb-false, true≢false, false≢true, Excludes, Fits, by_pattern, the_name, AddsFault, Added, LeavesFault, Reading}
+use Rattle.gix_refspec_lint.proofs.Common.{slash, star, dot, brace, is_refused_byte, IsName, EndsWith, Lacks, Error, Empty, EmptyComponent, StartsWithDot, LockSuffix, EndsWithDot, RepeatedDot}
+use Rattle.gix_refspec_lint.proofs.Common.{ReflogPortion, Asterisk, InvalidByte, all_left, all_right, Lacks-here, HasFault-added, HasFault-left, IsName-from_clean, IsExcluded, LacksIn, SidesLack}
+use Rattle.gix_refspec_lint.proofs.Common.{is_usable}
 
 -- ---- lists
 

@@ -1,10 +1,8 @@
 -- Borders by their bytes, and the list of all.
-use Rattle.std.proofs.Common.{◌≡◌, ℕ, ◌+◌, ◌-◌, ◌<◌, ◌≤◌, List, [], ◌∷◌, ◌++◌, get_or, length, take, drop, sym, ap, subst, ◌∙◌, arith, ⊎_elim, length-append, length-drop}
-use Rattle.std.specs.List.{AllByRecursion, Contains}
-use Rattle.std.proofs.lemmas.Bool.{cases_eq, cases_lt}
-use Rattle.std.proofs.lemmas.List.{ext_get_or, get_or-append-add, get_or-drop, get_or-take, length-take-le, take-append-drop}
-use Rattle.std.proofs.lemmas.List.Elements.{Contains-append_left, Contains-push}
-use Rattle.gix_refspec_lint.specs.Private.Borders.{AreBorders, IsBorder, IsBorderAt, IsLongestAt}
+use Rattle.gix_refspec_lint.proofs.Common.{◌≡◌, ℕ, ◌+◌, ◌-◌, ◌<◌, ◌≤◌, List, [], ◌∷◌, ◌++◌, get_or, length, take, drop, sym, ap, subst, ◌∙◌, arith, ⊎_elim, length-append, length-drop, AllByRecursion}
+use Rattle.gix_refspec_lint.proofs.Common.{Contains, cases_eq, cases_lt, ext_get_or, get_or-append-add, get_or-drop, get_or-take, length-take-le, Contains-append_left, Contains-push, AreBorders}
+use Rattle.gix_refspec_lint.proofs.Common.{IsBorder, IsBorderAt, IsLongestAt}
+use Rattle.std.proofs.lemmas.List.{take-append-drop}
 use Rattle.gix_refspec_lint.proofs.lemmas.BorderLemmas.{border_between, border_in}
 
 -- the last k bytes are the first k

@@ -1,28 +1,8 @@
 -- The names that decide show what a spec with a source pattern maps soundly.
-use Rattle.std.proofs.Common.{◌≡◌, ◌≢◌, ◌⊎◌, inl, inr, ℕ, List, [], ◌∷◌, ◌++◌, codes, Option, None, Some, map, refl, sym, ap, ◌∙◌, subst}
-use Rattle.std.specs.List.{AllByRecursion, Contains}
-use Rattle.std.proofs.lemmas.List.Elements.{Contains-append_left, Contains-append_right}
-use Rattle.std.proofs.lemmas.Option.{same_Some}
-use Rattle.gix_refspec_text.specs.Texts.Words.{BeginsWith, Lacks}
-use Rattle.gix_refspec_text.specs.Texts.Name.{IsName, IsSplit}
-use Rattle.gix_refspec_text.specs.Specs.Reading.{Reading}
-use Rattle.gix_refspec_text.specs.Specs.Grammar.{IsAccepted, IsPositive}
-use Rattle.gix_refspec_text.specs.Matching.Side.{pattern, Fits, filled}
-use Rattle.gix_refspec_text.specs.Matching.Match.{Ref, HasName, Takes}
-use Rattle.gix_refspec_text.proofs.lemmas.hits.MatchLemmas.{lacks_no_pattern}
-use Rattle.gix_refspec_text.proofs.lemmas.lists.AllLemmas.{all_join, all_left, all_right}
-use Rattle.gix_refspec_match.specs.Matching.Mappings.{name}
-use Rattle.gix_refspec_match.specs.Matching.Hits.{IsFilled}
-use Rattle.gix_refspec_match.proofs.lemmas.hits.HitLemmas.{matches_as, one_kind}
-use Rattle.gix_refspec.specs.Laws.Matching.{IsPaired, MakesForward}
-use Rattle.gix_refspec_lint.specs.Matching.Lint.{IsFree}
-use Rattle.gix_refspec_plan.specs.Matching.Plan.{CanBeWritten}
-use Rattle.gix_refspec.specs.Matching.RefNames.{IsRefName}
-use Rattle.gix_refspec_lint.specs.Private.Idles.{MakesSoundly}
-use Rattle.gix_refspec_lint.specs.Private.Lints.{IsDeciding, IsLongerPrefix, IsLongerSuffix, IsMost, endings, parts, words_with}
-use Rattle.gix_refspec.proofs.lemmas.specs.SideLawLemmas.{sides_agree}
-use Rattle.gix_refspec_plan.proofs.lemmas.stale.FetchedLemmas.{named_some, some_named}
-use Rattle.gix_refspec.proofs.lemmas.keep.FilterLemmas.{mapped_there}
+use Rattle.gix_refspec_lint.proofs.Common.{◌≡◌, ◌≢◌, ◌⊎◌, inl, inr, ℕ, List, [], ◌∷◌, ◌++◌, codes, Option, None, Some, map, refl, sym, ap, ◌∙◌, subst, AllByRecursion, Contains, Contains-append_left}
+use Rattle.gix_refspec_lint.proofs.Common.{Contains-append_right, same_Some, Ref, HasName, Takes, pattern, Fits, filled, IsAccepted, IsPositive, Reading, IsName, IsSplit, BeginsWith, Lacks}
+use Rattle.gix_refspec_lint.proofs.Common.{lacks_no_pattern, all_join, all_left, all_right, IsFilled, name, matches_as, one_kind, IsPaired, MakesForward, IsRefName, mapped_there, sides_agree}
+use Rattle.gix_refspec_lint.proofs.Common.{CanBeWritten, named_some, some_named, IsFree, MakesSoundly, IsDeciding, IsLongerPrefix, IsLongerSuffix, IsMost, endings, parts, words_with}
 use Rattle.gix_refspec_lint.proofs.lemmas.PatternLemmas.{lacks_ending, ref_moved, regroup, word_there}
 use Rattle.gix_refspec_lint.proofs.lemmas.WordLemmas.{Around, HasEnding, IsParted, IsRefAround, between, common_name, ending_or_part}
 use Rattle.gix_refspec_plan.proofs.lemmas.stale.PatternLemmas.{side_cases}

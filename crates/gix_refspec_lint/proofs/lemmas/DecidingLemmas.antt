@@ -1,8 +1,5 @@
 -- What holds at the names that decide.
-use Rattle.std.proofs.Common.{inl, inr, ℕ, ◌≤◌, List, ◌++◌, drop, sym, subst}
-use Rattle.std.specs.List.{AllByRecursion}
-use Rattle.gix_refspec_lint.specs.Private.Lints.{IsDeciding}
-use Rattle.gix_refspec_lint.specs.Private.Overlaps.{AreOverlaps, IsOverlap}
+use Rattle.gix_refspec_lint.proofs.Common.{inl, inr, ℕ, ◌≤◌, List, ◌++◌, drop, sym, subst, AllByRecursion, IsDeciding, AreOverlaps, IsOverlap}
 use Rattle.gix_refspec_lint.proofs.lemmas.PatternLemmas.{listed_at}
 
 -- with each word, and in each overlap

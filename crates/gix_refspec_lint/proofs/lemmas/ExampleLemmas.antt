@@ -1,21 +1,8 @@
 -- Over the refs of an example both of its mappings are kept.
-use Rattle.std.proofs.Common.{◌≡◌, ℕ, zero, suc, List, [], ◌∷◌, ◌++◌, Some, refl, sym, subst, arith}
-use Rattle.std.specs.List.{AllZip, Any, slice_get}
-use Rattle.std.proofs.lemmas.Option.{same_Some}
-use Rattle.gix_refspec_text.specs.Specs.Reading.{Reading}
-use Rattle.gix_refspec_text.specs.Matching.Match.{Ref}
-use Rattle.gix_refspec_match.specs.Matching.Mappings.{Mapped, Source, name, id, IsSourceExcluded}
-use Rattle.gix_refspec_match.specs.Matching.Hits.{AreKeptForward}
-use Rattle.gix_refspec_lint.specs.Laws.Lint.{ExamplesConflict, HasSound}
-use Rattle.gix_refspec.specs.Laws.Matching.{MakesForward}
-use Rattle.gix_refspec_lint.specs.Matching.Lint.{Fetches, refs_of}
-use Rattle.gix_refspec_plan.specs.Matching.Plan.{CanBeWritten, IsCompleted}
-use Rattle.gix_refspec.specs.Matching.RefNames.{IsValidSource}
-use Rattle.gix_refspec_lint.specs.Private.Lints.{pair_of}
-use Rattle.gix_refspec.proofs.lemmas.keep.PairMadeLemmas.{kept_exactly}
-use Rattle.gix_refspec_plan.proofs.lemmas.plan.OnePlanLemmas.{reading_once}
+use Rattle.gix_refspec_lint.proofs.Common.{◌≡◌, ℕ, zero, suc, List, [], ◌∷◌, ◌++◌, Some, refl, sym, subst, arith, AllZip, Any, slice_get, same_Some, Ref, Reading, AreKeptForward, Mapped, Source, name}
+use Rattle.gix_refspec_lint.proofs.Common.{id, IsSourceExcluded, MakesForward, IsValidSource, kept_exactly, CanBeWritten, IsCompleted, reading_once, completed_excluded, ExamplesConflict, HasSound}
+use Rattle.gix_refspec_lint.proofs.Common.{Fetches, refs_of, pair_of}
 use Rattle.gix_refspec_plan.proofs.lemmas.plan.OpposedLemmas.{pair_in}
-use Rattle.gix_refspec_plan.proofs.lemmas.stale.ZipLemmas.{completed_excluded}
 
 -- what holds of a spec with its destination completed holds of one of the completed ones
 completed_there : (g h : List Reading) (P : Reading → Type 0) (k : ℕ) (r c : Reading) → AllZip IsCompleted g h → slice_get g k ≡ Some r → IsCompleted r c → P c → Any P h

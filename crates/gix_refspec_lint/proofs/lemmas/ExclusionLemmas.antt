@@ -1,20 +1,7 @@
 -- What a negative spec excludes.
-use Rattle.std.proofs.Common.{◌≡◌, inl, inr, ◌↔◌, ℕ, Bool, true, List, [], ◌∷◌, Option, None, Some, MatchOption, Bor, refl, sym, ◌∙◌, subst, IsTrue, nat_eq}
-use Rattle.std.specs.Option.{is_some}
-use Rattle.std.specs.Cmp.Lexicographic.{pointwise}
-use Rattle.std.proofs.lemmas.Bool.Decides.{Decides-eqb}
-use Rattle.std.proofs.lemmas.Slice.Eq.{slice_eq-Decides}
-use Rattle.std.proofs.lemmas.Bool.{false≢true}
-use Rattle.std.proofs.lemmas.Option.{same_Some}
-use Rattle.gix_refspec_text.specs.Texts.Bytes.{star}
-use Rattle.gix_refspec_text.specs.Texts.Words.{Lacks}
-use Rattle.gix_refspec_text.specs.Texts.Name.{IsSplit}
-use Rattle.gix_refspec_text.specs.Specs.Reading.{Reading, Negative}
-use Rattle.gix_refspec_text.specs.Specs.Grammar.{IsAccepted}
-use Rattle.gix_refspec_text.specs.Matching.Side.{Excludes, Fits, by_pattern, the_name}
-use Rattle.gix_refspec_text.proofs.lemmas.hits.MatchLemmas.{lacks_no_pattern, split_once}
-use Rattle.gix_refspec_match.specs.Matching.Mappings.{IsSourceExcluded, name}
-use Rattle.gix_refspec.proofs.lemmas.specs.SideLawLemmas.{sides_agree}
+use Rattle.gix_refspec_lint.proofs.Common.{◌≡◌, inl, inr, ◌↔◌, ℕ, Bool, true, List, [], ◌∷◌, Option, None, Some, MatchOption, Bor, refl, sym, ◌∙◌, subst, IsTrue, nat_eq, pointwise, is_some}
+use Rattle.gix_refspec_lint.proofs.Common.{false≢true, Decides-eqb, same_Some, slice_eq-Decides, Excludes, Fits, by_pattern, the_name, IsAccepted, Reading, Negative, star, IsSplit, Lacks}
+use Rattle.gix_refspec_lint.proofs.Common.{lacks_no_pattern, split_once, IsSourceExcluded, name, sides_agree}
 
 module _ (r : Reading) (x : List ℕ) (negative : r.mode ≡ Negative) (has : r.source ≡ Some x) (n : List ℕ) where
   pub text_excludes : IsSourceExcluded (r ∷ []) (name n) → Excludes x n

@@ -1,19 +1,7 @@
 -- Reasons for which names come to nothing, where a word repeats in the names: they hold with the word once more.
-use Rattle.std.proofs.Common.{◌≡◌, ◌≢◌, ℕ, zero, suc, ◌+◌, ◌*◌, ◌≤◌, List, [], ◌++◌, Option, Some, length, refl, sym, ap, ◌∙◌, subst, arith}
-use Rattle.std.proofs.lemmas.List.{nil_from_length}
-use Rattle.std.proofs.lemmas.Option.{same_Some}
-use Rattle.gix_refspec_text.specs.Texts.Name.{IsSplit}
-use Rattle.gix_refspec_text.specs.Specs.Reading.{Reading}
-use Rattle.gix_refspec_text.specs.Matching.Side.{Fits, Excludes, the_name, by_pattern}
-use Rattle.gix_refspec_text.proofs.lemmas.hits.MatchLemmas.{one_word, split_once, lacks_no_pattern}
-use Rattle.gix_refspec_match.specs.Matching.Mappings.{IsExcludedBy}
-use Rattle.gix_refspec.specs.Matching.RefNames.{IsRefName}
-use Rattle.gix_refspec_plan.specs.Matching.Plan.{CanBeWritten}
-use Rattle.gix_refspec_lint.specs.declared.runs.Of.TheVariants.{First, Second}
-use Rattle.gix_refspec_lint.specs.declared.runs.Why.{Why}
-use Rattle.gix_refspec_lint.specs.declared.runs.Why.TheVariants.{Unknown, Unwritable, Invalid, Excluded, Same}
-use Rattle.gix_refspec_lint.specs.Private.Overlaps.{power}
-use Rattle.gix_refspec_lint.specs.Private.Runs.{ArePaired, IsExcludedAt, Fails, IsUnsound}
+use Rattle.gix_refspec_lint.proofs.Common.{◌≡◌, ◌≢◌, ℕ, zero, suc, ◌+◌, ◌*◌, ◌≤◌, List, [], ◌++◌, Option, Some, length, refl, sym, ap, ◌∙◌, subst, arith, nil_from_length, same_Some, Fits, Excludes}
+use Rattle.gix_refspec_lint.proofs.Common.{the_name, by_pattern, Reading, IsSplit, one_word, split_once, lacks_no_pattern, IsExcludedBy, IsRefName, CanBeWritten, power, ArePaired, IsExcludedAt, Fails}
+use Rattle.gix_refspec_lint.proofs.Common.{IsUnsound, First, Second, Why, Unknown, Unwritable, Invalid, Excluded, Same}
 use Rattle.gix_refspec_lint.proofs.lemmas.RepeatLemmas.{power_length, power_one, words_repeat, same_repeats, differ_again}
 use Rattle.gix_refspec_lint.proofs.lemmas.WordLemmas.{between}
 use Rattle.gix_refspec_lint.proofs.lemmas.RepeatNameLemmas.{names_again, written_again}

@@ -1,14 +1,6 @@
 -- What a spec maps over some refs, it maps over fewer that have the source.
-use Rattle.std.proofs.Common.{◌⊎◌, inl, inr, ℕ, List, [], ◌∷◌, ◌++◌, Option, Some, refl, sym, ◌∙◌, subst}
-use Rattle.gix_refspec_text.specs.Specs.Reading.{Reading}
-use Rattle.gix_refspec_text.specs.Matching.Match.{Ref, HasName, IsFirstCandidate, Takes}
-use Rattle.gix_refspec_text.proofs.lemmas.lists.AllLemmas.{all_weaker}
-use Rattle.gix_refspec_match.specs.Matching.Mappings.{Source, name, id}
-use Rattle.gix_refspec.specs.Laws.Matching.{IsPaired, MakesForward}
-use Rattle.gix_refspec_lint.specs.Laws.Lint.{ConflictsShown}
-use Rattle.gix_refspec_lint.specs.Matching.Lint.{ConflictOver, Fetches, refs_of}
-use Rattle.gix_refspec.proofs.lemmas.keep.NameOnlyLemmas.{matches_by_name}
-use Rattle.gix_refspec_plan.proofs.lemmas.stale.FetchedLemmas.{named_some, some_named}
+use Rattle.gix_refspec_lint.proofs.Common.{◌⊎◌, inl, inr, ℕ, List, [], ◌∷◌, ◌++◌, Option, Some, refl, sym, ◌∙◌, subst, Ref, HasName, IsFirstCandidate, Takes, Reading, all_weaker, Source, name, id}
+use Rattle.gix_refspec_lint.proofs.Common.{IsPaired, MakesForward, matches_by_name, named_some, some_named, ConflictsShown, ConflictOver, Fetches, refs_of}
 
 -- each name of the first list is in the second
 abbrev pub AreAmong : List Ref → List Ref → Type 0

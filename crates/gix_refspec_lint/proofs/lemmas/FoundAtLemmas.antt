@@ -1,19 +1,8 @@
 -- What is found of two specs at some names, and of one spec with all others.
-use Rattle.std.proofs.Common.{◌≡◌, ℕ, ◌+◌, ◌<◌, ◌≤◌, List, ◌++◌, Option, None, Some, append-nil, length, get_or, map, option_to_list, take, refl, sym, ◌∙◌, subst, arith}
-use Rattle.std.specs.List.{AllByRecursion, Contains}
-use Rattle.std.proofs.lemmas.List.{length-map, length-take-le, take_more}
-use Rattle.gix_refspec_lint.specs.declared.group.Group.{Group}
-use Rattle.gix_refspec_text.specs.Specs.Reading.{Reading}
-use Rattle.gix_refspec_text.specs.Views.Spec.{reading_of}
-use Rattle.gix_refspec_match.specs.Matching.Lists.{IsJoinedFrom, IsMadeFrom, MakesOf}
-use Rattle.gix_refspec_match.specs.Matching.Mappings.{Source}
-use Rattle.gix_refspec_match.proofs.lemmas.duplicates.FlagLemmas.{some_element}
-use Rattle.gix_refspec_match.proofs.lemmas.lists.JoinLemmas.{joined_next, made_next}
-use Rattle.gix_refspec_lint.specs.Matching.Lint.{ConflictOver, Example, IsExample, refs_of}
-use Rattle.gix_refspec_plan.specs.Matching.Plan.{IsCompleted}
-use Rattle.gix_refspec_lint.specs.Private.Lints.{IsFound, IsGroupOf, NoneAt}
+use Rattle.gix_refspec_lint.proofs.Common.{◌≡◌, ℕ, ◌+◌, ◌<◌, ◌≤◌, List, ◌++◌, Option, None, Some, append-nil, length, get_or, map, option_to_list, take, refl, sym, ◌∙◌, subst, arith, AllByRecursion}
+use Rattle.gix_refspec_lint.proofs.Common.{Contains, length-map, length-take-le, take_more, Reading, reading_of, IsJoinedFrom, IsMadeFrom, MakesOf, Source, some_element, joined_next, made_next}
+use Rattle.gix_refspec_lint.proofs.Common.{IsCompleted, zip_long, ConflictOver, Example, IsExample, refs_of, IsFound, IsGroupOf, NoneAt, Group}
 use Rattle.gix_refspec_lint.proofs.lemmas.PatternLemmas.{listed_at}
-use Rattle.gix_refspec_plan.proofs.lemmas.plan.NameLemmas.{zip_long}
 
 -- ---- at one destination
 

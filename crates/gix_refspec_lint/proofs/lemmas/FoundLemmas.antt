@@ -1,20 +1,7 @@
 -- Whether two specs conflict over the refs of two sources, by what their completed readings make of items with these names.
-use Rattle.std.proofs.Common.{◌≡◌, ◌≢◌, ℕ, zero, suc, ◌<◌, List, [], ◌∷◌, ◌++◌, Option, Some, length, map, get_or, refl, sym, ap, ◌∙◌, subst, arith}
-use Rattle.std.specs.List.{AllZip, slice_get}
-use Rattle.std.proofs.lemmas.List.{map-append}
-use Rattle.std.proofs.lemmas.Option.{same_Some}
-use Rattle.gix_refspec_text.specs.declared.spec.RefSpecRef.{RefSpecRef}
-use Rattle.gix_refspec_text.specs.Specs.Reading.{Reading}
-use Rattle.gix_refspec_text.specs.Matching.Match.{Ref}
-use Rattle.gix_refspec_text.specs.Views.Spec.{reading_of}
-use Rattle.gix_refspec_match.specs.Matching.Mappings.{Source, name, id, IsSourceExcluded}
-use Rattle.gix_refspec.specs.Laws.Items.{HaveSameNames}
-use Rattle.gix_refspec.specs.Laws.Matching.{MakesForward}
-use Rattle.gix_refspec_lint.specs.Matching.Lint.{ConflictOver, Maps, refs_of}
-use Rattle.gix_refspec_plan.specs.Matching.Plan.{CanBeWritten, IsCompleted}
-use Rattle.gix_refspec.specs.Matching.RefNames.{IsValidSource}
-use Rattle.gix_refspec.proofs.lemmas.keep.NameOnlyLemmas.{has_also}
-use Rattle.gix_refspec_plan.proofs.lemmas.plan.OnePlanLemmas.{reading_once}
+use Rattle.gix_refspec_lint.proofs.Common.{◌≡◌, ◌≢◌, ℕ, zero, suc, ◌<◌, List, [], ◌∷◌, ◌++◌, Option, Some, length, map, get_or, refl, sym, ap, ◌∙◌, subst, arith, AllZip, slice_get, map-append}
+use Rattle.gix_refspec_lint.proofs.Common.{same_Some, Ref, Reading, reading_of, RefSpecRef, Source, name, id, IsSourceExcluded, HaveSameNames, MakesForward, IsValidSource, has_also, CanBeWritten}
+use Rattle.gix_refspec_lint.proofs.Common.{IsCompleted, reading_once, ConflictOver, Maps, refs_of}
 use Rattle.gix_refspec_lint.proofs.lemmas.FewerLemmas.{IsThere, made_there, makes_fewer}
 
 -- refs with the same names make the same

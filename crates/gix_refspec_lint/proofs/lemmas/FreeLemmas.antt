@@ -1,31 +1,10 @@
 -- Without an example of a conflict no kept mappings conflict, whatever refs there are.
-use Rattle.std.proofs.Common.{◌≡◌, ◌≢◌, inl, inr, ℕ, zero, suc, ◌<◌, List, [], ◌∷◌, ◌++◌, Some, length, map, refl, sym, ap, ◌∙◌, subst, arith}
-use Rattle.std.specs.List.{AllByRecursion, AllZip, Any, Contains, slice_get}
-use Rattle.std.proofs.lemmas.Bool.{cases_lt}
-use Rattle.std.proofs.lemmas.Option.{same_Some}
-use Rattle.gix_refspec_text.specs.declared.spec.RefSpecRef.{RefSpecRef}
-use Rattle.gix_refspec_text.specs.Texts.Name.{HasOneStar, IsSplit}
-use Rattle.gix_refspec_text.specs.Specs.Reading.{Reading}
-use Rattle.gix_refspec_text.specs.Specs.Grammar.{IsAccepted}
-use Rattle.gix_refspec_text.specs.Matching.Side.{SideKind, pattern, full_name, object, partial, HasKind, Fits, filled}
-use Rattle.gix_refspec_text.specs.Matching.Match.{IsFirstCandidate, MatchesAs, Ref}
-use Rattle.gix_refspec_text.specs.Views.Spec.{reading_of}
+use Rattle.gix_refspec_lint.proofs.Common.{◌≡◌, ◌≢◌, inl, inr, ℕ, zero, suc, ◌<◌, List, [], ◌∷◌, ◌++◌, Some, length, map, refl, sym, ap, ◌∙◌, subst, arith, AllByRecursion, AllZip, Any, Contains}
+use Rattle.gix_refspec_lint.proofs.Common.{slice_get, cases_lt, same_Some, IsFirstCandidate, MatchesAs, Ref, SideKind, pattern, full_name, object, partial, HasKind, Fits, filled, IsAccepted, Reading}
+use Rattle.gix_refspec_lint.proofs.Common.{HasOneStar, IsSplit, reading_of, RefSpecRef, lacks_no_pattern, one_word, AreKeptForward, IsFilled, IsJoinedFrom, IsMadeFrom, Source, name, id, Mapped}
+use Rattle.gix_refspec_lint.proofs.Common.{IsSourceExcluded, matches_as, one_kind, nothing_joined, nothing_made, MakesForward, kept_exactly, sides_agree, CanBeWritten, IsCompleted, IsSound}
+use Rattle.gix_refspec_lint.proofs.Common.{reading_once, completed_destination, contained_pair, far_there, all_accepted, ConflictFree, AreExamples, Example, Fetches, IsExample}
 use Rattle.gix_refspec_text.proofs.lemmas.hits.CandidateLemmas.{first_once}
-use Rattle.gix_refspec_text.proofs.lemmas.hits.MatchLemmas.{lacks_no_pattern, one_word}
-use Rattle.gix_refspec_match.specs.Matching.Lists.{IsJoinedFrom, IsMadeFrom}
-use Rattle.gix_refspec_match.specs.Matching.Mappings.{Source, name, id, Mapped, IsSourceExcluded}
-use Rattle.gix_refspec_match.specs.Matching.Hits.{AreKeptForward, IsFilled}
-use Rattle.gix_refspec_match.proofs.lemmas.hits.HitLemmas.{matches_as, one_kind}
-use Rattle.gix_refspec_match.proofs.lemmas.lists.JoinLemmas.{nothing_joined, nothing_made}
-use Rattle.gix_refspec_lint.specs.Laws.Lint.{ConflictFree}
-use Rattle.gix_refspec.specs.Laws.Matching.{MakesForward}
-use Rattle.gix_refspec_lint.specs.Matching.Lint.{AreExamples, Example, Fetches, IsExample}
-use Rattle.gix_refspec_plan.specs.Matching.Plan.{CanBeWritten, IsCompleted, IsSound}
-use Rattle.gix_refspec.proofs.lemmas.keep.PairMadeLemmas.{kept_exactly}
-use Rattle.gix_refspec.proofs.lemmas.specs.SideLawLemmas.{sides_agree}
-use Rattle.gix_refspec_plan.proofs.lemmas.stale.FetchedLemmas.{completed_destination, contained_pair, far_there}
-use Rattle.gix_refspec_plan.proofs.lemmas.stale.StateLemmas.{all_accepted}
-use Rattle.gix_refspec_plan.proofs.lemmas.plan.OnePlanLemmas.{reading_once}
 use Rattle.gix_refspec.proofs.lemmas.validate.FirstLemmas.{start_cases}
 use Rattle.gix_refspec_lint.proofs.lemmas.FewerLemmas.{conflicts_shown}
 use Rattle.gix_refspec_lint.proofs.lemmas.PatternLemmas.{word_there}

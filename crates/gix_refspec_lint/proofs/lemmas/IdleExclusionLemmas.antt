@@ -1,28 +1,12 @@
 -- Negative specs that exclude nothing.
-use Rattle.std.proofs.Common.{◌≡◌, inl, inr, ℕ, zero, suc, ◌+◌, ◌<◌, ◌≤◌, Bool, true, false, MatchBool, not, drop, take, List, [], ◌∷◌, ◌++◌, Option, None, Some, length, map, option_to_list, get_or, refl, sym, ap, ◌∙◌, subst, arith}
-use Rattle.std.specs.List.{AllByRecursion, AllZip, Any, slice_get}
-use Rattle.std.proofs.lemmas.Option.{same_Some}
-use Rattle.gix_refspec_lint.specs.declared.words.Common.{Common}
-use Rattle.gix_refspec_text.specs.Texts.Name.{IsSplit}
-use Rattle.gix_refspec_text.specs.Specs.Reading.{Reading, Negative}
-use Rattle.gix_refspec_text.specs.Specs.Grammar.{IsAccepted, IsPositive}
-use Rattle.gix_refspec_text.specs.Matching.Side.{Excludes, Fits, by_pattern, the_name}
-use Rattle.gix_refspec_text.proofs.lemmas.hits.MatchLemmas.{lacks_no_pattern, split_once}
-use Rattle.gix_refspec_match.specs.Matching.Lists.{IsMadeFrom, MakesOf}
-use Rattle.gix_refspec_match.specs.Matching.Mappings.{Source, name, id, IsExcludedBy, IsSourceExcluded}
-use Rattle.gix_refspec_lint.specs.Matching.Lint.{IsFree, IsIdleExclusion}
-use Rattle.gix_refspec_plan.specs.Matching.Plan.{IsCompleted}
-use Rattle.gix_refspec_plan.specs.Matching.Stale.{ref_named}
-use Rattle.gix_refspec_lint.specs.Private.Idles.{ExcludesFrom, ExcludesSome, HasSourcePattern, ShareSources}
-use Rattle.gix_refspec_lint.specs.Private.Lints.{IsDeciding, words_with}
-use Rattle.gix_refspec_lint.specs.Private.Overlaps.{IsOverlap}
-use Rattle.gix_refspec_match.proofs.lemmas.lists.JoinLemmas.{made_more}
-use Rattle.gix_refspec_plan.proofs.lemmas.plan.OnePlanLemmas.{reading_once}
+use Rattle.gix_refspec_lint.proofs.Common.{◌≡◌, inl, inr, ℕ, zero, suc, ◌+◌, ◌<◌, ◌≤◌, Bool, true, false, MatchBool, not, drop, take, List, [], ◌∷◌, ◌++◌, Option, None, Some, length, map}
+use Rattle.gix_refspec_lint.proofs.Common.{option_to_list, get_or, refl, sym, ap, ◌∙◌, subst, arith, AllByRecursion, AllZip, Any, slice_get, same_Some, Excludes, Fits, by_pattern, the_name}
+use Rattle.gix_refspec_lint.proofs.Common.{IsAccepted, IsPositive, Reading, Negative, IsSplit, lacks_no_pattern, split_once, IsMadeFrom, MakesOf, Source, name, id, IsExcludedBy, IsSourceExcluded}
+use Rattle.gix_refspec_lint.proofs.Common.{made_more, some_at, IsCompleted, ref_named, reading_once, same_excluded, IsFree, IsIdleExclusion, ExcludesFrom, ExcludesSome, HasSourcePattern, ShareSources}
+use Rattle.gix_refspec_lint.proofs.Common.{IsDeciding, words_with, IsOverlap, Common}
 use Rattle.gix_refspec_lint.proofs.lemmas.DecidingLemmas.{each_deciding}
 use Rattle.gix_refspec_lint.proofs.lemmas.DecideLemmas.{decide, pattern_spec, spec_made}
 use Rattle.gix_refspec_lint.proofs.lemmas.ExclusionLemmas.{excludes_by, text_excludes}
-use Rattle.gix_refspec.proofs.lemmas.prefixes.CoverLemmas.{some_at}
-use Rattle.gix_refspec_plan.proofs.lemmas.stale.ZipLemmas.{same_excluded}
 
 -- a pattern excludes what fits it
 fits_excluded : (x before after n : List ℕ) → IsSplit before after x → Excludes x n → (w : List ℕ) × Fits before after n w

@@ -1,28 +1,10 @@
 -- Specs that never do anything, source by source.
-use Rattle.std.proofs.Common.{◌≡◌, ◌⊎◌, inl, inr, ◌↔◌, ℕ, zero, suc, ◌<◌, Bool, true, false, MatchBool, MatchOption, Bor, List, [], ◌∷◌, ◌++◌, Option, None, Some, codes, length, map, take, drop, get_or, append_assoc, refl, sym, ap, ◌∙◌, subst, arith, IsTrue, nat_eq}
-use Rattle.std.specs.List.{AllByRecursion, Contains, ends_with}
-use Rattle.std.specs.Option.{is_some}
-use Rattle.std.proofs.lemmas.Bool.{false≢true}
-use Rattle.std.proofs.lemmas.Bool.Decides.{Decides-eqb}
-use Rattle.std.proofs.lemmas.Slice.Eq.{ends_is}
-use Rattle.std.proofs.lemmas.Option.{same_Some}
-use Rattle.std.proofs.lemmas.List.{map-append}
-use Rattle.std.proofs.lemmas.List.Elements.{Contains-append_left, Contains-append_right}
-use Rattle.bstr.specs.declared.bstring.BString.{BString}
-use Rattle.bstr.specs.Owned.{bstring_bytes}
-use Rattle.gix_refspec_lint.specs.declared.Reason.{Reason}
+use Rattle.gix_refspec_lint.proofs.Common.{◌≡◌, ◌⊎◌, inl, inr, ◌↔◌, ℕ, zero, suc, ◌<◌, Bool, true, false, MatchBool, MatchOption, Bor, List, [], ◌∷◌, ◌++◌, Option, None, Some, codes, length, map}
+use Rattle.gix_refspec_lint.proofs.Common.{take, drop, get_or, append_assoc, refl, sym, ap, ◌∙◌, subst, arith, IsTrue, nat_eq, AllByRecursion, Contains, ends_with, is_some, false≢true, Decides-eqb}
+use Rattle.gix_refspec_lint.proofs.Common.{map-append, Contains-append_left, Contains-append_right, same_Some, ends_is, bstring_bytes, BString, Ref, MatchesAs, Takes, SideKind, pattern, full_name}
+use Rattle.gix_refspec_lint.proofs.Common.{object, partial, HasKind, Fits, candidates, IsCandidate, Reading, IsSplit, EndsWith, Source, name, candidate_cases, matches_as, map_split, IsPaired}
+use Rattle.gix_refspec_lint.proofs.Common.{MakesForward, IsRefName, AreAllowed, AreTriedBefore, Explains, Reason}
 use Rattle.gix_refspec_lint.specs.declared.Reason.TheVariants as reason
-use Rattle.gix_refspec_text.specs.Texts.Words.{EndsWith}
-use Rattle.gix_refspec_text.specs.Texts.Name.{IsSplit}
-use Rattle.gix_refspec_text.specs.Specs.Reading.{Reading}
-use Rattle.gix_refspec_text.specs.Matching.Side.{SideKind, pattern, full_name, object, partial, HasKind, Fits, candidates, IsCandidate}
-use Rattle.gix_refspec_text.specs.Matching.Match.{Ref, MatchesAs, Takes}
-use Rattle.gix_refspec_match.specs.Matching.Mappings.{Source, name}
-use Rattle.gix_refspec_match.proofs.lemmas.lists.JoinLemmas.{map_split}
-use Rattle.gix_refspec_match.proofs.lemmas.hits.HitLemmas.{candidate_cases, matches_as}
-use Rattle.gix_refspec.specs.Laws.Matching.{IsPaired, MakesForward}
-use Rattle.gix_refspec.specs.Matching.RefNames.{IsRefName}
-use Rattle.gix_refspec_lint.specs.Private.Idles.{AreAllowed, AreTriedBefore, Explains}
 use Rattle.gix_refspec_lint.proofs.lemmas.PatternLemmas.{word_there}
 
 -- ---- lists

@@ -1,32 +1,11 @@
 -- Why a spec does nothing, from what becomes of its mappings at the names that decide.
-use Rattle.std.proofs.Common.{◌≡◌, ◌≢◌, inl, inr, ℕ, zero, suc, ◌+◌, ◌<◌, option_to_list, take, List, [], ◌∷◌, ◌++◌, Option, None, Some, codes, length, map, get_or, append-nil, refl, sym, ap, ◌∙◌, subst, arith}
-use Rattle.std.specs.List.{AllByRecursion, AllZip, Contains, slice_get}
-use Rattle.std.proofs.lemmas.Option.{same_Some}
-use Rattle.gix_refspec_lint.specs.declared.Reason.{Reason}
+use Rattle.gix_refspec_lint.proofs.Common.{◌≡◌, ◌≢◌, inl, inr, ℕ, zero, suc, ◌+◌, ◌<◌, option_to_list, take, List, [], ◌∷◌, ◌++◌, Option, None, Some, codes, length, map, get_or, append-nil, refl, sym}
+use Rattle.gix_refspec_lint.proofs.Common.{ap, ◌∙◌, subst, arith, AllByRecursion, AllZip, Contains, slice_get, same_Some, Ref, HasName, MatchesAs, Takes, SideKind, pattern, full_name, object, partial}
+use Rattle.gix_refspec_lint.proofs.Common.{HasKind, IsCandidate, IsAccepted, IsPositive, Reading, star, IsSplit, Lacks, reading_of, RefSpecRef, lacks_no_pattern, all_join, all_left, all_right}
+use Rattle.gix_refspec_lint.proofs.Common.{Lacks-here, first_once, IsMadeFrom, MakesOf, Source, name, id, IsSourceExcluded, some_element, candidate_cases, made_more, IsPaired, MakesForward}
+use Rattle.gix_refspec_lint.proofs.Common.{IsCompleted, ref_named, all_accepted, AreIdle, AreValid, Fetches, IsFree, IsIdleBy, Maps, MapsSoundly, Unused, Explains, HasPlainSource, HasSourcePattern}
+use Rattle.gix_refspec_lint.proofs.Common.{IsAtWork, IsReasonOf, IsShown, IsWhy, IsDeciding, IsLongerPrefix, IsLongerSuffix, IsMost, words_with, Reason}
 use Rattle.gix_refspec_lint.specs.declared.Reason.TheVariants as reason
-use Rattle.gix_refspec_text.specs.declared.spec.RefSpecRef.{RefSpecRef}
-use Rattle.gix_refspec_text.specs.Texts.Bytes.{star}
-use Rattle.gix_refspec_text.specs.Texts.Words.{Lacks}
-use Rattle.gix_refspec_text.specs.Texts.Name.{IsSplit}
-use Rattle.gix_refspec_text.specs.Specs.Reading.{Reading}
-use Rattle.gix_refspec_text.specs.Specs.Grammar.{IsAccepted, IsPositive}
-use Rattle.gix_refspec_text.specs.Matching.Side.{SideKind, pattern, full_name, object, partial, HasKind, IsCandidate}
-use Rattle.gix_refspec_text.specs.Matching.Match.{Ref, HasName, MatchesAs, Takes}
-use Rattle.gix_refspec_text.specs.Views.Spec.{reading_of}
-use Rattle.gix_refspec_text.proofs.lemmas.hits.MatchLemmas.{lacks_no_pattern}
-use Rattle.gix_refspec_text.proofs.lemmas.lists.AllLemmas.{all_join, all_left, all_right}
-use Rattle.gix_refspec_text.proofs.lemmas.lists.LacksLemmas.{Lacks-here, first_once}
-use Rattle.gix_refspec_match.specs.Matching.Lists.{IsMadeFrom, MakesOf}
-use Rattle.gix_refspec_match.specs.Matching.Mappings.{Source, name, id, IsSourceExcluded}
-use Rattle.gix_refspec_match.proofs.lemmas.duplicates.FlagLemmas.{some_element}
-use Rattle.gix_refspec_match.proofs.lemmas.lists.JoinLemmas.{made_more}
-use Rattle.gix_refspec_match.proofs.lemmas.hits.HitLemmas.{candidate_cases}
-use Rattle.gix_refspec.specs.Laws.Matching.{IsPaired, MakesForward}
-use Rattle.gix_refspec_lint.specs.Matching.Lint.{AreIdle, AreValid, Fetches, IsFree, IsIdleBy, Maps, MapsSoundly, Unused}
-use Rattle.gix_refspec_plan.specs.Matching.Plan.{IsCompleted}
-use Rattle.gix_refspec_plan.specs.Matching.Stale.{ref_named}
-use Rattle.gix_refspec_lint.specs.Private.Idles.{Explains, HasPlainSource, HasSourcePattern, IsAtWork, IsReasonOf, IsShown, IsWhy}
-use Rattle.gix_refspec_lint.specs.Private.Lints.{IsDeciding, IsLongerPrefix, IsLongerSuffix, IsMost, words_with}
 use Rattle.gix_refspec_lint.proofs.lemmas.ByteLemmas.{excluded_moved, fits_byte, lacks_kept}
 use Rattle.gix_refspec_lint.proofs.lemmas.DecideLemmas.{Decided, HasShape, IsMovedFar, decide, pattern_spec, spec_made, spec_maps}
 use Rattle.gix_refspec_lint.proofs.lemmas.FreeLemmas.{accepted_at}
@@ -34,7 +13,6 @@ use Rattle.gix_refspec_lint.proofs.lemmas.IdleExclusionLemmas.{made_completed, z
 use Rattle.gix_refspec_lint.proofs.lemmas.PatternLemmas.{lacks_destination, lacks_parts, lacks_source, listed_at}
 use Rattle.gix_refspec_lint.proofs.lemmas.PreferredLemmas.{reading_at}
 use Rattle.gix_refspec_lint.proofs.lemmas.WordLemmas.{between}
-use Rattle.gix_refspec_plan.proofs.lemmas.stale.StateLemmas.{all_accepted}
 
 -- ---- reasons
 

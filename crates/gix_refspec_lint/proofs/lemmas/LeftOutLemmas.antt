@@ -1,23 +1,11 @@
 -- An idle spec can be left out.
-use Rattle.std.proofs.Common.{◌≡◌, ◌≢◌, ◌⊎◌, inl, inr, ℕ, zero, suc, ◌+◌, List, [], ◌∷◌, Option, None, Some, refl, sym, ap, ◌∙◌, subst, arith}
-use Rattle.std.specs.List.{AllZip, Any, Contains, slice_get}
-use Rattle.std.proofs.lemmas.Option.{same_Some}
-use Rattle.gix_refspec_lint.specs.declared.Reason.{Reason}
+use Rattle.gix_refspec_lint.proofs.Common.{◌≡◌, ◌≢◌, ◌⊎◌, inl, inr, ℕ, zero, suc, ◌+◌, List, [], ◌∷◌, Option, None, Some, refl, sym, ap, ◌∙◌, subst, arith, AllZip, Any, Contains, slice_get, same_Some}
+use Rattle.gix_refspec_lint.proofs.Common.{Ref, IsPositive, Negative, Reading, IsMadeFrom, Source, name, id, Mapped, IsExcluded, IsExcludedBy, IsSourceExcluded, MakesForward, IsValidSource}
+use Rattle.gix_refspec_lint.proofs.Common.{kept_exactly, some_at, IsCompleted, IsSound, IdleExclusionLeftOut, IdleLeftOut, AreValid, Fetches, IsIdleBy, IsIdleExclusion, MapsSoundly, Reason}
 use Rattle.gix_refspec_lint.specs.declared.Reason.TheVariants as reason
-use Rattle.gix_refspec_text.specs.Specs.Reading.{Negative, Reading}
-use Rattle.gix_refspec_text.specs.Specs.Grammar.{IsPositive}
-use Rattle.gix_refspec_text.specs.Matching.Match.{Ref}
-use Rattle.gix_refspec_match.specs.Matching.Lists.{IsMadeFrom}
-use Rattle.gix_refspec_match.specs.Matching.Mappings.{Source, name, id, Mapped, IsExcluded, IsExcludedBy, IsSourceExcluded}
-use Rattle.gix_refspec_lint.specs.Laws.Lint.{IdleExclusionLeftOut, IdleLeftOut, without}
-use Rattle.gix_refspec.specs.Laws.Matching.{MakesForward}
-use Rattle.gix_refspec_lint.specs.Matching.Lint.{AreValid, Fetches, IsIdleBy, IsIdleExclusion, MapsSoundly}
-use Rattle.gix_refspec_plan.specs.Matching.Plan.{IsCompleted, IsSound}
-use Rattle.gix_refspec.specs.Matching.RefNames.{IsValidSource}
+use Rattle.gix_refspec_lint.specs.Laws.Lint.{without}
 use Rattle.gix_refspec_lint.proofs.lemmas.OneSpecLemmas.{excluded_at}
-use Rattle.gix_refspec.proofs.lemmas.keep.PairMadeLemmas.{kept_exactly}
 use Rattle.gix_refspec_lint.proofs.lemmas.IdleExclusionLemmas.{any_at, zip_of, zip_to}
-use Rattle.gix_refspec.proofs.lemmas.prefixes.CoverLemmas.{some_at}
 use Rattle.gix_refspec_lint.proofs.lemmas.FreeLemmas.{still_excluded}
 
 -- ---- lists without an element

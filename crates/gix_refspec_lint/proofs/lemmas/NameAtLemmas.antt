@@ -1,9 +1,6 @@
 -- The byte that is free, and what two patterns have in common.
-use Rattle.std.proofs.Common.{◌≡◌, ◌⊎◌, inl, inr, ℕ, true, false, ◌||◌, ◌==◌, List, [], ◌∷◌, ◌++◌, append_assoc, refl, sym, ◌∙◌}
-use Rattle.std.specs.List.{list_any}
-use Rattle.std.proofs.lemmas.Bool.{eqb-true, false≢true}
-use Rattle.gix_refspec_text.specs.Texts.Words.{BeginsWith, EndsWith, Lacks}
-use Rattle.gix_refspec_text.specs.Matching.Side.{Fits}
+use Rattle.gix_refspec_lint.proofs.Common.{◌≡◌, ◌⊎◌, inl, inr, ℕ, true, false, ◌||◌, ◌==◌, List, [], ◌∷◌, ◌++◌, append_assoc, refl, sym, ◌∙◌, list_any, eqb-true, false≢true, Fits, BeginsWith}
+use Rattle.gix_refspec_lint.proofs.Common.{EndsWith, Lacks}
 use Rattle.gix_refspec_lint.proofs.lemmas.ByteLemmas.{parted}
 
 -- a byte that is found isn't lacked

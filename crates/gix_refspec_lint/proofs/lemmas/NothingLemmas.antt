@@ -1,25 +1,7 @@
 -- Where a reason holds there is nothing.
-use Rattle.std.proofs.Common.{◌≡◌, ◌≢◌, List, ℕ, ◌++◌, Option, Some, map, refl, sym, ap, ◌∙◌, subst}
-use Rattle.std.specs.List.{slice_get}
-use Rattle.gix_refspec_lint.specs.declared.group.Group.{Group}
-use Rattle.gix_refspec_lint.specs.declared.runs.Of.TheVariants.{First, Second}
-use Rattle.gix_refspec_lint.specs.declared.runs.Why.{Why}
-use Rattle.gix_refspec_lint.specs.declared.runs.Why.TheVariants.{Unknown, Unwritable, Invalid, Excluded, Same}
-use Rattle.gix_refspec_text.specs.Specs.Reading.{Reading}
-use Rattle.gix_refspec_text.specs.Specs.Grammar.{IsAccepted}
-use Rattle.gix_refspec_text.specs.Matching.Side.{pattern}
-use Rattle.gix_refspec_text.specs.Matching.Match.{Ref}
-use Rattle.gix_refspec_text.specs.Views.Spec.{reading_of}
-use Rattle.gix_refspec_text.proofs.lemmas.hits.MatchLemmas.{one_word}
-use Rattle.gix_refspec_match.specs.Matching.Hits.{IsFilled}
-use Rattle.gix_refspec_match.specs.Matching.Mappings.{Source, name, IsSourceExcluded}
-use Rattle.gix_refspec.specs.Laws.Matching.{MakesForward}
-use Rattle.gix_refspec.specs.Matching.RefNames.{IsValidSource}
-use Rattle.gix_refspec_plan.specs.Matching.Plan.{CanBeWritten}
-use Rattle.gix_refspec_lint.specs.Matching.Lint.{ConflictOver, refs_of}
-use Rattle.gix_refspec_lint.specs.Private.Idles.{ExcludesFrom}
-use Rattle.gix_refspec_lint.specs.Private.Lints.{IsGroupOf, NoneAt}
-use Rattle.gix_refspec_lint.specs.Private.Runs.{ArePaired, Fails, IsNotFetched, IsUnsound}
+use Rattle.gix_refspec_lint.proofs.Common.{◌≡◌, ◌≢◌, List, ℕ, ◌++◌, Option, Some, map, refl, sym, ap, ◌∙◌, subst, slice_get, Ref, pattern, IsAccepted, Reading, reading_of, one_word, IsFilled, Source}
+use Rattle.gix_refspec_lint.proofs.Common.{name, IsSourceExcluded, MakesForward, IsValidSource, CanBeWritten, ConflictOver, refs_of, ExcludesFrom, IsGroupOf, NoneAt, ArePaired, Fails, IsNotFetched}
+use Rattle.gix_refspec_lint.proofs.Common.{IsUnsound, Group, First, Second, Why, Unknown, Unwritable, Invalid, Excluded, Same}
 use Rattle.gix_refspec_lint.proofs.lemmas.AmongLemmas.{accepted_here, same_completed}
 use Rattle.gix_refspec_lint.proofs.lemmas.DecideLemmas.{destination_once, pattern_spec, spec_made}
 use Rattle.gix_refspec_lint.proofs.lemmas.OneSpecLemmas.{excluded_at}

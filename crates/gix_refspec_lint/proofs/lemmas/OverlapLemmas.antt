@@ -1,13 +1,6 @@
 -- Overlaps one after another, in which there is nothing.
-use Rattle.std.proofs.Common.{◌≡◌, ◌≢◌, ◌⊎◌, ℕ, ◌+◌, ◌<◌, ◌≤◌, List, [], ◌∷◌, ◌++◌, drop, get_or, length, take, append-nil, sym, subst, arith}
-use Rattle.std.specs.List.{AllByRecursion}
-use Rattle.std.proofs.lemmas.List.{take_more}
-use Rattle.gix_refspec_lint.specs.declared.runs.Run.{Run}
-use Rattle.gix_refspec_lint.specs.declared.runs.Why.{Why}
-use Rattle.gix_refspec_lint.specs.declared.runs.Why.TheVariants.{Unknown}
-use Rattle.gix_refspec_text.proofs.lemmas.lists.AllLemmas.{all_join}
-use Rattle.gix_refspec_lint.specs.Private.Overlaps.{IsOverlap}
-use Rattle.gix_refspec_lint.specs.Private.Runs.{IsFirstOf, IsNextOf, IsRun}
+use Rattle.gix_refspec_lint.proofs.Common.{◌≡◌, ◌≢◌, ◌⊎◌, ℕ, ◌+◌, ◌<◌, ◌≤◌, List, [], ◌∷◌, ◌++◌, drop, get_or, length, take, append-nil, sym, subst, arith, AllByRecursion, take_more, all_join}
+use Rattle.gix_refspec_lint.proofs.Common.{IsOverlap, IsFirstOf, IsNextOf, IsRun, Run, Why, Unknown}
 use Rattle.gix_refspec_lint.proofs.lemmas.RunLemmas.{Goes, run_first, run_goes, run_with}
 
 -- P holds of the names of these overlaps, and the run goes on with the last of them

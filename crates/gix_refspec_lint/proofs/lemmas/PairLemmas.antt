@@ -1,12 +1,6 @@
 -- What one side of a spec of patterns becomes with the word of the other.
-use Rattle.std.proofs.Common.{◌≡◌, ℕ, List, ◌++◌, Option, None, Some, IfSome, MatchOption}
+use Rattle.gix_refspec_lint.proofs.Common.{◌≡◌, ℕ, List, ◌++◌, Option, None, Some, IfSome, MatchOption, bstring_bytes, BString, Fits, Reading, HasParts, ArePaired}
 use Rattle.std.specs.Borrow.{Bor}
-use Rattle.bstr.specs.declared.bstring.BString.{BString}
-use Rattle.bstr.specs.Owned.{bstring_bytes}
-use Rattle.gix_refspec_text.specs.Specs.Reading.{Reading}
-use Rattle.gix_refspec_text.specs.Matching.Side.{Fits}
-use Rattle.gix_refspec_plan.specs.Private.Stales.{HasParts}
-use Rattle.gix_refspec_lint.specs.Private.Runs.{ArePaired}
 
 -- the texts that have the word, and those that get it
 abbrev HasItsWord : Bor (List ℕ) × Bor (List ℕ) → Bor (List ℕ) × Bor (List ℕ) → List ℕ → Option BString → Type 0

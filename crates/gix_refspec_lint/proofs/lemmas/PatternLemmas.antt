@@ -1,31 +1,10 @@
 -- What a spec of two patterns maps, and that the names that decide show each conflict of two such specs.
-use Rattle.std.proofs.Common.{◌≡◌, ◌≢◌, ◌⊎◌, inl, inr, ℕ, zero, suc, List, [], ◌∷◌, ◌++◌, codes, Option, None, Some, map, append_assoc, refl, sym, ap, ◌∙◌, subst, arith}
-use Rattle.std.specs.List.{AllByRecursion, Contains, slice_get}
-use Rattle.std.proofs.lemmas.List.Elements.{Contains-append_left, Contains-append_right}
-use Rattle.std.proofs.lemmas.Option.{same_Some}
-use Rattle.gix_refspec_text.specs.Texts.Bytes.{head, star}
-use Rattle.gix_refspec_text.specs.Texts.Words.{BeginsWith, Lacks}
-use Rattle.gix_refspec_text.specs.Texts.Name.{HasOneStar, IsName, IsSplit}
-use Rattle.gix_refspec_text.specs.Specs.Reading.{Reading}
-use Rattle.gix_refspec_text.specs.Specs.Grammar.{IsAccepted, IsPositive}
-use Rattle.gix_refspec_text.specs.Matching.Side.{SideKind, pattern, object, HasKind, Fits}
-use Rattle.gix_refspec_text.specs.Matching.Match.{Ref, HasName, MatchesAs, Takes}
-use Rattle.gix_refspec_text.proofs.lemmas.hits.MatchLemmas.{lacks_no_pattern}
-use Rattle.gix_refspec_text.proofs.lemmas.lists.AllLemmas.{all_join, all_left, all_right}
-use Rattle.gix_refspec_text.proofs.lemmas.lists.LacksLemmas.{first_once}
-use Rattle.gix_refspec_match.specs.Matching.Mappings.{Source, name, id, IsSourceExcluded}
-use Rattle.gix_refspec_match.specs.Matching.Hits.{IsFilled}
-use Rattle.gix_refspec_match.proofs.lemmas.hits.HitLemmas.{matches_as, one_kind}
-use Rattle.gix_refspec.specs.Laws.Matching.{IsPaired, MakesForward}
-use Rattle.gix_refspec.specs.Laws.Plans.{LacksIn, SidesLack}
-use Rattle.gix_refspec_lint.specs.Matching.Lint.{ConflictOver, Fetches, IsFree, refs_of}
-use Rattle.gix_refspec_plan.specs.Matching.Plan.{CanBeWritten, IsCompleted}
-use Rattle.gix_refspec.specs.Matching.RefNames.{IsRefName, IsValidSource}
-use Rattle.gix_refspec_lint.specs.Private.Lints.{IsDeciding, IsLongerPrefix, IsLongerSuffix, IsMost, endings, parts, words_with}
-use Rattle.gix_refspec.proofs.lemmas.specs.SideLawLemmas.{sides_agree}
-use Rattle.gix_refspec_plan.proofs.lemmas.stale.FetchedLemmas.{completed_destination, named_some, written_lacks}
-use Rattle.gix_refspec.proofs.lemmas.keep.FilterLemmas.{mapped_there}
-use Rattle.gix_refspec.proofs.lemmas.keep.PairMadeLemmas.{one_name}
+use Rattle.gix_refspec_lint.proofs.Common.{◌≡◌, ◌≢◌, ◌⊎◌, inl, inr, ℕ, zero, suc, List, [], ◌∷◌, ◌++◌, codes, Option, None, Some, map, append_assoc, refl, sym, ap, ◌∙◌, subst, arith, AllByRecursion}
+use Rattle.gix_refspec_lint.proofs.Common.{Contains, slice_get, Contains-append_left, Contains-append_right, same_Some, Ref, HasName, MatchesAs, Takes, SideKind, pattern, object, HasKind, Fits}
+use Rattle.gix_refspec_lint.proofs.Common.{IsAccepted, IsPositive, Reading, head, star, HasOneStar, IsName, IsSplit, BeginsWith, Lacks, lacks_no_pattern, all_join, all_left, all_right, first_once}
+use Rattle.gix_refspec_lint.proofs.Common.{IsFilled, Source, name, id, IsSourceExcluded, matches_as, one_kind, IsPaired, MakesForward, LacksIn, SidesLack, IsRefName, IsValidSource, mapped_there}
+use Rattle.gix_refspec_lint.proofs.Common.{one_name, sides_agree, CanBeWritten, IsCompleted, completed_destination, named_some, written_lacks, ConflictOver, Fetches, IsFree, refs_of, IsDeciding}
+use Rattle.gix_refspec_lint.proofs.Common.{IsLongerPrefix, IsLongerSuffix, IsMost, endings, parts, words_with}
 use Rattle.gix_refspec_lint.proofs.lemmas.FewerLemmas.{conflict_of_two}
 use Rattle.gix_refspec_lint.proofs.lemmas.ByteLemmas.{excluded_moved, lacks_refs, name_with_byte}
 use Rattle.gix_refspec_lint.proofs.lemmas.WordLemmas.{Around, HasEnding, IsParted, IsRefAround, between, common_name, ending_or_part}

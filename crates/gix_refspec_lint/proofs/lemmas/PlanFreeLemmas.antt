@@ -1,17 +1,10 @@
 -- A plan of configured specs that never conflict has no update in conflict.
-use Rattle.std.proofs.Common.{◌≡◌, ◌≢◌, inl, inr, ℕ, ◌+◌, Bool, false, List, [], ◌∷◌, ◌++◌, Option, None, Some, map, option_to_list, append-nil, append_assoc, refl, sym, ap, ◌∙◌, subst, arith}
-use Rattle.std.specs.List.{AllByRecursion, AllZip, Contains}
-use Rattle.std.proofs.lemmas.List.Elements.{Contains-append_right}
-use Rattle.gix_refspec_plan.specs.declared.Origin.{Origin}
+use Rattle.gix_refspec_lint.proofs.Common.{◌≡◌, ◌≢◌, inl, inr, ℕ, ◌+◌, Bool, false, List, [], ◌∷◌, ◌++◌, Option, None, Some, map, option_to_list, append-nil, append_assoc, refl, sym, ap, ◌∙◌, subst}
+use Rattle.gix_refspec_lint.proofs.Common.{arith, AllByRecursion, AllZip, Contains, Contains-append_right, Ref, Reading, IsMadeFrom, MakesOf, Mapped, AreAsked, AreConfigured, AreUncovered, Asked}
+use Rattle.gix_refspec_lint.proofs.Common.{HasVerdict, IsCompleted, IsPlanned, IsPlannedBesides, IsTracked, Wish, by_call, by_configuration, by_default, nothing, tags_asked, without, Origin}
+use Rattle.gix_refspec_lint.proofs.Common.{none_merged, ConflictFree, PlanConflictFree}
 use Rattle.gix_refspec_plan.specs.declared.Origin.TheVariants as origin
 use Rattle.gix_refspec_plan.specs.declared.Verdict.TheVariants as verdict
-use Rattle.gix_refspec_text.specs.Specs.Reading.{Reading}
-use Rattle.gix_refspec_text.specs.Matching.Match.{Ref}
-use Rattle.gix_refspec_match.specs.Matching.Lists.{IsMadeFrom, MakesOf}
-use Rattle.gix_refspec_match.specs.Matching.Mappings.{Mapped}
-use Rattle.gix_refspec_lint.specs.Laws.Lint.{ConflictFree, PlanConflictFree}
-use Rattle.gix_refspec_plan.specs.Matching.Plan.{AreAsked, AreConfigured, AreUncovered, Asked, HasVerdict, IsCompleted, IsPlanned, IsPlannedBesides, IsTracked, Wish, by_call, by_configuration, by_default, nothing, tags_asked, without}
-use Rattle.gix_refspec_plan.proofs.lemmas.plan.OnePlanLemmas.{none_merged}
 
 one_more : {X Y : Type 0} {H : Type 0} (R : ℕ → X → Y → Type 0) (P : Y → Type 0) (k : ℕ) (x : X) (rest : List Y) → ((y : Y) → H → R k x y → P y) → H → (o : Option Y) → MakesOf R k x o → AllByRecursion P rest → AllByRecursion P (option_to_list o ++ rest)
 one_more R P k x rest holds there None none later = later

@@ -1,23 +1,8 @@
 -- The refs that a spec prefers to a source, and beside which earlier specs don't take it.
-use Rattle.std.proofs.Common.{◌≡◌, ◌⊎◌, inl, inr, ℕ, zero, suc, ◌+◌, ◌<◌, ◌≤◌, length, get_or, List, [], ◌∷◌, ◌++◌, Option, Some, map, refl, sym, ap, ◌∙◌, subst, arith}
-use Rattle.std.specs.List.{AllByRecursion, AllZip, Contains, slice_get}
-use Rattle.std.proofs.lemmas.Option.{same_Some}
-use Rattle.gix_refspec_text.specs.declared.spec.RefSpecRef.{RefSpecRef}
-use Rattle.gix_refspec_text.specs.Views.Spec.{reading_of}
-use Rattle.gix_refspec_text.specs.Specs.Reading.{Reading}
-use Rattle.gix_refspec_text.specs.Matching.Side.{SideKind, partial, HasKind, candidates}
-use Rattle.gix_refspec_text.specs.Matching.Match.{Ref, HasName, IsFirstCandidate, Takes}
-use Rattle.gix_refspec_text.proofs.lemmas.lists.NumberLemmas.{upto}
-use Rattle.gix_refspec_match.specs.Matching.Mappings.{Source, name, id}
-use Rattle.gix_refspec_match.proofs.lemmas.hits.HitLemmas.{one_kind}
-use Rattle.gix_refspec.specs.Laws.Matching.{IsPaired, MakesForward}
-use Rattle.gix_refspec_lint.specs.Matching.Lint.{AreValid, Maps, refs_of}
-use Rattle.gix_refspec_plan.specs.Matching.Plan.{IsCompleted}
-use Rattle.gix_refspec.specs.Matching.RefNames.{IsRefName}
-use Rattle.gix_refspec_plan.specs.Matching.Stale.{ref_named}
-use Rattle.gix_refspec_lint.specs.Private.Idles.{AreAbsent, AreAllowed, AreFreeing, ArePreferred, AreTriedBefore, refs_with}
-use Rattle.gix_refspec.proofs.lemmas.keep.NameOnlyLemmas.{matches_by_name}
-use Rattle.gix_refspec_plan.proofs.lemmas.stale.FetchedLemmas.{named_some}
+use Rattle.gix_refspec_lint.proofs.Common.{◌≡◌, ◌⊎◌, inl, inr, ℕ, zero, suc, ◌+◌, ◌<◌, ◌≤◌, length, get_or, List, [], ◌∷◌, ◌++◌, Option, Some, map, refl, sym, ap, ◌∙◌, subst, arith, AllByRecursion}
+use Rattle.gix_refspec_lint.proofs.Common.{AllZip, Contains, slice_get, same_Some, Ref, HasName, IsFirstCandidate, Takes, SideKind, partial, HasKind, candidates, Reading, reading_of, RefSpecRef, upto}
+use Rattle.gix_refspec_lint.proofs.Common.{Source, name, id, one_kind, IsPaired, MakesForward, IsRefName, matches_by_name, IsCompleted, ref_named, named_some, AreValid, Maps, refs_of, AreAbsent}
+use Rattle.gix_refspec_lint.proofs.Common.{AreAllowed, AreFreeing, ArePreferred, AreTriedBefore, refs_with}
 use Rattle.gix_refspec_lint.proofs.lemmas.FewerLemmas.{made_there}
 use Rattle.gix_refspec_lint.proofs.lemmas.IdleExclusionLemmas.{zip_to}
 

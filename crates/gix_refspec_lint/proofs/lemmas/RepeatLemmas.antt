@@ -1,8 +1,6 @@
 -- Texts in which a word repeats, and the words of patterns that they fit.
-use Rattle.std.proofs.Common.{◌≡◌, ◌≢◌, inl, inr, ℕ, zero, suc, ◌+◌, ◌*◌, ◌≤◌, List, [], ◌∷◌, ◌++◌, length, append_assoc, append-nil, length-append, refl, sym, ap, ◌∙◌, arith}
-use Rattle.std.proofs.lemmas.List.{append_cancel_left, append_cancel_right, nil_from_length}
-use Rattle.gix_refspec_text.specs.Matching.Side.{Fits}
-use Rattle.gix_refspec_lint.specs.Private.Overlaps.{power}
+use Rattle.gix_refspec_lint.proofs.Common.{◌≡◌, ◌≢◌, inl, inr, ℕ, zero, suc, ◌+◌, ◌*◌, ◌≤◌, List, [], ◌∷◌, ◌++◌, length, append_assoc, append-nil, length-append, refl, sym, ap, ◌∙◌, arith}
+use Rattle.gix_refspec_lint.proofs.Common.{append_cancel_left, append_cancel_right, nil_from_length, Fits, power}
 use Rattle.gix_refspec_lint.proofs.lemmas.ByteLemmas.{parted}
 
 -- ---- a word several times

@@ -1,16 +1,7 @@
 -- Names in which a word repeats: once more makes no name of what isn't one.
-use Rattle.std.proofs.Common.{◌≡◌, ◌≢◌, inl, inr, ℕ, suc, ◌+◌, ◌≤◌, List, [], ◌∷◌, ◌++◌, codes, length, Some, append_assoc, append-nil, length-append, sym, ap, ◌∙◌, subst, arith}
-use Rattle.std.proofs.lemmas.List.{nil_from_length}
-use Rattle.gix_refspec_text.specs.declared.name.Error.{Error}
-use Rattle.gix_refspec_text.specs.declared.name.Error.TheVariants.{Empty, EmptyComponent, StartsWithDot, LockSuffix, EndsWithDot, RepeatedDot, ReflogPortion, Asterisk, InvalidByte}
-use Rattle.gix_refspec_text.specs.Private.Scan.{AddsFault, Added, LeavesFault}
-use Rattle.gix_refspec_text.specs.Texts.Bytes.{slash, head}
-use Rattle.gix_refspec_text.specs.Texts.Name.{IsName}
-use Rattle.gix_refspec_text.specs.Texts.Words.{BeginsWith, EndsWith}
-use Rattle.gix_refspec_text.proofs.lemmas.texts.NameLemmas.{HasFault-added, HasFault-left, IsName-from_clean}
-use Rattle.gix_refspec_plan.specs.Matching.Plan.{CanBeWritten}
-use Rattle.gix_refspec.specs.Matching.RefNames.{IsRefName}
-use Rattle.gix_refspec_lint.specs.Private.Overlaps.{power}
+use Rattle.gix_refspec_lint.proofs.Common.{◌≡◌, ◌≢◌, inl, inr, ℕ, suc, ◌+◌, ◌≤◌, List, [], ◌∷◌, ◌++◌, codes, length, Some, append_assoc, append-nil, length-append, sym, ap, ◌∙◌, subst, arith}
+use Rattle.gix_refspec_lint.proofs.Common.{nil_from_length, AddsFault, Added, LeavesFault, slash, head, IsName, BeginsWith, EndsWith, Error, Empty, EmptyComponent, StartsWithDot, LockSuffix}
+use Rattle.gix_refspec_lint.proofs.Common.{EndsWithDot, RepeatedDot, ReflogPortion, Asterisk, InvalidByte, HasFault-added, HasFault-left, IsName-from_clean, IsRefName, CanBeWritten, power}
 use Rattle.gix_refspec_lint.proofs.lemmas.ByteLemmas.{parted}
 use Rattle.gix_refspec_lint.proofs.lemmas.RepeatLemmas.{power_after}
 

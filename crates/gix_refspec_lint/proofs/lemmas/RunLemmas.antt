@@ -1,13 +1,6 @@
 -- Overlaps that come to nothing for one reason.
-use Rattle.std.proofs.Common.{◌≡◌, ◌≢◌, ◌⊎◌, inl, inr, ℕ, zero, suc, ◌+◌, ◌<◌, ◌≤◌, List, [], ◌∷◌, ◌++◌, drop, length, take, append_assoc, append-nil, length-append, refl, sym, ap, ◌∙◌, subst, arith}
-use Rattle.std.proofs.lemmas.List.{nil_from_length}
-use Rattle.gix_refspec_lint.specs.declared.runs.Run.{Run}
-use Rattle.gix_refspec_lint.specs.declared.runs.Why.{Why}
-use Rattle.gix_refspec_lint.specs.declared.runs.Why.TheVariants.{Unknown}
-use Rattle.gix_refspec_text.specs.Texts.Words.{EndsWith}
-use Rattle.gix_refspec_text.proofs.lemmas.lists.NumberLemmas.{upto}
-use Rattle.gix_refspec_lint.specs.Private.Overlaps.{IsOverlap, power}
-use Rattle.gix_refspec_lint.specs.Private.Runs.{IsFirstOf, IsNextOf, IsRun}
+use Rattle.gix_refspec_lint.proofs.Common.{◌≡◌, ◌≢◌, ◌⊎◌, inl, inr, ℕ, zero, suc, ◌+◌, ◌<◌, ◌≤◌, List, [], ◌∷◌, ◌++◌, drop, length, take, append_assoc, append-nil, length-append, refl, sym, ap, ◌∙◌}
+use Rattle.gix_refspec_lint.proofs.Common.{subst, arith, nil_from_length, EndsWith, upto, IsOverlap, power, IsFirstOf, IsNextOf, IsRun, Run, Why, Unknown}
 use Rattle.gix_refspec_lint.proofs.lemmas.NameAtLemmas.{ends_either}
 use Rattle.gix_refspec_lint.proofs.lemmas.RepeatLemmas.{power_long}
 use Rattle.gix_refspec_lint.proofs.lemmas.WordLemmas.{drop_front, take_front}

@@ -1,12 +1,7 @@
 -- The borders of the first bytes of one text followed by the last of another are the overlaps of both.
-use Rattle.std.proofs.Common.{◌≡◌, ◌⊎◌, inl, inr, ℕ, zero, suc, ◌+◌, ◌-◌, ◌<◌, ◌≤◌, List, [], ◌∷◌, ◌++◌, drop, get_or, length, take, append_assoc, length-append, length-drop, take-append-drop, refl, sym, ap, ◌∙◌, subst, arith}
-use Rattle.std.specs.List.{AllByRecursion, Contains}
-use Rattle.std.proofs.lemmas.List.{length-take-le, nil_from_length, take_more}
-use Rattle.std.proofs.lemmas.List.Elements.{Contains-append_left, Contains-push}
-use Rattle.gix_refspec_text.specs.Texts.Words.{EndsWith}
-use Rattle.gix_refspec_text.proofs.lemmas.lists.AllLemmas.{all_join}
-use Rattle.gix_refspec_lint.specs.Private.Borders.{IsBorder}
-use Rattle.gix_refspec_lint.specs.Private.Overlaps.{IsOverlap}
+use Rattle.gix_refspec_lint.proofs.Common.{◌≡◌, ◌⊎◌, inl, inr, ℕ, zero, suc, ◌+◌, ◌-◌, ◌<◌, ◌≤◌, List, [], ◌∷◌, ◌++◌, drop, get_or, length, take, append_assoc, length-append, length-drop}
+use Rattle.gix_refspec_lint.proofs.Common.{take-append-drop, refl, sym, ap, ◌∙◌, subst, arith, AllByRecursion, Contains, length-take-le, nil_from_length, take_more, Contains-append_left}
+use Rattle.gix_refspec_lint.proofs.Common.{Contains-push, EndsWith, all_join, IsBorder, IsOverlap}
 use Rattle.gix_refspec_lint.proofs.lemmas.ByteLemmas.{parted}
 
 -- ---- texts

@@ -1,20 +1,7 @@
 -- The sound mappings of one spec.
-use Rattle.std.proofs.Common.{◌≡◌, inl, inr, ℕ, Bool, true, false, MatchBool, MatchOption, List, [], ◌∷◌, Option, None, Some, map, get_or, length, ◌<◌, refl, sym, subst}
-use Rattle.std.specs.List.{AllByRecursion}
-use Rattle.std.specs.Option.{is_some}
-use Rattle.gix_refspec_text.specs.Specs.Reading.{Reading}
-use Rattle.gix_refspec_text.specs.Matching.Match.{Ref}
-use Rattle.gix_refspec_match.specs.declared.types.Mapping.{Mapping}
-use Rattle.gix_refspec_match.specs.Matching.Mappings.{Source, Mapped, HasPair, IsSourceExcluded}
-use Rattle.gix_refspec_match.specs.Matching.Hits.{AreKeptForward}
-use Rattle.gix_refspec_match.specs.Views.Mapping.{mapped_of}
-use Rattle.gix_refspec.specs.Laws.Items.{HaveSameNames}
-use Rattle.gix_refspec.specs.Laws.Matching.{MakesForward}
-use Rattle.gix_refspec_lint.specs.Matching.Lint.{refs_of}
-use Rattle.gix_refspec_plan.specs.Matching.Plan.{CanBeWritten, IsSound}
-use Rattle.gix_refspec.specs.Matching.RefNames.{IsValidSource}
-use Rattle.gix_refspec_lint.specs.Private.Idles.{ExcludesFrom, MakesSoundly}
-use Rattle.gix_refspec_lint.specs.Private.Lints.{pair_of}
+use Rattle.gix_refspec_lint.proofs.Common.{◌≡◌, inl, inr, ℕ, Bool, true, false, MatchBool, MatchOption, List, [], ◌∷◌, Option, None, Some, map, get_or, length, ◌<◌, refl, sym, subst, AllByRecursion}
+use Rattle.gix_refspec_lint.proofs.Common.{is_some, Ref, Reading, AreKeptForward, Source, Mapped, HasPair, IsSourceExcluded, mapped_of, Mapping, HaveSameNames, MakesForward, IsValidSource}
+use Rattle.gix_refspec_lint.proofs.Common.{CanBeWritten, IsSound, refs_of, ExcludesFrom, MakesSoundly, pair_of}
 use Rattle.gix_refspec_lint.proofs.lemmas.FewerLemmas.{made_there, makes_fewer, own_among, own_there}
 use Rattle.gix_refspec_lint.proofs.lemmas.FoundLemmas.{makes_also}
 use Rattle.gix_refspec_lint.proofs.lemmas.OneSpecLemmas.{kept_alone, pair_there}

@@ -1,28 +1,11 @@
 -- The sources from which a spec can write a destination.
-use Rattle.std.proofs.Common.{◌≡◌, inl, inr, ℕ, zero, suc, List, [], ◌∷◌, ◌++◌, codes, Option, None, Some, map, length, refl, sym, ap, ◌∙◌, subst, arith}
-use Rattle.std.specs.List.{Contains}
-use Rattle.std.proofs.lemmas.Option.{same_Some}
-use Rattle.gix_refspec_text.specs.Texts.Bytes.{star}
-use Rattle.gix_refspec_text.specs.Texts.Words.{BeginsWith, Lacks}
-use Rattle.gix_refspec_text.specs.Texts.Name.{HasStar, IsSplit}
-use Rattle.gix_refspec_text.specs.Specs.Reading.{Reading}
-use Rattle.gix_refspec_text.specs.Specs.Grammar.{IsAccepted}
-use Rattle.gix_refspec_text.specs.Matching.Side.{SideKind, pattern, full_name, object, partial, HasKind, Fits, candidates, filled}
-use Rattle.gix_refspec_text.specs.Matching.Match.{Matches, MatchesAs, Ref}
-use Rattle.gix_refspec_text.proofs.lemmas.hits.MatchLemmas.{lacks_no_pattern, one_word}
+use Rattle.gix_refspec_lint.proofs.Common.{◌≡◌, inl, inr, ℕ, zero, suc, List, [], ◌∷◌, ◌++◌, codes, Option, None, Some, map, length, refl, sym, ap, ◌∙◌, subst, arith, Contains, same_Some, Matches}
+use Rattle.gix_refspec_lint.proofs.Common.{MatchesAs, Ref, SideKind, pattern, full_name, object, partial, HasKind, Fits, candidates, filled, IsAccepted, Reading, star, HasStar, IsSplit, BeginsWith}
+use Rattle.gix_refspec_lint.proofs.Common.{Lacks, lacks_no_pattern, one_word, IsFilled, Source, name, id, start_of, matches_as, one_kind, MakesForward, sides_agree, IsCompleted, HasParts}
+use Rattle.gix_refspec_lint.proofs.Common.{completed_destination, far_there, written_below, candidate_contained}
 use Rattle.gix_refspec_text.proofs.lemmas.texts.TextLemmas.{Lacks-ContainsText}
 use Rattle.gix_refspec_match.specs.declared.types.SourceRef.{SourceRef}
-use Rattle.gix_refspec_match.specs.Matching.Mappings.{Source, name, id}
-use Rattle.gix_refspec_match.specs.Views.Mapping.{start_of}
-use Rattle.gix_refspec_match.specs.Matching.Hits.{IsFilled}
-use Rattle.gix_refspec_match.proofs.lemmas.hits.HitLemmas.{matches_as, one_kind}
-use Rattle.gix_refspec.specs.Laws.Matching.{MakesForward}
-use Rattle.gix_refspec_plan.specs.Matching.Plan.{IsCompleted}
-use Rattle.gix_refspec_plan.specs.Private.Stales.{HasParts}
 use Rattle.gix_refspec_lint.proofs.lemmas.PatternLemmas.{maps_pattern}
-use Rattle.gix_refspec.proofs.lemmas.specs.SideLawLemmas.{sides_agree}
-use Rattle.gix_refspec_plan.proofs.lemmas.stale.FetchedLemmas.{completed_destination, far_there, written_below}
-use Rattle.gix_refspec_plan.proofs.lemmas.stale.SourceLemmas.{candidate_contained}
 
 -- ---- destinations
 

@@ -1,25 +1,9 @@
 -- What an example of a conflict says of its two specs, by their completed readings.
-use Rattle.std.proofs.Common.{◌≡◌, ◌≢◌, inl, inr, ℕ, ◌+◌, ◌<◌, List, [], ◌∷◌, ◌++◌, Option, None, Some, get_or, length, map, take, refl, sym, ap, ◌∙◌, subst}
+use Rattle.gix_refspec_lint.proofs.Common.{◌≡◌, ◌≢◌, inl, inr, ℕ, ◌+◌, ◌<◌, List, [], ◌∷◌, ◌++◌, Option, None, Some, get_or, length, map, take, refl, sym, ap, ◌∙◌, subst, Contains, get_or-map}
+use Rattle.gix_refspec_lint.proofs.Common.{length-map, take_more, slice_get_read, Ref, Reading, star, Lacks, reading_of, RefSpecRef, Source, MakesForward, sides_agree, IsCompleted, HasParts, zip_at}
+use Rattle.gix_refspec_lint.proofs.Common.{zip_more, ConflictOver, Example, IsExample, refs_of, AreApart, AreCommon, HasPattern, HasSourcesOf, HaveCommon, HaveParts, IsFound, IsFoundAt, IsGroupOf}
+use Rattle.gix_refspec_lint.proofs.Common.{Group, Common}
 use Rattle.std.specs.Borrow.{Bor}
-use Rattle.std.specs.List.{Contains}
-use Rattle.std.proofs.lemmas.List.{get_or-map, length-map, take_more}
-use Rattle.std.proofs.lemmas.Option.{slice_get_read}
-use Rattle.gix_refspec_lint.specs.declared.group.Group.{Group}
-use Rattle.gix_refspec_lint.specs.declared.words.Common.{Common}
-use Rattle.gix_refspec_text.specs.declared.spec.RefSpecRef.{RefSpecRef}
-use Rattle.gix_refspec_text.specs.Texts.Bytes.{star}
-use Rattle.gix_refspec_text.specs.Texts.Words.{Lacks}
-use Rattle.gix_refspec_text.specs.Specs.Reading.{Reading}
-use Rattle.gix_refspec_text.specs.Matching.Match.{Ref}
-use Rattle.gix_refspec_text.specs.Views.Spec.{reading_of}
-use Rattle.gix_refspec_match.specs.Matching.Mappings.{Source}
-use Rattle.gix_refspec.specs.Laws.Matching.{MakesForward}
-use Rattle.gix_refspec_lint.specs.Matching.Lint.{ConflictOver, Example, IsExample, refs_of}
-use Rattle.gix_refspec_plan.specs.Matching.Plan.{IsCompleted}
-use Rattle.gix_refspec_lint.specs.Private.Lints.{AreApart, AreCommon, HasPattern, HasSourcesOf, HaveCommon, HaveParts, IsFound, IsFoundAt, IsGroupOf}
-use Rattle.gix_refspec_plan.specs.Private.Stales.{HasParts}
-use Rattle.gix_refspec_plan.proofs.lemmas.plan.NameLemmas.{zip_at, zip_more}
-use Rattle.gix_refspec.proofs.lemmas.specs.SideLawLemmas.{sides_agree}
 use Rattle.gix_refspec_lint.proofs.lemmas.FoundLemmas.{one_makes, other_makes, zip_index}
 use Rattle.gix_refspec_lint.proofs.lemmas.PatternLemmas.{maps_pattern}
 use Rattle.gix_refspec_lint.proofs.lemmas.SourceLemmas.{none_made, pattern_there, plain_made}

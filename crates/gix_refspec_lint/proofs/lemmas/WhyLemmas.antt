@@ -1,26 +1,9 @@
 -- Why a spec does nothing with a source, beside refs that free earlier specs.
-use Rattle.std.proofs.Common.{◌≡◌, ℕ, ◌<◌, List, [], ◌∷◌, ◌++◌, Option, None, Some, length, map, get_or, refl, sym, ap, ◌∙◌, subst}
-use Rattle.std.specs.List.{AllByRecursion, AllZip, slice_get}
-use Rattle.std.proofs.lemmas.List.{map-append}
-use Rattle.std.proofs.lemmas.Option.{same_Some}
+use Rattle.gix_refspec_lint.proofs.Common.{◌≡◌, ℕ, ◌<◌, List, [], ◌∷◌, ◌++◌, Option, None, Some, length, map, get_or, refl, sym, ap, ◌∙◌, subst, AllByRecursion, AllZip, slice_get, map-append}
+use Rattle.gix_refspec_lint.proofs.Common.{same_Some, Ref, MatchesAs, SideKind, pattern, full_name, object, partial, HasKind, Fits, Reading, reading_of, RefSpecRef, one_word, all_join, IsFilled}
+use Rattle.gix_refspec_lint.proofs.Common.{Source, name, id, IsExcludedBy, IsSourceExcluded, matches_as, HaveSameNames, MakesForward, IsRefName, IsValidSource, IsCompleted, ref_named, AreValid, Maps}
+use Rattle.gix_refspec_lint.proofs.Common.{MapsSoundly, refs_of, AreFreeing, Explains, IsAtWork, IsShown, MakesSoundly, refs_with}
 use Rattle.gix_refspec_lint.specs.declared.Reason.TheVariants as reason
-use Rattle.gix_refspec_text.specs.declared.spec.RefSpecRef.{RefSpecRef}
-use Rattle.gix_refspec_text.specs.Specs.Reading.{Reading}
-use Rattle.gix_refspec_text.specs.Matching.Side.{SideKind, pattern, full_name, object, partial, HasKind, Fits}
-use Rattle.gix_refspec_text.specs.Matching.Match.{Ref, MatchesAs}
-use Rattle.gix_refspec_text.specs.Views.Spec.{reading_of}
-use Rattle.gix_refspec_text.proofs.lemmas.hits.MatchLemmas.{one_word}
-use Rattle.gix_refspec_text.proofs.lemmas.lists.AllLemmas.{all_join}
-use Rattle.gix_refspec_match.specs.Matching.Mappings.{Source, name, id, IsExcludedBy, IsSourceExcluded}
-use Rattle.gix_refspec_match.specs.Matching.Hits.{IsFilled}
-use Rattle.gix_refspec_match.proofs.lemmas.hits.HitLemmas.{matches_as}
-use Rattle.gix_refspec.specs.Laws.Items.{HaveSameNames}
-use Rattle.gix_refspec.specs.Laws.Matching.{MakesForward}
-use Rattle.gix_refspec_lint.specs.Matching.Lint.{AreValid, Maps, MapsSoundly, refs_of}
-use Rattle.gix_refspec_plan.specs.Matching.Plan.{IsCompleted}
-use Rattle.gix_refspec.specs.Matching.RefNames.{IsRefName, IsValidSource}
-use Rattle.gix_refspec_plan.specs.Matching.Stale.{ref_named}
-use Rattle.gix_refspec_lint.specs.Private.Idles.{AreFreeing, Explains, IsAtWork, IsShown, MakesSoundly, refs_with}
 use Rattle.gix_refspec_lint.proofs.lemmas.DecideLemmas.{destination_once}
 use Rattle.gix_refspec_lint.proofs.lemmas.FoundLemmas.{makes_also, maps_of, of_maps}
 use Rattle.gix_refspec_lint.proofs.lemmas.OneSpecLemmas.{excluded_at}

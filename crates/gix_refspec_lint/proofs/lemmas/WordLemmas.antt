@@ -1,12 +1,6 @@
 -- Which words decide what a star may match.
-use Rattle.std.proofs.Common.{◌≡◌, ◌⊎◌, inl, inr, ℕ, ◌+◌, ◌≤◌, List, [], ◌∷◌, ◌++◌, codes, drop, length, map, take, append_assoc, append-nil, length-append, refl, sym, ap, ◌∙◌, subst, arith}
-use Rattle.std.specs.List.{AllByRecursion, Contains}
-use Rattle.gix_refspec_text.specs.Texts.Bytes.{head}
-use Rattle.gix_refspec_text.specs.Texts.Words.{BeginsWith, EndsWith}
-use Rattle.gix_refspec_text.specs.Matching.Side.{Fits}
-use Rattle.gix_refspec_text.proofs.lemmas.hits.MatchLemmas.{one_word}
-use Rattle.gix_refspec.specs.Matching.RefNames.{IsRefName}
-use Rattle.gix_refspec_lint.specs.Private.Lints.{IsDeciding, IsLongerPrefix, IsLongerSuffix, IsMost, endings, parts}
+use Rattle.gix_refspec_lint.proofs.Common.{◌≡◌, ◌⊎◌, inl, inr, ℕ, ◌+◌, ◌≤◌, List, [], ◌∷◌, ◌++◌, codes, drop, length, map, take, append_assoc, append-nil, length-append, refl, sym, ap, ◌∙◌, subst}
+use Rattle.gix_refspec_lint.proofs.Common.{arith, AllByRecursion, Contains, Fits, head, BeginsWith, EndsWith, one_word, IsRefName, IsDeciding, IsLongerPrefix, IsLongerSuffix, IsMost, endings, parts}
 use Rattle.gix_refspec_lint.proofs.lemmas.ByteLemmas.{parted}
 
 -- ---- the parts of a text

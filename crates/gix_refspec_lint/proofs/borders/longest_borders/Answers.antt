@@ -1,6 +1,5 @@
 -- The entry for one byte more is its longest border.
-use Rattle.std.proofs.Common.{◌≡◌, ◌+◌, length, min, subst, sym, arith}
-use Rattle.gix_refspec_lint.specs.Private.Borders.{AreLongestTo}
+use Rattle.gix_refspec_lint.proofs.Common.{◌≡◌, ◌+◌, length, min, subst, sym, arith, AreLongestTo}
 use Rattle.gix_refspec_lint.proofs.lemmas.BorderLemmas.{one_more}
 use Rattle.gix_refspec_lint.proofs.borders.longest_borders.Goals as goal
 

@@ -1,6 +1,5 @@
 -- the entries so far are the longest borders
-use Rattle.std.proofs.Common.{◌≡◌, ◌+◌, length, min, vec_len}
-use Rattle.gix_refspec_lint.specs.Private.Borders.{AreLongestTo}
+use Rattle.gix_refspec_lint.proofs.Common.{◌≡◌, ◌+◌, length, min, vec_len, AreLongestTo}
 use Rattle.gix_refspec_lint.proofs.borders.longest_borders.Given as goal
 
 abbrev pub invariant-loop-len : goal.invariant-loop-len

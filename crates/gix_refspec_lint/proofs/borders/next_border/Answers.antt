@@ -1,5 +1,5 @@
 -- A border of the next byte's front goes on with that byte.
-use Rattle.std.proofs.Common.{◌≢◌, get_or, subst, arith}
+use Rattle.gix_refspec_lint.proofs.Common.{◌≢◌, get_or, subst, arith}
 use Rattle.gix_refspec_lint.proofs.lemmas.BorderLemmas.{IsCandidate, candidate_first, candidate_next, longest_more, longest_none}
 use Rattle.gix_refspec_lint.proofs.borders.next_border.Goals as goal
 

@@ -1,10 +1,5 @@
 -- Without a conflict at the names that decide there is none.
-use Rattle.std.proofs.Common.{◌++◌, List, ℕ, map, subst, take_all, arith}
-use Rattle.std.specs.List.{AllByRecursion}
-use Rattle.std.proofs.lemmas.Result.{IfOk-weaker}
-use Rattle.bstr.specs.Owned.{bstring_bytes}
-use Rattle.gix_refspec_text.proofs.lemmas.lists.MapLemmas.{one_more_mapped}
-use Rattle.gix_refspec_lint.specs.Private.Lints.{NoneAt}
+use Rattle.gix_refspec_lint.proofs.Common.{◌++◌, List, ℕ, map, subst, take_all, arith, AllByRecursion, IfOk-weaker, bstring_bytes, one_more_mapped, NoneAt}
 use Rattle.gix_refspec_lint.proofs.lemmas.AmongLemmas.{among_found}
 use Rattle.gix_refspec_lint.proofs.conflicts.conflict_among.Goals as goal
 

@@ -1,9 +1,5 @@
 -- no conflict at the names with the words so far
-use Rattle.std.proofs.Common.{◌++◌, List, map, take}
-use Rattle.std.specs.List.{AllByRecursion}
-use Rattle.bstr.specs.Owned.{bstring_bytes}
-use Rattle.gix_refspec_text.specs.Specs.Reading.{Reading}
-use Rattle.gix_refspec_lint.specs.Private.Lints.{IsGroupOf, NoneAt}
+use Rattle.gix_refspec_lint.proofs.Common.{◌++◌, List, map, take, AllByRecursion, bstring_bytes, Reading, IsGroupOf, NoneAt}
 use Rattle.gix_refspec_lint.proofs.conflicts.conflict_among.Given as goal
 
 abbrev pub invariant-loop-word : goal.invariant-loop-word

@@ -1,11 +1,6 @@
 -- The sources of the two specs, each with each.
-use Rattle.std.proofs.Common.{◌≡◌, ◌<◌, [], get_or, length, map, take_all, refl, sym, ap, ◌∙◌, arith}
-use Rattle.std.specs.List.{AllByRecursion}
-use Rattle.std.proofs.lemmas.Bool.{eqb-true, false≢true}
-use Rattle.std.proofs.lemmas.List.{nil_from_length}
-use Rattle.bstr.specs.BStr.{bstr_bytes}
-use Rattle.gix_refspec_text.proofs.lemmas.lists.MapLemmas.{one_more_mapped}
-use Rattle.gix_refspec_match.specs.Views.Mapping.{start_of}
+use Rattle.gix_refspec_lint.proofs.Common.{◌≡◌, ◌<◌, [], get_or, length, map, take_all, refl, sym, ap, ◌∙◌, arith, AllByRecursion, eqb-true, false≢true, nil_from_length, bstr_bytes, one_more_mapped}
+use Rattle.gix_refspec_lint.proofs.Common.{start_of}
 use Rattle.gix_refspec_lint.proofs.lemmas.FoundAtLemmas.{NoConflict, copied_example, none_of_all}
 use Rattle.gix_refspec_lint.proofs.lemmas.SourceLemmas.{none_contained}
 use Rattle.gix_refspec_lint.proofs.lemmas.SpecLemmas.{completed_of, first_source, second_source}

@@ -1,10 +1,5 @@
 -- no conflict between the sources so far
-use Rattle.std.proofs.Common.{List, map, take}
-use Rattle.std.specs.List.{AllByRecursion}
-use Rattle.bstr.specs.BStr.{bstr_bytes}
-use Rattle.gix_refspec_text.specs.Specs.Reading.{Reading}
-use Rattle.gix_refspec_match.specs.Views.Mapping.{start_of}
-use Rattle.gix_refspec_lint.specs.Private.Lints.{IsGroupOf}
+use Rattle.gix_refspec_lint.proofs.Common.{List, map, take, AllByRecursion, bstr_bytes, Reading, start_of, IsGroupOf}
 use Rattle.gix_refspec_lint.proofs.lemmas.FoundAtLemmas.{NoConflict}
 use Rattle.gix_refspec_lint.proofs.conflicts.conflict_at.Given as goal
 

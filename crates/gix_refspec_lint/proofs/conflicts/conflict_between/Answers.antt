@@ -1,11 +1,5 @@
 -- By the destinations of the two specs: one without a star is the only one, and two patterns share the names that decide.
-use Rattle.std.proofs.Common.{◌<◌, Some, get_or, length, not, option_map, sym, ap, ◌∙◌, arith}
-use Rattle.std.specs.Cmp.Lexicographic.{pointwise_decides}
-use Rattle.std.proofs.lemmas.Bool.{false≢true}
-use Rattle.std.proofs.lemmas.Bool.Decides.{Decides-eqb}
-use Rattle.std.proofs.lemmas.Result.{IfOk-weaker}
-use Rattle.bstr.specs.BStr.{bstr_bytes}
-use Rattle.gix_refspec_lint.specs.Views.Lint.{example_of}
+use Rattle.gix_refspec_lint.proofs.Common.{◌<◌, Some, get_or, length, not, option_map, sym, ap, ◌∙◌, arith, pointwise_decides, false≢true, Decides-eqb, IfOk-weaker, bstr_bytes, example_of}
 use Rattle.gix_refspec_lint.proofs.lemmas.SpecLemmas.{first_plain, first_without, have_common, names_differ, none_alike, none_apart, parts_at, second_plain, second_without}
 use Rattle.gix_refspec_lint.proofs.conflicts.conflict_between.Goals as goal
 

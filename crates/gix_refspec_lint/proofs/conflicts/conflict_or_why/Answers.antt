@@ -1,9 +1,5 @@
 -- A conflict, or why there is none.
-use Rattle.std.proofs.Common.{◌<◌, ◌≡◌, get_or, length, sym, ◌∙◌, subst, arith}
-use Rattle.std.proofs.lemmas.Option.{same_Some}
-use Rattle.bstr.specs.BStr.{bstr_bytes}
-use Rattle.gix_refspec_text.specs.Views.Spec.{reading_of}
-use Rattle.gix_refspec_lint.specs.Private.Runs.{Fails}
+use Rattle.gix_refspec_lint.proofs.Common.{◌<◌, ◌≡◌, get_or, length, sym, ◌∙◌, subst, arith, same_Some, bstr_bytes, reading_of, Fails}
 use Rattle.gix_refspec_lint.proofs.lemmas.PreferredLemmas.{reading_at}
 use Rattle.gix_refspec_lint.proofs.conflicts.conflict_or_why.Goals as goal
 

@@ -1,8 +1,5 @@
 -- One more overlap, which is tried or passed over.
-use Rattle.std.proofs.Common.{get_or, take_all, arith}
-use Rattle.gix_refspec_lint.specs.Private.Lints.{NoneAt}
-use Rattle.gix_refspec_lint.specs.Private.Overlaps.{AreOverlaps, IsOverlap}
-use Rattle.gix_refspec_lint.specs.Private.Runs.{Fails}
+use Rattle.gix_refspec_lint.proofs.Common.{get_or, take_all, arith, NoneAt, AreOverlaps, IsOverlap, Fails}
 use Rattle.gix_refspec_lint.proofs.lemmas.DecidingLemmas.{each_overlap}
 use Rattle.gix_refspec_lint.proofs.lemmas.FailLemmas.{fails_again}
 use Rattle.gix_refspec_lint.proofs.lemmas.NothingLemmas.{fails_none}

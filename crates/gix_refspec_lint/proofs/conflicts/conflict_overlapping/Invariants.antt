@@ -1,8 +1,5 @@
 -- no conflict in the overlaps so far
-use Rattle.std.proofs.Common.{List, take}
-use Rattle.gix_refspec_text.specs.Specs.Reading.{Reading}
-use Rattle.gix_refspec_lint.specs.Private.Lints.{HaveCommon, IsGroupOf, NoneAt}
-use Rattle.gix_refspec_lint.specs.Private.Runs.{Fails}
+use Rattle.gix_refspec_lint.proofs.Common.{List, take, Reading, HaveCommon, IsGroupOf, NoneAt, Fails}
 use Rattle.gix_refspec_lint.proofs.lemmas.OverlapLemmas.{AreSoFar}
 use Rattle.gix_refspec_lint.proofs.conflicts.conflict_overlapping.Given as goal
 

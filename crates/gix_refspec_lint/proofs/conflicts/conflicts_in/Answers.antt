@@ -1,9 +1,6 @@
 -- The conflicts of one more spec with later ones.
-use Rattle.std.proofs.Common.{◌<◌, length, map, sym, ap, ◌∙◌, take_all, arith}
-use Rattle.std.proofs.lemmas.List.{map-append}
-use Rattle.gix_refspec_lint.specs.Views.Lint.{example_of}
+use Rattle.gix_refspec_lint.proofs.Common.{◌<◌, length, map, sym, ap, ◌∙◌, take_all, arith, map-append, zip_long, example_of}
 use Rattle.gix_refspec_lint.proofs.lemmas.FoundAtLemmas.{group_long, rows_next}
-use Rattle.gix_refspec_plan.proofs.lemmas.plan.NameLemmas.{zip_long}
 use Rattle.gix_refspec_lint.proofs.conflicts.conflicts_in.Goals as goal
 
 pub conflicts_with-requires : goal.conflicts_with-requires

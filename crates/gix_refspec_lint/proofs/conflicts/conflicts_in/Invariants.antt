@@ -1,9 +1,5 @@
 -- the conflicts of the specs so far
-use Rattle.std.proofs.Common.{List, map, take}
-use Rattle.gix_refspec_text.specs.Specs.Reading.{Reading}
-use Rattle.gix_refspec_match.specs.Matching.Lists.{IsJoinedFrom}
-use Rattle.gix_refspec_lint.specs.Private.Lints.{IsGroupOf}
-use Rattle.gix_refspec_lint.specs.Views.Lint.{example_of}
+use Rattle.gix_refspec_lint.proofs.Common.{List, map, take, Reading, IsJoinedFrom, IsGroupOf, example_of}
 use Rattle.gix_refspec_lint.proofs.lemmas.FoundAtLemmas.{AreOfFirst}
 use Rattle.gix_refspec_lint.proofs.conflicts.conflicts_in.Given as goal
 

@@ -1,9 +1,5 @@
 -- Both specs map their sources among the two refs.
-use Rattle.std.proofs.Common.{get_or, map, refl, sym, ap, ◌∙◌}
-use Rattle.std.proofs.lemmas.Bool.{false≢true}
-use Rattle.std.proofs.lemmas.Result.{IfOk-weaker}
-use Rattle.bstr.specs.BStr.{bstr_bytes}
-use Rattle.gix_refspec_match.specs.Views.Mapping.{ref_of, start_of}
+use Rattle.gix_refspec_lint.proofs.Common.{get_or, map, refl, sym, ap, ◌∙◌, false≢true, IfOk-weaker, bstr_bytes, ref_of, start_of}
 use Rattle.gix_refspec_lint.proofs.lemmas.FoundLemmas.{both_named, conflict_made, one_makes, other_makes}
 use Rattle.gix_refspec_lint.proofs.conflicts.do_conflict.Goals as goal
 

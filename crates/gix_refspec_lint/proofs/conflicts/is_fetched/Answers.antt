@@ -1,7 +1,5 @@
 -- A spec at an index excludes the source, or none does.
-use Rattle.std.proofs.Common.{refl, sym, subst}
-use Rattle.std.proofs.lemmas.Bool.{false≢true}
-use Rattle.gix_refspec_match.specs.Matching.Mappings.{IsSourceExcluded}
+use Rattle.gix_refspec_lint.proofs.Common.{refl, sym, subst, false≢true, IsSourceExcluded}
 use Rattle.gix_refspec_lint.proofs.lemmas.OneSpecLemmas.{excluded_at}
 use Rattle.gix_refspec_lint.proofs.conflicts.is_fetched.Goals as goal
 

@@ -1,7 +1,5 @@
 -- One more destination has one more pair of parts.
-use Rattle.std.proofs.Common.{inr, sym, ◌∙◌, take_all, arith}
-use Rattle.gix_refspec_text.specs.Views.Spec.{reading_of}
-use Rattle.gix_refspec_text.proofs.lemmas.specs.AcceptedLemmas.{accepted_few}
+use Rattle.gix_refspec_lint.proofs.Common.{inr, sym, ◌∙◌, take_all, arith, reading_of, accepted_few}
 use Rattle.gix_refspec_lint.proofs.lemmas.SpecLemmas.{parts_next}
 use Rattle.gix_refspec_lint.proofs.conflicts.parts_in.Goals as goal
 

@@ -1,6 +1,5 @@
 -- the parts of the destinations so far
-use Rattle.std.proofs.Common.{take}
-use Rattle.gix_refspec_lint.specs.Private.Lints.{HaveParts}
+use Rattle.gix_refspec_lint.proofs.Common.{take, HaveParts}
 use Rattle.gix_refspec_lint.proofs.conflicts.parts_in.Given as goal
 
 abbrev pub invariant-loop-spec : goal.invariant-loop-spec

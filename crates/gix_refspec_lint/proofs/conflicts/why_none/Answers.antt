@@ -1,7 +1,5 @@
 -- The source isn't fetched.
-use Rattle.bstr.specs.BStr.{bstr_bytes}
-use Rattle.bstr.specs.Owned.{bstring_bytes}
-use Rattle.gix_refspec_text.specs.Views.Spec.{reading_of}
+use Rattle.gix_refspec_lint.proofs.Common.{bstr_bytes, bstring_bytes, reading_of}
 use Rattle.gix_refspec_lint.proofs.lemmas.NothingLemmas.{first_fails, second_fails}
 use Rattle.gix_refspec_lint.proofs.conflicts.why_none.Goals as goal
 

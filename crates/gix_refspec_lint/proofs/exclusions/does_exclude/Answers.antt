@@ -1,8 +1,5 @@
 -- A side without a star excludes its own name, and a pattern each that has a word for the star.
-use Rattle.std.proofs.Common.{inl, sym, ap, ◌∙◌, option_map}
-use Rattle.bstr.specs.BStr.{bstr_bytes}
-use Rattle.gix_refspec_text.specs.Views.Spec.{reading_of}
-use Rattle.gix_refspec_text.proofs.lemmas.specs.AcceptedLemmas.{accepted_few}
+use Rattle.gix_refspec_lint.proofs.Common.{inl, sym, ap, ◌∙◌, option_map, bstr_bytes, reading_of, accepted_few}
 use Rattle.gix_refspec_lint.proofs.lemmas.ExclusionLemmas.{pattern_excludes, plain_excludes, same_bytes}
 use Rattle.gix_refspec_lint.proofs.exclusions.does_exclude.Goals as goal
 

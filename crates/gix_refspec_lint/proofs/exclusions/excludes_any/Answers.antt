@@ -1,9 +1,5 @@
 -- One of the specs maps what is excluded, or none does.
-use Rattle.std.proofs.Common.{map, take_all, arith}
-use Rattle.std.proofs.lemmas.Bool.{MatchBool-at_false, MatchBool-at_true}
-use Rattle.gix_refspec_text.specs.Views.Spec.{reading_of}
-use Rattle.gix_refspec_text.proofs.lemmas.lists.MapLemmas.{one_more_mapped}
-use Rattle.gix_refspec_lint.specs.Private.Idles.{ExcludesSome}
+use Rattle.gix_refspec_lint.proofs.Common.{map, take_all, arith, MatchBool-at_false, MatchBool-at_true, reading_of, one_more_mapped, ExcludesSome}
 use Rattle.gix_refspec_lint.proofs.lemmas.IdleExclusionLemmas.{any_mapped, none_of}
 use Rattle.gix_refspec_lint.proofs.exclusions.excludes_any.Goals as goal
 

@@ -1,10 +1,5 @@
 -- nothing that the specs so far map is excluded
-use Rattle.std.proofs.Common.{List, map, take}
-use Rattle.std.specs.List.{AllByRecursion}
-use Rattle.gix_refspec_text.specs.Specs.Reading.{Reading}
-use Rattle.gix_refspec_text.specs.Views.Spec.{reading_of}
-use Rattle.gix_refspec_lint.specs.Private.Idles.{ExcludesSome}
-use Rattle.gix_refspec_lint.specs.Private.Lints.{IsGroupOf}
+use Rattle.gix_refspec_lint.proofs.Common.{List, map, take, AllByRecursion, Reading, reading_of, ExcludesSome, IsGroupOf}
 use Rattle.gix_refspec_lint.proofs.exclusions.excludes_any.Given as goal
 
 abbrev pub invariant-loop-spec : goal.invariant-loop-spec

@@ -1,7 +1,5 @@
 -- The source is excluded, and it is mapped or not.
-use Rattle.std.proofs.lemmas.Result.{IfOk-weaker}
-use Rattle.gix_refspec_text.specs.Views.Spec.{reading_of}
-use Rattle.gix_refspec_match.specs.Views.Mapping.{start_of}
+use Rattle.gix_refspec_lint.proofs.Common.{IfOk-weaker, reading_of, start_of}
 use Rattle.gix_refspec_lint.proofs.lemmas.SoundLemmas.{excludes_told}
 use Rattle.gix_refspec_lint.proofs.exclusions.excludes_at.Goals as goal
 

@@ -1,13 +1,5 @@
 -- What is excluded and mapped is so at a name that decides.
-use Rattle.std.proofs.Common.{◌++◌, ℕ, List, map, subst, take_all, arith}
-use Rattle.std.specs.List.{AllByRecursion}
-use Rattle.std.proofs.lemmas.Bool.{MatchBool-at_false}
-use Rattle.std.proofs.lemmas.Result.{IfOk-weaker}
-use Rattle.bstr.specs.Owned.{bstring_bytes}
-use Rattle.gix_refspec_text.specs.Views.Spec.{reading_of}
-use Rattle.gix_refspec_text.proofs.lemmas.lists.MapLemmas.{one_more_mapped}
-use Rattle.gix_refspec_match.specs.Matching.Mappings.{name}
-use Rattle.gix_refspec_lint.specs.Private.Idles.{ExcludesFrom}
+use Rattle.gix_refspec_lint.proofs.Common.{◌++◌, ℕ, List, map, subst, take_all, arith, AllByRecursion, MatchBool-at_false, IfOk-weaker, bstring_bytes, reading_of, one_more_mapped, name, ExcludesFrom}
 use Rattle.gix_refspec_lint.proofs.lemmas.IdleExclusionLemmas.{shared_told}
 use Rattle.gix_refspec_lint.proofs.exclusions.excludes_common.Goals as goal
 

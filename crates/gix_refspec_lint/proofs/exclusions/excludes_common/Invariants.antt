@@ -1,10 +1,5 @@
 -- none of the names with the words so far is excluded and mapped
-use Rattle.std.proofs.Common.{◌++◌, map, take}
-use Rattle.std.specs.List.{AllByRecursion}
-use Rattle.bstr.specs.Owned.{bstring_bytes}
-use Rattle.gix_refspec_text.specs.Views.Spec.{reading_of}
-use Rattle.gix_refspec_match.specs.Matching.Mappings.{name}
-use Rattle.gix_refspec_lint.specs.Private.Idles.{ExcludesFrom}
+use Rattle.gix_refspec_lint.proofs.Common.{◌++◌, map, take, AllByRecursion, bstring_bytes, reading_of, name, ExcludesFrom}
 use Rattle.gix_refspec_lint.proofs.exclusions.excludes_common.Given as goal
 
 abbrev pub invariant-loop-word : goal.invariant-loop-word

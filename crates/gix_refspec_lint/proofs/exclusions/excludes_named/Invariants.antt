@@ -1,9 +1,5 @@
 -- no source so far is excluded and mapped
-use Rattle.std.proofs.Common.{map, take}
-use Rattle.std.specs.List.{AllByRecursion}
-use Rattle.gix_refspec_text.specs.Views.Spec.{reading_of}
-use Rattle.gix_refspec_match.specs.Views.Mapping.{start_of}
-use Rattle.gix_refspec_lint.specs.Private.Idles.{ExcludesFrom}
+use Rattle.gix_refspec_lint.proofs.Common.{map, take, AllByRecursion, reading_of, start_of, ExcludesFrom}
 use Rattle.gix_refspec_lint.proofs.exclusions.excludes_named.Given as goal
 
 abbrev pub invariant-loop-source : goal.invariant-loop-source

@@ -1,9 +1,5 @@
 -- By what the two sources have in common.
-use Rattle.std.proofs.Common.{inl, option_map, sym, ap, ◌∙◌}
-use Rattle.std.proofs.lemmas.Result.{IfOk-weaker}
-use Rattle.bstr.specs.BStr.{bstr_bytes}
-use Rattle.gix_refspec_text.specs.Views.Spec.{reading_of}
-use Rattle.gix_refspec_text.proofs.lemmas.specs.AcceptedLemmas.{accepted_few}
+use Rattle.gix_refspec_lint.proofs.Common.{inl, option_map, sym, ap, ◌∙◌, IfOk-weaker, bstr_bytes, reading_of, accepted_few}
 use Rattle.gix_refspec_lint.proofs.lemmas.IdleExclusionLemmas.{none_apart, plain_only}
 use Rattle.gix_refspec_lint.proofs.exclusions.excludes_of.Goals as goal
 

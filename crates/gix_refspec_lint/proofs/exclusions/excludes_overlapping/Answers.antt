@@ -1,11 +1,5 @@
 -- One more overlap, which is tried or passed over.
-use Rattle.std.proofs.Common.{ℕ, List, get_or, take_all, arith}
-use Rattle.std.proofs.lemmas.Bool.{MatchBool-at_false}
-use Rattle.gix_refspec_text.specs.Views.Spec.{reading_of}
-use Rattle.gix_refspec_match.specs.Matching.Mappings.{name}
-use Rattle.gix_refspec_lint.specs.Private.Idles.{ExcludesFrom}
-use Rattle.gix_refspec_lint.specs.Private.Overlaps.{AreOverlaps, IsOverlap}
-use Rattle.gix_refspec_lint.specs.Private.Runs.{IsUnsound}
+use Rattle.gix_refspec_lint.proofs.Common.{ℕ, List, get_or, take_all, arith, MatchBool-at_false, reading_of, name, ExcludesFrom, AreOverlaps, IsOverlap, IsUnsound}
 use Rattle.gix_refspec_lint.proofs.lemmas.DecidingLemmas.{each_overlap}
 use Rattle.gix_refspec_lint.proofs.lemmas.FailLemmas.{unsound_again}
 use Rattle.gix_refspec_lint.proofs.lemmas.NothingLemmas.{unsound_none}

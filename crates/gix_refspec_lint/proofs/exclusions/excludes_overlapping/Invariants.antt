@@ -1,9 +1,5 @@
 -- nothing is excluded and mapped in the overlaps so far
-use Rattle.std.proofs.Common.{take}
-use Rattle.gix_refspec_text.specs.Views.Spec.{reading_of}
-use Rattle.gix_refspec_match.specs.Matching.Mappings.{name}
-use Rattle.gix_refspec_lint.specs.Private.Idles.{ExcludesFrom}
-use Rattle.gix_refspec_lint.specs.Private.Runs.{IsUnsound}
+use Rattle.gix_refspec_lint.proofs.Common.{take, reading_of, name, ExcludesFrom, IsUnsound}
 use Rattle.gix_refspec_lint.proofs.lemmas.OverlapLemmas.{AreSoFar}
 use Rattle.gix_refspec_lint.proofs.exclusions.excludes_overlapping.Given as goal
 

@@ -1,8 +1,5 @@
 -- One more spec, which is idle or not.
-use Rattle.std.proofs.Common.{◌≡◌, None, Some, append-nil, map, sym, refl, take_all, arith}
-use Rattle.std.proofs.lemmas.Bool.{MatchBool-at_false, MatchBool-at_true}
-use Rattle.gix_refspec_text.specs.Views.Spec.{reading_of}
-use Rattle.gix_refspec_lint.specs.Matching.Lint.{IsIdleExclusion}
+use Rattle.gix_refspec_lint.proofs.Common.{◌≡◌, None, Some, append-nil, map, sym, refl, take_all, arith, MatchBool-at_false, MatchBool-at_true, reading_of, IsIdleExclusion}
 use Rattle.gix_refspec_lint.proofs.lemmas.IdleExclusionLemmas.{idle_completed, one_more_made}
 use Rattle.gix_refspec_lint.proofs.exclusions.idle_exclusions_in.Goals as goal
 use Rattle.gix_refspec_lint.proofs.exclusions.idle_exclusions_in.Goals.{then-branch+in_ok-push, else-branch}

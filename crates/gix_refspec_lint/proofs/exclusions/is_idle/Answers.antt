@@ -1,6 +1,5 @@
 -- A positive spec isn't idle so, and a negative one only if it excludes nothing.
-use Rattle.std.proofs.Common.{map}
-use Rattle.gix_refspec_text.specs.Views.Spec.{reading_of}
+use Rattle.gix_refspec_lint.proofs.Common.{map, reading_of}
 use Rattle.gix_refspec_lint.proofs.lemmas.IdleExclusionLemmas.{idle_told, never_idle}
 use Rattle.gix_refspec_lint.proofs.exclusions.is_idle.Goals as goal
 

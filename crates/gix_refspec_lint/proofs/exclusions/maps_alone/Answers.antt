@@ -1,7 +1,5 @@
 -- The items have the name of the source alone.
-use Rattle.gix_refspec_text.specs.Views.Spec.{reading_of}
-use Rattle.gix_refspec_match.specs.Views.Mapping.{start_of}
-use Rattle.gix_refspec_lint.specs.Matching.Lint.{refs_of}
+use Rattle.gix_refspec_lint.proofs.Common.{reading_of, start_of, refs_of}
 use Rattle.gix_refspec_lint.proofs.lemmas.SoundLemmas.{alone_told}
 use Rattle.gix_refspec_lint.proofs.exclusions.maps_alone.Goals as goal
 

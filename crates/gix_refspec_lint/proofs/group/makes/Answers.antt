@@ -1,12 +1,5 @@
 -- A spec alone keeps the pairs that it makes.
-use Rattle.std.proofs.Common.{map, option_map, refl, sym, ◌∙◌, take_all, arith}
-use Rattle.std.proofs.lemmas.Bool.{false≢true}
-use Rattle.bstr.specs.BStr.{bstr_bytes}
-use Rattle.gix_refspec_text.specs.Views.Spec.{reading_of}
-use Rattle.gix_refspec_text.proofs.lemmas.lists.MapLemmas.{one_more_mapped}
-use Rattle.gix_refspec_match.specs.Matching.Mappings.{IsSamePair}
-use Rattle.gix_refspec_match.specs.Views.Mapping.{mapped_of, ref_of, start_of}
-use Rattle.gix_refspec_lint.specs.Private.Lints.{pair_of}
+use Rattle.gix_refspec_lint.proofs.Common.{map, option_map, refl, sym, ◌∙◌, take_all, arith, false≢true, bstr_bytes, reading_of, one_more_mapped, IsSamePair, mapped_of, ref_of, start_of, pair_of}
 use Rattle.gix_refspec_lint.proofs.lemmas.OneSpecLemmas.{kept_alone, none_paired, pair_there}
 use Rattle.gix_refspec_lint.proofs.group.makes.Goals as goal
 

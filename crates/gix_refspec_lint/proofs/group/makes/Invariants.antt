@@ -1,10 +1,5 @@
 -- no mapping so far has the pair
-use Rattle.std.proofs.Common.{map, option_map, take}
-use Rattle.std.specs.List.{AllByRecursion}
-use Rattle.bstr.specs.BStr.{bstr_bytes}
-use Rattle.gix_refspec_match.specs.Matching.Mappings.{IsSamePair}
-use Rattle.gix_refspec_match.specs.Views.Mapping.{mapped_of, start_of}
-use Rattle.gix_refspec_lint.specs.Private.Lints.{pair_of}
+use Rattle.gix_refspec_lint.proofs.Common.{map, option_map, take, AllByRecursion, bstr_bytes, IsSamePair, mapped_of, start_of, pair_of}
 use Rattle.gix_refspec_lint.proofs.group.makes.Given as goal
 
 abbrev pub invariant-loop-mapping : goal.invariant-loop-mapping

@@ -1,8 +1,5 @@
 -- Both sides of the spec are patterns, with one word.
-use Rattle.std.proofs.Common.{inl, inr, sym, ◌∙◌}
-use Rattle.std.proofs.lemmas.Result.{IfOk-weaker}
-use Rattle.gix_refspec_text.specs.Views.Spec.{reading_of}
-use Rattle.gix_refspec_text.proofs.lemmas.specs.AcceptedLemmas.{accepted_few}
+use Rattle.gix_refspec_lint.proofs.Common.{inl, inr, sym, ◌∙◌, IfOk-weaker, reading_of, accepted_few}
 use Rattle.gix_refspec_lint.proofs.lemmas.PairLemmas.{source_told}
 use Rattle.gix_refspec_lint.proofs.group.source_of.Goals as goal
 

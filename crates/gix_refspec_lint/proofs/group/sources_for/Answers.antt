@@ -1,18 +1,7 @@
 -- A pattern has one source by the word, and any other spec those of its only destination.
-use Rattle.std.proofs.Common.{◌≡◌, Some, inl, inr, not, option_map, sym, ap, ◌∙◌}
-use Rattle.std.specs.Cmp.Lexicographic.{pointwise_decides}
-use Rattle.std.proofs.lemmas.Bool.{false≢true}
-use Rattle.std.proofs.lemmas.Bool.Decides.{Decides-eqb}
-use Rattle.std.proofs.lemmas.Result.{IfOk-weaker}
-use Rattle.bstr.specs.BStr.{bstr_bytes}
-use Rattle.gix_refspec_text.specs.Texts.Bytes.{star}
-use Rattle.gix_refspec_text.specs.Texts.Words.{Lacks}
-use Rattle.gix_refspec_text.specs.Views.Spec.{reading_of}
-use Rattle.gix_refspec_text.proofs.lemmas.specs.AcceptedLemmas.{accepted_few}
-use Rattle.gix_refspec_match.specs.Matching.Mappings.{name}
-use Rattle.gix_refspec_plan.specs.Private.Stales.{HasParts}
+use Rattle.gix_refspec_lint.proofs.Common.{◌≡◌, Some, inl, inr, not, option_map, sym, ap, ◌∙◌, pointwise_decides, false≢true, Decides-eqb, IfOk-weaker, bstr_bytes, star, Lacks, reading_of}
+use Rattle.gix_refspec_lint.proofs.Common.{accepted_few, name, HasParts, parts_split}
 use Rattle.gix_refspec_lint.proofs.lemmas.SourceLemmas.{has_one, none_fits, none_unsplit, only_pushed, pattern_there, plain_made, source_unsplit}
-use Rattle.gix_refspec_plan.proofs.lemmas.stale.SourceLemmas.{parts_split}
 use Rattle.gix_refspec_lint.proofs.group.sources_for.Goals as goal
 use Rattle.gix_refspec_lint.proofs.group.sources_for.Goals.{in-Some-2+in_ok-push, in_default-2}
 

@@ -1,10 +1,5 @@
 -- One more name, which is allowed or not.
-use Rattle.std.proofs.Common.{map, map-id, sym, ◌∙◌, subst, rules}
-use Rattle.std.proofs.lemmas.Bool.{MatchBool-at_false, MatchBool-at_true}
-use Rattle.std.proofs.lemmas.Iterator.Adapters.{YieldsList-from_vec}
-use Rattle.std.proofs.lemmas.Iterator.Consumers.{YieldsList-end}
-use Rattle.bstr.specs.Owned.{bstring_bytes}
-use Rattle.gix_refspec_lint.specs.Private.Idles.{AreAllowed}
+use Rattle.gix_refspec_lint.proofs.Common.{map, map-id, sym, ◌∙◌, subst, rules, MatchBool-at_false, MatchBool-at_true, YieldsList-from_vec, YieldsList-end, bstring_bytes, AreAllowed}
 use Rattle.gix_refspec_lint.proofs.lemmas.IdleLemmas.{allowed_more, allowed_same, none_added}
 use Rattle.gix_refspec_lint.proofs.idle.add_allowed.Goals as goal
 

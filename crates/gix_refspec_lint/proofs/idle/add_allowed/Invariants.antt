@@ -1,7 +1,5 @@
 -- what is allowed of the names so far is added
-use Rattle.std.proofs.Common.{map}
-use Rattle.bstr.specs.Owned.{bstring_bytes}
-use Rattle.gix_refspec_lint.specs.Private.Idles.{AreAllowed}
+use Rattle.gix_refspec_lint.proofs.Common.{map, bstring_bytes, AreAllowed}
 use Rattle.gix_refspec_lint.proofs.idle.add_allowed.Given as goal
 
 abbrev pub invariant-loop-name : goal.invariant-loop-name

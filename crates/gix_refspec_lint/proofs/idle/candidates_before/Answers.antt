@@ -1,13 +1,6 @@
 -- By the kind of the source.
-use Rattle.std.proofs.Common.{Some, inl, option_map, map, refl, sym, ap, ◌∙◌}
-use Rattle.std.proofs.lemmas.Result.{IfOk-weaker}
-use Rattle.bstr.specs.BStr.{bstr_bytes}
-use Rattle.bstr.specs.Owned.{bstring_bytes}
-use Rattle.gix_refspec_text.specs.Views.Spec.{reading_of}
+use Rattle.gix_refspec_lint.proofs.Common.{Some, inl, option_map, map, refl, sym, ap, ◌∙◌, IfOk-weaker, bstr_bytes, bstring_bytes, full_name, object, pattern, reading_of, accepted_few, name_bytes}
 use Rattle.gix_refspec_text.specs.Texts.ObjectId.{id_bytes}
-use Rattle.gix_refspec_text.specs.Matching.Side.{full_name, object, pattern}
-use Rattle.gix_refspec_text.proofs.lemmas.specs.AcceptedLemmas.{accepted_few}
-use Rattle.gix_refspec_match.specs.Views.Mapping.{name_bytes}
 use Rattle.gix_refspec_lint.proofs.lemmas.PreferredLemmas.{preferred_by, preferred_partial}
 use Rattle.gix_refspec_lint.proofs.idle.candidates_before.Goals as goal
 

@@ -1,11 +1,5 @@
 -- One of the names is the one, or none is.
-use Rattle.std.proofs.Common.{◌≡◌, ◌∙◌, map, refl, subst, sym, take_all, arith}
-use Rattle.std.specs.List.{Contains}
-use Rattle.std.proofs.lemmas.Bool.{false≢true}
-use Rattle.bstr.specs.BStr.{bstr_bytes}
-use Rattle.bstr.specs.Owned.{bstring_bytes}
-use Rattle.gix_refspec_text.proofs.lemmas.lists.MapLemmas.{one_more_mapped}
-use Rattle.gix_refspec_plan.proofs.lemmas.stale.SourceLemmas.{text_contained}
+use Rattle.gix_refspec_lint.proofs.Common.{◌≡◌, ◌∙◌, map, refl, subst, sym, take_all, arith, Contains, false≢true, bstr_bytes, bstring_bytes, one_more_mapped, text_contained}
 use Rattle.gix_refspec_lint.proofs.lemmas.ExclusionLemmas.{same_bytes}
 use Rattle.gix_refspec_lint.proofs.lemmas.IdleLemmas.{none_equal}
 use Rattle.gix_refspec_lint.proofs.idle.contains.Goals as goal

@@ -1,9 +1,5 @@
 -- A spec maps what its completed reading makes.
-use Rattle.std.proofs.Common.{map, option_map, get_or, sym, ap, ◌∙◌}
-use Rattle.std.proofs.lemmas.Bool.{false≢true}
-use Rattle.std.proofs.lemmas.Result.{IfOk-weaker}
-use Rattle.bstr.specs.BStr.{bstr_bytes}
-use Rattle.gix_refspec_match.specs.Views.Mapping.{ref_of, start_of}
+use Rattle.gix_refspec_lint.proofs.Common.{map, option_map, get_or, sym, ap, ◌∙◌, false≢true, IfOk-weaker, bstr_bytes, ref_of, start_of}
 use Rattle.gix_refspec_lint.proofs.lemmas.FoundLemmas.{maps_of, of_maps}
 use Rattle.gix_refspec_lint.proofs.lemmas.IdleLemmas.{does_told}
 use Rattle.gix_refspec_lint.proofs.idle.does_map.Goals as goal

@@ -1,10 +1,5 @@
 -- None of the specs so far, and the one at this index or not.
-use Rattle.std.proofs.Common.{inl, inr, map, option_map, sym, subst, arith}
-use Rattle.std.proofs.lemmas.Bool.{MatchBool-at_false, MatchBool-at_true}
-use Rattle.bstr.specs.BStr.{bstr_bytes}
-use Rattle.gix_refspec_text.proofs.lemmas.lists.NumberLemmas.{upto}
-use Rattle.gix_refspec_match.specs.Views.Mapping.{ref_of, start_of}
-use Rattle.gix_refspec_lint.specs.Matching.Lint.{Maps}
+use Rattle.gix_refspec_lint.proofs.Common.{inl, inr, map, option_map, sym, subst, arith, MatchBool-at_false, MatchBool-at_true, bstr_bytes, upto, ref_of, start_of, Maps}
 use Rattle.gix_refspec_lint.proofs.idle.earlier.Goals as goal
 
 pub returns-then-branch : goal.returns-then-branch

@@ -1,10 +1,5 @@
 -- no spec so far maps it
-use Rattle.std.proofs.Common.{◌<◌, ℕ, List, map, option_map}
-use Rattle.bstr.specs.BStr.{bstr_bytes}
-use Rattle.gix_refspec_text.specs.Specs.Reading.{Reading}
-use Rattle.gix_refspec_match.specs.Views.Mapping.{ref_of, start_of}
-use Rattle.gix_refspec_lint.specs.Matching.Lint.{Maps}
-use Rattle.gix_refspec_lint.specs.Private.Lints.{IsGroupOf}
+use Rattle.gix_refspec_lint.proofs.Common.{◌<◌, ℕ, List, map, option_map, bstr_bytes, Reading, ref_of, start_of, Maps, IsGroupOf}
 use Rattle.gix_refspec_lint.proofs.idle.earlier.Given as goal
 
 abbrev pub invariant-loop-at : goal.invariant-loop-at

@@ -1,8 +1,5 @@
 -- One more spec.
-use Rattle.std.proofs.Common.{map, ap, sym, subst, arith}
-use Rattle.bstr.specs.Owned.{bstring_bytes}
-use Rattle.gix_refspec_text.specs.Views.Spec.{reading_of}
-use Rattle.gix_refspec_match.specs.Views.Mapping.{start_of}
+use Rattle.gix_refspec_lint.proofs.Common.{map, ap, sym, subst, arith, bstring_bytes, reading_of, start_of}
 use Rattle.gix_refspec_lint.proofs.lemmas.PreferredLemmas.{FreesSoFar, freeing, frees_less, frees_next, frees_none, reading_at}
 use Rattle.gix_refspec_lint.proofs.idle.freeing_names.Goals as goal
 

@@ -1,8 +1,5 @@
 -- the names so far free the specs so far
-use Rattle.std.proofs.Common.{map}
-use Rattle.bstr.specs.Owned.{bstring_bytes}
-use Rattle.gix_refspec_text.specs.Views.Spec.{reading_of}
-use Rattle.gix_refspec_match.specs.Views.Mapping.{start_of}
+use Rattle.gix_refspec_lint.proofs.Common.{map, bstring_bytes, reading_of, start_of}
 use Rattle.gix_refspec_lint.proofs.lemmas.PreferredLemmas.{FreesSoFar}
 use Rattle.gix_refspec_lint.proofs.idle.freeing_names.Given as goal
 

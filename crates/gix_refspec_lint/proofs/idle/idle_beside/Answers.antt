@@ -1,7 +1,5 @@
 -- By the mapping that is found, and what excludes it or makes it earlier.
-use Rattle.std.proofs.Common.{map, get_or, ap}
-use Rattle.bstr.specs.Owned.{bstring_bytes}
-use Rattle.gix_refspec_match.specs.Views.Mapping.{mapped_of, ref_of, start_of}
+use Rattle.gix_refspec_lint.proofs.Common.{map, get_or, ap, bstring_bytes, mapped_of, ref_of, start_of}
 use Rattle.gix_refspec_lint.proofs.lemmas.WhyLemmas.{explains_invalid, is_at_work, names_beside, shows_duplicate, shows_excluded}
 use Rattle.gix_refspec_lint.proofs.idle.idle_beside.Goals as goal
 

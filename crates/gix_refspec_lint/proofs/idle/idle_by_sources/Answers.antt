@@ -1,10 +1,5 @@
 -- What becomes of the mappings of each source that the spec may map.
-use Rattle.std.proofs.Common.{inl, inr, map, sym, ◌∙◌, take_all, arith}
-use Rattle.std.proofs.lemmas.Option.{same_Some}
-use Rattle.gix_refspec_text.proofs.lemmas.lists.AllLemmas.{all_weaker}
-use Rattle.gix_refspec_text.proofs.lemmas.lists.MapLemmas.{one_more_mapped}
-use Rattle.gix_refspec_match.specs.Views.Mapping.{start_of}
-use Rattle.gix_refspec_lint.specs.Private.Idles.{Explains}
+use Rattle.gix_refspec_lint.proofs.Common.{inl, inr, map, sym, ◌∙◌, take_all, arith, same_Some, all_weaker, one_more_mapped, start_of, Explains}
 use Rattle.gix_refspec_lint.proofs.lemmas.IdleSpecLemmas.{idle_by, plain_same, sources_explain}
 use Rattle.gix_refspec_lint.proofs.lemmas.PreferredLemmas.{reading_at}
 use Rattle.gix_refspec_lint.proofs.idle.idle_by_sources.Goals as goal

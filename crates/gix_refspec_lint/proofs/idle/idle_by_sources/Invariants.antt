@@ -1,10 +1,5 @@
 -- the reason explains the sources so far
-use Rattle.std.proofs.Common.{List, map, take}
-use Rattle.std.specs.List.{AllByRecursion}
-use Rattle.gix_refspec_text.specs.Specs.Reading.{Reading}
-use Rattle.gix_refspec_match.specs.Views.Mapping.{start_of}
-use Rattle.gix_refspec_lint.specs.Private.Idles.{Explains, IsShown}
-use Rattle.gix_refspec_lint.specs.Private.Lints.{IsGroupOf}
+use Rattle.gix_refspec_lint.proofs.Common.{List, map, take, AllByRecursion, Reading, start_of, Explains, IsShown, IsGroupOf}
 use Rattle.gix_refspec_lint.proofs.idle.idle_by_sources.Given as goal
 
 abbrev pub invariant-loop-source : goal.invariant-loop-source

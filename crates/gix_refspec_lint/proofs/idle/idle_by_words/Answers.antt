@@ -1,11 +1,5 @@
 -- What becomes of the mappings of the names with the words becomes of all.
-use Rattle.std.proofs.Common.{◌++◌, ℕ, List, inl, inr, map, subst, take_all, arith}
-use Rattle.std.specs.List.{AllByRecursion}
-use Rattle.bstr.specs.Owned.{bstring_bytes}
-use Rattle.gix_refspec_text.proofs.lemmas.lists.AllLemmas.{all_weaker}
-use Rattle.gix_refspec_text.proofs.lemmas.lists.MapLemmas.{one_more_mapped}
-use Rattle.gix_refspec_match.specs.Matching.Mappings.{name}
-use Rattle.gix_refspec_lint.specs.Private.Idles.{Explains}
+use Rattle.gix_refspec_lint.proofs.Common.{◌++◌, ℕ, List, inl, inr, map, subst, take_all, arith, AllByRecursion, bstring_bytes, all_weaker, one_more_mapped, name, Explains}
 use Rattle.gix_refspec_lint.proofs.lemmas.IdleSpecLemmas.{idle_by, words_explain}
 use Rattle.gix_refspec_lint.proofs.idle.idle_by_words.Goals as goal
 

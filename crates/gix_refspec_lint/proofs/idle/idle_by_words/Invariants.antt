@@ -1,11 +1,5 @@
 -- the reason explains the names with the words so far
-use Rattle.std.proofs.Common.{◌++◌, List, map, take}
-use Rattle.std.specs.List.{AllByRecursion}
-use Rattle.bstr.specs.Owned.{bstring_bytes}
-use Rattle.gix_refspec_text.specs.Specs.Reading.{Reading}
-use Rattle.gix_refspec_match.specs.Matching.Mappings.{name}
-use Rattle.gix_refspec_lint.specs.Private.Idles.{Explains, IsShown}
-use Rattle.gix_refspec_lint.specs.Private.Lints.{IsGroupOf}
+use Rattle.gix_refspec_lint.proofs.Common.{◌++◌, List, map, take, AllByRecursion, bstring_bytes, Reading, name, Explains, IsShown, IsGroupOf}
 use Rattle.gix_refspec_lint.proofs.idle.idle_by_words.Given as goal
 
 abbrev pub invariant-loop-word : goal.invariant-loop-word

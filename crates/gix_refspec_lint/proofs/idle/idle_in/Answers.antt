@@ -1,10 +1,5 @@
 -- One more spec, which is idle or not.
-use Rattle.std.proofs.Common.{◌≡◌, None, Some, append-nil, map, sym, refl, ap, ◌∙◌, take_all, arith}
-use Rattle.std.proofs.lemmas.List.{map-append}
-use Rattle.gix_refspec_text.specs.Specs.Grammar.{IsPositive}
-use Rattle.gix_refspec_text.specs.Views.Spec.{reading_of}
-use Rattle.gix_refspec_lint.specs.Matching.Lint.{IsIdleBy}
-use Rattle.gix_refspec_lint.specs.Views.Lint.{unused_of}
+use Rattle.gix_refspec_lint.proofs.Common.{◌≡◌, None, Some, append-nil, map, sym, refl, ap, ◌∙◌, take_all, arith, map-append, IsPositive, reading_of, IsIdleBy, unused_of}
 use Rattle.gix_refspec_lint.proofs.lemmas.IdleSpecLemmas.{idle_none, idle_of, one_more_at}
 use Rattle.gix_refspec_lint.proofs.idle.idle_in.Goals as goal
 use Rattle.gix_refspec_lint.proofs.idle.idle_in.Goals.{in-None, in-Some+in_ok-push-in-Some}

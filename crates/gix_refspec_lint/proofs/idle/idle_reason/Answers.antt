@@ -1,12 +1,5 @@
 -- By the source of the spec.
-use Rattle.std.proofs.Common.{◌≡◌, inl, get_or, sym, ◌∙◌, subst}
-use Rattle.std.proofs.lemmas.Option.{same_Some}
-use Rattle.std.proofs.lemmas.Result.{IfOk-weaker}
-use Rattle.gix_refspec_text.specs.Specs.Reading.{Reading}
-use Rattle.gix_refspec_text.specs.Specs.Grammar.{IsPositive}
-use Rattle.gix_refspec_text.specs.Views.Spec.{reading_of}
-use Rattle.gix_refspec_text.proofs.lemmas.specs.AcceptedLemmas.{accepted_few}
-use Rattle.gix_refspec_lint.specs.Private.Idles.{HasPlainSource, HasSourcePattern}
+use Rattle.gix_refspec_lint.proofs.Common.{◌≡◌, inl, get_or, sym, ◌∙◌, subst, same_Some, IfOk-weaker, IsPositive, Reading, reading_of, accepted_few, HasPlainSource, HasSourcePattern}
 use Rattle.gix_refspec_lint.proofs.lemmas.IdleSpecLemmas.{reason_of}
 use Rattle.gix_refspec_lint.proofs.lemmas.PreferredLemmas.{reading_at}
 use Rattle.gix_refspec_lint.proofs.idle.idle_reason.Goals as goal

@@ -1,9 +1,5 @@
 -- What a spec takes fits its source, or ends with it, or is the head of a remote.
-use Rattle.std.proofs.Common.{codes, inl, option_map, sym, ap, ◌∙◌}
-use Rattle.bstr.specs.BStr.{bstr_bytes}
-use Rattle.gix_refspec_text.specs.Views.Spec.{reading_of}
-use Rattle.gix_refspec_match.specs.Views.Mapping.{name_bytes}
-use Rattle.gix_refspec_text.proofs.lemmas.specs.AcceptedLemmas.{accepted_few}
+use Rattle.gix_refspec_lint.proofs.Common.{codes, inl, option_map, sym, ap, ◌∙◌, bstr_bytes, reading_of, accepted_few, name_bytes}
 use Rattle.gix_refspec_lint.proofs.lemmas.IdleLemmas.{ends_taken, ends_told, fits_taken}
 use Rattle.gix_refspec_lint.proofs.idle.may_take.Goals as goal
 

@@ -1,11 +1,6 @@
 -- The candidates before the first that is the one.
-use Rattle.std.proofs.Common.{◌≡◌, ◌∙◌, ◌<◌, Vec, Global, length, map, refl, ap, subst, sym, take_all, arith}
-use Rattle.std.specs.List.{AllByRecursion}
-use Rattle.std.proofs.lemmas.Bool.{false≢true}
-use Rattle.bstr.specs.declared.bstring.BString.{BString}
-use Rattle.bstr.specs.BStr.{bstr_bytes}
-use Rattle.bstr.specs.Owned.{bstring_bytes}
-use Rattle.gix_refspec_text.proofs.lemmas.lists.MapLemmas.{one_more_mapped}
+use Rattle.gix_refspec_lint.proofs.Common.{◌≡◌, ◌∙◌, ◌<◌, Vec, Global, length, map, refl, ap, subst, sym, take_all, arith, AllByRecursion, false≢true, bstr_bytes, bstring_bytes, BString}
+use Rattle.gix_refspec_lint.proofs.Common.{one_more_mapped}
 use Rattle.gix_refspec_lint.proofs.lemmas.ExclusionLemmas.{same_bytes}
 use Rattle.gix_refspec_lint.proofs.lemmas.IdleLemmas.{none_tried, tried_at}
 use Rattle.gix_refspec_lint.proofs.idle.tried_before.Goals as goal

@@ -1,8 +1,5 @@
 -- the candidates are unchanged, and none so far is the one
-use Rattle.std.proofs.Common.{◌≡◌, map, take}
-use Rattle.std.specs.List.{AllByRecursion}
-use Rattle.bstr.specs.BStr.{bstr_bytes}
-use Rattle.bstr.specs.Owned.{bstring_bytes}
+use Rattle.gix_refspec_lint.proofs.Common.{◌≡◌, map, take, AllByRecursion, bstr_bytes, bstring_bytes}
 use Rattle.gix_refspec_lint.proofs.idle.tried_before.Given as goal
 
 abbrev pub invariant-loop-at : goal.invariant-loop-at

@@ -1,6 +1,5 @@
 -- What a spec fetches is kept.
-use Rattle.std.proofs.Common.{map}
-use Rattle.gix_refspec_text.specs.Views.Spec.{reading_of}
+use Rattle.gix_refspec_lint.proofs.Common.{map, reading_of}
 use Rattle.gix_refspec_lint.proofs.lemmas.ExampleLemmas.{examples_conflict}
 use Rattle.gix_refspec_lint.proofs.laws.examples_conflict.Goals as goal
 

@@ -1,6 +1,5 @@
 -- An idle negative spec maps nothing, and what it excludes isn't mapped.
-use Rattle.std.proofs.Common.{map}
-use Rattle.gix_refspec_text.specs.Views.Spec.{reading_of}
+use Rattle.gix_refspec_lint.proofs.Common.{map, reading_of}
 use Rattle.gix_refspec_lint.proofs.lemmas.LeftOutLemmas.{idle_exclusion_left_out}
 use Rattle.gix_refspec_lint.proofs.laws.idle_exclusion_left_out.Goals as goal
 

@@ -1,6 +1,5 @@
 -- What an idle spec would keep isn't valid, or excluded, or kept by an earlier one.
-use Rattle.std.proofs.Common.{map}
-use Rattle.gix_refspec_text.specs.Views.Spec.{reading_of}
+use Rattle.gix_refspec_lint.proofs.Common.{map, reading_of}
 use Rattle.gix_refspec_lint.proofs.lemmas.LeftOutLemmas.{idle_left_out}
 use Rattle.gix_refspec_lint.proofs.laws.idle_left_out.Goals as goal
 

@@ -1,9 +1,5 @@
 -- The byte is free if each spec lacks it.
-use Rattle.std.proofs.Common.{refl, sym, take_all, arith}
-use Rattle.std.proofs.lemmas.Bool.{false≢true}
-use Rattle.gix_refspec_text.specs.Views.Spec.{reading_of}
-use Rattle.gix_refspec_text.proofs.lemmas.lists.MapLemmas.{each_mapped, one_more_mapped}
-use Rattle.gix_refspec.specs.Laws.Plans.{SidesLack}
+use Rattle.gix_refspec_lint.proofs.Common.{refl, sym, take_all, arith, false≢true, reading_of, each_mapped, one_more_mapped, SidesLack}
 use Rattle.gix_refspec_lint.proofs.letter.is_free.Goals as goal
 
 pub returns-then-has_byte : goal.returns-then-has_byte

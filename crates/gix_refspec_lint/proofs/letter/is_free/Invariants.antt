@@ -1,7 +1,4 @@
-use Rattle.std.proofs.Common.{map, take}
-use Rattle.std.specs.List.{AllByRecursion}
-use Rattle.gix_refspec_text.specs.Views.Spec.{reading_of}
-use Rattle.gix_refspec.specs.Laws.Plans.{SidesLack}
+use Rattle.gix_refspec_lint.proofs.Common.{map, take, AllByRecursion, reading_of, SidesLack}
 use Rattle.gix_refspec_lint.proofs.letter.is_free.Given as goal
 
 abbrev pub invariant-loop-spec : goal.invariant-loop-spec

@@ -1,9 +1,5 @@
 -- A byte that is found isn't lacked.
-use Rattle.std.proofs.Common.{ℕ, List, Bool, true, false, MatchBool, nat_eq, sym, ◌≡◌}
-use Rattle.std.specs.List.{list_any}
-use Rattle.bstr.specs.BStr.{bstr_bytes}
-use Rattle.gix_refspec_text.specs.Texts.Words.{Lacks}
-use Rattle.gix_refspec_text.proofs.facts.ManualFacts.{Lacks-tested}
+use Rattle.gix_refspec_lint.proofs.Common.{ℕ, List, Bool, true, false, MatchBool, nat_eq, sym, ◌≡◌, list_any, bstr_bytes, Lacks, Lacks-tested}
 use Rattle.gix_refspec_lint.proofs.lemmas.NameAtLemmas.{not_lacked}
 use Rattle.gix_refspec_lint.proofs.letter.side_has_byte.Goals as goal
 

@@ -1,11 +1,6 @@
 -- The spec alone keeps what it makes.
-use Rattle.std.proofs.Common.{◌≡◌, length, map, map-id, sym, ◌∙◌, subst, rules}
-use Rattle.std.specs.List.{AllByRecursion}
-use Rattle.std.proofs.lemmas.Iterator.Adapters.{YieldsList-from_vec}
-use Rattle.std.proofs.lemmas.Iterator.Consumers.{YieldsList-end, YieldsList-turn}
-use Rattle.gix_refspec_text.specs.Views.Spec.{reading_of}
-use Rattle.gix_refspec_match.specs.Views.Mapping.{mapped_of, ref_of, start_of}
-use Rattle.gix_refspec_plan.specs.Matching.Plan.{IsSound}
+use Rattle.gix_refspec_lint.proofs.Common.{◌≡◌, length, map, map-id, sym, ◌∙◌, subst, rules, AllByRecursion, YieldsList-from_vec, YieldsList-end, YieldsList-turn, reading_of, mapped_of, ref_of}
+use Rattle.gix_refspec_lint.proofs.Common.{start_of, IsSound}
 use Rattle.gix_refspec_lint.proofs.lemmas.SoundLemmas.{none_sound, sound_there}
 use Rattle.gix_refspec_lint.proofs.sound.sound_mapping.Goals as goal
 

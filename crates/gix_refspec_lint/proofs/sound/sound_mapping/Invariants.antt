@@ -1,8 +1,5 @@
 -- no mapping so far is sound and from the source
-use Rattle.std.proofs.Common.{◌≡◌, map}
-use Rattle.std.specs.List.{AllByRecursion}
-use Rattle.gix_refspec_match.specs.Views.Mapping.{mapped_of, start_of}
-use Rattle.gix_refspec_plan.specs.Matching.Plan.{IsSound}
+use Rattle.gix_refspec_lint.proofs.Common.{◌≡◌, map, AllByRecursion, mapped_of, start_of, IsSound}
 use Rattle.gix_refspec_lint.proofs.sound.sound_mapping.Given as goal
 
 abbrev pub invariant-loop-mapping : goal.invariant-loop-mapping

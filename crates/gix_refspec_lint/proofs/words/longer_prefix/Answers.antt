@@ -1,8 +1,5 @@
 -- One of the two begins with the other, or no text begins with both.
-use Rattle.std.proofs.Common.{[], append-nil, inl, inr, refl, sym, ◌∙◌}
-use Rattle.std.proofs.lemmas.Bool.{false≢true}
-use Rattle.std.proofs.lemmas.Bool.Decides.{Decides-eqb}
-use Rattle.std.proofs.lemmas.Slice.Eq.{starts_is}
+use Rattle.gix_refspec_lint.proofs.Common.{[], append-nil, inl, inr, refl, sym, ◌∙◌, false≢true, Decides-eqb, starts_is}
 use Rattle.gix_refspec_lint.proofs.lemmas.NameAtLemmas.{begins_either}
 use Rattle.gix_refspec_lint.proofs.words.longer_prefix.Goals as goal
 

@@ -1,8 +1,5 @@
 -- One of the two ends with the other, or no text ends with both.
-use Rattle.std.proofs.Common.{[], inl, inr, refl, sym, ◌∙◌}
-use Rattle.std.proofs.lemmas.Bool.{false≢true}
-use Rattle.std.proofs.lemmas.Bool.Decides.{Decides-eqb}
-use Rattle.std.proofs.lemmas.Slice.Eq.{ends_is}
+use Rattle.gix_refspec_lint.proofs.Common.{[], inl, inr, refl, sym, ◌∙◌, false≢true, Decides-eqb, ends_is}
 use Rattle.gix_refspec_lint.proofs.lemmas.NameAtLemmas.{ends_either}
 use Rattle.gix_refspec_lint.proofs.words.longer_suffix.Goals as goal
 

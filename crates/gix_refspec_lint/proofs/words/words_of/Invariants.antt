@@ -1,7 +1,5 @@
 -- the words so far
-use Rattle.std.proofs.Common.{◌≡◌, ◌∷◌, ◌++◌, [], ℕ, List, Bor, map, take}
-use Rattle.bstr.specs.Owned.{bstring_bytes}
-use Rattle.gix_refspec_lint.specs.Private.Lints.{endings}
+use Rattle.gix_refspec_lint.proofs.Common.{◌≡◌, ◌∷◌, ◌++◌, [], ℕ, List, Bor, map, take, bstring_bytes, endings}
 use Rattle.gix_refspec_lint.proofs.words.words_of.Given as goal
 
 abbrev pub invariant-loop-ending : goal.invariant-loop-ending

@@ -1,7 +1,5 @@
 -- The borders that are short enough are the overlaps.
-use Rattle.std.proofs.Common.{◌≡◌, ◌++◌, ◌-◌, drop, get_or, length, take, length-drop, take_all, ap, ◌∙◌, arith}
-use Rattle.bstr.specs.Owned.{bstring_bytes}
-use Rattle.gix_refspec_lint.specs.Private.Borders.{AreBorders, IsBorder}
+use Rattle.gix_refspec_lint.proofs.Common.{◌≡◌, ◌++◌, ◌-◌, drop, get_or, length, take, length-drop, take_all, ap, ◌∙◌, arith, bstring_bytes, AreBorders, IsBorder}
 use Rattle.gix_refspec_lint.proofs.lemmas.SharedLemmas.{AreUpTo, at_same, border_of, held_at, one_left_out, one_listed, shared_of}
 use Rattle.gix_refspec_lint.proofs.words.Common.overlaps.Goals as goal
 use Rattle.gix_refspec_lint.proofs.words.Common.overlaps.Goals.{then-length-self+in_ok-push, else-length-self}

@@ -1,5 +1,5 @@
 -- the overlaps among the borders so far
-use Rattle.std.proofs.Common.{take}
+use Rattle.gix_refspec_lint.proofs.Common.{take}
 use Rattle.gix_refspec_lint.proofs.lemmas.SharedLemmas.{AreUpTo}
 use Rattle.gix_refspec_lint.proofs.words.Common.overlaps.Given as goal
 
