@@ -1,18 +1,19 @@
 -- The names that most files of proofs use.
-pub use Rattle.std.proofs.Common.{Bool, Bor, Global, IfSome, IsTrue, List, MatchBool, MatchOption, None, Option, Some, Vec, [], ap, append-nil, append_assoc, arith, codes, drop, false, get_or}
-pub use Rattle.std.proofs.Common.{get_or-set_other, get_or-set_same, inl, inr, length, length-append, length-drop, map, map-id, min, nat_eq, not, option_map, option_to_list, refl, rules, set, subst}
-pub use Rattle.std.proofs.Common.{suc, sym, take, take-append-drop, take_all, true, vec_len, zero, ℕ, ⊎_elim, ◌*◌, ◌++◌, ◌+◌, ◌-◌, ◌<◌, ◌==◌, ◌||◌, ◌↔◌, ◌∙◌, ◌∷◌, ◌≡◌, ◌≢◌, ◌≤◌, ◌⊎◌}
+pub use Rattle.std.proofs.Common.{Bool, Bor, Global, IfSome, IsTrue, List, MatchBool, MatchOption, None, Option, Some, Vec, [], ap, append-nil, append_assoc, arith, codes, drop, drop_at, false}
+pub use Rattle.std.proofs.Common.{get_or, get_or-set_other, get_or-set_same, inl, inr, length, length-append, length-drop, map, map-id, min, nat_eq, not, option_map, option_to_list, refl, rules, set}
+pub use Rattle.std.proofs.Common.{subst, suc, sym, take, take-append-drop, take-take, take_all, take_at, true, vec_len, zero, ℕ, ⊎_elim, ◌*◌, ◌++◌, ◌+◌, ◌-◌, ◌<◌, ◌==◌, ◌||◌, ◌↔◌, ◌∙◌, ◌∷◌, ◌≡◌, ◌≢◌}
+pub use Rattle.std.proofs.Common.{◌≤◌, ◌⊎◌}
 pub use Rattle.std.specs.Cmp.Lexicographic.{pointwise, pointwise_decides}
 pub use Rattle.std.specs.List.{AllByRecursion, AllZip, Any, Contains, ends_with, list_any, slice_get}
 pub use Rattle.std.specs.Option.{is_some}
-pub use Rattle.std.proofs.lemmas.Bool.{MatchBool-at_false, MatchBool-at_true, cases_eq, cases_lt, eqb-false, eqb-true, false≢true, true≢false}
+pub use Rattle.std.proofs.lemmas.Bool.{MatchBool-at_false, MatchBool-at_true, cases_eq, cases_lt, eqb-false, eqb-true, false≢true, not-true, or_parts, true≢false}
 pub use Rattle.std.proofs.lemmas.Bool.Decides.{Decides-eqb}
 pub use Rattle.std.proofs.lemmas.Iterator.Adapters.{YieldsList-from_vec}
 pub use Rattle.std.proofs.lemmas.Iterator.Consumers.{YieldsList-end, YieldsList-turn}
-pub use Rattle.std.proofs.lemmas.List.{append_cancel_left, append_cancel_right, ext_get_or, get_or-append-add, get_or-drop, get_or-map, get_or-take, length-map, length-take-le, map-append}
-pub use Rattle.std.proofs.lemmas.List.{nil_from_length, take_more}
-pub use Rattle.std.proofs.lemmas.List.Elements.{Contains-append_left, Contains-append_right, Contains-push}
-pub use Rattle.std.proofs.lemmas.Option.{same_Some, slice_get_read}
+pub use Rattle.std.proofs.lemmas.List.{append_cancel_left, append_cancel_right, drop-append-le, ext_get_or, get_or-append-add, get_or-drop, get_or-map, get_or-take, get_or_default, length-map}
+pub use Rattle.std.proofs.lemmas.List.{length-take-le, map-append, nil_from_length, take-append-le, take_more}
+pub use Rattle.std.proofs.lemmas.List.Elements.{Contains-append_left, Contains-append_right, Contains-get_or, Contains-push, Contains-push_cases, recursion_from_All}
+pub use Rattle.std.proofs.lemmas.Option.{get_or_from_slice_get, same_Some, slice_get-get_or, slice_get-map, slice_get_read, slice_get_within}
 pub use Rattle.std.proofs.lemmas.Result.{IfOk-weaker}
 pub use Rattle.std.proofs.lemmas.Slice.Eq.{ends_is, slice_eq-Decides, starts_is}
 pub use Rattle.bstr.specs.BStr.{bstr_bytes}
@@ -31,6 +32,7 @@ pub use Rattle.gix_refspec_text.specs.declared.name.Error.{Error}
 pub use Rattle.gix_refspec_text.specs.declared.name.Error.TheVariants.{Asterisk, Empty, EmptyComponent, EndsWithDot, InvalidByte, LockSuffix, ReflogPortion, RepeatedDot, StartsWithDot}
 pub use Rattle.gix_refspec_text.specs.declared.spec.RefSpecRef.{RefSpecRef}
 pub use Rattle.gix_refspec_text.proofs.facts.ManualFacts.{Lacks-tested}
+pub use Rattle.gix_refspec_text.proofs.facts.FitFacts.{of_element}
 pub use Rattle.gix_refspec_text.proofs.lemmas.hits.MatchLemmas.{lacks_no_pattern, one_word, split_once}
 pub use Rattle.gix_refspec_text.proofs.lemmas.lists.AllLemmas.{all_join, all_left, all_right, all_weaker}
 pub use Rattle.gix_refspec_text.proofs.lemmas.lists.LacksLemmas.{Lacks-here, first_once}
@@ -66,6 +68,7 @@ pub use Rattle.gix_refspec_plan.proofs.lemmas.stale.FetchedLemmas.{completed_des
 pub use Rattle.gix_refspec_plan.proofs.lemmas.stale.SourceLemmas.{candidate_contained, parts_split, text_contained}
 pub use Rattle.gix_refspec_plan.proofs.lemmas.stale.StateLemmas.{all_accepted}
 pub use Rattle.gix_refspec_plan.proofs.lemmas.stale.ZipLemmas.{completed_excluded, same_excluded}
+pub use Rattle.gix_refspec_plan.proofs.lemmas.stale.PatternLemmas.{side_cases}
 pub use Rattle.gix_refspec_lint.specs.Laws.Lint.{ConflictFree, ConflictsShown, ExamplesConflict, HasSound, IdleExclusionLeftOut, IdleLeftOut, PlanConflictFree}
 pub use Rattle.gix_refspec_lint.specs.Matching.Lint.{AreExamples, AreIdle, AreIdleExclusions, AreValid, ConflictOver, DoesBefore, Example, Fetches, IsAlwaysEarlier, IsExample, IsFree, IsIdleBy}
 pub use Rattle.gix_refspec_lint.specs.Matching.Lint.{IsIdleExclusion, Maps, MapsSoundly, Unused, is_usable, refs_of}

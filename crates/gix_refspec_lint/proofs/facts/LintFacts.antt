@@ -1,14 +1,15 @@
 -- Examples of the definitions of what specs do together, on each side of a border.
 use Rattle.gix_refspec_lint.proofs.Common.{false, ◌≡◌, ◌≢◌, inl, inr, ℕ, List, [], ◌∷◌, ◌++◌, Option, None, Some, codes, refl, sym, ◌∙◌, subst, arith, AllByRecursion, Contains, slice_get, same_Some}
-use Rattle.gix_refspec_lint.proofs.Common.{HasName, Ref, Takes, Excludes, by_pattern, pattern, the_name, fetched, Forced, Negative, Reading, star, IsSplit, Lacks, Lacks-tested, lacks_no_pattern}
-use Rattle.gix_refspec_lint.proofs.Common.{AreKeptForward, Mapped, HasPair, IsExcluded, IsExcludedBy, name, IsPaired, MakesForward, IsRefName, one_name, CanBeWritten, IsCompleted, IsPlan, IsSound}
-use Rattle.gix_refspec_lint.proofs.Common.{Planned, Origin, named_some, ConflictFree, ConflictsShown, ExamplesConflict, HasSound, IdleExclusionLeftOut, IdleLeftOut, PlanConflictFree, AreExamples}
-use Rattle.gix_refspec_lint.proofs.Common.{AreIdle, AreIdleExclusions, AreValid, DoesBefore, Example, IsAlwaysEarlier, IsExample, IsIdleBy, IsIdleExclusion, MapsSoundly, refs_of}
+use Rattle.gix_refspec_lint.proofs.Common.{HasName, Ref, Excludes, by_pattern, pattern, the_name, fetched, Forced, Negative, Reading, star, IsSplit, Lacks, Lacks-tested, lacks_no_pattern}
+use Rattle.gix_refspec_lint.proofs.Common.{AreKeptForward, Mapped, HasPair, IsExcluded, IsExcludedBy, name, MakesForward, IsRefName, one_name, CanBeWritten, IsCompleted, IsPlan, IsSound, Planned}
+use Rattle.gix_refspec_lint.proofs.Common.{Origin, ConflictFree, ConflictsShown, ExamplesConflict, HasSound, IdleExclusionLeftOut, IdleLeftOut, PlanConflictFree, AreExamples, AreIdle}
+use Rattle.gix_refspec_lint.proofs.Common.{AreIdleExclusions, AreValid, DoesBefore, Example, IsAlwaysEarlier, IsExample, IsIdleBy, IsIdleExclusion, MapsSoundly, refs_of}
 use Rattle.gix_refspec_lint.specs.declared.Reason.TheVariants as reason
 use Rattle.gix_refspec_plan.specs.declared.Verdict.TheVariants as verdict
 use Rattle.gix_refspec_text.proofs.facts.FitFacts.{every, heads_split, origin_split, other_byte, other_first, split_at_end}
 use Rattle.gix_refspec_text.proofs.lemmas.texts.TestedLemmas.{IsName-tested}
 use Rattle.gix_refspec.specs.Matching.Validation.{ShareDestination}
+use Rattle.gix_refspec_lint.proofs.lemmas.PatternLemmas.{PatternSpec, spec_maps}
 
 -- pull requests in the folder of the branches, and the way out
 abbrev pulls : Reading
@@ -29,26 +30,23 @@ pulls_split = record { starred = refl; first = Lacks-tested star (codes "refs/pu
 pr_split : IsSplit (codes "refs/remotes/origin/pr/") [] (codes "refs/remotes/origin/pr/*")
 pr_split = split_at_end (codes "refs/remotes/origin/pr/") refl
 
+completed_as : (x a b y : List ℕ) → IsSplit a b y → IsCompleted (fetched Forced x (Some y)) (fetched Forced x (Some y))
+completed_as x a b y split = record { operation = refl; mode = refl; source = refl; destination = inl (record { before = a; after = b; here = split.starred }, refl) }
+
 -- a forced spec of two patterns maps the ref with a word
 module _ (p t a b x y w : List ℕ) (source : IsSplit p t x) (destination : IsSplit a b y) (refs : List Ref) (there : HasName refs (p ++ (w ++ t))) where
   makes : MakesForward refs (name (p ++ (w ++ t))) (Some (a ++ (w ++ b))) (fetched Forced x (Some y))
-  makes = record {
-    ends = record { near = x; far = Some y };
-    has = record { positive = tt; near = refl; far = refl; no_object = λ bytes kind. lacks_no_pattern x p t kind.0 source };
-    one = named_some (IsPaired (Takes refs) (record { near = x; far = Some y }) (p ++ (w ++ t)) (Some (a ++ (w ++ b)))) refs (p ++ (w ++ t)) there (λ item named. record {
-      word = Some w;
-      name = named;
-      takes = record { matches = record { kind = pattern p t; of = source; is = named }; first = λ m kind. absurd (lacks_no_pattern x p t kind.1 source) };
-      becomes = (pattern a b, destination, refl);
-    });
-  }
-
-  completes : IsCompleted (fetched Forced x (Some y)) (fetched Forced x (Some y))
-  completes = record { operation = refl; mode = refl; source = refl; destination = inl (record { before = a; after = b; here = destination.starred }, refl) }
+  makes = spec_maps (fetched Forced x (Some y)) p t (record {
+    positive = tt;
+    source = record { text = x; has = refl; split = source };
+    far = λ w. Some (a ++ (w ++ b));
+    fills = λ w. (pattern a b, destination, refl);
+    shape = inr (record { side = y; before = a; after = b; has = refl; split = destination; is = λ w. refl });
+  }) refs w there
 
   pub maps_at : (g : List Reading) (k : ℕ) → slice_get g k ≡ Some (fetched Forced x (Some y)) → IsRefName (p ++ (w ++ t)) → CanBeWritten (Some (a ++ (w ++ b))) → MapsSoundly g refs k (name (p ++ (w ++ t))) (Some (a ++ (w ++ b)))
   maps_at g k at valid written = record {
-    maps = record { reading = fetched Forced x (Some y); at = at; completed = fetched Forced x (Some y); is = completes; makes = makes };
+    maps = record { reading = fetched Forced x (Some y); at = at; completed = fetched Forced x (Some y); is = completed_as x a b y destination; makes = makes };
     source = valid;
     destination = written;
   }
@@ -68,10 +66,13 @@ pulls_seven g k at =
     (inl (record { after = codes "pull/7/head"; here = refl }, IsName-tested (codes "refs/pull/7/head") refl))
     (record { after = codes "remotes/origin/pr/7"; here = refl }, IsName-tested (codes "refs/remotes/origin/pr/7") refl)
 
-none_negative : (n : List ℕ) → ¬ (IsExcluded (every ∷ pulls ∷ []) n)
-none_negative n (inl by) = let is : Forced ≡ Negative = by.negative in cc
-none_negative n (inr (inl by)) = let is : Forced ≡ Negative = by.negative in cc
-none_negative n (inr (inr none)) = none
+none_negative : (r : Reading) → r.mode ≡ Forced → (n : List ℕ) → ¬ (IsExcluded (every ∷ r ∷ []) n)
+none_negative r forced n (inl by) = let is : Forced ≡ Negative = by.negative in cc
+none_negative r forced n (inr (inl by)) = let is : Forced ≡ Negative = sym forced ∙ by.negative in cc
+none_negative r forced n (inr (inr none)) = none
+
+pr_excluded : IsExcludedBy (codes "refs/heads/pr/7") no_pr
+pr_excluded = record { negative = refl; text = codes "refs/heads/pr/*"; source = refl; excludes = by_pattern (codes "refs/heads/pr/") [] (codes "7") (split_at_end (codes "refs/heads/pr/") refl) refl }
 
 -- a branch in the folder of the pull requests, and the pull request of its name, are an example of a conflict
 pub example : IsExample (every ∷ pulls ∷ []) 0 1 seven
@@ -80,8 +81,8 @@ example = record {
   second = refl;
   order = omega arith;
   conflict = record {
-    one = record { maps = heads_seven (every ∷ pulls ∷ []) 0 refl; included = none_negative (codes "refs/heads/pr/7") };
-    other = record { maps = pulls_seven (every ∷ pulls ∷ []) 1 refl; included = none_negative (codes "refs/pull/7/head") };
+    one = record { maps = heads_seven (every ∷ pulls ∷ []) 0 refl; included = none_negative pulls refl (codes "refs/heads/pr/7") };
+    other = record { maps = pulls_seven (every ∷ pulls ∷ []) 1 refl; included = none_negative pulls refl (codes "refs/pull/7/head") };
     differ = λ same. other_byte 5 (codes "refs/heads/pr/7") (codes "refs/pull/7/head") (λ equal. omega (arith, equal)) (one_name (codes "refs/heads/pr/7") (codes "refs/pull/7/head") same);
   };
 }
@@ -89,12 +90,7 @@ example = record {
 -- but not if a negative spec excludes one of the two, nor with the specs the other way round
 pub no_example : ¬ (IsExample (every ∷ pulls ∷ no_pr ∷ []) 0 1 seven) × ¬ (IsExample (every ∷ pulls ∷ []) 1 0 seven)
 no_example = (
-  (λ e. e.conflict.one.included (inr (inr (inl (record {
-    negative = refl;
-    text = codes "refs/heads/pr/*";
-    source = refl;
-    excludes = by_pattern (codes "refs/heads/pr/") [] (codes "7") (split_at_end (codes "refs/heads/pr/") refl) refl;
-  }))))),
+  (λ e. e.conflict.one.included (inr (inr (inl pr_excluded)))),
   (λ e. omega (arith, e.order)),
 )
 
@@ -102,11 +98,6 @@ no_example = (
 pub second_idle : IsIdleBy (every ∷ every ∷ []) 1 (reason.Duplicate 0) × ((h : ℕ) → ¬ (IsIdleBy (every ∷ every ∷ []) 0 (reason.Duplicate h)))
 second_idle = ((earlier, does), (λ h is. omega (arith, is.1.before)))
   where
-    no_negative : (n : List ℕ) → ¬ (IsExcluded (every ∷ every ∷ []) n)
-    no_negative n (inl by) = let is : Forced ≡ Negative = by.negative in cc
-    no_negative n (inr (inl by)) = let is : Forced ≡ Negative = by.negative in cc
-    no_negative n (inr (inr none)) = none
-
     earlier : IsAlwaysEarlier (every ∷ every ∷ []) 1
     earlier refs s d valid f = (0, omega arith, record { reading = f.maps.maps.reading; at = f.maps.maps.at; completed = f.maps.maps.completed; is = f.maps.maps.is; makes = f.maps.maps.makes })
 
@@ -116,7 +107,7 @@ second_idle = ((earlier, does), (λ h is. omega (arith, is.1.before)))
       valid = ((heads_seven (every ∷ every ∷ []) 0 refl).source, (inl (record { after = codes "pull/7/head"; here = refl }, IsName-tested (codes "refs/pull/7/head") refl), tt));
       source = seven.one;
       destination = Some seven.destination;
-      fetches = record { maps = heads_seven (every ∷ every ∷ []) 1 refl; included = no_negative (codes "refs/heads/pr/7") };
+      fetches = record { maps = heads_seven (every ∷ every ∷ []) 1 refl; included = none_negative every refl (codes "refs/heads/pr/7") };
       before = omega arith;
       maps = (heads_seven (every ∷ every ∷ []) 0 refl).maps;
     }
@@ -125,12 +116,7 @@ second_idle = ((earlier, does), (λ h is. omega (arith, is.1.before)))
 pub excludes_none : IsIdleExclusion (every ∷ no_main ∷ []) no_main × ¬ (IsIdleExclusion (every ∷ no_pr ∷ []) no_pr)
 excludes_none = (
   record { negative = refl; excludes = nothing },
-  λ idle. idle.excludes both 0 (codes "refs/heads/pr/7") (Some seven.destination) (heads_seven (every ∷ no_pr ∷ []) 0 refl) (record {
-    negative = refl;
-    text = codes "refs/heads/pr/*";
-    source = refl;
-    excludes = by_pattern (codes "refs/heads/pr/") [] (codes "7") (split_at_end (codes "refs/heads/pr/") refl) refl;
-  }),
+  λ idle. idle.excludes both 0 (codes "refs/heads/pr/7") (Some seven.destination) (heads_seven (every ∷ no_pr ∷ []) 0 refl) pr_excluded,
 )
   where
     no_ref : ¬ (IsRefName (codes "main"))
@@ -147,7 +133,7 @@ excludes_none = (
 -- ---- the laws
 
 every_completed : IsCompleted every every
-every_completed = record { operation = refl; mode = refl; source = refl; destination = inl (record { before = codes "refs/remotes/origin/"; after = []; here = refl }, refl) }
+every_completed = completed_as (codes "refs/heads/*") (codes "refs/remotes/origin/") [] (codes "refs/remotes/origin/*") origin_split
 
 -- of two equal specs one is enough
 pub one_enough : IdleLeftOut (every ∷ every ∷ []) → AreIdle (every ∷ every ∷ []) (record { spec = 1; reason = reason.Duplicate 0 } ∷ []) → (refs : List Ref) (kept rest : List Mapped) → AreValid refs → AreKeptForward (every ∷ every ∷ []) refs kept → AreKeptForward (every ∷ []) refs rest
@@ -182,8 +168,6 @@ no_conflict law refs planned missing plan = law no_examples (λ empty. cc (empty
 -- and a fetch from the remote of an example keeps a mapping of each of its sources
 pub seven_kept : ExamplesConflict (every ∷ pulls ∷ []) → (kept : List Mapped) → AreKeptForward (every ∷ pulls ∷ []) both kept → HasSound kept seven.one seven.destination × HasSound kept seven.other seven.destination
 seven_kept law kept are =
+    let pulls_completed : IsCompleted pulls pulls = completed_as (codes "refs/pull/*/head") (codes "refs/remotes/origin/pr/") [] (codes "refs/remotes/origin/pr/*") pr_split in
     let told = law 0 1 seven example (every ∷ pulls ∷ []) kept (every_completed, (pulls_completed, tt)) are in
     (told.0, told.1)
-  where
-    pulls_completed : IsCompleted pulls pulls
-    pulls_completed = record { operation = refl; mode = refl; source = refl; destination = inl (record { before = codes "refs/remotes/origin/pr/"; after = []; here = refl }, refl) }

@@ -2,9 +2,8 @@
 use Rattle.gix_refspec_lint.proofs.Common.{◌≡◌, ◌≢◌, ℕ, zero, suc, ◌+◌, ◌*◌, ◌≤◌, List, [], ◌++◌, Option, Some, length, refl, sym, ap, ◌∙◌, subst, arith, nil_from_length, same_Some, Fits, Excludes}
 use Rattle.gix_refspec_lint.proofs.Common.{the_name, by_pattern, Reading, IsSplit, one_word, split_once, lacks_no_pattern, IsExcludedBy, IsRefName, CanBeWritten, power, ArePaired, IsExcludedAt, Fails}
 use Rattle.gix_refspec_lint.proofs.Common.{IsUnsound, First, Second, Why, Unknown, Unwritable, Invalid, Excluded, Same}
-use Rattle.gix_refspec_lint.proofs.lemmas.RepeatLemmas.{power_length, power_one, words_repeat, same_repeats, differ_again}
+use Rattle.gix_refspec_lint.proofs.lemmas.RepeatLemmas.{power_length, power_one, words_repeat, same_repeats, differ_again, names_again, written_again}
 use Rattle.gix_refspec_lint.proofs.lemmas.WordLemmas.{between}
-use Rattle.gix_refspec_lint.proofs.lemmas.RepeatNameLemmas.{names_again, written_again}
 
 -- ---- paired names
 
@@ -15,26 +14,33 @@ fits_same side one other a b p q is also split parts n w fits =
     let ends = split_once other a b p q (subst (IsSplit a b) same split) parts in
     fits ∙ ap (λ z. z ++ (w ++ q)) (sym ends.0) ∙ ap (λ z. a ++ (w ++ z)) (sym ends.1)
 
--- the patterns of one pair are those of each
-takes_too : (r : Reading) (n d m e : List ℕ) (one : ArePaired r n d) (other : ArePaired r m e) → Fits one.prefix one.suffix m other.word
-takes_too r n d m e one other =
-    fits_same r.source one.source.text other.source.text one.prefix one.suffix other.prefix other.suffix one.source.has other.source.has one.source.split other.source.split m other.word other.takes
+-- with its sides the other way round a reading pairs names the other way round
+abbrev swapped : Reading → Reading
+swapped r = record r { source = r.destination; destination = r.source }
 
+abbrev swap : (r : Reading) (n d : List ℕ) → ArePaired r n d → ArePaired (swapped r) d n
+swap r n d p = record {
+  prefix = p.before;
+  suffix = p.after;
+  before = p.prefix;
+  after = p.suffix;
+  word = p.word;
+  source = record { text = p.destination.text; has = p.destination.has; split = p.destination.split };
+  destination = record { text = p.source.text; has = p.source.has; split = p.source.split };
+  takes = p.makes;
+  makes = p.takes;
+}
+
+-- the patterns of one pair are those of each
 makes_too : (r : Reading) (n d m e : List ℕ) (one : ArePaired r n d) (other : ArePaired r m e) → Fits one.before one.after e other.word
 makes_too r n d m e one other =
     fits_same r.destination one.destination.text other.destination.text one.before one.after other.before other.after one.destination.has other.destination.has one.destination.split other.destination.split e other.word other.makes
 
 -- a destination is paired with one source only
-pub paired_once : (r : Reading) (n m d : List ℕ) → ArePaired r n d → ArePaired r m d → n ≡ m
+paired_once : (r : Reading) (n m d : List ℕ) → ArePaired r n d → ArePaired r m d → n ≡ m
 paired_once r n m d one other =
     let word : one.word ≡ other.word = one_word one.before one.after d one.word other.word one.makes (makes_too r n d m d one other) in
-    one.takes ∙ ap (λ w. one.prefix ++ (w ++ one.suffix)) word ∙ sym (takes_too r n d m d one other)
-
--- and a source with one destination only
-pub paired_once_source : (r : Reading) (n d e : List ℕ) → ArePaired r n d → ArePaired r n e → d ≡ e
-paired_once_source r n d e one other =
-    let word : one.word ≡ other.word = one_word one.prefix one.suffix n one.word other.word one.takes (takes_too r n d n e one other) in
-    one.makes ∙ ap (λ w. one.before ++ (w ++ one.after)) word ∙ sym (makes_too r n d n e one other)
+    one.takes ∙ ap (λ w. one.prefix ++ (w ++ one.suffix)) word ∙ sym (makes_too (swapped r) d n d m (swap r n d one) (swap r m d other))
 
 -- the sources paired with the destinations in which a word repeats have a word as long that repeats in them
 pub record SourcesRepeat (r : Reading) (x v y : List ℕ) : Type 0 where
@@ -43,14 +49,6 @@ pub record SourcesRepeat (r : Reading) (x v y : List ℕ) : Type 0 where
   pub back : List ℕ
   pub size : length word ≡ length v
   pub pairs : (i : ℕ) → ArePaired r (front ++ (power word i ++ back)) (x ++ (power v i ++ y))
-
--- and the same of the destinations paired with such sources
-pub record DestinationsRepeat (r : Reading) (x v y : List ℕ) : Type 0 where
-  pub front : List ℕ
-  pub word : List ℕ
-  pub back : List ℕ
-  pub size : length word ≡ length v
-  pub pairs : (i : ℕ) → ArePaired r (x ++ (power v i ++ y)) (front ++ (power word i ++ back))
 
 -- where the destinations without the word and with it once are paired, they all are
 pub sources_repeat : (r : Reading) (x v y n0 n1 : List ℕ) → ArePaired r n0 (x ++ y) → ArePaired r n1 (x ++ (power v 1 ++ y)) → SourcesRepeat r x v y
@@ -74,28 +72,6 @@ sources_repeat r x v y n0 n1 without once =
       };
     }
 
--- and where the sources are
-pub destinations_repeat : (r : Reading) (x v y d0 d1 : List ℕ) → ArePaired r (x ++ y) d0 → ArePaired r (x ++ (power v 1 ++ y)) d1 → DestinationsRepeat r x v y
-destinations_repeat r x v y d0 d1 without once =
-    let all = words_repeat without.prefix without.suffix v x y without.word once.word without.takes (ap (λ z. x ++ z) (sym (power_one v y)) ∙ takes_too r (x ++ y) d0 (x ++ (power v 1 ++ y)) d1 without once) in
-    record {
-      front = without.before ++ all.front;
-      word = all.word;
-      back = all.back ++ without.after;
-      size = all.size;
-      pairs = λ i. record {
-        prefix = without.prefix;
-        suffix = without.suffix;
-        before = without.before;
-        after = without.after;
-        word = all.front ++ (power all.word i ++ all.back);
-        source = without.source;
-        destination = without.destination;
-        takes = all.fits i;
-        makes = between without.before all.front (power all.word i) all.back without.after;
-      };
-    }
-
 -- ---- excluded names
 
 excludes_again : (text x v y : List ℕ) → v ≢ [] → Excludes text (x ++ y) → Excludes text (x ++ (v ++ y)) → (i : ℕ) → Excludes text (x ++ (power v i ++ y))
@@ -113,16 +89,9 @@ pub excluded_again : (g : List Reading) (k : ℕ) (x v y : List ℕ) → IsExclu
 excluded_again g k x v y (r, at, by) (q, there, too) some i =
     let same : q ≡ r = same_Some _ _ (sym there ∙ at) in
     let also : IsExcludedBy (x ++ (v ++ y)) r = subst (IsExcludedBy (x ++ (v ++ y))) same too in
-    let text : also.text ≡ by.text = same_Some _ _ (sym also.source ∙ by.source) in (
-      r,
-      at,
-      record {
-        negative = by.negative;
-        text = by.text;
-        source = by.source;
-        excludes = excludes_again by.text x v y some by.excludes (subst (λ t. Excludes t (x ++ (v ++ y))) text also.excludes) i;
-      },
-    )
+    let text : also.text ≡ by.text = same_Some _ _ (sym also.source ∙ by.source) in
+    let twice = subst (λ (t : List ℕ). Excludes t (x ++ (v ++ y))) text also.excludes in
+    (r, at, record { negative = by.negative; text = by.text; source = by.source; excludes = excludes_again by.text x v y some by.excludes twice i })
 
 -- ---- a word of the same length
 
@@ -172,10 +141,10 @@ module _ (r : Reading) (x v y : List ℕ) (i : ℕ) (long : 5 ≤ length (power 
       let first = all 0 (omega arith) in
       let second = all 1 (is_there v i long) in
       let last = all i (omega arith) in
-      let names = destinations_repeat r x v y first.0 second.0 first.1 second.1 in
-      let same = paired_once_source r (x ++ (power v i ++ y)) last.0 (names.front ++ (power names.word i ++ names.back)) last.1 (names.pairs i) in (
+      let names = sources_repeat (swapped r) x v y first.0 second.0 (swap r (x ++ y) first.0 first.1) (swap r (x ++ (power v 1 ++ y)) second.0 second.1) in
+      let same = paired_once (swapped r) last.0 (names.front ++ (power names.word i ++ names.back)) (x ++ (power v i ++ y)) (swap r (x ++ (power v i ++ y)) last.0 last.1) (names.pairs i) in (
         names.front ++ (power names.word (i + 1) ++ names.back),
-        names.pairs (i + 1),
+        swap (swapped r) (names.front ++ (power names.word (i + 1) ++ names.back)) (x ++ (power v (i + 1) ++ y)) (names.pairs (i + 1)),
         written_again names.front names.word names.back i (as_long v names.word i names.size long) (subst (λ d. ¬ (CanBeWritten (Some d))) same last.2),
       )
 
@@ -213,6 +182,4 @@ pub unsound_again : (r : Reading) (why : Why) (x v y : List ℕ) (i : ℕ) → w
 unsound_again r Unknown x v y i known some long all = absurd (known refl)
 unsound_again r Unwritable x v y i known some long all = unwritable_again r x v y i long all
 unsound_again r (Invalid First) x v y i known some long all = names_again x v y i long (all i (omega arith))
-unsound_again r (Invalid Second) x v y i known some long all = absurd (all 0 (omega arith))
-unsound_again r (Excluded of k) x v y i known some long all = absurd (all 0 (omega arith))
-unsound_again r Same x v y i known some long all = absurd (all 0 (omega arith))
+unsound_again r _ x v y i known some long all = absurd (all 0 (omega arith))

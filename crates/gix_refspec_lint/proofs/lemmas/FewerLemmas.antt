@@ -1,6 +1,7 @@
 -- What a spec maps over some refs, it maps over fewer that have the source.
 use Rattle.gix_refspec_lint.proofs.Common.{◌⊎◌, inl, inr, ℕ, List, [], ◌∷◌, ◌++◌, Option, Some, refl, sym, ◌∙◌, subst, Ref, HasName, IsFirstCandidate, Takes, Reading, all_weaker, Source, name, id}
 use Rattle.gix_refspec_lint.proofs.Common.{IsPaired, MakesForward, matches_by_name, named_some, some_named, ConflictsShown, ConflictOver, Fetches, refs_of}
+use Rattle.gix_refspec_lint.proofs.lemmas.IndexLemmas.{maps_as}
 
 -- each name of the first list is in the second
 abbrev pub AreAmong : List Ref → List Ref → Type 0
@@ -43,17 +44,17 @@ makes_fewer refs few (name n) d r among present makes =
     }
 
 -- the refs of two sources
-named_cases : (xs ys : List Ref) (n : List ℕ) → HasName (xs ++ ys) n → HasName xs n ⊎ HasName ys n
+pub named_cases : (xs ys : List Ref) (n : List ℕ) → HasName (xs ++ ys) n → HasName xs n ⊎ HasName ys n
 named_cases [] ys n has = inr has
 named_cases (x ∷ xs) ys n (inl here) = inl (inl here)
 named_cases (x ∷ xs) ys n (inr later) = elim (named_cases xs ys n later) [ inl one ↦ inl (inr one) | inr other ↦ inr other ]
 
-named_left : (xs ys : List Ref) (n : List ℕ) → HasName xs n → HasName (xs ++ ys) n
+pub named_left : (xs ys : List Ref) (n : List ℕ) → HasName xs n → HasName (xs ++ ys) n
 named_left [] ys n has = absurd has
 named_left (x ∷ xs) ys n (inl here) = inl here
 named_left (x ∷ xs) ys n (inr later) = inr (named_left xs ys n later)
 
-named_right : (xs ys : List Ref) (n : List ℕ) → HasName ys n → HasName (xs ++ ys) n
+pub named_right : (xs ys : List Ref) (n : List ℕ) → HasName ys n → HasName (xs ++ ys) n
 named_right [] ys n has = has
 named_right (x ∷ xs) ys n has = inr (named_right xs ys n has)
 
@@ -83,17 +84,7 @@ there_right xs ys (id bytes) there = tt
 -- a fetch over refs is one over fewer
 fetches_fewer : (g : List Reading) (refs few : List Ref) (k : ℕ) (s : Source) (d : Option (List ℕ)) → AreAmong few refs → IsThere few s → Fetches g refs k s d → Fetches g few k s d
 fetches_fewer g refs few k s d among present f = record {
-  maps = record {
-    maps = record {
-      reading = f.maps.maps.reading;
-      at = f.maps.maps.at;
-      completed = f.maps.maps.completed;
-      is = f.maps.maps.is;
-      makes = makes_fewer refs few s d f.maps.maps.completed among present f.maps.maps.makes;
-    };
-    source = f.maps.source;
-    destination = f.maps.destination;
-  };
+  maps = record { maps = maps_as f.maps.maps (makes_fewer refs few s d f.maps.maps.completed among present f.maps.maps.makes); source = f.maps.source; destination = f.maps.destination };
   included = f.included;
 }
 

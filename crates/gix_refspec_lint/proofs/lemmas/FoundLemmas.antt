@@ -1,8 +1,17 @@
 -- Whether two specs conflict over the refs of two sources, by what their completed readings make of items with these names.
-use Rattle.gix_refspec_lint.proofs.Common.{◌≡◌, ◌≢◌, ℕ, zero, suc, ◌<◌, List, [], ◌∷◌, ◌++◌, Option, Some, length, map, get_or, refl, sym, ap, ◌∙◌, subst, arith, AllZip, slice_get, map-append}
-use Rattle.gix_refspec_lint.proofs.Common.{same_Some, Ref, Reading, reading_of, RefSpecRef, Source, name, id, IsSourceExcluded, HaveSameNames, MakesForward, IsValidSource, has_also, CanBeWritten}
-use Rattle.gix_refspec_lint.proofs.Common.{IsCompleted, reading_once, ConflictOver, Maps, refs_of}
+use Rattle.gix_refspec_lint.proofs.Common.{◌≡◌, ◌≢◌, ℕ, List, ◌++◌, Option, Some, map, sym, ap, ◌∙◌, AllZip, slice_get, map-append, Ref, Reading, Source, name, id, IsSourceExcluded, HaveSameNames}
+use Rattle.gix_refspec_lint.proofs.Common.{MakesForward, IsValidSource, has_also, CanBeWritten, IsCompleted, ConflictOver, refs_of, inl, inr, ◌+◌, ◌<◌, [], ◌∷◌, None, get_or, length, take, refl}
+use Rattle.gix_refspec_lint.proofs.Common.{subst, Contains, take_more, star, Lacks, reading_of, RefSpecRef, sides_agree, HasParts, zip_at, zip_more, Example, IsExample, AreApart, AreCommon}
+use Rattle.gix_refspec_lint.proofs.Common.{HasPattern, HasSourcesOf, HaveCommon, HaveParts, IsFound, IsFoundAt, IsGroupOf, Group, Common, IsAccepted, ◌≤◌, append-nil, option_to_list, arith}
+use Rattle.gix_refspec_lint.proofs.Common.{AllByRecursion, length-map, length-take-le, IsJoinedFrom, IsMadeFrom, MakesOf, some_element, joined_next, made_next, zip_long, NoneAt, MatchOption, drop}
+use Rattle.gix_refspec_lint.proofs.Common.{option_map, IsDeciding, words_with, IsOverlap, example_of, of_element}
+use Rattle.std.specs.Borrow.{Bor}
+use Rattle.gix_refspec_lint.specs.declared.PossibleConflict.{PossibleConflict}
 use Rattle.gix_refspec_lint.proofs.lemmas.FewerLemmas.{IsThere, made_there, makes_fewer}
+use Rattle.gix_refspec_lint.proofs.lemmas.IndexLemmas.{of_maps, maps_of, zip_of, accepted_of, one_completed, reading_at}
+use Rattle.gix_refspec_lint.proofs.lemmas.PatternLemmas.{maps_pattern, MapsPattern, decided}
+use Rattle.gix_refspec_lint.proofs.lemmas.SourceLemmas.{none_made, pattern_there, plain_made}
+use Rattle.gix_refspec_lint.proofs.lemmas.RunLemmas.{each_deciding}
 
 -- refs with the same names make the same
 there_also : (A B : List Ref) (s : Source) → HaveSameNames A B → IsThere A s → IsThere B s
@@ -17,48 +26,230 @@ pub both_named : (one two : List Ref) (s t : Source) → HaveSameNames one (refs
 both_named one two s t first second =
     second ∙ map-append (λ (r : Ref). r.name) one (refs_of t) ∙ ap (λ l. l ++ map (λ (r : Ref). r.name) (refs_of t)) first ∙ sym (map-append (λ (r : Ref). r.name) (refs_of s) (refs_of t))
 
--- a spec and the same with its destination completed, at one index
-pub zip_index : (g : List Reading) (cs : List RefSpecRef) (k : ℕ) (x : RefSpecRef) → AllZip IsCompleted g (map reading_of cs) → k < length cs → x ≡ get_or cs k x → (r : Reading) × (slice_get g k ≡ Some r) × IsCompleted r (reading_of x)
-zip_index [] [] k x all below is = absurd (omega (arith, below))
-zip_index [] (c ∷ cs) k x all below is = absurd all
-zip_index (r ∷ g) [] k x all below is = absurd all
-zip_index (r ∷ g) (c ∷ cs) zero x all below is = (r, refl, subst (λ y. IsCompleted r (reading_of y)) (sym is) all.0)
-zip_index (r ∷ g) (c ∷ cs) (suc k) x all below is = zip_index g cs k x all.1 (omega (arith, below)) is
+-- two specs at indexes, and refs with the names of two sources
+module _ (g h : List Reading) (all : AllZip IsCompleted g h) (i j : ℕ) (refs : List Ref) (s t : Source) (d : List ℕ) (named : HaveSameNames refs (refs_of s ++ refs_of t)) where
+  -- if they conflict, each makes its pair
+  pub one_makes : ConflictOver g (refs_of s ++ refs_of t) i j s t d → (c : Reading) → slice_get h i ≡ Some c → MakesForward refs s (Some d) c
+  one_makes k c at = makes_also (refs_of s ++ refs_of t) refs s (Some d) c (sym named) (of_maps g h all i c at (refs_of s ++ refs_of t) s (Some d) k.one.maps.maps)
 
-module _ (g : List Reading) (cs : List RefSpecRef) (all : AllZip IsCompleted g (map reading_of cs)) (k : ℕ) (x : RefSpecRef) (below : k < length cs) (is : x ≡ get_or cs k x)
-    (refs : List Ref) (s : Source) (d : Option (List ℕ)) where
-  pub maps_of : MakesForward refs s d (reading_of x) → Maps g refs k s d
-  maps_of makes = let (r, at, done) = zip_index g cs k x all below is in record { reading = r; at = at; completed = reading_of x; is = done; makes = makes }
+  pub other_makes : ConflictOver g (refs_of s ++ refs_of t) i j s t d → (c : Reading) → slice_get h j ≡ Some c → MakesForward refs t (Some d) c
+  other_makes k c at = makes_also (refs_of s ++ refs_of t) refs t (Some d) c (sym named) (of_maps g h all j c at (refs_of s ++ refs_of t) t (Some d) k.other.maps.maps)
 
-  pub of_maps : Maps g refs k s d → MakesForward refs s d (reading_of x)
-  of_maps m =
-      let (r, at, done) = zip_index g cs k x all below is in
-      let same : m.reading ≡ r = same_Some _ _ (sym m.at ∙ at) in
-      subst (MakesForward refs s d) (reading_once r m.completed (reading_of x) (subst (λ q. IsCompleted q m.completed) same m.is) done) m.makes
-
--- the first of two that conflict makes its pair among refs with the two names, and so does the second
-module _ (g : List Reading) (cs : List RefSpecRef) (all : AllZip IsCompleted g (map reading_of cs)) (i j : ℕ) (refs : List Ref) (s t : Source) (d : List ℕ)
-    (named : HaveSameNames refs (refs_of s ++ refs_of t)) (c : ConflictOver g (refs_of s ++ refs_of t) i j s t d) where
-  pub one_makes : (x : RefSpecRef) → i < length cs → x ≡ get_or cs i x → MakesForward refs s (Some d) (reading_of x)
-  one_makes x below is = makes_also (refs_of s ++ refs_of t) refs s (Some d) (reading_of x) (sym named) (of_maps g cs all i x below is (refs_of s ++ refs_of t) s (Some d) c.one.maps.maps)
-
-  pub other_makes : (y : RefSpecRef) → j < length cs → y ≡ get_or cs j y → MakesForward refs t (Some d) (reading_of y)
-  other_makes y inside at = makes_also (refs_of s ++ refs_of t) refs t (Some d) (reading_of y) (sym named) (of_maps g cs all j y inside at (refs_of s ++ refs_of t) t (Some d) c.other.maps.maps)
-
--- and where both do, they conflict
-module _ (g : List Reading) (cs : List RefSpecRef) (all : AllZip IsCompleted g (map reading_of cs)) (i j : ℕ) (x y : RefSpecRef)
-    (below : i < length cs) (is : x ≡ get_or cs i x) (inside : j < length cs) (at : y ≡ get_or cs j y)
-    (refs : List Ref) (s t : Source) (d : List ℕ) (named : HaveSameNames refs (refs_of s ++ refs_of t)) where
-  pub conflict_made : s ≢ t → IsValidSource s × ¬ (IsSourceExcluded g s) → IsValidSource t × ¬ (IsSourceExcluded g t) → CanBeWritten (Some d)
-      → MakesForward refs s (Some d) (reading_of x) → MakesForward refs t (Some d) (reading_of y) → ConflictOver g (refs_of s ++ refs_of t) i j s t d
-  conflict_made differ one other written makes also = record {
+  -- and where both do, they conflict
+  pub conflict_made : (b c : Reading) → slice_get h i ≡ Some b → slice_get h j ≡ Some c → s ≢ t → IsValidSource s × ¬ (IsSourceExcluded g s) → IsValidSource t × ¬ (IsSourceExcluded g t) → CanBeWritten (Some d)
+      → MakesForward refs s (Some d) b → MakesForward refs t (Some d) c → ConflictOver g (refs_of s ++ refs_of t) i j s t d
+  conflict_made b c at here differ one other written makes also = record {
     one = record {
-      maps = record { maps = maps_of g cs all i x below is (refs_of s ++ refs_of t) s (Some d) (makes_also refs (refs_of s ++ refs_of t) s (Some d) (reading_of x) named makes); source = one.0; destination = written };
+      maps = record { maps = maps_of g h all i b at (refs_of s ++ refs_of t) s (Some d) (makes_also refs (refs_of s ++ refs_of t) s (Some d) b named makes); source = one.0; destination = written };
       included = one.1;
     };
     other = record {
-      maps = record { maps = maps_of g cs all j y inside at (refs_of s ++ refs_of t) t (Some d) (makes_also refs (refs_of s ++ refs_of t) t (Some d) (reading_of y) named also); source = other.0; destination = written };
+      maps = record { maps = maps_of g h all j c here (refs_of s ++ refs_of t) t (Some d) (makes_also refs (refs_of s ++ refs_of t) t (Some d) c named also); source = other.0; destination = written };
       included = other.1;
     };
     differ = differ;
   }
+
+-- ---- what an example of a conflict says of its two specs, by their completed readings
+
+-- the parts of each destination
+pub parts_next : (specs : List RefSpecRef) (i : ℕ) (s : RefSpecRef) (old new : List (Option (Bor (List ℕ) × Bor (List ℕ)))) (p : Option (Bor (List ℕ) × Bor (List ℕ))) → i < length specs → s ≡ get_or specs i s
+    → HaveParts (take i specs) old → HasParts (reading_of s).destination p → new ≡ old ++ p ∷ [] → HaveParts (take (i + 1) specs) new
+parts_next specs i s old new p below is so_far here more =
+    rw (take_more specs i s below, more) (zip_more (λ s p. HasParts (reading_of s).destination p) (take i specs) old (get_or specs i s) p so_far (subst (λ z. HasParts (reading_of z).destination p) is here))
+
+pub parts_at : (specs : List RefSpecRef) (parts : List (Option (Bor (List ℕ) × Bor (List ℕ)))) (i : ℕ) (s : RefSpecRef) (p : Option (Bor (List ℕ) × Bor (List ℕ))) → HaveParts specs parts → i < length specs → get_or parts i None ≡ p
+    → HasParts (reading_of (get_or specs i s)).destination p
+parts_at specs parts i s p all below at = subst (λ q. HasParts (reading_of (get_or specs i s)).destination q) at (zip_at (λ s p. HasParts (reading_of s).destination p) specs parts i s None all below)
+
+-- a destination that isn't split has no star
+unsplit_lacks : (c : Reading) → ∥ IsAccepted c ∥₁ → (n : List ℕ) → c.destination ≡ Some n → HasParts c.destination None → Lacks star n
+unsplit_lacks c accepted n has none = elim ((sides_agree c accepted).each n (inr has)) [
+  | inl one ↦ absurd (none n one.0 one.1 has one.2)
+  | inr lacks ↦ lacks
+]
+
+-- what is found at the only destination is all
+found_only : (g : List Reading) (i j : ℕ) (n : List ℕ) (found : Option Example) → ((e : Example) → IsExample g i j e → e.destination ≡ n) → IsFoundAt g i j n found → IsFound g i j found
+found_only g i j n None only none = λ e shown. none e.one e.other (subst (ConflictOver g (refs_of e.one ++ refs_of e.other) i j e.one e.other) (only e shown) shown.conflict)
+found_only g i j n (Some e) only shown = shown
+
+-- the spec at an index of a group
+module _ (g : List Reading) (group : Group) (is : IsGroupOf g group) (k : ℕ) (z : RefSpecRef) (within : k < length group.specs.now) where
+  abbrev spec : Reading
+  spec = reading_of (get_or group.specs.now k z)
+
+  -- it comes from a spec of the group
+  pub completed_of : (r : Reading) × IsCompleted r spec
+  completed_of = let (r, here, done) = zip_of g (map reading_of group.specs.now) is.completed k spec (reading_at group.specs.now k z within) in (r, done)
+
+  -- if its destination has no star, it makes no other one
+  plain_of : (n : List ℕ) → spec.destination ≡ Some n → HasParts spec.destination None → (refs : List Ref) (s : Source) (d : List ℕ) → MakesForward refs s (Some d) spec → d ≡ n
+  plain_of n has none = plain_made completed_of.0 spec n completed_of.1 has (unsplit_lacks spec (accepted_of group.specs.now k spec (reading_at group.specs.now k z within)) n has none)
+
+  pattern_of : (parts : Bor (List ℕ) × Bor (List ℕ)) → HasParts spec.destination (Some parts) → HasPattern group k parts.0.now parts.1.now
+  pattern_of parts (d, has, split) = record { reading = spec; at = reading_at group.specs.now k z within; destination = d; has = has; split = split }
+
+  maps_as_pattern : (parts : Bor (List ℕ) × Bor (List ℕ)) → HasParts spec.destination (Some parts) → (refs : List Ref) (s : Source) (d : List ℕ) → MakesForward refs s (Some d) spec → MapsPattern spec parts.0.now parts.1.now s d
+  maps_as_pattern parts (x, has, split) = maps_pattern spec (accepted_of group.specs.now k spec (reading_at group.specs.now k z within)) x parts.0.now parts.1.now has split
+
+-- the first of two specs
+module _ (g : List Reading) (group : Group) (is : IsGroupOf g group) (i j : ℕ) (x : RefSpecRef) (below : i < length group.specs.now) where
+  abbrev first : Reading
+  first = reading_of (get_or group.specs.now i x)
+
+  pub first_source : (d : List ℕ) (ones : List Source) → HasSourcesOf first d ones → (s t : Source) → ConflictOver g (refs_of s ++ refs_of t) i j s t d → Contains ones s
+  first_source d ones has s t k = has (refs_of s ++ refs_of t) s (one_makes g (map reading_of group.specs.now) is.completed i j (refs_of s ++ refs_of t) s t d refl k first (reading_at group.specs.now i x below))
+
+  first_makes : (e : Example) → IsExample g i j e → MakesForward (refs_of e.one ++ refs_of e.other) e.one (Some e.destination) first
+  first_makes e shown = one_makes g (map reading_of group.specs.now) is.completed i j (refs_of e.one ++ refs_of e.other) e.one e.other e.destination refl shown.conflict first (reading_at group.specs.now i x below)
+
+  pub first_without : first.destination ≡ None → (e : Example) → ¬ (IsExample g i j e)
+  first_without none e shown = none_made (refs_of e.one ++ refs_of e.other) e.one e.destination first none (first_makes e shown)
+
+  pub first_plain : (parts : List (Option (Bor (List ℕ) × Bor (List ℕ)))) → HaveParts group.specs.now parts → get_or parts i None ≡ None → (n : List ℕ) (found : Option Example) → first.destination ≡ Some n → IsFoundAt g i j n found → IsFound g i j found
+  first_plain parts have none n found has =
+      found_only g i j n found (λ e shown. plain_of g group is i x below n has (parts_at group.specs.now parts i x None have below none) (refs_of e.one ++ refs_of e.other) e.one e.destination (first_makes e shown))
+
+-- the second
+module _ (g : List Reading) (group : Group) (is : IsGroupOf g group) (i j : ℕ) (y : RefSpecRef) (inside : j < length group.specs.now) where
+  abbrev second : Reading
+  second = reading_of (get_or group.specs.now j y)
+
+  pub second_source : (d : List ℕ) (others : List Source) → HasSourcesOf second d others → (s t : Source) → ConflictOver g (refs_of s ++ refs_of t) i j s t d → Contains others t
+  second_source d others has s t k = has (refs_of s ++ refs_of t) t (other_makes g (map reading_of group.specs.now) is.completed i j (refs_of s ++ refs_of t) s t d refl k second (reading_at group.specs.now j y inside))
+
+  second_makes : (e : Example) → IsExample g i j e → MakesForward (refs_of e.one ++ refs_of e.other) e.other (Some e.destination) second
+  second_makes e shown = other_makes g (map reading_of group.specs.now) is.completed i j (refs_of e.one ++ refs_of e.other) e.one e.other e.destination refl shown.conflict second (reading_at group.specs.now j y inside)
+
+  pub second_without : second.destination ≡ None → (e : Example) → ¬ (IsExample g i j e)
+  second_without none e shown = none_made (refs_of e.one ++ refs_of e.other) e.other e.destination second none (second_makes e shown)
+
+  pub second_plain : (parts : List (Option (Bor (List ℕ) × Bor (List ℕ)))) → HaveParts group.specs.now parts → get_or parts j None ≡ None → (n : List ℕ) (found : Option Example) → second.destination ≡ Some n → IsFoundAt g i j n found → IsFound g i j found
+  second_plain parts have none n found has =
+      found_only g i j n found (λ e shown. plain_of g group is j y inside n has (parts_at group.specs.now parts j y None have inside none) (refs_of e.one ++ refs_of e.other) e.other e.destination (second_makes e shown))
+
+-- two specs
+module _ (g : List Reading) (group : Group) (is : IsGroupOf g group) (parts : List (Option (Bor (List ℕ) × Bor (List ℕ)))) (have : HaveParts group.specs.now parts) (i j : ℕ) (x y : RefSpecRef) (below : i < length group.specs.now) (inside : j < length group.specs.now) where
+  -- with two names that differ
+  pub names_differ : get_or parts i None ≡ None → get_or parts j None ≡ None → (n m : List ℕ) → (reading_of (get_or group.specs.now i x)).destination ≡ Some n → (reading_of (get_or group.specs.now j y)).destination ≡ Some m → n ≢ m → (e : Example) → ¬ (IsExample g i j e)
+  names_differ none neither n m has also differ e shown =
+      let one = plain_of g group is i x below n has (parts_at group.specs.now parts i x None have below none) (refs_of e.one ++ refs_of e.other) e.one e.destination (first_makes g group is i j x below e shown) in
+      let other = plain_of g group is j y inside m also (parts_at group.specs.now parts j y None have inside neither) (refs_of e.one ++ refs_of e.other) e.other e.destination (second_makes g group is i j y inside e shown) in
+      differ (sym one ∙ other)
+
+  -- with two patterns
+  module _ (one other : Bor (List ℕ) × Bor (List ℕ)) (first_parts : get_or parts i None ≡ Some one) (second_parts : get_or parts j None ≡ Some other) where
+    of_one : HasParts (reading_of (get_or group.specs.now i x)).destination (Some one)
+    of_one = parts_at group.specs.now parts i x (Some one) have below first_parts
+
+    of_other : HasParts (reading_of (get_or group.specs.now j y)).destination (Some other)
+    of_other = parts_at group.specs.now parts j y (Some other) have inside second_parts
+
+    pub have_common : (common : Common) → AreCommon one.0.now one.1.now other.0.now other.1.now common → HaveCommon group i j common
+    have_common common shared = record {
+      before = one.0.now;
+      after = one.1.now;
+      prefix = other.0.now;
+      suffix = other.1.now;
+      one = pattern_of g group is i x below one of_one;
+      other = pattern_of g group is j y inside other of_other;
+      shared = shared;
+    }
+
+    maps_one : (e : Example) → IsExample g i j e → MapsPattern (reading_of (get_or group.specs.now i x)) one.0.now one.1.now e.one e.destination
+    maps_one e shown = maps_as_pattern g group is i x below one of_one (refs_of e.one ++ refs_of e.other) e.one e.destination (first_makes g group is i j x below e shown)
+
+    -- with the same source too, both map the same ref
+    pub none_alike : (reading_of (get_or group.specs.now i x)).source ≡ (reading_of (get_or group.specs.now j y)).source → (reading_of (get_or group.specs.now i x)).destination ≡ (reading_of (get_or group.specs.now j y)).destination → (e : Example) → ¬ (IsExample g i j e)
+    none_alike source destination e shown =
+        let c = reading_of (get_or group.specs.now j y) in
+        let m = maps_one e shown in
+        let same = pattern_there c (accepted_of group.specs.now j c (reading_at group.specs.now j y inside)) of_one.0 one.0.now one.1.now (sym destination ∙ of_one.1) of_one.2 m.before m.after (record { text = m.side.text; has = sym source ∙ m.side.has; split = m.side.split })
+        e.destination m.word m.fits (refs_of e.one ++ refs_of e.other) e.other (second_makes g group is i j y inside e shown) in
+        shown.conflict.differ (m.source ∙ sym same)
+
+    pub none_apart : AreApart one.0.now one.1.now other.0.now other.1.now → (e : Example) → ¬ (IsExample g i j e)
+    none_apart apart e shown =
+        let a = maps_one e shown in
+        let b = maps_as_pattern g group is j y inside other of_other (refs_of e.one ++ refs_of e.other) e.other e.destination (second_makes g group is i j y inside e shown) in
+        apart e.destination a.word b.word a.fits b.fits
+
+-- ---- what is found of two specs at some names, and of one spec with all others
+
+-- ---- at one destination
+
+-- the sources don't conflict, in this order
+abbrev pub NoConflict : List Reading → ℕ → ℕ → List ℕ → Source → Source → Type 0
+NoConflict g i j d s t = ¬ (ConflictOver g (refs_of s ++ refs_of t) i j s t d)
+
+pub none_of_all : (g : List Reading) (i j : ℕ) (d : List ℕ) (ones others : List Source) → AllByRecursion (λ s. AllByRecursion (NoConflict g i j d s) others) ones
+    → ((s t : Source) → ConflictOver g (refs_of s ++ refs_of t) i j s t d → Contains ones s × Contains others t) → NoneAt g i j d
+none_of_all g i j d ones others all listed_there s t c =
+    let (one, other) = listed_there s t c in
+    of_element (NoConflict g i j d s) others t (of_element (λ s. AllByRecursion (NoConflict g i j d s) others) ones s all one) other c
+
+-- copies of the sources and of the destination are an example
+pub copied_example : (g : List Reading) (i j : ℕ) (s t u v : Source) (d n : List ℕ) → i < j → u ≡ s → v ≡ t → n ≡ d → ConflictOver g (refs_of s ++ refs_of t) i j s t d
+    → IsExample g i j (record { first = i; second = j; one = u; other = v; destination = n })
+copied_example g i j s t u v d n order first second to c = record {
+  first = refl;
+  second = refl;
+  order = order;
+  conflict = subst (λ a. ConflictOver g (refs_of a ++ refs_of v) i j a v n) (sym first) (subst (λ b. ConflictOver g (refs_of s ++ refs_of b) i j s b n) (sym second) (subst (ConflictOver g (refs_of s ++ refs_of t) i j s t) (sym to) c));
+}
+
+-- ---- of one spec with each other, and of all
+
+pub group_long : (g : List Reading) (group : Group) → IsGroupOf g group → length g ≡ length group.specs.now
+group_long g group is = zip_long IsCompleted g (map reading_of group.specs.now) is.completed ∙ length-map group.specs.now reading_of
+
+makes_found : (g : List Reading) (i j : ℕ) (x : Reading) (found : Option Example) → IsFound g i j found → MakesOf (λ j q e. IsExample g i j e) j x found
+makes_found g i j x None none = none
+makes_found g i j x (Some e) shown = shown
+
+pub row_next : (g : List Reading) (i j : ℕ) (found : Option Example) (ys zs : List Example) → j < length g → IsFound g i j found → IsMadeFrom (λ j q e. IsExample g i j e) 0 (take j g) ys → zs ≡ ys ++ option_to_list found
+    → IsMadeFrom (λ j q e. IsExample g i j e) 0 (take (j + 1) g) zs
+row_next g i j found ys zs below is so_far more =
+    let x = some_element g j below in
+    subst (IsMadeFrom (λ j q e. IsExample g i j e) 0 (take (j + 1) g)) (sym more)
+    (subst (λ l. IsMadeFrom (λ j q e. IsExample g i j e) 0 l (ys ++ option_to_list found)) (sym (take_more g j x below))
+    (made_next (λ j q e. IsExample g i j e) j (take j g) (get_or g j x) ys found (length-take-le j g (omega (arith, below))) so_far (makes_found g i j (get_or g j x) found is)))
+
+-- a spec doesn't conflict with an earlier one, nor with itself
+pub row_same : (g : List Reading) (i j : ℕ) (ys : List Example) → j < length g → j ≤ i → IsMadeFrom (λ j q e. IsExample g i j e) 0 (take j g) ys → IsMadeFrom (λ j q e. IsExample g i j e) 0 (take (j + 1) g) ys
+row_same g i j ys below earlier so_far = row_next g i j None ys ys below (λ e shown. omega (arith, shown.order)) so_far (sym (append-nil ys))
+
+abbrev pub AreOfFirst : List Reading → ℕ → List Example → Type 0
+AreOfFirst g i of_first = IsMadeFrom (λ j q e. IsExample g i j e) 0 g of_first
+
+pub rows_next : (g : List Reading) (i : ℕ) (row ys zs : List Example) → i < length g → AreOfFirst g i row → IsJoinedFrom (λ i r of_first. AreOfFirst g i of_first) 0 (take i g) ys → zs ≡ ys ++ row
+    → IsJoinedFrom (λ i r of_first. AreOfFirst g i of_first) 0 (take (i + 1) g) zs
+rows_next g i row ys zs below is so_far more =
+    let x = some_element g i below in
+    subst (IsJoinedFrom (λ i r of_first. AreOfFirst g i of_first) 0 (take (i + 1) g)) (sym more)
+    (subst (λ l. IsJoinedFrom (λ i r of_first. AreOfFirst g i of_first) 0 l (ys ++ row)) (sym (take_more g i x below))
+    (joined_next (λ i r of_first. AreOfFirst g i of_first) i (take i g) (get_or g i x) ys row (length-take-le i g (omega (arith, below))) so_far is))
+
+-- ---- without a conflict at the names that decide two specs of patterns don't conflict
+
+module _ (g : List Reading) (group : Group) (is : IsGroupOf g group) (i j : ℕ) (common : Common) (have : HaveCommon group i j common) where
+  pub none_found : ((n : List ℕ) → IsDeciding (words_with is.letter) common.prefix.now common.suffix.now common.most n → NoneAt g i j n) → (e : Example) → ¬ (IsExample g i j e)
+  none_found none e shown =
+      let c = shown.conflict in
+      let a = have.one in
+      let b = have.other in
+      let one = sym (one_completed g (map reading_of group.specs.now) is.completed i a.reading a.at c.one.maps.maps) in
+      let other = sym (one_completed g (map reading_of group.specs.now) is.completed j b.reading b.at c.other.maps.maps) in
+      let d = decided g is.letter is.free i j (refs_of e.one ++ refs_of e.other) e.one e.other e.destination c
+      (subst (λ r. ∥ IsAccepted r ∥₁) one (accepted_of group.specs.now i a.reading a.at)) a.destination have.before have.after (subst (λ r. r.destination ≡ Some a.destination) one a.has) a.split
+      (subst (λ r. ∥ IsAccepted r ∥₁) other (accepted_of group.specs.now j b.reading b.at)) b.destination have.prefix have.suffix (subst (λ r. r.destination ≡ Some b.destination) other b.has) b.split
+      common.prefix.now common.suffix.now common.most have.shared.prefix have.shared.suffix have.shared.most in
+      none d.name d.deciding d.one d.other d.conflict
+
+  -- what is found with the words and in the overlaps
+  pub among_found : (found : Option PossibleConflict) → AllByRecursion (λ w. NoneAt g i j (common.prefix.now ++ (w ++ common.suffix.now))) (words_with is.letter)
+      → MatchOption found ((k : ℕ) → k ≤ common.most → IsOverlap common.prefix.now common.suffix.now k → NoneAt g i j (common.prefix.now ++ drop k common.suffix.now)) (λ c. IsExample g i j (example_of c))
+      → IsFound g i j (option_map example_of found)
+  among_found None by_word none = none_found (each_deciding (NoneAt g i j) (words_with is.letter) common.prefix.now common.suffix.now common.most by_word none)
+  among_found (Some c) by_word shown = shown

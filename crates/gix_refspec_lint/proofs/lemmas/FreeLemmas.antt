@@ -1,13 +1,20 @@
 -- Without an example of a conflict no kept mappings conflict, whatever refs there are.
-use Rattle.gix_refspec_lint.proofs.Common.{◌≡◌, ◌≢◌, inl, inr, ℕ, zero, suc, ◌<◌, List, [], ◌∷◌, ◌++◌, Some, length, map, refl, sym, ap, ◌∙◌, subst, arith, AllByRecursion, AllZip, Any, Contains}
-use Rattle.gix_refspec_lint.proofs.Common.{slice_get, cases_lt, same_Some, IsFirstCandidate, MatchesAs, Ref, SideKind, pattern, full_name, object, partial, HasKind, Fits, filled, IsAccepted, Reading}
-use Rattle.gix_refspec_lint.proofs.Common.{HasOneStar, IsSplit, reading_of, RefSpecRef, lacks_no_pattern, one_word, AreKeptForward, IsFilled, IsJoinedFrom, IsMadeFrom, Source, name, id, Mapped}
-use Rattle.gix_refspec_lint.proofs.Common.{IsSourceExcluded, matches_as, one_kind, nothing_joined, nothing_made, MakesForward, kept_exactly, sides_agree, CanBeWritten, IsCompleted, IsSound}
-use Rattle.gix_refspec_lint.proofs.Common.{reading_once, completed_destination, contained_pair, far_there, all_accepted, ConflictFree, AreExamples, Example, Fetches, IsExample}
+use Rattle.gix_refspec_lint.proofs.Common.{◌≡◌, ◌≢◌, inl, inr, ℕ, zero, suc, ◌<◌, List, [], ◌∷◌, ◌++◌, Some, length, map, refl, sym, ap, ◌∙◌, subst, arith, AllZip, Contains, slice_get, cases_lt}
+use Rattle.gix_refspec_lint.proofs.Common.{same_Some, IsFirstCandidate, MatchesAs, Ref, SideKind, pattern, full_name, object, partial, HasKind, Fits, filled, IsAccepted, Reading, HasOneStar}
+use Rattle.gix_refspec_lint.proofs.Common.{reading_of, RefSpecRef, lacks_no_pattern, one_word, AreKeptForward, IsFilled, IsJoinedFrom, IsMadeFrom, Source, name, id, Mapped, matches_as, one_kind}
+use Rattle.gix_refspec_lint.proofs.Common.{nothing_joined, nothing_made, MakesForward, kept_exactly, sides_agree, CanBeWritten, IsCompleted, IsSound, reading_once, completed_destination}
+use Rattle.gix_refspec_lint.proofs.Common.{contained_pair, far_there, ConflictFree, AreExamples, Example, Fetches, IsExample, HasSourcePattern, IsSourceExcluded, IsValidSource, completed_excluded}
+use Rattle.gix_refspec_lint.proofs.Common.{ExamplesConflict, HasSound, refs_of, pair_of, some_at, ◌+◌, Bool, false, None, append-nil, AllByRecursion, AreAsked, AreConfigured, AreUncovered, Asked}
+use Rattle.gix_refspec_lint.proofs.Common.{HasVerdict, IsPlanned, IsPlannedBesides, IsTracked, Wish, by_call, by_configuration, by_default, nothing, tags_asked, without, Origin, none_merged}
+use Rattle.gix_refspec_lint.proofs.Common.{PlanConflictFree, slice_get_within, get_or_from_slice_get}
 use Rattle.gix_refspec_text.proofs.lemmas.hits.CandidateLemmas.{first_once}
 use Rattle.gix_refspec.proofs.lemmas.validate.FirstLemmas.{start_cases}
+use Rattle.gix_refspec_plan.proofs.lemmas.plan.OpposedLemmas.{pair_in}
+use Rattle.gix_refspec_plan.specs.declared.Origin.TheVariants as origin
+use Rattle.gix_refspec_plan.specs.declared.Verdict.TheVariants as verdict
 use Rattle.gix_refspec_lint.proofs.lemmas.FewerLemmas.{conflicts_shown}
-use Rattle.gix_refspec_lint.proofs.lemmas.PatternLemmas.{word_there}
+use Rattle.gix_refspec_lint.proofs.lemmas.IndexLemmas.{accepted_of, maps_of, still_excluded, any_at, zip_to, all_made}
+use Rattle.gix_refspec_lint.proofs.lemmas.PatternLemmas.{word_of}
 
 -- ---- one spec maps one source to a destination
 
@@ -30,15 +37,11 @@ filled_word e d w one (kind, of, is) =
 
 module _ (r c : Reading) (accepted : ∥ IsAccepted r ∥₁) (done : IsCompleted r c) (refs : List Ref) (d : List ℕ) where
   -- the word is that of the destination
-  pattern_source : (n : List ℕ) (makes : MakesForward refs (name n) (Some d) c) (x p t : List ℕ) → c.source ≡ Some x → IsSplit p t x
-      → (e : List ℕ) × (one : HasOneStar e) × (w : List ℕ) × (c.destination ≡ Some e) × (n ≡ p ++ (w ++ t)) × Fits one.0 one.1 d w
-  pattern_source n makes x p t source split =
-      let (k, item, below, is, paired) = makes.one in
-      let near : makes.ends.near ≡ x = same_Some _ _ (sym makes.has.near ∙ source) in
-      let (w, some, fits) = word_there p t item paired.word (matches_as makes.ends.near (pattern p t) item paired.word (subst (IsSplit p t) (sym near) split) paired.takes.matches) in
-      let (e, far, becomes) = far_there makes.ends.far paired.word d paired.becomes in
-      let one = dest_starred r c x e accepted done source (makes.has.far ∙ far) (p, t, split) in
-      (e, one, w, makes.has.far ∙ far, sym paired.name ∙ fits, filled_word e d w one (subst (λ v. IsFilled (Some e) v (Some d)) some becomes))
+  pattern_source : (n : List ℕ) (makes : MakesForward refs (name n) (Some d) c) (p t : List ℕ) → HasSourcePattern c p t → (e : List ℕ) (one : HasOneStar e) → c.destination ≡ Some e → (w : List ℕ) × (n ≡ p ++ (w ++ t)) × Fits one.0 one.1 d w
+  pattern_source n makes p t source e one has =
+      let (w, some, fits) = word_of c refs n (Some d) makes p t source in
+      let far : makes.ends.far ≡ Some e = sym makes.has.far ∙ has in
+      (w, fits, filled_word e d w one (subst (λ v. IsFilled (Some e) v (Some d)) some (subst (λ f. IsFilled f makes.one.4.word (Some d)) far makes.one.4.becomes)))
 
   one_name_source : (n m : List ℕ) → MakesForward refs (name n) (Some d) c → MakesForward refs (name m) (Some d) c → n ≡ m
   one_name_source n m makes also =
@@ -50,18 +53,11 @@ module _ (r c : Reading) (accepted : ∥ IsAccepted r ∥₁) (done : IsComplete
     where
       by_kind : (kind : SideKind) → HasKind makes.ends.near kind → MatchesAs kind (makes.one.1) (makes.one.4.word) → MatchesAs kind (also.one.1) (also.one.4.word) → n ≡ m
       by_kind (pattern p t) of holds same =
-          let (e, one, w, to, is, fits) = pattern_source n makes makes.ends.near p t makes.has.near of in
-          let (f, two, v, goes, at, suits) = pattern_source m also makes.ends.near p t makes.has.near of in
-          let dest : f ≡ e = same_Some _ _ (sym goes ∙ to) in
-          let (u, is_u) = again e one w fits f two v suits dest in
-          is ∙ ap (λ x. p ++ (x ++ t)) u ∙ sym at
-        where
-          again : (e : List ℕ) (one : HasOneStar e) (w : List ℕ) → Fits one.0 one.1 d w → (f : List ℕ) (two : HasOneStar f) (v : List ℕ) → Fits two.0 two.1 d v → f ≡ e → (w ≡ v) × (f ≡ e)
-          again e one w fits f two v suits same =
-              let kinds : pattern two.0 two.1 ≡ pattern one.0 one.1 = one_kind e (pattern two.0 two.1) (pattern one.0 one.1) (subst (IsSplit two.0 two.1) same two.2) one.2 in
-              let first : two.0 ≡ one.0 = cc in
-              let last : two.1 ≡ one.1 = cc in
-              (one_word one.0 one.1 d w v fits (subst (λ a. Fits a one.1 d v) first (subst (λ b. Fits two.0 b d v) last suits)), same)
+          let (e, far, becomes) = far_there makes.ends.far makes.one.4.word d makes.one.4.becomes in
+          let one = dest_starred r c makes.ends.near e accepted done makes.has.near (makes.has.far ∙ far) (p, t, of) in
+          let (w, is, fits) = pattern_source n makes p t (record { text = makes.ends.near; has = makes.has.near; split = of }) e one (makes.has.far ∙ far) in
+          let (v, at, suits) = pattern_source m also p t (record { text = makes.ends.near; has = makes.has.near; split = of }) e one (makes.has.far ∙ far) in
+          is ∙ ap (λ x. p ++ (x ++ t)) (one_word one.0 one.1 d w v fits suits) ∙ sym at
       by_kind (full_name x) of holds same = sym (makes.one.4.name) ∙ holds.1 ∙ sym same.1 ∙ also.one.4.name
       by_kind (object bytes) of holds same = absurd (makes.has.no_object bytes of)
       by_kind (partial x) of holds same =
@@ -92,75 +88,111 @@ none_shown g i j r q e none at also shown =
     let row : IsMadeFrom (λ l p x. IsExample g i l x) 0 g [] = subst (λ k. IsMadeFrom (λ l p x. IsExample g k l x) 0 g []) (omega (arith, size)) (nothing_joined (λ k p row. IsMadeFrom (λ l p x. IsExample g k l x) 0 g row) 0 before r after (subst (λ h. IsJoinedFrom (λ k p row. IsMadeFrom (λ l p x. IsExample g k l x) 0 g row) 0 h []) whole none)) in
     nothing_made (λ l p x. IsExample g i l x) 0 front q back e (subst (λ h. IsMadeFrom (λ l p x. IsExample g i l x) 0 h []) all row) (subst (λ l. IsExample g i l e) (omega (arith, long)) shown)
 
-zip_at : (g h : List Reading) (P : Reading → Type 0) → AllZip IsCompleted g h → Any P h → (k : ℕ) × (r : Reading) × (c : Reading) × (slice_get g k ≡ Some r) × IsCompleted r c × P c
-zip_at [] [] P all (k, c, below, is, holds) = absurd (omega (arith, below))
-zip_at [] (c ∷ h) P all any = absurd all
-zip_at (r ∷ g) [] P all any = absurd all
-zip_at (r ∷ g) (c ∷ h) P all (zero, d, below, is, holds) = (zero, r, c, refl, all.0, subst P (sym is) holds)
-zip_at (r ∷ g) (c ∷ h) P all (suc k, d, below, is, holds) = let (l, q, e, at, done, has) = zip_at g h P all.1 (k, d, omega (arith, below), is, holds) in (suc l, q, e, at, done, has)
-
-pub accepted_at : (g : List Reading) (k : ℕ) (r : Reading) → AllByRecursion (λ q. ∥ IsAccepted q ∥₁) g → slice_get g k ≡ Some r → ∥ IsAccepted r ∥₁
-accepted_at [] k r all is = absurd (cc (is))
-accepted_at (q ∷ g) zero r all is = subst (λ x. ∥ IsAccepted x ∥₁) (same_Some _ _ is) all.0
-accepted_at (q ∷ g) (suc k) r all is = accepted_at g k r all.1 is
-
-pub still_excluded : (g h : List Reading) (s : Source) → AllZip IsCompleted g h → IsSourceExcluded g s → IsSourceExcluded h s
-still_excluded [] [] (name n) all none = none
-still_excluded [] (c ∷ h) (name n) all by = absurd all
-still_excluded (r ∷ g) [] (name n) all by = absurd all
-still_excluded (r ∷ g) (c ∷ h) (name n) all (inl by) = inl (record { negative = all.0.mode ∙ by.negative; text = by.text; source = all.0.source ∙ by.source; excludes = by.excludes })
-still_excluded (r ∷ g) (c ∷ h) (name n) all (inr later) = inr (still_excluded g h (name n) all.1 later)
-still_excluded g h (id bytes) all none = none
-
 -- a kept mapping that is sound is a fetch of some spec
-record IsFetchedBy (g : List Reading) (refs : List Ref) (m : Mapped) (d : List ℕ) : Type 0 where
-  index : ℕ
-  fetches : Fetches g refs index m.source (Some d)
-
-fetched_by : (g h : List Reading) (refs : List Ref) (kept : List Mapped) (m : Mapped) (d : List ℕ) → AllZip IsCompleted g h → AreKeptForward h refs kept → Contains kept m → IsSound m → m.destination ≡ Some d → IsFetchedBy g refs m d
+fetched_by : (g h : List Reading) (refs : List Ref) (kept : List Mapped) (m : Mapped) (d : List ℕ) → AllZip IsCompleted g h → AreKeptForward h refs kept → Contains kept m → IsSound m → m.destination ≡ Some d → (k : ℕ) × Fetches g refs k m.source (Some d)
 fetched_by g h refs kept m d all are has sound to =
     let made = ((kept_exactly h refs).forward kept are m).0 (contained_pair kept m has) in
-    let (k, r, c, at, done, makes) = zip_at g h (MakesForward refs m.source m.destination) all made.0 in
-    record {
-      index = k;
-      fetches = record {
-        maps = record {
-          maps = record { reading = r; at = at; completed = c; is = done; makes = subst (λ far. MakesForward refs m.source far c) to makes };
-          source = sound.source;
-          destination = subst CanBeWritten to sound.destination;
-        };
-        included = λ by. made.1 (still_excluded g h m.source all by);
-      };
-    }
+    let (k, c, at, makes) = any_at (MakesForward refs m.source m.destination) h made.0 in (
+      k,
+      record {
+        maps = record { maps = maps_of g h all k c at refs m.source (Some d) (subst (λ far. MakesForward refs m.source far c) to makes); source = sound.source; destination = subst CanBeWritten to sound.destination };
+        included = λ by. made.1 (still_excluded g h all m.source by);
+      },
+    )
 
 -- two fetches to one destination are from one source
-same_fetched : (g : List Reading) (refs : List Ref) (i j : ℕ) (s t : Source) (d : List ℕ) → AllByRecursion (λ q. ∥ IsAccepted q ∥₁) g → AreExamples g [] → Fetches g refs i s (Some d) → Fetches g refs j t (Some d) → i < j → s ≢ t → ⊥
-same_fetched g refs i j s t d accepted none one other order differ =
+same_fetched : (g : List Reading) (refs : List Ref) (i j : ℕ) (s t : Source) (d : List ℕ) → AreExamples g [] → Fetches g refs i s (Some d) → Fetches g refs j t (Some d) → i < j → s ≢ t → ⊥
+same_fetched g refs i j s t d none one other order differ =
     let (e, shown) = conflicts_shown g i j order (refs, s, t, d, record { one = one; other = other; differ = differ }) in
     none_shown g i j one.maps.maps.reading other.maps.maps.reading e none one.maps.maps.at other.maps.maps.at shown
 
 -- of one spec they are the same
-same_spec : (g : List Reading) (refs : List Ref) (i j : ℕ) (s t : Source) (d : List ℕ) → AllByRecursion (λ q. ∥ IsAccepted q ∥₁) g → Fetches g refs i s (Some d) → Fetches g refs j t (Some d) → i ≡ j → s ≡ t
-same_spec g refs i j s t d accepted one other same =
+same_spec : (specs : List RefSpecRef) (refs : List Ref) (i j : ℕ) (s t : Source) (d : List ℕ) → Fetches (map reading_of specs) refs i s (Some d) → Fetches (map reading_of specs) refs j t (Some d) → i ≡ j → s ≡ t
+same_spec specs refs i j s t d one other same =
     let a = one.maps.maps in
     let b = other.maps.maps in
-    let readings : b.reading ≡ a.reading = same_Some _ _ (sym b.at ∙ ap (slice_get g) (sym same) ∙ a.at) in
+    let readings : b.reading ≡ a.reading = same_Some _ _ (sym b.at ∙ ap (slice_get (map reading_of specs)) (sym same) ∙ a.at) in
     let completed : b.completed ≡ a.completed = reading_once a.reading b.completed a.completed (subst (λ r. IsCompleted r b.completed) readings b.is) a.is in
-    one_source a.reading a.completed (accepted_at g i a.reading accepted a.at) a.is refs d s t a.makes (subst (MakesForward refs t (Some d)) completed b.makes)
+    one_source a.reading a.completed (accepted_of specs i a.reading a.at) a.is refs d s t a.makes (subst (MakesForward refs t (Some d)) completed b.makes)
 
 pub conflict_free : (specs : List RefSpecRef) → ConflictFree (map reading_of specs)
 conflict_free specs none h refs kept all are m n has also sound sane (d, to, goes) =
     let g = map reading_of specs in
-    let accepted = all_accepted specs in
-    let one = fetched_by g h refs kept m d all are has sound to in
-    let other = fetched_by g h refs kept n d all are also sane goes in
+    let (i, one) = fetched_by g h refs kept m d all are has sound to in
+    let (j, other) = fetched_by g h refs kept n d all are also sane goes in
     elim (start_cases m.source n.source) [
       | inl same ↦ same
-      | inr differ ↦ elim (cases_lt one.index other.index) [
-        | inl below ↦ absurd (same_fetched g refs one.index other.index m.source n.source d accepted none one.fetches other.fetches below differ)
-        | inr over ↦ elim (cases_lt other.index one.index) [
-          | inl below ↦ absurd (same_fetched g refs other.index one.index n.source m.source d accepted none other.fetches one.fetches below (λ same. differ (sym same)))
-          | inr under ↦ same_spec g refs one.index other.index m.source n.source d accepted one.fetches other.fetches (omega (arith, over, under))
+      | inr differ ↦ elim (cases_lt i j) [
+        | inl below ↦ absurd (same_fetched g refs i j m.source n.source d none one other below differ)
+        | inr over ↦ elim (cases_lt j i) [
+          | inl below ↦ absurd (same_fetched g refs j i n.source m.source d none other one below (λ same. differ (sym same)))
+          | inr under ↦ same_spec specs refs i j m.source n.source d one other (omega (arith, over, under))
         ]
       ]
     ]
+
+-- ---- over the refs of an example both of its mappings are kept
+
+source_excluded : (g h : List Reading) (s : Source) → AllZip IsCompleted g h → IsSourceExcluded h s → IsSourceExcluded g s
+source_excluded g h (name n) all by = completed_excluded g h n all by
+source_excluded g h (id bytes) all none = none
+
+-- what a spec fetches is kept
+fetched_kept : (g h : List Reading) (refs : List Ref) (kept : List Mapped) (k : ℕ) (s : Source) (d : List ℕ) → AllZip IsCompleted g h → AreKeptForward h refs kept → Fetches g refs k s (Some d) → HasSound kept s d
+fetched_kept g h refs kept k s d all are f =
+    let a = f.maps.maps in
+    let made = some_at (MakesForward refs s (Some d)) h k a.completed (zip_to g h all k a.reading a.completed a.at a.is) a.makes in
+    let (m, there, same) = pair_in kept (pair_of s (Some d)) (((kept_exactly h refs).forward kept are (pair_of s (Some d))).1 (made, (λ by. f.included (source_excluded g h s all by)))) in
+    (m, there, record { source = subst IsValidSource (sym same.source) f.maps.source; destination = subst CanBeWritten (sym same.destination) f.maps.destination }, same.source, same.destination)
+
+pub examples_conflict : (g : List Reading) → ExamplesConflict g
+examples_conflict g i j e shown completed kept all are =
+    let c = shown.conflict in (
+      fetched_kept g completed (refs_of e.one ++ refs_of e.other) kept i e.one e.destination all are c.one,
+      fetched_kept g completed (refs_of e.one ++ refs_of e.other) kept j e.other e.destination all are c.other,
+      c.differ,
+    )
+
+-- ---- a plan of configured specs that never conflict has no update in conflict
+
+-- the readings of all specs of a list
+readings_are : (origin_at : ℕ → Origin) (k : ℕ) (specs : List Reading) (asked : List Asked) → IsMadeFrom (λ j r a. (a ≡ record { reading = r; origin = origin_at j }) × Unit {0}) k specs asked → map (λ a. a.reading) asked ≡ specs
+readings_are origin_at k [] asked made = ap (map (λ (a : Asked). a.reading)) made
+readings_are origin_at k (r ∷ specs) asked (None, rest, none, more, is) = absurd (none (record { reading = r; origin = origin_at k }) (refl, tt))
+readings_are origin_at k (r ∷ specs) asked (Some a, rest, makes, more, is) =
+    ap (map (λ (a : Asked). a.reading)) is ∙ ap (λ q. q ∷ map (λ (a : Asked). a.reading) rest) (ap (λ (x : Asked). x.reading) makes.0) ∙ ap (λ l. r ∷ l) (readings_are origin_at (k + 1) specs rest more)
+
+uncovered_none : (wish : Wish) (refs : List Ref) (merges : List Asked) → wish.merges ≡ [] → AreUncovered wish refs merges → merges ≡ []
+uncovered_none wish refs merges none (inl (empty, is)) = is
+uncovered_none wish refs merges none (inr (configured, mapped, those, are, made)) = none_merged wish.merges mapped merges none made
+
+configured_are : (wish : Wish) (refs : List Ref) (asked : List Asked) → wish.configured ≢ [] → wish.merges ≡ [] → AreConfigured wish refs asked → map (λ a. a.reading) asked ≡ wish.configured
+configured_are wish refs asked some none (by_configuration configured merges either those uncovered is) =
+    ap (map (λ (a : Asked). a.reading)) (is ∙ ap (λ l. configured ++ l) (uncovered_none wish refs merges none uncovered) ∙ append-nil configured) ∙ readings_are origin.Configured 0 wish.configured configured those
+configured_are wish refs asked some none (by_default empty also is) = absurd (some empty)
+
+no_tags : (tags : Bool) → tags ≡ false → tags_asked tags ≡ []
+no_tags tags is = ap tags_asked is
+
+asked_are : (wish : Wish) (refs : List Ref) (asked : List Asked) → wish.configured ≢ [] → wish.given ≡ [] → wish.merges ≡ [] → wish.tags ≡ false → AreAsked wish refs asked → map (λ a. a.reading) asked ≡ wish.configured
+asked_are wish refs asked some alone none untagged (by_call given is_given those is) = absurd (is_given alone)
+asked_are wish refs asked some alone none untagged (without configured empty are is) =
+    ap (map (λ (a : Asked). a.reading)) (is ∙ ap (λ l. configured ++ l) (no_tags wish.tags untagged) ∙ append-nil configured) ∙ configured_are wish refs configured some none are
+
+none_tracked : (wish : Wish) (refs : List Ref) (tracking : List Asked) (indexes : List ℕ) (seconds : List Mapped) → wish.given ≡ [] → IsTracked wish refs tracking indexes seconds → seconds ≡ []
+none_tracked wish refs tracking indexes seconds alone (by_call positive negative taken given those others is are mapped) = absurd (given alone)
+none_tracked wish refs tracking indexes seconds alone (nothing empty a b is) = is
+
+pub plan_free : (wish : Wish) → ConflictFree wish.configured → PlanConflictFree wish
+plan_free wish never none some alone unmerged untagged refs planned missing plan =
+    let readings = asked_are wish refs plan.asked some alone unmerged untagged plan.are_asked in
+    let zipped : AllZip IsCompleted wish.configured plan.are_firsts.completed = subst (λ l. AllZip IsCompleted l plan.are_firsts.completed) readings plan.are_firsts.are in
+    let empty = none_tracked wish refs plan.tracking plan.indexes plan.seconds alone plan.are_seconds in
+    let behind : plan.behind ≡ [] = subst (λ l. IsMadeFrom (λ k m p. IsPlannedBesides plan.tracking plan.indexes plan.firsts plan.seconds m p) 0 l plan.behind) empty plan.are_behind in
+    subst (AllByRecursion (λ p. p.verdict ≢ verdict.InConflict)) (sym (plan.all ∙ ap (λ l. plan.before ++ l) behind ∙ append-nil plan.before))
+    (all_made (λ k m p. IsPlanned plan.asked plan.firsts m p) (λ p. p.verdict ≢ verdict.InConflict) 0 plan.firsts plan.before
+    (λ j m p at is conflicting.
+    let contested : HasVerdict plan.firsts m verdict.InConflict = subst (HasVerdict plan.firsts m) conflicting is.verdict in
+    let (n, also, sound, shared, differ) = contested.1 in
+    differ (never none plan.are_firsts.completed refs plan.firsts zipped plan.are_firsts.kept m n (j, slice_get_within plan.firsts j m at, get_or_from_slice_get plan.firsts j m m at) also contested.0 sound shared))
+    plan.are_before)

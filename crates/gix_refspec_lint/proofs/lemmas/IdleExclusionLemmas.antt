@@ -1,12 +1,14 @@
 -- Negative specs that exclude nothing.
-use Rattle.gix_refspec_lint.proofs.Common.{◌≡◌, inl, inr, ℕ, zero, suc, ◌+◌, ◌<◌, ◌≤◌, Bool, true, false, MatchBool, not, drop, take, List, [], ◌∷◌, ◌++◌, Option, None, Some, length, map}
-use Rattle.gix_refspec_lint.proofs.Common.{option_to_list, get_or, refl, sym, ap, ◌∙◌, subst, arith, AllByRecursion, AllZip, Any, slice_get, same_Some, Excludes, Fits, by_pattern, the_name}
-use Rattle.gix_refspec_lint.proofs.Common.{IsAccepted, IsPositive, Reading, Negative, IsSplit, lacks_no_pattern, split_once, IsMadeFrom, MakesOf, Source, name, id, IsExcludedBy, IsSourceExcluded}
-use Rattle.gix_refspec_lint.proofs.Common.{made_more, some_at, IsCompleted, ref_named, reading_once, same_excluded, IsFree, IsIdleExclusion, ExcludesFrom, ExcludesSome, HasSourcePattern, ShareSources}
-use Rattle.gix_refspec_lint.proofs.Common.{IsDeciding, words_with, IsOverlap, Common}
-use Rattle.gix_refspec_lint.proofs.lemmas.DecidingLemmas.{each_deciding}
-use Rattle.gix_refspec_lint.proofs.lemmas.DecideLemmas.{decide, pattern_spec, spec_made}
-use Rattle.gix_refspec_lint.proofs.lemmas.ExclusionLemmas.{excludes_by, text_excludes}
+use Rattle.gix_refspec_lint.proofs.Common.{◌≡◌, inl, inr, ℕ, ◌+◌, ◌<◌, ◌≤◌, Bool, true, false, MatchBool, not, drop, take, List, [], ◌∷◌, ◌++◌, Option, None, Some, length, map, option_to_list, get_or}
+use Rattle.gix_refspec_lint.proofs.Common.{refl, sym, ap, ◌∙◌, subst, AllByRecursion, AllZip, Any, slice_get, Excludes, Fits, by_pattern, the_name, IsAccepted, IsPositive, Reading, Negative, IsSplit}
+use Rattle.gix_refspec_lint.proofs.Common.{lacks_no_pattern, split_once, IsMadeFrom, MakesOf, Source, name, id, IsExcludedBy, IsSourceExcluded, made_more, some_at, IsCompleted, ref_named}
+use Rattle.gix_refspec_lint.proofs.Common.{same_excluded, IsFree, IsIdleExclusion, ExcludesFrom, ExcludesSome, HasSourcePattern, ShareSources, IsDeciding, words_with, IsOverlap, Common, of_element}
+use Rattle.gix_refspec_lint.proofs.Common.{slice_get_read, slice_get-map, option_map}
+use Rattle.gix_refspec_lint.proofs.lemmas.RunLemmas.{each_deciding}
+use Rattle.gix_refspec_lint.proofs.lemmas.DecideLemmas.{decide}
+use Rattle.gix_refspec_lint.proofs.lemmas.OneSpecLemmas.{excludes_by, text_excludes}
+use Rattle.gix_refspec_lint.proofs.lemmas.IndexLemmas.{maps_of, excluded_same, zip_to, any_at}
+use Rattle.gix_refspec_lint.proofs.lemmas.PatternLemmas.{pattern_spec, spec_made}
 
 -- a pattern excludes what fits it
 fits_excluded : (x before after n : List ℕ) → IsSplit before after x → Excludes x n → (w : List ℕ) × Fits before after n w
@@ -23,7 +25,7 @@ none_shared g z free negative c common is accepted share none (name m, e) =
     let one = share.one in
     let other = share.other in
     let (v, fits) = fits_excluded one.text share.before share.after m one.split (text_excludes negative one.text is one.has m e.excludes) in
-    let spec = pattern_spec c share.prefix share.suffix other.text accepted e.makes.makes.has.positive other.has other.split in
+    let spec = pattern_spec c share.prefix share.suffix accepted e.makes.makes.has.positive other in
     let d = decide g z free c share.prefix share.suffix spec share.before share.after common.prefix.now common.suffix.now common.most share.shared.prefix share.shared.suffix share.shared.most e.refs m e.destination v fits e.makes in
     none d.source d.deciding (record {
       refs = ref_named d.source ∷ [];
@@ -60,34 +62,11 @@ pub none_apart : (negative c : Reading) (a b p t : List ℕ) → negative.mode �
 none_apart negative c a b p t is accepted one other apart (id bytes, e) = e.excludes
 none_apart negative c a b p t is accepted one other apart (name m, e) =
     let (v, fits) = fits_excluded one.text a b m one.split (text_excludes negative one.text is one.has m e.excludes) in
-    let spec = pattern_spec c p t other.text accepted e.makes.makes.has.positive other.has other.split in
+    let spec = pattern_spec c p t accepted e.makes.makes.has.positive other in
     let (w, source, far, there) = spec_made c p t spec e.refs m e.destination e.makes.makes in
     apart m v w fits source
 
 -- ---- groups
-
--- a completed negative spec excludes the same
-excluded_same : (r c : Reading) (n : List ℕ) → IsCompleted r c → IsExcludedBy n r → IsExcludedBy n c
-excluded_same r c n done by = record { negative = done.mode ∙ by.negative; text = by.text; source = done.source ∙ by.source; excludes = by.excludes }
-
--- each spec and the same with its destination completed
-pub zip_of : (g h : List Reading) (k : ℕ) (c : Reading) → AllZip IsCompleted g h → slice_get h k ≡ Some c → (r : Reading) × (slice_get g k ≡ Some r) × IsCompleted r c
-zip_of [] [] k c all at = absurd (cc (at))
-zip_of [] (e ∷ h) k c all at = absurd all
-zip_of (r ∷ g) [] k c all at = absurd all
-zip_of (r ∷ g) (e ∷ h) zero c all at = (r, refl, subst (IsCompleted r) (same_Some _ _ at) all.0)
-zip_of (r ∷ g) (e ∷ h) (suc k) c all at = zip_of g h k c all.1 at
-
-pub zip_to : (g h : List Reading) (k : ℕ) (r c : Reading) → AllZip IsCompleted g h → slice_get g k ≡ Some r → IsCompleted r c → slice_get h k ≡ Some c
-zip_to [] h k r c all at done = absurd (cc (at))
-zip_to (q ∷ g) [] k r c all at done = absurd all
-zip_to (q ∷ g) (e ∷ h) zero r c all at done = ap Some (reading_once q e c all.0 (subst (λ x. IsCompleted x c) (sym (same_Some _ _ at)) done))
-zip_to (q ∷ g) (e ∷ h) (suc k) r c all at done = zip_to g h k r c all.1 at done
-
-pub any_at : (P : Reading → Type 0) (h : List Reading) → Any P h → (k : ℕ) × (c : Reading) × (slice_get h k ≡ Some c) × P c
-any_at P [] (k, c, below, is, holds) = absurd (omega (arith, below))
-any_at P (e ∷ h) (zero, c, below, is, holds) = (zero, c, ap Some is, holds)
-any_at P (e ∷ h) (suc k, c, below, is, holds) = let (j, x, at, has) = any_at P h (k, c, omega (arith, below), is, holds) in (suc j, x, at, has)
 
 module _ (g h : List Reading) (all : AllZip IsCompleted g h) (negative : Reading) (is : negative.mode ≡ Negative) where
   excluded_one : (n : List ℕ) → IsSourceExcluded (negative ∷ []) (name n) → IsExcludedBy n negative
@@ -101,18 +80,13 @@ module _ (g h : List Reading) (all : AllZip IsCompleted g h) (negative : Reading
       by_source : (k : ℕ) × (c : Reading) × (slice_get h k ≡ Some c) × ExcludesSome negative c → ⊥
       by_source (k, c, at, (id bytes, e)) = e.excludes
       by_source (k, c, at, (name n, e)) =
-          let (r, here, done) = zip_of g h k c all at in
-          idle.excludes e.refs k n e.destination (record {
-            maps = record { reading = r; at = here; completed = c; is = done; makes = e.makes.makes };
-            source = e.makes.source;
-            destination = e.makes.destination;
-          }) (excluded_one n e.excludes)
+          idle.excludes e.refs k n e.destination (record { maps = maps_of g h all k c at e.refs (name n) e.destination e.makes.makes; source = e.makes.source; destination = e.makes.destination }) (excluded_one n e.excludes)
 
   pub none_excluded : ¬ (Any (ExcludesSome negative) h) → IsIdleExclusion g negative
   none_excluded none = record {
     negative = is;
     excludes = λ refs i n d maps by.
-        none (some_at (ExcludesSome negative) h i maps.maps.completed (zip_to g h i maps.maps.reading maps.maps.completed all maps.maps.at maps.maps.is)
+        none (some_at (ExcludesSome negative) h i maps.maps.completed (zip_to g h all i maps.maps.reading maps.maps.completed maps.maps.at maps.maps.is)
         (name n, record { refs = refs; destination = d; makes = record { makes = maps.maps.makes; source = maps.source; destination = maps.destination }; excludes = inl by }));
   }
 
@@ -139,14 +113,10 @@ idle_completed g h idle all made =
 -- ---- lists
 
 pub any_mapped : {A : Type 0} (f : A → Reading) (P : Reading → Type 0) (xs : List A) (k : ℕ) (x : A) → k < length xs → x ≡ get_or xs k x → P (f x) → Any P (map f xs)
-any_mapped f P [] k x below is holds = absurd (omega (arith, below))
-any_mapped f P (y ∷ xs) zero x below is holds = (zero, f x, omega arith, ap f (sym is), holds)
-any_mapped f P (y ∷ xs) (suc k) x below is holds = let (j, r, under, at, has) = any_mapped f P xs k x (omega (arith, below)) is holds in (suc j, r, omega (arith, under), at, has)
+any_mapped f P xs k x below is holds = some_at P (map f xs) k (f x) (slice_get-map f xs k ∙ ap (option_map f) (slice_get_read xs (length xs) k x refl below is)) holds
 
 pub none_of : (P : Reading → Type 0) (h : List Reading) → AllByRecursion (λ r. ¬ (P r)) h → ¬ (Any P h)
-none_of P [] all (k, r, below, is, holds) = absurd (omega (arith, below))
-none_of P (e ∷ h) all (zero, r, below, is, holds) = all.0 (subst P (sym is) holds)
-none_of P (e ∷ h) all (suc k, r, below, is, holds) = none_of P h all.1 (k, r, omega (arith, below), is, holds)
+none_of P h all (k, r, below, is, holds) = of_element (λ x. ¬ (P x)) h r all (k, below, is) holds
 
 -- with one more element
 pub one_more_made : {A X Y : Type 0} (R : ℕ → X → Y → Type 0) (f : A → X) (xs : List A) (i : ℕ) (x : A) (ys zs : List Y) (made : Option Y) → i < length xs → x ≡ get_or xs i x → IsMadeFrom R 0 (map f (take i xs)) ys

@@ -2,17 +2,15 @@
 use Rattle.gix_refspec_lint.proofs.Common.{◌≡◌, ◌⊎◌, inl, inr, ◌↔◌, ℕ, zero, suc, ◌<◌, Bool, true, false, MatchBool, MatchOption, Bor, List, [], ◌∷◌, ◌++◌, Option, None, Some, codes, length, map}
 use Rattle.gix_refspec_lint.proofs.Common.{take, drop, get_or, append_assoc, refl, sym, ap, ◌∙◌, subst, arith, IsTrue, nat_eq, AllByRecursion, Contains, ends_with, is_some, false≢true, Decides-eqb}
 use Rattle.gix_refspec_lint.proofs.Common.{map-append, Contains-append_left, Contains-append_right, same_Some, ends_is, bstring_bytes, BString, Ref, MatchesAs, Takes, SideKind, pattern, full_name}
-use Rattle.gix_refspec_lint.proofs.Common.{object, partial, HasKind, Fits, candidates, IsCandidate, Reading, IsSplit, EndsWith, Source, name, candidate_cases, matches_as, map_split, IsPaired}
-use Rattle.gix_refspec_lint.proofs.Common.{MakesForward, IsRefName, AreAllowed, AreTriedBefore, Explains, Reason}
+use Rattle.gix_refspec_lint.proofs.Common.{object, partial, HasKind, Fits, candidates, IsCandidate, Reading, IsSplit, EndsWith, Source, name, candidate_cases, map_split, IsPaired, MakesForward}
+use Rattle.gix_refspec_lint.proofs.Common.{IsRefName, AreAllowed, AreTriedBefore, Explains, Reason, Contains-push_cases, of_element}
 use Rattle.gix_refspec_lint.specs.declared.Reason.TheVariants as reason
-use Rattle.gix_refspec_lint.proofs.lemmas.PatternLemmas.{word_there}
+use Rattle.gix_refspec_lint.proofs.lemmas.PatternLemmas.{word_of}
 
 -- ---- lists
 
 pub none_equal : (l : List (List ℕ)) (n : List ℕ) → AllByRecursion (λ x. ¬ (x ≡ n)) l → ¬ (Contains l n)
-none_equal [] n all (k, below, is) = absurd (omega (arith, below))
-none_equal (x ∷ l) n all (zero, below, is) = all.0 is
-none_equal (x ∷ l) n all (suc k, below, is) = none_equal l n all.1 (k, omega (arith, below), is)
+none_equal l n all has = of_element (λ x. ¬ (x ≡ n)) l n all has refl
 
 -- ---- reasons
 
@@ -22,30 +20,10 @@ duplicate_any g k s reason.Invalid h none = λ refs d valid f. absurd (none refs
 duplicate_any g k s (reason.Excluded n) h none = λ refs d valid f. absurd (none refs d f)
 duplicate_any g k s (reason.Duplicate i) h earlier = earlier
 
-invalid_any : (g : List Reading) (k : ℕ) (s : Source) (r : Reason) → Explains g k s reason.Invalid → Explains g k s r
+pub invalid_any : (g : List Reading) (k : ℕ) (s : Source) (r : Reason) → Explains g k s reason.Invalid → Explains g k s r
 invalid_any g k s reason.Invalid none = none
 invalid_any g k s (reason.Excluded n) none = λ refs d f. none refs d f.maps
 invalid_any g k s (reason.Duplicate i) none = λ refs d valid f. absurd (none refs d f.maps)
-
-pub invalid_first : (g : List Reading) (k : ℕ) (s : Source) (one other : Reason) → one ≡ reason.Invalid → Explains g k s one ⊎ Explains g k s other → Explains g k s other
-invalid_first g k s one other is (inl of_one) = invalid_any g k s other (subst (Explains g k s) is of_one)
-invalid_first g k s one other is (inr of_other) = of_other
-
-pub invalid_last : (g : List Reading) (k : ℕ) (s : Source) (one other : Reason) → other ≡ reason.Invalid → Explains g k s one ⊎ Explains g k s other → Explains g k s one
-invalid_last g k s one other is (inl of_one) = of_one
-invalid_last g k s one other is (inr of_other) = invalid_any g k s one (subst (Explains g k s) is of_other)
-
-pub excluded_first : (g : List Reading) (k : ℕ) (s : Source) (one other : Reason) (n m : ℕ) → one ≡ reason.Excluded n → other ≡ reason.Excluded m → Explains g k s one ⊎ Explains g k s other → Explains g k s one
-excluded_first g k s one other n m is also (inl of_one) = of_one
-excluded_first g k s one other n m is also (inr of_other) = let same : Explains g k s (reason.Excluded m) = subst (Explains g k s) also of_other in subst (Explains g k s) (sym is) same
-
-pub one_duplicate : (g : List Reading) (k : ℕ) (s : Source) (one other : Reason) (h : ℕ) → one ≡ reason.Duplicate h → Explains g k s one ⊎ Explains g k s other → Explains g k s one
-one_duplicate g k s one other h is (inl of_one) = of_one
-one_duplicate g k s one other h is (inr of_other) = subst (Explains g k s) (sym is) (duplicate_any g k s other h of_other)
-
-pub other_duplicate : (g : List Reading) (k : ℕ) (s : Source) (one other : Reason) (h : ℕ) → other ≡ reason.Duplicate h → Explains g k s one ⊎ Explains g k s other → Explains g k s other
-other_duplicate g k s one other h is (inl of_one) = subst (Explains g k s) (sym is) (duplicate_any g k s one h of_one)
-other_duplicate g k s one other h is (inr of_other) = of_other
 
 -- ---- what a spec may take
 
@@ -53,10 +31,8 @@ pub fits_taken : (r : Reading) (x : List ℕ) → r.source ≡ Some x → (refs 
     → MatchOption word ((w : List ℕ) → ¬ (Fits before after n w)) (λ w. Fits before after n w.now) → MakesForward refs (name n) d r → IsTrue (is_some word)
 fits_taken r x has refs n d before after (Some w) parts fits makes = refl
 fits_taken r x has refs n d before after None (y, is, split) none makes =
-    let (k, item, below, at, paired) = makes.one in
-    let near : makes.ends.near ≡ y = same_Some _ _ (sym makes.has.near ∙ has ∙ is) in
-    let (w, some, fits) = word_there before after item paired.word (matches_as makes.ends.near (pattern before after) item paired.word (subst (IsSplit before after) (sym near) split) paired.takes.matches) in
-    absurd (none w (sym paired.name ∙ fits))
+    let (w, some, fits) = word_of r refs n d makes before after (record { text = y; has = has ∙ is; split = split }) in
+    absurd (none w fits)
 
 -- the name of a candidate ends with the partial one, or it is the head of a remote
 pub ends_taken : (r : Reading) (x : List ℕ) → r.source ≡ Some x → ((y before after : List ℕ) → Some x ≡ Some y → ¬ (IsSplit before after y)) → (refs : List Ref) (n : List ℕ) (d : Option (List ℕ)) → MakesForward refs (name n) d r
@@ -102,11 +78,6 @@ first_split n (x ∷ a) b (y ∷ c) d no_a no_c same =
     later : (l : List (List ℕ)) (n x : List ℕ) → Contains l n → Contains (x ∷ l) n
     later l n x (k, below, is) = (suc k, omega (arith, below), is)
 
-pub tried : (x n : List ℕ) (before after names : List (List ℕ)) → candidates x ≡ before ++ (n ∷ after) → AllByRecursion (λ y. ¬ (y ≡ n)) before → names ≡ before → AreTriedBefore x n names
-tried x n before after names whole none is = record {
-  some = λ earlier later here first. is ∙ first_split n before after earlier later (none_equal before n none) first (sym whole ∙ here);
-}
-
 pub none_tried : (x n : List ℕ) → AllByRecursion (λ y. ¬ (y ≡ n)) (candidates x) → (names : List (List ℕ)) → AreTriedBefore x n names
 none_tried x n none names = record { some = λ earlier later here first. absurd (there earlier later (subst (AllByRecursion (λ y. ¬ (y ≡ n))) here none)) }
   where
@@ -117,52 +88,40 @@ none_tried x n none names = record { some = λ earlier later here first. absurd 
 pub tried_at : (x n : List ℕ) (texts : List BString) (i : ℕ) (b : BString) (names : List (List ℕ)) → map bstring_bytes texts ≡ candidates x → i < length texts → b ≡ get_or texts i b → bstring_bytes b ≡ n
     → AllByRecursion (λ y. ¬ (y ≡ n)) (map bstring_bytes (take i texts)) → names ≡ map bstring_bytes (take i texts) → AreTriedBefore x n names
 tried_at x n texts i b names all below at is none same =
-    tried x n (map bstring_bytes (take i texts)) (map bstring_bytes (drop (suc i) texts)) names
-    (sym all ∙ map_split bstring_bytes texts i b below ∙ ap (λ y. map bstring_bytes (take i texts) ++ (y ∷ map bstring_bytes (drop (suc i) texts))) (ap bstring_bytes (sym at) ∙ is)) none same
+    let before = map bstring_bytes (take i texts) in
+    let after = map bstring_bytes (drop (suc i) texts) in
+    let whole : candidates x ≡ before ++ (n ∷ after) = sym all ∙ map_split bstring_bytes texts i b below ∙ ap (λ y. before ++ (y ∷ after)) (ap bstring_bytes (sym at) ∙ is) in
+    record { some = λ earlier later here first. same ∙ first_split n before after earlier later (none_equal before n none) first (sym whole ∙ here) }
 
 -- ---- the names that are allowed
-
-contains_last : (l : List (List ℕ)) (x n : List ℕ) → Contains (l ++ x ∷ []) n → Contains l n ⊎ (x ≡ n)
-contains_last [] x n (zero, below, is) = inr is
-contains_last [] x n (suc k, below, is) = absurd (omega (arith, below))
-contains_last (y ∷ l) x n (zero, below, is) = inl (zero, omega arith, is)
-contains_last (y ∷ l) x n (suc k, below, is) = elim (contains_last l x n (k, omega (arith, below), is)) [
-  | inl (j, under, at) ↦ inl (suc j, omega (arith, under), at)
-  | inr same ↦ inr same
-]
 
 module _ (old : List (List ℕ)) (others : List BString) (away : List (List ℕ)) (now : List BString) (b : BString) (so_far : AreAllowed old (map bstring_bytes others) away (map bstring_bytes now)) where
   abbrev n : List ℕ
   n = bstring_bytes b
 
-  more_mapped : (l : List BString) → map bstring_bytes (l ++ b ∷ []) ≡ map bstring_bytes l ++ n ∷ []
-  more_mapped l = map-append bstring_bytes l (b ∷ [])
-
   pub allowed_more : (new : List BString) → new ≡ now ++ b ∷ [] → IsRefName n × ¬ (Contains away n) → AreAllowed old (map bstring_bytes (others ++ b ∷ [])) away (map bstring_bytes new)
   allowed_more new is allowed =
-      subst (λ l. AreAllowed old (map bstring_bytes (others ++ b ∷ [])) away (map bstring_bytes l)) (sym is)
-      (subst (λ l. AreAllowed old l away (map bstring_bytes (now ++ b ∷ []))) (sym (more_mapped others))
-      (subst (AreAllowed old (map bstring_bytes others ++ n ∷ []) away) (sym (more_mapped now)) (record { has_old = has_old; has = has; only = only })))
+      rw (is, map-append bstring_bytes others (b ∷ []), map-append bstring_bytes now (b ∷ [])) (record { has_old = has_old; has = has; only = only })
     where
       has_old : (m : List ℕ) → Contains old m → Contains (map bstring_bytes now ++ n ∷ []) m
       has_old m there = Contains-append_left (map bstring_bytes now) (n ∷ []) m (so_far.has_old m there)
 
       has : (m : List ℕ) → Contains (map bstring_bytes others ++ n ∷ []) m → IsRefName m → ¬ (Contains away m) → Contains (map bstring_bytes now ++ n ∷ []) m
-      has m there valid free = elim (contains_last (map bstring_bytes others) n m there) [
+      has m there valid free = elim (Contains-push_cases (map bstring_bytes others) n m there) [
         | inl earlier ↦ Contains-append_left (map bstring_bytes now) (n ∷ []) m (so_far.has m earlier valid free)
         | inr same ↦ Contains-append_right (map bstring_bytes now) (n ∷ []) m (zero, omega arith, same)
       ]
 
       only : (m : List ℕ) → Contains (map bstring_bytes now ++ n ∷ []) m → Contains old m ⊎ (IsRefName m × ¬ (Contains away m))
-      only m there = elim (contains_last (map bstring_bytes now) n m there) [
+      only m there = elim (Contains-push_cases (map bstring_bytes now) n m there) [
         | inl earlier ↦ so_far.only m earlier
         | inr same ↦ inr (subst (λ x. IsRefName x × ¬ (Contains away x)) same allowed)
       ]
 
   pub allowed_same : ¬ (IsRefName n × ¬ (Contains away n)) → AreAllowed old (map bstring_bytes (others ++ b ∷ [])) away (map bstring_bytes now)
-  allowed_same none = subst (λ l. AreAllowed old l away (map bstring_bytes now)) (sym (more_mapped others)) (record {
+  allowed_same none = rw (map-append bstring_bytes others (b ∷ [])) (record {
     has_old = so_far.has_old;
-    has = λ m there valid free. elim (contains_last (map bstring_bytes others) n m there) [
+    has = λ m there valid free. elim (Contains-push_cases (map bstring_bytes others) n m there) [
       | inl earlier ↦ so_far.has m earlier valid free
       | inr same ↦ absurd (none (subst (λ x. IsRefName x × ¬ (Contains away x)) (sym same) (valid, free)))
     ];

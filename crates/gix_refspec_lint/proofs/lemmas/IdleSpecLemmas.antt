@@ -1,18 +1,17 @@
 -- Why a spec does nothing, from what becomes of its mappings at the names that decide.
-use Rattle.gix_refspec_lint.proofs.Common.{◌≡◌, ◌≢◌, inl, inr, ℕ, zero, suc, ◌+◌, ◌<◌, option_to_list, take, List, [], ◌∷◌, ◌++◌, Option, None, Some, codes, length, map, get_or, append-nil, refl, sym}
-use Rattle.gix_refspec_lint.proofs.Common.{ap, ◌∙◌, subst, arith, AllByRecursion, AllZip, Contains, slice_get, same_Some, Ref, HasName, MatchesAs, Takes, SideKind, pattern, full_name, object, partial}
-use Rattle.gix_refspec_lint.proofs.Common.{HasKind, IsCandidate, IsAccepted, IsPositive, Reading, star, IsSplit, Lacks, reading_of, RefSpecRef, lacks_no_pattern, all_join, all_left, all_right}
-use Rattle.gix_refspec_lint.proofs.Common.{Lacks-here, first_once, IsMadeFrom, MakesOf, Source, name, id, IsSourceExcluded, some_element, candidate_cases, made_more, IsPaired, MakesForward}
-use Rattle.gix_refspec_lint.proofs.Common.{IsCompleted, ref_named, all_accepted, AreIdle, AreValid, Fetches, IsFree, IsIdleBy, Maps, MapsSoundly, Unused, Explains, HasPlainSource, HasSourcePattern}
-use Rattle.gix_refspec_lint.proofs.Common.{IsAtWork, IsReasonOf, IsShown, IsWhy, IsDeciding, IsLongerPrefix, IsLongerSuffix, IsMost, words_with, Reason}
+use Rattle.gix_refspec_lint.proofs.Common.{◌≡◌, ◌≢◌, inl, inr, ℕ, ◌+◌, ◌<◌, option_to_list, take, List, [], ◌∷◌, ◌++◌, Option, None, Some, codes, length, map, get_or, append-nil, refl, sym, ap, ◌∙◌}
+use Rattle.gix_refspec_lint.proofs.Common.{subst, arith, AllByRecursion, AllZip, Contains, slice_get, same_Some, Ref, HasName, MatchesAs, Takes, SideKind, pattern, full_name, object, partial, HasKind}
+use Rattle.gix_refspec_lint.proofs.Common.{IsCandidate, IsAccepted, IsPositive, Reading, star, IsSplit, Lacks, reading_of, RefSpecRef, lacks_no_pattern, all_join, all_right, Lacks-here, first_once}
+use Rattle.gix_refspec_lint.proofs.Common.{IsMadeFrom, MakesOf, Source, name, id, IsSourceExcluded, some_element, candidate_cases, made_more, IsPaired, MakesForward, IsCompleted, ref_named, AreIdle}
+use Rattle.gix_refspec_lint.proofs.Common.{AreValid, Fetches, IsFree, IsIdleBy, Maps, MapsSoundly, Unused, Explains, HasPlainSource, HasSourcePattern, IsAtWork, IsReasonOf, IsShown, IsWhy, IsDeciding}
+use Rattle.gix_refspec_lint.proofs.Common.{IsLongerPrefix, IsLongerSuffix, IsMost, words_with, Reason, of_element}
 use Rattle.gix_refspec_lint.specs.declared.Reason.TheVariants as reason
-use Rattle.gix_refspec_lint.proofs.lemmas.ByteLemmas.{excluded_moved, fits_byte, lacks_kept}
-use Rattle.gix_refspec_lint.proofs.lemmas.DecideLemmas.{Decided, HasShape, IsMovedFar, decide, pattern_spec, spec_made, spec_maps}
-use Rattle.gix_refspec_lint.proofs.lemmas.FreeLemmas.{accepted_at}
-use Rattle.gix_refspec_lint.proofs.lemmas.IdleExclusionLemmas.{made_completed, zip_to}
-use Rattle.gix_refspec_lint.proofs.lemmas.PatternLemmas.{lacks_destination, lacks_parts, lacks_source, listed_at}
-use Rattle.gix_refspec_lint.proofs.lemmas.PreferredLemmas.{reading_at}
+use Rattle.gix_refspec_lint.proofs.lemmas.ByteLemmas.{excluded_moved, fits_byte, lacks_refs, lacks_mid}
+use Rattle.gix_refspec_lint.proofs.lemmas.DecideLemmas.{Decided, IsMovedFar, decide}
+use Rattle.gix_refspec_lint.proofs.lemmas.IdleExclusionLemmas.{made_completed}
+use Rattle.gix_refspec_lint.proofs.lemmas.PatternLemmas.{lacks_destination, lacks_parts, lacks_source, HasShape, pattern_spec, spec_made, spec_maps, PatternSpec}
 use Rattle.gix_refspec_lint.proofs.lemmas.WordLemmas.{between}
+use Rattle.gix_refspec_lint.proofs.lemmas.IndexLemmas.{zip_to, reading_at, of_maps, accepted_of, one_completed, maps_as}
 
 -- ---- reasons
 
@@ -43,27 +42,21 @@ not_idle g k works (reason.Duplicate h) (always, shown) =
 -- ---- what takes a name with the free byte
 
 module _ (z : ℕ) (g : List Reading) (free : IsFree g z) where
-  lacks_mid : (before mid after : List ℕ) → codes "refs/tags/heads/remotes/HEAD.lock*@{" ≡ before ++ (mid ++ after) → Lacks z mid
-  lacks_mid before mid after is = all_left (λ c. c ≢ z) mid after (all_right (λ c. c ≢ z) before (mid ++ after) (subst (Lacks z) is (lacks_kept z free.usable)))
-
-  lacks_refs_folder : Lacks z (codes "refs/")
-  lacks_refs_folder = lacks_mid [] (codes "refs/") (codes "tags/heads/remotes/HEAD.lock*@{") refl
-
   lacks_remotes : Lacks z (codes "refs/remotes/")
-  lacks_remotes = all_join (λ c. c ≢ z) (codes "refs/") (codes "remotes/") lacks_refs_folder (lacks_mid (codes "refs/tags/heads/") (codes "remotes/") (codes "HEAD.lock*@{") refl)
+  lacks_remotes = all_join (λ c. c ≢ z) (codes "refs/") (codes "remotes/") (lacks_refs z free.usable) (lacks_mid z free.usable (codes "refs/tags/heads/") (codes "remotes/") (codes "HEAD.lock*@{") refl)
 
   -- no candidate of a partial name without the byte has it
   candidate_lacks : (x n : List ℕ) → Lacks z x → IsCandidate x n → Lacks z n
   candidate_lacks x n lacks one = elim (candidate_cases x n one) [
     | inl (before, folder, is) ↦ subst (Lacks z) (sym is) (all_join (λ c. c ≢ z) before x (elim folder [
       | inl none ↦ subst (Lacks z) (sym none) tt
-      | inr (inl refs) ↦ subst (Lacks z) (sym refs) lacks_refs_folder
-      | inr (inr (inl tags)) ↦ subst (Lacks z) (sym tags) (lacks_mid [] (codes "refs/tags/") (codes "heads/remotes/HEAD.lock*@{") refl)
-      | inr (inr (inr (inl heads))) ↦ subst (Lacks z) (sym heads) (all_join (λ c. c ≢ z) (codes "refs/") (codes "heads/") lacks_refs_folder (lacks_mid (codes "refs/tags/") (codes "heads/") (codes "remotes/HEAD.lock*@{") refl))
+      | inr (inl refs) ↦ subst (Lacks z) (sym refs) (lacks_refs z free.usable)
+      | inr (inr (inl tags)) ↦ subst (Lacks z) (sym tags) (lacks_mid z free.usable [] (codes "refs/tags/") (codes "heads/remotes/HEAD.lock*@{") refl)
+      | inr (inr (inr (inl heads))) ↦ subst (Lacks z) (sym heads) (all_join (λ c. c ≢ z) (codes "refs/") (codes "heads/") (lacks_refs z free.usable) (lacks_mid z free.usable (codes "refs/tags/") (codes "heads/") (codes "remotes/HEAD.lock*@{") refl))
       | inr (inr (inr (inr remotes))) ↦ subst (Lacks z) (sym remotes) lacks_remotes
     ]) lacks)
     | inr is ↦ subst (Lacks z) (sym is) (all_join (λ c. c ≢ z) (codes "refs/remotes/") (x ++ codes "/HEAD") lacks_remotes
-        (all_join (λ c. c ≢ z) x (codes "/HEAD") lacks (lacks_mid (codes "refs/tags/heads/remotes") (codes "/HEAD") (codes ".lock*@{") refl)))
+        (all_join (λ c. c ≢ z) x (codes "/HEAD") lacks (lacks_mid z free.usable (codes "refs/tags/heads/remotes") (codes "/HEAD") (codes ".lock*@{") refl)))
   ]
 
   -- so only a pattern takes it
@@ -90,26 +83,20 @@ module _ (z : ℕ) (g : List Reading) (free : IsFree g z) where
       (maps : Maps g few h (name (front ++ (z ∷ back))) e) (there : HasName refs (front ++ (word ++ back))) (lacks_front : Lacks z front) (lacks_prefix : Lacks z prefix)
       (far : IsMovedFar z k prefix word d e) (lacks_far : (x a b : List ℕ) → k.destination ≡ Some x → IsSplit a b x → Lacks z x) where
     accepted : ∥ IsAccepted maps.completed ∥₁
-    accepted = accepted_at (map reading_of cs) h maps.completed (all_accepted cs) (zip_to g (map reading_of cs) h maps.reading maps.completed all maps.at maps.is)
+    accepted = accepted_of cs h maps.completed (zip_to g (map reading_of cs) all h maps.reading maps.completed maps.at maps.is)
 
     near_lacks : Lacks z maps.makes.ends.near
     near_lacks = lacks_source g z free h maps.reading maps.completed maps.makes.ends.near maps.at maps.is maps.makes.has.near
 
     moved_back : (p t : List ℕ) → IsSplit p t maps.makes.ends.near → Maps g refs h (name (front ++ (word ++ back))) d
     moved_back p t split =
-        let spec = pattern_spec maps.completed p t maps.makes.ends.near accepted maps.makes.has.positive maps.makes.has.near split in
+        let spec = pattern_spec maps.completed p t accepted maps.makes.has.positive (record { text = maps.makes.ends.near; has = maps.makes.has.near; split = split }) in
         let (w, source, is_far, own) = spec_made maps.completed p t spec few (front ++ (z ∷ back)) e maps.makes in
         let sides = lacks_parts g z free maps.makes.ends.near p t near_lacks split in
         let (u, v, before, after, word_is) = fits_byte z free.usable p t front back w sides.0 sides.1 source in
         let whole : front ++ (word ++ back) ≡ p ++ ((u ++ (word ++ v)) ++ t) = ap (λ x. x ++ (word ++ back)) before ∙ ap (λ x. (p ++ u) ++ (word ++ x)) after ∙ between p u word v t in
-        record {
-          reading = maps.reading;
-          at = maps.at;
-          completed = maps.completed;
-          is = maps.is;
-          makes = subst (λ o. MakesForward refs (name (front ++ (word ++ back))) o maps.completed) (destination spec.shape u v w before word_is is_far)
-              (subst (λ n. MakesForward refs (name n) (spec.far (u ++ (word ++ v))) maps.completed) (sym whole) (spec_maps maps.completed p t spec refs (u ++ (word ++ v)) (subst (HasName refs) whole there)));
-        }
+        maps_as maps (subst (λ o. MakesForward refs (name (front ++ (word ++ back))) o maps.completed) (destination spec.shape u v w before word_is is_far)
+        (subst (λ n. MakesForward refs (name n) (spec.far (u ++ (word ++ v))) maps.completed) (sym whole) (spec_maps maps.completed p t spec refs (u ++ (word ++ v)) (subst (HasName refs) whole there))))
       where
         destination : {far_of : List ℕ → Option (List ℕ)} → HasShape maps.completed far_of → (u v w : List ℕ) → front ≡ p ++ u → w ≡ u ++ (z ∷ v) → e ≡ far_of w → far_of (u ++ (word ++ v)) ≡ d
         destination {far_of} (inl none) u v w before word_is is_far = elim far [
@@ -144,7 +131,10 @@ module _ (z : ℕ) (g : List Reading) (free : IsFree g z) where
     ends = record { one = record { before = []; here = refl }; other = record { before = []; here = refl }; is = inl refl }
 
     same_reading : (refs : List Ref) (s : Source) (d : Option (List ℕ)) (m : Maps g refs k s d) → m.completed ≡ c
-    same_reading refs s d m = same_Some _ _ (sym (zip_to g (map reading_of cs) k m.reading m.completed all m.at m.is) ∙ at)
+    same_reading refs s d m = one_completed g (map reading_of cs) all k c at m
+
+    spec : PatternSpec c p t
+    spec = pattern_spec c p t (accepted_of cs k c at) positive source
 
     -- the name that decides for a sound mapping
     record Found (refs : List Ref) (n : List ℕ) (d : Option (List ℕ)) : Type 0 where
@@ -155,19 +145,13 @@ module _ (z : ℕ) (g : List Reading) (free : IsFree g z) where
     found refs n d m =
         let same = same_reading refs (name n) d m.maps in
         let makes : MakesForward refs (name n) d c = subst (MakesForward refs (name n) d) same m.maps.makes in
-        let accepted = accepted_at (map reading_of cs) k c (all_accepted cs) at in
-        let spec = pattern_spec c p t source.text accepted positive source.has source.split in
         let (v, fits, far, there) = spec_made c p t spec refs n d makes in
         let decided = decide g z free c p t spec p t p t 0 begins ends alone refs n d v fits (record { makes = makes; source = m.source; destination = m.destination }) in
         record {
           decided = decided;
           maps = λ few has.
               let sound = decided.sound few has in
-              record {
-                maps = record { reading = m.maps.reading; at = m.maps.at; completed = m.maps.completed; is = m.maps.is; makes = subst (MakesForward few (name decided.source) decided.destination) (sym same) sound.makes };
-                source = sound.source;
-                destination = sound.destination;
-              };
+              record { maps = maps_as m.maps (subst (MakesForward few (name decided.source) decided.destination) (sym same) sound.makes); source = sound.source; destination = sound.destination };
         }
 
     -- no spec excludes it, if none excludes the source
@@ -200,7 +184,7 @@ module _ (z : ℕ) (g : List Reading) (free : IsFree g z) where
               let same = same_reading refs (name n) d f.maps.maps in
               let done : IsCompleted r c = subst (IsCompleted r) same f.maps.maps.is in
               let prefix = lacks_prefix r f.maps.maps.at done in
-              let present = spec_there refs d (subst (MakesForward refs (name n) d) same f.maps.maps.makes) in (
+              let present = (spec_made c p t spec refs n d (subst (MakesForward refs (name n) d) same f.maps.maps.makes)).3 in (
                 i,
                 below,
                 subst (λ x. Maps g refs i (name x) d) (sym moved.was)
@@ -208,19 +192,13 @@ module _ (z : ℕ) (g : List Reading) (free : IsFree g z) where
                     (moved.lacks prefix) prefix moved.far (λ x a b has split. lacks_destination g z free k r c x a b f.maps.maps.at done has split)),
               )
         ]
-          where
-            spec_there : (refs : List Ref) (d : Option (List ℕ)) → MakesForward refs (name n) d c → HasName refs n
-            spec_there refs d makes =
-                let accepted = accepted_at (map reading_of cs) k c (all_accepted cs) at in
-                let spec = pattern_spec c p t source.text accepted positive source.has source.split in
-                (spec_made c p t spec refs n d makes).3
 
     -- what explains the names with the words explains all
     pub words_explain : (r : Reason) → AllByRecursion (λ w. Explains g k (name (p ++ (w ++ t))) r) (words_with z) → (s : Source) → Explains g k s r
     words_explain r explained (name n) = named r by_word n
       where
         by_word : (n : List ℕ) → IsDeciding (words_with z) p t 0 n → Explains g k (name n) r
-        by_word n (inl (w, there, is)) = subst (λ x. Explains g k (name x) r) (sym is) (listed_at (λ w. Explains g k (name (p ++ (w ++ t))) r) (words_with z) w explained there)
+        by_word n (inl (w, there, is)) = subst (λ x. Explains g k (name x) r) (sym is) (of_element (λ w. Explains g k (name (p ++ (w ++ t))) r) (words_with z) w explained there)
         by_word n (inr (l, none, overlap, is)) = absurd (omega (arith, none, overlap.some))
     words_explain r explained (id bytes) = explains_if g k (id bytes) r (λ refs d m.
         let makes : MakesForward refs (id bytes) d c = subst (MakesForward refs (id bytes) d) (same_reading refs (id bytes) d m) m.makes in
@@ -228,15 +206,10 @@ module _ (z : ℕ) (g : List Reading) (free : IsFree g z) where
         absurd (lacks_no_pattern source.text p t (subst (Lacks star) near makes.object.0) source.split))
 
 -- what is explained at each source that the spec may map is at all
-pub sources_explain : (g : List Reading) (cs : List RefSpecRef) (all : AllZip IsCompleted g (map reading_of cs)) (k : ℕ) (c e : Reading) → slice_get (map reading_of cs) k ≡ Some c → slice_get (map reading_of cs) k ≡ Some e → (sources : List Source)
+pub sources_explain : (g : List Reading) (cs : List RefSpecRef) (all : AllZip IsCompleted g (map reading_of cs)) (k : ℕ) (e : Reading) → slice_get (map reading_of cs) k ≡ Some e → (sources : List Source)
     → ((refs : List Ref) (s : Source) (d : Option (List ℕ)) → MakesForward refs s d e → Contains sources s) → (r : Reason) → AllByRecursion (λ s. Explains g k s r) sources → (s : Source) → Explains g k s r
-sources_explain g cs all k c e at also sources has r explained s = explains_if g k s r (λ refs d m.
-    there sources explained (has refs s d (subst (MakesForward refs s d) (same_Some _ _ (sym (zip_to g (map reading_of cs) k m.reading m.completed all m.at m.is) ∙ also)) m.makes)))
-  where
-    there : (l : List Source) → AllByRecursion (λ t. Explains g k t r) l → Contains l s → Explains g k s r
-    there [] all (j, below, is) = absurd (omega (arith, below))
-    there (t ∷ l) all (zero, below, is) = subst (λ x. Explains g k x r) is all.0
-    there (t ∷ l) all (suc j, below, is) = there l all.1 (j, omega (arith, below), is)
+sources_explain g cs all k e also sources has r explained s = explains_if g k s r (λ refs d m.
+    of_element (λ t. Explains g k t r) sources s explained (has refs s d (of_maps g (map reading_of cs) all k e also refs s d m)))
 
 pub plain_same : (e c : Reading) → e ≡ c → HasPlainSource c → HasPlainSource e
 plain_same e c same plain = subst HasPlainSource (sym same) plain

@@ -2,23 +2,22 @@
 use Rattle.gix_refspec_lint.proofs.Common.{◌≡◌, ◌≢◌, List, ℕ, ◌++◌, Option, Some, map, refl, sym, ap, ◌∙◌, subst, slice_get, Ref, pattern, IsAccepted, Reading, reading_of, one_word, IsFilled, Source}
 use Rattle.gix_refspec_lint.proofs.Common.{name, IsSourceExcluded, MakesForward, IsValidSource, CanBeWritten, ConflictOver, refs_of, ExcludesFrom, IsGroupOf, NoneAt, ArePaired, Fails, IsNotFetched}
 use Rattle.gix_refspec_lint.proofs.Common.{IsUnsound, Group, First, Second, Why, Unknown, Unwritable, Invalid, Excluded, Same}
-use Rattle.gix_refspec_lint.proofs.lemmas.AmongLemmas.{accepted_here, same_completed}
-use Rattle.gix_refspec_lint.proofs.lemmas.DecideLemmas.{destination_once, pattern_spec, spec_made}
-use Rattle.gix_refspec_lint.proofs.lemmas.OneSpecLemmas.{excluded_at}
 use Rattle.gix_refspec_lint.proofs.lemmas.SourceLemmas.{pattern_there}
+use Rattle.gix_refspec_lint.proofs.lemmas.PatternLemmas.{destination_once, pattern_spec, spec_made}
+use Rattle.gix_refspec_lint.proofs.lemmas.IndexLemmas.{excluded_at, accepted_of, of_maps}
 
 -- ---- one spec of patterns
 
 -- it writes a destination from the source with the same word alone
 paired_source : (c : Reading) → ∥ IsAccepted c ∥₁ → (n d : List ℕ) → ArePaired c n d → (refs : List Ref) (s : Source) → MakesForward refs s (Some d) c → s ≡ name n
 paired_source c accepted n d paired refs s makes =
-    pattern_there c accepted paired.destination.text paired.before paired.after paired.destination.has paired.destination.split paired.source.text paired.prefix paired.suffix paired.source.has paired.source.split d paired.word paired.makes refs s makes
+    pattern_there c accepted paired.destination.text paired.before paired.after paired.destination.has paired.destination.split paired.prefix paired.suffix paired.source d paired.word paired.makes refs s makes
     ∙ ap name (sym paired.takes)
 
 -- and a source to the destination with the same word
 paired_destination : (c : Reading) → ∥ IsAccepted c ∥₁ → (n d : List ℕ) → ArePaired c n d → (refs : List Ref) (e : Option (List ℕ)) → MakesForward refs (name n) e c → e ≡ Some d
 paired_destination c accepted n d paired refs e makes =
-    let spec = pattern_spec c paired.prefix paired.suffix paired.source.text accepted makes.has.positive paired.source.has paired.source.split in
+    let spec = pattern_spec c paired.prefix paired.suffix accepted makes.has.positive paired.source in
     let (w, fits, far, there) = spec_made c paired.prefix paired.suffix spec refs n e makes in
     let same : w ≡ paired.word = one_word paired.prefix paired.suffix n w paired.word fits paired.takes in
     far ∙ ap spec.far same ∙ destination_once c (Some paired.word) (spec.far paired.word) (Some d) (spec.fills paired.word)
@@ -30,9 +29,7 @@ unsound_none negative c accepted Unknown n known unsound e = known refl
 unsound_none negative c accepted Unwritable n known (d, paired, bad) e =
     bad (subst CanBeWritten (paired_destination c accepted n d paired e.refs e.destination e.makes.makes) e.makes.destination)
 unsound_none negative c accepted (Invalid First) n known bad e = bad e.makes.source
-unsound_none negative c accepted (Invalid Second) n known bad e = bad
-unsound_none negative c accepted (Excluded of k) n known bad e = bad
-unsound_none negative c accepted Same n known bad e = bad
+unsound_none negative c accepted _ n known bad e = bad
 
 -- ---- two specs of a group
 
@@ -40,12 +37,11 @@ module _ (g : List Reading) (group : Group) (is : IsGroupOf g group) (i j : ℕ)
     (at : slice_get (map reading_of group.specs.now) i ≡ Some one) (also : slice_get (map reading_of group.specs.now) j ≡ Some other) (d : List ℕ) where
   module _ (s t : Source) (c : ConflictOver g (refs_of s ++ refs_of t) i j s t d) where
     first : (n : List ℕ) → ArePaired one n d → s ≡ name n
-    first n paired = paired_source one (accepted_here g group is i one at) n d paired (refs_of s ++ refs_of t) s
-        (subst (MakesForward (refs_of s ++ refs_of t) s (Some d)) (sym (same_completed g group is i c.one.maps.maps.reading c.one.maps.maps.completed one c.one.maps.maps.at c.one.maps.maps.is at)) c.one.maps.maps.makes)
+    first n paired = paired_source one (accepted_of group.specs.now i one at) n d paired (refs_of s ++ refs_of t) s (of_maps g (map reading_of group.specs.now) is.completed i one at (refs_of s ++ refs_of t) s (Some d) c.one.maps.maps)
 
     second : (n : List ℕ) → ArePaired other n d → t ≡ name n
-    second n paired = paired_source other (accepted_here g group is j other also) n d paired (refs_of s ++ refs_of t) t
-        (subst (MakesForward (refs_of s ++ refs_of t) t (Some d)) (sym (same_completed g group is j c.other.maps.maps.reading c.other.maps.maps.completed other c.other.maps.maps.at c.other.maps.maps.is also)) c.other.maps.maps.makes)
+    second n paired =
+        paired_source other (accepted_of group.specs.now j other also) n d paired (refs_of s ++ refs_of t) t (of_maps g (map reading_of group.specs.now) is.completed j other also (refs_of s ++ refs_of t) t (Some d) c.other.maps.maps)
 
   -- they don't conflict at a destination where a reason holds
   pub fails_none : (why : Why) → why ≢ Unknown → Fails g one other why d → NoneAt g i j d
@@ -60,19 +56,15 @@ module _ (g : List Reading) (group : Group) (is : IsGroupOf g group) (i j : ℕ)
 -- ---- what isn't fetched
 
 pub first_fails : (g : List Reading) (one other : Reading) (why : Why) (n d : List ℕ) → IsNotFetched g First n why → ArePaired one n d → Fails g one other why d
-first_fails g one other Unknown n d is paired = absurd is
-first_fails g one other Unwritable n d is paired = absurd is
 first_fails g one other (Invalid First) n d is paired = (n, paired, is.1)
 first_fails g one other (Invalid Second) n d is paired = absurd (cc (is.0))
 first_fails g one other (Excluded First k) n d is paired = (n, paired, is.1)
 first_fails g one other (Excluded Second k) n d is paired = absurd (cc (is.0))
-first_fails g one other Same n d is paired = absurd is
+first_fails g one other _ n d is paired = absurd is
 
 pub second_fails : (g : List Reading) (one other : Reading) (why : Why) (n d : List ℕ) → IsNotFetched g Second n why → ArePaired other n d → Fails g one other why d
-second_fails g one other Unknown n d is paired = absurd is
-second_fails g one other Unwritable n d is paired = absurd is
 second_fails g one other (Invalid First) n d is paired = absurd (cc (is.0))
 second_fails g one other (Invalid Second) n d is paired = (n, paired, is.1)
 second_fails g one other (Excluded First k) n d is paired = absurd (cc (is.0))
 second_fails g one other (Excluded Second k) n d is paired = (n, paired, is.1)
-second_fails g one other Same n d is paired = absurd is
+second_fails g one other _ n d is paired = absurd is

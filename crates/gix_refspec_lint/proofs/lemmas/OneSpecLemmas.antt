@@ -1,10 +1,14 @@
 -- What one spec maps, and what a group excludes.
 use Rattle.gix_refspec_lint.proofs.Common.{◌≡◌, inl, inr, ◌↔◌, ℕ, zero, suc, List, [], ◌∷◌, Option, None, Some, MatchOption, map, get_or, length, ◌<◌, refl, sym, ap, ◌∙◌, subst, arith, AllByRecursion}
-use Rattle.gix_refspec_lint.proofs.Common.{Any, slice_get, get_or-map, length-map, same_Some, Ref, IsPositive, Reading, Negative, AreKeptForward, Source, name, id, Mapped, HasPair, IsExcluded}
-use Rattle.gix_refspec_lint.proofs.Common.{IsExcludedBy, IsSamePair, IsSourceExcluded, mapped_of, Mapping, MakesForward, kept_exactly}
+use Rattle.gix_refspec_lint.proofs.Common.{Any, slice_get, get_or-map, length-map, Ref, IsPositive, Reading, AreKeptForward, Source, name, id, Mapped, HasPair, IsExcluded, IsExcludedBy, IsSamePair}
+use Rattle.gix_refspec_lint.proofs.Common.{IsSourceExcluded, mapped_of, Mapping, MakesForward, kept_exactly, Bool, true, false, MatchBool, is_some, HaveSameNames, IsValidSource, CanBeWritten, IsSound}
+use Rattle.gix_refspec_lint.proofs.Common.{refs_of, ExcludesFrom, MakesSoundly, pair_of, Bor, IsTrue, nat_eq, pointwise, false≢true, Decides-eqb, same_Some, slice_eq-Decides, Excludes, Fits}
+use Rattle.gix_refspec_lint.proofs.Common.{by_pattern, the_name, IsAccepted, Negative, star, IsSplit, Lacks, lacks_no_pattern, split_once, sides_agree}
 use Rattle.gix_refspec_match.specs.declared.exclusions.Exclusions.{Exclusions}
 use Rattle.gix_refspec_match.specs.Private.Kept.{AreExclusionsAt, AreExclusionsOf, ExcludeName, ExcludeNameAt}
 use Rattle.gix_refspec_match.proofs.lemmas.keep.KeptLemmas.{HasPair-from_place}
+use Rattle.gix_refspec_lint.proofs.lemmas.FewerLemmas.{made_there, makes_fewer, own_among, own_there}
+use Rattle.gix_refspec_lint.proofs.lemmas.FoundLemmas.{makes_also}
 
 -- ---- exclusions
 
@@ -13,23 +17,14 @@ pub tells_excluding : (g : List Reading) (es : Exclusions) (n : List ℕ) (answe
 tells_excluding g es n None are at none = λ by. none ((are n).1 by)
 tells_excluding g es n (Some k) are at by = (n, refl, at n k by)
 
--- a reading at an index that excludes the name
-pub excluded_at : (g : List Reading) (k : ℕ) (r : Reading) (n : List ℕ) → slice_get g k ≡ Some r → IsExcludedBy n r → IsExcluded g n
-excluded_at [] k r n is by = absurd (cc (is))
-excluded_at (q ∷ g) zero r n is by = inl (subst (IsExcludedBy n) (sym (same_Some _ _ is)) by)
-excluded_at (q ∷ g) (suc k) r n is by = inr (excluded_at g k r n is by)
-
 -- ---- one spec
-
-positive_only : (r : Reading) → IsPositive r.mode → ¬ (r.mode ≡ Negative)
-positive_only r positive is = subst IsPositive is positive
 
 makes_positive : (refs : List Ref) (s : Source) (d : Option (List ℕ)) (r : Reading) → MakesForward refs s d r → IsPositive r.mode
 makes_positive refs (name n) d r makes = makes.has.positive
 makes_positive refs (id bytes) d r makes = makes.positive
 
 none_excluded : (r : Reading) (s : Source) → IsPositive r.mode → ¬ (IsSourceExcluded (r ∷ []) s)
-none_excluded r (name n) positive (inl by) = positive_only r positive by.negative
+none_excluded r (name n) positive (inl by) = subst IsPositive by.negative positive
 none_excluded r (name n) positive (inr none) = none
 none_excluded r (id bytes) positive none = none
 
@@ -55,3 +50,93 @@ pub pair_there : (l : List Mapping) (k : ℕ) (m : Mapping) (pair : Mapped) → 
 pair_there l k m pair below is same =
     HasPair-from_place (map mapped_of l) k (mapped_of m) pair (omega (arith, below, length-map l mapped_of))
     (subst (λ x. IsSamePair x pair) (ap mapped_of is ∙ sym (get_or-map mapped_of l k m (mapped_of m) below)) same)
+
+-- ---- the sound mappings of one spec
+
+-- a sound mapping of the list
+pub sound_there : (c : Reading) (refs : List Ref) (l : List Mapping) (k : ℕ) (m : Mapping) (s : Source) → AreKeptForward (c ∷ []) refs (map mapped_of l) → k < length l → m ≡ get_or l k m
+    → (mapped_of m).source ≡ s → IsSound (mapped_of m) → MakesSoundly refs s (mapped_of m).destination c
+sound_there c refs l k m s kept below is same sound =
+    let has = pair_there l k m (mapped_of m) below is (record { source = refl; destination = refl }) in
+    record {
+      makes = subst (λ t. MakesForward refs t (mapped_of m).destination c) same ((kept_alone c refs (map mapped_of l) (mapped_of m) kept).0 has);
+      source = subst IsValidSource same sound.source;
+      destination = sound.destination;
+    }
+
+no_sound_pair : (l : List Mapped) (s : Source) (d : Option (List ℕ)) → AllByRecursion (λ m. m.source ≡ s → ¬ (IsSound m)) l → IsValidSource s → CanBeWritten d → ¬ (HasPair l (pair_of s d))
+no_sound_pair [] s d all valid written has = has
+no_sound_pair (m ∷ l) s d all valid written (inl same) = all.0 same.source (record { source = subst IsValidSource (sym same.source) valid; destination = subst CanBeWritten (sym same.destination) written })
+no_sound_pair (m ∷ l) s d all valid written (inr later) = no_sound_pair l s d all.1 valid written later
+
+-- there is none if no mapping of the source is sound
+pub none_sound : (c : Reading) (refs : List Ref) (kept : List Mapped) (s : Source) → AreKeptForward (c ∷ []) refs kept → AllByRecursion (λ m. m.source ≡ s → ¬ (IsSound m)) kept
+    → (d : Option (List ℕ)) → ¬ (MakesSoundly refs s d c)
+none_sound c refs kept s are all d makes = no_sound_pair kept s d all makes.source makes.destination ((kept_alone c refs kept (pair_of s d) are).1 makes.makes)
+
+-- ---- over other refs
+
+-- those of the same names
+pub sound_also : (A B : List Ref) (s : Source) (d : Option (List ℕ)) (c : Reading) → HaveSameNames A B → MakesSoundly A s d c → MakesSoundly B s d c
+sound_also A B s d c same makes = record { makes = makes_also A B s d c same makes.makes; source = makes.source; destination = makes.destination }
+
+-- the source alone
+pub sound_alone : (refs : List Ref) (s : Source) (d : Option (List ℕ)) (c : Reading) → MakesSoundly refs s d c → MakesSoundly (refs_of s) s d c
+sound_alone refs s d c makes = record {
+  makes = makes_fewer refs (refs_of s) s d c (own_among refs s (made_there refs s d c makes.makes)) (own_there s) makes.makes;
+  source = makes.source;
+  destination = makes.destination;
+}
+
+-- what a search for a sound mapping says of refs of these names
+pub alone_told : (refs few : List Ref) (s : Source) (c : Reading) (found : Option Mapping) → HaveSameNames refs few
+    → MatchOption found ((d : Option (List ℕ)) → ¬ (MakesSoundly refs s d c)) (λ m. MakesSoundly refs s (mapped_of m).destination c)
+    → MatchBool (is_some found) ((d : Option (List ℕ)) × MakesSoundly few s d c) ((d : Option (List ℕ)) → ¬ (MakesSoundly few s d c))
+alone_told refs few s c None same none = λ d makes. none d (sound_also few refs s d c (sym same) makes)
+alone_told refs few s c (Some m) same makes = ((mapped_of m).destination, sound_also refs few s (mapped_of m).destination c same makes)
+
+-- a negative spec that excludes the source excludes what is mapped
+pub excludes_told : (n c : Reading) (s : Source) (b : Bool) → IsSourceExcluded (n ∷ []) s → MatchBool b ((d : Option (List ℕ)) × MakesSoundly (refs_of s) s d c) ((d : Option (List ℕ)) → ¬ (MakesSoundly (refs_of s) s d c))
+    → MatchBool b (ExcludesFrom n c s) (¬ (ExcludesFrom n c s))
+excludes_told n c s true by (d, makes) = record { refs = refs_of s; destination = d; makes = makes; excludes = by }
+excludes_told n c s false by none = λ e. none e.destination (sound_alone e.refs s e.destination c e.makes)
+
+-- ---- what a negative spec excludes
+
+module _ (r : Reading) (x : List ℕ) (negative : r.mode ≡ Negative) (has : r.source ≡ Some x) (n : List ℕ) where
+  pub text_excludes : IsSourceExcluded (r ∷ []) (name n) → Excludes x n
+  text_excludes (inl by) = subst (λ y. Excludes y n) (same_Some _ _ (sym by.source ∙ has)) by.excludes
+  text_excludes (inr none) = absurd none
+
+  pub excludes_by : Excludes x n → IsSourceExcluded (r ∷ []) (name n)
+  excludes_by excludes = inl (record { negative = negative; text = x; source = has; excludes = excludes })
+
+  -- a side without a star excludes its own name
+  pub plain_excludes : (b : Bool) → ∥ IsAccepted r ∥₁ → ((y before after : List ℕ) → Some x ≡ Some y → ¬ (IsSplit before after y)) → (b ≡ true) ↔ (x ≡ n) → IsTrue b ↔ IsSourceExcluded (r ∷ []) (name n)
+  plain_excludes b accepted none same = ((λ told. excludes_by (the_name lacks (sym (same.0 told)))), (λ by. same.1 (named (text_excludes by))))
+    where
+      lacks : Lacks star x
+      lacks = elim ((sides_agree r accepted).each x (inl has)) [
+        | inl (before, after, split) ↦ absurd (none x before after refl split)
+        | inr no_star ↦ no_star
+      ]
+
+      named : Excludes x n → x ≡ n
+      named (the_name no_star is) = sym is
+      named (by_pattern before after word split fits) = absurd (none x before after refl split)
+
+  -- a pattern each that fits it
+  pub pattern_excludes : (before after : List ℕ) (word : Option (Bor (List ℕ))) → ((y : List ℕ) × (Some x ≡ Some y) × IsSplit before after y)
+      → MatchOption word ((w : List ℕ) → ¬ (Fits before after n w)) (λ w. Fits before after n w.now) → IsTrue (is_some word) ↔ IsSourceExcluded (r ∷ []) (name n)
+  pattern_excludes before after (Some w) (y, is, split) fits = ((λ told. excludes_by (by_pattern before after w.now (subst (IsSplit before after) (sym (same_Some _ _ is)) split) fits)), (λ by. refl))
+  pattern_excludes before after None (y, is, split) none = ((λ told. absurd (false≢true told)), (λ by. absurd (fitting (text_excludes by))))
+    where
+      fitting : ¬ (Excludes x n)
+      fitting (the_name lacks same) = lacks_no_pattern x before after lacks (subst (IsSplit before after) (sym (same_Some _ _ is)) split)
+      fitting (by_pattern front back w parts fits) =
+          let both = split_once x front back before after parts (subst (IsSplit before after) (sym (same_Some _ _ is)) split) in
+          none w (subst (λ a. Fits a after n w) both.0 (subst (λ b. Fits front b n w) both.1 fits))
+
+-- two texts that a test finds equal
+pub same_bytes : (x y n : List ℕ) {b : Bool} → b ≡ pointwise nat_eq x y → y ≡ n → (b ≡ true) ↔ (x ≡ n)
+same_bytes x y n is same = let tells = slice_eq-Decides Decides-eqb x y _ is in ((λ told. tells.0 told ∙ same), (λ equal. tells.1 (equal ∙ sym same)))

@@ -1,103 +1,137 @@
 -- What a spec of two patterns maps, and that the names that decide show each conflict of two such specs.
-use Rattle.gix_refspec_lint.proofs.Common.{◌≡◌, ◌≢◌, ◌⊎◌, inl, inr, ℕ, zero, suc, List, [], ◌∷◌, ◌++◌, codes, Option, None, Some, map, append_assoc, refl, sym, ap, ◌∙◌, subst, arith, AllByRecursion}
-use Rattle.gix_refspec_lint.proofs.Common.{Contains, slice_get, Contains-append_left, Contains-append_right, same_Some, Ref, HasName, MatchesAs, Takes, SideKind, pattern, object, HasKind, Fits}
-use Rattle.gix_refspec_lint.proofs.Common.{IsAccepted, IsPositive, Reading, head, star, HasOneStar, IsName, IsSplit, BeginsWith, Lacks, lacks_no_pattern, all_join, all_left, all_right, first_once}
-use Rattle.gix_refspec_lint.proofs.Common.{IsFilled, Source, name, id, IsSourceExcluded, matches_as, one_kind, IsPaired, MakesForward, LacksIn, SidesLack, IsRefName, IsValidSource, mapped_there}
-use Rattle.gix_refspec_lint.proofs.Common.{one_name, sides_agree, CanBeWritten, IsCompleted, completed_destination, named_some, written_lacks, ConflictOver, Fetches, IsFree, refs_of, IsDeciding}
-use Rattle.gix_refspec_lint.proofs.Common.{IsLongerPrefix, IsLongerSuffix, IsMost, endings, parts, words_with}
+use Rattle.gix_refspec_lint.proofs.Common.{◌≡◌, ◌≢◌, ◌⊎◌, inl, inr, ℕ, List, [], ◌∷◌, ◌++◌, codes, Option, None, Some, map, append_assoc, refl, sym, ap, ◌∙◌, subst, AllByRecursion, Contains}
+use Rattle.gix_refspec_lint.proofs.Common.{slice_get, Contains-append_left, Contains-append_right, same_Some, Ref, HasName, MatchesAs, Takes, pattern, Fits, IsAccepted, IsPositive, Reading, head}
+use Rattle.gix_refspec_lint.proofs.Common.{star, HasOneStar, IsName, IsSplit, BeginsWith, Lacks, lacks_no_pattern, all_join, all_left, all_right, first_once, IsFilled, Source, name, id}
+use Rattle.gix_refspec_lint.proofs.Common.{IsSourceExcluded, matches_as, one_kind, IsPaired, MakesForward, SidesLack, IsRefName, IsValidSource, mapped_there, one_name, sides_agree, CanBeWritten}
+use Rattle.gix_refspec_lint.proofs.Common.{IsCompleted, completed_destination, named_some, written_lacks, ConflictOver, Fetches, IsFree, refs_of, IsDeciding, IsLongerPrefix, IsLongerSuffix, IsMost}
+use Rattle.gix_refspec_lint.proofs.Common.{endings, parts, words_with, filled, HasSourcePattern, of_element, some_named, side_cases}
 use Rattle.gix_refspec_lint.proofs.lemmas.FewerLemmas.{conflict_of_two}
-use Rattle.gix_refspec_lint.proofs.lemmas.ByteLemmas.{excluded_moved, lacks_refs, name_with_byte}
+use Rattle.gix_refspec_lint.proofs.lemmas.ByteLemmas.{excluded_moved, lacks_refs, name_with_byte, lacks_in}
 use Rattle.gix_refspec_lint.proofs.lemmas.WordLemmas.{Around, HasEnding, IsParted, IsRefAround, between, common_name, ending_or_part}
+use Rattle.gix_refspec_lint.proofs.lemmas.IndexLemmas.{at_index, maps_as}
+
+-- ---- specs with a source pattern
+
+-- the word of a name that a source pattern takes
+pub word_of : (c : Reading) (refs : List Ref) (n : List ℕ) (d : Option (List ℕ)) (makes : MakesForward refs (name n) d c) (p t : List ℕ) → HasSourcePattern c p t → (w : List ℕ) × (makes.one.4.word ≡ Some w) × (n ≡ p ++ (w ++ t))
+word_of c refs n d makes p t source =
+    let near : makes.ends.near ≡ source.text = same_Some _ _ (sym makes.has.near ∙ source.has) in
+    by_word makes.one.4.word (matches_as makes.ends.near (pattern p t) makes.one.1 makes.one.4.word (subst (IsSplit p t) (sym near) source.split) makes.one.4.takes.matches)
+  where
+    by_word : (word : Option (List ℕ)) → MatchesAs (pattern p t) makes.one.1 word → (w : List ℕ) × (word ≡ Some w) × (n ≡ p ++ (w ++ t))
+    by_word None holds = absurd holds
+    by_word (Some w) holds = (w, refl, sym makes.one.4.name ∙ holds)
+
+-- the destination is a pattern, and far has it with a word
+pub record FarPattern (c : Reading) (far : List ℕ → Option (List ℕ)) : Type 0 where
+  pub side : List ℕ
+  pub before : List ℕ
+  pub after : List ℕ
+  pub has : c.destination ≡ Some side
+  pub split : IsSplit before after side
+  pub is : (w : List ℕ) → far w ≡ Some (before ++ (w ++ after))
+
+abbrev pub HasShape : Reading → (List ℕ → Option (List ℕ)) → Type 0
+HasShape c far = ((w : List ℕ) → far w ≡ None) ⊎ FarPattern c far
+
+-- a positive spec whose source is a pattern with these texts, and what its destination becomes with a word
+pub record PatternSpec (c : Reading) (p t : List ℕ) : Type 0 where
+  pub positive : IsPositive c.mode
+  pub source : HasSourcePattern c p t
+  pub far : List ℕ → Option (List ℕ)
+  pub fills : (w : List ℕ) → IsFilled c.destination (Some w) (far w)
+  pub shape : HasShape c far
+
+pub pattern_spec : (c : Reading) (p t : List ℕ) → ∥ IsAccepted c ∥₁ → IsPositive c.mode → HasSourcePattern c p t → PatternSpec c p t
+pattern_spec c p t accepted positive source = elim (side_cases c.destination) [
+  | inl none ↦ record { positive = positive; source = source; far = λ w. None; fills = λ w. subst (λ e. IsFilled e (Some w) None) (sym none) refl; shape = inl (λ w. refl) }
+  | inr (e, is) ↦ elim ((sides_agree c accepted).both source.text e source.has is) [
+    | inl (one, (a, b, far)) ↦ record {
+      positive = positive;
+      source = source;
+      far = λ w. Some (a ++ (w ++ b));
+      fills = λ w. subst (λ d. IsFilled d (Some w) (Some (a ++ (w ++ b)))) (sym is) (pattern a b, far, refl);
+      shape = inr (record { side = e; before = a; after = b; has = is; split = far; is = λ w. refl });
+    }
+    | inr (lacks, others) ↦ absurd (lacks_no_pattern source.text p t lacks source.split)
+  ]
+]
+
+-- a destination becomes one thing
+pub destination_once : (c : Reading) (word n m : Option (List ℕ)) → IsFilled c.destination word n → IsFilled c.destination word m → n ≡ m
+destination_once c word n m a b = once c.destination a b
+  where
+    once : (x : Option (List ℕ)) → IsFilled x word n → IsFilled x word m → n ≡ m
+    once None a b = a ∙ sym b
+    once (Some x) a b = a.2 ∙ ap (λ k. Some (filled k word)) (one_kind x a.0 b.0 a.1 b.1) ∙ sym b.2
+
+module _ (c : Reading) (p t : List ℕ) (spec : PatternSpec c p t) where
+  -- it maps each ref with a word
+  pub spec_maps : (refs : List Ref) (w : List ℕ) → HasName refs (p ++ (w ++ t)) → MakesForward refs (name (p ++ (w ++ t))) (spec.far w) c
+  spec_maps refs w there =
+      let source = spec.source in
+      record {
+        ends = record { near = source.text; far = c.destination };
+        has = record { positive = spec.positive; near = source.has; far = refl; no_object = λ bytes kind. lacks_no_pattern source.text p t kind.0 source.split };
+        one = named_some (IsPaired (Takes refs) (record { near = source.text; far = c.destination }) (p ++ (w ++ t)) (spec.far w)) refs (p ++ (w ++ t)) there (λ item named. record {
+          word = Some w;
+          name = named;
+          takes = record { matches = record { kind = pattern p t; of = source.split; is = named }; first = λ m kind. absurd (lacks_no_pattern source.text p t kind.1 source.split) };
+          becomes = spec.fills w;
+        });
+      }
+
+  -- and nothing else
+  pub spec_made : (refs : List Ref) (n : List ℕ) (d : Option (List ℕ)) → MakesForward refs (name n) d c → (w : List ℕ) × (n ≡ p ++ (w ++ t)) × (d ≡ spec.far w) × HasName refs n
+  spec_made refs n d makes =
+      let (w, some, fits) = word_of c refs n d makes p t spec.source in (
+        w,
+        fits,
+        destination_once c (Some w) d (spec.far w) (subst (λ e. IsFilled e (Some w) d) (sym makes.has.far) (subst (λ v. IsFilled makes.ends.far v d) some makes.one.4.becomes)) (spec.fills w),
+        some_named (IsPaired (Takes refs) makes.ends n d) refs n (λ i one. one.name) makes.one,
+      )
 
 -- ---- what two patterns map
 
 -- the source of a spec with a destination pattern, and the word
 pub record MapsPattern (c : Reading) (a b : List ℕ) (s : Source) (n : List ℕ) : Type 0 where
   pub positive : IsPositive c.mode
-  pub text : List ℕ
-  pub has : c.source ≡ Some text
   pub before : List ℕ
   pub after : List ℕ
-  pub split : IsSplit before after text
+  pub side : HasSourcePattern c before after
   pub word : List ℕ
   pub source : s ≡ name (before ++ (word ++ after))
   pub fits : Fits a b n word
 
-pub word_there : (before after : List ℕ) (r : Ref) (word : Option (List ℕ)) → MatchesAs (pattern before after) r word → (w : List ℕ) × (word ≡ Some w) × Fits before after r.name w
-word_there before after r None holds = absurd holds
-word_there before after r (Some w) holds = (w, refl, holds)
-
 module _ (c : Reading) (accepted : ∥ IsAccepted c ∥₁) (d a b : List ℕ) (has : c.destination ≡ Some d) (split : IsSplit a b d) where
-  starred : ¬ (Lacks star d)
-  starred lacks = lacks_no_pattern d a b lacks split
-
   source_pattern : (x : List ℕ) → c.source ≡ Some x → HasOneStar x
   source_pattern x source = elim ((sides_agree c accepted).both x d source has) [
     | inl (one, other) ↦ one
-    | inr (one, other) ↦ absurd (starred other)
+    | inr (one, other) ↦ absurd (lacks_no_pattern d a b other split)
   ]
 
-  filled_is : (far : Option (List ℕ)) (w n : List ℕ) → far ≡ Some d → IsFilled far (Some w) (Some n) → Fits a b n w
-  filled_is None w n is filled = absurd (cc (is))
-  filled_is (Some x) w n is (kind, of, filled) =
-      let same : x ≡ d = cc in
-      let kinds : kind ≡ pattern a b = one_kind d kind (pattern a b) (subst (λ y. HasKind y kind) same of) split in
-      by_kind kind kinds filled
-    where
-      by_kind : (k : SideKind) → k ≡ pattern a b → Some n ≡ Some (Rattle.gix_refspec_text.specs.Matching.Side.filled k (Some w)) → Fits a b n w
-      by_kind k kinds filled = same_Some _ _ (filled ∙ ap (λ k. Some (Rattle.gix_refspec_text.specs.Matching.Side.filled k (Some w))) kinds)
+  -- the destination gets the word
+  becomes : (p t : List ℕ) (spec : PatternSpec c p t) (w : List ℕ) → spec.far w ≡ Some (a ++ (w ++ b))
+  becomes p t spec w = destination_once c (Some w) (spec.far w) (Some (a ++ (w ++ b))) (spec.fills w) (subst (λ e. IsFilled e (Some w) (Some (a ++ (w ++ b)))) (sym has) (pattern a b, split, refl))
 
   pub maps_pattern : (refs : List Ref) (s : Source) (n : List ℕ) → MakesForward refs s (Some n) c → MapsPattern c a b s n
   maps_pattern refs (id bytes) n makes =
       let one = source_pattern makes.text makes.side in
       absurd (lacks_no_pattern makes.text one.0 one.1 makes.object.0 one.2)
   maps_pattern refs (name m) n makes =
-      let (k, item, below, is, paired) = makes.one in
       let one = source_pattern makes.ends.near makes.has.near in
-      let (w, some, fits) = word_there one.0 one.1 item paired.word (matches_as makes.ends.near (pattern one.0 one.1) item paired.word one.2 paired.takes.matches) in
-      record {
-        positive = makes.has.positive;
-        text = makes.ends.near;
-        has = makes.has.near;
-        before = one.0;
-        after = one.1;
-        split = one.2;
-        word = w;
-        source = ap name (sym paired.name ∙ fits);
-        fits = filled_is makes.ends.far w n (sym makes.has.far ∙ has) (subst (λ v. IsFilled makes.ends.far v (Some n)) some paired.becomes);
-      }
+      let side : HasSourcePattern c one.0 one.1 = record { text = makes.ends.near; has = makes.has.near; split = one.2 } in
+      let spec = pattern_spec c one.0 one.1 accepted makes.has.positive side in
+      let (w, source, far, there) = spec_made c one.0 one.1 spec refs m (Some n) makes in
+      record { positive = makes.has.positive; before = one.0; after = one.1; side = side; word = w; source = ap name source; fits = same_Some _ _ (far ∙ becomes one.0 one.1 spec w) }
 
   -- and with any word it maps the ref with that word, if there is one
-  pub pattern_maps : (refs : List Ref) (x p t w : List ℕ) → IsPositive c.mode → c.source ≡ Some x → IsSplit p t x → HasName refs (p ++ (w ++ t)) → MakesForward refs (name (p ++ (w ++ t))) (Some (a ++ (w ++ b))) c
-  pattern_maps refs x p t w positive source parts there = record {
-    ends = record { near = x; far = Some d };
-    has = record { positive = positive; near = source; far = has; no_object = λ bytes kind. lacks_no_pattern x p t kind.0 parts };
-    one = named_some (IsPaired (Takes refs) (record { near = x; far = Some d }) (p ++ (w ++ t)) (Some (a ++ (w ++ b)))) refs (p ++ (w ++ t)) there (λ item named. record {
-      word = Some w;
-      name = named;
-      takes = record {
-        matches = record { kind = pattern p t; of = parts; is = named };
-        first = λ m kind. absurd (lacks_no_pattern x p t kind.1 parts);
-      };
-      becomes = (pattern a b, split, refl);
-    });
-  }
+  pub pattern_maps : (refs : List Ref) (p t w : List ℕ) → IsPositive c.mode → HasSourcePattern c p t → HasName refs (p ++ (w ++ t)) → MakesForward refs (name (p ++ (w ++ t))) (Some (a ++ (w ++ b))) c
+  pattern_maps refs p t w positive source there =
+      let spec = pattern_spec c p t accepted positive source in
+      subst (λ e. MakesForward refs (name (p ++ (w ++ t))) e c) (becomes p t spec w) (spec_maps c p t spec refs w there)
 
 -- ---- with the free byte in place of a word
-
-pub at_index : {X : Type 0} (P : X → Type 0) (xs : List X) (k : ℕ) (x : X) → AllByRecursion P xs → slice_get xs k ≡ Some x → P x
-at_index P [] k x all is = absurd (cc (is))
-at_index P (y ∷ xs) zero x all is = subst P (same_Some _ _ is) all.0
-at_index P (y ∷ xs) (suc k) x all is = at_index P xs k x all.1 is
-
-pub listed_at : {X : Type 0} (P : X → Type 0) (xs : List X) (x : X) → AllByRecursion P xs → Contains xs x → P x
-listed_at P [] x all (k, below, is) = absurd (omega (arith, below))
-listed_at P (y ∷ xs) x all (zero, below, is) = subst P is all.0
-listed_at P (y ∷ xs) x all (suc k, below, is) = listed_at P xs x all.1 (k, omega (arith, below), is)
-
-lacks_in : (z : ℕ) (side : Option (List ℕ)) (x : List ℕ) → side ≡ Some x → LacksIn z side → Lacks z x
-lacks_in z None x is lacks = absurd (cc (is))
-lacks_in z (Some y) x is lacks = subst (Lacks z) (same_Some _ _ is) lacks
 
 pub regroup : (p x e z y t : List ℕ) → p ++ ((x ++ ((e ++ z) ++ y)) ++ t) ≡ ((p ++ x) ++ e) ++ (z ++ (y ++ t))
 regroup p x e z y t = simp append_assoc
@@ -115,7 +149,7 @@ module _ (g : List Reading) (z : ℕ) (free : IsFree g z) where
   pub lacks_ending : (e : List ℕ) → Contains endings e → Lacks z e
   lacks_ending e listed =
       let all = lacks_refs z free.usable in
-      listed_at (Lacks z) endings e
+      of_element (Lacks z) endings e
       (tt, (all_right (λ c. c ≢ z) (codes "refs") (codes "/") all, (all_right (λ c. c ≢ z) (codes "ref") (codes "s/") all, (all_right (λ c. c ≢ z) (codes "re") (codes "fs/") all, (all_right (λ c. c ≢ z) (codes "r") (codes "efs/") all, (all, tt))))))
       listed
 
@@ -130,13 +164,13 @@ module _ (g : List Reading) (z : ℕ) (free : IsFree g z) where
       (all_left (λ c. c ≢ z) before (star ∷ after) sides, (all_right (λ c. c ≢ z) before (star ∷ after) sides).1)
 
   pub lacks_source : (k : ℕ) (r c : Reading) (x : List ℕ) → slice_get g k ≡ Some r → IsCompleted r c → c.source ≡ Some x → Lacks z x
-  lacks_source k r c x at done has = lacks_in z r.source x (sym done.source ∙ has) (at_index (SidesLack z) g k r free.lacks at).0
+  lacks_source k r c x at done has = lacks_in z free.usable r.source x (sym done.source ∙ has) (at_index (SidesLack z) g k r free.lacks at).0
 
   pub lacks_destination : (k : ℕ) (r c : Reading) (d a b : List ℕ) → slice_get g k ≡ Some r → IsCompleted r c → c.destination ≡ Some d → IsSplit a b d → Lacks z d
   lacks_destination k r c d a b at done has split =
       let (x, was, shape) = completed_destination r.destination c.destination d done.destination has in
       elim shape [
-        | inl (one, same) ↦ lacks_in z r.destination d (was ∙ ap Some same) (at_index (SidesLack z) g k r free.lacks at).1
+        | inl (one, same) ↦ lacks_in z free.usable r.destination d (was ∙ ap Some same) (at_index (SidesLack z) g k r free.lacks at).1
         | inr (lacks, same) ↦ absurd (lacks_no_pattern d a b (subst (Lacks star) same (written_lacks x lacks)) split)
       ]
 
@@ -161,16 +195,9 @@ module _ (g : List Reading) (z : ℕ) (free : IsFree g z) where
         let same : mapped_so.before ++ ((x ++ ((e ++ z ∷ []) ++ y)) ++ mapped_so.after) ≡ moved_source x e y = regroup mapped_so.before x e (z ∷ []) y mapped_so.after in
         record {
           maps = record {
-            maps = record {
-              reading = f.maps.maps.reading;
-              at = f.maps.maps.at;
-              completed = f.maps.maps.completed;
-              is = f.maps.maps.is;
-              makes = subst (λ o. MakesForward few (name (moved_source x e y)) (Some o) f.maps.maps.completed) (sym is)
-                  (subst (λ o. MakesForward few (name o) (Some (a ++ ((x ++ ((e ++ z ∷ []) ++ y)) ++ b))) f.maps.maps.completed) same
-                  (pattern_maps f.maps.maps.completed accepted d a b has split few mapped_so.text mapped_so.before mapped_so.after (x ++ ((e ++ z ∷ []) ++ y)) mapped_so.positive mapped_so.has mapped_so.split
-                  (subst (HasName few) (sym same) there)));
-            };
+            maps = maps_as f.maps.maps (subst (λ o. MakesForward few (name (moved_source x e y)) (Some o) f.maps.maps.completed) (sym is)
+                (subst (λ o. MakesForward few (name o) (Some (a ++ ((x ++ ((e ++ z ∷ []) ++ y)) ++ b))) f.maps.maps.completed) same
+                (pattern_maps f.maps.maps.completed accepted d a b has split few mapped_so.before mapped_so.after (x ++ ((e ++ z ∷ []) ++ y)) mapped_so.positive mapped_so.side (subst (HasName few) (sym same) there))));
             source = inl (ref_moved ((mapped_so.before ++ x) ++ e) rest (y ++ mapped_so.after) begins valid);
             destination = written;
           };
@@ -179,8 +206,8 @@ module _ (g : List Reading) (z : ℕ) (free : IsFree g z) where
 
     pub lacks_front : (x e : List ℕ) → Lacks z x → Contains endings e → Lacks z ((mapped_so.before ++ x) ++ e)
     lacks_front x e lacks listed =
-        let text = lacks_source k f.maps.maps.reading f.maps.maps.completed mapped_so.text f.maps.maps.at f.maps.maps.is mapped_so.has in
-        all_join (λ c. c ≢ z) (mapped_so.before ++ x) e (all_join (λ c. c ≢ z) mapped_so.before x (lacks_parts mapped_so.text mapped_so.before mapped_so.after text mapped_so.split).0 lacks) (lacks_ending e listed)
+        let text = lacks_source k f.maps.maps.reading f.maps.maps.completed mapped_so.side.text f.maps.maps.at f.maps.maps.is mapped_so.side.has in
+        all_join (λ c. c ≢ z) (mapped_so.before ++ x) e (all_join (λ c. c ≢ z) mapped_so.before x (lacks_parts mapped_so.side.text mapped_so.before mapped_so.after text mapped_so.side.split).0 lacks) (lacks_ending e listed)
 
     pub lacks_sides : Lacks z a × Lacks z b
     lacks_sides = lacks_parts d a b (lacks_destination k f.maps.maps.reading f.maps.maps.completed d a b f.maps.maps.at f.maps.maps.is has split) split
@@ -201,12 +228,6 @@ lacks_longer z a c prefix one other (inr is) = subst (Lacks z) (sym is) other
 
 grouped : (p e m s : List ℕ) → p ++ ((e ++ m) ++ s) ≡ (p ++ e) ++ (m ++ s)
 grouped p e m s = simp append_assoc
-
-has_left : (n m : List ℕ) → HasName (refs_of (name n) ++ refs_of (name m)) n
-has_left n m = inl refl
-
-has_right : (n m : List ℕ) → HasName (refs_of (name n) ++ refs_of (name m)) m
-has_right n m = inr (inl refl)
 
 module _ (g : List Reading) (z : ℕ) (free : IsFree g z) (i j : ℕ) (refs : List Ref) (s t : Source) (n : List ℕ) (c : ConflictOver g refs i j s t n)
     (accepted : ∥ IsAccepted c.one.maps.maps.completed ∥₁) (d a b : List ℕ) (has : c.one.maps.maps.completed.destination ≡ Some d) (split : IsSplit a b d)
@@ -281,8 +302,8 @@ module _ (g : List Reading) (z : ℕ) (free : IsFree g z) (i j : ℕ) (refs : Li
       one = name first;
       other = name second;
       conflict = record {
-        one = fetches_moved g z free refs i s n c.one accepted d a b has split few w.x ending.ending ending.rest w.y m one_word_is ending.begin.0 written (whole a w.x w.y b w.before w.after) (has_left first second);
-        other = fetches_moved g z free refs j t n c.other also e p q also_has also_split few w.p ending.ending ending.rest w.q m other_word_is ending.begin.1.0 written (whole p w.p w.q q w.front w.back) (has_right first second);
+        one = fetches_moved g z free refs i s n c.one accepted d a b has split few w.x ending.ending ending.rest w.y m one_word_is ending.begin.0 written (whole a w.x w.y b w.before w.after) (inl refl);
+        other = fetches_moved g z free refs j t n c.other also e p q also_has also_split few w.p ending.ending ending.rest w.q m other_word_is ending.begin.1.0 written (whole p w.p w.q q w.front w.back) (inr (inl refl));
         differ = λ same. c.differ (apart same);
       };
     }

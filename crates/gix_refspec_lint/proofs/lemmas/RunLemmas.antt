@@ -1,16 +1,12 @@
 -- Overlaps that come to nothing for one reason.
 use Rattle.gix_refspec_lint.proofs.Common.{◌≡◌, ◌≢◌, ◌⊎◌, inl, inr, ℕ, zero, suc, ◌+◌, ◌<◌, ◌≤◌, List, [], ◌∷◌, ◌++◌, drop, length, take, append_assoc, append-nil, length-append, refl, sym, ap, ◌∙◌}
-use Rattle.gix_refspec_lint.proofs.Common.{subst, arith, nil_from_length, EndsWith, upto, IsOverlap, power, IsFirstOf, IsNextOf, IsRun, Run, Why, Unknown}
-use Rattle.gix_refspec_lint.proofs.lemmas.NameAtLemmas.{ends_either}
+use Rattle.gix_refspec_lint.proofs.Common.{subst, arith, nil_from_length, EndsWith, upto, IsOverlap, power, IsFirstOf, IsNextOf, IsRun, Run, Why, Unknown, take-append-drop, length-take-le}
+use Rattle.gix_refspec_lint.proofs.Common.{take-append-le, drop-append-le, get_or, AllByRecursion, take_more, all_join, ◌-◌, length-drop, Contains, Contains-append_left, Contains-push, IsBorder}
+use Rattle.gix_refspec_lint.proofs.Common.{take-take, of_element, Contains-get_or, Contains-push_cases, IsDeciding, AreOverlaps}
+use Rattle.gix_refspec_lint.proofs.lemmas.ByteLemmas.{ends_either, ends_within}
 use Rattle.gix_refspec_lint.proofs.lemmas.RepeatLemmas.{power_long}
-use Rattle.gix_refspec_lint.proofs.lemmas.WordLemmas.{drop_front, take_front}
 
 -- ---- texts
-
-halves : (k : ℕ) (x : List ℕ) → k ≤ length x → (x ≡ take k x ++ drop k x) × (length (take k x) ≡ k)
-halves zero x below = (refl, refl)
-halves (suc k) [] below = absurd (omega (arith, below))
-halves (suc k) (b ∷ x) below = let (whole, size) = halves k x (omega (arith, below)) in (ap (λ y. b ∷ y) whole, ap suc size)
 
 -- texts of one length that a text ends with are the same
 same_end : (x y n : List ℕ) → EndsWith x n → EndsWith y n → length x ≡ length y → x ≡ y
@@ -32,15 +28,14 @@ module _ (Holds : Why → List ℕ → Type 0) (prefix suffix : List ℕ) where
   -- one that begins with an overlap
   pub run_first : (k : ℕ) (why : Why) (run : Run) → k ≤ length suffix → EndsWith (take k suffix) prefix → Holds why (prefix ++ drop k suffix) → IsFirstOf k why run → IsRun Holds prefix suffix run
   run_first k why run within ends holds is =
-      let (whole, size) = halves k suffix within in
       record {
         front = take k suffix;
         word = 0 ∷ [];
         times = 0;
         rest = drop k suffix;
-        whole = whole;
+        whole = sym (take-append-drop k suffix);
         some = λ none. cc;
-        shortest = size ∙ sym is.shortest;
+        shortest = length-take-le k suffix within ∙ sym is.shortest;
         longest = omega (arith, is.shortest, is.longest);
         ends = ends;
         equal = λ over. absurd (omega (arith, over));
@@ -63,10 +58,10 @@ module _ (Holds : Why → List ℕ → Type 0) (prefix suffix : List ℕ) where
     more = drop k is.front
 
     parts : is.front ≡ front ++ more
-    parts = (halves k is.front under).0
+    parts = sym (take-append-drop k is.front)
 
     size : length front ≡ k
-    size = (halves k is.front under).1
+    size = length-take-le k is.front under
 
     more_size : k + length more ≡ run.shortest
     more_size = let whole = ap length parts ∙ length-append front more in omega (arith, whole, size, is.shortest)
@@ -75,10 +70,10 @@ module _ (Holds : Why → List ℕ → Type 0) (prefix suffix : List ℕ) where
     whole = is.whole ∙ ap (λ x. x ++ (power is.word is.times ++ is.rest)) parts ∙ append_assoc front more (power is.word is.times ++ is.rest)
 
     left : drop k suffix ≡ more ++ (power is.word is.times ++ is.rest)
-    left = ap (drop k) whole ∙ subst (λ j. drop j (front ++ (more ++ (power is.word is.times ++ is.rest))) ≡ more ++ (power is.word is.times ++ is.rest)) size (drop_front front (more ++ (power is.word is.times ++ is.rest)))
+    left = ap (drop k) is.whole ∙ drop-append-le k is.front (power is.word is.times ++ is.rest) under
 
     front_ends : EndsWith front prefix
-    front_ends = subst (λ x. EndsWith x prefix) (ap (take k) whole ∙ subst (λ j. take j (front ++ (more ++ (power is.word is.times ++ is.rest))) ≡ front) size (take_front front (more ++ (power is.word is.times ++ is.rest)))) overlap.ends
+    front_ends = subst (λ x. EndsWith x prefix) (ap (take k) is.whole ∙ take-append-le k is.front (power is.word is.times ++ is.rest) under) overlap.ends
 
     more_ends : EndsWith more prefix
     more_ends = end_of_end more is.front prefix (record { before = front; here = parts }) is.ends
@@ -174,3 +169,125 @@ module _ (Holds : Why → List ℕ → Type 0) (prefix suffix : List ℕ) where
   pub run_goes : Goes Holds → (run : Run) → IsRun Holds prefix suffix run → (k : ℕ) → IsOverlap prefix suffix k → (why : Why) → why ≡ run.why → why ≢ Unknown → run.shortest + 5 ≤ run.longest → k + run.step ≡ run.shortest → Holds why (prefix ++ drop k suffix)
   run_goes law run is k overlap why same known long step =
       subst (λ w. Holds w (prefix ++ drop k suffix)) (sym same) (goes run is k overlap (omega (arith, step)) law (λ unknown. known (same ∙ unknown)) long step)
+
+-- ---- overlaps one after another, in which there is nothing
+
+-- P holds of the names of these overlaps, and the run goes on with the last of them
+pub record AreSoFar (P : List ℕ → Type 0) (Holds : Why → List ℕ → Type 0) (prefix suffix list : List ℕ) (run : Run) : Type 0 where
+  pub all : AllByRecursion (λ k. P (prefix ++ drop k suffix)) list
+  pub goes : IsRun Holds prefix suffix run
+
+module _ (P : List ℕ → Type 0) (Holds : Why → List ℕ → Type 0) (prefix suffix : List ℕ) (most : ℕ) (list : List ℕ) (are : AreOverlaps prefix suffix most list) (i : ℕ) (run : Run)
+    (so_far : AreSoFar P Holds prefix suffix (take i list) run) (below : i < length list) where
+  abbrev k : ℕ
+  k = get_or list i 0
+
+  overlap : IsOverlap prefix suffix k
+  overlap = of_element (IsOverlap prefix suffix) list k are.each (Contains-get_or list i 0 below)
+
+  -- one more of which P holds
+  pub one_more : (why : Why) (new : Run) → P (prefix ++ drop k suffix) → Holds why (prefix ++ drop k suffix) → IsFirstOf k why new ⊎ IsNextOf run k why new → AreSoFar P Holds prefix suffix (take (i + 1) list) new
+  one_more why new holds reason next = record {
+    all = subst (AllByRecursion (λ j. P (prefix ++ drop j suffix))) (sym (take_more list i 0 below)) (all_join (λ j. P (prefix ++ drop j suffix)) (take i list) (k ∷ []) so_far.all (holds, tt));
+    goes = run_with Holds prefix suffix run so_far.goes k overlap why new reason next;
+  }
+
+  -- one more of which nobody asks
+  pub passed_over : Goes Holds → ((why : Why) (n : List ℕ) → why ≢ Unknown → Holds why n → P n) → (why : Why) (new : Run)
+      → (why ≡ run.why) × (why ≢ Unknown) × (run.shortest + 5 ≤ run.longest) × (k + run.step ≡ run.shortest) → IsFirstOf k why new ⊎ IsNextOf run k why new → AreSoFar P Holds prefix suffix (take (i + 1) list) new
+  passed_over law nothing why new (same, known, long, step) next =
+      let reason = run_goes Holds prefix suffix law run so_far.goes k overlap why same known long step in
+      one_more why new (nothing why (prefix ++ drop k suffix) known reason) reason next
+
+pub none_so_far : (P : List ℕ → Type 0) (Holds : Why → List ℕ → Type 0) (prefix suffix : List ℕ) (run : Run) → Holds Unknown (prefix ++ suffix) → IsFirstOf 0 Unknown run → AreSoFar P Holds prefix suffix [] run
+none_so_far P Holds prefix suffix run holds first = record {
+  all = tt;
+  goes = run_first Holds prefix suffix 0 Unknown run (omega arith) (record { before = prefix; here = sym (append-nil prefix) }) holds first;
+}
+
+-- ---- the borders of the first bytes of one text followed by the last of another are the overlaps of both
+
+-- ---- texts
+
+ends_behind : (x a b : List ℕ) → EndsWith x b → EndsWith x (a ++ b)
+ends_behind x a b ends = record { before = a ++ ends.before; here = ap (λ z. a ++ z) ends.here ∙ sym (append_assoc a ends.before x) }
+
+take_within : (k most : ℕ) (x y : List ℕ) → k ≤ most → most ≤ length x → take k (take most x ++ y) ≡ take k x
+take_within k most x y below within = take-append-le k (take most x) y (omega (arith, below, length-take-le most x within)) ∙ take-take k most x below
+
+-- ---- overlaps
+
+module _ (prefix suffix text : List ℕ) (most : ℕ) (in_prefix : most ≤ length prefix) (in_suffix : most ≤ length suffix) (is : text ≡ take most suffix ++ drop (length prefix - most) prefix) where
+  abbrev end : List ℕ
+  end = drop (length prefix - most) prefix
+
+  end_size : length end ≡ most
+  end_size = omega (arith, length-drop (length prefix - most) prefix, in_prefix)
+
+  first : (k : ℕ) → k ≤ most → take k text ≡ take k suffix
+  first k below = ap (take k) is ∙ take_within k most suffix end below in_suffix
+
+  first_size : (k : ℕ) → k ≤ most → length (take k suffix) ≡ k
+  first_size k below = length-take-le k suffix (omega (arith, below, in_suffix))
+
+  pub shared_of : (k : ℕ) → k ≤ most → IsBorder text k → IsOverlap prefix suffix k
+  shared_of k below border = record {
+    some = border.some;
+    within = omega (arith, below, in_suffix);
+    ends = subst (EndsWith (take k suffix)) (take-append-drop (length prefix - most) prefix)
+        (ends_behind (take k suffix) (take (length prefix - most) prefix) end
+        (ends_within (take k suffix) (take most suffix) end (omega (arith, first_size k below, end_size, below)) (subst (EndsWith (take k suffix)) is (subst (λ x. EndsWith x text) (first k below) border.same))));
+  }
+
+  pub border_of : (k : ℕ) → k ≤ most → IsOverlap prefix suffix k → IsBorder text k
+  border_of k below overlap =
+      let sizes : length text ≡ length (take most suffix) + length end = ap length is ∙ length-append (take most suffix) end in
+      record {
+        some = overlap.some;
+        shorter = omega (arith, sizes, end_size, length-take-le most suffix in_suffix, below, overlap.some);
+        same = subst (λ x. EndsWith x text) (sym (first k below)) (subst (EndsWith (take k suffix)) (sym is)
+            (ends_behind (take k suffix) (take most suffix) end
+            (ends_within (take k suffix) (take (length prefix - most) prefix) end (omega (arith, first_size k below, end_size, below)) (subst (EndsWith (take k suffix)) (sym (take-append-drop (length prefix - most) prefix)) overlap.ends))));
+      }
+
+-- those of a list that are at most so many
+pub record AreUpTo (prefix suffix : List ℕ) (most : ℕ) (list found : List ℕ) : Type 0 where
+  pub each : AllByRecursion (IsOverlap prefix suffix) found
+  pub all : (k : ℕ) → Contains list k → k ≤ most → Contains found k
+
+pub held_at : (P : ℕ → Type 0) (list : List ℕ) (i : ℕ) → AllByRecursion P list → i < length list → P (get_or list i 0)
+held_at P list i all below = of_element P list (get_or list i 0) all (Contains-get_or list i 0 below)
+
+module _ (prefix suffix : List ℕ) (most : ℕ) (list found : List ℕ) (i k : ℕ) (below : i < length list) (at : k ≡ get_or list i k) (so_far : AreUpTo prefix suffix most (take i list) found) where
+  last_or_before : (j : ℕ) → Contains (take (i + 1) list) j → Contains (take i list ++ k ∷ []) j
+  last_or_before j there = subst (λ l. Contains l j) (take_more list i k below ∙ ap (λ x. take i list ++ x ∷ []) (sym at)) there
+
+  pub one_listed : IsOverlap prefix suffix k → AreUpTo prefix suffix most (take (i + 1) list) (found ++ k ∷ [])
+  one_listed overlap = record {
+    each = all_join (IsOverlap prefix suffix) found (k ∷ []) so_far.each (overlap, tt);
+    all = λ j there few. by_place j few (Contains-push_cases (take i list) k j (last_or_before j there));
+  }
+    where
+      by_place : (j : ℕ) → j ≤ most → Contains (take i list) j ⊎ (k ≡ j) → Contains (found ++ k ∷ []) j
+      by_place j few (inl earlier) = Contains-append_left found (k ∷ []) j (so_far.all j earlier few)
+      by_place j few (inr same) = subst (Contains (found ++ k ∷ [])) same (Contains-push found k)
+
+  pub one_left_out : most < k → AreUpTo prefix suffix most (take (i + 1) list) found
+  one_left_out over = record { each = so_far.each; all = λ j there few. by_place j few (Contains-push_cases (take i list) k j (last_or_before j there)) }
+    where
+      by_place : (j : ℕ) → j ≤ most → Contains (take i list) j ⊎ (k ≡ j) → Contains found j
+      by_place j few (inl earlier) = so_far.all j earlier few
+      by_place j few (inr same) = absurd (omega (arith, over, few, same))
+
+-- ---- what holds at the names that decide
+
+-- with each word, and in each overlap
+pub each_deciding : (P : List ℕ → Type 0) (words : List (List ℕ)) (prefix suffix : List ℕ) (most : ℕ) → AllByRecursion (λ w. P (prefix ++ (w ++ suffix))) words
+    → ((k : ℕ) → k ≤ most → IsOverlap prefix suffix k → P (prefix ++ drop k suffix)) → (n : List ℕ) → IsDeciding words prefix suffix most n → P n
+each_deciding P words prefix suffix most by_word overlapping n (inl (w, there, is)) = subst P (sym is) (of_element (λ w. P (prefix ++ (w ++ suffix))) words w by_word there)
+each_deciding P words prefix suffix most by_word overlapping n (inr (k, below, overlap, is)) = subst P (sym is) (overlapping k below overlap)
+
+-- in each of the overlaps that are listed
+pub each_overlap : (P : List ℕ → Type 0) (prefix suffix : List ℕ) (most : ℕ) (list : List ℕ) → AreOverlaps prefix suffix most list → AllByRecursion (λ k. P (prefix ++ drop k suffix)) list
+    → (k : ℕ) → k ≤ most → IsOverlap prefix suffix k → P (prefix ++ drop k suffix)
+each_overlap P prefix suffix most list are all k below overlap = of_element (λ k. P (prefix ++ drop k suffix)) list k all (are.all k below overlap)

@@ -1,8 +1,8 @@
 -- The sources from which a spec can write a destination.
-use Rattle.gix_refspec_lint.proofs.Common.{◌≡◌, inl, inr, ℕ, zero, suc, List, [], ◌∷◌, ◌++◌, codes, Option, None, Some, map, length, refl, sym, ap, ◌∙◌, subst, arith, Contains, same_Some, Matches}
+use Rattle.gix_refspec_lint.proofs.Common.{◌≡◌, inl, inr, ℕ, zero, List, [], ◌∷◌, ◌++◌, codes, Option, None, Some, map, length, refl, sym, ap, ◌∙◌, subst, arith, Contains, same_Some, Matches}
 use Rattle.gix_refspec_lint.proofs.Common.{MatchesAs, Ref, SideKind, pattern, full_name, object, partial, HasKind, Fits, candidates, filled, IsAccepted, Reading, star, HasStar, IsSplit, BeginsWith}
 use Rattle.gix_refspec_lint.proofs.Common.{Lacks, lacks_no_pattern, one_word, IsFilled, Source, name, id, start_of, matches_as, one_kind, MakesForward, sides_agree, IsCompleted, HasParts}
-use Rattle.gix_refspec_lint.proofs.Common.{completed_destination, far_there, written_below, candidate_contained}
+use Rattle.gix_refspec_lint.proofs.Common.{completed_destination, far_there, written_below, candidate_contained, HasSourcePattern, mapped_there}
 use Rattle.gix_refspec_text.proofs.lemmas.texts.TextLemmas.{Lacks-ContainsText}
 use Rattle.gix_refspec_match.specs.declared.types.SourceRef.{SourceRef}
 use Rattle.gix_refspec_lint.proofs.lemmas.PatternLemmas.{maps_pattern}
@@ -53,11 +53,6 @@ AreSourcesAs x (full_name n) sources = sources ≡ name x ∷ []
 AreSourcesAs x (object bytes) sources = sources ≡ id bytes ∷ []
 AreSourcesAs x (partial n) sources = sources ≡ map name (candidates n)
 
-contained_name : (l : List (List ℕ)) (n : List ℕ) → Contains l n → Contains (map name l) (name n)
-contained_name [] n (k, below, is) = absurd (omega (arith, below))
-contained_name (m ∷ l) n (zero, below, is) = (zero, omega arith, ap name is)
-contained_name (m ∷ l) n (suc k, below, is) = let (j, inside, at) = contained_name l n (k, omega (arith, below), is) in (suc j, omega (arith, inside), at)
-
 module _ (r : Reading) (x : List ℕ) (source : r.source ≡ Some x) (refs : List Ref) (d : Option (List ℕ)) where
   object_there : (kind : SideKind) (bytes : List ℕ) → HasKind x kind → MakesForward refs (id bytes) d r → kind ≡ object bytes
   object_there kind bytes of makes = one_kind x kind (object bytes) of (subst (λ y. HasKind y (object bytes)) (same_Some _ _ (sym makes.side ∙ source)) makes.object)
@@ -74,7 +69,7 @@ module _ (r : Reading) (x : List ℕ) (source : r.source ≡ Some x) (refs : Lis
       by_kind (full_name m) of are item word named holds no_object = subst (λ l. Contains l (name n)) (sym are) (zero, omega arith, ap name (sym of.0 ∙ sym holds.1 ∙ named))
       by_kind (object bytes) of are item word named holds no_object = absurd (no_object bytes of)
       by_kind (partial m) of are item word named holds no_object =
-          subst (λ l. Contains l (name n)) (sym are) (contained_name (candidates m) n (subst (Contains (candidates m)) named (candidate_contained m item.name holds.1)))
+          subst (λ l. Contains l (name n)) (sym are) (mapped_there name (candidates m) n (subst (Contains (candidates m)) named (candidate_contained m item.name holds.1)))
 
   pub sources_there : (kind : SideKind) (sources : List Source) → HasKind x kind → ((before after : List ℕ) → ¬ (IsSplit before after x)) → AreSourcesAs x kind sources → (s : Source) → MakesForward refs s d r → Contains sources s
   sources_there kind sources of unsplit are (name n) makes = named_there kind n sources of unsplit are makes
@@ -101,18 +96,16 @@ none_contained x none (k, below, is) = let long = ap length none in omega (arith
 module _ (c : Reading) (accepted : ∥ IsAccepted c ∥₁) (d a b : List ℕ) (has : c.destination ≡ Some d) (split : IsSplit a b d) where
   -- a source without a star has none
   pub none_unsplit : HasParts c.source None → (refs : List Ref) (s : Source) (n : List ℕ) → ¬ (MakesForward refs s (Some n) c)
-  none_unsplit none refs s n makes = let m = maps_pattern c accepted d a b has split refs s n makes in none m.text m.before m.after m.has m.split
+  none_unsplit none refs s n makes = let m = maps_pattern c accepted d a b has split refs s n makes in none m.side.text m.before m.after m.side.has m.side.split
 
   -- a pattern has one by the word, if the destination fits
   pub none_fits : (n : List ℕ) → ((w : List ℕ) → ¬ (Fits a b n w)) → (refs : List Ref) (s : Source) → ¬ (MakesForward refs s (Some n) c)
   none_fits n none refs s makes = let m = maps_pattern c accepted d a b has split refs s n makes in none m.word m.fits
 
-  pub pattern_there : (x prefix suffix : List ℕ) → c.source ≡ Some x → IsSplit prefix suffix x → (n w : List ℕ) → Fits a b n w → (refs : List Ref) (s : Source) → MakesForward refs s (Some n) c → s ≡ name (prefix ++ (w ++ suffix))
-  pattern_there x prefix suffix source parts n w fits refs s makes =
+  pub pattern_there : (prefix suffix : List ℕ) → HasSourcePattern c prefix suffix → (n w : List ℕ) → Fits a b n w → (refs : List Ref) (s : Source) → MakesForward refs s (Some n) c → s ≡ name (prefix ++ (w ++ suffix))
+  pattern_there prefix suffix source n w fits refs s makes =
       let m = maps_pattern c accepted d a b has split refs s n makes in
-      let same : m.text ≡ x = same_Some _ _ (sym m.has ∙ source) in
-      let kinds : pattern m.before m.after ≡ pattern prefix suffix = one_kind x (pattern m.before m.after) (pattern prefix suffix) (subst (IsSplit m.before m.after) same m.split) parts in
-      let first : m.before ≡ prefix = cc (kinds) in
-      let last : m.after ≡ suffix = cc (kinds) in
+      let same : m.side.text ≡ source.text = same_Some _ _ (sym m.side.has ∙ source.has) in
+      let kinds : pattern m.before m.after ≡ pattern prefix suffix = one_kind source.text (pattern m.before m.after) (pattern prefix suffix) (subst (IsSplit m.before m.after) same m.side.split) source.split in
       let words : m.word ≡ w = one_word a b n m.word w m.fits fits in
-      m.source ∙ ap (λ p. name (p ++ (m.word ++ m.after))) first ∙ ap (λ v. name (prefix ++ (v ++ m.after))) words ∙ ap (λ t. name (prefix ++ (w ++ t))) last
+      cc (m.source)

@@ -1,12 +1,12 @@
 -- Why a spec does nothing with a source, beside refs that free earlier specs.
-use Rattle.gix_refspec_lint.proofs.Common.{◌≡◌, ℕ, ◌<◌, List, [], ◌∷◌, ◌++◌, Option, None, Some, length, map, get_or, refl, sym, ap, ◌∙◌, subst, AllByRecursion, AllZip, slice_get, map-append}
-use Rattle.gix_refspec_lint.proofs.Common.{same_Some, Ref, MatchesAs, SideKind, pattern, full_name, object, partial, HasKind, Fits, Reading, reading_of, RefSpecRef, one_word, all_join, IsFilled}
-use Rattle.gix_refspec_lint.proofs.Common.{Source, name, id, IsExcludedBy, IsSourceExcluded, matches_as, HaveSameNames, MakesForward, IsRefName, IsValidSource, IsCompleted, ref_named, AreValid, Maps}
-use Rattle.gix_refspec_lint.proofs.Common.{MapsSoundly, refs_of, AreFreeing, Explains, IsAtWork, IsShown, MakesSoundly, refs_with}
+use Rattle.gix_refspec_lint.proofs.Common.{◌≡◌, ℕ, ◌<◌, List, [], ◌∷◌, ◌++◌, Option, None, Some, map, refl, sym, ap, ◌∙◌, subst, AllByRecursion, AllZip, slice_get, map-append, same_Some, Ref}
+use Rattle.gix_refspec_lint.proofs.Common.{MatchesAs, SideKind, pattern, full_name, object, partial, HasKind, Fits, Reading, one_word, all_join, IsFilled, Source, name, id, IsExcludedBy}
+use Rattle.gix_refspec_lint.proofs.Common.{IsSourceExcluded, matches_as, HaveSameNames, MakesForward, IsRefName, IsValidSource, IsCompleted, ref_named, AreValid, Maps, MapsSoundly, refs_of}
+use Rattle.gix_refspec_lint.proofs.Common.{AreFreeing, Explains, IsAtWork, IsShown, MakesSoundly, refs_with}
 use Rattle.gix_refspec_lint.specs.declared.Reason.TheVariants as reason
-use Rattle.gix_refspec_lint.proofs.lemmas.DecideLemmas.{destination_once}
-use Rattle.gix_refspec_lint.proofs.lemmas.FoundLemmas.{makes_also, maps_of, of_maps}
-use Rattle.gix_refspec_lint.proofs.lemmas.OneSpecLemmas.{excluded_at}
+use Rattle.gix_refspec_lint.proofs.lemmas.FoundLemmas.{makes_also}
+use Rattle.gix_refspec_lint.proofs.lemmas.PatternLemmas.{destination_once}
+use Rattle.gix_refspec_lint.proofs.lemmas.IndexLemmas.{maps_of, of_maps, excluded_at, maps_as}
 
 -- ---- one destination
 
@@ -37,7 +37,7 @@ one_far A B (name n) d e c one other =
 -- ---- refs with the same names
 
 maps_also : (g : List Reading) (A B : List Ref) (k : ℕ) (s : Source) (d : Option (List ℕ)) → HaveSameNames A B → Maps g A k s d → Maps g B k s d
-maps_also g A B k s d same m = record { reading = m.reading; at = m.at; completed = m.completed; is = m.is; makes = makes_also A B s d m.completed same m.makes }
+maps_also g A B k s d same m = maps_as m (makes_also A B s d m.completed same m.makes)
 
 named_valid : (names : List (List ℕ)) → AllByRecursion IsRefName names → AreValid (map ref_named names)
 named_valid [] all = tt
@@ -47,24 +47,24 @@ own_valid : (s : Source) → IsValidSource s → AreValid (refs_of s)
 own_valid (name n) valid = (valid, tt)
 own_valid (id bytes) valid = tt
 
-module _ (g : List Reading) (cs : List RefSpecRef) (all : AllZip IsCompleted g (map reading_of cs)) (k : ℕ) (x : RefSpecRef) (below : k < length cs) (is : x ≡ get_or cs k x)
+module _ (g cs : List Reading) (all : AllZip IsCompleted g cs) (k : ℕ) (c : Reading) (here : slice_get cs k ≡ Some c)
     (s : Source) (names : List (List ℕ)) (freeing : AreFreeing g k s names) (items : List Ref) (same : HaveSameNames items (refs_with s names)) where
   abbrev refs : List Ref
   refs = refs_with s names
 
   -- without a sound mapping there is none beside any refs
-  pub explains_invalid : ((d : Option (List ℕ)) → ¬ (MakesSoundly items s d (reading_of x))) → Explains g k s reason.Invalid
+  pub explains_invalid : ((d : Option (List ℕ)) → ¬ (MakesSoundly items s d c)) → Explains g k s reason.Invalid
   explains_invalid none = λ others d m.
       let kept = freeing.keeps others d m.maps in
       none d (record {
-        makes = makes_also refs items s d (reading_of x) (sym same) (of_maps g cs all k x below is refs s d kept);
+        makes = makes_also refs items s d c (sym same) (of_maps g cs all k c here refs s d kept);
         source = m.source;
         destination = m.destination;
       })
 
-  module _ (e : Option (List ℕ)) (makes : MakesSoundly items s e (reading_of x)) where
+  module _ (e : Option (List ℕ)) (makes : MakesSoundly items s e c) where
     maps : MapsSoundly g refs k s e
-    maps = record { maps = maps_of g cs all k x below is refs s e (makes_also items refs s e (reading_of x) same makes.makes); source = makes.source; destination = makes.destination }
+    maps = record { maps = maps_of g cs all k c here refs s e (makes_also items refs s e c same makes.makes); source = makes.source; destination = makes.destination }
 
     valid : AreValid refs
     valid = all_join (λ (r : Ref). IsRefName r.name) (refs_of s) (map ref_named names) (own_valid s makes.source) (named_valid names freeing.valid)
@@ -90,7 +90,7 @@ module _ (g : List Reading) (cs : List RefSpecRef) (all : AllZip IsCompleted g (
       shows_duplicate h before m =
           let also = maps_also g items refs h s e same m in (
             (λ others d fine f.
-                let one : d ≡ e = one_far others items s d e (reading_of x) (of_maps g cs all k x below is others s d f.maps.maps) makes.makes in
+                let one : d ≡ e = one_far others items s d e c (of_maps g cs all k c here others s d f.maps.maps) makes.makes in
                 (h, before, subst (Maps g others h s) (sym one) (freeing.frees others h d e fine f.maps.maps before also))),
             record { refs = refs; valid = valid; source = s; destination = e; fetches = record { maps = maps; included = included }; before = before; maps = also },
           )

@@ -1,7 +1,8 @@
 -- Which words decide what a star may match.
 use Rattle.gix_refspec_lint.proofs.Common.{◌≡◌, ◌⊎◌, inl, inr, ℕ, ◌+◌, ◌≤◌, List, [], ◌∷◌, ◌++◌, codes, drop, length, map, take, append_assoc, append-nil, length-append, refl, sym, ap, ◌∙◌, subst}
 use Rattle.gix_refspec_lint.proofs.Common.{arith, AllByRecursion, Contains, Fits, head, BeginsWith, EndsWith, one_word, IsRefName, IsDeciding, IsLongerPrefix, IsLongerSuffix, IsMost, endings, parts}
-use Rattle.gix_refspec_lint.proofs.lemmas.ByteLemmas.{parted}
+use Rattle.gix_refspec_lint.proofs.Common.{all_weaker, take_at, drop_at}
+use Rattle.gix_refspec_lint.proofs.lemmas.ByteLemmas.{parted, fits_begins, fits_ends}
 
 -- ---- the parts of a text
 
@@ -72,10 +73,6 @@ IsRefAround v t = IsRefName (t.front ++ (v ++ t.back))
 begins_later : (a e m : List ℕ) → BeginsWith (codes "refs/") (a ++ e) → BeginsWith (codes "refs/") (a ++ (e ++ m))
 begins_later a e m begins = record { after = begins.after ++ m; here = sym (append_assoc a e m) ∙ ap (λ x. x ++ m) begins.here ∙ append_assoc (codes "refs/") begins.after m }
 
-all_later : (e m : List ℕ) (fronts : List (List ℕ)) → AllByRecursion (λ a. BeginsWith (codes "refs/") (a ++ e)) fronts → AllByRecursion (λ a. BeginsWith (codes "refs/") (a ++ (e ++ m))) fronts
-all_later e m [] all = tt
-all_later e m (a ∷ fronts) all = (begins_later a e m all.0, all_later e m fronts all.1)
-
 one_ending : (v a b : List ℕ) → IsRefName (a ++ (v ++ b)) → Contains parts v ⊎ HasEnding v (a ∷ [])
 one_ending v a b (inr is) = inl (part_of (Contains parts) head a v b head_parts (sym is))
 one_ending v a b (inl (begins, named)) = elim (parted a (v ++ b) (codes "refs/") begins.after begins.here) [
@@ -112,7 +109,7 @@ both_endings v a fronts one others = elim (parted one.ending one.rest others.end
     rest = one.rest;
     is = one.is;
     listed = one.listed;
-    begin = (one.begin.0, subst (λ e. AllByRecursion (λ x. BeginsWith (codes "refs/") (x ++ e)) fronts) (sym longer) (all_later others.ending m fronts others.begin));
+    begin = (one.begin.0, subst (λ e. AllByRecursion (λ x. BeginsWith (codes "refs/") (x ++ e)) fronts) (sym longer) (all_weaker (λ x. BeginsWith (codes "refs/") (x ++ others.ending)) (λ x. BeginsWith (codes "refs/") (x ++ (others.ending ++ m))) (λ x. begins_later x others.ending m) fronts others.begin));
   }
 ]
 
@@ -151,22 +148,6 @@ between a x m y b = simp append_assoc
 word_is : (a b prefix suffix n v m x y : List ℕ) → Fits a b n v → n ≡ prefix ++ (m ++ suffix) → prefix ≡ a ++ x → suffix ≡ y ++ b → v ≡ x ++ (m ++ y)
 word_is a b prefix suffix n v m x y fits whole front back = one_word a b n v (x ++ (m ++ y)) fits (whole ∙ ap (λ z. z ++ (m ++ suffix)) front ∙ ap (λ z. (a ++ x) ++ (m ++ z)) back ∙ between a x m y b)
 
-begins_common : (a b c d prefix n v w : List ℕ) → (prefix ≡ a) ⊎ (prefix ≡ c) → Fits a b n v → Fits c d n w → BeginsWith prefix n
-begins_common a b c d prefix n v w (inl is) one other = record { after = v ++ b; here = one ∙ ap (λ x. x ++ (v ++ b)) (sym is) }
-begins_common a b c d prefix n v w (inr is) one other = record { after = w ++ d; here = other ∙ ap (λ x. x ++ (w ++ d)) (sym is) }
-
-ends_common : (a b c d suffix n v w : List ℕ) → (suffix ≡ b) ⊎ (suffix ≡ d) → Fits a b n v → Fits c d n w → EndsWith suffix n
-ends_common a b c d suffix n v w (inl is) one other = record { before = a ++ v; here = one ∙ sym (append_assoc a v b) ∙ ap (λ x. (a ++ v) ++ x) (sym is) }
-ends_common a b c d suffix n v w (inr is) one other = record { before = c ++ w; here = other ∙ sym (append_assoc c w d) ∙ ap (λ x. (c ++ w) ++ x) (sym is) }
-
-pub take_front : (m x : List ℕ) → take (length m) (m ++ x) ≡ m
-take_front [] x = refl
-take_front (b ∷ m) x = ap (λ y. b ∷ y) (take_front m x)
-
-pub drop_front : (m x : List ℕ) → drop (length m) (m ++ x) ≡ x
-drop_front [] x = refl
-drop_front (b ∷ m) x = drop_front m x
-
 -- such a name is parted, or it decides itself
 pub common_name : (words : List (List ℕ)) (a b c d prefix suffix : List ℕ) (most : ℕ) (n v w : List ℕ) → IsLongerPrefix a c prefix → IsLongerSuffix b d suffix → IsMost a b c d prefix suffix most → Fits a b n v → Fits c d n w
     → IsParted a b c d prefix suffix n v w ⊎ IsDeciding words prefix suffix most n
@@ -176,10 +157,10 @@ common_name words a b c d prefix suffix most n v w longer ends is_most one other
 ]
   where
     starts : BeginsWith prefix n
-    starts = begins_common a b c d prefix n v w longer.is one other
+    starts = elim longer.is [ inl is ↦ subst (λ x. BeginsWith x n) (sym is) (fits_begins a b n v one) | inr is ↦ subst (λ x. BeginsWith x n) (sym is) (fits_begins c d n w other) ]
 
     stops : EndsWith suffix n
-    stops = ends_common a b c d suffix n v w ends.is one other
+    stops = elim ends.is [ inl is ↦ subst (λ x. EndsWith x n) (sym is) (fits_ends a b n v one) | inr is ↦ subst (λ x. EndsWith x n) (sym is) (fits_ends c d n w other) ]
 
     at : (m : List ℕ) → n ≡ prefix ++ (m ++ suffix) → IsParted a b c d prefix suffix n v w
     at m whole = record {
@@ -199,9 +180,7 @@ common_name words a b c d prefix suffix most n v w longer ends is_most one other
 
     -- a name that fits is long enough
     long : (x y u : List ℕ) → Fits x y n u → length x + length y ≤ length prefix + length starts.after
-    long x y u fits =
-        let sizes : length prefix + length starts.after ≡ length x + (length u + length y) = sym (length-append prefix starts.after) ∙ ap length (sym starts.here ∙ fits) ∙ length-append x (u ++ y) ∙ ap (λ k. length x + k) (length-append u y) in
-        omega (arith, sizes)
+    long x y u fits = omega (arith, length-append prefix starts.after, ap length (sym starts.here ∙ fits), length-append x (u ++ y), length-append u y)
 
     overlapping : (m : List ℕ) → prefix ≡ stops.before ++ m → suffix ≡ m ++ starts.after → IsParted a b c d prefix suffix n v w ⊎ IsDeciding words prefix suffix most n
     overlapping [] further rest = inl (at [] (starts.here ∙ ap (λ x. prefix ++ x) (sym rest)))
@@ -215,7 +194,7 @@ common_name words a b c d prefix suffix most n v w longer ends is_most one other
           record {
             some = omega arith;
             within = omega (arith, in_suffix);
-            ends = record { before = stops.before; here = further ∙ ap (λ x. stops.before ++ x) (sym (ap (take k) rest ∙ take_front (byte ∷ m) starts.after)) };
+            ends = record { before = stops.before; here = further ∙ ap (λ x. stops.before ++ x) (sym (ap (take k) rest ∙ take_at (byte ∷ m) starts.after k refl)) };
           },
-          starts.here ∙ ap (λ x. prefix ++ x) (sym (ap (drop k) rest ∙ drop_front (byte ∷ m) starts.after)),
+          starts.here ∙ ap (λ x. prefix ++ x) (sym (ap (drop k) rest ∙ drop_at (byte ∷ m) starts.after k refl)),
         ))

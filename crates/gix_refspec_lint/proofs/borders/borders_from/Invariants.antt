@@ -1,5 +1,5 @@
 -- the borders longer than `len` are listed
-use Rattle.gix_refspec_lint.proofs.lemmas.ChainLemmas.{AreLonger}
+use Rattle.gix_refspec_lint.proofs.lemmas.BorderLemmas.{AreLonger}
 use Rattle.gix_refspec_lint.proofs.borders.borders_from.Given as goal
 
 abbrev pub invariant-loop-len : goal.invariant-loop-len

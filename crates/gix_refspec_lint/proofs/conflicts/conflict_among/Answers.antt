@@ -1,6 +1,6 @@
 -- Without a conflict at the names that decide there is none.
 use Rattle.gix_refspec_lint.proofs.Common.{◌++◌, List, ℕ, map, subst, take_all, arith, AllByRecursion, IfOk-weaker, bstring_bytes, one_more_mapped, NoneAt}
-use Rattle.gix_refspec_lint.proofs.lemmas.AmongLemmas.{among_found}
+use Rattle.gix_refspec_lint.proofs.lemmas.FoundLemmas.{among_found}
 use Rattle.gix_refspec_lint.proofs.conflicts.conflict_among.Goals as goal
 
 pub loop-word-init : goal.loop-word-init

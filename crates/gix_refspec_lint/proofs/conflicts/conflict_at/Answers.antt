@@ -1,22 +1,17 @@
 -- The sources of the two specs, each with each.
-use Rattle.gix_refspec_lint.proofs.Common.{◌≡◌, ◌<◌, [], get_or, length, map, take_all, refl, sym, ap, ◌∙◌, arith, AllByRecursion, eqb-true, false≢true, nil_from_length, bstr_bytes, one_more_mapped}
-use Rattle.gix_refspec_lint.proofs.Common.{start_of}
-use Rattle.gix_refspec_lint.proofs.lemmas.FoundAtLemmas.{NoConflict, copied_example, none_of_all}
-use Rattle.gix_refspec_lint.proofs.lemmas.SourceLemmas.{none_contained}
-use Rattle.gix_refspec_lint.proofs.lemmas.SpecLemmas.{completed_of, first_source, second_source}
+use Rattle.gix_refspec_lint.proofs.Common.{◌≡◌, [], map, take_all, refl, sym, ap, ◌∙◌, arith, AllByRecursion, eqb-true, false≢true, nil_from_length, bstr_bytes, one_more_mapped, start_of, length, ◌<◌}
 use Rattle.gix_refspec.proofs.lemmas.validate.ConflictLemmas.{copied_source}
+use Rattle.gix_refspec_lint.proofs.lemmas.FoundLemmas.{NoConflict, copied_example, none_of_all, completed_of, first_source, second_source}
+use Rattle.gix_refspec_lint.proofs.lemmas.SourceLemmas.{none_contained}
 use Rattle.gix_refspec_lint.proofs.conflicts.conflict_at.Goals as goal
 
 pub returns-then-is_empty : goal.returns-then-is_empty
 returns-then-is_empty c g is s t k =
-    let cs = c.args.group.now.specs.now in
     let others = c.in_ok-others.others in
     let empty : others.items ≡ [] = nil_from_length others.items (omega (arith, eqb-true _ 0 (sym c.if-is_empty.ensures), others.ok.0, others.ok.1)) in
-    let y = get_or cs c.args.second c.index-group-second.result in
-    let y_is = ap (get_or cs c.args.second) c.index-group-second.is in
-    let d = bstr_bytes c.args.destination in
-    let (r, done) = completed_of g c.args.group.now is c.args.second y c.requires.1 y_is in
-    none_contained t (ap (map start_of) empty) (second_source g c.args.group.now is c.args.first c.args.second y c.requires.1 y_is d (map start_of others.items) (rw c.as_bytes.ensures at (c.in_ok-others.ensures r done)) s t k)
+    let (r, done) = completed_of g c.args.group.now is c.args.second c.index-group-second.result c.requires.1 in
+    none_contained t (ap (map start_of) empty)
+    (second_source g c.args.group.now is c.args.first c.args.second c.index-group-second.result c.requires.1 (bstr_bytes c.args.destination) (map start_of others.items) (rw c.as_bytes.ensures at (c.in_ok-others.ensures r done)) s t k)
 
 pub returns-then-branch : goal.returns-then-branch
 returns-then-branch c g is =
@@ -38,20 +33,15 @@ loop-one-preserved c g is =
 
 pub returns : goal.returns
 returns c g is =
-    let cs = c.args.group.now.specs.now in
-    let x = get_or cs c.args.first c.index-group-first.result in
-    let x_is = ap (get_or cs c.args.first) c.index-group-first.is in
-    let y = get_or cs c.args.second c.index-group-second.result in
-    let y_is = ap (get_or cs c.args.second) c.index-group-second.is in
+    let below : c.args.first < length c.args.group.now.specs.now = omega (arith, c.requires.0, c.requires.1) in
     let d = bstr_bytes c.args.destination in
-    let below : c.args.first < length cs = omega (arith, c.requires.0, c.requires.1) in
-    let (r, done) = completed_of g c.args.group.now is c.args.second y c.requires.1 y_is in
-    let (q, made) = completed_of g c.args.group.now is c.args.first x below x_is in
+    let (q, made) = completed_of g c.args.group.now is c.args.first c.index-group-first.result below in
+    let (r, done) = completed_of g c.args.group.now is c.args.second c.index-group-second.result c.requires.1 in
     let ones = map start_of c.in_ok-ones.ones.items in
     let others = map start_of c.in_ok-others.others.items in
     none_of_all g c.args.first c.args.second d ones others
     (rw (take_all c.loop-one.one-index c.deref-one-items.result.now (omega arith), c.deref-one-items.ensures.value) at (c.loop-one.invariant g is))
     (λ s t k. (
-      first_source g c.args.group.now is c.args.first c.args.second x below x_is d ones (rw c.as_bytes-2.ensures at (c.in_ok-ones.ensures q made)) s t k,
-      second_source g c.args.group.now is c.args.first c.args.second y c.requires.1 y_is d others (rw c.as_bytes.ensures at (c.in_ok-others.ensures r done)) s t k,
+      first_source g c.args.group.now is c.args.first c.args.second c.index-group-first.result below d ones (rw c.as_bytes-2.ensures at (c.in_ok-ones.ensures q made)) s t k,
+      second_source g c.args.group.now is c.args.first c.args.second c.index-group-second.result c.requires.1 d others (rw c.as_bytes.ensures at (c.in_ok-others.ensures r done)) s t k,
     ))

@@ -1,99 +1,48 @@
 -- By the destinations of the two specs: one without a star is the only one, and two patterns share the names that decide.
-use Rattle.gix_refspec_lint.proofs.Common.{◌<◌, Some, get_or, length, not, option_map, sym, ap, ◌∙◌, arith, pointwise_decides, false≢true, Decides-eqb, IfOk-weaker, bstr_bytes, example_of}
-use Rattle.gix_refspec_lint.proofs.lemmas.SpecLemmas.{first_plain, first_without, have_common, names_differ, none_alike, none_apart, parts_at, second_plain, second_without}
+use Rattle.gix_refspec_lint.proofs.Common.{not, option_map, sym, ap, ◌∙◌, arith, pointwise_decides, false≢true, Decides-eqb, IfOk-weaker, bstr_bytes, example_of}
+use Rattle.gix_refspec_lint.proofs.lemmas.FoundLemmas.{first_plain, first_without, have_common, names_differ, none_alike, none_apart, second_plain, second_without}
 use Rattle.gix_refspec_lint.proofs.conflicts.conflict_between.Goals as goal
 
 pub returns-in_default : goal.returns-in_default
-returns-in_default c g is have =
-    let cs = c.args.group.now.specs.now in
-    let x = get_or cs c.args.first c.index-group-first.result in
-    first_without g c.args.group.now is c.args.first c.args.second x (omega (arith, c.requires.0, c.requires.1)) (ap (get_or cs c.args.first) c.index-group-first.is) (sym c.destination.ensures ∙ ap (option_map bstr_bytes) c.in_default.is)
+returns-in_default c g is have = first_without g c.args.group.now is c.args.first c.args.second c.index-group-first.result (omega (arith, c.requires.0, c.requires.1)) (sym c.destination.ensures ∙ ap (option_map bstr_bytes) c.in_default.is)
 
 pub returns-in_default-destination : goal.returns-in_default-destination
-returns-in_default-destination c g is have =
-    let cs = c.args.group.now.specs.now in
-    let y = get_or cs c.args.second c.index-group-second.result in
-    second_without g c.args.group.now is c.args.first c.args.second y c.requires.1 (ap (get_or cs c.args.second) c.index-group-second.is) (sym c.destination-2.ensures ∙ ap (option_map bstr_bytes) c.in_default-destination.is)
+returns-in_default-destination c g is have = second_without g c.args.group.now is c.args.first c.args.second c.index-group-second.result c.requires.1 (sym c.destination-2.ensures ∙ ap (option_map bstr_bytes) c.in_default-destination.is)
 
 pub returns-then-ne : goal.returns-then-ne
 returns-then-ne c g is have =
-    let cs = c.args.group.now.specs.now in
-    let x = get_or cs c.args.first c.index-group-first.result in
-    let x_is = ap (get_or cs c.args.first) c.index-group-first.is in
-    let y = get_or cs c.args.second c.index-group-second.result in
-    let y_is = ap (get_or cs c.args.second) c.index-group-second.is in
-    let below : c.args.first < length cs = omega (arith, c.requires.0, c.requires.1) in
-    names_differ g c.args.group.now is c.args.first c.args.second x y below x_is c.requires.1 y_is (bstr_bytes c.in-Some.one_name) (bstr_bytes c.in-Some-destination.other_name)
-    (sym c.destination.ensures ∙ ap (option_map bstr_bytes) c.in-Some.is) (parts_at cs c.args.parts.now c.args.first x _ have below x_is c.in-None-None.is-0)
-    (sym c.destination-2.ensures ∙ ap (option_map bstr_bytes) c.in-Some-destination.is) (parts_at cs c.args.parts.now c.args.second y _ have c.requires.1 y_is c.in-None-None.is-1)
+    names_differ g c.args.group.now is c.args.parts.now have c.args.first c.args.second c.index-group-first.result c.index-group-second.result (omega (arith, c.requires.0, c.requires.1)) c.requires.1
+    c.in-None-None.is-0 c.in-None-None.is-1 (bstr_bytes c.in-Some.one_name) (bstr_bytes c.in-Some-destination.other_name)
+    (sym c.destination.ensures ∙ ap (option_map bstr_bytes) c.in-Some.is) (sym c.destination-2.ensures ∙ ap (option_map bstr_bytes) c.in-Some-destination.is)
     (λ same. false≢true (sym (c.ne.ensures ∙ ap not ((pointwise_decides Decides-eqb (bstr_bytes c.in-Some.one_name) (bstr_bytes c.in-Some-destination.other_name)).1 same)) ∙ c.if-ne.true))
 
 pub returns-else-ne : goal.returns-else-ne
 returns-else-ne c g is have =
-    let cs = c.args.group.now.specs.now in
-    let x = get_or cs c.args.first c.index-group-first.result in
-    let x_is = ap (get_or cs c.args.first) c.index-group-first.is in
-    let below : c.args.first < length cs = omega (arith, c.requires.0, c.requires.1) in
-    IfOk-weaker c.conflict_at.result _ _
-    (λ found shown. first_plain g c.args.group.now is c.args.first c.args.second x below x_is (bstr_bytes c.in-Some.one_name) (option_map example_of found)
-    (sym c.destination.ensures ∙ ap (option_map bstr_bytes) c.in-Some.is) (parts_at cs c.args.parts.now c.args.first x _ have below x_is c.in-None-None.is-0) shown)
-    (c.conflict_at.ensures g is)
+    IfOk-weaker c.conflict_at.result _ _ (λ found. first_plain g c.args.group.now is c.args.first c.args.second c.index-group-first.result (omega (arith, c.requires.0, c.requires.1)) c.args.parts.now have
+    c.in-None-None.is-0 (bstr_bytes c.in-Some.one_name) (option_map example_of found) (sym c.destination.ensures ∙ ap (option_map bstr_bytes) c.in-Some.is)) (c.conflict_at.ensures g is)
 
 pub returns-in-None-Some : goal.returns-in-None-Some
 returns-in-None-Some c g is have =
-    let cs = c.args.group.now.specs.now in
-    let x = get_or cs c.args.first c.index-group-first.result in
-    let x_is = ap (get_or cs c.args.first) c.index-group-first.is in
-    let below : c.args.first < length cs = omega (arith, c.requires.0, c.requires.1) in
-    IfOk-weaker c.conflict_at-in-None-Some.result _ _
-    (λ found shown. first_plain g c.args.group.now is c.args.first c.args.second x below x_is (bstr_bytes c.in-Some.one_name) (option_map example_of found)
-    (sym c.destination.ensures ∙ ap (option_map bstr_bytes) c.in-Some.is) (parts_at cs c.args.parts.now c.args.first x _ have below x_is c.in-None-Some.is-0) shown)
-    (c.conflict_at-in-None-Some.ensures g is)
+    IfOk-weaker c.conflict_at-in-None-Some.result _ _ (λ found. first_plain g c.args.group.now is c.args.first c.args.second c.index-group-first.result (omega (arith, c.requires.0, c.requires.1)) c.args.parts.now have
+    c.in-None-Some.is-0 (bstr_bytes c.in-Some.one_name) (option_map example_of found) (sym c.destination.ensures ∙ ap (option_map bstr_bytes) c.in-Some.is)) (c.conflict_at-in-None-Some.ensures g is)
 
 pub returns-in-Some-None : goal.returns-in-Some-None
 returns-in-Some-None c g is have =
-    let cs = c.args.group.now.specs.now in
-    let y = get_or cs c.args.second c.index-group-second.result in
-    let y_is = ap (get_or cs c.args.second) c.index-group-second.is in
-    IfOk-weaker c.conflict_at-in-Some-None.result _ _
-    (λ found shown. second_plain g c.args.group.now is c.args.first c.args.second y c.requires.1 y_is (bstr_bytes c.in-Some-destination.other_name) (option_map example_of found)
-    (sym c.destination-2.ensures ∙ ap (option_map bstr_bytes) c.in-Some-destination.is) (parts_at cs c.args.parts.now c.args.second y _ have c.requires.1 y_is c.in-Some-None.is-1) shown)
-    (c.conflict_at-in-Some-None.ensures g is)
+    IfOk-weaker c.conflict_at-in-Some-None.result _ _ (λ found. second_plain g c.args.group.now is c.args.first c.args.second c.index-group-second.result c.requires.1 c.args.parts.now have
+    c.in-Some-None.is-1 (bstr_bytes c.in-Some-destination.other_name) (option_map example_of found) (sym c.destination-2.ensures ∙ ap (option_map bstr_bytes) c.in-Some-destination.is)) (c.conflict_at-in-Some-None.ensures g is)
 
 pub returns-in-None : goal.returns-in-None
 returns-in-None c g is have =
-    let cs = c.args.group.now.specs.now in
-    let x = get_or cs c.args.first c.index-group-first.result in
-    let x_is = ap (get_or cs c.args.first) c.index-group-first.is in
-    let y = get_or cs c.args.second c.index-group-second.result in
-    let y_is = ap (get_or cs c.args.second) c.index-group-second.is in
-    let below : c.args.first < length cs = omega (arith, c.requires.0, c.requires.1) in
-    none_apart g c.args.group.now is c.args.first c.args.second x y below x_is c.requires.1 y_is c.in-Some-Some.one_parts c.in-Some-Some.other_parts
-    (parts_at cs c.args.parts.now c.args.first x (Some c.in-Some-Some.one_parts) have below x_is c.in-Some-Some.is-0)
-    (parts_at cs c.args.parts.now c.args.second y (Some c.in-Some-Some.other_parts) have c.requires.1 y_is c.in-Some-Some.is-1) c.in-None.ensures
+    none_apart g c.args.group.now is c.args.parts.now have c.args.first c.args.second c.index-group-first.result c.index-group-second.result (omega (arith, c.requires.0, c.requires.1)) c.requires.1
+    c.in-Some-Some.one_parts c.in-Some-Some.other_parts c.in-Some-Some.is-0 c.in-Some-Some.is-1 c.in-None.ensures
 
 pub returns-then-have_same_sides : goal.returns-then-have_same_sides
 returns-then-have_same_sides c g is have =
-    let cs = c.args.group.now.specs.now in
-    let x = get_or cs c.args.first c.index-group-first-in-Some-of.result in
-    let x_is = ap (get_or cs c.args.first) c.index-group-first-in-Some-of.is in
-    let y = get_or cs c.args.second c.index-group-second-in-Some-of.result in
-    let y_is = ap (get_or cs c.args.second) c.index-group-second-in-Some-of.is in
-    let below : c.args.first < length cs = omega (arith, c.requires.0, c.requires.1) in
     let same = c.have_same_sides.ensures c.if-have_same_sides.true in
-    none_alike g c.args.group.now is c.args.first c.args.second x y below x_is c.requires.1 y_is c.in-Some-Some.one_parts c.in-Some-Some.other_parts
-    (parts_at cs c.args.parts.now c.args.first x (Some c.in-Some-Some.one_parts) have below x_is c.in-Some-Some.is-0)
-    (parts_at cs c.args.parts.now c.args.second y (Some c.in-Some-Some.other_parts) have c.requires.1 y_is c.in-Some-Some.is-1) same.0 same.1
+    none_alike g c.args.group.now is c.args.parts.now have c.args.first c.args.second c.index-group-first-in-Some-of.result c.index-group-second-in-Some-of.result (omega (arith, c.requires.0, c.requires.1)) c.requires.1
+    c.in-Some-Some.one_parts c.in-Some-Some.other_parts c.in-Some-Some.is-0 c.in-Some-Some.is-1 same.0 same.1
 
 pub returns-else-have_same_sides : goal.returns-else-have_same_sides
 returns-else-have_same_sides c g is have =
-    let cs = c.args.group.now.specs.now in
-    let x = get_or cs c.args.first c.index-group-first.result in
-    let x_is = ap (get_or cs c.args.first) c.index-group-first.is in
-    let y = get_or cs c.args.second c.index-group-second.result in
-    let y_is = ap (get_or cs c.args.second) c.index-group-second.is in
-    let below : c.args.first < length cs = omega (arith, c.requires.0, c.requires.1) in
-    c.conflict_among.ensures g is
-    (have_common g c.args.group.now is c.args.first c.args.second x y below x_is c.requires.1 y_is c.in-Some-Some.one_parts c.in-Some-Some.other_parts
-    (parts_at cs c.args.parts.now c.args.first x (Some c.in-Some-Some.one_parts) have below x_is c.in-Some-Some.is-0)
-    (parts_at cs c.args.parts.now c.args.second y (Some c.in-Some-Some.other_parts) have c.requires.1 y_is c.in-Some-Some.is-1) c.in-Some-of.common c.in-Some-of.ensures)
+    c.conflict_among.ensures g is (have_common g c.args.group.now is c.args.parts.now have c.args.first c.args.second c.index-group-first.result c.index-group-second.result (omega (arith, c.requires.0, c.requires.1)) c.requires.1
+    c.in-Some-Some.one_parts c.in-Some-Some.other_parts c.in-Some-Some.is-0 c.in-Some-Some.is-1 c.in-Some-of.common c.in-Some-of.ensures)

@@ -1,6 +1,6 @@
 -- A conflict, or why there is none.
 use Rattle.gix_refspec_lint.proofs.Common.{◌<◌, ◌≡◌, get_or, length, sym, ◌∙◌, subst, arith, same_Some, bstr_bytes, reading_of, Fails}
-use Rattle.gix_refspec_lint.proofs.lemmas.PreferredLemmas.{reading_at}
+use Rattle.gix_refspec_lint.proofs.lemmas.IndexLemmas.{reading_at}
 use Rattle.gix_refspec_lint.proofs.conflicts.conflict_or_why.Goals as goal
 
 pub returns-in-Some : goal.returns-in-Some

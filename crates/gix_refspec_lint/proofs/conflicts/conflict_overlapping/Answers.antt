@@ -1,10 +1,8 @@
 -- One more overlap, which is tried or passed over.
-use Rattle.gix_refspec_lint.proofs.Common.{get_or, take_all, arith, NoneAt, AreOverlaps, IsOverlap, Fails}
-use Rattle.gix_refspec_lint.proofs.lemmas.DecidingLemmas.{each_overlap}
+use Rattle.gix_refspec_lint.proofs.Common.{take_all, arith, NoneAt, AreOverlaps, Fails}
+use Rattle.gix_refspec_lint.proofs.lemmas.RunLemmas.{each_overlap, AreSoFar, none_so_far, one_more, passed_over}
 use Rattle.gix_refspec_lint.proofs.lemmas.FailLemmas.{fails_again}
 use Rattle.gix_refspec_lint.proofs.lemmas.NothingLemmas.{fails_none}
-use Rattle.gix_refspec_lint.proofs.lemmas.OverlapLemmas.{AreSoFar, none_so_far, one_more, passed_over}
-use Rattle.gix_refspec_lint.proofs.lemmas.SharedLemmas.{at_same, held_at}
 use Rattle.gix_refspec_lint.proofs.conflicts.conflict_overlapping.Goals as goal
 use Rattle.gix_refspec_lint.proofs.conflicts.conflict_overlapping.Goals.{in-Some, in-None+in_ok-name-in-None+in_ok-conflict-in-None+in-Nothing}
 
@@ -16,23 +14,17 @@ returns-in-Conflict c g is have = rw c.in-Conflict.is at (c.in_ok-conflict-in-No
 
 pub loop-shared-preserved : goal.loop-shared-preserved
 loop-shared-preserved c g is have =
-    let prefix = c.args.common.now.prefix.now in
-    let suffix = c.args.common.now.suffix.now in
     let one = have.one.reading in
     let other = have.other.reading in
     let list = c.deref-shared-items.result.now in
-    let i = c.loop-shared.shared-index in
-    let below = c.loop-shared-test.true in
-    let are : AreOverlaps prefix suffix c.args.common.now.most list = rw c.deref-shared-items.ensures.value c.in_ok-overlaps.ensures in
-    let overlap = held_at (IsOverlap prefix suffix) list i are.each below in
+    let are : AreOverlaps c.args.common.now.prefix.now c.args.common.now.suffix.now c.args.common.now.most list = rw c.deref-shared-items.ensures.value c.in_ok-overlaps.ensures in
+    let so_far = c.loop-shared.invariant g is have in
     elim c.match-at.branch [
-      | in-Some w ↦ passed_over (NoneAt g c.args.first c.args.second) (Fails g one other) prefix suffix list i c.loop-shared.run (c.loop-shared.invariant g is have) (get_or list i 0) below (at_same list i below) overlap
-          (fails_again g one other) (λ why n known reason. fails_none g c.args.group.now is c.args.first c.args.second one other have.one.at have.other.at n why known reason)
-          c.match-at.why c.with-run.result (rw w.why-is (rw w.in-Some.is at c.at.ensures)) c.with-run.ensures
+      | in-Some w ↦ passed_over (NoneAt g c.args.first c.args.second) (Fails g one other) _ _ _ list are c.loop-shared.shared-index c.loop-shared.run so_far c.loop-shared-test.true (fails_again g one other)
+          (λ why n known reason. fails_none g c.args.group.now is c.args.first c.args.second one other have.one.at have.other.at n why known reason) c.match-at.why c.with-run.result (rw w.why-is (rw w.in-Some.is at c.at.ensures)) c.with-run.ensures
       | in-None+in_ok-name-in-None+in_ok-conflict-in-None+in-Nothing w ↦
           let told = rw (w.as_bstr.ensures, w.in_ok-name-in-None.ensures) at (rw w.in-Nothing.is at (w.in_ok-conflict-in-None.ensures g is one other have.one.at have.other.at)) in
-          one_more (NoneAt g c.args.first c.args.second) (Fails g one other) prefix suffix list i c.loop-shared.run (c.loop-shared.invariant g is have) (get_or list i 0) below (at_same list i below) overlap
-          c.match-at.why c.with-run.result told.0 (rw w.why-is told.1) c.with-run.ensures
+          one_more (NoneAt g c.args.first c.args.second) (Fails g one other) _ _ _ list are c.loop-shared.shared-index c.loop-shared.run so_far c.loop-shared-test.true c.match-at.why c.with-run.result told.0 (rw w.why-is told.1) c.with-run.ensures
     ]
 
 pub returns : goal.returns

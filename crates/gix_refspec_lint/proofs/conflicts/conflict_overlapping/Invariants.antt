@@ -1,6 +1,6 @@
 -- no conflict in the overlaps so far
 use Rattle.gix_refspec_lint.proofs.Common.{List, take, Reading, HaveCommon, IsGroupOf, NoneAt, Fails}
-use Rattle.gix_refspec_lint.proofs.lemmas.OverlapLemmas.{AreSoFar}
+use Rattle.gix_refspec_lint.proofs.lemmas.RunLemmas.{AreSoFar}
 use Rattle.gix_refspec_lint.proofs.conflicts.conflict_overlapping.Given as goal
 
 abbrev pub invariant-loop-shared : goal.invariant-loop-shared

@@ -1,6 +1,6 @@
 -- the conflicts of the specs so far
 use Rattle.gix_refspec_lint.proofs.Common.{List, map, take, Reading, IsJoinedFrom, IsGroupOf, example_of}
-use Rattle.gix_refspec_lint.proofs.lemmas.FoundAtLemmas.{AreOfFirst}
+use Rattle.gix_refspec_lint.proofs.lemmas.FoundLemmas.{AreOfFirst}
 use Rattle.gix_refspec_lint.proofs.conflicts.conflicts_in.Given as goal
 
 abbrev pub invariant-loop-first : goal.invariant-loop-first

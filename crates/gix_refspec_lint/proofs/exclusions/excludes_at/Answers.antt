@@ -1,6 +1,6 @@
 -- The source is excluded, and it is mapped or not.
 use Rattle.gix_refspec_lint.proofs.Common.{IfOk-weaker, reading_of, start_of}
-use Rattle.gix_refspec_lint.proofs.lemmas.SoundLemmas.{excludes_told}
+use Rattle.gix_refspec_lint.proofs.lemmas.OneSpecLemmas.{excludes_told}
 use Rattle.gix_refspec_lint.proofs.exclusions.excludes_at.Goals as goal
 
 pub returns : goal.returns

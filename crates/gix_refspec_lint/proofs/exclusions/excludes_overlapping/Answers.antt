@@ -1,10 +1,8 @@
 -- One more overlap, which is tried or passed over.
-use Rattle.gix_refspec_lint.proofs.Common.{ℕ, List, get_or, take_all, arith, MatchBool-at_false, reading_of, name, ExcludesFrom, AreOverlaps, IsOverlap, IsUnsound}
-use Rattle.gix_refspec_lint.proofs.lemmas.DecidingLemmas.{each_overlap}
+use Rattle.gix_refspec_lint.proofs.Common.{ℕ, List, take_all, arith, MatchBool-at_false, reading_of, name, ExcludesFrom, AreOverlaps, IsUnsound}
+use Rattle.gix_refspec_lint.proofs.lemmas.RunLemmas.{each_overlap, AreSoFar, none_so_far, one_more, passed_over}
 use Rattle.gix_refspec_lint.proofs.lemmas.FailLemmas.{unsound_again}
 use Rattle.gix_refspec_lint.proofs.lemmas.NothingLemmas.{unsound_none}
-use Rattle.gix_refspec_lint.proofs.lemmas.OverlapLemmas.{AreSoFar, none_so_far, one_more, passed_over}
-use Rattle.gix_refspec_lint.proofs.lemmas.SharedLemmas.{at_same, held_at}
 use Rattle.gix_refspec_lint.proofs.exclusions.excludes_overlapping.Goals as goal
 use Rattle.gix_refspec_lint.proofs.exclusions.excludes_overlapping.Goals.{in-Some, in-None+in_ok-name-in-None+in_ok-why-in-None+in_ok-excludes_at-in-None+else-branch}
 
@@ -16,22 +14,14 @@ loop-shared-preserved c =
     let negative = reading_of c.args.negative.now in
     let spec = reading_of c.args.spec.now in
     let P : List ℕ → Type 0 = λ n. ¬ (ExcludesFrom negative spec (name n)) in
-    let prefix = c.args.common.now.prefix.now in
-    let suffix = c.args.common.now.suffix.now in
     let list = c.deref-shared-items.result.now in
-    let i = c.loop-shared.shared-index in
-    let below = c.loop-shared-test.true in
-    let are : AreOverlaps prefix suffix c.args.common.now.most list = rw c.deref-shared-items.ensures.value c.in_ok-overlaps.ensures in
-    let overlap = held_at (IsOverlap prefix suffix) list i are.each below in
+    let are : AreOverlaps c.args.common.now.prefix.now c.args.common.now.suffix.now c.args.common.now.most list = rw c.deref-shared-items.ensures.value c.in_ok-overlaps.ensures in
     elim c.match-at.branch [
-      | in-Some w ↦ passed_over P (IsUnsound spec) prefix suffix list i c.loop-shared.run c.loop-shared.invariant (get_or list i 0) below (at_same list i below) overlap
-          (unsound_again spec) (λ why n known reason. unsound_none negative spec c.args.spec.now.accepted why n known reason)
-          c.match-at.why c.with-run.result (rw w.why-is (rw w.in-Some.is at c.at.ensures)) c.with-run.ensures
+      | in-Some w ↦ passed_over P (IsUnsound spec) _ _ _ list are c.loop-shared.shared-index c.loop-shared.run c.loop-shared.invariant c.loop-shared-test.true (unsound_again spec)
+          (λ why n known reason. unsound_none negative spec c.args.spec.now.accepted why n known reason) c.match-at.why c.with-run.result (rw w.why-is (rw w.in-Some.is at c.at.ensures)) c.with-run.ensures
       | in-None+in_ok-name-in-None+in_ok-why-in-None+in_ok-excludes_at-in-None+else-branch w ↦
-          one_more P (IsUnsound spec) prefix suffix list i c.loop-shared.run c.loop-shared.invariant (get_or list i 0) below (at_same list i below) overlap
-          c.match-at.why c.with-run.result
-          (rw (w.source_named.ensures, w.in_ok-name-in-None.ensures) at (MatchBool-at_false _ _ w.if-branch.false w.in_ok-excludes_at-in-None.ensures))
-          (rw w.why-is (rw w.in_ok-name-in-None.ensures at w.in_ok-why-in-None.ensures)) c.with-run.ensures
+          one_more P (IsUnsound spec) _ _ _ list are c.loop-shared.shared-index c.loop-shared.run c.loop-shared.invariant c.loop-shared-test.true c.match-at.why c.with-run.result
+          (rw (w.source_named.ensures, w.in_ok-name-in-None.ensures) at (MatchBool-at_false _ _ w.if-branch.false w.in_ok-excludes_at-in-None.ensures)) (rw w.why-is (rw w.in_ok-name-in-None.ensures at w.in_ok-why-in-None.ensures)) c.with-run.ensures
     ]
 
 pub returns : goal.returns

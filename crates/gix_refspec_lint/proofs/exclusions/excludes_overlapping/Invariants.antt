@@ -1,6 +1,6 @@
 -- nothing is excluded and mapped in the overlaps so far
 use Rattle.gix_refspec_lint.proofs.Common.{take, reading_of, name, ExcludesFrom, IsUnsound}
-use Rattle.gix_refspec_lint.proofs.lemmas.OverlapLemmas.{AreSoFar}
+use Rattle.gix_refspec_lint.proofs.lemmas.RunLemmas.{AreSoFar}
 use Rattle.gix_refspec_lint.proofs.exclusions.excludes_overlapping.Given as goal
 
 abbrev pub invariant-loop-shared : goal.invariant-loop-shared

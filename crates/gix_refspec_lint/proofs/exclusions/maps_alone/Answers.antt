@@ -1,6 +1,6 @@
 -- The items have the name of the source alone.
 use Rattle.gix_refspec_lint.proofs.Common.{reading_of, start_of, refs_of}
-use Rattle.gix_refspec_lint.proofs.lemmas.SoundLemmas.{alone_told}
+use Rattle.gix_refspec_lint.proofs.lemmas.OneSpecLemmas.{alone_told}
 use Rattle.gix_refspec_lint.proofs.exclusions.maps_alone.Goals as goal
 
 pub returns : goal.returns

@@ -4,7 +4,8 @@ use Rattle.gix_refspec_lint.proofs.Common.{accepted_few, name, start_of}
 use Rattle.gix_refspec_text.specs.Private.SideViews.{kind_of_side}
 use Rattle.gix_refspec_lint.proofs.lemmas.SourceLemmas.{AreSourcesAs, only_pushed, sources_there}
 use Rattle.gix_refspec_lint.proofs.group.named_sources.Goals as goal
-use Rattle.gix_refspec_lint.proofs.group.named_sources.Goals.{in-Pattern, in-FullName+in_ok-from_slice-in-FullName+in_ok-push-in-FullName, in-Object+in_ok-push-in-Object, in-Partial+in_ok-candidate-items-in-Partial+in-None}
+use Rattle.gix_refspec_lint.proofs.group.named_sources.Goals.{in-Pattern, in-FullName+in_ok-from_slice-in-FullName+in_ok-push-in-FullName, in-Object+in_ok-push-in-Object}
+use Rattle.gix_refspec_lint.proofs.group.named_sources.Goals.{in-Partial+in_ok-candidate-items-in-Partial+in-None}
 
 pub kind_of-requires : goal.kind_of-requires
 kind_of-requires c = rw c.as_bytes.ensures (accepted_few _ _ c.args.spec.now.accepted (inl (sym c.source.ensures ∙ ap (option_map bstr_bytes) c.in-Some.is)))

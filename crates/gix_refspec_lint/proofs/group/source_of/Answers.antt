@@ -12,5 +12,5 @@ parts_of-requires-2 c x is = accepted_few (reading_of c.args.spec.now) x c.args.
 pub returns-in-Some-Some : goal.returns-in-Some-Some
 returns-in-Some-Some c =
     IfOk-weaker c.with_its_word.result _ _
-    (source_told (reading_of c.args.spec.now) c.in-Some-Some.near c.in-Some-Some.far c.args.destination.now (rw c.source.ensures at c.in-Some-Some.ensures) (rw c.destination.ensures at c.in-Some-Some.ensures'))
+    (source_told (reading_of c.args.spec.now) c.in-Some-Some.near c.in-Some-Some.far (rw c.source.ensures at c.in-Some-Some.ensures) (rw c.destination.ensures at c.in-Some-Some.ensures') c.args.destination.now)
     c.with_its_word.ensures

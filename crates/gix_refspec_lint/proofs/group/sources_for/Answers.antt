@@ -47,6 +47,6 @@ returns c r done refs s makes =
           let (word, fits, made) = rw w.in-Some-2.is at c.in_ok-name.ensures in
           rw w.sources-is
           (has_one _ _ _ (only_pushed _ _ _ _ c.new-sources.ensures.items w.in_ok-push.ensures.items (w.source_named.ensures ∙ ap name made))
-          (pattern_there (reading_of c.args.spec.now) c.args.spec.now.accepted e _ _ has split x _ _ (sym c.source.ensures ∙ is) of c.args.destination.now word fits refs s makes))
+          (pattern_there (reading_of c.args.spec.now) c.args.spec.now.accepted e _ _ has split _ _ (record { text = x; has = sym c.source.ensures ∙ is; split = of }) c.args.destination.now word fits refs s makes))
       | in_default-2 w ↦ absurd (none_fits (reading_of c.args.spec.now) c.args.spec.now.accepted e _ _ has split c.args.destination.now (rw w.in_default-2.is at c.in_ok-name.ensures) refs s makes)
     ]

@@ -1,6 +1,6 @@
 -- A byte that is found isn't lacked.
 use Rattle.gix_refspec_lint.proofs.Common.{ℕ, List, Bool, true, false, MatchBool, nat_eq, sym, ◌≡◌, list_any, bstr_bytes, Lacks, Lacks-tested}
-use Rattle.gix_refspec_lint.proofs.lemmas.NameAtLemmas.{not_lacked}
+use Rattle.gix_refspec_lint.proofs.lemmas.ByteLemmas.{not_lacked}
 use Rattle.gix_refspec_lint.proofs.letter.side_has_byte.Goals as goal
 
 tells : (b : ℕ) (x : List ℕ) (found : Bool) → found ≡ list_any (λ c. nat_eq c b) x → MatchBool found (¬ (Lacks b x)) (Lacks b x)

@@ -1,33 +1,24 @@
 -- One of the two ends with the other, or no text ends with both.
 use Rattle.gix_refspec_lint.proofs.Common.{[], inl, inr, refl, sym, ◌∙◌, false≢true, Decides-eqb, ends_is}
-use Rattle.gix_refspec_lint.proofs.lemmas.NameAtLemmas.{ends_either}
+use Rattle.gix_refspec_lint.proofs.lemmas.ByteLemmas.{ends_either}
 use Rattle.gix_refspec_lint.proofs.words.longer_suffix.Goals as goal
 
 pub returns-then-ends_with : goal.returns-then-ends_with
-returns-then-ends_with c =
-    let one = c.args.one.now in
-    let other = c.args.other.now in
-    record {
-      one = record { before = []; here = refl };
-      other = record { before = _; here = (ends_is Decides-eqb one other c.ends_with.result c.ends_with.ensures.value).0 c.if-ends_with.true };
-      is = inl refl;
-    }
+returns-then-ends_with c = record {
+  one = record { before = []; here = refl };
+  other = record { before = _; here = (ends_is Decides-eqb c.args.one.now c.args.other.now _ c.ends_with.ensures.value).0 c.if-ends_with.true };
+  is = inl refl;
+}
 
 pub returns-then-ends_with-2 : goal.returns-then-ends_with-2
-returns-then-ends_with-2 c =
-    let one = c.args.one.now in
-    let other = c.args.other.now in
-    record {
-      one = record { before = _; here = (ends_is Decides-eqb other one c.ends_with-else-ends_with.result c.ends_with-else-ends_with.ensures.value).0 c.if-ends_with-2.true };
-      other = record { before = []; here = refl };
-      is = inr refl;
-    }
+returns-then-ends_with-2 c = record {
+  one = record { before = _; here = (ends_is Decides-eqb c.args.other.now c.args.one.now _ c.ends_with-else-ends_with.ensures.value).0 c.if-ends_with-2.true };
+  other = record { before = []; here = refl };
+  is = inr refl;
+}
 
 pub returns-else-ends_with-2 : goal.returns-else-ends_with-2
-returns-else-ends_with-2 c n by_one by_other =
-    let one = c.args.one.now in
-    let other = c.args.other.now in
-    elim (ends_either one other n by_one by_other) [
-      | inl (m, longer) ↦ false≢true (sym c.if-ends_with.false ∙ (ends_is Decides-eqb one other c.ends_with.result c.ends_with.ensures.value).1 m longer)
-      | inr (m, longer) ↦ false≢true (sym c.if-ends_with-2.false ∙ (ends_is Decides-eqb other one c.ends_with-else-ends_with.result c.ends_with-else-ends_with.ensures.value).1 m longer)
-    ]
+returns-else-ends_with-2 c n by_one by_other = elim (ends_either c.args.one.now c.args.other.now n by_one by_other) [
+  | inl (m, longer) ↦ false≢true (sym c.if-ends_with.false ∙ (ends_is Decides-eqb c.args.one.now c.args.other.now _ c.ends_with.ensures.value).1 m longer)
+  | inr (m, longer) ↦ false≢true (sym c.if-ends_with-2.false ∙ (ends_is Decides-eqb c.args.other.now c.args.one.now _ c.ends_with-else-ends_with.ensures.value).1 m longer)
+]
