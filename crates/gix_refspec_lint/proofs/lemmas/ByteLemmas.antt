@@ -63,11 +63,8 @@ module _ (z : ℕ) (usable : IsTrue (is_usable z)) where
     | false ↦ λ other later. ((λ is. eqb-false z c other (sym is)), lacks_listed l later)
   ] refl none
 
-  pub lacks_kept : Lacks z kept_from
-  lacks_kept = lacks_listed kept_from neither.1
-
   pub lacks_mid : (before mid after : List ℕ) → kept_from ≡ before ++ (mid ++ after) → Lacks z mid
-  lacks_mid before mid after is = all_left (λ c. c ≢ z) mid after (all_right (λ c. c ≢ z) before (mid ++ after) (subst (Lacks z) is lacks_kept))
+  lacks_mid before mid after is = all_left (λ c. c ≢ z) mid after (all_right (λ c. c ≢ z) before (mid ++ after) (subst (Lacks z) is (lacks_listed kept_from neither.1)))
 
   -- none of these bytes
   other : (c : ℕ) (before after : List ℕ) → kept_from ≡ before ++ (c ∷ after) → z ≢ c
@@ -78,12 +75,6 @@ module _ (z : ℕ) (usable : IsTrue (is_usable z)) where
 
   no_dot : z ≢ dot
   no_dot = other dot (codes "refs/tags/heads/remotes/HEAD") (codes "lock*@{") refl
-
-  no_star : z ≢ star
-  no_star = other star (codes "refs/tags/heads/remotes/HEAD.lock") (codes "@{") refl
-
-  no_brace : z ≢ brace
-  no_brace = other brace (codes "refs/tags/heads/remotes/HEAD.lock*@") [] refl
 
   pub lacks_refs : Lacks z (codes "refs/")
   lacks_refs = lacks_mid [] (codes "refs/") (codes "tags/heads/remotes/HEAD.lock*@{") refl
@@ -128,8 +119,8 @@ module _ (z : ℕ) (usable : IsTrue (is_usable z)) where
   adds_nothing u StartsWithDot adds = no_dot adds.0
   adds_nothing u LockSuffix adds = no_slash adds.0
   adds_nothing u RepeatedDot adds = no_dot adds.0
-  adds_nothing u ReflogPortion adds = no_brace adds.0
-  adds_nothing u Asterisk adds = no_star adds
+  adds_nothing u ReflogPortion adds = other brace (codes "refs/tags/heads/remotes/HEAD.lock*@") [] refl adds.0
+  adds_nothing u Asterisk adds = other star (codes "refs/tags/heads/remotes/HEAD.lock") (codes "@{") refl adds
   adds_nothing u (InvalidByte c) adds = false≢true (sym (subst (λ b. is_refused_byte b ≡ false) adds.0 neither.0) ∙ adds.1)
   adds_nothing u _ adds = adds
 
@@ -170,13 +161,10 @@ module _ (z : ℕ) (usable : IsTrue (is_usable z)) where
             fault = added.fault;
           }
 
-  no_empty : (x y : List ℕ) → x ++ (z ∷ y) ≢ []
-  no_empty x y is = omega (arith, ap length is, length-append x (z ∷ y))
-
   -- nor is a word in place of the byte empty, where the name has a fault without it
   pub name_with_byte : (x v y : List ℕ) → x ++ (v ++ y) ≢ [] → IsName (x ++ (v ++ y)) → IsName (x ++ (z ∷ y))
   name_with_byte x v y some is =
-      IsName-from_clean (x ++ (z ∷ y)) (no_empty x y)
+      IsName-from_clean (x ++ (z ∷ y)) (λ none. omega (arith, ap length none, length-append x (z ∷ y)))
       (λ e added. is e (HasFault-added (x ++ (v ++ y)) e some (added_moved (slash ∷ x) v y e added)))
       (λ e leaves. is e (HasFault-left (x ++ (v ++ y)) e some (leaves_as (Lacks z) lacks_words ((slash ∷ x) ++ (z ∷ y)) ((slash ∷ x) ++ (v ++ y)) (ends_moved (slash ∷ x) v y) e leaves)))
 

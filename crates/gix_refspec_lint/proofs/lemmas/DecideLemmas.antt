@@ -49,9 +49,6 @@ module _ (g : List Reading) (z : ℕ) (free : IsFree g z) (c : Reading) (p t : L
       let whole : CanBeWritten (Some (far.before ++ ((x ++ (v ++ y)) ++ far.after))) = subst CanBeWritten (far.is (x ++ (v ++ y))) written in
       (subst IsRefName (sym (between far.before x v y far.after)) (inl whole), tt)
 
-  begin_with : List ℕ → List ℕ → Type 0
-  begin_with e a = BeginsWith (codes "refs/") (a ++ e)
-
   written_far : (shape : HasShape c spec.far) (x e rest y : List ℕ) → AllByRecursion (λ a. BeginsWith (codes "refs/") (a ++ e)) (map (λ (s : Around). s.front) (around_far shape x y)) → CanBeWritten (spec.far (x ++ ((e ++ rest) ++ y)))
       → CanBeWritten (spec.far (x ++ ((e ++ z ∷ []) ++ y)))
   written_far (inl none) x e rest y begins written = subst CanBeWritten (sym (none (x ++ ((e ++ z ∷ []) ++ y)))) tt

@@ -1,7 +1,7 @@
 -- Reasons for which names come to nothing, where a word repeats in the names: they hold with the word once more.
 use Rattle.gix_refspec_lint.proofs.Common.{◌≡◌, ◌≢◌, ℕ, zero, suc, ◌+◌, ◌*◌, ◌≤◌, List, [], ◌++◌, Option, Some, length, refl, sym, ap, ◌∙◌, subst, arith, nil_from_length, same_Some, Fits, Excludes}
 use Rattle.gix_refspec_lint.proofs.Common.{the_name, by_pattern, Reading, IsSplit, one_word, split_once, lacks_no_pattern, IsExcludedBy, IsRefName, CanBeWritten, power, ArePaired, IsExcludedAt, Fails}
-use Rattle.gix_refspec_lint.proofs.Common.{IsUnsound, First, Second, Why, Unknown, Unwritable, Invalid, Excluded, Same}
+use Rattle.gix_refspec_lint.proofs.Common.{IsUnsound, First, Second, Why, Unknown, Unwritable, Invalid, Excluded, Same, append-nil}
 use Rattle.gix_refspec_lint.proofs.lemmas.RepeatLemmas.{power_length, power_one, words_repeat, same_repeats, differ_again, names_again, written_again}
 use Rattle.gix_refspec_lint.proofs.lemmas.WordLemmas.{between}
 
@@ -98,9 +98,6 @@ excluded_again g k x v y (r, at, by) (q, there, too) some i =
 as_long : (v w : List ℕ) (i : ℕ) → length w ≡ length v → 5 ≤ length (power v i) → 5 ≤ length (power w i)
 as_long v w i size long = subst (λ n. 5 ≤ n) (power_length v i ∙ ap (λ n. i * n) (sym size) ∙ sym (power_length w i)) long
 
-as_full : (v w : List ℕ) → length w ≡ length v → v ≢ [] → w ≢ []
-as_full v w size some none = some (nil_from_length v (sym size ∙ ap length none))
-
 -- so long is the word only if it is there
 is_there : (v : List ℕ) (i : ℕ) → 5 ≤ length (power v i) → 1 ≤ i
 is_there v zero long = absurd (omega (arith, long))
@@ -132,7 +129,7 @@ module _ (r : Reading) (x v y : List ℕ) (i : ℕ) (long : 5 ≤ length (power 
       let once = paired_once r second.0 (names.front ++ (power names.word 1 ++ names.back)) (x ++ (power v 1 ++ y)) second.1 (names.pairs 1) ∙ ap (λ z. names.front ++ z) (power_one names.word names.back) in (
         names.front ++ (power names.word (i + 1) ++ names.back),
         names.pairs (i + 1),
-        excluded_again g k names.front names.word names.back (subst (IsExcludedAt g k) without first.2) (subst (IsExcludedAt g k) once second.2) (as_full v names.word names.size some) (i + 1),
+        excluded_again g k names.front names.word names.back (subst (IsExcludedAt g k) without first.2) (subst (IsExcludedAt g k) once second.2) (λ none. some (nil_from_length v (sym names.size ∙ ap length none))) (i + 1),
       )
 
   -- where the destinations of the sources up to the i-th can't be written, that of the next can't
@@ -154,14 +151,9 @@ same_again : (one other : Reading) (x v y : List ℕ) → (n : List ℕ) × AreP
 same_again one other x v y first second i =
     let names = sources_repeat one x v y first.0 second.0 first.1 second.1 in
     let others = sources_repeat other x v y first.0 second.0 first.2 second.2 in
-    let without : names.front ++ names.back ≡ others.front ++ others.back =
-    sym (paired_once one first.0 (names.front ++ names.back) (x ++ y) first.1 (names.pairs 0)) ∙ paired_once other first.0 (others.front ++ others.back) (x ++ y) first.2 (others.pairs 0) in
-    let once : names.front ++ (power names.word 1 ++ names.back) ≡ others.front ++ (power others.word 1 ++ others.back) =
-    sym (paired_once one second.0 (names.front ++ (power names.word 1 ++ names.back)) (x ++ (power v 1 ++ y)) second.1 (names.pairs 1))
-    ∙ paired_once other second.0 (others.front ++ (power others.word 1 ++ others.back)) (x ++ (power v 1 ++ y)) second.2 (others.pairs 1) in
-    let single : names.front ++ (names.word ++ names.back) ≡ others.front ++ (others.word ++ others.back) =
-    ap (λ z. names.front ++ z) (sym (power_one names.word names.back)) ∙ once ∙ ap (λ z. others.front ++ z) (power_one others.word others.back) in
-    let same = same_repeats others.front others.back others.word names.word names.front names.back without single i in
+    let without = sym (paired_once one first.0 _ (x ++ y) first.1 (names.pairs 0)) ∙ paired_once other first.0 _ (x ++ y) first.2 (others.pairs 0) in
+    let once = sym (paired_once one second.0 _ (x ++ (power v 1 ++ y)) second.1 (names.pairs 1)) ∙ paired_once other second.0 _ (x ++ (power v 1 ++ y)) second.2 (others.pairs 1) in
+    let same = same_repeats others.front others.back others.word names.word names.front names.back without (rw (append-nil names.word, append-nil others.word) at once) i in
     (names.front ++ (power names.word i ++ names.back), names.pairs i, subst (λ n. ArePaired other n (x ++ (power v i ++ y))) (sym same) (others.pairs i))
 
 -- a reason for which two specs don't conflict at the destinations up to the i-th, whose word so often has five bytes or

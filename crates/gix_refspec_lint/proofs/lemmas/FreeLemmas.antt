@@ -4,7 +4,7 @@ use Rattle.gix_refspec_lint.proofs.Common.{same_Some, IsFirstCandidate, MatchesA
 use Rattle.gix_refspec_lint.proofs.Common.{reading_of, RefSpecRef, lacks_no_pattern, one_word, AreKeptForward, IsFilled, IsJoinedFrom, IsMadeFrom, Source, name, id, Mapped, matches_as, one_kind}
 use Rattle.gix_refspec_lint.proofs.Common.{nothing_joined, nothing_made, MakesForward, kept_exactly, sides_agree, CanBeWritten, IsCompleted, IsSound, reading_once, completed_destination}
 use Rattle.gix_refspec_lint.proofs.Common.{contained_pair, far_there, ConflictFree, AreExamples, Example, Fetches, IsExample, HasSourcePattern, IsSourceExcluded, IsValidSource, completed_excluded}
-use Rattle.gix_refspec_lint.proofs.Common.{ExamplesConflict, HasSound, refs_of, pair_of, some_at, ◌+◌, Bool, false, None, append-nil, AllByRecursion, AreAsked, AreConfigured, AreUncovered, Asked}
+use Rattle.gix_refspec_lint.proofs.Common.{ExamplesConflict, HasSound, refs_of, pair_of, some_at, ◌+◌, false, None, append-nil, AllByRecursion, AreAsked, AreConfigured, AreUncovered, Asked}
 use Rattle.gix_refspec_lint.proofs.Common.{HasVerdict, IsPlanned, IsPlannedBesides, IsTracked, Wish, by_call, by_configuration, by_default, nothing, tags_asked, without, Origin, none_merged}
 use Rattle.gix_refspec_lint.proofs.Common.{PlanConflictFree, slice_get_within, get_or_from_slice_get}
 use Rattle.gix_refspec_text.proofs.lemmas.hits.CandidateLemmas.{first_once}
@@ -171,13 +171,10 @@ configured_are wish refs asked some none (by_configuration configured merges eit
     ap (map (λ (a : Asked). a.reading)) (is ∙ ap (λ l. configured ++ l) (uncovered_none wish refs merges none uncovered) ∙ append-nil configured) ∙ readings_are origin.Configured 0 wish.configured configured those
 configured_are wish refs asked some none (by_default empty also is) = absurd (some empty)
 
-no_tags : (tags : Bool) → tags ≡ false → tags_asked tags ≡ []
-no_tags tags is = ap tags_asked is
-
 asked_are : (wish : Wish) (refs : List Ref) (asked : List Asked) → wish.configured ≢ [] → wish.given ≡ [] → wish.merges ≡ [] → wish.tags ≡ false → AreAsked wish refs asked → map (λ a. a.reading) asked ≡ wish.configured
 asked_are wish refs asked some alone none untagged (by_call given is_given those is) = absurd (is_given alone)
 asked_are wish refs asked some alone none untagged (without configured empty are is) =
-    ap (map (λ (a : Asked). a.reading)) (is ∙ ap (λ l. configured ++ l) (no_tags wish.tags untagged) ∙ append-nil configured) ∙ configured_are wish refs configured some none are
+    ap (map (λ (a : Asked). a.reading)) (is ∙ ap (λ l. configured ++ l) (ap tags_asked untagged) ∙ append-nil configured) ∙ configured_are wish refs configured some none are
 
 none_tracked : (wish : Wish) (refs : List Ref) (tracking : List Asked) (indexes : List ℕ) (seconds : List Mapped) → wish.given ≡ [] → IsTracked wish refs tracking indexes seconds → seconds ≡ []
 none_tracked wish refs tracking indexes seconds alone (by_call positive negative taken given those others is are mapped) = absurd (given alone)

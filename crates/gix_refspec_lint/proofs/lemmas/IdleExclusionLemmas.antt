@@ -1,6 +1,6 @@
 -- Negative specs that exclude nothing.
 use Rattle.gix_refspec_lint.proofs.Common.{◌≡◌, inl, inr, ℕ, ◌+◌, ◌<◌, ◌≤◌, Bool, true, false, MatchBool, not, drop, take, List, [], ◌∷◌, ◌++◌, Option, None, Some, length, map, option_to_list, get_or}
-use Rattle.gix_refspec_lint.proofs.Common.{refl, sym, ap, ◌∙◌, subst, AllByRecursion, AllZip, Any, slice_get, Excludes, Fits, by_pattern, the_name, IsAccepted, IsPositive, Reading, Negative, IsSplit}
+use Rattle.gix_refspec_lint.proofs.Common.{refl, sym, ap, ◌∙◌, subst, AllByRecursion, AllZip, Any, slice_get, Excludes, Fits, by_pattern, the_name, IsAccepted, Reading, Negative, IsSplit}
 use Rattle.gix_refspec_lint.proofs.Common.{lacks_no_pattern, split_once, IsMadeFrom, MakesOf, Source, name, id, IsExcludedBy, IsSourceExcluded, made_more, some_at, IsCompleted, ref_named}
 use Rattle.gix_refspec_lint.proofs.Common.{same_excluded, IsFree, IsIdleExclusion, ExcludesFrom, ExcludesSome, HasSourcePattern, ShareSources, IsDeciding, words_with, IsOverlap, Common, of_element}
 use Rattle.gix_refspec_lint.proofs.Common.{slice_get_read, slice_get-map, option_map}
@@ -124,9 +124,6 @@ pub one_more_made : {A X Y : Type 0} (R : ℕ → X → Y → Type 0) (f : A →
 one_more_made R f xs i x ys zs made below is so_far makes more = made_more R f xs i x ys zs made below so_far (subst (λ y. MakesOf R i (f y) made) is makes) more
 
 -- ---- one spec
-
-pub never_idle : (g : List Reading) (c : Reading) → IsPositive c.mode → ¬ (IsIdleExclusion g c)
-never_idle g c positive idle = subst IsPositive idle.negative positive
 
 pub idle_told : (g h : List Reading) → AllZip IsCompleted g h → (c : Reading) → c.mode ≡ Negative → (b : Bool) → MatchBool b (Any (ExcludesSome c) h) (¬ (Any (ExcludesSome c) h)) → MatchBool (not b) (IsIdleExclusion g c) (¬ (IsIdleExclusion g c))
 idle_told g h all c is true any = some_excluded g h all c is any

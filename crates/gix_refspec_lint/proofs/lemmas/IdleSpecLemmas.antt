@@ -3,8 +3,8 @@ use Rattle.gix_refspec_lint.proofs.Common.{◌≡◌, ◌≢◌, inl, inr, ℕ, 
 use Rattle.gix_refspec_lint.proofs.Common.{subst, arith, AllByRecursion, AllZip, Contains, slice_get, same_Some, Ref, HasName, MatchesAs, Takes, SideKind, pattern, full_name, object, partial, HasKind}
 use Rattle.gix_refspec_lint.proofs.Common.{IsCandidate, IsAccepted, IsPositive, Reading, star, IsSplit, Lacks, reading_of, RefSpecRef, lacks_no_pattern, all_join, all_right, Lacks-here, first_once}
 use Rattle.gix_refspec_lint.proofs.Common.{IsMadeFrom, MakesOf, Source, name, id, IsSourceExcluded, some_element, candidate_cases, made_more, IsPaired, MakesForward, IsCompleted, ref_named, AreIdle}
-use Rattle.gix_refspec_lint.proofs.Common.{AreValid, Fetches, IsFree, IsIdleBy, Maps, MapsSoundly, Unused, Explains, HasPlainSource, HasSourcePattern, IsAtWork, IsReasonOf, IsShown, IsWhy, IsDeciding}
-use Rattle.gix_refspec_lint.proofs.Common.{IsLongerPrefix, IsLongerSuffix, IsMost, words_with, Reason, of_element}
+use Rattle.gix_refspec_lint.proofs.Common.{AreValid, Fetches, IsFree, IsIdleBy, Maps, MapsSoundly, Unused, Explains, HasSourcePattern, IsAtWork, IsReasonOf, IsShown, IsWhy, IsDeciding, IsLongerPrefix}
+use Rattle.gix_refspec_lint.proofs.Common.{IsLongerSuffix, IsMost, words_with, Reason, of_element}
 use Rattle.gix_refspec_lint.specs.declared.Reason.TheVariants as reason
 use Rattle.gix_refspec_lint.proofs.lemmas.ByteLemmas.{excluded_moved, fits_byte, lacks_refs, lacks_mid}
 use Rattle.gix_refspec_lint.proofs.lemmas.DecideLemmas.{Decided, IsMovedFar, decide}
@@ -210,9 +210,6 @@ pub sources_explain : (g : List Reading) (cs : List RefSpecRef) (all : AllZip Is
     → ((refs : List Ref) (s : Source) (d : Option (List ℕ)) → MakesForward refs s d e → Contains sources s) → (r : Reason) → AllByRecursion (λ s. Explains g k s r) sources → (s : Source) → Explains g k s r
 sources_explain g cs all k e also sources has r explained s = explains_if g k s r (λ refs d m.
     of_element (λ t. Explains g k t r) sources s explained (has refs s d (of_maps g (map reading_of cs) all k e also refs s d m)))
-
-pub plain_same : (e c : Reading) → e ≡ c → HasPlainSource c → HasPlainSource e
-plain_same e c same plain = subst HasPlainSource (sym same) plain
 
 -- ---- all specs
 

@@ -3,7 +3,7 @@ use Rattle.gix_refspec_lint.proofs.Common.{◌≡◌, inl, inr, ◌↔◌, ℕ, 
 use Rattle.gix_refspec_lint.proofs.Common.{Any, slice_get, get_or-map, length-map, Ref, IsPositive, Reading, AreKeptForward, Source, name, id, Mapped, HasPair, IsExcluded, IsExcludedBy, IsSamePair}
 use Rattle.gix_refspec_lint.proofs.Common.{IsSourceExcluded, mapped_of, Mapping, MakesForward, kept_exactly, Bool, true, false, MatchBool, is_some, HaveSameNames, IsValidSource, CanBeWritten, IsSound}
 use Rattle.gix_refspec_lint.proofs.Common.{refs_of, ExcludesFrom, MakesSoundly, pair_of, Bor, IsTrue, nat_eq, pointwise, false≢true, Decides-eqb, same_Some, slice_eq-Decides, Excludes, Fits}
-use Rattle.gix_refspec_lint.proofs.Common.{by_pattern, the_name, IsAccepted, Negative, star, IsSplit, Lacks, lacks_no_pattern, split_once, sides_agree}
+use Rattle.gix_refspec_lint.proofs.Common.{by_pattern, the_name, IsAccepted, Negative, star, IsSplit, Lacks, lacks_no_pattern, split_once, sides_agree, HasSourcePattern, HasParts}
 use Rattle.gix_refspec_match.specs.declared.exclusions.Exclusions.{Exclusions}
 use Rattle.gix_refspec_match.specs.Private.Kept.{AreExclusionsAt, AreExclusionsOf, ExcludeName, ExcludeNameAt}
 use Rattle.gix_refspec_match.proofs.lemmas.keep.KeptLemmas.{HasPair-from_place}
@@ -102,6 +102,10 @@ excludes_told n c s true by (d, makes) = record { refs = refs_of s; destination 
 excludes_told n c s false by none = λ e. none e.destination (sound_alone e.refs s e.destination c e.makes)
 
 -- ---- what a negative spec excludes
+
+-- the texts before and after the star of a source
+pub parts_pattern : (r : Reading) (parts : Bor (List ℕ) × Bor (List ℕ)) → HasParts r.source (Some parts) → HasSourcePattern r parts.0.now parts.1.now
+parts_pattern r parts (x, has, split) = record { text = x; has = has; split = split }
 
 module _ (r : Reading) (x : List ℕ) (negative : r.mode ≡ Negative) (has : r.source ≡ Some x) (n : List ℕ) where
   pub text_excludes : IsSourceExcluded (r ∷ []) (name n) → Excludes x n

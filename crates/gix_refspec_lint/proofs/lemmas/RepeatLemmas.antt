@@ -6,13 +6,10 @@ use Rattle.gix_refspec_lint.proofs.lemmas.ByteLemmas.{parted, ends_within, adds_
 
 -- ---- a word several times
 
-last_too : (v : List ℕ) (i : ℕ) → power v (suc i) ≡ power v i ++ v
+-- the word so often is the same before it and after it
+last_too : (v : List ℕ) (i : ℕ) → v ++ power v i ≡ power v i ++ v
 last_too v zero = append-nil v
 last_too v (suc i) = ap (λ z. v ++ z) (last_too v i) ∙ sym (append_assoc v (power v i) v)
-
--- once more is the word at the end, too
-pub power_after : (v : List ℕ) (i : ℕ) → power v (i + 1) ≡ power v i ++ v
-power_after v i = let next : i + 1 ≡ suc i = omega arith in ap (λ k. power v k) next ∙ last_too v i
 
 -- how long it is
 pub power_length : (v : List ℕ) (i : ℕ) → length (power v i) ≡ i * length v
@@ -205,9 +202,6 @@ module _ (m v w : List ℕ) (long : 5 ≤ length m) (moves : v ++ m ≡ m ++ w) 
             fault = added.fault;
           }
 
-  some_long : (x y : List ℕ) → 5 ≤ length (x ++ (m ++ y))
-  some_long x y = omega (arith, long, length-append x (m ++ y), length-append m y)
-
   some_longer : (x y : List ℕ) → 5 ≤ length (x ++ (v ++ (m ++ y)))
   some_longer x y = omega (arith, long, length-append x (v ++ (m ++ y)), length-append v (m ++ y), length-append m y)
 
@@ -220,7 +214,7 @@ module _ (m v w : List ℕ) (long : 5 ≤ length m) (moves : v ++ m ≡ m ++ w) 
   names_without : (x y : List ℕ) → IsName (x ++ (v ++ (m ++ y))) → IsName (x ++ (m ++ y))
   names_without x y is =
       let some = not_empty (x ++ (v ++ (m ++ y))) (some_longer x y) in
-      IsName-from_clean (x ++ (m ++ y)) (not_empty (x ++ (m ++ y)) (some_long x y))
+      IsName-from_clean (x ++ (m ++ y)) (not_empty (x ++ (m ++ y)) (omega (arith, long, length-append x (m ++ y), length-append m y)))
       (λ e added. is e (HasFault-added (x ++ (v ++ (m ++ y))) e some (added_moved (slash ∷ x) y e added)))
       (λ e leaves. is e (HasFault-left (x ++ (v ++ (m ++ y))) e some (leaves_as (λ w. length w ≤ 5) short_words ((slash ∷ x) ++ (m ++ y)) ((slash ∷ x) ++ (v ++ (m ++ y))) (ends_moved (slash ∷ x) y) e leaves)))
 
@@ -252,16 +246,13 @@ same_written x m y v w long moves is = (begins_without m v w long moves x y is.0
 once_more : (v : List ℕ) (i : ℕ) → power v (i + 1) ≡ v ++ power v i
 once_more v i = let next : i + 1 ≡ suc i = omega arith in ap (λ k. power v k) next
 
-moves_past : (v : List ℕ) (i : ℕ) → v ++ power v i ≡ power v i ++ v
-moves_past v i = sym (once_more v i) ∙ power_after v i
-
 more_before : (x v y : List ℕ) (i : ℕ) → x ++ (power v (i + 1) ++ y) ≡ x ++ (v ++ (power v i ++ y))
 more_before x v y i = ap (λ z. x ++ (z ++ y)) (once_more v i) ∙ ap (λ z. x ++ z) (append_assoc v (power v i) y)
 
 -- where the word so often has five bytes or more, and makes no ref name, it makes none once more
 pub names_again : (x v y : List ℕ) (i : ℕ) → 5 ≤ length (power v i) → ¬ (IsRefName (x ++ (power v i ++ y))) → ¬ (IsRefName (x ++ (power v (i + 1) ++ y)))
-names_again x v y i long bad is = bad (same_ref_names x (power v i) y v v long (moves_past v i) (subst IsRefName (more_before x v y i) is))
+names_again x v y i long bad is = bad (same_ref_names x (power v i) y v v long (last_too v i) (subst IsRefName (more_before x v y i) is))
 
 -- and where it makes none that can be written, it makes none once more
 pub written_again : (x v y : List ℕ) (i : ℕ) → 5 ≤ length (power v i) → ¬ (CanBeWritten (Some (x ++ (power v i ++ y)))) → ¬ (CanBeWritten (Some (x ++ (power v (i + 1) ++ y))))
-written_again x v y i long bad is = bad (same_written x (power v i) y v v long (moves_past v i) (subst (λ n. CanBeWritten (Some n)) (more_before x v y i) is))
+written_again x v y i long bad is = bad (same_written x (power v i) y v v long (last_too v i) (subst (λ n. CanBeWritten (Some n)) (more_before x v y i) is))

@@ -147,16 +147,13 @@ module _ (Holds : Why → List ℕ → Type 0) (prefix suffix : List ℕ) where
             ];
           }
 
-      none_yet : (i : ℕ) → length (power is.word i) ≡ 0 → i ≡ 0
-      none_yet i none = omega (arith, none, power_long is.word i is.some)
-
       run_next : IsRun Holds prefix suffix new
       run_next = by_times is.times refl
         where
           by_times : (i : ℕ) → is.times ≡ i → IsRun Holds prefix suffix new
           by_times zero times = second times
           by_times (suc i) times = elim next.equal [
-            | inl first ↦ second (none_yet is.times (omega (arith, first, is.longest)))
+            | inl first ↦ second (omega (arith, first, is.longest, power_long is.word is.times is.some))
             | inr equal ↦ later (omega (arith, times)) equal
           ]
 
@@ -254,9 +251,6 @@ module _ (prefix suffix text : List ℕ) (most : ℕ) (in_prefix : most ≤ leng
 pub record AreUpTo (prefix suffix : List ℕ) (most : ℕ) (list found : List ℕ) : Type 0 where
   pub each : AllByRecursion (IsOverlap prefix suffix) found
   pub all : (k : ℕ) → Contains list k → k ≤ most → Contains found k
-
-pub held_at : (P : ℕ → Type 0) (list : List ℕ) (i : ℕ) → AllByRecursion P list → i < length list → P (get_or list i 0)
-held_at P list i all below = of_element P list (get_or list i 0) all (Contains-get_or list i 0 below)
 
 module _ (prefix suffix : List ℕ) (most : ℕ) (list found : List ℕ) (i k : ℕ) (below : i < length list) (at : k ≡ get_or list i k) (so_far : AreUpTo prefix suffix most (take i list) found) where
   last_or_before : (j : ℕ) → Contains (take (i + 1) list) j → Contains (take i list ++ k ∷ []) j

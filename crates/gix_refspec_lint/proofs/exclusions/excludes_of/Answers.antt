@@ -1,6 +1,7 @@
 -- By what the two sources have in common.
 use Rattle.gix_refspec_lint.proofs.Common.{inl, option_map, sym, ap, ◌∙◌, IfOk-weaker, bstr_bytes, reading_of, accepted_few}
 use Rattle.gix_refspec_lint.proofs.lemmas.IdleExclusionLemmas.{none_apart, plain_only}
+use Rattle.gix_refspec_lint.proofs.lemmas.OneSpecLemmas.{parts_pattern}
 use Rattle.gix_refspec_lint.proofs.exclusions.excludes_of.Goals as goal
 
 pub parts_of-requires : goal.parts_of-requires
@@ -20,21 +21,16 @@ returns-in_default-parts_of-2 c g is =
 
 pub returns-in-None : goal.returns-in-None
 returns-in-None c g is =
-    let (x, has, split) = c.in-Some-parts_of-2.ensures in
-    let (y, also, other) = c.in-Some-parts_of.ensures in
-    none_apart (reading_of c.args.negative.now) (reading_of c.args.spec.now) c.in-Some-parts_of-2.parts.0.now c.in-Some-parts_of-2.parts.1.now c.in-Some-parts_of.taken.0.now c.in-Some-parts_of.taken.1.now c.requires c.args.spec.now.accepted
-    (record { text = x; has = sym c.source-3.ensures ∙ has; split = split }) (record { text = y; has = sym c.source-2.ensures ∙ also; split = other }) c.in-None.ensures
+    none_apart (reading_of c.args.negative.now) (reading_of c.args.spec.now) _ _ _ _ c.requires c.args.spec.now.accepted
+    (parts_pattern _ c.in-Some-parts_of-2.parts (rw c.source-3.ensures at c.in-Some-parts_of-2.ensures)) (parts_pattern _ c.in-Some-parts_of.taken (rw c.source-2.ensures at c.in-Some-parts_of.ensures)) c.in-None.ensures
 
 pub returns-in-Some-of : goal.returns-in-Some-of
-returns-in-Some-of c g is =
-    let (x, has, split) = c.in-Some-parts_of-2.ensures in
-    let (y, also, other) = c.in-Some-parts_of.ensures in
-    c.excludes_common.ensures g is (record {
-      before = c.in-Some-parts_of-2.parts.0.now;
-      after = c.in-Some-parts_of-2.parts.1.now;
-      prefix = c.in-Some-parts_of.taken.0.now;
-      suffix = c.in-Some-parts_of.taken.1.now;
-      one = record { text = x; has = sym c.source-3.ensures ∙ has; split = split };
-      other = record { text = y; has = sym c.source-2.ensures ∙ also; split = other };
-      shared = c.in-Some-of.ensures;
-    })
+returns-in-Some-of c g is = c.excludes_common.ensures g is (record {
+  before = c.in-Some-parts_of-2.parts.0.now;
+  after = c.in-Some-parts_of-2.parts.1.now;
+  prefix = c.in-Some-parts_of.taken.0.now;
+  suffix = c.in-Some-parts_of.taken.1.now;
+  one = parts_pattern _ c.in-Some-parts_of-2.parts (rw c.source-3.ensures at c.in-Some-parts_of-2.ensures);
+  other = parts_pattern _ c.in-Some-parts_of.taken (rw c.source-2.ensures at c.in-Some-parts_of.ensures);
+  shared = c.in-Some-of.ensures;
+})

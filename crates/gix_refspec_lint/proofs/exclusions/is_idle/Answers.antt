@@ -1,10 +1,10 @@
 -- A positive spec isn't idle so, and a negative one only if it excludes nothing.
-use Rattle.gix_refspec_lint.proofs.Common.{map, reading_of}
-use Rattle.gix_refspec_lint.proofs.lemmas.IdleExclusionLemmas.{idle_told, never_idle}
+use Rattle.gix_refspec_lint.proofs.Common.{map, reading_of, subst, IsPositive}
+use Rattle.gix_refspec_lint.proofs.lemmas.IdleExclusionLemmas.{idle_told}
 use Rattle.gix_refspec_lint.proofs.exclusions.is_idle.Goals as goal
 
 pub returns-then-not-is_negative : goal.returns-then-not-is_negative
-returns-then-not-is_negative c g is = never_idle g (reading_of c.args.spec.now) c.if-not-is_negative.ensures
+returns-then-not-is_negative c g is idle = subst IsPositive idle.negative c.if-not-is_negative.ensures
 
 pub returns : goal.returns
 returns c g is =

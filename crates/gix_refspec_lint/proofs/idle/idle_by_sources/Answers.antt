@@ -1,6 +1,6 @@
 -- What becomes of the mappings of each source that the spec may map.
-use Rattle.gix_refspec_lint.proofs.Common.{inl, inr, map, sym, ◌∙◌, take_all, arith, same_Some, all_weaker, one_more_mapped, start_of, Explains}
-use Rattle.gix_refspec_lint.proofs.lemmas.IdleSpecLemmas.{idle_by, plain_same, sources_explain}
+use Rattle.gix_refspec_lint.proofs.Common.{inl, inr, map, sym, ◌∙◌, take_all, arith, same_Some, all_weaker, one_more_mapped, start_of, Explains, subst, HasPlainSource}
+use Rattle.gix_refspec_lint.proofs.lemmas.IdleSpecLemmas.{idle_by, sources_explain}
 use Rattle.gix_refspec_lint.proofs.lemmas.IndexLemmas.{reading_at}
 use Rattle.gix_refspec_lint.proofs.idle.idle_by_sources.Goals as goal
 
@@ -27,7 +27,7 @@ returns c g is r at plain =
     let cs = c.args.group.now.specs.now in
     let k = c.args.index in
     let also = reading_at cs k c.index-group-index.result c.requires in
-    let has = c.in_ok-named_sources.ensures (plain_same _ r (same_Some _ _ (sym also ∙ at)) plain) in
+    let has = c.in_ok-named_sources.ensures (subst HasPlainSource (same_Some _ _ (sym at ∙ also)) plain) in
     let old = c.loop-source.invariant g is in
     idle_by g k c.loop-source.reason
     (sources_explain g cs is.completed k _ also (map start_of c.deref-source-items.result.now) (rw c.deref-source-items.ensures.value has) c.loop-source.reason

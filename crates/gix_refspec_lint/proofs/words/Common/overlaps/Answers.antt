@@ -1,6 +1,7 @@
 -- The borders that are short enough are the overlaps.
-use Rattle.gix_refspec_lint.proofs.Common.{◌≡◌, ◌++◌, ◌-◌, drop, get_or, length, take, length-drop, take_all, ap, ◌∙◌, arith, bstring_bytes, AreBorders, IsBorder, get_or_default}
-use Rattle.gix_refspec_lint.proofs.lemmas.RunLemmas.{AreUpTo, border_of, held_at, one_left_out, one_listed, shared_of}
+use Rattle.gix_refspec_lint.proofs.Common.{◌≡◌, ◌++◌, ◌-◌, drop, get_or, length, take, length-drop, take_all, ap, ◌∙◌, arith, bstring_bytes, AreBorders, IsBorder, get_or_default, Contains-get_or}
+use Rattle.gix_refspec_lint.proofs.Common.{of_element}
+use Rattle.gix_refspec_lint.proofs.lemmas.RunLemmas.{AreUpTo, border_of, one_left_out, one_listed, shared_of}
 use Rattle.gix_refspec_lint.proofs.words.Common.overlaps.Goals as goal
 use Rattle.gix_refspec_lint.proofs.words.Common.overlaps.Goals.{then-length-self+in_ok-push, else-length-self}
 
@@ -18,7 +19,7 @@ loop-length-preserved c =
     elim c.if-length-self.branch [
       | then-length-self+in_ok-push w ↦ rw (w.shared-is, w.in_ok-push.ensures.items)
           (one_listed prefix suffix most list c.loop-length.shared.items i (get_or list i 0) below (get_or_default list i 0 _ below) c.loop-length.invariant
-          (shared_of prefix suffix text most c.requires.0 c.requires.1 whole (get_or list i 0) w.if-length-self.true (held_at (IsBorder text) list i are.each below)))
+          (shared_of prefix suffix text most c.requires.0 c.requires.1 whole (get_or list i 0) w.if-length-self.true (of_element (IsBorder text) list _ are.each (Contains-get_or list i 0 below))))
       | else-length-self w ↦ rw w.shared-is (one_left_out prefix suffix most list c.loop-length.shared.items i (get_or list i 0) below (get_or_default list i 0 _ below) c.loop-length.invariant w.if-length-self.false)
     ]
 
