@@ -1,6 +1,6 @@
 -- What a spec maps over some refs, it maps over fewer that have the source.
 use Rattle.gix_refspec_lint.proofs.Common.{◌⊎◌, inl, inr, ℕ, List, [], ◌∷◌, ◌++◌, Option, Some, refl, sym, ◌∙◌, subst, Ref, HasName, IsFirstCandidate, Takes, Reading, all_weaker, Source, name, id}
-use Rattle.gix_refspec_lint.proofs.Common.{IsPaired, MakesForward, matches_by_name, named_some, some_named, ConflictsShown, ConflictOver, Fetches, refs_of}
+use Rattle.gix_refspec_lint.proofs.Common.{IsPaired, MakesForward, matches_by_name, named_some, some_named, ConflictsShown, ConflictOver, Fetches, refs_of, HasKind, partial}
 use Rattle.gix_refspec_lint.proofs.lemmas.IndexLemmas.{maps_as}
 
 -- each name of the first list is in the second
@@ -25,23 +25,28 @@ first_fewer refs few x n among present first = record {
   present = present;
 }
 
-pub makes_fewer : (refs few : List Ref) (s : Source) (d : Option (List ℕ)) (r : Reading) → AreAmong few refs → IsThere few s → MakesForward refs s d r → MakesForward few s d r
-makes_fewer refs few (id bytes) d r among present makes = makes
-makes_fewer refs few (name n) d r among present makes =
+-- a spec that maps a name over some refs maps it over others where it is, if a partial source has it as its first candidate
+pub makes_again : (refs few : List Ref) (n : List ℕ) (d : Option (List ℕ)) (r : Reading) → HasName few n → (makes : MakesForward refs (name n) d r) → ((m : List ℕ) → HasKind makes.ends.near (partial m) → IsFirstCandidate few m n) → MakesForward few (name n) d r
+makes_again refs few n d r there makes first =
     let (k, item, below, is, paired) = makes.one in
     record {
       ends = makes.ends;
       has = makes.has;
-      one = named_some (IsPaired (Takes few) makes.ends n d) few n present (λ other named. record {
+      one = named_some (IsPaired (Takes few) makes.ends n d) few n there (λ other named. record {
         word = paired.word;
         name = named;
         takes = record {
           matches = matches_by_name makes.ends item other paired.word (paired.name ∙ sym named) makes.has.no_object paired.takes.matches;
-          first = λ m kind. subst (IsFirstCandidate few m) (sym named) (first_fewer refs few m n among present (subst (IsFirstCandidate refs m) paired.name (paired.takes.first m kind)));
+          first = λ m kind. subst (IsFirstCandidate few m) (sym named) (first m kind);
         };
         becomes = paired.becomes;
       });
     }
+
+pub makes_fewer : (refs few : List Ref) (s : Source) (d : Option (List ℕ)) (r : Reading) → AreAmong few refs → IsThere few s → MakesForward refs s d r → MakesForward few s d r
+makes_fewer refs few (id bytes) d r among present makes = makes
+makes_fewer refs few (name n) d r among present makes =
+    makes_again refs few n d r present makes (λ m kind. first_fewer refs few m n among present (subst (IsFirstCandidate refs m) makes.one.4.name (makes.one.4.takes.first m kind)))
 
 -- the refs of two sources
 pub named_cases : (xs ys : List Ref) (n : List ℕ) → HasName (xs ++ ys) n → HasName xs n ⊎ HasName ys n

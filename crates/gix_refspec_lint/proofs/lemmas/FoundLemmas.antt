@@ -2,9 +2,9 @@
 use Rattle.gix_refspec_lint.proofs.Common.{◌≡◌, ◌≢◌, ℕ, List, ◌++◌, Option, Some, map, sym, ap, ◌∙◌, AllZip, slice_get, map-append, Ref, Reading, Source, name, id, IsSourceExcluded, HaveSameNames}
 use Rattle.gix_refspec_lint.proofs.Common.{MakesForward, IsValidSource, has_also, CanBeWritten, IsCompleted, ConflictOver, refs_of, inl, inr, ◌+◌, ◌<◌, [], ◌∷◌, None, get_or, length, take, refl}
 use Rattle.gix_refspec_lint.proofs.Common.{subst, Contains, take_more, star, Lacks, reading_of, RefSpecRef, sides_agree, HasParts, zip_at, zip_more, Example, IsExample, AreApart, AreCommon}
-use Rattle.gix_refspec_lint.proofs.Common.{HasPattern, HasSourcesOf, HaveCommon, HaveParts, IsFound, IsFoundAt, IsGroupOf, Group, Common, IsAccepted, ◌≤◌, append-nil, option_to_list, arith}
-use Rattle.gix_refspec_lint.proofs.Common.{AllByRecursion, length-map, length-take-le, IsJoinedFrom, IsMadeFrom, MakesOf, some_element, joined_next, made_next, zip_long, NoneAt, MatchOption, drop}
-use Rattle.gix_refspec_lint.proofs.Common.{option_map, IsDeciding, words_with, IsOverlap, example_of, of_element}
+use Rattle.gix_refspec_lint.proofs.Common.{HasPattern, HaveCommon, HaveParts, IsFound, IsFoundAt, IsGroupOf, Group, Common, IsAccepted, ◌≤◌, append-nil, option_to_list, arith, AllByRecursion}
+use Rattle.gix_refspec_lint.proofs.Common.{length-map, length-take-le, IsJoinedFrom, IsMadeFrom, MakesOf, some_element, joined_next, made_next, zip_long, NoneAt, MatchOption, drop, option_map}
+use Rattle.gix_refspec_lint.proofs.Common.{IsDeciding, words_with, IsOverlap, example_of, of_element, Fetches}
 use Rattle.std.specs.Borrow.{Bor}
 use Rattle.gix_refspec_lint.specs.declared.PossibleConflict.{PossibleConflict}
 use Rattle.gix_refspec_lint.proofs.lemmas.FewerLemmas.{IsThere, made_there, makes_fewer}
@@ -28,12 +28,9 @@ both_named one two s t first second =
 
 -- two specs at indexes, and refs with the names of two sources
 module _ (g h : List Reading) (all : AllZip IsCompleted g h) (i j : ℕ) (refs : List Ref) (s t : Source) (d : List ℕ) (named : HaveSameNames refs (refs_of s ++ refs_of t)) where
-  -- if they conflict, each makes its pair
-  pub one_makes : ConflictOver g (refs_of s ++ refs_of t) i j s t d → (c : Reading) → slice_get h i ≡ Some c → MakesForward refs s (Some d) c
-  one_makes k c at = makes_also (refs_of s ++ refs_of t) refs s (Some d) c (sym named) (of_maps g h all i c at (refs_of s ++ refs_of t) s (Some d) k.one.maps.maps)
-
-  pub other_makes : ConflictOver g (refs_of s ++ refs_of t) i j s t d → (c : Reading) → slice_get h j ≡ Some c → MakesForward refs t (Some d) c
-  other_makes k c at = makes_also (refs_of s ++ refs_of t) refs t (Some d) c (sym named) (of_maps g h all j c at (refs_of s ++ refs_of t) t (Some d) k.other.maps.maps)
+  -- if one of them fetches to the destination, it makes the pair
+  pub makes_named : (k : ℕ) (c : Reading) → slice_get h k ≡ Some c → (r : Source) → Fetches g (refs_of s ++ refs_of t) k r (Some d) → MakesForward refs r (Some d) c
+  makes_named k c at r f = makes_also (refs_of s ++ refs_of t) refs r (Some d) c (sym named) (of_maps g h all k c at (refs_of s ++ refs_of t) r (Some d) f.maps.maps)
 
   -- and where both do, they conflict
   pub conflict_made : (b c : Reading) → slice_get h i ≡ Some b → slice_get h j ≡ Some c → s ≢ t → IsValidSource s × ¬ (IsSourceExcluded g s) → IsValidSource t × ¬ (IsSourceExcluded g t) → CanBeWritten (Some d)
@@ -70,7 +67,7 @@ unsplit_lacks c accepted n has none = elim ((sides_agree c accepted).each n (inr
 ]
 
 -- what is found at the only destination is all
-found_only : (g : List Reading) (i j : ℕ) (n : List ℕ) (found : Option Example) → ((e : Example) → IsExample g i j e → e.destination ≡ n) → IsFoundAt g i j n found → IsFound g i j found
+pub found_only : (g : List Reading) (i j : ℕ) (n : List ℕ) (found : Option Example) → ((e : Example) → IsExample g i j e → e.destination ≡ n) → IsFoundAt g i j n found → IsFound g i j found
 found_only g i j n None only none = λ e shown. none e.one e.other (subst (ConflictOver g (refs_of e.one ++ refs_of e.other) i j e.one e.other) (only e shown) shown.conflict)
 found_only g i j n (Some e) only shown = shown
 
@@ -79,63 +76,38 @@ module _ (g : List Reading) (group : Group) (is : IsGroupOf g group) (k : ℕ) (
   abbrev spec : Reading
   spec = reading_of (get_or group.specs.now k z)
 
+  at : slice_get (map reading_of group.specs.now) k ≡ Some spec
+  at = reading_at group.specs.now k z within
+
   -- it comes from a spec of the group
   pub completed_of : (r : Reading) × IsCompleted r spec
-  completed_of = let (r, here, done) = zip_of g (map reading_of group.specs.now) is.completed k spec (reading_at group.specs.now k z within) in (r, done)
+  completed_of = let (r, here, done) = zip_of g (map reading_of group.specs.now) is.completed k spec at in (r, done)
 
-  -- if its destination has no star, it makes no other one
-  plain_of : (n : List ℕ) → spec.destination ≡ Some n → HasParts spec.destination None → (refs : List Ref) (s : Source) (d : List ℕ) → MakesForward refs s (Some d) spec → d ≡ n
-  plain_of n has none = plain_made completed_of.0 spec n completed_of.1 has (unsplit_lacks spec (accepted_of group.specs.now k spec (reading_at group.specs.now k z within)) n has none)
+  pub makes_of : (refs : List Ref) (s : Source) (d : List ℕ) → Fetches g refs k s (Some d) → MakesForward refs s (Some d) spec
+  makes_of refs s d f = of_maps g (map reading_of group.specs.now) is.completed k spec at refs s (Some d) f.maps.maps
+
+  -- without a destination it fetches nothing to one
+  pub none_fetched : spec.destination ≡ None → (refs : List Ref) (s : Source) (d : List ℕ) → ¬ (Fetches g refs k s (Some d))
+  none_fetched none refs s d f = none_made refs s d spec none (makes_of refs s d f)
+
+  -- if its destination has no star, it fetches to no other one
+  pub fetches_only : (parts : List (Option (Bor (List ℕ) × Bor (List ℕ)))) → HaveParts group.specs.now parts → get_or parts k None ≡ None → (n : List ℕ) → spec.destination ≡ Some n → (refs : List Ref) (s : Source) (d : List ℕ) → Fetches g refs k s (Some d) → d ≡ n
+  fetches_only parts have none n has refs s d f =
+      plain_made completed_of.0 spec n completed_of.1 has (unsplit_lacks spec (accepted_of group.specs.now k spec at) n has (parts_at group.specs.now parts k z None have within none)) refs s d (makes_of refs s d f)
 
   pattern_of : (parts : Bor (List ℕ) × Bor (List ℕ)) → HasParts spec.destination (Some parts) → HasPattern group k parts.0.now parts.1.now
-  pattern_of parts (d, has, split) = record { reading = spec; at = reading_at group.specs.now k z within; destination = d; has = has; split = split }
+  pattern_of parts (d, has, split) = record { reading = spec; at = at; destination = d; has = has; split = split }
 
-  maps_as_pattern : (parts : Bor (List ℕ) × Bor (List ℕ)) → HasParts spec.destination (Some parts) → (refs : List Ref) (s : Source) (d : List ℕ) → MakesForward refs s (Some d) spec → MapsPattern spec parts.0.now parts.1.now s d
-  maps_as_pattern parts (x, has, split) = maps_pattern spec (accepted_of group.specs.now k spec (reading_at group.specs.now k z within)) x parts.0.now parts.1.now has split
-
--- the first of two specs
-module _ (g : List Reading) (group : Group) (is : IsGroupOf g group) (i j : ℕ) (x : RefSpecRef) (below : i < length group.specs.now) where
-  abbrev first : Reading
-  first = reading_of (get_or group.specs.now i x)
-
-  pub first_source : (d : List ℕ) (ones : List Source) → HasSourcesOf first d ones → (s t : Source) → ConflictOver g (refs_of s ++ refs_of t) i j s t d → Contains ones s
-  first_source d ones has s t k = has (refs_of s ++ refs_of t) s (one_makes g (map reading_of group.specs.now) is.completed i j (refs_of s ++ refs_of t) s t d refl k first (reading_at group.specs.now i x below))
-
-  first_makes : (e : Example) → IsExample g i j e → MakesForward (refs_of e.one ++ refs_of e.other) e.one (Some e.destination) first
-  first_makes e shown = one_makes g (map reading_of group.specs.now) is.completed i j (refs_of e.one ++ refs_of e.other) e.one e.other e.destination refl shown.conflict first (reading_at group.specs.now i x below)
-
-  pub first_without : first.destination ≡ None → (e : Example) → ¬ (IsExample g i j e)
-  first_without none e shown = none_made (refs_of e.one ++ refs_of e.other) e.one e.destination first none (first_makes e shown)
-
-  pub first_plain : (parts : List (Option (Bor (List ℕ) × Bor (List ℕ)))) → HaveParts group.specs.now parts → get_or parts i None ≡ None → (n : List ℕ) (found : Option Example) → first.destination ≡ Some n → IsFoundAt g i j n found → IsFound g i j found
-  first_plain parts have none n found has =
-      found_only g i j n found (λ e shown. plain_of g group is i x below n has (parts_at group.specs.now parts i x None have below none) (refs_of e.one ++ refs_of e.other) e.one e.destination (first_makes e shown))
-
--- the second
-module _ (g : List Reading) (group : Group) (is : IsGroupOf g group) (i j : ℕ) (y : RefSpecRef) (inside : j < length group.specs.now) where
-  abbrev second : Reading
-  second = reading_of (get_or group.specs.now j y)
-
-  pub second_source : (d : List ℕ) (others : List Source) → HasSourcesOf second d others → (s t : Source) → ConflictOver g (refs_of s ++ refs_of t) i j s t d → Contains others t
-  second_source d others has s t k = has (refs_of s ++ refs_of t) t (other_makes g (map reading_of group.specs.now) is.completed i j (refs_of s ++ refs_of t) s t d refl k second (reading_at group.specs.now j y inside))
-
-  second_makes : (e : Example) → IsExample g i j e → MakesForward (refs_of e.one ++ refs_of e.other) e.other (Some e.destination) second
-  second_makes e shown = other_makes g (map reading_of group.specs.now) is.completed i j (refs_of e.one ++ refs_of e.other) e.one e.other e.destination refl shown.conflict second (reading_at group.specs.now j y inside)
-
-  pub second_without : second.destination ≡ None → (e : Example) → ¬ (IsExample g i j e)
-  second_without none e shown = none_made (refs_of e.one ++ refs_of e.other) e.other e.destination second none (second_makes e shown)
-
-  pub second_plain : (parts : List (Option (Bor (List ℕ) × Bor (List ℕ)))) → HaveParts group.specs.now parts → get_or parts j None ≡ None → (n : List ℕ) (found : Option Example) → second.destination ≡ Some n → IsFoundAt g i j n found → IsFound g i j found
-  second_plain parts have none n found has =
-      found_only g i j n found (λ e shown. plain_of g group is j y inside n has (parts_at group.specs.now parts j y None have inside none) (refs_of e.one ++ refs_of e.other) e.other e.destination (second_makes e shown))
+  maps_as_pattern : (parts : Bor (List ℕ) × Bor (List ℕ)) → HasParts spec.destination (Some parts) → (refs : List Ref) (s : Source) (d : List ℕ) → Fetches g refs k s (Some d) → MapsPattern spec parts.0.now parts.1.now s d
+  maps_as_pattern parts (x, has, split) refs s d f = maps_pattern spec (accepted_of group.specs.now k spec at) x parts.0.now parts.1.now has split refs s d (makes_of refs s d f)
 
 -- two specs
 module _ (g : List Reading) (group : Group) (is : IsGroupOf g group) (parts : List (Option (Bor (List ℕ) × Bor (List ℕ)))) (have : HaveParts group.specs.now parts) (i j : ℕ) (x y : RefSpecRef) (below : i < length group.specs.now) (inside : j < length group.specs.now) where
   -- with two names that differ
   pub names_differ : get_or parts i None ≡ None → get_or parts j None ≡ None → (n m : List ℕ) → (reading_of (get_or group.specs.now i x)).destination ≡ Some n → (reading_of (get_or group.specs.now j y)).destination ≡ Some m → n ≢ m → (e : Example) → ¬ (IsExample g i j e)
   names_differ none neither n m has also differ e shown =
-      let one = plain_of g group is i x below n has (parts_at group.specs.now parts i x None have below none) (refs_of e.one ++ refs_of e.other) e.one e.destination (first_makes g group is i j x below e shown) in
-      let other = plain_of g group is j y inside m also (parts_at group.specs.now parts j y None have inside neither) (refs_of e.one ++ refs_of e.other) e.other e.destination (second_makes g group is i j y inside e shown) in
+      let one = fetches_only g group is i x below parts have none n has (refs_of e.one ++ refs_of e.other) e.one e.destination shown.conflict.one in
+      let other = fetches_only g group is j y inside parts have neither m also (refs_of e.one ++ refs_of e.other) e.other e.destination shown.conflict.other in
       differ (sym one ∙ other)
 
   -- with two patterns
@@ -158,7 +130,7 @@ module _ (g : List Reading) (group : Group) (is : IsGroupOf g group) (parts : Li
     }
 
     maps_one : (e : Example) → IsExample g i j e → MapsPattern (reading_of (get_or group.specs.now i x)) one.0.now one.1.now e.one e.destination
-    maps_one e shown = maps_as_pattern g group is i x below one of_one (refs_of e.one ++ refs_of e.other) e.one e.destination (first_makes g group is i j x below e shown)
+    maps_one e shown = maps_as_pattern g group is i x below one of_one (refs_of e.one ++ refs_of e.other) e.one e.destination shown.conflict.one
 
     -- with the same source too, both map the same ref
     pub none_alike : (reading_of (get_or group.specs.now i x)).source ≡ (reading_of (get_or group.specs.now j y)).source → (reading_of (get_or group.specs.now i x)).destination ≡ (reading_of (get_or group.specs.now j y)).destination → (e : Example) → ¬ (IsExample g i j e)
@@ -166,13 +138,13 @@ module _ (g : List Reading) (group : Group) (is : IsGroupOf g group) (parts : Li
         let c = reading_of (get_or group.specs.now j y) in
         let m = maps_one e shown in
         let same = pattern_there c (accepted_of group.specs.now j c (reading_at group.specs.now j y inside)) of_one.0 one.0.now one.1.now (sym destination ∙ of_one.1) of_one.2 m.before m.after (record { text = m.side.text; has = sym source ∙ m.side.has; split = m.side.split })
-        e.destination m.word m.fits (refs_of e.one ++ refs_of e.other) e.other (second_makes g group is i j y inside e shown) in
+        e.destination m.word m.fits (refs_of e.one ++ refs_of e.other) e.other (makes_of g group is j y inside (refs_of e.one ++ refs_of e.other) e.other e.destination shown.conflict.other) in
         shown.conflict.differ (m.source ∙ sym same)
 
     pub none_apart : AreApart one.0.now one.1.now other.0.now other.1.now → (e : Example) → ¬ (IsExample g i j e)
     none_apart apart e shown =
         let a = maps_one e shown in
-        let b = maps_as_pattern g group is j y inside other of_other (refs_of e.one ++ refs_of e.other) e.other e.destination (second_makes g group is i j y inside e shown) in
+        let b = maps_as_pattern g group is j y inside other of_other (refs_of e.one ++ refs_of e.other) e.other e.destination shown.conflict.other in
         apart e.destination a.word b.word a.fits b.fits
 
 -- ---- what is found of two specs at some names, and of one spec with all others

@@ -1,7 +1,7 @@
 -- Where a reason holds there is nothing.
-use Rattle.gix_refspec_lint.proofs.Common.{◌≡◌, ◌≢◌, List, ℕ, ◌++◌, Option, Some, map, refl, sym, ap, ◌∙◌, subst, slice_get, Ref, pattern, IsAccepted, Reading, reading_of, one_word, IsFilled, Source}
-use Rattle.gix_refspec_lint.proofs.Common.{name, IsSourceExcluded, MakesForward, IsValidSource, CanBeWritten, ConflictOver, refs_of, ExcludesFrom, IsGroupOf, NoneAt, ArePaired, Fails, IsNotFetched}
-use Rattle.gix_refspec_lint.proofs.Common.{IsUnsound, Group, First, Second, Why, Unknown, Unwritable, Invalid, Excluded, Same}
+use Rattle.gix_refspec_lint.proofs.Common.{◌≡◌, ◌≢◌, List, ℕ, Option, Some, map, refl, sym, ap, ◌∙◌, subst, slice_get, Ref, pattern, IsAccepted, Reading, reading_of, one_word, IsFilled, Source, name}
+use Rattle.gix_refspec_lint.proofs.Common.{IsSourceExcluded, MakesForward, IsValidSource, CanBeWritten, ExcludesFrom, IsGroupOf, NoneAt, ArePaired, Fails, IsNotFetched, IsUnsound, Group, First}
+use Rattle.gix_refspec_lint.proofs.Common.{Second, Why, Unknown, Unwritable, Invalid, Excluded, Same, Fetches}
 use Rattle.gix_refspec_lint.proofs.lemmas.SourceLemmas.{pattern_there}
 use Rattle.gix_refspec_lint.proofs.lemmas.PatternLemmas.{destination_once, pattern_spec, spec_made}
 use Rattle.gix_refspec_lint.proofs.lemmas.IndexLemmas.{excluded_at, accepted_of, of_maps}
@@ -35,23 +35,18 @@ unsound_none negative c accepted _ n known bad e = bad
 
 module _ (g : List Reading) (group : Group) (is : IsGroupOf g group) (i j : ℕ) (one other : Reading)
     (at : slice_get (map reading_of group.specs.now) i ≡ Some one) (also : slice_get (map reading_of group.specs.now) j ≡ Some other) (d : List ℕ) where
-  module _ (s t : Source) (c : ConflictOver g (refs_of s ++ refs_of t) i j s t d) where
-    first : (n : List ℕ) → ArePaired one n d → s ≡ name n
-    first n paired = paired_source one (accepted_of group.specs.now i one at) n d paired (refs_of s ++ refs_of t) s (of_maps g (map reading_of group.specs.now) is.completed i one at (refs_of s ++ refs_of t) s (Some d) c.one.maps.maps)
-
-    second : (n : List ℕ) → ArePaired other n d → t ≡ name n
-    second n paired =
-        paired_source other (accepted_of group.specs.now j other also) n d paired (refs_of s ++ refs_of t) t (of_maps g (map reading_of group.specs.now) is.completed j other also (refs_of s ++ refs_of t) t (Some d) c.other.maps.maps)
+  source_is : (k : ℕ) (c : Reading) → slice_get (map reading_of group.specs.now) k ≡ Some c → (refs : List Ref) (s : Source) → Fetches g refs k s (Some d) → (n : List ℕ) → ArePaired c n d → s ≡ name n
+  source_is k c here refs s f n paired = paired_source c (accepted_of group.specs.now k c here) n d paired refs s (of_maps g (map reading_of group.specs.now) is.completed k c here refs s (Some d) f.maps.maps)
 
   -- they don't conflict at a destination where a reason holds
   pub fails_none : (why : Why) → why ≢ Unknown → Fails g one other why d → NoneAt g i j d
   fails_none Unknown known fails s t c = known refl
   fails_none Unwritable known bad s t c = bad c.one.maps.destination
-  fails_none (Invalid First) known (n, paired, bad) s t c = bad (subst IsValidSource (first s t c n paired) c.one.maps.source)
-  fails_none (Invalid Second) known (n, paired, bad) s t c = bad (subst IsValidSource (second s t c n paired) c.other.maps.source)
-  fails_none (Excluded First k) known (n, paired, (r, there, by)) s t c = c.one.included (subst (IsSourceExcluded g) (sym (first s t c n paired)) (excluded_at g k r n there by))
-  fails_none (Excluded Second k) known (n, paired, (r, there, by)) s t c = c.other.included (subst (IsSourceExcluded g) (sym (second s t c n paired)) (excluded_at g k r n there by))
-  fails_none Same known (n, paired, too) s t c = c.differ (first s t c n paired ∙ sym (second s t c n too))
+  fails_none (Invalid First) known (n, paired, bad) s t c = bad (subst IsValidSource (source_is i one at _ s c.one n paired) c.one.maps.source)
+  fails_none (Invalid Second) known (n, paired, bad) s t c = bad (subst IsValidSource (source_is j other also _ t c.other n paired) c.other.maps.source)
+  fails_none (Excluded First k) known (n, paired, (r, there, by)) s t c = c.one.included (subst (IsSourceExcluded g) (sym (source_is i one at _ s c.one n paired)) (excluded_at g k r n there by))
+  fails_none (Excluded Second k) known (n, paired, (r, there, by)) s t c = c.other.included (subst (IsSourceExcluded g) (sym (source_is j other also _ t c.other n paired)) (excluded_at g k r n there by))
+  fails_none Same known (n, paired, too) s t c = c.differ (source_is i one at _ s c.one n paired ∙ sym (source_is j other also _ t c.other n too))
 
 -- ---- what isn't fetched
 

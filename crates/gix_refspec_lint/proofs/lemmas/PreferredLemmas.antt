@@ -1,30 +1,11 @@
 -- The refs that a spec prefers to a source, and beside which earlier specs don't take it.
 use Rattle.gix_refspec_lint.proofs.Common.{◌≡◌, inl, inr, ℕ, zero, suc, ◌+◌, ◌<◌, ◌≤◌, List, [], ◌∷◌, ◌++◌, Option, Some, map, refl, sym, ap, ◌∙◌, subst, arith, AllZip, Contains, slice_get, same_Some}
-use Rattle.gix_refspec_lint.proofs.Common.{Ref, HasName, IsFirstCandidate, Takes, SideKind, partial, HasKind, candidates, Reading, upto, Source, name, one_kind, IsPaired, MakesForward, IsRefName}
-use Rattle.gix_refspec_lint.proofs.Common.{matches_by_name, IsCompleted, ref_named, named_some, AreValid, Maps, refs_of, AreAbsent, AreAllowed, AreFreeing, ArePreferred, AreTriedBefore, refs_with}
-use Rattle.gix_refspec_lint.proofs.Common.{of_element}
-use Rattle.gix_refspec_lint.proofs.lemmas.FewerLemmas.{made_there, own_among, named_left, named_cases, named_right}
+use Rattle.gix_refspec_lint.proofs.Common.{Ref, HasName, IsFirstCandidate, SideKind, partial, HasKind, candidates, Reading, upto, Source, name, one_kind, MakesForward, IsRefName, IsCompleted}
+use Rattle.gix_refspec_lint.proofs.Common.{ref_named, AreValid, Maps, refs_of, AreAbsent, AreAllowed, AreFreeing, ArePreferred, AreTriedBefore, refs_with, of_element}
+use Rattle.gix_refspec_lint.proofs.lemmas.FewerLemmas.{made_there, own_among, named_left, named_cases, named_right, makes_again}
 use Rattle.gix_refspec_lint.proofs.lemmas.IndexLemmas.{zip_to, one_completed, all_listed, maps_as}
 
 -- ---- one spec
-
--- a spec that maps a name over some refs maps it over others where it is, if a partial source has it as its first candidate
-makes_again : (refs few : List Ref) (n : List ℕ) (d : Option (List ℕ)) (r : Reading) → HasName few n → (makes : MakesForward refs (name n) d r) → ((m : List ℕ) → HasKind makes.ends.near (partial m) → IsFirstCandidate few m n) → MakesForward few (name n) d r
-makes_again refs few n d r there makes first =
-    let (k, item, below, is, paired) = makes.one in
-    record {
-      ends = makes.ends;
-      has = makes.has;
-      one = named_some (IsPaired (Takes few) makes.ends n d) few n there (λ other named. record {
-        word = paired.word;
-        name = named;
-        takes = record {
-          matches = matches_by_name makes.ends item other paired.word (paired.name ∙ sym named) makes.has.no_object paired.takes.matches;
-          first = λ m kind. subst (IsFirstCandidate few m) (sym named) (first m kind);
-        };
-        becomes = paired.becomes;
-      });
-    }
 
 -- a source that isn't partial takes the name wherever it is
 pub preferred_by : (r : Reading) (x n : List ℕ) (k : SideKind) (names : List (List ℕ)) → r.source ≡ Some x → HasKind x k → ((m : List ℕ) → ¬ (k ≡ partial m)) → names ≡ [] → ArePreferred r (name n) names

@@ -1,6 +1,6 @@
 -- Both specs map their sources among the two refs.
 use Rattle.gix_refspec_lint.proofs.Common.{map, refl, sym, ◌∙◌, false≢true, IfOk-weaker, bstr_bytes, ref_of, start_of, refs_of, HaveSameNames, ◌++◌}
-use Rattle.gix_refspec_lint.proofs.lemmas.FoundLemmas.{both_named, conflict_made, one_makes, other_makes}
+use Rattle.gix_refspec_lint.proofs.lemmas.FoundLemmas.{both_named, conflict_made, makes_named}
 use Rattle.gix_refspec_lint.proofs.lemmas.IndexLemmas.{reading_at}
 use Rattle.gix_refspec_lint.proofs.conflicts.do_conflict.Goals as goal
 
@@ -20,7 +20,7 @@ returns-then-not-branch c g is written =
     let at = reading_at c.args.group.now.specs.now c.args.first c.index-group-first.result c.requires.0 in
     let named = both_named _ _ s t (rw c.new-items.ensures.items at c.in_ok-add_item.ensures) c.in_ok-add_item-2.ensures in (
       (λ told. absurd (false≢true told)),
-      (λ k. absurd (false≢true (sym c.if-not-branch.true ∙ c.in_ok-makes.ensures.1 (one_makes g _ is.completed c.args.first c.args.second (map ref_of c.as_slice-refs.result.now) s t (bstr_bytes c.args.destination) (rw c.as_slice-refs.ensures.value named) k _ at)))),
+      (λ k. absurd (false≢true (sym c.if-not-branch.true ∙ c.in_ok-makes.ensures.1 (makes_named g _ is.completed c.args.first c.args.second (map ref_of c.as_slice-refs.result.now) s t (bstr_bytes c.args.destination) (rw c.as_slice-refs.ensures.value named) c.args.first _ at s k.one)))),
     )
 
 pub returns : goal.returns
@@ -37,6 +37,6 @@ returns c g is written =
       (λ yes. conflict_made g _ is.completed c.args.first c.args.second refs s t (bstr_bytes c.args.destination) named _ _ at also
           (λ same. false≢true (sym c.if-same_source.false ∙ c.same_source.ensures.1 same)) ((c.if-not-is_fetched.ensures g is).0 refl) ((c.if-not-is_fetched-2.ensures g is).0 refl) written
           (c.in_ok-makes.ensures.0 c.if-not-branch.false) (told.0 yes)),
-      (λ k. told.1 (other_makes g _ is.completed c.args.first c.args.second refs s t (bstr_bytes c.args.destination) named k _ also)),
+      (λ k. told.1 (makes_named g _ is.completed c.args.first c.args.second refs s t (bstr_bytes c.args.destination) named c.args.second _ also t k.other)),
     ))
     c.makes-2.ensures
