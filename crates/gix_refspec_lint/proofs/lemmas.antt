@@ -1,23 +1,15 @@
 -- Lemmas on what specs do together.
 pub mod IndexLemmas
-pub mod FewerLemmas
 pub mod ByteLemmas
 pub mod RepeatLemmas
 pub mod BorderLemmas
-pub mod WordLemmas
 pub mod FailLemmas
 pub mod PatternLemmas
 pub mod RunLemmas
 pub mod OneSpecLemmas
-pub mod PairLemmas
 pub mod FreeLemmas
 pub mod FoundLemmas
 pub mod SourceLemmas
-pub mod DecideLemmas
-pub mod IdleExclusionLemmas
-pub mod NothingLemmas
 pub mod IdleLemmas
-pub mod PreferredLemmas
-pub mod WhyLemmas
 pub mod IdleSpecLemmas
 pub mod LeftOutLemmas

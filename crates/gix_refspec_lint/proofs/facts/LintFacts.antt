@@ -9,7 +9,7 @@ use Rattle.gix_refspec_plan.specs.declared.Verdict.TheVariants as verdict
 use Rattle.gix_refspec_text.proofs.facts.FitFacts.{every, heads_split, origin_split, other_byte, other_first, split_at_end}
 use Rattle.gix_refspec_text.proofs.lemmas.texts.TestedLemmas.{IsName-tested}
 use Rattle.gix_refspec.specs.Matching.Validation.{ShareDestination}
-use Rattle.gix_refspec_lint.proofs.lemmas.PatternLemmas.{PatternSpec, spec_maps}
+use Rattle.gix_refspec_lint.proofs.lemmas.PatternLemmas.{spec_maps}
 
 -- pull requests in the folder of the branches, and the way out
 abbrev pulls : Reading

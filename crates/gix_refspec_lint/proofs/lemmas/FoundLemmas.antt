@@ -7,8 +7,7 @@ use Rattle.gix_refspec_lint.proofs.Common.{length-map, length-take-le, IsJoinedF
 use Rattle.gix_refspec_lint.proofs.Common.{IsDeciding, words_with, IsOverlap, example_of, of_element, Fetches}
 use Rattle.std.specs.Borrow.{Bor}
 use Rattle.gix_refspec_lint.specs.declared.PossibleConflict.{PossibleConflict}
-use Rattle.gix_refspec_lint.proofs.lemmas.FewerLemmas.{IsThere, made_there, makes_fewer}
-use Rattle.gix_refspec_lint.proofs.lemmas.IndexLemmas.{of_maps, maps_of, zip_of, accepted_of, one_completed, reading_at}
+use Rattle.gix_refspec_lint.proofs.lemmas.IndexLemmas.{IsThere, made_there, makes_fewer, of_maps, maps_of, zip_of, accepted_of, one_completed, reading_at}
 use Rattle.gix_refspec_lint.proofs.lemmas.PatternLemmas.{maps_pattern, MapsPattern, decided}
 use Rattle.gix_refspec_lint.proofs.lemmas.SourceLemmas.{none_made, pattern_there, plain_made}
 use Rattle.gix_refspec_lint.proofs.lemmas.RunLemmas.{each_deciding}

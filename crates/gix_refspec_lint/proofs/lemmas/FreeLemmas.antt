@@ -12,8 +12,7 @@ use Rattle.gix_refspec.proofs.lemmas.validate.FirstLemmas.{start_cases}
 use Rattle.gix_refspec_plan.proofs.lemmas.plan.OpposedLemmas.{pair_in}
 use Rattle.gix_refspec_plan.specs.declared.Origin.TheVariants as origin
 use Rattle.gix_refspec_plan.specs.declared.Verdict.TheVariants as verdict
-use Rattle.gix_refspec_lint.proofs.lemmas.FewerLemmas.{conflicts_shown}
-use Rattle.gix_refspec_lint.proofs.lemmas.IndexLemmas.{accepted_of, maps_of, still_excluded, any_at, zip_to, all_made}
+use Rattle.gix_refspec_lint.proofs.lemmas.IndexLemmas.{conflicts_shown, accepted_of, maps_of, still_excluded, any_at, zip_to, all_made}
 use Rattle.gix_refspec_lint.proofs.lemmas.PatternLemmas.{word_of}
 
 -- ---- one spec maps one source to a destination

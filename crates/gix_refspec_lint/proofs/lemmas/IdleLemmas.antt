@@ -3,9 +3,14 @@ use Rattle.gix_refspec_lint.proofs.Common.{◌≡◌, ◌⊎◌, inl, inr, ◌�
 use Rattle.gix_refspec_lint.proofs.Common.{take, drop, get_or, append_assoc, refl, sym, ap, ◌∙◌, subst, arith, IsTrue, nat_eq, AllByRecursion, Contains, ends_with, is_some, false≢true, Decides-eqb}
 use Rattle.gix_refspec_lint.proofs.Common.{map-append, Contains-append_left, Contains-append_right, same_Some, ends_is, bstring_bytes, BString, Ref, MatchesAs, Takes, SideKind, pattern, full_name}
 use Rattle.gix_refspec_lint.proofs.Common.{object, partial, HasKind, Fits, candidates, IsCandidate, Reading, IsSplit, EndsWith, Source, name, candidate_cases, map_split, IsPaired, MakesForward}
-use Rattle.gix_refspec_lint.proofs.Common.{IsRefName, AreAllowed, AreTriedBefore, Explains, Reason, Contains-push_cases, of_element}
+use Rattle.gix_refspec_lint.proofs.Common.{IsRefName, AreAllowed, AreTriedBefore, Explains, Reason, Contains-push_cases, of_element, ◌+◌, ◌≤◌, AllZip, slice_get, HasName, IsFirstCandidate, upto}
+use Rattle.gix_refspec_lint.proofs.Common.{one_kind, IsCompleted, ref_named, AreValid, Maps, refs_of, AreAbsent, AreFreeing, ArePreferred, refs_with, one_word, all_join, IsFilled, id, IsExcludedBy}
+use Rattle.gix_refspec_lint.proofs.Common.{IsSourceExcluded, matches_as, HaveSameNames, IsValidSource, MapsSoundly, IsAtWork, IsShown, MakesSoundly}
 use Rattle.gix_refspec_lint.specs.declared.Reason.TheVariants as reason
-use Rattle.gix_refspec_lint.proofs.lemmas.PatternLemmas.{word_of}
+use Rattle.gix_refspec_lint.proofs.lemmas.PatternLemmas.{word_of, destination_once}
+use Rattle.gix_refspec_lint.proofs.lemmas.IndexLemmas.{made_there, own_among, named_left, named_cases, named_right, makes_again, zip_to, one_completed, all_listed, maps_as, maps_of, of_maps}
+use Rattle.gix_refspec_lint.proofs.lemmas.IndexLemmas.{excluded_at}
+use Rattle.gix_refspec_lint.proofs.lemmas.FoundLemmas.{makes_also}
 
 -- ---- lists
 
@@ -140,3 +145,199 @@ none_added old away = record {
 pub does_told : {M P : Type 0} (b : Bool) → IsTrue b ↔ M → (M → P) → (P → M) → MatchBool b P (¬ P)
 does_told true told to from = to (told.0 refl)
 does_told false told to from = λ holds. false≢true (told.1 (from holds))
+
+-- ---- the refs that a spec prefers to a source, and beside which earlier specs don't take it
+
+-- ---- one spec
+
+-- a source that isn't partial takes the name wherever it is
+pub preferred_by : (r : Reading) (x n : List ℕ) (k : SideKind) (names : List (List ℕ)) → r.source ≡ Some x → HasKind x k → ((m : List ℕ) → ¬ (k ≡ partial m)) → names ≡ [] → ArePreferred r (name n) names
+preferred_by r x n k names has kind plain none = subst (ArePreferred r (name n)) (sym none) (record {
+  absent = λ refs d makes. tt;
+  enough = λ refs few d makes there absent. makes_again refs few n d r (there n (inl refl)) makes (λ m of. absurd (plain m (one_kind x k (partial m) kind (subst (λ y. HasKind y (partial m)) (same_Some _ _ (sym makes.has.near ∙ has)) of))));
+})
+
+-- a partial one prefers the candidates before the name
+pub preferred_partial : (r : Reading) (x n : List ℕ) (names : List (List ℕ)) → r.source ≡ Some x → HasKind x (partial x) → AreTriedBefore x n names → ArePreferred r (name n) names
+preferred_partial r x n names has kind tried = record { absent = λ refs d makes. (first refs d makes).1; enough = enough }
+  where
+    -- the name is the first candidate, and these are before it
+    first : (refs : List Ref) (d : Option (List ℕ)) → MakesForward refs (name n) d r → (later : List (List ℕ)) × AreAbsent names refs × (candidates x ≡ names ++ (n ∷ later))
+    first refs d makes =
+        let (k, item, below, is, paired) = makes.one in
+        let near : makes.ends.near ≡ x = same_Some _ _ (sym makes.has.near ∙ has) in
+        let one : IsFirstCandidate refs x n = subst (IsFirstCandidate refs x) paired.name (paired.takes.first x (subst (λ y. HasKind y (partial x)) (sym near) kind)) in
+        let same : names ≡ one.earlier = tried.some one.earlier one.later one.here (λ has. of_element (λ m. ¬ (HasName refs m)) one.earlier n one.absent has one.present) in
+        (one.later, subst (λ l. AreAbsent l refs) (sym same) one.absent, one.here ∙ ap (λ l. l ++ (n ∷ one.later)) (sym same))
+
+    enough : (refs few : List Ref) (d : Option (List ℕ)) → MakesForward refs (name n) d r → ((m : List ℕ) → HasName (refs_of (name n)) m → HasName few m) → AreAbsent names few → MakesForward few (name n) d r
+    enough refs few d makes there none =
+        let (later, absent, here) = first refs d makes in
+        makes_again refs few n d r (there n (inl refl)) makes (λ m partial_m.
+        let near : makes.ends.near ≡ x = same_Some _ _ (sym makes.has.near ∙ has) in
+        let kinds : partial x ≡ partial m = one_kind x (partial x) (partial m) kind (subst (λ y. HasKind y (partial m)) near partial_m) in
+        let same : x ≡ m = cc in
+        subst (λ y. IsFirstCandidate few y n) same (record { earlier = names; later = later; here = here; absent = none; present = there n (inl refl) }))
+
+-- ---- beside other refs
+
+listed : (l : List (List ℕ)) (m : List ℕ) → HasName (map ref_named l) m → Contains l m
+listed [] m none = absurd none
+listed (n ∷ l) m (inl is) = (0, omega arith, is)
+listed (n ∷ l) m (inr later) = let (k, below, at) = listed l m later in (suc k, omega (arith, below), at)
+
+named_of : (l : List (List ℕ)) (m : List ℕ) → Contains l m → HasName (map ref_named l) m
+named_of [] m (k, below, is) = absurd (omega (arith, below))
+named_of (n ∷ l) m (zero, below, is) = inl is
+named_of (n ∷ l) m (suc k, below, is) = inr (named_of l m (k, omega (arith, below), is))
+
+valid_named : (refs : List Ref) (m : List ℕ) → AreValid refs → HasName refs m → IsRefName m
+valid_named [] m all none = absurd none
+valid_named (r ∷ refs) m all (inl is) = subst IsRefName is all.0
+valid_named (r ∷ refs) m all (inr later) = valid_named refs m all.1 later
+
+-- the names are valid and not kept away, and those that earlier specs prefer are among them
+pub record FreesSoFar (h : List Reading) (s : Source) (away : List (List ℕ)) (names : List (List ℕ)) (k : ℕ) : Type 0 where
+  pub allowed : (n : List ℕ) → Contains names n → IsRefName n × ¬ (Contains away n)
+  pub preferred : (i : ℕ) (c : Reading) → i < k → slice_get h i ≡ Some c → (others : List (List ℕ)) × ArePreferred c s others × ((n : List ℕ) → Contains others n → IsRefName n → ¬ (Contains away n) → Contains names n)
+
+pub frees_none : (h : List Reading) (s : Source) (away : List (List ℕ)) → FreesSoFar h s away [] 0
+frees_none h s away = record { allowed = λ n none. absurd (omega (arith, none.1)); preferred = λ i c below at. absurd (omega (arith, below)) }
+
+pub frees_next : (h : List Reading) (s : Source) (away names others new : List (List ℕ)) (k : ℕ) (c : Reading) → slice_get h k ≡ Some c → ArePreferred c s others → AreAllowed names others away new → FreesSoFar h s away names k → FreesSoFar h s away new (k + 1)
+frees_next h s away names others new k c at preferred allowed so_far = record {
+  allowed = λ n there. elim (allowed.only n there) [ inl old ↦ so_far.allowed n old | inr added ↦ added ];
+  preferred = λ i e below here. elim (upto i k below) [
+    | inl earlier ↦ let (list, are, has) = so_far.preferred i e earlier here in (list, are, λ n there valid free. allowed.has_old n (has n there valid free))
+    | inr same ↦
+        let one : c ≡ e = same_Some _ _ (sym at ∙ ap (slice_get h) (sym same) ∙ here) in
+        (others, subst (λ q. ArePreferred q s others) one preferred, allowed.has)
+  ];
+}
+
+-- so the names free earlier specs
+pub freeing : (g h : List Reading) (all : AllZip IsCompleted g h) (k : ℕ) (s : Source) (away names : List (List ℕ)) (c : Reading) → slice_get h k ≡ Some c → ArePreferred c s away → FreesSoFar h s away names k → AreFreeing g k s names
+freeing g h all k s away names c at preferred so_far = record {
+  valid = all_listed IsRefName names (λ m there. (so_far.allowed m there).0);
+  keeps = keeps;
+  frees = frees;
+}
+  where
+    same : (refs : List Ref) (d : Option (List ℕ)) (m : Maps g refs k s d) → m.completed ≡ c
+    same refs d m = one_completed g h all k c at m
+
+    keeps : (refs : List Ref) (d : Option (List ℕ)) → Maps g refs k s d → Maps g (refs_with s names) k s d
+    keeps refs d m =
+        let makes : MakesForward refs s d c = subst (MakesForward refs s d) (same refs d m) m.makes in
+        let absent = preferred.absent refs d makes in
+        maps_as m (subst (MakesForward (refs_with s names) s d) (sym (same refs d m)) (preferred.enough refs (refs_with s names) d makes (named_left (refs_of s) (map ref_named names))
+        (all_listed (λ n. ¬ (HasName (refs_with s names) n)) away (λ n there has. elim (named_cases (refs_of s) (map ref_named names) n has) [
+          | inl own ↦ of_element (λ m. ¬ (HasName refs m)) away n absent there (own_among refs s (made_there refs s d c makes) n own)
+          | inr other ↦ (so_far.allowed n (listed names n other)).1 there
+        ]))))
+
+    frees : (refs : List Ref) (i : ℕ) (d e : Option (List ℕ)) → AreValid refs → Maps g refs k s d → i < k → Maps g (refs_with s names) i s e → Maps g refs i s e
+    frees refs i d e valid m below other =
+        let makes : MakesForward refs s d c = subst (MakesForward refs s d) (same refs d m) m.makes in
+        let (others, are, has) = so_far.preferred i other.completed below (zip_to g h all i other.reading other.completed other.at other.is) in
+        let free = are.absent (refs_with s names) e other.makes in
+        maps_as other (are.enough (refs_with s names) refs e other.makes (own_among refs s (made_there refs s d c makes))
+        (all_listed (λ n. ¬ (HasName refs n)) others (λ n there present. of_element (λ m. ¬ (HasName (refs_with s names) m)) others n free there
+        (named_right (refs_of s) (map ref_named names) n (named_of names n (has n there (valid_named refs n valid present) (λ kept. of_element (λ m. ¬ (HasName refs m)) away n (preferred.absent refs d makes) kept present)))))))
+
+pub frees_less : (h : List Reading) (s : Source) (away names : List (List ℕ)) (j k : ℕ) → k ≤ j → FreesSoFar h s away names j → FreesSoFar h s away names k
+frees_less h s away names j k fewer so_far = record { allowed = so_far.allowed; preferred = λ i c below at. so_far.preferred i c (omega (arith, below, fewer)) at }
+
+-- ---- why a spec does nothing with a source, beside refs that free earlier specs
+
+-- ---- one destination
+
+same_words : (k : SideKind) (a b : Ref) (v w : Option (List ℕ)) → a.name ≡ b.name → ((bytes : List ℕ) → ¬ (k ≡ object bytes)) → MatchesAs k a v → MatchesAs k b w → v ≡ w
+same_words (pattern before after) a b None w same none of_a of_b = absurd of_a
+same_words (pattern before after) a b (Some v) None same none of_a of_b = absurd of_b
+same_words (pattern before after) a b (Some v) (Some w) same none of_a of_b = ap Some (one_word before after b.name v w (subst (λ n. Fits before after n v) same of_a) of_b)
+same_words (full_name n) a b v w same none of_a of_b = of_a.0 ∙ sym of_b.0
+same_words (object bytes) a b v w same none of_a of_b = absurd (none bytes refl)
+same_words (partial n) a b v w same none of_a of_b = of_a.0 ∙ sym of_b.0
+
+-- a spec maps a source to one destination, whatever refs there are
+pub one_far : (A B : List Ref) (s : Source) (d e : Option (List ℕ)) (c : Reading) → MakesForward A s d c → MakesForward B s e c → d ≡ e
+one_far A B (id bytes) d e c one other = destination_once c None d e one.becomes other.becomes
+one_far A B (name n) d e c one other =
+    let (k, a, below, is, paired) = one.one in
+    let (l, b, under, at, others) = other.one in
+    let near : other.ends.near ≡ one.ends.near = same_Some _ _ (sym other.has.near ∙ one.has.near) in
+    let kind = paired.takes.matches.kind in
+    let of = paired.takes.matches.of in
+    let words : paired.word ≡ others.word =
+    same_words kind a b paired.word others.word (paired.name ∙ sym others.name) (λ bytes same. one.has.no_object bytes (subst (HasKind one.ends.near) same of)) paired.takes.matches.is
+    (matches_as other.ends.near kind b others.word (subst (λ x. HasKind x kind) (sym near) of) others.takes.matches) in
+    destination_once c others.word d e
+    (subst (λ w. IsFilled c.destination w d) words (subst (λ x. IsFilled x paired.word d) (sym one.has.far) paired.becomes))
+    (subst (λ x. IsFilled x others.word e) (sym other.has.far) others.becomes)
+
+-- ---- refs with the same names
+
+maps_also : (g : List Reading) (A B : List Ref) (k : ℕ) (s : Source) (d : Option (List ℕ)) → HaveSameNames A B → Maps g A k s d → Maps g B k s d
+maps_also g A B k s d same m = maps_as m (makes_also A B s d m.completed same m.makes)
+
+named_valid : (names : List (List ℕ)) → AllByRecursion IsRefName names → AreValid (map ref_named names)
+named_valid [] all = tt
+named_valid (n ∷ names) all = (all.0, named_valid names all.1)
+
+own_valid : (s : Source) → IsValidSource s → AreValid (refs_of s)
+own_valid (name n) valid = (valid, tt)
+own_valid (id bytes) valid = tt
+
+module _ (g cs : List Reading) (all : AllZip IsCompleted g cs) (k : ℕ) (c : Reading) (here : slice_get cs k ≡ Some c)
+    (s : Source) (names : List (List ℕ)) (freeing : AreFreeing g k s names) (items : List Ref) (same : HaveSameNames items (refs_with s names)) where
+  abbrev refs : List Ref
+  refs = refs_with s names
+
+  -- without a sound mapping there is none beside any refs
+  pub explains_invalid : ((d : Option (List ℕ)) → ¬ (MakesSoundly items s d c)) → Explains g k s reason.Invalid
+  explains_invalid none = λ others d m.
+      let kept = freeing.keeps others d m.maps in
+      none d (record {
+        makes = makes_also refs items s d c (sym same) (of_maps g cs all k c here refs s d kept);
+        source = m.source;
+        destination = m.destination;
+      })
+
+  module _ (e : Option (List ℕ)) (makes : MakesSoundly items s e c) where
+    maps : MapsSoundly g refs k s e
+    maps = record { maps = maps_of g cs all k c here refs s e (makes_also items refs s e c same makes.makes); source = makes.source; destination = makes.destination }
+
+    valid : AreValid refs
+    valid = all_join (λ (r : Ref). IsRefName r.name) (refs_of s) (map ref_named names) (own_valid s makes.source) (named_valid names freeing.valid)
+
+    pub shows_excluded : (n : List ℕ) (j : ℕ) (r : Reading) → s ≡ name n → slice_get g j ≡ Some r → IsExcludedBy n r → Explains g k s (reason.Excluded j) × IsShown g k (reason.Excluded j)
+    shows_excluded n j r named at by = (
+      (λ others d f. f.included (subst (IsSourceExcluded g) (sym named) (excluded_at g j r n at by))),
+      record { refs = refs; source = n; destination = e; maps = subst (λ t. MapsSoundly g refs k t e) named maps; negative = r; at = at; excludes = by },
+    )
+
+    module _ (included : ¬ (IsSourceExcluded g s)) where
+      pub is_at_work : ((h : ℕ) → h < k → ¬ (Maps g items h s e)) → IsAtWork g k
+      is_at_work none = record {
+        refs = refs;
+        valid = valid;
+        source = s;
+        destination = e;
+        fetches = record { maps = maps; included = included };
+        first = λ h before m. none h before (maps_also g refs items h s e (sym same) m);
+      }
+
+      pub shows_duplicate : (h : ℕ) → h < k → Maps g items h s e → Explains g k s (reason.Duplicate h) × IsShown g k (reason.Duplicate h)
+      shows_duplicate h before m =
+          let also = maps_also g items refs h s e same m in (
+            (λ others d fine f.
+                let one : d ≡ e = one_far others items s d e c (of_maps g cs all k c here others s d f.maps.maps) makes.makes in
+                (h, before, subst (Maps g others h s) (sym one) (freeing.frees others h d e fine f.maps.maps before also))),
+            record { refs = refs; valid = valid; source = s; destination = e; fetches = record { maps = maps; included = included }; before = before; maps = also },
+          )
+
+-- the items of a source and then those of names
+pub names_beside : (one two : List Ref) (s : Source) (names : List (List ℕ)) → HaveSameNames one (refs_of s) → HaveSameNames two (one ++ map ref_named names) → HaveSameNames two (refs_with s names)
+names_beside one two s names first second =
+    second ∙ map-append (λ (r : Ref). r.name) one (map ref_named names) ∙ ap (λ l. l ++ map (λ (r : Ref). r.name) (map ref_named names)) first ∙ sym (map-append (λ (r : Ref). r.name) (refs_of s) (map ref_named names))

@@ -6,11 +6,9 @@ use Rattle.gix_refspec_lint.proofs.Common.{IsMadeFrom, MakesOf, Source, name, id
 use Rattle.gix_refspec_lint.proofs.Common.{AreValid, Fetches, IsFree, IsIdleBy, Maps, MapsSoundly, Unused, Explains, HasSourcePattern, IsAtWork, IsReasonOf, IsShown, IsWhy, IsDeciding, IsLongerPrefix}
 use Rattle.gix_refspec_lint.proofs.Common.{IsLongerSuffix, IsMost, words_with, Reason, of_element}
 use Rattle.gix_refspec_lint.specs.declared.Reason.TheVariants as reason
-use Rattle.gix_refspec_lint.proofs.lemmas.ByteLemmas.{excluded_moved, fits_byte, lacks_refs, lacks_mid}
-use Rattle.gix_refspec_lint.proofs.lemmas.DecideLemmas.{Decided, IsMovedFar, decide}
-use Rattle.gix_refspec_lint.proofs.lemmas.IdleExclusionLemmas.{made_completed}
-use Rattle.gix_refspec_lint.proofs.lemmas.PatternLemmas.{lacks_destination, lacks_parts, lacks_source, HasShape, pattern_spec, spec_made, spec_maps, PatternSpec}
-use Rattle.gix_refspec_lint.proofs.lemmas.WordLemmas.{between}
+use Rattle.gix_refspec_lint.proofs.lemmas.ByteLemmas.{excluded_moved, fits_byte, lacks_refs, lacks_mid, between}
+use Rattle.gix_refspec_lint.proofs.lemmas.PatternLemmas.{Decided, IsMovedFar, decide, lacks_destination, lacks_parts, lacks_source, HasShape, pattern_spec, spec_made, spec_maps, PatternSpec}
+use Rattle.gix_refspec_lint.proofs.lemmas.LeftOutLemmas.{made_completed}
 use Rattle.gix_refspec_lint.proofs.lemmas.IndexLemmas.{zip_to, reading_at, of_maps, accepted_of, one_completed, maps_as}
 
 -- ---- reasons

@@ -7,7 +7,7 @@ use Rattle.gix_refspec_lint.proofs.Common.{by_pattern, the_name, IsAccepted, Neg
 use Rattle.gix_refspec_match.specs.declared.exclusions.Exclusions.{Exclusions}
 use Rattle.gix_refspec_match.specs.Private.Kept.{AreExclusionsAt, AreExclusionsOf, ExcludeName, ExcludeNameAt}
 use Rattle.gix_refspec_match.proofs.lemmas.keep.KeptLemmas.{HasPair-from_place}
-use Rattle.gix_refspec_lint.proofs.lemmas.FewerLemmas.{made_there, makes_fewer, own_among, own_there}
+use Rattle.gix_refspec_lint.proofs.lemmas.IndexLemmas.{made_there, makes_fewer, own_among, own_there}
 use Rattle.gix_refspec_lint.proofs.lemmas.FoundLemmas.{makes_also}
 
 -- ---- exclusions

@@ -1,6 +1,6 @@
 -- One of the specs maps what is excluded, or none does.
 use Rattle.gix_refspec_lint.proofs.Common.{map, take_all, arith, MatchBool-at_false, MatchBool-at_true, reading_of, one_more_mapped, ExcludesSome}
-use Rattle.gix_refspec_lint.proofs.lemmas.IdleExclusionLemmas.{any_mapped, none_of}
+use Rattle.gix_refspec_lint.proofs.lemmas.LeftOutLemmas.{any_mapped, none_of}
 use Rattle.gix_refspec_lint.proofs.exclusions.excludes_any.Goals as goal
 
 pub returns-then-branch : goal.returns-then-branch

@@ -1,6 +1,6 @@
 -- What is excluded and mapped is so at a name that decides.
 use Rattle.gix_refspec_lint.proofs.Common.{◌++◌, ℕ, List, map, subst, take_all, arith, AllByRecursion, MatchBool-at_false, IfOk-weaker, bstring_bytes, reading_of, one_more_mapped, name, ExcludesFrom}
-use Rattle.gix_refspec_lint.proofs.lemmas.IdleExclusionLemmas.{shared_told}
+use Rattle.gix_refspec_lint.proofs.lemmas.LeftOutLemmas.{shared_told}
 use Rattle.gix_refspec_lint.proofs.exclusions.excludes_common.Goals as goal
 
 pub loop-word-init : goal.loop-word-init

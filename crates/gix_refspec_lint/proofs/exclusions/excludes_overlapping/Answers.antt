@@ -1,8 +1,7 @@
 -- One more overlap, which is tried or passed over.
 use Rattle.gix_refspec_lint.proofs.Common.{ℕ, List, take_all, arith, MatchBool-at_false, reading_of, name, ExcludesFrom, AreOverlaps, IsUnsound}
 use Rattle.gix_refspec_lint.proofs.lemmas.RunLemmas.{each_overlap, AreSoFar, none_so_far, one_more, passed_over}
-use Rattle.gix_refspec_lint.proofs.lemmas.FailLemmas.{unsound_again}
-use Rattle.gix_refspec_lint.proofs.lemmas.NothingLemmas.{unsound_none}
+use Rattle.gix_refspec_lint.proofs.lemmas.FailLemmas.{unsound_again, unsound_none}
 use Rattle.gix_refspec_lint.proofs.exclusions.excludes_overlapping.Goals as goal
 use Rattle.gix_refspec_lint.proofs.exclusions.excludes_overlapping.Goals.{in-Some, in-None+in_ok-name-in-None+in_ok-why-in-None+in_ok-excludes_at-in-None+else-branch}
 

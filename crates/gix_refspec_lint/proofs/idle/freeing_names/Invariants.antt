@@ -1,6 +1,6 @@
 -- the names so far free the specs so far
 use Rattle.gix_refspec_lint.proofs.Common.{map, bstring_bytes, reading_of, start_of}
-use Rattle.gix_refspec_lint.proofs.lemmas.PreferredLemmas.{FreesSoFar}
+use Rattle.gix_refspec_lint.proofs.lemmas.IdleLemmas.{FreesSoFar}
 use Rattle.gix_refspec_lint.proofs.idle.freeing_names.Given as goal
 
 abbrev pub invariant-loop-at : goal.invariant-loop-at
