@@ -361,7 +361,7 @@ module _ (g : List Reading) (z : ℕ) (free : IsFree g z) (c : Reading) (p t : L
   around_far (inl none) x y = []
   around_far (inr far) x y = record { front = far.before ++ x; back = y ++ far.after } ∷ []
 
-  -- the texts texts_around a word in the source and in the destination
+  -- the texts around a word in the source and in the destination
   abbrev texts_around : List ℕ → List ℕ → List Around
   texts_around x y = record { front = p ++ x; back = y ++ t } ∷ around_far spec.shape x y
 

@@ -1,5 +1,5 @@
 -- One more destination has one more pair of parts.
-use Rattle.gix_refspec_lint.proofs.Common.{inr, sym, ◌∙◌, take_all, arith, reading_of, accepted_few}
+use Rattle.gix_refspec_lint.proofs.Common.{inr, sym, ◌∙◌, reading_of, accepted_few}
 use Rattle.gix_refspec_lint.proofs.lemmas.FoundLemmas.{parts_next}
 use Rattle.gix_refspec_lint.proofs.conflicts.parts_in.Goals as goal
 
@@ -8,6 +8,3 @@ parts_of-requires c x is = accepted_few (reading_of c.spec-item.result) x c.spec
 
 pub loop-spec-preserved : goal.loop-spec-preserved
 loop-spec-preserved c = parts_next c.args.specs.now c.loop-spec.spec-index c.spec-item.result _ _ _ c.loop-spec-test.true c.spec-item.is c.loop-spec.invariant (rw c.destination.ensures at c.parts_of.ensures) c.in_ok-push.ensures.items
-
-pub returns : goal.returns
-returns c = rw (take_all c.loop-spec.spec-index c.args.specs.now (omega arith)) at c.loop-spec.invariant

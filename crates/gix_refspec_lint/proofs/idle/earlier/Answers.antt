@@ -1,12 +1,6 @@
 -- None of the specs so far, and the one at this index or not.
-use Rattle.gix_refspec_lint.proofs.Common.{inl, inr, map, option_map, sym, subst, arith, MatchBool-at_false, MatchBool-at_true, bstr_bytes, upto, ref_of, start_of, Maps}
+use Rattle.gix_refspec_lint.proofs.Common.{inl, inr, map, option_map, sym, subst, arith, MatchBool-at_false, bstr_bytes, upto, ref_of, start_of, Maps}
 use Rattle.gix_refspec_lint.proofs.idle.earlier.Goals as goal
-
-pub returns-then-branch : goal.returns-then-branch
-returns-then-branch c g is = (c.loop-at-test.true, MatchBool-at_true _ _ c.if-branch.true (c.in_ok-does_map.ensures g is))
-
-pub loop-at-init : goal.loop-at-init
-loop-at-init c g is h below = absurd (omega (arith, below))
 
 pub loop-at-preserved : goal.loop-at-preserved
 loop-at-preserved c g is h below = elim (upto h c.loop-at.at below) [
