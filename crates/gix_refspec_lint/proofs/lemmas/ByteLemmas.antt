@@ -335,7 +335,11 @@ both_endings v a fronts one others = elim (parted one.ending one.rest others.end
     rest = one.rest;
     is = one.is;
     listed = one.listed;
-    begin = (one.begin.0, subst (λ e. AllByRecursion (λ x. BeginsWith (codes "refs/") (x ++ e)) fronts) (sym longer) (all_weaker (λ x. BeginsWith (codes "refs/") (x ++ others.ending)) (λ x. BeginsWith (codes "refs/") (x ++ (others.ending ++ m))) (λ x. begins_later x others.ending m) fronts others.begin));
+    begin = (
+      one.begin.0,
+      subst (λ e. AllByRecursion (λ x. BeginsWith (codes "refs/") (x ++ e)) fronts) (sym longer)
+          (all_weaker (λ x. BeginsWith (codes "refs/") (x ++ others.ending)) (λ x. BeginsWith (codes "refs/") (x ++ (others.ending ++ m))) (λ x. begins_later x others.ending m) fronts others.begin),
+    );
   }
 ]
 

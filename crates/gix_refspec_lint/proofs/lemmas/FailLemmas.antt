@@ -74,7 +74,7 @@ sources_repeat r x v y n0 n1 without once =
         source = without.source;
         destination = without.destination;
         takes = between without.prefix all.front (power all.word i) all.back without.suffix;
-        makes = all.fits i;
+        makes = all.each i;
       };
     }
 
@@ -88,7 +88,7 @@ excludes_again text x v y some (by_pattern a b word split fits) (by_pattern p q 
     let ends = split_once text a b p q split parts in
     let once : Fits a b (x ++ (v ++ y)) second = also ∙ ap (λ z. z ++ (second ++ q)) (sym ends.0) ∙ ap (λ z. a ++ (second ++ z)) (sym ends.1) in
     let all = words_repeat a b v x y word second fits once in
-    by_pattern a b (all.front ++ (power all.word i ++ all.back)) split (all.fits i)
+    by_pattern a b (all.front ++ (power all.word i ++ all.back)) split (all.each i)
 
 -- the spec that excludes a name without a word and with it once excludes it however often the word stands there
 pub excluded_again : (g : List Reading) (k : ℕ) (x v y : List ℕ) → IsExcludedAt g k (x ++ y) → IsExcludedAt g k (x ++ (v ++ y)) → v ≢ [] → (i : ℕ) → IsExcludedAt g k (x ++ (power v i ++ y))

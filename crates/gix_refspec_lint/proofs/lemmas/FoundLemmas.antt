@@ -54,7 +54,8 @@ pub parts_next : (specs : List RefSpecRef) (i : ℕ) (s : RefSpecRef) (old new :
 parts_next specs i s old new p below is so_far here more =
     rw (take_more specs i s below, more) (zip_more (λ s p. HasParts (reading_of s).destination p) (take i specs) old (get_or specs i s) p so_far (subst (λ z. HasParts (reading_of z).destination p) is here))
 
-pub parts_at : (specs : List RefSpecRef) (parts : List (Option (Bor (List ℕ) × Bor (List ℕ)))) (i : ℕ) (s : RefSpecRef) (p : Option (Bor (List ℕ) × Bor (List ℕ))) → HaveParts specs parts → i < length specs → get_or parts i None ≡ p
+pub parts_at : (specs : List RefSpecRef) (parts : List (Option (Bor (List ℕ) × Bor (List ℕ)))) (i : ℕ) (s : RefSpecRef) (p : Option (Bor (List ℕ) × Bor (List ℕ))) → HaveParts specs parts
+    → i < length specs → get_or parts i None ≡ p
     → HasParts (reading_of (get_or specs i s)).destination p
 parts_at specs parts i s p all below at = subst (λ q. HasParts (reading_of (get_or specs i s)).destination q) at (zip_at (λ s p. HasParts (reading_of s).destination p) specs parts i s None all below)
 
@@ -90,7 +91,8 @@ module _ (g : List Reading) (group : Group) (is : IsGroupOf g group) (k : ℕ) (
   none_fetched none refs s d f = none_made refs s d spec none (makes_of refs s d f)
 
   -- if its destination has no star, it fetches to no other one
-  pub fetches_only : (parts : List (Option (Bor (List ℕ) × Bor (List ℕ)))) → HaveParts group.specs.now parts → get_or parts k None ≡ None → (n : List ℕ) → spec.destination ≡ Some n → (refs : List Ref) (s : Source) (d : List ℕ) → Fetches g refs k s (Some d) → d ≡ n
+  pub fetches_only : (parts : List (Option (Bor (List ℕ) × Bor (List ℕ)))) → HaveParts group.specs.now parts → get_or parts k None ≡ None → (n : List ℕ) → spec.destination ≡ Some n
+      → (refs : List Ref) (s : Source) (d : List ℕ) → Fetches g refs k s (Some d) → d ≡ n
   fetches_only parts have none n has refs s d f =
       plain_made completed_of.0 spec n completed_of.1 has (unsplit_lacks spec (accepted_of group.specs.now k spec at) n has (parts_at group.specs.now parts k z None have within none)) refs s d (makes_of refs s d f)
 
@@ -103,7 +105,8 @@ module _ (g : List Reading) (group : Group) (is : IsGroupOf g group) (k : ℕ) (
 -- two specs
 module _ (g : List Reading) (group : Group) (is : IsGroupOf g group) (parts : List (Option (Bor (List ℕ) × Bor (List ℕ)))) (have : HaveParts group.specs.now parts) (i j : ℕ) (x y : RefSpecRef) (below : i < length group.specs.now) (inside : j < length group.specs.now) where
   -- with two names that differ
-  pub names_differ : get_or parts i None ≡ None → get_or parts j None ≡ None → (n m : List ℕ) → (reading_of (get_or group.specs.now i x)).destination ≡ Some n → (reading_of (get_or group.specs.now j y)).destination ≡ Some m → n ≢ m → (e : Example) → ¬ (IsExample g i j e)
+  pub names_differ : get_or parts i None ≡ None → get_or parts j None ≡ None → (n m : List ℕ) → (reading_of (get_or group.specs.now i x)).destination ≡ Some n
+      → (reading_of (get_or group.specs.now j y)).destination ≡ Some m → n ≢ m → (e : Example) → ¬ (IsExample g i j e)
   names_differ none neither n m has also differ e shown =
       let one = fetches_only g group is i x below parts have none n has (refs_of e.one ++ refs_of e.other) e.one e.destination shown.conflict.one in
       let other = fetches_only g group is j y inside parts have neither m also (refs_of e.one ++ refs_of e.other) e.other e.destination shown.conflict.other in
@@ -132,11 +135,13 @@ module _ (g : List Reading) (group : Group) (is : IsGroupOf g group) (parts : Li
     maps_one e shown = maps_as_pattern g group is i x below one of_one (refs_of e.one ++ refs_of e.other) e.one e.destination shown.conflict.one
 
     -- with the same source too, both map the same ref
-    pub none_alike : (reading_of (get_or group.specs.now i x)).source ≡ (reading_of (get_or group.specs.now j y)).source → (reading_of (get_or group.specs.now i x)).destination ≡ (reading_of (get_or group.specs.now j y)).destination → (e : Example) → ¬ (IsExample g i j e)
+    pub none_alike : (reading_of (get_or group.specs.now i x)).source ≡ (reading_of (get_or group.specs.now j y)).source
+        → (reading_of (get_or group.specs.now i x)).destination ≡ (reading_of (get_or group.specs.now j y)).destination → (e : Example) → ¬ (IsExample g i j e)
     none_alike source destination e shown =
         let c = reading_of (get_or group.specs.now j y) in
         let m = maps_one e shown in
-        let same = pattern_there c (accepted_of group.specs.now j c (reading_at group.specs.now j y inside)) of_one.0 one.0.now one.1.now (sym destination ∙ of_one.1) of_one.2 m.before m.after (record { text = m.side.text; has = sym source ∙ m.side.has; split = m.side.split })
+        let same = pattern_there c (accepted_of group.specs.now j c (reading_at group.specs.now j y inside)) of_one.0 one.0.now one.1.now (sym destination ∙ of_one.1) of_one.2 m.before m.after
+        (record { text = m.side.text; has = sym source ∙ m.side.has; split = m.side.split })
         e.destination m.word m.fits (refs_of e.one ++ refs_of e.other) e.other (makes_of g group is j y inside (refs_of e.one ++ refs_of e.other) e.other e.destination shown.conflict.other) in
         shown.conflict.differ (m.source ∙ sym same)
 

@@ -36,7 +36,8 @@ filled_word e d w one (kind, of, is) =
 
 module _ (r c : Reading) (accepted : ∥ IsAccepted r ∥₁) (done : IsCompleted r c) (refs : List Ref) (d : List ℕ) where
   -- the word is that of the destination
-  pattern_source : (n : List ℕ) (makes : MakesForward refs (name n) (Some d) c) (p t : List ℕ) → HasSourcePattern c p t → (e : List ℕ) (one : HasOneStar e) → c.destination ≡ Some e → (w : List ℕ) × (n ≡ p ++ (w ++ t)) × Fits one.0 one.1 d w
+  pattern_source : (n : List ℕ) (makes : MakesForward refs (name n) (Some d) c) (p t : List ℕ) → HasSourcePattern c p t → (e : List ℕ) (one : HasOneStar e) → c.destination ≡ Some e
+      → (w : List ℕ) × (n ≡ p ++ (w ++ t)) × Fits one.0 one.1 d w
   pattern_source n makes p t source e one has =
       let (w, some, fits) = word_of c refs n (Some d) makes p t source in
       let far : makes.ends.far ≡ Some e = sym makes.has.far ∙ has in
@@ -88,7 +89,8 @@ none_shown g i j r q e none at also shown =
     nothing_made (λ l p x. IsExample g i l x) 0 front q back e (subst (λ h. IsMadeFrom (λ l p x. IsExample g i l x) 0 h []) all row) (subst (λ l. IsExample g i l e) (omega (arith, long)) shown)
 
 -- a kept mapping that is sound is a fetch of some spec
-fetched_by : (g h : List Reading) (refs : List Ref) (kept : List Mapped) (m : Mapped) (d : List ℕ) → AllZip IsCompleted g h → AreKeptForward h refs kept → Contains kept m → IsSound m → m.destination ≡ Some d → (k : ℕ) × Fetches g refs k m.source (Some d)
+fetched_by : (g h : List Reading) (refs : List Ref) (kept : List Mapped) (m : Mapped) (d : List ℕ) → AllZip IsCompleted g h → AreKeptForward h refs kept → Contains kept m → IsSound m
+    → m.destination ≡ Some d → (k : ℕ) × Fetches g refs k m.source (Some d)
 fetched_by g h refs kept m d all are has sound to =
     let made = ((kept_exactly h refs).forward kept are m).0 (contained_pair kept m has) in
     let (k, c, at, makes) = any_at (MakesForward refs m.source m.destination) h made.0 in (

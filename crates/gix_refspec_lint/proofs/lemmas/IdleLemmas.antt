@@ -5,7 +5,7 @@ use Rattle.gix_refspec_lint.proofs.Common.{map-append, Contains-append_left, Con
 use Rattle.gix_refspec_lint.proofs.Common.{object, partial, HasKind, Fits, candidates, IsCandidate, Reading, IsSplit, EndsWith, Source, name, candidate_cases, map_split, IsPaired, MakesForward}
 use Rattle.gix_refspec_lint.proofs.Common.{IsRefName, AreAllowed, AreTriedBefore, Explains, Reason, Contains-push_cases, of_element, ◌+◌, ◌≤◌, AllZip, slice_get, HasName, IsFirstCandidate, upto}
 use Rattle.gix_refspec_lint.proofs.Common.{one_kind, IsCompleted, ref_named, AreValid, Maps, refs_of, AreAbsent, AreFreeing, ArePreferred, refs_with, one_word, all_join, IsFilled, id, IsExcludedBy}
-use Rattle.gix_refspec_lint.proofs.Common.{IsSourceExcluded, matches_as, HaveSameNames, IsValidSource, MapsSoundly, IsAtWork, IsShown, MakesSoundly}
+use Rattle.gix_refspec_lint.proofs.Common.{IsSourceExcluded, matches_as, HaveSameNames, IsValidSource, MapsSoundly, IsAtWork, IsShown, MakesSoundly, all_right}
 use Rattle.gix_refspec_lint.specs.declared.Reason.TheVariants as reason
 use Rattle.gix_refspec_lint.proofs.lemmas.PatternLemmas.{word_of, destination_once}
 use Rattle.gix_refspec_lint.proofs.lemmas.IndexLemmas.{made_there, own_among, named_left, named_cases, named_right, makes_again, zip_to, one_completed, all_listed, maps_as, maps_of, of_maps}
@@ -78,17 +78,12 @@ first_split n (x ∷ a) b [] d no_a no_c same = absurd (no_a (0, omega arith, (l
 first_split n (x ∷ a) b (y ∷ c) d no_a no_c same =
     let heads : x ≡ y = cc in
     let tails : a ++ (n ∷ b) ≡ c ++ (n ∷ d) = cc in
-    ap (λ z. z ∷ a) heads ∙ ap (λ l. y ∷ l) (first_split n a b c d (λ has. no_a (later a n x has)) (λ has. no_c (later c n y has)) tails)
-  where
-    later : (l : List (List ℕ)) (n x : List ℕ) → Contains l n → Contains (x ∷ l) n
-    later l n x (k, below, is) = (suc k, omega (arith, below), is)
+    ap (λ z. z ∷ a) heads ∙ ap (λ l. y ∷ l) (first_split n a b c d (λ (k, below, is). no_a (suc k, omega (arith, below), is)) (λ (k, below, is). no_c (suc k, omega (arith, below), is)) tails)
 
 pub none_tried : (x n : List ℕ) → AllByRecursion (λ y. ¬ (y ≡ n)) (candidates x) → (names : List (List ℕ)) → AreTriedBefore x n names
-none_tried x n none names = record { some = λ earlier later here first. absurd (there earlier later (subst (AllByRecursion (λ y. ¬ (y ≡ n))) here none)) }
-  where
-    there : (earlier later : List (List ℕ)) → ¬ (AllByRecursion (λ y. ¬ (y ≡ n)) (earlier ++ (n ∷ later)))
-    there [] later all = all.0 refl
-    there (y ∷ earlier) later all = there earlier later all.1
+none_tried x n none names = record {
+  some = λ earlier later here first. absurd ((all_right (λ y. ¬ (y ≡ n)) earlier (n ∷ later) (subst (AllByRecursion (λ y. ¬ (y ≡ n))) here none)).0 refl);
+}
 
 pub tried_at : (x n : List ℕ) (texts : List BString) (i : ℕ) (b : BString) (names : List (List ℕ)) → map bstring_bytes texts ≡ candidates x → i < length texts → b ≡ get_or texts i b → bstring_bytes b ≡ n
     → AllByRecursion (λ y. ¬ (y ≡ n)) (map bstring_bytes (take i texts)) → names ≡ map bstring_bytes (take i texts) → AreTriedBefore x n names
@@ -154,7 +149,8 @@ does_told false told to from = λ holds. false≢true (told.1 (from holds))
 pub preferred_by : (r : Reading) (x n : List ℕ) (k : SideKind) (names : List (List ℕ)) → r.source ≡ Some x → HasKind x k → ((m : List ℕ) → ¬ (k ≡ partial m)) → names ≡ [] → ArePreferred r (name n) names
 preferred_by r x n k names has kind plain none = subst (ArePreferred r (name n)) (sym none) (record {
   absent = λ refs d makes. tt;
-  enough = λ refs few d makes there absent. makes_again refs few n d r (there n (inl refl)) makes (λ m of. absurd (plain m (one_kind x k (partial m) kind (subst (λ y. HasKind y (partial m)) (same_Some _ _ (sym makes.has.near ∙ has)) of))));
+  enough = λ refs few d makes there absent. makes_again refs few n d r (there n (inl refl)) makes
+      (λ m of. absurd (plain m (one_kind x k (partial m) kind (subst (λ y. HasKind y (partial m)) (same_Some _ _ (sym makes.has.near ∙ has)) of))));
 })
 
 -- a partial one prefers the candidates before the name
@@ -243,7 +239,8 @@ freeing g h all k s away names c at preferred so_far = record {
         let free = are.absent (refs_with s names) e other.makes in
         maps_as other (are.enough (refs_with s names) refs e other.makes (own_among refs s (made_there refs s d c makes))
         (all_listed (λ n. ¬ (HasName refs n)) others (λ n there present. of_element (λ m. ¬ (HasName (refs_with s names) m)) others n free there
-        (named_right (refs_of s) (map ref_named names) n (named_of names n (has n there (valid_named refs n valid present) (λ kept. of_element (λ m. ¬ (HasName refs m)) away n (preferred.absent refs d makes) kept present)))))))
+        (named_right (refs_of s) (map ref_named names) n (named_of names n
+        (has n there (valid_named refs n valid present) (λ kept. of_element (λ m. ¬ (HasName refs m)) away n (preferred.absent refs d makes) kept present)))))))
 
 pub frees_less : (h : List Reading) (s : Source) (away names : List (List ℕ)) (j k : ℕ) → k ≤ j → FreesSoFar h s away names j → FreesSoFar h s away names k
 frees_less h s away names j k fewer so_far = record { allowed = so_far.allowed; preferred = λ i c below at. so_far.preferred i c (omega (arith, below, fewer)) at }

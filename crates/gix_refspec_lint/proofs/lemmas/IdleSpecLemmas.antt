@@ -50,7 +50,8 @@ module _ (z : ℕ) (g : List Reading) (free : IsFree g z) where
       | inl none ↦ subst (Lacks z) (sym none) tt
       | inr (inl refs) ↦ subst (Lacks z) (sym refs) (lacks_refs z free.usable)
       | inr (inr (inl tags)) ↦ subst (Lacks z) (sym tags) (lacks_mid z free.usable [] (codes "refs/tags/") (codes "heads/remotes/HEAD.lock*@{") refl)
-      | inr (inr (inr (inl heads))) ↦ subst (Lacks z) (sym heads) (all_join (λ c. c ≢ z) (codes "refs/") (codes "heads/") (lacks_refs z free.usable) (lacks_mid z free.usable (codes "refs/tags/") (codes "heads/") (codes "remotes/HEAD.lock*@{") refl))
+      | inr (inr (inr (inl heads))) ↦ subst (Lacks z) (sym heads)
+          (all_join (λ c. c ≢ z) (codes "refs/") (codes "heads/") (lacks_refs z free.usable) (lacks_mid z free.usable (codes "refs/tags/") (codes "heads/") (codes "remotes/HEAD.lock*@{") refl))
       | inr (inr (inr (inr remotes))) ↦ subst (Lacks z) (sym remotes) lacks_remotes
     ]) lacks)
     | inr is ↦ subst (Lacks z) (sym is) (all_join (λ c. c ≢ z) (codes "refs/remotes/") (x ++ codes "/HEAD") lacks_remotes

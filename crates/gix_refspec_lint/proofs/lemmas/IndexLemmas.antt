@@ -20,11 +20,13 @@ pub all_listed : {X : Type 0} (P : X → Type 0) (xs : List X) → ((x : X) → 
 all_listed P xs each = recursion_from_All P xs (λ k d below. each (get_or xs k d) (Contains-get_or xs k d below))
 
 -- what is made of each element at an index has a property
-one_made : {X Y : Type 0} (R : ℕ → X → Y → Type 0) (P : Y → Type 0) (k : ℕ) (x : X) (rest : List Y) → ((y : Y) → R k x y → P y) → (o : Option Y) → MakesOf R k x o → AllByRecursion P rest → AllByRecursion P (option_to_list o ++ rest)
+one_made : {X Y : Type 0} (R : ℕ → X → Y → Type 0) (P : Y → Type 0) (k : ℕ) (x : X) (rest : List Y) → ((y : Y) → R k x y → P y) → (o : Option Y) → MakesOf R k x o → AllByRecursion P rest
+    → AllByRecursion P (option_to_list o ++ rest)
 one_made R P k x rest holds None none later = later
 one_made R P k x rest holds (Some y) makes later = (holds y makes, later)
 
-pub all_made : {X Y : Type 0} (R : ℕ → X → Y → Type 0) (P : Y → Type 0) (k : ℕ) (xs : List X) (ys : List Y) → ((j : ℕ) (x : X) (y : Y) → slice_get xs j ≡ Some x → R (k + j) x y → P y) → IsMadeFrom R k xs ys → AllByRecursion P ys
+pub all_made : {X Y : Type 0} (R : ℕ → X → Y → Type 0) (P : Y → Type 0) (k : ℕ) (xs : List X) (ys : List Y) → ((j : ℕ) (x : X) (y : Y) → slice_get xs j ≡ Some x → R (k + j) x y → P y)
+    → IsMadeFrom R k xs ys → AllByRecursion P ys
 all_made R P k [] ys holds made = subst (AllByRecursion P) (sym made) tt
 all_made {X} {Y} R P k (x ∷ xs) ys holds (made, rest, makes, more, same) =
     rw same (one_made R P k x rest (λ y is. holds 0 x y refl (subst (λ i. R i x y) (omega arith) is)) made makes
@@ -117,7 +119,8 @@ first_fewer refs few x n among present first = record {
 }
 
 -- a spec that maps a name over some refs maps it over others where it is, if a partial source has it as its first candidate
-pub makes_again : (refs few : List Ref) (n : List ℕ) (d : Option (List ℕ)) (r : Reading) → HasName few n → (makes : MakesForward refs (name n) d r) → ((m : List ℕ) → HasKind makes.ends.near (partial m) → IsFirstCandidate few m n) → MakesForward few (name n) d r
+pub makes_again : (refs few : List Ref) (n : List ℕ) (d : Option (List ℕ)) (r : Reading) → HasName few n → (makes : MakesForward refs (name n) d r)
+    → ((m : List ℕ) → HasKind makes.ends.near (partial m) → IsFirstCandidate few m n) → MakesForward few (name n) d r
 makes_again refs few n d r there makes first =
     let (k, item, below, is, paired) = makes.one in
     record {

@@ -82,7 +82,8 @@ module _ (g h : List Reading) (all : AllZip IsCompleted g h) (negative : Reading
       by_source : (k : ℕ) × (c : Reading) × (slice_get h k ≡ Some c) × ExcludesSome negative c → ⊥
       by_source (k, c, at, (id bytes, e)) = e.excludes
       by_source (k, c, at, (name n, e)) =
-          idle.excludes e.refs k n e.destination (record { maps = maps_of g h all k c at e.refs (name n) e.destination e.makes.makes; source = e.makes.source; destination = e.makes.destination }) (excluded_one n e.excludes)
+          idle.excludes e.refs k n e.destination
+          (record { maps = maps_of g h all k c at e.refs (name n) e.destination e.makes.makes; source = e.makes.source; destination = e.makes.destination }) (excluded_one n e.excludes)
 
   pub none_excluded : ¬ (Any (ExcludesSome negative) h) → IsIdleExclusion g negative
   none_excluded none = record {
@@ -171,7 +172,9 @@ stays_source l k c (id bytes) at positive none = none
 -- ---- idle specs
 
 made_of : {Y : Type 0} (P : ℕ → Reading → Y → Type 0) (k : ℕ) (g : List Reading) (idle : List Y) (u : Y) → IsMadeFrom P k g idle → Contains idle u → (j : ℕ) × (r : Reading) × (slice_get g j ≡ Some r) × P (k + j) r u
-made_of {Y} P k g idle u made there = of_element (λ v. (j : ℕ) × (r : Reading) × (slice_get g j ≡ Some r) × P (k + j) r v) idle u (all_made P (λ v. (j : ℕ) × (r : Reading) × (slice_get g j ≡ Some r) × P (k + j) r v) k g idle (λ j r y at makes. (j, r, at, makes)) made) there
+made_of {Y} P k g idle u made there =
+    of_element (λ v. (j : ℕ) × (r : Reading) × (slice_get g j ≡ Some r) × P (k + j) r v) idle u
+    (all_made P (λ v. (j : ℕ) × (r : Reading) × (slice_get g j ≡ Some r) × P (k + j) r v) k g idle (λ j r y at makes. (j, r, at, makes)) made) there
 
 same_or_other : (j k : ℕ) → (j ≡ k) ⊎ (j ≢ k)
 same_or_other zero zero = inl refl

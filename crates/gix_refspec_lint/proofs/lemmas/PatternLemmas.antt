@@ -11,7 +11,8 @@ use Rattle.gix_refspec_lint.proofs.lemmas.ByteLemmas.{excluded_moved, lacks_refs
 -- ---- specs with a source pattern
 
 -- the word of a name that a source pattern takes
-pub word_of : (c : Reading) (refs : List Ref) (n : List ℕ) (d : Option (List ℕ)) (makes : MakesForward refs (name n) d c) (p t : List ℕ) → HasSourcePattern c p t → (w : List ℕ) × (makes.one.4.word ≡ Some w) × (n ≡ p ++ (w ++ t))
+pub word_of : (c : Reading) (refs : List Ref) (n : List ℕ) (d : Option (List ℕ)) (makes : MakesForward refs (name n) d c) (p t : List ℕ) → HasSourcePattern c p t
+    → (w : List ℕ) × (makes.one.4.word ≡ Some w) × (n ≡ p ++ (w ++ t))
 word_of c refs n d makes p t source =
     let near : makes.ends.near ≡ source.text = same_Some _ _ (sym makes.has.near ∙ source.has) in
     by_word makes.one.4.word (matches_as makes.ends.near (pattern p t) makes.one.1 makes.one.4.word (subst (IsSplit p t) (sym near) source.split) makes.one.4.takes.matches)
@@ -205,7 +206,8 @@ module _ (g : List Reading) (z : ℕ) (free : IsFree g z) where
     pub lacks_front : (x e : List ℕ) → Lacks z x → Contains endings e → Lacks z ((mapped_so.before ++ x) ++ e)
     lacks_front x e lacks listed =
         let text = lacks_source k f.maps.maps.reading f.maps.maps.completed mapped_so.side.text f.maps.maps.at f.maps.maps.is mapped_so.side.has in
-        all_join (λ c. c ≢ z) (mapped_so.before ++ x) e (all_join (λ c. c ≢ z) mapped_so.before x (lacks_parts mapped_so.side.text mapped_so.before mapped_so.after text mapped_so.side.split).0 lacks) (lacks_ending e listed)
+        all_join (λ c. c ≢ z) (mapped_so.before ++ x) e (all_join (λ c. c ≢ z) mapped_so.before x
+        (lacks_parts mapped_so.side.text mapped_so.before mapped_so.after text mapped_so.side.split).0 lacks) (lacks_ending e listed)
 
     pub lacks_sides : Lacks z a × Lacks z b
     lacks_sides = lacks_parts d a b (lacks_destination k f.maps.maps.reading f.maps.maps.completed d a b f.maps.maps.at f.maps.maps.is has split) split
@@ -366,16 +368,16 @@ module _ (g : List Reading) (z : ℕ) (free : IsFree g z) (c : Reading) (p t : L
   texts_around x y = record { front = p ++ x; back = y ++ t } ∷ around_far spec.shape x y
 
   valid_far : (shape : HasShape c spec.far) (x v y : List ℕ) → CanBeWritten (spec.far (x ++ (v ++ y))) → AllByRecursion (IsRefAround v) (around_far shape x y)
-  valid_far (inl none) x v y written = tt
-  valid_far (inr far) x v y written =
-      let whole : CanBeWritten (Some (far.before ++ ((x ++ (v ++ y)) ++ far.after))) = subst CanBeWritten (far.is (x ++ (v ++ y))) written in
+  valid_far (inl none) x v y allowed = tt
+  valid_far (inr far) x v y allowed =
+      let whole : CanBeWritten (Some (far.before ++ ((x ++ (v ++ y)) ++ far.after))) = subst CanBeWritten (far.is (x ++ (v ++ y))) allowed in
       (subst IsRefName (sym (between far.before x v y far.after)) (inl whole), tt)
 
   written_far : (shape : HasShape c spec.far) (x e rest y : List ℕ) → AllByRecursion (λ a. BeginsWith (codes "refs/") (a ++ e)) (map (λ (s : Around). s.front) (around_far shape x y)) → CanBeWritten (spec.far (x ++ ((e ++ rest) ++ y)))
       → CanBeWritten (spec.far (x ++ ((e ++ z ∷ []) ++ y)))
-  written_far (inl none) x e rest y begins written = subst CanBeWritten (sym (none (x ++ ((e ++ z ∷ []) ++ y)))) tt
-  written_far (inr far) x e rest y begins written =
-      let whole : CanBeWritten (Some (far.before ++ ((x ++ ((e ++ rest) ++ y)) ++ far.after))) = subst CanBeWritten (far.is (x ++ ((e ++ rest) ++ y))) written in
+  written_far (inl none) x e rest y begins allowed = subst CanBeWritten (sym (none (x ++ ((e ++ z ∷ []) ++ y)))) tt
+  written_far (inr far) x e rest y begins allowed =
+      let whole : CanBeWritten (Some (far.before ++ ((x ++ ((e ++ rest) ++ y)) ++ far.after))) = subst CanBeWritten (far.is (x ++ ((e ++ rest) ++ y))) allowed in
       let valid : IsRefName (((far.before ++ x) ++ e) ++ (rest ++ (y ++ far.after))) = subst IsRefName (regroup far.before x e rest y far.after) (inl whole) in
       subst CanBeWritten (ap Some (sym (regroup far.before x e (z ∷ []) y far.after)) ∙ sym (far.is (x ++ ((e ++ z ∷ []) ++ y)))) (ref_moved g z free ((far.before ++ x) ++ e) rest (y ++ far.after) begins.0 valid)
 

@@ -72,12 +72,12 @@ differ_again n v x y some without once = some (append_cancel_right v [] y (sym (
 -- ---- a word that repeats within what a text begins or ends with, and within what a pattern's star stands for
 
 -- each text with the word so often is one that another word is in as often, put in its place
-record Repeats (x v y : List ℕ) (placed : List ℕ → List ℕ) : Type 0 where
-  front : List ℕ
-  word : List ℕ
-  back : List ℕ
-  size : length word ≡ length v
-  each : (i : ℕ) → x ++ (power v i ++ y) ≡ placed (front ++ (power word i ++ back))
+pub record Repeats (x v y : List ℕ) (placed : List ℕ → List ℕ) : Type 0 where
+  pub front : List ℕ
+  pub word : List ℕ
+  pub back : List ℕ
+  pub size : length word ≡ length v
+  pub each : (i : ℕ) → x ++ (power v i ++ y) ≡ placed (front ++ (power word i ++ back))
 
 -- what begins with a, without the word and with it once, begins with it however often the word stands there
 after_front : (a s t x v y : List ℕ) → x ++ y ≡ a ++ s → x ++ (v ++ y) ≡ a ++ t → Repeats x v y (λ z. a ++ z)
@@ -128,23 +128,15 @@ before_back b s t x v y without once = elim (parted x y s b without) [
           | inr (m, is, end) ↦ at c [] longer rest (sym (ap (λ z. c ++ z) (none_after c m v end) ∙ append-nil c))
         ]
 
--- the names that fit a pattern with a word so often, and a word that repeats in what they have for the star
-pub record WordsRepeat (a b x v y : List ℕ) : Type 0 where
-  pub front : List ℕ
-  pub word : List ℕ
-  pub back : List ℕ
-  pub size : length word ≡ length v
-  pub fits : (i : ℕ) → Fits a b (x ++ (power v i ++ y)) (front ++ (power word i ++ back))
-
 -- where a name without the word and with it once fits a pattern, it fits however often the word stands there, and what it
 -- has for the star has a word of the same length as often
-pub words_repeat : (a b v x y w0 w1 : List ℕ) → Fits a b (x ++ y) w0 → Fits a b (x ++ (v ++ y)) w1 → WordsRepeat a b x v y
+pub words_repeat : (a b v x y w0 w1 : List ℕ) → Fits a b (x ++ y) w0 → Fits a b (x ++ (v ++ y)) w1 → Repeats x v y (λ z. a ++ (z ++ b))
 words_repeat a b v x y w0 w1 without once = record {
   front = inner.front;
   word = inner.word;
   back = inner.back;
   size = inner.size ∙ outer.size;
-  fits = λ i. outer.each i ∙ ap (λ z. a ++ z) (inner.each i);
+  each = λ i. outer.each i ∙ ap (λ z. a ++ z) (inner.each i);
 }
   where
     outer : Repeats x v y (λ z. a ++ z)

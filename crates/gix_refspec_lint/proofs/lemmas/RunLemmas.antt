@@ -27,24 +27,21 @@ Goes Holds = (why : Why) (x v y : List ℕ) (i : ℕ) → why ≢ Unknown → v 
 module _ (Holds : Why → List ℕ → Type 0) (prefix suffix : List ℕ) where
   -- one that begins with an overlap
   pub run_first : (k : ℕ) (why : Why) (run : Run) → k ≤ length suffix → EndsWith (take k suffix) prefix → Holds why (prefix ++ drop k suffix) → IsFirstOf k why run → IsRun Holds prefix suffix run
-  run_first k why run within ends holds is =
-      record {
-        front = take k suffix;
-        word = 0 ∷ [];
-        times = 0;
-        rest = drop k suffix;
-        whole = sym (take-append-drop k suffix);
-        some = λ none. cc;
-        shortest = length-take-le k suffix within ∙ sym is.shortest;
-        longest = omega (arith, is.shortest, is.longest);
-        ends = ends;
-        equal = λ over. absurd (omega (arith, over));
-        holds = λ i below. no_more i below (subst (λ w. Holds w (prefix ++ drop k suffix)) (sym is.why) holds);
-      }
-    where
-      no_more : (i : ℕ) → i ≤ 0 → Holds run.why (prefix ++ drop k suffix) → Holds run.why (prefix ++ (power (0 ∷ []) i ++ drop k suffix))
-      no_more zero below here = here
-      no_more (suc i) below here = absurd (omega (arith, below))
+  run_first k why run within ends holds is = record {
+    front = take k suffix;
+    word = 0 ∷ [];
+    times = 0;
+    rest = drop k suffix;
+    whole = sym (take-append-drop k suffix);
+    some = λ none. cc;
+    shortest = length-take-le k suffix within ∙ sym is.shortest;
+    longest = omega (arith, is.shortest, is.longest);
+    ends = ends;
+    equal = λ over. absurd (omega (arith, over));
+    holds = λ i below.
+        let none : 0 ≡ i = omega (arith, below) in
+        subst (λ j. Holds run.why (prefix ++ (power (0 ∷ []) j ++ drop k suffix))) none (subst (λ w. Holds w (prefix ++ drop k suffix)) (sym is.why) holds);
+  }
 
   module _ (run : Run) (is : IsRun Holds prefix suffix run) (k : ℕ) (overlap : IsOverlap prefix suffix k) (below : k ≤ run.shortest) where
     under : k ≤ length is.front

@@ -20,7 +20,8 @@ returns-then-not-branch c g is written =
     let at = reading_at c.args.group.now.specs.now c.args.first c.index-group-first.result c.requires.0 in
     let named = both_named _ _ s t (rw c.new-items.ensures.items at c.in_ok-add_item.ensures) c.in_ok-add_item-2.ensures in (
       (λ told. absurd (false≢true told)),
-      (λ k. absurd (false≢true (sym c.if-not-branch.true ∙ c.in_ok-makes.ensures.1 (makes_named g _ is.completed c.args.first c.args.second (map ref_of c.as_slice-refs.result.now) s t (bstr_bytes c.args.destination) (rw c.as_slice-refs.ensures.value named) c.args.first _ at s k.one)))),
+      (λ k. absurd (false≢true (sym c.if-not-branch.true ∙ c.in_ok-makes.ensures.1
+          (makes_named g _ is.completed c.args.first c.args.second (map ref_of c.as_slice-refs.result.now) s t (bstr_bytes c.args.destination) (rw c.as_slice-refs.ensures.value named) c.args.first _ at s k.one)))),
     )
 
 pub returns : goal.returns

@@ -20,7 +20,8 @@ loop-shared-preserved c =
           (λ why n known reason. unsound_none negative spec c.args.spec.now.accepted why n known reason) c.match-at.why c.with-run.result (rw w.why-is (rw w.in-Some.is at c.at.ensures)) c.with-run.ensures
       | in-None+in_ok-name-in-None+in_ok-why-in-None+in_ok-excludes_at-in-None+else-branch w ↦
           one_more P (IsUnsound spec) _ _ _ list are c.loop-shared.shared-index c.loop-shared.run c.loop-shared.invariant c.loop-shared-test.true c.match-at.why c.with-run.result
-          (rw (w.source_named.ensures, w.in_ok-name-in-None.ensures) at (MatchBool-at_false _ _ w.if-branch.false w.in_ok-excludes_at-in-None.ensures)) (rw w.why-is (rw w.in_ok-name-in-None.ensures at w.in_ok-why-in-None.ensures)) c.with-run.ensures
+          (rw (w.source_named.ensures, w.in_ok-name-in-None.ensures) at (MatchBool-at_false _ _ w.if-branch.false w.in_ok-excludes_at-in-None.ensures))
+          (rw w.why-is (rw w.in_ok-name-in-None.ensures at w.in_ok-why-in-None.ensures)) c.with-run.ensures
     ]
 
 pub returns : goal.returns
