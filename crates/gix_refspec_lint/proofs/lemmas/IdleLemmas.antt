@@ -100,23 +100,17 @@ module _ (old : List (List ℕ)) (others : List BString) (away : List (List ℕ)
   n = bstring_bytes b
 
   pub allowed_more : (new : List BString) → new ≡ now ++ b ∷ [] → IsRefName n × ¬ (Contains away n) → AreAllowed old (map bstring_bytes (others ++ b ∷ [])) away (map bstring_bytes new)
-  allowed_more new is allowed =
-      rw (is, map-append bstring_bytes others (b ∷ []), map-append bstring_bytes now (b ∷ [])) (record { has_old = has_old; has = has; only = only })
-    where
-      has_old : (m : List ℕ) → Contains old m → Contains (map bstring_bytes now ++ n ∷ []) m
-      has_old m there = Contains-append_left (map bstring_bytes now) (n ∷ []) m (so_far.has_old m there)
-
-      has : (m : List ℕ) → Contains (map bstring_bytes others ++ n ∷ []) m → IsRefName m → ¬ (Contains away m) → Contains (map bstring_bytes now ++ n ∷ []) m
-      has m there valid free = elim (Contains-push_cases (map bstring_bytes others) n m there) [
-        | inl earlier ↦ Contains-append_left (map bstring_bytes now) (n ∷ []) m (so_far.has m earlier valid free)
-        | inr same ↦ Contains-append_right (map bstring_bytes now) (n ∷ []) m (zero, omega arith, same)
-      ]
-
-      only : (m : List ℕ) → Contains (map bstring_bytes now ++ n ∷ []) m → Contains old m ⊎ (IsRefName m × ¬ (Contains away m))
-      only m there = elim (Contains-push_cases (map bstring_bytes now) n m there) [
-        | inl earlier ↦ so_far.only m earlier
-        | inr same ↦ inr (subst (λ x. IsRefName x × ¬ (Contains away x)) same allowed)
-      ]
+  allowed_more new is allowed = rw (is, map-append bstring_bytes others (b ∷ []), map-append bstring_bytes now (b ∷ [])) (record {
+    has_old = λ m there. Contains-append_left (map bstring_bytes now) (n ∷ []) m (so_far.has_old m there);
+    has = λ m there valid free. elim (Contains-push_cases (map bstring_bytes others) n m there) [
+      | inl earlier ↦ Contains-append_left (map bstring_bytes now) (n ∷ []) m (so_far.has m earlier valid free)
+      | inr same ↦ Contains-append_right (map bstring_bytes now) (n ∷ []) m (zero, omega arith, same)
+    ];
+    only = λ m there. elim (Contains-push_cases (map bstring_bytes now) n m there) [
+      | inl earlier ↦ so_far.only m earlier
+      | inr same ↦ inr (subst (λ x. IsRefName x × ¬ (Contains away x)) same allowed)
+    ];
+  })
 
   pub allowed_same : ¬ (IsRefName n × ¬ (Contains away n)) → AreAllowed old (map bstring_bytes (others ++ b ∷ [])) away (map bstring_bytes now)
   allowed_same none = rw (map-append bstring_bytes others (b ∷ [])) (record {

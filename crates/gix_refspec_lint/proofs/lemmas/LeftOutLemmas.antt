@@ -1,23 +1,16 @@
 -- Negative specs that exclude nothing.
 use Rattle.gix_refspec_lint.proofs.Common.{◌≡◌, inl, inr, ℕ, ◌+◌, ◌<◌, ◌≤◌, Bool, true, false, MatchBool, not, drop, take, List, [], ◌∷◌, ◌++◌, Option, None, Some, length, map, option_to_list, get_or}
-use Rattle.gix_refspec_lint.proofs.Common.{refl, sym, ap, ◌∙◌, subst, AllByRecursion, AllZip, Any, slice_get, Excludes, Fits, by_pattern, the_name, IsAccepted, Reading, Negative, IsSplit}
-use Rattle.gix_refspec_lint.proofs.Common.{lacks_no_pattern, split_once, IsMadeFrom, MakesOf, Source, name, id, IsExcludedBy, IsSourceExcluded, made_more, some_at, IsCompleted, ref_named}
-use Rattle.gix_refspec_lint.proofs.Common.{same_excluded, IsFree, IsIdleExclusion, ExcludesFrom, ExcludesSome, HasSourcePattern, ShareSources, IsDeciding, words_with, IsOverlap, Common, of_element}
-use Rattle.gix_refspec_lint.proofs.Common.{slice_get_read, slice_get-map, option_map, ◌≢◌, ◌⊎◌, zero, suc, arith, Contains, same_Some, Ref, IsPositive, Mapped, IsExcluded, MakesForward, IsValidSource}
-use Rattle.gix_refspec_lint.proofs.Common.{kept_exactly, IsSound, IdleExclusionLeftOut, IdleLeftOut, AreValid, Fetches, IsIdleBy, MapsSoundly, Reason}
+use Rattle.gix_refspec_lint.proofs.Common.{refl, sym, ap, ◌∙◌, subst, AllByRecursion, AllZip, Any, slice_get, Excludes, Fits, by_pattern, the_name, IsAccepted, Reading, Negative, IsSplit, IsMadeFrom}
+use Rattle.gix_refspec_lint.proofs.Common.{MakesOf, Source, name, id, IsExcludedBy, IsSourceExcluded, made_more, some_at, IsCompleted, ref_named, same_excluded, IsFree, IsIdleExclusion, ExcludesFrom}
+use Rattle.gix_refspec_lint.proofs.Common.{ExcludesSome, HasSourcePattern, ShareSources, IsDeciding, words_with, IsOverlap, Common, of_element, slice_get_read, slice_get-map, option_map, ◌≢◌, ◌⊎◌}
+use Rattle.gix_refspec_lint.proofs.Common.{zero, suc, arith, Contains, same_Some, Ref, IsPositive, Mapped, IsExcluded, MakesForward, IsValidSource, kept_exactly, IsSound, IdleExclusionLeftOut}
+use Rattle.gix_refspec_lint.proofs.Common.{IdleLeftOut, AreValid, Fetches, IsIdleBy, MapsSoundly, Reason}
 use Rattle.gix_refspec_lint.specs.Laws.Lint.{without}
 use Rattle.gix_refspec_lint.specs.declared.Reason.TheVariants as reason
 use Rattle.gix_refspec_lint.proofs.lemmas.RunLemmas.{each_deciding}
 use Rattle.gix_refspec_lint.proofs.lemmas.PatternLemmas.{decide, pattern_spec, spec_made}
-use Rattle.gix_refspec_lint.proofs.lemmas.OneSpecLemmas.{excludes_by, text_excludes}
+use Rattle.gix_refspec_lint.proofs.lemmas.OneSpecLemmas.{excludes_by, text_excludes, fits_excluded}
 use Rattle.gix_refspec_lint.proofs.lemmas.IndexLemmas.{maps_of, excluded_same, zip_to, any_at, excluded_at, zip_of, still_excluded, completed_at, all_made, by_index}
-
--- a pattern excludes what fits it
-fits_excluded : (x before after n : List ℕ) → IsSplit before after x → Excludes x n → (w : List ℕ) × Fits before after n w
-fits_excluded x before after n split (the_name lacks same) = absurd (lacks_no_pattern x before after lacks split)
-fits_excluded x before after n split (by_pattern front back w parts fits) =
-    let both = split_once x front back before after parts split in
-    (w, subst (λ a. Fits a after n w) both.0 (subst (λ b. Fits front b n w) both.1 fits))
 
 -- what is excluded and mapped is so at a name that decides
 pub none_shared : (g : List Reading) (z : ℕ) (free : IsFree g z) (negative c : Reading) (common : Common) → negative.mode ≡ Negative → ∥ IsAccepted c ∥₁ → ShareSources negative c common

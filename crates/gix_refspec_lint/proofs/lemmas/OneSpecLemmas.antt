@@ -103,6 +103,13 @@ excludes_told n c s false by none = λ e. none e.destination (sound_alone e.refs
 
 -- ---- what a negative spec excludes
 
+-- a pattern excludes what fits it
+pub fits_excluded : (x before after n : List ℕ) → IsSplit before after x → Excludes x n → (w : List ℕ) × Fits before after n w
+fits_excluded x before after n split (the_name lacks same) = absurd (lacks_no_pattern x before after lacks split)
+fits_excluded x before after n split (by_pattern front back w parts fits) =
+    let both = split_once x front back before after parts split in
+    (w, subst (λ a. Fits a after n w) both.0 (subst (λ b. Fits front b n w) both.1 fits))
+
 -- the texts before and after the star of a source
 pub parts_pattern : (r : Reading) (parts : Bor (List ℕ) × Bor (List ℕ)) → HasParts r.source (Some parts) → HasSourcePattern r parts.0.now parts.1.now
 parts_pattern r parts (x, has, split) = record { text = x; has = has; split = split }
@@ -133,13 +140,10 @@ module _ (r : Reading) (x : List ℕ) (negative : r.mode ≡ Negative) (has : r.
   pub pattern_excludes : (before after : List ℕ) (word : Option (Bor (List ℕ))) → ((y : List ℕ) × (Some x ≡ Some y) × IsSplit before after y)
       → MatchOption word ((w : List ℕ) → ¬ (Fits before after n w)) (λ w. Fits before after n w.now) → IsTrue (is_some word) ↔ IsSourceExcluded (r ∷ []) (name n)
   pattern_excludes before after (Some w) (y, is, split) fits = ((λ told. excludes_by (by_pattern before after w.now (subst (IsSplit before after) (sym (same_Some _ _ is)) split) fits)), (λ by. refl))
-  pattern_excludes before after None (y, is, split) none = ((λ told. absurd (false≢true told)), (λ by. absurd (fitting (text_excludes by))))
-    where
-      fitting : ¬ (Excludes x n)
-      fitting (the_name lacks same) = lacks_no_pattern x before after lacks (subst (IsSplit before after) (sym (same_Some _ _ is)) split)
-      fitting (by_pattern front back w parts fits) =
-          let both = split_once x front back before after parts (subst (IsSplit before after) (sym (same_Some _ _ is)) split) in
-          none w (subst (λ a. Fits a after n w) both.0 (subst (λ b. Fits front b n w) both.1 fits))
+  pattern_excludes before after None (y, is, split) none = (
+    (λ told. absurd (false≢true told)),
+    (λ by. let (w, fits) = fits_excluded x before after n (subst (IsSplit before after) (sym (same_Some _ _ is)) split) (text_excludes by) in absurd (none w fits)),
+  )
 
 -- two texts that a test finds equal
 pub same_bytes : (x y n : List ℕ) {b : Bool} → b ≡ pointwise nat_eq x y → y ≡ n → (b ≡ true) ↔ (x ≡ n)
