@@ -1,7 +1,7 @@
 -- Borders of borders, and how a border grows by a byte.
 use Rattle.gix_refspec_lint.proofs.Common.{◌≡◌, ◌≢◌, ℕ, zero, suc, ◌+◌, ◌-◌, ◌<◌, List, get_or, set, length, sym, ap, subst, ◌∙◌, arith, ⊎_elim, get_or-set_same, get_or-set_other, cases_eq, cases_lt}
-use Rattle.gix_refspec_lint.proofs.Common.{AreLongestTo, IsBorderAt, IsLongestAt, ◌≤◌, [], ◌∷◌, ◌++◌, take, drop, length-append, length-drop, AllByRecursion, Contains, ext_get_or, get_or-append-add}
-use Rattle.gix_refspec_lint.proofs.Common.{get_or-drop, get_or-take, length-take-le, Contains-append_left, Contains-push, AreBorders, IsBorder}
+use Rattle.gix_refspec_lint.proofs.Common.{AreLongestTo, IsBorderAt, IsLongestAt, [], ◌∷◌, ◌++◌, take, drop, length-drop, AllByRecursion, Contains, ext_get_or, get_or-drop, get_or-take}
+use Rattle.gix_refspec_lint.proofs.Common.{length-take-le, Contains-append_left, Contains-push, IsBorder}
 use Rattle.std.proofs.lemmas.List.{take-append-drop}
 
 module _ (text : List ℕ) where
@@ -107,19 +107,6 @@ border_here text k some at = record {
   };
 }
 
--- and the other way round
-pub border_at : (text : List ℕ) (k : ℕ) → IsBorder text k → IsBorderAt text (length text) k
-border_at text k is =
-    let p = is.shorter in
-    let before = is.same.before in
-    let front = length-take-le k text (omega arith) in
-    let long : length before ≡ length text - k = omega (arith, ap length is.same.here, length-append before (take k text)) in
-    record {
-      shorter = p;
-      repeats = λ i l.
-          sym (get_or-take k text i 0 l) ∙ sym (get_or-append-add before (take k text) i 0) ∙ sym (ap (λ x. get_or x (length before + i) 0) is.same.here) ∙ ap (λ n. get_or text (n + i) 0) long;
-    }
-
 -- the borders longer than len are listed, and len is the next, or 0
 pub record AreLonger (text lengths : List ℕ) (len : ℕ) : Type 0 where
   pub border : IsBorderAt text (length text) len
@@ -141,10 +128,4 @@ longer_more text lengths len next some old is = record {
       ⊎_elim (λ below. absurd (is.longest k l (border_between text old.border at below)))
       (λ from. ⊎_elim (λ e. subst (Contains (lengths ++ len ∷ [])) (sym e) (Contains-push lengths len)) (λ ne. Contains-append_left lengths (len ∷ []) k (old.all k (omega arith) at)) (cases_eq k len))
       (cases_lt k len);
-}
-
-pub longer_all : (text lengths : List ℕ) (len : ℕ) → len ≤ 0 → AreLonger text lengths len → AreBorders text lengths
-longer_all text lengths len none are = record {
-  each = are.each;
-  all = λ k is. let some = is.some in are.all k (omega arith) (border_at text k is);
 }

@@ -122,13 +122,6 @@ module _ (old : List (List ℕ)) (others : List BString) (away : List (List ℕ)
     only = so_far.only;
   })
 
-pub none_added : (old away : List (List ℕ)) → AreAllowed old [] away old
-none_added old away = record {
-  has_old = λ n there. there;
-  has = λ n none valid free. absurd (omega (arith, none.1));
-  only = λ n there. inl there;
-}
-
 -- ---- tests
 
 pub does_told : {M P : Type 0} (b : Bool) → IsTrue b ↔ M → (M → P) → (P → M) → MatchBool b P (¬ P)

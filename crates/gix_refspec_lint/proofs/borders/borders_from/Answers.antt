@@ -1,6 +1,6 @@
 -- Each border but the longest is a border of the next longer one.
 use Rattle.gix_refspec_lint.proofs.Common.{length, arith}
-use Rattle.gix_refspec_lint.proofs.lemmas.BorderLemmas.{longer_all, longer_more, longer_none}
+use Rattle.gix_refspec_lint.proofs.lemmas.BorderLemmas.{longer_more, longer_none}
 use Rattle.gix_refspec_lint.proofs.borders.borders_from.Goals as goal
 
 pub loop-len-init : goal.loop-len-init
@@ -13,6 +13,3 @@ loop-len-preserved c =
     let len = c.loop-len.len in
     let shorter = c.loop-len.invariant.border.shorter in
     rw (c.in_ok-push.ensures.items) (longer_more c.args.text.now c.loop-len.lengths.items len _ c.loop-len-test.true c.loop-len.invariant (c.requires.known len c.loop-len-test.true (omega arith)))
-
-pub returns : goal.returns
-returns c = longer_all _ _ _ (omega arith) c.loop-len.invariant

@@ -1,10 +1,7 @@
 -- One more name, which is allowed or not.
 use Rattle.gix_refspec_lint.proofs.Common.{map, map-id, sym, ◌∙◌, subst, rules, MatchBool-at_false, MatchBool-at_true, YieldsList-from_vec, YieldsList-end, bstring_bytes, AreAllowed}
-use Rattle.gix_refspec_lint.proofs.lemmas.IdleLemmas.{allowed_more, allowed_same, none_added}
+use Rattle.gix_refspec_lint.proofs.lemmas.IdleLemmas.{allowed_more, allowed_same}
 use Rattle.gix_refspec_lint.proofs.idle.add_allowed.Goals as goal
-
-pub loop-name-init : goal.loop-name-init
-loop-name-init c = none_added (map bstring_bytes c.args.names.now.items) (map bstring_bytes c.args.kept_away.now)
 
 pub returns : goal.returns
 returns c =
