@@ -1,7 +1,7 @@
 -- Borders of borders, and how a border grows by a byte.
 use Rattle.gix_refspec_lint.proofs.Common.{◌≡◌, ◌≢◌, ℕ, zero, suc, ◌+◌, ◌-◌, ◌<◌, List, get_or, set, length, sym, ap, subst, ◌∙◌, arith, ⊎_elim, get_or-set_same, get_or-set_other, cases_eq, cases_lt}
 use Rattle.gix_refspec_lint.proofs.Common.{AreLongestTo, IsBorderAt, IsLongestAt, [], ◌∷◌, ◌++◌, take, drop, length-drop, AllByRecursion, Contains, ext_get_or, get_or-drop, get_or-take}
-use Rattle.gix_refspec_lint.proofs.Common.{length-take-le, Contains-append_left, Contains-push, IsBorder}
+use Rattle.gix_refspec_lint.proofs.Common.{length-take-le, Contains-append_left, Contains-push, IsBorder, all_join}
 use Rattle.std.proofs.lemmas.List.{take-append-drop}
 
 module _ (text : List ℕ) where
@@ -116,14 +116,10 @@ pub record AreLonger (text lengths : List ℕ) (len : ℕ) : Type 0 where
 pub longer_none : (text : List ℕ) (len : ℕ) → IsLongestAt text (length text) len → AreLonger text [] len
 longer_none text len is = record { border = is.is_border; each = tt; all = λ k l at. absurd (is.longest k l at) }
 
-all_push : {X : Type 0} (P : X → Type 0) (xs : List X) (x : X) → AllByRecursion P xs → P x → AllByRecursion P (xs ++ x ∷ [])
-all_push P [] x all here = (here, tt)
-all_push P (y ∷ xs) x all here = (all.0, all_push P xs x all.1 here)
-
 pub longer_more : (text lengths : List ℕ) (len next : ℕ) → 0 < len → AreLonger text lengths len → IsLongestAt text len next → AreLonger text (lengths ++ len ∷ []) next
 longer_more text lengths len next some old is = record {
   border = border_in text old.border is.is_border;
-  each = all_push (IsBorder text) lengths len old.each (border_here text len some old.border);
+  each = all_join (IsBorder text) lengths (len ∷ []) old.each (border_here text len some old.border, tt);
   all = λ k l at.
       ⊎_elim (λ below. absurd (is.longest k l (border_between text old.border at below)))
       (λ from. ⊎_elim (λ e. subst (Contains (lengths ++ len ∷ [])) (sym e) (Contains-push lengths len)) (λ ne. Contains-append_left lengths (len ∷ []) k (old.all k (omega arith) at)) (cases_eq k len))
