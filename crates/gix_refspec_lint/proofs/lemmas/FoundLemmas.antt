@@ -103,7 +103,8 @@ module _ (g : List Reading) (group : Group) (is : IsGroupOf g group) (k : ℕ) (
   maps_as_pattern parts (x, has, split) refs s d f = maps_pattern spec (accepted_of group.specs.now k spec at) x parts.0.now parts.1.now has split refs s d (makes_of refs s d f)
 
 -- two specs
-module _ (g : List Reading) (group : Group) (is : IsGroupOf g group) (parts : List (Option (Bor (List ℕ) × Bor (List ℕ)))) (have : HaveParts group.specs.now parts) (i j : ℕ) (x y : RefSpecRef) (below : i < length group.specs.now) (inside : j < length group.specs.now) where
+module _ (g : List Reading) (group : Group) (is : IsGroupOf g group) (parts : List (Option (Bor (List ℕ) × Bor (List ℕ)))) (have : HaveParts group.specs.now parts)
+    (i j : ℕ) (x y : RefSpecRef) (below : i < length group.specs.now) (inside : j < length group.specs.now) where
   -- with two names that differ
   pub names_differ : get_or parts i None ≡ None → get_or parts j None ≡ None → (n m : List ℕ) → (reading_of (get_or group.specs.now i x)).destination ≡ Some n
       → (reading_of (get_or group.specs.now j y)).destination ≡ Some m → n ≢ m → (e : Example) → ¬ (IsExample g i j e)

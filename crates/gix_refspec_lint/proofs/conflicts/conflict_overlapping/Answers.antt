@@ -24,7 +24,8 @@ loop-shared-preserved c g is have =
           (rw w.why-is (rw w.in-Some.is at c.at.ensures)) c.with-run.ensures
       | in-None+in_ok-name-in-None+in_ok-conflict-in-None+in-Nothing w ↦
           let told = rw (w.as_bstr.ensures, w.in_ok-name-in-None.ensures) at (rw w.in-Nothing.is at (w.in_ok-conflict-in-None.ensures g is one other have.one.at have.other.at)) in
-          one_more (NoneAt g c.args.first c.args.second) (Fails g one other) _ _ _ list are c.loop-shared.shared-index c.loop-shared.run so_far c.loop-shared-test.true c.match-at.why c.with-run.result told.0 (rw w.why-is told.1) c.with-run.ensures
+          one_more (NoneAt g c.args.first c.args.second) (Fails g one other) _ _ _ list are c.loop-shared.shared-index c.loop-shared.run so_far c.loop-shared-test.true
+          c.match-at.why c.with-run.result told.0 (rw w.why-is told.1) c.with-run.ensures
     ]
 
 pub returns : goal.returns
