@@ -2,7 +2,7 @@
 use Rattle.gix_refspec_text.proofs.Common.{[], None, Some, codes, refl, arith, star, bracket, Normal, pushed, IsPrefix, of_name, of_pattern, IsCovering, by_prefix, by_candidates, HasCoveringSource}
 use Rattle.gix_refspec_text.proofs.Common.{same_Some, HasNoPrefix}
 use Rattle.gix_refspec_text.proofs.facts.ManualFacts.{Lacks-tested, other_length}
-use Rattle.gix_refspec_text.proofs.facts.FitFacts.{split_at_end, no_dev, short, short_kind, other_byte, other_first, push_is_none}
+use Rattle.gix_refspec_text.proofs.facts.FitFacts.{split_at_end, no_dev, short, short_kind, blob_kind, other_byte, other_first, push_is_none}
 use Rattle.gix_refspec_text.proofs.lemmas.lists.LacksLemmas.{Lacks-here}
 use Rattle.gix_refspec_text.proofs.lemmas.prefixes.PrefixLemmas.{no_prefix}
 
@@ -15,12 +15,13 @@ below_heads = of_pattern (codes "refs/heads/") [] (split_at_end (codes "refs/hea
   last = tt;
 }) refl
 
--- a pattern that begins with `refs/heads/`, a full name and a partial one are covering
-pub covering : IsCovering (codes "refs/heads/*") × IsCovering (codes "refs/heads/main") × IsCovering (codes "main")
+-- a pattern that begins with `refs/heads/`, a full name, a partial one and an id are covering
+pub covering : IsCovering (codes "refs/heads/*") × IsCovering (codes "refs/heads/main") × IsCovering (codes "main") × IsCovering (codes "e69de29bb2d1d6434b8b29ae775ad8c2e48c5391")
 covering = (
   by_prefix (codes "refs/heads/") (record { after = codes "heads/*"; here = refl }) below_heads,
   by_prefix (codes "refs/heads/main") (record { after = codes "heads/main"; here = refl }) (of_name (record { after = codes "heads/main"; here = refl }) (Lacks-tested star (codes "refs/heads/main") refl) refl),
   by_candidates short_kind.1 (other_byte 0 (codes "main") (codes "HEAD") (λ same. omega (arith, same))) short_kind.2,
+  by_candidates blob_kind.0 (other_length _ _ (λ size. omega (arith, size))) blob_kind.1,
 )
 
 -- a pattern with its star right after `refs/` has no prefix

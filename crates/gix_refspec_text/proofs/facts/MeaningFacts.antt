@@ -1,7 +1,7 @@
 -- Examples for this project's own rules on meanings, canonical texts, order and reasons: where a sign has a meaning,
 -- which text gets another one, and how instructions compare.
 use Rattle.gix_refspec_text.proofs.Common.{◌≡◌, true, false, [], None, Some, codes, refl, Less, Equal, Greater, Push, Fetch, Normal, Forced, Negative, fetched, pushed, push_all_matching, push_delete}
-use Rattle.gix_refspec_text.proofs.Common.{push_matching, push_exclude, fetch_only, fetch_exclude, fetch_and_update, meaning_of, text_of, printed, order, is_same, Refusal, NegativeWithDestination}
+use Rattle.gix_refspec_text.proofs.Common.{push_matching, push_exclude, fetch_only, fetch_exclude, fetch_and_update, meaning_of, text_of, printed, all_tags, order, is_same, Refusal, NegativeWithDestination}
 use Rattle.gix_refspec_text.proofs.Common.{PushToEmpty, PatternUnbalanced, NegativeEmpty, NegativeObjectHash, meant_for, IsShownAs, Empty}
 use Rattle.gix_refspec_text.specs.declared.parsing.Error.TheVariants as error
 
@@ -53,6 +53,10 @@ pub pluses : (text_of (fetch_only (codes "+foo")) ≡ codes "++foo") × (text_of
     × (printed (pushed Normal (Some (codes "main")) None) ≡ Some (codes "main:main"))
     × (printed (fetched Forced (codes "main") None) ≡ Some (codes "main"))
 pluses = (refl, refl, refl, refl, refl, refl, refl, refl, refl, refl, refl, refl)
+
+-- all tags are fetched without force
+pub tags_printed : printed all_tags ≡ Some (codes "refs/tags/*:refs/tags/*")
+tags_printed = refl
 
 -- the operation of each meaning
 pub operations : (meant_for (push_exclude (codes "a")) ≡ Push) × (meant_for (fetch_exclude (codes "a")) ≡ Fetch) × (meant_for (push_delete (codes "a")) ≡ Push) × (meant_for (fetch_only (codes "a")) ≡ Fetch)

@@ -1,6 +1,6 @@
 -- Sides, candidates and matches: also texts of another kind, names that aren't candidates, and refs that aren't
 -- matched.
-use Rattle.gix_refspec_text.proofs.Common.{◌≡◌, ◌≢◌, ℕ, List, [], ◌∷◌, Option, None, Some, codes, refl, sym, subst, arith, AllByRecursion, star, SideKind, pattern, full_name, object, partial, IsId}
+use Rattle.gix_refspec_text.proofs.Common.{◌≡◌, ◌≢◌, ◌⊎◌, ℕ, List, [], ◌∷◌, Option, None, Some, codes, refl, sym, subst, arith, AllByRecursion, star, SideKind, pattern, full_name, object, partial, IsId}
 use Rattle.gix_refspec_text.proofs.Common.{HasKind, candidates, IsCandidate, Excludes, the_name, by_pattern, filled, MatchesAs, Matches, inl, inr, Lacks, HasOneStar, IsIdText, Normal, fetched, pushed}
 use Rattle.gix_refspec_text.proofs.Common.{Fits, same_Some}
 use Rattle.gix_refspec_text.proofs.lemmas.texts.TextLemmas.{one_not_two}
@@ -11,6 +11,7 @@ use Rattle.gix_refspec_text.proofs.facts.FaultFacts.{begins_not}
 use Rattle.gix_refspec_text.proofs.facts.ObjectIdFacts.{empty_blob, IsIdText-empty_blob, IsIdText-empty_blob_in_upper_case}
 use Rattle.gix_refspec_text.proofs.facts.FitFacts.{other_byte, short_kind, short_no_id, blob_kind, every, heads_split, origin_split, short}
 use Rattle.gix_refspec_text.proofs.lemmas.lists.LacksLemmas.{Lacks-here}
+use Rattle.gix_refspec_text.specs.Matching.Side.{written_name_of}
 use Rattle.gix_refspec_text.specs.Laws.Sides.{SidesAgree, OneKind, OneId, OneOfEach}
 use Rattle.gix_refspec_text.proofs.facts.ReasonFacts.{one_star_alone}
 
@@ -77,6 +78,15 @@ pub filled_with_words : (filled (full_name (codes "refs/x/a")) (Some (codes "w")
     × (filled (partial (codes "x/tags/a")) None ≡ codes "refs/heads/x/tags/a")
 filled_with_words = (refl, refl, refl, refl, refl)
 
+-- a fetch writes a destination below `refs/`: `refs/` is put only before `heads/`, `tags/` and `remotes/`
+pub written_names : (written_name_of (codes "heads/a") ≡ codes "refs/heads/a") × (written_name_of (codes "tags/v1") ≡ codes "refs/tags/v1")
+    × (written_name_of (codes "remotes/o/a") ≡ codes "refs/remotes/o/a")
+    × (written_name_of (codes "remotes") ≡ codes "refs/heads/remotes")
+    × (written_name_of (codes "x/tags/a") ≡ codes "refs/heads/x/tags/a")
+    × (written_name_of (codes "refs/x") ≡ codes "refs/x")
+    × (written_name_of (codes "refs") ≡ codes "refs/heads/refs")
+written_names = (refl, refl, refl, refl, refl, refl, refl)
+
 -- ---- readings whose sides agree, and what a caller concludes from the laws on sides
 
 -- the sides of what `git clone` writes agree, and so does a source alone
@@ -86,12 +96,17 @@ agree = search (arith, same_Some, heads_split, origin_split)
 no_star_in_b : ¬ (HasOneStar (codes "b"))
 no_star_in_b (before, after, split) = Lacks-here star before after (subst (Lacks star) split.starred (Lacks-tested star (codes "b") refl))
 
+several_stars : ¬ (HasOneStar (codes "a*b*") ⊎ Lacks star (codes "a*b*"))
+several_stars (inl one) = one_star_alone.3 one
+several_stars (inr lacks) = Lacks-here star (codes "a") (codes "b*") lacks
+
 -- sides with a star on only one side, or with several stars, don't
-pub disagree : ¬ (SidesAgree (fetched Normal (codes "a*") (Some (codes "b")))) × ¬ (SidesAgree (pushed Normal (Some (codes "b")) (Some (codes "a*")))) × ¬ (SidesAgree (fetched Normal (codes "a*b*") None))
+pub disagree : ¬ (SidesAgree (fetched Normal (codes "a*") (Some (codes "b")))) × ¬ (SidesAgree (pushed Normal (Some (codes "b")) (Some (codes "a*")))) × ¬ (SidesAgree (fetched Normal (codes "a*b*") None)) × ¬ (SidesAgree (pushed Normal None (Some (codes "a*b*"))))
 disagree = (
   (λ law. elim (law.both (codes "a*") (codes "b") refl refl) [ inl both ↦ no_star_in_b both.1 | inr neither ↦ Lacks-here star (codes "a") [] neither.0 ]),
   (λ law. elim (law.both (codes "b") (codes "a*") refl refl) [ inl both ↦ no_star_in_b both.0 | inr neither ↦ Lacks-here star (codes "a") [] neither.1 ]),
-  λ law. elim (law.each (codes "a*b*") (inl refl)) [ inl one ↦ one_star_alone.3 one | inr lacks ↦ Lacks-here star (codes "a") (codes "b*") lacks ],
+  (λ law. several_stars (law.each (codes "a*b*") (inl refl))),
+  λ law. several_stars (law.each (codes "a*b*") (inr refl)),
 )
 
 -- a side has no other kind, and a text no other id
