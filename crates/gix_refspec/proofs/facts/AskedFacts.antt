@@ -1,6 +1,6 @@
 -- Examples of ref prefixes, for sides and groups like those of git-fetch(1), and what a caller concludes from them.
 use Rattle.gix_refspec.proofs.Common.{Lacks-tested, other_length, begins_not, blob_kind, split_at_end, every, no_dev, other_byte, short_kind, mapping, ◌≡◌, inl, inr, ℕ, List, [], ◌∷◌, ◌++◌, None, Some}
-use Rattle.gix_refspec.proofs.Common.{codes, length, refl, ap, subst, arith, bracket, star, BeginsWith, Normal, fetched, pushed, pattern, partial, object, HasKind, candidates, IsRefPrefix, Ref, Mapped}
+use Rattle.gix_refspec.proofs.Common.{codes, length, refl, ap, subst, arith, bracket, star, BeginsWith, Normal, fetched, pushed, pattern, partial, full_name, object, HasKind, candidates, IsRefPrefix, Ref, Mapped}
 use Rattle.gix_refspec.proofs.Common.{AreKeptForward, HasNoList, Lists, ListsGroup, ListsSide, Serves, by_cases}
 use Rattle.gix_refspec.proofs.lemmas.prefixes.AskedLemmas.{list_as, no_list}
 use Rattle.gix_refspec.proofs.facts.KeptFacts.{of_one}
@@ -24,14 +24,15 @@ head_kind = (
   (λ is. id_not_head (codes "HEAD") is.0 is.1 refl),
 )
 
--- the list of a pattern is its prefix, that of a partial name and of `HEAD` their candidates, and that of an id is
--- empty
-pub lists_of_sides : ListsSide (codes "refs/heads/*") (codes "refs/heads/" ∷ []) × ListsSide (codes "main") (candidates (codes "main")) × ListsSide (codes "HEAD") (candidates (codes "HEAD")) × ListsSide (codes "e69de29bb2d1d6434b8b29ae775ad8c2e48c5391") []
+-- the list of a pattern is its prefix, that of a partial name and of `HEAD` their candidates, that of an id is empty,
+-- and that of a full name is the name alone
+pub lists_of_sides : ListsSide (codes "refs/heads/*") (codes "refs/heads/" ∷ []) × ListsSide (codes "main") (candidates (codes "main")) × ListsSide (codes "HEAD") (candidates (codes "HEAD")) × ListsSide (codes "e69de29bb2d1d6434b8b29ae775ad8c2e48c5391") [] × ListsSide (codes "refs/heads/main") (codes "refs/heads/main" ∷ [])
 lists_of_sides = (
   record { kind = pattern (codes "refs/heads/") []; of = split_at_end (codes "refs/heads/") refl; is = (below_heads, refl) },
   record { kind = partial (codes "main"); of = short_kind; is = refl },
   record { kind = partial (codes "HEAD"); of = head_kind; is = refl },
   record { kind = object _; of = blob_kind; is = refl },
+  record { kind = full_name _; of = (refl, Lacks-tested star (codes "refs/heads/main") refl, record { after = codes "heads/main"; here = refl }); is = refl },
 )
 
 -- a star directly after `refs/` has no list; that of `HEAD` isn't `HEAD` alone, and that of a partial name isn't empty

@@ -59,6 +59,13 @@ no_newline_read law text r reads same = (subst (LacksIn 10) same (law.sides 10 t
 pub no_tab_printed : NoControlCharacter → (text : List ℕ) (r : Reading) → Reads Fetch text r → printed r ≢ Some (codes "a\tb")
 no_tab_printed law text r reads same = (law.texts 9 text r (codes "a\tb") (omega arith) reads same).1.0 refl
 
+-- nor does either contain 31, the last byte that the law covers
+pub no_31_read : NoControlCharacter → (text : List ℕ) (r : Reading) → Reads Fetch text r → (r.source ≢ Some (97 ∷ 31 ∷ [])) × (printed r ≢ Some (97 ∷ 31 ∷ []))
+no_31_read law text r reads = ((λ same. (subst (LacksIn 31) same (law.sides 31 text r (omega arith) reads).0).1.0 refl), λ same. (law.texts 31 text r (97 ∷ 31 ∷ []) (omega arith) reads same).1.0 refl)
+
 -- and no mapping contains a newline if no name does
 pub no_newline_mapped : NoControlCharacter → (g : List Reading) (items : List Ref) → AllByRecursion (SidesLack 10) g → AllByRecursion (λ r. Lacks 10 r.name) items → ¬ (AreKeptForward g items (two_lines ∷ []))
 no_newline_mapped law g items sides names kept = lacks.2 (law.mapped 10 g items (two_lines ∷ []) (omega arith) sides names kept).0
+
+pub no_31_mapped : NoControlCharacter → (g : List Reading) (items : List Ref) → AllByRecursion (SidesLack 31) g → AllByRecursion (λ r. Lacks 31 r.name) items → ¬ (AreKeptForward g items (mapping 0 (97 ∷ 31 ∷ []) None 0 ∷ []))
+no_31_mapped law g items sides names kept = (law.mapped 31 g items (mapping 0 (97 ∷ 31 ∷ []) None 0 ∷ []) (omega arith) sides names kept).0.0.1.0 refl

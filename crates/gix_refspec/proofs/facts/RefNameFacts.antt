@@ -32,6 +32,10 @@ good = codes "refs/heads/main"
 pub without_names : IsValidSource (id []) × IsValidDestination None × ¬ (IsValidDestination (Some bad))
 without_names = (tt, tt, no_ref_names.2)
 
+-- so is `HEAD`, on both sides
+pub at_head : HasRefNames (mapping 0 (codes "HEAD") (Some (codes "HEAD")) 0)
+at_head = record { source = ref_names.1; destination = ref_names.1 }
+
 abbrev pub kept : Mapped
 kept = mapping 0 good (Some good) 0
 

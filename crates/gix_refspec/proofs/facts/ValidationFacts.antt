@@ -96,10 +96,10 @@ one_tag l all d contested = contested.differ (of_element _ l contested.one all c
 pub one_source : (d : List ℕ) → ¬ (HasConflictAt (tag_to_x ∷ tag_to_foo ∷ tag_alone ∷ tag_again ∷ []) d)
 one_source = one_tag _ (refl, (refl, (refl, (refl, tt))))
 
--- conflicts are strictly increasing by destination
-pub rising : (c d : Conflict) → c.destination ≡ codes "refs/x/b" → d.destination ≡ codes "refs/x/aa" → ¬ (AreConflicts both_to_x meeting (c ∷ d ∷ [])) × ¬ (AreConflicts both_to_x meeting (c ∷ c ∷ []))
+-- conflicts are strictly increasing by destination, whatever the mappings are
+pub rising : (g : List Reading) (l : List Mapped) (c d : Conflict) → c.destination ≡ codes "refs/x/b" → d.destination ≡ codes "refs/x/aa" → ¬ (AreConflicts g l (c ∷ d ∷ [])) × ¬ (AreConflicts g l (c ∷ c ∷ []))
 unfolding IsStrictlySortedBy
-rising c d to_b to_aa = (
+rising g l c d to_b to_aa = (
   (λ are. let less : Greater ≡ Less = subst (λ (x : List ℕ). slice_cmp nat_cmp x (codes "refs/x/aa") ≡ Less) to_b (subst (λ (x : List ℕ). slice_cmp nat_cmp c.destination x ≡ Less) to_aa are.order.0.0) in cc),
   (λ are. let less : Equal ≡ Less = subst (λ (x : List ℕ). slice_cmp nat_cmp x x ≡ Less) to_b are.order.0.0 in cc),
 )
