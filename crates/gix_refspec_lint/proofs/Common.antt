@@ -23,7 +23,7 @@ pub use Rattle.gix_refspec_text.specs.Matching.Match.{HasName, IsFirstCandidate,
 pub use Rattle.gix_refspec_text.specs.Matching.Side.{Excludes, Fits, HasKind, IsCandidate, SideKind, by_pattern, candidates, filled, full_name, object, partial, pattern, the_name}
 pub use Rattle.gix_refspec_text.specs.Private.Scan.{Added, AddsFault, LeavesFault}
 pub use Rattle.gix_refspec_text.specs.Specs.Grammar.{IsAccepted, IsPositive, fetched}
-pub use Rattle.gix_refspec_text.specs.Specs.Reading.{Forced, Negative, Reading}
+pub use Rattle.gix_refspec_text.specs.Specs.Reading.{Forced, Normal, Negative, Reading}
 pub use Rattle.gix_refspec_text.specs.Texts.Bytes.{brace, dot, head, slash, star}
 pub use Rattle.gix_refspec_text.specs.Texts.Name.{HasOneStar, HasStar, IsName, IsSplit, is_refused_byte}
 pub use Rattle.gix_refspec_text.specs.Texts.Words.{BeginsWith, EndsWith, Lacks}

@@ -1,15 +1,19 @@
 -- Examples of the definitions of what specs do together, on each side of a border.
-use Rattle.gix_refspec_lint.proofs.Common.{false, ◌≡◌, ◌≢◌, inl, inr, ℕ, List, [], ◌∷◌, ◌++◌, Option, None, Some, codes, refl, sym, ◌∙◌, subst, arith, AllByRecursion, Contains, slice_get, same_Some}
-use Rattle.gix_refspec_lint.proofs.Common.{HasName, Ref, Excludes, by_pattern, pattern, the_name, fetched, Forced, Negative, Reading, star, IsSplit, Lacks, Lacks-tested, lacks_no_pattern}
-use Rattle.gix_refspec_lint.proofs.Common.{AreKeptForward, Mapped, HasPair, IsExcluded, IsExcludedBy, name, MakesForward, IsRefName, one_name, CanBeWritten, IsCompleted, IsPlan, IsSound, Planned}
+use Rattle.gix_refspec_lint.proofs.Common.{false, false≢true, ◌≡◌, ◌≢◌, inl, inr, ℕ, List, [], ◌∷◌, ◌++◌, Option, None, Some, codes, refl, sym, ◌∙◌, subst, arith, AllByRecursion, Contains, slice_get, same_Some, BeginsWith, Source, Lacks-here}
+use Rattle.gix_refspec_lint.proofs.Common.{HasName, Ref, Excludes, by_pattern, pattern, the_name, fetched, Forced, Normal, Negative, Reading, star, IsSplit, Lacks, Lacks-tested, lacks_no_pattern}
+use Rattle.gix_refspec_lint.proofs.Common.{AreKeptForward, Mapped, HasPair, IsExcluded, IsExcludedBy, id, name, MakesForward, IsRefName, one_name, CanBeWritten, IsCompleted, IsPlan, IsSound, Planned}
+use Rattle.gix_refspec_lint.proofs.Common.{HasKind, full_name, Takes, IsFirstCandidate, IsPaired, IsFilled, named_some, some_named, matches_as}
 use Rattle.gix_refspec_lint.proofs.Common.{Origin, ConflictFree, ConflictsShown, ExamplesConflict, HasSound, IdleExclusionLeftOut, IdleLeftOut, PlanConflictFree, AreExamples, AreIdle}
-use Rattle.gix_refspec_lint.proofs.Common.{AreIdleExclusions, AreValid, DoesBefore, Example, IsAlwaysEarlier, IsExample, IsIdleBy, IsIdleExclusion, MapsSoundly, refs_of}
+use Rattle.gix_refspec_lint.proofs.Common.{AreIdleExclusions, AreValid, DoesBefore, Example, IsAlwaysEarlier, IsExample, IsIdleBy, IsIdleExclusion, Maps, MapsSoundly, refs_of, IsFree}
+use Rattle.gix_refspec_lint.specs.Matching.Lint.{IsAlwaysExcluded}
 use Rattle.gix_refspec_lint.specs.declared.Reason.TheVariants as reason
 use Rattle.gix_refspec_plan.specs.declared.Verdict.TheVariants as verdict
-use Rattle.gix_refspec_text.proofs.facts.FitFacts.{every, heads_split, origin_split, other_byte, other_first, split_at_end}
+use Rattle.gix_refspec_text.proofs.facts.FitFacts.{every, heads_split, origin_split, other_byte, other_first, short_kind, short_no_id, split_at_end}
+use Rattle.gix_refspec_text.proofs.lemmas.hits.CandidateLemmas.{taken_by_first}
+use Rattle.gix_refspec_match.proofs.facts.CandidateFacts.{x_kind}
 use Rattle.gix_refspec_text.proofs.lemmas.texts.TestedLemmas.{IsName-tested}
 use Rattle.gix_refspec.specs.Matching.Validation.{ShareDestination}
-use Rattle.gix_refspec_lint.proofs.lemmas.PatternLemmas.{spec_maps}
+use Rattle.gix_refspec_lint.proofs.lemmas.PatternLemmas.{spec_maps, word_of}
 
 -- pull requests in the folder of the branches, and the way out
 abbrev pulls : Reading
@@ -20,6 +24,13 @@ no_pr = fetched Negative (codes "refs/heads/pr/*") None
 
 abbrev no_main : Reading
 no_main = fetched Negative (codes "main") None
+
+-- all branches, which are left out; and a name that may be short for that of a branch
+abbrev no_heads : Reading
+no_heads = fetched Negative (codes "refs/heads/*") None
+
+abbrev main_to_x : Reading
+main_to_x = fetched Normal (codes "main") (Some (codes "refs/x"))
 
 abbrev seven : Example
 seven = record { first = 0; second = 1; one = name (codes "refs/heads/pr/7"); other = name (codes "refs/pull/7/head"); destination = codes "refs/remotes/origin/pr/7" }
@@ -74,6 +85,22 @@ none_negative r forced n (inr (inr none)) = none
 pr_excluded : IsExcludedBy (codes "refs/heads/pr/7") no_pr
 pr_excluded = record { negative = refl; text = codes "refs/heads/pr/*"; source = refl; excludes = by_pattern (codes "refs/heads/pr/") [] (codes "7") (split_at_end (codes "refs/heads/pr/") refl) refl }
 
+no_ref : ¬ (IsRefName (codes "main"))
+no_ref (inl (begins, named)) = other_first 109 (codes "ain") (λ same. omega (arith, same)) begins
+no_ref (inr same) = other_byte 0 (codes "main") (codes "HEAD") (λ equal. omega (arith, equal)) same
+
+named_valid : (refs : List Ref) (n : List ℕ) → AreValid refs → HasName refs n → IsRefName n
+named_valid [] n all has = absurd has
+named_valid (r ∷ refs) n all (inl is) = subst IsRefName is all.0
+named_valid (r ∷ refs) n all (inr has) = named_valid refs n all.1 has
+
+-- what the spec at an index is completed to; if its source begins `refs/`, it maps no id
+completed_at : {g : List Reading} {refs : List Ref} {k : ℕ} {s : Source} {d : Option (List ℕ)} (r : Reading) → slice_get g k ≡ Some r → (m : Maps g refs k s d) → IsCompleted r m.completed
+completed_at r at m = subst (λ q. IsCompleted q m.completed) (same_Some _ _ (sym m.at ∙ at)) m.is
+
+maps_no_id : {g : List Reading} {refs : List Ref} {k : ℕ} {bytes : List ℕ} {d : Option (List ℕ)} (r : Reading) (x : List ℕ) → slice_get g k ≡ Some r → r.source ≡ Some (codes "refs/" ++ x) → ¬ (Maps g refs k (id bytes) d)
+maps_no_id r x at is m = m.makes.object.1 (subst (BeginsWith (codes "refs/")) (same_Some _ _ (sym is ∙ sym (completed_at r at m).source ∙ m.makes.side)) (record { after = x; here = refl }))
+
 -- a branch in the folder of the pull requests, and the pull request of its name, are an example of a conflict
 pub example : IsExample (every ∷ pulls ∷ []) 0 1 seven
 example = record {
@@ -94,6 +121,10 @@ no_example = (
   (λ e. omega (arith, e.order)),
 )
 
+-- so a conflict is listed once, and not also with the indexes and the sources exchanged
+pub listed_once : ¬ (IsExample (every ∷ pulls ∷ []) 1 0 (record { first = 1; second = 0; one = seven.other; other = seven.one; destination = seven.destination }))
+listed_once e = omega (arith, e.order)
+
 -- of two equal specs the second is idle, and not the first
 pub second_idle : IsIdleBy (every ∷ every ∷ []) 1 (reason.Duplicate 0) × ((h : ℕ) → ¬ (IsIdleBy (every ∷ every ∷ []) 0 (reason.Duplicate h)))
 second_idle = ((earlier, does), (λ h is. omega (arith, is.1.before)))
@@ -112,23 +143,148 @@ second_idle = ((earlier, does), (λ h is. omega (arith, is.1.before)))
       maps = (heads_seven (every ∷ every ∷ []) 0 refl).maps;
     }
 
+-- a negative spec without `refs/` excludes no valid ref, so it is idle in any group
+names_no_ref : (g : List Reading) → IsIdleExclusion g no_main
+names_no_ref g = record { negative = refl; excludes = λ refs i n d maps by. by_case n by.text by.source by.excludes maps.source }
+  where
+    by_case : (n x : List ℕ) → Some (codes "main") ≡ Some x → Excludes x n → ¬ (IsRefName n)
+    by_case n x is (the_name lacks same) valid = no_ref (subst IsRefName (same ∙ sym (same_Some _ _ is)) valid)
+    by_case n x is (by_pattern before after word split fits) valid = lacks_no_pattern x before after (subst (Lacks star) (same_Some _ _ is) (Lacks-tested star (codes "main") refl)) split
+
 -- a negative spec without `refs/` names no branch, and one of a branch excludes something
 pub excludes_none : IsIdleExclusion (every ∷ no_main ∷ []) no_main × ¬ (IsIdleExclusion (every ∷ no_pr ∷ []) no_pr)
-excludes_none = (
-  record { negative = refl; excludes = nothing },
-  λ idle. idle.excludes both 0 (codes "refs/heads/pr/7") (Some seven.destination) (heads_seven (every ∷ no_pr ∷ []) 0 refl) pr_excluded,
+excludes_none = (names_no_ref (every ∷ no_main ∷ []), λ idle. idle.excludes both 0 (codes "refs/heads/pr/7") (Some seven.destination) (heads_seven (every ∷ no_pr ∷ []) 0 refl) pr_excluded)
+
+-- a mapping from a ref `main` is left out anyway, so a negative spec that excludes that alone is idle
+pub excludes_invalid : IsIdleExclusion (main_to_x ∷ no_main ∷ []) no_main
+excludes_invalid = names_no_ref (main_to_x ∷ no_main ∷ [])
+
+abbrev all_excluded : List Reading
+all_excluded = every ∷ no_main ∷ no_heads ∷ []
+
+-- what is always excluded is so by a spec that excludes one of its sources, and not by any negative spec
+pub excluded_by : IsIdleBy all_excluded 0 (reason.Excluded 2) × ¬ (IsIdleBy all_excluded 0 (reason.Excluded 1))
+excluded_by = (
+  (always, record { refs = both; source = _; destination = _; maps = heads_seven all_excluded 0 refl; negative = no_heads; at = refl; excludes = excluded (codes "refs/heads/pr/7") (codes "pr/7") refl }),
+  (λ is. (names_no_ref all_excluded).excludes is.1.refs 0 is.1.source is.1.destination is.1.maps (subst (IsExcludedBy is.1.source) (sym (same_Some _ _ is.1.at)) is.1.excludes)),
 )
   where
-    no_ref : ¬ (IsRefName (codes "main"))
-    no_ref (inl (begins, named)) = other_first 109 (codes "ain") (λ same. omega (arith, same)) begins
-    no_ref (inr same) = other_byte 0 (codes "main") (codes "HEAD") (λ equal. omega (arith, equal)) same
+    excluded : (n w : List ℕ) → n ≡ codes "refs/heads/" ++ (w ++ []) → IsExcludedBy n no_heads
+    excluded n w fits = record { negative = refl; text = codes "refs/heads/*"; source = refl; excludes = by_pattern (codes "refs/heads/") [] w heads_split fits }
 
-    nothing : (refs : List Ref) (i : ℕ) (n : List ℕ) (d : Option (List ℕ)) → MapsSoundly (every ∷ no_main ∷ []) refs i (name n) d → ¬ (IsExcludedBy n no_main)
-    nothing refs i n d maps by = by_case by.text by.source by.excludes
-      where
-        by_case : (x : List ℕ) → Some (codes "main") ≡ Some x → Excludes x n → ⊥
-        by_case x is (the_name lacks same) = no_ref (subst IsRefName (same ∙ sym (same_Some _ _ is)) maps.source)
-        by_case x is (by_pattern before after word split fits) = lacks_no_pattern x before after (subst (Lacks star) (same_Some _ _ is) (Lacks-tested star (codes "main") refl)) split
+    always : IsAlwaysExcluded all_excluded 0
+    always refs (name n) d f =
+        let m = f.maps.maps in
+        let (w, some, fits) = word_of m.completed refs n d m.makes (codes "refs/heads/") [] (record { text = codes "refs/heads/*"; has = (completed_at every refl m).source; split = heads_split }) in
+        f.included (inr (inr (inl (excluded n w fits))))
+    always refs (id bytes) d f = maps_no_id every (codes "heads/*") refl refl f.maps.maps
+
+-- the same destination for `main` and for `refs/main`: the first never is a ref, so it stands for the second before any other
+abbrev main_twice : List Reading
+main_twice = main_to_x ∷ fetched Normal (codes "refs/main") (Some (codes "refs/x")) ∷ []
+
+-- so the second spec is idle
+pub full_name_idle : IsIdleBy main_twice 1 (reason.Duplicate 0)
+full_name_idle = (earlier, does)
+  where
+    below : BeginsWith (codes "refs/") (codes "refs/main")
+    below = record { after = codes "main"; here = refl }
+
+    kind : HasKind (codes "refs/main") (full_name (codes "refs/main"))
+    kind = (refl, Lacks-tested star (codes "refs/main") refl, below)
+
+    done : (x : List ℕ) → IsCompleted (fetched Normal x (Some (codes "refs/x"))) (fetched Normal x (Some (codes "refs/x")))
+    done x = record { operation = refl; mode = refl; source = refl; destination = inr (Lacks-tested star (codes "refs/x") refl, refl) }
+
+    by_short : (refs : List Ref) (n : List ℕ) (d : Option (List ℕ)) → AreValid refs → HasName refs n → n ≡ codes "refs/main" → IsFilled (Some (codes "refs/x")) None d → Maps main_twice refs 0 (name n) d
+    by_short refs n d valid there is becomes = record {
+      reading = main_to_x;
+      at = refl;
+      completed = main_to_x;
+      is = done (codes "main");
+      makes = record {
+        ends = record { near = codes "main"; far = Some (codes "refs/x") };
+        has = record { positive = tt; near = refl; far = refl; no_object = λ bytes kind. short_no_id bytes kind.2 };
+        one = named_some (IsPaired (Takes refs) (record { near = codes "main"; far = Some (codes "refs/x") }) n d) refs n there (λ r named. record {
+          word = None;
+          name = named;
+          takes = taken_by_first refs (codes "main") r short_kind (subst (IsFirstCandidate refs (codes "main")) (sym (named ∙ is)) (record {
+            earlier = codes "main" ∷ [];
+            later = _;
+            here = refl;
+            absent = ((λ has. no_ref (named_valid refs (codes "main") valid has)), tt);
+            present = subst (HasName refs) is there;
+          }));
+          becomes = becomes;
+        });
+      };
+    }
+
+    earlier : IsAlwaysEarlier main_twice 1
+    earlier refs (name n) d valid f =
+        let m = f.maps.maps in
+        let one = m.makes.one.4 in
+        let completed = completed_at (fetched Normal (codes "refs/main") (Some (codes "refs/x"))) refl m in
+        let near : codes "refs/main" ≡ m.makes.ends.near = same_Some _ _ (sym completed.source ∙ m.makes.has.near) in
+        let taken = matches_as m.makes.ends.near (full_name (codes "refs/main")) m.makes.one.1 one.word (subst (λ x. HasKind x (full_name (codes "refs/main"))) near kind) one.takes.matches in
+        let far : m.makes.ends.far ≡ Some (codes "refs/x") = sym m.makes.has.far ∙ elim completed.destination [ inl (has, is) ↦ is | inr (lacks, is) ↦ is ] in
+        let becomes : IsFilled (Some (codes "refs/x")) None d = subst (λ w. IsFilled (Some (codes "refs/x")) w d) taken.0 (subst (λ e. IsFilled e one.word d) far one.becomes) in
+        (0, omega arith, by_short refs n d valid (some_named (IsPaired (Takes refs) m.makes.ends n d) refs n (λ r paired. paired.name) m.makes.one) (sym one.name ∙ taken.1) becomes)
+    earlier refs (id bytes) d valid f = absurd (maps_no_id (fetched Normal (codes "refs/main") (Some (codes "refs/x"))) (codes "main") refl refl f.maps.maps)
+
+    valid : IsRefName (codes "refs/main")
+    valid = inl (below, IsName-tested (codes "refs/main") refl)
+
+    does : DoesBefore main_twice 1 0
+    does = record {
+      refs = refs_of (name (codes "refs/main"));
+      valid = (valid, tt);
+      source = name (codes "refs/main");
+      destination = Some (codes "refs/x");
+      fetches = record {
+        maps = record {
+          maps = record {
+            reading = fetched Normal (codes "refs/main") (Some (codes "refs/x"));
+            at = refl;
+            completed = fetched Normal (codes "refs/main") (Some (codes "refs/x"));
+            is = done (codes "refs/main");
+            makes = record {
+              ends = record { near = codes "refs/main"; far = Some (codes "refs/x") };
+              has = record { positive = tt; near = refl; far = refl; no_object = λ bytes kind. kind.1 below };
+              one = (
+                0,
+                _,
+                omega arith,
+                refl,
+                record {
+                  word = None;
+                  name = refl;
+                  takes = record { matches = record { kind = full_name (codes "refs/main"); of = kind; is = (refl, refl) }; first = λ m short. absurd (short.2 below) };
+                  becomes = (full_name (codes "refs/x"), x_kind, refl);
+                },
+              );
+            };
+          };
+          source = valid;
+          destination = (record { after = codes "x"; here = refl }, IsName-tested (codes "refs/x") refl);
+        };
+        included = λ by. grind arith;
+      };
+      before = omega arith;
+      maps = by_short (refs_of (name (codes "refs/main"))) (codes "refs/main") (Some (codes "refs/x")) (valid, tt) (inl refl) refl (full_name (codes "refs/x"), x_kind, refl);
+    }
+
+-- ---- the free byte
+
+-- any byte may be free, but no larger number, no star, no letter of the folders, and none that a side has
+pub free : IsFree [] 255 × ¬ (IsFree [] 256) × ¬ (IsFree [] 42) × ¬ (IsFree [] 114) × ¬ (IsFree (every ∷ []) 105)
+free = (
+  record { byte = omega arith; usable = refl; lacks = tt },
+  (λ is. omega (arith, is.byte)),
+  (λ is. false≢true is.usable),
+  (λ is. false≢true is.usable),
+  λ is. Lacks-here 105 (codes "refs/remotes/or") (codes "gin/*") is.lacks.0.1,
+)
 
 -- ---- the laws
 
