@@ -2,7 +2,7 @@
 use Rattle.gix_refspec_lint.proofs.Common.{false, false≢true, ◌≡◌, ◌≢◌, inl, inr, ℕ, List, [], ◌∷◌, ◌++◌, Option, None, Some, codes, refl, sym, ◌∙◌, subst, arith, AllByRecursion, Contains, slice_get, same_Some, BeginsWith, Source, Lacks-here}
 use Rattle.gix_refspec_lint.proofs.Common.{HasName, Ref, Excludes, by_pattern, pattern, the_name, fetched, Forced, Normal, Negative, Reading, star, IsSplit, Lacks, Lacks-tested, lacks_no_pattern}
 use Rattle.gix_refspec_lint.proofs.Common.{AreKeptForward, Mapped, HasPair, IsExcluded, IsExcludedBy, id, name, MakesForward, IsRefName, one_name, CanBeWritten, IsCompleted, IsPlan, IsSound, Planned}
-use Rattle.gix_refspec_lint.proofs.Common.{HasKind, full_name, Takes, IsFirstCandidate, IsPaired, IsFilled, named_some, some_named, matches_as}
+use Rattle.gix_refspec_lint.proofs.Common.{HasKind, full_name, object, Takes, IsFirstCandidate, IsPaired, IsFilled, named_some, some_named, matches_as}
 use Rattle.gix_refspec_lint.proofs.Common.{Origin, ConflictFree, ConflictsShown, ExamplesConflict, HasSound, IdleExclusionLeftOut, IdleLeftOut, PlanConflictFree, AreExamples, AreIdle}
 use Rattle.gix_refspec_lint.proofs.Common.{AreIdleExclusions, AreValid, DoesBefore, Example, IsAlwaysEarlier, IsExample, IsIdleBy, IsIdleExclusion, Maps, MapsSoundly, refs_of, IsFree}
 use Rattle.gix_refspec_lint.specs.Matching.Lint.{IsAlwaysExcluded}
@@ -25,12 +25,12 @@ no_pr = fetched Negative (codes "refs/heads/pr/*") None
 abbrev no_main : Reading
 no_main = fetched Negative (codes "main") None
 
--- all branches, which are left out; and a name that may be short for that of a branch
+-- no branch at all, and a spec of one destination
 abbrev no_heads : Reading
 no_heads = fetched Negative (codes "refs/heads/*") None
 
-abbrev main_to_x : Reading
-main_to_x = fetched Normal (codes "main") (Some (codes "refs/x"))
+abbrev to_x : List ℕ → Reading
+to_x x = fetched Normal x (Some (codes "refs/x"))
 
 abbrev seven : Example
 seven = record { first = 0; second = 1; one = name (codes "refs/heads/pr/7"); other = name (codes "refs/pull/7/head"); destination = codes "refs/remotes/origin/pr/7" }
@@ -156,8 +156,8 @@ pub excludes_none : IsIdleExclusion (every ∷ no_main ∷ []) no_main × ¬ (Is
 excludes_none = (names_no_ref (every ∷ no_main ∷ []), λ idle. idle.excludes both 0 (codes "refs/heads/pr/7") (Some seven.destination) (heads_seven (every ∷ no_pr ∷ []) 0 refl) pr_excluded)
 
 -- a mapping from a ref `main` is left out anyway, so a negative spec that excludes that alone is idle
-pub excludes_invalid : IsIdleExclusion (main_to_x ∷ no_main ∷ []) no_main
-excludes_invalid = names_no_ref (main_to_x ∷ no_main ∷ [])
+pub excludes_invalid : IsIdleExclusion (to_x (codes "main") ∷ no_main ∷ []) no_main
+excludes_invalid = names_no_ref (to_x (codes "main") ∷ no_main ∷ [])
 
 abbrev all_excluded : List Reading
 all_excluded = every ∷ no_main ∷ no_heads ∷ []
@@ -179,11 +179,26 @@ excluded_by = (
         f.included (inr (inr (inl (excluded n w fits))))
     always refs (id bytes) d f = maps_no_id every (codes "heads/*") refl refl f.maps.maps
 
--- the same destination for `main` and for `refs/main`: the first never is a ref, so it stands for the second before any other
+-- the same destination for `main` and for `refs/main`: as no valid ref is named `main`, the first spec takes the second's ref
 abbrev main_twice : List Reading
-main_twice = main_to_x ∷ fetched Normal (codes "refs/main") (Some (codes "refs/x")) ∷ []
+main_twice = to_x (codes "main") ∷ to_x (codes "refs/main") ∷ []
 
--- so the second spec is idle
+-- a spec without a star maps what it takes
+maps_to_x : (x : List ℕ) (k : ℕ) → slice_get main_twice k ≡ Some (to_x x) → ((bytes : List ℕ) → ¬ (HasKind x (object bytes))) → (refs : List Ref) (n : List ℕ) (d : Option (List ℕ)) → HasName refs n → IsFilled (Some (codes "refs/x")) None d
+    → ((r : Ref) → r.name ≡ n → Takes refs x r None) → Maps main_twice refs k (name n) d
+maps_to_x x k at no_object refs n d there becomes takes = record {
+  reading = to_x x;
+  at = at;
+  completed = to_x x;
+  is = record { operation = refl; mode = refl; source = refl; destination = inr (Lacks-tested star (codes "refs/x") refl, refl) };
+  makes = record {
+    ends = record { near = x; far = Some (codes "refs/x") };
+    has = record { positive = tt; near = refl; far = refl; no_object = no_object };
+    one = named_some (IsPaired (Takes refs) (record { near = x; far = Some (codes "refs/x") }) n d) refs n there (λ r named. record { word = None; name = named; takes = takes r named; becomes = becomes });
+  };
+}
+
+-- so the second is idle
 pub full_name_idle : IsIdleBy main_twice 1 (reason.Duplicate 0)
 full_name_idle = (earlier, does)
   where
@@ -193,86 +208,49 @@ full_name_idle = (earlier, does)
     kind : HasKind (codes "refs/main") (full_name (codes "refs/main"))
     kind = (refl, Lacks-tested star (codes "refs/main") refl, below)
 
-    done : (x : List ℕ) → IsCompleted (fetched Normal x (Some (codes "refs/x"))) (fetched Normal x (Some (codes "refs/x")))
-    done x = record { operation = refl; mode = refl; source = refl; destination = inr (Lacks-tested star (codes "refs/x") refl, refl) }
+    valid : IsRefName (codes "refs/main")
+    valid = inl (below, IsName-tested (codes "refs/main") refl)
 
-    by_short : (refs : List Ref) (n : List ℕ) (d : Option (List ℕ)) → AreValid refs → HasName refs n → n ≡ codes "refs/main" → IsFilled (Some (codes "refs/x")) None d → Maps main_twice refs 0 (name n) d
-    by_short refs n d valid there is becomes = record {
-      reading = main_to_x;
-      at = refl;
-      completed = main_to_x;
-      is = done (codes "main");
-      makes = record {
-        ends = record { near = codes "main"; far = Some (codes "refs/x") };
-        has = record { positive = tt; near = refl; far = refl; no_object = λ bytes kind. short_no_id bytes kind.2 };
-        one = named_some (IsPaired (Takes refs) (record { near = codes "main"; far = Some (codes "refs/x") }) n d) refs n there (λ r named. record {
-          word = None;
-          name = named;
-          takes = taken_by_first refs (codes "main") r short_kind (subst (IsFirstCandidate refs (codes "main")) (sym (named ∙ is)) (record {
-            earlier = codes "main" ∷ [];
-            later = _;
-            here = refl;
-            absent = ((λ has. no_ref (named_valid refs (codes "main") valid has)), tt);
-            present = subst (HasName refs) is there;
-          }));
-          becomes = becomes;
-        });
-      };
-    }
+    to_first : (refs : List Ref) (n : List ℕ) (d : Option (List ℕ)) → AreValid refs → HasName refs n → n ≡ codes "refs/main" → IsFilled (Some (codes "refs/x")) None d → Maps main_twice refs 0 (name n) d
+    to_first refs n d valid there is becomes =
+        let absent : AllByRecursion (λ m. ¬ (HasName refs m)) (codes "main" ∷ []) = ((λ has. no_ref (named_valid refs (codes "main") valid has)), tt) in
+        let first : IsFirstCandidate refs (codes "main") (codes "refs/main") = record { earlier = codes "main" ∷ []; later = _; here = refl; absent = absent; present = subst (HasName refs) is there } in
+        maps_to_x (codes "main") 0 refl (λ bytes kind. short_no_id bytes kind.2) refs n d there becomes (λ r named. taken_by_first refs (codes "main") r short_kind (subst (IsFirstCandidate refs (codes "main")) (sym (named ∙ is)) first))
 
     earlier : IsAlwaysEarlier main_twice 1
     earlier refs (name n) d valid f =
         let m = f.maps.maps in
         let one = m.makes.one.4 in
-        let completed = completed_at (fetched Normal (codes "refs/main") (Some (codes "refs/x"))) refl m in
+        let completed = completed_at (to_x (codes "refs/main")) refl m in
         let near : codes "refs/main" ≡ m.makes.ends.near = same_Some _ _ (sym completed.source ∙ m.makes.has.near) in
         let taken = matches_as m.makes.ends.near (full_name (codes "refs/main")) m.makes.one.1 one.word (subst (λ x. HasKind x (full_name (codes "refs/main"))) near kind) one.takes.matches in
         let far : m.makes.ends.far ≡ Some (codes "refs/x") = sym m.makes.has.far ∙ elim completed.destination [ inl (has, is) ↦ is | inr (lacks, is) ↦ is ] in
         let becomes : IsFilled (Some (codes "refs/x")) None d = subst (λ w. IsFilled (Some (codes "refs/x")) w d) taken.0 (subst (λ e. IsFilled e one.word d) far one.becomes) in
-        (0, omega arith, by_short refs n d valid (some_named (IsPaired (Takes refs) m.makes.ends n d) refs n (λ r paired. paired.name) m.makes.one) (sym one.name ∙ taken.1) becomes)
-    earlier refs (id bytes) d valid f = absurd (maps_no_id (fetched Normal (codes "refs/main") (Some (codes "refs/x"))) (codes "main") refl refl f.maps.maps)
-
-    valid : IsRefName (codes "refs/main")
-    valid = inl (below, IsName-tested (codes "refs/main") refl)
+        (0, omega arith, to_first refs n d valid (some_named (IsPaired (Takes refs) m.makes.ends n d) refs n (λ r paired. paired.name) m.makes.one) (sym one.name ∙ taken.1) becomes)
+    earlier refs (id bytes) d valid f = absurd (maps_no_id (to_x (codes "refs/main")) (codes "main") refl refl f.maps.maps)
 
     does : DoesBefore main_twice 1 0
-    does = record {
-      refs = refs_of (name (codes "refs/main"));
-      valid = (valid, tt);
-      source = name (codes "refs/main");
-      destination = Some (codes "refs/x");
-      fetches = record {
-        maps = record {
-          maps = record {
-            reading = fetched Normal (codes "refs/main") (Some (codes "refs/x"));
-            at = refl;
-            completed = fetched Normal (codes "refs/main") (Some (codes "refs/x"));
-            is = done (codes "refs/main");
-            makes = record {
-              ends = record { near = codes "refs/main"; far = Some (codes "refs/x") };
-              has = record { positive = tt; near = refl; far = refl; no_object = λ bytes kind. kind.1 below };
-              one = (
-                0,
-                _,
-                omega arith,
-                refl,
-                record {
-                  word = None;
-                  name = refl;
-                  takes = record { matches = record { kind = full_name (codes "refs/main"); of = kind; is = (refl, refl) }; first = λ m short. absurd (short.2 below) };
-                  becomes = (full_name (codes "refs/x"), x_kind, refl);
-                },
-              );
+    does =
+        let refs = refs_of (name (codes "refs/main")) in
+        let becomes : IsFilled (Some (codes "refs/x")) None (Some (codes "refs/x")) = (full_name (codes "refs/x"), x_kind, refl) in
+        let takes : (r : Ref) → r.name ≡ codes "refs/main" → Takes refs (codes "refs/main") r None =
+        λ r named. record { matches = record { kind = full_name (codes "refs/main"); of = kind; is = (refl, named) }; first = λ m short. absurd (short.2 below) } in
+        record {
+          refs = refs;
+          valid = (valid, tt);
+          source = name (codes "refs/main");
+          destination = Some (codes "refs/x");
+          fetches = record {
+            maps = record {
+              maps = maps_to_x (codes "refs/main") 1 refl (λ bytes kind. kind.1 below) refs (codes "refs/main") (Some (codes "refs/x")) (inl refl) becomes takes;
+              source = valid;
+              destination = (record { after = codes "x"; here = refl }, IsName-tested (codes "refs/x") refl);
             };
+            included = λ by. grind arith;
           };
-          source = valid;
-          destination = (record { after = codes "x"; here = refl }, IsName-tested (codes "refs/x") refl);
-        };
-        included = λ by. grind arith;
-      };
-      before = omega arith;
-      maps = by_short (refs_of (name (codes "refs/main"))) (codes "refs/main") (Some (codes "refs/x")) (valid, tt) (inl refl) refl (full_name (codes "refs/x"), x_kind, refl);
-    }
+          before = omega arith;
+          maps = to_first refs (codes "refs/main") (Some (codes "refs/x")) (valid, tt) (inl refl) refl becomes;
+        }
 
 -- ---- the free byte
 
