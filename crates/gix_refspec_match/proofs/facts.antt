@@ -2,6 +2,7 @@
 -- a wrong definition is noticed.
 pub mod IndexFacts
 pub mod MatchFacts
+pub mod MissingFacts
 pub mod HitFacts
 pub mod CandidateFacts
 pub mod ListsFacts
