@@ -85,9 +85,10 @@ none_negative r forced n (inr (inr none)) = none
 pr_excluded : IsExcludedBy (codes "refs/heads/pr/7") no_pr
 pr_excluded = record { negative = refl; text = codes "refs/heads/pr/*"; source = refl; excludes = by_pattern (codes "refs/heads/pr/") [] (codes "7") (split_at_end (codes "refs/heads/pr/") refl) refl }
 
-no_ref : ¬ (IsRefName (codes "main"))
-no_ref (inl (begins, named)) = other_first 109 (codes "ain") (λ same. omega (arith, same)) begins
-no_ref (inr same) = other_byte 0 (codes "main") (codes "HEAD") (λ equal. omega (arith, equal)) same
+-- `main` by itself is no valid name of a ref, so it is that of none of the valid refs
+main_no_ref : ¬ (IsRefName (codes "main"))
+main_no_ref (inl (begins, named)) = other_first 109 (codes "ain") (λ same. omega (arith, same)) begins
+main_no_ref (inr same) = other_byte 0 (codes "main") (codes "HEAD") (λ equal. omega (arith, equal)) same
 
 named_valid : (refs : List Ref) (n : List ℕ) → AreValid refs → HasName refs n → IsRefName n
 named_valid [] n all has = absurd has
@@ -143,12 +144,16 @@ second_idle = ((earlier, does), (λ h is. omega (arith, is.1.before)))
       maps = (heads_seven (every ∷ every ∷ []) 0 refl).maps;
     }
 
+-- nor is the second explained by itself, but only by an earlier one that maps what it fetches
+pub not_by_itself : ¬ (IsIdleBy (every ∷ every ∷ []) 1 (reason.Duplicate 1))
+not_by_itself is = omega (arith, is.1.before)
+
 -- a negative spec without `refs/` excludes no valid ref, so it is idle in any group
 names_no_ref : (g : List Reading) → IsIdleExclusion g no_main
 names_no_ref g = record { negative = refl; excludes = λ refs i n d maps by. by_case n by.text by.source by.excludes maps.source }
   where
     by_case : (n x : List ℕ) → Some (codes "main") ≡ Some x → Excludes x n → ¬ (IsRefName n)
-    by_case n x is (the_name lacks same) valid = no_ref (subst IsRefName (same ∙ sym (same_Some _ _ is)) valid)
+    by_case n x is (the_name lacks same) valid = main_no_ref (subst IsRefName (same ∙ sym (same_Some _ _ is)) valid)
     by_case n x is (by_pattern before after word split fits) valid = lacks_no_pattern x before after (subst (Lacks star) (same_Some _ _ is) (Lacks-tested star (codes "main") refl)) split
 
 -- a negative spec without `refs/` names no branch, and one of a branch excludes something
@@ -178,6 +183,10 @@ excluded_by = (
         let (w, some, fits) = word_of m.completed refs n d m.makes (codes "refs/heads/") [] (record { text = codes "refs/heads/*"; has = (completed_at every refl m).source; split = heads_split }) in
         f.included (inr (inr (inl (excluded n w fits))))
     always refs (id bytes) d f = maps_no_id every (codes "heads/*") refl refl f.maps.maps
+
+-- so it is listed as idle, and neither of the negative specs, which map nothing either
+pub idle_listed : AreIdle all_excluded (record { spec = 0; reason = reason.Excluded 2 } ∷ [])
+idle_listed = (Some (record { spec = 0; reason = reason.Excluded 2 }), [], (refl, tt, excluded_by.0), (None, [], (λ u is. is.1), (None, [], (λ u is. is.1), refl, refl), refl), refl)
 
 -- the same destination for `main` and for `refs/main`: as no valid ref is named `main`, the first spec takes the second's ref
 abbrev main_twice : List Reading
@@ -213,7 +222,7 @@ full_name_idle = (earlier, does)
 
     to_first : (refs : List Ref) (n : List ℕ) (d : Option (List ℕ)) → AreValid refs → HasName refs n → n ≡ codes "refs/main" → IsFilled (Some (codes "refs/x")) None d → Maps main_twice refs 0 (name n) d
     to_first refs n d valid there is becomes =
-        let absent : AllByRecursion (λ m. ¬ (HasName refs m)) (codes "main" ∷ []) = ((λ has. no_ref (named_valid refs (codes "main") valid has)), tt) in
+        let absent : AllByRecursion (λ m. ¬ (HasName refs m)) (codes "main" ∷ []) = ((λ has. main_no_ref (named_valid refs (codes "main") valid has)), tt) in
         let first : IsFirstCandidate refs (codes "main") (codes "refs/main") = record { earlier = codes "main" ∷ []; later = _; here = refl; absent = absent; present = subst (HasName refs) is there } in
         maps_to_x (codes "main") 0 refl (λ bytes kind. short_no_id bytes kind.2) refs n d there becomes (λ r named. taken_by_first refs (codes "main") r short_kind (subst (IsFirstCandidate refs (codes "main")) (sym (named ∙ is)) first))
 
