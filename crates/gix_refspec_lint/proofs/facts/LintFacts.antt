@@ -217,8 +217,8 @@ full_name_idle = (earlier, does)
     kind : HasKind (codes "refs/main") (full_name (codes "refs/main"))
     kind = (refl, Lacks-tested star (codes "refs/main") refl, below)
 
-    valid : IsRefName (codes "refs/main")
-    valid = inl (below, IsName-tested (codes "refs/main") refl)
+    valid_main : IsRefName (codes "refs/main")
+    valid_main = inl (below, IsName-tested (codes "refs/main") refl)
 
     to_first : (refs : List Ref) (n : List ℕ) (d : Option (List ℕ)) → AreValid refs → HasName refs n → n ≡ codes "refs/main" → IsFilled (Some (codes "refs/x")) None d → Maps main_twice refs 0 (name n) d
     to_first refs n d valid there is becomes =
@@ -246,19 +246,19 @@ full_name_idle = (earlier, does)
         λ r named. record { matches = record { kind = full_name (codes "refs/main"); of = kind; is = (refl, named) }; first = λ m short. absurd (short.2 below) } in
         record {
           refs = refs;
-          valid = (valid, tt);
+          valid = (valid_main, tt);
           source = name (codes "refs/main");
           destination = Some (codes "refs/x");
           fetches = record {
             maps = record {
               maps = maps_to_x (codes "refs/main") 1 refl (λ bytes kind. kind.1 below) refs (codes "refs/main") (Some (codes "refs/x")) (inl refl) becomes takes;
-              source = valid;
+              source = valid_main;
               destination = (record { after = codes "x"; here = refl }, IsName-tested (codes "refs/x") refl);
             };
             included = λ by. grind arith;
           };
           before = omega arith;
-          maps = to_first refs (codes "refs/main") (Some (codes "refs/x")) (valid, tt) (inl refl) refl becomes;
+          maps = to_first refs (codes "refs/main") (Some (codes "refs/x")) (valid_main, tt) (inl refl) refl becomes;
         }
 
 -- ---- the free byte
