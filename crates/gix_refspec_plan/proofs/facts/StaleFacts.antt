@@ -1,11 +1,17 @@
 -- Examples of the definition of stale refs: what keeps a local ref from being stale, and one that is.
 use Rattle.gix_refspec_plan.proofs.Common.{◌≡◌, ◌⊎◌, inl, inr, ℕ, List, [], ◌∷◌, ◌++◌, None, Some, codes, refl, sym, ap, ◌∙◌, subst, arith, Contains, append_cancel_left, same_Some, star, Lacks, Negative}
-use Rattle.gix_refspec_plan.proofs.Common.{Normal, Reading, IsPositive, fetched, full_name, partial, pattern, the_name, split_once, Lacks-here, CanWrite, CanWriteFrom, CanWriteObject, IsStale}
+use Rattle.gix_refspec_plan.proofs.Common.{Normal, Reading, IsPositive, fetched, full_name, partial, pattern, the_name, split_once, Lacks-here, CanWrite, CanWriteFrom, CanWriteObject, IsFetched, IsKeptBy, IsStale, IsWritable}
+use Rattle.gix_refspec_plan.proofs.Common.{AllZip, HasKind, IsCandidate, IsCompleted, IsExcluded, IsMadeFrom, Ref, Takes, append-nil, lacks_no_pattern, map, one_forward}
+use Rattle.gix_refspec_plan.specs.Matching.Stale.{AreStale}
+use Rattle.gix_refspec_match.specs.Matching.Hits.{AreForward, Ends, Hit, IsHit, forward_of}
+use Rattle.gix_refspec_text.specs.Matching.Side.{Excludes, by_pattern}
+use Rattle.gix_refspec_text.proofs.lemmas.hits.CandidateLemmas.{first_of_one, taken_by_first}
 use Rattle.gix_refspec_text.proofs.facts.ManualFacts.{Lacks-tested, named, other_length}
 use Rattle.gix_refspec_text.proofs.facts.ObjectIdFacts.{empty_blob}
-use Rattle.gix_refspec_text.proofs.facts.FitFacts.{blob_kind, every, heads_split, main_ref, origin_split, short_kind}
+use Rattle.gix_refspec_text.proofs.facts.FitFacts.{blob_kind, every, heads_split, main_ref, origin_split, other_byte, short_kind, short_no_id}
 use Rattle.gix_refspec_plan.proofs.lemmas.stale.PatternLemmas.{word_taken, writes_cases}
-use Rattle.gix_refspec_plan.proofs.lemmas.plan.MadeLemmas.{one_in}
+use Rattle.gix_refspec_plan.proofs.lemmas.plan.MadeLemmas.{nothing_in, one_in}
+use Rattle.gix_refspec_plan.proofs.lemmas.plan.OnePlanLemmas.{completed_once}
 
 -- a fetch into `x`, which is refs/heads/x, and a negative spec
 abbrev to_x : List ℕ → Reading
@@ -96,3 +102,99 @@ dev_stale = record {
     absent : (s : List ℕ) → s ≡ codes "refs/heads/dev" → ¬ ((codes "refs/heads/main" ≡ s) ⊎ ⊥)
     absent s is (inl same) = other_length _ _ (λ size. omega (arith, size)) (same ∙ is)
     absent s is (inr none) = none
+
+-- nor is a local ref that no spec writes: a branch of one's own, or a tag where `x` is completed to refs/heads/x
+pub unwritable : ¬ (IsStale (every ∷ []) [] (codes "refs/heads/mine")) × ¬ (IsStale (to_x (codes "main") ∷ []) [] (codes "refs/tags/x"))
+unwritable = (λ stale. no_own stale.writable, λ stale. no_other stale.writable)
+  where
+    no_own : ¬ (IsWritable (every ∷ []) (codes "refs/heads/mine"))
+    no_own (r, word, there, w) = elim (writes_cases every (codes "refs/heads/mine") word (rw (one_in every r there) at w)) [
+      | inl (by_name, none) ↦ Lacks-here star (codes "refs/remotes/origin/") [] (subst (Lacks star) (sym (same_Some _ _ by_name.has)) by_name.lacks)
+      | inr (d, before, after, v, has, split, some, fits) ↦
+          let far = split_once d before after (codes "refs/remotes/origin/") [] split (rw (sym (same_Some _ _ has)) origin_split) in
+          other_byte 5 (codes "refs/heads/mine") (codes "refs/remotes/origin/" ++ (v ++ [])) (λ byte. omega (arith, byte)) (rw (far.0, far.1) at fits)
+    ]
+
+    no_other : ¬ (IsWritable (to_x (codes "main") ∷ []) (codes "refs/tags/x"))
+    no_other (r, word, there, w) = elim (writes_cases (to_x (codes "main")) (codes "refs/tags/x") word (rw (one_in (to_x (codes "main")) r there) at w)) [
+      | inl (by_name, none) ↦ other_byte 5 (codes "refs/tags/x") x (λ byte. omega (arith, byte)) (rw (sym (same_Some (codes "x") by_name.destination by_name.has)) at by_name.is)
+      | inr (d, before, after, v, has, split, some, fits) ↦ lacks_no_pattern d before after (subst (Lacks star) (same_Some (codes "x") d has) (Lacks-tested star (codes "x") refl)) split
+    ]
+
+-- of two local refs of one name the first is listed
+pub listed_once : AreStale (every ∷ []) (main_ref ∷ []) (named (codes "refs/remotes/origin/dev") ∷ named (codes "refs/remotes/origin/dev") ∷ []) (record { item = 0; kept_by = None } ∷ [])
+listed_once = (Some (record { item = 0; kept_by = None }), [], (refl, (λ none. none), dev_stale), (None, [], (λ f told. told.1 (inl refl)), refl, refl), refl)
+
+-- ---- what a fetch writes
+
+-- the specs with `x` completed, and what the first makes of the branch `main`
+abbrev completed : List Reading
+completed = fetched Normal (codes "main") (Some x) ∷ no_tag ∷ []
+
+abbrev x_ends : Ends
+x_ends = record { near = codes "main"; far = Some x }
+
+abbrev x_hit : Hit
+x_hit = record { spec = 0; item = 0; near = codes "refs/heads/main"; far = Some x }
+
+x_full : HasKind x (full_name x)
+x_full = (refl, Lacks-tested star x refl, record { after = codes "heads/x"; here = refl })
+
+are_completed : AllZip IsCompleted (to_x (codes "main") ∷ no_tag ∷ []) completed
+are_completed = (record { operation = refl; mode = refl; source = refl; destination = inr (Lacks-tested star (codes "x") refl, refl) }, (record { operation = refl; mode = refl; source = refl; destination = refl }, tt))
+
+by_first : (items : List Ref) (hits : List Hit) → IsMadeFrom (IsHit (Takes items) x_ends 0) 0 items hits → AreForward completed items (map forward_of hits)
+by_first items hits taken = record {
+  ids = [];
+  hits = hits;
+  are_ids = (None, [], (λ m made. short_no_id made.bytes (rw (sym (same_Some (codes "main") made.text made.side)) at made.object.2)), (None, [], (λ m made. made.positive), refl, refl), refl);
+  are_hits = (hits, [], inl (x_ends, record { positive = tt; near = refl; far = refl; no_object = λ bytes kind. short_no_id bytes kind.2 }, taken), ([], [], inr ((λ ends are. are.positive), refl), refl, refl), sym (append-nil hits));
+  all = refl;
+}
+
+main_fetched : IsFetched (to_x (codes "main") ∷ no_tag ∷ []) (main_ref ∷ []) x
+main_fetched = record {
+  completed = completed;
+  are = are_completed;
+  mapped = forward_of x_hit ∷ [];
+  kept = record {
+    all = forward_of x_hit ∷ [];
+    forward = by_first (main_ref ∷ []) (x_hit ∷ []) (Some x_hit, [], record { word = None; takes = taken_by_first (main_ref ∷ []) (codes "main") main_ref short_kind (first_of_one (codes "main") main_ref main_candidate); far = (full_name x, x_full, refl); near = refl; spec = refl; item = refl }, refl, refl);
+    is = (Some (forward_of x_hit), [], (refl, record { first = λ none. none; included = included }), refl, refl);
+  };
+  mapping = forward_of x_hit;
+  has = (0, omega arith, refl);
+  destination = refl;
+}
+  where
+    main_candidate : IsCandidate (codes "main") (codes "refs/heads/main")
+    main_candidate = record { earlier = codes "main" ∷ codes "refs/main" ∷ codes "refs/tags/main" ∷ []; later = codes "refs/remotes/main" ∷ codes "refs/remotes/main/HEAD" ∷ []; here = refl }
+
+    no_main : ¬ (Excludes (codes "refs/tags/main") (codes "refs/heads/main"))
+    no_main (the_name lacks same) = other_byte 5 (codes "refs/heads/main") (codes "refs/tags/main") (λ byte. omega (arith, byte)) same
+    no_main (by_pattern before after word split fits) = lacks_no_pattern (codes "refs/tags/main") before after (Lacks-tested star (codes "refs/tags/main") refl) split
+
+    included : ¬ (IsExcluded completed (codes "refs/heads/main"))
+    included (inl by) = let other : Normal ≡ Negative = by.negative in cc
+    included (inr (inl by)) = no_main (rw (sym (same_Some (codes "refs/tags/main") by.text by.source)) at by.excludes)
+    included (inr (inr none)) = none
+
+-- the spec that excludes the tag `main` keeps refs/heads/x where the remote has no `main`, but not where a fetch writes it from the branch
+pub kept : IsKeptBy (to_x (codes "main") ∷ no_tag ∷ []) [] x 1 × ((k : ℕ) → ¬ (IsKeptBy (to_x (codes "main") ∷ no_tag ∷ []) (main_ref ∷ []) x k))
+kept = (
+  record {
+    unwritten = unwritten;
+    source = codes "refs/tags/main";
+    is_source = (to_x (codes "main"), first (to_x (codes "main")) (no_tag ∷ []), from_tag);
+    negative = no_tag;
+    at = refl;
+    excludes = record { negative = refl; text = codes "refs/tags/main"; source = refl; excludes = the_name (Lacks-tested star (codes "refs/tags/main") refl) refl };
+  },
+  (λ k by. by.unwritten main_fetched),
+)
+  where
+    unwritten : ¬ (IsFetched (to_x (codes "main") ∷ no_tag ∷ []) [] x)
+    unwritten f =
+        let same : f.completed ≡ completed = completed_once (to_x (codes "main") ∷ no_tag ∷ []) f.completed completed f.are are_completed in
+        let none : f.mapped ≡ [] = one_forward completed [] f.mapped [] (rw same at f.kept) (record { all = []; forward = by_first [] [] refl; is = refl }) in
+        nothing_in f.mapped f.mapping none f.has
