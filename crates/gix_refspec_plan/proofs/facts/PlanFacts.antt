@@ -4,6 +4,7 @@ use Rattle.gix_refspec_plan.proofs.Common.{bstring_bytes, DeclaredAsked, Update,
 use Rattle.gix_refspec_plan.proofs.Common.{Matches, reading_of, Mapped, AreMissing, LacksSource, start_of, nothing_made, AreLacking, AreMerges, AreThose, CanBeWritten, Covers, HasSecondVerdict, HasVerdict}
 use Rattle.gix_refspec_plan.proofs.Common.{IsCarriedOut, IsCompleted, IsContested, IsNegativeReading, IsPositiveReading, IsSound, IsTakenOver, IsUnwritableAt, MayBeMissing, Planned, tags_asked, same_Some}
 use Rattle.gix_refspec_plan.proofs.Common.{Lacks-ContainsText, IsRefName, asked_of, planned_of, wish_of}
+use Rattle.gix_refspec_plan.proofs.Common.{AreAsked, AreConfigured, Asked, IsPlannedBesides, false≢true}
 use Rattle.gix_refspec_plan.specs.declared.Wish.{Wish as DeclaredWish}
 use Rattle.gix_refspec_text.proofs.lemmas.texts.TestedLemmas.{IsName-tested}
 use Rattle.gix_refspec_text.proofs.facts.ManualFacts.{Lacks-tested, other_length}
@@ -42,6 +43,12 @@ from_bad = mapping 2 (codes "refs/../x") (Some (codes "refs/x")) 0
 
 abbrev all_bad : Mapped
 all_bad = mapping 2 (codes "refs/../x") (Some (codes "HEAD")) 0
+
+abbrev a_to_head : Mapped
+a_to_head = mapping 0 (codes "refs/heads/a") (Some (codes "HEAD")) 0
+
+abbrev a_alone : Mapped
+a_alone = mapping 0 (codes "refs/heads/a") None 0
 
 x_writable : CanBeWritten (Some (codes "refs/x"))
 x_writable = (record { after = codes "x"; here = refl }, IsName-tested (codes "refs/x") refl)
@@ -125,6 +132,22 @@ covered = (
     no_a : ¬ (Covers (b_to_x ∷ []) (codes "refs/heads/a"))
     no_a (m, has, sound, is) = other_byte 11 (codes "refs/heads/b") (codes "refs/heads/a") (λ byte. omega (arith, byte)) (ap bytes_in (ap (λ (n : Mapped). n.source) (sym (one_in b_to_x m has)) ∙ is))
 
+-- a mapping that is left out fetches nothing
+pub uncovered : AreMerges (codes "refs/heads/a" ∷ []) (a_to_head ∷ []) (record { reading = fetched_alone (codes "refs/heads/a"); origin = origin.Merge 0 } ∷ [])
+uncovered = (
+  Some (record { reading = fetched_alone (codes "refs/heads/a"); origin = origin.Merge 0 }),
+  [],
+  (refl, a_sound.source, (λ (m, has, sound, is). writable.2 (subst (λ (n : Mapped). IsSound n) (one_in a_to_head m has) sound).destination), (λ has. nothing_in [] _ refl has)),
+  refl,
+  refl,
+)
+
+-- all tags are asked for beside what is configured too
+pub asked : AreAsked (record { given = []; configured = every ∷ []; merges = []; tags = true }) [] (record { reading = every; origin = origin.Configured 0 } ∷ record { reading = all_tags; origin = origin.AllTags } ∷ [])
+asked = AreAsked.without (record { reading = every; origin = origin.Configured 0 } ∷ []) refl
+    (AreConfigured.by_configuration (record { reading = every; origin = origin.Configured 0 } ∷ []) [] (inl (λ none. cc)) (Some (record { reading = every; origin = origin.Configured 0 }), [], (refl, tt), refl, refl) (inl (refl, refl)) refl)
+    refl
+
 -- ---- verdicts
 
 -- another source with the same destination makes a conflict, but not if its name is no ref name
@@ -154,6 +177,40 @@ overruled = ((b_sound, by_a), (λ is. is.1 by_a), (λ is. is.1 by_a))
   where
     by_a : IsTakenOver (a_to_x ∷ []) b_to_x
     by_a = (a_to_x, (0, omega arith, refl), a_sound, (codes "refs/x", refl, refl))
+
+-- but a mapping that is left out doesn't win
+pub not_overruled : HasSecondVerdict (from_bad ∷ []) (b_to_x ∷ []) b_to_x verdict.Written × ¬ (HasSecondVerdict (from_bad ∷ []) (b_to_x ∷ []) b_to_x verdict.Overruled)
+not_overruled = ((b_sound, not_taken, alone), (λ is. not_taken is.1))
+  where
+    not_taken : ¬ (IsTakenOver (from_bad ∷ []) b_to_x)
+    not_taken (n, has, sound, share) = no_ref_names.2 (subst (λ (m : Mapped). IsSound m) (one_in from_bad n has) sound).source
+
+    alone : ¬ (IsContested (b_to_x ∷ []) b_to_x)
+    alone (n, has, sound, share, differ) = differ (sym (ap (λ (m : Mapped). m.source) (one_in b_to_x n has)))
+
+-- ---- what is tracked besides
+
+abbrev besides : ℕ → Planned
+besides item = record { source = b_to_x.source; item = Some item; destination = b_to_x.destination; origin = origin.Configured 0; verdict = verdict.Written }
+
+-- without a destination, or where the call makes the pair already, nothing is planned besides
+pub nothing_besides : (specs : List Asked) (indexes : List ℕ) (p : Planned) → ¬ (IsPlannedBesides specs indexes [] (a_alone ∷ []) a_alone p) × ¬ (IsPlannedBesides specs indexes (a_to_x ∷ []) (a_to_x ∷ []) a_to_x p)
+nothing_besides specs indexes p = ((λ is. false≢true is.updates), (λ is. is.new (inl (record { source = refl; destination = refl }))))
+
+-- what is planned besides has the index of its ref among all refs
+pub index_besides : IsPlannedBesides (record { reading = every; origin = origin.Configured 0 } ∷ []) (4 ∷ 7 ∷ []) [] (b_to_x ∷ []) b_to_x (besides 7) × ¬ (IsPlannedBesides (record { reading = every; origin = origin.Configured 0 } ∷ []) (4 ∷ 7 ∷ []) [] (b_to_x ∷ []) b_to_x (besides 1))
+index_besides = (
+  record {
+    updates = refl;
+    new = λ none. none;
+    source = refl;
+    item = refl;
+    destination = refl;
+    origin = (record { reading = every; origin = origin.Configured 0 }, refl, refl);
+    verdict = (b_sound, (λ (n, has, sound, share). nothing_in [] n refl has), (λ (n, has, sound, share, differ). differ (sym (ap (λ (m : Mapped). m.source) (one_in b_to_x n has)))));
+  },
+  λ is. let same : Some 7 ≡ Some 1 = is.item in cc,
+)
 
 -- ---- missing sources
 
