@@ -5,10 +5,13 @@ use Rattle.gix_refspec_plan.proofs.Common.{Matches, reading_of, Mapped, AreMissi
 use Rattle.gix_refspec_plan.proofs.Common.{IsCarriedOut, IsCompleted, IsContested, IsNegativeReading, IsPositiveReading, IsSound, IsTakenOver, IsUnwritableAt, MayBeMissing, Planned, tags_asked, same_Some}
 use Rattle.gix_refspec_plan.proofs.Common.{Lacks-ContainsText, IsRefName, asked_of, planned_of, wish_of}
 use Rattle.gix_refspec_plan.proofs.Common.{AreAsked, AreConfigured, Asked, IsPlannedBesides, false≢true}
+use Rattle.gix_refspec_plan.proofs.Common.{AllByRecursion, AreUncovered, BeginsWith, IsMadeFrom, IsPositive, IsSplit, Ref, Takes, append-nil, lacks_no_pattern, pattern, the_name, ◌+◌}
+use Rattle.gix_refspec_match.specs.Matching.Hits.{AreForward, AreForwardEnds, AreSpecHits, Ends, Hit, IsHit, IsIdMapping, forward_of}
+use Rattle.gix_refspec_match.specs.Matching.Lists.{IsJoinedFrom}
 use Rattle.gix_refspec_plan.specs.declared.Wish.{Wish as DeclaredWish}
 use Rattle.gix_refspec_text.proofs.lemmas.texts.TestedLemmas.{IsName-tested}
-use Rattle.gix_refspec_text.proofs.facts.ManualFacts.{Lacks-tested, other_length}
-use Rattle.gix_refspec_text.proofs.facts.FitFacts.{every, main_ref, no_dev, other_byte, short, short_kind}
+use Rattle.gix_refspec_text.proofs.facts.ManualFacts.{Lacks-tested, named, other_length}
+use Rattle.gix_refspec_text.proofs.facts.FitFacts.{every, heads_split, main_ref, no_dev, origin_split, other_byte, short, short_kind}
 use Rattle.gix_refspec_match.proofs.facts.MatchFacts.{bytes_in, mapping}
 use Rattle.gix_refspec.proofs.facts.RefNameFacts.{no_ref_names, ref_names}
 use Rattle.gix_refspec_plan.specs.declared.Origin.TheVariants as origin
@@ -257,6 +260,76 @@ carried_out = (
   record { whole = refl; free = ((λ same. cc), ((λ same. cc), tt)) },
   (λ carried. carried.free.1.0 refl),
   (λ carried. let none = carried.whole in cc),
+)
+
+-- ---- whole plans
+
+-- the spec that writes the branches below a folder, what it takes of a branch, and the mapping of that
+abbrev to_below : List ℕ → Reading
+to_below far = fetched Forced (codes "refs/heads/*") (Some (far ++ codes "*"))
+
+abbrev below_ends : List ℕ → Ends
+below_ends far = record { near = codes "refs/heads/*"; far = Some (far ++ codes "*") }
+
+abbrev below_hit : List ℕ → ℕ → List ℕ → Hit
+below_hit far item branch = record { spec = 0; item = item; near = codes "refs/heads/" ++ branch; far = Some (far ++ (branch ++ [])) }
+
+abbrev below : List ℕ → ℕ → List ℕ → Mapped
+below far item branch = forward_of (below_hit far item branch)
+
+abbrev no_main : Reading
+no_main = fetched Negative (codes "refs/heads/main") None
+
+heads_below : BeginsWith (codes "refs/") (codes "refs/heads/*")
+heads_below = record { after = codes "heads/*"; here = refl }
+
+no_ids : (k : ℕ) (g : List Reading) → AllByRecursion IsNegativeReading g → IsMadeFrom IsIdMapping k g []
+no_ids k [] all = refl
+no_ids k (r ∷ g) all = (None, [], (λ m made. subst IsPositive all.0 made.positive), no_ids (k + 1) g all.1, refl)
+
+no_hits : (items : List Ref) (k : ℕ) (g : List Reading) → AllByRecursion IsNegativeReading g → IsJoinedFrom (AreSpecHits AreForwardEnds (Takes items) items) k g []
+no_hits items k [] all = refl
+no_hits items k (r ∷ g) all = ([], [], inr ((λ ends are. subst IsPositive all.0 are.positive), refl), no_hits items (k + 1) g all.1, refl)
+
+module _ (far : List ℕ) (split : IsSplit far [] (far ++ codes "*")) (items : List Ref) where
+  takes_branch : (j : ℕ) (branch : List ℕ) → IsHit (Takes items) (below_ends far) 0 j (named (codes "refs/heads/" ++ branch)) (below_hit far j branch)
+  takes_branch j branch = record {
+    word = Some branch;
+    takes = record {
+      matches = record { kind = pattern (codes "refs/heads/") []; of = heads_split; is = ap (λ (y : List ℕ). codes "refs/heads/" ++ y) (sym (append-nil branch)) };
+      first = λ n kind. absurd (lacks_no_pattern (codes "refs/heads/*") (codes "refs/heads/") [] kind.1 heads_split);
+    };
+    far = (pattern far [], split, refl);
+    near = refl;
+    spec = refl;
+    item = refl;
+  }
+
+  all_below : (g : List Reading) → AllByRecursion IsNegativeReading g → (hits : List Hit) → IsMadeFrom (IsHit (Takes items) (below_ends far) 0) 0 items hits → AreForward (to_below far ∷ g) items (map forward_of hits)
+  all_below g negative hits taken = record {
+    ids = [];
+    hits = hits;
+    are_ids = (None, [], (λ m made. made.object.1 (subst (BeginsWith (codes "refs/")) (same_Some (codes "refs/heads/*") made.text made.side) heads_below)), no_ids 1 g negative, refl);
+    are_hits = (hits, [], inl (below_ends far, record { positive = tt; near = refl; far = refl; no_object = λ bytes kind. kind.1 heads_below }, taken), no_hits items 1 g negative, sym (append-nil hits));
+    all = refl;
+  }
+
+-- where the configuration excludes a merged ref, it doesn't fetch it
+pub excluded_uncovered : AreUncovered (record { given = []; configured = every ∷ no_main ∷ []; merges = codes "refs/heads/main" ∷ []; tags = false }) (main_ref ∷ []) (record { reading = fetched_alone (codes "refs/heads/main"); origin = origin.Merge 0 } ∷ [])
+excluded_uncovered = inr (
+  record { reading = every; origin = origin.Configured 0 } ∷ record { reading = no_main; origin = origin.Configured 1 } ∷ [],
+  [],
+  (Some (record { reading = every; origin = origin.Configured 0 }), _, (refl, tt), (Some (record { reading = no_main; origin = origin.Configured 1 }), [], (refl, tt), refl, refl), refl),
+  record {
+    completed = every ∷ no_main ∷ [];
+    are = (completed.3, (record { operation = refl; mode = refl; source = refl; destination = refl }, tt));
+    kept = record {
+      all = below (codes "refs/remotes/origin/") 0 (codes "main") ∷ [];
+      forward = all_below (codes "refs/remotes/origin/") origin_split (main_ref ∷ []) (no_main ∷ []) (refl, tt) (below_hit (codes "refs/remotes/origin/") 0 (codes "main") ∷ []) (Some (below_hit (codes "refs/remotes/origin/") 0 (codes "main")), [], takes_branch (codes "refs/remotes/origin/") origin_split (main_ref ∷ []) 0 (codes "main"), refl, refl);
+      is = (None, [], (λ m stays. stays.1.included (inr (inl (record { negative = refl; text = codes "refs/heads/main"; source = refl; excludes = the_name (Lacks-tested star (codes "refs/heads/main") refl) refl })))), refl, refl);
+    };
+  },
+  (Some (record { reading = fetched_alone (codes "refs/heads/main"); origin = origin.Merge 0 }), [], (refl, ref_names.0, (λ (m, has, sound, is). nothing_in [] m refl has), (λ has. nothing_in [] _ refl has)), refl, refl),
 )
 
 -- ---- the plain data of Rust values
