@@ -5,13 +5,14 @@ use Rattle.gix_refspec_plan.proofs.Common.{Matches, reading_of, Mapped, AreMissi
 use Rattle.gix_refspec_plan.proofs.Common.{IsCarriedOut, IsCompleted, IsContested, IsNegativeReading, IsPositiveReading, IsSound, IsTakenOver, IsUnwritableAt, MayBeMissing, Planned, tags_asked, same_Some}
 use Rattle.gix_refspec_plan.proofs.Common.{Lacks-ContainsText, IsRefName, asked_of, planned_of, wish_of}
 use Rattle.gix_refspec_plan.proofs.Common.{AreAsked, AreConfigured, Asked, IsPlannedBesides, false≢true}
-use Rattle.gix_refspec_plan.proofs.Common.{AllByRecursion, AreUncovered, BeginsWith, IsMadeFrom, IsPositive, IsSplit, Ref, Takes, append-nil, lacks_no_pattern, pattern, the_name, ◌+◌}
+use Rattle.gix_refspec_plan.proofs.Common.{AllByRecursion, AreMapped, AreUncovered, BeginsWith, HasPair, IsExcluded, IsPlan, IsTakenAt, IsTracked, Lacks, Lacks-here, Origin, Wish, ◌≢◌, IsMadeFrom, IsPositive, IsSplit, Ref, Takes, append-nil, lacks_no_pattern, pattern, the_name, ◌+◌}
 use Rattle.gix_refspec_match.specs.Matching.Hits.{AreForward, AreForwardEnds, AreSpecHits, Ends, Hit, IsHit, IsIdMapping, forward_of}
 use Rattle.gix_refspec_match.specs.Matching.Lists.{IsJoinedFrom}
+use Rattle.gix_refspec_text.specs.Matching.Side.{Excludes}
 use Rattle.gix_refspec_plan.specs.declared.Wish.{Wish as DeclaredWish}
 use Rattle.gix_refspec_text.proofs.lemmas.texts.TestedLemmas.{IsName-tested}
 use Rattle.gix_refspec_text.proofs.facts.ManualFacts.{Lacks-tested, named, other_length}
-use Rattle.gix_refspec_text.proofs.facts.FitFacts.{every, heads_split, main_ref, no_dev, origin_split, other_byte, short, short_kind}
+use Rattle.gix_refspec_text.proofs.facts.FitFacts.{dev_ref, every, excludes_dev, excludes_no_main, heads_split, main_ref, no_dev, origin_split, other_byte, short, short_kind, split_at_end}
 use Rattle.gix_refspec_match.proofs.facts.MatchFacts.{bytes_in, mapping}
 use Rattle.gix_refspec.proofs.facts.RefNameFacts.{no_ref_names, ref_names}
 use Rattle.gix_refspec_plan.specs.declared.Origin.TheVariants as origin
@@ -331,6 +332,172 @@ excluded_uncovered = inr (
   },
   (Some (record { reading = fetched_alone (codes "refs/heads/main"); origin = origin.Merge 0 }), [], (refl, ref_names.0, (λ (m, has, sound, is). nothing_in [] m refl has), (λ has. nothing_in [] _ refl has)), refl, refl),
 )
+
+-- a fetch of the branches without `dev-*`, besides which all are configured
+abbrev fetch_branches : Wish
+fetch_branches = record { given = to_below (codes "refs/x/") ∷ no_dev ∷ []; configured = every ∷ []; merges = []; tags = false }
+
+abbrev branches : List Ref
+branches = dev_ref ∷ main_ref ∷ []
+
+abbrev given_asked : List Asked
+given_asked = record { reading = to_below (codes "refs/x/"); origin = origin.Given 0 } ∷ record { reading = no_dev; origin = origin.Given 1 } ∷ []
+
+abbrev tracking : List Asked
+tracking = record { reading = every; origin = origin.Configured 0 } ∷ record { reading = no_dev; origin = origin.Given 1 } ∷ []
+
+abbrev main_below : List ℕ → Mapped
+main_below far = below far 1 (codes "main")
+
+module _ (far : List ℕ) (split : IsSplit far [] (far ++ codes "*")) where
+  both_taken : IsMadeFrom (IsHit (Takes branches) (below_ends far) 0) 0 branches (below_hit far 0 (codes "dev-a") ∷ below_hit far 1 (codes "main") ∷ [])
+  both_taken = (Some (below_hit far 0 (codes "dev-a")), _, takes_branch far split branches 0 (codes "dev-a"), (Some (below_hit far 1 (codes "main")), [], takes_branch far split branches 1 (codes "main"), refl, refl), refl)
+
+  new_main : ¬ (HasPair (below far 0 (codes "dev-a") ∷ []) (main_below far))
+  new_main (inl same) = other_byte 11 (codes "refs/heads/dev-a") (codes "refs/heads/main") (λ byte. omega (arith, byte)) (ap bytes_in same.source)
+  new_main (inr none) = none
+
+  below_completed : IsCompleted (to_below far) (to_below far)
+  below_completed = record { operation = refl; mode = refl; source = refl; destination = inl (record { before = far; after = []; here = refl }, refl) }
+
+  -- the negative spec excludes dev-a; without it both branches are mapped
+  main_mapped : (o p : Origin) → AreMapped (record { reading = to_below far; origin = o } ∷ record { reading = no_dev; origin = p } ∷ []) branches (main_below far ∷ [])
+  main_mapped o p = record {
+    completed = to_below far ∷ no_dev ∷ [];
+    are = (below_completed, (record { operation = refl; mode = refl; source = refl; destination = refl }, tt));
+    kept = record {
+      all = below far 0 (codes "dev-a") ∷ main_below far ∷ [];
+      forward = all_below far split branches (no_dev ∷ []) (refl, tt) _ both_taken;
+      is = (
+        None,
+        _,
+        (λ m stays. stays.1.included (inr (inl (record { negative = refl; text = codes "refs/heads/dev-*"; source = refl; excludes = excludes_dev })))),
+        (Some (main_below far), [], (refl, record { first = new_main; included = stays }), refl, refl),
+        refl,
+      );
+    };
+  }
+    where
+      stays : ¬ (IsExcluded (to_below far ∷ no_dev ∷ []) (codes "refs/heads/main"))
+      stays (inl by) = let other : Forced ≡ Negative = by.negative in cc
+      stays (inr (inl by)) = excludes_no_main (subst (λ (x : List ℕ). Excludes x (codes "refs/heads/main")) (sym (same_Some (codes "refs/heads/dev-*") by.text by.source)) by.excludes)
+      stays (inr (inr none)) = none
+
+  both_mapped : (o : Origin) → AreMapped (record { reading = to_below far; origin = o } ∷ []) branches (below far 0 (codes "dev-a") ∷ main_below far ∷ [])
+  both_mapped o = record {
+    completed = to_below far ∷ [];
+    are = (below_completed, tt);
+    kept = record {
+      all = below far 0 (codes "dev-a") ∷ main_below far ∷ [];
+      forward = all_below far split branches [] tt _ both_taken;
+      is = (Some (below far 0 (codes "dev-a")), _, (refl, record { first = λ none. none; included = stays _ }), (Some (main_below far), [], (refl, record { first = new_main; included = stays _ }), refl, refl), refl);
+    };
+  }
+    where
+      stays : (n : List ℕ) → ¬ (IsExcluded (to_below far ∷ []) n)
+      stays n (inl by) = let other : Forced ≡ Negative = by.negative in cc
+      stays n (inr none) = none
+
+x_split : IsSplit (codes "refs/x/") [] (codes "refs/x/*")
+x_split = split_at_end (codes "refs/x/") refl
+
+main_writable : CanBeWritten (Some (codes "refs/x/main")) × CanBeWritten (Some (codes "refs/x/dev-a")) × CanBeWritten (Some (codes "refs/remotes/origin/main"))
+main_writable = (
+  (record { after = codes "x/main"; here = refl }, IsName-tested (codes "refs/x/main") refl),
+  (record { after = codes "x/dev-a"; here = refl }, IsName-tested (codes "refs/x/dev-a") refl),
+  (record { after = codes "remotes/origin/main"; here = refl }, IsName-tested (codes "refs/remotes/origin/main") refl),
+)
+
+dev_name : IsRefName (codes "refs/heads/dev-a")
+dev_name = inl (record { after = codes "heads/dev-a"; here = refl }, IsName-tested (codes "refs/heads/dev-a") refl)
+
+-- the configured spec is applied to the branches that the call takes, and the negative spec of the call excludes from them
+pub tracked : IsTracked fetch_branches branches tracking (0 ∷ 1 ∷ []) (main_below (codes "refs/remotes/origin/") ∷ [])
+tracked = IsTracked.by_call (record { reading = every; origin = origin.Configured 0 } ∷ []) (record { reading = no_dev; origin = origin.Given 1 } ∷ []) branches (λ none. cc)
+    (Some (record { reading = every; origin = origin.Configured 0 }), [], (refl, tt), refl, refl)
+    (None, _, (λ a both. let other : Forced ≡ Negative = both.1 in cc), (Some (record { reading = no_dev; origin = origin.Given 1 }), [], (refl, refl), refl, refl), refl)
+    refl
+    (record {
+      asked = record { reading = to_below (codes "refs/x/"); origin = origin.Given 0 } ∷ [];
+      mapped = below (codes "refs/x/") 0 (codes "dev-a") ∷ main_below (codes "refs/x/") ∷ [];
+      are_asked = (Some (record { reading = to_below (codes "refs/x/"); origin = origin.Given 0 }), [], (refl, tt), (None, [], (λ a both. both.1), refl, refl), refl);
+      are_mapped = both_mapped (codes "refs/x/") x_split (origin.Given 0);
+      are_indexes = (Some 0, 1 ∷ [], (refl, dev_taken), (Some 1, [], (refl, main_taken), refl, refl), refl);
+      are_taken = (Some dev_ref, main_ref ∷ [], (refl, dev_taken), (Some main_ref, [], (refl, main_taken), refl, refl), refl);
+    })
+    (main_mapped (codes "refs/remotes/origin/") origin_split (origin.Configured 0) (origin.Given 1))
+  where
+    dev_taken : IsTakenAt (below (codes "refs/x/") 0 (codes "dev-a") ∷ main_below (codes "refs/x/") ∷ []) 0
+    dev_taken = (below (codes "refs/x/") 0 (codes "dev-a"), (0, omega arith, refl), record { source = dev_name; destination = main_writable.1 }, refl)
+
+    main_taken : IsTakenAt (below (codes "refs/x/") 0 (codes "dev-a") ∷ main_below (codes "refs/x/") ∷ []) 1
+    main_taken = (main_below (codes "refs/x/"), (1, omega arith, refl), record { source = ref_names.0; destination = main_writable.0 }, refl)
+
+abbrev main_update : List ℕ → Origin → Planned
+main_update far o = record { source = (main_below far).source; item = Some 1; destination = (main_below far).destination; origin = o; verdict = verdict.Written }
+
+-- what is fetched comes before what is tracked besides
+pub fetched_first : IsPlan fetch_branches branches (main_update (codes "refs/x/") (origin.Given 0) ∷ main_update (codes "refs/remotes/origin/") (origin.Configured 0) ∷ []) []
+fetched_first = record {
+  asked = given_asked;
+  firsts = main_below (codes "refs/x/") ∷ [];
+  tracking = tracking;
+  indexes = 0 ∷ 1 ∷ [];
+  seconds = main_below (codes "refs/remotes/origin/") ∷ [];
+  before = main_update (codes "refs/x/") (origin.Given 0) ∷ [];
+  behind = main_update (codes "refs/remotes/origin/") (origin.Configured 0) ∷ [];
+  are_asked = AreAsked.by_call given_asked (λ none. cc) (Some (record { reading = to_below (codes "refs/x/"); origin = origin.Given 0 }), _, (refl, tt), (Some (record { reading = no_dev; origin = origin.Given 1 }), [], (refl, tt), refl, refl), refl) refl;
+  are_firsts = main_mapped (codes "refs/x/") x_split (origin.Given 0) (origin.Given 1);
+  are_seconds = tracked;
+  are_before = (
+    Some (main_update (codes "refs/x/") (origin.Given 0)),
+    [],
+    record {
+      source = refl;
+      item = refl;
+      destination = refl;
+      origin = (record { reading = to_below (codes "refs/x/"); origin = origin.Given 0 }, refl, refl);
+      verdict = (record { source = ref_names.0; destination = main_writable.0 }, alone (main_below (codes "refs/x/")));
+    },
+    refl,
+    refl,
+  );
+  are_behind = (
+    Some (main_update (codes "refs/remotes/origin/") (origin.Configured 0)),
+    [],
+    record {
+      updates = refl;
+      new = new;
+      source = refl;
+      item = refl;
+      destination = refl;
+      origin = (record { reading = every; origin = origin.Configured 0 }, refl, refl);
+      verdict = (record { source = ref_names.0; destination = main_writable.2 }, not_over, alone (main_below (codes "refs/remotes/origin/")));
+    },
+    refl,
+    refl,
+  );
+  all = refl;
+  lacks = (None, [], (λ o told. starred told.2), (None, [], (λ o told. told.2.positive), refl, refl), refl);
+}
+  where
+    alone : (m : Mapped) → ¬ (IsContested (m ∷ []) m)
+    alone m (n, has, sound, share, differ) = differ (sym (ap (λ (k : Mapped). k.source) (one_in m n has)))
+
+    elsewhere : codes "refs/x/main" ≢ codes "refs/remotes/origin/main"
+    elsewhere same = other_length _ _ (λ size. omega (arith, size)) same
+
+    new : ¬ (HasPair (main_below (codes "refs/x/") ∷ []) (main_below (codes "refs/remotes/origin/")))
+    new (inl same) = elsewhere (same_Some (codes "refs/x/main") (codes "refs/remotes/origin/main") same.destination)
+    new (inr none) = none
+
+    not_over : ¬ (IsTakenOver (main_below (codes "refs/x/") ∷ []) (main_below (codes "refs/remotes/origin/")))
+    not_over (n, has, sound, (d, one, other)) =
+        let first : Some (codes "refs/x/main") ≡ Some d = ap (λ (k : Mapped). k.destination) (sym (one_in (main_below (codes "refs/x/")) n has)) ∙ other in
+        elsewhere (same_Some (codes "refs/x/main") d first ∙ sym (same_Some (codes "refs/remotes/origin/main") d one))
+
+    starred : ¬ (LacksSource branches (to_below (codes "refs/x/")))
+    starred lacks = Lacks-here star (codes "refs/heads/") [] (subst (Lacks star) (sym (same_Some (codes "refs/heads/*") lacks.source lacks.is)) (elim lacks.named [ inl full ↦ full.1 | inr short ↦ short.1 ]))
 
 -- ---- the plain data of Rust values
 
