@@ -5,7 +5,8 @@ use Rattle.gix_refspec_plan.proofs.Common.{Matches, reading_of, Mapped, AreMissi
 use Rattle.gix_refspec_plan.proofs.Common.{IsCarriedOut, IsCompleted, IsContested, IsNegativeReading, IsPositiveReading, IsSound, IsTakenOver, IsUnwritableAt, MayBeMissing, Planned, tags_asked, same_Some}
 use Rattle.gix_refspec_plan.proofs.Common.{Lacks-ContainsText, IsRefName, asked_of, planned_of, wish_of}
 use Rattle.gix_refspec_plan.proofs.Common.{AreAsked, AreConfigured, Asked, IsPlannedBesides, false≢true}
-use Rattle.gix_refspec_plan.proofs.Common.{AllByRecursion, AreMapped, AreUncovered, BeginsWith, HasPair, IsExcluded, IsPlan, IsTakenAt, IsTracked, Lacks, Lacks-here, Origin, Wish, ◌≢◌, IsMadeFrom, IsPositive, IsSplit, Ref, Takes, append-nil, lacks_no_pattern, pattern, the_name, ◌+◌}
+use Rattle.gix_refspec_plan.proofs.Common.{AllByRecursion, AreMapped, AreUncovered, BeginsWith, HasPair, IsExcluded, IsPlan, IsTakenAt, IsTracked, Lacks, Lacks-here, Origin, Wish, ◌≢◌}
+use Rattle.gix_refspec_plan.proofs.Common.{IsMadeFrom, IsPositive, IsSplit, Ref, Takes, append-nil, lacks_no_pattern, pattern, the_name, ◌+◌}
 use Rattle.gix_refspec_match.specs.Matching.Hits.{AreForward, AreForwardEnds, AreSpecHits, Ends, Hit, IsHit, IsIdMapping, forward_of}
 use Rattle.gix_refspec_match.specs.Matching.Lists.{IsJoinedFrom}
 use Rattle.gix_refspec_text.specs.Matching.Side.{Excludes}
@@ -136,10 +137,16 @@ covered = (
     no_a : ¬ (Covers (b_to_x ∷ []) (codes "refs/heads/a"))
     no_a (m, has, sound, is) = other_byte 11 (codes "refs/heads/b") (codes "refs/heads/a") (λ byte. omega (arith, byte)) (ap bytes_in (ap (λ (n : Mapped). n.source) (sym (one_in b_to_x m has)) ∙ is))
 
+abbrev a_merged : Asked
+a_merged = record { reading = fetched_alone (codes "refs/heads/a"); origin = origin.Merge 0 }
+
+abbrev every_configured : Asked
+every_configured = record { reading = every; origin = origin.Configured 0 }
+
 -- a mapping that is left out fetches nothing
-pub uncovered : AreMerges (codes "refs/heads/a" ∷ []) (a_to_head ∷ []) (record { reading = fetched_alone (codes "refs/heads/a"); origin = origin.Merge 0 } ∷ [])
+pub uncovered : AreMerges (codes "refs/heads/a" ∷ []) (a_to_head ∷ []) (a_merged ∷ [])
 uncovered = (
-  Some (record { reading = fetched_alone (codes "refs/heads/a"); origin = origin.Merge 0 }),
+  Some (a_merged),
   [],
   (refl, a_sound.source, (λ (m, has, sound, is). writable.2 (subst (λ (n : Mapped). IsSound n) (one_in a_to_head m has) sound).destination), (λ has. nothing_in [] _ refl has)),
   refl,
@@ -147,9 +154,9 @@ uncovered = (
 )
 
 -- all tags are asked for beside what is configured too
-pub asked : AreAsked (record { given = []; configured = every ∷ []; merges = []; tags = true }) [] (record { reading = every; origin = origin.Configured 0 } ∷ record { reading = all_tags; origin = origin.AllTags } ∷ [])
-asked = AreAsked.without (record { reading = every; origin = origin.Configured 0 } ∷ []) refl
-    (AreConfigured.by_configuration (record { reading = every; origin = origin.Configured 0 } ∷ []) [] (inl (λ none. cc)) (Some (record { reading = every; origin = origin.Configured 0 }), [], (refl, tt), refl, refl) (inl (refl, refl)) refl)
+pub asked : AreAsked (record { given = []; configured = every ∷ []; merges = []; tags = true }) [] (every_configured ∷ record { reading = all_tags; origin = origin.AllTags } ∷ [])
+asked = AreAsked.without (every_configured ∷ []) refl
+    (AreConfigured.by_configuration (every_configured ∷ []) [] (inl (λ none. cc)) (Some (every_configured), [], (refl, tt), refl, refl) (inl (refl, refl)) refl)
     refl
 
 -- ---- verdicts
@@ -202,7 +209,8 @@ pub nothing_besides : (specs : List Asked) (indexes : List ℕ) (p : Planned) �
 nothing_besides specs indexes p = ((λ is. false≢true is.updates), (λ is. is.new (inl (record { source = refl; destination = refl }))))
 
 -- what is planned besides has the index of its ref among all refs
-pub index_besides : IsPlannedBesides (record { reading = every; origin = origin.Configured 0 } ∷ []) (4 ∷ 7 ∷ []) [] (b_to_x ∷ []) b_to_x (besides 7) × ¬ (IsPlannedBesides (record { reading = every; origin = origin.Configured 0 } ∷ []) (4 ∷ 7 ∷ []) [] (b_to_x ∷ []) b_to_x (besides 1))
+pub index_besides : IsPlannedBesides (every_configured ∷ []) (4 ∷ 7 ∷ []) [] (b_to_x ∷ []) b_to_x (besides 7)
+    × ¬ (IsPlannedBesides (every_configured ∷ []) (4 ∷ 7 ∷ []) [] (b_to_x ∷ []) b_to_x (besides 1))
 index_besides = (
   record {
     updates = refl;
@@ -210,7 +218,7 @@ index_besides = (
     source = refl;
     item = refl;
     destination = refl;
-    origin = (record { reading = every; origin = origin.Configured 0 }, refl, refl);
+    origin = (every_configured, refl, refl);
     verdict = (b_sound, (λ (n, has, sound, share). nothing_in [] n refl has), (λ (n, has, sound, share, differ). differ (sym (ap (λ (m : Mapped). m.source) (one_in b_to_x n has)))));
   },
   λ is. let same : Some 7 ≡ Some 1 = is.item in cc,
@@ -265,6 +273,12 @@ carried_out = (
 
 -- ---- whole plans
 
+abbrev origin_folder : List ℕ
+origin_folder = codes "refs/remotes/origin/"
+
+abbrev x_folder : List ℕ
+x_folder = codes "refs/x/"
+
 -- the spec that writes the branches below a folder, what it takes of a branch, and the mapping of that
 abbrev to_below : List ℕ → Reading
 to_below far = fetched Forced (codes "refs/heads/*") (Some (far ++ codes "*"))
@@ -280,6 +294,12 @@ below far item branch = forward_of (below_hit far item branch)
 
 abbrev no_main : Reading
 no_main = fetched Negative (codes "refs/heads/main") None
+
+abbrev main_merged : Asked
+main_merged = record { reading = fetched_alone (codes "refs/heads/main"); origin = origin.Merge 0 }
+
+abbrev no_main_configured : Asked
+no_main_configured = record { reading = no_main; origin = origin.Configured 1 }
 
 heads_below : BeginsWith (codes "refs/") (codes "refs/heads/*")
 heads_below = record { after = codes "heads/*"; here = refl }
@@ -306,7 +326,8 @@ module _ (far : List ℕ) (split : IsSplit far [] (far ++ codes "*")) (items : L
     item = refl;
   }
 
-  all_below : (g : List Reading) → AllByRecursion IsNegativeReading g → (hits : List Hit) → IsMadeFrom (IsHit (Takes items) (below_ends far) 0) 0 items hits → AreForward (to_below far ∷ g) items (map forward_of hits)
+  all_below : (g : List Reading) → AllByRecursion IsNegativeReading g → (hits : List Hit)
+      → IsMadeFrom (IsHit (Takes items) (below_ends far) 0) 0 items hits → AreForward (to_below far ∷ g) items (map forward_of hits)
   all_below g negative hits taken = record {
     ids = [];
     hits = hits;
@@ -316,42 +337,58 @@ module _ (far : List ℕ) (split : IsSplit far [] (far ++ codes "*")) (items : L
   }
 
 -- where the configuration excludes a merged ref, it doesn't fetch it
-pub excluded_uncovered : AreUncovered (record { given = []; configured = every ∷ no_main ∷ []; merges = codes "refs/heads/main" ∷ []; tags = false }) (main_ref ∷ []) (record { reading = fetched_alone (codes "refs/heads/main"); origin = origin.Merge 0 } ∷ [])
+pub excluded_uncovered : AreUncovered (record { given = []; configured = every ∷ no_main ∷ []; merges = codes "refs/heads/main" ∷ []; tags = false }) (main_ref ∷ []) (main_merged ∷ [])
 excluded_uncovered = inr (
-  record { reading = every; origin = origin.Configured 0 } ∷ record { reading = no_main; origin = origin.Configured 1 } ∷ [],
+  every_configured ∷ no_main_configured ∷ [],
   [],
-  (Some (record { reading = every; origin = origin.Configured 0 }), _, (refl, tt), (Some (record { reading = no_main; origin = origin.Configured 1 }), [], (refl, tt), refl, refl), refl),
+  (Some (every_configured), _, (refl, tt), (Some (no_main_configured), [], (refl, tt), refl, refl), refl),
   record {
     completed = every ∷ no_main ∷ [];
     are = (completed.3, (record { operation = refl; mode = refl; source = refl; destination = refl }, tt));
     kept = record {
-      all = below (codes "refs/remotes/origin/") 0 (codes "main") ∷ [];
-      forward = all_below (codes "refs/remotes/origin/") origin_split (main_ref ∷ []) (no_main ∷ []) (refl, tt) (below_hit (codes "refs/remotes/origin/") 0 (codes "main") ∷ []) (Some (below_hit (codes "refs/remotes/origin/") 0 (codes "main")), [], takes_branch (codes "refs/remotes/origin/") origin_split (main_ref ∷ []) 0 (codes "main"), refl, refl);
-      is = (None, [], (λ m stays. stays.1.included (inr (inl (record { negative = refl; text = codes "refs/heads/main"; source = refl; excludes = the_name (Lacks-tested star (codes "refs/heads/main") refl) refl })))), refl, refl);
+      all = below origin_folder 0 (codes "main") ∷ [];
+      forward = all_below origin_folder origin_split (main_ref ∷ []) (no_main ∷ []) (refl, tt) (below_hit origin_folder 0 (codes "main") ∷ [])
+          (Some (below_hit origin_folder 0 (codes "main")), [], takes_branch origin_folder origin_split (main_ref ∷ []) 0 (codes "main"), refl, refl);
+      is = (None, [], (λ m stays. stays.1.included (inr (inl (record { negative = refl; text = codes "refs/heads/main"; source = refl; excludes = no_star })))), refl, refl);
     };
   },
-  (Some (record { reading = fetched_alone (codes "refs/heads/main"); origin = origin.Merge 0 }), [], (refl, ref_names.0, (λ (m, has, sound, is). nothing_in [] m refl has), (λ has. nothing_in [] _ refl has)), refl, refl),
+  (Some (main_merged), [], (refl, ref_names.0, (λ (m, has, sound, is). nothing_in [] m refl has), (λ has. nothing_in [] _ refl has)), refl, refl),
 )
+  where
+    no_star : Excludes (codes "refs/heads/main") (codes "refs/heads/main")
+    no_star = the_name (Lacks-tested star (codes "refs/heads/main") refl) refl
 
 -- a fetch of the branches without `dev-*`, besides which all are configured
 abbrev fetch_branches : Wish
-fetch_branches = record { given = to_below (codes "refs/x/") ∷ no_dev ∷ []; configured = every ∷ []; merges = []; tags = false }
+fetch_branches = record { given = to_below x_folder ∷ no_dev ∷ []; configured = every ∷ []; merges = []; tags = false }
 
 abbrev branches : List Ref
 branches = dev_ref ∷ main_ref ∷ []
 
+abbrev x_given : Asked
+x_given = record { reading = to_below x_folder; origin = origin.Given 0 }
+
+abbrev no_dev_given : Asked
+no_dev_given = record { reading = no_dev; origin = origin.Given 1 }
+
 abbrev given_asked : List Asked
-given_asked = record { reading = to_below (codes "refs/x/"); origin = origin.Given 0 } ∷ record { reading = no_dev; origin = origin.Given 1 } ∷ []
+given_asked = x_given ∷ no_dev_given ∷ []
 
 abbrev tracking : List Asked
-tracking = record { reading = every; origin = origin.Configured 0 } ∷ record { reading = no_dev; origin = origin.Given 1 } ∷ []
+tracking = every_configured ∷ no_dev_given ∷ []
 
 abbrev main_below : List ℕ → Mapped
 main_below far = below far 1 (codes "main")
 
 module _ (far : List ℕ) (split : IsSplit far [] (far ++ codes "*")) where
   both_taken : IsMadeFrom (IsHit (Takes branches) (below_ends far) 0) 0 branches (below_hit far 0 (codes "dev-a") ∷ below_hit far 1 (codes "main") ∷ [])
-  both_taken = (Some (below_hit far 0 (codes "dev-a")), _, takes_branch far split branches 0 (codes "dev-a"), (Some (below_hit far 1 (codes "main")), [], takes_branch far split branches 1 (codes "main"), refl, refl), refl)
+  both_taken = (
+    Some (below_hit far 0 (codes "dev-a")),
+    _,
+    takes_branch far split branches 0 (codes "dev-a"),
+    (Some (below_hit far 1 (codes "main")), [], takes_branch far split branches 1 (codes "main"), refl, refl),
+    refl,
+  )
 
   new_main : ¬ (HasPair (below far 0 (codes "dev-a") ∷ []) (main_below far))
   new_main (inl same) = other_byte 11 (codes "refs/heads/dev-a") (codes "refs/heads/main") (λ byte. omega (arith, byte)) (ap bytes_in same.source)
@@ -390,7 +427,13 @@ module _ (far : List ℕ) (split : IsSplit far [] (far ++ codes "*")) where
     kept = record {
       all = below far 0 (codes "dev-a") ∷ main_below far ∷ [];
       forward = all_below far split branches [] tt _ both_taken;
-      is = (Some (below far 0 (codes "dev-a")), _, (refl, record { first = λ none. none; included = stays _ }), (Some (main_below far), [], (refl, record { first = new_main; included = stays _ }), refl, refl), refl);
+      is = (
+        Some (below far 0 (codes "dev-a")),
+        _,
+        (refl, record { first = λ none. none; included = stays _ }),
+        (Some (main_below far), [], (refl, record { first = new_main; included = stays _ }), refl, refl),
+        refl,
+      );
     };
   }
     where
@@ -398,8 +441,8 @@ module _ (far : List ℕ) (split : IsSplit far [] (far ++ codes "*")) where
       stays n (inl by) = let other : Forced ≡ Negative = by.negative in cc
       stays n (inr none) = none
 
-x_split : IsSplit (codes "refs/x/") [] (codes "refs/x/*")
-x_split = split_at_end (codes "refs/x/") refl
+x_split : IsSplit x_folder [] (codes "refs/x/*")
+x_split = split_at_end x_folder refl
 
 main_writable : CanBeWritten (Some (codes "refs/x/main")) × CanBeWritten (Some (codes "refs/x/dev-a")) × CanBeWritten (Some (codes "refs/remotes/origin/main"))
 main_writable = (
@@ -412,58 +455,58 @@ dev_name : IsRefName (codes "refs/heads/dev-a")
 dev_name = inl (record { after = codes "heads/dev-a"; here = refl }, IsName-tested (codes "refs/heads/dev-a") refl)
 
 -- the configured spec is applied to the branches that the call takes, and the negative spec of the call excludes from them
-pub tracked : IsTracked fetch_branches branches tracking (0 ∷ 1 ∷ []) (main_below (codes "refs/remotes/origin/") ∷ [])
-tracked = IsTracked.by_call (record { reading = every; origin = origin.Configured 0 } ∷ []) (record { reading = no_dev; origin = origin.Given 1 } ∷ []) branches (λ none. cc)
-    (Some (record { reading = every; origin = origin.Configured 0 }), [], (refl, tt), refl, refl)
-    (None, _, (λ a both. let other : Forced ≡ Negative = both.1 in cc), (Some (record { reading = no_dev; origin = origin.Given 1 }), [], (refl, refl), refl, refl), refl)
+pub tracked : IsTracked fetch_branches branches tracking (0 ∷ 1 ∷ []) (main_below origin_folder ∷ [])
+tracked = IsTracked.by_call (every_configured ∷ []) (no_dev_given ∷ []) branches (λ none. cc)
+    (Some (every_configured), [], (refl, tt), refl, refl)
+    (None, _, (λ a both. let other : Forced ≡ Negative = both.1 in cc), (Some (no_dev_given), [], (refl, refl), refl, refl), refl)
     refl
     (record {
-      asked = record { reading = to_below (codes "refs/x/"); origin = origin.Given 0 } ∷ [];
-      mapped = below (codes "refs/x/") 0 (codes "dev-a") ∷ main_below (codes "refs/x/") ∷ [];
-      are_asked = (Some (record { reading = to_below (codes "refs/x/"); origin = origin.Given 0 }), [], (refl, tt), (None, [], (λ a both. both.1), refl, refl), refl);
-      are_mapped = both_mapped (codes "refs/x/") x_split (origin.Given 0);
+      asked = x_given ∷ [];
+      mapped = below x_folder 0 (codes "dev-a") ∷ main_below x_folder ∷ [];
+      are_asked = (Some (x_given), [], (refl, tt), (None, [], (λ a both. both.1), refl, refl), refl);
+      are_mapped = both_mapped x_folder x_split (origin.Given 0);
       are_indexes = (Some 0, 1 ∷ [], (refl, dev_taken), (Some 1, [], (refl, main_taken), refl, refl), refl);
       are_taken = (Some dev_ref, main_ref ∷ [], (refl, dev_taken), (Some main_ref, [], (refl, main_taken), refl, refl), refl);
     })
-    (main_mapped (codes "refs/remotes/origin/") origin_split (origin.Configured 0) (origin.Given 1))
+    (main_mapped origin_folder origin_split (origin.Configured 0) (origin.Given 1))
   where
-    dev_taken : IsTakenAt (below (codes "refs/x/") 0 (codes "dev-a") ∷ main_below (codes "refs/x/") ∷ []) 0
-    dev_taken = (below (codes "refs/x/") 0 (codes "dev-a"), (0, omega arith, refl), record { source = dev_name; destination = main_writable.1 }, refl)
+    dev_taken : IsTakenAt (below x_folder 0 (codes "dev-a") ∷ main_below x_folder ∷ []) 0
+    dev_taken = (below x_folder 0 (codes "dev-a"), (0, omega arith, refl), record { source = dev_name; destination = main_writable.1 }, refl)
 
-    main_taken : IsTakenAt (below (codes "refs/x/") 0 (codes "dev-a") ∷ main_below (codes "refs/x/") ∷ []) 1
-    main_taken = (main_below (codes "refs/x/"), (1, omega arith, refl), record { source = ref_names.0; destination = main_writable.0 }, refl)
+    main_taken : IsTakenAt (below x_folder 0 (codes "dev-a") ∷ main_below x_folder ∷ []) 1
+    main_taken = (main_below x_folder, (1, omega arith, refl), record { source = ref_names.0; destination = main_writable.0 }, refl)
 
 abbrev main_update : List ℕ → Origin → Planned
 main_update far o = record { source = (main_below far).source; item = Some 1; destination = (main_below far).destination; origin = o; verdict = verdict.Written }
 
 -- what is fetched comes before what is tracked besides
-pub fetched_first : IsPlan fetch_branches branches (main_update (codes "refs/x/") (origin.Given 0) ∷ main_update (codes "refs/remotes/origin/") (origin.Configured 0) ∷ []) []
+pub fetched_first : IsPlan fetch_branches branches (main_update x_folder (origin.Given 0) ∷ main_update origin_folder (origin.Configured 0) ∷ []) []
 fetched_first = record {
   asked = given_asked;
-  firsts = main_below (codes "refs/x/") ∷ [];
+  firsts = main_below x_folder ∷ [];
   tracking = tracking;
   indexes = 0 ∷ 1 ∷ [];
-  seconds = main_below (codes "refs/remotes/origin/") ∷ [];
-  before = main_update (codes "refs/x/") (origin.Given 0) ∷ [];
-  behind = main_update (codes "refs/remotes/origin/") (origin.Configured 0) ∷ [];
-  are_asked = AreAsked.by_call given_asked (λ none. cc) (Some (record { reading = to_below (codes "refs/x/"); origin = origin.Given 0 }), _, (refl, tt), (Some (record { reading = no_dev; origin = origin.Given 1 }), [], (refl, tt), refl, refl), refl) refl;
-  are_firsts = main_mapped (codes "refs/x/") x_split (origin.Given 0) (origin.Given 1);
+  seconds = main_below origin_folder ∷ [];
+  before = main_update x_folder (origin.Given 0) ∷ [];
+  behind = main_update origin_folder (origin.Configured 0) ∷ [];
+  are_asked = AreAsked.by_call given_asked (λ none. cc) (Some (x_given), _, (refl, tt), (Some (no_dev_given), [], (refl, tt), refl, refl), refl) refl;
+  are_firsts = main_mapped x_folder x_split (origin.Given 0) (origin.Given 1);
   are_seconds = tracked;
   are_before = (
-    Some (main_update (codes "refs/x/") (origin.Given 0)),
+    Some (main_update x_folder (origin.Given 0)),
     [],
     record {
       source = refl;
       item = refl;
       destination = refl;
-      origin = (record { reading = to_below (codes "refs/x/"); origin = origin.Given 0 }, refl, refl);
-      verdict = (record { source = ref_names.0; destination = main_writable.0 }, alone (main_below (codes "refs/x/")));
+      origin = (x_given, refl, refl);
+      verdict = (record { source = ref_names.0; destination = main_writable.0 }, alone (main_below x_folder));
     },
     refl,
     refl,
   );
   are_behind = (
-    Some (main_update (codes "refs/remotes/origin/") (origin.Configured 0)),
+    Some (main_update origin_folder (origin.Configured 0)),
     [],
     record {
       updates = refl;
@@ -471,8 +514,8 @@ fetched_first = record {
       source = refl;
       item = refl;
       destination = refl;
-      origin = (record { reading = every; origin = origin.Configured 0 }, refl, refl);
-      verdict = (record { source = ref_names.0; destination = main_writable.2 }, not_over, alone (main_below (codes "refs/remotes/origin/")));
+      origin = (every_configured, refl, refl);
+      verdict = (record { source = ref_names.0; destination = main_writable.2 }, not_over, alone (main_below origin_folder));
     },
     refl,
     refl,
@@ -487,16 +530,16 @@ fetched_first = record {
     elsewhere : codes "refs/x/main" ≢ codes "refs/remotes/origin/main"
     elsewhere same = other_length _ _ (λ size. omega (arith, size)) same
 
-    new : ¬ (HasPair (main_below (codes "refs/x/") ∷ []) (main_below (codes "refs/remotes/origin/")))
+    new : ¬ (HasPair (main_below x_folder ∷ []) (main_below origin_folder))
     new (inl same) = elsewhere (same_Some (codes "refs/x/main") (codes "refs/remotes/origin/main") same.destination)
     new (inr none) = none
 
-    not_over : ¬ (IsTakenOver (main_below (codes "refs/x/") ∷ []) (main_below (codes "refs/remotes/origin/")))
+    not_over : ¬ (IsTakenOver (main_below x_folder ∷ []) (main_below origin_folder))
     not_over (n, has, sound, (d, one, other)) =
-        let first : Some (codes "refs/x/main") ≡ Some d = ap (λ (k : Mapped). k.destination) (sym (one_in (main_below (codes "refs/x/")) n has)) ∙ other in
+        let first : Some (codes "refs/x/main") ≡ Some d = ap (λ (k : Mapped). k.destination) (sym (one_in (main_below x_folder) n has)) ∙ other in
         elsewhere (same_Some (codes "refs/x/main") d first ∙ sym (same_Some (codes "refs/remotes/origin/main") d one))
 
-    starred : ¬ (LacksSource branches (to_below (codes "refs/x/")))
+    starred : ¬ (LacksSource branches (to_below x_folder))
     starred lacks = Lacks-here star (codes "refs/heads/") [] (subst (Lacks star) (sym (same_Some (codes "refs/heads/*") lacks.source lacks.is)) (elim lacks.named [ inl full ↦ full.1 | inr short ↦ short.1 ]))
 
 -- ---- the plain data of Rust values

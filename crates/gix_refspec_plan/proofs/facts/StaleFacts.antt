@@ -1,7 +1,7 @@
 -- Examples of the definition of stale refs: what keeps a local ref from being stale, and one that is.
 use Rattle.gix_refspec_plan.proofs.Common.{◌≡◌, ◌⊎◌, inl, inr, ℕ, List, [], ◌∷◌, ◌++◌, None, Some, codes, refl, sym, ap, ◌∙◌, subst, arith, Contains, append_cancel_left, same_Some, star, Lacks, Negative}
-use Rattle.gix_refspec_plan.proofs.Common.{Normal, Reading, IsPositive, fetched, full_name, partial, pattern, the_name, split_once, Lacks-here, CanWrite, CanWriteFrom, CanWriteObject, IsFetched, IsKeptBy, IsStale, IsWritable}
-use Rattle.gix_refspec_plan.proofs.Common.{AllZip, HasKind, IsCandidate, IsCompleted, IsExcluded, IsMadeFrom, Ref, Takes, append-nil, lacks_no_pattern, map, one_forward}
+use Rattle.gix_refspec_plan.proofs.Common.{Normal, Reading, IsPositive, fetched, full_name, partial, pattern, the_name, split_once, Lacks-here, CanWrite, CanWriteFrom, CanWriteObject, IsStale}
+use Rattle.gix_refspec_plan.proofs.Common.{AllZip, HasKind, IsCandidate, IsCompleted, IsExcluded, IsFetched, IsKeptBy, IsMadeFrom, IsWritable, Ref, Takes, append-nil, lacks_no_pattern, map, one_forward}
 use Rattle.gix_refspec_plan.specs.Matching.Stale.{AreStale}
 use Rattle.gix_refspec_match.specs.Matching.Hits.{AreForward, Ends, Hit, IsHit, forward_of}
 use Rattle.gix_refspec_text.specs.Matching.Side.{Excludes, by_pattern}
@@ -141,14 +141,23 @@ x_full : HasKind x (full_name x)
 x_full = (refl, Lacks-tested star x refl, record { after = codes "heads/x"; here = refl })
 
 are_completed : AllZip IsCompleted (to_x (codes "main") ∷ no_tag ∷ []) completed
-are_completed = (record { operation = refl; mode = refl; source = refl; destination = inr (Lacks-tested star (codes "x") refl, refl) }, (record { operation = refl; mode = refl; source = refl; destination = refl }, tt))
+are_completed = (
+  record { operation = refl; mode = refl; source = refl; destination = inr (Lacks-tested star (codes "x") refl, refl) },
+  (record { operation = refl; mode = refl; source = refl; destination = refl }, tt),
+)
 
 by_first : (items : List Ref) (hits : List Hit) → IsMadeFrom (IsHit (Takes items) x_ends 0) 0 items hits → AreForward completed items (map forward_of hits)
 by_first items hits taken = record {
   ids = [];
   hits = hits;
   are_ids = (None, [], (λ m made. short_no_id made.bytes (rw (sym (same_Some (codes "main") made.text made.side)) at made.object.2)), (None, [], (λ m made. made.positive), refl, refl), refl);
-  are_hits = (hits, [], inl (x_ends, record { positive = tt; near = refl; far = refl; no_object = λ bytes kind. short_no_id bytes kind.2 }, taken), ([], [], inr ((λ ends are. are.positive), refl), refl, refl), sym (append-nil hits));
+  are_hits = (
+    hits,
+    [],
+    inl (x_ends, record { positive = tt; near = refl; far = refl; no_object = λ bytes kind. short_no_id bytes kind.2 }, taken),
+    ([], [], inr ((λ ends are. are.positive), refl), refl, refl),
+    sym (append-nil hits),
+  );
   all = refl;
 }
 
@@ -159,7 +168,7 @@ main_fetched = record {
   mapped = forward_of x_hit ∷ [];
   kept = record {
     all = forward_of x_hit ∷ [];
-    forward = by_first (main_ref ∷ []) (x_hit ∷ []) (Some x_hit, [], record { word = None; takes = taken_by_first (main_ref ∷ []) (codes "main") main_ref short_kind (first_of_one (codes "main") main_ref main_candidate); far = (full_name x, x_full, refl); near = refl; spec = refl; item = refl }, refl, refl);
+    forward = by_first (main_ref ∷ []) (x_hit ∷ []) (Some x_hit, [], record { word = None; takes = main_taken; far = (full_name x, x_full, refl); near = refl; spec = refl; item = refl }, refl, refl);
     is = (Some (forward_of x_hit), [], (refl, record { first = λ none. none; included = included }), refl, refl);
   };
   mapping = forward_of x_hit;
@@ -169,6 +178,9 @@ main_fetched = record {
   where
     main_candidate : IsCandidate (codes "main") (codes "refs/heads/main")
     main_candidate = record { earlier = codes "main" ∷ codes "refs/main" ∷ codes "refs/tags/main" ∷ []; later = codes "refs/remotes/main" ∷ codes "refs/remotes/main/HEAD" ∷ []; here = refl }
+
+    main_taken : Takes (main_ref ∷ []) (codes "main") main_ref None
+    main_taken = taken_by_first (main_ref ∷ []) (codes "main") main_ref short_kind (first_of_one (codes "main") main_ref main_candidate)
 
     no_main : ¬ (Excludes (codes "refs/tags/main") (codes "refs/heads/main"))
     no_main (the_name lacks same) = other_byte 5 (codes "refs/heads/main") (codes "refs/tags/main") (λ byte. omega (arith, byte)) same
