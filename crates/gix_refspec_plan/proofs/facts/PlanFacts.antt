@@ -1,4 +1,4 @@
--- Examples of the definitions on plans: what Git completes and leaves out, and the verdicts.
+-- Examples of the definitions on plans: what Git completes and leaves out, the verdicts, and a whole plan.
 use Rattle.gix_refspec_plan.proofs.Common.{◌≡◌, inl, inr, ℕ, true, false, List, [], ◌∷◌, ◌++◌, None, Some, codes, map, option_map, take, refl, sym, ap, ◌∙◌, subst, arith, Contains, bstr_bytes}
 use Rattle.gix_refspec_plan.proofs.Common.{bstring_bytes, DeclaredAsked, Update, Verdict, star, Normal, Forced, Negative, Reading, all_tags, fetched_alone, with_destination, fetched, IsCandidate, partial}
 use Rattle.gix_refspec_plan.proofs.Common.{Matches, reading_of, Mapped, AreMissing, LacksSource, start_of, nothing_made, AreLacking, AreMerges, AreThose, CanBeWritten, Covers, HasSecondVerdict, HasVerdict}
@@ -137,6 +137,7 @@ covered = (
     no_a : ¬ (Covers (b_to_x ∷ []) (codes "refs/heads/a"))
     no_a (m, has, sound, is) = other_byte 11 (codes "refs/heads/b") (codes "refs/heads/a") (λ byte. omega (arith, byte)) (ap bytes_in (ap (λ (n : Mapped). n.source) (sym (one_in b_to_x m has)) ∙ is))
 
+-- a merged ref, and a configured spec
 abbrev a_merged : Asked
 a_merged = record { reading = fetched_alone (codes "refs/heads/a"); origin = origin.Merge 0 }
 
@@ -146,7 +147,7 @@ every_configured = record { reading = every; origin = origin.Configured 0 }
 -- a mapping that is left out fetches nothing
 pub uncovered : AreMerges (codes "refs/heads/a" ∷ []) (a_to_head ∷ []) (a_merged ∷ [])
 uncovered = (
-  Some (a_merged),
+  Some a_merged,
   [],
   (refl, a_sound.source, (λ (m, has, sound, is). writable.2 (subst (λ (n : Mapped). IsSound n) (one_in a_to_head m has) sound).destination), (λ has. nothing_in [] _ refl has)),
   refl,
@@ -156,7 +157,7 @@ uncovered = (
 -- all tags are asked for beside what is configured too
 pub asked : AreAsked (record { given = []; configured = every ∷ []; merges = []; tags = true }) [] (every_configured ∷ record { reading = all_tags; origin = origin.AllTags } ∷ [])
 asked = AreAsked.without (every_configured ∷ []) refl
-    (AreConfigured.by_configuration (every_configured ∷ []) [] (inl (λ none. cc)) (Some (every_configured), [], (refl, tt), refl, refl) (inl (refl, refl)) refl)
+    (AreConfigured.by_configuration (every_configured ∷ []) [] (inl (λ none. cc)) (Some every_configured, [], (refl, tt), refl, refl) (inl (refl, refl)) refl)
     refl
 
 -- ---- verdicts
@@ -201,11 +202,13 @@ not_overruled = ((b_sound, not_taken, alone), (λ is. not_taken is.1))
 
 -- ---- what is tracked besides
 
+-- what is written for `b_to_x`, with this index
 abbrev besides : ℕ → Planned
 besides item = record { source = b_to_x.source; item = Some item; destination = b_to_x.destination; origin = origin.Configured 0; verdict = verdict.Written }
 
 -- without a destination, or where the call makes the pair already, nothing is planned besides
-pub nothing_besides : (specs : List Asked) (indexes : List ℕ) (p : Planned) → ¬ (IsPlannedBesides specs indexes [] (a_alone ∷ []) a_alone p) × ¬ (IsPlannedBesides specs indexes (a_to_x ∷ []) (a_to_x ∷ []) a_to_x p)
+pub nothing_besides : (specs : List Asked) (indexes : List ℕ) (p : Planned) → ¬ (IsPlannedBesides specs indexes [] (a_alone ∷ []) a_alone p)
+    × ¬ (IsPlannedBesides specs indexes (a_to_x ∷ []) (a_to_x ∷ []) a_to_x p)
 nothing_besides specs indexes p = ((λ is. false≢true is.updates), (λ is. is.new (inl (record { source = refl; destination = refl }))))
 
 -- what is planned besides has the index of its ref among all refs
@@ -273,6 +276,7 @@ carried_out = (
 
 -- ---- whole plans
 
+-- the folders of tracking refs, and another
 abbrev origin_folder : List ℕ
 origin_folder = codes "refs/remotes/origin/"
 
@@ -304,6 +308,7 @@ no_main_configured = record { reading = no_main; origin = origin.Configured 1 }
 heads_below : BeginsWith (codes "refs/") (codes "refs/heads/*")
 heads_below = record { after = codes "heads/*"; here = refl }
 
+-- negative specs give no ids, and take nothing
 no_ids : (k : ℕ) (g : List Reading) → AllByRecursion IsNegativeReading g → IsMadeFrom IsIdMapping k g []
 no_ids k [] all = refl
 no_ids k (r ∷ g) all = (None, [], (λ m made. subst IsPositive all.0 made.positive), no_ids (k + 1) g all.1, refl)
@@ -313,6 +318,7 @@ no_hits items k [] all = refl
 no_hits items k (r ∷ g) all = ([], [], inr ((λ ends are. subst IsPositive all.0 are.positive), refl), no_hits items (k + 1) g all.1, refl)
 
 module _ (far : List ℕ) (split : IsSplit far [] (far ++ codes "*")) (items : List Ref) where
+  -- the spec takes each branch, and beside negative ones what it takes is all
   takes_branch : (j : ℕ) (branch : List ℕ) → IsHit (Takes items) (below_ends far) 0 j (named (codes "refs/heads/" ++ branch)) (below_hit far j branch)
   takes_branch j branch = record {
     word = Some branch;
@@ -336,12 +342,12 @@ module _ (far : List ℕ) (split : IsSplit far [] (far ++ codes "*")) (items : L
     all = refl;
   }
 
--- where the configuration excludes a merged ref, it doesn't fetch it
+-- a merged ref that a configured spec maps and another excludes isn't covered
 pub excluded_uncovered : AreUncovered (record { given = []; configured = every ∷ no_main ∷ []; merges = codes "refs/heads/main" ∷ []; tags = false }) (main_ref ∷ []) (main_merged ∷ [])
 excluded_uncovered = inr (
   every_configured ∷ no_main_configured ∷ [],
   [],
-  (Some (every_configured), _, (refl, tt), (Some (no_main_configured), [], (refl, tt), refl, refl), refl),
+  (Some every_configured, _, (refl, tt), (Some no_main_configured, [], (refl, tt), refl, refl), refl),
   record {
     completed = every ∷ no_main ∷ [];
     are = (completed.3, (record { operation = refl; mode = refl; source = refl; destination = refl }, tt));
@@ -352,7 +358,7 @@ excluded_uncovered = inr (
       is = (None, [], (λ m stays. stays.1.included (inr (inl (record { negative = refl; text = codes "refs/heads/main"; source = refl; excludes = no_star })))), refl, refl);
     };
   },
-  (Some (main_merged), [], (refl, ref_names.0, (λ (m, has, sound, is). nothing_in [] m refl has), (λ has. nothing_in [] _ refl has)), refl, refl),
+  (Some main_merged, [], (refl, ref_names.0, (λ (m, has, sound, is). nothing_in [] m refl has), (λ has. nothing_in [] _ refl has)), refl, refl),
 )
   where
     no_star : Excludes (codes "refs/heads/main") (codes "refs/heads/main")
@@ -371,6 +377,7 @@ x_given = record { reading = to_below x_folder; origin = origin.Given 0 }
 abbrev no_dev_given : Asked
 no_dev_given = record { reading = no_dev; origin = origin.Given 1 }
 
+-- what maps all refs of the remote, and what maps those that the call takes
 abbrev given_asked : List Asked
 given_asked = x_given ∷ no_dev_given ∷ []
 
@@ -457,13 +464,13 @@ dev_name = inl (record { after = codes "heads/dev-a"; here = refl }, IsName-test
 -- the configured spec is applied to the branches that the call takes, and the negative spec of the call excludes from them
 pub tracked : IsTracked fetch_branches branches tracking (0 ∷ 1 ∷ []) (main_below origin_folder ∷ [])
 tracked = IsTracked.by_call (every_configured ∷ []) (no_dev_given ∷ []) branches (λ none. cc)
-    (Some (every_configured), [], (refl, tt), refl, refl)
-    (None, _, (λ a both. let other : Forced ≡ Negative = both.1 in cc), (Some (no_dev_given), [], (refl, refl), refl, refl), refl)
+    (Some every_configured, [], (refl, tt), refl, refl)
+    (None, _, (λ a both. let other : Forced ≡ Negative = both.1 in cc), (Some no_dev_given, [], (refl, refl), refl, refl), refl)
     refl
     (record {
       asked = x_given ∷ [];
       mapped = below x_folder 0 (codes "dev-a") ∷ main_below x_folder ∷ [];
-      are_asked = (Some (x_given), [], (refl, tt), (None, [], (λ a both. both.1), refl, refl), refl);
+      are_asked = (Some x_given, [], (refl, tt), (None, [], (λ a both. both.1), refl, refl), refl);
       are_mapped = both_mapped x_folder x_split (origin.Given 0);
       are_indexes = (Some 0, 1 ∷ [], (refl, dev_taken), (Some 1, [], (refl, main_taken), refl, refl), refl);
       are_taken = (Some dev_ref, main_ref ∷ [], (refl, dev_taken), (Some main_ref, [], (refl, main_taken), refl, refl), refl);
@@ -489,7 +496,7 @@ fetched_first = record {
   seconds = main_below origin_folder ∷ [];
   before = main_update x_folder (origin.Given 0) ∷ [];
   behind = main_update origin_folder (origin.Configured 0) ∷ [];
-  are_asked = AreAsked.by_call given_asked (λ none. cc) (Some (x_given), _, (refl, tt), (Some (no_dev_given), [], (refl, tt), refl, refl), refl) refl;
+  are_asked = AreAsked.by_call given_asked (λ none. cc) (Some x_given, _, (refl, tt), (Some no_dev_given, [], (refl, tt), refl, refl), refl) refl;
   are_firsts = main_mapped x_folder x_split (origin.Given 0) (origin.Given 1);
   are_seconds = tracked;
   are_before = (
@@ -540,7 +547,8 @@ fetched_first = record {
         elsewhere (same_Some (codes "refs/x/main") d first ∙ sym (same_Some (codes "refs/remotes/origin/main") d one))
 
     starred : ¬ (LacksSource branches (to_below x_folder))
-    starred lacks = Lacks-here star (codes "refs/heads/") [] (subst (Lacks star) (sym (same_Some (codes "refs/heads/*") lacks.source lacks.is)) (elim lacks.named [ inl full ↦ full.1 | inr short ↦ short.1 ]))
+    starred lacks =
+        Lacks-here star (codes "refs/heads/") [] (subst (Lacks star) (sym (same_Some (codes "refs/heads/*") lacks.source lacks.is)) (elim lacks.named [ inl full ↦ full.1 | inr short ↦ short.1 ]))
 
 -- ---- the plain data of Rust values
 

@@ -1,4 +1,4 @@
--- Examples of the definition of stale refs: what keeps a local ref from being stale, and one that is.
+-- Examples of the definition of stale refs: what keeps a local ref from being stale, one that is, and one that a spec keeps.
 use Rattle.gix_refspec_plan.proofs.Common.{◌≡◌, ◌⊎◌, inl, inr, ℕ, List, [], ◌∷◌, ◌++◌, None, Some, codes, refl, sym, ap, ◌∙◌, subst, arith, Contains, append_cancel_left, same_Some, star, Lacks, Negative}
 use Rattle.gix_refspec_plan.proofs.Common.{Normal, Reading, IsPositive, fetched, full_name, partial, pattern, the_name, split_once, Lacks-here, CanWrite, CanWriteFrom, CanWriteObject, IsStale}
 use Rattle.gix_refspec_plan.proofs.Common.{AllZip, HasKind, IsCandidate, IsCompleted, IsExcluded, IsFetched, IsKeptBy, IsMadeFrom, IsWritable, Ref, Takes, append-nil, lacks_no_pattern, map, one_forward}
