@@ -2,9 +2,10 @@
 """Lists the lemmas that nothing cites, and those with equal statements: tools/lemmas.py
 
 A lemma is a name with a type at the margin of a file in crates/*/proofs/lemmas, or of a file *Lemmas.antt there. It is
-cited if its name is a word of a block of some file of a crate, other than its own and `use` lines. Two statements are
-equal if they are after their variables are numbered in the order in which they are bound, and each word of them comes
-from the same module. Statements of functions, which return data, are not compared.
+cited if its name, imported from its file or from one that passes it on, is a word of a block of some file of a crate, other
+than its own and `use` lines. Two statements are equal if they are after their variables are numbered in the order in which
+they are bound, and each word of them comes from the same module. Statements of functions, which return data, are not
+compared.
 """
 import os
 import re
@@ -73,6 +74,13 @@ def imports(text):
     return known
 
 
+def origin(module, name, uses):
+    """The module that declares an imported name, and its name there, through those that pass it on."""
+    while name in uses.get(module, {}):
+        module, name = uses[module][name]
+    return module, name
+
+
 def grouped(statement):
     """The statement with a group of its own for each variable: `(x y : A)` as `(x : A) (y : A)`."""
     result, at = "", 0
@@ -93,7 +101,7 @@ def grouped(statement):
     return result
 
 
-def normal(statement, known, path):
+def normal(statement, known):
     statement = grouped(statement)
     numbers = {}
     for name in re.findall(r"[({]([^\s(){}:]+) : ", statement):
@@ -107,11 +115,13 @@ def main():
         with open(os.path.join(ROOT, path), encoding="utf-8") as file:
             texts[path] = file.read()
     lemmas = {path: definitions(text) for path, text in texts.items() if LEMMAS.match(path)}
+    uses = {"Rattle." + path[len("crates/"):-len(".antt")].replace("/", "."): imports(text) for path, text in texts.items() if path.endswith(".antt")}
     modules = {"Rattle." + path[len("crates/"):-len(".antt")].replace("/", "."): path for path in lemmas}
+    origins = {path: {local: origin(*name, uses) for local, name in imports(text).items()} for path, text in texts.items()}
 
     cited = {(path, name): set() for path, (found, _) in lemmas.items() for name in found}
     for path, text in texts.items():
-        known = {local: (modules.get(module), name) for local, (module, name) in imports(text).items()}
+        known = {local: (modules.get(module), name) for local, (module, name) in origins[path].items()}
         known.update((name, (path, name)) for name in lemmas.get(path, ({},))[0])
         for block in blocks(text):
             head = head_of(block)
@@ -132,10 +142,9 @@ def main():
 
     same = {}
     for path, (found, equations) in lemmas.items():
-        known = imports(texts[path])
         for name, statement in found.items():
             if name in equations and not DATA.search(statement):
-                same.setdefault(normal(statement, known, path), []).append(f"{path}: {name}")
+                same.setdefault(normal(statement, origins[path]), []).append(f"{path}: {name}")
     faults += ["equal statements: " + ", ".join(places) for places in same.values() if len(places) > 1]
 
     for fault in faults:
