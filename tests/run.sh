@@ -1,36 +1,52 @@
 #!/bin/bash
 # Runs the scripts of this folder over the built program refspec_map, over the built tests of gix_refspec_tests, over the
 # built program refspec, and those of the bindings and packages: tests/run.sh PROGRAM TESTS REFSPEC
-# A script that fails doesn't end the run: all that failed are listed at the end.
+# Three lists of them run side by side, each with its output in one piece. A script that fails doesn't end the run: all that
+# failed are listed at the end.
 set -u
 here=$(dirname "${BASH_SOURCE[0]}")
 usage="usage: tests/run.sh PROGRAM TESTS REFSPEC"
 program=${1:?$usage}
 tests=${2:?$usage}
 refspec=${3:?$usage}
-failed=()
+room=$(mktemp -d)
+trap 'rm -rf "$room"' EXIT
 
 try() {
     local script=$1
     shift
-    "$here/$script" "$@" || failed+=("$script")
+    "$here/$script" "$@" || echo "$script" >>"$room/failed"
 }
 
-for script in words replay agree git git-rows stack devices memory; do
-    try "$script.py" "$program"
-done
-for script in growths large; do
-    try "$script.py" "$tests"
-done
-for script in refspec replay-refspec git-refspec git-plans lint completions; do
-    try "$script.py" "$refspec"
-done
-try schema.py
-try bindings.sh
-try packages.sh
-try readme.py "$program" "$refspec"
+of_program() {
+    for script in words replay agree git git-rows stack devices memory; do
+        try "$script.py" "$program"
+    done
+    for script in growths large; do
+        try "$script.py" "$tests"
+    done
+}
 
-if [ ${#failed[@]} -gt 0 ]; then
-    echo "tests: failed: ${failed[*]}" >&2
+of_refspec() {
+    for script in refspec replay-refspec git-refspec git-plans lint completions; do
+        try "$script.py" "$refspec"
+    done
+    try schema.py
+}
+
+of_library() {
+    try bindings.sh
+    try packages.sh
+    try readme.py "$program" "$refspec"
+}
+
+for list in of_program of_refspec of_library; do
+    "$list" >"$room/$list" 2>&1 </dev/null &
+done
+wait
+cat "$room"/of_*
+
+if [ -e "$room/failed" ]; then
+    echo "tests: failed:" $(sort "$room/failed") >&2
     exit 1
 fi

@@ -2,7 +2,7 @@
 """Checks what docs/ says of the crates' contracts: tools/claims.py
 
 Each function, clause, wrong body and test that the tables of docs/CLAIMS-TABLE.md name has to exist, and each must-fail edit has
-to be named there. Each block of docs/CALLING.md that begins with the path of a file has to be in that file, in one piece or in
+to be named there. Each text that an edit replaces has to be in its file once. Each block of docs/CALLING.md that begins with the path of a file has to be in that file, in one piece or in
 pieces between lines of `...`.
 """
 import os
@@ -46,6 +46,16 @@ def sources(folder):
     return "\n".join(read(path) for path in sorted(files_below(folder, ".rt")))
 
 
+def misplaced(path):
+    """What is wrong with the places that an edit names: a text to replace is in its file once."""
+    crate, text = path.rsplit("/", 2)[0], ""
+    for line in read(path).split("\n"):
+        if line.startswith("file: "):
+            text = read(f"{crate}/{line[len('file: '):].strip()}")
+        elif line.startswith("old: ") and text.count(line[len("old: "):]) != 1:
+            yield f"{path}: in its file not once: {line[len('old: '):].strip()}"
+
+
 def wrong_quotes(page):
     """The pieces of the quotes on a page that aren't in the files that they name."""
     found = QUOTE.findall(read(page))
@@ -61,11 +71,13 @@ def wrong_quotes(page):
 def main():
     crates = [line.split(":")[0].split()[0] for line in read("crates.txt").split("\n") if ":" in line]
     code = "\n".join(sources(f"crates/{crate}/src") for crate in crates)
-    edits = {
-        os.path.basename(path)[: -len(".edit")]
+    paths = [
+        path
         for crate in crates
-        for path in files_below(f"crates/{crate}/must-fail", ".edit")
-    }
+        for folder in ("must-fail", "further-edits")
+        for path in files_below(f"crates/{crate}/{folder}", ".edit")
+    ]
+    edits = {os.path.basename(path)[: -len(".edit")] for path in paths}
     modules = {
         os.path.basename(path)[: -len(".rt")]
         for crate in crates
@@ -102,7 +114,8 @@ def main():
                 if not exists(name):
                     faults.append(f"{TABLES}:{number}: {column}: there is no {name}")
     named = set(SPAN.findall(page))
-    faults += [f"{TABLES}: {name} of must-fail/ is not named" for name in sorted(edits - named)]
+    faults += [f"{TABLES}: the edit {name} is not named" for name in sorted(edits - named)]
+    faults += [fault for path in paths for fault in misplaced(path)]
     faults += wrong_quotes(QUOTING)
     for fault in faults:
         print(fault)
