@@ -1,6 +1,7 @@
 -- The name that a partial source takes: the first of its candidates that a ref has.
 use Rattle.gix_refspec_text.proofs.Common.{◌≡◌, ◌⊎◌, inl, inr, ℕ, List, [], ◌∷◌, ◌++◌, None, refl, sym, ap, ◌∙◌, subst, AllByRecursion, bytes_eq, false≢true, bytes_eq-Decides, partial, HasKind}
 use Rattle.gix_refspec_text.proofs.Common.{IsCandidate, Ref, HasName, IsFirstCandidate, Takes, FirstCandidate, cases_Bool}
+use Rattle.gix_refspec_text.proofs.lemmas.lists.LacksLemmas.{first_with}
 
 has_name : (refs : List Ref) (n : List ℕ) → HasName refs n ⊎ (HasName refs n → ⊥)
 has_name [] n = inr (λ none. none)
@@ -12,7 +13,6 @@ has_name (r ∷ refs) n = elim (cases_Bool (bytes_eq r.name n)) [
   ]
 ]
 
--- no ref has one of the names
 abbrev AreAbsent : List Ref → List (List ℕ) → Type 0
 AreAbsent refs names = AllByRecursion (λ m. ¬ (HasName refs m)) names
 
@@ -34,27 +34,18 @@ first_behind refs (c ∷ earlier) n later has = elim (has_name refs c) [
       record { name = rest.name; earlier = c ∷ rest.earlier; later = rest.later; here = ap (λ (l : List (List ℕ)). c ∷ l) rest.here; absent = (none, rest.absent); present = rest.present }
 ]
 
--- if a ref has the name of a candidate, some candidate is the first
 pub some_first : (refs : List Ref) (x n : List ℕ) → IsCandidate x n → HasName refs n → (m : List ℕ) × IsFirstCandidate refs x m
 some_first refs x n one has =
     let first = first_behind refs one.earlier n one.later has in
     (first.name, record { earlier = first.earlier; later = first.later; here = one.here ∙ first.here; absent = first.absent; present = first.present })
 
--- the first candidate is a candidate
 pub first_candidate : (refs : List Ref) (x n : List ℕ) → IsFirstCandidate refs x n → IsCandidate x n
 first_candidate refs x n first = record { earlier = first.earlier; later = first.later; here = first.here }
 
-one_first : (refs : List Ref) (e f : List (List ℕ)) (n m : List ℕ) (l k : List (List ℕ)) → e ++ (n ∷ l) ≡ f ++ (m ∷ k) → AreAbsent refs e → AreAbsent refs f → HasName refs n → HasName refs m → n ≡ m
-one_first refs [] [] n m l k same none_e none_f has_n has_m = cc
-one_first refs [] (d ∷ f) n m l k same none_e none_f has_n has_m = let one : n ≡ d = cc in absurd (none_f.0 (subst (HasName refs) one has_n))
-one_first refs (c ∷ e) [] n m l k same none_e none_f has_n has_m = let one : m ≡ c = cc in absurd (none_e.0 (subst (HasName refs) one has_m))
-one_first refs (c ∷ e) (d ∷ f) n m l k same none_e none_f has_n has_m = one_first refs e f n m l k (cc) none_e.1 none_f.1 has_n has_m
-
--- there is only one first candidate
 pub first_once : (refs : List Ref) (x n m : List ℕ) → IsFirstCandidate refs x n → IsFirstCandidate refs x m → n ≡ m
-first_once refs x n m a b = one_first refs a.earlier b.earlier n m a.later b.later (sym a.here ∙ b.here) a.absent b.absent a.present b.present
+first_once refs x n m a b =
+    (first_with (HasName refs) a.earlier b.earlier n m a.later b.later a.absent b.absent a.present b.present (sym a.here ∙ b.here)).1
 
--- if there is only one ref, a candidate with its name is the first
 pub first_of_one : (x : List ℕ) (r : Ref) → IsCandidate x r.name → IsFirstCandidate (r ∷ []) x r.name
 first_of_one x r one =
     let first = some_first (r ∷ []) x r.name one (inl refl) in
@@ -64,14 +55,12 @@ first_of_one x r one =
     only n (inl same) = same
     only n (inr none) = absurd none
 
--- a partial source takes the refs with the name of its first candidate
 pub taken_by_first : (refs : List Ref) (x : List ℕ) (r : Ref) → HasKind x (partial x) → IsFirstCandidate refs x r.name → Takes refs x r None
 taken_by_first refs x r kind first = record {
   matches = record { kind = partial x; of = kind; is = (refl, first_candidate refs x r.name first) };
   first = λ n also. subst (λ (y : List ℕ). IsFirstCandidate refs y r.name) (sym also.0) first;
 }
 
--- a partial source takes exactly these refs
 pub takes_first : (x : List ℕ) (refs : List Ref) → FirstCandidate x refs
 takes_first x refs lacks outside no_id =
     let kind : HasKind x (partial x) = (refl, lacks, outside, no_id) in

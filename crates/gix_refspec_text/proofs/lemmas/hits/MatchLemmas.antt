@@ -5,15 +5,12 @@ use Rattle.gix_refspec_text.proofs.Common.{to_candidates, OneWord, PrefixBegins,
 use Rattle.gix_refspec_text.proofs.lemmas.hits.CandidateLemmas.{first_candidate, first_of_one, takes_first}
 use Rattle.gix_refspec_text.proofs.lemmas.lists.LacksLemmas.{Lacks-here, first_once}
 
--- two words between the same texts are equal
 pub one_word : (before after n : List ℕ) → OneWord before after n
 one_word before after n v w by_v by_w = append_cancel_right v w after (append_cancel_left before (v ++ after) (w ++ after) (sym by_v ∙ by_w))
 
--- a text without a star isn't a pattern
 pub lacks_no_pattern : (x before after : List ℕ) → Lacks star x → IsSplit before after x → ⊥
 lacks_no_pattern x before after lacks split = Lacks-here star before after (subst (Lacks star) split.starred lacks)
 
--- a text is split at its only star in one way
 pub split_once : (x before after fixed rest : List ℕ) → IsSplit before after x → IsSplit fixed rest x → (before ≡ fixed) × (after ≡ rest)
 split_once x before after fixed rest a b = first_once star before fixed after rest a.first b.first (sym a.starred ∙ b.starred)
 
@@ -31,27 +28,21 @@ pattern_begins x fixed rest (full_name n) r word split kind fits = absurd (lacks
 pattern_begins x fixed rest (object id) r word split kind fits = absurd (lacks_no_pattern x fixed rest kind.0 split)
 pattern_begins x fixed rest (partial n) r word split kind fits = absurd (lacks_no_pattern x fixed rest kind.1 split)
 
--- the name of each ref that a side matches begins with the prefix of the side
 pub prefix_begins : (x : List ℕ) → PrefixBegins x
 prefix_begins x p r word h other matches = grind (arith, name_begins, pattern_begins)
 
--- a text whose part before the star begins with `refs/` begins with `refs/`
 pub begins_split : (x before after : List ℕ) → IsSplit before after x → BeginsWith (codes "refs/") before → BeginsWith (codes "refs/") x
 begins_split x before after split below = record { after = below.after ++ (star ∷ after); here = split.starred ∙ ap (λ (y : List ℕ). y ++ (star ∷ after)) below.here }
 
--- a side that isn't `HEAD` and doesn't begin with `refs/` has no prefix
 pub outside_none : (x : List ℕ) → x ≢ head → ¬ (BeginsWith (codes "refs/") x) → HasNoPrefix x
 outside_none x other outside p h = grind (arith, begins_split)
 
--- such a side that isn't an id is expanded to its candidates only
 only_candidates : (x : List ℕ) → x ≢ head → ¬ (BeginsWith (codes "refs/") x) → ¬ (IsId x) → (list : List (List ℕ)) → Expands x list → list ≡ candidates x
 only_candidates x other outside no_id list h = grind (arith, outside_none)
 
--- a partial name matches only by its candidates
 short_matches : (x : List ℕ) (k : SideKind) (r : Ref) (word : Option (List ℕ)) → Lacks star x → ¬ (BeginsWith (codes "refs/") x) → ¬ (IsId x) → HasKind x k → MatchesAs k r word → IsCandidate x r.name
 short_matches x k r word lacks outside no_id kind fits = grind (arith, lacks_no_pattern)
 
--- a partial name is expanded to its candidates, and matches exactly these
 pub has_candidates : (x : List ℕ) → Candidates x
 has_candidates x lacks other outside no_id = record {
   expands = to_candidates (outside_none x other outside) outside no_id refl;

@@ -1,11 +1,9 @@
 -- Lists that a function is mapped over.
 use Rattle.gix_refspec_text.proofs.Common.{◌≡◌, ℕ, zero, suc, ◌+◌, ◌<◌, map, take, get_or, List, [], ◌∷◌, ◌++◌, length, sym, ap, ◌∙◌, subst, arith, AllByRecursion, map_more, add-one}
 
--- the first i + 1 mapped elements are the first i and the next one
 pub map_next : {A B : Type 0} (f : A → B) (xs : List A) (i : ℕ) (x : A) → i < length xs → x ≡ get_or xs i x → map f (take (i + 1) xs) ≡ map f (take i xs) ++ f x ∷ []
 map_next f xs i x below is = map_more f xs i x below ∙ ap (λ y. map f (take i xs) ++ f y ∷ []) (sym is)
 
--- if P holds for each value of f, it holds for one of them
 pub each_mapped : {A B : Type 0} (f : A → B) (P : B → Type 0) (xs : List A) (k : ℕ) (x : A) → AllByRecursion P (map f xs) → k < length xs → x ≡ get_or xs k x → P (f x)
 each_mapped f P [] k x all below is = absurd (omega (arith, below))
 each_mapped f P (y ∷ xs) zero x all below is = subst (λ z. P (f z)) (sym is) all.0
@@ -16,6 +14,5 @@ one_more_suc f P [] k x all below is holds = absurd (omega (arith, below))
 one_more_suc f P (y ∷ xs) zero x all below is holds = (subst (λ z. P (f z)) is holds, tt)
 one_more_suc f P (y ∷ xs) (suc k) x all below is holds = (all.0, one_more_suc f P xs k x all.1 (omega (arith, below)) is holds)
 
--- if P holds for the first k values of f and for the next, it holds for the first k + 1
 pub one_more_mapped : {A B : Type 0} (f : A → B) (P : B → Type 0) (xs : List A) (k : ℕ) (x : A) → AllByRecursion P (map f (take k xs)) → k < length xs → x ≡ get_or xs k x → P (f x) → AllByRecursion P (map f (take (k + 1) xs))
 one_more_mapped f P xs k x all below is holds = rw add-one (one_more_suc f P xs k x all below is holds)

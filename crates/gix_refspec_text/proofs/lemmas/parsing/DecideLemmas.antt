@@ -1,24 +1,23 @@
 -- Each text is a name or has a fault, and each side is valid or bad for a reason.
-use Rattle.gix_refspec_text.proofs.Common.{arith, ◌≡◌, ◌≢◌, ◌⊎◌, inl, inr, ℕ, Bool, true, false, List, [], ◌∷◌, ◌++◌, codes, nat_eq, IsTrue, refl, sym, ap, ◌∙◌, subst, append_assoc, length, take, ◌-◌}
+use Rattle.gix_refspec_text.proofs.Common.{arith, ◌≡◌, ◌≢◌, ◌⊎◌, inl, inr, ℕ, Bool, true, false, List, [], ◌∷◌, ◌++◌, codes, nat_eq, refl, sym, ap, ◌∙◌, subst, append_assoc, length, take, ◌-◌}
 use Rattle.gix_refspec_text.proofs.Common.{ends_with, ends_is, false≢true, append-nil, Decides-eqb, Error, Empty, EmptyComponent, StartsWithDot, LockSuffix, EndsWithDot, RepeatedDot, ReflogPortion}
 use Rattle.gix_refspec_text.proofs.Common.{Asterisk, InvalidByte, Lacks, EndsWith, slash, star, dot, brace, is_refused_byte, HasFault, IsName, AddsFault, LeavesFault, Added, IsClean, cases_Bool}
 use Rattle.gix_refspec_text.proofs.Common.{cases_eq, Option, None, Some, unwrap_or, nat_le, is_ascii_hexdigit, leb-true, le-leb, Operation, Push, Fetch, Shape, Plain, Pattern, letter, plus, caret}
 use Rattle.gix_refspec_text.proofs.Common.{colon, ReplacesStar, Mode, Normal, Forced, Negative, Reading, Refusal, NegativeWithDestination, PushToEmpty, PatternUnsupported, ReferenceName}
-use Rattle.gix_refspec_text.proofs.Common.{PatternUnbalanced, NegativeEmpty, NegativeObjectHash, IsBadPattern, IsFirstReason, IsRefused, named_by, IsSigned, IsPositive, with_colon, LastLacksColon}
-use Rattle.gix_refspec_text.proofs.Common.{AreParts, LooksLikeObjectHash, Reads, fetched, pushed, HasShape, HasCheckedShape, IsBadSide, side_of, named_or_head, list_all, ◌&&◌, and_parts, and_from}
-use Rattle.gix_refspec_text.proofs.Common.{AllPass-from_list_all, list_all-from_AllPass}
+use Rattle.gix_refspec_text.proofs.Common.{PatternUnbalanced, NegativeEmpty, NegativeObjectHash, IsBadPattern, IsFirstReason, IsRefused, IsSigned, IsPositive, with_colon, LastLacksColon}
+use Rattle.gix_refspec_text.proofs.Common.{LooksLikeObjectHash, Reads, HasShape, HasCheckedShape, IsBadSide, list_all, ◌&&◌, and_parts, and_from, AllPass-from_list_all, list_all-from_AllPass}
+pub use Rattle.gix_refspec_text.proofs.lemmas.lists.LacksLemmas.{FirstIndex, lacks_or_first}
+use Rattle.gix_refspec_text.proofs.lemmas.lists.LacksLemmas.{lacks_or_last}
 use Rattle.gix_refspec_text.proofs.lemmas.texts.NameLemmas.{IsClean-more, IsClean-start, HasFault-added, HasFault-left, IsName-from_clean, end_leaves}
 use Rattle.gix_refspec_text.proofs.lemmas.parsing.PartsLemmas.{Parted}
 use Rattle.gix_refspec_text.proofs.lemmas.parsing.ReasonLemmas.{fetch_reaches, push_reaches, push_alone_reaches, negative_reaches, reason_at_source, reason_at_destination, reason_against_object}
 use Rattle.gix_refspec_text.proofs.lemmas.parsing.ReasonLemmas.{reason_against_nothing, fetch_source_fine, push_source_fine, bad_destination, bad_source_of_push, unbalanced_fetch, unbalanced_push}
 use Rattle.gix_refspec_text.proofs.lemmas.parsing.ReasonLemmas.{bad_negative, no_negative}
-use Rattle.gix_refspec_text.proofs.lemmas.parsing.ReadsLemmas.{fetch_reads, push_alone_reads, push_reads, negative_reads, refused}
+use Rattle.gix_refspec_text.proofs.lemmas.parsing.ReadsLemmas.{AreFine, fine_fetch, fine_alone, fine_push, fine_negative, made, fine_reads, refused}
 
--- P holds, or it doesn't
 abbrev pub Decided : Type 0 → Type 0
 Decided P = P ⊎ (P → ⊥)
 
--- a test is true or false
 pub tested : (b : Bool) → (b ≡ true) ⊎ (b ≡ false)
 tested = cases_Bool
 
@@ -29,21 +28,17 @@ both h q = grind arith
 pub decided_by : {P : Type 0} (b : Bool) → (b ≡ true → P) → (P → b ≡ true) → Decided P
 decided_by b so back = elim (cases_Bool b) [ inl is ↦ inl (so is) | inr other ↦ inr (λ holds. false≢true (sym other ∙ back holds)) ]
 
--- a text ends with a word or not
 decided_end : (w y : List ℕ) → Decided (EndsWith w y)
 decided_end w y =
     let told = ends_is Decides-eqb y w (ends_with nat_eq y w) refl in
     decided_by (ends_with nat_eq y w) (λ so. record { before = take (length y - length w) y; here = told.0 so }) (λ ends. told.1 ends.before ends.here)
 
--- some fault satisfies P, or none does
 abbrev pub Found : (Error → Type 0) → Type 0
 Found P = ((e : Error) × P e) ⊎ ((e : Error) → ¬ (P e))
 
--- the fault e satisfies P, or the search goes on
 or_else : (P : Error → Type 0) (e : Error) → Decided (P e) → (¬ (P e) → Found P) → Found P
 or_else P e h later = grind arith
 
--- a byte adds only these faults
 added_fault : (y : List ℕ) (b : ℕ) → Found (AddsFault y b)
 added_fault y b =
     or_else (AddsFault y b) EmptyComponent (both (cases_eq b slash) (decided_end (codes "/") y)) (λ component.
@@ -56,23 +51,14 @@ added_fault y b =
     inr (none component start lock dots reflog starless fine))))))))
   where
     none : ¬ (AddsFault y b EmptyComponent) → ¬ (AddsFault y b StartsWithDot) → ¬ (AddsFault y b LockSuffix) → ¬ (AddsFault y b RepeatedDot) → ¬ (AddsFault y b ReflogPortion) → ¬ (AddsFault y b Asterisk) → ¬ (AddsFault y b (InvalidByte b)) → (e : Error) → ¬ (AddsFault y b e)
-    none component start lock dots reflog starless fine EmptyComponent h = component h
-    none component start lock dots reflog starless fine StartsWithDot h = start h
-    none component start lock dots reflog starless fine LockSuffix h = lock h
-    none component start lock dots reflog starless fine RepeatedDot h = dots h
-    none component start lock dots reflog starless fine ReflogPortion h = reflog h
-    none component start lock dots reflog starless fine Asterisk h = starless h
-    none component start lock dots reflog starless fine (InvalidByte c) h = fine (refl, subst (λ (x : ℕ). IsTrue (is_refused_byte x)) (sym h.0) h.1)
-    none component start lock dots reflog starless fine _ h = h
+    none component start lock dots reflog starless fine e h = grind arith
 
--- the end leaves a fault or not
 left_fault : (y : List ℕ) → Found (LeavesFault y)
 left_fault y =
     or_else (LeavesFault y) EmptyComponent (decided_end (codes "/") y) (λ whole.
     or_else (LeavesFault y) EndsWithDot (decided_end (codes ".") y) (λ undotted.
     or_else (LeavesFault y) LockSuffix (decided_end (codes ".lock") y) (λ unlocked. inr (λ e left. end_leaves y e whole undotted unlocked left))))
 
--- after clean bytes, some byte adds a fault or none does
 scanned : (y rest : List ℕ) → IsClean y → ((e : Error) × Added (y ++ rest) e) ⊎ IsClean (y ++ rest)
 scanned y [] clean = inr (subst IsClean (sym (append-nil y)) clean)
 scanned y (b ∷ rest) clean = elim (added_fault y b) [
@@ -80,7 +66,6 @@ scanned y (b ∷ rest) clean = elim (added_fault y b) [
   | inr none ↦ subst (λ (x : List ℕ). ((e : Error) × Added x e) ⊎ IsClean x) (append_assoc y (b ∷ []) rest) (scanned (y ++ (b ∷ [])) rest (IsClean-more y b clean none))
 ]
 
--- each text is a name or has a fault
 pub name_or_fault : (x : List ℕ) → IsName x ⊎ ((e : Error) × HasFault x e)
 name_or_fault [] = inr (Empty, refl)
 name_or_fault (b ∷ x) =
@@ -92,25 +77,6 @@ name_or_fault (b ∷ x) =
         | inr none ↦ inl (IsName-from_clean (b ∷ x) full clean none)
       ]
     ]
-
--- the first occurrence of a byte
-pub record FirstIndex (b : ℕ) (x : List ℕ) : Type 0 where
-  pub before : List ℕ
-  pub after : List ℕ
-  pub here : x ≡ before ++ (b ∷ after)
-  pub first : Lacks b before
-
-pub lacks_or_first : (b : ℕ) (x : List ℕ) → Lacks b x ⊎ FirstIndex b x
-lacks_or_first b [] = inl tt
-lacks_or_first b (c ∷ x) = elim (cases_eq c b) [
-  | inl same ↦ inr (record { before = []; after = x; here = ap (λ d. d ∷ x) same; first = tt })
-  | inr other ↦ elim (lacks_or_first b x) [
-    | inl lacks ↦ inl (other, lacks)
-    | inr index ↦ inr (record { before = c ∷ index.before; after = index.after; here = ap (λ y. c ∷ y) index.here; first = (other, index.first) })
-  ]
-]
-
--- ---- each text has parts, and parts have a reading or a first reason to refuse them
 
 -- a text without a star or a pattern, or a bad pattern
 abbrev pub Starred : List ℕ → Type 0
@@ -149,27 +115,22 @@ pub checked : (x : List ℕ) → Checked x
 checked [] = inl (Plain, tt)
 checked (b ∷ x) = elim (starred (b ∷ x)) [ inl side ↦ checked_by b x side.0 side.1 | inr bad ↦ inr (bad.0, ((λ same. cc), inr bad.1)) ]
 
--- two sides have the same shape or not
 decided_side : (j k : Shape) → Decided (j ≡ k)
 decided_side j k = grind arith
 
--- a text is empty or not
 decided_empty : (x : List ℕ) → Decided (x ≡ [])
 decided_empty [] = inl refl
 decided_empty (b ∷ x) = inr (λ same. cc)
 
--- a text looks like an object hash or not
 decided_hash : (x : List ℕ) → Decided (LooksLikeObjectHash x)
-decided_hash x = elim (tested (nat_le 40 (length x) && list_all is_ascii_hexdigit x)) [
-  | inl so ↦
-      let both = and_parts (nat_le 40 (length x)) (list_all is_ascii_hexdigit x) so in
-      inl (record { long = leb-true 40 (length x) both.0; digits = AllPass-from_list_all is_ascii_hexdigit x both.1 })
-  | inr other ↦ inr (λ hash. false≢true (sym other ∙ and_from _ _ (le-leb 40 (length x) hash.long) (list_all-from_AllPass is_ascii_hexdigit x hash.digits)))
-]
+decided_hash x =
+    decided_by (nat_le 40 (length x) && list_all is_ascii_hexdigit x)
+    (λ so. let h = and_parts _ _ so in record { long = leb-true 40 _ h.0; digits = AllPass-from_list_all is_ascii_hexdigit x h.1 })
+    (λ hash. and_from _ _ (le-leb 40 (length x) hash.long) (list_all-from_AllPass is_ascii_hexdigit x hash.digits))
 
--- parts have a reading, or a first reason to refuse them
+-- parts are valid, or there is a first reason to refuse them
 abbrev pub Settled : Operation → Mode → List ℕ → Option (List ℕ) → Type 0
-Settled op m s d = ((r : Reading) × ((text : List ℕ) → AreParts m s d text → Reads op text r)) ⊎ ((e : Refusal) × IsFirstReason op m s d e)
+Settled op m s d = AreFine op m s d ⊎ ((e : Refusal) × IsFirstReason op m s d e)
 
 settled_fetch : (m : Mode) (s : List ℕ) (d : Option (List ℕ)) → IsPositive m → Settled Fetch m s d
 settled_fetch m s d pos = elim (checked s) [
@@ -177,10 +138,7 @@ settled_fetch m s d pos = elim (checked s) [
   | inl source ↦ elim (checked (unwrap_or d [])) [
     | inr bad ↦ inr (bad.0, reason_at_destination Fetch m s d bad.0 (fetch_reaches m s d pos) (fetch_source_fine s d source.0 source.1) (bad_destination d bad.0 bad.1))
     | inl target ↦ elim (decided_side source.0 target.0) [
-      | inl same ↦ inl (
-        fetched m (named_or_head s) (side_of (unwrap_or d [])),
-        λ text parts. fetch_reads m s d source.0 text pos source.1 (subst (λ (k : Shape). HasCheckedShape (unwrap_or d []) k) (sym same) target.1) parts,
-      )
+      | inl same ↦ inl (fine_fetch target.0 refl pos (subst (HasCheckedShape s) same source.1) target.1)
       | inr differ ↦ inr (PatternUnbalanced, unbalanced_fetch m s d source.0 target.0 pos source.1 target.1 differ)
     ]
   ]
@@ -189,13 +147,13 @@ settled_fetch m s d pos = elim (checked s) [
 settled_alone : (m : Mode) (s : List ℕ) → IsPositive m → (s ≡ [] → m ≡ Normal → ⊥) → Settled Push m s None
 settled_alone m s pos full = elim (checked s) [
   | inr bad ↦ inr (bad.0, reason_at_source Push m s None bad.0 (push_alone_reaches m s pos full) (record { source = bad.1.0; refusal = bad.1.1 }))
-  | inl source ↦ inl (pushed m (side_of (named_by s)) None, λ text parts. push_alone_reads m s source.0 text pos full source.1 parts)
+  | inl source ↦ inl (fine_alone source.0 refl pos refl full source.1)
 ]
 
 settled_push_alone : (m : Mode) (s : List ℕ) → IsPositive m → Settled Push m s None
 settled_push_alone Normal [] pos = inr (Empty, inl (record { push = refl; unsigned = refl; no_source = refl; no_colon = refl; refusal = refl }))
 settled_push_alone Normal (b ∷ s) pos = settled_alone Normal (b ∷ s) pos (λ empty normal. cc)
-settled_push_alone Forced s pos = settled_alone Forced s pos (λ empty normal. absurd (cc))
+settled_push_alone Forced s pos = settled_alone Forced s pos (λ empty normal. cc)
 settled_push_alone Negative s pos = absurd pos
 
 settled_to : (m : Mode) (s t : List ℕ) → IsPositive m → (s ≢ [] → t ≡ [] → ⊥) → Settled Push m s (Some t)
@@ -204,10 +162,7 @@ settled_to m s t pos somewhere = elim (starred s) [
   | inl source ↦ elim (checked t) [
     | inr bad ↦ inr (bad.0, reason_at_destination Push m s (Some t) bad.0 (push_reaches m s t pos somewhere) (push_source_fine s t source.0 source.1) (bad_destination (Some t) bad.0 bad.1))
     | inl target ↦ elim (decided_side source.0 target.0) [
-      | inl same ↦ inl (
-        pushed m (side_of (named_by s)) (side_of t),
-        λ text parts. push_reads m s t source.0 text pos somewhere source.1 (subst (λ (k : Shape). HasCheckedShape t k) (sym same) target.1) parts,
-      )
+      | inl same ↦ inl (fine_push target.0 t refl pos refl somewhere (subst (HasShape s) same source.1) target.1)
       | inr differ ↦ inr (PatternUnbalanced, unbalanced_push m s t source.0 target.0 pos somewhere source.1 target.1 differ)
     ]
   ]
@@ -230,12 +185,11 @@ settled_negative op s None = elim (checked s) [
     | inl empty ↦ inr (NegativeEmpty, reason_against_nothing op s source.0 empty source.1)
     | inr full ↦ elim (decided_hash s) [
       | inl hash ↦ inr (NegativeObjectHash, reason_against_object op s source.0 full source.1 hash)
-      | inr other ↦ inl (record { operation = op; mode = Negative; source = side_of (named_by s); destination = None }, λ text parts. negative_reads op s source.0 text full source.1 other parts)
+      | inr other ↦ inl (fine_negative source.0 refl refl full source.1 other)
     ]
   ]
 ]
 
--- any parts have a reading, or a first reason to refuse them
 pub settled : (op : Operation) (m : Mode) (s : List ℕ) (d : Option (List ℕ)) → Settled op m s d
 settled op Negative s d = settled_negative op s d
 settled Fetch Normal s d = settled_fetch Normal s d tt
@@ -268,29 +222,22 @@ record Split (x : List ℕ) : Type 0 where
   whole : x ≡ with_colon source destination
   last : LastLacksColon source destination
 
-split_before : (b : ℕ) (x s : List ℕ) (d : Option (List ℕ)) → x ≡ with_colon s d → LastLacksColon s d → Split (b ∷ x)
-split_before b x s (Some d) whole last = record { source = b ∷ s; destination = Some d; whole = ap (λ (y : List ℕ). b ∷ y) whole; last = last }
-split_before b x s None whole lacks = elim (cases_eq b colon) [
-  | inl same ↦ record { source = []; destination = Some x; whole = ap (λ c. c ∷ x) same; last = subst (Lacks colon) (sym whole) lacks }
-  | inr other ↦ record { source = b ∷ s; destination = None; whole = ap (λ (y : List ℕ). b ∷ y) whole; last = (other, lacks) }
+split : (x : List ℕ) → Split x
+split x = elim (lacks_or_last colon x) [
+  | inl lacks ↦ record { source = x; destination = None; whole = refl; last = lacks }
+  | inr index ↦ record { source = index.before; destination = Some index.after; whole = index.here; last = index.last }
 ]
 
-split : (x : List ℕ) → Split x
-split [] = record { source = []; destination = None; whole = refl; last = tt }
-split (b ∷ x) = let later = split x in split_before b x later.source later.destination later.whole later.last
-
--- each text has parts
 pub parted : (text : List ℕ) → Parted text
 parted text =
     let s = signs text in
     let c = split s.rest in
     record { mode = s.mode; source = c.source; destination = c.destination; parts = record { signed = subst (IsSigned s.mode text) c.whole s.signed; last = c.last } }
 
--- each text has a reading or is refused
 pub read_or_refused : (op : Operation) (text : List ℕ) → ((r : Reading) × Reads op text r) ⊎ ((e : Refusal) × IsRefused op text e)
 read_or_refused op text =
     let p = parted text in
     elim (settled op p.mode p.source p.destination) [
-      | inl reading ↦ inl (reading.0, reading.1 text p.parts)
+      | inl fine ↦ inl (made op p.mode p.source p.destination, fine_reads op p.mode p.source p.destination text fine p.parts)
       | inr reason ↦ inr (reason.0, refused op p.mode p.source p.destination text reason.0 p.parts reason.1)
     ]

@@ -15,7 +15,6 @@ signed_once m n text r s a b = grind arith
 pub split_once : (s t : List ℕ) (d e : Option (List ℕ)) → LastLacksColon s d → LastLacksColon t e → with_colon s d ≡ with_colon t e → (s ≡ t) × (d ≡ e)
 split_once s t d e a b same = grind (arith, Lacks-here, last_once)
 
--- two splits of a text into parts are the same
 pub record SameParts (m n : Mode) (s t : List ℕ) (d e : Option (List ℕ)) : Type 0 where
   pub mode : m ≡ n
   pub source : s ≡ t

@@ -1,25 +1,19 @@
 -- A text has at most one reading, which is made from its parts.
-use Rattle.gix_refspec_text.proofs.Common.{arith, ◌≡◌, ◌≢◌, ◌⊎◌, inl, inr, ℕ, List, [], Option, None, Some, unwrap_or, refl, sym, ap, ◌∙◌, Operation, Push, Fetch, Mode, Forced, Negative, Reading}
-use Rattle.gix_refspec_text.proofs.Common.{named_by, AreAlike, AreParts, fetched, pushed, Reads, fetches_nothing_named, fetches_colon, fetches, updates, updates_from_head, fetch_excludes, pushes_plus}
-use Rattle.gix_refspec_text.proofs.Common.{pushes_colon, pushes, deletes, pushes_pattern, pushes_to, push_excludes, side_of, named_or_head}
+use Rattle.gix_refspec_text.proofs.Common.{arith, ◌≡◌, ◌≢◌, ◌⊎◌, inl, inr, ℕ, List, [], Option, None, Some, refl, sym, ap, ◌∙◌, Operation, Push, Fetch, Mode, Forced, Negative, Reading, named_by}
+use Rattle.gix_refspec_text.proofs.Common.{AreAlike, AreParts, fetched, Reads, fetches_nothing_named, fetches_colon, fetches, updates, updates_from_head, fetch_excludes, pushes_plus, pushes_colon}
+use Rattle.gix_refspec_text.proofs.Common.{pushes, deletes, pushes_pattern, pushes_to, push_excludes, side_of, named_or_head}
 use Rattle.gix_refspec_text.proofs.lemmas.parsing.PartsLemmas.{Parted, parts_once}
-use Rattle.gix_refspec_text.proofs.lemmas.parsing.ReadsLemmas.{same_reading, side_of-named, name_not_empty, pattern_not_empty, either_not_empty}
-
--- the reading made from parts, if they have one
-abbrev pub made : Operation → Mode → List ℕ → Option (List ℕ) → Reading
-made Fetch m s d = fetched m (named_or_head s) (side_of (unwrap_or d []))
-made Push m s d = pushed m (side_of (named_by s)) (side_of (unwrap_or d []))
+use Rattle.gix_refspec_text.proofs.lemmas.parsing.ReadsLemmas.{made, same_reading, side_of-named, name_not_empty, pattern_not_empty, either_not_empty}
 
 -- a reading and the parts that make it
 pub record IsMade (op : Operation) (text : List ℕ) (r : Reading) : Type 0 where
   pub of : Parted text
   pub is : r ≡ made op of.mode of.source of.destination
 
--- a source that isn't empty, in a fetch and as a side
 named_or_head-full : (s : List ℕ) → s ≢ [] → named_or_head s ≡ named_by s
 named_or_head-full s full = grind arith
 
-side_of-full : (s : List ℕ) → s ≢ [] → side_of s ≡ Some s
+pub side_of-full : (s : List ℕ) → s ≢ [] → side_of s ≡ Some s
 side_of-full s full = grind arith
 
 side_of-named_full : (s : List ℕ) → s ≢ [] → side_of (named_by s) ≡ Some (named_by s)
@@ -29,7 +23,6 @@ pub alike_full : (s d : List ℕ) → AreAlike s d → (s ≢ []) × (d ≢ [])
 alike_full s d (inl names) = (name_not_empty s names.0, name_not_empty d names.1)
 alike_full s d (inr patterns) = (pattern_not_empty s patterns.0, pattern_not_empty d patterns.1)
 
--- a reading that parts make for an operation is also made for an equal operation
 made_for : (op : Operation) (text : List ℕ) (r : Reading) (o : Operation) (m : Mode) (s : List ℕ) (d : Option (List ℕ)) → op ≡ o → AreParts m s d text → r ≡ made o m s d → IsMade op text r
 made_for op text r o m s d same parts is = record { of = record { mode = m; source = s; destination = d; parts = parts }; is = is ∙ sym (ap (λ (x : Operation). made x m s d) same) }
 
@@ -37,7 +30,6 @@ made_alone : (op : Operation) (text : List ℕ) (r : Reading) (m : Mode) (s : Li
 made_alone op text r m s fetch (inl parts) full is = made_for op text r Fetch m s None fetch parts (is ∙ sym (ap (λ (x : List ℕ). fetched m x None) (named_or_head-full s full)))
 made_alone op text r m s fetch (inr parts) full is = made_for op text r Fetch m s (Some []) fetch parts (is ∙ sym (ap (λ (x : List ℕ). fetched m x None) (named_or_head-full s full)))
 
--- each reading of a text is made from its parts
 pub is_made : (op : Operation) (text : List ℕ) (r : Reading) → Reads op text r → IsMade op text r
 is_made op text r (fetches_nothing_named m fetch pos parts is) = made_for op text r Fetch m [] None fetch parts is
 is_made op text r (fetches_colon m fetch pos parts is) = made_for op text r Fetch m [] (Some []) fetch parts is
@@ -55,7 +47,6 @@ is_made op text r (pushes_pattern m s d push pos parts source destination is) = 
 is_made op text r (pushes_to m s d push pos parts full plain name is) = made_for op text r Push m s (Some d) push parts (is ∙ same_reading Push m _ _ _ _ (sym (side_of-named_full s full)) (sym (side_of-full d (name_not_empty d name))))
 is_made op text r (push_excludes s push parts either hash is) = made_for op text r Push Negative s None push parts (is ∙ same_reading Push Negative _ _ _ _ (sym (side_of-named_full s (either_not_empty s either))) refl)
 
--- a text has at most one reading
 pub reads_once : (op : Operation) (text : List ℕ) (r q : Reading) → Reads op text r → Reads op text q → r ≡ q
 reads_once op text r q by_r by_q =
     let a = is_made op text r by_r in

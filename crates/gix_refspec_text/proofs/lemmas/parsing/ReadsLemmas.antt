@@ -13,26 +13,21 @@ use Rattle.gix_refspec_text.proofs.lemmas.parsing.PartsLemmas.{Parted, parts_onc
 use Rattle.gix_refspec_text.proofs.lemmas.parsing.ReasonLemmas.{MemoryOr-map, positive, fetch_reaches, push_reaches, push_alone_reaches, negative_reaches, fetch_source_fine, push_source_fine}
 use Rattle.gix_refspec_text.proofs.lemmas.parsing.ReasonLemmas.{alone_fine, destination_fine, sides_balanced}
 
--- readings with equal sides are equal
 pub same_reading : (op : Operation) (m : Mode) (s t d e : Option (List ℕ)) → s ≡ t → d ≡ e → ◌≡◌ {A = Reading} (record { operation = op; mode = m; source = s; destination = d }) (record { operation = op; mode = m; source = t; destination = e })
 same_reading op m s t d e same_source same_destination = cc
 
--- if the text has a reading, it has each reading of parts and sides with the same operation, mode and sides
 pub read_with : (p : Parts) (sides : Sides) (text : List ℕ) (op : Operation) (m : Mode) (s d : Option (List ℕ)) → p.operation ≡ op → mode_of p.mode ≡ m → option_map bstr_bytes sides.source ≡ s → option_map bstr_bytes sides.destination ≡ d → Reads op text (record { operation = op; mode = m; source = s; destination = d }) → Reads p.operation text (read_as p sides)
 read_with p sides text op m s d same_op same_mode same_source same_destination reads =
     let made : Reading = record { operation = op; mode = m; source = s; destination = d } in
     let same : read_as p sides ≡ made = cc in
     subst (λ o. Reads o text (read_as p sides)) (sym same_op) (subst (Reads op text) (sym same) reads)
 
--- a source that isn't empty names a text that isn't empty
 pub side_of-named : (b : ℕ) (bs : List ℕ) → side_of (named_by (b ∷ bs)) ≡ Some (named_by (b ∷ bs))
 side_of-named b bs = grind arith
 
--- the source of a fetch never names the empty text
 pub side_of-named_or_head : (s : List ℕ) → side_of (named_or_head s) ≡ Some (named_or_head s)
 side_of-named_or_head s = grind (arith, side_of-named)
 
--- the reading of a positive fetch whose sides have one shape
 pub fetch_reads : (m : Mode) (s : List ℕ) (d : Option (List ℕ)) (k : Shape) (text : List ℕ) → IsPositive m → HasCheckedShape s k → HasCheckedShape (unwrap_or d []) k → AreParts m s d text → Reads Fetch text (fetched m (named_or_head s) (side_of (unwrap_or d [])))
 fetch_reads m [] None k text pos a b parts = fetches_nothing_named m refl pos parts refl
 fetch_reads m [] (Some []) k text pos a b parts = fetches_colon m refl pos parts refl
@@ -45,18 +40,15 @@ fetch_reads m (x ∷ xs) (Some []) Pattern text pos a b parts = absurd (empty_no
 fetch_reads m (x ∷ xs) (Some (c ∷ cs)) Plain text pos a b parts = updates m (x ∷ xs) (c ∷ cs) refl pos parts (inl (a, b)) refl
 fetch_reads m (x ∷ xs) (Some (c ∷ cs)) Pattern text pos a b parts = updates m (x ∷ xs) (c ∷ cs) refl pos parts (inr (a, b)) refl
 
--- a side that isn't empty is a name or a pattern
 checked_name_or_pattern : (b : ℕ) (bs : List ℕ) (k : Shape) → HasCheckedShape (b ∷ bs) k → IsNameOrPattern (b ∷ bs)
 checked_name_or_pattern b bs k fine = grind arith
 
--- the reading of a positive push of a source alone
 pub push_alone_reads : (m : Mode) (s : List ℕ) (k : Shape) (text : List ℕ) → IsPositive m → (s ≡ [] → m ≡ Normal → ⊥) → HasCheckedShape s k → AreParts m s None text → Reads Push text (pushed m (side_of (named_by s)) None)
 push_alone_reads Normal [] k text pos full a parts = absurd (full refl refl)
 push_alone_reads Forced [] k text pos full a parts = pushes_plus refl parts refl
 push_alone_reads Negative [] k text pos full a parts = absurd pos
 push_alone_reads m (x ∷ xs) k text pos full a parts = pushes m (x ∷ xs) refl pos parts (checked_name_or_pattern x xs k a) (ap (λ (s : Option (List ℕ)). pushed m s None) (side_of-named x xs))
 
--- the reading of a positive push to a destination
 pub push_reads : (m : Mode) (s d : List ℕ) (k : Shape) (text : List ℕ) → IsPositive m → (s ≢ [] → d ≡ [] → ⊥) → HasShape s k → HasCheckedShape d k → AreParts m s (Some d) text → Reads Push text (pushed m (side_of (named_by s)) (side_of d))
 push_reads m [] [] k text pos somewhere a b parts = pushes_colon m refl pos parts refl
 push_reads m [] (c ∷ cs) Plain text pos somewhere a b parts = deletes m (c ∷ cs) refl pos parts b refl
@@ -65,7 +57,6 @@ push_reads m (x ∷ xs) [] k text pos somewhere a b parts = absurd (somewhere (�
 push_reads m (x ∷ xs) (c ∷ cs) Plain text pos somewhere a b parts = pushes_to m (x ∷ xs) (c ∷ cs) refl pos parts (λ e. cc) a b (ap (λ (s : Option (List ℕ)). pushed m s (Some (c ∷ cs))) (side_of-named x xs))
 push_reads m (x ∷ xs) (c ∷ cs) Pattern text pos somewhere a b parts = pushes_pattern m (x ∷ xs) (c ∷ cs) refl pos parts a b (ap (λ (s : Option (List ℕ)). pushed m s (Some (c ∷ cs))) (side_of-named x xs))
 
--- the reading of a negative spec
 pub negative_reads : (op : Operation) (s : List ℕ) (k : Shape) (text : List ℕ) → s ≢ [] → HasCheckedShape s k → ¬ (LooksLikeObjectHash s) → AreParts Negative s None text → Reads op text (record { operation = op; mode = Negative; source = side_of (named_by s); destination = None })
 negative_reads op [] k text full a hash parts = absurd (full refl)
 negative_reads Push (x ∷ xs) k text full a hash parts = push_excludes (x ∷ xs) refl parts (checked_name_or_pattern x xs k a) hash (ap (λ (s : Option (List ℕ)). pushed Negative s None) (side_of-named x xs))
@@ -79,22 +70,38 @@ pub data AreFine (op : Operation) (m : Mode) (s : List ℕ) (d : Option (List �
   fine_push : (k : Shape) (t : List ℕ) → op ≡ Push → IsPositive m → d ≡ Some t → (s ≢ [] → t ≡ [] → ⊥) → HasShape s k → HasCheckedShape t k → AreFine op m s d
   fine_negative : (k : Shape) → m ≡ Negative → d ≡ None → s ≢ [] → HasCheckedShape s k → ¬ (LooksLikeObjectHash s) → AreFine op m s d
 
--- a name, and a pattern, as checked sides
-checked_name : (x : List ℕ) → IsName x → HasCheckedShape x Plain
+-- the source of the reading that parts make, and that reading
+abbrev pub source_of : Operation → List ℕ → Option (List ℕ)
+source_of Fetch s = Some (named_or_head s)
+source_of Push s = side_of (named_by s)
+
+abbrev pub made : Operation → Mode → List ℕ → Option (List ℕ) → Reading
+made op m s d = record { operation = op; mode = m; source = source_of op s; destination = side_of (unwrap_or d []) }
+
+source_named : (op : Operation) (s : List ℕ) → s ≢ [] → source_of op s ≡ side_of (named_by s)
+source_named op s full = grind (arith, side_of-named)
+
+-- a text with valid parts has that reading
+pub fine_reads : (op : Operation) (m : Mode) (s : List ℕ) (d : Option (List ℕ)) (text : List ℕ)
+    → AreFine op m s d → AreParts m s d text → Reads op text (made op m s d)
+fine_reads op m s d x (fine_fetch k fetch pos a b) p = rw fetch (fetch_reads m s d k x pos a b p)
+fine_reads op m s d x (fine_alone k push pos none full a) p = rw (push, none) (push_alone_reads m s k x pos full a (rw none at p))
+fine_reads op m s d x (fine_push k t push pos is somewhere a b) p = rw (push, is) (push_reads m s t k x pos somewhere a b (rw is at p))
+fine_reads op m s d x (fine_negative k minus none full a hash) p =
+    rw (minus, none, source_named op s full) (negative_reads op s k x full a hash (rw (minus, none) at p))
+
+pub checked_name : (x : List ℕ) → IsName x → HasCheckedShape x Plain
 checked_name x name = grind arith
 
 checked_from_pattern : (x : List ℕ) → IsPattern x → HasCheckedShape x Pattern
 checked_from_pattern x pattern = grind arith
 
--- a name or a pattern as a checked side of some shape
 checked_either : (x : List ℕ) → IsNameOrPattern x → (k : Shape) × HasCheckedShape x k
 checked_either x k = grind (arith, checked_name, checked_from_pattern)
 
--- a name isn't empty
 pub name_not_empty : (x : List ℕ) → IsName x → x ≢ []
 name_not_empty x name empty = name Empty empty
 
--- nor is a pattern
 pub pattern_not_empty : (x : List ℕ) → IsPattern x → x ≢ []
 pattern_not_empty x pattern empty = empty_no_pattern (subst IsPattern empty pattern)
 
@@ -123,7 +130,6 @@ negative_fine op s text parts either hash =
     let side = checked_either s either in
     with_fine op Negative s None text parts (fine_negative side.0 refl refl (either_not_empty s either) side.1 hash)
 
--- a text with a reading has valid parts
 pub fine_parts : (op : Operation) (text : List ℕ) (r : Reading) → Reads op text r → FineParts op text
 fine_parts op text r (fetches_nothing_named m fetch pos parts _) = with_fine op m [] None text parts (fine_fetch Plain fetch pos tt tt)
 fine_parts op text r (fetches_colon m fetch pos parts _) = with_fine op m [] (Some []) text parts (fine_fetch Plain fetch pos tt tt)
@@ -141,26 +147,25 @@ fine_parts op text r (pushes_pattern m s d push pos parts source destination _) 
 fine_parts op text r (pushes_to m s d push pos parts full plain name _) = with_fine op m s (Some d) text parts (fine_push Plain d push pos refl (λ _ empty. name_not_empty d name empty) plain (checked_name d name))
 fine_parts op text r (push_excludes s push parts either hash _) = negative_fine op s text parts either hash
 
--- no reason is the first if none ever applies
 none_first : (op : Operation) (m : Mode) (s : List ℕ) (d : Option (List ℕ)) → NoReasonBeforeSource op m s d → Never (HasBadSource op s d) → Never (HasBadDestination d) → Never (IsUnbalanced op m s d) → Never (ExcludesNothing m s)
     → Never (ExcludesObject m s) → Never (IsFirstReason op m s d)
 none_first op m s d before source destination balance nothing object =
     Never-or before.0 (Never-or before.1 (Never-or before.2 (Never-or source (Never-or destination (Never-or balance (Never-or nothing object))))))
 
--- no reason applies to valid parts
 pub no_reason : (op : Operation) (m : Mode) (s : List ℕ) (d : Option (List ℕ)) → AreFine op m s d → Never (IsFirstReason op m s d)
 no_reason op m s d h e =
     grind (arith, none_first, fetch_reaches, fetch_source_fine, destination_fine, sides_balanced, checked_starred, positive, push_alone_reaches, alone_fine, push_reaches, push_source_fine, negative_reaches)
 
--- a text has no reading if a reason applies to its parts
-pub unread : (op : Operation) (m : Mode) (s : List ℕ) (d : Option (List ℕ)) (text : List ℕ) (e : Refusal) (r : Reading) → AreParts m s d text → IsFirstReason op m s d e → ¬ (Reads op text r)
-unread op m s d text e r parts first reads =
-    let fine = fine_parts op text r reads in
-    let p = fine.of in
-    let same = parts_once m p.mode s p.source d p.destination text parts p.parts in
-    no_reason op p.mode p.source p.destination fine.fine e (rw (same.mode, same.source, same.destination) at first)
+pub fine_of : (op : Operation) (m : Mode) (s : List ℕ) (d : Option (List ℕ)) (text : List ℕ) (r : Reading)
+    → AreParts m s d text → Reads op text r → AreFine op m s d
+fine_of op m s d text r parts reads =
+    let p = fine_parts op text r reads in
+    let same = parts_once p.of.mode m p.of.source s p.of.destination d text p.of.parts parts in
+    rw (same.mode, same.source, same.destination) at p.fine
 
--- a text is refused for the first reason that applies to its parts
+pub unread : (op : Operation) (m : Mode) (s : List ℕ) (d : Option (List ℕ)) (text : List ℕ) (e : Refusal) (r : Reading) → AreParts m s d text → IsFirstReason op m s d e → ¬ (Reads op text r)
+unread op m s d text e r parts first reads = no_reason op m s d (fine_of op m s d text r parts reads) e first
+
 pub refused : (op : Operation) (m : Mode) (s : List ℕ) (d : Option (List ℕ)) (text : List ℕ) (e : Refusal) → AreParts m s d text → IsFirstReason op m s d e → IsRefused op text e
 refused op m s d text e parts first = record { unread = λ r. unread op m s d text e r parts first; mode = m; source = s; destination = d; parts = parts; first = first }
 

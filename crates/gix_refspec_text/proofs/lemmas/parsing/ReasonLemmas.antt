@@ -8,11 +8,9 @@ use Rattle.gix_refspec_text.specs.declared.parsing.Error.TheVariants as error
 use Rattle.gix_refspec_text.proofs.lemmas.texts.TextLemmas.{Lacks-ContainsText}
 use Rattle.gix_refspec_text.proofs.lemmas.parsing.SideLemmas.{checked_fine, starred_fine, checked_starred, HasStar-pattern, HasStar-bad}
 
--- an error other than `Memory` is a refusal
 pub shows_refusal : (M : Type 0) (P : Refusal → Type 0) (e : Error) → MemoryOr M P e → e ≢ error.Memory → ShowsRefusal P e
 shows_refusal M P e told other = grind arith
 
--- if the error is `Memory`, memory may be needed
 pub needs_memory : (M : Type 0) (P : Refusal → Type 0) (e : Error) → MemoryOr M P e → e ≡ error.Memory → M
 needs_memory M P e told same = subst (MemoryOr M P) same told
 
@@ -20,38 +18,28 @@ needs_memory M P e told same = subst (MemoryOr M P) same told
 pub MemoryOr-map : (M N : Type 0) (P Q : Refusal → Type 0) (e : Error) → (M → N) → ((f : Refusal) → P f → Q f) → MemoryOr M P e → MemoryOr N Q e
 MemoryOr-map M N P Q e m p h = grind arith
 
--- a positive mode isn't negative
 pub positive : (m : Mode) → IsPositive m → m ≡ Negative → ⊥
 positive m pos same = subst IsPositive same pos
 
 pub no_negative : (m : Mode) (d : Option (List ℕ)) → IsPositive m → Never (HasNegativeDestination m d)
-no_negative m d pos e h = positive m pos h.negative
+no_negative m d pos e h = grind (arith, positive)
 
--- no reason before those of the source applies to a positive fetch
 pub fetch_reaches : (m : Mode) (s : List ℕ) (d : Option (List ℕ)) → IsPositive m → NoReasonBeforeSource Fetch m s d
-fetch_reaches m s d pos = (λ e h. let p = h.push in absurd (cc), no_negative m d pos, λ e h. let p = h.push in absurd (cc))
+fetch_reaches m s d pos = grind (arith, positive)
 
--- nor to a positive push to a destination
 pub push_reaches : (m : Mode) (s t : List ℕ) → IsPositive m → (s ≢ [] → t ≡ [] → ⊥) → NoReasonBeforeSource Push m s (Some t)
-push_reaches m s t pos somewhere = (
-  λ e h. let i = h.no_colon in absurd (cc),
-  no_negative m (Some t) pos,
-  λ e h. let i = h.nowhere in let empty : t ≡ [] = cc in somewhere h.source empty,
-)
+push_reaches m s t pos somewhere = grind (arith, positive)
 
 -- a bad pattern isn't empty, and is a bad source of a push to a destination
 pub bad_source_of_push : (s t : List ℕ) (f : Refusal) → IsBadPattern s f → HasBadSource Push s (Some t) f
 bad_source_of_push s t f bad = record { source = λ empty. Lacks-ContainsText star [] tt (subst HasStar empty (HasStar-bad s f bad)); refusal = bad }
 
--- a text with a star isn't empty
 pub starred_not_empty : (t : List ℕ) → HasStar t → t ≢ []
 starred_not_empty t has empty = Lacks-ContainsText star [] tt (subst HasStar empty has)
 
--- nor to a positive push of a source alone, unless the text is empty
 pub push_alone_reaches : (m : Mode) (s : List ℕ) → IsPositive m → (s ≡ [] → m ≡ Normal → ⊥) → NoReasonBeforeSource Push m s None
-push_alone_reaches m s pos full = (λ e h. full h.no_source h.unsigned, no_negative m None pos, λ e h. let i = h.nowhere in absurd (cc))
+push_alone_reaches m s pos full = grind (arith, positive)
 
--- the reasons at the source, at the destination, and of unbalanced sides
 pub reason_at_source : (op : Operation) (m : Mode) (s : List ℕ) (d : Option (List ℕ)) (e : Refusal) → NoReasonBeforeSource op m s d → HasBadSource op s d e → IsFirstReason op m s d e
 reason_at_source op m s d e before bad = inr (before.0, inr (before.1, inr (before.2, inl bad)))
 
@@ -71,31 +59,25 @@ push_source_fine s d k fine e bad = starred_fine s k fine e bad.refusal
 pub alone_fine : (op : Operation) (s : List ℕ) (k : Shape) → HasCheckedShape s k → Never (HasBadSource op s None)
 alone_fine op s k fine e bad = grind (arith, checked_fine)
 
--- a checked destination isn't bad
 pub destination_fine : (d : Option (List ℕ)) (k : Shape) → HasCheckedShape (unwrap_or d []) k → Never (HasBadDestination d)
 destination_fine d k fine e bad =
     let here : unwrap_or d [] ≡ bad.word = ap (λ (x : Option (List ℕ)). unwrap_or x []) bad.is in
     checked_fine bad.word k (subst (λ (x : List ℕ). HasCheckedShape x k) here fine) e (bad.destination, bad.refusal)
 
--- two sides of one shape are balanced
 pub sides_balanced : (s t : List ℕ) (k : Shape) → HasShape s k → HasShape t k → IsOneStarred s t → ⊥
 sides_balanced s t k a b h = grind (arith, Lacks-ContainsText, HasStar-pattern)
 
--- two sides of different shapes are unbalanced
 pub sides_unbalanced : (s t : List ℕ) (j k : Shape) → HasShape s j → HasShape t k → j ≢ k → IsOneStarred s t
 sides_unbalanced s t j k a b differ = grind (arith, HasStar-pattern)
 
--- an unbalanced push has a destination
 pub unbalanced_somewhere : (s t : List ℕ) → IsOneStarred s t → (s ≢ [] → t ≡ [] → ⊥) → t ≢ []
 unbalanced_somewhere s t (inl h) somewhere empty = somewhere (starred_not_empty s h.0) empty
 unbalanced_somewhere s t (inr h) somewhere empty = starred_not_empty t h.1 empty
 
--- the empty text never needs memory
 pub empty_needs_none : NeedsMemory [] → ⊥
 empty_needs_none (inl several) = Lacks-ContainsText star [] tt (record { before = several.before; after = _; here = several.here })
 empty_needs_none (inr long) = Lacks-ContainsText star [] tt long.0
 
--- a bad side after the colon is a bad destination
 pub bad_destination : (d : Option (List ℕ)) (e : Refusal) → IsBadSide (unwrap_or d []) e → HasBadDestination d e
 bad_destination d e bad = grind arith
 
@@ -103,33 +85,27 @@ pub memory_at_destination : (op : Operation) (m : Mode) (s : List ℕ) (d : Opti
 memory_at_destination op m s None before source needs = absurd (empty_needs_none needs)
 memory_at_destination op m s (Some d) before source needs = (before, inr (source, needs))
 
--- an error at the destination
 pub error_at_destination : (op : Operation) (m : Mode) (s : List ℕ) (d : Option (List ℕ)) (e : Error) → NoReasonBeforeSource op m s d → Never (HasBadSource op s d) → MemoryOr (NeedsMemory (unwrap_or d [])) (IsBadSide (unwrap_or d [])) e → IsReason op m s d e
 error_at_destination op m s d e before source =
     MemoryOr-map (NeedsMemory (unwrap_or d [])) (ReachesMemory op m s d) (IsBadSide (unwrap_or d [])) (IsFirstReason op m s d) e (memory_at_destination op m s d before source)
     (λ f h. reason_at_destination op m s d f before source (bad_destination d f h))
 
--- no reason before those of the source applies to a negative spec without a colon
 pub negative_reaches : (op : Operation) (s : List ℕ) → NoReasonBeforeSource op Negative s None
-negative_reaches op s = (λ e h. let i = h.unsigned in absurd (cc), λ e h. let i = h.colon in absurd (cc), λ e h. let i = h.nowhere in absurd (cc))
+negative_reaches op s = grind arith
 
--- the reason to refuse a negative spec of an object
 pub reason_against_object : (op : Operation) (s : List ℕ) (k : Shape) → s ≢ [] → HasCheckedShape s k → LooksLikeObjectHash s → IsFirstReason op Negative s None NegativeObjectHash
 reason_against_object op s k full a hash =
     let before = negative_reaches op s in
     inr (before.0, inr (before.1, inr (before.2, inr (alone_fine op s k a, inr (λ e h. let i = h.is in absurd (cc), inr (λ e h. h.positive, inr (λ e h. full h.no_source, record { negative = refl; hash = hash; refusal = refl })))))))
 
--- the reason to refuse a negative spec of nothing
 pub reason_against_nothing : (op : Operation) (s : List ℕ) (k : Shape) → s ≡ [] → HasCheckedShape s k → IsFirstReason op Negative s None NegativeEmpty
 reason_against_nothing op s k empty a =
     let before = negative_reaches op s in
     inr (before.0, inr (before.1, inr (before.2, inr (alone_fine op s k a, inr (λ e h. let i = h.is in absurd (cc), inr (λ e h. h.positive, inl (record { negative = refl; no_source = empty; refusal = refl })))))))
 
--- a bad side alone is a bad source
 pub bad_negative : (op : Operation) (s : List ℕ) (e : Refusal) → IsBadSide s e → HasBadSource op s None e
 bad_negative op s e bad = grind arith
 
--- the reason to refuse a fetch with sides of different shapes
 pub unbalanced_fetch : (m : Mode) (s : List ℕ) (d : Option (List ℕ)) (j k : Shape) → IsPositive m → HasCheckedShape s j → HasCheckedShape (unwrap_or d []) k → j ≢ k → IsFirstReason Fetch m s d PatternUnbalanced
 unbalanced_fetch m s d j k pos source target differ =
     let t = unwrap_or d [] in
@@ -137,7 +113,6 @@ unbalanced_fetch m s d j k pos source target differ =
     reason_of_balance Fetch m s d PatternUnbalanced (fetch_reaches m s d pos) (fetch_source_fine s d j source) (destination_fine d k target)
     (record { positive = pos; one = one; has_destination = λ push. absurd (cc); refusal = refl })
 
--- the reason to refuse a push with sides of different shapes
 pub unbalanced_push : (m : Mode) (s t : List ℕ) (j k : Shape) → IsPositive m → (s ≢ [] → t ≡ [] → ⊥) → HasShape s j → HasCheckedShape t k → j ≢ k → IsFirstReason Push m s (Some t) PatternUnbalanced
 unbalanced_push m s t j k pos somewhere source target differ =
     let one = sides_unbalanced s t j k source (checked_starred t k target) differ in

@@ -5,7 +5,6 @@ use Rattle.gix_refspec_text.proofs.lemmas.texts.TextLemmas.{Lacks-ContainsText}
 use Rattle.gix_refspec_text.proofs.lemmas.parsing.SideLemmas.{bad_name, HasStar-bad, HasSeveralStars-replaced}
 use Rattle.gix_refspec_text.proofs.lemmas.parsing.PartsLemmas.{parts_once}
 
--- two refusals that satisfy P are for the same reason
 abbrev Agree : (Refusal → Type 0) → Type 0
 Agree P = (e f : Refusal) → P e → P f → IsSameReason e f
 
@@ -27,7 +26,6 @@ Agree-pattern x _ f a b = absurd a
 Agree-name : (x : List ℕ) → Agree (IsBadName x)
 Agree-name x h f a b = grind arith
 
--- a bad name isn't a bad pattern
 name_no_pattern : (x : List ℕ) (e f : Refusal) → IsBadName x e → IsBadPattern x f → ⊥
 name_no_pattern x e f name pattern = Lacks-ContainsText star x (bad_name x e name).0 (HasStar-bad x f pattern)
 
@@ -42,7 +40,6 @@ Agree-destination d e f a b =
     let word : b.word ≡ a.word = same_Some b.word a.word (sym b.is ∙ a.is) in
     Agree-side a.word e f a.refusal (subst (λ (x : List ℕ). IsBadName x f ⊎ IsBadPattern x f) word b.refusal)
 
--- only one reason is the first that applies to parts
 pub Agree-first : (op : Operation) (mode : Mode) (s : List ℕ) (d : Option (List ℕ)) → Agree (IsFirstReason op mode s d)
 Agree-first op mode s d =
     Agree-or (λ e f a b. inl (a.refusal ∙ sym b.refusal))
@@ -54,7 +51,6 @@ Agree-first op mode s d =
     (Agree-or (λ e f a b. inl (a.refusal ∙ sym b.refusal))
     (λ e f a b. inl (a.refusal ∙ sym b.refusal))))))))
 
--- a text is refused for only one reason
 pub one_refusal : (op : Operation) (text : List ℕ) → OneRefusal op text
 one_refusal op text e f a b =
     let same = parts_once b.mode a.mode b.source a.source b.destination a.destination text b.parts a.parts in

@@ -8,15 +8,12 @@ use Rattle.gix_refspec_text.specs.declared.name.PatternError.TheVariants as foun
 use Rattle.gix_refspec_text.proofs.lemmas.texts.TextLemmas.{Lacks-ContainsText, Lacks-from_absent, one_not_two}
 use Rattle.gix_refspec_text.proofs.lemmas.lists.LacksLemmas.{first_once}
 
--- if neither P nor Q ever applies, nor does one after the other
 pub Never-or : {P Q : Refusal → Type 0} → Never P → Never Q → Never (OrElse P Q)
 Never-or p q e h = grind arith
 
--- a name has no star
 pub Lacks-name : (x : List ℕ) → IsName x → Lacks star x
 Lacks-name x name = Lacks-from_absent star x (name Asterisk)
 
--- a text whose star is replaced has one
 pub HasStar-replaced : (x y : List ℕ) → ReplacesStar x y → HasStar x
 HasStar-replaced x y replaces = record { before = replaces.before; after = replaces.after; here = replaces.split.starred }
 
@@ -26,37 +23,30 @@ HasStar-pattern x pattern = HasStar-replaced x pattern.with_letter pattern.repla
 pub HasStar-stars : (x : List ℕ) → HasSeveralStars x → HasStar x
 HasStar-stars x stars = record { before = stars.before; after = stars.between ++ (star ∷ stars.after); here = stars.here }
 
--- the only star of a text is replaced in only one way
 pub replaced_once : (x y z : List ℕ) → ReplacesStar x y → ReplacesStar x z → y ≡ z
 replaced_once x y z a b =
     let same = first_once star a.before b.before a.after b.after a.split.first b.split.first (sym a.split.starred ∙ b.split.starred) in
     cc (same.0, same.1, a.replaced, b.replaced)
 
--- a text with one star doesn't have several
 pub HasSeveralStars-replaced : (x y : List ℕ) → ReplacesStar x y → HasSeveralStars x → ⊥
 HasSeveralStars-replaced x y replaces stars = one_not_two star replaces.before replaces.after stars.before stars.between stars.after replaces.split.first replaces.split.last (sym replaces.split.starred ∙ stars.here)
 
--- a bad pattern has a star
 pub HasStar-bad : (x : List ℕ) (e : Refusal) → IsBadPattern x e → HasStar x
 HasStar-bad x e bad = grind (arith, HasStar-stars, HasStar-replaced)
 
--- a pattern isn't a bad one
 pub pattern_fine : (x : List ℕ) → IsPattern x → Never (IsBadPattern x)
 pattern_fine x pattern (PatternUnsupported p) bad = HasSeveralStars-replaced x pattern.with_letter pattern.replaces bad.0
 pattern_fine x pattern (ReferenceName fault) bad =
     pattern.name fault (subst (λ (y : List ℕ). HasFault y fault) (replaced_once x bad.0 pattern.with_letter bad.1 pattern.replaces) bad.2)
 pattern_fine x pattern _ bad = bad
 
--- a pattern has no fault, except that memory may run out
 pub nothing_against : (x : List ℕ) → NothingAgainst x
 nothing_against x pattern (found.Name fault) told = absurd (pattern_fine x pattern (ReferenceName fault) told)
 nothing_against x pattern found.Memory long = (refl, long)
 
--- a text that lacks the star isn't a bad pattern
 pub plain_fine : (x : List ℕ) → Lacks star x → Never (IsBadPattern x)
 plain_fine x lacks e bad = Lacks-ContainsText star x lacks (HasStar-bad x e bad)
 
--- a bad name has no star, and isn't a name
 pub bad_name : (x : List ℕ) (e : Refusal) → IsBadName x e → Lacks star x × ¬ (IsName x)
 bad_name x e bad = grind arith
 
@@ -66,7 +56,6 @@ name_not_bad x name e h = grind (arith, bad_name, plain_fine, Lacks-name)
 pub pattern_not_bad : (x : List ℕ) → IsPattern x → (e : Refusal) → IsBadName x e ⊎ IsBadPattern x e → ⊥
 pattern_not_bad x pattern e h = grind (arith, Lacks-ContainsText, bad_name, HasStar-pattern, pattern_fine)
 
--- a checked side isn't bad
 pub checked_fine : (x : List ℕ) (k : Shape) → HasCheckedShape x k → Never (IsBadSide x)
 checked_fine [] k fine e bad = bad.0 refl
 checked_fine (b ∷ bs) Plain fine e bad = name_not_bad (b ∷ bs) fine e bad.1
@@ -75,15 +64,12 @@ checked_fine (b ∷ bs) Pattern fine e bad = pattern_not_bad (b ∷ bs) fine e b
 pub starred_fine : (x : List ℕ) (k : Shape) → HasShape x k → Never (IsBadPattern x)
 starred_fine x k fine = grind (arith, plain_fine, pattern_fine)
 
--- the empty text isn't a pattern
 pub empty_no_pattern : IsPattern [] → ⊥
 empty_no_pattern pattern = Lacks-ContainsText star [] tt (HasStar-pattern [] pattern)
 
--- a side that is plain has no star, and one that is a pattern has one
 pub checked_plain : (x : List ℕ) → HasCheckedShape x Plain → Lacks star x
 checked_plain x fine = grind (arith, Lacks-name)
 
--- a checked side also has the shape that it was checked for
 pub checked_starred : (x : List ℕ) (k : Shape) → HasCheckedShape x k → HasShape x k
 checked_starred x k fine = grind (arith, checked_plain)
 
@@ -91,10 +77,8 @@ checked_starred x k fine = grind (arith, checked_plain)
 pub now-unwrap_or : (d : Option (Bor (List ℕ))) (e x : Bor (List ℕ)) → x ≡ unwrap_or d e → e.now ≡ [] → x.now ≡ unwrap_or (option_map (λ (y : Bor (List ℕ)). y.now) d) []
 now-unwrap_or d e x is empty = grind arith
 
--- a side is missing if the test says so
 pub none_from_test : (d : Option (Bor (List ℕ))) → false ≡ is_some d → option_map (λ (y : Bor (List ℕ)). y.now) d ≡ None
 none_from_test d test = grind (arith, false≢true)
 
--- a mode isn't `Normal` if the test says so
 pub signed_from_test : (m : DeclaredMode) → false ≡ sameb the_mode m declared_mode.Normal → mode_of m ≡ Normal → ⊥
 signed_from_test m test normal = grind (arith, false≢true)

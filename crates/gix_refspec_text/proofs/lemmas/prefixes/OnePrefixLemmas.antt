@@ -1,12 +1,11 @@
 -- A side has at most one prefix and at most one expansion.
-use Rattle.gix_refspec_text.proofs.Common.{◌≡◌, ℕ, List, [], ◌∷◌, ◌++◌, codes, sym, ap, ◌∙◌, subst, append_cancel_left, Lacks, ContainsText, BeginsWith, slash, IsPrefix, of_head, of_name, of_pattern}
-use Rattle.gix_refspec_text.proofs.Common.{Expands, to_prefix, to_itself, below_refs, of_object, to_candidates, OnePrefix, head, star, IsSplit}
+use Rattle.gix_refspec_text.proofs.Common.{[], ◌∷◌, ap, to_prefix, to_itself, below_refs, of_object, to_candidates, ◌≡◌, ℕ, List, ◌++◌, codes, sym, ◌∙◌, subst, append_cancel_left, Lacks, ContainsText}
+use Rattle.gix_refspec_text.proofs.Common.{BeginsWith, slash, IsPrefix, of_head, of_name, of_pattern, Expands, OnePrefix, head, star, IsSplit}
 use Rattle.gix_refspec_text.proofs.lemmas.texts.TextLemmas.{Lacks-ContainsText}
 use Rattle.gix_refspec_text.proofs.lemmas.hits.MatchLemmas.{lacks_no_pattern, split_once}
 use Rattle.gix_refspec_text.proofs.lemmas.parsing.SideLemmas.{Lacks-name}
 use Rattle.gix_refspec_text.proofs.lemmas.texts.HeadLemmas.{IsName-head}
 
--- `HEAD` has no star
 pub head_no_split : (x before after : List ℕ) → x ≡ head → IsSplit before after x → ⊥
 head_no_split x before after is split = lacks_no_pattern x before after (subst (Lacks star) (sym is) (Lacks-name head IsName-head)) split
 
@@ -21,13 +20,11 @@ prefix_once x p q (of_pattern before after split _ _) (of_head is _) = absurd (h
 prefix_once x p q (of_pattern before after split _ _) (of_name _ lacks _) = absurd (lacks_no_pattern x before after lacks split)
 prefix_once x p q (of_pattern before after split _ a) (of_pattern before2 after2 cut2 _ b) = a ∙ ((split_once x before after before2 after2 split cut2).0 ∙ sym b)
 
--- the text after `refs/` contains a slash or doesn't, but not both
 not_both : (x rest other : List ℕ) → x ≡ codes "refs/" ++ rest → x ≡ codes "refs/" ++ other → Lacks slash rest → ContainsText (codes "/") other → ⊥
 not_both x rest other is is2 lacks holds =
     let same = append_cancel_left (codes "refs/") rest other (sym is ∙ is2) in
     Lacks-ContainsText slash other (subst (Lacks slash) same lacks) holds
 
--- `refs/` and more begins with `refs/`
 begins : (x rest : List ℕ) → x ≡ codes "refs/" ++ rest → BeginsWith (codes "refs/") x
 begins x rest is = record { after = rest; here = is }
 
@@ -58,6 +55,5 @@ expanded_once x list other (to_candidates _ outside _ _) (below_refs rest _ is _
 expanded_once x list other (to_candidates _ _ unlike _) (of_object _ _ id _) = absurd (unlike id)
 expanded_once x list other (to_candidates _ _ _ a) (to_candidates _ _ _ b) = a ∙ sym b
 
--- a side has at most one prefix and at most one expansion
 pub one_prefix : (x : List ℕ) → OnePrefix x
 one_prefix x = record { prefix = prefix_once x; expanded = expanded_once x }

@@ -16,11 +16,9 @@ use Rattle.gix_refspec_text.specs.declared.side.SideKind.{SideKind as DeclaredKi
 use Rattle.gix_refspec_text.specs.Private.SideViews.{kind_of_side}
 use Rattle.gix_refspec_text.specs.declared.side.SideKind.TheVariants as kind
 
--- the id of an object isn't `HEAD`, which is too short
 pub id_not_head : (x id : List ℕ) → IsIdText x id → x ≢ head
 id_not_head x id text is = no_kind 4 (λ same. omega (arith, same)) (λ same. omega (arith, same)) (text.kind, sym (ap length is) ∙ text.digits)
 
--- a pattern has no prefix if the texts around its star don't give one
 pub no_prefix : (x before after : List ℕ) → IsSplit before after x → ¬ (IsRefPrefix before after) → HasNoPrefix x
 no_prefix x before after split vague p (of_head is _) = head_no_split x before after is split
 no_prefix x before after split vague p (of_name begins lacks _) = lacks_no_pattern x before after lacks split
@@ -39,40 +37,31 @@ told_clear before after rest below full first h holds = grind (arith, false≢tr
 pub told_bracket : (before after : List ℕ) (r : Bool) → MatchBool r (ContainsText (bracket ∷ []) before) (Lacks bracket before) → ContainsText (bracket ∷ []) before → IsTrue (not r) ↔ IsRefPrefix before after
 told_bracket before after r told holds = grind (arith, false≢true, Lacks-ContainsText)
 
--- the expansion of a side with a prefix isn't empty
 pub prefix_expands : (x p : List ℕ) → IsPrefix x p → ¬ (Expands x [])
 prefix_expands x p is nothing = let same = (one_prefix x).expanded (p ∷ []) [] (to_prefix p is refl) nothing in cc
 
--- nor is that of a side with only one component after `refs/`
 pub itself_expands : (x rest : List ℕ) → x ≡ codes "refs/" ++ rest → Lacks slash rest → ¬ (Expands x [])
 itself_expands x rest below lacks h = grind (arith, append_cancel_left, Lacks-ContainsText)
 
--- nor that of a partial name
 pub partial_expands : (x : List ℕ) → ¬ (BeginsWith (codes "refs/") x) → ¬ (IsId x) → ¬ (Expands x [])
 partial_expands x outside unlike h = grind arith
 
--- a reading has at most one side on the remote
 pub one_asked : (r : Reading) (x y : List ℕ) → IsAsked r x → IsAsked r y → x ≡ y
 one_asked r x y a b = let p = a.side in let q = b.side in cc
 
--- if the expansion of a reading is empty, so is that of its side on the remote
 pub asked_nothing : (r : Reading) (x : List ℕ) → IsAsked r x → IsExpansion r [] → Expands x []
 asked_nothing r x asked (inl (y, other, nothing)) = subst (λ (z : List ℕ). Expands z []) (one_asked r y x other asked) nothing
 asked_nothing r x asked (inr (unasked, empty)) = absurd (unasked x asked)
 
--- what always holds, also holds if a call fails
 pub on_any_error : {T E P : Type 0} (r : Result T E) → P → OnErr r P
 on_any_error r holds = grind arith
 
--- if the expansion of a reading is empty, that side has no entries
 pub no_entries : {X : Type 0} (f : X → List ℕ) (r : Reading) (x : List ℕ) (entries : List X) → IsAsked r x → Expands x (map f entries) → IsExpansion r [] → length entries ≡ 0
 no_entries f r x entries asked expands nothing = sym (length-map entries f) ∙ ap length ((one_prefix x).expanded (map f entries) [] expands (asked_nothing r x asked nothing))
 
--- a list with the items of another one appended, mapped by f
 pub appended_ok : {X : Type 0} {E : Type 0} (f : X → List ℕ) (r : Result ⊤ E) (old more new : List X) → new ≡ (if is_ok r then old ++ more else old) → OnOk r (map f new ≡ map f old ++ map f more)
 appended_ok f r old more new is = grind (arith, map-append)
 
--- a text with one star isn't an id
 pub starred_no_id : (x : List ℕ) → HasOneStar x → ¬ (IsId x)
 starred_no_id x (before, after, split) id =
     let all = AllPass-IsIdText x id.0 id.1 in
@@ -81,14 +70,10 @@ starred_no_id x (before, after, split) id =
     let here : get_or x (length before) 0 ≡ star = ap (λ (y : List ℕ). get_or y (length before) 0) split.starred ∙ get_or-append_seam before star after 0 in
     false≢true (ap is_hex_digit (sym here) ∙ all (length before) 0 inside)
 
--- the prefix of a pattern is the text before its star, if it has a prefix
 pub pattern_prefix : (x : List ℕ) (before after : Bor (List ℕ)) (r : Bool) → IsSplit before.now after.now x → IsTrue r ↔ IsRefPrefix before.now after.now → MatchOption (then_some r before) (HasNoPrefix x) (λ p. IsPrefix x p.now)
 pattern_prefix x before after true split told = of_pattern before.now after.now split (told.0 refl) refl
 pattern_prefix x before after false split told = no_prefix x before.now after.now split (λ tells. false≢true (told.1 tells))
 
--- ---- covering sources
-
--- a pattern is covering exactly if it has a ref prefix
 pub told_pattern : (x before after : List ℕ) (r : Bool) → IsSplit before after x → IsTrue r ↔ IsRefPrefix before after → IsTrue r ↔ IsCovering x
 told_pattern x before after true split told =
     let tells = told.0 refl in
@@ -99,18 +84,15 @@ told_pattern x before after false split told = ((λ so. absurd (false≢true so)
     never (by_prefix p below is) = absurd (no_prefix x before after split (λ tells. false≢true (told.1 tells)) p is)
     never (by_candidates lacks other outside) = absurd (lacks_no_pattern x before after lacks split)
 
--- a positive fetch has a covering source exactly if its source is covering
 pub told_source : (r : Reading) (x : List ℕ) (b : Bool) → r.operation ≡ Fetch → IsAsked r x → IsTrue b ↔ IsCovering x → IsTrue b ↔ HasCoveringSource r
 told_source r x b fetch asked told = (
   (λ so. record { fetch = fetch; source = λ y also. subst IsCovering (one_asked r x y asked also) (told.0 so) }),
   (λ has. told.1 (has.source x asked)),
 )
 
--- an operation that passes the test is a fetch
 pub fetch_from_test : (o : Operation) → false ≡ not (sameb the_operation o Fetch) → o ≡ Fetch
 fetch_from_test o test = grind (arith, false≢true)
 
--- a full name and an id are covering
 pub told_name : (x : List ℕ) (k : DeclaredKind) → HasKind x (kind_of_side k) → ((n : Bor (List ℕ)) × (k ≡ kind.FullName n)) ⊎ ((i : ObjectId) × (k ≡ kind.Object i)) → IsCovering x
 told_name x (kind.FullName n) has one = by_prefix x has.2 (of_name has.2 has.1 refl)
 told_name x (kind.Object i) has one = by_candidates has.0 (id_not_head x (id_bytes i) has.2) has.1

@@ -29,11 +29,9 @@ alike_few : (s d : List ℕ) → AreAlike s d → (¬ (HasSeveralStars s)) × (�
 alike_few s d (inl names) = (name_few s names.0, name_few d names.1)
 alike_few s d (inr patterns) = (pattern_few s patterns.0, pattern_few d patterns.1)
 
--- if a source has at most one star, so has what it names
 named_few : (s : List ℕ) → ¬ (HasSeveralStars s) → ¬ (HasSeveralStars (named_by s))
 named_few s few = named_so (λ (x : List ℕ). ¬ (HasSeveralStars x)) s (name_few head IsName-head) few
 
--- two texts without a star are balanced, and so are two texts with one
 neither_starred : (s d : List ℕ) → Lacks star s → Lacks star d → ¬ (IsOneStarred s d)
 neither_starred s d lacks_s lacks_d h = grind (arith, Lacks-ContainsText)
 
@@ -70,22 +68,18 @@ reads_sound op text r (pushes_to _ s d _ _ _ full lacks name is) =
     subst AreSound (sym is) (lacks_few (named_by s) source, name_few d name, neither_starred (named_by s) d source (Lacks-name d name))
 reads_sound op text r (push_excludes s _ _ either _ is) = subst AreSound (sym is) (named_few s (either_few s either), tt, tt)
 
--- so one of the sides doesn't have several stars
 one_few : (r : Reading) (x : List ℕ) → AreSound r → (r.source ≡ Some x) ⊎ (r.destination ≡ Some x) → ¬ (HasSeveralStars x)
 one_few r x sound h = grind arith
 
--- a side of a reading that some text has doesn't have several stars
 pub accepted_few : (r : Reading) (x : List ℕ) → ∥ IsAccepted r ∥₁ → (r.source ≡ Some x) ⊎ (r.destination ≡ Some x) → ¬ (HasSeveralStars x)
 accepted_few r x accepted side = ∥∥₁_elim accepted (hlevel []) (λ by. one_few r x (reads_sound r.operation by.0 r by.1) side)
 
--- the side on the remote is one of the sides
 remote_is : (op : Operation) (s d : Option (List ℕ)) (x : List ℕ) → side_on_remote op s d ≡ Some x → (s ≡ Some x) ⊎ (d ≡ Some x)
 remote_is op s d x is = grind arith
 
 pub remote_few : (r : Reading) (x : List ℕ) → ∥ IsAccepted r ∥₁ → remote_of r ≡ Some x → ¬ (HasSeveralStars x)
 remote_few r x accepted is = accepted_few r x accepted (remote_is r.operation r.source r.destination x is)
 
--- if some text has the reading, not exactly one of its two sides has a star
 pub accepted_balanced : (r : Reading) (s d : List ℕ) → ∥ IsAccepted r ∥₁ → r.source ≡ Some s → r.destination ≡ Some d → ¬ (IsOneStarred s d)
 accepted_balanced r s d accepted source destination =
     ∥∥₁_elim accepted (hlevel []) (λ by. subst (λ y. AreBalanced (Some s) y) destination (subst (λ x. AreBalanced x r.destination) source (reads_sound r.operation by.0 r by.1).2))

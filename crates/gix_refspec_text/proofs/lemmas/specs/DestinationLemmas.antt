@@ -1,64 +1,57 @@
 -- A reading with another destination.
-use Rattle.gix_refspec_text.proofs.Common.{inl, inr, ℕ, List, [], ◌∷◌, Some, IfSome, IsSome, refl, sym, ap, subst, ∥∥₁_map, Operation, Lacks, IsName, Empty, star, head, colon, plus, Mode, Normal}
-use Rattle.gix_refspec_text.proofs.Common.{Forced, Negative, Reading, with_destination, named_by, AreParts, IsAccepted, IsPositive, Reads, fetched, pushed, fetches_nothing_named, fetches_colon}
-use Rattle.gix_refspec_text.proofs.Common.{fetches, updates, updates_from_head, fetch_excludes, pushes_plus, pushes_colon, pushes, deletes, pushes_pattern, pushes_to, push_excludes, ◌≡◌, ◌⊎◌, codes}
-use Rattle.gix_refspec_text.proofs.Common.{arith, BeginsWith, fetched_alone, all_tags, IsUnsigned}
+use Rattle.gix_refspec_text.proofs.Common.{inl, inr, ℕ, List, [], ◌∷◌, Some, IfSome, IsSome, refl, sym, subst, ∥∥₁_map, Operation, Lacks, IsName, star, head, colon, Mode, Normal, Forced, Negative}
+use Rattle.gix_refspec_text.proofs.Common.{Reading, with_destination, named_by, AreParts, IsAccepted, IsPositive, Reads, fetches, updates, ◌≡◌, ◌⊎◌, codes, arith, BeginsWith, HasCheckedShape, Plain}
+use Rattle.gix_refspec_text.proofs.Common.{Pattern, with_colon, Option, unwrap_or, side_of, sign, ◌++◌, fetched_alone, all_tags, IsUnsigned}
 use Rattle.gix_refspec_text.proofs.lemmas.texts.TextLemmas.{Lacks-ContainsText}
-use Rattle.gix_refspec_text.proofs.lemmas.texts.HeadLemmas.{IsName-head, Lacks-colon_name}
-use Rattle.gix_refspec_text.proofs.lemmas.parsing.SideLemmas.{HasStar-pattern, Lacks-name}
-use Rattle.gix_refspec_text.proofs.lemmas.specs.FormsBackLemmas.{colon_unsigned, named_full, named_name, named_once, named_parts, named_so, head_parts}
+use Rattle.gix_refspec_text.proofs.lemmas.texts.HeadLemmas.{Lacks-colon_name}
+use Rattle.gix_refspec_text.proofs.lemmas.parsing.SideLemmas.{HasStar-pattern, empty_no_pattern}
+use Rattle.gix_refspec_text.proofs.lemmas.specs.FormsBackLemmas.{colon_unsigned, unsigned_front, is_forced}
+use Rattle.gix_refspec_text.proofs.lemmas.parsing.ReadsLemmas.{AreFine, fine_fetch, fine_alone, fine_push, fine_negative, fine_of, fine_reads, checked_name, name_not_empty}
+use Rattle.gix_refspec_text.proofs.lemmas.parsing.ReadOnceLemmas.{is_made, side_of-full}
 use Rattle.gix_refspec_text.proofs.facts.ManualFacts.{parts, IsPattern-tested}
 
--- a spec from a name to a name is accepted with another one
-from_name : (m : Mode) (s d new text : List ℕ) → IsPositive m → IsName s → AreParts m s (Some d) text → IsName new → IsAccepted (fetched m (named_by s) (Some new))
-from_name m s d new text positive name parts is = (
-  _,
-  updates m (named_by s) new refl positive
-      (named_parts m s new (Some d) text positive (λ empty. name Empty empty) parts (Lacks-colon_name new is))
-      (inl (named_name s name, is))
-      (ap (λ (x : List ℕ). fetched m x (Some new)) (sym (named_once s))),
-)
+starred_destination : (x : List ℕ) → IfSome (side_of x) (Lacks star) → HasCheckedShape x Pattern → ⊥
+starred_destination [] lacks pattern = empty_no_pattern pattern
+starred_destination (b ∷ x) lacks pattern = Lacks-ContainsText star (b ∷ x) lacks (HasStar-pattern (b ∷ x) pattern)
 
--- a sign, no source and a destination
-destination_alone : (m : Mode) (d : List ℕ) → IsPositive m → Lacks colon d → (text : List ℕ) × AreParts m [] (Some d) text
-destination_alone Normal d positive lacks = (colon ∷ d, record { signed = (refl, colon_unsigned); last = lacks })
-destination_alone Forced d positive lacks = (plus ∷ colon ∷ d, record { signed = refl; last = lacks })
-destination_alone Negative d positive lacks = absurd positive
+-- parts with a destination without a star stay valid with a name in its place
+new_fine : (op : Operation) (m : Mode) (s : List ℕ) (d : Option (List ℕ)) (new : List ℕ) → AreFine op m s d
+    → IsSome (side_of (unwrap_or d [])) → IfSome (side_of (unwrap_or d [])) (Lacks star) → IsName new
+    → AreFine op m s (Some new) × IsPositive m
+new_fine op m s d new (fine_fetch Plain fetch pos a b) some lacks name = (fine_fetch Plain fetch pos a (checked_name new name), pos)
+new_fine op m s d new (fine_fetch Pattern fetch pos a b) some lacks name = absurd (starred_destination (unwrap_or d []) lacks b)
+new_fine op m s d new (fine_alone k push pos none full a) some lacks name = let nothing = rw none at some in absurd (cc)
+new_fine op m s d new (fine_push Plain t push pos is somewhere a b) some lacks name =
+    (fine_push Plain new push pos refl (λ _ empty. name_not_empty new name empty) a (checked_name new name), pos)
+new_fine op m s d new (fine_push Pattern t push pos is somewhere a b) some lacks name = absurd (starred_destination t (rw is at lacks) b)
+new_fine op m s d new (fine_negative k minus none full a hash) some lacks name = let nothing = rw none at some in absurd (cc)
 
-replaced_read : (op : Operation) (text : List ℕ) (r : Reading) (new : List ℕ) → IsSome r.destination → IfSome r.destination (Lacks star) → IsName new → Reads op text r → IsAccepted (with_destination r new)
-replaced_read op text r new some lacks name (fetches_nothing_named m _ _ _ is) = absurd (let none = subst (λ (q : Reading). IsSome q.destination) is some in cc)
-replaced_read op text r new some lacks name (fetches_colon m _ _ _ is) = absurd (let none = subst (λ (q : Reading). IsSome q.destination) is some in cc)
-replaced_read op text r new some lacks name (fetches m s _ _ _ _ is) = absurd (let none = subst (λ (q : Reading). IsSome q.destination) is some in cc)
-replaced_read op text r new some lacks name (updates m s d _ positive parts (inl names) is) = subst (λ (q : Reading). IsAccepted (with_destination q new)) (sym is) (from_name m s d new text positive names.0 parts name)
-replaced_read op text r new some lacks name (updates m s d _ positive parts (inr patterns) is) = absurd (Lacks-ContainsText star d (subst (λ (q : Reading). IfSome q.destination (Lacks star)) is lacks) (HasStar-pattern d patterns.1))
-replaced_read op text r new some lacks name (updates_from_head m d _ positive parts _ is) =
-    subst (λ (q : Reading). IsAccepted (with_destination q new)) (sym is) (_, updates m head new refl positive (head_parts m new positive (Lacks-colon_name new name)) (inl (IsName-head, name)) refl)
-replaced_read op text r new some lacks name (fetch_excludes s _ _ _ _ is) = absurd (let none = subst (λ (q : Reading). IsSome q.destination) is some in cc)
-replaced_read op text r new some lacks name (pushes_plus _ _ is) = absurd (let none = subst (λ (q : Reading). IsSome q.destination) is some in cc)
-replaced_read op text r new some lacks name (pushes_colon m _ _ _ is) = absurd (let none = subst (λ (q : Reading). IsSome q.destination) is some in cc)
-replaced_read op text r new some lacks name (pushes m s _ _ _ _ is) = absurd (let none = subst (λ (q : Reading). IsSome q.destination) is some in cc)
-replaced_read op text r new some lacks name (deletes m d _ positive parts _ is) =
-    let (shown, alone) = destination_alone m new positive (Lacks-colon_name new name) in
-    subst (λ (q : Reading). IsAccepted (with_destination q new)) (sym is) (shown, deletes m new refl positive alone name refl)
-replaced_read op text r new some lacks name (pushes_pattern m s d _ _ _ _ pattern is) = absurd (Lacks-ContainsText star d (subst (λ (q : Reading). IfSome q.destination (Lacks star)) is lacks) (HasStar-pattern d pattern))
-replaced_read op text r new some lacks name (pushes_to m s d _ positive parts full plain _ is) =
-    subst (λ (q : Reading). IsAccepted (with_destination q new)) (sym is) (
-      _,
-      pushes_to m (named_by s) new refl positive (named_parts m s new (Some d) text positive full parts (Lacks-colon_name new name))
-          (named_full s full)
-          (named_so (Lacks star) s (Lacks-name head IsName-head) plain)
-          name
-          (ap (λ (x : List ℕ). pushed m (Some x) (Some new)) (sym (named_once s))),
-    )
-replaced_read op text r new some lacks name (push_excludes s _ _ _ _ is) = absurd (let none = subst (λ (q : Reading). IsSome q.destination) is some in cc)
+unsigned_aimed : (s new : List ℕ) (d : Option (List ℕ)) → IsUnsigned (with_colon s d) → IsUnsigned (with_colon s (Some new))
+unsigned_aimed [] new d unsigned = colon_unsigned
+unsigned_aimed (b ∷ s) new d unsigned = unsigned_front (b ∷ s) d (Some new) (λ same. cc) unsigned
 
--- a reading whose destination has no star is accepted with another name as its destination
+new_parts : (m : Mode) (s : List ℕ) (d : Option (List ℕ)) (new text : List ℕ) → IsPositive m → AreParts m s d text
+    → Lacks colon new → AreParts m s (Some new) (sign (is_forced m) ++ (s ++ (colon ∷ new)))
+new_parts Normal s d new text positive parts lacks = record { signed = (refl, unsigned_aimed s new d parts.signed.1); last = lacks }
+new_parts Forced s d new text positive parts lacks = record { signed = refl; last = lacks }
+new_parts Negative s d new text positive parts lacks = absurd positive
+
+replaced_read : (op : Operation) (text : List ℕ) (r : Reading) (new : List ℕ) → IsSome r.destination
+    → IfSome r.destination (Lacks star) → IsName new → Reads op text r → IsAccepted (with_destination r new)
+replaced_read op text r new some lacks name reads =
+    let made = is_made op text r reads in
+    let p = made.of in
+    let is = made.is in
+    let fine = new_fine op p.mode p.source p.destination new (fine_of op p.mode p.source p.destination text r p.parts reads)
+        (subst (λ (q : Reading). IsSome q.destination) is some)
+        (subst (λ (q : Reading). IfSome q.destination (Lacks star)) is lacks) name in
+    let parts = new_parts p.mode p.source p.destination new text fine.1 p.parts (Lacks-colon_name new name) in
+    let again = fine_reads op p.mode p.source (Some new) _ fine.0 parts in
+    subst (λ (q : Reading). IsAccepted (with_destination q new)) (sym is) (_, rw (side_of-full new (name_not_empty new name)) at again)
+
 pub replaced_accepted : (r : Reading) (new : List ℕ) → IsSome r.destination → IfSome r.destination (Lacks star) → IsName new → ∥ IsAccepted r ∥₁ → ∥ IsAccepted (with_destination r new) ∥₁
 replaced_accepted r new some lacks name accepted = ∥∥₁_map accepted (λ by. replaced_read r.operation by.0 r new some lacks name by.1)
 
--- ---- fetches that no text was given for
-
--- a name without a sign that isn't `@` is read as it is
 read_alone : (n : List ℕ) → IsName n → IsUnsigned n → named_by n ≡ n → IsAccepted (fetched_alone n)
 read_alone n name unsigned same = (
   n,

@@ -12,38 +12,34 @@ use Rattle.gix_refspec_text.proofs.lemmas.parsing.ReadsLemmas.{name_not_empty, p
 use Rattle.gix_refspec_text.proofs.lemmas.parsing.ReadOnceLemmas.{reads_once, alike_full}
 use Rattle.gix_refspec_text.proofs.lemmas.texts.TextLemmas.{Lacks-ContainsText}
 
--- a reading is printed back, given its meaning, its canonical text and the reading of that text
-pub printed_back : (op : Operation) (r : Reading) (m : Meaning) (text : List ℕ) (q : Reading) → meaning_of r ≡ Some m → text_of m ≡ text → Reads op text q → meaning_of q ≡ Some m → IsPrintedBack op r
-printed_back op r m text q means prints reads again = record {
-  text = text;
-  is = ap (option_map text_of) means ∙ ap (λ (x : List ℕ). Some x) prints;
-  again = record { reading = q; reads = reads; only = λ p by_p. reads_once op text p q by_p reads };
+-- a reading is printed back, given its meaning and the reading of its canonical text
+pub printed_back : (op : Operation) (r q : Reading) (m : Meaning) → meaning_of r ≡ Some m
+    → Reads op (text_of m) q → meaning_of q ≡ Some m → IsPrintedBack op r
+printed_back op r q m means reads again = record {
+  text = text_of m;
+  is = ap (option_map text_of) means;
+  again = record { reading = q; reads = reads; only = λ p by_p. reads_once op (text_of m) p q by_p reads };
   same = again ∙ sym means;
 }
 
--- neither `HEAD` nor a colon begins with a sign
 pub head_unsigned : (72 ≢ plus) × (72 ≢ caret)
 head_unsigned = ((λ same. omega arith), (λ same. omega arith))
 
 pub colon_unsigned : (colon ≢ plus) × (colon ≢ caret)
 colon_unsigned = ((λ same. omega arith), (λ same. omega arith))
 
--- a source names `HEAD` or itself
 pub named_by-cases : (s : List ℕ) → (named_by s ≡ head) ⊎ (named_by s ≡ s)
 named_by-cases s = grind arith
 
--- what holds for `HEAD` and for s holds for what s names
 pub named_so : (P : List ℕ → Type 0) (s : List ℕ) → P head → P s → P (named_by s)
 named_so P s of_head of_s = elim (named_by-cases s) [ inl is_head ↦ subst P (sym is_head) of_head | inr same ↦ subst P (sym same) of_s ]
 
 pub named_name : (s : List ℕ) → IsName s → IsName (named_by s)
 named_name s name = named_so IsName s IsName-head name
 
--- naming a single byte twice is the same as naming it once, by the test for `@`
 named_single : (b : ℕ) (v : Bool) → (b == at) ≡ v → named_by (if v then head else b ∷ []) ≡ (if v then head else b ∷ [])
 named_single b v is_at = grind arith
 
--- naming twice is the same as naming once
 pub named_once : (s : List ℕ) → named_by (named_by s) ≡ named_by s
 named_once s = grind (arith, named_single)
 
@@ -62,15 +58,12 @@ named_either s h = grind (arith, named_name, named_pattern)
 pub named_alike : (s d : List ℕ) → AreAlike s d → AreAlike (named_by s) d
 named_alike s d h = grind (arith, named_name, named_pattern)
 
--- a name or a pattern doesn't contain a colon
 pub Lacks-colon_either : (s : List ℕ) → IsNameOrPattern s → Lacks colon s
 Lacks-colon_either s h = grind (arith, Lacks-colon_name, Lacks-colon_pattern)
 
--- what a source names doesn't begin with a sign if the source doesn't
 pub unsigned_named : (s : List ℕ) (d : Option (List ℕ)) → s ≢ [] → IsUnsigned (with_colon s d) → IsUnsigned (with_colon (named_by s) d)
 unsigned_named s d full unsigned = grind (arith, named_so, head_unsigned)
 
--- if the source isn't empty, it alone decides whether the text has a sign
 pub unsigned_front : (s : List ℕ) (d e : Option (List ℕ)) → s ≢ [] → IsUnsigned (with_colon s d) → IsUnsigned (with_colon s e)
 unsigned_front [] d e full unsigned = absurd (full refl)
 unsigned_front (b ∷ s) None None full unsigned = unsigned
@@ -78,7 +71,6 @@ unsigned_front (b ∷ s) None (Some e) full unsigned = unsigned
 unsigned_front (b ∷ s) (Some d) None full unsigned = unsigned
 unsigned_front (b ∷ s) (Some d) (Some e) full unsigned = unsigned
 
--- what a source names isn't empty if the source isn't
 pub named_full : (s : List ℕ) → s ≢ [] → named_by s ≢ []
 named_full s full = named_so (λ (x : List ℕ). x ≢ []) s (λ same. cc) full
 
@@ -87,106 +79,87 @@ abbrev pub is_forced : Mode → Bool
 is_forced Forced = true
 is_forced _ = false
 
--- parts with what the source names, after the sign of the mode
 pub named_parts : (m : Mode) (s t : List ℕ) (d : Option (List ℕ)) (text : List ℕ) → IsPositive m → s ≢ [] → AreParts m s d text → Lacks colon t → AreParts m (named_by s) (Some t) (sign (is_forced m) ++ (named_by s ++ (colon ∷ t)))
 named_parts m s t d text pos full parts lacks = grind (arith, unsigned_named, unsigned_front)
 
--- the meaning of a positive spec
 means : (op : Operation) (m : Mode) (s d : Option (List ℕ)) → IsPositive m → meaning op m s d ≡ included op (is_forced m) s d
 means op m s d pos = grind arith
 
--- the same for an equal operation and an equal reading
 for_form : (op o : Operation) (r q : Reading) → op ≡ o → r ≡ q → IsPrintedBack o q → IsPrintedBack op r
 for_form op o r q same is back = subst (λ (x : Operation). IsPrintedBack x r) (sym same) (subst (IsPrintedBack o) (sym is) back)
 
--- a fetch of a name alone
 back_only : (m : Mode) (s : List ℕ) → IsPositive m → IsName s → named_by s ≡ s → IsPrintedBack Fetch (fetched m s None)
 back_only m s pos name once = elim (tested (begins_with_plus s)) [
-  | inl so ↦ printed_back Fetch (fetched m s None) (fetch_only s) (plus ∷ s) (fetched Forced (named_by s) None) (means Fetch m (Some s) None pos) (ap (λ (b : Bool). sign b ++ s) so)
-      (fetches Forced s refl tt (inl (record { signed = refl; last = Lacks-colon_name s name })) name refl)
+  | inl so ↦ printed_back Fetch _ (fetched Forced (named_by s) None) (fetch_only s) (means Fetch m (Some s) None pos)
+      (rw so (fetches Forced s refl tt (inl (record { signed = refl; last = Lacks-colon_name s name })) name refl))
       (ap (λ (x : List ℕ). Some (fetch_only x)) once)
-  | inr other ↦ printed_back Fetch (fetched m s None) (fetch_only s) s (fetched Normal (named_by s) None) (means Fetch m (Some s) None pos) (ap (λ (b : Bool). sign b ++ s) other)
-      (fetches Normal s refl tt (inl (record { signed = (refl, unsigned_name s name other); last = Lacks-colon_name s name })) name refl)
+  | inr other ↦ printed_back Fetch _ (fetched Normal (named_by s) None) (fetch_only s) (means Fetch m (Some s) None pos)
+      (rw other (fetches Normal s refl tt
+          (inl (record { signed = (refl, unsigned_name s name other); last = Lacks-colon_name s name })) name refl))
       (ap (λ (x : List ℕ). Some (fetch_only x)) once)
 ]
 
--- a fetch to a destination
 back_update : (m : Mode) (s d text : List ℕ) → IsPositive m → AreParts m s (Some d) text → AreAlike s d → IsPrintedBack Fetch (fetched m (named_by s) (Some d))
 back_update m s d text pos parts alike =
     let t = named_by s in
-    let full = alike_full s d alike in
-    printed_back Fetch (fetched m t (Some d)) (fetch_and_update t d (is_forced m)) (sign (is_forced m) ++ (t ++ (colon ∷ d))) (fetched m (named_by t) (Some d)) (means Fetch m (Some t) (Some d) pos) refl
-    (updates m t d refl pos (named_parts m s d (Some d) text pos full.0 parts parts.last) (named_alike s d alike) refl)
+    printed_back Fetch _ (fetched m (named_by t) (Some d)) (fetch_and_update t d (is_forced m)) (means Fetch m (Some t) (Some d) pos)
+    (updates m t d refl pos (named_parts m s d (Some d) text pos (alike_full s d alike).0 parts parts.last) (named_alike s d alike) refl)
     (means Fetch m (Some (named_by t)) (Some d) pos ∙ ap (λ (x : List ℕ). Some (fetch_and_update x d (is_forced m))) (named_once s))
 
--- `HEAD` and a destination after the sign of the mode
 pub head_parts : (m : Mode) (d : List ℕ) → IsPositive m → Lacks colon d → AreParts m head (Some d) (sign (is_forced m) ++ (head ++ (colon ∷ d)))
 head_parts m d pos lacks = grind (arith, head_unsigned)
 
--- a fetch of `HEAD` to a destination
 back_from_head : (m : Mode) (d : List ℕ) → IsPositive m → IsName d → IsPrintedBack Fetch (fetched m head (Some d))
 back_from_head m d pos name = back_update m head d _ pos (head_parts m d pos (Lacks-colon_name d name)) (inl (IsName-head, name))
 
--- if a source doesn't look like an object hash, nor does what it names
 named_hash : (s : List ℕ) → ¬ (LooksLikeObjectHash s) → ¬ (LooksLikeObjectHash (named_by s))
 named_hash s other = named_so (λ (x : List ℕ). ¬ (LooksLikeObjectHash x)) s (λ hash. omega (arith, hash.long)) other
 
--- negative specs
 back_fetch_exclude : (s : List ℕ) → IsNameOrPattern s → ¬ (LooksLikeObjectHash s) → IsPrintedBack Fetch (fetched Negative (named_by s) None)
 back_fetch_exclude s either other =
     let t = named_by s in
-    printed_back Fetch (fetched Negative t None) (fetch_exclude t) (caret ∷ t) (fetched Negative (named_by t) None) refl refl
+    printed_back Fetch _ (fetched Negative (named_by t) None) (fetch_exclude t) refl
     (fetch_excludes t refl (record { signed = refl; last = Lacks-colon_either t (named_either s either) }) (named_either s either) (named_hash s other) refl)
     (ap (λ (x : List ℕ). Some (fetch_exclude x)) (named_once s))
 
 back_push_exclude : (s : List ℕ) → IsNameOrPattern s → ¬ (LooksLikeObjectHash s) → IsPrintedBack Push (pushed Negative (Some (named_by s)) None)
 back_push_exclude s either other =
     let t = named_by s in
-    printed_back Push (pushed Negative (Some t) None) (push_exclude t) (caret ∷ t) (pushed Negative (Some (named_by t)) None) refl refl
+    printed_back Push _ (pushed Negative (Some (named_by t)) None) (push_exclude t) refl
     (push_excludes t refl (record { signed = refl; last = Lacks-colon_either t (named_either s either) }) (named_either s either) (named_hash s other) refl)
     (ap (λ (x : List ℕ). Some (push_exclude x)) (named_once s))
 
--- a colon after the sign of the mode
 colon_parts : (m : Mode) → IsPositive m → AreParts m [] (Some []) (sign (is_forced m) ++ (colon ∷ []))
 colon_parts m pos = grind (arith, colon_unsigned)
 
--- a push of all matching branches
 back_all : (m : Mode) → IsPositive m → IsPrintedBack Push (pushed m None None)
 back_all m pos =
-    printed_back Push (pushed m None None) (push_all_matching (is_forced m)) (sign (is_forced m) ++ (colon ∷ [])) (pushed m None None) (means Push m None None pos) refl
-    (pushes_colon m refl pos (colon_parts m pos) refl)
-    (means Push m None None pos)
+    let told = means Push m None None pos in
+    printed_back Push _ (pushed m None None) (push_all_matching (is_forced m)) told (pushes_colon m refl pos (colon_parts m pos) refl) told
 
--- a push of a name or a pattern to itself
 reads_twice : (m : Mode) (s text : List ℕ) → IsPositive m → AreParts m s (Some s) text → IsNameOrPattern s → Reads Push text (pushed m (Some (named_by s)) (Some s))
 reads_twice m s text pos parts (inl name) = pushes_to m s s refl pos parts (name_not_empty s name) (Lacks-name s name) name refl
 reads_twice m s text pos parts (inr pattern) = pushes_pattern m s s refl pos parts pattern pattern refl
 
--- a push of a source alone
 back_alone : (m : Mode) (s text : List ℕ) → IsPositive m → AreParts m s None text → IsNameOrPattern s → IsPrintedBack Push (pushed m (Some (named_by s)) None)
 back_alone m s text pos parts either =
     let t = named_by s in
     let either_t = named_either s either in
-    printed_back Push (pushed m (Some t) None) (push_matching t t (is_forced m)) (sign (is_forced m) ++ (t ++ (colon ∷ t))) (pushed m (Some (named_by t)) (Some t)) (means Push m (Some t) None pos) refl
+    printed_back Push _ (pushed m (Some (named_by t)) (Some t)) (push_matching t t (is_forced m)) (means Push m (Some t) None pos)
     (reads_twice m t _ pos (named_parts m s t None text pos (either_not_empty s either) parts (Lacks-colon_either t either_t)) either_t)
     (means Push m (Some (named_by t)) (Some t) pos ∙ ap (λ (x : List ℕ). Some (push_matching x t (is_forced m))) (named_once s))
 
--- a push that deletes
 back_delete : (m : Mode) (d : List ℕ) → IsPositive m → IsName d → IsPrintedBack Push (pushed m None (Some d))
 back_delete m d pos name =
-    printed_back Push (pushed m None (Some d)) (push_delete d) (colon ∷ d) (pushed Normal None (Some d)) (means Push m None (Some d) pos) refl
-    (deletes Normal d refl tt (record { signed = (refl, colon_unsigned); last = Lacks-colon_name d name }) name refl)
-    refl
+    printed_back Push _ (pushed Normal None (Some d)) (push_delete d) (means Push m None (Some d) pos)
+    (deletes Normal d refl tt (record { signed = (refl, colon_unsigned); last = Lacks-colon_name d name }) name refl) refl
 
--- a push to a destination
 back_push : (m : Mode) (s d text : List ℕ) → IsPositive m → s ≢ [] → AreParts m s (Some d) text → Reads Push (sign (is_forced m) ++ (named_by s ++ (colon ∷ d))) (pushed m (Some (named_by (named_by s))) (Some d)) → IsPrintedBack Push (pushed m (Some (named_by s)) (Some d))
 back_push m s d text pos full parts reads =
     let t = named_by s in
-    printed_back Push (pushed m (Some t) (Some d)) (push_matching t d (is_forced m)) (sign (is_forced m) ++ (t ++ (colon ∷ d))) (pushed m (Some (named_by t)) (Some d)) (means Push m (Some t) (Some d) pos) refl
-    reads
+    printed_back Push _ (pushed m (Some (named_by t)) (Some d)) (push_matching t d (is_forced m)) (means Push m (Some t) (Some d) pos) reads
     (means Push m (Some (named_by t)) (Some d) pos ∙ ap (λ (x : List ℕ). Some (push_matching x d (is_forced m))) (named_once s))
 
--- each reading of a text is printed as a text that reads back
 pub read_back : (op : Operation) (text : List ℕ) (r : Reading) → Reads op text r → IsPrintedBack op r
 read_back op text r (fetches_nothing_named m fetch pos parts is) = for_form op Fetch r (fetched m head None) fetch is (back_only m head pos IsName-head refl)
 read_back op text r (fetches_colon m fetch pos parts is) = for_form op Fetch r (fetched m head None) fetch is (back_only m head pos IsName-head refl)
@@ -209,7 +182,6 @@ read_back op text r (pushes_to m s d push pos parts full plain name is) =
     (back_push m s d text pos full parts (pushes_to m (named_by s) d refl pos (named_parts m s d (Some d) text pos full parts parts.last) (named_full s full) lacks name refl))
 read_back op text r (push_excludes s push parts either hash is) = for_form op Push r (pushed Negative (Some (named_by s)) None) push is (back_push_exclude s either hash)
 
--- each text has exactly one reading, or is refused
 pub once_or_refused : (op : Operation) (text : List ℕ) → ReadsOrRefused op text
 once_or_refused op text = elim (read_or_refused op text) [
   | inl reading ↦ inl (record { reading = reading.0; reads = reading.1; only = λ r by_r. reads_once op text r reading.0 by_r reading.1 })
@@ -223,6 +195,5 @@ same_meaning_by_text op r q back_r back_q same =
     let again = back_q.again.only back_r.again.reading (subst (λ (x : List ℕ). Reads op x back_r.again.reading) texts back_r.again.reads) in
     sym back_r.same ∙ (ap meaning_of again ∙ back_q.same)
 
--- readings of two texts have the same meaning exactly if their canonical texts are equal
 pub equal_texts : (op : Operation) (a b : List ℕ) → EqualTexts op a b
 equal_texts op a b r q by_r by_q = (λ same. ap (option_map text_of) same, λ same. same_meaning_by_text op r q (read_back op a r by_r) (read_back op b q by_q) same)

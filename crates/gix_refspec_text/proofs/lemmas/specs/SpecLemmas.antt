@@ -1,24 +1,14 @@
 -- Facts on accepted readings, without a text that has the reading at hand.
 use Rattle.gix_refspec_text.proofs.Common.{arith, ◌≡◌, ℕ, Bool, true, false, List, Option, None, Some, option_map, refl, sym, ap, ◌∙◌, subst, inl, inr, nat_eq, ◌↔◌, pointwise, false≢true, not_there}
-use Rattle.gix_refspec_text.proofs.Common.{Operation, Push, Fetch, Mode, Reading, Reads, IsAccepted, Meaning, included, excluded, meaning, meaning_of, text_of, printed, keys, meant_for, IsPrintedBack}
+use Rattle.gix_refspec_text.proofs.Common.{Operation, Mode, Reading, Reads, IsAccepted, Meaning, included, excluded, meaning, meaning_of, text_of, printed, keys, meant_for, IsPrintedBack}
 use Rattle.gix_refspec_text.proofs.Common.{KeepsOperation, SaysForOperation, EqualReadings, same_Some}
 use Rattle.gix_refspec_text.specs.Laws.Order.{same_meaning, same_keys}
 use Rattle.gix_refspec_text.proofs.lemmas.specs.FormsBackLemmas.{read_back, once_or_refused, equal_texts}
-use Rattle.gix_refspec_text.proofs.lemmas.parsing.ReadOnceLemmas.{made, is_made}
+use Rattle.gix_refspec_text.proofs.lemmas.parsing.ReadOnceLemmas.{is_made}
 
--- ---- operations
-
--- each reading of a text for an operation has that operation
 pub keeps_operation : (op : Operation) (text : List ℕ) → KeepsOperation op text
-keeps_operation op text r reads =
-    let parts = is_made op text r reads in
-    ap (λ (x : Reading). x.operation) parts.is ∙ made_for op parts.of.mode parts.of.source parts.of.destination
-  where
-    made_for : (o : Operation) (m : Mode) (s : List ℕ) (d : Option (List ℕ)) → (made o m s d).operation ≡ o
-    made_for Push m s d = refl
-    made_for Fetch m s d = refl
+keeps_operation op text r reads = ap (λ (x : Reading). x.operation) (is_made op text r reads).is
 
--- the operation of a meaning, or a default
 abbrev operation_or : Operation → Option Meaning → Operation
 operation_or op None = op
 operation_or op (Some m) = meant_for m
@@ -32,11 +22,8 @@ excluded_for op s d = grind arith
 meaning_for : (op : Operation) (mode : Mode) (s d : Option (List ℕ)) → operation_or op (meaning op mode s d) ≡ op
 meaning_for op mode s d = grind (arith, included_for, excluded_for)
 
--- the meaning of a reading is for its operation
 pub says_for_operation : (r : Reading) → SaysForOperation r
 says_for_operation r m is = sym (ap (operation_or r.operation) is) ∙ meaning_for r.operation r.mode r.source r.destination
-
--- ---- what follows from a fact of which only the existence is known
 
 test_shown : {P : Type 0} (b : Bool) → ∥ P ∥₁ → (P → b ≡ true) → b ≡ true
 test_shown true there shows = refl
@@ -47,8 +34,6 @@ meaning_shown : {P : Type 0} (m n : Option Meaning) → ∥ P ∥₁ → (P → 
 meaning_shown m n there shows =
     same_meaning m n (test_shown (pointwise (pointwise nat_eq) (keys m) (keys n)) there (λ fact. same_keys m n (shows fact)))
 
--- ---- accepted readings
-
 says_by : (r : Reading) (m : Option Meaning) → meaning_of r ≡ m → ∥ IsAccepted r ∥₁ → (n : Meaning) × (meaning_of r ≡ Some n)
 says_by r None is accepted = absurd (not_there accepted (λ a.
     let back = read_back r.operation a.0 r a.1 in
@@ -56,7 +41,6 @@ says_by r None is accepted = absurd (not_there accepted (λ a.
     cc))
 says_by r (Some m) is accepted = (m, is)
 
--- an accepted reading has a meaning
 pub says : (r : Reading) → ∥ IsAccepted r ∥₁ → (m : Meaning) × (meaning_of r ≡ Some m)
 says r accepted = says_by r (meaning_of r) refl accepted
 
@@ -71,18 +55,15 @@ same_operation r q accepted same =
     let said = says r accepted in
     sym (says_for_operation r said.0 said.1) ∙ says_for_operation q said.0 (sym same ∙ said.1)
 
--- accepted readings have the same meaning exactly if they have the same operation and canonical text
 pub equal_readings : (r q : Reading) → ∥ IsAccepted r ∥₁ → ∥ IsAccepted q ∥₁ → EqualReadings r q
 equal_readings r q accepted_r accepted_q = (
   λ same. (same_operation r q accepted_r same, ap (option_map text_of) same),
   λ both. same_by_text r q accepted_r accepted_q both.0 both.1,
 )
 
--- the keys of two meanings are equal, as `==` compares them, exactly if the meanings are
 pub equal_keys : (m n : Option Meaning) → (pointwise (pointwise nat_eq) (keys m) (keys n) ≡ true) ↔ (m ≡ n)
 equal_keys m n = (same_meaning m n, same_keys m n)
 
--- the canonical text of an accepted reading has exactly one reading, with the same meaning
 pub printed_back : (r : Reading) → ∥ IsAccepted r ∥₁ → IsPrintedBack r.operation r
 printed_back r accepted =
     let said = says r accepted in

@@ -1,27 +1,11 @@
 -- Which bytes are calm, by the mask of two loads: of the bytes, and of the bytes before them.
-use Rattle.gix_refspec_text.proofs.Common.{◌≡◌, ◌≢◌, ℕ, ◌+◌, ◌-◌, ◌%◌, ◌^◌, ◌<◌, ◌≤◌, ◌||◌, eqb, ltb, cond, Bool, true, false, not, List, [], ◌∷◌, map, length, get_or, replicate, bit_and, bit_or, w8}
-use Rattle.gix_refspec_text.proofs.Common.{refl, sym, ap, ap₂, ◌∙◌, inl, inr, arith, agree_below_at, not-true, cond-true, cond-false, eq-eqb, ne_eqb, cases_eq, mask_l-mod, length-zip2, get_or-zip2}
-use Rattle.gix_refspec_text.proofs.Common.{length-chunk, get_or-chunk, leading_from_mask_l, trailing_mask_l, length-map, get_or-map, prefix_len, prefix_len-le-length, prefix_len_passes, chunk, zip2}
-use Rattle.gix_refspec_text.proofs.Common.{mask_l, top, slash, class_at, IsCalm, AreCalm, lowest_of, or_cases, eqb-true}
+use Rattle.gix_refspec_text.proofs.Common.{◌≡◌, ◌≢◌, ℕ, ◌+◌, ◌-◌, ◌%◌, ◌^◌, ◌<◌, ◌≤◌, ◌||◌, eqb, ltb, cond, Bool, true, false, not, List, map, length, get_or, bit_and, bit_or, w8, refl, sym, ap, ap₂}
+use Rattle.gix_refspec_text.proofs.Common.{◌∙◌, inl, inr, arith, agree_below_at, not-true, cond-true, cond-false, eq-eqb, ne_eqb, cases_eq, mask_l-mod, length-zip2, get_or-zip2, length-chunk}
+use Rattle.gix_refspec_text.proofs.Common.{get_or-chunk, leading_from_mask_l, trailing_mask_l, length-map, get_or-map, prefix_len, prefix_len-le-length, prefix_len_passes, chunk, zip2, mask_l, top}
+use Rattle.gix_refspec_text.proofs.Common.{slash, class_at, IsCalm, AreCalm, lowest_of, or_cases, eqb-true}
 use Rattle.std.proofs.Common.{Fits}
 use Rattle.gix_refspec_text.specs.declared.name.class.Class.{Class}
 use Rattle.gix_refspec_text.specs.declared.name.class.Class.TheVariants.{Plain}
-
-zip2-map : (h : ℕ → ℕ → ℕ) (f g : ℕ → ℕ) (xs : List ℕ) → zip2 h (map f xs) (map g xs) ≡ map (λ x. h (f x) (g x)) xs
-zip2-map h f g [] = refl
-zip2-map h f g (x ∷ xs) = ap (λ r. h (f x) (g x) ∷ r) (zip2-map h f g xs)
-
--- an operation on two vectors that were computed lane by lane from v
-pub joined : (h : ℕ → ℕ → ℕ) (f g : ℕ → ℕ) (v : List ℕ) {a b : List ℕ} → a ≡ map f v → b ≡ map g v → zip2 h a b ≡ map (λ x. h (f x) (g x)) v
-joined h f g v p q = ap₂ (zip2 h) p q ∙ zip2-map h f g v
-
-splat_left : (h : ℕ → ℕ → ℕ) (y : ℕ) (xs : List ℕ) → zip2 h (replicate (length xs) y) xs ≡ map (h y) xs
-splat_left h y [] = refl
-splat_left h y (x ∷ xs) = ap (λ r. h y x ∷ r) (splat_left h y xs)
-
--- an operation with a splat on its left side, as `simd_gt` with its sides swapped
-pub from_splat : (h : ℕ → ℕ → ℕ) (v : List ℕ) (n y : ℕ) → length v ≡ n → zip2 h (replicate n y) v ≡ map (h y) v
-from_splat h v n y long = ap (λ k. zip2 h (replicate k y) v) (sym long) ∙ splat_left h y v
 
 abbrev is_plain_class : Class → Bool
 is_plain_class Plain = true

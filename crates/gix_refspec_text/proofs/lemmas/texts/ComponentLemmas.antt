@@ -1,8 +1,9 @@
 -- The components of a text, found by the slashes around them. A slash is written before the text, so that
 -- each component follows one.
-use Rattle.gix_refspec_text.proofs.Common.{arith, ◌≡◌, ℕ, List, [], ◌∷◌, ◌++◌, refl, sym, ap, ◌∙◌, inl, inr, append_assoc, ◌⊎◌, AllByRecursion, join_with_byte, cases_eq, append-nil, Lacks, slash}
+use Rattle.gix_refspec_text.proofs.Common.{arith, ◌≡◌, ℕ, List, [], ◌∷◌, ◌++◌, refl, sym, ap, ◌∙◌, inl, inr, append_assoc, AllByRecursion, join_with_byte, cases_eq, append-nil, Lacks, slash}
 use Rattle.gix_refspec_text.proofs.Common.{SomeComponent}
 use Rattle.gix_refspec_text.proofs.lemmas.lists.AllLemmas.{all_join}
+use Rattle.gix_refspec_text.proofs.lemmas.lists.LacksLemmas.{LastIndex, lacks_or_last}
 
 -- what may follow a component: nothing, or a text that begins with a slash
 abbrev pub IsEnd : List ℕ → Type 0
@@ -51,33 +52,14 @@ pieces_of (b ∷ x) =
       | inr other ↦ record { first = b ∷ rest.first; others = rest.others; first_whole = (other, rest.first_whole); others_whole = rest.others_whole; here = ap (λ y. b ∷ y) rest.here }
     ]
 
--- what may follow a component consists of parts, each after a slash
 fence_parts : (x : List ℕ) → IsEnd x → (ps : List (List ℕ)) × AllByRecursion (Lacks slash) ps × (fenced ps ≡ x)
 fence_parts [] ends = ([], tt, refl)
 fence_parts (b ∷ x) ends =
     let split : Pieces x = pieces_of x in
     (split.first ∷ split.others, (split.first_whole, split.others_whole), ap (λ y. slash ∷ y) split.here ∙ ap (λ c. c ∷ x) (sym ends))
 
--- the last slash of a text
-pub record LastSlash (x : List ℕ) : Type 0 where
-  pub before : List ℕ
-  pub after : List ℕ
-  pub here : x ≡ before ++ (slash ∷ after)
-  pub last : Lacks slash after
-
-last_slash : (x : List ℕ) → Lacks slash x ⊎ LastSlash x
-last_slash [] = inl tt
-last_slash (b ∷ x) =
-    elim (last_slash x) [
-      | inl lacks ↦ elim (cases_eq b slash) [
-        | inl same ↦ inr (record { before = []; after = x; here = ap (λ c. c ∷ x) same; last = lacks })
-        | inr other ↦ inl (other, lacks)
-      ]
-      | inr found ↦ inr (record { before = b ∷ found.before; after = found.after; here = ap (λ y. b ∷ y) found.here; last = found.last })
-    ]
-
-pub last_slash_after_one : (x : List ℕ) → LastSlash (slash ∷ x)
-last_slash_after_one x = elim (last_slash (slash ∷ x)) [ inl lacks ↦ absurd (lacks.0 refl) | inr found ↦ found ]
+pub last_slash_after_one : (x : List ℕ) → LastIndex slash (slash ∷ x)
+last_slash_after_one x = elim (lacks_or_last slash (slash ∷ x)) [ inl lacks ↦ absurd (lacks.0 refl) | inr found ↦ found ]
 
 -- w is in x between two slashes, or between a slash and an end
 pub record IsComponent (w x : List ℕ) : Type 0 where

@@ -4,26 +4,21 @@ use Rattle.gix_refspec_text.proofs.Common.{IsName, IsPattern, IsUnsigned, begins
 use Rattle.gix_refspec_text.proofs.lemmas.texts.TextLemmas.{Lacks-from_absent}
 use Rattle.gix_refspec_text.proofs.lemmas.texts.TestedLemmas.{IsName-tested}
 
--- `HEAD` is a name
 pub IsName-head : IsName head
 IsName-head = IsName-tested head refl
 
--- a name doesn't contain a colon
 pub Lacks-colon_name : (x : List ℕ) → IsName x → Lacks colon x
 Lacks-colon_name x name = Lacks-from_absent colon x (λ holds. name (InvalidByte colon) (holds, refl))
 
--- a text that doesn't contain b with the letter for its star doesn't contain it with the star
 lacks_unreplaced : (b : ℕ) (front back : List ℕ) → star ≢ b → Lacks b (front ++ (letter ∷ back)) → Lacks b (front ++ (star ∷ back))
 lacks_unreplaced b [] back other lacks = (other, lacks.1)
 lacks_unreplaced b (c ∷ front) back other lacks = (lacks.0, lacks_unreplaced b front back other lacks.1)
 
--- nor does a pattern
 pub Lacks-colon_pattern : (x : List ℕ) → IsPattern x → Lacks colon x
 Lacks-colon_pattern x pattern =
     let r = pattern.replaces in
     subst (Lacks colon) (sym r.split.starred) (lacks_unreplaced colon r.before r.after (λ h. omega arith) (subst (Lacks colon) r.replaced (Lacks-colon_name pattern.with_letter pattern.name)))
 
--- a name that doesn't begin with `+` is unsigned
 pub unsigned_name : (x : List ℕ) → IsName x → begins_with_plus x ≡ false → IsUnsigned x
 unsigned_name [] name other = tt
 unsigned_name (b ∷ x) name other = (

@@ -5,6 +5,7 @@ use Rattle.gix_refspec_text.proofs.Common.{Asterisk, Lacks, EndsWith, slash, sta
 use Rattle.gix_refspec_text.proofs.Common.{IsClean, LeavesFault, Finds, letter_for, with_letters, IsScanned, IsCalm, AreCalm, count_by_more_yes, cond, zero-add, count_by, sum_by-append}
 use Rattle.gix_refspec_text.proofs.Common.{HasSeveralStars, take_all, IsStarCount, one_if}
 use Rattle.gix_refspec_text.specs.declared.name.class.Class.TheVariants.{Plain}
+use Rattle.gix_refspec_text.proofs.lemmas.lists.LacksLemmas.{lacks_or_first}
 use Rattle.gix_refspec_text.proofs.lemmas.texts.TextLemmas.{split_at}
 use Rattle.gix_refspec_text.proofs.lemmas.texts.NameLemmas.{one_more, IsClean-more, HasFault-added, answer_at_end, slash_adds, last_byte}
 
@@ -21,57 +22,50 @@ stars-star b x same = stars-cons b x ∙ ap (λ t. cond t 1 0 + stars x) (eq-eqb
 stars-other : (b : ℕ) (x : List ℕ) → b ≢ star → stars (b ∷ x) ≡ stars x
 stars-other b x other = let one_more : stars (b ∷ x) ≡ 0 + stars x = stars-cons b x ∙ ap (λ t. cond t 1 0 + stars x) (ne_eqb b star other) in omega (arith, one_more)
 
-Lacks-no_stars : (x : List ℕ) → stars x ≡ 0 → Lacks star x
-Lacks-no_stars [] none = tt
-Lacks-no_stars (b ∷ x) none =
-    elim (cases_eq b star) [
-      | inl same ↦ let more = stars-star b x same in absurd (omega (arith, more, none))
-      | inr other ↦ (other, Lacks-no_stars x (sym (stars-other b x other) ∙ none))
-    ]
-
--- a star before a text without one
-star_in_front : (b : ℕ) (x : List ℕ) → b ≡ star → stars (b ∷ x) ≡ 1 → HasOneStar (b ∷ x)
-star_in_front b x same one =
-    let more = stars-star b x same in
-    let none : stars x ≡ 0 = omega (arith, more, one) in
-    ([], x, record { starred = ap (λ c. c ∷ x) same; first = tt; last = Lacks-no_stars x none })
-
--- another byte before a text with one star
-one_after : (b : ℕ) (x : List ℕ) → b ≢ star → HasOneStar x → HasOneStar (b ∷ x)
-one_after b x other one = (b ∷ one.0, one.1, record { starred = ap (λ y. b ∷ y) one.2.starred; first = (other, one.2.first); last = one.2.last })
-
--- a text in which one star is counted has one
-pub HasOneStar-count_by : (x : List ℕ) → count_by (λ b. b == star) x ≡ 1 → HasOneStar x
-unfolding stars
-HasOneStar-count_by [] one = absurd (omega (arith, one))
-HasOneStar-count_by (b ∷ x) one =
-    elim (cases_eq b star) [ inl same ↦ star_in_front b x same one | inr other ↦ one_after b x other (HasOneStar-count_by x (sym (stars-other b x other) ∙ one)) ]
-
 stars-append : (x y : List ℕ) → stars (x ++ y) ≡ stars x + stars y
 unfolding stars
 stars-append x y = sum_by-append (λ c. cond (c == star) 1 0) x y
+
+stars-split : (x before after : List ℕ) → x ≡ before ++ (star ∷ after) → stars x ≡ stars before + (1 + stars after)
+stars-split x before after here =
+    ap stars here ∙ stars-append before (star ∷ after) ∙ ap (λ n. stars before + n) (stars-star star after refl)
 
 no_stars : (x : List ℕ) → Lacks star x → stars x ≡ 0
 unfolding stars
 no_stars [] lacks = refl
 no_stars (b ∷ x) lacks = stars-other b x lacks.0 ∙ no_stars x lacks.1
 
+Lacks-no_stars : (x : List ℕ) → stars x ≡ 0 → Lacks star x
+Lacks-no_stars x none = elim (lacks_or_first star x) [
+  | inl lacks ↦ lacks
+  | inr index ↦ absurd (omega (arith, none, stars-split x index.before index.after index.here))
+]
+
+has_one_star : (x : List ℕ) → stars x ≡ 1 → HasOneStar x
+has_one_star x one = elim (lacks_or_first star x) [
+  | inl lacks ↦ absurd (omega (arith, one, no_stars x lacks))
+  | inr index ↦
+      let split = stars-split x index.before index.after index.here in
+      let last = Lacks-no_stars index.after (omega (arith, one, split)) in
+      (index.before, index.after, record { starred = index.here; first = index.first; last = last })
+]
+
 counted : (x : List ℕ) → HasOneStar x → stars x ≡ 1
 counted x (before, after, split) =
-    let whole : stars x ≡ stars before + stars (star ∷ after) = ap stars split.starred ∙ stars-append before (star ∷ after) in
-    omega (arith, whole, no_stars before split.first, stars-star star after refl, no_stars after split.last)
+    omega (arith, stars-split x before after split.starred, no_stars before split.first, no_stars after split.last)
 
--- and one star is counted in a text with one star
+pub HasOneStar-count_by : (x : List ℕ) → count_by (λ b. b == star) x ≡ 1 → HasOneStar x
+unfolding stars
+HasOneStar-count_by x one = has_one_star x one
+
 pub count_by-HasOneStar : (x : List ℕ) → HasOneStar x → count_by (λ b. b == star) x ≡ 1
 unfolding stars
 count_by-HasOneStar x one = counted x one
 
--- a text in which no star is counted lacks it
 pub Lacks-count_by : (x : List ℕ) → count_by (λ b. b == star) x ≡ 0 → Lacks star x
 unfolding stars
 Lacks-count_by x none = Lacks-no_stars x none
 
--- a star at an index with one star before it is a second one
 pub second_star : (x : List ℕ) (i : ℕ) → i < length x → get_or x i 0 ≡ star → count_by (λ b. b == star) (take i x) ≡ 1 → HasSeveralStars x
 second_star x i below here one =
     let (before, after, split) = HasOneStar-count_by (take i x) one in
@@ -91,7 +85,6 @@ letter_for-other b other = ap (λ t. if t then letter else b) (ne_eqb b star oth
 letters-append : (x y : List ℕ) → with_letters (x ++ y) ≡ with_letters x ++ with_letters y
 letters-append x y = map-append letter_for x y
 
--- a byte of the text with letters that isn't the letter is a byte of the text
 same_byte : (b c : ℕ) → c ≢ letter → letter_for b ≡ c → b ≡ c
 same_byte b c other same = search (arith, cases_eq, letter_for-star, letter_for-other)
 
@@ -123,18 +116,15 @@ lock_kept = (((λ e. omega (arith, e)), ((λ e. omega (arith, e)), ((λ e. omega
 abbrev EndsAs : List ℕ → List ℕ → Type 0
 EndsAs x y = (w : List ℕ) → IsKept w → EndsWith w x → EndsWith w y
 
--- a text and the text with letters end with the same words of this kind
 ends_before : (y : List ℕ) → EndsAs (with_letters y) y
 ends_before y w kept ends = end_before y ends.before w kept.0 ends.here
 
 ends_with_letters : (y : List ℕ) → EndsAs y (with_letters y)
 ends_with_letters y w kept ends = search (arith, letters-append)
 
--- so a byte adds the same faults to both
 AddsFault-as : (x y : List ℕ) (b : ℕ) → EndsAs x y → (e : Error) → AddsFault x b e → AddsFault y b e
 AddsFault-as x y b ends h fault = grind (arith, slash_kept, lock_kept, dot_kept)
 
--- and the same faults are left at their ends
 LeavesFault-as : (x y : List ℕ) → EndsAs x y → (e : Error) → LeavesFault x e → LeavesFault y e
 LeavesFault-as x y ends h left = grind (arith, slash_kept, lock_kept, dot_kept)
 
@@ -165,7 +155,6 @@ scanned_star x i below same scanned = (
   count_by_more_yes (λ d. d == star) x i 0 below (eq-eqb (get_or x i 0) star same) ∙ ap (λ n. n + 1) scanned.1,
 )
 
--- a text that was scanned whole
 pub scanned_whole : (x : List ℕ) (s : Bool) → IsScanned x (length x) s → IsClean (with_letters (slash ∷ x)) × IsStarCount x (one_if s)
 scanned_whole x s scanned = subst (λ y. IsClean (with_letters (slash ∷ y)) × IsStarCount y (one_if s)) (take_all (length x) x (omega arith)) scanned
 
@@ -173,11 +162,9 @@ some_letters : (x : List ℕ) → x ≢ [] → with_letters x ≢ []
 some_letters [] some same = some refl
 some_letters (b ∷ x) some same = cc
 
--- a text with an index isn't empty
 pub some_index : (x : List ℕ) (i : ℕ) → i < length x → x ≢ []
 some_index x i below same = grind arith
 
--- a fault that a byte other than a star adds is a fault of the text with letters
 pub fault_with_letters : (x : List ℕ) (i : ℕ) (e : Error) → x ≢ [] → i < length x → get_or x i 0 ≢ star → AddsFault (slash ∷ take i x) (get_or x i 0) e → HasFault (with_letters x) e
 fault_with_letters x i e some below other fault =
     let b = get_or x i 0 in
@@ -194,11 +181,9 @@ finds_with_letters : (y : List ℕ) (fault : Option Error) → Finds fault (Leav
 finds_with_letters y None none = λ e left. none e (LeavesFault-as (with_letters y) y (ends_before y) e left)
 finds_with_letters y (Some e) left = LeavesFault-as y (with_letters y) (ends_with_letters y) e left
 
--- the answer at the end of a text whose bytes add no fault once letters stand for the stars
 pub answer_with_letters : (x : List ℕ) (fault : Option Error) → x ≢ [] → IsClean (with_letters (slash ∷ x)) → Finds fault (LeavesFault (slash ∷ x)) → MatchOption fault (IsName (with_letters x)) (HasFault (with_letters x))
 answer_with_letters x fault some clean left = answer_at_end (with_letters x) fault (some_letters x some) clean (finds_with_letters (slash ∷ x) fault left)
 
--- a text without stars is the same with letters
 pub letters-Lacks : (x : List ℕ) → Lacks star x → with_letters x ≡ x
 letters-Lacks [] lacks = refl
 letters-Lacks (b ∷ x) lacks = ap (λ c. c ∷ with_letters x) (letter_for-other b lacks.0) ∙ ap (λ y. b ∷ y) (letters-Lacks x lacks.1)
@@ -206,21 +191,18 @@ letters-Lacks (b ∷ x) lacks = ap (λ c. c ∷ with_letters x) (letter_for-othe
 letters-split : (before after x : List ℕ) → IsSplit before after x → with_letters x ≡ before ++ (letter ∷ after)
 letters-split before after x split = search (arith, letters-append, letters-Lacks)
 
--- in a text with one star, letters for all stars replace this one
 pub replaces_one : (before after x : List ℕ) → IsSplit before after x → ReplacesStar x (with_letters x)
 replaces_one before after x split = record { before = before; after = after; split = split; replaced = letters-split before after x split }
 
 pub pattern_with_letter : (x : List ℕ) → HasOneStar x → IsName (with_letters x) → IsPattern x
 pattern_with_letter x (before, after, split) name = record { with_letter = with_letters x; replaces = replaces_one before after x split; name = name }
 
--- a fault found with letters is a fault of a text without stars
 pub fault_without_stars : (x : List ℕ) (e : Error) → Lacks star x → HasFault (with_letters x) e → HasFault x e
 fault_without_stars x e lacks fault = subst (λ y. HasFault y e) (letters-Lacks x lacks) fault
 
 pub name_without_stars : (x : List ℕ) → Lacks star x → IsName (with_letters x) → IsName x
 name_without_stars x lacks name = subst IsName (letters-Lacks x lacks) name
 
--- a byte equal to a plain one is plain
 plain_as : (b c : ℕ) → class_at b ≡ Plain → b ≡ c → class_at c ≡ Plain
 plain_as b c plain same = subst (λ d. class_at d ≡ Plain) same plain
 
@@ -233,14 +215,12 @@ plain_adds_nothing y b plain h fault = grind (arith, plain_as, plain_not_refused
 locked_ends : (y : List ℕ) → EndsWith (codes ".lock") y → EndsWith (107 ∷ []) y
 locked_ends y ends = record { before = ends.before ++ codes ".loc"; here = ends.here ∙ sym (append_assoc ends.before (codes ".loc") (107 ∷ [])) }
 
--- a calm byte adds no fault
 calm_adds_nothing : (y : List ℕ) (p b : ℕ) → EndsWith (p ∷ []) y → IsCalm p b → (e : Error) → ¬ (AddsFault y b e)
 calm_adds_nothing y p b last (inl plain) = plain_adds_nothing y b plain
 calm_adds_nothing y p b last (inr quiet) = λ e fault.
     slash_adds y e (λ ends. quiet.1 (last_byte y p slash last ends)) (λ locked. quiet.2 (last_byte y p 107 last (locked_ends y locked)))
     (subst (λ c. AddsFault y c e) quiet.0 fault)
 
--- the last byte before an index
 last_before : (x : List ℕ) (i : ℕ) → i < length x → EndsWith (get_or x i 0 ∷ []) (slash ∷ take (i + 1) x)
 last_before x i below = record { before = slash ∷ take i x; here = one_more x i below }
 
@@ -250,7 +230,6 @@ calm_more x i s some below calm scanned =
     let last : EndsWith (get_or x (i - 1) 0 ∷ []) (slash ∷ take i x) = subst (λ j. EndsWith (get_or x (i - 1) 0 ∷ []) (slash ∷ take j x)) back (last_before x (i - 1) (omega (arith, some, below))) in
     scanned_other x i s below (calm_adds_nothing (slash ∷ take i x) (get_or x (i - 1) 0) (get_or x i 0) last calm) scanned
 
--- calm bytes add no fault and aren't stars
 pub calm_scanned : (m : ℕ) (x : List ℕ) (i : ℕ) (s : Bool) → 0 < i → i + m ≤ length x → AreCalm x i (i + m) → IsScanned x i s → IsScanned x (i + m) s
 calm_scanned zero x i s some room calm scanned = let same : i ≡ i + 0 = omega (arith) in subst (λ j. IsScanned x j s) same scanned
 calm_scanned (suc m) x i s some room calm scanned =
@@ -259,7 +238,6 @@ calm_scanned (suc m) x i s some room calm scanned =
     let same : i + 1 + m ≡ i + suc m = omega (arith) in
     subst (λ j. IsScanned x j s) same rest
 
--- the same, up to an index b
 pub calm_to : (x : List ℕ) (i b : ℕ) (s : Bool) → 0 < i → i ≤ b → b ≤ length x → AreCalm x i b → IsScanned x i s → IsScanned x b s
 calm_to x i b s some to room calm scanned =
     let there : i + (b - i) ≡ b = omega (arith, to) in

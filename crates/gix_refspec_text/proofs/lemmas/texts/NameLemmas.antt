@@ -4,8 +4,9 @@ use Rattle.gix_refspec_text.proofs.Common.{inr, append_assoc, arith, Bool, ◌-�
 use Rattle.gix_refspec_text.proofs.Common.{StartsWithDot, LockSuffix, EndsWithDot, RepeatedDot, ReflogPortion, Asterisk, InvalidByte, Lacks, ContainsText, BeginsWith, EndsWith, slash, star, dot}
 use Rattle.gix_refspec_text.proofs.Common.{brace, is_refused_byte, SomeComponent, HasFault, IsName, AddsFault, Added, IsClean, LeavesFault, Finds, drop_of_length-le, length-append, take_more}
 use Rattle.gix_refspec_text.proofs.lemmas.texts.TextLemmas.{split_at}
-use Rattle.gix_refspec_text.proofs.lemmas.texts.ComponentLemmas.{IsEnd, IsComponent, Pieces, pieces_of, fenced, fenced-IsEnd, LastSlash, last_slash_after_one, SomeComponent-from, SomeComponent-index}
+use Rattle.gix_refspec_text.proofs.lemmas.texts.ComponentLemmas.{IsEnd, IsComponent, Pieces, pieces_of, fenced, fenced-IsEnd, last_slash_after_one, SomeComponent-from, SomeComponent-index}
 use Rattle.gix_refspec_text.proofs.lemmas.lists.AllLemmas.{all_join}
+use Rattle.gix_refspec_text.proofs.lemmas.lists.LacksLemmas.{LastIndex}
 use Rattle.std.proofs.Math.Seq.{get_or-append_seam}
 
 no_middle : (p r : List ℕ) (b : ℕ) → [] ≡ p ++ (b ∷ r) → ⊥
@@ -27,7 +28,6 @@ index_with_one_more (x ∷ y) (q ∷ p) r c b same =
       | inr index ↦ inr (record { after = index.after; here = let fronts = index.here in cc })
     ]
 
--- a text has only one last byte
 pub last_byte : (y : List ℕ) (c b : ℕ) → EndsWith (c ∷ []) y → EndsWith (b ∷ []) y → c ≡ b
 last_byte y c b by_c by_b =
     let at_c = ap (λ z. get_or z (length by_c.before) 0) by_c.here ∙ get_or-append_seam by_c.before c [] 0 in
@@ -48,7 +48,6 @@ dot_no_slash same = omega (arith, same)
 refused_no_slash : (c : ℕ) → IsTrue (is_refused_byte c) → c ≢ slash
 refused_no_slash c refused same = false≢true (subst (λ b. is_refused_byte b ≡ true) same refused)
 
--- a slash adds no other fault
 pub slash_adds : (y : List ℕ) (e : Error) → ¬ (EndsWith (codes "/") y) → ¬ (EndsWith (codes ".lock") y) → ¬ (AddsFault y slash e)
 slash_adds y e whole unlocked fault = grind (arith, refused_no_slash)
 
@@ -88,7 +87,7 @@ locked_component : (x p after : List ℕ) → slash ∷ x ≡ (p ++ codes ".lock
 locked_component x [] after here ends = let first : slash ≡ dot = cc in absurd (dot_no_slash (sym first))
 locked_component x (c ∷ p) after here ends =
     let first : slash ≡ c = cc in
-    let split : LastSlash (c ∷ p) = subst (λ b. LastSlash (b ∷ p)) first (last_slash_after_one p) in
+    let split : LastIndex slash (c ∷ p) = subst (λ b. LastIndex slash (b ∷ p)) first (last_slash_after_one p) in
     SomeComponent-from (EndsWith (codes ".lock")) (split.after ++ codes ".lock") x
     (record {
       before = split.before;
@@ -110,18 +109,15 @@ pair_in_text x p after a b c other here ends same =
     let found : EndsWith (a ∷ c ∷ after) x = after_slash x ends.before (c ∷ after) a other whole in
     record { before = found.before; after = after; here = found.here }
 
--- a fault that a byte adds is a fault of the text
 pub HasFault-added : (x : List ℕ) (e : Error) → x ≢ [] → Added (slash ∷ x) e → HasFault x e
 HasFault-added x e some added = grind (arith, empty_component, dotted_component, locked_component, pair_in_text, dot_no_slash, byte_in_text, refused_no_slash)
 
--- a fault that is left at the end is a fault of the text
 pub HasFault-left : (x : List ℕ) (e : Error) → x ≢ [] → LeavesFault (slash ∷ x) e → HasFault x e
 HasFault-left x EmptyComponent some left = (some, empty_component x left.before [] (left.here ∙ sym (append-nil _)) tt)
 HasFault-left x LockSuffix some left = locked_component x left.before [] (left.here ∙ sym (append-nil _)) tt
 HasFault-left x EndsWithDot some left = after_slash x left.before [] dot dot_no_slash left.here
 HasFault-left x _ some left = absurd left
 
--- a fault that is found at a slash or at the end
 shown_by_end : (y p after : List ℕ) (e : Error) → y ≡ p ++ after → IsEnd after → AddsFault p slash e → LeavesFault p e → Added y e ⊎ LeavesFault y e
 shown_by_end y p after e here ends adds leaves = grind (arith, append-nil)
 
@@ -136,15 +132,18 @@ pair_added x a b e held adds =
       fault = adds front (record { before = slash ∷ held.before; here = refl });
     }
 
--- each fault of a text is added by a byte, or left at the end
+component_found : (x w : List ℕ) (e : Error) (index : IsComponent w x) → AddsFault (index.before ++ (slash ∷ w)) slash e
+    → LeavesFault (index.before ++ (slash ∷ w)) e → Added (slash ∷ x) e ⊎ LeavesFault (slash ∷ x) e
+component_found x w e index = shown_by_end (slash ∷ x) (index.before ++ (slash ∷ w)) index.after e
+    (index.here ∙ sym (append_assoc index.before (slash ∷ w) index.after)) index.ends
+
 found_fault : (x : List ℕ) (e : Error) → x ≢ [] → HasFault x e → Added (slash ∷ x) e ⊎ LeavesFault (slash ∷ x) e
 found_fault x Empty some fault = absurd (some fault)
 found_fault x EmptyComponent some fault =
     let index : IsComponent fault.1.component x = SomeComponent-index (λ w. w ≡ []) x fault.1 in
-    let here : slash ∷ x ≡ (index.before ++ (slash ∷ [])) ++ index.after =
-    index.here ∙ ap (λ w. index.before ++ (slash ∷ (w ++ index.after))) fault.1.fact ∙ sym (append_assoc index.before (slash ∷ []) index.after) in
-    let ends : EndsWith (codes "/") (index.before ++ (slash ∷ [])) = record { before = index.before; here = refl } in
-    shown_by_end (slash ∷ x) (index.before ++ (slash ∷ [])) index.after EmptyComponent here index.ends (refl, ends) ends
+    let ends : EndsWith (codes "/") (index.before ++ (slash ∷ fault.1.component)) =
+        record { before = index.before; here = ap (λ w. index.before ++ (slash ∷ w)) fault.1.fact } in
+    component_found x fault.1.component EmptyComponent index (refl, ends) ends
 found_fault x StartsWithDot some fault =
     let index : IsComponent fault.component x = SomeComponent-index (BeginsWith (codes ".")) x fault in
     inl (record {
@@ -157,29 +156,24 @@ found_fault x StartsWithDot some fault =
 found_fault x LockSuffix some fault =
     let index : IsComponent fault.component x = SomeComponent-index (EndsWith (codes ".lock")) x fault in
     let front = index.before ++ (slash ∷ fault.fact.before) in
-    let here : slash ∷ x ≡ (front ++ codes ".lock") ++ index.after =
-    index.here ∙ ap (λ w. index.before ++ (slash ∷ (w ++ index.after))) fault.fact.here ∙ sym (regroup index.before (slash ∷ fault.fact.before) (codes ".lock") index.after) in
-    let ends : EndsWith (codes ".lock") (front ++ codes ".lock") = record { before = front; here = refl } in
-    shown_by_end (slash ∷ x) (front ++ codes ".lock") index.after LockSuffix here index.ends (refl, ends) ends
+    let here = ap (λ w. index.before ++ (slash ∷ w)) fault.fact.here ∙ sym (append_assoc index.before (slash ∷ fault.fact.before) _) in
+    let ends : EndsWith (codes ".lock") (index.before ++ (slash ∷ fault.component)) = record { before = front; here = here } in
+    component_found x fault.component LockSuffix index (refl, ends) ends
 found_fault x EndsWithDot some fault = inr (record { before = slash ∷ fault.before; here = ap (λ z. slash ∷ z) fault.here })
 found_fault x RepeatedDot some fault = inl (pair_added x dot dot RepeatedDot fault (λ p ends. (refl, ends)))
 found_fault x ReflogPortion some fault = inl (pair_added x 64 brace ReflogPortion fault (λ p ends. (refl, ends)))
 found_fault x Asterisk some fault = inl (record { before = slash ∷ fault.before; byte = star; after = fault.after; here = ap (λ z. slash ∷ z) fault.here; fault = refl })
 found_fault x (InvalidByte c) some fault = inl (record { before = slash ∷ fault.0.before; byte = c; after = fault.0.after; here = ap (λ z. slash ∷ z) fault.0.here; fault = (refl, fault.1) })
 
--- a text in which no fault is found is a name
 pub IsName-from_clean : (x : List ℕ) → x ≢ [] → IsClean (slash ∷ x) → ((e : Error) → ¬ (LeavesFault (slash ∷ x) e)) → IsName x
 IsName-from_clean x some clean none e fault = elim (found_fault x e some fault) [ inl added ↦ clean e added | inr left ↦ none e left ]
 
--- the answer at the end of a text in which no byte adds a fault
 pub answer_at_end : (x : List ℕ) (fault : Option Error) → x ≢ [] → IsClean (slash ∷ x) → Finds fault (LeavesFault (slash ∷ x)) → MatchOption fault (IsName x) (HasFault x)
 answer_at_end x fault some clean none = grind (arith, IsName-from_clean, HasFault-left)
 
--- a text up to an index, and the byte there
 pub one_more : (x : List ℕ) (i : ℕ) → i < length x → slash ∷ take (i + 1) x ≡ (slash ∷ take i x) ++ (get_or x i 0 ∷ [])
 one_more x i below = ap (λ z. slash ∷ z) (take_more x i 0 below)
 
--- the fault that the byte at an index adds
 pub added_at : (x : List ℕ) (i : ℕ) (e : Error) → i < length x → AddsFault (slash ∷ take i x) (get_or x i 0) e → Added (slash ∷ x) e
 added_at x i e below fault = record {
   before = slash ∷ take i x;
@@ -189,7 +183,6 @@ added_at x i e below fault = record {
   fault = fault;
 }
 
--- the end leaves no other fault
 pub end_leaves : (y : List ℕ) (e : Error) → ¬ (EndsWith (codes "/") y) → ¬ (EndsWith (codes ".") y) → ¬ (EndsWith (codes ".lock") y) → ¬ (LeavesFault y e)
 end_leaves y e whole undotted unlocked left = grind arith
 
@@ -201,7 +194,6 @@ locked_after_slash x tested by_test =
       (λ locked. let found : EndsWith (codes ".lock") x = after_slash x locked.before (codes "lock") dot dot_no_slash locked.here in ends.1 found.before found.here),
     )
 
--- a text that isn't empty ends with its last byte
 pub ends_last : (x : List ℕ) → 1 ≤ length x → EndsWith (get_or x (length x - 1) 0 ∷ []) (slash ∷ x)
 ends_last x some =
     let k = length x - 1 in

@@ -19,7 +19,6 @@ abbrev pub is_suspect : ℕ → List ℕ → Bool
 is_suspect a [] = a == slash || a == dot || a == lock_end
 is_suspect a (b ∷ x) = (b == star || (is_refused_byte b || are_apart a b)) || is_suspect b x
 
--- facts on a byte and the text after it, in a text in which nothing is suspect
 record Sound (b : ℕ) (rest : List ℕ) : Type 0 where
   unstarred : (b == star) ≡ false
   allowed : is_refused_byte b ≡ false
@@ -41,7 +40,6 @@ after_word y before rest b word none here ends =
     let whole : y ≡ ends.before ++ (b ∷ (word ++ rest)) = here ∙ ap (λ z. z ++ rest) ends.here ∙ append_assoc ends.before (b ∷ word) rest in
     (sound_in y none ends.before b (word ++ rest) whole).later
 
--- the same, if the byte c follows the word
 after_byte : (y before after : List ℕ) (byte c b : ℕ) (word : List ℕ) → is_suspect 0 y ≡ false → y ≡ before ++ (byte ∷ after) → byte ≡ c → EndsWith (b ∷ word) before → is_suspect b (word ++ (c ∷ after)) ≡ false
 after_byte y before after byte c b word none here same ends = after_word y before (c ∷ after) b word none (here ∙ ap (λ d. before ++ (d ∷ after)) same) ends
 
@@ -61,6 +59,5 @@ left y LockSuffix none fault = true≢false (after_word y y [] dot (codes "lock"
 left y EndsWithDot none fault = true≢false (after_word y y [] dot [] none (sym (append-nil y)) fault)
 left y _ none fault = fault
 
--- a text in which nothing is suspect, with a slash before it, is a name
 pub IsName-tested : (x : List ℕ) → is_suspect slash x ≡ false → IsName x
 IsName-tested x none = IsName-from_clean x (λ empty. true≢false (ap (is_suspect slash) (sym empty) ∙ none)) (clean (slash ∷ x) none) (λ e. left (slash ∷ x) e none)

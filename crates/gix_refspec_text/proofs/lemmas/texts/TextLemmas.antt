@@ -8,16 +8,13 @@ use Rattle.std.proofs.Common.{below_more}
 abbrev pub NoneFrom : ℕ → List ℕ → ℕ → Type 0
 NoneFrom b x n = (k : ℕ) → n ≤ k → k < length x → ¬ ((get_or x k 0 == b) ≡ true)
 
--- x lacks b if no index of x has it
 pub Lacks-from_indexes : (b : ℕ) (x : List ℕ) → ((k : ℕ) → k < length x → ¬ ((get_or x k 0 == b) ≡ true)) → Lacks b x
 Lacks-from_indexes b [] none = tt
 Lacks-from_indexes b (c ∷ x) none = (λ e. none 0 (omega arith) (eq-eqb c b e), Lacks-from_indexes b x (λ k below. none (suc k) (omega arith)))
 
--- the text from n on lacks b, if no index from n on has it
 pub Lacks-drop : (b : ℕ) (x : List ℕ) (n : ℕ) → NoneFrom b x n → Lacks b (drop n x)
 Lacks-drop b x n none = Lacks-from_indexes b (drop n x) (λ k below. rw get_or-drop (none (n + k) (omega arith) (omega (arith, length-drop n x))))
 
--- x is the text before an index, its byte, and the text after it
 pub split_at : (x : List ℕ) (n b : ℕ) → n < length x → get_or x n 0 ≡ b → x ≡ take n x ++ (b ∷ drop (suc n) x)
 split_at x n b inside here = sym (take-append-drop n x) ∙ ap (λ y. take n x ++ y) (drop-cons x n 0 inside ∙ ap (λ c. c ∷ drop (suc n) x) here)
 
@@ -25,7 +22,6 @@ split_at x n b inside here = sym (take-append-drop n x) ∙ ap (λ y. take n x +
 pub after_index : (x : List ℕ) (n : ℕ) → n < length x → take (length (drop n x) - 1) (drop 1 (drop n x)) ≡ drop (suc n) x
 after_index x n inside = rw (drop-drop, add-one) (take_all (length (drop n x) - 1) (drop (suc n) x) (omega (arith, length-drop n x, length-drop (suc n) x)))
 
--- a text is split at the last index of b
 pub split_at_last : (x front back : List ℕ) (n b : ℕ) → n < length x → (get_or x n 0 == b) ≡ true → NoneFrom b x (n + 1) → front ≡ take n x → back ≡ drop n x → (x ≡ front ++ (b ∷ take (length back - 1) (drop 1 back))) × Lacks b (take (length back - 1) (drop 1 back))
 split_at_last x front back n b inside here none front_is back_is =
     let rest : take (length back - 1) (drop 1 back) ≡ drop (suc n) x = ap (λ y. take (length y - 1) (drop 1 y)) back_is ∙ after_index x n inside in
@@ -42,18 +38,15 @@ found_by : (b : ℕ) (x : List ℕ) (n : ℕ) (test : Bool) → n < length x →
 found_by b x n true inside is none = record { before = take n x; after = drop (suc n) x; here = split_at x n b inside (eqb-true (get_or x n 0) b is) }
 found_by b x n false inside is none = below_more (λ k. ¬ ((get_or x k 0 == b) ≡ true)) n none (λ here. false≢true (sym is ∙ here))
 
--- one more index is checked
 pub found_further : (b : ℕ) (x : List ℕ) (n : ℕ) (found : Bool) → n < length x → FoundBefore b x n found → FoundBefore b x (n + 1) (found || nat_eq (get_or x n 0) b)
 found_further b x n found inside known = grind (arith, found_by)
 
--- all indexes were checked
 pub found_whole : (b : ℕ) (x : List ℕ) (n : ℕ) (found : Bool) → length x ≤ n → FoundBefore b x n found → MatchBool found (ContainsText (b ∷ []) x) (Lacks b x)
 found_whole b x n found past known = grind (arith, Lacks-from_indexes)
 
 pub Lacks-ContainsText : (b : ℕ) (x : List ℕ) → Lacks b x → ContainsText (b ∷ []) x → ⊥
 Lacks-ContainsText b x lacks holds = Lacks-here b holds.before holds.after (subst (Lacks b) holds.here lacks)
 
--- a text that doesn't contain b lacks it
 pub Lacks-from_absent : (b : ℕ) (x : List ℕ) → ¬ (ContainsText (b ∷ []) x) → Lacks b x
 Lacks-from_absent b [] absent = tt
 Lacks-from_absent b (c ∷ x) absent = (
@@ -61,7 +54,6 @@ Lacks-from_absent b (c ∷ x) absent = (
   Lacks-from_absent b x (λ holds. absent (record { before = c ∷ holds.before; after = holds.after; here = ap (λ y. c ∷ y) holds.here })),
 )
 
--- a text that contains b once doesn't contain it twice
 pub one_not_two : (b : ℕ) (u v p q r : List ℕ) → Lacks b u → Lacks b v → u ++ (b ∷ v) ≡ p ++ (b ∷ (q ++ (b ∷ r))) → ⊥
 one_not_two b [] v [] q r lacks_u lacks_v same = let rest : v ≡ q ++ (b ∷ r) = cc in Lacks-here b q r (subst (Lacks b) rest lacks_v)
 one_not_two b [] v (c ∷ p) q r lacks_u lacks_v same = let rest : v ≡ p ++ (b ∷ (q ++ (b ∷ r))) = cc in Lacks-here b p (q ++ (b ∷ r)) (subst (Lacks b) rest lacks_v)

@@ -1,4 +1,3 @@
--- A text without stars that is a name with letters for its stars is a name.
 use Rattle.gix_refspec_text.proofs.Common.{ap, ◌∙◌, one_if}
 use Rattle.gix_refspec_text.proofs.lemmas.texts.LetterLemmas.{Lacks-count_by, name_without_stars}
 use Rattle.gix_refspec_text.proofs.name.fault_of.Goals as goal

@@ -6,20 +6,17 @@ use Rattle.gix_refspec_text.proofs.name.found_fault.Goals as goal
 pub loop-index-init : goal.loop-index-init
 loop-index-init c = IsClean-start
 
--- the byte at the index adds the fault
 pub returns-in-Some : goal.returns-in-Some
 returns-in-Some c =
     let x = c.args.text.now in
     HasFault-added x c.in-Some.fault (full_from_test x c.if-is_empty.ensures) (added_at x c.loop-index.index _ (omega arith) c.in-Some.ensures)
 
--- one more byte adds none
 pub loop-index-preserved : goal.loop-index-preserved
 loop-index-preserved c =
     let x = c.args.text.now in
     let i = c.loop-index.index in
     subst IsClean (sym (one_more x i (omega arith))) (IsClean-more (slash ∷ take i x) (get_or x i 0) c.loop-index.invariant c.in_default.ensures)
 
--- no byte adds a fault, so the end decides
 pub returns : goal.returns
 returns c =
     let x = c.args.text.now in

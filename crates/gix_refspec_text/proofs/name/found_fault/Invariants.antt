@@ -1,6 +1,5 @@
 use Rattle.gix_refspec_text.proofs.Common.{◌∷◌, take, slash, IsClean}
 use Rattle.gix_refspec_text.proofs.name.found_fault.Given as goal
 
--- no fault so far
 abbrev pub invariant-loop-index : goal.invariant-loop-index
 invariant-loop-index l = IsClean (slash ∷ take l.index l.text)

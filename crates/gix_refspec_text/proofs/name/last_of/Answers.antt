@@ -1,4 +1,3 @@
--- The text is its other bytes followed by its last byte.
 use Rattle.gix_refspec_text.proofs.lemmas.texts.NameLemmas.{ends_last}
 use Rattle.gix_refspec_text.proofs.name.last_of.Goals as goal
 

@@ -3,17 +3,14 @@ use Rattle.gix_refspec_text.proofs.lemmas.texts.LetterLemmas.{second_star, scann
 use Rattle.gix_refspec_text.proofs.name.scanned_to.Goals as goal
 use Rattle.gix_refspec_text.proofs.name.scanned_to.Goals.{then-byte-eq42+else-starred, else-byte-eq42+in_default}
 
--- a plain byte isn't a star, and adds no fault
 pub loop-index-preserved-then-is_plain : goal.loop-index-preserved-then-is_plain
 loop-index-preserved-then-is_plain c =
     let i = c.loop-index.index in
     scanned_other c.args.text.now i c.loop-index.starred (omega arith) (c.if-is_plain.ensures (slash ∷ take i c.args.text.now)) c.loop-index.invariant
 
--- there is a star already, and this is another
 pub returns-then-starred : goal.returns-then-starred
 returns-then-starred c = search (arith, second_star)
 
--- the byte at the index adds the fault, and isn't a star
 pub returns-in-Some : goal.returns-in-Some
 returns-in-Some c =
     let x = c.args.text.now in
@@ -33,7 +30,6 @@ loop-index-preserved c =
       | else-byte-eq42+in_default w ↦ subst (λ s. IsScanned x (i + 1) s) (sym w.starred-is) (scanned_other x i c.loop-index.starred (omega arith) w.in_default.ensures c.loop-index.invariant)
     ]
 
--- all bytes before the index `to` were scanned
 pub returns : goal.returns
 returns c =
     let done : c.loop-index.index ≡ c.args.to = omega arith in

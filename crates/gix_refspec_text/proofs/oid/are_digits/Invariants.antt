@@ -2,6 +2,5 @@ use Rattle.gix_refspec_text.proofs.Common.{◌≡◌, take, list_all}
 use Rattle.hex.specs.Hex.{is_hex_digit}
 use Rattle.gix_refspec_text.proofs.oid.are_digits.Given as goal
 
--- whether the bytes so far are digits
 abbrev pub invariant-loop-byte : goal.invariant-loop-byte
 invariant-loop-byte l = l.all ≡ list_all is_hex_digit (take l.byte-index l.text)

@@ -1,4 +1,3 @@
--- 40 or 64 digits spell an id, and nothing else does.
 use Rattle.gix_refspec_text.proofs.Common.{length}
 use Rattle.gix_refspec_text.proofs.lemmas.texts.ObjectIdLemmas.{IsId-by_digits, id_size}
 use Rattle.gix_refspec_text.proofs.oid.is_id.Goals as goal

@@ -1,4 +1,3 @@
--- Each index is checked.
 use Rattle.gix_refspec_text.proofs.Common.{arith}
 use Rattle.gix_refspec_text.proofs.lemmas.texts.TextLemmas.{found_further, found_whole}
 use Rattle.gix_refspec_text.proofs.split.contains.Goals as goal

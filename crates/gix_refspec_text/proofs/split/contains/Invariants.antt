@@ -1,4 +1,3 @@
--- the byte was found, or is at none of the indexes so far
 use Rattle.gix_refspec_text.proofs.lemmas.texts.TextLemmas.{FoundBefore}
 use Rattle.gix_refspec_text.proofs.split.contains.Given as goal
 

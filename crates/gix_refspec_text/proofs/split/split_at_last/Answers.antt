@@ -1,4 +1,3 @@
--- The text after the found index begins at the next index.
 use Rattle.gix_refspec_text.proofs.lemmas.texts.TextLemmas.{split_at_last}
 use Rattle.gix_refspec_text.proofs.split.split_at_last.Goals as goal
 

@@ -1,4 +1,3 @@
--- If the text is as long as an id, its digits are decoded.
 use Rattle.gix_refspec_text.proofs.Common.{replicate, refl, sym, ◌∙◌, MatchBool-at_true, MatchBool-at_false}
 use Rattle.gix_refspec_text.proofs.lemmas.texts.ObjectIdLemmas.{read_id}
 use Rattle.gix_refspec_text.proofs.oid.ObjectId.from_hex.Goals as goal

@@ -3,7 +3,6 @@ use Rattle.hex.specs.Hex.{encode_lower}
 use Rattle.gix_refspec_text.proofs.lemmas.texts.ObjectIdLemmas.{IsOk-unless, IsUtf8-lower_of}
 use Rattle.gix_refspec_text.proofs.oid.ObjectIdDisplay.fmt.Goals as goal
 
--- the digits are ASCII
 pub unwrap-requires-2 : goal.unwrap-requires-2
 unwrap-requires-2 g c =
     let written : c.encode_to_slice.new.output ≡ encode_lower c.as_slice.result.now = rw c.unwrap.ensures at c.encode_to_slice.ensures.written in

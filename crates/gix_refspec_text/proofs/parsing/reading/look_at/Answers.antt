@@ -1,4 +1,3 @@
--- A side with a star is a pattern, and one without is a name.
 use Rattle.gix_refspec_text.proofs.Common.{ap, ◌∙◌, one_if}
 use Rattle.gix_refspec_text.proofs.lemmas.texts.LetterLemmas.{Lacks-count_by, HasOneStar-count_by, name_without_stars, pattern_with_letter}
 use Rattle.gix_refspec_text.proofs.parsing.reading.look_at.Goals as goal

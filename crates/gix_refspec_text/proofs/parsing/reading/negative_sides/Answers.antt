@@ -1,4 +1,3 @@
--- A negative spec with a checked source that isn't empty and doesn't look like an object hash.
 use Rattle.gix_refspec_text.proofs.Common.{None, refl, ap, ◌∙◌, false≢true, LooksLikeObjectHash, AreParts, named_by, Negative, NegativeObjectHash, mode_of, side_of}
 use Rattle.gix_refspec_text.proofs.lemmas.parsing.SideLemmas.{none_from_test}
 use Rattle.gix_refspec_text.proofs.lemmas.parsing.ReasonLemmas.{reason_against_object}

@@ -1,4 +1,3 @@
--- A name has no star, nor has a side that is neither a name nor a pattern.
 use Rattle.gix_refspec_text.proofs.Common.{inl, inr, subst, IsLook}
 use Rattle.gix_refspec_text.proofs.lemmas.parsing.SideLemmas.{Lacks-name}
 use Rattle.gix_refspec_text.proofs.parsing.reading.starred.Goals as goal

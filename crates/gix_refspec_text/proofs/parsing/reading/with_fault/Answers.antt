@@ -1,4 +1,3 @@
--- The fault is one of the side, or of the side with a letter for its one star.
 use Rattle.gix_refspec_text.proofs.Common.{refl, ReferenceName, with_letters}
 use Rattle.gix_refspec_text.proofs.lemmas.texts.LetterLemmas.{fault_without_stars, replaces_one}
 use Rattle.gix_refspec_text.proofs.parsing.reading.with_fault.Goals as goal

@@ -1,4 +1,3 @@
--- The text that reads as it.
 use Rattle.gix_refspec_text.proofs.Common.{bstr_bytes}
 use Rattle.gix_refspec_text.proofs.lemmas.specs.DestinationLemmas.{alone_accepted}
 use Rattle.gix_refspec_text.proofs.spec.RefSpecRef.fetch_of.Goals as goal

@@ -1,4 +1,3 @@
--- The text that reads as it.
 use Rattle.gix_refspec_text.proofs.Common.{ℕ, List, Some, sym, subst, Fetch, Normal, IsAccepted}
 use Rattle.gix_refspec_text.proofs.lemmas.specs.DestinationLemmas.{all_tags_accepted}
 use Rattle.gix_refspec_text.proofs.spec.RefSpecRef.fetch_of_all_tags.Goals as goal

@@ -1,4 +1,3 @@
--- The side on the remote has no prefix.
 use Rattle.gix_refspec_text.proofs.Common.{List, ℕ, subst, sym, MatchOption, bstr_bytes, HasPrefix, IsPrefix, reading_of}
 use Rattle.gix_refspec_text.proofs.lemmas.prefixes.PrefixLemmas.{one_asked}
 use Rattle.gix_refspec_text.proofs.spec.RefSpecRef.prefix.Goals as goal

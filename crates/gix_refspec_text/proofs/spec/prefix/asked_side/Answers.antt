@@ -1,4 +1,3 @@
--- No side of an accepted spec has several stars.
 use Rattle.gix_refspec_text.proofs.Common.{rules, IsAsked, reading_of}
 use Rattle.gix_refspec_text.proofs.lemmas.specs.AcceptedLemmas.{remote_few}
 use Rattle.gix_refspec_text.proofs.spec.prefix.asked_side.Goals as goal

@@ -1,4 +1,3 @@
--- The kind of the source decides.
 use Rattle.gix_refspec_text.proofs.Common.{refl}
 use Rattle.gix_refspec_text.proofs.lemmas.prefixes.PrefixLemmas.{told_name, told_pattern}
 use Rattle.gix_refspec_text.proofs.spec.prefix.is_covering.Goals as goal

@@ -1,4 +1,3 @@
--- The text before the star continues after `refs/`, and the pattern contains no bracket.
 use Rattle.gix_refspec_text.proofs.lemmas.prefixes.PrefixLemmas.{told_clear, told_bracket}
 use Rattle.gix_refspec_text.proofs.spec.prefix.is_ref_prefix.Goals as goal
 

@@ -1,4 +1,3 @@
--- The prefix of a pattern is the text before its star, if it has a prefix.
 use Rattle.gix_refspec_text.proofs.Common.{subst, sym, MatchOption, HasNoPrefix, IsPrefix}
 use Rattle.gix_refspec_text.proofs.lemmas.prefixes.PrefixLemmas.{pattern_prefix}
 use Rattle.gix_refspec_text.proofs.spec.prefix.prefix_of.Goals as goal
