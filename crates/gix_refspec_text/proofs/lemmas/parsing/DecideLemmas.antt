@@ -1,11 +1,11 @@
 -- Each text is a name or has a fault, and each side is valid or bad for a reason.
-use Rattle.gix_refspec_text.proofs.Common.{arith, ◌≡◌, ◌≢◌, ◌⊎◌, inl, inr, ℕ, Bool, true, false, List, [], ◌∷◌, ◌++◌, codes, nat_eq, refl, sym, ap, ◌∙◌, subst, append_assoc, length, take, ◌-◌}
-use Rattle.gix_refspec_text.proofs.Common.{ends_with, ends_is, false≢true, append-nil, Decides-eqb, Error, Empty, EmptyComponent, StartsWithDot, LockSuffix, EndsWithDot, RepeatedDot, ReflogPortion}
-use Rattle.gix_refspec_text.proofs.Common.{Asterisk, InvalidByte, Lacks, EndsWith, slash, star, dot, brace, is_refused_byte, HasFault, IsName, AddsFault, LeavesFault, Added, IsClean, cases_Bool}
-use Rattle.gix_refspec_text.proofs.Common.{cases_eq, Option, None, Some, unwrap_or, nat_le, is_ascii_hexdigit, leb-true, le-leb, Operation, Push, Fetch, Shape, Plain, Pattern, letter, plus, caret}
-use Rattle.gix_refspec_text.proofs.Common.{colon, ReplacesStar, Mode, Normal, Forced, Negative, Reading, Refusal, NegativeWithDestination, PushToEmpty, PatternUnsupported, ReferenceName}
-use Rattle.gix_refspec_text.proofs.Common.{PatternUnbalanced, NegativeEmpty, NegativeObjectHash, IsBadPattern, IsFirstReason, IsRefused, IsSigned, IsPositive, with_colon, LastLacksColon}
-use Rattle.gix_refspec_text.proofs.Common.{LooksLikeObjectHash, Reads, HasShape, HasCheckedShape, IsBadSide, list_all, ◌&&◌, and_parts, and_from, AllPass-from_list_all, list_all-from_AllPass}
+use Rattle.gix_refspec_text.proofs.Common.{AreParts, arith, ◌≡◌, ◌≢◌, ◌⊎◌, inl, inr, ℕ, Bool, true, false, List, [], ◌∷◌, ◌++◌, codes, nat_eq, refl, sym, ap, ◌∙◌, subst, append_assoc, length, take}
+use Rattle.gix_refspec_text.proofs.Common.{◌-◌, ends_with, ends_is, false≢true, append-nil, Decides-eqb, Error, Empty, EmptyComponent, StartsWithDot, LockSuffix, EndsWithDot, RepeatedDot}
+use Rattle.gix_refspec_text.proofs.Common.{ReflogPortion, Asterisk, InvalidByte, Lacks, EndsWith, slash, star, dot, brace, is_refused_byte, HasFault, IsName, AddsFault, LeavesFault, Added, IsClean}
+use Rattle.gix_refspec_text.proofs.Common.{cases_Bool, cases_eq, Option, None, Some, unwrap_or, nat_le, is_ascii_hexdigit, leb-true, le-leb, Operation, Push, Fetch, Shape, Plain, Pattern, letter}
+use Rattle.gix_refspec_text.proofs.Common.{plus, caret, colon, ReplacesStar, Mode, Normal, Forced, Negative, Reading, Refusal, NegativeWithDestination, PushToEmpty, PatternUnsupported, ReferenceName}
+use Rattle.gix_refspec_text.proofs.Common.{PatternUnbalanced, NegativeEmpty, NegativeObjectHash, IsBadPattern, IsFirstReason, IsRefused, IsSigned, IsPositive, LooksLikeObjectHash, Reads, HasShape}
+use Rattle.gix_refspec_text.proofs.Common.{HasCheckedShape, IsBadSide, list_all, ◌&&◌, and_parts, and_from, AllPass-from_list_all, list_all-from_AllPass}
 pub use Rattle.gix_refspec_text.proofs.lemmas.lists.LacksLemmas.{FirstIndex, lacks_or_first}
 use Rattle.gix_refspec_text.proofs.lemmas.lists.LacksLemmas.{lacks_or_last}
 use Rattle.gix_refspec_text.proofs.lemmas.texts.NameLemmas.{IsClean-more, IsClean-start, HasFault-added, HasFault-left, IsName-from_clean, end_leaves}
@@ -199,40 +199,23 @@ settled Push Forced s None = settled_push_alone Forced s tt
 settled Push Normal s (Some t) = settled_push Normal s t tt
 settled Push Forced s (Some t) = settled_push Forced s t tt
 
--- a text with its sign, or without one
-record Signs (text : List ℕ) : Type 0 where
-  mode : Mode
-  rest : List ℕ
-  signed : IsSigned mode text rest
-
-signs : (text : List ℕ) → Signs text
-signs [] = record { mode = Normal; rest = []; signed = (refl, tt) }
-signs (b ∷ x) = elim (cases_eq b plus) [
-  | inl same ↦ record { mode = Forced; rest = x; signed = ap (λ c. c ∷ x) same }
-  | inr no_plus ↦ elim (cases_eq b caret) [
-    | inl same ↦ record { mode = Negative; rest = x; signed = ap (λ c. c ∷ x) same }
-    | inr no_caret ↦ record { mode = Normal; rest = b ∷ x; signed = (refl, (no_plus, no_caret)) }
-  ]
-]
-
--- a text split at its last colon, or whole if it has none
-record Split (x : List ℕ) : Type 0 where
-  source : List ℕ
-  destination : Option (List ℕ)
-  whole : x ≡ with_colon source destination
-  last : LastLacksColon source destination
-
-split : (x : List ℕ) → Split x
-split x = elim (lacks_or_last colon x) [
-  | inl lacks ↦ record { source = x; destination = None; whole = refl; last = lacks }
-  | inr index ↦ record { source = index.before; destination = Some index.after; whole = index.here; last = index.last }
+parted_signed : (m : Mode) (text rest : List ℕ) → IsSigned m text rest → Parted text
+parted_signed m text rest signed = elim (lacks_or_last colon rest) [
+  | inl lacks ↦ record { mode = m; source = rest; destination = None; parts = record { signed = signed; last = lacks } }
+  | inr i ↦
+      let parts : AreParts m i.before (Some i.after) text = record { signed = subst (IsSigned m text) i.here signed; last = i.last } in
+      record { mode = m; source = i.before; destination = Some i.after; parts = parts }
 ]
 
 pub parted : (text : List ℕ) → Parted text
-parted text =
-    let s = signs text in
-    let c = split s.rest in
-    record { mode = s.mode; source = c.source; destination = c.destination; parts = record { signed = subst (IsSigned s.mode text) c.whole s.signed; last = c.last } }
+parted [] = parted_signed Normal [] [] (refl, tt)
+parted (b ∷ x) = elim (cases_eq b plus) [
+  | inl same ↦ parted_signed Forced (b ∷ x) x (ap (λ c. c ∷ x) same)
+  | inr no_plus ↦ elim (cases_eq b caret) [
+    | inl same ↦ parted_signed Negative (b ∷ x) x (ap (λ c. c ∷ x) same)
+    | inr no_caret ↦ parted_signed Normal (b ∷ x) (b ∷ x) (refl, (no_plus, no_caret))
+  ]
+]
 
 pub read_or_refused : (op : Operation) (text : List ℕ) → ((r : Reading) × Reads op text r) ⊎ ((e : Refusal) × IsRefused op text e)
 read_or_refused op text =

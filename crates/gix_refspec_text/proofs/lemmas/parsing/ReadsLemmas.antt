@@ -1,5 +1,5 @@
 -- A text with valid parts has the reading with their sides, and each text with a reading has valid parts.
-use Rattle.gix_refspec_text.proofs.Common.{arith, ◌≡◌, ◌≢◌, ◌⊎◌, inl, inr, ℕ, List, [], ◌∷◌, Option, None, Some, option_map, unwrap_or, refl, sym, ap, subst, Empty, Operation, Push, Fetch, Shape}
+use Rattle.gix_refspec_text.proofs.Common.{◌∙◌, arith, ◌≡◌, ◌≢◌, inl, inr, ℕ, List, [], ◌∷◌, Option, None, Some, option_map, unwrap_or, refl, sym, ap, subst, Empty, Operation, Push, Fetch, Shape}
 use Rattle.gix_refspec_text.proofs.Common.{Plain, Pattern, IsName, IsPattern, Mode, Normal, Forced, Negative, Reading, Refusal, Never, IsFirstReason, IsRefused, ReachesMemory, MayNeedMemory, named_by}
 use Rattle.gix_refspec_text.proofs.Common.{IsPositive, IsNameOrPattern, LooksLikeObjectHash, AreAlike, AreParts, fetched, pushed, Reads, fetches_nothing_named, fetches_colon, fetches, updates}
 use Rattle.gix_refspec_text.proofs.Common.{updates_from_head, fetch_excludes, pushes_plus, pushes_colon, pushes, deletes, pushes_pattern, pushes_to, push_excludes, mode_of, IsErrorOf, HasShape}
@@ -109,43 +109,90 @@ pub either_not_empty : (x : List ℕ) → IsNameOrPattern x → x ≢ []
 either_not_empty x (inl name) = name_not_empty x name
 either_not_empty x (inr pattern) = pattern_not_empty x pattern
 
--- a text with its parts, which are valid
-pub record FineParts (op : Operation) (text : List ℕ) : Type 0 where
+pub alike_full : (s d : List ℕ) → AreAlike s d → (s ≢ []) × (d ≢ [])
+alike_full s d (inl names) = (name_not_empty s names.0, name_not_empty d names.1)
+alike_full s d (inr patterns) = (pattern_not_empty s patterns.0, pattern_not_empty d patterns.1)
+
+-- a text with its parts, which are valid and make the reading r
+pub record FineParts (op : Operation) (text : List ℕ) (r : Reading) : Type 0 where
   pub of : Parted text
   pub fine : AreFine op of.mode of.source of.destination
+  pub is : r ≡ made op of.mode of.source of.destination
 
-with_fine : (op : Operation) (m : Mode) (s : List ℕ) (d : Option (List ℕ)) (text : List ℕ) → AreParts m s d text → AreFine op m s d → FineParts op text
-with_fine op m s d text parts fine = record { of = record { mode = m; source = s; destination = d; parts = parts }; fine = fine }
+with_fine : (op o : Operation) (m : Mode) (s : List ℕ) (d : Option (List ℕ)) (text : List ℕ) (r : Reading)
+    → op ≡ o → r ≡ made o m s d → AreParts m s d text → AreFine op m s d → FineParts op text r
+with_fine op o m s d text r same is parts fine = record {
+  of = record { mode = m; source = s; destination = d; parts = parts };
+  fine = fine;
+  is = is ∙ sym (ap (λ (x : Operation). made x m s d) same);
+}
+
+source_full : (op : Operation) (s : List ℕ) → s ≢ [] → source_of op s ≡ Some (named_by s)
+source_full op s full = grind (arith, side_of-named)
+
+pub side_of-full : (s : List ℕ) → s ≢ [] → side_of s ≡ Some s
+side_of-full s full = grind arith
+
+-- readings with a source, and with a destination, as parts make them
+named_made : (o : Operation) (m : Mode) (s : List ℕ) (t : Option (List ℕ)) (r : Reading) → s ≢ []
+    → r ≡ record { operation = o; mode = m; source = Some (named_by s); destination = t }
+    → r ≡ record { operation = o; mode = m; source = source_of o s; destination = t }
+named_made o m s t r full is = is ∙ same_reading o m _ _ t t (sym (source_full o s full)) refl
+
+aimed_made : (o : Operation) (m : Mode) (s : Option (List ℕ)) (d : List ℕ) (r : Reading) → d ≢ []
+    → r ≡ record { operation = o; mode = m; source = s; destination = Some d }
+    → r ≡ record { operation = o; mode = m; source = s; destination = side_of d }
+aimed_made o m s d r full is = is ∙ same_reading o m s s _ _ refl (sym (side_of-full d full))
 
 alike_fine : (op : Operation) (m : Mode) (s d : List ℕ) → op ≡ Fetch → IsPositive m → AreAlike s d → AreFine op m s (Some d)
 alike_fine op m s d fetch pos (inl names) = fine_fetch Plain fetch pos (checked_name s names.0) (checked_name d names.1)
 alike_fine op m s d fetch pos (inr patterns) = fine_fetch Pattern fetch pos (checked_from_pattern s patterns.0) (checked_from_pattern d patterns.1)
 
-one_fine : (op : Operation) (m : Mode) (s text : List ℕ) → op ≡ Fetch → IsPositive m → IsName s → AreParts m s None text ⊎ AreParts m s (Some []) text → FineParts op text
-one_fine op m s text fetch pos name (inl parts) = with_fine op m s None text parts (fine_fetch Plain fetch pos (checked_name s name) tt)
-one_fine op m s text fetch pos name (inr parts) = with_fine op m s (Some []) text parts (fine_fetch Plain fetch pos (checked_name s name) tt)
-
-negative_fine : (op : Operation) (s text : List ℕ) → AreParts Negative s None text → IsNameOrPattern s → ¬ (LooksLikeObjectHash s) → FineParts op text
-negative_fine op s text parts either hash =
+negative_fine : (op o : Operation) (s text : List ℕ) (r : Reading) → op ≡ o → AreParts Negative s None text → IsNameOrPattern s
+    → ¬ (LooksLikeObjectHash s) → r ≡ record { operation = o; mode = Negative; source = Some (named_by s); destination = None }
+    → FineParts op text r
+negative_fine op o s text r same parts either hash is =
     let side = checked_either s either in
-    with_fine op Negative s None text parts (fine_negative side.0 refl refl (either_not_empty s either) side.1 hash)
+    let full = either_not_empty s either in
+    with_fine op o Negative s None text r same (named_made o Negative s None r full is) parts
+        (fine_negative side.0 refl refl full side.1 hash)
 
-pub fine_parts : (op : Operation) (text : List ℕ) (r : Reading) → Reads op text r → FineParts op text
-fine_parts op text r (fetches_nothing_named m fetch pos parts _) = with_fine op m [] None text parts (fine_fetch Plain fetch pos tt tt)
-fine_parts op text r (fetches_colon m fetch pos parts _) = with_fine op m [] (Some []) text parts (fine_fetch Plain fetch pos tt tt)
-fine_parts op text r (fetches m s fetch pos parts name _) = one_fine op m s text fetch pos name parts
-fine_parts op text r (updates m s d fetch pos parts alike _) = with_fine op m s (Some d) text parts (alike_fine op m s d fetch pos alike)
-fine_parts op text r (updates_from_head m d fetch pos parts name _) = with_fine op m [] (Some d) text parts (fine_fetch Plain fetch pos tt (checked_name d name))
-fine_parts op text r (fetch_excludes s fetch parts either hash _) = negative_fine op s text parts either hash
-fine_parts op text r (pushes_plus push parts _) = with_fine op Forced [] None text parts (fine_alone Plain push tt refl (λ _ forced. cc) tt)
-fine_parts op text r (pushes_colon m push pos parts _) = with_fine op m [] (Some []) text parts (fine_push Plain [] push pos refl (λ full _. full refl) tt tt)
-fine_parts op text r (pushes m s push pos parts either _) =
+pub fine_parts : (op : Operation) (text : List ℕ) (r : Reading) → Reads op text r → FineParts op text r
+fine_parts op x r (fetches_nothing_named m f pos p is) = with_fine op Fetch m [] None x r f is p (fine_fetch Plain f pos tt tt)
+fine_parts op x r (fetches_colon m f pos p is) = with_fine op Fetch m [] (Some []) x r f is p (fine_fetch Plain f pos tt tt)
+fine_parts op x r (fetches m s f pos (inl p) name is) =
+    let same = named_made Fetch m s None r (name_not_empty s name) is in
+    with_fine op Fetch m s None x r f same p (fine_fetch Plain f pos (checked_name s name) tt)
+fine_parts op x r (fetches m s f pos (inr p) name is) =
+    let same = named_made Fetch m s None r (name_not_empty s name) is in
+    with_fine op Fetch m s (Some []) x r f same p (fine_fetch Plain f pos (checked_name s name) tt)
+fine_parts op x r (updates m s d f pos p alike is) =
+    let full = alike_full s d alike in
+    let same = aimed_made Fetch m _ d r full.1 (named_made Fetch m s (Some d) r full.0 is) in
+    with_fine op Fetch m s (Some d) x r f same p (alike_fine op m s d f pos alike)
+fine_parts op x r (updates_from_head m d f pos p name is) =
+    let same = aimed_made Fetch m _ d r (name_not_empty d name) is in
+    with_fine op Fetch m [] (Some d) x r f same p (fine_fetch Plain f pos tt (checked_name d name))
+fine_parts op x r (fetch_excludes s f p either hash is) = negative_fine op Fetch s x r f p either hash is
+fine_parts op x r (pushes_plus f p is) = with_fine op Push Forced [] None x r f is p (fine_alone Plain f tt refl (λ _ forced. cc) tt)
+fine_parts op x r (pushes_colon m f pos p is) =
+    with_fine op Push m [] (Some []) x r f is p (fine_push Plain [] f pos refl (λ full _. full refl) tt tt)
+fine_parts op x r (pushes m s f pos p either is) =
     let side = checked_either s either in
-    with_fine op m s None text parts (fine_alone side.0 push pos refl (λ empty _. either_not_empty s either empty) side.1)
-fine_parts op text r (deletes m d push pos parts name _) = with_fine op m [] (Some d) text parts (fine_push Plain d push pos refl (λ full _. full refl) tt (checked_name d name))
-fine_parts op text r (pushes_pattern m s d push pos parts source destination _) = with_fine op m s (Some d) text parts (fine_push Pattern d push pos refl (λ _ empty. pattern_not_empty d destination empty) source (checked_from_pattern d destination))
-fine_parts op text r (pushes_to m s d push pos parts full plain name _) = with_fine op m s (Some d) text parts (fine_push Plain d push pos refl (λ _ empty. name_not_empty d name empty) plain (checked_name d name))
-fine_parts op text r (push_excludes s push parts either hash _) = negative_fine op s text parts either hash
+    let full = either_not_empty s either in
+    with_fine op Push m s None x r f (named_made Push m s None r full is) p (fine_alone side.0 f pos refl (λ empty _. full empty) side.1)
+fine_parts op x r (deletes m d f pos p name is) =
+    let same = aimed_made Push m None d r (name_not_empty d name) is in
+    with_fine op Push m [] (Some d) x r f same p (fine_push Plain d f pos refl (λ full _. full refl) tt (checked_name d name))
+fine_parts op x r (pushes_pattern m s d f pos p of_s of_d is) =
+    let full = pattern_not_empty d of_d in
+    let same = aimed_made Push m _ d r full (named_made Push m s (Some d) r (pattern_not_empty s of_s) is) in
+    with_fine op Push m s (Some d) x r f same p (fine_push Pattern d f pos refl (λ _ empty. full empty) of_s (checked_from_pattern d of_d))
+fine_parts op x r (pushes_to m s d f pos p some plain name is) =
+    let full = name_not_empty d name in
+    let same = aimed_made Push m _ d r full (named_made Push m s (Some d) r some is) in
+    with_fine op Push m s (Some d) x r f same p (fine_push Plain d f pos refl (λ _ empty. full empty) plain (checked_name d name))
+fine_parts op x r (push_excludes s f p either hash is) = negative_fine op Push s x r f p either hash is
 
 none_first : (op : Operation) (m : Mode) (s : List ℕ) (d : Option (List ℕ)) → NoReasonBeforeSource op m s d → Never (HasBadSource op s d) → Never (HasBadDestination d) → Never (IsUnbalanced op m s d) → Never (ExcludesNothing m s)
     → Never (ExcludesObject m s) → Never (IsFirstReason op m s d)
@@ -156,15 +203,12 @@ pub no_reason : (op : Operation) (m : Mode) (s : List ℕ) (d : Option (List ℕ
 no_reason op m s d h e =
     grind (arith, none_first, fetch_reaches, fetch_source_fine, destination_fine, sides_balanced, checked_starred, positive, push_alone_reaches, alone_fine, push_reaches, push_source_fine, negative_reaches)
 
-pub fine_of : (op : Operation) (m : Mode) (s : List ℕ) (d : Option (List ℕ)) (text : List ℕ) (r : Reading)
-    → AreParts m s d text → Reads op text r → AreFine op m s d
-fine_of op m s d text r parts reads =
-    let p = fine_parts op text r reads in
-    let same = parts_once p.of.mode m p.of.source s p.of.destination d text p.of.parts parts in
-    rw (same.mode, same.source, same.destination) at p.fine
-
 pub unread : (op : Operation) (m : Mode) (s : List ℕ) (d : Option (List ℕ)) (text : List ℕ) (e : Refusal) (r : Reading) → AreParts m s d text → IsFirstReason op m s d e → ¬ (Reads op text r)
-unread op m s d text e r parts first reads = no_reason op m s d (fine_of op m s d text r parts reads) e first
+unread op m s d text e r parts first reads =
+    let fine = fine_parts op text r reads in
+    let p = fine.of in
+    let same = parts_once m p.mode s p.source d p.destination text parts p.parts in
+    no_reason op p.mode p.source p.destination fine.fine e (rw (same.mode, same.source, same.destination) at first)
 
 pub refused : (op : Operation) (m : Mode) (s : List ℕ) (d : Option (List ℕ)) (text : List ℕ) (e : Refusal) → AreParts m s d text → IsFirstReason op m s d e → IsRefused op text e
 refused op m s d text e parts first = record { unread = λ r. unread op m s d text e r parts first; mode = m; source = s; destination = d; parts = parts; first = first }

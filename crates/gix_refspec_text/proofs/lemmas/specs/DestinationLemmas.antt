@@ -6,8 +6,7 @@ use Rattle.gix_refspec_text.proofs.lemmas.texts.TextLemmas.{Lacks-ContainsText}
 use Rattle.gix_refspec_text.proofs.lemmas.texts.HeadLemmas.{Lacks-colon_name}
 use Rattle.gix_refspec_text.proofs.lemmas.parsing.SideLemmas.{HasStar-pattern, empty_no_pattern}
 use Rattle.gix_refspec_text.proofs.lemmas.specs.FormsBackLemmas.{colon_unsigned, unsigned_front, is_forced}
-use Rattle.gix_refspec_text.proofs.lemmas.parsing.ReadsLemmas.{AreFine, fine_fetch, fine_alone, fine_push, fine_negative, fine_of, fine_reads, checked_name, name_not_empty}
-use Rattle.gix_refspec_text.proofs.lemmas.parsing.ReadOnceLemmas.{is_made, side_of-full}
+use Rattle.gix_refspec_text.proofs.lemmas.parsing.ReadsLemmas.{AreFine, fine_fetch, fine_alone, fine_push, fine_negative, fine_parts, side_of-full, fine_reads, checked_name, name_not_empty}
 use Rattle.gix_refspec_text.proofs.facts.ManualFacts.{parts, IsPattern-tested}
 
 starred_destination : (x : List ℕ) → IfSome (side_of x) (Lacks star) → HasCheckedShape x Pattern → ⊥
@@ -39,10 +38,10 @@ new_parts Negative s d new text positive parts lacks = absurd positive
 replaced_read : (op : Operation) (text : List ℕ) (r : Reading) (new : List ℕ) → IsSome r.destination
     → IfSome r.destination (Lacks star) → IsName new → Reads op text r → IsAccepted (with_destination r new)
 replaced_read op text r new some lacks name reads =
-    let made = is_made op text r reads in
-    let p = made.of in
-    let is = made.is in
-    let fine = new_fine op p.mode p.source p.destination new (fine_of op p.mode p.source p.destination text r p.parts reads)
+    let parted = fine_parts op text r reads in
+    let p = parted.of in
+    let is = parted.is in
+    let fine = new_fine op p.mode p.source p.destination new parted.fine
         (subst (λ (q : Reading). IsSome q.destination) is some)
         (subst (λ (q : Reading). IfSome q.destination (Lacks star)) is lacks) name in
     let parts = new_parts p.mode p.source p.destination new text fine.1 p.parts (Lacks-colon_name new name) in

@@ -8,8 +8,8 @@ use Rattle.gix_refspec_text.proofs.Common.{same_Some, ◌==◌, true, false, if�
 use Rattle.gix_refspec_text.proofs.lemmas.parsing.SideLemmas.{Lacks-name, HasStar-pattern}
 use Rattle.gix_refspec_text.proofs.lemmas.parsing.DecideLemmas.{tested, read_or_refused}
 use Rattle.gix_refspec_text.proofs.lemmas.texts.HeadLemmas.{IsName-head, Lacks-colon_name, unsigned_name, Lacks-colon_pattern}
-use Rattle.gix_refspec_text.proofs.lemmas.parsing.ReadsLemmas.{name_not_empty, pattern_not_empty, either_not_empty}
-use Rattle.gix_refspec_text.proofs.lemmas.parsing.ReadOnceLemmas.{reads_once, alike_full}
+use Rattle.gix_refspec_text.proofs.lemmas.parsing.ReadsLemmas.{alike_full, name_not_empty, pattern_not_empty, either_not_empty}
+use Rattle.gix_refspec_text.proofs.lemmas.parsing.ReadOnceLemmas.{reads_once}
 use Rattle.gix_refspec_text.proofs.lemmas.texts.TextLemmas.{Lacks-ContainsText}
 
 -- a reading is printed back, given its meaning and the reading of its canonical text
@@ -23,10 +23,10 @@ printed_back op r q m means reads again = record {
 }
 
 pub head_unsigned : (72 ≢ plus) × (72 ≢ caret)
-head_unsigned = ((λ same. omega arith), (λ same. omega arith))
+head_unsigned = omega arith
 
 pub colon_unsigned : (colon ≢ plus) × (colon ≢ caret)
-colon_unsigned = ((λ same. omega arith), (λ same. omega arith))
+colon_unsigned = omega arith
 
 pub named_by-cases : (s : List ℕ) → (named_by s ≡ head) ⊎ (named_by s ≡ s)
 named_by-cases s = grind arith

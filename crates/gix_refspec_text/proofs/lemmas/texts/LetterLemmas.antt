@@ -35,36 +35,26 @@ unfolding stars
 no_stars [] lacks = refl
 no_stars (b ∷ x) lacks = stars-other b x lacks.0 ∙ no_stars x lacks.1
 
-Lacks-no_stars : (x : List ℕ) → stars x ≡ 0 → Lacks star x
-Lacks-no_stars x none = elim (lacks_or_first star x) [
+pub Lacks-count_by : (x : List ℕ) → count_by (λ b. b == star) x ≡ 0 → Lacks star x
+unfolding stars
+Lacks-count_by x none = elim (lacks_or_first star x) [
   | inl lacks ↦ lacks
   | inr index ↦ absurd (omega (arith, none, stars-split x index.before index.after index.here))
 ]
 
-has_one_star : (x : List ℕ) → stars x ≡ 1 → HasOneStar x
-has_one_star x one = elim (lacks_or_first star x) [
+pub HasOneStar-count_by : (x : List ℕ) → count_by (λ b. b == star) x ≡ 1 → HasOneStar x
+unfolding stars
+HasOneStar-count_by x one = elim (lacks_or_first star x) [
   | inl lacks ↦ absurd (omega (arith, one, no_stars x lacks))
   | inr index ↦
-      let split = stars-split x index.before index.after index.here in
-      let last = Lacks-no_stars index.after (omega (arith, one, split)) in
+      let last = Lacks-count_by index.after (omega (arith, one, stars-split x index.before index.after index.here)) in
       (index.before, index.after, record { starred = index.here; first = index.first; last = last })
 ]
 
-counted : (x : List ℕ) → HasOneStar x → stars x ≡ 1
-counted x (before, after, split) =
-    omega (arith, stars-split x before after split.starred, no_stars before split.first, no_stars after split.last)
-
-pub HasOneStar-count_by : (x : List ℕ) → count_by (λ b. b == star) x ≡ 1 → HasOneStar x
-unfolding stars
-HasOneStar-count_by x one = has_one_star x one
-
 pub count_by-HasOneStar : (x : List ℕ) → HasOneStar x → count_by (λ b. b == star) x ≡ 1
 unfolding stars
-count_by-HasOneStar x one = counted x one
-
-pub Lacks-count_by : (x : List ℕ) → count_by (λ b. b == star) x ≡ 0 → Lacks star x
-unfolding stars
-Lacks-count_by x none = Lacks-no_stars x none
+count_by-HasOneStar x (before, after, split) =
+    omega (arith, stars-split x before after split.starred, no_stars before split.first, no_stars after split.last)
 
 pub second_star : (x : List ℕ) (i : ℕ) → i < length x → get_or x i 0 ≡ star → count_by (λ b. b == star) (take i x) ≡ 1 → HasSeveralStars x
 second_star x i below here one =
@@ -104,13 +94,13 @@ abbrev IsKept : List ℕ → Type 0
 IsKept w = Lacks letter w × (with_letters w ≡ w)
 
 slash_kept : IsKept (codes "/")
-slash_kept = (((λ e. omega (arith, e)), tt), refl)
+slash_kept = (omega arith, refl)
 
 dot_kept : IsKept (codes ".")
-dot_kept = (((λ e. omega (arith, e)), tt), refl)
+dot_kept = (omega arith, refl)
 
 lock_kept : IsKept (codes ".lock")
-lock_kept = (((λ e. omega (arith, e)), ((λ e. omega (arith, e)), ((λ e. omega (arith, e)), ((λ e. omega (arith, e)), ((λ e. omega (arith, e)), tt))))), refl)
+lock_kept = (omega arith, refl)
 
 -- y ends with each such word that x ends with
 abbrev EndsAs : List ℕ → List ℕ → Type 0
@@ -230,16 +220,12 @@ calm_more x i s some below calm scanned =
     let last : EndsWith (get_or x (i - 1) 0 ∷ []) (slash ∷ take i x) = subst (λ j. EndsWith (get_or x (i - 1) 0 ∷ []) (slash ∷ take j x)) back (last_before x (i - 1) (omega (arith, some, below))) in
     scanned_other x i s below (calm_adds_nothing (slash ∷ take i x) (get_or x (i - 1) 0) (get_or x i 0) last calm) scanned
 
-pub calm_scanned : (m : ℕ) (x : List ℕ) (i : ℕ) (s : Bool) → 0 < i → i + m ≤ length x → AreCalm x i (i + m) → IsScanned x i s → IsScanned x (i + m) s
-calm_scanned zero x i s some room calm scanned = let same : i ≡ i + 0 = omega (arith) in subst (λ j. IsScanned x j s) same scanned
-calm_scanned (suc m) x i s some room calm scanned =
-    let one = calm_more x i s some (omega (arith, room)) (calm i (omega (arith)) (omega (arith))) scanned in
-    let rest = calm_scanned m x (i + 1) s (omega (arith)) (omega (arith, room)) (λ k from to. calm k (omega (arith, from)) (omega (arith, to))) one in
-    let same : i + 1 + m ≡ i + suc m = omega (arith) in
-    subst (λ j. IsScanned x j s) same rest
+calm_scanned : (m : ℕ) (x : List ℕ) (i b : ℕ) (s : Bool) → i + m ≡ b → 0 < i → b ≤ length x → AreCalm x i b → IsScanned x i s
+    → IsScanned x b s
+calm_scanned zero x i b s there some room calm scanned = let same : i ≡ b = omega arith in subst (λ j. IsScanned x j s) same scanned
+calm_scanned (suc m) x i b s there some room calm scanned =
+    calm_scanned m x (i + 1) b s (omega arith) (omega arith) room (λ k from to. calm k (omega arith) to)
+    (calm_more x i s some (omega arith) (calm i (omega arith) (omega arith)) scanned)
 
 pub calm_to : (x : List ℕ) (i b : ℕ) (s : Bool) → 0 < i → i ≤ b → b ≤ length x → AreCalm x i b → IsScanned x i s → IsScanned x b s
-calm_to x i b s some to room calm scanned =
-    let there : i + (b - i) ≡ b = omega (arith, to) in
-    let rest = calm_scanned (b - i) x i s some (omega (arith, there, room)) (λ k above below. calm k above (omega (arith, there, below))) scanned in
-    subst (λ j. IsScanned x j s) there rest
+calm_to x i b s some to room calm scanned = calm_scanned (b - i) x i b s (omega arith) some room calm scanned

@@ -78,7 +78,7 @@ dotted_component x p after here =
     (record { after = split.first; here = refl })
 
 dot_lock_whole : Lacks slash (codes ".lock")
-dot_lock_whole = ((λ e. omega (arith, e)), ((λ e. omega (arith, e)), ((λ e. omega (arith, e)), ((λ e. omega (arith, e)), ((λ e. omega (arith, e)), tt)))))
+dot_lock_whole = omega arith
 
 regroup : (a b c d : List ℕ) → ((a ++ b) ++ c) ++ d ≡ a ++ ((b ++ c) ++ d)
 regroup a b c d = simp append_assoc
