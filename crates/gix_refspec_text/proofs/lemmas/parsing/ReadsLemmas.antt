@@ -18,9 +18,7 @@ same_reading op m s t d e same_source same_destination = cc
 
 pub read_with : (p : Parts) (sides : Sides) (text : List ℕ) (op : Operation) (m : Mode) (s d : Option (List ℕ)) → p.operation ≡ op → mode_of p.mode ≡ m → option_map bstr_bytes sides.source ≡ s → option_map bstr_bytes sides.destination ≡ d → Reads op text (record { operation = op; mode = m; source = s; destination = d }) → Reads p.operation text (read_as p sides)
 read_with p sides text op m s d same_op same_mode same_source same_destination reads =
-    let made : Reading = record { operation = op; mode = m; source = s; destination = d } in
-    let same : read_as p sides ≡ made = cc in
-    subst (λ o. Reads o text (read_as p sides)) (sym same_op) (subst (Reads op text) (sym same) reads)
+    rw (same_op, same_mode, same_source, same_destination) reads
 
 pub side_of-named : (b : ℕ) (bs : List ℕ) → side_of (named_by (b ∷ bs)) ≡ Some (named_by (b ∷ bs))
 side_of-named b bs = grind arith

@@ -1,5 +1,5 @@
 -- The first reason that applies to parts, and that none applies to valid ones.
-use Rattle.gix_refspec_text.proofs.Common.{arith, ◌≡◌, ◌≢◌, inl, inr, ℕ, List, [], Option, None, Some, unwrap_or, refl, ap, subst, Operation, Push, Fetch, Shape, HasStar, star, Mode, Normal, Negative}
+use Rattle.gix_refspec_text.proofs.Common.{arith, ◌≡◌, ◌≢◌, inl, inr, ℕ, List, [], Option, None, Some, unwrap_or, refl, subst, Operation, Push, Fetch, Shape, HasStar, star, Mode, Normal, Negative}
 use Rattle.gix_refspec_text.proofs.Common.{Refusal, PatternUnbalanced, NegativeEmpty, NegativeObjectHash, IsBadPattern, HasNegativeDestination, HasBadSource, HasBadDestination, IsUnbalanced}
 use Rattle.gix_refspec_text.proofs.Common.{IsOneStarred, Never, IsFirstReason, NeedsMemory, NoReasonBeforeSource, ReachesMemory, IsPositive, LooksLikeObjectHash, MemoryOr, HasShape, HasCheckedShape}
 use Rattle.gix_refspec_text.proofs.Common.{IsBadSide, IsReason, ShowsRefusal}
@@ -60,9 +60,7 @@ pub alone_fine : (op : Operation) (s : List ℕ) (k : Shape) → HasCheckedShape
 alone_fine op s k fine e bad = grind (arith, checked_fine)
 
 pub destination_fine : (d : Option (List ℕ)) (k : Shape) → HasCheckedShape (unwrap_or d []) k → Never (HasBadDestination d)
-destination_fine d k fine e bad =
-    let here : unwrap_or d [] ≡ bad.word = ap (λ (x : Option (List ℕ)). unwrap_or x []) bad.is in
-    checked_fine bad.word k (subst (λ (x : List ℕ). HasCheckedShape x k) here fine) e (bad.destination, bad.refusal)
+destination_fine d k fine e bad = checked_fine bad.word k (rw bad.is at fine) e (bad.destination, bad.refusal)
 
 pub sides_balanced : (s t : List ℕ) (k : Shape) → HasShape s k → HasShape t k → IsOneStarred s t → ⊥
 sides_balanced s t k a b h = grind (arith, Lacks-ContainsText, HasStar-pattern)

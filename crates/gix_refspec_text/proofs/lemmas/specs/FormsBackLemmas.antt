@@ -85,9 +85,6 @@ named_parts m s t d text pos full parts lacks = grind (arith, unsigned_named, un
 means : (op : Operation) (m : Mode) (s d : Option (List ℕ)) → IsPositive m → meaning op m s d ≡ included op (is_forced m) s d
 means op m s d pos = grind arith
 
-for_form : (op o : Operation) (r q : Reading) → op ≡ o → r ≡ q → IsPrintedBack o q → IsPrintedBack op r
-for_form op o r q same is back = subst (λ (x : Operation). IsPrintedBack x r) (sym same) (subst (IsPrintedBack o) (sym is) back)
-
 back_only : (m : Mode) (s : List ℕ) → IsPositive m → IsName s → named_by s ≡ s → IsPrintedBack Fetch (fetched m s None)
 back_only m s pos name once = elim (tested (begins_with_plus s)) [
   | inl so ↦ printed_back Fetch _ (fetched Forced (named_by s) None) (fetch_only s) (means Fetch m (Some s) None pos)
@@ -161,26 +158,26 @@ back_push m s d text pos full parts reads =
     (means Push m (Some (named_by t)) (Some d) pos ∙ ap (λ (x : List ℕ). Some (push_matching x d (is_forced m))) (named_once s))
 
 pub read_back : (op : Operation) (text : List ℕ) (r : Reading) → Reads op text r → IsPrintedBack op r
-read_back op text r (fetches_nothing_named m fetch pos parts is) = for_form op Fetch r (fetched m head None) fetch is (back_only m head pos IsName-head refl)
-read_back op text r (fetches_colon m fetch pos parts is) = for_form op Fetch r (fetched m head None) fetch is (back_only m head pos IsName-head refl)
-read_back op text r (fetches m s fetch pos parts name is) = for_form op Fetch r (fetched m (named_by s) None) fetch is (back_only m (named_by s) pos (named_name s name) (named_once s))
-read_back op text r (updates m s d fetch pos parts alike is) = for_form op Fetch r (fetched m (named_by s) (Some d)) fetch is (back_update m s d text pos parts alike)
-read_back op text r (updates_from_head m d fetch pos parts name is) = for_form op Fetch r (fetched m head (Some d)) fetch is (back_from_head m d pos name)
-read_back op text r (fetch_excludes s fetch parts either hash is) = for_form op Fetch r (fetched Negative (named_by s) None) fetch is (back_fetch_exclude s either hash)
-read_back op text r (pushes_plus push parts is) = for_form op Push r (pushed Forced None None) push is (back_all Forced tt)
-read_back op text r (pushes_colon m push pos parts is) = for_form op Push r (pushed m None None) push is (back_all m pos)
-read_back op text r (pushes m s push pos parts either is) = for_form op Push r (pushed m (Some (named_by s)) None) push is (back_alone m s text pos parts either)
-read_back op text r (deletes m d push pos parts name is) = for_form op Push r (pushed m None (Some d)) push is (back_delete m d pos name)
+read_back op text r (fetches_nothing_named m fetch pos parts is) = rw (fetch, is) (back_only m head pos IsName-head refl)
+read_back op text r (fetches_colon m fetch pos parts is) = rw (fetch, is) (back_only m head pos IsName-head refl)
+read_back op text r (fetches m s fetch pos parts name is) = rw (fetch, is) (back_only m (named_by s) pos (named_name s name) (named_once s))
+read_back op text r (updates m s d fetch pos parts alike is) = rw (fetch, is) (back_update m s d text pos parts alike)
+read_back op text r (updates_from_head m d fetch pos parts name is) = rw (fetch, is) (back_from_head m d pos name)
+read_back op text r (fetch_excludes s fetch parts either hash is) = rw (fetch, is) (back_fetch_exclude s either hash)
+read_back op text r (pushes_plus push parts is) = rw (push, is) (back_all Forced tt)
+read_back op text r (pushes_colon m push pos parts is) = rw (push, is) (back_all m pos)
+read_back op text r (pushes m s push pos parts either is) = rw (push, is) (back_alone m s text pos parts either)
+read_back op text r (deletes m d push pos parts name is) = rw (push, is) (back_delete m d pos name)
 read_back op text r (pushes_pattern m s d push pos parts source destination is) =
     let full = pattern_not_empty s source in
     let pattern = subst IsPattern (sym (named_pattern s source)) source in
-    for_form op Push r (pushed m (Some (named_by s)) (Some d)) push is
+    rw (push, is)
     (back_push m s d text pos full parts (pushes_pattern m (named_by s) d refl pos (named_parts m s d (Some d) text pos full parts parts.last) pattern destination refl))
 read_back op text r (pushes_to m s d push pos parts full plain name is) =
     let lacks = named_so (Lacks star) s (Lacks-name head IsName-head) plain in
-    for_form op Push r (pushed m (Some (named_by s)) (Some d)) push is
+    rw (push, is)
     (back_push m s d text pos full parts (pushes_to m (named_by s) d refl pos (named_parts m s d (Some d) text pos full parts parts.last) (named_full s full) lacks name refl))
-read_back op text r (push_excludes s push parts either hash is) = for_form op Push r (pushed Negative (Some (named_by s)) None) push is (back_push_exclude s either hash)
+read_back op text r (push_excludes s push parts either hash is) = rw (push, is) (back_push_exclude s either hash)
 
 pub once_or_refused : (op : Operation) (text : List ℕ) → ReadsOrRefused op text
 once_or_refused op text = elim (read_or_refused op text) [
