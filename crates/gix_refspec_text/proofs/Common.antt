@@ -4,13 +4,13 @@ pub use Rattle.std.proofs.Common.{OnErr, OnOk, Option, Result, Some, [], add-one
 pub use Rattle.std.proofs.Common.{drop-drop, drop_of_length-le, eq-eqb, eqb, eqb-true, false, filter, get_or, get_or-drop, if◌then◌else◌, inl, inr, is_ok, is_some, le-leb, leb-true, length}
 pub use Rattle.std.proofs.Common.{length-append, length-drop, ltb, ltb-true, map, nat_cmp, nat_eq, nat_le, nat_lt, ne_eqb, not, option_map, refl, replicate, rules, slice_index, slice_index_or, subst}
 pub use Rattle.std.proofs.Common.{suc, sym, take, take-append-drop, take_all, true, true≢false, unwrap_or, w8, zero, zero-add, ℕ, ◌%◌, ◌&&◌, ◌*◌, ◌++◌, ◌+◌, ◌-◌, ◌/◌, ◌<◌, ◌==◌, ◌^◌, ◌||◌, ◌↔◌, ◌∙◌}
-pub use Rattle.std.proofs.Common.{◌∷◌, ◌≡◌, ◌≢◌, ◌≤◌, ◌⊎◌}
+pub use Rattle.std.proofs.Common.{below_more, ◌∷◌, ◌≡◌, ◌≢◌, ◌≤◌, ◌⊎◌}
 pub use Rattle.std.proofs.Math.Logic.{∥∥₁_elim, ∥∥₁_map}
 pub use Rattle.std.proofs.lemmas.Bool.{MatchBool-at_false, MatchBool-at_true, agree_below_at, and_from, and_parts, both_ways, cases_Bool, cases_eq, cases_lt, cond-false, cond-true, eqb-false}
 pub use Rattle.std.proofs.lemmas.Bool.{false≢true, not-true, or_cases, or_parts}
-pub use Rattle.std.proofs.lemmas.Bool.Decides.{Decides-eqb}
+pub use Rattle.std.proofs.lemmas.Bool.Decides.{Decides-eqb, nat_tests}
 pub use Rattle.std.proofs.lemmas.Grind.{common_steps, not_there}
-pub use Rattle.std.proofs.lemmas.List.{append_cancel_left, append_cancel_right, get_or-map, length-map, length-replicate, length-take-le, map-append, map_more, take-append-le, take_more}
+pub use Rattle.std.proofs.lemmas.List.{append_cancel_left, append_cancel_right, get_or-map, length-map, length-replicate, length-take-le, map-append, map_more, same_from_push, take-append-le, take_more}
 pub use Rattle.std.proofs.lemmas.List.Elements.{All-cons, All-from_recursion, All-head, All-nil, All-tail, All-weaker}
 pub use Rattle.std.proofs.lemmas.List.Sums.{AllPass-from_list_all, count_by_more_no, count_by_more_yes, list_all-from_AllPass, prefix_len-le-length, prefix_len_passes, sum_by-append}
 pub use Rattle.std.proofs.lemmas.Option.{same_Some}
@@ -22,7 +22,8 @@ pub use Rattle.std.specs.Cmp.Lexicographic.{nat_list_cmp_total, pointwise, slice
 pub use Rattle.std.specs.List.{AllByRecursion, AllPass, SomeIndex, ends_with, join_with_byte, list_all, list_any, prefix_len, range_with_len, slice_split, starts_with}
 pub use Rattle.bstr.specs.BStr.{bstr_bytes}
 pub use Rattle.bstr.specs.Owned.{bstring_bytes}
-pub use denote.Enum.Bare.{differs_false, differs_true, sameb}
+pub use Rattle.hex.specs.Hex.{encode_lower, is_hex_digit}
+pub use denote.Enum.Bare.{differs_false, differs_true, same_true, sameb}
 pub use lib.Lanes.{chunk, mask_l, top, zip2}
 pub use Rattle.gix_refspec_text.specs.Laws.Covering.{HasCoveringSource, IsCovering, by_candidates, by_prefix}
 pub use Rattle.gix_refspec_text.specs.Laws.Readings.{Candidates, EqualReadings, EqualTexts, FirstCandidate, HasOneFault, IdOrFault, IsPrintedBack, IsSameReason, KeepsOperation, NothingAgainst}

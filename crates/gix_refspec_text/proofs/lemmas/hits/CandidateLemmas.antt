@@ -1,5 +1,5 @@
 -- The name that a partial source takes: the first of its candidates that a ref has.
-use Rattle.gix_refspec_text.proofs.Common.{◌≡◌, ◌⊎◌, inl, inr, ℕ, List, [], ◌∷◌, ◌++◌, None, refl, sym, ap, ◌∙◌, subst, AllByRecursion, bytes_eq, false≢true, bytes_eq-Decides, partial, HasKind}
+use Rattle.gix_refspec_text.proofs.Common.{arith, ◌≡◌, ◌⊎◌, inl, inr, ℕ, List, [], ◌∷◌, ◌++◌, None, refl, sym, ap, ◌∙◌, subst, AllByRecursion, bytes_eq, false≢true, bytes_eq-Decides, partial, HasKind}
 use Rattle.gix_refspec_text.proofs.Common.{IsCandidate, Ref, HasName, IsFirstCandidate, Takes, FirstCandidate, cases_Bool}
 use Rattle.gix_refspec_text.proofs.lemmas.lists.LacksLemmas.{first_with}
 
@@ -49,11 +49,9 @@ first_once refs x n m a b =
 pub first_of_one : (x : List ℕ) (r : Ref) → IsCandidate x r.name → IsFirstCandidate (r ∷ []) x r.name
 first_of_one x r one =
     let first = some_first (r ∷ []) x r.name one (inl refl) in
-    subst (IsFirstCandidate (r ∷ []) x) (sym (only first.0 first.1.present)) first.1
-  where
-    only : (n : List ℕ) → HasName (r ∷ []) n → r.name ≡ n
-    only n (inl same) = same
-    only n (inr none) = absurd none
+    let present : HasName (r ∷ []) first.0 = first.1.present in
+    let same : first.0 ≡ r.name = grind arith in
+    subst (IsFirstCandidate (r ∷ []) x) same first.1
 
 pub taken_by_first : (refs : List Ref) (x : List ℕ) (r : Ref) → HasKind x (partial x) → IsFirstCandidate refs x r.name → Takes refs x r None
 taken_by_first refs x r kind first = record {

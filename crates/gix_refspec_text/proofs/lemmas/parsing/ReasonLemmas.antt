@@ -30,12 +30,12 @@ fetch_reaches m s d pos = grind (arith, positive)
 pub push_reaches : (m : Mode) (s t : List ℕ) → IsPositive m → (s ≢ [] → t ≡ [] → ⊥) → NoReasonBeforeSource Push m s (Some t)
 push_reaches m s t pos somewhere = grind (arith, positive)
 
--- a bad pattern isn't empty, and is a bad source of a push to a destination
-pub bad_source_of_push : (s t : List ℕ) (f : Refusal) → IsBadPattern s f → HasBadSource Push s (Some t) f
-bad_source_of_push s t f bad = record { source = λ empty. Lacks-ContainsText star [] tt (subst HasStar empty (HasStar-bad s f bad)); refusal = bad }
-
 pub starred_not_empty : (t : List ℕ) → HasStar t → t ≢ []
 starred_not_empty t has empty = Lacks-ContainsText star [] tt (subst HasStar empty has)
+
+-- a bad pattern isn't empty, and is a bad source of a push to a destination
+pub bad_source_of_push : (s t : List ℕ) (f : Refusal) → IsBadPattern s f → HasBadSource Push s (Some t) f
+bad_source_of_push s t f bad = record { source = starred_not_empty s (HasStar-bad s f bad); refusal = bad }
 
 pub push_alone_reaches : (m : Mode) (s : List ℕ) → IsPositive m → (s ≡ [] → m ≡ Normal → ⊥) → NoReasonBeforeSource Push m s None
 push_alone_reaches m s pos full = grind (arith, positive)

@@ -1,6 +1,6 @@
 -- A side has at most one prefix and at most one expansion.
-use Rattle.gix_refspec_text.proofs.Common.{[], ◌∷◌, ap, to_prefix, to_itself, below_refs, of_object, to_candidates, ◌≡◌, ℕ, List, ◌++◌, codes, sym, ◌∙◌, subst, append_cancel_left, Lacks, ContainsText}
-use Rattle.gix_refspec_text.proofs.Common.{BeginsWith, slash, IsPrefix, of_head, of_name, of_pattern, Expands, OnePrefix, head, star, IsSplit}
+use Rattle.gix_refspec_text.proofs.Common.{arith, [], ◌∷◌, ap, to_prefix, to_itself, below_refs, of_object, to_candidates, ◌≡◌, ℕ, List, ◌++◌, codes, sym, ◌∙◌, subst, append_cancel_left, Lacks}
+use Rattle.gix_refspec_text.proofs.Common.{ContainsText, BeginsWith, slash, IsPrefix, of_head, of_name, of_pattern, Expands, OnePrefix, head, star, IsSplit}
 use Rattle.gix_refspec_text.proofs.lemmas.texts.TextLemmas.{Lacks-ContainsText}
 use Rattle.gix_refspec_text.proofs.lemmas.hits.MatchLemmas.{lacks_no_pattern, split_once}
 use Rattle.gix_refspec_text.proofs.lemmas.parsing.SideLemmas.{Lacks-name}
@@ -21,9 +21,7 @@ prefix_once x p q (of_pattern before after split _ _) (of_name _ lacks _) = absu
 prefix_once x p q (of_pattern before after split _ a) (of_pattern before2 after2 cut2 _ b) = a ∙ ((split_once x before after before2 after2 split cut2).0 ∙ sym b)
 
 not_both : (x rest other : List ℕ) → x ≡ codes "refs/" ++ rest → x ≡ codes "refs/" ++ other → Lacks slash rest → ContainsText (codes "/") other → ⊥
-not_both x rest other is is2 lacks holds =
-    let same = append_cancel_left (codes "refs/") rest other (sym is ∙ is2) in
-    Lacks-ContainsText slash other (subst (Lacks slash) same lacks) holds
+not_both x rest other is is2 lacks holds = grind (arith, append_cancel_left, Lacks-ContainsText)
 
 begins : (x rest : List ℕ) → x ≡ codes "refs/" ++ rest → BeginsWith (codes "refs/") x
 begins x rest is = record { after = rest; here = is }

@@ -1,12 +1,11 @@
 -- Prefixes and expansions of sides.
-use Rattle.gix_refspec_text.proofs.Common.{◌≡◌, ◌≢◌, inl, inr, ◌≤◌, ◌<◌, ℕ, Bool, true, false, not, ◌↔◌, IsTrue, MatchBool, MatchOption, Bor, if◌then◌else◌, List, [], ◌∷◌, ◌++◌, codes, map, length}
+use Rattle.gix_refspec_text.proofs.Common.{is_hex_digit, ◌≡◌, ◌≢◌, inl, inr, ◌≤◌, ◌<◌, ℕ, Bool, true, false, not, ◌↔◌, IsTrue, MatchBool, MatchOption, Bor, if◌then◌else◌, List, [], ◌∷◌, ◌++◌, codes, map, length}
 use Rattle.gix_refspec_text.proofs.Common.{get_or, is_ok, Result, OnOk, OnErr, refl, sym, ap, ◌∙◌, subst, length-append, arith, append_cancel_left, length-map, map-append, false≢true, IsIdText, Lacks}
 use Rattle.gix_refspec_text.proofs.Common.{ContainsText, BeginsWith, IsSplit, HasOneStar, star, slash, head, bracket, Reading, IsId, IsRefPrefix, IsPrefix, of_head, of_name, of_pattern, HasNoPrefix}
 use Rattle.gix_refspec_text.proofs.Common.{Expands, to_prefix, IsAsked, IsExpansion, ◌⊎◌, sameb, Operation, Fetch, ObjectId, id_bytes, HasKind, IsCovering, by_prefix, by_candidates, HasCoveringSource}
 use Rattle.std.specs.Prelude.{⊤}
 use Rattle.std.specs.Bool.{then_some}
 use Rattle.std.proofs.Math.Seq.{get_or-append_seam}
-use Rattle.hex.specs.Hex.{is_hex_digit}
 use Rattle.gix_refspec_text.proofs.lemmas.texts.TextLemmas.{Lacks-ContainsText}
 use Rattle.gix_refspec_text.proofs.lemmas.hits.MatchLemmas.{lacks_no_pattern, split_once, begins_split}
 use Rattle.gix_refspec_text.proofs.lemmas.texts.ObjectIdLemmas.{AllPass-IsIdText, no_kind}
@@ -19,12 +18,15 @@ use Rattle.gix_refspec_text.specs.declared.side.SideKind.TheVariants as kind
 pub id_not_head : (x id : List ℕ) → IsIdText x id → x ≢ head
 id_not_head x id text is = no_kind 4 (λ same. omega (arith, same)) (λ same. omega (arith, same)) (text.kind, sym (ap length is) ∙ text.digits)
 
-pub no_prefix : (x before after : List ℕ) → IsSplit before after x → ¬ (IsRefPrefix before after) → HasNoPrefix x
-no_prefix x before after split vague p (of_head is _) = head_no_split x before after is split
-no_prefix x before after split vague p (of_name begins lacks _) = lacks_no_pattern x before after lacks split
-no_prefix x before after split vague p (of_pattern first last other tells _) =
+prefix_tells : (x p before after : List ℕ) → IsSplit before after x → IsPrefix x p → IsRefPrefix before after
+prefix_tells x p before after split (of_head is _) = absurd (head_no_split x before after is split)
+prefix_tells x p before after split (of_name begins lacks _) = absurd (lacks_no_pattern x before after lacks split)
+prefix_tells x p before after split (of_pattern first last other tells _) =
     let once = split_once x first last before after other split in
-    vague (rw (once.0, once.1) at tells)
+    rw (once.0, once.1) at tells
+
+pub no_prefix : (x before after : List ℕ) → IsSplit before after x → ¬ (IsRefPrefix before after) → HasNoPrefix x
+no_prefix x before after split vague p is = vague (prefix_tells x p before after split is)
 
 -- the text before a star is a prefix if it continues after `refs/` and the pattern contains no bracket
 pub tells : (before after rest : List ℕ) → before ≡ codes "refs/" ++ rest → 1 ≤ length rest → Lacks bracket before → Lacks bracket after → IsRefPrefix before after
@@ -74,15 +76,15 @@ pub pattern_prefix : (x : List ℕ) (before after : Bor (List ℕ)) (r : Bool) �
 pattern_prefix x before after true split told = of_pattern before.now after.now split (told.0 refl) refl
 pattern_prefix x before after false split told = no_prefix x before.now after.now split (λ tells. false≢true (told.1 tells))
 
+covering_tells : (x before after : List ℕ) → IsSplit before after x → IsCovering x → IsRefPrefix before after
+covering_tells x before after split (by_prefix p below is) = prefix_tells x p before after split is
+covering_tells x before after split (by_candidates lacks other outside) = absurd (lacks_no_pattern x before after lacks split)
+
 pub told_pattern : (x before after : List ℕ) (r : Bool) → IsSplit before after x → IsTrue r ↔ IsRefPrefix before after → IsTrue r ↔ IsCovering x
-told_pattern x before after true split told =
-    let tells = told.0 refl in
-    ((λ _. by_prefix before (begins_split x before after split tells.below) (of_pattern before after split tells refl)), (λ _. refl))
-told_pattern x before after false split told = ((λ so. absurd (false≢true so)), never)
-  where
-    never : IsCovering x → false ≡ true
-    never (by_prefix p below is) = absurd (no_prefix x before after split (λ tells. false≢true (told.1 tells)) p is)
-    never (by_candidates lacks other outside) = absurd (lacks_no_pattern x before after lacks split)
+told_pattern x before after r split told = (
+  λ so. let yes = told.0 so in by_prefix before (begins_split x before after split yes.below) (of_pattern before after split yes refl),
+  λ covers. told.1 (covering_tells x before after split covers),
+)
 
 pub told_source : (r : Reading) (x : List ℕ) (b : Bool) → r.operation ≡ Fetch → IsAsked r x → IsTrue b ↔ IsCovering x → IsTrue b ↔ HasCoveringSource r
 told_source r x b fetch asked told = (

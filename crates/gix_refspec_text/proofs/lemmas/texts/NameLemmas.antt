@@ -1,45 +1,37 @@
 -- The faults that one pass over the bytes finds are the faults of a name.
-use Rattle.gix_refspec_text.proofs.Common.{◌≡◌, ◌≢◌, ℕ, List, [], ◌∷◌, ◌++◌, codes, length, take, drop, get_or, ◌+◌, ◌<◌, ◌≤◌, suc, Option, MatchOption, true, IsTrue, refl, sym, ap, ◌∙◌, subst, inl}
-use Rattle.gix_refspec_text.proofs.Common.{inr, append_assoc, arith, Bool, ◌-◌, nat_eq, Decides, ends_with, ends_is, Decides-eqb, append-nil, ◌⊎◌, false≢true, Error, Empty, EmptyComponent}
-use Rattle.gix_refspec_text.proofs.Common.{StartsWithDot, LockSuffix, EndsWithDot, RepeatedDot, ReflogPortion, Asterisk, InvalidByte, Lacks, ContainsText, BeginsWith, EndsWith, slash, star, dot}
-use Rattle.gix_refspec_text.proofs.Common.{brace, is_refused_byte, SomeComponent, HasFault, IsName, AddsFault, Added, IsClean, LeavesFault, Finds, drop_of_length-le, length-append, take_more}
+use Rattle.gix_refspec_text.proofs.Common.{same_from_push, ◌≡◌, ◌≢◌, ℕ, List, [], ◌∷◌, ◌++◌, codes, length, take, drop, get_or, ◌+◌, ◌<◌, ◌≤◌, suc, Option, MatchOption, true, IsTrue, refl, sym, ap}
+use Rattle.gix_refspec_text.proofs.Common.{◌∙◌, subst, inl, inr, append_assoc, arith, Bool, ◌-◌, nat_eq, Decides, ends_with, ends_is, Decides-eqb, append-nil, ◌⊎◌, false≢true, Error, Empty}
+use Rattle.gix_refspec_text.proofs.Common.{EmptyComponent, StartsWithDot, LockSuffix, EndsWithDot, RepeatedDot, ReflogPortion, Asterisk, InvalidByte, Lacks, ContainsText, BeginsWith, EndsWith, slash}
+use Rattle.gix_refspec_text.proofs.Common.{star, dot, brace, is_refused_byte, SomeComponent, HasFault, IsName, AddsFault, Added, IsClean, LeavesFault, Finds, drop_of_length-le, take_more}
 use Rattle.gix_refspec_text.proofs.lemmas.texts.TextLemmas.{split_at}
 use Rattle.gix_refspec_text.proofs.lemmas.texts.ComponentLemmas.{IsEnd, IsComponent, Pieces, pieces_of, fenced, fenced-IsEnd, last_slash_after_one, SomeComponent-from, SomeComponent-index}
 use Rattle.gix_refspec_text.proofs.lemmas.lists.AllLemmas.{all_join}
 use Rattle.gix_refspec_text.proofs.lemmas.lists.LacksLemmas.{LastIndex}
-use Rattle.std.proofs.Math.Seq.{get_or-append_seam}
 
 no_middle : (p r : List ℕ) (b : ℕ) → [] ≡ p ++ (b ∷ r) → ⊥
 no_middle [] r b same = cc
 no_middle (c ∷ p) r b same = cc
 
 -- an index of a text with one more byte is its last index, or an index of the text
-record Before (y p : List ℕ) (b : ℕ) : Type 0 where
-  after : List ℕ
-  here : y ≡ p ++ (b ∷ after)
-
-index_with_one_more : (y p r : List ℕ) (c b : ℕ) → y ++ (c ∷ []) ≡ p ++ (b ∷ r) → ((y ≡ p) × (c ≡ b)) ⊎ Before y p b
+index_with_one_more : (y p r : List ℕ) (c b : ℕ) → y ++ (c ∷ []) ≡ p ++ (b ∷ r)
+    → ((y ≡ p) × (c ≡ b)) ⊎ ((s : List ℕ) × (y ≡ p ++ (b ∷ s)))
 index_with_one_more [] [] r c b same = inl (refl, cc)
-index_with_one_more (x ∷ y) [] r c b same = inr (record { after = y; here = cc })
+index_with_one_more (x ∷ y) [] r c b same = inr (y, cc)
 index_with_one_more [] (q ∷ p) r c b same = let tails : [] ≡ p ++ (b ∷ r) = cc in absurd (no_middle p r b tails)
 index_with_one_more (x ∷ y) (q ∷ p) r c b same =
     elim (index_with_one_more y p r c b (cc)) [
       | inl last ↦ inl ((let fronts = last.0 in cc), last.1)
-      | inr index ↦ inr (record { after = index.after; here = let fronts = index.here in cc })
+      | inr index ↦ inr (index.0, (let fronts = index.1 in cc))
     ]
 
 pub last_byte : (y : List ℕ) (c b : ℕ) → EndsWith (c ∷ []) y → EndsWith (b ∷ []) y → c ≡ b
-last_byte y c b by_c by_b =
-    let at_c = ap (λ z. get_or z (length by_c.before) 0) by_c.here ∙ get_or-append_seam by_c.before c [] 0 in
-    let at_b = ap (λ z. get_or z (length by_b.before) 0) by_b.here ∙ get_or-append_seam by_b.before b [] 0 in
-    let same : length by_c.before ≡ length by_b.before = omega (arith, ap length by_c.here, ap length by_b.here, length-append by_c.before (c ∷ []), length-append by_b.before (b ∷ [])) in
-    cc
+last_byte y c b by_c by_b = (same_from_push by_c.before by_b.before c b (sym by_c.here ∙ by_b.here)).1
 
 pub IsClean-more : (y : List ℕ) (c : ℕ) → IsClean y → ((e : Error) → ¬ (AddsFault y c e)) → IsClean (y ++ (c ∷ []))
 IsClean-more y c clean none e added =
     elim (index_with_one_more y added.before added.after c added.byte added.here) [
       | inl last ↦ none e (subst (λ z. AddsFault z c e) (sym last.0) (subst (λ b. AddsFault added.before b e) (sym last.1) added.fault))
-      | inr index ↦ clean e (record { before = added.before; byte = added.byte; after = index.after; here = index.here; fault = added.fault })
+      | inr index ↦ clean e (record { before = added.before; byte = added.byte; after = index.0; here = index.1; fault = added.fault })
     ]
 
 dot_no_slash : dot ≢ slash

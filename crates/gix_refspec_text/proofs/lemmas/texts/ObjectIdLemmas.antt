@@ -1,9 +1,9 @@
 -- The texts of ids: which texts they are, that each is the text of only one id, and that decoding finds it.
-use Rattle.gix_refspec_text.proofs.Common.{◌≡◌, ℕ, zero, suc, ◌+◌, ◌*◌, ◌/◌, ◌%◌, ◌<◌, ◌≤◌, Bool, List, [], ◌∷◌, length, slice_index, take, nat_lt, ◌⊎◌, inl, inr, Option, Some, is_some, true}
-use Rattle.gix_refspec_text.proofs.Common.{agree_below_at, not, ◌||◌, eqb, eqb-true, unwrap_or, false, Result, Ok, Err, refl, sym, ap, ◌∙◌, subst, arith, ◌++◌, drop, IsOk, MatchBool, MatchResult}
-use Rattle.gix_refspec_text.proofs.Common.{AllPass, SomeIndex, list_all, IsAscii, IsUtf8, false≢true, cases_Bool, cases_eq, ltb-true, length-take-le, take-append-le, take_all, All-cons, All-head}
-use Rattle.gix_refspec_text.proofs.Common.{All-nil, All-tail, All-weaker, AllPass-from_list_all, Digit, Length, Kind, Sha1, Sha256, HasIdFault, IsIdLength, IsIdText, IsLowerText, IsSpelledBy, Spells}
-use Rattle.gix_refspec_text.proofs.Common.{bytes_of, digits_of, is_lower_digit, lower_of, IsId, HasOneFault, IdOrFault, OneLowerText, list_all-from_AllPass}
+use Rattle.gix_refspec_text.proofs.Common.{nat_tests, ◌≡◌, ℕ, zero, suc, ◌+◌, ◌*◌, ◌/◌, ◌%◌, ◌<◌, ◌≤◌, Bool, List, [], ◌∷◌, length, slice_index, take, nat_lt, ◌⊎◌, inl, inr, Option, Some, is_some}
+use Rattle.gix_refspec_text.proofs.Common.{true, agree_below_at, not, ◌||◌, eqb, eqb-true, unwrap_or, false, Result, Ok, Err, refl, sym, ap, ◌∙◌, subst, arith, ◌++◌, drop, IsOk, MatchBool}
+use Rattle.gix_refspec_text.proofs.Common.{MatchResult, AllPass, SomeIndex, list_all, IsAscii, IsUtf8, false≢true, cases_Bool, cases_eq, ltb-true, length-take-le, take-append-le, take_all, All-cons}
+use Rattle.gix_refspec_text.proofs.Common.{All-head, All-nil, All-tail, All-weaker, AllPass-from_list_all, Digit, Length, Kind, Sha1, Sha256, HasIdFault, IsIdLength, IsIdText, IsLowerText}
+use Rattle.gix_refspec_text.proofs.Common.{IsSpelledBy, Spells, bytes_of, digits_of, is_lower_digit, lower_of, IsId, HasOneFault, IdOrFault, OneLowerText, list_all-from_AllPass}
 use Rattle.std.specs.Result.{is_err, result_unwrap_or}
 use Rattle.std.proofs.lemmas.Str.{IsUtf8-from_ascii}
 use Rattle.std.proofs.lemmas.Str.Ascii.{IsAscii-from_all}
@@ -12,7 +12,6 @@ use Rattle.hex.specs.declared.error.FromHexError.{FromHexError}
 use Rattle.hex.proofs.HexLemmas.{IsAscii-encode_with, IsOk-decode_sized, decode_of-ok, decode_of-same, decode_pairs-ok, decode_sized-encode_lower, length-encode_with}
 use Rattle.hex.proofs.Pairs.{cons_byte, decode_pairs-ok_pair, decode_sized-pairs}
 use Rattle.gix_refspec_text.specs.declared.oid.Error.{Error}
-use Rattle.std.proofs.lemmas.Bool.Decides.{nat_tests}
 
 pub digits_of-twice : (kind : Kind) → digits_of kind ≡ 2 * bytes_of kind
 digits_of-twice kind = grind arith

@@ -1,5 +1,5 @@
 -- Of each sixteen bytes those after the calm run are checked one by one.
-use Rattle.gix_refspec_text.proofs.Common.{◌≡◌, ◌+◌, ◌≤◌, length, refl, subst, arith, IsScanned}
+use Rattle.gix_refspec_text.proofs.Common.{◌≡◌, ◌+◌, ◌≤◌, length, refl, arith}
 use Rattle.gix_refspec_text.proofs.lemmas.texts.NameLemmas.{IsClean-start}
 use Rattle.gix_refspec_text.proofs.lemmas.texts.LetterLemmas.{calm_to}
 use Rattle.gix_refspec_text.proofs.name.scanned.Goals as goal
@@ -24,6 +24,5 @@ scanned_to-requires-in-loop-index c =
 
 pub returns : goal.returns
 returns c =
-    let x = c.args.text.now in
-    let done : c.loop-index.index ≡ length x = omega (arith, c.loop-index.invariant.2, c.loop-index-test.false) in
-    subst (λ i. IsScanned x i c.loop-index.starred) done c.loop-index.invariant.0
+    let done : c.loop-index.index ≡ length c.args.text.now = omega (arith, c.loop-index.invariant.2, c.loop-index-test.false) in
+    rw done at c.loop-index.invariant.0

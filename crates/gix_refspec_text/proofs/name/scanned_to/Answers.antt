@@ -32,5 +32,4 @@ loop-index-preserved c =
 
 pub returns : goal.returns
 returns c =
-    let done : c.loop-index.index ≡ c.args.to = omega arith in
-    subst (λ i. IsScanned c.args.text.now i c.loop-index.starred) done c.loop-index.invariant
+    let done : c.loop-index.index ≡ c.args.to = omega arith in rw done at c.loop-index.invariant

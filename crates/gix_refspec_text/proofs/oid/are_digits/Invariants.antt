@@ -1,5 +1,4 @@
-use Rattle.gix_refspec_text.proofs.Common.{◌≡◌, take, list_all}
-use Rattle.hex.specs.Hex.{is_hex_digit}
+use Rattle.gix_refspec_text.proofs.Common.{is_hex_digit, ◌≡◌, take, list_all}
 use Rattle.gix_refspec_text.proofs.oid.are_digits.Given as goal
 
 abbrev pub invariant-loop-byte : goal.invariant-loop-byte
