@@ -3,8 +3,9 @@ use Rattle.gix_refspec_text.proofs.Common.{◌∙◌, arith, ◌≡◌, ◌≢�
 use Rattle.gix_refspec_text.proofs.Common.{Plain, Pattern, IsName, IsPattern, Mode, Normal, Forced, Negative, Reading, Refusal, Never, IsFirstReason, IsRefused, ReachesMemory, MayNeedMemory, named_by}
 use Rattle.gix_refspec_text.proofs.Common.{IsPositive, IsNameOrPattern, LooksLikeObjectHash, AreAlike, AreParts, fetched, pushed, Reads, fetches_nothing_named, fetches_colon, fetches, updates}
 use Rattle.gix_refspec_text.proofs.Common.{updates_from_head, fetch_excludes, pushes_plus, pushes_colon, pushes, deletes, pushes_pattern, pushes_to, push_excludes, mode_of, IsErrorOf, HasShape}
-use Rattle.gix_refspec_text.proofs.Common.{HasCheckedShape, side_of, named_or_head, destination_of, HasParts, read_as, IsReasonAgainst, bstr_bytes, NoReasonBeforeSource, HasBadSource}
-use Rattle.gix_refspec_text.proofs.Common.{HasBadDestination, IsUnbalanced, ExcludesNothing, ExcludesObject}
+use Rattle.gix_refspec_text.proofs.Common.{HasCheckedShape, side_of, named_or_head, destination_of, HasParts, IsReasonAgainst, bstr_bytes, NoReasonBeforeSource, HasBadSource, HasBadDestination}
+use Rattle.gix_refspec_text.proofs.Common.{IsUnbalanced, ExcludesNothing, ExcludesObject}
+use Rattle.gix_refspec_text.specs.Private.Sides.{AreSidesOf}
 use Rattle.gix_refspec_text.specs.declared.parsing.Error.{Error}
 use Rattle.gix_refspec_text.specs.declared.parsing.reading.Parts.{Parts}
 use Rattle.gix_refspec_text.specs.declared.parsing.reading.Sides.{Sides}
@@ -15,10 +16,6 @@ use Rattle.gix_refspec_text.proofs.lemmas.parsing.ReasonLemmas.{alone_fine, dest
 
 pub same_reading : (op : Operation) (m : Mode) (s t d e : Option (List ℕ)) → s ≡ t → d ≡ e → ◌≡◌ {A = Reading} (record { operation = op; mode = m; source = s; destination = d }) (record { operation = op; mode = m; source = t; destination = e })
 same_reading op m s t d e same_source same_destination = cc
-
-pub read_with : (p : Parts) (sides : Sides) (text : List ℕ) (op : Operation) (m : Mode) (s d : Option (List ℕ)) → p.operation ≡ op → mode_of p.mode ≡ m → option_map bstr_bytes sides.source ≡ s → option_map bstr_bytes sides.destination ≡ d → Reads op text (record { operation = op; mode = m; source = s; destination = d }) → Reads p.operation text (read_as p sides)
-read_with p sides text op m s d same_op same_mode same_source same_destination reads =
-    rw (same_op, same_mode, same_source, same_destination) reads
 
 pub side_of-named : (b : ℕ) (bs : List ℕ) → side_of (named_by (b ∷ bs)) ≡ Some (named_by (b ∷ bs))
 side_of-named b bs = grind arith
@@ -76,7 +73,7 @@ source_of Push s = side_of (named_by s)
 abbrev pub made : Operation → Mode → List ℕ → Option (List ℕ) → Reading
 made op m s d = record { operation = op; mode = m; source = source_of op s; destination = side_of (unwrap_or d []) }
 
-source_named : (op : Operation) (s : List ℕ) → s ≢ [] → source_of op s ≡ side_of (named_by s)
+pub source_named : (op : Operation) (s : List ℕ) → s ≢ [] → source_of op s ≡ side_of (named_by s)
 source_named op s full = grind (arith, side_of-named)
 
 -- a text with valid parts has that reading
@@ -87,6 +84,13 @@ fine_reads op m s d x (fine_alone k push pos none full a) p = rw (push, none) (p
 fine_reads op m s d x (fine_push k t push pos is somewhere a b) p = rw (push, is) (push_reads m s t k x pos somewhere a b (rw is at p))
 fine_reads op m s d x (fine_negative k minus none full a hash) p =
     rw (minus, none, source_named op s full) (negative_reads op s k x full a hash (rw (minus, none) at p))
+
+-- so parts have sides with the source and the destination of that reading
+pub sides_read : (p : Parts) (sides : Sides) → AreFine p.operation (mode_of p.mode) p.source.now (destination_of p)
+    → option_map bstr_bytes sides.source ≡ source_of p.operation p.source.now
+    → option_map bstr_bytes sides.destination ≡ side_of (unwrap_or (destination_of p) []) → AreSidesOf p sides
+sides_read p sides fine source destination text parts =
+    rw (source, destination) (fine_reads p.operation (mode_of p.mode) p.source.now (destination_of p) text fine parts)
 
 pub checked_name : (x : List ℕ) → IsName x → HasCheckedShape x Plain
 checked_name x name = grind arith

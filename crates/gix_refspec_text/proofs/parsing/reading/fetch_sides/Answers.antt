@@ -1,9 +1,9 @@
 -- No reason before those of the source applies to a positive fetch. The checks return the reasons of its sides.
-use Rattle.gix_refspec_text.proofs.Common.{[], Some, unwrap_or, refl, sym, ap, ◌∙◌, subst, rules, err_from_is_err_and, differs_true, differs_false, the_type, Fetch, PatternUnbalanced, mode_of}
-use Rattle.gix_refspec_text.proofs.Common.{HasCheckedShape, destination_of, named_or_head, side_of}
+use Rattle.gix_refspec_text.proofs.Common.{refl, sym, ap, ◌∙◌, subst, rules, err_from_is_err_and, differs_true, differs_false, the_type, Fetch, PatternUnbalanced, HasCheckedShape, destination_of}
+use Rattle.gix_refspec_text.proofs.Common.{named_or_head, side_of}
 use Rattle.gix_refspec_text.proofs.lemmas.parsing.SideLemmas.{now-unwrap_or}
 use Rattle.gix_refspec_text.proofs.lemmas.parsing.ReasonLemmas.{fetch_reaches, error_at_destination, fetch_source_fine, unbalanced_fetch}
-use Rattle.gix_refspec_text.proofs.lemmas.parsing.ReadsLemmas.{read_with, fetch_reads, side_of-named_or_head}
+use Rattle.gix_refspec_text.proofs.lemmas.parsing.ReadsLemmas.{fine_fetch, sides_read, side_of-named_or_head}
 use Rattle.gix_refspec_text.proofs.parsing.reading.fetch_sides.Goals as goal
 
 pub returns-in_err-checked-2-clause-err : goal.returns-in_err-checked-2-clause-err
@@ -24,13 +24,12 @@ returns-then-ne-clause-err c =
     (PatternUnbalanced, refl, rw c.requires.operation reason)
 
 pub returns-clause-ok : goal.returns-clause-ok
-returns-clause-ok c = λ text parts.
+returns-clause-ok c =
     let p = c.args.parts in
-    let s = p.source.now in
-    let d = destination_of p in
     let target = now-unwrap_or p.destination _ c.unwrap_or-target.result c.unwrap_or-target.ensures refl in
     let same = differs_false the_type (search rules) c.in_ok-checked.field-0 c.in_ok-checked-2.field-0 (sym c.if-ne.ensures) in
-    let destination = rw target at c.in_ok-checked-2.ensures.ok in
-    let reads = fetch_reads (mode_of p.mode) s d c.in_ok-checked.field-0 text c.requires.positive c.in_ok-checked.ensures.ok (subst (λ k. HasCheckedShape (unwrap_or d []) k) (sym same) destination) parts in
-    let source = c.new.ensures.source ∙ (ap side_of c.named_or_head.ensures ∙ side_of-named_or_head s) in
-    read_with p c.new.result text Fetch (mode_of p.mode) (Some (named_or_head s)) (side_of (unwrap_or d [])) c.requires.operation refl source (c.new.ensures.destination ∙ ap side_of target) reads
+    let shape = subst (λ k. HasCheckedShape p.source.now k) same c.in_ok-checked.ensures.ok in
+    let source = c.new.ensures.source ∙ (ap side_of c.named_or_head.ensures ∙ side_of-named_or_head p.source.now) in
+    sides_read p c.new.result
+    (fine_fetch c.in_ok-checked-2.field-0 c.requires.operation c.requires.positive shape (rw target at c.in_ok-checked-2.ensures.ok))
+    (rw c.requires.operation source) (c.new.ensures.destination ∙ ap side_of target)

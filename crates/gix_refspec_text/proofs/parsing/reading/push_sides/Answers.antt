@@ -1,9 +1,8 @@
 -- No reason before those of the source applies to a positive push to a destination. The checks return the reasons of
 -- its sides.
-use Rattle.gix_refspec_text.proofs.Common.{Some, refl, sym, ap, ◌∙◌, subst, rules, err_from_is_err_and, differs_true, differs_false, the_type, Push, AreParts, named_by, PatternUnbalanced, mode_of}
-use Rattle.gix_refspec_text.proofs.Common.{HasCheckedShape, side_of}
+use Rattle.gix_refspec_text.proofs.Common.{HasShape, Some, refl, sym, ap, ◌∙◌, subst, rules, err_from_is_err_and, differs_true, differs_false, the_type, Push, PatternUnbalanced, side_of}
 use Rattle.gix_refspec_text.proofs.lemmas.parsing.ReasonLemmas.{push_reaches, error_at_destination, push_source_fine, unbalanced_push}
-use Rattle.gix_refspec_text.proofs.lemmas.parsing.ReadsLemmas.{read_with, push_reads}
+use Rattle.gix_refspec_text.proofs.lemmas.parsing.ReadsLemmas.{fine_push, sides_read}
 use Rattle.gix_refspec_text.proofs.parsing.reading.push_sides.Goals as goal
 
 pub returns-in_err-checked-clause-err : goal.returns-in_err-checked-clause-err
@@ -21,14 +20,12 @@ returns-then-ne-clause-err c =
     (PatternUnbalanced, refl, rw (c.requires.positive.operation, c.requires.target) reason)
 
 pub returns-clause-ok : goal.returns-clause-ok
-returns-clause-ok c = λ text parts.
+returns-clause-ok c =
     let p = c.args.parts in
-    let m = mode_of p.mode in
-    let s = p.source.now in
-    let t = c.args.target.now in
     let same = differs_false the_type (search rules) c.in_ok-starred.field-0 c.in_ok-checked.field-0 (sym c.if-ne.ensures) in
-    let destination = subst (λ k. HasCheckedShape t k) (sym same) c.in_ok-checked.ensures.ok in
-    let aimed : AreParts m s (Some t) text = rw c.requires.target at parts in
-    let reads = push_reads m s t _ text c.requires.positive.positive c.if-pushes_nowhere.ensures c.in_ok-starred.ensures.ok destination aimed in
-    let source = c.new.ensures.source ∙ ap side_of c.named.ensures in
-    read_with p c.new.result text Push m (side_of (named_by s)) (side_of t) c.requires.positive.operation refl source c.new.ensures.destination reads
+    let shape = subst (λ k. HasShape p.source.now k) same c.in_ok-starred.ensures.ok in
+    let op = c.requires.positive.operation in
+    let pos = c.requires.positive.positive in
+    sides_read p c.new.result
+    (fine_push c.in_ok-checked.field-0 c.args.target.now op pos c.requires.target c.if-pushes_nowhere.ensures shape c.in_ok-checked.ensures.ok)
+    (rw op (c.new.ensures.source ∙ ap side_of c.named.ensures)) (rw c.requires.target c.new.ensures.destination)
