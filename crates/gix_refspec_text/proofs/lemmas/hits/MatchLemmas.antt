@@ -1,7 +1,7 @@
 -- The refs that sides match, and the prefixes and candidates of sides.
 use Rattle.gix_refspec_text.proofs.Common.{arith, ◌≡◌, ◌≢◌, ℕ, List, [], ◌∷◌, ◌++◌, codes, Option, None, Some, refl, sym, ap, ◌∙◌, subst, append-nil, append_cancel_left, append_cancel_right, Lacks}
-use Rattle.gix_refspec_text.proofs.Common.{BeginsWith, IsSplit, star, head, SideKind, pattern, full_name, object, partial, HasKind, IsId, candidates, IsCandidate, Ref, MatchesAs, HasNoPrefix, Expands}
-use Rattle.gix_refspec_text.proofs.Common.{to_candidates, OneWord, PrefixBegins, Candidates}
+use Rattle.gix_refspec_text.proofs.Common.{BeginsWith, IsSplit, star, head, SideKind, pattern, full_name, object, partial, HasKind, IsId, IsCandidate, Ref, MatchesAs, HasNoPrefix, to_candidates}
+use Rattle.gix_refspec_text.proofs.Common.{OneWord, PrefixBegins, Candidates}
 use Rattle.gix_refspec_text.proofs.lemmas.hits.CandidateLemmas.{first_candidate, first_of_one, takes_first}
 use Rattle.gix_refspec_text.proofs.lemmas.lists.LacksLemmas.{Lacks-here, first_once}
 
@@ -37,16 +37,13 @@ begins_split x before after split below = record { after = below.after ++ (star 
 pub outside_none : (x : List ℕ) → x ≢ head → ¬ (BeginsWith (codes "refs/") x) → HasNoPrefix x
 outside_none x other outside p h = grind (arith, begins_split)
 
-only_candidates : (x : List ℕ) → x ≢ head → ¬ (BeginsWith (codes "refs/") x) → ¬ (IsId x) → (list : List (List ℕ)) → Expands x list → list ≡ candidates x
-only_candidates x other outside no_id list h = grind (arith, outside_none)
-
 short_matches : (x : List ℕ) (k : SideKind) (r : Ref) (word : Option (List ℕ)) → Lacks star x → ¬ (BeginsWith (codes "refs/") x) → ¬ (IsId x) → HasKind x k → MatchesAs k r word → IsCandidate x r.name
 short_matches x k r word lacks outside no_id kind fits = grind (arith, lacks_no_pattern)
 
 pub has_candidates : (x : List ℕ) → Candidates x
 has_candidates x lacks other outside no_id = record {
   expands = to_candidates (outside_none x other outside) outside no_id refl;
-  only = only_candidates x other outside no_id;
+  only = λ list h. grind (arith, outside_none);
   matches = λ r. (
     λ found. short_matches x found.1.kind r found.0 lacks outside no_id found.1.of found.1.is,
     λ one. (None, record { kind = partial x; of = (refl, lacks, outside, no_id); is = (refl, one) }),

@@ -1,9 +1,9 @@
 -- Each text is a name or has a fault, and each side is valid or bad for a reason.
-use Rattle.gix_refspec_text.proofs.Common.{AreParts, arith, ◌≡◌, ◌≢◌, ◌⊎◌, inl, inr, ℕ, Bool, true, false, List, [], ◌∷◌, ◌++◌, codes, nat_eq, refl, sym, ap, ◌∙◌, subst, append_assoc, length, take}
-use Rattle.gix_refspec_text.proofs.Common.{◌-◌, ends_with, ends_is, false≢true, append-nil, Decides-eqb, Error, Empty, EmptyComponent, StartsWithDot, LockSuffix, EndsWithDot, RepeatedDot}
-use Rattle.gix_refspec_text.proofs.Common.{ReflogPortion, Asterisk, InvalidByte, Lacks, EndsWith, slash, star, dot, brace, is_refused_byte, HasFault, IsName, AddsFault, LeavesFault, Added, IsClean}
-use Rattle.gix_refspec_text.proofs.Common.{cases_Bool, cases_eq, Option, None, Some, unwrap_or, nat_le, is_ascii_hexdigit, leb-true, le-leb, Operation, Push, Fetch, Shape, Plain, Pattern, letter}
-use Rattle.gix_refspec_text.proofs.Common.{plus, caret, colon, ReplacesStar, Mode, Normal, Forced, Negative, Reading, Refusal, NegativeWithDestination, PushToEmpty, PatternUnsupported, ReferenceName}
+use Rattle.gix_refspec_text.proofs.Common.{AreParts, arith, ◌≡◌, ◌≢◌, ◌⊎◌, inl, inr, ℕ, Bool, true, List, [], ◌∷◌, ◌++◌, codes, nat_eq, refl, sym, ap, ◌∙◌, subst, append_assoc, length, take, ◌-◌}
+use Rattle.gix_refspec_text.proofs.Common.{ends_with, ends_is, false≢true, append-nil, Decides-eqb, Error, Empty, EmptyComponent, StartsWithDot, LockSuffix, EndsWithDot, RepeatedDot, ReflogPortion}
+use Rattle.gix_refspec_text.proofs.Common.{Asterisk, InvalidByte, Lacks, EndsWith, slash, star, dot, brace, is_refused_byte, HasFault, IsName, AddsFault, LeavesFault, Added, IsClean, cases_Bool}
+use Rattle.gix_refspec_text.proofs.Common.{cases_eq, Option, None, Some, unwrap_or, nat_le, is_ascii_hexdigit, leb-true, le-leb, Operation, Push, Fetch, Shape, Plain, Pattern, letter, plus, caret}
+use Rattle.gix_refspec_text.proofs.Common.{colon, ReplacesStar, Mode, Normal, Forced, Negative, Reading, Refusal, NegativeWithDestination, PushToEmpty, PatternUnsupported, ReferenceName}
 use Rattle.gix_refspec_text.proofs.Common.{PatternUnbalanced, NegativeEmpty, NegativeObjectHash, IsBadPattern, IsFirstReason, IsRefused, IsSigned, IsPositive, LooksLikeObjectHash, Reads, HasShape}
 use Rattle.gix_refspec_text.proofs.Common.{HasCheckedShape, IsBadSide, list_all, ◌&&◌, and_parts, and_from, AllPass-from_list_all, list_all-from_AllPass}
 pub use Rattle.gix_refspec_text.proofs.lemmas.lists.LacksLemmas.{FirstIndex, lacks_or_first}
@@ -17,9 +17,6 @@ use Rattle.gix_refspec_text.proofs.lemmas.parsing.ReadsLemmas.{AreFine, fine_fet
 
 abbrev pub Decided : Type 0 → Type 0
 Decided P = P ⊎ (P → ⊥)
-
-pub tested : (b : Bool) → (b ≡ true) ⊎ (b ≡ false)
-tested = cases_Bool
 
 both : {P Q : Type 0} → Decided P → Decided Q → Decided (P × Q)
 both h q = grind arith

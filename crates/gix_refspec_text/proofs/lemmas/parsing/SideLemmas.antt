@@ -67,11 +67,8 @@ starred_fine x k fine = grind (arith, plain_fine, pattern_fine)
 pub empty_no_pattern : IsPattern [] → ⊥
 empty_no_pattern pattern = Lacks-ContainsText star [] tt (HasStar-pattern [] pattern)
 
-pub checked_plain : (x : List ℕ) → HasCheckedShape x Plain → Lacks star x
-checked_plain x fine = grind (arith, Lacks-name)
-
 pub checked_starred : (x : List ℕ) (k : Shape) → HasCheckedShape x k → HasShape x k
-checked_starred x k fine = grind (arith, checked_plain)
+checked_starred x k fine = grind (arith, Lacks-name)
 
 -- the bytes of an optional reference, or of an empty one in its place
 pub now-unwrap_or : (d : Option (Bor (List ℕ))) (e x : Bor (List ℕ)) → x ≡ unwrap_or d e → e.now ≡ [] → x.now ≡ unwrap_or (option_map (λ (y : Bor (List ℕ)). y.now) d) []

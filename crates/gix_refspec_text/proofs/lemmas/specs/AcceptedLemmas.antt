@@ -1,6 +1,6 @@
 -- The sides of each reading that some text has.
 use Rattle.gix_refspec_text.proofs.Common.{Shape, Plain, Pattern, HasShape, IfSome, side_of, Mode, Push, Fetch, ◌∷◌, arith, ◌≡◌, ◌⊎◌, ℕ, List, [], Option, None, Some, sym, subst, ∥∥₁_elim, Operation}
-use Rattle.gix_refspec_text.proofs.Common.{Lacks, IsPattern, HasSeveralStars, star, head, Reading, side_on_remote, remote_of, named_by, Reads, IsAccepted, IsOneStarred}
+use Rattle.gix_refspec_text.proofs.Common.{Lacks, IsPattern, HasSeveralStars, star, head, Reading, remote_of, named_by, Reads, IsAccepted, IsOneStarred}
 use Rattle.gix_refspec_text.proofs.lemmas.texts.TextLemmas.{Lacks-ContainsText}
 use Rattle.gix_refspec_text.proofs.lemmas.parsing.ReadsLemmas.{AreFine, fine_fetch, fine_alone, fine_push, fine_negative, fine_parts, made, source_of}
 use Rattle.gix_refspec_text.proofs.lemmas.parsing.ReasonLemmas.{sides_balanced}
@@ -67,11 +67,8 @@ one_few r x sound h = grind arith
 pub accepted_few : (r : Reading) (x : List ℕ) → ∥ IsAccepted r ∥₁ → (r.source ≡ Some x) ⊎ (r.destination ≡ Some x) → ¬ (HasSeveralStars x)
 accepted_few r x accepted side = ∥∥₁_elim accepted (hlevel []) (λ by. one_few r x (reads_sound r.operation by.0 r by.1) side)
 
-remote_is : (op : Operation) (s d : Option (List ℕ)) (x : List ℕ) → side_on_remote op s d ≡ Some x → (s ≡ Some x) ⊎ (d ≡ Some x)
-remote_is op s d x is = grind arith
-
 pub remote_few : (r : Reading) (x : List ℕ) → ∥ IsAccepted r ∥₁ → remote_of r ≡ Some x → ¬ (HasSeveralStars x)
-remote_few r x accepted is = accepted_few r x accepted (remote_is r.operation r.source r.destination x is)
+remote_few r x accepted is = accepted_few r x accepted (grind arith)
 
 pub accepted_balanced : (r : Reading) (s d : List ℕ) → ∥ IsAccepted r ∥₁ → r.source ≡ Some s → r.destination ≡ Some d → ¬ (IsOneStarred s d)
 accepted_balanced r s d accepted source destination =

@@ -1,12 +1,12 @@
 -- Each form is printed as a text that reads back with the same meaning.
-use Rattle.gix_refspec_text.proofs.Common.{◌≡◌, ◌≢◌, ◌⊎◌, inl, inr, ℕ, Bool, List, [], ◌∷◌, ◌++◌, Option, None, Some, option_map, refl, sym, ap, ◌∙◌, subst, arith, Operation, Push, Fetch, Lacks}
-use Rattle.gix_refspec_text.proofs.Common.{IsName, IsPattern, star, plus, caret, colon, head, Mode, Normal, Forced, Negative, Reading, named_by, IsPositive, IsNameOrPattern, AreAlike, AreParts}
+use Rattle.gix_refspec_text.proofs.Common.{cases_Bool, ◌≡◌, ◌≢◌, ◌⊎◌, inl, inr, ℕ, Bool, List, [], ◌∷◌, ◌++◌, Option, None, Some, option_map, refl, sym, ap, ◌∙◌, subst, arith, Operation, Push, Fetch}
+use Rattle.gix_refspec_text.proofs.Common.{Lacks, IsName, IsPattern, star, plus, caret, colon, head, Mode, Normal, Forced, Negative, Reading, named_by, IsPositive, IsNameOrPattern, AreAlike, AreParts}
 use Rattle.gix_refspec_text.proofs.Common.{LooksLikeObjectHash, fetched, pushed, Reads, fetches_nothing_named, fetches_colon, fetches, updates, updates_from_head, fetch_excludes, pushes_plus}
 use Rattle.gix_refspec_text.proofs.Common.{pushes_colon, pushes, deletes, pushes_pattern, pushes_to, push_excludes, meaning, meaning_of, included, printed, text_of, sign, begins_with_plus}
 use Rattle.gix_refspec_text.proofs.Common.{push_all_matching, push_delete, push_matching, push_exclude, fetch_only, fetch_exclude, fetch_and_update, IsPrintedBack, ReadsOrRefused, EqualTexts}
 use Rattle.gix_refspec_text.proofs.Common.{same_Some, ◌==◌, true, false, if◌then◌else◌, at, IsUnsigned, with_colon, Meaning, eqb-true}
 use Rattle.gix_refspec_text.proofs.lemmas.parsing.SideLemmas.{Lacks-name, HasStar-pattern}
-use Rattle.gix_refspec_text.proofs.lemmas.parsing.DecideLemmas.{tested, read_or_refused}
+use Rattle.gix_refspec_text.proofs.lemmas.parsing.DecideLemmas.{read_or_refused}
 use Rattle.gix_refspec_text.proofs.lemmas.texts.HeadLemmas.{IsName-head, Lacks-colon_name, unsigned_name, Lacks-colon_pattern}
 use Rattle.gix_refspec_text.proofs.lemmas.parsing.ReadsLemmas.{alike_full, name_not_empty, pattern_not_empty, either_not_empty}
 use Rattle.gix_refspec_text.proofs.lemmas.parsing.ReadOnceLemmas.{reads_once}
@@ -46,7 +46,7 @@ named_once s = grind (arith, named_single)
 -- a pattern names itself, as it isn't `@`, which has no star
 pub named_pattern : (s : List ℕ) → IsPattern s → named_by s ≡ s
 named_pattern [] pattern = refl
-named_pattern (b ∷ []) pattern = elim (tested (b == at)) [
+named_pattern (b ∷ []) pattern = elim (cases_Bool (b == at)) [
   | inl is_at ↦ absurd (Lacks-ContainsText star (b ∷ []) ((λ same. omega (arith, eqb-true b at is_at, same)), tt) (HasStar-pattern (b ∷ []) pattern))
   | inr other ↦ ap (λ v. if v then head else b ∷ []) other
 ]
@@ -54,9 +54,6 @@ named_pattern (b ∷ c ∷ bs) pattern = refl
 
 pub named_either : (s : List ℕ) → IsNameOrPattern s → IsNameOrPattern (named_by s)
 named_either s h = grind (arith, named_name, named_pattern)
-
-pub named_alike : (s d : List ℕ) → AreAlike s d → AreAlike (named_by s) d
-named_alike s d h = grind (arith, named_name, named_pattern)
 
 pub Lacks-colon_either : (s : List ℕ) → IsNameOrPattern s → Lacks colon s
 Lacks-colon_either s h = grind (arith, Lacks-colon_name, Lacks-colon_pattern)
@@ -86,7 +83,7 @@ means : (op : Operation) (m : Mode) (s d : Option (List ℕ)) → IsPositive m �
 means op m s d pos = grind arith
 
 back_only : (m : Mode) (s : List ℕ) → IsPositive m → IsName s → named_by s ≡ s → IsPrintedBack Fetch (fetched m s None)
-back_only m s pos name once = elim (tested (begins_with_plus s)) [
+back_only m s pos name once = elim (cases_Bool (begins_with_plus s)) [
   | inl so ↦ printed_back Fetch _ (fetched Forced (named_by s) None) (fetch_only s) (means Fetch m (Some s) None pos)
       (rw so (fetches Forced s refl tt (inl (record { signed = refl; last = Lacks-colon_name s name })) name refl))
       (ap (λ (x : List ℕ). Some (fetch_only x)) once)
@@ -100,7 +97,7 @@ back_update : (m : Mode) (s d text : List ℕ) → IsPositive m → AreParts m s
 back_update m s d text pos parts alike =
     let t = named_by s in
     printed_back Fetch _ (fetched m (named_by t) (Some d)) (fetch_and_update t d (is_forced m)) (means Fetch m (Some t) (Some d) pos)
-    (updates m t d refl pos (named_parts m s d (Some d) text pos (alike_full s d alike).0 parts parts.last) (named_alike s d alike) refl)
+    (updates m t d refl pos (named_parts m s d (Some d) text pos (alike_full s d alike).0 parts parts.last) (grind (arith, named_name, named_pattern)) refl)
     (means Fetch m (Some (named_by t)) (Some d) pos ∙ ap (λ (x : List ℕ). Some (fetch_and_update x d (is_forced m))) (named_once s))
 
 pub head_parts : (m : Mode) (d : List ℕ) → IsPositive m → Lacks colon d → AreParts m head (Some d) (sign (is_forced m) ++ (head ++ (colon ∷ d)))

@@ -69,12 +69,9 @@ pub record IsComponent (w x : List ℕ) : Type 0 where
   pub whole : Lacks slash w
   pub ends : IsEnd after
 
-front_IsEnd : (x before w : List ℕ) → slash ∷ x ≡ before ++ (slash ∷ w) → IsEnd before
-front_IsEnd x before w here = grind arith
-
 pub SomeComponent-from : (P : List ℕ → Type 0) (w x : List ℕ) → IsComponent w x → P w → SomeComponent P x
 SomeComponent-from P w x found fact =
-    let front = fence_parts found.before (front_IsEnd x found.before (w ++ found.after) found.here) in
+    let front = fence_parts found.before (let here = found.here in grind arith) in
     let back = fence_parts found.after found.ends in
     let same : fenced (front.0 ++ (w ∷ back.0)) ≡ slash ∷ x =
     fenced-append front.0 (w ∷ back.0) ∙ ap (λ y. y ++ fenced (w ∷ back.0)) front.2 ∙ ap (λ y. found.before ++ (slash ∷ (w ++ y))) back.2 ∙ sym found.here in

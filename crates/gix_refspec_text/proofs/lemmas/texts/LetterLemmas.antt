@@ -178,11 +178,9 @@ pub letters-Lacks : (x : List ℕ) → Lacks star x → with_letters x ≡ x
 letters-Lacks [] lacks = refl
 letters-Lacks (b ∷ x) lacks = ap (λ c. c ∷ with_letters x) (letter_for-other b lacks.0) ∙ ap (λ y. b ∷ y) (letters-Lacks x lacks.1)
 
-letters-split : (before after x : List ℕ) → IsSplit before after x → with_letters x ≡ before ++ (letter ∷ after)
-letters-split before after x split = search (arith, letters-append, letters-Lacks)
-
 pub replaces_one : (before after x : List ℕ) → IsSplit before after x → ReplacesStar x (with_letters x)
-replaces_one before after x split = record { before = before; after = after; split = split; replaced = letters-split before after x split }
+replaces_one before after x split =
+    record { before = before; after = after; split = split; replaced = search (arith, letters-append, letters-Lacks) }
 
 pub pattern_with_letter : (x : List ℕ) → HasOneStar x → IsName (with_letters x) → IsPattern x
 pattern_with_letter x (before, after, split) name = record { with_letter = with_letters x; replaces = replaces_one before after x split; name = name }

@@ -1,8 +1,8 @@
 -- The faults that one pass over the bytes finds are the faults of a name.
 use Rattle.gix_refspec_text.proofs.Common.{same_from_push, ◌≡◌, ◌≢◌, ℕ, List, [], ◌∷◌, ◌++◌, codes, length, take, drop, get_or, ◌+◌, ◌<◌, ◌≤◌, suc, Option, MatchOption, true, IsTrue, refl, sym, ap}
 use Rattle.gix_refspec_text.proofs.Common.{◌∙◌, subst, inl, inr, append_assoc, arith, Bool, ◌-◌, nat_eq, Decides, ends_with, ends_is, Decides-eqb, append-nil, ◌⊎◌, false≢true, Error, Empty}
-use Rattle.gix_refspec_text.proofs.Common.{EmptyComponent, StartsWithDot, LockSuffix, EndsWithDot, RepeatedDot, ReflogPortion, Asterisk, InvalidByte, Lacks, ContainsText, BeginsWith, EndsWith, slash}
-use Rattle.gix_refspec_text.proofs.Common.{star, dot, brace, is_refused_byte, SomeComponent, HasFault, IsName, AddsFault, Added, IsClean, LeavesFault, Finds, drop_of_length-le, take_more}
+use Rattle.gix_refspec_text.proofs.Common.{EmptyComponent, StartsWithDot, LockSuffix, EndsWithDot, RepeatedDot, ReflogPortion, Asterisk, InvalidByte, ContainsText, BeginsWith, EndsWith, slash, star}
+use Rattle.gix_refspec_text.proofs.Common.{dot, brace, is_refused_byte, SomeComponent, HasFault, IsName, AddsFault, Added, IsClean, LeavesFault, Finds, drop_of_length-le, take_more}
 use Rattle.gix_refspec_text.proofs.lemmas.texts.TextLemmas.{split_at}
 use Rattle.gix_refspec_text.proofs.lemmas.texts.ComponentLemmas.{IsEnd, IsComponent, Pieces, pieces_of, fenced, fenced-IsEnd, last_slash_after_one, SomeComponent-from, SomeComponent-index}
 use Rattle.gix_refspec_text.proofs.lemmas.lists.AllLemmas.{all_join}
@@ -69,9 +69,6 @@ dotted_component x p after here =
     })
     (record { after = split.first; here = refl })
 
-dot_lock_whole : Lacks slash (codes ".lock")
-dot_lock_whole = omega arith
-
 regroup : (a b c d : List ℕ) → ((a ++ b) ++ c) ++ d ≡ a ++ ((b ++ c) ++ d)
 regroup a b c d = simp append_assoc
 
@@ -85,7 +82,7 @@ locked_component x (c ∷ p) after here ends =
       before = split.before;
       after = after;
       here = here ∙ ap (λ z. (z ++ codes ".lock") ++ after) split.here ∙ regroup split.before (slash ∷ split.after) (codes ".lock") after;
-      whole = all_join (λ c. c ≢ slash) split.after (codes ".lock") split.last dot_lock_whole;
+      whole = all_join (λ c. c ≢ slash) split.after (codes ".lock") split.last (omega arith);
       ends = ends;
     })
     (record { before = split.after; here = refl })

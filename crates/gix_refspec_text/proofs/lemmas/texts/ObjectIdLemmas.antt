@@ -1,9 +1,9 @@
 -- The texts of ids: which texts they are, that each is the text of only one id, and that decoding finds it.
-use Rattle.gix_refspec_text.proofs.Common.{nat_tests, ◌≡◌, ℕ, zero, suc, ◌+◌, ◌*◌, ◌/◌, ◌%◌, ◌<◌, ◌≤◌, Bool, List, [], ◌∷◌, length, slice_index, take, nat_lt, ◌⊎◌, inl, inr, Option, Some, is_some}
-use Rattle.gix_refspec_text.proofs.Common.{true, agree_below_at, not, ◌||◌, eqb, eqb-true, unwrap_or, false, Result, Ok, Err, refl, sym, ap, ◌∙◌, subst, arith, ◌++◌, drop, IsOk, MatchBool}
-use Rattle.gix_refspec_text.proofs.Common.{MatchResult, AllPass, SomeIndex, list_all, IsAscii, IsUtf8, false≢true, cases_Bool, cases_eq, ltb-true, length-take-le, take-append-le, take_all, All-cons}
-use Rattle.gix_refspec_text.proofs.Common.{All-head, All-nil, All-tail, All-weaker, AllPass-from_list_all, Digit, Length, Kind, Sha1, Sha256, HasIdFault, IsIdLength, IsIdText, IsLowerText}
-use Rattle.gix_refspec_text.proofs.Common.{IsSpelledBy, Spells, bytes_of, digits_of, is_lower_digit, lower_of, IsId, HasOneFault, IdOrFault, OneLowerText, list_all-from_AllPass}
+use Rattle.gix_refspec_text.proofs.Common.{nat_tests, ◌≡◌, ℕ, zero, suc, ◌+◌, ◌*◌, ◌/◌, ◌%◌, ◌<◌, Bool, List, [], ◌∷◌, length, slice_index, take, nat_lt, ◌⊎◌, inl, inr, Option, Some, is_some, true}
+use Rattle.gix_refspec_text.proofs.Common.{agree_below_at, not, ◌||◌, eqb, eqb-true, unwrap_or, false, Result, Ok, Err, refl, sym, ap, ◌∙◌, subst, arith, ◌++◌, drop, IsOk, MatchBool, MatchResult}
+use Rattle.gix_refspec_text.proofs.Common.{AllPass, SomeIndex, list_all, IsAscii, IsUtf8, false≢true, cases_Bool, cases_eq, ltb-true, length-take-le, take-append-le, take_all, All-cons, All-head}
+use Rattle.gix_refspec_text.proofs.Common.{All-nil, All-tail, All-weaker, AllPass-from_list_all, Digit, Length, Kind, Sha1, Sha256, HasIdFault, IsIdLength, IsIdText, IsLowerText, IsSpelledBy, Spells}
+use Rattle.gix_refspec_text.proofs.Common.{bytes_of, digits_of, is_lower_digit, lower_of, IsId, HasOneFault, IdOrFault, OneLowerText, list_all-from_AllPass}
 use Rattle.std.specs.Result.{is_err, result_unwrap_or}
 use Rattle.std.proofs.lemmas.Str.{IsUtf8-from_ascii}
 use Rattle.std.proofs.lemmas.Str.Ascii.{IsAscii-from_all}
@@ -15,9 +15,6 @@ use Rattle.gix_refspec_text.specs.declared.oid.Error.{Error}
 
 pub digits_of-twice : (kind : Kind) → digits_of kind ≡ 2 * bytes_of kind
 digits_of-twice kind = grind arith
-
-pub bytes_of-fits : (kind : Kind) → bytes_of kind ≤ 32
-bytes_of-fits kind = grind arith
 
 Spells-tail : (a b x : ℕ) (t i : List ℕ) → Spells (a ∷ b ∷ t) (x ∷ i) → Spells t i
 Spells-tail a b x t i spelled k below =
@@ -99,11 +96,8 @@ pub IsIdText-sound : (t i : List ℕ) (e : Error) → IsIdText t i → HasIdFaul
 IsIdText-sound t i (Length len) text (same, other) = other (text.kind, text.digits)
 IsIdText-sound t i Digit text (len, index) = cc (sym index.2 ∙ AllPass-IsIdText t i text index.0 0 index.1)
 
-one_fault : (t : List ℕ) (e f : Error) → HasIdFault t e → HasIdFault t f → e ≡ f
-one_fault t e f a b = grind arith
-
 has_one_fault : (t : List ℕ) (e : Error) → HasIdFault t e → HasOneFault t
-has_one_fault t e fault = record { fault = e; has = fault; only = λ f other. one_fault t f e other fault; unread = λ i text. IsIdText-sound t i e text fault }
+has_one_fault t e fault = record { fault = e; has = fault; only = λ f other. grind arith; unread = λ i text. IsIdText-sound t i e text fault }
 
 digits_or_not : (t : List ℕ) → AllPass is_hex_digit t ⊎ SomeIndex t (λ k. is_hex_digit (slice_index t k) ≡ false)
 digits_or_not [] = inl (All-nil (λ c. is_hex_digit c ≡ true))
@@ -141,7 +135,7 @@ IsId-by_digits t true size same = IsIdText-digits t size (AllPass-from_list_all 
 IsId-by_digits t false size same = λ id. false≢true (same ∙ list_all-from_AllPass is_hex_digit t (AllPass-IsIdText t id.0 id.1))
 
 length-room : (kind : Kind) (buffer : List ℕ) → length buffer ≡ 32 → length (take (bytes_of kind) buffer) ≡ bytes_of kind
-length-room kind buffer room = length-take-le (bytes_of kind) buffer (omega (arith, bytes_of-fits kind))
+length-room kind buffer room = length-take-le (bytes_of kind) buffer (grind arith)
 
 -- the call that decodes fails exactly if the text doesn't decode, and otherwise writes the bytes
 decoded : (d : Result (List ℕ) FromHexError) (r : Result (Unit {0}) FromHexError) (new : List ℕ) → MatchResult d (λ bytes. (r ≡ Ok tt) × (new ≡ bytes)) (λ e. r ≡ Err e) → MatchBool (is_err r) (¬ (IsOk d)) (d ≡ Ok new)

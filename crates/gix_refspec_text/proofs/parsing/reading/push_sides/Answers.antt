@@ -27,5 +27,5 @@ returns-clause-ok c =
     let op = c.requires.positive.operation in
     let pos = c.requires.positive.positive in
     sides_read p c.new.result
-    (fine_push c.in_ok-checked.field-0 c.args.target.now op pos c.requires.target c.if-pushes_nowhere.ensures shape c.in_ok-checked.ensures.ok)
+    (fine_push _ c.args.target.now op pos c.requires.target c.if-pushes_nowhere.ensures shape c.in_ok-checked.ensures.ok)
     (rw op (c.new.ensures.source ∙ ap side_of c.named.ensures)) (rw c.requires.target c.new.ensures.destination)
