@@ -21,7 +21,6 @@ Decided P = P ⊎ (P → ⊥)
 both : {P Q : Type 0} → Decided P → Decided Q → Decided (P × Q)
 both h q = grind arith
 
--- what a test shows, and what shows the test, holds or doesn't
 pub decided_by : {P : Type 0} (b : Bool) → (b ≡ true → P) → (P → b ≡ true) → Decided P
 decided_by b so back = elim (cases_Bool b) [ inl is ↦ inl (so is) | inr other ↦ inr (λ holds. false≢true (sym other ∙ back holds)) ]
 

@@ -2,7 +2,6 @@
 use Rattle.gix_refspec_text.proofs.Common.{◌≡◌, ℕ, List, Option, arith, Mode, IsSigned, with_colon, LastLacksColon, AreParts}
 use Rattle.gix_refspec_text.proofs.lemmas.lists.LacksLemmas.{Lacks-here, last_once}
 
--- a text with its parts
 pub record Parted (text : List ℕ) : Type 0 where
   pub mode : Mode
   pub source : List ℕ

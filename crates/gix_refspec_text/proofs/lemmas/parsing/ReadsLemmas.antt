@@ -76,7 +76,6 @@ made op m s d = record { operation = op; mode = m; source = source_of op s; dest
 pub source_named : (op : Operation) (s : List ℕ) → s ≢ [] → source_of op s ≡ side_of (named_by s)
 source_named op s full = grind (arith, side_of-named)
 
--- a text with valid parts has that reading
 pub fine_reads : (op : Operation) (m : Mode) (s : List ℕ) (d : Option (List ℕ)) (text : List ℕ)
     → AreFine op m s d → AreParts m s d text → Reads op text (made op m s d)
 fine_reads op m s d x (fine_fetch k fetch pos a b) p = rw fetch (fetch_reads m s d k x pos a b p)
@@ -85,7 +84,6 @@ fine_reads op m s d x (fine_push k t push pos is somewhere a b) p = rw (push, is
 fine_reads op m s d x (fine_negative k minus none full a hash) p =
     rw (minus, none, source_named op s full) (negative_reads op s k x full a hash (rw (minus, none) at p))
 
--- so parts have sides with the source and the destination of that reading
 pub sides_read : (p : Parts) (sides : Sides) → AreFine p.operation (mode_of p.mode) p.source.now (destination_of p)
     → option_map bstr_bytes sides.source ≡ source_of p.operation p.source.now
     → option_map bstr_bytes sides.destination ≡ side_of (unwrap_or (destination_of p) []) → AreSidesOf p sides
@@ -215,7 +213,6 @@ unread op m s d text e r parts first reads =
 pub refused : (op : Operation) (m : Mode) (s : List ℕ) (d : Option (List ℕ)) (text : List ℕ) (e : Refusal) → AreParts m s d text → IsFirstReason op m s d e → IsRefused op text e
 refused op m s d text e parts first = record { unread = λ r. unread op m s d text e r parts first; mode = m; source = s; destination = d; parts = parts; first = first }
 
--- an error of the parts that a text was split into is an error of the text
 pub error_of_text : (p : Parts) (bytes text : List ℕ) (e : Error) → bytes ≡ text → HasParts bytes p → IsReasonAgainst p e → IsErrorOf p.operation text e
 error_of_text p bytes text e same split =
     let parts = subst (λ (x : List ℕ). HasParts x p) same split in

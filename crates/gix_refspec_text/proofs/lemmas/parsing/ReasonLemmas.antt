@@ -33,7 +33,6 @@ push_reaches m s t pos somewhere = grind (arith, positive)
 pub starred_not_empty : (t : List ℕ) → HasStar t → t ≢ []
 starred_not_empty t has empty = Lacks-ContainsText star [] tt (subst HasStar empty has)
 
--- a bad pattern isn't empty, and is a bad source of a push to a destination
 pub bad_source_of_push : (s t : List ℕ) (f : Refusal) → IsBadPattern s f → HasBadSource Push s (Some t) f
 bad_source_of_push s t f bad = record { source = starred_not_empty s (HasStar-bad s f bad); refusal = bad }
 

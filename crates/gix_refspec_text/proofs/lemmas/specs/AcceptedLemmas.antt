@@ -26,7 +26,6 @@ shape_few : (x : List ℕ) (k : Shape) → HasShape x k → ¬ (HasSeveralStars 
 shape_few x Plain lacks stars = Lacks-ContainsText star x lacks (HasStar-stars x stars)
 shape_few x Pattern pattern stars = HasSeveralStars-replaced x pattern.with_letter pattern.replaces stars
 
--- sides of one shape are sound
 shapes_sound : (s d : Option (List ℕ)) (k : Shape) → IfSome s (λ x. HasShape x k) → IfSome d (λ x. HasShape x k)
     → HasFew s × HasFew d × AreBalanced s d
 shapes_sound None None k a b = (tt, tt, tt)

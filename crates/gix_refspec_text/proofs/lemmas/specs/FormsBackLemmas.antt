@@ -97,7 +97,8 @@ back_update : (m : Mode) (s d text : List ℕ) → IsPositive m → AreParts m s
 back_update m s d text pos parts alike =
     let t = named_by s in
     printed_back Fetch _ (fetched m (named_by t) (Some d)) (fetch_and_update t d (is_forced m)) (means Fetch m (Some t) (Some d) pos)
-    (updates m t d refl pos (named_parts m s d (Some d) text pos (alike_full s d alike).0 parts parts.last) (grind (arith, named_name, named_pattern)) refl)
+    (updates m t d refl pos (named_parts m s d (Some d) text pos (alike_full s d alike).0 parts parts.last)
+        (grind (arith, named_name, named_pattern)) refl)
     (means Fetch m (Some (named_by t)) (Some d) pos ∙ ap (λ (x : List ℕ). Some (fetch_and_update x d (is_forced m))) (named_once s))
 
 pub head_parts : (m : Mode) (d : List ℕ) → IsPositive m → Lacks colon d → AreParts m head (Some d) (sign (is_forced m) ++ (head ++ (colon ∷ d)))
@@ -182,7 +183,6 @@ once_or_refused op text = elim (read_or_refused op text) [
   | inr refusal ↦ inr refusal
 ]
 
--- readings with the same canonical text have the same meaning, since that text has only one reading
 same_meaning_by_text : (op : Operation) (r q : Reading) → IsPrintedBack op r → IsPrintedBack op q → printed r ≡ printed q → meaning_of r ≡ meaning_of q
 same_meaning_by_text op r q back_r back_q same =
     let texts = same_Some back_r.text back_q.text (sym back_r.is ∙ (same ∙ back_q.is)) in

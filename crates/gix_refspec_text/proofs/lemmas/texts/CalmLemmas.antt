@@ -27,7 +27,6 @@ module _ (f g h : ℕ → ℕ) where
   lane : ℕ → ℕ → Bool
   lane x y = top 7 (bit_or (f x) (bit_and (g x) (h y)))
 
-  -- each lane below the lowest set one is clear
   pub lane_clear : (d : List ℕ) (i r : ℕ) (s a b : List ℕ) → 0 < i → i + 16 ≤ length d → s ≡ map f (chunk i 16 d) → a ≡ map g (chunk i 16 d) → b ≡ map h (chunk (i - 1) 16 d)
       → r ≡ lowest_of 16 (mask_l (map (top 7) (zip2 bit_or s (zip2 bit_and a b))) % 2 ^ 64)
       → (r ≤ 16) × ((k : ℕ) → i ≤ k → k < i + r → top 7 (bit_or (f (get_or d k 0)) (bit_and (g (get_or d k 0)) (h (get_or d (k - 1) 0)))) ≡ false)
@@ -92,7 +91,6 @@ calm_after_other x y not_slash not_k even = search (arith, or_cases, plain_class
 calm_from_clear : (x y : ℕ) → x < 256 → top 7 (bit_or (stop x) (bit_and (slashed x) (ending y))) ≡ false → IsCalm y x
 calm_from_clear x y below clear = search (arith, cases_eq, plain_after_end, calm_after_other, plain_or_slash, ending-other)
 
--- bytes below the lowest set lane are calm
 pub calm_from_lanes : (d : List ℕ) (i r : ℕ) (s a b : List ℕ) → ((k : ℕ) → Fits w8 (get_or d k 0)) → 0 < i → i + 16 ≤ length d → s ≡ map stop (chunk i 16 d) → a ≡ map slashed (chunk i 16 d) → b ≡ map ending (chunk (i - 1) 16 d)
     → r ≡ lowest_of 16 (mask_l (map (top 7) (zip2 bit_or s (zip2 bit_and a b))) % 2 ^ 64) → AreCalm d i (i + r) × (r ≤ 16)
 calm_from_lanes d i r s a b fits some room of_s of_a of_b found =

@@ -97,7 +97,7 @@ IsIdText-sound t i (Length len) text (same, other) = other (text.kind, text.digi
 IsIdText-sound t i Digit text (len, index) = cc (sym index.2 ∙ AllPass-IsIdText t i text index.0 0 index.1)
 
 has_one_fault : (t : List ℕ) (e : Error) → HasIdFault t e → HasOneFault t
-has_one_fault t e fault = record { fault = e; has = fault; only = λ f other. grind arith; unread = λ i text. IsIdText-sound t i e text fault }
+has_one_fault t e fault = record { fault = e; has = fault; only = λ f other. grind arith; unread = λ i x. IsIdText-sound t i e x fault }
 
 digits_or_not : (t : List ℕ) → AllPass is_hex_digit t ⊎ SomeIndex t (λ k. is_hex_digit (slice_index t k) ≡ false)
 digits_or_not [] = inl (All-nil (λ c. is_hex_digit c ≡ true))
@@ -187,7 +187,6 @@ IsLowerText-lower_of kind i size fits =
 hex_digit_value-small : (c v : ℕ) → hex_digit_value c ≡ Some v → v < 16
 hex_digit_value-small c v read = grind arith
 
--- a digit in lower case is the one of the table with its value
 lower_digit : (c v : ℕ) → is_lower_digit c ≡ true → hex_digit_value c ≡ Some v → slice_index lower_digits v ≡ c
 lower_digit c v lower read =
     let below : c < 103 = grind (arith, nat_tests) in

@@ -8,11 +8,10 @@ use Rattle.gix_refspec_text.proofs.parsing.reading.negative_sides.Goals as goal
 pub returns-then-looks_like_object_hash-clause-err : goal.returns-then-looks_like_object_hash-clause-err
 returns-then-looks_like_object_hash-clause-err c =
     let p = c.args.parts in
-    let s = p.source.now in
     let none = none_from_test p.destination c.if-is_some.ensures in
-    let full = full_from_test s c.if-is_empty.ensures in
+    let full = full_from_test p.source.now c.if-is_empty.ensures in
     let hash = c.if-looks_like_object_hash.ensures.0 refl in
-    let first = reason_against_object p.operation s c.in_ok-checked.field-0 full c.in_ok-checked.ensures.ok hash in
+    let first = reason_against_object p.operation p.source.now c.in_ok-checked.field-0 full c.in_ok-checked.ensures.ok hash in
     (NegativeObjectHash, refl, rw (c.requires, none) first)
 
 pub returns-clause-ok : goal.returns-clause-ok
