@@ -104,9 +104,6 @@ back_update m s d text pos parts alike =
 pub head_parts : (m : Mode) (d : List ℕ) → IsPositive m → Lacks colon d → AreParts m head (Some d) (sign (is_forced m) ++ (head ++ (colon ∷ d)))
 head_parts m d pos lacks = grind (arith, head_unsigned)
 
-back_from_head : (m : Mode) (d : List ℕ) → IsPositive m → IsName d → IsPrintedBack Fetch (fetched m head (Some d))
-back_from_head m d pos name = back_update m head d _ pos (head_parts m d pos (Lacks-colon_name d name)) (inl (IsName-head, name))
-
 named_hash : (s : List ℕ) → ¬ (LooksLikeObjectHash s) → ¬ (LooksLikeObjectHash (named_by s))
 named_hash s other = named_so (λ (x : List ℕ). ¬ (LooksLikeObjectHash x)) s (λ hash. omega (arith, hash.long)) other
 
@@ -124,13 +121,10 @@ back_push_exclude s either other =
     (push_excludes t refl (record { signed = refl; last = Lacks-colon_either t (named_either s either) }) (named_either s either) (named_hash s other) refl)
     (ap (λ (x : List ℕ). Some (push_exclude x)) (named_once s))
 
-colon_parts : (m : Mode) → IsPositive m → AreParts m [] (Some []) (sign (is_forced m) ++ (colon ∷ []))
-colon_parts m pos = grind (arith, colon_unsigned)
-
 back_all : (m : Mode) → IsPositive m → IsPrintedBack Push (pushed m None None)
 back_all m pos =
     let told = means Push m None None pos in
-    printed_back Push _ (pushed m None None) (push_all_matching (is_forced m)) told (pushes_colon m refl pos (colon_parts m pos) refl) told
+    printed_back Push _ (pushed m None None) (push_all_matching (is_forced m)) told (pushes_colon m refl pos (grind (arith, colon_unsigned)) refl) told
 
 reads_twice : (m : Mode) (s text : List ℕ) → IsPositive m → AreParts m s (Some s) text → IsNameOrPattern s → Reads Push text (pushed m (Some (named_by s)) (Some s))
 reads_twice m s text pos parts (inl name) = pushes_to m s s refl pos parts (name_not_empty s name) (Lacks-name s name) name refl
@@ -160,7 +154,8 @@ read_back op text r (fetches_nothing_named m fetch pos parts is) = rw (fetch, is
 read_back op text r (fetches_colon m fetch pos parts is) = rw (fetch, is) (back_only m head pos IsName-head refl)
 read_back op text r (fetches m s fetch pos parts name is) = rw (fetch, is) (back_only m (named_by s) pos (named_name s name) (named_once s))
 read_back op text r (updates m s d fetch pos parts alike is) = rw (fetch, is) (back_update m s d text pos parts alike)
-read_back op text r (updates_from_head m d fetch pos parts name is) = rw (fetch, is) (back_from_head m d pos name)
+read_back op text r (updates_from_head m d fetch pos parts name is) =
+    rw (fetch, is) (back_update m head d _ pos (head_parts m d pos (Lacks-colon_name d name)) (inl (IsName-head, name)))
 read_back op text r (fetch_excludes s fetch parts either hash is) = rw (fetch, is) (back_fetch_exclude s either hash)
 read_back op text r (pushes_plus push parts is) = rw (push, is) (back_all Forced tt)
 read_back op text r (pushes_colon m push pos parts is) = rw (push, is) (back_all m pos)

@@ -126,9 +126,6 @@ id_or_fault t = elim (length_or_not (length t)) [
   ]
 ]
 
-pub id_size : (n : ℕ) → (n ≡ 40) ⊎ (n ≡ 64) → IsIdLength n
-id_size n h = grind arith
-
 -- a text as long as an id spells one exactly if all its bytes are digits
 pub IsId-by_digits : (t : List ℕ) (digits : Bool) → IsIdLength (length t) → digits ≡ list_all is_hex_digit t → MatchBool digits (IsId t) (¬ (IsId t))
 IsId-by_digits t true size same = IsIdText-digits t size (AllPass-from_list_all is_hex_digit t (sym same))
