@@ -60,11 +60,8 @@ reads_sound op text r reads =
     let p = fine_parts op text r reads in
     subst AreSound (sym p.is) (fine_sound op p.of.mode p.of.source p.of.destination p.fine)
 
-one_few : (r : Reading) (x : List ℕ) → AreSound r → (r.source ≡ Some x) ⊎ (r.destination ≡ Some x) → ¬ (HasSeveralStars x)
-one_few r x sound h = grind arith
-
 pub accepted_few : (r : Reading) (x : List ℕ) → ∥ IsAccepted r ∥₁ → (r.source ≡ Some x) ⊎ (r.destination ≡ Some x) → ¬ (HasSeveralStars x)
-accepted_few r x accepted side = ∥∥₁_elim accepted (hlevel []) (λ by. one_few r x (reads_sound r.operation by.0 r by.1) side)
+accepted_few r x accepted side = ∥∥₁_elim accepted (hlevel []) (λ by. let sound = reads_sound r.operation by.0 r by.1 in grind arith)
 
 pub remote_few : (r : Reading) (x : List ℕ) → ∥ IsAccepted r ∥₁ → remote_of r ≡ Some x → ¬ (HasSeveralStars x)
 remote_few r x accepted is = accepted_few r x accepted (grind arith)

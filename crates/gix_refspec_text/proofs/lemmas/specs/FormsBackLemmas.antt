@@ -68,9 +68,6 @@ unsigned_front (b ∷ s) None (Some e) full unsigned = unsigned
 unsigned_front (b ∷ s) (Some d) None full unsigned = unsigned
 unsigned_front (b ∷ s) (Some d) (Some e) full unsigned = unsigned
 
-pub named_full : (s : List ℕ) → s ≢ [] → named_by s ≢ []
-named_full s full = named_so (λ (x : List ℕ). x ≢ []) s (λ same. cc) full
-
 -- the flag of a positive mode, and its text
 abbrev pub is_forced : Mode → Bool
 is_forced Forced = true
@@ -124,7 +121,8 @@ back_push_exclude s either other =
 back_all : (m : Mode) → IsPositive m → IsPrintedBack Push (pushed m None None)
 back_all m pos =
     let told = means Push m None None pos in
-    printed_back Push _ (pushed m None None) (push_all_matching (is_forced m)) told (pushes_colon m refl pos (grind (arith, colon_unsigned)) refl) told
+    printed_back Push _ (pushed m None None) (push_all_matching (is_forced m)) told
+    (pushes_colon m refl pos (grind (arith, colon_unsigned)) refl) told
 
 reads_twice : (m : Mode) (s text : List ℕ) → IsPositive m → AreParts m s (Some s) text → IsNameOrPattern s → Reads Push text (pushed m (Some (named_by s)) (Some s))
 reads_twice m s text pos parts (inl name) = pushes_to m s s refl pos parts (name_not_empty s name) (Lacks-name s name) name refl
@@ -169,7 +167,7 @@ read_back op text r (pushes_pattern m s d push pos parts source destination is) 
 read_back op text r (pushes_to m s d push pos parts full plain name is) =
     let lacks = named_so (Lacks star) s (Lacks-name head IsName-head) plain in
     rw (push, is)
-    (back_push m s d text pos full parts (pushes_to m (named_by s) d refl pos (named_parts m s d (Some d) text pos full parts parts.last) (named_full s full) lacks name refl))
+    (back_push m s d text pos full parts (pushes_to m (named_by s) d refl pos (named_parts m s d (Some d) text pos full parts parts.last) (named_so (λ (y : List ℕ). y ≢ []) s (λ same. cc) full) lacks name refl))
 read_back op text r (push_excludes s push parts either hash is) = rw (push, is) (back_push_exclude s either hash)
 
 pub once_or_refused : (op : Operation) (text : List ℕ) → ReadsOrRefused op text

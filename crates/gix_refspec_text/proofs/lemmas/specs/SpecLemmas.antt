@@ -1,7 +1,7 @@
 -- Facts on accepted readings, without a text that has the reading at hand.
 use Rattle.gix_refspec_text.proofs.Common.{arith, ◌≡◌, ℕ, Bool, true, false, List, Option, None, Some, option_map, refl, sym, ap, ◌∙◌, subst, inl, inr, nat_eq, ◌↔◌, pointwise, false≢true, not_there}
-use Rattle.gix_refspec_text.proofs.Common.{Operation, Mode, Reading, Reads, IsAccepted, Meaning, meaning, meaning_of, text_of, printed, keys, meant_for, IsPrintedBack, KeepsOperation}
-use Rattle.gix_refspec_text.proofs.Common.{SaysForOperation, EqualReadings, same_Some}
+use Rattle.gix_refspec_text.proofs.Common.{Operation, Reading, Reads, IsAccepted, Meaning, meaning_of, text_of, printed, keys, IsPrintedBack, KeepsOperation, SaysForOperation, EqualReadings}
+use Rattle.gix_refspec_text.proofs.Common.{same_Some}
 use Rattle.gix_refspec_text.specs.Laws.Order.{same_meaning, same_keys}
 use Rattle.gix_refspec_text.proofs.lemmas.specs.FormsBackLemmas.{read_back, once_or_refused, equal_texts}
 use Rattle.gix_refspec_text.proofs.lemmas.parsing.ReadsLemmas.{fine_parts}
@@ -9,15 +9,8 @@ use Rattle.gix_refspec_text.proofs.lemmas.parsing.ReadsLemmas.{fine_parts}
 pub keeps_operation : (op : Operation) (text : List ℕ) → KeepsOperation op text
 keeps_operation op text r reads = ap (λ (x : Reading). x.operation) (fine_parts op text r reads).is
 
-abbrev operation_or : Operation → Option Meaning → Operation
-operation_or op None = op
-operation_or op (Some m) = meant_for m
-
-meaning_for : (op : Operation) (mode : Mode) (s d : Option (List ℕ)) → operation_or op (meaning op mode s d) ≡ op
-meaning_for op mode s d = grind arith
-
 pub says_for_operation : (r : Reading) → SaysForOperation r
-says_for_operation r m is = sym (ap (operation_or r.operation) is) ∙ meaning_for r.operation r.mode r.source r.destination
+says_for_operation r m is = grind arith
 
 test_shown : {P : Type 0} (b : Bool) → ∥ P ∥₁ → (P → b ≡ true) → b ≡ true
 test_shown true there shows = refl

@@ -24,9 +24,6 @@ run_is p z n long few =
 
 -- the lane of a byte, from the lanes f and g of the byte and h of the byte before it
 module _ (f g h : ℕ → ℕ) where
-  lane : ℕ → ℕ → Bool
-  lane x y = top 7 (bit_or (f x) (bit_and (g x) (h y)))
-
   pub lane_clear : (d : List ℕ) (i r : ℕ) (s a b : List ℕ) → 0 < i → i + 16 ≤ length d → s ≡ map f (chunk i 16 d) → a ≡ map g (chunk i 16 d) → b ≡ map h (chunk (i - 1) 16 d)
       → r ≡ lowest_of 16 (mask_l (map (top 7) (zip2 bit_or s (zip2 bit_and a b))) % 2 ^ 64)
       → (r ≤ 16) × ((k : ℕ) → i ≤ k → k < i + r → top 7 (bit_or (f (get_or d k 0)) (bit_and (g (get_or d k 0)) (h (get_or d (k - 1) 0)))) ≡ false)

@@ -185,9 +185,6 @@ replaces_one before after x split =
 pub pattern_with_letter : (x : List ℕ) → HasOneStar x → IsName (with_letters x) → IsPattern x
 pattern_with_letter x (before, after, split) name = record { with_letter = with_letters x; replaces = replaces_one before after x split; name = name }
 
-pub fault_without_stars : (x : List ℕ) (e : Error) → Lacks star x → HasFault (with_letters x) e → HasFault x e
-fault_without_stars x e lacks fault = subst (λ y. HasFault y e) (letters-Lacks x lacks) fault
-
 pub name_without_stars : (x : List ℕ) → Lacks star x → IsName (with_letters x) → IsName x
 name_without_stars x lacks name = subst IsName (letters-Lacks x lacks) name
 
