@@ -16,7 +16,7 @@ test_shown : {P : Type 0} (b : Bool) → ∥ P ∥₁ → (P → b ≡ true) →
 test_shown true there shows = refl
 test_shown false there shows = absurd (not_there there (λ fact. false≢true (shows fact)))
 
--- to show that two meanings are equal, such a fact may be assumed
+-- to show that two meanings are equal, a fact may be assumed of which only the existence is known
 meaning_shown : {P : Type 0} (m n : Option Meaning) → ∥ P ∥₁ → (P → m ≡ n) → m ≡ n
 meaning_shown m n there shows =
     same_meaning m n (test_shown (pointwise (pointwise nat_eq) (keys m) (keys n)) there (λ fact. same_keys m n (shows fact)))

@@ -59,12 +59,9 @@ count_by-HasOneStar x (before, after, split) =
 pub second_star : (x : List ℕ) (i : ℕ) → i < length x → get_or x i 0 ≡ star → count_by (λ b. b == star) (take i x) ≡ 1 → HasSeveralStars x
 second_star x i below here one =
     let (before, after, split) = HasOneStar-count_by (take i x) one in
-    record {
-      before = before;
-      between = after;
-      after = drop (suc i) x;
-      here = split_at x i star below here ∙ ap (λ y. y ++ (star ∷ drop (suc i) x)) split.starred ∙ append_assoc before (star ∷ after) (star ∷ drop (suc i) x);
-    }
+    let whole = split_at x i star below here ∙ ap (λ y. y ++ (star ∷ drop (suc i) x)) split.starred
+        ∙ append_assoc before (star ∷ after) (star ∷ drop (suc i) x) in
+    record { before = before; between = after; after = drop (suc i) x; here = whole }
 
 letter_for-star : (b : ℕ) → b ≡ star → letter_for b ≡ letter
 letter_for-star b same = ap (λ t. if t then letter else b) (eq-eqb b star same)

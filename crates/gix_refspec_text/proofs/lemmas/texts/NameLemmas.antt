@@ -59,14 +59,10 @@ empty_component x p after here ends =
 dotted_component : (x p after : List ℕ) → slash ∷ x ≡ (p ++ (slash ∷ [])) ++ (dot ∷ after) → SomeComponent (BeginsWith (codes ".")) x
 dotted_component x p after here =
     let split : Pieces after = pieces_of after in
+    let there = here ∙ append_assoc p (slash ∷ []) (dot ∷ after) ∙ ap (λ z. p ++ (slash ∷ (dot ∷ z))) (sym split.here) in
+    let ends = fenced-IsEnd split.others in
     SomeComponent-from (BeginsWith (codes ".")) (dot ∷ split.first) x
-    (record {
-      before = p;
-      after = fenced split.others;
-      here = here ∙ append_assoc p (slash ∷ []) (dot ∷ after) ∙ ap (λ z. p ++ (slash ∷ (dot ∷ z))) (sym split.here);
-      whole = (dot_no_slash, split.first_whole);
-      ends = fenced-IsEnd split.others;
-    })
+    (record { before = p; after = fenced split.others; here = there; whole = (dot_no_slash, split.first_whole); ends = ends })
     (record { after = split.first; here = refl })
 
 regroup : (a b c d : List ℕ) → ((a ++ b) ++ c) ++ d ≡ a ++ ((b ++ c) ++ d)
@@ -77,14 +73,10 @@ locked_component x [] after here ends = let first : slash ≡ dot = cc in absurd
 locked_component x (c ∷ p) after here ends =
     let first : slash ≡ c = cc in
     let split : LastIndex slash (c ∷ p) = subst (λ b. LastIndex slash (b ∷ p)) first (last_slash_after_one p) in
+    let there = here ∙ ap (λ z. (z ++ codes ".lock") ++ after) split.here ∙ regroup split.before (slash ∷ split.after) (codes ".lock") after in
+    let whole = all_join (λ c. c ≢ slash) split.after (codes ".lock") split.last (omega arith) in
     SomeComponent-from (EndsWith (codes ".lock")) (split.after ++ codes ".lock") x
-    (record {
-      before = split.before;
-      after = after;
-      here = here ∙ ap (λ z. (z ++ codes ".lock") ++ after) split.here ∙ regroup split.before (slash ∷ split.after) (codes ".lock") after;
-      whole = all_join (λ c. c ≢ slash) split.after (codes ".lock") split.last (omega arith);
-      ends = ends;
-    })
+    (record { before = split.before; after = after; here = there; whole = whole; ends = ends })
     (record { before = split.after; here = refl })
 
 byte_in_text : (x p after : List ℕ) (b c : ℕ) → c ≢ slash → slash ∷ x ≡ p ++ (b ∷ after) → b ≡ c → ContainsText (c ∷ []) x
@@ -113,13 +105,9 @@ shown_by_end y p after e here ends adds leaves = grind (arith, append-nil)
 pair_added : (x : List ℕ) (a b : ℕ) (e : Error) → ContainsText (a ∷ b ∷ []) x → ((p : List ℕ) → EndsWith (a ∷ []) p → AddsFault p b e) → Added (slash ∷ x) e
 pair_added x a b e held adds =
     let front = (slash ∷ held.before) ++ (a ∷ []) in
-    record {
-      before = front;
-      byte = b;
-      after = held.after;
-      here = ap (λ z. slash ∷ z) held.here ∙ sym (append_assoc (slash ∷ held.before) (a ∷ []) (b ∷ held.after));
-      fault = adds front (record { before = slash ∷ held.before; here = refl });
-    }
+    let here = ap (λ z. slash ∷ z) held.here ∙ sym (append_assoc (slash ∷ held.before) (a ∷ []) (b ∷ held.after)) in
+    let fault = adds front (record { before = slash ∷ held.before; here = refl }) in
+    record { before = front; byte = b; after = held.after; here = here; fault = fault }
 
 component_found : (x w : List ℕ) (e : Error) (index : IsComponent w x) → AddsFault (index.before ++ (slash ∷ w)) slash e
     → LeavesFault (index.before ++ (slash ∷ w)) e → Added (slash ∷ x) e ⊎ LeavesFault (slash ∷ x) e
@@ -164,13 +152,9 @@ pub one_more : (x : List ℕ) (i : ℕ) → i < length x → slash ∷ take (i +
 one_more x i below = ap (λ z. slash ∷ z) (take_more x i 0 below)
 
 pub added_at : (x : List ℕ) (i : ℕ) (e : Error) → i < length x → AddsFault (slash ∷ take i x) (get_or x i 0) e → Added (slash ∷ x) e
-added_at x i e below fault = record {
-  before = slash ∷ take i x;
-  byte = get_or x i 0;
-  after = drop (suc i) x;
-  here = ap (λ z. slash ∷ z) (split_at x i (get_or x i 0) below refl);
-  fault = fault;
-}
+added_at x i e below fault =
+    let here = ap (λ z. slash ∷ z) (split_at x i (get_or x i 0) below refl) in
+    record { before = slash ∷ take i x; byte = get_or x i 0; after = drop (suc i) x; here = here; fault = fault }
 
 pub end_leaves : (y : List ℕ) (e : Error) → ¬ (EndsWith (codes "/") y) → ¬ (EndsWith (codes ".") y) → ¬ (EndsWith (codes ".lock") y) → ¬ (LeavesFault y e)
 end_leaves y e whole undotted unlocked left = grind arith

@@ -8,17 +8,10 @@ pub returns-in-Some : goal.returns-in-Some
 returns-in-Some c =
     let split = c.in-Some.ensures in
     let before = c.in-Some.before.now in
-    let after = c.in-Some.after.now in
-    record {
-      starred = split.0;
-      first = split.1;
-      last = Lacks-from_absent star after (λ more. c.requires (record {
-        before = before;
-        between = more.before;
-        after = more.after;
-        here = split.0 ∙ ap (λ y. before ++ (star ∷ y)) more.here;
-      }));
-    }
+    let last = Lacks-from_absent star c.in-Some.after.now (λ more.
+        let here = split.0 ∙ ap (λ y. before ++ (star ∷ y)) more.here in
+        c.requires (record { before = before; between = more.before; after = more.after; here = here })) in
+    record { starred = split.0; first = split.1; last = last }
 
 pub returns-in-Err : goal.returns-in-Err
 returns-in-Err c = (refl, search rules, search rules, λ id. IsIdText-sound c.args.side.now id.0 c.in-Err.field-0 id.1 c.in-Err.ensures)
