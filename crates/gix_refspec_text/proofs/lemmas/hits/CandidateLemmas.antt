@@ -64,6 +64,6 @@ takes_first x refs lacks outside no_id =
     let kind : HasKind x (partial x) = (refl, lacks, outside, no_id) in
     record {
       takes = λ r. (λ found. found.1.first x kind, λ first. (None, taken_by_first refs x r kind first));
-      one = λ n m a b. first_once refs x n m a b;
-      some = λ n one has. some_first refs x n one has;
+      one = first_once refs x;
+      some = some_first refs x;
     }

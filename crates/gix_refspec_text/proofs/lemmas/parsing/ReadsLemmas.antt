@@ -121,11 +121,9 @@ pub record FineParts (op : Operation) (text : List ℕ) (r : Reading) : Type 0 w
 
 with_fine : (op o : Operation) (m : Mode) (s : List ℕ) (d : Option (List ℕ)) (text : List ℕ) (r : Reading)
     → op ≡ o → r ≡ made o m s d → AreParts m s d text → AreFine op m s d → FineParts op text r
-with_fine op o m s d text r same is parts fine = record {
-  of = record { mode = m; source = s; destination = d; parts = parts };
-  fine = fine;
-  is = is ∙ sym (ap (λ (x : Operation). made x m s d) same);
-}
+with_fine op o m s d text r same is parts fine =
+    let of : Parted text = record { mode = m; source = s; destination = d; parts = parts } in
+    record { of = of; fine = fine; is = is ∙ sym (ap (λ (x : Operation). made x m s d) same) }
 
 source_full : (op : Operation) (s : List ℕ) → s ≢ [] → source_of op s ≡ Some (named_by s)
 source_full op s full = grind (arith, side_of-named)

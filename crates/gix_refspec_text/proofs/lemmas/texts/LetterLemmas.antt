@@ -156,13 +156,12 @@ pub fault_with_letters : (x : List ℕ) (i : ℕ) (e : Error) → x ≢ [] → i
 fault_with_letters x i e some below other fault =
     let b = get_or x i 0 in
     let whole : with_letters x ≡ with_letters (take i x) ++ (letter_for b ∷ with_letters (drop (suc i) x)) = ap with_letters (split_at x i b below refl) ∙ letters-append (take i x) (b ∷ drop (suc i) x) in
-    HasFault-added (with_letters x) e (some_letters x some) (record {
-      before = with_letters (slash ∷ take i x);
-      byte = b;
-      after = with_letters (drop (suc i) x);
-      here = ap (λ z. slash ∷ z) whole ∙ ap (λ c. with_letters (slash ∷ take i x) ++ (c ∷ with_letters (drop (suc i) x))) (letter_for-other b other);
-      fault = AddsFault-as (slash ∷ take i x) (with_letters (slash ∷ take i x)) b (ends_with_letters (slash ∷ take i x)) e fault;
-    })
+    let y = slash ∷ take i x in
+    let rest = with_letters (drop (suc i) x) in
+    let here = ap (λ z. slash ∷ z) whole ∙ ap (λ c. with_letters y ++ (c ∷ rest)) (letter_for-other b other) in
+    let added = AddsFault-as y (with_letters y) b (ends_with_letters y) e fault in
+    HasFault-added (with_letters x) e (some_letters x some)
+    (record { before = with_letters y; byte = b; after = rest; here = here; fault = added })
 
 finds_with_letters : (y : List ℕ) (fault : Option Error) → Finds fault (LeavesFault y) → Finds fault (LeavesFault (with_letters y))
 finds_with_letters y None none = λ e left. none e (LeavesFault-as (with_letters y) y (ends_before y) e left)

@@ -73,7 +73,7 @@ locked_component x [] after here ends = let first : slash ≡ dot = cc in absurd
 locked_component x (c ∷ p) after here ends =
     let first : slash ≡ c = cc in
     let split : LastIndex slash (c ∷ p) = subst (λ b. LastIndex slash (b ∷ p)) first (last_slash_after_one p) in
-    let there = here ∙ ap (λ z. (z ++ codes ".lock") ++ after) split.here ∙ regroup split.before (slash ∷ split.after) (codes ".lock") after in
+    let there = here ∙ ap (λ z. (z ++ codes ".lock") ++ after) split.here ∙ regroup split.before (slash ∷ split.after) _ after in
     let whole = all_join (λ c. c ≢ slash) split.after (codes ".lock") split.last (omega arith) in
     SomeComponent-from (EndsWith (codes ".lock")) (split.after ++ codes ".lock") x
     (record { before = split.before; after = after; here = there; whole = whole; ends = ends })
@@ -123,13 +123,11 @@ found_fault x EmptyComponent some fault =
     component_found x fault.1.component EmptyComponent index (refl, ends) ends
 found_fault x StartsWithDot some fault =
     let index : IsComponent fault.component x = SomeComponent-index (BeginsWith (codes ".")) x fault in
-    inl (record {
-      before = index.before ++ (slash ∷ []);
-      byte = dot;
-      after = fault.fact.after ++ index.after;
-      here = index.here ∙ ap (λ w. index.before ++ (slash ∷ (w ++ index.after))) fault.fact.here ∙ sym (append_assoc index.before (slash ∷ []) (dot ∷ (fault.fact.after ++ index.after)));
-      fault = (refl, record { before = index.before; here = refl });
-    })
+    let front = index.before ++ (slash ∷ []) in
+    let ends : EndsWith (codes "/") front = record { before = index.before; here = refl } in
+    let here = index.here ∙ ap (λ w. index.before ++ (slash ∷ (w ++ index.after))) fault.fact.here
+        ∙ sym (append_assoc index.before (slash ∷ []) (dot ∷ (fault.fact.after ++ index.after))) in
+    inl (record { before = front; byte = dot; after = fault.fact.after ++ index.after; here = here; fault = (refl, ends) })
 found_fault x LockSuffix some fault =
     let index : IsComponent fault.component x = SomeComponent-index (EndsWith (codes ".lock")) x fault in
     let front = index.before ++ (slash ∷ fault.fact.before) in
