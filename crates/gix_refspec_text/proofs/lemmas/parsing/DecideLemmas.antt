@@ -6,8 +6,7 @@ use Rattle.gix_refspec_text.proofs.Common.{cases_eq, Option, None, Some, unwrap_
 use Rattle.gix_refspec_text.proofs.Common.{colon, ReplacesStar, Mode, Normal, Forced, Negative, Reading, Refusal, NegativeWithDestination, PushToEmpty, PatternUnsupported, ReferenceName}
 use Rattle.gix_refspec_text.proofs.Common.{PatternUnbalanced, NegativeEmpty, NegativeObjectHash, IsBadPattern, IsFirstReason, IsRefused, IsSigned, IsPositive, LooksLikeObjectHash, Reads, HasShape}
 use Rattle.gix_refspec_text.proofs.Common.{HasCheckedShape, IsBadSide, list_all, ◌&&◌, and_parts, and_from, AllPass-from_list_all, list_all-from_AllPass}
-pub use Rattle.gix_refspec_text.proofs.lemmas.lists.LacksLemmas.{FirstIndex, lacks_or_first}
-use Rattle.gix_refspec_text.proofs.lemmas.lists.LacksLemmas.{lacks_or_last}
+pub use Rattle.gix_refspec_text.proofs.lemmas.lists.LacksLemmas.{FirstIndex, lacks_or_first, lacks_or_last}
 use Rattle.gix_refspec_text.proofs.lemmas.texts.NameLemmas.{IsClean-more, IsClean-start, HasFault-added, HasFault-left, IsName-from_clean, end_leaves}
 use Rattle.gix_refspec_text.proofs.lemmas.parsing.PartsLemmas.{Parted}
 use Rattle.gix_refspec_text.proofs.lemmas.parsing.ReasonLemmas.{fetch_reaches, push_reaches, push_alone_reaches, negative_reaches, reason_at_source, reason_at_destination, reason_against_object}

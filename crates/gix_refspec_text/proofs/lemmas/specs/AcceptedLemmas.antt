@@ -68,4 +68,4 @@ remote_few r x accepted is = accepted_few r x accepted (grind arith)
 
 pub accepted_balanced : (r : Reading) (s d : List ℕ) → ∥ IsAccepted r ∥₁ → r.source ≡ Some s → r.destination ≡ Some d → ¬ (IsOneStarred s d)
 accepted_balanced r s d accepted source destination =
-    ∥∥₁_elim accepted (hlevel []) (λ by. subst (λ y. AreBalanced (Some s) y) destination (subst (λ x. AreBalanced x r.destination) source (reads_sound r.operation by.0 r by.1).2))
+    ∥∥₁_elim accepted (hlevel []) (λ by. rw (source, destination) at (reads_sound r.operation by.0 r by.1).2)

@@ -1,4 +1,4 @@
--- The components of a text, found by the slashes around them. A slash before the text stands before its first one.
+-- The components of a text, found by the slashes around them, with a slash before the text for the first one.
 use Rattle.gix_refspec_text.proofs.Common.{arith, ◌≡◌, ℕ, List, [], ◌∷◌, ◌++◌, refl, sym, ap, ◌∙◌, inl, inr, append_assoc, AllByRecursion, join_with_byte, cases_eq, append-nil, Lacks, slash}
 use Rattle.gix_refspec_text.proofs.Common.{SomeComponent}
 use Rattle.gix_refspec_text.proofs.lemmas.lists.AllLemmas.{all_join}

@@ -1,4 +1,4 @@
-use Rattle.gix_refspec_text.proofs.Common.{◌≡◌, ◌≢◌, ◌+◌, ◌∷◌, take, get_or, sym, subst, arith, common_steps, slash, star, IsScanned}
+use Rattle.gix_refspec_text.proofs.Common.{◌≡◌, ◌≢◌, ◌∷◌, take, get_or, arith, common_steps, slash, star}
 use Rattle.gix_refspec_text.proofs.lemmas.texts.LetterLemmas.{second_star, scanned_other, scanned_star, some_index, fault_with_letters}
 use Rattle.gix_refspec_text.proofs.name.scanned_to.Goals as goal
 use Rattle.gix_refspec_text.proofs.name.scanned_to.Goals.{then-byte-eq42+else-starred, else-byte-eq42+in_default}
@@ -25,9 +25,9 @@ loop-index-preserved c =
     let i = c.loop-index.index in
     elim c.if-byte-eq42.branch [
       | then-byte-eq42+else-starred w ↦
-          let before = subst (λ s. IsScanned x i s) w.if-starred.false c.loop-index.invariant in
-          subst (λ s. IsScanned x (i + 1) s) (sym w.starred-is) (scanned_star x i (omega arith) (grind (arith, common_steps)) before)
-      | else-byte-eq42+in_default w ↦ subst (λ s. IsScanned x (i + 1) s) (sym w.starred-is) (scanned_other x i c.loop-index.starred (omega arith) w.in_default.ensures c.loop-index.invariant)
+          let before = rw w.if-starred.false at c.loop-index.invariant in
+          rw w.starred-is (scanned_star x i (omega arith) (grind (arith, common_steps)) before)
+      | else-byte-eq42+in_default w ↦ rw w.starred-is (scanned_other x i c.loop-index.starred (omega arith) w.in_default.ensures c.loop-index.invariant)
     ]
 
 pub returns : goal.returns
