@@ -1,0 +1,235 @@
+-- Tests that compute what a text contains, which faults it has and whether it is a name or a pattern, so that examples need no witnesses.
+use Rattle.gix_refspec_text.proofs.Common.{◌≡◌, ◌≢◌, ℕ, Bool, true, false, not, ◌==◌, ◌||◌, ◌&&◌, ◌-◌, cond, nat_eq, bytes_eq, bytes_eq-Decides, List, [], ◌∷◌, ◌++◌, length, take, drop, codes, refl, sym, ap, ◌∙◌}
+use Rattle.gix_refspec_text.proofs.Common.{subst, arith, All, AllByRecursion, All-from_recursion, Decides, Decides-eqb, starts_with, ends_with, starts_is, ends_is, slice_split, join_with_byte, list_any, list_all, count_by}
+use Rattle.gix_refspec_text.proofs.Common.{true≢false, false≢true, eqb-false, eqb-true, ne_eqb, or_parts, or_cases, and_parts, and_from, Error, Empty, EmptyComponent, StartsWithDot, LockSuffix, EndsWithDot}
+use Rattle.gix_refspec_text.proofs.Common.{RepeatedDot, ReflogPortion, Asterisk, InvalidByte, is_refused_byte, Lacks, ContainsText, BeginsWith, EndsWith, SomeComponent, HasFault, HasOneStar, HasSeveralStars}
+use Rattle.gix_refspec_text.proofs.Common.{IsName, IsPattern, IsPatternFault, slash, star, with_letters, inl, inr}
+use Rattle.gix_refspec_text.specs.declared.name.PatternError.TheVariants.{Name}
+use Rattle.std.specs.List.{onto_first}
+use Rattle.std.proofs.Math.Bool.{or-true}
+use Rattle.std.proofs.lemmas.List.Splits.{slice_split_none, slice_split_at, join_with_byte-slice_split}
+use Rattle.gix_refspec_text.proofs.lemmas.lists.AllLemmas.{all_weaker}
+use Rattle.gix_refspec_text.proofs.lemmas.texts.LetterLemmas.{HasOneStar-count_by, count_by-HasOneStar, replaces_one, pattern_with_letter}
+use Rattle.gix_refspec_text.proofs.lemmas.texts.TestedLemmas.{is_suspect, IsName-tested}
+
+-- what a test decides
+yes : {P : Type 0} (b : Bool) → Decides b P → b ≡ true → P
+yes b decides so = decides.0 so
+
+no : {P : Type 0} (b : Bool) → Decides b P → b ≡ false → ¬ P
+no b decides none holds = true≢false (sym (decides.1 holds) ∙ none)
+
+both_are : {P Q : Type 0} (p q : Bool) → Decides p P → Decides q Q → Decides (p && q) (P × Q)
+both_are p q a b = ((λ so. let parts = and_parts p q so in (a.0 parts.0, b.0 parts.1)), λ holds. and_from p q (a.1 holds.0) (b.1 holds.1))
+
+-- texts that differ
+pub differ : (x y : List ℕ) → bytes_eq x y ≡ false → x ≢ y
+differ x y = no (bytes_eq x y) (bytes_eq-Decides x y)
+
+-- a text without a byte, and one with it
+pub Lacks-tested : (b : ℕ) (x : List ℕ) → list_any (λ c. c == b) x ≡ false → Lacks b x
+Lacks-tested b [] none = tt
+Lacks-tested b (c ∷ x) none = let both = or_parts (c == b) (list_any (λ c. c == b) x) none in (eqb-false c b both.0, Lacks-tested b x both.1)
+
+-- what a test shows of each element
+pub all_are : {X : Type 0} (P : X → Type 0) (test : X → Bool) → ((x : X) → test x ≡ true → P x) → (xs : List X) → list_all test xs ≡ true → AllByRecursion P xs
+all_are P test shows [] so = tt
+all_are P test shows (x ∷ xs) so = let both = and_parts (test x) (list_all test xs) so in (shows x both.0, all_are P test shows xs both.1)
+
+pub none_are : {X : Type 0} (P : X → Type 0) (test : X → Bool) → ((x : X) → test x ≡ false → P x) → (xs : List X) → list_any test xs ≡ false → AllByRecursion P xs
+none_are P test shows [] none = tt
+none_are P test shows (x ∷ xs) none = let both = or_parts (test x) (list_any test xs) none in (shows x both.0, none_are P test shows xs both.1)
+
+-- ---- words
+
+begins_is : (w x : List ℕ) → Decides (starts_with nat_eq x w) (BeginsWith w x)
+begins_is w x = let told = starts_is Decides-eqb x w (starts_with nat_eq x w) refl in ((λ so. record { after = drop (length w) x; here = told.0 so }), λ begins. told.1 begins.after begins.here)
+
+ends_with_is : (w x : List ℕ) → Decides (ends_with nat_eq x w) (EndsWith w x)
+ends_with_is w x = let told = ends_is Decides-eqb x w (ends_with nat_eq x w) refl in ((λ so. record { before = take (length x - length w) x; here = told.0 so }), λ ends. told.1 ends.before ends.here)
+
+pub begins : (w x : List ℕ) → starts_with nat_eq x w ≡ true → BeginsWith w x
+begins w x = yes (starts_with nat_eq x w) (begins_is w x)
+
+pub begins_not : (w x : List ℕ) → starts_with nat_eq x w ≡ false → ¬ (BeginsWith w x)
+begins_not w x = no (starts_with nat_eq x w) (begins_is w x)
+
+-- whether a text contains a word
+abbrev pub holds : List ℕ → List ℕ → Bool
+holds w [] = starts_with nat_eq [] w
+holds w (b ∷ x) = starts_with nat_eq (b ∷ x) w || holds w x
+
+at_start : (w x : List ℕ) → starts_with nat_eq x w ≡ true → ContainsText w x
+at_start w x so = let found = begins w x so in record { before = []; after = found.after; here = found.here }
+
+pub contains : (w x : List ℕ) → holds w x ≡ true → ContainsText w x
+contains w [] so = at_start w [] so
+contains w (b ∷ x) so = elim (or_cases (starts_with nat_eq (b ∷ x) w) (holds w x) so) [
+  | inl first ↦ at_start w (b ∷ x) first
+  | inr later ↦ let found = contains w x later in record { before = b ∷ found.before; after = found.after; here = ap (λ y. b ∷ y) found.here }
+]
+
+holds_after : (w before after x : List ℕ) → x ≡ before ++ (w ++ after) → holds w x ≡ true
+holds_after w [] after [] here = (begins_is w []).1 (record { after = after; here = here })
+holds_after w [] after (b ∷ x) here = ap (λ v. v || holds w x) ((begins_is w (b ∷ x)).1 (record { after = after; here = here }))
+holds_after w (c ∷ before) after [] here = cc
+holds_after w (c ∷ before) after (b ∷ x) here =
+    ap (λ v. starts_with nat_eq (b ∷ x) w || v) (holds_after w before after x (cc)) ∙ or-true (starts_with nat_eq (b ∷ x) w)
+
+holds_is : (w x : List ℕ) → Decides (holds w x) (ContainsText w x)
+holds_is w x = (contains w x, λ has. holds_after w has.before has.after x has.here)
+
+pub holds_not : (w x : List ℕ) → holds w x ≡ false → ¬ (ContainsText w x)
+holds_not w x = no (holds w x) (holds_is w x)
+
+-- ---- components
+
+-- the components of a text
+abbrev pub components : List ℕ → List (List ℕ)
+components x = slice_split (λ c. c == slash) x
+
+no_slash : (x : List ℕ) → Lacks slash x → All (λ c. (c == slash) ≡ false) x
+no_slash x lacks = All-from_recursion (λ c. (c == slash) ≡ false) x (all_weaker (λ c. c ≢ slash) (λ c. (c == slash) ≡ false) (λ c other. ne_eqb c slash other) x lacks)
+
+-- parts without a slash are those that a text is split into
+split_joined : (p : List ℕ) (ps : List (List ℕ)) → AllByRecursion (Lacks slash) (p ∷ ps) → components (join_with_byte slash (p ∷ ps)) ≡ p ∷ ps
+split_joined p [] lack = slice_split_none (λ c. c == slash) p (no_slash p lack.0)
+split_joined p (q ∷ ps) lack = slice_split_at (λ c. c == slash) p slash (join_with_byte slash (q ∷ ps)) (no_slash p lack.0) refl ∙ ap (λ l. p ∷ l) (split_joined q ps lack.1)
+
+split_at_one : (ps : List (List ℕ)) (w : List ℕ) (qs : List (List ℕ)) → AllByRecursion (Lacks slash) (ps ++ (w ∷ qs)) → components (join_with_byte slash (ps ++ (w ∷ qs))) ≡ ps ++ (w ∷ qs)
+split_at_one [] w qs lack = split_joined w qs lack
+split_at_one (p ∷ ps) w qs lack = split_joined p (ps ++ (w ∷ qs)) lack
+
+pub split_again : (P : List ℕ → Type 0) (x : List ℕ) (some : SomeComponent P x) → components x ≡ some.before ++ (some.component ∷ some.after)
+split_again P x some = ap components (sym some.components.joined) ∙ split_at_one some.before some.component some.after some.components.whole
+
+onto_lacks : (b : ℕ) (t : Bool) (ps : List (List ℕ)) → (b == slash) ≡ t → AllByRecursion (Lacks slash) ps → AllByRecursion (Lacks slash) (cond t ([] ∷ ps) (onto_first b ps))
+onto_lacks b true ps is lack = (tt, lack)
+onto_lacks b false [] is lack = ((eqb-false b slash is, tt), tt)
+onto_lacks b false (p ∷ ps) is lack = ((eqb-false b slash is, lack.0), lack.1)
+
+parts_lack : (x : List ℕ) → AllByRecursion (Lacks slash) (components x)
+parts_lack [] = (tt, tt)
+parts_lack (b ∷ x) = onto_lacks b (b == slash) (components x) refl (parts_lack x)
+
+-- an element that passes a test, and those before and after it
+record Passes (p : List ℕ → Bool) (xs : List (List ℕ)) : Type 0 where
+  before : List (List ℕ)
+  element : List ℕ
+  after : List (List ℕ)
+  here : xs ≡ before ++ (element ∷ after)
+  pass : p element ≡ true
+
+passes : (p : List ℕ → Bool) (xs : List (List ℕ)) → list_any p xs ≡ true → Passes p xs
+passes p [] so = absurd (false≢true so)
+passes p (x ∷ xs) so = elim (or_cases (p x) (list_any p xs) so) [
+  | inl first ↦ record { before = []; element = x; after = xs; here = refl; pass = first }
+  | inr later ↦ let found = passes p xs later in record { before = x ∷ found.before; element = found.element; after = found.after; here = ap (λ l. x ∷ l) found.here; pass = found.pass }
+]
+
+passes_back : (p : List ℕ → Bool) (before : List (List ℕ)) (x : List ℕ) (after : List (List ℕ)) → p x ≡ true → list_any p (before ++ (x ∷ after)) ≡ true
+passes_back p [] x after pass = ap (λ t. t || list_any p after) pass
+passes_back p (y ∷ before) x after pass = ap (λ t. p y || t) (passes_back p before x after pass) ∙ or-true (p y)
+
+component_is : (P : List ℕ → Type 0) (p : List ℕ → Bool) (x : List ℕ) → ((w : List ℕ) → Decides (p w) (P w)) → Decides (list_any p (components x)) (SomeComponent P x)
+component_is P p x is = (
+  (λ so. let found = passes p (components x) so in record {
+    before = found.before;
+    component = found.element;
+    after = found.after;
+    components = record { joined = ap (join_with_byte slash) (sym found.here) ∙ join_with_byte-slice_split slash x; whole = subst (AllByRecursion (Lacks slash)) found.here (parts_lack x) };
+    fact = (is found.element).0 found.pass;
+  }),
+  λ some. ap (list_any p) (split_again P x some) ∙ passes_back p some.before some.component some.after ((is some.component).1 some.fact),
+)
+
+-- ---- faults
+
+-- whether a text is empty
+abbrev pub is_empty : List ℕ → Bool
+is_empty [] = true
+is_empty (b ∷ x) = false
+
+empty_is : (x : List ℕ) → Decides (is_empty x) (x ≡ [])
+empty_is [] = ((λ so. refl), λ same. refl)
+empty_is (b ∷ x) = ((λ so. absurd (false≢true so)), λ same. absurd (cc))
+
+not_is : {P : Type 0} (b : Bool) → Decides b P → Decides (not b) (¬ P)
+not_is true decides = ((λ so. absurd (false≢true so)), λ none. absurd (none (decides.0 refl)))
+not_is false decides = ((λ so holds. false≢true (decides.1 holds)), λ none. refl)
+
+-- whether the text has the fault
+abbrev pub has_fault : List ℕ → Error → Bool
+has_fault x Empty = is_empty x
+has_fault x EmptyComponent = not (is_empty x) && list_any is_empty (components x)
+has_fault x StartsWithDot = list_any (λ w. starts_with nat_eq w (codes ".")) (components x)
+has_fault x LockSuffix = list_any (λ w. ends_with nat_eq w (codes ".lock")) (components x)
+has_fault x EndsWithDot = ends_with nat_eq x (codes ".")
+has_fault x RepeatedDot = holds (codes "..") x
+has_fault x ReflogPortion = holds (codes "@{") x
+has_fault x Asterisk = holds (codes "*") x
+has_fault x (InvalidByte b) = holds (b ∷ []) x && is_refused_byte b
+
+fault_is : (x : List ℕ) (e : Error) → Decides (has_fault x e) (HasFault x e)
+fault_is x Empty = empty_is x
+fault_is x EmptyComponent = both_are _ _ (not_is _ (empty_is x)) (component_is (λ w. w ≡ []) is_empty x empty_is)
+fault_is x StartsWithDot = component_is (BeginsWith (codes ".")) (λ w. starts_with nat_eq w (codes ".")) x (begins_is (codes "."))
+fault_is x LockSuffix = component_is (EndsWith (codes ".lock")) (λ w. ends_with nat_eq w (codes ".lock")) x (ends_with_is (codes ".lock"))
+fault_is x EndsWithDot = ends_with_is (codes ".") x
+fault_is x RepeatedDot = holds_is (codes "..") x
+fault_is x ReflogPortion = holds_is (codes "@{") x
+fault_is x Asterisk = holds_is (codes "*") x
+fault_is x (InvalidByte b) = both_are _ _ (holds_is (b ∷ []) x) ((λ so. so), λ so. so)
+
+pub faulty : (x : List ℕ) (e : Error) → has_fault x e ≡ true → HasFault x e
+faulty x e = yes (has_fault x e) (fault_is x e)
+
+pub faultless : (x : List ℕ) (e : Error) → has_fault x e ≡ false → ¬ (HasFault x e)
+faultless x e = no (has_fault x e) (fault_is x e)
+
+pub no_name : (x : List ℕ) (e : Error) → has_fault x e ≡ true → ¬ (IsName x)
+no_name x e so name = name e (faulty x e so)
+
+-- ---- stars
+
+-- how many stars a text has
+abbrev pub stars : List ℕ → ℕ
+stars x = count_by (λ b. b == star) x
+
+-- whether a text has one star, and nothing suspect with the letter in its place
+abbrev pub is_pattern : List ℕ → Bool
+is_pattern x = (stars x == 1) && not (is_suspect slash (with_letters x))
+
+pub not_true : (b : Bool) → not b ≡ true → b ≡ false
+not_true b so = grind arith
+
+pub a_pattern : (x : List ℕ) → is_pattern x ≡ true → IsPattern x
+a_pattern x so =
+    let parts = and_parts (stars x == 1) (not (is_suspect slash (with_letters x))) so in
+    pattern_with_letter x (HasOneStar-count_by x (eqb-true (stars x) 1 parts.0)) (IsName-tested (with_letters x) (not_true _ parts.1))
+
+pub not_one_star : (x : List ℕ) → (stars x == 1) ≡ false → ¬ (HasOneStar x)
+not_one_star x other one = eqb-false (stars x) 1 other (count_by-HasOneStar x one)
+
+pub no_pattern : (x : List ℕ) → (stars x == 1) ≡ false → ¬ (IsPattern x)
+no_pattern x other pattern = not_one_star x other (pattern.replaces.before, pattern.replaces.after, pattern.replaces.split)
+
+-- a text with one star that has a fault with the letter in its place
+pub pattern_fault : (x : List ℕ) (e : Error) → (stars x == 1) ≡ true → has_fault (with_letters x) e ≡ true → IsPatternFault (Name e) x
+pattern_fault x e one so = let split = HasOneStar-count_by x (eqb-true (stars x) 1 one) in (with_letters x, replaces_one split.0 split.1 x split.2, faulty (with_letters x) e so)
+
+-- whether a text has two stars or more
+abbrev pub holds_twice : List ℕ → Bool
+holds_twice [] = false
+holds_twice (b ∷ x) = (b == star && holds (codes "*") x) || holds_twice x
+
+pub several : (x : List ℕ) → holds_twice x ≡ true → HasSeveralStars x
+several [] so = absurd (false≢true so)
+several (b ∷ x) so = elim (or_cases (b == star && holds (codes "*") x) (holds_twice x) so) [
+  | inl here ↦
+      let parts = and_parts (b == star) (holds (codes "*") x) here in
+      let found = contains (codes "*") x parts.1 in
+      let same : b ≡ star = eqb-true b star parts.0 in
+      record { before = []; between = found.before; after = found.after; here = let rest : x ≡ found.before ++ (star ∷ found.after) = found.here in cc }
+  | inr later ↦ let found = several x later in record { before = b ∷ found.before; between = found.between; after = found.after; here = ap (λ y. b ∷ y) found.here }
+]
