@@ -1,6 +1,7 @@
 -- Which sources are covering.
 use Rattle.gix_refspec_text.proofs.Common.{[], None, Some, codes, refl, arith, star, bracket, Normal, pushed, IsPrefix, of_name, of_pattern, IsCovering, by_prefix, by_candidates, HasCoveringSource}
 use Rattle.gix_refspec_text.proofs.Common.{same_Some, HasNoPrefix}
+use Rattle.gix_refspec_text.proofs.facts.TestedTexts.{differ}
 use Rattle.gix_refspec_text.proofs.facts.ManualFacts.{Lacks-tested, other_length}
 use Rattle.gix_refspec_text.proofs.facts.FitFacts.{split_at_end, no_dev, short, short_kind, blob_kind, other_byte, other_first, push_is_none}
 use Rattle.gix_refspec_text.proofs.lemmas.lists.LacksLemmas.{Lacks-here}
@@ -10,7 +11,7 @@ use Rattle.gix_refspec_text.proofs.lemmas.prefixes.PrefixLemmas.{no_prefix}
 pub below_heads : IsPrefix (codes "refs/heads/*") (codes "refs/heads/")
 below_heads = of_pattern (codes "refs/heads/") [] (split_at_end (codes "refs/heads/") refl) (record {
   below = record { after = codes "heads/"; here = refl };
-  further = other_length _ _ (λ size. omega (arith, size));
+  further = differ _ _ refl;
   first = Lacks-tested bracket (codes "refs/heads/") refl;
   last = tt;
 }) refl
@@ -20,8 +21,8 @@ pub covering : IsCovering (codes "refs/heads/*") × IsCovering (codes "refs/head
 covering = (
   by_prefix (codes "refs/heads/") (record { after = codes "heads/*"; here = refl }) below_heads,
   by_prefix (codes "refs/heads/main") (record { after = codes "heads/main"; here = refl }) (of_name (record { after = codes "heads/main"; here = refl }) (Lacks-tested star (codes "refs/heads/main") refl) refl),
-  by_candidates short_kind.1 (other_byte 0 (codes "main") (codes "HEAD") (λ same. omega (arith, same))) short_kind.2,
-  by_candidates blob_kind.0 (other_length _ _ (λ size. omega (arith, size))) blob_kind.1,
+  by_candidates short_kind.1 (differ (codes "main") (codes "HEAD") refl) short_kind.2,
+  by_candidates blob_kind.0 (differ _ _ refl) blob_kind.1,
 )
 
 -- a pattern with its star right after `refs/` has no prefix

@@ -3,6 +3,7 @@ use Rattle.gix_refspec_text.proofs.Common.{◌≡◌, ◌≢◌, ℕ, zero, suc,
 use Rattle.gix_refspec_text.proofs.Common.{length-append, Fetch, Push, BeginsWith, IsSplit, star, IsIdText, Normal, Forced, Negative, Reading, fetched, full_name, object, partial, HasKind, Fits}
 use Rattle.gix_refspec_text.proofs.Common.{Excludes, the_name, by_pattern, filled, Ref}
 use Rattle.gix_refspec_text.proofs.lemmas.hits.MatchLemmas.{split_once, lacks_no_pattern}
+use Rattle.gix_refspec_text.proofs.facts.TestedTexts.{differ}
 use Rattle.gix_refspec_text.proofs.facts.ManualFacts.{Lacks-tested, other_length, named}
 use Rattle.gix_refspec_text.proofs.facts.ObjectIdFacts.{empty_blob, IsIdText-empty_blob, lower_of-empty_blob}
 use Rattle.gix_refspec_text.proofs.lemmas.lists.LacksLemmas.{Lacks-here}
@@ -41,7 +42,7 @@ pub excludes_name : Excludes (codes "refs/heads/wip") (codes "refs/heads/wip") �
 excludes_name = (the_name (Lacks-tested star (codes "refs/heads/wip") refl) refl, no_candidate)
   where
     no_candidate : ¬ (Excludes (codes "wip") (codes "refs/heads/wip"))
-    no_candidate (the_name lacks same) = other_length _ _ (λ length_same. omega (arith, length_same)) same
+    no_candidate (the_name lacks same) = differ _ _ refl same
     no_candidate (by_pattern before after word split fits) = lacks_no_pattern (codes "wip") before after (Lacks-tested star (codes "wip") refl) split
 
 -- a pattern excludes the names that it matches, and no others

@@ -4,6 +4,7 @@ use Rattle.gix_refspec_text.proofs.Common.{IsPrefix, of_head, of_name, of_patter
 use Rattle.gix_refspec_text.proofs.Common.{same_Some}
 use Rattle.gix_refspec_text.proofs.lemmas.hits.MatchLemmas.{outside_none}
 use Rattle.gix_refspec_text.proofs.lemmas.prefixes.OnePrefixLemmas.{one_prefix}
+use Rattle.gix_refspec_text.proofs.facts.TestedTexts.{differ}
 use Rattle.gix_refspec_text.proofs.facts.ManualFacts.{Lacks-tested, other_length, none_some}
 use Rattle.gix_refspec_text.proofs.facts.FaultFacts.{begins_not}
 use Rattle.gix_refspec_text.proofs.facts.ObjectIdFacts.{empty_blob, IsIdText-empty_blob}
@@ -36,7 +37,7 @@ no_prefixes = (
   no_bare_prefix,
   no_prefix (codes "refs/a]*") (codes "refs/a]") [] bracket_split (tells.1 []).2,
   no_prefix (codes "refs/a*/]") (codes "refs/a") (codes "/]") suffix_split tells.2,
-  outside_none (codes "heads/*") (other_length _ _ (λ size. omega (arith, size))) (begins_not (codes "refs/") (codes "heads/*") refl),
+  outside_none (codes "heads/*") (differ _ _ refl) (begins_not (codes "refs/") (codes "heads/*") refl),
 )
 
 -- without a prefix, a side with one component after `refs/` is expanded to itself, and with a further slash to
@@ -51,7 +52,7 @@ expansions_below = (
 -- an id is expanded to nothing, and `HEAD` to itself
 pub expansions_outside : Expands (codes "e69de29bb2d1d6434b8b29ae775ad8c2e48c5391") [] × Expands (codes "HEAD") (codes "HEAD" ∷ [])
 expansions_outside = (
-  of_object (outside_none (codes "e69de29bb2d1d6434b8b29ae775ad8c2e48c5391") (other_length _ _ (λ size. omega (arith, size))) blob_kind.1) blob_kind.1 (empty_blob, IsIdText-empty_blob) refl,
+  of_object (outside_none (codes "e69de29bb2d1d6434b8b29ae775ad8c2e48c5391") (differ _ _ refl) blob_kind.1) blob_kind.1 (empty_blob, IsIdText-empty_blob) refl,
   to_prefix (codes "HEAD") whole_prefixes.0 refl,
 )
 

@@ -6,11 +6,12 @@ use Rattle.gix_refspec_text.proofs.Common.{ReferenceName, PatternUnbalanced, Neg
 use Rattle.gix_refspec_text.proofs.Common.{IsBadSourceFor, HasBadSource, HasBadDestination, IsOneStarred, IsUnbalanced, ExcludesNothing, ExcludesObject, Never, OrElse, IsFirstReason, same_Some, Plain}
 use Rattle.gix_refspec_text.proofs.Common.{Empty}
 use Rattle.gix_refspec_text.specs.declared.name.PatternError.TheVariants.{Name}
-use Rattle.gix_refspec_text.proofs.lemmas.texts.TextLemmas.{Lacks-ContainsText, one_not_two}
-use Rattle.gix_refspec_text.proofs.lemmas.parsing.SideLemmas.{name_not_bad, replaced_once, HasStar-replaced, HasStar-bad}
-use Rattle.gix_refspec_text.proofs.facts.ManualFacts.{Lacks-tested, full, none_some, some_none}
-use Rattle.gix_refspec_text.proofs.facts.FaultFacts.{holds_not}
-use Rattle.gix_refspec_text.proofs.facts.RefusalFacts.{replaces_star, locked, normal_positive}
+use Rattle.gix_refspec_text.proofs.lemmas.texts.LetterLemmas.{HasOneStar-count_by}
+use Rattle.gix_refspec_text.proofs.lemmas.parsing.SideLemmas.{name_not_bad}
+use Rattle.gix_refspec_text.proofs.facts.ManualFacts.{IsSplit-tested, full, none_some, some_none}
+use Rattle.gix_refspec_text.proofs.facts.TestedTexts.{Lacks-tested, holds_not, faulty, several, not_several, not_one_star, pattern_fault, pattern_faultless, unstarred}
+use Rattle.gix_refspec_text.proofs.facts.TestedReadings.{a_hash, no_hash}
+use Rattle.gix_refspec_text.proofs.facts.RefusalFacts.{normal_positive}
 use Rattle.gix_refspec_text.proofs.lemmas.lists.LacksLemmas.{Lacks-here}
 use Rattle.gix_refspec_text.proofs.lemmas.parsing.ReasonLemmas.{reason_against_nothing, reason_against_object}
 
@@ -18,25 +19,17 @@ use Rattle.gix_refspec_text.proofs.lemmas.parsing.ReasonLemmas.{reason_against_n
 
 -- a text with exactly one star, and texts without one and with two
 pub one_star_alone : HasOneStar (codes "a*b") × IsSplit (codes "a") (codes "b") (codes "a*b") × ¬ (HasOneStar (codes "ab")) × ¬ (HasOneStar (codes "a*b*"))
-one_star_alone = (
-  (codes "a", codes "b", split),
-  split,
-  (λ one. Lacks-ContainsText star (codes "ab") (Lacks-tested star (codes "ab") refl) (record { before = one.0; after = one.1; here = one.2.starred })),
-  λ one. one_not_two star one.0 one.1 (codes "a") (codes "b") [] one.2.first one.2.last (sym one.2.starred),
-)
-  where
-    split : IsSplit (codes "a") (codes "b") (codes "a*b")
-    split = record { starred = refl; first = Lacks-tested star (codes "a") refl; last = Lacks-tested star (codes "b") refl }
+one_star_alone = (HasOneStar-count_by (codes "a*b") refl, IsSplit-tested (codes "a") (codes "b") refl refl, not_one_star (codes "ab") refl, not_one_star (codes "a*b*") refl)
 
 -- ---- names and patterns
 
 -- a pattern isn't refused for one star, nor for the star as a fault, nor is a text without a star a bad pattern
 pub bad_patterns : IsBadPattern (codes "b*.lock") (ReferenceName LockSuffix) × ¬ (IsBadPattern (codes "b*.lock") (ReferenceName Asterisk)) × ¬ (IsBadPattern (codes "b*.lock") (PatternUnsupported (codes "b*.lock"))) × ¬ (IsBadPattern (codes "b.lock") (ReferenceName LockSuffix)) × ¬ (IsBadPattern (codes "b*.lock") PatternUnbalanced)
 bad_patterns = (
-  (codes "ba.lock", replaces_star, locked),
-  (λ bad. holds_not (codes "*") (codes "ba.lock") refl (subst (λ (y : List ℕ). HasFault y Asterisk) (replaced_once (codes "b*.lock") bad.0 (codes "ba.lock") bad.1 replaces_star) bad.2)),
-  (λ bad. one_not_two star (codes "b") (codes ".lock") bad.0.before bad.0.between bad.0.after (Lacks-tested star (codes "b") refl) (Lacks-tested star (codes ".lock") refl) bad.0.here),
-  (λ bad. Lacks-ContainsText star (codes "b.lock") (Lacks-tested star (codes "b.lock") refl) (HasStar-replaced (codes "b.lock") bad.0 bad.1)),
+  pattern_fault (codes "b*.lock") LockSuffix refl refl,
+  pattern_faultless (codes "b*.lock") Asterisk refl refl,
+  (λ bad. not_several (codes "b*.lock") refl bad.0),
+  unstarred (codes "b.lock") (ReferenceName LockSuffix) refl,
   λ none. none,
 )
 
@@ -45,7 +38,7 @@ pub pattern_faults : IsPatternFault (Name LockSuffix) (codes "b*.lock") × ¬ (I
 pattern_faults = (bad_patterns.0, bad_patterns.1, bad_patterns.3)
 
 dots_bad : IsBadName (codes "a..b") (ReferenceName RepeatedDot)
-dots_bad = (Lacks-tested star (codes "a..b") refl, record { before = codes "a"; after = codes "b"; here = refl })
+dots_bad = (Lacks-tested star (codes "a..b") refl, faulty (codes "a..b") RepeatedDot refl)
 
 -- a bad name has a fault of its own, and a text with a star isn't a bad name
 pub bad_names : IsBadName (codes "a..b") (ReferenceName RepeatedDot) × ¬ (IsBadName (codes "a..b") (ReferenceName NoName)) × ¬ (IsBadName (codes "a*..b") (ReferenceName RepeatedDot)) × ¬ (IsBadName (codes "a..b") PatternUnbalanced)
@@ -68,17 +61,11 @@ nowhere = search (arith, full, none_some, same_Some)
 -- ---- sources and destinations
 
 two_stars_bad : IsBadPattern (codes "a*b*") (PatternUnsupported (codes "a*b*"))
-two_stars_bad = (record { before = codes "a"; between = codes "b"; after = []; here = refl }, refl)
+two_stars_bad = (several (codes "a*b*") refl, refl)
 
 -- `a..b` may be pushed to a destination, but not alone, and not fetched; `a*b*` may not be pushed even to a destination
 pub sources : ((e : Refusal) → ¬ (IsBadSourceFor Push (Some (codes "c")) (codes "a..b") e)) × IsBadSourceFor Push None (codes "a..b") (ReferenceName RepeatedDot) × IsBadSourceFor Fetch (Some (codes "c")) (codes "a..b") (ReferenceName RepeatedDot) × IsBadSourceFor Push (Some (codes "c")) (codes "a*b*") (PatternUnsupported (codes "a*b*")) × IsBadSourceFor Push None (codes "a*b*") (PatternUnsupported (codes "a*b*"))
-sources = (
-  (λ e bad. Lacks-ContainsText star (codes "a..b") (Lacks-tested star (codes "a..b") refl) (HasStar-bad (codes "a..b") e bad)),
-  inl dots_bad,
-  inl dots_bad,
-  two_stars_bad,
-  inr two_stars_bad,
-)
+sources = ((λ e. unstarred (codes "a..b") e refl), inl dots_bad, inl dots_bad, two_stars_bad, inr two_stars_bad)
 
 -- an empty side is neither a bad source nor a bad destination
 pub empty_sides : ((op : Operation) (d : Option (List ℕ)) (e : Refusal) → ¬ (HasBadSource op [] d e)) × ((e : Refusal) → ¬ (HasBadDestination (Some []) e) × ¬ (HasBadDestination None e))
@@ -103,10 +90,7 @@ one_starred = (
   inl (has_star (codes "a") [], Lacks-tested star (codes "b") refl),
   inr (Lacks-tested star (codes "b") refl, has_star (codes "a") []),
   (λ one. elim one [ inl first ↦ Lacks-here star (codes "b") [] first.1 | inr second ↦ Lacks-here star (codes "a") [] second.0 ]),
-  λ one. elim one [
-    | inl first ↦ Lacks-ContainsText star (codes "a") (Lacks-tested star (codes "a") refl) first.0
-    | inr second ↦ Lacks-ContainsText star (codes "b") (Lacks-tested star (codes "b") refl) second.1
-  ],
+  λ one. elim one [ inl first ↦ holds_not (codes "*") (codes "a") refl first.0 | inr second ↦ holds_not (codes "*") (codes "b") refl second.1 ],
 )
 
 -- a push of `a*:b` is unbalanced, and so is one of `+:b*`, but not one of `a*:`
@@ -121,7 +105,7 @@ unbalanced_pushes = (
 -- ---- negative specs
 
 hash : LooksLikeObjectHash (replicate 40 letter)
-hash = record { long = let size = length-replicate 40 letter in omega (arith, size); digits = AllPass-from_list_all is_ascii_hexdigit (replicate 40 letter) refl }
+hash = a_hash (replicate 40 letter) refl
 
 -- `^` is refused for excluding nothing; the empty text and `^a` aren't
 pub excludes_nothing : ExcludesNothing Negative [] NegativeEmpty × ((e : Refusal) → ¬ (ExcludesNothing Normal [] e) × ¬ (ExcludesNothing Negative (codes "a") e)) × ¬ (ExcludesNothing Negative [] NegativeObjectHash)
@@ -129,7 +113,7 @@ excludes_nothing = (record { negative = refl; no_source = refl; refusal = refl }
 
 -- `^` and 40 digits exclude an object, and the digits alone and `^` and 39 don't
 pub excludes_object : ExcludesObject Negative (replicate 40 letter) NegativeObjectHash × ((e : Refusal) → ¬ (ExcludesObject Normal (replicate 40 letter) e) × ¬ (ExcludesObject Negative (replicate 39 letter) e)) × ¬ (ExcludesObject Negative (replicate 40 letter) NegativeEmpty)
-excludes_object = (record { negative = refl; hash = hash; refusal = refl }, (λ e. ((λ is. normal_positive is.negative), λ is. let long : 40 ≤ 39 = is.hash.long in omega (arith, long))), λ is. let same = is.refusal in cc)
+excludes_object = (record { negative = refl; hash = hash; refusal = refl }, (λ e. ((λ is. normal_positive is.negative), λ is. no_hash (replicate 39 letter) refl is.hash)), λ is. let same = is.refusal in cc)
 
 -- ---- one of two reasons
 

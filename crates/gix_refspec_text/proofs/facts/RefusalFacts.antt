@@ -5,8 +5,9 @@ use Rattle.gix_refspec_text.proofs.Common.{slash, letter, Normal, Forced, Negati
 use Rattle.gix_refspec_text.proofs.Common.{PatternUnbalanced, Never, IsEmptyPush, HasBadSource, HasBadDestination, IsUnbalanced, IsFirstReason, ◌≡◌, Mode, IsSameReason, Empty}
 use Rattle.gix_refspec_text.proofs.lemmas.texts.TestedLemmas.{IsName-tested}
 use Rattle.gix_refspec_text.proofs.lemmas.parsing.SideLemmas.{name_not_bad}
-use Rattle.gix_refspec_text.proofs.facts.ManualFacts.{Lacks-tested, ReplacesStar-tested, full}
-use Rattle.gix_refspec_text.proofs.facts.FitFacts.{other_byte}
+use Rattle.gix_refspec_text.proofs.facts.ManualFacts.{full}
+use Rattle.gix_refspec_text.proofs.facts.TestedTexts.{differ as other, contains, bad_side}
+use Rattle.gix_refspec_text.proofs.facts.TestedReadings.{no_hash}
 use Rattle.gix_refspec_text.proofs.lemmas.parsing.RefusalLemmas.{Agree-first}
 use Rattle.gix_refspec_text.proofs.lemmas.parsing.ReasonLemmas.{fetch_reaches, reason_at_source, reason_at_destination}
 
@@ -35,27 +36,17 @@ source_before_destination = (first, other_reason Fetch Normal (codes "a*b*") (So
   where
     first : IsFirstReason Fetch Normal (codes "a*b*") (Some (codes "c*d*")) (PatternUnsupported (codes "a*b*"))
     first = reason_at_source Fetch Normal (codes "a*b*") (Some (codes "c*d*")) (PatternUnsupported (codes "a*b*")) (fetch_reaches Normal (codes "a*b*") (Some (codes "c*d*")) tt)
-        (record { source = full _ _; refusal = inr (record { before = codes "a"; between = codes "b"; after = []; here = refl }, refl) })
+        (record { source = full _ _; refusal = bad_side (codes "a*b*") (PatternUnsupported (codes "a*b*")) refl })
 
     differ : ¬ (IsSameReason (PatternUnsupported (codes "a*b*")) (PatternUnsupported (codes "c*d*")))
-    differ (inl is) = let same : codes "a*b*" ≡ codes "c*d*" = cc in other_byte 0 (codes "a*b*") (codes "c*d*") (λ byte. omega (arith, byte)) same
+    differ (inl is) = let same : codes "a*b*" ≡ codes "c*d*" = cc in other _ _ refl same
     differ (inr names) = let is = names.2 in cc
 
--- fetch `a:b*.lock`
-no_bad_name : Never (HasBadSource Fetch (codes "a") (Some (codes "b*.lock")))
-no_bad_name e is = name_not_bad (codes "a") (IsName-tested (codes "a") refl) e is.refusal
-
-pub replaces_star : ReplacesStar (codes "b*.lock") (codes "ba.lock")
-replaces_star = ReplacesStar-tested (codes "b") (codes ".lock") refl refl
-
-pub locked : HasFault (codes "ba.lock") LockSuffix
-locked = record { before = []; component = codes "ba.lock"; after = []; components = record { joined = refl; whole = (Lacks-tested slash (codes "ba.lock") refl, tt) }; fact = record { before = codes "ba"; here = refl } }
-
 pub bad_destination : HasBadDestination (Some (codes "b*.lock")) (ReferenceName LockSuffix)
-bad_destination = record { word = codes "b*.lock"; is = refl; destination = full _ _; refusal = inr (codes "ba.lock", replaces_star, locked) }
+bad_destination = record { word = codes "b*.lock"; is = refl; destination = full _ _; refusal = bad_side (codes "b*.lock") (ReferenceName LockSuffix) refl }
 
 pub destination_before_balance : IsFirstReason Fetch Normal (codes "a") (Some (codes "b*.lock")) (ReferenceName LockSuffix)
-destination_before_balance = reason_at_destination Fetch Normal (codes "a") (Some (codes "b*.lock")) (ReferenceName LockSuffix) (fetch_reaches Normal (codes "a") (Some (codes "b*.lock")) tt) no_bad_name bad_destination
+destination_before_balance = reason_at_destination Fetch Normal (codes "a") (Some (codes "b*.lock")) (ReferenceName LockSuffix) (fetch_reaches Normal (codes "a") (Some (codes "b*.lock")) tt) (λ e is. name_not_bad (codes "a") (IsName-tested (codes "a") refl) e is.refusal) bad_destination
 
 pub not_unbalanced : ¬ (IsFirstReason Fetch Normal (codes "a") (Some (codes "b*.lock")) PatternUnbalanced)
 not_unbalanced = other_reason Fetch Normal (codes "a") (Some (codes "b*.lock")) (ReferenceName LockSuffix) PatternUnbalanced destination_before_balance (λ same. elim same [ inl is ↦ cc | inr names ↦ let is = names.3 in cc ])
@@ -63,11 +54,11 @@ not_unbalanced = other_reason Fetch Normal (codes "a") (Some (codes "b*.lock")) 
 -- a source alone with a star is unbalanced in a fetch, but not in a push, nor is a negative spec
 pub unbalanced : IsUnbalanced Fetch Normal (codes "a*") None PatternUnbalanced × ((e : Refusal) → ¬ (IsUnbalanced Push Normal (codes "a*") None e)) × ((e : Refusal) → ¬ (IsUnbalanced Fetch Negative (codes "a*") None e))
 unbalanced = (
-  record { positive = tt; one = inl (record { before = codes "a"; after = []; here = refl }, tt); has_destination = λ push. absurd (cc); refusal = refl },
+  record { positive = tt; one = inl (contains (codes "*") (codes "a*") refl, tt); has_destination = λ push. absurd (cc); refusal = refl },
   (λ e is. is.has_destination refl refl),
   (λ e is. is.positive),
 )
 
 -- 39 digits don't look like an id
 pub too_short : ¬ (LooksLikeObjectHash (replicate 39 letter))
-too_short hash = omega (arith, length-replicate 39 letter, hash.long)
+too_short = no_hash (replicate 39 letter) refl

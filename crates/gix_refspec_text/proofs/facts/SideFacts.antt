@@ -2,10 +2,11 @@
 -- matched.
 use Rattle.gix_refspec_text.proofs.Common.{◌≡◌, ◌≢◌, ◌⊎◌, ℕ, List, [], ◌∷◌, Option, None, Some, codes, refl, sym, subst, arith, AllByRecursion, star, SideKind, pattern, full_name, object, partial, IsId}
 use Rattle.gix_refspec_text.proofs.Common.{HasKind, candidates, IsCandidate, Excludes, the_name, by_pattern, filled, MatchesAs, Matches, inl, inr, Lacks, HasOneStar, IsIdText, Normal, fetched, pushed}
-use Rattle.gix_refspec_text.proofs.Common.{Fits, same_Some}
+use Rattle.gix_refspec_text.proofs.Common.{Fits, same_Some, bytes_eq}
 use Rattle.gix_refspec_text.proofs.lemmas.texts.TextLemmas.{one_not_two}
 use Rattle.gix_refspec_text.proofs.lemmas.texts.ComponentLemmas.{AllByRecursion-parts}
 use Rattle.gix_refspec_text.proofs.lemmas.hits.MatchLemmas.{has_candidates, lacks_no_pattern}
+use Rattle.gix_refspec_text.proofs.facts.TestedTexts.{differ, none_are}
 use Rattle.gix_refspec_text.proofs.facts.ManualFacts.{Lacks-tested, other_length, named}
 use Rattle.gix_refspec_text.proofs.facts.FaultFacts.{begins_not}
 use Rattle.gix_refspec_text.proofs.facts.ObjectIdFacts.{empty_blob, IsIdText-empty_blob, IsIdText-empty_blob_in_upper_case}
@@ -43,7 +44,7 @@ pub main_candidates : IsCandidate (codes "main") (codes "main") × IsCandidate (
 main_candidates = (
   record { earlier = []; later = codes "refs/main" ∷ codes "refs/tags/main" ∷ codes "refs/heads/main" ∷ codes "refs/remotes/main" ∷ codes "refs/remotes/main/HEAD" ∷ []; here = refl },
   record { earlier = codes "main" ∷ codes "refs/main" ∷ codes "refs/tags/main" ∷ codes "refs/heads/main" ∷ codes "refs/remotes/main" ∷ []; later = []; here = refl },
-  no_candidate (codes "refs/x/main") (other_length _ _ (λ size. omega (arith, size)), (other_length _ _ (λ size. omega (arith, size)), (other_length _ _ (λ size. omega (arith, size)), (other_length _ _ (λ size. omega (arith, size)), (other_length _ _ (λ size. omega (arith, size)), (other_length _ _ (λ size. omega (arith, size)), tt)))))),
+  no_candidate (codes "refs/x/main") (none_are (λ c. c ≢ codes "refs/x/main") (λ c. bytes_eq c (codes "refs/x/main")) (λ c. differ c (codes "refs/x/main")) (candidates (codes "main")) refl),
 )
 
 -- a partial name matches a ref with the name of a candidate, and no other ref
@@ -51,7 +52,7 @@ pub partial_matches : MatchesAs (partial (codes "main")) (named (codes "refs/rem
 partial_matches = (
   (refl, main_candidates.1),
   (λ matches. main_candidates.2 matches.1),
-  λ word matches. let all = has_candidates (codes "main") short_kind.1 (other_byte 0 (codes "main") (codes "HEAD") (λ byte. omega (arith, byte))) short_kind.2 short_kind.3 in main_candidates.2 ((all.matches (named (codes "refs/x/main"))).0 (word, matches)),
+  λ word matches. let all = has_candidates (codes "main") short_kind.1 (differ (codes "main") (codes "HEAD") refl) short_kind.2 short_kind.3 in main_candidates.2 ((all.matches (named (codes "refs/x/main"))).0 (word, matches)),
 )
 
 -- a pattern matches with its word, but not with another word, and not without
@@ -67,7 +68,7 @@ excludes_little = (two_stars, by_pattern (codes "a/") (codes "/c") (codes "b") (
     two_stars n (by_pattern before after word split fits) = no_kind (pattern before after) split
 
     longer : ¬ (Excludes (codes "a/b") (codes "a/bc"))
-    longer (the_name lacks same) = other_length _ _ (λ size. omega (arith, size)) same
+    longer (the_name lacks same) = differ _ _ refl same
     longer (by_pattern before after word split fits) = lacks_no_pattern (codes "a/b") before after (Lacks-tested star (codes "a/b") refl) split
 
 -- a word changes only a pattern, and a partial name gets just `refs/` only before `tags/` and `remotes/`

@@ -1,5 +1,5 @@
 -- What a text reads as, computed for texts whose names are plain enough for a test of each byte, so that examples need no witnesses.
-use Rattle.gix_refspec_text.proofs.Common.{◌≡◌, ◌≢◌, ◌⊎◌, ℕ, Bool, true, false, not, ◌==◌, ◌||◌, ◌&&◌, nat_le, if◌then◌else◌, List, [], ◌∷◌, ◌++◌, Option, None, Some, length, refl, sym, ap, ◌∙◌, subst, unwrap_or, and_from}
+use Rattle.gix_refspec_text.proofs.Common.{◌≡◌, ◌≢◌, ◌⊎◌, ℕ, Bool, true, false, not, ◌==◌, ◌||◌, ◌&&◌, nat_le, if◌then◌else◌, List, [], ◌∷◌, ◌++◌, Option, None, Some, length, refl, sym, ap, ◌∙◌, subst, unwrap_or, and_from, bytes_eq, bytes_eq-Decides}
 use Rattle.gix_refspec_text.proofs.Common.{arith, list_any, list_all, inl, inr, true≢false, false≢true, eqb-false, eqb-true, or_parts, or_cases, and_parts, leb-true, le-leb, is_ascii_hexdigit}
 use Rattle.gix_refspec_text.proofs.Common.{AllPass-from_list_all, list_all-from_AllPass, Operation, Push, Fetch, Shape, Plain, Pattern, Lacks, slash, star, plus, caret, colon, Mode, Normal, Forced, Negative}
 use Rattle.gix_refspec_text.proofs.Common.{Reading, Reads, IsSigned, AreParts, IsPositive, LooksLikeObjectHash, named_by, named_or_head, side_of, fetched, pushed, HasShape, HasCheckedShape, same_Some}
@@ -183,6 +183,18 @@ reads {op} {text} {r} so =
     let at = λ (k : Shape). shaped_reads op (sign_of text) (cut (unsigned text)) k text r (parts_of text) in
     either_is op text r (shaped op (sign_of text) (cut (unsigned text)) Plain) (shaped op (sign_of text) (cut (unsigned text)) Pattern) (at Plain) (at Pattern) so
 
--- a text doesn't have another reading
-pub no_other : (op : Operation) (text : List ℕ) (r q : Reading) → read op text ≡ Some r → r ≢ q → ¬ (Reads op text q)
-no_other op text r q so differ also = differ (reads_once op text r q (reads so) also)
+-- whether two sides are the same
+abbrev pub same_side : Option (List ℕ) → Option (List ℕ) → Bool
+same_side None None = true
+same_side (Some x) (Some y) = bytes_eq x y
+same_side x y = false
+
+same_self : (x : Option (List ℕ)) → same_side x x ≡ true
+same_self None = refl
+same_self (Some x) = (bytes_eq-Decides x x).1 refl
+
+-- a text doesn't have a reading with another side
+pub no_other : {op : Operation} {text : List ℕ} {q : Reading} (r : Reading) → read op text ≡ Some r → (same_side r.source q.source && same_side r.destination q.destination) ≡ false → ¬ (Reads op text q)
+no_other {op} {text} {q} r so other also =
+    let same : r ≡ q = reads_once op text r q (reads so) also in
+    true≢false (sym (and_from _ _ (subst (λ (z : Reading). same_side r.source z.source ≡ true) same (same_self r.source)) (subst (λ (z : Reading). same_side r.destination z.destination ≡ true) same (same_self r.destination))) ∙ other)

@@ -3,12 +3,13 @@ use Rattle.gix_refspec_text.proofs.Common.{◌≡◌, ◌≢◌, ℕ, Bool, true
 use Rattle.gix_refspec_text.proofs.Common.{subst, arith, All, AllByRecursion, All-from_recursion, Decides, Decides-eqb, starts_with, ends_with, starts_is, ends_is, slice_split, join_with_byte, list_any, list_all, count_by}
 use Rattle.gix_refspec_text.proofs.Common.{true≢false, false≢true, eqb-false, eqb-true, ne_eqb, or_parts, or_cases, and_parts, and_from, Error, Empty, EmptyComponent, StartsWithDot, LockSuffix, EndsWithDot}
 use Rattle.gix_refspec_text.proofs.Common.{RepeatedDot, ReflogPortion, Asterisk, InvalidByte, is_refused_byte, Lacks, ContainsText, BeginsWith, EndsWith, SomeComponent, HasFault, HasOneStar, HasSeveralStars}
-use Rattle.gix_refspec_text.proofs.Common.{IsName, IsPattern, IsPatternFault, slash, star, with_letters, inl, inr}
+use Rattle.gix_refspec_text.proofs.Common.{IsName, IsPattern, IsPatternFault, slash, star, with_letters, inl, inr, ◌⊎◌, Refusal, PatternUnsupported, ReferenceName, IsBadName, IsBadPattern}
 use Rattle.gix_refspec_text.specs.declared.name.PatternError.TheVariants.{Name}
 use Rattle.std.specs.List.{onto_first}
 use Rattle.std.proofs.Math.Bool.{or-true}
 use Rattle.std.proofs.lemmas.List.Splits.{slice_split_none, slice_split_at, join_with_byte-slice_split}
 use Rattle.gix_refspec_text.proofs.lemmas.lists.AllLemmas.{all_weaker}
+use Rattle.gix_refspec_text.proofs.lemmas.parsing.SideLemmas.{HasSeveralStars-replaced, plain_fine, replaced_once}
 use Rattle.gix_refspec_text.proofs.lemmas.texts.LetterLemmas.{HasOneStar-count_by, count_by-HasOneStar, replaces_one, pattern_with_letter}
 use Rattle.gix_refspec_text.proofs.lemmas.texts.TestedLemmas.{is_suspect, IsName-tested}
 
@@ -233,3 +234,30 @@ several (b ∷ x) so = elim (or_cases (b == star && holds (codes "*") x) (holds_
       record { before = []; between = found.before; after = found.after; here = let rest : x ≡ found.before ++ (star ∷ found.after) = found.here in cc }
   | inr later ↦ let found = several x later in record { before = b ∷ found.before; between = found.between; after = found.after; here = ap (λ y. b ∷ y) found.here }
 ]
+
+-- ---- bad sides
+
+pub pattern_faultless : (x : List ℕ) (e : Error) → (stars x == 1) ≡ true → has_fault (with_letters x) e ≡ false → ¬ (IsPatternFault (Name e) x)
+pattern_faultless x e one none bad =
+    let split = HasOneStar-count_by x (eqb-true (stars x) 1 one) in
+    faultless (with_letters x) e none (subst (λ (y : List ℕ). HasFault y e) (replaced_once x bad.0 (with_letters x) bad.1 (replaces_one split.0 split.1 x split.2)) bad.2)
+
+pub not_several : (x : List ℕ) → (stars x == 1) ≡ true → ¬ (HasSeveralStars x)
+not_several x one = let split = HasOneStar-count_by x (eqb-true (stars x) 1 one) in HasSeveralStars-replaced x (with_letters x) (replaces_one split.0 split.1 x split.2)
+
+pub unstarred : (x : List ℕ) (e : Refusal) → list_any (λ c. c == star) x ≡ false → ¬ (IsBadPattern x e)
+unstarred x e none = plain_fine x (Lacks-tested star x none) e
+
+-- whether a side is bad for this reason
+abbrev pub is_bad : List ℕ → Refusal → Bool
+is_bad x (PatternUnsupported p) = holds_twice x && bytes_eq p x
+is_bad x (ReferenceName f) = (not (list_any (λ c. c == star) x) && has_fault x f) || ((stars x == 1) && has_fault (with_letters x) f)
+is_bad x e = false
+
+pub bad_side : (x : List ℕ) (e : Refusal) → is_bad x e ≡ true → IsBadName x e ⊎ IsBadPattern x e
+bad_side x (PatternUnsupported p) so = let both = and_parts _ _ so in inr (several x both.0, (bytes_eq-Decides p x).0 both.1)
+bad_side x (ReferenceName f) so = elim (or_cases (not (list_any (λ c. c == star) x) && has_fault x f) ((stars x == 1) && has_fault (with_letters x) f) so) [
+  | inl plain ↦ let both = and_parts _ _ plain in inl (Lacks-tested star x (not_true _ both.0), faulty x f both.1)
+  | inr starry ↦ let both = and_parts _ _ starry in inr (pattern_fault x f both.0 both.1)
+]
+bad_side x e so = absurd (false≢true so)
