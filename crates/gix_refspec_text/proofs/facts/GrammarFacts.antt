@@ -1,7 +1,7 @@
 -- The definitions of the grammar, and each of its thirteen forms at texts like those of git-fetch(1) and
 -- git-push(1), with `+` and without.
 use Rattle.gix_refspec_text.proofs.Common.{◌≡◌, ◌≢◌, ◌<◌, ℕ, ◌==◌, true, false, List, [], ◌∷◌, ◌++◌, None, Some, length, codes, refl, ap, inl, inr, arith, replicate, list_any, false≢true}
-use Rattle.gix_refspec_text.proofs.Common.{length-replicate, AllPass-from_list_all, list_all-from_AllPass, is_ascii_hexdigit, Operation, Push, Fetch, slash, star, letter, caret, colon, Mode, Normal}
+use Rattle.gix_refspec_text.proofs.Common.{length-replicate, AllPass-from_list_all, list_all-from_AllPass, is_ascii_hexdigit, Operation, Push, Fetch, Plain, Pattern, slash, star, letter, caret, colon, Mode, Normal}
 use Rattle.gix_refspec_text.proofs.Common.{Forced, Negative, Reading, IsUnsigned, IsSigned, with_colon, LastLacksColon, AreParts, IsPositive, named_by, LooksLikeObjectHash, IsNameOrPattern, AreAlike}
 use Rattle.gix_refspec_text.proofs.Common.{fetched, pushed, Reads, fetches_nothing_named, fetches_colon, fetches, updates, updates_from_head, fetch_excludes, pushes_plus, pushes_colon, pushes}
 use Rattle.gix_refspec_text.proofs.Common.{deletes, pushes_pattern, push_excludes, Asterisk, InvalidByte, is_refused_byte, HasFault, IsName, IsPattern, same_Some}
@@ -9,7 +9,7 @@ use Rattle.gix_refspec_text.proofs.lemmas.parsing.SideLemmas.{HasStar-pattern}
 use Rattle.gix_refspec_text.proofs.lemmas.texts.TestedLemmas.{IsName-tested}
 use Rattle.gix_refspec_text.proofs.facts.ManualFacts.{parts, no_sign}
 use Rattle.gix_refspec_text.proofs.facts.TestedTexts.{Lacks-tested, differ, a_pattern, no_name, no_pattern}
-use Rattle.gix_refspec_text.proofs.facts.TestedReadings.{reads, no_other, a_hash, no_hash}
+use Rattle.gix_refspec_text.proofs.facts.TestedReadings.{reads, excludes, parts_of, no_other, a_hash, no_hash}
 use Rattle.gix_refspec_text.proofs.lemmas.lists.LacksLemmas.{Lacks-here}
 
 -- ---- the words of the forms
@@ -75,64 +75,64 @@ hashes = (a_hash (replicate 40 letter) refl, a_hash (replicate 41 65) refl, no_h
 
 -- an empty source, with and without a sign and a colon, is `HEAD`
 pub fetches_head : Reads Fetch [] (fetched Normal (codes "HEAD") None) × Reads Fetch (codes "+") (fetched Forced (codes "HEAD") None) × Reads Fetch (codes ":") (fetched Normal (codes "HEAD") None) × Reads Fetch (codes "+:") (fetched Forced (codes "HEAD") None)
-fetches_head = (reads refl, reads refl, reads refl, reads refl)
+fetches_head = (reads Plain tt refl, reads Plain tt refl, reads Plain tt refl, reads Plain tt refl)
 
 -- a name alone; the second of two signs belongs to the name
 pub fetches_main : Reads Fetch (codes "main") (fetched Normal (codes "main") None) × Reads Fetch (codes "+main") (fetched Forced (codes "main") None) × Reads Fetch (codes "++main") (fetched Forced (codes "+main") None) × Reads Fetch (codes "@") (fetched Normal (codes "HEAD") None)
-fetches_main = (reads refl, reads refl, reads refl, reads refl)
+fetches_main = (reads Plain tt refl, reads Plain tt refl, reads Plain tt refl, reads Plain tt refl)
 
 -- a colon after a name changes nothing
 pub fetches_main_colon : Reads Fetch (codes "main:") (fetched Normal (codes "main") None) × Reads Fetch (codes "+main:") (fetched Forced (codes "main") None) × Reads Fetch (codes "@:") (fetched Normal (codes "HEAD") None)
-fetches_main_colon = (reads refl, reads refl, reads refl)
+fetches_main_colon = (reads Plain tt refl, reads Plain tt refl, reads Plain tt refl)
 
 -- two names, of which only the source may be short for `HEAD`
 pub updates_names : Reads Fetch (codes "main:refs/x/b") (fetched Normal (codes "main") (Some (codes "refs/x/b"))) × Reads Fetch (codes "+main:refs/x/b") (fetched Forced (codes "main") (Some (codes "refs/x/b"))) × Reads Fetch (codes "@:@") (fetched Normal (codes "HEAD") (Some (codes "@")))
-updates_names = (reads refl, reads refl, reads refl)
+updates_names = (reads Plain tt refl, reads Plain tt refl, reads Plain tt refl)
 
 -- two patterns
 pub updates_patterns : Reads Fetch (codes "refs/heads/*:refs/x/*") (fetched Normal (codes "refs/heads/*") (Some (codes "refs/x/*")))
-updates_patterns = reads refl
+updates_patterns = reads Pattern tt refl
 
 -- the source of a destination alone is `HEAD`
 pub updates_x : Reads Fetch (codes ":refs/heads/x") (fetched Normal (codes "HEAD") (Some (codes "refs/heads/x"))) × Reads Fetch (codes "+:refs/heads/x") (fetched Forced (codes "HEAD") (Some (codes "refs/heads/x")))
-updates_x = (reads refl, reads refl)
+updates_x = (reads Plain tt refl, reads Plain tt refl)
 
 -- a pattern, a name, `@`, a `+` that isn't a sign, and a text that is almost an id
 pub fetches_without : Reads Fetch (codes "^refs/heads/dev-*") (fetched Negative (codes "refs/heads/dev-*") None) × Reads Fetch (codes "^main") (fetched Negative (codes "main") None) × Reads Fetch (codes "^@") (fetched Negative (codes "HEAD") None) × Reads Fetch (codes "^+main") (fetched Negative (codes "+main") None) × Reads Fetch (caret ∷ replicate 39 letter) (fetched Negative (replicate 39 letter) None)
-fetches_without = (reads refl, reads refl, reads refl, reads refl, reads refl)
+fetches_without = (excludes Pattern refl refl, excludes Plain refl refl, excludes Plain refl refl, excludes Plain refl refl, excludes Plain refl refl)
 
 -- ---- forms of a push
 
 -- a name, `@`, and 40 bytes of which one isn't a hex digit
 pub pushes_without : Reads Push (codes "^main") (pushed Negative (Some (codes "main")) None) × Reads Push (codes "^@") (pushed Negative (Some (codes "HEAD")) None) × Reads Push (caret ∷ (codes "g" ++ replicate 39 letter)) (pushed Negative (Some (codes "g" ++ replicate 39 letter)) None)
-pushes_without = (reads refl, reads refl, reads refl)
+pushes_without = (excludes Plain refl refl, excludes Plain refl refl, excludes Plain refl refl)
 
 -- all matching branches, as `:` without a sign
 pub pushes_matching : Reads Push (codes "+") (pushed Forced None None) × Reads Push (codes "+:") (pushed Forced None None)
-pushes_matching = (reads refl, reads refl)
+pushes_matching = (pushes_plus refl (parts_of (codes "+")) refl, pushes_colon Forced refl tt (parts_of (codes "+:")) refl)
 
 -- a name alone, or a pattern
 pub pushes_alone : Reads Push (codes "main") (pushed Normal (Some (codes "main")) None) × Reads Push (codes "++main") (pushed Forced (Some (codes "+main")) None) × Reads Push (codes "@") (pushed Normal (Some (codes "HEAD")) None) × Reads Push (codes "+refs/heads/*") (pushed Forced (Some (codes "refs/heads/*")) None)
-pushes_alone = (reads refl, reads refl, reads refl, reads refl)
+pushes_alone = (reads Plain tt refl, reads Plain tt refl, reads Plain tt refl, reads Pattern tt refl)
 
 -- a destination alone; a sign after the colon belongs to it
 pub deletes_x : Reads Push (codes "+:x") (pushed Forced None (Some (codes "x"))) × Reads Push (codes ":+x") (pushed Normal None (Some (codes "+x")))
-deletes_x = (reads refl, reads refl)
+deletes_x = (reads Plain tt refl, reads Plain tt refl)
 
 -- two patterns
 pub pushes_patterns : Reads Push (codes "refs/heads/*:refs/x/*") (pushed Normal (Some (codes "refs/heads/*")) (Some (codes "refs/x/*"))) × Reads Push (codes "+refs/heads/*:refs/x/*") (pushed Forced (Some (codes "refs/heads/*")) (Some (codes "refs/x/*")))
-pushes_patterns = (reads refl, reads refl)
+pushes_patterns = (reads Pattern tt refl, reads Pattern tt refl)
 
 -- any expression for an object may be a source, even if it isn't a ref name; it goes up to the last colon
 pub pushes_objects : Reads Push (codes "main~2:refs/heads/x") (pushed Normal (Some (codes "main~2")) (Some (codes "refs/heads/x"))) × Reads Push (codes ":/message:refs/heads/x") (pushed Normal (Some (codes ":/message")) (Some (codes "refs/heads/x"))) × Reads Push (codes "+^a..b:x") (pushed Forced (Some (codes "^a..b")) (Some (codes "x"))) × Reads Push (codes "@:@") (pushed Normal (Some (codes "HEAD")) (Some (codes "@"))) × Reads Push (codes "::x") (pushed Normal (Some (codes ":")) (Some (codes "x")))
-pushes_objects = (reads refl, reads refl, reads refl, reads refl, reads refl)
+pushes_objects = (reads Plain tt refl, reads Plain tt refl, reads Plain tt refl, reads Plain tt refl, reads Plain tt refl)
 
 -- ---- no other reading
 
 -- a push of a name alone has no destination, nor has a fetch with a colon after its name
 pub no_destination_read : ¬ (Reads Push (codes "main") (pushed Normal (Some (codes "main")) (Some (codes "main")))) × ¬ (Reads Fetch (codes "main:") (fetched Normal (codes "main") (Some [])))
-no_destination_read = (no_other _ refl refl, no_other _ refl refl)
+no_destination_read = (no_other pushes_alone.0 refl, no_other fetches_main_colon.0 refl)
 
 -- `@` doesn't stay `@`; a sign isn't part of a name; and a push isn't split at its first colon
 pub no_other_source_read : ¬ (Reads Fetch (codes "@") (fetched Normal (codes "@") None)) × ¬ (Reads Fetch (codes "+main") (fetched Normal (codes "+main") None)) × ¬ (Reads Push (codes ":/message:refs/heads/x") (pushed Normal None (Some (codes "/message:refs/heads/x"))))
-no_other_source_read = (no_other _ refl refl, no_other _ refl refl, no_other _ refl refl)
+no_other_source_read = (no_other fetches_main.3 refl, no_other fetches_main.1 refl, no_other pushes_objects.1 refl)

@@ -1,7 +1,7 @@
 -- The definitions of names and refspecs at the examples of git-check-ref-format(1), git-fetch(1) and git-push(1), and
 -- at similar ones on both sides of a boundary, so that a wrong definition fails here.
 use Rattle.gix_refspec_text.proofs.Common.{◌≡◌, ◌≢◌, ◌≤◌, ℕ, ◌==◌, true, false, List, [], ◌∷◌, ◌++◌, Option, None, Some, map, length, get_or, codes, refl, ap, subst, inl, inr, arith, replicate}
-use Rattle.gix_refspec_text.proofs.Common.{list_any, filter, range_with_len, length-replicate, eqb-false, false≢true, LockSuffix, RepeatedDot, ReflogPortion, Operation, Push, Fetch, Lacks}
+use Rattle.gix_refspec_text.proofs.Common.{list_any, filter, range_with_len, length-replicate, eqb-false, false≢true, LockSuffix, RepeatedDot, ReflogPortion, Operation, Push, Fetch, Plain, Pattern, Lacks}
 use Rattle.gix_refspec_text.proofs.Common.{is_refused_byte, HasFault, HasSeveralStars, IsSplit, ReplacesStar, IsPattern, IsPatternFault, slash, star, letter, plus, caret, colon, Mode, Normal, Forced}
 use Rattle.gix_refspec_text.proofs.Common.{Negative, Reading, HasSide, remote_of, local_of, named_by, IsSigned, AreParts, LooksLikeObjectHash, Reads, updates, pushes_colon, pushes, deletes, pushes_to}
 use Rattle.gix_refspec_text.proofs.Common.{push_excludes, pushed, fetched, Meaning, push_all_matching, push_delete, push_matching, push_exclude, fetch_and_update, meaning_of, text_of}
@@ -14,7 +14,7 @@ use Rattle.gix_refspec_text.proofs.lemmas.parsing.SideLemmas.{HasStar-stars}
 use Rattle.gix_refspec_text.proofs.lemmas.parsing.PartsLemmas.{parts_once}
 use Rattle.gix_refspec_text.proofs.lemmas.lists.LacksLemmas.{Lacks-here}
 use Rattle.gix_refspec_text.proofs.facts.TestedTexts.{differ, begins, contains, holds_not, faulty, several, not_several, a_pattern, unstarred, bad_side}
-use Rattle.gix_refspec_text.proofs.facts.TestedReadings.{reads}
+use Rattle.gix_refspec_text.proofs.facts.TestedReadings.{reads, excludes, parts_of}
 pub use Rattle.gix_refspec_text.proofs.facts.TestedTexts.{Lacks-tested}
 
 -- a text with a byte isn't empty
@@ -108,7 +108,7 @@ pub manual : Says Fetch (codes "+refs/heads/*:refs/remotes/origin/*") (fetch_and
     × Says Push (codes "+dev:master") (push_matching (codes "dev") (codes "master") true)
     × Says Push (codes ":experimental") (push_delete (codes "experimental")) × Says Push (codes ":") (push_all_matching false)
     × Says Push (codes "^refs/heads/dev-*") (push_exclude (codes "refs/heads/dev-*"))
-manual = ((_, reads refl, refl), (_, reads refl, refl), (_, reads refl, refl), (_, reads refl, refl), (_, reads refl, refl), (_, reads refl, refl), (_, reads refl, refl), (_, reads refl, refl), (_, reads refl, refl))
+manual = ((_, reads Pattern tt refl, refl), (_, reads Plain tt refl, refl), (_, reads Plain tt refl, refl), (_, reads Plain tt refl, refl), (_, reads Plain tt refl, refl), (_, reads Plain tt refl, refl), (_, reads Plain tt refl, refl), (_, pushes_colon Normal refl tt (parts_of (codes ":")) refl, refl), (_, excludes Pattern refl refl, refl))
 
 -- the canonical texts of these
 pub texts : (text_of (push_matching (codes "master") (codes "master") false) ≡ codes "master:master")

@@ -19,14 +19,9 @@ abbrev pub unsigned : List ℕ → List ℕ
 unsigned [] = []
 unsigned (b ∷ x) = if b == plus then x else if b == caret then x else b ∷ x
 
-signed_at : (b : ℕ) (x : List ℕ) (p q : Bool) → (b == plus) ≡ p → (b == caret) ≡ q → IsSigned (if p then Forced else if q then Negative else Normal) (b ∷ x) (if p then x else if q then x else b ∷ x)
-signed_at b x true q e f = ap (λ c. c ∷ x) (eqb-true b plus e)
-signed_at b x false true e f = ap (λ c. c ∷ x) (eqb-true b caret f)
-signed_at b x false false e f = (refl, (eqb-false b plus e, eqb-false b caret f))
-
 signed : (text : List ℕ) → IsSigned (sign_of text) text (unsigned text)
 signed [] = (refl, tt)
-signed (b ∷ x) = signed_at b x (b == plus) (b == caret) refl refl
+signed (b ∷ x) = grind (arith, eqb-true, eqb-false)
 
 -- a text whole, or the halves around its last colon
 pub data Cut : Type 0 where
@@ -46,14 +41,14 @@ abbrev IsCut : List ℕ → Cut → Type 0
 IsCut x (whole s) = (s ≡ x) × Lacks colon s
 IsCut x (halves s d) = (s ++ (colon ∷ d) ≡ x) × Lacks colon d
 
-cut_further : (b : ℕ) (x : List ℕ) (p : Bool) (c : Cut) → (b == colon) ≡ p → IsCut x c → IsCut (b ∷ x) (cut_at b p c)
-cut_further b x p (halves s d) e is = (ap (λ y. b ∷ y) is.0, is.1)
-cut_further b x true (whole s) e is = let same : b ≡ colon = eqb-true b colon e in (cc (same, is.0), is.1)
-cut_further b x false (whole s) e is = (ap (λ y. b ∷ y) is.0, (eqb-false b colon e, is.1))
-
 is_cut : (x : List ℕ) → IsCut x (cut x)
 is_cut [] = (refl, tt)
-is_cut (b ∷ x) = cut_further b x (b == colon) (cut x) refl (is_cut x)
+is_cut (b ∷ x) = further (b == colon) (cut x) refl (is_cut x)
+  where
+    further : (p : Bool) (c : Cut) → (b == colon) ≡ p → IsCut x c → IsCut (b ∷ x) (cut_at b p c)
+    further p (halves s d) e is = (ap (λ y. b ∷ y) is.0, is.1)
+    further true (whole s) e is = let same : b ≡ colon = eqb-true b colon e in (cc (same, is.0), is.1)
+    further false (whole s) e is = (ap (λ y. b ∷ y) is.0, (eqb-false b colon e, is.1))
 
 -- the parts of a text
 abbrev pub source_of : Cut → List ℕ
@@ -105,86 +100,40 @@ no_hash x none hash = true≢false (sym (and_from (nat_le 40 (length x)) (list_a
 
 -- ---- readings
 
--- whether there is a source, or a sign instead
-abbrev something : Mode → List ℕ → Bool
-something Normal s = not (is_empty s)
-something m s = true
+full : (s : List ℕ) → not (is_empty s) ≡ true → s ≢ []
+full (b ∷ s) so same = cc
+full [] so same = false≢true so
 
-said : (m : Mode) (s : List ℕ) → something m s ≡ true → s ≡ [] → m ≡ Normal → ⊥
-said Normal [] so empty normal = false≢true so
-said Normal (b ∷ s) so empty normal = cc
-said Forced s so empty normal = cc
-said Negative s so empty normal = cc
-
-somewhere : (s d : List ℕ) → (is_empty s || not (is_empty d)) ≡ true → s ≢ [] → d ≢ []
-somewhere [] d so full = absurd (full refl)
-somewhere (b ∷ s) [] so full = absurd (false≢true so)
-somewhere (b ∷ s) (c ∷ d) so full = λ same. cc
-
--- whether positive parts whose sides have this shape have a reading, and the reading
-abbrev readable : Operation → Mode → Cut → Shape → Bool
-readable Fetch m c k = fits k (source_of c) && fits k (unwrap_or (end_of c) [])
-readable Push m (whole s) k = something m s && fits k s
-readable Push m (halves s d) k = (is_empty s || not (is_empty d)) && (starred k s && fits k d)
+-- whether positive parts whose sides have this shape have a reading, and their reading
+abbrev readable : Operation → Shape → Cut → Bool
+readable Fetch k c = fits k (source_of c) && fits k (unwrap_or (end_of c) [])
+readable Push k (whole s) = not (is_empty s) && fits k s
+readable Push k (halves s d) = not (is_empty d) && (starred k s && fits k d)
 
 abbrev made : Operation → Mode → Cut → Reading
 made Fetch m c = fetched m (named_or_head (source_of c)) (side_of (unwrap_or (end_of c) []))
 made Push m c = pushed m (side_of (named_by (source_of c))) (side_of (unwrap_or (end_of c) []))
 
-positive : (op : Operation) (m : Mode) (c : Cut) (k : Shape) (text : List ℕ) → IsPositive m → AreParts m (source_of c) (end_of c) text → readable op m c k ≡ true → Reads op text (made op m c)
-positive Fetch m c k text pos parts so = let both = and_parts _ _ so in fetch_reads m (source_of c) (end_of c) k text pos (fit _ k both.0) (fit _ k both.1) parts
-positive Push m (whole s) k text pos parts so = let both = and_parts _ _ so in push_alone_reads m s k text pos (said m s both.0) (fit s k both.1) parts
-positive Push m (halves s d) k text pos parts so =
+reads_parts : (op : Operation) (m : Mode) (c : Cut) (k : Shape) (text : List ℕ) → IsPositive m → AreParts m (source_of c) (end_of c) text → readable op k c ≡ true → Reads op text (made op m c)
+reads_parts Fetch m c k text pos parts so = let both = and_parts _ _ so in fetch_reads m (source_of c) (end_of c) k text pos (fit _ k both.0) (fit _ k both.1) parts
+reads_parts Push m (whole s) k text pos parts so = let both = and_parts _ _ so in push_alone_reads m s k text pos (λ empty normal. full s both.0 empty) (fit s k both.1) parts
+reads_parts Push m (halves s d) k text pos parts so =
     let both = and_parts _ _ so in
     let sides = and_parts _ _ both.1 in
-    push_reads m s d k text pos (somewhere s d both.0) (star_fit s k sides.0) (fit d k sides.1) parts
+    push_reads m s d k text pos (λ some. full d both.0) (star_fit s k sides.0) (fit d k sides.1) parts
 
-negative : (op : Operation) (s : List ℕ) (k : Shape) (text : List ℕ) → AreParts Negative s None text → (something Normal s && (not (is_hash s) && fits k s)) ≡ true → Reads op text (record { operation = op; mode = Negative; source = side_of (named_by s); destination = None })
-negative op s k text parts so =
+pub reads : {op : Operation} {text : List ℕ} (k : Shape) → IsPositive (sign_of text) → readable op k (cut (unsigned text)) ≡ true → Reads op text (made op (sign_of text) (cut (unsigned text)))
+reads {op} {text} k pos so = reads_parts op (sign_of text) (cut (unsigned text)) k text pos (parts_of text) so
+
+-- the reading of a negative text
+pub excludes : {op : Operation} {s : List ℕ} (k : Shape) → list_any (λ c. c == colon) s ≡ false → (not (is_empty s) && (not (is_hash s) && fits k s)) ≡ true → Reads op (caret ∷ s) (record { operation = op; mode = Negative; source = side_of (named_by s); destination = None })
+excludes {op} {s} k last so =
     let both = and_parts _ _ so in
     let fine = and_parts _ _ both.1 in
-    negative_reads op s k text (λ empty. said Normal s both.0 empty refl) (fit s k fine.1) (no_hash s (not_true _ fine.0)) parts
+    negative_reads op s k (caret ∷ s) (full s both.0) (fit s k fine.1) (no_hash s (not_true _ fine.0)) (record { signed = refl; last = Lacks-tested colon s last })
 
-abbrev when : Bool → Reading → Option Reading
-when true r = Some r
-when false r = None
-
-when_is : (b : Bool) (r q : Reading) → when b r ≡ Some q → (b ≡ true) × (r ≡ q)
-when_is true r q so = (refl, same_Some r q so)
-when_is false r q so = absurd (cc)
-
--- the reading of parts whose sides have this shape
-abbrev shaped : Operation → Mode → Cut → Shape → Option Reading
-shaped op Negative (whole s) k = when (something Normal s && (not (is_hash s) && fits k s)) (record { operation = op; mode = Negative; source = side_of (named_by s); destination = None })
-shaped op Negative (halves s d) k = None
-shaped op Normal c k = when (readable op Normal c k) (made op Normal c)
-shaped op Forced c k = when (readable op Forced c k) (made op Forced c)
-
-shaped_reads : (op : Operation) (m : Mode) (c : Cut) (k : Shape) (text : List ℕ) (r : Reading) → AreParts m (source_of c) (end_of c) text → shaped op m c k ≡ Some r → Reads op text r
-shaped_reads op Negative (whole s) k text r parts so = let is = when_is _ _ r so in subst (Reads op text) is.1 (negative op s k text parts is.0)
-shaped_reads op Negative (halves s d) k text r parts so = absurd (cc)
-shaped_reads op Normal c k text r parts so = let is = when_is _ _ r so in subst (Reads op text) is.1 (positive op Normal c k text tt parts is.0)
-shaped_reads op Forced c k text r parts so = let is = when_is _ _ r so in subst (Reads op text) is.1 (positive op Forced c k text tt parts is.0)
-
-abbrev either : Option Reading → Option Reading → Option Reading
-either (Some r) other = Some r
-either None other = other
-
--- the reading of a text, as far as the test of its names goes
-abbrev pub read : Operation → List ℕ → Option Reading
-read op text = let c = cut (unsigned text) in either (shaped op (sign_of text) c Plain) (shaped op (sign_of text) c Pattern)
-
-either_is : (op : Operation) (text : List ℕ) (r : Reading) (p q : Option Reading) → (p ≡ Some r → Reads op text r) → (q ≡ Some r → Reads op text r) → either p q ≡ Some r → Reads op text r
-either_is op text r (Some x) q first second so = first so
-either_is op text r None q first second so = second so
-
-pub reads : {op : Operation} {text : List ℕ} {r : Reading} → read op text ≡ Some r → Reads op text r
-reads {op} {text} {r} so =
-    let at = λ (k : Shape). shaped_reads op (sign_of text) (cut (unsigned text)) k text r (parts_of text) in
-    either_is op text r (shaped op (sign_of text) (cut (unsigned text)) Plain) (shaped op (sign_of text) (cut (unsigned text)) Pattern) (at Plain) (at Pattern) so
-
--- whether two sides are the same
-abbrev pub same_side : Option (List ℕ) → Option (List ℕ) → Bool
+-- a text doesn't have a reading with another side
+abbrev same_side : Option (List ℕ) → Option (List ℕ) → Bool
 same_side None None = true
 same_side (Some x) (Some y) = bytes_eq x y
 same_side x y = false
@@ -193,8 +142,8 @@ same_self : (x : Option (List ℕ)) → same_side x x ≡ true
 same_self None = refl
 same_self (Some x) = (bytes_eq-Decides x x).1 refl
 
--- a text doesn't have a reading with another side
-pub no_other : {op : Operation} {text : List ℕ} {q : Reading} (r : Reading) → read op text ≡ Some r → (same_side r.source q.source && same_side r.destination q.destination) ≡ false → ¬ (Reads op text q)
-no_other {op} {text} {q} r so other also =
-    let same : r ≡ q = reads_once op text r q (reads so) also in
-    true≢false (sym (and_from _ _ (subst (λ (z : Reading). same_side r.source z.source ≡ true) same (same_self r.source)) (subst (λ (z : Reading). same_side r.destination z.destination ≡ true) same (same_self r.destination))) ∙ other)
+pub no_other : {op : Operation} {text : List ℕ} {r q : Reading} → Reads op text r → (same_side r.source q.source && same_side r.destination q.destination) ≡ false → ¬ (Reads op text q)
+no_other {op} {text} {r} {q} reads other also =
+    let same : r ≡ q = reads_once op text r q reads also in
+    let agree = and_from _ _ (same_self r.source) (same_self r.destination) in
+    true≢false (sym (subst (λ (z : Reading). (same_side r.source z.source && same_side r.destination z.destination) ≡ true) same agree) ∙ other)

@@ -104,28 +104,19 @@ split_at_one (p ∷ ps) w qs lack = split_joined p (ps ++ (w ∷ qs)) lack
 pub split_again : (P : List ℕ → Type 0) (x : List ℕ) (some : SomeComponent P x) → components x ≡ some.before ++ (some.component ∷ some.after)
 split_again P x some = ap components (sym some.components.joined) ∙ split_at_one some.before some.component some.after some.components.whole
 
-onto_lacks : (b : ℕ) (t : Bool) (ps : List (List ℕ)) → (b == slash) ≡ t → AllByRecursion (Lacks slash) ps → AllByRecursion (Lacks slash) (cond t ([] ∷ ps) (onto_first b ps))
-onto_lacks b true ps is lack = (tt, lack)
-onto_lacks b false [] is lack = ((eqb-false b slash is, tt), tt)
-onto_lacks b false (p ∷ ps) is lack = ((eqb-false b slash is, lack.0), lack.1)
-
 parts_lack : (x : List ℕ) → AllByRecursion (Lacks slash) (components x)
 parts_lack [] = (tt, tt)
-parts_lack (b ∷ x) = onto_lacks b (b == slash) (components x) refl (parts_lack x)
+parts_lack (b ∷ x) = onto (b == slash) (components x) refl (parts_lack x)
+  where
+    onto : (t : Bool) (ps : List (List ℕ)) → (b == slash) ≡ t → AllByRecursion (Lacks slash) ps → AllByRecursion (Lacks slash) (cond t ([] ∷ ps) (onto_first b ps))
+    onto t ps is lack = grind (arith, eqb-false)
 
--- an element that passes a test, and those before and after it
-record Passes (p : List ℕ → Bool) (xs : List (List ℕ)) : Type 0 where
-  before : List (List ℕ)
-  element : List ℕ
-  after : List (List ℕ)
-  here : xs ≡ before ++ (element ∷ after)
-  pass : p element ≡ true
-
-passes : (p : List ℕ → Bool) (xs : List (List ℕ)) → list_any p xs ≡ true → Passes p xs
+-- an element that passes a test, with those before and after it
+passes : (p : List ℕ → Bool) (xs : List (List ℕ)) → list_any p xs ≡ true → (before : List (List ℕ)) × (w : List ℕ) × (after : List (List ℕ)) × (xs ≡ before ++ (w ∷ after)) × (p w ≡ true)
 passes p [] so = absurd (false≢true so)
 passes p (x ∷ xs) so = elim (or_cases (p x) (list_any p xs) so) [
-  | inl first ↦ record { before = []; element = x; after = xs; here = refl; pass = first }
-  | inr later ↦ let found = passes p xs later in record { before = x ∷ found.before; element = found.element; after = found.after; here = ap (λ l. x ∷ l) found.here; pass = found.pass }
+  | inl first ↦ ([], x, xs, refl, first)
+  | inr later ↦ let found = passes p xs later in (x ∷ found.0, found.1, found.2, ap (λ l. x ∷ l) found.3, found.4)
 ]
 
 passes_back : (p : List ℕ → Bool) (before : List (List ℕ)) (x : List ℕ) (after : List (List ℕ)) → p x ≡ true → list_any p (before ++ (x ∷ after)) ≡ true
@@ -135,11 +126,8 @@ passes_back p (y ∷ before) x after pass = ap (λ t. p y || t) (passes_back p b
 component_is : (P : List ℕ → Type 0) (p : List ℕ → Bool) (x : List ℕ) → ((w : List ℕ) → Decides (p w) (P w)) → Decides (list_any p (components x)) (SomeComponent P x)
 component_is P p x is = (
   (λ so. let found = passes p (components x) so in record {
-    before = found.before;
-    component = found.element;
-    after = found.after;
-    components = record { joined = ap (join_with_byte slash) (sym found.here) ∙ join_with_byte-slice_split slash x; whole = subst (AllByRecursion (Lacks slash)) found.here (parts_lack x) };
-    fact = (is found.element).0 found.pass;
+    before = found.0; component = found.1; after = found.2; fact = (is found.1).0 found.4;
+    components = record { joined = ap (join_with_byte slash) (sym found.3) ∙ join_with_byte-slice_split slash x; whole = subst (AllByRecursion (Lacks slash)) found.3 (parts_lack x) };
   }),
   λ some. ap (list_any p) (split_again P x some) ∙ passes_back p some.before some.component some.after ((is some.component).1 some.fact),
 )
