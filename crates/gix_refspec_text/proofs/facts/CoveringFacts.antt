@@ -2,8 +2,8 @@
 use Rattle.gix_refspec_text.proofs.Common.{[], None, Some, codes, refl, arith, star, bracket, Normal, pushed, IsPrefix, of_name, of_pattern, IsCovering, by_prefix, by_candidates, HasCoveringSource}
 use Rattle.gix_refspec_text.proofs.Common.{same_Some, HasNoPrefix}
 use Rattle.gix_refspec_text.proofs.facts.TestedTexts.{differ}
-use Rattle.gix_refspec_text.proofs.facts.ManualFacts.{Lacks-tested, other_length}
-use Rattle.gix_refspec_text.proofs.facts.FitFacts.{split_at_end, no_dev, short, short_kind, blob_kind, other_byte, other_first, push_is_none}
+use Rattle.gix_refspec_text.proofs.facts.ManualFacts.{Lacks-tested}
+use Rattle.gix_refspec_text.proofs.facts.FitFacts.{split_at_end, no_dev, short, short_kind, blob_kind, other_first, push_is_none}
 use Rattle.gix_refspec_text.proofs.lemmas.lists.LacksLemmas.{Lacks-here}
 use Rattle.gix_refspec_text.proofs.lemmas.prefixes.PrefixLemmas.{no_prefix}
 

@@ -4,7 +4,7 @@ use Rattle.gix_refspec_text.proofs.Common.{length-append, Fetch, Push, BeginsWit
 use Rattle.gix_refspec_text.proofs.Common.{Excludes, the_name, by_pattern, filled, Ref}
 use Rattle.gix_refspec_text.proofs.lemmas.hits.MatchLemmas.{split_once, lacks_no_pattern}
 use Rattle.gix_refspec_text.proofs.facts.TestedTexts.{differ}
-use Rattle.gix_refspec_text.proofs.facts.ManualFacts.{Lacks-tested, other_length, named}
+use Rattle.gix_refspec_text.proofs.facts.ManualFacts.{Lacks-tested, named}
 use Rattle.gix_refspec_text.proofs.facts.ObjectIdFacts.{empty_blob, IsIdText-empty_blob, lower_of-empty_blob}
 use Rattle.gix_refspec_text.proofs.lemmas.lists.LacksLemmas.{Lacks-here}
 use Rattle.gix_refspec_text.proofs.lemmas.texts.ObjectIdLemmas.{no_kind}

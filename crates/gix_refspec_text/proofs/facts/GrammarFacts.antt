@@ -1,10 +1,10 @@
 -- The definitions of the grammar, and each of its thirteen forms at texts like those of git-fetch(1) and
 -- git-push(1), with `+` and without.
-use Rattle.gix_refspec_text.proofs.Common.{◌≡◌, ◌≢◌, ◌<◌, ℕ, ◌==◌, true, false, List, [], ◌∷◌, ◌++◌, None, Some, length, codes, refl, ap, inl, inr, arith, replicate, list_any, false≢true}
-use Rattle.gix_refspec_text.proofs.Common.{length-replicate, AllPass-from_list_all, list_all-from_AllPass, is_ascii_hexdigit, Operation, Push, Fetch, Plain, Pattern, slash, star, letter, caret, colon, Mode, Normal}
-use Rattle.gix_refspec_text.proofs.Common.{Forced, Negative, Reading, IsUnsigned, IsSigned, with_colon, LastLacksColon, AreParts, IsPositive, named_by, LooksLikeObjectHash, IsNameOrPattern, AreAlike}
-use Rattle.gix_refspec_text.proofs.Common.{fetched, pushed, Reads, fetches_nothing_named, fetches_colon, fetches, updates, updates_from_head, fetch_excludes, pushes_plus, pushes_colon, pushes}
-use Rattle.gix_refspec_text.proofs.Common.{deletes, pushes_pattern, push_excludes, Asterisk, InvalidByte, is_refused_byte, HasFault, IsName, IsPattern, same_Some}
+use Rattle.gix_refspec_text.proofs.Common.{◌≡◌, ℕ, true, List, [], ◌∷◌, ◌++◌, None, Some, codes, refl, inl, inr, arith, replicate}
+use Rattle.gix_refspec_text.proofs.Common.{Push, Fetch, Plain, Pattern, letter, caret, colon, Normal}
+use Rattle.gix_refspec_text.proofs.Common.{Forced, Negative, IsUnsigned, IsSigned, with_colon, LastLacksColon, AreParts, IsPositive, named_by, LooksLikeObjectHash, IsNameOrPattern, AreAlike}
+use Rattle.gix_refspec_text.proofs.Common.{fetched, pushed, Reads, pushes_plus, pushes_colon}
+use Rattle.gix_refspec_text.proofs.Common.{Asterisk, InvalidByte, is_refused_byte, HasFault, IsName, IsPattern}
 use Rattle.gix_refspec_text.proofs.lemmas.parsing.SideLemmas.{HasStar-pattern}
 use Rattle.gix_refspec_text.proofs.lemmas.texts.TestedLemmas.{IsName-tested}
 use Rattle.gix_refspec_text.proofs.facts.ManualFacts.{parts, no_sign}

@@ -1,7 +1,7 @@
 -- Texts that are names and patterns, and texts that are not, by git-check-ref-format(1): for each of its
 -- rules a text that breaks it, and one that just doesn't.
-use Rattle.gix_refspec_text.proofs.Common.{◌≡◌, ℕ, ◌==◌, false, List, [], ◌∷◌, codes, refl, arith, AllByRecursion, list_any, or_parts, Error, Empty, EmptyComponent, StartsWithDot, LockSuffix}
-use Rattle.gix_refspec_text.proofs.Common.{EndsWithDot, RepeatedDot, ReflogPortion, Asterisk, InvalidByte, Lacks, BeginsWith, EndsWith, ArePartsAt, slash, star, IsName, IsPattern, IsPatternFault}
+use Rattle.gix_refspec_text.proofs.Common.{◌≡◌, ℕ, List, [], ◌∷◌, codes, refl, arith, AllByRecursion, Error, Empty, EmptyComponent, StartsWithDot, LockSuffix}
+use Rattle.gix_refspec_text.proofs.Common.{EndsWithDot, RepeatedDot, ReflogPortion, Asterisk, InvalidByte, ArePartsAt, slash, IsName, IsPattern, IsPatternFault}
 use Rattle.gix_refspec_text.proofs.Common.{ReferenceName, with_letters, IsStarCount, IsCalm, lowest_of}
 use Rattle.gix_refspec_text.specs.declared.name.PatternError.TheVariants.{Name}
 use lib.Count.{count_trailing_zeros}

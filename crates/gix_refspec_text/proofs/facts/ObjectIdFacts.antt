@@ -1,5 +1,5 @@
 -- The definitions of ids, at the ids that git hash-object prints for the empty blob, and at other lengths.
-use Rattle.gix_refspec_text.proofs.Common.{◌≡◌, ℕ, ◌+◌, ◌*◌, List, [], ◌∷◌, Some, codes, refl, arith, filter, range_with_len, false≢true, AllPass-from_list_all, Digit, Length, Sha1, Sha256}
+use Rattle.gix_refspec_text.proofs.Common.{◌==◌, ◌||◌, false, or_parts, eqb-false, ◌≡◌, ℕ, ◌+◌, ◌*◌, List, [], ◌∷◌, Some, codes, refl, arith, filter, range_with_len, false≢true, AllPass-from_list_all, Digit, Length, Sha1, Sha256}
 use Rattle.gix_refspec_text.proofs.Common.{id_bytes, is_lower_digit, IsSpelledBy, Spells, IsIdText, IsLowerText, IsIdLength, HasIdFault, lower_of}
 use Rattle.hex.specs.Hex.{hex_digit_value}
 use Rattle.hex.proofs.OnLiterals.{hex_on_literals}
@@ -33,9 +33,12 @@ lower_of-empty_blob = refl
 pub bytes_in_front : (id_bytes (record { kind = Sha1; buffer = range_with_len 100 32 }) ≡ range_with_len 100 20) × (id_bytes (record { kind = Sha256; buffer = range_with_len 100 32 }) ≡ range_with_len 100 32)
 bytes_in_front = (refl, refl)
 
+no_length : (n : ℕ) → (n == 40 || n == 64) ≡ false → ¬ (IsIdLength n)
+no_length n none = let both = or_parts (n == 40) (n == 64) none in no_kind n (eqb-false n 40 both.0) (eqb-false n 64 both.1)
+
 -- an id has 40 digits or 64, and not 39, 41, 32 or 20
 pub lengths : IsIdLength 40 × IsIdLength 64 × ¬ (IsIdLength 39) × ¬ (IsIdLength 41) × ¬ (IsIdLength 32) × ¬ (IsIdLength 20)
-lengths = ((Sha1, refl), (Sha256, refl), no_kind 39 (λ same. omega (arith, same)) (λ same. omega (arith, same)), no_kind 41 (λ same. omega (arith, same)) (λ same. omega (arith, same)), no_kind 32 (λ same. omega (arith, same)) (λ same. omega (arith, same)), no_kind 20 (λ same. omega (arith, same)) (λ same. omega (arith, same)))
+lengths = ((Sha1, refl), (Sha256, refl), no_length 39 refl, no_length 41 refl, no_length 32 refl, no_length 20 refl)
 
 -- digits with these values spell one byte
 spelled_value : (b c d high low : ℕ) → hex_digit_value c ≡ Some high → hex_digit_value d ≡ Some low → IsSpelledBy b c d → b ≡ 16 * high + low
@@ -64,8 +67,8 @@ spelled = (
 pub other_texts : ¬ (IsIdText (codes "e69de29bb2d1d6434b8b29ae775ad8c2e48c5390") empty_blob) × ((i : List ℕ) → ¬ (IsIdText (codes "e69de2") i)) × ¬ (IsIdText (codes "e69de29bb2d1d6434b8b29ae775ad8c2e48c5391") [])
 other_texts = (
   (λ text. omega (arith, spelled_value 0x91 57 48 9 0 refl refl (text.spelled 19 (omega arith)))),
-  (λ i text. no_kind 6 (λ same. omega (arith, same)) (λ same. omega (arith, same)) (text.kind, text.digits)),
-  λ text. no_kind 0 (λ same. omega (arith, same)) (λ same. omega (arith, same)) (text.kind, omega (arith, digits_of-twice text.kind, text.bytes)),
+  (λ i text. no_length 6 refl (text.kind, text.digits)),
+  λ text. no_length 0 refl (text.kind, omega (arith, digits_of-twice text.kind, text.bytes)),
 )
 
 -- of the 256 bytes, the digits in lower case
@@ -81,7 +84,7 @@ IsLowerText-empty_blob = (
 
 -- a fault of the length holds the length of the text
 pub HasIdFault-length : HasIdFault (codes "e69de2") (Length 6) × ¬ (HasIdFault (codes "e69de2") (Length 5))
-HasIdFault-length = ((refl, no_kind 6 (λ same. omega (arith, same)) (λ same. omega (arith, same))), λ fault. omega (arith, fault.0))
+HasIdFault-length = ((refl, no_length 6 refl), λ fault. omega (arith, fault.0))
 
 -- and a text of 40 digits doesn't have it
 pub HasIdFault-none : ¬ (HasIdFault (codes "e69de29bb2d1d6434b8b29ae775ad8c2e48c5391") (Length 40))
@@ -93,5 +96,5 @@ HasIdFault-digit = (
   ((Sha1, refl), (0, omega arith, refl)),
   ((Sha1, refl), (39, omega arith, refl)),
   IsIdText-sound (codes "e69de29bb2d1d6434b8b29ae775ad8c2e48c5391") empty_blob Digit IsIdText-empty_blob,
-  λ fault. no_kind 6 (λ same. omega (arith, same)) (λ same. omega (arith, same)) fault.0,
+  λ fault. no_length 6 refl fault.0,
 )

@@ -1,6 +1,6 @@
 -- The reasons to refuse a text, each with parts that it applies to, and similar parts that it doesn't apply to.
-use Rattle.gix_refspec_text.proofs.Common.{◌≡◌, ◌≤◌, ℕ, List, [], ◌∷◌, ◌++◌, Option, None, Some, codes, refl, sym, subst, inl, inr, arith, replicate, is_ascii_hexdigit, false≢true}
-use Rattle.gix_refspec_text.proofs.Common.{length-replicate, AllPass-from_list_all, LockSuffix, RepeatedDot, Asterisk, NoName, Operation, Push, Fetch, IsName, HasStar, HasFault, HasOneStar, IsSplit}
+use Rattle.gix_refspec_text.proofs.Common.{◌≡◌, ℕ, List, [], ◌∷◌, ◌++◌, Option, None, Some, codes, refl, sym, subst, inl, inr, arith, replicate, false≢true}
+use Rattle.gix_refspec_text.proofs.Common.{LockSuffix, RepeatedDot, Asterisk, NoName, Operation, Push, Fetch, IsName, HasStar, HasOneStar, IsSplit}
 use Rattle.gix_refspec_text.proofs.Common.{IsPatternFault, star, letter, Normal, Forced, Negative, LooksLikeObjectHash, Refusal, NegativeWithDestination, PushToEmpty, PatternUnsupported}
 use Rattle.gix_refspec_text.proofs.Common.{ReferenceName, PatternUnbalanced, NegativeEmpty, NegativeObjectHash, IsBadName, IsBadPattern, IsEmptyPush, HasNegativeDestination, PushesNowhere}
 use Rattle.gix_refspec_text.proofs.Common.{IsBadSourceFor, HasBadSource, HasBadDestination, IsOneStarred, IsUnbalanced, ExcludesNothing, ExcludesObject, Never, OrElse, IsFirstReason, same_Some, Plain}

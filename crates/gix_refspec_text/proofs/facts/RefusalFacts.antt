@@ -1,8 +1,8 @@
 -- The order of refusals: texts with two reasons, of which the first in the order is returned, and the other
 -- isn't.
-use Rattle.gix_refspec_text.proofs.Common.{◌≢◌, ℕ, List, [], Option, None, Some, codes, refl, inl, inr, arith, replicate, length-replicate, LockSuffix, Operation, Push, Fetch, ReplacesStar, HasFault}
-use Rattle.gix_refspec_text.proofs.Common.{slash, letter, Normal, Forced, Negative, LooksLikeObjectHash, Refusal, NegativeWithDestination, PushToEmpty, PatternUnsupported, ReferenceName}
-use Rattle.gix_refspec_text.proofs.Common.{PatternUnbalanced, Never, IsEmptyPush, HasBadSource, HasBadDestination, IsUnbalanced, IsFirstReason, ◌≡◌, Mode, IsSameReason, Empty}
+use Rattle.gix_refspec_text.proofs.Common.{◌≢◌, ℕ, List, [], Option, None, Some, codes, refl, inl, inr, arith, replicate, LockSuffix, Operation, Push, Fetch}
+use Rattle.gix_refspec_text.proofs.Common.{letter, Normal, Forced, Negative, LooksLikeObjectHash, Refusal, NegativeWithDestination, PushToEmpty, PatternUnsupported, ReferenceName}
+use Rattle.gix_refspec_text.proofs.Common.{PatternUnbalanced, IsEmptyPush, HasBadDestination, IsUnbalanced, IsFirstReason, ◌≡◌, Mode, IsSameReason, Empty}
 use Rattle.gix_refspec_text.proofs.lemmas.texts.TestedLemmas.{IsName-tested}
 use Rattle.gix_refspec_text.proofs.lemmas.parsing.SideLemmas.{name_not_bad}
 use Rattle.gix_refspec_text.proofs.facts.ManualFacts.{full}

@@ -1,8 +1,8 @@
 -- What a text reads as, computed for texts whose names are plain enough for a test of each byte, so that examples need no witnesses.
-use Rattle.gix_refspec_text.proofs.Common.{◌≡◌, ◌≢◌, ◌⊎◌, ℕ, Bool, true, false, not, ◌==◌, ◌||◌, ◌&&◌, nat_le, if◌then◌else◌, List, [], ◌∷◌, ◌++◌, Option, None, Some, length, refl, sym, ap, ◌∙◌, subst, unwrap_or, and_from, bytes_eq, bytes_eq-Decides}
-use Rattle.gix_refspec_text.proofs.Common.{arith, list_any, list_all, inl, inr, true≢false, false≢true, eqb-false, eqb-true, or_parts, or_cases, and_parts, leb-true, le-leb, is_ascii_hexdigit}
+use Rattle.gix_refspec_text.proofs.Common.{◌≡◌, ◌≢◌, ℕ, Bool, true, false, not, ◌==◌, ◌&&◌, nat_le, if◌then◌else◌, List, [], ◌∷◌, ◌++◌, Option, None, Some, length, refl, sym, ap, ◌∙◌, subst, unwrap_or, and_from, bytes_eq, bytes_eq-Decides}
+use Rattle.gix_refspec_text.proofs.Common.{arith, list_any, list_all, true≢false, false≢true, eqb-false, eqb-true, and_parts, leb-true, le-leb, is_ascii_hexdigit}
 use Rattle.gix_refspec_text.proofs.Common.{AllPass-from_list_all, list_all-from_AllPass, Operation, Push, Fetch, Shape, Plain, Pattern, Lacks, slash, star, plus, caret, colon, Mode, Normal, Forced, Negative}
-use Rattle.gix_refspec_text.proofs.Common.{Reading, Reads, IsSigned, AreParts, IsPositive, LooksLikeObjectHash, named_by, named_or_head, side_of, fetched, pushed, HasShape, HasCheckedShape, same_Some}
+use Rattle.gix_refspec_text.proofs.Common.{Reading, Reads, IsSigned, AreParts, IsPositive, LooksLikeObjectHash, named_by, named_or_head, side_of, fetched, pushed, HasShape, HasCheckedShape}
 use Rattle.gix_refspec_text.proofs.lemmas.parsing.ReadOnceLemmas.{reads_once}
 use Rattle.gix_refspec_text.proofs.lemmas.parsing.ReadsLemmas.{fetch_reads, push_alone_reads, push_reads, negative_reads}
 use Rattle.gix_refspec_text.proofs.lemmas.texts.TestedLemmas.{is_suspect, IsName-tested}
@@ -63,7 +63,13 @@ parts_at : (text x : List ℕ) (m : Mode) (c : Cut) → IsSigned m text x → Is
 parts_at text x m (whole s) sign is = record { signed = subst (IsSigned m text) (sym is.0) sign; last = is.1 }
 parts_at text x m (halves s d) sign is = record { signed = subst (IsSigned m text) (sym is.0) sign; last = is.1 }
 
-pub parts_of : (text : List ℕ) → AreParts (sign_of text) (source_of (cut (unsigned text))) (end_of (cut (unsigned text))) text
+abbrev pub source : List ℕ → List ℕ
+source text = source_of (cut (unsigned text))
+
+abbrev pub end : List ℕ → Option (List ℕ)
+end text = end_of (cut (unsigned text))
+
+pub parts_of : (text : List ℕ) → AreParts (sign_of text) (source text) (end text) text
 parts_of text = parts_at text (unsigned text) (sign_of text) (cut (unsigned text)) (signed text) (is_cut (unsigned text))
 
 -- ---- sides
@@ -100,9 +106,9 @@ no_hash x none hash = true≢false (sym (and_from (nat_le 40 (length x)) (list_a
 
 -- ---- readings
 
-full : (s : List ℕ) → not (is_empty s) ≡ true → s ≢ []
-full (b ∷ s) so same = cc
-full [] so same = false≢true so
+pub not_empty : (s : List ℕ) → not (is_empty s) ≡ true → s ≢ []
+not_empty (b ∷ s) so same = cc
+not_empty [] so same = false≢true so
 
 -- whether positive parts whose sides have this shape have a reading, and their reading
 abbrev readable : Operation → Shape → Cut → Bool
@@ -116,11 +122,11 @@ made Push m c = pushed m (side_of (named_by (source_of c))) (side_of (unwrap_or 
 
 reads_parts : (op : Operation) (m : Mode) (c : Cut) (k : Shape) (text : List ℕ) → IsPositive m → AreParts m (source_of c) (end_of c) text → readable op k c ≡ true → Reads op text (made op m c)
 reads_parts Fetch m c k text pos parts so = let both = and_parts _ _ so in fetch_reads m (source_of c) (end_of c) k text pos (fit _ k both.0) (fit _ k both.1) parts
-reads_parts Push m (whole s) k text pos parts so = let both = and_parts _ _ so in push_alone_reads m s k text pos (λ empty normal. full s both.0 empty) (fit s k both.1) parts
+reads_parts Push m (whole s) k text pos parts so = let both = and_parts _ _ so in push_alone_reads m s k text pos (λ empty normal. not_empty s both.0 empty) (fit s k both.1) parts
 reads_parts Push m (halves s d) k text pos parts so =
     let both = and_parts _ _ so in
     let sides = and_parts _ _ both.1 in
-    push_reads m s d k text pos (λ some. full d both.0) (star_fit s k sides.0) (fit d k sides.1) parts
+    push_reads m s d k text pos (λ some. not_empty d both.0) (star_fit s k sides.0) (fit d k sides.1) parts
 
 pub reads : {op : Operation} {text : List ℕ} (k : Shape) → IsPositive (sign_of text) → readable op k (cut (unsigned text)) ≡ true → Reads op text (made op (sign_of text) (cut (unsigned text)))
 reads {op} {text} k pos so = reads_parts op (sign_of text) (cut (unsigned text)) k text pos (parts_of text) so
@@ -130,7 +136,7 @@ pub excludes : {op : Operation} {s : List ℕ} (k : Shape) → list_any (λ c. c
 excludes {op} {s} k last so =
     let both = and_parts _ _ so in
     let fine = and_parts _ _ both.1 in
-    negative_reads op s k (caret ∷ s) (full s both.0) (fit s k fine.1) (no_hash s (not_true _ fine.0)) (record { signed = refl; last = Lacks-tested colon s last })
+    negative_reads op s k (caret ∷ s) (not_empty s both.0) (fit s k fine.1) (no_hash s (not_true _ fine.0)) (record { signed = refl; last = Lacks-tested colon s last })
 
 -- a text doesn't have a reading with another side
 abbrev same_side : Option (List ℕ) → Option (List ℕ) → Bool

@@ -1,27 +1,28 @@
 -- For each condition of the forms a text that breaks it, with the reason to refuse it, so that it has no reading; and
 -- readings that no text has.
-use Rattle.gix_refspec_text.proofs.Common.{◌≡◌, ◌⊎◌, ℕ, ◌==◌, false, List, [], ◌∷◌, Option, None, Some, unwrap_or, codes, refl, sym, ◌∙◌, inl, inr, replicate, list_any, Operation, Push, Fetch, star}
-use Rattle.gix_refspec_text.proofs.Common.{letter, caret, colon, Mode, Normal, Forced, Negative, Reading, with_colon, IsPositive, fetched, pushed, Reads, IsAccepted, StartsWithDot, InvalidByte, Plain}
+use Rattle.gix_refspec_text.proofs.Common.{◌≢◌, Bool, true, not, ◌&&◌, and_parts, unwrap_or, IsPositive, Shape, Lacks, Mode, Plain, Pattern}
+use Rattle.gix_refspec_text.proofs.Common.{◌≡◌, ◌⊎◌, ℕ, List, [], ◌∷◌, Option, None, Some, codes, refl, sym, ◌∙◌, inl, inr, replicate, Operation, Push, Fetch, star}
+use Rattle.gix_refspec_text.proofs.Common.{letter, caret, colon, Mode, Normal, Forced, Negative, Reading, IsPositive, fetched, pushed, Reads, IsAccepted, StartsWithDot, InvalidByte, Plain}
 use Rattle.gix_refspec_text.proofs.Common.{Pattern, printed, Refusal, NegativeWithDestination, PushToEmpty, PatternUnsupported, ReferenceName, PatternUnbalanced, NegativeEmpty, NegativeObjectHash}
 use Rattle.gix_refspec_text.proofs.Common.{IsBadName, IsBadPattern, HasBadDestination, IsFirstReason, IsRefused, Empty}
 use Rattle.gix_refspec_text.proofs.lemmas.parsing.ReasonLemmas.{no_negative, fetch_reaches, push_reaches, push_alone_reaches, negative_reaches, reason_at_source, reason_at_destination}
-use Rattle.gix_refspec_text.proofs.lemmas.parsing.ReasonLemmas.{reason_against_object, reason_against_nothing, fetch_source_fine, push_source_fine, unbalanced_fetch, unbalanced_push, bad_negative}
+use Rattle.gix_refspec_text.proofs.lemmas.parsing.ReasonLemmas.{bad_destination, reason_against_object, reason_against_nothing, fetch_source_fine, push_source_fine, unbalanced_fetch, unbalanced_push, bad_negative}
 use Rattle.gix_refspec_text.proofs.lemmas.parsing.ReadsLemmas.{refused}
 use Rattle.gix_refspec_text.proofs.lemmas.specs.FormsBackLemmas.{read_back}
 use Rattle.gix_refspec_text.proofs.lemmas.specs.AcceptedLemmas.{accepted_balanced}
 use Rattle.gix_refspec_text.proofs.lemmas.parsing.SideLemmas.{HasStar-pattern}
 use Rattle.gix_refspec_text.proofs.lemmas.texts.TestedLemmas.{IsName-tested}
 use Rattle.gix_refspec_text.proofs.facts.ManualFacts.{full, none_some, some_none}
-use Rattle.gix_refspec_text.proofs.facts.TestedTexts.{Lacks-tested, several, bad_side}
-use Rattle.gix_refspec_text.proofs.facts.TestedReadings.{unsigned, sign_of, cut, source_of, end_of, parts_of}
+use Rattle.gix_refspec_text.proofs.facts.TestedTexts.{Lacks-tested, several, bad_side, is_bad, is_empty}
+use Rattle.gix_refspec_text.proofs.facts.TestedReadings.{sign_of, source, end, parts_of, fits, fit, starred, star_fit, not_empty}
 use Rattle.gix_refspec_text.proofs.facts.RefusalFacts.{empty_push}
 use Rattle.gix_refspec_text.proofs.facts.GrammarFacts.{a_star, b_name, hashes, fetches_main, pushes_matching, deletes_x}
 
 -- ---- refused texts, which have no reading
 
 -- a text is refused for the first reason to refuse its parts
-because : {op : Operation} {text : List ℕ} {e : Refusal} → IsFirstReason op (sign_of text) (source_of (cut (unsigned text))) (end_of (cut (unsigned text))) e → IsRefused op text e
-because {op} {text} {e} first = refused op (sign_of text) (source_of (cut (unsigned text))) (end_of (cut (unsigned text))) text e (parts_of text) first
+because : {op : Operation} {text : List ℕ} {e : Refusal} → IsFirstReason op (sign_of text) (source text) (end text) e → IsRefused op text e
+because {op} {text} {e} first = refused op (sign_of text) (source text) (end text) text e (parts_of text) first
 
 -- the empty push
 pub nothing_pushed : IsRefused Push [] Empty
@@ -32,11 +33,7 @@ negative_with : (op : Operation) (s d : List ℕ) → IsFirstReason op Negative 
 negative_with op s d = inr ((λ e empty. some_none d empty.no_colon), inl (record { negative = refl; colon = refl; refusal = refl }))
 
 pub negatives_to_somewhere : (op : Operation) → IsRefused op (codes "^a:b") NegativeWithDestination × IsRefused op (codes "^:") NegativeWithDestination × IsRefused op (codes "^a:") NegativeWithDestination
-negatives_to_somewhere op = (
-  because (negative_with op (codes "a") (codes "b")),
-  because (negative_with op [] []),
-  because (negative_with op (codes "a") []),
-)
+negatives_to_somewhere op = (because (negative_with op (codes "a") (codes "b")), because (negative_with op [] []), because (negative_with op (codes "a") []))
 
 -- a push of a source to nothing
 pub pushed_nowhere : IsRefused Push (codes "a:") PushToEmpty × IsRefused Push (codes "+a:") PushToEmpty
@@ -46,17 +43,13 @@ pushed_nowhere = (because (to_nothing Normal tt), because (to_nothing Forced tt)
     to_nothing mode positive = inr ((λ e empty. full _ _ empty.no_source), inr (no_negative mode (Some []) positive, inl (record { push = refl; source = full _ _; nowhere = refl; refusal = refl })))
 
 -- a source that isn't a name, even if a push may have it; and one that isn't a pattern
-bad_fetch : (b : ℕ) (s : List ℕ) (d : Option (List ℕ)) (e : Refusal) → IsBadName (b ∷ s) e ⊎ IsBadPattern (b ∷ s) e → IsFirstReason Fetch Normal (b ∷ s) d e
-bad_fetch b s d e bad = reason_at_source Fetch Normal (b ∷ s) d e (fetch_reaches Normal (b ∷ s) d tt) (record { source = full b s; refusal = bad })
+bad_fetch : {text : List ℕ} {e : Refusal} → IsPositive (sign_of text) → (not (is_empty (source text)) && is_bad (source text) e) ≡ true → IsRefused Fetch text e
+bad_fetch {text} {e} pos so =
+    let both = and_parts _ _ so in
+    because (reason_at_source Fetch (sign_of text) (source text) (end text) e (fetch_reaches (sign_of text) (source text) (end text) pos) (record { source = not_empty (source text) both.0; refusal = bad_side (source text) e both.1 }))
 
 pub bad_sources : IsRefused Fetch (codes "a b") (ReferenceName (InvalidByte 32)) × IsRefused Fetch (codes "main~2:x") (ReferenceName (InvalidByte 126)) × IsRefused Fetch (codes ":/message:x") (ReferenceName (InvalidByte 58)) × IsRefused Fetch (codes "a*b*") (PatternUnsupported (codes "a*b*")) × IsRefused Fetch (codes "a/.*:x") (ReferenceName StartsWithDot)
-bad_sources = (
-  because (bad_fetch 97 (codes " b") None _ (bad_side (codes "a b") (ReferenceName (InvalidByte 32)) refl)),
-  because (bad_fetch 109 (codes "ain~2") (Some (codes "x")) _ (bad_side (codes "main~2") (ReferenceName (InvalidByte 126)) refl)),
-  because (bad_fetch colon (codes "/message") (Some (codes "x")) _ (bad_side (codes ":/message") (ReferenceName (InvalidByte 58)) refl)),
-  because (bad_fetch 97 (codes "*b*") None _ (bad_side (codes "a*b*") (PatternUnsupported (codes "a*b*")) refl)),
-  because (bad_fetch 97 (codes "/.*") (Some (codes "x")) _ (bad_side (codes "a/.*") (ReferenceName StartsWithDot) refl)),
-)
+bad_sources = (bad_fetch tt refl, bad_fetch tt refl, bad_fetch tt refl, bad_fetch tt refl, bad_fetch tt refl)
 
 -- a push of a source alone that isn't a name, and of one with two stars to a destination
 pub bad_pushes : IsRefused Push (codes "a b") (ReferenceName (InvalidByte 32)) × IsRefused Push (codes "a*b*:c") (PatternUnsupported (codes "a*b*"))
@@ -65,45 +58,52 @@ bad_pushes = (
   because (reason_at_source Push Normal (codes "a*b*") (Some (codes "c")) _ (push_reaches Normal (codes "a*b*") (codes "c") tt (λ some empty. full _ _ empty)) (record { source = full _ _; refusal = (several (codes "a*b*") refl, refl) })),
 )
 
+bad_end : {text : List ℕ} {e : Refusal} (k : Shape) → IsPositive (sign_of text) → (fits k (source text) && (not (is_empty (unwrap_or (end text) [])) && is_bad (unwrap_or (end text) []) e)) ≡ true → IsRefused Fetch text e
+bad_end {text} {e} k pos so =
+    let both = and_parts _ _ so in
+    let ends = and_parts _ _ both.1 in
+    because (reason_at_destination Fetch (sign_of text) (source text) (end text) e (fetch_reaches (sign_of text) (source text) (end text) pos) (fetch_source_fine (source text) (end text) k (fit (source text) k both.0)) (bad_destination (end text) e (not_empty _ ends.0, bad_side _ e ends.1)))
+
 -- a destination that isn't a name, with a source and without, and one that isn't a pattern
 pub bad_destinations : IsRefused Fetch (codes "a:b c") (ReferenceName (InvalidByte 32)) × IsRefused Fetch (codes ":b c") (ReferenceName (InvalidByte 32)) × IsRefused Push (codes "a:b c") (ReferenceName (InvalidByte 32)) × IsRefused Push (codes ":b c") (ReferenceName (InvalidByte 32)) × IsRefused Fetch (codes "a*:b*c*") (PatternUnsupported (codes "b*c*"))
-bad_destinations = (
-  because (reason_at_destination Fetch Normal (codes "a") (Some (codes "b c")) _ (fetch_reaches Normal (codes "a") (Some (codes "b c")) tt) (fetch_source_fine (codes "a") (Some (codes "b c")) Plain (IsName-tested (codes "a") refl)) spaced),
-  because (reason_at_destination Fetch Normal [] (Some (codes "b c")) _ (fetch_reaches Normal [] (Some (codes "b c")) tt) (fetch_source_fine [] (Some (codes "b c")) Plain tt) spaced),
-  because (reason_at_destination Push Normal (codes "a") (Some (codes "b c")) _ (push_reaches Normal (codes "a") (codes "b c") tt (λ some empty. full _ _ empty)) (push_source_fine (codes "a") (codes "b c") Plain (Lacks-tested star (codes "a") refl)) spaced),
-  because (reason_at_destination Push Normal [] (Some (codes "b c")) _ (push_reaches Normal [] (codes "b c") tt (λ some empty. full _ _ empty)) (push_source_fine [] (codes "b c") Plain tt) spaced),
-  because (reason_at_destination Fetch Normal (codes "a*") (Some (codes "b*c*")) _ (fetch_reaches Normal (codes "a*") (Some (codes "b*c*")) tt) (fetch_source_fine (codes "a*") (Some (codes "b*c*")) Pattern a_star) (record { word = codes "b*c*"; is = refl; destination = full _ _; refusal = bad_side (codes "b*c*") (PatternUnsupported (codes "b*c*")) refl })),
-)
+bad_destinations = (bad_end Plain tt refl, bad_end Plain tt refl, because (spaced (codes "a") (Lacks-tested star (codes "a") refl)), because (spaced [] tt), bad_end Pattern tt refl)
   where
-    spaced : HasBadDestination (Some (codes "b c")) (ReferenceName (InvalidByte 32))
-    spaced = record { word = codes "b c"; is = refl; destination = full _ _; refusal = bad_side (codes "b c") (ReferenceName (InvalidByte 32)) refl }
+    spaced : (s : List ℕ) → Lacks star s → IsFirstReason Push Normal s (Some (codes "b c")) (ReferenceName (InvalidByte 32))
+    spaced s plain = reason_at_destination Push Normal s (Some (codes "b c")) _ (push_reaches Normal s (codes "b c") tt (λ some empty. full _ _ empty)) (push_source_fine s (codes "b c") Plain plain) (bad_destination (Some (codes "b c")) _ (full _ _, bad_side (codes "b c") (ReferenceName (InvalidByte 32)) refl))
+
+-- a shape and the other one
+abbrev other : Shape → Shape
+other Plain = Pattern
+other Pattern = Plain
+
+differs : (k : Shape) → k ≢ other k
+differs Plain same = cc
+differs Pattern same = cc
+
+lone : {text : List ℕ} (k : Shape) → IsPositive (sign_of text) → (fits k (source text) && fits (other k) (unwrap_or (end text) [])) ≡ true → IsRefused Fetch text PatternUnbalanced
+lone {text} k pos so = let both = and_parts _ _ so in because (unbalanced_fetch (sign_of text) (source text) (end text) k (other k) pos (fit (source text) k both.0) (fit _ (other k) both.1) (differs k))
+
+lone_push : (s : List ℕ) (b : ℕ) (d : List ℕ) (k : Shape) → (starred k s && fits (other k) (b ∷ d)) ≡ true → IsFirstReason Push Normal s (Some (b ∷ d)) PatternUnbalanced
+lone_push s b d k so = let both = and_parts _ _ so in unbalanced_push Normal s (b ∷ d) k (other k) tt (λ some empty. full _ _ empty) (star_fit s k both.0) (fit (b ∷ d) (other k) both.1) (differs k)
 
 -- a star on only one side, also if the other is missing
 pub unbalanced_fetches : IsRefused Fetch (codes "a*:b") PatternUnbalanced × IsRefused Fetch (codes "b:a*") PatternUnbalanced × IsRefused Fetch (codes ":a*") PatternUnbalanced × IsRefused Fetch (codes "a*:") PatternUnbalanced × IsRefused Fetch (codes "+a*") PatternUnbalanced × IsRefused Fetch (codes "a*") PatternUnbalanced
-unbalanced_fetches = (
-  because (unbalanced_fetch Normal (codes "a*") (Some (codes "b")) Pattern Plain tt a_star b_name (λ same. absurd (cc))),
-  because (unbalanced_fetch Normal (codes "b") (Some (codes "a*")) Plain Pattern tt b_name a_star (λ same. absurd (cc))),
-  because (unbalanced_fetch Normal [] (Some (codes "a*")) Plain Pattern tt tt a_star (λ same. absurd (cc))),
-  because (unbalanced_fetch Normal (codes "a*") (Some []) Pattern Plain tt a_star tt (λ same. absurd (cc))),
-  because (unbalanced_fetch Forced (codes "a*") None Pattern Plain tt a_star tt (λ same. absurd (cc))),
-  because (unbalanced_fetch Normal (codes "a*") None Pattern Plain tt a_star tt (λ same. absurd (cc))),
-)
+unbalanced_fetches = (lone Pattern tt refl, lone Plain tt refl, lone Plain tt refl, lone Pattern tt refl, lone Pattern tt refl, lone Pattern tt refl)
 
 -- the same in a push, which may have a source alone, though
 pub pushes_of_one_star : IsRefused Push (codes "a*:b") PatternUnbalanced × IsRefused Push (codes "b:a*") PatternUnbalanced × IsRefused Push (codes ":a*") PatternUnbalanced
-pushes_of_one_star = (
-  because (unbalanced_push Normal (codes "a*") (codes "b") Pattern Plain tt (λ some empty. full _ _ empty) a_star b_name (λ same. absurd (cc))),
-  because (unbalanced_push Normal (codes "b") (codes "a*") Plain Pattern tt (λ some empty. full _ _ empty) (Lacks-tested star (codes "b") refl) a_star (λ same. absurd (cc))),
-  because (unbalanced_push Normal [] (codes "a*") Plain Pattern tt (λ some empty. full _ _ empty) tt a_star (λ same. absurd (cc))),
-)
+pushes_of_one_star = (because (lone_push (codes "a*") 98 [] Pattern refl), because (lone_push (codes "b") 97 (codes "*") Plain refl), because (lone_push [] 97 (codes "*") Plain refl))
+
+bad_excluded : (op : Operation) (s : List ℕ) (e : Refusal) → (not (is_empty s) && is_bad s e) ≡ true → IsFirstReason op Negative s None e
+bad_excluded op s e so = let both = and_parts _ _ so in reason_at_source op Negative s None e (negative_reaches op s) (bad_negative op s e (not_empty s both.0, bad_side s e both.1))
 
 -- in either operation `^` and nothing, 40 digits, or a text that isn't a name
 pub bad_negatives : (op : Operation) → IsRefused op (codes "^") NegativeEmpty × IsRefused op (caret ∷ replicate 40 letter) NegativeObjectHash × IsRefused op (codes "^a b") (ReferenceName (InvalidByte 32)) × IsRefused op (codes "^^a") (ReferenceName (InvalidByte 94))
 bad_negatives op = (
   because (reason_against_nothing op [] Plain refl tt),
   because (reason_against_object op (replicate 40 letter) Plain (full _ _) (IsName-tested (replicate 40 letter) refl) hashes.0),
-  because (reason_at_source op Negative (codes "a b") None _ (negative_reaches op (codes "a b")) (bad_negative op (codes "a b") _ (full _ _, bad_side (codes "a b") (ReferenceName (InvalidByte 32)) refl))),
-  because (reason_at_source op Negative (codes "^a") None _ (negative_reaches op (codes "^a")) (bad_negative op (codes "^a") _ (full _ _, bad_side (codes "^a") (ReferenceName (InvalidByte 94)) refl))),
+  because (bad_excluded op (codes "a b") (ReferenceName (InvalidByte 32)) refl),
+  because (bad_excluded op (codes "^a") (ReferenceName (InvalidByte 94)) refl),
 )
 
 -- so these texts have no reading
