@@ -1,21 +1,18 @@
 -- The definitions of names and refspecs at the examples of git-check-ref-format(1), git-fetch(1) and git-push(1), and
 -- at similar ones on both sides of a boundary, so that a wrong definition fails here.
-use Rattle.gix_refspec_text.proofs.Common.{◌≡◌, ◌≢◌, ℕ, ◌==◌, true, false, List, [], ◌∷◌, ◌++◌, Option, None, Some, map, length, codes, refl, ap, subst, inl, inr, arith, replicate}
-use Rattle.gix_refspec_text.proofs.Common.{list_any, filter, range_with_len, length-replicate, eqb-false, false≢true, LockSuffix, RepeatedDot, ReflogPortion, Operation, Push, Fetch, Plain, Pattern}
-use Rattle.gix_refspec_text.proofs.Common.{is_refused_byte, HasFault, HasSeveralStars, IsSplit, ReplacesStar, IsPattern, IsPatternFault, slash, star, letter, plus, caret, colon, Mode, Normal, Forced}
-use Rattle.gix_refspec_text.proofs.Common.{Negative, Reading, HasSide, remote_of, local_of, named_by, IsSigned, AreParts, Reads, pushes_colon}
-use Rattle.gix_refspec_text.proofs.Common.{pushed, fetched, Meaning, push_all_matching, push_delete, push_matching, push_exclude, fetch_and_update, meaning_of, text_of}
-use Rattle.gix_refspec_text.proofs.Common.{PatternUnsupported, PushToEmpty, NegativeWithDestination, ReferenceName, IsBadPattern, NeedsMemory, NoReasonBeforeSource, ReachesMemory, MayNeedMemory}
-use Rattle.gix_refspec_text.proofs.Common.{pattern, full_name, object, partial, HasKind, candidates, filled, Ref, Matches, MatchesAs, same_Some, or_parts, unwrap_or, with_colon}
-use Rattle.gix_refspec_text.proofs.Common.{LastLacksColon, Bool, ◌||◌}
+use Rattle.gix_refspec_text.proofs.Common.{◌≡◌, ◌≢◌, ℕ, ◌==◌, true, false, List, [], ◌∷◌, ◌++◌, Option, None, Some, map, length, codes, refl, ap, subst, inl, inr, arith, replicate, list_any, filter}
+use Rattle.gix_refspec_text.proofs.Common.{range_with_len, length-replicate, eqb-false, false≢true, LockSuffix, RepeatedDot, ReflogPortion, Operation, Push, Fetch, Plain, Pattern, is_refused_byte}
+use Rattle.gix_refspec_text.proofs.Common.{HasFault, HasSeveralStars, IsSplit, ReplacesStar, IsPattern, IsPatternFault, slash, star, letter, plus, caret, colon, Mode, Normal, Forced, Negative}
+use Rattle.gix_refspec_text.proofs.Common.{Reading, HasSide, remote_of, local_of, named_by, IsSigned, AreParts, Reads, pushes_colon, pushed, fetched, Meaning, push_all_matching, push_delete}
+use Rattle.gix_refspec_text.proofs.Common.{push_matching, push_exclude, fetch_and_update, meaning_of, text_of, PatternUnsupported, PushToEmpty, NegativeWithDestination, ReferenceName, IsBadPattern}
+use Rattle.gix_refspec_text.proofs.Common.{NeedsMemory, NoReasonBeforeSource, ReachesMemory, MayNeedMemory, pattern, full_name, object, partial, HasKind, candidates, filled, Ref, Matches, MatchesAs}
+use Rattle.gix_refspec_text.proofs.Common.{same_Some, or_parts, unwrap_or, with_colon, LastLacksColon, Bool, ◌||◌}
 use Rattle.gix_refspec_text.specs.declared.name.PatternError.TheVariants.{Memory}
-use Rattle.gix_refspec_text.proofs.lemmas.texts.TestedLemmas.{is_suspect, IsName-tested}
-use Rattle.gix_refspec_text.proofs.lemmas.parsing.SideLemmas.{HasStar-stars}
-use Rattle.gix_refspec_text.proofs.lemmas.parsing.PartsLemmas.{parts_once}
-use Rattle.gix_refspec_text.proofs.lemmas.lists.LacksLemmas.{Lacks-here}
-use Rattle.gix_refspec_text.proofs.facts.TestedTexts.{differ, begins, contains, holds_not, faulty, several, not_several, a_pattern, unstarred, bad_side}
-use Rattle.gix_refspec_text.proofs.facts.TestedReadings.{reads, excludes, parts_of}
 pub use Rattle.gix_refspec_text.proofs.facts.TestedTexts.{Lacks-tested}
+use Rattle.gix_refspec_text.proofs.facts.TestedReadings.{excludes, parts_of, reads}
+use Rattle.gix_refspec_text.proofs.facts.TestedTexts.{a_pattern, bad_side, begins, contains, differ, faulty, holds_not, not_several, several, unstarred}
+use Rattle.gix_refspec_text.proofs.{lemmas.lists.LacksLemmas.Lacks-here, lemmas.parsing.PartsLemmas.parts_once, lemmas.parsing.SideLemmas.HasStar-stars}
+use Rattle.gix_refspec_text.proofs.{lemmas.texts.TestedLemmas.IsName-tested, lemmas.texts.TestedLemmas.is_suspect}
 
 -- a text with a byte isn't empty
 pub full : (b : ℕ) (bs : List ℕ) → b ∷ bs ≢ []

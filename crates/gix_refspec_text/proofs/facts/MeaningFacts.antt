@@ -1,8 +1,8 @@
 -- Examples for this project's own rules on meanings, canonical texts, order and reasons: where a sign has a meaning,
 -- which text gets another one, and how instructions compare.
 use Rattle.gix_refspec_text.proofs.Common.{◌≡◌, true, false, [], None, Some, codes, refl, Less, Equal, Greater, Push, Fetch, Normal, Forced, Negative, fetched, pushed, push_all_matching, push_delete}
-use Rattle.gix_refspec_text.proofs.Common.{push_matching, push_exclude, fetch_only, fetch_exclude, fetch_and_update, meaning_of, text_of, printed, all_tags, order, is_same, Refusal, NegativeWithDestination}
-use Rattle.gix_refspec_text.proofs.Common.{PushToEmpty, PatternUnbalanced, NegativeEmpty, NegativeObjectHash, meant_for, IsShownAs, Empty}
+use Rattle.gix_refspec_text.proofs.Common.{push_matching, push_exclude, fetch_only, fetch_exclude, fetch_and_update, meaning_of, text_of, printed, all_tags, order, is_same, Refusal}
+use Rattle.gix_refspec_text.proofs.Common.{NegativeWithDestination, PushToEmpty, PatternUnbalanced, NegativeEmpty, NegativeObjectHash, meant_for, IsShownAs, Empty}
 use Rattle.gix_refspec_text.specs.declared.parsing.Error.TheVariants as error
 
 -- a sign has no meaning where no ref is updated: in a fetch without a destination, and in a deletion

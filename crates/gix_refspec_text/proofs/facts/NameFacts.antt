@@ -1,14 +1,12 @@
 -- Texts that are names and patterns, and texts that are not, by git-check-ref-format(1): for each of its
 -- rules a text that breaks it, and one that just doesn't.
-use Rattle.gix_refspec_text.proofs.Common.{◌≡◌, ℕ, List, [], ◌∷◌, codes, refl, arith, AllByRecursion, Error, Empty, EmptyComponent, StartsWithDot, LockSuffix}
-use Rattle.gix_refspec_text.proofs.Common.{EndsWithDot, RepeatedDot, ReflogPortion, Asterisk, InvalidByte, ArePartsAt, slash, IsName, IsPattern, IsPatternFault}
-use Rattle.gix_refspec_text.proofs.Common.{ReferenceName, with_letters, IsStarCount, IsCalm, lowest_of}
+use Rattle.gix_refspec_text.proofs.Common.{◌≡◌, ℕ, List, [], ◌∷◌, codes, refl, arith, AllByRecursion, Error, Empty, EmptyComponent, StartsWithDot, LockSuffix, EndsWithDot, RepeatedDot, ReflogPortion}
+use Rattle.gix_refspec_text.proofs.Common.{Asterisk, InvalidByte, ArePartsAt, slash, IsName, IsPattern, IsPatternFault, ReferenceName, with_letters, IsStarCount, IsCalm, lowest_of}
 use Rattle.gix_refspec_text.specs.declared.name.PatternError.TheVariants.{Name}
 use lib.Count.{count_trailing_zeros}
-use Rattle.gix_refspec_text.proofs.lemmas.texts.TestedLemmas.{is_suspect, IsName-tested}
-use Rattle.gix_refspec_text.proofs.lemmas.parsing.SideLemmas.{pattern_fine}
-use Rattle.gix_refspec_text.proofs.facts.TestedTexts.{none_are, all_are, Lacks-tested, no_name, is_pattern, a_pattern, no_pattern, pattern_fault}
-use Rattle.gix_refspec_text.proofs.lemmas.lists.LacksLemmas.{Lacks-here}
+use Rattle.gix_refspec_text.proofs.facts.TestedTexts.{Lacks-tested, a_pattern, all_are, is_pattern, no_name, no_pattern, none_are, pattern_fault}
+use Rattle.gix_refspec_text.proofs.{lemmas.lists.LacksLemmas.Lacks-here, lemmas.parsing.SideLemmas.pattern_fine, lemmas.texts.TestedLemmas.IsName-tested}
+use Rattle.gix_refspec_text.proofs.{lemmas.texts.TestedLemmas.is_suspect}
 
 -- ---- names
 

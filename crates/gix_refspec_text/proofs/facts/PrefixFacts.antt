@@ -2,16 +2,12 @@
 use Rattle.gix_refspec_text.proofs.Common.{◌≢◌, ℕ, List, [], ◌∷◌, None, Some, length, codes, refl, ap, arith, IsSplit, star, slash, Normal, Negative, fetched, pushed, candidates, IsRefPrefix}
 use Rattle.gix_refspec_text.proofs.Common.{IsPrefix, of_head, of_name, of_pattern, HasNoPrefix, Expands, to_prefix, to_itself, below_refs, of_object, to_candidates, IsAsked, HasPrefix, IsExpansion}
 use Rattle.gix_refspec_text.proofs.Common.{same_Some}
-use Rattle.gix_refspec_text.proofs.lemmas.hits.MatchLemmas.{outside_none}
-use Rattle.gix_refspec_text.proofs.lemmas.prefixes.OnePrefixLemmas.{one_prefix}
-use Rattle.gix_refspec_text.proofs.facts.TestedTexts.{differ}
-use Rattle.gix_refspec_text.proofs.facts.ManualFacts.{Lacks-tested, other_length, none_some}
-use Rattle.gix_refspec_text.proofs.facts.FaultFacts.{begins_not}
-use Rattle.gix_refspec_text.proofs.facts.ObjectIdFacts.{empty_blob, IsIdText-empty_blob}
-use Rattle.gix_refspec_text.proofs.facts.FitFacts.{split_at_end, other_byte, every, no_dev, short_kind, blob_kind}
-use Rattle.gix_refspec_text.proofs.facts.CoveringFacts.{below_heads, no_bare_prefix}
-use Rattle.gix_refspec_text.proofs.lemmas.lists.LacksLemmas.{Lacks-here}
-use Rattle.gix_refspec_text.proofs.lemmas.prefixes.PrefixLemmas.{no_prefix, starred_no_id}
+use Rattle.gix_refspec_text.proofs.facts.FitFacts.{blob_kind, every, no_dev, other_byte, short_kind, split_at_end}
+use Rattle.gix_refspec_text.proofs.facts.ManualFacts.{Lacks-tested, none_some, other_length}
+use Rattle.gix_refspec_text.proofs.{facts.CoveringFacts.below_heads, facts.CoveringFacts.no_bare_prefix, facts.FaultFacts.begins_not}
+use Rattle.gix_refspec_text.proofs.{facts.ObjectIdFacts.IsIdText-empty_blob, facts.ObjectIdFacts.empty_blob, facts.TestedTexts.differ}
+use Rattle.gix_refspec_text.proofs.{lemmas.hits.MatchLemmas.outside_none, lemmas.lists.LacksLemmas.Lacks-here, lemmas.prefixes.OnePrefixLemmas.one_prefix}
+use Rattle.gix_refspec_text.proofs.{lemmas.prefixes.PrefixLemmas.no_prefix, lemmas.prefixes.PrefixLemmas.starred_no_id}
 
 -- `HEAD` and a full name are their own prefix
 pub whole_prefixes : IsPrefix (codes "HEAD") (codes "HEAD") × IsPrefix (codes "refs/a]b") (codes "refs/a]b")

@@ -1,19 +1,15 @@
 -- The reasons to refuse a text, each with parts that it applies to, and similar parts that it doesn't apply to.
-use Rattle.gix_refspec_text.proofs.Common.{◌≡◌, ℕ, List, [], ◌∷◌, ◌++◌, Option, None, Some, codes, refl, sym, subst, inl, inr, arith, replicate, false≢true}
-use Rattle.gix_refspec_text.proofs.Common.{LockSuffix, RepeatedDot, Asterisk, NoName, Operation, Push, Fetch, IsName, HasStar, HasOneStar, IsSplit}
-use Rattle.gix_refspec_text.proofs.Common.{IsPatternFault, star, letter, Normal, Forced, Negative, LooksLikeObjectHash, Refusal, NegativeWithDestination, PushToEmpty, PatternUnsupported}
-use Rattle.gix_refspec_text.proofs.Common.{ReferenceName, PatternUnbalanced, NegativeEmpty, NegativeObjectHash, IsBadName, IsBadPattern, IsEmptyPush, HasNegativeDestination, PushesNowhere}
-use Rattle.gix_refspec_text.proofs.Common.{IsBadSourceFor, HasBadSource, HasBadDestination, IsOneStarred, IsUnbalanced, ExcludesNothing, ExcludesObject, Never, OrElse, IsFirstReason, same_Some, Plain}
-use Rattle.gix_refspec_text.proofs.Common.{Empty}
+use Rattle.gix_refspec_text.proofs.Common.{◌≡◌, ℕ, List, [], ◌∷◌, ◌++◌, Option, None, Some, codes, refl, sym, subst, inl, inr, arith, replicate, false≢true, LockSuffix, RepeatedDot, Asterisk, NoName}
+use Rattle.gix_refspec_text.proofs.Common.{Operation, Push, Fetch, IsName, HasStar, HasOneStar, IsSplit, IsPatternFault, star, letter, Normal, Forced, Negative, LooksLikeObjectHash, Refusal}
+use Rattle.gix_refspec_text.proofs.Common.{NegativeWithDestination, PushToEmpty, PatternUnsupported, ReferenceName, PatternUnbalanced, NegativeEmpty, NegativeObjectHash, IsBadName, IsBadPattern}
+use Rattle.gix_refspec_text.proofs.Common.{IsEmptyPush, HasNegativeDestination, PushesNowhere, IsBadSourceFor, HasBadSource, HasBadDestination, IsOneStarred, IsUnbalanced, ExcludesNothing}
+use Rattle.gix_refspec_text.proofs.Common.{ExcludesObject, Never, OrElse, IsFirstReason, same_Some, Plain, Empty}
 use Rattle.gix_refspec_text.specs.declared.name.PatternError.TheVariants.{Name}
-use Rattle.gix_refspec_text.proofs.lemmas.texts.LetterLemmas.{HasOneStar-count_by}
-use Rattle.gix_refspec_text.proofs.lemmas.parsing.SideLemmas.{name_not_bad}
 use Rattle.gix_refspec_text.proofs.facts.ManualFacts.{IsSplit-tested, full, none_some, some_none}
-use Rattle.gix_refspec_text.proofs.facts.TestedTexts.{Lacks-tested, holds_not, faulty, several, not_several, not_one_star, pattern_fault, pattern_faultless, unstarred}
-use Rattle.gix_refspec_text.proofs.facts.TestedReadings.{a_hash, no_hash}
-use Rattle.gix_refspec_text.proofs.facts.RefusalFacts.{normal_positive}
-use Rattle.gix_refspec_text.proofs.lemmas.lists.LacksLemmas.{Lacks-here}
-use Rattle.gix_refspec_text.proofs.lemmas.parsing.ReasonLemmas.{reason_against_nothing, reason_against_object}
+use Rattle.gix_refspec_text.proofs.facts.TestedTexts.{Lacks-tested, faulty, holds_not, not_one_star, not_several, pattern_fault, pattern_faultless, several, unstarred}
+use Rattle.gix_refspec_text.proofs.{facts.RefusalFacts.normal_positive, facts.TestedReadings.a_hash, facts.TestedReadings.no_hash, lemmas.lists.LacksLemmas.Lacks-here}
+use Rattle.gix_refspec_text.proofs.{lemmas.parsing.ReasonLemmas.reason_against_nothing, lemmas.parsing.ReasonLemmas.reason_against_object}
+use Rattle.gix_refspec_text.proofs.{lemmas.parsing.SideLemmas.name_not_bad, lemmas.texts.LetterLemmas.HasOneStar-count_by}
 
 -- ---- stars
 

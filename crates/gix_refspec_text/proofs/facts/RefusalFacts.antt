@@ -1,15 +1,12 @@
 -- The order of refusals: texts with two reasons, of which the first in the order is returned, and the other
 -- isn't.
-use Rattle.gix_refspec_text.proofs.Common.{◌≢◌, ℕ, List, [], Option, None, Some, codes, refl, inl, inr, arith, replicate, LockSuffix, Operation, Push, Fetch}
-use Rattle.gix_refspec_text.proofs.Common.{letter, Normal, Forced, Negative, LooksLikeObjectHash, Refusal, NegativeWithDestination, PushToEmpty, PatternUnsupported, ReferenceName}
-use Rattle.gix_refspec_text.proofs.Common.{PatternUnbalanced, IsEmptyPush, HasBadDestination, IsUnbalanced, IsFirstReason, ◌≡◌, Mode, IsSameReason, Empty}
-use Rattle.gix_refspec_text.proofs.lemmas.texts.TestedLemmas.{IsName-tested}
-use Rattle.gix_refspec_text.proofs.lemmas.parsing.SideLemmas.{name_not_bad}
-use Rattle.gix_refspec_text.proofs.facts.ManualFacts.{full}
-use Rattle.gix_refspec_text.proofs.facts.TestedTexts.{differ as other, contains, bad_side}
-use Rattle.gix_refspec_text.proofs.facts.TestedReadings.{no_hash}
-use Rattle.gix_refspec_text.proofs.lemmas.parsing.RefusalLemmas.{Agree-first}
-use Rattle.gix_refspec_text.proofs.lemmas.parsing.ReasonLemmas.{fetch_reaches, reason_at_source, reason_at_destination}
+use Rattle.gix_refspec_text.proofs.Common.{◌≢◌, ℕ, List, [], Option, None, Some, codes, refl, inl, inr, arith, replicate, LockSuffix, Operation, Push, Fetch, letter, Normal, Forced, Negative}
+use Rattle.gix_refspec_text.proofs.Common.{LooksLikeObjectHash, Refusal, NegativeWithDestination, PushToEmpty, PatternUnsupported, ReferenceName, PatternUnbalanced, IsEmptyPush, HasBadDestination}
+use Rattle.gix_refspec_text.proofs.Common.{IsUnbalanced, IsFirstReason, ◌≡◌, Mode, IsSameReason, Empty}
+use Rattle.gix_refspec_text.proofs.facts.TestedTexts.{bad_side, contains, differ as other}
+use Rattle.gix_refspec_text.proofs.lemmas.parsing.ReasonLemmas.{fetch_reaches, reason_at_destination, reason_at_source}
+use Rattle.gix_refspec_text.proofs.{facts.ManualFacts.full, facts.TestedReadings.no_hash, lemmas.parsing.RefusalLemmas.Agree-first}
+use Rattle.gix_refspec_text.proofs.{lemmas.parsing.SideLemmas.name_not_bad, lemmas.texts.TestedLemmas.IsName-tested}
 
 pub normal_positive : Normal ≢ Negative
 normal_positive same = cc

@@ -1,20 +1,16 @@
 -- Sides, candidates and matches: also texts of another kind, names that aren't candidates, and refs that aren't
 -- matched.
-use Rattle.gix_refspec_text.proofs.Common.{◌≡◌, ◌≢◌, ◌⊎◌, ℕ, List, [], ◌∷◌, Option, None, Some, codes, refl, sym, subst, arith, AllByRecursion, star, SideKind, pattern, full_name, object, partial, IsId}
-use Rattle.gix_refspec_text.proofs.Common.{HasKind, candidates, IsCandidate, Excludes, the_name, by_pattern, filled, MatchesAs, Matches, inl, inr, Lacks, HasOneStar, IsIdText, Normal, fetched, pushed}
-use Rattle.gix_refspec_text.proofs.Common.{Fits, same_Some, bytes_eq}
-use Rattle.gix_refspec_text.proofs.lemmas.texts.TextLemmas.{one_not_two}
-use Rattle.gix_refspec_text.proofs.lemmas.texts.ComponentLemmas.{AllByRecursion-parts}
-use Rattle.gix_refspec_text.proofs.lemmas.hits.MatchLemmas.{has_candidates, lacks_no_pattern}
-use Rattle.gix_refspec_text.proofs.facts.TestedTexts.{differ, none_are}
-use Rattle.gix_refspec_text.proofs.facts.ManualFacts.{Lacks-tested, other_length, named}
-use Rattle.gix_refspec_text.proofs.facts.FaultFacts.{begins_not}
-use Rattle.gix_refspec_text.proofs.facts.ObjectIdFacts.{empty_blob, IsIdText-empty_blob, IsIdText-empty_blob_in_upper_case}
-use Rattle.gix_refspec_text.proofs.facts.FitFacts.{other_byte, short_kind, short_no_id, blob_kind, every, heads_split, origin_split, short}
-use Rattle.gix_refspec_text.proofs.lemmas.lists.LacksLemmas.{Lacks-here}
+use Rattle.gix_refspec_text.proofs.Common.{◌≡◌, ◌≢◌, ◌⊎◌, ℕ, List, [], ◌∷◌, Option, None, Some, codes, refl, sym, subst, arith, AllByRecursion, star, SideKind, pattern, full_name, object, partial}
+use Rattle.gix_refspec_text.proofs.Common.{IsId, HasKind, candidates, IsCandidate, Excludes, the_name, by_pattern, filled, MatchesAs, Matches, inl, inr, Lacks, HasOneStar, IsIdText, Normal, fetched}
+use Rattle.gix_refspec_text.proofs.Common.{pushed, Fits, same_Some, bytes_eq}
 use Rattle.gix_refspec_text.specs.Matching.Side.{written_name_of}
 use Rattle.gix_refspec_text.specs.Laws.Sides.{SidesAgree, OneKind, OneId, OneOfEach}
-use Rattle.gix_refspec_text.proofs.facts.ReasonFacts.{one_star_alone}
+use Rattle.gix_refspec_text.proofs.facts.FitFacts.{blob_kind, every, heads_split, origin_split, other_byte, short, short_kind, short_no_id}
+use Rattle.gix_refspec_text.proofs.facts.ManualFacts.{Lacks-tested, named, other_length}
+use Rattle.gix_refspec_text.proofs.facts.ObjectIdFacts.{IsIdText-empty_blob, IsIdText-empty_blob_in_upper_case, empty_blob}
+use Rattle.gix_refspec_text.proofs.{facts.FaultFacts.begins_not, facts.ReasonFacts.one_star_alone, facts.TestedTexts.differ, facts.TestedTexts.none_are}
+use Rattle.gix_refspec_text.proofs.{lemmas.hits.MatchLemmas.has_candidates, lemmas.hits.MatchLemmas.lacks_no_pattern, lemmas.lists.LacksLemmas.Lacks-here}
+use Rattle.gix_refspec_text.proofs.{lemmas.texts.ComponentLemmas.AllByRecursion-parts, lemmas.texts.TextLemmas.one_not_two}
 
 -- the text of an id is in either case, and a short word isn't an id
 pub ids : IsId (codes "e69de29bb2d1d6434b8b29ae775ad8c2e48c5391") × IsId (codes "E69DE29BB2D1D6434B8B29AE775AD8C2E48C5391") × ¬ (IsId (codes "main"))

@@ -1,12 +1,12 @@
 -- What a text reads as, computed for texts whose names are plain enough for a test of each byte, so that examples need no witnesses.
-use Rattle.gix_refspec_text.proofs.Common.{◌≡◌, ◌≢◌, ℕ, Bool, true, false, not, ◌==◌, ◌&&◌, nat_le, if◌then◌else◌, List, [], ◌∷◌, ◌++◌, Option, None, Some, length, refl, sym, ap, ◌∙◌, subst, unwrap_or, and_from, bytes_eq, bytes_eq-Decides}
-use Rattle.gix_refspec_text.proofs.Common.{arith, list_any, list_all, true≢false, false≢true, eqb-false, eqb-true, and_parts, leb-true, le-leb, is_ascii_hexdigit}
-use Rattle.gix_refspec_text.proofs.Common.{AllPass-from_list_all, list_all-from_AllPass, Operation, Push, Fetch, Shape, Plain, Pattern, Lacks, slash, star, plus, caret, colon, Mode, Normal, Forced, Negative}
-use Rattle.gix_refspec_text.proofs.Common.{Reading, Reads, IsSigned, AreParts, IsPositive, LooksLikeObjectHash, named_by, named_or_head, side_of, fetched, pushed, HasShape, HasCheckedShape}
-use Rattle.gix_refspec_text.proofs.lemmas.parsing.ReadOnceLemmas.{reads_once}
-use Rattle.gix_refspec_text.proofs.lemmas.parsing.ReadsLemmas.{fetch_reads, push_alone_reads, push_reads, negative_reads}
-use Rattle.gix_refspec_text.proofs.lemmas.texts.TestedLemmas.{is_suspect, IsName-tested}
-use Rattle.gix_refspec_text.proofs.facts.TestedTexts.{Lacks-tested, is_pattern, is_empty, a_pattern, not_true}
+use Rattle.gix_refspec_text.proofs.Common.{◌≡◌, ◌≢◌, ℕ, Bool, true, false, not, ◌==◌, ◌&&◌, nat_le, if◌then◌else◌, List, [], ◌∷◌, ◌++◌, Option, None, Some, length, refl, sym, ap, ◌∙◌, subst}
+use Rattle.gix_refspec_text.proofs.Common.{unwrap_or, and_from, bytes_eq, bytes_eq-Decides, arith, list_any, list_all, true≢false, false≢true, eqb-false, eqb-true, and_parts, leb-true, le-leb}
+use Rattle.gix_refspec_text.proofs.Common.{is_ascii_hexdigit, AllPass-from_list_all, list_all-from_AllPass, Operation, Push, Fetch, Shape, Plain, Pattern, Lacks, slash, star, plus, caret, colon, Mode}
+use Rattle.gix_refspec_text.proofs.Common.{Normal, Forced, Negative, Reading, Reads, IsSigned, AreParts, IsPositive, LooksLikeObjectHash, named_by, named_or_head, side_of, fetched, pushed, HasShape}
+use Rattle.gix_refspec_text.proofs.Common.{HasCheckedShape}
+use Rattle.gix_refspec_text.proofs.facts.TestedTexts.{Lacks-tested, a_pattern, is_empty, is_pattern, not_true}
+use Rattle.gix_refspec_text.proofs.lemmas.parsing.ReadsLemmas.{fetch_reads, negative_reads, push_alone_reads, push_reads}
+use Rattle.gix_refspec_text.proofs.{lemmas.parsing.ReadOnceLemmas.reads_once, lemmas.texts.TestedLemmas.IsName-tested, lemmas.texts.TestedLemmas.is_suspect}
 
 -- ---- parts
 

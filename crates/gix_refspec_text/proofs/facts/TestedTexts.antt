@@ -1,17 +1,17 @@
 -- Tests that compute what a text contains, which faults it has and whether it is a name or a pattern, so that examples need no witnesses.
-use Rattle.gix_refspec_text.proofs.Common.{◌≡◌, ◌≢◌, ℕ, Bool, true, false, not, ◌==◌, ◌||◌, ◌&&◌, ◌-◌, cond, nat_eq, bytes_eq, bytes_eq-Decides, List, [], ◌∷◌, ◌++◌, length, take, drop, codes, refl, sym, ap, ◌∙◌}
-use Rattle.gix_refspec_text.proofs.Common.{subst, arith, All, AllByRecursion, All-from_recursion, Decides, Decides-eqb, starts_with, ends_with, starts_is, ends_is, slice_split, join_with_byte, list_any, list_all, count_by}
-use Rattle.gix_refspec_text.proofs.Common.{true≢false, false≢true, eqb-false, eqb-true, ne_eqb, or_parts, or_cases, and_parts, and_from, Error, Empty, EmptyComponent, StartsWithDot, LockSuffix, EndsWithDot}
-use Rattle.gix_refspec_text.proofs.Common.{RepeatedDot, ReflogPortion, Asterisk, InvalidByte, is_refused_byte, Lacks, ContainsText, BeginsWith, EndsWith, SomeComponent, HasFault, HasOneStar, HasSeveralStars}
-use Rattle.gix_refspec_text.proofs.Common.{IsName, IsPattern, IsPatternFault, slash, star, with_letters, inl, inr, ◌⊎◌, Refusal, PatternUnsupported, ReferenceName, IsBadName, IsBadPattern}
+use Rattle.gix_refspec_text.proofs.Common.{◌≡◌, ◌≢◌, ℕ, Bool, true, false, not, ◌==◌, ◌||◌, ◌&&◌, ◌-◌, cond, nat_eq, bytes_eq, bytes_eq-Decides, List, [], ◌∷◌, ◌++◌, length, take, drop, codes, refl}
+use Rattle.gix_refspec_text.proofs.Common.{sym, ap, ◌∙◌, subst, arith, All, AllByRecursion, All-from_recursion, Decides, Decides-eqb, starts_with, ends_with, starts_is, ends_is, slice_split}
+use Rattle.gix_refspec_text.proofs.Common.{join_with_byte, list_any, list_all, count_by, true≢false, false≢true, eqb-false, eqb-true, ne_eqb, or_parts, or_cases, and_parts, and_from, Error, Empty}
+use Rattle.gix_refspec_text.proofs.Common.{EmptyComponent, StartsWithDot, LockSuffix, EndsWithDot, RepeatedDot, ReflogPortion, Asterisk, InvalidByte, is_refused_byte, Lacks, ContainsText, BeginsWith}
+use Rattle.gix_refspec_text.proofs.Common.{EndsWith, SomeComponent, HasFault, HasOneStar, HasSeveralStars, IsName, IsPattern, IsPatternFault, slash, star, with_letters, inl, inr, ◌⊎◌, Refusal}
+use Rattle.gix_refspec_text.proofs.Common.{PatternUnsupported, ReferenceName, IsBadName, IsBadPattern}
 use Rattle.gix_refspec_text.specs.declared.name.PatternError.TheVariants.{Name}
 use Rattle.std.specs.List.{onto_first}
 use Rattle.std.proofs.Math.Bool.{or-true}
 use Rattle.std.proofs.lemmas.List.Splits.{slice_split_none, slice_split_at, join_with_byte-slice_split}
-use Rattle.gix_refspec_text.proofs.lemmas.lists.AllLemmas.{all_weaker}
 use Rattle.gix_refspec_text.proofs.lemmas.parsing.SideLemmas.{HasSeveralStars-replaced, plain_fine, replaced_once}
-use Rattle.gix_refspec_text.proofs.lemmas.texts.LetterLemmas.{HasOneStar-count_by, count_by-HasOneStar, replaces_one, pattern_with_letter}
-use Rattle.gix_refspec_text.proofs.lemmas.texts.TestedLemmas.{is_suspect, IsName-tested}
+use Rattle.gix_refspec_text.proofs.lemmas.texts.LetterLemmas.{HasOneStar-count_by, count_by-HasOneStar, pattern_with_letter, replaces_one}
+use Rattle.gix_refspec_text.proofs.{lemmas.lists.AllLemmas.all_weaker, lemmas.texts.TestedLemmas.IsName-tested, lemmas.texts.TestedLemmas.is_suspect}
 
 -- what a test decides
 yes : {P : Type 0} (b : Bool) → Decides b P → b ≡ true → P

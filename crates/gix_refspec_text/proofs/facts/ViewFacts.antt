@@ -17,11 +17,8 @@ use Rattle.gix_refspec_text.specs.declared.instruction.Push.TheVariants as push
 use Rattle.gix_refspec_text.specs.declared.parsing.Error.TheVariants as error
 use Rattle.gix_refspec_text.specs.declared.types.Instruction.TheVariants as instruction
 use Rattle.gix_refspec_text.specs.declared.types.Mode.TheVariants as mode
-use Rattle.gix_refspec_text.proofs.facts.ManualFacts.{other_length, none_some}
-use Rattle.gix_refspec_text.proofs.facts.FitFacts.{other_byte, no_dev}
-use Rattle.gix_refspec_text.proofs.facts.ObjectIdFacts.{empty_blob}
-use Rattle.gix_refspec_text.proofs.facts.PrefixFacts.{whole_prefixes}
-use Rattle.gix_refspec_text.proofs.facts.RefusalFacts.{empty_push}
+use Rattle.gix_refspec_text.proofs.{facts.FitFacts.no_dev, facts.FitFacts.other_byte, facts.ManualFacts.none_some, facts.ManualFacts.other_length}
+use Rattle.gix_refspec_text.proofs.{facts.ObjectIdFacts.empty_blob, facts.PrefixFacts.whole_prefixes, facts.RefusalFacts.empty_push}
 
 -- a borrowed text
 abbrev pub lent : List ℕ → BStr
