@@ -22,7 +22,8 @@ with_faults =
     ∷ (codes ".b/a", StartsWithDot) ∷ (codes "a/.b", StartsWithDot) ∷ (codes "b.lock/a", LockSuffix) ∷ (codes "a/b.lock", LockSuffix)
     ∷ (codes "a/.lock", LockSuffix) ∷ (codes "a/b.", EndsWithDot) ∷ (codes "..a", RepeatedDot) ∷ (codes "a/b..", RepeatedDot)
     ∷ (codes "@{1}", ReflogPortion) ∷ (codes "*a", Asterisk) ∷ (codes "a*/*", Asterisk) ∷ (codes "a b", InvalidByte 32)
-    ∷ (codes "a~:", InvalidByte 58) ∷ [])
+    ∷ (codes "a~:", InvalidByte 58) ∷ (codes "foo..bar", RepeatedDot) ∷ (codes "foo.lock", LockSuffix) ∷ (codes "foo.lock/bar", LockSuffix)
+    ∷ (codes "foo@{bar", ReflogPortion) ∷ [])
 
 pub faults : AllByRecursion Has with_faults
 faults = all_are Has (λ p. has_fault p.0 p.1) (λ p so. faulty p.0 p.1 so) with_faults refl

@@ -1,6 +1,6 @@
 -- The definitions of the grammar, and each of its thirteen forms at texts like those of git-fetch(1) and
 -- git-push(1), with `+` and without.
-use Rattle.gix_refspec_text.proofs.Common.{◌≡◌, ℕ, true, List, [], ◌∷◌, ◌++◌, None, Some, codes, refl, inl, inr, arith, replicate, Push, Fetch, Plain, Pattern, letter, caret, colon, Normal, Forced}
+use Rattle.gix_refspec_text.proofs.Common.{map, ◌≡◌, ℕ, true, List, [], ◌∷◌, ◌++◌, None, Some, codes, refl, inl, inr, arith, replicate, Push, Fetch, Plain, Pattern, letter, caret, colon, Normal, Forced}
 use Rattle.gix_refspec_text.proofs.Common.{Negative, IsUnsigned, IsSigned, with_colon, LastLacksColon, AreParts, IsPositive, named_by, LooksLikeObjectHash, IsNameOrPattern, AreAlike, fetched, pushed}
 use Rattle.gix_refspec_text.proofs.Common.{Reads, pushes_plus, pushes_colon, Asterisk, InvalidByte, is_refused_byte, HasFault, IsName, IsPattern}
 use Rattle.gix_refspec_text.proofs.facts.TestedReadings.{a_hash, excludes, no_hash, no_other, parts_of, reads}
@@ -34,9 +34,9 @@ last_lacks_colon = (Lacks-tested colon (codes "c") refl, Lacks-tested colon (cod
 pub split_at_last_colon : AreParts Normal (codes "a:b") (Some (codes "c")) (codes "a:b:c") × ¬ (AreParts Normal (codes "a") (Some (codes "b:c")) (codes "a:b:c")) × ¬ (AreParts Normal (codes "a:b:c") None (codes "a:b:c"))
 split_at_last_colon = (parts Normal (codes "a:b") (Some (codes "c")) refl refl, (λ of. last_lacks_colon.3 of.last), (λ of. Lacks-here colon (codes "a:b") (codes "c") of.last))
 
--- `@` isn't short for `HEAD` in a longer word; nor is any other single byte, or the empty text
-pub at_signs : (named_by (codes "@@") ≡ codes "@@") × (named_by (codes "a@") ≡ codes "a@") × (named_by (codes "a") ≡ codes "a") × (named_by [] ≡ [])
-at_signs = (refl, refl, refl, refl)
+-- `@` alone is short for `HEAD`, but not in a longer word; nor is any other single byte, or the empty text
+pub at_signs : map named_by (codes "@" ∷ codes "HEAD" ∷ codes "@@" ∷ codes "a@" ∷ codes "a" ∷ [] ∷ []) ≡ codes "HEAD" ∷ codes "HEAD" ∷ codes "@@" ∷ codes "a@" ∷ codes "a" ∷ [] ∷ []
+at_signs = refl
 
 pub a_star : IsPattern (codes "a*")
 a_star = a_pattern (codes "a*") refl

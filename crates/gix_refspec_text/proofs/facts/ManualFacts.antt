@@ -1,16 +1,16 @@
 -- The definitions of names and refspecs at the examples of git-check-ref-format(1), git-fetch(1) and git-push(1), and
 -- at similar ones on both sides of a boundary, so that a wrong definition fails here.
 use Rattle.gix_refspec_text.proofs.Common.{◌≡◌, ◌≢◌, ℕ, ◌==◌, true, false, List, [], ◌∷◌, ◌++◌, Option, None, Some, map, length, codes, refl, ap, subst, inl, inr, arith, replicate, list_any, filter}
-use Rattle.gix_refspec_text.proofs.Common.{range_with_len, length-replicate, eqb-false, false≢true, LockSuffix, RepeatedDot, ReflogPortion, Operation, Push, Fetch, Plain, Pattern, is_refused_byte}
-use Rattle.gix_refspec_text.proofs.Common.{HasFault, HasSeveralStars, IsSplit, ReplacesStar, IsPattern, IsPatternFault, slash, star, letter, plus, caret, colon, Mode, Normal, Forced, Negative}
-use Rattle.gix_refspec_text.proofs.Common.{Reading, HasSide, remote_of, local_of, named_by, IsSigned, AreParts, Reads, pushes_colon, pushed, fetched, Meaning, push_all_matching, push_delete}
+use Rattle.gix_refspec_text.proofs.Common.{range_with_len, length-replicate, eqb-false, false≢true, RepeatedDot, Operation, Push, Fetch, Plain, Pattern, is_refused_byte}
+use Rattle.gix_refspec_text.proofs.Common.{HasSeveralStars, IsSplit, ReplacesStar, IsPattern, IsPatternFault, slash, star, letter, plus, caret, colon, Mode, Normal, Forced, Negative}
+use Rattle.gix_refspec_text.proofs.Common.{Reading, HasSide, remote_of, local_of, IsSigned, AreParts, Reads, pushes_colon, pushed, fetched, Meaning, push_all_matching, push_delete}
 use Rattle.gix_refspec_text.proofs.Common.{push_matching, push_exclude, fetch_and_update, meaning_of, text_of, PatternUnsupported, PushToEmpty, NegativeWithDestination, ReferenceName, IsBadPattern}
 use Rattle.gix_refspec_text.proofs.Common.{NeedsMemory, NoReasonBeforeSource, ReachesMemory, MayNeedMemory, pattern, full_name, object, partial, HasKind, candidates, filled, Ref, Matches, MatchesAs}
 use Rattle.gix_refspec_text.proofs.Common.{same_Some, or_parts, unwrap_or, with_colon, LastLacksColon, Bool, ◌||◌}
 use Rattle.gix_refspec_text.specs.declared.name.PatternError.TheVariants.{Memory}
 pub use Rattle.gix_refspec_text.proofs.facts.TestedTexts.{Lacks-tested}
 use Rattle.gix_refspec_text.proofs.facts.TestedReadings.{excludes, parts_of, reads}
-use Rattle.gix_refspec_text.proofs.facts.TestedTexts.{a_pattern, bad_side, begins, contains, differ, faulty, holds_not, not_several, several, unstarred}
+use Rattle.gix_refspec_text.proofs.facts.TestedTexts.{bad_side, begins, contains, differ, holds_not, not_several, several, unstarred}
 use Rattle.gix_refspec_text.proofs.{lemmas.lists.LacksLemmas.Lacks-here, lemmas.parsing.PartsLemmas.parts_once, lemmas.parsing.SideLemmas.HasStar-stars}
 use Rattle.gix_refspec_text.proofs.{lemmas.texts.TestedLemmas.IsName-tested, lemmas.texts.TestedLemmas.is_suspect}
 
@@ -38,10 +38,6 @@ Says op text m = (r : Reading) × Reads op text r × (meaning_of r ≡ Some m)
 pub refused_bytes : filter is_refused_byte (range_with_len 0 256) ≡ 0 ∷ 1 ∷ 2 ∷ 3 ∷ 4 ∷ 5 ∷ 6 ∷ 7 ∷ 8 ∷ 9 ∷ 10 ∷ 11 ∷ 12 ∷ 13 ∷ 14 ∷ 15 ∷ 16 ∷ 17 ∷ 18 ∷ 19 ∷ 20 ∷ 21 ∷ 22 ∷ 23 ∷ 24 ∷ 25 ∷ 26 ∷ 27 ∷ 28 ∷ 29 ∷ 30 ∷ 31 ∷ (codes " :?[\\^~" ++ (127 ∷ []))
 refused_bytes = refl
 
--- two dots anywhere, and `.lock` at the end of a component
-pub faults : HasFault (codes "foo..bar") RepeatedDot × HasFault (codes "foo.lock") LockSuffix × HasFault (codes "foo.lock/bar") LockSuffix × HasFault (codes "foo@{bar") ReflogPortion
-faults = (faulty (codes "foo..bar") RepeatedDot refl, faulty (codes "foo.lock") LockSuffix refl, faulty (codes "foo.lock/bar") LockSuffix refl, faulty (codes "foo@{bar") ReflogPortion refl)
-
 -- two texts without a star, and a star between them, are a text with exactly one star, which the letter may replace
 pub IsSplit-tested : (before after : List ℕ) → list_any (λ c. c == star) before ≡ false → list_any (λ c. c == star) after ≡ false → IsSplit before after (before ++ (star ∷ after))
 IsSplit-tested before after first last = record { starred = refl; first = Lacks-tested star before first; last = Lacks-tested star after last }
@@ -51,25 +47,13 @@ ReplacesStar-tested before after first last = record { before = before; after = 
 
 -- one star may be in a component of a pattern, but not two
 pub one_star : ReplacesStar (codes "foo/bar*/baz") (codes "foo/bara/baz") × ReplacesStar (codes "foo/bar*baz") (codes "foo/barabaz")
-one_star = (ReplacesStar-tested (codes "foo/bar") (codes "/baz") refl refl, ReplacesStar-tested (codes "foo/bar") (codes "baz") refl refl)
-
-pub two_stars : HasSeveralStars (codes "foo/bar*/baz*")
-two_stars = several (codes "foo/bar*/baz*") refl
+    × HasSeveralStars (codes "foo/bar*/baz*")
+one_star = (ReplacesStar-tested (codes "foo/bar") (codes "/baz") refl refl, ReplacesStar-tested (codes "foo/bar") (codes "baz") refl refl,
+    several (codes "foo/bar*/baz*") refl)
 
 -- a text with one star is a pattern if it is a name with the letter in its place
 pub IsPattern-tested : (before after : List ℕ) → list_any (λ c. c == star) before ≡ false → list_any (λ c. c == star) after ≡ false → is_suspect slash (before ++ (letter ∷ after)) ≡ false → IsPattern (before ++ (star ∷ after))
-IsPattern-tested before after first last sound = record {
-  with_letter = before ++ (letter ∷ after);
-  replaces = ReplacesStar-tested before after first last;
-  name = IsName-tested (before ++ (letter ∷ after)) sound;
-}
-
-pub every_branch : IsPattern (codes "refs/heads/*")
-every_branch = a_pattern (codes "refs/heads/*") refl
-
--- `@` alone is short for `HEAD`
-pub at_sign : (named_by (codes "@") ≡ codes "HEAD") × (named_by (codes "HEAD") ≡ codes "HEAD")
-at_sign = (refl, refl)
+IsPattern-tested before after first last sound = record { with_letter = _; replaces = ReplacesStar-tested before after first last; name = IsName-tested _ sound }
 
 -- a text with another first byte has no sign
 pub no_sign : (b : ℕ) (bs : List ℕ) → (b == plus) ≡ false → (b == caret) ≡ false → IsSigned Normal (b ∷ bs) (b ∷ bs)
@@ -85,16 +69,16 @@ with_sign Normal rest = rest
 with_sign Forced rest = plus ∷ rest
 with_sign Negative rest = caret ∷ rest
 
-signed_tested : (mode : Mode) (rest : List ℕ) → begins_signed mode rest ≡ false → IsSigned mode (with_sign mode rest) rest
-signed_tested mode rest none = grind (arith, or_parts, no_sign)
-
-last_tested : (s : List ℕ) (d : Option (List ℕ)) → list_any (λ c. c == colon) (unwrap_or d s) ≡ false → LastLacksColon s d
-last_tested s None none = Lacks-tested colon s none
-last_tested s (Some d) none = Lacks-tested colon d none
-
 -- a text has these parts if tests find no further sign and no further colon
 pub parts : (mode : Mode) (s : List ℕ) (d : Option (List ℕ)) → begins_signed mode (with_colon s d) ≡ false → list_any (λ c. c == colon) (unwrap_or d s) ≡ false → AreParts mode s d (with_sign mode (with_colon s d))
-parts mode s d unsigned last = record { signed = signed_tested mode (with_colon s d) unsigned; last = last_tested s d last }
+parts mode s d unsigned last = record { signed = sign mode (with_colon s d) unsigned; last = lacks s d last }
+  where
+    sign : (mode : Mode) (rest : List ℕ) → begins_signed mode rest ≡ false → IsSigned mode (with_sign mode rest) rest
+    sign mode rest none = grind (arith, or_parts, no_sign)
+
+    lacks : (s : List ℕ) (d : Option (List ℕ)) → list_any (λ c. c == colon) (unwrap_or d s) ≡ false → LastLacksColon s d
+    lacks s None none = Lacks-tested colon s none
+    lacks s (Some d) none = Lacks-tested colon d none
 
 -- git fetch origin +refs/heads/*:refs/remotes/origin/*, and so on; the last is an exclusion as in git-fetch(1), given to a push
 pub manual : Says Fetch (codes "+refs/heads/*:refs/remotes/origin/*") (fetch_and_update (codes "refs/heads/*") (codes "refs/remotes/origin/*") true)
@@ -108,13 +92,11 @@ pub manual : Says Fetch (codes "+refs/heads/*:refs/remotes/origin/*") (fetch_and
 manual = ((_, reads Pattern tt refl, refl), (_, reads Plain tt refl, refl), (_, reads Plain tt refl, refl), (_, reads Plain tt refl, refl), (_, reads Plain tt refl, refl), (_, reads Plain tt refl, refl), (_, reads Plain tt refl, refl), (_, pushes_colon Normal refl tt (parts_of (codes ":")) refl, refl), (_, excludes Pattern refl refl, refl))
 
 -- the canonical texts of these
-pub texts : (text_of (push_matching (codes "master") (codes "master") false) ≡ codes "master:master")
-    × (text_of (push_matching (codes "dev") (codes "master") true) ≡ codes "+dev:master")
-    × (text_of (push_delete (codes "experimental")) ≡ codes ":experimental")
-    × (text_of (push_all_matching false) ≡ codes ":")
-    × (text_of (push_exclude (codes "refs/heads/dev-*")) ≡ codes "^refs/heads/dev-*")
-    × (text_of (fetch_and_update (codes "seen") (codes "seen") true) ≡ codes "+seen:seen")
-texts = (refl, refl, refl, refl, refl, refl)
+pub texts : map text_of (push_matching (codes "master") (codes "master") false ∷ push_matching (codes "dev") (codes "master") true
+    ∷ push_delete (codes "experimental") ∷ push_all_matching false ∷ push_exclude (codes "refs/heads/dev-*")
+    ∷ fetch_and_update (codes "seen") (codes "seen") true ∷ [])
+    ≡ codes "master:master" ∷ codes "+dev:master" ∷ codes ":experimental" ∷ codes ":" ∷ codes "^refs/heads/dev-*" ∷ codes "+seen:seen" ∷ []
+texts = refl
 
 -- ---- sides and what they match
 
@@ -136,11 +118,8 @@ abbrev tag : Ref
 tag = record { name = codes "refs/tags/v1"; target = 1 ∷ []; object = Some (2 ∷ []) }
 
 -- an id matches a ref that points to it, a tag of the object with this id, and no other ref
-pub id_matches : MatchesAs (object (1 ∷ [])) tag None × MatchesAs (object (2 ∷ [])) tag None
-id_matches = ((refl, inl refl), (refl, inr refl))
-
-pub other_id_differs : ¬ (MatchesAs (object (3 ∷ [])) tag None)
-other_id_differs h = grind (arith, differ, same_Some)
+pub id_matches : MatchesAs (object (1 ∷ [])) tag None × MatchesAs (object (2 ∷ [])) tag None × ¬ (MatchesAs (object (3 ∷ [])) tag None)
+id_matches = ((refl, inl refl), (refl, inr refl), λ h. grind (arith, differ, same_Some))
 
 -- an id and a partial name match without a word, too
 pub others_have_no_word : (word : List ℕ) → ¬ (MatchesAs (object (1 ∷ [])) tag (Some word)) × ¬ (MatchesAs (partial (codes "main")) (named (codes "main")) (Some word))
@@ -185,10 +164,6 @@ needs_memory = (inr (contains (codes "*") (starred 256) refl, omega (arith, leng
     none (inl stars) = holds_not (codes "*") (replicate 257 letter) refl (HasStar-stars (replicate 257 letter) stars)
     none (inr (starry, long)) = holds_not (codes "*") (replicate 257 letter) refl starry
 
--- the text is a source alone
-starred_parts : (n : ℕ) → list_any (λ c. c == colon) (starred n) ≡ false → AreParts Normal (starred n) None (starred n)
-starred_parts n none = parts Normal (starred n) None refl none
-
 -- no reason before those of the source applies, if the source isn't empty, a negative spec has no colon, and the
 -- destination isn't empty
 pub before_source : (op : Operation) (mode : Mode) (s : List ℕ) (d : Option (List ℕ)) → s ≢ [] → (mode ≡ Negative → d ≡ None) → d ≢ Some [] → NoReasonBeforeSource op mode s d
@@ -196,16 +171,13 @@ before_source op mode s d not_empty alone somewhere = search (arith, false≢tru
 
 pub text_may_need_memory : MayNeedMemory Fetch (starred 256)
 text_may_need_memory = record {
-  mode = Normal;
-  source = starred 256;
-  destination = None;
-  parts = starred_parts 256 refl;
+  mode = Normal; source = starred 256; destination = None; parts = parts_of (starred 256);
   reaches = (before_source Fetch Normal (starred 256) None (full _ _) (λ negative. refl) (none_some []), needs_memory.0);
 }
 
 pub text_needs_no_memory : ¬ (MayNeedMemory Fetch (starred 255))
 text_needs_no_memory may =
-    let once = parts_once may.mode Normal may.source (starred 255) may.destination None (starred 255) may.parts (starred_parts 255 refl) in
+    let once = parts_once may.mode Normal may.source (starred 255) may.destination None (starred 255) may.parts (parts_of (starred 255)) in
     let reaches : ReachesMemory Fetch may.mode may.source None = subst (λ (d : Option (List ℕ)). ReachesMemory Fetch may.mode may.source d) once.destination may.reaches in
     needs_memory.1 (subst NeedsMemory once.source reaches.1)
 

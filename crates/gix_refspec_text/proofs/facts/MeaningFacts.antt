@@ -1,48 +1,38 @@
 -- Examples for this project's own rules on meanings, canonical texts, order and reasons: where a sign has a meaning,
 -- which text gets another one, and how instructions compare.
-use Rattle.gix_refspec_text.proofs.Common.{◌≡◌, true, false, [], None, Some, codes, refl, Less, Equal, Greater, Push, Fetch, Normal, Forced, Negative, fetched, pushed, push_all_matching, push_delete}
+use Rattle.gix_refspec_text.proofs.Common.{List, ◌∷◌, map, Option, Reading, Meaning, ◌≡◌, true, false, [], None, Some, codes, refl, Less, Equal, Greater, Push, Fetch, Normal, Forced, Negative, fetched, pushed, push_all_matching, push_delete}
 use Rattle.gix_refspec_text.proofs.Common.{push_matching, push_exclude, fetch_only, fetch_exclude, fetch_and_update, meaning_of, text_of, printed, all_tags, order, is_same, Refusal}
 use Rattle.gix_refspec_text.proofs.Common.{NegativeWithDestination, PushToEmpty, PatternUnbalanced, NegativeEmpty, NegativeObjectHash, meant_for, IsShownAs, Empty}
 use Rattle.gix_refspec_text.specs.declared.parsing.Error.TheVariants as error
 
--- a sign has no meaning where no ref is updated: in a fetch without a destination, and in a deletion
-pub signs : (meaning_of (fetched Forced (codes "main") None) ≡ Some (fetch_only (codes "main")))
-    × (meaning_of (pushed Forced None (Some (codes "x"))) ≡ Some (push_delete (codes "x")))
-    × (meaning_of (fetched Forced (codes "a") (Some (codes "b"))) ≡ Some (fetch_and_update (codes "a") (codes "b") true))
-    × (meaning_of (pushed Forced None None) ≡ Some (push_all_matching true))
-    × (meaning_of (pushed Normal None None) ≡ Some (push_all_matching false))
-signs = (refl, refl, refl, refl, refl)
+abbrev pub meanings : List (Reading × Option Meaning)
+meanings =
+    -- a sign has no meaning where no ref is updated: in a fetch without a destination, and in a deletion
+    (fetched Forced (codes "main") None, Some (fetch_only (codes "main")))
+    ∷ (pushed Forced None (Some (codes "x")), Some (push_delete (codes "x")))
+    ∷ (fetched Forced (codes "a") (Some (codes "b")), Some (fetch_and_update (codes "a") (codes "b") true))
+    ∷ (pushed Forced None None, Some (push_all_matching true)) ∷ (pushed Normal None None, Some (push_all_matching false))
+    -- a source alone is pushed to itself, but fetched without a destination
+    ∷ (pushed Normal (Some (codes "main")) None, Some (push_matching (codes "main") (codes "main") false))
+    ∷ (fetched Normal (codes "main") None, Some (fetch_only (codes "main")))
+    -- a negative spec has a source alone
+    ∷ (fetched Negative (codes "a") None, Some (fetch_exclude (codes "a"))) ∷ (pushed Negative (Some (codes "a")) None, Some (push_exclude (codes "a")))
+    ∷ (fetched Negative (codes "a") (Some (codes "b")), None) ∷ (pushed Negative None (Some (codes "b")), None)
+    -- an instruction is forced if the reading is, and otherwise not
+    ∷ (pushed Forced (Some (codes "a")) None, Some (push_matching (codes "a") (codes "a") true))
+    ∷ (pushed Forced (Some (codes "a")) (Some (codes "b")), Some (push_matching (codes "a") (codes "b") true))
+    ∷ (pushed Normal (Some (codes "a")) (Some (codes "b")), Some (push_matching (codes "a") (codes "b") false))
+    ∷ (fetched Normal (codes "a") (Some (codes "b")), Some (fetch_and_update (codes "a") (codes "b") false))
+    -- a fetch without a source has no meaning, nor has a negative spec without a source or with both sides
+    ∷ (record { operation = Fetch; mode = Normal; source = None; destination = Some (codes "b") }, None)
+    ∷ (record { operation = Fetch; mode = Forced; source = None; destination = None }, None)
+    ∷ (record { operation = Fetch; mode = Negative; source = None; destination = None }, None)
+    ∷ (pushed Negative None None, None) ∷ (pushed Negative (Some (codes "a")) (Some (codes "b")), None) ∷ []
 
--- a source alone is pushed to itself, but fetched without a destination
-pub sources_alone : (meaning_of (pushed Normal (Some (codes "main")) None) ≡ Some (push_matching (codes "main") (codes "main") false))
-    × (meaning_of (fetched Normal (codes "main") None) ≡ Some (fetch_only (codes "main")))
-sources_alone = (refl, refl)
+pub each_meaning : map (λ p. meaning_of p.0) meanings ≡ map (λ p. p.1) meanings
+each_meaning = refl
 
--- a negative spec has a source alone
-pub negatives : (meaning_of (fetched Negative (codes "a") None) ≡ Some (fetch_exclude (codes "a")))
-    × (meaning_of (pushed Negative (Some (codes "a")) None) ≡ Some (push_exclude (codes "a")))
-    × (meaning_of (fetched Negative (codes "a") (Some (codes "b"))) ≡ None)
-    × (meaning_of (pushed Negative None (Some (codes "b"))) ≡ None)
-negatives = (refl, refl, refl, refl)
-
--- an instruction is forced if the reading is, and otherwise not
-pub forces : (meaning_of (pushed Forced (Some (codes "a")) None) ≡ Some (push_matching (codes "a") (codes "a") true))
-    × (meaning_of (pushed Forced (Some (codes "a")) (Some (codes "b"))) ≡ Some (push_matching (codes "a") (codes "b") true))
-    × (meaning_of (pushed Normal (Some (codes "a")) (Some (codes "b"))) ≡ Some (push_matching (codes "a") (codes "b") false))
-    × (meaning_of (fetched Normal (codes "a") (Some (codes "b"))) ≡ Some (fetch_and_update (codes "a") (codes "b") false))
-forces = (refl, refl, refl, refl)
-
--- a fetch without a source has no meaning, nor has a negative spec without a source or with both sides; and without a
--- meaning there is no canonical text
-pub says_nothing : (meaning_of (record { operation = Fetch; mode = Normal; source = None; destination = Some (codes "b") }) ≡ None)
-    × (meaning_of (record { operation = Fetch; mode = Forced; source = None; destination = None }) ≡ None)
-    × (meaning_of (record { operation = Fetch; mode = Negative; source = None; destination = None }) ≡ None)
-    × (meaning_of (pushed Negative None None) ≡ None)
-    × (meaning_of (pushed Negative (Some (codes "a")) (Some (codes "b"))) ≡ None)
-    × (printed (fetched Negative (codes "a") (Some (codes "b"))) ≡ None)
-says_nothing = (refl, refl, refl, refl, refl, refl)
-
--- a lone source that begins with a plus is printed with another one, and no other text is
+-- a lone source that begins with a plus is printed with another one, and no other text is; without a meaning there is no text
 pub pluses : (text_of (fetch_only (codes "+foo")) ≡ codes "++foo") × (text_of (fetch_only (codes "foo+")) ≡ codes "foo+")
     × (text_of (fetch_exclude (codes "+x")) ≡ codes "^+x") × (text_of (push_delete (codes "+x")) ≡ codes ":+x")
     × (text_of (fetch_and_update (codes "+a") (codes "b") false) ≡ codes "+a:b")
@@ -52,7 +42,8 @@ pub pluses : (text_of (fetch_only (codes "+foo")) ≡ codes "++foo") × (text_of
     × (text_of (push_all_matching true) ≡ codes "+:")
     × (printed (pushed Normal (Some (codes "main")) None) ≡ Some (codes "main:main"))
     × (printed (fetched Forced (codes "main") None) ≡ Some (codes "main"))
-pluses = (refl, refl, refl, refl, refl, refl, refl, refl, refl, refl, refl, refl)
+    × (printed (fetched Negative (codes "a") (Some (codes "b"))) ≡ None)
+pluses = (refl, refl, refl, refl, refl, refl, refl, refl, refl, refl, refl, refl, refl)
 
 -- all tags are fetched without force
 pub tags_printed : printed all_tags ≡ Some (codes "refs/tags/*:refs/tags/*")

@@ -40,7 +40,7 @@ no_names = (
 
 -- a star at the end, alone, as a component, within a component, and first
 abbrev pub starry_names : List (List ℕ)
-starry_names = codes "refs/heads/dev-*" ∷ codes "*" ∷ codes "refs/*/head" ∷ codes "foo/bar*/baz" ∷ codes "*/x" ∷ []
+starry_names = codes "refs/heads/dev-*" ∷ codes "*" ∷ codes "refs/*/head" ∷ codes "foo/bar*/baz" ∷ codes "*/x" ∷ codes "refs/heads/*" ∷ []
 
 pub patterns : AllByRecursion IsPattern starry_names
 patterns = all_are IsPattern is_pattern a_pattern starry_names refl

@@ -8,7 +8,7 @@ use Rattle.gix_refspec_text.specs.Laws.Sides.{SidesAgree, OneKind, OneId, OneOfE
 use Rattle.gix_refspec_text.proofs.facts.FitFacts.{blob_kind, every, heads_split, origin_split, other_byte, short, short_kind, short_no_id}
 use Rattle.gix_refspec_text.proofs.facts.ManualFacts.{Lacks-tested, named, other_length}
 use Rattle.gix_refspec_text.proofs.facts.ObjectIdFacts.{IsIdText-empty_blob, IsIdText-empty_blob_in_upper_case, empty_blob}
-use Rattle.gix_refspec_text.proofs.{facts.FaultFacts.begins_not, facts.ReasonFacts.one_star_alone, facts.TestedTexts.differ, facts.TestedTexts.none_are}
+use Rattle.gix_refspec_text.proofs.{facts.FaultFacts.begins_not, facts.ReasonFacts.one_star_alone, facts.TestedTexts.differ, facts.TestedTexts.none_are, facts.TestedTexts.not_one_star}
 use Rattle.gix_refspec_text.proofs.{lemmas.hits.MatchLemmas.has_candidates, lemmas.hits.MatchLemmas.lacks_no_pattern, lemmas.lists.LacksLemmas.Lacks-here}
 use Rattle.gix_refspec_text.proofs.{lemmas.texts.ComponentLemmas.AllByRecursion-parts, lemmas.texts.TextLemmas.one_not_two}
 
@@ -90,9 +90,6 @@ written_names = (refl, refl, refl, refl, refl, refl, refl)
 pub agree : SidesAgree every × SidesAgree short
 agree = search (arith, same_Some, heads_split, origin_split)
 
-no_star_in_b : ¬ (HasOneStar (codes "b"))
-no_star_in_b (before, after, split) = Lacks-here star before after (subst (Lacks star) split.starred (Lacks-tested star (codes "b") refl))
-
 several_stars : ¬ (HasOneStar (codes "a*b*") ⊎ Lacks star (codes "a*b*"))
 several_stars (inl one) = one_star_alone.3 one
 several_stars (inr lacks) = Lacks-here star (codes "a") (codes "b*") lacks
@@ -100,8 +97,8 @@ several_stars (inr lacks) = Lacks-here star (codes "a") (codes "b*") lacks
 -- sides with a star on only one side, or with several stars, don't
 pub disagree : ¬ (SidesAgree (fetched Normal (codes "a*") (Some (codes "b")))) × ¬ (SidesAgree (pushed Normal (Some (codes "b")) (Some (codes "a*")))) × ¬ (SidesAgree (fetched Normal (codes "a*b*") None)) × ¬ (SidesAgree (pushed Normal None (Some (codes "a*b*"))))
 disagree = (
-  (λ law. elim (law.both (codes "a*") (codes "b") refl refl) [ inl both ↦ no_star_in_b both.1 | inr neither ↦ Lacks-here star (codes "a") [] neither.0 ]),
-  (λ law. elim (law.both (codes "b") (codes "a*") refl refl) [ inl both ↦ no_star_in_b both.0 | inr neither ↦ Lacks-here star (codes "a") [] neither.1 ]),
+  (λ law. elim (law.both (codes "a*") (codes "b") refl refl) [ inl both ↦ not_one_star (codes "b") refl both.1 | inr neither ↦ Lacks-here star (codes "a") [] neither.0 ]),
+  (λ law. elim (law.both (codes "b") (codes "a*") refl refl) [ inl both ↦ not_one_star (codes "b") refl both.0 | inr neither ↦ Lacks-here star (codes "a") [] neither.1 ]),
   (λ law. several_stars (law.each (codes "a*b*") (inl refl))),
   λ law. several_stars (law.each (codes "a*b*") (inr refl)),
 )

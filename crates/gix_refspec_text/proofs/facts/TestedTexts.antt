@@ -14,9 +14,6 @@ use Rattle.gix_refspec_text.proofs.lemmas.texts.LetterLemmas.{HasOneStar-count_b
 use Rattle.gix_refspec_text.proofs.{lemmas.lists.AllLemmas.all_weaker, lemmas.texts.TestedLemmas.IsName-tested, lemmas.texts.TestedLemmas.is_suspect}
 
 -- what a test decides
-yes : {P : Type 0} (b : Bool) → Decides b P → b ≡ true → P
-yes b decides so = decides.0 so
-
 no : {P : Type 0} (b : Bool) → Decides b P → b ≡ false → ¬ P
 no b decides none holds = true≢false (sym (decides.1 holds) ∙ none)
 
@@ -50,7 +47,7 @@ ends_with_is : (w x : List ℕ) → Decides (ends_with nat_eq x w) (EndsWith w x
 ends_with_is w x = let told = ends_is Decides-eqb x w (ends_with nat_eq x w) refl in ((λ so. record { before = take (length x - length w) x; here = told.0 so }), λ ends. told.1 ends.before ends.here)
 
 pub begins : (w x : List ℕ) → starts_with nat_eq x w ≡ true → BeginsWith w x
-begins w x = yes (starts_with nat_eq x w) (begins_is w x)
+begins w x = (begins_is w x).0
 
 pub begins_not : (w x : List ℕ) → starts_with nat_eq x w ≡ false → ¬ (BeginsWith w x)
 begins_not w x = no (starts_with nat_eq x w) (begins_is w x)
@@ -171,7 +168,7 @@ fault_is x Asterisk = holds_is (codes "*") x
 fault_is x (InvalidByte b) = both_are _ _ (holds_is (b ∷ []) x) ((λ so. so), λ so. so)
 
 pub faulty : (x : List ℕ) (e : Error) → has_fault x e ≡ true → HasFault x e
-faulty x e = yes (has_fault x e) (fault_is x e)
+faulty x e = (fault_is x e).0
 
 pub faultless : (x : List ℕ) (e : Error) → has_fault x e ≡ false → ¬ (HasFault x e)
 faultless x e = no (has_fault x e) (fault_is x e)
@@ -207,21 +204,17 @@ no_pattern x other pattern = not_one_star x other (pattern.replaces.before, patt
 pub pattern_fault : (x : List ℕ) (e : Error) → (stars x == 1) ≡ true → has_fault (with_letters x) e ≡ true → IsPatternFault (Name e) x
 pattern_fault x e one so = let split = HasOneStar-count_by x (eqb-true (stars x) 1 one) in (with_letters x, replaces_one split.0 split.1 x split.2, faulty (with_letters x) e so)
 
--- whether a text has two stars or more
-abbrev pub holds_twice : List ℕ → Bool
-holds_twice [] = false
-holds_twice (b ∷ x) = (b == star && holds (codes "*") x) || holds_twice x
+-- whether there are three parts, as a text with two stars has between its stars
+abbrev pub are_three : List (List ℕ) → Bool
+are_three (p ∷ q ∷ r ∷ rest) = true
+are_three parts = false
 
-pub several : (x : List ℕ) → holds_twice x ≡ true → HasSeveralStars x
-several [] so = absurd (false≢true so)
-several (b ∷ x) so = elim (or_cases (b == star && holds (codes "*") x) (holds_twice x) so) [
-  | inl here ↦
-      let parts = and_parts (b == star) (holds (codes "*") x) here in
-      let found = contains (codes "*") x parts.1 in
-      let same : b ≡ star = eqb-true b star parts.0 in
-      record { before = []; between = found.before; after = found.after; here = let rest : x ≡ found.before ++ (star ∷ found.after) = found.here in cc }
-  | inr later ↦ let found = several x later in record { before = b ∷ found.before; between = found.between; after = found.after; here = ap (λ y. b ∷ y) found.here }
-]
+several_at : (x : List ℕ) (parts : List (List ℕ)) → join_with_byte star parts ≡ x → are_three parts ≡ true → HasSeveralStars x
+several_at x (p ∷ q ∷ r ∷ rest) joined so = record { before = p; between = q; after = join_with_byte star (r ∷ rest); here = sym joined }
+several_at x parts joined so = absurd (false≢true so)
+
+pub several : (x : List ℕ) → are_three (slice_split (λ c. c == star) x) ≡ true → HasSeveralStars x
+several x so = several_at x (slice_split (λ c. c == star) x) (join_with_byte-slice_split star x) so
 
 -- ---- bad sides
 
@@ -238,7 +231,7 @@ unstarred x e none = plain_fine x (Lacks-tested star x none) e
 
 -- whether a side is bad for this reason
 abbrev pub is_bad : List ℕ → Refusal → Bool
-is_bad x (PatternUnsupported p) = holds_twice x && bytes_eq p x
+is_bad x (PatternUnsupported p) = are_three (slice_split (λ c. c == star) x) && bytes_eq p x
 is_bad x (ReferenceName f) = (not (list_any (λ c. c == star) x) && has_fault x f) || ((stars x == 1) && has_fault (with_letters x) f)
 is_bad x e = false
 

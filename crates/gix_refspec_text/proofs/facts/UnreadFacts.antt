@@ -1,10 +1,10 @@
 -- For each condition of the forms a text that breaks it, with the reason to refuse it, so that it has no reading; and
 -- readings that no text has.
-use Rattle.gix_refspec_text.proofs.Common.{◌≢◌, Bool, true, not, ◌&&◌, and_parts, unwrap_or, IsPositive, Shape, Lacks, Mode, Plain, Pattern, ◌≡◌, ◌⊎◌, ℕ, List, [], ◌∷◌, Option, None, Some, codes}
-use Rattle.gix_refspec_text.proofs.Common.{refl, sym, ◌∙◌, inl, inr, replicate, Operation, Push, Fetch, star, letter, caret, colon, Normal, Forced, Negative, Reading, fetched, pushed, Reads}
+use Rattle.gix_refspec_text.proofs.Common.{◌≢◌, true, not, ◌&&◌, and_parts, unwrap_or, IsPositive, Shape, Lacks, Mode, Plain, Pattern, ◌≡◌, ℕ, List, [], ◌∷◌, None, Some, codes}
+use Rattle.gix_refspec_text.proofs.Common.{refl, sym, ◌∙◌, inl, inr, replicate, Operation, Push, Fetch, star, letter, caret, Normal, Forced, Negative, Reading, fetched, pushed, Reads}
 use Rattle.gix_refspec_text.proofs.Common.{IsAccepted, StartsWithDot, InvalidByte, printed, Refusal, NegativeWithDestination, PushToEmpty, PatternUnsupported, ReferenceName, PatternUnbalanced}
-use Rattle.gix_refspec_text.proofs.Common.{NegativeEmpty, NegativeObjectHash, IsBadName, IsBadPattern, HasBadDestination, IsFirstReason, IsRefused, Empty}
-use Rattle.gix_refspec_text.proofs.facts.GrammarFacts.{a_star, b_name, deletes_x, fetches_main, hashes, pushes_matching}
+use Rattle.gix_refspec_text.proofs.Common.{NegativeEmpty, NegativeObjectHash, IsFirstReason, IsRefused, Empty}
+use Rattle.gix_refspec_text.proofs.facts.GrammarFacts.{a_star, deletes_x, fetches_main, hashes, pushes_matching}
 use Rattle.gix_refspec_text.proofs.facts.ManualFacts.{full, none_some, some_none}
 use Rattle.gix_refspec_text.proofs.facts.TestedReadings.{end, fit, fits, not_empty, parts_of, sign_of, source, star_fit, starred}
 use Rattle.gix_refspec_text.proofs.facts.TestedTexts.{Lacks-tested, bad_side, is_bad, is_empty, several}
