@@ -1,17 +1,13 @@
 -- Which sources are covering.
-use Rattle.gix_refspec_text.proofs.Common.{[], None, Some, codes, refl, arith, star, bracket, Normal, pushed, IsPrefix, of_name, of_pattern, IsCovering, by_prefix, by_candidates, HasCoveringSource}
+use Rattle.gix_refspec_text.proofs.Common.{[], None, Some, codes, refl, arith, star, Normal, pushed, IsPrefix, of_name, of_pattern, IsCovering, by_prefix, by_candidates, HasCoveringSource}
 use Rattle.gix_refspec_text.proofs.Common.{same_Some, HasNoPrefix}
-use Rattle.gix_refspec_text.proofs.facts.FitFacts.{blob_kind, no_dev, other_first, push_is_none, short, short_kind, split_at_end}
 use Rattle.gix_refspec_text.proofs.{facts.ManualFacts.Lacks-tested, facts.TestedTexts.differ, lemmas.lists.LacksLemmas.Lacks-here, lemmas.prefixes.PrefixLemmas.no_prefix}
+use Rattle.gix_refspec_text.proofs.facts.FitFacts.{blob_kind, no_dev, other_first, push_is_none, short, short_kind, split_at_end}
+use Rattle.gix_refspec_text.proofs.{facts.TestedTexts.begins}
 
 -- the prefix of a pattern
 pub below_heads : IsPrefix (codes "refs/heads/*") (codes "refs/heads/")
-below_heads = of_pattern (codes "refs/heads/") [] (split_at_end (codes "refs/heads/") refl) (record {
-  below = record { after = codes "heads/"; here = refl };
-  further = differ _ _ refl;
-  first = Lacks-tested bracket (codes "refs/heads/") refl;
-  last = tt;
-}) refl
+below_heads = of_pattern (codes "refs/heads/") [] (split_at_end (codes "refs/heads/") refl) (search (arith, differ, begins, Lacks-tested)) refl
 
 -- a pattern that begins with `refs/heads/`, a full name, a partial one and an id are covering
 pub covering : IsCovering (codes "refs/heads/*") × IsCovering (codes "refs/heads/main") × IsCovering (codes "main") × IsCovering (codes "e69de29bb2d1d6434b8b29ae775ad8c2e48c5391")

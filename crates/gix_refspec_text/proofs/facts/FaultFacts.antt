@@ -2,8 +2,8 @@
 use Rattle.gix_refspec_text.proofs.Common.{ℕ, ◌==◌, List, [], ◌∷◌, codes, refl, subst, AllByRecursion, slice_split, Error, Empty, EmptyComponent, StartsWithDot, LockSuffix, EndsWithDot, RepeatedDot}
 use Rattle.gix_refspec_text.proofs.Common.{ReflogPortion, Asterisk, InvalidByte, SomeComponent, HasFault, HasStar, slash}
 pub use Rattle.gix_refspec_text.proofs.facts.TestedTexts.{begins_not}
-use Rattle.gix_refspec_text.proofs.facts.TestedTexts.{all_are, contains, faultless, faulty, has_fault, holds_not, none_are, split_again}
 use Rattle.gix_refspec_text.proofs.{lemmas.texts.ComponentLemmas.AllByRecursion-parts}
+use Rattle.gix_refspec_text.proofs.facts.TestedTexts.{all_are, contains, faultless, faulty, has_fault, holds_not, none_are, split_again}
 
 -- if no word between slashes satisfies P, no component does
 pub no_component : (P : List ℕ → Type 0) (x : List ℕ) → AllByRecursion (λ w. ¬ (P w)) (slice_split (λ c. c == slash) x) → ¬ (SomeComponent P x)
@@ -23,7 +23,7 @@ with_faults =
     ∷ (codes "a/.lock", LockSuffix) ∷ (codes "a/b.", EndsWithDot) ∷ (codes "..a", RepeatedDot) ∷ (codes "a/b..", RepeatedDot)
     ∷ (codes "@{1}", ReflogPortion) ∷ (codes "*a", Asterisk) ∷ (codes "a*/*", Asterisk) ∷ (codes "a b", InvalidByte 32)
     ∷ (codes "a~:", InvalidByte 58) ∷ (codes "foo..bar", RepeatedDot) ∷ (codes "foo.lock", LockSuffix) ∷ (codes "foo.lock/bar", LockSuffix)
-    ∷ (codes "foo@{bar", ReflogPortion) ∷ [])
+    ∷ (codes "foo@{bar", ReflogPortion) ∷ (codes "ba.lock", LockSuffix) ∷ [])
 
 pub faults : AllByRecursion Has with_faults
 faults = all_are Has (λ p. has_fault p.0 p.1) (λ p so. faulty p.0 p.1 so) with_faults refl

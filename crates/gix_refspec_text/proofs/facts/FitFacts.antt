@@ -2,9 +2,9 @@
 use Rattle.gix_refspec_text.proofs.Common.{◌≡◌, ◌≢◌, ℕ, zero, suc, ◌==◌, false, List, [], ◌∷◌, ◌++◌, None, Some, length, get_or, codes, refl, ap, ◌∙◌, subst, arith, AllByRecursion, Contains, list_any}
 use Rattle.gix_refspec_text.proofs.Common.{length-append, Fetch, Push, BeginsWith, IsSplit, star, IsIdText, Normal, Forced, Negative, Reading, fetched, full_name, object, partial, HasKind, Fits}
 use Rattle.gix_refspec_text.proofs.Common.{Excludes, the_name, by_pattern, filled, Ref}
-use Rattle.gix_refspec_text.proofs.facts.ObjectIdFacts.{IsIdText-empty_blob, empty_blob, lower_of-empty_blob}
 use Rattle.gix_refspec_text.proofs.{facts.ManualFacts.Lacks-tested, facts.ManualFacts.named, facts.TestedTexts.differ, lemmas.hits.MatchLemmas.lacks_no_pattern}
 use Rattle.gix_refspec_text.proofs.{lemmas.hits.MatchLemmas.split_once, lemmas.lists.LacksLemmas.Lacks-here, lemmas.texts.ObjectIdLemmas.no_kind}
+use Rattle.gix_refspec_text.proofs.{facts.ObjectIdFacts.IsIdText-empty_blob, facts.ObjectIdFacts.empty_blob, facts.ObjectIdFacts.lower_of-empty_blob}
 
 -- texts that differ at an index differ
 pub other_byte : (k : ℕ) (x y : List ℕ) → get_or x k 0 ≢ get_or y k 0 → x ≢ y

@@ -1,12 +1,11 @@
--- The definitions of the grammar, and each of its thirteen forms at texts like those of git-fetch(1) and
--- git-push(1), with `+` and without.
-use Rattle.gix_refspec_text.proofs.Common.{map, ◌≡◌, ℕ, true, List, [], ◌∷◌, ◌++◌, None, Some, codes, refl, inl, inr, arith, replicate, Push, Fetch, Plain, Pattern, letter, caret, colon, Normal, Forced}
-use Rattle.gix_refspec_text.proofs.Common.{Negative, IsUnsigned, IsSigned, with_colon, LastLacksColon, AreParts, IsPositive, named_by, LooksLikeObjectHash, IsNameOrPattern, AreAlike, fetched, pushed}
-use Rattle.gix_refspec_text.proofs.Common.{Reads, pushes_plus, pushes_colon, Asterisk, InvalidByte, is_refused_byte, HasFault, IsName, IsPattern}
-use Rattle.gix_refspec_text.proofs.facts.TestedReadings.{a_hash, excludes, no_hash, no_other, parts_of, reads}
-use Rattle.gix_refspec_text.proofs.facts.TestedTexts.{Lacks-tested, a_pattern, differ, no_name, no_pattern}
+-- The definitions of the grammar, and each of its thirteen forms at texts like those of git-fetch(1) and git-push(1), with `+` and without.
+use Rattle.gix_refspec_text.proofs.Common.{map, ◌≡◌, ℕ, true, List, [], ◌∷◌, ◌++◌, None, Some, codes, refl, inl, inr, arith, replicate, Push, Fetch, Plain, Pattern, letter, caret, colon, Normal}
+use Rattle.gix_refspec_text.proofs.Common.{Forced, Negative, IsUnsigned, IsSigned, with_colon, LastLacksColon, AreParts, IsPositive, named_by, LooksLikeObjectHash, IsNameOrPattern, AreAlike, fetched}
+use Rattle.gix_refspec_text.proofs.Common.{pushed, Reads, pushes_plus, pushes_colon, Asterisk, InvalidByte, is_refused_byte, HasFault, IsName, IsPattern}
 use Rattle.gix_refspec_text.proofs.{facts.ManualFacts.no_sign, facts.ManualFacts.parts, lemmas.lists.LacksLemmas.Lacks-here, lemmas.parsing.SideLemmas.HasStar-pattern}
 use Rattle.gix_refspec_text.proofs.{lemmas.texts.TestedLemmas.IsName-tested}
+use Rattle.gix_refspec_text.proofs.facts.TestedReadings.{a_hash, excludes, no_hash, no_other, parts_of, reads}
+use Rattle.gix_refspec_text.proofs.facts.TestedTexts.{Lacks-tested, a_pattern, differ, no_name, no_pattern}
 
 -- ---- the words of the forms
 

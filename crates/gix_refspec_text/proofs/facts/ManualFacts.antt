@@ -1,18 +1,18 @@
 -- The definitions of names and refspecs at the examples of git-check-ref-format(1), git-fetch(1) and git-push(1), and
 -- at similar ones on both sides of a boundary, so that a wrong definition fails here.
 use Rattle.gix_refspec_text.proofs.Common.{◌≡◌, ◌≢◌, ℕ, ◌==◌, true, false, List, [], ◌∷◌, ◌++◌, Option, None, Some, map, length, codes, refl, ap, subst, inl, inr, arith, replicate, list_any, filter}
-use Rattle.gix_refspec_text.proofs.Common.{range_with_len, length-replicate, eqb-false, false≢true, RepeatedDot, Operation, Push, Fetch, Plain, Pattern, is_refused_byte}
-use Rattle.gix_refspec_text.proofs.Common.{HasSeveralStars, IsSplit, ReplacesStar, IsPattern, IsPatternFault, slash, star, letter, plus, caret, colon, Mode, Normal, Forced, Negative}
-use Rattle.gix_refspec_text.proofs.Common.{Reading, HasSide, remote_of, local_of, IsSigned, AreParts, Reads, pushes_colon, pushed, fetched, Meaning, push_all_matching, push_delete}
-use Rattle.gix_refspec_text.proofs.Common.{push_matching, push_exclude, fetch_and_update, meaning_of, text_of, PatternUnsupported, PushToEmpty, NegativeWithDestination, ReferenceName, IsBadPattern}
-use Rattle.gix_refspec_text.proofs.Common.{NeedsMemory, NoReasonBeforeSource, ReachesMemory, MayNeedMemory, pattern, full_name, object, partial, HasKind, candidates, filled, Ref, Matches, MatchesAs}
-use Rattle.gix_refspec_text.proofs.Common.{same_Some, or_parts, unwrap_or, with_colon, LastLacksColon, Bool, ◌||◌}
+use Rattle.gix_refspec_text.proofs.Common.{range_with_len, length-replicate, eqb-false, false≢true, RepeatedDot, Operation, Push, Fetch, Plain, Pattern, is_refused_byte, HasSeveralStars, IsSplit}
+use Rattle.gix_refspec_text.proofs.Common.{ReplacesStar, IsPattern, IsPatternFault, slash, star, letter, plus, caret, colon, Mode, Normal, Forced, Negative, Reading, HasSide, remote_of, local_of}
+use Rattle.gix_refspec_text.proofs.Common.{IsSigned, AreParts, Reads, pushes_colon, pushed, fetched, Meaning, push_all_matching, push_delete, push_matching, push_exclude, fetch_and_update, meaning_of}
+use Rattle.gix_refspec_text.proofs.Common.{text_of, PatternUnsupported, PushToEmpty, NegativeWithDestination, ReferenceName, IsBadPattern, NeedsMemory, NoReasonBeforeSource, ReachesMemory}
+use Rattle.gix_refspec_text.proofs.Common.{MayNeedMemory, pattern, full_name, object, partial, HasKind, candidates, filled, Ref, Matches, MatchesAs, same_Some, or_parts, unwrap_or, with_colon}
+use Rattle.gix_refspec_text.proofs.Common.{LastLacksColon, Bool, ◌||◌}
 use Rattle.gix_refspec_text.specs.declared.name.PatternError.TheVariants.{Memory}
 pub use Rattle.gix_refspec_text.proofs.facts.TestedTexts.{Lacks-tested}
-use Rattle.gix_refspec_text.proofs.facts.TestedReadings.{excludes, parts_of, reads}
-use Rattle.gix_refspec_text.proofs.facts.TestedTexts.{bad_side, begins, contains, differ, holds_not, not_several, several, unstarred}
 use Rattle.gix_refspec_text.proofs.{lemmas.lists.LacksLemmas.Lacks-here, lemmas.parsing.PartsLemmas.parts_once, lemmas.parsing.SideLemmas.HasStar-stars}
 use Rattle.gix_refspec_text.proofs.{lemmas.texts.TestedLemmas.IsName-tested, lemmas.texts.TestedLemmas.is_suspect}
+use Rattle.gix_refspec_text.proofs.{facts.TestedReadings.excludes, facts.TestedReadings.parts_of, facts.TestedReadings.reads}
+use Rattle.gix_refspec_text.proofs.facts.TestedTexts.{bad_side, begins, contains, differ, holds_not, not_several, several, unstarred}
 
 -- a text with a byte isn't empty
 pub full : (b : ℕ) (bs : List ℕ) → b ∷ bs ≢ []
@@ -33,8 +33,7 @@ other_length x y differ same = differ (ap length same)
 abbrev Says : Operation → List ℕ → Meaning → Type 0
 Says op text m = (r : Reading) × Reads op text r × (meaning_of r ≡ Some m)
 
--- of the 256 bytes, the control characters, space, colon, question mark, bracket, backslash, caret, tilde and
--- DEL, and no other
+-- of the 256 bytes, the control characters, space, colon, question mark, bracket, backslash, caret, tilde and DEL, and no other
 pub refused_bytes : filter is_refused_byte (range_with_len 0 256) ≡ 0 ∷ 1 ∷ 2 ∷ 3 ∷ 4 ∷ 5 ∷ 6 ∷ 7 ∷ 8 ∷ 9 ∷ 10 ∷ 11 ∷ 12 ∷ 13 ∷ 14 ∷ 15 ∷ 16 ∷ 17 ∷ 18 ∷ 19 ∷ 20 ∷ 21 ∷ 22 ∷ 23 ∷ 24 ∷ 25 ∷ 26 ∷ 27 ∷ 28 ∷ 29 ∷ 30 ∷ 31 ∷ (codes " :?[\\^~" ++ (127 ∷ []))
 refused_bytes = refl
 
@@ -47,9 +46,9 @@ ReplacesStar-tested before after first last = record { before = before; after = 
 
 -- one star may be in a component of a pattern, but not two
 pub one_star : ReplacesStar (codes "foo/bar*/baz") (codes "foo/bara/baz") × ReplacesStar (codes "foo/bar*baz") (codes "foo/barabaz")
-    × HasSeveralStars (codes "foo/bar*/baz*")
+    × ReplacesStar (codes "b*.lock") (codes "ba.lock") × HasSeveralStars (codes "foo/bar*/baz*")
 one_star = (ReplacesStar-tested (codes "foo/bar") (codes "/baz") refl refl, ReplacesStar-tested (codes "foo/bar") (codes "baz") refl refl,
-    several (codes "foo/bar*/baz*") refl)
+    ReplacesStar-tested (codes "b") (codes ".lock") refl refl, several (codes "foo/bar*/baz*") refl)
 
 -- a text with one star is a pattern if it is a name with the letter in its place
 pub IsPattern-tested : (before after : List ℕ) → list_any (λ c. c == star) before ≡ false → list_any (λ c. c == star) after ≡ false → is_suspect slash (before ++ (letter ∷ after)) ≡ false → IsPattern (before ++ (star ∷ after))
@@ -164,8 +163,7 @@ needs_memory = (inr (contains (codes "*") (starred 256) refl, omega (arith, leng
     none (inl stars) = holds_not (codes "*") (replicate 257 letter) refl (HasStar-stars (replicate 257 letter) stars)
     none (inr (starry, long)) = holds_not (codes "*") (replicate 257 letter) refl starry
 
--- no reason before those of the source applies, if the source isn't empty, a negative spec has no colon, and the
--- destination isn't empty
+-- no reason before those of the source applies, if the source isn't empty, a negative spec has no colon, and the destination isn't empty
 pub before_source : (op : Operation) (mode : Mode) (s : List ℕ) (d : Option (List ℕ)) → s ≢ [] → (mode ≡ Negative → d ≡ None) → d ≢ Some [] → NoReasonBeforeSource op mode s d
 before_source op mode s d not_empty alone somewhere = search (arith, false≢true)
 
@@ -192,8 +190,7 @@ destination_needs_memory = (
   inr ((λ e bad. unstarred (codes "a..b") e refl bad.refusal), inl (several (codes "c*d*") refl)),
 )
 
--- but not after a bad source; nor may the source of a push to an empty destination, or of a negative spec with a
--- colon
+-- but not after a bad source; nor may the source of a push to an empty destination, or of a negative spec with a colon
 pub memory_after_reasons : ¬ (ReachesMemory Fetch Normal (codes "a..b") (Some (codes "c*d*"))) × ¬ (ReachesMemory Push Normal (codes "a*b*") (Some [])) × ¬ (ReachesMemory Fetch Negative (codes "a*b*") (Some (codes "c")))
 memory_after_reasons = (
   (λ reaches. elim reaches.1 [
@@ -208,7 +205,7 @@ memory_after_reasons = (
 
 -- either side alone is enough
 pub sides : HasSide (pushed Normal (Some (codes "a")) None) × HasSide (pushed Normal None (Some (codes "a"))) × ¬ (HasSide (pushed Normal None None))
-sides = (inl refl, inr refl, λ side. elim side [ inl source ↦ false≢true source | inr destination ↦ false≢true destination ])
+sides = search (arith, false≢true)
 
 -- a fetch has its source on the remote, and a push its destination
 pub remote_sides : (remote_of (fetched Normal (codes "a") (Some (codes "b"))) ≡ Some (codes "a")) × (local_of (fetched Normal (codes "a") (Some (codes "b"))) ≡ Some (codes "b")) × (remote_of (pushed Normal (Some (codes "a")) (Some (codes "b"))) ≡ Some (codes "b")) × (local_of (pushed Normal (Some (codes "a")) (Some (codes "b"))) ≡ Some (codes "a"))

@@ -4,9 +4,9 @@ use Rattle.gix_refspec_text.proofs.Common.{◌≡◌, ℕ, List, [], ◌∷◌, 
 use Rattle.gix_refspec_text.proofs.Common.{Asterisk, InvalidByte, ArePartsAt, slash, IsName, IsPattern, IsPatternFault, ReferenceName, with_letters, IsStarCount, IsCalm, lowest_of}
 use Rattle.gix_refspec_text.specs.declared.name.PatternError.TheVariants.{Name}
 use lib.Count.{count_trailing_zeros}
-use Rattle.gix_refspec_text.proofs.facts.TestedTexts.{Lacks-tested, a_pattern, all_are, is_pattern, no_name, no_pattern, none_are, pattern_fault}
 use Rattle.gix_refspec_text.proofs.{lemmas.lists.LacksLemmas.Lacks-here, lemmas.parsing.SideLemmas.pattern_fine, lemmas.texts.TestedLemmas.IsName-tested}
 use Rattle.gix_refspec_text.proofs.{lemmas.texts.TestedLemmas.is_suspect}
+use Rattle.gix_refspec_text.proofs.facts.TestedTexts.{Lacks-tested, a_pattern, all_are, is_pattern, no_name, no_pattern, none_are, pattern_fault}
 
 -- ---- names
 

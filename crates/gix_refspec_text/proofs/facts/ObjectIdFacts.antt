@@ -38,7 +38,7 @@ no_length n none = let both = or_parts (n == 40) (n == 64) none in no_kind n (eq
 
 -- an id has 40 digits or 64, and not 39, 41, 32 or 20
 pub lengths : IsIdLength 40 × IsIdLength 64 × ¬ (IsIdLength 39) × ¬ (IsIdLength 41) × ¬ (IsIdLength 32) × ¬ (IsIdLength 20)
-lengths = ((Sha1, refl), (Sha256, refl), no_length 39 refl, no_length 41 refl, no_length 32 refl, no_length 20 refl)
+lengths = search (arith, no_length)
 
 -- digits with these values spell one byte
 spelled_value : (b c d high low : ℕ) → hex_digit_value c ≡ Some high → hex_digit_value d ≡ Some low → IsSpelledBy b c d → b ≡ 16 * high + low

@@ -2,12 +2,12 @@
 use Rattle.gix_refspec_text.proofs.Common.{◌≢◌, ℕ, List, [], ◌∷◌, None, Some, length, codes, refl, ap, arith, IsSplit, star, slash, Normal, Negative, fetched, pushed, candidates, IsRefPrefix}
 use Rattle.gix_refspec_text.proofs.Common.{IsPrefix, of_head, of_name, of_pattern, HasNoPrefix, Expands, to_prefix, to_itself, below_refs, of_object, to_candidates, IsAsked, HasPrefix, IsExpansion}
 use Rattle.gix_refspec_text.proofs.Common.{same_Some}
-use Rattle.gix_refspec_text.proofs.facts.FitFacts.{blob_kind, every, no_dev, other_byte, short_kind, split_at_end}
-use Rattle.gix_refspec_text.proofs.facts.ManualFacts.{Lacks-tested, none_some, other_length}
 use Rattle.gix_refspec_text.proofs.{facts.CoveringFacts.below_heads, facts.CoveringFacts.no_bare_prefix, facts.FaultFacts.begins_not}
 use Rattle.gix_refspec_text.proofs.{facts.ObjectIdFacts.IsIdText-empty_blob, facts.ObjectIdFacts.empty_blob, facts.TestedTexts.differ}
 use Rattle.gix_refspec_text.proofs.{lemmas.hits.MatchLemmas.outside_none, lemmas.lists.LacksLemmas.Lacks-here, lemmas.prefixes.OnePrefixLemmas.one_prefix}
 use Rattle.gix_refspec_text.proofs.{lemmas.prefixes.PrefixLemmas.no_prefix, lemmas.prefixes.PrefixLemmas.starred_no_id}
+use Rattle.gix_refspec_text.proofs.{facts.ManualFacts.Lacks-tested, facts.ManualFacts.none_some, facts.ManualFacts.other_length}
+use Rattle.gix_refspec_text.proofs.facts.FitFacts.{blob_kind, every, no_dev, other_byte, short_kind, split_at_end}
 
 -- `HEAD` and a full name are their own prefix
 pub whole_prefixes : IsPrefix (codes "HEAD") (codes "HEAD") × IsPrefix (codes "refs/a]b") (codes "refs/a]b")
@@ -36,8 +36,7 @@ no_prefixes = (
   outside_none (codes "heads/*") (differ _ _ refl) (begins_not (codes "refs/") (codes "heads/*") refl),
 )
 
--- without a prefix, a side with one component after `refs/` is expanded to itself, and with a further slash to
--- nothing
+-- without a prefix, a side with one component after `refs/` is expanded to itself, and with a further slash to nothing
 pub expansions_below : Expands (codes "refs/*") (codes "refs/*" ∷ []) × Expands (codes "refs/a]*") (codes "refs/a]*" ∷ []) × Expands (codes "refs/a*/]") []
 expansions_below = (
   to_itself (codes "*") no_prefixes.0 refl (Lacks-tested slash (codes "*") refl) refl,

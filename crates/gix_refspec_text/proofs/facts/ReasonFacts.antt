@@ -5,17 +5,17 @@ use Rattle.gix_refspec_text.proofs.Common.{NegativeWithDestination, PushToEmpty,
 use Rattle.gix_refspec_text.proofs.Common.{IsEmptyPush, HasNegativeDestination, PushesNowhere, IsBadSourceFor, HasBadSource, HasBadDestination, IsOneStarred, IsUnbalanced, ExcludesNothing}
 use Rattle.gix_refspec_text.proofs.Common.{ExcludesObject, Never, OrElse, IsFirstReason, same_Some, Plain, Empty}
 use Rattle.gix_refspec_text.specs.declared.name.PatternError.TheVariants.{Name}
-use Rattle.gix_refspec_text.proofs.facts.ManualFacts.{IsSplit-tested, full, none_some, some_none}
-use Rattle.gix_refspec_text.proofs.facts.TestedTexts.{Lacks-tested, faulty, holds_not, not_one_star, not_several, pattern_fault, pattern_faultless, several, unstarred}
 use Rattle.gix_refspec_text.proofs.{facts.RefusalFacts.normal_positive, facts.TestedReadings.a_hash, facts.TestedReadings.no_hash, lemmas.lists.LacksLemmas.Lacks-here}
 use Rattle.gix_refspec_text.proofs.{lemmas.parsing.ReasonLemmas.reason_against_nothing, lemmas.parsing.ReasonLemmas.reason_against_object}
 use Rattle.gix_refspec_text.proofs.{lemmas.parsing.SideLemmas.name_not_bad, lemmas.texts.LetterLemmas.HasOneStar-count_by}
+use Rattle.gix_refspec_text.proofs.facts.ManualFacts.{IsSplit-tested, full, none_some, some_none}
+use Rattle.gix_refspec_text.proofs.facts.TestedTexts.{Lacks-tested, contains, faulty, holds_not, not_one_star, not_several, pattern_fault, pattern_faultless, several, unstarred}
 
 -- ---- stars
 
 -- a text with exactly one star, and texts without one and with two
-pub one_star_alone : HasOneStar (codes "a*b") × IsSplit (codes "a") (codes "b") (codes "a*b") × ¬ (HasOneStar (codes "ab")) × ¬ (HasOneStar (codes "a*b*"))
-one_star_alone = (HasOneStar-count_by (codes "a*b") refl, IsSplit-tested (codes "a") (codes "b") refl refl, not_one_star (codes "ab") refl, not_one_star (codes "a*b*") refl)
+pub one_star_alone : HasOneStar (codes "a*b") × IsSplit (codes "a") (codes "b") (codes "a*b") × ¬ (HasOneStar (codes "ab")) × ¬ (HasOneStar (codes "a*b*")) × ¬ (HasOneStar (codes "b"))
+one_star_alone = (HasOneStar-count_by (codes "a*b") refl, IsSplit-tested (codes "a") (codes "b") refl refl, not_one_star (codes "ab") refl, not_one_star (codes "a*b*") refl, not_one_star (codes "b") refl)
 
 -- ---- names and patterns
 
@@ -82,21 +82,11 @@ has_star before after = record { before = before; after = after; here = refl }
 
 -- one of two texts has a star, whichever it is, but not both or neither
 pub one_starred : IsOneStarred (codes "a*") (codes "b") × IsOneStarred (codes "b") (codes "a*") × ¬ (IsOneStarred (codes "a*") (codes "b*")) × ¬ (IsOneStarred (codes "a") (codes "b"))
-one_starred = (
-  inl (has_star (codes "a") [], Lacks-tested star (codes "b") refl),
-  inr (Lacks-tested star (codes "b") refl, has_star (codes "a") []),
-  (λ one. elim one [ inl first ↦ Lacks-here star (codes "b") [] first.1 | inr second ↦ Lacks-here star (codes "a") [] second.0 ]),
-  λ one. elim one [ inl first ↦ holds_not (codes "*") (codes "a") refl first.0 | inr second ↦ holds_not (codes "*") (codes "b") refl second.1 ],
-)
+one_starred = search (arith, contains, holds_not, Lacks-tested, Lacks-here)
 
 -- a push of `a*:b` is unbalanced, and so is one of `+:b*`, but not one of `a*:`
 pub unbalanced_pushes : IsUnbalanced Push Normal (codes "a*") (Some (codes "b")) PatternUnbalanced × IsUnbalanced Push Forced [] (Some (codes "b*")) PatternUnbalanced × ((e : Refusal) → ¬ (IsUnbalanced Push Normal (codes "a*") (Some []) e)) × ¬ (IsUnbalanced Push Normal (codes "a*") (Some (codes "b")) NegativeEmpty)
-unbalanced_pushes = (
-  record { positive = tt; one = one_starred.0; has_destination = λ push. full _ _; refusal = refl },
-  record { positive = tt; one = inr (tt, has_star (codes "b") []); has_destination = λ push. full _ _; refusal = refl },
-  (λ e is. is.has_destination refl refl),
-  λ is. let same = is.refusal in cc,
-)
+unbalanced_pushes = search (arith, one_starred, contains, full)
 
 -- ---- negative specs
 
@@ -105,11 +95,11 @@ hash = a_hash (replicate 40 letter) refl
 
 -- `^` is refused for excluding nothing; the empty text and `^a` aren't
 pub excludes_nothing : ExcludesNothing Negative [] NegativeEmpty × ((e : Refusal) → ¬ (ExcludesNothing Normal [] e) × ¬ (ExcludesNothing Negative (codes "a") e)) × ¬ (ExcludesNothing Negative [] NegativeObjectHash)
-excludes_nothing = (record { negative = refl; no_source = refl; refusal = refl }, (λ e. ((λ is. normal_positive is.negative), λ is. full _ _ is.no_source)), λ is. let same = is.refusal in cc)
+excludes_nothing = search (arith, full, normal_positive)
 
 -- `^` and 40 digits exclude an object, and the digits alone and `^` and 39 don't
 pub excludes_object : ExcludesObject Negative (replicate 40 letter) NegativeObjectHash × ((e : Refusal) → ¬ (ExcludesObject Normal (replicate 40 letter) e) × ¬ (ExcludesObject Negative (replicate 39 letter) e)) × ¬ (ExcludesObject Negative (replicate 40 letter) NegativeEmpty)
-excludes_object = (record { negative = refl; hash = hash; refusal = refl }, (λ e. ((λ is. normal_positive is.negative), λ is. no_hash (replicate 39 letter) refl is.hash)), λ is. let same = is.refusal in cc)
+excludes_object = search (arith, hash, no_hash, normal_positive)
 
 -- ---- one of two reasons
 

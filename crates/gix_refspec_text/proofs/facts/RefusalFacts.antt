@@ -1,12 +1,11 @@
--- The order of refusals: texts with two reasons, of which the first in the order is returned, and the other
--- isn't.
-use Rattle.gix_refspec_text.proofs.Common.{◌≢◌, ℕ, List, [], Option, None, Some, codes, refl, inl, inr, arith, replicate, LockSuffix, Operation, Push, Fetch, letter, Normal, Forced, Negative}
-use Rattle.gix_refspec_text.proofs.Common.{LooksLikeObjectHash, Refusal, NegativeWithDestination, PushToEmpty, PatternUnsupported, ReferenceName, PatternUnbalanced, IsEmptyPush, HasBadDestination}
-use Rattle.gix_refspec_text.proofs.Common.{IsUnbalanced, IsFirstReason, ◌≡◌, Mode, IsSameReason, Empty}
-use Rattle.gix_refspec_text.proofs.facts.TestedTexts.{bad_side, contains, differ as other}
-use Rattle.gix_refspec_text.proofs.lemmas.parsing.ReasonLemmas.{fetch_reaches, reason_at_destination, reason_at_source}
+-- The order of refusals: texts with two reasons, of which the first in the order is returned, and the other isn't.
+use Rattle.gix_refspec_text.proofs.Common.{Never, HasBadSource, ◌≢◌, ℕ, List, [], Option, None, Some, codes, refl, inl, inr, arith, replicate, LockSuffix, Operation, Push, Fetch, letter, Normal}
+use Rattle.gix_refspec_text.proofs.Common.{Forced, Negative, LooksLikeObjectHash, Refusal, NegativeWithDestination, PushToEmpty, PatternUnsupported, ReferenceName, PatternUnbalanced, IsEmptyPush}
+use Rattle.gix_refspec_text.proofs.Common.{HasBadDestination, IsUnbalanced, IsFirstReason, ◌≡◌, Mode, IsSameReason, Empty}
 use Rattle.gix_refspec_text.proofs.{facts.ManualFacts.full, facts.TestedReadings.no_hash, lemmas.parsing.RefusalLemmas.Agree-first}
 use Rattle.gix_refspec_text.proofs.{lemmas.parsing.SideLemmas.name_not_bad, lemmas.texts.TestedLemmas.IsName-tested}
+use Rattle.gix_refspec_text.proofs.{facts.TestedTexts.bad_side, facts.TestedTexts.contains, facts.TestedTexts.differ as other, lemmas.parsing.ReasonLemmas.fetch_reaches}
+use Rattle.gix_refspec_text.proofs.{lemmas.parsing.ReasonLemmas.reason_at_destination, lemmas.parsing.ReasonLemmas.reason_at_source}
 
 pub normal_positive : Normal ≢ Negative
 normal_positive same = cc
@@ -39,22 +38,21 @@ source_before_destination = (first, other_reason Fetch Normal (codes "a*b*") (So
     differ (inl is) = let same : codes "a*b*" ≡ codes "c*d*" = cc in other _ _ refl same
     differ (inr names) = let is = names.2 in cc
 
+no_bad_name : Never (HasBadSource Fetch (codes "a") (Some (codes "b*.lock")))
+no_bad_name e is = name_not_bad (codes "a") (IsName-tested (codes "a") refl) e is.refusal
+
 pub bad_destination : HasBadDestination (Some (codes "b*.lock")) (ReferenceName LockSuffix)
 bad_destination = record { word = codes "b*.lock"; is = refl; destination = full _ _; refusal = bad_side (codes "b*.lock") (ReferenceName LockSuffix) refl }
 
 pub destination_before_balance : IsFirstReason Fetch Normal (codes "a") (Some (codes "b*.lock")) (ReferenceName LockSuffix)
-destination_before_balance = reason_at_destination Fetch Normal (codes "a") (Some (codes "b*.lock")) (ReferenceName LockSuffix) (fetch_reaches Normal (codes "a") (Some (codes "b*.lock")) tt) (λ e is. name_not_bad (codes "a") (IsName-tested (codes "a") refl) e is.refusal) bad_destination
+destination_before_balance = reason_at_destination Fetch Normal (codes "a") (Some (codes "b*.lock")) (ReferenceName LockSuffix) (fetch_reaches Normal (codes "a") (Some (codes "b*.lock")) tt) no_bad_name bad_destination
 
 pub not_unbalanced : ¬ (IsFirstReason Fetch Normal (codes "a") (Some (codes "b*.lock")) PatternUnbalanced)
 not_unbalanced = other_reason Fetch Normal (codes "a") (Some (codes "b*.lock")) (ReferenceName LockSuffix) PatternUnbalanced destination_before_balance (λ same. elim same [ inl is ↦ cc | inr names ↦ let is = names.3 in cc ])
 
 -- a source alone with a star is unbalanced in a fetch, but not in a push, nor is a negative spec
 pub unbalanced : IsUnbalanced Fetch Normal (codes "a*") None PatternUnbalanced × ((e : Refusal) → ¬ (IsUnbalanced Push Normal (codes "a*") None e)) × ((e : Refusal) → ¬ (IsUnbalanced Fetch Negative (codes "a*") None e))
-unbalanced = (
-  record { positive = tt; one = inl (contains (codes "*") (codes "a*") refl, tt); has_destination = λ push. absurd (cc); refusal = refl },
-  (λ e is. is.has_destination refl refl),
-  (λ e is. is.positive),
-)
+unbalanced = search (arith, contains)
 
 -- 39 digits don't look like an id
 pub too_short : ¬ (LooksLikeObjectHash (replicate 39 letter))

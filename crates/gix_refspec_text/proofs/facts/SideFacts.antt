@@ -1,16 +1,15 @@
--- Sides, candidates and matches: also texts of another kind, names that aren't candidates, and refs that aren't
--- matched.
-use Rattle.gix_refspec_text.proofs.Common.{◌≡◌, ◌≢◌, ◌⊎◌, ℕ, List, [], ◌∷◌, Option, None, Some, codes, refl, sym, subst, arith, AllByRecursion, star, SideKind, pattern, full_name, object, partial}
-use Rattle.gix_refspec_text.proofs.Common.{IsId, HasKind, candidates, IsCandidate, Excludes, the_name, by_pattern, filled, MatchesAs, Matches, inl, inr, Lacks, HasOneStar, IsIdText, Normal, fetched}
-use Rattle.gix_refspec_text.proofs.Common.{pushed, Fits, same_Some, bytes_eq}
+-- Sides, candidates and matches: also texts of another kind, names that aren't candidates, and refs that aren't matched.
+use Rattle.gix_refspec_text.proofs.Common.{map, ◌≡◌, ◌≢◌, ◌⊎◌, ℕ, List, [], ◌∷◌, Option, None, Some, codes, refl, sym, subst, arith, AllByRecursion, star, SideKind, pattern, full_name, object}
+use Rattle.gix_refspec_text.proofs.Common.{partial, IsId, HasKind, candidates, IsCandidate, Excludes, the_name, by_pattern, filled, MatchesAs, Matches, inl, inr, Lacks, HasOneStar, IsIdText, Normal}
+use Rattle.gix_refspec_text.proofs.Common.{fetched, pushed, Fits, same_Some, bytes_eq}
 use Rattle.gix_refspec_text.specs.Matching.Side.{written_name_of}
 use Rattle.gix_refspec_text.specs.Laws.Sides.{SidesAgree, OneKind, OneId, OneOfEach}
-use Rattle.gix_refspec_text.proofs.facts.FitFacts.{blob_kind, every, heads_split, origin_split, other_byte, short, short_kind, short_no_id}
-use Rattle.gix_refspec_text.proofs.facts.ManualFacts.{Lacks-tested, named, other_length}
-use Rattle.gix_refspec_text.proofs.facts.ObjectIdFacts.{IsIdText-empty_blob, IsIdText-empty_blob_in_upper_case, empty_blob}
-use Rattle.gix_refspec_text.proofs.{facts.FaultFacts.begins_not, facts.ReasonFacts.one_star_alone, facts.TestedTexts.differ, facts.TestedTexts.none_are, facts.TestedTexts.not_one_star}
+use Rattle.gix_refspec_text.proofs.{facts.FaultFacts.begins_not, facts.ReasonFacts.one_star_alone, facts.TestedTexts.differ, facts.TestedTexts.none_are}
 use Rattle.gix_refspec_text.proofs.{lemmas.hits.MatchLemmas.has_candidates, lemmas.hits.MatchLemmas.lacks_no_pattern, lemmas.lists.LacksLemmas.Lacks-here}
 use Rattle.gix_refspec_text.proofs.{lemmas.texts.ComponentLemmas.AllByRecursion-parts, lemmas.texts.TextLemmas.one_not_two}
+use Rattle.gix_refspec_text.proofs.{facts.ManualFacts.Lacks-tested, facts.ManualFacts.named, facts.ManualFacts.other_length, facts.ObjectIdFacts.IsIdText-empty_blob}
+use Rattle.gix_refspec_text.proofs.{facts.ObjectIdFacts.IsIdText-empty_blob_in_upper_case, facts.ObjectIdFacts.empty_blob}
+use Rattle.gix_refspec_text.proofs.facts.FitFacts.{blob_kind, every, heads_split, origin_split, other_byte, short, short_kind, short_no_id}
 
 -- the text of an id is in either case, and a short word isn't an id
 pub ids : IsId (codes "e69de29bb2d1d6434b8b29ae775ad8c2e48c5391") × IsId (codes "E69DE29BB2D1D6434B8B29AE775AD8C2E48C5391") × ¬ (IsId (codes "main"))
@@ -76,13 +75,11 @@ pub filled_with_words : (filled (full_name (codes "refs/x/a")) (Some (codes "w")
 filled_with_words = (refl, refl, refl, refl, refl)
 
 -- a fetch writes a destination below `refs/`: `refs/` is put only before `heads/`, `tags/` and `remotes/`
-pub written_names : (written_name_of (codes "heads/a") ≡ codes "refs/heads/a") × (written_name_of (codes "tags/v1") ≡ codes "refs/tags/v1")
-    × (written_name_of (codes "remotes/o/a") ≡ codes "refs/remotes/o/a")
-    × (written_name_of (codes "remotes") ≡ codes "refs/heads/remotes")
-    × (written_name_of (codes "x/tags/a") ≡ codes "refs/heads/x/tags/a")
-    × (written_name_of (codes "refs/x") ≡ codes "refs/x")
-    × (written_name_of (codes "refs") ≡ codes "refs/heads/refs")
-written_names = (refl, refl, refl, refl, refl, refl, refl)
+pub written_names : map written_name_of (codes "heads/a" ∷ codes "tags/v1" ∷ codes "remotes/o/a" ∷ codes "remotes" ∷ codes "x/tags/a"
+    ∷ codes "refs/x" ∷ codes "refs" ∷ [])
+    ≡ codes "refs/heads/a" ∷ codes "refs/tags/v1" ∷ codes "refs/remotes/o/a" ∷ codes "refs/heads/remotes" ∷ codes "refs/heads/x/tags/a"
+    ∷ codes "refs/x" ∷ codes "refs/heads/refs" ∷ []
+written_names = refl
 
 -- ---- readings whose sides agree, and what a caller concludes from the laws on sides
 
@@ -97,8 +94,8 @@ several_stars (inr lacks) = Lacks-here star (codes "a") (codes "b*") lacks
 -- sides with a star on only one side, or with several stars, don't
 pub disagree : ¬ (SidesAgree (fetched Normal (codes "a*") (Some (codes "b")))) × ¬ (SidesAgree (pushed Normal (Some (codes "b")) (Some (codes "a*")))) × ¬ (SidesAgree (fetched Normal (codes "a*b*") None)) × ¬ (SidesAgree (pushed Normal None (Some (codes "a*b*"))))
 disagree = (
-  (λ law. elim (law.both (codes "a*") (codes "b") refl refl) [ inl both ↦ not_one_star (codes "b") refl both.1 | inr neither ↦ Lacks-here star (codes "a") [] neither.0 ]),
-  (λ law. elim (law.both (codes "b") (codes "a*") refl refl) [ inl both ↦ not_one_star (codes "b") refl both.0 | inr neither ↦ Lacks-here star (codes "a") [] neither.1 ]),
+  (λ law. elim (law.both (codes "a*") (codes "b") refl refl) [ inl both ↦ one_star_alone.4 both.1 | inr neither ↦ Lacks-here star (codes "a") [] neither.0 ]),
+  (λ law. elim (law.both (codes "b") (codes "a*") refl refl) [ inl both ↦ one_star_alone.4 both.0 | inr neither ↦ Lacks-here star (codes "a") [] neither.1 ]),
   (λ law. several_stars (law.each (codes "a*b*") (inl refl))),
   λ law. several_stars (law.each (codes "a*b*") (inr refl)),
 )

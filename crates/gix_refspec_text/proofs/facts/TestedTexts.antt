@@ -9,9 +9,9 @@ use Rattle.gix_refspec_text.specs.declared.name.PatternError.TheVariants.{Name}
 use Rattle.std.specs.List.{onto_first}
 use Rattle.std.proofs.Math.Bool.{or-true}
 use Rattle.std.proofs.lemmas.List.Splits.{slice_split_none, slice_split_at, join_with_byte-slice_split}
-use Rattle.gix_refspec_text.proofs.lemmas.parsing.SideLemmas.{HasSeveralStars-replaced, plain_fine, replaced_once}
-use Rattle.gix_refspec_text.proofs.lemmas.texts.LetterLemmas.{HasOneStar-count_by, count_by-HasOneStar, pattern_with_letter, replaces_one}
 use Rattle.gix_refspec_text.proofs.{lemmas.lists.AllLemmas.all_weaker, lemmas.texts.TestedLemmas.IsName-tested, lemmas.texts.TestedLemmas.is_suspect}
+use Rattle.gix_refspec_text.proofs.{lemmas.parsing.SideLemmas.HasSeveralStars-replaced, lemmas.parsing.SideLemmas.plain_fine, lemmas.parsing.SideLemmas.replaced_once}
+use Rattle.gix_refspec_text.proofs.lemmas.texts.LetterLemmas.{HasOneStar-count_by, count_by-HasOneStar, pattern_with_letter, replaces_one}
 
 -- what a test decides
 no : {P : Type 0} (b : Bool) → Decides b P → b ≡ false → ¬ P

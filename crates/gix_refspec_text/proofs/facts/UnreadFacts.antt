@@ -1,16 +1,16 @@
 -- For each condition of the forms a text that breaks it, with the reason to refuse it, so that it has no reading; and
 -- readings that no text has.
-use Rattle.gix_refspec_text.proofs.Common.{◌≢◌, true, not, ◌&&◌, and_parts, unwrap_or, IsPositive, Shape, Lacks, Mode, Plain, Pattern, ◌≡◌, ℕ, List, [], ◌∷◌, None, Some, codes}
-use Rattle.gix_refspec_text.proofs.Common.{refl, sym, ◌∙◌, inl, inr, replicate, Operation, Push, Fetch, star, letter, caret, Normal, Forced, Negative, Reading, fetched, pushed, Reads}
-use Rattle.gix_refspec_text.proofs.Common.{IsAccepted, StartsWithDot, InvalidByte, printed, Refusal, NegativeWithDestination, PushToEmpty, PatternUnsupported, ReferenceName, PatternUnbalanced}
-use Rattle.gix_refspec_text.proofs.Common.{NegativeEmpty, NegativeObjectHash, IsFirstReason, IsRefused, Empty}
+use Rattle.gix_refspec_text.proofs.Common.{◌≢◌, true, not, ◌&&◌, and_parts, unwrap_or, IsPositive, Shape, Lacks, Mode, Plain, Pattern, ◌≡◌, ℕ, List, [], ◌∷◌, None, Some, codes, refl, sym, ◌∙◌, inl}
+use Rattle.gix_refspec_text.proofs.Common.{inr, replicate, Operation, Push, Fetch, star, letter, caret, Normal, Forced, Negative, Reading, fetched, pushed, Reads, IsAccepted, StartsWithDot}
+use Rattle.gix_refspec_text.proofs.Common.{InvalidByte, printed, Refusal, NegativeWithDestination, PushToEmpty, PatternUnsupported, ReferenceName, PatternUnbalanced, NegativeEmpty, NegativeObjectHash}
+use Rattle.gix_refspec_text.proofs.Common.{IsFirstReason, IsRefused, Empty}
+use Rattle.gix_refspec_text.proofs.{facts.RefusalFacts.empty_push, lemmas.parsing.ReadsLemmas.refused, lemmas.parsing.SideLemmas.HasStar-pattern}
+use Rattle.gix_refspec_text.proofs.{lemmas.specs.AcceptedLemmas.accepted_balanced, lemmas.specs.FormsBackLemmas.read_back, lemmas.texts.TestedLemmas.IsName-tested}
+use Rattle.gix_refspec_text.proofs.{facts.ManualFacts.full, facts.ManualFacts.none_some, facts.ManualFacts.some_none}
 use Rattle.gix_refspec_text.proofs.facts.GrammarFacts.{a_star, deletes_x, fetches_main, hashes, pushes_matching}
-use Rattle.gix_refspec_text.proofs.facts.ManualFacts.{full, none_some, some_none}
 use Rattle.gix_refspec_text.proofs.facts.TestedReadings.{end, fit, fits, not_empty, parts_of, sign_of, source, star_fit, starred}
 use Rattle.gix_refspec_text.proofs.facts.TestedTexts.{Lacks-tested, bad_side, is_bad, is_empty, several}
 use Rattle.gix_refspec_text.proofs.lemmas.parsing.ReasonLemmas.{bad_destination, bad_negative, fetch_reaches, fetch_source_fine, negative_reaches, no_negative, push_alone_reaches, push_reaches, push_source_fine, reason_against_nothing, reason_against_object, reason_at_destination, reason_at_source, unbalanced_fetch, unbalanced_push}
-use Rattle.gix_refspec_text.proofs.{facts.RefusalFacts.empty_push, lemmas.parsing.ReadsLemmas.refused, lemmas.parsing.SideLemmas.HasStar-pattern}
-use Rattle.gix_refspec_text.proofs.{lemmas.specs.AcceptedLemmas.accepted_balanced, lemmas.specs.FormsBackLemmas.read_back, lemmas.texts.TestedLemmas.IsName-tested}
 
 -- ---- refused texts, which have no reading
 

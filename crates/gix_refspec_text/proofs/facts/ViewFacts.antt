@@ -118,7 +118,7 @@ reasons_with_fields p is = (ap PatternUnsupported (sym is), (λ same. let short 
 
 -- an error doesn't stand for the reason of another
 pub other_reasons : (p : BString) → ¬ (IsShownAs error.Empty NegativeEmpty) × ¬ (IsShownAs error.NegativeEmpty Empty) × ¬ (IsShownAs error.NegativeWithDestination NegativeObjectHash) × ¬ (IsShownAs error.NegativeObjectHash NegativeWithDestination) × ¬ (IsShownAs error.PushToEmpty Empty) × ¬ (IsShownAs error.PatternUnbalanced (PatternUnsupported (bstring_bytes p))) × ¬ (IsShownAs (error.PatternUnsupported p) PatternUnbalanced) × ¬ (IsShownAs (error.ReferenceName LockSuffix) (PatternUnsupported (bstring_bytes p)))
-other_reasons p = ((λ same. cc), (λ same. cc), (λ same. cc), (λ same. cc), (λ same. cc), (λ same. cc), (λ same. cc), λ same. cc)
+other_reasons p = search (arith)
 
 -- errors are the same by variant and field, and texts with several stars by their bytes
 pub same_errors : (p q : BString) → bstring_bytes p ≡ bstring_bytes q → IsSameError (error.PatternUnsupported p) (error.PatternUnsupported q) × IsSameError error.Memory error.Memory × IsSameError (error.ReferenceName LockSuffix) (error.ReferenceName LockSuffix)
