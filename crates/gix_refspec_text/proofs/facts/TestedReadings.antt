@@ -8,8 +8,6 @@ use Rattle.gix_refspec_text.proofs.{lemmas.parsing.ReadOnceLemmas.reads_once, le
 use Rattle.gix_refspec_text.proofs.facts.TestedTexts.{Lacks-tested, a_pattern, is_empty, is_pattern, not_true}
 use Rattle.gix_refspec_text.proofs.lemmas.parsing.ReadsLemmas.{fetch_reads, negative_reads, push_alone_reads, push_reads}
 
--- ---- parts
-
 -- the sign of a text, and what follows it
 abbrev pub sign_of : List ℕ → Mode
 sign_of [] = Normal
@@ -72,8 +70,6 @@ end text = end_of (cut (unsigned text))
 pub parts_of : (text : List ℕ) → AreParts (sign_of text) (source text) (end text) text
 parts_of text = parts_at text (unsigned text) (sign_of text) (cut (unsigned text)) (signed text) (is_cut (unsigned text))
 
--- ---- sides
-
 -- whether a side is empty or a name, or a pattern
 abbrev pub fits : Shape → List ℕ → Bool
 fits Plain [] = true
@@ -104,11 +100,8 @@ a_hash x so = let parts = and_parts (nat_le 40 (length x)) (list_all is_ascii_he
 pub no_hash : (x : List ℕ) → is_hash x ≡ false → ¬ (LooksLikeObjectHash x)
 no_hash x none hash = true≢false (sym (and_from (nat_le 40 (length x)) (list_all is_ascii_hexdigit x) (le-leb 40 (length x) hash.long) (list_all-from_AllPass is_ascii_hexdigit x hash.digits)) ∙ none)
 
--- ---- readings
-
 pub not_empty : (s : List ℕ) → not (is_empty s) ≡ true → s ≢ []
-not_empty (b ∷ s) so same = cc
-not_empty [] so same = false≢true so
+not_empty s so same = grind (arith, false≢true)
 
 -- whether positive parts whose sides have this shape have a reading, and their reading
 abbrev readable : Operation → Shape → Cut → Bool

@@ -18,7 +18,7 @@ no : {P : Type 0} (b : Bool) → Decides b P → b ≡ false → ¬ P
 no b decides none holds = true≢false (sym (decides.1 holds) ∙ none)
 
 both_are : {P Q : Type 0} (p q : Bool) → Decides p P → Decides q Q → Decides (p && q) (P × Q)
-both_are p q a b = ((λ so. let parts = and_parts p q so in (a.0 parts.0, b.0 parts.1)), λ holds. and_from p q (a.1 holds.0) (b.1 holds.1))
+both_are p q a b = grind (arith, and_parts, and_from)
 
 -- texts that differ
 pub differ : (x y : List ℕ) → bytes_eq x y ≡ false → x ≢ y
@@ -37,8 +37,6 @@ all_are P test shows (x ∷ xs) so = let both = and_parts (test x) (list_all tes
 pub none_are : {X : Type 0} (P : X → Type 0) (test : X → Bool) → ((x : X) → test x ≡ false → P x) → (xs : List X) → list_any test xs ≡ false → AllByRecursion P xs
 none_are P test shows [] none = tt
 none_are P test shows (x ∷ xs) none = let both = or_parts (test x) (list_any test xs) none in (shows x both.0, none_are P test shows xs both.1)
-
--- ---- words
 
 begins_is : (w x : List ℕ) → Decides (starts_with nat_eq x w) (BeginsWith w x)
 begins_is w x = let told = starts_is Decides-eqb x w (starts_with nat_eq x w) refl in ((λ so. record { after = drop (length w) x; here = told.0 so }), λ begins. told.1 begins.after begins.here)
@@ -79,8 +77,6 @@ holds_is w x = (contains w x, λ has. holds_after w has.before has.after x has.h
 
 pub holds_not : (w x : List ℕ) → holds w x ≡ false → ¬ (ContainsText w x)
 holds_not w x = no (holds w x) (holds_is w x)
-
--- ---- components
 
 -- the components of a text
 abbrev pub components : List ℕ → List (List ℕ)
@@ -129,8 +125,6 @@ component_is P p x is = (
   λ some. ap (list_any p) (split_again P x some) ∙ passes_back p some.before some.component some.after ((is some.component).1 some.fact),
 )
 
--- ---- faults
-
 -- whether a text is empty
 abbrev pub is_empty : List ℕ → Bool
 is_empty [] = true
@@ -141,8 +135,7 @@ empty_is [] = ((λ so. refl), λ same. refl)
 empty_is (b ∷ x) = ((λ so. absurd (false≢true so)), λ same. absurd (cc))
 
 not_is : {P : Type 0} (b : Bool) → Decides b P → Decides (not b) (¬ P)
-not_is true decides = ((λ so. absurd (false≢true so)), λ none. absurd (none (decides.0 refl)))
-not_is false decides = ((λ so holds. false≢true (decides.1 holds)), λ none. refl)
+not_is b decides = grind (arith, false≢true)
 
 -- whether the text has the fault
 abbrev pub has_fault : List ℕ → Error → Bool
@@ -175,8 +168,6 @@ faultless x e = no (has_fault x e) (fault_is x e)
 
 pub no_name : (x : List ℕ) (e : Error) → has_fault x e ≡ true → ¬ (IsName x)
 no_name x e so name = name e (faulty x e so)
-
--- ---- stars
 
 -- how many stars a text has
 abbrev pub stars : List ℕ → ℕ
@@ -215,8 +206,6 @@ several_at x parts joined so = absurd (false≢true so)
 
 pub several : (x : List ℕ) → are_three (slice_split (λ c. c == star) x) ≡ true → HasSeveralStars x
 several x so = several_at x (slice_split (λ c. c == star) x) (join_with_byte-slice_split star x) so
-
--- ---- bad sides
 
 pub pattern_faultless : (x : List ℕ) (e : Error) → (stars x == 1) ≡ true → has_fault (with_letters x) e ≡ false → ¬ (IsPatternFault (Name e) x)
 pattern_faultless x e one none bad =
