@@ -1,5 +1,5 @@
 -- What a text reads as, computed for texts whose names are plain enough for a test of each byte, so that examples need no witnesses.
-use Rattle.gix_refspec_text.proofs.Common.{◌≡◌, ◌≢◌, ℕ, Bool, true, false, not, ◌==◌, ◌&&◌, nat_le, if◌then◌else◌, List, [], ◌∷◌, ◌++◌, Option, None, Some, length, refl, sym, ap, ◌∙◌, subst}
+use Rattle.gix_refspec_text.proofs.Common.{◌≡◌, ◌≢◌, ℕ, Bool, true, false, not, ◌==◌, ◌&&◌, nat_le, if◌then◌else◌, List, [], ◌∷◌, ◌++◌, Option, None, Some, length, refl, sym, ◌∙◌, subst}
 use Rattle.gix_refspec_text.proofs.Common.{unwrap_or, and_from, bytes_eq, bytes_eq-Decides, arith, list_any, list_all, true≢false, false≢true, eqb-false, eqb-true, and_parts, leb-true, le-leb}
 use Rattle.gix_refspec_text.proofs.Common.{is_ascii_hexdigit, AllPass-from_list_all, list_all-from_AllPass, Operation, Push, Fetch, Shape, Plain, Pattern, Lacks, slash, star, plus, caret, colon, Mode}
 use Rattle.gix_refspec_text.proofs.Common.{Normal, Forced, Negative, Reading, Reads, IsSigned, AreParts, IsPositive, LooksLikeObjectHash, named_by, named_or_head, side_of, fetched, pushed, HasShape}
@@ -18,8 +18,7 @@ unsigned [] = []
 unsigned (b ∷ x) = if b == plus then x else if b == caret then x else b ∷ x
 
 signed : (text : List ℕ) → IsSigned (sign_of text) text (unsigned text)
-signed [] = (refl, tt)
-signed (b ∷ x) = grind (arith, eqb-true, eqb-false)
+signed text = grind (arith, eqb-true, eqb-false)
 
 -- a text whole, or the halves around its last colon
 pub data Cut : Type 0 where
@@ -44,9 +43,7 @@ is_cut [] = (refl, tt)
 is_cut (b ∷ x) = further (b == colon) (cut x) refl (is_cut x)
   where
     further : (p : Bool) (c : Cut) → (b == colon) ≡ p → IsCut x c → IsCut (b ∷ x) (cut_at b p c)
-    further p (halves s d) e is = (ap (λ y. b ∷ y) is.0, is.1)
-    further true (whole s) e is = let same : b ≡ colon = eqb-true b colon e in (cc (same, is.0), is.1)
-    further false (whole s) e is = (ap (λ y. b ∷ y) is.0, (eqb-false b colon e, is.1))
+    further p c e is = grind (arith, eqb-true, eqb-false)
 
 -- the parts of a text
 abbrev pub source_of : Cut → List ℕ
@@ -58,8 +55,7 @@ end_of (whole s) = None
 end_of (halves s d) = Some d
 
 parts_at : (text x : List ℕ) (m : Mode) (c : Cut) → IsSigned m text x → IsCut x c → AreParts m (source_of c) (end_of c) text
-parts_at text x m (whole s) sign is = record { signed = subst (IsSigned m text) (sym is.0) sign; last = is.1 }
-parts_at text x m (halves s d) sign is = record { signed = subst (IsSigned m text) (sym is.0) sign; last = is.1 }
+parts_at text x m c sign is = grind arith
 
 abbrev pub source : List ℕ → List ℕ
 source text = source_of (cut (unsigned text))
@@ -77,9 +73,7 @@ fits Plain (b ∷ x) = not (is_suspect slash (b ∷ x))
 fits Pattern x = is_pattern x
 
 pub fit : (x : List ℕ) (k : Shape) → fits k x ≡ true → HasCheckedShape x k
-fit [] Plain so = tt
-fit (b ∷ x) Plain so = IsName-tested (b ∷ x) (not_true _ so)
-fit x Pattern so = a_pattern x so
+fit x k so = grind (arith, IsName-tested, a_pattern, not_true)
 
 -- whether it has no star, or is a pattern
 abbrev pub starred : Shape → List ℕ → Bool
@@ -87,8 +81,7 @@ starred Plain x = not (list_any (λ c. c == star) x)
 starred Pattern x = is_pattern x
 
 pub star_fit : (x : List ℕ) (k : Shape) → starred k x ≡ true → HasShape x k
-star_fit x Plain so = Lacks-tested star x (not_true _ so)
-star_fit x Pattern so = a_pattern x so
+star_fit x k so = grind (arith, Lacks-tested, a_pattern, not_true)
 
 -- whether it looks like an id
 abbrev pub is_hash : List ℕ → Bool
@@ -138,8 +131,7 @@ same_side (Some x) (Some y) = bytes_eq x y
 same_side x y = false
 
 same_self : (x : Option (List ℕ)) → same_side x x ≡ true
-same_self None = refl
-same_self (Some x) = (bytes_eq-Decides x x).1 refl
+same_self x = grind (arith, bytes_eq-Decides)
 
 pub no_other : {op : Operation} {text : List ℕ} {r q : Reading} → Reads op text r → (same_side r.source q.source && same_side r.destination q.destination) ≡ false → ¬ (Reads op text q)
 no_other {op} {text} {r} {q} reads other also =

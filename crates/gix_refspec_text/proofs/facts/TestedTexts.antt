@@ -131,8 +131,7 @@ is_empty [] = true
 is_empty (b ∷ x) = false
 
 empty_is : (x : List ℕ) → Decides (is_empty x) (x ≡ [])
-empty_is [] = ((λ so. refl), λ same. refl)
-empty_is (b ∷ x) = ((λ so. absurd (false≢true so)), λ same. absurd (cc))
+empty_is x = grind (arith, false≢true)
 
 not_is : {P : Type 0} (b : Bool) → Decides b P → Decides (not b) (¬ P)
 not_is b decides = grind (arith, false≢true)
@@ -181,9 +180,7 @@ pub not_true : (b : Bool) → not b ≡ true → b ≡ false
 not_true b so = grind arith
 
 pub a_pattern : (x : List ℕ) → is_pattern x ≡ true → IsPattern x
-a_pattern x so =
-    let parts = and_parts (stars x == 1) (not (is_suspect slash (with_letters x))) so in
-    pattern_with_letter x (HasOneStar-count_by x (eqb-true (stars x) 1 parts.0)) (IsName-tested (with_letters x) (not_true _ parts.1))
+a_pattern x so = grind (arith, and_parts, pattern_with_letter, HasOneStar-count_by, eqb-true, IsName-tested, not_true)
 
 pub not_one_star : (x : List ℕ) → (stars x == 1) ≡ false → ¬ (HasOneStar x)
 not_one_star x other one = eqb-false (stars x) 1 other (count_by-HasOneStar x one)
@@ -201,8 +198,7 @@ are_three (p ∷ q ∷ r ∷ rest) = true
 are_three parts = false
 
 several_at : (x : List ℕ) (parts : List (List ℕ)) → join_with_byte star parts ≡ x → are_three parts ≡ true → HasSeveralStars x
-several_at x (p ∷ q ∷ r ∷ rest) joined so = record { before = p; between = q; after = join_with_byte star (r ∷ rest); here = sym joined }
-several_at x parts joined so = absurd (false≢true so)
+several_at x parts joined so = grind (arith, false≢true)
 
 pub several : (x : List ℕ) → are_three (slice_split (λ c. c == star) x) ≡ true → HasSeveralStars x
 several x so = several_at x (slice_split (λ c. c == star) x) (join_with_byte-slice_split star x) so
@@ -225,9 +221,4 @@ is_bad x (ReferenceName f) = (not (list_any (λ c. c == star) x) && has_fault x 
 is_bad x e = false
 
 pub bad_side : (x : List ℕ) (e : Refusal) → is_bad x e ≡ true → IsBadName x e ⊎ IsBadPattern x e
-bad_side x (PatternUnsupported p) so = let both = and_parts _ _ so in inr (several x both.0, (bytes_eq-Decides p x).0 both.1)
-bad_side x (ReferenceName f) so = elim (or_cases (not (list_any (λ c. c == star) x) && has_fault x f) ((stars x == 1) && has_fault (with_letters x) f) so) [
-  | inl plain ↦ let both = and_parts _ _ plain in inl (Lacks-tested star x (not_true _ both.0), faulty x f both.1)
-  | inr starry ↦ let both = and_parts _ _ starry in inr (pattern_fault x f both.0 both.1)
-]
-bad_side x e so = absurd (false≢true so)
+bad_side x e so = grind (arith, and_parts, or_cases, several, bytes_eq-Decides, Lacks-tested, not_true, faulty, pattern_fault, false≢true)

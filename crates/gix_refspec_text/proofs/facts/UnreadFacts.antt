@@ -1,7 +1,7 @@
 -- For each condition of the forms a text that breaks it, with the reason to refuse it, so that it has no reading; and
 -- readings that no text has.
-use Rattle.gix_refspec_text.proofs.Common.{◌≢◌, true, not, ◌&&◌, and_parts, unwrap_or, IsPositive, Shape, Lacks, Mode, Plain, Pattern, ◌≡◌, ℕ, List, [], ◌∷◌, None, Some, codes, refl, sym, ◌∙◌, inl}
-use Rattle.gix_refspec_text.proofs.Common.{inr, replicate, Operation, Push, Fetch, star, letter, caret, Normal, Forced, Negative, Reading, fetched, pushed, Reads, IsAccepted, StartsWithDot}
+use Rattle.gix_refspec_text.proofs.Common.{arith, ◌≢◌, true, not, ◌&&◌, and_parts, unwrap_or, IsPositive, Shape, Lacks, Mode, Plain, Pattern, ◌≡◌, ℕ, List, [], ◌∷◌, None, Some, codes, refl, sym, ◌∙◌}
+use Rattle.gix_refspec_text.proofs.Common.{inl, inr, replicate, Operation, Push, Fetch, star, letter, caret, Normal, Forced, Negative, Reading, fetched, pushed, Reads, IsAccepted, StartsWithDot}
 use Rattle.gix_refspec_text.proofs.Common.{InvalidByte, printed, Refusal, NegativeWithDestination, PushToEmpty, PatternUnsupported, ReferenceName, PatternUnbalanced, NegativeEmpty, NegativeObjectHash}
 use Rattle.gix_refspec_text.proofs.Common.{IsFirstReason, IsRefused, Empty}
 use Rattle.gix_refspec_text.proofs.{facts.RefusalFacts.empty_push, lemmas.parsing.ReadsLemmas.refused, lemmas.parsing.SideLemmas.HasStar-pattern}
@@ -71,8 +71,7 @@ other Plain = Pattern
 other Pattern = Plain
 
 differs : (k : Shape) → k ≢ other k
-differs Plain same = cc
-differs Pattern same = cc
+differs k same = grind arith
 
 lone : {text : List ℕ} (k : Shape) → IsPositive (sign_of text) → (fits k (source text) && fits (other k) (unwrap_or (end text) [])) ≡ true → IsRefused Fetch text PatternUnbalanced
 lone {text} k pos so = let both = and_parts _ _ so in because (unbalanced_fetch (sign_of text) (source text) (end text) k (other k) pos (fit (source text) k both.0) (fit _ (other k) both.1) (differs k))
