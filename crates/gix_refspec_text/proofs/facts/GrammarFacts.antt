@@ -94,7 +94,9 @@ updates_x = (reads Plain tt refl, reads Plain tt refl)
 
 -- a pattern, a name, `@`, a `+` that isn't a sign, and a text that is almost an id
 pub fetches_without : Reads Fetch (codes "^refs/heads/dev-*") (fetched Negative (codes "refs/heads/dev-*") None) × Reads Fetch (codes "^main") (fetched Negative (codes "main") None) × Reads Fetch (codes "^@") (fetched Negative (codes "HEAD") None) × Reads Fetch (codes "^+main") (fetched Negative (codes "+main") None) × Reads Fetch (caret ∷ replicate 39 letter) (fetched Negative (replicate 39 letter) None)
-fetches_without = (excludes Pattern refl refl, excludes Plain refl refl, excludes Plain refl refl, excludes Plain refl refl, excludes Plain refl refl)
+fetches_without = (
+  excludes Pattern refl refl, excludes Plain refl refl, excludes Plain refl refl, excludes Plain refl refl, excludes Plain refl refl,
+)
 
 -- ---- forms of a push
 

@@ -88,7 +88,11 @@ pub manual : Says Fetch (codes "+refs/heads/*:refs/remotes/origin/*") (fetch_and
     × Says Push (codes "+dev:master") (push_matching (codes "dev") (codes "master") true)
     × Says Push (codes ":experimental") (push_delete (codes "experimental")) × Says Push (codes ":") (push_all_matching false)
     × Says Push (codes "^refs/heads/dev-*") (push_exclude (codes "refs/heads/dev-*"))
-manual = ((_, reads Pattern tt refl, refl), (_, reads Plain tt refl, refl), (_, reads Plain tt refl, refl), (_, reads Plain tt refl, refl), (_, reads Plain tt refl, refl), (_, reads Plain tt refl, refl), (_, reads Plain tt refl, refl), (_, pushes_colon Normal refl tt (parts_of (codes ":")) refl, refl), (_, excludes Pattern refl refl, refl))
+manual = (
+  (_, reads Pattern tt refl, refl), (_, reads Plain tt refl, refl), (_, reads Plain tt refl, refl), (_, reads Plain tt refl, refl),
+  (_, reads Plain tt refl, refl), (_, reads Plain tt refl, refl), (_, reads Plain tt refl, refl),
+  (_, pushes_colon Normal refl tt (parts_of (codes ":")) refl, refl), (_, excludes Pattern refl refl, refl),
+)
 
 -- the canonical texts of these
 pub texts : map text_of (push_matching (codes "master") (codes "master") false ∷ push_matching (codes "dev") (codes "master") true
@@ -110,7 +114,9 @@ full_name_matches = record { kind = full_name (codes "refs/heads/main"); of = se
 pub full_name_differs : ((word : List ℕ) → ¬ (MatchesAs (full_name (codes "refs/heads/main")) (named (codes "refs/heads/main")) (Some word)))
     × ¬ (MatchesAs (full_name (codes "refs/heads/main")) (named (codes "refs/heads/main2")) None)
     × ¬ (MatchesAs (full_name (codes "refs/heads/main")) (named (codes "refs/heads/mai")) None)
-full_name_differs = ((λ word matches. some_none word matches.0), (λ matches. differ _ _ refl matches.1), λ matches. differ _ _ refl matches.1)
+full_name_differs = (
+  (λ word matches. some_none word matches.0), (λ matches. differ _ _ refl matches.1), λ matches. differ _ _ refl matches.1,
+)
 
 -- a tag with the first id, of an object with the second
 abbrev tag : Ref

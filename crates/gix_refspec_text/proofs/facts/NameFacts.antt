@@ -48,7 +48,10 @@ patterns = all_are IsPattern is_pattern a_pattern starry_names refl
 -- with the letter for the star these aren't names: a component begins with a dot, the text ends with a slash, and a
 -- component ends with `.lock`
 pub stars_in_bad_names : IsPatternFault (Name StartsWithDot) (codes "a/.*") × IsPatternFault (Name EmptyComponent) (codes "*/") × IsPatternFault (Name LockSuffix) (codes "a/*.lock")
-stars_in_bad_names = (pattern_fault (codes "a/.*") StartsWithDot refl refl, pattern_fault (codes "*/") EmptyComponent refl refl, pattern_fault (codes "a/*.lock") LockSuffix refl refl)
+stars_in_bad_names = (
+  pattern_fault (codes "a/.*") StartsWithDot refl refl, pattern_fault (codes "*/") EmptyComponent refl refl,
+  pattern_fault (codes "a/*.lock") LockSuffix refl refl,
+)
 
 bad_pattern : (x : List ℕ) (e : Error) → IsPatternFault (Name e) x → ¬ (IsPattern x)
 bad_pattern x e bad pattern = pattern_fine x pattern (ReferenceName e) bad

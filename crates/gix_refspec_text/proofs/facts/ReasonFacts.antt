@@ -15,7 +15,10 @@ use Rattle.gix_refspec_text.proofs.facts.TestedTexts.{Lacks-tested, contains, fa
 
 -- a text with exactly one star, and texts without one and with two
 pub one_star_alone : HasOneStar (codes "a*b") × IsSplit (codes "a") (codes "b") (codes "a*b") × ¬ (HasOneStar (codes "ab")) × ¬ (HasOneStar (codes "a*b*")) × ¬ (HasOneStar (codes "b"))
-one_star_alone = (HasOneStar-count_by (codes "a*b") refl, IsSplit-tested (codes "a") (codes "b") refl refl, not_one_star (codes "ab") refl, not_one_star (codes "a*b*") refl, not_one_star (codes "b") refl)
+one_star_alone = (
+  HasOneStar-count_by (codes "a*b") refl, IsSplit-tested (codes "a") (codes "b") refl refl, not_one_star (codes "ab") refl,
+  not_one_star (codes "a*b*") refl, not_one_star (codes "b") refl,
+)
 
 -- ---- names and patterns
 

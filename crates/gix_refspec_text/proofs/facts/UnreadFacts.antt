@@ -27,7 +27,9 @@ negative_with : (op : Operation) (s d : List ℕ) → IsFirstReason op Negative 
 negative_with op s d = inr ((λ e empty. some_none d empty.no_colon), inl (record { negative = refl; colon = refl; refusal = refl }))
 
 pub negatives_to_somewhere : (op : Operation) → IsRefused op (codes "^a:b") NegativeWithDestination × IsRefused op (codes "^:") NegativeWithDestination × IsRefused op (codes "^a:") NegativeWithDestination
-negatives_to_somewhere op = (because (negative_with op (codes "a") (codes "b")), because (negative_with op [] []), because (negative_with op (codes "a") []))
+negatives_to_somewhere op = (
+  because (negative_with op (codes "a") (codes "b")), because (negative_with op [] []), because (negative_with op (codes "a") []),
+)
 
 -- a push of a source to nothing
 pub pushed_nowhere : IsRefused Push (codes "a:") PushToEmpty × IsRefused Push (codes "+a:") PushToEmpty
@@ -60,7 +62,10 @@ bad_end {text} {e} k pos so =
 
 -- a destination that isn't a name, with a source and without, and one that isn't a pattern
 pub bad_destinations : IsRefused Fetch (codes "a:b c") (ReferenceName (InvalidByte 32)) × IsRefused Fetch (codes ":b c") (ReferenceName (InvalidByte 32)) × IsRefused Push (codes "a:b c") (ReferenceName (InvalidByte 32)) × IsRefused Push (codes ":b c") (ReferenceName (InvalidByte 32)) × IsRefused Fetch (codes "a*:b*c*") (PatternUnsupported (codes "b*c*"))
-bad_destinations = (bad_end Plain tt refl, bad_end Plain tt refl, because (spaced (codes "a") (Lacks-tested star (codes "a") refl)), because (spaced [] tt), bad_end Pattern tt refl)
+bad_destinations = (
+  bad_end Plain tt refl, bad_end Plain tt refl, because (spaced (codes "a") (Lacks-tested star (codes "a") refl)), because (spaced [] tt),
+  bad_end Pattern tt refl,
+)
   where
     spaced : (s : List ℕ) → Lacks star s → IsFirstReason Push Normal s (Some (codes "b c")) (ReferenceName (InvalidByte 32))
     spaced s plain = reason_at_destination Push Normal s (Some (codes "b c")) _ (push_reaches Normal s (codes "b c") tt (λ some empty. full _ _ empty)) (push_source_fine s (codes "b c") Plain plain) (bad_destination (Some (codes "b c")) _ (full _ _, bad_side (codes "b c") (ReferenceName (InvalidByte 32)) refl))
@@ -81,11 +86,16 @@ lone_push s b d k so = let both = and_parts _ _ so in unbalanced_push Normal s (
 
 -- a star on only one side, also if the other is missing
 pub unbalanced_fetches : IsRefused Fetch (codes "a*:b") PatternUnbalanced × IsRefused Fetch (codes "b:a*") PatternUnbalanced × IsRefused Fetch (codes ":a*") PatternUnbalanced × IsRefused Fetch (codes "a*:") PatternUnbalanced × IsRefused Fetch (codes "+a*") PatternUnbalanced × IsRefused Fetch (codes "a*") PatternUnbalanced
-unbalanced_fetches = (lone Pattern tt refl, lone Plain tt refl, lone Plain tt refl, lone Pattern tt refl, lone Pattern tt refl, lone Pattern tt refl)
+unbalanced_fetches = (
+  lone Pattern tt refl, lone Plain tt refl, lone Plain tt refl, lone Pattern tt refl, lone Pattern tt refl, lone Pattern tt refl,
+)
 
 -- the same in a push, which may have a source alone, though
 pub pushes_of_one_star : IsRefused Push (codes "a*:b") PatternUnbalanced × IsRefused Push (codes "b:a*") PatternUnbalanced × IsRefused Push (codes ":a*") PatternUnbalanced
-pushes_of_one_star = (because (lone_push (codes "a*") 98 [] Pattern refl), because (lone_push (codes "b") 97 (codes "*") Plain refl), because (lone_push [] 97 (codes "*") Plain refl))
+pushes_of_one_star = (
+  because (lone_push (codes "a*") 98 [] Pattern refl), because (lone_push (codes "b") 97 (codes "*") Plain refl),
+  because (lone_push [] 97 (codes "*") Plain refl),
+)
 
 bad_excluded : (op : Operation) (s : List ℕ) (e : Refusal) → (not (is_empty s) && is_bad s e) ≡ true → IsFirstReason op Negative s None e
 bad_excluded op s e so = let both = and_parts _ _ so in reason_at_source op Negative s None e (negative_reaches op s) (bad_negative op s e (not_empty s both.0, bad_side s e both.1))
