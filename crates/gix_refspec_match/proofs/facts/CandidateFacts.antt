@@ -1,14 +1,11 @@
--- Which of its candidates a partial source takes among refs: the first that is there by the order of
--- gitrevisions(7), and not the first in the list of refs.
-use Rattle.gix_refspec_match.proofs.Common.{List, [], ◌∷◌, None, Some, codes, refl, ◌≡◌, ℕ, Option, sym, arith, inl, inr, ◌≢◌, ap, length, same_Some, AllByRecursion, taken_by_first, first_once, FirstCandidate}
+-- Which candidate a partial source takes: the first by gitrevisions(7) that is there, not the first in the list of refs.
+use Rattle.gix_refspec_match.proofs.Common.{List, [], ◌∷◌, None, Some, codes, refl, ◌≡◌, ℕ, Option, arith, inl, inr, ◌≢◌, ap, length, AllByRecursion, taken_by_first, first_once, FirstCandidate}
 use Rattle.gix_refspec_match.proofs.Common.{fetched, star, Ref, Matches, Takes, HasName, IsFirstCandidate, HasKind, full_name, Excludes, partial, by_pattern, Normal, Negative, Reading, IsMadeFrom, Ends}
-use Rattle.gix_refspec_match.proofs.Common.{AreForwardEnds, AreBackwardEnds, Hit, IsHit, AreSpecHits, IsIdMapping, AreKeptForward, AreKeptBackward, IsExcluded, IsKeptAt, HasPair}
-use Rattle.gix_refspec_text.proofs.facts.ManualFacts.{Lacks-tested, named}
+use Rattle.gix_refspec_match.proofs.Common.{AreForwardEnds, Hit, IsHit, AreSpecHits, IsIdMapping, AreKeptForward, AreKeptBackward, IsExcluded}
+use Rattle.gix_refspec_text.proofs.facts.{ManualFacts.Lacks-tested, ManualFacts.named, SideFacts.partial_matches}
 use Rattle.gix_refspec_text.proofs.facts.FitFacts.{below_tags, short_kind, short_no_id}
-use Rattle.gix_refspec_match.proofs.facts.MatchFacts.{mapping, main_candidate, no_main_id}
-use Rattle.gix_refspec_text.proofs.facts.SideFacts.{partial_matches}
+use Rattle.gix_refspec_match.proofs.facts.MatchFacts.{mapping, main_candidate, no_main_id, not_had}
 
--- a branch and a tag of one name, and the name by itself
 abbrev pub main_branch : Ref
 main_branch = named (codes "refs/heads/main")
 
@@ -18,7 +15,6 @@ main_tag = named (codes "refs/tags/main")
 abbrev just_main : Ref
 just_main = named (codes "main")
 
--- the branch is before the tag
 abbrev pub branch_and_tag : List Ref
 branch_and_tag = main_branch ∷ main_tag ∷ []
 
@@ -28,38 +24,30 @@ no_name [] n all has = has
 no_name (r ∷ refs) n (other, others) (inl same) = other (ap length same)
 no_name (r ∷ refs) n (other, others) (inr has) = no_name refs n others has
 
-no_main : ¬ (HasName branch_and_tag (codes "main"))
-no_main = no_name branch_and_tag (codes "main") (omega arith)
-
-no_refs_main : ¬ (HasName branch_and_tag (codes "refs/main"))
-no_refs_main = no_name branch_and_tag (codes "refs/main") (omega arith)
-
 -- of a branch and a tag, the tag is the first candidate, wherever it is
 pub tag_first : IsFirstCandidate branch_and_tag (codes "main") (codes "refs/tags/main")
-tag_first = record { earlier = codes "main" ∷ codes "refs/main" ∷ []; later = _; here = refl; absent = (no_main, (no_refs_main, tt)); present = inr (inl refl) }
-
-no_tag : codes "refs/tags/main" ≢ codes "refs/heads/main"
-no_tag same = omega (arith, ap length same)
+tag_first = record { earlier = codes "main" ∷ codes "refs/main" ∷ []; later = _; here = refl; absent = search (arith, no_name branch_and_tag); present = inr (inl refl) }
 
 -- so the branch isn't the first, nor is a name that no ref has
 pub no_other_first : ¬ (IsFirstCandidate branch_and_tag (codes "main") (codes "refs/heads/main")) × ¬ (IsFirstCandidate branch_and_tag (codes "main") (codes "main")) × ¬ (IsFirstCandidate [] (codes "main") (codes "refs/tags/main"))
-no_other_first = ((λ first. no_tag (first_once branch_and_tag (codes "main") (codes "refs/tags/main") (codes "refs/heads/main") tag_first first)), (λ first. no_main first.present), λ first. first.present)
+no_other_first = (
+  (λ first. omega (arith, ap length (first_once branch_and_tag (codes "main") (codes "refs/tags/main") (codes "refs/heads/main") tag_first first))),
+  (λ first. no_name branch_and_tag (codes "main") (omega arith) first.present),
+  λ first. first.present,
+)
 
--- the name by itself is before all others
 pub itself_first : IsFirstCandidate (main_branch ∷ main_tag ∷ just_main ∷ []) (codes "main") (codes "main")
 itself_first = record { earlier = []; later = _; here = refl; absent = tt; present = inr (inr (inl refl)) }
 
 -- the last candidate is the first where it is there alone
 pub head_of_remote : IsFirstCandidate (named (codes "refs/remotes/x/HEAD") ∷ []) (codes "x") (codes "refs/remotes/x/HEAD")
-head_of_remote =
-    let other = no_name (named (codes "refs/remotes/x/HEAD") ∷ []) in
-    record {
-      earlier = codes "x" ∷ codes "refs/x" ∷ codes "refs/tags/x" ∷ codes "refs/heads/x" ∷ codes "refs/remotes/x" ∷ [];
-      later = [];
-      here = refl;
-      absent = (other (codes "x") (omega arith), (other (codes "refs/x") (omega arith), (other (codes "refs/tags/x") (omega arith), (other (codes "refs/heads/x") (omega arith), (other (codes "refs/remotes/x") (omega arith), tt)))));
-      present = inl refl;
-    }
+head_of_remote = record {
+  earlier = codes "x" ∷ codes "refs/x" ∷ codes "refs/tags/x" ∷ codes "refs/heads/x" ∷ codes "refs/remotes/x" ∷ [];
+  later = [];
+  here = refl;
+  absent = search (arith, no_name (named (codes "refs/remotes/x/HEAD") ∷ []));
+  present = inl refl;
+}
 
 -- the source takes the tag, and not the branch, though it matches both
 pub takes_the_tag : Takes branch_and_tag (codes "main") main_tag None × ((word : Option (List ℕ)) → ¬ (Takes branch_and_tag (codes "main") main_branch word)) × Matches (codes "main") main_branch None
@@ -76,21 +64,15 @@ takes = (
   λ word taken. partial_matches.2 word taken.matches,
 )
 
--- from the law: a caller with a branch and a tag gets the tag alone
-pub tag_concluded : FirstCandidate (codes "main") branch_and_tag → (r : Ref) (word : Option (List ℕ)) → Takes branch_and_tag (codes "main") r word → r.name ≡ codes "refs/tags/main"
-tag_concluded law r word takes = let first = law short_kind.1 short_kind.2 short_kind.3 in first.one r.name (codes "refs/tags/main") ((first.takes r).0 (word, takes)) tag_first
+-- from the law: a caller with a branch and a tag gets the tag alone, and one with a ref of some candidate gets one
+pub concluded : FirstCandidate (codes "main") branch_and_tag
+    → ((r : Ref) (word : Option (List ℕ)) → Takes branch_and_tag (codes "main") r word → r.name ≡ codes "refs/tags/main")
+    × ((m : List ℕ) × IsFirstCandidate branch_and_tag (codes "main") m) × ((word : Option (List ℕ)) × Takes branch_and_tag (codes "main") main_tag word)
+concluded law =
+    let first = law short_kind.1 short_kind.2 short_kind.3 in
+    let one = λ (r : Ref) (word : Option (List ℕ)) (takes : Takes branch_and_tag (codes "main") r word). first.one r.name _ ((first.takes r).0 (word, takes)) tag_first in
+    (one, first.some (codes "refs/heads/main") main_candidate (inl refl), (first.takes main_tag).1 tag_first)
 
--- and one with a ref of some candidate gets one
-pub some_concluded : FirstCandidate (codes "main") branch_and_tag → (m : List ℕ) × IsFirstCandidate branch_and_tag (codes "main") m
-some_concluded law = (law short_kind.1 short_kind.2 short_kind.3).some (codes "refs/heads/main") main_candidate (inl refl)
-
--- by the law the tag is taken
-pub tag_taken_by_law : FirstCandidate (codes "main") branch_and_tag → (word : Option (List ℕ)) × Takes branch_and_tag (codes "main") main_tag word
-tag_taken_by_law law = ((law short_kind.1 short_kind.2 short_kind.3).takes main_tag).1 tag_first
-
--- ---- what is mapped
-
--- a partial source with a destination
 abbrev pub main_to_x : Reading
 main_to_x = fetched Normal (codes "main") (Some (codes "refs/x"))
 
@@ -100,21 +82,17 @@ main_ends = record { near = codes "main"; far = Some (codes "refs/x") }
 abbrev tag_hit : Hit
 tag_hit = record { spec = 0; item = 1; near = codes "refs/tags/main"; far = Some (codes "refs/x") }
 
--- without the tags
 abbrev pub no_tags : Reading
 no_tags = fetched Negative (codes "refs/tags/*") None
 
 pub x_kind : HasKind (codes "refs/x") (full_name (codes "refs/x"))
 x_kind = (refl, Lacks-tested star (codes "refs/x") refl, record { after = codes "x"; here = refl })
 
-branch_not_taken : (hit : Hit) → ¬ (IsHit (Takes branch_and_tag) main_ends 0 0 main_branch hit)
-branch_not_taken hit is = takes_the_tag.1 is.word is.takes
-
 tag_taken : IsHit (Takes branch_and_tag) main_ends 0 1 main_tag tag_hit
 tag_taken = record { word = None; takes = takes_the_tag.0; far = (full_name (codes "refs/x"), x_kind, refl); near = refl; spec = refl; item = refl }
 
 main_hits : AreSpecHits AreForwardEnds (Takes branch_and_tag) branch_and_tag 0 main_to_x (tag_hit ∷ [])
-main_hits = inl (main_ends, record { positive = tt; near = refl; far = refl; no_object = λ bytes kind. short_no_id bytes kind.2 }, (None, tag_hit ∷ [], branch_not_taken, (Some tag_hit, [], tag_taken, refl, refl), refl))
+main_hits = inl (main_ends, record { positive = tt; near = refl; far = refl; no_object = λ bytes kind. short_no_id bytes kind.2 }, (None, tag_hit ∷ [], (λ hit is. takes_the_tag.1 is.word is.takes), (Some tag_hit, [], tag_taken, refl, refl), refl))
 
 pub not_excluded : (n : List ℕ) → ¬ (IsExcluded (main_to_x ∷ []) n)
 not_excluded n by = grind arith
@@ -140,9 +118,6 @@ maps_no_branch =
       is = (None, [], (λ m stays. stays.1.included (inr (inl (record { negative = refl; text = _; source = refl; excludes = tags_excluded })))), refl, refl);
     }
 
--- ---- from right to left
-
--- a partial destination, to which both names are matched
 abbrev q_to_main : Reading
 q_to_main = fetched Normal (codes "refs/q") (Some (codes "main"))
 
@@ -158,28 +133,14 @@ q_hit item r = record { spec = 0; item = item; near = r.name; far = Some (codes 
 tracked_at : (item : ℕ) (r : Ref) → Matches (codes "main") r None → IsHit Matches q_ends 0 item r (q_hit item r)
 tracked_at item r matches = record { word = None; takes = matches; far = (full_name (codes "refs/q"), q_kind, refl); near = refl; spec = refl; item = refl }
 
-tag_matches : Matches (codes "main") main_tag None
-tag_matches = takes_the_tag.0.matches
-
-q_not_excluded : (n : List ℕ) → ¬ (IsExcluded (q_to_main ∷ []) n)
-q_not_excluded n by = grind arith
-
-no_branch_pair : ¬ (HasPair (mapping 0 (codes "refs/q") (Some (codes "refs/heads/main")) 0 ∷ []) (mapping 1 (codes "refs/q") (Some (codes "refs/tags/main")) 0))
-no_branch_pair (inl same) = no_tag (same_Some (codes "refs/tags/main") (codes "refs/heads/main") (sym same.destination))
-no_branch_pair (inr none) = none
-
 -- the branch and the tag are both mapped back, in the order of the list
 pub tracks_both : AreKeptBackward (q_to_main ∷ []) branch_and_tag (mapping 0 (codes "refs/q") (Some (codes "refs/heads/main")) 0 ∷ mapping 1 (codes "refs/q") (Some (codes "refs/tags/main")) 0 ∷ [])
 tracks_both =
-    let branch = mapping 0 (codes "refs/q") (Some (codes "refs/heads/main")) 0 in
-    let tag = mapping 1 (codes "refs/q") (Some (codes "refs/tags/main")) 0 in
     let hits = q_hit 0 main_branch ∷ q_hit 1 main_tag ∷ [] in
     let taken : IsMadeFrom (IsHit Matches q_ends 0) 0 branch_and_tag hits =
-    (Some (q_hit 0 main_branch), q_hit 1 main_tag ∷ [], tracked_at 0 main_branch takes_the_tag.2, (Some (q_hit 1 main_tag), [], tracked_at 1 main_tag tag_matches, refl, refl), refl) in
-    let has : AreBackwardEnds q_to_main q_ends = record { positive = tt; near = refl; far = refl; both = refl } in
-    let last : IsKeptAt (q_to_main ∷ []) (branch ∷ tag ∷ []) 1 tag = record { first = no_branch_pair; included = q_not_excluded (codes "refs/q") } in
+    (Some _, _, tracked_at 0 main_branch takes_the_tag.2, (Some _, [], tracked_at 1 main_tag takes_the_tag.0.matches, refl, refl), refl) in
     record {
-      all = branch ∷ tag ∷ [];
-      backward = record { hits = hits; are_hits = (hits, [], inl (q_ends, has, taken), refl, refl); all = refl };
-      is = (Some branch, tag ∷ [], (refl, record { first = λ none. none; included = q_not_excluded (codes "refs/q") }), (Some tag, [], (refl, last), refl, refl), refl);
+      all = _;
+      backward = record { hits = hits; are_hits = (hits, [], inl (q_ends, record { positive = tt; near = refl; far = refl; both = refl }, taken), refl, refl); all = refl };
+      is = (Some _, _, (refl, record { first = λ none. none; included = λ by. grind arith }), (Some _, [], (refl, record { first = not_had refl; included = λ by. grind arith }), refl, refl), refl);
     }

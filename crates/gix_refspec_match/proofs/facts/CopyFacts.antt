@@ -1,5 +1,5 @@
 -- The words on names that are borrowed or owned, and on copies: which of both kinds they hold of.
-use Rattle.gix_refspec_match.proofs.Common.{None, Some, ◌≡◌, ℕ, Option, inl, inr, bstr_bytes, ObjectId, IsBorrowed, IsOwned, IsLent, IsOwnedSource, HasOwned, IsNameCopy, IsSourceCopy, IsDestinationCopy}
+use Rattle.gix_refspec_match.proofs.Common.{None, Some, ◌≡◌, ℕ, Option, arith, inl, inr, bstr_bytes, ObjectId, IsBorrowed, IsOwned, IsLent, IsOwnedSource, HasOwned, IsNameCopy, IsSourceCopy, IsDestinationCopy}
 use Rattle.gix_refspec_match.proofs.Common.{IsMappingCopy, Mapping, NameRef}
 use Rattle.bstr.specs.{Owned.bstring_bytes, declared.bstr.BStr.BStr, declared.bstring.BString.BString}
 use Rattle.gix_refspec_match.specs.declared.types.{NameRef.TheVariants.Borrowed, NameRef.TheVariants.Owned, SourceRef.TheVariants.FullName, SourceRef.TheVariants.ObjectId as IdSource}
@@ -18,15 +18,7 @@ pub owned_sides : (b : BStr) (o : BString) (i : ObjectId) (item : Option ℕ) (s
     × HasOwned (record { item_index = item; lhs = IdSource i; rhs = Some (Owned o); spec_index = spec })
     × ¬ (HasOwned (record { item_index = item; lhs = FullName (Borrowed b); rhs = Some (Borrowed b); spec_index = spec }))
     × ¬ (HasOwned (record { item_index = item; lhs = IdSource i; rhs = None; spec_index = spec }))
-owned_sides b o i item spec = (inl tt, inr tt, none_borrowed, none_at_all)
-  where
-    none_borrowed : ¬ (HasOwned (record { item_index = item; lhs = FullName (Borrowed b); rhs = Some (Borrowed b); spec_index = spec }))
-    none_borrowed (inl source) = source
-    none_borrowed (inr destination) = destination
-
-    none_at_all : ¬ (HasOwned (record { item_index = item; lhs = IdSource i; rhs = None; spec_index = spec }))
-    none_at_all (inl source) = source
-    none_at_all (inr destination) = destination
+owned_sides b o i item spec = (inl tt, inr tt, (λ owned. grind arith), λ owned. grind arith)
 
 -- a copy has the same bytes, and is borrowed where its original is
 pub name_copies : (b c : BStr) (o p : BString) → (IsNameCopy (Borrowed b) (Borrowed c) → bstr_bytes c ≡ bstr_bytes b) × (IsNameCopy (Owned o) (Owned p) → bstring_bytes p ≡ bstring_bytes o) × ¬ (IsNameCopy (Borrowed b) (Owned o)) × ¬ (IsNameCopy (Owned o) (Borrowed b))

@@ -1,14 +1,11 @@
--- The words on hits and mappings on the other side of their border: which specs have no such ends, which
--- items no hit, and which mappings no place.
-use Rattle.gix_refspec_match.proofs.Common.{List, [], ◌∷◌, None, Some, codes, refl, ◌≡◌, ℕ, Option, arith, inl, inr, subst, false≢true, same_Some, prefix_begins, of_name, fetched, pushed, star, Ref, Matches}
+-- The words on hits and mappings: which specs have no such ends, which items no hit, and which mappings no place.
+use Rattle.gix_refspec_match.proofs.Common.{List, [], ◌∷◌, None, Some, codes, refl, ◌≡◌, ℕ, Option, arith, inl, inr, false≢true, same_Some, fetched, pushed, star, Ref, Matches, full_name, rules, First, ap, length}
 use Rattle.gix_refspec_match.proofs.Common.{Takes, pattern, HasKind, Normal, Forced, Negative, IsMadeFrom, Ends, AreForwardEnds, AreBackwardEnds, IsFilled, Hit, IsHit, AreSpecHits, AreHits, forward_of}
 use Rattle.gix_refspec_match.proofs.Common.{backward_of, IsIdMapping, AreBackward, name, id, Mapped, IsExcludedBy, IsExcluded, IsKeptAt, IsKept, IsSamePair}
-use Rattle.gix_refspec_match.proofs.lemmas.lists.JoinLemmas.{nothing_made}
-use Rattle.gix_refspec_text.proofs.facts.{FaultFacts.begins_not, ManualFacts.Lacks-tested, ManualFacts.other_length, ManualFacts.none_some, ManualFacts.some_none, ObjectIdFacts.empty_blob}
-use Rattle.gix_refspec_text.proofs.facts.FitFacts.{every, no_dev, excludes_dev, short, blob, blob_kind, dev_ref, main_ref}
+use Rattle.gix_refspec_match.proofs.lemmas.{hits.HitLemmas.matches_as, hits.HitLemmas.one_pair, lists.JoinLemmas.nothing_made}
+use Rattle.gix_refspec_text.proofs.facts.{ManualFacts.Lacks-tested, ManualFacts.other_length, ManualFacts.none_some, ManualFacts.some_none, ObjectIdFacts.empty_blob}
+use Rattle.gix_refspec_text.proofs.facts.FitFacts.{every, no_dev, excludes_dev, short, blob, blob_kind, dev_ref, main_ref, below_tags}
 use Rattle.gix_refspec_match.proofs.facts.MatchFacts.{blob_mapping, mapping, tag_to_x, tag_again, no_blob_ends, no_main_id, forward_ends, backward_ends, are_forward_ends, hit_by, taken_by}
-
--- ---- exclusions
 
 -- a negative spec excludes wherever it is, and a positive one doesn't, nor one without a source
 pub exclusions : IsExcluded (no_dev ∷ every ∷ []) (codes "refs/heads/dev-a") × ¬ (IsExcluded (every ∷ []) (codes "refs/heads/dev-a")) × ¬ (IsExcluded [] (codes "refs/heads/dev-a")) × ¬ (IsExcludedBy (codes "a") (pushed Negative None (Some (codes "a"))))
@@ -16,12 +13,13 @@ exclusions = (inl (record { negative = refl; text = _; source = refl; excludes =
 
 -- of two equal pairs the first is kept, and of a list only what is before counts
 pub stays_first : IsKeptAt [] (tag_to_x ∷ tag_again ∷ []) 0 tag_to_x × ¬ (IsKeptAt [] (tag_to_x ∷ tag_again ∷ []) 1 tag_again) × IsKept [] (tag_to_x ∷ tag_again ∷ []) (tag_to_x ∷ [])
-stays_first =
-    let same : IsSamePair tag_to_x tag_again = record { source = refl; destination = refl } in
-    let first : IsKeptAt [] (tag_to_x ∷ tag_again ∷ []) 0 tag_to_x = record { first = λ none. none; included = λ none. none } in
-    (first, (λ stays. stays.first (inl same)), (Some tag_to_x, [], (refl, first), (None, [], (λ m made. made.1.first (inl same)), refl, refl), refl))
+stays_first = (first, (λ stays. stays.first (inl same)), (Some tag_to_x, [], (refl, first), (None, [], (λ m made. made.1.first (inl same)), refl, refl), refl))
+  where
+    same : IsSamePair tag_to_x tag_again
+    same = record { source = refl; destination = refl }
 
--- ---- ends
+    first : IsKeptAt [] (tag_to_x ∷ tag_again ∷ []) 0 tag_to_x
+    first = record { first = λ none. none; included = λ none. none }
 
 -- a source alone is near, of a push too, but not that of a negative spec, nor an id, nor is a destination
 pub forward_ends_of : AreForwardEnds every forward_ends × AreForwardEnds (pushed Normal (Some (codes "refs/x/a")) None) (record { near = codes "refs/x/a"; far = None })
@@ -41,14 +39,12 @@ blob_back = record { near = codes "refs/tags/blob"; far = Some (codes "e69de29bb
 pub backward_ends_of : AreBackwardEnds every backward_ends × AreBackwardEnds (pushed Normal (Some (codes "a")) (Some (codes "b"))) (record { near = codes "b"; far = Some (codes "a") }) × AreBackwardEnds blob blob_back
     × ((ends : Ends) → ¬ (AreBackwardEnds no_dev ends) × ¬ (AreBackwardEnds short ends) × ¬ (AreBackwardEnds (pushed Normal None (Some (codes "a"))) ends) × ¬ (AreBackwardEnds (fetched Negative (codes "a") (Some (codes "b"))) ends)) × ¬ (AreBackwardEnds every forward_ends)
 backward_ends_of = (
-  record { positive = tt; near = refl; far = refl; both = refl },
-  record { positive = tt; near = refl; far = refl; both = refl },
-  record { positive = tt; near = refl; far = refl; both = refl },
+  search rules,
+  search rules,
+  search rules,
   (λ ends. ((λ are. are.positive), (λ are. none_some ends.near are.near), (λ are. false≢true (rw (← are.far) at are.both)), λ are. are.positive)),
   λ are. other_length _ _ (λ size. omega (arith, size)) (same_Some (codes "refs/remotes/origin/*") (codes "refs/heads/*") are.near),
 )
-
--- ---- hits
 
 abbrev pub x_side : List ℕ
 x_side = codes "refs/x/*"
@@ -79,15 +75,16 @@ hits_by_spec = (of_spec 0, of_spec 1, inl (forward_ends, are_forward_ends, taken
 
 -- a spec that takes an item has its hit, and one without such ends has none
 pub spec_hits : ¬ (AreSpecHits AreForwardEnds (Takes (main_ref ∷ [])) (main_ref ∷ []) 0 every []) × AreSpecHits AreForwardEnds (Takes branches) branches 0 no_dev [] × ¬ (AreSpecHits AreForwardEnds (Takes branches) branches 0 no_dev (of_spec 0))
-spec_hits = (missing, inr ((λ ends are. are.positive), refl), λ hits. grind arith)
+spec_hits = (
+  missing,
+  inr ((λ ends are. are.positive), refl),
+  λ hits. grind arith,
+)
   where
     missing : ¬ (AreSpecHits AreForwardEnds (Takes (main_ref ∷ [])) (main_ref ∷ []) 0 every [])
     missing (inl (ends, are, made)) =
-        let near = same_Some (codes "refs/heads/*") ends.near are.near in
-        let is = taken_by (main_ref ∷ []) 0 0 (codes "main") in
-        let takes = subst (λ (x : List ℕ). Takes (main_ref ∷ []) x main_ref is.word) near is.takes in
-        let filled = subst (λ (far : Option (List ℕ)). IsFilled far is.word (Some (codes "refs/remotes/origin/main"))) are.far is.far in
-        nothing_made (IsHit (Takes (main_ref ∷ [])) ends 0) 0 [] main_ref [] (hit_by 0 0 (codes "main")) made (record { word = is.word; takes = takes; far = filled; near = refl; spec = refl; item = refl })
+        let made_so = rw (one_pair First every ends forward_ends are are_forward_ends) at made in
+        nothing_made (IsHit (Takes (main_ref ∷ [])) forward_ends 0) 0 [] main_ref [] (hit_by 0 0 (codes "main")) made_so (taken_by (main_ref ∷ []) 0 0 (codes "main"))
     missing (inr (no_ends, same)) = no_ends forward_ends are_forward_ends
 
 -- an item's name is the source in one which, and the destination in the other
@@ -95,8 +92,6 @@ pub mapped_hits : (forward_of (record { spec = 5; item = 3; near = codes "a"; fa
     × (forward_of (record { spec = 5; item = 3; near = codes "a"; far = None }) ≡ mapping 3 (codes "a") None 5)
     × (backward_of (record { spec = 5; item = 3; near = codes "a"; far = Some (codes "b") }) ≡ mapping 3 (codes "b") (Some (codes "a")) 5)
 mapped_hits = (refl, refl, refl)
-
--- ---- ids
 
 -- the mapping of an id has the place of its spec and no item, and goes nowhere without a destination
 pub id_mappings : IsIdMapping 7 (fetched Forced (codes "e69de29bb2d1d6434b8b29ae775ad8c2e48c5391") None) (record { item = None; source = id empty_blob; destination = None; spec = 7 })
@@ -116,7 +111,4 @@ pub no_id_back : AreBackward (blob ∷ []) (main_ref ∷ []) []
 no_id_back = record { hits = []; are_hits = ([], [], inl (blob_back, backward_ends_of.2, (None, [], not_taken, refl, refl)), refl, refl); all = refl }
   where
     not_taken : (hit : Hit) → ¬ (IsHit Matches blob_back 0 0 main_ref hit)
-    not_taken hit is =
-        let prefix = of_name (record { after = codes "tags/blob"; here = refl }) (Lacks-tested star (codes "refs/tags/blob") refl) refl in
-        let begins = prefix_begins (codes "refs/tags/blob") (codes "refs/tags/blob") main_ref is.word prefix (other_length _ _ (λ same. omega (arith, same))) is.takes in
-        begins_not (codes "refs/tags/blob") (codes "refs/heads/main") refl begins
+    not_taken hit is = omega (arith, ap length (matches_as (codes "refs/tags/blob") (full_name (codes "refs/tags/blob")) main_ref is.word below_tags is.takes).1)

@@ -1,8 +1,6 @@
--- The words on lists that are made element by element, at relations of numbers: nothing is left out, added
--- or turned round, and each element has its place.
+-- The words on lists that are made element by element: nothing is left out, added or turned round.
 use Rattle.gix_refspec_match.proofs.Common.{List, [], ◌∷◌, None, Some, refl, ◌≡◌, ℕ, sym, ◌∙◌, arith, MakesOf, IsMadeFrom, IsJoinedFrom}
-use Rattle.gix_refspec_match.proofs.lemmas.lists.JoinLemmas.{one_joined}
-use Rattle.gix_refspec_match.proofs.lemmas.lists.ListsLemmas.{made_once}
+use Rattle.gix_refspec_match.proofs.lemmas.lists.{JoinLemmas.one_joined, ListsLemmas.made_once}
 
 -- of the element 5 its place is made, and nothing of another element
 pub record PlaceOfFive (k x y : ℕ) : Type 0 where
@@ -20,7 +18,6 @@ makes = (record { five = refl; place = refl }, (λ none. none 7 (record { five =
 pub made : IsMadeFrom PlaceOfFive 7 (5 ∷ 6 ∷ 5 ∷ []) (7 ∷ 9 ∷ [])
 made = (Some 7, 9 ∷ [], makes.0, (None, 9 ∷ [], (λ y other. omega (arith, other.five)), (Some 9, [], record { five = refl; place = refl }, refl, refl), refl), refl)
 
--- and nothing else
 pub made_alone : (ys : List ℕ) → IsMadeFrom PlaceOfFive 7 (5 ∷ 6 ∷ 5 ∷ []) ys → ys ≡ 7 ∷ 9 ∷ []
 made_alone ys are = made_once PlaceOfFive five_once 7 (5 ∷ 6 ∷ 5 ∷ []) ys (7 ∷ 9 ∷ []) are made
 

@@ -1,14 +1,12 @@
--- The words on matching at groups like those of git-fetch(1) under `<refspec>`: what is mapped, and
--- what is not by a word or a place. So a wrong rule in the specs does not check.
-use Rattle.gix_refspec_match.proofs.Common.{List, [], ◌∷◌, None, Some, codes, refl, ◌≡◌, ℕ, ◌++◌, Option, sym, ◌∙◌, arith, inl, inr, subst, ap, append-nil, same_Some, prefix_begins, lacks_no_pattern}
-use Rattle.gix_refspec_match.proofs.Common.{first_of_one, taken_by_first, of_pattern, fetched, IsPositive, star, bracket, IsSplit, IsIdText, BeginsWith, Ref, Matches, Takes, pattern, object, HasKind, full_name}
-use Rattle.gix_refspec_match.proofs.Common.{Excludes, the_name, IsCandidate, Negative, Reading, IsMadeFrom, Ends, AreForwardEnds, AreBackwardEnds, Hit, IsHit, AreHits, IsIdMapping, AreBackward, AreForward}
+-- The words on matching at groups like those of git-fetch(1) under `<refspec>`: what is mapped, and what isn't.
+use Rattle.gix_refspec_match.proofs.Common.{List, [], ◌∷◌, None, Some, codes, refl, ◌≡◌, ℕ, ◌++◌, Option, sym, ◌∙◌, arith, inl, inr, subst, ap, append-nil, same_Some, lacks_no_pattern}
+use Rattle.gix_refspec_match.proofs.Common.{first_of_one, taken_by_first, fetched, star, IsSplit, is_eq, pair_order, equal_pair, false, false≢true, IsIdText, BeginsWith, Ref, Matches, Takes, pattern, object, HasKind, full_name}
+use Rattle.gix_refspec_match.proofs.Common.{the_name, IsCandidate, Negative, Reading, IsMadeFrom, Ends, AreForwardEnds, AreBackwardEnds, Hit, IsHit, AreHits, IsIdMapping, AreBackward, AreForward}
 use Rattle.gix_refspec_match.proofs.Common.{AreKeptForward, AreKeptBackward, name, id, Mapped, IsExcluded, Source, IsSourceExcluded, IsSamePair, HasPair}
-use Rattle.gix_refspec_text.proofs.facts.{ManualFacts.Lacks-tested, ManualFacts.other_length, ManualFacts.none_some, ManualFacts.some_none, ManualFacts.named, ObjectIdFacts.empty_blob}
+use Rattle.gix_refspec_text.proofs.facts.{FaultFacts.begins_not, ManualFacts.Lacks-tested, ManualFacts.none_some, ManualFacts.named, ObjectIdFacts.empty_blob}
 use Rattle.gix_refspec_match.specs.Matching.Mappings.{AreApart}
-use Rattle.gix_refspec_text.proofs.facts.FitFacts.{other_byte, excludes_dev, excludes_no_main, every, no_dev, dev_ref, tag_ref, main_ref, heads_split, origin_split, short, blob, below_tags, blob_kind, short_no_id, short_kind}
-
--- ---- a group
+use Rattle.gix_refspec_text.proofs.facts.FitFacts.{excludes_dev, excludes_no_main, every, no_dev, dev_ref, tag_ref, main_ref, heads_split, origin_split, short, blob, below_tags, blob_kind, short_no_id, short_kind}
+use Rattle.gix_refspec_match.proofs.lemmas.{hits.HitLemmas.matches_as, index.PlacedLemmas.begins_as}
 
 -- the mapping that such a spec at place 0 gives of a branch at a place
 abbrev pub tracked : ℕ → List ℕ → Mapped
@@ -17,12 +15,8 @@ tracked item branch = record { item = Some item; source = name (codes "refs/head
 heads_below : BeginsWith (codes "refs/") (codes "refs/heads/*")
 heads_below = record { after = codes "heads/*"; here = refl }
 
--- a source below `refs/` is no id
-no_id_mapping : (k : ℕ) (r : Reading) (x : List ℕ) → r.source ≡ Some x → BeginsWith (codes "refs/") x → (m : Mapped) → ¬ (IsIdMapping k r m)
-no_id_mapping k r x is below m made = made.object.1 (subst (BeginsWith (codes "refs/")) (same_Some x made.text (sym is ∙ made.side)) below)
-
-no_id_negative : (k : ℕ) (r : Reading) → r.mode ≡ Negative → (m : Mapped) → ¬ (IsIdMapping k r m)
-no_id_negative k r negative m made = subst IsPositive negative made.positive
+every_no_id : (m : Mapped) → ¬ (IsIdMapping 0 every m)
+every_no_id m made = made.object.1 (subst (BeginsWith (codes "refs/")) (same_Some (codes "refs/heads/*") made.text made.side) heads_below)
 
 -- the ends of a spec of two patterns, from left to right
 abbrev pub forward_ends : Ends
@@ -41,7 +35,6 @@ takes_below near far near_split far_split Taken taken k j branch =
     record { kind = pattern near []; of = near_split; is = ap (λ (y : List ℕ). near ++ y) (sym (append-nil branch)) } in
     record { word = Some branch; takes = taken (named (near ++ branch)) (Some branch) matches; far = (pattern far [], far_split, refl); near = refl; spec = refl; item = refl }
 
--- each branch is taken
 abbrev pub hit_by : ℕ → ℕ → List ℕ → Hit
 hit_by spec item branch = hit_below (codes "refs/heads/") (codes "refs/remotes/origin/") spec item branch
 
@@ -50,31 +43,33 @@ taken_by items k j branch = takes_below (codes "refs/heads/") (codes "refs/remot
     (λ r word matches. record { matches = matches; first = λ n kind. absurd (lacks_no_pattern (codes "refs/heads/*") (codes "refs/heads/") [] kind.1 heads_split) })
     k j branch
 
--- and no tag
 pub takes_no_tag : (items : List Ref) (j : ℕ) (hit : Hit) → ¬ (IsHit (Takes items) forward_ends 0 j tag_ref hit)
 takes_no_tag items j hit is =
-    let prefix = of_pattern (codes "refs/heads/") [] heads_split (record { below = record { after = codes "heads/"; here = refl }; further = other_length _ _ (λ same. omega (arith, same)); first = Lacks-tested bracket (codes "refs/heads/") refl; last = tt }) refl in
-    let begins = prefix_begins (codes "refs/heads/*") (codes "refs/heads/") tag_ref is.word prefix (other_length _ _ (λ same. omega (arith, same))) is.takes.matches in
-    other_byte 5 (codes "refs/tags/v1") (codes "refs/heads/" ++ begins.after) (λ same. omega (arith, same)) begins.here
+    let fits = matches_as (codes "refs/heads/*") (pattern (codes "refs/heads/") []) tag_ref is.word heads_split is.takes.matches in
+    begins_not (codes "refs/heads/") tag_ref.name refl (begins_as (codes "refs/heads/") [] tag_ref is.word fits)
 
 -- no spec of the group excludes a branch that doesn't begin so
 pub main_stays : ¬ (IsSourceExcluded (every ∷ no_dev ∷ []) (name (codes "refs/heads/main")))
 main_stays (inl by) = cc (by.negative)
-main_stays (inr (inl by)) = excludes_no_main (subst (λ (x : List ℕ). Excludes x (codes "refs/heads/main")) (sym (same_Some (codes "refs/heads/dev-*") by.text by.source)) by.excludes)
+main_stays (inr (inl by)) = excludes_no_main (rw (same_Some by.text (codes "refs/heads/dev-*") (sym by.source)) at by.excludes)
 main_stays (inr (inr none)) = none
 
 pub dev_excluded : IsExcluded (every ∷ no_dev ∷ []) (codes "refs/heads/dev-a")
 dev_excluded = inr (inl (record { negative = refl; text = codes "refs/heads/dev-*"; source = refl; excludes = excludes_dev }))
 
--- the bytes of a start
 abbrev pub bytes_in : Source → List ℕ
 bytes_in (name n) = n
 bytes_in (id i) = i
 
--- the pair of the excluded branch isn't that of another
+-- the order of mappings tells pairs that differ
+pub differ : {m n : Mapped} → is_eq (pair_order m n) ≡ false → ¬ (IsSamePair m n)
+differ {m} {n} other same = false≢true (sym other ∙ ap is_eq (equal_pair m n same))
+
+pub not_had : {m n : Mapped} → is_eq (pair_order m n) ≡ false → ¬ (HasPair (m ∷ []) n)
+not_had {m} {n} other has = grind (arith, differ {m = m} {n = n} other)
+
 pub only_dev : (item : ℕ) → ¬ (HasPair (tracked 0 (codes "dev-a") ∷ []) (tracked item (codes "main")))
-only_dev item (inl same) = other_length _ _ (λ length_same. omega (arith, length_same)) (ap bytes_in same.source)
-only_dev item (inr none) = none
+only_dev item = not_had refl
 
 -- what the group takes is what its first spec takes, since the other is negative
 hits_of_every : (HasEnds : Reading → Ends → Type 0) (Taken : List ℕ → Ref → Option (List ℕ) → Type 0) (items : List Ref) (hits : List Hit) (ends : Ends) → HasEnds every ends → ((e : Ends) → ¬ (HasEnds no_dev e)) → IsMadeFrom (IsHit Taken ends 0) 0 items hits → AreHits HasEnds Taken (every ∷ no_dev ∷ []) items hits
@@ -84,24 +79,19 @@ hits_of_every HasEnds Taken items hits ends has none taken = (hits, [], inl (end
 pub fetches_all_but_dev : AreKeptForward (every ∷ no_dev ∷ []) (dev_ref ∷ tag_ref ∷ main_ref ∷ main_ref ∷ []) (tracked 2 (codes "main") ∷ [])
 fetches_all_but_dev =
     let items = dev_ref ∷ tag_ref ∷ main_ref ∷ main_ref ∷ [] in
-    let dev = hit_by 0 0 (codes "dev-a") in
-    let main = hit_by 0 2 (codes "main") in
-    let again = hit_by 0 3 (codes "main") in
-    let mains : IsMadeFrom (IsHit (Takes items) forward_ends 0) 2 (main_ref ∷ main_ref ∷ []) (main ∷ again ∷ []) =
-    (Some main, again ∷ [], taken_by items 0 2 (codes "main"), (Some again, [], taken_by items 0 3 (codes "main"), refl, refl), refl) in
-    let taken : IsMadeFrom (IsHit (Takes items) forward_ends 0) 0 items (dev ∷ main ∷ again ∷ []) =
-    (Some dev, main ∷ again ∷ [], taken_by items 0 0 (codes "dev-a"), (None, main ∷ again ∷ [], takes_no_tag items 1, mains, refl), refl) in
-    let kept = tracked 2 (codes "main") in
-    let same : IsSamePair kept (tracked 3 (codes "main")) = record { source = refl; destination = refl } in
-    let no_ids : IsMadeFrom IsIdMapping 0 (every ∷ no_dev ∷ []) [] = (None, [], no_id_mapping 0 every (codes "refs/heads/*") refl heads_below, (None, [], no_id_negative 1 no_dev refl, refl, refl), refl) in
-    let hits = hits_of_every AreForwardEnds (Takes items) items (dev ∷ main ∷ again ∷ []) forward_ends are_forward_ends (λ ends has. has.positive) taken in
+    let takes = taken_by items 0 in
+    let all = hit_by 0 0 (codes "dev-a") ∷ hit_by 0 2 (codes "main") ∷ hit_by 0 3 (codes "main") ∷ [] in
+    let taken : IsMadeFrom (IsHit (Takes items) forward_ends 0) 0 items all =
+    (Some _, _, takes 0 (codes "dev-a"), (None, _, takes_no_tag items 1, (Some _, _, takes 2 (codes "main"), (Some _, [], takes 3 (codes "main"), refl, refl), refl), refl), refl) in
+    let hits = hits_of_every AreForwardEnds (Takes items) items all forward_ends are_forward_ends (λ ends has. has.positive) taken in
+    let same : IsSamePair (tracked 2 (codes "main")) (tracked 3 (codes "main")) = record { source = refl; destination = refl } in
+    let no_ids : IsMadeFrom IsIdMapping 0 (every ∷ no_dev ∷ []) [] = (None, [], every_no_id, (None, [], (λ m made. made.positive), refl, refl), refl) in
     record {
       all = _;
-      forward = record { ids = []; hits = dev ∷ main ∷ again ∷ []; are_ids = no_ids; are_hits = hits; all = refl };
-      is = (None, kept ∷ [], (λ m is. is.1.included dev_excluded), (Some kept, [], (refl, record { first = only_dev 2; included = main_stays }), (None, [], (λ m is. is.1.first (inr (inl same))), refl, refl), refl), refl);
+      forward = record { ids = []; hits = all; are_ids = no_ids; are_hits = hits; all = refl };
+      is = (None, _, (λ m is. is.1.included dev_excluded), (Some _, [], (refl, record { first = only_dev 2; included = main_stays }), (None, [], (λ m is. is.1.first (inr (inl same))), refl, refl), refl), refl);
     }
 
--- before that, all three are
 pub maps_all : AreForward (every ∷ no_dev ∷ []) (dev_ref ∷ tag_ref ∷ main_ref ∷ main_ref ∷ []) (tracked 0 (codes "dev-a") ∷ tracked 2 (codes "main") ∷ tracked 3 (codes "main") ∷ [])
 unfolding fetches_all_but_dev
 maps_all = fetches_all_but_dev.forward
@@ -119,17 +109,15 @@ takes_back j branch = takes_below (codes "refs/remotes/origin/") (codes "refs/he
 pub tracks_all_but_dev : AreKeptBackward (every ∷ no_dev ∷ []) (named (codes "refs/remotes/origin/dev-a") ∷ named (codes "refs/remotes/origin/main") ∷ []) (tracked 1 (codes "main") ∷ [])
 tracks_all_but_dev =
     let items = named (codes "refs/remotes/origin/dev-a") ∷ named (codes "refs/remotes/origin/main") ∷ [] in
-    let dev = back_hit 0 (codes "dev-a") in
-    let main = back_hit 1 (codes "main") in
-    let taken : IsMadeFrom (IsHit Matches backward_ends 0) 0 items (dev ∷ main ∷ []) = (Some dev, main ∷ [], takes_back 0 (codes "dev-a"), (Some main, [], takes_back 1 (codes "main"), refl, refl), refl) in
+    let taken : IsMadeFrom (IsHit Matches backward_ends 0) 0 items (back_hit 0 (codes "dev-a") ∷ back_hit 1 (codes "main") ∷ []) = (Some _, _, takes_back 0 (codes "dev-a"), (Some _, [], takes_back 1 (codes "main"), refl, refl), refl) in
     let ends : AreBackwardEnds every backward_ends = record { positive = tt; near = refl; far = refl; both = refl } in
+    let hits = hits_of_every AreBackwardEnds Matches items _ backward_ends ends (λ ends has. has.positive) taken in
     record {
       all = _;
-      backward = record { hits = _; are_hits = hits_of_every AreBackwardEnds Matches items (dev ∷ main ∷ []) backward_ends ends (λ ends has. has.positive) taken; all = refl };
-      is = (None, tracked 1 (codes "main") ∷ [], (λ m is. is.1.included dev_excluded), (Some (tracked 1 (codes "main")), [], (refl, record { first = only_dev 1; included = main_stays }), refl, refl), refl);
+      backward = record { hits = _; are_hits = hits; all = refl };
+      is = (None, _, (λ m is. is.1.included dev_excluded), (Some _, [], (refl, record { first = only_dev 1; included = main_stays }), refl, refl), refl);
     }
 
--- before that, both are
 pub tracks_all : AreBackward (every ∷ no_dev ∷ []) (named (codes "refs/remotes/origin/dev-a") ∷ named (codes "refs/remotes/origin/main") ∷ []) (tracked 0 (codes "dev-a") ∷ tracked 1 (codes "main") ∷ [])
 unfolding tracks_all_but_dev
 tracks_all = tracks_all_but_dev.backward
@@ -137,8 +125,6 @@ tracks_all = tracks_all_but_dev.backward
 -- a spec without a destination takes nothing from right to left
 pub tracks_nothing : AreKeptBackward (short ∷ []) (main_ref ∷ []) []
 tracks_nothing = record { all = []; backward = record { hits = []; are_hits = ([], [], inr ((λ ends has. none_some ends.near has.near), refl), refl, refl); all = refl }; is = refl }
-
--- ---- pairs
 
 -- a mapping of a name at a place by a spec
 abbrev pub mapping : ℕ → List ℕ → Option (List ℕ) → ℕ → Mapped
@@ -161,19 +147,10 @@ tag_alone = mapping 0 (codes "refs/tags/a") None 1
 
 -- two mappings have the same pair whatever their items and specs are, and not with one side alone
 pub pairs : IsSamePair tag_to_x tag_again × ¬ (IsSamePair tag_to_x branch_to_x) × ¬ (IsSamePair tag_to_x tag_to_foo) × ¬ (IsSamePair tag_to_x tag_alone)
-pairs = (
-  record { source = refl; destination = refl },
-  (λ same. other_byte 5 (codes "refs/tags/a") (codes "refs/heads/a") (λ byte. omega (arith, byte)) (ap bytes_in same.source)),
-  (λ same. other_length _ _ (λ size. omega (arith, size)) (same_Some (codes "refs/x/a") (codes "foo") same.destination)),
-  (λ same. some_none (codes "refs/x/a") same.destination),
-)
+pairs = (record { source = refl; destination = refl }, differ refl, differ refl, differ refl)
 
 pub apart : AreApart (tag_to_x ∷ branch_to_x ∷ tag_to_foo ∷ tag_alone ∷ []) × ¬ (AreApart (tag_to_x ∷ branch_to_x ∷ tag_again ∷ []))
-apart =
-    let other : ¬ (IsSamePair branch_to_x tag_to_foo) = λ same. other_byte 5 (codes "refs/heads/a") (codes "refs/tags/a") (λ byte. omega (arith, byte)) (ap bytes_in same.source) in
-    let to_x : ¬ (IsSamePair branch_to_x tag_alone) = λ same. some_none (codes "refs/x/a") same.destination in
-    let to_foo : ¬ (IsSamePair tag_to_foo tag_alone) = λ same. some_none (codes "foo") same.destination in
-    (((pairs.1, (pairs.2, (pairs.3, tt))), ((other, (to_x, tt)), ((to_foo, tt), (tt, tt)))), λ all. all.0.1.0 pairs.0)
+apart = (((pairs.1, (pairs.2, (pairs.3, tt))), ((differ refl, (differ refl, tt)), ((differ refl, tt), (tt, tt)))), λ all. all.0.1.0 pairs.0)
 
 -- no spec excludes the id of an object, and one that names it excludes that name alone
 pub ids_stay : ¬ (IsSourceExcluded (fetched Negative (codes "a") None ∷ []) (id (codes "a"))) × IsSourceExcluded (fetched Negative (codes "a") None ∷ []) (name (codes "a"))
@@ -182,22 +159,18 @@ ids_stay = (λ none. none, inl (record { negative = refl; text = codes "a"; sour
 abbrev pub blob_mapping : Mapped
 blob_mapping = record { item = None; source = id empty_blob; destination = Some (codes "refs/tags/blob"); spec = 1 }
 
--- a candidate of a partial name
 pub main_candidate : IsCandidate (codes "main") (codes "refs/heads/main")
 main_candidate = record { earlier = codes "main" ∷ codes "refs/main" ∷ codes "refs/tags/main" ∷ []; later = _; here = refl }
 
--- such a name is no id
 pub no_main_id : (k : ℕ) (r : Reading) → r.source ≡ Some (codes "main") → (m : Mapped) → ¬ (IsIdMapping k r m)
 no_main_id k r is m made = short_no_id made.bytes (subst (λ (x : List ℕ). IsIdText x made.bytes) (sym (same_Some (codes "main") made.text (sym is ∙ made.side))) made.object.2)
 
--- and an id matches nothing from left to right
 pub no_blob_ends : (ends : Ends) → ¬ (AreForwardEnds blob ends)
 no_blob_ends ends are = are.no_object empty_blob (subst (λ (x : List ℕ). HasKind x (object empty_blob)) (same_Some (codes "e69de29bb2d1d6434b8b29ae775ad8c2e48c5391") ends.near are.near) blob_kind)
 
 -- an id is before all items, and has none. A partial name without a destination maps to nothing
 pub asks_for_ids_first : AreKeptForward (short ∷ blob ∷ []) (main_ref ∷ []) (blob_mapping ∷ mapping 0 (codes "refs/heads/main") None 0 ∷ [])
 asks_for_ids_first =
-    let main = mapping 0 (codes "refs/heads/main") None 0 in
     let hit : Hit = record { spec = 0; item = 0; near = codes "refs/heads/main"; far = None } in
     let ends : Ends = record { near = codes "main"; far = None } in
     let asks : IsIdMapping 1 blob blob_mapping =
@@ -205,11 +178,10 @@ asks_for_ids_first =
     let has : AreForwardEnds short ends = record { positive = tt; near = refl; far = refl; no_object = λ bytes kind. short_no_id bytes kind.2 } in
     let takes = taken_by_first (main_ref ∷ []) (codes "main") main_ref short_kind (first_of_one (codes "main") main_ref main_candidate) in
     let taken : IsHit (Takes (main_ref ∷ [])) ends 0 0 main_ref hit = record { word = None; takes = takes; far = refl; near = refl; spec = refl; item = refl } in
-    let ids : IsMadeFrom IsIdMapping 0 (short ∷ blob ∷ []) (blob_mapping ∷ []) = (None, blob_mapping ∷ [], no_main_id 0 short refl, (Some blob_mapping, [], asks, refl, refl), refl) in
     let hits : AreHits AreForwardEnds (Takes (main_ref ∷ [])) (short ∷ blob ∷ []) (main_ref ∷ []) (hit ∷ []) =
     (hit ∷ [], [], inl (ends, has, (Some hit, [], taken, refl, refl)), ([], [], inr (no_blob_ends, refl), refl, refl), refl) in
     record {
       all = _;
-      forward = record { ids = blob_mapping ∷ []; hits = hit ∷ []; are_ids = ids; are_hits = hits; all = refl };
-      is = (Some blob_mapping, main ∷ [], (refl, record { first = λ none. none; included = λ none. none }), (Some main, [], (refl, record { first = λ has. grind arith; included = λ by. grind arith }), refl, refl), refl);
+      forward = record { ids = _; hits = _; are_ids = (None, _, no_main_id 0 short refl, (Some _, [], asks, refl, refl), refl); are_hits = hits; all = refl };
+      is = (Some _, _, (refl, record { first = λ none. none; included = λ none. none }), (Some _, [], (refl, record { first = λ has. grind arith; included = λ by. grind arith }), refl, refl), refl);
     }

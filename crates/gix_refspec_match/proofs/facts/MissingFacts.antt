@@ -1,9 +1,8 @@
 -- Which specs lack their source: those of a name that no ref has, but neither of an id nor negative ones.
-use Rattle.gix_refspec_match.proofs.Common.{List, [], ◌∷◌, None, Some, codes, refl, ◌≡◌, ℕ, Option, sym, ◌∙◌, subst, arith, inl, inr, same_Some, ◌⊎◌, star, Ref, Matches, HasKind, full_name, partial, fetched, Normal, Negative}
+use Rattle.gix_refspec_match.proofs.Common.{List, [], ◌∷◌, None, Some, codes, refl, ◌≡◌, ℕ, Option, sym, subst, ap, length, arith, inl, inr, same_Some, ◌⊎◌, star, Ref, Matches, HasKind, full_name, partial, fetched, Normal, Negative}
 use Rattle.gix_refspec_match.proofs.Common.{BeginsWith, Contains, IsIdText, AreMissing, LacksSource}
-use Rattle.gix_refspec_text.proofs.facts.ManualFacts.{Lacks-tested, other_length}
+use Rattle.gix_refspec_text.proofs.facts.{ManualFacts.Lacks-tested, ObjectIdFacts.empty_blob}
 use Rattle.gix_refspec_text.proofs.facts.FitFacts.{blob, blob_kind, main_ref, of_element, short, short_kind}
-use Rattle.gix_refspec_text.proofs.facts.ObjectIdFacts.{empty_blob}
 use Rattle.gix_refspec_match.proofs.lemmas.hits.HitLemmas.{matches_as}
 
 -- a full name that no ref has is missing
@@ -15,8 +14,8 @@ full_name_missing = (Some 0, [], (refl, record { positive = tt; source = codes "
 
     absent : (ref : Ref) (word : Option (List ℕ)) → Contains (main_ref ∷ []) ref → ¬ (Matches (codes "refs/heads/a") ref word)
     absent ref word there matches =
-        let main = of_element (λ r. r.name ≡ codes "refs/heads/main") (main_ref ∷ []) ref (refl, tt) there in
-        other_length _ _ (λ size. omega (arith, size)) (sym main ∙ (matches_as (codes "refs/heads/a") (full_name (codes "refs/heads/a")) ref word kind matches).1)
+        let as_a = matches_as (codes "refs/heads/a") (full_name (codes "refs/heads/a")) ref word kind matches in
+        omega (arith, ap length as_a.1, of_element (λ r. length r.name ≡ 15) (main_ref ∷ []) ref (refl, tt) there)
 
 -- an id is asked for by itself, and isn't missing where no ref points to it
 pub id_not_missing : AreMissing (blob ∷ []) [] []

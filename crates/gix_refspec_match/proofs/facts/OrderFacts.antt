@@ -1,5 +1,4 @@
--- The words on order and hash at pairs of instructions that differ in one field, and at what is fed to a
--- hasher.
+-- The words on order and hash at pairs of instructions that differ in one field.
 use Rattle.gix_refspec_match.proofs.Common.{[], ◌∷◌, None, Some, codes, refl, ◌≡◌, ℕ, true, false, ◌++◌, Option, Less, Equal, Greater, slice_cmp, pos, nat_cmp, source_writes, pair_writes, name, id}
 use Rattle.std.specs.Hash.{HashWrites, isize, bool, slice, u8}
 use Rattle.gix_refspec_text.specs.declared.parsing.Operation.TheVariants.{Push, Fetch}

@@ -1,7 +1,5 @@
--- A hit whose source isn't excluded adds its mapping.
 use Rattle.gix_refspec_match.proofs.Common.{refl, sym, ◌∙◌, arith, subst, ap, take_all, option_map, false≢true, ExcludeName, filled_side, name_bytes, All}
-use Rattle.gix_refspec_match.proofs.lemmas.keep.ExclusionLemmas.{told_by_some}
-use Rattle.gix_refspec_match.proofs.lemmas.keep.FillLemmas.{excluded_next, included_next}
+use Rattle.gix_refspec_match.proofs.lemmas.keep.{ExclusionLemmas.told_by_some, FillLemmas.excluded_next, FillLemmas.included_next}
 use Rattle.gix_refspec_match.proofs.map_backward.Goals as goal
 
 pub loop-hit-preserved-then-is_some : goal.loop-hit-preserved-then-is_some

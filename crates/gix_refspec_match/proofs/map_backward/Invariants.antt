@@ -1,4 +1,3 @@
--- the mappings of the hits so far are behind the old ones
 use Rattle.gix_refspec_match.proofs.Common.{map, take, AddsMapped, ref_of, mapped_of, All}
 
 abbrev pub invariant-loop-hit : Rattle.gix_refspec_match.proofs.map_backward.Given.invariant-loop-hit

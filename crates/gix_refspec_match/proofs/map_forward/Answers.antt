@@ -1,7 +1,5 @@
--- A hit whose item isn't excluded adds its mapping.
 use Rattle.gix_refspec_match.proofs.Common.{refl, sym, ◌∙◌, arith, subst, ap, take_all, false≢true, All-from_recursion, hit_at, ExcludeName, filled_side, First}
-use Rattle.gix_refspec_match.proofs.lemmas.keep.ExclusionLemmas.{told_by_some}
-use Rattle.gix_refspec_match.proofs.lemmas.keep.FillLemmas.{excluded_next, included_next}
+use Rattle.gix_refspec_match.proofs.lemmas.keep.{ExclusionLemmas.told_by_some, FillLemmas.excluded_next, FillLemmas.included_next}
 use Rattle.gix_refspec_match.proofs.map_forward.Goals as goal
 
 pub loop-hit-preserved-then-is_some : goal.loop-hit-preserved-then-is_some

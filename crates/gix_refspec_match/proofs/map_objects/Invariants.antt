@@ -1,4 +1,3 @@
--- the mappings of the objects so far are behind the old ones
 use Rattle.gix_refspec_match.proofs.Common.{◌≡◌, ◌++◌, map, take, object_mapping, mapped_of}
 
 abbrev pub invariant-loop-object : Rattle.gix_refspec_match.proofs.map_objects.Given.invariant-loop-object

@@ -1,8 +1,7 @@
 -- The matchers' hits make most of the mappings, and what is kept of these is kept of all.
 use Rattle.gix_refspec_match.proofs.Common.{[], refl, All}
-use Rattle.gix_refspec_match.proofs.lemmas.duplicates.FlagLemmas.{ok_weaker}
+use Rattle.gix_refspec_match.proofs.lemmas.{duplicates.FlagLemmas.ok_weaker, keep.FillLemmas.adds_both, keep.FillLemmas.both_sound}
 use Rattle.gix_refspec_match.proofs.lemmas.keep.EngineLemmas.{kept_hits, others_there, sound_among}
-use Rattle.gix_refspec_match.proofs.lemmas.keep.FillLemmas.{adds_both, both_sound}
 use Rattle.gix_refspec_match.proofs.match_backward.Goals as goal
 
 pub map_backward-requires-clause-sound : goal.map_backward-requires-clause-sound

@@ -1,4 +1,3 @@
--- A matcher's spec is missing where the index has none for its name.
 use Rattle.gix_refspec_match.proofs.Common.{None, Some, refl, sym, ◌∙◌, arith, append-nil, map, take_all, false≢true, all_weaker, kind_of_side, reading_of, IsMadeFrom, ref_of, All}
 use Rattle.gix_refspec_match.proofs.lemmas.hits.MissingLemmas.{IsLacking, all_missing, blank_matcher, lacking_next}
 use Rattle.gix_refspec_match.proofs.lemmas.index.PlacedLemmas.{named_listed}

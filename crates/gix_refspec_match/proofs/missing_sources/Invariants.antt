@@ -1,4 +1,3 @@
--- the matchers so far find none at these
 use Rattle.gix_refspec_match.proofs.Common.{take, IsMadeFrom}
 use Rattle.gix_refspec_match.proofs.lemmas.hits.MissingLemmas.{IsLacking}
 

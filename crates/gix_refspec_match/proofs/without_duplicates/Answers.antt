@@ -1,4 +1,3 @@
--- What isn't flagged is kept, and without flags all is.
 use Rattle.gix_refspec_match.proofs.Common.{[], ◌≡◌, sym, ◌∙◌, arith, eqb-true, nil_from_length}
 use Rattle.gix_refspec_match.proofs.lemmas.keep.KeptLemmas.{all_unflagged, kept_unflagged}
 use Rattle.gix_refspec_match.proofs.without_duplicates.Goals as goal

@@ -1,7 +1,5 @@
--- a mapping that isn't flagged goes to the front
 use Rattle.gix_refspec_match.proofs.Common.{refl, ◌≡◌, sym, ◌∙◌, arith, ◌<◌, length, get_or, false≢true, get_or_default}
-use Rattle.gix_refspec_match.proofs.lemmas.duplicates.FlagLemmas.{some_element}
-use Rattle.gix_refspec_match.proofs.lemmas.lists.ListsLemmas.{remains_more, goes_more}
+use Rattle.gix_refspec_match.proofs.lemmas.{duplicates.FlagLemmas.some_element, lists.ListsLemmas.remains_more, lists.ListsLemmas.goes_more}
 use Rattle.gix_refspec_match.proofs.duplicates.drop_flagged.Goals as goal
 
 pub loop-place-preserved : goal.loop-place-preserved

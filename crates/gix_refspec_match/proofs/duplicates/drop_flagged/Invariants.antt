@@ -1,4 +1,3 @@
--- the mappings so far that are kept are in front, and those to come are where they were
 use Rattle.gix_refspec_match.proofs.Common.{◌≡◌, length, take, drop, ◌≤◌, IsMadeFrom, IsUnflagged}
 
 abbrev pub invariant-loop-place : Rattle.gix_refspec_match.proofs.duplicates.drop_flagged.Given.invariant-loop-place

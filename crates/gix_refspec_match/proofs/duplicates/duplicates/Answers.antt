@@ -1,4 +1,3 @@
--- equal elements have the same hash
 use Rattle.gix_refspec_match.proofs.lemmas.duplicates.HashKeyLemmas.{duplicates_from_keys}
 
 pub flags_by_key-requires-clause-finds : Rattle.gix_refspec_match.proofs.duplicates.duplicates.Goals.flags_by_key-requires-clause-finds

@@ -1,4 +1,3 @@
--- the first of the current run has the upper bits of the last key, and the firsts of the runs so far are written
 use Rattle.gix_refspec_match.proofs.lemmas.duplicates.FirstLemmas.{AreFirstsBelow}
 
 abbrev pub invariant-loop-at : Rattle.gix_refspec_match.proofs.duplicates.firsts_by_key.Given.invariant-loop-at

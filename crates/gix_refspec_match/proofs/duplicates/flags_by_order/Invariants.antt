@@ -1,4 +1,3 @@
--- duplicates are flagged, and of these all so far whose element equals the one before it
 use Rattle.gix_refspec_match.proofs.Common.{IsSecond, HaveEqualElements}
 use Rattle.gix_refspec_match.proofs.lemmas.duplicates.FlagLemmas.{AreFlagged}
 

@@ -1,4 +1,3 @@
--- each index is pushed at its own
 use Rattle.gix_refspec_match.proofs.Common.{refl, arith}
 use Rattle.gix_refspec_match.proofs.lemmas.duplicates.FirstLemmas.{indexes_more}
 use Rattle.gix_refspec_match.proofs.duplicates.indexes_below.Goals as goal

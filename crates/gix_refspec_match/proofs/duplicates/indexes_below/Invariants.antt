@@ -1,4 +1,3 @@
--- the indexes so far, each at its own
 use Rattle.gix_refspec_match.proofs.Common.{AreIndexesBelow}
 
 abbrev pub invariant-loop-index : Rattle.gix_refspec_match.proofs.duplicates.indexes_below.Given.invariant-loop-index

@@ -1,4 +1,3 @@
--- a key that is shared goes to the front
 use Rattle.gix_refspec_match.proofs.Common.{◌≡◌, sym, ◌∙◌, arith, ◌<◌, length, Decides-eqb, same_from_decides, FiltersInPlace-all, FiltersInPlace-more_no, FiltersInPlace-more_set, is_shared}
 use Rattle.gix_refspec_match.proofs.duplicates.keep_shared.Goals as goal
 

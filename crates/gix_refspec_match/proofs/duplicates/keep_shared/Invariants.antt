@@ -1,4 +1,3 @@
--- the keys so far that are shared are in front, and those to come are where they were
 use Rattle.gix_refspec_match.proofs.Common.{FiltersInPlace, is_shared}
 
 abbrev pub invariant-loop-at : Rattle.gix_refspec_match.proofs.duplicates.keep_shared.Given.invariant-loop-at

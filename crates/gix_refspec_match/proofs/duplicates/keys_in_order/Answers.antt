@@ -1,4 +1,3 @@
--- one more key, those that are kept, and a sort that moves them
 use Rattle.gix_refspec_match.proofs.Common.{refl, arith, ◌<◌, length, map, ◌≤◌, ◌^◌, length-map, get_or-map}
 use Rattle.gix_refspec_match.proofs.lemmas.duplicates.HashKeyLemmas.{packed, sorted_keys, sorted_keys_rise}
 use Rattle.gix_refspec_match.proofs.lemmas.duplicates.OrderedLemmas.{numbered_more}

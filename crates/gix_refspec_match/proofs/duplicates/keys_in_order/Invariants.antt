@@ -1,4 +1,3 @@
--- the keys so far are those of the elements so far
 use Rattle.gix_refspec_match.proofs.Common.{map, index_in, IsKey}
 use Rattle.gix_refspec_match.proofs.lemmas.duplicates.OrderedLemmas.{AreNumbered}
 

@@ -1,4 +1,3 @@
--- one more element, and a sort that moves them
 use Rattle.gix_refspec_match.proofs.Common.{refl, arith, rules, always_returns_same, get_or_read, ranks_by, is_lt, placed_order}
 use Rattle.gix_refspec_match.proofs.lemmas.duplicates.OrderedLemmas.{numbered_more, placed_permuted, placed_total}
 use Rattle.gix_refspec_match.proofs.duplicates.placed_in_order.Goals as goal

@@ -1,4 +1,3 @@
--- the elements so far are there, each with its index
 use Rattle.gix_refspec_match.proofs.Common.{IsPlaced}
 use Rattle.gix_refspec_match.proofs.lemmas.duplicates.OrderedLemmas.{AreNumbered}
 

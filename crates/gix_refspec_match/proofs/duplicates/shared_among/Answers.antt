@@ -1,4 +1,3 @@
--- one more key: its upper bits are met, and shared if they were met before
 use Rattle.gix_refspec_match.proofs.Common.{arith}
 use Rattle.gix_refspec_match.proofs.duplicates.shared_among.Goals as goal
 

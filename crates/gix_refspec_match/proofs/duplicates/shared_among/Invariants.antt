@@ -1,4 +1,3 @@
--- the upper bits so far are met, and those that two keys so far have are shared
 use Rattle.gix_refspec_match.proofs.Common.{ℕ, ◌<◌, get_or, ◌^◌, ◌/◌, HasNumber, IsWhole, HaveSameUpper}
 
 abbrev pub invariant-loop-key : Rattle.gix_refspec_match.proofs.duplicates.shared_among.Given.invariant-loop-key

@@ -1,4 +1,3 @@
--- the bits of a number are those that no leading zero takes
 use Rattle.gix_refspec_match.proofs.Common.{arith, cases_eq, leading_length}
 
 pub returns-clause-fit : Rattle.gix_refspec_match.proofs.hashes.bits_for.Goals.returns-clause-fit

@@ -1,4 +1,3 @@
--- a mask of the lower bits
 use Rattle.gix_refspec_match.proofs.Common.{◌≡◌, arith, ◌*◌, ◌%◌, ◌^◌, pow-lt, and_mask}
 
 pub returns : Rattle.gix_refspec_match.proofs.hashes.lower_bits.Goals.returns

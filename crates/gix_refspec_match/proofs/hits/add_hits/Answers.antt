@@ -1,4 +1,3 @@
--- An item that matches is hit, and another isn't.
 use Rattle.gix_refspec_match.proofs.Common.{sym, ◌∙◌, arith, map, take_all, rules, false≢true, length-map, kind_of_side, ref_of}
 use Rattle.gix_refspec_match.proofs.lemmas.index.PlacedLemmas.{all_found, item_hit, item_missed, place_fits, place_hit, place_missed}
 use Rattle.gix_refspec_match.proofs.hits.add_hits.Goals as goal

@@ -1,4 +1,3 @@
--- the hits on the items so far are behind the old ones
 use Rattle.gix_refspec_match.proofs.Common.{map, take, kind_of_side, ref_of}
 use Rattle.gix_refspec_match.proofs.lemmas.index.PlacedLemmas.{FoundSoFar, MatchedSoFar}
 use Rattle.gix_refspec_match.proofs.hits.add_hits.Given as goal

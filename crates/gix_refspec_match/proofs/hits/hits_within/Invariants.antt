@@ -1,4 +1,3 @@
--- the hits are those of the matchers so far
 use Rattle.gix_refspec_match.proofs.Common.{map, take, IsJoinedFrom, AreFound, ref_of}
 
 abbrev pub invariant-loop-matcher_index : Rattle.gix_refspec_match.proofs.hits.hits_within.Given.invariant-loop-matcher_index

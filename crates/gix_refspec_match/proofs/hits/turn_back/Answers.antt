@@ -1,4 +1,3 @@
--- Each step writes the hit at its index, turned.
 use Rattle.gix_refspec_match.proofs.Common.{List, ◌≡◌, ℕ, ◌++◌, sym, ap, ◌<◌, length, map, take, drop, ◌+◌, get_or, slice_set, append_assoc, ltb-false, drop_more, get_or_at, get_or_past, map_more, set_at}
 use Rattle.gix_refspec_match.proofs.Common.{turned, hit_at, DeclaredHit as Hit}
 use Rattle.gix_refspec_match.proofs.lemmas.lists.JoinLemmas.{map_long}

@@ -1,4 +1,3 @@
--- the hits so far have their indexes among all, and those to come are as they were
 use Rattle.gix_refspec_match.proofs.Common.{◌≡◌, ◌++◌, map, take, drop, turned}
 
 abbrev pub invariant-loop-hit : Rattle.gix_refspec_match.proofs.hits.turn_back.Given.invariant-loop-hit

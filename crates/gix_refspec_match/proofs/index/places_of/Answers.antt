@@ -1,8 +1,6 @@
 -- A name that doesn't pass is no key, and to the list of a key the place is added.
 use Rattle.gix_refspec_match.proofs.Common.{refl, sym, rules, Passes, list_of}
-use Rattle.gix_refspec_match.proofs.lemmas.index.IndexLemmas.{item_listed, item_unlisted}
-use Rattle.gix_refspec_match.proofs.lemmas.index.KeyLemmas.{key_of}
-use Rattle.gix_refspec_match.proofs.lemmas.index.PlacesLemmas.{all_at}
+use Rattle.gix_refspec_match.proofs.lemmas.index.{IndexLemmas.item_listed, IndexLemmas.item_unlisted, KeyLemmas.key_of, PlacesLemmas.all_at}
 use Rattle.gix_refspec_match.proofs.index.places_of.Goals as goal
 
 pub loop-place-preserved-then-not-passes : goal.loop-place-preserved-then-not-passes

@@ -1,4 +1,3 @@
--- each name has its places among the items so far
 use Rattle.gix_refspec_match.proofs.Common.{map, take, HavePlaces, list_of, ref_of, name_bytes}
 
 abbrev pub invariant-loop-place : Rattle.gix_refspec_match.proofs.index.places_of.Given.invariant-loop-place

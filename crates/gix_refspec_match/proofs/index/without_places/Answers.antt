@@ -1,7 +1,5 @@
--- the name is put in, and others stay
 use Rattle.gix_refspec_match.proofs.Common.{◌∙◌, map_next, list_of, name_bytes}
-use Rattle.gix_refspec_match.proofs.lemmas.index.IndexLemmas.{one_more_name}
-use Rattle.gix_refspec_match.proofs.lemmas.index.KeyLemmas.{key_of}
+use Rattle.gix_refspec_match.proofs.lemmas.index.{IndexLemmas.one_more_name, KeyLemmas.key_of}
 
 pub loop-name-preserved : Rattle.gix_refspec_match.proofs.index.without_places.Goals.loop-name-preserved
 loop-name-preserved c =

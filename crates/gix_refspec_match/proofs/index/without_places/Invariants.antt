@@ -1,4 +1,3 @@
--- the keys are the names so far
 use Rattle.gix_refspec_match.proofs.Common.{[], map, take, HavePlaces, list_of, name_bytes}
 
 abbrev pub invariant-loop-name : Rattle.gix_refspec_match.proofs.index.without_places.Given.invariant-loop-name

@@ -51,16 +51,13 @@ module _ {len bits : ℕ} {keys firsts : List ℕ} {first at : ℕ} (are : AreFi
   pub are_firsts : length keys ≤ at → AreFirsts len bits keys firsts
   are_firsts past = record { size = are.size; back = are.back; found = λ i k second. are.found i (omega (arith, second.inside)) k second }
 
--- the first that was read at an index, if it isn't that index itself
 pub first_below : {len bits : ℕ} {keys firsts : List ℕ} → AreFirsts len bits keys firsts → (i j : ℕ) → i < length firsts → j ≡ get_or firsts i j → j ≢ i → (j < i) × (i < len)
 first_below {len} {bits} {keys} {firsts} are i j below read other =
     let value : j ≡ get_or firsts i i = get_or_read firsts i j below read i in (omega (arith, are.back i, value, other), grind (arith, are.size))
 
--- where there is an earlier first, there is an index
 pub first_inside : (firsts : List ℕ) (k : ℕ) → get_or firsts k k < k → k < length firsts
 first_inside firsts k told = elim (cases_lt k (length firsts)) [ inl below ↦ below | inr past ↦ absurd (omega (arith, told, get_or_past firsts k k past)) ]
 
--- an element that equals an earlier one is a duplicate
 pub equal_is_duplicate : {T : Type 0} (order : T → T → Ordering) (xs : List T) {j k : ℕ} {x y : T} → j < k → k < length xs
     → x ≡ get_or xs j x → y ≡ get_or xs k y → order x y ≡ Equal → IsDuplicate order xs k
 equal_is_duplicate {T} order xs {j} {k} {x} {y} less below is_x is_y equal = (below, (j, less, pair_read xs (λ a b. order a b ≡ Equal) j k x y (omega arith) below is_x is_y equal))

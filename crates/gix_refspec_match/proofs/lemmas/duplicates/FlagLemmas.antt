@@ -3,17 +3,14 @@ use Rattle.std.proofs.Common.{List, [], ◌∷◌, refl, ◌≡◌, ℕ, true, f
 use Rattle.std.specs.{Prelude.IfOk, Ordering.is_eq, Ordering.is_ne}
 use Rattle.gix_refspec_match.specs.{Private.Duplicates.FlagsDuplicates, Private.Duplicates.IsDuplicate, Private.Kept.IsFlagged}
 
--- an element, where there is one
 pub some_element : {T : Type 0} (xs : List T) (k : ℕ) → k < length xs → T
 some_element [] k below = absurd (omega arith)
 some_element (x ∷ xs) k below = x
 
--- what holds of a value for another reason
 pub ok_weaker : {T E : Type 0} (r : Result T E) (P Q : T → Type 0) → ((x : T) → P x → Q x) → IfOk r P → IfOk r Q
 ok_weaker (Ok x) P Q make p = make x p
 ok_weaker (Err e) P Q make p = p
 
--- what the tests of an ordering say
 pub equal_told : (o : Ordering) → (is_eq o ≡ true) ⊎ (is_ne o ≡ false) → o ≡ Equal
 equal_told Equal told = refl
 equal_told o told = grind arith

@@ -6,7 +6,6 @@ use Rattle.gix_refspec_match.proofs.Common.{IsSorted, Contains, filter, nat_cmp,
 use Rattle.gix_refspec_match.proofs.lemmas.duplicates.FlagLemmas.{some_element}
 use Rattle.gix_refspec_match.proofs.lemmas.duplicates.OrderedLemmas.{AreNumbered, apart_permuted, numbered_apart, second_found}
 
--- the upper and the lower bits of a key
 pub packed : (hash index bits key : ℕ) → hash < 18446744073709551616 → index < 2 ^ bits → key ≡ bit_or (hash / 2 ^ bits * 2 ^ bits % 18446744073709551616) index
     → (key / 2 ^ bits ≡ hash / 2 ^ bits) × (key % 2 ^ bits ≡ index)
 packed hash index bits key fits below is =
@@ -14,11 +13,9 @@ packed hash index bits key fits below is =
     let less : upper * 2 ^ bits < 18446744073709551616 = omega (arith, div-mul-le_self hash (2 ^ bits), fits) in
     rw (is, mod-eq_of_lt less, or_shifted upper bits index below) (div-mul-add upper (2 ^ bits) index below, mod-mul-add upper (2 ^ bits) index below)
 
--- numbers with the same upper bits differ by their lower bits
 pub same_upper : (a b bits : ℕ) → HaveSameUpper bits a b → a + b % 2 ^ bits ≡ b + a % 2 ^ bits
 same_upper a b bits same = let up : a / 2 ^ bits * 2 ^ bits ≡ b / 2 ^ bits * 2 ^ bits = ap (λ x. x * 2 ^ bits) same in omega (arith, shr_split a bits, shr_split b bits, up)
 
--- what passes a test stays
 pub contains_filter : {X : Type 0} (test : X → Bool) (xs : List X) (x : X) → Contains xs x → test x ≡ true → Contains (filter test xs) x
 contains_filter {X} test xs x has passes =
     let other : X → Bool = λ y. not (test y) in

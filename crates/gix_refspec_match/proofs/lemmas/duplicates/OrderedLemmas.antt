@@ -35,7 +35,6 @@ module _ {X : Type 0} (index : X → ℕ) where
       let first : a < b = grind (arith, up b a x, x_at x, y_at x, apart) in
       (b, record { later = omega arith; inside = in_b; same = λ d. grind (arith, squeeze (get_or xs (b - 1) d), up a (b - 1) d, up (b - 1) b d, x_at d, y_at d); here = λ d. ap index (y_at d) })
 
--- all elements, in another order
 pub placed_permuted : {T : Type 0} {xs : List T} {ps qs : List (Placed T)} {n : ℕ} → length xs ≤ n → AreNumbered (λ p. p.index) (IsPlaced xs) ps n → IsPermutation ps qs → ArePlaced xs qs
 placed_permuted {T} {xs} {ps} {qs} {n} past are moved = record {
   each = All-permutation (IsPlaced xs) ps qs moved are.each;
@@ -58,7 +57,6 @@ module _ {T : Type 0} {order : T → T → Ordering} (total : IsTotalOrder order
   rising_indexes : (p q : Placed T) → Le p q → HaveEqualElements order q p → p.index ≤ q.index
   rising_indexes p q le same = ge_from_not_lt q.index p.index (rw same at le)
 
-  -- what is between equal elements equals them
   squeezed : (a m b : Placed T) → Le a m → Le m b → HaveEqualElements order a b → HaveEqualElements order m b
   squeezed a m b after before same =
       tied_back total b.element.now m.element.now (between _ _ _ (rw (total.antisymm m.element.now a.element.now, total.congr a.element.now b.element.now m.element.now same) at after) before)
@@ -67,13 +65,11 @@ module _ {T : Type 0} {order : T → T → Ordering} (total : IsTotalOrder order
       between Equal u v left right = refl
       between o u v left right = absurd (cc)
 
-  -- all elements, sorted
   module _ {xs : List T} {ps : List (Placed T)} (are : ArePlaced xs ps)
       (sorted : IsSorted (placed_order order) ps) where
     not_fallen : (i j : ℕ) (d : Placed T) → i ≤ j → j < length ps → Le (get_or ps i d) (get_or ps j d)
     not_fallen = sorted_far (λ p q. is_lt (placed_order order p q)) (ranks_by placed_total (λ (p : Placed T). p)) ps sorted
 
-    -- an element that follows an equal one is a duplicate
     pub follower_is_duplicate : (at : ℕ) (q p : Placed T) → 0 < at → at < length ps → q ≡ get_or ps (at - 1) q → p ≡ get_or ps at p → HaveEqualElements order q p → IsDuplicate order xs p.index
     follower_is_duplicate at q p some below is_q is_p same =
         let q_at : q ≡ get_or ps (at - 1) p = get_or_read ps (at - 1) q (omega arith) is_q p in
@@ -83,7 +79,6 @@ module _ {T : Type 0} {order : T → T → Ordering} (total : IsTotalOrder order
         let less : q.index < p.index = grind (arith, rise, are.apart (at - 1) at p, is_p, q_at) in
         (b.inside, (q.index, less, λ d. rw (← a.is d, ← b.is d) same))
 
-    -- a duplicate follows an equal one
     pub duplicate_follows : (k : ℕ) → IsDuplicate order xs k → (at : ℕ) × IsSecond (HaveEqualElements order) (λ p. p.index) ps at k
     duplicate_follows k (below, (j, before, equal)) =
         let (q, has_q, q_at) = are.every j (omega (arith, before, below)) in

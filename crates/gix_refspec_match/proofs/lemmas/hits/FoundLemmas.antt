@@ -7,7 +7,6 @@ use Rattle.gix_refspec_match.proofs.lemmas.lists.ListsLemmas.{made_map}
 abbrev pub blank : Ref
 blank = record { name = []; target = []; object = None }
 
--- a pattern matches where there is a word between its texts
 pub pattern_told : (before after n : List ℕ) (r : Ref) (found : Option (Bor (List ℕ))) (told : Bool) → n ≡ r.name → told ≡ is_some found → MatchOption found ((word : List ℕ) → ¬ (Fits before after n word)) (λ word. Fits before after n word.now) → IsTrue told ↔ IsMatched (pattern before after) r
 pattern_told before after n r None told same is none = ((λ yes. absurd (false≢true (sym is ∙ yes))), (λ matched. absurd (other matched.0 matched.1)))
   where
@@ -26,6 +25,5 @@ made_each {X} {Y} view R S xs ys each are = rw map-id at (made_map (λ x. x) vie
     one i d below None none = λ v here. let (y, of) = (each i d below).1 v here in none y of
     one i d below (Some y) of = (each i d below).0 y of
 
--- the mappings that hits make
 abbrev pub of_hits : Candidates → List Hit → List Mapped
 of_hits which hits = map (mapping_of which) hits

@@ -3,10 +3,8 @@
 use Rattle.gix_refspec_match.proofs.Common.{List, [], ◌∷◌, refl, ◌≡◌, ℕ, ◌++◌, sym, ◌∙◌, arith, inl, inr, ap, append-nil, ◌<◌, length, map, ◌+◌, get_or, append_assoc, zero, suc, Bool, add-zero, length-append}
 use Rattle.gix_refspec_match.proofs.Common.{get_or-append_seam, get_or_append_left, map-append, IsPositive, Ref, Reading, IsMadeFrom, IsJoinedFrom, Ends, Hit, IsHit, AreSpecHits, AreHits, Mapped, IsSamePair}
 use Rattle.gix_refspec_match.proofs.Common.{HasPair, HaveSameSides, FlagsEqual, mapping_of, Thins, IsFlagged, HaveKinds, HasEnds, TakesIn, AreMatcherOf, AreMatchersOf, Candidates, All, First, Matcher, Matchers}
-use Rattle.gix_refspec_match.proofs.lemmas.hits.FoundLemmas.{made_each, of_hits}
-use Rattle.gix_refspec_match.proofs.lemmas.keep.KeptLemmas.{HasPair-left}
-use Rattle.gix_refspec_match.proofs.lemmas.keep.ThinLemmas.{pair_right, thins_both}
-use Rattle.gix_refspec_match.proofs.lemmas.lists.JoinLemmas.{joined_next}
+use Rattle.gix_refspec_match.proofs.lemmas.{hits.FoundLemmas.made_each, hits.FoundLemmas.of_hits, lists.JoinLemmas.joined_next}
+use Rattle.gix_refspec_match.proofs.lemmas.keep.{KeptLemmas.HasPair-left, ThinLemmas.pair_right, ThinLemmas.thins_both}
 
 -- the same hit, by the spec at place k
 abbrev at_spec : ℕ → Hit → Hit
@@ -20,11 +18,8 @@ pair_at : (which : Candidates) (k : ℕ) (h : Hit) → IsSamePair (mapping_of wh
 pair_at First k h = record { source = refl; destination = refl }
 pair_at All k h = record { source = refl; destination = refl }
 
--- every pair of the list is there
 abbrev Holds : List Mapped → List Mapped → Type 0
 Holds all some = (m : Mapped) → HasPair some m → HasPair all m
-
--- ---- the hits of one spec
 
 module _ (which : Candidates) (items : List Ref) where
   abbrev SpecHits : ℕ → Reading → List Hit → Type 0
@@ -58,8 +53,6 @@ thins_again g which k before (h ∷ hits) holds =
     let m = mapping_of which (at_spec k h) in
     inr (inl (holds m (inl (pair_at which k h))), thins_again g which k (before ++ m ∷ []) hits (λ x has. HasPair-left before (m ∷ []) x (holds x (inr has))))
 
--- ---- spec by spec
-
 module _ (g : List Reading) (which : Candidates) (items : List Ref) where
   -- where a matcher finds enough: the hits of its spec make these mappings, but for some that may be left out, whatever was
   -- mapped before
@@ -74,14 +67,12 @@ module _ (g : List Reading) (which : Candidates) (items : List Ref) where
   abbrev pub FindEnough : ℕ → List Matcher → List Mapped → Type 0
   FindEnough n ms some = IsJoinedFrom (λ (k : ℕ) (m : Matcher) (made : List Mapped). FindsEnough m made) n ms some
 
-  -- one more spec
   most_next : (front : List Reading) (r : Reading) (some more : List Mapped) (hits : List Hit) → SpecHits which items (length front) r hits
       → (so_far : AreMostOf front some) → Thins g (of_hits which so_far.0) (of_hits which hits) more → AreMostOf (front ++ r ∷ []) (some ++ more)
   most_next front r some more hits are so_far thins =
       let joined = joined_next (SpecHits which items) (length front) front r so_far.0 hits refl so_far.1 are in
       (so_far.0 ++ hits, joined, rw map-append (thins_both g [] (of_hits which so_far.0) some (of_hits which hits) more so_far.2 thins))
 
-  -- a spec that is flagged makes nothing new
   flagged_next : (flags : List Bool) (front rest : List Reading) (r : Reading) (some : List Mapped) → FlagsEqual (front ++ (r ∷ rest)) flags → IsFlagged flags (length front) → IsPositive r.mode
       → AreMostOf front some → AreMostOf (front ++ r ∷ []) (some ++ [])
   flagged_next flags front rest r some equal flagged positive so_far =
@@ -114,6 +105,5 @@ module _ (g : List Reading) (which : Candidates) (items : List Ref) where
       let whole = append_assoc front (r ∷ []) rest in
       rw (all, ← append_assoc, ← whole) (most_from flags (front ++ r ∷ []) rest n2 others (some ++ here) later (rw whole equal) (rw length-append behind) find next)
 
-  -- the hits of the matchers of a group make most of its mappings
   pub most_found : (ms : Matchers) (some : List Mapped) → AreMatchersOf which g ms → FindEnough 0 ms.list.items some → AreMostOf g some
   most_found ms some are found = most_from are.flags [] g 0 ms.list.items [] some are.equal are.made found ([], refl, refl)

@@ -4,10 +4,8 @@ use Rattle.gix_refspec_match.proofs.Common.{append_cancel_left, AllByRecursion, 
 use Rattle.gix_refspec_match.proofs.Common.{MatchesAs, pattern, object, HasKind, full_name, partial, SideKind, Fits, IsCandidate, candidates, Reading, Ends, IsFilled, Hit, IsHit, AreSpecHits, IsIdMapping}
 use Rattle.gix_refspec_match.proofs.Common.{AreBackward, AreForward, OneForward, OneBackward, Mapped, IsKeptAt, IsKept, HaveKinds, HasEnds, TakesIn, filled_side, HasSideKind, IsFirstIn, Candidates, All, First}
 use Rattle.gix_refspec_match.proofs.Common.{Matcher}
-use Rattle.gix_refspec_match.proofs.lemmas.lists.JoinLemmas.{one_joined, MakesOnce}
-use Rattle.gix_refspec_match.proofs.lemmas.lists.ListsLemmas.{made_once}
+use Rattle.gix_refspec_match.proofs.lemmas.lists.{JoinLemmas.one_joined, JoinLemmas.MakesOnce, ListsLemmas.made_once}
 
--- the word is what is left of the name after its front, without its end
 pub word_left : (before after n rest : List ℕ) (r : Option (Bor (List ℕ))) → n ≡ before ++ rest → MatchOption r ((front : List ℕ) → rest ≢ front ++ after) (λ x. rest ≡ x.now ++ after) → MatchOption r ((word : List ℕ) → ¬ (Fits before after n word)) (λ word. Fits before after n word.now)
 word_left before after n rest None front left = λ word fits. left word (append_cancel_left before rest (word ++ after) (sym front ∙ fits))
 word_left before after n rest (Some x) front left = front ∙ ap (λ y. before ++ y) left
@@ -24,21 +22,17 @@ candidate_cases x n one =
     AllByRecursion-parts P one.earlier n one.later (subst (AllByRecursion P) one.here
     (put [] (inl refl), (put _ (inr (inl refl)), (put _ (inr (inr (inl refl))), (put _ (inr (inr (inr (inl refl)))), (put _ (inr (inr (inr (inr refl)))), (inr refl, tt)))))))
 
--- and these are candidates
 candidate_at : (x n : List ℕ) (k : ℕ) → candidates x ≡ take k (candidates x) ++ (n ∷ drop (k + 1) (candidates x)) → IsCandidate x n
 candidate_at x n k is = record { earlier = take k (candidates x); later = drop (k + 1) (candidates x); here = is }
 
 pub placed_candidate : (x n before : List ℕ) → IsFolder before → n ≡ before ++ x → IsCandidate x n
-placed_candidate x n before (inl e) same = candidate_at x n 0 (rw (same, e))
-placed_candidate x n before (inr (inl e)) same = candidate_at x n 1 (rw (same, e))
-placed_candidate x n before (inr (inr (inl e))) same = candidate_at x n 2 (rw (same, e))
-placed_candidate x n before (inr (inr (inr (inl e)))) same = candidate_at x n 3 (rw (same, e))
-placed_candidate x n before (inr (inr (inr (inr e)))) same = candidate_at x n 4 (rw (same, e))
+placed_candidate x n before folder same =
+    let at = candidate_at x n in
+    grind (arith, at 0, at 1, at 2, at 3, at 4)
 
 pub remote_candidate : (x n : List ℕ) → n ≡ codes "refs/remotes/" ++ (x ++ codes "/HEAD") → IsCandidate x n
 remote_candidate x n same = candidate_at x n 5 (rw same)
 
--- a side has one kind
 pub one_kind : (x : List ℕ) (k l : SideKind) → HasKind x k → HasKind x l → k ≡ l
 one_kind x (pattern before after) (pattern fixed rest) a b = let once = split_once x before after fixed rest a b in cc (once.0, once.1)
 one_kind x (full_name n) (full_name m) a b = cc (a.0, b.0)
@@ -46,12 +40,10 @@ one_kind x (object id) (object other) a b = ap object (IsIdText-unique x id othe
 one_kind x (partial n) (partial m) a b = cc (a.0, b.0)
 one_kind x k l a b = absurd (grind (arith, lacks_no_pattern))
 
--- a side of the kind matches with one word at most
 same_word : (k : SideKind) (r : Ref) (v w : Option (List ℕ)) → MatchesAs k r v → MatchesAs k r w → v ≡ w
 same_word (pattern before after) r (Some v) (Some w) of_v of_w = ap Some (one_word before after r.name v w of_v of_w)
 same_word k r v w of_v of_w = search rules
 
--- a side that has the kind matches as that
 pub matches_as : (x : List ℕ) (k : SideKind) (r : Ref) (word : Option (List ℕ)) → HasKind x k → Matches x r word → MatchesAs k r word
 matches_as x k r word kind matches = rw (one_kind x matches.kind k matches.of kind) at matches.is
 
@@ -69,13 +61,11 @@ taken_first First items x (partial n) r word of takes = takes.first n of
 taken_first All items x (partial n) r word of takes = tt
 taken_first which items x k r word of takes = tt
 
--- a far end becomes what its kind says
 pub far_filled : (x : Option (List ℕ)) (k : Option DeclaredKind) (word n : Option (List ℕ)) → HasSideKind x k → n ≡ filled_side k word → IsFilled x word n
 far_filled None None word n kind same = same
 far_filled (Some x) (Some k) word n kind same = (kind_of_side k, kind, same)
 far_filled side k word n kind same = absurd kind
 
--- what is made where an end of the kinds takes an item
 pub is_hit : (which : Candidates) (items : List Ref) (ends : Ends) (kinds : Matcher) (k j : ℕ) (r : Ref) (word : Option (List ℕ)) (hit : Hit) → HaveKinds ends kinds → MatchesAs (kind_of_side kinds.needle) r word → IsFirstIn (kind_of_side kinds.needle) which items r.name → hit.far ≡ filled_side kinds.other word → hit.near ≡ r.name → hit.spec ≡ k → hit.item ≡ j → IsHit (TakesIn which items) ends k j r hit
 is_hit which items ends kinds k j r word hit have matches first far near spec item =
     search (takes_in which items ends.near (kind_of_side kinds.needle) r word have.near matches first, far_filled ends.far kinds.other word hit.far have.far far)
@@ -83,7 +73,6 @@ is_hit which items ends kinds k j r word hit have matches first far near spec it
 pub same_side : (side : Option (List ℕ)) (x y : List ℕ) → side ≡ Some x → side ≡ Some y → x ≡ y
 same_side side x y of_x of_y = cc
 
--- a reading has one pair of ends
 same_ends : (a b : Ends) → a.near ≡ b.near → a.far ≡ b.far → a ≡ b
 same_ends a b near far = λ i. record { near = near i; far = far i }
 
@@ -91,7 +80,6 @@ pub one_pair : (which : Candidates) (r : Reading) (a b : Ends) → HasEnds which
 one_pair First r a b of_a of_b = same_ends a b (cc) (cc)
 one_pair All r a b of_a of_b = same_ends a b (cc) (cc)
 
--- a far end becomes one name
 filled_once : (x : Option (List ℕ)) (word n m : Option (List ℕ)) → IsFilled x word n → IsFilled x word m → n ≡ m
 filled_once None word n m a b = cc
 filled_once (Some x) word n m a b = cc (a.2, b.2, one_kind x a.0 b.0 a.1 b.1)
@@ -109,7 +97,6 @@ spec_hits_once which items k r g h (inl (ends, has, a)) (inr (none, b)) = absurd
 spec_hits_once which items k r g h (inr (none, a)) (inl (others, have, b)) = absurd (none others have)
 spec_hits_once which items k r g h (inr (none, a)) (inr (_, b)) = a ∙ sym b
 
--- a spec asks for one id
 pub id_once : MakesOnce IsIdMapping
 id_once k r m n a b =
     let text : b.text ≡ a.text = cc (a.side, b.side) in
@@ -124,7 +111,6 @@ forward_once rs items l m a b = cc (a.all, b.all, made_once _ id_once 0 rs a.ids
 pub backward_once : (rs : List Reading) (items : List Ref) (l m : List Mapped) → AreBackward rs items l → AreBackward rs items m → l ≡ m
 backward_once rs items l m a b = cc (a.all, b.all, one_joined _ (spec_hits_once All items) 0 rs a.hits b.hits a.are_hits b.are_hits)
 
--- so the group and the items determine what is kept
 kept_once : (rs : List Reading) (all l m : List Mapped) → IsKept rs all l → IsKept rs all m → l ≡ m
 kept_once rs all = made_once (λ k x made. (made ≡ x) × IsKeptAt rs all k x) (λ k x y z of_y of_z. of_y.0 ∙ sym of_z.0) 0 all
 

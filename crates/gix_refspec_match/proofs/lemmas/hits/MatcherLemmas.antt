@@ -3,10 +3,7 @@ use Rattle.gix_refspec_match.proofs.Common.{List, [], ◌∷◌, None, Some, ref
 use Rattle.gix_refspec_match.proofs.Common.{◌≤◌, ◌↔◌, IsTrue, Bool, false≢true, length-map, get_or-map, bool_cmp, ordering_then, map_next, kind_of_side, IsPositive, id_bytes, reading_of, ObjectId, DeclaredKind}
 use Rattle.gix_refspec_match.proofs.Common.{Object, RefSpecRef, object, HasKind, Negative, Reading, Mode, IsJoinedFrom, Ends, AreForwardEnds, AreBackwardEnds, FlagsDuplicates, HaveSameSides, FlagsEqual}
 use Rattle.gix_refspec_match.proofs.Common.{excludes, side_order, sides_order, IsFlagged, HasNoSides, HaveSides, AreMatcherOf, AreObjectOf, HasSideKind, both_equal, same_options, Candidates, All, First, Sides}
-use Rattle.gix_refspec_match.proofs.lemmas.hits.HitLemmas.{one_kind}
-use Rattle.gix_refspec_match.proofs.lemmas.lists.JoinLemmas.{map_long, joined_next}
-
--- ---- a spec without sides
+use Rattle.gix_refspec_match.proofs.lemmas.{hits.HitLemmas.one_kind, lists.JoinLemmas.map_long, lists.JoinLemmas.joined_next}
 
 pub no_matcher : (which : Candidates) (flags : List Bool) (k : ℕ) (r : Reading) → HasNoSides r → AreMatcherOf which flags k r []
 no_matcher First flags k r none = inr (inr (λ ends has. none has.positive (rw has.near)), refl)
@@ -15,14 +12,10 @@ no_matcher All flags k r none = inr (inr (λ ends has. none has.positive (rw has
 pub no_object : (k : ℕ) (r : Reading) → HasNoSides r → AreObjectOf k r []
 no_object k r none = inr ((λ bytes asks. none asks.positive (rw asks.side)), refl)
 
--- ---- a spec with sides
-
--- a side that has a kind is there
 pub side_shown : (side : Option (List ℕ)) (k : DeclaredKind) → HasSideKind side (Some k) → (text : List ℕ) × (side ≡ Some text) × HasKind text (kind_of_side k)
 side_shown None k kind = absurd kind
 side_shown (Some text) k kind = (text, refl, kind)
 
--- a side of another kind isn't an id
 not_id : (x : List ℕ) (k : DeclaredKind) → ((id : ObjectId) → k ≢ Object id) → HasKind x (kind_of_side k) → (bytes : List ℕ) → ¬ (HasKind x (object bytes))
 not_id x (Object id) other kind bytes is = other id refl
 not_id x k other kind bytes is = cc (one_kind x (kind_of_side k) (object bytes) kind is)
@@ -37,7 +30,6 @@ module _ (r : Reading) (sides : Sides) (have : HaveSides r sides) where
   pub object_unmatched : (flags : List Bool) (k : ℕ) (id : ObjectId) → sides.source ≡ Object id → AreMatcherOf First flags k r []
   object_unmatched flags k id is = inr (inr (λ ends are. are.no_object (id_bytes id) (rw (are.near, is) at have.source)), refl)
 
-  -- another one asks for none, and matches
   pub no_id_object : (k : ℕ) → ((id : ObjectId) → sides.source ≢ Object id) → AreObjectOf k r []
   no_id_object k other = inr ((λ bytes asks. not_id asks.text sides.source other (rw asks.side at have.source) bytes asks.kind), refl)
 
@@ -49,7 +41,6 @@ module _ (r : Reading) (sides : Sides) (have : HaveSides r sides) where
       let has : AreForwardEnds r ends = record { positive = have.positive; near = side; far = refl; no_object = not_id text sides.source other kind } in
       inl (_, record { unflagged = λ flagged. false≢true (sym is ∙ told.1 flagged); ends = ends; has = has; kinds = record { near = kind; far = have.destination }; spec = refl }, refl)
 
-  -- from right to left a destination matches
   pub backward_unmatched : (flags : List Bool) (k : ℕ) → sides.destination ≡ None → AreMatcherOf All flags k r []
   backward_unmatched flags k is = inr (inr (λ ends are. rw (are.near, is) at have.destination), refl)
 
@@ -65,8 +56,6 @@ module _ (r : Reading) (sides : Sides) (have : HaveSides r sides) where
   pub flagged_matcher : (which : Candidates) (flags : List Bool) (k : ℕ) (b : Bool) → IsTrue b ↔ IsFlagged flags k → b ≡ true → AreMatcherOf which flags k r []
   flagged_matcher which flags k b told is = inr (inl (told.0 is, have.positive), refl)
 
--- ---- one more spec
-
 module _ {Y : Type 0} (R : ℕ → Reading → List Y → Type 0) (specs : List RefSpecRef) (i : ℕ) (s : RefSpecRef) (old : List Y) (below : i < length specs)
     (is : s ≡ get_or specs i s) (so_far : IsJoinedFrom R 0 (map reading_of (take i specs)) old) where
   pub spec_joined : (new made : List Y) → new ≡ old ++ made → R i (reading_of s) made → IsJoinedFrom R 0 (map reading_of (take (i + 1) specs)) new
@@ -77,7 +66,6 @@ module _ {Y : Type 0} (R : ℕ → Reading → List Y → Type 0) (specs : List 
 
 -- ---- duplicates among specs
 
--- of two modes that are equally negative both are positive, or none is
 positive_alike : (m n : Mode) → bool_cmp (excludes m) (excludes n) ≡ Equal → IsPositive n → IsPositive m
 positive_alike Negative Negative same is = is
 positive_alike m n same is = search rules
@@ -88,7 +76,6 @@ same_sides r s is positive =
     let sides = both_equal (side_order r.source s.source) _ both.0 in
     search (rules, positive_alike, same_options, both.1, sides.0, sides.1)
 
--- duplicates are specs with the sides of an earlier one
 pub equal_from_duplicates : (specs : List RefSpecRef) (flags : List Bool) → FlagsDuplicates (λ (x : RefSpecRef) (y : RefSpecRef). sides_order (reading_of x) (reading_of y)) specs flags → FlagsEqual (map reading_of specs) flags
 equal_from_duplicates [] flags all index flagged positive = let (below, _) = (all index).0 flagged in absurd (omega (arith, below))
 equal_from_duplicates (s ∷ rest) flags all index flagged positive =

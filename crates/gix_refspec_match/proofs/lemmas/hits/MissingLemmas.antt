@@ -3,16 +3,13 @@ use Rattle.gix_refspec_match.proofs.Common.{List, [], ◌∷◌, None, Some, ref
 use Rattle.gix_refspec_match.proofs.Common.{length-take-le, get_or_default, take_more, AllByRecursion, Contains, kind_of_side, reading_of, RefSpecRef, Ref, MatchesAs, pattern, object, HasKind, full_name}
 use Rattle.gix_refspec_match.proofs.Common.{partial, SideKind, Reading, MakesOf, IsMadeFrom, AreMissing, LacksSource, HasNone, IsIndexFor, TakesWhole, ArePlacesTaken, AreNamed, HasNoSides, HaveSides, IsNamed}
 use Rattle.gix_refspec_match.proofs.Common.{IsNameKind, Index, All, Matcher, Sides}
-use Rattle.gix_refspec_match.proofs.lemmas.hits.HitLemmas.{one_kind}
-use Rattle.gix_refspec_match.proofs.lemmas.hits.MatcherLemmas.{side_shown}
+use Rattle.gix_refspec_match.proofs.lemmas.hits.{HitLemmas.one_kind, MatcherLemmas.side_shown}
 use Rattle.gix_refspec_match.proofs.lemmas.lists.JoinLemmas.{made_more, made_next, made_none}
 use Rattle.gix_refspec_text.specs.declared.side.SideKind.TheVariants as side
 
 -- what a read past the end gives
 abbrev pub blank_matcher : Matcher
 blank_matcher = record { spec_index = 0; needle = side.Pattern (record { ref_ptr = (0, 0); now = [] }) (record { ref_ptr = (0, 0); now = [] }); other = None }
-
--- ---- the matchers of names
 
 pub named_here : (k : ℕ) (r : Reading) (sides : Sides) → HaveSides r sides → IsNameKind (kind_of_side sides.source) → IsNamed k r (record { spec_index = k; needle = sides.source; other = None })
 named_here k r sides have name =
@@ -32,45 +29,33 @@ pub named_next : (specs : List RefSpecRef) (i : ℕ) (s : RefSpecRef) (old new :
 named_next specs i s old new made below is so_far makes more =
     made_more IsNamed reading_of specs i s old new made below so_far (subst (λ (x : RefSpecRef). MakesOf IsNamed i (reading_of x) made) is makes) more
 
--- where nothing can be made, nothing is
 none_made : {X Y : Type 0} (R : ℕ → X → Y → Type 0) (k : ℕ) (xs : List X) (ys : List Y) → ((i : ℕ) (d : X) → i < length xs → (y : Y) → ¬ (R (k + i) (get_or xs i d) y)) → IsMadeFrom R k xs ys → ys ≡ []
 none_made R k [] ys none made = made
 none_made R k (x ∷ xs) ys none (Some z, rest, here, more, is) = absurd (none 0 x (omega arith) z (subst (λ (n : ℕ). R n x z) (omega arith) here))
 none_made R k (x ∷ xs) ys none (None, rest, here, more, is) =
     is ∙ none_made R (k + 1) xs rest (λ i d below y holds. none (suc i) d (omega arith) y (subst (λ (n : ℕ). R n (get_or xs i d) y) (omega arith) holds)) more
 
--- ---- a name that no ref has
-
--- a name matches a ref without a word
 without_word : (kind : SideKind) (ref : Ref) (word : Option (List ℕ)) → IsNameKind kind → MatchesAs kind ref word → MatchesAs kind ref None
-without_word (pattern before after) ref word name is = absurd name
-without_word (object id) ref word name is = absurd name
-without_word kind ref word name is = (refl, is.1)
+without_word kind ref word name is = grind (arith, name, is)
 
--- no place is taken exactly where no ref is
 none_placed : (kind : SideKind) (refs : List Ref) (places : List ℕ) → ArePlacesTaken kind All refs places → (places ≡ []) ↔ ((ref : Ref) → Contains refs ref → ¬ (TakesWhole kind All refs ref))
 none_placed kind refs places are = (
   (λ none ref (i, below, is) takes. made_none _ 0 refs (rw none at are) i ref below (0 + i) (rw is takes, refl)),
   (λ none. none_made _ 0 refs places (λ i d below y holds. none (get_or refs i d) (i, below, get_or_default refs i (get_or refs i d) d below) holds.0) are),
 )
 
--- a name has none in the index exactly where it matches no ref
 lacks_kind : (index : Index) (refs : List Ref) (kind : SideKind) → IsNameKind kind → IsIndexFor All refs index kind → HasNone index kind ↔ ((ref : Ref) → Contains refs ref → ¬ (MatchesAs kind ref None))
 lacks_kind index refs (pattern before after) name for = absurd name
 lacks_kind index refs (object id) name for = absurd name
 lacks_kind index refs kind name for = none_placed kind refs _ for.names
 
 named_kind : (x : List ℕ) (kind : SideKind) → IsNameKind kind → HasKind x kind → HasKind x (full_name x) ⊎ HasKind x (partial x)
-named_kind x (full_name n) name of = inl (refl, of.1, of.2)
-named_kind x (partial n) name of = inr (refl, of.1, of.2, of.3)
-named_kind x kind name of = absurd name
+named_kind x kind name of = grind (arith, name, of)
 
--- a full or partial name is the kind of some side
 kind_named : (x : List ℕ) → HasKind x (full_name x) ⊎ HasKind x (partial x) → (m : Matcher) × HasKind x (kind_of_side m.needle) × IsNameKind (kind_of_side m.needle)
 kind_named x (inl full) = (record { spec_index = 0; needle = side.FullName (record { ref_ptr = (0, 0); now = x }); other = None }, full, tt)
 kind_named x (inr short) = (record { spec_index = 0; needle = side.Partial (record { ref_ptr = (0, 0); now = x }); other = None }, short, tt)
 
--- the source of a matcher's spec is missing exactly where the index has none for its name
 module _ (index : Index) (refs : List Ref) (k : ℕ) (r : Reading) (m : Matcher) (is : IsNamed k r m) (for : IsIndexFor All refs index (kind_of_side m.needle)) where
   missing_none : LacksSource refs r → HasNone index (kind_of_side m.needle)
   missing_none lack =
@@ -116,7 +101,6 @@ pub all_missing : (index : Index) (refs : List Ref) (g : List Reading) (ms : Lis
     → AreNamed g ms → IsMadeFrom (IsLacking index) 0 ms missing → AreMissing g refs missing
 all_missing index refs g ms missing served named lacking = missing_made index refs 0 0 g ms missing served named lacking
 
--- one more matcher
 pub lacking_next : (index : Index) (ms : List Matcher) (i : ℕ) (m : Matcher) (old new : List ℕ) (made : Option ℕ) → i < length ms → IsMadeFrom (IsLacking index) 0 (take i ms) old
     → MakesOf (IsLacking index) i (get_or ms i m) made → new ≡ old ++ option_to_list made → IsMadeFrom (IsLacking index) 0 (take (i + 1) ms) new
 lacking_next index ms i m old new made below so_far makes more =

@@ -1,7 +1,7 @@
 -- What a reading takes and fills, among items.
 use Rattle.gix_refspec_match.proofs.Common.{List, refl, ℕ, Option, inl, inr, subst, Ref, Reading, Ends, IsFilled, Hit, IsHit, AreSpecHits, AreHits, HasEnds, TakesIn, Candidates}
 use Rattle.gix_refspec_match.proofs.lemmas.hits.HitLemmas.{one_pair, hit_once}
-use Rattle.gix_refspec_match.proofs.lemmas.lists.SomeLemmas.{Any, Any-weaker, made_any, MakesOnly, any_made, joined_any, any_joined}
+use Rattle.gix_refspec_match.proofs.lemmas.lists.SomeLemmas.{Any, Any-weaker, MakesOnly, any_made, any_joined}
 
 -- with these ends, the reading takes some item and fills the other side, so that P holds of both names
 abbrev pub Reaches : (Reading → Ends → Type 0) → (List ℕ → Ref → Option (List ℕ) → Type 0) → List Ref → (List ℕ → Option (List ℕ) → Type 0) → Reading → Type 0
@@ -13,16 +13,6 @@ module _ (which : Candidates) (g : List Reading) (items : List Ref) (hits : List
 
   abbrev Holds : Hit → Type 0
   Holds h = P h.near h.far
-
-  -- the hits are what readings reach
-  pub hits_reach : Any (λ (h : Hit). P h.near h.far) hits → Any (Reaches (HasEnds which) (TakesIn which items) items P) g
-  hits_reach any = Any-weaker _ _ of_reading g (joined_any AreMade Holds 0 g hits are any)
-    where
-      of_reading : (r : Reading) → (k : ℕ) × (made : List Hit) × AreMade k r made × Any Holds made → Reaches (HasEnds which) (TakesIn which items) items P r
-      of_reading r (k, made, inr (none, empty), some) = absurd (rw empty at some)
-      of_reading r (k, made, inl (ends, has, is), some) =
-          let reached = made_any (IsHit (TakesIn which items) ends k) Holds 0 items made is some in
-          (ends, has, Any-weaker _ _ (λ i of. let (j, h, hit, holds) = of in (hit.word, h.far, hit.takes, hit.far, rw hit.near at holds)) items reached)
 
   pub reach_hits : Any (Reaches (HasEnds which) (TakesIn which items) items P) g → Any (λ (h : Hit). P h.near h.far) hits
   reach_hits any = any_joined AreMade Holds 0 g hits are (Any-weaker _ _ of_reading g any)

@@ -2,11 +2,9 @@
 use Rattle.gix_refspec_match.proofs.Common.{List, [], ◌∷◌, None, Some, refl, ◌≡◌, ℕ, ◌++◌, sym, ◌∙◌, arith, inl, inr, subst, append-nil, ◌<◌, length, ◌+◌, get_or, ◌⊎◌, ◌≤◌, ◌↔◌, map-id, AllByRecursion}
 use Rattle.gix_refspec_match.proofs.Common.{all_right, first_once, first_candidate, some_first, Ref, HasName, IsFirstCandidate, MatchesAs, partial, IsCandidate, ArePlacesTaken, Joins, name_at, Candidates, All}
 use Rattle.gix_refspec_match.proofs.Common.{First}
-use Rattle.gix_refspec_match.proofs.lemmas.hits.FoundLemmas.{made_each}
+use Rattle.gix_refspec_match.proofs.lemmas.{hits.FoundLemmas.made_each, lists.JoinLemmas.made_next}
 use Rattle.gix_refspec_match.proofs.lemmas.index.PlacesLemmas.{AreWhere, Lengthen, candidates_lengthen}
-use Rattle.gix_refspec_match.proofs.lemmas.lists.JoinLemmas.{made_next}
 
--- the names of refs, with one more
 pub has_last : (refs : List Ref) (r : Ref) (n : List ℕ) → HasName (refs ++ r ∷ []) n ↔ (HasName refs n ⊎ (r.name ≡ n))
 has_last [] r n = grind arith
 has_last (s ∷ refs) r n = grind (arith, has_last refs r n)
@@ -32,12 +30,10 @@ shortest_first refs x n short =
     (subst Lengthen first.here (candidates_lengthen x)) first.absent (sym first.here ∙ short.one.here) in
     subst (IsFirstCandidate refs x) same first
 
--- there is no place, where P holds of none of the refs
 none_where : (P : Ref → Type 0) (k : ℕ) (refs : List Ref) → ((r : Ref) → HasName refs r.name → ¬ (P r)) → AreWhere P k refs []
 none_where P k [] none = refl
 none_where P k (r ∷ refs) none = (None, [], (λ y both. none r (inl refl) both.0), none_where P (k + 1) refs (λ s has. none s (inr has)), refl)
 
--- the places are the same by a word that agrees
 where_alike : (P Q : Ref → Type 0) → ((r : Ref) → P r ↔ Q r) → (refs : List Ref) (ps : List ℕ) → AreWhere P 0 refs ps → AreWhere Q 0 refs ps
 where_alike P Q alike refs ps are = rw map-id at (made_each (λ p. p) (λ k r place. P r × (place ≡ k)) (λ k r place. Q r × (place ≡ k)) refs ps
     (λ i d below. ((λ p both. ((alike (get_or refs i d)).0 both.0, both.1)), λ p both. (p, ((alike (get_or refs i d)).1 both.0, both.1)))) are)
@@ -48,7 +44,6 @@ AreFound All all x refs ps = ArePlacesTaken (partial x) All refs ps
 AreFound First all x refs [] = (n : List ℕ) → IsCandidate x n → ¬ (HasName refs n)
 AreFound First all x refs (p ∷ ps) = IsShortest refs x (name_at all p) × AreWhere (λ r. r.name ≡ name_at all p) 0 refs (p ∷ ps)
 
--- one more ref, at place i
 module _ (all refs : List Ref) (r : Ref) (x : List ℕ) (i : ℕ) (long : length refs ≡ i) (here : r.name ≡ name_at all i) where
   where_more : (P : Ref → Type 0) (ps : List ℕ) → AreWhere P 0 refs ps → P r → AreWhere P 0 (refs ++ r ∷ []) (ps ++ i ∷ [])
   where_more P ps are holds = made_next (λ k s place. P s × (place ≡ k)) i refs r ps (Some i) long are (holds, refl)
@@ -56,12 +51,10 @@ module _ (all refs : List Ref) (r : Ref) (x : List ℕ) (i : ℕ) (long : length
   where_same : (P : Ref → Type 0) (ps : List ℕ) → AreWhere P 0 refs ps → ¬ (P r) → AreWhere P 0 (refs ++ r ∷ []) ps
   where_same P ps are other = rw (← append-nil ps) (made_next (λ k s place. P s × (place ≡ k)) i refs r ps None long are (λ place both. other both.0))
 
-  -- n is the shortest with it
   shortest_next : (n : List ℕ) → IsCandidate x n → HasName refs n ⊎ (r.name ≡ n) → ((m : List ℕ) → IsCandidate x m → HasName refs m → length n ≤ length m)
       → (IsCandidate x r.name → length n ≤ length (name_at all i)) → IsShortest (refs ++ r ∷ []) x n
   shortest_next n one there least last = record { one = one; there = (has_last refs r n).1 there; least = λ m other has. let cases = (has_last refs r m).0 has in grind (arith, cases, least m, last, here) }
 
-  -- it is a candidate, and shorter than those before
   shorter_next : IsCandidate x r.name → ((n : List ℕ) → IsCandidate x n → HasName refs n → length (name_at all i) < length n) → AreFound First all x (refs ++ r ∷ []) (i ∷ [])
   shorter_next one least =
       let also = rw here at one in (
@@ -70,14 +63,12 @@ module _ (all refs : List Ref) (r : Ref) (x : List ℕ) (i : ℕ) (long : length
             (none_where (λ s. s.name ≡ name_at all i) 0 refs (λ s has same. grind (arith, least s.name))) here,
       )
 
-  -- it is no candidate, or longer than those before
   longer_next : (p : ℕ) (ps : List ℕ) → AreFound First all x refs (p ∷ ps) → (IsCandidate x r.name → length (name_at all p) < length (name_at all i)) → AreFound First all x (refs ++ r ∷ []) (p ∷ ps)
   longer_next p ps (short, are) longer = (
     shortest_next (name_at all p) short.one (inl short.there) short.least (λ one. omega (arith, longer one)),
     where_same (λ s. s.name ≡ name_at all p) (p ∷ ps) are (λ same. grind (arith, longer, short.one, here)),
   )
 
-  -- a candidate joins those that are found, and another ref doesn't
   pub found_next : (which : Candidates) (ps qs : List ℕ) → AreFound which all x refs ps → (IsCandidate x r.name × Joins which all i ps qs) ⊎ (¬ (IsCandidate x r.name) × (qs ≡ ps))
       → AreFound which all x (refs ++ r ∷ []) qs
   found_next All ps qs are (inl (one, is)) = rw is (where_more (λ s. MatchesAs (partial x) s None) ps are (refl, one))
@@ -93,7 +84,6 @@ module _ (all refs : List Ref) (r : Ref) (x : List ℕ) (i : ℕ) (long : length
       let also = shortest_next (name_at all i) (rw here at one) (inr here) (λ n other has. omega (arith, equal, short.least n other has)) (λ _. omega arith) in
       rw is (still, where_more (λ s. s.name ≡ name_at all p) (p ∷ ps) are (here ∙ first_once (refs ++ r ∷ []) x (name_at all i) (name_at all p) (first _ also) (first _ still)))
 
--- after all refs
 pub found_taken : (which : Candidates) (all : List Ref) (x : List ℕ) (ps : List ℕ) → AreFound which all x all ps → ArePlacesTaken (partial x) which all ps
 found_taken All all x ps are = are
 found_taken First all x [] none = none_where (λ s. IsFirstCandidate all x s.name) 0 all (λ s has first. none s.name (first_candidate all x s.name first) has)

@@ -4,20 +4,16 @@ use Rattle.gix_refspec_match.proofs.Common.{not_from_Decides, bytes_eq-Decides, 
 use Rattle.gix_refspec_match.proofs.Common.{Vec}
 use Rattle.gix_refspec_match.proofs.lemmas.lists.JoinLemmas.{made_more}
 
--- what is listed for each name
 abbrev pub Listed : Type 0
 Listed = List ℕ → Option (Vec ℕ)
 
--- the new list is put at the name n
 abbrev pub Puts : List ℕ → Vec ℕ → Listed → Listed → Type 0
 Puts n v old new = (q : List ℕ) → new q ≡ cond (bytes_eq n q) (Some v) (old q)
 
--- the name itself, and another one
 pub put_cases : (n : List ℕ) (v : Vec ℕ) (old new : Listed) → Puts n v old new → (q : List ℕ) → ((n ≡ q) × (new q ≡ Some v)) ⊎ ((n ≢ q) × (new q ≡ old q))
 put_cases n v old new puts q =
     elim (cases_Bool (bytes_eq n q)) [ inl is ↦ inl ((bytes_eq-Decides n q).0 is, rw is at (puts q)) | inr is ↦ inr (not_from_Decides _ (bytes_eq-Decides n q) is, rw is at (puts q)) ]
 
--- one more name, without a place
 pub one_more_name : (ns : List (List ℕ)) (n : List ℕ) (v : Vec ℕ) (old new : Listed) → v.items ≡ [] → Puts n v old new → HavePlaces ns [] old → HavePlaces (ns ++ n ∷ []) [] new
 one_more_name ns n v old new empty puts have = record {
   each = λ q there. elim (put_cases n v old new puts q) [
@@ -27,12 +23,10 @@ one_more_name ns n v old new empty puts have = record {
   others = λ q none. let cases = put_cases n v old new puts q in search (rules, Contains-push ns n, Contains-append_left ns (n ∷ []) q, have.others q);
 }
 
--- one more item, of another name
 elsewhere : (q : List ℕ) (items : List Item) (i : ℕ) (d : Item) (ps : List ℕ) → i < length items → bstr_bytes (get_or items i d).full_ref_name ≢ q
     → ArePlacesOf q (map ref_of (take i items)) ps → ArePlacesOf q (map ref_of (take (i + 1) items)) ps
 elsewhere q items i d ps below apart are = made_more _ ref_of items i d ps ps None below are (λ place both. apart both.0.1) (sym (append-nil ps))
 
--- an item whose name isn't listed
 pub item_unlisted : (ns : List (List ℕ)) (items : List Item) (i : ℕ) (d : Item) (n : List ℕ) (listed : Listed) → i < length items
     → n ≡ bstr_bytes (get_or items i d).full_ref_name → ¬ (Contains ns n) → HavePlaces ns (map ref_of (take i items)) listed
     → HavePlaces ns (map ref_of (take (i + 1) items)) listed
@@ -41,7 +35,6 @@ item_unlisted ns items i d n listed below is none have = record {
   others = have.others;
 }
 
--- an item whose name is listed, and whose place is added to those of its name
 pub item_listed : (ns : List (List ℕ)) (items : List Item) (i : ℕ) (d : Item) (n : List ℕ) (v w : Vec ℕ) (old new : Listed)
     → i < length items → n ≡ bstr_bytes (get_or items i d).full_ref_name → old n ≡ Some v → w.items ≡ v.items ++ i ∷ [] → Puts n w old new
     → HavePlaces ns (map ref_of (take i items)) old → HavePlaces ns (map ref_of (take (i + 1) items)) new

@@ -1,19 +1,16 @@
 -- An item's place is added for the partial names that may stand for its name.
-use Rattle.gix_refspec_match.proofs.Common.{List, [], Some, codes, refl, ◌≡◌, ℕ, ◌++◌, Option, ◌∙◌, arith, inl, inr, ap, ◌<◌, length, map, take, drop, ◌+◌, get_or, take_all, ◌⊎◌, ◌≤◌, length-append, map_more}
+use Rattle.gix_refspec_match.proofs.Common.{List, [], Some, codes, refl, ◌≡◌, ℕ, ◌++◌, Option, ◌∙◌, arith, inl, inr, ap, ◌<◌, length, map, take, drop, ◌+◌, get_or, take_all, rules, ◌⊎◌, ◌≤◌, length-append, map_more}
 use Rattle.gix_refspec_match.proofs.Common.{slice_get-map, slice_get-get_or, AllByRecursion, Contains, Ref, Fits, IsCandidate, Joins, name_at, HavePlaces, AddsWhere, IsBelowPlace, ListPartials, ref_of}
 use Rattle.gix_refspec_match.proofs.Common.{Candidates, All, First, Item, Vec}
 use Rattle.gix_refspec_match.proofs.lemmas.hits.HitLemmas.{candidate_cases, placed_candidate, remote_candidate}
 use Rattle.gix_refspec_match.proofs.lemmas.index.FirstPlacesLemmas.{AreFound, found_next, found_taken}
 use Rattle.gix_refspec_match.proofs.lemmas.index.IndexLemmas.{Puts, put_cases}
-use Rattle.gix_refspec_match.proofs.lemmas.index.PlacesLemmas.{all_at}
-use Rattle.gix_refspec_match.proofs.lemmas.lists.JoinLemmas.{map_long}
+use Rattle.gix_refspec_match.proofs.lemmas.{index.PlacesLemmas.all_at, lists.JoinLemmas.map_long}
 
--- where P holds of no name that is known and listed
 pub adds_nothing : {Known P : List ℕ → Type 0} {R : List ℕ → List ℕ → Type 0} {listed : List ℕ → Option (Vec ℕ)}
     → ((x : List ℕ) (w : Vec ℕ) → Known x → listed x ≡ Some w → ¬ (P x)) → AddsWhere Known P R listed listed
 adds_nothing none = record { each = λ x w known was. (w, was, inr (none x w known was, refl)) }
 
--- for one and then for another
 adds_both : {Known P Q S : List ℕ → Type 0} {R : List ℕ → List ℕ → Type 0} {old mid new : List ℕ → Option (Vec ℕ)}
     → ((x : List ℕ) → P x ⊎ Q x → S x) → ((x : List ℕ) → S x → P x ⊎ Q x) → ((x : List ℕ) → P x → ¬ (Q x))
     → AddsWhere Known P R old mid → AddsWhere Known Q R mid new → AddsWhere Known S R old new
@@ -36,19 +33,14 @@ IsBehindPlace below x = IsBelowPlace below x ⊎ IsHeadOf below x
 abbrev pub IsInRefs : List ℕ → List ℕ → Type 0
 IsInRefs n x = (n ≡ codes "refs/" ++ drop 5 n) × ((drop 5 n ≡ x) ⊎ IsBehindPlace (drop 5 n) x)
 
--- so the name is a candidate, and a candidate is x itself or such a name
 candidate_from : (n x : List ℕ) → (n ≡ x) ⊎ IsInRefs n x → IsCandidate x n
-candidate_from n x (inl whole) = placed_candidate x n [] (inl refl) whole
-candidate_from n x (inr (is, inl e)) = placed_candidate x n (codes "refs/") (inr (inl refl)) (cc)
-candidate_from n x (inr (is, inr (inl (inl e)))) = placed_candidate x n (codes "refs/tags/") (inr (inr (inl refl))) (cc)
-candidate_from n x (inr (is, inr (inl (inr (inl e))))) = placed_candidate x n (codes "refs/heads/") (inr (inr (inr (inl refl)))) (cc)
-candidate_from n x (inr (is, inr (inl (inr (inr e))))) = placed_candidate x n (codes "refs/remotes/") (inr (inr (inr (inr refl)))) (cc)
-candidate_from n x (inr (is, inr (inr e))) = remote_candidate x n (cc)
+candidate_from n x told =
+    let at = placed_candidate x n in
+    search (rules, at [], at (codes "refs/"), at (codes "refs/tags/"), at (codes "refs/heads/"), at (codes "refs/remotes/"), remote_candidate x n)
 
 candidate_in : (n x : List ℕ) → IsCandidate x n → (n ≡ x) ⊎ IsInRefs n x
 candidate_in n x one = let cases = candidate_cases x n one in grind (arith, cases)
 
--- what is behind a place is shorter
 behind_shorter : (below x : List ℕ) → IsBehindPlace below x → length x < length below
 behind_shorter below x behind = grind (arith, length-append)
 
@@ -56,7 +48,6 @@ refs_longer : (n x : List ℕ) → n ≡ x → ¬ (IsInRefs n x)
 refs_longer n x same (is, inl e) = omega (arith, ap length is, ap length e, ap length same)
 refs_longer n x same (is, inr behind) = omega (arith, ap length is, ap length same, behind_shorter (drop 5 n) x behind)
 
--- one name is behind a place
 pub one_place : (below x y : List ℕ) → IsBelowPlace below x → IsBelowPlace below y → x ≡ y
 one_place below x y placed also = grind arith
 
@@ -64,13 +55,11 @@ no_head : (below x : List ℕ) → IsBelowPlace below x → ¬ (IsHeadOf below x
 no_head below x placed head = omega (arith, ap length (one_place below x (x ++ codes "/HEAD") placed (inr (inr head))), length-append x (codes "/HEAD"))
 
 module _ {Known : List ℕ → Type 0} {R : List ℕ → List ℕ → Type 0} {old new : List ℕ → Option (Vec ℕ)} where
-  -- for one name alone
   pub adds_one : {p : List ℕ} {u : Vec ℕ} (t : Vec ℕ) → old p ≡ Some u → R u.items t.items → Puts p t old new → AddsWhere Known (λ x. p ≡ x) R old new
   adds_one {p = p} {u = u} t listed changes puts = record {
     each = λ x w known was. elim (put_cases p t old new puts x) [ inl here ↦ (t, here.1, grind (arith, here, ap old here.0)) | inr apart ↦ (w, apart.1 ∙ was, inr (apart.0, refl)) ];
   }
 
-  -- for the one name of which Q holds
   pub adds_only : {Q : List ℕ → Type 0} (p : List ℕ) → Q p → ((x : List ℕ) → Q x → p ≡ x) → AddsWhere Known (λ x. p ≡ x) R old new → AddsWhere Known Q R old new
   adds_only p holds only adds = record { each = λ x w known was. let (v, is, told) = adds.each x w known was in (v, is, grind (arith, told, holds, only x)) }
 
@@ -83,7 +72,6 @@ module _ {Known : List ℕ → Type 0} {R : List ℕ → List ℕ → Type 0} {n
       adds_both (λ x inside. rw rest (is, inside)) (λ x inside. rw rest at inside.1) (λ x e behind. omega (arith, ap length e, behind_shorter below x behind)) whole
       (adds_both (λ x behind. behind) (λ x behind. behind) (no_head below) placed head)
 
-  -- and for the name itself
   pub adds_candidates : AddsWhere Known (λ x. n ≡ x) R a b → AddsWhere Known (IsInRefs n) R b c → AddsWhere Known (λ x. IsCandidate x n) R a c
   adds_candidates whole refs = adds_both (candidate_from n) (candidate_in n) (refs_longer n) whole refs
 
@@ -100,7 +88,6 @@ module _ {which : Candidates} {names : List (List ℕ)} {items : List Item} wher
         (v, is, rw none (elim which as (λ w. AreFound w (map ref_of items) x [] []) [ First ↦ λ n one has. has | All ↦ refl ]));
   }
 
-  -- one more item
   pub partials_more : {i : ℕ} {n : List ℕ} {Known : List ℕ → Type 0} {old new : List ℕ → Option (Vec ℕ)} (d : Item) → i < length items → n ≡ (ref_of (get_or items i d)).name → AllByRecursion Known names
       → AddsWhere Known (λ x. IsCandidate x n) (Joins which (map ref_of items) i) old new
       → ListSoFar which names items i old → ListSoFar which names items (i + 1) new
@@ -116,6 +103,5 @@ module _ {which : Candidates} {names : List (List ℕ)} {items : List Item} wher
   pub partials_all : {i : ℕ} {listed : List ℕ → Option (Vec ℕ)} → length items ≤ i → ListSoFar which names items i listed → ListPartials which names (map ref_of items) listed
   partials_all {i = i} past so_far x there = let (v, is, found) = so_far.each x there in (v, is, found_taken which (map ref_of items) x v.items (simp (take_all i items past) at found))
 
--- where there is no name to list
 pub no_partials : (which : Candidates) (names : List (List ℕ)) (refs : List Ref) (listed : List ℕ → Option (Vec ℕ)) → names ≡ [] → ListPartials which names refs listed
 no_partials which names refs listed none x there = let (k, inside, is) = rw none at there in absurd (omega (arith, inside))

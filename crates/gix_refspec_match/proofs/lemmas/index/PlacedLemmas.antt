@@ -1,50 +1,37 @@
 -- Which items needles take of those that the index lists.
 use Rattle.gix_refspec_match.proofs.Common.{List, [], ◌∷◌, None, Some, refl, ◌≡◌, ℕ, true, ◌++◌, Option, sym, ◌∙◌, arith, ap, append-nil, ◌<◌, length, map, take, drop, ◌+◌, get_or, append_assoc, rules, ◌↔◌}
-use Rattle.gix_refspec_match.proofs.Common.{zero, suc, option_to_list, Bool, MatchBool, length-drop, MatchBool-at_true, drop_more, map_more, length-take-le, take_more, get_or-map, first_candidate, kind_of_side}
+use Rattle.gix_refspec_match.proofs.Common.{zero, suc, option_to_list, Bool, MatchBool, MatchBool-at_true, map_more, length-take-le, take_more, get_or-map, first_candidate, kind_of_side}
 use Rattle.gix_refspec_match.proofs.Common.{BeginsWith, Ref, MatchesAs, pattern, object, full_name, partial, SideKind, MakesOf, IsMadeFrom, IsJoinedFrom, AreFound, hit_at, AddsFound, IsFound, IsIndexFor}
 use Rattle.gix_refspec_match.proofs.Common.{TakesWhole, IsIndexOf, IsListed, HasNamesOf, ListsFor, MatchesListed, IsTaken, TakesEach, ref_of, DeclaredHit, Index, Names, Candidates, First, Matcher, Item}
-use Rattle.gix_refspec_match.proofs.lemmas.hits.FoundLemmas.{blank}
+use Rattle.gix_refspec_match.proofs.lemmas.{hits.FoundLemmas.blank, keep.ThinLemmas.cut}
 use Rattle.gix_refspec_match.proofs.lemmas.lists.JoinLemmas.{map_long, made_next, joined_next}
 
--- ---- what is taken without a word
-
--- what is taken matches, and a needle that isn't a partial name takes what it matches
 matches_taken : (kind : SideKind) (which : Candidates) (items : List Ref) (r : Ref)
     → (IsTaken which items kind r → MatchesListed kind r) × (TakesEach kind → MatchesListed kind r → IsTaken which items kind r)
 matches_taken (pattern before after) which items r = search rules
 matches_taken kind which items r = search rules
 
--- ---- what is taken of what is listed
+pub begins_as : (before after : List ℕ) (r : Ref) (word : Option (List ℕ)) → MatchesAs (pattern before after) r word → BeginsWith before r.name
+begins_as before after r word is = grind (arith, is)
 
-begins_as : (before after : List ℕ) (r : Ref) (word : Option (List ℕ)) → MatchesAs (pattern before after) r word → BeginsWith before r.name
-begins_as before after r None is = absurd is
-begins_as before after r (Some w) is = record { after = w ++ after; here = is }
-
--- the item at a place is matched
 abbrev pub IsMatchedAt : List Ref → SideKind → ℕ → ℕ → ℕ → DeclaredHit → Type 0
 IsMatchedAt items kind k i place hit = MatchesListed kind (get_or items place blank) × (hit ≡ hit_at k place)
-
-read_cut : (items : List Ref) (j : ℕ) (r : Ref) (rest : List Ref) → r ∷ rest ≡ drop j items → (get_or items j blank ≡ r) × (rest ≡ drop (j + 1) items)
-read_cut items j r rest at =
-    let below : j < length items = omega (arith, length-drop j items, ap length at) in
-    let both : r ∷ rest ≡ get_or items j blank ∷ drop (j + 1) items = at ∙ drop_more items j blank below in
-    (cc, cc)
 
 -- where those are taken of which P holds and that match, the hits on the places of which P holds are all that are found
 through : (which : Candidates) (items : List Ref) (kind : SideKind) (k : ℕ) (P : Ref → Type 0)
     → ((r : Ref) → IsTaken which items kind r ↔ (P r × MatchesListed kind r)) → (j : ℕ) (rest : List Ref) (places : List ℕ) (i : ℕ)
-    (hits : List DeclaredHit) → rest ≡ drop j items → IsMadeFrom (λ n r place. P r × (place ≡ n)) j rest places
+    (hits : List DeclaredHit) → drop j items ≡ rest → IsMadeFrom (λ n r place. P r × (place ≡ n)) j rest places
     → IsMadeFrom (IsMatchedAt items kind k) i places hits → IsMadeFrom (IsFound which items kind k) j rest hits
 through which items kind k P each j [] places i hits at none over = rw none at over
 through which items kind k P each j (r ∷ rest) places i hits at (None, others, none, more, same) over =
-    let later = through which items kind k P each (j + 1) rest others i hits (read_cut items j r rest at).1 more (rw same at over) in
+    let later = through which items kind k P each (j + 1) rest others i hits (cut items rest j blank r at).2 more (rw same at over) in
     (None, hits, (λ hit is. none j (((each r).0 is.0).0, refl)), later, refl)
 through which items kind k P each j (r ∷ rest) places i hits at (Some place, others, here, more, same) over =
     let (made, further, makes, behind, all) : IsMadeFrom (IsMatchedAt items kind k) i (place ∷ others) hits = rw same at over in
-    (made, further, of made makes, through which items kind k P each (j + 1) rest others (i + 1) further (read_cut items j r rest at).1 more behind, all)
+    (made, further, of made makes, through which items kind k P each (j + 1) rest others (i + 1) further (cut items rest j blank r at).2 more behind, all)
   where
     stands : get_or items place blank ≡ r
-    stands = ap (λ n. get_or items n blank) here.1 ∙ (read_cut items j r rest at).0
+    stands = ap (λ n. get_or items n blank) here.1 ∙ (cut items rest j blank r at).0
 
     of : (made : Option DeclaredHit) → MakesOf (IsMatchedAt items kind k) i place made → MakesOf (IsFound which items kind k) j r made
     of None none = λ hit is. none hit (rw stands ((each r).0 is.0).1, rw here.1 is.1)
@@ -57,8 +44,6 @@ all_found which items (object id) k places hits lists over = absurd lists
 all_found First items (partial x) k places hits lists over = through First items _ k (TakesWhole (partial x) First items)
     (λ r. search (rules, first_candidate items x r.name)) 0 items places 0 hits refl lists over
 all_found which items kind k places hits lists over = through which items kind k (TakesWhole kind which items) (λ r. search rules) 0 items places 0 hits refl lists over
-
--- ---- place by place, and item by item
 
 -- behind the old elements are those that are made of some others
 abbrev Appends : {X Y : Type 0} → (ℕ → X → Y → Type 0) → List X → List Y → List Y → Type 0
@@ -97,13 +82,10 @@ item_missed which items xs kind k i d old mid below none so_far =
     append_made _ i _ _ _ None old mid mid (map_long ref_of xs i below) (map_more ref_of xs i d below)
     (λ hit is. none ((matches_taken kind which items (ref_of (get_or xs i d))).0 is.0)) (sym (append-nil mid)) so_far
 
--- the hits of one more matcher
 pub found_next : (which : Candidates) (items : List Ref) (ms : List Matcher) (i : ℕ) (d : Matcher) (P : Type 0) (within : Bool) (old new : List DeclaredHit) → i < length ms → within ≡ true → MatchBool within (AddsFound which items (kind_of_side (get_or ms i d).needle) i old new) P → IsJoinedFrom (AreFound which items) 0 (take i ms) old → IsJoinedFrom (AreFound which items) 0 (take (i + 1) ms) new
 found_next which items ms i d P within old new below is told so_far =
     let adds = MatchBool-at_true _ _ is told in
     rw (adds.all, take_more ms i d below) (joined_next (AreFound which items) i (take i ms) (get_or ms i d) old adds.made (length-take-le i ms (omega arith)) so_far adds.are)
-
--- ---- each place is one of an item
 
 place_below : (P : Ref → Type 0) (j : ℕ) (rest : List Ref) (places : List ℕ) (b i d : ℕ) → j + length rest ≡ b → IsMadeFrom (λ k r place. P r × (place ≡ k)) j rest places → i < length places → get_or places i d < b
 place_below P j [] places b i d end none below = absurd (omega (arith, below, ap length none))
@@ -114,8 +96,6 @@ place_below P j (r ∷ rest) places b (suc i) d end (Some place, others, here, m
 pub place_fits : (which : Candidates) (items : List Ref) (kind : SideKind) (places : List ℕ) (i d : ℕ) → ListsFor which items kind places → i < length places → get_or places i d < length items
 place_fits which items (object id) places i d lists below = absurd lists
 place_fits which items kind places i d lists below = place_below _ 0 items places _ i d (omega arith) lists below
-
--- ---- the index serves each needle
 
 pub named_listed : (which : Candidates) (refs : List Ref) (names : Names) (index : Index) → IsIndexOf which names refs index → (kind : SideKind) → HasNamesOf names kind → IsIndexFor which refs index kind
 named_listed which refs names index of_names kind named = record { names = listed kind named; prefixes = of_names.prefixes }

@@ -3,10 +3,8 @@ use Rattle.gix_refspec_match.proofs.Common.{List, [], ◌∷◌, None, Some, ref
 use Rattle.gix_refspec_match.proofs.Common.{length-append, take-append-drop, take-append_seam, cases_Bool, cases_eq, length-take-le, nil_from_length, AllByRecursion, bstr_bytes, BeginsWith, HavePlaces}
 use Rattle.gix_refspec_match.proofs.Common.{AddsPlace, HaveLengths, ListPrefixes, IsFlagged, ref_of, Item, Vec}
 use Rattle.gix_refspec_match.proofs.lemmas.index.IndexLemmas.{Listed, Puts, put_cases}
-use Rattle.gix_refspec_match.proofs.lemmas.index.PlacesLemmas.{all_at}
-use Rattle.gix_refspec_match.proofs.lemmas.lists.JoinLemmas.{made_more}
+use Rattle.gix_refspec_match.proofs.lemmas.{index.PlacesLemmas.all_at, lists.JoinLemmas.made_more}
 
--- a name begins with what is taken from it, and with nothing else of that length
 begins_taken : (n : List ℕ) (l : ℕ) → BeginsWith (take l n) n
 begins_taken n l = record { after = drop l n; here = sym (take-append-drop l n) }
 
@@ -25,12 +23,10 @@ abbrev pub AddsBelow : ℕ → List ℕ → ℕ → Listed → Listed → Type 0
 AddsBelow l n place old new = (prefix : List ℕ) (v : Vec ℕ) → new prefix ≡ Some v → (w : Vec ℕ) × (old prefix ≡ Some w)
     × ((IsBelow l n prefix × (v.items ≡ w.items ++ place ∷ [])) ⊎ (¬ (IsBelow l n prefix) × (v.items ≡ w.items)))
 
--- no prefix that is listed and that the name begins with has the length l
 pub adds_more : (l : ℕ) (n : List ℕ) (place : ℕ) (old new : Listed) → ((prefix : List ℕ) (v w : Vec ℕ) → new prefix ≡ Some v → old prefix ≡ Some w → BeginsWith prefix n → length prefix ≡ l → ⊥)
     → AddsBelow l n place old new → AddsBelow (l + 1) n place old new
 adds_more l n place old new none so_far prefix v is = let (w, was, told) = so_far prefix v is in (w, was, grind (arith, told, none prefix v w is was))
 
--- it is listed, and gets the place
 pub adds_listed : (l : ℕ) (n : List ℕ) (place : ℕ) (u x : Vec ℕ) (old mid new : Listed) → l ≤ length n → mid (take l n) ≡ Some u
     → x.items ≡ u.items ++ place ∷ [] → Puts (take l n) x mid new → AddsBelow l n place old mid → AddsBelow (l + 1) n place old new
 adds_listed l n place u x old mid new fits listed more puts so_far prefix v is = elim (put_cases (take l n) x mid new puts prefix) [
@@ -44,12 +40,10 @@ adds_listed l n place u x old mid new fits listed more puts so_far prefix v is =
       (w, was, grind (arith, told, apart, taken_begins prefix n l))
 ]
 
--- no prefix that is listed and that the name begins with has the length l or more
 pub adds_all : (l : ℕ) (n : List ℕ) (place : ℕ) (old new : Listed) → ((prefix : List ℕ) (w : Vec ℕ) → old prefix ≡ Some w → BeginsWith prefix n → l ≤ length prefix → ⊥)
     → AddsBelow l n place old new → AddsPlace n place old new
 adds_all l n place old new none so_far prefix v is = let (w, was, told) = so_far prefix v is in (w, was, grind (arith, told, none prefix w was))
 
--- one more item
 pub item_added : (items : List Item) (i : ℕ) (d : Item) (n : List ℕ) (old new : Listed) → i < length items
     → n ≡ bstr_bytes (get_or items i d).full_ref_name → AddsPlace n i old new → ListPrefixes (map ref_of (take i items)) old
     → ListPrefixes (map ref_of (take (i + 1) items)) new
@@ -60,7 +54,6 @@ item_added items i d n old new below is adds listed prefix v now =
       | inr other ↦ made_more _ ref_of items i d w.items v.items None below (listed prefix w was) (λ place both. other.0 (rw is both.0)) (other.1 ∙ sym (append-nil w.items))
     ]
 
--- before any ref, what is listed for a name is empty, and the length of the name is flagged
 pub fronts_started : (ns : List (List ℕ)) (listed : Listed) → HavePlaces ns [] listed → ListPrefixes [] listed
 fronts_started ns listed have prefix v is = let cases = cases_eq (length v.items) 0 in search (rules, nil_from_length v.items, have.others prefix, have.each prefix)
 

@@ -3,7 +3,6 @@ use Rattle.gix_refspec_match.proofs.Common.{List, codes, refl, ◌≡◌, ℕ, f
 use Rattle.gix_refspec_match.proofs.Common.{HasTail, short_tail_number, ShortTails}
 use Rattle.gix_refspec_match.proofs.lemmas.hits.HitLemmas.{candidate_cases}
 
--- what is before the last four bytes doesn't count
 short_tail-append : (before x : List ℕ) → 4 ≤ length x → short_tail_number (before ++ x) ≡ short_tail_number x
 short_tail-append before x long =
     let whole = length-append before x in

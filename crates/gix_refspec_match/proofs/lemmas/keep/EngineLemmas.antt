@@ -4,23 +4,18 @@ use Rattle.gix_refspec_match.proofs.Common.{slice_get, IsSome, common_steps, dro
 use Rattle.gix_refspec_match.proofs.Common.{kind_of_side, id_bytes, DeclaredKind as SideKind, Ref, Reading, MakesOf, IsMadeFrom, IsJoinedFrom, place_among, Hit, AreHits, IsIdMapping, Mapped, IsKept, AddsMapped}
 use Rattle.gix_refspec_match.proofs.Common.{Thins, IsMappedHit, hit_of, object_mapping, AreFound, turned, hit_at, AreHitsAmong, AreSound, IsSound, AreExclusionsOf, HasEnds, TakesIn, AreMatcherOf, AreMatchersOf}
 use Rattle.gix_refspec_match.proofs.Common.{AreObjectOf, HaveOthers, HasSideKind, IsMatched, Exclusions, DeclaredHit, Candidates, All, Matcher, Matchers, ObjectSpec}
-use Rattle.gix_refspec_match.proofs.lemmas.hits.FoundLemmas.{blank, of_hits}
+use Rattle.gix_refspec_match.proofs.lemmas.hits.{FoundLemmas.blank, FoundLemmas.of_hits, HitLemmas.far_filled}
 use Rattle.gix_refspec_match.proofs.lemmas.hits.GroupLemmas.{FindEnough, most_found}
-use Rattle.gix_refspec_match.proofs.lemmas.hits.HitLemmas.{far_filled}
 use Rattle.gix_refspec_match.proofs.lemmas.keep.KeptLemmas.{AreIncluded, kept_included, starts_agree}
 use Rattle.gix_refspec_match.proofs.lemmas.keep.PartLemmas.{all_enough, once_enough, part_read}
 use Rattle.gix_refspec_match.proofs.lemmas.keep.ThinLemmas.{kept_thinned, thins_all, thins_behind, thins_both}
 
--- ---- lists that are made or joined from others, element by element
-
--- the first element that is left of a list, and the others
 cut_next : {X : Type 0} (all : List X) (k : ℕ) (x : X) (xs : List X) → drop k all ≡ x ∷ xs → (slice_get all k ≡ Some x) × (drop (k + 1) all ≡ xs)
 cut_next all k x xs left =
     let below : k < length all = omega (arith, simp length-drop at (ap length left)) in
     let split = drop_more all k x below in
     (grind (arith, common_steps, gets, split), cc)
 
--- what holds for each thing that is made holds for all
 made_each : {X Y : Type 0} (R : ℕ → X → Y → Type 0) (P : Y → Type 0) (all : List X) → ((j : ℕ) (x : X) (y : Y) → slice_get all j ≡ Some x → R j x y → P y)
     → (k : ℕ) (xs : List X) (ys : List Y) → drop k all ≡ xs → IsMadeFrom R k xs ys → AllByRecursion P ys
 made_each R P all each k [] ys left none = rw none tt
@@ -48,9 +43,6 @@ joined_map R S F nil join all each k (x ∷ xs) ys left (made, rest, of, more, i
     let (here, next) = cut_next all k x xs left in
     (F made, F rest, each k x made here of, joined_map R S F nil join all each (k + 1) xs rest next more, ap F is ∙ join made rest)
 
--- ---- matcher by matcher
-
--- each matcher finds enough
 finds_enough : (g : List Reading) (ms : Matchers) (items : List Ref) (hits : List DeclaredHit) → AreHitsAmong ms items hits
     → FindEnough g ms.candidates items 0 ms.list.items (of_hits ms.candidates (map (hit_of ms.list.items items) hits))
 finds_enough g ms items hits (inl are) =
@@ -64,8 +56,6 @@ finds_enough g ms items hits (inr once) =
     found)
     0 list once.found refl once.are)
 
--- ---- exclusions
-
 mapped_thins : (g : List Reading) (which : Candidates) (es : Exclusions) (ms : List Matcher) (items : List Ref) (k : ℕ)
     (hits : List DeclaredHit) (made before : List Mapped) → AreExclusionsOf g es
     → IsMadeFrom (IsMappedHit which es ms items) k hits made → Thins g before (of_hits which (map (hit_of ms items) hits)) made
@@ -73,8 +63,6 @@ mapped_thins g which es ms items k [] made before are none = none
 mapped_thins g which es ms items k (h ∷ hits) made before are (None, rest, none, more, is) =
     inr (inr (λ free. none _ (refl, λ taken. free ((starts_agree g es _ are).0 taken))), rw is (mapped_thins g which es ms items (k + 1) hits rest _ are more))
 mapped_thins g which es ms items k (h ∷ hits) made before are (Some y, rest, of, more, is) = inl (rest, rw of.0 at is, mapped_thins g which es ms items (k + 1) hits rest _ are more)
-
--- ---- ids
 
 pub objects_made : (k : ℕ) (g : List Reading) (os : List ObjectSpec) → IsJoinedFrom AreObjectOf k g os → IsMadeFrom IsIdMapping k g (map object_mapping os)
 objects_made k [] os none = ap (map object_mapping) none
@@ -91,8 +79,6 @@ objects_made k (r ∷ g) os (made, rest, inr (none, empty), more, all) =
 ids_included : (g : List Reading) (os : List ObjectSpec) (made : List Mapped) → AreIncluded g made → AreIncluded g (map object_mapping os ++ made)
 ids_included g [] made free = free
 ids_included g (o ∷ os) made free = ((λ taken. taken), ids_included g os made free)
-
--- ---- all
 
 thins_after : (g : List Reading) (ids l some : List Mapped) → Thins g [] l some → Thins g [] (ids ++ l) (ids ++ some)
 thins_after g ids l some thins = thins_both g [] ids ids l some (thins_all g [] ids) (rw append-nil at (thins_behind g ids [] l some thins))
@@ -113,8 +99,6 @@ kept_hits g which items ms os hits es list kept matchers among are adds is =
     let of_made = kept_included g _ kept (ids_included g os adds.made included) (rw adds.all at is) in
     let of_some = kept_thinned g (ids ++ of_hits which views) _ kept (thins_after g ids _ _ (mapped_thins g which es ms.list.items items 0 hits adds.made [] are adds.are)) of_made in
     (whole, whole_are, kept_thinned g _ _ kept (thins_after g ids _ _ most) of_some)
-
--- ---- matchers and items that are there
 
 sound_joined : (ms : List Matcher) (items : List Ref) (view : DeclaredHit → DeclaredHit) (which : Candidates) (part : List Ref)
     (found : List DeclaredHit) → ((k j : ℕ) (m : Matcher) (r : Ref) → slice_get ms k ≡ Some m → slice_get part j ≡ Some r
@@ -141,7 +125,6 @@ sound_among ms items hits (inr once) =
         let read = part_read items [] items once.part once.indexes j j refl once.is (slice_get_within once.part j r at) in
         slice_get-get_or items (get_or once.indexes j j) blank read.0 ∙ ap Some (read.1 ∙ get_or_from_slice_get once.part j r blank at)
 
--- from right to left each matcher has another side
 pub others_there : (g : List Reading) (ms : Matchers) → AreMatchersOf All g ms → HaveOthers ms.list.items
 others_there g ms are =
     joined_each (AreMatcherOf All are.flags) (λ m. IsSome m.other) g (λ k r made at of. elim of [

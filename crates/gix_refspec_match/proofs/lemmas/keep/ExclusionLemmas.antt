@@ -6,7 +6,6 @@ use Rattle.gix_refspec_match.proofs.Common.{Key}
 use Rattle.std.proofs.Common.{Any}
 use Rattle.gix_refspec_text.proofs.lemmas.lists.LacksLemmas.{Lacks-here, first_once}
 
--- a source without a star excludes its name
 pub name_excludes : (r : Reading) (x : List ℕ) → r.mode ≡ Negative → r.source ≡ Some x → Lacks star x → (n : List ℕ) → (n ≡ x) ↔ IsExcludedBy n r
 name_excludes r x negative source lacks n = (
   λ same. record { negative = negative; text = x; source = source; excludes = the_name lacks same },
@@ -33,12 +32,10 @@ pattern_excludes r x before after accepted negative source starred lacks n = (
     last = Lacks-from_absent star after (λ more. accepted_few r x accepted (inl source)
         (record { before = before; between = more.before; after = more.after; here = rw more.here at starred }))
 
--- one more reading excludes what it does
 pub exclusions_more : (g : List Reading) (r : Reading) (n : List ℕ) (Old New : Type 0) → Old ↔ IsExcluded g n → New ↔ (Old ⊎ IsExcludedBy n r) → New ↔ IsExcluded (g ++ r ∷ []) n
 exclusions_more [] r n Old New before added = grind (arith, before, added)
 exclusions_more (q ∷ g) r n Old New before added = grind (arith, before, added, exclusions_more g r n (IsExcluded g n) (IsExcluded g n ⊎ IsExcludedBy n r) (grind arith) (grind arith))
 
--- a map with one more name
 pub index_more : (old new : List ℕ → Option ℕ) (x : List ℕ) (i : ℕ) → ((n : List ℕ) → new n ≡ cond (bytes_eq x n) (Some i) (old n))
     → (n : List ℕ) → (IsSome (new n) ↔ (IsSome (old n) ⊎ (n ≡ x))) × ((k : ℕ) → new n ≡ Some k → (old n ≡ Some k) ⊎ ((k ≡ i) × (n ≡ x)))
 index_more old new x i updates n = elim (cases_Bool (bytes_eq x n)) [
@@ -46,7 +43,6 @@ index_more old new x i updates n = elim (cases_Bool (bytes_eq x n)) [
   | inr differ ↦ let other = (bytes_decides x n).1 in let there : new n ≡ old n = rw differ at (updates n) in grind (arith, other, differ, there)
 ]
 
--- one more reading, at its index
 pub exclusions_at_more : (g : List Reading) (r : Reading) (i : ℕ) (old new : Exclusions) → i ≡ length g → AreExclusionsAt g old
     → ((n : List ℕ) (k : ℕ) → ExcludeNameAt new n k → ExcludeNameAt old n k ⊎ ((k ≡ i) × IsExcludedBy n r)) → AreExclusionsAt (g ++ r ∷ []) new
 exclusions_at_more g r i old new long before adds n k at = elim (adds n k at) [
@@ -54,7 +50,6 @@ exclusions_at_more g r i old new long before adds n k at = elim (adds n k at) [
   | inr (same, by) ↦ (r, grind (arith, common_steps, gets, same, long), by)
 ]
 
--- what is excluded by some spec is excluded
 pub excluded_by_some : (es : Exclusions) (n : List ℕ) (k : ℕ) → ExcludeNameAt es n k → ExcludeName es n
 excluded_by_some es n k (inl found) = inl (subst IsSome (sym found) refl)
 excluded_by_some es n k (inr (j, p, below, is, (same, fits))) = inr (j, p, below, is, fits)
@@ -64,13 +59,11 @@ pub told_by_some : (es : Exclusions) (n : List ℕ) (found : Option ℕ) (b : Bo
 told_by_some es n None b none is = ((λ so. absurd (false≢true (sym is ∙ so))), (λ excluded. absurd (none excluded)))
 told_by_some es n (Some k) b at is = ((λ so. excluded_by_some es n k at), (λ excluded. is))
 
--- a map that has nothing for a name, or is empty, has no index for it
 pub nothing_found : (o : Option ℕ) → None ≡ o → ¬ (IsSome o)
 nothing_found o none some = false≢true (ap (λ (p : Option ℕ). is_some p) none ∙ some)
 
 pub unlisted : {S : Type 0} (m : HashMap Key ℕ S) → hash_map_len m ≡ 0 → (n : List ℕ) → None ≡ index_of m n
 unlisted m empty n = sym (ap (lookup (λ (k : Key). bytes_eq n k.name.now)) (nil_from_length m.entries empty))
 
--- one more pattern
 pub Any-push-cases : {X : Type 0} (P : X → Type 0) (xs : List X) (x : X) → Any P (xs ++ x ∷ []) ↔ (Any P xs ⊎ P x)
 Any-push-cases P xs x = (λ any. grind (arith, common_steps), λ any. elim any [ inl old ↦ grind (arith, common_steps) | inr last ↦ Any-push P xs x last ])

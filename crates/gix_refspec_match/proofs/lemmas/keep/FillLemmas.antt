@@ -5,7 +5,6 @@ use Rattle.gix_refspec_match.proofs.Common.{all_right, all_left, Ref, MakesOf, I
 use Rattle.gix_refspec_match.proofs.Common.{mapped_of, Exclusions, DeclaredHit, Candidates, Matcher, Item, Mapping}
 use Rattle.gix_refspec_match.proofs.lemmas.lists.JoinLemmas.{made_next}
 
--- a sound hit is that of its matcher on its item
 hit_there : (ms : List Matcher) (xs : List Item) (h : DeclaredHit) (dm : Matcher) (dx : Item) → IsSound ms (map ref_of xs) h
     → hit_of ms (map ref_of xs) h ≡ hit_by (get_or ms h.matcher dm) h.item (ref_of (get_or xs h.item dx))
 hit_there ms xs h dm dx at =
@@ -45,7 +44,6 @@ made_both P j k [] [] ys ws none end = rw (none, end) refl
 made_both P j k [] (z ∷ zs) ys ws none (made, rest, of, more, is) = (made, rest, of, made_both P (j + 1) (k + 1) [] zs [] rest refl more, rw (none, is) refl)
 made_both P j k (x ∷ xs) zs ys ws (made, rest, of, more, is) behind = (made, rest ++ ws, of, made_both P (j + 1) k xs zs rest ws more behind, rw (is, append_assoc) refl)
 
--- the mappings of hits that were cut in two
 module _ (which : Candidates) (es : Exclusions) (ms : List Matcher) (items : List Ref) (hits : List DeclaredHit) (k : ℕ) where
   pub adds_both : (old mid new : List Mapped) → AddsMapped which es ms items (take k hits) old mid → AddsMapped which es ms items (drop k hits) mid new → AddsMapped which es ms items hits old new
   adds_both old mid new first later = record {

@@ -3,13 +3,11 @@ use Rattle.gix_refspec_match.proofs.Common.{List, [], ◌∷◌, None, Some, ref
 use Rattle.gix_refspec_match.proofs.Common.{zero-add, length-append, Ordering, take-append_seam, false≢true, length-map, length-take-le, get_or_default, map-id, get_or-map, get_or-take, All-from_recursion}
 use Rattle.gix_refspec_match.proofs.Common.{AllByRecursion, all_weaker, Reading, MakesOf, IsMadeFrom, name, id, Mapped, IsKept, Source, IsSourceExcluded, IsSamePair, HasPair, FlagsDuplicates, IsDuplicate}
 use Rattle.gix_refspec_match.proofs.Common.{AreExclusionsOf, ExcludeStart, IsUnflagged, equal_pair, pair_order, same_pair, mapped_of, Exclusions, Mapping}
-use Rattle.gix_refspec_match.proofs.lemmas.hits.FoundLemmas.{made_each}
+use Rattle.gix_refspec_match.{proofs.lemmas.hits.FoundLemmas.made_each, specs.Matching.Mappings.AreApart}
 use Rattle.gix_refspec_match.proofs.lemmas.keep.KeptPairLemmas.{Any-HasPair, HasPair-Any, Keeps}
 use Rattle.gix_refspec_match.proofs.lemmas.lists.ListsLemmas.{made_map, made_all}
 use Rattle.gix_refspec_match.proofs.lemmas.lists.SomeLemmas.{Any-left, Any-right, some_at, some_of}
-use Rattle.gix_refspec_match.specs.Matching.Mappings.{AreApart}
 
--- a pair that is in a list, by its place
 pub HasPair-from_place : (l : List Mapped) (j : ℕ) (d m : Mapped) → j < length l → IsSamePair (get_or l j d) m → HasPair l m
 HasPair-from_place l j d m below same = HasPair-Any l m (some_of _ l (j, get_or l j d, below, get_or_default l j _ _ below, same))
 
@@ -19,11 +17,9 @@ HasPair-left xs ys m has = HasPair-Any _ m (Any-left _ xs ys (Any-HasPair xs m h
 pub HasPair-last : (xs : List Mapped) (x m : Mapped) → IsSamePair x m → HasPair (xs ++ x ∷ []) m
 HasPair-last xs x m same = HasPair-Any _ m (Any-right _ xs (x ∷ []) (inl same))
 
--- the order of mappings by their pairs
 abbrev pub by_pair : Mapping → Mapping → Ordering
 by_pair m n = pair_order (mapped_of m) (mapped_of n)
 
--- a mapping is a duplicate exactly where an earlier one has its pair
 pub duplicate_at : (ms : List Mapping) (k : ℕ) (d : Mapping) → k < length ms → IsDuplicate by_pair ms k ↔ HasPair (take k (map mapped_of ms)) (mapped_of (get_or ms k d))
 duplicate_at ms k d below = (
   (λ (_, (j, before, equal)). HasPair-from_place _ j (mapped_of d) _ (omega (arith, size, before)) (rw (at j d _ before) (same_pair _ _ (equal d)))),
@@ -39,16 +35,13 @@ duplicate_at ms k d below = (
     at : (j : ℕ) (e : Mapping) (x : Mapped) → j < k → get_or (take k (map mapped_of ms)) j x ≡ mapped_of (get_or ms j e)
     at j e x before = get_or-take k (map mapped_of ms) j x before ∙ get_or-map mapped_of ms j e x (omega (arith, before))
 
--- the same starts are excluded
 pub starts_agree : (g : List Reading) (es : Exclusions) (s : Source) → AreExclusionsOf g es → ExcludeStart es s ↔ IsSourceExcluded g s
 starts_agree g es (name n) are = are n
 starts_agree g es (id i) are = ((λ none. none), (λ none. none))
 
 none_excluded : (s : Source) → ¬ (IsSourceExcluded [] s)
-none_excluded (name n) taken = taken
-none_excluded (id i) taken = taken
+none_excluded s taken = grind (arith, taken)
 
--- what isn't flagged is kept, where nothing is excluded
 pub kept_unflagged : (ms rest : List Mapping) (flags : List Bool) → FlagsDuplicates by_pair ms flags → IsMadeFrom (IsUnflagged flags) 0 ms rest → IsKept [] (map mapped_of ms) (map mapped_of rest)
 kept_unflagged ms rest flags flagged made =
     made_map mapped_of mapped_of (IsUnflagged flags) (Keeps [] (map mapped_of ms)) 0 ms rest (λ i d below x makes. rw (zero-add i) (one i d (duplicate_at ms i d below) x (rw (zero-add i) at makes))) made
@@ -58,15 +51,12 @@ kept_unflagged ms rest flags flagged made =
     one i d by None none = λ y stays. none _ (refl, λ now. stays.1.first (by.0 ((flagged i).0 now)))
     one i d by (Some y) (same, free) = (ap mapped_of same, record { first = λ has. free ((flagged i).1 (by.1 has)); included = none_excluded _ })
 
--- without flags all are kept
 pub all_unflagged : (ms : List Mapping) (flags : List Bool) → flags ≡ [] → IsMadeFrom (IsUnflagged flags) 0 ms ms
 all_unflagged ms flags none = made_all (IsUnflagged flags) (λ k m. (refl, λ flagged. false≢true (rw none at flagged))) 0 ms
 
--- none of the mappings has a source that the group excludes
 abbrev pub AreIncluded : List Reading → List Mapped → Type 0
 AreIncluded g l = AllByRecursion (λ m. ¬ (IsSourceExcluded g m.source)) l
 
--- so the same ones are kept where nothing is excluded
 pub kept_included : (g : List Reading) (l kept : List Mapped) → AreIncluded g l → IsKept [] l kept → IsKept g l kept
 kept_included g l kept free are = rw map-id at (made_each (λ m. m) (Keeps [] l) (Keeps g l) l kept (λ i d below. (
   (λ m keeps. (keeps.0, record { first = keeps.1.first; included = All-from_recursion _ l free i d below })),

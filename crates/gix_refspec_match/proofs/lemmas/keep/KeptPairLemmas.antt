@@ -1,9 +1,8 @@
 -- What is kept of a list of mappings, by pairs: those whose source isn't excluded.
-use Rattle.gix_refspec_match.proofs.Common.{List, [], ◌∷◌, None, Some, refl, ◌≡◌, ℕ, ◌++◌, Option, Equal, sym, ◌∙◌, arith, inl, inr, subst, length, ◌+◌, append_assoc, ◌⊎◌, ◌↔◌, option_to_list, length-append}
-use Rattle.gix_refspec_match.proofs.Common.{Ordering, take-append_seam, Reading, MakesOf, IsMadeFrom, Mapped, IsKeptAt, IsKept, IsSourceExcluded, IsSamePair, HasPair, equal_pair, pair_order, same_pair}
+use Rattle.gix_refspec_match.proofs.Common.{List, [], ◌∷◌, None, Some, refl, ◌≡◌, ℕ, ◌++◌, Option, sym, ◌∙◌, arith, inl, inr, subst, length, ◌+◌, append_assoc, ◌⊎◌, ◌↔◌, option_to_list, length-append}
+use Rattle.gix_refspec_match.proofs.Common.{take-append_seam, Reading, MakesOf, IsMadeFrom, Mapped, IsKeptAt, IsKept, IsSourceExcluded, IsSamePair, HasPair, equal_pair, pair_order, same_pair, cases_Bool, is_eq}
 use Rattle.gix_refspec_match.proofs.lemmas.lists.SomeLemmas.{Any, Any-right, Any-cases, Any-weaker, Any-both, made_any}
 
--- m has the same pair
 abbrev pub IsOfPair : Mapped → Mapped → Type 0
 IsOfPair pair m = IsSamePair m pair
 
@@ -15,15 +14,9 @@ pub HasPair-Any : (l : List Mapped) (pair : Mapped) → Any (IsOfPair pair) l �
 HasPair-Any [] pair any = any
 HasPair-Any (x ∷ l) pair any = grind (arith, HasPair-Any l pair)
 
--- the order of mappings decides whether m has the pair
 decided_pair : (pair m : Mapped) → IsOfPair pair m ⊎ ¬ (IsOfPair pair m)
-decided_pair pair m = by (pair_order m pair) refl
-  where
-    by : (o : Ordering) → pair_order m pair ≡ o → IsOfPair pair m ⊎ ¬ (IsOfPair pair m)
-    by Equal is = inl (same_pair m pair is)
-    by o is = inr (λ same. let equal = equal_pair m pair same in cc)
+decided_pair pair m = let cases = cases_Bool (is_eq (pair_order m pair)) in grind (arith, cases, same_pair m pair, equal_pair m pair)
 
--- m, at place k of the list, is kept as made
 abbrev pub Keeps : List Reading → List Mapped → ℕ → Mapped → Mapped → Type 0
 Keeps g l k m made = (made ≡ m) × IsKeptAt g l k m
 
@@ -54,7 +47,6 @@ kept_from g l before (m ∷ xs) ys k pair whole place new included (made, rest, 
     here same None none = absurd (none m (refl, stays same))
     here same (Some y) keeps = inl (subst (IsOfPair pair) (sym keeps.0) same)
 
--- the pairs that are kept are those whose source isn't excluded
 pub kept_pairs : (g : List Reading) (l kept : List Mapped) (pair : Mapped) → IsKept g l kept → HasPair kept pair ↔ (HasPair l pair × ¬ (IsSourceExcluded g pair.source))
 kept_pairs g l kept pair is = (
   (λ has.

@@ -1,17 +1,13 @@
 -- Items without some that have the name of an earlier one: a matcher's hits among them make what its hits among all make.
 use Rattle.gix_refspec_match.proofs.Common.{List, [], ◌∷◌, None, Some, refl, ◌≡◌, ℕ, ◌++◌, Option, sym, ◌∙◌, arith, inl, inr, subst, ap, append-nil, ◌<◌, length, map, take, drop, ◌+◌, get_or, append_assoc, ◌⊎◌}
 use Rattle.gix_refspec_match.proofs.Common.{◌↔◌, zero, suc, length-append, ◌-◌, slice_get, get_or-append_seam, take-append_seam, drop-append_seam, slice_get-get_or, all_weaker, kind_of_side, Ref, HasName}
-use Rattle.gix_refspec_match.proofs.Common.{MatchesAs, pattern, object, full_name, partial, SideKind, IsCandidate, Reading, IsMadeFrom, IsPartBehind, IsPart, Ends, IsHit, Mapped, IsSamePair, HasPair}
+use Rattle.gix_refspec_match.proofs.Common.{MatchesAs, pattern, object, partial, SideKind, Reading, IsMadeFrom, IsPartBehind, IsPart, Ends, IsHit, Mapped, IsSamePair, HasPair}
 use Rattle.gix_refspec_match.proofs.Common.{mapping_of, Thins, hit_of, hit_by, AreFound, turned, hit_at, IsFound, HaveKinds, TakesIn, filled_side, IsFirstIn, IsTaken, word_in, DeclaredHit, Candidates, All}
 use Rattle.gix_refspec_match.proofs.Common.{First, Matcher}
-use Rattle.gix_refspec_match.proofs.lemmas.hits.FoundLemmas.{blank, made_each, of_hits}
-use Rattle.gix_refspec_match.proofs.lemmas.hits.GroupLemmas.{FindsEnough}
+use Rattle.gix_refspec_match.proofs.lemmas.hits.{FoundLemmas.blank, FoundLemmas.made_each, FoundLemmas.of_hits, GroupLemmas.FindsEnough}
 use Rattle.gix_refspec_match.proofs.lemmas.hits.HitLemmas.{is_hit, matches_as, taken_first, taken_matches}
-use Rattle.gix_refspec_match.proofs.lemmas.index.FirstPlacesLemmas.{has_last}
-use Rattle.gix_refspec_match.proofs.lemmas.keep.KeptLemmas.{HasPair-left, HasPair-last}
+use Rattle.gix_refspec_match.proofs.lemmas.{index.FirstPlacesLemmas.has_last, keep.KeptLemmas.HasPair-left, keep.KeptLemmas.HasPair-last}
 use Rattle.gix_refspec_match.proofs.lemmas.keep.ThinLemmas.{cut, pair_alike, thins_all, thins_behind}
-
--- ---- the hits of a matcher
 
 between : (before after n w : List ℕ) → n ≡ before ++ (w ++ after) → w ≡ take (length n - length after - length before) (drop (length before) n)
 between before after n w is =
@@ -24,7 +20,6 @@ matched_word (pattern before after) r None is = absurd is
 matched_word (pattern before after) r (Some w) is = ap Some (between before after r.name w is)
 matched_word k r word is = is.0
 
--- the hit of a matcher and an item that are there
 hit_seen : (ms : List Matcher) (items : List Ref) (k i : ℕ) (m : Matcher) (d : Ref) → slice_get ms k ≡ Some m → i < length items → hit_of ms items (hit_at k i) ≡ hit_by m i (get_or items i d)
 hit_seen ms items k i m d is below = let there = slice_get-get_or items i d below in cc
 
@@ -45,13 +40,9 @@ found_hits which ms items ends k m found at have are =
           (hit_at k i, (record { matched = (here.word, matched); first = taken_first which items ends.near kind r here.word have.near here.takes }, refl))),
     )) are
 
--- ---- names of the part
-
--- the lists have the same names
 abbrev SameNames : List Ref → List Ref → Type 0
 SameNames refs part = (n : List ℕ) → HasName refs n ↔ HasName part n
 
--- each name of the refs is as P says
 abbrev EachName : (List ℕ → Type 0) → List Ref → Type 0
 EachName P refs = (n : List ℕ) → HasName refs n → P n
 
@@ -77,7 +68,6 @@ has_part P before (r ∷ refs) part places (inr (repeats, more)) old new n has =
 part_names : (refs part : List Ref) (places : List ℕ) → IsPart refs part places → SameNames refs part
 part_names refs part places is n = (has_part (HasName part) [] refs part places is (λ m none. absurd none) (λ m has. has) n, part_has [] refs part places is n)
 
--- the refs of the part are those at their indexes
 pub part_read : (all before refs part : List Ref) (places : List ℕ) (i d : ℕ) → all ≡ before ++ refs → IsPartBehind before refs part places → i < length part → (get_or places i d < length all) × (get_or all (get_or places i d) blank ≡ get_or part i blank)
 part_read all before [] part places i d whole is below = absurd (omega (arith, below, ap length is.0))
 part_read all before (r ∷ refs) part places zero d whole (inl (rest, others, is, at, more)) below =
@@ -86,14 +76,8 @@ part_read all before (r ∷ refs) part places (suc i) d whole (inl (rest, others
     rw (at, is) (part_read all (before ++ r ∷ []) refs rest others i d (whole ∙ sym (append_assoc before (r ∷ []) refs)) more (omega (arith, below, ap length is)))
 part_read all before (r ∷ refs) part places i d whole (inr (repeats, more)) below = part_read all (before ++ r ∷ []) refs part places i d (whole ∙ sym (append_assoc before (r ∷ []) refs)) more below
 
--- ---- what a needle takes by names
-
 matched_named : (kind : SideKind) (r s : Ref) (word : Option (List ℕ)) → ((id : List ℕ) → ¬ (kind ≡ object id)) → r.name ≡ s.name → MatchesAs kind r word → MatchesAs kind s word
-matched_named (pattern before after) r s None plain same is = is
-matched_named (pattern before after) r s (Some word) plain same is = sym same ∙ is
-matched_named (full_name n) r s word plain same is = (is.0, sym same ∙ is.1)
-matched_named (object id) r s word plain same is = absurd (plain id refl)
-matched_named (partial n) r s word plain same is = (is.0, subst (IsCandidate n) same is.1)
+matched_named kind r s word plain same is = grind (arith, is, same, plain)
 
 first_named : (kind : SideKind) (which : Candidates) (a b : List Ref) (n : List ℕ) → SameNames a b → IsFirstIn kind which a n → IsFirstIn kind which b n
 first_named (partial x) First a b n names first =
@@ -108,36 +92,28 @@ taken_named which kind a b r s plain names same taken = record {
   first = first_named kind which a b s.name names (subst (IsFirstIn kind which a) same taken.first);
 }
 
--- a ref of the name
 abbrev ref_named : List ℕ → Ref
 ref_named n = record { name = n; target = []; object = None }
 
--- the hits of a matcher on refs of one name make the same pair
 same_pair : (which : Candidates) (m : Matcher) (i j : ℕ) (r : Ref) → IsSamePair (mapping_of which (hit_by m i r)) (mapping_of which (hit_by m j (ref_named r.name)))
 same_pair First m i j r = record { source = refl; destination = refl }
 same_pair All m i j r = record { source = refl; destination = refl }
 
--- the first element makes one more, or nothing
 made_cases : {X Y : Type 0} (R : ℕ → X → Y → Type 0) (k : ℕ) (x : X) (xs : List X) (ys : List Y) → IsMadeFrom R k (x ∷ xs) ys
     → ((y : Y) × (rest : List Y) × R k x y × (ys ≡ y ∷ rest) × IsMadeFrom R (k + 1) xs rest) ⊎ (((y : Y) → ¬ (R k x y)) × IsMadeFrom R (k + 1) xs ys)
 made_cases R k x xs ys (None, rest, none, more, is) = inr (none, rw is more)
 made_cases R k x xs ys (Some y, rest, here, more, is) = inl (y, rest, here, is, more)
 
--- ---- a matcher finds enough
-
 module _ (g : List Reading) (which : Candidates) (ms : List Matcher) (all : List Ref) where
-  -- a matcher finds enough among all items
   pub all_enough : (k : ℕ) (m : Matcher) (found : List DeclaredHit) → slice_get ms k ≡ Some m → AreFound which all k m found → FindsEnough g which all m (of_hits which (map (hit_of ms all) found))
   all_enough k m found at are ends have =
       let hits = map (hit_of ms all) found in
       (hits, found_hits which ms all ends k m found at have are, λ before. thins_all g before (of_hits which hits))
 
   module _ (part : List Ref) (places : List ℕ) (k : ℕ) (m : Matcher) (at : slice_get ms k ≡ Some m) (names : SameNames all part) (plain : (id : List ℕ) → ¬ (kind_of_side m.needle ≡ object id)) where
-    -- the hits on some items
     abbrev Found : List Ref → ℕ → List Ref → List DeclaredHit → Type 0
     Found items = IsMadeFrom (IsFound which items (kind_of_side m.needle) k)
 
-    -- the needle takes the name among all
     abbrev Takes : List ℕ → Type 0
     Takes n = IsTaken which all (kind_of_side m.needle) (ref_named n)
 
@@ -208,7 +184,6 @@ module _ (g : List Reading) (which : Candidates) (ms : List Matcher) (all : List
           | inr none ↦ missed before refs r made found none (finds_from (before ++ r ∷ []) refs rest i made found next more (each_next (Settled made) before r known (inr none)) are)
         ]
 
-  -- and it does among items without some that have the name of an earlier one
   pub once_enough : (part : List Ref) (places : List ℕ) (k : ℕ) (m : Matcher) (found : List DeclaredHit) → slice_get ms k ≡ Some m → IsPart all part places → ((id : List ℕ) → ¬ (kind_of_side m.needle ≡ object id)) → AreFound which part k m found
       → FindsEnough g which all m (of_hits which (map (hit_of ms all) (map (turned places) found)))
   once_enough part places k m found at is plain are ends have =

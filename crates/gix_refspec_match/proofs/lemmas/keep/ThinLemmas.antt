@@ -2,7 +2,6 @@
 use Rattle.gix_refspec_match.proofs.Common.{List, [], ◌∷◌, None, Some, refl, ◌≡◌, ℕ, ◌++◌, Option, sym, ◌∙◌, arith, inl, inr, subst, ap, append-nil, ◌<◌, length, take, drop, ◌+◌, get_or, append_assoc, ◌⊎◌, ◌↔◌}
 use Rattle.gix_refspec_match.proofs.Common.{length-drop, drop_more, take_more, Reading, MakesOf, IsMadeFrom, Mapped, IsKeptAt, IsKept, IsSourceExcluded, IsSamePair, HasPair, Thins, MayGo}
 
--- what is left of a list from an index on begins with the element there
 pub cut : {X : Type 0} (xs rest : List X) (i : ℕ) (d x : X) → drop i xs ≡ x ∷ rest → (get_or xs i d ≡ x) × (take (i + 1) xs ≡ take i xs ++ x ∷ []) × (drop (i + 1) xs ≡ rest)
 cut xs rest i d x is =
     let below : i < length xs = omega (arith, ap length is, length-drop i xs) in
@@ -14,13 +13,10 @@ pub pair_right : (before l : List Mapped) (m : Mapped) → HasPair l m → HasPa
 pair_right [] l m has = has
 pair_right (x ∷ before) l m has = inr (pair_right before l m has)
 
--- mappings with one pair
 pub pair_alike : (l : List Mapped) (m n : Mapped) → IsSamePair m n → HasPair l m → HasPair l n
 pair_alike [] m n same has = absurd has
-pair_alike (x ∷ l) m n same (inl here) = inl (record { source = here.source ∙ same.source; destination = here.destination ∙ same.destination })
-pair_alike (x ∷ l) m n same (inr has) = inr (pair_alike l m n same has)
+pair_alike (x ∷ l) m n same has = grind (arith, has, pair_alike l m n same)
 
--- a pair of a list with one more is before that one, or is that one's
 pair_last : (l : List Mapped) (x m : Mapped) → HasPair (l ++ x ∷ []) m ↔ (HasPair l m ⊎ IsSamePair x m)
 pair_last [] x m = grind arith
 pair_last (y ∷ l) x m = grind (arith, pair_last l x m)

@@ -7,7 +7,6 @@ use Rattle.gix_refspec_match.specs.Matching.Lists.{MakesOf, IsMadeFrom, IsJoined
 pub map_long : {A B : Type 0} (f : A → B) (xs : List A) (i : ℕ) → i < length xs → length (map f (take i xs)) ≡ i
 map_long f xs i below = length-map (take i xs) f ∙ length-take-le i xs (omega arith)
 
--- a place cuts the elements
 pub map_split : {A B : Type 0} (f : A → B) (xs : List A) (i : ℕ) (d : A) → i < length xs → map f xs ≡ map f (take i xs) ++ (f (get_or xs i d) ∷ map f (drop (suc i) xs))
 map_split f xs i d below = ap (map f) (sym (take-append-drop i xs)) ∙ rw (drop-cons xs i d below, map-append) refl
 
@@ -36,7 +35,6 @@ joined_after R k i (z ∷ zs) x ys made at (first, rest, here, more, same) makes
 pub joined_next : {X Y : Type 0} (R : ℕ → X → List Y → Type 0) (i : ℕ) (xs : List X) (x : X) (ys made : List Y) → length xs ≡ i → IsJoinedFrom R 0 xs ys → R i x made → IsJoinedFrom R 0 (xs ++ x ∷ []) (ys ++ made)
 joined_next R i xs x ys made long so_far makes = joined_after R 0 i xs x ys made (omega arith) so_far makes
 
--- where nothing was made, each element made nothing
 pub made_none : {X Y : Type 0} (R : ℕ → X → Y → Type 0) (k : ℕ) (xs : List X) → IsMadeFrom R k xs [] → (i : ℕ) (d : X) → i < length xs → (y : Y) → ¬ (R (k + i) (get_or xs i d) y)
 made_none R k [] made i d below y holds = absurd (omega arith)
 made_none R k (x ∷ xs) (Some z, rest, here, more, is) i d below y holds = absurd (cc)
@@ -54,14 +52,10 @@ nothing_joined R k [] x after (y ∷ made, rest, here, more, same) = absurd (cc)
 nothing_joined R k (b ∷ bs) x after ([], rest, here, more, same) = let at : k + length (b ∷ bs) ≡ k + 1 + length bs = omega arith in rw at (nothing_joined R (k + 1) bs x after (rw same more))
 nothing_joined R k (b ∷ bs) x after (y ∷ made, rest, here, more, same) = absurd (cc)
 
--- each element makes one thing at most
 abbrev pub MakesOnce : {X Y : Type 0} → (ℕ → X → Y → Type 0) → Type 0
 MakesOnce {X} {Y} R = (k : ℕ) (x : X) (y z : Y) → R k x y → R k x z → y ≡ z
 
--- so the elements determine the list
 pub one_joined : {X Y : Type 0} (R : ℕ → X → List Y → Type 0) → MakesOnce R → (k : ℕ) (xs : List X) (ys zs : List Y) → IsJoinedFrom R k xs ys → IsJoinedFrom R k xs zs → ys ≡ zs
 one_joined R once k [] ys zs of_ys of_zs = of_ys ∙ sym of_zs
 one_joined R once k (x ∷ xs) ys zs (a, rest, a_here, a_more, a_same) (b, others, b_here, b_more, b_same) =
-    let here : a ≡ b = once k x a b a_here b_here in
-    let more : rest ≡ others = one_joined R once (k + 1) xs rest others a_more b_more in
-    cc
+    cc (once k x a b a_here b_here, one_joined R once (k + 1) xs rest others a_more b_more)

@@ -2,29 +2,20 @@
 use Rattle.std.proofs.Common.{List, [], ◌∷◌, None, Some, refl, ◌≡◌, ℕ, ◌++◌, Option, sym, ◌∙◌, arith, ap, append-nil, ◌<◌, length, map, take, drop, ◌+◌, get_or, option_map, ◌≤◌, suc, option_to_list, add-zero}
 use Rattle.std.proofs.lemmas.List.{drop_more, length-take-le, take_more, drop-set-lt, length-set, take-set, take-set-le}
 use Rattle.std.specs.List.{SwappedAt}
-use Rattle.gix_refspec_match.specs.Matching.Lists.{MakesOf, IsMadeFrom}
-use Rattle.gix_refspec_match.proofs.lemmas.lists.JoinLemmas.{made_next}
+use Rattle.gix_refspec_match.{specs.Matching.Lists.MakesOf, specs.Matching.Lists.IsMadeFrom, proofs.lemmas.lists.JoinLemmas.made_next}
 
--- where each element is kept, all are
 pub made_all : {X : Type 0} (R : ℕ → X → X → Type 0) → ((k : ℕ) (x : X) → R k x x) → (k : ℕ) (xs : List X) → IsMadeFrom R k xs xs
 made_all R stays k [] = refl
 made_all R stays k (x ∷ xs) = (Some x, xs, stays k x, made_all R stays (k + 1) xs, refl)
 
 same_made : {X Y : Type 0} (R : ℕ → X → Y → Type 0) → ((k : ℕ) (x : X) (y z : Y) → R k x y → R k x z → y ≡ z) → (k : ℕ) (x : X) (a b : Option Y) → MakesOf R k x a → MakesOf R k x b → a ≡ b
-same_made R one k x None None none_a none_b = refl
-same_made R one k x None (Some z) none_a is_b = absurd (none_a z is_b)
-same_made R one k x (Some y) None is_a none_b = absurd (none_b y is_a)
-same_made R one k x (Some y) (Some z) is_a is_b = ap Some (one k x y z is_a is_b)
+same_made R one k x a b is_a is_b = grind (arith, is_a, is_b, one k x)
 
--- a relation that makes one thing at most of each element makes one list
 pub made_once : {X Y : Type 0} (R : ℕ → X → Y → Type 0) → ((k : ℕ) (x : X) (y z : Y) → R k x y → R k x z → y ≡ z) → (k : ℕ) (xs : List X) (ys zs : List Y) → IsMadeFrom R k xs ys → IsMadeFrom R k xs zs → ys ≡ zs
 made_once R one k [] ys zs empty also = empty ∙ sym also
 made_once R one k (x ∷ xs) ys zs (a, rest, of, more, is) (b, rest2, of2, more2, is2) =
-    let first : a ≡ b = same_made R one k x a b of of2 in
-    let others : rest ≡ rest2 = made_once R one (k + 1) xs rest rest2 more more2 in
-    cc
+    cc (same_made R one k x a b of of2, made_once R one (k + 1) xs rest rest2 more more2)
 
--- the same list, seen element by element
 pub made_map : {X Y U V : Type 0} (f : X → U) (h : Y → V) (R : ℕ → X → Y → Type 0) (S : ℕ → U → V → Type 0) (k : ℕ) (xs : List X) (ys : List Y) → ((i : ℕ) (d : X) → i < length xs → (made : Option Y) → MakesOf R (k + i) (get_or xs i d) made → MakesOf S (k + i) (f (get_or xs i d)) (option_map h made)) → IsMadeFrom R k xs ys → IsMadeFrom S k (map f xs) (map h ys)
 made_map f h R S k [] ys each empty = ap (map h) empty
 made_map {X} {Y} {U} {V} f h R S k (x ∷ xs) ys each (made, rest, of, more, is) =

@@ -2,12 +2,10 @@
 use Rattle.gix_refspec_match.proofs.Common.{List, [], ◌∷◌, None, Some, refl, ℕ, ◌++◌, sym, arith, inl, inr, subst, map, ◌+◌, rules, ◌⊎◌, zero, suc, All-from_recursion, AllByRecursion, IsMadeFrom, IsJoinedFrom}
 use Rattle.std.specs.List as lists
 
--- some element is as P says
 abbrev pub Any : {X : Type 0} → (X → Type 0) → List X → Type 0
 Any P [] = ⊥
 Any P (x ∷ xs) = P x ⊎ Any P xs
 
--- so it is by a place
 pub some_at : {X : Type 0} (P : X → Type 0) (xs : List X) → Any P xs → lists.Any P xs
 some_at P [] any = absurd any
 some_at P (x ∷ xs) (inl here) = (0, x, omega arith, refl, here)
@@ -38,21 +36,18 @@ pub Any-map : {X Y : Type 0} (P : Y → Type 0) (f : X → Y) (xs : List X) → 
 Any-map P f [] any = any
 Any-map P f (x ∷ xs) any = search (rules, Any-map P f xs)
 
--- what is so of each element, and of some one, is so of that one
 pub Any-all : {X : Type 0} (P Q R : X → Type 0) → ((x : X) → P x → Q x → R x) → (xs : List X) → AllByRecursion P xs → Any Q xs → Any R xs
 Any-all P Q R both xs all any = let (i, x, below, at, is) = some_at Q xs any in some_of R xs (i, x, below, at, both x (subst P at (All-from_recursion P xs all i x below)) is)
 
 pub Any-weaker : {X : Type 0} (P Q : X → Type 0) → ((x : X) → P x → Q x) → (xs : List X) → Any P xs → Any Q xs
 Any-weaker P Q weaker xs any = let (i, x, below, at, is) = some_at P xs any in some_of Q xs (i, x, below, at, weaker x is)
 
--- a fact that doesn't depend on the element
 pub Any-fact : {X : Type 0} (C : Type 0) (xs : List X) → Any (λ x. C) xs → C
 Any-fact C xs any = (some_at (λ x. C) xs any).4
 
 pub Any-both : {X : Type 0} (P : X → Type 0) (C : Type 0) (xs : List X) → Any (λ x. P x × C) xs → Any P xs × C
 Any-both P C xs any = (Any-weaker _ P (λ x both. both.0) xs any, (some_at _ xs any).4.1)
 
--- what was made is made of some element
 pub made_any : {X Y : Type 0} (R : ℕ → X → Y → Type 0) (P : Y → Type 0) (k : ℕ) (xs : List X) (ys : List Y) → IsMadeFrom R k xs ys → Any P ys → Any (λ x. (j : ℕ) × (y : Y) × R j x y × P y) xs
 made_any R P k [] ys empty any = absurd (subst (Any P) empty any)
 made_any R P k (x ∷ xs) ys (None, rest, none, more, is) any = inr (made_any R P (k + 1) xs rest more (subst (Any P) is any))
@@ -64,15 +59,10 @@ MakesOnly {X} {Y} R P x = (j : ℕ) → (y : Y) × R j x y × ((z : Y) → R j x
 
 pub any_made : {X Y : Type 0} (R : ℕ → X → Y → Type 0) (P : Y → Type 0) (k : ℕ) (xs : List X) (ys : List Y) → IsMadeFrom R k xs ys → Any (MakesOnly R P) xs → Any P ys
 any_made R P k [] ys empty any = absurd any
-any_made R P k (x ∷ xs) ys (None, rest, none, more, is) (inl here) = let made = here k in absurd (none made.0 made.1)
-any_made R P k (x ∷ xs) ys (None, rest, none, more, is) (inr later) = rw is (any_made R P (k + 1) xs rest more later)
-any_made R P k (x ∷ xs) ys (Some y, rest, makes, more, is) (inl here) = rw is (inl ((here k).2 y makes))
-any_made R P k (x ∷ xs) ys (Some y, rest, makes, more, is) (inr later) = rw is (inr (any_made R P (k + 1) xs rest more later))
-
--- what was joined was made of some element
-pub joined_any : {X Y : Type 0} (R : ℕ → X → List Y → Type 0) (P : Y → Type 0) (k : ℕ) (xs : List X) (ys : List Y) → IsJoinedFrom R k xs ys → Any P ys → Any (λ x. (j : ℕ) × (made : List Y) × R j x made × Any P made) xs
-joined_any R P k [] ys empty any = absurd (subst (Any P) empty any)
-joined_any R P k (x ∷ xs) ys (made, rest, makes, more, is) any = let some = Any-cases P made rest (subst (Any P) is any) in search (rules, joined_any R P (k + 1) xs rest more)
+any_made R P k (x ∷ xs) ys (None, rest, none, more, is) any =
+    rw is (elim any [ inl here ↦ absurd (none (here k).0 (here k).1) | inr later ↦ any_made R P (k + 1) xs rest more later ])
+any_made R P k (x ∷ xs) ys (Some y, rest, makes, more, is) any = let others = any_made R P (k + 1) xs rest more in
+    rw is (elim any [ inl here ↦ inl ((here k).2 y makes) | inr later ↦ inr (others later) ])
 
 pub any_joined : {X Y : Type 0} (R : ℕ → X → List Y → Type 0) (P : Y → Type 0) (k : ℕ) (xs : List X) (ys : List Y) → IsJoinedFrom R k xs ys → Any (λ x. (j : ℕ) (made : List Y) → R j x made → Any P made) xs → Any P ys
 any_joined R P k [] ys empty any = absurd any

@@ -1,4 +1,3 @@
--- Each side of an accepted spec has a kind.
 use Rattle.gix_refspec_match.proofs.Common.{sym, ◌∙◌, inl, inr, ap, option_map, bstr_bytes, accepted_few}
 use Rattle.gix_refspec_match.proofs.matcher.sides_of.Goals as goal
 

@@ -1,4 +1,3 @@
--- A pattern matches where there is a word between its texts.
 use Rattle.gix_refspec_match.proofs.Common.{ref_of}
 use Rattle.gix_refspec_match.proofs.lemmas.hits.FoundLemmas.{pattern_told}
 

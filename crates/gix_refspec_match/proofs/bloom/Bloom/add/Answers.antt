@@ -1,4 +1,3 @@
--- a bit of one word is set, and the others stay
 use Rattle.gix_refspec_match.proofs.Common.{◌≡◌, arith, ◌<◌, length, ◌*◌, ◌%◌, ◌^◌, common_steps, bit_at_or, bit_at-pow_same, get_or-set_same, pow_below, pow_pos}
 use Rattle.gix_refspec_match.proofs.bloom.Bloom.add.Goals as goal
 

@@ -1,4 +1,3 @@
--- the bit of a number in its word
 use Rattle.gix_refspec_match.proofs.Common.{arith, common_steps, shr_and_one, pow_pos}
 
 pub returns : Rattle.gix_refspec_match.proofs.bloom.Bloom.has.Goals.returns

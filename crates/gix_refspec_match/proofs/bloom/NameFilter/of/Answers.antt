@@ -1,4 +1,3 @@
--- one more name passes, and the earlier ones still do
 use Rattle.gix_refspec_match.proofs.Common.{◌∙◌, subst, rules, all_weaker, one_more_mapped, Passes, name_bytes, NameFilter}
 
 pub loop-name-preserved : Rattle.gix_refspec_match.proofs.bloom.NameFilter.of.Goals.loop-name-preserved

@@ -1,4 +1,3 @@
--- the names so far pass
 use Rattle.gix_refspec_match.proofs.Common.{map, take, AllByRecursion, IsWholeFilter, Passes, name_bytes}
 
 abbrev pub invariant-loop-name : Rattle.gix_refspec_match.proofs.bloom.NameFilter.of.Given.invariant-loop-name

@@ -1,4 +1,3 @@
--- A candidate's last bytes are there.
 use Rattle.gix_refspec_match.proofs.Common.{rules}
 use Rattle.gix_refspec_match.proofs.lemmas.index.ShortTailLemmas.{candidate_marked}
 

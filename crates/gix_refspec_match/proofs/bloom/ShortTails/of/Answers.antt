@@ -1,4 +1,3 @@
--- one more name is there, and the earlier ones still do
 use Rattle.gix_refspec_match.proofs.Common.{codes, ◌≡◌, true, ◌∙◌, arith, inl, inr, subst, length, rules, ◌⊎◌, ◌≤◌, nat_tests, all_weaker, one_more_mapped, HasTail, short_tail_number, name_bytes, ShortTails}
 use Rattle.gix_refspec_match.proofs.bloom.ShortTails.of.Goals as goal
 

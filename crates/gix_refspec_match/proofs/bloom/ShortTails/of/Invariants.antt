@@ -1,4 +1,3 @@
--- the names so far are there
 use Rattle.gix_refspec_match.proofs.Common.{map, take, AllByRecursion, AreWholeTails, HasTail, name_bytes}
 
 abbrev pub invariant-loop-name : Rattle.gix_refspec_match.proofs.bloom.ShortTails.of.Given.invariant-loop-name

@@ -1,4 +1,3 @@
--- one more spec
 use Rattle.gix_refspec_match.proofs.Common.{arith, take, take_all, length-map, length-take-le, map_next, reading_of}
 use Rattle.gix_refspec_match.proofs.lemmas.keep.ExclusionLemmas.{exclusions_at_more, exclusions_more}
 use Rattle.gix_refspec_match.proofs.exclusions.Exclusions.of.Goals as goal

@@ -1,4 +1,3 @@
--- the specs so far exclude what these do, by their indexes
 use Rattle.gix_refspec_match.proofs.Common.{map, take, reading_of, AreExclusionsAt, AreExclusionsOf}
 
 abbrev pub invariant-loop-index : Rattle.gix_refspec_match.proofs.exclusions.Exclusions.of.Given.invariant-loop-index

@@ -1,4 +1,3 @@
--- one more pattern fits the name, or doesn't
 use Rattle.gix_refspec_match.proofs.Common.{None, ◌≡◌, arith, inl, inr, take_all, common_steps, All-more, MatchOption-at_none, FitsName}
 use Rattle.gix_refspec_match.proofs.lemmas.keep.ExclusionLemmas.{nothing_found, unlisted}
 use Rattle.gix_refspec_match.proofs.exclusions.Exclusions.spec_of.Goals as goal

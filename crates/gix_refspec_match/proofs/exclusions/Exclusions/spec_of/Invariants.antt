@@ -1,4 +1,3 @@
--- no pattern so far fits the name
 use Rattle.gix_refspec_match.proofs.Common.{take, FitsName}
 use Rattle.std.proofs.Common.{All}
 

@@ -1,4 +1,3 @@
--- Each matcher adds the name that it looks for.
 use Rattle.gix_refspec_match.proofs.Common.{List, [], ◌∷◌, ◌≡◌, ℕ, ◌++◌, ◌∙◌, ap, map, take, get_or, rules, Vec, take_more, map_push, Contains-append_left, Contains-push, Contains, all_weaker, all_join}
 use Rattle.gix_refspec_match.proofs.Common.{kind_of_side, full_name, partial, SideKind, HasNamesOf, name_bytes, Names, NameRef}
 use Rattle.gix_refspec_match.proofs.lemmas.hits.MissingLemmas.{blank_matcher}

@@ -1,4 +1,3 @@
--- the names are there that the matchers so far look for
 use Rattle.gix_refspec_match.proofs.Common.{take, AllByRecursion, kind_of_side, HasNamesOf}
 
 abbrev pub invariant-loop-matcher : Rattle.gix_refspec_match.proofs.index.Names.of.Given.invariant-loop-matcher

@@ -1,4 +1,3 @@
--- Each item adds its place, and those that are no candidates add nothing.
 use Rattle.gix_refspec_match.proofs.lemmas.index.PartialLemmas.{adds_nothing, partials_all, partials_more, partials_started}
 use Rattle.gix_refspec_match.proofs.index.partials.places_of_partials.Goals as goal
 

@@ -1,4 +1,3 @@
--- each partial name has its places among the items so far
 use Rattle.gix_refspec_match.proofs.Common.{map, list_of, name_bytes}
 use Rattle.gix_refspec_match.proofs.lemmas.index.PartialLemmas.{ListSoFar}
 

@@ -1,4 +1,3 @@
--- What is left after both cuts is the remote.
 use Rattle.gix_refspec_match.proofs.Common.{Some, codes, Decides-eqb, strip_suffix_is, strip_prefix_is}
 use Rattle.gix_refspec_match.proofs.lemmas.hits.HitLemmas.{word_left}
 

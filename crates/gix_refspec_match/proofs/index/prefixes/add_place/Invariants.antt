@@ -1,4 +1,3 @@
--- the place is added for the prefixes of the lengths so far
 use Rattle.gix_refspec_match.proofs.Common.{list_of}
 use Rattle.gix_refspec_match.proofs.lemmas.index.PrefixLemmas.{AddsBelow}
 

@@ -1,4 +1,3 @@
--- one more length is flagged, and the earlier ones still are
 use Rattle.gix_refspec_match.proofs.Common.{List, ℕ, ◌∙◌, subst, length, all_weaker, one_more_mapped, IsFlagged, name_bytes}
 
 pub loop-text-preserved : Rattle.gix_refspec_match.proofs.index.prefixes.lengths_of.Goals.loop-text-preserved

@@ -1,4 +1,3 @@
--- the lengths of the texts so far are flagged
 use Rattle.gix_refspec_match.proofs.Common.{length, map, take, AllByRecursion, IsFlagged, name_bytes}
 
 abbrev pub invariant-loop-text : Rattle.gix_refspec_match.proofs.index.prefixes.lengths_of.Given.invariant-loop-text

@@ -1,4 +1,3 @@
--- Each item adds its place.
 use Rattle.gix_refspec_match.proofs.Common.{take_all}
 use Rattle.gix_refspec_match.proofs.lemmas.index.PrefixLemmas.{fronts_started, item_added, lengths_started}
 use Rattle.gix_refspec_match.proofs.index.prefixes.places_of_prefixes.Goals as goal

@@ -1,4 +1,3 @@
--- each prefix has its places among the items so far
 use Rattle.gix_refspec_match.proofs.Common.{map, take, HaveLengths, ListPrefixes, list_of, ref_of}
 
 abbrev pub invariant-loop-place : Rattle.gix_refspec_match.proofs.index.prefixes.places_of_prefixes.Given.invariant-loop-place

@@ -1,4 +1,3 @@
--- Each spec has a matcher or none.
 use Rattle.gix_refspec_match.proofs.Common.{arith, take_all, rules}
 use Rattle.gix_refspec_match.proofs.lemmas.hits.MatcherLemmas.{backward_matcher, backward_unmatched, equal_from_duplicates, flagged_matcher, no_matcher, spec_joined, spec_skipped}
 use Rattle.gix_refspec_match.proofs.matcher.Matchers.backward.Goals as goal

@@ -1,4 +1,3 @@
--- Each spec has a matcher, an object or none.
 use Rattle.gix_refspec_match.proofs.Common.{arith, take_all, rules}
 use Rattle.gix_refspec_match.proofs.lemmas.hits.MatcherLemmas.{equal_from_duplicates, flagged_matcher, forward_matcher, no_id_object, no_matcher, no_object, object_here, object_unmatched, spec_joined, spec_skipped}
 use Rattle.gix_refspec_match.proofs.matcher.Matchers.forward.Goals as goal

@@ -1,4 +1,3 @@
--- the specs so far have these matchers and objects
 use Rattle.gix_refspec_match.proofs.Common.{map, take, reading_of, IsJoinedFrom, AreMatcherOf, AreObjectsOf, First}
 
 abbrev pub invariant-loop-spec_index : Rattle.gix_refspec_match.proofs.matcher.Matchers.forward.Given.invariant-loop-spec_index

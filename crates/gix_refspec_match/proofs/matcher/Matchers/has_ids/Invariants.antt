@@ -1,4 +1,3 @@
--- no needle so far is an id
 use Rattle.gix_refspec_match.proofs.Common.{List, ◌≡◌, ℕ, take, AllByRecursion, kind_of_side, object}
 
 abbrev pub invariant-loop-matcher : Rattle.gix_refspec_match.proofs.matcher.Matchers.has_ids.Given.invariant-loop-matcher

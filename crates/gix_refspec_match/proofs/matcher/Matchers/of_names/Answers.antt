@@ -1,4 +1,3 @@
--- A spec whose source is a name has a matcher, and any other has none.
 use Rattle.gix_refspec_match.proofs.Common.{None, Some, refl, ◌≡◌, sym, arith, inl, inr, append-nil, take_all, kind_of_side, reading_of, DeclaredKind as SideKind, Partial, IsNameKind}
 use Rattle.gix_refspec_match.proofs.lemmas.hits.MissingLemmas.{named_here, named_next, none_here, other_here}
 use Rattle.gix_refspec_text.specs.declared.side.SideKind.TheVariants.{FullName}

@@ -1,4 +1,3 @@
--- the specs so far have these matchers
 use Rattle.gix_refspec_match.proofs.Common.{map, take, reading_of, AreNamed}
 
 abbrev pub invariant-loop-spec_index : Rattle.gix_refspec_match.proofs.matcher.Matchers.of_names.Given.invariant-loop-spec_index

@@ -1,4 +1,3 @@
--- the items so far that aren't flagged are a part of the items so far
 use Rattle.gix_refspec_match.proofs.Common.{map, take, IsPart, ref_of}
 
 abbrev pub invariant-loop-index : Rattle.gix_refspec_match.proofs.unique.Unique.of.Given.invariant-loop-index

@@ -1,4 +1,3 @@
--- names that are equal byte by byte are equal in their order
 use Rattle.gix_refspec_match.proofs.Common.{sym, ◌∙◌, inl, ap, texts_ties, is_eq, bstr_bytes}
 use Rattle.gix_refspec_match.proofs.lemmas.duplicates.FlagLemmas.{equal_told}
 

@@ -1,7 +1,5 @@
--- The place is added for the partial name alone.
 use Rattle.gix_refspec_match.proofs.Common.{refl, sym, arith, ap, on_ok_weaker, list_of}
-use Rattle.gix_refspec_match.proofs.lemmas.index.KeyLemmas.{key_of}
-use Rattle.gix_refspec_match.proofs.lemmas.index.PartialLemmas.{adds_nothing, adds_one}
+use Rattle.gix_refspec_match.proofs.lemmas.index.{KeyLemmas.key_of, PartialLemmas.adds_nothing, PartialLemmas.adds_one}
 use Rattle.gix_refspec_match.proofs.index.partials.Lookup.add.Goals as goal
 
 pub returns-then-not-passes : goal.returns-then-not-passes
