@@ -21,8 +21,7 @@ branch_and_tag = main_branch ∷ main_tag ∷ []
 -- a name of another length than those of all refs is that of none
 no_name : (refs : List Ref) (n : List ℕ) → AllByRecursion (λ r. length r.name ≢ length n) refs → ¬ (HasName refs n)
 no_name [] n all has = has
-no_name (r ∷ refs) n (other, others) (inl same) = other (ap length same)
-no_name (r ∷ refs) n (other, others) (inr has) = no_name refs n others has
+no_name (r ∷ refs) n (other, others) has = grind (arith, has, other, no_name refs n others)
 
 -- of a branch and a tag, the tag is the first candidate, wherever it is
 pub tag_first : IsFirstCandidate branch_and_tag (codes "main") (codes "refs/tags/main")

@@ -1,5 +1,5 @@
 -- The flags of duplicates, as far as a list in order was gone through.
-use Rattle.std.proofs.Common.{List, [], ◌∷◌, refl, ◌≡◌, ℕ, true, false, Equal, arith, inr, ◌<◌, length, ◌+◌, ◌⊎◌, ◌↔◌, Bool, Result, Ok, Err, Ordering}
+use Rattle.std.proofs.Common.{List, [], ◌∷◌, ◌≡◌, ℕ, true, false, Equal, arith, inr, ◌<◌, length, ◌+◌, ◌⊎◌, ◌↔◌, Bool, Result, Ordering}
 use Rattle.std.specs.{Prelude.IfOk, Ordering.is_eq, Ordering.is_ne}
 use Rattle.gix_refspec_match.specs.{Private.Duplicates.FlagsDuplicates, Private.Duplicates.IsDuplicate, Private.Kept.IsFlagged}
 
@@ -8,12 +8,10 @@ some_element [] k below = absurd (omega arith)
 some_element (x ∷ xs) k below = x
 
 pub ok_weaker : {T E : Type 0} (r : Result T E) (P Q : T → Type 0) → ((x : T) → P x → Q x) → IfOk r P → IfOk r Q
-ok_weaker (Ok x) P Q make p = make x p
-ok_weaker (Err e) P Q make p = p
+ok_weaker r P Q make p = grind (arith, make, p)
 
 pub equal_told : (o : Ordering) → (is_eq o ≡ true) ⊎ (is_ne o ≡ false) → o ≡ Equal
-equal_told Equal told = refl
-equal_told o told = grind arith
+equal_told o told = grind (arith, told)
 
 -- duplicates are flagged, and of these all that positions below at tell of
 pub record AreFlagged {T : Type 0} (order : T → T → Ordering) (xs : List T) (Tells : ℕ → ℕ → Type 0) (flags : List Bool)

@@ -1,5 +1,5 @@
 -- Keys and elements with an index, first in the order of their indexes, then sorted.
-use Rattle.gix_refspec_match.proofs.Common.{List, [], ◌∷◌, refl, ◌≡◌, ℕ, false, ◌++◌, Equal, sym, ◌∙◌, arith, ap, ◌<◌, length, ◌+◌, get_or, ◌≤◌, Bool, length-append, ◌-◌, Ordering, eqb, elements, false≢true}
+use Rattle.gix_refspec_match.proofs.Common.{List, [], ◌∷◌, ◌≡◌, ℕ, false, ◌++◌, Equal, sym, ◌∙◌, arith, ap, ◌<◌, length, ◌+◌, get_or, ◌≤◌, Bool, length-append, ◌-◌, Ordering, eqb, elements, false≢true}
 use Rattle.gix_refspec_match.proofs.Common.{eq-eqb, ne_eqb, nat_cmp_total, nat_eq_equiv, on_total, tied_back, then_total, get_or_default, get_or_read, All-contains, All-push, Contains-get_or, All-permutation}
 use Rattle.gix_refspec_match.proofs.Common.{Contains-permutation, ranks_by, sorted_far, IsDistinct-IsPermutation, IsDistinct-from_apart, apart_from_distinct, ge_from_not_lt, IsTotalOrder, IsPermutation}
 use Rattle.gix_refspec_match.proofs.Common.{IsSorted, Contains, ordering_then, is_lt, ordering_reverse, IsDuplicate, IsSecond, AreApart, ArePlaced, HaveEqualElements, IsPlaced, placed_order, Placed}
@@ -62,8 +62,7 @@ module _ {T : Type 0} {order : T → T → Ordering} (total : IsTotalOrder order
       tied_back total b.element.now m.element.now (between _ _ _ (rw (total.antisymm m.element.now a.element.now, total.congr a.element.now b.element.now m.element.now same) at after) before)
     where
       between : (o u v : Ordering) → is_lt (ordering_then (ordering_reverse o) u) ≡ false → is_lt (ordering_then o v) ≡ false → o ≡ Equal
-      between Equal u v left right = refl
-      between o u v left right = absurd (cc)
+      between o u v left right = grind (arith, left, right)
 
   module _ {xs : List T} {ps : List (Placed T)} (are : ArePlaced xs ps)
       (sorted : IsSorted (placed_order order) ps) where

@@ -1,8 +1,8 @@
 -- The hits of a group from those of its matchers. Specs that have the sides of an earlier one have none: their hits make
 -- no pair that is new.
-use Rattle.gix_refspec_match.proofs.Common.{List, [], ◌∷◌, refl, ◌≡◌, ℕ, ◌++◌, sym, ◌∙◌, arith, inl, inr, ap, append-nil, ◌<◌, length, map, ◌+◌, get_or, append_assoc, zero, suc, Bool, add-zero, length-append}
+use Rattle.gix_refspec_match.proofs.Common.{List, [], ◌∷◌, refl, ◌≡◌, ℕ, ◌++◌, sym, arith, inl, inr, ap, append-nil, ◌<◌, length, map, ◌+◌, get_or, append_assoc, zero, suc, Bool, add-zero, length-append}
 use Rattle.gix_refspec_match.proofs.Common.{get_or-append_seam, get_or_append_left, map-append, IsPositive, Ref, Reading, IsMadeFrom, IsJoinedFrom, Ends, Hit, IsHit, AreSpecHits, AreHits, Mapped, IsSamePair}
-use Rattle.gix_refspec_match.proofs.Common.{HasPair, HaveSameSides, FlagsEqual, mapping_of, Thins, IsFlagged, HaveKinds, HasEnds, TakesIn, AreMatcherOf, AreMatchersOf, Candidates, All, First, Matcher, Matchers}
+use Rattle.gix_refspec_match.proofs.Common.{HasPair, HaveSameSides, FlagsEqual, mapping_of, Thins, IsFlagged, HaveKinds, HasEnds, TakesIn, AreMatcherOf, AreMatchersOf, Candidates, Matcher, Matchers}
 use Rattle.gix_refspec_match.proofs.lemmas.{hits.FoundLemmas.made_each, hits.FoundLemmas.of_hits, lists.JoinLemmas.joined_next}
 use Rattle.gix_refspec_match.proofs.lemmas.keep.{KeptLemmas.HasPair-left, ThinLemmas.pair_right, ThinLemmas.thins_both}
 
@@ -11,12 +11,10 @@ abbrev at_spec : ℕ → Hit → Hit
 at_spec k h = record { spec = k; item = h.item; near = h.near; far = h.far }
 
 same_ends : (which : Candidates) (r s : Reading) (ends : Ends) → IsPositive s.mode → r.source ≡ s.source → r.destination ≡ s.destination → HasEnds which r ends → HasEnds which s ends
-same_ends First r s ends positive source destination has = record { positive = positive; near = sym source ∙ has.near; far = sym destination ∙ has.far; no_object = has.no_object }
-same_ends All r s ends positive source destination has = record { positive = positive; near = sym destination ∙ has.near; far = sym source ∙ has.far; both = has.both }
+same_ends which r s ends positive source destination has = grind (arith, positive, source, destination, has)
 
 pair_at : (which : Candidates) (k : ℕ) (h : Hit) → IsSamePair (mapping_of which h) (mapping_of which (at_spec k h))
-pair_at First k h = record { source = refl; destination = refl }
-pair_at All k h = record { source = refl; destination = refl }
+pair_at which k h = grind arith
 
 abbrev Holds : List Mapped → List Mapped → Type 0
 Holds all some = (m : Mapped) → HasPair some m → HasPair all m
@@ -83,12 +81,9 @@ module _ (g : List Reading) (which : Candidates) (items : List Ref) where
       most_next front r some [] (map (at_spec (length front)) first) (spec_at which items (0 + b) (length front) (get_or front b r) r first same are) so_far
       (thins_again g which (length front) (of_hits which so_far.0) first holds)
 
-  -- what the matchers of the specs from some on find, after what those before find
-  abbrev MostNext : List Reading → Reading → List Matcher → List Mapped → List Mapped → Type 0
-  MostNext front r others some more = (n : ℕ) × (here later : List Mapped) × FindEnough n others later × (more ≡ here ++ later) × AreMostOf (front ++ r ∷ []) (some ++ here)
-
   most_of : (flags : List Bool) (front rest : List Reading) (r : Reading) (n : ℕ) (made others : List Matcher) (some more : List Mapped) → FlagsEqual (front ++ (r ∷ rest)) flags → AreMatcherOf which flags (length front) r made
-      → FindEnough n (made ++ others) more → AreMostOf front some → MostNext front r others some more
+      → FindEnough n (made ++ others) more → AreMostOf front some
+      → (m : ℕ) × (here later : List Mapped) × FindEnough m others later × (more ≡ here ++ later) × AreMostOf (front ++ r ∷ []) (some ++ here)
   most_of flags front rest r n made others some more equal (inl (m, is_m, one)) found so_far =
       let (here, later, enough, find, all) = rw one at found in
       let (hits, are, thins) = enough is_m.ends is_m.kinds in

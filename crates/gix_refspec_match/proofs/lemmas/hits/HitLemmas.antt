@@ -1,7 +1,7 @@
 -- What specs match, and what becomes of it.
 use Rattle.gix_refspec_match.proofs.Common.{List, [], ◌∷◌, None, Some, codes, refl, ◌≡◌, ℕ, ◌++◌, Option, sym, ◌∙◌, arith, inl, inr, ◌≢◌, subst, ap, take, drop, ◌+◌, rules, ◌⊎◌, MatchOption, Bor}
 use Rattle.gix_refspec_match.proofs.Common.{append_cancel_left, AllByRecursion, lacks_no_pattern, one_word, split_once, AllByRecursion-parts, IsIdText-unique, kind_of_side, DeclaredKind, Ref, Matches}
-use Rattle.gix_refspec_match.proofs.Common.{MatchesAs, pattern, object, HasKind, full_name, partial, SideKind, Fits, IsCandidate, candidates, Reading, Ends, IsFilled, Hit, IsHit, AreSpecHits, IsIdMapping}
+use Rattle.gix_refspec_match.proofs.Common.{MatchesAs, pattern, object, HasKind, partial, SideKind, Fits, IsCandidate, candidates, Reading, Ends, IsFilled, Hit, IsHit, AreSpecHits, IsIdMapping}
 use Rattle.gix_refspec_match.proofs.Common.{AreBackward, AreForward, OneForward, OneBackward, Mapped, IsKeptAt, IsKept, HaveKinds, HasEnds, TakesIn, filled_side, HasSideKind, IsFirstIn, Candidates, All, First}
 use Rattle.gix_refspec_match.proofs.Common.{Matcher}
 use Rattle.gix_refspec_match.proofs.lemmas.lists.{JoinLemmas.one_joined, JoinLemmas.MakesOnce, ListsLemmas.made_once}
@@ -35,10 +35,8 @@ remote_candidate x n same = candidate_at x n 5 (rw same)
 
 pub one_kind : (x : List ℕ) (k l : SideKind) → HasKind x k → HasKind x l → k ≡ l
 one_kind x (pattern before after) (pattern fixed rest) a b = let once = split_once x before after fixed rest a b in cc (once.0, once.1)
-one_kind x (full_name n) (full_name m) a b = cc (a.0, b.0)
 one_kind x (object id) (object other) a b = ap object (IsIdText-unique x id other a.2 b.2)
-one_kind x (partial n) (partial m) a b = cc (a.0, b.0)
-one_kind x k l a b = absurd (grind (arith, lacks_no_pattern))
+one_kind x k l a b = grind (arith, a, b, lacks_no_pattern)
 
 same_word : (k : SideKind) (r : Ref) (v w : Option (List ℕ)) → MatchesAs k r v → MatchesAs k r w → v ≡ w
 same_word (pattern before after) r (Some v) (Some w) of_v of_w = ap Some (one_word before after r.name v w of_v of_w)
@@ -53,18 +51,14 @@ takes_in First items x k r word of is first = record { matches = record { kind =
 takes_in All items x k r word of is first = record { kind = k; of = of; is = is }
 
 pub taken_matches : (which : Candidates) (items : List Ref) (x : List ℕ) (r : Ref) (word : Option (List ℕ)) → TakesIn which items x r word → Matches x r word
-taken_matches First items x r word takes = takes.matches
-taken_matches All items x r word takes = takes
+taken_matches which items x r word takes = grind (arith, takes)
 
 pub taken_first : (which : Candidates) (items : List Ref) (x : List ℕ) (k : SideKind) (r : Ref) (word : Option (List ℕ)) → HasKind x k → TakesIn which items x r word → IsFirstIn k which items r.name
-taken_first First items x (partial n) r word of takes = takes.first n of
-taken_first All items x (partial n) r word of takes = tt
-taken_first which items x k r word of takes = tt
+taken_first which items x k r word of takes = grind (arith, of, takes)
 
 pub far_filled : (x : Option (List ℕ)) (k : Option DeclaredKind) (word n : Option (List ℕ)) → HasSideKind x k → n ≡ filled_side k word → IsFilled x word n
-far_filled None None word n kind same = same
 far_filled (Some x) (Some k) word n kind same = (kind_of_side k, kind, same)
-far_filled side k word n kind same = absurd kind
+far_filled x k word n kind same = grind (arith, kind, same)
 
 pub is_hit : (which : Candidates) (items : List Ref) (ends : Ends) (kinds : Matcher) (k j : ℕ) (r : Ref) (word : Option (List ℕ)) (hit : Hit) → HaveKinds ends kinds → MatchesAs (kind_of_side kinds.needle) r word → IsFirstIn (kind_of_side kinds.needle) which items r.name → hit.far ≡ filled_side kinds.other word → hit.near ≡ r.name → hit.spec ≡ k → hit.item ≡ j → IsHit (TakesIn which items) ends k j r hit
 is_hit which items ends kinds k j r word hit have matches first far near spec item =
@@ -77,8 +71,7 @@ same_ends : (a b : Ends) → a.near ≡ b.near → a.far ≡ b.far → a ≡ b
 same_ends a b near far = λ i. record { near = near i; far = far i }
 
 pub one_pair : (which : Candidates) (r : Reading) (a b : Ends) → HasEnds which r a → HasEnds which r b → a ≡ b
-one_pair First r a b of_a of_b = same_ends a b (cc) (cc)
-one_pair All r a b of_a of_b = same_ends a b (cc) (cc)
+one_pair which r a b of_a of_b = same_ends a b (grind (arith, of_a, of_b)) (grind (arith, of_a, of_b))
 
 filled_once : (x : Option (List ℕ)) (word n m : Option (List ℕ)) → IsFilled x word n → IsFilled x word m → n ≡ m
 filled_once None word n m a b = cc

@@ -1,20 +1,18 @@
 -- The matchers and the objects of specs, spec by spec, and what duplicates among specs say of them.
 use Rattle.gix_refspec_match.proofs.Common.{List, [], ◌∷◌, None, Some, refl, ◌≡◌, ℕ, true, false, ◌++◌, Option, Equal, sym, ◌∙◌, arith, inl, inr, ◌≢◌, append-nil, ◌<◌, length, map, take, ◌+◌, get_or, rules}
 use Rattle.gix_refspec_match.proofs.Common.{◌≤◌, ◌↔◌, IsTrue, Bool, false≢true, length-map, get_or-map, bool_cmp, ordering_then, map_next, kind_of_side, IsPositive, id_bytes, reading_of, ObjectId, DeclaredKind}
-use Rattle.gix_refspec_match.proofs.Common.{Object, RefSpecRef, object, HasKind, Negative, Reading, Mode, IsJoinedFrom, Ends, AreForwardEnds, AreBackwardEnds, FlagsDuplicates, HaveSameSides, FlagsEqual}
+use Rattle.gix_refspec_match.proofs.Common.{Object, RefSpecRef, object, HasKind, Reading, Mode, IsJoinedFrom, Ends, AreForwardEnds, AreBackwardEnds, FlagsDuplicates, HaveSameSides, FlagsEqual}
 use Rattle.gix_refspec_match.proofs.Common.{excludes, side_order, sides_order, IsFlagged, HasNoSides, HaveSides, AreMatcherOf, AreObjectOf, HasSideKind, both_equal, same_options, Candidates, All, First, Sides}
 use Rattle.gix_refspec_match.proofs.lemmas.{hits.HitLemmas.one_kind, lists.JoinLemmas.map_long, lists.JoinLemmas.joined_next}
 
 pub no_matcher : (which : Candidates) (flags : List Bool) (k : ℕ) (r : Reading) → HasNoSides r → AreMatcherOf which flags k r []
-no_matcher First flags k r none = inr (inr (λ ends has. none has.positive (rw has.near)), refl)
-no_matcher All flags k r none = inr (inr (λ ends has. none has.positive (rw has.far has.both)), refl)
+no_matcher which flags k r none = inr (inr (λ ends has. grind (arith, has, none)), refl)
 
 pub no_object : (k : ℕ) (r : Reading) → HasNoSides r → AreObjectOf k r []
 no_object k r none = inr ((λ bytes asks. none asks.positive (rw asks.side)), refl)
 
 pub side_shown : (side : Option (List ℕ)) (k : DeclaredKind) → HasSideKind side (Some k) → (text : List ℕ) × (side ≡ Some text) × HasKind text (kind_of_side k)
-side_shown None k kind = absurd kind
-side_shown (Some text) k kind = (text, refl, kind)
+side_shown side k kind = grind (arith, kind)
 
 not_id : (x : List ℕ) (k : DeclaredKind) → ((id : ObjectId) → k ≢ Object id) → HasKind x (kind_of_side k) → (bytes : List ℕ) → ¬ (HasKind x (object bytes))
 not_id x (Object id) other kind bytes is = other id refl
@@ -67,8 +65,7 @@ module _ {Y : Type 0} (R : ℕ → Reading → List Y → Type 0) (specs : List 
 -- ---- duplicates among specs
 
 positive_alike : (m n : Mode) → bool_cmp (excludes m) (excludes n) ≡ Equal → IsPositive n → IsPositive m
-positive_alike Negative Negative same is = is
-positive_alike m n same is = search rules
+positive_alike m n same is = grind (arith, same, is)
 
 same_sides : (r s : Reading) → sides_order r s ≡ Equal → IsPositive s.mode → HaveSameSides r s
 same_sides r s is positive =

@@ -8,8 +8,7 @@ use Rattle.gix_refspec_match.proofs.lemmas.lists.JoinLemmas.{map_long, made_next
 
 matches_taken : (kind : SideKind) (which : Candidates) (items : List Ref) (r : Ref)
     → (IsTaken which items kind r → MatchesListed kind r) × (TakesEach kind → MatchesListed kind r → IsTaken which items kind r)
-matches_taken (pattern before after) which items r = search rules
-matches_taken kind which items r = search rules
+matches_taken kind which items r = grind arith
 
 pub begins_as : (before after : List ℕ) (r : Ref) (word : Option (List ℕ)) → MatchesAs (pattern before after) r word → BeginsWith before r.name
 begins_as before after r word is = grind (arith, is)

@@ -1,7 +1,7 @@
 -- From matchers and hits to the mappings that are kept.
 use Rattle.gix_refspec_match.proofs.Common.{List, [], ◌∷◌, None, Some, refl, ◌≡◌, ℕ, ◌++◌, Option, ◌∙◌, arith, inl, inr, subst, ap, append-nil, ◌<◌, length, map, drop, ◌+◌, get_or, option_to_list, length-drop}
 use Rattle.gix_refspec_match.proofs.Common.{slice_get, IsSome, common_steps, drop_more, map-append, All-from_recursion, slice_get-get_or, gets, get_or_from_slice_get, slice_get_within, AllByRecursion, all_join}
-use Rattle.gix_refspec_match.proofs.Common.{kind_of_side, id_bytes, DeclaredKind as SideKind, Ref, Reading, MakesOf, IsMadeFrom, IsJoinedFrom, place_among, Hit, AreHits, IsIdMapping, Mapped, IsKept, AddsMapped}
+use Rattle.gix_refspec_match.proofs.Common.{kind_of_side, id_bytes, DeclaredKind as SideKind, Ref, Reading, IsMadeFrom, IsJoinedFrom, place_among, Hit, AreHits, IsIdMapping, Mapped, IsKept, AddsMapped}
 use Rattle.gix_refspec_match.proofs.Common.{Thins, IsMappedHit, hit_of, object_mapping, AreFound, turned, hit_at, AreHitsAmong, AreSound, IsSound, AreExclusionsOf, HasEnds, TakesIn, AreMatcherOf, AreMatchersOf}
 use Rattle.gix_refspec_match.proofs.Common.{AreObjectOf, HaveOthers, HasSideKind, IsMatched, Exclusions, DeclaredHit, Candidates, All, Matcher, Matchers, ObjectSpec}
 use Rattle.gix_refspec_match.proofs.lemmas.hits.{FoundLemmas.blank, FoundLemmas.of_hits, HitLemmas.far_filled}
@@ -21,11 +21,8 @@ made_each : {X Y : Type 0} (R : ℕ → X → Y → Type 0) (P : Y → Type 0) (
 made_each R P all each k [] ys left none = rw none tt
 made_each {X} {Y} R P all each k (x ∷ xs) ys left (made, rest, of, more, is) =
     let (here, next) = cut_next all k x xs left in
-    rw is (all_join P (option_to_list made) rest (first here made of) (made_each R P all each (k + 1) xs rest next more))
-  where
-    first : slice_get all k ≡ Some x → (o : Option Y) → MakesOf R k x o → AllByRecursion P (option_to_list o)
-    first here None none = tt
-    first here (Some y) makes = (each k x y here makes, tt)
+    let first : AllByRecursion P (option_to_list made) = grind (arith, of, each k x, here) in
+    rw is (all_join P (option_to_list made) rest first (made_each R P all each (k + 1) xs rest next more))
 
 joined_each : {X Y : Type 0} (R : ℕ → X → List Y → Type 0) (P : Y → Type 0) (all : List X) → ((j : ℕ) (x : X) (made : List Y) → slice_get all j ≡ Some x → R j x made → AllByRecursion P made)
     → (k : ℕ) (xs : List X) (ys : List Y) → drop k all ≡ xs → IsJoinedFrom R k xs ys → AllByRecursion P ys

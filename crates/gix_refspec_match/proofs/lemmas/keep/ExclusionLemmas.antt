@@ -1,5 +1,5 @@
 -- What negative specs exclude.
-use Rattle.gix_refspec_match.proofs.Common.{List, [], ◌∷◌, None, Some, refl, ◌≡◌, ℕ, ◌++◌, Option, sym, ◌∙◌, arith, inl, inr, is_some, subst, ap, length, ◌⊎◌, ◌↔◌, MatchOption, IsTrue, Bool, cond, bytes_eq}
+use Rattle.gix_refspec_match.proofs.Common.{List, [], ◌∷◌, None, Some, ◌≡◌, ℕ, ◌++◌, Option, sym, ◌∙◌, arith, inl, inr, is_some, ap, length, ◌⊎◌, ◌↔◌, MatchOption, IsTrue, Bool, cond, bytes_eq}
 use Rattle.gix_refspec_match.proofs.Common.{IsSome, HashMap, common_steps, Any-push, false≢true, cases_Bool, nil_from_length, gets, bytes_decides, hash_map_len, lookup, accepted_few, Lacks-from_absent}
 use Rattle.gix_refspec_match.proofs.Common.{IsAccepted, star, Lacks, the_name, by_pattern, Fits, Negative, Reading, IsExcludedBy, IsExcluded, ExcludeName, index_of, AreExclusionsAt, ExcludeNameAt, Exclusions}
 use Rattle.gix_refspec_match.proofs.Common.{Key}
@@ -51,13 +51,11 @@ exclusions_at_more g r i old new long before adds n k at = elim (adds n k at) [
 ]
 
 pub excluded_by_some : (es : Exclusions) (n : List ℕ) (k : ℕ) → ExcludeNameAt es n k → ExcludeName es n
-excluded_by_some es n k (inl found) = inl (subst IsSome (sym found) refl)
-excluded_by_some es n k (inr (j, p, below, is, (same, fits))) = inr (j, p, below, is, fits)
+excluded_by_some es n k at = grind (arith, common_steps, at)
 
 -- a name is excluded where a spec is told that excludes it
 pub told_by_some : (es : Exclusions) (n : List ℕ) (found : Option ℕ) (b : Bool) → MatchOption found (¬ (ExcludeName es n)) (ExcludeNameAt es n) → b ≡ is_some found → IsTrue b ↔ ExcludeName es n
-told_by_some es n None b none is = ((λ so. absurd (false≢true (sym is ∙ so))), (λ excluded. absurd (none excluded)))
-told_by_some es n (Some k) b at is = ((λ so. excluded_by_some es n k at), (λ excluded. is))
+told_by_some es n found b at is = grind (arith, at, is, excluded_by_some es n)
 
 pub nothing_found : (o : Option ℕ) → None ≡ o → ¬ (IsSome o)
 nothing_found o none some = false≢true (ap (λ (p : Option ℕ). is_some p) none ∙ some)

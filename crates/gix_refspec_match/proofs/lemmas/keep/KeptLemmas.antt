@@ -1,7 +1,7 @@
 -- What is kept of a list of mappings.
 use Rattle.gix_refspec_match.proofs.Common.{List, [], ◌∷◌, None, Some, refl, ◌≡◌, ℕ, ◌++◌, Option, ◌∙◌, arith, inl, ap, ◌<◌, length, map, take, ◌+◌, get_or, append_assoc, option_map, ◌↔◌, option_to_list, Bool}
 use Rattle.gix_refspec_match.proofs.Common.{zero-add, length-append, Ordering, take-append_seam, false≢true, length-map, length-take-le, get_or_default, map-id, get_or-map, get_or-take, All-from_recursion}
-use Rattle.gix_refspec_match.proofs.Common.{AllByRecursion, all_weaker, Reading, MakesOf, IsMadeFrom, name, id, Mapped, IsKept, Source, IsSourceExcluded, IsSamePair, HasPair, FlagsDuplicates, IsDuplicate}
+use Rattle.gix_refspec_match.proofs.Common.{AllByRecursion, all_weaker, Reading, MakesOf, IsMadeFrom, Mapped, IsKept, Source, IsSourceExcluded, IsSamePair, HasPair, FlagsDuplicates, IsDuplicate}
 use Rattle.gix_refspec_match.proofs.Common.{AreExclusionsOf, ExcludeStart, IsUnflagged, equal_pair, pair_order, same_pair, mapped_of, Exclusions, Mapping}
 use Rattle.gix_refspec_match.{proofs.lemmas.hits.FoundLemmas.made_each, specs.Matching.Mappings.AreApart}
 use Rattle.gix_refspec_match.proofs.lemmas.keep.KeptPairLemmas.{Any-HasPair, HasPair-Any, Keeps}
@@ -36,8 +36,7 @@ duplicate_at ms k d below = (
     at j e x before = get_or-take k (map mapped_of ms) j x before ∙ get_or-map mapped_of ms j e x (omega (arith, before))
 
 pub starts_agree : (g : List Reading) (es : Exclusions) (s : Source) → AreExclusionsOf g es → ExcludeStart es s ↔ IsSourceExcluded g s
-starts_agree g es (name n) are = are n
-starts_agree g es (id i) are = ((λ none. none), (λ none. none))
+starts_agree g es s are = grind (arith, are)
 
 none_excluded : (s : Source) → ¬ (IsSourceExcluded [] s)
 none_excluded s taken = grind (arith, taken)

@@ -1,8 +1,8 @@
 -- Items without some that have the name of an earlier one: a matcher's hits among them make what its hits among all make.
 use Rattle.gix_refspec_match.proofs.Common.{List, [], ◌∷◌, None, Some, refl, ◌≡◌, ℕ, ◌++◌, Option, sym, ◌∙◌, arith, inl, inr, subst, ap, append-nil, ◌<◌, length, map, take, drop, ◌+◌, get_or, append_assoc, ◌⊎◌}
 use Rattle.gix_refspec_match.proofs.Common.{◌↔◌, zero, suc, length-append, ◌-◌, slice_get, get_or-append_seam, take-append_seam, drop-append_seam, slice_get-get_or, all_weaker, kind_of_side, Ref, HasName}
-use Rattle.gix_refspec_match.proofs.Common.{MatchesAs, pattern, object, partial, SideKind, Reading, IsMadeFrom, IsPartBehind, IsPart, Ends, IsHit, Mapped, IsSamePair, HasPair}
-use Rattle.gix_refspec_match.proofs.Common.{mapping_of, Thins, hit_of, hit_by, AreFound, turned, hit_at, IsFound, HaveKinds, TakesIn, filled_side, IsFirstIn, IsTaken, word_in, DeclaredHit, Candidates, All}
+use Rattle.gix_refspec_match.proofs.Common.{MatchesAs, object, partial, SideKind, Reading, IsMadeFrom, IsPartBehind, IsPart, Ends, IsHit, Mapped, IsSamePair, HasPair}
+use Rattle.gix_refspec_match.proofs.Common.{mapping_of, Thins, hit_of, hit_by, AreFound, turned, hit_at, IsFound, HaveKinds, TakesIn, filled_side, IsFirstIn, IsTaken, word_in, DeclaredHit, Candidates}
 use Rattle.gix_refspec_match.proofs.Common.{First, Matcher}
 use Rattle.gix_refspec_match.proofs.lemmas.hits.{FoundLemmas.blank, FoundLemmas.made_each, FoundLemmas.of_hits, GroupLemmas.FindsEnough}
 use Rattle.gix_refspec_match.proofs.lemmas.hits.HitLemmas.{is_hit, matches_as, taken_first, taken_matches}
@@ -16,9 +16,7 @@ between before after n w is =
 
 -- a pattern matches with the word between its texts
 matched_word : (k : SideKind) (r : Ref) (word : Option (List ℕ)) → MatchesAs k r word → word ≡ word_in k r.name
-matched_word (pattern before after) r None is = absurd is
-matched_word (pattern before after) r (Some w) is = ap Some (between before after r.name w is)
-matched_word k r word is = is.0
+matched_word k r word is = grind (arith, is, between)
 
 hit_seen : (ms : List Matcher) (items : List Ref) (k i : ℕ) (m : Matcher) (d : Ref) → slice_get ms k ≡ Some m → i < length items → hit_of ms items (hit_at k i) ≡ hit_by m i (get_or items i d)
 hit_seen ms items k i m d is below = let there = slice_get-get_or items i d below in cc
@@ -96,8 +94,7 @@ abbrev ref_named : List ℕ → Ref
 ref_named n = record { name = n; target = []; object = None }
 
 same_pair : (which : Candidates) (m : Matcher) (i j : ℕ) (r : Ref) → IsSamePair (mapping_of which (hit_by m i r)) (mapping_of which (hit_by m j (ref_named r.name)))
-same_pair First m i j r = record { source = refl; destination = refl }
-same_pair All m i j r = record { source = refl; destination = refl }
+same_pair which m i j r = grind arith
 
 made_cases : {X Y : Type 0} (R : ℕ → X → Y → Type 0) (k : ℕ) (x : X) (xs : List X) (ys : List Y) → IsMadeFrom R k (x ∷ xs) ys
     → ((y : Y) × (rest : List Y) × R k x y × (ys ≡ y ∷ rest) × IsMadeFrom R (k + 1) xs rest) ⊎ (((y : Y) → ¬ (R k x y)) × IsMadeFrom R (k + 1) xs ys)

@@ -18,14 +18,11 @@ made_once R one k (x ∷ xs) ys zs (a, rest, of, more, is) (b, rest2, of2, more2
 
 pub made_map : {X Y U V : Type 0} (f : X → U) (h : Y → V) (R : ℕ → X → Y → Type 0) (S : ℕ → U → V → Type 0) (k : ℕ) (xs : List X) (ys : List Y) → ((i : ℕ) (d : X) → i < length xs → (made : Option Y) → MakesOf R (k + i) (get_or xs i d) made → MakesOf S (k + i) (f (get_or xs i d)) (option_map h made)) → IsMadeFrom R k xs ys → IsMadeFrom S k (map f xs) (map h ys)
 made_map f h R S k [] ys each empty = ap (map h) empty
-made_map {X} {Y} {U} {V} f h R S k (x ∷ xs) ys each (made, rest, of, more, is) =
+made_map f h R S k (x ∷ xs) ys each (made, rest, of, more, is) =
     let others = made_map f h R S (k + 1) xs rest (λ i d below m makes.
     let place : k + suc i ≡ k + 1 + i = omega arith in rw place at (each (suc i) d (omega arith) m (rw place makes))) more in
-    (option_map h made, map h rest, rw add-zero at (each 0 x (omega arith) made (rw add-zero of)), others, ap (map h) is ∙ joined made)
-  where
-    joined : (m : Option Y) → map h (option_to_list m ++ rest) ≡ option_to_list (option_map h m) ++ map h rest
-    joined None = refl
-    joined (Some y) = refl
+    let joined : map h (option_to_list made ++ rest) ≡ option_to_list (option_map h made) ++ map h rest = grind arith in
+    (option_map h made, map h rest, rw add-zero at (each 0 x (omega arith) made (rw add-zero of)), others, ap (map h) is ∙ joined)
 
 -- one more element of xs, of which the first i made the first k elements of a list that ends as xs does
 kept_more : {X : Type 0} (R : ℕ → X → X → Type 0) (xs now new : List X) (k m i : ℕ) (x : X) (made : Option X) → i < length now

@@ -1,14 +1,12 @@
 -- What is left of the name after both cuts is the word, and without one of them there is none.
-use Rattle.gix_refspec_match.proofs.Common.{None, Some, refl, ◌≡◌, ℕ, true, ◌++◌, Option, sym, ◌∙◌, ap, length, Bor, take-append-drop, not, nat_eq, option_copied, take-append_seam, Decides-eqb, strip_suffix_is}
-use Rattle.gix_refspec_match.proofs.Common.{false≢true, not-false, pointwise_decides, option_eq}
+use Rattle.gix_refspec_match.proofs.Common.{◌≡◌, ℕ, true, ◌++◌, Option, sym, ◌∙◌, ap, length, Bor, take-append-drop, not, nat_eq, option_copied, take-append_seam, Decides-eqb, strip_suffix_is}
+use Rattle.gix_refspec_match.proofs.Common.{arith, false≢true, not-false, pointwise_decides, option_eq}
 use Rattle.gix_refspec_match.proofs.lemmas.hits.HitLemmas.{word_left}
 use Rattle.gix_refspec_match.proofs.needle.word_between.Goals as goal
 
 -- texts that are the same end with the same byte
 same_end : (a b : Option (Bor ℕ)) → option_copied a ≡ option_copied b → option_eq (λ x y. nat_eq x.now y.now) a b ≡ true
-same_end None None same = refl
-same_end (Some x) (Some y) same = (Decides-eqb x.now y.now).1 (cc)
-same_end a b same = cc
+same_end a b same = grind (arith, same, Decides-eqb)
 
 pub returns-then-ne : goal.returns-then-ne
 returns-then-ne c word fits =

@@ -1,13 +1,11 @@
-use Rattle.gix_refspec_match.proofs.Common.{None, Some, refl, ◌≡◌, sym, arith, inl, inr, append-nil, take_all, kind_of_side, reading_of, DeclaredKind as SideKind, Partial, IsNameKind}
+use Rattle.gix_refspec_match.proofs.Common.{None, Some, ◌≡◌, sym, arith, inl, inr, append-nil, take_all, kind_of_side, reading_of, DeclaredKind as SideKind, Partial, IsNameKind}
 use Rattle.gix_refspec_match.proofs.lemmas.hits.MissingLemmas.{named_here, named_next, none_here, other_here}
 use Rattle.gix_refspec_text.specs.declared.side.SideKind.TheVariants.{FullName}
 use Rattle.gix_refspec_match.proofs.matcher.Matchers.of_names.Goals as goal
 
 -- a kind that is neither of the two is no name
 no_name : (s : SideKind) → ((x : _) → ¬ (s ≡ FullName x)) → ((x : _) → ¬ (s ≡ Partial x)) → ¬ (IsNameKind (kind_of_side s))
-no_name (FullName x) full short is = full x refl
-no_name (Partial x) full short is = short x refl
-no_name s full short is = is
+no_name s full short is = grind (arith, full, short, is)
 
 pub loop-spec_index-preserved-in_default : goal.loop-spec_index-preserved-in_default
 loop-spec_index-preserved-in_default c =
