@@ -85,7 +85,7 @@ abbrev pub no_tags : Reading
 no_tags = fetched Negative (codes "refs/tags/*") None
 
 pub x_kind : HasKind (codes "refs/x") (full_name (codes "refs/x"))
-x_kind = (refl, Lacks-tested star (codes "refs/x") refl, record { after = codes "x"; here = refl })
+x_kind = search (arith, Lacks-tested)
 
 tag_taken : IsHit (Takes branch_and_tag) main_ends 0 1 main_tag tag_hit
 tag_taken = record { word = None; takes = takes_the_tag.0; far = (full_name (codes "refs/x"), x_kind, refl); near = refl; spec = refl; item = refl }
@@ -123,14 +123,11 @@ q_to_main = fetched Normal (codes "refs/q") (Some (codes "main"))
 abbrev q_ends : Ends
 q_ends = record { near = codes "main"; far = Some (codes "refs/q") }
 
-q_kind : HasKind (codes "refs/q") (full_name (codes "refs/q"))
-q_kind = (refl, Lacks-tested star (codes "refs/q") refl, record { after = codes "q"; here = refl })
-
 abbrev q_hit : ℕ → Ref → Hit
 q_hit item r = record { spec = 0; item = item; near = r.name; far = Some (codes "refs/q") }
 
 tracked_at : (item : ℕ) (r : Ref) → Matches (codes "main") r None → IsHit Matches q_ends 0 item r (q_hit item r)
-tracked_at item r matches = record { word = None; takes = matches; far = (full_name (codes "refs/q"), q_kind, refl); near = refl; spec = refl; item = refl }
+tracked_at item r matches = record { word = None; takes = matches; far = (full_name (codes "refs/q"), search (arith, Lacks-tested), refl); near = refl; spec = refl; item = refl }
 
 -- the branch and the tag are both mapped back, in the order of the list
 pub tracks_both : AreKeptBackward (q_to_main ∷ []) branch_and_tag (mapping 0 (codes "refs/q") (Some (codes "refs/heads/main")) 0 ∷ mapping 1 (codes "refs/q") (Some (codes "refs/tags/main")) 0 ∷ [])

@@ -99,7 +99,7 @@ pub id_mappings : IsIdMapping 7 (fetched Forced (codes "e69de29bb2d1d6434b8b29ae
     × ((m : Mapped) → ¬ (IsIdMapping 1 (fetched Negative (codes "e69de29bb2d1d6434b8b29ae775ad8c2e48c5391") None) m) × ¬ (IsIdMapping 1 short m))
     × ¬ (IsIdMapping 1 blob (record { item = None; source = name empty_blob; destination = Some (codes "refs/tags/blob"); spec = 1 }))
 id_mappings = (
-  record { positive = tt; text = _; bytes = empty_blob; side = refl; object = blob_kind; item = refl; source = refl; destination = refl; spec = refl },
+  search (rules, blob_kind),
   (λ made. omega (arith, made.spec)),
   (λ made. cc (made.item)),
   (λ m. ((λ made. made.positive), no_main_id 1 short refl m)),

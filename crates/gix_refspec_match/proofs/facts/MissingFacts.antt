@@ -1,5 +1,5 @@
 -- Which specs lack their source: those of a name that no ref has, but neither of an id nor negative ones.
-use Rattle.gix_refspec_match.proofs.Common.{List, [], ◌∷◌, None, Some, codes, refl, ◌≡◌, ℕ, Option, sym, subst, ap, length, arith, inl, inr, same_Some, ◌⊎◌, star, Ref, Matches, HasKind, full_name, partial, fetched, Normal, Negative}
+use Rattle.gix_refspec_match.proofs.Common.{List, [], ◌∷◌, None, Some, codes, refl, ◌≡◌, ℕ, Option, sym, subst, ap, length, arith, inl, inr, same_Some, ◌⊎◌, Ref, Matches, HasKind, full_name, partial, fetched, Normal, Negative}
 use Rattle.gix_refspec_match.proofs.Common.{BeginsWith, Contains, IsIdText, AreMissing, LacksSource}
 use Rattle.gix_refspec_text.proofs.facts.{ManualFacts.Lacks-tested, ObjectIdFacts.empty_blob}
 use Rattle.gix_refspec_text.proofs.facts.FitFacts.{blob, blob_kind, main_ref, of_element, short, short_kind}
@@ -10,7 +10,7 @@ pub full_name_missing : AreMissing (fetched Normal (codes "refs/heads/a") None �
 full_name_missing = (Some 0, [], (refl, record { positive = tt; source = codes "refs/heads/a"; is = refl; named = inl kind; absent = absent }), refl, refl)
   where
     kind : HasKind (codes "refs/heads/a") (full_name (codes "refs/heads/a"))
-    kind = (refl, Lacks-tested star (codes "refs/heads/a") refl, record { after = codes "heads/a"; here = refl })
+    kind = search (arith, Lacks-tested)
 
     absent : (ref : Ref) (word : Option (List ℕ)) → Contains (main_ref ∷ []) ref → ¬ (Matches (codes "refs/heads/a") ref word)
     absent ref word there matches =

@@ -1,6 +1,6 @@
 -- From matchers and hits to the mappings that are kept.
-use Rattle.gix_refspec_match.proofs.Common.{List, [], ◌∷◌, None, Some, refl, ◌≡◌, ℕ, ◌++◌, Option, ◌∙◌, arith, inl, inr, subst, ap, append-nil, ◌<◌, length, map, drop, ◌+◌, get_or, option_to_list, length-drop}
-use Rattle.gix_refspec_match.proofs.Common.{slice_get, IsSome, common_steps, drop_more, map-append, All-from_recursion, slice_get-get_or, gets, get_or_from_slice_get, slice_get_within, AllByRecursion, all_join}
+use Rattle.gix_refspec_match.proofs.Common.{List, [], ◌∷◌, None, Some, refl, ◌≡◌, ℕ, ◌++◌, Option, ◌∙◌, arith, inl, inr, subst, ap, append-nil, length, map, drop, ◌+◌, get_or, option_to_list, length-drop}
+use Rattle.gix_refspec_match.proofs.Common.{slice_get, IsSome, map-append, All-from_recursion, slice_get-get_or, get_or_from_slice_get, slice_get_within, AllByRecursion, all_join}
 use Rattle.gix_refspec_match.proofs.Common.{kind_of_side, id_bytes, DeclaredKind as SideKind, Ref, Reading, IsMadeFrom, IsJoinedFrom, place_among, Hit, AreHits, IsIdMapping, Mapped, IsKept, AddsMapped}
 use Rattle.gix_refspec_match.proofs.Common.{Thins, IsMappedHit, hit_of, object_mapping, AreFound, turned, hit_at, AreHitsAmong, AreSound, IsSound, AreExclusionsOf, HasEnds, TakesIn, AreMatcherOf, AreMatchersOf}
 use Rattle.gix_refspec_match.proofs.Common.{AreObjectOf, HaveOthers, HasSideKind, IsMatched, Exclusions, DeclaredHit, Candidates, All, Matcher, Matchers, ObjectSpec}
@@ -8,13 +8,12 @@ use Rattle.gix_refspec_match.proofs.lemmas.hits.{FoundLemmas.blank, FoundLemmas.
 use Rattle.gix_refspec_match.proofs.lemmas.hits.GroupLemmas.{FindEnough, most_found}
 use Rattle.gix_refspec_match.proofs.lemmas.keep.KeptLemmas.{AreIncluded, kept_included, starts_agree}
 use Rattle.gix_refspec_match.proofs.lemmas.keep.PartLemmas.{all_enough, once_enough, part_read}
-use Rattle.gix_refspec_match.proofs.lemmas.keep.ThinLemmas.{kept_thinned, thins_all, thins_behind, thins_both}
+use Rattle.gix_refspec_match.proofs.lemmas.keep.ThinLemmas.{cut, kept_thinned, thins_all, thins_behind, thins_both}
 
 cut_next : {X : Type 0} (all : List X) (k : ℕ) (x : X) (xs : List X) → drop k all ≡ x ∷ xs → (slice_get all k ≡ Some x) × (drop (k + 1) all ≡ xs)
 cut_next all k x xs left =
-    let below : k < length all = omega (arith, simp length-drop at (ap length left)) in
-    let split = drop_more all k x below in
-    (grind (arith, common_steps, gets, split), cc)
+    let (here, _, next) = cut all xs k x x left in
+    (slice_get-get_or all k x (omega (arith, ap length left, length-drop k all)) ∙ ap Some here, next)
 
 made_each : {X Y : Type 0} (R : ℕ → X → Y → Type 0) (P : Y → Type 0) (all : List X) → ((j : ℕ) (x : X) (y : Y) → slice_get all j ≡ Some x → R j x y → P y)
     → (k : ℕ) (xs : List X) (ys : List Y) → drop k all ≡ xs → IsMadeFrom R k xs ys → AllByRecursion P ys

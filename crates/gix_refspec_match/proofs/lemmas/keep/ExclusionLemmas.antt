@@ -1,18 +1,14 @@
 -- What negative specs exclude.
-use Rattle.gix_refspec_match.proofs.Common.{List, [], ◌∷◌, None, Some, ◌≡◌, ℕ, ◌++◌, Option, sym, ◌∙◌, arith, inl, inr, is_some, ap, length, ◌⊎◌, ◌↔◌, MatchOption, IsTrue, Bool, cond, bytes_eq}
-use Rattle.gix_refspec_match.proofs.Common.{IsSome, HashMap, common_steps, Any-push, false≢true, cases_Bool, nil_from_length, gets, bytes_decides, hash_map_len, lookup, accepted_few, Lacks-from_absent}
-use Rattle.gix_refspec_match.proofs.Common.{IsAccepted, star, Lacks, the_name, by_pattern, Fits, Negative, Reading, IsExcludedBy, IsExcluded, ExcludeName, index_of, AreExclusionsAt, ExcludeNameAt, Exclusions}
-use Rattle.gix_refspec_match.proofs.Common.{Key}
+use Rattle.gix_refspec_match.proofs.Common.{List, [], ◌∷◌, None, Some, ◌≡◌, ℕ, ◌++◌, Option, sym, ◌∙◌, arith, inl, inr, is_some, ap, length, ◌⊎◌, ◌↔◌, MatchOption, IsTrue, Bool, cond, bytes_eq, IsSome}
+use Rattle.gix_refspec_match.proofs.Common.{HashMap, common_steps, Any-push, false≢true, cases_Bool, nil_from_length, gets, bytes_decides, hash_map_len, lookup, accepted_few, Lacks-from_absent, IsAccepted}
+use Rattle.gix_refspec_match.proofs.Common.{star, Lacks, the_name, by_pattern, Fits, Negative, Reading, IsExcludedBy, IsExcluded, ExcludeName, index_of, AreExclusionsAt, ExcludeNameAt, Exclusions, Key}
 use Rattle.std.proofs.Common.{Any}
 use Rattle.gix_refspec_text.proofs.lemmas.lists.LacksLemmas.{Lacks-here, first_once}
 
 pub name_excludes : (r : Reading) (x : List ℕ) → r.mode ≡ Negative → r.source ≡ Some x → Lacks star x → (n : List ℕ) → (n ≡ x) ↔ IsExcludedBy n r
 name_excludes r x negative source lacks n = (
   λ same. record { negative = negative; text = x; source = source; excludes = the_name lacks same },
-  λ by. let is : x ≡ by.text = cc in elim by.excludes [
-    | the_name none same ↦ same ∙ sym is
-    | by_pattern before after word split covers ↦ absurd (Lacks-here star before after (rw (is, split.starred) at lacks))
-  ],
+  λ by. grind (arith, by, source, lacks, Lacks-here star),
 )
 
 -- one with a star excludes the names of its pattern: after its first star there is no other
@@ -38,10 +34,7 @@ exclusions_more (q ∷ g) r n Old New before added = grind (arith, before, added
 
 pub index_more : (old new : List ℕ → Option ℕ) (x : List ℕ) (i : ℕ) → ((n : List ℕ) → new n ≡ cond (bytes_eq x n) (Some i) (old n))
     → (n : List ℕ) → (IsSome (new n) ↔ (IsSome (old n) ⊎ (n ≡ x))) × ((k : ℕ) → new n ≡ Some k → (old n ≡ Some k) ⊎ ((k ≡ i) × (n ≡ x)))
-index_more old new x i updates n = elim (cases_Bool (bytes_eq x n)) [
-  | inl same ↦ let is = (bytes_decides x n).0 same in let here : new n ≡ Some i = rw same at (updates n) in grind (arith, is, here)
-  | inr differ ↦ let other = (bytes_decides x n).1 in let there : new n ≡ old n = rw differ at (updates n) in grind (arith, other, differ, there)
-]
+index_more old new x i updates n = let cases = cases_Bool (bytes_eq x n) in grind (arith, cases, bytes_decides x n, updates n)
 
 pub exclusions_at_more : (g : List Reading) (r : Reading) (i : ℕ) (old new : Exclusions) → i ≡ length g → AreExclusionsAt g old
     → ((n : List ℕ) (k : ℕ) → ExcludeNameAt new n k → ExcludeNameAt old n k ⊎ ((k ≡ i) × IsExcludedBy n r)) → AreExclusionsAt (g ++ r ∷ []) new

@@ -1,9 +1,8 @@
 -- Items without some that have the name of an earlier one: a matcher's hits among them make what its hits among all make.
 use Rattle.gix_refspec_match.proofs.Common.{List, [], ◌∷◌, None, Some, refl, ◌≡◌, ℕ, ◌++◌, Option, sym, ◌∙◌, arith, inl, inr, subst, ap, append-nil, ◌<◌, length, map, take, drop, ◌+◌, get_or, append_assoc, ◌⊎◌}
 use Rattle.gix_refspec_match.proofs.Common.{◌↔◌, zero, suc, length-append, ◌-◌, slice_get, get_or-append_seam, take-append_seam, drop-append_seam, slice_get-get_or, all_weaker, kind_of_side, Ref, HasName}
-use Rattle.gix_refspec_match.proofs.Common.{MatchesAs, object, partial, SideKind, Reading, IsMadeFrom, IsPartBehind, IsPart, Ends, IsHit, Mapped, IsSamePair, HasPair}
-use Rattle.gix_refspec_match.proofs.Common.{mapping_of, Thins, hit_of, hit_by, AreFound, turned, hit_at, IsFound, HaveKinds, TakesIn, filled_side, IsFirstIn, IsTaken, word_in, DeclaredHit, Candidates}
-use Rattle.gix_refspec_match.proofs.Common.{First, Matcher}
+use Rattle.gix_refspec_match.proofs.Common.{MatchesAs, object, partial, SideKind, Reading, IsMadeFrom, IsPartBehind, IsPart, Ends, IsHit, Mapped, IsSamePair, HasPair, mapping_of, Thins, hit_of, hit_by}
+use Rattle.gix_refspec_match.proofs.Common.{AreFound, turned, hit_at, IsFound, HaveKinds, TakesIn, filled_side, IsFirstIn, IsTaken, word_in, DeclaredHit, Candidates, First, Matcher}
 use Rattle.gix_refspec_match.proofs.lemmas.hits.{FoundLemmas.blank, FoundLemmas.made_each, FoundLemmas.of_hits, GroupLemmas.FindsEnough}
 use Rattle.gix_refspec_match.proofs.lemmas.hits.HitLemmas.{is_hit, matches_as, taken_first, taken_matches}
 use Rattle.gix_refspec_match.proofs.lemmas.{index.FirstPlacesLemmas.has_last, keep.KeptLemmas.HasPair-left, keep.KeptLemmas.HasPair-last}

@@ -1,7 +1,7 @@
 -- Lists that are joined from lists, and lists of which nothing is made.
 use Rattle.std.proofs.Common.{List, [], ◌∷◌, None, Some, refl, ◌≡◌, ℕ, ◌++◌, Option, sym, ◌∙◌, arith, subst, ap, append-nil, ◌<◌, length, map, take, drop, ◌+◌, get_or, append_assoc, zero, suc, option_to_list}
 use Rattle.std.proofs.Common.{add-zero, length-append, take-append-drop, drop-cons}
-use Rattle.std.proofs.{Math.Seq.get_or-append_seam, lemmas.List.map_more, lemmas.List.length-map, lemmas.List.length-take-le, lemmas.List.map-append}
+use Rattle.std.proofs.{Math.Seq.get_or-append_seam, lemmas.List.map_more, lemmas.List.length-map, lemmas.List.length-take-le, lemmas.List.map-append, lemmas.List.nil_from_length}
 use Rattle.gix_refspec_match.specs.Matching.Lists.{MakesOf, IsMadeFrom, IsJoinedFrom}
 
 pub map_long : {A B : Type 0} (f : A → B) (xs : List A) (i : ℕ) → i < length xs → length (map f (take i xs)) ≡ i
@@ -47,10 +47,11 @@ pub nothing_made : {X Y : Type 0} (R : ℕ → X → Y → Type 0) (k : ℕ) (be
 nothing_made R k before x after y made makes = made_none R k _ made (length before) x (omega (arith, length-append before (x ∷ after))) y (rw get_or-append_seam makes)
 
 pub nothing_joined : {X Y : Type 0} (R : ℕ → X → List Y → Type 0) (k : ℕ) (before : List X) (x : X) (after : List X) → IsJoinedFrom R k (before ++ (x ∷ after)) [] → R (k + length before) x []
-nothing_joined R k [] x after ([], rest, here, more, same) = rw add-zero here
-nothing_joined R k [] x after (y ∷ made, rest, here, more, same) = absurd (cc)
-nothing_joined R k (b ∷ bs) x after ([], rest, here, more, same) = let at : k + length (b ∷ bs) ≡ k + 1 + length bs = omega arith in rw at (nothing_joined R (k + 1) bs x after (rw same more))
-nothing_joined R k (b ∷ bs) x after (y ∷ made, rest, here, more, same) = absurd (cc)
+nothing_joined R k [] x after (made, rest, here, more, same) =
+    rw add-zero (subst (R k x) (nil_from_length made (omega (arith, ap length same, length-append made rest))) here)
+nothing_joined R k (b ∷ bs) x after (made, rest, here, more, same) =
+    let at : k + length (b ∷ bs) ≡ k + 1 + length bs = omega arith in
+    rw at (nothing_joined R (k + 1) bs x after (rw (nil_from_length rest (omega (arith, ap length same, length-append made rest))) at more))
 
 abbrev pub MakesOnce : {X Y : Type 0} → (ℕ → X → Y → Type 0) → Type 0
 MakesOnce {X} {Y} R = (k : ℕ) (x : X) (y z : Y) → R k x y → R k x z → y ≡ z
