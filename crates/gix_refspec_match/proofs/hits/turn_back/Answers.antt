@@ -3,7 +3,6 @@ use Rattle.gix_refspec_match.proofs.Common.{turned, hit_at, DeclaredHit as Hit}
 use Rattle.gix_refspec_match.proofs.lemmas.lists.JoinLemmas.{map_long}
 use Rattle.gix_refspec_match.proofs.hits.turn_back.Goals as goal
 
--- one more element of a list is written anew
 one_written : {X : Type 0} (f : X → X) (now old : List X) (i : ℕ) (d x : X) → i < length old → x ≡ f (get_or now i d)
     → now ≡ map f (take i old) ++ drop i old → slice_set now i x ≡ map f (take (i + 1) old) ++ drop (i + 1) old
 one_written f now old i d x below is so_far =

@@ -73,8 +73,7 @@ pub one_pair : (which : Candidates) (r : Reading) (a b : Ends) → HasEnds which
 one_pair which r a b of_a of_b = same_ends a b (grind (arith, of_a, of_b)) (grind (arith, of_a, of_b))
 
 filled_once : (x : Option (List ℕ)) (word n m : Option (List ℕ)) → IsFilled x word n → IsFilled x word m → n ≡ m
-filled_once None word n m a b = cc
-filled_once (Some x) word n m a b = cc (a.2, b.2, one_kind x a.0 b.0 a.1 b.1)
+filled_once x word n m a b = grind (arith, a, b, one_kind)
 
 pub hit_once : (which : Candidates) (items : List Ref) (ends : Ends) (k : ℕ) → MakesOnce (IsHit (TakesIn which items) ends k)
 hit_once which items ends k j r g h a b =

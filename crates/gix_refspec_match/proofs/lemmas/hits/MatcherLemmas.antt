@@ -15,8 +15,7 @@ pub side_shown : (side : Option (List ℕ)) (k : DeclaredKind) → HasSideKind s
 side_shown side k kind = grind (arith, kind)
 
 not_id : (x : List ℕ) (k : DeclaredKind) → ((id : ObjectId) → k ≢ Object id) → HasKind x (kind_of_side k) → (bytes : List ℕ) → ¬ (HasKind x (object bytes))
-not_id x (Object id) other kind bytes is = other id refl
-not_id x k other kind bytes is = cc (one_kind x (kind_of_side k) (object bytes) kind is)
+not_id x k other kind bytes is = grind (arith, other, one_kind x (kind_of_side k) (object bytes) kind is)
 
 module _ (r : Reading) (sides : Sides) (have : HaveSides r sides) where
   -- a source that is an id asks for that object, and matches nothing from left to right

@@ -97,8 +97,7 @@ same_pair which m i j r = grind arith
 
 made_cases : {X Y : Type 0} (R : ℕ → X → Y → Type 0) (k : ℕ) (x : X) (xs : List X) (ys : List Y) → IsMadeFrom R k (x ∷ xs) ys
     → ((y : Y) × (rest : List Y) × R k x y × (ys ≡ y ∷ rest) × IsMadeFrom R (k + 1) xs rest) ⊎ (((y : Y) → ¬ (R k x y)) × IsMadeFrom R (k + 1) xs ys)
-made_cases R k x xs ys (None, rest, none, more, is) = inr (none, rw is more)
-made_cases R k x xs ys (Some y, rest, here, more, is) = inl (y, rest, here, is, more)
+made_cases R k x xs ys (made, rest, of, more, is) = grind (arith, of, more, is)
 
 module _ (g : List Reading) (which : Candidates) (ms : List Matcher) (all : List Ref) where
   pub all_enough : (k : ℕ) (m : Matcher) (found : List DeclaredHit) → slice_get ms k ≡ Some m → AreFound which all k m found → FindsEnough g which all m (of_hits which (map (hit_of ms all) found))

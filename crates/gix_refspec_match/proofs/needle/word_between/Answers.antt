@@ -4,7 +4,6 @@ use Rattle.gix_refspec_match.proofs.Common.{arith, false≢true, not-false, poin
 use Rattle.gix_refspec_match.proofs.lemmas.hits.HitLemmas.{word_left}
 use Rattle.gix_refspec_match.proofs.needle.word_between.Goals as goal
 
--- texts that are the same end with the same byte
 same_end : (a b : Option (Bor ℕ)) → option_copied a ≡ option_copied b → option_eq (λ x y. nat_eq x.now y.now) a b ≡ true
 same_end a b same = grind (arith, same, Decides-eqb)
 

@@ -4,11 +4,9 @@ use Rattle.gix_refspec_match.proofs.Common.{name_bytes, Key, NameRef}
 use Rattle.gix_refspec_match.proofs.lemmas.index.PartialLemmas.{no_partials}
 use Rattle.gix_refspec_match.proofs.index.Index.of.Goals as goal
 
--- an empty vector has no names
 unnamed : (names : Vec NameRef) → vec_len names ≡ 0 → map name_bytes names.items ≡ []
 unnamed names empty = ap (λ (l : List NameRef). map name_bytes l) (nil_from_length names.items (omega (arith, empty, names.ok.0, names.ok.1)))
 
--- an empty map lists nothing
 unlisted : {S : Type 0} (m : HashMap Key (Vec ℕ) S) → IsEmpty m → (n : List ℕ) → list_of m n ≡ None
 unlisted m empty n = ap (lookup (λ k. bytes_eq n k.name.now)) empty
 

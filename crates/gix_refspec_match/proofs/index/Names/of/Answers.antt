@@ -9,13 +9,11 @@ record AddsNames (kind : SideKind) (old new : Names) : Type 0 where
   partial : (x : List ℕ) → Contains (map name_bytes old.partial.items) x → Contains (map name_bytes new.partial.items) x
   here : HasNamesOf new kind
 
--- what was named still is
 still_named : (added : SideKind) (old new : Names) → AddsNames added old new → (kind : SideKind) → HasNamesOf old kind → HasNamesOf new kind
 still_named added old new adds (full_name x) named = adds.full x named
 still_named added old new adds (partial x) named = adds.partial x named
 still_named added old new adds kind named = tt
 
--- one more name
 pushed : (old new : Vec NameRef) (x : NameRef) → new.items ≡ old.items ++ x ∷ []
     → ((y : List ℕ) → Contains (map name_bytes old.items) y → Contains (map name_bytes new.items) y) × Contains (map name_bytes new.items) (name_bytes x)
 pushed old new x is =

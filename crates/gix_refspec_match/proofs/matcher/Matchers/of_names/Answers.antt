@@ -3,7 +3,6 @@ use Rattle.gix_refspec_match.proofs.lemmas.hits.MissingLemmas.{named_here, named
 use Rattle.gix_refspec_text.specs.declared.side.SideKind.TheVariants.{FullName}
 use Rattle.gix_refspec_match.proofs.matcher.Matchers.of_names.Goals as goal
 
--- a kind that is neither of the two is no name
 no_name : (s : SideKind) → ((x : _) → ¬ (s ≡ FullName x)) → ((x : _) → ¬ (s ≡ Partial x)) → ¬ (IsNameKind (kind_of_side s))
 no_name s full short is = grind (arith, full, short, is)
 

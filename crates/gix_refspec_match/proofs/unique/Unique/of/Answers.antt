@@ -4,7 +4,6 @@ use Rattle.gix_refspec_match.proofs.Common.{length-take-le, map-append, get_or-t
 use Rattle.gix_refspec_match.proofs.lemmas.lists.JoinLemmas.{map_long}
 use Rattle.gix_refspec_match.proofs.unique.Unique.of.Goals as goal
 
--- the name of an item
 abbrev name_of : Item → List ℕ
 name_of x = bstr_bytes x.full_ref_name
 
@@ -25,7 +24,6 @@ part_more before (s ∷ refs) part new places more r is last =
     ]
 
 module _ (items : List Item) (i : ℕ) (d : Item) (below : i < length items) (part : List Item) (places : List ℕ) (are : IsPart (map ref_of (take i items)) (map ref_of part) places) where
-  -- the item at a place is in the part
   item_in : (new : List Item) (more : List ℕ) → new ≡ part ++ get_or items i d ∷ [] → more ≡ places ++ i ∷ [] → IsPart (map ref_of (take (i + 1) items)) (map ref_of new) more
   item_in new more pushed at =
       let here = ref_of (get_or items i d) in
@@ -33,7 +31,6 @@ module _ (items : List Item) (i : ℕ) (d : Item) (below : i < length items) (pa
       rw (pushed, at, map-append, map_more ref_of items i d below)
       (part_more [] (map ref_of (take i items)) (map ref_of part) (here ∷ []) places (i ∷ []) here are (inl ([], [], refl, place, (refl, refl))))
 
-  -- or it has the name of an earlier one
   item_left : IsDuplicate (λ x y. bytes_order (name_of x) (name_of y)) items i → IsPart (map ref_of (take (i + 1) items)) (map ref_of part) places
   item_left (_, (j, before, equal)) =
       let front = take i items in
