@@ -1,7 +1,7 @@
 -- Which candidate a partial source takes: the first by gitrevisions(7) that is there, not the first in the list of refs.
 use Rattle.gix_refspec_match.proofs.Common.{List, [], ◌∷◌, None, Some, codes, refl, ◌≡◌, ℕ, Option, arith, inl, inr, ◌≢◌, ap, length, AllByRecursion, taken_by_first, first_once, FirstCandidate}
 use Rattle.gix_refspec_match.proofs.Common.{fetched, star, Ref, Matches, Takes, HasName, IsFirstCandidate, HasKind, full_name, Excludes, partial, by_pattern, Normal, Negative, Reading, IsMadeFrom, Ends}
-use Rattle.gix_refspec_match.proofs.Common.{AreForwardEnds, Hit, IsHit, AreSpecHits, IsIdMapping, AreKeptForward, AreKeptBackward, IsExcluded}
+use Rattle.gix_refspec_match.proofs.Common.{AreForwardEnds, AreBackwardEnds, Hit, IsHit, AreSpecHits, IsIdMapping, AreKeptForward, AreKeptBackward, IsExcluded}
 use Rattle.gix_refspec_text.proofs.facts.{ManualFacts.Lacks-tested, ManualFacts.named, SideFacts.partial_matches}
 use Rattle.gix_refspec_text.proofs.facts.FitFacts.{below_tags, short_kind, short_no_id}
 use Rattle.gix_refspec_match.proofs.facts.MatchFacts.{mapping, main_candidate, no_main_id, not_had}
@@ -30,7 +30,8 @@ tag_first = record { earlier = codes "main" ∷ codes "refs/main" ∷ []; later 
 -- so the branch isn't the first, nor is a name that no ref has
 pub no_other_first : ¬ (IsFirstCandidate branch_and_tag (codes "main") (codes "refs/heads/main")) × ¬ (IsFirstCandidate branch_and_tag (codes "main") (codes "main")) × ¬ (IsFirstCandidate [] (codes "main") (codes "refs/tags/main"))
 no_other_first = (
-  (λ first. omega (arith, ap length (first_once branch_and_tag (codes "main") (codes "refs/tags/main") (codes "refs/heads/main") tag_first first))),
+  (λ first.
+      omega (arith, ap length (first_once branch_and_tag (codes "main") (codes "refs/tags/main") (codes "refs/heads/main") tag_first first))),
   (λ first. no_name branch_and_tag (codes "main") (omega arith) first.present),
   λ first. first.present,
 )
@@ -66,10 +67,12 @@ takes = (
 -- from the law: a caller with a branch and a tag gets the tag alone, and one with a ref of some candidate gets one
 pub concluded : FirstCandidate (codes "main") branch_and_tag
     → ((r : Ref) (word : Option (List ℕ)) → Takes branch_and_tag (codes "main") r word → r.name ≡ codes "refs/tags/main")
-    × ((m : List ℕ) × IsFirstCandidate branch_and_tag (codes "main") m) × ((word : Option (List ℕ)) × Takes branch_and_tag (codes "main") main_tag word)
+    × ((m : List ℕ) × IsFirstCandidate branch_and_tag (codes "main") m)
+    × ((word : Option (List ℕ)) × Takes branch_and_tag (codes "main") main_tag word)
 concluded law =
     let first = law short_kind.1 short_kind.2 short_kind.3 in
-    let one = λ (r : Ref) (word : Option (List ℕ)) (takes : Takes branch_and_tag (codes "main") r word). first.one r.name _ ((first.takes r).0 (word, takes)) tag_first in
+    let one = λ (r : Ref) (word : Option (List ℕ)) (takes : Takes branch_and_tag (codes "main") r word).
+    first.one r.name _ ((first.takes r).0 (word, takes)) tag_first in
     (one, first.some (codes "refs/heads/main") main_candidate (inl refl), (first.takes main_tag).1 tag_first)
 
 abbrev pub main_to_x : Reading
@@ -135,8 +138,10 @@ tracks_both =
     let hits = q_hit 0 main_branch ∷ q_hit 1 main_tag ∷ [] in
     let taken : IsMadeFrom (IsHit Matches q_ends 0) 0 branch_and_tag hits =
     (Some _, _, tracked_at 0 main_branch takes_the_tag.2, (Some _, [], tracked_at 1 main_tag takes_the_tag.0.matches, refl, refl), refl) in
+    let has : AreBackwardEnds q_to_main q_ends = record { positive = tt; near = refl; far = refl; both = refl } in
     record {
       all = _;
-      backward = record { hits = hits; are_hits = (hits, [], inl (q_ends, record { positive = tt; near = refl; far = refl; both = refl }, taken), refl, refl); all = refl };
-      is = (Some _, _, (refl, record { first = λ none. none; included = λ by. grind arith }), (Some _, [], (refl, record { first = not_had refl; included = λ by. grind arith }), refl, refl), refl);
+      backward = record { hits = hits; are_hits = (hits, [], inl (q_ends, has, taken), refl, refl); all = refl };
+      is = (Some _, _, (refl, record { first = λ none. none; included = λ by. grind arith }),
+          (Some _, [], (refl, record { first = not_had refl; included = λ by. grind arith }), refl, refl), refl);
     }

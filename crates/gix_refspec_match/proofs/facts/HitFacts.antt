@@ -111,4 +111,5 @@ pub no_id_back : AreBackward (blob ∷ []) (main_ref ∷ []) []
 no_id_back = record { hits = []; are_hits = ([], [], inl (blob_back, backward_ends_of.2, (None, [], not_taken, refl, refl)), refl, refl); all = refl }
   where
     not_taken : (hit : Hit) → ¬ (IsHit Matches blob_back 0 0 main_ref hit)
-    not_taken hit is = omega (arith, ap length (matches_as (codes "refs/tags/blob") (full_name (codes "refs/tags/blob")) main_ref is.word below_tags is.takes).1)
+    not_taken hit is =
+        omega (arith, ap length (matches_as (codes "refs/tags/blob") (full_name (codes "refs/tags/blob")) main_ref is.word below_tags is.takes).1)

@@ -178,10 +178,11 @@ asks_for_ids_first =
     let has : AreForwardEnds short ends = record { positive = tt; near = refl; far = refl; no_object = λ bytes kind. short_no_id bytes kind.2 } in
     let takes = taken_by_first (main_ref ∷ []) (codes "main") main_ref short_kind (first_of_one (codes "main") main_ref main_candidate) in
     let taken : IsHit (Takes (main_ref ∷ [])) ends 0 0 main_ref hit = record { word = None; takes = takes; far = refl; near = refl; spec = refl; item = refl } in
+    let ids : IsMadeFrom IsIdMapping 0 (short ∷ blob ∷ []) (blob_mapping ∷ []) = (None, _, no_main_id 0 short refl, (Some _, [], asks, refl, refl), refl) in
     let hits : AreHits AreForwardEnds (Takes (main_ref ∷ [])) (short ∷ blob ∷ []) (main_ref ∷ []) (hit ∷ []) =
     (hit ∷ [], [], inl (ends, has, (Some hit, [], taken, refl, refl)), ([], [], inr (no_blob_ends, refl), refl, refl), refl) in
     record {
       all = _;
-      forward = record { ids = _; hits = _; are_ids = (None, _, no_main_id 0 short refl, (Some _, [], asks, refl, refl), refl); are_hits = hits; all = refl };
+      forward = record { ids = _; hits = _; are_ids = ids; are_hits = hits; all = refl };
       is = (Some _, _, (refl, record { first = λ none. none; included = λ none. none }), (Some _, [], (refl, record { first = λ has. grind arith; included = λ by. grind arith }), refl, refl), refl);
     }

@@ -83,7 +83,8 @@ module _ (g : List Reading) (which : Candidates) (items : List Ref) where
 
   most_of : (flags : List Bool) (front rest : List Reading) (r : Reading) (n : ℕ) (made others : List Matcher) (some more : List Mapped) → FlagsEqual (front ++ (r ∷ rest)) flags → AreMatcherOf which flags (length front) r made
       → FindEnough n (made ++ others) more → AreMostOf front some
-      → (m : ℕ) × (here later : List Mapped) × FindEnough m others later × (more ≡ here ++ later) × AreMostOf (front ++ r ∷ []) (some ++ here)
+      → (m : ℕ) × (here later : List Mapped) × FindEnough m others later × (more ≡ here ++ later)
+      × AreMostOf (front ++ r ∷ []) (some ++ here)
   most_of flags front rest r n made others some more equal (inl (m, is_m, one)) found so_far =
       let (here, later, enough, find, all) = rw one at found in
       let (hits, are, thins) = enough is_m.ends is_m.kinds in

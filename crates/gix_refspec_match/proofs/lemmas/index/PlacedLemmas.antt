@@ -10,7 +10,7 @@ matches_taken : (kind : SideKind) (which : Candidates) (items : List Ref) (r : R
     → (IsTaken which items kind r → MatchesListed kind r) × (TakesEach kind → MatchesListed kind r → IsTaken which items kind r)
 matches_taken kind which items r = grind arith
 
-pub begins_as : (before after : List ℕ) (r : Ref) (word : Option (List ℕ)) → MatchesAs (pattern before after) r word → BeginsWith before r.name
+pub begins_as : (before after : List ℕ) (r : Ref) (w : Option (List ℕ)) → MatchesAs (pattern before after) r w → BeginsWith before r.name
 begins_as before after r word is = grind (arith, is)
 
 abbrev pub IsMatchedAt : List Ref → SideKind → ℕ → ℕ → ℕ → DeclaredHit → Type 0
