@@ -1,7 +1,7 @@
 -- What most proofs of this crate need: names of std, and the words of specs/ of this crate and of those below it.
 pub use Rattle.std.proofs.Common.{◌≡◌, inl, inr, ℕ, zero, suc, List, [], ◌∷◌, ◌++◌, None, Some, codes, length, refl, sym, ap, subst, arith, ◌≢◌, true, false, Option, map, option_map, replicate, Vec, Global}
 pub use Rattle.std.proofs.Common.{◌∙◌, Bool, ◌⊎◌, ◌<◌, get_or, IsTrue, ◌↔◌, ◌&&◌, rules, map-id, unwrap_or, ◌+◌, nat_eq, option_to_list, length-append, take, append_assoc, MatchOption, drop, not, ◌==◌, ◌≤◌}
-pub use Rattle.std.proofs.Common.{◌||◌, nat_le, if◌then◌else◌, ◌-◌, IsPermutation, IsSorted, Ordering, Less, Equal, Greater, IsSome, bytes_eq, take_all, drop-drop}
+pub use Rattle.std.proofs.Common.{◌||◌, nat_le, if◌then◌else◌, ◌-◌, IsPermutation, IsSorted, Ordering, Less, Equal, Greater, IsSome, bytes_eq, take_all, drop-drop, add-zero}
 pub use Rattle.std.specs.List.{Any, filter, Contains, slice_get, AllByRecursion, list_all, list_any, AllZip, starts_with, join_with_byte, slice_split, items_where_true}
 pub use Rattle.std.proofs.lemmas.Bool.{false≢true, and_parts, and_from, or_left, or_right, or_parts, true≢false, eqb-true, lt-leb, lt-ltb, cases_lt, not-false, not-true}
 pub use Rattle.std.proofs.lemmas.Option.{same_Some, slice_get-get_or, slice_get-map, slice_get_read, slice_get_within, get_or_from_slice_get}
@@ -10,7 +10,7 @@ pub use Rattle.std.specs.Ordering.{nat_cmp, is_lt, ordering_then, ordering_rever
 pub use Rattle.std.specs.Cmp.Lexicographic.{slice_cmp, pointwise, nat_list_cmp_total}
 pub use Rattle.std.proofs.lemmas.Slice.Eq.{bytes_eq-Decides, starts_is}
 pub use Rattle.std.proofs.lemmas.List.{get_or-map, length-map, append-nil, map-append, map_more, get_or_past, length-take-le, take-append-drop, take_more, drop_more, length-drop, nil_from_length}
-pub use Rattle.std.proofs.lemmas.List.{get_or_default}
+pub use Rattle.std.proofs.lemmas.List.{get_or_default, get_or-drop, get_or-take, take-take}
 pub use Rattle.std.proofs.lemmas.List.Elements.{All-contains, All-contains_itself, All-filter, recursion_from_All, All-from_recursion, Contains-get_or, Contains-append_left, Contains-push, all_zip_more}
 pub use Rattle.bstr.specs.declared.bstring.BString.{BString}
 pub use Rattle.bstr.specs.Owned.{bstring_bytes}

@@ -1,4 +1,3 @@
--- For all readings and refs.
 use Rattle.gix_refspec.proofs.lemmas.prefixes.AskedLemmas.{asked_items}
 use Rattle.gix_refspec.proofs.lemmas.keep.FilterLemmas.{filtered_by_list}
 use Rattle.gix_refspec.proofs.laws.asked_items.Goals as goal

@@ -1,4 +1,3 @@
--- Such a side is a partial name.
 use Rattle.gix_refspec_text.proofs.lemmas.hits.MatchLemmas.{has_candidates}
 use Rattle.gix_refspec.proofs.laws.candidates.Goals as goal
 

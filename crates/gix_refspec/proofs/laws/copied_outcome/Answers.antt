@@ -1,4 +1,3 @@
--- A copy of each mapping is the same as plain data.
 use Rattle.gix_refspec.proofs.lemmas.validate.OneValidationLemmas.{copied_outcome}
 use Rattle.gix_refspec.proofs.laws.copied_outcome.Goals as goal
 

@@ -1,4 +1,3 @@
--- A name that a side matches begins with an entry of its expansion, and kept mappings are a subset of all.
 use Rattle.gix_refspec.proofs.lemmas.prefixes.CoverLemmas.{cover, cover_together}
 use Rattle.gix_refspec.proofs.laws.cover.Goals as goal
 

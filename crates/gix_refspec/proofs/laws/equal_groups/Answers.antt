@@ -1,4 +1,3 @@
--- Equal fetches have the same sides, and both are negative or neither.
 use Rattle.gix_refspec.proofs.lemmas.keep.AlikeLemmas.{equal_groups, equal_lists}
 use Rattle.gix_refspec.proofs.laws.equal_groups.Goals as goal
 

@@ -1,4 +1,3 @@
--- Each spec is accepted for some text.
 use Rattle.gix_refspec_text.proofs.lemmas.specs.SpecLemmas.{equal_readings, equal_keys}
 use Rattle.gix_refspec.proofs.laws.equal_owned_specs.Goals as goal
 

@@ -1,4 +1,3 @@
--- A canonical text has one reading.
 use Rattle.gix_refspec_text.proofs.lemmas.specs.FormsBackLemmas.{equal_texts}
 use Rattle.gix_refspec.proofs.laws.equal_texts.Goals as goal
 

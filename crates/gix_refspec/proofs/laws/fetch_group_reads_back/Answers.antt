@@ -1,4 +1,3 @@
--- Fetches with the same meaning have the same sides, and both are negative or neither is.
 use Rattle.gix_refspec.proofs.lemmas.keep.AlikeLemmas.{reads_back}
 use Rattle.gix_refspec.proofs.laws.fetch_group_reads_back.Goals as goal
 

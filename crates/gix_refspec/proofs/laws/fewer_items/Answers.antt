@@ -1,4 +1,3 @@
--- For all readings and refs.
 use Rattle.gix_refspec.proofs.lemmas.keep.FilterLemmas.{filtered_items, fewer_items}
 use Rattle.gix_refspec.proofs.laws.fewer_items.Goals as goal
 

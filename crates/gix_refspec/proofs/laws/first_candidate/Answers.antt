@@ -1,4 +1,3 @@
--- A partial source takes the first of its candidates that some item has.
 use Rattle.gix_refspec_text.proofs.lemmas.hits.CandidateLemmas.{takes_first}
 use Rattle.gix_refspec.proofs.laws.first_candidate.Goals as goal
 

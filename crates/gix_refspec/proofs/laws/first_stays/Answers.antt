@@ -1,4 +1,3 @@
--- For all readings and refs.
 use Rattle.gix_refspec.proofs.lemmas.keep.PairMadeLemmas.{first_stays}
 use Rattle.gix_refspec.proofs.laws.first_stays.Goals as goal
 

@@ -1,4 +1,3 @@
--- Each mapping comes from an id or a hit of a spec.
 use Rattle.gix_refspec.proofs.lemmas.validate.AfterLemmas.{forward_fits}
 use Rattle.gix_refspec.proofs.laws.forward_fits.Goals as goal
 

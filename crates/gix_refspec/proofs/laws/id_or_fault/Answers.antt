@@ -1,4 +1,3 @@
--- The length decides, and then the digits.
 use Rattle.gix_refspec_text.proofs.lemmas.texts.ObjectIdLemmas.{id_or_fault}
 use Rattle.gix_refspec.proofs.laws.id_or_fault.Goals as goal
 

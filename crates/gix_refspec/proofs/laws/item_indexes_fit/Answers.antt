@@ -1,4 +1,3 @@
--- For all readings and refs.
 use Rattle.gix_refspec.proofs.lemmas.validate.MadeAtLemmas.{item_indexes_fit}
 use Rattle.gix_refspec.proofs.laws.item_indexes_fit.Goals as goal
 

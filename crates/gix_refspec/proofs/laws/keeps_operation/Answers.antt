@@ -1,4 +1,3 @@
--- By cases on the forms of a text.
 use Rattle.gix_refspec_text.proofs.lemmas.specs.SpecLemmas.{keeps_operation}
 use Rattle.gix_refspec.proofs.laws.keeps_operation.Goals as goal
 

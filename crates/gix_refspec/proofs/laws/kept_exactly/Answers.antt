@@ -1,4 +1,3 @@
--- For all readings and refs.
 use Rattle.gix_refspec.proofs.lemmas.keep.PairMadeLemmas.{kept_exactly}
 use Rattle.gix_refspec.proofs.laws.kept_exactly.Goals as goal
 

@@ -1,4 +1,3 @@
--- In both directions the kept mappings are those kept of some list.
 use Rattle.gix_refspec.proofs.Common.{by_cases}
 use Rattle.gix_refspec_match.proofs.lemmas.keep.KeptLemmas.{kept_once}
 use Rattle.gix_refspec.proofs.laws.kept_once.Goals as goal

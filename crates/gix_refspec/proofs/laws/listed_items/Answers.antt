@@ -1,4 +1,3 @@
--- For all readings and refs.
 use Rattle.gix_refspec.proofs.lemmas.keep.FilterLemmas.{filtered_by_entries, listed_items}
 use Rattle.gix_refspec.proofs.laws.listed_items.Goals as goal
 

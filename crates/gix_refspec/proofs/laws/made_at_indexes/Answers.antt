@@ -1,4 +1,3 @@
--- For all readings and refs.
 use Rattle.gix_refspec.proofs.lemmas.validate.MadeAtLemmas.{made_at_indexes}
 use Rattle.gix_refspec.proofs.laws.made_at_indexes.Goals as goal
 

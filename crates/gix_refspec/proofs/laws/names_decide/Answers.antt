@@ -1,4 +1,3 @@
--- For all readings and refs.
 use Rattle.gix_refspec.proofs.lemmas.keep.NameOnlyLemmas.{names_decide}
 use Rattle.gix_refspec.proofs.laws.names_decide.Goals as goal
 

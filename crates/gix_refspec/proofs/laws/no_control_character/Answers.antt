@@ -1,4 +1,3 @@
--- Names contain none, and a star is filled in with a word of a name.
 use Rattle.gix_refspec.proofs.lemmas.validate.ClearLemmas.{no_control_character}
 use Rattle.gix_refspec.proofs.laws.no_control_character.Goals as goal
 

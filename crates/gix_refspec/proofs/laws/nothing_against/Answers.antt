@@ -1,4 +1,3 @@
--- A text with one star that isn't a pattern has a fault.
 use Rattle.gix_refspec_text.proofs.lemmas.parsing.SideLemmas.{nothing_against}
 use Rattle.gix_refspec.proofs.laws.nothing_against.Goals as goal
 

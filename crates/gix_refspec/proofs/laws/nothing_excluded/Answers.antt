@@ -1,4 +1,3 @@
--- Kept mappings aren't excluded.
 use Rattle.gix_refspec.proofs.lemmas.keep.PairMadeLemmas.{nothing_excluded}
 use Rattle.gix_refspec.proofs.laws.nothing_excluded.Goals as goal
 

@@ -1,4 +1,3 @@
--- Each part of the list is determined.
 use Rattle.gix_refspec_match.proofs.lemmas.hits.HitLemmas.{one_forward}
 use Rattle.gix_refspec.proofs.laws.one_forward.Goals as goal
 

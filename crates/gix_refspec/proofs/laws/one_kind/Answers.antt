@@ -1,4 +1,3 @@
--- A text splits at its star in one way, and the other kinds exclude one another.
 use Rattle.gix_refspec_match.proofs.lemmas.hits.HitLemmas.{one_kind}
 use Rattle.gix_refspec.proofs.laws.one_kind.Goals as goal
 

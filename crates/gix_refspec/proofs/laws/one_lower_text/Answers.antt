@@ -1,4 +1,3 @@
--- The digits of the table are in lower case, each at the index of its value.
 use Rattle.gix_refspec.proofs.Common.{rules}
 use Rattle.gix_refspec_text.proofs.lemmas.texts.ObjectIdLemmas.{one_lower_text}
 use Rattle.gix_refspec.proofs.laws.one_lower_text.Goals as goal

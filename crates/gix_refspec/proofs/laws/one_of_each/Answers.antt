@@ -1,4 +1,3 @@
--- By the lemmas of the laws on given slices.
 use Rattle.gix_refspec.proofs.lemmas.specs.SideLawLemmas.{one_of_each}
 use Rattle.gix_refspec.proofs.laws.one_of_each.Goals as goal
 

@@ -1,4 +1,3 @@
--- By cases on the prefix, and on the expansion, of a side.
 use Rattle.gix_refspec_text.proofs.lemmas.prefixes.OnePrefixLemmas.{one_prefix}
 use Rattle.gix_refspec.proofs.laws.one_prefix.Goals as goal
 

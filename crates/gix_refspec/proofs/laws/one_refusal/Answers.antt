@@ -1,4 +1,3 @@
--- The parts of a text are unique, and so is the first reason that applies to them.
 use Rattle.gix_refspec_text.proofs.lemmas.parsing.RefusalLemmas.{one_refusal}
 use Rattle.gix_refspec.proofs.laws.one_refusal.Goals as goal
 

@@ -1,4 +1,3 @@
--- For all readings and mappings.
 use Rattle.gix_refspec.proofs.lemmas.validate.OneValidationLemmas.{one_validation}
 use Rattle.gix_refspec.proofs.laws.one_validation.Goals as goal
 

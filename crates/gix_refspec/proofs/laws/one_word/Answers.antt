@@ -1,4 +1,3 @@
--- The texts around the word cancel.
 use Rattle.gix_refspec_text.proofs.lemmas.hits.MatchLemmas.{one_word}
 use Rattle.gix_refspec.proofs.laws.one_word.Goals as goal
 

@@ -1,4 +1,3 @@
--- The spec is accepted for some text.
 use Rattle.gix_refspec.proofs.lemmas.specs.SideLawLemmas.{sides_agree}
 use Rattle.gix_refspec.proofs.laws.owned_sides_agree.Goals as goal
 

@@ -1,4 +1,3 @@
--- The spec is accepted for some text.
 use Rattle.gix_refspec_text.proofs.lemmas.specs.SpecLemmas.{printed_back}
 use Rattle.gix_refspec.proofs.laws.owned_spec_reads_back.Goals as goal
 

@@ -1,4 +1,3 @@
--- A fault is an empty component, or a byte that no plain component contains.
 use Rattle.gix_refspec.proofs.lemmas.specs.PlainNameLemmas.{plain_names}
 use Rattle.gix_refspec.proofs.laws.plain_names.Goals as goal
 

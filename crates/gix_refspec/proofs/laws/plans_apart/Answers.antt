@@ -1,4 +1,3 @@
--- Indexes determine sources, and no destination is in conflict.
 use Rattle.gix_refspec.proofs.lemmas.validate.AfterLemmas.{plans_apart}
 use Rattle.gix_refspec.proofs.laws.plans_apart.Goals as goal
 

@@ -1,4 +1,3 @@
--- By cases on the kind of the side.
 use Rattle.gix_refspec_text.proofs.lemmas.hits.MatchLemmas.{prefix_begins}
 use Rattle.gix_refspec.proofs.laws.prefix_begins.Goals as goal
 

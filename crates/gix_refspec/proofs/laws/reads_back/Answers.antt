@@ -1,4 +1,3 @@
--- Each form prints as a form.
 use Rattle.gix_refspec_text.proofs.lemmas.specs.FormsBackLemmas.{read_back}
 use Rattle.gix_refspec.proofs.laws.reads_back.Goals as goal
 

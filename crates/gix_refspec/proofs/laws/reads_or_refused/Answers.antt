@@ -1,4 +1,3 @@
--- Each text is read or refused, and has at most one reading.
 use Rattle.gix_refspec_text.proofs.lemmas.specs.FormsBackLemmas.{once_or_refused}
 use Rattle.gix_refspec.proofs.laws.reads_or_refused.Goals as goal
 

@@ -1,4 +1,3 @@
--- A text has no reading if a reason applies to it.
 use Rattle.gix_refspec_text.proofs.lemmas.parsing.ReadsLemmas.{refused}
 use Rattle.gix_refspec.proofs.laws.reason_refuses.Goals as goal
 

@@ -1,4 +1,3 @@
--- For all mappings.
 use Rattle.gix_refspec.proofs.lemmas.validate.MadeAtLemmas.{remains_exactly}
 use Rattle.gix_refspec.proofs.laws.remains_exactly.Goals as goal
 

@@ -1,4 +1,3 @@
--- By cases on the meaning of a reading.
 use Rattle.gix_refspec_text.proofs.lemmas.specs.SpecLemmas.{says_for_operation}
 use Rattle.gix_refspec.proofs.laws.says_for_operation.Goals as goal
 

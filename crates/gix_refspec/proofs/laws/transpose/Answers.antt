@@ -1,4 +1,3 @@
--- Each spec is accepted for some text.
 use Rattle.gix_refspec.proofs.lemmas.hits.TransposeLemmas.{transpose}
 use Rattle.gix_refspec.proofs.laws.transpose.Goals as goal
 

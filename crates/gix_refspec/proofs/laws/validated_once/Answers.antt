@@ -1,4 +1,3 @@
--- The remaining mappings were there before, when nothing was in conflict.
 use Rattle.gix_refspec.proofs.lemmas.validate.AfterLemmas.{validated_once}
 use Rattle.gix_refspec.proofs.laws.validated_once.Goals as goal
 

@@ -1,4 +1,3 @@
--- For all readings and refs.
 use Rattle.gix_refspec.proofs.lemmas.validate.RefNameLemmas.{writes_refs}
 use Rattle.gix_refspec.proofs.laws.writes_refs.Goals as goal
 

@@ -1,11 +1,11 @@
 -- The two directions agree: a reading that goes both ways makes the same pair of the one name and of the other. A test
 -- of the sides decides whether a reading goes both ways.
-use Rattle.gix_refspec.proofs.Common.{Any as AnyAt, ◌≡◌, ◌⊎◌, inl, inr, ℕ, List, [], ◌∷◌, ◌++◌, codes, Option, None, Some, map, refl, ap, ◌∙◌, subst, AllByRecursion, IsSome, false≢true, RefSpecRef, Lacks}
-use Rattle.gix_refspec.proofs.Common.{BeginsWith, star, HasStar, HasSeveralStars, HasOneStar, IsSplit, Reading, IsAccepted, IsPositive, IsOneStarred, reading_of, SideKind, pattern, full_name, object}
-use Rattle.gix_refspec.proofs.Common.{partial, HasKind, Fits, filled, Ref, MatchesAs, Matches, HasName, Takes, name, AreForwardEnds, AreBackwardEnds, IsFilled, IsSourceAmong, IsDestinationAmong}
+use Rattle.gix_refspec.proofs.Common.{Any as AnyAt, ◌≡◌, ◌⊎◌, inl, inr, ℕ, List, [], ◌∷◌, ◌++◌, codes, Option, None, Some, map, refl, ap, ◌∙◌, subst, AllByRecursion, IsSome, false≢true, RefSpecRef}
+use Rattle.gix_refspec.proofs.Common.{Lacks, BeginsWith, star, HasStar, HasSeveralStars, HasOneStar, Reading, IsAccepted, IsPositive, IsOneStarred, reading_of, SideKind, pattern, full_name, object}
+use Rattle.gix_refspec.proofs.Common.{partial, HasKind, filled, Ref, MatchesAs, Matches, HasName, Takes, name, AreForwardEnds, AreBackwardEnds, IsFilled, IsSourceAmong, IsDestinationAmong}
 use Rattle.gix_refspec.proofs.Common.{GoesBothWays, Transpose, true, Bool, IsTrue, ◌↔◌, Source, MakesForward, MakesBackward, PairsItem, id, IsPaired, by_cases}
 use Rattle.gix_refspec_text.proofs.lemmas.texts.TextLemmas.{Lacks-ContainsText}
-use Rattle.gix_refspec_text.proofs.lemmas.parsing.DecideLemmas.{FirstIndex, lacks_or_first}
+use Rattle.gix_refspec_text.proofs.lemmas.parsing.DecideLemmas.{lacks_or_first}
 use Rattle.gix_refspec_text.proofs.lemmas.specs.AcceptedLemmas.{accepted_few, accepted_balanced}
 use Rattle.gix_refspec_match.proofs.lemmas.hits.HitLemmas.{one_kind, matches_as, same_side}
 use Rattle.gix_refspec.proofs.lemmas.keep.FilterLemmas.{item_named, name_there}
@@ -19,93 +19,50 @@ data AreTwins (x y : List ℕ) : Type 0 where
   patterns : HasOneStar x → HasOneStar y → AreTwins x y
   names : HasKind x (full_name x) → HasKind y (full_name y) → AreTwins x y
 
--- what two such sides make of one another: with one word for both stars n and m, or these two names
-data AreMirrored (x y n m : List ℕ) : Type 0 where
-  by_word : (before after front back word : List ℕ) → IsSplit before after x → IsSplit front back y → Fits before after n word → Fits front back m word → AreMirrored x y n m
-  by_name : HasKind x (full_name x) → HasKind y (full_name y) → n ≡ x → m ≡ y → AreMirrored x y n m
-
-mirrored_back : (x y n m : List ℕ) → AreMirrored x y n m → AreMirrored y x m n
-mirrored_back x y n m (by_word before after front back word of_x of_y fits becomes) = by_word front back before after word of_y of_x becomes fits
-mirrored_back x y n m (by_name of_x of_y is becomes) = by_name of_y of_x becomes is
-
-mirrored_twins : (x y n m : List ℕ) → AreMirrored x y n m → AreTwins x y
-mirrored_twins x y n m (by_word before after front back word of_x of_y fits becomes) = patterns (before, after, of_x) (front, back, of_y)
-mirrored_twins x y n m (by_name of_x of_y is becomes) = names of_x of_y
-
 twins_back : (x y : List ℕ) → AreTwins x y → AreTwins y x
 twins_back x y (patterns of_x of_y) = patterns of_y of_x
 twins_back x y (names of_x of_y) = names of_y of_x
 
--- a text with a star, but not several, has one star
 pub one_star : (x : List ℕ) → HasStar x → ¬ (HasSeveralStars x) → HasOneStar x
-one_star x has few = by_cases (lacks_or_first star x) (λ lacks. absurd (Lacks-ContainsText star x lacks has)) (λ index. split index (lacks_or_first star index.after))
-  where
-    split : (p : FirstIndex star x) → Lacks star p.after ⊎ FirstIndex star p.after → HasOneStar x
-    split p (inl lacks) = (p.before, p.after, record { starred = p.here; first = p.first; last = lacks })
-    split p (inr next) = absurd (few (record { before = p.before; between = next.before; after = next.after; here = p.here ∙ ap (λ (y : List ℕ). p.before ++ (star ∷ y)) next.here }))
+one_star x has few = by_cases (lacks_or_first star x) (λ lacks. absurd (Lacks-ContainsText star x lacks has)) (λ p. by_cases (lacks_or_first star p.after)
+    (λ lacks. (p.before, p.after, record { starred = p.here; first = p.first; last = lacks }))
+    (λ next. absurd (few (record { before = p.before; between = next.before; after = next.after; here = p.here ∙ ap (λ (y : List ℕ). p.before ++ (star ∷ y)) next.here }))))
 
 pub starred : (x : List ℕ) → Lacks star x ⊎ HasStar x
 starred x = by_cases (lacks_or_first star x) (λ lacks. inl lacks) (λ index. inr (record { before = index.before; after = index.after; here = index.here }))
 
--- of two texts of which not exactly one has a star, both have one or neither has
 pub both_or_neither : (s d : List ℕ) → ¬ (HasSeveralStars s) → ¬ (HasSeveralStars d) → ¬ (IsOneStarred s d) → (HasOneStar s × HasOneStar d) ⊎ (Lacks star s × Lacks star d)
-both_or_neither s d few_s few_d balanced = by_stars (starred s) (starred d)
-  where
-    by_stars : Lacks star s ⊎ HasStar s → Lacks star d ⊎ HasStar d → (HasOneStar s × HasOneStar d) ⊎ (Lacks star s × Lacks star d)
-    by_stars (inl no_s) (inl no_d) = inr (no_s, no_d)
-    by_stars (inl no_s) (inr of_d) = absurd (balanced (inr (no_s, of_d)))
-    by_stars (inr of_s) (inl no_d) = absurd (balanced (inl (of_s, no_d)))
-    by_stars (inr of_s) (inr of_d) = inl (one_star s of_s few_s, one_star d of_d few_d)
+both_or_neither s d few_s few_d balanced = by_cases (starred s)
+    (λ no_s. by_cases (starred d) (λ no_d. inr (no_s, no_d)) (λ of_d. absurd (balanced (inr (no_s, of_d)))))
+    (λ of_s. by_cases (starred d) (λ no_d. absurd (balanced (inl (of_s, no_d)))) (λ of_d. inl (one_star s of_s few_s, one_star d of_d few_d)))
 
--- two sides that both begin `refs/`, or both have a star
 twins : (x y : List ℕ) → ¬ (HasSeveralStars x) → ¬ (HasSeveralStars y) → ¬ (IsOneStarred x y) → (HasStar x × HasStar y) ⊎ (BeginsWith (codes "refs/") x × BeginsWith (codes "refs/") y) → AreTwins x y
 twins x y few_x few_y balanced (inl stars) = patterns (one_star x stars.0 few_x) (one_star y stars.1 few_y)
 twins x y few_x few_y balanced (inr below) = by_cases (both_or_neither x y few_x few_y balanced) (λ one. patterns one.0 one.1) (λ none. names (refl, none.0, below.0) (refl, none.1, below.1))
 
--- the name that a side is filled in to, by its kind
 filled_as : (y m : List ℕ) (kind : SideKind) (word : Option (List ℕ)) → HasKind y kind → IsFilled (Some y) word (Some m) → m ≡ filled kind word
 filled_as y m kind word has (other, of, same) =
     let is : m ≡ filled other word = cc in
     is ∙ ap (λ (k : SideKind). filled k word) (one_kind y other kind of has)
 
--- if one of such sides takes a name and the other becomes another, the two are mirrored
-taken_mirrored : (x y m : List ℕ) (r : Ref) (word : Option (List ℕ)) → AreTwins x y → Matches x r word → IsFilled (Some y) word (Some m) → AreMirrored x y r.name m
-taken_mirrored x y m r word (patterns (before, after, of_x) (front, back, of_y)) matches becomes =
+-- if one of such sides takes a name and the other becomes another, the other side takes that one and the first becomes the name
+taken_back : (x y m : List ℕ) (r q : Ref) (word : Option (List ℕ)) → AreTwins x y → Matches x r word → IsFilled (Some y) word (Some m) → q.name ≡ m → (v : Option (List ℕ)) × Matches y q v × IsFilled (Some x) v (Some r.name)
+taken_back x y m r q word (patterns (before, after, of_x) (front, back, of_y)) matches becomes same =
     with_word word (matches_as x (pattern before after) r word of_x matches) (filled_as y m (pattern front back) word of_y becomes)
   where
-    with_word : (w : Option (List ℕ)) → MatchesAs (pattern before after) r w → m ≡ filled (pattern front back) w → AreMirrored x y r.name m
+    with_word : (w : Option (List ℕ)) → MatchesAs (pattern before after) r w → m ≡ filled (pattern front back) w → (v : Option (List ℕ)) × Matches y q v × IsFilled (Some x) v (Some r.name)
     with_word None fits is = absurd fits
-    with_word (Some w) fits is = by_word before after front back w of_x of_y fits is
-taken_mirrored x y m r word (names of_x of_y) matches becomes =
-    by_name of_x of_y ((matches_as x (full_name x) r word of_x matches).1) (filled_as y m (full_name y) word of_y becomes)
+    with_word (Some w) fits is = (Some w, record { kind = pattern front back; of = of_y; is = same ∙ is }, (pattern before after, of_x, ap Some fits))
+taken_back x y m r q word (names of_x of_y) matches becomes same =
+    (None, record { kind = full_name y; of = of_y; is = (refl, same ∙ filled_as y m (full_name y) word of_y becomes) }, (full_name x, of_x, ap Some ((matches_as x (full_name x) r word of_x matches).1)))
 
--- and conversely
-mirrored_taken : (x y n m : List ℕ) (r : Ref) → AreMirrored x y n m → r.name ≡ n → (word : Option (List ℕ)) × Matches x r word × IsFilled (Some y) word (Some m)
-mirrored_taken x y n m r (by_word before after front back word of_x of_y fits becomes) is =
-    (Some word, record { kind = pattern before after; of = of_x; is = is ∙ fits }, (pattern front back, of_y, ap Some becomes))
-mirrored_taken x y n m r (by_name of_x of_y same becomes) is =
-    (None, record { kind = full_name x; of = of_x; is = (refl, is ∙ same) }, (full_name y, of_y, ap Some becomes))
-
--- no such side is an id
 no_object : (x y bytes : List ℕ) → AreTwins x y → ¬ (HasKind x (object bytes))
-no_object x y bytes (patterns (before, after, of_x) of_y) is = let same : pattern before after ≡ object bytes = one_kind x (pattern before after) (object bytes) of_x is in cc
-no_object x y bytes (names of_x of_y) is = let same : full_name x ≡ object bytes = one_kind x (full_name x) (object bytes) of_x is in cc
+no_object x y bytes (patterns (before, after, of_x) of_y) is = cc (one_kind x (pattern before after) (object bytes) of_x is)
+no_object x y bytes (names of_x of_y) is = cc (one_kind x (full_name x) (object bytes) of_x is)
 
--- nor a partial name
 no_partial : (x y n : List ℕ) → AreTwins x y → ¬ (HasKind x (partial n))
-no_partial x y n (patterns (before, after, of_x) of_y) is = let same : pattern before after ≡ partial n = one_kind x (pattern before after) (partial n) of_x is in cc
-no_partial x y n (names of_x of_y) is = let same : full_name x ≡ partial n = one_kind x (full_name x) (partial n) of_x is in cc
-
--- ---- one pair
-
--- the two sides of the reading make these names of one another
-record Carries (r : Reading) (n m : List ℕ) : Type 0 where
-  positive : IsPositive r.mode
-  left : List ℕ
-  right : List ℕ
-  source : r.source ≡ Some left
-  destination : r.destination ≡ Some right
-  mirrored : AreMirrored left right n m
+no_partial x y n (patterns (before, after, of_x) of_y) is = cc (one_kind x (pattern before after) (partial n) of_x is)
+no_partial x y n (names of_x of_y) is = cc (one_kind x (full_name x) (partial n) of_x is)
 
 -- the reading is accepted, and goes both ways
 abbrev IsFine : Reading → Type 0
@@ -115,11 +72,9 @@ fine_twins : (r : Reading) (x y : List ℕ) → IsFine r → IsPositive r.mode �
 fine_twins r x y fine positive source destination =
     twins x y (accepted_few r x fine.0 (inl source)) (accepted_few r y fine.0 (inr destination)) (accepted_balanced r x y fine.0 source destination) (fine.1 positive x y source destination)
 
--- an item of which a fact gives the name has that name
 name_among : (n : List ℕ) (items : List Ref) (P : Ref → Type 0) → ((i : Ref) → P i → i.name ≡ n) → AnyAt P items → HasName items n
 name_among n items P named (k, i, below, at, holds) = subst (HasName items) (named i holds) (name_there items i (k, below, at))
 
--- a side that becomes a name is present
 far_there : (far : Option (List ℕ)) (word : Option (List ℕ)) (m : List ℕ) → IsFilled far word (Some m) → (y : List ℕ) × (far ≡ Some y)
 far_there None word m is = absurd (cc)
 far_there (Some y) word m is = (y, refl)
@@ -128,73 +83,50 @@ side_there : (far : Option (List ℕ)) → IsSome far → (x : List ℕ) × (far
 side_there None some = absurd (false≢true some)
 side_there (Some x) some = (x, refl)
 
-forward_carries : (A : List Ref) (n m : List ℕ) (r : Reading) → IsFine r → PairsItem AreForwardEnds (Takes A) A n (Some m) r → Carries r n m
-forward_carries A n m r fine makes =
+forward_back : (A B : List Ref) (n m : List ℕ) (r : Reading) → IsFine r → HasName B m → PairsItem AreForwardEnds (Takes A) A n (Some m) r → PairsItem AreBackwardEnds Matches B m (Some n) r
+forward_back A B n m r fine to makes =
     let (k, i, below, at, paired) = makes.one in
-    let there = far_there makes.ends.far paired.word m paired.becomes in
-    let right_is : r.destination ≡ Some there.0 = makes.has.far ∙ there.1 in
-    let twin : AreTwins makes.ends.near there.0 = fine_twins r makes.ends.near there.0 fine makes.has.positive makes.has.near right_is in
+    let near = makes.ends.near in
+    let (y, is_y) = far_there makes.ends.far paired.word m paired.becomes in
+    let right_is : r.destination ≡ Some y = makes.has.far ∙ is_y in
+    let twin = fine_twins r near y fine makes.has.positive makes.has.near right_is in
+    let (j, (q, inside, stands), same) = item_named B m to in
+    let taken = taken_back near y m i j paired.word twin paired.takes.matches (subst (λ (o : Option (List ℕ)). IsFilled o paired.word (Some m)) is_y paired.becomes) same in
     record {
-      positive = makes.has.positive;
-      left = makes.ends.near;
-      right = there.0;
-      source = makes.has.near;
-      destination = right_is;
-      mirrored = subst (λ (x : List ℕ). AreMirrored makes.ends.near there.0 x m) paired.name (taken_mirrored makes.ends.near there.0 m i paired.word twin paired.takes.matches (subst (λ (o : Option (List ℕ)). IsFilled o paired.word (Some m)) there.1 paired.becomes));
+      ends = record { near = y; far = Some near };
+      has = record { positive = makes.has.positive; near = right_is; far = makes.has.near; both = refl };
+      one = (q, j, inside, stands, record { word = taken.0; name = same; takes = taken.1; becomes = subst (λ (z : List ℕ). IsFilled (Some near) taken.0 (Some z)) paired.name taken.2 });
     }
 
-carries_forward : (A : List Ref) (n m : List ℕ) (r : Reading) → HasName A n → Carries r n m → PairsItem AreForwardEnds (Takes A) A n (Some m) r
-carries_forward A n m r from c =
-    let twin = mirrored_twins c.left c.right n m c.mirrored in
-    let (i, (k, below, at), same) = item_named A n from in
-    let taken = mirrored_taken c.left c.right n m i c.mirrored same in
-    record {
-      ends = record { near = c.left; far = Some c.right };
-      has = record { positive = c.positive; near = c.source; far = c.destination; no_object = λ bytes. no_object c.left c.right bytes twin };
-      one = (k, i, below, at, record { word = taken.0; name = same; takes = record { matches = taken.1; first = λ x kind. absurd (no_partial c.left c.right x twin kind) }; becomes = taken.2 });
-    }
-
-backward_carries : (B : List Ref) (n m : List ℕ) (r : Reading) → IsFine r → PairsItem AreBackwardEnds Matches B m (Some n) r → Carries r n m
-backward_carries B n m r fine makes =
+back_forward : (A B : List Ref) (n m : List ℕ) (r : Reading) → IsFine r → HasName A n → PairsItem AreBackwardEnds Matches B m (Some n) r → PairsItem AreForwardEnds (Takes A) A n (Some m) r
+back_forward A B n m r fine from makes =
     let (k, i, below, at, paired) = makes.one in
-    let there = side_there makes.ends.far makes.has.both in
-    let left_is : r.source ≡ Some there.0 = makes.has.far ∙ there.1 in
-    let twin : AreTwins there.0 makes.ends.near = fine_twins r there.0 makes.ends.near fine makes.has.positive left_is makes.has.near in
-    let back = taken_mirrored makes.ends.near there.0 n i paired.word (twins_back there.0 makes.ends.near twin) paired.takes (subst (λ (o : Option (List ℕ)). IsFilled o paired.word (Some n)) there.1 paired.becomes) in
+    let near = makes.ends.near in
+    let (x, is_x) = side_there makes.ends.far makes.has.both in
+    let left_is : r.source ≡ Some x = makes.has.far ∙ is_x in
+    let twin = fine_twins r x near fine makes.has.positive left_is makes.has.near in
+    let (j, (q, inside, stands), same) = item_named A n from in
+    let taken = taken_back near x n i j paired.word (twins_back x near twin) paired.takes (subst (λ (o : Option (List ℕ)). IsFilled o paired.word (Some n)) is_x paired.becomes) same in
+    let takes : Takes A x j taken.0 = record { matches = taken.1; first = λ p kind. absurd (no_partial x near p twin kind) } in
     record {
-      positive = makes.has.positive;
-      left = there.0;
-      right = makes.ends.near;
-      source = left_is;
-      destination = makes.has.near;
-      mirrored = subst (λ (x : List ℕ). AreMirrored there.0 makes.ends.near n x) paired.name (mirrored_back makes.ends.near there.0 i.name n back);
-    }
-
-carries_backward : (B : List Ref) (n m : List ℕ) (r : Reading) → HasName B m → Carries r n m → PairsItem AreBackwardEnds Matches B m (Some n) r
-carries_backward B n m r to c =
-    let (i, (k, below, at), same) = item_named B m to in
-    let taken = mirrored_taken c.right c.left m n i (mirrored_back c.left c.right n m c.mirrored) same in
-    record {
-      ends = record { near = c.right; far = Some c.left };
-      has = record { positive = c.positive; near = c.destination; far = c.source; both = refl };
-      one = (k, i, below, at, record { word = taken.0; name = same; takes = taken.1; becomes = taken.2 });
+      ends = record { near = x; far = Some near };
+      has = record { positive = makes.has.positive; near = left_is; far = makes.has.near; no_object = λ bytes. no_object x near bytes twin };
+      one = (q, j, inside, stands, record { word = taken.0; name = same; takes = takes; becomes = subst (λ (z : List ℕ). IsFilled (Some near) taken.0 (Some z)) paired.name taken.2 });
     }
 
 -- ---- both directions
 
--- what a fine reading makes from left to right it makes from right to left, and conversely
 turned : (A B : List Ref) (s : Source) (d : Option (List ℕ)) (r : Reading) → IsFine r → IsDestinationAmong B d → MakesForward A s d r → MakesBackward B s d r × IsSourceAmong A s
-turned A B (name n) (Some m) r fine to makes = (carries_backward B n m r to (forward_carries A n m r fine makes), name_among n A (IsPaired (Takes A) makes.ends n (Some m)) (λ i is. is.name) makes.one)
+turned A B (name n) (Some m) r fine to makes = (forward_back A B n m r fine to makes, name_among n A (IsPaired (Takes A) makes.ends n (Some m)) (λ i is. is.name) makes.one)
 turned A B (id bytes) (Some m) r fine to makes =
     let there = far_there r.destination None m makes.becomes in
     absurd (no_object makes.text there.0 bytes (fine_twins r makes.text there.0 fine makes.positive makes.side there.1) makes.object)
 turned A B s None r fine to makes = absurd to
 
 turned_back : (A B : List Ref) (s : Source) (d : Option (List ℕ)) (r : Reading) → IsFine r → IsSourceAmong A s → MakesBackward B s d r → MakesForward A s d r × IsDestinationAmong B d
-turned_back A B (name n) (Some m) r fine from makes = (carries_forward A n m r from (backward_carries B n m r fine makes), name_among m B (IsPaired Matches makes.ends m (Some n)) (λ i is. is.name) makes.one)
+turned_back A B (name n) (Some m) r fine from makes = (back_forward A B n m r fine from makes, name_among m B (IsPaired Matches makes.ends m (Some n)) (λ i is. is.name) makes.one)
 turned_back A B s d r fine from makes = absurd makes
 
--- each reading is accepted
 fine_all : (specs : List RefSpecRef) → AllByRecursion GoesBothWays (map reading_of specs) → AllByRecursion IsFine (map reading_of specs)
 fine_all [] all = tt
 fine_all (s ∷ specs) all = ((s.accepted, all.0), fine_all specs all.1)
@@ -219,17 +151,14 @@ transpose specs A B both_ways l m forward backward pair =
 
 -- ---- a test
 
--- if the source has a star, so has the destination
 pub goes_by_star : (r : Reading) (s : List ℕ) → ∥ IsAccepted r ∥₁ → r.source ≡ Some s → HasStar s → IsTrue true ↔ GoesBothWays r
-goes_by_star r s accepted source has = ((λ _ _ x y is_x is_y. inl (has_star x is_x, other x y is_x is_y)), (λ _. refl))
-  where
-    has_star : (x : List ℕ) → r.source ≡ Some x → HasStar x
-    has_star x is_x = subst HasStar (same_side r.source s x source is_x) has
+goes_by_star r s accepted source has = (
+  (λ _ _ x y is_x is_y.
+      let star_x = subst HasStar (same_side r.source s x source is_x) has in
+      inl (star_x, by_cases (starred y) (λ lacks. absurd (accepted_balanced r x y accepted is_x is_y (inl (star_x, lacks)))) (λ too. too))),
+  (λ _. refl),
+)
 
-    other : (x y : List ℕ) → r.source ≡ Some x → r.destination ≡ Some y → HasStar y
-    other x y is_x is_y = by_cases (starred y) (λ lacks. absurd (accepted_balanced r x y accepted is_x is_y (inl (has_star x is_x, lacks)))) (λ too. too)
-
--- if it has none, both sides have to begin `refs/`
 pub goes_below_refs : (r : Reading) (s d : List ℕ) (told : Bool) → IsPositive r.mode → r.source ≡ Some s → r.destination ≡ Some d → Lacks star s → IsTrue told ↔ (BeginsWith (codes "refs/") s × BeginsWith (codes "refs/") d) → IsTrue told ↔ GoesBothWays r
 goes_below_refs r s d told positive source destination lacks below = (
   (λ so _ x y is_x is_y. inr (

@@ -1,19 +1,17 @@
 -- Which items may be left out: filters of items, and that over a subset of the items the same pairs are kept, if no item
 -- that some spec takes is left out.
-use Rattle.gix_refspec.proofs.Common.{◌≡◌, ℕ, zero, suc, Bool, true, List, [], ◌∷◌, Option, map, refl, sym, ap, ◌∙◌, subst, arith, nat_eq, Any, Contains, filter, starts_with, or_left, or_right, get_or-map}
-use Rattle.gix_refspec.proofs.Common.{length-map, All-contains_itself, All-filter, starts_is, bstr_bytes, Item, BeginsWith, Reading, Ref, Matches, Takes, Ends, AreForwardEnds, AreBackwardEnds, ref_of}
-use Rattle.gix_refspec.proofs.Common.{BeginsWithOne, ArePart, TakesItem, HasTaken, PassesTaken, FilteredItems, FilteredByEntries, FilteredByList, is_begun, All-contains, all_weaker, inl, inr, ◌↔◌, None}
-use Rattle.gix_refspec.proofs.Common.{Some, append-nil, Lacks, star, head, SideKind, pattern, full_name, object, partial, HasKind, HasName, IsFirstCandidate, of_head, to_prefix, Source, name, id, Mapped}
-use Rattle.gix_refspec.proofs.Common.{HasPair, IsSourceExcluded, AreKeptForward, AreKeptBackward, PairsItem, MakesForward, MakesBackward, IsCoveredBy, HaveSamePairs, FewerItems, IsListed, AreListedItems}
-use Rattle.gix_refspec.proofs.Common.{ListedItems, same_Some, All-from_recursion, Lacks-tested}
+use Rattle.gix_refspec.proofs.Common.{◌≡◌, ℕ, zero, suc, Bool, true, List, [], ◌∷◌, Option, map, refl, sym, ap, ◌∙◌, subst, arith, nat_eq, Any, Contains, filter, starts_with, or_left, or_right}
+use Rattle.gix_refspec.proofs.Common.{get_or-map, length-map, All-contains_itself, All-filter, starts_is, bstr_bytes, Item, BeginsWith, Reading, Ref, Matches, Takes, Ends, AreForwardEnds}
+use Rattle.gix_refspec.proofs.Common.{AreBackwardEnds, ref_of, BeginsWithOne, ArePart, TakesItem, HasTaken, PassesTaken, FilteredItems, FilteredByEntries, FilteredByList, is_begun, All-contains}
+use Rattle.gix_refspec.proofs.Common.{all_weaker, inl, inr, ◌↔◌, None, Some, append-nil, Lacks, star, head, SideKind, pattern, full_name, object, partial, HasKind, HasName, IsFirstCandidate, of_head}
+use Rattle.gix_refspec.proofs.Common.{to_prefix, Source, name, id, Mapped, AreKeptForward, AreKeptBackward, PairsItem, MakesForward, MakesBackward, IsCoveredBy, HaveSamePairs, FewerItems, IsListed}
+use Rattle.gix_refspec.proofs.Common.{AreListedItems, ListedItems, same_Some, All-from_recursion, Lacks-tested, rules}
 use Rattle.std.proofs.lemmas.Bool.Decides.{Decides-eqb}
 use Rattle.gix_refspec_match.proofs.lemmas.duplicates.HashKeyLemmas.{contains_filter}
 use Rattle.gix_refspec_text.proofs.lemmas.hits.CandidateLemmas.{first_candidate, first_once, some_first, taken_by_first}
 use Rattle.gix_refspec.proofs.lemmas.prefixes.CoverLemmas.{below_not_head, joined_covers, side_covers, source_asked}
 use Rattle.gix_refspec_text.proofs.lemmas.hits.MatchLemmas.{lacks_no_pattern}
 use Rattle.gix_refspec.proofs.lemmas.keep.PairMadeLemmas.{kept_exactly}
-
--- ---- elements
 
 pub mapped_there : {X Y : Type 0} (f : X → Y) (xs : List X) (x : X) → Contains xs x → Contains (map f xs) (f x)
 mapped_there f xs x (k, below, is) = (k, omega (arith, below, length-map xs f), get_or-map f xs k x (f x) below ∙ ap f is)
@@ -25,13 +23,11 @@ mapped_from f (x ∷ xs) y (suc k, below, is) = let (z, (j, inside, at), same) =
 
 -- ---- items
 
--- the items that pass a filter are a subset
 filtered_part : (p : Item → Bool) (items : List Item) → ArePart (map ref_of items) (map ref_of (filter p items))
 filtered_part p items ref has =
     let (item, there, same) = mapped_from ref_of (filter p items) ref has in
     subst (Contains (map ref_of items)) same (mapped_there ref_of items item (All-contains (Contains items) (filter p items) item (All-filter p (Contains items) items (All-contains_itself items)) there))
 
--- a ref is among them if each item of that ref passes
 passed : (p : Item → Bool) (items : List Item) (P : Ref → Type 0) → ((item : Item) → Contains items item → P (ref_of item) → p item ≡ true) → (ref : Ref) → Contains (map ref_of items) ref → P ref → Contains (map ref_of (filter p items)) ref
 passed p items P passes ref has holds =
     let (item, there, same) = mapped_from ref_of items ref has in
@@ -47,9 +43,6 @@ filtered_items g items some = record {
   backward = λ p is passes. filtered_taken AreBackwardEnds Matches g items some p is passes;
 }
 
--- ---- entries
-
--- a name that begins with an entry passes
 begun : (n : List ℕ) (entries : List (List ℕ)) → BeginsWithOne entries n → is_begun entries n ≡ true
 begun n [] (k, e, below, is, begins) = absurd (omega (arith, below))
 begun n (entry ∷ entries) (zero, e, below, is, begins) =
@@ -70,11 +63,8 @@ filtered_by_entries g items some entries are is =
     let by_list = filtered_by_list items some entries is in
     record { entries = entries; expansions = are; part = by_list.part; listed = by_list.asked }
 
--- ---- subsets of the items
-
 -- ---- names and items
 
--- a name among the items is that of some item
 pub item_named : (items : List Ref) (n : List ℕ) → HasName items n → (item : Ref) × Contains items item × (item.name ≡ n)
 item_named [] n has = absurd has
 item_named (r ∷ items) n (inl same) = (r, (0, omega arith, refl), same)
@@ -88,19 +78,12 @@ name_there (r ∷ items) item (suc k, below, is) = inr (name_there items item (k
 name_in_all : (A B : List Ref) → ArePart A B → (n : List ℕ) → HasName B n → HasName A n
 name_in_all A B part n has = let (item, there, same) = item_named B n has in subst (HasName A) same (name_there A item (part item there))
 
--- ---- partial sources
-
 -- the first candidate among all items is the first in a subset that has it
 first_in_part : (A B : List Ref) → ArePart A B → (x n : List ℕ) → HasName B n → IsFirstCandidate A x n → IsFirstCandidate B x n
-first_in_part A B part x n has first = record {
-  earlier = first.earlier;
-  later = first.later;
-  here = first.here;
-  absent = all_weaker (λ m. ¬ (HasName A m)) (λ m. ¬ (HasName B m)) (λ m none there. none (name_in_all A B part m there)) first.earlier first.absent;
-  present = has;
-}
+first_in_part A B part x n has first =
+    let absent = all_weaker (λ m. ¬ (HasName A m)) (λ m. ¬ (HasName B m)) (λ m none there. none (name_in_all A B part m there)) first.earlier first.absent in
+    search (rules, absent)
 
--- so an item that is taken among all is taken in the subset
 takes_in_part : (A B : List Ref) → ArePart A B → (x : List ℕ) (item : Ref) (word : Option (List ℕ)) → Contains B item → Takes A x item word → Takes B x item word
 takes_in_part A B part x item word there takes = record {
   matches = takes.matches;
@@ -121,8 +104,6 @@ takes_in_all A B part x has item word there takes = record { matches = takes.mat
         let in_part = has other None is_there (taken_by_first A x other whole first_of_x) in
         let same : item.name ≡ m = first_once B n item.name m among (first_in_part A B part n m (subst (HasName B) named (name_there B other in_part)) of_all) in
         subst (IsFirstCandidate A n) (sym same) of_all
-
--- ---- pairs
 
 -- a pair is made over other items, if those that make it are there and are taken
 pairs_moved : (HasEnds : Reading → Ends → Type 0) (T U : List ℕ → Ref → Option (List ℕ) → Type 0) (A B : List Ref) (n : List ℕ) (far : Option (List ℕ)) (r : Reading)
@@ -160,8 +141,6 @@ backward_in_all : (A B : List Ref) → ArePart A B → (s : Source) (far : Optio
 backward_in_all A B part (name n) (Some d) r makes = pairs_moved AreBackwardEnds Matches Matches B A d (Some n) r (λ ends item word of_r there takes. (part item there, takes)) makes
 backward_in_all A B part s far r makes = makes
 
--- ---- groups
-
 -- if P implies Q for each reading of a group, and P holds of some, Q holds of some
 any_each : (P Q : Reading → Type 0) (g : List Reading) → ((r : Reading) → Contains g r → P r → Q r) → Any P g → Any Q g
 any_each P Q g each (k, r, below, is, holds) = (k, r, below, is, each r (k, below, is) holds)
@@ -170,20 +149,20 @@ taken_by_one : (HasEnds : Reading → Ends → Type 0) (Taken : List ℕ → Ref
 taken_by_one HasEnds Taken g A B has r (k, below, is) item there takes = has item there (k, r, below, is, takes)
 
 -- a pair is kept if it is made and not excluded, so the same are kept if the same are made
-same_kept : (K F X MA MB : Type 0) → K ↔ (MA × X) → F ↔ (MB × X) → (MA → MB) → (MB → MA) → K ↔ F
-same_kept K F X MA MB of_all of_part to back = ((λ k. of_part.1 (to (of_all.0 k).0, (of_all.0 k).1)), (λ f. of_all.1 (back (of_part.0 f).0, (of_part.0 f).1)))
+same_kept : {K F X MA MB : Type 0} → K ↔ (MA × X) → F ↔ (MB × X) → (MA → MB) → (MB → MA) → K ↔ F
+same_kept of_all of_part to back = ((λ k. of_part.1 (to (of_all.0 k).0, (of_all.0 k).1)), (λ f. of_all.1 (back (of_part.0 f).0, (of_part.0 f).1)))
 
 forward_fewer : (g : List Reading) (A B : List Ref) → ArePart A B → ((r : Reading) → Contains g r → HasTakenBy AreForwardEnds (Takes A) A B r) → (kept fewer : List Mapped) → AreKeptForward g A kept → AreKeptForward g B fewer → HaveSamePairs kept fewer
 forward_fewer g A B part has kept fewer of_all of_part pair =
-    same_kept (HasPair kept pair) (HasPair fewer pair) (¬ (IsSourceExcluded g pair.source)) (Any (MakesForward A pair.source pair.destination) g) (Any (MakesForward B pair.source pair.destination) g) ((kept_exactly g A).forward kept of_all pair) ((kept_exactly g B).forward fewer of_part pair)
-    (any_each (MakesForward A pair.source pair.destination) (MakesForward B pair.source pair.destination) g (λ r there. forward_in_part A B part pair.source pair.destination r (has r there)))
-    (any_each (MakesForward B pair.source pair.destination) (MakesForward A pair.source pair.destination) g (λ r there. forward_in_all A B part pair.source pair.destination r (has r there)))
+    same_kept ((kept_exactly g A).forward kept of_all pair) ((kept_exactly g B).forward fewer of_part pair)
+    (any_each _ _ g (λ r there. forward_in_part A B part pair.source pair.destination r (has r there)))
+    (any_each _ _ g (λ r there. forward_in_all A B part pair.source pair.destination r (has r there)))
 
 backward_fewer : (g : List Reading) (A B : List Ref) → ArePart A B → HasTaken AreBackwardEnds Matches g A B → (kept fewer : List Mapped) → AreKeptBackward g A kept → AreKeptBackward g B fewer → HaveSamePairs kept fewer
 backward_fewer g A B part has kept fewer of_all of_part pair =
-    same_kept (HasPair kept pair) (HasPair fewer pair) (¬ (IsSourceExcluded g pair.source)) (Any (MakesBackward A pair.source pair.destination) g) (Any (MakesBackward B pair.source pair.destination) g) ((kept_exactly g A).backward kept of_all pair) ((kept_exactly g B).backward fewer of_part pair)
-    (any_each (MakesBackward A pair.source pair.destination) (MakesBackward B pair.source pair.destination) g (λ r there. backward_in_part A B pair.source pair.destination r (taken_by_one AreBackwardEnds Matches g A B has r there)))
-    (any_each (MakesBackward B pair.source pair.destination) (MakesBackward A pair.source pair.destination) g (λ r there. backward_in_all A B part pair.source pair.destination r))
+    same_kept ((kept_exactly g A).backward kept of_all pair) ((kept_exactly g B).backward fewer of_part pair)
+    (any_each _ _ g (λ r there. backward_in_part A B pair.source pair.destination r (taken_by_one AreBackwardEnds Matches g A B has r there)))
+    (any_each _ _ g (λ r there. backward_in_all A B part pair.source pair.destination r))
 
 pub fewer_items : (g : List Reading) (A B : List Ref) → FewerItems g A B
 fewer_items g A B = record {
@@ -193,7 +172,6 @@ fewer_items g A B = record {
 
 -- ---- listed items
 
--- `HEAD` takes only itself, if it is among the refs
 head_taken : (A : List Ref) (x : List ℕ) (item : Ref) (word : Option (List ℕ)) (kind : SideKind) → x ≡ head → HasName A head → ((bytes : List ℕ) → ¬ (HasKind x (object bytes))) → HasKind x kind → Takes A x item word → item.name ≡ x
 head_taken A x item word (pattern before after) is there none kind takes = absurd (lacks_no_pattern x before after (subst (Lacks star) (sym is) (Lacks-tested star head refl)) kind)
 head_taken A x item word (full_name n) is there none kind takes = absurd (below_not_head x kind.2 is)
@@ -217,7 +195,6 @@ listed_covers A r ends item word (inr fetches) are takes =
       one = (0, ends.near, omega arith, refl, record { after = []; here = same ∙ sym (append-nil ends.near) });
     }
 
--- so the subset has each item that it takes
 listed_taken : (g : List Reading) (A B : List Ref) → AreListedItems g A B → (r : Reading) → Contains g r → IsListed A r → HasTakenBy AreForwardEnds (Takes A) A B r
 listed_taken g A B listed r (k, below, is) of_r item there takes =
     listed.listed item there (joined_covers item.name g 0 listed.entries (k, r, below, is, listed_covers A r takes.ends item takes.word of_r takes.has takes.takes) listed.expansions)
@@ -226,7 +203,7 @@ pub listed_items : (g : List Reading) (A B : List Ref) → ListedItems g A B
 listed_items g A B = record {
   some = λ listed kept fewer of_all of_part pair has any.
       let included = ((kept_exactly g A).forward kept of_all pair).0 has in
-      let made = any_each (λ r. IsListed A r × MakesForward A pair.source pair.destination r) (MakesForward B pair.source pair.destination) g (λ r there both. forward_in_part A B listed.part pair.source pair.destination r (listed_taken g A B listed r there both.0) both.1) any in
+      let made : Any (MakesForward B pair.source pair.destination) g = any_each _ _ g (λ r there both. forward_in_part A B listed.part pair.source pair.destination r (listed_taken g A B listed r there both.0) both.1) any in
       ((kept_exactly g B).forward fewer of_part pair).1 (made, included.1);
   all = λ listed each kept fewer of_all of_part. forward_fewer g A B listed.part (λ r there. listed_taken g A B listed r there (All-contains (IsListed A) g r (All-from_recursion (IsListed A) g each) there)) kept fewer of_all of_part;
 }

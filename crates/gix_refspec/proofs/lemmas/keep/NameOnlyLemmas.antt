@@ -1,8 +1,8 @@
 -- Refs with the same names have the same mappings from left to right, as no source that takes refs depends on their
 -- ids; and from right to left if no destination is an id.
-use Rattle.gix_refspec.proofs.Common.{all_weaker, ◌≡◌, ℕ, ◌+◌, inl, inr, List, [], ◌∷◌, Option, None, Some, map, refl, sym, ap, ◌∙◌, subst, length, arith, Reading, SideKind, pattern, full_name, object}
-use Rattle.gix_refspec.proofs.Common.{partial, HasKind, Fits, IsCandidate, Ref, Matches, MatchesAs, HasName, IsFirstCandidate, Takes, IsJoinedFrom, Ends, AreBackwardEnds, AreForwardEnds, Hit, IsHit}
-use Rattle.gix_refspec.proofs.Common.{AreSpecHits, AsksForNoId, HasIdDestination, HaveSameNames, NamesDecide, NamesDecideBack, AllZip, by_cases}
+use Rattle.gix_refspec.proofs.Common.{all_weaker, ◌≡◌, ℕ, ◌+◌, inl, inr, List, [], ◌∷◌, Option, None, Some, map, refl, sym, ap, ◌∙◌, subst, length, arith, Reading, SideKind, pattern, full_name}
+use Rattle.gix_refspec.proofs.Common.{object, partial, HasKind, Fits, IsCandidate, Ref, Matches, MatchesAs, HasName, IsFirstCandidate, Takes, IsJoinedFrom, Ends, AreBackwardEnds, AreForwardEnds, Hit}
+use Rattle.gix_refspec.proofs.Common.{IsHit, AreSpecHits, AsksForNoId, HasIdDestination, HaveSameNames, NamesDecide, NamesDecideBack, AllZip, by_cases, rules}
 use Rattle.gix_refspec.proofs.lemmas.keep.AlikeLemmas.{made_zip}
 
 first_name : (r q : Ref) (refs others : List Ref) → HaveSameNames (r ∷ refs) (q ∷ others) → (r.name ≡ q.name) × HaveSameNames refs others
@@ -10,23 +10,16 @@ first_name r q refs others same =
     let both : r.name ∷ map (λ (x : Ref). x.name) refs ≡ q.name ∷ map (λ (x : Ref). x.name) others = same in
     (cc, cc)
 
--- a name in one list is in the other
 pub has_also : (A B : List Ref) (n : List ℕ) → HaveSameNames A B → HasName A n → HasName B n
 has_also [] B n same has = absurd has
 has_also (a ∷ A) [] n same has = absurd (omega (arith, ap length same))
 has_also (a ∷ A) (b ∷ B) n same has = let first = first_name a b A B same in by_cases has (λ here. inl (sym first.0 ∙ here)) (λ later. inr (has_also A B n first.1 later))
 
--- so the first candidate in one list is that in the other
 first_also : (A B : List Ref) (x n : List ℕ) → HaveSameNames A B → IsFirstCandidate A x n → IsFirstCandidate B x n
-first_also A B x n same first = record {
-  earlier = first.earlier;
-  later = first.later;
-  here = first.here;
-  absent = all_weaker (λ m. ¬ (HasName A m)) (λ m. ¬ (HasName B m)) (λ m none there. none (has_also B A m (sym same) there)) first.earlier first.absent;
-  present = has_also A B n same first.present;
-}
+first_also A B x n same first =
+    let absent = all_weaker (λ m. ¬ (HasName A m)) (λ m. ¬ (HasName B m)) (λ m none there. none (has_also B A m (sym same) there)) first.earlier first.absent in
+    search (rules, absent, has_also A B n same first.present)
 
--- a side that isn't an id matches by the name
 matches_also : (kind : SideKind) (a b : Ref) (word : Option (List ℕ)) → a.name ≡ b.name → ((id : List ℕ) → ¬ (kind ≡ object id)) → MatchesAs kind a word → MatchesAs kind b word
 matches_also (pattern before after) a b None same none fits = absurd fits
 matches_also (pattern before after) a b (Some word) same none fits = subst (λ (n : List ℕ). Fits before after n word) same fits
@@ -35,13 +28,8 @@ matches_also (object id) a b word same none fits = absurd (none id refl)
 matches_also (partial n) a b word same none fits = (fits.0, subst (IsCandidate n) same fits.1)
 
 pub matches_by_name : (ends : Ends) (a b : Ref) (word : Option (List ℕ)) → a.name ≡ b.name → ((id : List ℕ) → ¬ (HasKind ends.near (object id))) → Matches ends.near a word → Matches ends.near b word
-matches_by_name ends a b word named none matches = record {
-  kind = matches.kind;
-  of = matches.of;
-  is = matches_also matches.kind a b word named (λ id is. none id (subst (HasKind ends.near) is matches.of)) matches.is;
-}
+matches_by_name ends a b word named none matches = search (rules, matches_also matches.kind a b word named (λ id is. none id (rw is at matches.of)) matches.is)
 
--- a ref taken in one list is taken in the other
 takes_also : (A B : List Ref) (ends : Ends) (a b : Ref) (word : Option (List ℕ)) → HaveSameNames A B → a.name ≡ b.name → ((id : List ℕ) → ¬ (HasKind ends.near (object id))) → Takes A ends.near a word → Takes B ends.near b word
 takes_also A B ends a b word same named none takes = record {
   matches = matches_by_name ends a b word named none takes.matches;
@@ -49,14 +37,7 @@ takes_also A B ends a b word same named none takes = record {
 }
 
 hit_also : (T U : List ℕ → Ref → Option (List ℕ) → Type 0) (ends : Ends) (k j : ℕ) (a b : Ref) (hit : Hit) → ((word : Option (List ℕ)) → T ends.near a word → U ends.near b word) → a.name ≡ b.name → IsHit T ends k j a hit → IsHit U ends k j b hit
-hit_also T U ends k j a b hit also named is = record {
-  word = is.word;
-  takes = also is.word is.takes;
-  far = is.far;
-  near = is.near ∙ named;
-  spec = is.spec;
-  item = is.item;
-}
+hit_also T U ends k j a b hit also named is = search (rules, also is.word is.takes)
 
 named_zip : (A B : List Ref) → HaveSameNames A B → AllZip (λ a b. a.name ≡ b.name) A B
 named_zip [] [] same = tt
@@ -95,23 +76,8 @@ joined_back : (A B : List Ref) (k : ℕ) (g : List Reading) (hits : List Hit) �
 joined_back A B k [] hits none same joined = joined
 joined_back A B k (r ∷ g) hits none same (made, rest, of, more, is) = (made, rest, spec_back A B k r made none.0 same of, joined_back A B (k + 1) g rest none.1 same more, is)
 
--- so the same mappings are kept
 pub names_decide : (g : List Reading) (A : List Ref) → NamesDecide g A
-names_decide g A B same kept are = record {
-  all = are.all;
-  forward = record {
-    ids = are.forward.ids;
-    hits = are.forward.hits;
-    are_ids = are.forward.are_ids;
-    are_hits = joined_also A B 0 g are.forward.hits same are.forward.are_hits;
-    all = are.forward.all;
-  };
-  is = are.is;
-}
+names_decide g A B same kept are = search (rules, joined_also A B 0 g are.forward.hits same are.forward.are_hits)
 
 pub names_decide_back : (g : List Reading) (A : List Ref) → NamesDecideBack g A
-names_decide_back g A none B same kept are = record {
-  all = are.all;
-  backward = record { hits = are.backward.hits; are_hits = joined_back A B 0 g are.backward.hits none same are.backward.are_hits; all = are.backward.all };
-  is = are.is;
-}
+names_decide_back g A none B same kept are = search (rules, joined_back A B 0 g are.backward.hits none same are.backward.are_hits)

@@ -23,7 +23,6 @@ makes_backward : (items : List Ref) (item : Option ℕ) (s : Source) (d : Option
 makes_backward items item (name n) (Some m) r at = record { ends = at.ends; has = at.has; one = any_at (IsPaired Matches at.ends m (Some n)) items at.index at.ref at.stands at.paired }
 makes_backward items item s d r none = none
 
--- so some reading makes the pair of each mapping
 made_forward : (g : List Reading) (items : List Ref) (l : List Mapped) (pair : Mapped) → AreForward g items l → HasPair l pair → Any (MakesForward items pair.source pair.destination) g
 made_forward g items l pair are has =
     let Made = MakesForward items pair.source pair.destination in
@@ -55,16 +54,12 @@ forward_reach items n d r makes = (makes.ends, makes.has, Any-weaker _ _ (λ i i
 backward_reach : (items : List Ref) (n m : List ℕ) (r : Reading) → MakesBackward items (name n) (Some m) r → Reaches AreBackwardEnds Matches items (BackwardTo (name n) (Some m)) r
 backward_reach items n m r makes = (makes.ends, makes.has, Any-weaker _ _ (λ i is. (is.word, Some n, is.takes, is.becomes, (refl, ap Some is.name))) items (some_of (IsPaired Matches makes.ends m (Some n)) items makes.one))
 
--- ---- ids
-
 made_id : (pair : Mapped) (bytes : List ℕ) (r : Reading) → pair.source ≡ id bytes → PairsId bytes pair.destination r → MakesOnly IsIdMapping (IsOfPair pair) r
 made_id pair bytes r of_pair makes j =
     let m : Mapped = record { item = None; source = id bytes; destination = pair.destination; spec = j } in
     let is : IsIdMapping j r m = record { positive = makes.positive; text = makes.text; bytes = bytes; side = makes.side; object = makes.object; item = refl; source = refl; destination = makes.becomes; spec = refl } in
     let of : IsOfPair pair m = record { source = sym of_pair; destination = refl } in
     (m, is, λ z also. subst (IsOfPair pair) (id_once j r m z is also) of)
-
--- ---- the lists
 
 forward_pairs : (g : List Reading) (items : List Ref) (l : List Mapped) (pair : Mapped) → AreForward g items l → HasPair l pair ↔ Any (MakesForward items pair.source pair.destination) g
 forward_pairs g items l pair are = (made_forward g items l pair are, λ any. from_made pair.source refl any)
@@ -98,8 +93,6 @@ backward_pairs g items l pair are = (made_backward g items l pair are, λ any. f
     from_made (name n) None from to any = absurd (Any-fact ⊥ g (subst (λ (d : Option (List ℕ)). Any (MakesBackward items (name n) d) g) to (subst (λ (s : Source). Any (MakesBackward items s pair.destination) g) from any)))
     from_made (id bytes) d from to any = absurd (Any-fact ⊥ g (subst (λ (s : Source). Any (MakesBackward items s pair.destination) g) from any))
 
--- ---- what is kept
-
 kept_by : (g : List Reading) (l kept : List Mapped) (pair : Mapped) (M : Type 0) → HasPair kept pair ↔ (HasPair l pair × ¬ (IsSourceExcluded g pair.source)) → HasPair l pair ↔ M → HasPair kept pair ↔ (M × ¬ (IsSourceExcluded g pair.source))
 kept_by g l kept pair M stays made = ((λ has. (made.0 (stays.0 has).0, (stays.0 has).1)), (λ both. stays.1 (made.1 both.0, both.1)))
 
@@ -123,7 +116,6 @@ nothing_excluded g items = record {
 
 -- ---- the first of its pair
 
--- a kept mapping is the first of its pair
 kept_first : (g : List Reading) (l : List Mapped) (k : ℕ) (x y : Mapped) → slice_get l k ≡ Some x → Keeps g l k x y → IsFirstOfPair g l y
 kept_first g l k x y stands (same, keeps) = subst (IsFirstOfPair g l) (sym same) (record {
   before = take k l;
@@ -133,7 +125,6 @@ kept_first g l k x y stands (same, keeps) = subst (IsFirstOfPair g l) (sym same)
   included = keeps.included;
 })
 
--- and a mapping that is kept at its index is in the list of kept mappings
 kept_at : (g : List Reading) (l : List Mapped) (k : ℕ) (before : List Mapped) (x : Mapped) (after ys : List Mapped) → IsMadeFrom (Keeps g l) k (before ++ (x ∷ after)) ys → IsKeptAt g l (k + length before) x → Any (λ y. y ≡ x) ys
 kept_at g l k [] x after ys (None, rest, none, more, is) stays = absurd (none x (refl, subst (λ (n : ℕ). IsKeptAt g l n x) (omega arith) stays))
 kept_at g l k [] x after ys (Some z, rest, keeps, more, is) stays = subst (Any (λ y. y ≡ x)) (sym is) (inl keeps.0)

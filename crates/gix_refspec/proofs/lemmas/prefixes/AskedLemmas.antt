@@ -13,16 +13,11 @@ use Rattle.gix_refspec_match.proofs.lemmas.lists.SomeLemmas.{Any, Any-all, Any-r
 use Rattle.gix_refspec.proofs.lemmas.prefixes.CoverLemmas.{source_asked}
 use Rattle.gix_refspec.proofs.lemmas.keep.FilterLemmas.{fewer_items}
 
--- ---- sides without a list, and lists that aren't empty
-
 pub list_as : (x : List ℕ) (k : SideKind) (list : List (List ℕ)) → HasKind x k → ListsSide x list → ListsAs k list
 list_as x k list kind lists = subst (λ (l : SideKind). ListsAs l list) (one_kind x lists.kind k lists.of kind) lists.is
 
--- a pattern without a ref prefix has no list
 pub no_list : (x before after : List ℕ) → IsSplit before after x → ¬ (IsRefPrefix before []) → (list : List (List ℕ)) → ¬ (ListsSide x list)
 no_list x before after split vague list lists = vague (list_as x (pattern before after) list split lists).0
-
--- ---- what begins with an entry
 
 abbrev BeginsWithSome : List ℕ → List (List ℕ) → Type 0
 BeginsWithSome n list = Any (λ p. BeginsWith p n) list
@@ -38,14 +33,12 @@ kind_serves x (partial n) list r word of no_object matches lists = subst (Begins
 pub side_serves : (x : List ℕ) (list : List (List ℕ)) (r : Ref) (word : Option (List ℕ)) → ((bytes : List ℕ) → ¬ (HasKind x (object bytes))) → Matches x r word → ListsSide x list → BeginsWithSome r.name list
 side_serves x list r word no_object matches lists = kind_serves x matches.kind list r word matches.of no_object matches.is (list_as x matches.kind list matches.of lists)
 
--- so does the name of an item that a fetch takes
 reading_asks : (r : Reading) (A : List Ref) (item : Ref) (list : List (List ℕ)) → r.operation ≡ Fetch → TakesItem AreForwardEnds (Takes A) item r → Lists r list → BeginsWithSome item.name list
 reading_asks r A item list fetch takes (inl (negative, empty)) = absurd (subst IsPositive negative takes.has.positive)
 reading_asks r A item list fetch takes (inr (x, asked, told)) =
     let near = source_asked r takes.ends fetch takes.has in
     side_serves takes.ends.near list item takes.word takes.has.no_object takes.takes.matches (subst (λ (y : List ℕ). ListsSide y list) (one_asked r x takes.ends.near asked near) told)
 
--- and of one that it pairs
 reading_serves : (r : Reading) (items : List Ref) (n : List ℕ) (far : Option (List ℕ)) (list : List (List ℕ)) → r.operation ≡ Fetch → PairsItem AreForwardEnds (Takes items) items n far r → Lists r list → BeginsWithSome n list
 reading_serves r items n far list fetch pairs lists =
     let (index, item, below, at, one) = pairs.one in
@@ -70,9 +63,6 @@ pub asked_items : (g : List Reading) (A B : List Ref) → AskedItems g A B
 asked_items g A B list told fetches are kept fewer of_all of_part =
     (fewer_items g A B).forward are.part (λ item there any. are.asked item there (group_begins (TakesItem AreForwardEnds (Takes A) item) item.name (λ r names fetch takes told. reading_asks r A item names fetch takes told) g list fetches any told)) kept fewer of_all of_part
 
--- ---- the lists that the code makes
-
--- the list of the side on the remote is that of the spec
 pub list_of_side : (r : Reading) (x : List ℕ) (asked : Option (Vec BString Global)) → IsAsked r x → MatchOption asked ((list : List (List ℕ)) → ¬ (ListsSide x list)) (λ v. ListsSide x (map bstring_bytes v.items)) → MatchOption asked ((list : List (List ℕ)) → ¬ (Lists r list)) (λ v. Lists r (map bstring_bytes v.items))
 list_of_side r x None is none = λ list lists. by_cases lists (λ negative. subst IsPositive negative.0 is.positive)
     (λ other. none list (subst (λ (z : List ℕ). ListsSide z list) (one_asked r other.0 x other.1 is) other.2))
@@ -88,7 +78,6 @@ lists_once r a b (inl (negative, empty)) (inr (x, asked, lists)) = absurd (subst
 lists_once r a b (inr (x, asked, lists)) (inl (negative, empty)) = absurd (subst IsPositive negative asked.positive)
 lists_once r a b (inr (x, asked, one)) (inr (y, also, other)) = as_once one.kind a b one.is (list_as x one.kind b one.of (subst (λ (z : List ℕ). ListsSide z b) (one_asked r y x also asked) other))
 
--- if the list of a group is empty, so is that of each of its specs
 pub nothing_at : (specs : List RefSpecRef) (i : ℕ) (spec : RefSpecRef) → i < length specs → spec ≡ get_or specs i spec → ListsGroup (map reading_of specs) [] → Lists (reading_of spec) []
 nothing_at specs i spec below is asks =
     nothing_joined (λ k r names. Lists r names) 0 (map reading_of (take i specs)) (reading_of spec) (map reading_of (drop (suc i) specs))
@@ -97,13 +86,11 @@ nothing_at specs i spec below is asks =
 pub asks_no_names : (specs : List RefSpecRef) (i : ℕ) (spec : RefSpecRef) (names : List BString) → i < length specs → spec ≡ get_or specs i spec → Lists (reading_of spec) (map bstring_bytes names) → ListsGroup (map reading_of specs) [] → length names ≡ 0
 asks_no_names specs i spec names below is lists asks = sym (length-map names bstring_bytes) ∙ ap length (lists_once (reading_of spec) (map bstring_bytes names) [] lists (nothing_at specs i spec below is asks))
 
--- the list of one more spec is appended
 pub one_more_list : (specs : List RefSpecRef) (i : ℕ) (spec : RefSpecRef) (list names new : List BString) → i < length specs → spec ≡ get_or specs i spec → new ≡ list ++ names → Lists (reading_of spec) (map bstring_bytes names) → ListsGroup (map reading_of (take i specs)) (map bstring_bytes list) → ListsGroup (map reading_of (take (i + 1) specs)) (map bstring_bytes new)
 one_more_list specs i spec list names new below is appended lists so_far =
     subst (ListsGroup (map reading_of (take (i + 1) specs))) (sym (map-append bstring_bytes list names) ∙ ap (map bstring_bytes) (sym appended))
     (subst (λ (g : List Reading). ListsGroup g (map bstring_bytes list ++ map bstring_bytes names)) (ap (λ (s : RefSpecRef). map reading_of (take i specs) ++ reading_of s ∷ []) is ∙ sym (map_more reading_of specs i spec below))
     (joined_next (λ k r found. Lists r found) i (map reading_of (take i specs)) (reading_of spec) (map bstring_bytes list) (map bstring_bytes names) (map_long reading_of specs i below) so_far lists))
 
--- a group has no list if one spec has none
 pub none_at : (specs : List RefSpecRef) (i : ℕ) (spec : RefSpecRef) → i < length specs → spec ≡ get_or specs i spec → ((list : List (List ℕ)) → ¬ (Lists (reading_of spec) list)) → HasNoList (map reading_of specs)
 none_at specs i spec below is none = (i, reading_of spec, omega (arith, below, length-map specs reading_of), get_or-map reading_of specs i spec (reading_of spec) below ∙ ap reading_of (sym is), none)

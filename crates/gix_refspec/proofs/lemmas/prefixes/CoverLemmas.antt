@@ -10,24 +10,19 @@ use Rattle.gix_refspec_match.proofs.lemmas.lists.SomeLemmas.{Any-right, Any-weak
 use Rattle.gix_refspec.proofs.lemmas.MadeLemmas.{any_at, each_joined, each_made, map_each, stays_each}
 use Rattle.gix_refspec.proofs.lemmas.keep.PairMadeLemmas.{one_name}
 
--- ---- one side
-
 pub below_not_head : (x : List ℕ) → BeginsWith (codes "refs/") x → x ≢ head
 below_not_head x below is = let first : 114 ≡ 72 = ap (λ (y : List ℕ). get_or y 0 0) (sym below.here ∙ is) in omega (arith, first)
 
--- a side without a star that doesn't begin `refs/`, and hasn't the kind of an id, isn't an id
 matched_no_id : (x : List ℕ) (k : SideKind) → Lacks star x → ¬ (BeginsWith (codes "refs/") x) → ((bytes : List ℕ) → ¬ (HasKind x (object bytes))) → HasKind x k → ¬ (IsId x)
 matched_no_id x (pattern before after) lacks outside none kind = absurd (lacks_no_pattern x before after lacks kind)
 matched_no_id x (full_name n) lacks outside none kind = absurd (outside kind.2)
 matched_no_id x (object bytes) lacks outside none kind = absurd (none bytes kind)
 matched_no_id x (partial n) lacks outside none kind = kind.3
 
--- a candidate begins with itself
 candidate_begins : (x n : List ℕ) → IsCandidate x n → BeginsWithOne (candidates x) n
 candidate_begins x n one = subst (λ (names : List (List ℕ)). BeginsWithOne names n) (sym one.here)
     (at_place (λ entry. BeginsWith entry n) _ (Any-right _ one.earlier (n ∷ one.later) (inl (record { after = []; here = sym (append-nil n) }))))
 
--- each name that a covering side matches begins with an entry of its expansion
 pub side_covers : (x : List ℕ) (r : Ref) (word : Option (List ℕ)) → IsCovering x → ((bytes : List ℕ) → ¬ (HasKind x (object bytes))) → Matches x r word → (entries : List (List ℕ)) × Expands x entries × BeginsWithOne entries r.name
 side_covers x r word (by_prefix p below is) no_object matches = (
   p ∷ [],
@@ -38,13 +33,9 @@ side_covers x r word (by_candidates lacks other outside) no_object matches =
     let has = has_candidates x lacks other outside (matched_no_id x matches.kind lacks outside no_object matches.of) in
     (candidates x, has.expands, candidate_begins x r.name ((has.matches r).0 (word, matches)))
 
--- ---- one spec
-
--- the side of a positive fetch on the remote is its source
 pub source_asked : (r : Reading) (ends : Ends) → r.operation ≡ Fetch → AreForwardEnds r ends → IsAsked r ends.near
 source_asked r ends fetch are = record { positive = are.positive; side = ap (λ (op : Operation). side_on_remote op r.source r.destination) fetch ∙ are.near }
 
--- the expansion of a spec covers a name that it takes, if `AsksFor` holds
 hit_covered : (r : Reading) (ends : Ends) (items : List Ref) (k j : ℕ) (item : Ref) (hit : Hit) → AreForwardEnds r ends → IsHit (Takes items) ends k j item hit → AsksFor r hit.near → IsCoveredBy hit.near r
 hit_covered r ends items k j item hit are is (inl covering) =
     let asked = source_asked r ends covering.fetch are in
@@ -55,8 +46,6 @@ hit_covered r ends items k j item hit are is (inr (fetch, asked, named)) = recor
   expansion = inl (head, asked, to_prefix head (of_head refl refl) refl);
   one = (0, head, omega arith, refl, record { after = []; here = named ∙ sym (append-nil head) });
 }
-
--- ---- a group
 
 -- the expansion of the spec of the hit covers the name of the hit, if `AsksFor` holds
 abbrev IsHitCovered : List Reading → Hit → Type 0
@@ -86,7 +75,6 @@ forward_covered g items all are =
 pub cover : (g : List Reading) (items : List Ref) → Cover g items
 cover g items kept stays = stays_each (λ k m. IsKeptAt g stays.all k m) (λ m. (n : List ℕ) → m.source ≡ name n → IsSourceCovered g m n) 0 stays.all kept (forward_covered g items stays.all stays.forward) stays.is
 
--- a spec has one expansion
 expansion_once : (r : Reading) (list other : List (List ℕ)) → IsExpansion r list → IsExpansion r other → list ≡ other
 expansion_once r list other (inl (x, asked, a)) (inl (y, also, b)) = (one_prefix x).expanded list other a (subst (λ (z : List ℕ). Expands z other) (one_asked r y x also asked) b)
 expansion_once r list other (inl (x, asked, a)) (inr (unasked, b)) = absurd (unasked x asked)
@@ -99,7 +87,6 @@ joined_covers n g k entries covered joined =
     at_place (λ entry. BeginsWith entry n) entries (any_joined (λ i r list. IsExpansion r list) (λ entry. BeginsWith entry n) k g entries joined
     (Any-weaker (IsCoveredBy n) _ (λ r of i list expands. some_of _ list (subst (λ (names : List (List ℕ)). BeginsWithOne names n) (expansion_once r of.entries list of.expansion expands) of.one)) g (some_of _ g covered)))
 
--- what holds of the reading at an index holds of some reading
 pub some_at : (P : Reading → Type 0) (g : List Reading) (i : ℕ) (r : Reading) → slice_get g i ≡ Some r → P r → Any P g
 some_at P g i r here holds = any_at P g i r here holds
 

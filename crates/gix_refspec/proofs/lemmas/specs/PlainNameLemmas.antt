@@ -7,13 +7,10 @@ use Rattle.std.proofs.lemmas.List.Splits.{join_with_byte-slice_split}
 use Rattle.gix_refspec_text.specs.declared.name.Error.{Error}
 use Rattle.gix_refspec_text.proofs.lemmas.texts.ComponentLemmas.{AllByRecursion-parts}
 
--- ---- bytes
-
 -- b is a slash, or isn't special
 abbrev Fine : ℕ → Type 0
 Fine b = (b ≡ slash) ⊎ (is_special_byte b ≡ false)
 
--- no byte of a plain component is special
 fine_bytes : (w : List ℕ) → list_any is_special_byte w ≡ false → AllByRecursion Fine w
 fine_bytes [] none = tt
 fine_bytes (b ∷ w) none = let parts = or_parts (is_special_byte b) (list_any is_special_byte w) none in (inr parts.0, fine_bytes w parts.1)
@@ -30,15 +27,12 @@ joined_fine (w ∷ v ∷ parts) plain =
     let each = and_parts (is_plain_component w) (list_all is_plain_component (v ∷ parts)) plain in
     all_join Fine w (slash ∷ join_with_byte slash (v ∷ parts)) (none_special w each.0) (inl refl, joined_fine (v ∷ parts) each.1)
 
--- so no special byte but a slash is there
 not_there : (b : ℕ) (before after x : List ℕ) → b ≢ slash → is_special_byte b ≡ true → AllByRecursion Fine x → x ≡ before ++ (b ∷ after) → ⊥
 not_there b before after x other special fine here = by_cases (AllByRecursion-parts Fine before b after (subst (AllByRecursion Fine) here fine)) (λ same. other same)
     (λ none. true≢false (sym special ∙ none))
 
 no_dot : (before after x : List ℕ) → AllByRecursion Fine x → ¬ (x ≡ before ++ (dot ∷ after))
 no_dot before after x fine here = not_there dot before after x (λ e. omega (arith, e)) refl fine here
-
--- ---- components
 
 -- what holds of no plain component holds of no component of a plain name
 no_such : (P : List ℕ → Type 0) (x : List ℕ) → ((w : List ℕ) → is_plain_component w ≡ true → ¬ (P w)) → is_plain_name x ≡ true → ¬ (SomeComponent P x)
@@ -47,8 +41,6 @@ no_such P x unless plain = no_component P x (each (slice_split (λ b. b == slash
     each : (parts : List (List ℕ)) → list_all is_plain_component parts ≡ true → AllByRecursion (λ w. ¬ (P w)) parts
     each [] all = tt
     each (w ∷ parts) all = let both = and_parts (is_plain_component w) (list_all is_plain_component parts) all in (unless w both.0, each parts both.1)
-
--- ---- faults
 
 faultless : (x : List ℕ) → is_plain_name x ≡ true → AllByRecursion Fine x → (e : Error) → ¬ (HasFault x e)
 faultless x plain fine Empty fault = false≢true (ap is_plain_name (sym fault) ∙ plain)
@@ -60,7 +52,6 @@ faultless x plain fine RepeatedDot fault = no_dot fault.before (dot ∷ fault.af
 faultless x plain fine ReflogPortion fault =
     not_there brace (fault.before ++ at ∷ []) fault.after x (λ e. omega (arith, e)) refl fine (fault.here ∙ sym (append_assoc fault.before (at ∷ []) (brace ∷ fault.after)))
 faultless x plain fine Asterisk fault = not_there star fault.before fault.after x (λ e. omega (arith, e)) refl fine fault.here
--- a refused byte is special, and isn't a slash
 faultless x plain fine (InvalidByte b) fault =
     not_there b fault.0.before fault.0.after x (λ same. false≢true (ap is_refused_byte (sym same) ∙ fault.1)) (or_left (is_refused_byte b) (list_any (λ c. b == c) (codes "*/.{")) fault.1) fine fault.0.here
 

@@ -12,11 +12,9 @@ use Rattle.gix_refspec.proofs.lemmas.validate.MadeAtLemmas.{item_indexes_fit, Fo
 use Rattle.gix_refspec_text.proofs.lemmas.texts.ObjectIdLemmas.{IsIdText-unique}
 use Rattle.std.specs.List.Retain.{ReturnsInTurn, IsFiltered}
 
--- mappings that came from items have their specs in the group
 pub forward_fits : (g : List Reading) (items : List Ref) → ForwardFits g items
 forward_fits g items l kept = all_weaker (ForwardIndexes g items) (λ m. m.spec < length g) (λ m fit. fit.spec) l ((item_indexes_fit g items).forward l kept)
 
--- kept mappings have no duplicate pairs, if the list has none
 pub apart_still : (S : ℕ → Mapped → Type 0) (k : ℕ) (xs ys : List Mapped) → AreApart xs → IsMadeFrom (λ j x y. (y ≡ x) × S j x) k xs ys → AreApart ys
 apart_still S k [] ys apart empty = subst AreApart (sym empty) tt
 apart_still S k (x ∷ xs) ys apart (None, rest, none, more, is) = subst AreApart (sym is) (apart_still S (k + 1) xs rest apart.1 more)
@@ -25,7 +23,6 @@ apart_still S k (x ∷ xs) ys apart (Some y, rest, one, more, is) = subst AreApa
   apart_still S (k + 1) xs rest apart.1 more,
 )
 
--- mappings with one source for each destination, and without duplicate pairs, have distinct destinations
 distinct_destinations : (l : List Mapped) → DestinationsHaveOneSource l → AreApart l → HaveDistinctDestinations l
 distinct_destinations [] one apart = tt
 distinct_destinations (m ∷ l) one apart = (
@@ -39,23 +36,19 @@ distinct_destinations (m ∷ l) one apart = (
     within : (n : Mapped) → Contains l n → Contains (m ∷ l) n
     within n (k, below, is) = (suc k, omega (arith, below), is)
 
--- mappings without conflicts have one source for each destination
 pub free_one_source : (g : List Reading) (l : List Mapped) → AreConflicts g l [] → DestinationsHaveOneSource l
 free_one_source g l free m n d has_m has_n m_to n_to = by_cases (start_cases m.source n.source) (λ same. same) (λ apart.
     let none = free.every d (record { one = m; other = n; has_one = has_m; has_other = has_n; one_to = m_to; other_to = n_to; differ = apart }) in let inside = none.1 in absurd (omega (arith, inside)))
 
--- so if they came from items, no two have the same destination
 pub kept_distinct_destinations : (g : List Reading) (items : List Ref) (l : List Mapped) → AreKeptForward g items l → AreConflicts g l [] → HaveDistinctDestinations l
 kept_distinct_destinations g items l kept free = distinct_destinations l (free_one_source g l free) (kept_once g kept.all l kept.is)
 
--- the remaining mappings have one source for each destination
 one_source : (g : List Reading) (l rest : List Mapped) (fixes : List Removed) → IsValidated g l rest fixes → DestinationsHaveOneSource rest
 one_source g l rest fixes valid m n d has_m has_n m_to n_to = free_one_source g l valid.free m n d (was m has_m) (was n has_n) m_to n_to
   where
     was : (m : Mapped) → Contains rest m → Contains l m
     was m (k, below, is) = subst (Contains l) is (All-from_recursion (Contains l) rest (stays_each (λ j x. Survives x) (Contains l) 0 l rest (recursion_from_All (Contains l) l (All-contains_itself l)) valid.survive) k m below)
 
--- and if there were no duplicate pairs, they have distinct destinations
 pub distinct_destinations_after : (g : List Reading) (l rest : List Mapped) (fixes : List Removed) → IsValidated g l rest fixes → AreApart l → HaveDistinctDestinations rest
 distinct_destinations_after g l rest fixes valid apart = distinct_destinations rest (one_source g l rest fixes valid) (apart_still (λ k m. Survives m) 0 l rest apart valid.survive)
 
@@ -64,7 +57,6 @@ validated_once g items l rest fixes valid = (one_source g l rest fixes valid, λ
 
 -- ---- plans
 
--- no two fixes have the same destination, if no two mappings have
 fixes_apart : (g : List Reading) (k : ℕ) (l : List Mapped) (fixes : List Removed) → HaveDistinctDestinations l → IsMadeFrom (λ j m fix. IsFix g m fix) k l fixes → AreFixesApart fixes
 fixes_apart g k [] fixes apart empty = subst AreFixesApart (sym empty) tt
 fixes_apart g k (m ∷ l) fixes apart (None, rest, no_fix, more, is) = subst AreFixesApart (sym is) (fixes_apart g (k + 1) l rest apart.1 more)
@@ -124,7 +116,6 @@ one_more R P f ms i m zs new z below is grown one so_far = (
   λ empty. absurd (omega (arith, length-append zs (z ∷ []), ap length grown, ap length empty)),
 )
 
--- if P holds of a whole list, all of it is kept
 pub kept_whole : (P : Mapped → Type 0) (k : ℕ) (l : List Mapped) → AllByRecursion P l → IsMadeFrom (λ j m made. (made ≡ m) × P m) k l l
 kept_whole P k [] all = refl
 kept_whole P k (m ∷ l) all = (Some m, l, (refl, all.0), kept_whole P (k + 1) l all.1, refl)
@@ -135,7 +126,6 @@ no_fix_written g m n to writable fix is =
     let same : name_bytes n ≡ fix.destination = cc in
     is.unwritable (subst IsWritable same writable)
 
--- the fix of a mapping to a name that can't be written
 pub fix_of : (specs : List RefSpecRef) (m : Mapping) (n : NameRef) (spec : RefSpecRef) (fix : Removed) → m.rhs ≡ Some n → ¬ (IsWritable (name_bytes n)) → m.spec_index < length specs → spec ≡ get_or specs m.spec_index spec → fix.destination ≡ name_bytes n → fix.spec ≡ reading_of spec → IsFix (map reading_of specs) (mapped_of m) fix
 fix_of specs m n spec fix to unwritable below is destination reads = record {
   goes = ap (option_map name_bytes) to ∙ ap Some (sym destination);

@@ -23,7 +23,6 @@ record IsClearFetch (b : ℕ) (r : Reading) : Type 0 where
   is : r ≡ fetched mode source destination
 
 module _ (b : ℕ) (below : b < 32) (refused : IsTrue (is_refused_byte b)) where
-  -- names and patterns contain no such byte
   name_lacks : (x : List ℕ) → IsName x → Lacks b x
   name_lacks x named = Lacks-from_absent b x (λ holds. named (InvalidByte b) (holds, refused))
 
@@ -86,7 +85,6 @@ module _ (b : ℕ) (below : b < 32) (refused : IsTrue (is_refused_byte b)) where
   clear_fetch text r (pushes_to mode s d op positive parts full lacks named is) = absurd (push_is_none (sym op))
   clear_fetch text r (push_excludes s op parts either unlike is) = absurd (push_is_none (sym op))
 
-  -- nor do the sides of fetches, and their canonical texts
   sides_lack : (text : List ℕ) (r : Reading) → Reads Fetch text r → SidesLack b r
   sides_lack text r reads = let fetch = clear_fetch text r reads in subst (SidesLack b) (sym fetch.is) (fetch.first, fetch.last)
 
@@ -144,7 +142,6 @@ module _ (b : ℕ) (below : b < 32) (no_digit : is_lower_digit b ≡ false) wher
       (λ j x h clear hit. (subst (Lacks b) (sym hit.near) clear, far_lacks ends.far hit.word h.far hit.far (subst (LacksIn b) has.far sides.1) (word_lacks hit.takes.matches.kind x hit.word hit.takes.matches.is clear))) 0 items hits names made
   spec_lacks items k r hits names sides (inr (none, empty)) = subst (AllByRecursion (HitLacks b)) (sym empty) tt
 
-  -- nor does any kept mapping
   kept_lacks : (g : List Reading) (items : List Ref) (l : List Mapped) → AllByRecursion (SidesLack b) g → AllByRecursion (λ r. Lacks b r.name) items → AreKeptForward g items l → AllByRecursion (MappedLacks b) l
   kept_lacks g items l sides names kept =
       let are = kept.forward in

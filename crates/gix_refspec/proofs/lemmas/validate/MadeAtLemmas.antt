@@ -7,8 +7,6 @@ use Rattle.gix_refspec.proofs.Common.{ForwardIndexes, ItemIndexesFit, BackwardIn
 use Rattle.gix_refspec.proofs.lemmas.MadeLemmas.{back, there, each_joined, each_made, map_each, stays_each}
 use Rattle.gix_refspec_match.proofs.lemmas.lists.SomeLemmas.{Any-both, Any-weaker, any_made, made_any}
 
--- ---- hits
-
 -- the spec of the hit takes its item
 record IsTakenHit (HasEnds : Reading → Ends → Type 0) (Taken : List ℕ → Ref → Option (List ℕ) → Type 0) (g : List Reading) (items : List Ref) (h : Hit) : Type 0 where
   reading : Reading
@@ -26,8 +24,6 @@ spec_takes HasEnds Taken g items k r hits here (inr (none, empty)) = subst (AllB
 
 hits_taken : (HasEnds : Reading → Ends → Type 0) (Taken : List ℕ → Ref → Option (List ℕ) → Type 0) (g : List Reading) (items : List Ref) (hits : List Hit) → AreHits HasEnds Taken g items hits → AllByRecursion (IsTakenHit HasEnds Taken g items) hits
 hits_taken HasEnds Taken g items hits are = each_joined (AreSpecHits HasEnds Taken items) (IsTakenHit HasEnds Taken g items) g hits (spec_takes HasEnds Taken g items) are
-
--- ---- mappings
 
 abbrev pub ForwardAt : List Reading → List Ref → Mapped → Type 0
 ForwardAt g items m = AtSpec g m (MakesForwardOf items m.item m.source m.destination)
@@ -72,7 +68,6 @@ made_at_indexes g items = record {
   backward = λ kept are. stays_each (λ k m. IsKeptAt g are.all k m) (BackwardAt g items) 0 are.all kept (backward_all g items are.all are.backward) are.is;
 }
 
--- so the indexes fit
 fits_forward : (g : List Reading) (items : List Ref) (m : Mapped) (s : Source) → m.source ≡ s → AtSpec g m (MakesForwardOf items m.item s m.destination) → ForwardIndexes g items m
 fits_forward g items m (name n) is (r, here, at) = record {
   spec = slice_get_within g m.spec r here;
@@ -95,8 +90,6 @@ item_indexes_fit g items = record {
   backward = λ l are. all_weaker (BackwardAt g items) (BackwardIndexes g items) (λ m at. fits_backward g items m m.source m.destination refl at) l ((made_at_indexes g items).backward l are);
   validated = λ l rest fixes valid fit. stays_each (λ j x. Survives x) (ForwardIndexes g items) 0 l rest fit valid.survive;
 }
-
--- ---- what remains
 
 exactly : (S : Mapped → Type 0) (xs ys : List Mapped) → IsMadeFrom (λ j x y. (y ≡ x) × S x) 0 xs ys → (m : Mapped) → Contains ys m ↔ (Contains xs m × S m)
 exactly S xs ys made m = (

@@ -8,24 +8,18 @@ use Rattle.gix_refspec_match.proofs.lemmas.lists.ListsLemmas.{made_once}
 use Rattle.gix_refspec_match.proofs.lemmas.lists.SomeLemmas.{Any, Any-all, Any-fact, Any-from_map}
 use Rattle.gix_refspec.proofs.lemmas.validate.RefNameLemmas.{copied_mapping}
 
--- ---- conflicts
-
--- a text after another in a sorted list is greater
 above : (x d : List ℕ) (xs : List (List ℕ)) → AllByRecursion (λ y. slice_cmp nat_cmp x y ≡ Less) xs → Any (λ y. y ≡ d) xs → slice_cmp nat_cmp x d ≡ Less
 above x d xs all any = Any-fact _ xs (Any-all _ _ _ (λ y less here. subst (λ (z : List ℕ). slice_cmp nat_cmp x z ≡ Less) here less) xs all any)
 
--- two sorted lists whose first texts are in each other have the same first text
 same_first : (x y : List ℕ) (xs ys : List (List ℕ)) → AllByRecursion (λ z. slice_cmp nat_cmp x z ≡ Less) xs → AllByRecursion (λ z. slice_cmp nat_cmp y z ≡ Less) ys → Any (λ z. z ≡ x) (y ∷ ys) → Any (λ z. z ≡ y) (x ∷ xs) → x ≡ y
 same_first x y xs ys over_x over_y (inl here) back = sym here
 same_first x y xs ys over_x over_y (inr later) (inl here) = here
 same_first x y xs ys over_x over_y (inr later) (inr also) = absurd (not_below_itself x (below_trans x y x (above x y xs over_x also) (above y x ys over_y later)))
 
--- a text after the first of one list is after the first of the other
 behind : (x y d : List ℕ) (xs ys : List (List ℕ)) → x ≡ y → AllByRecursion (λ z. slice_cmp nat_cmp x z ≡ Less) xs → Any (λ z. z ≡ d) xs → Any (λ z. z ≡ d) (y ∷ ys) → Any (λ z. z ≡ d) ys
 behind x y d xs ys same over any (inl here) = absurd (not_below_itself x (subst (λ (z : List ℕ). slice_cmp nat_cmp x z ≡ Less) (sym (same ∙ here)) (above x d xs over any)))
 behind x y d xs ys same over any (inr later) = later
 
--- two sorted lists with the same texts are equal
 one_order : (xs ys : List (List ℕ)) → IsStrictlySortedBy (slice_cmp nat_cmp) xs → IsStrictlySortedBy (slice_cmp nat_cmp) ys → ((d : List ℕ) → Any (λ x. x ≡ d) xs → Any (λ x. x ≡ d) ys) → ((d : List ℕ) → Any (λ x. x ≡ d) ys → Any (λ x. x ≡ d) xs) → xs ≡ ys
 unfolding IsStrictlySortedBy
 one_order [] [] rise also to back = refl
@@ -36,19 +30,16 @@ one_order (x ∷ xs) (y ∷ ys) rise also to back =
     let rest : xs ≡ ys = one_order xs ys rise.1 also.1 (λ d any. behind x y d xs ys first rise.0 any (to d (inr any))) (λ d any. behind y x d ys xs (sym first) also.0 any (back d (inr any))) in
     ap (λ (z : List ℕ). z ∷ xs) first ∙ ap (λ (zs : List (List ℕ)). y ∷ zs) rest
 
--- the destinations of conflicts are among those of all conflicts
 contested : (g : List Reading) (l : List Mapped) (cs other : List Conflict) (d : List ℕ) → AllByRecursion (IsConflict g l) cs → AreConflicts g l other → Any (λ x. x ≡ d) (map (λ (c : Conflict). c.destination) cs) → Any (λ x. x ≡ d) (map (λ (c : Conflict). c.destination) other)
 contested g l cs other d each are any =
     let destinations = map (λ (c : Conflict). c.destination) other in
     Any-fact _ cs (Any-all (IsConflict g l) _ _ (λ c is here. subst (λ (z : List ℕ). Any (λ x. x ≡ z) destinations) here (there destinations c.destination (are.every c.destination is.contested))) cs each (Any-from_map _ (λ (c : Conflict). c.destination) cs any))
 
--- an index has one text
 one_text : (g : List Reading) (index : ℕ) (text other : List ℕ) → IsTextAt g index text → IsTextAt g index other → text ≡ other
 one_text g index text other (r, stands, prints) (q, stood, also) =
     let reading : q ≡ r = same_Some q r (sym stood ∙ stands) in
     same_Some text other (sym prints ∙ subst (λ (z : Reading). printed z ≡ Some other) reading also)
 
--- a destination has one conflict
 one_conflict : (g : List Reading) (l : List Mapped) (c e : Conflict) → c.destination ≡ e.destination → IsConflict g l c → IsConflict g l e → c ≡ e
 one_conflict g l c e same a b =
     let to = c.destination in
@@ -67,9 +58,6 @@ one_list g l (c ∷ cs) (e ∷ other) a b same =
     ap (λ (x : Conflict). x ∷ cs) (one_conflict g l c e first a.0 b.0) ∙ ap (λ (xs : List Conflict). e ∷ xs) (one_list g l cs other a.1 b.1 rest)
 one_list g l cs other a b same = absurd (cc)
 
--- ---- survivors and fixes
-
--- a mapping has one fix
 one_fix : (g : List Reading) (m : Mapped) (a b : Removed) → IsFix g m a → IsFix g m b → a ≡ b
 one_fix g m a b is_a is_b =
     let destination = same_Some a.destination b.destination (sym is_a.goes ∙ is_b.goes) in
@@ -83,8 +71,6 @@ one_validation g l = record {
   survivors = λ rest other a b. made_once (λ k m made. (made ≡ m) × Survives m) (λ k m x y is_x is_y. is_x.0 ∙ sym is_y.0) 0 l rest other a b;
   fixes = λ fixes other a b. made_once (λ k m fix. IsFix g m fix) (λ k m x y is_x is_y. one_fix g m x y is_x is_y) 0 l fixes other a b;
 }
-
--- ---- copies
 
 copied_mappings : (ms copies : List Mapping) → AreMappingCopies ms copies → map mapped_of copies ≡ map mapped_of ms
 copied_mappings [] [] are = refl

@@ -12,7 +12,6 @@ use Rattle.gix_refspec.proofs.lemmas.validate.ConflictLemmas.{copied_name, copie
 use Rattle.gix_refspec_text.proofs.lemmas.texts.HeadLemmas.{IsName-head}
 use Rattle.gix_refspec_match.proofs.lemmas.keep.KeptLemmas.{kept_once}
 
--- a mapping with an invalid side doesn't have ref names
 pub bad_unnamed : (side : InvalidSide) (m : Mapped) → IsInvalidAt side m → ¬ (HasRefNames m)
 bad_unnamed Destination m bad named = bad.1 named.destination
 bad_unnamed side m bad named = bad.0 named.source
@@ -26,14 +25,11 @@ copied_destination None None copy = refl
 copied_destination (Some n) (Some m) copy = ap Some (copied_name n m copy)
 copied_destination d e copy = absurd copy
 
--- a copy of a mapping is the same as plain data
 pub copied_mapping : (m copy : Mapping) → IsMappingCopy m copy → mapped_of copy ≡ mapped_of m
 copied_mapping m copy is =
     let source = copied_source m.lhs copy.lhs is.source in
     let destination = copied_destination m.rhs copy.rhs is.destination in
     λ i. record { item = is.item i; source = source i; destination = destination i; spec = is.spec i }
-
--- ---- names and paths
 
 pub name_of_ref : (n : List ℕ) → IsRefName n → IsName n
 name_of_ref n ref = by_cases ref (λ full. full.1) (λ is. subst IsName (sym is) IsName-head)
@@ -41,7 +37,6 @@ name_of_ref n ref = by_cases ref (λ full. full.1) (λ is. subst IsName (sym is)
 pub below_refs : (n : List ℕ) → IsRefName n → BeginsWith (codes "refs/") n ⊎ (n ≡ head)
 below_refs n ref = by_cases ref (λ full. inl full.0) (λ is. inr is)
 
--- no component of a name is empty or begins with a dot
 components_fine : (n : List ℕ) → IsName n → (before parts : List (List ℕ)) → ArePartsAt slash (before ++ parts) n → AllByRecursion (λ w. (w ≢ []) × ¬ (BeginsWith (codes ".") w)) parts
 components_fine n is before [] are = tt
 components_fine n is before (w ∷ after) are = (
@@ -58,7 +53,6 @@ plain_byte b fine = (
   λ delete. fine (subst (λ c. IsTrue (is_refused_byte c)) (sym delete) refl),
 )
 
--- no byte of a name is a control character
 bytes_fine : (n : List ℕ) → IsName n → (before rest : List ℕ) → n ≡ before ++ rest → AllByRecursion (λ b. (32 ≤ b) × (b ≢ 127)) rest
 bytes_fine n is before [] here = tt
 bytes_fine n is before (b ∷ rest) here = (
@@ -71,8 +65,6 @@ stays_among_refs n ref =
     let is = name_of_ref n ref in
     record { below = below_refs n ref; components = λ parts are. components_fine n is [] parts are; bytes = bytes_fine n is [] n refl }
 
--- ---- what is kept
-
 named_writes : (m : Mapped) → HasRefNames m → WritesRef m
 named_writes m named d to =
     let ref : IsRefName d = subst IsValidDestination to named.destination in
@@ -81,7 +73,6 @@ named_writes m named d to =
 each_named : (l named : List Mapped) → HaveRefNames l named → AllByRecursion HasRefNames named
 each_named l named are = each_made (λ k m made. (made ≡ m) × HasRefNames m) HasRefNames l named (λ k m made stands one. subst HasRefNames (sym one.0) one.1) are
 
--- kept mappings have distinct destinations, if all have
 never_meets : (k : ℕ) (l named : List Mapped) → HaveDistinctDestinations l → IsMadeFrom (λ j m made. (made ≡ m) × HasRefNames m) k l named → HaveDistinctDestinations named
 never_meets k [] named apart empty = subst HaveDistinctDestinations (sym empty) tt
 never_meets k (m ∷ l) named apart (None, rest, none, more, is) = subst HaveDistinctDestinations (sym is) (never_meets (k + 1) l rest apart.1 more)

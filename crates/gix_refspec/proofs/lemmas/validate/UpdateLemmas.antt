@@ -1,10 +1,10 @@
 -- Sorted updates, and where they are split.
-use Rattle.gix_refspec.proofs.Common.{Ordering, all_left, all_right, all_join, all_weaker, ◌≡◌, ◌≢◌, ◌⊎◌, inl, inr, ◌↔◌, ℕ, zero, suc, ◌+◌, ◌<◌, ◌≤◌, List, [], ◌∷◌, ◌++◌, None, Some, option_map, Bool, true}
-use Rattle.gix_refspec.proofs.Common.{false, not, length, map, take, drop, get_or, refl, sym, ap, ◌∙◌, subst, arith, AllByRecursion, Contains, slice_get, IsPermutation, IsSorted, IsStrictlySortedBy, Less}
-use Rattle.gix_refspec.proofs.Common.{Equal, Greater, is_lt, nat_cmp, ordering_then, ordering_reverse, slice_cmp, nat_list_cmp_total, cases_lt, false≢true, not-false, not-true, bytes_eq-Decides, bytes_eq}
-use Rattle.gix_refspec.proofs.Common.{get_or-map, length-map, map-append, take-append-drop, take_more, drop_more, length-drop, All-from_recursion, slice_get-map, slice_get_read, slice_get_within, Update}
-use Rattle.gix_refspec.proofs.Common.{Mapping, NameRef, Mapped, mapped_of, name_bytes, IsFlagged, Rises, AreUpdates, GoesTo, HasUpdate, IsRun, update_cmp, updated_indexes, same_texts, both_equal, rules}
-use Rattle.gix_refspec.proofs.Common.{same_Some, by_cases}
+use Rattle.gix_refspec.proofs.Common.{Ordering, all_left, all_right, all_join, all_weaker, ◌≡◌, ◌≢◌, ◌⊎◌, inl, inr, ◌↔◌, ℕ, zero, suc, ◌+◌, ◌<◌, ◌≤◌, List, [], ◌∷◌, ◌++◌, None, Some, option_map, Bool}
+use Rattle.gix_refspec.proofs.Common.{true, false, not, length, map, take, drop, get_or, refl, sym, ap, ◌∙◌, subst, arith, AllByRecursion, Contains, slice_get, IsPermutation, IsSorted}
+use Rattle.gix_refspec.proofs.Common.{IsStrictlySortedBy, Less, Equal, Greater, is_lt, nat_cmp, ordering_then, ordering_reverse, slice_cmp, nat_list_cmp_total, false≢true, not-false, not-true}
+use Rattle.gix_refspec.proofs.Common.{bytes_eq-Decides, bytes_eq, get_or-map, length-map, map-append, take-append-drop, take_more, length-drop, All-from_recursion, slice_get-map, slice_get_read}
+use Rattle.gix_refspec.proofs.Common.{slice_get_within, Update, Mapping, NameRef, Mapped, mapped_of, name_bytes, IsFlagged, Rises, AreUpdates, GoesTo, HasUpdate, IsRun, update_cmp, updated_indexes}
+use Rattle.gix_refspec.proofs.Common.{same_texts, both_equal, rules, same_Some, by_cases, get_or-drop, add-zero}
 use Rattle.std.specs.Cmp.{IsTotalOrder}
 use Rattle.std.proofs.lemmas.Cmp.{nat_cmp_total, on_total, ranked, then_total}
 use Rattle.std.proofs.lemmas.List.Quantifiers.{all_pairs_push}
@@ -64,13 +64,12 @@ strict_from_sorted xs (c ∷ cs) moved rises sorted =
     (λ tied. apart_places (updated_indexes xs) (updated_indexes ys) (IsPermutation-map (λ (u : Update). u.index) xs ys moved) rises i (i + 1) 0 (omega arith) (omega (arith, below, length-map ys (λ (u : Update). u.index)))
     (get_or-map (λ (u : Update). u.index) ys i c 0 (omega (arith, below)) ∙ sym (ranked y.index x.index Equal (sym (both_equal (slice_cmp nat_cmp y.destination.now x.destination.now) (nat_cmp y.index x.index) tied).1)) ∙ sym (get_or-map (λ (u : Update). u.index) ys (i + 1) c 0 below))))
 
--- an update of a list, as an element of it
 update_within : (cs : List Update) (k : ℕ) (d : List ℕ) → HasUpdate cs k d → (c : Update) × Contains cs c × (c.index ≡ k) × (c.destination.now ≡ d)
 update_within [] k d has = absurd has
 update_within (c ∷ cs) k d (inl is) = (c, (0, omega arith, refl), is.0, is.1)
-update_within (c ∷ cs) k d (inr has) = let at = update_within cs k d has in (at.0, (suc at.1.0, (let below = at.1.1 in omega (arith, below)), at.1.2), at.2, at.3)
+update_within (c ∷ cs) k d (inr has) = let at = update_within cs k d has in (at.0, (suc at.1.0, omega (arith, at.1.1), at.1.2), at.2, at.3)
 
-update_at : (cs : List Update) (i : ℕ) (c : Update) (k : ℕ) (d : List ℕ) → i < length cs → get_or cs i c ≡ c → c.index ≡ k → c.destination.now ≡ d → HasUpdate cs k d
+pub update_at : (cs : List Update) (i : ℕ) (c : Update) (k : ℕ) (d : List ℕ) → i < length cs → get_or cs i c ≡ c → c.index ≡ k → c.destination.now ≡ d → HasUpdate cs k d
 update_at [] i c k d below is index to = absurd (omega arith)
 update_at (x ∷ cs) zero c k d below is index to = inl (ap (λ (y : Update). y.index) is ∙ index, ap (λ (y : Update). y.destination.now) is ∙ to)
 update_at (x ∷ cs) (suc i) c k d below is index to = inr (update_at cs i c k d (omega arith) is index to)
@@ -93,12 +92,11 @@ pub HasUpdate-cases : (xs ys : List Update) (k : ℕ) (d : List ℕ) → HasUpda
 HasUpdate-cases [] ys k d has = inr has
 HasUpdate-cases (x ∷ xs) ys k d has = search (rules, HasUpdate-cases xs ys k d)
 
--- the sorted updates are those of all mappings
 pub updates_sorted : (l : List Mapped) (flags : List Bool) (p : ℕ) (cs new : List Update) → length l ≤ p → AreUpdatesUpto l flags p cs → IsPermutation cs new → IsSorted (λ (x : Update) (y : Update). ordering_then (slice_cmp nat_cmp x.destination.now y.destination.now) (nat_cmp x.index y.index)) new → AreUpdates l flags new
 updates_sorted l flags p cs new past made moved sorted = record {
   are = λ k d. (
     (λ has. ((made.are k d).0 (HasUpdate-permuted new cs k d (IsPermutation-sym cs new moved) has)).1),
-    (λ goes. HasUpdate-permuted cs new k d moved ((made.are k d).1 ((let below = slice_get_within l k goes.0.0 goes.0.1 in omega (arith, below, past)), goes))),
+    (λ goes. HasUpdate-permuted cs new k d moved ((made.are k d).1 (omega (arith, slice_get_within l k goes.0.0 goes.0.1, past), goes))),
   );
   order = strict_from_sorted cs new moved made.rises sorted;
 }
@@ -108,33 +106,27 @@ one_index l k d e (m, is_m, to_d) (n, is_n, to_e) =
     let one : m ≡ n = same_Some m n (sym is_m ∙ is_n) in
     same_Some d e (sym to_d ∙ ap (λ (x : Mapped). x.destination) one ∙ to_e)
 
--- one more update is appended
 pub updates_more : (l : List Mapped) (flags : List Bool) (cs new : List Update) (c : Update) → new ≡ cs ++ c ∷ [] → GoesTo l c.index c.destination.now → ¬ (IsFlagged flags c.index) → AreUpdatesUpto l flags c.index cs → AreUpdatesUpto l flags (c.index + 1) new
 updates_more l flags cs new c is goes unflagged made =
     let indexes : updated_indexes new ≡ updated_indexes cs ++ c.index ∷ [] = ap updated_indexes is ∙ map-append (λ (x : Update). x.index) cs (c ∷ []) in record {
-      are = λ k d. subst (λ (xs : List Update). HasUpdate xs k d ↔ ((k < c.index + 1) × (GoesTo l k d × ¬ (IsFlagged flags k)))) (sym is) (
-        (λ has. by_cases (HasUpdate-cases cs (c ∷ []) k d has) (λ old. let told = (made.are k d).0 old in ((let less = told.0 in omega (arith, less)), told.1)) (λ last. only last)),
+      are = λ k d. rw is (
+        (λ has. by_cases (HasUpdate-cases cs (c ∷ []) k d has) (λ old. let told = (made.are k d).0 old in (omega (arith, told.0), told.1)) (λ last. only last)),
         (λ told. by_cases (upto k c.index told.0) (λ less. HasUpdate-left cs (c ∷ []) k d ((made.are k d).1 (less, told.1)))
-            (λ here. HasUpdate-right cs (c ∷ []) k d (inl (sym here, one_index l k c.destination.now d (subst (λ (n : ℕ). GoesTo l n c.destination.now) (sym here) goes) told.1.0)))),
+            (λ here. HasUpdate-right cs (c ∷ []) k d (inl (sym here, one_index l k c.destination.now d (rw here goes) told.1.0)))),
       );
-      rises = subst Rises (sym indexes) (all_pairs_push (λ n m. n < m) (updated_indexes cs) c.index made.rises (All-from_recursion (λ n. n < c.index) (updated_indexes cs) made.below));
-      below = subst (λ (ns : List ℕ). AllByRecursion (λ n. n < c.index + 1) ns) (sym indexes) (all_join (λ n. n < c.index + 1) (updated_indexes cs) (c.index ∷ []) (all_weaker (λ n. n < c.index) (λ n. n < c.index + 1) (λ n less. omega arith) (updated_indexes cs) made.below) (omega arith, tt));
+      rises = rw indexes (all_pairs_push (λ n m. n < m) (updated_indexes cs) c.index made.rises (All-from_recursion (λ n. n < c.index) (updated_indexes cs) made.below));
+      below = rw indexes (all_join (λ n. n < c.index + 1) (updated_indexes cs) (c.index ∷ []) (all_weaker (λ n. n < c.index) (λ n. n < c.index + 1) (λ n less. omega arith) (updated_indexes cs) made.below) (omega arith, tt));
     }
   where
     only : {k : ℕ} {d : List ℕ} → HasUpdate (c ∷ []) k d → (k < c.index + 1) × (GoesTo l k d × ¬ (IsFlagged flags k))
-    only {k} {d} (inl at) = (
-      (let index = at.0 in omega (arith, index)),
-      (subst (λ (n : ℕ). GoesTo l n d) at.0 (subst (λ (x : List ℕ). GoesTo l c.index x) at.1 goes), subst (λ (n : ℕ). ¬ (IsFlagged flags n)) at.0 unflagged),
-    )
+    only (inl at) = rw (← at.0, ← at.1) (omega arith, (goes, unflagged))
     only (inr none) = absurd none
 
--- a mapping without a destination, or with a flag, adds no update
 pub updates_same : (l : List Mapped) (flags : List Bool) (p : ℕ) (cs : List Update) → ((d : List ℕ) → GoesTo l p d → ¬ (IsFlagged flags p) → ⊥) → AreUpdatesUpto l flags p cs → AreUpdatesUpto l flags (p + 1) cs
 updates_same l flags p cs none made = record {
   are = λ k d. (
-    (λ has. let told = (made.are k d).0 has in ((let less = told.0 in omega (arith, less)), told.1)),
-    (λ told. by_cases (upto k p told.0) (λ less. (made.are k d).1 (less, told.1))
-        (λ here. absurd (none d (subst (λ (n : ℕ). GoesTo l n d) here told.1.0) (subst (λ (n : ℕ). ¬ (IsFlagged flags n)) here told.1.1)))),
+    (λ has. let told = (made.are k d).0 has in (omega (arith, told.0), told.1)),
+    (λ told. by_cases (upto k p told.0) (λ less. (made.are k d).1 (less, told.1)) (λ here. absurd (none d (rw here at told.1.0) (rw here at told.1.1)))),
   );
   rises = made.rises;
   below = all_weaker (λ n. n < p) (λ n. n < p + 1) (λ n less. omega arith) (updated_indexes cs) made.below;
@@ -153,11 +145,11 @@ same_from_test xs ys b is told = (bytes_eq-Decides xs ys).0 (not-false (bytes_eq
 behind : (x : List ℕ) (o y : Update) → slice_cmp nat_cmp x o.destination.now ≡ Less → update_cmp o y ≡ Less → slice_cmp nat_cmp x y.destination.now ≡ Less
 behind x o y first is = by_cases (later o y is) (λ less. below_trans x o.destination.now y.destination.now first less) (λ tied. subst (λ (d : List ℕ). slice_cmp nat_cmp x d ≡ Less) tied.0 first)
 
-all_behind : (x : List ℕ) (cs : List Update) → IsStrictlySortedBy update_cmp cs → AllByRecursion (λ c. (slice_cmp nat_cmp x c.destination.now ≡ Less) ⊎ (x ≡ c.destination.now)) cs → ((c : Update) (rest : List Update) → cs ≡ c ∷ rest → x ≢ c.destination.now) → AllByRecursion (λ c. slice_cmp nat_cmp x c.destination.now ≡ Less) cs
+all_behind : (x : List ℕ) (cs : List Update) (d : Update) → IsStrictlySortedBy update_cmp cs → AllByRecursion (λ c. (slice_cmp nat_cmp x c.destination.now ≡ Less) ⊎ (x ≡ c.destination.now)) cs → (0 < length cs → x ≢ (get_or cs 0 d).destination.now) → AllByRecursion (λ c. slice_cmp nat_cmp x c.destination.now ≡ Less) cs
 unfolding IsStrictlySortedBy
-all_behind x [] strict from other = tt
-all_behind x (c ∷ cs) strict from other =
-    let first : slice_cmp nat_cmp x c.destination.now ≡ Less = by_cases from.0 (λ less. less) (λ same. absurd (other c cs refl same)) in
+all_behind x [] d strict from other = tt
+all_behind x (c ∷ cs) d strict from other =
+    let first : slice_cmp nat_cmp x c.destination.now ≡ Less = by_cases from.0 (λ less. less) (λ same. absurd (other (omega arith) same)) in
     (first, all_weaker (λ y. update_cmp c y ≡ Less) (λ y. slice_cmp nat_cmp x y.destination.now ≡ Less) (λ y is. behind x c y first is) cs strict.0)
 
 -- if the updates before an index have the first one's destination, and the one at the index hasn't, the index splits
@@ -166,38 +158,27 @@ pub split_at : (cs : List Update) (n : ℕ) (d : Update) → 0 < length cs → I
 unfolding IsStrictlySortedBy
 split_at [] n d some strict same end = absurd (omega arith)
 split_at (h ∷ cs) zero d some strict same end = absurd (end (omega arith) refl)
-split_at (h ∷ cs) (suc n) d some strict same end =
-    let split : take n cs ++ drop n cs ≡ cs = take-append-drop n cs in record {
-      destination = h.destination.now;
-      same = same;
-      beyond = all_behind h.destination.now (drop n cs)
-          (strict_right update_cmp (take n cs) (drop n cs) (subst (λ (xs : List Update). IsStrictlySortedBy update_cmp xs) (sym split) strict.1))
-          (all_weaker (λ y. update_cmp h y ≡ Less) (λ y. (slice_cmp nat_cmp h.destination.now y.destination.now ≡ Less) ⊎ (h.destination.now ≡ y.destination.now)) (λ y is. by_cases (later h y is) (λ less. inl less) (λ tied. inr tied.0)) (drop n cs)
-          (all_right (λ y. update_cmp h y ≡ Less) (take n cs) (drop n cs) (subst (λ (xs : List Update). AllByRecursion (λ y. update_cmp h y ≡ Less) xs) (sym split) strict.0)))
-          (λ c rest is same2. elim (cases_lt n (length cs)) [
-            | inl inside ↦
-                let here : get_or cs n d ∷ drop (n + 1) cs ≡ c ∷ rest = sym (drop_more cs n d inside) ∙ is in
-                let one : get_or cs n d ≡ c = cc in
-                end (omega arith) (ap (λ (x : Update). x.destination.now) one ∙ sym same2)
-            | inr past ↦ let none : length (drop n cs) ≡ 0 = omega (arith, length-drop n cs) in let some2 : length (drop n cs) ≡ suc (length rest) = ap length is in absurd (omega (arith, none, some2))
-          ]);
-    }
+split_at (h ∷ cs) (suc n) d some strict same end = record {
+  destination = h.destination.now;
+  same = same;
+  beyond = all_behind h.destination.now (drop n cs) d
+      (strict_right update_cmp (take n cs) (drop n cs) (rw take-append-drop strict.1))
+      (all_weaker (λ y. update_cmp h y ≡ Less) (λ y. (slice_cmp nat_cmp h.destination.now y.destination.now ≡ Less) ⊎ (h.destination.now ≡ y.destination.now)) (λ y is. by_cases (later h y is) (λ less. inl less) (λ tied. inr tied.0)) (drop n cs)
+      (all_right (λ y. update_cmp h y ≡ Less) (take n cs) (drop n cs) (rw take-append-drop strict.0)))
+      (λ more is. end (omega (arith, more, length-drop n cs)) (sym (rw (get_or-drop n cs 0 d, add-zero) at is)));
+}
 
--- the mapping at an index, as plain data
 pub mapped_at : (ms : List Mapping) (k : ℕ) (m : Mapping) → k < length ms → m ≡ get_or ms k m → slice_get (map mapped_of ms) k ≡ Some (mapped_of m)
 mapped_at ms k m below is = slice_get-map mapped_of ms k ∙ ap (option_map mapped_of) (slice_get_read ms (length ms) k m refl below is)
 
 pub goes_nowhere : (ms : List Mapping) (k : ℕ) (m : Mapping) (d : List ℕ) → k < length ms → m ≡ get_or ms k m → m.rhs ≡ None → GoesTo (map mapped_of ms) k d → ⊥
 goes_nowhere ms k m d below is none (n, is_n, to) =
-    let same : Some (mapped_of m) ≡ Some n = sym (mapped_at ms k m below is) ∙ is_n in
-    let one : mapped_of m ≡ n = cc in
-    let both : option_map name_bytes m.rhs ≡ Some d = ap (λ (x : Mapped). x.destination) one ∙ to in
-    let gone : None ≡ Some d = sym (ap (option_map name_bytes) none) ∙ both in
+    let one = same_Some _ _ (sym (mapped_at ms k m below is) ∙ is_n) in
+    let gone : None ≡ Some d = rw none at (ap (λ (x : Mapped). x.destination) one ∙ to) in
     absurd (cc)
 
 pub goes_to_name : (ms : List Mapping) (k : ℕ) (m : Mapping) (n : NameRef) → k < length ms → m ≡ get_or ms k m → m.rhs ≡ Some n → GoesTo (map mapped_of ms) k (name_bytes n)
 goes_to_name ms k m n below is to = (mapped_of m, mapped_at ms k m below is, ap (option_map name_bytes) to)
 
--- the value of a read past the end
 abbrev pub past_end : Update
 past_end = record { destination = record { ref_ptr = (0, 0); now = [] }; index = 0 }

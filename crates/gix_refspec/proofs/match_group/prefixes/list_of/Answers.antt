@@ -1,4 +1,3 @@
--- a pattern without a ref prefix has no list
 use Rattle.gix_refspec.proofs.Common.{sym, ◌∙◌, false≢true}
 use Rattle.gix_refspec.proofs.lemmas.prefixes.AskedLemmas.{no_list}
 use Rattle.gix_refspec.proofs.match_group.prefixes.list_of.Goals as goal

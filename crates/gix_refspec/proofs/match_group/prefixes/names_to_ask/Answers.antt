@@ -1,4 +1,3 @@
--- the list of a positive spec is that of its side
 use Rattle.gix_refspec.proofs.Common.{reading_of}
 use Rattle.std.proofs.lemmas.Result.{IfOk-weaker}
 use Rattle.gix_refspec.proofs.lemmas.prefixes.AskedLemmas.{list_of_side}

@@ -1,4 +1,3 @@
--- a copy of a mapping with an invalid side is appended
 use Rattle.gix_refspec.proofs.Common.{map, rules, InvalidMapping, mapped_of, IsLeftOut, HasRefNames, left_out_of}
 use Rattle.gix_refspec.proofs.lemmas.validate.AfterLemmas.{nothing_more, one_more}
 use Rattle.gix_refspec.proofs.lemmas.validate.RefNameLemmas.{bad_unnamed, copied_mapping, some_unnamed}

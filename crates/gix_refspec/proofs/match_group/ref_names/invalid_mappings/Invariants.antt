@@ -1,4 +1,3 @@
--- the mappings so far with an invalid side are listed; if there are none, all have ref names
 use Rattle.gix_refspec.proofs.Common.{◌≡◌, [], map, take, AllByRecursion, mapped_of, AreLeftOut, HasRefNames, left_out_of}
 use Rattle.gix_refspec.proofs.match_group.ref_names.invalid_mappings.Given as goal
 

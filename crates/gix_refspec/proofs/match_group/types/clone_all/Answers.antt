@@ -1,4 +1,3 @@
--- one more copy is appended
 use Rattle.gix_refspec.proofs.Common.{arith, IsMappingCopy, all_zip_more}
 use Rattle.gix_refspec.proofs.match_group.types.clone_all.Goals as goal
 

@@ -1,4 +1,3 @@
--- the copies are of the mappings so far
 use Rattle.gix_refspec.proofs.Common.{take, AreMappingCopies}
 use Rattle.gix_refspec.proofs.match_group.types.clone_all.Given as goal
 

@@ -1,4 +1,3 @@
--- a mapping that can't be written has a fix
 use Rattle.gix_refspec.proofs.Common.{MappingWithPartialDestinationRemoved, map, sym, ◌∙◌, rules, false≢true, Fix, reading_of, mapped_of, IsFix, Survives, removed_of, Removed}
 use Rattle.gix_refspec.proofs.lemmas.validate.ConflictLemmas.{spec_fits}
 use Rattle.gix_refspec.proofs.lemmas.validate.AfterLemmas.{fix_of, no_fix_written, nothing_more, one_more}

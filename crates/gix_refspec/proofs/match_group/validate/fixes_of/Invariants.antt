@@ -1,4 +1,3 @@
--- there are the fixes of the mappings so far; if there are none, all survive
 use Rattle.gix_refspec.proofs.Common.{◌≡◌, [], map, take, AllByRecursion, reading_of, mapped_of, AreFixes, Survives, removed_of}
 use Rattle.gix_refspec.proofs.match_group.validate.fixes_of.Given as goal
 

@@ -1,4 +1,3 @@
--- A spec with an id as its destination is against the claim.
 use Rattle.gix_refspec.proofs.Common.{each_mapped, one_more_mapped, false≢true, reading_of, HasIdDestination}
 use Rattle.gix_refspec.proofs.match_group.types.MatchGroup.asks_for_no_id.Goals as goal
 

@@ -1,4 +1,3 @@
--- a spec for which the test fails refutes the claim
 use Rattle.gix_refspec.proofs.Common.{one_more_mapped, each_mapped, GoesBothWays, reading_of, false≢true}
 use Rattle.gix_refspec.proofs.match_group.types.MatchGroup.goes_both_ways.Goals as goal
 

@@ -1,4 +1,3 @@
--- the test holds of the specs so far
 use Rattle.gix_refspec.proofs.Common.{map, take, AllByRecursion, GoesBothWays, reading_of}
 use Rattle.gix_refspec.proofs.match_group.types.MatchGroup.goes_both_ways.Given as goal
 

@@ -1,4 +1,3 @@
--- a spec for which the test fails refutes the claim
 use Rattle.gix_refspec.proofs.Common.{each_mapped, HasCoveringSource, reading_of, false≢true}
 use Rattle.gix_refspec.proofs.match_group.types.MatchGroup.has_covering_sources.Goals as goal
 

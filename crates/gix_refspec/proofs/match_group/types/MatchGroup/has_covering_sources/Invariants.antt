@@ -1,4 +1,3 @@
--- the test holds of the specs so far
 use Rattle.gix_refspec.proofs.Common.{map, take, AllByRecursion, HasCoveringSource, reading_of}
 use Rattle.gix_refspec.proofs.match_group.types.MatchGroup.has_covering_sources.Given as goal
 

@@ -1,4 +1,3 @@
--- the group has the specs for the operation among those taken so far
 use Rattle.gix_refspec.proofs.Common.{◌≡◌, filter, is_for}
 use Rattle.gix_refspec.proofs.match_group.types.MatchGroup.of.Given as goal
 

@@ -1,4 +1,3 @@
--- the list of each spec is appended
 use Rattle.gix_refspec.proofs.Common.{length, ap, arith, take_all}
 use Rattle.gix_refspec.proofs.lemmas.prefixes.AskedLemmas.{asks_no_names, none_at, nothing_at, one_more_list, serves}
 use Rattle.gix_refspec_text.proofs.lemmas.prefixes.PrefixLemmas.{on_any_error}

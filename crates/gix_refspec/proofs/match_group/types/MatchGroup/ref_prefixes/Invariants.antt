@@ -1,4 +1,3 @@
--- the list has the ref prefixes of the specs so far
 use Rattle.gix_refspec.proofs.Common.{map, take, bstring_bytes, reading_of, ListsGroup}
 use Rattle.gix_refspec.proofs.match_group.types.MatchGroup.ref_prefixes.Given as goal
 

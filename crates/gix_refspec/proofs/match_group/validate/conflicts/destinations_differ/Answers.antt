@@ -1,4 +1,3 @@
--- no flags are set, and so the destinations differ
 use Rattle.gix_refspec.proofs.Common.{◌≡◌, length, sym, ◌∙◌, arith, eqb-true}
 use Rattle.gix_refspec.proofs.lemmas.validate.ConflictLemmas.{none_contested}
 use Rattle.gix_refspec.proofs.match_group.validate.conflicts.destinations_differ.Goals as goal

@@ -1,4 +1,3 @@
--- the destinations so far are those of the mappings so far
 use Rattle.gix_refspec.proofs.Common.{◌≡◌, map, take, bstr_bytes, mapped_of, all_destinations}
 use Rattle.gix_refspec.proofs.match_group.validate.conflicts.destinations_of.Given as goal
 

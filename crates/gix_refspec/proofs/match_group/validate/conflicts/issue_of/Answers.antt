@@ -1,4 +1,3 @@
--- each update gives its source and its text
 use Rattle.gix_refspec.proofs.Common.{◌≡◌, get_or, ◌∙◌, arith, rules, bstring_bytes, map-append, take_all, All-from_recursion, Update, start_of, [], ◌∷◌}
 use Rattle.gix_refspec.proofs.lemmas.validate.ConflictLemmas.{conflict_from_conflicting, copied_source, conflicting_fits, spec_fits, text_at, told_more}
 use Rattle.gix_refspec.proofs.lemmas.validate.UpdateLemmas.{past_end}

@@ -1,4 +1,3 @@
--- the updates so far have given their sources and texts
 use Rattle.gix_refspec.proofs.Common.{map, take, bstring_bytes, reading_of, mapped_of, start_of, updated_indexes}
 use Rattle.gix_refspec.proofs.lemmas.validate.ConflictLemmas.{AreTold}
 use Rattle.gix_refspec.proofs.match_group.validate.conflicts.issue_of.Given as goal

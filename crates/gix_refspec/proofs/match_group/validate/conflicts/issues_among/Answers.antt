@@ -1,4 +1,3 @@
--- one more run is settled
 use Rattle.gix_refspec.proofs.Common.{◌≡◌, ◌-◌, ◌≤◌, length, take, drop, arith, drop-drop, length-drop, take_all}
 use Rattle.gix_refspec.proofs.lemmas.validate.ConflictLemmas.{all_reported, conflicting_of_run, reported_more, reported_none}
 use Rattle.gix_refspec.proofs.match_group.validate.conflicts.issues_among.Goals as goal

@@ -1,4 +1,3 @@
--- the updates so far are settled
 use Rattle.gix_refspec.proofs.Common.{◌≤◌, ◌-◌, length, map, drop, reading_of, mapped_of, conflict_of}
 use Rattle.gix_refspec.proofs.lemmas.validate.ConflictLemmas.{AreReported}
 use Rattle.gix_refspec.proofs.match_group.validate.conflicts.issues_among.Given as goal

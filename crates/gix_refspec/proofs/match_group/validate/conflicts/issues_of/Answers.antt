@@ -1,5 +1,3 @@
--- if the destinations differ nothing is in conflict, and otherwise the updates that aren't flagged as duplicates are
--- the first ones
 use Rattle.gix_refspec.proofs.Common.{sym, ◌∙◌, eqb-true}
 use Rattle.gix_refspec.proofs.lemmas.validate.ConflictLemmas.{firsts_from_updates, free_empty, no_conflicts}
 use Rattle.gix_refspec.proofs.match_group.validate.conflicts.issues_of.Goals as goal

@@ -1,4 +1,3 @@
--- the updates so far have the first one's destination
 use Rattle.gix_refspec.proofs.Common.{◌≡◌, take, get_or, AllByRecursion, Update}
 use Rattle.gix_refspec.proofs.match_group.validate.conflicts.len_of_run.Given as goal
 

@@ -1,4 +1,3 @@
--- a mapping with a destination makes an update, unless it is flagged
 use Rattle.gix_refspec.proofs.Common.{map, sym, ◌∙◌, arith, false≢true, length-map, mapped_of}
 use Rattle.gix_refspec.proofs.lemmas.validate.UpdateLemmas.{updates_more, updates_same, updates_sorted, goes_nowhere, goes_to_name}
 use Rattle.gix_refspec.proofs.match_group.validate.conflicts.updates_in_order.Goals as goal

@@ -1,4 +1,3 @@
--- the updates are those of the mappings so far
 use Rattle.gix_refspec.proofs.Common.{map, mapped_of}
 use Rattle.gix_refspec.proofs.lemmas.validate.UpdateLemmas.{AreUpdatesUpto}
 use Rattle.gix_refspec.proofs.match_group.validate.conflicts.updates_in_order.Given as goal

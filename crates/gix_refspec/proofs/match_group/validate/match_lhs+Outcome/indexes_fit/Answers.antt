@@ -1,4 +1,3 @@
--- a mapping whose spec index isn't in the group refutes the claim
 use Rattle.gix_refspec.proofs.Common.{arith}
 use Rattle.gix_refspec.proofs.lemmas.validate.ConflictLemmas.{spec_fits}
 use Rattle.gix_refspec.proofs.match_group.validate.match_lhs+Outcome.indexes_fit.Goals as goal

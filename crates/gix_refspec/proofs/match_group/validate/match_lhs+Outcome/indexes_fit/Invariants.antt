@@ -1,4 +1,3 @@
--- the spec indexes of the mappings so far are in the group
 use Rattle.gix_refspec.proofs.Common.{map, take, mapped_of, readings_of, IndexesFit}
 use Rattle.gix_refspec.proofs.match_group.validate.match_lhs+Outcome.indexes_fit.Given as goal
 
