@@ -78,6 +78,19 @@ pub use Rattle.gix_refspec_text.proofs.lemmas.lists.AllLemmas.{all_join, all_wea
 pub use Rattle.gix_refspec_text.proofs.lemmas.lists.MapLemmas.{each_mapped, one_more_mapped}
 pub use Rattle.gix_refspec_text.proofs.lemmas.lists.OrderLemmas.{not_below_itself}
 pub use Rattle.gix_refspec_match.proofs.lemmas.lists.JoinLemmas.{nothing_made, joined_next, map_split, map_long, nothing_joined, made_more}
+pub use Rattle.gix_refspec_match.proofs.lemmas.hits.HitLemmas.{backward_once, forward_once, id_once, matches_as, one_kind, same_side}
+pub use Rattle.gix_refspec_match.proofs.lemmas.keep.KeptLemmas.{HasPair-from_place, by_pair, duplicate_at, kept_once}
+pub use Rattle.gix_refspec_match.proofs.lemmas.lists.SomeLemmas.{Any as AnyOf, Any-all, Any-both, Any-fact, Any-from_map, Any-left, Any-map}
+pub use Rattle.gix_refspec_match.proofs.lemmas.lists.SomeLemmas.{Any-right, Any-weaker, MakesOnly, any_joined, any_made, made_any, some_at, some_of}
+pub use Rattle.gix_refspec_match.proofs.lemmas.keep.RepeatLemmas.{apart_places, some_mapping}
+pub use Rattle.gix_refspec_text.proofs.lemmas.texts.TextLemmas.{Lacks-ContainsText, Lacks-from_absent, Lacks-from_indexes}
+pub use Rattle.gix_refspec_text.proofs.lemmas.texts.ObjectIdLemmas.{IsIdText-unique, lower_of-digits, one_lower_text}
+pub use Rattle.gix_refspec_text.proofs.lemmas.hits.MatchLemmas.{has_candidates, lacks_no_pattern, one_word, prefix_begins}
+pub use Rattle.gix_refspec_text.proofs.lemmas.texts.HeadLemmas.{IsName-head}
+pub use Rattle.gix_refspec_text.proofs.lemmas.specs.AcceptedLemmas.{accepted_balanced, accepted_few}
+pub use Rattle.gix_refspec_text.proofs.lemmas.prefixes.PrefixLemmas.{on_any_error, one_asked}
+pub use Rattle.gix_refspec_text.proofs.lemmas.lists.EqualLemmas.{same_keys}
+pub use Rattle.gix_refspec_text.proofs.lemmas.specs.SpecLemmas.{equal_keys, keeps_operation, printed_back, says, says_for_operation}
 pub use Rattle.gix_refspec_text.proofs.facts.ManualFacts.{some_none, named, other_length, Lacks-tested, none_some, IsPattern-tested, no_sign}
 pub use Rattle.gix_refspec_text.proofs.facts.FitFacts.{blob, dev_ref, every, main_ref, no_dev, short_kind, short_no_id, tag_ref, blob_kind, split_at_end, other_byte, of_element, origin_split, short}
 pub use Rattle.gix_refspec_text.proofs.facts.FitFacts.{push_is_none, below_tags, other_first}

@@ -1,7 +1,6 @@
 -- What holds of each element that is made of the elements of a list, or joined of them.
 use Rattle.gix_refspec.proofs.Common.{Any as AnyAt, all_join, ◌≡◌, [], ◌∷◌, suc, refl, sym, subst, arith, map, ◌+◌, slice_get, AllByRecursion, slice_get_within, get_or_from_slice_get}
-use Rattle.gix_refspec.proofs.Common.{All-from_recursion, IsMadeFrom, IsJoinedFrom, ℕ, List, None, Some, Contains}
-use Rattle.gix_refspec_match.proofs.lemmas.lists.SomeLemmas.{Any, some_at, some_of}
+use Rattle.gix_refspec.proofs.Common.{All-from_recursion, IsMadeFrom, IsJoinedFrom, ℕ, List, None, Some, Contains, AnyOf as Any, some_at, some_of}
 
 -- an element of a list, by index and by recursion
 pub there : {X : Type 0} (ys : List X) (m : X) → Contains ys m → Any (λ y. y ≡ m) ys

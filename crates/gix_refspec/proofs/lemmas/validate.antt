@@ -2,6 +2,7 @@
 pub mod UpdateLemmas
 pub mod FirstLemmas
 pub mod ConflictLemmas
+pub mod DifferLemmas
 pub mod OneValidationLemmas
 pub mod AfterLemmas
 pub mod MadeAtLemmas

@@ -1,5 +1,4 @@
 use Rattle.gix_refspec_text.proofs.lemmas.hits.MatchLemmas.{has_candidates}
-use Rattle.gix_refspec.proofs.laws.candidates.Goals as goal
 
-pub returns : goal.returns
+pub returns : Rattle.gix_refspec.proofs.laws.candidates.Goals.returns
 returns c = has_candidates c.args.side.now

@@ -1,5 +1,4 @@
 use Rattle.gix_refspec.proofs.lemmas.validate.OneValidationLemmas.{copied_outcome}
-use Rattle.gix_refspec.proofs.laws.copied_outcome.Goals as goal
 
-pub returns : goal.returns
+pub returns : Rattle.gix_refspec.proofs.laws.copied_outcome.Goals.returns
 returns g c = copied_outcome c.args.outcome.now c.args.copy.now

@@ -1,8 +1,6 @@
--- Names are compared by their bytes, specs by their meaning.
-use Rattle.gix_refspec.proofs.Common.{MappingWithPartialDestinationRemoved, ◌↔◌, IsTrue, bstring_bytes, bytes_eq-Decides, Fix, meaning_of, owned_reading_of, IsSameFix, and_parts, and_from}
+use Rattle.gix_refspec.proofs.Common.{MappingWithPartialDestinationRemoved, ◌↔◌, IsTrue, bstring_bytes, bytes_eq-Decides, Fix, meaning_of, owned_reading_of, IsSameFix, and_parts, and_from, equal_keys}
 use Rattle.gix_refspec.specs.contracts.match_group.validate.FixPartialEq.TheImpl.{ghosts}
-use Rattle.gix_refspec_text.proofs.lemmas.specs.SpecLemmas.{equal_keys}
-use Rattle.gix_refspec.proofs.laws.equal_fixes.Goals as goal
+-- Names are compared by their bytes, specs by their meaning.
 
 same_fix : (a b : Fix) → IsTrue (ghosts.eq a b) ↔ IsSameFix a b
 same_fix (MappingWithPartialDestinationRemoved n s) (MappingWithPartialDestinationRemoved m t) =
@@ -12,5 +10,5 @@ same_fix (MappingWithPartialDestinationRemoved n s) (MappingWithPartialDestinati
       (λ same. and_from _ _ (names.1 same.destination) (specs.1 same.spec)),
     )
 
-pub returns : goal.returns
+pub returns : Rattle.gix_refspec.proofs.laws.equal_fixes.Goals.returns
 returns c = same_fix c.args.a.now c.args.b.now

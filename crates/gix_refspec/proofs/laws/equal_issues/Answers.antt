@@ -1,12 +1,11 @@
--- Destinations and texts are compared by their bytes, sources as names and ids.
-use Rattle.gix_refspec.proofs.Common.{◌≡◌, ◌↔◌, true, ap, IsTrue, bstring_bytes, bytes_eq-Decides, SourceRef, Issue, name, id, id_bytes, name_bytes, start_of, Conflict, conflict_of, and_parts, and_from}
+use Rattle.gix_refspec.proofs.Common.{◌≡◌, ◌↔◌, true, ap, IsTrue, bstring_bytes, bytes_eq-Decides, SourceRef, Issue, name, id, id_bytes, name_bytes, start_of, Conflict, conflict_of, and_parts}
+use Rattle.gix_refspec.proofs.Common.{and_from, same_keys}
 use Rattle.bstr.specs.contracts.bstring.BStringPartialEq.TheImpl.{ghosts as compared_texts}
 use Rattle.gix_refspec_match.specs.contracts.types.SourceRefPartialEq.TheImpl.{ghosts as compared_sources}
 use Rattle.gix_refspec.specs.contracts.match_group.validate.IssuePartialEq.TheImpl.{ghosts}
 use Rattle.gix_refspec_match.specs.declared.types.SourceRef.TheVariants as source_ref
 use Rattle.gix_refspec.specs.declared.match_group.validate.Issue.TheVariants as issue
-use Rattle.gix_refspec.proofs.laws.equal_issues.Goals as goal
-use Rattle.gix_refspec_text.proofs.lemmas.lists.EqualLemmas.{same_keys}
+-- Destinations and texts are compared by their bytes, sources as names and ids.
 
 same_source : (a b : SourceRef) → (compared_sources.eq a b ≡ true) ↔ (start_of a ≡ start_of b)
 same_source (source_ref.FullName n) (source_ref.FullName m) = let names = bytes_eq-Decides (name_bytes n) (name_bytes m) in ((λ told. ap name (names.0 told)), (λ same. names.1 (cc)))
@@ -25,5 +24,5 @@ same_issue (issue.Conflict d sources specs) (issue.Conflict e others texts) =
       (λ same. and_from _ _ (names.1 (ap (λ (c : Conflict). c.destination) same)) (and_from _ _ (starts.1 (ap (λ (c : Conflict). c.sources) same)) (words.1 (ap (λ (c : Conflict). c.texts) same)))),
     )
 
-pub returns : goal.returns
+pub returns : Rattle.gix_refspec.proofs.laws.equal_issues.Goals.returns
 returns c = same_issue c.args.a.now c.args.b.now

@@ -1,5 +1,4 @@
 use Rattle.gix_refspec_text.proofs.lemmas.specs.FormsBackLemmas.{equal_texts}
-use Rattle.gix_refspec.proofs.laws.equal_texts.Goals as goal
 
-pub returns : goal.returns
+pub returns : Rattle.gix_refspec.proofs.laws.equal_texts.Goals.returns
 returns c = equal_texts c.args.operation c.args.a.now c.args.b.now

@@ -1,5 +1,4 @@
 use Rattle.gix_refspec.proofs.lemmas.keep.AlikeLemmas.{reads_back}
-use Rattle.gix_refspec.proofs.laws.fetch_group_reads_back.Goals as goal
 
-pub returns : goal.returns
+pub returns : Rattle.gix_refspec.proofs.laws.fetch_group_reads_back.Goals.returns
 returns c = reads_back c.args.group.now.specs.items _ _

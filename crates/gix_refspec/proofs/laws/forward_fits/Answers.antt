@@ -1,5 +1,4 @@
 use Rattle.gix_refspec.proofs.lemmas.validate.AfterLemmas.{forward_fits}
-use Rattle.gix_refspec.proofs.laws.forward_fits.Goals as goal
 
-pub returns : goal.returns
+pub returns : Rattle.gix_refspec.proofs.laws.forward_fits.Goals.returns
 returns c = forward_fits _ _

@@ -1,5 +1,4 @@
 use Rattle.gix_refspec_text.proofs.lemmas.texts.ObjectIdLemmas.{id_or_fault}
-use Rattle.gix_refspec.proofs.laws.id_or_fault.Goals as goal
 
-pub returns : goal.returns
+pub returns : Rattle.gix_refspec.proofs.laws.id_or_fault.Goals.returns
 returns c = id_or_fault c.args.text.now

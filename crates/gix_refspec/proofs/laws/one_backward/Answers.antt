@@ -1,5 +1,4 @@
 use Rattle.gix_refspec_match.proofs.lemmas.hits.HitLemmas.{one_backward}
-use Rattle.gix_refspec.proofs.laws.one_backward.Goals as goal
 
-pub returns : goal.returns
+pub returns : Rattle.gix_refspec.proofs.laws.one_backward.Goals.returns
 returns c = one_backward _ _

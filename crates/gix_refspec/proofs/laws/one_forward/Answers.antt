@@ -1,5 +1,4 @@
 use Rattle.gix_refspec_match.proofs.lemmas.hits.HitLemmas.{one_forward}
-use Rattle.gix_refspec.proofs.laws.one_forward.Goals as goal
 
-pub returns : goal.returns
+pub returns : Rattle.gix_refspec.proofs.laws.one_forward.Goals.returns
 returns c = one_forward _ _

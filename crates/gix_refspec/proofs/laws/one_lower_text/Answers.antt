@@ -1,6 +1,4 @@
-use Rattle.gix_refspec.proofs.Common.{rules}
-use Rattle.gix_refspec_text.proofs.lemmas.texts.ObjectIdLemmas.{one_lower_text}
-use Rattle.gix_refspec.proofs.laws.one_lower_text.Goals as goal
+use Rattle.gix_refspec.proofs.Common.{rules, one_lower_text}
 
-pub returns : goal.returns
+pub returns : Rattle.gix_refspec.proofs.laws.one_lower_text.Goals.returns
 returns c = one_lower_text c.args.id.kind c.args.id.buffer (search rules) (search rules)

@@ -1,5 +1,4 @@
 use Rattle.gix_refspec_text.proofs.lemmas.parsing.RefusalLemmas.{one_refusal}
-use Rattle.gix_refspec.proofs.laws.one_refusal.Goals as goal
 
-pub returns : goal.returns
+pub returns : Rattle.gix_refspec.proofs.laws.one_refusal.Goals.returns
 returns c = one_refusal c.args.operation c.args.text.now

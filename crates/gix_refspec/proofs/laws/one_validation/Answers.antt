@@ -1,5 +1,4 @@
 use Rattle.gix_refspec.proofs.lemmas.validate.OneValidationLemmas.{one_validation}
-use Rattle.gix_refspec.proofs.laws.one_validation.Goals as goal
 
-pub returns : goal.returns
+pub returns : Rattle.gix_refspec.proofs.laws.one_validation.Goals.returns
 returns c = one_validation _ _

@@ -1,5 +1,4 @@
 use Rattle.gix_refspec.proofs.lemmas.specs.SideLawLemmas.{sides_agree}
-use Rattle.gix_refspec.proofs.laws.owned_sides_agree.Goals as goal
 
-pub returns : goal.returns
+pub returns : Rattle.gix_refspec.proofs.laws.owned_sides_agree.Goals.returns
 returns c = sides_agree _ c.args.spec.now.accepted

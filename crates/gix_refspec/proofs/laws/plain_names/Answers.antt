@@ -1,5 +1,4 @@
 use Rattle.gix_refspec.proofs.lemmas.specs.PlainNameLemmas.{plain_names}
-use Rattle.gix_refspec.proofs.laws.plain_names.Goals as goal
 
-pub returns : goal.returns
+pub returns : Rattle.gix_refspec.proofs.laws.plain_names.Goals.returns
 returns c = plain_names

@@ -1,5 +1,4 @@
 use Rattle.gix_refspec_text.proofs.lemmas.specs.FormsBackLemmas.{once_or_refused}
-use Rattle.gix_refspec.proofs.laws.reads_or_refused.Goals as goal
 
-pub returns : goal.returns
+pub returns : Rattle.gix_refspec.proofs.laws.reads_or_refused.Goals.returns
 returns c = once_or_refused c.args.operation c.args.text.now

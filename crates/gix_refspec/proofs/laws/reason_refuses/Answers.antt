@@ -1,5 +1,4 @@
 use Rattle.gix_refspec_text.proofs.lemmas.parsing.ReadsLemmas.{refused}
-use Rattle.gix_refspec.proofs.laws.reason_refuses.Goals as goal
 
-pub returns : goal.returns
+pub returns : Rattle.gix_refspec.proofs.laws.reason_refuses.Goals.returns
 returns c = λ mode source destination e parts first. refused c.args.operation mode source destination c.args.text.now e parts first

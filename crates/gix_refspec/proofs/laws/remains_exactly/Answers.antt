@@ -1,5 +1,4 @@
 use Rattle.gix_refspec.proofs.lemmas.validate.MadeAtLemmas.{remains_exactly}
-use Rattle.gix_refspec.proofs.laws.remains_exactly.Goals as goal
 
-pub returns : goal.returns
+pub returns : Rattle.gix_refspec.proofs.laws.remains_exactly.Goals.returns
 returns c = remains_exactly _ _

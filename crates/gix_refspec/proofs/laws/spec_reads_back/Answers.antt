@@ -1,5 +1,4 @@
 use Rattle.gix_refspec_text.proofs.lemmas.specs.SpecLemmas.{printed_back}
-use Rattle.gix_refspec.proofs.laws.spec_reads_back.Goals as goal
 
-pub returns : goal.returns
+pub returns : Rattle.gix_refspec.proofs.laws.spec_reads_back.Goals.returns
 returns c = printed_back _ c.args.spec.now.accepted

@@ -1,5 +1,4 @@
 use Rattle.gix_refspec.proofs.lemmas.hits.TransposeLemmas.{transpose}
-use Rattle.gix_refspec.proofs.laws.transpose.Goals as goal
 
-pub returns : goal.returns
+pub returns : Rattle.gix_refspec.proofs.laws.transpose.Goals.returns
 returns c = transpose c.args.group.now.specs.items _ _

@@ -1,5 +1,4 @@
 use Rattle.gix_refspec.proofs.lemmas.validate.AfterLemmas.{validated_once}
-use Rattle.gix_refspec.proofs.laws.validated_once.Goals as goal
 
-pub returns : goal.returns
+pub returns : Rattle.gix_refspec.proofs.laws.validated_once.Goals.returns
 returns c = validated_once _ _

@@ -3,14 +3,11 @@
 use Rattle.gix_refspec.proofs.Common.{Any as AnyAt, ◌≡◌, ◌⊎◌, inl, inr, ℕ, List, [], ◌∷◌, ◌++◌, codes, Option, None, Some, map, refl, ap, ◌∙◌, subst, AllByRecursion, IsSome, false≢true, RefSpecRef}
 use Rattle.gix_refspec.proofs.Common.{Lacks, BeginsWith, star, HasStar, HasSeveralStars, HasOneStar, Reading, IsAccepted, IsPositive, IsOneStarred, reading_of, SideKind, pattern, full_name, object}
 use Rattle.gix_refspec.proofs.Common.{partial, HasKind, filled, Ref, MatchesAs, Matches, HasName, Takes, name, AreForwardEnds, AreBackwardEnds, IsFilled, IsSourceAmong, IsDestinationAmong}
-use Rattle.gix_refspec.proofs.Common.{GoesBothWays, Transpose, true, Bool, IsTrue, ◌↔◌, Source, MakesForward, MakesBackward, PairsItem, id, IsPaired, by_cases}
-use Rattle.gix_refspec_text.proofs.lemmas.texts.TextLemmas.{Lacks-ContainsText}
+use Rattle.gix_refspec.proofs.Common.{GoesBothWays, Transpose, true, Bool, IsTrue, ◌↔◌, Source, MakesForward, MakesBackward, PairsItem, id, IsPaired, by_cases, one_kind, matches_as, same_side}
+use Rattle.gix_refspec.proofs.Common.{Any-all, Any-both, some_at, some_of, Lacks-ContainsText, accepted_few, accepted_balanced}
 use Rattle.gix_refspec_text.proofs.lemmas.parsing.DecideLemmas.{lacks_or_first}
-use Rattle.gix_refspec_text.proofs.lemmas.specs.AcceptedLemmas.{accepted_few, accepted_balanced}
-use Rattle.gix_refspec_match.proofs.lemmas.hits.HitLemmas.{one_kind, matches_as, same_side}
 use Rattle.gix_refspec.proofs.lemmas.keep.FilterLemmas.{item_named, name_there}
 use Rattle.gix_refspec.proofs.lemmas.keep.PairMadeLemmas.{kept_exactly}
-use Rattle.gix_refspec_match.proofs.lemmas.lists.SomeLemmas.{Any-all, Any-both, some_at, some_of}
 
 -- ---- two sides
 

@@ -3,9 +3,8 @@ use Rattle.gix_refspec.proofs.Common.{◌≡◌, inl, inr, ◌↔◌, ℕ, ◌+�
 use Rattle.gix_refspec.proofs.Common.{Fetch, RefSpecRef, Mode, Normal, Forced, Negative, Reading, IsPositive, IsAccepted, Reads, Meaning, fetch_only, fetch_exclude, fetch_and_update, meaning}
 use Rattle.gix_refspec.proofs.Common.{meaning_of, key_of_spec, reading_of, Ref, Matches, Takes, MakesOf, IsMadeFrom, IsJoinedFrom, Source, name, id, Mapped, IsExcludedBy, IsExcluded, IsSourceExcluded}
 use Rattle.gix_refspec.proofs.Common.{IsKeptAt, IsKept, Ends, AreForwardEnds, AreBackwardEnds, Hit, AreSpecHits, AreHits, IsIdMapping, AreKeptForward, AreKeptBackward, ReadsAgainAs, MapAlike}
-use Rattle.gix_refspec.proofs.Common.{FetchGroupReadsBack, FetchTheSame, EqualGroups, AreFetches, same_Some, by_cases, rules, subst}
-use Rattle.gix_refspec_text.proofs.lemmas.specs.SpecLemmas.{equal_keys, keeps_operation, printed_back, says, says_for_operation}
-use Rattle.gix_refspec_text.proofs.lemmas.lists.EqualLemmas.{same_keys}
+use Rattle.gix_refspec.proofs.Common.{FetchGroupReadsBack, FetchTheSame, EqualGroups, AreFetches, same_Some, by_cases, rules, subst, same_keys, equal_keys, keeps_operation, printed_back, says}
+use Rattle.gix_refspec.proofs.Common.{says_for_operation}
 
 abbrev pub is_negative : Mode → Bool
 is_negative Negative = true

@@ -5,12 +5,11 @@ use Rattle.gix_refspec.proofs.Common.{get_or-map, length-map, All-contains_itsel
 use Rattle.gix_refspec.proofs.Common.{AreBackwardEnds, ref_of, BeginsWithOne, ArePart, TakesItem, HasTaken, PassesTaken, FilteredItems, FilteredByEntries, FilteredByList, is_begun, All-contains}
 use Rattle.gix_refspec.proofs.Common.{all_weaker, inl, inr, ◌↔◌, None, Some, append-nil, Lacks, star, head, SideKind, pattern, full_name, object, partial, HasKind, HasName, IsFirstCandidate, of_head}
 use Rattle.gix_refspec.proofs.Common.{to_prefix, Source, name, id, Mapped, AreKeptForward, AreKeptBackward, PairsItem, MakesForward, MakesBackward, IsCoveredBy, HaveSamePairs, FewerItems, IsListed}
-use Rattle.gix_refspec.proofs.Common.{AreListedItems, ListedItems, same_Some, All-from_recursion, Lacks-tested, rules}
+use Rattle.gix_refspec.proofs.Common.{AreListedItems, ListedItems, same_Some, All-from_recursion, Lacks-tested, rules, lacks_no_pattern}
 use Rattle.std.proofs.lemmas.Bool.Decides.{Decides-eqb}
 use Rattle.gix_refspec_match.proofs.lemmas.duplicates.HashKeyLemmas.{contains_filter}
 use Rattle.gix_refspec_text.proofs.lemmas.hits.CandidateLemmas.{first_candidate, first_once, some_first, taken_by_first}
 use Rattle.gix_refspec.proofs.lemmas.prefixes.CoverLemmas.{below_not_head, joined_covers, side_covers, source_asked}
-use Rattle.gix_refspec_text.proofs.lemmas.hits.MatchLemmas.{lacks_no_pattern}
 use Rattle.gix_refspec.proofs.lemmas.keep.PairMadeLemmas.{kept_exactly}
 
 pub mapped_there : {X Y : Type 0} (f : X → Y) (xs : List X) (x : X) → Contains xs x → Contains (map f xs) (f x)

@@ -1,14 +1,13 @@
 -- A pair is kept exactly if some reading makes it, and none excludes it; and of the mappings with one pair only the
 -- first is kept.
 use Rattle.gix_refspec.proofs.Common.{Any as AnyAt, ◌≡◌, inl, ◌↔◌, ℕ, ◌+◌, List, [], ◌∷◌, ◌++◌, Option, None, Some, map, unwrap_or, refl, sym, ap, ◌∙◌, subst, AllByRecursion, First, All, Reading, Ref}
-use Rattle.gix_refspec.proofs.Common.{Matches, Takes, IsMadeFrom, Source, name, id, Mapped, HasPair, IsSourceExcluded, IsKeptAt, AreForwardEnds, AreBackwardEnds, Hit, IsIdMapping, AreForward, AreBackward}
-use Rattle.gix_refspec.proofs.Common.{forward_of, backward_of, IsPaired, PairsId, MakesForward, MakesBackward, KeptExactly, NothingExcluded, option_to_list, length, take, arith, Contains, IsKept}
-use Rattle.gix_refspec.proofs.Common.{IsFirstOfPair, FirstStays, drop, slice_get, slice_get_within, get_or_from_slice_get, take-append-drop, drop_more, All-from_recursion, All-contains, MakesForwardOf}
-use Rattle.gix_refspec.proofs.Common.{MakesBackwardOf, by_cases}
-use Rattle.gix_refspec_match.proofs.lemmas.hits.HitLemmas.{id_once, forward_once, backward_once}
+use Rattle.gix_refspec.proofs.Common.{Matches, Takes, IsMadeFrom, Source, name, id, Mapped, HasPair, IsSourceExcluded, IsKeptAt, AreForwardEnds, AreBackwardEnds, Hit, IsIdMapping, AreForward}
+use Rattle.gix_refspec.proofs.Common.{AreBackward, forward_of, backward_of, IsPaired, PairsId, MakesForward, MakesBackward, KeptExactly, NothingExcluded, option_to_list, length, take, arith, Contains}
+use Rattle.gix_refspec.proofs.Common.{IsKept, IsFirstOfPair, FirstStays, drop, slice_get, slice_get_within, get_or_from_slice_get, take-append-drop, drop_more, All-from_recursion, All-contains}
+use Rattle.gix_refspec.proofs.Common.{MakesForwardOf, MakesBackwardOf, by_cases, id_once, forward_once, backward_once, AnyOf as Any, Any-all, Any-left, Any-right, Any-map, Any-weaker, Any-fact}
+use Rattle.gix_refspec.proofs.Common.{MakesOnly, any_made, some_at, some_of, AtSpec, all_weaker}
 use Rattle.gix_refspec_match.proofs.lemmas.keep.KeptPairLemmas.{IsOfPair, Any-HasPair, HasPair-Any, kept_pairs, Keeps}
 use Rattle.gix_refspec_match.proofs.lemmas.hits.ReachLemmas.{Reaches, reach_hits}
-use Rattle.gix_refspec_match.proofs.lemmas.lists.SomeLemmas.{Any, Any-all, Any-left, Any-right, Any-map, Any-weaker, Any-fact, MakesOnly, any_made, some_at, some_of}
 use Rattle.std.proofs.Math.Seq.{take-append_seam}
 use Rattle.gix_refspec.proofs.lemmas.validate.MadeAtLemmas.{BackwardAt, ForwardAt, backward_all, forward_all}
 use Rattle.gix_refspec.proofs.lemmas.MadeLemmas.{any_at, back, each_made}
@@ -23,19 +22,13 @@ makes_backward : (items : List Ref) (item : Option ℕ) (s : Source) (d : Option
 makes_backward items item (name n) (Some m) r at = record { ends = at.ends; has = at.has; one = any_at (IsPaired Matches at.ends m (Some n)) items at.index at.ref at.stands at.paired }
 makes_backward items item s d r none = none
 
-made_forward : (g : List Reading) (items : List Ref) (l : List Mapped) (pair : Mapped) → AreForward g items l → HasPair l pair → Any (MakesForward items pair.source pair.destination) g
-made_forward g items l pair are has =
-    let Made = MakesForward items pair.source pair.destination in
-    Any-fact _ l (Any-all (ForwardAt g items) (IsOfPair pair) (λ m. Any Made g) (λ m (r, here, at) same.
-    some_of Made g (any_at Made g m.spec r here (subst (λ (s : Source). MakesForward items s pair.destination r) same.source (subst (λ (d : Option (List ℕ)). MakesForward items m.source d r) same.destination (makes_forward items m.item m.source m.destination r at)))))
-    l (forward_all g items l are) (Any-HasPair l pair has))
-
-made_backward : (g : List Reading) (items : List Ref) (l : List Mapped) (pair : Mapped) → AreBackward g items l → HasPair l pair → Any (MakesBackward items pair.source pair.destination) g
-made_backward g items l pair are has =
-    let Made = MakesBackward items pair.source pair.destination in
-    Any-fact _ l (Any-all (BackwardAt g items) (IsOfPair pair) (λ m. Any Made g) (λ m (r, here, at) same.
-    some_of Made g (any_at Made g m.spec r here (subst (λ (s : Source). MakesBackward items s pair.destination r) same.source (subst (λ (d : Option (List ℕ)). MakesBackward items m.source d r) same.destination (makes_backward items m.item m.source m.destination r at)))))
-    l (backward_all g items l are) (Any-HasPair l pair has))
+-- if each mapping is made at its spec, some reading makes each pair
+made_some : (Made : Source → Option (List ℕ) → Reading → Type 0) (g : List Reading) (l : List Mapped) (pair : Mapped) → AllByRecursion (λ m. AtSpec g m (Made m.source m.destination)) l → HasPair l pair → Any (Made pair.source pair.destination) g
+made_some Made g l pair made has =
+    let P = Made pair.source pair.destination in
+    Any-fact _ l (Any-all (λ m. AtSpec g m (Made m.source m.destination)) (IsOfPair pair) (λ m. Any P g) (λ m (r, here, at) same.
+    some_of P g (any_at P g m.spec r here (subst (λ (s : Source). Made s pair.destination r) same.source (subst (λ (d : Option (List ℕ)). Made m.source d r) same.destination at))))
+    l made (Any-HasPair l pair has))
 
 -- ---- what a reading makes it reaches
 
@@ -62,7 +55,10 @@ made_id pair bytes r of_pair makes j =
     (m, is, λ z also. subst (IsOfPair pair) (id_once j r m z is also) of)
 
 forward_pairs : (g : List Reading) (items : List Ref) (l : List Mapped) (pair : Mapped) → AreForward g items l → HasPair l pair ↔ Any (MakesForward items pair.source pair.destination) g
-forward_pairs g items l pair are = (made_forward g items l pair are, λ any. from_made pair.source refl any)
+forward_pairs g items l pair are = (
+  made_some (MakesForward items) g l pair (all_weaker (ForwardAt g items) _ (λ m (r, here, at). (r, here, makes_forward items m.item m.source m.destination r at)) l (forward_all g items l are)),
+  λ any. from_made pair.source refl any,
+)
   where
     to_hit : (h : Hit) → ForwardTo pair.source pair.destination h.near h.far → IsOfPair pair (forward_of h)
     to_hit h both = record { source = both.0; destination = both.1 }
@@ -80,7 +76,10 @@ forward_pairs g items l pair are = (made_forward g items l pair are, λ any. fro
         whole (Any-left _ are.ids (map forward_of are.hits) (any_made IsIdMapping (IsOfPair pair) 0 g are.ids are.are_ids (Any-weaker _ _ (λ r. made_id pair bytes r is) g made)))
 
 backward_pairs : (g : List Reading) (items : List Ref) (l : List Mapped) (pair : Mapped) → AreBackward g items l → HasPair l pair ↔ Any (MakesBackward items pair.source pair.destination) g
-backward_pairs g items l pair are = (made_backward g items l pair are, λ any. from_made pair.source pair.destination refl refl any)
+backward_pairs g items l pair are = (
+  made_some (MakesBackward items) g l pair (all_weaker (BackwardAt g items) _ (λ m (r, here, at). (r, here, makes_backward items m.item m.source m.destination r at)) l (backward_all g items l are)),
+  λ any. from_made pair.source pair.destination refl refl any,
+)
   where
     made_from : (n m : List ℕ) → pair.source ≡ name n → pair.destination ≡ Some m → Any (MakesBackward items (name n) (Some m)) g → HasPair l pair
     made_from n m from to any =
@@ -93,16 +92,13 @@ backward_pairs g items l pair are = (made_backward g items l pair are, λ any. f
     from_made (name n) None from to any = absurd (Any-fact ⊥ g (subst (λ (d : Option (List ℕ)). Any (MakesBackward items (name n) d) g) to (subst (λ (s : Source). Any (MakesBackward items s pair.destination) g) from any)))
     from_made (id bytes) d from to any = absurd (Any-fact ⊥ g (subst (λ (s : Source). Any (MakesBackward items s pair.destination) g) from any))
 
-kept_by : (g : List Reading) (l kept : List Mapped) (pair : Mapped) (M : Type 0) → HasPair kept pair ↔ (HasPair l pair × ¬ (IsSourceExcluded g pair.source)) → HasPair l pair ↔ M → HasPair kept pair ↔ (M × ¬ (IsSourceExcluded g pair.source))
-kept_by g l kept pair M stays made = ((λ has. (made.0 (stays.0 has).0, (stays.0 has).1)), (λ both. stays.1 (made.1 both.0, both.1)))
-
-placed : {H : Type 0} (P : Reading → Type 0) (g : List Reading) → H ↔ Any P g → H ↔ AnyAt P g
-placed P g is = ((λ h. some_at P g (is.0 h)), (λ any. is.1 (some_of P g any)))
+kept_by : (g : List Reading) (l kept : List Mapped) (pair : Mapped) (M : Reading → Type 0) → IsKept g l kept → HasPair l pair ↔ Any M g → HasPair kept pair ↔ (AnyAt M g × ¬ (IsSourceExcluded g pair.source))
+kept_by g l kept pair M is made = let stays = kept_pairs g l kept pair is in ((λ has. (some_at M g (made.0 (stays.0 has).0), (stays.0 has).1)), (λ both. stays.1 (made.1 (some_of M g both.0), both.1)))
 
 pub kept_exactly : (g : List Reading) (items : List Ref) → KeptExactly g items
 kept_exactly g items = record {
-  forward = λ kept are pair. kept_by g are.all kept pair _ (kept_pairs g are.all kept pair are.is) (placed (MakesForward items pair.source pair.destination) g (forward_pairs g items are.all pair are.forward));
-  backward = λ kept are pair. kept_by g are.all kept pair _ (kept_pairs g are.all kept pair are.is) (placed (MakesBackward items pair.source pair.destination) g (backward_pairs g items are.all pair are.backward));
+  forward = λ kept are pair. kept_by g are.all kept pair _ are.is (forward_pairs g items are.all pair are.forward);
+  backward = λ kept are pair. kept_by g are.all kept pair _ are.is (backward_pairs g items are.all pair are.backward);
 }
 
 included : (g : List Reading) (l list : List Mapped) → IsKept g l list → AllByRecursion (λ m. ¬ (IsSourceExcluded g m.source)) list

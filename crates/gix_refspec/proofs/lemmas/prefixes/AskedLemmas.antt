@@ -1,15 +1,11 @@
 -- Ref prefixes, for which a server lists each ref that a group of fetches maps: over the items that it lists, the same
 -- pairs are kept.
-use Rattle.gix_refspec.proofs.Common.{Any as AnyAt, joined_next, map_split, map_long, nothing_joined, ◌≡◌, inl, inr, ℕ, suc, ◌+◌, ◌<◌, List, [], ◌∷◌, ◌++◌, Option, None, Some, MatchOption, Vec, Global}
-use Rattle.gix_refspec.proofs.Common.{length, map, take, drop, get_or, refl, sym, ap, ◌∙◌, subst, arith, BString, bstring_bytes, append-nil, get_or-map, length-map, map-append, map_more, recursion_from_All}
-use Rattle.gix_refspec.proofs.Common.{Fetch, RefSpecRef, reading_of, BeginsWith, IsSplit, IsPositive, Reading, SideKind, pattern, full_name, object, partial, HasKind, Ref, Matches, MatchesAs, Takes}
-use Rattle.gix_refspec.proofs.Common.{IsRefPrefix, IsAsked, Source, name, AreForwardEnds, MakesForward, PairsItem, HasNoList, Lists, ListsAs, ListsGroup, ListsSide, Serves, AreFetches, AskedItems}
-use Rattle.gix_refspec.proofs.Common.{TakesItem, by_cases}
-use Rattle.gix_refspec_match.proofs.lemmas.hits.HitLemmas.{one_kind}
-use Rattle.gix_refspec_match.proofs.lemmas.keep.KeptLemmas.{HasPair-from_place}
+use Rattle.gix_refspec.proofs.Common.{Any as AnyAt, joined_next, map_split, map_long, nothing_joined, ◌≡◌, inl, inr, ℕ, suc, ◌+◌, ◌<◌, List, [], ◌∷◌, ◌++◌, Option, None, Some, MatchOption, Vec}
+use Rattle.gix_refspec.proofs.Common.{Global, length, map, take, drop, get_or, refl, sym, ap, ◌∙◌, subst, arith, BString, bstring_bytes, append-nil, get_or-map, length-map, map-append, map_more}
+use Rattle.gix_refspec.proofs.Common.{recursion_from_All, Fetch, RefSpecRef, reading_of, BeginsWith, IsSplit, IsPositive, Reading, SideKind, pattern, full_name, object, partial, HasKind, Ref, Matches}
+use Rattle.gix_refspec.proofs.Common.{MatchesAs, Takes, IsRefPrefix, IsAsked, Source, name, AreForwardEnds, MakesForward, PairsItem, HasNoList, Lists, ListsAs, ListsGroup, ListsSide, Serves}
+use Rattle.gix_refspec.proofs.Common.{AreFetches, AskedItems, TakesItem, by_cases, one_kind, HasPair-from_place, AnyOf as Any, Any-all, Any-right, any_joined, some_at, some_of, one_asked}
 use Rattle.gix_refspec.proofs.lemmas.keep.PairMadeLemmas.{kept_exactly}
-use Rattle.gix_refspec_text.proofs.lemmas.prefixes.PrefixLemmas.{one_asked}
-use Rattle.gix_refspec_match.proofs.lemmas.lists.SomeLemmas.{Any, Any-all, Any-right, any_joined, some_at, some_of}
 use Rattle.gix_refspec.proofs.lemmas.prefixes.CoverLemmas.{source_asked}
 use Rattle.gix_refspec.proofs.lemmas.keep.FilterLemmas.{fewer_items}
 

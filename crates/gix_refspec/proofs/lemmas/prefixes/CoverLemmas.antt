@@ -1,12 +1,10 @@
 -- The expansions of the specs of a group cover the names that they match.
-use Rattle.gix_refspec.proofs.Common.{id, all_join, all_weaker, ◌≡◌, ◌≢◌, inl, inr, ℕ, List, [], ◌∷◌, codes, map, Option, Some, get_or, refl, sym, ap, ◌∙◌, subst, arith, append-nil, AllByRecursion, Any}
-use Rattle.gix_refspec.proofs.Common.{slice_get, Operation, Fetch, Lacks, BeginsWith, star, head, Reading, side_on_remote, SideKind, pattern, full_name, object, partial, HasKind, IsId, IsCandidate}
-use Rattle.gix_refspec.proofs.Common.{candidates, Ref, Matches, Takes, of_head, IsAsked, Expands, to_prefix, IsExpansion, IsJoinedFrom, name, Mapped, IsKeptAt, Ends, AreForwardEnds, Hit, IsHit, AreSpecHits}
-use Rattle.gix_refspec.proofs.Common.{IsIdMapping, forward_of, AreForward, IsCovering, by_prefix, by_candidates, BeginsWithOne, IsCoveredBy, AsksFor, AtSpec, Cover, CoverTogether}
-use Rattle.gix_refspec_text.proofs.lemmas.hits.MatchLemmas.{lacks_no_pattern, prefix_begins, has_candidates}
+use Rattle.gix_refspec.proofs.Common.{id, all_join, all_weaker, ◌≡◌, ◌≢◌, inl, inr, ℕ, List, [], ◌∷◌, codes, map, Option, Some, get_or, refl, sym, ap, ◌∙◌, subst, arith, append-nil, AllByRecursion}
+use Rattle.gix_refspec.proofs.Common.{Any, slice_get, Operation, Fetch, Lacks, BeginsWith, star, head, Reading, side_on_remote, SideKind, pattern, full_name, object, partial, HasKind, IsId}
+use Rattle.gix_refspec.proofs.Common.{IsCandidate, candidates, Ref, Matches, Takes, of_head, IsAsked, Expands, to_prefix, IsExpansion, IsJoinedFrom, name, Mapped, IsKeptAt, Ends, AreForwardEnds, Hit}
+use Rattle.gix_refspec.proofs.Common.{IsHit, AreSpecHits, IsIdMapping, forward_of, AreForward, IsCovering, by_prefix, by_candidates, BeginsWithOne, IsCoveredBy, AsksFor, AtSpec, Cover, CoverTogether}
+use Rattle.gix_refspec.proofs.Common.{Any-right, Any-weaker, any_joined, some_at as at_place, some_of, lacks_no_pattern, prefix_begins, has_candidates, one_asked}
 use Rattle.gix_refspec_text.proofs.lemmas.prefixes.OnePrefixLemmas.{one_prefix}
-use Rattle.gix_refspec_text.proofs.lemmas.prefixes.PrefixLemmas.{one_asked}
-use Rattle.gix_refspec_match.proofs.lemmas.lists.SomeLemmas.{Any-right, Any-weaker, any_joined, some_at as at_place, some_of}
 use Rattle.gix_refspec.proofs.lemmas.MadeLemmas.{any_at, each_joined, each_made, map_each, stays_each}
 use Rattle.gix_refspec.proofs.lemmas.keep.PairMadeLemmas.{one_name}
 

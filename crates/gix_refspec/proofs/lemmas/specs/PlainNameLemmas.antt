@@ -1,8 +1,8 @@
 -- Texts of plain components have no fault: each fault is an empty component or has a special byte other than a slash.
 use Rattle.gix_refspec.proofs.Common.{no_component, all_join, ◌≡◌, ◌≢◌, ◌⊎◌, inl, inr, ℕ, true, false, ◌==◌, List, [], ◌∷◌, ◌++◌, codes, refl, sym, ap, ◌∙◌, subst, append_assoc, arith, AllByRecursion}
-use Rattle.gix_refspec.proofs.Common.{join_with_byte, list_all, list_any, slice_split, and_parts, false≢true, or_left, or_parts, true≢false, Empty, EmptyComponent, StartsWithDot, LockSuffix, EndsWithDot}
-use Rattle.gix_refspec.proofs.Common.{RepeatedDot, ReflogPortion, Asterisk, InvalidByte, at, brace, dot, slash, star, BeginsWith, EndsWith, is_refused_byte, HasFault, SomeComponent, is_plain_component}
-use Rattle.gix_refspec.proofs.Common.{is_plain_name, is_special_byte, PlainNames, by_cases, not-true}
+use Rattle.gix_refspec.proofs.Common.{join_with_byte, list_all, list_any, slice_split, and_parts, false≢true, or_left, or_parts, true≢false, Empty, EmptyComponent, StartsWithDot, LockSuffix}
+use Rattle.gix_refspec.proofs.Common.{EndsWithDot, RepeatedDot, ReflogPortion, Asterisk, InvalidByte, at, brace, dot, slash, star, BeginsWith, EndsWith, is_refused_byte, HasFault, SomeComponent}
+use Rattle.gix_refspec.proofs.Common.{is_plain_component, is_plain_name, is_special_byte, PlainNames, by_cases, not-true}
 use Rattle.std.proofs.lemmas.List.Splits.{join_with_byte-slice_split}
 use Rattle.gix_refspec_text.specs.declared.name.Error.{Error}
 use Rattle.gix_refspec_text.proofs.lemmas.texts.ComponentLemmas.{AllByRecursion-parts}

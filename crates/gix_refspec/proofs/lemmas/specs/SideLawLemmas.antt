@@ -1,10 +1,6 @@
 -- Both sides of an accepted reading have a star or neither has, and kind, word and id are unique.
-use Rattle.gix_refspec.proofs.Common.{inl, inr, Reading, IsAccepted, by_cases}
+use Rattle.gix_refspec.proofs.Common.{inl, inr, Reading, IsAccepted, by_cases, one_kind, IsIdText-unique, one_word, accepted_few, accepted_balanced}
 use Rattle.gix_refspec_text.specs.Laws.Sides.{SidesAgree, OneOfEach}
-use Rattle.gix_refspec_text.proofs.lemmas.specs.AcceptedLemmas.{accepted_few, accepted_balanced}
-use Rattle.gix_refspec_match.proofs.lemmas.hits.HitLemmas.{one_kind}
-use Rattle.gix_refspec_text.proofs.lemmas.hits.MatchLemmas.{one_word}
-use Rattle.gix_refspec_text.proofs.lemmas.texts.ObjectIdLemmas.{IsIdText-unique}
 use Rattle.gix_refspec.proofs.lemmas.hits.TransposeLemmas.{both_or_neither, one_star, starred}
 
 pub sides_agree : (r : Reading) → ∥ IsAccepted r ∥₁ → SidesAgree r

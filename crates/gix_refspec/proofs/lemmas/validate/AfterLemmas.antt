@@ -1,15 +1,14 @@
 -- What holds of mappings before and after a validation, which leaves no duplicate mappings and no duplicate fixes.
 use Rattle.gix_refspec.proofs.Common.{all_weaker, ◌≡◌, ℕ, suc, ◌+◌, ◌<◌, List, [], ◌∷◌, None, Some, length, get_or, refl, sym, ◌∙◌, subst, arith, AllByRecursion, Contains, All-contains_itself}
 use Rattle.gix_refspec.proofs.Common.{All-from_recursion, Contains-get_or, recursion_from_All, Reading, IsMadeFrom, Ref, Mapped, IsSamePair, AreApart, AreKeptForward, AreConflicts, ForwardFits}
-use Rattle.gix_refspec.proofs.Common.{DestinationsHaveOneSource, IsValidated, ShareDestination, HaveDistinctDestinations, Removed, Survives, ValidatedOnce, ForwardIndexes, Option, ap, name, HaveOneSource}
-use Rattle.gix_refspec.proofs.Common.{HaveSourcesByIndex, PlansApart, ◌≢◌, slice_get, same_Some, IsIdText, Source, IsFix, MakesForwardOf, AreFixesApart, id, by_cases, ◌↔◌, ◌++◌, option_map, Bool, true}
-use Rattle.gix_refspec.proofs.Common.{false, map, take, items_where_true, false≢true, append-nil, slice_get-map, slice_get_read, Mapping, NameRef, Fix, Issue, RefSpecRef, reading_of, mapped_of, name_bytes}
-use Rattle.gix_refspec.proofs.Common.{conflict_of, removed_of, AreFixes, AreSurvivors, IsWritable, length-append, made_more, map-append, one_more_mapped}
+use Rattle.gix_refspec.proofs.Common.{DestinationsHaveOneSource, IsValidated, ShareDestination, HaveDistinctDestinations, Removed, Survives, ValidatedOnce, ForwardIndexes, Option, ap, name}
+use Rattle.gix_refspec.proofs.Common.{HaveOneSource, HaveSourcesByIndex, PlansApart, ◌≢◌, slice_get, same_Some, IsIdText, Source, IsFix, MakesForwardOf, AreFixesApart, id, by_cases, ◌↔◌, ◌++◌}
+use Rattle.gix_refspec.proofs.Common.{option_map, Bool, true, false, map, take, items_where_true, false≢true, append-nil, slice_get-map, slice_get_read, Mapping, NameRef, Fix, Issue, RefSpecRef}
+use Rattle.gix_refspec.proofs.Common.{reading_of, mapped_of, name_bytes, conflict_of, removed_of, AreFixes, AreSurvivors, IsWritable, length-append, made_more, map-append, one_more_mapped, kept_once}
+use Rattle.gix_refspec.proofs.Common.{IsIdText-unique}
 use Rattle.gix_refspec.proofs.lemmas.validate.FirstLemmas.{start_cases}
-use Rattle.gix_refspec_match.proofs.lemmas.keep.KeptLemmas.{kept_once}
 use Rattle.gix_refspec.proofs.lemmas.MadeLemmas.{stays_each, made_all}
 use Rattle.gix_refspec.proofs.lemmas.validate.MadeAtLemmas.{item_indexes_fit, ForwardAt, made_at_indexes}
-use Rattle.gix_refspec_text.proofs.lemmas.texts.ObjectIdLemmas.{IsIdText-unique}
 use Rattle.std.specs.List.Retain.{ReturnsInTurn, IsFiltered}
 
 pub forward_fits : (g : List Reading) (items : List Ref) → ForwardFits g items

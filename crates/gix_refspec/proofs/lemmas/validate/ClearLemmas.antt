@@ -1,15 +1,12 @@
 -- Canonical texts of fetches contain no control character, nor do mappings, if no name of an item does.
 use Rattle.gix_refspec.proofs.Common.{all_left, all_right, all_join, at, fetches_nothing_named, fetches_colon, fetches, updates, updates_from_head, fetch_excludes, pushes_plus, pushes_colon, pushes}
-use Rattle.gix_refspec.proofs.Common.{deletes, pushes_pattern, pushes_to, push_excludes, ◌≡◌, ◌≢◌, inl, inr, ℕ, ◌<◌, ◌==◌, ◌&&◌, ◌||◌, Bool, true, false, IsTrue, nat_le, if◌then◌else◌, List, [], ◌∷◌, ◌++◌}
-use Rattle.gix_refspec.proofs.Common.{Option, None, Some, codes, get_or, map, sym, ap, ◌∙◌, subst, nat_eq, arith, AllByRecursion, list_any, starts_with, eqb-true, false≢true, lt-leb, lt-ltb, Lacks, star}
-use Rattle.gix_refspec.proofs.Common.{is_refused_byte, IsIdText, is_lower_digit, lower_of, Reading, SideKind, pattern, full_name, object, partial, HasKind, filled, Ref, MatchesAs, Takes, Mapped, IsKeptAt}
-use Rattle.gix_refspec.proofs.Common.{AreForwardEnds, AreSpecHits, IsFilled, Hit, IsHit, IsIdMapping, AreKeptForward, forward_of, LacksIn, MappedLacks, NoControlCharacter, SidesLack, SourceLacks, same_Some}
-use Rattle.gix_refspec.proofs.Common.{head, colon, letter, Mode, fetched, Reads, IsNameOrPattern, AreAlike, named_by, Fetch, printed, sign, begins_with_plus, IsPattern, IsName, InvalidByte, Normal, Forced}
-use Rattle.gix_refspec.proofs.Common.{Negative, by_cases, some_none, push_is_none}
-use Rattle.gix_refspec_text.proofs.lemmas.texts.TextLemmas.{Lacks-from_absent, Lacks-from_indexes}
-use Rattle.gix_refspec_text.proofs.lemmas.texts.ObjectIdLemmas.{lower_of-digits}
+use Rattle.gix_refspec.proofs.Common.{deletes, pushes_pattern, pushes_to, push_excludes, ◌≡◌, ◌≢◌, inl, inr, ℕ, ◌<◌, ◌==◌, ◌&&◌, ◌||◌, Bool, true, false, IsTrue, nat_le, if◌then◌else◌, List, [], ◌∷◌}
+use Rattle.gix_refspec.proofs.Common.{◌++◌, Option, None, Some, codes, get_or, map, sym, ap, ◌∙◌, subst, nat_eq, arith, AllByRecursion, list_any, starts_with, eqb-true, false≢true, lt-leb, lt-ltb}
+use Rattle.gix_refspec.proofs.Common.{Lacks, star, is_refused_byte, IsIdText, is_lower_digit, lower_of, Reading, SideKind, pattern, full_name, object, partial, HasKind, filled, Ref, MatchesAs, Takes}
+use Rattle.gix_refspec.proofs.Common.{Mapped, IsKeptAt, AreForwardEnds, AreSpecHits, IsFilled, Hit, IsHit, IsIdMapping, AreKeptForward, forward_of, LacksIn, MappedLacks, NoControlCharacter, SidesLack}
+use Rattle.gix_refspec.proofs.Common.{SourceLacks, same_Some, head, colon, letter, Mode, fetched, Reads, IsNameOrPattern, AreAlike, named_by, Fetch, printed, sign, begins_with_plus, IsPattern, IsName}
+use Rattle.gix_refspec.proofs.Common.{InvalidByte, Normal, Forced, Negative, by_cases, some_none, push_is_none, Lacks-from_absent, Lacks-from_indexes, lower_of-digits, IsName-head}
 use Rattle.gix_refspec.proofs.lemmas.MadeLemmas.{all_at, each_joined, made_all, map_each, stays_each}
-use Rattle.gix_refspec_text.proofs.lemmas.texts.HeadLemmas.{IsName-head}
 
 -- ---- canonical texts
 
@@ -21,6 +18,10 @@ record IsClearFetch (b : ℕ) (r : Reading) : Type 0 where
   first : Lacks b source
   last : LacksIn b destination
   is : r ≡ fetched mode source destination
+
+either_way : (b : ℕ) (v : Bool) (x y : List ℕ) → Lacks b x → Lacks b y → Lacks b (if v then x else y)
+either_way b true x y first second = first
+either_way b false x y first second = second
 
 module _ (b : ℕ) (below : b < 32) (refused : IsTrue (is_refused_byte b)) where
   name_lacks : (x : List ℕ) → IsName x → Lacks b x
@@ -35,13 +36,9 @@ module _ (b : ℕ) (below : b < 32) (refused : IsTrue (is_refused_byte b)) where
   head_lacks : Lacks b head
   head_lacks = name_lacks head IsName-head
 
-  head_or_lacks : (v : Bool) (s : List ℕ) → Lacks b s → Lacks b (if v then head else s)
-  head_or_lacks true s lacks = head_lacks
-  head_or_lacks false s lacks = lacks
-
   named_lacks : (s : List ℕ) → Lacks b s → Lacks b (named_by s)
   named_lacks [] lacks = tt
-  named_lacks (c ∷ []) lacks = head_or_lacks (c == at) (c ∷ []) lacks
+  named_lacks (c ∷ []) lacks = either_way b (c == at) head (c ∷ []) head_lacks lacks
   named_lacks (c ∷ d ∷ s) lacks = lacks
 
   sign_lacks : (forced : Bool) → Lacks b (sign forced)
@@ -103,20 +100,11 @@ module _ (b : ℕ) (below : b < 32) (no_digit : is_lower_digit b ≡ false) wher
       let lower = lower_of-digits t i text in
       Lacks-from_indexes b (lower_of i) (λ k inside same. false≢true (sym no_digit ∙ ap is_lower_digit (sym (eqb-true (get_or (lower_of i) k 0) b same)) ∙ lower k 0 inside))
 
-  high : (c : ℕ) → 32 < c → c ≢ b
-  high c above same = omega (arith, above, same, below)
-
   refs_lacks : Lacks b (codes "refs/")
-  refs_lacks = (high 114 (omega arith), (high 101 (omega arith), (high 102 (omega arith), (high 115 (omega arith), (high 47 (omega arith), tt)))))
+  refs_lacks = search arith
 
   branch_lacks : Lacks b (codes "refs/heads/")
-  branch_lacks =
-      all_join (λ c. c ≢ b) (codes "refs/") (codes "heads/") refs_lacks
-      (high 104 (omega arith), (high 101 (omega arith), (high 97 (omega arith), (high 100 (omega arith), (high 115 (omega arith), (high 47 (omega arith), tt))))))
-
-  chosen_lacks : (v : Bool) (x : List ℕ) → Lacks b x → Lacks b (if v then codes "refs/" ++ x else codes "refs/heads/" ++ x)
-  chosen_lacks true x lacks = all_join (λ c. c ≢ b) (codes "refs/") x refs_lacks lacks
-  chosen_lacks false x lacks = all_join (λ c. c ≢ b) (codes "refs/heads/") x branch_lacks lacks
+  branch_lacks = search arith
 
   filled_lacks : (x : List ℕ) (kind : SideKind) (word : Option (List ℕ)) → HasKind x kind → Lacks b x → LacksIn b word → Lacks b (filled kind word)
   filled_lacks x (pattern before after) None split lacks clear = subst (Lacks b) split.starred lacks
@@ -125,7 +113,9 @@ module _ (b : ℕ) (below : b < 32) (no_digit : is_lower_digit b ≡ false) wher
       all_join (λ c. c ≢ b) before (w ++ after) (all_left (λ c. c ≢ b) before (star ∷ after) all) (all_join (λ c. c ≢ b) w after clear (all_right (λ c. c ≢ b) before (star ∷ after) all).1)
   filled_lacks x (full_name n) word has lacks clear = subst (Lacks b) (sym has.0) lacks
   filled_lacks x (object i) word has lacks clear = all_join (λ c. c ≢ b) (codes "refs/heads/") (lower_of i) branch_lacks (lower_lacks x i has.2)
-  filled_lacks x (partial n) word has lacks clear = chosen_lacks (starts_with nat_eq n (codes "tags/") || starts_with nat_eq n (codes "remotes/")) n (subst (Lacks b) (sym has.0) lacks)
+  filled_lacks x (partial n) word has lacks clear =
+      let named = subst (Lacks b) (sym has.0) lacks in
+      either_way b (starts_with nat_eq n (codes "tags/") || starts_with nat_eq n (codes "remotes/")) (codes "refs/" ++ n) (codes "refs/heads/" ++ n) (all_join (λ c. c ≢ b) (codes "refs/") n refs_lacks named) (all_join (λ c. c ≢ b) (codes "refs/heads/") n branch_lacks named)
 
   word_lacks : (kind : SideKind) (r : Ref) (word : Option (List ℕ)) → MatchesAs kind r word → Lacks b r.name → LacksIn b word
   word_lacks kind r None is lacks = tt

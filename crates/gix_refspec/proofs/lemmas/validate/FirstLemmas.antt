@@ -2,8 +2,7 @@
 use Rattle.gix_refspec.proofs.Common.{Ordering, equal_pair, pair_order, same_pair, all_weaker, ◌≡◌, ◌≢◌, ◌⊎◌, inl, inr, ◌↔◌, ℕ, suc, ◌+◌, ◌-◌, ◌<◌, ◌≤◌, List, [], ◌∷◌, None, Some, Bool, true, false}
 use Rattle.gix_refspec.proofs.Common.{take, refl, sym, ap, ◌∙◌, subst, arith, AllByRecursion, AllZip, Contains, slice_get, bytes_eq, cases_lt, false≢true, get_or_from_slice_get, slice_get-get_or}
 use Rattle.gix_refspec.proofs.Common.{slice_get_within, bytes_eq-Decides, IsMadeFrom, Source, name, id, Mapped, IsSamePair, HasPair, HasConflictAt, IsFirstAt, Equal, by_cases, get_or-take}
-use Rattle.gix_refspec.proofs.Common.{length-take-le}
-use Rattle.gix_refspec_match.proofs.lemmas.keep.KeptLemmas.{HasPair-from_place}
+use Rattle.gix_refspec.proofs.Common.{length-take-le, HasPair-from_place}
 
 abbrev pub Has : List ℕ → ℕ → Type 0
 Has [] k = ⊥

@@ -1,11 +1,10 @@
 -- What the spec and the item at the indexes of a mapping make, that its indexes fit, and which mappings remain after a
 -- check.
 use Rattle.gix_refspec.proofs.Common.{all_join, all_weaker, slice_get_within, ◌≡◌, inl, inr, ◌↔◌, ℕ, List, [], Option, None, Some, map, unwrap_or, refl, sym, ap, ◌∙◌, subst, AllByRecursion, Contains}
-use Rattle.gix_refspec.proofs.Common.{slice_get, Reading, Ref, Matches, Takes, IsMadeFrom, Source, Mapped, IsKeptAt, Ends, AreForwardEnds, AreBackwardEnds, Hit, IsHit, AreSpecHits, AreHits, IsIdMapping}
-use Rattle.gix_refspec.proofs.Common.{AreForward, AreBackward, forward_of, backward_of, AtSpec, TakesAt, MakesForwardOf, MakesBackwardOf, MadeAtIndexes, RemainsExactly, Survives, HasRefNames, same_Some}
-use Rattle.gix_refspec.proofs.Common.{ForwardIndexes, ItemIndexesFit, BackwardIndexes, name, id, false≢true, IsSome, IsFilled}
+use Rattle.gix_refspec.proofs.Common.{slice_get, Reading, Ref, Matches, Takes, IsMadeFrom, Source, Mapped, IsKeptAt, Ends, AreForwardEnds, AreBackwardEnds, Hit, IsHit, AreSpecHits, AreHits}
+use Rattle.gix_refspec.proofs.Common.{IsIdMapping, AreForward, AreBackward, forward_of, backward_of, AtSpec, TakesAt, MakesForwardOf, MakesBackwardOf, MadeAtIndexes, RemainsExactly, Survives}
+use Rattle.gix_refspec.proofs.Common.{HasRefNames, same_Some, ForwardIndexes, ItemIndexesFit, BackwardIndexes, name, id, false≢true, IsSome, IsFilled, Any-both, Any-weaker, any_made, made_any}
 use Rattle.gix_refspec.proofs.lemmas.MadeLemmas.{back, there, each_joined, each_made, map_each, stays_each}
-use Rattle.gix_refspec_match.proofs.lemmas.lists.SomeLemmas.{Any-both, Any-weaker, any_made, made_any}
 
 -- the spec of the hit takes its item
 record IsTakenHit (HasEnds : Reading → Ends → Type 0) (Taken : List ℕ → Ref → Option (List ℕ) → Type 0) (g : List Reading) (items : List Ref) (h : Hit) : Type 0 where

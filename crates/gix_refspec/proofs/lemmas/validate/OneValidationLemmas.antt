@@ -1,11 +1,10 @@
 -- A validation has one result, and a copy of an outcome has the same.
-use Rattle.gix_refspec.proofs.Common.{not_below_itself, ◌≡◌, inl, inr, ℕ, List, [], ◌∷◌, Some, map, refl, sym, ap, ◌∙◌, subst, AllByRecursion, IsStrictlySortedBy, Less, nat_cmp, slice_cmp, Mapping, Outcome}
-use Rattle.gix_refspec.proofs.Common.{Reading, reading_of, IsMadeFrom, printed, Mapped, mapped_of, AreMappingCopies, readings_of, IsFirstTo, IsTextAt, Conflict, IsConflict, AreConflicts, Survives, Removed}
-use Rattle.gix_refspec.proofs.Common.{IsFix, ValidateAlike, OneValidation, CopiedOutcome, same_Some}
+use Rattle.gix_refspec.proofs.Common.{not_below_itself, ◌≡◌, inl, inr, ℕ, List, [], ◌∷◌, Some, map, refl, sym, ap, ◌∙◌, subst, AllByRecursion, IsStrictlySortedBy, Less, nat_cmp, slice_cmp, Mapping}
+use Rattle.gix_refspec.proofs.Common.{Outcome, Reading, reading_of, IsMadeFrom, printed, Mapped, mapped_of, AreMappingCopies, readings_of, IsFirstTo, IsTextAt, Conflict, IsConflict, AreConflicts}
+use Rattle.gix_refspec.proofs.Common.{Survives, Removed, IsFix, ValidateAlike, OneValidation, CopiedOutcome, same_Some, AnyOf as Any, Any-all, Any-fact, Any-from_map}
 use Rattle.gix_refspec.proofs.lemmas.MadeLemmas.{there}
 use Rattle.gix_refspec.proofs.lemmas.validate.UpdateLemmas.{below_trans}
 use Rattle.gix_refspec_match.proofs.lemmas.lists.ListsLemmas.{made_once}
-use Rattle.gix_refspec_match.proofs.lemmas.lists.SomeLemmas.{Any, Any-all, Any-fact, Any-from_map}
 use Rattle.gix_refspec.proofs.lemmas.validate.RefNameLemmas.{copied_mapping}
 
 above : (x d : List ℕ) (xs : List (List ℕ)) → AllByRecursion (λ y. slice_cmp nat_cmp x y ≡ Less) xs → Any (λ y. y ≡ d) xs → slice_cmp nat_cmp x d ≡ Less

@@ -1,16 +1,14 @@
 -- Mappings that are split by their ref names, and what holds of the kept ones.
-use Rattle.gix_refspec.proofs.Common.{all_weaker, each_mapped, ◌≡◌, ◌≢◌, inl, inr, ℕ, ◌+◌, ◌<◌, ◌≤◌, List, [], ◌∷◌, ◌++◌, Option, None, Some, length, map, get_or, option_map, codes, refl, sym, ap, ◌∙◌}
-use Rattle.gix_refspec.proofs.Common.{subst, append_assoc, AllByRecursion, list_any, ◌⊎◌, ◌||◌, ◌==◌, IsTrue, cases_lt, lt-ltb, Mapping, NameRef, Empty, EmptyComponent, StartsWithDot, InvalidByte, head}
-use Rattle.gix_refspec.proofs.Common.{slash, ArePartsAt, BeginsWith, is_refused_byte, IsName, Reading, IsMadeFrom, Ref, Mapped, mapped_of, name_bytes, IsMappingCopy, IsDestinationCopy, ForwardIndexes}
-use Rattle.gix_refspec.proofs.Common.{ShareDestination, HaveDistinctDestinations, Survives, HaveRefNames, IsInvalidAt, HasRefNames, IsValidDestination, IsRefName, StaysAmongRefs, WritesRef, WritesRefs}
-use Rattle.gix_refspec.proofs.Common.{by_cases}
+use Rattle.gix_refspec.proofs.Common.{all_weaker, each_mapped, ◌≡◌, ◌≢◌, inl, inr, ℕ, ◌+◌, ◌<◌, ◌≤◌, List, [], ◌∷◌, ◌++◌, Option, None, Some, length, map, get_or, option_map, codes, refl, sym, ap}
+use Rattle.gix_refspec.proofs.Common.{◌∙◌, subst, append_assoc, AllByRecursion, list_any, ◌⊎◌, ◌||◌, ◌==◌, IsTrue, cases_lt, lt-ltb, Mapping, NameRef, Empty, EmptyComponent, StartsWithDot}
+use Rattle.gix_refspec.proofs.Common.{InvalidByte, head, slash, ArePartsAt, BeginsWith, is_refused_byte, IsName, Reading, IsMadeFrom, Ref, Mapped, mapped_of, name_bytes, IsMappingCopy}
+use Rattle.gix_refspec.proofs.Common.{IsDestinationCopy, ForwardIndexes, ShareDestination, HaveDistinctDestinations, Survives, HaveRefNames, IsInvalidAt, HasRefNames, IsValidDestination, IsRefName}
+use Rattle.gix_refspec.proofs.Common.{StaysAmongRefs, WritesRef, WritesRefs, by_cases, kept_once, IsName-head}
 use Rattle.gix_refspec.specs.declared.match_group.ref_names.InvalidSide.{InvalidSide}
 use Rattle.gix_refspec.specs.declared.match_group.ref_names.InvalidSide.TheVariants.{Destination}
 use Rattle.gix_refspec.proofs.lemmas.validate.AfterLemmas.{apart_still, distinct_destinations_after, validated_once}
 use Rattle.gix_refspec.proofs.lemmas.MadeLemmas.{each_made, stays_each}
 use Rattle.gix_refspec.proofs.lemmas.validate.ConflictLemmas.{copied_name, copied_source}
-use Rattle.gix_refspec_text.proofs.lemmas.texts.HeadLemmas.{IsName-head}
-use Rattle.gix_refspec_match.proofs.lemmas.keep.KeptLemmas.{kept_once}
 
 pub bad_unnamed : (side : InvalidSide) (m : Mapped) → IsInvalidAt side m → ¬ (HasRefNames m)
 bad_unnamed Destination m bad named = bad.1 named.destination

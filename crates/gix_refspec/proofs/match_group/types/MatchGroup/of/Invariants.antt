@@ -1,5 +1,4 @@
 use Rattle.gix_refspec.proofs.Common.{◌≡◌, filter, is_for}
-use Rattle.gix_refspec.proofs.match_group.types.MatchGroup.of.Given as goal
 
-abbrev pub invariant-loop-spec : goal.invariant-loop-spec
+abbrev pub invariant-loop-spec : Rattle.gix_refspec.proofs.match_group.types.MatchGroup.of.Given.invariant-loop-spec
 invariant-loop-spec g l = l.group.specs.items ≡ filter (is_for l.operation) l.yielded

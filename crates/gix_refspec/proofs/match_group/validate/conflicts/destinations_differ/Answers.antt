@@ -1,8 +1,7 @@
 use Rattle.gix_refspec.proofs.Common.{◌≡◌, length, sym, ◌∙◌, arith, eqb-true}
-use Rattle.gix_refspec.proofs.lemmas.validate.ConflictLemmas.{none_contested}
-use Rattle.gix_refspec.proofs.match_group.validate.conflicts.destinations_differ.Goals as goal
+use Rattle.gix_refspec.proofs.lemmas.validate.DifferLemmas.{none_contested}
 
-pub returns : goal.returns
+pub returns : Rattle.gix_refspec.proofs.match_group.validate.conflicts.destinations_differ.Goals.returns
 returns c is_so =
     let flags = c.in_ok-flags.flags in
     let none : length flags.items ≡ 0 = (let empty = eqb-true _ _ (sym c.is_empty.ensures ∙ is_so) in omega (arith, empty, flags.ok.0, flags.ok.1)) in
