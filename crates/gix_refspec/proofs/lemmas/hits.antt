@@ -1,3 +1,2 @@
--- Lemmas on both directions, and on gathering a group.
 pub mod TransposeLemmas
 pub mod GatherLemmas

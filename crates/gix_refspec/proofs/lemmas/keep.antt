@@ -1,4 +1,3 @@
--- Lemmas on which mappings are kept.
 pub mod PairMadeLemmas
 pub mod NameOnlyLemmas
 pub mod AlikeLemmas

@@ -1,3 +1,2 @@
--- Lemmas on the sides of accepted readings, on uniqueness, and on plain names.
 pub mod SideLawLemmas
 pub mod PlainNameLemmas

@@ -1,4 +1,3 @@
--- Lemmas on conflicts, on validation and on ref names.
 pub mod UpdateLemmas
 pub mod FirstLemmas
 pub mod ConflictLemmas

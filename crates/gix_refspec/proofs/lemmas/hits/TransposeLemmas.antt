@@ -1,15 +1,13 @@
--- The two directions agree: a reading that goes both ways makes the same pair of the one name and of the other. A test
--- of the sides decides whether a reading goes both ways.
-use Rattle.gix_refspec.proofs.Common.{Any as AnyAt, ◌≡◌, ◌⊎◌, inl, inr, ℕ, List, [], ◌∷◌, ◌++◌, codes, Option, None, Some, map, refl, ap, ◌∙◌, subst, AllByRecursion, IsSome, false≢true, RefSpecRef}
-use Rattle.gix_refspec.proofs.Common.{Lacks, BeginsWith, star, HasStar, HasSeveralStars, HasOneStar, Reading, IsAccepted, IsPositive, IsOneStarred, reading_of, SideKind, pattern, full_name, object}
-use Rattle.gix_refspec.proofs.Common.{partial, HasKind, filled, Ref, MatchesAs, Matches, HasName, Takes, name, AreForwardEnds, AreBackwardEnds, IsFilled, IsSourceAmong, IsDestinationAmong}
-use Rattle.gix_refspec.proofs.Common.{GoesBothWays, Transpose, true, Bool, IsTrue, ◌↔◌, Source, MakesForward, MakesBackward, PairsItem, id, IsPaired, by_cases, one_kind, matches_as, same_side}
-use Rattle.gix_refspec.proofs.Common.{Any-all, Any-both, some_at, some_of, Lacks-ContainsText, accepted_few, accepted_balanced}
+-- The two directions agree for readings that go both ways, and a test of the sides decides whether one does.
+use Rattle.gix_refspec.proofs.Common.{Any as AnyAt, ◌≡◌, ◌⊎◌, inl, inr, ℕ, List, [], ◌∷◌, ◌++◌, codes, Option, None, Some, map, refl, ap, ◌∙◌, subst, AllByRecursion, RefSpecRef, Lacks, BeginsWith}
+use Rattle.gix_refspec.proofs.Common.{star, HasStar, HasSeveralStars, HasOneStar, Reading, IsAccepted, IsPositive, IsOneStarred, reading_of, SideKind, pattern, full_name, object, partial, HasKind}
+use Rattle.gix_refspec.proofs.Common.{filled, Ref, MatchesAs, Matches, HasName, Takes, name, AreForwardEnds, AreBackwardEnds, IsFilled, IsSourceAmong, IsDestinationAmong, GoesBothWays, Transpose}
+use Rattle.gix_refspec.proofs.Common.{true, Bool, IsTrue, ◌↔◌, Source, MakesForward, MakesBackward, PairsItem, id, IsPaired, by_cases, one_kind, matches_as, same_side, Any-all, Any-both, some_at}
+use Rattle.gix_refspec.proofs.Common.{some_of, Lacks-ContainsText, accepted_few, accepted_balanced}
 use Rattle.gix_refspec_text.proofs.lemmas.parsing.DecideLemmas.{lacks_or_first}
 use Rattle.gix_refspec.proofs.lemmas.keep.FilterLemmas.{item_named, name_there}
 use Rattle.gix_refspec.proofs.lemmas.keep.PairMadeLemmas.{kept_exactly}
-
--- ---- two sides
+use Rattle.gix_refspec.proofs.lemmas.validate.MadeAtLemmas.{side_there}
 
 -- two sides that map alike in both directions: two patterns, or two full names
 data AreTwins (x y : List ℕ) : Type 0 where
@@ -42,7 +40,7 @@ filled_as y m kind word has (other, of, same) =
     let is : m ≡ filled other word = cc in
     is ∙ ap (λ (k : SideKind). filled k word) (one_kind y other kind of has)
 
--- if one of such sides takes a name and the other becomes another, the other side takes that one and the first becomes the name
+-- if one of such sides takes a name, the other takes what it becomes, and the first becomes that name
 taken_back : (x y m : List ℕ) (r q : Ref) (word : Option (List ℕ)) → AreTwins x y → Matches x r word → IsFilled (Some y) word (Some m) → q.name ≡ m → (v : Option (List ℕ)) × Matches y q v × IsFilled (Some x) v (Some r.name)
 taken_back x y m r q word (patterns (before, after, of_x) (front, back, of_y)) matches becomes same =
     with_word word (matches_as x (pattern before after) r word of_x matches) (filled_as y m (pattern front back) word of_y becomes)
@@ -61,7 +59,6 @@ no_partial : (x y n : List ℕ) → AreTwins x y → ¬ (HasKind x (partial n))
 no_partial x y n (patterns (before, after, of_x) of_y) is = cc (one_kind x (pattern before after) (partial n) of_x is)
 no_partial x y n (names of_x of_y) is = cc (one_kind x (full_name x) (partial n) of_x is)
 
--- the reading is accepted, and goes both ways
 abbrev IsFine : Reading → Type 0
 IsFine r = ∥ IsAccepted r ∥₁ × GoesBothWays r
 
@@ -75,10 +72,6 @@ name_among n items P named (k, i, below, at, holds) = subst (HasName items) (nam
 far_there : (far : Option (List ℕ)) (word : Option (List ℕ)) (m : List ℕ) → IsFilled far word (Some m) → (y : List ℕ) × (far ≡ Some y)
 far_there None word m is = absurd (cc)
 far_there (Some y) word m is = (y, refl)
-
-side_there : (far : Option (List ℕ)) → IsSome far → (x : List ℕ) × (far ≡ Some x)
-side_there None some = absurd (false≢true some)
-side_there (Some x) some = (x, refl)
 
 forward_back : (A B : List Ref) (n m : List ℕ) (r : Reading) → IsFine r → HasName B m → PairsItem AreForwardEnds (Takes A) A n (Some m) r → PairsItem AreBackwardEnds Matches B m (Some n) r
 forward_back A B n m r fine to makes =
@@ -110,8 +103,6 @@ back_forward A B n m r fine from makes =
       has = record { positive = makes.has.positive; near = left_is; far = makes.has.near; no_object = λ bytes. no_object x near bytes twin };
       one = (q, j, inside, stands, record { word = taken.0; name = same; takes = takes; becomes = subst (λ (z : List ℕ). IsFilled (Some near) taken.0 (Some z)) paired.name taken.2 });
     }
-
--- ---- both directions
 
 turned : (A B : List Ref) (s : Source) (d : Option (List ℕ)) (r : Reading) → IsFine r → IsDestinationAmong B d → MakesForward A s d r → MakesBackward B s d r × IsSourceAmong A s
 turned A B (name n) (Some m) r fine to makes = (forward_back A B n m r fine to makes, name_among n A (IsPaired (Takes A) makes.ends n (Some m)) (λ i is. is.name) makes.one)

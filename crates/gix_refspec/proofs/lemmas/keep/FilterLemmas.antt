@@ -1,5 +1,4 @@
--- Which items may be left out: filters of items, and that over a subset of the items the same pairs are kept, if no item
--- that some spec takes is left out.
+-- Filters of items: the same pairs are kept, if no item that some spec takes is left out.
 use Rattle.gix_refspec.proofs.Common.{◌≡◌, ℕ, zero, suc, Bool, true, List, [], ◌∷◌, Option, map, refl, sym, ap, ◌∙◌, subst, arith, nat_eq, Any, Contains, filter, starts_with, or_left, or_right}
 use Rattle.gix_refspec.proofs.Common.{get_or-map, length-map, All-contains_itself, All-filter, starts_is, bstr_bytes, Item, BeginsWith, Reading, Ref, Matches, Takes, Ends, AreForwardEnds}
 use Rattle.gix_refspec.proofs.Common.{AreBackwardEnds, ref_of, BeginsWithOne, ArePart, TakesItem, HasTaken, PassesTaken, FilteredItems, FilteredByEntries, FilteredByList, is_begun, All-contains}
@@ -19,8 +18,6 @@ mapped_from : {X Y : Type 0} (f : X → Y) (xs : List X) (y : Y) → Contains (m
 mapped_from f [] y (k, below, is) = absurd (omega (arith, below))
 mapped_from f (x ∷ xs) y (zero, below, is) = (x, (0, omega arith, refl), is)
 mapped_from f (x ∷ xs) y (suc k, below, is) = let (z, (j, inside, at), same) = mapped_from f xs y (k, omega (arith, below), is) in (z, (suc j, omega (arith, inside), at), same)
-
--- ---- items
 
 filtered_part : (p : Item → Bool) (items : List Item) → ArePart (map ref_of items) (map ref_of (filter p items))
 filtered_part p items ref has =
@@ -61,8 +58,6 @@ pub filtered_by_entries : (g : List Reading) (items some : List Item) → Filter
 filtered_by_entries g items some entries are is =
     let by_list = filtered_by_list items some entries is in
     record { entries = entries; expansions = are; part = by_list.part; listed = by_list.asked }
-
--- ---- names and items
 
 pub item_named : (items : List Ref) (n : List ℕ) → HasName items n → (item : Ref) × Contains items item × (item.name ≡ n)
 item_named [] n has = absurd has
@@ -168,8 +163,6 @@ fewer_items g A B = record {
   forward = λ part has kept fewer of_all of_part. forward_fewer g A B part (λ r there. taken_by_one AreForwardEnds (Takes A) g A B has r there) kept fewer of_all of_part;
   backward = λ part has kept fewer of_all of_part. backward_fewer g A B part has kept fewer of_all of_part;
 }
-
--- ---- listed items
 
 head_taken : (A : List Ref) (x : List ℕ) (item : Ref) (word : Option (List ℕ)) (kind : SideKind) → x ≡ head → HasName A head → ((bytes : List ℕ) → ¬ (HasKind x (object bytes))) → HasKind x kind → Takes A x item word → item.name ≡ x
 head_taken A x item word (pattern before after) is there none kind takes = absurd (lacks_no_pattern x before after (subst (Lacks star) (sym is) (Lacks-tested star head refl)) kind)

@@ -1,8 +1,7 @@
--- Refs with the same names have the same mappings from left to right, as no source that takes refs depends on their
--- ids; and from right to left if no destination is an id.
+-- Refs with the same names have the same mappings, from right to left if no destination is an id.
 use Rattle.gix_refspec.proofs.Common.{all_weaker, ◌≡◌, ℕ, ◌+◌, inl, inr, List, [], ◌∷◌, Option, None, Some, map, refl, sym, ap, ◌∙◌, subst, length, arith, Reading, SideKind, pattern, full_name}
 use Rattle.gix_refspec.proofs.Common.{object, partial, HasKind, Fits, IsCandidate, Ref, Matches, MatchesAs, HasName, IsFirstCandidate, Takes, IsJoinedFrom, Ends, AreBackwardEnds, AreForwardEnds, Hit}
-use Rattle.gix_refspec.proofs.Common.{IsHit, AreSpecHits, AsksForNoId, HasIdDestination, HaveSameNames, NamesDecide, NamesDecideBack, AllZip, by_cases, rules}
+use Rattle.gix_refspec.proofs.Common.{IsHit, AreSpecHits, HasIdDestination, HaveSameNames, NamesDecide, NamesDecideBack, AllZip, by_cases, rules, AllByRecursion, recursion_from_All}
 use Rattle.gix_refspec.proofs.lemmas.keep.AlikeLemmas.{made_zip}
 
 first_name : (r q : Ref) (refs others : List Ref) → HaveSameNames (r ∷ refs) (q ∷ others) → (r.name ≡ q.name) × HaveSameNames refs others
@@ -60,9 +59,9 @@ spec_also : (A B : List Ref) (k : ℕ) (r : Reading) (hits : List Hit) → HaveS
 spec_also A B k r hits same =
     spec_zip AreForwardEnds (Takes A) (Takes B) A B k r hits same (λ ends a b word has named. (takes_also A B ends a b word same named has.no_object, takes_also B A ends b a word (sym same) (sym named) has.no_object))
 
-joined_also : (A B : List Ref) (k : ℕ) (g : List Reading) (hits : List Hit) → HaveSameNames A B → IsJoinedFrom (AreSpecHits AreForwardEnds (Takes A) A) k g hits → IsJoinedFrom (AreSpecHits AreForwardEnds (Takes B) B) k g hits
-joined_also A B k [] hits same joined = joined
-joined_also A B k (r ∷ g) hits same (made, rest, of, more, is) = (made, rest, spec_also A B k r made same of, joined_also A B (k + 1) g rest same more, is)
+joined_each : {X Y : Type 0} (P : X → Type 0) (R S : ℕ → X → List Y → Type 0) → ((k : ℕ) (x : X) (ys : List Y) → P x → R k x ys → S k x ys) → (k : ℕ) (xs : List X) (ys : List Y) → AllByRecursion P xs → IsJoinedFrom R k xs ys → IsJoinedFrom S k xs ys
+joined_each P R S each k [] ys all joined = joined
+joined_each P R S each k (x ∷ xs) ys all (made, rest, of, more, is) = (made, rest, each k x made all.0 of, joined_each P R S each (k + 1) xs rest all.1 more, is)
 
 -- from right to left a spec matches the same refs, if its destination isn't an id
 no_object : (r : Reading) (ends : Ends) → ¬ (HasIdDestination r) → AreBackwardEnds r ends → (id : List ℕ) → ¬ (HasKind ends.near (object id))
@@ -72,12 +71,12 @@ spec_back : (A B : List Ref) (k : ℕ) (r : Reading) (hits : List Hit) → ¬ (H
 spec_back A B k r hits none same =
     spec_zip AreBackwardEnds Matches Matches A B k r hits same (λ ends a b word has named. (matches_by_name ends a b word named (no_object r ends none has), matches_by_name ends b a word (sym named) (no_object r ends none has)))
 
-joined_back : (A B : List Ref) (k : ℕ) (g : List Reading) (hits : List Hit) → AsksForNoId g → HaveSameNames A B → IsJoinedFrom (AreSpecHits AreBackwardEnds Matches A) k g hits → IsJoinedFrom (AreSpecHits AreBackwardEnds Matches B) k g hits
-joined_back A B k [] hits none same joined = joined
-joined_back A B k (r ∷ g) hits none same (made, rest, of, more, is) = (made, rest, spec_back A B k r made none.0 same of, joined_back A B (k + 1) g rest none.1 same more, is)
-
 pub names_decide : (g : List Reading) (A : List Ref) → NamesDecide g A
-names_decide g A B same kept are = search (rules, joined_also A B 0 g are.forward.hits same are.forward.are_hits)
+names_decide g A B same kept are =
+    let joined = joined_each (λ r. Unit {0}) (AreSpecHits AreForwardEnds (Takes A) A) (AreSpecHits AreForwardEnds (Takes B) B) (λ k r hits _. spec_also A B k r hits same) 0 g are.forward.hits in
+    search (rules, joined (recursion_from_All (λ r. Unit {0}) g (λ k d below. tt)) are.forward.are_hits)
 
 pub names_decide_back : (g : List Reading) (A : List Ref) → NamesDecideBack g A
-names_decide_back g A none B same kept are = search (rules, joined_back A B 0 g are.backward.hits none same are.backward.are_hits)
+names_decide_back g A none B same kept are =
+    let joined = joined_each (λ r. ¬ (HasIdDestination r)) (AreSpecHits AreBackwardEnds Matches A) (AreSpecHits AreBackwardEnds Matches B) (λ k r hits of_r. spec_back A B k r hits of_r same) 0 g are.backward.hits in
+    search (rules, joined none are.backward.are_hits)

@@ -1,5 +1,4 @@
--- A pair is kept exactly if some reading makes it, and none excludes it; and of the mappings with one pair only the
--- first is kept.
+-- A pair is kept exactly if some reading makes it and none excludes it, and only its first mapping is.
 use Rattle.gix_refspec.proofs.Common.{Any as AnyAt, ◌≡◌, inl, ◌↔◌, ℕ, ◌+◌, List, [], ◌∷◌, ◌++◌, Option, None, Some, map, unwrap_or, refl, sym, ap, ◌∙◌, subst, AllByRecursion, First, All, Reading, Ref}
 use Rattle.gix_refspec.proofs.Common.{Matches, Takes, IsMadeFrom, Source, name, id, Mapped, HasPair, IsSourceExcluded, IsKeptAt, AreForwardEnds, AreBackwardEnds, Hit, IsIdMapping, AreForward}
 use Rattle.gix_refspec.proofs.Common.{AreBackward, forward_of, backward_of, IsPaired, PairsId, MakesForward, MakesBackward, KeptExactly, NothingExcluded, option_to_list, length, take, arith, Contains}
@@ -11,8 +10,6 @@ use Rattle.gix_refspec_match.proofs.lemmas.hits.ReachLemmas.{Reaches, reach_hits
 use Rattle.std.proofs.Math.Seq.{take-append_seam}
 use Rattle.gix_refspec.proofs.lemmas.validate.MadeAtLemmas.{BackwardAt, ForwardAt, backward_all, forward_all}
 use Rattle.gix_refspec.proofs.lemmas.MadeLemmas.{any_at, back, each_made}
-
--- ---- what a reading makes at an index it makes
 
 makes_forward : (items : List Ref) (item : Option ℕ) (s : Source) (d : Option (List ℕ)) (r : Reading) → MakesForwardOf items item s d r → MakesForward items s d r
 makes_forward items item (name n) d r at = record { ends = at.ends; has = at.has; one = any_at (IsPaired (Takes items) at.ends n d) items at.index at.ref at.stands at.paired }
@@ -29,8 +26,6 @@ made_some Made g l pair made has =
     Any-fact _ l (Any-all (λ m. AtSpec g m (Made m.source m.destination)) (IsOfPair pair) (λ m. Any P g) (λ m (r, here, at) same.
     some_of P g (any_at P g m.spec r here (subst (λ (s : Source). Made s pair.destination r) same.source (subst (λ (d : Option (List ℕ)). Made m.source d r) same.destination at))))
     l made (Any-HasPair l pair has))
-
--- ---- what a reading makes it reaches
 
 abbrev ForwardTo : Source → Option (List ℕ) → List ℕ → Option (List ℕ) → Type 0
 ForwardTo s d near far = (name near ≡ s) × (far ≡ d)
@@ -109,8 +104,6 @@ nothing_excluded g items = record {
   names = λ list either. by_cases either (λ are. included g are.all list are.is) (λ are. included g are.all list are.is);
   ids = λ bytes excluded. excluded;
 }
-
--- ---- the first of its pair
 
 kept_first : (g : List Reading) (l : List Mapped) (k : ℕ) (x y : Mapped) → slice_get l k ≡ Some x → Keeps g l k x y → IsFirstOfPair g l y
 kept_first g l k x y stands (same, keeps) = subst (IsFirstOfPair g l) (sym same) (record {

@@ -1,5 +1,4 @@
--- Ref prefixes, for which a server lists each ref that a group of fetches maps: over the items that it lists, the same
--- pairs are kept.
+-- Over the items that a server lists for the ref prefixes of a group of fetches, the same pairs are kept.
 use Rattle.gix_refspec.proofs.Common.{Any as AnyAt, joined_next, map_split, map_long, nothing_joined, ◌≡◌, inl, inr, ℕ, suc, ◌+◌, ◌<◌, List, [], ◌∷◌, ◌++◌, Option, None, Some, MatchOption, Vec}
 use Rattle.gix_refspec.proofs.Common.{Global, length, map, take, drop, get_or, refl, sym, ap, ◌∙◌, subst, arith, BString, bstring_bytes, append-nil, get_or-map, length-map, map-append, map_more}
 use Rattle.gix_refspec.proofs.Common.{recursion_from_All, Fetch, RefSpecRef, reading_of, BeginsWith, IsSplit, IsPositive, Reading, SideKind, pattern, full_name, object, partial, HasKind, Ref, Matches}
@@ -40,8 +39,7 @@ reading_serves r items n far list fetch pairs lists =
     let (index, item, below, at, one) = pairs.one in
     subst (λ (m : List ℕ). BeginsWithSome m list) one.name (reading_asks r items item list fetch (record { ends = pairs.ends; has = pairs.has; word = one.word; takes = one.takes }) lists)
 
--- if the name begins with an entry of the list of each fetch of which P holds, and P holds of one, it begins with an
--- entry of the list of the group
+-- a name that begins with an entry of the list of each fetch of which P holds begins with one of the list of the group
 group_begins : (P : Reading → Type 0) (n : List ℕ) → ((r : Reading) (list : List (List ℕ)) → r.operation ≡ Fetch → P r → Lists r list → BeginsWithSome n list)
     → (g : List Reading) (list : List (List ℕ)) → AreFetches g → AnyAt P g → ListsGroup g list → AnyAt (λ p. BeginsWith p n) list
 group_begins P n begins g list fetches any joined =

@@ -79,7 +79,7 @@ expansion_once r list other (inl (x, asked, a)) (inr (unasked, b)) = absurd (una
 expansion_once r list other (inr (unasked, a)) (inl (y, asked, b)) = absurd (unasked y asked)
 expansion_once r list other (inr (unasked, a)) (inr (_, b)) = a ∙ sym b
 
--- so a name that some spec covers is covered by the expansion of the group
+-- a name that some spec covers is covered by the expansion of the group
 pub joined_covers : (n : List ℕ) (g : List Reading) (k : ℕ) (entries : List (List ℕ)) → Any (IsCoveredBy n) g → IsJoinedFrom (λ i r list. IsExpansion r list) k g entries → BeginsWithOne entries n
 joined_covers n g k entries covered joined =
     at_place (λ entry. BeginsWith entry n) entries (any_joined (λ i r list. IsExpansion r list) (λ entry. BeginsWith entry n) k g entries joined

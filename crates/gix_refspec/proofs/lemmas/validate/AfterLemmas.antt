@@ -54,8 +54,6 @@ distinct_destinations_after g l rest fixes valid apart = distinct_destinations r
 pub validated_once : (g : List Reading) (items : List Ref) → ValidatedOnce g items
 validated_once g items l rest fixes valid = (one_source g l rest fixes valid, λ kept. distinct_destinations_after g l rest fixes valid (kept_once g kept.all l kept.is))
 
--- ---- plans
-
 fixes_apart : (g : List Reading) (k : ℕ) (l : List Mapped) (fixes : List Removed) → HaveDistinctDestinations l → IsMadeFrom (λ j m fix. IsFix g m fix) k l fixes → AreFixesApart fixes
 fixes_apart g k [] fixes apart empty = subst AreFixesApart (sym empty) tt
 fixes_apart g k (m ∷ l) fixes apart (None, rest, no_fix, more, is) = subst AreFixesApart (sym is) (fixes_apart g (k + 1) l rest apart.1 more)
@@ -96,8 +94,6 @@ plans_apart g items l rest fixes kept valid =
       destinations = (validated_once g items l rest fixes valid).1 kept;
       fixed = fixes_apart g 0 l fixes (kept_distinct_destinations g items l kept valid.free) valid.fixed;
     }
-
--- ---- what a validation removes
 
 -- one more mapping of which P holds, and of which nothing is made
 pub nothing_more : {Y E : Type 0} (R : ℕ → Mapped → Y → Type 0) (P : Mapped → Type 0) (ms : List Mapping) (i : ℕ) (m : Mapping) (ys : List Y) → i < length ms → m ≡ get_or ms i m → ((y : Y) → ¬ (R i (mapped_of m) y)) → P (mapped_of m)

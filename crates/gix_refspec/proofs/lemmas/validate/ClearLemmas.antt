@@ -8,8 +8,6 @@ use Rattle.gix_refspec.proofs.Common.{SourceLacks, same_Some, head, colon, lette
 use Rattle.gix_refspec.proofs.Common.{InvalidByte, Normal, Forced, Negative, by_cases, some_none, push_is_none, Lacks-from_absent, Lacks-from_indexes, lower_of-digits, IsName-head}
 use Rattle.gix_refspec.proofs.lemmas.MadeLemmas.{all_at, each_joined, made_all, map_each, stays_each}
 
--- ---- canonical texts
-
 -- a fetch, whose sides contain no byte b
 record IsClearFetch (b : ℕ) (r : Reading) : Type 0 where
   mode : Mode
@@ -87,8 +85,6 @@ module _ (b : ℕ) (below : b < 32) (refused : IsTrue (is_refused_byte b)) where
 
   printed_lacks : (text : List ℕ) (r : Reading) (t : List ℕ) → Reads Fetch text r → printed r ≡ Some t → Lacks b t
   printed_lacks text r t reads prints = let fetch = clear_fetch text r reads in fetch_lacks fetch.mode fetch.source fetch.destination t fetch.first fetch.last (ap printed (sym fetch.is) ∙ prints)
-
--- ---- mappings
 
 -- a hit contains no byte b
 abbrev HitLacks : ℕ → Hit → Type 0

@@ -4,13 +4,12 @@ use Rattle.gix_refspec.proofs.Common.{slice_get-get_or, slice_get-map, slice_get
 use Rattle.gix_refspec.proofs.Common.{AreFirstUpdates, by_cases, by_pair, duplicate_at, some_mapping, ◌≢◌, false, option_to_list, false≢true, get_or-map, get_or_past, bstr_bytes, BStr, bytes_order}
 use Rattle.gix_refspec.proofs.Common.{equal_texts, all_destinations, get_or-take, take-take, get_or_from_slice_get, cases_lt}
 use Rattle.gix_refspec.proofs.lemmas.validate.FirstLemmas.{one_mapping, at_contained}
-use Rattle.std.proofs.lemmas.List.Concat.{get_or-flat_map}
-use Rattle.std.proofs.lemmas.List.Folds.{length-flat_map-take}
+use Rattle.std.proofs.lemmas.List.{Concat.get_or-flat_map, Folds.length-flat_map-take}
 
 abbrev AreApart : List (List ℕ) → Type 0
 AreApart ds = (i j : ℕ) (d : List ℕ) → i < j → j < length ds → get_or ds i d ≢ get_or ds j d
 
--- the place of a destination among all of them
+-- no two mappings have one destination, if no destination is there twice
 two_places : (l : List Mapped) (j k : ℕ) (m n : Mapped) (d : List ℕ) → AreApart (all_destinations l) → j < k → slice_get l j ≡ Some m → slice_get l k ≡ Some n → m.destination ≡ Some d → n.destination ≡ Some d → ⊥
 two_places l j k m n d apart before is_m is_n to_m to_n =
     apart (place j + 0) (place k + 0) d (omega (arith, earlier, one j m is_m to_m)) (omega (arith, length-flat_map-take of l k n (slice_get_within l k n is_n), one k n is_n to_n)) (at j m is_m to_m ∙ sym (at k n is_n to_n))
@@ -30,7 +29,6 @@ two_places l j k m n d apart before is_m is_n to_m to_n =
     earlier : place j + length (of (get_or l j m)) ≤ place k
     earlier = rw (take-take j k l (omega (arith, before)), get_or-take k l j m before) at (length-flat_map-take of (take k l) j m (omega (arith, before, slice_get_within l k n is_n, length-take-le k l)))
 
--- if none of the destinations is flagged, there are no duplicates, and so no conflicts
 pub none_contested : (l : List Mapped) (ds : List BStr) (flags : List Bool) → map bstr_bytes ds ≡ all_destinations l → FlagsDuplicates (λ (x : BStr) (y : BStr). bytes_order (bstr_bytes x) (bstr_bytes y)) ds flags → length flags ≡ 0 → (d : List ℕ) → ¬ (HasConflictAt l d)
 none_contested l ds flags are all none d c =
     let one = at_contained l c.one c.has_one in

@@ -73,19 +73,18 @@ made_at_indexes {Y} P Q l k (x ∷ rest) (n ∷ ns) (y ∷ ys) at has rises abov
 
 made_at_indexes P Q l k rest ns ys at has rises above zip = absurd zip
 
+cases_of : (b : Bool) → (b ≡ true) ⊎ (b ≡ false)
+cases_of true = inl refl
+cases_of false = inr refl
+
 text_cases : (x y : List ℕ) → (x ≡ y) ⊎ (x ≢ y)
-text_cases x y = by (bytes_eq x y) (bytes_eq-Decides x y)
-  where
-    by : (b : Bool) → (b ≡ true → x ≡ y) × (x ≡ y → b ≡ true) → (x ≡ y) ⊎ (x ≢ y)
-    by true told = inl (told.0 refl)
-    by false told = inr (λ same. false≢true (told.1 same))
+text_cases x y = by_cases (cases_of (bytes_eq x y)) (λ is. inl ((bytes_eq-Decides x y).0 is)) (λ is. inr (λ same. false≢true (sym is ∙ (bytes_eq-Decides x y).1 same)))
 
 pub start_cases : (a b : Source) → (a ≡ b) ⊎ (a ≢ b)
 start_cases (name x) (name y) = by_cases (text_cases x y) (λ same. inl (ap name same)) (λ apart. inr (λ same. apart (cc)))
 start_cases (id x) (id y) = by_cases (text_cases x y) (λ same. inl (ap id same)) (λ apart. inr (λ same. apart (cc)))
 start_cases a b = inr (λ same. absurd (cc))
 
--- whether two mappings have the same pair
 pair_cases : (m n : Mapped) → IsSamePair m n ⊎ ¬ (IsSamePair m n)
 pair_cases m n = by (pair_order m n) refl
   where

@@ -1,5 +1,4 @@
--- What the spec and the item at the indexes of a mapping make, that its indexes fit, and which mappings remain after a
--- check.
+-- What the spec and the item at the indexes of a mapping make, and which mappings remain after a check.
 use Rattle.gix_refspec.proofs.Common.{all_join, all_weaker, slice_get_within, ◌≡◌, inl, inr, ◌↔◌, ℕ, List, [], Option, None, Some, map, unwrap_or, refl, sym, ap, ◌∙◌, subst, AllByRecursion, Contains}
 use Rattle.gix_refspec.proofs.Common.{slice_get, Reading, Ref, Matches, Takes, IsMadeFrom, Source, Mapped, IsKeptAt, Ends, AreForwardEnds, AreBackwardEnds, Hit, IsHit, AreSpecHits, AreHits}
 use Rattle.gix_refspec.proofs.Common.{IsIdMapping, AreForward, AreBackward, forward_of, backward_of, AtSpec, TakesAt, MakesForwardOf, MakesBackwardOf, MadeAtIndexes, RemainsExactly, Survives}
@@ -37,18 +36,15 @@ id_at g items k r m here is = (
   subst (λ (s : Source). MakesForwardOf items m.item s m.destination r) (sym is.source) (is.item, record { positive = is.positive; text = is.text; side = is.side; object = is.object; becomes = is.destination }),
 )
 
-there_far : (r : Reading) (ends : Ends) (word far : Option (List ℕ)) → AreBackwardEnds r ends → IsFilled ends.far word far → (n : List ℕ) × (far ≡ Some n)
-there_far r ends word far has becomes = of_far ends.far has.both becomes
-  where
-    of_far : (x : Option (List ℕ)) → IsSome x → IsFilled x word far → (n : List ℕ) × (far ≡ Some n)
-    of_far None none filled = absurd (false≢true none)
-    of_far (Some x) some filled = (_, filled.2)
+pub side_there : (far : Option (List ℕ)) → IsSome far → (x : List ℕ) × (far ≡ Some x)
+side_there None some = absurd (false≢true some)
+side_there (Some x) some = (x, refl)
 
 hit_back : (g : List Reading) (items : List Ref) (h : Hit) → IsTakenHit AreBackwardEnds Matches g items h → BackwardAt g items (backward_of h)
 hit_back g items h taken =
     let at = taken.takes in
-    let far = there_far taken.reading at.ends at.paired.word h.far at.has at.paired.becomes in
-    let same : h.far ≡ Some (unwrap_or h.far []) = far.1 ∙ ap (λ (x : Option (List ℕ)). Some (unwrap_or x [])) (sym far.1) in
+    let far = (subst (λ (x : Option (List ℕ)). IsFilled x at.paired.word h.far) (side_there at.ends.far at.has.both).1 at.paired.becomes).2 in
+    let same : h.far ≡ Some (unwrap_or h.far []) = far ∙ ap (λ (x : Option (List ℕ)). Some (unwrap_or x [])) (sym far) in
     (taken.reading, taken.here, subst (λ (x : Option (List ℕ)). TakesAt AreBackwardEnds Matches items (Some h.item) h.near x taken.reading) same at)
 
 pub forward_all : (g : List Reading) (items : List Ref) (l : List Mapped) → AreForward g items l → AllByRecursion (ForwardAt g items) l

@@ -48,7 +48,6 @@ one_conflict g l c e same a b =
     let by = made_once (λ k m text. IsFirstTo to l k m × IsTextAt g m.spec text) (λ k m x y is_x is_y. one_text g m.spec x y is_x.1 is_y.1) 0 l c.texts e.texts a.texts texts in
     λ i. record { destination = same i; sources = from i; texts = by i }
 
--- so lists of conflicts with the same destinations are equal
 one_list : (g : List Reading) (l : List Mapped) (cs other : List Conflict) → AllByRecursion (IsConflict g l) cs → AllByRecursion (IsConflict g l) other → map (λ (c : Conflict). c.destination) cs ≡ map (λ (c : Conflict). c.destination) other → cs ≡ other
 one_list g l [] [] a b same = refl
 one_list g l (c ∷ cs) (e ∷ other) a b same =

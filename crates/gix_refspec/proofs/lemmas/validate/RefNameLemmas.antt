@@ -4,8 +4,7 @@ use Rattle.gix_refspec.proofs.Common.{◌∙◌, subst, append_assoc, AllByRecur
 use Rattle.gix_refspec.proofs.Common.{InvalidByte, head, slash, ArePartsAt, BeginsWith, is_refused_byte, IsName, Reading, IsMadeFrom, Ref, Mapped, mapped_of, name_bytes, IsMappingCopy}
 use Rattle.gix_refspec.proofs.Common.{IsDestinationCopy, ForwardIndexes, ShareDestination, HaveDistinctDestinations, Survives, HaveRefNames, IsInvalidAt, HasRefNames, IsValidDestination, IsRefName}
 use Rattle.gix_refspec.proofs.Common.{StaysAmongRefs, WritesRef, WritesRefs, by_cases, kept_once, IsName-head}
-use Rattle.gix_refspec.specs.declared.match_group.ref_names.InvalidSide.{InvalidSide}
-use Rattle.gix_refspec.specs.declared.match_group.ref_names.InvalidSide.TheVariants.{Destination}
+use Rattle.gix_refspec.specs.declared.match_group.ref_names.InvalidSide.{InvalidSide, TheVariants.Destination}
 use Rattle.gix_refspec.proofs.lemmas.validate.AfterLemmas.{apart_still, distinct_destinations_after, validated_once}
 use Rattle.gix_refspec.proofs.lemmas.MadeLemmas.{each_made, stays_each}
 use Rattle.gix_refspec.proofs.lemmas.validate.ConflictLemmas.{copied_name, copied_source}
@@ -14,7 +13,6 @@ pub bad_unnamed : (side : InvalidSide) (m : Mapped) → IsInvalidAt side m → �
 bad_unnamed Destination m bad named = bad.1 named.destination
 bad_unnamed side m bad named = bad.0 named.source
 
--- nor do all mappings of a list that has it
 pub some_unnamed : (ms : List Mapping) (i : ℕ) (m : Mapping) (side : InvalidSide) → i < length ms → m ≡ get_or ms i m → IsInvalidAt side (mapped_of m) → ¬ (AllByRecursion HasRefNames (map mapped_of ms))
 some_unnamed ms i m side below is bad all = bad_unnamed side (mapped_of m) bad (each_mapped mapped_of HasRefNames ms i m all below is)
 

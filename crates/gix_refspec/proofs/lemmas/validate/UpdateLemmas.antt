@@ -6,10 +6,8 @@ use Rattle.gix_refspec.proofs.Common.{bytes_eq-Decides, bytes_eq, get_or-map, le
 use Rattle.gix_refspec.proofs.Common.{slice_get_within, Update, Mapping, NameRef, Mapped, mapped_of, name_bytes, IsFlagged, Rises, AreUpdates, GoesTo, HasUpdate, IsRun, update_cmp, updated_indexes}
 use Rattle.gix_refspec.proofs.Common.{same_texts, both_equal, rules, same_Some, by_cases, get_or-drop, add-zero, apart_places}
 use Rattle.std.specs.Cmp.{IsTotalOrder}
-use Rattle.std.proofs.lemmas.Cmp.{nat_cmp_total, on_total, ranked, then_total}
-use Rattle.std.proofs.lemmas.List.Quantifiers.{all_pairs_push}
-use Rattle.std.proofs.lemmas.List.Sorted.{Contains-permutation, IsPermutation-map, IsPermutation-sym}
-use Rattle.std.proofs.lemmas.Map.Keys.{sorted_from_all_adjacent}
+use Rattle.std.proofs.lemmas.{Cmp.{nat_cmp_total, on_total, ranked, then_total}, List.Quantifiers.all_pairs_push}
+use Rattle.std.proofs.lemmas.{List.Sorted.{Contains-permutation, IsPermutation-map, IsPermutation-sym}, Map.Keys.sorted_from_all_adjacent}
 use Rattle.gix_refspec_text.proofs.lemmas.lists.NumberLemmas.{upto}
 
 -- the updates of the mappings before index p that have a destination and aren't flagged, by index
@@ -140,7 +138,6 @@ differ_from_test xs ys b is told same = false≢true (sym (not-true (bytes_eq xs
 pub same_from_test : (xs ys : List ℕ) (b : Bool) → b ≡ not (bytes_eq xs ys) → b ≡ false → xs ≡ ys
 same_from_test xs ys b is told = (bytes_eq-Decides xs ys).0 (not-false (bytes_eq xs ys) (sym is ∙ told))
 
--- if the destination of an update is greater than x, so is that of a greater update
 behind : (x : List ℕ) (o y : Update) → slice_cmp nat_cmp x o.destination.now ≡ Less → update_cmp o y ≡ Less → slice_cmp nat_cmp x y.destination.now ≡ Less
 behind x o y first is = by_cases (later o y is) (λ less. below_trans x o.destination.now y.destination.now first less) (λ tied. subst (λ (d : List ℕ). slice_cmp nat_cmp x d ≡ Less) tied.0 first)
 
@@ -151,8 +148,7 @@ all_behind x (c ∷ cs) d strict from other =
     let first : slice_cmp nat_cmp x c.destination.now ≡ Less = by_cases from.0 (λ less. less) (λ same. absurd (other (omega arith) same)) in
     (first, all_weaker (λ y. update_cmp c y ≡ Less) (λ y. slice_cmp nat_cmp x y.destination.now ≡ Less) (λ y is. behind x c y first is) cs strict.0)
 
--- if the updates before an index have the first one's destination, and the one at the index hasn't, the index splits
--- off a run
+-- where the first update of another destination is, a run is split off
 pub split_at : (cs : List Update) (n : ℕ) (d : Update) → 0 < length cs → IsStrictlySortedBy update_cmp cs → AllByRecursion (λ c. c.destination.now ≡ (get_or cs 0 d).destination.now) (take n cs) → (n < length cs → (get_or cs n d).destination.now ≢ (get_or cs 0 d).destination.now) → IsRun (take n cs) (drop n cs)
 unfolding IsStrictlySortedBy
 split_at [] n d some strict same end = absurd (omega arith)
