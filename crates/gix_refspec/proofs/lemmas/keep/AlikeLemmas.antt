@@ -137,10 +137,7 @@ backward g h items list alike are =
     search (rules, group_hits AreBackwardEnds Matches backward_ends items g h are.backward.hits alike are.backward.are_hits, kept g h are.all list alike are.is)
 
 map_alike : (g h : List Reading) (items : List Ref) → AllZip AreAlike g h → MapAlike g h items
-map_alike g h items alike = record {
-  forward = λ list. (forward g h items list alike, forward h g items list (zip_back g h alike));
-  backward = λ list. (backward g h items list alike, backward h g items list (zip_back g h alike));
-}
+map_alike g h items alike = search (rules, forward, backward, zip_back)
 
 pub reads_back : (specs : List RefSpecRef) (h : List Reading) (items : List Ref) → FetchGroupReadsBack (map reading_of specs) h items
 reads_back specs h items again = map_alike (map reading_of specs) h items (zip_mapped reading_of ReadsAgainAs AreAlike (λ s q of_s. again_alike (reading_of s) q s.accepted of_s) specs h again)

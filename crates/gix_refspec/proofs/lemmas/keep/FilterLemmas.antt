@@ -79,10 +79,7 @@ first_in_part A B part x n has first =
     search (rules, absent)
 
 takes_in_part : (A B : List Ref) → ArePart A B → (x : List ℕ) (item : Ref) (word : Option (List ℕ)) → Contains B item → Takes A x item word → Takes B x item word
-takes_in_part A B part x item word there takes = record {
-  matches = takes.matches;
-  first = λ n kind. first_in_part A B part n item.name (name_there B item there) (takes.first n kind);
-}
+takes_in_part A B part x item word there takes = search (rules, first_in_part A B part, takes.first, name_there B item there)
 
 -- and if no item that is taken is left out, an item that is taken in the subset is taken among all
 takes_in_all : (A B : List Ref) → ArePart A B → (x : List ℕ) → ((item : Ref) (word : Option (List ℕ)) → Contains A item → Takes A x item word → Contains B item) → (item : Ref) (word : Option (List ℕ)) → Contains B item → Takes B x item word → Takes A x item word
@@ -159,10 +156,7 @@ backward_fewer g A B part has kept fewer of_all of_part pair =
     (any_each _ _ g (λ r there. backward_in_all A B part pair.source pair.destination r))
 
 pub fewer_items : (g : List Reading) (A B : List Ref) → FewerItems g A B
-fewer_items g A B = record {
-  forward = λ part has kept fewer of_all of_part. forward_fewer g A B part (λ r there. taken_by_one AreForwardEnds (Takes A) g A B has r there) kept fewer of_all of_part;
-  backward = λ part has kept fewer of_all of_part. backward_fewer g A B part has kept fewer of_all of_part;
-}
+fewer_items g A B = search (rules, forward_fewer, backward_fewer, taken_by_one AreForwardEnds (Takes A) g A B)
 
 head_taken : (A : List Ref) (x : List ℕ) (item : Ref) (word : Option (List ℕ)) (kind : SideKind) → x ≡ head → HasName A head → ((bytes : List ℕ) → ¬ (HasKind x (object bytes))) → HasKind x kind → Takes A x item word → item.name ≡ x
 head_taken A x item word (pattern before after) is there none kind takes = absurd (lacks_no_pattern x before after (subst (Lacks star) (sym is) (Lacks-tested star head refl)) kind)

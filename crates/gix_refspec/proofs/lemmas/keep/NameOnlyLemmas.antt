@@ -30,10 +30,9 @@ pub matches_by_name : (ends : Ends) (a b : Ref) (word : Option (List ℕ)) → a
 matches_by_name ends a b word named none matches = search (rules, matches_also matches.kind a b word named (λ id is. none id (rw is at matches.of)) matches.is)
 
 takes_also : (A B : List Ref) (ends : Ends) (a b : Ref) (word : Option (List ℕ)) → HaveSameNames A B → a.name ≡ b.name → ((id : List ℕ) → ¬ (HasKind ends.near (object id))) → Takes A ends.near a word → Takes B ends.near b word
-takes_also A B ends a b word same named none takes = record {
-  matches = matches_by_name ends a b word named none takes.matches;
-  first = λ n kind. subst (IsFirstCandidate B n) named (first_also A B n a.name same (takes.first n kind));
-}
+takes_also A B ends a b word same named none takes =
+    let first = λ (n : List ℕ) (kind : HasKind ends.near (partial n)). rw named at (first_also A B n a.name same (takes.first n kind)) in
+    search (rules, first, matches_by_name ends a b word named none takes.matches)
 
 hit_also : (T U : List ℕ → Ref → Option (List ℕ) → Type 0) (ends : Ends) (k j : ℕ) (a b : Ref) (hit : Hit) → ((word : Option (List ℕ)) → T ends.near a word → U ends.near b word) → a.name ≡ b.name → IsHit T ends k j a hit → IsHit U ends k j b hit
 hit_also T U ends k j a b hit also named is = search (rules, also is.word is.takes)

@@ -10,8 +10,4 @@ sides_agree r accepted = record {
 }
 
 pub one_of_each : OneOfEach
-one_of_each = record {
-  kind = λ x k l of_k of_l. one_kind x k l of_k of_l;
-  word = λ before after n. one_word before after n;
-  id = λ t i j of_i of_j. IsIdText-unique t i j of_i of_j;
-}
+one_of_each = record { kind = one_kind; word = one_word; id = IsIdText-unique }

@@ -5,7 +5,7 @@ use Rattle.gix_refspec.proofs.Common.{◌++◌, Option, None, Some, codes, get_o
 use Rattle.gix_refspec.proofs.Common.{Lacks, star, is_refused_byte, IsIdText, is_lower_digit, lower_of, Reading, SideKind, pattern, full_name, object, partial, HasKind, filled, Ref, MatchesAs, Takes}
 use Rattle.gix_refspec.proofs.Common.{Mapped, IsKeptAt, AreForwardEnds, AreSpecHits, IsFilled, Hit, IsHit, IsIdMapping, AreKeptForward, forward_of, LacksIn, MappedLacks, NoControlCharacter, SidesLack}
 use Rattle.gix_refspec.proofs.Common.{SourceLacks, same_Some, head, colon, letter, Mode, fetched, Reads, IsNameOrPattern, AreAlike, named_by, Fetch, printed, sign, begins_with_plus, IsPattern, IsName}
-use Rattle.gix_refspec.proofs.Common.{InvalidByte, Normal, Forced, Negative, by_cases, some_none, push_is_none, Lacks-from_absent, Lacks-from_indexes, lower_of-digits, IsName-head}
+use Rattle.gix_refspec.proofs.Common.{InvalidByte, Normal, Forced, Negative, by_cases, some_none, push_is_none, Lacks-from_absent, Lacks-from_indexes, lower_of-digits, IsName-head, rules}
 use Rattle.gix_refspec.proofs.lemmas.MadeLemmas.{all_at, each_joined, made_all, map_each, stays_each}
 
 -- a fetch, whose sides contain no byte b
@@ -149,8 +149,4 @@ control_no_digit b below =
     ∙ ap (λ t. t && nat_le b 102) (lt-leb 97 b (omega (arith, below)))
 
 pub no_control_character : NoControlCharacter
-no_control_character = record {
-  sides = λ b text r below reads. sides_lack b below (control_refused b below) text r reads;
-  texts = λ b text r canonical below reads prints. printed_lacks b below (control_refused b below) text r canonical reads prints;
-  mapped = λ b g items l below sides names kept. kept_lacks b below (control_no_digit b below) g items l sides names kept;
-}
+no_control_character = search (rules, sides_lack, printed_lacks, kept_lacks, control_refused, control_no_digit)

@@ -4,7 +4,7 @@ use Rattle.gix_refspec.proofs.Common.{length, map, take, drop, get_or, refl, sym
 use Rattle.gix_refspec.proofs.Common.{length-map, length-take-le, map-append, take-append-drop, take_more, All-from_recursion, Contains-append_left, Contains-push, slice_get-map, slice_get_read}
 use Rattle.gix_refspec.proofs.Common.{slice_get_within, Mapping, NameRef, SourceRef, Update, RefSpecRef, Reading, printed, reading_of, Source, name, id, Mapped, mapped_of, name_bytes, start_of}
 use Rattle.gix_refspec.proofs.Common.{IsNameCopy, IsSourceCopy, id_bytes, AreConflicts, Conflict, IndexesFit, IsConflict, HasConflictAt, IsFirstTo, IsTextAt, AddsConflict, AreFirstUpdates}
-use Rattle.gix_refspec.proofs.Common.{AreConflicting, HasUpdate, IsRun, IsFirstAt, IsConflictOf, update_cmp, updated_indexes, by_cases, recursion_from_All, get_or_default, all_left, IsMadeFrom}
+use Rattle.gix_refspec.proofs.Common.{AreConflicting, HasUpdate, IsRun, IsFirstAt, IsConflictOf, update_cmp, updated_indexes, by_cases, recursion_from_All, get_or_default, all_left, IsMadeFrom, rules}
 use Rattle.gix_refspec_match.specs.declared.types.SourceRef.TheVariants as source_ref
 use Rattle.gix_refspec.proofs.lemmas.MadeLemmas.{map_each}
 use Rattle.gix_refspec.proofs.lemmas.validate.UpdateLemmas.{HasUpdate-cases, HasUpdate-left, HasUpdate-right, later, mapped_at, past_end, strict_left, strict_right, update_at}
@@ -125,11 +125,9 @@ reported_none g l firsts are = record {
 
 -- and after it none is
 pub all_reported : (g : List Reading) (l : List Mapped) (rest : List Update) (cs : List Conflict) → length rest ≡ 0 → AreReported g l rest cs → AreConflicts g l cs
-all_reported g l [] cs empty settled = record {
-  each = settled.each;
-  every = λ d contested. by_cases (settled.every d contested) (λ told. told) (λ has. absurd has.1);
-  order = settled.rise;
-}
+all_reported g l [] cs empty settled =
+    let every = λ (d : List ℕ) (contested : HasConflictAt l d). by_cases (settled.every d contested) (λ told. told) (λ has. absurd has.1) in
+    search (rules, every, settled.each, settled.rise)
 all_reported g l (c ∷ rest) cs empty settled = absurd (omega arith)
 
 not_beyond : (x : List ℕ) (cs : List Update) (k : ℕ) → AllByRecursion (λ c. slice_cmp nat_cmp x c.destination.now ≡ Less) cs → HasUpdate cs k x → ⊥
@@ -178,18 +176,12 @@ module _ (g : List Reading) (l : List Mapped) (run others : List Update) (cs : L
 
   -- a run of one update adds no conflict
   skipped : 0 < length run → length run ≤ 1 → AreReported g l others cs
-  skipped some few = record {
-    left = λ k d has. settled.left k d (HasUpdate-right run others k d has);
-    all = behind_run;
-    order = strict_right update_cmp run others settled.order;
-    each = settled.each;
-    below = all_still_below;
-    rise = settled.rise;
-    every = λ d contested. by_cases (contested_cases d contested) (λ to. absurd (
-      let two = two_firsts l split.destination (rw to at contested) in
-      two.2 (one_update_only split.destination run two.0 two.1 few ((firsts_of_run some two.0).1 two.3) ((firsts_of_run some two.1).1 two.4))
-    )) (λ other. other);
-  }
+  skipped some few =
+      let every = λ (d : List ℕ) (contested : HasConflictAt l d). by_cases (contested_cases d contested) (λ to. absurd (
+        let two = two_firsts l split.destination (rw to at contested) in
+        two.2 (one_update_only split.destination run two.0 two.1 few ((firsts_of_run some two.0).1 two.3) ((firsts_of_run some two.1).1 two.4))
+      )) (λ other. other) in
+      search (rules, settled.left, HasUpdate-right run others, behind_run, strict_right update_cmp run others settled.order, all_still_below, every)
 
   -- a run of several updates adds one
   reported : (c : Conflict) → 1 < length run → IsConflictOf g l run c → AreReported g l others (cs ++ c ∷ [])
@@ -218,13 +210,8 @@ module _ (g : List Reading) (l : List Mapped) (run others : List Update) (cs : L
 
 pub conflicting_of_run : (g : List Reading) (l : List Mapped) (rest : List Update) (n : ℕ) (cs : List Conflict) → 1 < length (take n rest) → (split : IsRun (take n rest) (drop n rest)) → AreReported g l rest cs → AreConflicting l (take n rest)
 conflicting_of_run g l rest n cs several split settled =
-    let whole : AreReported g l (take n rest ++ drop n rest) cs = rw take-append-drop settled in record {
-      several = several;
-      destination = split.destination;
-      same = split.same;
-      are = firsts_of_run g l (take n rest) (drop n rest) cs split whole (omega (arith, several));
-      order = strict_left update_cmp (take n rest) (drop n rest) whole.order;
-    }
+    let whole : AreReported g l (take n rest ++ drop n rest) cs = rw take-append-drop settled in
+    search (rules, firsts_of_run g l (take n rest) (drop n rest) cs split whole (omega (arith, several)), strict_left update_cmp (take n rest) (drop n rest) whole.order)
 
 -- the step of the loop: after a run has added its conflict, if any, the others are the rest
 pub reported_more : (g : List Reading) (l : List Mapped) (rest : List Update) (n : ℕ) (cs new : List Conflict) → 0 < n → n ≤ length rest → IsRun (take n rest) (drop n rest) → AddsConflict g l (take n rest) cs new → AreReported g l rest cs → AreReported g l (drop n rest) new
