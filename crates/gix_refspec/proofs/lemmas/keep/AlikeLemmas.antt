@@ -129,12 +129,13 @@ kept g h all list alike is =
 
 forward : (g h : List Reading) (items : List Ref) (list : List Mapped) → AllZip AreAlike g h → AreKeptForward g items list → AreKeptForward h items list
 forward g h items list alike are =
-    search (rules, made_zip AreAlike IsIdMapping IsIdMapping (λ k r q m same. (id_mapping k r q m same, id_mapping k q r m (alike_back r q same))) 0 g h are.forward.ids alike are.forward.are_ids,
-      group_hits AreForwardEnds (Takes items) forward_ends items g h are.forward.hits alike are.forward.are_hits, kept g h are.all list alike are.is)
+    let ids = made_zip AreAlike IsIdMapping IsIdMapping (λ k r q m same. (id_mapping k r q m same, id_mapping k q r m (alike_back r q same)))
+        0 g h are.forward.ids alike are.forward.are_ids in
+    search (rules, ids, group_hits AreForwardEnds (Takes items) forward_ends items g h are.forward.hits alike, kept g h are.all list alike)
 
 backward : (g h : List Reading) (items : List Ref) (list : List Mapped) → AllZip AreAlike g h → AreKeptBackward g items list → AreKeptBackward h items list
 backward g h items list alike are =
-    search (rules, group_hits AreBackwardEnds Matches backward_ends items g h are.backward.hits alike are.backward.are_hits, kept g h are.all list alike are.is)
+    search (rules, group_hits AreBackwardEnds Matches backward_ends items g h are.backward.hits alike, kept g h are.all list alike)
 
 map_alike : (g h : List Reading) (items : List Ref) → AllZip AreAlike g h → MapAlike g h items
 map_alike g h items alike = search (rules, forward, backward, zip_back)

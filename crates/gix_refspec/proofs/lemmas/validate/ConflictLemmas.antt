@@ -181,7 +181,7 @@ module _ (g : List Reading) (l : List Mapped) (run others : List Update) (cs : L
         let two = two_firsts l split.destination (rw to at contested) in
         two.2 (one_update_only split.destination run two.0 two.1 few ((firsts_of_run some two.0).1 two.3) ((firsts_of_run some two.1).1 two.4))
       )) (λ other. other) in
-      search (rules, settled.left, HasUpdate-right run others, behind_run, strict_right update_cmp run others settled.order, all_still_below, every)
+      search (rules, settled.left, HasUpdate-right run others, behind_run, strict_right update_cmp run others, all_still_below, every)
 
   -- a run of several updates adds one
   reported : (c : Conflict) → 1 < length run → IsConflictOf g l run c → AreReported g l others (cs ++ c ∷ [])

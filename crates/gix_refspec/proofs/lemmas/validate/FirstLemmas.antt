@@ -78,7 +78,8 @@ cases_of true = inl refl
 cases_of false = inr refl
 
 text_cases : (x y : List ℕ) → (x ≡ y) ⊎ (x ≢ y)
-text_cases x y = by_cases (cases_of (bytes_eq x y)) (λ is. inl ((bytes_eq-Decides x y).0 is)) (λ is. inr (λ same. false≢true (sym is ∙ (bytes_eq-Decides x y).1 same)))
+text_cases x y =
+    by_cases (cases_of (bytes_eq x y)) (λ is. inl ((bytes_eq-Decides x y).0 is)) (λ is. inr (λ same. false≢true (sym is ∙ (bytes_eq-Decides x y).1 same)))
 
 pub start_cases : (a b : Source) → (a ≡ b) ⊎ (a ≢ b)
 start_cases (name x) (name y) = by_cases (text_cases x y) (λ same. inl (ap name same)) (λ apart. inr (λ same. apart (cc)))

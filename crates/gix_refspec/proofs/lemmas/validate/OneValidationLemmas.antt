@@ -1,7 +1,7 @@
 -- A validation has one result, and a copy of an outcome has the same.
 use Rattle.gix_refspec.proofs.Common.{not_below_itself, ◌≡◌, inl, inr, ℕ, List, [], ◌∷◌, Some, map, refl, sym, ap, ◌∙◌, subst, AllByRecursion, IsStrictlySortedBy, Less, nat_cmp, slice_cmp, Mapping}
 use Rattle.gix_refspec.proofs.Common.{Outcome, Reading, reading_of, IsMadeFrom, printed, Mapped, mapped_of, AreMappingCopies, readings_of, IsFirstTo, IsTextAt, Conflict, IsConflict, AreConflicts}
-use Rattle.gix_refspec.proofs.Common.{Survives, Removed, IsFix, ValidateAlike, OneValidation, CopiedOutcome, same_Some, AnyOf as Any, Any-all, Any-fact, Any-from_map}
+use Rattle.gix_refspec.proofs.Common.{Survives, Removed, IsFix, ValidateAlike, OneValidation, CopiedOutcome, same_Some, AnyOf as Any, Any-all, Any-fact, Any-from_map, rules}
 use Rattle.gix_refspec.proofs.lemmas.MadeLemmas.{there}
 use Rattle.gix_refspec.proofs.lemmas.validate.UpdateLemmas.{below_trans}
 use Rattle.gix_refspec_match.proofs.lemmas.lists.ListsLemmas.{made_once}
@@ -82,8 +82,4 @@ pub copied_outcome : {forward : ℕ} (o copy : Outcome forward) → CopiedOutcom
 copied_outcome o copy is =
     let readings : readings_of copy.group ≡ readings_of o.group = ap (map reading_of) is.specs in
     let mappings : map mapped_of copy.mappings.items ≡ map mapped_of o.mappings.items = copied_mappings o.mappings.items copy.mappings.items is.mappings in
-    record {
-      readings = readings;
-      mappings = mappings;
-      validated = validate_alike (readings_of o.group) (readings_of copy.group) (map mapped_of o.mappings.items) (map mapped_of copy.mappings.items) readings mappings;
-    }
+    search (rules, readings, mappings, validate_alike _ _ _ _ readings mappings)

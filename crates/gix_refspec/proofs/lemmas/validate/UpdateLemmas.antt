@@ -123,7 +123,8 @@ pub updates_same : (l : List Mapped) (flags : List Bool) (p : ℕ) (cs : List Up
 updates_same l flags p cs none made = record {
   are = λ k d. (
     (λ has. let told = (made.are k d).0 has in (omega (arith, told.0), told.1)),
-    (λ told. by_cases (upto k p told.0) (λ less. (made.are k d).1 (less, told.1)) (λ here. absurd (none d (rw here at told.1.0) (rw here at told.1.1)))),
+    (λ told. by_cases (upto k p told.0) (λ less. (made.are k d).1 (less, told.1))
+        (λ here. absurd (none d (rw here at told.1.0) (rw here at told.1.1)))),
   );
   rises = made.rises;
   below = all_weaker (λ n. n < p) (λ n. n < p + 1) (λ n less. omega arith) (updated_indexes cs) made.below;
