@@ -1,10 +1,10 @@
 -- Fetches map alike if they are equal, or if the canonical text of one reads as the other.
-use Rattle.gix_refspec.proofs.Common.{◌≡◌, inl, inr, ◌↔◌, ℕ, ◌+◌, Bool, true, false, List, [], ◌∷◌, map, Option, None, Some, refl, sym, ap, ◌∙◌, nat_eq, pointwise, AllZip, false≢true, Operation}
-use Rattle.gix_refspec.proofs.Common.{Fetch, RefSpecRef, Mode, Normal, Forced, Negative, Reading, IsPositive, IsAccepted, Reads, Meaning, fetch_only, fetch_exclude, fetch_and_update, meaning}
-use Rattle.gix_refspec.proofs.Common.{meaning_of, key_of_spec, reading_of, Ref, Matches, Takes, MakesOf, IsMadeFrom, IsJoinedFrom, Source, name, id, Mapped, IsExcludedBy, IsExcluded, IsSourceExcluded}
-use Rattle.gix_refspec.proofs.Common.{IsKeptAt, IsKept, Ends, AreForwardEnds, AreBackwardEnds, Hit, AreSpecHits, AreHits, IsIdMapping, AreKeptForward, AreKeptBackward, ReadsAgainAs, MapAlike}
+use Rattle.gix_refspec.proofs.Common.{◌≡◌, inl, inr, ◌↔◌, ℕ, ◌+◌, Bool, true, false, List, [], ◌∷◌, map, Option, None, Some, refl, sym, ap, ◌∙◌, nat_eq, pointwise, AllZip, Operation, Fetch}
+use Rattle.gix_refspec.proofs.Common.{RefSpecRef, Mode, Normal, Forced, Negative, Reading, IsPositive, IsAccepted, Reads, Meaning, fetch_only, fetch_exclude, fetch_and_update, meaning, meaning_of}
+use Rattle.gix_refspec.proofs.Common.{key_of_spec, reading_of, Ref, Matches, Takes, MakesOf, IsMadeFrom, IsJoinedFrom, Source, name, id, Mapped, IsExcludedBy, IsExcluded, IsSourceExcluded, IsKeptAt}
+use Rattle.gix_refspec.proofs.Common.{IsKept, Ends, AreForwardEnds, AreBackwardEnds, Hit, AreSpecHits, AreHits, IsIdMapping, AreKeptForward, AreKeptBackward, ReadsAgainAs, MapAlike}
 use Rattle.gix_refspec.proofs.Common.{FetchGroupReadsBack, FetchTheSame, EqualGroups, AreFetches, same_Some, by_cases, rules, subst, same_keys, equal_keys, keeps_operation, printed_back, says}
-use Rattle.gix_refspec.proofs.Common.{says_for_operation}
+use Rattle.gix_refspec.proofs.Common.{says_for_operation, arith}
 
 abbrev pub is_negative : Mode → Bool
 is_negative Negative = true
@@ -24,16 +24,11 @@ zip_back [] [] alike = tt
 zip_back (r ∷ g) (q ∷ h) alike = (alike_back r q alike.0, zip_back g h alike.1)
 zip_back g h alike = absurd alike
 
-positive_sign : (mode : Mode) → IsPositive mode ↔ (is_negative mode ≡ false)
-positive_sign Negative = ((λ positive. absurd positive), λ sign. false≢true (sym sign))
-positive_sign mode = ((λ positive. refl), λ sign. tt)
-
 sign_negative : (mode : Mode) → is_negative mode ≡ true → mode ≡ Negative
-sign_negative Negative sign = refl
-sign_negative mode sign = absurd (false≢true sign)
+sign_negative mode sign = grind arith
 
 alike_positive : (r q : Reading) → AreAlike r q → IsPositive r.mode → IsPositive q.mode
-alike_positive r q alike positive = (positive_sign q.mode).1 (sym alike.negative ∙ (positive_sign r.mode).0 positive)
+alike_positive r q alike positive = grind arith
 
 -- the sides of a fetch with this meaning, and whether its sign is `^`
 parts_of : Option Meaning → Option (List ℕ) × Option (List ℕ) × Bool

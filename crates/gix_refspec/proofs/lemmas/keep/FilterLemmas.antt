@@ -81,7 +81,7 @@ first_in_part A B part x n has first =
 takes_in_part : (A B : List Ref) → ArePart A B → (x : List ℕ) (item : Ref) (word : Option (List ℕ)) → Contains B item → Takes A x item word → Takes B x item word
 takes_in_part A B part x item word there takes = search (rules, first_in_part A B part, takes.first, name_there B item there)
 
--- and if no item that is taken is left out, an item that is taken in the subset is taken among all
+-- if no item that is taken is left out, an item that is taken in the subset is taken among all
 takes_in_all : (A B : List Ref) → ArePart A B → (x : List ℕ) → ((item : Ref) (word : Option (List ℕ)) → Contains A item → Takes A x item word → Contains B item) → (item : Ref) (word : Option (List ℕ)) → Contains B item → Takes B x item word → Takes A x item word
 takes_in_all A B part x has item word there takes = record { matches = takes.matches; first = first }
   where

@@ -46,15 +46,12 @@ module _ (b : ℕ) (below : b < 32) (refused : IsTrue (is_refused_byte b)) where
   forced_lacks : (forced : Bool) (s d : List ℕ) → Lacks b s → Lacks b d → Lacks b (sign forced ++ (s ++ (colon ∷ d)))
   forced_lacks forced s d source destination = all_join (λ c. c ≢ b) (sign forced) (s ++ (colon ∷ d)) (sign_lacks forced) (all_join (λ c. c ≢ b) s (colon ∷ d) source ((λ same. omega (arith, same, below)), destination))
 
-  alone_lacks : (s : List ℕ) → Lacks b s → Lacks b (sign (begins_with_plus s) ++ s)
-  alone_lacks s source = all_join (λ c. c ≢ b) (sign (begins_with_plus s)) s (sign_lacks (begins_with_plus s)) source
-
   fetch_lacks : (mode : Mode) (s : List ℕ) (d : Option (List ℕ)) (t : List ℕ) → Lacks b s → LacksIn b d → printed (fetched mode s d) ≡ Some t → Lacks b t
   fetch_lacks Negative s None t source destination is = subst (Lacks b) (same_Some _ t is) ((λ same. omega (arith, same, below)), source)
   fetch_lacks Normal s (Some d) t source destination is = subst (Lacks b) (same_Some _ t is) (forced_lacks false s d source destination)
   fetch_lacks Forced s (Some d) t source destination is = subst (Lacks b) (same_Some _ t is) (forced_lacks true s d source destination)
   fetch_lacks Negative s (Some d) t source destination is = absurd (cc)
-  fetch_lacks mode s None t source destination is = subst (Lacks b) (same_Some _ t is) (alone_lacks s source)
+  fetch_lacks mode s None t source destination is = subst (Lacks b) (same_Some _ t is) (all_join (λ c. c ≢ b) (sign (begins_with_plus s)) s (sign_lacks (begins_with_plus s)) source)
 
   alike_lack : (s d : List ℕ) → AreAlike s d → Lacks b s × Lacks b d
   alike_lack s d alike = by_cases alike (λ both. (name_lacks s both.0, name_lacks d both.1)) (λ both. (pattern_lacks s both.0, pattern_lacks d both.1))

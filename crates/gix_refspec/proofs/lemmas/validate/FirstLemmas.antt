@@ -1,8 +1,7 @@
 -- The first mappings from each source to each destination, by their indexes.
-use Rattle.gix_refspec.proofs.Common.{Ordering, equal_pair, pair_order, same_pair, all_weaker, ◌≡◌, ◌≢◌, ◌⊎◌, inl, inr, ◌↔◌, ℕ, suc, ◌+◌, ◌-◌, ◌<◌, ◌≤◌, List, [], ◌∷◌, None, Some, Bool, true, false}
-use Rattle.gix_refspec.proofs.Common.{take, refl, sym, ap, ◌∙◌, subst, arith, AllByRecursion, AllZip, Contains, slice_get, bytes_eq, cases_lt, false≢true, get_or_from_slice_get, slice_get-get_or}
-use Rattle.gix_refspec.proofs.Common.{slice_get_within, bytes_eq-Decides, IsMadeFrom, Source, name, id, Mapped, IsSamePair, HasPair, HasConflictAt, IsFirstAt, Equal, by_cases, get_or-take}
-use Rattle.gix_refspec.proofs.Common.{length-take-le, HasPair-from_place}
+use Rattle.gix_refspec.proofs.Common.{equal_pair, same_pair, all_weaker, ◌≡◌, ◌≢◌, ◌⊎◌, inl, inr, ◌↔◌, ℕ, suc, ◌+◌, ◌-◌, ◌<◌, ◌≤◌, List, [], ◌∷◌, None, Some, take, refl, sym, ap, ◌∙◌, subst, arith}
+use Rattle.gix_refspec.proofs.Common.{AllByRecursion, AllZip, Contains, slice_get, cases_lt, get_or_from_slice_get, slice_get-get_or, slice_get_within, bytes_eq-Decides, IsMadeFrom, Source, name, id}
+use Rattle.gix_refspec.proofs.Common.{Mapped, IsSamePair, HasPair, HasConflictAt, IsFirstAt, by_cases, get_or-take, length-take-le, HasPair-from_place}
 
 abbrev pub Has : List ℕ → ℕ → Type 0
 Has [] k = ⊥
@@ -73,13 +72,8 @@ made_at_indexes {Y} P Q l k (x ∷ rest) (n ∷ ns) (y ∷ ys) at has rises abov
 
 made_at_indexes P Q l k rest ns ys at has rises above zip = absurd zip
 
-cases_of : (b : Bool) → (b ≡ true) ⊎ (b ≡ false)
-cases_of true = inl refl
-cases_of false = inr refl
-
 text_cases : (x y : List ℕ) → (x ≡ y) ⊎ (x ≢ y)
-text_cases x y =
-    by_cases (cases_of (bytes_eq x y)) (λ is. inl ((bytes_eq-Decides x y).0 is)) (λ is. inr (λ same. false≢true (sym is ∙ (bytes_eq-Decides x y).1 same)))
+text_cases x y = grind (arith, bytes_eq-Decides x y)
 
 pub start_cases : (a b : Source) → (a ≡ b) ⊎ (a ≢ b)
 start_cases (name x) (name y) = by_cases (text_cases x y) (λ same. inl (ap name same)) (λ apart. inr (λ same. apart (cc)))
@@ -87,11 +81,7 @@ start_cases (id x) (id y) = by_cases (text_cases x y) (λ same. inl (ap id same)
 start_cases a b = inr (λ same. absurd (cc))
 
 pair_cases : (m n : Mapped) → IsSamePair m n ⊎ ¬ (IsSamePair m n)
-pair_cases m n = by (pair_order m n) refl
-  where
-    by : (o : Ordering) → pair_order m n ≡ o → IsSamePair m n ⊎ ¬ (IsSamePair m n)
-    by Equal is = inl (same_pair m n is)
-    by o is = inr (λ same. let equal = equal_pair m n same in cc)
+pair_cases m n = grind (arith, same_pair m n, equal_pair m n)
 
 -- of the mappings with a pair, the first
 first_of : (l : List Mapped) (m : Mapped) → HasPair l m → (j : ℕ) × (n : Mapped) × (slice_get l j ≡ Some n) × IsSamePair n m × ¬ (HasPair (take j l) n)

@@ -1,7 +1,7 @@
 -- Sorted updates, and where they are split.
 use Rattle.gix_refspec.proofs.Common.{Ordering, all_left, all_right, all_join, all_weaker, ◌≡◌, ◌≢◌, ◌⊎◌, inl, inr, ◌↔◌, ℕ, zero, suc, ◌+◌, ◌<◌, ◌≤◌, List, [], ◌∷◌, ◌++◌, None, Some, option_map, Bool}
 use Rattle.gix_refspec.proofs.Common.{true, false, not, length, map, take, drop, get_or, refl, sym, ap, ◌∙◌, subst, arith, AllByRecursion, Contains, slice_get, IsPermutation, IsSorted}
-use Rattle.gix_refspec.proofs.Common.{IsStrictlySortedBy, Less, Equal, Greater, is_lt, nat_cmp, ordering_then, ordering_reverse, slice_cmp, nat_list_cmp_total, false≢true, not-false, not-true}
+use Rattle.gix_refspec.proofs.Common.{IsStrictlySortedBy, Less, Equal, is_lt, nat_cmp, ordering_then, ordering_reverse, slice_cmp, nat_list_cmp_total, false≢true, not-false, not-true}
 use Rattle.gix_refspec.proofs.Common.{bytes_eq-Decides, bytes_eq, get_or-map, length-map, map-append, take-append-drop, take_more, length-drop, All-from_recursion, slice_get-map, slice_get_read}
 use Rattle.gix_refspec.proofs.Common.{slice_get_within, Update, Mapping, NameRef, Mapped, mapped_of, name_bytes, IsFlagged, Rises, AreUpdates, GoesTo, HasUpdate, IsRun, update_cmp, updated_indexes}
 use Rattle.gix_refspec.proofs.Common.{same_texts, both_equal, rules, same_Some, by_cases, get_or-drop, add-zero, apart_places}
@@ -19,15 +19,9 @@ pub record AreUpdatesUpto (l : List Mapped) (flags : List Bool) (p : ℕ) (cs : 
 pub below_trans : (x y z : List ℕ) → slice_cmp nat_cmp x y ≡ Less → slice_cmp nat_cmp y z ≡ Less → slice_cmp nat_cmp x z ≡ Less
 below_trans = nat_list_cmp_total.trans
 
-less_of_two : (a b : Ordering) → ordering_then a b ≡ Less → (a ≡ Less) ⊎ ((a ≡ Equal) × (b ≡ Less))
-less_of_two Less b is = inl refl
-less_of_two Equal b is = inr (refl, is)
-less_of_two Greater b is = absurd (cc)
-
 -- a greater update has a greater destination, or the same one and a greater index
 pub later : (x y : Update) → update_cmp x y ≡ Less → (slice_cmp nat_cmp x.destination.now y.destination.now ≡ Less) ⊎ ((x.destination.now ≡ y.destination.now) × (x.index < y.index))
-later x y is = by_cases (less_of_two (slice_cmp nat_cmp x.destination.now y.destination.now) (nat_cmp x.index y.index) is) (λ less. inl less)
-    (λ tied. inr (same_texts x.destination.now y.destination.now tied.0, ranked x.index y.index Less (sym tied.1)))
+later x y is = grind (arith, same_texts x.destination.now y.destination.now, ranked x.index y.index)
 
 update_total : IsTotalOrder update_cmp
 update_total = then_total (on_total (λ (c : Update). c.destination.now) nat_list_cmp_total) (on_total (λ (c : Update). c.index) nat_cmp_total)
@@ -44,9 +38,7 @@ strict_right cmp (x ∷ xs) ys strict = strict_right cmp xs ys strict.1
 
 -- what is neither less nor equal is less when turned round
 pub turned : (o r : Ordering) → r ≡ ordering_reverse o → is_lt o ≡ false → o ≢ Equal → r ≡ Less
-turned Less r is told apart = absurd (false≢true (sym told))
-turned Equal r is told apart = absurd (apart refl)
-turned Greater r is told apart = is
+turned o r is told apart = grind arith
 
 -- sorted updates are strictly increasing, since their indexes differ
 strict_from_sorted : (xs ys : List Update) → IsPermutation xs ys → Rises (updated_indexes xs) → IsSorted update_cmp ys → IsStrictlySortedBy update_cmp ys
