@@ -63,8 +63,7 @@ list_of_side r x None is none = λ list lists. by_cases lists (λ negative. subs
 list_of_side r x (Some v) is lists = inr (x, is, lists)
 
 as_once : (k : SideKind) (a b : List (List ℕ)) → ListsAs k a → ListsAs k b → a ≡ b
-as_once (pattern before after) a b one other = one.1 ∙ sym other.1
-as_once kind a b one other = one ∙ sym other
+as_once k a b one other = grind arith
 
 lists_once : (r : Reading) (a b : List (List ℕ)) → Lists r a → Lists r b → a ≡ b
 lists_once r a b (inl (negative, empty)) (inl (also, other)) = empty ∙ sym other

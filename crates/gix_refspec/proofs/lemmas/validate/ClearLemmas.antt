@@ -18,8 +18,7 @@ record IsClearFetch (b : ℕ) (r : Reading) : Type 0 where
   is : r ≡ fetched mode source destination
 
 either_way : (b : ℕ) (v : Bool) (x y : List ℕ) → Lacks b x → Lacks b y → Lacks b (if v then x else y)
-either_way b true x y first second = first
-either_way b false x y first second = second
+either_way b v x y first second = grind arith
 
 module _ (b : ℕ) (below : b < 32) (refused : IsTrue (is_refused_byte b)) where
   name_lacks : (x : List ℕ) → IsName x → Lacks b x

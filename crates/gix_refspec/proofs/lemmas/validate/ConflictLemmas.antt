@@ -73,9 +73,7 @@ conflict_from_conflicting g l run d sources texts conflicting told to = rw to (r
     two cs several up first = absurd (omega arith)
 
 pub copied_name : (n m : NameRef) → IsNameCopy n m → name_bytes m ≡ name_bytes n
-copied_name (Borrowed n) (Borrowed m) same = same
-copied_name (Owned n) (Owned m) same = same
-copied_name n m same = absurd same
+copied_name n m same = grind arith
 
 pub copied_source : (a b : SourceRef) → IsSourceCopy a b → start_of b ≡ start_of a
 copied_source (source_ref.FullName n) (source_ref.FullName m) copy = ap name (copied_name n m copy)

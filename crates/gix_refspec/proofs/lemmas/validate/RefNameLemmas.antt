@@ -3,23 +3,20 @@ use Rattle.gix_refspec.proofs.Common.{all_weaker, each_mapped, ◌≡◌, ◌≢
 use Rattle.gix_refspec.proofs.Common.{◌∙◌, subst, append_assoc, AllByRecursion, list_any, ◌⊎◌, ◌||◌, ◌==◌, IsTrue, cases_lt, lt-ltb, Mapping, NameRef, Empty, EmptyComponent, StartsWithDot}
 use Rattle.gix_refspec.proofs.Common.{InvalidByte, head, slash, ArePartsAt, BeginsWith, is_refused_byte, IsName, Reading, IsMadeFrom, Ref, Mapped, mapped_of, name_bytes, IsMappingCopy}
 use Rattle.gix_refspec.proofs.Common.{IsDestinationCopy, ForwardIndexes, ShareDestination, HaveDistinctDestinations, Survives, HaveRefNames, IsInvalidAt, HasRefNames, IsValidDestination, IsRefName}
-use Rattle.gix_refspec.proofs.Common.{StaysAmongRefs, WritesRef, WritesRefs, by_cases, kept_once, IsName-head}
-use Rattle.gix_refspec.specs.declared.match_group.ref_names.InvalidSide.{InvalidSide, TheVariants.Destination}
+use Rattle.gix_refspec.proofs.Common.{StaysAmongRefs, WritesRef, WritesRefs, by_cases, kept_once, IsName-head, arith}
+use Rattle.gix_refspec.specs.declared.match_group.ref_names.InvalidSide.{InvalidSide}
 use Rattle.gix_refspec.proofs.lemmas.validate.AfterLemmas.{apart_still, distinct_destinations_after, validated_once}
 use Rattle.gix_refspec.proofs.lemmas.MadeLemmas.{each_made, stays_each}
 use Rattle.gix_refspec.proofs.lemmas.validate.ConflictLemmas.{copied_name, copied_source}
 
 pub bad_unnamed : (side : InvalidSide) (m : Mapped) → IsInvalidAt side m → ¬ (HasRefNames m)
-bad_unnamed Destination m bad named = bad.1 named.destination
-bad_unnamed side m bad named = bad.0 named.source
+bad_unnamed side m bad named = grind arith
 
 pub some_unnamed : (ms : List Mapping) (i : ℕ) (m : Mapping) (side : InvalidSide) → i < length ms → m ≡ get_or ms i m → IsInvalidAt side (mapped_of m) → ¬ (AllByRecursion HasRefNames (map mapped_of ms))
 some_unnamed ms i m side below is bad all = bad_unnamed side (mapped_of m) bad (each_mapped mapped_of HasRefNames ms i m all below is)
 
 pub copied_destination : (d e : Option NameRef) → IsDestinationCopy d e → option_map name_bytes e ≡ option_map name_bytes d
-copied_destination None None copy = refl
-copied_destination (Some n) (Some m) copy = ap Some (copied_name n m copy)
-copied_destination d e copy = absurd copy
+copied_destination d e copy = grind (arith, copied_name)
 
 pub copied_mapping : (m copy : Mapping) → IsMappingCopy m copy → mapped_of copy ≡ mapped_of m
 copied_mapping m copy is =
