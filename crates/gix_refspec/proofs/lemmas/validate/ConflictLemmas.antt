@@ -1,11 +1,10 @@
 -- Conflicts, from sorted updates.
-use Rattle.gix_refspec.proofs.Common.{not_below_itself, Borrowed, Owned, all_right, all_join, all_weaker, each_mapped, ◌≡◌, ◌⊎◌, inl, inr, ◌↔◌, ℕ, ◌+◌, ◌<◌, ◌≤◌, List, [], ◌∷◌, ◌++◌, Some, option_map}
-use Rattle.gix_refspec.proofs.Common.{length, map, take, drop, get_or, refl, sym, ap, ◌∙◌, subst, arith, AllByRecursion, AllZip, Contains, slice_get, IsStrictlySortedBy, Less, nat_cmp, slice_cmp}
-use Rattle.gix_refspec.proofs.Common.{length-map, length-take-le, map-append, take-append-drop, take_more, All-from_recursion, Contains-append_left, Contains-push, slice_get-map, slice_get_read}
-use Rattle.gix_refspec.proofs.Common.{slice_get_within, Mapping, NameRef, SourceRef, Update, RefSpecRef, Reading, printed, reading_of, Source, name, id, Mapped, mapped_of, name_bytes, start_of}
-use Rattle.gix_refspec.proofs.Common.{IsNameCopy, IsSourceCopy, id_bytes, AreConflicts, Conflict, IndexesFit, IsConflict, HasConflictAt, IsFirstTo, IsTextAt, AddsConflict, AreFirstUpdates}
-use Rattle.gix_refspec.proofs.Common.{AreConflicting, HasUpdate, IsRun, IsFirstAt, IsConflictOf, update_cmp, updated_indexes, by_cases, recursion_from_All, get_or_default, all_left, IsMadeFrom, rules}
-use Rattle.gix_refspec_match.specs.declared.types.SourceRef.TheVariants as source_ref
+use Rattle.gix_refspec.proofs.Common.{not_below_itself, all_right, all_join, all_weaker, each_mapped, ◌≡◌, ◌⊎◌, inl, inr, ◌↔◌, ℕ, ◌+◌, ◌<◌, ◌≤◌, List, [], ◌∷◌, ◌++◌, Some, option_map, length, map}
+use Rattle.gix_refspec.proofs.Common.{take, drop, get_or, refl, sym, ap, ◌∙◌, subst, arith, AllByRecursion, AllZip, Contains, slice_get, IsStrictlySortedBy, Less, nat_cmp, slice_cmp, length-map}
+use Rattle.gix_refspec.proofs.Common.{length-take-le, map-append, take-append-drop, take_more, All-from_recursion, Contains-append_left, Contains-push, slice_get-map, slice_get_read, slice_get_within}
+use Rattle.gix_refspec.proofs.Common.{Mapping, NameRef, SourceRef, Update, RefSpecRef, Reading, printed, reading_of, Source, Mapped, mapped_of, name_bytes, start_of, IsNameCopy, IsSourceCopy}
+use Rattle.gix_refspec.proofs.Common.{AreConflicts, Conflict, IndexesFit, IsConflict, HasConflictAt, IsFirstTo, IsTextAt, AddsConflict, AreFirstUpdates, AreConflicting, HasUpdate, IsRun, IsFirstAt}
+use Rattle.gix_refspec.proofs.Common.{IsConflictOf, update_cmp, updated_indexes, by_cases, recursion_from_All, get_or_default, all_left, IsMadeFrom, rules}
 use Rattle.gix_refspec.proofs.lemmas.MadeLemmas.{map_each}
 use Rattle.gix_refspec.proofs.lemmas.validate.UpdateLemmas.{HasUpdate-cases, HasUpdate-left, HasUpdate-right, later, mapped_at, past_end, strict_left, strict_right, update_at}
 use Rattle.gix_refspec.proofs.lemmas.validate.FirstLemmas.{Has, Increase, IsOfIndex, contested_from_firsts, made_at_indexes, one_mapping, two_firsts}
@@ -76,9 +75,7 @@ pub copied_name : (n m : NameRef) → IsNameCopy n m → name_bytes m ≡ name_b
 copied_name n m same = grind arith
 
 pub copied_source : (a b : SourceRef) → IsSourceCopy a b → start_of b ≡ start_of a
-copied_source (source_ref.FullName n) (source_ref.FullName m) copy = ap name (copied_name n m copy)
-copied_source (source_ref.ObjectId i) (source_ref.ObjectId j) copy = ap (λ k. id (id_bytes k)) copy
-copied_source a b copy = absurd copy
+copied_source a b copy = grind (arith, copied_name)
 
 pub text_at : (specs : List RefSpecRef) (k : ℕ) (spec : RefSpecRef) (text : List ℕ) → k < length specs → spec ≡ get_or specs k spec → printed (reading_of spec) ≡ Some text → IsTextAt (map reading_of specs) k text
 text_at specs k spec text below is prints = (reading_of spec, slice_get-map reading_of specs k ∙ ap (option_map reading_of) (slice_get_read specs (length specs) k spec refl below is), prints)
