@@ -1,28 +1,16 @@
 -- Examples of ref prefixes, for sides and groups like those of git-fetch(1), and what a caller concludes from them.
-use Rattle.gix_refspec.proofs.Common.{Lacks-tested, other_length, begins_not, blob_kind, split_at_end, every, no_dev, other_byte, short_kind, mapping, ◌≡◌, inl, inr, ℕ, List, [], ◌∷◌, ◌++◌, None, Some}
-use Rattle.gix_refspec.proofs.Common.{codes, length, refl, ap, subst, arith, bracket, star, BeginsWith, Normal, fetched, pushed, pattern, partial, full_name, object, HasKind, candidates, IsRefPrefix, Ref, Mapped}
-use Rattle.gix_refspec.proofs.Common.{AreKeptForward, HasNoList, Lists, ListsGroup, ListsSide, Serves, by_cases}
-use Rattle.gix_refspec.proofs.lemmas.prefixes.AskedLemmas.{list_as, no_list}
-use Rattle.gix_refspec.proofs.facts.KeptFacts.{of_one}
-use Rattle.gix_refspec_text.proofs.facts.PrefixFacts.{bracket_split, suffix_split, tells}
-use Rattle.gix_refspec_text.proofs.lemmas.prefixes.PrefixLemmas.{id_not_head, one_asked}
-use Rattle.gix_refspec_text.proofs.lemmas.lists.LacksLemmas.{Lacks-here}
+use Rattle.gix_refspec.proofs.Common.{begins_not, blob_kind, split_at_end, every, no_dev, short_kind, mapping, inl, inr, ℕ, List, [], ◌∷◌, ◌++◌, None, Some, codes, length, refl, ap, arith, bracket}
+use Rattle.gix_refspec.proofs.Common.{BeginsWith, Normal, fetched, pushed, pattern, partial, full_name, object, HasKind, candidates, IsRefPrefix, Ref, Mapped, AreKeptForward, HasNoList, Lists}
+use Rattle.gix_refspec.proofs.Common.{ListsGroup, ListsSide, Serves, by_cases, rules, same_Some}
+use Rattle.gix_refspec_text.proofs.{facts.PrefixFacts.bracket_split, facts.PrefixFacts.suffix_split, facts.PrefixFacts.tells, lemmas.prefixes.PrefixLemmas.id_not_head}
+use Rattle.gix_refspec_text.proofs.{lemmas.lists.LacksLemmas.Lacks-here}
+use Rattle.gix_refspec.proofs.{lemmas.prefixes.AskedLemmas.list_as, lemmas.prefixes.AskedLemmas.no_list, facts.KeptFacts.of_one}
 
 below_heads : IsRefPrefix (codes "refs/heads/") []
-below_heads = record {
-  below = record { after = codes "heads/"; here = refl };
-  further = other_length (codes "refs/heads/") (codes "refs/") (λ size. omega (arith, size));
-  first = Lacks-tested bracket (codes "refs/heads/") refl;
-  last = tt;
-}
+below_heads = record { below = search rules; further = λ same. cc; first = search rules; last = tt }
 
 head_kind : HasKind (codes "HEAD") (partial (codes "HEAD"))
-head_kind = (
-  refl,
-  Lacks-tested star (codes "HEAD") refl,
-  (λ begins. other_byte 0 (codes "HEAD") (codes "refs/" ++ begins.after) (λ byte. omega (arith, byte)) begins.here),
-  (λ is. id_not_head (codes "HEAD") is.0 is.1 refl),
-)
+head_kind = (refl, search rules, (λ begins. cc (begins.here)), (λ is. id_not_head (codes "HEAD") is.0 is.1 refl))
 
 -- the list of a pattern is its prefix, that of a partial name and of `HEAD` their candidates, that of an id is empty,
 -- and that of a full name is the name alone
@@ -32,33 +20,21 @@ lists_of_sides = (
   record { kind = partial (codes "main"); of = short_kind; is = refl },
   record { kind = partial (codes "HEAD"); of = head_kind; is = refl },
   record { kind = object _; of = blob_kind; is = refl },
-  record { kind = full_name _; of = (refl, Lacks-tested star (codes "refs/heads/main") refl, record { after = codes "heads/main"; here = refl }); is = refl },
+  record { kind = full_name _; of = (refl, search rules, search rules); is = refl },
 )
 
 -- a star directly after `refs/` has no list; that of `HEAD` isn't `HEAD` alone, and that of a partial name isn't empty
 pub no_lists_of_sides : (list : List (List ℕ)) → ¬ (ListsSide (codes "refs/*") list) × ¬ (ListsSide (codes "HEAD") (codes "HEAD" ∷ [])) × ¬ (ListsSide (codes "main") [])
 no_lists_of_sides list = (
   no_list (codes "refs/*") (codes "refs/") [] (split_at_end (codes "refs/") refl) ((tells.1 []).0) list,
-  (λ lists. let size : 1 ≡ 6 = ap length (list_as (codes "HEAD") (partial (codes "HEAD")) (codes "HEAD" ∷ []) head_kind lists) in omega (arith, size)),
-  (λ lists. let size : 0 ≡ 6 = ap length (list_as (codes "main") (partial (codes "main")) [] short_kind lists) in omega (arith, size)),
+  (λ lists. omega (arith, ap length (list_as (codes "HEAD") (partial (codes "HEAD")) _ head_kind lists))),
+  λ lists. omega (arith, ap length (list_as (codes "main") (partial (codes "main")) _ short_kind lists)),
 )
 
 -- a `]` after the star is allowed, but a star after a `]` has no list
 pub lists_at_brackets : ListsSide (codes "refs/a*/]") (codes "refs/a" ∷ []) × ((list : List (List ℕ)) → ¬ (ListsSide (codes "refs/a]*") list))
 lists_at_brackets = (
-  record {
-    kind = pattern (codes "refs/a") (codes "/]");
-    of = suffix_split;
-    is = (
-      record {
-        below = record { after = codes "a"; here = refl };
-        further = other_length (codes "refs/a") (codes "refs/") (λ size. omega (arith, size));
-        first = Lacks-tested bracket (codes "refs/a") refl;
-        last = tt;
-      },
-      refl,
-    );
-  },
+  record { kind = pattern (codes "refs/a") (codes "/]"); of = suffix_split; is = (record { below = search rules; further = λ same. cc; first = search rules; last = tt }, refl) },
   no_list (codes "refs/a]*") (codes "refs/a]") [] bracket_split (λ tells. Lacks-here bracket (codes "refs/a") [] tells.first),
 )
 
@@ -67,40 +43,21 @@ every_lists = inr (codes "refs/heads/*", record { positive = tt; side = refl }, 
 
 -- the list of a negative spec is empty, and a push without a destination has none
 pub lists_of_specs : Lists every (codes "refs/heads/" ∷ []) × Lists no_dev [] × ((list : List (List ℕ)) → ¬ (Lists (pushed Normal (Some (codes "main")) None) list))
-lists_of_specs = (
-  every_lists,
-  inl (refl, refl),
-  λ list lists. by_cases lists (λ negative. let same = negative.0 in absurd (cc)) (λ asked. let missing = asked.1.side in absurd (cc)),
-)
+lists_of_specs = (every_lists, inl (refl, refl), λ list lists. by_cases lists (λ negative. cc (negative.0)) (λ asked. cc (asked.1.side)))
 
 -- the lists of a group are one after the other, in order
 pub lists_of_groups : ListsGroup (fetched Normal (codes "main") None ∷ no_dev ∷ every ∷ []) (candidates (codes "main") ++ codes "refs/heads/" ∷ [])
-lists_of_groups = (
-  candidates (codes "main"),
-  codes "refs/heads/" ∷ [],
-  inr (codes "main", record { positive = tt; side = refl }, lists_of_sides.1),
-  ([], codes "refs/heads/" ∷ [], lists_of_specs.1, (codes "refs/heads/" ∷ [], [], every_lists, refl, refl), refl),
-  refl,
-)
+lists_of_groups = (_, _, inr (codes "main", record { positive = tt; side = refl }, lists_of_sides.1), ([], _, lists_of_specs.1, (_, [], every_lists, refl, refl), refl), refl)
 
 -- a group has no list if one side has none
 pub none_for_all : HasNoList (every ∷ fetched Normal (codes "refs/*") (Some (codes "refs/x/*")) ∷ []) × ¬ (HasNoList (every ∷ []))
 none_for_all = (
-  (
-    1,
-    fetched Normal (codes "refs/*") (Some (codes "refs/x/*")),
-    omega arith,
-    refl,
-    λ list lists. elim lists [
-      | inl negative ↦ let same = negative.0 in absurd (cc)
-      | inr asked ↦ (no_lists_of_sides list).0 (subst (λ (x : List ℕ). ListsSide x list) (one_asked (fetched Normal (codes "refs/*") (Some (codes "refs/x/*"))) asked.0 (codes "refs/*") asked.1 (record { positive = tt; side = refl })) asked.2)
-    ],
-  ),
+  (1, fetched Normal (codes "refs/*") (Some (codes "refs/x/*")), omega arith, refl, λ list lists. by_cases lists (λ negative. cc (negative.0)) (λ asked. (no_lists_of_sides list).0 (rw (← same_Some (codes "refs/*") asked.0 asked.1.side) at asked.2))),
   λ none. of_one (λ r. (list : List (List ℕ)) → ¬ (Lists r list)) every none (codes "refs/heads/" ∷ []) every_lists,
 )
 
 -- if the list serves, no tag is a source, over any items
 pub no_tag_served : Serves (codes "refs/heads/" ∷ []) (every ∷ []) → (items : List Ref) (d : ℕ) (rest : List Mapped) → ¬ (AreKeptForward (every ∷ []) items (mapping 0 (codes "refs/tags/v1") None d ∷ rest))
 no_tag_served serves items d rest are =
-    let begins = (serves (refl, tt) items (mapping 0 (codes "refs/tags/v1") None d ∷ rest) are).0 (codes "refs/tags/v1") refl in
-    begins_not (codes "refs/heads/") (codes "refs/tags/v1") refl (of_one (λ p. BeginsWith p (codes "refs/tags/v1")) (codes "refs/heads/") begins)
+    let begins = of_one (λ p. BeginsWith p (codes "refs/tags/v1")) (codes "refs/heads/") ((serves (refl, tt) items _ are).0 (codes "refs/tags/v1") refl) in
+    begins_not (codes "refs/heads/") (codes "refs/tags/v1") refl begins

@@ -1,31 +1,24 @@
 -- The plain data of names, items, mappings, groups and issues, for values whose fields differ: so none is lost or taken
 -- for another.
-use Rattle.gix_refspec.proofs.Common.{mapping, empty_blob, lower_of-empty_blob, Option, ◌≡◌, ◌≢◌, ℕ, List, [], ◌∷◌, ◌++◌, None, Some, true, false, map, filter, option_map, length, replicate, Vec, Global}
-use Rattle.gix_refspec.proofs.Common.{codes, refl, sym, ap, ◌∙◌, arith, BString, bstring_bytes, Item, Mapping, MatchGroup, NameRef, Borrowed, Owned, SourceRef, Fix, MappingWithPartialDestinationRemoved}
-use Rattle.gix_refspec.proofs.Common.{Issue, Sha1, Push, Fetch, RefSpecRef, Normal, Forced, fetched, pushed, fetch_only, push_matching, reading_of, name, id, Conflict, name_bytes, start_of, mapped_of}
-use Rattle.gix_refspec.proofs.Common.{ref_of, text_of_source, readings_of, is_for, is_same_operation, IsGathered, ForwardOutcome, mappings_of, conflict_of, conflicts_of, removed_of, IsSameFix, IfConflicts}
-use Rattle.gix_refspec.proofs.Common.{IfMemory, named, every, no_dev, tracked, fetches_all_but_dev, tracks_all_but_dev, Outcome, Ref, Mapped, AreForward, AreBackward, AreKeptForward, AreKeptBackward}
-use Rattle.gix_refspec.proofs.Common.{IsOutcome, Maps}
-use Rattle.std.specs.Char.{encode_utf8}
-use Rattle.std.specs.Iterator.{YieldsFirst, Drains}
-use Rattle.bstr.specs.Utf8.{pieces_from}
-use Rattle.gix_refspec_match.specs.declared.types.SourceRef.TheVariants.{FullName, ObjectId as IdSource}
-use Rattle.gix_refspec.specs.declared.match_group.validate.Error.{Error}
-use Rattle.gix_refspec.specs.declared.match_group.validate.Issue.TheVariants as issue
-use Rattle.gix_refspec.specs.declared.match_group.validate.Refusal.TheVariants.{Conflicts, Memory}
-use Rattle.gix_refspec_text.specs.declared.oid.ObjectId.{ObjectId}
-use Rattle.gix_refspec_text.specs.declared.spec.RefSpec.{accepted-type}
-use Rattle.gix_refspec_text.specs.declared.types.Mode.TheVariants as mode
+use Rattle.gix_refspec.proofs.Common.{mapping, empty_blob, lower_of-empty_blob, Option, ◌≡◌, ◌≢◌, ℕ, List, [], ◌∷◌, ◌++◌, None, Some, true, false, map, filter, option_map, replicate, Vec, Global}
+use Rattle.gix_refspec.proofs.Common.{codes, refl, sym, ap, ◌∙◌, BString, bstring_bytes, Item, Mapping, MatchGroup, NameRef, Borrowed, Owned, SourceRef, Fix, MappingWithPartialDestinationRemoved}
+use Rattle.gix_refspec.proofs.Common.{Issue, Sha1, Push, Fetch, RefSpecRef, Normal, Forced, fetched, pushed, reading_of, name, id, Conflict, name_bytes, start_of, mapped_of, ref_of, text_of_source}
+use Rattle.gix_refspec.proofs.Common.{readings_of, is_for, is_same_operation, IsGathered, ForwardOutcome, mappings_of, conflict_of, conflicts_of, removed_of, IsSameFix, IfConflicts, IfMemory, tracked}
+use Rattle.gix_refspec.proofs.Common.{fetches_all_but_dev, tracks_all_but_dev, Outcome, AreForward, AreBackward, AreKeptForward, AreKeptBackward, IsOutcome, Maps}
 use Rattle.gix_refspec_text.proofs.facts.ViewFacts.{lent, Accepted, spec_of, owned_of, blob_id}
-use Rattle.gix_refspec_match.proofs.lemmas.hits.HitLemmas.{one_forward, one_backward}
+use Rattle.gix_refspec_match.{specs.declared.types.SourceRef.TheVariants.FullName, specs.declared.types.SourceRef.TheVariants.ObjectId as IdSource, proofs.lemmas.hits.HitLemmas.one_forward}
+use Rattle.gix_refspec_match.{proofs.lemmas.hits.HitLemmas.one_backward}
+use Rattle.gix_refspec.{specs.declared.match_group.validate.Error.Error, specs.declared.match_group.validate.Refusal.TheVariants.Conflicts}
+use Rattle.gix_refspec.{specs.declared.match_group.validate.Refusal.TheVariants.Memory, proofs.facts.KeptFacts.group, proofs.facts.KeptFacts.remote_refs, proofs.facts.KeptFacts.tracking_refs}
+use Rattle.std.specs.{Char.encode_utf8, Iterator.YieldsFirst, Iterator.Drains}
+use Rattle.bstr.specs.Utf8.{pieces_from}
+use Rattle.gix_refspec_text.specs.declared.{oid.ObjectId.ObjectId, spec.RefSpec.accepted-type}
+use Rattle.gix_refspec.specs.declared.match_group.validate.Issue.TheVariants as issue
+use Rattle.gix_refspec_text.specs.declared.types.Mode.TheVariants as mode
 
--- ---- names and sources
-
--- a borrowed name
 abbrev lent_name : List ℕ → NameRef
 lent_name x = Borrowed (lent x)
 
--- a borrowed and an owned name are seen alike
 pub names_seen : (o : BString) → bstring_bytes o ≡ codes "main" → (name_bytes (lent_name (codes "main")) ≡ codes "main") × (name_bytes (Owned o) ≡ codes "main")
 names_seen o is = (refl, is)
 
@@ -33,18 +26,12 @@ names_seen o is = (refl, is)
 pub starts : (start_of (FullName (lent_name (codes "refs/heads/main"))) ≡ name (codes "refs/heads/main")) × (start_of (IdSource blob_id) ≡ id empty_blob) × (start_of (FullName (lent_name empty_blob)) ≢ start_of (IdSource blob_id))
 starts = (refl, refl, λ same. cc)
 
--- an id is printed in lower case
-pub id_shown : text_of_source (IdSource blob_id) ≡ codes "e69de29bb2d1d6434b8b29ae775ad8c2e48c5391"
-id_shown = lower_of-empty_blob
-
--- a name that is UTF-8, like `ä`, is printed unchanged, and U+FFFD replaces a byte that isn't UTF-8
-pub name_shown : (text_of_source (FullName (lent_name (0xC3 ∷ 0xA4 ∷ []))) ≡ 0xC3 ∷ 0xA4 ∷ []) × (text_of_source (FullName (lent_name (codes "a" ++ 0xFF ∷ codes "b"))) ≡ codes "a" ++ 239 ∷ 191 ∷ 189 ∷ codes "b")
+-- an id is printed in lower case, a name that is UTF-8, like `ä`, unchanged, and U+FFFD replaces a byte that isn't UTF-8
+pub printed_sources : (text_of_source (IdSource blob_id) ≡ codes "e69de29bb2d1d6434b8b29ae775ad8c2e48c5391") × (text_of_source (FullName (lent_name (0xC3 ∷ 0xA4 ∷ []))) ≡ 0xC3 ∷ 0xA4 ∷ [])
+    × (text_of_source (FullName (lent_name (codes "a" ++ 0xFF ∷ codes "b"))) ≡ codes "a" ++ 239 ∷ 191 ∷ 189 ∷ codes "b")
 unfolding pieces_from encode_utf8
-name_shown = (refl, refl)
+printed_sources = (lower_of-empty_blob, refl, refl)
 
--- ---- items, mappings and groups
-
--- another id
 abbrev tag_id : ObjectId
 tag_id = record { kind = Sha1; buffer = replicate 32 1 }
 
@@ -65,11 +52,9 @@ object = record { item_index = None; lhs = IdSource blob_id; rhs = None; spec_in
 pub mappings_seen : (mapped_of branch ≡ mapping 3 (codes "refs/heads/a") (Some (codes "refs/x/a")) 5) × (mapped_of object ≡ record { item = None; source = id empty_blob; destination = None; spec = 1 })
 mappings_seen = (refl, refl)
 
--- the mappings of an outcome are in order
 pub outcome_seen : (o : ForwardOutcome) → o.mappings.items ≡ branch ∷ object ∷ [] → mappings_of o ≡ mapping 3 (codes "refs/heads/a") (Some (codes "refs/x/a")) 5 ∷ record { item = None; source = id empty_blob; destination = None; spec = 1 } ∷ []
 outcome_seen o are = ap (map mapped_of) are
 
--- each operation is the same only as itself
 pub operations_apart : is_same_operation Push Push ∷ is_same_operation Push Fetch ∷ is_same_operation Fetch Push ∷ is_same_operation Fetch Fetch ∷ [] ≡ true ∷ false ∷ false ∷ true ∷ []
 operations_apart = refl
 
@@ -80,7 +65,7 @@ Gathers = IsGathered (λ source it. it ≡ source) (YieldsFirst (λ rest. rest))
 -- and yields no others
 given : (it all : List RefSpecRef) → Drains (YieldsFirst (λ rest. rest)) it all → all ≡ it
 given it [] (_, (_, same, none)) = sym (same ∙ none.0)
-given it (x ∷ xs) (last, (before, (rest, first, later), none)) = ap (λ (ys : List RefSpecRef). x ∷ ys) (given rest xs (last, (before, later, none))) ∙ sym first
+given it (x ∷ xs) (last, (before, (rest, first, later), none)) = cc (given rest xs (last, (before, later, none)), first)
 
 module _
     (a : Accepted Fetch mode.Normal (Some (codes "a")) None)
@@ -94,11 +79,9 @@ module _
     abbrev fetches : List RefSpecRef
     fetches = spec_of Fetch mode.Normal (Some (codes "a")) None a ∷ spec_of Fetch mode.Force (Some (codes "c")) (Some (codes "d")) c ∷ []
 
-    -- a spec is for its own operation alone
     pub own_operation : (map (is_for Fetch) all_specs ≡ true ∷ false ∷ true ∷ []) × (map (is_for Push) all_specs ≡ false ∷ true ∷ false ∷ [])
     own_operation = (refl, refl)
 
-    -- the readings of a group are in the order of its specs
     pub group_seen : (g : MatchGroup) → g.specs.items ≡ all_specs → readings_of g ≡ fetched Normal (codes "a") None ∷ pushed Normal (Some (codes "b")) None ∷ fetched Forced (codes "c") (Some (codes "d")) ∷ []
     group_seen g are = ap (map reading_of) are
 
@@ -111,29 +94,23 @@ module _
     gathers_no_other g gathered = gathered.specs ∙ ap (filter (is_for Fetch)) (given gathered.iterator gathered.all gathered.given ∙ gathered.made)
 
     pub gathers_not_all : (g : MatchGroup) → g.specs.items ≡ all_specs → ¬ (Gathers all_specs g)
-    gathers_not_all g are gathered = let same : 3 ≡ 2 = ap length (sym are ∙ gathers_no_other g gathered) in omega (arith, same)
-
--- ---- conflicts
+    gathers_not_all g are gathered = cc (gathers_no_other g gathered, are)
 
 -- the sources of a conflict and the texts of specs are in order, and none is taken for another
 pub conflict_seen : (d t u : BString) (sources : Vec SourceRef Global) (texts : Vec BString Global) → sources.items ≡ FullName (lent_name (codes "refs/heads/a")) ∷ IdSource blob_id ∷ [] → texts.items ≡ t ∷ u ∷ []
     → conflict_of (issue.Conflict d sources texts) ≡ record { destination = bstring_bytes d; sources = name (codes "refs/heads/a") ∷ id empty_blob ∷ []; texts = bstring_bytes t ∷ bstring_bytes u ∷ [] }
-conflict_seen d t u sources texts come say = λ i. record { destination = bstring_bytes d; sources = map start_of (come i); texts = map bstring_bytes (say i) }
+conflict_seen d t u sources texts come say = rw (come, say)
 
--- all issues of an error are conflicts, in order
-pub conflicts_seen : (e : Error) (i j : Issue) → e.issues.items ≡ i ∷ j ∷ [] → conflicts_of e ≡ conflict_of i ∷ conflict_of j ∷ []
-conflicts_seen e i j are = ap (map conflict_of) are
+module _ (e : Error) (o : ForwardOutcome) where
+  pub conflicts_seen : (i j : Issue) → e.issues.items ≡ i ∷ j ∷ [] → conflicts_of e ≡ conflict_of i ∷ conflict_of j ∷ []
+  conflicts_seen i j are = ap (map conflict_of) are
 
--- `IfConflicts` is about the conflicts of the error, and `IfMemory` about the returned outcome
-pub claims : (e : Error) (o : ForwardOutcome) (P : List Conflict → Type 0) (Q : ForwardOutcome → Type 0)
-    → (IfConflicts (Conflicts e) P → P (conflicts_of e)) × (P (conflicts_of e) → IfConflicts (Conflicts e) P) × (IfMemory (Memory o) Q → Q o) × (Q o → IfMemory (Memory o) Q)
-claims e o P Q = ((λ is. is), (λ is. is), (λ is. is), λ is. is)
-
--- each holds for the other reason, whatever the predicate is
-pub no_claims : (e : Error) (o : ForwardOutcome) → IfConflicts (Memory o) (λ conflicts. ⊥) × IfMemory (Conflicts e) (λ outcome. ⊥)
-no_claims e o = (tt, tt)
-
--- ---- fixes
+  -- `IfConflicts` is about the conflicts of the error, and `IfMemory` about the returned outcome. Each holds for the other
+  -- reason, whatever the predicate is
+  pub claims : (P : List Conflict → Type 0) (Q : ForwardOutcome → Type 0)
+      → (IfConflicts (Conflicts e) P → P (conflicts_of e)) × (P (conflicts_of e) → IfConflicts (Conflicts e) P) × (IfMemory (Memory o) Q → Q o) × (Q o → IfMemory (Memory o) Q)
+      × IfConflicts (Memory o) (λ conflicts. ⊥) × IfMemory (Conflicts e) (λ outcome. ⊥)
+  claims P Q = ((λ is. is), (λ is. is), (λ is. is), (λ is. is), tt, tt)
 
 module _
     (n m o : BString)
@@ -151,47 +128,26 @@ module _
     abbrev push_fix : Fix
     push_fix = MappingWithPartialDestinationRemoved n (owned_of Push mode.Normal (Some o) None same_name)
 
-    -- the removed mapping of a fix has the destination, and the spec as it was read
     pub fix_seen : removed_of forced_fix ≡ record { destination = bstring_bytes n; spec = fetched Forced (bstring_bytes o) None }
     fix_seen = refl
 
-    -- fixes are the same if their specs only mean the same, and if the bytes of the destinations are equal
-    pub same_fixes : IsSameFix forced_fix (fix n) × (bstring_bytes n ≡ bstring_bytes m → IsSameFix (fix n) (fix m))
-    same_fixes = (record { destination = refl; spec = refl }, λ same. record { destination = same; spec = refl })
+    -- fixes are the same if their specs only mean the same, and if the bytes of the destinations are equal. They differ if
+    -- the specs differ in meaning, or the destinations differ
+    pub same_fixes : IsSameFix forced_fix (fix n) × (bstring_bytes n ≡ bstring_bytes m → IsSameFix (fix n) (fix m)) × ¬ (IsSameFix (fix n) push_fix) × (bstring_bytes n ≢ bstring_bytes m → ¬ (IsSameFix (fix n) (fix m)))
+    same_fixes = (record { destination = refl; spec = refl }, (λ same. record { destination = same; spec = refl }), (λ same. cc (same.spec)), λ differ same. differ same.destination)
 
-    -- and differ if the specs differ in meaning, or the destinations differ
-    pub other_fixes : ¬ (IsSameFix (fix n) push_fix) × (bstring_bytes n ≢ bstring_bytes m → ¬ (IsSameFix (fix n) (fix m)))
-    other_fixes = ((λ same. other same.spec), λ differ same. differ same.destination)
-      where
-        other : Some (fetch_only (bstring_bytes o)) ≢ Some (push_matching (bstring_bytes o) (bstring_bytes o) false)
-        other same = cc
+-- for a group with a spec for all branches and one without those that begin `dev-`
+module _ (g : MatchGroup) (items : List Item) (specs : readings_of g ≡ group) where
+  -- an outcome has the unchanged group, and the one branch that is kept
+  pub main_fetched : map ref_of items ≡ remote_refs → (o : Outcome 1) → IsOutcome AreKeptForward g items o → (o.group ≡ g) × (map mapped_of o.mappings.items ≡ tracked 2 (codes "main") ∷ [])
+  main_fetched refs o is = (is.0, one_forward _ remote_refs _ _ (rw (specs, refs) at is.1) fetches_all_but_dev)
 
--- ---- the contracts of the match calls: for the examples of matching, they determine the outcome, and there is one
+  pub main_tracked : map ref_of items ≡ tracking_refs → (o : Outcome 0) → IsOutcome AreKeptBackward g items o → (o.group ≡ g) × (map mapped_of o.mappings.items ≡ tracked 1 (codes "main") ∷ [])
+  main_tracked refs o is = (is.0, one_backward _ tracking_refs _ _ (rw (specs, refs) at is.1) tracks_all_but_dev)
 
--- a group with a spec for all branches and one without those that begin `dev-`
-abbrev LeavesOutDev : MatchGroup → Type 0
-LeavesOutDev g = readings_of g ≡ every ∷ no_dev ∷ []
-
--- the refs of a remote, and the tracking refs
-abbrev on_remote : List Ref
-on_remote = named (codes "refs/heads/dev-a") ∷ named (codes "refs/tags/v1") ∷ named (codes "refs/heads/main") ∷ named (codes "refs/heads/main") ∷ []
-
-abbrev is_tracked : List Ref
-is_tracked = named (codes "refs/remotes/origin/dev-a") ∷ named (codes "refs/remotes/origin/main") ∷ []
-
--- an outcome has the unchanged group, and the one branch that is kept
-pub main_fetched : (g : MatchGroup) (items : List Item) (o : Outcome 1) → LeavesOutDev g → map ref_of items ≡ on_remote → IsOutcome AreKeptForward g items o → (o.group ≡ g) × (map mapped_of o.mappings.items ≡ tracked 2 (codes "main") ∷ [])
-main_fetched g items o specs refs is = (is.0, one_forward (every ∷ no_dev ∷ []) on_remote (map mapped_of o.mappings.items) _ (rw (specs, refs) at is.1) fetches_all_but_dev)
-
-pub main_tracked : (g : MatchGroup) (items : List Item) (o : Outcome 0) → LeavesOutDev g → map ref_of items ≡ is_tracked → IsOutcome AreKeptBackward g items o → (o.group ≡ g) × (map mapped_of o.mappings.items ≡ tracked 1 (codes "main") ∷ [])
-main_tracked g items o specs refs is = (is.0, one_backward (every ∷ no_dev ∷ []) is_tracked (map mapped_of o.mappings.items) _ (rw (specs, refs) at is.1) tracks_all_but_dev)
-
--- so memory may be needed for them
-full : (m : Mapped) (ms : List Mapped) → ¬ (m ∷ ms ≡ [])
-full m ms same = omega (arith, ap length same)
-
-pub some_fetched : (g : MatchGroup) (items : List Item) → LeavesOutDev g → map ref_of items ≡ on_remote → ¬ (Maps AreForward g items [])
-some_fetched g items specs refs none = full _ _ (one_forward (every ∷ no_dev ∷ []) on_remote _ [] fetches_all_but_dev (record { all = []; forward = rw (specs, refs) at none; is = refl }))
-
-pub some_tracked : (g : MatchGroup) (items : List Item) → LeavesOutDev g → map ref_of items ≡ is_tracked → ¬ (Maps AreBackward g items [])
-some_tracked g items specs refs none = full _ _ (one_backward (every ∷ no_dev ∷ []) is_tracked _ [] tracks_all_but_dev (record { all = []; backward = rw (specs, refs) at none; is = refl }))
+  -- so memory may be needed for them
+  pub some_mapped : (map ref_of items ≡ remote_refs → ¬ (Maps AreForward g items [])) × (map ref_of items ≡ tracking_refs → ¬ (Maps AreBackward g items []))
+  some_mapped = (
+    (λ refs none. cc (one_forward _ remote_refs _ [] fetches_all_but_dev (record { all = []; forward = rw (specs, refs) at none; is = refl }))),
+    λ refs none. cc (one_backward _ tracking_refs _ [] tracks_all_but_dev (record { all = []; backward = rw (specs, refs) at none; is = refl })),
+  )
