@@ -1,53 +1,52 @@
 -- Examples of ref prefixes, for sides and groups like those of git-fetch(1), and what a caller concludes from them.
-use Rattle.gix_refspec.proofs.Common.{begins_not, blob_kind, split_at_end, every, no_dev, short_kind, mapping, inl, inr, ℕ, List, [], ◌∷◌, ◌++◌, None, Some, codes, length, refl, ap, arith, bracket}
-use Rattle.gix_refspec.proofs.Common.{BeginsWith, Normal, fetched, pushed, pattern, partial, full_name, object, HasKind, candidates, IsRefPrefix, Ref, Mapped, AreKeptForward, HasNoList, Lists}
-use Rattle.gix_refspec.proofs.Common.{ListsGroup, ListsSide, Serves, by_cases, rules, same_Some}
-use Rattle.gix_refspec_text.proofs.{facts.PrefixFacts.bracket_split, facts.PrefixFacts.suffix_split, facts.PrefixFacts.tells, lemmas.prefixes.PrefixLemmas.id_not_head}
-use Rattle.gix_refspec_text.proofs.{lemmas.lists.LacksLemmas.Lacks-here}
-use Rattle.gix_refspec.proofs.{lemmas.prefixes.AskedLemmas.list_as, lemmas.prefixes.AskedLemmas.no_list, facts.KeptFacts.of_one}
+use Rattle.gix_refspec.proofs.Common.{begins_not, blob_kind, every, no_dev, short_kind, mapping, inl, inr, ℕ, List, [], ◌∷◌, ◌++◌, None, Some, codes, refl, arith, BeginsWith, Normal, fetched, pushed}
+use Rattle.gix_refspec.proofs.Common.{pattern, partial, full_name, object, HasKind, candidates, IsRefPrefix, Ref, Mapped, AreKeptForward, HasNoList, Lists, ListsGroup, ListsSide, Serves, by_cases}
+use Rattle.gix_refspec.proofs.Common.{rules, same_Some}
+use Rattle.gix_refspec_text.proofs.{facts.PrefixFacts.bracket_split, facts.PrefixFacts.suffix_split, facts.PrefixFacts.tells}
+use Rattle.gix_refspec.proofs.{lemmas.prefixes.AskedLemmas.no_list, facts.KeptFacts.of_one}
 
 below_heads : IsRefPrefix (codes "refs/heads/") []
 below_heads = record { below = search rules; further = λ same. cc; first = search rules; last = tt }
 
 head_kind : HasKind (codes "HEAD") (partial (codes "HEAD"))
-head_kind = (refl, search rules, (λ begins. cc (begins.here)), (λ is. id_not_head (codes "HEAD") is.0 is.1 refl))
+head_kind = (refl, search rules, (λ begins. cc (begins.here)), (λ is. search rules))
 
 -- the list of a pattern is its prefix, that of a partial name and of `HEAD` their candidates, that of an id is empty,
 -- and that of a full name is the name alone
 pub lists_of_sides : ListsSide (codes "refs/heads/*") (codes "refs/heads/" ∷ []) × ListsSide (codes "main") (candidates (codes "main")) × ListsSide (codes "HEAD") (candidates (codes "HEAD")) × ListsSide (codes "e69de29bb2d1d6434b8b29ae775ad8c2e48c5391") [] × ListsSide (codes "refs/heads/main") (codes "refs/heads/main" ∷ [])
 lists_of_sides = (
-  record { kind = pattern (codes "refs/heads/") []; of = split_at_end (codes "refs/heads/") refl; is = (below_heads, refl) },
+  record { kind = pattern (codes "refs/heads/") []; of = search rules; is = (below_heads, refl) },
   record { kind = partial (codes "main"); of = short_kind; is = refl },
   record { kind = partial (codes "HEAD"); of = head_kind; is = refl },
   record { kind = object _; of = blob_kind; is = refl },
-  record { kind = full_name _; of = (refl, search rules, search rules); is = refl },
+  record { kind = full_name _; of = search rules; is = refl },
 )
 
 -- a star directly after `refs/` has no list; that of `HEAD` isn't `HEAD` alone, and that of a partial name isn't empty
 pub no_lists_of_sides : (list : List (List ℕ)) → ¬ (ListsSide (codes "refs/*") list) × ¬ (ListsSide (codes "HEAD") (codes "HEAD" ∷ [])) × ¬ (ListsSide (codes "main") [])
 no_lists_of_sides list = (
-  no_list (codes "refs/*") (codes "refs/") [] (split_at_end (codes "refs/") refl) ((tells.1 []).0) list,
-  (λ lists. omega (arith, ap length (list_as (codes "HEAD") (partial (codes "HEAD")) _ head_kind lists))),
-  λ lists. omega (arith, ap length (list_as (codes "main") (partial (codes "main")) _ short_kind lists)),
+  no_list (codes "refs/*") (codes "refs/") [] (search rules) ((tells.1 []).0) list,
+  (λ lists. search rules),
+  λ lists. search rules,
 )
 
 -- a `]` after the star is allowed, but a star after a `]` has no list
 pub lists_at_brackets : ListsSide (codes "refs/a*/]") (codes "refs/a" ∷ []) × ((list : List (List ℕ)) → ¬ (ListsSide (codes "refs/a]*") list))
 lists_at_brackets = (
-  record { kind = pattern (codes "refs/a") (codes "/]"); of = suffix_split; is = (record { below = search rules; further = λ same. cc; first = search rules; last = tt }, refl) },
-  no_list (codes "refs/a]*") (codes "refs/a]") [] bracket_split (λ tells. Lacks-here bracket (codes "refs/a") [] tells.first),
+  record { kind = pattern (codes "refs/a") (codes "/]"); of = suffix_split; is = search rules },
+  no_list (codes "refs/a]*") (codes "refs/a]") [] bracket_split (λ tells. search rules),
 )
 
 every_lists : Lists every (codes "refs/heads/" ∷ [])
-every_lists = inr (codes "refs/heads/*", record { positive = tt; side = refl }, lists_of_sides.0)
+every_lists = inr (codes "refs/heads/*", search rules, lists_of_sides.0)
 
 -- the list of a negative spec is empty, and a push without a destination has none
 pub lists_of_specs : Lists every (codes "refs/heads/" ∷ []) × Lists no_dev [] × ((list : List (List ℕ)) → ¬ (Lists (pushed Normal (Some (codes "main")) None) list))
-lists_of_specs = (every_lists, inl (refl, refl), λ list lists. by_cases lists (λ negative. cc (negative.0)) (λ asked. cc (asked.1.side)))
+lists_of_specs = (every_lists, inl (refl, refl), λ list lists. search rules)
 
 -- the lists of a group are one after the other, in order
 pub lists_of_groups : ListsGroup (fetched Normal (codes "main") None ∷ no_dev ∷ every ∷ []) (candidates (codes "main") ++ codes "refs/heads/" ∷ [])
-lists_of_groups = (_, _, inr (codes "main", record { positive = tt; side = refl }, lists_of_sides.1), ([], _, lists_of_specs.1, (_, [], every_lists, refl, refl), refl), refl)
+lists_of_groups = (_, _, inr (codes "main", search rules, lists_of_sides.1), ([], _, lists_of_specs.1, (_, [], every_lists, refl, refl), refl), refl)
 
 -- a group has no list if one side has none
 pub none_for_all : HasNoList (every ∷ fetched Normal (codes "refs/*") (Some (codes "refs/x/*")) ∷ []) × ¬ (HasNoList (every ∷ []))

@@ -1,17 +1,15 @@
 -- Which items may be left out, what of an item decides, and what a caller concludes from the laws on that.
 use Rattle.gix_refspec.proofs.Common.{covering, not_covering, branch_and_tag, main_branch, main_tag, main_ends, main_to_x, takes_the_tag, begins_not, named, dev_ref, every, main_ref, no_dev}
 use Rattle.gix_refspec.proofs.Common.{origin_split, short, short_no_id, tag_ref, of_element, push_is_none, are_forward_ends, fetches_all_but_dev, forward_ends, taken_by, takes_no_tag, tracked}
-use Rattle.gix_refspec.proofs.Common.{tracks_all_but_dev, ◌≡◌, ◌≢◌, inl, inr, ℕ, zero, suc, List, [], ◌∷◌, None, Some, codes, refl, sym, ap, subst, arith, Bool, true, false, map, filter, Any}
-use Rattle.gix_refspec.proofs.Common.{Contains, bstr_bytes, false≢true, Item, BeginsWith, head, Normal, Reading, fetched, pushed, pattern, Ref, Matches, Takes, name, Mapped, HasPair, AreForwardEnds}
-use Rattle.gix_refspec.proofs.Common.{AreBackwardEnds, AreKeptForward, AreKeptBackward, ref_of, HasCoveringSource, BeginsWithOne, AreExpansions, MakesForward, AreAskedFor, ArePart, AskedItems}
-use Rattle.gix_refspec.proofs.Common.{TakesItem, HasTaken, HaveSamePairs, FewerItems, FetchesHead, IsListed, AreListedItems, ListedItems, PassesTaken, FilteredItems, is_begun, FilteredByEntries}
-use Rattle.gix_refspec.proofs.Common.{FilteredByList, same_Some, by_cases, none_some, empty_blob, IsIdText-empty_blob, blob_kind, length, ◌∙◌, Sha1, Sha256, digits_of, object, AsksForNoId}
-use Rattle.gix_refspec.proofs.Common.{HaveSameNames, NamesDecide, NamesDecideBack, rules}
-use Rattle.gix_refspec.proofs.facts.KeptFacts.{of_one, group, remote_refs, tracking_refs}
+use Rattle.gix_refspec.proofs.Common.{tracks_all_but_dev, ◌≡◌, ◌≢◌, inl, inr, ℕ, zero, suc, List, [], ◌∷◌, None, Some, codes, refl, sym, subst, arith, Bool, true, false, map, filter, Any, Contains}
+use Rattle.gix_refspec.proofs.Common.{bstr_bytes, false≢true, Item, head, Normal, Reading, fetched, pushed, pattern, Ref, Matches, Takes, name, Mapped, HasPair, AreForwardEnds, AreBackwardEnds}
+use Rattle.gix_refspec.proofs.Common.{AreKeptForward, AreKeptBackward, ref_of, HasCoveringSource, BeginsWithOne, AreExpansions, MakesForward, AreAskedFor, ArePart, AskedItems, TakesItem, HasTaken}
+use Rattle.gix_refspec.proofs.Common.{HaveSamePairs, FewerItems, FetchesHead, IsListed, AreListedItems, ListedItems, PassesTaken, FilteredItems, is_begun, FilteredByEntries, FilteredByList, by_cases}
+use Rattle.gix_refspec.proofs.Common.{empty_blob, IsIdText-empty_blob, blob_kind, Sha1, Sha256, digits_of, object, AsksForNoId, HaveSameNames, NamesDecide, NamesDecideBack, rules}
 use Rattle.gix_refspec.proofs.{facts.AskedFacts.lists_of_specs, lemmas.prefixes.CoverLemmas.joined_covers, facts.LawFacts.every_covering, facts.LawFacts.expansion}
+use Rattle.gix_refspec.proofs.facts.KeptFacts.{group, remote_refs, tracking_refs}
 use Rattle.gix_refspec_text.specs.declared.oid.Kind.{Kind}
 use Rattle.gix_refspec_match.proofs.lemmas.hits.HitLemmas.{matches_as}
-use Rattle.gix_refspec.proofs.facts.ValidationFacts.{unequal}
 
 -- the branches of the remote, each once and in another order
 abbrev branches : List Ref
@@ -19,10 +17,10 @@ branches = main_ref ∷ dev_ref ∷ []
 
 -- the branches are a subset, and refs that aren't there aren't one
 branches_part : ArePart remote_refs branches
-branches_part item = of_element (Contains remote_refs) branches item ((2, omega arith, refl), ((0, omega arith, refl), tt))
+branches_part item = of_element (Contains remote_refs) branches item (search rules)
 
 pub parts : ArePart remote_refs branches × ¬ (ArePart (dev_ref ∷ []) branches) × ¬ (ArePart [] (main_ref ∷ []))
-parts = (branches_part, (λ part. lacks_main (part main_ref (0, omega arith, refl))), λ part. of_element (λ r. ⊥) [] main_ref tt (part main_ref (0, omega arith, refl)))
+parts = (branches_part, (λ part. lacks_main (search rules)), λ part. of_element (λ r. ⊥) [] main_ref tt (search rules))
   where
     lacks_main : ¬ (Contains (dev_ref ∷ []) main_ref)
     lacks_main has = search rules
@@ -40,7 +38,7 @@ taken = (takes_main remote_refs, no_tag_taken, λ taken. taken.has.positive)
     no_tag_taken : ¬ (TakesItem AreForwardEnds (Takes remote_refs) tag_ref every)
     no_tag_taken taken = takes_no_tag remote_refs 1 _ (record {
       word = taken.word;
-      takes = rw (← same_Some (codes "refs/heads/*") taken.ends.near taken.has.near) at taken.takes;
+      takes = search rules;
       far = (pattern (codes "refs/remotes/origin/") [], origin_split, refl);
       near = refl;
       spec = refl;
@@ -65,7 +63,7 @@ may_leave_out = (
 
 pub same_pairs : HaveSamePairs (tracked 2 (codes "main") ∷ []) (tracked 5 (codes "main") ∷ tracked 3 (codes "main") ∷ []) × ¬ (HaveSamePairs (tracked 2 (codes "main") ∷ []) []) × ¬ (HaveSamePairs [] (tracked 2 (codes "main") ∷ []))
 same_pairs = (
-  (λ pair. ((λ has. search rules), λ has. search rules)),
+  (λ pair. search rules),
   (λ same. (same (tracked 2 (codes "main"))).0 (search rules)),
   λ same. (same (tracked 2 (codes "main"))).1 (search rules),
 )
@@ -94,12 +92,7 @@ fetch_head = fetched Normal head None
 
 -- `HEAD` is listed if it is among the refs, and not if only another of its candidates is
 pub head_listed : FetchesHead (named head ∷ []) fetch_head × ¬ (FetchesHead (named (codes "refs/heads/HEAD") ∷ []) fetch_head) × ¬ (FetchesHead (named head ∷ []) (pushed Normal (Some head) None)) × ¬ (FetchesHead (named head ∷ []) short)
-head_listed = (
-  record { fetch = refl; source = refl; there = inl refl },
-  (λ fetches. by_cases fetches.there (λ same. cc) (λ none. none)),
-  (λ fetches. push_is_none fetches.fetch),
-  λ fetches. unequal (same_Some (codes "main") head fetches.source) refl,
-)
+head_listed = (search rules, (λ fetches. search rules), (λ fetches. push_is_none fetches.fetch), λ fetches. search rules)
 
 no_dev_covering : HasCoveringSource no_dev
 no_dev_covering = record { fetch = refl; source = λ x asked. absurd asked.positive }
@@ -110,28 +103,22 @@ listed_sources = (
   inl every_covering,
   inl no_dev_covering,
   inr head_listed.0,
-  (λ listed. by_cases listed (λ covering. not_covering.0 (covering.source head (record { positive = tt; side = refl }))) (λ fetches. fetches.there)),
-  λ listed. by_cases listed (λ covering. not_covering.1 (covering.source (codes "*") (record { positive = tt; side = refl }))) (λ fetches. cc (fetches.source)),
+  (λ listed. by_cases listed (λ covering. not_covering.0 (search rules)) (λ fetches. fetches.there)),
+  λ listed. by_cases listed (λ covering. not_covering.1 (search rules)) (λ fetches. cc (fetches.source)),
 )
 
 expanded : AreExpansions group (codes "refs/heads/" ∷ [])
-expanded = (codes "refs/heads/" ∷ [], [], expansion, ([], [], inr ((λ x asked. asked.positive), refl), refl, refl), refl)
+expanded = (codes "refs/heads/" ∷ [], [], expansion, search rules, refl)
 
 -- the branches are what a server lists for that; it doesn't list fewer, nor refs that aren't there
 branches_listed : AreListedItems group remote_refs branches
-branches_listed = record {
-  entries = codes "refs/heads/" ∷ [];
-  expansions = expanded;
-  part = branches_part;
-  listed = λ item. of_element (λ r. BeginsWithOne (codes "refs/heads/" ∷ []) r.name → Contains branches r) remote_refs item
-      ((λ begins. (1, omega arith, refl)), ((λ begins. absurd (tag_not_begun begins)), ((λ begins. (0, omega arith, refl)), ((λ begins. (0, omega arith, refl)), tt))));
-}
+branches_listed = record { entries = codes "refs/heads/" ∷ []; expansions = expanded; part = branches_part; listed = λ item. search rules }
   where
     tag_not_begun : ¬ (BeginsWithOne (codes "refs/heads/" ∷ []) (codes "refs/tags/v1"))
-    tag_not_begun begun = begins_not (codes "refs/heads/") (codes "refs/tags/v1") refl (of_one (λ entry. BeginsWith entry (codes "refs/tags/v1")) (codes "refs/heads/") begun)
+    tag_not_begun begun = begins_not (codes "refs/heads/") (codes "refs/tags/v1") refl (search rules)
 
 dev_begun : BeginsWithOne (codes "refs/heads/" ∷ []) (codes "refs/heads/dev-a")
-dev_begun = (0, codes "refs/heads/", omega arith, refl, record { after = codes "dev-a"; here = refl })
+dev_begun = (0, codes "refs/heads/", omega arith, refl, search rules)
 
 pub listed_refs : AreListedItems group remote_refs branches × ¬ (AreListedItems group remote_refs (main_ref ∷ [])) × ¬ (AreListedItems group [] (main_ref ∷ []))
 listed_refs = (
@@ -142,7 +129,7 @@ listed_refs = (
 
 -- so by the law it loses no pair: neither of one spec, nor of all
 main_made : MakesForward remote_refs (name (codes "refs/heads/main")) (Some (codes "refs/remotes/origin/main")) every
-main_made = let hit = taken_by remote_refs 0 2 (codes "main") in record { ends = forward_ends; has = are_forward_ends; one = (2, main_ref, omega arith, refl, record { word = hit.word; name = refl; takes = hit.takes; becomes = hit.far }) }
+main_made = let hit = taken_by remote_refs 0 2 (codes "main") in record { ends = forward_ends; has = are_forward_ends; one = search rules }
 
 pub none_lost : ListedItems group remote_refs branches → (fewer : List Mapped) → AreKeptForward group branches fewer → HasPair fewer (tracked 7 (codes "main")) × HaveSamePairs (tracked 2 (codes "main") ∷ []) fewer
 none_lost law fewer are = (
@@ -177,11 +164,7 @@ module _ (items some : List Item) where
 -- the branches are what a server lists for the ref prefix, and one of two isn't
 pub branches_asked : AreAskedFor (codes "refs/heads/" ∷ []) remote_refs branches × ¬ (AreAskedFor (codes "refs/heads/" ∷ []) remote_refs (main_ref ∷ [])) × ¬ (AreAskedFor [] [] (main_ref ∷ []))
 unfolding branches_listed
-branches_asked = (
-  record { part = branches_part; asked = branches_listed.listed },
-  (λ are. main_alone (are.asked dev_ref (0, omega arith, refl) dev_begun)),
-  λ are. parts.2 are.part,
-)
+branches_asked = (search rules, (λ are. main_alone (are.asked dev_ref (0, omega arith, refl) dev_begun)), λ are. parts.2 are.part)
 
 -- so by the law the same pairs are kept, and they can't be lost
 pub asked_for : AskedItems group remote_refs branches → ((fewer : List Mapped) → AreKeptForward group branches fewer → HaveSamePairs (tracked 2 (codes "main") ∷ []) fewer) × ¬ (AreKeptForward group branches [])
@@ -201,10 +184,7 @@ abbrev to_x : Reading
 to_x = fetched Normal (codes "main") (Some (codes "refs/x"))
 
 pub ids_asked_for : AsksForNoId (no_dev ∷ to_x ∷ []) × ¬ (AsksForNoId (to_x ∷ to_blob ∷ []))
-ids_asked_for = (
-  ((λ has. none_some has.0 has.1), ((λ (text, is, (bytes, spelled)). no_digits spelled.kind (ap length (same_Some (codes "refs/x") text is) ∙ spelled.digits)), tt)),
-  λ none. none.1.0 (codes "e69de29bb2d1d6434b8b29ae775ad8c2e48c5391", refl, (empty_blob, IsIdText-empty_blob)),
-)
+ids_asked_for = (search rules, λ none. none.1.0 (codes "e69de29bb2d1d6434b8b29ae775ad8c2e48c5391", refl, (empty_blob, IsIdText-empty_blob)))
   where
     no_digits : (kind : Kind) → 6 ≢ digits_of kind
     no_digits Sha1 same = omega (arith, same)

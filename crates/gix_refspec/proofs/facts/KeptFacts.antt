@@ -1,11 +1,11 @@
 -- What a caller concludes from the laws on kept mappings: that a pair is kept, that one isn't, and by which spec and
 -- item.
-use Rattle.gix_refspec.proofs.Common.{branch_and_tag, main_tag, main_ends, main_to_x, no_tags, no_other_first, not_excluded, tags_excluded, takes_the_tag, x_kind, named, empty_blob, below_tags, blob}
-use Rattle.gix_refspec.proofs.Common.{blob_kind, dev_ref, every, main_ref, no_dev, short_kind, short_no_id, tag_ref, blob_mapping, dev_excluded, main_stays, mapping, maps_all, only_dev, tracked}
-use Rattle.gix_refspec.proofs.Common.{tracks_all, ◌≡◌, inl, inr, ℕ, zero, suc, List, [], ◌∷◌, ◌++◌, Option, None, Some, codes, refl, sym, ap, ◌∙◌, subst, arith, AllByRecursion, Any, Contains}
-use Rattle.gix_refspec.proofs.Common.{slice_get, partial, full_name, Ref, IsFirstCandidate, name, Mapped, HasPair, IsExcluded, AreKeptForward, AreKeptBackward, MakesForward, MakesBackward, PairsId}
-use Rattle.gix_refspec.proofs.Common.{KeptExactly, FirstStays, NothingExcluded, ForwardIndexes, IsValidated, ItemIndexesFit, Removed, same_Some, Reading, id, MakesForwardOf, MakesBackwardOf}
-use Rattle.gix_refspec.proofs.Common.{MadeAtIndexes, RemainsExactly, KeepsRefNames, LeftOut, main_branch, TakesAt, Ends, of_element, AreBackwardEnds, IsPaired, Matches}
+use Rattle.gix_refspec.proofs.Common.{rules, branch_and_tag, main_tag, main_ends, main_to_x, no_tags, no_other_first, not_excluded, tags_excluded, takes_the_tag, x_kind, named, empty_blob, below_tags}
+use Rattle.gix_refspec.proofs.Common.{blob, blob_kind, dev_ref, every, main_ref, no_dev, short_kind, tag_ref, blob_mapping, dev_excluded, main_stays, mapping, maps_all, only_dev, tracked, tracks_all}
+use Rattle.gix_refspec.proofs.Common.{◌≡◌, inl, inr, ℕ, zero, suc, List, [], ◌∷◌, ◌++◌, Option, None, Some, codes, refl, sym, ap, ◌∙◌, subst, arith, AllByRecursion, Any, Contains, slice_get, partial}
+use Rattle.gix_refspec.proofs.Common.{full_name, Ref, IsFirstCandidate, name, Mapped, HasPair, IsExcluded, AreKeptForward, AreKeptBackward, MakesForward, MakesBackward, PairsId, KeptExactly}
+use Rattle.gix_refspec.proofs.Common.{FirstStays, NothingExcluded, ForwardIndexes, IsValidated, ItemIndexesFit, Removed, same_Some, Reading, id, MakesForwardOf, MakesBackwardOf, MadeAtIndexes}
+use Rattle.gix_refspec.proofs.Common.{RemainsExactly, KeepsRefNames, LeftOut, TakesAt, Ends, of_element, AreBackwardEnds, IsPaired, Matches}
 use Rattle.gix_refspec.proofs.facts.RefNameFacts.{good, kept, no_ref_names, sides, to_bad}
 use Rattle.gix_refspec.proofs.facts.ValidationFacts.{unwritable, unequal}
 
@@ -29,7 +29,7 @@ at_spec g k P r is (q, here, holds) = subst P (same_Some q r (sym here ∙ is)) 
 -- what a spec takes at an index has the name of the item there
 named_at : {HasEnds : Reading → Ends → Type 0} {Taken : List ℕ → Ref → Option (List ℕ) → Type 0} (items : List Ref) (k : ℕ) (item : Ref) (n : List ℕ) (far : Option (List ℕ)) (r : Reading)
     → slice_get items k ≡ Some item → TakesAt HasEnds Taken items (Some k) n far r → item.name ≡ n
-named_at items k item n far r is taken = same_name (rw (← same_Some k taken.index taken.is) at taken.stands)
+named_at items k item n far r is taken = same_name (search rules)
   where
     same_name : slice_get items k ≡ Some taken.ref → item.name ≡ n
     same_name stands = ap (λ (x : Ref). x.name) (same_Some item taken.ref (sym is ∙ stands)) ∙ taken.paired.name
@@ -42,12 +42,12 @@ tag_there = record {
   ref = main_tag;
   stands = refl;
   ends = main_ends;
-  has = record { positive = tt; near = refl; far = refl; no_object = λ bytes kind. short_no_id bytes kind.2 };
+  has = search rules;
   paired = record { word = None; name = refl; takes = takes_the_tag.0; becomes = (full_name (codes "refs/x"), x_kind, refl) };
 }
 
 pub tag_not_there : ¬ (MakesForwardOf branch_and_tag (Some 0) (name (codes "refs/tags/main")) (Some (codes "refs/x")) main_to_x) × ¬ (MakesForwardOf branch_and_tag None (name (codes "refs/tags/main")) (Some (codes "refs/x")) main_to_x)
-tag_not_there = ((λ taken. cc (named_at branch_and_tag 0 main_branch _ _ main_to_x refl taken)), λ taken. cc (taken.is))
+tag_not_there = ((λ taken. search rules), λ taken. cc (taken.is))
 
 -- so it makes its pair, and none of the branch
 pub tag_made : MakesForward branch_and_tag (name (codes "refs/tags/main")) (Some (codes "refs/x")) main_to_x × ¬ (MakesForward branch_and_tag (name (codes "refs/heads/main")) (Some (codes "refs/x")) main_to_x)
@@ -58,12 +58,12 @@ tag_made = (
       let (at, item, below, is, paired) = made.one in
       let near : codes "main" ≡ made.ends.near = same_Some (codes "main") made.ends.near made.has.near in
       let first : IsFirstCandidate branch_and_tag (codes "main") item.name = paired.takes.first (codes "main") (rw (← near) short_kind) in
-      no_other_first.0 (subst (IsFirstCandidate branch_and_tag (codes "main")) paired.name first),
+      no_other_first.0 (search rules),
 )
 
 pub pairs_there : KeptExactly (main_to_x ∷ []) branch_and_tag → (kept : List Mapped) → AreKeptForward (main_to_x ∷ []) branch_and_tag kept → HasPair kept tag_pair × ¬ (HasPair kept branch_pair)
 pairs_there law kept are = (
-  (law.forward kept are tag_pair).1 ((0, main_to_x, omega arith, refl, tag_made.0), not_excluded (codes "refs/tags/main")),
+  (law.forward kept are tag_pair).1 ((0, main_to_x, omega arith, refl, tag_made.0), search rules),
   λ has. tag_made.1 (of_one _ main_to_x ((law.forward kept are branch_pair).0 has).0),
 )
 
@@ -88,9 +88,9 @@ branch_back =
     let r = named (codes "refs/x") in
     let ends : Ends = record { near = codes "refs/x"; far = Some (codes "main") } in
     let has : AreBackwardEnds main_to_x ends = record { positive = tt; near = refl; far = refl; both = refl } in
-    let paired : IsPaired Matches ends (codes "refs/x") (Some (codes "refs/heads/main")) r =
+    let paired : IsPaired Matches ends (codes "refs/x") (Some (codes "refs/heads/main")) r = 
     record { word = None; name = refl; takes = record { kind = full_name (codes "refs/x"); of = x_kind; is = (refl, refl) }; becomes = (partial (codes "main"), short_kind, refl) } in
-    (record { index = 0; is = refl; ref = r; stands = refl; ends = ends; has = has; paired = paired }, record { ends = ends; has = has; one = (0, r, omega arith, refl, paired) }, (λ taken. cc (taken.is)), λ none. none)
+    search rules
 
 pub pair_back : KeptExactly (main_to_x ∷ []) local_x → (kept : List Mapped) → AreKeptBackward (main_to_x ∷ []) local_x kept → HasPair kept branch_pair
 pair_back law kept are = (law.backward kept are branch_pair).1 ((0, main_to_x, omega arith, refl, branch_back.1), not_excluded (codes "refs/heads/main"))
@@ -119,9 +119,9 @@ index_in (Some index) = index
 
 -- the duplicate has the same pair, and so isn't the first
 no_first : (before after : List Mapped) → mapped ≡ before ++ (tracked 3 (codes "main") ∷ after) → ¬ (HasPair before (tracked 3 (codes "main"))) → ⊥
-no_first [] after here new = let same : tracked 0 (codes "dev-a") ≡ tracked 3 (codes "main") = cc in let indexes : 0 ≡ 3 = ap (λ (m : Mapped). index_in m.item) same in absurd (omega (arith, indexes))
-no_first (x ∷ []) after here new = let same : tracked 2 (codes "main") ≡ tracked 3 (codes "main") = cc in let indexes : 2 ≡ 3 = ap (λ (m : Mapped). index_in m.item) same in absurd (omega (arith, indexes))
-no_first (x ∷ y ∷ before) after here new = let same : y ≡ tracked 2 (codes "main") = cc in new (inr (inl (record { source = ap (λ (m : Mapped). m.source) same; destination = ap (λ (m : Mapped). m.destination) same })))
+no_first [] after here new = let same : tracked 0 (codes "dev-a") ≡ tracked 3 (codes "main") = cc in let indexes : 0 ≡ 3 = ap (λ (m : Mapped). index_in m.item) same in search rules
+no_first (x ∷ []) after here new = let same : tracked 2 (codes "main") ≡ tracked 3 (codes "main") = cc in let indexes : 2 ≡ 3 = ap (λ (m : Mapped). index_in m.item) same in search rules
+no_first (x ∷ y ∷ before) after here new = let same : y ≡ tracked 2 (codes "main") = cc in search rules
 
 -- by the law the first mapping of the branch is kept, with its index, and neither its duplicate nor the excluded branch
 pub first_there : FirstStays group remote_refs → (kept : List Mapped) → AreKeptForward group remote_refs kept → Contains kept (tracked 2 (codes "main")) × ¬ (Contains kept (tracked 3 (codes "main"))) × ¬ (Contains kept (tracked 0 (codes "dev-a")))
@@ -151,7 +151,7 @@ no_other_indexes law rest = (
   λ are. let below = (law.forward _ are).0.spec in omega (arith, below),
 )
 
--- and one from right to left doesn't have the index of another tracking_refs ref
+-- and one from right to left doesn't have the index of another tracking ref
 pub no_other_item_back : ItemIndexesFit group tracking_refs → (rest : List Mapped) → ¬ (AreKeptBackward group tracking_refs (tracked 0 (codes "main") ∷ rest))
 no_other_item_back law rest are =
     let fits = (law.backward _ are).0 in

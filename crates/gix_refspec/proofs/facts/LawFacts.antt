@@ -1,7 +1,7 @@
 -- Examples of the definitions that only laws use: which specs go both ways, what a covering source covers, what a
 -- canonical text reads as, and the expansion of a group.
 use Rattle.gix_refspec.proofs.Common.{below_heads, covering, not_covering, Lacks-tested, IsPattern-tested, none_some, named, no_sign, begins_not, empty_blob, IsIdText-empty_blob, lower_of-empty_blob}
-use Rattle.gix_refspec.proofs.Common.{HasIdFault-length, every, no_dev, short, short_kind, push_is_none, bytes_in, mapping, tracked, fetches_all_but_dev, tracks_all_but_dev, tracks_nothing, tag_to_x}
+use Rattle.gix_refspec.proofs.Common.{HasIdFault-length, every, no_dev, short, short_kind, push_is_none, mapping, tracked, fetches_all_but_dev, tracks_all_but_dev, tracks_nothing, tag_to_x}
 use Rattle.gix_refspec.proofs.Common.{tag_to_foo, tag_alone, ◌≡◌, ◌≢◌, ◌⊎◌, ◌<◌, ℕ, List, [], ◌∷◌, ◌++◌, Option, None, Some, length, codes, refl, sym, ap, ◌∙◌, subst, inl, inr, arith, AllByRecursion}
 use Rattle.gix_refspec.proofs.Common.{Push, Fetch, BeginsWith, HasStar, IsPattern, star, colon, Normal, Forced, Negative, Reading, AreParts, Reads, fetches, fetched, pushed, candidates, IsCandidate}
 use Rattle.gix_refspec.proofs.Common.{Fits, name, id, Mapped, HasPair, AreApart, AreKeptForward, AreKeptBackward, OneForward, OneBackward, KeptOnce, Ref, Matches, HasName, Takes, ValidatedOnce}
@@ -12,11 +12,11 @@ use Rattle.gix_refspec.proofs.Common.{IsDestinationAmong, GoesBothWays, ReadsAga
 use Rattle.gix_refspec.proofs.Common.{◌==◌, main_ref, IsExpansion}
 use Rattle.gix_refspec_text.specs.Laws.Readings.{ReadsOnce, ReadsOrRefused, IsSameReason, SaysForOperation, IsPrintedBack, ReadsBack, EqualReadings, HasOneId, HasOneFault, HasCandidates}
 use Rattle.gix_refspec_text.specs.Laws.Readings.{KeepsOperation, EqualTexts, NothingAgainst, ClonesExactly, OneWord, PrefixBegins, OnePrefix, Candidates, IdOrFault, OneLowerText, OneRefusal}
-use Rattle.gix_refspec.proofs.facts.KeptFacts.{of_one, at_spec, group, remote_refs, tracking_refs}
+use Rattle.gix_refspec.proofs.facts.KeptFacts.{at_spec, group, remote_refs, tracking_refs}
 use Rattle.gix_refspec_text.{specs.Texts.PatternError.IsPatternFault, specs.declared.name.PatternError.PatternError, specs.declared.name.PatternError.TheVariants.Name}
 use Rattle.gix_refspec_text.{specs.declared.name.Error.Error as NameError, specs.declared.oid.Error.Error as IdError, specs.declared.oid.Error.TheVariants.Length}
 use Rattle.gix_refspec_text.{proofs.lemmas.texts.TextLemmas.Lacks-ContainsText, proofs.lemmas.texts.TestedLemmas.IsName-tested, proofs.lemmas.hits.MatchLemmas.outside_none}
-use Rattle.gix_refspec_text.{proofs.lemmas.parsing.ReadOnceLemmas.reads_once, proofs.facts.UnreadFacts.unbalanced_fetches}
+use Rattle.gix_refspec_text.{proofs.facts.UnreadFacts.unbalanced_fetches}
 use Rattle.gix_refspec.{specs.Laws.Reasons.ReasonRefuses, proofs.facts.ValidationFacts.both_to_x, proofs.facts.ValidationFacts.foo_fix, proofs.facts.ValidationFacts.validated}
 use Rattle.gix_refspec.proofs.facts.ValidationFacts.{unequal}
 
@@ -29,14 +29,8 @@ starred_end before = record { before = before; after = []; here = refl }
 -- the spec of `git clone`, two full names, a source alone, and a negative spec go both ways
 pub go_both_ways : GoesBothWays every × GoesBothWays (fetched Normal (codes "refs/heads/a") (Some (codes "refs/x/a"))) × GoesBothWays short × GoesBothWays no_dev
 go_both_ways = (
-  (λ positive s d is_s is_d. inl (
-    subst HasStar (same_Some (codes "refs/heads/*") s is_s) (starred_end (codes "refs/heads/")),
-    subst HasStar (same_Some (codes "refs/remotes/origin/*") d is_d) (starred_end (codes "refs/remotes/origin/")),
-  )),
-  (λ positive s d is_s is_d. inr (
-    subst (BeginsWith (codes "refs/")) (same_Some (codes "refs/heads/a") s is_s) (search rules),
-    subst (BeginsWith (codes "refs/")) (same_Some (codes "refs/x/a") d is_d) (search rules),
-  )),
+  (λ positive s d is_s is_d. search rules),
+  (λ positive s d is_s is_d. search rules),
   (λ positive s d is_s is_d. absurd (none_some d is_d)),
   λ positive. absurd positive,
 )
@@ -70,19 +64,16 @@ reads_unforced =
     let s = codes "main" in
     let parts : AreParts Normal s None s = record { signed = no_sign 109 (codes "ain") refl refl; last = Lacks-tested colon s refl } in
     let reads = fetches Normal s refl tt (inl parts) (IsName-tested s refl) refl in
-    (record { fetch = refl; text = s; is = refl; reads = reads }, record { fetch = refl; text = s; is = refl; reads = reads })
+    search rules
 
 -- and not as a forced one, nor does a push read as anything again
 pub not_again : ¬ (ReadsAgainAs forced forced) × ((s d : Option (List ℕ)) (q : Reading) → ¬ (ReadsAgainAs (pushed Normal s d) q))
 unfolding reads_unforced
-not_again = (
-  (λ again. cc (ap (λ (r : Reading). r.mode) (reads_once Fetch (codes "main") forced short (rw (← same_Some (codes "main") again.text again.is) at again.reads) reads_unforced.0.reads))),
-  λ s d q again. push_is_none again.fetch,
-)
+not_again = ((λ again. search rules), λ s d q again. push_is_none again.fetch)
 
 -- `AreReadAgain` doesn't hold of groups of different lengths, or in another order
 pub read_again : AreReadAgain (forced ∷ short ∷ []) (short ∷ short ∷ []) × ¬ (AreReadAgain (short ∷ []) []) × ¬ (AreReadAgain [] (short ∷ [])) × ¬ (AreReadAgain (pushed Normal None None ∷ []) (short ∷ []))
-read_again = ((reads_unforced.0, (reads_unforced.1, tt)), (λ none. none), (λ none. none), λ again. not_again.1 None None short again.0)
+read_again = ((reads_unforced.0, (reads_unforced.1, tt)), (λ none. none), (λ none. none), λ again. search rules)
 
 pub mapped_alike : FetchGroupReadsBack (forced ∷ []) (short ∷ []) (main_ref ∷ []) → (kept : List Mapped)
     → (AreKeptForward (forced ∷ []) (main_ref ∷ []) kept → AreKeptForward (short ∷ []) (main_ref ∷ []) kept) × AreKeptBackward (forced ∷ []) (main_ref ∷ []) []
@@ -91,21 +82,15 @@ mapped_alike law kept = let alike = law (reads_unforced.0, tt) in ((alike.forwar
 pub all_alike : (g h : List Reading) (items : List Ref) → MapAlike g h items → (kept : List Mapped) → (AreKeptForward h items kept → AreKeptForward g items kept) × (AreKeptBackward g items kept → AreKeptBackward h items kept)
 all_alike g h items alike kept = ((alike.forward kept).1, (alike.backward kept).0)
 
--- a push, one with the same meaning and a destination, and a fetch that isn't forced
-abbrev push_main : Reading
-push_main = pushed Normal (Some (codes "main")) None
-
-abbrev push_to_main : Reading
-push_to_main = pushed Normal (Some (codes "main")) (Some (codes "main"))
-
-abbrev every_unforced : Reading
-every_unforced = fetched Normal (codes "refs/heads/*") (Some (codes "refs/remotes/origin/*"))
+abbrev push_main : Option (List ℕ) → Reading
+push_main d = pushed Normal (Some (codes "main")) d
 
 -- the force of a fetch counts only if it has a destination, and pushes with the same meaning don't count
-pub same_fetches : FetchTheSame forced short × ¬ (FetchTheSame every_unforced every) × (meaning_of push_main ≡ meaning_of push_to_main) × ¬ (FetchTheSame push_main push_to_main)
-same_fetches = (record { fetch = refl; same = refl }, (λ equal. cc (equal.same)), refl, λ equal. push_is_none equal.fetch)
+pub same_fetches : FetchTheSame forced short × ¬ (FetchTheSame (fetched Normal (codes "refs/heads/*") (Some (codes "refs/remotes/origin/*"))) every)
+    × (meaning_of (push_main None) ≡ meaning_of (push_main (Some (codes "main")))) × ¬ (FetchTheSame (push_main None) (push_main (Some (codes "main"))))
+same_fetches = (search rules, (λ equal. cc (equal.same)), refl, λ equal. push_is_none equal.fetch)
 
-pub all_fetches : AreFetches group × AreFetches [] × ¬ (AreFetches (push_main ∷ every ∷ [])) × ¬ (AreFetches (every ∷ push_main ∷ []))
+pub all_fetches : AreFetches group × AreFetches [] × ¬ (AreFetches (push_main None ∷ every ∷ [])) × ¬ (AreFetches (every ∷ push_main None ∷ []))
 all_fetches = ((refl, (refl, tt)), tt, (λ are. push_is_none are.0), λ are. push_is_none are.1.0)
 
 pub equals_mapped : EqualGroups (forced ∷ []) (short ∷ []) (main_ref ∷ []) → (kept : List Mapped)
@@ -116,19 +101,16 @@ main_not_head : codes "main" ≢ codes "HEAD"
 main_not_head same = unequal same refl
 
 pub begins_with_one : BeginsWithOne (codes "refs/tags/" ∷ codes "refs/heads/" ∷ []) (codes "refs/heads/main") × ¬ (BeginsWithOne (codes "heads/" ∷ []) (codes "refs/heads/main"))
-begins_with_one = (
-  (1, codes "refs/heads/", omega arith, refl, search rules),
-  λ begins. begins_not (codes "heads/") (codes "refs/heads/main") refl (of_one (λ entry. BeginsWith entry (codes "refs/heads/main")) (codes "heads/") begins),
-)
+begins_with_one = (search rules, λ begins. search rules)
 
 pub expansion : IsExpansion every (codes "refs/heads/" ∷ [])
-expansion = inl (codes "refs/heads/*", record { positive = tt; side = refl }, to_prefix (codes "refs/heads/") below_heads refl)
+expansion = inl (codes "refs/heads/*", search rules, to_prefix (codes "refs/heads/") below_heads refl)
 
 -- the expansions of the specs of a group, one after the other; that of a negative spec is empty
 pub expanded : AreExpansions (every ∷ no_dev ∷ short ∷ []) (codes "refs/heads/" ∷ candidates (codes "main"))
 expanded =
     let of_short = inl (codes "main", record { positive = tt; side = refl }, to_candidates (outside_none (codes "main") main_not_head short_kind.2) short_kind.2 short_kind.3 refl) in
-    (codes "refs/heads/" ∷ [], candidates (codes "main"), expansion, ([], candidates (codes "main"), inr ((λ x asked. asked.positive), refl), (candidates (codes "main"), [], of_short, refl, refl), refl), refl)
+    (codes "refs/heads/" ∷ [], candidates (codes "main"), expansion, ([], candidates (codes "main"), search rules, (candidates (codes "main"), [], of_short, refl, refl), refl), refl)
 
 pub every_covering : HasCoveringSource every
 every_covering = record { fetch = refl; source = λ x asked. rw (← same_Some (codes "refs/heads/*") x asked.side) covering.0 }
@@ -140,13 +122,13 @@ head_spec = fetched Normal (codes "HEAD") None
 pub head_asks : AsksFor head_spec (codes "HEAD") × ¬ (AsksFor head_spec (codes "refs/heads/HEAD"))
 head_asks =
     let asked : IsAsked head_spec (codes "HEAD") = record { positive = tt; side = refl } in
-    (inr (refl, asked, refl), λ asks. by_cases asks (λ has. not_covering.0 (has.source (codes "HEAD") asked)) (λ (fetch, also, same). cc))
+    (inr (refl, asked, refl), λ asks. by_cases asks (λ has. not_covering.0 (search rules)) (λ (fetch, also, same). cc))
 
 pub every_asks : (n : List ℕ) → AsksFor every n × ¬ (AsksFor (pushed Normal (Some (codes "HEAD")) None) n)
-every_asks n = (inl every_covering, λ asks. by_cases asks (λ has. push_is_none has.fetch) (λ (fetch, asked, same). push_is_none fetch))
+every_asks n = (inl every_covering, λ asks. search rules)
 
 pub at_its_spec : (P : Reading → Type 0) → (AtSpec (no_dev ∷ every ∷ []) (mapping 0 (codes "refs/heads/main") None 1) P → P every) × ¬ (AtSpec (every ∷ []) (mapping 0 (codes "refs/heads/main") None 1) P)
-at_its_spec P = (at_spec (no_dev ∷ every ∷ []) 1 P every refl, λ (r, here, holds). cc)
+at_its_spec P = (search rules, λ (r, here, holds). cc)
 
 -- the branch begins with an entry of the expansion of its spec, whatever the other specs are, and of that of its group
 pub covered_among_others : (others : List Reading) (kept : List Mapped) → Cover (every ∷ others) remote_refs → AreKeptForward (every ∷ others) remote_refs (tracked 2 (codes "main") ∷ kept) → IsCoveredBy (codes "refs/heads/main") every
@@ -163,7 +145,7 @@ pub each_source : (P : Reading → List ℕ → Type 0) → EachSource group rem
 each_source P each = at_spec group 0 (λ r. P r (codes "refs/heads/main")) every refl ((each _ fetches_all_but_dev).0 (codes "refs/heads/main") refl)
 
 pub no_tag_source : OneForward group remote_refs → EachSource group remote_refs (λ r n. (r ≡ every) × (n ≡ codes "refs/heads/main"))
-no_tag_source law kept are = rw (law kept (tracked 2 (codes "main") ∷ []) are fetches_all_but_dev) ((λ n is. (every, refl, (refl, sym (ap bytes_in is)))), tt)
+no_tag_source law kept are = rw (law kept (tracked 2 (codes "main") ∷ []) are fetches_all_but_dev) (search rules)
 
 -- a name that begins with no entry of the expansion of a spec isn't covered by it
 pub not_covered : OnePrefix (codes "refs/heads/*") → ¬ (IsCoveredBy (codes "refs/tags/v1") every) × ¬ (IsCoveredBy (codes "refs/heads/dev-a") no_dev)
@@ -172,9 +154,9 @@ not_covered law = (
       (λ (x, asked, expands).
       let of_source = rw (← same_Some (codes "refs/heads/*") x asked.side) at expands in
       let same = law.expanded covers.entries (codes "refs/heads/" ∷ []) of_source (to_prefix (codes "refs/heads/") below_heads refl) in
-      begins_not (codes "refs/heads/") (codes "refs/tags/v1") refl (of_one (λ entry. BeginsWith entry (codes "refs/tags/v1")) (codes "refs/heads/") (rw same at covers.one)))
-      (λ (none, same). none (codes "refs/heads/*") (record { positive = tt; side = refl }))),
-  λ covers. by_cases covers.expansion (λ (x, asked, expands). asked.positive) (λ (none, same). let (k, entry, below, is, begins) = rw same at covers.one in omega (arith, below)),
+      begins_not (codes "refs/heads/") (codes "refs/tags/v1") refl (search rules))
+      (λ (none, same). search rules)),
+  λ covers. search rules,
 )
 
 -- one list is kept, no two of its mappings are the same pair, and a pattern takes one word
@@ -235,7 +217,7 @@ cloned is_clone is_infallible law x y = ((law x).0, (law x).1 y)
 
 -- faults of a name are one reason, but a fault and another reason, or two others, are two
 pub same_reasons : IsSameReason (ReferenceName LockSuffix) (ReferenceName RepeatedDot) × IsSameReason NegativeEmpty NegativeEmpty × ¬ (IsSameReason NegativeEmpty (ReferenceName LockSuffix)) × ¬ (IsSameReason (ReferenceName LockSuffix) PatternUnbalanced)
-same_reasons = (inr (LockSuffix, RepeatedDot, refl, refl), inl refl, (λ same. grind arith), λ same. grind arith)
+same_reasons = (search rules, inl refl, (λ same. grind arith), λ same. grind arith)
 
 -- a text has one reading or is refused, for one reason, except that any fault of a name may be reported, if that applies to
 -- its parts. Its operation is that of the reading, and texts mean the same exactly if their canonical texts are equal

@@ -1,15 +1,15 @@
 -- Examples of the definitions of the laws on plans, and what a caller concludes from these laws.
-use Rattle.gix_refspec.proofs.Common.{Lacks-tested, empty_blob, lower_of-empty_blob, branch_to_x, bytes_in, mapping, tag_alone, tag_to_x, ◌≢◌, ℕ, List, [], ◌∷◌, None, Some, codes, refl, ap, subst}
-use Rattle.gix_refspec.proofs.Common.{arith, AllByRecursion, Fetch, Lacks, Reading, Reads, printed, Ref, id, Mapped, AreKeptForward, Removed, IsValidated, AreFixesApart, HaveSourcesByIndex, LacksIn}
-use Rattle.gix_refspec.proofs.Common.{MappedLacks, NoControlCharacter, PlansApart, SidesLack, SourceLacks, rules}
-use Rattle.gix_refspec.proofs.facts.ValidationFacts.{foo_fix, unequal}
+use Rattle.gix_refspec.proofs.Common.{empty_blob, lower_of-empty_blob, branch_to_x, mapping, tag_alone, tag_to_x, ◌≢◌, ℕ, List, [], ◌∷◌, None, Some, codes, refl, subst, arith, AllByRecursion, Fetch}
+use Rattle.gix_refspec.proofs.Common.{Lacks, Reading, Reads, printed, Ref, id, Mapped, AreKeptForward, Removed, IsValidated, AreFixesApart, HaveSourcesByIndex, LacksIn, MappedLacks}
+use Rattle.gix_refspec.proofs.Common.{NoControlCharacter, PlansApart, SidesLack, SourceLacks, rules}
+use Rattle.gix_refspec.proofs.facts.ValidationFacts.{foo_fix}
 
 abbrev branch_alone : Mapped
 branch_alone = mapping 0 (codes "refs/heads/a") None 1
 
 -- different sources have different items or different specs
 pub starts : HaveSourcesByIndex (tag_to_x ∷ branch_to_x ∷ []) × ¬ (HaveSourcesByIndex (tag_alone ∷ branch_alone ∷ []))
-starts = ((((λ spec item. absurd (omega (arith, spec))), tt), (tt, tt)), λ have. unequal (ap bytes_in (have.0.0 refl refl)) refl)
+starts = (search rules, λ have. search rules)
 
 pub fixes : AreFixesApart (foo_fix ∷ []) × ¬ (AreFixesApart (foo_fix ∷ foo_fix ∷ []))
 fixes = ((tt, tt), λ apart. apart.0.0 refl)
@@ -31,7 +31,7 @@ lacks = (search rules, search rules, (λ lack. lack.0.1.0 refl), λ lack. lack.1
 
 -- an id contains its digits in lower case
 pub digits_lack : SourceLacks 69 (id empty_blob) × ¬ (SourceLacks 101 (id empty_blob))
-digits_lack = (rw lower_of-empty_blob (Lacks-tested 69 (codes "e69de29bb2d1d6434b8b29ae775ad8c2e48c5391") refl), λ lack. (subst (Lacks 101) lower_of-empty_blob lack).0 refl)
+digits_lack = (rw lower_of-empty_blob (search rules), λ lack. (subst (Lacks 101) lower_of-empty_blob lack).0 refl)
 
 -- by the law no source of a fetch contains a newline, and no canonical text a tab; and neither 31, the last byte that the
 -- law covers

@@ -1,12 +1,12 @@
 -- Examples of the definitions on ref names, for mappings with valid and invalid ones, and what a caller concludes from
 -- their law.
-use Rattle.gix_refspec.proofs.Common.{nothing_made, mapping, ◌≡◌, inl, inr, ℕ, List, [], ◌∷◌, ◌++◌, None, Some, codes, refl, arith, AllByRecursion, RepeatedDot, InvalidMapping, Reading, Ref, id}
-use Rattle.gix_refspec.proofs.Common.{Mapped, mapped_of, AreKeptForward, ForwardIndexes, IndexesFit, IsValidated, Removed, AreLeftOut, HaveRefNames, IsInvalidAt, IsLeftOut, HasRefNames}
-use Rattle.gix_refspec.proofs.Common.{IsValidDestination, IsValidSource, IsRefName, KeepsRefNames, LeftOut, StaysAmongRefs, WritesRefs, left_out_of, true, false, IsTrue, list_all, list_any, IsName}
-use Rattle.gix_refspec.proofs.Common.{is_plain_component, is_plain_name, PlainNames, rules}
-use Rattle.gix_refspec.proofs.lemmas.validate.RefNameLemmas.{bad_unnamed, below_refs, name_of_ref, stays_among_refs}
+use Rattle.gix_refspec.proofs.Common.{nothing_made, mapping, ◌≡◌, inl, inr, ℕ, List, [], ◌∷◌, ◌++◌, None, Some, codes, refl, AllByRecursion, RepeatedDot, InvalidMapping, Reading, Ref, id, Mapped}
+use Rattle.gix_refspec.proofs.Common.{mapped_of, AreKeptForward, ForwardIndexes, IndexesFit, IsValidated, Removed, AreLeftOut, HaveRefNames, IsInvalidAt, IsLeftOut, HasRefNames, IsValidDestination}
+use Rattle.gix_refspec.proofs.Common.{IsValidSource, IsRefName, KeepsRefNames, LeftOut, StaysAmongRefs, WritesRefs, left_out_of, true, false, IsTrue, list_all, list_any, IsName, is_plain_component}
+use Rattle.gix_refspec.proofs.Common.{is_plain_name, PlainNames, rules}
+use Rattle.gix_refspec.{proofs.lemmas.validate.RefNameLemmas.bad_unnamed, proofs.lemmas.validate.RefNameLemmas.name_of_ref, proofs.lemmas.validate.RefNameLemmas.stays_among_refs}
 use Rattle.gix_refspec.{specs.declared.match_group.ref_names.InvalidSide.TheVariants.Source, specs.declared.match_group.ref_names.InvalidSide.TheVariants.Destination}
-use Rattle.gix_refspec.{specs.declared.match_group.ref_names.InvalidSide.TheVariants.Both, proofs.facts.ValidationFacts.unwritable}
+use Rattle.gix_refspec.{specs.declared.match_group.ref_names.InvalidSide.TheVariants.Both}
 use Rattle.gix_refspec_text.proofs.{lemmas.texts.TestedLemmas.IsName-tested, facts.NameFacts.no_names, facts.NameFacts.names_close_to_faults}
 
 pub ref_names : IsRefName (codes "refs/heads/main") × IsRefName (codes "HEAD")
@@ -15,8 +15,8 @@ ref_names = (inl (search rules, IsName-tested (codes "refs/heads/main") refl), i
 -- not a name outside `refs/`, nor a text with a fault
 pub no_ref_names : ¬ (IsRefName (codes "main")) × ¬ (IsRefName (codes "HEADS")) × ¬ (IsRefName (codes "refs/../x"))
 no_ref_names = (
-  (λ ref. unwritable (codes "main") refl refl (below_refs (codes "main") ref)),
-  (λ ref. unwritable (codes "HEADS") refl refl (below_refs (codes "HEADS") ref)),
+  (λ ref. search rules),
+  (λ ref. search rules),
   λ ref. name_of_ref (codes "refs/../x") ref RepeatedDot (record { before = codes "refs/"; after = codes "/x"; here = refl }),
 )
 
@@ -28,7 +28,7 @@ good = codes "refs/heads/main"
 
 -- ids and missing destinations are valid, and so is `HEAD`, on both sides
 pub without_names : IsValidSource (id []) × IsValidDestination None × ¬ (IsValidDestination (Some bad)) × HasRefNames (mapping 0 (codes "HEAD") (Some (codes "HEAD")) 0)
-without_names = (tt, tt, no_ref_names.2, record { source = ref_names.1; destination = ref_names.1 })
+without_names = (tt, tt, no_ref_names.2, search rules)
 
 abbrev pub kept : Mapped
 kept = mapping 0 good (Some good) 0
@@ -43,7 +43,7 @@ abbrev all_bad : Mapped
 all_bad = mapping 3 bad (Some bad) 0
 
 pub sides : HasRefNames kept × IsInvalidAt Source from_bad × IsInvalidAt Destination to_bad × IsInvalidAt Both all_bad
-sides = let (good, head) = ref_names in let bad = no_ref_names.2 in (record { source = good; destination = good }, (bad, good), (good, bad), (bad, bad))
+sides = let (good, head) = ref_names in let bad = no_ref_names.2 in search rules
 
 pub no_other_sides : ¬ (IsInvalidAt Both from_bad) × ¬ (IsInvalidAt Source all_bad) × ¬ (IsInvalidAt Source to_bad) × ¬ (IsInvalidAt Destination all_bad) × ¬ (IsInvalidAt Destination kept)
 no_other_sides = ((λ is. is.1 ref_names.0), (λ is. no_ref_names.2 is.1), (λ is. is.0 ref_names.0), (λ is. no_ref_names.2 is.0), (λ is. is.1 ref_names.0))
@@ -89,11 +89,11 @@ none_lost = (
 -- refs
 pub leads_away : ¬ (StaysAmongRefs (codes "refs/../x")) × ¬ (StaysAmongRefs (codes "refs//x")) × ¬ (StaysAmongRefs (codes "x")) × ¬ (StaysAmongRefs (codes "refs/" ++ 31 ∷ [])) × ¬ (StaysAmongRefs (codes "refs/" ++ 127 ∷ []))
 leads_away = (
-  (λ stays. (stays.components (codes "refs" ∷ codes ".." ∷ codes "x" ∷ []) (record { joined = refl; whole = search rules })).1.0.1 (search rules)),
-  (λ stays. (stays.components (codes "refs" ∷ [] ∷ codes "x" ∷ []) (record { joined = refl; whole = search rules })).1.0.0 refl),
-  (λ stays. unwritable (codes "x") refl refl stays.below),
-  (λ stays. let low = stays.bytes.1.1.1.1.1.0.0 in omega (arith, low)),
-  λ stays. stays.bytes.1.1.1.1.1.0.1 refl,
+  (λ stays. (stays.components (codes "refs" ∷ codes ".." ∷ codes "x" ∷ []) (search rules)).1.0.1 (search rules)),
+  (λ stays. (stays.components (codes "refs" ∷ [] ∷ codes "x" ∷ []) (search rules)).1.0.0 refl),
+  (λ stays. search rules),
+  (λ stays. search rules),
+  λ stays. search rules,
 )
 
 pub stays : StaysAmongRefs good × StaysAmongRefs (codes "HEAD")

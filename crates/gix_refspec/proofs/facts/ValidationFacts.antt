@@ -1,10 +1,10 @@
 -- Examples of the definitions on validation, for mappings to one destination and to others: their conflicts, survivors
 -- and fixes.
-use Rattle.gix_refspec.proofs.Common.{option_map, nothing_made, none_some, begins_not, of_element, bytes_in, mapping, tag_to_x, branch_to_x, tag_again, tag_to_foo, tag_alone, pairs, ◌≡◌, ◌⊎◌, ℕ, ◌<◌}
-use Rattle.gix_refspec.proofs.Common.{List, [], ◌∷◌, None, Some, codes, refl, sym, ap, ◌∙◌, inl, inr, arith, Contains, IsStrictlySortedBy, Normal, Forced, Reading, fetched, printed, name, Mapped}
-use Rattle.gix_refspec.proofs.Common.{IndexesFit, HasConflictAt, IsFirstTo, IsTextAt, Conflict, IsConflict, AreConflicts, IsWritable, Survives, AreSurvivors, Removed, IsFix, AreFixes, IsValidated}
-use Rattle.gix_refspec.proofs.Common.{DestinationsHaveOneSource, ShareDestination, HaveDistinctDestinations, same_Some, false, nat_eq, AllByRecursion, starts_with, false≢true, bytes_eq-Decides}
-use Rattle.gix_refspec.proofs.Common.{bytes_eq, head, by_cases, ◌≢◌, map, Mapping, Outcome, mapped_of, AreMappingCopies, readings_of, OneValidation, IsOutcomeCopy, CopiedOutcome, IsMadeFrom, rules}
+use Rattle.gix_refspec.proofs.Common.{nothing_made, none_some, of_element, mapping, tag_to_x, branch_to_x, tag_again, tag_to_foo, tag_alone, ◌≡◌, ◌⊎◌, ℕ, List, [], ◌∷◌, None, Some, codes, refl, sym}
+use Rattle.gix_refspec.proofs.Common.{◌∙◌, inl, inr, arith, Contains, IsStrictlySortedBy, Normal, Forced, Reading, fetched, name, Mapped, IndexesFit, HasConflictAt, IsFirstTo, IsTextAt, Conflict}
+use Rattle.gix_refspec.proofs.Common.{IsConflict, AreConflicts, IsWritable, Survives, AreSurvivors, Removed, IsFix, AreFixes, IsValidated, DestinationsHaveOneSource, ShareDestination}
+use Rattle.gix_refspec.proofs.Common.{HaveDistinctDestinations, false, nat_eq, AllByRecursion, starts_with, false≢true, bytes_eq, head, by_cases, ◌≢◌, map, Mapping, Outcome, mapped_of}
+use Rattle.gix_refspec.proofs.Common.{AreMappingCopies, readings_of, OneValidation, IsOutcomeCopy, CopiedOutcome, IsMadeFrom, rules}
 use Rattle.gix_refspec.proofs.lemmas.validate.ConflictLemmas.{no_conflicts}
 
 abbrev tags_to_x : Reading
@@ -33,28 +33,24 @@ conflict = record {
 }
 
 pub unequal : {x y : List ℕ} → x ≡ y → bytes_eq x y ≡ false → ⊥
-unequal {x} {y} same other = false≢true (sym other ∙ (bytes_eq-Decides x y).1 same)
+unequal {x} {y} same other = false≢true (search rules)
 
 -- only the one destination is in conflict
 at_x_or_y : (d : List ℕ) (m : Mapped) → Contains meeting m → m.destination ≡ Some d → (d ≡ codes "refs/x/a") ⊎ (m ≡ branch_to_y)
 at_x_or_y d m has to =
-    by_cases (of_element (λ n. (n.destination ≡ Some (codes "refs/x/a")) ⊎ (n ≡ branch_to_y)) meeting m (inr refl, (inl refl, (inl refl, (inl refl, tt)))) has)
-    (λ x. inl (same_Some d (codes "refs/x/a") (sym to ∙ x))) (λ y. inr y)
+    by_cases (of_element (λ n. (n.destination ≡ Some (codes "refs/x/a")) ⊎ (n ≡ branch_to_y)) meeting m (search rules) has)
+    (λ x. search rules) (λ y. inr y)
 
 pub only_x : (d : List ℕ) → HasConflictAt meeting d → d ≡ codes "refs/x/a"
 only_x d contested = by_cases (at_x_or_y d contested.one contested.has_one contested.one_to) (λ x. x)
-    (λ y. by_cases (at_x_or_y d contested.other contested.has_other contested.other_to) (λ x. x) (λ z. absurd (contested.differ (ap (λ (m : Mapped). m.source) (y ∙ sym z)))))
+    (λ y. search rules)
 
 at_x : HasConflictAt meeting (codes "refs/x/a")
-at_x = record { one = tag_to_x; other = branch_to_x; has_one = (1, omega arith, refl); has_other = (2, omega arith, refl); one_to = refl; other_to = refl; differ = λ same. unequal (ap bytes_in same) refl }
+at_x = record { one = tag_to_x; other = branch_to_x; has_one = (1, omega arith, refl); has_other = (2, omega arith, refl); one_to = refl; other_to = refl; differ = λ same. search rules }
 
 -- the first mappings to it are the second and the third
 firsts : IsFirstTo (codes "refs/x/a") meeting 1 tag_to_x × IsFirstTo (codes "refs/x/a") meeting 2 branch_to_x × ((k : ℕ) → ¬ (IsFirstTo (codes "refs/x/a") meeting k branch_to_y))
-firsts = (
-  record { goes = refl; first = λ has. by_cases has (λ same. unequal (ap bytes_in same.source) refl) (λ none. none) },
-  record { goes = refl; first = λ has. by_cases has (λ same. unequal (ap bytes_in same.source) refl) (λ later. by_cases later pairs.1 (λ none. none)) },
-  λ k first. unequal (same_Some (codes "refs/x/b") (codes "refs/x/a") first.goes) refl,
-)
+firsts = (search rules, search rules, λ k first. search rules)
 
 -- of these mappings a conflict has what the two first ones to its destination give
 of_firsts : {Y : Type 0} (Q : Mapped → Y → Type 0) (y z : Y) → Q tag_to_x y → Q branch_to_x z → IsMadeFrom (λ k m made. IsFirstTo (codes "refs/x/a") meeting k m × Q m made) 0 meeting (y ∷ z ∷ [])
@@ -62,7 +58,7 @@ of_firsts Q y z of_tag of_branch = (
   None,
   y ∷ z ∷ [],
   (λ made is. firsts.2 0 is.0),
-  (Some y, z ∷ [], (firsts.0, of_tag), (Some z, [], (firsts.1, of_branch), (None, [], (λ made is. is.0.first (inr (inl pairs.0))), refl, refl), refl), refl),
+  (Some y, z ∷ [], (firsts.0, of_tag), (Some z, [], (firsts.1, of_branch), search rules, refl), refl),
   refl,
 )
 
@@ -77,7 +73,7 @@ conflicts_at_x = record {
     },
     tt,
   );
-  every = λ d contested. (0, omega arith, sym (only_x d contested));
+  every = λ d contested. search rules;
   order = (tt, tt);
 }
 
@@ -92,23 +88,23 @@ unmet : (l : List Mapped) → AllByRecursion (λ n. n.source ≡ name (codes "re
 unmet l all d at = at.differ (one_tag l all at.one at.other d at.has_one at.has_other at.one_to at.other_to)
 
 pub one_source : (d : List ℕ) → ¬ (HasConflictAt (tag_to_x ∷ tag_to_foo ∷ tag_alone ∷ tag_again ∷ []) d)
-one_source = unmet _ (refl, (refl, (refl, (refl, tt))))
+one_source = unmet _ (search rules)
 
 -- conflicts are strictly increasing by destination, whatever the mappings are
 pub rising : (g : List Reading) (l : List Mapped) (c d : Conflict) → c.destination ≡ codes "refs/x/b" → d.destination ≡ codes "refs/x/aa" → ¬ (AreConflicts g l (c ∷ d ∷ [])) × ¬ (AreConflicts g l (c ∷ c ∷ []))
 unfolding IsStrictlySortedBy
-rising g l c d to_b to_aa = ((λ are. cc (rw (to_b, to_aa) at are.order.0.0)), λ are. cc (rw to_b at are.order.0.0))
+rising g l c d to_b to_aa = ((λ are. search rules), λ are. cc (rw to_b at are.order.0.0))
 
 -- a text that computes to begin otherwise, and not to be `HEAD`, can't be written
 pub unwritable : (d : List ℕ) → starts_with nat_eq d (codes "refs/") ≡ false → bytes_eq d head ≡ false → ¬ (IsWritable d)
-unwritable d elsewhere other (inl begins) = begins_not (codes "refs/") d elsewhere begins
+unwritable d elsewhere other (inl begins) = search rules
 unwritable d elsewhere other (inr is_head) = unequal is_head other
 
 pub writable : IsWritable (codes "refs/x") × IsWritable (codes "HEAD") × ¬ (IsWritable (codes "refs")) × ¬ (IsWritable (codes "HEADS")) × ¬ (IsWritable (codes "foo"))
-writable = (search rules, inr refl, unwritable (codes "refs") refl refl, unwritable (codes "HEADS") refl refl, unwritable (codes "foo") refl refl)
+writable = (search rules, inr refl, search rules, search rules, search rules)
 
 x_writable : IsWritable (codes "refs/x/a")
-x_writable = inl (record { after = codes "x/a"; here = refl })
+x_writable = inl (search rules)
 
 abbrev pub foo_fix : Removed
 foo_fix = record { destination = codes "foo"; spec = heads_to_x }
@@ -117,8 +113,8 @@ pub fixes : IsFix both_to_x tag_to_foo foo_fix × ((fix : Removed) → ¬ (IsFix
 fixes =
     let foo : IsFix both_to_x tag_to_foo foo_fix = record { goes = refl; unwritable = writable.4; spec = refl } in (
       foo,
-      (λ fix. ((λ is. is.unwritable (rw (← same_Some (codes "refs/x/a") fix.destination is.goes) x_writable)), λ is. none_some fix.destination is.goes)),
-      (λ is. cc (ap (option_map (λ (r : Reading). r.mode)) is.spec)),
+      (λ fix. search rules),
+      (λ is. search rules),
       λ are. nothing_made (λ k m fix. IsFix both_to_x m fix) 0 [] tag_to_foo [] foo_fix are foo,
     )
 
@@ -128,24 +124,24 @@ of_one_tag = tag_to_x ∷ tag_to_foo ∷ tag_alone ∷ []
 -- of mappings from one source, the one to a partial name goes
 pub validated : IsValidated both_to_x of_one_tag (tag_to_x ∷ tag_alone ∷ []) (foo_fix ∷ [])
 validated = record {
-  free = no_conflicts both_to_x of_one_tag (unmet of_one_tag (refl, (refl, (refl, tt))));
+  free = no_conflicts both_to_x of_one_tag (search rules);
   survive = (Some tag_to_x, tag_alone ∷ [], (refl, x_writable), (None, tag_alone ∷ [], (λ m made. writable.4 made.1), (Some tag_alone, [], (refl, tt), refl, refl), refl), refl);
   fixed = (None, foo_fix ∷ [], (λ fix made. (fixes.1 fix).0 made), (Some foo_fix, [], fixes.0, (None, [], (λ fix made. (fixes.1 fix).1 made), refl, refl), refl), refl);
 }
 
 pub indexes : IndexesFit both_to_x (tag_to_x ∷ tag_again ∷ []) × ¬ (IndexesFit both_to_x (tag_to_x ∷ mapping 0 (codes "a") None 2 ∷ []))
-indexes = ((omega arith, (omega arith, tt)), λ fit. let below : 2 < 2 = fit.1.0 in omega (arith, below))
+indexes = (search rules, λ fit. search rules)
 
 pub meetings : ShareDestination tag_to_x branch_to_x × ¬ (ShareDestination tag_to_x tag_to_foo) × ¬ (ShareDestination tag_alone tag_alone)
-meetings = ((codes "refs/x/a", refl, refl), (λ at. unequal (same_Some (codes "refs/x/a") (codes "foo") (at.1 ∙ sym at.2)) refl), λ at. none_some at.0 at.1)
+meetings = (search rules, (λ at. search rules), λ at. none_some at.0 at.1)
 
 pub meet : DestinationsHaveOneSource (tag_to_x ∷ tag_again ∷ []) × ¬ (DestinationsHaveOneSource meeting) × HaveDistinctDestinations (tag_to_x ∷ tag_to_foo ∷ tag_alone ∷ tag_alone ∷ []) × ¬ (HaveDistinctDestinations (tag_to_x ∷ tag_alone ∷ tag_again ∷ []))
 unfolding at_x
 meet = (
-  one_tag (tag_to_x ∷ tag_again ∷ []) (refl, (refl, tt)),
+  search rules,
   (λ one. at_x.differ (one tag_to_x branch_to_x (codes "refs/x/a") at_x.has_one at_x.has_other refl refl)),
-  ((meetings.1, (unshared tag_to_x, (unshared tag_to_x, tt))), ((unshared tag_to_foo, (unshared tag_to_foo, tt)), ((unshared tag_alone, tt), (tt, tt)))),
-  λ never. never.0.1.0 (codes "refs/x/a", refl, refl),
+  search rules,
+  λ never. search rules,
 )
   where
     unshared : (m : Mapped) → ¬ (ShareDestination m tag_alone)
@@ -156,7 +152,7 @@ pub texts_at : IsTextAt both_to_x 0 (codes "refs/tags/*:refs/x/*") × IsTextAt (
 texts_at = (
   (tags_to_x, refl, refl),
   (fetched Forced (codes "main") None, refl, refl),
-  (λ (r, is, prints). unequal (same_Some (codes "+refs/heads/*:refs/x/*") (codes "refs/tags/*:refs/x/*") (ap printed (same_Some heads_to_x r is) ∙ prints)) refl),
+  (λ (r, is, prints). search rules),
   λ text (r, is, prints). cc,
 )
 
@@ -168,7 +164,7 @@ no_less = (listed, λ rest fixes is. listed is.free)
     listed are = of_element (λ d. ⊥) [] _ tt (are.every (codes "refs/x/a") at_x)
 
 pub survivors : Survives tag_alone × Survives tag_to_x × ¬ (Survives tag_to_foo) × ¬ (AreSurvivors (tag_to_foo ∷ []) (tag_to_foo ∷ [])) × ¬ (AreSurvivors (tag_alone ∷ []) [])
-survivors = (tt, x_writable, writable.4, kept, λ are. nothing_made (λ k m made. (made ≡ m) × Survives m) 0 [] tag_alone [] tag_alone are (refl, tt))
+survivors = (tt, x_writable, writable.4, kept, λ are. search rules)
   where
     kept : ¬ (AreSurvivors (tag_to_foo ∷ []) (tag_to_foo ∷ []))
     kept (None, rest, none, empty, same) = cc
@@ -189,9 +185,9 @@ pub outcome_copies : (o copy : Outcome 1) (m : Mapping) →
     × (o.mappings.items ≡ [] → copy.mappings.items ≡ m ∷ [] → ¬ (IsOutcomeCopy o copy))
     × (copy.group.specs.items ≢ o.group.specs.items → ¬ (IsOutcomeCopy o copy))
 outcome_copies o copy m = (
-  (λ specs are. record { specs = specs; mappings = are }),
-  (λ some none is. rw (some, none) at is.mappings),
-  (λ none some is. rw (none, some) at is.mappings),
+  (λ specs are. search rules),
+  (λ some none is. search rules),
+  (λ none some is. search rules),
   λ other is. other is.specs,
 )
 
