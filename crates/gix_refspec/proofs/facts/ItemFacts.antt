@@ -17,7 +17,7 @@ branches = main_ref ∷ dev_ref ∷ []
 
 -- the branches are a subset, and refs that aren't there aren't one
 branches_part : ArePart remote_refs branches
-branches_part item = of_element (Contains remote_refs) branches item (search rules)
+branches_part item = search rules
 
 pub parts : ArePart remote_refs branches × ¬ (ArePart (dev_ref ∷ []) branches) × ¬ (ArePart [] (main_ref ∷ []))
 parts = (branches_part, (λ part. lacks_main (search rules)), λ part. of_element (λ r. ⊥) [] main_ref tt (search rules))
@@ -53,8 +53,7 @@ no_tag_by_some (suc (suc k), r, below, is, by) = omega (arith, below)
 -- so the tag may be left out; but of a branch and a tag with the same name a partial source takes the tag, which may not
 pub may_leave_out : HasTaken AreForwardEnds (Takes remote_refs) group remote_refs branches × ¬ (HasTaken AreForwardEnds (Takes branch_and_tag) (main_to_x ∷ []) branch_and_tag (main_branch ∷ []))
 may_leave_out = (
-  (λ item. of_element (λ r. Any (TakesItem AreForwardEnds (Takes remote_refs) r) group → Contains branches r) remote_refs item
-      ((λ taken. (1, omega arith, refl)), ((λ taken. absurd (no_tag_by_some taken)), ((λ taken. (0, omega arith, refl)), ((λ taken. (0, omega arith, refl)), tt))))),
+  (λ item. search (rules, no_tag_by_some)),
   λ has. no_tag (has main_tag (1, omega arith, refl) (0, main_to_x, omega arith, refl, record { ends = main_ends; has = record { positive = tt; near = refl; far = refl; no_object = λ bytes kind. short_no_id bytes kind.2 }; word = None; takes = takes_the_tag.0 })),
 )
   where
@@ -62,30 +61,20 @@ may_leave_out = (
     no_tag has = search rules
 
 pub same_pairs : HaveSamePairs (tracked 2 (codes "main") ∷ []) (tracked 5 (codes "main") ∷ tracked 3 (codes "main") ∷ []) × ¬ (HaveSamePairs (tracked 2 (codes "main") ∷ []) []) × ¬ (HaveSamePairs [] (tracked 2 (codes "main") ∷ []))
-same_pairs = (
-  (λ pair. search rules),
-  (λ same. (same (tracked 2 (codes "main"))).0 (search rules)),
-  λ same. (same (tracked 2 (codes "main"))).1 (search rules),
-)
+same_pairs = ((λ pair. search rules), (λ same. (same (tracked 2 (codes "main"))).0 (search rules)), λ same. (same (tracked 2 (codes "main"))).1 (search rules))
 
 -- by the law the branch is mapped over the branches alone, and the excluded one isn't
 pub mapped_still : FewerItems group remote_refs branches → (fewer : List Mapped) → AreKeptForward group branches fewer → HasPair fewer (tracked 7 (codes "main")) × ¬ (HasPair fewer (tracked 0 (codes "dev-a")))
 mapped_still law fewer are =
     let same = law.forward branches_part may_leave_out.0 (tracked 2 (codes "main") ∷ []) fewer fetches_all_but_dev are in
-    ((same (tracked 7 (codes "main"))).0 (search rules), λ has. only_main 0 ((same (tracked 0 (codes "dev-a"))).1 has))
-  where
-    only_main : (item : ℕ) → ¬ (HasPair (tracked 2 (codes "main") ∷ []) (tracked item (codes "dev-a")))
-    only_main item has = by_cases has (λ pair. cc (pair.source)) (λ none. none)
+    ((same (tracked 7 (codes "main"))).0 (search rules), λ has. by_cases ((same (tracked 0 (codes "dev-a"))).1 has) (λ pair. cc (pair.source)) (λ none. none))
 
 -- and so from right to left
 abbrev turned : List Ref
 turned = named (codes "refs/remotes/origin/main") ∷ named (codes "refs/remotes/origin/dev-a") ∷ []
 
 pub mapped_back : FewerItems group tracking_refs turned → (fewer : List Mapped) → AreKeptBackward group turned fewer → HasPair fewer (tracked 7 (codes "main"))
-mapped_back law fewer are =
-    let both = λ (item : Ref). of_element (Contains tracking_refs) turned item ((1, omega arith, refl), ((0, omega arith, refl), tt)) in
-    let enough = λ (item : Ref). of_element (Contains turned) tracking_refs item ((1, omega arith, refl), ((0, omega arith, refl), tt)) in
-    (law.backward both (λ item there taken. enough item there) (tracked 1 (codes "main") ∷ []) fewer tracks_all_but_dev are (tracked 7 (codes "main"))).0 (search rules)
+mapped_back law fewer are = (law.backward (λ item. search rules) (λ item. search rules) (tracked 1 (codes "main") ∷ []) fewer tracks_all_but_dev are (tracked 7 (codes "main"))).0 (search rules)
 
 abbrev fetch_head : Reading
 fetch_head = fetched Normal head None
@@ -113,9 +102,6 @@ expanded = (codes "refs/heads/" ∷ [], [], expansion, search rules, refl)
 -- the branches are what a server lists for that; it doesn't list fewer, nor refs that aren't there
 branches_listed : AreListedItems group remote_refs branches
 branches_listed = record { entries = codes "refs/heads/" ∷ []; expansions = expanded; part = branches_part; listed = λ item. search rules }
-  where
-    tag_not_begun : ¬ (BeginsWithOne (codes "refs/heads/" ∷ []) (codes "refs/tags/v1"))
-    tag_not_begun begun = begins_not (codes "refs/heads/") (codes "refs/tags/v1") refl (search rules)
 
 dev_begun : BeginsWithOne (codes "refs/heads/" ∷ []) (codes "refs/heads/dev-a")
 dev_begun = (0, codes "refs/heads/", omega arith, refl, search rules)
@@ -177,18 +163,11 @@ asked_for law = (same, λ are. same_pairs.1 (same [] are))
 abbrev moved : List ℕ → Ref
 moved n = record { name = n; target = 2 ∷ []; object = Some (3 ∷ []) }
 
-abbrev to_blob : Reading
-to_blob = fetched Normal (codes "main") (Some (codes "e69de29bb2d1d6434b8b29ae775ad8c2e48c5391"))
-
 abbrev to_x : Reading
 to_x = fetched Normal (codes "main") (Some (codes "refs/x"))
 
-pub ids_asked_for : AsksForNoId (no_dev ∷ to_x ∷ []) × ¬ (AsksForNoId (to_x ∷ to_blob ∷ []))
+pub ids_asked_for : AsksForNoId (no_dev ∷ to_x ∷ []) × ¬ (AsksForNoId (to_x ∷ fetched Normal (codes "main") (Some (codes "e69de29bb2d1d6434b8b29ae775ad8c2e48c5391")) ∷ []))
 ids_asked_for = (search rules, λ none. none.1.0 (codes "e69de29bb2d1d6434b8b29ae775ad8c2e48c5391", refl, (empty_blob, IsIdText-empty_blob)))
-  where
-    no_digits : (kind : Kind) → 6 ≢ digits_of kind
-    no_digits Sha1 same = omega (arith, same)
-    no_digits Sha256 same = omega (arith, same)
 
 -- other ids change no mapping from left to right, nor from right to left, if no destination is an id
 pub names_alone : (NamesDecide group remote_refs → AreKeptForward group (moved dev_ref.name ∷ moved tag_ref.name ∷ moved main_ref.name ∷ moved main_ref.name ∷ []) (tracked 2 (codes "main") ∷ []))

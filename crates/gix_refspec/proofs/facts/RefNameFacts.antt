@@ -80,10 +80,7 @@ parted = record {
 }
 
 pub none_lost : ¬ (HaveRefNames (kept ∷ []) []) × ¬ (AreLeftOut (to_bad ∷ []) [])
-none_lost = (
-  (λ are. nothing_made (λ k m made. (made ≡ m) × HasRefNames m) 0 [] kept [] kept are (refl, sides.0)),
-  λ are. nothing_made (λ k m made. IsLeftOut m made) 0 [] to_bad [] (record { mapping = to_bad; side = Destination }) are (record { same = refl; bad = sides.2 }),
-)
+none_lost = ((λ are. search (rules, sides.0)), λ are. nothing_made (λ k m made. IsLeftOut m made) 0 [] to_bad [] (record { mapping = to_bad; side = Destination }) are (search (rules, sides.2)))
 
 -- a path with `..`, one with an empty component, one outside `refs/`, and one with a control character don't stay among
 -- refs

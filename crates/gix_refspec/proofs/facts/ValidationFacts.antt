@@ -42,8 +42,7 @@ at_x_or_y d m has to =
     (λ x. search rules) (λ y. inr y)
 
 pub only_x : (d : List ℕ) → HasConflictAt meeting d → d ≡ codes "refs/x/a"
-only_x d contested = by_cases (at_x_or_y d contested.one contested.has_one contested.one_to) (λ x. x)
-    (λ y. search rules)
+only_x d contested = by_cases (at_x_or_y d contested.one contested.has_one contested.one_to) (λ x. x) (λ y. search rules)
 
 at_x : HasConflictAt meeting (codes "refs/x/a")
 at_x = record { one = tag_to_x; other = branch_to_x; has_one = (1, omega arith, refl); has_other = (2, omega arith, refl); one_to = refl; other_to = refl; differ = λ same. search rules }
@@ -111,12 +110,8 @@ foo_fix = record { destination = codes "foo"; spec = heads_to_x }
 
 pub fixes : IsFix both_to_x tag_to_foo foo_fix × ((fix : Removed) → ¬ (IsFix both_to_x tag_to_x fix) × ¬ (IsFix both_to_x tag_alone fix)) × ¬ (IsFix both_to_x tag_to_foo (record { destination = codes "foo"; spec = tags_to_x })) × ¬ (AreFixes both_to_x (tag_to_foo ∷ []) [])
 fixes =
-    let foo : IsFix both_to_x tag_to_foo foo_fix = record { goes = refl; unwritable = writable.4; spec = refl } in (
-      foo,
-      (λ fix. search rules),
-      (λ is. search rules),
-      λ are. nothing_made (λ k m fix. IsFix both_to_x m fix) 0 [] tag_to_foo [] foo_fix are foo,
-    )
+    let foo : IsFix both_to_x tag_to_foo foo_fix = record { goes = refl; unwritable = writable.4; spec = refl } in
+    (foo, (λ fix. search rules), (λ is. search rules), λ are. nothing_made (λ k m fix. IsFix both_to_x m fix) 0 [] tag_to_foo [] foo_fix are foo)
 
 abbrev of_one_tag : List Mapped
 of_one_tag = tag_to_x ∷ tag_to_foo ∷ tag_alone ∷ []
@@ -125,8 +120,8 @@ of_one_tag = tag_to_x ∷ tag_to_foo ∷ tag_alone ∷ []
 pub validated : IsValidated both_to_x of_one_tag (tag_to_x ∷ tag_alone ∷ []) (foo_fix ∷ [])
 validated = record {
   free = no_conflicts both_to_x of_one_tag (search rules);
-  survive = (Some tag_to_x, tag_alone ∷ [], (refl, x_writable), (None, tag_alone ∷ [], (λ m made. writable.4 made.1), (Some tag_alone, [], (refl, tt), refl, refl), refl), refl);
-  fixed = (None, foo_fix ∷ [], (λ fix made. (fixes.1 fix).0 made), (Some foo_fix, [], fixes.0, (None, [], (λ fix made. (fixes.1 fix).1 made), refl, refl), refl), refl);
+  survive = (Some tag_to_x, _, (refl, x_writable), (None, _, (λ m made. writable.4 made.1), (Some tag_alone, [], (refl, tt), refl, refl), refl), refl);
+  fixed = (None, _, (λ fix made. (fixes.1 fix).0 made), (Some foo_fix, [], fixes.0, search rules, refl), refl);
 }
 
 pub indexes : IndexesFit both_to_x (tag_to_x ∷ tag_again ∷ []) × ¬ (IndexesFit both_to_x (tag_to_x ∷ mapping 0 (codes "a") None 2 ∷ []))
@@ -137,24 +132,11 @@ meetings = (search rules, (λ at. search rules), λ at. none_some at.0 at.1)
 
 pub meet : DestinationsHaveOneSource (tag_to_x ∷ tag_again ∷ []) × ¬ (DestinationsHaveOneSource meeting) × HaveDistinctDestinations (tag_to_x ∷ tag_to_foo ∷ tag_alone ∷ tag_alone ∷ []) × ¬ (HaveDistinctDestinations (tag_to_x ∷ tag_alone ∷ tag_again ∷ []))
 unfolding at_x
-meet = (
-  search rules,
-  (λ one. at_x.differ (one tag_to_x branch_to_x (codes "refs/x/a") at_x.has_one at_x.has_other refl refl)),
-  search rules,
-  λ never. search rules,
-)
-  where
-    unshared : (m : Mapped) → ¬ (ShareDestination m tag_alone)
-    unshared m at = none_some at.0 at.2
+meet = (search rules, (λ one. at_x.differ (one tag_to_x branch_to_x (codes "refs/x/a") at_x.has_one at_x.has_other refl refl)), search rules, λ never. search rules)
 
 -- the text at an index is that of the spec there, and there is none after the last
 pub texts_at : IsTextAt both_to_x 0 (codes "refs/tags/*:refs/x/*") × IsTextAt (fetched Forced (codes "main") None ∷ []) 0 (codes "main") × ¬ (IsTextAt both_to_x 1 (codes "refs/tags/*:refs/x/*")) × ((text : List ℕ) → ¬ (IsTextAt both_to_x 2 text))
-texts_at = (
-  (tags_to_x, refl, refl),
-  (fetched Forced (codes "main") None, refl, refl),
-  (λ (r, is, prints). search rules),
-  λ text (r, is, prints). cc,
-)
+texts_at = ((tags_to_x, refl, refl), (fetched Forced (codes "main") None, refl, refl), (λ (r, is, prints). search rules), λ text (r, is, prints). cc)
 
 -- a destination with several sources is listed as a conflict, and so there is no validation
 pub no_less : ¬ (AreConflicts both_to_x meeting []) × ((rest : List Mapped) (fixes : List Removed) → ¬ (IsValidated both_to_x meeting rest fixes))
@@ -164,11 +146,7 @@ no_less = (listed, λ rest fixes is. listed is.free)
     listed are = of_element (λ d. ⊥) [] _ tt (are.every (codes "refs/x/a") at_x)
 
 pub survivors : Survives tag_alone × Survives tag_to_x × ¬ (Survives tag_to_foo) × ¬ (AreSurvivors (tag_to_foo ∷ []) (tag_to_foo ∷ [])) × ¬ (AreSurvivors (tag_alone ∷ []) [])
-survivors = (tt, x_writable, writable.4, kept, λ are. search rules)
-  where
-    kept : ¬ (AreSurvivors (tag_to_foo ∷ []) (tag_to_foo ∷ []))
-    kept (None, rest, none, empty, same) = cc
-    kept (Some m, rest, made, empty, same) = writable.4 made.1
+survivors = (tt, x_writable, writable.4, (λ are. search rules), λ are. search rules)
 
 -- the conflict of two specs is the only one, and exactly one of three mappings is removed, with one fix
 pub one_at_x : OneValidation both_to_x meeting → (cs : List Conflict) → AreConflicts both_to_x meeting cs → cs ≡ conflict ∷ []
@@ -184,12 +162,7 @@ pub outcome_copies : (o copy : Outcome 1) (m : Mapping) →
     × (o.mappings.items ≡ m ∷ [] → copy.mappings.items ≡ [] → ¬ (IsOutcomeCopy o copy))
     × (o.mappings.items ≡ [] → copy.mappings.items ≡ m ∷ [] → ¬ (IsOutcomeCopy o copy))
     × (copy.group.specs.items ≢ o.group.specs.items → ¬ (IsOutcomeCopy o copy))
-outcome_copies o copy m = (
-  (λ specs are. search rules),
-  (λ some none is. search rules),
-  (λ none some is. search rules),
-  λ other is. other is.specs,
-)
+outcome_copies o copy m = ((λ specs are. search rules), (λ some none is. search rules), (λ none some is. search rules), λ other is. search rules)
 
 -- a copy has the specs and the mappings of its original, and so its conflicts, survivors and fixes
 pub copied : (o copy : Outcome 0) → CopiedOutcome o copy → IsOutcomeCopy o copy → (readings_of copy.group ≡ readings_of o.group) × (map mapped_of copy.mappings.items ≡ map mapped_of o.mappings.items)
