@@ -44,11 +44,9 @@ every_lists = inr (codes "refs/heads/*", search rules, lists_of_sides.0)
 pub lists_of_specs : Lists every (codes "refs/heads/" ∷ []) × Lists no_dev [] × ((list : List (List ℕ)) → ¬ (Lists (pushed Normal (Some (codes "main")) None) list))
 lists_of_specs = (every_lists, inl (refl, refl), λ list lists. search rules)
 
--- the lists of a group are one after the other, in order
 pub lists_of_groups : ListsGroup (fetched Normal (codes "main") None ∷ no_dev ∷ every ∷ []) (candidates (codes "main") ++ codes "refs/heads/" ∷ [])
 lists_of_groups = (_, _, inr (codes "main", search rules, lists_of_sides.1), ([], _, lists_of_specs.1, (_, [], every_lists, refl, refl), refl), refl)
 
--- a group has no list if one side has none
 pub none_for_all : HasNoList (every ∷ fetched Normal (codes "refs/*") (Some (codes "refs/x/*")) ∷ []) × ¬ (HasNoList (every ∷ []))
 none_for_all = (
   (1, fetched Normal (codes "refs/*") (Some (codes "refs/x/*")), omega arith, refl, λ list lists. by_cases lists (λ negative. cc (negative.0)) (λ asked. (no_lists_of_sides list).0 (rw (← same_Some (codes "refs/*") asked.0 asked.1.side) at asked.2))),

@@ -58,7 +58,6 @@ outcome_seen o are = ap (map mapped_of) are
 pub operations_apart : is_same_operation Push Push ∷ is_same_operation Push Fetch ∷ is_same_operation Fetch Push ∷ is_same_operation Fetch Fetch ∷ [] ≡ true ∷ false ∷ false ∷ true ∷ []
 operations_apart = refl
 
--- a list yields its elements, and then ends
 abbrev Gathers : List RefSpecRef → MatchGroup → Type 0
 Gathers = IsGathered (λ source it. it ≡ source) (YieldsFirst (λ rest. rest)) Fetch
 
@@ -72,7 +71,6 @@ module _
     (b : Accepted Push mode.Normal (Some (codes "b")) None)
     (c : Accepted Fetch mode.Force (Some (codes "c")) (Some (codes "d")))
   where
-    -- a fetch of `a`, a push of `b`, and a fetch of `c` to `d`
     abbrev all_specs : List RefSpecRef
     all_specs = spec_of Fetch mode.Normal (Some (codes "a")) None a ∷ spec_of Push mode.Normal (Some (codes "b")) None b ∷ spec_of Fetch mode.Force (Some (codes "c")) (Some (codes "d")) c ∷ []
 
@@ -118,7 +116,6 @@ module _
     (forced : accepted-type Fetch mode.Force (Some o) None)
     (same_name : accepted-type Push mode.Normal (Some o) None)
   where
-    -- fixes that removed a mapping of a fetch, forced or not, or of a push
     abbrev fix : BString → Fix
     fix d = MappingWithPartialDestinationRemoved d (owned_of Fetch mode.Normal (Some o) None alone)
 

@@ -1,21 +1,19 @@
 -- Which items may be left out, what of an item decides, and what a caller concludes from the laws on that.
-use Rattle.gix_refspec.proofs.Common.{covering, not_covering, branch_and_tag, main_branch, main_tag, main_ends, main_to_x, takes_the_tag, begins_not, named, dev_ref, every, main_ref, no_dev}
-use Rattle.gix_refspec.proofs.Common.{origin_split, short, short_no_id, tag_ref, of_element, push_is_none, are_forward_ends, fetches_all_but_dev, forward_ends, taken_by, takes_no_tag, tracked}
-use Rattle.gix_refspec.proofs.Common.{tracks_all_but_dev, ◌≡◌, ◌≢◌, inl, inr, ℕ, zero, suc, List, [], ◌∷◌, None, Some, codes, refl, sym, subst, arith, Bool, true, false, map, filter, Any, Contains}
-use Rattle.gix_refspec.proofs.Common.{bstr_bytes, false≢true, Item, head, Normal, Reading, fetched, pushed, pattern, Ref, Matches, Takes, name, Mapped, HasPair, AreForwardEnds, AreBackwardEnds}
-use Rattle.gix_refspec.proofs.Common.{AreKeptForward, AreKeptBackward, ref_of, HasCoveringSource, BeginsWithOne, AreExpansions, MakesForward, AreAskedFor, ArePart, AskedItems, TakesItem, HasTaken}
-use Rattle.gix_refspec.proofs.Common.{HaveSamePairs, FewerItems, FetchesHead, IsListed, AreListedItems, ListedItems, PassesTaken, FilteredItems, is_begun, FilteredByEntries, FilteredByList, by_cases}
-use Rattle.gix_refspec.proofs.Common.{empty_blob, IsIdText-empty_blob, blob_kind, Sha1, Sha256, digits_of, object, AsksForNoId, HaveSameNames, NamesDecide, NamesDecideBack, rules}
+use Rattle.gix_refspec.proofs.Common.{covering, not_covering, branch_and_tag, main_branch, main_tag, main_ends, main_to_x, takes_the_tag, named, dev_ref, every, main_ref, no_dev, origin_split, short}
+use Rattle.gix_refspec.proofs.Common.{short_no_id, tag_ref, of_element, push_is_none, are_forward_ends, fetches_all_but_dev, forward_ends, taken_by, takes_no_tag, tracked, tracks_all_but_dev, ◌≡◌}
+use Rattle.gix_refspec.proofs.Common.{◌≢◌, inl, inr, ℕ, zero, suc, List, [], ◌∷◌, None, Some, codes, refl, sym, subst, arith, Bool, true, false, map, filter, Any, Contains, bstr_bytes, false≢true}
+use Rattle.gix_refspec.proofs.Common.{Item, head, Normal, Reading, fetched, pushed, pattern, Ref, Matches, Takes, name, Mapped, HasPair, AreForwardEnds, AreBackwardEnds, AreKeptForward}
+use Rattle.gix_refspec.proofs.Common.{AreKeptBackward, ref_of, HasCoveringSource, BeginsWithOne, AreExpansions, MakesForward, AreAskedFor, ArePart, AskedItems, TakesItem, HasTaken, HaveSamePairs}
+use Rattle.gix_refspec.proofs.Common.{FewerItems, FetchesHead, IsListed, AreListedItems, ListedItems, PassesTaken, FilteredItems, is_begun, FilteredByEntries, FilteredByList, by_cases, empty_blob}
+use Rattle.gix_refspec.proofs.Common.{IsIdText-empty_blob, blob_kind, object, AsksForNoId, HaveSameNames, NamesDecide, NamesDecideBack, rules}
 use Rattle.gix_refspec.proofs.{facts.AskedFacts.lists_of_specs, lemmas.prefixes.CoverLemmas.joined_covers, facts.LawFacts.every_covering, facts.LawFacts.expansion}
-use Rattle.gix_refspec.proofs.facts.KeptFacts.{group, remote_refs, tracking_refs}
-use Rattle.gix_refspec_text.specs.declared.oid.Kind.{Kind}
+use Rattle.gix_refspec.proofs.facts.{KeptFacts.group, KeptFacts.remote_refs, KeptFacts.tracking_refs, LawFacts.head_spec}
 use Rattle.gix_refspec_match.proofs.lemmas.hits.HitLemmas.{matches_as}
 
 -- the branches of the remote, each once and in another order
 abbrev branches : List Ref
 branches = main_ref ∷ dev_ref ∷ []
 
--- the branches are a subset, and refs that aren't there aren't one
 branches_part : ArePart remote_refs branches
 branches_part item = search rules
 
@@ -69,25 +67,21 @@ mapped_still law fewer are =
     let same = law.forward branches_part may_leave_out.0 (tracked 2 (codes "main") ∷ []) fewer fetches_all_but_dev are in
     ((same (tracked 7 (codes "main"))).0 (search rules), λ has. by_cases ((same (tracked 0 (codes "dev-a"))).1 has) (λ pair. cc (pair.source)) (λ none. none))
 
--- and so from right to left
 abbrev turned : List Ref
 turned = named (codes "refs/remotes/origin/main") ∷ named (codes "refs/remotes/origin/dev-a") ∷ []
 
 pub mapped_back : FewerItems group tracking_refs turned → (fewer : List Mapped) → AreKeptBackward group turned fewer → HasPair fewer (tracked 7 (codes "main"))
 mapped_back law fewer are = (law.backward (λ item. search rules) (λ item. search rules) (tracked 1 (codes "main") ∷ []) fewer tracks_all_but_dev are (tracked 7 (codes "main"))).0 (search rules)
 
-abbrev fetch_head : Reading
-fetch_head = fetched Normal head None
-
 -- `HEAD` is listed if it is among the refs, and not if only another of its candidates is
-pub head_listed : FetchesHead (named head ∷ []) fetch_head × ¬ (FetchesHead (named (codes "refs/heads/HEAD") ∷ []) fetch_head) × ¬ (FetchesHead (named head ∷ []) (pushed Normal (Some head) None)) × ¬ (FetchesHead (named head ∷ []) short)
+pub head_listed : FetchesHead (named head ∷ []) head_spec × ¬ (FetchesHead (named (codes "refs/heads/HEAD") ∷ []) head_spec) × ¬ (FetchesHead (named head ∷ []) (pushed Normal (Some head) None)) × ¬ (FetchesHead (named head ∷ []) short)
 head_listed = (search rules, (λ fetches. search rules), (λ fetches. push_is_none fetches.fetch), λ fetches. search rules)
 
 no_dev_covering : HasCoveringSource no_dev
 no_dev_covering = record { fetch = refl; source = λ x asked. absurd asked.positive }
 
 -- a covering source is listed, whatever the refs are, and a star outside `refs/` isn't
-pub listed_sources : IsListed [] every × IsListed [] no_dev × IsListed (named head ∷ []) fetch_head × ¬ (IsListed [] fetch_head) × ¬ (IsListed (named head ∷ []) (fetched Normal (codes "*") None))
+pub listed_sources : IsListed [] every × IsListed [] no_dev × IsListed (named head ∷ []) head_spec × ¬ (IsListed [] head_spec) × ¬ (IsListed (named head ∷ []) (fetched Normal (codes "*") None))
 listed_sources = (
   inl every_covering,
   inl no_dev_covering,
@@ -123,7 +117,6 @@ none_lost law fewer are = (
   law.all branches_listed (inl every_covering, (inl no_dev_covering, tt)) (tracked 2 (codes "main") ∷ []) fewer fetches_all_but_dev are,
 )
 
--- a name passes that begins with some entry, and not one that only contains it
 pub begun_names : (is_begun (codes "refs/tags/" ∷ codes "refs/heads/" ∷ []) (codes "refs/heads/main") ≡ true) × (is_begun (codes "heads/" ∷ []) (codes "refs/heads/main") ≡ false) × (is_begun [] (codes "refs/heads/main") ≡ false)
 begun_names = (refl, refl, refl)
 

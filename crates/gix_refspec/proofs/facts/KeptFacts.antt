@@ -5,7 +5,7 @@ use Rattle.gix_refspec.proofs.Common.{blob, blob_kind, dev_ref, every, main_ref,
 use Rattle.gix_refspec.proofs.Common.{◌≡◌, inl, inr, ℕ, zero, suc, List, [], ◌∷◌, ◌++◌, Option, None, Some, codes, refl, sym, ap, ◌∙◌, subst, arith, AllByRecursion, Any, Contains, slice_get, partial}
 use Rattle.gix_refspec.proofs.Common.{full_name, Ref, IsFirstCandidate, name, Mapped, HasPair, IsExcluded, AreKeptForward, AreKeptBackward, MakesForward, MakesBackward, PairsId, KeptExactly}
 use Rattle.gix_refspec.proofs.Common.{FirstStays, NothingExcluded, ForwardIndexes, IsValidated, ItemIndexesFit, Removed, same_Some, Reading, id, MakesForwardOf, MakesBackwardOf, MadeAtIndexes}
-use Rattle.gix_refspec.proofs.Common.{RemainsExactly, KeepsRefNames, LeftOut, TakesAt, Ends, of_element, AreBackwardEnds, IsPaired, Matches}
+use Rattle.gix_refspec.proofs.Common.{RemainsExactly, KeepsRefNames, LeftOut, TakesAt, Ends, of_element, AreBackwardEnds, IsPaired, Matches, AreForwardEnds, Takes}
 use Rattle.gix_refspec.proofs.facts.RefNameFacts.{good, kept, no_ref_names, sides, to_bad}
 use Rattle.gix_refspec.proofs.facts.ValidationFacts.{unwritable, unequal}
 
@@ -26,45 +26,31 @@ of_one P x (suc at, y, below, is, holds) = absurd (omega (arith, below))
 pub at_spec : (g : List Reading) (k : ℕ) (P : Reading → Type 0) (r : Reading) → slice_get g k ≡ Some r → (q : Reading) × (slice_get g k ≡ Some q) × P q → P r
 at_spec g k P r is (q, here, holds) = subst P (same_Some q r (sym here ∙ is)) holds
 
--- what a spec takes at an index has the name of the item there
-named_at : {HasEnds : Reading → Ends → Type 0} {Taken : List ℕ → Ref → Option (List ℕ) → Type 0} (items : List Ref) (k : ℕ) (item : Ref) (n : List ℕ) (far : Option (List ℕ)) (r : Reading)
-    → slice_get items k ≡ Some item → TakesAt HasEnds Taken items (Some k) n far r → item.name ≡ n
-named_at items k item n far r is taken = same_name (search rules)
-  where
-    same_name : slice_get items k ≡ Some taken.ref → item.name ≡ n
-    same_name stands = ap (λ (x : Ref). x.name) (same_Some item taken.ref (sym is ∙ stands)) ∙ taken.paired.name
-
--- the spec takes the tag at its index, not at that of the branch or without one
-pub tag_there : MakesForwardOf branch_and_tag (Some 1) (name (codes "refs/tags/main")) (Some (codes "refs/x")) main_to_x
-tag_there = record {
-  index = 1;
-  is = refl;
-  ref = main_tag;
-  stands = refl;
-  ends = main_ends;
-  has = search rules;
-  paired = record { word = None; name = refl; takes = takes_the_tag.0; becomes = (full_name (codes "refs/x"), x_kind, refl) };
-}
-
-pub tag_not_there : ¬ (MakesForwardOf branch_and_tag (Some 0) (name (codes "refs/tags/main")) (Some (codes "refs/x")) main_to_x) × ¬ (MakesForwardOf branch_and_tag None (name (codes "refs/tags/main")) (Some (codes "refs/x")) main_to_x)
-tag_not_there = ((λ taken. search rules), λ taken. cc (taken.is))
-
--- so it makes its pair, and none of the branch
-pub tag_made : MakesForward branch_and_tag (name (codes "refs/tags/main")) (Some (codes "refs/x")) main_to_x × ¬ (MakesForward branch_and_tag (name (codes "refs/heads/main")) (Some (codes "refs/x")) main_to_x)
-unfolding tag_there
-tag_made = (
-  record { ends = main_ends; has = tag_there.has; one = (1, main_tag, omega arith, refl, tag_there.paired) },
-  λ made.
+-- the spec takes the tag at its index, not at that of the branch or without one, and so makes its pair, and none of the branch
+pub tag_made : MakesForwardOf branch_and_tag (Some 1) (name (codes "refs/tags/main")) (Some (codes "refs/x")) main_to_x
+    × ¬ (MakesForwardOf branch_and_tag (Some 0) (name (codes "refs/tags/main")) (Some (codes "refs/x")) main_to_x)
+    × ¬ (MakesForwardOf branch_and_tag None (name (codes "refs/tags/main")) (Some (codes "refs/x")) main_to_x)
+    × MakesForward branch_and_tag (name (codes "refs/tags/main")) (Some (codes "refs/x")) main_to_x
+    × ¬ (MakesForward branch_and_tag (name (codes "refs/heads/main")) (Some (codes "refs/x")) main_to_x)
+tag_made =
+    let has : AreForwardEnds main_to_x main_ends = search rules in
+    let paired : IsPaired (Takes branch_and_tag) main_ends (codes "refs/tags/main") (Some (codes "refs/x")) main_tag = 
+    record { word = None; name = refl; takes = takes_the_tag.0; becomes = (full_name (codes "refs/x"), x_kind, refl) } in (
+      record { index = 1; is = refl; ref = main_tag; stands = refl; ends = main_ends; has = has; paired = paired },
+      (λ taken. search rules),
+      (λ taken. cc (taken.is)),
+      record { ends = main_ends; has = has; one = (1, main_tag, omega arith, refl, paired) },
+      λ made.
       let (at, item, below, is, paired) = made.one in
       let near : codes "main" ≡ made.ends.near = same_Some (codes "main") made.ends.near made.has.near in
       let first : IsFirstCandidate branch_and_tag (codes "main") item.name = paired.takes.first (codes "main") (rw (← near) short_kind) in
       no_other_first.0 (search rules),
-)
+    )
 
 pub pairs_there : KeptExactly (main_to_x ∷ []) branch_and_tag → (kept : List Mapped) → AreKeptForward (main_to_x ∷ []) branch_and_tag kept → HasPair kept tag_pair × ¬ (HasPair kept branch_pair)
 pairs_there law kept are = (
-  (law.forward kept are tag_pair).1 ((0, main_to_x, omega arith, refl, tag_made.0), search rules),
-  λ has. tag_made.1 (of_one _ main_to_x ((law.forward kept are branch_pair).0 has).0),
+  (law.forward kept are tag_pair).1 ((0, main_to_x, omega arith, refl, tag_made.3), search rules),
+  λ has. tag_made.4 (of_one _ main_to_x ((law.forward kept are branch_pair).0 has).0),
 )
 
 tag_excluded : IsExcluded (main_to_x ∷ no_tags ∷ []) (codes "refs/tags/main")
@@ -102,7 +88,6 @@ id_without_item items = ((refl, paired), (λ made. cc (made.0)), paired)
     paired : PairsId empty_blob (Some (codes "refs/tags/blob")) blob
     paired = record { positive = tt; text = codes "e69de29bb2d1d6434b8b29ae775ad8c2e48c5391"; side = refl; object = blob_kind; becomes = (full_name (codes "refs/tags/blob"), below_tags, refl) }
 
--- so by the law it is kept, over any items
 pub id_there : (items : List Ref) → KeptExactly (blob ∷ []) items → (kept : List Mapped) → AreKeptForward (blob ∷ []) items kept → HasPair kept blob_mapping
 id_there items law kept are = (law.forward kept are blob_mapping).1 ((0, blob, omega arith, refl, (id_without_item items).2), λ none. none)
 
@@ -132,7 +117,6 @@ first_there law kept are =
       λ has. ((stays (tracked 0 (codes "dev-a"))).0 has).included dev_excluded,
     )
 
--- and so from right to left
 abbrev pub tracking_refs : List Ref
 tracking_refs = named (codes "refs/remotes/origin/dev-a") ∷ named (codes "refs/remotes/origin/main") ∷ []
 
@@ -166,10 +150,12 @@ pub not_of_others : MadeAtIndexes group remote_refs → (rest : List Mapped) →
     × ¬ (AreKeptForward group remote_refs (tracked 1 (codes "main") ∷ rest))
 not_of_others law rest = (
   (λ are. (at_spec group 1 _ no_dev refl (law.forward _ are).0).has.positive),
-  λ are. cc (named_at remote_refs 1 tag_ref _ _ every refl (at_spec group 0 _ every refl (law.forward _ are).0)),
+  λ are. taken_tag (at_spec group 0 _ every refl (law.forward _ are).0),
 )
+  where
+    taken_tag : ¬ (MakesForwardOf remote_refs (Some 1) (name (codes "refs/heads/main")) (Some (codes "refs/remotes/origin/main")) every)
+    taken_tag taken = search rules
 
--- nor from right to left the index of the negative spec
 pub not_of_negative_back : (items : List Ref) → MadeAtIndexes group items → (rest : List Mapped) → ¬ (AreKeptBackward group items (mapping 0 (codes "refs/heads/main") (Some (codes "refs/remotes/origin/main")) 1 ∷ rest))
 not_of_negative_back items law rest are = (at_spec group 1 _ no_dev refl (law.backward _ are).0).has.positive
 

@@ -1,10 +1,10 @@
 -- Examples of the definitions that only laws use: which specs go both ways, what a covering source covers, what a
 -- canonical text reads as, and the expansion of a group.
-use Rattle.gix_refspec.proofs.Common.{below_heads, covering, not_covering, Lacks-tested, IsPattern-tested, none_some, named, no_sign, begins_not, empty_blob, IsIdText-empty_blob, lower_of-empty_blob}
+use Rattle.gix_refspec.proofs.Common.{below_heads, covering, not_covering, Lacks-tested, IsPattern-tested, named, no_sign, begins_not, empty_blob, IsIdText-empty_blob, lower_of-empty_blob}
 use Rattle.gix_refspec.proofs.Common.{HasIdFault-length, every, no_dev, short, short_kind, push_is_none, mapping, tracked, fetches_all_but_dev, tracks_all_but_dev, tracks_nothing, tag_to_x}
-use Rattle.gix_refspec.proofs.Common.{tag_to_foo, tag_alone, ◌≡◌, ◌≢◌, ◌⊎◌, ◌<◌, ℕ, List, [], ◌∷◌, ◌++◌, Option, None, Some, length, codes, refl, sym, ap, ◌∙◌, subst, inl, inr, arith, AllByRecursion}
-use Rattle.gix_refspec.proofs.Common.{Push, Fetch, BeginsWith, HasStar, IsPattern, star, colon, Normal, Forced, Negative, Reading, AreParts, Reads, fetches, fetched, pushed, candidates, IsCandidate}
-use Rattle.gix_refspec.proofs.Common.{Fits, name, id, Mapped, HasPair, AreApart, AreKeptForward, AreKeptBackward, OneForward, OneBackward, KeptOnce, Ref, Matches, HasName, Takes, ValidatedOnce}
+use Rattle.gix_refspec.proofs.Common.{tag_to_foo, tag_alone, ◌≡◌, ◌≢◌, ◌⊎◌, ◌<◌, ℕ, List, [], ◌∷◌, Option, None, Some, length, codes, refl, sym, ap, ◌∙◌, subst, inl, inr, arith, Push, Fetch}
+use Rattle.gix_refspec.proofs.Common.{BeginsWith, HasStar, IsPattern, star, colon, Normal, Forced, Negative, Reading, AreParts, Reads, fetches, fetched, pushed, candidates, IsCandidate, Fits, name}
+use Rattle.gix_refspec.proofs.Common.{id, Mapped, HasPair, AreApart, AreKeptForward, AreKeptBackward, OneForward, OneBackward, KeptOnce, Ref, Matches, HasName, Takes, ValidatedOnce}
 use Rattle.gix_refspec.proofs.Common.{DestinationsHaveOneSource, HaveDistinctDestinations, ForwardFits, IndexesFit, push_delete, fetch_only, printed, meaning_of, Refusal, PatternUnbalanced}
 use Rattle.gix_refspec.proofs.Common.{NegativeEmpty, ReferenceName, IsRefused, IsIdText, IsLowerText, HasIdFault, LockSuffix, RepeatedDot, IsAsked, IsPrefix, Expands, to_prefix, to_candidates}
 use Rattle.gix_refspec.proofs.Common.{HasCoveringSource, MapAlike, AreReadAgain, AsksFor, AtSpec, EachSource, Transpose, Cover, CoverTogether, FetchGroupReadsBack, IsCoveredBy, IsSourceAmong}
@@ -23,17 +23,9 @@ use Rattle.gix_refspec.proofs.facts.ValidationFacts.{unequal}
 abbrev forced : Reading
 forced = fetched Forced (codes "main") None
 
-starred_end : (before : List ℕ) → HasStar (before ++ codes "*")
-starred_end before = record { before = before; after = []; here = refl }
-
 -- the spec of `git clone`, two full names, a source alone, and a negative spec go both ways
 pub go_both_ways : GoesBothWays every × GoesBothWays (fetched Normal (codes "refs/heads/a") (Some (codes "refs/x/a"))) × GoesBothWays short × GoesBothWays no_dev
-go_both_ways = (
-  (λ positive s d is_s is_d. search rules),
-  (λ positive s d is_s is_d. search rules),
-  (λ positive s d is_s is_d. absurd (none_some d is_d)),
-  λ positive. absurd positive,
-)
+go_both_ways = ((λ p s d e f. search rules), (λ p s d e f. search rules), (λ p s d e f. search rules), λ p. absurd p)
 
 pub go_one_way : ¬ (GoesBothWays (fetched Normal (codes "main") (Some (codes "refs/x/main")))) × ¬ (GoesBothWays (fetched Normal (codes "refs/heads/a") (Some (codes "b"))))
 go_one_way = (
@@ -44,19 +36,14 @@ go_one_way = (
     no_star : (x : List ℕ) → list_any (λ c. c == star) x ≡ false → ¬ (HasStar x)
     no_star x none = Lacks-ContainsText star x (Lacks-tested star x none)
 
--- a name is that of the second of two refs; an id isn't a name, nor is a missing destination
 pub among : IsSourceAmong (named (codes "a") ∷ named (codes "b") ∷ []) (name (codes "b")) × ¬ (IsSourceAmong (named (codes "a") ∷ []) (id (codes "a"))) × IsDestinationAmong (named (codes "a") ∷ []) (Some (codes "a")) × ¬ (IsDestinationAmong (named (codes "a") ∷ []) None) × ¬ (HasName (named (codes "a") ∷ []) (codes "aa"))
 among = (inr (inl refl), (λ none. none), inl refl, (λ none. none), λ has. search rules)
 
--- the branch is mapped in each direction, if it is mapped in the other
 pub looked_up : Transpose group remote_refs tracking_refs → ((m : List Mapped) → AreKeptBackward group tracking_refs m → HasPair m (tracked 0 (codes "main"))) × ((l : List Mapped) → AreKeptForward group remote_refs l → HasPair l (tracked 0 (codes "main")))
 looked_up law = (
-  (λ m back. ((law ways (tracked 2 (codes "main") ∷ []) m fetches_all_but_dev back (tracked 0 (codes "main"))).0 (search rules)).0),
-  λ l forward. ((law ways l (tracked 1 (codes "main") ∷ []) forward tracks_all_but_dev (tracked 0 (codes "main"))).1 (search rules)).0,
+  (λ m back. ((law (go_both_ways.0, (go_both_ways.3, tt)) (tracked 2 (codes "main") ∷ []) m fetches_all_but_dev back (tracked 0 (codes "main"))).0 (search rules)).0),
+  λ l forward. ((law (go_both_ways.0, (go_both_ways.3, tt)) l (tracked 1 (codes "main") ∷ []) forward tracks_all_but_dev (tracked 0 (codes "main"))).1 (search rules)).0,
 )
-  where
-    ways : AllByRecursion GoesBothWays group
-    ways = (go_both_ways.0, (go_both_ways.3, tt))
 
 -- the canonical text of a forced fetch without a destination reads as one that isn't forced, as does that of one that isn't
 pub reads_unforced : ReadsAgainAs forced short × ReadsAgainAs short short
@@ -116,7 +103,7 @@ pub every_covering : HasCoveringSource every
 every_covering = record { fetch = refl; source = λ x asked. rw (← same_Some (codes "refs/heads/*") x asked.side) covering.0 }
 
 -- a fetch of `HEAD` covers the name `HEAD`, and no other
-abbrev head_spec : Reading
+abbrev pub head_spec : Reading
 head_spec = fetched Normal (codes "HEAD") None
 
 pub head_asks : AsksFor head_spec (codes "HEAD") × ¬ (AsksFor head_spec (codes "refs/heads/HEAD"))
@@ -159,7 +146,6 @@ not_covered law = (
   λ covers. search rules,
 )
 
--- one list is kept, no two of its mappings are the same pair, and a pattern takes one word
 pub one_answer : (OneForward group remote_refs → (l : List Mapped) → AreKeptForward group remote_refs l → l ≡ tracked 2 (codes "main") ∷ [])
     × (OneBackward group tracking_refs → (l : List Mapped) → AreKeptBackward group tracking_refs l → l ≡ tracked 1 (codes "main") ∷ [])
     × ((g : List Reading) (items : List Ref) → KeptOnce g items → (l m : List Mapped) → AreKeptForward g items l → AreKeptBackward g items m → AreApart l × AreApart m)
@@ -170,7 +156,6 @@ one_answer = ((λ law l kept. law l _ kept fetches_all_but_dev), (λ law l kept.
 pub validated_apart : ValidatedOnce both_to_x remote_refs → DestinationsHaveOneSource (tag_to_x ∷ tag_alone ∷ []) × (AreKeptForward both_to_x remote_refs (tag_to_x ∷ tag_to_foo ∷ tag_alone ∷ []) → HaveDistinctDestinations (tag_to_x ∷ tag_alone ∷ []))
 validated_apart law = law _ _ (foo_fix ∷ []) validated
 
--- the spec index of the branch is in its group, and so is that of a later mapping
 pub fits : (ForwardFits group remote_refs → IndexesFit group (tracked 2 (codes "main") ∷ [])) × ((g : List Reading) (items : List Ref) (m n : Mapped) → ForwardFits g items → AreKeptForward g items (m ∷ n ∷ []) → n.spec < length g)
 fits = ((λ law. law _ fetches_all_but_dev), λ g items m n law kept. (law _ kept).1.0)
 
@@ -185,7 +170,6 @@ one_below law = ((λ p prefix. law.prefix p _ prefix below_heads), λ list expan
 pub candidates_asked : Candidates (codes "main") → Expands (codes "main") (candidates (codes "main")) × ((list : List (List ℕ)) → Expands (codes "main") list → list ≡ candidates (codes "main")) × ((r : Ref) → IsCandidate (codes "main") r.name → ((word : Option (List ℕ)) × Matches (codes "main") r word) × ((word : Option (List ℕ)) × Takes (r ∷ []) (codes "main") r word))
 candidates_asked law = let all = law short_kind.1 main_not_head short_kind.2 short_kind.3 in (all.expands, all.only, λ r one. ((all.matches r).1 one, (all.takes r).1 one))
 
--- the name of each ref that it matches, or takes over a list of that ref, is a candidate
 pub matched_asked : HasCandidates (codes "main") → (r : Ref) (word : Option (List ℕ)) → Matches (codes "main") r word ⊎ Takes (r ∷ []) (codes "main") r word → IsCandidate (codes "main") r.name
 matched_asked law r word by = by_cases by (λ matches. (law.matches r).0 (word, matches)) (λ takes. (law.takes r).0 (word, takes))
 
@@ -194,7 +178,6 @@ pub one_id : IdOrFault (codes "e69de29bb2d1d6434b8b29ae775ad8c2e48c5391") → ((
 one_id (inl one) = ((λ i text. one.only i text ∙ sym (one.only empty_blob IsIdText-empty_blob)), one.sound)
 one_id (inr fault) = absurd (fault.unread empty_blob IsIdText-empty_blob)
 
--- a text of another length has one fault, and isn't an id
 pub one_length : IdOrFault (codes "e69de2") → ((e : IdError) → HasIdFault (codes "e69de2") e → e ≡ Length 6) × ((i : List ℕ) → ¬ (IsIdText (codes "e69de2") i))
 one_length (inl one) = absurd (one.sound (Length 6) HasIdFault-length.0)
 one_length (inr fault) = ((λ e has. fault.only e has ∙ sym (fault.only (Length 6) HasIdFault-length.0)), fault.unread)

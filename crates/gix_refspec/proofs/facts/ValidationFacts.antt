@@ -13,7 +13,6 @@ tags_to_x = fetched Normal (codes "refs/tags/*") (Some (codes "refs/x/*"))
 abbrev heads_to_x : Reading
 heads_to_x = fetched Forced (codes "refs/heads/*") (Some (codes "refs/x/*"))
 
--- specs with the same pattern as destination, the second of which is forced
 abbrev pub both_to_x : List Reading
 both_to_x = tags_to_x ∷ heads_to_x ∷ []
 
@@ -35,7 +34,6 @@ conflict = record {
 pub unequal : {x y : List ℕ} → x ≡ y → bytes_eq x y ≡ false → ⊥
 unequal {x} {y} same other = false≢true (search rules)
 
--- only the one destination is in conflict
 at_x_or_y : (d : List ℕ) (m : Mapped) → Contains meeting m → m.destination ≡ Some d → (d ≡ codes "refs/x/a") ⊎ (m ≡ branch_to_y)
 at_x_or_y d m has to =
     by_cases (of_element (λ n. (n.destination ≡ Some (codes "refs/x/a")) ⊎ (n ≡ branch_to_y)) meeting m (search rules) has)
@@ -47,11 +45,9 @@ only_x d contested = by_cases (at_x_or_y d contested.one contested.has_one conte
 at_x : HasConflictAt meeting (codes "refs/x/a")
 at_x = record { one = tag_to_x; other = branch_to_x; has_one = (1, omega arith, refl); has_other = (2, omega arith, refl); one_to = refl; other_to = refl; differ = λ same. search rules }
 
--- the first mappings to it are the second and the third
 firsts : IsFirstTo (codes "refs/x/a") meeting 1 tag_to_x × IsFirstTo (codes "refs/x/a") meeting 2 branch_to_x × ((k : ℕ) → ¬ (IsFirstTo (codes "refs/x/a") meeting k branch_to_y))
 firsts = (search rules, search rules, λ k first. search rules)
 
--- of these mappings a conflict has what the two first ones to its destination give
 of_firsts : {Y : Type 0} (Q : Mapped → Y → Type 0) (y z : Y) → Q tag_to_x y → Q branch_to_x z → IsMadeFrom (λ k m made. IsFirstTo (codes "refs/x/a") meeting k m × Q m made) 0 meeting (y ∷ z ∷ [])
 of_firsts Q y z of_tag of_branch = (
   None,
@@ -89,7 +85,6 @@ unmet l all d at = at.differ (one_tag l all at.one at.other d at.has_one at.has_
 pub one_source : (d : List ℕ) → ¬ (HasConflictAt (tag_to_x ∷ tag_to_foo ∷ tag_alone ∷ tag_again ∷ []) d)
 one_source = unmet _ (search rules)
 
--- conflicts are strictly increasing by destination, whatever the mappings are
 pub rising : (g : List Reading) (l : List Mapped) (c d : Conflict) → c.destination ≡ codes "refs/x/b" → d.destination ≡ codes "refs/x/aa" → ¬ (AreConflicts g l (c ∷ d ∷ [])) × ¬ (AreConflicts g l (c ∷ c ∷ []))
 unfolding IsStrictlySortedBy
 rising g l c d to_b to_aa = ((λ are. search rules), λ are. cc (rw to_b at are.order.0.0))
@@ -116,7 +111,6 @@ fixes =
 abbrev of_one_tag : List Mapped
 of_one_tag = tag_to_x ∷ tag_to_foo ∷ tag_alone ∷ []
 
--- of mappings from one source, the one to a partial name goes
 pub validated : IsValidated both_to_x of_one_tag (tag_to_x ∷ tag_alone ∷ []) (foo_fix ∷ [])
 validated = record {
   free = no_conflicts both_to_x of_one_tag (search rules);
