@@ -1,5 +1,4 @@
--- The plain data of names, items, mappings, groups and issues, for values whose fields differ: so none is lost or taken
--- for another.
+-- The plain data of names, items, mappings, groups and issues whose fields differ: none is lost or taken for another.
 use Rattle.gix_refspec.proofs.Common.{mapping, empty_blob, lower_of-empty_blob, Option, ◌≡◌, ◌≢◌, ℕ, List, [], ◌∷◌, ◌++◌, None, Some, true, false, map, filter, option_map, replicate, Vec, Global}
 use Rattle.gix_refspec.proofs.Common.{codes, refl, sym, ap, ◌∙◌, BString, bstring_bytes, Item, Mapping, MatchGroup, NameRef, Borrowed, Owned, SourceRef, Fix, MappingWithPartialDestinationRemoved}
 use Rattle.gix_refspec.proofs.Common.{Issue, Sha1, Push, Fetch, RefSpecRef, Normal, Forced, fetched, pushed, reading_of, name, id, Conflict, name_bytes, start_of, mapped_of, ref_of, text_of_source}
@@ -50,10 +49,8 @@ object = record { item_index = None; lhs = IdSource blob_id; rhs = None; spec_in
 
 -- the indexes of the item and of the spec aren't swapped, nor are the source and the destination
 pub mappings_seen : (mapped_of branch ≡ mapping 3 (codes "refs/heads/a") (Some (codes "refs/x/a")) 5) × (mapped_of object ≡ record { item = None; source = id empty_blob; destination = None; spec = 1 })
-mappings_seen = (refl, refl)
-
-pub outcome_seen : (o : ForwardOutcome) → o.mappings.items ≡ branch ∷ object ∷ [] → mappings_of o ≡ mapping 3 (codes "refs/heads/a") (Some (codes "refs/x/a")) 5 ∷ record { item = None; source = id empty_blob; destination = None; spec = 1 } ∷ []
-outcome_seen o are = ap (map mapped_of) are
+    × ((o : ForwardOutcome) → o.mappings.items ≡ branch ∷ object ∷ [] → mappings_of o ≡ mapping 3 (codes "refs/heads/a") (Some (codes "refs/x/a")) 5 ∷ record { item = None; source = id empty_blob; destination = None; spec = 1 } ∷ [])
+mappings_seen = (refl, refl, λ o are. ap (map mapped_of) are)
 
 pub operations_apart : is_same_operation Push Push ∷ is_same_operation Push Fetch ∷ is_same_operation Fetch Push ∷ is_same_operation Fetch Fetch ∷ [] ≡ true ∷ false ∷ false ∷ true ∷ []
 operations_apart = refl
@@ -125,13 +122,11 @@ module _
     abbrev push_fix : Fix
     push_fix = MappingWithPartialDestinationRemoved n (owned_of Push mode.Normal (Some o) None same_name)
 
-    pub fix_seen : removed_of forced_fix ≡ record { destination = bstring_bytes n; spec = fetched Forced (bstring_bytes o) None }
-    fix_seen = refl
-
     -- fixes are the same if their specs only mean the same, and if the bytes of the destinations are equal. They differ if
     -- the specs differ in meaning, or the destinations differ
-    pub same_fixes : IsSameFix forced_fix (fix n) × (bstring_bytes n ≡ bstring_bytes m → IsSameFix (fix n) (fix m)) × ¬ (IsSameFix (fix n) push_fix) × (bstring_bytes n ≢ bstring_bytes m → ¬ (IsSameFix (fix n) (fix m)))
-    same_fixes = (record { destination = refl; spec = refl }, (λ same. record { destination = same; spec = refl }), (λ same. cc (same.spec)), λ differ same. differ same.destination)
+    pub same_fixes : (removed_of forced_fix ≡ record { destination = bstring_bytes n; spec = fetched Forced (bstring_bytes o) None }) × IsSameFix forced_fix (fix n)
+        × (bstring_bytes n ≡ bstring_bytes m → IsSameFix (fix n) (fix m)) × ¬ (IsSameFix (fix n) push_fix) × (bstring_bytes n ≢ bstring_bytes m → ¬ (IsSameFix (fix n) (fix m)))
+    same_fixes = (refl, record { destination = refl; spec = refl }, (λ same. record { destination = same; spec = refl }), (λ same. cc (same.spec)), λ differ same. differ same.destination)
 
 -- for a group with a spec for all branches and one without those that begin `dev-`
 module _ (g : MatchGroup) (items : List Item) (specs : readings_of g ≡ group) where

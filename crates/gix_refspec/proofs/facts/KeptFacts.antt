@@ -1,11 +1,10 @@
--- What a caller concludes from the laws on kept mappings: that a pair is kept, that one isn't, and by which spec and
--- item.
+-- What a caller concludes from the laws on kept mappings: whether a pair is kept, and by which spec and item.
 use Rattle.gix_refspec.proofs.Common.{rules, branch_and_tag, main_tag, main_ends, main_to_x, no_tags, no_other_first, not_excluded, tags_excluded, takes_the_tag, x_kind, named, empty_blob, below_tags}
 use Rattle.gix_refspec.proofs.Common.{blob, blob_kind, dev_ref, every, main_ref, no_dev, short_kind, tag_ref, blob_mapping, dev_excluded, main_stays, mapping, maps_all, only_dev, tracked, tracks_all}
 use Rattle.gix_refspec.proofs.Common.{◌≡◌, inl, inr, ℕ, zero, suc, List, [], ◌∷◌, ◌++◌, Option, None, Some, codes, refl, sym, ap, ◌∙◌, subst, arith, AllByRecursion, Any, Contains, slice_get, partial}
 use Rattle.gix_refspec.proofs.Common.{full_name, Ref, IsFirstCandidate, name, Mapped, HasPair, IsExcluded, AreKeptForward, AreKeptBackward, MakesForward, MakesBackward, PairsId, KeptExactly}
 use Rattle.gix_refspec.proofs.Common.{FirstStays, NothingExcluded, ForwardIndexes, IsValidated, ItemIndexesFit, Removed, same_Some, Reading, id, MakesForwardOf, MakesBackwardOf, MadeAtIndexes}
-use Rattle.gix_refspec.proofs.Common.{RemainsExactly, KeepsRefNames, LeftOut, TakesAt, Ends, of_element, AreBackwardEnds, IsPaired, Matches, AreForwardEnds, Takes}
+use Rattle.gix_refspec.proofs.Common.{RemainsExactly, KeepsRefNames, LeftOut, Ends, of_element, AreBackwardEnds, IsPaired, Matches, AreForwardEnds, Takes}
 use Rattle.gix_refspec.proofs.facts.RefNameFacts.{good, kept, no_ref_names, sides, to_bad}
 use Rattle.gix_refspec.proofs.facts.ValidationFacts.{unwritable, unequal}
 
@@ -60,7 +59,6 @@ tag_excluded = inr (inl (record { negative = refl; text = codes "refs/tags/*"; s
 pub pair_excluded : KeptExactly (main_to_x ∷ no_tags ∷ []) branch_and_tag → (kept : List Mapped) → AreKeptForward (main_to_x ∷ no_tags ∷ []) branch_and_tag kept → ¬ (HasPair kept tag_pair)
 pair_excluded law kept are has = ((law.forward kept are tag_pair).0 has).1 tag_excluded
 
--- in both directions: no list of kept mappings begins with one whose source is excluded
 pub none_of_a_tag : (items : List Ref) → NothingExcluded (main_to_x ∷ no_tags ∷ []) items → (rest : List Mapped) → ¬ (AreKeptForward (main_to_x ∷ no_tags ∷ []) items (tag_pair ∷ rest)) × ¬ (AreKeptBackward (main_to_x ∷ no_tags ∷ []) items (tag_pair ∷ rest))
 none_of_a_tag items law rest = ((λ are. (law.names (tag_pair ∷ rest) (inl are)).0 tag_excluded), λ are. (law.names (tag_pair ∷ rest) (inr are)).0 tag_excluded)
 
@@ -169,7 +167,6 @@ good_remains g law rest fixes valid = (
   λ has. unwritable (codes "main") refl refl ((law.validated rest fixes valid to_partial).0 has).1,
 )
 
--- and after a check of names, one to an invalid ref name doesn't
 pub named_remains : (g : List Reading) → RemainsExactly g (kept ∷ to_bad ∷ []) → (rest : List Mapped) (out : List LeftOut) → KeepsRefNames (kept ∷ to_bad ∷ []) rest out → Contains rest kept × ¬ (Contains rest to_bad)
 named_remains g law rest out keeps = ((law.named rest out keeps kept).1 ((0, omega arith, refl), sides.0), λ has. no_ref_names.2 ((law.named rest out keeps to_bad).0 has).1.destination)
 

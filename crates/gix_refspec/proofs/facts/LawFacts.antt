@@ -1,5 +1,4 @@
--- Examples of the definitions that only laws use: which specs go both ways, what a covering source covers, what a
--- canonical text reads as, and the expansion of a group.
+-- Examples of the definitions that only laws use: on directions, covering sources, canonical texts and expansions.
 use Rattle.gix_refspec.proofs.Common.{below_heads, covering, not_covering, Lacks-tested, IsPattern-tested, named, no_sign, begins_not, empty_blob, IsIdText-empty_blob, lower_of-empty_blob}
 use Rattle.gix_refspec.proofs.Common.{HasIdFault-length, every, no_dev, short, short_kind, push_is_none, mapping, tracked, fetches_all_but_dev, tracks_all_but_dev, tracks_nothing, tag_to_x}
 use Rattle.gix_refspec.proofs.Common.{tag_to_foo, tag_alone, ◌≡◌, ◌≢◌, ◌⊎◌, ◌<◌, ℕ, List, [], ◌∷◌, Option, None, Some, length, codes, refl, sym, ap, ◌∙◌, subst, inl, inr, arith, Push, Fetch}
@@ -152,7 +151,6 @@ pub one_answer : (OneForward group remote_refs → (l : List Mapped) → AreKept
     × (OneWord (codes "a") [] (codes "ab") → (word : List ℕ) → Fits (codes "a") [] (codes "ab") word → word ≡ codes "b")
 one_answer = ((λ law l kept. law l _ kept fetches_all_but_dev), (λ law l kept. law l _ kept tracks_all_but_dev), (λ g items law l m forward back. (law l (inl forward), law m (inr back))), λ law word fits. law word (codes "b") fits refl)
 
--- after a validation each destination has one source, and no two mappings from items have the same destination
 pub validated_apart : ValidatedOnce both_to_x remote_refs → DestinationsHaveOneSource (tag_to_x ∷ tag_alone ∷ []) × (AreKeptForward both_to_x remote_refs (tag_to_x ∷ tag_to_foo ∷ tag_alone ∷ []) → HaveDistinctDestinations (tag_to_x ∷ tag_alone ∷ []))
 validated_apart law = law _ _ (foo_fix ∷ []) validated
 
@@ -173,7 +171,7 @@ candidates_asked law = let all = law short_kind.1 main_not_head short_kind.2 sho
 pub matched_asked : HasCandidates (codes "main") → (r : Ref) (word : Option (List ℕ)) → Matches (codes "main") r word ⊎ Takes (r ∷ []) (codes "main") r word → IsCandidate (codes "main") r.name
 matched_asked law r word by = by_cases by (λ matches. (law.matches r).0 (word, matches)) (λ takes. (law.takes r).0 (word, takes))
 
--- the id of the empty blob is that of its text alone, without a fault, and prints as it
+-- a text of another length isn't an id and has one fault; the id of the empty blob is that of its text alone, and prints as it
 pub one_id : IdOrFault (codes "e69de29bb2d1d6434b8b29ae775ad8c2e48c5391") → ((i : List ℕ) → IsIdText (codes "e69de29bb2d1d6434b8b29ae775ad8c2e48c5391") i → i ≡ empty_blob) × ((e : IdError) → ¬ (HasIdFault (codes "e69de29bb2d1d6434b8b29ae775ad8c2e48c5391") e))
 one_id (inl one) = ((λ i text. one.only i text ∙ sym (one.only empty_blob IsIdText-empty_blob)), one.sound)
 one_id (inr fault) = absurd (fault.unread empty_blob IsIdText-empty_blob)

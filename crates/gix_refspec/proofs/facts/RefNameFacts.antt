@@ -1,5 +1,4 @@
--- Examples of the definitions on ref names, for mappings with valid and invalid ones, and what a caller concludes from
--- their law.
+-- Examples of the definitions on ref names, valid and invalid, and what a caller concludes from their law.
 use Rattle.gix_refspec.proofs.Common.{nothing_made, mapping, ◌≡◌, inl, inr, ℕ, List, [], ◌∷◌, ◌++◌, None, Some, codes, refl, AllByRecursion, RepeatedDot, InvalidMapping, Reading, Ref, id, Mapped}
 use Rattle.gix_refspec.proofs.Common.{mapped_of, AreKeptForward, ForwardIndexes, IndexesFit, IsValidated, Removed, AreLeftOut, HaveRefNames, IsInvalidAt, IsLeftOut, HasRefNames, IsValidDestination}
 use Rattle.gix_refspec.proofs.Common.{IsValidSource, IsRefName, KeepsRefNames, LeftOut, StaysAmongRefs, WritesRefs, left_out_of, true, false, IsTrue, list_all, list_any, IsName, is_plain_component}
@@ -12,7 +11,6 @@ use Rattle.gix_refspec_text.proofs.{lemmas.texts.TestedLemmas.IsName-tested, fac
 pub ref_names : IsRefName (codes "refs/heads/main") × IsRefName (codes "HEAD")
 ref_names = (inl (search rules, IsName-tested (codes "refs/heads/main") refl), inr refl)
 
--- not a name outside `refs/`, nor a text with a fault
 pub no_ref_names : ¬ (IsRefName (codes "main")) × ¬ (IsRefName (codes "HEADS")) × ¬ (IsRefName (codes "refs/../x"))
 no_ref_names = (
   (λ ref. search rules),
@@ -65,7 +63,7 @@ parted = record {
       Some kept,
       [],
       (refl, sides.0),
-      (None, [], (λ m made. bad_unnamed Destination to_bad sides.2 made.1), (None, [], (λ m made. bad_unnamed Both all_bad sides.3 made.1), refl, refl), refl),
+      (None, [], (λ m made. bad_unnamed Destination to_bad sides.2 made.1), search (rules, no_ref_names.2), refl),
       refl,
     ),
     refl,

@@ -1,5 +1,4 @@
--- Examples of the definitions on validation, for mappings to one destination and to others: their conflicts, survivors
--- and fixes.
+-- Examples of the definitions on validation, for mappings to one destination and to others.
 use Rattle.gix_refspec.proofs.Common.{nothing_made, none_some, of_element, mapping, tag_to_x, branch_to_x, tag_again, tag_to_foo, tag_alone, ◌≡◌, ◌⊎◌, ℕ, List, [], ◌∷◌, None, Some, codes, refl, sym}
 use Rattle.gix_refspec.proofs.Common.{◌∙◌, inl, inr, arith, Contains, IsStrictlySortedBy, Normal, Forced, Reading, fetched, name, Mapped, IndexesFit, HasConflictAt, IsFirstTo, IsTextAt, Conflict}
 use Rattle.gix_refspec.proofs.Common.{IsConflict, AreConflicts, IsWritable, Survives, AreSurvivors, Removed, IsFix, AreFixes, IsValidated, DestinationsHaveOneSource, ShareDestination}
@@ -128,11 +127,9 @@ pub meet : DestinationsHaveOneSource (tag_to_x ∷ tag_again ∷ []) × ¬ (Dest
 unfolding at_x
 meet = (search rules, (λ one. at_x.differ (one tag_to_x branch_to_x (codes "refs/x/a") at_x.has_one at_x.has_other refl refl)), search rules, λ never. search rules)
 
--- the text at an index is that of the spec there, and there is none after the last
 pub texts_at : IsTextAt both_to_x 0 (codes "refs/tags/*:refs/x/*") × IsTextAt (fetched Forced (codes "main") None ∷ []) 0 (codes "main") × ¬ (IsTextAt both_to_x 1 (codes "refs/tags/*:refs/x/*")) × ((text : List ℕ) → ¬ (IsTextAt both_to_x 2 text))
 texts_at = ((tags_to_x, refl, refl), (fetched Forced (codes "main") None, refl, refl), (λ (r, is, prints). search rules), λ text (r, is, prints). cc)
 
--- a destination with several sources is listed as a conflict, and so there is no validation
 pub no_less : ¬ (AreConflicts both_to_x meeting []) × ((rest : List Mapped) (fixes : List Removed) → ¬ (IsValidated both_to_x meeting rest fixes))
 no_less = (listed, λ rest fixes is. listed is.free)
   where
