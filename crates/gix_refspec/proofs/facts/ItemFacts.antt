@@ -18,10 +18,7 @@ branches_part : ArePart remote_refs branches
 branches_part item = search rules
 
 pub parts : ArePart remote_refs branches × ¬ (ArePart (dev_ref ∷ []) branches) × ¬ (ArePart [] (main_ref ∷ []))
-parts = (branches_part, (λ part. lacks_main (search rules)), λ part. of_element (λ r. ⊥) [] main_ref tt (search rules))
-  where
-    lacks_main : ¬ (Contains (dev_ref ∷ []) main_ref)
-    lacks_main has = search rules
+parts = (branches_part, (λ part. let there : Contains (dev_ref ∷ []) main_ref = part main_ref (search rules) in search rules), λ part. of_element (λ r. ⊥) [] main_ref tt (search rules))
 
 main_alone : ¬ (Contains (main_ref ∷ []) dev_ref)
 main_alone has = search rules
@@ -31,17 +28,11 @@ takes_main refs = let hit = taken_by refs 0 0 (codes "main") in record { ends = 
 
 -- the spec takes the branch and no tag, and a negative one takes nothing
 pub taken : TakesItem AreForwardEnds (Takes remote_refs) main_ref every × ¬ (TakesItem AreForwardEnds (Takes remote_refs) tag_ref every) × ¬ (TakesItem AreForwardEnds (Takes remote_refs) main_ref no_dev)
-taken = (takes_main remote_refs, no_tag_taken, λ taken. taken.has.positive)
-  where
-    no_tag_taken : ¬ (TakesItem AreForwardEnds (Takes remote_refs) tag_ref every)
-    no_tag_taken taken = takes_no_tag remote_refs 1 _ (record {
-      word = taken.word;
-      takes = search rules;
-      far = (pattern (codes "refs/remotes/origin/") [], origin_split, refl);
-      near = refl;
-      spec = refl;
-      item = refl;
-    })
+taken = (
+  takes_main remote_refs,
+  (λ taken. takes_no_tag remote_refs 1 _ (record { word = taken.word; takes = search rules; far = (pattern _ [], origin_split, refl); near = refl; spec = refl; item = refl })),
+  λ taken. taken.has.positive,
+)
 
 no_tag_by_some : ¬ (Any (TakesItem AreForwardEnds (Takes remote_refs) tag_ref) group)
 no_tag_by_some (zero, r, below, is, by) = taken.1 (rw (← is) at by)
@@ -52,11 +43,8 @@ no_tag_by_some (suc (suc k), r, below, is, by) = omega (arith, below)
 pub may_leave_out : HasTaken AreForwardEnds (Takes remote_refs) group remote_refs branches × ¬ (HasTaken AreForwardEnds (Takes branch_and_tag) (main_to_x ∷ []) branch_and_tag (main_branch ∷ []))
 may_leave_out = (
   (λ item. search (rules, no_tag_by_some)),
-  λ has. no_tag (has main_tag (1, omega arith, refl) (0, main_to_x, omega arith, refl, record { ends = main_ends; has = record { positive = tt; near = refl; far = refl; no_object = λ bytes kind. short_no_id bytes kind.2 }; word = None; takes = takes_the_tag.0 })),
+  λ has. let there : Contains (main_branch ∷ []) main_tag = has main_tag (1, omega arith, refl) (0, main_to_x, omega arith, refl, record { ends = main_ends; has = record { positive = tt; near = refl; far = refl; no_object = λ bytes kind. short_no_id bytes kind.2 }; word = None; takes = takes_the_tag.0 }) in search rules,
 )
-  where
-    no_tag : ¬ (Contains (main_branch ∷ []) main_tag)
-    no_tag has = search rules
 
 pub same_pairs : HaveSamePairs (tracked 2 (codes "main") ∷ []) (tracked 5 (codes "main") ∷ tracked 3 (codes "main") ∷ []) × ¬ (HaveSamePairs (tracked 2 (codes "main") ∷ []) []) × ¬ (HaveSamePairs [] (tracked 2 (codes "main") ∷ []))
 same_pairs = ((λ pair. search rules), (λ same. (same (tracked 2 (codes "main"))).0 (search rules)), λ same. (same (tracked 2 (codes "main"))).1 (search rules))

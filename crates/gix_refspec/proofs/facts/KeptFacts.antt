@@ -81,10 +81,10 @@ pair_back law kept are = (law.backward kept are branch_pair).1 ((0, main_to_x, o
 
 -- the spec makes the pair of the id that it asks for, and no item
 pub id_without_item : (items : List Ref) → MakesForwardOf items None (id empty_blob) (Some (codes "refs/tags/blob")) blob × ¬ (MakesForwardOf items (Some 0) (id empty_blob) (Some (codes "refs/tags/blob")) blob) × PairsId empty_blob (Some (codes "refs/tags/blob")) blob
-id_without_item items = ((refl, paired), (λ made. cc (made.0)), paired)
-  where
-    paired : PairsId empty_blob (Some (codes "refs/tags/blob")) blob
-    paired = record { positive = tt; text = codes "e69de29bb2d1d6434b8b29ae775ad8c2e48c5391"; side = refl; object = blob_kind; becomes = (full_name (codes "refs/tags/blob"), below_tags, refl) }
+id_without_item items =
+    let paired : PairsId empty_blob (Some (codes "refs/tags/blob")) blob =
+    record { positive = tt; text = codes "e69de29bb2d1d6434b8b29ae775ad8c2e48c5391"; side = refl; object = blob_kind; becomes = (full_name (codes "refs/tags/blob"), below_tags, refl) } in
+    ((refl, paired), (λ made. cc (made.0)), paired)
 
 pub id_there : (items : List Ref) → KeptExactly (blob ∷ []) items → (kept : List Mapped) → AreKeptForward (blob ∷ []) items kept → HasPair kept blob_mapping
 id_there items law kept are = (law.forward kept are blob_mapping).1 ((0, blob, omega arith, refl, (id_without_item items).2), λ none. none)
