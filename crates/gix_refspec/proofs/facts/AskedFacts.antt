@@ -37,20 +37,17 @@ lists_at_brackets = (
   no_list (codes "refs/a]*") (codes "refs/a]") [] bracket_split (λ tells. search rules),
 )
 
-every_lists : Lists every (codes "refs/heads/" ∷ [])
-every_lists = inr (codes "refs/heads/*", search rules, lists_of_sides.0)
-
 -- the list of a negative spec is empty, and a push without a destination has none
 pub lists_of_specs : Lists every (codes "refs/heads/" ∷ []) × Lists no_dev [] × ((list : List (List ℕ)) → ¬ (Lists (pushed Normal (Some (codes "main")) None) list))
-lists_of_specs = (every_lists, inl (refl, refl), λ list lists. search rules)
+lists_of_specs = (inr (codes "refs/heads/*", search rules, lists_of_sides.0), inl (refl, refl), λ list lists. search rules)
 
 pub lists_of_groups : ListsGroup (fetched Normal (codes "main") None ∷ no_dev ∷ every ∷ []) (candidates (codes "main") ++ codes "refs/heads/" ∷ [])
-lists_of_groups = (_, _, inr (codes "main", search rules, lists_of_sides.1), ([], _, lists_of_specs.1, (_, [], every_lists, refl, refl), refl), refl)
+lists_of_groups = (_, _, inr (codes "main", search rules, lists_of_sides.1), ([], _, lists_of_specs.1, (_, [], lists_of_specs.0, refl, refl), refl), refl)
 
 pub none_for_all : HasNoList (every ∷ fetched Normal (codes "refs/*") (Some (codes "refs/x/*")) ∷ []) × ¬ (HasNoList (every ∷ []))
 none_for_all = (
   (1, fetched Normal (codes "refs/*") (Some (codes "refs/x/*")), omega arith, refl, λ list lists. by_cases lists (λ negative. cc (negative.0)) (λ asked. (no_lists_of_sides list).0 (rw (← same_Some (codes "refs/*") asked.0 asked.1.side) at asked.2))),
-  λ none. of_one (λ r. (list : List (List ℕ)) → ¬ (Lists r list)) every none (codes "refs/heads/" ∷ []) every_lists,
+  λ none. of_one (λ r. (list : List (List ℕ)) → ¬ (Lists r list)) every none (codes "refs/heads/" ∷ []) lists_of_specs.0,
 )
 
 -- if the list serves, no tag is a source, over any items

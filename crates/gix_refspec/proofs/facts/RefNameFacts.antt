@@ -50,10 +50,8 @@ pub left_out_seen : (b : InvalidMapping) → ((left_out_of b).mapping ≡ mapped
 left_out_seen b = (refl, refl)
 
 -- one of four is kept, and the others are listed in order, each with its side
-abbrev left : List LeftOut
-left = record { mapping = from_bad; side = Source } ∷ record { mapping = to_bad; side = Destination } ∷ record { mapping = all_bad; side = Both } ∷ []
-
-pub parted : KeepsRefNames (from_bad ∷ kept ∷ to_bad ∷ all_bad ∷ []) (kept ∷ []) left
+pub parted : KeepsRefNames (from_bad ∷ kept ∷ to_bad ∷ all_bad ∷ []) (kept ∷ [])
+    (record { mapping = from_bad; side = Source } ∷ record { mapping = to_bad; side = Destination } ∷ record { mapping = all_bad; side = Both } ∷ [])
 parted = record {
   named = (
     None,
