@@ -49,6 +49,7 @@ pub use Rattle.gix_refspec_match.specs.declared.types.Mapping.{Mapping}
 pub use Rattle.gix_refspec_match.specs.declared.types.NameRef.{NameRef}
 pub use Rattle.gix_refspec_match.proofs.lemmas.duplicates.FlagLemmas.{ok_weaker, some_element}
 pub use Rattle.gix_refspec_match.proofs.lemmas.hits.HitLemmas.{matches_as, one_forward, one_kind, same_side}
+pub use Rattle.gix_refspec_match.proofs.lemmas.keep.KeptPairLemmas.{Any-HasPair, HasPair-Any, IsOfPair}
 pub use Rattle.gix_refspec_match.proofs.lemmas.lists.JoinLemmas.{made_more, made_next, nothing_made}
 pub use Rattle.gix_refspec_match.proofs.lemmas.lists.SomeLemmas.{MakesOnly, any_made, made_any, some_at, some_of}
 pub use Rattle.gix_refspec.specs.Matching.RefNames.{IsRefName, IsValidSource}

@@ -1,4 +1,3 @@
--- the origins of the missing sources so far
 use Rattle.gix_refspec_plan.proofs.Common.{map, take, IsMadeFrom, asked_of}
 use Rattle.gix_refspec_plan.proofs.lemmas.plan.LackingLemmas.{Origins}
 use Rattle.gix_refspec_plan.proofs.missing_of.Given as goal

@@ -1,4 +1,3 @@
--- none of the updates so far is in conflict
 use Rattle.gix_refspec_plan.proofs.Common.{◌≢◌, All, take, InConflict}
 use Rattle.gix_refspec_plan.proofs.Plan.is_carried_out.Given as goal
 

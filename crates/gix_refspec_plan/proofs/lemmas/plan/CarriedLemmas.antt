@@ -6,8 +6,6 @@ use Rattle.gix_refspec_plan.proofs.Common.{IsRequired, All-contains, InConflict,
 use Rattle.gix_refspec_plan.proofs.lemmas.plan.MadeLemmas.{made_from, made_has, nothing_in, one_in}
 use Rattle.gix_refspec_plan.proofs.lemmas.plan.OpposedLemmas.{in_conflict, opposed}
 
--- ---- the specs that are asked for
-
 -- a spec with this reading, whose source has to be there
 abbrev IsAskedWith : List Asked → Reading → Type 0
 IsAskedWith asked r = (a : Asked) × Contains asked a × ((a.reading ≡ r) × ¬ (MayBeMissing a.origin))
@@ -51,20 +49,14 @@ required_asked wish refs asked r (AreAsked.by_call given some those is) (IsRequi
 required_asked wish refs asked r (AreAsked.by_call given some those is) (IsRequired.by_configuration none has) = absurd (some none)
 required_asked wish refs asked r (AreAsked.by_call given some those is) (IsRequired.by_default none empty alone same) = absurd (some none)
 required_asked wish refs asked r (AreAsked.without configured none are is) (IsRequired.by_call has) = absurd (nothing_in wish.given r none has)
-required_asked wish refs asked r (AreAsked.without all none are is) (IsRequired.by_configuration also has) = with_more all (tags_asked wish.tags) asked r is (by are)
-  where
-    by : AreConfigured wish refs all → IsAskedWith all r
-    by (AreConfigured.by_configuration configured merges some those uncovered joined) = with_more configured merges all r joined (those_have Configured wish.configured configured r (λ k may. may) those has)
-    by (AreConfigured.by_default empty alone same) = absurd (nothing_in wish.configured r empty has)
-required_asked wish refs asked r (AreAsked.without all none are is) (IsRequired.by_default also empty alone same) = with_more all (tags_asked wish.tags) asked r is (by are)
-  where
-    by : AreConfigured wish refs all → IsAskedWith all r
-    by (AreConfigured.by_configuration configured merges some those uncovered joined) = absurd (elim some [ inl has ↦ has empty | inr has ↦ has alone ])
-    by (AreConfigured.by_default none_configured none_merged only) = (
-      record { reading = fetched_alone head; origin = Default },
-      subst (λ (l : List Asked). Contains l (record { reading = fetched_alone head; origin = Default })) (sym only) (0, omega arith, refl),
-      (sym same, λ may. may),
-    )
+required_asked wish refs asked r (AreAsked.without all none are is) (IsRequired.by_configuration also has) = with_more all (tags_asked wish.tags) asked r is (elim are [
+  | AreConfigured.by_configuration configured merges some those uncovered joined ↦ with_more configured merges all r joined (those_have Configured wish.configured configured r (λ k may. may) those has)
+  | AreConfigured.by_default empty alone same ↦ absurd (nothing_in wish.configured r empty has)
+])
+required_asked wish refs asked r (AreAsked.without all none are is) (IsRequired.by_default also empty alone same) = with_more all (tags_asked wish.tags) asked r is (elim are [
+  | AreConfigured.by_configuration configured merges some those uncovered joined ↦ absurd (elim some [ inl has ↦ has empty | inr has ↦ has alone ])
+  | AreConfigured.by_default none_configured none_merged only ↦ (record { reading = fetched_alone head; origin = Default }, rw only (0, omega arith, refl), (sym same, λ may. may))
+])
 
 -- a spec whose source has to be there is required, or it is that for all tags
 asked_required : (wish : Wish) (refs : List Ref) (asked : List Asked) (a : Asked) → AreAsked wish refs asked → Contains asked a → ¬ (MayBeMissing a.origin) → IsRequired wish a.reading ⊎ (a.reading ≡ all_tags)
@@ -80,8 +72,6 @@ asked_required wish refs asked a (AreAsked.without all none are is) has stays =
         let cases = Contains-append_cases configured merges a (subst (λ (l : List Asked). Contains l a) joined inside) in
         search (rules, cases, those_are Configured wish.configured configured a those, merges_may wish refs merges a uncovered)
     by (AreConfigured.by_default none_configured none_merged only) inside = IsRequired.by_default none none_configured none_merged (ap (λ (x : Asked). x.reading) (one_in _ a (subst (λ (l : List Asked). Contains l a) only inside)))
-
--- ---- whether the plan is carried out
 
 module _ (wish : Wish) (refs : List Ref) (planned : List Planned) (missing : List Origin) (plan : IsPlan wish refs planned missing) where
   -- a spec whose source is missing is told, unless it may be missing

@@ -86,8 +86,6 @@ copied_next all old new fetched i place b (long, so_far) here told more = (
   ],
 )
 
--- ---- the names of local refs, one by one
-
 -- what is none of the names of a side isn't its text
 pub no_side : (side : Option NameRef) → ((x : NameRef) → side ≢ Some x) → (n : List ℕ) → option_map name_bytes side ≢ Some n
 no_side None none n same = cc (same)

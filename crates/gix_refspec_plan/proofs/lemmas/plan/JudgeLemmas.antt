@@ -3,16 +3,14 @@ use Rattle.gix_refspec_plan.proofs.Common.{◌≡◌, ◌⊎◌, inl, inr, ◌�
 use Rattle.gix_refspec_plan.proofs.Common.{length-append, map, take, drop, get_or, append-nil, refl, sym, ap, ◌∙◌, subst, arith, rules, BTreeMap, is_at, lookup, slice_cmp, nat_cmp, AllByRecursion, AllZip}
 use Rattle.gix_refspec_plan.proofs.Common.{Contains, slice_get, drop-append_seam, take-append-add, take-append_seam, false≢true, get_or-append-add, get_or-map, get_or_default, length-map, map-append}
 use Rattle.gix_refspec_plan.proofs.Common.{take_more, All-from_recursion, slice_get-map, slice_get_read, DeclaredAsked, Origin, Update, Verdict, Mapping, Ref, IsMadeFrom, AreApart, HasPair, IsSamePair}
-use Rattle.gix_refspec_plan.proofs.Common.{Mapped, FlagsDuplicates, IsDuplicate, IsFlagged, IsMappingCopy, mapped_of, AreAsked, AreLacking, AreMapped, Asked, HasOrigin, HasSecondVerdict, HasVerdict}
-use Rattle.gix_refspec_plan.proofs.Common.{IsCompleted, IsPlan, IsPlanned, IsPlannedBesides, IsTracked, Planned, Wish, AreFirst, AreJudged, AreMappings, AreSecond, CountDestinations, FlagKnown, IsCount}
-use Rattle.gix_refspec_plan.proofs.Common.{planned_by, asked_of, planned_of, copied_mapping, each_mapped, Overruled}
+use Rattle.gix_refspec_plan.proofs.Common.{Mapped, FlagsDuplicates, IsDuplicate, IsFlagged, IsMappingCopy, mapped_of, AreMapped, Asked, HasOrigin, HasSecondVerdict, HasVerdict, IsCompleted, IsPlanned}
+use Rattle.gix_refspec_plan.proofs.Common.{IsPlannedBesides, IsTracked, Planned, Wish, AreFirst, AreJudged, AreMappings, AreSecond, CountDestinations, FlagKnown, IsCount, planned_by, asked_of, planned_of}
+use Rattle.gix_refspec_plan.proofs.Common.{copied_mapping, each_mapped, Overruled}
 use Rattle.gix_refspec_match.proofs.lemmas.keep.KeptLemmas.{HasPair-left, by_pair, duplicate_at, kept_once}
 use Rattle.gix_refspec_match.proofs.lemmas.keep.RepeatLemmas.{some_mapping}
 use Rattle.gix_refspec.proofs.lemmas.validate.AfterLemmas.{forward_fits}
 use Rattle.gix_refspec_plan.proofs.lemmas.plan.NameLemmas.{zip_at, zip_long, zip_more}
 use Rattle.gix_refspec_plan.proofs.lemmas.plan.MadeLemmas.{made_one, made_none}
-
--- ---- one mapping of a list
 
 module _ (ms : List Mapping) (i : ℕ) (m : Mapping) (below : i < length ms) (is : m ≡ get_or ms i m) where
   mapped_here : (d : Mapped) → get_or (map mapped_of ms) i d ≡ mapped_of m
@@ -54,8 +52,6 @@ verdict_next ms i m l old new v below is so_far judged more =
     rw (take_more ms i m below, more, map-append)
     (zip_more (HasVerdict l) (map mapped_of (take i ms)) old (mapped_of (get_or ms i m)) v so_far (subst (λ (x : Mapping). HasVerdict l (mapped_of x) v) is (only_verdict l (mapped_of m) v judged)))
 
--- ---- one more update
-
 module _ (ms : List Mapping) (i : ℕ) (m : Mapping) (old : List Update) (below : i < length ms) (is : m ≡ get_or ms i m) (asked : List Asked) (indexes : List ℕ) (firsts l : List Mapped)
     (so_far : IsMadeFrom (λ k x p. IsPlannedBesides asked indexes firsts l x p) 0 (map mapped_of (take i ms)) (map planned_of old))
     (flags : List Bool) (n : ℕ) (known : IsFlagged flags n ↔ HasPair firsts (mapped_of m)) (b : Bool) (told : IsTrue b ↔ (IsSome (mapped_of m).destination × ¬ (IsFlagged flags n))) where
@@ -89,8 +85,6 @@ first_more ms xs m asked verdicts old new u o n e (below, is) (so_far, long) all
 pub planned_copy : (m copy : Mapping) (u : Update) (item : Option ℕ) (o : Origin) (v : Verdict) → IsMappingCopy m copy → planned_of u ≡ planned_by (mapped_of copy) item o v → planned_of u ≡ planned_by (mapped_of m) item o v
 planned_copy m copy u item o v copied same = same ∙ ap (λ (x : Mapped). planned_by x item o v) (copied_mapping m copy copied)
 
--- ---- pairs that are known
-
 pair_cases : (xs ys : List Mapped) (m : Mapped) → HasPair (xs ++ ys) m → HasPair xs m ⊎ HasPair ys m
 pair_cases [] ys m has = inr has
 pair_cases (x ∷ xs) ys m has = search (rules, pair_cases xs ys m)
@@ -115,8 +109,6 @@ flag_known xs ys flags apart flagged k d below =
     let before = apart_before (map mapped_of ys) k m apart below (get_or_default (map mapped_of ys) k m d below) in
     search (rules, flagged n, told, pair_cases (map mapped_of xs) (take k (map mapped_of ys)) m, before, HasPair-left (map mapped_of xs) (take k (map mapped_of ys)) m)
 
--- ---- the mappings of specs
-
 pub mappings_of : (asked : List Asked) (refs : List Ref) (l : List Mapped) → AreMapped asked refs l → AreMappings asked l
 mappings_of asked refs l mapped = record {
   fit = subst (λ (n : ℕ). AllByRecursion (λ m. m.spec < n) l) (sym (zip_long IsCompleted (map (λ a. a.reading) asked) mapped.completed mapped.are) ∙ length-map asked (λ a. a.reading)) (forward_fits mapped.completed refs l mapped.kept);
@@ -127,14 +119,9 @@ pub tracked_mappings : (wish : Wish) (refs : List Ref) (asked : List Asked) (ind
 tracked_mappings wish refs asked indexes l (IsTracked.by_call positive negative taken some are_positive are_negative all are_taken mapped) = mappings_of asked taken l mapped
 tracked_mappings wish refs asked indexes l (IsTracked.nothing none no_specs no_indexes no_mappings) = subst (AreMappings asked) (sym no_mappings) (record { fit = tt; apart = tt })
 
--- ---- both lists
-
 -- two lists that are joined and split again
 pub split_again : (xs ys all fs bs : List Mapping) (n : ℕ) → all ≡ xs ++ ys → n ≡ length xs → fs ≡ take n all → bs ≡ drop n all → (fs ≡ xs) × (bs ≡ ys)
-split_again xs ys all fs bs n whole at front back = (
-  front ∙ ap (λ (k : ℕ). take k all) at ∙ ap (take (length xs)) whole ∙ take-append_seam xs ys,
-  back ∙ ap (λ (k : ℕ). drop k all) at ∙ ap (drop (length xs)) whole ∙ drop-append_seam xs ys,
-)
+split_again xs ys all fs bs n whole at front back = (cc (take-append_seam xs ys), cc (drop-append_seam xs ys))
 
 pub judged_of : (asked tracking : List Asked) (indexes : List ℕ) (xs ys fs bs : List Mapping) (before behind new : List Update) → (fs ≡ xs) × (bs ≡ ys)
     → AreFirst asked (map mapped_of xs) (map planned_of before) → AreSecond tracking indexes (map mapped_of fs) (map mapped_of bs) (map planned_of behind) → new ≡ before ++ behind
@@ -142,10 +129,6 @@ pub judged_of : (asked tracking : List Asked) (indexes : List ℕ) (xs ys fs bs 
 judged_of asked tracking indexes xs ys fs bs before behind new (first, second) are_before are_behind joined =
     let seconds = rw (first, second) at are_behind in
     record { before = map planned_of before; behind = map planned_of behind; are_before = are_before; are_behind = seconds; all = ap (map planned_of) joined ∙ map-append planned_of before behind }
-
--- the front of two lists that were joined
-pub front_again : (xs ys all fs : List Mapping) (n : ℕ) → all ≡ xs ++ ys → n ≡ length xs → fs ≡ take n all → fs ≡ xs
-front_again xs ys all fs n whole at front = (split_again xs ys all fs (drop n all) n whole at front refl).0
 
 -- without a second list
 pub judged_alone : (asked tracking : List Asked) (indexes : List ℕ) (firsts : List Mapped) (ys : List Mapping) (new : List Planned) → ys ≡ [] → AreFirst asked firsts new
@@ -158,8 +141,3 @@ pub known_of : (xs ys fs bs all : List Mapping) (flags given : List Bool) → (f
     → FlagKnown (map mapped_of fs) (map mapped_of bs) given
 known_of xs ys fs bs all flags given (first, second) whole same apart flagged =
     rw (first, second, same) (flag_known xs ys flags apart (subst (λ (l : List Mapping). FlagsDuplicates by_pair l flags) whole flagged))
-
--- the plan from its parts
-pub plan_of : (wish : Wish) (refs : List Ref) (asked : List Asked) (firsts : List Mapped) (tracking : List Asked) (indexes : List ℕ) (seconds : List Mapped) (planned : List Planned) (missing : List Origin)
-    → AreAsked wish refs asked → AreMapped asked refs firsts → IsTracked wish refs tracking indexes seconds → AreJudged asked firsts tracking indexes seconds planned → AreLacking refs asked missing → IsPlan wish refs planned missing
-plan_of wish refs asked firsts tracking indexes seconds planned missing are_asked are_firsts are_seconds judged lacks = search rules

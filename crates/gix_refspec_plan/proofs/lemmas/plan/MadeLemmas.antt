@@ -38,8 +38,6 @@ made_exactly {X} {Y} R once xs ys made y = (
   (λ (x, inside, makes). let (z, has, same) = made_has (λ k x z. R x z) (λ z. z ≡ y) 0 xs ys x made inside (λ k. (y, makes)) (λ k z also. once x y z makes also) in subst (λ (z : Y). Contains ys z) same has),
 )
 
--- ---- one more element of a list of Rust values
-
 module _ {A B X Y : Type 0} (R : ℕ → X → Y → Type 0) (f : A → X) (h : B → Y) (xs : List A) (i : ℕ) (x : A) (old : List B) (below : i < length xs) (is : x ≡ get_or xs i x)
     (so_far : IsMadeFrom R 0 (map f (take i xs)) (map h old)) where
   -- of which one more value is made; of which nothing is

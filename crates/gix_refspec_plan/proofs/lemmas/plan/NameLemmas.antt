@@ -1,17 +1,14 @@
 -- Lists that are related element by element.
-use Rattle.gix_refspec_plan.proofs.Common.{◌≡◌, ℕ, zero, suc, ◌+◌, ◌<◌, List, [], ◌∷◌, ◌++◌, length, map, take, get_or, refl, sym, ap, ◌∙◌, subst, arith, AllZip, get_or-map, length-map, map-append}
+use Rattle.gix_refspec_plan.proofs.Common.{◌≡◌, ℕ, zero, suc, ◌+◌, ◌<◌, List, [], ◌∷◌, ◌++◌, length, map, take, get_or, sym, ◌∙◌, subst, arith, AllZip, get_or-map, length-map, map-append}
 use Rattle.gix_refspec_plan.proofs.Common.{take_more, rules}
+use Rattle.std.proofs.lemmas.Slice.Zip.{AllZip-long, all_zipped_more}
 
 -- one more pair of a zip
 pub zip_more : {X Y : Type 0} (R : X → Y → Type 0) (xs : List X) (ys : List Y) (x : X) (y : Y) → AllZip R xs ys → R x y → AllZip R (xs ++ x ∷ []) (ys ++ y ∷ [])
-zip_more R [] [] x y all here = (here, tt)
-zip_more R (w ∷ xs) (z ∷ ys) x y all here = (all.0, zip_more R xs ys x y all.1 here)
-zip_more R xs ys x y all here = absurd all
+zip_more R xs ys x y all here = all_zipped_more R xs ys x y all here
 
 pub zip_long : {X Y : Type 0} (R : X → Y → Type 0) (xs : List X) (ys : List Y) → AllZip R xs ys → length xs ≡ length ys
-zip_long R [] [] all = refl
-zip_long R (x ∷ xs) (y ∷ ys) all = ap suc (zip_long R xs ys all.1)
-zip_long R xs ys all = absurd all
+zip_long R xs ys all = sym (AllZip-long R xs ys all)
 
 pub zip_at : {X Y : Type 0} (R : X → Y → Type 0) (xs : List X) (ys : List Y) (i : ℕ) (d : X) (e : Y) → AllZip R xs ys → i < length xs → R (get_or xs i d) (get_or ys i e)
 zip_at R (x ∷ xs) (y ∷ ys) zero d e all below = all.0

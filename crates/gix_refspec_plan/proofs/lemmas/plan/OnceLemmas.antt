@@ -1,11 +1,9 @@
 -- No ref is written twice.
 use Rattle.gix_refspec_plan.proofs.Common.{◌≡◌, ℕ, ◌+◌, List, [], ◌∷◌, ◌++◌, None, Some, get_or, refl, sym, ◌∙◌, subst, arith, AllByRecursion, Contains, Contains-get_or, recursion_from_All, Ref, all_join}
 use Rattle.gix_refspec_plan.proofs.Common.{IsMadeFrom, AreApart, IsSamePair, Mapped, Asked, HasSecondVerdict, HasVerdict, IsContested, IsPlanned, IsPlannedBesides, IsSound, Planned, Wish, AreWrittenApart}
-use Rattle.gix_refspec_plan.proofs.Common.{AreWrittenOnce, WritesOnce, Written}
+use Rattle.gix_refspec_plan.proofs.Common.{AreWrittenOnce, WritesOnce, Written, All-contains, All-from_recursion}
 use Rattle.gix_refspec_plan.proofs.lemmas.plan.JudgeLemmas.{mappings_of, tracked_mappings}
 use Rattle.gix_refspec_plan.proofs.lemmas.plan.MadeLemmas.{there, made_from}
-
--- ---- one list of updates
 
 -- what is written of a list of mappings is sound, and nothing else of that list has its destination
 module _ (all : List Mapped) (R : ℕ → Mapped → Planned → Type 0)
@@ -20,19 +18,15 @@ module _ (all : List Mapped) (R : ℕ → Mapped → Planned → Type 0)
 
   each_apart : (j k : ℕ) (m : Mapped) (p : Planned) (l : List Mapped) (ps : List Planned) → R j m p → ((n : Mapped) → Contains l n → Contains all n)
       → AllByRecursion (λ n. ¬ (IsSamePair m n)) l → IsMadeFrom R k l ps → AllByRecursion (AreWrittenApart p) ps
-  each_apart j k m p [] ps of_p inside differ none = rw none tt
-  each_apart j k m p (n ∷ l) ps of_p inside (here, later) (None, rest, none, more, is) =
-      rw is (each_apart j (k + 1) m p l rest of_p (λ x has. inside x (there n l x has)) later more)
-  each_apart j k m p (n ∷ l) ps of_p inside (here, later) (Some q, rest, of_q, more, is) =
-      rw is (pair_apart j k m n p q of_p of_q (inside n (0, omega arith, refl)) here, each_apart j (k + 1) m p l rest of_p (λ x has. inside x (there n l x has)) later more)
+  each_apart j k m p l ps of_p inside differ made = recursion_from_All (AreWrittenApart p) ps (λ i d below.
+      let (n_at, n, has, of_q) = made_from R k l ps (get_or ps i d) made (Contains-get_or ps i d below) in
+      pair_apart j n_at m n p (get_or ps i d) of_p of_q (inside n has) (All-contains (λ n. ¬ (IsSamePair m n)) l n (All-from_recursion (λ n. ¬ (IsSamePair m n)) l differ) has))
 
   list_once : (k : ℕ) (l : List Mapped) (ps : List Planned) → ((n : Mapped) → Contains l n → Contains all n) → AreApart l → IsMadeFrom R k l ps → AreWrittenOnce ps
   list_once k [] ps inside apart none = rw none tt
   list_once k (m ∷ l) ps inside (differ, apart) (None, rest, none, more, is) = rw is (list_once (k + 1) l rest (λ x has. inside x (there m l x has)) apart more)
   list_once k (m ∷ l) ps inside (differ, apart) (Some p, rest, of_p, more, is) =
       rw is (each_apart k (k + 1) m p l rest of_p (λ x has. inside x (there m l x has)) differ more, list_once (k + 1) l rest (λ x has. inside x (there m l x has)) apart more)
-
--- ---- both lists
 
 once_join : (xs ys : List Planned) → AreWrittenOnce xs → AreWrittenOnce ys → ((p q : Planned) → Contains xs p → Contains ys q → AreWrittenApart p q) → AreWrittenOnce (xs ++ ys)
 once_join [] ys once_xs once_ys apart = once_ys

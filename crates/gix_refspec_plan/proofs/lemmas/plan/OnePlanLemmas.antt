@@ -2,13 +2,11 @@
 use Rattle.gix_refspec_plan.proofs.Common.{◌≡◌, ◌⊎◌, inl, inr, ℕ, List, [], ◌∷◌, ◌++◌, Option, None, Some, MatchOption, map, take, refl, sym, ap, ◌∙◌, subst, AllZip, Contains, slice_get, same_Some, Origin}
 use Rattle.gix_refspec_plan.proofs.Common.{Verdict, InvalidSide, star, Lacks, HasStar, Reading, fetched_alone, written_name_of, Ref, Lacks-ContainsText, Mapped, AreKeptForward, LacksSource, one_forward}
 use Rattle.gix_refspec_plan.proofs.Common.{IsRefName, AreAsked, AreConfigured, AreMapped, AreMerges, AreTaken, AreThose, AreUncovered, Asked, Covers, HasOrigin, HasSecondVerdict, HasVerdict, IsCompleted}
-use Rattle.gix_refspec_plan.proofs.Common.{IsNegativeReading, IsPlanned, IsPlannedBesides, IsPositiveReading, IsTakenAt, IsTracked, IsUnwritableAt, MayBeMissing, Planned, Wish, OnePlan, rules, Written}
-use Rattle.gix_refspec_plan.proofs.Common.{LeftOut, InConflict, Overruled, Configured, Given, Merge}
+use Rattle.gix_refspec_plan.proofs.Common.{IsNegativeReading, IsPlanned, IsPlannedBesides, IsPositiveReading, IsTakenAt, IsTracked, IsUnwritableAt, MayBeMissing, Planned, Wish, OnePlan, rules, Configured}
+use Rattle.gix_refspec_plan.proofs.Common.{Given, Merge, arith}
 use Rattle.gix_refspec_match.proofs.lemmas.lists.ListsLemmas.{made_once}
 use Rattle.gix_refspec.specs.declared.match_group.ref_names.InvalidSide.TheVariants as invalid
 use Rattle.gix_refspec_plan.proofs.lemmas.plan.OpposedLemmas.{unsound, as_second}
-
--- ---- the mappings of specs
 
 those_once : (P : Reading → Type 0) (origin_at : ℕ → Origin) (specs : List Reading) (a b : List Asked) → AreThose P origin_at specs a → AreThose P origin_at specs b → a ≡ b
 those_once P origin_at specs = made_once (λ (k : ℕ) (r : Reading) (a : Asked). (a ≡ record { reading = r; origin = origin_at k }) × P r) (λ k r x y of_x of_y. of_x.0 ∙ sym of_y.0) 0 specs
@@ -35,8 +33,6 @@ mapped_once : (a b : List Asked) (refs : List Ref) (l m : List Mapped) → a ≡
 mapped_once a b refs l m same is other =
     let also = subst (λ (x : List Asked). AreMapped x refs m) (sym same) other in
     one_forward also.completed refs l m (subst (λ (g : List Reading). AreKeptForward g refs l) (completed_once (map (λ x. x.reading) a) is.completed also.completed is.are also.are) is.kept) also.kept
-
--- ---- the specs that are asked for
 
 merges_once : (merges : List (List ℕ)) (mapped : List Mapped) (a b : List Asked) → AreMerges merges mapped a → AreMerges merges mapped b → a ≡ b
 merges_once merges mapped =
@@ -70,8 +66,6 @@ asked_once wish refs a b (AreAsked.without specs none are is) (AreAsked.by_call 
 asked_once wish refs a b (AreAsked.without specs none are is) (AreAsked.without others again others_are also) =
     let same = configured_once wish refs specs others are others_are in cc
 
--- ---- what is tracked besides
-
 taken_once : (given : List Reading) (refs : List Ref) (i j : List ℕ) (s t : List Ref) → AreTaken given refs i s → AreTaken given refs j t → (i ≡ j) × (s ≡ t)
 taken_once given refs i j s t is also =
     let same = mapped_once is.asked also.asked refs is.mapped also.mapped (those_once IsPositiveReading Given given is.asked also.asked is.are_asked also.are_asked) is.are_mapped also.are_mapped in (
@@ -90,32 +84,20 @@ tracked_once wish refs a b i j l m (IsTracked.by_call positive negative taken so
 tracked_once wish refs a b i j l m (IsTracked.nothing none no_specs no_indexes no_mappings) (IsTracked.by_call positive negative taken some those bars is are mapped) = absurd (some none)
 tracked_once wish refs a b i j l m (IsTracked.nothing none no_specs no_indexes no_mappings) (IsTracked.nothing again no_specs_too no_indexes_too no_mappings_too) = (no_specs ∙ sym no_specs_too, no_indexes ∙ sym no_indexes_too, no_mappings ∙ sym no_mappings_too)
 
--- ---- verdicts
-
 side_once : (m : Mapped) (s t : InvalidSide) → IsUnwritableAt s m → IsUnwritableAt t m → s ≡ t
-side_once m invalid.Source invalid.Source is also = refl
-side_once m invalid.Destination invalid.Destination is also = refl
-side_once m invalid.Both invalid.Both is also = refl
-side_once m s t is also = absurd (search rules)
+side_once m s t is also = grind arith
 
 second_verdict_once : (firsts l : List Mapped) (m : Mapped) (v w : Verdict) → HasSecondVerdict firsts l m v → HasSecondVerdict firsts l m w → v ≡ w
-second_verdict_once firsts l m Written Written has also = refl
-second_verdict_once firsts l m (LeftOut s) (LeftOut t) has also = ap LeftOut (side_once m s t has also)
-second_verdict_once firsts l m InConflict InConflict has also = refl
-second_verdict_once firsts l m Overruled Overruled has also = refl
-second_verdict_once firsts l m v w has also = absurd (search (rules, unsound))
+second_verdict_once firsts l m v w has also = grind (arith, side_once m, unsound)
 
 verdict_once : (l : List Mapped) (m : Mapped) (v w : Verdict) → HasVerdict l m v → HasVerdict l m w → v ≡ w
 verdict_once l m v w has also = second_verdict_once [] l m v w (as_second l m v has) (as_second l m w also)
-
--- ---- updates
 
 origin_once : (asked : List Asked) (m : Mapped) (o p : Origin) → HasOrigin asked m o → HasOrigin asked m p → o ≡ p
 origin_once asked m o p (a, is, from) (b, also, too) = sym from ∙ ap (λ (x : Asked). x.origin) (same_Some a b (sym is ∙ also)) ∙ too
 
 item_once : (indexes : List ℕ) (j x y : Option ℕ) → MatchOption j (x ≡ None) (λ i. slice_get indexes i ≡ x) → MatchOption j (y ≡ None) (λ i. slice_get indexes i ≡ y) → x ≡ y
-item_once indexes None x y is also = is ∙ sym also
-item_once indexes (Some i) x y is also = sym is ∙ also
+item_once indexes j x y is also = grind arith
 
 same_planned : (p q : Planned) → p.source ≡ q.source → p.item ≡ q.item → p.destination ≡ q.destination → p.origin ≡ q.origin → p.verdict ≡ q.verdict → p ≡ q
 same_planned p q source item destination from judged = λ i. record { source = source i; item = item i; destination = destination i; origin = from i; verdict = judged i }
@@ -128,8 +110,6 @@ besides_once : (asked : List Asked) (indexes : List ℕ) (firsts seconds : List 
     → IsPlannedBesides asked indexes firsts seconds m p → IsPlannedBesides asked indexes firsts seconds m q → p ≡ q
 besides_once asked indexes firsts seconds k m p q is also = same_planned p q (is.source ∙ sym also.source) (item_once indexes m.item p.item q.item is.item also.item) (is.destination ∙ sym also.destination)
     (origin_once asked m p.origin q.origin is.origin also.origin) (second_verdict_once firsts seconds m p.verdict q.verdict is.verdict also.verdict)
-
--- ---- the plan
 
 pub one_plan : (wish : Wish) (refs : List Ref) → OnePlan wish refs
 one_plan wish refs p q missing others is also =

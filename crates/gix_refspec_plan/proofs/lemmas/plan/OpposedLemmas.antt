@@ -1,13 +1,12 @@
 -- An update is in conflict exactly if it conflicts with another one.
-use Rattle.gix_refspec_plan.proofs.Common.{◌≡◌, ◌⊎◌, inl, inr, ◌↔◌, ℕ, suc, ◌<◌, List, [], ◌∷◌, Option, None, Some, IsSome, MatchOption, get_or, length, refl, sym, ◌∙◌, subst, arith, Contains, slice_get}
+use Rattle.gix_refspec_plan.proofs.Common.{◌≡◌, ◌⊎◌, inl, inr, ◌↔◌, ℕ, ◌<◌, List, [], ◌∷◌, Option, None, Some, IsSome, MatchOption, get_or, length, refl, sym, ◌∙◌, subst, arith, Contains, slice_get}
 use Rattle.gix_refspec_plan.proofs.Common.{get_or_default, All-from_recursion, Contains-append_cases, Contains-append_left, Contains-append_right, Contains-get_or, recursion_from_All, slice_get_read}
 use Rattle.gix_refspec_plan.proofs.Common.{Origin, Verdict, InvalidSide, Ref, HasPair, IsSamePair, Mapped, IsValidSource, Asked, CanBeWritten, HasOrigin, HasSecondVerdict, HasVerdict, IsContested, IsPlan}
 use Rattle.gix_refspec_plan.proofs.Common.{IsPlanned, IsPlannedBesides, IsSound, IsTakenOver, IsUnwritableAt, Planned, Wish, ConflictsExactly, DoConflict, All-contains, Written, LeftOut, InConflict, rules}
+use Rattle.gix_refspec_plan.proofs.Common.{Any-HasPair, IsOfPair, some_at}
 use Rattle.gix_refspec.specs.declared.match_group.ref_names.InvalidSide.TheVariants as invalid
 use Rattle.gix_refspec_plan.proofs.lemmas.plan.JudgeLemmas.{mappings_of, tracked_mappings}
 use Rattle.gix_refspec_plan.proofs.lemmas.plan.MadeLemmas.{made_from, nothing_in, made_has}
-
--- ---- verdicts
 
 -- a mapping with an invalid side isn't sound
 pub unsound : (side : InvalidSide) (m : Mapped) → IsUnwritableAt side m → ¬ (IsSound m)
@@ -38,8 +37,6 @@ module _ (l : List Mapped) (m : Mapped) where
   conflict_of : (v : Verdict) → IsSound m → IsContested l m → HasVerdict l m v → v ≡ InConflict
   conflict_of v sound contested has = second_conflict_of [] l m v sound untaken contested (as_second v has)
 
--- ---- what is planned for a mapping
-
 -- the origin of a spec at an index
 origin_of : (asked : List Asked) (m : Mapped) → m.spec < length asked → (o : Origin) × HasOrigin asked m o
 origin_of [] m below = absurd (omega (arith, below))
@@ -55,9 +52,7 @@ item_of indexes (Some j) = (slice_get indexes j, refl)
 
 -- a pair that some mapping has
 pub pair_in : (l : List Mapped) (m : Mapped) → HasPair l m → (n : Mapped) × Contains l n × IsSamePair n m
-pair_in [] m has = absurd has
-pair_in (x ∷ l) m (inl same) = (x, (0, omega arith, refl), same)
-pair_in (x ∷ l) m (inr has) = let (n, (i, below, at), same) = pair_in l m has in (n, (suc i, omega (arith, below), at), same)
+pair_in l m has = let (k, n, below, is, same) = some_at (IsOfPair m) l (Any-HasPair l m has) in (n, (k, below, is), same)
 
 sound_pair : (m n : Mapped) → IsSamePair m n → IsSound n → IsSound m
 sound_pair m n same sound = record { source = subst IsValidSource (sym same.source) sound.source; destination = subst CanBeWritten (sym same.destination) sound.destination }

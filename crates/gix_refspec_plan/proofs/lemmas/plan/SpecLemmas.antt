@@ -6,8 +6,6 @@ use Rattle.gix_refspec_plan.proofs.Common.{Merge}
 use Rattle.gix_refspec_match.specs.declared.types.SourceRef.{SourceRef}
 use Rattle.gix_refspec_match.specs.declared.types.SourceRef.TheVariants as source_ref
 
--- ---- the names of refs
-
 -- what is no full name has no name
 pub not_named : (s : SourceRef) → ((x : NameRef) → s ≢ source_ref.FullName x) → (n : List ℕ) → start_of s ≢ name n
 not_named (source_ref.FullName x) none n same = none x refl
@@ -17,8 +15,6 @@ pub names_next : (merges : List BStr) (i : ℕ) (b : BStr) (mapped : List Mapped
     → AreNames (map bstr_bytes (take i merges)) mapped (map bstr_bytes old) → new ≡ old ++ b ∷ [] → AreNames (map bstr_bytes (take (i + 1) merges)) mapped (map bstr_bytes new)
 names_next merges i b mapped old new below is (sources, are, whole) more = (sources, are, rw (more, map-append, whole, map_next bstr_bytes merges i b below is) (append_assoc sources (map bstr_bytes (take i merges)) _))
 
--- ---- the merged refs
-
 -- the spec of the merged ref at index k
 abbrev pub Merges : List (List ℕ) → List Mapped → ℕ → List ℕ → Asked → Type 0
 Merges merges mapped k n a = (a ≡ record { reading = fetched_alone n; origin = Merge k }) × IsRefName n × ¬ (Covers mapped n) × ¬ (Contains (take k merges) n)
@@ -27,8 +23,6 @@ Merges merges mapped k n a = (a ≡ record { reading = fetched_alone n; origin =
 pub merge_flag : (merges : List BStr) (mapped : List Mapped) (flags : List Bool) (i : ℕ) (d : BStr) → i < length merges → FlagCovered (map bstr_bytes merges) mapped flags
     → IsFlagged flags i ↔ (Covers mapped (bstr_bytes (get_or merges i d)) ⊎ Contains (take i (map bstr_bytes merges)) (bstr_bytes (get_or merges i d)))
 merge_flag merges mapped flags i d below told = rw (get_or-map bstr_bytes merges i d [] below) at (told i [] (omega (arith, length-map merges bstr_bytes)))
-
--- ---- which specs are asked for
 
 -- a list is empty, or it isn't, and so is what is mapped from it
 pub some_mapped : {A X : Type 0} (f : A → X) (xs : List A) (b : Bool) → b ≡ (length xs == 0) → b ≡ false → map f xs ≢ []

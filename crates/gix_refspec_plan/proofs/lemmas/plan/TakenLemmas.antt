@@ -1,16 +1,13 @@
 -- The items that sound mappings are of.
 use Rattle.gix_refspec_plan.proofs.Common.{◌≡◌, ◌≢◌, ◌⊎◌, inl, inr, ◌↔◌, Bool, true, false, ℕ, ◌+◌, ◌-◌, ◌<◌, ◌≤◌, List, [], ◌∷◌, ◌++◌, Option, None, Some, length, map, take, get_or, set, replicate, refl}
-use Rattle.gix_refspec_plan.proofs.Common.{sym, ap, ◌∙◌, subst, arith, cases_eq, false≢true, append-nil, get_or-replicate, get_or-set_other, get_or-set_same, length-replicate, length-set, map-append}
-use Rattle.gix_refspec_plan.proofs.Common.{map_more, take_all, Contains-append_left, Contains-push, Contains-push_cases, Item, Mapping, Ref, IsMadeFrom, Mapped, IsFlagged, mapped_of, ref_of, made_more}
-use Rattle.gix_refspec_plan.proofs.Common.{IsSound, IsTakenAt, FlagsTaken, rules}
+use Rattle.gix_refspec_plan.proofs.Common.{sym, ap, ◌∙◌, arith, cases_eq, false≢true, append-nil, get_or-replicate, get_or-set_other, get_or-set_same, length-replicate, length-set, map-append, map_more}
+use Rattle.gix_refspec_plan.proofs.Common.{take_all, Contains-append_left, Contains-push, Contains-push_cases, Item, Mapping, Ref, IsMadeFrom, Mapped, IsFlagged, mapped_of, ref_of, made_more, IsSound}
+use Rattle.gix_refspec_plan.proofs.Common.{IsTakenAt, FlagsTaken, rules}
 
 -- one more mapping takes its item, if it is sound
 taken_cases : (l : List Mapped) (m : Mapped) (k : ℕ) → IsTakenAt (l ++ m ∷ []) k ↔ (IsTakenAt l k ⊎ (IsSound m × (m.item ≡ Some k)))
 taken_cases l m k = (
-  (λ (n, has, sound, item). elim (Contains-push_cases l m n has) [
-    | inl before ↦ inl (n, before, sound, item)
-    | inr same ↦ inr (subst (λ (x : Mapped). IsSound x × (x.item ≡ Some k)) (sym same) (sound, item))
-  ]),
+  (λ (n, has, sound, item). search (rules, Contains-push_cases l m n has)),
   (λ either. search (rules, Contains-append_left l (m ∷ []), Contains-push l m)),
 )
 
@@ -54,16 +51,13 @@ module _ (mappings : List Mapping) (i : ℕ) (m : Mapping) (len : ℕ) (flags : 
   pub taken_same : ((k : ℕ) → k < len → IsSound (mapped_of m) → m.item_index ≢ Some k) → AreTakenFlags (map mapped_of (take (i + 1) mappings)) len flags
   taken_same none = with_mapping flags so_far.0 (λ k under. search (rules, none k under))
 
--- ---- the items that are taken
-
--- the index of a taken item; and its ref
 abbrev pub Indexes : List Mapped → ℕ → Ref → ℕ → Type 0
 Indexes mapped k r index = (index ≡ k) × IsTakenAt mapped k
 
 abbrev pub Refs : List Mapped → ℕ → Ref → Ref → Type 0
 Refs mapped k r made = (made ≡ r) × IsTakenAt mapped k
 
--- those of some items
+-- the indexes of the taken items among some, and their refs
 pub record ArePicked (mapped : List Mapped) (refs : List Ref) (indexes : List ℕ) (taken : List Ref) : Type 0 where
   pub are_indexes : IsMadeFrom (Indexes mapped) 0 refs indexes
   pub are_taken : IsMadeFrom (Refs mapped) 0 refs taken

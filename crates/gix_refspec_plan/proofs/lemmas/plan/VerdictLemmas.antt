@@ -1,49 +1,28 @@
 -- Which destinations are written, and the verdicts by that.
 use Rattle.gix_refspec_plan.proofs.Common.{◌≡◌, ◌≢◌, ◌⊎◌, ◌↔◌, inl, inr, ℕ, zero, suc, ◌+◌, ◌<◌, Bool, Bor, true, false, cond, List, [], ◌∷◌, ◌++◌, Option, None, Some, is_some, unwrap_or, bytes_eq, map}
-use Rattle.gix_refspec_plan.proofs.Common.{take, get_or, length, refl, sym, ap, ◌∙◌, subst, arith, BTreeMap, UpdatesBy, get_by, is_at, lookup, slice_cmp, nat_cmp, Any, Contains, false≢true, map_more}
-use Rattle.gix_refspec_plan.proofs.Common.{All-from_recursion, Contains-append_left, Contains-push_cases, bytes_eq-Decides, Mapping, Mapped, IsSamePair, AreApart, mapped_of, IsContested, IsSound}
-use Rattle.gix_refspec_plan.proofs.Common.{IsTakenOver, CountDestinations, HasTwo, IsCount, TellContested, WritesTo, rules}
-use Rattle.std.proofs.lemmas.List.Quantifiers.{Any-push}
+use Rattle.gix_refspec_plan.proofs.Common.{take, get_or, length, refl, sym, ap, ◌∙◌, subst, arith, BTreeMap, UpdatesBy, get_by, slice_cmp, nat_cmp, Any, Contains, false≢true, map_more}
+use Rattle.gix_refspec_plan.proofs.Common.{All-from_recursion, bytes_eq-Decides, Mapping, Mapped, IsSamePair, AreApart, mapped_of, IsContested, IsSound, IsTakenOver, CountDestinations, HasTwo, IsCount}
+use Rattle.gix_refspec_plan.proofs.Common.{TellContested, WritesTo, rules, same_Some, some_at, some_of}
 use Rattle.std.proofs.lemmas.Map.Text.{btree_map_updates_str}
 use Rattle.gix_refspec.specs.Matching.Validation.{HasConflictAt}
 use Rattle.gix_refspec.proofs.lemmas.validate.FirstLemmas.{start_cases}
 use Rattle.gix_refspec_plan.proofs.lemmas.plan.MadeLemmas.{there}
 
--- ---- one element or two
-
 module _ {X : Type 0} (P : X → Type 0) where
-  any_left : (l : List X) (x : X) → Any P l → Any P (l ++ x ∷ [])
-  any_left l x (i, y, below, at, is) = let has = Contains-append_left l (x ∷ []) y (i, below, at) in (has.0, y, has.1, has.2, is)
+  any_cons : (x : X) (l : List X) → Any P (x ∷ l) ↔ (P x ⊎ Any P l)
+  any_cons x l = ((λ any. search (rules, some_of P (x ∷ l) any, some_at P l)), (λ any. some_at P (x ∷ l) (search (rules, any, some_of P l))))
 
-  any_cases : (l : List X) (x : X) → Any P (l ++ x ∷ []) → Any P l ⊎ P x
-  any_cases l x (i, y, below, at, is) = elim (Contains-push_cases l x y (i, below, at)) [
-    | inl has ↦ inl (has.0, y, has.1, has.2, is)
-    | inr same ↦ inr (subst P (sym same) is)
-  ]
-
-  any_later : (l : List X) (x : X) → Any P l → Any P (x ∷ l)
-  any_later l x (i, y, below, at, is) = (suc i, y, omega (arith, below), at, is)
+  any_more : (l : List X) (x : X) → Any P (l ++ x ∷ []) ↔ (Any P l ⊎ P x)
+  any_more [] x = search (rules, any_cons x [])
+  any_more (y ∷ l) x = search (rules, any_cons y l, any_cons y (l ++ x ∷ []), any_more l x)
 
   two_any : (l : List X) → HasTwo P l → Any P l
   two_any [] two = absurd two
-  two_any (x ∷ l) (inl (is, any)) = (0, x, omega arith, refl, is)
-  two_any (x ∷ l) (inr two) = any_later l x (two_any l two)
+  two_any (x ∷ l) two = search (rules, any_cons x l, two_any l)
 
-  two_left : (l : List X) (x : X) → HasTwo P l → HasTwo P (l ++ x ∷ [])
-  two_left [] x two = absurd two
-  two_left (y ∷ l) x (inl (is, any)) = inl (is, any_left l x any)
-  two_left (y ∷ l) x (inr two) = inr (two_left l x two)
-
-  two_push : (l : List X) (x : X) → Any P l → P x → HasTwo P (l ++ x ∷ [])
-  two_push [] x (i, y, below, at, is) last = absurd (omega (arith, below))
-  two_push (z ∷ l) x (zero, y, below, at, is) last = inl (subst P (sym at) is, Any-push P l x last)
-  two_push (z ∷ l) x (suc i, y, below, at, is) last = inr (two_push l x (i, y, omega (arith, below), at, is) last)
-
-  two_cases : (l : List X) (x : X) → HasTwo P (l ++ x ∷ []) → HasTwo P l ⊎ (Any P l × P x)
-  two_cases [] x (inl (is, (i, y, below, at, also))) = absurd (omega (arith, below))
-  two_cases [] x (inr two) = absurd two
-  two_cases (y ∷ l) x (inl (is, any)) = let here : Any P (y ∷ l) = (0, y, omega arith, refl, is) in search (rules, any_cases l x any)
-  two_cases (y ∷ l) x (inr two) = search (rules, two_cases l x two, any_later l y)
+  two_more : (l : List X) (x : X) → HasTwo P (l ++ x ∷ []) ↔ (HasTwo P l ⊎ (Any P l × P x))
+  two_more [] x = search (rules, some_of P [])
+  two_more (y ∷ l) x = search (rules, any_cons y l, any_more l x, two_more l x)
 
   -- two different elements are two
   two_of : (l : List X) (m n : X) → Contains l m → Contains l n → P m → P n → m ≢ n → HasTwo P l
@@ -53,15 +32,13 @@ module _ {X : Type 0} (P : X → Type 0) where
   two_of (x ∷ l) m n (suc i, below, at) (zero, below2, at2) is also differ = inl (subst P (sym at2) also, (i, m, omega (arith, below), at, is))
   two_of (x ∷ l) m n (suc i, below, at) (suc j, below2, at2) is also differ = inr (two_of l m n (i, omega (arith, below), at) (j, omega (arith, below2), at2) is also differ)
 
--- ---- destinations that are counted
-
 count_same : (l : List Mapped) (x : Mapped) (d : List ℕ) (w : Option Bool) → ¬ (WritesTo d x) → IsCount l d w → IsCount (l ++ x ∷ []) d w
-count_same l x d None other none = λ any. search (rules, any_cases (WritesTo d) l x any)
-count_same l x d (Some several) other (any, told) = search (rules, any_left (WritesTo d) l x any, two_left (WritesTo d) l x, two_cases (WritesTo d) l x)
+count_same l x d None other none = λ any. search (rules, any_more (WritesTo d) l x)
+count_same l x d (Some several) other (any, told) = search (rules, any_more (WritesTo d) l x, two_more (WritesTo d) l x)
 
 count_next : (l : List Mapped) (x : Mapped) (d : List ℕ) (w : Option Bool) → WritesTo d x → IsCount l d w → IsCount (l ++ x ∷ []) d (Some (is_some w))
-count_next l x d None is none = search (rules, Any-push (WritesTo d) l x is, two_cases (WritesTo d) l x, two_any (WritesTo d) l, false≢true)
-count_next l x d (Some several) is (any, told) = (Any-push (WritesTo d) l x is, ((λ true. two_push (WritesTo d) l x any is), (λ two. refl)))
+count_next l x d None is none = search (rules, any_more (WritesTo d) l x, two_more (WritesTo d) l x, two_any (WritesTo d) l, false≢true)
+count_next l x d (Some several) is (any, told) = search (rules, any_more (WritesTo d) l x, two_more (WritesTo d) l x)
 
 -- what is known of a destination
 abbrev pub count_at : BTreeMap (Bor (List ℕ)) Bool → List ℕ → Option Bool
@@ -78,22 +55,12 @@ module _ (ms : List Mapping) (i : ℕ) (m : Mapping) (old : BTreeMap (Bor (List 
   -- the destination of one more mapping
   pub counted_more : (new : BTreeMap (Bor (List ℕ)) Bool) (e : Bor (List ℕ)) (several : Bool) → WritesTo e.now (mapped_of m) → several ≡ is_some (count_at old e.now)
       → UpdatesBy (λ x y. slice_cmp nat_cmp x.now y.now) (λ k. slice_cmp nat_cmp e.now k.now) old new (Some several) → CountDestinations (map mapped_of (take (i + 1) ms)) new
-  counted_more new e several writes known updates = with_mapping new (λ d. by d (bytes_eq e.now d) refl (btree_map_updates_str e.now old new (Some several) updates d))
+  counted_more new e several writes known updates = with_mapping new (λ d. rw (btree_map_updates_str e.now old new (Some several) updates d) (by d (bytes_eq e.now d) refl))
     where
-      l : List Mapped
-      l = map mapped_of (take i ms)
-
-      one : (d : List ℕ) → WritesTo d (mapped_of m) → e.now ≡ d
-      one d also = let both : Some e.now ≡ Some d = sym writes.1 ∙ also.1 in cc
-
-      by : (d : List ℕ) (b : Bool) → bytes_eq e.now d ≡ b → count_at new d ≡ cond b (Some several) (count_at old d) → IsCount (l ++ mapped_of m ∷ []) d (count_at new d)
-      by d true same found =
-          let here : e.now ≡ d = (bytes_eq-Decides e.now d).0 same in
-          subst (IsCount (l ++ mapped_of m ∷ []) d) (sym (found ∙ ap Some (known ∙ ap (λ x. is_some (count_at old x)) here))) (count_next l (mapped_of m) d (count_at old d) (subst (λ x. WritesTo x (mapped_of m)) here writes) (so_far d))
-      by d false other found =
-          subst (IsCount (l ++ mapped_of m ∷ []) d) (sym found) (count_same l (mapped_of m) d (count_at old d) (λ also. false≢true (sym other ∙ (bytes_eq-Decides e.now d).1 (one d also))) (so_far d))
-
--- ---- verdicts
+      by : (d : List ℕ) (b : Bool) → bytes_eq e.now d ≡ b → IsCount (map mapped_of (take i ms) ++ mapped_of m ∷ []) d (cond b (Some several) (count_at old d))
+      by d true same = let here = (bytes_eq-Decides e.now d).0 same in rw (known, here) (count_next (map mapped_of (take i ms)) (mapped_of m) d (count_at old d) (rw here at writes) (so_far d))
+      by d false other = count_same (map mapped_of (take i ms)) (mapped_of m) d (count_at old d)
+          (λ also. false≢true (sym other ∙ (bytes_eq-Decides e.now d).1 (same_Some e.now d (sym writes.1 ∙ also.1)))) (so_far d)
 
 -- two mappings to a destination, from different sources
 abbrev IsRivalry : List Mapped → List ℕ → Mapped → Mapped → Type 0
@@ -116,33 +83,26 @@ counted_contested l counts are d = by (count_at counts d) (are d)
 
 -- where no destination is in conflict, an empty map tells that
 pub none_contested : (l : List Mapped) (empty : BTreeMap (Bor (List ℕ)) Bool) → AreApart l → ((d : List ℕ) → ¬ (HasConflictAt l d)) → empty.entries ≡ [] → TellContested l empty
-none_contested l empty apart free none d = (
-  (λ told. absurd (false≢true (subst (λ (es : List (Bor (List ℕ) × Bool)). unwrap_or (lookup (is_at (λ k. slice_cmp nat_cmp d k.now)) es) false ≡ true) none told))),
+none_contested l empty apart free none d = rw none (
+  (λ told. absurd (false≢true told)),
   (λ two.
       let (m, n, (has_m, has_n, m_writes, n_writes, differ)) = rivalry l d apart two in
       absurd (free d (record { one = m; other = n; has_one = has_m; has_other = has_n; one_to = m_writes.1; other_to = n_writes.1; differ = differ }))),
 )
 
 module _ (m : Mapped) (d : List ℕ) (goes : m.destination ≡ Some d) where
-  taken_any : (l : List Mapped) → IsTakenOver l m → Any (WritesTo d) l
-  taken_any l (n, (i, below, at), sound, (e, from, to)) = (i, n, below, at, (sound, to ∙ sym from ∙ goes))
+  pub taken_told : (l : List Mapped) (w : Option Bool) → IsCount l d w → (is_some w ≡ true) ↔ IsTakenOver l m
+  taken_told l None none = ((λ told. absurd (false≢true told)), (λ (n, (i, below, at), sound, (e, from, to)). absurd (none (i, n, below, at, (sound, to ∙ sym from ∙ goes)))))
+  taken_told l (Some several) ((i, n, below, at, (sound, to)), whether) = ((λ told. (n, (i, below, at), sound, (d, goes, to))), (λ taken. refl))
 
-  pub is_taken : (l : List Mapped) (w : Option Bool) → IsCount l d w → is_some w ≡ true → IsTakenOver l m
-  is_taken l None none told = absurd (false≢true told)
-  is_taken l (Some several) ((i, n, below, at, (sound, to)), whether) told = (n, (i, below, at), sound, (d, goes, to))
-
-  pub not_taken : (l : List Mapped) (w : Option Bool) → IsCount l d w → is_some w ≡ false → ¬ (IsTakenOver l m)
-  not_taken l None none told = λ taken. none (taken_any l taken)
-  not_taken l (Some several) count told = absurd (false≢true (sym told))
-
-  pub is_contested : (l : List Mapped) (several : Bool) → AreApart l → (several ≡ true) ↔ HasTwo (WritesTo d) l → several ≡ true → IsContested l m
-  is_contested l several apart tells told =
-      let (x, y, (has_x, has_y, x_writes, y_writes, differ)) = rivalry l d apart (tells.0 told) in
-      elim (start_cases m.source x.source) [
-        | inl same ↦ (y, has_y, y_writes.0, (d, goes, y_writes.1), (λ also. differ (sym same ∙ also)))
-        | inr other ↦ (x, has_x, x_writes.0, (d, goes, x_writes.1), other)
-      ]
-
-  pub not_contested : (l : List Mapped) (several : Bool) → IsSound m → Contains l m → (several ≡ true) ↔ HasTwo (WritesTo d) l → several ≡ false → ¬ (IsContested l m)
-  not_contested l several sound has tells told =
-      λ (n, contains, sound_n, (e, from, to), differ). false≢true (sym told ∙ tells.1 (two_of (WritesTo d) l m n has contains (sound, goes) (sound_n, to ∙ sym from ∙ goes) (λ same. differ (ap (λ (x : Mapped). x.source) same))))
+  pub contested_told : (l : List Mapped) → AreApart l → IsSound m → Contains l m → HasTwo (WritesTo d) l ↔ IsContested l m
+  contested_told l apart sound has = (
+    (λ two.
+        let (x, y, (has_x, has_y, x_writes, y_writes, differ)) = rivalry l d apart two in
+        elim (start_cases m.source x.source) [
+          | inl same ↦ (y, has_y, y_writes.0, (d, goes, y_writes.1), (λ also. differ (sym same ∙ also)))
+          | inr other ↦ (x, has_x, x_writes.0, (d, goes, x_writes.1), other)
+        ]),
+    (λ (n, contains, sound_n, (e, from, to), differ).
+        two_of (WritesTo d) l m n has contains (sound, goes) (sound_n, to ∙ sym from ∙ goes) (λ same. differ (ap (λ (x : Mapped). x.source) same))),
+  )

@@ -1,9 +1,9 @@
 -- What specs say of a local ref, by the names that they write and by their patterns.
-use Rattle.gix_refspec_plan.proofs.Common.{◌≡◌, ◌⊎◌, inl, inr, ℕ, ◌+◌, ◌<◌, List, [], ◌∷◌, ◌++◌, Option, None, Some, MatchOption, codes, get_or, length, take, refl, sym, ap, ◌∙◌, subst, Bor, AllByRecursion}
-use Rattle.gix_refspec_plan.proofs.Common.{Contains, get_or_default, take_more, Pattern, star, BeginsWith, Lacks, HasStar, IsSplit, Reading, with_destination, IsAccepted, IsPositive, SideKind, pattern}
-use Rattle.gix_refspec_plan.proofs.Common.{full_name, object, partial, HasKind, Fits, written_name_of, Matches, MatchesAs, split_once, Lacks-here, Lacks-ContainsText, Exclusions, IsMadeFrom, IsExcluded}
+use Rattle.gix_refspec_plan.proofs.Common.{◌≡◌, ◌⊎◌, inl, inr, ℕ, ◌+◌, ◌<◌, List, [], ◌++◌, Option, None, Some, codes, get_or, length, take, refl, sym, ap, ◌∙◌, subst, Bor, AllByRecursion, Contains}
+use Rattle.gix_refspec_plan.proofs.Common.{get_or_default, take_more, Pattern, star, BeginsWith, Lacks, HasStar, IsSplit, Reading, with_destination, IsAccepted, IsPositive, SideKind, pattern, full_name}
+use Rattle.gix_refspec_plan.proofs.Common.{object, partial, HasKind, Fits, written_name_of, Matches, MatchesAs, split_once, Lacks-here, Lacks-ContainsText, Exclusions, IsMadeFrom, IsExcluded}
 use Rattle.gix_refspec_plan.proofs.Common.{AreExclusionsAt, AreExclusionsOf, ExcludeName, same_side, CanWrite, IsSourceOf, IsWritable, ref_named, HasNameState, HasParts, HasPatternState, HasState}
-use Rattle.gix_refspec_plan.proofs.Common.{IsPatternSource, WritesName, WritesNameFrom, WritesPattern, sides_agree, Excluded, Included, Unwritable, rules}
+use Rattle.gix_refspec_plan.proofs.Common.{IsPatternSource, WritesName, WritesNameFrom, WritesPattern, sides_agree, Excluded, Included, Unwritable, rules, matches_as}
 use Rattle.gix_refspec_plan.specs.declared.stale.State.{State}
 use Rattle.gix_refspec_plan.proofs.lemmas.stale.FetchedLemmas.{accepted_in, completed_destination, no_object_named, written_below, written_lacks}
 use Rattle.gix_refspec_plan.proofs.lemmas.plan.MadeLemmas.{nothing_in, push_all, made_has, made_from}
@@ -15,41 +15,25 @@ pub side_cases : (side : Option (List ℕ)) → (side ≡ None) ⊎ ((x : List �
 side_cases None = inl refl
 side_cases (Some x) = inr (x, refl)
 
--- ---- patterns that specs write by
-
 -- an accepted reading writes by the pattern of its destination
 pub some_pattern : (r : Reading) (d before after : List ℕ) → ∥ IsAccepted r ∥₁ → IsPositive r.mode → r.destination ≡ Some d → IsSplit before after d → (p : Pattern) × WritesPattern r p
-some_pattern r d before after accepted positive has split = elim (side_cases r.source) [
-  | inl none ↦ (
-    record { before = slice before; after = slice after; source = None },
-    record { positive = positive; destination = d; has = has; split = split; source = λ x b a is other. absurd (let never : None ≡ Some x = sym none ∙ is in cc) },
-  )
-  | inr (x, source) ↦ elim ((sides_agree r accepted).both x d source has) [
-    | inl (one_x, one_d) ↦ (
-      record { before = slice before; after = slice after; source = Some (slice one_x.0, slice one_x.1) },
-      record { positive = positive; destination = d; has = has; split = split; source = (x, source, one_x.2) },
-    )
-    | inr (lacks_x, lacks_d) ↦ absurd (Lacks-here star before after (subst (Lacks star) split.starred lacks_d))
-  ]
-]
-
--- ---- what can be written
-
--- a spec whose destination has a star is complete
-star_completed : (side : Option (List ℕ)) (d : List ℕ) → side ≡ Some d → HasStar d → MatchOption side (side ≡ None) (λ x. (HasStar x × (side ≡ Some x)) ⊎ (Lacks star x × (side ≡ Some (written_name_of x))))
-star_completed None d is has = absurd (cc (is))
-star_completed (Some x) d is has = let one : d ≡ x = cc in inl (subst HasStar one has, refl)
-
-plain_completed : (side : Option (List ℕ)) (d : List ℕ) → side ≡ Some d → Lacks star d → MatchOption side (Some (written_name_of d) ≡ None) (λ x. (HasStar x × (Some (written_name_of d) ≡ Some x)) ⊎ (Lacks star x × (Some (written_name_of d) ≡ Some (written_name_of x))))
-plain_completed None d is lacks = absurd (cc (is))
-plain_completed (Some x) d is lacks = let one : d ≡ x = cc in inr (subst (Lacks star) one lacks, ap (λ (y : List ℕ). Some (written_name_of y)) one)
+some_pattern r d before after accepted positive has split =
+    let writes : (parts : Option (Bor (List ℕ) × Bor (List ℕ))) → HasParts r.source parts → (p : Pattern) × WritesPattern r p = λ parts source.
+        (record { before = slice before; after = slice after; source = parts }, record { positive = positive; destination = d; has = has; split = split; source = source }) in
+    elim (side_cases r.source) [
+      | inl none ↦ writes None (λ x b a is other. let never : None ≡ Some x = sym none ∙ is in cc (never))
+      | inr (x, source) ↦ elim ((sides_agree r accepted).both x d source has) [
+        | inl (one_x, one_d) ↦ writes (Some (slice one_x.0, slice one_x.1)) (x, source, one_x.2)
+        | inr (lacks_x, lacks_d) ↦ absurd (Lacks-here star before after (subst (Lacks star) split.starred lacks_d))
+      ]
+    ]
 
 -- by a pattern, and by a name
 pub pattern_writes : (r : Reading) (p : Pattern) (n word : List ℕ) → WritesPattern r p → Fits p.before.now p.after.now n word → CanWrite r n (Some word)
 pattern_writes r p n word by fits = record {
   positive = by.positive;
   completed = r;
-  is = record { operation = refl; mode = refl; source = refl; destination = star_completed r.destination by.destination by.has (record { before = p.before.now; after = p.after.now; here = by.split.starred }) };
+  is = record { operation = refl; mode = refl; source = refl; destination = rw by.has (inl (record { before = p.before.now; after = p.after.now; here = by.split.starred }, refl)) };
   destination = by.destination;
   has = by.has;
   matches = record { kind = pattern p.before.now p.after.now; of = by.split; is = fits };
@@ -59,7 +43,7 @@ pub name_writes : (r : Reading) (n : List ℕ) → WritesName r n → CanWrite r
 name_writes r n by = record {
   positive = by.positive;
   completed = with_destination r (written_name_of by.destination);
-  is = record { operation = refl; mode = refl; source = refl; destination = plain_completed r.destination by.destination by.has by.lacks };
+  is = record { operation = refl; mode = refl; source = refl; destination = rw by.has (inr (by.lacks, refl)) };
   destination = written_name_of by.destination;
   has = refl;
   matches = record { kind = full_name (written_name_of by.destination); of = (refl, written_lacks by.destination by.lacks, written_below by.destination); is = (refl, by.is) };
@@ -82,8 +66,6 @@ writes_cases r n word by =
     by_kind x was (inr (lacks, same)) (object bytes) of v holds = absurd (no_object_named by.destination n v bytes of holds)
     by_kind x was (inr (lacks, same)) (partial m) of v holds = absurd (of.2 (subst (BeginsWith (codes "refs/")) same (written_below x)))
 
--- ---- what is known of a name
-
 -- the pattern of a source that takes a ref with a word
 pub word_taken : (x s w : List ℕ) → Matches x (ref_named s) (Some w) → (before : List ℕ) × (after : List ℕ) × IsSplit before after x × Fits before after s w
 word_taken x s w matches = by_kind matches.kind matches.of matches.is
@@ -92,24 +74,21 @@ word_taken x s w matches = by_kind matches.kind matches.of matches.is
     by_kind (pattern before after) of holds = (before, after, of, holds)
     by_kind k of holds = absurd (let no = holds.0 in cc)
 
--- its pattern is that by which the spec writes
-source_taken : (r : Reading) (p : Pattern) (x s w : List ℕ) → WritesPattern r p → r.source ≡ Some x → Matches x (ref_named s) (Some w) → (parts : Bor (List ℕ) × Bor (List ℕ)) × (p.source ≡ Some parts) × (s ≡ parts.0.now ++ (w ++ parts.1.now))
-source_taken r p x s w by source matches = by_side p.source by.source
-  where
-    by_side : (side : Option (Bor (List ℕ) × Bor (List ℕ))) → HasParts r.source side
-        → (parts : Bor (List ℕ) × Bor (List ℕ)) × (side ≡ Some parts) × (s ≡ parts.0.now ++ (w ++ parts.1.now))
-    by_side None none = let (before, after, split, fits) = word_taken x s w matches in absurd (none x before after source split)
-    by_side (Some parts) (y, is, split) =
-        let (before, after, other, fits) = word_taken x s w matches in
-        let same : x ≡ y = same_side r.source x y source is in
-        let once = split_once y before after parts.0.now parts.1.now (subst (IsSplit before after) same other) split in
-        (parts, refl, rw (once.0, once.1) at fits)
+-- a source that takes a ref with a word is the pattern by which the spec writes
+source_taken : (side : Option (List ℕ)) (found : Option (Bor (List ℕ) × Bor (List ℕ))) (x s w : List ℕ) → side ≡ Some x → HasParts side found → Matches x (ref_named s) (Some w)
+    → (parts : Bor (List ℕ) × Bor (List ℕ)) × (found ≡ Some parts) × (s ≡ parts.0.now ++ (w ++ parts.1.now))
+source_taken side None x s w source none matches = let (before, after, split, fits) = word_taken x s w matches in absurd (none x before after source split)
+source_taken side (Some parts) x s w source (y, is, split) matches =
+    (parts, refl, matches_as y (pattern parts.0.now parts.1.now) (ref_named s) (Some w) split (rw (same_side side x y source is) at matches))
+
+-- no ref is excluded from which the pattern writes n
+abbrev IncludesSources : Exclusions → List ℕ → Pattern → Type 0
+IncludesSources es n p = (s : List ℕ) → IsPatternSource p n s → ¬ (ExcludeName es s)
 
 -- what the names of a group and some of its patterns say of n, of which none says that a ref is excluded
 abbrev pub HasStateAmong : Exclusions → List Reading → List Pattern → List ℕ → State → Type 0
 HasStateAmong es g ps n Unwritable = ((r : Reading) → Contains g r → ¬ (WritesName r n)) × ((p : Pattern) → Contains ps p → HasPatternState es p n Unwritable)
-HasStateAmong es g ps n Included =
-    IsWritable g n × ((r : Reading) (s : List ℕ) → Contains g r → WritesNameFrom r n s → ¬ (ExcludeName es s)) × ((p : Pattern) (s : List ℕ) → Contains ps p → IsPatternSource p n s → ¬ (ExcludeName es s))
+HasStateAmong es g ps n Included = IsWritable g n × ((r : Reading) (s : List ℕ) → Contains g r → WritesNameFrom r n s → ¬ (ExcludeName es s)) × ((p : Pattern) → Contains ps p → IncludesSources es n p)
 HasStateAmong es g ps n (Excluded k) = ⊥
 
 module _ (g : List Reading) (accepted : AllByRecursion (λ r. ∥ IsAccepted r ∥₁) g) (es : Exclusions) (ps : List Pattern) (are : IsMadeFrom (λ k q x. WritesPattern q x) 0 g ps) (n : List ℕ) where
@@ -135,8 +114,8 @@ module _ (g : List Reading) (accepted : AllByRecursion (λ r. ∥ IsAccepted r �
     | inl (name, none) ↦ names r s inside (record { writes = name; named = record { source = from.source; is = from.is; stands = subst (Matches from.source (ref_named s)) none from.matches } }) ((whole s).1 excluded)
     | inr (d, before, after, w, has, split, some, fits) ↦
         let (p, there, of, so) = its_pattern r d before after w inside from.writes.positive has split fits in
-        let (parts, is, same) = source_taken r p from.source s w of from.is (subst (Matches from.source (ref_named s)) some from.matches) in
-        patterns p s there (record { word = w; fits = so; parts = parts; has = is; is = same }) ((whole s).1 excluded)
+        let (parts, is, same) = source_taken r.source p.source from.source s w from.is of.source (subst (Matches from.source (ref_named s)) some from.matches) in
+        patterns p there s (record { word = w; fits = so; parts = parts; has = is; is = same }) ((whole s).1 excluded)
   ]
 
   -- so with all patterns that is what is known of n
@@ -150,59 +129,44 @@ module _ (g : List Reading) (accepted : AllByRecursion (λ r. ∥ IsAccepted r �
   name_excluded at k (r, s, inside, from, excluded) =
       (s, (r, inside, record { word = None; writes = name_writes r n from.writes; source = from.named.source; is = from.named.is; matches = from.named.stands }), at s k excluded)
 
-  pattern_reading : (p : Pattern) → Contains ps p → (r : Reading) × Contains g r × WritesPattern r p
-  pattern_reading p there = let (k, r, inside, by) = made_from (λ k q x. WritesPattern q x) 0 g ps p are there in (r, inside, by)
-
-  pattern_excluded : AreExclusionsAt g es → (p : Pattern) (k : ℕ) → Contains ps p → HasPatternState es p n (Excluded k) → HasState g n (Excluded k)
-  pattern_excluded at p k there (s, from, excluded) =
-      let (r, inside, by) = pattern_reading p there in
-      let (x, source, split) = subst (HasParts r.source) from.has by.source in (
-        s,
-        (r, inside, record { word = Some from.word; writes = pattern_writes r p n from.word by from.fits; source = x; is = source; matches = record { kind = pattern from.parts.0.now from.parts.1.now; of = split; is = from.is } }),
-        at s k excluded,
-      )
-
-  pattern_writable : (p : Pattern) → Contains ps p → HasPatternState es p n Included → IsWritable g n
-  pattern_writable p there ((word, fits), included) = let (r, inside, by) = pattern_reading p there in (r, Some word, inside, pattern_writes r p n word by fits)
-
   -- what the names say, without patterns
   pub among_none : HasNameState es g n None → HasStateAmong es g [] n Unwritable
   among_none none = (none, λ p there. absurd (nothing_in [] p refl there))
 
   pub among_name : HasNameState es g n (Some None) → HasStateAmong es g [] n Included
-  among_name ((r, inside, writes), included) = ((r, None, inside, name_writes r n writes), included, λ p s there. absurd (nothing_in [] p refl there))
-
-  -- no ref is excluded from which these patterns, or one more, write n
-  included_more : (before : List Pattern) (p : Pattern) → ((q : Pattern) (t : List ℕ) → Contains before q → IsPatternSource q n t → ¬ (ExcludeName es t)) → ((t : List ℕ) → IsPatternSource p n t → ¬ (ExcludeName es t))
-      → (q : Pattern) (t : List ℕ) → Contains (before ++ p ∷ []) q → IsPatternSource q n t → ¬ (ExcludeName es t)
-  included_more before p others last q t there = push_all (λ q. (s : List ℕ) → IsPatternSource q n s → ¬ (ExcludeName es s)) before p (λ q inside s. others q s inside) last q there t
-
-  -- one more pattern, which doesn't match n; which does, and excludes no ref from which it writes it
-  among_unfit : (before : List Pattern) (p : Pattern) (s : State) → HasStateAmong es g before n s → HasPatternState es p n Unwritable → HasStateAmong es g (before ++ p ∷ []) n s
-  among_unfit before p Unwritable (names, patterns) unfit = (names, push_all (λ q. HasPatternState es q n Unwritable) before p patterns unfit)
-  among_unfit before p Included (writable, names, patterns) unfit = (writable, names, included_more before p patterns (λ t from. absurd (unfit from.word from.fits)))
-  among_unfit before p (Excluded k) none unfit = absurd none
-
-  -- no ref from which some of the names or patterns write n is excluded
-  sources_included : (before : List Pattern) (s : State) → HasStateAmong es g before n s
-      → ((r : Reading) (t : List ℕ) → Contains g r → WritesNameFrom r n t → ¬ (ExcludeName es t)) × ((q : Pattern) (t : List ℕ) → Contains before q → IsPatternSource q n t → ¬ (ExcludeName es t))
-  sources_included before Unwritable (names, patterns) = (λ r t inside from. absurd (names r inside from.writes), λ q t there from. absurd (patterns q there from.word from.fits))
-  sources_included before Included (writable, names, patterns) = (names, patterns)
-  sources_included before (Excluded k) none = absurd none
-
-  among_fit : (before : List Pattern) (p : Pattern) (s : State) → Contains ps p → HasStateAmong es g before n s → HasPatternState es p n Included → HasStateAmong es g (before ++ p ∷ []) n Included
-  among_fit before p s there among fit = let (names, patterns) = sources_included before s among in (pattern_writable p there fit, names, included_more before p patterns fit.1)
+  among_name ((r, inside, writes), included) = ((r, None, inside, name_writes r n writes), included, λ p there. absurd (nothing_in [] p refl there))
 
   -- so it is with one more of the patterns
   module _ (i : ℕ) (d : Pattern) (below : i < length ps) where
-    there : Contains ps (get_or ps i d)
-    there = (i, below, get_or_default ps i (get_or ps i d) d below)
+    abbrev p : Pattern
+    p = get_or ps i d
 
-    pub next_unfit : (s : State) → HasStateAmong es g (take i ps) n s → HasPatternState es (get_or ps i d) n Unwritable → HasStateAmong es g (take (i + 1) ps) n s
-    next_unfit s among unfit = rw (take_more ps i d below) (among_unfit (take i ps) (get_or ps i d) s among unfit)
+    its_reading : (r : Reading) × Contains g r × WritesPattern r p
+    its_reading = let (k, r, inside, by) = made_from (λ k q x. WritesPattern q x) 0 g ps p are (i, below, get_or_default ps i p d below) in (r, inside, by)
 
-    pub next_fit : (s : State) → HasStateAmong es g (take i ps) n s → HasPatternState es (get_or ps i d) n Included → HasStateAmong es g (take (i + 1) ps) n Included
-    next_fit s among fit = rw (take_more ps i d below) (among_fit (take i ps) (get_or ps i d) s there among fit)
+    -- which doesn't match n
+    pub next_unfit : (s : State) → HasStateAmong es g (take i ps) n s → HasPatternState es p n Unwritable → HasStateAmong es g (take (i + 1) ps) n s
+    next_unfit Unwritable (names, patterns) unfit = (names, rw (take_more ps i d below) (push_all (λ q. HasPatternState es q n Unwritable) (take i ps) p patterns unfit))
+    next_unfit Included (writable, names, patterns) unfit =
+        (writable, names, rw (take_more ps i d below) (push_all (IncludesSources es n) (take i ps) p patterns (λ t from. absurd (unfit from.word from.fits))))
+    next_unfit (Excluded k) none unfit = absurd none
 
-    pub next_excluded : AreExclusionsAt g es → (k : ℕ) → HasPatternState es (get_or ps i d) n (Excluded k) → HasState g n (Excluded k)
-    next_excluded at k = pattern_excluded at (get_or ps i d) k there
+    -- which does, and excludes no ref from which it writes it
+    pub next_fit : (s : State) → HasStateAmong es g (take i ps) n s → HasPatternState es p n Included → HasStateAmong es g (take (i + 1) ps) n Included
+    next_fit s among ((word, fits), included) =
+        let (r, inside, by) = its_reading in
+        let (names, patterns) = others s among in
+        ((r, Some word, inside, pattern_writes r p n word by fits), names, rw (take_more ps i d below) (push_all (IncludesSources es n) (take i ps) p patterns included))
+      where
+        others : (s : State) → HasStateAmong es g (take i ps) n s → ((r : Reading) (t : List ℕ) → Contains g r → WritesNameFrom r n t → ¬ (ExcludeName es t)) × ((q : Pattern) → Contains (take i ps) q → IncludesSources es n q)
+        others Unwritable (names, patterns) = (λ r t inside from. absurd (names r inside from.writes), λ q there t from. absurd (patterns q there from.word from.fits))
+        others Included (writable, names, patterns) = (names, patterns)
+        others (Excluded k) none = absurd none
+
+    -- which excludes one
+    pub next_excluded : AreExclusionsAt g es → (k : ℕ) → HasPatternState es p n (Excluded k) → HasState g n (Excluded k)
+    next_excluded at k (s, from, excluded) =
+        let (r, inside, by) = its_reading in
+        let (x, source, split) = subst (HasParts r.source) from.has by.source in
+        let matches : Matches x (ref_named s) (Some from.word) = record { kind = pattern from.parts.0.now from.parts.1.now; of = split; is = from.is } in
+        (s, (r, inside, record { word = Some from.word; writes = pattern_writes r p n from.word by from.fits; source = x; is = source; matches = matches }), at s k excluded)

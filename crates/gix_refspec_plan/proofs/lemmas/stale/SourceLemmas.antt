@@ -5,8 +5,6 @@ use Rattle.gix_refspec_plan.proofs.Common.{IsSplit, Reading, SideKind, full_name
 use Rattle.gix_refspec_plan.proofs.Common.{Lacks-from_absent, Exclusions, ExcludeName, ExcludeNameAt, matches_as, same_side, Pattern, ref_named, HasParts, HasPatternState, IsNamedBy, IsPatternSource}
 use Rattle.gix_refspec_plan.proofs.Common.{WritesName, WritesPattern, Included, All-contains, All-map}
 
--- ---- sides
-
 -- what splitting a side at its first star says of it
 abbrev IsSplitAt : List ℕ → Option (Bor (List ℕ) × Bor (List ℕ)) → Type 0
 IsSplitAt x found = MatchOption found (Lacks star x) (λ parts. (x ≡ parts.0.now ++ (star ∷ parts.1.now)) × Lacks star parts.0.now)
@@ -28,8 +26,6 @@ parts_split x (Some parts) few (starred, first) =
 pub unsplit_unwritten : (r : Reading) (p : Pattern) → HasParts r.destination None → ¬ (WritesPattern r p)
 unsplit_unwritten r p none by = none by.destination p.before.now p.after.now by.has by.split
 
--- ---- candidates
-
 contained_split : (l : List (List ℕ)) (n : List ℕ) → Contains l n → (earlier : List (List ℕ)) × (later : List (List ℕ)) × (l ≡ earlier ++ (n ∷ later))
 contained_split l n (k, below, is) =
     (take k l, drop (suc k) l, sym (take-append-drop k l) ∙ ap (λ (t : List (List ℕ)). take k l ++ t) (drop-cons l k n below ∙ ap (λ (x : List ℕ). x ∷ drop (suc k) l) is))
@@ -48,8 +44,6 @@ text_contained texts i b l same below is =
 -- where none of the texts is so, none is
 pub none_contained : (P : List ℕ → Type 0) (texts : List BString) (l : List (List ℕ)) → map bstring_bytes texts ≡ l → All (λ b. ¬ (P (bstring_bytes b))) texts → (s : List ℕ) → Contains l s → ¬ (P s)
 none_contained P texts l same all s there = All-contains (λ t. ¬ (P t)) l s (subst (All (λ t. ¬ (P t))) same (All-map (λ t. ¬ (P t)) bstring_bytes texts all)) there
-
--- ---- by the kind of the source
 
 -- the spec at an index excludes a ref for which the source may stand, or none does
 abbrev pub ExcludesNamed : Exclusions → Reading → Option ℕ → Type 0
@@ -70,8 +64,6 @@ module _ (es : Exclusions) (r : Reading) (x : List ℕ) (source : r.source ≡ S
       → MatchOption by ((s : List ℕ) → Contains (candidates n) s → ¬ (ExcludeName es s)) (λ k. (s : List ℕ) × Contains (candidates n) s × ExcludeNameAt es s k) → ExcludesNamed es r by
   partial_excluded n None of none = λ s named excluded. none s (candidate_contained n s (named_as (partial n) s of named).1) excluded
   partial_excluded n (Some k) of (s, there, at) = (s, as_named (partial n) s of (refl, contained_candidate n s there), at)
-
--- ---- patterns
 
 -- a pattern writes a ref from one
 source_once : (p : Pattern) (n s word : List ℕ) (parts : Bor (List ℕ) × Bor (List ℕ)) → Fits p.before.now p.after.now n word → p.source ≡ Some parts → IsPatternSource p n s → s ≡ parts.0.now ++ (word ++ parts.1.now)

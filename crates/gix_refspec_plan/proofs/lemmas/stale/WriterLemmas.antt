@@ -56,8 +56,6 @@ plain_no_pattern r n p name by =
     let same = same_side r.destination name.destination by.destination name.has by.has in
     Lacks-here star p.before.now p.after.now (subst (Lacks star) (same ∙ by.split.starred) name.lacks)
 
--- ---- writers with one more reading
-
 module _ (r : Reading) (old new : Writers) (keeps : new.exclusions ≡ old.exclusions) where
   -- which writes the name
   pub adds_name : (n : List ℕ) (e : Option ℕ) → new.patterns.items ≡ old.patterns.items → ExcludesNamed old.exclusions r e
@@ -80,8 +78,6 @@ module _ (r : Reading) (old new : Writers) (keeps : new.exclusions ≡ old.exclu
     names = λ m. subst (HasNameState es (g ++ r ∷ []) m) (sym (same m)) (name_stays es g r m (state_for old.names m) (none m) (are.names m));
     patterns = patterns_next g r old.patterns.items new.patterns.items made makes more are.patterns;
   }
-
--- ---- one by one
 
 -- without readings nothing is written
 pub none_written : (es : Exclusions) (w : Writers) → w.exclusions ≡ es → hash_map_len w.names ≡ 0 → w.patterns.items ≡ [] → AreWriters es [] w

@@ -10,9 +10,6 @@ zip_partner R xs ys x all there = absurd (first_of (search rules, omega arith))
 pub there_any : {Y : Type 0} (P : Y → Type 0) (y : Y) (ys : List Y) → Contains ys y → P y → Any P ys
 there_any P y ys (k, below, is) holds = (k, y, below, is, holds)
 
-pub zip_there : {X Y : Type 0} (R : X → Y → Type 0) (xs : List X) (ys : List Y) (P : Y → Type 0) (x : X) → AllZip R xs ys → Contains xs x → ((y : Y) → R x y → P y) → Any P ys
-zip_there R xs ys P x all there holds = let (y, related, inside) = zip_partner R xs ys x all there in there_any P y ys inside (holds y related)
-
 -- the pair of a second element
 pub zip_first : {X Y : Type 0} (R : X → Y → Type 0) (P : Y → Type 0) (xs : List X) (ys : List Y) → AllZip R xs ys → Any P ys → (x : X) × (y : Y) × Contains xs x × R x y × P y
 zip_first R P (x ∷ xs) (y ∷ ys) all (zero, z, below, is, has) = (x, y, (zero, omega arith, refl), all.0, subst P (sym is) has)

@@ -1,4 +1,3 @@
--- the specs so far have these destinations
 use Rattle.gix_refspec_plan.proofs.Common.{map, option_map, take, bstring_bytes, reading_of, AreNewDestinations}
 use Rattle.gix_refspec_plan.proofs.mapped.completed_names.Given as goal
 

@@ -1,4 +1,3 @@
--- the specs so far are completed
 use Rattle.gix_refspec_plan.proofs.Common.{map, take, AllZip, reading_of, IsCompleted}
 use Rattle.gix_refspec_plan.proofs.mapped.completed_specs.Given as goal
 

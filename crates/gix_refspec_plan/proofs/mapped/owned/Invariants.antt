@@ -1,4 +1,3 @@
--- the mappings so far are the same
 use Rattle.gix_refspec_plan.proofs.Common.{◌≡◌, map, mapped_of}
 use Rattle.gix_refspec_plan.proofs.mapped.owned.Given as goal
 

@@ -1,4 +1,3 @@
--- the specs so far
 use Rattle.gix_refspec_plan.proofs.Common.{◌≡◌, map, take, reading_of, asked_of}
 use Rattle.gix_refspec_plan.proofs.mapped.specs_in.Given as goal
 

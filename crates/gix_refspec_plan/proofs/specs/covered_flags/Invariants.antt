@@ -1,4 +1,3 @@
--- the flags of the merged refs so far
 use Rattle.gix_refspec_plan.proofs.lemmas.plan.CoveredLemmas.{AreCopied}
 use Rattle.gix_refspec_plan.proofs.specs.covered_flags.Given as goal
 

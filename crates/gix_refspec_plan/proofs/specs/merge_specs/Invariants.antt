@@ -1,4 +1,3 @@
--- the merged refs that are asked for so far
 use Rattle.gix_refspec_plan.proofs.Common.{map, take, bstr_bytes, IsMadeFrom, mapped_of, asked_of}
 use Rattle.gix_refspec_plan.proofs.lemmas.plan.SpecLemmas.{Merges}
 use Rattle.gix_refspec_plan.proofs.specs.merge_specs.Given as goal

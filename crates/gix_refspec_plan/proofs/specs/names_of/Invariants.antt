@@ -1,4 +1,3 @@
--- the names of the mappings, and of the merged refs so far
 use Rattle.gix_refspec_plan.proofs.Common.{map, take, bstr_bytes, mapped_of, AreNames}
 use Rattle.gix_refspec_plan.proofs.specs.names_of.Given as goal
 

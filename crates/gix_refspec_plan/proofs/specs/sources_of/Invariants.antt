@@ -1,4 +1,3 @@
--- the names of the sound mappings so far
 use Rattle.gix_refspec_plan.proofs.Common.{map, take, bstr_bytes, mapped_of, AreSoundNames}
 use Rattle.gix_refspec_plan.proofs.specs.sources_of.Given as goal
 

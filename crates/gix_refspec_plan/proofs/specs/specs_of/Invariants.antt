@@ -1,4 +1,3 @@
--- the specs of the part so far
 use Rattle.gix_refspec_plan.proofs.Common.{map, take, reading_of, AreThose, IsIn, origin_in, asked_of}
 use Rattle.gix_refspec_plan.proofs.specs.specs_of.Given as goal
 

@@ -1,4 +1,3 @@
--- the items that are taken so far
 use Rattle.gix_refspec_plan.proofs.Common.{map, take, mapped_of, ref_of}
 use Rattle.gix_refspec_plan.proofs.lemmas.plan.TakenLemmas.{ArePicked}
 use Rattle.gix_refspec_plan.proofs.specs.taken_by.Given as goal

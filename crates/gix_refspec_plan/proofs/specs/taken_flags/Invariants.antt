@@ -1,4 +1,3 @@
--- the items of the mappings so far
 use Rattle.gix_refspec_plan.proofs.Common.{map, take, mapped_of}
 use Rattle.gix_refspec_plan.proofs.lemmas.plan.TakenLemmas.{AreTakenFlags}
 use Rattle.gix_refspec_plan.proofs.specs.taken_flags.Given as goal

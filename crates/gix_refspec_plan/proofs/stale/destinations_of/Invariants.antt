@@ -1,4 +1,3 @@
--- the destinations of the mappings so far
 use Rattle.gix_refspec_plan.proofs.Common.{map, take, bstr_bytes, mapped_of, AreDestinations}
 use Rattle.gix_refspec_plan.proofs.stale.destinations_of.Given as goal
 

@@ -1,4 +1,3 @@
--- no candidate so far is excluded
 use Rattle.gix_refspec_plan.proofs.Common.{All, take, bstring_bytes, ExcludeName}
 use Rattle.gix_refspec_plan.proofs.stale.excluded_candidate.Given as goal
 

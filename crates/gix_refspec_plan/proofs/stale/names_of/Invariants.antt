@@ -1,4 +1,3 @@
--- the destinations, and the names of the local refs so far
 use Rattle.gix_refspec_plan.proofs.Common.{map, take, bstr_bytes, mapped_of, ref_of}
 use Rattle.gix_refspec_plan.specs.Private.Stales.{AreNames}
 use Rattle.gix_refspec_plan.proofs.stale.names_of.Given as goal

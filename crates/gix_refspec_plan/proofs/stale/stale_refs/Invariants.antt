@@ -1,4 +1,3 @@
--- what is told of the local refs so far
 use Rattle.gix_refspec_plan.proofs.Common.{map, take, reading_of, IsMadeFrom, ref_of, found_of}
 use Rattle.gix_refspec_plan.proofs.lemmas.stale.StateLemmas.{Tells}
 use Rattle.gix_refspec_plan.proofs.stale.stale_refs.Given as goal

@@ -1,7 +1,7 @@
 -- One more spec has one more name.
-use Rattle.gix_refspec_plan.proofs.Common.{option_map, bstring_bytes, reading_of, IsWrittenBy}
+use Rattle.gix_refspec_plan.proofs.Common.{rules}
 use Rattle.gix_refspec_plan.proofs.lemmas.plan.NameLemmas.{zip_next}
 use Rattle.gix_refspec_plan.proofs.stale.written_names.Goals as goal
 
 pub loop-spec-preserved : goal.loop-spec-preserved
-loop-spec-preserved c = zip_next IsWrittenBy reading_of (option_map bstring_bytes) c.args.specs.now c.loop-spec.spec-index c.spec-item.result _ _ _ c.loop-spec-test.true c.spec-item.is c.loop-spec.invariant c.in_ok-written_by.ensures c.in_ok-push.ensures.items
+loop-spec-preserved c = search (rules, zip_next)

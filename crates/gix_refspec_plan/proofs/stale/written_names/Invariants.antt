@@ -1,4 +1,3 @@
--- the names that the specs so far write
 use Rattle.gix_refspec_plan.proofs.Common.{map, option_map, take, AllZip, bstring_bytes, reading_of, IsWrittenBy}
 use Rattle.gix_refspec_plan.proofs.stale.written_names.Given as goal
 

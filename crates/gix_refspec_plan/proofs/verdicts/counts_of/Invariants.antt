@@ -1,4 +1,3 @@
--- the destinations of the sound mappings so far are counted
 use Rattle.gix_refspec_plan.proofs.Common.{map, take, mapped_of, CountDestinations}
 use Rattle.gix_refspec_plan.proofs.verdicts.counts_of.Given as goal
 

@@ -1,4 +1,3 @@
--- the updates of the mappings so far
 use Rattle.gix_refspec_plan.proofs.Common.{◌≡◌, length, map, asked_of}
 use Rattle.gix_refspec_plan.proofs.lemmas.plan.JudgeLemmas.{AreSoMany}
 use Rattle.gix_refspec_plan.proofs.verdicts.first_updates.Given as goal

@@ -1,4 +1,3 @@
--- the verdicts on the mappings so far
 use Rattle.gix_refspec_plan.proofs.Common.{map, take, AllZip, mapped_of, HasVerdict}
 use Rattle.gix_refspec_plan.proofs.verdicts.first_verdicts.Given as goal
 

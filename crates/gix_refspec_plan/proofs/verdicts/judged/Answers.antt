@@ -1,6 +1,6 @@
 -- The lists are joined, to find which pairs of the second one are in the first, and split again.
-use Rattle.gix_refspec_plan.proofs.Common.{◌++◌, ◌≡◌, [], List, length, map, sym, ◌∙◌, subst, arith, eqb-true, nil_from_length, Mapping, mapped_of, ok_weaker, AreFirst, asked_of, planned_of, rules}
-use Rattle.gix_refspec_plan.proofs.lemmas.plan.JudgeLemmas.{front_again, judged_alone, judged_of, known_of, split_again}
+use Rattle.gix_refspec_plan.proofs.Common.{◌++◌, ◌≡◌, [], List, length, map, refl, sym, ◌∙◌, subst, arith, eqb-true, nil_from_length, Mapping, mapped_of, ok_weaker, AreFirst, asked_of, planned_of, rules}
+use Rattle.gix_refspec_plan.proofs.lemmas.plan.JudgeLemmas.{judged_alone, judged_of, known_of, split_again}
 use Rattle.gix_refspec_plan.proofs.verdicts.judged.Goals as goal
 
 pub returns-then-is_empty : goal.returns-then-is_empty
@@ -21,7 +21,7 @@ pub first_updates-requires-2 : goal.first_updates-requires-2
 first_updates-requires-2 c =
     let xs = c.args.firsts.items in
     let at : c.len-firsts_len.result ≡ length xs = omega (arith, c.len-firsts_len.ensures, c.args.firsts.ok.0, c.args.firsts.ok.1) in
-    let back : c.truncate.new.self.items ≡ xs = front_again xs c.args.tracked.mappings.items _ _ _ c.in_ok-append.ensures.items at c.truncate.ensures.items in
+    let back : c.truncate.new.self.items ≡ xs = (split_again xs c.args.tracked.mappings.items _ _ _ _ c.in_ok-append.ensures.items at c.truncate.ensures.items refl).0 in
     rw back (search rules)
 
 pub returns : goal.returns
@@ -29,7 +29,7 @@ returns c =
     let xs = c.args.firsts.items in
     let ys = c.args.tracked.mappings.items in
     let at : c.len-firsts_len.result ≡ length xs = omega (arith, c.len-firsts_len.ensures, c.args.firsts.ok.0, c.args.firsts.ok.1) in
-    let back : c.truncate.new.self.items ≡ xs = front_again xs ys _ _ _ c.in_ok-append.ensures.items at c.truncate.ensures.items in
+    let back : c.truncate.new.self.items ≡ xs = (split_again xs ys _ _ _ _ c.in_ok-append.ensures.items at c.truncate.ensures.items refl).0 in
     let whole : c.as_slice-3.result.now ≡ xs ++ ys = c.as_slice-3.ensures.value ∙ c.in_ok-append.ensures.items in
     let first = subst (λ (l : List Mapping). AreFirst (map asked_of c.args.asked.now) (map mapped_of l) (map planned_of c.in_ok-updates.updates.items)) back c.in_ok-updates.ensures in
     judged_of _ _ _ xs ys _ _ c.in_ok-updates.updates.items c.in_ok-besides.besides.items _ (split_again xs ys c.as_slice-3.result.now _ _ _ whole at c.split_at.ensures.front c.split_at.ensures.back) first

@@ -1,4 +1,3 @@
--- the updates of the mappings so far
 use Rattle.gix_refspec_plan.proofs.Common.{map, take, mapped_of, IsMadeFrom, IsPlannedBesides, asked_of, planned_of}
 use Rattle.gix_refspec_plan.proofs.verdicts.second_updates.Given as goal
 

@@ -1,4 +1,3 @@
--- what the specs so far write
 use Rattle.gix_refspec_plan.proofs.Common.{map, take, reading_of}
 use Rattle.gix_refspec_plan.proofs.lemmas.stale.WriterLemmas.{AreWritersSoFar}
 use Rattle.gix_refspec_plan.proofs.stale.Writers.of.Given as goal

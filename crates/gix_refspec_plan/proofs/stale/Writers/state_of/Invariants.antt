@@ -1,4 +1,3 @@
--- what the names and the patterns so far say
 use Rattle.gix_refspec_plan.proofs.Common.{List, take, bstr_bytes, Reading, AreWritersOf}
 use Rattle.gix_refspec_plan.proofs.lemmas.stale.PatternLemmas.{HasStateAmong}
 use Rattle.gix_refspec_plan.proofs.stale.Writers.state_of.Given as goal
