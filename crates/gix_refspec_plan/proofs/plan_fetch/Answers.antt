@@ -1,6 +1,4 @@
--- The plan has the parts that its steps make.
-use Rattle.gix_refspec_plan.proofs.Common.{rules}
-use Rattle.gix_refspec_plan.proofs.lemmas.plan.JudgeLemmas.{mappings_of, tracked_mappings}
+use Rattle.gix_refspec_plan.proofs.{Common.rules, lemmas.plan.JudgeLemmas.mappings_of, lemmas.plan.JudgeLemmas.tracked_mappings}
 use Rattle.gix_refspec_plan.proofs.plan_fetch.Goals as goal
 
 pub judged-requires : goal.judged-requires

@@ -1,4 +1,3 @@
--- An update that is in conflict stops the fetch.
 use Rattle.gix_refspec_plan.proofs.Common.{◌≡◌, ◌≢◌, [], map, refl, sym, subst, take_all, arith, eqb-true, false≢true, nil_from_length, All-map, All-more, recursion_from_All, Update, IsCarriedOut, Planned}
 use Rattle.gix_refspec_plan.proofs.Common.{planned_of, each_mapped, InConflict}
 use Rattle.gix_refspec_plan.proofs.Plan.is_carried_out.Goals as goal

@@ -1,6 +1,5 @@
 -- The specs that are asked for are those whose sources have to be there, and some more.
-use Rattle.gix_refspec_plan.proofs.Common.{map, ref_of, wish_of}
-use Rattle.gix_refspec_plan.proofs.lemmas.plan.CarriedLemmas.{carried_out_exactly}
+use Rattle.gix_refspec_plan.proofs.{Common.map, Common.ref_of, Common.wish_of, lemmas.plan.CarriedLemmas.carried_out_exactly}
 use Rattle.gix_refspec_plan.proofs.laws.carried_out_exactly.Goals as goal
 
 pub returns : goal.returns

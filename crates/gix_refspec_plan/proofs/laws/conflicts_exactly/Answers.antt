@@ -1,6 +1,5 @@
 -- By the verdicts on mappings.
-use Rattle.gix_refspec_plan.proofs.Common.{map, ref_of, wish_of}
-use Rattle.gix_refspec_plan.proofs.lemmas.plan.OpposedLemmas.{conflicts_exactly}
+use Rattle.gix_refspec_plan.proofs.{Common.map, Common.ref_of, Common.wish_of, lemmas.plan.OpposedLemmas.conflicts_exactly}
 use Rattle.gix_refspec_plan.proofs.laws.conflicts_exactly.Goals as goal
 
 pub returns : goal.returns

@@ -1,6 +1,5 @@
 -- Each part of the plan is determined by those before it.
-use Rattle.gix_refspec_plan.proofs.Common.{map, ref_of, wish_of}
-use Rattle.gix_refspec_plan.proofs.lemmas.plan.OnePlanLemmas.{one_plan}
+use Rattle.gix_refspec_plan.proofs.{Common.map, Common.ref_of, Common.wish_of, lemmas.plan.OnePlanLemmas.one_plan}
 use Rattle.gix_refspec_plan.proofs.laws.one_plan.Goals as goal
 
 pub returns : goal.returns

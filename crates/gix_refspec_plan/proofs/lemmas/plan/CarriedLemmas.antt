@@ -19,20 +19,17 @@ those_have origin_at specs asked r stays those has =
     (λ k. (record { reading = r; origin = origin_at k }, (refl, tt)))
     (λ k a (is, any). (ap (λ (x : Asked). x.reading) is, λ may. stays k (subst MayBeMissing (ap (λ (x : Asked). x.origin) is) may)))
 
--- the reading of one of those
 those_are : (origin_at : ℕ → Origin) (specs : List Reading) (asked : List Asked) (a : Asked) → AreThose (λ r. Unit {0}) origin_at specs asked → Contains asked a → Contains specs a.reading
 those_are origin_at specs asked a those has =
     let (k, r, inside, (is, any)) = made_from (λ (k : ℕ) (r : Reading) (a : Asked). (a ≡ record { reading = r; origin = origin_at k }) × Unit {0}) 0 specs asked a those has in
     subst (Contains specs) (sym (ap (λ (x : Asked). x.reading) is)) inside
 
--- what is merged may be missing
 merges_may : (wish : Wish) (refs : List Ref) (merges : List Asked) (a : Asked) → AreUncovered wish refs merges → Contains merges a → MayBeMissing a.origin
 merges_may wish refs merges a (inl (none, empty)) has = absurd (nothing_in merges a empty has)
 merges_may wish refs merges a (inr (configured, mapped, those, are_mapped, made)) has =
     let (k, n, inside, told) = made_from (λ k n a. (a ≡ record { reading = fetched_alone n; origin = Merge k }) × IsRefName n × ¬ (Covers mapped n) × ¬ (Contains (take k wish.merges) n)) 0 wish.merges merges a made has in
     subst MayBeMissing (sym (ap (λ (x : Asked). x.origin) told.0)) tt
 
--- the spec for all tags lacks nothing
 pub tags_lack_nothing : (refs : List Ref) → ¬ (LacksSource refs all_tags)
 tags_lack_nothing refs lacks = elim lacks.named [ inl full ↦ starred full.1 | inr short ↦ starred short.1 ]
   where
@@ -43,7 +40,6 @@ tags_are : (b : Bool) (a : Asked) → Contains (tags_asked b) a → a.reading �
 tags_are false a has = absurd (nothing_in [] a refl has)
 tags_are true a has = ap (λ (x : Asked). x.reading) (one_in _ a has)
 
--- a source that has to be there is asked for
 required_asked : (wish : Wish) (refs : List Ref) (asked : List Asked) (r : Reading) → AreAsked wish refs asked → IsRequired wish r → IsAskedWith asked r
 required_asked wish refs asked r (AreAsked.by_call given some those is) (IsRequired.by_call has) = with_more given (tags_asked wish.tags) asked r is (those_have Given wish.given given r (λ k may. may) those has)
 required_asked wish refs asked r (AreAsked.by_call given some those is) (IsRequired.by_configuration none has) = absurd (some none)
@@ -54,11 +50,12 @@ required_asked wish refs asked r (AreAsked.without all none are is) (IsRequired.
   | AreConfigured.by_default empty alone same ↦ absurd (nothing_in wish.configured r empty has)
 ])
 required_asked wish refs asked r (AreAsked.without all none are is) (IsRequired.by_default also empty alone same) = with_more all (tags_asked wish.tags) asked r is (elim are [
-  | AreConfigured.by_configuration configured merges some those uncovered joined ↦ absurd (elim some [ inl has ↦ has empty | inr has ↦ has alone ])
-  | AreConfigured.by_default none_configured none_merged only ↦ (record { reading = fetched_alone head; origin = Default }, rw only (0, omega arith, refl), (sym same, λ may. may))
+  | AreConfigured.by_configuration configured merges some those uncovered joined ↦ absurd
+      (elim some [ inl has ↦ has empty | inr has ↦ has alone ])
+  | AreConfigured.by_default none_configured none_merged only ↦
+      (record { reading = fetched_alone head; origin = Default }, rw only (0, omega arith, refl), (sym same, λ may. may))
 ])
 
--- a spec whose source has to be there is required, or it is that for all tags
 asked_required : (wish : Wish) (refs : List Ref) (asked : List Asked) (a : Asked) → AreAsked wish refs asked → Contains asked a → ¬ (MayBeMissing a.origin) → IsRequired wish a.reading ⊎ (a.reading ≡ all_tags)
 asked_required wish refs asked a (AreAsked.by_call given some those is) has stays =
     let inside = subst (λ (l : List Asked). Contains l a) is has in
@@ -74,13 +71,6 @@ asked_required wish refs asked a (AreAsked.without all none are is) has stays =
     by (AreConfigured.by_default none_configured none_merged only) inside = IsRequired.by_default none none_configured none_merged (ap (λ (x : Asked). x.reading) (one_in _ a (subst (λ (l : List Asked). Contains l a) only inside)))
 
 module _ (wish : Wish) (refs : List Ref) (planned : List Planned) (missing : List Origin) (plan : IsPlan wish refs planned missing) where
-  -- a spec whose source is missing is told, unless it may be missing
-  lacking_told : (a : Asked) → Contains plan.asked a → ¬ (MayBeMissing a.origin) → LacksSource refs a.reading → missing ≢ []
-  lacking_told a has stays lacks empty =
-      let (o, inside, any) = made_has (λ (k : ℕ) (a : Asked) (o : Origin). (o ≡ a.origin) × ¬ (MayBeMissing o) × LacksSource refs a.reading) (λ o. Unit {0}) 0 plan.asked missing a plan.lacks has
-      (λ k. (a.origin, (refl, stays, lacks))) (λ k o told. tt) in
-      nothing_in missing o empty inside
-
   -- what is told is required
   told_lacking : ((r : Reading) → IsRequired wish r → ¬ (LacksSource refs r)) → (l : List Origin) → missing ≡ l → l ≡ []
   told_lacking none [] is = refl
@@ -95,7 +85,9 @@ carried_out_exactly wish refs planned missing plan = (
   (λ carried. (
     (λ r required lacks.
         let (a, has, (is, stays)) = required_asked wish refs plan.asked r plan.are_asked required in
-        lacking_told wish refs planned missing plan a has stays (subst (LacksSource refs) (sym is) lacks) carried.whole),
+        let (o, inside, any) = made_has (λ (k : ℕ) (a : Asked) (o : Origin). (o ≡ a.origin) × ¬ (MayBeMissing o) × LacksSource refs a.reading) (λ o. Unit {0}) 0 plan.asked missing a plan.lacks has
+            (λ k. (a.origin, (refl, stays, rw is lacks))) (λ k o told. tt) in
+        nothing_in missing o carried.whole inside),
     (λ p q has_p has_q both.
         All-contains (λ (x : Planned). x.verdict ≢ InConflict) planned p
         (All-from_recursion (λ (x : Planned). x.verdict ≢ InConflict) planned carried.free) has_p (in_conflict wish refs planned missing plan p q has_p has_q both)),

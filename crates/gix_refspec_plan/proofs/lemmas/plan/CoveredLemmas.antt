@@ -3,17 +3,14 @@ use Rattle.gix_refspec_plan.proofs.Common.{◌≡◌, ◌⊎◌, inl, inr, ◌�
 use Rattle.gix_refspec_plan.proofs.Common.{take-append-add, cases_lt, get_or-append-add, get_or-map, get_or-take, get_or_append_left, get_or_push, length-append, length-map, length-take-le, length_push}
 use Rattle.gix_refspec_plan.proofs.Common.{Contains-append_cases, Contains-append_left, Contains-append_right, BStr, bstr_bytes, Mapped, name, FlagsDuplicates, IsDuplicate, IsFlagged, some_element, Covers}
 use Rattle.gix_refspec_plan.proofs.Common.{IsSound, AreNames, same_Some, HasDestination, ref_names, Ref, Some, rules, ◌≢◌, Option, None, option_map, append_assoc, refl, map-append, map_more, Item, NameRef}
-use Rattle.gix_refspec_plan.proofs.Common.{name_bytes, ref_of}
+use Rattle.gix_refspec_plan.proofs.{Common.name_bytes, Common.ref_of, lemmas.plan.MadeLemmas.made_exactly}
 use Rattle.std.specs.declared.cmp.Ordering.{Ordering}
 use Rattle.gix_refspec_match.specs.Private.Orders.{bytes_order, equal_texts, same_texts}
 use Rattle.gix_refspec_plan.specs.Private.Stales.{AreNames as AreLocalNames}
-use Rattle.gix_refspec_plan.proofs.lemmas.plan.MadeLemmas.{made_exactly}
 
--- the order of names
 abbrev pub by_text : BStr → BStr → Ordering
 by_text x y = bytes_order (bstr_bytes x) (bstr_bytes y)
 
--- a name is a duplicate exactly where an earlier one is the same
 duplicate_text : (names : List BStr) (k : ℕ) (e : List ℕ) → k < length names
     → IsDuplicate by_text names k ↔ Contains (take k (map bstr_bytes names)) (get_or (map bstr_bytes names) k e)
 duplicate_text names k e below = (
@@ -75,7 +72,6 @@ module _ (P : List ℕ → Type 0) (ms : List (List ℕ)) (names : List BStr) (b
 abbrev pub AreCopied : List Bool → ℕ → ℕ → List Bool → Type 0
 AreCopied all fetched i flags = (length flags ≡ i) × ((k : ℕ) → k < i → IsFlagged flags k ↔ IsFlagged all (fetched + k))
 
--- one more flag
 pub copied_next : (all old new : List Bool) (fetched i place : ℕ) (b : Bool) → AreCopied all fetched i old → place ≡ fetched + i → IsTrue b ↔ IsFlagged all place → new ≡ old ++ b ∷ []
     → AreCopied all fetched (i + 1) new
 copied_next all old new fetched i place b (long, so_far) here told more = (
@@ -86,12 +82,10 @@ copied_next all old new fetched i place b (long, so_far) here told more = (
   ],
 )
 
--- what is none of the names of a side isn't its text
 pub no_side : (side : Option NameRef) → ((x : NameRef) → side ≢ Some x) → (n : List ℕ) → option_map name_bytes side ≢ Some n
 no_side None none n same = cc (same)
 no_side (Some x) none n same = none x refl
 
--- one more local ref behind the others
 pub local_next : (local : List Item) (i : ℕ) (d : Item) (mapped : List Mapped) (old new : List BStr) → i < length local
     → AreLocalNames mapped (map ref_of (take i local)) (map bstr_bytes old) → new ≡ old ++ (get_or local i d).full_ref_name ∷ [] → AreLocalNames mapped (map ref_of (take (i + 1) local)) (map bstr_bytes new)
 local_next local i d mapped old new below (ds, are, whole) more = (ds, are, rw (more, map-append, whole, map_more ref_of local i d below, map-append) (append_assoc ds (map (λ r. r.name) (map ref_of (take i local))) _))

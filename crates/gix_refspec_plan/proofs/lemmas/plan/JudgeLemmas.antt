@@ -5,7 +5,7 @@ use Rattle.gix_refspec_plan.proofs.Common.{Contains, slice_get, drop-append_seam
 use Rattle.gix_refspec_plan.proofs.Common.{take_more, All-from_recursion, slice_get-map, slice_get_read, DeclaredAsked, Origin, Update, Verdict, Mapping, Ref, IsMadeFrom, AreApart, HasPair, IsSamePair}
 use Rattle.gix_refspec_plan.proofs.Common.{Mapped, FlagsDuplicates, IsDuplicate, IsFlagged, IsMappingCopy, mapped_of, AreMapped, Asked, HasOrigin, HasSecondVerdict, HasVerdict, IsCompleted, IsPlanned}
 use Rattle.gix_refspec_plan.proofs.Common.{IsPlannedBesides, IsTracked, Planned, Wish, AreFirst, AreJudged, AreMappings, AreSecond, CountDestinations, FlagKnown, IsCount, planned_by, asked_of, planned_of}
-use Rattle.gix_refspec_plan.proofs.Common.{copied_mapping, each_mapped, Overruled}
+use Rattle.gix_refspec_plan.proofs.Common.{copied_mapping, each_mapped}
 use Rattle.gix_refspec_match.proofs.lemmas.keep.KeptLemmas.{HasPair-left, by_pair, duplicate_at, kept_once}
 use Rattle.gix_refspec_match.proofs.lemmas.keep.RepeatLemmas.{some_mapping}
 use Rattle.gix_refspec.proofs.lemmas.validate.AfterLemmas.{forward_fits}
@@ -22,30 +22,23 @@ module _ (ms : List Mapping) (i : ℕ) (m : Mapping) (below : i < length ms) (is
   pub spec_inside : (asked : List DeclaredAsked) → AreMappings (map asked_of asked) (map mapped_of ms) → m.spec_index < length asked
   spec_inside asked are = let here = each_mapped mapped_of (λ n. n.spec < length (map asked_of asked)) ms i m are.fit below is in omega (arith, here, length-map asked asked_of)
 
-  -- the verdict at its place
   pub verdict_at : (l : List Mapped) (verdicts : List Verdict) (e : Verdict) → AllZip (HasVerdict l) (map mapped_of ms) verdicts → HasVerdict l (mapped_of m) (get_or verdicts i e)
   verdict_at l verdicts e all = rw (mapped_here (mapped_of m)) at (zip_at (HasVerdict l) (map mapped_of ms) verdicts i (mapped_of m) e all (omega (arith, below, length-map ms mapped_of)))
 
-  -- whether its pair is among those of other mappings
   pub known_here : (xs : List Mapping) (flags : List Bool) → FlagKnown (map mapped_of xs) (map mapped_of ms) flags → IsFlagged flags (length xs + i) ↔ HasPair (map mapped_of xs) (mapped_of m)
   known_here xs flags known = rw (length-map xs mapped_of, mapped_here (mapped_of m)) at (known i (mapped_of m) (omega (arith, below, length-map ms mapped_of)))
 
--- the origin of the spec at an index
 pub origin_at : (asked : List DeclaredAsked) (m : Mapped) (d : DeclaredAsked) → m.spec < length asked → HasOrigin (map asked_of asked) m (get_or asked m.spec d).origin
 origin_at asked m d below =
     let a = get_or asked m.spec d in
     (asked_of a, slice_get-map asked_of asked m.spec ∙ ap (option_map asked_of) (slice_get_read asked (length asked) m.spec a refl below (get_or_default asked m.spec d a below)), refl)
 
--- no destination is known of no mappings
 pub none_counted : (counts : BTreeMap (Bor (List ℕ)) Bool) → counts.entries ≡ [] → CountDestinations [] counts
 none_counted counts empty d = subst (λ (es : List (Bor (List ℕ) × Bool)). IsCount [] d (lookup (is_at (λ k. slice_cmp nat_cmp d k.now)) es)) (sym empty) (λ (i, x, below, at, also). omega (arith, below))
 
--- where nothing overrules a mapping
 pub only_verdict : (l : List Mapped) (m : Mapped) (v : Verdict) → HasSecondVerdict [] l m v → HasVerdict l m v
-only_verdict l m Overruled (sound, (n, (i, below, at), sound_n, share)) = omega (arith, below)
-only_verdict l m v is = search rules
+only_verdict l m v is = grind arith
 
--- one more verdict, where nothing overrules
 pub verdict_next : (ms : List Mapping) (i : ℕ) (m : Mapping) (l : List Mapped) (old new : List Verdict) (v : Verdict) → i < length ms → m ≡ get_or ms i m → AllZip (HasVerdict l) (map mapped_of (take i ms)) old
     → HasSecondVerdict [] l (mapped_of m) v → new ≡ old ++ v ∷ [] → AllZip (HasVerdict l) (map mapped_of (take (i + 1) ms)) new
 verdict_next ms i m l old new v below is so_far judged more =
@@ -55,7 +48,6 @@ verdict_next ms i m l old new v below is so_far judged more =
 module _ (ms : List Mapping) (i : ℕ) (m : Mapping) (old : List Update) (below : i < length ms) (is : m ≡ get_or ms i m) (asked : List Asked) (indexes : List ℕ) (firsts l : List Mapped)
     (so_far : IsMadeFrom (λ k x p. IsPlannedBesides asked indexes firsts l x p) 0 (map mapped_of (take i ms)) (map planned_of old))
     (flags : List Bool) (n : ℕ) (known : IsFlagged flags n ↔ HasPair firsts (mapped_of m)) (b : Bool) (told : IsTrue b ↔ (IsSome (mapped_of m).destination × ¬ (IsFlagged flags n))) where
-  -- of the second list
   pub second_next : (new : List Update) (u : Update) (item : Option ℕ) (o : Origin) (v : Verdict) → b ≡ true → MatchOption m.item_index (item ≡ None) (λ j. slice_get indexes j ≡ item)
       → HasOrigin asked (mapped_of m) o → HasSecondVerdict firsts l (mapped_of m) v → planned_of u ≡ planned_by (mapped_of m) item o v → new ≡ old ++ u ∷ []
       → IsMadeFrom (λ k x p. IsPlannedBesides asked indexes firsts l x p) 0 (map mapped_of (take (i + 1) ms)) (map planned_of new)
@@ -81,7 +73,6 @@ first_more ms xs m asked verdicts old new u o n e (below, is) (so_far, long) all
     let next = made_one (λ j x p. IsPlanned asked (map mapped_of ms) x p) mapped_of planned_of ms (length old) m old (omega (arith, below, long)) (is ∙ ap (λ (k : ℕ). get_or ms k m) (sym long)) so_far new u planned more in
     (subst (λ (k : ℕ). IsMadeFrom (λ j x p. IsPlanned asked (map mapped_of ms) x p) 0 (map mapped_of (take k ms)) (map planned_of new)) (sym longer) next, omega (arith, longer, long, length-append xs (m ∷ [])))
 
--- an update by a copy of a mapping
 pub planned_copy : (m copy : Mapping) (u : Update) (item : Option ℕ) (o : Origin) (v : Verdict) → IsMappingCopy m copy → planned_of u ≡ planned_by (mapped_of copy) item o v → planned_of u ≡ planned_by (mapped_of m) item o v
 planned_copy m copy u item o v copied same = same ∙ ap (λ (x : Mapped). planned_by x item o v) (copied_mapping m copy copied)
 
@@ -119,7 +110,6 @@ pub tracked_mappings : (wish : Wish) (refs : List Ref) (asked : List Asked) (ind
 tracked_mappings wish refs asked indexes l (IsTracked.by_call positive negative taken some are_positive are_negative all are_taken mapped) = mappings_of asked taken l mapped
 tracked_mappings wish refs asked indexes l (IsTracked.nothing none no_specs no_indexes no_mappings) = subst (AreMappings asked) (sym no_mappings) (record { fit = tt; apart = tt })
 
--- two lists that are joined and split again
 pub split_again : (xs ys all fs bs : List Mapping) (n : ℕ) → all ≡ xs ++ ys → n ≡ length xs → fs ≡ take n all → bs ≡ drop n all → (fs ≡ xs) × (bs ≡ ys)
 split_again xs ys all fs bs n whole at front back = (cc (take-append_seam xs ys), cc (drop-append_seam xs ys))
 
@@ -130,7 +120,6 @@ judged_of asked tracking indexes xs ys fs bs before behind new (first, second) a
     let seconds = rw (first, second) at are_behind in
     record { before = map planned_of before; behind = map planned_of behind; are_before = are_before; are_behind = seconds; all = ap (map planned_of) joined ∙ map-append planned_of before behind }
 
--- without a second list
 pub judged_alone : (asked tracking : List Asked) (indexes : List ℕ) (firsts : List Mapped) (ys : List Mapping) (new : List Planned) → ys ≡ [] → AreFirst asked firsts new
     → AreJudged asked firsts tracking indexes (map mapped_of ys) new
 judged_alone asked tracking indexes firsts ys new none first =

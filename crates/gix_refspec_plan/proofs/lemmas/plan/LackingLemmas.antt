@@ -3,7 +3,6 @@ use Rattle.gix_refspec_plan.proofs.Common.{◌≡◌, ℕ, suc, ◌+◌, ◌<◌
 use Rattle.gix_refspec_plan.proofs.Common.{AllByRecursion, get_or-map, get_or_default, length-map, length-take-le, map-append, take_more, All-from_recursion, DeclaredAsked, RefSpecRef, reading_of, asked_of}
 use Rattle.gix_refspec_plan.proofs.Common.{Origin, Reading, Ref, IsMadeFrom, MakesOf, AreMissing, LacksSource, made_next, AreLacking, Asked, MayBeMissing}
 
--- the indexes are those of specs
 missing_below : (refs : List Ref) (len k : ℕ) (g : List Reading) (missing : List ℕ) → k + length g ≡ len → IsMadeFrom (λ n r made. (made ≡ n) × LacksSource refs r) k g missing → AllByRecursion (λ n. n < len) missing
 missing_below refs len k [] missing long empty = rw empty tt
 missing_below refs len k (r ∷ g) missing long (None, rest, none, more, is) = rw is (missing_below refs len (k + 1) g rest (omega (arith, long)) more)
@@ -17,7 +16,6 @@ missing_within asked specs given refs missing indexes j readings same are listed
     let all = missing_below refs (length asked) 0 (map reading_of given) missing (omega (arith, size)) are in
     All-from_recursion (λ (m : ℕ). m < length asked) indexes (rw listed all) j 0 below
 
--- one more spec
 pub readings_next : (asked : List DeclaredAsked) (i : ℕ) (a : DeclaredAsked) (old new : List RefSpecRef) → i < length asked → a ≡ get_or asked i a → map reading_of old ≡ map (λ a. a.reading) (map asked_of (take i asked)) → new ≡ old ++ a.spec ∷ []
     → map reading_of new ≡ map (λ a. a.reading) (map asked_of (take (i + 1) asked))
 readings_next asked i a old new below is so_far more =
@@ -27,11 +25,9 @@ readings_next asked i a old new below is so_far more =
 abbrev pub Origins : List Asked → ℕ → ℕ → Origin → Type 0
 Origins asked j index o = ((d : Asked) → o ≡ (get_or asked index d).origin) × ¬ (MayBeMissing o)
 
--- the origin of an element
 pub origin_at : (asked : List DeclaredAsked) (n : ℕ) (e : DeclaredAsked) → n < length asked → (d : Asked) → (get_or asked n e).origin ≡ (get_or (map asked_of asked) n d).origin
 origin_at asked n e below d = ap (λ (x : Asked). x.origin) (sym (get_or-map asked_of asked n e d below))
 
--- one more index
 pub origin_next : (asked : List Asked) (indexes : List ℕ) (i d : ℕ) (old new : List Origin) (made : Option Origin) → i < length indexes → IsMadeFrom (Origins asked) 0 (take i indexes) old
     → MakesOf (Origins asked) i (get_or indexes i d) made → new ≡ old ++ option_to_list made → IsMadeFrom (Origins asked) 0 (take (i + 1) indexes) new
 origin_next asked indexes i d old new made below so_far makes more =

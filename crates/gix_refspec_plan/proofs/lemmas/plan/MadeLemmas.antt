@@ -12,11 +12,9 @@ one_in x y (suc i, below, at) = absurd (omega (arith, below))
 pub there : {X : Type 0} (y : X) (xs : List X) (x : X) → Contains xs x → Contains (y ∷ xs) x
 there y xs x (i, below, at) = (suc i, omega (arith, below), at)
 
--- what holds of each element, and of one more
 pub push_all : {X : Type 0} (P : X → Type 0) (xs : List X) (x : X) → ((y : X) → Contains xs y → P y) → P x → (y : X) → Contains (xs ++ x ∷ []) y → P y
 push_all P xs x all last y there = elim (Contains-push_cases xs x y there) [ inl before ↦ all y before | inr same ↦ subst P same last ]
 
--- what a relation makes is made of some element
 pub made_from : {X Y : Type 0} (R : ℕ → X → Y → Type 0) (k : ℕ) (xs : List X) (ys : List Y) (y : Y) → IsMadeFrom R k xs ys → Contains ys y → (j : ℕ) × (x : X) × Contains xs x × R j x y
 made_from {X} {Y} R k xs ys y made (i, below, at) =
     let is_y = λ (z : Y). z ≡ y in
@@ -40,7 +38,6 @@ made_exactly {X} {Y} R once xs ys made y = (
 
 module _ {A B X Y : Type 0} (R : ℕ → X → Y → Type 0) (f : A → X) (h : B → Y) (xs : List A) (i : ℕ) (x : A) (old : List B) (below : i < length xs) (is : x ≡ get_or xs i x)
     (so_far : IsMadeFrom R 0 (map f (take i xs)) (map h old)) where
-  -- of which one more value is made; of which nothing is
   pub made_one : (new : List B) (y : B) → R i (f x) (h y) → new ≡ old ++ y ∷ [] → IsMadeFrom R 0 (map f (take (i + 1) xs)) (map h new)
   made_one new y makes more = made_more R f xs i x (map h old) (map h new) (Some (h y)) below so_far (subst (λ (z : A). R i (f z) (h y)) is makes) (ap (map h) more ∙ map-append h old (y ∷ []))
 

@@ -3,7 +3,6 @@ use Rattle.gix_refspec_plan.proofs.Common.{◌≡◌, ℕ, zero, suc, ◌+◌, �
 use Rattle.gix_refspec_plan.proofs.Common.{take_more, rules}
 use Rattle.std.proofs.lemmas.Slice.Zip.{AllZip-long, all_zipped_more}
 
--- one more pair of a zip
 pub zip_more : {X Y : Type 0} (R : X → Y → Type 0) (xs : List X) (ys : List Y) (x : X) (y : Y) → AllZip R xs ys → R x y → AllZip R (xs ++ x ∷ []) (ys ++ y ∷ [])
 zip_more R xs ys x y all here = all_zipped_more R xs ys x y all here
 
@@ -15,13 +14,11 @@ zip_at R (x ∷ xs) (y ∷ ys) zero d e all below = all.0
 zip_at R (x ∷ xs) (y ∷ ys) (suc i) d e all below = zip_at R xs ys i d e all.1 (omega arith)
 zip_at R xs ys i d e all below = absurd (first_of (search rules, omega arith))
 
--- mapped lists with one more element each
 pub zip_next : {A X B Y : Type 0} (R : X → Y → Type 0) (f : A → X) (h : B → Y) (xs : List A) (i : ℕ) (x : A) (old new : List B) (y : B) → i < length xs → x ≡ get_or xs i x
     → AllZip R (map f (take i xs)) (map h old) → R (f x) (h y) → new ≡ old ++ y ∷ [] → AllZip R (map f (take (i + 1) xs)) (map h new)
 zip_next R f h xs i x old new y below is so_far here more =
     rw (take_more xs i x below, more, map-append, map-append) (zip_more R (map f (take i xs)) (map h old) (f (get_or xs i x)) (h y) so_far (subst (λ a. R (f a) (h y)) is here))
 
--- what relates mapped lists relates the elements at an index
 pub zip_mapped_at : {A X B Y : Type 0} (R : X → Y → Type 0) (f : A → X) (h : B → Y) (xs : List A) (ys : List B) (i : ℕ) (x : A) (y : B) → AllZip R (map f xs) (map h ys)
     → i < length xs → x ≡ get_or xs i x → y ≡ get_or ys i y → R (f x) (h y)
 zip_mapped_at R f h xs ys i x y all below is_x is_y =

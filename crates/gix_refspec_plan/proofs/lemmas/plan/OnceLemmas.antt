@@ -1,9 +1,9 @@
 -- No ref is written twice.
 use Rattle.gix_refspec_plan.proofs.Common.{◌≡◌, ℕ, ◌+◌, List, [], ◌∷◌, ◌++◌, None, Some, get_or, refl, sym, ◌∙◌, subst, arith, AllByRecursion, Contains, Contains-get_or, recursion_from_All, Ref, all_join}
-use Rattle.gix_refspec_plan.proofs.Common.{IsMadeFrom, AreApart, IsSamePair, Mapped, Asked, HasSecondVerdict, HasVerdict, IsContested, IsPlanned, IsPlannedBesides, IsSound, Planned, Wish, AreWrittenApart}
-use Rattle.gix_refspec_plan.proofs.Common.{AreWrittenOnce, WritesOnce, Written, All-contains, All-from_recursion}
+use Rattle.gix_refspec_plan.proofs.Common.{IsMadeFrom, AreApart, IsSamePair, Mapped, HasSecondVerdict, HasVerdict, IsContested, IsPlanned, IsPlannedBesides, IsSound, Planned, Wish, AreWrittenApart}
+use Rattle.gix_refspec_plan.proofs.Common.{AreWrittenOnce, WritesOnce, Written, All-contains, All-from_recursion, inl}
 use Rattle.gix_refspec_plan.proofs.lemmas.plan.JudgeLemmas.{mappings_of, tracked_mappings}
-use Rattle.gix_refspec_plan.proofs.lemmas.plan.MadeLemmas.{there, made_from}
+use Rattle.gix_refspec_plan.proofs.lemmas.plan.{MadeLemmas.there, MadeLemmas.made_from, OpposedLemmas.never_both}
 
 -- what is written of a list of mappings is sound, and nothing else of that list has its destination
 module _ (all : List Mapped) (R : ℕ → Mapped → Planned → Type 0)
@@ -20,7 +20,8 @@ module _ (all : List Mapped) (R : ℕ → Mapped → Planned → Type 0)
       → AllByRecursion (λ n. ¬ (IsSamePair m n)) l → IsMadeFrom R k l ps → AllByRecursion (AreWrittenApart p) ps
   each_apart j k m p l ps of_p inside differ made = recursion_from_All (AreWrittenApart p) ps (λ i d below.
       let (n_at, n, has, of_q) = made_from R k l ps (get_or ps i d) made (Contains-get_or ps i d below) in
-      pair_apart j n_at m n p (get_or ps i d) of_p of_q (inside n has) (All-contains (λ n. ¬ (IsSamePair m n)) l n (All-from_recursion (λ n. ¬ (IsSamePair m n)) l differ) has))
+      pair_apart j n_at m n p (get_or ps i d) of_p of_q (inside n has)
+          (All-contains (λ n. ¬ (IsSamePair m n)) l n (All-from_recursion (λ n. ¬ (IsSamePair m n)) l differ) has))
 
   list_once : (k : ℕ) (l : List Mapped) (ps : List Planned) → ((n : Mapped) → Contains l n → Contains all n) → AreApart l → IsMadeFrom R k l ps → AreWrittenOnce ps
   list_once k [] ps inside apart none = rw none tt
@@ -35,13 +36,6 @@ once_join (p ∷ xs) ys (later, once_xs) once_ys apart = (
   once_join xs ys once_xs once_ys (λ x y has. apart x y (there p xs x has)),
 )
 
--- what the first list writes, the second one doesn't
-first_wins : (asked tracking : List Asked) (indexes : List ℕ) (firsts seconds : List Mapped) (m n : Mapped) (p q : Planned) → Contains firsts m → IsPlanned asked firsts m p → IsPlannedBesides tracking indexes firsts seconds n q → AreWrittenApart p q
-first_wins asked tracking indexes firsts seconds m n p q has of_p of_q p_written q_written d p_to q_to =
-    let first = subst (HasVerdict firsts m) p_written of_p.verdict in
-    let second = subst (HasSecondVerdict firsts seconds n) q_written of_q.verdict in
-    second.1 (m, has, first.0, (d, sym of_q.destination ∙ q_to, sym of_p.destination ∙ p_to))
-
 pub writes_once : (wish : Wish) (refs : List Ref) → WritesOnce wish refs
 writes_once wish refs planned missing plan = subst AreWrittenOnce (sym plan.all) (once_join plan.before plan.behind
     (list_once plan.firsts (λ k m p. IsPlanned plan.asked plan.firsts m p)
@@ -50,7 +44,4 @@ writes_once wish refs planned missing plan = subst AreWrittenOnce (sym plan.all)
     (list_once plan.seconds (λ k m p. IsPlannedBesides plan.tracking plan.indexes plan.firsts plan.seconds m p)
     (λ k m p of. (of.destination, λ written. let is = subst (HasSecondVerdict plan.firsts plan.seconds m) written of.verdict in (is.0, is.2)))
     0 plan.seconds plan.behind (λ n has. has) (tracked_mappings wish refs plan.tracking plan.indexes plan.seconds plan.are_seconds).apart plan.are_behind)
-    (λ p q has_p has_q.
-    let (j, m, has, of_p) = made_from (λ k m p. IsPlanned plan.asked plan.firsts m p) 0 plan.firsts plan.before p plan.are_before has_p in
-    let (k, n, also, of_q) = made_from (λ k m p. IsPlannedBesides plan.tracking plan.indexes plan.firsts plan.seconds m p) 0 plan.seconds plan.behind q plan.are_behind has_q in
-    first_wins plan.asked plan.tracking plan.indexes plan.firsts plan.seconds m n p q has of_p of_q))
+    (λ p q has_p has_q p_written q_written. never_both wish refs planned missing plan p q has_p has_q (inl p_written) (inl q_written)))

@@ -3,21 +3,19 @@ use Rattle.gix_refspec_plan.proofs.Common.{◌≡◌, ◌⊎◌, inl, inr, ℕ, 
 use Rattle.gix_refspec_plan.proofs.Common.{Verdict, InvalidSide, star, Lacks, HasStar, Reading, fetched_alone, written_name_of, Ref, Lacks-ContainsText, Mapped, AreKeptForward, LacksSource, one_forward}
 use Rattle.gix_refspec_plan.proofs.Common.{IsRefName, AreAsked, AreConfigured, AreMapped, AreMerges, AreTaken, AreThose, AreUncovered, Asked, Covers, HasOrigin, HasSecondVerdict, HasVerdict, IsCompleted}
 use Rattle.gix_refspec_plan.proofs.Common.{IsNegativeReading, IsPlanned, IsPlannedBesides, IsPositiveReading, IsTakenAt, IsTracked, IsUnwritableAt, MayBeMissing, Planned, Wish, OnePlan, rules, Configured}
-use Rattle.gix_refspec_plan.proofs.Common.{Given, Merge, arith}
+use Rattle.gix_refspec_plan.proofs.Common.{arith}
+use Rattle.gix_refspec_plan.proofs.{Common.Given, Common.Merge, lemmas.plan.OpposedLemmas.unsound, lemmas.plan.OpposedLemmas.as_second}
 use Rattle.gix_refspec_match.proofs.lemmas.lists.ListsLemmas.{made_once}
 use Rattle.gix_refspec.specs.declared.match_group.ref_names.InvalidSide.TheVariants as invalid
-use Rattle.gix_refspec_plan.proofs.lemmas.plan.OpposedLemmas.{unsound, as_second}
 
 those_once : (P : Reading → Type 0) (origin_at : ℕ → Origin) (specs : List Reading) (a b : List Asked) → AreThose P origin_at specs a → AreThose P origin_at specs b → a ≡ b
 those_once P origin_at specs = made_once (λ (k : ℕ) (r : Reading) (a : Asked). (a ≡ record { reading = r; origin = origin_at k }) × P r) (λ k r x y of_x of_y. of_x.0 ∙ sym of_y.0) 0 specs
 
--- what the destination of a spec becomes
 abbrev Becomes : Option (List ℕ) → Option (List ℕ) → Type 0
 Becomes d x = MatchOption d (x ≡ None) (λ t. (HasStar t × (x ≡ Some t)) ⊎ (Lacks star t × (x ≡ Some (written_name_of t))))
 
 destination_once : (d x y : Option (List ℕ)) → Becomes d x → Becomes d y → x ≡ y
-destination_once None x y is also = is ∙ sym also
-destination_once (Some t) x y of_x of_y = search (rules, of_x, of_y, Lacks-ContainsText star t)
+destination_once d x y of_x of_y = grind (arith, Lacks-ContainsText star)
 
 pub reading_once : (r a b : Reading) → IsCompleted r a → IsCompleted r b → a ≡ b
 reading_once r a b is also =

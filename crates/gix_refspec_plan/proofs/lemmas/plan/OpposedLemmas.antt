@@ -1,138 +1,138 @@
 -- An update is in conflict exactly if it conflicts with another one.
-use Rattle.gix_refspec_plan.proofs.Common.{◌≡◌, ◌⊎◌, inl, inr, ◌↔◌, ℕ, ◌<◌, List, [], ◌∷◌, Option, None, Some, IsSome, MatchOption, get_or, length, refl, sym, ◌∙◌, subst, arith, Contains, slice_get}
-use Rattle.gix_refspec_plan.proofs.Common.{get_or_default, All-from_recursion, Contains-append_cases, Contains-append_left, Contains-append_right, Contains-get_or, recursion_from_All, slice_get_read}
-use Rattle.gix_refspec_plan.proofs.Common.{Origin, Verdict, InvalidSide, Ref, HasPair, IsSamePair, Mapped, IsValidSource, Asked, CanBeWritten, HasOrigin, HasSecondVerdict, HasVerdict, IsContested, IsPlan}
-use Rattle.gix_refspec_plan.proofs.Common.{IsPlanned, IsPlannedBesides, IsSound, IsTakenOver, IsUnwritableAt, Planned, Wish, ConflictsExactly, DoConflict, All-contains, Written, LeftOut, InConflict, rules}
-use Rattle.gix_refspec_plan.proofs.Common.{Any-HasPair, IsOfPair, some_at}
+use Rattle.gix_refspec_plan.proofs.Common.{◌≡◌, ◌⊎◌, inl, inr, ◌↔◌, ℕ, ◌<◌, List, [], Option, None, Some, IsSome, MatchOption, get_or, length, refl, sym, ◌∙◌, subst, Contains, slice_get, get_or_default}
+use Rattle.gix_refspec_plan.proofs.Common.{All-from_recursion, Contains-append_cases, Contains-append_left, Contains-append_right, Contains-get_or, recursion_from_All, slice_get_read, Origin, Verdict}
+use Rattle.gix_refspec_plan.proofs.Common.{InvalidSide, Ref, HasPair, IsSamePair, Mapped, IsValidSource, Asked, CanBeWritten, HasOrigin, HasSecondVerdict, HasVerdict, IsContested, IsPlan, IsPlanned}
+use Rattle.gix_refspec_plan.proofs.Common.{IsPlannedBesides, IsSound, IsTakenOver, IsUnwritableAt, Planned, Wish, ConflictsExactly, DoConflict, All-contains, Written, InConflict, rules, Any-HasPair}
+use Rattle.gix_refspec_plan.proofs.Common.{IsOfPair, some_at, some_element, AreMappings, ◌≢◌, arith}
 use Rattle.gix_refspec.specs.declared.match_group.ref_names.InvalidSide.TheVariants as invalid
 use Rattle.gix_refspec_plan.proofs.lemmas.plan.JudgeLemmas.{mappings_of, tracked_mappings}
 use Rattle.gix_refspec_plan.proofs.lemmas.plan.MadeLemmas.{made_from, nothing_in, made_has}
 
--- a mapping with an invalid side isn't sound
 pub unsound : (side : InvalidSide) (m : Mapped) → IsUnwritableAt side m → ¬ (IsSound m)
 unsound invalid.Source m (bad, good) sound = bad sound.source
 unsound side m is sound = search rules
 
-module _ (firsts l : List Mapped) (m : Mapped) where
-  second_sound_of : (v : Verdict) → HasSecondVerdict firsts l m v → (v ≡ Written) ⊎ (v ≡ InConflict) → IsSound m × ¬ (IsTakenOver firsts m)
-  second_sound_of v has (inl is) = let told = subst (HasSecondVerdict firsts l m) is has in (told.0, told.1)
-  second_sound_of v has (inr is) = let told = subst (HasSecondVerdict firsts l m) is has in (told.0, told.1)
+module _ (over l : List Mapped) (m : Mapped) where
+  sound_of : (v : Verdict) → HasSecondVerdict over l m v → (v ≡ Written) ⊎ (v ≡ InConflict) → IsSound m × ¬ (IsTakenOver over m)
+  sound_of v has either = grind arith
 
-  pub second_conflict_of : (v : Verdict) → IsSound m → ¬ (IsTakenOver firsts m) → IsContested l m → HasSecondVerdict firsts l m v → v ≡ InConflict
-  second_conflict_of InConflict sound free contested has = refl
-  second_conflict_of v sound free contested has = absurd (search (rules, unsound))
+  conflict_of : (v : Verdict) → IsSound m → ¬ (IsTakenOver over m) → IsContested l m → HasSecondVerdict over l m v → v ≡ InConflict
+  conflict_of v sound free contested has = grind (arith, unsound)
+
+untaken : (m : Mapped) → ¬ (IsTakenOver [] m)
+untaken m (n, has, sound, share) = nothing_in [] n refl has
 
 -- a verdict of one list is the same where another list without mappings wins
-module _ (l : List Mapped) (m : Mapped) where
-  untaken : ¬ (IsTakenOver [] m)
-  untaken (n, has, sound, share) = nothing_in [] n refl has
+pub as_second : (l : List Mapped) (m : Mapped) (v : Verdict) → HasVerdict l m v → HasSecondVerdict [] l m v
+as_second l m v is = grind (arith, untaken m)
 
-  pub as_second : (v : Verdict) → HasVerdict l m v → HasSecondVerdict [] l m v
-  as_second (LeftOut side) is = is
-  as_second v is = search (rules, untaken)
-
-  sound_of : (v : Verdict) → HasVerdict l m v → (v ≡ Written) ⊎ (v ≡ InConflict) → IsSound m
-  sound_of v has either = (second_sound_of [] l m v (as_second v has) either).0
-
-  conflict_of : (v : Verdict) → IsSound m → IsContested l m → HasVerdict l m v → v ≡ InConflict
-  conflict_of v sound contested has = second_conflict_of [] l m v sound untaken contested (as_second v has)
-
--- the origin of a spec at an index
-origin_of : (asked : List Asked) (m : Mapped) → m.spec < length asked → (o : Origin) × HasOrigin asked m o
-origin_of [] m below = absurd (omega (arith, below))
-origin_of (a ∷ asked) m below =
-    let all = a ∷ asked in
-    let b = get_or all m.spec a in
-    (b.origin, (b, slice_get_read all (length all) m.spec b refl below (get_or_default all m.spec a b below), refl))
+origin_of : (asked : List Asked) (l : List Mapped) (m : Mapped) → AreMappings asked l → Contains l m → (o : Origin) × HasOrigin asked m o
+origin_of asked l m are has =
+    let below : m.spec < length asked = All-contains (λ (x : Mapped). x.spec < length asked) l m (All-from_recursion (λ (x : Mapped). x.spec < length asked) l are.fit) has in
+    let d = some_element asked m.spec below in
+    let a = get_or asked m.spec d in
+    (a.origin, (a, slice_get_read asked (length asked) m.spec a refl below (get_or_default asked m.spec d a below), refl))
 
 -- the index among all refs, of an index among those that are taken
 item_of : (indexes : List ℕ) (j : Option ℕ) → (item : Option ℕ) × MatchOption j (item ≡ None) (λ i. slice_get indexes i ≡ item)
 item_of indexes None = (None, refl)
 item_of indexes (Some j) = (slice_get indexes j, refl)
 
--- a pair that some mapping has
 pub pair_in : (l : List Mapped) (m : Mapped) → HasPair l m → (n : Mapped) × Contains l n × IsSamePair n m
 pair_in l m has = let (k, n, below, is, same) = some_at (IsOfPair m) l (Any-HasPair l m has) in (n, (k, below, is), same)
 
 sound_pair : (m n : Mapped) → IsSamePair m n → IsSound n → IsSound m
 sound_pair m n same sound = record { source = subst IsValidSource (sym same.source) sound.source; destination = subst CanBeWritten (sym same.destination) sound.destination }
 
--- a mapping whose destination some first one has
-taken_from : (firsts : List Mapped) (m n : Mapped) (d : List ℕ) → m.destination ≡ Some d → n.destination ≡ Some d → IsTakenOver firsts n → IsTakenOver firsts m
-taken_from firsts m n d m_to n_to (x, has, sound, (e, from, to)) = (x, has, sound, (d, m_to, to ∙ sym from ∙ n_to))
+-- the update by a mapping of l, where the mappings of over win
+abbrev IsUpdate : List Mapped → List Mapped → Mapped → Planned → Type 0
+IsUpdate over l m p = (p.source ≡ m.source) × (p.destination ≡ m.destination) × HasSecondVerdict over l m p.verdict
 
--- the updates of a plan
+-- each update is by a mapping, and each mapping in conflict has one
+pub record AreUpdates (over l : List Mapped) (updates : List Planned) : Type 0 where
+  pub by : (p : Planned) → Contains updates p → (m : Mapped) × Contains l m × IsUpdate over l m p
+  pub of : (m : Mapped) → Contains l m → IsSound m → ¬ (IsTakenOver over m) → IsContested l m
+      → (p : Planned) × Contains updates p × IsUpdate over l m p
+
+module _ (over l : List Mapped) (updates : List Planned) (are : AreUpdates over l updates) where
+  list_opposed : (p : Planned) → Contains updates p → p.verdict ≡ InConflict → (q : Planned) × Contains updates q × DoConflict p q
+  list_opposed p has is =
+      let (m, inside, (source, destination, verdict)) = are.by p has in
+      let (sound, free, (n, also, sound_n, (d, from, to), differ)) = subst (HasSecondVerdict over l m) is verdict in
+      let free_n : ¬ (IsTakenOver over n) =
+          λ (x, has_x, sound_x, (e, n_to, x_to)). free (x, has_x, sound_x, (d, from, x_to ∙ sym n_to ∙ to)) in
+      let contested : IsContested l n = (m, inside, sound, (d, to, from), λ same. differ (sym same)) in
+      let (q, has_q, (q_source, q_destination, q_verdict)) = are.of n also sound_n free_n contested in
+      let q_is = conflict_of over l n q.verdict sound_n free_n contested q_verdict in
+      (q, has_q, record { one = inr is; other = inr q_is; destination = d; one_to = destination ∙ from; other_to = q_destination ∙ to; differ = λ same. differ (sym source ∙ same ∙ q_source) })
+
+  list_conflict : (p q : Planned) → Contains updates p → Contains updates q → DoConflict p q → p.verdict ≡ InConflict
+  list_conflict p q has_p has_q both =
+      let (m, in_m, (m_source, m_destination, m_verdict)) = are.by p has_p in
+      let (n, in_n, (n_source, n_destination, n_verdict)) = are.by q has_q in
+      let (sound, free) = sound_of over l m p.verdict m_verdict both.one in
+      let sound_n = (sound_of over l n q.verdict n_verdict both.other).0 in
+      let contested : IsContested l m = (n, in_n, sound_n, (both.destination, sym m_destination ∙ both.one_to, sym n_destination ∙ both.other_to),
+          λ same. both.differ (m_source ∙ same ∙ sym n_source)) in
+      conflict_of over l m p.verdict sound free contested m_verdict
+
 module _ (wish : Wish) (refs : List Ref) (planned : List Planned) (missing : List Origin) (plan : IsPlan wish refs planned missing) where
-  -- an update is made of a mapping of the first list, or of the second
-  update_cases : (p : Planned) → Contains planned p
-      → ((m : Mapped) × Contains plan.firsts m × IsPlanned plan.asked plan.firsts m p) ⊎ ((m : Mapped) × Contains plan.seconds m × IsPlannedBesides plan.tracking plan.indexes plan.firsts plan.seconds m p)
-  update_cases p has = elim (Contains-append_cases plan.before plan.behind p (subst (λ (l : List Planned). Contains l p) plan.all has)) [
-    | inl before ↦ let (j, m, in_firsts, of_p) = made_from (λ k m p. IsPlanned plan.asked plan.firsts m p) 0 plan.firsts plan.before p plan.are_before before in inl (m, in_firsts, of_p)
-    | inr behind ↦ let (j, m, in_seconds, of_p) = made_from (λ k m p. IsPlannedBesides plan.tracking plan.indexes plan.firsts plan.seconds m p) 0 plan.seconds plan.behind p plan.are_behind behind in inr (m, in_seconds, of_p)
-  ]
+  firsts_are : AreUpdates [] plan.firsts plan.before
+  firsts_are = record {
+    by = λ p has.
+        let (k, m, inside, of_p) = made_from (λ k m p. IsPlanned plan.asked plan.firsts m p) 0 plan.firsts plan.before p plan.are_before has in
+        (m, inside, (of_p.source, of_p.destination, as_second plan.firsts m p.verdict of_p.verdict));
+    of = λ m has sound free contested.
+        let (o, from) = origin_of plan.asked plan.firsts m (mappings_of plan.asked refs plan.firsts plan.are_firsts) has in
+        made_has (λ k m p. IsPlanned plan.asked plan.firsts m p) (IsUpdate [] plan.firsts m) 0 plan.firsts plan.before m plan.are_before has
+        (λ k. (record { source = m.source; item = m.item; destination = m.destination; origin = o; verdict = InConflict }, record { source = refl; item = refl; destination = refl; origin = from; verdict = (sound, contested) }))
+        (λ k p of_p. (of_p.source, of_p.destination, as_second plan.firsts m p.verdict of_p.verdict));
+  }
 
-  -- a contested mapping of the first list has an update in conflict
-  first_in_conflict : (n : Mapped) → Contains plan.firsts n → IsSound n → IsContested plan.firsts n
-      → (q : Planned) × Contains planned q × ((q.verdict ≡ InConflict) × (q.source ≡ n.source) × (q.destination ≡ n.destination))
-  first_in_conflict n has sound contested =
-      let fit = All-from_recursion (λ (x : Mapped). x.spec < length plan.asked) plan.firsts (mappings_of plan.asked refs plan.firsts plan.are_firsts).fit in
-      let (o, from) = origin_of plan.asked n (All-contains (λ (x : Mapped). x.spec < length plan.asked) plan.firsts n fit has) in
-      let (q, inside, is) = made_has (λ k m p. IsPlanned plan.asked plan.firsts m p) (λ q. (q.verdict ≡ InConflict) × (q.source ≡ n.source) × (q.destination ≡ n.destination)) 0 plan.firsts plan.before n plan.are_before has
-      (λ j. (record { source = n.source; item = n.item; destination = n.destination; origin = o; verdict = InConflict }, record { source = refl; item = refl; destination = refl; origin = from; verdict = (sound, contested) }))
-      (λ j z of_z. (conflict_of plan.firsts n z.verdict sound contested of_z.verdict, of_z.source, of_z.destination)) in
-      (q, subst (λ (l : List Planned). Contains l q) (sym plan.all) (Contains-append_left plan.before plan.behind q inside), is)
+  seconds_are : AreUpdates plan.firsts plan.seconds plan.behind
+  seconds_are = record {
+    by = λ p has.
+        let (k, m, inside, of_p) = made_from (λ k m p. IsPlannedBesides plan.tracking plan.indexes plan.firsts plan.seconds m p) 0 plan.seconds plan.behind p plan.are_behind has in
+        (m, inside, (of_p.source, of_p.destination, of_p.verdict));
+    of = λ m has sound free (n, also, sound_n, (d, to, n_to), differ).
+        let (o, from) = origin_of plan.tracking plan.seconds m (tracked_mappings wish refs plan.tracking plan.indexes plan.seconds plan.are_seconds) has in
+        let (item, among) = item_of plan.indexes m.item in
+        let unpaired : ¬ (HasPair plan.firsts m) = λ pair. let (x, inside, same) = pair_in plan.firsts m pair in free (x, inside, sound_pair x m same sound, (d, to, same.destination ∙ to)) in
+        made_has (λ k m p. IsPlannedBesides plan.tracking plan.indexes plan.firsts plan.seconds m p) (IsUpdate plan.firsts plan.seconds m) 0 plan.seconds plan.behind m plan.are_behind has
+        (λ k. (
+          record { source = m.source; item = item; destination = m.destination; origin = o; verdict = InConflict },
+          record { updates = subst IsSome (sym to) refl; new = unpaired; source = refl; item = among; destination = refl; origin = from; verdict = (sound, free, (n, also, sound_n, (d, to, n_to), differ)) },
+        ))
+        (λ k p of_p. (of_p.source, of_p.destination, of_p.verdict));
+  }
 
-  -- so has one of the second list, unless it is overruled
-  second_in_conflict : (n : Mapped) (d : List ℕ) → Contains plan.seconds n → IsSound n → n.destination ≡ Some d → ¬ (IsTakenOver plan.firsts n) → IsContested plan.seconds n
-      → (q : Planned) × Contains planned q × ((q.verdict ≡ InConflict) × (q.source ≡ n.source) × (q.destination ≡ n.destination))
-  second_in_conflict n d has sound to free contested =
-      let fit = All-from_recursion (λ (x : Mapped). x.spec < length plan.tracking) plan.seconds (tracked_mappings wish refs plan.tracking plan.indexes plan.seconds plan.are_seconds).fit in
-      let (o, from) = origin_of plan.tracking n (All-contains (λ (x : Mapped). x.spec < length plan.tracking) plan.seconds n fit has) in
-      let (item, among) = item_of plan.indexes n.item in
-      let (q, inside, is) = made_has (λ k m p. IsPlannedBesides plan.tracking plan.indexes plan.firsts plan.seconds m p) (λ q. (q.verdict ≡ InConflict) × (q.source ≡ n.source) × (q.destination ≡ n.destination)) 0 plan.seconds plan.behind n plan.are_behind has
-      (λ j. (
-        record { source = n.source; item = item; destination = n.destination; origin = o; verdict = InConflict },
-        record { updates = subst IsSome (sym to) refl; new = unpaired; source = refl; item = among; destination = refl; origin = from; verdict = (sound, free, contested) },
-      ))
-      (λ j z of_z. (second_conflict_of plan.firsts plan.seconds n z.verdict sound free contested of_z.verdict, of_z.source, of_z.destination)) in
-      (q, subst (λ (l : List Planned). Contains l q) (sym plan.all) (Contains-append_right plan.before plan.behind q inside), is)
-    where
-      unpaired : ¬ (HasPair plan.firsts n)
-      unpaired pair = let (x, inside, same) = pair_in plan.firsts n pair in free (x, inside, sound_pair x n same sound, (d, to, same.destination ∙ to))
+  listed : (p : Planned) → Contains planned p → Contains plan.before p ⊎ Contains plan.behind p
+  listed p has = Contains-append_cases plan.before plan.behind p (subst (λ (l : List Planned). Contains l p) plan.all has)
 
   pub opposed : (p : Planned) → Contains planned p → p.verdict ≡ InConflict → (q : Planned) × Contains planned q × DoConflict p q
-  opposed p has is = elim (update_cases p has) [
-    | inl (m, inside, of_p) ↦
-        let (sound, (n, also, sound_n, (d, from, to), differ)) = subst (HasVerdict plan.firsts m) is of_p.verdict in
-        let (q, has_q, (q_is, q_source, q_destination)) = first_in_conflict n also sound_n (m, inside, sound, (d, to, from), λ same. differ (sym same)) in
-        (q, has_q, record { one = inr is; other = inr q_is; destination = d; one_to = of_p.destination ∙ from; other_to = q_destination ∙ to; differ = λ same. differ (sym of_p.source ∙ same ∙ q_source) })
-    | inr (m, inside, of_p) ↦
-        let (sound, free, (n, also, sound_n, (d, from, to), differ)) = subst (HasSecondVerdict plan.firsts plan.seconds m) is of_p.verdict in
-        let (q, has_q, (q_is, q_source, q_destination)) = second_in_conflict n d also sound_n to (λ taken. free (taken_from plan.firsts m n d from to taken)) (m, inside, sound, (d, to, from), λ same. differ (sym same)) in
-        (q, has_q, record { one = inr is; other = inr q_is; destination = d; one_to = of_p.destination ∙ from; other_to = q_destination ∙ to; differ = λ same. differ (sym of_p.source ∙ same ∙ q_source) })
-  ]
+  opposed p has is = rw plan.all (elim (listed p has) [
+    | inl first ↦ let (q, inside, both) = list_opposed [] plan.firsts plan.before firsts_are p first is in (q, Contains-append_left plan.before plan.behind q inside, both)
+    | inr second ↦ let (q, inside, both) = list_opposed plan.firsts plan.seconds plan.behind seconds_are p second is in (q, Contains-append_right plan.before plan.behind q inside, both)
+  ])
 
-  -- an update that conflicts with another one is in conflict
+  -- what the first list writes, the second one doesn't
+  pub never_both : (p q : Planned) → Contains plan.before p → Contains plan.behind q → (p.verdict ≡ Written) ⊎ (p.verdict ≡ InConflict)
+      → (q.verdict ≡ Written) ⊎ (q.verdict ≡ InConflict)
+      → (d : List ℕ) → p.destination ≡ Some d → q.destination ≢ Some d
+  never_both p q has_p has_q one other d p_to q_to =
+      let (m, in_m, (m_source, m_destination, m_verdict)) = firsts_are.by p has_p in
+      let (n, in_n, (n_source, n_destination, n_verdict)) = seconds_are.by q has_q in
+      let sound = (sound_of [] plan.firsts m p.verdict m_verdict one).0 in
+      (sound_of plan.firsts plan.seconds n q.verdict n_verdict other).1 (m, in_m, sound, (d, sym n_destination ∙ q_to, sym m_destination ∙ p_to))
+
   pub in_conflict : (p q : Planned) → Contains planned p → Contains planned q → DoConflict p q → p.verdict ≡ InConflict
-  in_conflict p q has_p has_q both = by (update_cases p has_p) (update_cases q has_q)
+  in_conflict p q has_p has_q both = by (listed p has_p) (listed q has_q)
     where
-      by : ((m : Mapped) × Contains plan.firsts m × IsPlanned plan.asked plan.firsts m p) ⊎ ((m : Mapped) × Contains plan.seconds m × IsPlannedBesides plan.tracking plan.indexes plan.firsts plan.seconds m p)
-          → ((m : Mapped) × Contains plan.firsts m × IsPlanned plan.asked plan.firsts m q) ⊎ ((m : Mapped) × Contains plan.seconds m × IsPlannedBesides plan.tracking plan.indexes plan.firsts plan.seconds m q)
-          → p.verdict ≡ InConflict
-      by (inl (m, in_m, of_p)) (inl (n, in_n, of_q)) =
-          conflict_of plan.firsts m p.verdict (sound_of plan.firsts m p.verdict of_p.verdict both.one)
-          (n, in_n, sound_of plan.firsts n q.verdict of_q.verdict both.other, (both.destination, sym of_p.destination ∙ both.one_to, sym of_q.destination ∙ both.other_to), λ same. both.differ (of_p.source ∙ same ∙ sym of_q.source))
-          of_p.verdict
-      by (inl (m, in_m, of_p)) (inr (n, in_n, of_q)) =
-          absurd ((second_sound_of plan.firsts plan.seconds n q.verdict of_q.verdict both.other).1 (m, in_m, sound_of plan.firsts m p.verdict of_p.verdict both.one, (both.destination, sym of_q.destination ∙ both.other_to, sym of_p.destination ∙ both.one_to)))
-      by (inr (m, in_m, of_p)) (inl (n, in_n, of_q)) =
-          absurd ((second_sound_of plan.firsts plan.seconds m p.verdict of_p.verdict both.one).1 (n, in_n, sound_of plan.firsts n q.verdict of_q.verdict both.other, (both.destination, sym of_p.destination ∙ both.one_to, sym of_q.destination ∙ both.other_to)))
-      by (inr (m, in_m, of_p)) (inr (n, in_n, of_q)) =
-          let (sound, free) = second_sound_of plan.firsts plan.seconds m p.verdict of_p.verdict both.one in
-          let (sound_n, free_n) = second_sound_of plan.firsts plan.seconds n q.verdict of_q.verdict both.other in
-          second_conflict_of plan.firsts plan.seconds m p.verdict sound free
-          (n, in_n, sound_n, (both.destination, sym of_p.destination ∙ both.one_to, sym of_q.destination ∙ both.other_to), λ same. both.differ (of_p.source ∙ same ∙ sym of_q.source))
-          of_p.verdict
+      by : Contains plan.before p ⊎ Contains plan.behind p → Contains plan.before q ⊎ Contains plan.behind q → p.verdict ≡ InConflict
+      by (inl first) (inl too) = list_conflict [] plan.firsts plan.before firsts_are p q first too both
+      by (inl first) (inr second) = absurd (never_both p q first second both.one both.other both.destination both.one_to both.other_to)
+      by (inr second) (inl first) = absurd (never_both q p first second both.other both.one both.destination both.other_to both.one_to)
+      by (inr second) (inr too) = list_conflict plan.firsts plan.seconds plan.behind seconds_are p q second too both
 
 pub conflicts_exactly : (wish : Wish) (refs : List Ref) → ConflictsExactly wish refs
 conflicts_exactly wish refs planned missing plan = recursion_from_All (λ p. (p.verdict ≡ InConflict) ↔ ((q : Planned) × Contains planned q × DoConflict p q)) planned (λ k d below.

@@ -6,7 +6,6 @@ use Rattle.gix_refspec_plan.proofs.Common.{Merge}
 use Rattle.gix_refspec_match.specs.declared.types.SourceRef.{SourceRef}
 use Rattle.gix_refspec_match.specs.declared.types.SourceRef.TheVariants as source_ref
 
--- what is no full name has no name
 pub not_named : (s : SourceRef) → ((x : NameRef) → s ≢ source_ref.FullName x) → (n : List ℕ) → start_of s ≢ name n
 not_named (source_ref.FullName x) none n same = none x refl
 not_named (source_ref.ObjectId x) none n same = cc
@@ -19,12 +18,10 @@ names_next merges i b mapped old new below is (sources, are, whole) more = (sour
 abbrev pub Merges : List (List ℕ) → List Mapped → ℕ → List ℕ → Asked → Type 0
 Merges merges mapped k n a = (a ≡ record { reading = fetched_alone n; origin = Merge k }) × IsRefName n × ¬ (Covers mapped n) × ¬ (Contains (take k merges) n)
 
--- what the flag of a merged ref says
 pub merge_flag : (merges : List BStr) (mapped : List Mapped) (flags : List Bool) (i : ℕ) (d : BStr) → i < length merges → FlagCovered (map bstr_bytes merges) mapped flags
     → IsFlagged flags i ↔ (Covers mapped (bstr_bytes (get_or merges i d)) ⊎ Contains (take i (map bstr_bytes merges)) (bstr_bytes (get_or merges i d)))
 merge_flag merges mapped flags i d below told = rw (get_or-map bstr_bytes merges i d [] below) at (told i [] (omega (arith, length-map merges bstr_bytes)))
 
--- a list is empty, or it isn't, and so is what is mapped from it
 pub some_mapped : {A X : Type 0} (f : A → X) (xs : List A) (b : Bool) → b ≡ (length xs == 0) → b ≡ false → map f xs ≢ []
 some_mapped f [] b told is same = false≢true (sym is ∙ told)
 some_mapped f (x ∷ xs) b told is same = cc
@@ -33,7 +30,6 @@ pub none_mapped : {A X : Type 0} (f : A → X) (xs : List A) (b : Bool) → b �
 none_mapped f [] b told is = refl
 none_mapped f (x ∷ xs) b told is = absurd (let none : length (x ∷ xs) ≡ 0 = eqb-true _ _ (sym told ∙ is) in omega arith)
 
--- one more spec behind the others
 pub one_more : (old new : List DeclaredAsked) (a : DeclaredAsked) (r : Reading) (o : Origin) → reading_of a.spec ≡ r → a.origin ≡ o → new ≡ old ++ a ∷ [] → map asked_of new ≡ map asked_of old ++ record { reading = r; origin = o } ∷ []
 one_more old new a r o reading from more =
     let shown : asked_of a ≡ record { reading = r; origin = o } = (λ i. record { reading = reading i; origin = from i }) in

@@ -4,7 +4,6 @@ use Rattle.gix_refspec_plan.proofs.Common.{sym, ap, ◌∙◌, arith, cases_eq, 
 use Rattle.gix_refspec_plan.proofs.Common.{take_all, Contains-append_left, Contains-push, Contains-push_cases, Item, Mapping, Ref, IsMadeFrom, Mapped, IsFlagged, mapped_of, ref_of, made_more, IsSound}
 use Rattle.gix_refspec_plan.proofs.Common.{IsTakenAt, FlagsTaken, rules}
 
--- one more mapping takes its item, if it is sound
 taken_cases : (l : List Mapped) (m : Mapped) (k : ℕ) → IsTakenAt (l ++ m ∷ []) k ↔ (IsTakenAt l k ⊎ (IsSound m × (m.item ≡ Some k)))
 taken_cases l m k = (
   (λ (n, has, sound, item). search (rules, Contains-push_cases l m n has)),
@@ -28,7 +27,6 @@ none_taken len n old flags empty none resized =
     let are : flags ≡ replicate len false = resized ∙ rw (empty, size, take_all {A = Bool} len [] (omega arith)) in
     (ap length are ∙ length-replicate len false, record { each = λ k below. rw are (no_flags len k below) })
 
--- an index that isn't below
 pub some_apart : (o : Option ℕ) (i k len : ℕ) → o ≡ Some i → len ≤ i → k < len → o ≢ Some k
 some_apart o i k len is past below other = let one : Some i ≡ Some k = sym is ∙ other in let same : i ≡ k = cc in omega arith
 
@@ -40,14 +38,12 @@ module _ (mappings : List Mapping) (i : ℕ) (m : Mapping) (len : ℕ) (flags : 
       let whole : map mapped_of (take (i + 1) mappings) ≡ map mapped_of (take i mappings) ++ mapped_of m ∷ [] = map_more mapped_of mappings i m below ∙ ap (λ (x : Mapping). map mapped_of (take i mappings) ++ mapped_of x ∷ []) (sym is) in
       (long, record { each = λ k inside. rw whole (search (rules, taken_cases (map mapped_of (take i mappings)) (mapped_of m) k, so_far.1.each k inside, each k inside)) })
 
-  -- a sound mapping of an item
   pub taken_here : (j : ℕ) → IsSound (mapped_of m) → m.item_index ≡ Some j → j < len → AreTakenFlags (map mapped_of (take (i + 1) mappings)) len (set flags j true)
   taken_here j sound item inside = with_mapping (set flags j true) (length-set flags j true ∙ so_far.0) (λ k under. elim (cases_eq k j) [
     | inl same ↦ let told = get_or-set_same flags j true false (omega (arith, so_far.0)) in rw same (search (rules, told, sound, item))
     | inr other ↦ let kept = get_or-set_other flags j k true false other in search (rules, kept, item)
   ])
 
-  -- another one
   pub taken_same : ((k : ℕ) → k < len → IsSound (mapped_of m) → m.item_index ≢ Some k) → AreTakenFlags (map mapped_of (take (i + 1) mappings)) len flags
   taken_same none = with_mapping flags so_far.0 (λ k under. search (rules, none k under))
 

@@ -4,8 +4,7 @@ use Rattle.gix_refspec_plan.proofs.Common.{take, get_or, length, refl, sym, ap, 
 use Rattle.gix_refspec_plan.proofs.Common.{All-from_recursion, bytes_eq-Decides, Mapping, Mapped, IsSamePair, AreApart, mapped_of, IsContested, IsSound, IsTakenOver, CountDestinations, HasTwo, IsCount}
 use Rattle.gix_refspec_plan.proofs.Common.{TellContested, WritesTo, rules, same_Some, some_at, some_of}
 use Rattle.std.proofs.lemmas.Map.Text.{btree_map_updates_str}
-use Rattle.gix_refspec.specs.Matching.Validation.{HasConflictAt}
-use Rattle.gix_refspec.proofs.lemmas.validate.FirstLemmas.{start_cases}
+use Rattle.gix_refspec.{specs.Matching.Validation.HasConflictAt, proofs.lemmas.validate.FirstLemmas.start_cases}
 use Rattle.gix_refspec_plan.proofs.lemmas.plan.MadeLemmas.{there}
 
 module _ {X : Type 0} (P : X → Type 0) where
@@ -24,7 +23,6 @@ module _ {X : Type 0} (P : X → Type 0) where
   two_more [] x = search (rules, some_of P [])
   two_more (y ∷ l) x = search (rules, any_cons y l, any_more l x, two_more l x)
 
-  -- two different elements are two
   two_of : (l : List X) (m n : X) → Contains l m → Contains l n → P m → P n → m ≢ n → HasTwo P l
   two_of [] m n (i, below, at) has is also differ = absurd (omega (arith, below))
   two_of (x ∷ l) m n (zero, below, at) (zero, below2, at2) is also differ = absurd (differ (sym at ∙ at2))
@@ -33,12 +31,10 @@ module _ {X : Type 0} (P : X → Type 0) where
   two_of (x ∷ l) m n (suc i, below, at) (suc j, below2, at2) is also differ = inr (two_of l m n (i, omega (arith, below), at) (j, omega (arith, below2), at2) is also differ)
 
 count_same : (l : List Mapped) (x : Mapped) (d : List ℕ) (w : Option Bool) → ¬ (WritesTo d x) → IsCount l d w → IsCount (l ++ x ∷ []) d w
-count_same l x d None other none = λ any. search (rules, any_more (WritesTo d) l x)
-count_same l x d (Some several) other (any, told) = search (rules, any_more (WritesTo d) l x, two_more (WritesTo d) l x)
+count_same l x d w other is = grind (arith, any_more (WritesTo d) l x, two_more (WritesTo d) l x)
 
 count_next : (l : List Mapped) (x : Mapped) (d : List ℕ) (w : Option Bool) → WritesTo d x → IsCount l d w → IsCount (l ++ x ∷ []) d (Some (is_some w))
-count_next l x d None is none = search (rules, any_more (WritesTo d) l x, two_more (WritesTo d) l x, two_any (WritesTo d) l, false≢true)
-count_next l x d (Some several) is (any, told) = search (rules, any_more (WritesTo d) l x, two_more (WritesTo d) l x)
+count_next l x d w writes is = grind (arith, any_more (WritesTo d) l x, two_more (WritesTo d) l x, two_any (WritesTo d) l, false≢true)
 
 -- what is known of a destination
 abbrev pub count_at : BTreeMap (Bor (List ℕ)) Bool → List ℕ → Option Bool
@@ -48,11 +44,9 @@ module _ (ms : List Mapping) (i : ℕ) (m : Mapping) (old : BTreeMap (Bor (List 
   with_mapping : (new : BTreeMap (Bor (List ℕ)) Bool) → CountDestinations (map mapped_of (take i ms) ++ mapped_of m ∷ []) new → CountDestinations (map mapped_of (take (i + 1) ms)) new
   with_mapping new are = rw (map_more mapped_of ms i m below, ← is) are
 
-  -- a mapping that writes no destination
   pub counted_same : ((d : List ℕ) → ¬ (WritesTo d (mapped_of m))) → CountDestinations (map mapped_of (take (i + 1) ms)) old
   counted_same none = with_mapping old (λ d. count_same (map mapped_of (take i ms)) (mapped_of m) d (count_at old d) (none d) (so_far d))
 
-  -- the destination of one more mapping
   pub counted_more : (new : BTreeMap (Bor (List ℕ)) Bool) (e : Bor (List ℕ)) (several : Bool) → WritesTo e.now (mapped_of m) → several ≡ is_some (count_at old e.now)
       → UpdatesBy (λ x y. slice_cmp nat_cmp x.now y.now) (λ k. slice_cmp nat_cmp e.now k.now) old new (Some several) → CountDestinations (map mapped_of (take (i + 1) ms)) new
   counted_more new e several writes known updates = with_mapping new (λ d. rw (btree_map_updates_str e.now old new (Some several) updates d) (by d (bytes_eq e.now d) refl))
@@ -63,15 +57,12 @@ module _ (ms : List Mapping) (i : ℕ) (m : Mapping) (old : BTreeMap (Bor (List 
           (λ also. false≢true (sym other ∙ (bytes_eq-Decides e.now d).1 (same_Some e.now d (sym writes.1 ∙ also.1)))) (so_far d)
 
 -- two mappings to a destination, from different sources
-abbrev IsRivalry : List Mapped → List ℕ → Mapped → Mapped → Type 0
-IsRivalry l d m n = Contains l m × Contains l n × WritesTo d m × WritesTo d n × (m.source ≢ n.source)
-
-rivalry : (l : List Mapped) (d : List ℕ) → AreApart l → HasTwo (WritesTo d) l → (m : Mapped) × (n : Mapped) × IsRivalry l d m n
+rivalry : (l : List Mapped) (d : List ℕ) → AreApart l → HasTwo (WritesTo d) l → (m : Mapped) × (n : Mapped) × Contains l m × Contains l n × WritesTo d m × WritesTo d n × (m.source ≢ n.source)
 rivalry [] d apart two = absurd two
 rivalry (x ∷ l) d apart (inl (writes, (i, y, below, at, also))) =
     let differ = subst (λ (z : Mapped). ¬ (IsSamePair x z)) at (All-from_recursion (λ z. ¬ (IsSamePair x z)) l apart.0 i y below) in
-    (x, y, ((0, omega arith, refl), (suc i, omega (arith, below), at), writes, also, λ same. differ (record { source = same; destination = writes.1 ∙ sym also.1 })))
-rivalry (x ∷ l) d apart (inr two) = let (m, n, (has_m, has_n, m_writes, n_writes, differ)) = rivalry l d apart.1 two in (m, n, (there x l m has_m, there x l n has_n, m_writes, n_writes, differ))
+    (x, y, (0, omega arith, refl), (suc i, omega (arith, below), at), writes, also, λ same. differ (record { source = same; destination = writes.1 ∙ sym also.1 }))
+rivalry (x ∷ l) d apart (inr two) = let (m, n, has_m, has_n, m_writes, n_writes, differ) = rivalry l d apart.1 two in (m, n, there x l m has_m, there x l n has_n, m_writes, n_writes, differ)
 
 -- what is counted tells of each destination whether it is contested
 pub counted_contested : (l : List Mapped) (counts : BTreeMap (Bor (List ℕ)) Bool) → CountDestinations l counts → TellContested l counts
@@ -86,19 +77,21 @@ pub none_contested : (l : List Mapped) (empty : BTreeMap (Bor (List ℕ)) Bool) 
 none_contested l empty apart free none d = rw none (
   (λ told. absurd (false≢true told)),
   (λ two.
-      let (m, n, (has_m, has_n, m_writes, n_writes, differ)) = rivalry l d apart two in
+      let (m, n, has_m, has_n, m_writes, n_writes, differ) = rivalry l d apart two in
       absurd (free d (record { one = m; other = n; has_one = has_m; has_other = has_n; one_to = m_writes.1; other_to = n_writes.1; differ = differ }))),
 )
 
 module _ (m : Mapped) (d : List ℕ) (goes : m.destination ≡ Some d) where
   pub taken_told : (l : List Mapped) (w : Option Bool) → IsCount l d w → (is_some w ≡ true) ↔ IsTakenOver l m
-  taken_told l None none = ((λ told. absurd (false≢true told)), (λ (n, (i, below, at), sound, (e, from, to)). absurd (none (i, n, below, at, (sound, to ∙ sym from ∙ goes)))))
-  taken_told l (Some several) ((i, n, below, at, (sound, to)), whether) = ((λ told. (n, (i, below, at), sound, (d, goes, to))), (λ taken. refl))
+  taken_told l None none = ((λ told. absurd (false≢true told)),
+      (λ (n, (i, below, at), sound, (e, from, to)). absurd (none (i, n, below, at, (sound, to ∙ sym from ∙ goes)))))
+  taken_told l (Some several) ((i, n, below, at, (sound, to)), whether) =
+      ((λ told. (n, (i, below, at), sound, (d, goes, to))), (λ taken. refl))
 
   pub contested_told : (l : List Mapped) → AreApart l → IsSound m → Contains l m → HasTwo (WritesTo d) l ↔ IsContested l m
   contested_told l apart sound has = (
     (λ two.
-        let (x, y, (has_x, has_y, x_writes, y_writes, differ)) = rivalry l d apart two in
+        let (x, y, has_x, has_y, x_writes, y_writes, differ) = rivalry l d apart two in
         elim (start_cases m.source x.source) [
           | inl same ↦ (y, has_y, y_writes.0, (d, goes, y_writes.1), (λ also. differ (sym same ∙ also)))
           | inr other ↦ (x, has_x, x_writes.0, (d, goes, x_writes.1), other)

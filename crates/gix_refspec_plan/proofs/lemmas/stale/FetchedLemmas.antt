@@ -10,14 +10,12 @@ use Rattle.gix_refspec_text.proofs.lemmas.hits.CandidateLemmas.{first_candidate,
 use Rattle.gix_refspec.specs.Laws.Matching.{IsPaired, MakesForward, PairsId}
 use Rattle.gix_refspec.proofs.lemmas.keep.PairMadeLemmas.{kept_exactly}
 use Rattle.gix_refspec_text.proofs.facts.ManualFacts.{Lacks-tested}
-use Rattle.gix_refspec_plan.proofs.lemmas.plan.OnePlanLemmas.{completed_once, reading_once}
-use Rattle.gix_refspec_plan.proofs.lemmas.plan.OpposedLemmas.{pair_in}
-use Rattle.gix_refspec_plan.proofs.lemmas.stale.ZipLemmas.{completed_excluded, there_any, zip_first, zip_partner}
+use Rattle.gix_refspec_plan.proofs.lemmas.plan.{OnePlanLemmas.completed_once, OnePlanLemmas.reading_once, OpposedLemmas.pair_in}
+use Rattle.gix_refspec_plan.proofs.lemmas.stale.ZipLemmas.{completed_excluded, zip_first, zip_partner}
 
 pub contained_pair : (l : List Mapped) (m : Mapped) → Contains l m → HasPair l m
 contained_pair l m (k, below, is) = HasPair-Any l m (some_of (IsOfPair m) l (k, m, below, is, record { source = refl; destination = refl }))
 
--- a name that refs have is that of one
 pub named_some : (P : Ref → Type 0) (refs : List Ref) (n : List ℕ) → HasName refs n → ((r : Ref) → r.name ≡ n → P r) → Any P refs
 named_some P [] n none holds = absurd none
 named_some P (r ∷ refs) n has holds = some_at P (r ∷ refs) (search (rules, has, holds r, λ (later : HasName refs n). some_of P refs (named_some P refs n later holds)))
@@ -44,7 +42,6 @@ lacks_if false false x lacks = all_join (λ c. c ≢ star) (codes "refs/heads/")
 pub written_lacks : (x : List ℕ) → Lacks star x → Lacks star (written_name_of x)
 written_lacks x lacks = lacks_if (starts_with nat_eq x (codes "refs/")) (starts_with nat_eq x (codes "heads/") || starts_with nat_eq x (codes "tags/") || starts_with nat_eq x (codes "remotes/")) x lacks
 
--- a destination with a star is completed to itself
 pub completed_destination : (side full : Option (List ℕ)) (d : List ℕ)
     → MatchOption side (full ≡ None) (λ x. (HasStar x × (full ≡ Some x)) ⊎ (Lacks star x × (full ≡ Some (written_name_of x)))) → full ≡ Some d
     → (x : List ℕ) × (side ≡ Some x) × ((HasStar x × (x ≡ d)) ⊎ (Lacks star x × (written_name_of x ≡ d)))
@@ -65,7 +62,6 @@ match_named x q r word same no_object matches =
     by (object bytes) of holds = absurd (no_object bytes of holds)
     by k of holds = holds
 
--- a side without a star matches without a word
 plain_word : (x : List ℕ) (r : Ref) (word : Option (List ℕ)) (k : SideKind) → Lacks star x → HasKind x k → MatchesAs k r word → word ≡ None
 plain_word x r word (pattern before after) lacks of holds = absurd (Lacks-here star before after (subst (Lacks star) of.starred lacks))
 plain_word x r word k lacks of holds = holds.0
@@ -78,12 +74,12 @@ AreAlike x d = (HasOneStar x × HasStar d) ⊎ (Lacks star x × Lacks star d × 
 filled_matches : (x d : List ℕ) (r : Ref) (word : Option (List ℕ)) (n : List ℕ) → AreAlike x d → Matches x r word → IsFilled (Some d) word (Some n) → Matches d (ref_named n) word
 filled_matches x d r None n (inl (one, has)) takes filled = absurd (matches_as x (pattern one.0 one.1) r None one.2 takes)
 filled_matches x d r (Some w) n (inl (one, has)) takes (pattern before after, of, is) = record { kind = pattern before after; of = of; is = cc (is) }
-filled_matches x d r word n (inr (lacks_x, lacks, begins)) takes (full_name m, of, is) = record { kind = full_name m; of = of; is = (plain_word x r word takes.kind lacks_x takes.of takes.is, cc (is)) }
+filled_matches x d r word n (inr (lacks_x, lacks, begins)) takes (full_name m, of, is) =
+    record { kind = full_name m; of = of; is = (plain_word x r word takes.kind lacks_x takes.of takes.is, cc (is)) }
 filled_matches x d r word n (inr (lacks_x, lacks, begins)) takes (pattern before after, of, is) = absurd (Lacks-here star before after (subst (Lacks star) of.starred lacks))
 filled_matches x d r word n (inl (one, has)) takes (k, of, is) = absurd (search (rules, Lacks-ContainsText star d))
 filled_matches x d r word n (inr (lacks_x, lacks, begins)) takes (k, of, is) = absurd (search rules)
 
--- and the other way round
 matches_filled : (d : List ℕ) (word : Option (List ℕ)) (n : List ℕ) (k : SideKind) → HasStar d ⊎ BeginsWith (codes "refs/") d → HasKind d k → MatchesAs k (ref_named n) word → IsFilled (Some d) word (Some n)
 matches_filled d None n (pattern before after) shape of holds = absurd holds
 matches_filled d (Some w) n (pattern before after) shape of holds = (pattern before after, of, ap Some holds)
@@ -96,7 +92,8 @@ far_there None word n none = absurd (cc (none))
 far_there (Some d) word n is = (d, refl, is)
 
 -- of the refs with a name for which a side stands, one that it takes
-takes_first : (items : List Ref) (x s : List ℕ) (word : Option (List ℕ)) (k : SideKind) → HasKind x k → MatchesAs k (ref_named s) word → HasName items s
+takes_first : (items : List Ref) (x s : List ℕ) (word : Option (List ℕ)) (k : SideKind) → HasKind x k → MatchesAs k (ref_named s) word
+    → HasName items s
     → (t : List ℕ) × Matches x (ref_named t) word × HasName items t × ((m : List ℕ) → HasKind x (partial m) → IsFirstCandidate items m t)
 takes_first items x s word (partial y) of holds there =
     let (t, first) = some_first items y s holds.1 there in
@@ -121,7 +118,8 @@ module _ (r c : Reading) (accepted : ∥ IsAccepted r ∥₁) (done : IsComplete
   completed_writes d n word positive has matches = record { positive = subst IsPositive done.mode positive; completed = c; is = done; destination = d; has = has; matches = matches }
 
   -- a pair that the spec makes is one that it can write
-  start_writes : (items : List Ref) (start : Source) (n : List ℕ) → MakesForward items start (Some n) c → CanWriteObject r n ⊎ ((s : List ℕ) × CanWriteFrom r n s × HasName items s)
+  start_writes : (items : List Ref) (start : Source) (n : List ℕ) → MakesForward items start (Some n) c
+      → CanWriteObject r n ⊎ ((s : List ℕ) × CanWriteFrom r n s × HasName items s)
   start_writes items (name s) n makes =
       let (k, item, below, is, paired) = makes.one in
       let (d, far, becomes) = far_there makes.ends.far paired.word n paired.becomes in
@@ -141,24 +139,26 @@ module _ (r c : Reading) (accepted : ∥ IsAccepted r ∥₁) (done : IsComplete
       let writes = completed_writes d n None makes.positive far (filled_matches makes.text d _ None n (sides_alike makes.text d makes.side far) matches becomes) in
       inl (record { writes = writes; source = makes.text; is = sym done.source ∙ makes.side; bytes = bytes; asks = makes.object })
 
-  -- what it can write, its completed destination becomes
-  written_there : (n : List ℕ) (word : Option (List ℕ)) (w : CanWrite r n word) → (c.destination ≡ Some w.destination) × IsFilled (Some w.destination) word (Some n)
+  written_there : (n : List ℕ) (word : Option (List ℕ)) (w : CanWrite r n word)
+      → (c.destination ≡ Some w.destination) × IsFilled (Some w.destination) word (Some n)
   written_there n word w =
       let has : c.destination ≡ Some w.destination = ap (λ (q : Reading). q.destination) (reading_once r c w.completed done w.is) ∙ w.has in
-      (has, matches_filled w.destination word n w.matches.kind (search (rules, completed_shape w.destination has)) w.matches.of w.matches.is)
+      let shape : HasStar w.destination ⊎ BeginsWith (codes "refs/") w.destination = search (rules, completed_shape w.destination has) in
+      (has, matches_filled w.destination word n w.matches.kind shape w.matches.of w.matches.is)
 
-  -- an object that it can be written from makes its pair
   object_makes : (n : List ℕ) (w : CanWriteObject r n) → PairsId w.bytes (Some n) c
   object_makes n w =
       let (has, becomes) = written_there n None w.writes in
-      record { positive = subst IsPositive (sym done.mode) w.writes.positive; text = w.source; side = done.source ∙ w.is; object = w.asks; becomes = rw has becomes }
+      let positive = subst IsPositive (sym done.mode) w.writes.positive in
+      record { positive = positive; text = w.source; side = done.source ∙ w.is; object = w.asks; becomes = rw has becomes }
 
   -- a ref that it can be written from, or the first candidate of a partial name among the refs, makes its pair
   source_makes : (items : List Ref) (n s : List ℕ) → HasName items s → CanWriteFrom r n s → (t : List ℕ) × CanWriteFrom r n t × MakesForward items (name t) (Some n) c
   source_makes items n s there w =
       let (has, becomes) = written_there n w.word w.writes in
       let (t, matches, present, first) = takes_first items w.source s w.word w.matches.kind w.matches.of w.matches.is there in
-      let no_object : (bytes : List ℕ) → ¬ (HasKind w.source (object bytes)) = λ bytes kind. no_object_named w.source t w.word bytes kind (matches_as w.source (object bytes) (ref_named t) w.word kind matches) in
+      let no_object : (bytes : List ℕ) → ¬ (HasKind w.source (object bytes)) = λ bytes kind.
+          no_object_named w.source t w.word bytes kind (matches_as w.source (object bytes) (ref_named t) w.word kind matches) in
       (t, record { word = w.word; writes = w.writes; source = w.source; is = w.is; matches = matches }, record {
         ends = record { near = w.source; far = Some w.writes.destination };
         has = record { positive = subst IsPositive (sym done.mode) w.writes.positive; near = done.source ∙ w.is; far = has; no_object = no_object };
@@ -170,7 +170,6 @@ module _ (r c : Reading) (accepted : ∥ IsAccepted r ∥₁) (done : IsComplete
         });
       })
 
--- each reading is accepted
 pub accepted_in : (h : List Reading) (r : Reading) → AllByRecursion (λ q. ∥ IsAccepted q ∥₁) h → Contains h r → ∥ IsAccepted r ∥₁
 accepted_in h r all there = All-contains (λ q. ∥ IsAccepted q ∥₁) h r (All-from_recursion (λ q. ∥ IsAccepted q ∥₁) h all) there
 
@@ -180,7 +179,8 @@ module _ (g : List Reading) (remote : List Ref) (mapped : List Mapped) (accepted
   written_from n (m, inside, is) =
       let made = ((kept_exactly by.completed remote).forward mapped by.kept m).0 (contained_pair mapped m inside) in
       let (r, c, at, done, makes) = zip_first IsCompleted (MakesForward remote m.source m.destination) g by.completed by.are made.0 in
-      elim (start_writes r c (accepted_in g r accepted at) done remote m.source n (subst (λ (far : Option (List ℕ)). MakesForward remote m.source far c) is makes)) [
+      elim (start_writes r c (accepted_in g r accepted at) done remote m.source n
+          (subst (λ (far : Option (List ℕ)). MakesForward remote m.source far c) is makes)) [
         | inl w ↦ inl (r, at, w)
         | inr (s, w, has) ↦ inr (s, (r, at, w), has)
       ]
@@ -191,20 +191,18 @@ module _ (g : List Reading) (remote : List Ref) (mapped : List Mapped) (accepted
       let (m, inside, same) = pair_in mapped pair (((kept_exactly by.completed remote).forward mapped by.kept pair).1 (any, included)) in
       (m, inside, same.destination)
 
-  -- an object is always written
   pub object_written : (n : List ℕ) → IsWritableFromObject g n → HasDestination mapped n
   object_written n (r, at, w) =
-      let (c, done, inside) = zip_partner IsCompleted g by.completed r by.are at in
-      kept_destination (id w.bytes) n (there_any _ c by.completed inside (object_makes r c (accepted_in g r accepted at) done n w)) (λ none. none)
+      let (c, done, (k, below, is)) = zip_partner IsCompleted g by.completed r by.are at in
+      kept_destination (id w.bytes) n (k, c, below, is, object_makes r c (accepted_in g r accepted at) done n w) (λ none. none)
 
   -- and so is what could be written from a ref of the remote, where none is excluded from which it could be
   pub present_written : (n s : List ℕ) → IsSourceOf g n s → HasName remote s → ((t : List ℕ) → IsSourceOf g n t → ¬ (IsExcluded g t)) → HasDestination mapped n
   present_written n s (r, at, w) there included =
-      let (c, done, inside) = zip_partner IsCompleted g by.completed r by.are at in
+      let (c, done, (k, below, is)) = zip_partner IsCompleted g by.completed r by.are at in
       let (t, from, makes) = source_makes r c (accepted_in g r accepted at) done remote n s there w in
-      kept_destination (name t) n (there_any _ c by.completed inside makes) (λ excluded. included t (r, at, from) (completed_excluded g by.completed t by.are excluded))
+      kept_destination (name t) n (k, c, below, is, makes) (λ excluded. included t (r, at, from) (completed_excluded g by.completed t by.are excluded))
 
-  -- what is fetched is written
   pub fetched_written : (n : List ℕ) → IsFetched g remote n → HasDestination mapped n
   fetched_written n f =
       let same : f.completed ≡ by.completed = completed_once g f.completed by.completed f.are by.are in

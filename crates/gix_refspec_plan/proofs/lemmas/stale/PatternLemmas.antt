@@ -15,7 +15,6 @@ pub side_cases : (side : Option (List ℕ)) → (side ≡ None) ⊎ ((x : List �
 side_cases None = inl refl
 side_cases (Some x) = inr (x, refl)
 
--- an accepted reading writes by the pattern of its destination
 pub some_pattern : (r : Reading) (d before after : List ℕ) → ∥ IsAccepted r ∥₁ → IsPositive r.mode → r.destination ≡ Some d → IsSplit before after d → (p : Pattern) × WritesPattern r p
 some_pattern r d before after accepted positive has split =
     let writes : (parts : Option (Bor (List ℕ) × Bor (List ℕ))) → HasParts r.source parts → (p : Pattern) × WritesPattern r p = λ parts source.
@@ -28,7 +27,6 @@ some_pattern r d before after accepted positive has split =
       ]
     ]
 
--- by a pattern, and by a name
 pub pattern_writes : (r : Reading) (p : Pattern) (n word : List ℕ) → WritesPattern r p → Fits p.before.now p.after.now n word → CanWrite r n (Some word)
 pattern_writes r p n word by fits = record {
   positive = by.positive;
@@ -49,7 +47,6 @@ name_writes r n by = record {
   matches = record { kind = full_name (written_name_of by.destination); of = (refl, written_lacks by.destination by.lacks, written_below by.destination); is = (refl, by.is) };
 }
 
--- and nothing else
 pub writes_cases : (r : Reading) (n : List ℕ) (word : Option (List ℕ)) → CanWrite r n word
     → (WritesName r n × (word ≡ None)) ⊎ ((d : List ℕ) × (before : List ℕ) × (after : List ℕ) × (w : List ℕ) × (r.destination ≡ Some d) × IsSplit before after d × (word ≡ Some w) × Fits before after n w)
 writes_cases r n word by =
@@ -88,11 +85,12 @@ IncludesSources es n p = (s : List ℕ) → IsPatternSource p n s → ¬ (Exclud
 -- what the names of a group and some of its patterns say of n, of which none says that a ref is excluded
 abbrev pub HasStateAmong : Exclusions → List Reading → List Pattern → List ℕ → State → Type 0
 HasStateAmong es g ps n Unwritable = ((r : Reading) → Contains g r → ¬ (WritesName r n)) × ((p : Pattern) → Contains ps p → HasPatternState es p n Unwritable)
-HasStateAmong es g ps n Included = IsWritable g n × ((r : Reading) (s : List ℕ) → Contains g r → WritesNameFrom r n s → ¬ (ExcludeName es s)) × ((p : Pattern) → Contains ps p → IncludesSources es n p)
+HasStateAmong es g ps n Included =
+    IsWritable g n × ((r : Reading) (s : List ℕ) → Contains g r → WritesNameFrom r n s → ¬ (ExcludeName es s)) ×
+    ((p : Pattern) → Contains ps p → IncludesSources es n p)
 HasStateAmong es g ps n (Excluded k) = ⊥
 
 module _ (g : List Reading) (accepted : AllByRecursion (λ r. ∥ IsAccepted r ∥₁) g) (es : Exclusions) (ps : List Pattern) (are : IsMadeFrom (λ k q x. WritesPattern q x) 0 g ps) (n : List ℕ) where
-  -- the pattern by which a reading writes n
   its_pattern : (r : Reading) (d before after w : List ℕ) → Contains g r → IsPositive r.mode → r.destination ≡ Some d → IsSplit before after d → Fits before after n w → (p : Pattern) × Contains ps p × WritesPattern r p × Fits p.before.now p.after.now n w
   its_pattern r d before after w inside positive has split fits =
       let (some, writes) = some_pattern r d before after (accepted_in g r accepted inside) positive has split in
@@ -129,14 +127,12 @@ module _ (g : List Reading) (accepted : AllByRecursion (λ r. ∥ IsAccepted r �
   name_excluded at k (r, s, inside, from, excluded) =
       (s, (r, inside, record { word = None; writes = name_writes r n from.writes; source = from.named.source; is = from.named.is; matches = from.named.stands }), at s k excluded)
 
-  -- what the names say, without patterns
   pub among_none : HasNameState es g n None → HasStateAmong es g [] n Unwritable
   among_none none = (none, λ p there. absurd (nothing_in [] p refl there))
 
   pub among_name : HasNameState es g n (Some None) → HasStateAmong es g [] n Included
   among_name ((r, inside, writes), included) = ((r, None, inside, name_writes r n writes), included, λ p there. absurd (nothing_in [] p refl there))
 
-  -- so it is with one more of the patterns
   module _ (i : ℕ) (d : Pattern) (below : i < length ps) where
     abbrev p : Pattern
     p = get_or ps i d
@@ -146,9 +142,11 @@ module _ (g : List Reading) (accepted : AllByRecursion (λ r. ∥ IsAccepted r �
 
     -- which doesn't match n
     pub next_unfit : (s : State) → HasStateAmong es g (take i ps) n s → HasPatternState es p n Unwritable → HasStateAmong es g (take (i + 1) ps) n s
-    next_unfit Unwritable (names, patterns) unfit = (names, rw (take_more ps i d below) (push_all (λ q. HasPatternState es q n Unwritable) (take i ps) p patterns unfit))
+    next_unfit Unwritable (names, patterns) unfit =
+        (names, rw (take_more ps i d below) (push_all (λ q. HasPatternState es q n Unwritable) (take i ps) p patterns unfit))
     next_unfit Included (writable, names, patterns) unfit =
-        (writable, names, rw (take_more ps i d below) (push_all (IncludesSources es n) (take i ps) p patterns (λ t from. absurd (unfit from.word from.fits))))
+        (writable, names, rw (take_more ps i d below)
+            (push_all (IncludesSources es n) (take i ps) p patterns (λ t from. absurd (unfit from.word from.fits))))
     next_unfit (Excluded k) none unfit = absurd none
 
     -- which does, and excludes no ref from which it writes it
@@ -156,9 +154,12 @@ module _ (g : List Reading) (accepted : AllByRecursion (λ r. ∥ IsAccepted r �
     next_fit s among ((word, fits), included) =
         let (r, inside, by) = its_reading in
         let (names, patterns) = others s among in
-        ((r, Some word, inside, pattern_writes r p n word by fits), names, rw (take_more ps i d below) (push_all (IncludesSources es n) (take i ps) p patterns included))
+        ((r, Some word, inside, pattern_writes r p n word by fits), names, rw (take_more ps i d below)
+            (push_all (IncludesSources es n) (take i ps) p patterns included))
       where
-        others : (s : State) → HasStateAmong es g (take i ps) n s → ((r : Reading) (t : List ℕ) → Contains g r → WritesNameFrom r n t → ¬ (ExcludeName es t)) × ((q : Pattern) → Contains (take i ps) q → IncludesSources es n q)
+        others : (s : State) → HasStateAmong es g (take i ps) n s
+            → ((r : Reading) (t : List ℕ) → Contains g r → WritesNameFrom r n t → ¬ (ExcludeName es t)) ×
+            ((q : Pattern) → Contains (take i ps) q → IncludesSources es n q)
         others Unwritable (names, patterns) = (λ r t inside from. absurd (names r inside from.writes), λ q there t from. absurd (patterns q there from.word from.fits))
         others Included (writable, names, patterns) = (names, patterns)
         others (Excluded k) none = absurd none

@@ -3,45 +3,40 @@ use Rattle.gix_refspec_plan.proofs.Common.{◌≡◌, ℕ, true, zero, suc, ◌<
 use Rattle.gix_refspec_plan.proofs.Common.{◌∙◌, subst, arith, Bor, Contains, is_some, false≢true, get_or-map, length-map, Contains-append_right, BString, bstring_bytes, star, Lacks, HasSeveralStars}
 use Rattle.gix_refspec_plan.proofs.Common.{IsSplit, Reading, SideKind, full_name, partial, HasKind, IsCandidate, Fits, candidates, Matches, MatchesAs, lacks_no_pattern, one_word, Lacks-here}
 use Rattle.gix_refspec_plan.proofs.Common.{Lacks-from_absent, Exclusions, ExcludeName, ExcludeNameAt, matches_as, same_side, Pattern, ref_named, HasParts, HasPatternState, IsNamedBy, IsPatternSource}
-use Rattle.gix_refspec_plan.proofs.Common.{WritesName, WritesPattern, Included, All-contains, All-map}
+use Rattle.gix_refspec_plan.proofs.Common.{WritesName, WritesPattern, Included, All-contains, All-map, same_Some}
 
 -- what splitting a side at its first star says of it
 abbrev IsSplitAt : List ℕ → Option (Bor (List ℕ) × Bor (List ℕ)) → Type 0
 IsSplitAt x found = MatchOption found (Lacks star x) (λ parts. (x ≡ parts.0.now ++ (star ∷ parts.1.now)) × Lacks star parts.0.now)
 
--- a destination with a star writes no name
 pub starred_unwritten : (r : Reading) (d n : List ℕ) (found : Option (Bor (List ℕ) × Bor (List ℕ))) → r.destination ≡ Some d → true ≡ is_some found → IsSplitAt d found → ¬ (WritesName r n)
 starred_unwritten r d n None is some lacks by = false≢true (sym some)
 starred_unwritten r d n (Some parts) is some (starred, first) by =
     Lacks-here star parts.0.now parts.1.now (subst (Lacks star) (same_side r.destination by.destination d by.has is ∙ starred) by.lacks)
 
--- the texts before and after the only star
 pub parts_split : (x : List ℕ) (found : Option (Bor (List ℕ) × Bor (List ℕ))) → ¬ (HasSeveralStars x) → IsSplitAt x found → HasParts (Some x) found
 parts_split x None few lacks = λ y before after is split. lacks_no_pattern x before after lacks (let same : x ≡ y = cc (is) in subst (IsSplit before after) (sym same) split)
 parts_split x (Some parts) few (starred, first) =
     let last = Lacks-from_absent star parts.1.now (λ more. few (record { before = parts.0.now; between = more.before; after = more.after; here = starred ∙ ap (λ (y : List ℕ). parts.0.now ++ (star ∷ y)) more.here })) in
     (x, refl, record { starred = starred; first = first; last = last })
 
--- without these texts a reading writes by no pattern
 pub unsplit_unwritten : (r : Reading) (p : Pattern) → HasParts r.destination None → ¬ (WritesPattern r p)
 unsplit_unwritten r p none by = none by.destination p.before.now p.after.now by.has by.split
-
-contained_split : (l : List (List ℕ)) (n : List ℕ) → Contains l n → (earlier : List (List ℕ)) × (later : List (List ℕ)) × (l ≡ earlier ++ (n ∷ later))
-contained_split l n (k, below, is) =
-    (take k l, drop (suc k) l, sym (take-append-drop k l) ∙ ap (λ (t : List (List ℕ)). take k l ++ t) (drop-cons l k n below ∙ ap (λ (x : List ℕ). x ∷ drop (suc k) l) is))
 
 pub candidate_contained : (x n : List ℕ) → IsCandidate x n → Contains (candidates x) n
 candidate_contained x n one = subst (λ (l : List (List ℕ)). Contains l n) (sym one.here) (Contains-append_right one.earlier (n ∷ one.later) n (zero, omega arith, refl))
 
 contained_candidate : (x n : List ℕ) → Contains (candidates x) n → IsCandidate x n
-contained_candidate x n there = let (earlier, later, here) = contained_split (candidates x) n there in record { earlier = earlier; later = later; here = here }
+contained_candidate x n (k, below, is) = record {
+  earlier = take k (candidates x);
+  later = drop (suc k) (candidates x);
+  here = sym (take-append-drop k (candidates x)) ∙ ap (λ (t : List (List ℕ)). take k (candidates x) ++ t) (drop-cons (candidates x) k n below ∙ rw is refl);
+}
 
--- the text at an index is one of the texts
 pub text_contained : (texts : List BString) (i : ℕ) (b : BString) (l : List (List ℕ)) → map bstring_bytes texts ≡ l → i < length texts → b ≡ get_or texts i b → Contains l (bstring_bytes b)
 text_contained texts i b l same below is =
     subst (λ (m : List (List ℕ)). Contains m (bstring_bytes b)) same (i, rw (length-map texts bstring_bytes) below, get_or-map bstring_bytes texts i b (bstring_bytes b) below ∙ ap bstring_bytes (sym is))
 
--- where none of the texts is so, none is
 pub none_contained : (P : List ℕ → Type 0) (texts : List BString) (l : List (List ℕ)) → map bstring_bytes texts ≡ l → All (λ b. ¬ (P (bstring_bytes b))) texts → (s : List ℕ) → Contains l s → ¬ (P s)
 none_contained P texts l same all s there = All-contains (λ t. ¬ (P t)) l s (subst (All (λ t. ¬ (P t))) same (All-map (λ t. ¬ (P t)) bstring_bytes texts all)) there
 
@@ -68,10 +63,7 @@ module _ (es : Exclusions) (r : Reading) (x : List ℕ) (source : r.source ≡ S
 -- a pattern writes a ref from one
 source_once : (p : Pattern) (n s word : List ℕ) (parts : Bor (List ℕ) × Bor (List ℕ)) → Fits p.before.now p.after.now n word → p.source ≡ Some parts → IsPatternSource p n s → s ≡ parts.0.now ++ (word ++ parts.1.now)
 source_once p n s word parts fits has from =
-    let same_word : from.word ≡ word = one_word p.before.now p.after.now n from.word word from.fits fits in
-    let some : Some from.parts ≡ Some parts = sym from.has ∙ has in
-    let same : from.parts ≡ parts = cc (some) in
-    from.is ∙ ap (λ (w : List ℕ). from.parts.0.now ++ (w ++ from.parts.1.now)) same_word ∙ ap (λ (q : Bor (List ℕ) × Bor (List ℕ)). q.0.now ++ (word ++ q.1.now)) same
+    rw (one_word p.before.now p.after.now n from.word word from.fits fits, same_Some from.parts parts (sym from.has ∙ has)) at from.is
 
 -- so what is known of it says what the pattern does
 module _ (es : Exclusions) (p : Pattern) (n word : List ℕ) (fits : Fits p.before.now p.after.now n word) where

@@ -1,12 +1,11 @@
 -- Which local refs are stale or kept, by what a fetch writes and what the specs say of a name.
-use Rattle.gix_refspec_plan.proofs.Common.{◌≡◌, ◌⊎◌, inl, inr, ℕ, ◌+◌, ◌<◌, ◌++◌, ◌∷◌, zero, suc, ◌↔◌, Bool, List, [], Option, None, Some, option_to_list, MatchOption, append-nil, length, map, take, get_or}
-use Rattle.gix_refspec_plan.proofs.Common.{sym, ap, ◌∙◌, arith, AllByRecursion, Contains, get_or-map, length-map, map-append, take-map, bstr_bytes, RefSpecRef, reading_of, Item, IsMadeFrom, MakesOf, ref_of}
-use Rattle.gix_refspec_plan.proofs.Common.{IsFlagged, made_more, found_of, Reading, IsAccepted, Ref, HasName, Mapped, Found, IsKeptBy, IsStale, IsWritable, AreMappedBy, FlagWritten, HasDestination}
-use Rattle.gix_refspec_plan.proofs.Common.{HasState, ref_names, Excluded, Included, rules}
-use Rattle.gix_refspec_plan.specs.declared.stale.Stale.{Stale}
+use Rattle.gix_refspec_plan.proofs.Common.{◌≡◌, ◌⊎◌, inl, inr, ℕ, ◌+◌, ◌<◌, ◌++◌, ◌∷◌, zero, suc, ◌↔◌, Bool, List, [], Option, None, Some, MatchOption, length, map, take, get_or, ap, ◌∙◌, arith}
+use Rattle.gix_refspec_plan.proofs.Common.{AllByRecursion, Contains, get_or-map, length-map, take-map, bstr_bytes, RefSpecRef, reading_of, Item, IsMadeFrom, ref_of, IsFlagged, found_of, Reading, IsAccepted}
+use Rattle.gix_refspec_plan.proofs.Common.{Ref, HasName, Mapped, Found, IsKeptBy, IsStale, IsWritable, AreMappedBy, FlagWritten, HasDestination, HasState, ref_names, Excluded, Included, rules}
+use Rattle.gix_refspec_plan.{proofs.Common.get_or_default, specs.declared.stale.Stale.Stale}
+use Rattle.gix_refspec_plan.proofs.lemmas.plan.MadeLemmas.{made_one, made_none}
 use Rattle.gix_refspec_plan.proofs.lemmas.stale.FetchedLemmas.{fetched_written, object_written, present_written, written_fetched, written_from}
 
--- the names of refs are those that they have
 pub named_among : (refs : List Ref) (n : List ℕ) → HasName refs n → Contains (ref_names refs) n
 named_among [] n none = absurd none
 named_among (r ∷ refs) n (inl is) = (zero, omega arith, is)
@@ -18,12 +17,10 @@ among_named (r ∷ refs) n (zero, below, is) = inl is
 among_named (r ∷ refs) n (suc k, below, is) = inr (among_named refs n (k, omega (arith, below), is))
 
 module _ (g : List Reading) (remote : List Ref) (mapped : List Mapped) (accepted : AllByRecursion (λ r. ∥ IsAccepted r ∥₁) g) (by : AreMappedBy g remote mapped) (n : List ℕ) where
-  -- what is written is neither stale nor kept
   pub written_untold : HasDestination mapped n → (kept : Option ℕ) → ¬ (MatchOption kept (IsStale g remote n) (IsKeptBy g remote n))
   written_untold has None stale = search (rules, written_from g remote mapped accepted by n has)
   written_untold has (Some k) kept = kept.unwritten (written_fetched g remote mapped accepted by n has)
 
-  -- and nor is what no spec can write
   pub unwritable_untold : ¬ (IsWritable g n) → (kept : Option ℕ) → ¬ (MatchOption kept (IsStale g remote n) (IsKeptBy g remote n))
   unwritable_untold none None stale = none stale.writable
   unwritable_untold none (Some k) kept = let (r, at, from) = kept.is_source in none (r, from.word, at, from.writes)
@@ -39,7 +36,6 @@ module _ (g : List Reading) (remote : List Ref) (mapped : List Mapped) (accepted
 abbrev pub Tells : List Reading → List Ref → List Ref → ℕ → Ref → Found → Type 0
 Tells g remote locals k local f = (f.item ≡ k) × ¬ (HasName (take k locals) local.name) × MatchOption f.kept_by (IsStale g remote local.name) (IsKeptBy g remote local.name)
 
--- each reading of a spec is accepted
 pub all_accepted : (specs : List RefSpecRef) → AllByRecursion (λ r. ∥ IsAccepted r ∥₁) (map reading_of specs)
 all_accepted [] = tt
 all_accepted (s ∷ specs) = (s.accepted, all_accepted specs)
@@ -62,18 +58,12 @@ module _ (specs : List RefSpecRef) (remote : List Ref) (mapped : List Mapped) (b
       let here : IsFlagged flags i ↔ (HasDestination mapped n ⊎ Contains (ref_names (take i refs)) n) = rw (named, take-map (λ (r : Ref). r.name) i refs) at at in
       search (rules, here, among_named (take i refs) n, named_among (take i refs) n)
 
-  add : (made : Option Found) (new : List Found) → MakesOf (Tells (map reading_of specs) remote refs) i (ref_of (get_or local i d)) made → new ≡ map found_of old ++ option_to_list made
-      → IsMadeFrom (Tells (map reading_of specs) remote refs) 0 (map ref_of (take (i + 1) local)) new
-  add made new makes more = made_more (Tells (map reading_of specs) remote refs) ref_of local i d (map found_of old) new made below so_far makes more
-
-  -- a ref that is told
   pub tell_next : (new : List Stale) (s : Stale) → s.item_index ≡ i → ¬ (IsFlagged flags i) → (¬ (HasDestination mapped n) → MatchOption s.kept_by (IsStale (map reading_of specs) remote n) (IsKeptBy (map reading_of specs) remote n))
       → new ≡ old ++ s ∷ [] → IsMadeFrom (Tells (map reading_of specs) remote refs) 0 (map ref_of (take (i + 1) local)) (map found_of new)
-  tell_next new s at unflagged state more =
-      add (Some (found_of s)) (map found_of new) (at, (λ before. unflagged (flagged.1 (inr before))), state (λ has. unflagged (flagged.1 (inl has)))) (ap (map found_of) more ∙ map-append found_of old (s ∷ []))
+  tell_next new s at unflagged state more = made_one (Tells (map reading_of specs) remote refs) ref_of found_of local i (get_or local i d) old below (get_or_default local i d _ below) so_far new s
+      (at, (λ before. unflagged (flagged.1 (inr before))), state (λ has. unflagged (flagged.1 (inl has)))) more
 
-  -- and one that isn't
   pub tell_none : IsFlagged flags i ⊎ ¬ (IsWritable (map reading_of specs) n) → IsMadeFrom (Tells (map reading_of specs) remote refs) 0 (map ref_of (take (i + 1) local)) (map found_of old)
-  tell_none either = add None (map found_of old) (λ f (at, new, state).
+  tell_none either = made_none (Tells (map reading_of specs) remote refs) ref_of found_of local i (get_or local i d) old below (get_or_default local i d _ below) so_far (λ f (at, new, state).
       let untold = written_untold (map reading_of specs) remote mapped (all_accepted specs) by n in
-      search (rules, flagged, untold, unwritable_untold (map reading_of specs) remote mapped (all_accepted specs) by n)) (sym (append-nil (map found_of old)))
+      search (rules, flagged, untold, unwritable_untold (map reading_of specs) remote mapped (all_accepted specs) by n))

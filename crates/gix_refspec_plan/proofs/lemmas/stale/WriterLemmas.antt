@@ -4,11 +4,9 @@ use Rattle.gix_refspec_plan.proofs.Common.{option_flatten, option_or, bytes_deci
 use Rattle.gix_refspec_plan.proofs.Common.{written_name_of, Lacks-here, Exclusions, IsMadeFrom, AreExclusionsAt, AreExclusionsOf, ExcludeName, ExcludeNameAt, same_side, made_next, AddsName, AddsPattern}
 use Rattle.gix_refspec_plan.proofs.Common.{AreWriters, HasNameState, WritesName, WritesNameFrom, WritesPattern, state_for, option_to_list, true, false}
 use Rattle.std.specs.HashMap.{hash_map_len}
-use Rattle.gix_refspec_plan.specs.declared.stale.Writers.{Writers}
-use Rattle.gix_refspec_plan.proofs.lemmas.stale.SourceLemmas.{ExcludesNamed}
+use Rattle.gix_refspec_plan.{specs.declared.stale.Writers.Writers, proofs.lemmas.stale.SourceLemmas.ExcludesNamed}
 use Rattle.gix_refspec_plan.proofs.lemmas.plan.MadeLemmas.{nothing_in, push_all}
 
--- a reading writes one name at most
 pub one_written : (r : Reading) (n m : List ℕ) → WritesName r n → WritesName r m → n ≡ m
 one_written r n m a b = a.is ∙ ap written_name_of (same_side r.destination a.destination b.destination a.has b.has) ∙ sym b.is
 
@@ -18,7 +16,6 @@ module _ (es : Exclusions) (g : List Reading) (r : Reading) where
       → (q : Reading) (s : List ℕ) → Contains (g ++ r ∷ []) q → WritesNameFrom q n s → ¬ (ExcludeName es s)
   included_more n others last q s there = push_all (λ q. (t : List ℕ) → WritesNameFrom q n t → ¬ (ExcludeName es t)) g r (λ q before t. others q t before) last q there s
 
-  -- a name that the reading doesn't write
   name_stays : (n : List ℕ) (o : Option (Option ℕ)) → ¬ (WritesName r n) → HasNameState es g n o → HasNameState es (g ++ r ∷ []) n o
   name_stays n None apart state = push_all (λ q. ¬ (WritesName q n)) g r state apart
   name_stays n (Some None) apart ((q, at, writes), included) = ((q, Contains-append_left g (r ∷ []) q at, writes), included_more n included (λ s from. absurd (apart from.writes)))
@@ -28,7 +25,6 @@ module _ (es : Exclusions) (g : List Reading) (r : Reading) where
   abbrev IsExcludedFor : List ℕ → Option ℕ → Type 0
   IsExcludedFor n e = MatchOption e ((s : List ℕ) → WritesNameFrom r n s → ¬ (ExcludeName es s)) (λ k. (s : List ℕ) × WritesNameFrom r n s × ExcludeNameAt es s k)
 
-  -- a name that it writes
   name_written : (n : List ℕ) (o : Option (Option ℕ)) (e : Option ℕ) → WritesName r n → IsExcludedFor n e → HasNameState es g n o → HasNameState es (g ++ r ∷ []) n (Some (option_or (option_flatten o) e))
   name_written n None None writes included state = ((r, Contains-push g r, writes), included_more n (λ q s before from. absurd (state q before from.writes)) included)
   name_written n None (Some k) writes (s, from, excluded) state = (r, s, Contains-push g r, from, excluded)
@@ -45,19 +41,16 @@ module _ (es : Exclusions) (g : List Reading) (r : Reading) where
       by true same = subst (λ (x : List ℕ). HasNameState es (g ++ r ∷ []) x (Some (option_or (option_flatten (old n)) e))) ((bytes_decides n m).0 same) (name_written n (old n) e writes excluded (state n))
       by false differ = name_stays m (old m) (λ also. false≢true (sym differ ∙ (bytes_decides n m).1 (one_written r n m writes also))) (state m)
 
--- a reading that writes by a pattern, or by none
 patterns_next : (g : List Reading) (r : Reading) (old new : List Pattern) (made : Option Pattern) → MatchOption made ((p : Pattern) → ¬ (WritesPattern r p)) (WritesPattern r) → new ≡ old ++ option_to_list made
     → IsMadeFrom (λ k q x. WritesPattern q x) 0 g old → IsMadeFrom (λ k q x. WritesPattern q x) 0 (g ++ r ∷ []) new
 patterns_next g r old new made makes more so_far = rw more (made_next (λ k q x. WritesPattern q x) (length g) g r old made refl so_far makes)
 
--- a destination without a star is no pattern
 plain_no_pattern : (r : Reading) (n : List ℕ) (p : Pattern) → WritesName r n → ¬ (WritesPattern r p)
 plain_no_pattern r n p name by =
     let same = same_side r.destination name.destination by.destination name.has by.has in
     Lacks-here star p.before.now p.after.now (subst (Lacks star) (same ∙ by.split.starred) name.lacks)
 
 module _ (r : Reading) (old new : Writers) (keeps : new.exclusions ≡ old.exclusions) where
-  -- which writes the name
   pub adds_name : (n : List ℕ) (e : Option ℕ) → new.patterns.items ≡ old.patterns.items → ExcludesNamed old.exclusions r e
       → ((m : List ℕ) → state_for new.names m ≡ cond (bytes_eq n m) (Some (option_or (option_flatten (state_for old.names n)) e)) (state_for old.names m)) → AddsName r n old new
   adds_name n e same excluded updates = λ g es writes are. record {
@@ -70,7 +63,6 @@ module _ (r : Reading) (old new : Writers) (keeps : new.exclusions ≡ old.exclu
       by_name g es n None writes none = λ s from. none s from.named
       by_name g es n (Some k) writes (s, named, at) = (s, record { writes = writes; named = named }, at)
 
-  -- which writes by the pattern, or nothing
   pub adds_pattern : (made : Option Pattern) → ((m : List ℕ) → state_for new.names m ≡ state_for old.names m)
       → MatchOption made ((p : Pattern) → ¬ (WritesPattern r p)) (WritesPattern r) → new.patterns.items ≡ old.patterns.items ++ option_to_list made → AddsPattern r old new
   adds_pattern made same makes more = λ g es none are. record {
@@ -79,7 +71,6 @@ module _ (r : Reading) (old new : Writers) (keeps : new.exclusions ≡ old.exclu
     patterns = patterns_next g r old.patterns.items new.patterns.items made makes more are.patterns;
   }
 
--- without readings nothing is written
 pub none_written : (es : Exclusions) (w : Writers) → w.exclusions ≡ es → hash_map_len w.names ≡ 0 → w.patterns.items ≡ [] → AreWriters es [] w
 none_written es w is empty none = record {
   exclusions = is;

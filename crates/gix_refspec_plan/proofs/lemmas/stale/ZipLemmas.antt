@@ -7,10 +7,6 @@ zip_partner {X} R (z ∷ xs) (y ∷ ys) x all (zero, below, is) = (y, subst (λ 
 zip_partner R (z ∷ xs) (y ∷ ys) x all (suc k, below, is) = let (w, related, (j, inside, at)) = zip_partner R xs ys x all.1 (k, omega (arith, below), is) in (w, related, (suc j, omega (arith, inside), at))
 zip_partner R xs ys x all there = absurd (first_of (search rules, omega arith))
 
-pub there_any : {Y : Type 0} (P : Y → Type 0) (y : Y) (ys : List Y) → Contains ys y → P y → Any P ys
-there_any P y ys (k, below, is) holds = (k, y, below, is, holds)
-
--- the pair of a second element
 pub zip_first : {X Y : Type 0} (R : X → Y → Type 0) (P : Y → Type 0) (xs : List X) (ys : List Y) → AllZip R xs ys → Any P ys → (x : X) × (y : Y) × Contains xs x × R x y × P y
 zip_first R P (x ∷ xs) (y ∷ ys) all (zero, z, below, is, has) = (x, y, (zero, omega arith, refl), all.0, subst P (sym is) has)
 zip_first R P (x ∷ xs) (y ∷ ys) all (suc k, z, below, is, has) =
@@ -18,7 +14,6 @@ zip_first R P (x ∷ xs) (y ∷ ys) all (suc k, z, below, is, has) =
     (v, w, (suc i, omega (arith, under), there), related, holds)
 zip_first R P xs ys all any = absurd (first_of (search rules, omega arith))
 
--- they exclude the same
 pub same_excluded : (r c : Reading) (n : List ℕ) → IsCompleted r c → IsExcludedBy n c → IsExcludedBy n r
 same_excluded r c n is by = record { negative = sym is.mode ∙ by.negative; text = by.text; source = sym is.source ∙ by.source; excludes = by.excludes }
 

@@ -1,6 +1,4 @@
--- One more spec has one more destination.
-use Rattle.gix_refspec_plan.proofs.Common.{rules}
-use Rattle.gix_refspec_plan.proofs.lemmas.plan.NameLemmas.{zip_next}
+use Rattle.gix_refspec_plan.proofs.{Common.rules, lemmas.plan.NameLemmas.zip_next}
 use Rattle.gix_refspec_plan.proofs.mapped.completed_names.Goals as goal
 
 pub loop-spec-preserved : goal.loop-spec-preserved

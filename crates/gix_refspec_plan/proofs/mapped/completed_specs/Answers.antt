@@ -1,4 +1,3 @@
--- Each spec gets the destination at its index.
 use Rattle.gix_refspec_plan.proofs.Common.{arith, length-map, reading_of, option_map, bstring_bytes, rules}
 use Rattle.gix_refspec_plan.proofs.lemmas.plan.NameLemmas.{zip_long, zip_mapped_at, zip_next}
 use Rattle.gix_refspec_plan.proofs.mapped.completed_specs.Goals as goal

@@ -1,4 +1,3 @@
--- One more spec.
 use Rattle.gix_refspec_plan.proofs.lemmas.plan.LackingLemmas.{readings_next}
 use Rattle.gix_refspec_plan.proofs.mapped.specs_in.Goals as goal
 

@@ -1,7 +1,5 @@
--- A sound mapping of a ref adds its name.
 use Rattle.gix_refspec_plan.proofs.Common.{mapped_of, bstr_bytes, start_of, ap, name, sym, ◌∙◌, false≢true}
-use Rattle.gix_refspec_plan.proofs.lemmas.plan.SpecLemmas.{not_named}
-use Rattle.gix_refspec_plan.proofs.lemmas.plan.MadeLemmas.{made_one, made_none}
+use Rattle.gix_refspec_plan.proofs.lemmas.plan.{SpecLemmas.not_named, MadeLemmas.made_one, MadeLemmas.made_none}
 use Rattle.gix_refspec_plan.proofs.specs.sources_of.Goals as goal
 
 pub loop-mapping-preserved : goal.loop-mapping-preserved

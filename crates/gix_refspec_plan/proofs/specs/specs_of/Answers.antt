@@ -1,6 +1,4 @@
--- One more spec, if it is in the part.
-use Rattle.gix_refspec_plan.proofs.Common.{reading_of, asked_of}
-use Rattle.gix_refspec_plan.proofs.lemmas.plan.MadeLemmas.{made_one, made_none}
+use Rattle.gix_refspec_plan.proofs.{Common.reading_of, Common.asked_of, lemmas.plan.MadeLemmas.made_one, lemmas.plan.MadeLemmas.made_none}
 use Rattle.gix_refspec_plan.proofs.specs.specs_of.Goals as goal
 
 pub loop-index-preserved : goal.loop-index-preserved

@@ -1,5 +1,4 @@
-use Rattle.gix_refspec_plan.proofs.Common.{map, take, mapped_of, ref_of}
-use Rattle.gix_refspec_plan.proofs.lemmas.plan.TakenLemmas.{ArePicked}
+use Rattle.gix_refspec_plan.proofs.{Common.map, Common.take, Common.mapped_of, Common.ref_of, lemmas.plan.TakenLemmas.ArePicked}
 use Rattle.gix_refspec_plan.proofs.specs.taken_by.Given as goal
 
 abbrev pub invariant-loop-index : goal.invariant-loop-index

@@ -1,4 +1,3 @@
--- One more local ref behind the others.
 use Rattle.gix_refspec_plan.proofs.lemmas.plan.CoveredLemmas.{local_next}
 use Rattle.gix_refspec_plan.proofs.stale.names_of.Goals as goal
 

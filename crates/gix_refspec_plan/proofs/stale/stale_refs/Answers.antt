@@ -1,4 +1,3 @@
--- One more local ref.
 use Rattle.gix_refspec_plan.proofs.Common.{inl, inr, map, refl, false≢true, IfOk-at_ok, reading_of, mapped_of, ref_of, some_element}
 use Rattle.gix_refspec_plan.proofs.lemmas.stale.StateLemmas.{all_accepted, excluded_kept, included_stale, tell_next, tell_none}
 use Rattle.gix_refspec_plan.proofs.stale.stale_refs.Goals as goal

@@ -1,4 +1,3 @@
--- A destination with a star writes no name.
 use Rattle.gix_refspec_plan.proofs.Common.{Some, option_map, sym, ap, ◌∙◌, bstr_bytes, reading_of}
 use Rattle.gix_refspec_plan.proofs.lemmas.stale.SourceLemmas.{starred_unwritten}
 use Rattle.gix_refspec_plan.proofs.stale.written_by.Goals as goal

@@ -1,4 +1,3 @@
--- One more destination is counted, if the mapping is sound.
 use Rattle.gix_refspec_plan.proofs.lemmas.plan.VerdictLemmas.{counted_more, counted_same}
 use Rattle.gix_refspec_plan.proofs.verdicts.counts_of.Goals as goal
 

@@ -1,5 +1,4 @@
-use Rattle.gix_refspec_plan.proofs.Common.{◌≡◌, length, map, asked_of}
-use Rattle.gix_refspec_plan.proofs.lemmas.plan.JudgeLemmas.{AreSoMany}
+use Rattle.gix_refspec_plan.proofs.{Common.◌≡◌, Common.length, Common.map, Common.asked_of, lemmas.plan.JudgeLemmas.AreSoMany}
 use Rattle.gix_refspec_plan.proofs.verdicts.first_updates.Given as goal
 
 abbrev pub invariant-loop-mapping : goal.invariant-loop-mapping

@@ -1,4 +1,3 @@
--- One more verdict, which nothing overrules.
 use Rattle.gix_refspec_plan.proofs.Common.{[], map, mapped_of}
 use Rattle.gix_refspec_plan.proofs.lemmas.plan.JudgeLemmas.{has_mapping, none_counted, verdict_next}
 use Rattle.gix_refspec_plan.proofs.verdicts.first_verdicts.Goals as goal

@@ -1,4 +1,3 @@
--- The pattern is behind the others.
 use Rattle.gix_refspec_plan.proofs.Common.{refl, reading_of, Some, None, sym, append-nil}
 use Rattle.gix_refspec_plan.proofs.lemmas.stale.WriterLemmas.{adds_pattern}
 use Rattle.gix_refspec_plan.proofs.stale.Writers.add_pattern.Goals as goal
