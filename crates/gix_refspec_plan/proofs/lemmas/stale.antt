@@ -1,4 +1,3 @@
--- Lemmas on stale refs.
 pub mod ZipLemmas
 pub mod FetchedLemmas
 pub mod SourceLemmas

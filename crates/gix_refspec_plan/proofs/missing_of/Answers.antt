@@ -1,6 +1,6 @@
 -- The origin at each index of a missing source, unless it may be missing.
 use Rattle.gix_refspec_plan.proofs.Common.{None, Some, append-nil, map, sym, ◌∙◌, slice_index_or, subst, take_all, arith, rules, MatchBool-at_false, MatchBool-at_true, ref_of, MayBeMissing, asked_of}
-use Rattle.gix_refspec_plan.proofs.lemmas.plan.LackingLemmas.{all_lacking, missing_within, origin_at, origin_next}
+use Rattle.gix_refspec_plan.proofs.lemmas.plan.SpecLemmas.{all_lacking, missing_within, origin_at, origin_next}
 use Rattle.gix_refspec_plan.proofs.missing_of.Goals as goal
 
 pub bounds-asked-index : goal.bounds-asked-index

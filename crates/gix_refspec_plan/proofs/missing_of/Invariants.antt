@@ -1,4 +1,4 @@
-use Rattle.gix_refspec_plan.proofs.{Common.map, Common.take, Common.IsMadeFrom, Common.asked_of, lemmas.plan.LackingLemmas.Origins}
+use Rattle.gix_refspec_plan.proofs.{Common.map, Common.take, Common.IsMadeFrom, Common.asked_of, lemmas.plan.SpecLemmas.Origins}
 use Rattle.gix_refspec_plan.proofs.missing_of.Given as goal
 
 abbrev pub invariant-loop-index : goal.invariant-loop-index

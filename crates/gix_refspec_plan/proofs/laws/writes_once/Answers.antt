@@ -1,5 +1,5 @@
 -- What is written of each list of mappings has its own destinations, and the first list wins.
-use Rattle.gix_refspec_plan.proofs.{Common.map, Common.ref_of, Common.wish_of, lemmas.plan.OnceLemmas.writes_once}
+use Rattle.gix_refspec_plan.proofs.{Common.map, Common.ref_of, Common.wish_of, lemmas.plan.OpposedLemmas.writes_once}
 use Rattle.gix_refspec_plan.proofs.laws.writes_once.Goals as goal
 
 pub returns : goal.returns

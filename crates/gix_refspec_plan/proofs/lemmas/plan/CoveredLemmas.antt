@@ -2,7 +2,7 @@
 use Rattle.gix_refspec_plan.proofs.Common.{◌≡◌, ◌⊎◌, inl, inr, ◌↔◌, IsTrue, Bool, false, ℕ, ◌+◌, ◌-◌, ◌<◌, ◌≤◌, List, [], ◌∷◌, ◌++◌, length, map, take, get_or, sym, ap, ◌∙◌, arith, Contains}
 use Rattle.gix_refspec_plan.proofs.Common.{take-append-add, cases_lt, get_or-append-add, get_or-map, get_or-take, get_or_append_left, get_or_push, length-append, length-map, length-take-le, length_push}
 use Rattle.gix_refspec_plan.proofs.Common.{Contains-append_cases, Contains-append_left, Contains-append_right, BStr, bstr_bytes, Mapped, name, FlagsDuplicates, IsDuplicate, IsFlagged, some_element, Covers}
-use Rattle.gix_refspec_plan.proofs.Common.{IsSound, AreNames, same_Some, HasDestination, ref_names, Ref, Some, rules, ◌≢◌, Option, None, option_map, append_assoc, refl, map-append, map_more, Item, NameRef}
+use Rattle.gix_refspec_plan.proofs.Common.{IsSound, AreNames, same_Some, HasDestination, ref_names, Ref, Some, rules, ◌≢◌, Option, option_map, append_assoc, map-append, map_more, Item, NameRef}
 use Rattle.gix_refspec_plan.proofs.{Common.name_bytes, Common.ref_of, lemmas.plan.MadeLemmas.made_exactly}
 use Rattle.std.specs.declared.cmp.Ordering.{Ordering}
 use Rattle.gix_refspec_match.specs.Private.Orders.{bytes_order, equal_texts, same_texts}
@@ -83,8 +83,7 @@ copied_next all old new fetched i place b (long, so_far) here told more = (
 )
 
 pub no_side : (side : Option NameRef) → ((x : NameRef) → side ≢ Some x) → (n : List ℕ) → option_map name_bytes side ≢ Some n
-no_side None none n same = cc (same)
-no_side (Some x) none n same = none x refl
+no_side side none n same = grind arith
 
 pub local_next : (local : List Item) (i : ℕ) (d : Item) (mapped : List Mapped) (old new : List BStr) → i < length local
     → AreLocalNames mapped (map ref_of (take i local)) (map bstr_bytes old) → new ≡ old ++ (get_or local i d).full_ref_name ∷ [] → AreLocalNames mapped (map ref_of (take (i + 1) local)) (map bstr_bytes new)

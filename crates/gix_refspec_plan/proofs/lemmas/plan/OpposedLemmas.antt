@@ -1,12 +1,13 @@
--- An update is in conflict exactly if it conflicts with another one.
+-- An update is in conflict exactly if it conflicts with another one, and no ref is written twice.
 use Rattle.gix_refspec_plan.proofs.Common.{◌≡◌, ◌⊎◌, inl, inr, ◌↔◌, ℕ, ◌<◌, List, [], Option, None, Some, IsSome, MatchOption, get_or, length, refl, sym, ◌∙◌, subst, Contains, slice_get, get_or_default}
 use Rattle.gix_refspec_plan.proofs.Common.{All-from_recursion, Contains-append_cases, Contains-append_left, Contains-append_right, Contains-get_or, recursion_from_All, slice_get_read, Origin, Verdict}
 use Rattle.gix_refspec_plan.proofs.Common.{InvalidSide, Ref, HasPair, IsSamePair, Mapped, IsValidSource, Asked, CanBeWritten, HasOrigin, HasSecondVerdict, HasVerdict, IsContested, IsPlan, IsPlanned}
 use Rattle.gix_refspec_plan.proofs.Common.{IsPlannedBesides, IsSound, IsTakenOver, IsUnwritableAt, Planned, Wish, ConflictsExactly, DoConflict, All-contains, Written, InConflict, rules, Any-HasPair}
-use Rattle.gix_refspec_plan.proofs.Common.{IsOfPair, some_at, some_element, AreMappings, ◌≢◌, arith}
+use Rattle.gix_refspec_plan.proofs.Common.{IsOfPair, some_at, some_element, AreMappings, ◌≢◌, arith, ◌+◌, ◌∷◌, ◌++◌, AllByRecursion, all_join, IsMadeFrom, AreApart, AreWrittenApart, AreWrittenOnce}
+use Rattle.gix_refspec_plan.proofs.Common.{WritesOnce}
 use Rattle.gix_refspec.specs.declared.match_group.ref_names.InvalidSide.TheVariants as invalid
 use Rattle.gix_refspec_plan.proofs.lemmas.plan.JudgeLemmas.{mappings_of, tracked_mappings}
-use Rattle.gix_refspec_plan.proofs.lemmas.plan.MadeLemmas.{made_from, nothing_in, made_has}
+use Rattle.gix_refspec_plan.proofs.lemmas.plan.MadeLemmas.{made_from, nothing_in, made_has, there}
 
 pub unsound : (side : InvalidSide) (m : Mapped) → IsUnwritableAt side m → ¬ (IsSound m)
 unsound invalid.Source m (bad, good) sound = bad sound.source
@@ -139,3 +140,44 @@ conflicts_exactly wish refs planned missing plan = recursion_from_All (λ p. (p.
     let p = get_or planned k d in
     let has = Contains-get_or planned k d below in
     ((λ is. opposed wish refs planned missing plan p has is), (λ (q, has_q, both). in_conflict wish refs planned missing plan p q has has_q both)))
+
+-- what is written of a list of mappings is sound, and nothing else of that list has its destination
+module _ (all : List Mapped) (R : ℕ → Mapped → Planned → Type 0)
+    (told : (k : ℕ) (m : Mapped) (p : Planned) → R k m p → (p.destination ≡ m.destination) × (p.verdict ≡ Written → IsSound m × ¬ (IsContested all m))) where
+  pair_apart : (j k : ℕ) (m n : Mapped) (p q : Planned) → R j m p → R k n q → Contains all n → ¬ (IsSamePair m n) → AreWrittenApart p q
+  pair_apart j k m n p q of_p of_q has differ p_written q_written d p_to q_to =
+      let (p_is, p_told) = told j m p of_p in
+      let (q_is, q_told) = told k n q of_q in
+      let m_to = sym p_is ∙ p_to in
+      let n_to = sym q_is ∙ q_to in
+      (p_told p_written).1 (n, has, (q_told q_written).0, (d, m_to, n_to), λ same. differ (record { source = same; destination = m_to ∙ sym n_to }))
+
+  each_apart : (j k : ℕ) (m : Mapped) (p : Planned) (l : List Mapped) (ps : List Planned) → R j m p → ((n : Mapped) → Contains l n → Contains all n)
+      → AllByRecursion (λ n. ¬ (IsSamePair m n)) l → IsMadeFrom R k l ps → AllByRecursion (AreWrittenApart p) ps
+  each_apart j k m p l ps of_p inside differ made = recursion_from_All (AreWrittenApart p) ps (λ i d below.
+      let (n_at, n, has, of_q) = made_from R k l ps (get_or ps i d) made (Contains-get_or ps i d below) in
+      pair_apart j n_at m n p (get_or ps i d) of_p of_q (inside n has)
+          (All-contains (λ n. ¬ (IsSamePair m n)) l n (All-from_recursion (λ n. ¬ (IsSamePair m n)) l differ) has))
+
+  list_once : (k : ℕ) (l : List Mapped) (ps : List Planned) → ((n : Mapped) → Contains l n → Contains all n) → AreApart l → IsMadeFrom R k l ps → AreWrittenOnce ps
+  list_once k [] ps inside apart none = rw none tt
+  list_once k (m ∷ l) ps inside (differ, apart) (None, rest, none, more, is) = rw is (list_once (k + 1) l rest (λ x has. inside x (there m l x has)) apart more)
+  list_once k (m ∷ l) ps inside (differ, apart) (Some p, rest, of_p, more, is) =
+      rw is (each_apart k (k + 1) m p l rest of_p (λ x has. inside x (there m l x has)) differ more, list_once (k + 1) l rest (λ x has. inside x (there m l x has)) apart more)
+
+once_join : (xs ys : List Planned) → AreWrittenOnce xs → AreWrittenOnce ys → ((p q : Planned) → Contains xs p → Contains ys q → AreWrittenApart p q) → AreWrittenOnce (xs ++ ys)
+once_join [] ys once_xs once_ys apart = once_ys
+once_join (p ∷ xs) ys (later, once_xs) once_ys apart = (
+  all_join (AreWrittenApart p) xs ys later (recursion_from_All (AreWrittenApart p) ys (λ k d below. apart p (get_or ys k d) (0, omega arith, refl) (Contains-get_or ys k d below))),
+  once_join xs ys once_xs once_ys (λ x y has. apart x y (there p xs x has)),
+)
+
+pub writes_once : (wish : Wish) (refs : List Ref) → WritesOnce wish refs
+writes_once wish refs planned missing plan = subst AreWrittenOnce (sym plan.all) (once_join plan.before plan.behind
+    (list_once plan.firsts (λ k m p. IsPlanned plan.asked plan.firsts m p)
+    (λ k m p of. (of.destination, λ written. subst (HasVerdict plan.firsts m) written of.verdict))
+    0 plan.firsts plan.before (λ n has. has) (mappings_of plan.asked refs plan.firsts plan.are_firsts).apart plan.are_before)
+    (list_once plan.seconds (λ k m p. IsPlannedBesides plan.tracking plan.indexes plan.firsts plan.seconds m p)
+    (λ k m p of. (of.destination, λ written. let is = subst (HasSecondVerdict plan.firsts plan.seconds m) written of.verdict in (is.0, is.2)))
+    0 plan.seconds plan.behind (λ n has. has) (tracked_mappings wish refs plan.tracking plan.indexes plan.seconds plan.are_seconds).apart plan.are_behind)
+    (λ p q has_p has_q p_written q_written. never_both wish refs planned missing plan p q has_p has_q (inl p_written) (inl q_written)))

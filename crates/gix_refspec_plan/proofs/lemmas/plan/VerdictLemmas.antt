@@ -1,8 +1,8 @@
 -- Which destinations are written, and the verdicts by that.
-use Rattle.gix_refspec_plan.proofs.Common.{◌≡◌, ◌≢◌, ◌⊎◌, ◌↔◌, inl, inr, ℕ, zero, suc, ◌+◌, ◌<◌, Bool, Bor, true, false, cond, List, [], ◌∷◌, ◌++◌, Option, None, Some, is_some, unwrap_or, bytes_eq, map}
-use Rattle.gix_refspec_plan.proofs.Common.{take, get_or, length, refl, sym, ap, ◌∙◌, subst, arith, BTreeMap, UpdatesBy, get_by, slice_cmp, nat_cmp, Any, Contains, false≢true, map_more}
-use Rattle.gix_refspec_plan.proofs.Common.{All-from_recursion, bytes_eq-Decides, Mapping, Mapped, IsSamePair, AreApart, mapped_of, IsContested, IsSound, IsTakenOver, CountDestinations, HasTwo, IsCount}
-use Rattle.gix_refspec_plan.proofs.Common.{TellContested, WritesTo, rules, same_Some, some_at, some_of}
+use Rattle.gix_refspec_plan.proofs.Common.{◌≡◌, ◌≢◌, ◌⊎◌, ◌↔◌, inl, inr, ℕ, zero, suc, ◌+◌, ◌<◌, Bool, Bor, true, false, cond, List, [], ◌∷◌, ◌++◌, Option, None, Some, is_some, bytes_eq, map, take}
+use Rattle.gix_refspec_plan.proofs.Common.{get_or, length, refl, sym, ap, ◌∙◌, subst, arith, BTreeMap, UpdatesBy, get_by, slice_cmp, nat_cmp, Any, Contains, false≢true, map_more, All-from_recursion}
+use Rattle.gix_refspec_plan.proofs.Common.{bytes_eq-Decides, Mapping, Mapped, IsSamePair, AreApart, mapped_of, IsContested, IsSound, IsTakenOver, CountDestinations, HasTwo, IsCount, TellContested}
+use Rattle.gix_refspec_plan.proofs.Common.{WritesTo, rules, same_Some, some_at, some_of}
 use Rattle.std.proofs.lemmas.Map.Text.{btree_map_updates_str}
 use Rattle.gix_refspec.{specs.Matching.Validation.HasConflictAt, proofs.lemmas.validate.FirstLemmas.start_cases}
 use Rattle.gix_refspec_plan.proofs.lemmas.plan.MadeLemmas.{there}
@@ -66,11 +66,7 @@ rivalry (x ∷ l) d apart (inr two) = let (m, n, has_m, has_n, m_writes, n_write
 
 -- what is counted tells of each destination whether it is contested
 pub counted_contested : (l : List Mapped) (counts : BTreeMap (Bor (List ℕ)) Bool) → CountDestinations l counts → TellContested l counts
-counted_contested l counts are d = by (count_at counts d) (are d)
-  where
-    by : (w : Option Bool) → IsCount l d w → (unwrap_or w false ≡ true) ↔ HasTwo (WritesTo d) l
-    by None none = ((λ told. absurd (false≢true told)), (λ two. absurd (none (two_any (WritesTo d) l two))))
-    by (Some several) (any, told) = told
+counted_contested l counts are d = grind (arith, are d, two_any (WritesTo d) l, false≢true)
 
 -- where no destination is in conflict, an empty map tells that
 pub none_contested : (l : List Mapped) (empty : BTreeMap (Bor (List ℕ)) Bool) → AreApart l → ((d : List ℕ) → ¬ (HasConflictAt l d)) → empty.entries ≡ [] → TellContested l empty

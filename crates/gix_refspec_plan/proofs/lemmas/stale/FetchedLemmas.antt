@@ -50,8 +50,7 @@ completed_destination (Some x) full d shape is = (x, refl, grind (arith, shape, 
 
 -- a ref that is known by its name alone is no object
 pub no_object_named : (x n : List ℕ) (word : Option (List ℕ)) (bytes : List ℕ) → HasKind x (object bytes) → ¬ (MatchesAs (object bytes) (ref_named n) word)
-no_object_named x n word bytes kind (none, inl same) = grind (arith, ap length same, kind.2.bytes)
-no_object_named x n word bytes kind (none, inr other) = absurd (cc (other))
+no_object_named x n word bytes kind holds = grind (arith, kind.2.bytes)
 
 -- a side matches by names alone, unless it is an object
 match_named : (x : List ℕ) (q r : Ref) (word : Option (List ℕ)) → q.name ≡ r.name → ((bytes : List ℕ) → HasKind x (object bytes) → ¬ (MatchesAs (object bytes) q word)) → Matches x q word → Matches x r word

@@ -3,7 +3,7 @@ use Rattle.gix_refspec_plan.proofs.Common.{◌≡◌, ◌⊎◌, inl, inr, ℕ, 
 use Rattle.gix_refspec_plan.proofs.Common.{get_or_default, take_more, Pattern, star, BeginsWith, Lacks, HasStar, IsSplit, Reading, with_destination, IsAccepted, IsPositive, SideKind, pattern, full_name}
 use Rattle.gix_refspec_plan.proofs.Common.{object, partial, HasKind, Fits, written_name_of, Matches, MatchesAs, split_once, Lacks-here, Lacks-ContainsText, Exclusions, IsMadeFrom, IsExcluded}
 use Rattle.gix_refspec_plan.proofs.Common.{AreExclusionsAt, AreExclusionsOf, ExcludeName, same_side, CanWrite, IsSourceOf, IsWritable, ref_named, HasNameState, HasParts, HasPatternState, HasState}
-use Rattle.gix_refspec_plan.proofs.Common.{IsPatternSource, WritesName, WritesNameFrom, WritesPattern, sides_agree, Excluded, Included, Unwritable, rules, matches_as}
+use Rattle.gix_refspec_plan.proofs.Common.{IsPatternSource, WritesName, WritesNameFrom, WritesPattern, sides_agree, Excluded, Included, Unwritable, rules, matches_as, arith}
 use Rattle.gix_refspec_plan.specs.declared.stale.State.{State}
 use Rattle.gix_refspec_plan.proofs.lemmas.stale.FetchedLemmas.{accepted_in, completed_destination, no_object_named, written_below, written_lacks}
 use Rattle.gix_refspec_plan.proofs.lemmas.plan.MadeLemmas.{nothing_in, push_all, made_has, made_from}
@@ -118,9 +118,7 @@ module _ (g : List Reading) (accepted : AllByRecursion (λ r. ∥ IsAccepted r �
 
   -- so with all patterns that is what is known of n
   pub all_among : AreExclusionsOf g es → (s : State) → HasStateAmong es g ps n s → HasState g n s
-  all_among whole Unwritable among = no_writer among
-  all_among whole Included among = (among.0, all_included whole among)
-  all_among whole (Excluded k) none = absurd none
+  all_among whole s among = grind (arith, no_writer, all_included whole)
 
   -- a ref from which a name or a pattern writes n is one from which it could be written
   pub name_excluded : AreExclusionsAt g es → (k : ℕ) → HasNameState es g n (Some (Some k)) → HasState g n (Excluded k)

@@ -1,4 +1,4 @@
-use Rattle.gix_refspec_plan.proofs.lemmas.plan.LackingLemmas.{readings_next}
+use Rattle.gix_refspec_plan.proofs.lemmas.plan.SpecLemmas.{readings_next}
 use Rattle.gix_refspec_plan.proofs.mapped.specs_in.Goals as goal
 
 pub loop-one-preserved : goal.loop-one-preserved

@@ -1,4 +1,4 @@
-use Rattle.gix_refspec_plan.proofs.{Common.map, Common.take, Common.mapped_of, Common.ref_of, lemmas.plan.TakenLemmas.ArePicked}
+use Rattle.gix_refspec_plan.proofs.{Common.map, Common.take, Common.mapped_of, Common.ref_of, lemmas.plan.SpecLemmas.ArePicked}
 use Rattle.gix_refspec_plan.proofs.specs.taken_by.Given as goal
 
 abbrev pub invariant-loop-index : goal.invariant-loop-index

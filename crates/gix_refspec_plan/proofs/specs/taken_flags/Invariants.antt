@@ -1,4 +1,4 @@
-use Rattle.gix_refspec_plan.proofs.{Common.map, Common.take, Common.mapped_of, lemmas.plan.TakenLemmas.AreTakenFlags}
+use Rattle.gix_refspec_plan.proofs.{Common.map, Common.take, Common.mapped_of, lemmas.plan.SpecLemmas.AreTakenFlags}
 use Rattle.gix_refspec_plan.proofs.specs.taken_flags.Given as goal
 
 abbrev pub invariant-loop-mapping : goal.invariant-loop-mapping
