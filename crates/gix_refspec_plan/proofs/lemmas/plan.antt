@@ -6,4 +6,3 @@ pub mod OnePlanLemmas
 pub mod OpposedLemmas
 pub mod CarriedLemmas
 pub mod SpecLemmas
-pub mod VerdictLemmas

@@ -4,9 +4,8 @@ use Rattle.gix_refspec_plan.proofs.Common.{All-from_recursion, Contains-append_c
 use Rattle.gix_refspec_plan.proofs.Common.{InvalidSide, Ref, HasPair, IsSamePair, Mapped, IsValidSource, Asked, CanBeWritten, HasOrigin, HasSecondVerdict, HasVerdict, IsContested, IsPlan, IsPlanned}
 use Rattle.gix_refspec_plan.proofs.Common.{IsPlannedBesides, IsSound, IsTakenOver, IsUnwritableAt, Planned, Wish, ConflictsExactly, DoConflict, All-contains, Written, InConflict, rules, Any-HasPair}
 use Rattle.gix_refspec_plan.proofs.Common.{IsOfPair, some_at, some_element, AreMappings, ◌≢◌, arith, ◌+◌, ◌∷◌, ◌++◌, AllByRecursion, all_join, IsMadeFrom, AreApart, AreWrittenApart, AreWrittenOnce}
-use Rattle.gix_refspec_plan.proofs.Common.{WritesOnce}
+use Rattle.gix_refspec_plan.proofs.{Common.WritesOnce, lemmas.plan.JudgeLemmas.mappings_of, lemmas.plan.JudgeLemmas.tracked_mappings}
 use Rattle.gix_refspec.specs.declared.match_group.ref_names.InvalidSide.TheVariants as invalid
-use Rattle.gix_refspec_plan.proofs.lemmas.plan.JudgeLemmas.{mappings_of, tracked_mappings}
 use Rattle.gix_refspec_plan.proofs.lemmas.plan.MadeLemmas.{made_from, nothing_in, made_has, there}
 
 pub unsound : (side : InvalidSide) (m : Mapped) → IsUnwritableAt side m → ¬ (IsSound m)
@@ -73,7 +72,8 @@ module _ (over l : List Mapped) (updates : List Planned) (are : AreUpdates over 
       let (n, in_n, (n_source, n_destination, n_verdict)) = are.by q has_q in
       let (sound, free) = sound_of over l m p.verdict m_verdict both.one in
       let sound_n = (sound_of over l n q.verdict n_verdict both.other).0 in
-      let contested : IsContested l m = (n, in_n, sound_n, (both.destination, sym m_destination ∙ both.one_to, sym n_destination ∙ both.other_to),
+      let contested : IsContested l m =
+          (n, in_n, sound_n, (both.destination, sym m_destination ∙ both.one_to, sym n_destination ∙ both.other_to),
           λ same. both.differ (m_source ∙ same ∙ sym n_source)) in
       conflict_of over l m p.verdict sound free contested m_verdict
 
@@ -81,7 +81,8 @@ module _ (wish : Wish) (refs : List Ref) (planned : List Planned) (missing : Lis
   firsts_are : AreUpdates [] plan.firsts plan.before
   firsts_are = record {
     by = λ p has.
-        let (k, m, inside, of_p) = made_from (λ k m p. IsPlanned plan.asked plan.firsts m p) 0 plan.firsts plan.before p plan.are_before has in
+        let (k, m, inside, of_p) =
+            made_from (λ k m p. IsPlanned plan.asked plan.firsts m p) 0 plan.firsts plan.before p plan.are_before has in
         (m, inside, (of_p.source, of_p.destination, as_second plan.firsts m p.verdict of_p.verdict));
     of = λ m has sound free contested.
         let (o, from) = origin_of plan.asked plan.firsts m (mappings_of plan.asked refs plan.firsts plan.are_firsts) has in
@@ -112,8 +113,10 @@ module _ (wish : Wish) (refs : List Ref) (planned : List Planned) (missing : Lis
 
   pub opposed : (p : Planned) → Contains planned p → p.verdict ≡ InConflict → (q : Planned) × Contains planned q × DoConflict p q
   opposed p has is = rw plan.all (elim (listed p has) [
-    | inl first ↦ let (q, inside, both) = list_opposed [] plan.firsts plan.before firsts_are p first is in (q, Contains-append_left plan.before plan.behind q inside, both)
-    | inr second ↦ let (q, inside, both) = list_opposed plan.firsts plan.seconds plan.behind seconds_are p second is in (q, Contains-append_right plan.before plan.behind q inside, both)
+    | inl first ↦ let (q, inside, both) = list_opposed [] plan.firsts plan.before firsts_are p first is in
+        (q, Contains-append_left plan.before plan.behind q inside, both)
+    | inr second ↦ let (q, inside, both) = list_opposed plan.firsts plan.seconds plan.behind seconds_are p second is in
+        (q, Contains-append_right plan.before plan.behind q inside, both)
   ])
 
   -- what the first list writes, the second one doesn't
@@ -124,7 +127,8 @@ module _ (wish : Wish) (refs : List Ref) (planned : List Planned) (missing : Lis
       let (m, in_m, (m_source, m_destination, m_verdict)) = firsts_are.by p has_p in
       let (n, in_n, (n_source, n_destination, n_verdict)) = seconds_are.by q has_q in
       let sound = (sound_of [] plan.firsts m p.verdict m_verdict one).0 in
-      (sound_of plan.firsts plan.seconds n q.verdict n_verdict other).1 (m, in_m, sound, (d, sym n_destination ∙ q_to, sym m_destination ∙ p_to))
+      (sound_of plan.firsts plan.seconds n q.verdict n_verdict other).1
+          (m, in_m, sound, (d, sym n_destination ∙ q_to, sym m_destination ∙ p_to))
 
   pub in_conflict : (p q : Planned) → Contains planned p → Contains planned q → DoConflict p q → p.verdict ≡ InConflict
   in_conflict p q has_p has_q both = by (listed p has_p) (listed q has_q)

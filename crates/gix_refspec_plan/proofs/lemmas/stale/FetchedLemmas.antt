@@ -57,7 +57,8 @@ match_named : (x : List ℕ) (q r : Ref) (word : Option (List ℕ)) → q.name �
 match_named x q r word same no_object matches =
     record { kind = matches.kind; of = matches.of; is = by matches.kind matches.of (subst (λ (n : List ℕ). MatchesAs matches.kind (record { name = n; target = q.target; object = q.object }) word) same matches.is) }
   where
-    by : (k : SideKind) → HasKind x k → MatchesAs k (record { name = r.name; target = q.target; object = q.object }) word → MatchesAs k r word
+    by : (k : SideKind) → HasKind x k → MatchesAs k (record { name = r.name; target = q.target; object = q.object }) word
+        → MatchesAs k r word
     by (object bytes) of holds = absurd (no_object bytes of holds)
     by k of holds = holds
 
@@ -72,7 +73,8 @@ AreAlike x d = (HasOneStar x × HasStar d) ⊎ (Lacks star x × Lacks star d × 
 -- what a destination becomes where its source takes a ref is the name that it matches with the same word
 filled_matches : (x d : List ℕ) (r : Ref) (word : Option (List ℕ)) (n : List ℕ) → AreAlike x d → Matches x r word → IsFilled (Some d) word (Some n) → Matches d (ref_named n) word
 filled_matches x d r None n (inl (one, has)) takes filled = absurd (matches_as x (pattern one.0 one.1) r None one.2 takes)
-filled_matches x d r (Some w) n (inl (one, has)) takes (pattern before after, of, is) = record { kind = pattern before after; of = of; is = cc (is) }
+filled_matches x d r (Some w) n (inl (one, has)) takes (pattern before after, of, is) =
+    record { kind = pattern before after; of = of; is = cc (is) }
 filled_matches x d r word n (inr (lacks_x, lacks, begins)) takes (full_name m, of, is) =
     record { kind = full_name m; of = of; is = (plain_word x r word takes.kind lacks_x takes.of takes.is, cc (is)) }
 filled_matches x d r word n (inr (lacks_x, lacks, begins)) takes (pattern before after, of, is) = absurd (Lacks-here star before after (subst (Lacks star) of.starred lacks))

@@ -18,7 +18,8 @@ among_named (r ∷ refs) n (suc k, below, is) = inr (among_named refs n (k, omeg
 
 module _ (g : List Reading) (remote : List Ref) (mapped : List Mapped) (accepted : AllByRecursion (λ r. ∥ IsAccepted r ∥₁) g) (by : AreMappedBy g remote mapped) (n : List ℕ) where
   pub written_untold : HasDestination mapped n → (kept : Option ℕ) → ¬ (MatchOption kept (IsStale g remote n) (IsKeptBy g remote n))
-  written_untold has kept told = grind (arith, written_from g remote mapped accepted by n has, written_fetched g remote mapped accepted by n has)
+  written_untold has kept told =
+      grind (arith, written_from g remote mapped accepted by n has, written_fetched g remote mapped accepted by n has)
 
   pub unwritable_untold : ¬ (IsWritable g n) → (kept : Option ℕ) → ¬ (MatchOption kept (IsStale g remote n) (IsKeptBy g remote n))
   unwritable_untold none None stale = none stale.writable

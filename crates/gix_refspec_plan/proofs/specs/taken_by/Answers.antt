@@ -9,8 +9,7 @@ loop-index-preserved c =
     let below = c.loop-index-test.true in
     let taken = c.loop-index.taken in
     let flag = rw c.as_slice-in-loop-index.ensures.value at c.is_flagged.ensures in
-    let all = rw c.as_slice-4.ensures.value at c.in_ok-flags.ensures in
-    let each = all.each i below in
+    let each = (rw c.as_slice-4.ensures.value at c.in_ok-flags.ensures).each i below in
     elim c.if-is_flagged.branch [
       | goal.then-is_flagged+in_ok-push+in_ok-push-2 w ↦ rw w.taken-is
           (picked_here (map mapped_of c.in_ok-mappings.mappings.items) items i _ taken.indexes.items taken.items.items below c.loop-index.invariant _ _ (each.0 (flag.0 w.if-is_flagged.true)) w.in_ok-push.ensures.items w.in_ok-push-2.ensures.items)

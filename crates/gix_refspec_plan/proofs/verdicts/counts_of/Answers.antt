@@ -1,4 +1,4 @@
-use Rattle.gix_refspec_plan.proofs.lemmas.plan.VerdictLemmas.{counted_more, counted_same}
+use Rattle.gix_refspec_plan.proofs.lemmas.plan.JudgeLemmas.{counted_more, counted_same}
 use Rattle.gix_refspec_plan.proofs.verdicts.counts_of.Goals as goal
 
 pub loop-mapping-preserved : goal.loop-mapping-preserved

@@ -1,6 +1,6 @@
 -- The map has the name, with a spec that excludes a ref from which one of the readings writes it.
 use Rattle.gix_refspec_plan.proofs.Common.{Some, cond, bytes_eq, refl, ap, ◌∙◌, ℕ, Option, option_flatten, option_or, bstr_bytes, reading_of, state_for}
-use Rattle.gix_refspec_plan.proofs.lemmas.stale.WriterLemmas.{adds_name}
+use Rattle.gix_refspec_plan.proofs.lemmas.stale.PatternLemmas.{adds_name}
 use Rattle.gix_refspec_plan.proofs.stale.Writers.add_name.Goals as goal
 
 pub returns : goal.returns

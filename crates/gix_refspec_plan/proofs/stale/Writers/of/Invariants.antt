@@ -1,4 +1,4 @@
-use Rattle.gix_refspec_plan.proofs.{Common.map, Common.take, Common.reading_of, lemmas.stale.WriterLemmas.AreWritersSoFar}
+use Rattle.gix_refspec_plan.proofs.{Common.map, Common.take, Common.reading_of, lemmas.stale.PatternLemmas.AreWritersSoFar}
 use Rattle.gix_refspec_plan.proofs.stale.Writers.of.Given as goal
 
 abbrev pub invariant-loop-index : goal.invariant-loop-index
