@@ -2,7 +2,6 @@ use Rattle.gix_refspec_plan.proofs.Common.{◌≡◌, ◌≢◌, [], map, refl, 
 use Rattle.gix_refspec_plan.proofs.Common.{planned_of, each_mapped, InConflict}
 use Rattle.gix_refspec_plan.proofs.Plan.is_carried_out.Goals as goal
 
--- what is planned isn't in conflict
 abbrev IsPlannedFree : Planned → Type 0
 IsPlannedFree p = p.verdict ≢ InConflict
 

@@ -2,15 +2,14 @@
 use Rattle.gix_refspec_plan.proofs.Common.{◌≡◌, ◌⊎◌, inl, inr, ◌↔◌, ℕ, ◌<◌, List, [], Option, None, Some, IsSome, MatchOption, get_or, length, refl, sym, ◌∙◌, subst, Contains, slice_get, get_or_default}
 use Rattle.gix_refspec_plan.proofs.Common.{All-from_recursion, Contains-append_cases, Contains-append_left, Contains-append_right, Contains-get_or, recursion_from_All, slice_get_read, Origin, Verdict}
 use Rattle.gix_refspec_plan.proofs.Common.{InvalidSide, Ref, HasPair, IsSamePair, Mapped, IsValidSource, Asked, CanBeWritten, HasOrigin, HasSecondVerdict, HasVerdict, IsContested, IsPlan, IsPlanned}
-use Rattle.gix_refspec_plan.proofs.Common.{IsPlannedBesides, IsSound, IsTakenOver, IsUnwritableAt, Planned, Wish, ConflictsExactly, DoConflict, All-contains, Written, InConflict, rules, Any-HasPair}
-use Rattle.gix_refspec_plan.proofs.Common.{IsOfPair, some_at, some_element, AreMappings, ◌≢◌, arith, ◌+◌, ◌∷◌, ◌++◌, AllByRecursion, all_join, IsMadeFrom, AreApart, AreWrittenApart, AreWrittenOnce}
+use Rattle.gix_refspec_plan.proofs.Common.{IsPlannedBesides, IsSound, IsTakenOver, IsUnwritableAt, Planned, Wish, ConflictsExactly, DoConflict, All-contains, Written, InConflict, Any-HasPair, IsOfPair}
+use Rattle.gix_refspec_plan.proofs.Common.{some_at, some_element, AreMappings, ◌≢◌, arith, ◌+◌, ◌∷◌, ◌++◌, AllByRecursion, all_join, IsMadeFrom, AreApart, AreWrittenApart, AreWrittenOnce}
 use Rattle.gix_refspec_plan.proofs.{Common.WritesOnce, lemmas.plan.JudgeLemmas.mappings_of, lemmas.plan.JudgeLemmas.tracked_mappings}
 use Rattle.gix_refspec.specs.declared.match_group.ref_names.InvalidSide.TheVariants as invalid
 use Rattle.gix_refspec_plan.proofs.lemmas.plan.MadeLemmas.{made_from, nothing_in, made_has, there}
 
 pub unsound : (side : InvalidSide) (m : Mapped) → IsUnwritableAt side m → ¬ (IsSound m)
-unsound invalid.Source m (bad, good) sound = bad sound.source
-unsound side m is sound = search rules
+unsound side m is sound = grind arith
 
 module _ (over l : List Mapped) (m : Mapped) where
   sound_of : (v : Verdict) → HasSecondVerdict over l m v → (v ≡ Written) ⊎ (v ≡ InConflict) → IsSound m × ¬ (IsTakenOver over m)

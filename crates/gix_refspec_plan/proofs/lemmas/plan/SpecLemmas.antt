@@ -1,11 +1,11 @@
 -- The specs and the merged refs that are asked for, the items that are taken, and the origins of the specs whose source no ref has.
-use Rattle.gix_refspec_plan.proofs.Common.{◌≡◌, ◌≢◌, ◌⊎◌, inl, inr, ◌==◌, Bool, true, false, ℕ, ◌+◌, ◌<◌, List, [], ◌∷◌, ◌++◌, map, take, get_or, length, refl, sym, ap, ◌∙◌, append_assoc, arith, eqb-true}
+use Rattle.gix_refspec_plan.proofs.Common.{◌≡◌, ◌≢◌, ◌⊎◌, inl, inr, ◌==◌, Bool, true, false, ℕ, ◌+◌, ◌<◌, List, [], ◌∷◌, ◌++◌, map, take, get_or, length, refl, sym, ap, ◌∙◌, append_assoc, arith}
 use Rattle.gix_refspec_plan.proofs.Common.{false≢true, map-append, BStr, bstr_bytes, NameRef, Mapped, name, start_of, AreNames, DeclaredAsked, Origin, Reading, Ref, reading_of, AreAsked, AreConfigured}
 use Rattle.gix_refspec_plan.proofs.Common.{AreThose, Asked, Wish, tags_asked, asked_of, map_next, Given, ◌↔◌, Contains, get_or-map, length-map, fetched_alone, IsFlagged, IsRefName, Covers, FlagCovered}
 use Rattle.gix_refspec_plan.proofs.Common.{Merge, suc, Option, None, Some, option_to_list, subst, zero-add, AllByRecursion, get_or_default, length-take-le, take_more, All-from_recursion, RefSpecRef}
 use Rattle.gix_refspec_plan.proofs.Common.{IsMadeFrom, MakesOf, AreMissing, LacksSource, made_next, AreLacking, MayBeMissing, ◌-◌, ◌≤◌, set, replicate, cases_eq, append-nil, get_or-replicate}
 use Rattle.gix_refspec_plan.proofs.Common.{get_or-set_other, get_or-set_same, length-replicate, length-set, map_more, take_all, Contains-append_left, Contains-push, Contains-push_cases, Item, Mapping}
-use Rattle.gix_refspec_plan.proofs.Common.{mapped_of, ref_of, made_more, IsSound, IsTakenAt, FlagsTaken, rules}
+use Rattle.gix_refspec_plan.proofs.Common.{mapped_of, ref_of, made_more, IsSound, IsTakenAt, FlagsTaken, rules, nil_from_length}
 use Rattle.gix_refspec_match.specs.declared.types.SourceRef.{SourceRef}
 use Rattle.gix_refspec_match.specs.declared.types.SourceRef.TheVariants as source_ref
 
@@ -25,12 +25,10 @@ pub merge_flag : (merges : List BStr) (mapped : List Mapped) (flags : List Bool)
 merge_flag merges mapped flags i d below told = rw (get_or-map bstr_bytes merges i d [] below) at (told i [] (omega (arith, length-map merges bstr_bytes)))
 
 pub some_mapped : {A X : Type 0} (f : A → X) (xs : List A) (b : Bool) → b ≡ (length xs == 0) → b ≡ false → map f xs ≢ []
-some_mapped f [] b told is same = false≢true (sym is ∙ told)
-some_mapped f (x ∷ xs) b told is same = cc
+some_mapped f xs b told is same = grind (arith, length-map xs f, ap length same)
 
 pub none_mapped : {A X : Type 0} (f : A → X) (xs : List A) (b : Bool) → b ≡ (length xs == 0) → b ≡ true → map f xs ≡ []
-none_mapped f [] b told is = refl
-none_mapped f (x ∷ xs) b told is = absurd (let none : length (x ∷ xs) ≡ 0 = eqb-true _ _ (sym told ∙ is) in omega arith)
+none_mapped f xs b told is = nil_from_length (map f xs) (grind (arith, length-map xs f))
 
 pub one_more : (old new : List DeclaredAsked) (a : DeclaredAsked) (r : Reading) (o : Origin) → reading_of a.spec ≡ r → a.origin ≡ o → new ≡ old ++ a ∷ [] → map asked_of new ≡ map asked_of old ++ record { reading = r; origin = o } ∷ []
 one_more old new a r o reading from more =
@@ -120,12 +118,8 @@ abbrev pub AreTakenFlags : List Mapped → ℕ → List Bool → Type 0
 AreTakenFlags mapped len flags = (length flags ≡ len) × FlagsTaken mapped len flags
 
 no_flags : (len k : ℕ) → k < len → IsFlagged (replicate len false) k ↔ IsTakenAt [] k
-no_flags len k below = (
-  (λ flagged. absurd (false≢true (sym (get_or-replicate len k false false below) ∙ flagged))),
-  (λ (m, (i, inside, at), sound, item). absurd (omega (arith, inside))),
-)
+no_flags len k below = grind (arith, get_or-replicate len k false false below, false≢true)
 
--- flags that a list without any was resized to
 pub none_taken : (len n : ℕ) (old flags : List Bool) → old ≡ [] → n ≡ 0 → flags ≡ take len old ++ replicate (len - n) false → AreTakenFlags [] len flags
 none_taken len n old flags empty none resized =
     let size : len - n ≡ len = omega arith in
