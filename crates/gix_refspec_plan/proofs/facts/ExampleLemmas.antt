@@ -1,0 +1,84 @@
+-- What the examples of plans cite: names passed on, data in few words, and proofs that hold for all examples of a kind.
+use Rattle.gix_refspec_plan.proofs.Common.{◌≡◌, inl, inr, ℕ, ◌+◌, false, List, [], ◌∷◌, ◌++◌, None, Some, codes, map, refl, sym, ◌∙◌, subst, arith, AllByRecursion, Contains, append-nil, same_Some, Origin, Verdict}
+use Rattle.gix_refspec_plan.proofs.Common.{CanBeWritten, HasStar, rules, Reading, Negative, IsPositive, fetched, fetched_alone, HasKind, object, Ref, Takes, IsMadeFrom, Mapped, IsExcluded, IsExcludedBy, LacksSource}
+use Rattle.gix_refspec_plan.proofs.Common.{IsRefName, AreMerges, Asked, Covers, IsCompleted, IsContested, IsNegativeReading, IsSound, Planned, Merge}
+use Rattle.gix_refspec_text.{specs.Specs.Reading.Mode, specs.Matching.Side.Excludes, specs.Texts.Bytes.slash, proofs.lemmas.texts.TestedLemmas.IsName-tested, proofs.lemmas.texts.TestedLemmas.is_suspect}
+pub use Rattle.gix_refspec_text.proofs.facts.{ManualFacts.Lacks-tested, ManualFacts.named, FitFacts.every, FitFacts.heads_split, FitFacts.main_ref, FitFacts.no_dev, FitFacts.origin_split, FitFacts.short, FitFacts.short_kind}
+pub use Rattle.gix_refspec_match.specs.Matching.{Hits.AreForward, Hits.AreForwardEnds, Hits.AreSpecHits, Hits.Ends, Hits.Hit, Hits.IsHit, Hits.IsIdMapping, Hits.forward_of, Lists.IsJoinedFrom, Mappings.IsKept}
+pub use Rattle.gix_refspec_match.proofs.facts.MatchFacts.{mapping, main_candidate}
+pub use Rattle.gix_refspec.proofs.facts.RefNameFacts.{no_ref_names, ref_names}
+pub use Rattle.gix_refspec_plan.proofs.lemmas.plan.MadeLemmas.{nothing_in, one_in}
+
+-- a spec and where it comes from, as for a merged ref; what is done with the source of a mapping
+abbrev pub listed : Reading → Origin → Asked
+listed r o = record { reading = r; origin = o }
+
+abbrev pub merged : List ℕ → Asked
+merged n = listed (fetched_alone n) (Merge 0)
+
+abbrev pub update : Mapped → ℕ → Origin → Verdict → Planned
+update m item o v = record { source = m.source; item = Some item; destination = m.destination; origin = o; verdict = v }
+
+-- a text below `refs/` in which nothing is suspect
+pub below : (x : List ℕ) → is_suspect slash (codes "refs/" ++ x) ≡ false → CanBeWritten (Some (codes "refs/" ++ x))
+below x sound = (record { after = x; here = refl }, IsName-tested (codes "refs/" ++ x) sound)
+
+pub sound : {item spec : ℕ} (s d : List ℕ) → is_suspect slash (codes "refs/" ++ s) ≡ false → is_suspect slash (codes "refs/" ++ d) ≡ false
+    → IsSound (mapping item (codes "refs/" ++ s) (Some (codes "refs/" ++ d)) spec)
+sound s d source destination = record { source = inl (below s source); destination = below d destination }
+
+pub sound_one : {m n : Mapped} → Contains (m ∷ []) n → IsSound n → IsSound m
+sound_one {m} {n} has is = subst IsSound (one_in m n has) is
+
+pub alone : (m : Mapped) → ¬ (IsContested (m ∷ []) m)
+alone m (n, has, is, share, differ) = grind (arith, one_in)
+
+pub one_merge : (n : List ℕ) (mapped : List Mapped) → IsRefName n → ¬ (Covers mapped n) → AreMerges (n ∷ []) mapped (merged n ∷ [])
+one_merge n mapped is uncovered = (Some _, [], (refl, is, uncovered, (λ has. nothing_in [] n refl has)), refl, refl)
+
+-- `main` is a name, which no ref has where there is none
+pub main_lacking : LacksSource [] short
+main_lacking = record { positive = tt; source = codes "main"; is = refl; named = inr short_kind; absent = λ ref word has. absurd (nothing_in [] ref refl has) }
+
+-- a negative spec excludes what its source does, and a positive one nothing
+pub excluded_by : {x n : List ℕ} → Excludes x n → IsExcludedBy n (fetched Negative x None)
+excluded_by {x} excludes = record { negative = refl; text = x; source = refl; excludes = excludes }
+
+pub none_excluded : {r : Reading} {n : List ℕ} → IsPositive r.mode → ¬ (IsExcluded (r ∷ []) n)
+none_excluded positive (inl by) = subst IsPositive by.negative positive
+none_excluded positive (inr none) = none
+
+pub not_excluded : {r : Reading} {x n : List ℕ} → IsPositive r.mode → ¬ (Excludes x n) → ¬ (IsExcluded (r ∷ fetched Negative x None ∷ []) n)
+not_excluded positive excludes (inl by) = subst IsPositive by.negative positive
+not_excluded positive excludes (inr (inl by)) = excludes (rw (← same_Some _ _ by.source) at by.excludes)
+not_excluded positive excludes (inr (inr none)) = none
+
+-- a spec without a destination is complete, and so is a pattern that ends with a star
+pub whole : {mode : Mode} {x : List ℕ} → IsCompleted (fetched mode x None) (fetched mode x None)
+whole = record { operation = refl; mode = refl; source = refl; destination = refl }
+
+pub whole_pattern : {mode : Mode} {x : List ℕ} (far : List ℕ)
+    → IsCompleted (fetched mode x (Some (far ++ codes "*"))) (fetched mode x (Some (far ++ codes "*")))
+whole_pattern far = let starred : HasStar (far ++ codes "*") = record { before = far; after = []; here = refl } in search (rules, starred)
+
+-- beside negative specs, which give no ids and take nothing, what a spec takes is all
+no_ids : (k : ℕ) (g : List Reading) → AllByRecursion IsNegativeReading g → IsMadeFrom IsIdMapping k g []
+no_ids k [] all = refl
+no_ids k (r ∷ g) all = (None, [], (λ m made. subst IsPositive all.0 made.positive), no_ids (k + 1) g all.1, refl)
+
+no_hits : (items : List Ref) (k : ℕ) (g : List Reading) → AllByRecursion IsNegativeReading g → IsJoinedFrom (AreSpecHits AreForwardEnds (Takes items) items) k g []
+no_hits items k [] all = refl
+no_hits items k (r ∷ g) all = ([], [], inr ((λ ends are. subst IsPositive all.0 are.positive), refl), no_hits items (k + 1) g all.1, refl)
+
+pub forward_beside : {r : Reading} {ends : Ends} (g : List Reading) (items : List Ref) (hits : List Hit) → AreForwardEnds r ends
+    → AllByRecursion IsNegativeReading g → IsMadeFrom (IsHit (Takes items) ends 0) 0 items hits → AreForward (r ∷ g) items (map forward_of hits)
+forward_beside {r} {ends} g items hits are negative taken = record {
+  ids = [];
+  hits = hits;
+  are_ids = (None, [], no_id, no_ids 1 g negative, refl);
+  are_hits = (hits, [], inl (ends, are, taken), no_hits items 1 g negative, sym (append-nil hits));
+  all = refl;
+}
+  where
+    no_id : (m : Mapped) → ¬ (IsIdMapping 0 r m)
+    no_id m made = are.no_object made.bytes (rw (same_Some made.text ends.near (sym made.side ∙ are.near)) at made.object)

@@ -1,0 +1,153 @@
+-- Examples of the definitions on plans over the branches of a remote: what is tracked besides, and a whole plan.
+use Rattle.gix_refspec_plan.proofs.Common.{rules, inl, inr, ℕ, ◌+◌, false, List, [], ◌∷◌, ◌++◌, None, Some, codes, map, refl, sym, ap, arith, AllByRecursion, AllZip, append-nil, same_Some, Forced}
+use Rattle.gix_refspec_plan.proofs.Common.{Negative, Reading, fetched, IsSplit, pattern, the_name, lacks_no_pattern, Ref, Takes, IsMadeFrom, Mapped, AreAsked, AreMapped, AreUncovered, Asked}
+use Rattle.gix_refspec_plan.proofs.Common.{IsCompleted, IsNegativeReading, IsPlan, IsTakenAt, IsTracked, Planned, Wish, Origin, Configured, Given, Written}
+use Rattle.gix_refspec_text.proofs.facts.FitFacts.{dev_ref, excludes_dev, excludes_no_main, split_at_end}
+use Rattle.gix_refspec_plan.proofs.facts.ExampleLemmas.{IsKept, AreForwardEnds, Ends, Hit, IsHit, alone, every, excluded_by, forward_beside, forward_of, heads_split, listed, merged, main_ref, mapping}
+use Rattle.gix_refspec_plan.proofs.facts.ExampleLemmas.{named, no_dev, none_excluded, not_excluded, nothing_in, one_in, one_merge, origin_split, ref_names, sound, update, whole, whole_pattern}
+
+-- the folders of tracking refs, and another
+abbrev origin_folder : List ℕ
+origin_folder = codes "refs/remotes/origin/"
+
+abbrev x_folder : List ℕ
+x_folder = codes "refs/x/"
+
+abbrev branch : List ℕ → Ref
+branch name = named (codes "refs/heads/" ++ name)
+
+abbrev no_main : Reading
+no_main = fetched Negative (codes "refs/heads/main") None
+
+module _ (far : List ℕ) where
+  -- the spec that writes the branches below a folder, what it takes of branches, and the mapping of one
+  abbrev to_below : Reading
+  to_below = fetched Forced (codes "refs/heads/*") (Some (far ++ codes "*"))
+
+  abbrev ends : Ends
+  ends = record { near = codes "refs/heads/*"; far = Some (far ++ codes "*") }
+
+  abbrev hits : ℕ → List (List ℕ) → List Hit
+  hits j [] = []
+  hits j (x ∷ xs) = record { spec = 0; item = j; near = codes "refs/heads/" ++ x; far = Some (far ++ (x ++ [])) } ∷ hits (j + 1) xs
+
+  abbrev below_at : ℕ → List ℕ → Mapped
+  below_at item name = mapping item (codes "refs/heads/" ++ name) (Some (far ++ (name ++ []))) 0
+
+module _ (far : List ℕ) (split : IsSplit far [] (far ++ codes "*")) where
+  -- the spec takes each branch; beside negative specs the mappings of these are all, of which some are kept
+  taken : (items : List Ref) (j : ℕ) (names : List (List ℕ)) → IsMadeFrom (IsHit (Takes items) (ends far) 0) j (map branch names) (hits far j names)
+  taken items j [] = refl
+  taken items j (x ∷ xs) =
+      let hit = taken items (j + 1) xs in
+      (Some _, _, record { word = Some x; takes = takes; far = (pattern far [], split, refl); near = refl; spec = refl; item = refl }, hit, refl)
+    where
+      takes : Takes items (codes "refs/heads/*") (branch x) (Some x)
+      takes = record {
+        matches = record { kind = pattern (codes "refs/heads/") []; of = heads_split; is = ap (λ (y : List ℕ). codes "refs/heads/" ++ y) (sym (append-nil x)) };
+        first = λ n kind. absurd (lacks_no_pattern (codes "refs/heads/*") (codes "refs/heads/") [] kind.1 heads_split);
+      }
+
+  mapped : (names : List (List ℕ)) (o : Origin) (asked : List Asked) (kept : List Mapped)
+      → AllZip IsCompleted (map (λ a. a.reading) asked) (map (λ a. a.reading) asked) → AllByRecursion IsNegativeReading (map (λ a. a.reading) asked)
+      → IsKept (to_below far ∷ map (λ a. a.reading) asked) (map forward_of (hits far 0 names)) kept
+      → AreMapped (listed (to_below far) o ∷ asked) (map branch names) kept
+  mapped names o asked kept done negative is = record {
+    completed = to_below far ∷ map (λ a. a.reading) asked;
+    are = (whole_pattern far, done);
+    kept = record { all = _; forward = forward_beside _ _ (hits far 0 names) near negative (taken (map branch names) 0 names); is = is };
+  }
+    where
+      near : AreForwardEnds (to_below far) (ends far)
+      near = record { positive = tt; near = refl; far = refl; no_object = λ bytes kind. grind arith }
+
+-- a merged ref that a configured spec maps and another excludes isn't covered
+pub excluded_uncovered : AreUncovered (record { given = []; configured = every ∷ no_main ∷ []; merges = codes "refs/heads/main" ∷ []; tags = false }) (main_ref ∷ []) (merged (codes "refs/heads/main") ∷ [])
+excluded_uncovered = inr (
+  listed every (Configured 0) ∷ listed no_main (Configured 1) ∷ [],
+  [],
+  (Some _, _, (refl, tt), (Some _, [], (refl, tt), refl, refl), refl),
+  mapped origin_folder origin_split (codes "main" ∷ []) (Configured 0) (listed no_main (Configured 1) ∷ []) [] (whole, tt) (refl, tt)
+      (None, [], (λ m is. is.1.included (inr (inl (excluded_by (the_name (search (rules, arith)) refl))))), refl, refl),
+  one_merge _ [] ref_names.0 (λ (m, has, sound, is). nothing_in [] m refl has),
+)
+
+-- a fetch of the branches without `dev-*`, besides which all are configured
+abbrev fetch_branches : Wish
+fetch_branches = record { given = to_below x_folder ∷ no_dev ∷ []; configured = every ∷ []; merges = []; tags = false }
+
+abbrev branches : List Ref
+branches = dev_ref ∷ main_ref ∷ []
+
+abbrev dev_below : List ℕ → Mapped
+dev_below far = below_at far 0 (codes "dev-a")
+
+abbrev main_below : List ℕ → Mapped
+main_below far = below_at far 1 (codes "main")
+
+module _ (far : List ℕ) (split : IsSplit far [] (far ++ codes "*")) where
+  -- the negative spec excludes dev-a; without it both branches are mapped
+  main_mapped : (o p : Origin) → AreMapped (listed (to_below far) o ∷ listed no_dev p ∷ []) branches (main_below far ∷ [])
+  main_mapped o p = mapped far split (codes "dev-a" ∷ codes "main" ∷ []) o (listed no_dev p ∷ []) (main_below far ∷ [])
+      (whole, tt) (refl, tt) (None, _, (λ m is. is.1.included (inr (inl (excluded_by excludes_dev)))),
+      (Some _, [], (refl, record { first = λ pair. grind arith; included = not_excluded tt excludes_no_main }), refl, refl), refl)
+
+  both_mapped : (o : Origin) → AreMapped (listed (to_below far) o ∷ []) branches (dev_below far ∷ main_below far ∷ [])
+  both_mapped o = mapped far split (codes "dev-a" ∷ codes "main" ∷ []) o [] (dev_below far ∷ main_below far ∷ []) tt tt
+      (Some _, _, (refl, record { first = λ none. none; included = none_excluded tt }),
+      (Some _, [], (refl, record { first = λ pair. grind arith; included = none_excluded tt }), refl, refl), refl)
+
+-- the configured spec is applied to the branches that the call takes, and the negative spec of the call excludes from them
+pub tracked : IsTracked fetch_branches branches (listed every (Configured 0) ∷ listed no_dev (Given 1) ∷ [])
+    (0 ∷ 1 ∷ []) (main_below origin_folder ∷ [])
+tracked = IsTracked.by_call (listed every (Configured 0) ∷ []) (listed no_dev (Given 1) ∷ []) branches (λ none. cc)
+    (Some _, [], (refl, tt), refl, refl)
+    (None, _, (λ a both. cc (both.1)), (Some _, [], (refl, refl), refl, refl), refl)
+    refl
+    (record {
+      asked = listed (to_below x_folder) (Given 0) ∷ [];
+      mapped = dev_below x_folder ∷ main_below x_folder ∷ [];
+      are_asked = (Some _, [], (refl, tt), (None, [], (λ a both. both.1), refl, refl), refl);
+      are_mapped = both_mapped x_folder (split_at_end x_folder refl) (Given 0);
+      are_indexes = (Some 0, _, (refl, dev_taken), (Some 1, [], (refl, main_taken), refl, refl), refl);
+      are_taken = (Some dev_ref, _, (refl, dev_taken), (Some main_ref, [], (refl, main_taken), refl, refl), refl);
+    })
+    (main_mapped origin_folder origin_split (Configured 0) (Given 1))
+  where
+    dev_taken : IsTakenAt (dev_below x_folder ∷ main_below x_folder ∷ []) 0
+    dev_taken = (dev_below x_folder, (0, omega arith, refl), sound _ _ refl refl, refl)
+
+    main_taken : IsTakenAt (dev_below x_folder ∷ main_below x_folder ∷ []) 1
+    main_taken = (main_below x_folder, (1, omega arith, refl), sound _ _ refl refl, refl)
+
+abbrev main_update : List ℕ → Origin → Planned
+main_update far o = update (main_below far) 1 o Written
+
+-- what is fetched comes before what is tracked besides
+pub fetched_first : IsPlan fetch_branches branches (main_update x_folder (Given 0) ∷ main_update origin_folder (Configured 0) ∷ []) []
+fetched_first = record {
+  asked = _;
+  firsts = _;
+  tracking = _;
+  indexes = _;
+  seconds = _;
+  before = main_update x_folder (Given 0) ∷ [];
+  behind = main_update origin_folder (Configured 0) ∷ [];
+  are_asked = AreAsked.by_call _ (λ none. cc) (Some _, _, (refl, tt), (Some _, [], (refl, tt), refl, refl), refl) refl;
+  are_firsts = main_mapped x_folder (split_at_end x_folder refl) (Given 0) (Given 1);
+  are_seconds = tracked;
+  are_before = (Some _, [],
+      record { source = refl; item = refl; destination = refl; origin = (_, refl, refl); verdict = (sound _ _ refl refl, alone _) }, refl, refl);
+  are_behind = (Some _, [], record {
+    updates = refl;
+    new = λ pair. grind arith;
+    source = refl;
+    item = refl;
+    destination = refl;
+    origin = (_, refl, refl);
+    verdict = (sound _ _ refl refl, (λ (n, has, is, share). grind (arith, one_in)), alone _);
+  }, refl, refl);
+  all = refl;
+  lacks = (None, [], (λ o told. let named = rw (← same_Some _ _ told.2.is) at told.2.named in grind arith),
+      (None, [], (λ o told. told.2.positive), refl, refl), refl);
+}
