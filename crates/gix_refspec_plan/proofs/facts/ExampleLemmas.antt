@@ -1,6 +1,6 @@
 -- What the examples of plans cite: names passed on, data in few words, and proofs that hold for all examples of a kind.
 use Rattle.gix_refspec_plan.proofs.Common.{◌≡◌, inl, inr, ℕ, ◌+◌, false, List, [], ◌∷◌, ◌++◌, None, Some, codes, map, refl, sym, ◌∙◌, subst, arith, AllByRecursion, Contains, append-nil, same_Some, Origin, Verdict}
-use Rattle.gix_refspec_plan.proofs.Common.{CanBeWritten, HasStar, rules, Reading, Negative, IsPositive, fetched, fetched_alone, HasKind, object, Ref, Takes, IsMadeFrom, Mapped, IsExcluded, IsExcludedBy, LacksSource}
+use Rattle.gix_refspec_plan.proofs.Common.{CanBeWritten, HasStar, rules, Reading, Negative, IsPositive, fetched, fetched_alone, object, Ref, Takes, IsMadeFrom, Mapped, IsExcluded, IsExcludedBy, LacksSource}
 use Rattle.gix_refspec_plan.proofs.Common.{IsRefName, AreMerges, Asked, Covers, IsCompleted, IsContested, IsNegativeReading, IsSound, Planned, Merge}
 use Rattle.gix_refspec_text.{specs.Specs.Reading.Mode, specs.Matching.Side.Excludes, specs.Texts.Bytes.slash, proofs.lemmas.texts.TestedLemmas.IsName-tested, proofs.lemmas.texts.TestedLemmas.is_suspect}
 pub use Rattle.gix_refspec_text.proofs.facts.{ManualFacts.Lacks-tested, ManualFacts.named, FitFacts.every, FitFacts.heads_split, FitFacts.main_ref, FitFacts.no_dev, FitFacts.origin_split, FitFacts.short, FitFacts.short_kind}
@@ -36,7 +36,6 @@ alone m (n, has, is, share, differ) = grind (arith, one_in)
 pub one_merge : (n : List ℕ) (mapped : List Mapped) → IsRefName n → ¬ (Covers mapped n) → AreMerges (n ∷ []) mapped (merged n ∷ [])
 one_merge n mapped is uncovered = (Some _, [], (refl, is, uncovered, (λ has. nothing_in [] n refl has)), refl, refl)
 
--- `main` is a name, which no ref has where there is none
 pub main_lacking : LacksSource [] short
 main_lacking = record { positive = tt; source = codes "main"; is = refl; named = inr short_kind; absent = λ ref word has. absurd (nothing_in [] ref refl has) }
 
@@ -53,10 +52,7 @@ not_excluded positive excludes (inl by) = subst IsPositive by.negative positive
 not_excluded positive excludes (inr (inl by)) = excludes (rw (← same_Some _ _ by.source) at by.excludes)
 not_excluded positive excludes (inr (inr none)) = none
 
--- a spec without a destination is complete, and so is a pattern that ends with a star
-pub whole : {mode : Mode} {x : List ℕ} → IsCompleted (fetched mode x None) (fetched mode x None)
-whole = record { operation = refl; mode = refl; source = refl; destination = refl }
-
+-- a pattern that ends with a star is complete
 pub whole_pattern : {mode : Mode} {x : List ℕ} (far : List ℕ)
     → IsCompleted (fetched mode x (Some (far ++ codes "*"))) (fetched mode x (Some (far ++ codes "*")))
 whole_pattern far = let starred : HasStar (far ++ codes "*") = record { before = far; after = []; here = refl } in search (rules, starred)

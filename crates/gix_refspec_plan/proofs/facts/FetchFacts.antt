@@ -1,6 +1,6 @@
 -- Examples of the definitions of the laws on fetches, and what a caller concludes from these laws.
-use Rattle.gix_refspec_plan.proofs.Common.{inl, inr, false, List, [], ◌∷◌, Some, codes, refl, arith, head, Reading, fetched_alone, Ref, name, IsCarriedOut, IsPlan, Planned, Wish, AreWrittenOnce}
-use Rattle.gix_refspec_plan.proofs.Common.{CarriedOutExactly, ConflictsExactly, DoConflict, IsRequired, OnePlan, WritesOnce, Origin, Verdict, Given, Written, InConflict, Overruled}
+use Rattle.gix_refspec_plan.proofs.Common.{◌≡◌, ◌⊎◌, inl, inr, false, List, [], ◌∷◌, Some, codes, refl, arith, head, Reading, fetched_alone, Ref, name, IsCarriedOut, IsPlan, Planned, Wish}
+use Rattle.gix_refspec_plan.proofs.Common.{AreWrittenOnce, CarriedOutExactly, ConflictsExactly, DoConflict, IsRequired, OnePlan, WritesOnce, Origin, Verdict, Given, Written, InConflict, Overruled}
 use Rattle.gix_refspec_plan.proofs.facts.ExampleLemmas.{every, main_lacking, one_in, short}
 
 -- two updates from different sources to the same ref, and one to another
@@ -22,13 +22,12 @@ once = ((((λ written other d to also. cc (other)), tt), (tt, tt)), λ apart. ap
 pub not_twice : (wish : Wish) (refs : List Ref) → WritesOnce wish refs → (missing : List Origin) → ¬ (IsPlan wish refs (from_a Written ∷ from_b Written ∷ []) missing)
 not_twice wish refs law missing plan = once.1 (law _ missing plan)
 
+opposed : {v w : Verdict} → (v ≡ Written) ⊎ (v ≡ InConflict) → (w ≡ Written) ⊎ (w ≡ InConflict) → DoConflict (from_a v) (from_b w)
+opposed one other = record { one = one; other = other; destination = _; one_to = refl; other_to = refl; differ = λ same. grind arith }
+
 -- two sources conflict, but not a source with itself, nor with what is overruled
 pub conflict : DoConflict (from_a InConflict) (from_b Written) × ¬ (DoConflict (from_a Written) (from_a Written)) × ¬ (DoConflict (from_a Written) (from_b Overruled))
-conflict = (
-  record { one = inr refl; other = inl refl; destination = _; one_to = refl; other_to = refl; differ = λ same. grind arith },
-  (λ both. both.differ refl),
-  λ both. grind arith,
-)
+conflict = (opposed (inr refl) (inl refl), (λ both. both.differ refl), λ both. grind arith)
 
 -- by the law no update is in conflict alone, and of two sources with one destination none is written
 pub not_alone : (wish : Wish) (refs : List Ref) → ConflictsExactly wish refs → (missing : List Origin) → ¬ (IsPlan wish refs (from_a InConflict ∷ []) missing)
@@ -68,5 +67,5 @@ merged_missing law missing plan = (law [] missing plan).1 ((λ r required. absur
 
 -- nor does a conflict let anything be written
 pub conflict_stops : (wish : Wish) (refs : List Ref) → CarriedOutExactly wish refs → (missing : List Origin) → IsPlan wish refs (from_a InConflict ∷ from_b InConflict ∷ []) missing → ¬ (IsCarriedOut (from_a InConflict ∷ from_b InConflict ∷ []) missing)
-conflict_stops wish refs law missing plan carried = ((law _ missing plan).0 carried).1 _ _ (0, omega arith, refl) (1, omega arith, refl)
-    (record { one = inr refl; other = inr refl; destination = _; one_to = refl; other_to = refl; differ = λ same. grind arith })
+conflict_stops wish refs law missing plan carried =
+    ((law _ missing plan).0 carried).1 _ _ (0, omega arith, refl) (1, omega arith, refl) (opposed (inr refl) (inr refl))

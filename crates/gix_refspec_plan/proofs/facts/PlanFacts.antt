@@ -4,8 +4,8 @@ use Rattle.gix_refspec_plan.proofs.Common.{Normal, Forced, Reading, all_tags, fe
 use Rattle.gix_refspec_plan.proofs.Common.{AreConfigured, AreLacking, AreMerges, AreThose, Asked, CanBeWritten, HasSecondVerdict, HasVerdict, IsCarriedOut, IsCompleted, IsContested, IsNegativeReading}
 use Rattle.gix_refspec_plan.proofs.Common.{IsPlannedBesides, IsPositiveReading, IsSound, IsTakenOver, IsUnwritableAt, MayBeMissing, Planned, tags_asked, HasOrigin, asked_of, planned_of, wish_of}
 use Rattle.gix_refspec_plan.proofs.Common.{DeclaredAsked, Update, Verdict, Written, LeftOut, InConflict, Overruled, AllTags, Configured, Default, Given, Merge}
-use Rattle.gix_refspec_plan.proofs.facts.ExampleLemmas.{alone, below, every, listed, merged, main_candidate, main_lacking, main_ref, mapping, no_dev, no_ref_names, nothing_in, one_in, one_merge}
-use Rattle.gix_refspec_plan.proofs.facts.ExampleLemmas.{ref_names, whole, whole_pattern, short, short_kind, sound, sound_one, update}
+use Rattle.gix_refspec_plan.proofs.facts.ExampleLemmas.{alone, below, every, listed, merged, main_candidate, main_lacking, main_ref, mapping, no_dev, no_ref_names, one_in, one_merge, ref_names}
+use Rattle.gix_refspec_plan.proofs.facts.ExampleLemmas.{whole_pattern, short, short_kind, sound, sound_one, update}
 use Rattle.gix_refspec_plan.{proofs.lemmas.plan.CarriedLemmas.tags_lack_nothing, proofs.lemmas.plan.OnePlanLemmas.reading_once, specs.declared.Wish.Wish as DeclaredWish}
 use Rattle.gix_refspec.specs.declared.match_group.ref_names.InvalidSide.TheVariants as invalid
 
@@ -58,7 +58,7 @@ main_to d = fetched Normal (codes "main") (Some d)
 -- `refs/` is put before `heads/x`, and `refs/heads/` before `x`; other destinations stay, and so do patterns
 pub completed : IsCompleted (main_to (codes "heads/x")) (main_to (codes "refs/heads/x")) × IsCompleted (main_to (codes "x")) (main_to (codes "refs/heads/x"))
     × IsCompleted (main_to (codes "refs/x")) (main_to (codes "refs/x")) × IsCompleted every every × IsCompleted (fetched_alone (codes "main")) (fetched_alone (codes "main"))
-completed = (search (rules, arith), search (rules, arith), search (rules, arith), whole_pattern (codes "refs/remotes/origin/"), whole)
+completed = (search (rules, arith), search (rules, arith), search (rules, arith), whole_pattern (codes "refs/remotes/origin/"), search rules)
 
 -- not as `match_lhs` fills them, and not without a change
 pub not_completed : ¬ (IsCompleted (main_to (codes "heads/x")) (main_to (codes "refs/heads/heads/x"))) × ¬ (IsCompleted (main_to (codes "x")) (main_to (codes "x")))
@@ -69,11 +69,9 @@ moved = refl
 
 -- a merged ref is fetched by its full name, and once; no other value is
 pub merges : AreMerges (codes "refs/heads/main" ∷ codes "main" ∷ codes "refs/heads/main" ∷ []) [] (merged (codes "refs/heads/main") ∷ [])
-merges = (
-  Some _, [], (refl, ref_names.0, (λ (m, has, sound, is). nothing_in [] m refl has), (λ has. nothing_in [] _ refl has)),
-  (None, [], (λ a told. no_ref_names.0 told.1), (None, [], (λ a told. told.3 (0, omega arith, refl)), refl, refl), refl),
-  refl,
-)
+merges =
+    (Some _, [], (refl, ref_names.0, (λ covers. grind arith), λ has. grind arith), (None, [], (λ a told. no_ref_names.0 told.1),
+    (None, [], (λ a told. told.3 (0, omega arith, refl)), refl, refl), refl), refl)
 
 -- nor is one that a spec fetches already
 pub covered : AreMerges (codes "refs/heads/a" ∷ []) (ax ∷ []) [] × ¬ (AreMerges (codes "refs/heads/a" ∷ []) (bx ∷ []) [])
@@ -98,7 +96,7 @@ pub contested : HasVerdict (ax ∷ bx ∷ []) ax InConflict × HasVerdict (ax �
     × ¬ (HasVerdict (ax ∷ bx ∷ []) ax Written) × ¬ (HasVerdict (ax ∷ []) ax InConflict)
 contested =
     let by_b : IsContested (ax ∷ bx ∷ []) ax = (bx, (1, omega arith, refl), sound _ _ refl refl, (_, refl, refl), λ same. grind arith) in
-    ((a_sound, by_b), (a_sound, alone ax), (a_sound, (λ (n, has, is, share, differ). bad_alone n has is)), (λ is. is.1 by_b), λ is. alone ax is.1)
+    ((a_sound, by_b), (a_sound, alone ax), (a_sound, (λ on. bad_alone on.0 on.1 on.2)), (λ is. is.1 by_b), λ is. alone ax is.1)
 
 -- an invalid side comes before all other verdicts
 pub left_out : HasVerdict (bx ∷ []) from_bad (LeftOut invalid.Source) × ¬ (HasVerdict (bx ∷ []) from_bad InConflict) × ¬ (HasSecondVerdict (bx ∷ []) [] from_bad Overruled)
@@ -113,7 +111,7 @@ overruled =
 
 -- but a mapping that is left out doesn't win
 pub not_overruled : HasSecondVerdict (from_bad ∷ []) (bx ∷ []) bx Written × ¬ (HasSecondVerdict (from_bad ∷ []) (bx ∷ []) bx Overruled)
-not_overruled = ((sound _ _ refl refl, (λ (n, has, is, share). bad_alone n has is), alone bx), λ (sound, (n, has, is, share)). bad_alone n has is)
+not_overruled = ((sound _ _ refl refl, (λ on. bad_alone on.0 on.1 on.2), alone bx), λ is. bad_alone is.1.0 is.1.1 is.1.2)
 
 -- without a destination, or where the call makes the pair already, nothing is planned besides
 pub nothing_besides : (specs : List Asked) (indexes : List ℕ) (p : Planned)
@@ -131,9 +129,9 @@ index_besides =
 -- `main` is missing among no refs, but not beside a branch of that name; a negative spec and a pattern lack nothing
 pub missing : AreMissing (no_dev ∷ short ∷ all_tags ∷ []) [] (1 ∷ []) × AreMissing (short ∷ []) (main_ref ∷ []) []
 missing =
-  let matches : Matches (codes "main") main_ref None = record { kind = partial (codes "main"); of = short_kind; is = (refl, main_candidate) } in (
+  let is : Matches (codes "main") main_ref None = record { kind = partial (codes "main"); of = short_kind; is = (refl, main_candidate) } in (
   (None, _, (λ k told. told.1.positive), (Some 1, [], (refl, main_lacking), (None, [], (λ k told. tags_lack_nothing [] told.1), refl, refl), refl), refl),
-  (None, [], (λ k told. told.1.absent main_ref None (0, omega arith, refl) (rw (← same_Some _ _ told.1.is) matches)), refl, refl),
+  (None, [], (λ k told. told.1.absent main_ref None (0, omega arith, refl) (rw (← same_Some _ _ told.1.is) is)), refl, refl),
 )
 
 pub may_be_missing : MayBeMissing (Merge 0) × ¬ (MayBeMissing (Given 0)) × ¬ (MayBeMissing (Configured 0)) × ¬ (MayBeMissing Default)

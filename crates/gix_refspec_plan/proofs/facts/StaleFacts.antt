@@ -1,7 +1,8 @@
 -- Examples of the definition of stale refs: what keeps a local ref from being stale, one that is, and one that a spec keeps.
-use Rattle.gix_refspec_plan.proofs.Common.{HasKind, ◌++◌, ◌∙◌, ap, append_cancel_left, ◌≡◌, inl, inr, ℕ, List, [], ◌∷◌, Option, None, Some, codes, map, refl, sym, subst, arith, rules, AllZip}
-use Rattle.gix_refspec_plan.proofs.Common.{Contains, same_Some, star, Lacks, Negative, Normal, Reading, fetched, full_name, partial, pattern, Fits, the_name, split_once, lacks_no_pattern, Lacks-here}
-use Rattle.gix_refspec_plan.proofs.Common.{Ref, Takes, IsMadeFrom, IsExcludedBy, one_forward, CanWrite, CanWriteFrom, CanWriteObject, IsCompleted, IsFetched, IsKeptBy, IsStale, IsWritable}
+use Rattle.gix_refspec_plan.proofs.Common.{Matches, ref_named, AreKeptForward, HasKind, ◌++◌, ◌∙◌, ap, append_cancel_left, ◌≡◌, inl, inr, ℕ, List, [], ◌∷◌, Option, None, Some, codes, map, refl, sym}
+use Rattle.gix_refspec_plan.proofs.Common.{subst, arith, rules, AllZip, Contains, same_Some, star, Lacks, Negative, Normal, Reading, fetched, full_name, partial, pattern, Fits, the_name, split_once}
+use Rattle.gix_refspec_plan.proofs.Common.{lacks_no_pattern, Lacks-here, Ref, Takes, IsMadeFrom, IsExcludedBy, one_forward, CanWrite, CanWriteFrom, CanWriteObject, IsCompleted, IsFetched, IsKeptBy}
+use Rattle.gix_refspec_plan.proofs.Common.{IsStale, IsWritable}
 use Rattle.gix_refspec_plan.specs.Matching.Stale.{AreStale}
 use Rattle.gix_refspec_text.{proofs.lemmas.hits.CandidateLemmas.first_of_one, proofs.lemmas.hits.CandidateLemmas.taken_by_first, proofs.facts.ObjectIdFacts.empty_blob, proofs.facts.FitFacts.blob_kind}
 use Rattle.gix_refspec_text.{proofs.facts.FitFacts.short_no_id, specs.Matching.Side.Excludes, specs.Matching.Side.by_pattern}
@@ -24,13 +25,10 @@ writes_x source = name_writes _ _ (record { positive = tt; destination = codes "
 
 -- `main` may be a tag
 from_tag : CanWriteFrom (to_x (codes "main")) x (codes "refs/tags/main")
-from_tag = record {
-  word = None;
-  writes = writes_x (codes "main");
-  source = codes "main";
-  is = refl;
-  matches = record { kind = partial (codes "main"); of = short_kind; is = (refl, record { earlier = _ ∷ _ ∷ []; later = _; here = refl }) };
-}
+from_tag =
+    let matches : Matches (codes "main") (ref_named (codes "refs/tags/main")) None =
+        record { kind = partial (codes "main"); of = short_kind; is = (refl, record { earlier = _ ∷ _ ∷ []; later = _; here = refl }) } in
+    search (rules, writes_x (codes "main"), matches)
 
 from_blob : CanWriteObject (to_x (codes "e69de29bb2d1d6434b8b29ae775ad8c2e48c5391")) x
 from_blob = record { writes = writes_x _; source = _; is = refl; bytes = empty_blob; asks = blob_kind }
@@ -67,19 +65,16 @@ only_dev s from =
 
 -- `dev` is stale where the remote has `main` alone
 pub dev_stale : IsStale (every ∷ []) (main_ref ∷ []) (codes "refs/remotes/origin/dev")
-dev_stale = record {
-  writable = (every, Some (codes "dev"), (0, omega arith, refl), record {
-    positive = tt;
-    completed = every;
-    is = whole_pattern (codes "refs/remotes/origin/");
-    destination = codes "refs/remotes/origin/*";
-    has = refl;
-    matches = record { kind = pattern (codes "refs/remotes/origin/") []; of = origin_split; is = refl };
-  });
-  no_object = λ (r, there, w). let (v, some, fits) = by_every r _ None there w.writes in cc;
-  absent = λ s (r, there, from) has. let same = only_dev s (rw (one_in every r there) at from) in grind arith;
-  included = λ s of. none_excluded tt;
-}
+dev_stale =
+    let whole : IsCompleted every every = whole_pattern (codes "refs/remotes/origin/") in
+    let matches : Matches (codes "refs/remotes/origin/*") (ref_named (codes "refs/remotes/origin/dev")) (Some (codes "dev")) =
+        record { kind = pattern (codes "refs/remotes/origin/") []; of = origin_split; is = refl } in
+    record {
+      writable = (every, Some (codes "dev"), (0, omega arith, refl), search (rules, whole, matches));
+      no_object = λ (r, there, w). let (v, some, fits) = by_every r _ None there w.writes in cc;
+      absent = λ s (r, there, from) has. let same = only_dev s (rw (one_in every r there) at from) in grind arith;
+      included = λ s of. none_excluded tt;
+    }
 
 -- nor is a local ref that no spec writes: a branch of one's own, or a tag where `x` is completed to refs/heads/x
 pub unwritable : ¬ (IsStale (every ∷ []) [] (codes "refs/heads/mine")) × ¬ (IsStale (to_x (codes "main") ∷ []) [] (codes "refs/tags/x"))
@@ -89,9 +84,10 @@ unwritable = (λ stale. no_own stale.writable, λ stale. no_other stale.writable
     no_own (r, word, there, w) = let (v, some, fits) = by_every r _ word there w in grind arith
 
     no_other : ¬ (IsWritable (to_x (codes "main") ∷ []) (codes "refs/tags/x"))
-    no_other (r, word, there, w) = elim (writes_cases (to_x (codes "main")) (codes "refs/tags/x") word (rw (one_in (to_x (codes "main")) r there) at w)) [
+    no_other (r, word, there, w) = elim (writes_cases _ _ word (rw (one_in (to_x (codes "main")) r there) at w)) [
       | inl (name, none) ↦ let is = rw (← same_Some _ _ name.has) at name.is in grind arith
-      | inr (d, before, after, v, has, split, some, fits) ↦ lacks_no_pattern _ before after (Lacks-tested star (codes "x") refl) (rw (← same_Some _ _ has) at split)
+      | inr (d, before, after, v, has, split, some, fits) ↦
+          lacks_no_pattern _ before after (Lacks-tested star (codes "x") refl) (rw (← same_Some _ _ has) at split)
     ]
 
 -- of two local refs of one name the first is listed
@@ -116,20 +112,12 @@ by_first : (items : List Ref) (hits : List Hit)
 by_first items hits taken = forward_beside (no_tag ∷ []) items hits
     (record { positive = tt; near = refl; far = refl; no_object = λ bytes kind. short_no_id bytes kind.2 }) (refl, tt) taken
 
-main_fetched : IsFetched specs (main_ref ∷ []) x
-main_fetched = record {
-  completed = completed;
-  are = are_completed;
-  mapped = forward_of x_hit ∷ [];
-  kept = record {
-    all = forward_of x_hit ∷ [];
-    forward = by_first (main_ref ∷ []) (x_hit ∷ []) (Some _, [],
-      record { word = None; takes = takes; far = (full_name x, x_full, refl); near = refl; spec = refl; item = refl }, refl, refl);
-    is = (Some _, [], (refl, record { first = λ none. none; included = not_excluded tt no_main }), refl, refl);
-  };
-  mapping = forward_of x_hit;
-  has = (0, omega arith, refl);
-  destination = refl;
+main_kept : AreKeptForward completed (main_ref ∷ []) (forward_of x_hit ∷ [])
+main_kept = record {
+  all = forward_of x_hit ∷ [];
+  forward = by_first (main_ref ∷ []) (x_hit ∷ []) (Some _, [],
+    record { word = None; takes = takes; far = (full_name x, x_full, refl); near = refl; spec = refl; item = refl }, refl, refl);
+  is = (Some _, [], (refl, record { first = λ none. none; included = not_excluded tt no_main }), refl, refl);
 }
   where
     takes : Takes (main_ref ∷ []) (codes "main") main_ref None
@@ -142,22 +130,18 @@ main_fetched = record {
     no_main (the_name lacks same) = grind arith
     no_main (by_pattern before after word split fits) = lacks_no_pattern (codes "refs/tags/main") before after (Lacks-tested star (codes "refs/tags/main") refl) split
 
+main_fetched : IsFetched specs (main_ref ∷ []) x
+main_fetched = record { completed = _; are = are_completed; mapped = _; kept = main_kept; mapping = forward_of x_hit; has = (0, omega arith, refl); destination = refl }
+
 -- the spec that excludes the tag `main` keeps refs/heads/x where the remote has no `main`, but not where a fetch writes it from the branch
 pub kept : IsKeptBy specs [] x 1 × ((k : ℕ) → ¬ (IsKeptBy specs (main_ref ∷ []) x k))
 kept = (
-  record {
-    unwritten = unwritten;
-    source = _;
-    is_source = (_, (0, omega arith, refl), from_tag);
-    negative = _;
-    at = refl;
-    excludes = by_no_tag;
-  },
+  record { unwritten = none; source = _; is_source = (_, (0, omega arith, refl), from_tag); negative = _; at = refl; excludes = by_no_tag },
   (λ k by. by.unwritten main_fetched),
 )
   where
-    unwritten : ¬ (IsFetched specs [] x)
-    unwritten f =
+    none : ¬ (IsFetched specs [] x)
+    none f =
         let same : f.completed ≡ completed = completed_once specs f.completed completed f.are are_completed in
-        let none : f.mapped ≡ [] = one_forward completed [] f.mapped [] (rw same at f.kept) (record { all = []; forward = by_first [] [] refl; is = refl }) in
-        nothing_in f.mapped f.mapping none f.has
+        let empty : f.mapped ≡ [] = one_forward completed [] f.mapped [] (rw same at f.kept) (record { all = []; forward = by_first [] [] refl; is = refl }) in
+        nothing_in f.mapped f.mapping empty f.has

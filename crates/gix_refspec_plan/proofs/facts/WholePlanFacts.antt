@@ -1,10 +1,10 @@
 -- Examples of the definitions on plans over the branches of a remote: what is tracked besides, and a whole plan.
-use Rattle.gix_refspec_plan.proofs.Common.{rules, inl, inr, ℕ, ◌+◌, false, List, [], ◌∷◌, ◌++◌, None, Some, codes, map, refl, sym, ap, arith, AllByRecursion, AllZip, append-nil, same_Some, Forced}
-use Rattle.gix_refspec_plan.proofs.Common.{Negative, Reading, fetched, IsSplit, pattern, the_name, lacks_no_pattern, Ref, Takes, IsMadeFrom, Mapped, AreAsked, AreMapped, AreUncovered, Asked}
-use Rattle.gix_refspec_plan.proofs.Common.{IsCompleted, IsNegativeReading, IsPlan, IsTakenAt, IsTracked, Planned, Wish, Origin, Configured, Given, Written}
+use Rattle.gix_refspec_plan.proofs.Common.{HasPair, HasOrigin, IsTakenOver, rules, inl, inr, ℕ, ◌+◌, false, List, [], ◌∷◌, ◌++◌, None, Some, codes, map, refl, sym, ap, arith, AllByRecursion, AllZip}
+use Rattle.gix_refspec_plan.proofs.Common.{append-nil, same_Some, Forced, Negative, Reading, fetched, IsSplit, pattern, the_name, lacks_no_pattern, Ref, Takes, IsMadeFrom, Mapped, AreAsked, AreMapped}
+use Rattle.gix_refspec_plan.proofs.Common.{AreUncovered, Asked, IsCompleted, IsNegativeReading, IsPlan, IsTakenAt, IsTracked, Planned, Wish, Origin, Configured, Given, Written}
 use Rattle.gix_refspec_text.proofs.facts.FitFacts.{dev_ref, excludes_dev, excludes_no_main, split_at_end}
 use Rattle.gix_refspec_plan.proofs.facts.ExampleLemmas.{IsKept, AreForwardEnds, Ends, Hit, IsHit, alone, every, excluded_by, forward_beside, forward_of, heads_split, listed, merged, main_ref, mapping}
-use Rattle.gix_refspec_plan.proofs.facts.ExampleLemmas.{named, no_dev, none_excluded, not_excluded, nothing_in, one_in, one_merge, origin_split, ref_names, sound, update, whole, whole_pattern}
+use Rattle.gix_refspec_plan.proofs.facts.ExampleLemmas.{named, no_dev, none_excluded, not_excluded, one_in, one_merge, origin_split, ref_names, sound, update, whole_pattern}
 
 -- the folders of tracking refs, and another
 abbrev origin_folder : List ℕ
@@ -63,14 +63,11 @@ module _ (far : List ℕ) (split : IsSplit far [] (far ++ codes "*")) where
 
 -- a merged ref that a configured spec maps and another excludes isn't covered
 pub excluded_uncovered : AreUncovered (record { given = []; configured = every ∷ no_main ∷ []; merges = codes "refs/heads/main" ∷ []; tags = false }) (main_ref ∷ []) (merged (codes "refs/heads/main") ∷ [])
-excluded_uncovered = inr (
-  listed every (Configured 0) ∷ listed no_main (Configured 1) ∷ [],
-  [],
-  (Some _, _, (refl, tt), (Some _, [], (refl, tt), refl, refl), refl),
-  mapped origin_folder origin_split (codes "main" ∷ []) (Configured 0) (listed no_main (Configured 1) ∷ []) [] (whole, tt) (refl, tt)
-      (None, [], (λ m is. is.1.included (inr (inl (excluded_by (the_name (search (rules, arith)) refl))))), refl, refl),
-  one_merge _ [] ref_names.0 (λ (m, has, sound, is). nothing_in [] m refl has),
-)
+excluded_uncovered =
+    inr (listed every (Configured 0) ∷ listed no_main (Configured 1) ∷ [], [], (Some _, _, (refl, tt), (Some _, [], (refl, tt), refl, refl), refl),
+    mapped origin_folder origin_split (codes "main" ∷ []) (Configured 0) (listed no_main (Configured 1) ∷ []) [] (search rules, tt) (refl, tt)
+    (None, [], (λ m is. is.1.included (inr (inl (excluded_by (the_name (search (rules, arith)) refl))))), refl, refl),
+    one_merge _ [] ref_names.0 (λ covers. grind arith))
 
 -- a fetch of the branches without `dev-*`, besides which all are configured
 abbrev fetch_branches : Wish
@@ -78,6 +75,9 @@ fetch_branches = record { given = to_below x_folder ∷ no_dev ∷ []; configure
 
 abbrev branches : List Ref
 branches = dev_ref ∷ main_ref ∷ []
+
+abbrev tracking : List Asked
+tracking = listed every (Configured 0) ∷ listed no_dev (Given 1) ∷ []
 
 abbrev dev_below : List ℕ → Mapped
 dev_below far = below_at far 0 (codes "dev-a")
@@ -89,7 +89,7 @@ module _ (far : List ℕ) (split : IsSplit far [] (far ++ codes "*")) where
   -- the negative spec excludes dev-a; without it both branches are mapped
   main_mapped : (o p : Origin) → AreMapped (listed (to_below far) o ∷ listed no_dev p ∷ []) branches (main_below far ∷ [])
   main_mapped o p = mapped far split (codes "dev-a" ∷ codes "main" ∷ []) o (listed no_dev p ∷ []) (main_below far ∷ [])
-      (whole, tt) (refl, tt) (None, _, (λ m is. is.1.included (inr (inl (excluded_by excludes_dev)))),
+      (search rules, tt) (refl, tt) (None, _, (λ m is. is.1.included (inr (inl (excluded_by excludes_dev)))),
       (Some _, [], (refl, record { first = λ pair. grind arith; included = not_excluded tt excludes_no_main }), refl, refl), refl)
 
   both_mapped : (o : Origin) → AreMapped (listed (to_below far) o ∷ []) branches (dev_below far ∷ main_below far ∷ [])
@@ -98,27 +98,23 @@ module _ (far : List ℕ) (split : IsSplit far [] (far ++ codes "*")) where
       (Some _, [], (refl, record { first = λ pair. grind arith; included = none_excluded tt }), refl, refl), refl)
 
 -- the configured spec is applied to the branches that the call takes, and the negative spec of the call excludes from them
-pub tracked : IsTracked fetch_branches branches (listed every (Configured 0) ∷ listed no_dev (Given 1) ∷ [])
-    (0 ∷ 1 ∷ []) (main_below origin_folder ∷ [])
-tracked = IsTracked.by_call (listed every (Configured 0) ∷ []) (listed no_dev (Given 1) ∷ []) branches (λ none. cc)
+pub tracked : IsTracked fetch_branches branches tracking (0 ∷ 1 ∷ []) (main_below origin_folder ∷ [])
+tracked =
+    let dev : IsTakenAt (dev_below x_folder ∷ main_below x_folder ∷ []) 0 = (dev_below x_folder, (0, omega arith, refl), sound _ _ refl refl, refl) in
+    let main : IsTakenAt (dev_below x_folder ∷ main_below x_folder ∷ []) 1 = (main_below x_folder, (1, omega arith, refl), sound _ _ refl refl, refl) in
+    IsTracked.by_call (listed every (Configured 0) ∷ []) (listed no_dev (Given 1) ∷ []) branches (λ none. cc)
     (Some _, [], (refl, tt), refl, refl)
     (None, _, (λ a both. cc (both.1)), (Some _, [], (refl, refl), refl, refl), refl)
     refl
     (record {
       asked = listed (to_below x_folder) (Given 0) ∷ [];
-      mapped = dev_below x_folder ∷ main_below x_folder ∷ [];
+      mapped = _;
       are_asked = (Some _, [], (refl, tt), (None, [], (λ a both. both.1), refl, refl), refl);
       are_mapped = both_mapped x_folder (split_at_end x_folder refl) (Given 0);
-      are_indexes = (Some 0, _, (refl, dev_taken), (Some 1, [], (refl, main_taken), refl, refl), refl);
-      are_taken = (Some dev_ref, _, (refl, dev_taken), (Some main_ref, [], (refl, main_taken), refl, refl), refl);
+      are_indexes = (Some 0, _, (refl, dev), (Some 1, [], (refl, main), refl, refl), refl);
+      are_taken = (Some dev_ref, _, (refl, dev), (Some main_ref, [], (refl, main), refl, refl), refl);
     })
     (main_mapped origin_folder origin_split (Configured 0) (Given 1))
-  where
-    dev_taken : IsTakenAt (dev_below x_folder ∷ main_below x_folder ∷ []) 0
-    dev_taken = (dev_below x_folder, (0, omega arith, refl), sound _ _ refl refl, refl)
-
-    main_taken : IsTakenAt (dev_below x_folder ∷ main_below x_folder ∷ []) 1
-    main_taken = (main_below x_folder, (1, omega arith, refl), sound _ _ refl refl, refl)
 
 abbrev main_update : List ℕ → Origin → Planned
 main_update far o = update (main_below far) 1 o Written
@@ -138,15 +134,11 @@ fetched_first = record {
   are_seconds = tracked;
   are_before = (Some _, [],
       record { source = refl; item = refl; destination = refl; origin = (_, refl, refl); verdict = (sound _ _ refl refl, alone _) }, refl, refl);
-  are_behind = (Some _, [], record {
-    updates = refl;
-    new = λ pair. grind arith;
-    source = refl;
-    item = refl;
-    destination = refl;
-    origin = (_, refl, refl);
-    verdict = (sound _ _ refl refl, (λ (n, has, is, share). grind (arith, one_in)), alone _);
-  }, refl, refl);
+  are_behind =
+      let new : ¬ (HasPair (main_below x_folder ∷ []) (main_below origin_folder)) = λ pair. grind arith in
+      let free : ¬ (IsTakenOver (main_below x_folder ∷ []) (main_below origin_folder)) = λ (n, has, is, share). grind (arith, one_in) in
+      let from : HasOrigin tracking (main_below origin_folder) (Configured 0) = (_, refl, refl) in
+      (Some _, [], search (rules, arith, sound, alone), refl, refl);
   all = refl;
   lacks = (None, [], (λ o told. let named = rw (← same_Some _ _ told.2.is) at told.2.named in grind arith),
       (None, [], (λ o told. told.2.positive), refl, refl), refl);
