@@ -1,8 +1,9 @@
 -- What the examples of plans cite: names passed on, data in few words, and proofs that hold for all examples of a kind.
-use Rattle.gix_refspec_plan.proofs.Common.{◌≡◌, inl, inr, ℕ, ◌+◌, false, List, [], ◌∷◌, ◌++◌, None, Some, codes, map, refl, sym, ◌∙◌, subst, arith, AllByRecursion, Contains, append-nil, same_Some, Origin, Verdict}
-use Rattle.gix_refspec_plan.proofs.Common.{CanBeWritten, HasStar, rules, Reading, Negative, IsPositive, fetched, fetched_alone, object, Ref, Takes, IsMadeFrom, Mapped, IsExcluded, IsExcludedBy, LacksSource}
-use Rattle.gix_refspec_plan.proofs.Common.{IsRefName, AreMerges, Asked, Covers, IsCompleted, IsContested, IsNegativeReading, IsSound, Planned, Merge}
-use Rattle.gix_refspec_text.{specs.Specs.Reading.Mode, specs.Matching.Side.Excludes, specs.Texts.Bytes.slash, proofs.lemmas.texts.TestedLemmas.IsName-tested, proofs.lemmas.texts.TestedLemmas.is_suspect}
+use Rattle.gix_refspec_plan.proofs.Common.{◌≡◌, inl, inr, ℕ, ◌+◌, false, List, [], ◌∷◌, ◌++◌, None, Some, codes, map, refl, sym, ◌∙◌, subst, arith, AllByRecursion, Contains, append-nil, same_Some}
+use Rattle.gix_refspec_plan.proofs.Common.{Origin, Verdict, CanBeWritten, HasStar, rules, Reading, Negative, IsPositive, fetched, fetched_alone, object, Ref, Takes, IsMadeFrom, Mapped, IsExcluded}
+use Rattle.gix_refspec_plan.proofs.Common.{IsExcludedBy, LacksSource, IsRefName, AreMerges, Asked, Covers, IsCompleted, IsContested, IsNegativeReading, IsSound, Planned, Merge}
+use Rattle.gix_refspec_text.{specs.Specs.Reading.Mode, specs.Matching.Side.Excludes, specs.Texts.Bytes.slash, proofs.lemmas.texts.TestedLemmas.IsName-tested}
+use Rattle.gix_refspec_text.{proofs.lemmas.texts.TestedLemmas.is_suspect}
 pub use Rattle.gix_refspec_text.proofs.facts.{ManualFacts.Lacks-tested, ManualFacts.named, FitFacts.every, FitFacts.heads_split, FitFacts.main_ref, FitFacts.no_dev, FitFacts.origin_split, FitFacts.short, FitFacts.short_kind}
 pub use Rattle.gix_refspec_match.specs.Matching.{Hits.AreForward, Hits.AreForwardEnds, Hits.AreSpecHits, Hits.Ends, Hits.Hit, Hits.IsHit, Hits.IsIdMapping, Hits.forward_of, Lists.IsJoinedFrom, Mappings.IsKept}
 pub use Rattle.gix_refspec_match.proofs.facts.MatchFacts.{mapping, main_candidate}
@@ -52,7 +53,6 @@ not_excluded positive excludes (inl by) = subst IsPositive by.negative positive
 not_excluded positive excludes (inr (inl by)) = excludes (rw (← same_Some _ _ by.source) at by.excludes)
 not_excluded positive excludes (inr (inr none)) = none
 
--- a pattern that ends with a star is complete
 pub whole_pattern : {mode : Mode} {x : List ℕ} (far : List ℕ)
     → IsCompleted (fetched mode x (Some (far ++ codes "*"))) (fetched mode x (Some (far ++ codes "*")))
 whole_pattern far = let starred : HasStar (far ++ codes "*") = record { before = far; after = []; here = refl } in search (rules, starred)
@@ -67,14 +67,12 @@ no_hits items k [] all = refl
 no_hits items k (r ∷ g) all = ([], [], inr ((λ ends are. subst IsPositive all.0 are.positive), refl), no_hits items (k + 1) g all.1, refl)
 
 pub forward_beside : {r : Reading} {ends : Ends} (g : List Reading) (items : List Ref) (hits : List Hit) → AreForwardEnds r ends
-    → AllByRecursion IsNegativeReading g → IsMadeFrom (IsHit (Takes items) ends 0) 0 items hits → AreForward (r ∷ g) items (map forward_of hits)
+    → AllByRecursion IsNegativeReading g → IsMadeFrom (IsHit (Takes items) ends 0) 0 items hits
+    → AreForward (r ∷ g) items (map forward_of hits)
 forward_beside {r} {ends} g items hits are negative taken = record {
   ids = [];
   hits = hits;
-  are_ids = (None, [], no_id, no_ids 1 g negative, refl);
+  are_ids = (None, [], (λ m made. are.no_object made.bytes (rw (same_Some _ _ (sym made.side ∙ are.near)) at made.object)), no_ids 1 g negative, refl);
   are_hits = (hits, [], inl (ends, are, taken), no_hits items 1 g negative, sym (append-nil hits));
   all = refl;
 }
-  where
-    no_id : (m : Mapped) → ¬ (IsIdMapping 0 r m)
-    no_id m made = are.no_object made.bytes (rw (same_Some made.text ends.near (sym made.side ∙ are.near)) at made.object)

@@ -52,10 +52,7 @@ none_required r required = grind arith
 pub required : IsRequired fetch_main short × ¬ (IsRequired fetch_main every)
     × IsRequired (record { given = []; configured = []; merges = []; tags = false }) (fetched_alone head)
     × ¬ (IsRequired fetch_merged (fetched_alone head))
-required = (IsRequired.by_call (0, omega arith, refl), configured, IsRequired.by_default refl refl refl refl, none_required _)
-  where
-    configured : ¬ (IsRequired fetch_main every)
-    configured required = grind (arith, one_in)
+required = (IsRequired.by_call (0, omega arith, refl), (λ required. grind (arith, one_in)), IsRequired.by_default refl refl refl refl, none_required _)
 
 -- by the law nothing is written if the remote has no refs
 pub main_missing : CarriedOutExactly fetch_main [] → (planned : List Planned) (missing : List Origin) → IsPlan fetch_main [] planned missing → ¬ (IsCarriedOut planned missing)

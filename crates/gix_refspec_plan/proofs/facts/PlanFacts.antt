@@ -13,21 +13,17 @@ use Rattle.gix_refspec.specs.declared.match_group.ref_names.InvalidSide.TheVaria
 pub writable : CanBeWritten None × CanBeWritten (Some (codes "refs/heads/main")) × ¬ (CanBeWritten (Some (codes "HEAD"))) × ¬ (CanBeWritten (Some (codes "refs/../x")))
 writable = (tt, below _ refl, (λ can. cc (can.0.here)), λ can. no_ref_names.2 (inl can))
 
--- mappings to one ref, and to `HEAD`
-abbrev to_x : ℕ → List ℕ → Mapped
-to_x item source = mapping item source (Some (codes "refs/x")) 0
-
-abbrev to_head : ℕ → List ℕ → Mapped
-to_head item source = mapping item source (Some (codes "HEAD")) 0
+abbrev to : List ℕ → ℕ → List ℕ → Mapped
+to d item s = mapping item s (Some d) 0
 
 abbrev ax : Mapped
-ax = to_x 0 (codes "refs/heads/a")
+ax = to (codes "refs/x") 0 (codes "refs/heads/a")
 
 abbrev bx : Mapped
-bx = to_x 1 (codes "refs/heads/b")
+bx = to (codes "refs/x") 1 (codes "refs/heads/b")
 
 abbrev from_bad : Mapped
-from_bad = to_x 2 (codes "refs/../x")
+from_bad = to (codes "refs/x") 2 (codes "refs/../x")
 
 a_sound : IsSound ax
 a_sound = sound _ _ refl refl
@@ -36,9 +32,9 @@ bad_alone : (n : Mapped) → Contains (from_bad ∷ []) n → ¬ (IsSound n)
 bad_alone n has is = no_ref_names.2 (sound_one has is).source
 
 -- `HEAD` is a source, but no destination
-pub sides : IsUnwritableAt invalid.Destination (to_head 0 (codes "HEAD")) × IsUnwritableAt invalid.Source from_bad × IsUnwritableAt invalid.Both (to_head 2 (codes "refs/../x"))
-    × ¬ (IsUnwritableAt invalid.Both (to_head 0 (codes "HEAD"))) × ¬ (IsUnwritableAt invalid.Destination from_bad)
-    × ¬ (IsUnwritableAt invalid.Source (to_head 2 (codes "refs/../x"))) × ¬ (IsUnwritableAt invalid.Destination ax)
+pub sides : IsUnwritableAt invalid.Destination (to (codes "HEAD") 0 (codes "HEAD")) × IsUnwritableAt invalid.Source from_bad × IsUnwritableAt invalid.Both (to (codes "HEAD") 2 (codes "refs/../x"))
+    × ¬ (IsUnwritableAt invalid.Both (to (codes "HEAD") 0 (codes "HEAD"))) × ¬ (IsUnwritableAt invalid.Destination from_bad)
+    × ¬ (IsUnwritableAt invalid.Source (to (codes "HEAD") 2 (codes "refs/../x"))) × ¬ (IsUnwritableAt invalid.Destination ax)
 sides = search (rules, arith, writable, no_ref_names, a_sound)
 
 pub tags : (tags_asked true ≡ listed all_tags AllTags ∷ []) × (tags_asked false ≡ [])
@@ -58,7 +54,7 @@ main_to d = fetched Normal (codes "main") (Some d)
 -- `refs/` is put before `heads/x`, and `refs/heads/` before `x`; other destinations stay, and so do patterns
 pub completed : IsCompleted (main_to (codes "heads/x")) (main_to (codes "refs/heads/x")) × IsCompleted (main_to (codes "x")) (main_to (codes "refs/heads/x"))
     × IsCompleted (main_to (codes "refs/x")) (main_to (codes "refs/x")) × IsCompleted every every × IsCompleted (fetched_alone (codes "main")) (fetched_alone (codes "main"))
-completed = (search (rules, arith), search (rules, arith), search (rules, arith), whole_pattern (codes "refs/remotes/origin/"), search rules)
+completed = let whole : IsCompleted every every = whole_pattern (codes "refs/remotes/origin/") in search (rules, arith, whole)
 
 -- not as `match_lhs` fills them, and not without a change
 pub not_completed : ¬ (IsCompleted (main_to (codes "heads/x")) (main_to (codes "refs/heads/heads/x"))) × ¬ (IsCompleted (main_to (codes "x")) (main_to (codes "x")))
@@ -82,9 +78,9 @@ covered = ((None, [], (λ a told. told.2 (ax, (0, omega arith, refl), a_sound, r
     missed (Some a, rest, here, more, is) = cc (is)
 
 -- a mapping that is left out fetches nothing
-pub uncovered : AreMerges (codes "refs/heads/a" ∷ []) (to_head 0 (codes "refs/heads/a") ∷ []) (merged (codes "refs/heads/a") ∷ [])
+pub uncovered : AreMerges (codes "refs/heads/a" ∷ []) (to (codes "HEAD") 0 (codes "refs/heads/a") ∷ []) (merged (codes "refs/heads/a") ∷ [])
 uncovered =
-    one_merge _ (to_head 0 (codes "refs/heads/a") ∷ []) a_sound.source (λ (m, has, sound, is). writable.2 (sound_one has sound).destination)
+    one_merge _ (to (codes "HEAD") 0 (codes "refs/heads/a") ∷ []) a_sound.source (λ (m, has, sound, is). writable.2 (sound_one has sound).destination)
 
 -- all tags are asked for beside what is configured too
 pub asked : AreAsked (record { given = []; configured = every ∷ []; merges = []; tags = true }) [] (listed every (Configured 0) ∷ listed all_tags AllTags ∷ [])
@@ -129,7 +125,7 @@ index_besides =
 -- `main` is missing among no refs, but not beside a branch of that name; a negative spec and a pattern lack nothing
 pub missing : AreMissing (no_dev ∷ short ∷ all_tags ∷ []) [] (1 ∷ []) × AreMissing (short ∷ []) (main_ref ∷ []) []
 missing =
-  let is : Matches (codes "main") main_ref None = record { kind = partial (codes "main"); of = short_kind; is = (refl, main_candidate) } in (
+  let is : Matches (codes "main") main_ref None = record { kind = partial _; of = short_kind; is = (refl, main_candidate) } in (
   (None, _, (λ k told. told.1.positive), (Some 1, [], (refl, main_lacking), (None, [], (λ k told. tags_lack_nothing [] told.1), refl, refl), refl), refl),
   (None, [], (λ k told. told.1.absent main_ref None (0, omega arith, refl) (rw (← same_Some _ _ told.1.is) is)), refl, refl),
 )

@@ -1,13 +1,13 @@
 -- Examples of the definition of stale refs: what keeps a local ref from being stale, one that is, and one that a spec keeps.
-use Rattle.gix_refspec_plan.proofs.Common.{Matches, ref_named, AreKeptForward, HasKind, ◌++◌, ◌∙◌, ap, append_cancel_left, ◌≡◌, inl, inr, ℕ, List, [], ◌∷◌, Option, None, Some, codes, map, refl, sym}
-use Rattle.gix_refspec_plan.proofs.Common.{subst, arith, rules, AllZip, Contains, same_Some, star, Lacks, Negative, Normal, Reading, fetched, full_name, partial, pattern, Fits, the_name, split_once}
-use Rattle.gix_refspec_plan.proofs.Common.{lacks_no_pattern, Lacks-here, Ref, Takes, IsMadeFrom, IsExcludedBy, one_forward, CanWrite, CanWriteFrom, CanWriteObject, IsCompleted, IsFetched, IsKeptBy}
-use Rattle.gix_refspec_plan.proofs.Common.{IsStale, IsWritable}
+use Rattle.gix_refspec_plan.proofs.Common.{Matches, ref_named, AreKeptForward, HasKind, ◌++◌, ◌∙◌, ap, append_cancel_left, ◌≡◌, inl, inr, ℕ, List, [], ◌∷◌, Option, None, Some, codes, refl, sym, subst}
+use Rattle.gix_refspec_plan.proofs.Common.{arith, rules, AllZip, Contains, same_Some, star, Lacks, Negative, Normal, Reading, fetched, full_name, partial, pattern, Fits, the_name, split_once}
+use Rattle.gix_refspec_plan.proofs.Common.{lacks_no_pattern, Lacks-here, Takes, IsExcludedBy, one_forward, CanWrite, CanWriteFrom, CanWriteObject, IsCompleted, IsFetched, IsKeptBy, IsStale}
+use Rattle.gix_refspec_plan.proofs.Common.{IsWritable}
 use Rattle.gix_refspec_plan.specs.Matching.Stale.{AreStale}
 use Rattle.gix_refspec_text.{proofs.lemmas.hits.CandidateLemmas.first_of_one, proofs.lemmas.hits.CandidateLemmas.taken_by_first, proofs.facts.ObjectIdFacts.empty_blob, proofs.facts.FitFacts.blob_kind}
 use Rattle.gix_refspec_text.{proofs.facts.FitFacts.short_no_id, specs.Matching.Side.Excludes, specs.Matching.Side.by_pattern}
-use Rattle.gix_refspec_plan.proofs.facts.ExampleLemmas.{AreForward, Hit, IsHit, Lacks-tested, every, excluded_by, forward_beside, forward_of, heads_split, main_candidate, main_ref, named}
-use Rattle.gix_refspec_plan.proofs.facts.ExampleLemmas.{none_excluded, not_excluded, nothing_in, one_in, origin_split, short_kind, whole_pattern}
+use Rattle.gix_refspec_plan.proofs.facts.ExampleLemmas.{AreForwardEnds, Hit, Lacks-tested, every, excluded_by, forward_beside, forward_of, heads_split, main_candidate, main_ref, named, none_excluded}
+use Rattle.gix_refspec_plan.proofs.facts.ExampleLemmas.{not_excluded, nothing_in, one_in, origin_split, short_kind, whole_pattern}
 use Rattle.gix_refspec_plan.proofs.lemmas.{stale.PatternLemmas.name_writes, stale.PatternLemmas.word_taken, stale.PatternLemmas.writes_cases, plan.OnePlanLemmas.completed_once}
 
 -- a fetch into `x`, which is refs/heads/x, and a negative spec
@@ -23,7 +23,6 @@ no_tag = fetched Negative (codes "refs/tags/main") None
 writes_x : (source : List ℕ) → CanWrite (to_x source) x None
 writes_x source = name_writes _ _ (record { positive = tt; destination = codes "x"; has = refl; lacks = search (rules, arith); is = refl })
 
--- `main` may be a tag
 from_tag : CanWriteFrom (to_x (codes "main")) x (codes "refs/tags/main")
 from_tag =
     let matches : Matches (codes "main") (ref_named (codes "refs/tags/main")) None =
@@ -107,15 +106,13 @@ x_hit = record { spec = 0; item = 0; near = codes "refs/heads/main"; far = Some 
 are_completed : AllZip IsCompleted specs completed
 are_completed = search (rules, arith)
 
-by_first : (items : List Ref) (hits : List Hit)
-    → IsMadeFrom (IsHit (Takes items) (record { near = codes "main"; far = Some x }) 0) 0 items hits → AreForward completed items (map forward_of hits)
-by_first items hits taken = forward_beside (no_tag ∷ []) items hits
-    (record { positive = tt; near = refl; far = refl; no_object = λ bytes kind. short_no_id bytes kind.2 }) (refl, tt) taken
+x_ends : AreForwardEnds (fetched Normal (codes "main") (Some x)) (record { near = codes "main"; far = Some x })
+x_ends = record { positive = tt; near = refl; far = refl; no_object = λ bytes kind. short_no_id bytes kind.2 }
 
 main_kept : AreKeptForward completed (main_ref ∷ []) (forward_of x_hit ∷ [])
 main_kept = record {
   all = forward_of x_hit ∷ [];
-  forward = by_first (main_ref ∷ []) (x_hit ∷ []) (Some _, [],
+  forward = forward_beside _ _ (x_hit ∷ []) x_ends (refl, tt) (Some _, [],
     record { word = None; takes = takes; far = (full_name x, x_full, refl); near = refl; spec = refl; item = refl }, refl, refl);
   is = (Some _, [], (refl, record { first = λ none. none; included = not_excluded tt no_main }), refl, refl);
 }
@@ -131,7 +128,8 @@ main_kept = record {
     no_main (by_pattern before after word split fits) = lacks_no_pattern (codes "refs/tags/main") before after (Lacks-tested star (codes "refs/tags/main") refl) split
 
 main_fetched : IsFetched specs (main_ref ∷ []) x
-main_fetched = record { completed = _; are = are_completed; mapped = _; kept = main_kept; mapping = forward_of x_hit; has = (0, omega arith, refl); destination = refl }
+main_fetched =
+    record { completed = _; are = are_completed; mapped = _; kept = main_kept; mapping = _; has = (0, omega arith, refl); destination = refl }
 
 -- the spec that excludes the tag `main` keeps refs/heads/x where the remote has no `main`, but not where a fetch writes it from the branch
 pub kept : IsKeptBy specs [] x 1 × ((k : ℕ) → ¬ (IsKeptBy specs (main_ref ∷ []) x k))
@@ -143,5 +141,6 @@ kept = (
     none : ¬ (IsFetched specs [] x)
     none f =
         let same : f.completed ≡ completed = completed_once specs f.completed completed f.are are_completed in
-        let empty : f.mapped ≡ [] = one_forward completed [] f.mapped [] (rw same at f.kept) (record { all = []; forward = by_first [] [] refl; is = refl }) in
+        let kept_none : AreKeptForward completed [] [] = record { all = []; forward = forward_beside _ [] [] x_ends (refl, tt) refl; is = refl } in
+        let empty : f.mapped ≡ [] = one_forward completed [] f.mapped [] (rw same at f.kept) kept_none in
         nothing_in f.mapped f.mapping empty f.has

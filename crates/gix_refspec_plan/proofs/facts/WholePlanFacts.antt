@@ -64,9 +64,10 @@ module _ (far : List ℕ) (split : IsSplit far [] (far ++ codes "*")) where
 -- a merged ref that a configured spec maps and another excludes isn't covered
 pub excluded_uncovered : AreUncovered (record { given = []; configured = every ∷ no_main ∷ []; merges = codes "refs/heads/main" ∷ []; tags = false }) (main_ref ∷ []) (merged (codes "refs/heads/main") ∷ [])
 excluded_uncovered =
-    inr (listed every (Configured 0) ∷ listed no_main (Configured 1) ∷ [], [], (Some _, _, (refl, tt), (Some _, [], (refl, tt), refl, refl), refl),
-    mapped origin_folder origin_split (codes "main" ∷ []) (Configured 0) (listed no_main (Configured 1) ∷ []) [] (search rules, tt) (refl, tt)
-    (None, [], (λ m is. is.1.included (inr (inl (excluded_by (the_name (search (rules, arith)) refl))))), refl, refl),
+    inr (listed every (Configured 0) ∷ listed no_main (Configured 1) ∷ [], [],
+    (Some _, _, (refl, tt), (Some _, [], (refl, tt), refl, refl), refl),
+    mapped origin_folder origin_split (codes "main" ∷ []) (Configured 0) (listed no_main (Configured 1) ∷ []) []
+    (search rules, tt) (refl, tt) (None, [], (λ m is. is.1.included (inr (inl (excluded_by (the_name (search (rules, arith)) refl))))), refl, refl),
     one_merge _ [] ref_names.0 (λ covers. grind arith))
 
 -- a fetch of the branches without `dev-*`, besides which all are configured
@@ -100,12 +101,10 @@ module _ (far : List ℕ) (split : IsSplit far [] (far ++ codes "*")) where
 -- the configured spec is applied to the branches that the call takes, and the negative spec of the call excludes from them
 pub tracked : IsTracked fetch_branches branches tracking (0 ∷ 1 ∷ []) (main_below origin_folder ∷ [])
 tracked =
-    let dev : IsTakenAt (dev_below x_folder ∷ main_below x_folder ∷ []) 0 = (dev_below x_folder, (0, omega arith, refl), sound _ _ refl refl, refl) in
-    let main : IsTakenAt (dev_below x_folder ∷ main_below x_folder ∷ []) 1 = (main_below x_folder, (1, omega arith, refl), sound _ _ refl refl, refl) in
+    let dev : IsTakenAt (dev_below x_folder ∷ main_below x_folder ∷ []) 0 = (_, (0, omega arith, refl), sound _ _ refl refl, refl) in
+    let main : IsTakenAt (dev_below x_folder ∷ main_below x_folder ∷ []) 1 = (_, (1, omega arith, refl), sound _ _ refl refl, refl) in
     IsTracked.by_call (listed every (Configured 0) ∷ []) (listed no_dev (Given 1) ∷ []) branches (λ none. cc)
-    (Some _, [], (refl, tt), refl, refl)
-    (None, _, (λ a both. cc (both.1)), (Some _, [], (refl, refl), refl, refl), refl)
-    refl
+    (Some _, [], (refl, tt), refl, refl) (None, _, (λ a both. cc (both.1)), (Some _, [], (refl, refl), refl, refl), refl) refl
     (record {
       asked = listed (to_below x_folder) (Given 0) ∷ [];
       mapped = _;
