@@ -1,9 +1,8 @@
 -- What the examples of plans cite: names passed on, data in few words, and proofs that hold for all examples of a kind.
-use Rattle.gix_refspec_plan.proofs.Common.{◌≡◌, inl, inr, ℕ, ◌+◌, false, List, [], ◌∷◌, ◌++◌, None, Some, codes, map, refl, sym, ◌∙◌, subst, arith, AllByRecursion, Contains, append-nil, same_Some}
-use Rattle.gix_refspec_plan.proofs.Common.{Origin, Verdict, CanBeWritten, HasStar, rules, Reading, Negative, IsPositive, fetched, fetched_alone, object, Ref, Takes, IsMadeFrom, Mapped, IsExcluded}
-use Rattle.gix_refspec_plan.proofs.Common.{IsExcludedBy, LacksSource, IsRefName, AreMerges, Asked, Covers, IsCompleted, IsContested, IsNegativeReading, IsSound, Planned, Merge}
-use Rattle.gix_refspec_text.{specs.Specs.Reading.Mode, specs.Matching.Side.Excludes, specs.Texts.Bytes.slash, proofs.lemmas.texts.TestedLemmas.IsName-tested}
-use Rattle.gix_refspec_text.{proofs.lemmas.texts.TestedLemmas.is_suspect}
+use Rattle.gix_refspec_plan.proofs.Common.{◌≡◌, inl, inr, ℕ, ◌+◌, false, List, [], ◌∷◌, ◌++◌, None, Some, codes, map, refl, sym, ◌∙◌, subst, arith, AllByRecursion, Contains, append-nil, same_Some, Origin}
+use Rattle.gix_refspec_plan.proofs.Common.{Verdict, CanBeWritten, HasStar, rules, Reading, Negative, IsPositive, fetched, fetched_alone, object, Ref, Takes, IsMadeFrom, Mapped, IsExcluded, IsExcludedBy}
+use Rattle.gix_refspec_plan.proofs.Common.{LacksSource, IsRefName, AreMerges, Asked, Covers, IsCompleted, IsContested, IsNegativeReading, IsSound, Planned, Merge}
+use Rattle.gix_refspec_text.{specs.Specs.Reading.Mode, specs.Matching.Side.Excludes, specs.Texts.Bytes.slash, proofs.lemmas.texts.TestedLemmas.IsName-tested, proofs.lemmas.texts.TestedLemmas.is_suspect}
 pub use Rattle.gix_refspec_text.proofs.facts.{ManualFacts.Lacks-tested, ManualFacts.named, FitFacts.every, FitFacts.heads_split, FitFacts.main_ref, FitFacts.no_dev, FitFacts.origin_split, FitFacts.short, FitFacts.short_kind}
 pub use Rattle.gix_refspec_match.specs.Matching.{Hits.AreForward, Hits.AreForwardEnds, Hits.AreSpecHits, Hits.Ends, Hits.Hit, Hits.IsHit, Hits.IsIdMapping, Hits.forward_of, Lists.IsJoinedFrom, Mappings.IsKept}
 pub use Rattle.gix_refspec_match.proofs.facts.MatchFacts.{mapping, main_candidate}
@@ -20,7 +19,6 @@ merged n = listed (fetched_alone n) (Merge 0)
 abbrev pub update : Mapped → ℕ → Origin → Verdict → Planned
 update m item o v = record { source = m.source; item = Some item; destination = m.destination; origin = o; verdict = v }
 
--- a text below `refs/` in which nothing is suspect
 pub below : (x : List ℕ) → is_suspect slash (codes "refs/" ++ x) ≡ false → CanBeWritten (Some (codes "refs/" ++ x))
 below x sound = (record { after = x; here = refl }, IsName-tested (codes "refs/" ++ x) sound)
 
@@ -28,8 +26,8 @@ pub sound : {item spec : ℕ} (s d : List ℕ) → is_suspect slash (codes "refs
     → IsSound (mapping item (codes "refs/" ++ s) (Some (codes "refs/" ++ d)) spec)
 sound s d source destination = record { source = inl (below s source); destination = below d destination }
 
-pub sound_one : {m n : Mapped} → Contains (m ∷ []) n → IsSound n → IsSound m
-sound_one {m} {n} has is = subst IsSound (one_in m n has) is
+pub one : {m n : Mapped} → Contains (m ∷ []) n → IsSound n → IsSound m
+one {m} {n} has is = subst IsSound (one_in m n has) is
 
 pub alone : (m : Mapped) → ¬ (IsContested (m ∷ []) m)
 alone m (n, has, is, share, differ) = grind (arith, one_in)
@@ -69,10 +67,10 @@ no_hits items k (r ∷ g) all = ([], [], inr ((λ ends are. subst IsPositive all
 pub forward_beside : {r : Reading} {ends : Ends} (g : List Reading) (items : List Ref) (hits : List Hit) → AreForwardEnds r ends
     → AllByRecursion IsNegativeReading g → IsMadeFrom (IsHit (Takes items) ends 0) 0 items hits
     → AreForward (r ∷ g) items (map forward_of hits)
-forward_beside {r} {ends} g items hits are negative taken = record {
+forward_beside {r} {ends} g items hits are all taken = record {
   ids = [];
   hits = hits;
-  are_ids = (None, [], (λ m made. are.no_object made.bytes (rw (same_Some _ _ (sym made.side ∙ are.near)) at made.object)), no_ids 1 g negative, refl);
-  are_hits = (hits, [], inl (ends, are, taken), no_hits items 1 g negative, sym (append-nil hits));
+  are_ids = (None, [], (λ m made. are.no_object _ (rw (same_Some _ _ (sym made.side ∙ are.near)) at made.object)), no_ids 1 g all, refl);
+  are_hits = (hits, [], inl (ends, are, taken), no_hits items 1 g all, sym (append-nil hits));
   all = refl;
 }

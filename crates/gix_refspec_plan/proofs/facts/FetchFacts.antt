@@ -1,9 +1,9 @@
 -- Examples of the definitions of the laws on fetches, and what a caller concludes from these laws.
-use Rattle.gix_refspec_plan.proofs.Common.{◌≡◌, ◌⊎◌, inl, inr, false, List, [], ◌∷◌, Some, codes, refl, arith, head, Reading, fetched_alone, Ref, name, IsCarriedOut, IsPlan, Planned, Wish}
-use Rattle.gix_refspec_plan.proofs.Common.{AreWrittenOnce, CarriedOutExactly, ConflictsExactly, DoConflict, IsRequired, OnePlan, WritesOnce, Origin, Verdict, Given, Written, InConflict, Overruled}
+use Rattle.gix_refspec_plan.proofs.Common.{◌≡◌, ◌⊎◌, inl, inr, false, List, [], ◌∷◌, Some, codes, refl, arith, head, Reading, fetched_alone, Ref, name, IsCarriedOut, IsPlan, Planned, Wish, AreWrittenOnce}
+use Rattle.gix_refspec_plan.proofs.Common.{CarriedOutExactly, ConflictsExactly, DoConflict, IsRequired, OnePlan, WritesOnce, Origin, Verdict, Given, Written, InConflict, Overruled}
 use Rattle.gix_refspec_plan.proofs.facts.ExampleLemmas.{every, main_lacking, one_in, short}
 
--- two updates from different sources to the same ref, and one to another
+-- two updates from different sources to the same ref
 abbrev from_a : Verdict → Planned
 from_a v = record { source = name (codes "refs/heads/a"); item = Some 0; destination = Some (codes "refs/x"); origin = Given 0; verdict = v }
 
@@ -45,14 +45,14 @@ fetch_main = record { given = short ∷ []; configured = every ∷ []; merges = 
 abbrev fetch_merged : Wish
 fetch_merged = record { given = []; configured = []; merges = codes "refs/heads/main" ∷ []; tags = false }
 
-none_required : (r : Reading) → ¬ (IsRequired fetch_merged r)
-none_required r required = grind arith
+unneeded : (r : Reading) → ¬ (IsRequired fetch_merged r)
+unneeded r required = grind arith
 
 -- a source of the call has to be there, and none of the configuration beside it; without a spec `HEAD`, unless a ref is merged
 pub required : IsRequired fetch_main short × ¬ (IsRequired fetch_main every)
     × IsRequired (record { given = []; configured = []; merges = []; tags = false }) (fetched_alone head)
     × ¬ (IsRequired fetch_merged (fetched_alone head))
-required = (IsRequired.by_call (0, omega arith, refl), (λ required. grind (arith, one_in)), IsRequired.by_default refl refl refl refl, none_required _)
+required = (IsRequired.by_call (0, omega arith, refl), (λ by. grind (arith, one_in)), IsRequired.by_default refl refl refl refl, unneeded _)
 
 -- by the law nothing is written if the remote has no refs
 pub main_missing : CarriedOutExactly fetch_main [] → (planned : List Planned) (missing : List Origin) → IsPlan fetch_main [] planned missing → ¬ (IsCarriedOut planned missing)
@@ -60,7 +60,7 @@ main_missing law planned missing plan carried = ((law planned missing plan).0 ca
 
 -- but a merged ref may be missing
 pub merged_missing : CarriedOutExactly fetch_merged [] → (missing : List Origin) → IsPlan fetch_merged [] [] missing → IsCarriedOut [] missing
-merged_missing law missing plan = (law [] missing plan).1 ((λ r required. absurd (none_required r required)), λ p q has. grind arith)
+merged_missing law missing plan = (law [] missing plan).1 ((λ r required. absurd (unneeded r required)), λ p q has. grind arith)
 
 -- nor does a conflict let anything be written
 pub conflict_stops : (wish : Wish) (refs : List Ref) → CarriedOutExactly wish refs → (missing : List Origin) → IsPlan wish refs (from_a InConflict ∷ from_b InConflict ∷ []) missing → ¬ (IsCarriedOut (from_a InConflict ∷ from_b InConflict ∷ []) missing)

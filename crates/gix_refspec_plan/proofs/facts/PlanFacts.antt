@@ -1,11 +1,11 @@
 -- Examples of the definitions on plans: what Git completes and leaves out, what is asked for and missing, and the verdicts.
-use Rattle.gix_refspec_plan.proofs.Common.{◌≡◌, inl, ℕ, true, false, List, [], ◌∷◌, None, Some, codes, map, option_map, refl, arith, rules, false≢true, same_Some, bstr_bytes, bstring_bytes, Contains}
-use Rattle.gix_refspec_plan.proofs.Common.{Normal, Forced, Reading, all_tags, fetched, fetched_alone, with_destination, partial, Matches, reading_of, Mapped, AreMissing, start_of, AreAsked}
-use Rattle.gix_refspec_plan.proofs.Common.{AreConfigured, AreLacking, AreMerges, AreThose, Asked, CanBeWritten, HasSecondVerdict, HasVerdict, IsCarriedOut, IsCompleted, IsContested, IsNegativeReading}
-use Rattle.gix_refspec_plan.proofs.Common.{IsPlannedBesides, IsPositiveReading, IsSound, IsTakenOver, IsUnwritableAt, MayBeMissing, Planned, tags_asked, HasOrigin, asked_of, planned_of, wish_of}
-use Rattle.gix_refspec_plan.proofs.Common.{DeclaredAsked, Update, Verdict, Written, LeftOut, InConflict, Overruled, AllTags, Configured, Default, Given, Merge}
-use Rattle.gix_refspec_plan.proofs.facts.ExampleLemmas.{alone, below, every, listed, merged, main_candidate, main_lacking, main_ref, mapping, no_dev, no_ref_names, one_in, one_merge, ref_names}
-use Rattle.gix_refspec_plan.proofs.facts.ExampleLemmas.{whole_pattern, short, short_kind, sound, sound_one, update}
+use Rattle.gix_refspec_plan.proofs.Common.{◌≡◌, inl, ℕ, true, false, List, [], ◌∷◌, None, Some, codes, map, option_map, refl, arith, rules, false≢true, same_Some, bstr_bytes, bstring_bytes, Normal, Forced}
+use Rattle.gix_refspec_plan.proofs.Common.{Reading, all_tags, fetched, fetched_alone, with_destination, partial, Matches, reading_of, Mapped, AreMissing, start_of, AreAsked, AreConfigured, AreLacking}
+use Rattle.gix_refspec_plan.proofs.Common.{AreMerges, AreThose, Asked, CanBeWritten, HasSecondVerdict, HasVerdict, IsCarriedOut, IsCompleted, IsContested, IsNegativeReading, IsPlannedBesides, IsPositiveReading}
+use Rattle.gix_refspec_plan.proofs.Common.{IsSound, IsTakenOver, IsUnwritableAt, MayBeMissing, Planned, tags_asked, HasOrigin, asked_of, planned_of, wish_of, DeclaredAsked, Update, Verdict, Written, LeftOut}
+use Rattle.gix_refspec_plan.proofs.Common.{InConflict, Overruled, AllTags, Configured, Default, Given, Merge}
+use Rattle.gix_refspec_plan.proofs.facts.ExampleLemmas.{alone, below, every, listed, merged, main_candidate, main_lacking, main_ref, mapping, no_dev, no_ref_names, one_in, one_merge, ref_names, whole_pattern}
+use Rattle.gix_refspec_plan.proofs.facts.ExampleLemmas.{short, short_kind, sound, one, update}
 use Rattle.gix_refspec_plan.{proofs.lemmas.plan.CarriedLemmas.tags_lack_nothing, proofs.lemmas.plan.OnePlanLemmas.reading_once, specs.declared.Wish.Wish as DeclaredWish}
 use Rattle.gix_refspec.specs.declared.match_group.ref_names.InvalidSide.TheVariants as invalid
 
@@ -27,9 +27,6 @@ from_bad = to (codes "refs/x") 2 (codes "refs/../x")
 
 a_sound : IsSound ax
 a_sound = sound _ _ refl refl
-
-bad_alone : (n : Mapped) → Contains (from_bad ∷ []) n → ¬ (IsSound n)
-bad_alone n has is = no_ref_names.2 (sound_one has is).source
 
 -- `HEAD` is a source, but no destination
 pub sides : IsUnwritableAt invalid.Destination (to (codes "HEAD") 0 (codes "HEAD")) × IsUnwritableAt invalid.Source from_bad × IsUnwritableAt invalid.Both (to (codes "HEAD") 2 (codes "refs/../x"))
@@ -80,7 +77,7 @@ covered = ((None, [], (λ a told. told.2 (ax, (0, omega arith, refl), a_sound, r
 -- a mapping that is left out fetches nothing
 pub uncovered : AreMerges (codes "refs/heads/a" ∷ []) (to (codes "HEAD") 0 (codes "refs/heads/a") ∷ []) (merged (codes "refs/heads/a") ∷ [])
 uncovered =
-    one_merge _ (to (codes "HEAD") 0 (codes "refs/heads/a") ∷ []) a_sound.source (λ (m, has, sound, is). writable.2 (sound_one has sound).destination)
+    one_merge _ (to (codes "HEAD") 0 (codes "refs/heads/a") ∷ []) a_sound.source (λ o. writable.2 (one o.1 o.2).destination)
 
 -- all tags are asked for beside what is configured too
 pub asked : AreAsked (record { given = []; configured = every ∷ []; merges = []; tags = true }) [] (listed every (Configured 0) ∷ listed all_tags AllTags ∷ [])
@@ -92,7 +89,7 @@ pub contested : HasVerdict (ax ∷ bx ∷ []) ax InConflict × HasVerdict (ax �
     × ¬ (HasVerdict (ax ∷ bx ∷ []) ax Written) × ¬ (HasVerdict (ax ∷ []) ax InConflict)
 contested =
     let by_b : IsContested (ax ∷ bx ∷ []) ax = (bx, (1, omega arith, refl), sound _ _ refl refl, (_, refl, refl), λ same. grind arith) in
-    ((a_sound, by_b), (a_sound, alone ax), (a_sound, (λ on. bad_alone on.0 on.1 on.2)), (λ is. is.1 by_b), λ is. alone ax is.1)
+    ((a_sound, by_b), (a_sound, alone ax), (a_sound, (λ o. no_ref_names.2 (one o.1 o.2).source)), (λ is. is.1 by_b), λ is. alone ax is.1)
 
 -- an invalid side comes before all other verdicts
 pub left_out : HasVerdict (bx ∷ []) from_bad (LeftOut invalid.Source) × ¬ (HasVerdict (bx ∷ []) from_bad InConflict) × ¬ (HasSecondVerdict (bx ∷ []) [] from_bad Overruled)
@@ -107,7 +104,7 @@ overruled =
 
 -- but a mapping that is left out doesn't win
 pub not_overruled : HasSecondVerdict (from_bad ∷ []) (bx ∷ []) bx Written × ¬ (HasSecondVerdict (from_bad ∷ []) (bx ∷ []) bx Overruled)
-not_overruled = ((sound _ _ refl refl, (λ on. bad_alone on.0 on.1 on.2), alone bx), λ is. bad_alone is.1.0 is.1.1 is.1.2)
+not_overruled = ((sound _ _ refl refl, (λ o. no_ref_names.2 (one o.1 o.2).source), alone bx), λ i. no_ref_names.2 (one i.1.1 i.1.2).source)
 
 -- without a destination, or where the call makes the pair already, nothing is planned besides
 pub nothing_besides : (specs : List Asked) (indexes : List ℕ) (p : Planned)

@@ -1,8 +1,7 @@
 -- Examples of the definition of stale refs: what keeps a local ref from being stale, one that is, and one that a spec keeps.
-use Rattle.gix_refspec_plan.proofs.Common.{Matches, ref_named, AreKeptForward, HasKind, ◌++◌, ◌∙◌, ap, append_cancel_left, ◌≡◌, inl, inr, ℕ, List, [], ◌∷◌, Option, None, Some, codes, refl, sym, subst}
-use Rattle.gix_refspec_plan.proofs.Common.{arith, rules, AllZip, Contains, same_Some, star, Lacks, Negative, Normal, Reading, fetched, full_name, partial, pattern, Fits, the_name, split_once}
-use Rattle.gix_refspec_plan.proofs.Common.{lacks_no_pattern, Lacks-here, Takes, IsExcludedBy, one_forward, CanWrite, CanWriteFrom, CanWriteObject, IsCompleted, IsFetched, IsKeptBy, IsStale}
-use Rattle.gix_refspec_plan.proofs.Common.{IsWritable}
+use Rattle.gix_refspec_plan.proofs.Common.{Matches, ref_named, AreKeptForward, HasKind, ◌++◌, ◌∙◌, ap, append_cancel_left, ◌≡◌, inl, inr, ℕ, List, [], ◌∷◌, Option, None, Some, codes, refl, sym, subst, arith}
+use Rattle.gix_refspec_plan.proofs.Common.{rules, Contains, same_Some, star, Lacks, Negative, Normal, Reading, fetched, full_name, partial, pattern, Fits, the_name, split_once, lacks_no_pattern, Lacks-here}
+use Rattle.gix_refspec_plan.proofs.Common.{Takes, IsExcludedBy, one_forward, CanWrite, CanWriteFrom, IsCompleted, IsFetched, IsKeptBy, IsStale, IsWritable}
 use Rattle.gix_refspec_plan.specs.Matching.Stale.{AreStale}
 use Rattle.gix_refspec_text.{proofs.lemmas.hits.CandidateLemmas.first_of_one, proofs.lemmas.hits.CandidateLemmas.taken_by_first, proofs.facts.ObjectIdFacts.empty_blob, proofs.facts.FitFacts.blob_kind}
 use Rattle.gix_refspec_text.{proofs.facts.FitFacts.short_no_id, specs.Matching.Side.Excludes, specs.Matching.Side.by_pattern}
@@ -29,9 +28,6 @@ from_tag =
         record { kind = partial (codes "main"); of = short_kind; is = (refl, record { earlier = _ ∷ _ ∷ []; later = _; here = refl }) } in
     search (rules, writes_x (codes "main"), matches)
 
-from_blob : CanWriteObject (to_x (codes "e69de29bb2d1d6434b8b29ae775ad8c2e48c5391")) x
-from_blob = record { writes = writes_x _; source = _; is = refl; bytes = empty_blob; asks = blob_kind }
-
 by_no_tag : IsExcludedBy (codes "refs/tags/main") no_tag
 by_no_tag = excluded_by (the_name (search (rules, arith)) refl)
 
@@ -39,9 +35,9 @@ by_no_tag = excluded_by (the_name (search (rules, arith)) refl)
 pub not_stale : ¬ (IsStale (to_x (codes "main") ∷ []) (named (codes "refs/tags/main") ∷ []) x) × ¬ (IsStale (to_x (codes "main") ∷ no_tag ∷ []) [] x)
     × ¬ (IsStale (to_x (codes "e69de29bb2d1d6434b8b29ae775ad8c2e48c5391") ∷ []) [] x)
 not_stale = (
-  (λ stale. stale.absent _ (_, (0, omega arith, refl), from_tag) (inl refl)),
-  (λ stale. stale.included _ (_, (0, omega arith, refl), from_tag) (inr (inl by_no_tag))),
-  (λ stale. stale.no_object (_, (0, omega arith, refl), from_blob)),
+  (λ s. s.absent _ (_, (0, omega arith, refl), from_tag) (inl refl)),
+  (λ s. s.included _ (_, (0, omega arith, refl), from_tag) (inr (inl by_no_tag))),
+  λ s. s.no_object (_, (0, omega arith, refl), record { writes = writes_x _; source = _; is = refl; bytes = empty_blob; asks = blob_kind }),
 )
 
 -- what the pattern could write, and the one ref from which it could write the branch `dev` of the remote
@@ -103,14 +99,11 @@ completed = fetched Normal (codes "main") (Some x) ∷ no_tag ∷ []
 abbrev x_hit : Hit
 x_hit = record { spec = 0; item = 0; near = codes "refs/heads/main"; far = Some x }
 
-are_completed : AllZip IsCompleted specs completed
-are_completed = search (rules, arith)
-
 x_ends : AreForwardEnds (fetched Normal (codes "main") (Some x)) (record { near = codes "main"; far = Some x })
 x_ends = record { positive = tt; near = refl; far = refl; no_object = λ bytes kind. short_no_id bytes kind.2 }
 
-main_kept : AreKeptForward completed (main_ref ∷ []) (forward_of x_hit ∷ [])
-main_kept = record {
+made : AreKeptForward completed (main_ref ∷ []) (forward_of x_hit ∷ [])
+made = record {
   all = forward_of x_hit ∷ [];
   forward = forward_beside _ _ (x_hit ∷ []) x_ends (refl, tt) (Some _, [],
     record { word = None; takes = takes; far = (full_name x, x_full, refl); near = refl; spec = refl; item = refl }, refl, refl);
@@ -129,7 +122,8 @@ main_kept = record {
 
 main_fetched : IsFetched specs (main_ref ∷ []) x
 main_fetched =
-    record { completed = _; are = are_completed; mapped = _; kept = main_kept; mapping = _; has = (0, omega arith, refl); destination = refl }
+    let there : Contains (forward_of x_hit ∷ []) (forward_of x_hit) = (0, omega arith, refl) in
+    record { completed = _; are = search (rules, arith); mapped = _; kept = made; mapping = _; has = there; destination = refl }
 
 -- the spec that excludes the tag `main` keeps refs/heads/x where the remote has no `main`, but not where a fetch writes it from the branch
 pub kept : IsKeptBy specs [] x 1 × ((k : ℕ) → ¬ (IsKeptBy specs (main_ref ∷ []) x k))
@@ -140,7 +134,7 @@ kept = (
   where
     none : ¬ (IsFetched specs [] x)
     none f =
-        let same : f.completed ≡ completed = completed_once specs f.completed completed f.are are_completed in
-        let kept_none : AreKeptForward completed [] [] = record { all = []; forward = forward_beside _ [] [] x_ends (refl, tt) refl; is = refl } in
-        let empty : f.mapped ≡ [] = one_forward completed [] f.mapped [] (rw same at f.kept) kept_none in
+        let same : f.completed ≡ completed = completed_once specs f.completed completed f.are (search (rules, arith)) in
+        let k : AreKeptForward completed [] [] = record { all = []; forward = forward_beside _ [] [] x_ends (refl, tt) refl; is = refl } in
+        let empty : f.mapped ≡ [] = one_forward completed [] f.mapped [] (rw same at f.kept) k in
         nothing_in f.mapped f.mapping empty f.has

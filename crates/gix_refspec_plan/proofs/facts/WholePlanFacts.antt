@@ -1,12 +1,11 @@
 -- Examples of the definitions on plans over the branches of a remote: what is tracked besides, and a whole plan.
-use Rattle.gix_refspec_plan.proofs.Common.{HasPair, HasOrigin, IsTakenOver, rules, inl, inr, ℕ, ◌+◌, false, List, [], ◌∷◌, ◌++◌, None, Some, codes, map, refl, sym, ap, arith, AllByRecursion, AllZip}
-use Rattle.gix_refspec_plan.proofs.Common.{append-nil, same_Some, Forced, Negative, Reading, fetched, IsSplit, pattern, the_name, lacks_no_pattern, Ref, Takes, IsMadeFrom, Mapped, AreAsked, AreMapped}
-use Rattle.gix_refspec_plan.proofs.Common.{AreUncovered, Asked, IsCompleted, IsNegativeReading, IsPlan, IsTakenAt, IsTracked, Planned, Wish, Origin, Configured, Given, Written}
+use Rattle.gix_refspec_plan.proofs.Common.{HasPair, HasOrigin, IsTakenOver, rules, inl, inr, ℕ, ◌+◌, false, List, [], ◌∷◌, ◌++◌, None, Some, codes, map, refl, sym, ap, arith, AllByRecursion, AllZip, append-nil}
+use Rattle.gix_refspec_plan.proofs.Common.{same_Some, Forced, Negative, Reading, fetched, IsSplit, pattern, the_name, lacks_no_pattern, Ref, Takes, IsMadeFrom, Mapped, AreAsked, AreMapped, AreUncovered, Asked}
+use Rattle.gix_refspec_plan.proofs.Common.{IsCompleted, IsNegativeReading, IsPlan, IsTakenAt, IsTracked, Planned, Wish, Origin, Configured, Given, Written}
 use Rattle.gix_refspec_text.proofs.facts.FitFacts.{dev_ref, excludes_dev, excludes_no_main, split_at_end}
-use Rattle.gix_refspec_plan.proofs.facts.ExampleLemmas.{IsKept, AreForwardEnds, Ends, Hit, IsHit, alone, every, excluded_by, forward_beside, forward_of, heads_split, listed, merged, main_ref, mapping}
-use Rattle.gix_refspec_plan.proofs.facts.ExampleLemmas.{named, no_dev, none_excluded, not_excluded, one_in, one_merge, origin_split, ref_names, sound, update, whole_pattern}
+use Rattle.gix_refspec_plan.proofs.facts.ExampleLemmas.{IsKept, AreForwardEnds, Ends, Hit, IsHit, alone, every, excluded_by, forward_beside, forward_of, heads_split, listed, merged, main_ref, mapping, named}
+use Rattle.gix_refspec_plan.proofs.facts.ExampleLemmas.{no_dev, none_excluded, not_excluded, one_in, one_merge, origin_split, ref_names, sound, update, whole_pattern}
 
--- the folders of tracking refs, and another
 abbrev origin_folder : List ℕ
 origin_folder = codes "refs/remotes/origin/"
 
@@ -36,26 +35,26 @@ module _ (far : List ℕ) where
 
 module _ (far : List ℕ) (split : IsSplit far [] (far ++ codes "*")) where
   -- the spec takes each branch; beside negative specs the mappings of these are all, of which some are kept
-  taken : (items : List Ref) (j : ℕ) (names : List (List ℕ)) → IsMadeFrom (IsHit (Takes items) (ends far) 0) j (map branch names) (hits far j names)
-  taken items j [] = refl
-  taken items j (x ∷ xs) =
-      let hit = taken items (j + 1) xs in
-      (Some _, _, record { word = Some x; takes = takes; far = (pattern far [], split, refl); near = refl; spec = refl; item = refl }, hit, refl)
+  hit : (l : List Ref) (j : ℕ) (names : List (List ℕ)) → IsMadeFrom (IsHit (Takes l) (ends far) 0) j (map branch names) (hits far j names)
+  hit l j [] = refl
+  hit l j (x ∷ xs) =
+      let hit = hit l (j + 1) xs in
+      (Some _, _, record { word = Some x; takes = it; far = (pattern far [], split, refl); near = refl; spec = refl; item = refl }, hit, refl)
     where
-      takes : Takes items (codes "refs/heads/*") (branch x) (Some x)
-      takes = record {
+      it : Takes l (codes "refs/heads/*") (branch x) (Some x)
+      it = record {
         matches = record { kind = pattern (codes "refs/heads/") []; of = heads_split; is = ap (λ (y : List ℕ). codes "refs/heads/" ++ y) (sym (append-nil x)) };
         first = λ n kind. absurd (lacks_no_pattern (codes "refs/heads/*") (codes "refs/heads/") [] kind.1 heads_split);
       }
 
-  mapped : (names : List (List ℕ)) (o : Origin) (asked : List Asked) (kept : List Mapped)
-      → AllZip IsCompleted (map (λ a. a.reading) asked) (map (λ a. a.reading) asked) → AllByRecursion IsNegativeReading (map (λ a. a.reading) asked)
-      → IsKept (to_below far ∷ map (λ a. a.reading) asked) (map forward_of (hits far 0 names)) kept
-      → AreMapped (listed (to_below far) o ∷ asked) (map branch names) kept
-  mapped names o asked kept done negative is = record {
-    completed = to_below far ∷ map (λ a. a.reading) asked;
+  mapped : (names : List (List ℕ)) (o : Origin) (l : List Asked) (kept : List Mapped)
+      → AllZip IsCompleted (map (λ a. a.reading) l) (map (λ a. a.reading) l) → AllByRecursion IsNegativeReading (map (λ a. a.reading) l)
+      → IsKept (to_below far ∷ map (λ a. a.reading) l) (map forward_of (hits far 0 names)) kept
+      → AreMapped (listed (to_below far) o ∷ l) (map branch names) kept
+  mapped names o l kept done negative is = record {
+    completed = to_below far ∷ map (λ a. a.reading) l;
     are = (whole_pattern far, done);
-    kept = record { all = _; forward = forward_beside _ _ (hits far 0 names) near negative (taken (map branch names) 0 names); is = is };
+    kept = record { all = _; forward = forward_beside _ _ (hits far 0 names) near negative (hit (map branch names) 0 names); is = is };
   }
     where
       near : AreForwardEnds (to_below far) (ends far)
@@ -66,8 +65,8 @@ pub excluded_uncovered : AreUncovered (record { given = []; configured = every �
 excluded_uncovered =
     inr (listed every (Configured 0) ∷ listed no_main (Configured 1) ∷ [], [],
     (Some _, _, (refl, tt), (Some _, [], (refl, tt), refl, refl), refl),
-    mapped origin_folder origin_split (codes "main" ∷ []) (Configured 0) (listed no_main (Configured 1) ∷ []) []
-    (search rules, tt) (refl, tt) (None, [], (λ m is. is.1.included (inr (inl (excluded_by (the_name (search (rules, arith)) refl))))), refl, refl),
+    mapped origin_folder origin_split (codes "main" ∷ []) (Configured 0) (listed no_main (Configured 1) ∷ []) [] (search rules, tt)
+    (refl, tt) (None, [], (λ m is. is.1.included (inr (inl (excluded_by (the_name (search (rules, arith)) refl))))), refl, refl),
     one_merge _ [] ref_names.0 (λ covers. grind arith))
 
 -- a fetch of the branches without `dev-*`, besides which all are configured
@@ -131,8 +130,8 @@ fetched_first = record {
   are_asked = AreAsked.by_call _ (λ none. cc) (Some _, _, (refl, tt), (Some _, [], (refl, tt), refl, refl), refl) refl;
   are_firsts = main_mapped x_folder (split_at_end x_folder refl) (Given 0) (Given 1);
   are_seconds = tracked;
-  are_before = (Some _, [],
-      record { source = refl; item = refl; destination = refl; origin = (_, refl, refl); verdict = (sound _ _ refl refl, alone _) }, refl, refl);
+  are_before = (Some _, [], record { source = refl; item = refl; destination = refl; origin = (_, refl, refl);
+      verdict = (sound _ _ refl refl, alone _) }, refl, refl);
   are_behind =
       let new : ¬ (HasPair (main_below x_folder ∷ []) (main_below origin_folder)) = λ pair. grind arith in
       let free : ¬ (IsTakenOver (main_below x_folder ∷ []) (main_below origin_folder)) = λ (n, has, is, share). grind (arith, one_in) in
