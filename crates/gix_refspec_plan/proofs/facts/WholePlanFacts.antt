@@ -38,8 +38,8 @@ module _ (far : List ℕ) (split : IsSplit far [] (far ++ codes "*")) where
   hit : (l : List Ref) (j : ℕ) (names : List (List ℕ)) → IsMadeFrom (IsHit (Takes l) (ends far) 0) j (map branch names) (hits far j names)
   hit l j [] = refl
   hit l j (x ∷ xs) =
-      let hit = hit l (j + 1) xs in
-      (Some _, _, record { word = Some x; takes = it; far = (pattern far [], split, refl); near = refl; spec = refl; item = refl }, hit, refl)
+      let m = hit l (j + 1) xs in
+      (Some _, _, record { word = Some x; takes = it; far = (pattern far [], split, refl); near = refl; spec = refl; item = refl }, m, refl)
     where
       it : Takes l (codes "refs/heads/*") (branch x) (Some x)
       it = record {
