@@ -1,6 +1,6 @@
 -- What the examples of plans cite: names passed on, data in few words, and proofs that hold for all examples of a kind.
 use Rattle.gix_refspec_plan.proofs.Common.{◌≡◌, inl, inr, ℕ, ◌+◌, false, List, [], ◌∷◌, ◌++◌, None, Some, codes, map, refl, sym, ◌∙◌, subst, arith, AllByRecursion, Contains, append-nil, same_Some, Origin}
-use Rattle.gix_refspec_plan.proofs.Common.{Verdict, CanBeWritten, HasStar, rules, Reading, Negative, IsPositive, fetched, fetched_alone, object, Ref, Takes, IsMadeFrom, Mapped, IsExcluded, IsExcludedBy}
+use Rattle.gix_refspec_plan.proofs.Common.{Verdict, CanBeWritten, HasStar, rules, Reading, Negative, IsPositive, fetched, fetched_alone, Ref, Takes, IsMadeFrom, Mapped, IsExcluded, IsExcludedBy}
 use Rattle.gix_refspec_plan.proofs.Common.{LacksSource, IsRefName, AreMerges, Asked, Covers, IsCompleted, IsContested, IsNegativeReading, IsSound, Planned, Merge}
 use Rattle.gix_refspec_text.{specs.Specs.Reading.Mode, specs.Matching.Side.Excludes, specs.Texts.Bytes.slash, proofs.lemmas.texts.TestedLemmas.IsName-tested, proofs.lemmas.texts.TestedLemmas.is_suspect}
 pub use Rattle.gix_refspec_text.proofs.facts.{ManualFacts.Lacks-tested, ManualFacts.named, FitFacts.every, FitFacts.heads_split, FitFacts.main_ref, FitFacts.no_dev, FitFacts.origin_split, FitFacts.short, FitFacts.short_kind}
