@@ -1,16 +1,16 @@
 -- The names that most files of proofs use.
 pub use Rattle.std.proofs.Common.{Bool, Bor, Global, IfSome, IsTrue, List, MatchBool, MatchOption, None, Option, Some, Vec, [], ap, append-nil, append_assoc, arith, codes, drop, drop_at, false}
 pub use Rattle.std.proofs.Common.{get_or, get_or-set_other, get_or-set_same, inl, inr, length, length-append, length-drop, map, map-id, min, nat_eq, not, option_map, option_to_list, refl, rules, set}
-pub use Rattle.std.proofs.Common.{subst, suc, sym, take, take-append-drop, take-take, take_all, take_at, true, vec_len, zero, ℕ, ⊎_elim, ◌*◌, ◌++◌, ◌+◌, ◌-◌, ◌<◌, ◌==◌, ◌||◌, ◌↔◌, ◌∙◌, ◌∷◌, ◌≡◌, ◌≢◌}
-pub use Rattle.std.proofs.Common.{◌≤◌, ◌⊎◌}
+pub use Rattle.std.proofs.Common.{subst, suc, sym, take, take-append-drop, take-take, take_all, take_at, true, vec_len, zero, ℕ, ◌*◌, ◌++◌, ◌+◌, ◌-◌, ◌<◌, ◌==◌, ◌||◌, ◌↔◌, ◌∙◌, ◌∷◌, ◌≡◌, ◌≢◌}
+pub use Rattle.std.proofs.Common.{add-one, ◌≤◌, ◌⊎◌}
 pub use Rattle.std.specs.Cmp.Lexicographic.{pointwise, pointwise_decides}
 pub use Rattle.std.specs.List.{AllByRecursion, AllZip, Any, Contains, ends_with, list_any, slice_get}
 pub use Rattle.std.specs.Option.{is_some}
-pub use Rattle.std.proofs.lemmas.Bool.{MatchBool-at_false, MatchBool-at_true, cases_eq, cases_lt, eqb-false, eqb-true, false≢true, not-true, or_parts, true≢false}
+pub use Rattle.std.proofs.lemmas.Bool.{MatchBool-at_false, MatchBool-at_true, cases_eq, cases_lt, eqb-false, eqb-true, false≢true, not-true, or_parts}
 pub use Rattle.std.proofs.lemmas.Bool.Decides.{Decides-eqb}
 pub use Rattle.std.proofs.lemmas.Iterator.Adapters.{YieldsList-from_vec}
 pub use Rattle.std.proofs.lemmas.Iterator.Consumers.{YieldsList-end, YieldsList-turn}
-pub use Rattle.std.proofs.lemmas.List.{append_cancel_left, append_cancel_right, drop-append-le, ext_get_or, get_or-append-add, get_or-drop, get_or-map, get_or-take, get_or_default, length-map}
+pub use Rattle.std.proofs.lemmas.List.{append_cancel_left, append_cancel_right, ext_get_or, get_or-drop, get_or-map, get_or-take, get_or_default, length-map}
 pub use Rattle.std.proofs.lemmas.List.{length-take-le, map-append, nil_from_length, take-append-le, take_more}
 pub use Rattle.std.proofs.lemmas.List.Elements.{Contains-append_left, Contains-append_right, Contains-get_or, Contains-push, Contains-push_cases, recursion_from_All}
 pub use Rattle.std.proofs.lemmas.Option.{get_or_from_slice_get, same_Some, slice_get-get_or, slice_get-map, slice_get_read, slice_get_within}
@@ -24,15 +24,15 @@ pub use Rattle.gix_refspec_text.specs.Matching.Side.{Excludes, Fits, HasKind, Is
 pub use Rattle.gix_refspec_text.specs.Private.Scan.{Added, AddsFault, LeavesFault}
 pub use Rattle.gix_refspec_text.specs.Specs.Grammar.{IsAccepted, IsPositive, fetched}
 pub use Rattle.gix_refspec_text.specs.Specs.Reading.{Forced, Normal, Negative, Reading}
-pub use Rattle.gix_refspec_text.specs.Texts.Bytes.{brace, dot, head, slash, star}
+pub use Rattle.gix_refspec_text.specs.Texts.Bytes.{brace, head, slash, star}
 pub use Rattle.gix_refspec_text.specs.Texts.Name.{HasOneStar, HasStar, IsName, IsSplit, is_refused_byte}
 pub use Rattle.gix_refspec_text.specs.Texts.Words.{BeginsWith, EndsWith, Lacks}
 pub use Rattle.gix_refspec_text.specs.Views.Spec.{reading_of}
 pub use Rattle.gix_refspec_text.specs.declared.name.Error.{Error}
-pub use Rattle.gix_refspec_text.specs.declared.name.Error.TheVariants.{Asterisk, Empty, EmptyComponent, EndsWithDot, InvalidByte, LockSuffix, ReflogPortion, RepeatedDot, StartsWithDot}
+pub use Rattle.gix_refspec_text.specs.declared.name.Error.TheVariants.{Asterisk, EmptyComponent, EndsWithDot, InvalidByte, LockSuffix, ReflogPortion, RepeatedDot, StartsWithDot}
 pub use Rattle.gix_refspec_text.specs.declared.spec.RefSpecRef.{RefSpecRef}
 pub use Rattle.gix_refspec_text.proofs.facts.ManualFacts.{Lacks-tested}
-pub use Rattle.gix_refspec_text.proofs.facts.FitFacts.{of_element}
+pub use Rattle.gix_refspec_text.proofs.facts.FitFacts.{every, heads_split, of_element, origin_split, other_byte, other_first, short_kind, short_no_id, split_at_end}
 pub use Rattle.gix_refspec_text.proofs.lemmas.hits.MatchLemmas.{lacks_no_pattern, one_word, split_once}
 pub use Rattle.gix_refspec_text.proofs.lemmas.lists.AllLemmas.{all_join, all_left, all_right, all_weaker}
 pub use Rattle.gix_refspec_text.proofs.lemmas.lists.LacksLemmas.{Lacks-here, first_once}
@@ -52,7 +52,8 @@ pub use Rattle.gix_refspec.specs.Laws.Items.{HaveSameNames}
 pub use Rattle.gix_refspec.specs.Laws.Matching.{IsPaired, MakesForward}
 pub use Rattle.gix_refspec.specs.Laws.Plans.{LacksIn, SidesLack}
 pub use Rattle.gix_refspec.specs.Matching.RefNames.{IsRefName, IsValidSource}
-pub use Rattle.gix_refspec.proofs.lemmas.keep.FilterLemmas.{mapped_there}
+pub use Rattle.gix_refspec.proofs.lemmas.MadeLemmas.{all_at, each_made, map_each}
+pub use Rattle.gix_refspec.proofs.lemmas.keep.FilterLemmas.{item_named, mapped_there}
 pub use Rattle.gix_refspec.proofs.lemmas.keep.NameOnlyLemmas.{has_also, matches_by_name}
 pub use Rattle.gix_refspec.proofs.lemmas.keep.PairMadeLemmas.{kept_exactly, one_name}
 pub use Rattle.gix_refspec.proofs.lemmas.prefixes.CoverLemmas.{some_at}
@@ -75,7 +76,7 @@ pub use Rattle.gix_refspec_lint.specs.Matching.Lint.{IsIdleExclusion, Maps, Maps
 pub use Rattle.gix_refspec_lint.specs.Private.Borders.{AreBorders, AreLongestTo, IsBorder, IsBorderAt, IsLongestAt}
 pub use Rattle.gix_refspec_lint.specs.Private.Idles.{AreAbsent, AreAllowed, AreFreeing, ArePreferred, AreTriedBefore, ExcludesFrom, ExcludesSome, Explains, HasPlainSource, HasSourcePattern, IsAtWork}
 pub use Rattle.gix_refspec_lint.specs.Private.Idles.{IsReasonOf, IsShown, IsWhy, MakesSoundly, ShareSources, refs_with}
-pub use Rattle.gix_refspec_lint.specs.Private.Lints.{AreApart, AreCommon, HasPattern, HasSourcesOf, HaveCommon, HaveParts, IsDeciding, IsFound, IsFoundAt, IsGroupOf, IsLongerPrefix, IsLongerSuffix}
+pub use Rattle.gix_refspec_lint.specs.Private.Lints.{AreApart, AreCommon, HasPattern, HaveCommon, HaveParts, IsDeciding, IsFound, IsFoundAt, IsGroupOf, IsLongerPrefix, IsLongerSuffix}
 pub use Rattle.gix_refspec_lint.specs.Private.Lints.{IsMost, NoneAt, endings, pair_of, parts, words_with}
 pub use Rattle.gix_refspec_lint.specs.Private.Overlaps.{AreOverlaps, IsOverlap, power}
 pub use Rattle.gix_refspec_lint.specs.Private.Runs.{ArePaired, Fails, IsExcludedAt, IsFirstOf, IsNextOf, IsNotFetched, IsRun, IsUnsound}

@@ -1,24 +1,16 @@
 -- Reasons for which names come to nothing, where a word repeats in the names: they hold with the word once more.
-use Rattle.gix_refspec_lint.proofs.Common.{◌≡◌, ◌≢◌, ℕ, zero, suc, ◌+◌, ◌*◌, ◌≤◌, List, [], ◌++◌, Option, Some, length, refl, sym, ap, ◌∙◌, subst, arith, nil_from_length, same_Some, Fits, Excludes}
-use Rattle.gix_refspec_lint.proofs.Common.{the_name, by_pattern, Reading, IsSplit, one_word, split_once, lacks_no_pattern, IsExcludedBy, IsRefName, CanBeWritten, power, ArePaired, IsExcludedAt, Fails}
-use Rattle.gix_refspec_lint.proofs.Common.{IsUnsound, First, Second, Why, Unknown, Unwritable, Invalid, Excluded, Same, append-nil, None, IfSome, MatchOption, bstring_bytes, BString, HasParts, map}
-use Rattle.gix_refspec_lint.proofs.Common.{slice_get, Ref, pattern, IsAccepted, reading_of, IsFilled, Source, name, IsSourceExcluded, MakesForward, IsValidSource, ExcludesFrom, IsGroupOf, NoneAt}
-use Rattle.gix_refspec_lint.proofs.Common.{IsNotFetched, Group, Fetches}
-use Rattle.std.specs.Borrow.{Bor}
+use Rattle.gix_refspec_lint.proofs.Common.{Bor, ◌≡◌, ◌≢◌, ℕ, zero, suc, ◌+◌, ◌≤◌, List, [], ◌++◌, Option, Some, length, refl, sym, ap, ◌∙◌, subst, arith, nil_from_length, same_Some, Fits, Excludes}
+use Rattle.gix_refspec_lint.proofs.Common.{the_name, by_pattern, Reading, one_word, split_once, lacks_no_pattern, IsRefName, CanBeWritten, power, ArePaired, IsExcludedAt, Fails, IsUnsound, First}
+use Rattle.gix_refspec_lint.proofs.Common.{Second, Why, Unknown, Unwritable, Invalid, Excluded, Same, append-nil, None, IfSome, MatchOption, bstring_bytes, BString, HasParts, map, slice_get, Ref}
+use Rattle.gix_refspec_lint.proofs.Common.{pattern, IsAccepted, reading_of, IsFilled, Source, name, IsSourceExcluded, MakesForward, IsValidSource, ExcludesFrom, IsGroupOf, NoneAt, IsNotFetched, Group}
+use Rattle.gix_refspec_lint.proofs.Common.{Fetches}
 use Rattle.gix_refspec_lint.proofs.lemmas.RepeatLemmas.{power_length, power_one, words_repeat, same_repeats, differ_again, names_again, written_again}
-use Rattle.gix_refspec_lint.proofs.lemmas.ByteLemmas.{between}
+use Rattle.gix_refspec_lint.proofs.lemmas.WordLemmas.{between}
 use Rattle.gix_refspec_lint.proofs.lemmas.SourceLemmas.{pattern_there}
 use Rattle.gix_refspec_lint.proofs.lemmas.PatternLemmas.{destination_once, pattern_spec, spec_made}
 use Rattle.gix_refspec_lint.proofs.lemmas.IndexLemmas.{excluded_at, accepted_of, of_maps}
 
 -- ---- paired names
-
--- two texts with one star that are equal are split alike, and a name that fits one of them fits the other
-fits_same : (side : Option (List ℕ)) (one other : List ℕ) (a b p q : List ℕ) → side ≡ Some one → side ≡ Some other → IsSplit a b one → IsSplit p q other → (n w : List ℕ) → Fits p q n w → Fits a b n w
-fits_same side one other a b p q is also split parts n w fits =
-    let same : one ≡ other = same_Some _ _ (sym is ∙ also) in
-    let ends = split_once other a b p q (subst (IsSplit a b) same split) parts in
-    fits ∙ ap (λ z. z ++ (w ++ q)) (sym ends.0) ∙ ap (λ z. a ++ (w ++ z)) (sym ends.1)
 
 -- with its sides the other way round a reading pairs names the other way round
 abbrev swapped : Reading → Reading
@@ -40,7 +32,9 @@ swap r n d p = record {
 -- the patterns of one pair are those of each
 makes_too : (r : Reading) (n d m e : List ℕ) (one : ArePaired r n d) (other : ArePaired r m e) → Fits one.before one.after e other.word
 makes_too r n d m e one other =
-    fits_same r.destination one.destination.text other.destination.text one.before one.after other.before other.after one.destination.has other.destination.has one.destination.split other.destination.split e other.word other.makes
+    let same : other.destination.text ≡ one.destination.text = same_Some _ _ (sym other.destination.has ∙ one.destination.has) in
+    let ends = split_once one.destination.text other.before other.after one.before one.after (rw same at other.destination.split) one.destination.split in
+    rw (ends.0, ends.1) at other.makes
 
 -- a destination is paired with one source only
 paired_once : (r : Reading) (n m d : List ℕ) → ArePaired r n d → ArePaired r m d → n ≡ m
@@ -59,7 +53,7 @@ pub record SourcesRepeat (r : Reading) (x v y : List ℕ) : Type 0 where
 -- where the destinations without the word and with it once are paired, they all are
 pub sources_repeat : (r : Reading) (x v y n0 n1 : List ℕ) → ArePaired r n0 (x ++ y) → ArePaired r n1 (x ++ (power v 1 ++ y)) → SourcesRepeat r x v y
 sources_repeat r x v y n0 n1 without once =
-    let all = words_repeat without.before without.after v x y without.word once.word without.makes (ap (λ z. x ++ z) (sym (power_one v y)) ∙ makes_too r n0 (x ++ y) n1 (x ++ (power v 1 ++ y)) without once) in
+    let all = words_repeat without.before without.after v x y without.word once.word without.makes (rw power_one at (makes_too r n0 (x ++ y) n1 (x ++ (power v 1 ++ y)) without once)) in
     record {
       front = without.prefix ++ all.front;
       word = all.word;
@@ -78,78 +72,45 @@ sources_repeat r x v y n0 n1 without once =
       };
     }
 
--- ---- excluded names
+-- ---- names in which a word repeats
 
 excludes_again : (text x v y : List ℕ) → v ≢ [] → Excludes text (x ++ y) → Excludes text (x ++ (v ++ y)) → (i : ℕ) → Excludes text (x ++ (power v i ++ y))
 excludes_again text x v y some (the_name lacks is) (the_name whole also) i = absurd (differ_again text v x y some (sym is) (sym also))
 excludes_again text x v y some (the_name lacks is) (by_pattern before after word split fits) i = absurd (lacks_no_pattern text before after lacks split)
 excludes_again text x v y some (by_pattern before after word split fits) (the_name lacks is) i = absurd (lacks_no_pattern text before after lacks split)
 excludes_again text x v y some (by_pattern a b word split fits) (by_pattern p q second parts also) i =
-    let ends = split_once text a b p q split parts in
-    let once : Fits a b (x ++ (v ++ y)) second = also ∙ ap (λ z. z ++ (second ++ q)) (sym ends.0) ∙ ap (λ z. a ++ (second ++ z)) (sym ends.1) in
-    let all = words_repeat a b v x y word second fits once in
+    let ends = split_once text p q a b parts split in
+    let all = words_repeat a b v x y word second fits (rw (ends.0, ends.1) at also) in
     by_pattern a b (all.front ++ (power all.word i ++ all.back)) split (all.each i)
 
 -- the spec that excludes a name without a word and with it once excludes it however often the word stands there
 pub excluded_again : (g : List Reading) (k : ℕ) (x v y : List ℕ) → IsExcludedAt g k (x ++ y) → IsExcludedAt g k (x ++ (v ++ y)) → v ≢ [] → (i : ℕ) → IsExcludedAt g k (x ++ (power v i ++ y))
 excluded_again g k x v y (r, at, by) (q, there, too) some i =
     let same : q ≡ r = same_Some _ _ (sym there ∙ at) in
-    let also : IsExcludedBy (x ++ (v ++ y)) r = subst (IsExcludedBy (x ++ (v ++ y))) same too in
-    let text : also.text ≡ by.text = same_Some _ _ (sym also.source ∙ by.source) in
-    let twice = subst (λ (t : List ℕ). Excludes t (x ++ (v ++ y))) text also.excludes in
-    (r, at, record { negative = by.negative; text = by.text; source = by.source; excludes = excludes_again by.text x v y some by.excludes twice i })
-
--- ---- a word of the same length
-
-as_long : (v w : List ℕ) (i : ℕ) → length w ≡ length v → 5 ≤ length (power v i) → 5 ≤ length (power w i)
-as_long v w i size long = subst (λ n. 5 ≤ n) (power_length v i ∙ ap (λ n. i * n) (sym size) ∙ sym (power_length w i)) long
+    let text : too.text ≡ by.text = same_Some _ _ (sym too.source ∙ ap (λ (s : Reading). s.source) same ∙ by.source) in
+    (r, at, record { negative = by.negative; text = by.text; source = by.source; excludes = excludes_again by.text x v y some by.excludes (subst (λ t. Excludes t (x ++ (v ++ y))) text too.excludes) i })
 
 -- so long is the word only if it is there
 is_there : (v : List ℕ) (i : ℕ) → 5 ≤ length (power v i) → 1 ≤ i
 is_there v zero long = absurd (omega (arith, long))
 is_there v (suc i) long = omega arith
 
--- ---- reasons
+-- where something holds once more of names in which a word so long repeats, it does of the sources of destinations in which one does
+sources_again : (r : Reading) (x v y : List ℕ) (i : ℕ) → v ≢ [] → 5 ≤ length (power v i) → (Bad : List ℕ → Type 0)
+    → ((x v y : List ℕ) → v ≢ [] → 5 ≤ length (power v i) → ((j : ℕ) → j ≤ i → Bad (x ++ (power v j ++ y))) → Bad (x ++ (power v (i + 1) ++ y)))
+    → ((j : ℕ) → j ≤ i → (n : List ℕ) × ArePaired r n (x ++ (power v j ++ y)) × Bad n) → (n : List ℕ) × ArePaired r n (x ++ (power v (i + 1) ++ y)) × Bad n
+sources_again r x v y i some long Bad step all =
+    let first = all 0 (omega arith) in
+    let second = all 1 (is_there v i long) in
+    let names = sources_repeat r x v y first.0 second.0 first.1 second.1 in (
+      names.front ++ (power names.word (i + 1) ++ names.back),
+      names.pairs (i + 1),
+      step names.front names.word names.back (λ none. some (nil_from_length v (sym names.size ∙ ap length none))) (rw (power_length names.word i, names.size, ← power_length v i) long)
+          (λ j below. let (n, paired, bad) = all j below in subst Bad (paired_once r n _ _ paired (names.pairs j)) bad),
+    )
 
-module _ (r : Reading) (x v y : List ℕ) (i : ℕ) (long : 5 ≤ length (power v i)) where
-  -- where the sources of the destinations up to the i-th are no ref names, that of the next is none
-  invalid_again : ((j : ℕ) → j ≤ i → (n : List ℕ) × ArePaired r n (x ++ (power v j ++ y)) × ¬ (IsRefName n)) → (n : List ℕ) × ArePaired r n (x ++ (power v (i + 1) ++ y)) × ¬ (IsRefName n)
-  invalid_again all =
-      let first = all 0 (omega arith) in
-      let second = all 1 (is_there v i long) in
-      let last = all i (omega arith) in
-      let names = sources_repeat r x v y first.0 second.0 first.1 second.1 in
-      let same = paired_once r last.0 (names.front ++ (power names.word i ++ names.back)) (x ++ (power v i ++ y)) last.1 (names.pairs i) in (
-        names.front ++ (power names.word (i + 1) ++ names.back),
-        names.pairs (i + 1),
-        names_again names.front names.word names.back i (as_long v names.word i names.size long) (subst (λ n. ¬ (IsRefName n)) same last.2),
-      )
-
-  -- and where one spec excludes them, it excludes that of the next
-  source_excluded_again : (g : List Reading) (k : ℕ) → v ≢ [] → ((j : ℕ) → j ≤ i → (n : List ℕ) × ArePaired r n (x ++ (power v j ++ y)) × IsExcludedAt g k n) → (n : List ℕ) × ArePaired r n (x ++ (power v (i + 1) ++ y)) × IsExcludedAt g k n
-  source_excluded_again g k some all =
-      let first = all 0 (omega arith) in
-      let second = all 1 (is_there v i long) in
-      let names = sources_repeat r x v y first.0 second.0 first.1 second.1 in
-      let without = paired_once r first.0 (names.front ++ names.back) (x ++ y) first.1 (names.pairs 0) in
-      let once = paired_once r second.0 (names.front ++ (power names.word 1 ++ names.back)) (x ++ (power v 1 ++ y)) second.1 (names.pairs 1) ∙ ap (λ z. names.front ++ z) (power_one names.word names.back) in (
-        names.front ++ (power names.word (i + 1) ++ names.back),
-        names.pairs (i + 1),
-        excluded_again g k names.front names.word names.back (subst (IsExcludedAt g k) without first.2) (subst (IsExcludedAt g k) once second.2) (λ none. some (nil_from_length v (sym names.size ∙ ap length none))) (i + 1),
-      )
-
-  -- where the destinations of the sources up to the i-th can't be written, that of the next can't
-  unwritable_again : ((j : ℕ) → j ≤ i → (d : List ℕ) × ArePaired r (x ++ (power v j ++ y)) d × ¬ (CanBeWritten (Some d))) → (d : List ℕ) × ArePaired r (x ++ (power v (i + 1) ++ y)) d × ¬ (CanBeWritten (Some d))
-  unwritable_again all =
-      let first = all 0 (omega arith) in
-      let second = all 1 (is_there v i long) in
-      let last = all i (omega arith) in
-      let names = sources_repeat (swapped r) x v y first.0 second.0 (swap r (x ++ y) first.0 first.1) (swap r (x ++ (power v 1 ++ y)) second.0 second.1) in
-      let same = paired_once (swapped r) last.0 (names.front ++ (power names.word i ++ names.back)) (x ++ (power v i ++ y)) (swap r (x ++ (power v i ++ y)) last.0 last.1) (names.pairs i) in (
-        names.front ++ (power names.word (i + 1) ++ names.back),
-        swap (swapped r) (names.front ++ (power names.word (i + 1) ++ names.back)) (x ++ (power v (i + 1) ++ y)) (names.pairs (i + 1)),
-        written_again names.front names.word names.back i (as_long v names.word i names.size long) (subst (λ d. ¬ (CanBeWritten (Some d))) same last.2),
-      )
+excluded_step : (g : List Reading) (k i : ℕ) (x v y : List ℕ) → v ≢ [] → 5 ≤ length (power v i) → ((j : ℕ) → j ≤ i → IsExcludedAt g k (x ++ (power v j ++ y))) → IsExcludedAt g k (x ++ (power v (i + 1) ++ y))
+excluded_step g k i x v y some long all = excluded_again g k x v y (all 0 (omega arith)) (rw power_one at (all 1 (is_there v i long))) some (i + 1)
 
 -- where two readings have one source for the destinations without the word and with it once, they have one for each
 same_again : (one other : Reading) (x v y : List ℕ) → (n : List ℕ) × ArePaired one n (x ++ y) × ArePaired other n (x ++ y) → (n : List ℕ) × ArePaired one n (x ++ (power v 1 ++ y)) × ArePaired other n (x ++ (power v 1 ++ y))
@@ -168,17 +129,20 @@ pub fails_again : (g : List Reading) (one other : Reading) (why : Why) (x v y : 
     → ((j : ℕ) → j ≤ i → Fails g one other why (x ++ (power v j ++ y))) → Fails g one other why (x ++ (power v (i + 1) ++ y))
 fails_again g one other Unknown x v y i known some long all = absurd (known refl)
 fails_again g one other Unwritable x v y i known some long all = written_again x v y i long (all i (omega arith))
-fails_again g one other (Invalid First) x v y i known some long all = invalid_again one x v y i long all
-fails_again g one other (Invalid Second) x v y i known some long all = invalid_again other x v y i long all
-fails_again g one other (Excluded First k) x v y i known some long all = source_excluded_again one x v y i long g k some all
-fails_again g one other (Excluded Second k) x v y i known some long all = source_excluded_again other x v y i long g k some all
+fails_again g one other (Invalid First) x v y i known some long all = sources_again one x v y i some long (λ n. ¬ (IsRefName n)) (λ x v y some long bad. names_again x v y i long (bad i (omega arith))) all
+fails_again g one other (Invalid Second) x v y i known some long all = sources_again other x v y i some long (λ n. ¬ (IsRefName n)) (λ x v y some long bad. names_again x v y i long (bad i (omega arith))) all
+fails_again g one other (Excluded First k) x v y i known some long all = sources_again one x v y i some long (IsExcludedAt g k) (excluded_step g k i) all
+fails_again g one other (Excluded Second k) x v y i known some long all = sources_again other x v y i some long (IsExcludedAt g k) (excluded_step g k i) all
 fails_again g one other Same x v y i known some long all = same_again one other x v y (all 0 (omega arith)) (all 1 (is_there v i long)) (i + 1)
 
 -- and so does one for which a spec doesn't map the sources soundly
 pub unsound_again : (r : Reading) (why : Why) (x v y : List ℕ) (i : ℕ) → why ≢ Unknown → v ≢ [] → 5 ≤ length (power v i)
     → ((j : ℕ) → j ≤ i → IsUnsound r why (x ++ (power v j ++ y))) → IsUnsound r why (x ++ (power v (i + 1) ++ y))
 unsound_again r Unknown x v y i known some long all = absurd (known refl)
-unsound_again r Unwritable x v y i known some long all = unwritable_again r x v y i long all
+unsound_again r Unwritable x v y i known some long all =
+    let (d, paired, bad) = sources_again (swapped r) x v y i some long (λ d. ¬ (CanBeWritten (Some d))) (λ x v y some long bad. written_again x v y i long (bad i (omega arith)))
+    (λ j below. let (d, one, bad) = all j below in (d, swap r _ d one, bad)) in
+    (d, swap (swapped r) d _ paired, bad)
 unsound_again r (Invalid First) x v y i known some long all = names_again x v y i long (all i (omega arith))
 unsound_again r _ x v y i known some long all = absurd (all 0 (omega arith))
 

@@ -1,14 +1,14 @@
 -- Whether two specs conflict over the refs of two sources, by what their completed readings make of items with these names.
-use Rattle.gix_refspec_lint.proofs.Common.{◌≡◌, ◌≢◌, ℕ, List, ◌++◌, Option, Some, map, sym, ap, ◌∙◌, AllZip, slice_get, map-append, Ref, Reading, Source, name, id, IsSourceExcluded, HaveSameNames}
-use Rattle.gix_refspec_lint.proofs.Common.{MakesForward, IsValidSource, has_also, CanBeWritten, IsCompleted, ConflictOver, refs_of, inl, inr, ◌+◌, ◌<◌, [], ◌∷◌, None, get_or, length, take, refl}
-use Rattle.gix_refspec_lint.proofs.Common.{subst, Contains, take_more, star, Lacks, reading_of, RefSpecRef, sides_agree, HasParts, zip_at, zip_more, Example, IsExample, AreApart, AreCommon}
-use Rattle.gix_refspec_lint.proofs.Common.{HasPattern, HaveCommon, HaveParts, IsFound, IsFoundAt, IsGroupOf, Group, Common, IsAccepted, ◌≤◌, append-nil, option_to_list, arith, AllByRecursion}
-use Rattle.gix_refspec_lint.proofs.Common.{length-map, length-take-le, IsJoinedFrom, IsMadeFrom, MakesOf, some_element, joined_next, made_next, zip_long, NoneAt, MatchOption, drop, option_map}
-use Rattle.gix_refspec_lint.proofs.Common.{IsDeciding, words_with, IsOverlap, example_of, of_element, Fetches}
-use Rattle.std.specs.Borrow.{Bor}
+use Rattle.gix_refspec_lint.proofs.Common.{IsSplit, ◌⊎◌, Bor, ◌≡◌, ◌≢◌, ℕ, List, ◌++◌, Option, Some, map, sym, ap, ◌∙◌, AllZip, slice_get, map-append, Ref, Reading, Source, name, id, IsSourceExcluded}
+use Rattle.gix_refspec_lint.proofs.Common.{HaveSameNames, MakesForward, IsValidSource, has_also, CanBeWritten, IsCompleted, ConflictOver, refs_of, inl, inr, ◌+◌, ◌<◌, [], ◌∷◌, None, get_or, length}
+use Rattle.gix_refspec_lint.proofs.Common.{take, refl, subst, Contains, take_more, star, Lacks, reading_of, RefSpecRef, sides_agree, HasParts, zip_at, zip_more, Example, IsExample, AreApart}
+use Rattle.gix_refspec_lint.proofs.Common.{AreCommon, HasPattern, HaveCommon, HaveParts, IsFound, IsFoundAt, IsGroupOf, Group, Common, IsAccepted, ◌≤◌, append-nil, option_to_list, arith}
+use Rattle.gix_refspec_lint.proofs.Common.{AllByRecursion, length-map, length-take-le, IsJoinedFrom, IsMadeFrom, MakesOf, some_element, joined_next, made_next, zip_long, NoneAt, MatchOption, drop}
+use Rattle.gix_refspec_lint.proofs.Common.{option_map, IsDeciding, words_with, IsOverlap, example_of, of_element, Fetches}
 use Rattle.gix_refspec_lint.specs.declared.PossibleConflict.{PossibleConflict}
 use Rattle.gix_refspec_lint.proofs.lemmas.IndexLemmas.{IsThere, made_there, makes_fewer, of_maps, maps_of, zip_of, accepted_of, one_completed, reading_at}
-use Rattle.gix_refspec_lint.proofs.lemmas.PatternLemmas.{maps_pattern, MapsPattern, decided}
+use Rattle.gix_refspec_lint.proofs.lemmas.PatternLemmas.{maps_pattern, MapsPattern}
+use Rattle.gix_refspec_lint.proofs.lemmas.MovedLemmas.{decided}
 use Rattle.gix_refspec_lint.proofs.lemmas.SourceLemmas.{none_made, pattern_there, plain_made}
 use Rattle.gix_refspec_lint.proofs.lemmas.RunLemmas.{each_deciding}
 
@@ -20,10 +20,9 @@ there_also A B (id bytes) same there = there
 pub makes_also : (A B : List Ref) (s : Source) (d : Option (List ℕ)) (r : Reading) → HaveSameNames A B → MakesForward A s d r → MakesForward B s d r
 makes_also A B s d r same makes = makes_fewer A B s d r (λ n has. has_also B A n (sym same) has) (there_also A B s same (made_there A s d r makes)) makes
 
--- the names of two sources, one added after the other
-pub both_named : (one two : List Ref) (s t : Source) → HaveSameNames one (refs_of s) → HaveSameNames two (one ++ refs_of t) → HaveSameNames two (refs_of s ++ refs_of t)
-both_named one two s t first second =
-    second ∙ map-append (λ (r : Ref). r.name) one (refs_of t) ∙ ap (λ l. l ++ map (λ (r : Ref). r.name) (refs_of t)) first ∙ sym (map-append (λ (r : Ref). r.name) (refs_of s) (refs_of t))
+-- the names of two lists, one added after the other
+pub both_named : (one two xs ys : List Ref) → HaveSameNames one xs → HaveSameNames two (one ++ ys) → HaveSameNames two (xs ++ ys)
+both_named one two xs ys first second = simp map-append (simp map-append at second ∙ ap (λ l. l ++ map (λ (r : Ref). r.name) ys) first)
 
 -- two specs at indexes, and refs with the names of two sources
 module _ (g h : List Reading) (all : AllZip IsCompleted g h) (i j : ℕ) (refs : List Ref) (s t : Source) (d : List ℕ) (named : HaveSameNames refs (refs_of s ++ refs_of t)) where
@@ -59,12 +58,9 @@ pub parts_at : (specs : List RefSpecRef) (parts : List (Option (Bor (List ℕ) �
     → HasParts (reading_of (get_or specs i s)).destination p
 parts_at specs parts i s p all below at = subst (λ q. HasParts (reading_of (get_or specs i s)).destination q) at (zip_at (λ s p. HasParts (reading_of s).destination p) specs parts i s None all below)
 
--- a destination that isn't split has no star
-unsplit_lacks : (c : Reading) → ∥ IsAccepted c ∥₁ → (n : List ℕ) → c.destination ≡ Some n → HasParts c.destination None → Lacks star n
-unsplit_lacks c accepted n has none = elim ((sides_agree c accepted).each n (inr has)) [
-  | inl one ↦ absurd (none n one.0 one.1 has one.2)
-  | inr lacks ↦ lacks
-]
+-- a side that isn't split has no star
+pub unsplit_lacks : (c : Reading) → ∥ IsAccepted c ∥₁ → (n : List ℕ) → (c.source ≡ Some n) ⊎ (c.destination ≡ Some n) → ((before after : List ℕ) → ¬ (IsSplit before after n)) → Lacks star n
+unsplit_lacks c accepted n has none = elim ((sides_agree c accepted).each n has) [ inl one ↦ absurd (none one.0 one.1 one.2) | inr lacks ↦ lacks ]
 
 -- what is found at the only destination is all
 pub found_only : (g : List Reading) (i j : ℕ) (n : List ℕ) (found : Option Example) → ((e : Example) → IsExample g i j e → e.destination ≡ n) → IsFoundAt g i j n found → IsFound g i j found
@@ -94,7 +90,7 @@ module _ (g : List Reading) (group : Group) (is : IsGroupOf g group) (k : ℕ) (
   pub fetches_only : (parts : List (Option (Bor (List ℕ) × Bor (List ℕ)))) → HaveParts group.specs.now parts → get_or parts k None ≡ None → (n : List ℕ) → spec.destination ≡ Some n
       → (refs : List Ref) (s : Source) (d : List ℕ) → Fetches g refs k s (Some d) → d ≡ n
   fetches_only parts have none n has refs s d f =
-      plain_made completed_of.0 spec n completed_of.1 has (unsplit_lacks spec (accepted_of group.specs.now k spec at) n has (parts_at group.specs.now parts k z None have within none)) refs s d (makes_of refs s d f)
+      plain_made completed_of.0 spec n completed_of.1 has (unsplit_lacks spec (accepted_of group.specs.now k spec at) n (inr has) (λ before after. parts_at group.specs.now parts k z None have within none n before after has)) refs s d (makes_of refs s d f)
 
   pattern_of : (parts : Bor (List ℕ) × Bor (List ℕ)) → HasParts spec.destination (Some parts) → HasPattern group k parts.0.now parts.1.now
   pattern_of parts (d, has, split) = record { reading = spec; at = at; destination = d; has = has; split = split }

@@ -1,6 +1,6 @@
 -- Without an example of a conflict no kept mappings conflict, whatever refs there are.
-use Rattle.gix_refspec_lint.proofs.Common.{◌≡◌, ◌≢◌, inl, inr, ℕ, zero, suc, ◌<◌, List, [], ◌∷◌, ◌++◌, Some, length, map, refl, sym, ap, ◌∙◌, subst, arith, AllZip, Contains, slice_get, cases_lt}
-use Rattle.gix_refspec_lint.proofs.Common.{same_Some, IsFirstCandidate, MatchesAs, Ref, SideKind, pattern, full_name, object, partial, HasKind, Fits, filled, IsAccepted, Reading, HasOneStar}
+use Rattle.gix_refspec_lint.proofs.Common.{each_made, ◌≡◌, ◌≢◌, inl, inr, ℕ, zero, suc, ◌<◌, List, [], ◌∷◌, ◌++◌, Some, length, map, refl, sym, ap, ◌∙◌, subst, arith, AllZip, Contains, slice_get}
+use Rattle.gix_refspec_lint.proofs.Common.{cases_lt, same_Some, IsFirstCandidate, MatchesAs, Ref, SideKind, pattern, full_name, object, partial, HasKind, Fits, filled, IsAccepted, Reading, HasOneStar}
 use Rattle.gix_refspec_lint.proofs.Common.{reading_of, RefSpecRef, lacks_no_pattern, one_word, AreKeptForward, IsFilled, IsJoinedFrom, IsMadeFrom, Source, name, id, Mapped, matches_as, one_kind}
 use Rattle.gix_refspec_lint.proofs.Common.{nothing_joined, nothing_made, MakesForward, kept_exactly, sides_agree, CanBeWritten, IsCompleted, IsSound, reading_once, completed_destination}
 use Rattle.gix_refspec_lint.proofs.Common.{contained_pair, far_there, ConflictFree, AreExamples, Example, Fetches, IsExample, HasSourcePattern, IsSourceExcluded, IsValidSource, completed_excluded}
@@ -12,7 +12,7 @@ use Rattle.gix_refspec.proofs.lemmas.validate.FirstLemmas.{start_cases}
 use Rattle.gix_refspec_plan.proofs.lemmas.plan.OpposedLemmas.{pair_in}
 use Rattle.gix_refspec_plan.specs.declared.Origin.TheVariants as origin
 use Rattle.gix_refspec_plan.specs.declared.Verdict.TheVariants as verdict
-use Rattle.gix_refspec_lint.proofs.lemmas.IndexLemmas.{conflicts_shown, accepted_of, maps_of, still_excluded, any_at, zip_to, all_made}
+use Rattle.gix_refspec_lint.proofs.lemmas.IndexLemmas.{conflicts_shown, accepted_of, maps_of, still_excluded, any_at, zip_to}
 use Rattle.gix_refspec_lint.proofs.lemmas.PatternLemmas.{word_of}
 
 -- ---- one spec maps one source to a destination
@@ -188,7 +188,7 @@ plan_free wish never none some alone unmerged untagged refs planned missing plan
     let empty = none_tracked wish refs plan.tracking plan.indexes plan.seconds alone plan.are_seconds in
     let behind : plan.behind ≡ [] = subst (λ l. IsMadeFrom (λ k m p. IsPlannedBesides plan.tracking plan.indexes plan.firsts plan.seconds m p) 0 l plan.behind) empty plan.are_behind in
     subst (AllByRecursion (λ p. p.verdict ≢ verdict.InConflict)) (sym (plan.all ∙ ap (λ l. plan.before ++ l) behind ∙ append-nil plan.before))
-    (all_made (λ k m p. IsPlanned plan.asked plan.firsts m p) (λ p. p.verdict ≢ verdict.InConflict) 0 plan.firsts plan.before
+    (each_made (λ k m p. IsPlanned plan.asked plan.firsts m p) (λ p. p.verdict ≢ verdict.InConflict) plan.firsts plan.before
     (λ j m p at is conflicting.
     let contested : HasVerdict plan.firsts m verdict.InConflict = subst (HasVerdict plan.firsts m) conflicting is.verdict in
     let (n, also, sound, shared, differ) = contested.1 in

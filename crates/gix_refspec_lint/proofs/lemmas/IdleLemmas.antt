@@ -1,14 +1,14 @@
 -- Specs that never do anything, source by source.
-use Rattle.gix_refspec_lint.proofs.Common.{◌≡◌, ◌⊎◌, inl, inr, ◌↔◌, ℕ, zero, suc, ◌<◌, Bool, true, false, MatchBool, MatchOption, Bor, List, [], ◌∷◌, ◌++◌, Option, None, Some, codes, length, map}
-use Rattle.gix_refspec_lint.proofs.Common.{take, drop, get_or, append_assoc, refl, sym, ap, ◌∙◌, subst, arith, IsTrue, nat_eq, AllByRecursion, Contains, ends_with, is_some, false≢true, Decides-eqb}
-use Rattle.gix_refspec_lint.proofs.Common.{map-append, Contains-append_left, Contains-append_right, same_Some, ends_is, bstring_bytes, BString, Ref, MatchesAs, Takes, SideKind, pattern, full_name}
-use Rattle.gix_refspec_lint.proofs.Common.{object, partial, HasKind, Fits, candidates, IsCandidate, Reading, IsSplit, EndsWith, Source, name, candidate_cases, map_split, IsPaired, MakesForward}
-use Rattle.gix_refspec_lint.proofs.Common.{IsRefName, AreAllowed, AreTriedBefore, Explains, Reason, Contains-push_cases, of_element, ◌+◌, ◌≤◌, AllZip, slice_get, HasName, IsFirstCandidate, upto}
-use Rattle.gix_refspec_lint.proofs.Common.{one_kind, IsCompleted, ref_named, AreValid, Maps, refs_of, AreAbsent, AreFreeing, ArePreferred, refs_with, one_word, all_join, IsFilled, id, IsExcludedBy}
-use Rattle.gix_refspec_lint.proofs.Common.{IsSourceExcluded, matches_as, HaveSameNames, IsValidSource, MapsSoundly, IsAtWork, IsShown, MakesSoundly, all_right}
+use Rattle.gix_refspec_lint.proofs.Common.{map_each, item_named, ◌≡◌, ◌⊎◌, inl, inr, ◌↔◌, ℕ, zero, suc, ◌<◌, Bool, true, false, MatchBool, MatchOption, Bor, List, [], ◌∷◌, ◌++◌, Option, None, Some}
+use Rattle.gix_refspec_lint.proofs.Common.{codes, length, map, take, drop, get_or, append_assoc, refl, sym, ap, ◌∙◌, subst, arith, IsTrue, nat_eq, AllByRecursion, Contains, ends_with, is_some}
+use Rattle.gix_refspec_lint.proofs.Common.{false≢true, Decides-eqb, map-append, Contains-append_left, Contains-append_right, same_Some, ends_is, bstring_bytes, BString, Ref, MatchesAs, Takes}
+use Rattle.gix_refspec_lint.proofs.Common.{SideKind, pattern, full_name, object, partial, HasKind, Fits, candidates, IsCandidate, Reading, IsSplit, EndsWith, Source, name, candidate_cases, map_split}
+use Rattle.gix_refspec_lint.proofs.Common.{IsPaired, MakesForward, IsRefName, AreAllowed, AreTriedBefore, Explains, Reason, Contains-push_cases, of_element, ◌+◌, ◌≤◌, AllZip, slice_get, HasName}
+use Rattle.gix_refspec_lint.proofs.Common.{IsFirstCandidate, upto, one_kind, IsCompleted, ref_named, AreValid, Maps, refs_of, AreAbsent, AreFreeing, ArePreferred, refs_with, one_word, all_join}
+use Rattle.gix_refspec_lint.proofs.Common.{IsFilled, id, IsExcludedBy, IsSourceExcluded, matches_as, HaveSameNames, IsValidSource, MapsSoundly, IsAtWork, IsShown, MakesSoundly, all_right}
 use Rattle.gix_refspec_lint.specs.declared.Reason.TheVariants as reason
 use Rattle.gix_refspec_lint.proofs.lemmas.PatternLemmas.{word_of, destination_once}
-use Rattle.gix_refspec_lint.proofs.lemmas.IndexLemmas.{made_there, own_among, named_left, named_cases, named_right, makes_again, zip_to, one_completed, all_listed, maps_as, maps_of, of_maps}
+use Rattle.gix_refspec_lint.proofs.lemmas.IndexLemmas.{made_there, own_among, named_in, makes_again, zip_to, one_completed, all_listed, maps_as, maps_of, of_maps}
 use Rattle.gix_refspec_lint.proofs.lemmas.IndexLemmas.{excluded_at}
 use Rattle.gix_refspec_lint.proofs.lemmas.FoundLemmas.{makes_also}
 
@@ -73,12 +73,11 @@ ends_told x head n b c tells also none (inr ends) = (ends_is Decides-eqb n head 
 
 first_split : (n : List ℕ) (a b c d : List (List ℕ)) → ¬ (Contains a n) → ¬ (Contains c n) → a ++ (n ∷ b) ≡ c ++ (n ∷ d) → a ≡ c
 first_split n [] b [] d no_a no_c same = refl
-first_split n [] b (y ∷ c) d no_a no_c same = absurd (no_c (0, omega arith, (let e : n ≡ y = cc in sym e)))
-first_split n (x ∷ a) b [] d no_a no_c same = absurd (no_a (0, omega arith, (let e : x ≡ n = cc in e)))
+first_split n [] b (y ∷ c) d no_a no_c same = absurd (no_c (0, omega arith, cc))
+first_split n (x ∷ a) b [] d no_a no_c same = absurd (no_a (0, omega arith, cc))
 first_split n (x ∷ a) b (y ∷ c) d no_a no_c same =
-    let heads : x ≡ y = cc in
-    let tails : a ++ (n ∷ b) ≡ c ++ (n ∷ d) = cc in
-    ap (λ z. z ∷ a) heads ∙ ap (λ l. y ∷ l) (first_split n a b c d (λ (k, below, is). no_a (suc k, omega (arith, below), is)) (λ (k, below, is). no_c (suc k, omega (arith, below), is)) tails)
+    let rest = first_split n a b c d (λ has. no_a (Contains-append_right (x ∷ []) a n has)) (λ has. no_c (Contains-append_right (y ∷ []) c n has)) (cc) in
+    cc
 
 pub none_tried : (x n : List ℕ) → AllByRecursion (λ y. ¬ (y ≡ n)) (candidates x) → (names : List (List ℕ)) → AreTriedBefore x n names
 none_tried x n none names = record {
@@ -117,7 +116,7 @@ module _ (old : List (List ℕ)) (others : List BString) (away : List (List ℕ)
     has_old = so_far.has_old;
     has = λ m there valid free. elim (Contains-push_cases (map bstring_bytes others) n m there) [
       | inl earlier ↦ so_far.has m earlier valid free
-      | inr same ↦ absurd (none (subst (λ x. IsRefName x × ¬ (Contains away x)) (sym same) (valid, free)))
+      | inr same ↦ absurd (none (rw same (valid, free)))
     ];
     only = so_far.only;
   })
@@ -174,10 +173,8 @@ named_of [] m (k, below, is) = absurd (omega (arith, below))
 named_of (n ∷ l) m (zero, below, is) = inl is
 named_of (n ∷ l) m (suc k, below, is) = inr (named_of l m (k, omega (arith, below), is))
 
-valid_named : (refs : List Ref) (m : List ℕ) → AreValid refs → HasName refs m → IsRefName m
-valid_named [] m all none = absurd none
-valid_named (r ∷ refs) m all (inl is) = subst IsRefName is all.0
-valid_named (r ∷ refs) m all (inr later) = valid_named refs m all.1 later
+pub valid_named : (refs : List Ref) (m : List ℕ) → AreValid refs → HasName refs m → IsRefName m
+valid_named refs m all has = let (r, there, is) = item_named refs m has in subst IsRefName is (of_element (λ (r : Ref). IsRefName r.name) refs r all there)
 
 -- the names are valid and not kept away, and those that earlier specs prefer are among them
 pub record FreesSoFar (h : List Reading) (s : Source) (away : List (List ℕ)) (names : List (List ℕ)) (k : ℕ) : Type 0 where
@@ -213,8 +210,8 @@ freeing g h all k s away names c at preferred so_far = record {
     keeps refs d m =
         let makes : MakesForward refs s d c = subst (MakesForward refs s d) (same refs d m) m.makes in
         let absent = preferred.absent refs d makes in
-        maps_as m (subst (MakesForward (refs_with s names) s d) (sym (same refs d m)) (preferred.enough refs (refs_with s names) d makes (named_left (refs_of s) (map ref_named names))
-        (all_listed (λ n. ¬ (HasName (refs_with s names) n)) away (λ n there has. elim (named_cases (refs_of s) (map ref_named names) n has) [
+        maps_as m (subst (MakesForward (refs_with s names) s d) (sym (same refs d m)) (preferred.enough refs (refs_with s names) d makes (λ n own. (named_in (refs_of s) (map ref_named names) n).1 (inl own))
+        (all_listed (λ n. ¬ (HasName (refs_with s names) n)) away (λ n there has. elim ((named_in (refs_of s) (map ref_named names) n).0 has) [
           | inl own ↦ of_element (λ m. ¬ (HasName refs m)) away n absent there (own_among refs s (made_there refs s d c makes) n own)
           | inr other ↦ (so_far.allowed n (listed names n other)).1 there
         ]))))
@@ -226,8 +223,8 @@ freeing g h all k s away names c at preferred so_far = record {
         let free = are.absent (refs_with s names) e other.makes in
         maps_as other (are.enough (refs_with s names) refs e other.makes (own_among refs s (made_there refs s d c makes))
         (all_listed (λ n. ¬ (HasName refs n)) others (λ n there present. of_element (λ m. ¬ (HasName (refs_with s names) m)) others n free there
-        (named_right (refs_of s) (map ref_named names) n (named_of names n
-        (has n there (valid_named refs n valid present) (λ kept. of_element (λ m. ¬ (HasName refs m)) away n (preferred.absent refs d makes) kept present)))))))
+        ((named_in (refs_of s) (map ref_named names) n).1 (inr (named_of names n
+        (has n there (valid_named refs n valid present) (λ kept. of_element (λ m. ¬ (HasName refs m)) away n (preferred.absent refs d makes) kept present))))))))
 
 pub frees_less : (h : List Reading) (s : Source) (away names : List (List ℕ)) (j k : ℕ) → k ≤ j → FreesSoFar h s away names j → FreesSoFar h s away names k
 frees_less h s away names j k fewer so_far = record { allowed = so_far.allowed; preferred = λ i c below at. so_far.preferred i c (omega (arith, below, fewer)) at }
@@ -265,10 +262,6 @@ one_far A B (name n) d e c one other =
 maps_also : (g : List Reading) (A B : List Ref) (k : ℕ) (s : Source) (d : Option (List ℕ)) → HaveSameNames A B → Maps g A k s d → Maps g B k s d
 maps_also g A B k s d same m = maps_as m (makes_also A B s d m.completed same m.makes)
 
-named_valid : (names : List (List ℕ)) → AllByRecursion IsRefName names → AreValid (map ref_named names)
-named_valid [] all = tt
-named_valid (n ∷ names) all = (all.0, named_valid names all.1)
-
 own_valid : (s : Source) → IsValidSource s → AreValid (refs_of s)
 own_valid (name n) valid = (valid, tt)
 own_valid (id bytes) valid = tt
@@ -293,7 +286,7 @@ module _ (g cs : List Reading) (all : AllZip IsCompleted g cs) (k : ℕ) (c : Re
     maps = record { maps = maps_of g cs all k c here refs s e (makes_also items refs s e c same makes.makes); source = makes.source; destination = makes.destination }
 
     valid : AreValid refs
-    valid = all_join (λ (r : Ref). IsRefName r.name) (refs_of s) (map ref_named names) (own_valid s makes.source) (named_valid names freeing.valid)
+    valid = all_join (λ (r : Ref). IsRefName r.name) (refs_of s) (map ref_named names) (own_valid s makes.source) (map_each IsRefName (λ (r : Ref). IsRefName r.name) ref_named (λ n fine. fine) names freeing.valid)
 
     pub shows_excluded : (n : List ℕ) (j : ℕ) (r : Reading) → s ≡ name n → slice_get g j ≡ Some r → IsExcludedBy n r → Explains g k s (reason.Excluded j) × IsShown g k (reason.Excluded j)
     shows_excluded n j r named at by = (
@@ -320,8 +313,3 @@ module _ (g cs : List Reading) (all : AllZip IsCompleted g cs) (k : ℕ) (c : Re
                 (h, before, subst (Maps g others h s) (sym one) (freeing.frees others h d e fine f.maps.maps before also))),
             record { refs = refs; valid = valid; source = s; destination = e; fetches = record { maps = maps; included = included }; before = before; maps = also },
           )
-
--- the items of a source and then those of names
-pub names_beside : (one two : List Ref) (s : Source) (names : List (List ℕ)) → HaveSameNames one (refs_of s) → HaveSameNames two (one ++ map ref_named names) → HaveSameNames two (refs_with s names)
-names_beside one two s names first second =
-    second ∙ map-append (λ (r : Ref). r.name) one (map ref_named names) ∙ ap (λ l. l ++ map (λ (r : Ref). r.name) (map ref_named names)) first ∙ sym (map-append (λ (r : Ref). r.name) (refs_of s) (map ref_named names))

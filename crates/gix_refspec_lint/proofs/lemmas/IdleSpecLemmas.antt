@@ -1,13 +1,16 @@
 -- Why a spec does nothing, from what becomes of its mappings at the names that decide.
-use Rattle.gix_refspec_lint.proofs.Common.{◌≡◌, ◌≢◌, inl, inr, ℕ, ◌+◌, ◌<◌, option_to_list, take, List, [], ◌∷◌, ◌++◌, Option, None, Some, codes, length, map, get_or, append-nil, refl, sym, ap, ◌∙◌}
-use Rattle.gix_refspec_lint.proofs.Common.{subst, arith, AllByRecursion, AllZip, Contains, slice_get, same_Some, Ref, HasName, MatchesAs, Takes, SideKind, pattern, full_name, object, partial, HasKind}
-use Rattle.gix_refspec_lint.proofs.Common.{IsCandidate, IsAccepted, IsPositive, Reading, star, IsSplit, Lacks, reading_of, RefSpecRef, lacks_no_pattern, all_join, all_right, Lacks-here, first_once}
-use Rattle.gix_refspec_lint.proofs.Common.{IsMadeFrom, MakesOf, Source, name, id, IsSourceExcluded, some_element, candidate_cases, made_more, IsPaired, MakesForward, IsCompleted, ref_named, AreIdle}
-use Rattle.gix_refspec_lint.proofs.Common.{AreValid, Fetches, IsFree, IsIdleBy, Maps, MapsSoundly, Unused, Explains, HasSourcePattern, IsAtWork, IsReasonOf, IsShown, IsWhy, IsDeciding, IsLongerPrefix}
-use Rattle.gix_refspec_lint.proofs.Common.{IsLongerSuffix, IsMost, words_with, Reason, of_element}
+use Rattle.gix_refspec_lint.proofs.Common.{candidates, candidate_contained, ◌≡◌, ◌≢◌, inl, inr, ℕ, ◌+◌, ◌<◌, option_to_list, take, List, [], ◌∷◌, ◌++◌, Option, None, Some, codes, length, map, get_or}
+use Rattle.gix_refspec_lint.proofs.Common.{append-nil, refl, sym, ap, ◌∙◌, subst, arith, AllByRecursion, AllZip, Contains, slice_get, same_Some, Ref, HasName, MatchesAs, Takes, SideKind, pattern}
+use Rattle.gix_refspec_lint.proofs.Common.{full_name, object, partial, HasKind, IsCandidate, IsAccepted, IsPositive, Reading, star, IsSplit, Lacks, reading_of, RefSpecRef, lacks_no_pattern, all_join}
+use Rattle.gix_refspec_lint.proofs.Common.{all_right, Lacks-here, first_once, IsMadeFrom, MakesOf, Source, name, id, IsSourceExcluded, some_element, made_more, IsPaired, MakesForward, IsCompleted}
+use Rattle.gix_refspec_lint.proofs.Common.{ref_named, AreIdle, AreValid, Fetches, IsFree, IsIdleBy, Maps, MapsSoundly, Unused, Explains, HasSourcePattern, IsAtWork, IsReasonOf, IsShown, IsWhy}
+use Rattle.gix_refspec_lint.proofs.Common.{IsDeciding, IsLongerPrefix, IsLongerSuffix, IsMost, words_with, Reason, of_element}
 use Rattle.gix_refspec_lint.specs.declared.Reason.TheVariants as reason
-use Rattle.gix_refspec_lint.proofs.lemmas.ByteLemmas.{excluded_moved, fits_byte, lacks_refs, lacks_mid, between}
-use Rattle.gix_refspec_lint.proofs.lemmas.PatternLemmas.{Decided, IsMovedFar, decide, lacks_destination, lacks_parts, lacks_source, HasShape, pattern_spec, spec_made, spec_maps, PatternSpec}
+use Rattle.gix_refspec_lint.proofs.lemmas.ByteLemmas.{excluded_moved, fits_byte, lacks_refs, lacks_mid}
+use Rattle.gix_refspec_lint.proofs.lemmas.WordLemmas.{between}
+use Rattle.gix_refspec_lint.proofs.lemmas.PatternLemmas.{HasShape, pattern_spec, spec_made, spec_maps, PatternSpec}
+use Rattle.gix_refspec_lint.proofs.lemmas.MovedLemmas.{lacks_destination, lacks_parts, lacks_source}
+use Rattle.gix_refspec_lint.proofs.lemmas.DecideLemmas.{Decided, IsMovedFar, decide}
 use Rattle.gix_refspec_lint.proofs.lemmas.LeftOutLemmas.{made_completed}
 use Rattle.gix_refspec_lint.proofs.lemmas.IndexLemmas.{zip_to, reading_at, of_maps, accepted_of, one_completed, maps_as}
 
@@ -45,18 +48,16 @@ module _ (z : ℕ) (g : List Reading) (free : IsFree g z) where
 
   -- no candidate of a partial name without the byte has it
   candidate_lacks : (x n : List ℕ) → Lacks z x → IsCandidate x n → Lacks z n
-  candidate_lacks x n lacks one = elim (candidate_cases x n one) [
-    | inl (before, folder, is) ↦ subst (Lacks z) (sym is) (all_join (λ c. c ≢ z) before x (elim folder [
-      | inl none ↦ subst (Lacks z) (sym none) tt
-      | inr (inl refs) ↦ subst (Lacks z) (sym refs) (lacks_refs z free.usable)
-      | inr (inr (inl tags)) ↦ subst (Lacks z) (sym tags) (lacks_mid z free.usable [] (codes "refs/tags/") (codes "heads/remotes/HEAD.lock*@{") refl)
-      | inr (inr (inr (inl heads))) ↦ subst (Lacks z) (sym heads)
-          (all_join (λ c. c ≢ z) (codes "refs/") (codes "heads/") (lacks_refs z free.usable) (lacks_mid z free.usable (codes "refs/tags/") (codes "heads/") (codes "remotes/HEAD.lock*@{") refl))
-      | inr (inr (inr (inr remotes))) ↦ subst (Lacks z) (sym remotes) lacks_remotes
-    ]) lacks)
-    | inr is ↦ subst (Lacks z) (sym is) (all_join (λ c. c ≢ z) (codes "refs/remotes/") (x ++ codes "/HEAD") lacks_remotes
-        (all_join (λ c. c ≢ z) x (codes "/HEAD") lacks (lacks_mid z free.usable (codes "refs/tags/heads/remotes") (codes "/HEAD") (codes ".lock*@{") refl)))
-  ]
+  candidate_lacks x n lacks one =
+      let behind : (f : List ℕ) → Lacks z f → Lacks z (f ++ x) = λ f front. all_join (λ c. c ≢ z) f x front lacks in
+      let refs = lacks_refs z free.usable in
+      let heads = all_join (λ c. c ≢ z) (codes "refs/") (codes "heads/") refs (lacks_mid z free.usable (codes "refs/tags/") (codes "heads/") _ refl) in
+      let last = all_join (λ c. c ≢ z) x (codes "/HEAD") lacks (lacks_mid z free.usable (codes "refs/tags/heads/remotes") (codes "/HEAD") _ refl) in
+      of_element (Lacks z) (candidates x) n (
+        lacks,
+        (behind (codes "refs/") refs, (behind (codes "refs/tags/") (lacks_mid z free.usable [] (codes "refs/tags/") _ refl), (behind (codes "refs/heads/") heads, (behind (codes "refs/remotes/") lacks_remotes,
+        (all_join (λ c. c ≢ z) (codes "refs/remotes/") (x ++ codes "/HEAD") lacks_remotes last, tt))))),
+      ) (candidate_contained x n one)
 
   -- so only a pattern takes it
   pattern_takes : (refs : List Ref) (front back : List ℕ) (d : Option (List ℕ)) (c : Reading) (makes : MakesForward refs (name (front ++ (z ∷ back))) d c) → Lacks z makes.ends.near → (p : List ℕ) × (t : List ℕ) × IsSplit p t makes.ends.near

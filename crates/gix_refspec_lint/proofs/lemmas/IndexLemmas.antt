@@ -1,17 +1,13 @@
 -- Specs at indexes, and the same with completed destinations.
-use Rattle.gix_refspec_lint.proofs.Common.{◌≡◌, ℕ, zero, suc, ◌<◌, List, [], ◌∷◌, Option, Some, length, map, option_map, get_or, inl, inr, refl, sym, ap, ◌∙◌, subst, arith, AllByRecursion, AllZip}
-use Rattle.gix_refspec_lint.proofs.Common.{Any, Contains, slice_get, of_element, recursion_from_All, Contains-get_or, same_Some, slice_get_read, slice_get_within, get_or_from_slice_get, slice_get-map}
-use Rattle.gix_refspec_lint.proofs.Common.{slice_get-get_or, Reading, IsAccepted, Ref, reading_of, RefSpecRef, Source, name, id, IsExcluded, IsExcludedBy, IsSourceExcluded, MakesForward, IsCompleted}
-use Rattle.gix_refspec_lint.proofs.Common.{zip_at, zip_long, reading_once, all_accepted, Maps, option_to_list, MakesOf, IsMadeFrom, None, ◌++◌, ◌+◌, ◌⊎◌, HasName, IsFirstCandidate, Takes, all_weaker}
-use Rattle.gix_refspec_lint.proofs.Common.{IsPaired, matches_by_name, named_some, some_named, ConflictsShown, ConflictOver, Fetches, refs_of, HasKind, partial}
+use Rattle.gix_refspec_lint.proofs.Common.{all_at, ◌↔◌, ◌≡◌, ℕ, zero, suc, ◌<◌, List, [], ◌∷◌, Option, Some, length, map, option_map, get_or, inl, inr, refl, sym, ap, ◌∙◌, subst, arith}
+use Rattle.gix_refspec_lint.proofs.Common.{AllByRecursion, AllZip, Any, Contains, slice_get, recursion_from_All, Contains-get_or, same_Some, slice_get_read, slice_get_within, get_or_from_slice_get}
+use Rattle.gix_refspec_lint.proofs.Common.{slice_get-map, slice_get-get_or, Reading, IsAccepted, Ref, reading_of, RefSpecRef, Source, name, id, IsExcluded, IsExcludedBy, IsSourceExcluded}
+use Rattle.gix_refspec_lint.proofs.Common.{MakesForward, IsCompleted, zip_at, zip_long, reading_once, all_accepted, Maps, ◌++◌, ◌+◌, ◌⊎◌, HasName, IsFirstCandidate, Takes, all_weaker, IsPaired}
+use Rattle.gix_refspec_lint.proofs.Common.{matches_by_name, named_some, some_named, ConflictsShown, ConflictOver, Fetches, refs_of, HasKind, partial}
 
 -- ---- lists
 
--- what holds of each element holds of the one at an index
-pub at_index : {X : Type 0} (P : X → Type 0) (xs : List X) (k : ℕ) (x : X) → AllByRecursion P xs → slice_get xs k ≡ Some x → P x
-at_index P xs k x all at = of_element P xs x all (k, slice_get_within xs k x at, get_or_from_slice_get xs k x x at)
-
--- and what holds of some element holds of one at an index
+-- what holds of some element holds of one at an index
 pub any_at : {X : Type 0} (P : X → Type 0) (xs : List X) → Any P xs → (k : ℕ) × (x : X) × (slice_get xs k ≡ Some x) × P x
 any_at P xs (k, x, below, is, holds) = (k, x, slice_get_read xs (length xs) k x refl below (sym is), holds)
 
@@ -19,26 +15,13 @@ any_at P xs (k, x, below, is, holds) = (k, x, slice_get_read xs (length xs) k x 
 pub all_listed : {X : Type 0} (P : X → Type 0) (xs : List X) → ((x : X) → Contains xs x → P x) → AllByRecursion P xs
 all_listed P xs each = recursion_from_All P xs (λ k d below. each (get_or xs k d) (Contains-get_or xs k d below))
 
--- what is made of each element at an index has a property
-one_made : {X Y : Type 0} (R : ℕ → X → Y → Type 0) (P : Y → Type 0) (k : ℕ) (x : X) (rest : List Y) → ((y : Y) → R k x y → P y) → (o : Option Y) → MakesOf R k x o → AllByRecursion P rest
-    → AllByRecursion P (option_to_list o ++ rest)
-one_made R P k x rest holds None none later = later
-one_made R P k x rest holds (Some y) makes later = (holds y makes, later)
-
-pub all_made : {X Y : Type 0} (R : ℕ → X → Y → Type 0) (P : Y → Type 0) (k : ℕ) (xs : List X) (ys : List Y) → ((j : ℕ) (x : X) (y : Y) → slice_get xs j ≡ Some x → R (k + j) x y → P y)
-    → IsMadeFrom R k xs ys → AllByRecursion P ys
-all_made R P k [] ys holds made = subst (AllByRecursion P) (sym made) tt
-all_made {X} {Y} R P k (x ∷ xs) ys holds (made, rest, makes, more, same) =
-    rw same (one_made R P k x rest (λ y is. holds 0 x y refl (subst (λ i. R i x y) (omega arith) is)) made makes
-    (all_made R P (k + 1) xs rest (λ j z y at is. holds (suc j) z y at (subst (λ i. R i z y) (omega arith) is)) more))
-
 -- ---- specs
 
 pub reading_at : (cs : List RefSpecRef) (k : ℕ) (x : RefSpecRef) → k < length cs → slice_get (map reading_of cs) k ≡ Some (reading_of (get_or cs k x))
 reading_at cs k x below = slice_get-map reading_of cs k ∙ ap (option_map reading_of) (slice_get-get_or cs k x below)
 
 pub accepted_of : (cs : List RefSpecRef) (k : ℕ) (c : Reading) → slice_get (map reading_of cs) k ≡ Some c → ∥ IsAccepted c ∥₁
-accepted_of cs k c at = at_index (λ r. ∥ IsAccepted r ∥₁) (map reading_of cs) k c (all_accepted cs) at
+accepted_of cs k c at = all_at (λ r. ∥ IsAccepted r ∥₁) (map reading_of cs) k c (all_accepted cs) at
 
 -- a reading at an index that excludes the name
 pub excluded_at : (g : List Reading) (k : ℕ) (r : Reading) (n : List ℕ) → slice_get g k ≡ Some r → IsExcludedBy n r → IsExcluded g n
@@ -142,42 +125,26 @@ makes_fewer refs few (id bytes) d r among present makes = makes
 makes_fewer refs few (name n) d r among present makes =
     makes_again refs few n d r present makes (λ m kind. first_fewer refs few m n among present (subst (IsFirstCandidate refs m) makes.one.4.name (makes.one.4.takes.first m kind)))
 
--- the refs of two sources
-pub named_cases : (xs ys : List Ref) (n : List ℕ) → HasName (xs ++ ys) n → HasName xs n ⊎ HasName ys n
-named_cases [] ys n has = inr has
-named_cases (x ∷ xs) ys n (inl here) = inl (inl here)
-named_cases (x ∷ xs) ys n (inr later) = elim (named_cases xs ys n later) [ inl one ↦ inl (inr one) | inr other ↦ inr other ]
-
-pub named_left : (xs ys : List Ref) (n : List ℕ) → HasName xs n → HasName (xs ++ ys) n
-named_left [] ys n has = absurd has
-named_left (x ∷ xs) ys n (inl here) = inl here
-named_left (x ∷ xs) ys n (inr later) = inr (named_left xs ys n later)
-
-pub named_right : (xs ys : List Ref) (n : List ℕ) → HasName ys n → HasName (xs ++ ys) n
-named_right [] ys n has = has
-named_right (x ∷ xs) ys n has = inr (named_right xs ys n has)
+-- the names of the refs of two lists
+pub named_in : (xs ys : List Ref) (n : List ℕ) → HasName (xs ++ ys) n ↔ (HasName xs n ⊎ HasName ys n)
+named_in [] ys n = grind arith
+named_in (x ∷ xs) ys n = grind (arith, named_in xs ys n)
 
 pub own_among : (refs : List Ref) (s : Source) → IsThere refs s → AreAmong (refs_of s) refs
 own_among refs (name n) there m (inl is) = subst (HasName refs) is there
 own_among refs (name n) there m (inr none) = absurd none
 own_among refs (id bytes) there m none = absurd none
 
-pub both_among : (refs : List Ref) (s t : Source) → IsThere refs s → IsThere refs t → AreAmong (refs_of s ++ refs_of t) refs
-both_among refs s t one other m has = elim (named_cases (refs_of s) (refs_of t) m has) [
-  | inl of_one ↦ own_among refs s one m of_one
-  | inr of_other ↦ own_among refs t other m of_other
-]
-
 pub own_there : (s : Source) → IsThere (refs_of s) s
 own_there (name n) = inl refl
 own_there (id bytes) = tt
 
-pub there_left : (xs ys : List Ref) (s : Source) → IsThere xs s → IsThere (xs ++ ys) s
-there_left xs ys (name n) there = named_left xs ys n there
+there_left : (xs ys : List Ref) (s : Source) → IsThere xs s → IsThere (xs ++ ys) s
+there_left xs ys (name n) there = (named_in xs ys n).1 (inl there)
 there_left xs ys (id bytes) there = tt
 
-pub there_right : (xs ys : List Ref) (s : Source) → IsThere ys s → IsThere (xs ++ ys) s
-there_right xs ys (name n) there = named_right xs ys n there
+there_right : (xs ys : List Ref) (s : Source) → IsThere ys s → IsThere (xs ++ ys) s
+there_right xs ys (name n) there = (named_in xs ys n).1 (inr there)
 there_right xs ys (id bytes) there = tt
 
 -- a fetch over refs is one over fewer
@@ -192,7 +159,7 @@ pub conflict_of_two : (g : List Reading) (refs : List Ref) (i j : ℕ) (s t : So
 conflict_of_two g refs i j s t d c =
     let there = made_there refs s (Some d) c.one.maps.maps.completed c.one.maps.maps.makes in
     let also = made_there refs t (Some d) c.other.maps.maps.completed c.other.maps.maps.makes in
-    let among = both_among refs s t there also in
+    let among : AreAmong (refs_of s ++ refs_of t) refs = λ m has. elim ((named_in (refs_of s) (refs_of t) m).0 has) [ inl one ↦ own_among refs s there m one | inr other ↦ own_among refs t also m other ] in
     record {
       one = fetches_fewer g refs (refs_of s ++ refs_of t) i s (Some d) among (there_left (refs_of s) (refs_of t) s (own_there s)) c.one;
       other = fetches_fewer g refs (refs_of s ++ refs_of t) j t (Some d) among (there_right (refs_of s) (refs_of t) t (own_there t)) c.other;

@@ -1,16 +1,17 @@
 -- Negative specs that exclude nothing.
-use Rattle.gix_refspec_lint.proofs.Common.{◌≡◌, inl, inr, ℕ, ◌+◌, ◌<◌, ◌≤◌, Bool, true, false, MatchBool, not, drop, take, List, [], ◌∷◌, ◌++◌, Option, None, Some, length, map, option_to_list, get_or}
-use Rattle.gix_refspec_lint.proofs.Common.{refl, sym, ap, ◌∙◌, subst, AllByRecursion, AllZip, Any, slice_get, Excludes, Fits, by_pattern, the_name, IsAccepted, Reading, Negative, IsSplit, IsMadeFrom}
-use Rattle.gix_refspec_lint.proofs.Common.{MakesOf, Source, name, id, IsExcludedBy, IsSourceExcluded, made_more, some_at, IsCompleted, ref_named, same_excluded, IsFree, IsIdleExclusion, ExcludesFrom}
-use Rattle.gix_refspec_lint.proofs.Common.{ExcludesSome, HasSourcePattern, ShareSources, IsDeciding, words_with, IsOverlap, Common, of_element, slice_get_read, slice_get-map, option_map, ◌≢◌, ◌⊎◌}
-use Rattle.gix_refspec_lint.proofs.Common.{zero, suc, arith, Contains, same_Some, Ref, IsPositive, Mapped, IsExcluded, MakesForward, IsValidSource, kept_exactly, IsSound, IdleExclusionLeftOut}
-use Rattle.gix_refspec_lint.proofs.Common.{IdleLeftOut, AreValid, Fetches, IsIdleBy, MapsSoundly, Reason}
+use Rattle.gix_refspec_lint.proofs.Common.{each_made, cases_eq, ◌≡◌, inl, inr, ℕ, ◌+◌, ◌<◌, ◌≤◌, Bool, true, false, MatchBool, not, drop, take, List, [], ◌∷◌, ◌++◌, Option, None, Some, length, map}
+use Rattle.gix_refspec_lint.proofs.Common.{option_to_list, get_or, refl, sym, ap, ◌∙◌, subst, AllByRecursion, AllZip, Any, slice_get, Excludes, Fits, by_pattern, the_name, IsAccepted, Reading}
+use Rattle.gix_refspec_lint.proofs.Common.{Negative, IsSplit, IsMadeFrom, MakesOf, Source, name, id, IsExcludedBy, IsSourceExcluded, made_more, some_at, IsCompleted, ref_named, same_excluded, IsFree}
+use Rattle.gix_refspec_lint.proofs.Common.{IsIdleExclusion, ExcludesFrom, ExcludesSome, HasSourcePattern, ShareSources, IsDeciding, words_with, IsOverlap, Common, of_element, ◌≢◌, zero, suc, arith}
+use Rattle.gix_refspec_lint.proofs.Common.{Contains, same_Some, Ref, IsPositive, Mapped, IsExcluded, MakesForward, IsValidSource, kept_exactly, IsSound, IdleExclusionLeftOut, IdleLeftOut, AreValid}
+use Rattle.gix_refspec_lint.proofs.Common.{Fetches, IsIdleBy, MapsSoundly, Reason}
 use Rattle.gix_refspec_lint.specs.Laws.Lint.{without}
 use Rattle.gix_refspec_lint.specs.declared.Reason.TheVariants as reason
 use Rattle.gix_refspec_lint.proofs.lemmas.RunLemmas.{each_deciding}
-use Rattle.gix_refspec_lint.proofs.lemmas.PatternLemmas.{decide, pattern_spec, spec_made}
+use Rattle.gix_refspec_lint.proofs.lemmas.PatternLemmas.{pattern_spec, spec_made}
+use Rattle.gix_refspec_lint.proofs.lemmas.DecideLemmas.{decide}
 use Rattle.gix_refspec_lint.proofs.lemmas.OneSpecLemmas.{excludes_by, text_excludes, fits_excluded}
-use Rattle.gix_refspec_lint.proofs.lemmas.IndexLemmas.{maps_of, excluded_same, zip_to, any_at, excluded_at, zip_of, still_excluded, completed_at, all_made, by_index}
+use Rattle.gix_refspec_lint.proofs.lemmas.IndexLemmas.{maps_of, excluded_same, zip_to, any_at, excluded_at, zip_of, still_excluded, completed_at, by_index}
 
 -- what is excluded and mapped is so at a name that decides
 pub none_shared : (g : List Reading) (z : ℕ) (free : IsFree g z) (negative c : Reading) (common : Common) → negative.mode ≡ Negative → ∥ IsAccepted c ∥₁ → ShareSources negative c common
@@ -106,14 +107,6 @@ idle_completed g h idle all made =
     (λ k r c y done both. (both.0, record { negative = sym done.mode ∙ both.1.negative; excludes = λ refs i n d maps by. both.1.excludes refs i n d maps (excluded_same r c n done by) }))
     g h 0 idle all made
 
--- ---- lists
-
-pub any_mapped : {A : Type 0} (f : A → Reading) (P : Reading → Type 0) (xs : List A) (k : ℕ) (x : A) → k < length xs → x ≡ get_or xs k x → P (f x) → Any P (map f xs)
-any_mapped f P xs k x below is holds = some_at P (map f xs) k (f x) (slice_get-map f xs k ∙ ap (option_map f) (slice_get_read xs (length xs) k x refl below is)) holds
-
-pub none_of : (P : Reading → Type 0) (h : List Reading) → AllByRecursion (λ r. ¬ (P r)) h → ¬ (Any P h)
-none_of P h all (k, r, below, is, holds) = of_element (λ x. ¬ (P x)) h r all (k, below, is) holds
-
 -- with one more element
 pub one_more_made : {A X Y : Type 0} (R : ℕ → X → Y → Type 0) (f : A → X) (xs : List A) (i : ℕ) (x : A) (ys zs : List Y) (made : Option Y) → i < length xs → x ≡ get_or xs i x → IsMadeFrom R 0 (map f (take i xs)) ys
     → MakesOf R i (f x) made → zs ≡ ys ++ option_to_list made → IsMadeFrom R 0 (map f (take (i + 1) xs)) zs
@@ -164,16 +157,9 @@ stays_source l k c (id bytes) at positive none = none
 
 -- ---- idle specs
 
-made_of : {Y : Type 0} (P : ℕ → Reading → Y → Type 0) (k : ℕ) (g : List Reading) (idle : List Y) (u : Y) → IsMadeFrom P k g idle → Contains idle u → (j : ℕ) × (r : Reading) × (slice_get g j ≡ Some r) × P (k + j) r u
-made_of {Y} P k g idle u made there =
-    of_element (λ v. (j : ℕ) × (r : Reading) × (slice_get g j ≡ Some r) × P (k + j) r v) idle u
-    (all_made P (λ v. (j : ℕ) × (r : Reading) × (slice_get g j ≡ Some r) × P (k + j) r v) k g idle (λ j r y at makes. (j, r, at, makes)) made) there
-
-same_or_other : (j k : ℕ) → (j ≡ k) ⊎ (j ≢ k)
-same_or_other zero zero = inl refl
-same_or_other zero (suc k) = inr (λ same. omega (arith, same))
-same_or_other (suc j) zero = inr (λ same. omega (arith, same))
-same_or_other (suc j) (suc k) = elim (same_or_other j k) [ inl same ↦ inl (ap suc same) | inr other ↦ inr (λ same. other (omega (arith, same))) ]
+made_of : {Y : Type 0} (P : ℕ → Reading → Y → Type 0) (g : List Reading) (idle : List Y) (u : Y) → IsMadeFrom P 0 g idle → Contains idle u → (j : ℕ) × (r : Reading) × (slice_get g j ≡ Some r) × P j r u
+made_of {Y} P g idle u made there =
+    let Q : Y → Type 0 = λ v. (j : ℕ) × (r : Reading) × (slice_get g j ≡ Some r) × P j r v in of_element Q idle u (each_made P Q g idle (λ j r y at makes. (j, r, at, makes)) made) there
 
 module _ (g h : List Reading) (all : AllZip IsCompleted g h) (refs : List Ref) (valid : AreValid refs) (k : ℕ) where
   -- a fetch of an idle spec is one of an earlier spec
@@ -188,7 +174,7 @@ module _ (g h : List Reading) (all : AllZip IsCompleted g h) (refs : List Ref) (
   still_made r idle m sound included any = by (any_at (MakesForward refs m.source m.destination) h any)
     where
       by : (j : ℕ) × (c : Reading) × (slice_get h j ≡ Some c) × MakesForward refs m.source m.destination c → Any (MakesForward refs m.source m.destination) (without k h)
-      by (j, c, at, makes) = elim (same_or_other j k) [
+      by (j, c, at, makes) = elim (cases_eq j k) [
         | inr other ↦ stays_any (MakesForward refs m.source m.destination) h k j c other at makes
         | inl same ↦
             let maps = maps_of g h all k c (subst (λ i. slice_get h i ≡ Some c) same at) refs m.source m.destination makes in
@@ -197,7 +183,7 @@ module _ (g h : List Reading) (all : AllZip IsCompleted g h) (refs : List Ref) (
 
 pub idle_left_out : (g : List Reading) → IdleLeftOut g
 idle_left_out g idle u are there h refs kept rest all valid of_all of_rest m sound =
-    let (j, q, at, (same, positive, by)) = made_of (λ i r v. (v.spec ≡ i) × IsPositive r.mode × IsIdleBy g i v.reason) 0 g idle u are there in
+    let (j, q, at, (same, positive, by)) = made_of (λ i r v. (v.spec ≡ i) × IsPositive r.mode × IsIdleBy g i v.reason) g idle u are there in
     let index : j ≡ u.spec = omega (arith, same) in
     let here : slice_get g u.spec ≡ Some q = subst (λ i. slice_get g i ≡ Some q) index at in
     let reason_is : IsIdleBy g u.spec u.reason = subst (λ i. IsIdleBy g i u.reason) (sym same) by in
@@ -222,7 +208,7 @@ module _ (g h : List Reading) (all : AllZip IsCompleted g h) (refs : List Ref) (
       negative c (id bytes) is makes = subst IsPositive is makes.positive
 
       by : (j : ℕ) × (c : Reading) × (slice_get h j ≡ Some c) × MakesForward refs s d c → Any (MakesForward refs s d) (without k h)
-      by (j, c, at, makes) = elim (same_or_other j k) [
+      by (j, c, at, makes) = elim (cases_eq j k) [
         | inr other ↦ stays_any (MakesForward refs s d) h k j c other at makes
         | inl same ↦
             let (r, there, done) = zip_of g h all k c (subst (λ i. slice_get h i ≡ Some c) same at) in
@@ -243,7 +229,7 @@ module _ (g h : List Reading) (all : AllZip IsCompleted g h) (refs : List Ref) (
       of (id bytes) valid any none = none
       of (name n) valid any by =
           let (j, c, at, excludes) = by_index h n by in
-          elim (same_or_other j k) [
+          elim (cases_eq j k) [
             | inr other ↦ excluded_any (without k h) n (stays_any (IsExcludedBy n) h k j c other at excludes)
             | inl same ↦
                 let (i, maps) = made n valid any in
@@ -254,7 +240,7 @@ module _ (g h : List Reading) (all : AllZip IsCompleted g h) (refs : List Ref) (
 
 pub idle_exclusion_left_out : (g : List Reading) → IdleExclusionLeftOut g
 idle_exclusion_left_out g idle k are there h refs kept rest all of_all of_rest m sound =
-    let (j, q, at, (same, is)) = made_of (λ i r made. (made ≡ i) × IsIdleExclusion g r) 0 g idle k are there in
+    let (j, q, at, (same, is)) = made_of (λ i r made. (made ≡ i) × IsIdleExclusion g r) g idle k are there in
     let here : slice_get g k ≡ Some q = subst (λ i. slice_get g i ≡ Some q) (omega (arith, same)) at in
     let whole = (kept_exactly h refs).forward kept of_all m in
     let part = (kept_exactly (without k h) refs).forward rest of_rest m in (

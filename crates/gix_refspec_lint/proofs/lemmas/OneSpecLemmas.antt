@@ -3,12 +3,12 @@ use Rattle.gix_refspec_lint.proofs.Common.{◌≡◌, inl, inr, ◌↔◌, ℕ, 
 use Rattle.gix_refspec_lint.proofs.Common.{Any, slice_get, get_or-map, length-map, Ref, IsPositive, Reading, AreKeptForward, Source, name, id, Mapped, HasPair, IsExcluded, IsExcludedBy, IsSamePair}
 use Rattle.gix_refspec_lint.proofs.Common.{IsSourceExcluded, mapped_of, Mapping, MakesForward, kept_exactly, Bool, true, false, MatchBool, is_some, HaveSameNames, IsValidSource, CanBeWritten, IsSound}
 use Rattle.gix_refspec_lint.proofs.Common.{refs_of, ExcludesFrom, MakesSoundly, pair_of, Bor, IsTrue, nat_eq, pointwise, false≢true, Decides-eqb, same_Some, slice_eq-Decides, Excludes, Fits}
-use Rattle.gix_refspec_lint.proofs.Common.{by_pattern, the_name, IsAccepted, Negative, star, IsSplit, Lacks, lacks_no_pattern, split_once, sides_agree, HasSourcePattern, HasParts}
+use Rattle.gix_refspec_lint.proofs.Common.{by_pattern, the_name, IsAccepted, Negative, star, IsSplit, Lacks, lacks_no_pattern, split_once, HasSourcePattern, HasParts}
 use Rattle.gix_refspec_match.specs.declared.exclusions.Exclusions.{Exclusions}
 use Rattle.gix_refspec_match.specs.Private.Kept.{AreExclusionsAt, AreExclusionsOf, ExcludeName, ExcludeNameAt}
 use Rattle.gix_refspec_match.proofs.lemmas.keep.KeptLemmas.{HasPair-from_place}
 use Rattle.gix_refspec_lint.proofs.lemmas.IndexLemmas.{made_there, makes_fewer, own_among, own_there}
-use Rattle.gix_refspec_lint.proofs.lemmas.FoundLemmas.{makes_also}
+use Rattle.gix_refspec_lint.proofs.lemmas.FoundLemmas.{makes_also, unsplit_lacks}
 
 -- ---- exclusions
 
@@ -127,10 +127,7 @@ module _ (r : Reading) (x : List ℕ) (negative : r.mode ≡ Negative) (has : r.
   plain_excludes b accepted none same = ((λ told. excludes_by (the_name lacks (sym (same.0 told)))), (λ by. same.1 (named (text_excludes by))))
     where
       lacks : Lacks star x
-      lacks = elim ((sides_agree r accepted).each x (inl has)) [
-        | inl (before, after, split) ↦ absurd (none x before after refl split)
-        | inr no_star ↦ no_star
-      ]
+      lacks = unsplit_lacks r accepted x (inl has) (λ before after. none x before after refl)
 
       named : Excludes x n → x ≡ n
       named (the_name no_star is) = sym is

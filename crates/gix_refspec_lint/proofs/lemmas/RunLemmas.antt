@@ -1,22 +1,18 @@
 -- Overlaps that come to nothing for one reason.
-use Rattle.gix_refspec_lint.proofs.Common.{◌≡◌, ◌≢◌, ◌⊎◌, inl, inr, ℕ, zero, suc, ◌+◌, ◌<◌, ◌≤◌, List, [], ◌∷◌, ◌++◌, drop, length, take, append_assoc, append-nil, length-append, refl, sym, ap, ◌∙◌}
-use Rattle.gix_refspec_lint.proofs.Common.{subst, arith, nil_from_length, EndsWith, upto, IsOverlap, power, IsFirstOf, IsNextOf, IsRun, Run, Why, Unknown, take-append-drop, length-take-le}
-use Rattle.gix_refspec_lint.proofs.Common.{take-append-le, drop-append-le, get_or, AllByRecursion, take_more, all_join, ◌-◌, length-drop, Contains, Contains-append_left, Contains-push, IsBorder}
-use Rattle.gix_refspec_lint.proofs.Common.{take-take, of_element, Contains-get_or, Contains-push_cases, IsDeciding, AreOverlaps}
-use Rattle.gix_refspec_lint.proofs.lemmas.ByteLemmas.{ends_either, ends_within}
+use Rattle.gix_refspec_lint.proofs.Common.{drop_at, take_at, ◌≡◌, ◌≢◌, ◌⊎◌, inl, inr, ℕ, zero, suc, ◌+◌, ◌<◌, ◌≤◌, List, [], ◌∷◌, ◌++◌, drop, length, take, append_assoc, append-nil, length-append, refl, sym, ap, ◌∙◌}
+use Rattle.gix_refspec_lint.proofs.Common.{subst, arith, nil_from_length, EndsWith, upto, IsOverlap, power, IsFirstOf, IsNextOf, IsRun, Run, Why, Unknown, take-append-drop, length-take-le, get_or}
+use Rattle.gix_refspec_lint.proofs.Common.{AllByRecursion, take_more, all_join, ◌-◌, of_element, Contains-get_or, IsDeciding, AreOverlaps}
+use Rattle.gix_refspec_lint.proofs.lemmas.ByteLemmas.{ends_behind, parted}
 use Rattle.gix_refspec_lint.proofs.lemmas.RepeatLemmas.{power_long}
 
 -- ---- texts
 
 -- texts of one length that a text ends with are the same
 same_end : (x y n : List ℕ) → EndsWith x n → EndsWith y n → length x ≡ length y → x ≡ y
-same_end x y n one other size = elim (ends_either x y n one other) [
-  | inl (m, longer) ↦ longer ∙ ap (λ z. z ++ y) (nil_from_length m (omega (arith, size, ap length longer, length-append m y)))
-  | inr (m, longer) ↦ sym (longer ∙ ap (λ z. z ++ x) (nil_from_length m (omega (arith, size, ap length longer, length-append m x))))
+same_end x y n one other size = elim (parted one.before x other.before y (sym one.here ∙ other.here)) [
+  | inl (m, longer, rest) ↦ rw (nil_from_length m (omega (arith, size, ap length rest, length-append m y))) at rest
+  | inr (m, longer, rest) ↦ rw (nil_from_length m (omega (arith, size, ap length rest, length-append m x))) at (sym rest)
 ]
-
-end_of_end : (x y n : List ℕ) → EndsWith x y → EndsWith y n → EndsWith x n
-end_of_end x y n one other = record { before = other.before ++ one.before; here = other.here ∙ ap (λ z. other.before ++ z) one.here ∙ sym (append_assoc other.before one.before x) }
 
 -- ---- runs
 
@@ -38,15 +34,10 @@ module _ (Holds : Why → List ℕ → Type 0) (prefix suffix : List ℕ) where
     longest = omega (arith, is.shortest, is.longest);
     ends = ends;
     equal = λ over. absurd (omega (arith, over));
-    holds = λ i below.
-        let none : 0 ≡ i = omega (arith, below) in
-        subst (λ j. Holds run.why (prefix ++ (power (0 ∷ []) j ++ drop k suffix))) none (subst (λ w. Holds w (prefix ++ drop k suffix)) (sym is.why) holds);
+    holds = λ i below. let none : i ≡ 0 = omega arith in rw (none, is.why) holds;
   }
 
   module _ (run : Run) (is : IsRun Holds prefix suffix run) (k : ℕ) (overlap : IsOverlap prefix suffix k) (below : k ≤ run.shortest) where
-    under : k ≤ length is.front
-    under = omega (arith, below, is.shortest)
-
     abbrev front : List ℕ
     front = take k is.front
 
@@ -54,43 +45,48 @@ module _ (Holds : Why → List ℕ → Type 0) (prefix suffix : List ℕ) where
     abbrev more : List ℕ
     more = drop k is.front
 
+    abbrev old : List ℕ
+    old = power is.word is.times ++ is.rest
+
     parts : is.front ≡ front ++ more
     parts = sym (take-append-drop k is.front)
 
     size : length front ≡ k
-    size = length-take-le k is.front under
+    size = length-take-le k is.front (omega (arith, below, is.shortest))
 
     more_size : k + length more ≡ run.shortest
-    more_size = let whole = ap length parts ∙ length-append front more in omega (arith, whole, size, is.shortest)
+    more_size = omega (arith, ap length parts, length-append front more, size, is.shortest)
 
-    whole : suffix ≡ front ++ (more ++ (power is.word is.times ++ is.rest))
-    whole = is.whole ∙ ap (λ x. x ++ (power is.word is.times ++ is.rest)) parts ∙ append_assoc front more (power is.word is.times ++ is.rest)
+    whole : suffix ≡ front ++ (more ++ old)
+    whole = is.whole ∙ ap (λ x. x ++ old) parts ∙ append_assoc front more old
 
-    left : drop k suffix ≡ more ++ (power is.word is.times ++ is.rest)
-    left = ap (drop k) is.whole ∙ drop-append-le k is.front (power is.word is.times ++ is.rest) under
+    left : drop k suffix ≡ more ++ old
+    left = ap (drop k) whole ∙ drop_at front (more ++ old) k size
 
     front_ends : EndsWith front prefix
-    front_ends = subst (λ x. EndsWith x prefix) (ap (take k) is.whole ∙ take-append-le k is.front (power is.word is.times ++ is.rest) under) overlap.ends
+    front_ends = subst (λ x. EndsWith x prefix) (ap (take k) whole ∙ take_at front (more ++ old) k size) overlap.ends
 
     more_ends : EndsWith more prefix
-    more_ends = end_of_end more is.front prefix (record { before = front; here = parts }) is.ends
+    more_ends = subst (EndsWith more) (sym is.ends.here) (ends_behind more is.ends.before is.front (record { before = front; here = parts }))
 
     -- by as much as those before are apart it is the word once more
     once_more : 0 < is.times → length more ≡ run.step → more ≡ is.word
     once_more some equal = let (ends, long) = is.equal some in same_end more is.word prefix more_ends ends (equal ∙ sym long)
 
     name_is : more ≡ is.word → prefix ++ drop k suffix ≡ prefix ++ (power is.word (suc is.times) ++ is.rest)
-    name_is same = ap (λ x. prefix ++ x) (left ∙ ap (λ x. x ++ (power is.word is.times ++ is.rest)) same ∙ sym (append_assoc is.word (power is.word is.times) is.rest))
+    name_is same = ap (λ x. prefix ++ x) (left ∙ ap (λ x. x ++ old) same ∙ sym (append_assoc is.word (power is.word is.times) is.rest))
 
-    goes : Goes Holds → run.why ≢ Unknown → run.shortest + 5 ≤ run.longest → k + run.step ≡ run.shortest → Holds run.why (prefix ++ drop k suffix)
-    goes law known long step =
+    -- so it goes on without a look
+    goes : Goes Holds → (why : Why) → why ≡ run.why → why ≢ Unknown → run.shortest + 5 ≤ run.longest → k + run.step ≡ run.shortest → Holds why (prefix ++ drop k suffix)
+    goes law why same known long step =
         let next : is.times + 1 ≡ suc is.times = omega arith in
-        subst (Holds run.why) (ap (λ j. prefix ++ (power is.word j ++ is.rest)) next ∙ sym (name_is (once_more (repeated is.times long is.longest) (omega (arith, step, more_size)))))
-        (law run.why prefix is.word is.rest is.times known is.some (omega (arith, long, is.longest)) is.holds)
+        let repeated : 0 < is.times = some is.times long is.longest in
+        subst (Holds why) (ap (λ j. prefix ++ (power is.word j ++ is.rest)) next ∙ sym (name_is (once_more repeated (omega (arith, step, more_size)))))
+        (law why prefix is.word is.rest is.times known is.some (omega (arith, long, is.longest)) (λ j below. rw same (is.holds j below)))
       where
-        repeated : (i : ℕ) → run.shortest + 5 ≤ run.longest → run.shortest + length (power is.word i) ≡ run.longest → 0 < i
-        repeated zero long sizes = absurd (omega (arith, long, sizes))
-        repeated (suc i) long sizes = omega arith
+        some : (i : ℕ) → run.shortest + 5 ≤ run.longest → run.shortest + length (power is.word i) ≡ run.longest → 0 < i
+        some zero long sizes = absurd (omega (arith, long, sizes))
+        some (suc i) long sizes = omega arith
 
     module _ (why : Why) (new : Run) (next : IsNextOf run k why new) (holds : Holds why (prefix ++ drop k suffix)) where
       step_is : length more ≡ new.step
@@ -102,26 +98,25 @@ module _ (Holds : Why → List ℕ → Type 0) (prefix suffix : List ℕ) where
       -- the first two
       second : is.times ≡ 0 → IsRun Holds prefix suffix new
       second none =
-          let before : is.rest ≡ power is.word is.times ++ is.rest = ap (λ j. power is.word j ++ is.rest) (sym none) in
-          let name : prefix ++ drop k suffix ≡ prefix ++ (power more 1 ++ is.rest) = ap (λ x. prefix ++ x) (left ∙ ap (λ x. more ++ x) (sym before) ∙ ap (λ x. x ++ is.rest) (sym (append-nil more))) in
+          let before : old ≡ is.rest = ap (λ j. power is.word j ++ is.rest) none in
           record {
             front = front;
             word = more;
             times = 1;
             rest = is.rest;
-            whole = whole ∙ ap (λ x. front ++ (more ++ x)) (sym before) ∙ ap (λ x. front ++ (x ++ is.rest)) (sym (append-nil more));
+            whole = whole ∙ simp (before, append-nil);
             some = λ none. absurd (omega (arith, next.some, step_is, ap length none));
             shortest = size ∙ sym next.shortest;
             longest = omega (arith, next.shortest, next.longest, more_size, is.longest, ap (λ j. length (power is.word j)) none, ap length (append-nil more));
             ends = front_ends;
             equal = λ over. (more_ends, step_is);
-            holds = λ i upper. by_number i (omega (arith, upper)) name;
+            holds = by_number;
           }
         where
-          by_number : (i : ℕ) → i < 2 → prefix ++ drop k suffix ≡ prefix ++ (power more 1 ++ is.rest) → Holds new.why (prefix ++ (power more i ++ is.rest))
-          by_number zero upper name = subst (λ w. Holds w (prefix ++ is.rest)) (sym why_is) (is.holds 0 (omega arith))
-          by_number (suc zero) upper name = subst (λ w. Holds w (prefix ++ (power more 1 ++ is.rest))) (sym next.why) (subst (Holds why) name holds)
-          by_number (suc (suc i)) upper name = absurd (omega (arith, upper))
+          by_number : (i : ℕ) → i ≤ 1 → Holds new.why (prefix ++ (power more i ++ is.rest))
+          by_number zero upper = rw why_is (is.holds 0 (omega arith))
+          by_number (suc zero) upper = subst (Holds new.why) (ap (λ x. prefix ++ x) (left ∙ ap (λ j. more ++ (power is.word j ++ is.rest)) none ∙ ap (λ x. x ++ is.rest) (sym (append-nil more)))) (rw next.why holds)
+          by_number (suc (suc i)) upper = absurd (omega (arith, upper))
 
       -- and any more
       later : 0 < is.times → new.step ≡ run.step → IsRun Holds prefix suffix new
@@ -132,15 +127,15 @@ module _ (Holds : Why → List ℕ → Type 0) (prefix suffix : List ℕ) where
             word = is.word;
             times = suc is.times;
             rest = is.rest;
-            whole = whole ∙ ap (λ x. front ++ (x ++ (power is.word is.times ++ is.rest))) same ∙ ap (λ x. front ++ x) (sym (append_assoc is.word (power is.word is.times) is.rest));
+            whole = whole ∙ ap (λ x. front ++ (x ++ old)) same ∙ simp append_assoc;
             some = is.some;
             shortest = size ∙ sym next.shortest;
             longest = omega (arith, next.shortest, next.longest, more_size, is.longest, length-append is.word (power is.word is.times), ap length same);
             ends = front_ends;
             equal = λ over. ((is.equal some).0, (is.equal some).1 ∙ sym equal);
             holds = λ i upper. elim (upto i (suc is.times) (omega (arith, upper))) [
-              | inl fewer ↦ subst (λ w. Holds w (prefix ++ (power is.word i ++ is.rest))) (sym why_is) (is.holds i (omega (arith, fewer)))
-              | inr all ↦ subst (λ j. Holds new.why (prefix ++ (power is.word j ++ is.rest))) (sym all) (subst (λ w. Holds w (prefix ++ (power is.word (suc is.times) ++ is.rest))) (sym next.why) (subst (Holds why) (name_is same) holds))
+              | inl fewer ↦ rw why_is (is.holds i (omega (arith, fewer)))
+              | inr all ↦ rw (all, next.why, ← name_is same) holds
             ];
           }
 
@@ -158,11 +153,6 @@ module _ (Holds : Why → List ℕ → Type 0) (prefix suffix : List ℕ) where
   pub run_with : (run : Run) → IsRun Holds prefix suffix run → (k : ℕ) → IsOverlap prefix suffix k → (why : Why) (new : Run) → Holds why (prefix ++ drop k suffix) → IsFirstOf k why new ⊎ IsNextOf run k why new → IsRun Holds prefix suffix new
   run_with run is k overlap why new holds (inl first) = run_first k why new overlap.within overlap.ends holds first
   run_with run is k overlap why new holds (inr next) = run_next run is k overlap (omega (arith, next.step)) why new next holds
-
-  -- at an overlap with which it goes on, without a look
-  pub run_goes : Goes Holds → (run : Run) → IsRun Holds prefix suffix run → (k : ℕ) → IsOverlap prefix suffix k → (why : Why) → why ≡ run.why → why ≢ Unknown → run.shortest + 5 ≤ run.longest → k + run.step ≡ run.shortest → Holds why (prefix ++ drop k suffix)
-  run_goes law run is k overlap why same known long step =
-      subst (λ w. Holds w (prefix ++ drop k suffix)) (sym same) (goes run is k overlap (omega (arith, step)) law (λ unknown. known (same ∙ unknown)) long step)
 
 -- ---- overlaps one after another, in which there is nothing
 
@@ -190,7 +180,7 @@ module _ (P : List ℕ → Type 0) (Holds : Why → List ℕ → Type 0) (prefix
   pub passed_over : Goes Holds → ((why : Why) (n : List ℕ) → why ≢ Unknown → Holds why n → P n) → (why : Why) (new : Run)
       → (why ≡ run.why) × (why ≢ Unknown) × (run.shortest + 5 ≤ run.longest) × (k + run.step ≡ run.shortest) → IsFirstOf k why new ⊎ IsNextOf run k why new → AreSoFar P Holds prefix suffix (take (i + 1) list) new
   passed_over law nothing why new (same, known, long, step) next =
-      let reason = run_goes Holds prefix suffix law run so_far.goes k overlap why same known long step in
+      let reason = goes Holds prefix suffix run so_far.goes k overlap (omega (arith, step)) law why same known long step in
       one_more why new (nothing why (prefix ++ drop k suffix) known reason) reason next
 
 pub none_so_far : (P : List ℕ → Type 0) (Holds : Why → List ℕ → Type 0) (prefix suffix : List ℕ) (run : Run) → Holds Unknown (prefix ++ suffix) → IsFirstOf 0 Unknown run → AreSoFar P Holds prefix suffix [] run
@@ -198,77 +188,6 @@ none_so_far P Holds prefix suffix run holds first = record {
   all = tt;
   goes = run_first Holds prefix suffix 0 Unknown run (omega arith) (record { before = prefix; here = sym (append-nil prefix) }) holds first;
 }
-
--- ---- the borders of the first bytes of one text followed by the last of another are the overlaps of both
-
--- ---- texts
-
-ends_behind : (x a b : List ℕ) → EndsWith x b → EndsWith x (a ++ b)
-ends_behind x a b ends = record { before = a ++ ends.before; here = ap (λ z. a ++ z) ends.here ∙ sym (append_assoc a ends.before x) }
-
-take_within : (k most : ℕ) (x y : List ℕ) → k ≤ most → most ≤ length x → take k (take most x ++ y) ≡ take k x
-take_within k most x y below within = take-append-le k (take most x) y (omega (arith, below, length-take-le most x within)) ∙ take-take k most x below
-
--- ---- overlaps
-
-module _ (prefix suffix text : List ℕ) (most : ℕ) (in_prefix : most ≤ length prefix) (in_suffix : most ≤ length suffix) (is : text ≡ take most suffix ++ drop (length prefix - most) prefix) where
-  abbrev end : List ℕ
-  end = drop (length prefix - most) prefix
-
-  end_size : length end ≡ most
-  end_size = omega (arith, length-drop (length prefix - most) prefix, in_prefix)
-
-  first : (k : ℕ) → k ≤ most → take k text ≡ take k suffix
-  first k below = ap (take k) is ∙ take_within k most suffix end below in_suffix
-
-  first_size : (k : ℕ) → k ≤ most → length (take k suffix) ≡ k
-  first_size k below = length-take-le k suffix (omega (arith, below, in_suffix))
-
-  pub shared_of : (k : ℕ) → k ≤ most → IsBorder text k → IsOverlap prefix suffix k
-  shared_of k below border = record {
-    some = border.some;
-    within = omega (arith, below, in_suffix);
-    ends = subst (EndsWith (take k suffix)) (take-append-drop (length prefix - most) prefix)
-        (ends_behind (take k suffix) (take (length prefix - most) prefix) end
-        (ends_within (take k suffix) (take most suffix) end (omega (arith, first_size k below, end_size, below)) (subst (EndsWith (take k suffix)) is (subst (λ x. EndsWith x text) (first k below) border.same))));
-  }
-
-  pub border_of : (k : ℕ) → k ≤ most → IsOverlap prefix suffix k → IsBorder text k
-  border_of k below overlap =
-      let sizes : length text ≡ length (take most suffix) + length end = ap length is ∙ length-append (take most suffix) end in
-      record {
-        some = overlap.some;
-        shorter = omega (arith, sizes, end_size, length-take-le most suffix in_suffix, below, overlap.some);
-        same = subst (λ x. EndsWith x text) (sym (first k below)) (subst (EndsWith (take k suffix)) (sym is)
-            (ends_behind (take k suffix) (take most suffix) end
-            (ends_within (take k suffix) (take (length prefix - most) prefix) end (omega (arith, first_size k below, end_size, below)) (subst (EndsWith (take k suffix)) (sym (take-append-drop (length prefix - most) prefix)) overlap.ends))));
-      }
-
--- those of a list that are at most so many
-pub record AreUpTo (prefix suffix : List ℕ) (most : ℕ) (list found : List ℕ) : Type 0 where
-  pub each : AllByRecursion (IsOverlap prefix suffix) found
-  pub all : (k : ℕ) → Contains list k → k ≤ most → Contains found k
-
-module _ (prefix suffix : List ℕ) (most : ℕ) (list found : List ℕ) (i k : ℕ) (below : i < length list) (at : k ≡ get_or list i k) (so_far : AreUpTo prefix suffix most (take i list) found) where
-  last_or_before : (j : ℕ) → Contains (take (i + 1) list) j → Contains (take i list ++ k ∷ []) j
-  last_or_before j there = subst (λ l. Contains l j) (take_more list i k below ∙ ap (λ x. take i list ++ x ∷ []) (sym at)) there
-
-  pub one_listed : IsOverlap prefix suffix k → AreUpTo prefix suffix most (take (i + 1) list) (found ++ k ∷ [])
-  one_listed overlap = record {
-    each = all_join (IsOverlap prefix suffix) found (k ∷ []) so_far.each (overlap, tt);
-    all = λ j there few. by_place j few (Contains-push_cases (take i list) k j (last_or_before j there));
-  }
-    where
-      by_place : (j : ℕ) → j ≤ most → Contains (take i list) j ⊎ (k ≡ j) → Contains (found ++ k ∷ []) j
-      by_place j few (inl earlier) = Contains-append_left found (k ∷ []) j (so_far.all j earlier few)
-      by_place j few (inr same) = subst (Contains (found ++ k ∷ [])) same (Contains-push found k)
-
-  pub one_left_out : most < k → AreUpTo prefix suffix most (take (i + 1) list) found
-  one_left_out over = record { each = so_far.each; all = λ j there few. by_place j few (Contains-push_cases (take i list) k j (last_or_before j there)) }
-    where
-      by_place : (j : ℕ) → j ≤ most → Contains (take i list) j ⊎ (k ≡ j) → Contains found j
-      by_place j few (inl earlier) = so_far.all j earlier few
-      by_place j few (inr same) = absurd (omega (arith, over, few, same))
 
 -- ---- what holds at the names that decide
 

@@ -18,7 +18,7 @@ returns-then-not-branch c g is written =
     let s = start_of c.args.one.now in
     let t = start_of c.args.other.now in
     let at = reading_at c.args.group.now.specs.now c.args.first c.index-group-first.result c.requires.0 in
-    let named = both_named _ _ s t (rw c.new-items.ensures.items at c.in_ok-add_item.ensures) c.in_ok-add_item-2.ensures in (
+    let named = both_named _ _ (refs_of s) (refs_of t) (rw c.new-items.ensures.items at c.in_ok-add_item.ensures) c.in_ok-add_item-2.ensures in (
       (λ told. absurd (false≢true told)),
       (λ k. absurd (false≢true (sym c.if-not-branch.true ∙ c.in_ok-makes.ensures.1
           (makes_named g _ is.completed c.args.first c.args.second (map ref_of c.as_slice-refs.result.now) s t (bstr_bytes c.args.destination) (rw c.as_slice-refs.ensures.value named) c.args.first _ at s k.one)))),
@@ -32,7 +32,7 @@ returns c g is written =
     let refs = map ref_of c.as_slice-refs.result.now in
     let at = reading_at cs c.args.first c.index-group-first.result c.requires.0 in
     let also = reading_at cs c.args.second c.index-group-second.result c.requires.1 in
-    let named : HaveSameNames refs (refs_of s ++ refs_of t) = rw c.as_slice-refs.ensures.value (both_named _ _ s t (rw c.new-items.ensures.items at c.in_ok-add_item.ensures) c.in_ok-add_item-2.ensures) in
+    let named : HaveSameNames refs (refs_of s ++ refs_of t) = rw c.as_slice-refs.ensures.value (both_named _ _ (refs_of s) (refs_of t) (rw c.new-items.ensures.items at c.in_ok-add_item.ensures) c.in_ok-add_item-2.ensures) in
     IfOk-weaker c.makes-2.result _ _
     (λ does told. (
       (λ yes. conflict_made g _ is.completed c.args.first c.args.second refs s t (bstr_bytes c.args.destination) named _ _ at also

@@ -1,5 +1,5 @@
 -- Without a longer text no name fits both patterns.
-use Rattle.gix_refspec_lint.proofs.lemmas.ByteLemmas.{fits_begins, fits_ends}
+use Rattle.gix_refspec_lint.proofs.lemmas.WordLemmas.{fits_begins, fits_ends}
 use Rattle.gix_refspec_lint.proofs.words.Common.of.Goals as goal
 
 pub returns-in_default : goal.returns-in_default

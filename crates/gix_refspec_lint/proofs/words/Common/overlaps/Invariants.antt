@@ -1,6 +1,6 @@
 -- the overlaps among the borders so far
 use Rattle.gix_refspec_lint.proofs.Common.{take}
-use Rattle.gix_refspec_lint.proofs.lemmas.RunLemmas.{AreUpTo}
+use Rattle.gix_refspec_lint.proofs.lemmas.BorderLemmas.{AreUpTo}
 use Rattle.gix_refspec_lint.proofs.words.Common.overlaps.Given as goal
 
 abbrev pub invariant-loop-length : goal.invariant-loop-length
