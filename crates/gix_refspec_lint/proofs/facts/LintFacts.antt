@@ -51,12 +51,15 @@ below x fine = (record { after = x; here = refl }, IsName-tested (codes "refs/" 
 
 -- a forced spec of two patterns maps the ref with a word
 maps_at : (p t a b w : List ℕ) → IsSplit p t (p ++ (star ∷ t)) → IsSplit a b (a ++ (star ∷ b)) → (refs : List Ref) → HasName refs (p ++ (w ++ t)) → (g : List Reading) (k : ℕ)
-    → slice_get g k ≡ Some (fetched Forced (p ++ (star ∷ t)) (Some (a ++ (star ∷ b)))) → IsRefName (p ++ (w ++ t)) → CanBeWritten (Some (a ++ (w ++ b)))
+    → slice_get g k ≡ Some (fetched Forced (p ++ (star ∷ t)) (Some (a ++ (star ∷ b)))) → IsRefName (p ++ (w ++ t))
+        → CanBeWritten (Some (a ++ (w ++ b)))
     → MapsSoundly g refs k (name (p ++ (w ++ t))) (Some (a ++ (w ++ b)))
 maps_at p t a b w source destination refs there g k at valid written =
-    let spec = two_patterns (fetched Forced (p ++ (star ∷ t)) (Some (a ++ (star ∷ b)))) p t a b _ tt (record { text = _; has = refl; split = source }) refl destination in
+    let spec = two_patterns (fetched Forced (p ++ (star ∷ t)) (Some (a ++ (star ∷ b)))) p t a b _ tt (record { text = _; has = refl;
+    split = source }) refl destination in
     record {
-      maps = record { reading = _; at = at; completed = _; is = completed_as (p ++ (star ∷ t)) a b; makes = spec_maps _ p t spec refs w there };
+      maps = record { reading = _; at = at; completed = _; is = completed_as (p ++ (star ∷ t)) a b;
+          makes = spec_maps _ p t spec refs w there };
       source = valid;
       destination = written;
     }
@@ -90,7 +93,8 @@ main_no_ref (inr same) = other_byte 0 (codes "main") (codes "HEAD") (λ equal. o
 -- what the completed reading of a spec makes, where that is the spec itself
 made_by : {g : List Reading} {refs : List Ref} {k : ℕ} {s : Source} {d : Option (List ℕ)} (r : Reading) → slice_get g k ≡ Some r → IsCompleted r r → Maps g refs k s d → MakesForward refs s d r
 made_by {g} {refs} {k} {s} {d} r at done m =
-    subst (MakesForward refs s d) (reading_once r m.completed r (subst (λ q. IsCompleted q m.completed) (same_Some _ _ (sym m.at ∙ at)) m.is) done) m.makes
+    subst (MakesForward refs s d) (reading_once r m.completed r (subst (λ q. IsCompleted q m.completed)
+    (same_Some _ _ (sym m.at ∙ at)) m.is) done) m.makes
 
 -- a branch in the folder of the pull requests, and the pull request of its name, are an example of a conflict
 pub example : IsExample (every ∷ pulls ∷ []) 0 1 seven
@@ -215,15 +219,18 @@ full_name_idle = (earlier, does)
     from_full : (refs : List Ref) (d : Option (List ℕ)) → AreValid refs → MakesForward refs (name full) d (to_x full) → Maps main_twice refs 0 (name full) d
     from_full refs d valid makes =
         let own = made_by (to_x full) refl (x_completed full) (maps_second (refs_of (name full)) (inl refl)) in
-        subst (Maps main_twice refs 0 (name full)) (one_far (refs_of (name full)) refs (name full) (Some (codes "refs/x")) d (to_x full) own makes)
+        subst (Maps main_twice refs 0 (name full)) (one_far (refs_of (name full)) refs (name full) (Some (codes "refs/x")) d
+        (to_x full) own makes)
         (maps_first refs valid (made_there refs (name full) d (to_x full) makes))
 
     earlier : IsAlwaysEarlier main_twice 1
     earlier refs s d valid f =
         let makes = made_by (to_x full) refl (x_completed full) f.maps.maps in
-        let there = sources_there (to_x full) full refl refs d (full_name full) (name full ∷ []) full_kind (λ b a. lacks_no_pattern full b a full_kind.1) refl s makes in
+        let there = sources_there (to_x full) full refl refs d (full_name full) (name full ∷ []) full_kind
+        (λ b a. lacks_no_pattern full b a full_kind.1) refl s makes in
         let is : s ≡ name full = one_in (name full) s there in
-        (0, omega arith, subst (λ t. Maps main_twice refs 0 t d) (sym is) (from_full refs d valid (subst (λ t. MakesForward refs t d (to_x full)) is makes)))
+        (0, omega arith, subst (λ t. Maps main_twice refs 0 t d) (sym is)
+        (from_full refs d valid (subst (λ t. MakesForward refs t d (to_x full)) is makes)))
 
     does : DoesBefore main_twice 1 0
     does = record {
@@ -231,7 +238,8 @@ full_name_idle = (earlier, does)
       valid = (inl (below (codes "main") refl), tt);
       source = name full;
       destination = Some (codes "refs/x");
-      fetches = record { maps = record { maps = maps_second (refs_of (name full)) (inl refl); source = inl (below (codes "main") refl); destination = below (codes "x") refl }; included = λ by. grind arith };
+      fetches = record { maps = record { maps = maps_second (refs_of (name full)) (inl refl); source = inl (below (codes "main") refl);
+          destination = below (codes "x") refl }; included = λ by. grind arith };
       before = omega arith;
       maps = maps_first _ (inl (below (codes "main") refl), tt) (inl refl);
     }
@@ -283,5 +291,6 @@ no_conflict law refs planned missing plan = law no_examples (λ empty. cc (empty
 -- and a fetch from the remote of an example keeps a mapping of each of its sources
 pub seven_kept : ExamplesConflict (every ∷ pulls ∷ []) → (kept : List Mapped) → AreKeptForward (every ∷ pulls ∷ []) both kept → HasSound kept seven.one seven.destination × HasSound kept seven.other seven.destination
 seven_kept law kept are =
-    let told = law 0 1 seven example (every ∷ pulls ∷ []) kept (every_completed, (completed_as _ (codes "refs/remotes/origin/pr/") [], tt)) are in
+    let told = law 0 1 seven example (every ∷ pulls ∷ []) kept (every_completed, (completed_as _ (codes "refs/remotes/origin/pr/") [],
+    tt)) are in
     (told.0, told.1)

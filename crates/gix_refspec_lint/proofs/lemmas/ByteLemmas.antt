@@ -57,7 +57,8 @@ module _ (K : List ℕ → Type 0) (kept : K (codes "/") × K (codes ".lock") ×
 -- so where what ends such a text behind p ends it behind q, and a fault in p is one in q, a name stays one with p in place of q
 pub names_as : (K : List ℕ → Type 0) (kept : K (codes "/") × K (codes ".lock") × K (codes ".") × K (codes "@")) (p q y : List ℕ)
     → ((k w : List ℕ) → K w → EndsWith w (slash ∷ (p ++ k)) → EndsWith w (slash ∷ (q ++ k)))
-    → ((e : Error) (before k : List ℕ) (b : ℕ) → slash ∷ p ≡ before ++ (b ∷ k) → AddsFault before b e → Added (slash ∷ (q ++ y)) e) → p ++ y ≢ [] → q ++ y ≢ [] → IsName (q ++ y) → IsName (p ++ y)
+    → ((e : Error) (before k : List ℕ) (b : ℕ) → slash ∷ p ≡ before ++ (b ∷ k) → AddsFault before b e → Added (slash ∷ (q ++ y)) e)
+        → p ++ y ≢ [] → q ++ y ≢ [] → IsName (q ++ y) → IsName (p ++ y)
 names_as K kept p q y ends front also some is =
     IsName-from_clean (p ++ y) also
     (λ e added. is e (HasFault-added (q ++ y) e some (elim (parted (slash ∷ p) y added.before (added.byte ∷ added.after) added.here) [
@@ -69,8 +70,10 @@ names_as K kept p q y ends front also some is =
     ])))
     (λ e leaves. is e (HasFault-left (q ++ y) e some (leaves_as K kept _ _ (ends y) e leaves)))
   where
-    behind : (e : Error) (k : List ℕ) (b : ℕ) (after : List ℕ) → y ≡ k ++ (b ∷ after) → AddsFault (slash ∷ (p ++ k)) b e → Added (slash ∷ (q ++ y)) e
-    behind e k b after rest fault = record { before = slash ∷ (q ++ k); byte = b; after = after; here = rw (rest, append_assoc); fault = adds_as K kept _ _ (ends k) b e fault }
+    behind : (e : Error) (k : List ℕ) (b : ℕ) (after : List ℕ) → y ≡ k ++ (b ∷ after) → AddsFault (slash ∷ (p ++ k)) b e
+        → Added (slash ∷ (q ++ y)) e
+    behind e k b after rest fault = record { before = slash ∷ (q ++ k); byte = b; after = after; here = rw (rest, append_assoc);
+        fault = adds_as K kept _ _ (ends k) b e fault }
 
 -- ---- the byte
 
@@ -84,7 +87,8 @@ module _ (z : ℕ) (usable : IsTrue (is_usable z)) where
 
   lacks_listed : (l : List ℕ) → list_any (λ c. z == c) l ≡ false → Lacks z l
   lacks_listed [] none = tt
-  lacks_listed (c ∷ l) none = let both = or_parts (z == c) (list_any (λ k. z == k) l) none in ((λ is. eqb-false z c both.0 (sym is)), lacks_listed l both.1)
+  lacks_listed (c ∷ l) none = let both = or_parts (z == c) (list_any (λ k. z == k) l) none in ((λ is. eqb-false z c both.0 (sym is)),
+      lacks_listed l both.1)
 
   pub lacks_mid : (before mid after : List ℕ) → kept_from ≡ before ++ (mid ++ after) → Lacks z mid
   lacks_mid before mid after is = all_left (λ c. c ≢ z) mid after (all_right (λ c. c ≢ z) before (mid ++ after) (subst (Lacks z) is (lacks_listed kept_from neither.1)))
@@ -140,16 +144,20 @@ module _ (z : ℕ) (usable : IsTrue (is_usable z)) where
   name_with_byte x v y some is = simp append_assoc at (names_as (Lacks z) lacks_words (x ++ z ∷ []) (x ++ v) y
       (λ k w lacks ends. let last = before_last ends.before w (slash ∷ x) k lacks (simp append_assoc at (sym ends.here)) in
       record { before = slash ∷ (x ++ (v ++ last.0)); here = simp append_assoc (ap (λ t. slash ∷ (x ++ (v ++ t))) last.2) })
-      front (λ none. omega (arith, ap length none, length-append (x ++ z ∷ []) y, length-append x (z ∷ []))) (simp append_assoc some) (simp append_assoc is))
+      front (λ none. omega (arith, ap length none, length-append (x ++ z ∷ []) y, length-append x (z ∷ []))) (simp append_assoc some)
+      (simp append_assoc is))
     where
-      front : (e : Error) (before k : List ℕ) (b : ℕ) → slash ∷ (x ++ z ∷ []) ≡ before ++ (b ∷ k) → AddsFault before b e → Added (slash ∷ ((x ++ v) ++ y)) e
+      front : (e : Error) (before k : List ℕ) (b : ℕ) → slash ∷ (x ++ z ∷ []) ≡ before ++ (b ∷ k) → AddsFault before b e
+          → Added (slash ∷ ((x ++ v) ++ y)) e
       front e before k b here fault = elim (parted (slash ∷ x) (z ∷ []) before (b ∷ k) here) [
         | inl ([], longer, rest) ↦ absurd (adds_nothing before e (let same : b ≡ z = cc in rw same at fault))
         | inl (c ∷ m, longer, rest) ↦ absurd (omega (arith, ap length rest, length-append (c ∷ m) (b ∷ k)))
         | inr ([], longer, rest) ↦ absurd (adds_nothing before e (let same : b ≡ z = cc in rw same at fault))
         | inr (c ∷ m, longer, rest) ↦
             let same : c ≡ b = cc in
-            record { before = before; byte = b; after = m ++ (v ++ y); here = simp append_assoc (ap (λ t. t ++ (v ++ y)) (rw same at longer) ∙ append_assoc before (b ∷ m) (v ++ y)); fault = fault }
+            record { before = before; byte = b; after = m ++ (v ++ y);
+                here = simp append_assoc (ap (λ t. t ++ (v ++ y)) (rw same at longer) ∙ append_assoc before (b ∷ m) (v ++ y));
+                fault = fault }
       ]
 
   -- what fits a pattern with the byte has it in its word
@@ -166,7 +174,8 @@ module _ (z : ℕ) (usable : IsTrue (is_usable z)) where
   excludes_moved text x v y lacks (by_pattern before after word split fits) =
       let sides = subst (Lacks z) split.starred lacks in
       let (u, t, front, end, is) = fits_byte before after x y word (all_left (λ c. c ≢ z) before (star ∷ after) sides) (all_right (λ c. c ≢ z) before (star ∷ after) sides).1 fits in
-      by_pattern before after (u ++ (v ++ t)) split (ap (λ p. p ++ (v ++ y)) front ∙ ap (λ s. (before ++ u) ++ (v ++ s)) end ∙ simp append_assoc)
+      by_pattern before after (u ++ (v ++ t)) split (ap (λ p. p ++ (v ++ y)) front ∙ ap (λ s. (before ++ u) ++ (v ++ s)) end
+      ∙ simp append_assoc)
 
   pub lacks_in : (side : Option (List ℕ)) (x : List ℕ) → side ≡ Some x → LacksIn z side → Lacks z x
   lacks_in None x is lacks = absurd (cc (is))

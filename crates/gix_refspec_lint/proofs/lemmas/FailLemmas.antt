@@ -33,7 +33,8 @@ swap r n d p = record {
 makes_too : (r : Reading) (n d m e : List ℕ) (one : ArePaired r n d) (other : ArePaired r m e) → Fits one.before one.after e other.word
 makes_too r n d m e one other =
     let same : other.destination.text ≡ one.destination.text = same_Some _ _ (sym other.destination.has ∙ one.destination.has) in
-    let ends = split_once one.destination.text other.before other.after one.before one.after (rw same at other.destination.split) one.destination.split in
+    let ends = split_once one.destination.text other.before other.after one.before one.after
+    (rw same at other.destination.split) one.destination.split in
     rw (ends.0, ends.1) at other.makes
 
 -- a destination is paired with one source only
@@ -88,7 +89,8 @@ pub excluded_again : (g : List Reading) (k : ℕ) (x v y : List ℕ) → IsExclu
 excluded_again g k x v y (r, at, by) (q, there, too) some i =
     let same : q ≡ r = same_Some _ _ (sym there ∙ at) in
     let text : too.text ≡ by.text = same_Some _ _ (sym too.source ∙ ap (λ (s : Reading). s.source) same ∙ by.source) in
-    (r, at, record { negative = by.negative; text = by.text; source = by.source; excludes = excludes_again by.text x v y some by.excludes (subst (λ t. Excludes t (x ++ (v ++ y))) text too.excludes) i })
+    (r, at, record { negative = by.negative; text = by.text; source = by.source; excludes = excludes_again by.text x v y some by.excludes
+    (subst (λ t. Excludes t (x ++ (v ++ y))) text too.excludes) i })
 
 -- so long is the word only if it is there
 is_there : (v : List ℕ) (i : ℕ) → 5 ≤ length (power v i) → 1 ≤ i
@@ -105,12 +107,14 @@ sources_again r x v y i some long Bad step all =
     let names = sources_repeat r x v y first.0 second.0 first.1 second.1 in (
       names.front ++ (power names.word (i + 1) ++ names.back),
       names.pairs (i + 1),
-      step names.front names.word names.back (λ none. some (nil_from_length v (sym names.size ∙ ap length none))) (rw (power_length names.word i, names.size, ← power_length v i) long)
+      step names.front names.word names.back (λ none. some (nil_from_length v (sym names.size ∙ ap length none)))
+      (rw (power_length names.word i, names.size, ← power_length v i) long)
           (λ j below. let (n, paired, bad) = all j below in subst Bad (paired_once r n _ _ paired (names.pairs j)) bad),
     )
 
 excluded_step : (g : List Reading) (k i : ℕ) (x v y : List ℕ) → v ≢ [] → 5 ≤ length (power v i) → ((j : ℕ) → j ≤ i → IsExcludedAt g k (x ++ (power v j ++ y))) → IsExcludedAt g k (x ++ (power v (i + 1) ++ y))
-excluded_step g k i x v y some long all = excluded_again g k x v y (all 0 (omega arith)) (rw power_one at (all 1 (is_there v i long))) some (i + 1)
+excluded_step g k i x v y some long all = excluded_again g k x v y (all 0 (omega arith))
+    (rw power_one at (all 1 (is_there v i long))) some (i + 1)
 
 -- where two readings have one source for the destinations without the word and with it once, they have one for each
 same_again : (one other : Reading) (x v y : List ℕ) → (n : List ℕ) × ArePaired one n (x ++ y) × ArePaired other n (x ++ y) → (n : List ℕ) × ArePaired one n (x ++ (power v 1 ++ y)) × ArePaired other n (x ++ (power v 1 ++ y))
@@ -129,10 +133,14 @@ pub fails_again : (g : List Reading) (one other : Reading) (why : Why) (x v y : 
     → ((j : ℕ) → j ≤ i → Fails g one other why (x ++ (power v j ++ y))) → Fails g one other why (x ++ (power v (i + 1) ++ y))
 fails_again g one other Unknown x v y i known some long all = absurd (known refl)
 fails_again g one other Unwritable x v y i known some long all = written_again x v y i long (all i (omega arith))
-fails_again g one other (Invalid First) x v y i known some long all = sources_again one x v y i some long (λ n. ¬ (IsRefName n)) (λ x v y some long bad. names_again x v y i long (bad i (omega arith))) all
-fails_again g one other (Invalid Second) x v y i known some long all = sources_again other x v y i some long (λ n. ¬ (IsRefName n)) (λ x v y some long bad. names_again x v y i long (bad i (omega arith))) all
-fails_again g one other (Excluded First k) x v y i known some long all = sources_again one x v y i some long (IsExcludedAt g k) (excluded_step g k i) all
-fails_again g one other (Excluded Second k) x v y i known some long all = sources_again other x v y i some long (IsExcludedAt g k) (excluded_step g k i) all
+fails_again g one other (Invalid First) x v y i known some long all = sources_again one x v y i some long (λ n. ¬ (IsRefName n))
+    (λ x v y some long bad. names_again x v y i long (bad i (omega arith))) all
+fails_again g one other (Invalid Second) x v y i known some long all = sources_again other x v y i some long (λ n. ¬ (IsRefName n))
+    (λ x v y some long bad. names_again x v y i long (bad i (omega arith))) all
+fails_again g one other (Excluded First k) x v y i known some long all = sources_again one x v y i some long (IsExcludedAt g k)
+    (excluded_step g k i) all
+fails_again g one other (Excluded Second k) x v y i known some long all = sources_again other x v y i some long (IsExcludedAt g k)
+    (excluded_step g k i) all
 fails_again g one other Same x v y i known some long all = same_again one other x v y (all 0 (omega arith)) (all 1 (is_there v i long)) (i + 1)
 
 -- and so does one for which a spec doesn't map the sources soundly
@@ -140,7 +148,8 @@ pub unsound_again : (r : Reading) (why : Why) (x v y : List ℕ) (i : ℕ) → w
     → ((j : ℕ) → j ≤ i → IsUnsound r why (x ++ (power v j ++ y))) → IsUnsound r why (x ++ (power v (i + 1) ++ y))
 unsound_again r Unknown x v y i known some long all = absurd (known refl)
 unsound_again r Unwritable x v y i known some long all =
-    let (d, paired, bad) = sources_again (swapped r) x v y i some long (λ d. ¬ (CanBeWritten (Some d))) (λ x v y some long bad. written_again x v y i long (bad i (omega arith)))
+    let (d, paired, bad) = sources_again (swapped r) x v y i some long (λ d. ¬ (CanBeWritten (Some d)))
+    (λ x v y some long bad. written_again x v y i long (bad i (omega arith)))
     (λ j below. let (d, one, bad) = all j below in (d, swap r _ d one, bad)) in
     (d, swap (swapped r) d _ paired, bad)
 unsound_again r (Invalid First) x v y i known some long all = names_again x v y i long (all i (omega arith))

@@ -59,8 +59,10 @@ pub parts_at : (specs : List RefSpecRef) (parts : List (Option (Bor (List ℕ) �
 parts_at specs parts i s p all below at = subst (λ q. HasParts (reading_of (get_or specs i s)).destination q) at (zip_at (λ s p. HasParts (reading_of s).destination p) specs parts i s None all below)
 
 -- a side that isn't split has no star
-pub unsplit_lacks : (c : Reading) → ∥ IsAccepted c ∥₁ → (n : List ℕ) → (c.source ≡ Some n) ⊎ (c.destination ≡ Some n) → ((before after : List ℕ) → ¬ (IsSplit before after n)) → Lacks star n
-unsplit_lacks c accepted n has none = elim ((sides_agree c accepted).each n has) [ inl one ↦ absurd (none one.0 one.1 one.2) | inr lacks ↦ lacks ]
+pub unsplit_lacks : (c : Reading) → ∥ IsAccepted c ∥₁ → (n : List ℕ) → (c.source ≡ Some n) ⊎ (c.destination ≡ Some n)
+    → ((before after : List ℕ) → ¬ (IsSplit before after n)) → Lacks star n
+unsplit_lacks c accepted n has none = elim ((sides_agree c accepted).each n has) [ inl one ↦ absurd (none one.0 one.1 one.2)
+    | inr lacks ↦ lacks ]
 
 -- what is found at the only destination is all
 pub found_only : (g : List Reading) (i j : ℕ) (n : List ℕ) (found : Option Example) → ((e : Example) → IsExample g i j e → e.destination ≡ n) → IsFoundAt g i j n found → IsFound g i j found
@@ -90,7 +92,8 @@ module _ (g : List Reading) (group : Group) (is : IsGroupOf g group) (k : ℕ) (
   pub fetches_only : (parts : List (Option (Bor (List ℕ) × Bor (List ℕ)))) → HaveParts group.specs.now parts → get_or parts k None ≡ None → (n : List ℕ) → spec.destination ≡ Some n
       → (refs : List Ref) (s : Source) (d : List ℕ) → Fetches g refs k s (Some d) → d ≡ n
   fetches_only parts have none n has refs s d f =
-      plain_made completed_of.0 spec n completed_of.1 has (unsplit_lacks spec (accepted_of group.specs.now k spec at) n (inr has) (λ before after. parts_at group.specs.now parts k z None have within none n before after has)) refs s d (makes_of refs s d f)
+      plain_made completed_of.0 spec n completed_of.1 has (unsplit_lacks spec (accepted_of group.specs.now k spec at) n (inr has)
+      (λ before after. parts_at group.specs.now parts k z None have within none n before after has)) refs s d (makes_of refs s d f)
 
   pattern_of : (parts : Bor (List ℕ) × Bor (List ℕ)) → HasParts spec.destination (Some parts) → HasPattern group k parts.0.now parts.1.now
   pattern_of parts (d, has, split) = record { reading = spec; at = at; destination = d; has = has; split = split }

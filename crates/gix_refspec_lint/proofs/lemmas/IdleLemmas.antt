@@ -76,7 +76,8 @@ first_split n [] b [] d no_a no_c same = refl
 first_split n [] b (y ∷ c) d no_a no_c same = absurd (no_c (0, omega arith, cc))
 first_split n (x ∷ a) b [] d no_a no_c same = absurd (no_a (0, omega arith, cc))
 first_split n (x ∷ a) b (y ∷ c) d no_a no_c same =
-    let rest = first_split n a b c d (λ has. no_a (Contains-append_right (x ∷ []) a n has)) (λ has. no_c (Contains-append_right (y ∷ []) c n has)) (cc) in
+    let rest = first_split n a b c d (λ has. no_a (Contains-append_right (x ∷ []) a n has))
+    (λ has. no_c (Contains-append_right (y ∷ []) c n has)) (cc) in
     cc
 
 pub none_tried : (x n : List ℕ) → AllByRecursion (λ y. ¬ (y ≡ n)) (candidates x) → (names : List (List ℕ)) → AreTriedBefore x n names
@@ -174,7 +175,8 @@ named_of (n ∷ l) m (zero, below, is) = inl is
 named_of (n ∷ l) m (suc k, below, is) = inr (named_of l m (k, omega (arith, below), is))
 
 pub valid_named : (refs : List Ref) (m : List ℕ) → AreValid refs → HasName refs m → IsRefName m
-valid_named refs m all has = let (r, there, is) = item_named refs m has in subst IsRefName is (of_element (λ (r : Ref). IsRefName r.name) refs r all there)
+valid_named refs m all has = let (r, there, is) = item_named refs m has in subst IsRefName is
+    (of_element (λ (r : Ref). IsRefName r.name) refs r all there)
 
 -- the names are valid and not kept away, and those that earlier specs prefer are among them
 pub record FreesSoFar (h : List Reading) (s : Source) (away : List (List ℕ)) (names : List (List ℕ)) (k : ℕ) : Type 0 where
@@ -210,8 +212,10 @@ freeing g h all k s away names c at preferred so_far = record {
     keeps refs d m =
         let makes : MakesForward refs s d c = subst (MakesForward refs s d) (same refs d m) m.makes in
         let absent = preferred.absent refs d makes in
-        maps_as m (subst (MakesForward (refs_with s names) s d) (sym (same refs d m)) (preferred.enough refs (refs_with s names) d makes (λ n own. (named_in (refs_of s) (map ref_named names) n).1 (inl own))
-        (all_listed (λ n. ¬ (HasName (refs_with s names) n)) away (λ n there has. elim ((named_in (refs_of s) (map ref_named names) n).0 has) [
+        maps_as m (subst (MakesForward (refs_with s names) s d) (sym (same refs d m)) (preferred.enough refs (refs_with s names) d makes
+        (λ n own. (named_in (refs_of s) (map ref_named names) n).1 (inl own))
+        (all_listed (λ n. ¬ (HasName (refs_with s names) n)) away
+        (λ n there has. elim ((named_in (refs_of s) (map ref_named names) n).0 has) [
           | inl own ↦ of_element (λ m. ¬ (HasName refs m)) away n absent there (own_among refs s (made_there refs s d c makes) n own)
           | inr other ↦ (so_far.allowed n (listed names n other)).1 there
         ]))))
@@ -286,7 +290,8 @@ module _ (g cs : List Reading) (all : AllZip IsCompleted g cs) (k : ℕ) (c : Re
     maps = record { maps = maps_of g cs all k c here refs s e (makes_also items refs s e c same makes.makes); source = makes.source; destination = makes.destination }
 
     valid : AreValid refs
-    valid = all_join (λ (r : Ref). IsRefName r.name) (refs_of s) (map ref_named names) (own_valid s makes.source) (map_each IsRefName (λ (r : Ref). IsRefName r.name) ref_named (λ n fine. fine) names freeing.valid)
+    valid = all_join (λ (r : Ref). IsRefName r.name) (refs_of s) (map ref_named names) (own_valid s makes.source)
+        (map_each IsRefName (λ (r : Ref). IsRefName r.name) ref_named (λ n fine. fine) names freeing.valid)
 
     pub shows_excluded : (n : List ℕ) (j : ℕ) (r : Reading) → s ≡ name n → slice_get g j ≡ Some r → IsExcludedBy n r → Explains g k s (reason.Excluded j) × IsShown g k (reason.Excluded j)
     shows_excluded n j r named at by = (

@@ -159,7 +159,8 @@ pub conflict_of_two : (g : List Reading) (refs : List Ref) (i j : ℕ) (s t : So
 conflict_of_two g refs i j s t d c =
     let there = made_there refs s (Some d) c.one.maps.maps.completed c.one.maps.maps.makes in
     let also = made_there refs t (Some d) c.other.maps.maps.completed c.other.maps.maps.makes in
-    let among : AreAmong (refs_of s ++ refs_of t) refs = λ m has. elim ((named_in (refs_of s) (refs_of t) m).0 has) [ inl one ↦ own_among refs s there m one | inr other ↦ own_among refs t also m other ] in
+    let among : AreAmong (refs_of s ++ refs_of t) refs = λ m has. elim
+    ((named_in (refs_of s) (refs_of t) m).0 has) [ inl one ↦ own_among refs s there m one | inr other ↦ own_among refs t also m other ] in
     record {
       one = fetches_fewer g refs (refs_of s ++ refs_of t) i s (Some d) among (there_left (refs_of s) (refs_of t) s (own_there s)) c.one;
       other = fetches_fewer g refs (refs_of s ++ refs_of t) j t (Some d) among (there_right (refs_of s) (refs_of t) t (own_there t)) c.other;

@@ -159,7 +159,8 @@ stays_source l k c (id bytes) at positive none = none
 
 made_of : {Y : Type 0} (P : ℕ → Reading → Y → Type 0) (g : List Reading) (idle : List Y) (u : Y) → IsMadeFrom P 0 g idle → Contains idle u → (j : ℕ) × (r : Reading) × (slice_get g j ≡ Some r) × P j r u
 made_of {Y} P g idle u made there =
-    let Q : Y → Type 0 = λ v. (j : ℕ) × (r : Reading) × (slice_get g j ≡ Some r) × P j r v in of_element Q idle u (each_made P Q g idle (λ j r y at makes. (j, r, at, makes)) made) there
+    let Q : Y → Type 0 = λ v. (j : ℕ) × (r : Reading) × (slice_get g j ≡ Some r) × P j r v in of_element Q idle u
+    (each_made P Q g idle (λ j r y at makes. (j, r, at, makes)) made) there
 
 module _ (g h : List Reading) (all : AllZip IsCompleted g h) (refs : List Ref) (valid : AreValid refs) (k : ℕ) where
   -- a fetch of an idle spec is one of an earlier spec

@@ -65,27 +65,33 @@ same_size c u v is = omega (arith, ap length is, length-append v c, length-appen
 after_front : (a s t x v y : List ℕ) → x ++ y ≡ a ++ s → x ++ (v ++ y) ≡ a ++ t → Repeats x v y (λ z. a ++ z)
 after_front a s t x v y without once = elim (parted x y a s without) [
   | inr (m, further, rest) ↦ record { front = m; word = v; back = y; size = refl; each = λ i. rw further (simp append_assoc) }
-  | inl (c, longer, rest) ↦ elim (parted (v ++ c) s c t (append_assoc v c s ∙ append_cancel_left x _ _ (simp append_assoc at (rw (longer, rest) at once)))) [
+  | inl (c, longer, rest) ↦ elim (parted (v ++ c) s c t (append_assoc v c s ∙ append_cancel_left x _ _
+      (simp append_assoc at (rw (longer, rest) at once)))) [
     | inr (u, is, end) ↦ at c u longer rest is
-    | inl (m, is, end) ↦ at c [] longer rest (rw (nil_from_length v (omega (arith, ap length is, length-append (v ++ c) m, length-append v c))) (sym (append-nil c)))
+    | inl (m, is, end) ↦ at c [] longer rest
+    (rw (nil_from_length v (omega (arith, ap length is, length-append (v ++ c) m, length-append v c))) (sym (append-nil c)))
   ]
 ]
   where
     at : (c u : List ℕ) → a ≡ x ++ c → y ≡ c ++ s → v ++ c ≡ c ++ u → Repeats x v y (λ z. a ++ z)
-    at c u longer rest is = record { front = []; word = u; back = s; size = same_size c u v is; each = past_repeats c a s u v x y longer rest is }
+    at c u longer rest is = record { front = []; word = u; back = s; size = same_size c u v is;
+        each = past_repeats c a s u v x y longer rest is }
 
 -- and the same of what ends with b
 before_back : (b s t x v y : List ℕ) → x ++ y ≡ s ++ b → x ++ (v ++ y) ≡ t ++ b → Repeats x v y (λ z. z ++ b)
 before_back b s t x v y without once = elim (parted x y s b without) [
   | inl (m, further, rest) ↦ record { front = x; word = v; back = m; size = refl; each = λ i. rw rest (simp append_assoc) }
-  | inr (c, longer, rest) ↦ elim (parted s (c ++ v) t c (append_cancel_right _ _ y (simp append_assoc (simp append_assoc at (rw (longer, rest) at once))))) [
+  | inr (c, longer, rest) ↦ elim (parted s (c ++ v) t c (append_cancel_right _ _ y
+      (simp append_assoc (simp append_assoc at (rw (longer, rest) at once))))) [
     | inl (u, is, end) ↦ at c u longer rest (sym end)
-    | inr (m, is, end) ↦ at c [] longer rest (rw (nil_from_length v (omega (arith, ap length end, length-append m (c ++ v), length-append c v))) (sym (append-nil c)))
+    | inr (m, is, end) ↦ at c [] longer rest
+    (rw (nil_from_length v (omega (arith, ap length end, length-append m (c ++ v), length-append c v))) (sym (append-nil c)))
   ]
 ]
   where
     at : (c u : List ℕ) → x ≡ s ++ c → b ≡ c ++ y → u ++ c ≡ c ++ v → Repeats x v y (λ z. z ++ b)
-    at c u longer rest is = record { front = s; word = u; back = []; size = sym (same_size c v u is); each = λ i. simp append_assoc (sym (past_repeats c x y v u s b longer rest is i)) }
+    at c u longer rest is = record { front = s; word = u; back = []; size = sym (same_size c v u is); each = λ i. simp append_assoc
+        (sym (past_repeats c x y v u s b longer rest is i)) }
 
 -- where a name without the word and with it once fits a pattern, it fits however often the word stands there, and what it
 -- has for the star has a word of the same length as often
@@ -94,7 +100,8 @@ words_repeat a b v x y w0 w1 without once =
     let outer = after_front a (w0 ++ b) (w1 ++ b) x v y without once in
     let inner = before_back b w0 w1 outer.front outer.word outer.back (append_cancel_left a _ _ (sym (outer.each 0) ∙ without))
     (append_cancel_left a _ _ (rw (power_one outer.word outer.back, power_one v y) at (sym (outer.each 1)) ∙ once)) in
-    record { front = inner.front; word = inner.word; back = inner.back; size = inner.size ∙ outer.size; each = λ i. outer.each i ∙ ap (λ z. a ++ z) (inner.each i) }
+    record { front = inner.front; word = inner.word; back = inner.back; size = inner.size ∙ outer.size;
+        each = λ i. outer.each i ∙ ap (λ z. a ++ z) (inner.each i) }
 
 -- ---- names in which a word repeats: once more makes no name of what isn't one
 
@@ -110,7 +117,8 @@ module _ (m v w : List ℕ) (long : 5 ≤ length m) (moves : v ++ m ≡ m ++ w) 
   some n size none = let size_is : length n ≡ 0 = ap length none in omega arith
 
   names_without : IsName (x ++ (v ++ (m ++ y))) → IsName (x ++ (m ++ y))
-  names_without is = simp append_assoc at (names_as (λ t. length t ≤ 5) (omega arith, omega arith, omega arith, omega arith) (x ++ m) (x ++ (v ++ m)) y
+  names_without is = simp append_assoc at (names_as (λ t. length t ≤ 5) (omega arith, omega arith, omega arith, omega arith) (x ++ m)
+      (x ++ (v ++ m)) y
       (λ k t short ends.
       let last = ends_within t (slash ∷ x) (m ++ k) (omega (arith, short, long, length-append m k)) (simp append_assoc at ends) in
       record { before = slash ∷ (x ++ (v ++ last.before)); here = simp append_assoc (ap (λ z. slash ∷ (x ++ (v ++ z))) last.here) })
@@ -123,7 +131,8 @@ module _ (m v w : List ℕ) (long : 5 ≤ length m) (moves : v ++ m ≡ m ++ w) 
       }) (simp append_assoc (some _ sizes.0)) (simp append_assoc (some _ sizes.1)) (simp append_assoc is))
 
   below_without : BeginsWith (codes "refs/") (x ++ (v ++ (m ++ y))) → BeginsWith (codes "refs/") (x ++ (m ++ y))
-  below_without begins = simp append_assoc at (begins_within (codes "refs/") (x ++ m) (w ++ y) y (omega (arith, long, length-append x m)) (rw (moved_on x) at begins))
+  below_without begins = simp append_assoc at (begins_within (codes "refs/") (x ++ m) (w ++ y) y (omega (arith, long, length-append x m))
+      (rw (moved_on x) at begins))
 
 -- ---- with the word i times, and once more
 

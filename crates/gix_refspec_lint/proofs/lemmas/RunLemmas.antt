@@ -67,7 +67,8 @@ module _ (Holds : Why → List ℕ → Type 0) (prefix suffix : List ℕ) where
     front_ends = subst (λ x. EndsWith x prefix) (ap (take k) whole ∙ take_at front (more ++ old) k size) overlap.ends
 
     more_ends : EndsWith more prefix
-    more_ends = subst (EndsWith more) (sym is.ends.here) (ends_behind more is.ends.before is.front (record { before = front; here = parts }))
+    more_ends = subst (EndsWith more) (sym is.ends.here) (ends_behind more is.ends.before is.front (record { before = front;
+        here = parts }))
 
     -- by as much as those before are apart it is the word once more
     once_more : 0 < is.times → length more ≡ run.step → more ≡ is.word
@@ -115,7 +116,9 @@ module _ (Holds : Why → List ℕ → Type 0) (prefix suffix : List ℕ) where
         where
           by_number : (i : ℕ) → i ≤ 1 → Holds new.why (prefix ++ (power more i ++ is.rest))
           by_number zero upper = rw why_is (is.holds 0 (omega arith))
-          by_number (suc zero) upper = subst (Holds new.why) (ap (λ x. prefix ++ x) (left ∙ ap (λ j. more ++ (power is.word j ++ is.rest)) none ∙ ap (λ x. x ++ is.rest) (sym (append-nil more)))) (rw next.why holds)
+          by_number (suc zero) upper = subst (Holds new.why)
+              (ap (λ x. prefix ++ x) (left ∙ ap (λ j. more ++ (power is.word j ++ is.rest)) none ∙ ap (λ x. x ++ is.rest)
+              (sym (append-nil more)))) (rw next.why holds)
           by_number (suc (suc i)) upper = absurd (omega (arith, upper))
 
       -- and any more

@@ -6,7 +6,8 @@ pub returns-then-branch : goal.returns-then-branch
 returns-then-branch c g is =
     let specs = c.args.group.now.specs.now in
     some_at (ExcludesSome (reading_of c.args.negative.now)) (map reading_of specs) c.loop-spec.spec-index (reading_of c.spec-item.result)
-    (slice_get-map reading_of specs c.loop-spec.spec-index ∙ ap (option_map reading_of) (slice_get_read specs (length specs) c.loop-spec.spec-index c.spec-item.result refl c.loop-spec-test.true c.spec-item.is))
+    (slice_get-map reading_of specs c.loop-spec.spec-index ∙ ap (option_map reading_of)
+    (slice_get_read specs (length specs) c.loop-spec.spec-index c.spec-item.result refl c.loop-spec-test.true c.spec-item.is))
     (MatchBool-at_true _ _ c.if-branch.true (c.in_ok-excludes_of.ensures g is))
 
 pub loop-spec-preserved : goal.loop-spec-preserved
@@ -16,4 +17,5 @@ loop-spec-preserved c g is =
 
 pub returns : goal.returns
 returns c g is =
-    λ (k, r, below, at, some). of_element (λ r. ¬ (ExcludesSome (reading_of c.args.negative.now) r)) _ r (rw (take_all c.loop-spec.spec-index c.args.group.now.specs.now (omega arith)) at (c.loop-spec.invariant g is)) (k, below, at) some
+    λ (k, r, below, at, some). of_element (λ r. ¬ (ExcludesSome (reading_of c.args.negative.now) r)) _ r
+    (rw (take_all c.loop-spec.spec-index c.args.group.now.specs.now (omega arith)) at (c.loop-spec.invariant g is)) (k, below, at) some
