@@ -9,7 +9,6 @@ module _ (text : List ℕ) where
   pub none_at : (len : ℕ) → 0 < len → IsBorderAt text len 0
   none_at len some = grind arith
 
-  -- a border of a border
   pub border_in : {len b c : ℕ} → IsBorderAt text len b → IsBorderAt text b c → IsBorderAt text len c
   border_in {len} {b} {c} outer inner = record { shorter = omega arith;
       repeats = λ i l. grind (arith, inner.repeats i, outer.repeats (b - c + i)) }
@@ -59,7 +58,6 @@ module _ (text : List ℕ) where
         | inr ne ↦ none_longer len 0 h other (omega arith) found ];
   }
 
-  -- the table with one more entry
   pub one_more : (table : List ℕ) (len b : ℕ) → len + 1 < length table → AreLongestTo text table len → IsLongestAt text (len + 1) b → AreLongestTo text (set table (len + 1) b) (len + 1)
   one_more table len b within known is k some l = elim (cases_eq k (len + 1)) [
     | inl e ↦ rw (e, get_or-set_same table (len + 1) b 0 within) is
@@ -68,7 +66,6 @@ module _ (text : List ℕ) where
 
 -- ---- borders by their bytes, and the list of all
 
--- the last k bytes are the first k
 last_bytes : (text : List ℕ) (k : ℕ) → IsBorderAt text (length text) k → drop (length text - k) text ≡ take k text
 last_bytes text k at =
     let p = at.shorter in
@@ -77,7 +74,6 @@ last_bytes text k at =
     (λ i l. get_or-drop (length text - k) text i 0 ∙ sym (at.repeats i (omega (arith, length-drop (length text - k) text)))
     ∙ sym (get_or-take k text i 0 (omega (arith, length-drop (length text - k) text))))
 
--- what is repeated by indexes is a border
 pub border_here : (text : List ℕ) (k : ℕ) → 0 < k → IsBorderAt text (length text) k → IsBorder text k
 border_here text k some at = record { some = some; shorter = at.shorter; same = record { before = take (length text - k) text;
     here = rw (← last_bytes text k at) (sym (take-append-drop (length text - k) text)) } }

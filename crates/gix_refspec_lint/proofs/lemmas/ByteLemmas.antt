@@ -5,8 +5,6 @@ use Rattle.gix_refspec_lint.proofs.Common.{is_refused_byte, IsName, EndsWith, La
 use Rattle.gix_refspec_lint.proofs.Common.{all_left, all_right, Lacks-here, HasFault-added, HasFault-left, IsName-from_clean, IsExcluded, LacksIn, SidesLack, is_usable, nil_from_length, arith, length}
 use Rattle.gix_refspec_lint.proofs.Common.{length-append, same_Some, or_parts, not-true, ◌≤◌, eqb-true, BeginsWith, ◌+◌, append-nil}
 
--- ---- lists
-
 -- of two ways to split a list, one is further on
 pub parted : (p s q t : List ℕ) → p ++ s ≡ q ++ t → ((m : List ℕ) × (q ≡ p ++ m) × (s ≡ m ++ t)) ⊎ ((m : List ℕ) × (p ≡ q ++ m) × (t ≡ m ++ s))
 parted [] s q t same = inl (q, refl, same)
@@ -75,8 +73,6 @@ names_as K kept p q y ends front also some is =
     behind e k b after rest fault = record { before = slash ∷ (q ++ k); byte = b; after = after; here = rw (rest, append_assoc);
         fault = adds_as K kept _ _ (ends k) b e fault }
 
--- ---- the byte
-
 module _ (z : ℕ) (usable : IsTrue (is_usable z)) where
   -- the bytes that it isn't
   abbrev kept_from : List ℕ
@@ -93,7 +89,6 @@ module _ (z : ℕ) (usable : IsTrue (is_usable z)) where
   pub lacks_mid : (before mid after : List ℕ) → kept_from ≡ before ++ (mid ++ after) → Lacks z mid
   lacks_mid before mid after is = all_left (λ c. c ≢ z) mid after (all_right (λ c. c ≢ z) before (mid ++ after) (subst (Lacks z) is (lacks_listed kept_from neither.1)))
 
-  -- none of these bytes
   other : (c : ℕ) (before after : List ℕ) → kept_from ≡ before ++ (c ∷ after) → z ≢ c
   other c before after is same = (lacks_mid before (c ∷ []) after is).0 (sym same)
 
@@ -126,7 +121,6 @@ module _ (z : ℕ) (usable : IsTrue (is_usable z)) where
     | inr (c ∷ v, longer, rest) ↦ (v, (let same : z ≡ c = cc in rw same longer), cc)
   ]
 
-  -- the byte itself adds no fault
   adds_nothing : (u : List ℕ) (e : Error) → ¬ (AddsFault u z e)
   adds_nothing u EmptyComponent adds = lacks_words.0.0 (sym adds.0)
   adds_nothing u StartsWithDot adds = lacks_words.2.0 (sym adds.0)
@@ -187,7 +181,6 @@ module _ (z : ℕ) (usable : IsTrue (is_usable z)) where
       inl (record { negative = by.negative; text = by.text; source = by.source; excludes = excludes_moved by.text x v y (lacks_in r.source by.text by.source lacks.0.0) by.excludes })
   excluded_moved (r ∷ g) x v y lacks (inr later) = inr (excluded_moved g x v y lacks.1 later)
 
--- a byte that is found isn't lacked
 pub not_lacked : (b : ℕ) (x : List ℕ) → list_any (λ c. c == b) x ≡ true → ¬ (Lacks b x)
 not_lacked b [] found lacks = false≢true found
 not_lacked b (c ∷ x) found lacks = grind (arith, not_lacked b x, eqb-true)

@@ -10,8 +10,6 @@ use Rattle.gix_refspec_lint.proofs.lemmas.SourceLemmas.{pattern_there}
 use Rattle.gix_refspec_lint.proofs.lemmas.PatternLemmas.{destination_once, pattern_spec, spec_made}
 use Rattle.gix_refspec_lint.proofs.lemmas.IndexLemmas.{excluded_at, accepted_of, of_maps}
 
--- ---- paired names
-
 -- with its sides the other way round a reading pairs names the other way round
 abbrev swapped : Reading → Reading
 swapped r = record r { source = r.destination; destination = r.source }
@@ -37,7 +35,6 @@ makes_too r n d m e one other =
     (rw same at other.destination.split) one.destination.split in
     rw (ends.0, ends.1) at other.makes
 
--- a destination is paired with one source only
 paired_once : (r : Reading) (n m d : List ℕ) → ArePaired r n d → ArePaired r m d → n ≡ m
 paired_once r n m d one other =
     let word : one.word ≡ other.word = one_word one.before one.after d one.word other.word one.makes (makes_too r n d m d one other) in
@@ -92,7 +89,6 @@ excluded_again g k x v y (r, at, by) (q, there, too) some i =
     (r, at, record { negative = by.negative; text = by.text; source = by.source; excludes = excludes_again by.text x v y some by.excludes
     (subst (λ t. Excludes t (x ++ (v ++ y))) text too.excludes) i })
 
--- so long is the word only if it is there
 is_there : (v : List ℕ) (i : ℕ) → 5 ≤ length (power v i) → 1 ≤ i
 is_there v zero long = absurd (omega (arith, long))
 is_there v (suc i) long = omega arith
@@ -185,8 +181,6 @@ module _ (r : Reading) (near far : Bor (List ℕ) × Bor (List ℕ)) (source : H
   destination_told n None none = tt
   destination_told n (Some d) (w, fits, is) = paired n (bstring_bytes d) w fits is
 
--- ---- where a reason holds there is nothing
-
 -- ---- one spec of patterns
 
 -- it writes a destination from the source with the same word alone
@@ -212,8 +206,6 @@ unsound_none negative c accepted Unwritable n known (d, paired, bad) e =
 unsound_none negative c accepted (Invalid First) n known bad e = bad e.makes.source
 unsound_none negative c accepted _ n known bad e = bad
 
--- ---- two specs of a group
-
 module _ (g : List Reading) (group : Group) (is : IsGroupOf g group) (i j : ℕ) (one other : Reading)
     (at : slice_get (map reading_of group.specs.now) i ≡ Some one) (also : slice_get (map reading_of group.specs.now) j ≡ Some other) (d : List ℕ) where
   source_is : (k : ℕ) (c : Reading) → slice_get (map reading_of group.specs.now) k ≡ Some c → (refs : List Ref) (s : Source) → Fetches g refs k s (Some d) → (n : List ℕ) → ArePaired c n d → s ≡ name n
@@ -228,8 +220,6 @@ module _ (g : List Reading) (group : Group) (is : IsGroupOf g group) (i j : ℕ)
   fails_none (Excluded First k) known (n, paired, (r, there, by)) s t c = c.one.included (subst (IsSourceExcluded g) (sym (source_is i one at _ s c.one n paired)) (excluded_at g k r n there by))
   fails_none (Excluded Second k) known (n, paired, (r, there, by)) s t c = c.other.included (subst (IsSourceExcluded g) (sym (source_is j other also _ t c.other n paired)) (excluded_at g k r n there by))
   fails_none Same known (n, paired, too) s t c = c.differ (source_is i one at _ s c.one n paired ∙ sym (source_is j other also _ t c.other n too))
-
--- ---- what isn't fetched
 
 pub first_fails : (g : List Reading) (one other : Reading) (why : Why) (n d : List ℕ) → IsNotFetched g First n why → ArePaired one n d → Fails g one other why d
 first_fails g one other (Invalid First) n d is paired = (n, paired, is.1)

@@ -12,7 +12,6 @@ use Rattle.gix_refspec_lint.proofs.lemmas.MovedLemmas.{decided}
 use Rattle.gix_refspec_lint.proofs.lemmas.SourceLemmas.{none_made, pattern_there, plain_made}
 use Rattle.gix_refspec_lint.proofs.lemmas.RunLemmas.{each_deciding}
 
--- refs with the same names make the same
 there_also : (A B : List Ref) (s : Source) → HaveSameNames A B → IsThere A s → IsThere B s
 there_also A B (name n) same there = has_also A B n same there
 there_also A B (id bytes) same there = there
@@ -20,7 +19,6 @@ there_also A B (id bytes) same there = there
 pub makes_also : (A B : List Ref) (s : Source) (d : Option (List ℕ)) (r : Reading) → HaveSameNames A B → MakesForward A s d r → MakesForward B s d r
 makes_also A B s d r same makes = makes_fewer A B s d r (λ n has. has_also B A n (sym same) has) (there_also A B s same (made_there A s d r makes)) makes
 
--- the names of two lists, one added after the other
 pub both_named : (one two xs ys : List Ref) → HaveSameNames one xs → HaveSameNames two (one ++ ys) → HaveSameNames two (xs ++ ys)
 both_named one two xs ys first second = simp map-append (simp map-append at second ∙ ap (λ l. l ++ map (λ (r : Ref). r.name) ys) first)
 
@@ -47,7 +45,6 @@ module _ (g h : List Reading) (all : AllZip IsCompleted g h) (i j : ℕ) (refs :
 
 -- ---- what an example of a conflict says of its two specs, by their completed readings
 
--- the parts of each destination
 pub parts_next : (specs : List RefSpecRef) (i : ℕ) (s : RefSpecRef) (old new : List (Option (Bor (List ℕ) × Bor (List ℕ)))) (p : Option (Bor (List ℕ) × Bor (List ℕ))) → i < length specs → s ≡ get_or specs i s
     → HaveParts (take i specs) old → HasParts (reading_of s).destination p → new ≡ old ++ p ∷ [] → HaveParts (take (i + 1) specs) new
 parts_next specs i s old new p below is so_far here more =
@@ -101,7 +98,6 @@ module _ (g : List Reading) (group : Group) (is : IsGroupOf g group) (k : ℕ) (
   maps_as_pattern : (parts : Bor (List ℕ) × Bor (List ℕ)) → HasParts spec.destination (Some parts) → (refs : List Ref) (s : Source) (d : List ℕ) → Fetches g refs k s (Some d) → MapsPattern spec parts.0.now parts.1.now s d
   maps_as_pattern parts (x, has, split) refs s d f = maps_pattern spec (accepted_of group.specs.now k spec at) x parts.0.now parts.1.now has split refs s d (makes_of refs s d f)
 
--- two specs
 module _ (g : List Reading) (group : Group) (is : IsGroupOf g group) (parts : List (Option (Bor (List ℕ) × Bor (List ℕ)))) (have : HaveParts group.specs.now parts)
     (i j : ℕ) (x y : RefSpecRef) (below : i < length group.specs.now) (inside : j < length group.specs.now) where
   -- with two names that differ
@@ -153,8 +149,6 @@ module _ (g : List Reading) (group : Group) (is : IsGroupOf g group) (parts : Li
 
 -- ---- what is found of two specs at some names, and of one spec with all others
 
--- ---- at one destination
-
 -- the sources don't conflict, in this order
 abbrev pub NoConflict : List Reading → ℕ → ℕ → List ℕ → Source → Source → Type 0
 NoConflict g i j d s t = ¬ (ConflictOver g (refs_of s ++ refs_of t) i j s t d)
@@ -174,8 +168,6 @@ copied_example g i j s t u v d n order first second to c = record {
   order = order;
   conflict = subst (λ a. ConflictOver g (refs_of a ++ refs_of v) i j a v n) (sym first) (subst (λ b. ConflictOver g (refs_of s ++ refs_of b) i j s b n) (sym second) (subst (ConflictOver g (refs_of s ++ refs_of t) i j s t) (sym to) c));
 }
-
--- ---- of one spec with each other, and of all
 
 pub group_long : (g : List Reading) (group : Group) → IsGroupOf g group → length g ≡ length group.specs.now
 group_long g group is = zip_long IsCompleted g (map reading_of group.specs.now) is.completed ∙ length-map group.specs.now reading_of

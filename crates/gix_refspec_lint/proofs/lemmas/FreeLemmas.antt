@@ -73,14 +73,11 @@ module _ (r c : Reading) (accepted : ∥ IsAccepted r ∥₁) (done : IsComplete
       let kinds : object bytes ≡ object others = one_kind makes.text (object bytes) (object others) makes.object (subst (λ x. HasKind x (object others)) (same_Some _ _ (sym also.side ∙ makes.side)) also.object) in
       cc
 
--- ---- groups
-
 split_there : {X : Type 0} (xs : List X) (k : ℕ) (x : X) → slice_get xs k ≡ Some x → (before : List X) × (after : List X) × (xs ≡ before ++ (x ∷ after)) × (length before ≡ k)
 split_there [] k x is = absurd (cc (is))
 split_there (y ∷ xs) zero x is = ([], xs, ap (λ z. z ∷ xs) (same_Some _ _ is), refl)
 split_there (y ∷ xs) (suc k) x is = let (before, after, whole, size) = split_there xs k x is in (y ∷ before, after, ap (λ z. y ∷ z) whole, omega (arith, size))
 
--- an example of two specs is found
 none_shown : (g : List Reading) (i j : ℕ) (r q : Reading) (e : Example) → AreExamples g [] → slice_get g i ≡ Some r → slice_get g j ≡ Some q → ¬ (IsExample g i j e)
 none_shown g i j r q e none at also shown =
     let (before, after, whole, size) = split_there g i r at in
@@ -138,7 +135,6 @@ source_excluded : (g h : List Reading) (s : Source) → AllZip IsCompleted g h �
 source_excluded g h (name n) all by = completed_excluded g h n all by
 source_excluded g h (id bytes) all none = none
 
--- what a spec fetches is kept
 fetched_kept : (g h : List Reading) (refs : List Ref) (kept : List Mapped) (k : ℕ) (s : Source) (d : List ℕ) → AllZip IsCompleted g h → AreKeptForward h refs kept → Fetches g refs k s (Some d) → HasSound kept s d
 fetched_kept g h refs kept k s d all are f =
     let a = f.maps.maps in
@@ -156,7 +152,6 @@ examples_conflict g i j e shown completed kept all are =
 
 -- ---- a plan of configured specs that never conflict has no update in conflict
 
--- the readings of all specs of a list
 readings_are : (origin_at : ℕ → Origin) (k : ℕ) (specs : List Reading) (asked : List Asked) → IsMadeFrom (λ j r a. (a ≡ record { reading = r; origin = origin_at j }) × Unit {0}) k specs asked → map (λ a. a.reading) asked ≡ specs
 readings_are origin_at k [] asked made = ap (map (λ (a : Asked). a.reading)) made
 readings_are origin_at k (r ∷ specs) asked (None, rest, none, more, is) = absurd (none (record { reading = r; origin = origin_at k }) (refl, tt))

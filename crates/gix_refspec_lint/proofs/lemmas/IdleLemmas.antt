@@ -12,12 +12,8 @@ use Rattle.gix_refspec_lint.proofs.lemmas.IndexLemmas.{made_there, own_among, na
 use Rattle.gix_refspec_lint.proofs.lemmas.IndexLemmas.{excluded_at}
 use Rattle.gix_refspec_lint.proofs.lemmas.FoundLemmas.{makes_also}
 
--- ---- lists
-
 pub none_equal : (l : List (List ℕ)) (n : List ℕ) → AllByRecursion (λ x. ¬ (x ≡ n)) l → ¬ (Contains l n)
 none_equal l n all has = of_element (λ x. ¬ (x ≡ n)) l n all has refl
-
--- ---- reasons
 
 -- the last of the reasons explains what each explains
 pub duplicate_any : (g : List Reading) (k : ℕ) (s : Source) (r : Reason) (h : ℕ) → Explains g k s r → Explains g k s (reason.Duplicate h)
@@ -29,8 +25,6 @@ pub invalid_any : (g : List Reading) (k : ℕ) (s : Source) (r : Reason) → Exp
 invalid_any g k s reason.Invalid none = none
 invalid_any g k s (reason.Excluded n) none = λ refs d f. none refs d f.maps
 invalid_any g k s (reason.Duplicate i) none = λ refs d valid f. absurd (none refs d f.maps)
-
--- ---- what a spec may take
 
 pub fits_taken : (r : Reading) (x : List ℕ) → r.source ≡ Some x → (refs : List Ref) (n : List ℕ) (d : Option (List ℕ)) (before after : List ℕ) (word : Option (Bor (List ℕ))) → ((y : List ℕ) × (Some x ≡ Some y) × IsSplit before after y)
     → MatchOption word ((w : List ℕ) → ¬ (Fits before after n w)) (λ w. Fits before after n w.now) → MakesForward refs (name n) d r → IsTrue (is_some word)
@@ -69,8 +63,6 @@ pub ends_told : (x head n : List ℕ) (b c : Bool) → b ≡ ends_with nat_eq n 
 ends_told x head n b c tells also none (inl ends) = absurd (false≢true (sym none ∙ (ends_is Decides-eqb n x b tells).1 ends.before ends.here))
 ends_told x head n b c tells also none (inr ends) = (ends_is Decides-eqb n head c also).1 ends.before ends.here
 
--- ---- the candidates before one
-
 first_split : (n : List ℕ) (a b c d : List (List ℕ)) → ¬ (Contains a n) → ¬ (Contains c n) → a ++ (n ∷ b) ≡ c ++ (n ∷ d) → a ≡ c
 first_split n [] b [] d no_a no_c same = refl
 first_split n [] b (y ∷ c) d no_a no_c same = absurd (no_c (0, omega arith, cc))
@@ -92,8 +84,6 @@ tried_at x n texts i b names all below at is none same =
     let after = map bstring_bytes (drop (suc i) texts) in
     let whole : candidates x ≡ before ++ (n ∷ after) = sym all ∙ map_split bstring_bytes texts i b below ∙ ap (λ y. before ++ (y ∷ after)) (ap bstring_bytes (sym at) ∙ is) in
     record { some = λ earlier later here first. same ∙ first_split n before after earlier later (none_equal before n none) first (sym whole ∙ here) }
-
--- ---- the names that are allowed
 
 module _ (old : List (List ℕ)) (others : List BString) (away : List (List ℕ)) (now : List BString) (b : BString) (so_far : AreAllowed old (map bstring_bytes others) away (map bstring_bytes now)) where
   abbrev n : List ℕ
@@ -122,15 +112,11 @@ module _ (old : List (List ℕ)) (others : List BString) (away : List (List ℕ)
     only = so_far.only;
   })
 
--- ---- tests
-
 pub does_told : {M P : Type 0} (b : Bool) → IsTrue b ↔ M → (M → P) → (P → M) → MatchBool b P (¬ P)
 does_told true told to from = to (told.0 refl)
 does_told false told to from = λ holds. false≢true (told.1 (from holds))
 
 -- ---- the refs that a spec prefers to a source, and beside which earlier specs don't take it
-
--- ---- one spec
 
 -- a source that isn't partial takes the name wherever it is
 pub preferred_by : (r : Reading) (x n : List ℕ) (k : SideKind) (names : List (List ℕ)) → r.source ≡ Some x → HasKind x k → ((m : List ℕ) → ¬ (k ≡ partial m)) → names ≡ [] → ArePreferred r (name n) names
@@ -235,8 +221,6 @@ frees_less h s away names j k fewer so_far = record { allowed = so_far.allowed; 
 
 -- ---- why a spec does nothing with a source, beside refs that free earlier specs
 
--- ---- one destination
-
 same_words : (k : SideKind) (a b : Ref) (v w : Option (List ℕ)) → a.name ≡ b.name → ((bytes : List ℕ) → ¬ (k ≡ object bytes)) → MatchesAs k a v → MatchesAs k b w → v ≡ w
 same_words (pattern before after) a b None w same none of_a of_b = absurd of_a
 same_words (pattern before after) a b (Some v) None same none of_a of_b = absurd of_b
@@ -260,8 +244,6 @@ one_far A B (name n) d e c one other =
     destination_once c others.word d e
     (subst (λ w. IsFilled c.destination w d) words (subst (λ x. IsFilled x paired.word d) (sym one.has.far) paired.becomes))
     (subst (λ x. IsFilled x others.word e) (sym other.has.far) others.becomes)
-
--- ---- refs with the same names
 
 maps_also : (g : List Reading) (A B : List Ref) (k : ℕ) (s : Source) (d : Option (List ℕ)) → HaveSameNames A B → Maps g A k s d → Maps g B k s d
 maps_also g A B k s d same m = maps_as m (makes_also A B s d m.completed same m.makes)

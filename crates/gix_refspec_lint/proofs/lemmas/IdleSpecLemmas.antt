@@ -14,8 +14,6 @@ use Rattle.gix_refspec_lint.proofs.lemmas.DecideLemmas.{Decided, IsMovedFar, dec
 use Rattle.gix_refspec_lint.proofs.lemmas.LeftOutLemmas.{made_completed}
 use Rattle.gix_refspec_lint.proofs.lemmas.IndexLemmas.{zip_to, reading_at, of_maps, accepted_of, one_completed, maps_as}
 
--- ---- reasons
-
 -- what explains each source is the reason
 pub idle_by : (g : List Reading) (k : ℕ) (r : Reason) → ((s : Source) → Explains g k s r) → IsShown g k r → IsIdleBy g k r
 idle_by g k reason.Invalid explains shown = λ refs s d. explains s refs d
@@ -32,7 +30,6 @@ pub reason_of : (g : List Reading) (k : ℕ) (c : Reading) → IsPositive c.mode
 reason_of g k c positive None works = λ also. works
 reason_of g k c positive (Some r) idle = (positive, idle)
 
--- a spec at work isn't idle
 pub not_idle : (g : List Reading) (k : ℕ) → IsAtWork g k → (r : Reason) → ¬ (IsIdleBy g k r)
 not_idle g k works reason.Invalid never = never works.refs works.source works.destination works.fetches.maps
 not_idle g k works (reason.Excluded n) (never, shown) = never works.refs works.source works.destination works.fetches
@@ -211,8 +208,6 @@ pub sources_explain : (g : List Reading) (cs : List RefSpecRef) (all : AllZip Is
     → ((refs : List Ref) (s : Source) (d : Option (List ℕ)) → MakesForward refs s d e → Contains sources s) → (r : Reason) → AllByRecursion (λ s. Explains g k s r) sources → (s : Source) → Explains g k s r
 sources_explain g cs all k e also sources has r explained s = explains_if g k s r (λ refs d m.
     of_element (λ t. Explains g k t r) sources s explained (has refs s d (of_maps g (map reading_of cs) all k e also refs s d m)))
-
--- ---- all specs
 
 -- the idle ones of the completed specs are those of the specs
 pub idle_of : (g h : List Reading) (idle : List Unused) → AllZip IsCompleted g h → IsMadeFrom (λ k c u. (u.spec ≡ k) × IsPositive c.mode × IsIdleBy g k u.reason) 0 h idle → AreIdle g idle

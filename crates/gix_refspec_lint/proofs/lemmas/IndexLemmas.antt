@@ -5,8 +5,6 @@ use Rattle.gix_refspec_lint.proofs.Common.{slice_get-map, slice_get-get_or, Read
 use Rattle.gix_refspec_lint.proofs.Common.{MakesForward, IsCompleted, zip_at, zip_long, reading_once, all_accepted, Maps, ◌++◌, ◌+◌, ◌⊎◌, HasName, IsFirstCandidate, Takes, all_weaker, IsPaired}
 use Rattle.gix_refspec_lint.proofs.Common.{matches_by_name, named_some, some_named, ConflictsShown, ConflictOver, Fetches, refs_of, HasKind, partial}
 
--- ---- lists
-
 -- what holds of some element holds of one at an index
 pub any_at : {X : Type 0} (P : X → Type 0) (xs : List X) → Any P xs → (k : ℕ) × (x : X) × (slice_get xs k ≡ Some x) × P x
 any_at P xs (k, x, below, is, holds) = (k, x, slice_get_read xs (length xs) k x refl below (sym is), holds)
@@ -14,8 +12,6 @@ any_at P xs (k, x, below, is, holds) = (k, x, slice_get_read xs (length xs) k x 
 -- what holds of each element that is in a list
 pub all_listed : {X : Type 0} (P : X → Type 0) (xs : List X) → ((x : X) → Contains xs x → P x) → AllByRecursion P xs
 all_listed P xs each = recursion_from_All P xs (λ k d below. each (get_or xs k d) (Contains-get_or xs k d below))
-
--- ---- specs
 
 pub reading_at : (cs : List RefSpecRef) (k : ℕ) (x : RefSpecRef) → k < length cs → slice_get (map reading_of cs) k ≡ Some (reading_of (get_or cs k x))
 reading_at cs k x below = slice_get-map reading_of cs k ∙ ap (option_map reading_of) (slice_get-get_or cs k x below)
@@ -125,7 +121,6 @@ makes_fewer refs few (id bytes) d r among present makes = makes
 makes_fewer refs few (name n) d r among present makes =
     makes_again refs few n d r present makes (λ m kind. first_fewer refs few m n among present (subst (IsFirstCandidate refs m) makes.one.4.name (makes.one.4.takes.first m kind)))
 
--- the names of the refs of two lists
 pub named_in : (xs ys : List Ref) (n : List ℕ) → HasName (xs ++ ys) n ↔ (HasName xs n ⊎ HasName ys n)
 named_in [] ys n = grind arith
 named_in (x ∷ xs) ys n = grind (arith, named_in xs ys n)
@@ -147,7 +142,6 @@ there_right : (xs ys : List Ref) (s : Source) → IsThere ys s → IsThere (xs +
 there_right xs ys (name n) there = (named_in xs ys n).1 (inr there)
 there_right xs ys (id bytes) there = tt
 
--- a fetch over refs is one over fewer
 fetches_fewer : (g : List Reading) (refs few : List Ref) (k : ℕ) (s : Source) (d : Option (List ℕ)) → AreAmong few refs → IsThere few s → Fetches g refs k s d → Fetches g few k s d
 fetches_fewer g refs few k s d among present f = record {
   maps = record { maps = maps_as f.maps.maps (makes_fewer refs few s d f.maps.maps.completed among present f.maps.maps.makes); source = f.maps.source; destination = f.maps.destination };

@@ -62,8 +62,6 @@ none_apart negative c a b p t is accepted one other apart (name m, e) =
     let (w, source, far, there) = spec_made c p t spec e.refs m e.destination e.makes.makes in
     apart m v w fits source
 
--- ---- groups
-
 module _ (g h : List Reading) (all : AllZip IsCompleted g h) (negative : Reading) (is : negative.mode ≡ Negative) where
   excluded_one : (n : List ℕ) → IsSourceExcluded (negative ∷ []) (name n) → IsExcludedBy n negative
   excluded_one n (inl by) = by
@@ -107,20 +105,15 @@ idle_completed g h idle all made =
     (λ k r c y done both. (both.0, record { negative = sym done.mode ∙ both.1.negative; excludes = λ refs i n d maps by. both.1.excludes refs i n d maps (excluded_same r c n done by) }))
     g h 0 idle all made
 
--- with one more element
 pub one_more_made : {A X Y : Type 0} (R : ℕ → X → Y → Type 0) (f : A → X) (xs : List A) (i : ℕ) (x : A) (ys zs : List Y) (made : Option Y) → i < length xs → x ≡ get_or xs i x → IsMadeFrom R 0 (map f (take i xs)) ys
     → MakesOf R i (f x) made → zs ≡ ys ++ option_to_list made → IsMadeFrom R 0 (map f (take (i + 1) xs)) zs
 one_more_made R f xs i x ys zs made below is so_far makes more = made_more R f xs i x ys zs made below so_far (subst (λ y. MakesOf R i (f y) made) is makes) more
-
--- ---- one spec
 
 pub idle_told : (g h : List Reading) → AllZip IsCompleted g h → (c : Reading) → c.mode ≡ Negative → (b : Bool) → MatchBool b (Any (ExcludesSome c) h) (¬ (Any (ExcludesSome c) h)) → MatchBool (not b) (IsIdleExclusion g c) (¬ (IsIdleExclusion g c))
 idle_told g h all c is true any = some_excluded g h all c is any
 idle_told g h all c is false none = none_excluded g h all c is none
 
 -- ---- an idle spec can be left out
-
--- ---- lists without an element
 
 later_any : (P : Reading → Type 0) (x : Reading) (l : List Reading) → Any P l → Any P (x ∷ l)
 later_any P x l (k, y, below, is, holds) = (suc k, y, omega (arith, below), is, holds)
@@ -154,8 +147,6 @@ stays_source l k c (name n) at positive by =
     let other : j ≢ k = λ same. let one : r ≡ c = same_Some _ _ (sym here ∙ ap (slice_get l) same ∙ at) in subst IsPositive (ap (λ (q : Reading). q.mode) (sym one) ∙ of.negative) positive in
     excluded_any (without k l) n (stays_any (IsExcludedBy n) l k j r other here of)
 stays_source l k c (id bytes) at positive none = none
-
--- ---- idle specs
 
 made_of : {Y : Type 0} (P : ℕ → Reading → Y → Type 0) (g : List Reading) (idle : List Y) (u : Y) → IsMadeFrom P 0 g idle → Contains idle u → (j : ℕ) × (r : Reading) × (slice_get g j ≡ Some r) × P j r u
 made_of {Y} P g idle u made there =

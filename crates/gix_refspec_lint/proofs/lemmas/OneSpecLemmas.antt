@@ -10,14 +10,10 @@ use Rattle.gix_refspec_match.proofs.lemmas.keep.KeptLemmas.{HasPair-from_place}
 use Rattle.gix_refspec_lint.proofs.lemmas.IndexLemmas.{made_there, makes_fewer, own_among, own_there}
 use Rattle.gix_refspec_lint.proofs.lemmas.FoundLemmas.{makes_also, unsplit_lacks}
 
--- ---- exclusions
-
 pub tells_excluding : (g : List Reading) (es : Exclusions) (n : List ℕ) (answer : Option ℕ) → AreExclusionsOf g es → AreExclusionsAt g es → MatchOption answer (¬ (ExcludeName es n)) (ExcludeNameAt es n)
     → MatchOption answer (¬ (IsExcluded g n)) (λ k. (x : List ℕ) × (name n ≡ name x) × ((r : Reading) × (slice_get g k ≡ Some r) × IsExcludedBy x r))
 tells_excluding g es n None are at none = λ by. none ((are n).1 by)
 tells_excluding g es n (Some k) are at by = (n, refl, at n k by)
-
--- ---- one spec
 
 makes_positive : (refs : List Ref) (s : Source) (d : Option (List ℕ)) (r : Reading) → MakesForward refs s d r → IsPositive r.mode
 makes_positive refs (name n) d r makes = makes.has.positive
@@ -73,8 +69,6 @@ no_sound_pair (m ∷ l) s d all valid written (inr later) = no_sound_pair l s d 
 pub none_sound : (c : Reading) (refs : List Ref) (kept : List Mapped) (s : Source) → AreKeptForward (c ∷ []) refs kept → AllByRecursion (λ m. m.source ≡ s → ¬ (IsSound m)) kept
     → (d : Option (List ℕ)) → ¬ (MakesSoundly refs s d c)
 none_sound c refs kept s are all d makes = no_sound_pair kept s d all makes.source makes.destination ((kept_alone c refs kept (pair_of s d) are).1 makes.makes)
-
--- ---- over other refs
 
 -- those of the same names
 pub sound_also : (A B : List Ref) (s : Source) (d : Option (List ℕ)) (c : Reading) → HaveSameNames A B → MakesSoundly A s d c → MakesSoundly B s d c

@@ -40,11 +40,9 @@ same_repeats p q u v x y without once i = elim (parted x y p q without) [
   | inr (c, front, back) ↦ sym (past_repeats c x y v u p q front back (same_front c x y v u p q front back (sym once)) i)
 ]
 
--- the word once
 pub power_one : (v y : List ℕ) → power v 1 ++ y ≡ v ++ y
 power_one v y = simp append-nil
 
--- a name isn't the same without a word and with it
 pub differ_again : (n v x y : List ℕ) → v ≢ [] → n ≡ x ++ y → n ≡ x ++ (v ++ y) → ⊥
 differ_again n v x y some without once = some (append_cancel_right v [] y (append_cancel_left x (v ++ y) y (cc)))
 

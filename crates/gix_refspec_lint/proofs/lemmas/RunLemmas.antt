@@ -5,16 +5,12 @@ use Rattle.gix_refspec_lint.proofs.Common.{AllByRecursion, take_more, all_join, 
 use Rattle.gix_refspec_lint.proofs.lemmas.ByteLemmas.{ends_behind, parted}
 use Rattle.gix_refspec_lint.proofs.lemmas.RepeatLemmas.{power_long}
 
--- ---- texts
-
 -- texts of one length that a text ends with are the same
 same_end : (x y n : List ℕ) → EndsWith x n → EndsWith y n → length x ≡ length y → x ≡ y
 same_end x y n one other size = elim (parted one.before x other.before y (sym one.here ∙ other.here)) [
   | inl (m, longer, rest) ↦ rw (nil_from_length m (omega (arith, size, ap length rest, length-append m y))) at rest
   | inr (m, longer, rest) ↦ rw (nil_from_length m (omega (arith, size, ap length rest, length-append m x))) at (sym rest)
 ]
-
--- ---- runs
 
 -- the reason holds for a name with the word once more, if it does for those with fewer
 abbrev pub Goes : (Why → List ℕ → Type 0) → Type 0

@@ -7,8 +7,6 @@ use Rattle.gix_refspec_text.proofs.lemmas.texts.TextLemmas.{Lacks-ContainsText}
 use Rattle.gix_refspec_match.specs.declared.types.SourceRef.{SourceRef}
 use Rattle.gix_refspec_lint.proofs.lemmas.PatternLemmas.{maps_pattern}
 
--- ---- destinations
-
 -- a destination that is made comes from that of the spec
 pub destination_made : (refs : List Ref) (s : Source) (d : List ℕ) (c : Reading) → MakesForward refs s (Some d) c → (e : List ℕ) × (word : Option (List ℕ)) × (c.destination ≡ Some e) × IsFilled (Some e) word (Some d)
 destination_made refs (name n) d c makes =
@@ -90,8 +88,6 @@ has_one sources t s are is = subst (λ l. Contains l s) (sym are) (zero, omega a
 
 pub none_contained : {X : Type 0} {l : List X} (x : X) → l ≡ [] → ¬ (Contains l x)
 none_contained x none (k, below, is) = let long = ap length none in omega (arith, below, long)
-
--- ---- patterns
 
 module _ (c : Reading) (accepted : ∥ IsAccepted c ∥₁) (d a b : List ℕ) (has : c.destination ≡ Some d) (split : IsSplit a b d) where
   -- a source without a star has none

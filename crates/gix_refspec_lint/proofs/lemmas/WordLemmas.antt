@@ -6,12 +6,10 @@ use Rattle.gix_refspec_lint.proofs.lemmas.ByteLemmas.{parted}
 
 -- ---- the parts of a text
 
--- what it begins with
 abbrev AllPrefixes : (List ℕ → Type 0) → List ℕ → Type 0
 AllPrefixes P [] = P []
 AllPrefixes P (b ∷ x) = P [] × AllPrefixes (λ w. P (b ∷ w)) x
 
--- what it ends with
 abbrev AllEndings : (List ℕ → Type 0) → List ℕ → Type 0
 AllEndings P [] = P []
 AllEndings P (b ∷ x) = P (b ∷ x) × AllEndings P x

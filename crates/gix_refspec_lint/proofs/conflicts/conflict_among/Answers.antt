@@ -3,9 +3,6 @@ use Rattle.gix_refspec_lint.proofs.Common.{◌++◌, List, ℕ, map, subst, take
 use Rattle.gix_refspec_lint.proofs.lemmas.FoundLemmas.{among_found}
 use Rattle.gix_refspec_lint.proofs.conflicts.conflict_among.Goals as goal
 
-pub loop-word-init : goal.loop-word-init
-loop-word-init c g is = tt
-
 pub loop-word-preserved : goal.loop-word-preserved
 loop-word-preserved c g is =
     one_more_mapped bstring_bytes (λ w. NoneAt g c.args.first c.args.second (c.args.common.now.prefix.now ++ (w ++ c.args.common.now.suffix.now))) c.deref-word-items.result.now c.loop-word.word-index c.word-item.result

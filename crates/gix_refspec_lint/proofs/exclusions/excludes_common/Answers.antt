@@ -3,9 +3,6 @@ use Rattle.gix_refspec_lint.proofs.Common.{◌++◌, ℕ, List, map, subst, take
 use Rattle.gix_refspec_lint.proofs.lemmas.LeftOutLemmas.{shared_told}
 use Rattle.gix_refspec_lint.proofs.exclusions.excludes_common.Goals as goal
 
-pub loop-word-init : goal.loop-word-init
-loop-word-init c = tt
-
 pub loop-word-preserved : goal.loop-word-preserved
 loop-word-preserved c =
     one_more_mapped bstring_bytes (λ w. ¬ (ExcludesFrom (reading_of c.args.negative.now) (reading_of c.args.spec.now) (name (c.args.common.now.prefix.now ++ (w ++ c.args.common.now.suffix.now))))) c.deref-word-items.result.now

@@ -4,9 +4,6 @@ use Rattle.gix_refspec_lint.proofs.lemmas.IdleSpecLemmas.{idle_by, sources_expla
 use Rattle.gix_refspec_lint.proofs.lemmas.IndexLemmas.{reading_at}
 use Rattle.gix_refspec_lint.proofs.idle.idle_by_sources.Goals as goal
 
-pub loop-source-init : goal.loop-source-init
-loop-source-init c g is = (tt, tt)
-
 pub returns-in-None : goal.returns-in-None
 returns-in-None c g is r at plain = rw c.in-None.is at (c.in_ok-idle_at.ensures g is)
 

@@ -3,9 +3,6 @@ use Rattle.gix_refspec_lint.proofs.Common.{◌++◌, ℕ, List, inl, inr, map, s
 use Rattle.gix_refspec_lint.proofs.lemmas.IdleSpecLemmas.{idle_by, words_explain}
 use Rattle.gix_refspec_lint.proofs.idle.idle_by_words.Goals as goal
 
-pub loop-word-init : goal.loop-word-init
-loop-word-init c g is = (tt, tt)
-
 pub returns-in-None : goal.returns-in-None
 returns-in-None c g is r at positive source = rw c.in-None.is at (c.in_ok-idle_at.ensures g is)
 
