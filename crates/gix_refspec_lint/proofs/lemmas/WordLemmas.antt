@@ -1,7 +1,7 @@
 -- Which words decide what a star may match: the parts of `refs/` and `HEAD`, and those with an ending of `refs/`.
-use Rattle.gix_refspec_lint.proofs.Common.{rules, ◌≡◌, ◌⊎◌, inl, inr, ℕ, List, [], ◌∷◌, ◌++◌, codes, append_assoc, refl, sym, ap, ◌∙◌, subst, AllByRecursion, Fits, EndsWith, arith, length, length-append}
-use Rattle.gix_refspec_lint.proofs.Common.{◌≤◌, BeginsWith, ◌+◌, drop, map, take, append-nil, Contains, head, one_word, IsRefName, IsDeciding, IsLongerPrefix, IsLongerSuffix, IsMost, endings, parts}
-use Rattle.gix_refspec_lint.proofs.Common.{all_weaker, take_at, drop_at}
+use Rattle.gix_refspec_lint.proofs.Common.{rules, ◌≡◌, ◌⊎◌, inl, inr, ℕ, List, [], ◌∷◌, ◌++◌, codes, append_assoc, refl, sym, ap, ◌∙◌, subst, AllByRecursion, Fits, EndsWith, arith, length}
+use Rattle.gix_refspec_lint.proofs.Common.{length-append, ◌≤◌, BeginsWith, ◌+◌, drop, map, take, append-nil, Contains, head, one_word, IsRefName, IsDeciding, IsLongerPrefix, IsLongerSuffix, IsMost}
+use Rattle.gix_refspec_lint.proofs.Common.{endings, parts, all_weaker, take_at, drop_at}
 use Rattle.gix_refspec_lint.proofs.lemmas.ByteLemmas.{parted}
 
 -- ---- the parts of a text

@@ -4,9 +4,6 @@ use Rattle.gix_refspec_lint.proofs.lemmas.FoundLemmas.{both_named, conflict_made
 use Rattle.gix_refspec_lint.proofs.lemmas.IndexLemmas.{reading_at}
 use Rattle.gix_refspec_lint.proofs.conflicts.do_conflict.Goals as goal
 
-pub returns-then-same_source : goal.returns-then-same_source
-returns-then-same_source c g is written = ((λ told. absurd (false≢true told)), (λ k. absurd (k.differ (c.same_source.ensures.0 c.if-same_source.true))))
-
 pub returns-then-not-is_fetched : goal.returns-then-not-is_fetched
 returns-then-not-is_fetched c g is written = ((λ told. absurd (false≢true told)), (λ k. absurd (false≢true ((c.if-not-is_fetched.ensures g is).1 (k.one.maps.source, k.one.included)))))
 
