@@ -3,7 +3,7 @@ use Rattle.gix_refspec_lint.proofs.Common.{◌≡◌, ◌≢◌, ◌⊎◌, inl,
 use Rattle.gix_refspec_lint.proofs.Common.{AllByRecursion, list_any, eqb-false, false≢true, Excludes, Fits, by_pattern, the_name, AddsFault, Added, LeavesFault, Reading, slash, star, brace}
 use Rattle.gix_refspec_lint.proofs.Common.{is_refused_byte, IsName, EndsWith, Lacks, Error, EmptyComponent, StartsWithDot, LockSuffix, EndsWithDot, RepeatedDot, ReflogPortion, Asterisk, InvalidByte}
 use Rattle.gix_refspec_lint.proofs.Common.{all_left, all_right, Lacks-here, HasFault-added, HasFault-left, IsName-from_clean, IsExcluded, LacksIn, SidesLack, is_usable, nil_from_length, arith, length}
-use Rattle.gix_refspec_lint.proofs.Common.{length-append, same_Some, or_parts, not-true, ◌≤◌, eqb-true, BeginsWith, ◌+◌, append-nil}
+use Rattle.gix_refspec_lint.proofs.Common.{length-append, same_Some, or_parts, not-true, ◌≤◌, eqb-true, BeginsWith, append-nil}
 
 -- of two ways to split a list, one is further on
 pub parted : (p s q t : List ℕ) → p ++ s ≡ q ++ t → ((m : List ℕ) × (q ≡ p ++ m) × (s ≡ m ++ t)) ⊎ ((m : List ℕ) × (p ≡ q ++ m) × (t ≡ m ++ s))

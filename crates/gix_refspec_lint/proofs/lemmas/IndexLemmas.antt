@@ -2,7 +2,7 @@
 use Rattle.gix_refspec_lint.proofs.Common.{all_at, ◌↔◌, ◌≡◌, ℕ, zero, suc, ◌<◌, List, [], ◌∷◌, Option, Some, length, map, option_map, get_or, inl, inr, refl, sym, ap, ◌∙◌, subst, arith}
 use Rattle.gix_refspec_lint.proofs.Common.{AllByRecursion, AllZip, Any, Contains, slice_get, recursion_from_All, Contains-get_or, same_Some, slice_get_read, slice_get_within, get_or_from_slice_get}
 use Rattle.gix_refspec_lint.proofs.Common.{slice_get-map, slice_get-get_or, Reading, IsAccepted, Ref, reading_of, RefSpecRef, Source, name, id, IsExcluded, IsExcludedBy, IsSourceExcluded}
-use Rattle.gix_refspec_lint.proofs.Common.{MakesForward, IsCompleted, zip_at, zip_long, reading_once, all_accepted, Maps, ◌++◌, ◌+◌, ◌⊎◌, HasName, IsFirstCandidate, Takes, all_weaker, IsPaired}
+use Rattle.gix_refspec_lint.proofs.Common.{MakesForward, IsCompleted, zip_at, zip_long, reading_once, all_accepted, Maps, ◌++◌, ◌⊎◌, HasName, IsFirstCandidate, Takes, all_weaker, IsPaired}
 use Rattle.gix_refspec_lint.proofs.Common.{matches_by_name, named_some, some_named, ConflictsShown, ConflictOver, Fetches, refs_of, HasKind, partial}
 
 -- what holds of some element holds of one at an index

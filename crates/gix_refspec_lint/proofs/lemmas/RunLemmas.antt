@@ -1,7 +1,7 @@
 -- Overlaps that come to nothing for one reason.
 use Rattle.gix_refspec_lint.proofs.Common.{drop_at, take_at, ◌≡◌, ◌≢◌, ◌⊎◌, inl, inr, ℕ, zero, suc, ◌+◌, ◌<◌, ◌≤◌, List, [], ◌∷◌, ◌++◌, drop, length, take, append_assoc, append-nil, length-append}
 use Rattle.gix_refspec_lint.proofs.Common.{refl, sym, ap, ◌∙◌, subst, arith, nil_from_length, EndsWith, upto, IsOverlap, power, IsFirstOf, IsNextOf, IsRun, Run, Why, Unknown, take-append-drop}
-use Rattle.gix_refspec_lint.proofs.Common.{length-take-le, get_or, AllByRecursion, take_more, all_join, ◌-◌, of_element, Contains-get_or, IsDeciding, AreOverlaps}
+use Rattle.gix_refspec_lint.proofs.Common.{length-take-le, get_or, AllByRecursion, take_more, all_join, of_element, Contains-get_or, IsDeciding, AreOverlaps}
 use Rattle.gix_refspec_lint.proofs.lemmas.ByteLemmas.{ends_behind, parted}
 use Rattle.gix_refspec_lint.proofs.lemmas.RepeatLemmas.{power_long}
 
