@@ -20,16 +20,11 @@ prefix_once x p q (of_pattern before after split _ _) (of_head is _) = absurd (h
 prefix_once x p q (of_pattern before after split _ _) (of_name _ lacks _) = absurd (lacks_no_pattern x before after lacks split)
 prefix_once x p q (of_pattern before after split _ a) (of_pattern before2 after2 cut2 _ b) = a ∙ ((split_once x before after before2 after2 split cut2).0 ∙ sym b)
 
-abbrev Inside : List ℕ → List (List ℕ) → Type 0
-Inside x list = (rest : List ℕ) × (x ≡ codes "refs/" ++ rest)
-    × ((Lacks slash rest × (list ≡ x ∷ [])) ⊎ (ContainsText (codes "/") rest × (list ≡ [])))
-
-abbrev Outside : List ℕ → List (List ℕ) → Type 0
-Outside x list = ¬ (BeginsWith (codes "refs/") x) × ((IsId x × (list ≡ [])) ⊎ (¬ (IsId x) × (list ≡ candidates x)))
-
 -- the ways to expand a side of which P says the prefixes: to its prefix; or without one, below `refs/` or elsewhere
 abbrev Ways : (List ℕ → Type 0) → List ℕ → List (List ℕ) → Type 0
-Ways P x list = ((p : List ℕ) × P p × (list ≡ p ∷ [])) ⊎ (((p : List ℕ) → ¬ (P p)) × (Inside x list ⊎ Outside x list))
+Ways P x list = ((p : List ℕ) × P p × (list ≡ p ∷ [])) ⊎ (((p : List ℕ) → ¬ (P p)) × (((rest : List ℕ) × (x ≡ codes "refs/" ++ rest)
+    × ((Lacks slash rest × (list ≡ x ∷ [])) ⊎ (ContainsText (codes "/") rest × (list ≡ []))))
+    ⊎ (¬ (BeginsWith (codes "refs/") x) × ((IsId x × (list ≡ [])) ⊎ (¬ (IsId x) × (list ≡ candidates x))))))
 
 ways_of : (x : List ℕ) (list : List (List ℕ)) → Expands x list → Ways (IsPrefix x) x list
 ways_of x list (to_prefix p is a) = inl (p, is, a)
