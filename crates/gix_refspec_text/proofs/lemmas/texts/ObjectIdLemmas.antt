@@ -181,9 +181,6 @@ IsLowerText-lower_of kind i size fits =
       AllPass-encode_with is_lower_digit lower_digits i (λ d below. AllPass-from_list_all is_lower_digit lower_digits refl d 0 below) fits,
     )
 
-hex_digit_value-small : (c v : ℕ) → hex_digit_value c ≡ Some v → v < 16
-hex_digit_value-small c v read = grind arith
-
 lower_digit : (c v : ℕ) → is_lower_digit c ≡ true → hex_digit_value c ≡ Some v → slice_index lower_digits v ≡ c
 lower_digit c v lower read =
     let below : c < 103 = grind (arith, nat_tests) in
@@ -196,7 +193,7 @@ unfolding encode_with
 lower_text [] [] size lower spelled = refl
 lower_text (a ∷ b ∷ t) (x ∷ i) size lower spelled =
     let s = spelled 0 (omega arith) in
-    let small = hex_digit_value-small b s.low_value s.low_read in
+    let small : s.low_value < 16 = (let read = s.low_read in grind arith) in
     let high : x / 16 ≡ s.high_value = omega (arith, s.value, small) in
     let low : x % 16 ≡ s.low_value = omega (arith, s.value, small) in
     let tail = All-tail is_lower a (b ∷ t) lower in
