@@ -1,5 +1,5 @@
 -- Which sources are covering.
-use Rattle.gix_refspec_text.proofs.Common.{[], None, Some, codes, refl, arith, star, Normal, pushed, IsPrefix, of_name, of_pattern, IsCovering, by_prefix, by_candidates, HasCoveringSource, same_Some}
+use Rattle.gix_refspec_text.proofs.Common.{rules, [], None, Some, codes, refl, arith, star, Normal, pushed, IsPrefix, of_name, of_pattern, IsCovering, by_prefix, by_candidates, HasCoveringSource, same_Some}
 use Rattle.gix_refspec_text.proofs.Common.{HasNoPrefix}
 use Rattle.gix_refspec_text.proofs.{facts.ManualFacts.Lacks-tested, facts.TestedTexts.differ, lemmas.lists.LacksLemmas.Lacks-here, lemmas.prefixes.PrefixLemmas.no_prefix}
 use Rattle.gix_refspec_text.proofs.{facts.TestedTexts.begins}
@@ -12,10 +12,9 @@ below_heads = of_pattern (codes "refs/heads/") [] (split_at_end (codes "refs/hea
 -- a pattern that begins with `refs/heads/`, a full name, a partial one and an id are covering
 pub covering : IsCovering (codes "refs/heads/*") × IsCovering (codes "refs/heads/main") × IsCovering (codes "main") × IsCovering (codes "e69de29bb2d1d6434b8b29ae775ad8c2e48c5391")
 covering = (
-  by_prefix (codes "refs/heads/") (record { after = codes "heads/*"; here = refl }) below_heads,
+  by_prefix _ (record { after = codes "heads/*"; here = refl }) below_heads,
   by_prefix (codes "refs/heads/main") (record { after = codes "heads/main"; here = refl }) (of_name (record { after = codes "heads/main"; here = refl }) (Lacks-tested star (codes "refs/heads/main") refl) refl),
-  by_candidates short_kind.1 (differ (codes "main") (codes "HEAD") refl) short_kind.2,
-  by_candidates blob_kind.0 (differ _ _ refl) blob_kind.1,
+  by_candidates short_kind.1 (differ _ _ refl) short_kind.2, by_candidates blob_kind.0 (differ _ _ refl) blob_kind.1,
 )
 
 -- a pattern with its star right after `refs/` has no prefix
@@ -25,8 +24,7 @@ no_bare_prefix = no_prefix (codes "refs/*") (codes "refs/") [] (split_at_end (co
 -- `HEAD`, `*` and `refs/*` aren't
 pub not_covering : ¬ (IsCovering (codes "HEAD")) × ¬ (IsCovering (codes "*")) × ¬ (IsCovering (codes "refs/*"))
 not_covering = (
-  (λ covers. elim covers [ by_prefix p begins prefix ↦ other_first 72 (codes "EAD") (λ same. omega (arith, same)) begins | by_candidates lacks other outside ↦ other refl ]),
-  (λ covers. elim covers [ by_prefix p begins prefix ↦ other_first 42 [] (λ same. omega (arith, same)) begins | by_candidates lacks other outside ↦ Lacks-here star [] [] lacks ]),
+  search (rules, arith, other_first), search (rules, arith, other_first, Lacks-here), 
   λ covers. elim covers [ by_prefix p begins prefix ↦ no_bare_prefix p prefix | by_candidates lacks other outside ↦ Lacks-here star (codes "refs/") [] lacks ],
 )
 

@@ -1,5 +1,5 @@
 -- The definitions on sides of specs, and the readings and names that other examples use.
-use Rattle.gix_refspec_text.proofs.Common.{◌≡◌, ◌≢◌, ℕ, zero, suc, ◌==◌, false, List, [], ◌∷◌, ◌++◌, None, Some, length, get_or, codes, refl, ap, ◌∙◌, subst, arith, AllByRecursion, Contains, list_any}
+use Rattle.gix_refspec_text.proofs.Common.{rules, ◌≡◌, ◌≢◌, ℕ, zero, suc, ◌==◌, false, List, [], ◌∷◌, ◌++◌, None, Some, length, get_or, codes, refl, ap, ◌∙◌, subst, arith, AllByRecursion, Contains, list_any}
 use Rattle.gix_refspec_text.proofs.Common.{length-append, Fetch, Push, BeginsWith, IsSplit, star, IsIdText, Normal, Forced, Negative, Reading, fetched, full_name, object, partial, HasKind, Fits}
 use Rattle.gix_refspec_text.proofs.Common.{Excludes, the_name, by_pattern, filled, Ref}
 use Rattle.gix_refspec_text.proofs.{facts.ManualFacts.Lacks-tested, facts.ManualFacts.named, facts.TestedTexts.differ, lemmas.hits.MatchLemmas.lacks_no_pattern}
@@ -39,8 +39,7 @@ pub excludes_name : Excludes (codes "refs/heads/wip") (codes "refs/heads/wip") �
 excludes_name = (the_name (Lacks-tested star (codes "refs/heads/wip") refl) refl, no_candidate)
   where
     no_candidate : ¬ (Excludes (codes "wip") (codes "refs/heads/wip"))
-    no_candidate (the_name lacks same) = differ _ _ refl same
-    no_candidate (by_pattern before after word split fits) = lacks_no_pattern (codes "wip") before after (Lacks-tested star (codes "wip") refl) split
+    no_candidate = search (rules, differ, lacks_no_pattern (codes "wip"), Lacks-tested)
 
 -- a pattern excludes the names that it matches, and no others
 pub excludes_dev : Excludes (codes "refs/heads/dev-*") (codes "refs/heads/dev-a")

@@ -1,5 +1,5 @@
 -- The definitions of the grammar, and each of its thirteen forms at texts like those of git-fetch(1) and git-push(1), with `+` and without.
-use Rattle.gix_refspec_text.proofs.Common.{map, ◌≡◌, ℕ, true, List, [], ◌∷◌, ◌++◌, None, Some, codes, refl, inl, inr, arith, replicate, Push, Fetch, Plain, Pattern, letter, caret, colon, Normal}
+use Rattle.gix_refspec_text.proofs.Common.{rules, map, ◌≡◌, ℕ, true, List, [], ◌∷◌, ◌++◌, None, Some, codes, refl, inl, inr, arith, replicate, Push, Fetch, Plain, Pattern, letter, caret, colon, Normal}
 use Rattle.gix_refspec_text.proofs.Common.{Forced, Negative, IsUnsigned, IsSigned, with_colon, LastLacksColon, AreParts, IsPositive, named_by, LooksLikeObjectHash, IsNameOrPattern, AreAlike, fetched}
 use Rattle.gix_refspec_text.proofs.Common.{pushed, Reads, pushes_plus, pushes_colon, Asterisk, InvalidByte, is_refused_byte, HasFault, IsName, IsPattern}
 use Rattle.gix_refspec_text.proofs.{facts.ManualFacts.no_sign, facts.ManualFacts.parts, lemmas.lists.LacksLemmas.Lacks-here, lemmas.parsing.SideLemmas.HasStar-pattern}
@@ -56,10 +56,8 @@ names_and_patterns = (inl b_name, inr a_star, λ side. elim side [ inl name ↦ 
 -- two names, two patterns, and one of each
 pub alike : AreAlike (codes "b") (codes "b") × AreAlike (codes "a*") (codes "a*") × ¬ (AreAlike (codes "a*") (codes "b")) × ¬ (AreAlike (codes "b") (codes "a*"))
 alike = (
-  inl (b_name, b_name),
-  inr (a_star, a_star),
-  (λ sides. elim sides [ inl names ↦ no_name_with_star (codes "a*") a_star names.0 | inr patterns ↦ no_pattern (codes "b") refl patterns.1 ]),
-  λ sides. elim sides [ inl names ↦ no_name_with_star (codes "a*") a_star names.1 | inr patterns ↦ no_pattern (codes "b") refl patterns.0 ],
+  inl (b_name, b_name), inr (a_star, a_star), 
+  search (rules, no_name_with_star (codes "a*") a_star, no_pattern (codes "b") refl), search (rules, no_name_with_star (codes "a*") a_star, no_pattern (codes "b") refl),
 )
 
 -- 40 hex digits and more look like an id, in either case; 40 bytes of which one isn't a hex digit don't

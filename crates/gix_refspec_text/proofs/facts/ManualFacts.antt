@@ -1,6 +1,6 @@
 -- The definitions of names and refspecs at the examples of git-check-ref-format(1), git-fetch(1) and git-push(1), and
 -- at similar ones on both sides of a boundary, so that a wrong definition fails here.
-use Rattle.gix_refspec_text.proofs.Common.{◌≡◌, ◌≢◌, ℕ, ◌==◌, true, false, List, [], ◌∷◌, ◌++◌, Option, None, Some, map, length, codes, refl, ap, subst, inl, inr, arith, replicate, list_any, filter}
+use Rattle.gix_refspec_text.proofs.Common.{rules, ◌≡◌, ◌≢◌, ℕ, ◌==◌, true, false, List, [], ◌∷◌, ◌++◌, Option, None, Some, map, length, codes, refl, ap, subst, inl, inr, arith, replicate, list_any, filter}
 use Rattle.gix_refspec_text.proofs.Common.{range_with_len, length-replicate, eqb-false, false≢true, RepeatedDot, Operation, Push, Fetch, Plain, Pattern, is_refused_byte, HasSeveralStars, IsSplit}
 use Rattle.gix_refspec_text.proofs.Common.{ReplacesStar, IsPattern, IsPatternFault, slash, star, letter, plus, caret, colon, Mode, Normal, Forced, Negative, Reading, HasSide, remote_of, local_of}
 use Rattle.gix_refspec_text.proofs.Common.{IsSigned, AreParts, Reads, pushes_colon, pushed, fetched, Meaning, push_all_matching, push_delete, push_matching, push_exclude, fetch_and_update, meaning_of}
@@ -114,9 +114,7 @@ full_name_matches = record { kind = full_name (codes "refs/heads/main"); of = se
 pub full_name_differs : ((word : List ℕ) → ¬ (MatchesAs (full_name (codes "refs/heads/main")) (named (codes "refs/heads/main")) (Some word)))
     × ¬ (MatchesAs (full_name (codes "refs/heads/main")) (named (codes "refs/heads/main2")) None)
     × ¬ (MatchesAs (full_name (codes "refs/heads/main")) (named (codes "refs/heads/mai")) None)
-full_name_differs = (
-  (λ word matches. some_none word matches.0), (λ matches. differ _ _ refl matches.1), λ matches. differ _ _ refl matches.1,
-)
+full_name_differs = search (rules, arith, differ, some_none)
 
 -- a tag with the first id, of an object with the second
 abbrev tag : Ref
@@ -191,10 +189,7 @@ pattern_too_long = (omega (arith, length-replicate 256 letter), λ long. omega (
 
 -- so a destination may need memory too
 pub destination_needs_memory : ReachesMemory Push Normal (codes "a..b") (Some (codes "c*d*"))
-destination_needs_memory = (
-  before_source Push Normal (codes "a..b") (Some (codes "c*d*")) (full _ _) (λ negative. absurd (cc)) (λ same. full 99 (codes "*d*") (same_Some (codes "c*d*") [] same)),
-  inr ((λ e bad. unstarred (codes "a..b") e refl bad.refusal), inl (several (codes "c*d*") refl)),
-)
+destination_needs_memory = search (rules, arith, before_source, full, same_Some, several, unstarred)
 
 -- but not after a bad source; nor may the source of a push to an empty destination, or of a negative spec with a colon
 pub memory_after_reasons : ¬ (ReachesMemory Fetch Normal (codes "a..b") (Some (codes "c*d*"))) × ¬ (ReachesMemory Push Normal (codes "a*b*") (Some [])) × ¬ (ReachesMemory Fetch Negative (codes "a*b*") (Some (codes "c")))

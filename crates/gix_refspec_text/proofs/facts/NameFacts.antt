@@ -1,6 +1,6 @@
 -- Texts that are names and patterns, and texts that are not, by git-check-ref-format(1): for each of its
 -- rules a text that breaks it, and one that just doesn't.
-use Rattle.gix_refspec_text.proofs.Common.{◌≡◌, ℕ, List, [], ◌∷◌, codes, refl, arith, AllByRecursion, Error, Empty, EmptyComponent, StartsWithDot, LockSuffix, EndsWithDot, RepeatedDot, ReflogPortion}
+use Rattle.gix_refspec_text.proofs.Common.{rules, ◌≡◌, ℕ, List, [], ◌∷◌, codes, refl, arith, AllByRecursion, Error, Empty, EmptyComponent, StartsWithDot, LockSuffix, EndsWithDot, RepeatedDot, ReflogPortion}
 use Rattle.gix_refspec_text.proofs.Common.{Asterisk, InvalidByte, ArePartsAt, slash, IsName, IsPattern, IsPatternFault, ReferenceName, with_letters, IsStarCount, IsCalm, lowest_of}
 use Rattle.gix_refspec_text.specs.declared.name.PatternError.TheVariants.{Name}
 use lib.Count.{count_trailing_zeros}
@@ -29,11 +29,9 @@ names_close_to_faults = none_are IsName (is_suspect slash) IsName-tested close_n
 -- `.lock`, a dot at the end, two dots, `@{`, a star, and a refused byte
 pub no_names : ¬ (IsName []) × ¬ (IsName (codes "/a")) × ¬ (IsName (codes "a/")) × ¬ (IsName (codes "a//a")) × ¬ (IsName (codes ".b/a")) × ¬ (IsName (codes "a/.b")) × ¬ (IsName (codes "b.lock/a")) × ¬ (IsName (codes "a/b.lock")) × ¬ (IsName (codes "a/b.")) × ¬ (IsName (codes "..a")) × ¬ (IsName (codes "@{1}")) × ¬ (IsName (codes "*a")) × ¬ (IsName (codes "a b"))
 no_names = (
-  no_name [] Empty refl, no_name (codes "/a") EmptyComponent refl, no_name (codes "a/") EmptyComponent refl,
-  no_name (codes "a//a") EmptyComponent refl, no_name (codes ".b/a") StartsWithDot refl, no_name (codes "a/.b") StartsWithDot refl,
-  no_name (codes "b.lock/a") LockSuffix refl, no_name (codes "a/b.lock") LockSuffix refl, no_name (codes "a/b.") EndsWithDot refl,
-  no_name (codes "..a") RepeatedDot refl, no_name (codes "@{1}") ReflogPortion refl, no_name (codes "*a") Asterisk refl,
-  no_name (codes "a b") (InvalidByte 32) refl,
+  no_name _ Empty refl, no_name _ EmptyComponent refl, no_name _ EmptyComponent refl, no_name _ EmptyComponent refl,
+  no_name _ StartsWithDot refl, no_name _ StartsWithDot refl, no_name _ LockSuffix refl, no_name _ LockSuffix refl,
+  no_name _ EndsWithDot refl, no_name _ RepeatedDot refl, no_name _ ReflogPortion refl, no_name _ Asterisk refl, no_name _ (InvalidByte 32) refl,
 )
 
 -- ---- patterns
@@ -48,10 +46,7 @@ patterns = all_are IsPattern is_pattern a_pattern starry_names refl
 -- with the letter for the star these aren't names: a component begins with a dot, the text ends with a slash, and a
 -- component ends with `.lock`
 pub stars_in_bad_names : IsPatternFault (Name StartsWithDot) (codes "a/.*") × IsPatternFault (Name EmptyComponent) (codes "*/") × IsPatternFault (Name LockSuffix) (codes "a/*.lock")
-stars_in_bad_names = (
-  pattern_fault (codes "a/.*") StartsWithDot refl refl, pattern_fault (codes "*/") EmptyComponent refl refl,
-  pattern_fault (codes "a/*.lock") LockSuffix refl refl,
-)
+stars_in_bad_names = search (rules, arith, pattern_fault)
 
 bad_pattern : (x : List ℕ) (e : Error) → IsPatternFault (Name e) x → ¬ (IsPattern x)
 bad_pattern x e bad pattern = pattern_fine x pattern (ReferenceName e) bad
@@ -59,12 +54,8 @@ bad_pattern x e bad pattern = pattern_fine x pattern (ReferenceName e) bad
 -- so they aren't patterns, nor is a text without a star, or with two
 pub no_patterns : ¬ (IsPattern (codes "a/.*")) × ¬ (IsPattern (codes "*/")) × ¬ (IsPattern (codes "a/*.lock")) × ¬ (IsPattern (codes "refs/heads/main")) × ¬ (IsPattern []) × ¬ (IsPattern (codes "foo/bar*/baz*"))
 no_patterns = (
-  bad_pattern (codes "a/.*") StartsWithDot stars_in_bad_names.0,
-  bad_pattern (codes "*/") EmptyComponent stars_in_bad_names.1,
-  bad_pattern (codes "a/*.lock") LockSuffix stars_in_bad_names.2,
-  no_pattern (codes "refs/heads/main") refl,
-  no_pattern [] refl,
-  no_pattern (codes "foo/bar*/baz*") refl,
+  bad_pattern _ StartsWithDot stars_in_bad_names.0, bad_pattern _ EmptyComponent stars_in_bad_names.1, bad_pattern _ LockSuffix stars_in_bad_names.2,
+  no_pattern _ refl, no_pattern _ refl, no_pattern _ refl,
 )
 
 -- a pattern has no fault
@@ -91,12 +82,7 @@ calm_bytes = search (arith)
 
 -- no part contains a slash; the empty text has no parts, or one empty part
 pub parts_at_slashes : ArePartsAt slash (codes "a" ∷ [] ∷ codes "b" ∷ []) (codes "a//b") × ¬ (ArePartsAt slash (codes "a/b" ∷ []) (codes "a/b")) × ArePartsAt slash [] [] × ArePartsAt slash ([] ∷ []) []
-parts_at_slashes = (
-  record { joined = refl; whole = (Lacks-tested slash (codes "a") refl, (tt, (Lacks-tested slash (codes "b") refl, tt))) },
-  (λ are. Lacks-here slash (codes "a") (codes "b") are.whole.0),
-  record { joined = refl; whole = tt },
-  record { joined = refl; whole = (tt, tt) },
-)
+parts_at_slashes = search (rules, arith, Lacks-here, Lacks-tested)
 
 -- the lowest set bit, and a mask without one
 pub lowest_bits : (lowest_of 16 8 ≡ 3) × (lowest_of 16 12 ≡ 2) × (lowest_of 16 1 ≡ 0) × (lowest_of 16 0 ≡ 16)

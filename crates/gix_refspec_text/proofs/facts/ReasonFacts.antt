@@ -1,5 +1,5 @@
 -- The reasons to refuse a text, each with parts that it applies to, and similar parts that it doesn't apply to.
-use Rattle.gix_refspec_text.proofs.Common.{◌≡◌, ℕ, List, [], ◌∷◌, ◌++◌, Option, None, Some, codes, refl, sym, subst, inl, inr, arith, replicate, false≢true, LockSuffix, RepeatedDot, Asterisk, NoName}
+use Rattle.gix_refspec_text.proofs.Common.{rules, ◌≡◌, ℕ, List, [], ◌∷◌, ◌++◌, Option, None, Some, codes, refl, sym, subst, inl, inr, arith, replicate, false≢true, LockSuffix, RepeatedDot, Asterisk, NoName}
 use Rattle.gix_refspec_text.proofs.Common.{Operation, Push, Fetch, IsName, HasStar, HasOneStar, IsSplit, IsPatternFault, star, letter, Normal, Forced, Negative, LooksLikeObjectHash, Refusal}
 use Rattle.gix_refspec_text.proofs.Common.{NegativeWithDestination, PushToEmpty, PatternUnsupported, ReferenceName, PatternUnbalanced, NegativeEmpty, NegativeObjectHash, IsBadName, IsBadPattern}
 use Rattle.gix_refspec_text.proofs.Common.{IsEmptyPush, HasNegativeDestination, PushesNowhere, IsBadSourceFor, HasBadSource, HasBadDestination, IsOneStarred, IsUnbalanced, ExcludesNothing}
@@ -15,10 +15,7 @@ use Rattle.gix_refspec_text.proofs.facts.TestedTexts.{Lacks-tested, contains, fa
 
 -- a text with exactly one star, and texts without one and with two
 pub one_star_alone : HasOneStar (codes "a*b") × IsSplit (codes "a") (codes "b") (codes "a*b") × ¬ (HasOneStar (codes "ab")) × ¬ (HasOneStar (codes "a*b*")) × ¬ (HasOneStar (codes "b"))
-one_star_alone = (
-  HasOneStar-count_by (codes "a*b") refl, IsSplit-tested (codes "a") (codes "b") refl refl, not_one_star (codes "ab") refl,
-  not_one_star (codes "a*b*") refl, not_one_star (codes "b") refl,
-)
+one_star_alone = search (rules, arith, HasOneStar-count_by, IsSplit-tested, not_one_star)
 
 -- ---- names and patterns
 
@@ -27,9 +24,7 @@ pub bad_patterns : IsBadPattern (codes "b*.lock") (ReferenceName LockSuffix) × 
 bad_patterns = (
   pattern_fault (codes "b*.lock") LockSuffix refl refl,
   pattern_faultless (codes "b*.lock") Asterisk refl refl,
-  (λ bad. not_several (codes "b*.lock") refl bad.0),
-  unstarred (codes "b.lock") (ReferenceName LockSuffix) refl,
-  λ none. none,
+  (λ bad. not_several (codes "b*.lock") refl bad.0), unstarred (codes "b.lock") (ReferenceName LockSuffix) refl, λ none. none,
 )
 
 -- and the check of a pattern alone finds the same
@@ -73,8 +68,7 @@ empty_sides = ((λ op d e bad. bad.source refl), λ e. ((λ bad. bad.destination
 -- `a..b` and `a*b*` are bad destinations, and `c` isn't
 pub destinations : HasBadDestination (Some (codes "a..b")) (ReferenceName RepeatedDot) × HasBadDestination (Some (codes "a*b*")) (PatternUnsupported (codes "a*b*")) × (IsName (codes "c") → (e : Refusal) → ¬ (HasBadDestination (Some (codes "c")) e))
 destinations = (
-  record { word = codes "a..b"; is = refl; destination = full _ _; refusal = inl dots_bad },
-  record { word = codes "a*b*"; is = refl; destination = full _ _; refusal = inr two_stars_bad },
+  search (rules, full, dots_bad), search (rules, full, two_stars_bad),
   λ is_name e bad. name_not_bad bad.word (subst IsName (same_Some (codes "c") bad.word bad.is) is_name) e bad.refusal,
 )
 

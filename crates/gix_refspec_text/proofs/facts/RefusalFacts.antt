@@ -1,5 +1,5 @@
 -- The order of refusals: texts with two reasons, of which the first in the order is returned, and the other isn't.
-use Rattle.gix_refspec_text.proofs.Common.{Never, HasBadSource, ◌≢◌, ℕ, List, [], Option, None, Some, codes, refl, inl, inr, arith, replicate, LockSuffix, Operation, Push, Fetch, letter, Normal}
+use Rattle.gix_refspec_text.proofs.Common.{rules, Never, HasBadSource, ◌≢◌, ℕ, List, [], Option, None, Some, codes, refl, inl, inr, arith, replicate, LockSuffix, Operation, Push, Fetch, letter, Normal}
 use Rattle.gix_refspec_text.proofs.Common.{Forced, Negative, LooksLikeObjectHash, Refusal, NegativeWithDestination, PushToEmpty, PatternUnsupported, ReferenceName, PatternUnbalanced, IsEmptyPush}
 use Rattle.gix_refspec_text.proofs.Common.{HasBadDestination, IsUnbalanced, IsFirstReason, ◌≡◌, Mode, IsSameReason, Empty}
 use Rattle.gix_refspec_text.proofs.{facts.ManualFacts.full, facts.TestedReadings.no_hash, lemmas.parsing.RefusalLemmas.Agree-first}
@@ -35,8 +35,7 @@ source_before_destination = (first, other_reason Fetch Normal (codes "a*b*") (So
         (record { source = full _ _; refusal = bad_side (codes "a*b*") (PatternUnsupported (codes "a*b*")) refl })
 
     differ : ¬ (IsSameReason (PatternUnsupported (codes "a*b*")) (PatternUnsupported (codes "c*d*")))
-    differ (inl is) = let same : codes "a*b*" ≡ codes "c*d*" = cc in other _ _ refl same
-    differ (inr names) = let is = names.2 in cc
+    differ = search (rules, arith, other)
 
 no_bad_name : Never (HasBadSource Fetch (codes "a") (Some (codes "b*.lock")))
 no_bad_name e is = name_not_bad (codes "a") (IsName-tested (codes "a") refl) e is.refusal

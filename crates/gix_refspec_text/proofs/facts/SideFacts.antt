@@ -1,9 +1,8 @@
 -- Sides, candidates and matches: also texts of another kind, names that aren't candidates, and refs that aren't matched.
-use Rattle.gix_refspec_text.proofs.Common.{map, ◌≡◌, ◌≢◌, ◌⊎◌, ℕ, List, [], ◌∷◌, Option, None, Some, codes, refl, sym, subst, arith, AllByRecursion, star, SideKind, pattern, full_name, object}
+use Rattle.gix_refspec_text.proofs.Common.{rules, map, ◌≡◌, ◌≢◌, ◌⊎◌, ℕ, List, [], ◌∷◌, Option, None, Some, codes, refl, sym, subst, arith, AllByRecursion, star, SideKind, pattern, full_name, object}
 use Rattle.gix_refspec_text.proofs.Common.{partial, IsId, HasKind, candidates, IsCandidate, Excludes, the_name, by_pattern, filled, MatchesAs, Matches, inl, inr, Lacks, HasOneStar, IsIdText, Normal}
 use Rattle.gix_refspec_text.proofs.Common.{fetched, pushed, Fits, same_Some, bytes_eq}
-use Rattle.gix_refspec_text.specs.Matching.Side.{written_name_of}
-use Rattle.gix_refspec_text.specs.Laws.Sides.{SidesAgree, OneKind, OneId, OneOfEach}
+use Rattle.gix_refspec_text.specs.{Matching.Side.{written_name_of}, Laws.Sides.{SidesAgree, OneKind, OneId, OneOfEach}}
 use Rattle.gix_refspec_text.proofs.{facts.FaultFacts.begins_not, facts.ReasonFacts.one_star_alone, facts.TestedTexts.differ, facts.TestedTexts.none_are}
 use Rattle.gix_refspec_text.proofs.{lemmas.hits.MatchLemmas.has_candidates, lemmas.hits.MatchLemmas.lacks_no_pattern, lemmas.lists.LacksLemmas.Lacks-here}
 use Rattle.gix_refspec_text.proofs.{lemmas.texts.ComponentLemmas.AllByRecursion-parts, lemmas.texts.TextLemmas.one_not_two}
@@ -63,8 +62,7 @@ excludes_little = (two_stars, by_pattern (codes "a/") (codes "/c") (codes "b") (
     two_stars n (by_pattern before after word split fits) = no_kind (pattern before after) split
 
     longer : ¬ (Excludes (codes "a/b") (codes "a/bc"))
-    longer (the_name lacks same) = differ _ _ refl same
-    longer (by_pattern before after word split fits) = lacks_no_pattern (codes "a/b") before after (Lacks-tested star (codes "a/b") refl) split
+    longer = search (rules, differ, lacks_no_pattern (codes "a/b"), Lacks-tested)
 
 -- a word changes only a pattern, and a partial name gets just `refs/` only before `tags/` and `remotes/`
 pub filled_with_words : (filled (full_name (codes "refs/x/a")) (Some (codes "w")) ≡ codes "refs/x/a")
@@ -88,8 +86,7 @@ pub agree : SidesAgree every × SidesAgree short
 agree = search (arith, same_Some, heads_split, origin_split)
 
 several_stars : ¬ (HasOneStar (codes "a*b*") ⊎ Lacks star (codes "a*b*"))
-several_stars (inl one) = one_star_alone.3 one
-several_stars (inr lacks) = Lacks-here star (codes "a") (codes "b*") lacks
+several_stars = search (rules, arith, one_star_alone, Lacks-here)
 
 -- sides with a star on only one side, or with several stars, don't
 pub disagree : ¬ (SidesAgree (fetched Normal (codes "a*") (Some (codes "b")))) × ¬ (SidesAgree (pushed Normal (Some (codes "b")) (Some (codes "a*")))) × ¬ (SidesAgree (fetched Normal (codes "a*b*") None)) × ¬ (SidesAgree (pushed Normal None (Some (codes "a*b*"))))
@@ -110,7 +107,6 @@ one_id_known law i is = law i empty_blob is IsIdText-empty_blob
 -- the same from the law for any bytes
 pub each_known : OneOfEach → ((k : SideKind) → HasKind (codes "e69de29bb2d1d6434b8b29ae775ad8c2e48c5391") k → k ≡ object empty_blob) × ((word : List ℕ) → Fits (codes "a") [] (codes "ab") word → word ≡ codes "b") × ((i : List ℕ) → IsIdText (codes "e69de29bb2d1d6434b8b29ae775ad8c2e48c5391") i → i ≡ empty_blob)
 each_known law = (
-  (λ k is. law.kind (codes "e69de29bb2d1d6434b8b29ae775ad8c2e48c5391") k (object empty_blob) is blob_kind),
-  (λ word fits. law.word (codes "a") [] (codes "ab") word (codes "b") fits refl),
-  λ i is. law.id (codes "e69de29bb2d1d6434b8b29ae775ad8c2e48c5391") i empty_blob is IsIdText-empty_blob,
+  (λ k is. law.kind _ k (object empty_blob) is blob_kind), (λ word fits. law.word (codes "a") [] (codes "ab") word (codes "b") fits refl),
+  λ i is. law.id _ i empty_blob is IsIdText-empty_blob,
 )

@@ -27,9 +27,7 @@ negative_with : (op : Operation) (s d : List ℕ) → IsFirstReason op Negative 
 negative_with op s d = inr ((λ e empty. some_none d empty.no_colon), inl (record { negative = refl; colon = refl; refusal = refl }))
 
 pub negatives_to_somewhere : (op : Operation) → IsRefused op (codes "^a:b") NegativeWithDestination × IsRefused op (codes "^:") NegativeWithDestination × IsRefused op (codes "^a:") NegativeWithDestination
-negatives_to_somewhere op = (
-  because (negative_with op (codes "a") (codes "b")), because (negative_with op [] []), because (negative_with op (codes "a") []),
-)
+negatives_to_somewhere op = search (because, negative_with)
 
 -- a push of a source to nothing
 pub pushed_nowhere : IsRefused Push (codes "a:") PushToEmpty × IsRefused Push (codes "+a:") PushToEmpty
@@ -93,8 +91,7 @@ unbalanced_fetches = (
 -- the same in a push, which may have a source alone, though
 pub pushes_of_one_star : IsRefused Push (codes "a*:b") PatternUnbalanced × IsRefused Push (codes "b:a*") PatternUnbalanced × IsRefused Push (codes ":a*") PatternUnbalanced
 pushes_of_one_star = (
-  because (lone_push (codes "a*") 98 [] Pattern refl), because (lone_push (codes "b") 97 (codes "*") Plain refl),
-  because (lone_push [] 97 (codes "*") Plain refl),
+  because (lone_push _ 98 [] Pattern refl), because (lone_push _ 97 (codes "*") Plain refl), because (lone_push _ 97 (codes "*") Plain refl),
 )
 
 bad_excluded : (op : Operation) (s : List ℕ) (e : Refusal) → (not (is_empty s) && is_bad s e) ≡ true → IsFirstReason op Negative s None e
@@ -125,8 +122,6 @@ accepted = ((codes "main", fetches_main.0), (codes "+", pushes_matching.0), (cod
 -- a fetch needs a source; a negative spec needs a source and has no destination; and a star is never on only one side
 pub not_accepted : ¬ (IsAccepted (record { operation = Fetch; mode = Normal; source = None; destination = Some (codes "x") })) × ¬ (IsAccepted (fetched Negative (codes "a") (Some (codes "b")))) × ¬ (IsAccepted (pushed Negative None None)) × ¬ (IsAccepted (fetched Normal (codes "a*") (Some (codes "b"))))
 not_accepted = (
-  no_text _ refl,
-  no_text _ refl,
-  no_text _ refl,
+  no_text _ refl, no_text _ refl, no_text _ refl,
   (λ by. accepted_balanced (fetched Normal (codes "a*") (Some (codes "b"))) (codes "a*") (codes "b") ∣ by ∣₁ refl refl (inl (HasStar-pattern (codes "a*") a_star, Lacks-tested star (codes "b") refl))),
 )
