@@ -57,7 +57,8 @@ names_and_patterns = (inl b_name, inr a_star, λ side. elim side [ inl name ↦ 
 pub alike : AreAlike (codes "b") (codes "b") × AreAlike (codes "a*") (codes "a*") × ¬ (AreAlike (codes "a*") (codes "b")) × ¬ (AreAlike (codes "b") (codes "a*"))
 alike = (
   inl (b_name, b_name), inr (a_star, a_star), 
-  search (rules, no_name_with_star (codes "a*") a_star, no_pattern (codes "b") refl), search (rules, no_name_with_star (codes "a*") a_star, no_pattern (codes "b") refl),
+  search (rules, no_name_with_star (codes "a*") a_star, no_pattern (codes "b") refl),
+  search (rules, no_name_with_star (codes "a*") a_star, no_pattern (codes "b") refl),
 )
 
 -- 40 hex digits and more look like an id, in either case; 40 bytes of which one isn't a hex digit don't

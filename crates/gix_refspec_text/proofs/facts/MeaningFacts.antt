@@ -1,6 +1,6 @@
 -- Examples for this project's own rules on meanings, canonical texts, order and reasons: where a sign has a meaning,
 -- which text gets another one, and how instructions compare.
-use Rattle.gix_refspec_text.proofs.Common.{rules, arith, List, ◌∷◌, map, Option, Reading, Meaning, ◌≡◌, true, false, [], None, Some, codes, refl, Less, Equal, Greater, Push, Fetch, Normal, Forced, Negative}
+use Rattle.gix_refspec_text.proofs.Common.{arith, List, ◌∷◌, map, Option, Reading, Meaning, ◌≡◌, true, false, [], None, Some, codes, refl, Less, Equal, Greater, Push, Fetch, Normal, Forced, Negative}
 use Rattle.gix_refspec_text.proofs.Common.{fetched, pushed, push_all_matching, push_delete, push_matching, push_exclude, fetch_only, fetch_exclude, fetch_and_update, meaning_of, text_of, printed}
 use Rattle.gix_refspec_text.proofs.Common.{all_tags, order, is_same, Refusal, NegativeWithDestination, PushToEmpty, PatternUnbalanced, NegativeEmpty, NegativeObjectHash, meant_for, IsShownAs, Empty}
 use Rattle.gix_refspec_text.specs.declared.parsing.Error.TheVariants as error

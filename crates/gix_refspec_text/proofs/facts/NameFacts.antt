@@ -31,7 +31,8 @@ pub no_names : ¬ (IsName []) × ¬ (IsName (codes "/a")) × ¬ (IsName (codes "
 no_names = (
   no_name _ Empty refl, no_name _ EmptyComponent refl, no_name _ EmptyComponent refl, no_name _ EmptyComponent refl,
   no_name _ StartsWithDot refl, no_name _ StartsWithDot refl, no_name _ LockSuffix refl, no_name _ LockSuffix refl,
-  no_name _ EndsWithDot refl, no_name _ RepeatedDot refl, no_name _ ReflogPortion refl, no_name _ Asterisk refl, no_name _ (InvalidByte 32) refl,
+  no_name _ EndsWithDot refl, no_name _ RepeatedDot refl, no_name _ ReflogPortion refl, no_name _ Asterisk refl,
+  no_name _ (InvalidByte 32) refl,
 )
 
 -- ---- patterns
@@ -54,7 +55,8 @@ bad_pattern x e bad pattern = pattern_fine x pattern (ReferenceName e) bad
 -- so they aren't patterns, nor is a text without a star, or with two
 pub no_patterns : ¬ (IsPattern (codes "a/.*")) × ¬ (IsPattern (codes "*/")) × ¬ (IsPattern (codes "a/*.lock")) × ¬ (IsPattern (codes "refs/heads/main")) × ¬ (IsPattern []) × ¬ (IsPattern (codes "foo/bar*/baz*"))
 no_patterns = (
-  bad_pattern _ StartsWithDot stars_in_bad_names.0, bad_pattern _ EmptyComponent stars_in_bad_names.1, bad_pattern _ LockSuffix stars_in_bad_names.2,
+  bad_pattern _ StartsWithDot stars_in_bad_names.0, bad_pattern _ EmptyComponent stars_in_bad_names.1,
+  bad_pattern _ LockSuffix stars_in_bad_names.2,
   no_pattern _ refl, no_pattern _ refl, no_pattern _ refl,
 )
 

@@ -1,7 +1,7 @@
 -- The order of refusals: texts with two reasons, of which the first in the order is returned, and the other isn't.
 use Rattle.gix_refspec_text.proofs.Common.{rules, Never, HasBadSource, ◌≢◌, ℕ, List, [], Option, None, Some, codes, refl, inl, inr, arith, replicate, LockSuffix, Operation, Push, Fetch, letter, Normal}
 use Rattle.gix_refspec_text.proofs.Common.{Forced, Negative, LooksLikeObjectHash, Refusal, NegativeWithDestination, PushToEmpty, PatternUnsupported, ReferenceName, PatternUnbalanced, IsEmptyPush}
-use Rattle.gix_refspec_text.proofs.Common.{HasBadDestination, IsUnbalanced, IsFirstReason, ◌≡◌, Mode, IsSameReason, Empty}
+use Rattle.gix_refspec_text.proofs.Common.{HasBadDestination, IsUnbalanced, IsFirstReason, Mode, IsSameReason, Empty}
 use Rattle.gix_refspec_text.proofs.{facts.ManualFacts.full, facts.TestedReadings.no_hash, lemmas.parsing.RefusalLemmas.Agree-first}
 use Rattle.gix_refspec_text.proofs.{lemmas.parsing.SideLemmas.name_not_bad, lemmas.texts.TestedLemmas.IsName-tested}
 use Rattle.gix_refspec_text.proofs.{facts.TestedTexts.bad_side, facts.TestedTexts.contains, facts.TestedTexts.differ as other, lemmas.parsing.ReasonLemmas.fetch_reaches}
