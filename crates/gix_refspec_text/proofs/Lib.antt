@@ -1,3 +1,4 @@
 mod Common
 pub mod facts
 pub mod lemmas
+pub mod readers

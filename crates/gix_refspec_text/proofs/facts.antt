@@ -1,6 +1,4 @@
 -- Examples of the definitions in specs/, on both sides of each boundary, so that a wrong definition is noticed.
-pub mod TestedTexts
-pub mod TestedReadings
 pub mod ManualFacts
 pub mod NameFacts
 pub mod ObjectIdFacts

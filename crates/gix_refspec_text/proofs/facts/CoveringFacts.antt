@@ -1,8 +1,8 @@
 -- Which sources are covering.
 use Rattle.gix_refspec_text.proofs.Common.{rules, [], None, Some, codes, refl, arith, star, Normal, pushed, IsPrefix, of_name, of_pattern, IsCovering, by_prefix, by_candidates, HasCoveringSource, same_Some}
 use Rattle.gix_refspec_text.proofs.Common.{HasNoPrefix}
-use Rattle.gix_refspec_text.proofs.{facts.ManualFacts.Lacks-tested, facts.TestedTexts.differ, lemmas.lists.LacksLemmas.Lacks-here, lemmas.prefixes.PrefixLemmas.no_prefix}
-use Rattle.gix_refspec_text.proofs.{facts.TestedTexts.begins}
+use Rattle.gix_refspec_text.proofs.{facts.ManualFacts.Lacks-tested, readers.Texts.differ, lemmas.lists.LacksLemmas.Lacks-here, lemmas.prefixes.PrefixLemmas.no_prefix}
+use Rattle.gix_refspec_text.proofs.{readers.Texts.begins}
 use Rattle.gix_refspec_text.proofs.facts.FitFacts.{blob_kind, no_dev, other_first, push_is_none, short, short_kind, split_at_end}
 
 -- the prefix of a pattern
@@ -14,7 +14,8 @@ pub covering : IsCovering (codes "refs/heads/*") × IsCovering (codes "refs/head
 covering = (
   by_prefix _ (record { after = codes "heads/*"; here = refl }) below_heads,
   by_prefix (codes "refs/heads/main") (record { after = codes "heads/main"; here = refl }) (of_name (record { after = codes "heads/main"; here = refl }) (Lacks-tested star (codes "refs/heads/main") refl) refl),
-  by_candidates short_kind.1 (differ _ _ refl) short_kind.2, by_candidates blob_kind.0 (differ _ _ refl) blob_kind.1,
+  by_candidates short_kind.1 (differ _ _ refl) short_kind.2,
+  by_candidates blob_kind.0 (differ _ _ refl) blob_kind.1,
 )
 
 -- a pattern with its star right after `refs/` has no prefix
@@ -24,7 +25,8 @@ no_bare_prefix = no_prefix (codes "refs/*") (codes "refs/") [] (split_at_end (co
 -- `HEAD`, `*` and `refs/*` aren't
 pub not_covering : ¬ (IsCovering (codes "HEAD")) × ¬ (IsCovering (codes "*")) × ¬ (IsCovering (codes "refs/*"))
 not_covering = (
-  search (rules, arith, other_first), search (rules, arith, other_first, Lacks-here), 
+  search (rules, arith, other_first),
+  search (rules, arith, other_first, Lacks-here),
   λ covers. elim covers [ by_prefix p begins prefix ↦ no_bare_prefix p prefix | by_candidates lacks other outside ↦ Lacks-here star (codes "refs/") [] lacks ],
 )
 

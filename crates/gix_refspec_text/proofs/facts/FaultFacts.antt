@@ -1,9 +1,9 @@
 -- The faults of ref names: texts that have them, and similar ones that haven't.
 use Rattle.gix_refspec_text.proofs.Common.{ℕ, ◌==◌, List, [], ◌∷◌, codes, refl, subst, AllByRecursion, slice_split, Error, Empty, EmptyComponent, StartsWithDot, LockSuffix, EndsWithDot, RepeatedDot}
 use Rattle.gix_refspec_text.proofs.Common.{ReflogPortion, Asterisk, InvalidByte, SomeComponent, HasFault, HasStar, slash}
-pub use Rattle.gix_refspec_text.proofs.facts.TestedTexts.{begins_not}
+pub use Rattle.gix_refspec_text.proofs.readers.Texts.{begins_not}
 use Rattle.gix_refspec_text.proofs.{lemmas.texts.ComponentLemmas.AllByRecursion-parts}
-use Rattle.gix_refspec_text.proofs.facts.TestedTexts.{all_are, contains, faultless, faulty, has_fault, holds_not, none_are, split_again}
+use Rattle.gix_refspec_text.proofs.readers.Texts.{all_are, contains, faultless, faulty, has_fault, holds_not, none_are, split_again}
 
 -- if no word between slashes satisfies P, no component does
 pub no_component : (P : List ℕ → Type 0) (x : List ℕ) → AllByRecursion (λ w. ¬ (P w)) (slice_split (λ c. c == slash) x) → ¬ (SomeComponent P x)

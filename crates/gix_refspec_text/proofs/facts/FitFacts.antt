@@ -2,7 +2,7 @@
 use Rattle.gix_refspec_text.proofs.Common.{rules, ◌≡◌, ◌≢◌, ℕ, zero, suc, ◌==◌, false, List, [], ◌∷◌, ◌++◌, None, Some, length, get_or, codes, refl, ap, ◌∙◌, subst, arith, AllByRecursion, Contains, list_any}
 use Rattle.gix_refspec_text.proofs.Common.{length-append, Fetch, Push, BeginsWith, IsSplit, star, IsIdText, Normal, Forced, Negative, Reading, fetched, full_name, object, partial, HasKind, Fits}
 use Rattle.gix_refspec_text.proofs.Common.{Excludes, the_name, by_pattern, filled, Ref}
-use Rattle.gix_refspec_text.proofs.{facts.ManualFacts.Lacks-tested, facts.ManualFacts.named, facts.TestedTexts.differ, lemmas.hits.MatchLemmas.lacks_no_pattern}
+use Rattle.gix_refspec_text.proofs.{facts.ManualFacts.Lacks-tested, facts.ManualFacts.named, readers.Texts.differ, lemmas.hits.MatchLemmas.lacks_no_pattern}
 use Rattle.gix_refspec_text.proofs.{lemmas.hits.MatchLemmas.split_once, lemmas.lists.LacksLemmas.Lacks-here, lemmas.texts.ObjectIdLemmas.no_kind}
 use Rattle.gix_refspec_text.proofs.{facts.ObjectIdFacts.IsIdText-empty_blob, facts.ObjectIdFacts.empty_blob, facts.ObjectIdFacts.lower_of-empty_blob}
 

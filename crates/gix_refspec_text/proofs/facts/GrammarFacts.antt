@@ -4,8 +4,8 @@ use Rattle.gix_refspec_text.proofs.Common.{Forced, Negative, IsUnsigned, IsSigne
 use Rattle.gix_refspec_text.proofs.Common.{pushed, Reads, pushes_plus, pushes_colon, Asterisk, InvalidByte, is_refused_byte, HasFault, IsName, IsPattern}
 use Rattle.gix_refspec_text.proofs.{facts.ManualFacts.no_sign, facts.ManualFacts.parts, lemmas.lists.LacksLemmas.Lacks-here, lemmas.parsing.SideLemmas.HasStar-pattern}
 use Rattle.gix_refspec_text.proofs.{lemmas.texts.TestedLemmas.IsName-tested}
-use Rattle.gix_refspec_text.proofs.facts.TestedReadings.{a_hash, excludes, no_hash, no_other, parts_of, reads}
-use Rattle.gix_refspec_text.proofs.facts.TestedTexts.{Lacks-tested, a_pattern, differ, no_name, no_pattern}
+use Rattle.gix_refspec_text.proofs.readers.Readings.{a_hash, excludes, no_hash, no_other, parts_of, reads}
+use Rattle.gix_refspec_text.proofs.readers.Texts.{Lacks-tested, a_pattern, differ, no_name, no_pattern}
 
 -- ---- the words of the forms
 
@@ -56,7 +56,8 @@ names_and_patterns = (inl b_name, inr a_star, λ side. elim side [ inl name ↦ 
 -- two names, two patterns, and one of each
 pub alike : AreAlike (codes "b") (codes "b") × AreAlike (codes "a*") (codes "a*") × ¬ (AreAlike (codes "a*") (codes "b")) × ¬ (AreAlike (codes "b") (codes "a*"))
 alike = (
-  inl (b_name, b_name), inr (a_star, a_star), 
+  inl (b_name, b_name),
+  inr (a_star, a_star),
   search (rules, no_name_with_star (codes "a*") a_star, no_pattern (codes "b") refl),
   search (rules, no_name_with_star (codes "a*") a_star, no_pattern (codes "b") refl),
 )
@@ -94,7 +95,11 @@ updates_x = (reads Plain tt refl, reads Plain tt refl)
 -- a pattern, a name, `@`, a `+` that isn't a sign, and a text that is almost an id
 pub fetches_without : Reads Fetch (codes "^refs/heads/dev-*") (fetched Negative (codes "refs/heads/dev-*") None) × Reads Fetch (codes "^main") (fetched Negative (codes "main") None) × Reads Fetch (codes "^@") (fetched Negative (codes "HEAD") None) × Reads Fetch (codes "^+main") (fetched Negative (codes "+main") None) × Reads Fetch (caret ∷ replicate 39 letter) (fetched Negative (replicate 39 letter) None)
 fetches_without = (
-  excludes Pattern refl refl, excludes Plain refl refl, excludes Plain refl refl, excludes Plain refl refl, excludes Plain refl refl,
+  excludes Pattern refl refl,
+  excludes Plain refl refl,
+  excludes Plain refl refl,
+  excludes Plain refl refl,
+  excludes Plain refl refl,
 )
 
 -- ---- forms of a push

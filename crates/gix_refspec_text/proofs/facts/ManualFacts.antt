@@ -8,11 +8,11 @@ use Rattle.gix_refspec_text.proofs.Common.{text_of, PatternUnsupported, PushToEm
 use Rattle.gix_refspec_text.proofs.Common.{MayNeedMemory, pattern, full_name, object, partial, HasKind, candidates, filled, Ref, Matches, MatchesAs, same_Some, or_parts, unwrap_or, with_colon}
 use Rattle.gix_refspec_text.proofs.Common.{LastLacksColon, Bool, ◌||◌}
 use Rattle.gix_refspec_text.specs.declared.name.PatternError.TheVariants.{Memory}
-pub use Rattle.gix_refspec_text.proofs.facts.TestedTexts.{Lacks-tested}
+pub use Rattle.gix_refspec_text.proofs.readers.Texts.{Lacks-tested}
 use Rattle.gix_refspec_text.proofs.{lemmas.lists.LacksLemmas.Lacks-here, lemmas.parsing.PartsLemmas.parts_once, lemmas.parsing.SideLemmas.HasStar-stars}
 use Rattle.gix_refspec_text.proofs.{lemmas.texts.TestedLemmas.IsName-tested, lemmas.texts.TestedLemmas.is_suspect}
-use Rattle.gix_refspec_text.proofs.{facts.TestedReadings.excludes, facts.TestedReadings.parts_of, facts.TestedReadings.reads}
-use Rattle.gix_refspec_text.proofs.facts.TestedTexts.{bad_side, begins, contains, differ, holds_not, not_several, several, unstarred}
+use Rattle.gix_refspec_text.proofs.{readers.Readings.excludes, readers.Readings.parts_of, readers.Readings.reads}
+use Rattle.gix_refspec_text.proofs.readers.Texts.{bad_side, begins, contains, differ, holds_not, not_several, several, unstarred}
 
 -- a text with a byte isn't empty
 pub full : (b : ℕ) (bs : List ℕ) → b ∷ bs ≢ []
@@ -47,8 +47,12 @@ ReplacesStar-tested before after first last = record { before = before; after = 
 -- one star may be in a component of a pattern, but not two
 pub one_star : ReplacesStar (codes "foo/bar*/baz") (codes "foo/bara/baz") × ReplacesStar (codes "foo/bar*baz") (codes "foo/barabaz")
     × ReplacesStar (codes "b*.lock") (codes "ba.lock") × HasSeveralStars (codes "foo/bar*/baz*")
-one_star = (ReplacesStar-tested (codes "foo/bar") (codes "/baz") refl refl, ReplacesStar-tested (codes "foo/bar") (codes "baz") refl refl,
-    ReplacesStar-tested (codes "b") (codes ".lock") refl refl, several (codes "foo/bar*/baz*") refl)
+one_star = (
+  ReplacesStar-tested (codes "foo/bar") (codes "/baz") refl refl,
+  ReplacesStar-tested (codes "foo/bar") (codes "baz") refl refl,
+  ReplacesStar-tested (codes "b") (codes ".lock") refl refl,
+  several (codes "foo/bar*/baz*") refl,
+)
 
 -- a text with one star is a pattern if it is a name with the letter in its place
 pub IsPattern-tested : (before after : List ℕ) → list_any (λ c. c == star) before ≡ false → list_any (λ c. c == star) after ≡ false → is_suspect slash (before ++ (letter ∷ after)) ≡ false → IsPattern (before ++ (star ∷ after))
@@ -89,9 +93,15 @@ pub manual : Says Fetch (codes "+refs/heads/*:refs/remotes/origin/*") (fetch_and
     × Says Push (codes ":experimental") (push_delete (codes "experimental")) × Says Push (codes ":") (push_all_matching false)
     × Says Push (codes "^refs/heads/dev-*") (push_exclude (codes "refs/heads/dev-*"))
 manual = (
-  (_, reads Pattern tt refl, refl), (_, reads Plain tt refl, refl), (_, reads Plain tt refl, refl), (_, reads Plain tt refl, refl),
-  (_, reads Plain tt refl, refl), (_, reads Plain tt refl, refl), (_, reads Plain tt refl, refl),
-  (_, pushes_colon Normal refl tt (parts_of (codes ":")) refl, refl), (_, excludes Pattern refl refl, refl),
+  (_, reads Pattern tt refl, refl),
+  (_, reads Plain tt refl, refl),
+  (_, reads Plain tt refl, refl),
+  (_, reads Plain tt refl, refl),
+  (_, reads Plain tt refl, refl),
+  (_, reads Plain tt refl, refl),
+  (_, reads Plain tt refl, refl),
+  (_, pushes_colon Normal refl tt (parts_of (codes ":")) refl, refl),
+  (_, excludes Pattern refl refl, refl),
 )
 
 -- the canonical texts of these
@@ -173,7 +183,10 @@ before_source op mode s d not_empty alone somewhere = search (arith, false≢tru
 
 pub text_may_need_memory : MayNeedMemory Fetch (starred 256)
 text_may_need_memory = record {
-  mode = Normal; source = starred 256; destination = None; parts = parts_of (starred 256);
+  mode = Normal;
+  source = starred 256;
+  destination = None;
+  parts = parts_of (starred 256);
   reaches = (before_source Fetch Normal (starred 256) None (full _ _) (λ negative. refl) (none_some []), needs_memory.0);
 }
 

@@ -6,7 +6,7 @@ use Rattle.gix_refspec_text.specs.declared.name.PatternError.TheVariants.{Name}
 use lib.Count.{count_trailing_zeros}
 use Rattle.gix_refspec_text.proofs.{lemmas.lists.LacksLemmas.Lacks-here, lemmas.parsing.SideLemmas.pattern_fine, lemmas.texts.TestedLemmas.IsName-tested}
 use Rattle.gix_refspec_text.proofs.{lemmas.texts.TestedLemmas.is_suspect}
-use Rattle.gix_refspec_text.proofs.facts.TestedTexts.{Lacks-tested, a_pattern, all_are, is_pattern, no_name, no_pattern, none_are, pattern_fault}
+use Rattle.gix_refspec_text.proofs.readers.Texts.{Lacks-tested, a_pattern, all_are, is_pattern, no_name, no_pattern, none_are, pattern_fault}
 
 -- ---- names
 
@@ -29,9 +29,18 @@ names_close_to_faults = none_are IsName (is_suspect slash) IsName-tested close_n
 -- `.lock`, a dot at the end, two dots, `@{`, a star, and a refused byte
 pub no_names : ¬ (IsName []) × ¬ (IsName (codes "/a")) × ¬ (IsName (codes "a/")) × ¬ (IsName (codes "a//a")) × ¬ (IsName (codes ".b/a")) × ¬ (IsName (codes "a/.b")) × ¬ (IsName (codes "b.lock/a")) × ¬ (IsName (codes "a/b.lock")) × ¬ (IsName (codes "a/b.")) × ¬ (IsName (codes "..a")) × ¬ (IsName (codes "@{1}")) × ¬ (IsName (codes "*a")) × ¬ (IsName (codes "a b"))
 no_names = (
-  no_name _ Empty refl, no_name _ EmptyComponent refl, no_name _ EmptyComponent refl, no_name _ EmptyComponent refl,
-  no_name _ StartsWithDot refl, no_name _ StartsWithDot refl, no_name _ LockSuffix refl, no_name _ LockSuffix refl,
-  no_name _ EndsWithDot refl, no_name _ RepeatedDot refl, no_name _ ReflogPortion refl, no_name _ Asterisk refl,
+  no_name _ Empty refl,
+  no_name _ EmptyComponent refl,
+  no_name _ EmptyComponent refl,
+  no_name _ EmptyComponent refl,
+  no_name _ StartsWithDot refl,
+  no_name _ StartsWithDot refl,
+  no_name _ LockSuffix refl,
+  no_name _ LockSuffix refl,
+  no_name _ EndsWithDot refl,
+  no_name _ RepeatedDot refl,
+  no_name _ ReflogPortion refl,
+  no_name _ Asterisk refl,
   no_name _ (InvalidByte 32) refl,
 )
 
@@ -55,9 +64,12 @@ bad_pattern x e bad pattern = pattern_fine x pattern (ReferenceName e) bad
 -- so they aren't patterns, nor is a text without a star, or with two
 pub no_patterns : ¬ (IsPattern (codes "a/.*")) × ¬ (IsPattern (codes "*/")) × ¬ (IsPattern (codes "a/*.lock")) × ¬ (IsPattern (codes "refs/heads/main")) × ¬ (IsPattern []) × ¬ (IsPattern (codes "foo/bar*/baz*"))
 no_patterns = (
-  bad_pattern _ StartsWithDot stars_in_bad_names.0, bad_pattern _ EmptyComponent stars_in_bad_names.1,
+  bad_pattern _ StartsWithDot stars_in_bad_names.0,
+  bad_pattern _ EmptyComponent stars_in_bad_names.1,
   bad_pattern _ LockSuffix stars_in_bad_names.2,
-  no_pattern _ refl, no_pattern _ refl, no_pattern _ refl,
+  no_pattern _ refl,
+  no_pattern _ refl,
+  no_pattern _ refl,
 )
 
 -- a pattern has no fault

@@ -3,7 +3,7 @@ use Rattle.gix_refspec_text.proofs.Common.{◌≢◌, ℕ, List, [], ◌∷◌, 
 use Rattle.gix_refspec_text.proofs.Common.{IsPrefix, of_head, of_name, of_pattern, HasNoPrefix, Expands, to_prefix, to_itself, below_refs, of_object, to_candidates, IsAsked, HasPrefix, IsExpansion}
 use Rattle.gix_refspec_text.proofs.Common.{same_Some}
 use Rattle.gix_refspec_text.proofs.{facts.CoveringFacts.below_heads, facts.CoveringFacts.no_bare_prefix, facts.FaultFacts.begins_not}
-use Rattle.gix_refspec_text.proofs.{facts.ObjectIdFacts.IsIdText-empty_blob, facts.ObjectIdFacts.empty_blob, facts.TestedTexts.differ}
+use Rattle.gix_refspec_text.proofs.{facts.ObjectIdFacts.IsIdText-empty_blob, facts.ObjectIdFacts.empty_blob, readers.Texts.differ}
 use Rattle.gix_refspec_text.proofs.{lemmas.hits.MatchLemmas.outside_none, lemmas.lists.LacksLemmas.Lacks-here, lemmas.prefixes.OnePrefixLemmas.one_prefix}
 use Rattle.gix_refspec_text.proofs.{lemmas.prefixes.PrefixLemmas.no_prefix, lemmas.prefixes.PrefixLemmas.starred_no_id}
 use Rattle.gix_refspec_text.proofs.{facts.ManualFacts.Lacks-tested, facts.ManualFacts.none_some, facts.ManualFacts.other_length}

@@ -5,11 +5,11 @@ use Rattle.gix_refspec_text.proofs.Common.{NegativeWithDestination, PushToEmpty,
 use Rattle.gix_refspec_text.proofs.Common.{IsEmptyPush, HasNegativeDestination, PushesNowhere, IsBadSourceFor, HasBadSource, HasBadDestination, IsOneStarred, IsUnbalanced, ExcludesNothing}
 use Rattle.gix_refspec_text.proofs.Common.{ExcludesObject, Never, OrElse, IsFirstReason, same_Some, Plain, Empty}
 use Rattle.gix_refspec_text.specs.declared.name.PatternError.TheVariants.{Name}
-use Rattle.gix_refspec_text.proofs.{facts.RefusalFacts.normal_positive, facts.TestedReadings.a_hash, facts.TestedReadings.no_hash, lemmas.lists.LacksLemmas.Lacks-here}
+use Rattle.gix_refspec_text.proofs.{facts.RefusalFacts.normal_positive, readers.Readings.a_hash, readers.Readings.no_hash, lemmas.lists.LacksLemmas.Lacks-here}
 use Rattle.gix_refspec_text.proofs.{lemmas.parsing.ReasonLemmas.reason_against_nothing, lemmas.parsing.ReasonLemmas.reason_against_object}
 use Rattle.gix_refspec_text.proofs.{lemmas.parsing.SideLemmas.name_not_bad, lemmas.texts.LetterLemmas.HasOneStar-count_by}
 use Rattle.gix_refspec_text.proofs.facts.ManualFacts.{IsSplit-tested, full, none_some, some_none}
-use Rattle.gix_refspec_text.proofs.facts.TestedTexts.{Lacks-tested, contains, faulty, holds_not, not_one_star, not_several, pattern_fault, pattern_faultless, several, unstarred}
+use Rattle.gix_refspec_text.proofs.readers.Texts.{Lacks-tested, contains, faulty, holds_not, not_one_star, not_several, pattern_fault, pattern_faultless, several, unstarred}
 
 -- ---- stars
 
@@ -24,7 +24,9 @@ pub bad_patterns : IsBadPattern (codes "b*.lock") (ReferenceName LockSuffix) × 
 bad_patterns = (
   pattern_fault (codes "b*.lock") LockSuffix refl refl,
   pattern_faultless (codes "b*.lock") Asterisk refl refl,
-  (λ bad. not_several (codes "b*.lock") refl bad.0), unstarred (codes "b.lock") (ReferenceName LockSuffix) refl, λ none. none,
+  (λ bad. not_several (codes "b*.lock") refl bad.0),
+  unstarred (codes "b.lock") (ReferenceName LockSuffix) refl,
+  λ none. none,
 )
 
 -- and the check of a pattern alone finds the same
@@ -68,7 +70,8 @@ empty_sides = ((λ op d e bad. bad.source refl), λ e. ((λ bad. bad.destination
 -- `a..b` and `a*b*` are bad destinations, and `c` isn't
 pub destinations : HasBadDestination (Some (codes "a..b")) (ReferenceName RepeatedDot) × HasBadDestination (Some (codes "a*b*")) (PatternUnsupported (codes "a*b*")) × (IsName (codes "c") → (e : Refusal) → ¬ (HasBadDestination (Some (codes "c")) e))
 destinations = (
-  search (rules, full, dots_bad), search (rules, full, two_stars_bad),
+  search (rules, full, dots_bad),
+  search (rules, full, two_stars_bad),
   λ is_name e bad. name_not_bad bad.word (subst IsName (same_Some (codes "c") bad.word bad.is) is_name) e bad.refusal,
 )
 

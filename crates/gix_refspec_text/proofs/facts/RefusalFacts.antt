@@ -2,9 +2,9 @@
 use Rattle.gix_refspec_text.proofs.Common.{rules, Never, HasBadSource, ◌≢◌, ℕ, List, [], Option, None, Some, codes, refl, inl, inr, arith, replicate, LockSuffix, Operation, Push, Fetch, letter, Normal}
 use Rattle.gix_refspec_text.proofs.Common.{Forced, Negative, LooksLikeObjectHash, Refusal, NegativeWithDestination, PushToEmpty, PatternUnsupported, ReferenceName, PatternUnbalanced, IsEmptyPush}
 use Rattle.gix_refspec_text.proofs.Common.{HasBadDestination, IsUnbalanced, IsFirstReason, Mode, IsSameReason, Empty}
-use Rattle.gix_refspec_text.proofs.{facts.ManualFacts.full, facts.TestedReadings.no_hash, lemmas.parsing.RefusalLemmas.Agree-first}
+use Rattle.gix_refspec_text.proofs.{facts.ManualFacts.full, readers.Readings.no_hash, lemmas.parsing.RefusalLemmas.Agree-first}
 use Rattle.gix_refspec_text.proofs.{lemmas.parsing.SideLemmas.name_not_bad, lemmas.texts.TestedLemmas.IsName-tested}
-use Rattle.gix_refspec_text.proofs.{facts.TestedTexts.bad_side, facts.TestedTexts.contains, facts.TestedTexts.differ as other, lemmas.parsing.ReasonLemmas.fetch_reaches}
+use Rattle.gix_refspec_text.proofs.{readers.Texts.bad_side, readers.Texts.contains, readers.Texts.differ as other, lemmas.parsing.ReasonLemmas.fetch_reaches}
 use Rattle.gix_refspec_text.proofs.{lemmas.parsing.ReasonLemmas.reason_at_destination, lemmas.parsing.ReasonLemmas.reason_at_source}
 
 pub normal_positive : Normal ≢ Negative

@@ -3,7 +3,7 @@ use Rattle.gix_refspec_text.proofs.Common.{rules, map, ◌≡◌, ◌≢◌, ◌
 use Rattle.gix_refspec_text.proofs.Common.{partial, IsId, HasKind, candidates, IsCandidate, Excludes, the_name, by_pattern, filled, MatchesAs, Matches, inl, inr, Lacks, HasOneStar, IsIdText, Normal}
 use Rattle.gix_refspec_text.proofs.Common.{fetched, pushed, Fits, same_Some, bytes_eq}
 use Rattle.gix_refspec_text.specs.{Matching.Side.{written_name_of}, Laws.Sides.{SidesAgree, OneKind, OneId, OneOfEach}}
-use Rattle.gix_refspec_text.proofs.{facts.FaultFacts.begins_not, facts.ReasonFacts.one_star_alone, facts.TestedTexts.differ, facts.TestedTexts.none_are}
+use Rattle.gix_refspec_text.proofs.{facts.FaultFacts.begins_not, facts.ReasonFacts.one_star_alone, readers.Texts.differ, readers.Texts.none_are}
 use Rattle.gix_refspec_text.proofs.{lemmas.hits.MatchLemmas.has_candidates, lemmas.hits.MatchLemmas.lacks_no_pattern, lemmas.lists.LacksLemmas.Lacks-here}
 use Rattle.gix_refspec_text.proofs.{lemmas.texts.ComponentLemmas.AllByRecursion-parts, lemmas.texts.TextLemmas.one_not_two}
 use Rattle.gix_refspec_text.proofs.{facts.ManualFacts.Lacks-tested, facts.ManualFacts.named, facts.ManualFacts.other_length, facts.ObjectIdFacts.IsIdText-empty_blob}
@@ -107,6 +107,7 @@ one_id_known law i is = law i empty_blob is IsIdText-empty_blob
 -- the same from the law for any bytes
 pub each_known : OneOfEach → ((k : SideKind) → HasKind (codes "e69de29bb2d1d6434b8b29ae775ad8c2e48c5391") k → k ≡ object empty_blob) × ((word : List ℕ) → Fits (codes "a") [] (codes "ab") word → word ≡ codes "b") × ((i : List ℕ) → IsIdText (codes "e69de29bb2d1d6434b8b29ae775ad8c2e48c5391") i → i ≡ empty_blob)
 each_known law = (
-  (λ k is. law.kind _ k (object empty_blob) is blob_kind), (λ word fits. law.word (codes "a") [] (codes "ab") word (codes "b") fits refl),
+  (λ k is. law.kind _ k (object empty_blob) is blob_kind),
+  (λ word fits. law.word (codes "a") [] (codes "ab") word (codes "b") fits refl),
   λ i is. law.id _ i empty_blob is IsIdText-empty_blob,
 )

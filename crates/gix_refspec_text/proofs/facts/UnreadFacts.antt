@@ -8,8 +8,8 @@ use Rattle.gix_refspec_text.proofs.{facts.RefusalFacts.empty_push, lemmas.parsin
 use Rattle.gix_refspec_text.proofs.{lemmas.specs.AcceptedLemmas.accepted_balanced, lemmas.specs.FormsBackLemmas.read_back, lemmas.texts.TestedLemmas.IsName-tested}
 use Rattle.gix_refspec_text.proofs.{facts.ManualFacts.full, facts.ManualFacts.none_some, facts.ManualFacts.some_none}
 use Rattle.gix_refspec_text.proofs.facts.GrammarFacts.{a_star, deletes_x, fetches_main, hashes, pushes_matching}
-use Rattle.gix_refspec_text.proofs.facts.TestedReadings.{end, fit, fits, not_empty, parts_of, sign_of, source, star_fit, starred}
-use Rattle.gix_refspec_text.proofs.facts.TestedTexts.{Lacks-tested, bad_side, is_bad, is_empty, several}
+use Rattle.gix_refspec_text.proofs.readers.Readings.{end, fit, fits, not_empty, parts_of, sign_of, source, star_fit, starred}
+use Rattle.gix_refspec_text.proofs.readers.Texts.{Lacks-tested, bad_side, is_bad, is_empty, several}
 use Rattle.gix_refspec_text.proofs.lemmas.parsing.ReasonLemmas.{bad_destination, bad_negative, fetch_reaches, fetch_source_fine, negative_reaches, no_negative, push_alone_reaches, push_reaches, push_source_fine, reason_against_nothing, reason_against_object, reason_at_destination, reason_at_source, unbalanced_fetch, unbalanced_push}
 
 -- ---- refused texts, which have no reading
@@ -61,7 +61,10 @@ bad_end {text} {e} k pos so =
 -- a destination that isn't a name, with a source and without, and one that isn't a pattern
 pub bad_destinations : IsRefused Fetch (codes "a:b c") (ReferenceName (InvalidByte 32)) × IsRefused Fetch (codes ":b c") (ReferenceName (InvalidByte 32)) × IsRefused Push (codes "a:b c") (ReferenceName (InvalidByte 32)) × IsRefused Push (codes ":b c") (ReferenceName (InvalidByte 32)) × IsRefused Fetch (codes "a*:b*c*") (PatternUnsupported (codes "b*c*"))
 bad_destinations = (
-  bad_end Plain tt refl, bad_end Plain tt refl, because (spaced (codes "a") (Lacks-tested star (codes "a") refl)), because (spaced [] tt),
+  bad_end Plain tt refl,
+  bad_end Plain tt refl,
+  because (spaced (codes "a") (Lacks-tested star (codes "a") refl)),
+  because (spaced [] tt),
   bad_end Pattern tt refl,
 )
   where
@@ -85,13 +88,20 @@ lone_push s b d k so = let both = and_parts _ _ so in unbalanced_push Normal s (
 -- a star on only one side, also if the other is missing
 pub unbalanced_fetches : IsRefused Fetch (codes "a*:b") PatternUnbalanced × IsRefused Fetch (codes "b:a*") PatternUnbalanced × IsRefused Fetch (codes ":a*") PatternUnbalanced × IsRefused Fetch (codes "a*:") PatternUnbalanced × IsRefused Fetch (codes "+a*") PatternUnbalanced × IsRefused Fetch (codes "a*") PatternUnbalanced
 unbalanced_fetches = (
-  lone Pattern tt refl, lone Plain tt refl, lone Plain tt refl, lone Pattern tt refl, lone Pattern tt refl, lone Pattern tt refl,
+  lone Pattern tt refl,
+  lone Plain tt refl,
+  lone Plain tt refl,
+  lone Pattern tt refl,
+  lone Pattern tt refl,
+  lone Pattern tt refl,
 )
 
 -- the same in a push, which may have a source alone, though
 pub pushes_of_one_star : IsRefused Push (codes "a*:b") PatternUnbalanced × IsRefused Push (codes "b:a*") PatternUnbalanced × IsRefused Push (codes ":a*") PatternUnbalanced
 pushes_of_one_star = (
-  because (lone_push _ 98 [] Pattern refl), because (lone_push _ 97 (codes "*") Plain refl), because (lone_push _ 97 (codes "*") Plain refl),
+  because (lone_push _ 98 [] Pattern refl),
+  because (lone_push _ 97 (codes "*") Plain refl),
+  because (lone_push _ 97 (codes "*") Plain refl),
 )
 
 bad_excluded : (op : Operation) (s : List ℕ) (e : Refusal) → (not (is_empty s) && is_bad s e) ≡ true → IsFirstReason op Negative s None e
@@ -122,6 +132,8 @@ accepted = ((codes "main", fetches_main.0), (codes "+", pushes_matching.0), (cod
 -- a fetch needs a source; a negative spec needs a source and has no destination; and a star is never on only one side
 pub not_accepted : ¬ (IsAccepted (record { operation = Fetch; mode = Normal; source = None; destination = Some (codes "x") })) × ¬ (IsAccepted (fetched Negative (codes "a") (Some (codes "b")))) × ¬ (IsAccepted (pushed Negative None None)) × ¬ (IsAccepted (fetched Normal (codes "a*") (Some (codes "b"))))
 not_accepted = (
-  no_text _ refl, no_text _ refl, no_text _ refl,
+  no_text _ refl,
+  no_text _ refl,
+  no_text _ refl,
   (λ by. accepted_balanced (fetched Normal (codes "a*") (Some (codes "b"))) (codes "a*") (codes "b") ∣ by ∣₁ refl refl (inl (HasStar-pattern (codes "a*") a_star, Lacks-tested star (codes "b") refl))),
 )

@@ -153,7 +153,7 @@ negative_fine op o s text r same parts either hash is =
     let side = checked_either s either in
     let full = either_not_empty s either in
     with_fine op o Negative s None text r same (named_made o Negative s None r full is) parts
-        (fine_negative side.0 refl refl full side.1 hash)
+    (fine_negative side.0 refl refl full side.1 hash)
 
 pub fine_parts : (op : Operation) (text : List ℕ) (r : Reading) → Reads op text r → FineParts op text r
 fine_parts op x r (fetches_nothing_named m f pos p is) = with_fine op Fetch m [] None x r f is p (fine_fetch Plain f pos tt tt)

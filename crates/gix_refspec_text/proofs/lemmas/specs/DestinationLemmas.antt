@@ -42,8 +42,8 @@ replaced_read op text r new some lacks name reads =
     let p = parted.of in
     let is = parted.is in
     let fine = new_fine op p.mode p.source p.destination new parted.fine
-        (subst (λ (q : Reading). IsSome q.destination) is some)
-        (subst (λ (q : Reading). IfSome q.destination (Lacks star)) is lacks) name in
+    (subst (λ (q : Reading). IsSome q.destination) is some)
+    (subst (λ (q : Reading). IfSome q.destination (Lacks star)) is lacks) name in
     let parts = new_parts p.mode p.source p.destination new text fine.1 p.parts (Lacks-colon_name new name) in
     let again = fine_reads op p.mode p.source (Some new) _ fine.0 parts in
     subst (λ (q : Reading). IsAccepted (with_destination q new)) (sym is) (_, rw (side_of-full new (name_not_empty new name)) at again)

@@ -86,7 +86,7 @@ back_only m s pos name once = elim (cases_Bool (begins_with_plus s)) [
       (ap (λ (x : List ℕ). Some (fetch_only x)) once)
   | inr other ↦ printed_back Fetch _ (fetched Normal (named_by s) None) (fetch_only s) (means Fetch m (Some s) None pos)
       (rw other (fetches Normal s refl tt
-          (inl (record { signed = (refl, unsigned_name s name other); last = Lacks-colon_name s name })) name refl))
+      (inl (record { signed = (refl, unsigned_name s name other); last = Lacks-colon_name s name })) name refl))
       (ap (λ (x : List ℕ). Some (fetch_only x)) once)
 ]
 
@@ -95,7 +95,7 @@ back_update m s d text pos parts alike =
     let t = named_by s in
     printed_back Fetch _ (fetched m (named_by t) (Some d)) (fetch_and_update t d (is_forced m)) (means Fetch m (Some t) (Some d) pos)
     (updates m t d refl pos (named_parts m s d (Some d) text pos (alike_full s d alike).0 parts parts.last)
-        (grind (arith, named_name, named_pattern)) refl)
+    (grind (arith, named_name, named_pattern)) refl)
     (means Fetch m (Some (named_by t)) (Some d) pos ∙ ap (λ (x : List ℕ). Some (fetch_and_update x d (is_forced m))) (named_once s))
 
 pub head_parts : (m : Mode) (d : List ℕ) → IsPositive m → Lacks colon d → AreParts m head (Some d) (sign (is_forced m) ++ (head ++ (colon ∷ d)))

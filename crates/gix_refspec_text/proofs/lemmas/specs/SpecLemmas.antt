@@ -63,7 +63,7 @@ printed_back r accepted =
       | inr refusal ↦ absurd (not_there accepted (λ a. refusal.1.unread (read_back r.operation a.0 r a.1).again.reading (reads a)))
       | inl once ↦
           let same = meaning_shown (meaning_of once.reading) (meaning_of r) accepted (λ a.
-              let back = read_back r.operation a.0 r a.1 in
-              sym (ap meaning_of (once.only back.again.reading (reads a))) ∙ back.same) in
+          let back = read_back r.operation a.0 r a.1 in
+          sym (ap meaning_of (once.only back.again.reading (reads a))) ∙ back.same) in
           record { text = text; is = is; again = once; same = same }
     ]

@@ -85,6 +85,6 @@ fenced_from_join (p ∷ ps) w qs x joined = fenced-join p (ps ++ (w ∷ qs)) ∙
 pub SomeComponent-index : (P : List ℕ → Type 0) (x : List ℕ) (some : SomeComponent P x) → IsComponent some.component x
 SomeComponent-index P x some =
     let here = sym (fenced_from_join some.before some.component some.after x some.components.joined)
-        ∙ fenced-append some.before (some.component ∷ some.after) in
+    ∙ fenced-append some.before (some.component ∷ some.after) in
     let whole = AllByRecursion-parts (Lacks slash) some.before some.component some.after some.components.whole in
     record { before = fenced some.before; after = fenced some.after; here = here; whole = whole; ends = fenced-IsEnd some.after }

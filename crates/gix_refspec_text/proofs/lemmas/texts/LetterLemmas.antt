@@ -60,7 +60,7 @@ pub second_star : (x : List ℕ) (i : ℕ) → i < length x → get_or x i 0 ≡
 second_star x i below here one =
     let (before, after, split) = HasOneStar-count_by (take i x) one in
     let whole = split_at x i star below here ∙ ap (λ y. y ++ (star ∷ drop (suc i) x)) split.starred
-        ∙ append_assoc before (star ∷ after) (star ∷ drop (suc i) x) in
+    ∙ append_assoc before (star ∷ after) (star ∷ drop (suc i) x) in
     record { before = before; between = after; after = drop (suc i) x; here = whole }
 
 letter_for-star : (b : ℕ) → b ≡ star → letter_for b ≡ letter

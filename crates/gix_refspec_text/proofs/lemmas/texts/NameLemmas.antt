@@ -119,14 +119,14 @@ found_fault x Empty some fault = absurd (some fault)
 found_fault x EmptyComponent some fault =
     let index : IsComponent fault.1.component x = SomeComponent-index (λ w. w ≡ []) x fault.1 in
     let ends : EndsWith (codes "/") (index.before ++ (slash ∷ fault.1.component)) =
-        record { before = index.before; here = ap (λ w. index.before ++ (slash ∷ w)) fault.1.fact } in
+    record { before = index.before; here = ap (λ w. index.before ++ (slash ∷ w)) fault.1.fact } in
     component_found x fault.1.component EmptyComponent index (refl, ends) ends
 found_fault x StartsWithDot some fault =
     let index : IsComponent fault.component x = SomeComponent-index (BeginsWith (codes ".")) x fault in
     let front = index.before ++ (slash ∷ []) in
     let ends : EndsWith (codes "/") front = record { before = index.before; here = refl } in
     let here = index.here ∙ ap (λ w. index.before ++ (slash ∷ (w ++ index.after))) fault.fact.here
-        ∙ sym (append_assoc index.before (slash ∷ []) (dot ∷ (fault.fact.after ++ index.after))) in
+    ∙ sym (append_assoc index.before (slash ∷ []) (dot ∷ (fault.fact.after ++ index.after))) in
     inl (record { before = front; byte = dot; after = fault.fact.after ++ index.after; here = here; fault = (refl, ends) })
 found_fault x LockSuffix some fault =
     let index : IsComponent fault.component x = SomeComponent-index (EndsWith (codes ".lock")) x fault in

@@ -185,7 +185,7 @@ lower_digit : (c v : ℕ) → is_lower_digit c ≡ true → hex_digit_value c �
 lower_digit c v lower read =
     let below : c < 103 = grind (arith, nat_tests) in
     let table = agree_below_at (λ d. not (is_lower_digit d) || eqb (slice_index lower_digits (unwrap_or (hex_digit_value d) 0)) d)
-        (λ _. true) 103 c refl below in
+    (λ _. true) 103 c refl below in
     eqb-true _ _ (rw (lower, read) at table)
 
 lower_text : (t i : List ℕ) → length t ≡ 2 * length i → AllPass is_lower_digit t → Spells t i → t ≡ lower_of i

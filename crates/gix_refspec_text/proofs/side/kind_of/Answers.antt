@@ -9,8 +9,8 @@ returns-in-Some c =
     let split = c.in-Some.ensures in
     let before = c.in-Some.before.now in
     let last = Lacks-from_absent star c.in-Some.after.now (λ more.
-        let here = split.0 ∙ ap (λ y. before ++ (star ∷ y)) more.here in
-        c.requires (record { before = before; between = more.before; after = more.after; here = here })) in
+    let here = split.0 ∙ ap (λ y. before ++ (star ∷ y)) more.here in
+    c.requires (record { before = before; between = more.before; after = more.after; here = here })) in
     record { starred = split.0; first = split.1; last = last }
 
 pub returns-in-Err : goal.returns-in-Err

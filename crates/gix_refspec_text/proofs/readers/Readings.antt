@@ -5,7 +5,7 @@ use Rattle.gix_refspec_text.proofs.Common.{is_ascii_hexdigit, AllPass-from_list_
 use Rattle.gix_refspec_text.proofs.Common.{Normal, Forced, Negative, Reading, Reads, IsSigned, AreParts, IsPositive, LooksLikeObjectHash, named_by, named_or_head, side_of, fetched, pushed, HasShape}
 use Rattle.gix_refspec_text.proofs.Common.{HasCheckedShape}
 use Rattle.gix_refspec_text.proofs.{lemmas.parsing.ReadOnceLemmas.reads_once, lemmas.texts.TestedLemmas.IsName-tested, lemmas.texts.TestedLemmas.is_suspect}
-use Rattle.gix_refspec_text.proofs.facts.TestedTexts.{Lacks-tested, a_pattern, is_empty, is_pattern, not_true}
+use Rattle.gix_refspec_text.proofs.readers.Texts.{Lacks-tested, a_pattern, is_empty, is_pattern, not_true}
 use Rattle.gix_refspec_text.proofs.lemmas.parsing.ReadsLemmas.{fetch_reads, negative_reads, push_alone_reads, push_reads}
 
 -- the sign of a text, and what follows it

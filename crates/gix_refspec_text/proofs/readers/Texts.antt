@@ -119,7 +119,10 @@ passes_back p (y ∷ before) x after pass = ap (λ t. p y || t) (passes_back p b
 component_is : (P : List ℕ → Type 0) (p : List ℕ → Bool) (x : List ℕ) → ((w : List ℕ) → Decides (p w) (P w)) → Decides (list_any p (components x)) (SomeComponent P x)
 component_is P p x is = (
   (λ so. let found = passes p (components x) so in record {
-    before = found.0; component = found.1; after = found.2; fact = (is found.1).0 found.4;
+    before = found.0;
+    component = found.1;
+    after = found.2;
+    fact = (is found.1).0 found.4;
     components = record { joined = ap (join_with_byte slash) (sym found.3) ∙ join_with_byte-slice_split slash x; whole = subst (AllByRecursion (Lacks slash)) found.3 (parts_lack x) };
   }),
   λ some. ap (list_any p) (split_again P x some) ∙ passes_back p some.before some.component some.after ((is some.component).1 some.fact),
