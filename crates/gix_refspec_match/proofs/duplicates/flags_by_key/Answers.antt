@@ -1,7 +1,6 @@
 -- an element is flagged where it has an earlier first, which equals it
-use Rattle.gix_refspec_match.proofs.Common.{refl, arith}
+use Rattle.gix_refspec_match.proofs.Common.{refl, arith, flags_all, flags_raised}
 use Rattle.gix_refspec_match.proofs.lemmas.duplicates.FirstLemmas.{equal_is_duplicate, first_below, first_inside}
-use Rattle.gix_refspec_match.proofs.lemmas.duplicates.FlagLemmas.{flags_all, flags_raised}
 use Rattle.gix_refspec_match.proofs.duplicates.flags_by_key.Goals as goal
 
 pub bounds-elements-first : goal.bounds-elements-first

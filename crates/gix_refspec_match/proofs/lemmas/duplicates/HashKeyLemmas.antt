@@ -1,9 +1,8 @@
 -- Keys of the upper bits of a hash and an index, and what their order says of hashes that are there twice.
-use Rattle.gix_refspec_match.proofs.Common.{List, refl, ◌≡◌, ℕ, true, Equal, arith, inl, inr, ◌≢◌, ap, ◌<◌, length, map, ◌+◌, get_or, ◌≤◌, ◌*◌, ◌%◌, ◌^◌, Bool, Ordering, ◌/◌, not, bit_or, mod-eq_of_lt}
+use Rattle.gix_refspec_match.proofs.Common.{List, refl, ◌≡◌, ℕ, true, Equal, arith, inl, inr, ◌≢◌, ap, ◌<◌, length, map, ◌+◌, get_or, ◌≤◌, ◌*◌, ◌%◌, ◌^◌, Bool, Ordering, ◌/◌, not, bit_or, mod-eq_of_lt, some_element}
 use Rattle.gix_refspec_match.proofs.Common.{div-mul-le_self, shr_mono, AllPairs-filter, eq-eqb, length-map, get_or-map, All-contains, Contains-get_or, All-filter, Contains-append_cases, filter_passes}
 use Rattle.gix_refspec_match.proofs.Common.{All-permutation, Contains-permutation, IsNonDecreasingBy-from_sort, IsPermutation-filter_both, div-mul-add, mod-mul-add, or_shifted, shr_split, IsPermutation}
 use Rattle.gix_refspec_match.proofs.Common.{IsSorted, Contains, filter, nat_cmp, HasNumber, HaveSameUpper, index_in, AreApart, AreKeysOf, FindDuplicates, HasIndex, HasShared, IsKey, is_shared, Rises, Bloom}
-use Rattle.gix_refspec_match.proofs.lemmas.duplicates.FlagLemmas.{some_element}
 use Rattle.gix_refspec_match.proofs.lemmas.duplicates.OrderedLemmas.{AreNumbered, apart_permuted, numbered_apart, second_found}
 
 pub packed : (hash index bits key : ℕ) → hash < 18446744073709551616 → index < 2 ^ bits → key ≡ bit_or (hash / 2 ^ bits * 2 ^ bits % 18446744073709551616) index

@@ -1,10 +1,9 @@
 -- Specs whose source is a name, and names that no ref has.
-use Rattle.gix_refspec_match.proofs.Common.{List, [], ◌∷◌, None, Some, refl, ◌≡◌, ℕ, ◌++◌, Option, sym, ◌∙◌, arith, inl, inr, subst, ◌<◌, length, map, take, ◌+◌, get_or, ◌⊎◌, ◌↔◌, suc, option_to_list}
+use Rattle.gix_refspec_match.proofs.Common.{List, [], ◌∷◌, None, Some, refl, ◌≡◌, ℕ, ◌++◌, Option, sym, ◌∙◌, arith, inl, inr, subst, ◌<◌, length, map, take, ◌+◌, get_or, ◌⊎◌, ◌↔◌, suc, option_to_list, made_more, made_next, made_none}
 use Rattle.gix_refspec_match.proofs.Common.{length-take-le, get_or_default, take_more, AllByRecursion, Contains, kind_of_side, reading_of, RefSpecRef, Ref, MatchesAs, pattern, object, HasKind, full_name}
 use Rattle.gix_refspec_match.proofs.Common.{partial, SideKind, Reading, MakesOf, IsMadeFrom, AreMissing, LacksSource, HasNone, IsIndexFor, TakesWhole, ArePlacesTaken, AreNamed, HasNoSides, HaveSides, IsNamed}
 use Rattle.gix_refspec_match.proofs.Common.{IsNameKind, Index, All, Matcher, Sides}
 use Rattle.gix_refspec_match.proofs.lemmas.hits.{HitLemmas.one_kind, MatcherLemmas.side_shown}
-use Rattle.gix_refspec_match.proofs.lemmas.lists.JoinLemmas.{made_more, made_next, made_none}
 use Rattle.gix_refspec_text.specs.declared.side.SideKind.TheVariants as side
 
 -- what a read past the end gives

@@ -1,8 +1,7 @@
 -- Where names are among refs.
-use Rattle.gix_refspec_match.proofs.Common.{List, [], ◌∷◌, None, Some, refl, ◌≡◌, ℕ, ◌++◌, Option, sym, ◌∙◌, inl, inr, ◌≢◌, ap, append-nil, ◌<◌, length, map, take, ◌+◌, get_or, rules, ◌⊎◌, cond, bytes_eq}
+use Rattle.gix_refspec_match.proofs.Common.{List, [], ◌∷◌, None, Some, refl, ◌≡◌, ℕ, ◌++◌, Option, sym, ◌∙◌, inl, inr, ◌≢◌, ap, append-nil, ◌<◌, length, map, take, ◌+◌, get_or, rules, ◌⊎◌, cond, bytes_eq, made_more}
 use Rattle.gix_refspec_match.proofs.Common.{not_from_Decides, bytes_eq-Decides, cases_Bool, Contains-append_left, Contains-push, Contains-push_cases, Contains, bstr_bytes, ArePlacesOf, HavePlaces, ref_of, Item}
 use Rattle.gix_refspec_match.proofs.Common.{Vec}
-use Rattle.gix_refspec_match.proofs.lemmas.lists.JoinLemmas.{made_more}
 
 abbrev pub Listed : Type 0
 Listed = List ℕ → Option (Vec ℕ)

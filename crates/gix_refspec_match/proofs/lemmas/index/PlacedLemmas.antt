@@ -1,10 +1,9 @@
 -- Which items needles take of those that the index lists.
-use Rattle.gix_refspec_match.proofs.Common.{List, [], ◌∷◌, None, Some, refl, ◌≡◌, ℕ, true, ◌++◌, Option, sym, ◌∙◌, arith, ap, append-nil, ◌<◌, length, map, take, drop, ◌+◌, get_or, append_assoc, rules, ◌↔◌}
+use Rattle.gix_refspec_match.proofs.Common.{List, [], ◌∷◌, None, Some, refl, ◌≡◌, ℕ, true, ◌++◌, Option, sym, ◌∙◌, arith, ap, append-nil, ◌<◌, length, map, take, drop, ◌+◌, get_or, append_assoc, rules, ◌↔◌, map_long, made_next, joined_next}
 use Rattle.gix_refspec_match.proofs.Common.{zero, suc, option_to_list, Bool, MatchBool, MatchBool-at_true, map_more, length-take-le, take_more, get_or-map, first_candidate, kind_of_side}
 use Rattle.gix_refspec_match.proofs.Common.{BeginsWith, Ref, MatchesAs, pattern, object, full_name, partial, SideKind, MakesOf, IsMadeFrom, IsJoinedFrom, AreFound, hit_at, AddsFound, IsFound, IsIndexFor}
 use Rattle.gix_refspec_match.proofs.Common.{TakesWhole, IsIndexOf, IsListed, HasNamesOf, ListsFor, MatchesListed, IsTaken, TakesEach, ref_of, DeclaredHit, Index, Names, Candidates, First, Matcher, Item}
 use Rattle.gix_refspec_match.proofs.lemmas.{hits.FoundLemmas.blank, keep.ThinLemmas.cut}
-use Rattle.gix_refspec_match.proofs.lemmas.lists.JoinLemmas.{map_long, made_next, joined_next}
 
 matches_taken : (kind : SideKind) (which : Candidates) (items : List Ref) (r : Ref)
     → (IsTaken which items kind r → MatchesListed kind r) × (TakesEach kind → MatchesListed kind r → IsTaken which items kind r)

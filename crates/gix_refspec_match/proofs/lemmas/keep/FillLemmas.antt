@@ -1,9 +1,8 @@
 -- The mappings that hits become, hit by hit.
-use Rattle.gix_refspec_match.proofs.Common.{List, [], ◌∷◌, None, Some, refl, ◌≡◌, ℕ, ◌++◌, Option, sym, ◌∙◌, arith, subst, ap, append-nil, ◌<◌, length, map, take, drop, ◌+◌, get_or, append_assoc}
+use Rattle.gix_refspec_match.proofs.Common.{List, [], ◌∷◌, None, Some, refl, ◌≡◌, ℕ, ◌++◌, Option, sym, ◌∙◌, arith, subst, ap, append-nil, ◌<◌, length, map, take, drop, ◌+◌, get_or, append_assoc, made_next}
 use Rattle.gix_refspec_match.proofs.Common.{option_to_list, take-append-drop, length-map, length-take-le, take_more, map-append, get_or-map, All-from_recursion, get_or_from_slice_get, slice_get_within}
 use Rattle.gix_refspec_match.proofs.Common.{all_right, all_left, Ref, MakesOf, IsMadeFrom, Hit, Mapped, AddsMapped, mapping_of, IsMappedHit, hit_of, hit_by, hit_of_both, AreSound, IsSound, ExcludeStart, ref_of}
 use Rattle.gix_refspec_match.proofs.Common.{mapped_of, Exclusions, DeclaredHit, Candidates, Matcher, Item, Mapping}
-use Rattle.gix_refspec_match.proofs.lemmas.lists.JoinLemmas.{made_next}
 
 hit_there : (ms : List Matcher) (xs : List Item) (h : DeclaredHit) (dm : Matcher) (dx : Item) → IsSound ms (map ref_of xs) h
     → hit_of ms (map ref_of xs) h ≡ hit_by (get_or ms h.matcher dm) h.item (ref_of (get_or xs h.item dx))

@@ -1,5 +1,4 @@
-use Rattle.gix_refspec_match.proofs.Common.{sym, ◌∙◌, inl, ap, texts_ties, is_eq, bstr_bytes}
-use Rattle.gix_refspec_match.proofs.lemmas.duplicates.FlagLemmas.{equal_told}
+use Rattle.gix_refspec_match.proofs.Common.{sym, ◌∙◌, inl, ap, texts_ties, is_eq, bstr_bytes, equal_told}
 
 pub returns : Rattle.gix_refspec_match.proofs.duplicates.elements.ItemElement.equals.Goals.returns
 returns c =
