@@ -1,10 +1,10 @@
 -- Which candidate a partial source takes: the first by gitrevisions(7) that is there, not the first in the list of refs.
-use Rattle.gix_refspec_match.proofs.Common.{List, [], ◌∷◌, None, Some, codes, refl, ◌≡◌, ℕ, Option, arith, inl, inr, ◌≢◌, ap, length, AllByRecursion, taken_by_first, first_once, FirstCandidate}
-use Rattle.gix_refspec_match.proofs.Common.{fetched, star, Ref, Matches, Takes, HasName, IsFirstCandidate, HasKind, full_name, Excludes, partial, by_pattern, Normal, Negative, Reading, IsMadeFrom, Ends}
-use Rattle.gix_refspec_match.proofs.Common.{AreForwardEnds, AreBackwardEnds, Hit, IsHit, AreSpecHits, IsIdMapping, AreKeptForward, AreKeptBackward, IsExcluded}
+use Rattle.gix_refspec_match.proofs.Common.{List, [], ◌∷◌, None, Some, codes, refl, ◌≡◌, ℕ, Option, arith, inl, inr, taken_by_first, first_once, FirstCandidate, rules, take, candidates}
+use Rattle.gix_refspec_match.proofs.Common.{fetched, Ref, Matches, Takes, IsFirstCandidate, HasKind, full_name, Excludes, partial, by_pattern, Normal, Negative, Reading, IsMadeFrom, Ends}
+use Rattle.gix_refspec_match.proofs.Common.{AreForwardEnds, Hit, IsHit, AreSpecHits, AreKeptForward, AreKeptBackward, IsExcluded}
 use Rattle.gix_refspec_text.proofs.facts.{ManualFacts.Lacks-tested, ManualFacts.named, SideFacts.partial_matches}
 use Rattle.gix_refspec_text.proofs.facts.FitFacts.{below_tags, short_kind, short_no_id}
-use Rattle.gix_refspec_match.proofs.facts.MatchFacts.{mapping, main_candidate, no_main_id, not_had}
+use Rattle.gix_refspec_match.proofs.facts.MatchFacts.{mapping, main_candidate, no_main_id}
 
 abbrev pub main_branch : Ref
 main_branch = named (codes "refs/heads/main")
@@ -18,51 +18,30 @@ just_main = named (codes "main")
 abbrev pub branch_and_tag : List Ref
 branch_and_tag = main_branch ∷ main_tag ∷ []
 
--- a name of another length than those of all refs is that of none
-no_name : (refs : List Ref) (n : List ℕ) → AllByRecursion (λ r. length r.name ≢ length n) refs → ¬ (HasName refs n)
-no_name [] n all has = has
-no_name (r ∷ refs) n (other, others) has = grind (arith, has, other, no_name refs n others)
-
 -- of a branch and a tag, the tag is the first candidate, wherever it is
 pub tag_first : IsFirstCandidate branch_and_tag (codes "main") (codes "refs/tags/main")
-tag_first = record { earlier = codes "main" ∷ codes "refs/main" ∷ []; later = _; here = refl; absent = search (arith, no_name branch_and_tag); present = inr (inl refl) }
+tag_first = record { earlier = codes "main" ∷ codes "refs/main" ∷ []; later = _; here = refl; absent = search rules; present = search rules }
 
 -- so the branch isn't the first, nor is a name that no ref has
 pub no_other_first : ¬ (IsFirstCandidate branch_and_tag (codes "main") (codes "refs/heads/main")) × ¬ (IsFirstCandidate branch_and_tag (codes "main") (codes "main")) × ¬ (IsFirstCandidate [] (codes "main") (codes "refs/tags/main"))
-no_other_first = (
-  (λ first.
-      omega (arith, ap length (first_once branch_and_tag (codes "main") (codes "refs/tags/main") (codes "refs/heads/main") tag_first first))),
-  (λ first. no_name branch_and_tag (codes "main") (omega arith) first.present),
-  λ first. first.present,
-)
+no_other_first = ((λ first. cc (first_once branch_and_tag _ _ _ tag_first first)), (λ first. grind (arith, first.present)), λ first. first.present)
 
 pub itself_first : IsFirstCandidate (main_branch ∷ main_tag ∷ just_main ∷ []) (codes "main") (codes "main")
 itself_first = record { earlier = []; later = _; here = refl; absent = tt; present = inr (inr (inl refl)) }
 
 -- the last candidate is the first where it is there alone
 pub head_of_remote : IsFirstCandidate (named (codes "refs/remotes/x/HEAD") ∷ []) (codes "x") (codes "refs/remotes/x/HEAD")
-head_of_remote = record {
-  earlier = codes "x" ∷ codes "refs/x" ∷ codes "refs/tags/x" ∷ codes "refs/heads/x" ∷ codes "refs/remotes/x" ∷ [];
-  later = [];
-  here = refl;
-  absent = search (arith, no_name (named (codes "refs/remotes/x/HEAD") ∷ []));
-  present = inl refl;
-}
+head_of_remote = record { earlier = take 5 (candidates (codes "x")); later = []; here = refl; absent = search rules; present = inl refl }
 
 -- the source takes the tag, and not the branch, though it matches both
 pub takes_the_tag : Takes branch_and_tag (codes "main") main_tag None × ((word : Option (List ℕ)) → ¬ (Takes branch_and_tag (codes "main") main_branch word)) × Matches (codes "main") main_branch None
-takes_the_tag = (
-  taken_by_first branch_and_tag (codes "main") main_tag short_kind tag_first,
-  (λ word takes. no_other_first.0 (takes.first (codes "main") short_kind)),
-  record { kind = partial (codes "main"); of = short_kind; is = (refl, main_candidate) },
-)
+takes_the_tag = (taken_by_first branch_and_tag _ main_tag short_kind tag_first, (λ word takes. no_other_first.0 (takes.first _ short_kind)),
+    record { kind = partial (codes "main"); of = short_kind; is = (refl, main_candidate) })
 
 -- a full name takes what it matches, whatever the refs are, and no side takes what it doesn't match
 pub takes : Takes [] (codes "refs/tags/blob") (named (codes "refs/tags/blob")) None × ((word : Option (List ℕ)) → ¬ (Takes (named (codes "refs/x/main") ∷ []) (codes "main") (named (codes "refs/x/main")) word))
-takes = (
-  record { matches = record { kind = full_name (codes "refs/tags/blob"); of = below_tags; is = (refl, refl) }; first = λ n kind. absurd (kind.2 below_tags.2) },
-  λ word taken. partial_matches.2 word taken.matches,
-)
+takes = (record { matches = record { kind = full_name (codes "refs/tags/blob"); of = below_tags; is = (refl, refl) }; first = λ n kind. absurd (kind.2 below_tags.2) },
+    λ word taken. partial_matches.2 word taken.matches)
 
 -- from the law: a caller with a branch and a tag gets the tag alone, and one with a ref of some candidate gets one
 pub concluded : FirstCandidate (codes "main") branch_and_tag
@@ -90,11 +69,9 @@ no_tags = fetched Negative (codes "refs/tags/*") None
 pub x_kind : HasKind (codes "refs/x") (full_name (codes "refs/x"))
 x_kind = search (arith, Lacks-tested)
 
-tag_taken : IsHit (Takes branch_and_tag) main_ends 0 1 main_tag tag_hit
-tag_taken = record { word = None; takes = takes_the_tag.0; far = (full_name (codes "refs/x"), x_kind, refl); near = refl; spec = refl; item = refl }
-
 main_hits : AreSpecHits AreForwardEnds (Takes branch_and_tag) branch_and_tag 0 main_to_x (tag_hit ∷ [])
-main_hits = inl (main_ends, record { positive = tt; near = refl; far = refl; no_object = λ bytes kind. short_no_id bytes kind.2 }, (None, tag_hit ∷ [], (λ hit is. takes_the_tag.1 is.word is.takes), (Some tag_hit, [], tag_taken, refl, refl), refl))
+main_hits = inl (main_ends, search (rules, short_no_id), (None, tag_hit ∷ [], (λ hit is. takes_the_tag.1 is.word is.takes), (Some tag_hit, [],
+    record { word = None; takes = takes_the_tag.0; far = (full_name (codes "refs/x"), x_kind, refl); near = refl; spec = refl; item = refl }, refl, refl), refl))
 
 pub not_excluded : (n : List ℕ) → ¬ (IsExcluded (main_to_x ∷ []) n)
 not_excluded n by = grind arith
@@ -104,21 +81,22 @@ pub maps_the_tag : AreKeptForward (main_to_x ∷ []) branch_and_tag (mapping 1 (
 maps_the_tag = record {
   all = _;
   forward = record { ids = []; hits = tag_hit ∷ []; are_ids = (None, [], no_main_id 0 main_to_x refl, refl, refl); are_hits = (tag_hit ∷ [], [], main_hits, refl, refl); all = refl };
-  is = (Some (mapping 1 (codes "refs/tags/main") (Some (codes "refs/x")) 0), [], (refl, record { first = λ none. none; included = not_excluded (codes "refs/tags/main") }), refl, refl);
+  is = (Some _, [], search (rules, not_excluded), refl, refl);
 }
 
 pub tags_excluded : Excludes (codes "refs/tags/*") (codes "refs/tags/main")
-tags_excluded = by_pattern (codes "refs/tags/") [] (codes "main") (record { starred = refl; first = Lacks-tested star (codes "refs/tags/") refl; last = tt }) refl
+tags_excluded = by_pattern (codes "refs/tags/") [] (codes "main") (search (rules, Lacks-tested)) refl
 
 -- the choice is made before exclusions: where the tag is left out, the branch isn't mapped in its place
 pub maps_no_branch : AreKeptForward (main_to_x ∷ no_tags ∷ []) branch_and_tag []
-maps_no_branch =
-    let no_ids : IsMadeFrom IsIdMapping 0 (main_to_x ∷ no_tags ∷ []) [] = (None, [], no_main_id 0 main_to_x refl, (None, [], (λ m made. made.positive), refl, refl), refl) in
-    record {
-      all = _;
-      forward = record { ids = []; hits = tag_hit ∷ []; are_ids = no_ids; are_hits = (tag_hit ∷ [], [], main_hits, ([], [], inr ((λ ends are. are.positive), refl), refl, refl), refl); all = refl };
-      is = (None, [], (λ m stays. stays.1.included (inr (inl (record { negative = refl; text = _; source = refl; excludes = tags_excluded })))), refl, refl);
-    }
+maps_no_branch = record {
+  all = _;
+  forward = record {
+    ids = []; hits = tag_hit ∷ []; all = refl; are_ids = (None, [], no_main_id 0 main_to_x refl, (None, [], (λ m made. made.positive), refl, refl), refl);
+    are_hits = (tag_hit ∷ [], [], main_hits, ([], [], inr ((λ ends are. are.positive), refl), refl, refl), refl);
+  };
+  is = (None, [], (λ m stays. stays.1.included (inr (inl (search (rules, tags_excluded))))), refl, refl);
+}
 
 abbrev q_to_main : Reading
 q_to_main = fetched Normal (codes "refs/q") (Some (codes "main"))
@@ -138,10 +116,8 @@ tracks_both =
     let hits = q_hit 0 main_branch ∷ q_hit 1 main_tag ∷ [] in
     let taken : IsMadeFrom (IsHit Matches q_ends 0) 0 branch_and_tag hits =
     (Some _, _, tracked_at 0 main_branch takes_the_tag.2, (Some _, [], tracked_at 1 main_tag takes_the_tag.0.matches, refl, refl), refl) in
-    let has : AreBackwardEnds q_to_main q_ends = record { positive = tt; near = refl; far = refl; both = refl } in
     record {
       all = _;
-      backward = record { hits = hits; are_hits = (hits, [], inl (q_ends, has, taken), refl, refl); all = refl };
-      is = (Some _, _, (refl, record { first = λ none. none; included = λ by. grind arith }),
-          (Some _, [], (refl, record { first = not_had refl; included = λ by. grind arith }), refl, refl), refl);
+      backward = record { hits = hits; are_hits = (hits, [], inl (q_ends, search rules, taken), refl, refl); all = refl };
+      is = (Some _, _, search rules, (Some _, [], search rules, refl, refl), refl);
     }

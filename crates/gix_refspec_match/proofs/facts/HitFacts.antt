@@ -1,36 +1,25 @@
 -- The words on hits and mappings: which specs have no such ends, which items no hit, and which mappings no place.
-use Rattle.gix_refspec_match.proofs.Common.{List, [], ◌∷◌, None, Some, codes, refl, ◌≡◌, ℕ, Option, arith, inl, inr, false≢true, same_Some, fetched, pushed, star, Ref, Matches, full_name, rules, First, ap, length}
+use Rattle.gix_refspec_match.proofs.Common.{List, [], ◌∷◌, None, Some, codes, refl, ◌≡◌, ℕ, Option, arith, inl, inr, false≢true, fetched, pushed, Ref, full_name, rules, First, ap, length}
 use Rattle.gix_refspec_match.proofs.Common.{Takes, pattern, HasKind, Normal, Forced, Negative, IsMadeFrom, Ends, AreForwardEnds, AreBackwardEnds, IsFilled, Hit, IsHit, AreSpecHits, AreHits, forward_of}
-use Rattle.gix_refspec_match.proofs.Common.{backward_of, IsIdMapping, AreBackward, name, id, Mapped, IsExcludedBy, IsExcluded, IsKeptAt, IsKept, IsSamePair}
+use Rattle.gix_refspec_match.proofs.Common.{backward_of, IsIdMapping, AreBackward, name, id, Mapped, IsExcludedBy, IsExcluded, IsKeptAt, IsKept}
 use Rattle.gix_refspec_match.proofs.lemmas.{hits.HitLemmas.matches_as, hits.HitLemmas.one_pair, lists.JoinLemmas.nothing_made}
-use Rattle.gix_refspec_text.proofs.facts.{ManualFacts.Lacks-tested, ManualFacts.other_length, ManualFacts.none_some, ManualFacts.some_none, ObjectIdFacts.empty_blob}
+use Rattle.gix_refspec_text.proofs.facts.{ManualFacts.Lacks-tested, ManualFacts.none_some, ManualFacts.some_none, ObjectIdFacts.empty_blob}
 use Rattle.gix_refspec_text.proofs.facts.FitFacts.{every, no_dev, excludes_dev, short, blob, blob_kind, dev_ref, main_ref, below_tags}
-use Rattle.gix_refspec_match.proofs.facts.MatchFacts.{blob_mapping, mapping, tag_to_x, tag_again, no_blob_ends, no_main_id, forward_ends, backward_ends, are_forward_ends, hit_by, taken_by}
+use Rattle.gix_refspec_match.proofs.facts.MatchFacts.{pairs, blob_mapping, mapping, tag_to_x, tag_again, no_blob_ends, no_main_id, forward_ends, backward_ends, are_forward_ends, hit_by, taken_by}
 
 -- a negative spec excludes wherever it is, and a positive one doesn't, nor one without a source
 pub exclusions : IsExcluded (no_dev ∷ every ∷ []) (codes "refs/heads/dev-a") × ¬ (IsExcluded (every ∷ []) (codes "refs/heads/dev-a")) × ¬ (IsExcluded [] (codes "refs/heads/dev-a")) × ¬ (IsExcludedBy (codes "a") (pushed Negative None (Some (codes "a"))))
-exclusions = (inl (record { negative = refl; text = _; source = refl; excludes = excludes_dev }), (λ by. grind arith), (λ none. none), λ by. none_some by.text by.source)
+exclusions = (inl (search (rules, excludes_dev)), (λ by. grind arith), (λ none. none), λ by. none_some by.text by.source)
 
 -- of two equal pairs the first is kept, and of a list only what is before counts
 pub stays_first : IsKeptAt [] (tag_to_x ∷ tag_again ∷ []) 0 tag_to_x × ¬ (IsKeptAt [] (tag_to_x ∷ tag_again ∷ []) 1 tag_again) × IsKept [] (tag_to_x ∷ tag_again ∷ []) (tag_to_x ∷ [])
-stays_first = (first, (λ stays. stays.first (inl same)), (Some tag_to_x, [], (refl, first), (None, [], (λ m made. made.1.first (inl same)), refl, refl), refl))
-  where
-    same : IsSamePair tag_to_x tag_again
-    same = record { source = refl; destination = refl }
-
-    first : IsKeptAt [] (tag_to_x ∷ tag_again ∷ []) 0 tag_to_x
-    first = record { first = λ none. none; included = λ none. none }
+stays_first = (search rules, (λ stays. stays.first (inl pairs.0)), (Some tag_to_x, [], search rules, (None, [], (λ m made. made.1.first (inl pairs.0)), refl, refl), refl))
 
 -- a source alone is near, of a push too, but not that of a negative spec, nor an id, nor is a destination
 pub forward_ends_of : AreForwardEnds every forward_ends × AreForwardEnds (pushed Normal (Some (codes "refs/x/a")) None) (record { near = codes "refs/x/a"; far = None })
     × ((ends : Ends) → ¬ (AreForwardEnds no_dev ends) × ¬ (AreForwardEnds blob ends) × ¬ (AreForwardEnds (pushed Normal None (Some (codes "a"))) ends)) × ¬ (AreForwardEnds every backward_ends) × ¬ (AreForwardEnds every (record { near = codes "refs/heads/*"; far = None }))
-forward_ends_of = (
-  are_forward_ends,
-  record { positive = tt; near = refl; far = refl; no_object = λ bytes kind. kind.1 (record { after = codes "x/a"; here = refl }) },
-  (λ ends. ((λ are. are.positive), no_blob_ends ends, λ are. none_some ends.near are.near)),
-  (λ are. other_length _ _ (λ size. omega (arith, size)) (same_Some (codes "refs/heads/*") (codes "refs/remotes/origin/*") are.near)),
-  λ are. some_none (codes "refs/remotes/origin/*") are.far,
-)
+forward_ends_of = (are_forward_ends, search rules, (λ ends. ((λ are. are.positive), no_blob_ends ends, λ are. none_some ends.near are.near)),
+    (λ are. cc (are.near)), λ are. cc (are.far))
 
 abbrev blob_back : Ends
 blob_back = record { near = codes "refs/tags/blob"; far = Some (codes "e69de29bb2d1d6434b8b29ae775ad8c2e48c5391") }
@@ -38,19 +27,15 @@ blob_back = record { near = codes "refs/tags/blob"; far = Some (codes "e69de29bb
 -- a destination is near where there is a source, of a push too, and an id may be far
 pub backward_ends_of : AreBackwardEnds every backward_ends × AreBackwardEnds (pushed Normal (Some (codes "a")) (Some (codes "b"))) (record { near = codes "b"; far = Some (codes "a") }) × AreBackwardEnds blob blob_back
     × ((ends : Ends) → ¬ (AreBackwardEnds no_dev ends) × ¬ (AreBackwardEnds short ends) × ¬ (AreBackwardEnds (pushed Normal None (Some (codes "a"))) ends) × ¬ (AreBackwardEnds (fetched Negative (codes "a") (Some (codes "b"))) ends)) × ¬ (AreBackwardEnds every forward_ends)
-backward_ends_of = (
-  search rules,
-  search rules,
-  search rules,
-  (λ ends. ((λ are. are.positive), (λ are. none_some ends.near are.near), (λ are. false≢true (rw (← are.far) at are.both)), λ are. are.positive)),
-  λ are. other_length _ _ (λ size. omega (arith, size)) (same_Some (codes "refs/remotes/origin/*") (codes "refs/heads/*") are.near),
-)
+backward_ends_of = (search rules, search rules, search rules,
+    (λ ends. ((λ are. are.positive), (λ are. none_some ends.near are.near), (λ are. false≢true (rw (← are.far) at are.both)), λ are. are.positive)),
+    λ are. cc (are.near))
 
 abbrev pub x_side : List ℕ
 x_side = codes "refs/x/*"
 
 x_kind : HasKind x_side (pattern (codes "refs/x/") [])
-x_kind = record { starred = refl; first = Lacks-tested star (codes "refs/x/") refl; last = tt }
+x_kind = search (rules, Lacks-tested)
 
 -- the far side gets the word or keeps its star, and where there is none, nothing is there
 pub fills : IsFilled None (Some (codes "a")) None × ((n : List ℕ) → ¬ (IsFilled None None (Some n))) × IsFilled (Some x_side) (Some (codes "a")) (Some (codes "refs/x/a")) × IsFilled (Some x_side) None (Some x_side) × ((word : Option (List ℕ)) → ¬ (IsFilled (Some x_side) word None))
@@ -58,7 +43,7 @@ fills = (refl, some_none, (pattern (codes "refs/x/") [], x_kind, refl), (pattern
 
 -- a hit has the places of its spec and of its item, and not these swapped
 pub places_of_hits : IsHit (Takes []) forward_ends 5 3 main_ref (hit_by 5 3 (codes "main")) × ¬ (IsHit (Takes []) forward_ends 5 3 main_ref (hit_by 3 5 (codes "main"))) × ¬ (IsHit (Takes []) forward_ends 5 3 main_ref (hit_by 5 3 (codes "mai")))
-places_of_hits = (taken_by [] 5 3 (codes "main"), (λ is. omega (arith, is.spec)), λ is. other_length _ _ (λ size. omega (arith, size)) is.near)
+places_of_hits = (taken_by [] 5 3 (codes "main"), (λ is. omega (arith, is.spec)), λ is. cc (is.near))
 
 abbrev pub branches : List Ref
 branches = dev_ref ∷ main_ref ∷ []
@@ -75,11 +60,7 @@ hits_by_spec = (of_spec 0, of_spec 1, inl (forward_ends, are_forward_ends, taken
 
 -- a spec that takes an item has its hit, and one without such ends has none
 pub spec_hits : ¬ (AreSpecHits AreForwardEnds (Takes (main_ref ∷ [])) (main_ref ∷ []) 0 every []) × AreSpecHits AreForwardEnds (Takes branches) branches 0 no_dev [] × ¬ (AreSpecHits AreForwardEnds (Takes branches) branches 0 no_dev (of_spec 0))
-spec_hits = (
-  missing,
-  inr ((λ ends are. are.positive), refl),
-  λ hits. grind arith,
-)
+spec_hits = (missing, inr ((λ ends are. are.positive), refl), λ hits. grind arith)
   where
     missing : ¬ (AreSpecHits AreForwardEnds (Takes (main_ref ∷ [])) (main_ref ∷ []) 0 every [])
     missing (inl (ends, are, made)) =
@@ -98,18 +79,11 @@ pub id_mappings : IsIdMapping 7 (fetched Forced (codes "e69de29bb2d1d6434b8b29ae
     × ¬ (IsIdMapping 0 blob blob_mapping) × ¬ (IsIdMapping 1 blob (record { item = Some 0; source = id empty_blob; destination = Some (codes "refs/tags/blob"); spec = 1 }))
     × ((m : Mapped) → ¬ (IsIdMapping 1 (fetched Negative (codes "e69de29bb2d1d6434b8b29ae775ad8c2e48c5391") None) m) × ¬ (IsIdMapping 1 short m))
     × ¬ (IsIdMapping 1 blob (record { item = None; source = name empty_blob; destination = Some (codes "refs/tags/blob"); spec = 1 }))
-id_mappings = (
-  search (rules, blob_kind),
-  (λ made. omega (arith, made.spec)),
-  (λ made. cc (made.item)),
-  (λ m. ((λ made. made.positive), no_main_id 1 short refl m)),
-  λ made. cc (made.source),
-)
+id_mappings = (search (rules, blob_kind), (λ made. omega (arith, made.spec)), (λ made. cc (made.item)),
+    (λ m. ((λ made. made.positive), no_main_id 1 short refl m)), λ made. cc (made.source))
 
 -- from right to left the id of an object maps nothing where its destination matches nothing
 pub no_id_back : AreBackward (blob ∷ []) (main_ref ∷ []) []
-no_id_back = record { hits = []; are_hits = ([], [], inl (blob_back, backward_ends_of.2, (None, [], not_taken, refl, refl)), refl, refl); all = refl }
-  where
-    not_taken : (hit : Hit) → ¬ (IsHit Matches blob_back 0 0 main_ref hit)
-    not_taken hit is =
-        omega (arith, ap length (matches_as (codes "refs/tags/blob") (full_name (codes "refs/tags/blob")) main_ref is.word below_tags is.takes).1)
+no_id_back = record { hits = []; are_hits = ([], [], inl (blob_back, backward_ends_of.2, (None, [], (λ hit is.
+    omega (arith, ap length (matches_as (codes "refs/tags/blob") (full_name (codes "refs/tags/blob")) main_ref is.word below_tags is.takes).1)),
+    refl, refl)), refl, refl); all = refl }

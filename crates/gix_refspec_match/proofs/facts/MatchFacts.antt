@@ -1,9 +1,9 @@
 -- The words on matching at groups like those of git-fetch(1) under `<refspec>`: what is mapped, and what isn't.
-use Rattle.gix_refspec_match.proofs.Common.{List, [], ◌∷◌, None, Some, codes, refl, ◌≡◌, ℕ, ◌++◌, Option, sym, ◌∙◌, arith, inl, inr, subst, ap, append-nil, same_Some, lacks_no_pattern}
-use Rattle.gix_refspec_match.proofs.Common.{first_of_one, taken_by_first, fetched, star, IsSplit, is_eq, pair_order, equal_pair, false, false≢true, IsIdText, BeginsWith, Ref, Matches, Takes, pattern, object, HasKind, full_name}
-use Rattle.gix_refspec_match.proofs.Common.{the_name, IsCandidate, Negative, Reading, IsMadeFrom, Ends, AreForwardEnds, AreBackwardEnds, Hit, IsHit, AreHits, IsIdMapping, AreBackward, AreForward}
+use Rattle.gix_refspec_match.proofs.Common.{List, [], ◌∷◌, None, Some, codes, refl, ◌≡◌, ℕ, ◌++◌, Option, sym, ◌∙◌, arith, inl, inr, ap, append-nil, same_Some, lacks_no_pattern, rules}
+use Rattle.gix_refspec_match.proofs.Common.{first_of_one, taken_by_first, fetched, IsSplit, Ref, Matches, Takes, pattern, object, full_name}
+use Rattle.gix_refspec_match.proofs.Common.{IsCandidate, Negative, Reading, IsMadeFrom, Ends, AreForwardEnds, AreBackwardEnds, Hit, IsHit, AreHits, IsIdMapping, AreBackward, AreForward}
 use Rattle.gix_refspec_match.proofs.Common.{AreKeptForward, AreKeptBackward, name, id, Mapped, IsExcluded, Source, IsSourceExcluded, IsSamePair, HasPair}
-use Rattle.gix_refspec_text.proofs.facts.{FaultFacts.begins_not, ManualFacts.Lacks-tested, ManualFacts.none_some, ManualFacts.named, ObjectIdFacts.empty_blob}
+use Rattle.gix_refspec_text.proofs.facts.{FaultFacts.begins_not, ManualFacts.Lacks-tested, ManualFacts.named, ObjectIdFacts.empty_blob}
 use Rattle.gix_refspec_match.specs.Matching.Mappings.{AreApart}
 use Rattle.gix_refspec_text.proofs.facts.FitFacts.{excludes_dev, excludes_no_main, every, no_dev, dev_ref, tag_ref, main_ref, heads_split, origin_split, short, blob, below_tags, blob_kind, short_no_id, short_kind}
 use Rattle.gix_refspec_match.proofs.lemmas.{hits.HitLemmas.matches_as, index.PlacedLemmas.begins_as}
@@ -12,18 +12,15 @@ use Rattle.gix_refspec_match.proofs.lemmas.{hits.HitLemmas.matches_as, index.Pla
 abbrev pub tracked : ℕ → List ℕ → Mapped
 tracked item branch = record { item = Some item; source = name (codes "refs/heads/" ++ branch); destination = Some (codes "refs/remotes/origin/" ++ branch); spec = 0 }
 
-heads_below : BeginsWith (codes "refs/") (codes "refs/heads/*")
-heads_below = record { after = codes "heads/*"; here = refl }
-
 every_no_id : (m : Mapped) → ¬ (IsIdMapping 0 every m)
-every_no_id m made = made.object.1 (subst (BeginsWith (codes "refs/")) (same_Some (codes "refs/heads/*") made.text made.side) heads_below)
+every_no_id m made = grind (arith, made.object.1, made.side)
 
 -- the ends of a spec of two patterns, from left to right
 abbrev pub forward_ends : Ends
 forward_ends = record { near = codes "refs/heads/*"; far = Some (codes "refs/remotes/origin/*") }
 
 pub are_forward_ends : AreForwardEnds every forward_ends
-are_forward_ends = record { positive = tt; near = refl; far = refl; no_object = λ bytes kind. kind.1 heads_below }
+are_forward_ends = search rules
 
 -- that the spec at a place takes what is below a folder, at a place
 abbrev hit_below : List ℕ → List ℕ → ℕ → ℕ → List ℕ → Hit
@@ -51,25 +48,18 @@ takes_no_tag items j hit is =
 -- no spec of the group excludes a branch that doesn't begin so
 pub main_stays : ¬ (IsSourceExcluded (every ∷ no_dev ∷ []) (name (codes "refs/heads/main")))
 main_stays (inl by) = cc (by.negative)
-main_stays (inr (inl by)) = excludes_no_main (rw (same_Some by.text (codes "refs/heads/dev-*") (sym by.source)) at by.excludes)
+main_stays (inr (inl by)) = excludes_no_main (rw (← same_Some _ _ by.source) at by.excludes)
 main_stays (inr (inr none)) = none
 
 pub dev_excluded : IsExcluded (every ∷ no_dev ∷ []) (codes "refs/heads/dev-a")
-dev_excluded = inr (inl (record { negative = refl; text = codes "refs/heads/dev-*"; source = refl; excludes = excludes_dev }))
+dev_excluded = inr (inl (search (rules, excludes_dev)))
 
 abbrev pub bytes_in : Source → List ℕ
 bytes_in (name n) = n
 bytes_in (id i) = i
 
--- the order of mappings tells pairs that differ
-pub differ : {m n : Mapped} → is_eq (pair_order m n) ≡ false → ¬ (IsSamePair m n)
-differ {m} {n} other same = false≢true (sym other ∙ ap is_eq (equal_pair m n same))
-
-pub not_had : {m n : Mapped} → is_eq (pair_order m n) ≡ false → ¬ (HasPair (m ∷ []) n)
-not_had {m} {n} other has = grind (arith, differ {m = m} {n = n} other)
-
 pub only_dev : (item : ℕ) → ¬ (HasPair (tracked 0 (codes "dev-a") ∷ []) (tracked item (codes "main")))
-only_dev item = not_had refl
+only_dev item = search rules
 
 -- what the group takes is what its first spec takes, since the other is negative
 hits_of_every : (HasEnds : Reading → Ends → Type 0) (Taken : List ℕ → Ref → Option (List ℕ) → Type 0) (items : List Ref) (hits : List Hit) (ends : Ends) → HasEnds every ends → ((e : Ends) → ¬ (HasEnds no_dev e)) → IsMadeFrom (IsHit Taken ends 0) 0 items hits → AreHits HasEnds Taken (every ∷ no_dev ∷ []) items hits
@@ -84,12 +74,10 @@ fetches_all_but_dev =
     let taken : IsMadeFrom (IsHit (Takes items) forward_ends 0) 0 items all =
     (Some _, _, takes 0 (codes "dev-a"), (None, _, takes_no_tag items 1, (Some _, _, takes 2 (codes "main"), (Some _, [], takes 3 (codes "main"), refl, refl), refl), refl), refl) in
     let hits = hits_of_every AreForwardEnds (Takes items) items all forward_ends are_forward_ends (λ ends has. has.positive) taken in
-    let same : IsSamePair (tracked 2 (codes "main")) (tracked 3 (codes "main")) = record { source = refl; destination = refl } in
-    let no_ids : IsMadeFrom IsIdMapping 0 (every ∷ no_dev ∷ []) [] = (None, [], every_no_id, (None, [], (λ m made. made.positive), refl, refl), refl) in
     record {
       all = _;
-      forward = record { ids = []; hits = all; are_ids = no_ids; are_hits = hits; all = refl };
-      is = (None, _, (λ m is. is.1.included dev_excluded), (Some _, [], (refl, record { first = only_dev 2; included = main_stays }), (None, [], (λ m is. is.1.first (inr (inl same))), refl, refl), refl), refl);
+      forward = record { ids = []; hits = all; are_ids = search (rules, every_no_id); are_hits = hits; all = refl };
+      is = (None, _, (λ m is. is.1.included dev_excluded), (Some _, [], search (rules, only_dev, main_stays), (None, [], search (rules, only_dev), refl, refl), refl), refl);
     }
 
 pub maps_all : AreForward (every ∷ no_dev ∷ []) (dev_ref ∷ tag_ref ∷ main_ref ∷ main_ref ∷ []) (tracked 0 (codes "dev-a") ∷ tracked 2 (codes "main") ∷ tracked 3 (codes "main") ∷ [])
@@ -110,12 +98,11 @@ pub tracks_all_but_dev : AreKeptBackward (every ∷ no_dev ∷ []) (named (codes
 tracks_all_but_dev =
     let items = named (codes "refs/remotes/origin/dev-a") ∷ named (codes "refs/remotes/origin/main") ∷ [] in
     let taken : IsMadeFrom (IsHit Matches backward_ends 0) 0 items (back_hit 0 (codes "dev-a") ∷ back_hit 1 (codes "main") ∷ []) = (Some _, _, takes_back 0 (codes "dev-a"), (Some _, [], takes_back 1 (codes "main"), refl, refl), refl) in
-    let ends : AreBackwardEnds every backward_ends = record { positive = tt; near = refl; far = refl; both = refl } in
-    let hits = hits_of_every AreBackwardEnds Matches items _ backward_ends ends (λ ends has. has.positive) taken in
+    let hits = hits_of_every AreBackwardEnds Matches items _ backward_ends (search rules) (λ ends has. has.positive) taken in
     record {
       all = _;
       backward = record { hits = _; are_hits = hits; all = refl };
-      is = (None, _, (λ m is. is.1.included dev_excluded), (Some _, [], (refl, record { first = only_dev 1; included = main_stays }), refl, refl), refl);
+      is = (None, _, (λ m is. is.1.included dev_excluded), (Some _, [], search (rules, only_dev, main_stays), refl, refl), refl);
     }
 
 pub tracks_all : AreBackward (every ∷ no_dev ∷ []) (named (codes "refs/remotes/origin/dev-a") ∷ named (codes "refs/remotes/origin/main") ∷ []) (tracked 0 (codes "dev-a") ∷ tracked 1 (codes "main") ∷ [])
@@ -124,7 +111,7 @@ tracks_all = tracks_all_but_dev.backward
 
 -- a spec without a destination takes nothing from right to left
 pub tracks_nothing : AreKeptBackward (short ∷ []) (main_ref ∷ []) []
-tracks_nothing = record { all = []; backward = record { hits = []; are_hits = ([], [], inr ((λ ends has. none_some ends.near has.near), refl), refl, refl); all = refl }; is = refl }
+tracks_nothing = search rules
 
 -- a mapping of a name at a place by a spec
 abbrev pub mapping : ℕ → List ℕ → Option (List ℕ) → ℕ → Mapped
@@ -147,14 +134,14 @@ tag_alone = mapping 0 (codes "refs/tags/a") None 1
 
 -- two mappings have the same pair whatever their items and specs are, and not with one side alone
 pub pairs : IsSamePair tag_to_x tag_again × ¬ (IsSamePair tag_to_x branch_to_x) × ¬ (IsSamePair tag_to_x tag_to_foo) × ¬ (IsSamePair tag_to_x tag_alone)
-pairs = (record { source = refl; destination = refl }, differ refl, differ refl, differ refl)
+pairs = search rules
 
 pub apart : AreApart (tag_to_x ∷ branch_to_x ∷ tag_to_foo ∷ tag_alone ∷ []) × ¬ (AreApart (tag_to_x ∷ branch_to_x ∷ tag_again ∷ []))
-apart = (((pairs.1, (pairs.2, (pairs.3, tt))), ((differ refl, (differ refl, tt)), ((differ refl, tt), (tt, tt)))), λ all. all.0.1.0 pairs.0)
+apart = (search rules, λ all. all.0.1.0 pairs.0)
 
 -- no spec excludes the id of an object, and one that names it excludes that name alone
 pub ids_stay : ¬ (IsSourceExcluded (fetched Negative (codes "a") None ∷ []) (id (codes "a"))) × IsSourceExcluded (fetched Negative (codes "a") None ∷ []) (name (codes "a"))
-ids_stay = (λ none. none, inl (record { negative = refl; text = codes "a"; source = refl; excludes = the_name (Lacks-tested star (codes "a") refl) refl }))
+ids_stay = search (rules, Lacks-tested)
 
 abbrev pub blob_mapping : Mapped
 blob_mapping = record { item = None; source = id empty_blob; destination = Some (codes "refs/tags/blob"); spec = 1 }
@@ -163,10 +150,10 @@ pub main_candidate : IsCandidate (codes "main") (codes "refs/heads/main")
 main_candidate = record { earlier = codes "main" ∷ codes "refs/main" ∷ codes "refs/tags/main" ∷ []; later = _; here = refl }
 
 pub no_main_id : (k : ℕ) (r : Reading) → r.source ≡ Some (codes "main") → (m : Mapped) → ¬ (IsIdMapping k r m)
-no_main_id k r is m made = short_no_id made.bytes (subst (λ (x : List ℕ). IsIdText x made.bytes) (sym (same_Some (codes "main") made.text (sym is ∙ made.side))) made.object.2)
+no_main_id k r is m made = short_no_id made.bytes (rw (same_Some _ _ (sym is ∙ made.side)) made.object.2)
 
 pub no_blob_ends : (ends : Ends) → ¬ (AreForwardEnds blob ends)
-no_blob_ends ends are = are.no_object empty_blob (subst (λ (x : List ℕ). HasKind x (object empty_blob)) (same_Some (codes "e69de29bb2d1d6434b8b29ae775ad8c2e48c5391") ends.near are.near) blob_kind)
+no_blob_ends ends are = are.no_object empty_blob (rw (← same_Some _ _ are.near) blob_kind)
 
 -- an id is before all items, and has none. A partial name without a destination maps to nothing
 pub asks_for_ids_first : AreKeptForward (short ∷ blob ∷ []) (main_ref ∷ []) (blob_mapping ∷ mapping 0 (codes "refs/heads/main") None 0 ∷ [])
@@ -175,14 +162,12 @@ asks_for_ids_first =
     let ends : Ends = record { near = codes "main"; far = None } in
     let asks : IsIdMapping 1 blob blob_mapping =
     record { positive = tt; text = _; bytes = empty_blob; side = refl; object = blob_kind; item = refl; source = refl; destination = (full_name (codes "refs/tags/blob"), below_tags, refl); spec = refl } in
-    let has : AreForwardEnds short ends = record { positive = tt; near = refl; far = refl; no_object = λ bytes kind. short_no_id bytes kind.2 } in
-    let takes = taken_by_first (main_ref ∷ []) (codes "main") main_ref short_kind (first_of_one (codes "main") main_ref main_candidate) in
+    let takes = taken_by_first (main_ref ∷ []) _ main_ref short_kind (first_of_one _ main_ref main_candidate) in
     let taken : IsHit (Takes (main_ref ∷ [])) ends 0 0 main_ref hit = record { word = None; takes = takes; far = refl; near = refl; spec = refl; item = refl } in
-    let ids : IsMadeFrom IsIdMapping 0 (short ∷ blob ∷ []) (blob_mapping ∷ []) = (None, _, no_main_id 0 short refl, (Some _, [], asks, refl, refl), refl) in
     let hits : AreHits AreForwardEnds (Takes (main_ref ∷ [])) (short ∷ blob ∷ []) (main_ref ∷ []) (hit ∷ []) =
-    (hit ∷ [], [], inl (ends, has, (Some hit, [], taken, refl, refl)), ([], [], inr (no_blob_ends, refl), refl, refl), refl) in
+    (hit ∷ [], [], inl (ends, search (rules, short_no_id), (Some hit, [], taken, refl, refl)), ([], [], inr (no_blob_ends, refl), refl, refl), refl) in
     record {
       all = _;
-      forward = record { ids = _; hits = _; are_ids = ids; are_hits = hits; all = refl };
-      is = (Some _, _, (refl, record { first = λ none. none; included = λ none. none }), (Some _, [], (refl, record { first = λ has. grind arith; included = λ by. grind arith }), refl, refl), refl);
+      forward = record { ids = _; hits = _; are_ids = (None, _, no_main_id 0 short refl, (Some _, [], asks, refl, refl), refl); are_hits = hits; all = refl };
+      is = (Some _, _, search rules, (Some _, [], search rules, refl, refl), refl);
     }

@@ -1,6 +1,6 @@
 -- Which specs lack their source: those of a name that no ref has, but neither of an id nor negative ones.
 use Rattle.gix_refspec_match.proofs.Common.{List, [], ◌∷◌, None, Some, codes, refl, ◌≡◌, ℕ, Option, sym, subst, ap, length, arith, inl, inr, same_Some, ◌⊎◌, Ref, Matches, HasKind, full_name, partial, fetched, Normal, Negative}
-use Rattle.gix_refspec_match.proofs.Common.{BeginsWith, Contains, IsIdText, AreMissing, LacksSource}
+use Rattle.gix_refspec_match.proofs.Common.{BeginsWith, Contains, IsIdText, AreMissing}
 use Rattle.gix_refspec_text.proofs.facts.{ManualFacts.Lacks-tested, ObjectIdFacts.empty_blob}
 use Rattle.gix_refspec_text.proofs.facts.FitFacts.{blob, blob_kind, main_ref, of_element, short, short_kind}
 use Rattle.gix_refspec_match.proofs.lemmas.hits.HitLemmas.{matches_as}
@@ -27,7 +27,5 @@ id_not_missing = (None, [], (λ k told. no_name told.1.source (same_Some _ _ tol
 
 -- of the same name, which no ref has, a negative spec lacks nothing, and a positive one lacks its source
 pub negative_not_missing : AreMissing (fetched Negative (codes "main") None ∷ short ∷ []) [] (1 ∷ [])
-negative_not_missing = (None, 1 ∷ [], (λ k told. told.1.positive), (Some 1, [], (refl, lacking), refl, refl), refl)
-  where
-    lacking : LacksSource [] short
-    lacking = record { positive = tt; source = codes "main"; is = refl; named = inr short_kind; absent = λ ref word (k, below, is). omega (arith, below) }
+negative_not_missing = (None, 1 ∷ [], (λ k told. told.1.positive), (Some 1, [],
+    (refl, record { positive = tt; source = codes "main"; is = refl; named = inr short_kind; absent = λ ref word (k, below, is). omega (arith, below) }), refl, refl), refl)

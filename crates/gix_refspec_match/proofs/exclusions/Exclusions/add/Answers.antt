@@ -4,34 +4,29 @@ use Rattle.gix_refspec_match.proofs.lemmas.index.KeyLemmas.{key_of}
 use Rattle.gix_refspec_match.proofs.lemmas.keep.ExclusionLemmas.{Any-push-cases, index_more, name_excludes, pattern_excludes}
 use Rattle.gix_refspec_match.proofs.exclusions.Exclusions.add.Goals as goal
 
-pub returns-in_ok-insert-in-None-clause-names : goal.returns-in_ok-insert-in-None-clause-names
-returns-in_ok-insert-in-None-clause-names c n =
-    let excludes = name_excludes (reading_of c.args.spec) _ (search rules) (sym c.source.ensures ∙ ap (option_map bstr_bytes) c.in-Some.is) (rw c.as_bytes.ensures at c.in-None.ensures) n in
-    let more = index_more (index_of c.args.self.now.names) (index_of c.insert.new.self) c.as_bytes-name.result.now c.args.spec_index (λ q. c.in_ok-insert-in-None.ensures.updates.0 (key_of c.as_bytes-name.result q)) n in
-    grind (arith, excludes, rw c.as_bytes-name.ensures at more.0)
+pub returns-in_ok-insert-in-None : goal.returns-in_ok-insert-in-None
+returns-in_ok-insert-in-None c =
+    let excludes = name_excludes (reading_of c.args.spec) _ (search rules) (sym c.source.ensures ∙ ap (option_map bstr_bytes) c.in-Some.is) (rw c.as_bytes.ensures at c.in-None.ensures) in
+    let more = index_more (index_of c.args.self.now.names) (index_of c.insert.new.self) c.as_bytes-name.result.now c.args.spec_index (λ q. c.in_ok-insert-in-None.ensures.updates.0 (key_of c.as_bytes-name.result q)) in
+    record {
+      names = λ n. grind (arith, excludes n, rw c.as_bytes-name.ensures at (more n).0);
+      indexes = λ n k at. elim at [
+        | inl found ↦ elim ((more n).1 k found) [ inl was ↦ inl (inl was) | inr (same, is) ↦ inr (same, (excludes n).0 (is ∙ c.as_bytes-name.ensures)) ]
+        | inr fitted ↦ inl (inr fitted)
+      ];
+    }
 
-pub returns-in_ok-insert-in-None-clause-indexes : goal.returns-in_ok-insert-in-None-clause-indexes
-returns-in_ok-insert-in-None-clause-indexes c n k at =
-    let excludes = name_excludes (reading_of c.args.spec) _ (search rules) (sym c.source.ensures ∙ ap (option_map bstr_bytes) c.in-Some.is) (rw c.as_bytes.ensures at c.in-None.ensures) n in
-    let more = index_more (index_of c.args.self.now.names) (index_of c.insert.new.self) c.as_bytes-name.result.now c.args.spec_index (λ q. c.in_ok-insert-in-None.ensures.updates.0 (key_of c.as_bytes-name.result q)) n in
-    elim at [ inl found ↦ elim (more.1 k found) [ inl was ↦ inl (inl was) | inr (same, is) ↦ inr (same, excludes.0 (is ∙ c.as_bytes-name.ensures)) ] | inr fitted ↦ inl (inr fitted) ]
-
-pub returns-in_ok-push-in-Some-split_at_first_star-clause-names : goal.returns-in_ok-push-in-Some-split_at_first_star-clause-names
-returns-in_ok-push-in-Some-split_at_first_star-clause-names c n =
+pub returns-in_ok-push-in-Some-split_at_first_star : goal.returns-in_ok-push-in-Some-split_at_first_star
+returns-in_ok-push-in-Some-split_at_first_star c =
     let source = sym c.source.ensures ∙ ap (option_map bstr_bytes) c.in-Some.is in
     let cut = c.in-Some-split_at_first_star in
-    let excludes = pattern_excludes (reading_of c.args.spec) _ _ _ c.args.spec.accepted (search rules) source (sym c.as_bytes.ensures ∙ cut.ensures.0) cut.ensures.1 n in
+    let excludes = pattern_excludes (reading_of c.args.spec) _ _ _ c.args.spec.accepted (search rules) source (sym c.as_bytes.ensures ∙ cut.ensures.0) cut.ensures.1 in
     let p : Pattern = record { before = cut.before; after = cut.after; spec_index = c.args.spec_index } in
-    rw c.in_ok-push-in-Some-split_at_first_star.ensures.items (grind (arith, excludes, Any-push-cases (λ p. FitsName p n) c.args.self.now.patterns.items p))
-
-pub returns-in_ok-push-in-Some-split_at_first_star-clause-indexes : goal.returns-in_ok-push-in-Some-split_at_first_star-clause-indexes
-returns-in_ok-push-in-Some-split_at_first_star-clause-indexes c n k =
-    let source = sym c.source.ensures ∙ ap (option_map bstr_bytes) c.in-Some.is in
-    let cut = c.in-Some-split_at_first_star in
-    let excludes = pattern_excludes (reading_of c.args.spec) _ _ _ c.args.spec.accepted (search rules) source (sym c.as_bytes.ensures ∙ cut.ensures.0) cut.ensures.1 n in
-    let p : Pattern = record { before = cut.before; after = cut.after; spec_index = c.args.spec_index } in
-    let fitted = Any-push-cases (λ q. (q.spec_index ≡ k) × FitsName q n) c.args.self.now.patterns.items p in
-    rw c.in_ok-push-in-Some-split_at_first_star.ensures.items (λ at. elim at [
-      | inl found ↦ inl (inl found)
-      | inr any ↦ elim (fitted.0 any) [ inl was ↦ inl (inr was) | inr (same, fits) ↦ inr (sym same, excludes.0 fits) ]
-    ])
+    record {
+      names = λ n. rw c.in_ok-push-in-Some-split_at_first_star.ensures.items (grind (arith, excludes n, Any-push-cases (λ p. FitsName p n) c.args.self.now.patterns.items p));
+      indexes = λ n k. let fitted = Any-push-cases (λ q. (q.spec_index ≡ k) × FitsName q n) c.args.self.now.patterns.items p in
+          rw c.in_ok-push-in-Some-split_at_first_star.ensures.items (λ at. elim at [
+            | inl found ↦ inl (inl found)
+            | inr any ↦ elim (fitted.0 any) [ inl was ↦ inl (inr was) | inr (same, fits) ↦ inr (sym same, (excludes n).0 fits) ]
+          ]);
+    }
