@@ -24,7 +24,8 @@ tag_first = record { earlier = codes "main" ∷ codes "refs/main" ∷ []; later 
 
 -- so the branch isn't the first, nor is a name that no ref has
 pub no_other_first : ¬ (IsFirstCandidate branch_and_tag (codes "main") (codes "refs/heads/main")) × ¬ (IsFirstCandidate branch_and_tag (codes "main") (codes "main")) × ¬ (IsFirstCandidate [] (codes "main") (codes "refs/tags/main"))
-no_other_first = ((λ first. cc (first_once branch_and_tag _ _ _ tag_first first)), (λ first. grind (arith, first.present)), λ first. first.present)
+no_other_first = ((λ first. cc (first_once branch_and_tag _ _ _ tag_first first)),
+    (λ first. grind (arith, first.present)), λ first. first.present)
 
 pub itself_first : IsFirstCandidate (main_branch ∷ main_tag ∷ just_main ∷ []) (codes "main") (codes "main")
 itself_first = record { earlier = []; later = _; here = refl; absent = tt; present = inr (inr (inl refl)) }
@@ -40,8 +41,10 @@ takes_the_tag = (taken_by_first branch_and_tag _ main_tag short_kind tag_first, 
 
 -- a full name takes what it matches, whatever the refs are, and no side takes what it doesn't match
 pub takes : Takes [] (codes "refs/tags/blob") (named (codes "refs/tags/blob")) None × ((word : Option (List ℕ)) → ¬ (Takes (named (codes "refs/x/main") ∷ []) (codes "main") (named (codes "refs/x/main")) word))
-takes = (record { matches = record { kind = full_name (codes "refs/tags/blob"); of = below_tags; is = (refl, refl) }; first = λ n kind. absurd (kind.2 below_tags.2) },
-    λ word taken. partial_matches.2 word taken.matches)
+takes = (
+  record { matches = record { kind = full_name (codes "refs/tags/blob"); of = below_tags; is = (refl, refl) }; first = λ n kind. absurd (kind.2 below_tags.2) },
+  λ word taken. partial_matches.2 word taken.matches,
+)
 
 -- from the law: a caller with a branch and a tag gets the tag alone, and one with a ref of some candidate gets one
 pub concluded : FirstCandidate (codes "main") branch_and_tag
@@ -71,7 +74,8 @@ x_kind = search (arith, Lacks-tested)
 
 main_hits : AreSpecHits AreForwardEnds (Takes branch_and_tag) branch_and_tag 0 main_to_x (tag_hit ∷ [])
 main_hits = inl (main_ends, search (rules, short_no_id), (None, tag_hit ∷ [], (λ hit is. takes_the_tag.1 is.word is.takes), (Some tag_hit, [],
-    record { word = None; takes = takes_the_tag.0; far = (full_name (codes "refs/x"), x_kind, refl); near = refl; spec = refl; item = refl }, refl, refl), refl))
+    record { word = None; takes = takes_the_tag.0; far = (full_name (codes "refs/x"), x_kind, refl); near = refl; spec = refl; item = refl },
+    refl, refl), refl))
 
 pub not_excluded : (n : List ℕ) → ¬ (IsExcluded (main_to_x ∷ []) n)
 not_excluded n by = grind arith

@@ -18,7 +18,7 @@ stays_first = (search rules, (λ stays. stays.first (inl pairs.0)), (Some tag_to
 -- a source alone is near, of a push too, but not that of a negative spec, nor an id, nor is a destination
 pub forward_ends_of : AreForwardEnds every forward_ends × AreForwardEnds (pushed Normal (Some (codes "refs/x/a")) None) (record { near = codes "refs/x/a"; far = None })
     × ((ends : Ends) → ¬ (AreForwardEnds no_dev ends) × ¬ (AreForwardEnds blob ends) × ¬ (AreForwardEnds (pushed Normal None (Some (codes "a"))) ends)) × ¬ (AreForwardEnds every backward_ends) × ¬ (AreForwardEnds every (record { near = codes "refs/heads/*"; far = None }))
-forward_ends_of = (are_forward_ends, search rules, (λ ends. ((λ are. are.positive), no_blob_ends ends, λ are. none_some ends.near are.near)),
+forward_ends_of = (are_forward_ends, search rules, (λ e. ((λ are. are.positive), no_blob_ends e, λ are. none_some e.near are.near)),
     (λ are. cc (are.near)), λ are. cc (are.far))
 
 abbrev blob_back : Ends
@@ -28,7 +28,7 @@ blob_back = record { near = codes "refs/tags/blob"; far = Some (codes "e69de29bb
 pub backward_ends_of : AreBackwardEnds every backward_ends × AreBackwardEnds (pushed Normal (Some (codes "a")) (Some (codes "b"))) (record { near = codes "b"; far = Some (codes "a") }) × AreBackwardEnds blob blob_back
     × ((ends : Ends) → ¬ (AreBackwardEnds no_dev ends) × ¬ (AreBackwardEnds short ends) × ¬ (AreBackwardEnds (pushed Normal None (Some (codes "a"))) ends) × ¬ (AreBackwardEnds (fetched Negative (codes "a") (Some (codes "b"))) ends)) × ¬ (AreBackwardEnds every forward_ends)
 backward_ends_of = (search rules, search rules, search rules,
-    (λ ends. ((λ are. are.positive), (λ are. none_some ends.near are.near), (λ are. false≢true (rw (← are.far) at are.both)), λ are. are.positive)),
+    (λ e. ((λ are. are.positive), (λ are. none_some e.near are.near), (λ are. false≢true (rw (← are.far) at are.both)), λ are. are.positive)),
     λ are. cc (are.near))
 
 abbrev pub x_side : List ℕ

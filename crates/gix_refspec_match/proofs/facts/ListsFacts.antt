@@ -7,9 +7,6 @@ pub record PlaceOfFive (k x y : ℕ) : Type 0 where
   pub five : x ≡ 5
   pub place : y ≡ k
 
-five_once : (k x y z : ℕ) → PlaceOfFive k x y → PlaceOfFive k x z → y ≡ z
-five_once k x y z one other = one.place ∙ sym other.place
-
 -- what is made of an element is there, and where nothing is, nothing can be made
 pub makes : MakesOf PlaceOfFive 7 5 (Some 7) × ¬ (MakesOf PlaceOfFive 7 5 None) × ¬ (MakesOf PlaceOfFive 7 6 (Some 7)) × MakesOf PlaceOfFive 7 6 None
 makes = (record { five = refl; place = refl }, (λ none. none 7 (record { five = refl; place = refl })), (λ made. omega (arith, made.five)), (λ y made. omega (arith, made.five)))
@@ -19,7 +16,7 @@ pub made : IsMadeFrom PlaceOfFive 7 (5 ∷ 6 ∷ 5 ∷ []) (7 ∷ 9 ∷ [])
 made = (Some 7, 9 ∷ [], makes.0, (None, 9 ∷ [], (λ y other. omega (arith, other.five)), (Some 9, [], record { five = refl; place = refl }, refl, refl), refl), refl)
 
 pub made_alone : (ys : List ℕ) → IsMadeFrom PlaceOfFive 7 (5 ∷ 6 ∷ 5 ∷ []) ys → ys ≡ 7 ∷ 9 ∷ []
-made_alone ys are = made_once PlaceOfFive five_once 7 (5 ∷ 6 ∷ 5 ∷ []) ys (7 ∷ 9 ∷ []) are made
+made_alone ys are = made_once PlaceOfFive (λ k x y z one other. one.place ∙ sym other.place) 7 (5 ∷ 6 ∷ 5 ∷ []) ys (7 ∷ 9 ∷ []) are made
 
 -- of each element its place and itself
 pub record PlaceAndElement (k x : ℕ) (ys : List ℕ) : Type 0 where

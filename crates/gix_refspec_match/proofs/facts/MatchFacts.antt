@@ -164,8 +164,9 @@ asks_for_ids_first =
     record { positive = tt; text = _; bytes = empty_blob; side = refl; object = blob_kind; item = refl; source = refl; destination = (full_name (codes "refs/tags/blob"), below_tags, refl); spec = refl } in
     let takes = taken_by_first (main_ref ∷ []) _ main_ref short_kind (first_of_one _ main_ref main_candidate) in
     let taken : IsHit (Takes (main_ref ∷ [])) ends 0 0 main_ref hit = record { word = None; takes = takes; far = refl; near = refl; spec = refl; item = refl } in
+    let has : AreForwardEnds short ends = search (rules, short_no_id) in
     let hits : AreHits AreForwardEnds (Takes (main_ref ∷ [])) (short ∷ blob ∷ []) (main_ref ∷ []) (hit ∷ []) =
-    (hit ∷ [], [], inl (ends, search (rules, short_no_id), (Some hit, [], taken, refl, refl)), ([], [], inr (no_blob_ends, refl), refl, refl), refl) in
+    (hit ∷ [], [], inl (ends, has, (Some hit, [], taken, refl, refl)), ([], [], inr (no_blob_ends, refl), refl, refl), refl) in
     record {
       all = _;
       forward = record { ids = _; hits = _; are_ids = (None, _, no_main_id 0 short refl, (Some _, [], asks, refl, refl), refl); are_hits = hits; all = refl };

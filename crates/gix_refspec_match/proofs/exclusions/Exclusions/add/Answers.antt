@@ -23,7 +23,8 @@ returns-in_ok-push-in-Some-split_at_first_star c =
     let excludes = pattern_excludes (reading_of c.args.spec) _ _ _ c.args.spec.accepted (search rules) source (sym c.as_bytes.ensures ∙ cut.ensures.0) cut.ensures.1 in
     let p : Pattern = record { before = cut.before; after = cut.after; spec_index = c.args.spec_index } in
     record {
-      names = λ n. rw c.in_ok-push-in-Some-split_at_first_star.ensures.items (grind (arith, excludes n, Any-push-cases (λ p. FitsName p n) c.args.self.now.patterns.items p));
+      names = λ n. rw c.in_ok-push-in-Some-split_at_first_star.ensures.items
+          (grind (arith, excludes n, Any-push-cases (λ p. FitsName p n) c.args.self.now.patterns.items p));
       indexes = λ n k. let fitted = Any-push-cases (λ q. (q.spec_index ≡ k) × FitsName q n) c.args.self.now.patterns.items p in
           rw c.in_ok-push-in-Some-split_at_first_star.ensures.items (λ at. elim at [
             | inl found ↦ inl (inl found)
