@@ -1,8 +1,7 @@
 -- The words on matching at groups like those of git-fetch(1) under `<refspec>`: what is mapped, and what isn't.
-use Rattle.gix_refspec_match.proofs.Common.{List, [], ◌∷◌, None, Some, codes, refl, ◌≡◌, ℕ, ◌++◌, Option, sym, ◌∙◌, arith, inl, inr, ap, append-nil, same_Some, lacks_no_pattern, rules}
-use Rattle.gix_refspec_match.proofs.Common.{first_of_one, taken_by_first, fetched, IsSplit, Ref, Matches, Takes, pattern, object, full_name}
-use Rattle.gix_refspec_match.proofs.Common.{IsCandidate, Negative, Reading, IsMadeFrom, Ends, AreForwardEnds, AreBackwardEnds, Hit, IsHit, AreHits, IsIdMapping, AreBackward, AreForward}
-use Rattle.gix_refspec_match.proofs.Common.{AreKeptForward, AreKeptBackward, name, id, Mapped, IsExcluded, Source, IsSourceExcluded, IsSamePair, HasPair}
+use Rattle.gix_refspec_match.proofs.Common.{List, [], ◌∷◌, None, Some, codes, refl, ◌≡◌, ℕ, ◌++◌, Option, sym, ◌∙◌, arith, inl, inr, ap, append-nil, same_Some, lacks_no_pattern, rules, first_of_one, taken_by_first, fetched}
+use Rattle.gix_refspec_match.proofs.Common.{IsSplit, Ref, Matches, Takes, pattern, object, full_name, IsCandidate, Negative, Reading, IsMadeFrom, Ends, AreForwardEnds, AreBackwardEnds, Hit, IsHit, AreHits, IsIdMapping}
+use Rattle.gix_refspec_match.proofs.Common.{AreBackward, AreForward, AreKeptForward, AreKeptBackward, name, id, Mapped, IsExcluded, Source, IsSourceExcluded, IsSamePair, HasPair}
 use Rattle.gix_refspec_text.proofs.facts.{FaultFacts.begins_not, ManualFacts.Lacks-tested, ManualFacts.named, ObjectIdFacts.empty_blob}
 use Rattle.gix_refspec_match.specs.Matching.Mappings.{AreApart}
 use Rattle.gix_refspec_text.proofs.facts.FitFacts.{excludes_dev, excludes_no_main, every, no_dev, dev_ref, tag_ref, main_ref, heads_split, origin_split, short, blob, below_tags, blob_kind, short_no_id, short_kind}
