@@ -1,5 +1,5 @@
 -- Which items may be left out, what of an item decides, and what a caller concludes from the laws on that.
-use Rattle.gix_refspec.proofs.Common.{covering, not_covering, branch_and_tag, main_branch, main_tag, main_ends, main_to_x, takes_the_tag, named, dev_ref, every, main_ref, no_dev, origin_split, short}
+use Rattle.gix_refspec.proofs.Common.{some_of, covering, not_covering, branch_and_tag, main_branch, main_tag, main_ends, main_to_x, takes_the_tag, named, dev_ref, every, main_ref, no_dev, origin_split, short}
 use Rattle.gix_refspec.proofs.Common.{short_no_id, tag_ref, of_element, push_is_none, are_forward_ends, fetches_all_but_dev, forward_ends, taken_by, takes_no_tag, tracked, tracks_all_but_dev, ◌≡◌}
 use Rattle.gix_refspec.proofs.Common.{◌≢◌, inl, inr, ℕ, zero, suc, List, [], ◌∷◌, None, Some, codes, refl, sym, subst, arith, Bool, true, false, map, filter, Any, Contains, bstr_bytes, false≢true}
 use Rattle.gix_refspec.proofs.Common.{Item, head, Normal, Reading, fetched, pushed, pattern, Ref, Matches, Takes, name, Mapped, HasPair, AreForwardEnds, AreBackwardEnds, AreKeptForward}
@@ -14,11 +14,8 @@ use Rattle.gix_refspec_match.proofs.lemmas.hits.HitLemmas.{matches_as}
 abbrev branches : List Ref
 branches = main_ref ∷ dev_ref ∷ []
 
-branches_part : ArePart remote_refs branches
-branches_part item = search rules
-
 pub parts : ArePart remote_refs branches × ¬ (ArePart (dev_ref ∷ []) branches) × ¬ (ArePart [] (main_ref ∷ []))
-parts = (branches_part, (λ part. let there : Contains (dev_ref ∷ []) main_ref = part main_ref (search rules) in search rules), λ part. of_element (λ r. ⊥) [] main_ref tt (search rules))
+parts = ((λ item. search rules), (λ part. let there : Contains (dev_ref ∷ []) main_ref = part main_ref (search rules) in search rules), λ part. of_element (λ r. ⊥) [] main_ref tt (search rules))
 
 main_alone : ¬ (Contains (main_ref ∷ []) dev_ref)
 main_alone has = search rules
@@ -35,9 +32,7 @@ taken = (
 )
 
 no_tag_by_some : ¬ (Any (TakesItem AreForwardEnds (Takes remote_refs) tag_ref) group)
-no_tag_by_some (zero, r, below, is, by) = taken.1 (rw (← is) at by)
-no_tag_by_some (suc zero, r, below, is, by) = (subst (TakesItem AreForwardEnds (Takes remote_refs) tag_ref) (sym is) by).has.positive
-no_tag_by_some (suc (suc k), r, below, is, by) = omega (arith, below)
+no_tag_by_some some = by_cases (some_of _ group some) taken.1 (λ negative. search rules)
 
 -- so the tag may be left out; but of a branch and a tag with the same name a partial source takes the tag, which may not
 pub may_leave_out : HasTaken AreForwardEnds (Takes remote_refs) group remote_refs branches × ¬ (HasTaken AreForwardEnds (Takes branch_and_tag) (main_to_x ∷ []) branch_and_tag (main_branch ∷ []))
@@ -52,7 +47,7 @@ same_pairs = ((λ pair. search rules), (λ same. (same (tracked 2 (codes "main")
 -- by the law the branch is mapped over the branches alone, and the excluded one isn't
 pub mapped_still : FewerItems group remote_refs branches → (fewer : List Mapped) → AreKeptForward group branches fewer → HasPair fewer (tracked 7 (codes "main")) × ¬ (HasPair fewer (tracked 0 (codes "dev-a")))
 mapped_still law fewer are =
-    let same = law.forward branches_part may_leave_out.0 (tracked 2 (codes "main") ∷ []) fewer fetches_all_but_dev are in
+    let same = law.forward parts.0 may_leave_out.0 (tracked 2 (codes "main") ∷ []) fewer fetches_all_but_dev are in
     ((same (tracked 7 (codes "main"))).0 (search rules), λ has. by_cases ((same (tracked 0 (codes "dev-a"))).1 has) (λ pair. cc (pair.source)) (λ none. none))
 
 abbrev turned : List Ref
@@ -82,27 +77,18 @@ expanded : AreExpansions group (codes "refs/heads/" ∷ [])
 expanded = (codes "refs/heads/" ∷ [], [], expansion, search rules, refl)
 
 -- the branches are what a server lists for that; it doesn't list fewer, nor refs that aren't there
-branches_listed : AreListedItems group remote_refs branches
-branches_listed = record { entries = codes "refs/heads/" ∷ []; expansions = expanded; part = branches_part; listed = λ item. search rules }
-
-dev_begun : BeginsWithOne (codes "refs/heads/" ∷ []) (codes "refs/heads/dev-a")
-dev_begun = (0, codes "refs/heads/", omega arith, refl, search rules)
-
 pub listed_refs : AreListedItems group remote_refs branches × ¬ (AreListedItems group remote_refs (main_ref ∷ [])) × ¬ (AreListedItems group [] (main_ref ∷ []))
 listed_refs = (
-  branches_listed,
-  (λ are. main_alone (are.listed dev_ref (0, omega arith, refl) (joined_covers _ group 0 are.entries (0, every, omega arith, refl, record { entries = _; expansion = expansion; one = dev_begun }) are.expansions))),
+  record { entries = codes "refs/heads/" ∷ []; expansions = expanded; part = parts.0; listed = λ item. search rules },
+  (λ are. main_alone (are.listed dev_ref (0, omega arith, refl) (joined_covers _ group 0 are.entries (0, every, omega arith, refl, record { entries = _; expansion = expansion; one = search rules }) are.expansions))),
   λ are. parts.2 are.part,
 )
 
 -- so by the law it loses no pair: neither of one spec, nor of all
-main_made : MakesForward remote_refs (name (codes "refs/heads/main")) (Some (codes "refs/remotes/origin/main")) every
-main_made = let hit = taken_by remote_refs 0 2 (codes "main") in record { ends = forward_ends; has = are_forward_ends; one = search rules }
-
 pub none_lost : ListedItems group remote_refs branches → (fewer : List Mapped) → AreKeptForward group branches fewer → HasPair fewer (tracked 7 (codes "main")) × HaveSamePairs (tracked 2 (codes "main") ∷ []) fewer
-none_lost law fewer are = (
-  law.some branches_listed (tracked 2 (codes "main") ∷ []) fewer fetches_all_but_dev are (tracked 7 (codes "main")) (search rules) (0, every, omega arith, refl, (inl every_covering, main_made)),
-  law.all branches_listed (inl every_covering, (inl no_dev_covering, tt)) (tracked 2 (codes "main") ∷ []) fewer fetches_all_but_dev are,
+none_lost law fewer are = let hit = taken_by remote_refs 0 2 (codes "main") in (
+  law.some listed_refs.0 (tracked 2 (codes "main") ∷ []) fewer fetches_all_but_dev are (tracked 7 (codes "main")) (search rules) (0, every, omega arith, refl, (inl every_covering, record { ends = forward_ends; has = are_forward_ends; one = search rules })),
+  law.all listed_refs.0 (inl every_covering, (inl no_dev_covering, tt)) (tracked 2 (codes "main") ∷ []) fewer fetches_all_but_dev are,
 )
 
 pub begun_names : (is_begun (codes "refs/tags/" ∷ codes "refs/heads/" ∷ []) (codes "refs/heads/main") ≡ true) × (is_begun (codes "heads/" ∷ []) (codes "refs/heads/main") ≡ false) × (is_begun [] (codes "refs/heads/main") ≡ false)
@@ -130,15 +116,13 @@ module _ (items some : List Item) where
 
 -- the branches are what a server lists for the ref prefix, and one of two isn't
 pub branches_asked : AreAskedFor (codes "refs/heads/" ∷ []) remote_refs branches × ¬ (AreAskedFor (codes "refs/heads/" ∷ []) remote_refs (main_ref ∷ [])) × ¬ (AreAskedFor [] [] (main_ref ∷ []))
-unfolding branches_listed
-branches_asked = (search rules, (λ are. main_alone (are.asked dev_ref (0, omega arith, refl) dev_begun)), λ are. parts.2 are.part)
+branches_asked = (record { part = parts.0; asked = λ item. search rules }, (λ are. main_alone (are.asked dev_ref (0, omega arith, refl) (search rules))), λ are. parts.2 are.part)
 
 -- so by the law the same pairs are kept, and they can't be lost
 pub asked_for : AskedItems group remote_refs branches → ((fewer : List Mapped) → AreKeptForward group branches fewer → HaveSamePairs (tracked 2 (codes "main") ∷ []) fewer) × ¬ (AreKeptForward group branches [])
-asked_for law = (same, λ are. same_pairs.1 (same [] are))
-  where
-    same : (fewer : List Mapped) → AreKeptForward group branches fewer → HaveSamePairs (tracked 2 (codes "main") ∷ []) fewer
-    same fewer are = law _ (codes "refs/heads/" ∷ [], [], lists_of_specs.0, ([], [], lists_of_specs.1, refl, refl), refl) (refl, (refl, tt)) branches_asked.0 _ fewer fetches_all_but_dev are
+asked_for law =
+    let same = law _ (codes "refs/heads/" ∷ [], [], lists_of_specs.0, ([], [], lists_of_specs.1, refl, refl), refl) (refl, (refl, tt)) branches_asked.0 in
+    ((λ fewer. same _ fewer fetches_all_but_dev), λ are. same_pairs.1 (same _ [] fetches_all_but_dev are))
 
 -- a ref with this name, and other ids than in the example
 abbrev moved : List ℕ → Ref

@@ -1,5 +1,5 @@
 -- What a caller concludes from the laws on kept mappings: whether a pair is kept, and by which spec and item.
-use Rattle.gix_refspec.proofs.Common.{rules, branch_and_tag, main_tag, main_ends, main_to_x, no_tags, no_other_first, not_excluded, tags_excluded, takes_the_tag, x_kind, named, empty_blob, below_tags}
+use Rattle.gix_refspec.proofs.Common.{some_of, by_cases, map, rules, branch_and_tag, main_tag, main_ends, main_to_x, no_tags, no_other_first, not_excluded, tags_excluded, takes_the_tag, x_kind, named, empty_blob, below_tags}
 use Rattle.gix_refspec.proofs.Common.{blob, blob_kind, dev_ref, every, main_ref, no_dev, short_kind, tag_ref, blob_mapping, dev_excluded, main_stays, mapping, maps_all, only_dev, tracked, tracks_all}
 use Rattle.gix_refspec.proofs.Common.{◌≡◌, inl, inr, ℕ, zero, suc, List, [], ◌∷◌, ◌++◌, Option, None, Some, codes, refl, sym, ap, ◌∙◌, subst, arith, AllByRecursion, Any, Contains, slice_get, partial}
 use Rattle.gix_refspec.proofs.Common.{full_name, Ref, IsFirstCandidate, name, Mapped, HasPair, IsExcluded, AreKeptForward, AreKeptBackward, MakesForward, MakesBackward, PairsId, KeptExactly}
@@ -18,8 +18,7 @@ abbrev branch_pair : Mapped
 branch_pair = mapping 0 (codes "refs/heads/main") (Some (codes "refs/x")) 0
 
 pub of_one : {X : Type 0} (P : X → Type 0) (x : X) → Any P (x ∷ []) → P x
-of_one P x (zero, y, below, is, holds) = subst P (sym is) holds
-of_one P x (suc at, y, below, is, holds) = absurd (omega (arith, below))
+of_one P x some = by_cases (some_of P (x ∷ []) some) (λ holds. holds) (λ none. absurd none)
 
 -- what holds of the spec at an index holds of the one that stands there
 pub at_spec : (g : List Reading) (k : ℕ) (P : Reading → Type 0) (r : Reading) → slice_get g k ≡ Some r → (q : Reading) × (slice_get g k ≡ Some q) × P q → P r
@@ -41,8 +40,7 @@ tag_made =
       record { ends = main_ends; has = has; one = (1, main_tag, omega arith, refl, paired) },
       λ made.
       let (at, item, below, is, paired) = made.one in
-      let near : codes "main" ≡ made.ends.near = same_Some (codes "main") made.ends.near made.has.near in
-      let first : IsFirstCandidate branch_and_tag (codes "main") item.name = paired.takes.first (codes "main") (rw (← near) short_kind) in
+      let first : IsFirstCandidate branch_and_tag (codes "main") item.name = paired.takes.first (codes "main") (rw (← same_Some _ _ made.has.near) short_kind) in
       no_other_first.0 (search rules),
     )
 
@@ -96,14 +94,10 @@ remote_refs = dev_ref ∷ tag_ref ∷ main_ref ∷ main_ref ∷ []
 abbrev mapped : List Mapped
 mapped = tracked 0 (codes "dev-a") ∷ tracked 2 (codes "main") ∷ tracked 3 (codes "main") ∷ []
 
-abbrev index_in : Option ℕ → ℕ
-index_in None = 0
-index_in (Some index) = index
-
 -- the duplicate has the same pair, and so isn't the first
 no_first : (before after : List Mapped) → mapped ≡ before ++ (tracked 3 (codes "main") ∷ after) → ¬ (HasPair before (tracked 3 (codes "main"))) → ⊥
-no_first [] after here new = let same : tracked 0 (codes "dev-a") ≡ tracked 3 (codes "main") = cc in let indexes : 0 ≡ 3 = ap (λ (m : Mapped). index_in m.item) same in search rules
-no_first (x ∷ []) after here new = let same : tracked 2 (codes "main") ≡ tracked 3 (codes "main") = cc in let indexes : 2 ≡ 3 = ap (λ (m : Mapped). index_in m.item) same in search rules
+no_first [] after here new = let items = ap (map (λ (m : Mapped). m.item)) here in cc
+no_first (x ∷ []) after here new = let items = ap (map (λ (m : Mapped). m.item)) here in cc
 no_first (x ∷ y ∷ before) after here new = let same : y ≡ tracked 2 (codes "main") = cc in search rules
 
 -- by the law the first mapping of the branch is kept, with its index, and neither its duplicate nor the excluded branch
@@ -148,11 +142,8 @@ pub not_of_others : MadeAtIndexes group remote_refs → (rest : List Mapped) →
     × ¬ (AreKeptForward group remote_refs (tracked 1 (codes "main") ∷ rest))
 not_of_others law rest = (
   (λ are. (at_spec group 1 _ no_dev refl (law.forward _ are).0).has.positive),
-  λ are. taken_tag (at_spec group 0 _ every refl (law.forward _ are).0),
+  λ are. let taken = at_spec group 0 _ every refl (law.forward _ are).0 in search rules,
 )
-  where
-    taken_tag : ¬ (MakesForwardOf remote_refs (Some 1) (name (codes "refs/heads/main")) (Some (codes "refs/remotes/origin/main")) every)
-    taken_tag taken = search rules
 
 pub not_of_negative_back : (items : List Ref) → MadeAtIndexes group items → (rest : List Mapped) → ¬ (AreKeptBackward group items (mapping 0 (codes "refs/heads/main") (Some (codes "refs/remotes/origin/main")) 1 ∷ rest))
 not_of_negative_back items law rest are = (at_spec group 1 _ no_dev refl (law.backward _ are).0).has.positive
@@ -171,7 +162,4 @@ pub named_remains : (g : List Reading) → RemainsExactly g (kept ∷ to_bad ∷
 named_remains g law rest out keeps = ((law.named rest out keeps kept).1 ((0, omega arith, refl), sides.0), λ has. no_ref_names.2 ((law.named rest out keeps to_bad).0 has).1.destination)
 
 pub none_new : (g : List Reading) → RemainsExactly g [] → (rest : List Mapped) (out : List LeftOut) (fixes : List Removed) → (IsValidated g [] rest fixes → ¬ (Contains rest kept)) × (KeepsRefNames [] rest out → ¬ (Contains rest kept))
-none_new g law rest out fixes = (
-  (λ valid has. of_element (λ m. ⊥) [] kept tt ((law.validated rest fixes valid kept).0 has).0),
-  λ keeps has. of_element (λ m. ⊥) [] kept tt ((law.named rest out keeps kept).0 has).0,
-)
+none_new g law rest out fixes = ((λ valid has. search (rules, (law.validated rest fixes valid kept).0 has)), λ keeps has. search (rules, (law.named rest out keeps kept).0 has))

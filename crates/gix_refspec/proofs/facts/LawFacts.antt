@@ -15,7 +15,7 @@ use Rattle.gix_refspec.proofs.facts.KeptFacts.{at_spec, group, remote_refs, trac
 use Rattle.gix_refspec_text.{specs.Texts.PatternError.IsPatternFault, specs.declared.name.PatternError.PatternError, specs.declared.name.PatternError.TheVariants.Name}
 use Rattle.gix_refspec_text.{specs.declared.name.Error.Error as NameError, specs.declared.oid.Error.Error as IdError, specs.declared.oid.Error.TheVariants.Length}
 use Rattle.gix_refspec_text.{proofs.lemmas.texts.TextLemmas.Lacks-ContainsText, proofs.lemmas.texts.TestedLemmas.IsName-tested, proofs.lemmas.hits.MatchLemmas.outside_none}
-use Rattle.gix_refspec_text.{proofs.facts.UnreadFacts.unbalanced_fetches}
+use Rattle.gix_refspec_text.{proofs.facts.UnreadFacts.unbalanced_fetches, proofs.facts.GrammarFacts.fetches_main}
 use Rattle.gix_refspec.{specs.Laws.Reasons.ReasonRefuses, proofs.facts.ValidationFacts.both_to_x, proofs.facts.ValidationFacts.foo_fix, proofs.facts.ValidationFacts.validated}
 use Rattle.gix_refspec.proofs.facts.ValidationFacts.{unequal}
 
@@ -28,12 +28,9 @@ go_both_ways = ((λ p s d e f. search rules), (λ p s d e f. search rules), (λ 
 
 pub go_one_way : ¬ (GoesBothWays (fetched Normal (codes "main") (Some (codes "refs/x/main")))) × ¬ (GoesBothWays (fetched Normal (codes "refs/heads/a") (Some (codes "b"))))
 go_one_way = (
-  (λ goes. by_cases (goes tt (codes "main") (codes "refs/x/main") refl refl) (λ stars. no_star (codes "main") refl stars.0) (λ below. cc (below.0.here))),
-  λ goes. by_cases (goes tt (codes "refs/heads/a") (codes "b") refl refl) (λ stars. no_star (codes "b") refl stars.1) (λ below. cc (below.1.here)),
+  (λ goes. by_cases (goes tt (codes "main") (codes "refs/x/main") refl refl) (λ stars. search (rules, Lacks-ContainsText, Lacks-tested)) (λ below. cc (below.0.here))),
+  λ goes. by_cases (goes tt (codes "refs/heads/a") (codes "b") refl refl) (λ stars. search (rules, Lacks-ContainsText, Lacks-tested)) (λ below. cc (below.1.here)),
 )
-  where
-    no_star : (x : List ℕ) → list_any (λ c. c == star) x ≡ false → ¬ (HasStar x)
-    no_star x none = Lacks-ContainsText star x (Lacks-tested star x none)
 
 pub among : IsSourceAmong (named (codes "a") ∷ named (codes "b") ∷ []) (name (codes "b")) × ¬ (IsSourceAmong (named (codes "a") ∷ []) (id (codes "a"))) × IsDestinationAmong (named (codes "a") ∷ []) (Some (codes "a")) × ¬ (IsDestinationAmong (named (codes "a") ∷ []) None) × ¬ (HasName (named (codes "a") ∷ []) (codes "aa"))
 among = (inr (inl refl), (λ none. none), inl refl, (λ none. none), λ has. search rules)
@@ -46,11 +43,7 @@ looked_up law = (
 
 -- the canonical text of a forced fetch without a destination reads as one that isn't forced, as does that of one that isn't
 pub reads_unforced : ReadsAgainAs forced short × ReadsAgainAs short short
-reads_unforced =
-    let s = codes "main" in
-    let parts : AreParts Normal s None s = record { signed = no_sign 109 (codes "ain") refl refl; last = Lacks-tested colon s refl } in
-    let reads = fetches Normal s refl tt (inl parts) (IsName-tested s refl) refl in
-    search rules
+reads_unforced = let reads = fetches_main.0 in search rules
 
 -- and not as a forced one, nor does a push read as anything again
 pub not_again : ¬ (ReadsAgainAs forced forced) × ((s d : Option (List ℕ)) (q : Reading) → ¬ (ReadsAgainAs (pushed Normal s d) q))
@@ -83,9 +76,6 @@ pub equals_mapped : EqualGroups (forced ∷ []) (short ∷ []) (main_ref ∷ [])
     → (AreKeptForward (forced ∷ []) (main_ref ∷ []) kept → AreKeptForward (short ∷ []) (main_ref ∷ []) kept) × AreKeptBackward (forced ∷ []) (main_ref ∷ []) []
 equals_mapped law kept = let alike = law (same_fetches.0, tt) in ((alike.forward kept).0, (alike.backward []).1 tracks_nothing)
 
-main_not_head : codes "main" ≢ codes "HEAD"
-main_not_head same = unequal same refl
-
 pub begins_with_one : BeginsWithOne (codes "refs/tags/" ∷ codes "refs/heads/" ∷ []) (codes "refs/heads/main") × ¬ (BeginsWithOne (codes "heads/" ∷ []) (codes "refs/heads/main"))
 begins_with_one = (search rules, λ begins. search rules)
 
@@ -95,8 +85,8 @@ expansion = inl (codes "refs/heads/*", search rules, to_prefix (codes "refs/head
 -- the expansions of the specs of a group, one after the other; that of a negative spec is empty
 pub expanded : AreExpansions (every ∷ no_dev ∷ short ∷ []) (codes "refs/heads/" ∷ candidates (codes "main"))
 expanded =
-    let of_short = inl (codes "main", record { positive = tt; side = refl }, to_candidates (outside_none (codes "main") main_not_head short_kind.2) short_kind.2 short_kind.3 refl) in
-    (codes "refs/heads/" ∷ [], candidates (codes "main"), expansion, ([], candidates (codes "main"), search rules, (candidates (codes "main"), [], of_short, refl, refl), refl), refl)
+    let candidates_of = to_candidates (outside_none (codes "main") (λ same. unequal same refl) short_kind.2) short_kind.2 short_kind.3 refl in
+    (_, _, expansion, ([], _, search rules, (_, [], inl (codes "main", record { positive = tt; side = refl }, candidates_of), refl, refl), refl), refl)
 
 pub every_covering : HasCoveringSource every
 every_covering = record { fetch = refl; source = λ x asked. rw (← same_Some (codes "refs/heads/*") x asked.side) covering.0 }
@@ -133,13 +123,15 @@ each_source P each = at_spec group 0 (λ r. P r (codes "refs/heads/main")) every
 pub no_tag_source : OneForward group remote_refs → EachSource group remote_refs (λ r n. (r ≡ every) × (n ≡ codes "refs/heads/main"))
 no_tag_source law kept are = rw (law kept (tracked 2 (codes "main") ∷ []) are fetches_all_but_dev) (search rules)
 
+pub one_below : OnePrefix (codes "refs/heads/*") → ((p : List ℕ) → IsPrefix (codes "refs/heads/*") p → p ≡ codes "refs/heads/") × ((list : List (List ℕ)) → Expands (codes "refs/heads/*") list → list ≡ codes "refs/heads/" ∷ [])
+one_below law = ((λ p prefix. law.prefix p _ prefix below_heads), λ list expands. law.expanded list _ expands (to_prefix (codes "refs/heads/") below_heads refl))
+
 -- a name that begins with no entry of the expansion of a spec isn't covered by it
 pub not_covered : OnePrefix (codes "refs/heads/*") → ¬ (IsCoveredBy (codes "refs/tags/v1") every) × ¬ (IsCoveredBy (codes "refs/heads/dev-a") no_dev)
 not_covered law = (
   (λ covers. by_cases covers.expansion
       (λ (x, asked, expands).
-      let of_source = rw (← same_Some (codes "refs/heads/*") x asked.side) at expands in
-      let same = law.expanded covers.entries (codes "refs/heads/" ∷ []) of_source (to_prefix (codes "refs/heads/") below_heads refl) in
+      let same = (one_below law).1 covers.entries (rw (← same_Some (codes "refs/heads/*") x asked.side) at expands) in
       begins_not (codes "refs/heads/") (codes "refs/tags/v1") refl (search rules))
       (λ (none, same). search rules)),
   λ covers. search rules,
@@ -157,16 +149,13 @@ validated_apart law = law _ _ (foo_fix ∷ []) validated
 pub fits : (ForwardFits group remote_refs → IndexesFit group (tracked 2 (codes "main") ∷ [])) × ((g : List Reading) (items : List Ref) (m n : Mapped) → ForwardFits g items → AreKeptForward g items (m ∷ n ∷ []) → n.spec < length g)
 fits = ((λ law. law _ fetches_all_but_dev), λ g items m n law kept. (law _ kept).1.0)
 
--- a ref that a pattern matches begins with the prefix of the pattern, which is its only prefix and expansion
+-- a ref that a pattern matches begins with the prefix of the pattern
 pub begins_below : PrefixBegins (codes "refs/heads/*") → (r : Ref) (word : Option (List ℕ)) → Matches (codes "refs/heads/*") r word → BeginsWith (codes "refs/heads/") r.name
 begins_below law r word matches = law (codes "refs/heads/") r word below_heads (λ same. cc) matches
 
-pub one_below : OnePrefix (codes "refs/heads/*") → ((p : List ℕ) → IsPrefix (codes "refs/heads/*") p → p ≡ codes "refs/heads/") × ((list : List (List ℕ)) → Expands (codes "refs/heads/*") list → list ≡ codes "refs/heads/" ∷ [])
-one_below law = ((λ p prefix. law.prefix p _ prefix below_heads), λ list expands. law.expanded list _ expands (to_prefix (codes "refs/heads/") below_heads refl))
-
 -- a partial name is expanded to its candidates and nothing else, and matches each. Over one ref it takes each
 pub candidates_asked : Candidates (codes "main") → Expands (codes "main") (candidates (codes "main")) × ((list : List (List ℕ)) → Expands (codes "main") list → list ≡ candidates (codes "main")) × ((r : Ref) → IsCandidate (codes "main") r.name → ((word : Option (List ℕ)) × Matches (codes "main") r word) × ((word : Option (List ℕ)) × Takes (r ∷ []) (codes "main") r word))
-candidates_asked law = let all = law short_kind.1 main_not_head short_kind.2 short_kind.3 in (all.expands, all.only, λ r one. ((all.matches r).1 one, (all.takes r).1 one))
+candidates_asked law = let all = law short_kind.1 (λ same. unequal same refl) short_kind.2 short_kind.3 in (all.expands, all.only, λ r one. ((all.matches r).1 one, (all.takes r).1 one))
 
 pub matched_asked : HasCandidates (codes "main") → (r : Ref) (word : Option (List ℕ)) → Matches (codes "main") r word ⊎ Takes (r ∷ []) (codes "main") r word → IsCandidate (codes "main") r.name
 matched_asked law r word by = by_cases by (λ matches. (law.matches r).0 (word, matches)) (λ takes. (law.takes r).0 (word, takes))

@@ -34,9 +34,7 @@ pub unequal : {x y : List ℕ} → x ≡ y → bytes_eq x y ≡ false → ⊥
 unequal {x} {y} same other = false≢true (search rules)
 
 at_x_or_y : (d : List ℕ) (m : Mapped) → Contains meeting m → m.destination ≡ Some d → (d ≡ codes "refs/x/a") ⊎ (m ≡ branch_to_y)
-at_x_or_y d m has to =
-    by_cases (of_element (λ n. (n.destination ≡ Some (codes "refs/x/a")) ⊎ (n ≡ branch_to_y)) meeting m (search rules) has)
-    (λ x. search rules) (λ y. inr y)
+at_x_or_y d m has to = let from = of_element (λ n. (n.destination ≡ Some (codes "refs/x/a")) ⊎ (n ≡ branch_to_y)) meeting m (search rules) has in search rules
 
 pub only_x : (d : List ℕ) → HasConflictAt meeting d → d ≡ codes "refs/x/a"
 only_x d contested = by_cases (at_x_or_y d contested.one contested.has_one contested.one_to) (λ x. x) (λ y. search rules)
@@ -48,25 +46,17 @@ firsts : IsFirstTo (codes "refs/x/a") meeting 1 tag_to_x × IsFirstTo (codes "re
 firsts = (search rules, search rules, λ k first. search rules)
 
 of_firsts : {Y : Type 0} (Q : Mapped → Y → Type 0) (y z : Y) → Q tag_to_x y → Q branch_to_x z → IsMadeFrom (λ k m made. IsFirstTo (codes "refs/x/a") meeting k m × Q m made) 0 meeting (y ∷ z ∷ [])
-of_firsts Q y z of_tag of_branch = (
-  None,
-  y ∷ z ∷ [],
-  (λ made is. firsts.2 0 is.0),
-  (Some y, z ∷ [], (firsts.0, of_tag), (Some z, [], (firsts.1, of_branch), search rules, refl), refl),
-  refl,
-)
+of_firsts Q y z tag branch =
+    (None, _, (λ made is. firsts.2 0 is.0), (Some y, _, (firsts.0, tag), (Some z, [], (firsts.1, branch), search rules, refl), refl), refl)
 
 pub conflicts_at_x : AreConflicts both_to_x meeting (conflict ∷ [])
 unfolding IsStrictlySortedBy
 conflicts_at_x = record {
-  each = (
-    record {
-      contested = at_x;
-      sources = of_firsts (λ m source. source ≡ m.source) _ _ refl refl;
-      texts = of_firsts (λ m text. IsTextAt both_to_x m.spec text) _ _ (tags_to_x, refl, refl) (heads_to_x, refl, refl);
-    },
-    tt,
-  );
+  each = (record {
+    contested = at_x;
+    sources = of_firsts (λ m source. source ≡ m.source) _ _ refl refl;
+    texts = of_firsts (λ m text. IsTextAt both_to_x m.spec text) _ _ (tags_to_x, refl, refl) (heads_to_x, refl, refl);
+  }, tt);
   every = λ d contested. search rules;
   order = (tt, tt);
 }
@@ -75,14 +65,10 @@ conflicts_at_x = record {
 pub no_conflict : (c : Conflict) → c.destination ≡ codes "refs/x/b" → ¬ (IsConflict both_to_x meeting c)
 no_conflict c is conflicts = unequal (sym is ∙ only_x c.destination conflicts.contested) refl
 
-one_tag : (l : List Mapped) → AllByRecursion (λ n. n.source ≡ name (codes "refs/tags/a")) l → DestinationsHaveOneSource l
-one_tag l all m n d has_m has_n to_m to_n = of_element _ l m all has_m ∙ sym (of_element _ l n all has_n)
-
-unmet : (l : List Mapped) → AllByRecursion (λ n. n.source ≡ name (codes "refs/tags/a")) l → (d : List ℕ) → ¬ (HasConflictAt l d)
-unmet l all d at = at.differ (one_tag l all at.one at.other d at.has_one at.has_other at.one_to at.other_to)
-
 pub one_source : (d : List ℕ) → ¬ (HasConflictAt (tag_to_x ∷ tag_to_foo ∷ tag_alone ∷ tag_again ∷ []) d)
-one_source = unmet _ (search rules)
+one_source d at =
+    let each = λ (m : Mapped). of_element (λ n. n.source ≡ name (codes "refs/tags/a")) (tag_to_x ∷ tag_to_foo ∷ tag_alone ∷ tag_again ∷ []) m (search rules) in
+    at.differ (each at.one at.has_one ∙ sym (each at.other at.has_other))
 
 pub rising : (g : List Reading) (l : List Mapped) (c d : Conflict) → c.destination ≡ codes "refs/x/b" → d.destination ≡ codes "refs/x/aa" → ¬ (AreConflicts g l (c ∷ d ∷ [])) × ¬ (AreConflicts g l (c ∷ c ∷ []))
 unfolding IsStrictlySortedBy
@@ -131,10 +117,9 @@ pub texts_at : IsTextAt both_to_x 0 (codes "refs/tags/*:refs/x/*") × IsTextAt (
 texts_at = ((tags_to_x, refl, refl), (fetched Forced (codes "main") None, refl, refl), (λ (r, is, prints). search rules), λ text (r, is, prints). cc)
 
 pub no_less : ¬ (AreConflicts both_to_x meeting []) × ((rest : List Mapped) (fixes : List Removed) → ¬ (IsValidated both_to_x meeting rest fixes))
-no_less = (listed, λ rest fixes is. listed is.free)
-  where
-    listed : ¬ (AreConflicts both_to_x meeting [])
-    listed are = of_element (λ d. ⊥) [] _ tt (are.every (codes "refs/x/a") at_x)
+no_less =
+    let listed : ¬ (AreConflicts both_to_x meeting []) = λ are. of_element (λ d. ⊥) [] _ tt (are.every (codes "refs/x/a") at_x) in
+    (listed, λ rest fixes is. listed is.free)
 
 pub survivors : Survives tag_alone × Survives tag_to_x × ¬ (Survives tag_to_foo) × ¬ (AreSurvivors (tag_to_foo ∷ []) (tag_to_foo ∷ [])) × ¬ (AreSurvivors (tag_alone ∷ []) [])
 survivors = (tt, x_writable, writable.4, (λ are. search rules), λ are. search rules)
