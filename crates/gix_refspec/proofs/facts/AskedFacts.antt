@@ -1,23 +1,15 @@
 -- Examples of ref prefixes, for sides and groups like those of git-fetch(1), and what a caller concludes from them.
-use Rattle.gix_refspec.proofs.Common.{begins_not, blob_kind, every, no_dev, short_kind, mapping, inl, inr, ℕ, List, [], ◌∷◌, ◌++◌, None, Some, codes, refl, arith, BeginsWith, Normal, fetched, pushed}
-use Rattle.gix_refspec.proofs.Common.{pattern, partial, full_name, object, HasKind, candidates, IsRefPrefix, Ref, Mapped, AreKeptForward, HasNoList, Lists, ListsGroup, ListsSide, Serves, by_cases}
-use Rattle.gix_refspec.proofs.Common.{rules, same_Some}
-use Rattle.gix_refspec_text.proofs.{facts.PrefixFacts.bracket_split, facts.PrefixFacts.suffix_split, facts.PrefixFacts.tells}
-use Rattle.gix_refspec.proofs.{lemmas.prefixes.AskedLemmas.no_list, facts.KeptFacts.of_one}
+use Rattle.gix_refspec.proofs.Common.{begins_not, blob_kind, every, no_dev, short_kind, mapping, inl, inr, ℕ, List, [], ◌∷◌, ◌++◌, None, Some, codes, refl, arith, BeginsWith, Normal, fetched}
+use Rattle.gix_refspec.proofs.Common.{pushed, pattern, partial, full_name, object, candidates, Ref, Mapped, AreKeptForward, HasNoList, Lists, ListsGroup, ListsSide, Serves, by_cases, rules}
+use Rattle.gix_refspec_text.proofs.facts.PrefixFacts.{bracket_split, suffix_split, tells}
+use Rattle.gix_refspec.{proofs.Common.same_Some, proofs.lemmas.prefixes.AskedLemmas.no_list, proofs.facts.KeptFacts.of_one}
 
-below_heads : IsRefPrefix (codes "refs/heads/") []
-below_heads = record { below = search rules; further = λ same. cc; first = search rules; last = tt }
-
-head_kind : HasKind (codes "HEAD") (partial (codes "HEAD"))
-head_kind = (refl, search rules, (λ begins. cc (begins.here)), (λ is. search rules))
-
--- the list of a pattern is its prefix, that of a partial name and of `HEAD` their candidates, that of an id is empty,
--- and that of a full name is the name alone
+-- the list of a pattern is its prefix, that of a partial name and `HEAD` their candidates, that of a full name itself, and that of an id empty
 pub lists_of_sides : ListsSide (codes "refs/heads/*") (codes "refs/heads/" ∷ []) × ListsSide (codes "main") (candidates (codes "main")) × ListsSide (codes "HEAD") (candidates (codes "HEAD")) × ListsSide (codes "e69de29bb2d1d6434b8b29ae775ad8c2e48c5391") [] × ListsSide (codes "refs/heads/main") (codes "refs/heads/main" ∷ [])
 lists_of_sides = (
-  record { kind = pattern (codes "refs/heads/") []; of = search rules; is = (below_heads, refl) },
+  record { kind = pattern (codes "refs/heads/") []; of = search rules; is = (record { below = search rules; further = λ same. cc; first = search rules; last = tt }, refl) },
   record { kind = partial (codes "main"); of = short_kind; is = refl },
-  record { kind = partial (codes "HEAD"); of = head_kind; is = refl },
+  record { kind = partial (codes "HEAD"); of = (refl, search rules, (λ begins. cc (begins.here)), λ is. search rules); is = refl },
   record { kind = object _; of = blob_kind; is = refl },
   record { kind = full_name _; of = search rules; is = refl },
 )

@@ -1,19 +1,16 @@
 -- The plain data of names, items, mappings, groups and issues whose fields differ: none is lost or taken for another.
 use Rattle.gix_refspec.proofs.Common.{mapping, empty_blob, lower_of-empty_blob, Option, ◌≡◌, ◌≢◌, ℕ, List, [], ◌∷◌, ◌++◌, None, Some, true, false, map, filter, option_map, replicate, Vec, Global}
 use Rattle.gix_refspec.proofs.Common.{codes, refl, sym, ap, ◌∙◌, BString, bstring_bytes, Item, Mapping, MatchGroup, NameRef, Borrowed, Owned, SourceRef, Fix, MappingWithPartialDestinationRemoved}
-use Rattle.gix_refspec.proofs.Common.{Issue, Sha1, Push, Fetch, RefSpecRef, Normal, Forced, fetched, pushed, reading_of, name, id, Conflict, name_bytes, start_of, mapped_of, ref_of, text_of_source}
-use Rattle.gix_refspec.proofs.Common.{readings_of, is_for, is_same_operation, IsGathered, ForwardOutcome, mappings_of, conflict_of, conflicts_of, removed_of, IsSameFix, IfConflicts, IfMemory, tracked}
-use Rattle.gix_refspec.proofs.Common.{fetches_all_but_dev, tracks_all_but_dev, Outcome, AreForward, AreBackward, AreKeptForward, AreKeptBackward, IsOutcome, Maps}
-use Rattle.gix_refspec_text.proofs.facts.ViewFacts.{lent, Accepted, spec_of, owned_of, blob_id}
-use Rattle.gix_refspec_match.{specs.declared.types.SourceRef.TheVariants.FullName, specs.declared.types.SourceRef.TheVariants.ObjectId as IdSource, proofs.lemmas.hits.HitLemmas.one_forward}
-use Rattle.gix_refspec_match.{proofs.lemmas.hits.HitLemmas.one_backward}
-use Rattle.gix_refspec.{specs.declared.match_group.validate.Error.Error, specs.declared.match_group.validate.Refusal.TheVariants.Conflicts}
-use Rattle.gix_refspec.{specs.declared.match_group.validate.Refusal.TheVariants.Memory, proofs.facts.KeptFacts.group, proofs.facts.KeptFacts.remote_refs, proofs.facts.KeptFacts.tracking_refs}
-use Rattle.std.specs.{Char.encode_utf8, Iterator.YieldsFirst, Iterator.Drains}
-use Rattle.bstr.specs.Utf8.{pieces_from}
-use Rattle.gix_refspec_text.specs.declared.{oid.ObjectId.ObjectId, spec.RefSpec.accepted-type}
-use Rattle.gix_refspec.specs.declared.match_group.validate.Issue.TheVariants as issue
+use Rattle.gix_refspec.proofs.Common.{Issue, Sha1, Push, Fetch, RefSpecRef, Normal, Forced, fetched, pushed, reading_of, name, id, Conflict, name_bytes, start_of, mapped_of, ref_of}
+use Rattle.gix_refspec.proofs.Common.{text_of_source, readings_of, is_for, is_same_operation, IsGathered, ForwardOutcome, mappings_of, conflict_of, conflicts_of, removed_of, IsSameFix}
+use Rattle.gix_refspec_text.{proofs.facts.ViewFacts.{lent, Accepted, spec_of, owned_of, blob_id}, specs.declared.oid.ObjectId.ObjectId, specs.declared.spec.RefSpec.accepted-type}
 use Rattle.gix_refspec_text.specs.declared.types.Mode.TheVariants as mode
+use Rattle.gix_refspec_match.{specs.declared.types.SourceRef.TheVariants.{FullName, ObjectId as IdSource}, proofs.lemmas.hits.HitLemmas.{one_forward, one_backward}}
+use Rattle.gix_refspec.proofs.Common.{IfConflicts, IfMemory, tracked, fetches_all_but_dev, tracks_all_but_dev, Outcome, AreForward, AreBackward, AreKeptForward, AreKeptBackward, IsOutcome, Maps}
+use Rattle.gix_refspec.{specs.declared.match_group.validate.Error.Error, specs.declared.match_group.validate.Refusal.TheVariants.{Conflicts, Memory}}
+use Rattle.gix_refspec.{proofs.facts.KeptFacts.{group, remote_refs, tracking_refs}, specs.declared.match_group.validate.Issue.TheVariants.Conflict as ConflictIssue}
+use Rattle.std.{specs.Char.encode_utf8, specs.Iterator.{YieldsFirst, Drains}}
+use Rattle.bstr.specs.Utf8.{pieces_from}
 
 abbrev lent_name : List ℕ → NameRef
 lent_name x = Borrowed (lent x)
@@ -31,14 +28,11 @@ pub printed_sources : (text_of_source (IdSource blob_id) ≡ codes "e69de29bb2d1
 unfolding pieces_from encode_utf8
 printed_sources = (lower_of-empty_blob, refl, refl)
 
-abbrev tag_id : ObjectId
-tag_id = record { kind = Sha1; buffer = replicate 32 1 }
-
 abbrev item_of : ObjectId → Option ObjectId → Item
 item_of target object = record { full_ref_name = lent (codes "refs/tags/v1"); target = record { ref_ptr = (0, 0); now = target }; object = option_map (λ o. record { ref_ptr = (0, 0); now = o }) object }
 
 -- the object of a tag isn't its target, and may be missing
-pub items_seen : (ref_of (item_of tag_id (Some blob_id)) ≡ record { name = codes "refs/tags/v1"; target = replicate 20 1; object = Some empty_blob }) × (ref_of (item_of blob_id None) ≡ record { name = codes "refs/tags/v1"; target = empty_blob; object = None })
+pub items_seen : (ref_of (item_of (record { kind = Sha1; buffer = replicate 32 1 }) (Some blob_id)) ≡ record { name = codes "refs/tags/v1"; target = replicate 20 1; object = Some empty_blob }) × (ref_of (item_of blob_id None) ≡ record { name = codes "refs/tags/v1"; target = empty_blob; object = None })
 items_seen = (refl, refl)
 
 abbrev branch : Mapping
@@ -93,15 +87,14 @@ module _
 
 -- the sources of a conflict and the texts of specs are in order, and none is taken for another
 pub conflict_seen : (d t u : BString) (sources : Vec SourceRef Global) (texts : Vec BString Global) → sources.items ≡ FullName (lent_name (codes "refs/heads/a")) ∷ IdSource blob_id ∷ [] → texts.items ≡ t ∷ u ∷ []
-    → conflict_of (issue.Conflict d sources texts) ≡ record { destination = bstring_bytes d; sources = name (codes "refs/heads/a") ∷ id empty_blob ∷ []; texts = bstring_bytes t ∷ bstring_bytes u ∷ [] }
+    → conflict_of (ConflictIssue d sources texts) ≡ record { destination = bstring_bytes d; sources = name (codes "refs/heads/a") ∷ id empty_blob ∷ []; texts = bstring_bytes t ∷ bstring_bytes u ∷ [] }
 conflict_seen d t u sources texts come say = rw (come, say)
 
 module _ (e : Error) (o : ForwardOutcome) where
   pub conflicts_seen : (i j : Issue) → e.issues.items ≡ i ∷ j ∷ [] → conflicts_of e ≡ conflict_of i ∷ conflict_of j ∷ []
   conflicts_seen i j are = ap (map conflict_of) are
 
-  -- `IfConflicts` is about the conflicts of the error, and `IfMemory` about the returned outcome. Each holds for the other
-  -- reason, whatever the predicate is
+  -- `IfConflicts` is about the error's conflicts, `IfMemory` about the outcome; each holds for the other reason, whatever the predicate is
   pub claims : (P : List Conflict → Type 0) (Q : ForwardOutcome → Type 0)
       → (IfConflicts (Conflicts e) P → P (conflicts_of e)) × (P (conflicts_of e) → IfConflicts (Conflicts e) P) × (IfMemory (Memory o) Q → Q o) × (Q o → IfMemory (Memory o) Q)
       × IfConflicts (Memory o) (λ conflicts. ⊥) × IfMemory (Conflicts e) (λ outcome. ⊥)
@@ -119,13 +112,9 @@ module _
     abbrev forced_fix : Fix
     forced_fix = MappingWithPartialDestinationRemoved n (owned_of Fetch mode.Force (Some o) None forced)
 
-    abbrev push_fix : Fix
-    push_fix = MappingWithPartialDestinationRemoved n (owned_of Push mode.Normal (Some o) None same_name)
-
-    -- fixes are the same if their specs only mean the same, and if the bytes of the destinations are equal. They differ if
-    -- the specs differ in meaning, or the destinations differ
+    -- fixes are the same exactly if their specs mean the same and the bytes of their destinations are equal
     pub same_fixes : (removed_of forced_fix ≡ record { destination = bstring_bytes n; spec = fetched Forced (bstring_bytes o) None }) × IsSameFix forced_fix (fix n)
-        × (bstring_bytes n ≡ bstring_bytes m → IsSameFix (fix n) (fix m)) × ¬ (IsSameFix (fix n) push_fix) × (bstring_bytes n ≢ bstring_bytes m → ¬ (IsSameFix (fix n) (fix m)))
+        × (bstring_bytes n ≡ bstring_bytes m → IsSameFix (fix n) (fix m)) × ¬ (IsSameFix (fix n) (MappingWithPartialDestinationRemoved n (owned_of Push mode.Normal (Some o) None same_name))) × (bstring_bytes n ≢ bstring_bytes m → ¬ (IsSameFix (fix n) (fix m)))
     same_fixes = (refl, record { destination = refl; spec = refl }, (λ same. record { destination = same; spec = refl }), (λ same. cc (same.spec)), λ differ same. differ same.destination)
 
 -- for a group with a spec for all branches and one without those that begin `dev-`

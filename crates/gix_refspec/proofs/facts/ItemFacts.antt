@@ -1,14 +1,12 @@
 -- Which items may be left out, what of an item decides, and what a caller concludes from the laws on that.
-use Rattle.gix_refspec.proofs.Common.{some_of, covering, not_covering, branch_and_tag, main_branch, main_tag, main_ends, main_to_x, takes_the_tag, named, dev_ref, every, main_ref, no_dev, origin_split, short}
-use Rattle.gix_refspec.proofs.Common.{short_no_id, tag_ref, of_element, push_is_none, are_forward_ends, fetches_all_but_dev, forward_ends, taken_by, takes_no_tag, tracked, tracks_all_but_dev, ◌≡◌}
-use Rattle.gix_refspec.proofs.Common.{◌≢◌, inl, inr, ℕ, zero, suc, List, [], ◌∷◌, None, Some, codes, refl, sym, subst, arith, Bool, true, false, map, filter, Any, Contains, bstr_bytes, false≢true}
-use Rattle.gix_refspec.proofs.Common.{Item, head, Normal, Reading, fetched, pushed, pattern, Ref, Matches, Takes, name, Mapped, HasPair, AreForwardEnds, AreBackwardEnds, AreKeptForward}
-use Rattle.gix_refspec.proofs.Common.{AreKeptBackward, ref_of, HasCoveringSource, BeginsWithOne, AreExpansions, MakesForward, AreAskedFor, ArePart, AskedItems, TakesItem, HasTaken, HaveSamePairs}
-use Rattle.gix_refspec.proofs.Common.{FewerItems, FetchesHead, IsListed, AreListedItems, ListedItems, PassesTaken, FilteredItems, is_begun, FilteredByEntries, FilteredByList, by_cases, empty_blob}
-use Rattle.gix_refspec.proofs.Common.{IsIdText-empty_blob, blob_kind, object, AsksForNoId, HaveSameNames, NamesDecide, NamesDecideBack, rules}
-use Rattle.gix_refspec.proofs.{facts.AskedFacts.lists_of_specs, lemmas.prefixes.CoverLemmas.joined_covers, facts.LawFacts.every_covering, facts.LawFacts.expansion}
-use Rattle.gix_refspec.proofs.facts.{KeptFacts.group, KeptFacts.remote_refs, KeptFacts.tracking_refs, LawFacts.head_spec}
-use Rattle.gix_refspec_match.proofs.lemmas.hits.HitLemmas.{matches_as}
+use Rattle.gix_refspec.proofs.Common.{some_of, covering, not_covering, branch_and_tag, main_branch, main_tag, main_ends, main_to_x, takes_the_tag, named, dev_ref, every, main_ref, no_dev}
+use Rattle.gix_refspec.proofs.Common.{origin_split, short, short_no_id, tag_ref, of_element, push_is_none, are_forward_ends, fetches_all_but_dev, forward_ends, taken_by, takes_no_tag, tracked}
+use Rattle.gix_refspec.proofs.Common.{tracks_all_but_dev, ◌≡◌, ◌≢◌, inl, inr, ℕ, List, [], ◌∷◌, None, Some, codes, refl, sym, subst, arith, Bool, true, false, map, filter, Any, Contains}
+use Rattle.gix_refspec.proofs.Common.{bstr_bytes, false≢true, Item, head, Normal, Reading, fetched, pushed, pattern, Ref, Matches, Takes, name, Mapped, HasPair, AreForwardEnds, AreBackwardEnds}
+use Rattle.gix_refspec.proofs.Common.{AreKeptForward, AreKeptBackward, ref_of, AreExpansions, AreAskedFor, ArePart, AskedItems, TakesItem, HasTaken, HaveSamePairs, FewerItems, FetchesHead}
+use Rattle.gix_refspec.proofs.Common.{IsListed, AreListedItems, ListedItems, PassesTaken, FilteredItems, is_begun, FilteredByEntries, FilteredByList, by_cases, empty_blob, IsIdText-empty_blob}
+use Rattle.gix_refspec.{proofs.Common.{blob_kind, object, AsksForNoId, HaveSameNames, NamesDecide, NamesDecideBack, rules, matches_as}, proofs.facts.AskedFacts.lists_of_specs}
+use Rattle.gix_refspec.{proofs.lemmas.prefixes.CoverLemmas.joined_covers, proofs.facts.LawFacts.{every_covering, expansion, head_spec}, proofs.facts.KeptFacts.{group, remote_refs, tracking_refs}}
 
 -- the branches of the remote, each once and in another order
 abbrev branches : List Ref
@@ -60,14 +58,11 @@ mapped_back law fewer are = (law.backward (λ item. search rules) (λ item. sear
 pub head_listed : FetchesHead (named head ∷ []) head_spec × ¬ (FetchesHead (named (codes "refs/heads/HEAD") ∷ []) head_spec) × ¬ (FetchesHead (named head ∷ []) (pushed Normal (Some head) None)) × ¬ (FetchesHead (named head ∷ []) short)
 head_listed = (search rules, (λ fetches. search rules), (λ fetches. push_is_none fetches.fetch), λ fetches. search rules)
 
-no_dev_covering : HasCoveringSource no_dev
-no_dev_covering = record { fetch = refl; source = λ x asked. absurd asked.positive }
-
 -- a covering source is listed, whatever the refs are, and a star outside `refs/` isn't
 pub listed_sources : IsListed [] every × IsListed [] no_dev × IsListed (named head ∷ []) head_spec × ¬ (IsListed [] head_spec) × ¬ (IsListed (named head ∷ []) (fetched Normal (codes "*") None))
 listed_sources = (
   inl every_covering,
-  inl no_dev_covering,
+  inl (search rules),
   inr head_listed.0,
   (λ listed. by_cases listed (λ covering. not_covering.0 (search rules)) (λ fetches. fetches.there)),
   λ listed. by_cases listed (λ covering. not_covering.1 (search rules)) (λ fetches. cc (fetches.source)),
@@ -88,7 +83,7 @@ listed_refs = (
 pub none_lost : ListedItems group remote_refs branches → (fewer : List Mapped) → AreKeptForward group branches fewer → HasPair fewer (tracked 7 (codes "main")) × HaveSamePairs (tracked 2 (codes "main") ∷ []) fewer
 none_lost law fewer are = let hit = taken_by remote_refs 0 2 (codes "main") in (
   law.some listed_refs.0 (tracked 2 (codes "main") ∷ []) fewer fetches_all_but_dev are (tracked 7 (codes "main")) (search rules) (0, every, omega arith, refl, (inl every_covering, record { ends = forward_ends; has = are_forward_ends; one = search rules })),
-  law.all listed_refs.0 (inl every_covering, (inl no_dev_covering, tt)) (tracked 2 (codes "main") ∷ []) fewer fetches_all_but_dev are,
+  law.all listed_refs.0 (inl every_covering, (inl (search rules), tt)) (tracked 2 (codes "main") ∷ []) fewer fetches_all_but_dev are,
 )
 
 pub begun_names : (is_begun (codes "refs/tags/" ∷ codes "refs/heads/" ∷ []) (codes "refs/heads/main") ≡ true) × (is_begun (codes "heads/" ∷ []) (codes "refs/heads/main") ≡ false) × (is_begun [] (codes "refs/heads/main") ≡ false)
@@ -102,8 +97,7 @@ passing = (
   λ item is passes. false≢true (passes item (0, omega arith, refl) (0, every, omega arith, refl, subst (λ (r : Ref). TakesItem AreForwardEnds (Takes (map ref_of (item ∷ []))) r every) (sym is) (takes_main (map ref_of (item ∷ []))))),
 )
 
--- by the laws the items that pass such a filter are a subset with those that some spec takes, in both directions, or
--- are those listed
+-- by the laws the items that pass such a filter are some with those that a spec takes, in both directions, or are those listed
 module _ (items some : List Item) where
   pub by_test : (p : Item → Bool) → FilteredItems group items some → some ≡ filter p items
       → (PassesTaken AreForwardEnds (Takes (map ref_of items)) group items p → ArePart (map ref_of items) (map ref_of some) × HasTaken AreForwardEnds (Takes (map ref_of items)) group (map ref_of items) (map ref_of some))

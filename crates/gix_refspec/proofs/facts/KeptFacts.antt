@@ -1,12 +1,11 @@
 -- What a caller concludes from the laws on kept mappings: whether a pair is kept, and by which spec and item.
-use Rattle.gix_refspec.proofs.Common.{some_of, by_cases, map, rules, branch_and_tag, main_tag, main_ends, main_to_x, no_tags, no_other_first, not_excluded, tags_excluded, takes_the_tag, x_kind, named, empty_blob, below_tags}
-use Rattle.gix_refspec.proofs.Common.{blob, blob_kind, dev_ref, every, main_ref, no_dev, short_kind, tag_ref, blob_mapping, dev_excluded, main_stays, mapping, maps_all, only_dev, tracked, tracks_all}
-use Rattle.gix_refspec.proofs.Common.{◌≡◌, inl, inr, ℕ, zero, suc, List, [], ◌∷◌, ◌++◌, Option, None, Some, codes, refl, sym, ap, ◌∙◌, subst, arith, AllByRecursion, Any, Contains, slice_get, partial}
-use Rattle.gix_refspec.proofs.Common.{full_name, Ref, IsFirstCandidate, name, Mapped, HasPair, IsExcluded, AreKeptForward, AreKeptBackward, MakesForward, MakesBackward, PairsId, KeptExactly}
-use Rattle.gix_refspec.proofs.Common.{FirstStays, NothingExcluded, ForwardIndexes, IsValidated, ItemIndexesFit, Removed, same_Some, Reading, id, MakesForwardOf, MakesBackwardOf, MadeAtIndexes}
-use Rattle.gix_refspec.proofs.Common.{RemainsExactly, KeepsRefNames, LeftOut, Ends, of_element, AreBackwardEnds, IsPaired, Matches, AreForwardEnds, Takes}
-use Rattle.gix_refspec.proofs.facts.RefNameFacts.{good, kept, no_ref_names, sides, to_bad}
-use Rattle.gix_refspec.proofs.facts.ValidationFacts.{unwritable, unequal}
+use Rattle.gix_refspec.proofs.Common.{some_of, by_cases, map, rules, branch_and_tag, main_tag, main_ends, main_to_x, no_tags, no_other_first, not_excluded, tags_excluded, takes_the_tag, x_kind}
+use Rattle.gix_refspec.proofs.Common.{named, empty_blob, below_tags, blob, blob_kind, dev_ref, every, main_ref, no_dev, short_kind, tag_ref, blob_mapping, dev_excluded, main_stays, mapping}
+use Rattle.gix_refspec.proofs.Common.{maps_all, only_dev, tracked, tracks_all, ◌≡◌, inl, inr, ℕ, List, [], ◌∷◌, ◌++◌, None, Some, codes, refl, sym, ap, ◌∙◌, subst, arith, AllByRecursion, Any}
+use Rattle.gix_refspec.proofs.Common.{Contains, slice_get, partial, full_name, Ref, IsFirstCandidate, name, Mapped, HasPair, IsExcluded, AreKeptForward, AreKeptBackward, MakesForward}
+use Rattle.gix_refspec.proofs.Common.{MakesBackward, PairsId, KeptExactly, FirstStays, NothingExcluded, ForwardIndexes, IsValidated, ItemIndexesFit, Removed, same_Some, Reading, id}
+use Rattle.gix_refspec.proofs.Common.{MakesForwardOf, MakesBackwardOf, MadeAtIndexes, RemainsExactly, KeepsRefNames, LeftOut, Ends, AreBackwardEnds, IsPaired, Matches, AreForwardEnds, Takes}
+use Rattle.gix_refspec.{proofs.facts.RefNameFacts.{good, kept, no_ref_names, sides, to_bad}, proofs.facts.ValidationFacts.{unwritable, unequal}}
 
 abbrev pub group : List Reading
 group = every ∷ no_dev ∷ []
@@ -102,22 +101,20 @@ no_first (x ∷ y ∷ before) after here new = let same : y ≡ tracked 2 (codes
 
 -- by the law the first mapping of the branch is kept, with its index, and neither its duplicate nor the excluded branch
 pub first_there : FirstStays group remote_refs → (kept : List Mapped) → AreKeptForward group remote_refs kept → Contains kept (tracked 2 (codes "main")) × ¬ (Contains kept (tracked 3 (codes "main"))) × ¬ (Contains kept (tracked 0 (codes "dev-a")))
-first_there law kept are =
-    let stays = law.forward mapped kept maps_all are in (
-      (stays (tracked 2 (codes "main"))).1 (record { before = tracked 0 (codes "dev-a") ∷ []; after = tracked 3 (codes "main") ∷ []; here = refl; first = only_dev 2; included = main_stays }),
-      (λ has. let first = (stays (tracked 3 (codes "main"))).0 has in no_first first.before first.after first.here first.first),
-      λ has. ((stays (tracked 0 (codes "dev-a"))).0 has).included dev_excluded,
-    )
+first_there law kept are = let stays = law.forward mapped kept maps_all are in (
+  (stays (tracked 2 (codes "main"))).1 (record { before = tracked 0 (codes "dev-a") ∷ []; after = tracked 3 (codes "main") ∷ []; here = refl; first = only_dev 2; included = main_stays }),
+  (λ has. let first = (stays (tracked 3 (codes "main"))).0 has in no_first first.before first.after first.here first.first),
+  λ has. ((stays (tracked 0 (codes "dev-a"))).0 has).included dev_excluded,
+)
 
 abbrev pub tracking_refs : List Ref
 tracking_refs = named (codes "refs/remotes/origin/dev-a") ∷ named (codes "refs/remotes/origin/main") ∷ []
 
 pub first_back : FirstStays group tracking_refs → (kept : List Mapped) → AreKeptBackward group tracking_refs kept → Contains kept (tracked 1 (codes "main")) × ¬ (Contains kept (tracked 0 (codes "dev-a")))
-first_back law kept are =
-    let stays = law.backward _ kept tracks_all are in (
-      (stays (tracked 1 (codes "main"))).1 (record { before = tracked 0 (codes "dev-a") ∷ []; after = []; here = refl; first = only_dev 1; included = main_stays }),
-      λ has. ((stays (tracked 0 (codes "dev-a"))).0 has).included dev_excluded,
-    )
+first_back law kept are = let stays = law.backward _ kept tracks_all are in (
+  (stays (tracked 1 (codes "main"))).1 (record { before = tracked 0 (codes "dev-a") ∷ []; after = []; here = refl; first = only_dev 1; included = main_stays }),
+  λ has. ((stays (tracked 0 (codes "dev-a"))).0 has).included dev_excluded,
+)
 
 -- by the law a mapping of the branch doesn't have the index of the tag, nor that of a third spec, if there are two
 pub no_other_indexes : ItemIndexesFit group remote_refs → (rest : List Mapped) → ¬ (AreKeptForward group remote_refs (tracked 1 (codes "main") ∷ rest))
@@ -162,4 +159,5 @@ pub named_remains : (g : List Reading) → RemainsExactly g (kept ∷ to_bad ∷
 named_remains g law rest out keeps = ((law.named rest out keeps kept).1 ((0, omega arith, refl), sides.0), λ has. no_ref_names.2 ((law.named rest out keeps to_bad).0 has).1.destination)
 
 pub none_new : (g : List Reading) → RemainsExactly g [] → (rest : List Mapped) (out : List LeftOut) (fixes : List Removed) → (IsValidated g [] rest fixes → ¬ (Contains rest kept)) × (KeepsRefNames [] rest out → ¬ (Contains rest kept))
-none_new g law rest out fixes = ((λ valid has. search (rules, (law.validated rest fixes valid kept).0 has)), λ keeps has. search (rules, (law.named rest out keeps kept).0 has))
+none_new g law rest out fixes =
+    ((λ valid has. search (rules, (law.validated rest fixes valid kept).0 has)), λ keeps has. search (rules, (law.named rest out keeps kept).0 has))

@@ -1,23 +1,20 @@
 -- Examples of the definitions that only laws use: on directions, covering sources, canonical texts and expansions.
-use Rattle.gix_refspec.proofs.Common.{below_heads, covering, not_covering, Lacks-tested, IsPattern-tested, named, no_sign, begins_not, empty_blob, IsIdText-empty_blob, lower_of-empty_blob}
+use Rattle.gix_refspec.proofs.Common.{below_heads, covering, not_covering, Lacks-tested, IsPattern-tested, named, begins_not, empty_blob, IsIdText-empty_blob, lower_of-empty_blob}
 use Rattle.gix_refspec.proofs.Common.{HasIdFault-length, every, no_dev, short, short_kind, push_is_none, mapping, tracked, fetches_all_but_dev, tracks_all_but_dev, tracks_nothing, tag_to_x}
 use Rattle.gix_refspec.proofs.Common.{tag_to_foo, tag_alone, ◌≡◌, ◌≢◌, ◌⊎◌, ◌<◌, ℕ, List, [], ◌∷◌, Option, None, Some, length, codes, refl, sym, ap, ◌∙◌, subst, inl, inr, arith, Push, Fetch}
-use Rattle.gix_refspec.proofs.Common.{BeginsWith, HasStar, IsPattern, star, colon, Normal, Forced, Negative, Reading, AreParts, Reads, fetches, fetched, pushed, candidates, IsCandidate, Fits, name}
-use Rattle.gix_refspec.proofs.Common.{id, Mapped, HasPair, AreApart, AreKeptForward, AreKeptBackward, OneForward, OneBackward, KeptOnce, Ref, Matches, HasName, Takes, ValidatedOnce}
-use Rattle.gix_refspec.proofs.Common.{DestinationsHaveOneSource, HaveDistinctDestinations, ForwardFits, IndexesFit, push_delete, fetch_only, printed, meaning_of, Refusal, PatternUnbalanced}
-use Rattle.gix_refspec.proofs.Common.{NegativeEmpty, ReferenceName, IsRefused, IsIdText, IsLowerText, HasIdFault, LockSuffix, RepeatedDot, IsAsked, IsPrefix, Expands, to_prefix, to_candidates}
-use Rattle.gix_refspec.proofs.Common.{HasCoveringSource, MapAlike, AreReadAgain, AsksFor, AtSpec, EachSource, Transpose, Cover, CoverTogether, FetchGroupReadsBack, IsCoveredBy, IsSourceAmong}
-use Rattle.gix_refspec.proofs.Common.{IsDestinationAmong, GoesBothWays, ReadsAgainAs, BeginsWithOne, AreExpansions, same_Some, by_cases, false, EqualGroups, AreFetches, FetchTheSame, rules, list_any}
-use Rattle.gix_refspec.proofs.Common.{◌==◌, main_ref, IsExpansion}
+use Rattle.gix_refspec.proofs.Common.{BeginsWith, IsPattern, Normal, Forced, Negative, Reading, Reads, fetched, pushed, candidates, IsCandidate, Fits, name, id, Mapped, HasPair, AreApart}
+use Rattle.gix_refspec.proofs.Common.{AreKeptForward, AreKeptBackward, OneForward, OneBackward, KeptOnce, Ref, Matches, HasName, Takes, ValidatedOnce, DestinationsHaveOneSource}
+use Rattle.gix_refspec.proofs.Common.{HaveDistinctDestinations, ForwardFits, IndexesFit, push_delete, fetch_only, printed, meaning_of, Refusal, PatternUnbalanced, NegativeEmpty, ReferenceName}
+use Rattle.gix_refspec.proofs.Common.{IsRefused, IsIdText, IsLowerText, HasIdFault, LockSuffix, RepeatedDot, IsPrefix, Expands, to_prefix, to_candidates, HasCoveringSource, MapAlike, AreReadAgain}
+use Rattle.gix_refspec.proofs.Common.{AsksFor, AtSpec, EachSource, Transpose, Cover, CoverTogether, FetchGroupReadsBack, IsCoveredBy, IsSourceAmong, IsDestinationAmong, GoesBothWays, ReadsAgainAs}
 use Rattle.gix_refspec_text.specs.Laws.Readings.{ReadsOnce, ReadsOrRefused, IsSameReason, SaysForOperation, IsPrintedBack, ReadsBack, EqualReadings, HasOneId, HasOneFault, HasCandidates}
 use Rattle.gix_refspec_text.specs.Laws.Readings.{KeepsOperation, EqualTexts, NothingAgainst, ClonesExactly, OneWord, PrefixBegins, OnePrefix, Candidates, IdOrFault, OneLowerText, OneRefusal}
-use Rattle.gix_refspec.proofs.facts.KeptFacts.{at_spec, group, remote_refs, tracking_refs}
 use Rattle.gix_refspec_text.{specs.Texts.PatternError.IsPatternFault, specs.declared.name.PatternError.PatternError, specs.declared.name.PatternError.TheVariants.Name}
 use Rattle.gix_refspec_text.{specs.declared.name.Error.Error as NameError, specs.declared.oid.Error.Error as IdError, specs.declared.oid.Error.TheVariants.Length}
-use Rattle.gix_refspec_text.{proofs.lemmas.texts.TextLemmas.Lacks-ContainsText, proofs.lemmas.texts.TestedLemmas.IsName-tested, proofs.lemmas.hits.MatchLemmas.outside_none}
-use Rattle.gix_refspec_text.{proofs.facts.UnreadFacts.unbalanced_fetches, proofs.facts.GrammarFacts.fetches_main}
-use Rattle.gix_refspec.{specs.Laws.Reasons.ReasonRefuses, proofs.facts.ValidationFacts.both_to_x, proofs.facts.ValidationFacts.foo_fix, proofs.facts.ValidationFacts.validated}
-use Rattle.gix_refspec.proofs.facts.ValidationFacts.{unequal}
+use Rattle.gix_refspec_text.{proofs.lemmas.hits.MatchLemmas.outside_none, proofs.facts.UnreadFacts.unbalanced_fetches, proofs.facts.GrammarFacts.fetches_main}
+use Rattle.gix_refspec.proofs.Common.{Lacks-ContainsText, BeginsWithOne, AreExpansions, same_Some, by_cases, EqualGroups, AreFetches, FetchTheSame, rules, main_ref, IsExpansion}
+use Rattle.gix_refspec.{proofs.facts.KeptFacts.{at_spec, group, remote_refs, tracking_refs}, specs.Laws.Reasons.ReasonRefuses}
+use Rattle.gix_refspec.proofs.facts.ValidationFacts.{both_to_x, foo_fix, validated, unequal}
 
 abbrev forced : Reading
 forced = fetched Forced (codes "main") None
@@ -85,8 +82,8 @@ expansion = inl (codes "refs/heads/*", search rules, to_prefix (codes "refs/head
 -- the expansions of the specs of a group, one after the other; that of a negative spec is empty
 pub expanded : AreExpansions (every ∷ no_dev ∷ short ∷ []) (codes "refs/heads/" ∷ candidates (codes "main"))
 expanded =
-    let candidates_of = to_candidates (outside_none (codes "main") (λ same. unequal same refl) short_kind.2) short_kind.2 short_kind.3 refl in
-    (_, _, expansion, ([], _, search rules, (_, [], inl (codes "main", record { positive = tt; side = refl }, candidates_of), refl, refl), refl), refl)
+    let all = to_candidates (outside_none (codes "main") (λ same. unequal same refl) short_kind.2) short_kind.2 short_kind.3 refl in
+    (_, _, expansion, ([], _, search rules, (_, [], inl (codes "main", record { positive = tt; side = refl }, all), refl, refl), refl), refl)
 
 pub every_covering : HasCoveringSource every
 every_covering = record { fetch = refl; source = λ x asked. rw (← same_Some (codes "refs/heads/*") x asked.side) covering.0 }
@@ -96,9 +93,7 @@ abbrev pub head_spec : Reading
 head_spec = fetched Normal (codes "HEAD") None
 
 pub head_asks : AsksFor head_spec (codes "HEAD") × ¬ (AsksFor head_spec (codes "refs/heads/HEAD"))
-head_asks =
-    let asked : IsAsked head_spec (codes "HEAD") = record { positive = tt; side = refl } in
-    (inr (refl, asked, refl), λ asks. by_cases asks (λ has. not_covering.0 (search rules)) (λ (fetch, also, same). cc))
+head_asks = (search rules, λ asks. by_cases asks (λ has. not_covering.0 (search rules)) (λ (fetch, also, same). cc))
 
 pub every_asks : (n : List ℕ) → AsksFor every n × ¬ (AsksFor (pushed Normal (Some (codes "HEAD")) None) n)
 every_asks n = (inl every_covering, λ asks. search rules)

@@ -1,8 +1,7 @@
 -- Examples of the definitions of the laws on plans, and what a caller concludes from these laws.
-use Rattle.gix_refspec.proofs.Common.{empty_blob, lower_of-empty_blob, branch_to_x, mapping, tag_alone, tag_to_x, ◌≢◌, ℕ, List, [], ◌∷◌, None, Some, codes, refl, subst, arith, AllByRecursion, Fetch}
-use Rattle.gix_refspec.proofs.Common.{Lacks, Reading, Reads, printed, Ref, id, Mapped, AreKeptForward, Removed, IsValidated, AreFixesApart, HaveSourcesByIndex, LacksIn, MappedLacks}
-use Rattle.gix_refspec.proofs.Common.{NoControlCharacter, PlansApart, SidesLack, SourceLacks, rules}
-use Rattle.gix_refspec.proofs.facts.ValidationFacts.{foo_fix}
+use Rattle.gix_refspec.proofs.Common.{empty_blob, lower_of-empty_blob, branch_to_x, mapping, tag_alone, tag_to_x, ◌≢◌, ℕ, List, [], ◌∷◌, None, Some, codes, refl, subst, arith, AllByRecursion}
+use Rattle.gix_refspec.proofs.Common.{Fetch, Lacks, Reading, Reads, printed, Ref, id, Mapped, AreKeptForward, Removed, IsValidated, AreFixesApart, HaveSourcesByIndex, LacksIn, MappedLacks}
+use Rattle.gix_refspec.{proofs.Common.{NoControlCharacter, PlansApart, SidesLack, SourceLacks, rules}, proofs.facts.ValidationFacts.foo_fix}
 
 abbrev branch_alone : Mapped
 branch_alone = mapping 0 (codes "refs/heads/a") None 1
@@ -33,8 +32,7 @@ lacks = (search rules, search rules, (λ lack. lack.0.1.0 refl), λ lack. lack.1
 pub digits_lack : SourceLacks 69 (id empty_blob) × ¬ (SourceLacks 101 (id empty_blob))
 digits_lack = (rw lower_of-empty_blob (search rules), λ lack. (subst (Lacks 101) lower_of-empty_blob lack).0 refl)
 
--- by the law no source of a fetch contains a newline, and no canonical text a tab; and neither 31, the last byte that the
--- law covers
+-- by the law no source of a fetch contains a newline, no canonical text a tab, and neither 31, the last byte that is covered
 pub none_read : NoControlCharacter → (text : List ℕ) (r : Reading) → Reads Fetch text r → (r.source ≢ Some (codes "a\nb")) × (printed r ≢ Some (codes "a\tb")) × (r.source ≢ Some (97 ∷ 31 ∷ [])) × (printed r ≢ Some (97 ∷ 31 ∷ []))
 none_read law text r reads = (
   (λ same. (subst (LacksIn 10) same (law.sides 10 text r (omega arith) reads).0).1.0 refl),

@@ -1,12 +1,10 @@
 -- Examples of the definitions on ref names, valid and invalid, and what a caller concludes from their law.
 use Rattle.gix_refspec.proofs.Common.{nothing_made, mapping, ◌≡◌, inl, inr, ℕ, List, [], ◌∷◌, ◌++◌, None, Some, codes, refl, AllByRecursion, RepeatedDot, InvalidMapping, Reading, Ref, id, Mapped}
-use Rattle.gix_refspec.proofs.Common.{mapped_of, AreKeptForward, ForwardIndexes, IndexesFit, IsValidated, Removed, AreLeftOut, HaveRefNames, IsInvalidAt, IsLeftOut, HasRefNames, IsValidDestination}
-use Rattle.gix_refspec.proofs.Common.{IsValidSource, IsRefName, KeepsRefNames, LeftOut, StaysAmongRefs, WritesRefs, left_out_of, true, false, IsTrue, list_all, list_any, IsName, is_plain_component}
-use Rattle.gix_refspec.proofs.Common.{is_plain_name, PlainNames, rules}
-use Rattle.gix_refspec.{proofs.lemmas.validate.RefNameLemmas.bad_unnamed, proofs.lemmas.validate.RefNameLemmas.name_of_ref, proofs.lemmas.validate.RefNameLemmas.stays_among_refs}
-use Rattle.gix_refspec.{specs.declared.match_group.ref_names.InvalidSide.TheVariants.Source, specs.declared.match_group.ref_names.InvalidSide.TheVariants.Destination}
-use Rattle.gix_refspec.{specs.declared.match_group.ref_names.InvalidSide.TheVariants.Both}
-use Rattle.gix_refspec_text.proofs.{lemmas.texts.TestedLemmas.IsName-tested, facts.NameFacts.no_names, facts.NameFacts.names_close_to_faults}
+use Rattle.gix_refspec.proofs.Common.{mapped_of, AreKeptForward, ForwardIndexes, IndexesFit, IsValidated, Removed, AreLeftOut, HaveRefNames, IsInvalidAt, IsLeftOut, HasRefNames}
+use Rattle.gix_refspec.proofs.Common.{IsValidDestination, IsValidSource, IsRefName, KeepsRefNames, LeftOut, StaysAmongRefs, WritesRefs, left_out_of, true, false, IsTrue, list_all, list_any}
+use Rattle.gix_refspec.{proofs.Common.{IsName, is_plain_component, is_plain_name, PlainNames, rules}, proofs.lemmas.validate.RefNameLemmas.{bad_unnamed, name_of_ref, stays_among_refs}}
+use Rattle.gix_refspec.specs.declared.match_group.ref_names.InvalidSide.TheVariants.{Source, Destination, Both}
+use Rattle.gix_refspec_text.{proofs.lemmas.texts.TestedLemmas.IsName-tested, proofs.facts.NameFacts.{no_names, names_close_to_faults}}
 
 pub ref_names : IsRefName (codes "refs/heads/main") × IsRefName (codes "HEAD")
 ref_names = (inl (search rules, IsName-tested (codes "refs/heads/main") refl), inr refl)
@@ -62,8 +60,7 @@ parted = record {
 pub none_lost : ¬ (HaveRefNames (kept ∷ []) []) × ¬ (AreLeftOut (to_bad ∷ []) [])
 none_lost = ((λ are. search (rules, sides.0)), λ are. nothing_made (λ k m made. IsLeftOut m made) 0 [] to_bad [] (record { mapping = to_bad; side = Destination }) are (search (rules, sides.2)))
 
--- a path with `..`, one with an empty component, one outside `refs/`, and one with a control character don't stay among
--- refs
+-- paths with `..`, an empty component or a control character, and those outside `refs/`, don't stay among refs
 pub leads_away : ¬ (StaysAmongRefs (codes "refs/../x")) × ¬ (StaysAmongRefs (codes "refs//x")) × ¬ (StaysAmongRefs (codes "x")) × ¬ (StaysAmongRefs (codes "refs/" ++ 31 ∷ [])) × ¬ (StaysAmongRefs (codes "refs/" ++ 127 ∷ []))
 leads_away = (
   (λ stays. (stays.components (codes "refs" ∷ codes ".." ∷ codes "x" ∷ []) (search rules)).1.0.1 (search rules)),

@@ -1,10 +1,9 @@
 -- Examples of the definitions on validation, for mappings to one destination and to others.
-use Rattle.gix_refspec.proofs.Common.{nothing_made, none_some, of_element, mapping, tag_to_x, branch_to_x, tag_again, tag_to_foo, tag_alone, ◌≡◌, ◌⊎◌, ℕ, List, [], ◌∷◌, None, Some, codes, refl, sym}
-use Rattle.gix_refspec.proofs.Common.{◌∙◌, inl, inr, arith, Contains, IsStrictlySortedBy, Normal, Forced, Reading, fetched, name, Mapped, IndexesFit, HasConflictAt, IsFirstTo, IsTextAt, Conflict}
+use Rattle.gix_refspec.proofs.Common.{nothing_made, none_some, of_element, mapping, tag_to_x, branch_to_x, tag_again, tag_to_foo, tag_alone, ◌≡◌, ◌⊎◌, ℕ, List, [], ◌∷◌, None, Some, codes, refl}
+use Rattle.gix_refspec.proofs.Common.{sym, ◌∙◌, inl, inr, arith, IsStrictlySortedBy, Normal, Forced, Reading, fetched, name, Mapped, IndexesFit, HasConflictAt, IsFirstTo, IsTextAt, Conflict}
 use Rattle.gix_refspec.proofs.Common.{IsConflict, AreConflicts, IsWritable, Survives, AreSurvivors, Removed, IsFix, AreFixes, IsValidated, DestinationsHaveOneSource, ShareDestination}
-use Rattle.gix_refspec.proofs.Common.{HaveDistinctDestinations, false, nat_eq, AllByRecursion, starts_with, false≢true, bytes_eq, head, by_cases, ◌≢◌, map, Mapping, Outcome, mapped_of}
-use Rattle.gix_refspec.proofs.Common.{AreMappingCopies, readings_of, OneValidation, IsOutcomeCopy, CopiedOutcome, IsMadeFrom, rules}
-use Rattle.gix_refspec.proofs.lemmas.validate.ConflictLemmas.{no_conflicts}
+use Rattle.gix_refspec.proofs.Common.{HaveDistinctDestinations, false, nat_eq, starts_with, false≢true, bytes_eq, head, by_cases, ◌≢◌, map, Mapping, Outcome, mapped_of, AreMappingCopies}
+use Rattle.gix_refspec.{proofs.Common.{readings_of, OneValidation, IsOutcomeCopy, CopiedOutcome, IsMadeFrom, rules}, proofs.lemmas.validate.ConflictLemmas.no_conflicts}
 
 abbrev tags_to_x : Reading
 tags_to_x = fetched Normal (codes "refs/tags/*") (Some (codes "refs/x/*"))
@@ -33,11 +32,10 @@ conflict = record {
 pub unequal : {x y : List ℕ} → x ≡ y → bytes_eq x y ≡ false → ⊥
 unequal {x} {y} same other = false≢true (search rules)
 
-at_x_or_y : (d : List ℕ) (m : Mapped) → Contains meeting m → m.destination ≡ Some d → (d ≡ codes "refs/x/a") ⊎ (m ≡ branch_to_y)
-at_x_or_y d m has to = let from = of_element (λ n. (n.destination ≡ Some (codes "refs/x/a")) ⊎ (n ≡ branch_to_y)) meeting m (search rules) has in search rules
-
 pub only_x : (d : List ℕ) → HasConflictAt meeting d → d ≡ codes "refs/x/a"
-only_x d contested = by_cases (at_x_or_y d contested.one contested.has_one contested.one_to) (λ x. x) (λ y. search rules)
+only_x d contested =
+    let each = of_element (λ (n : Mapped). (n.destination ≡ Some (codes "refs/x/a")) ⊎ (n ≡ branch_to_y)) meeting contested.one in
+    by_cases (each (search rules) contested.has_one) (λ x. cc (x, contested.one_to)) (λ y. search rules)
 
 at_x : HasConflictAt meeting (codes "refs/x/a")
 at_x = record { one = tag_to_x; other = branch_to_x; has_one = (1, omega arith, refl); has_other = (2, omega arith, refl); one_to = refl; other_to = refl; differ = λ same. search rules }
@@ -67,8 +65,8 @@ no_conflict c is conflicts = unequal (sym is ∙ only_x c.destination conflicts.
 
 pub one_source : (d : List ℕ) → ¬ (HasConflictAt (tag_to_x ∷ tag_to_foo ∷ tag_alone ∷ tag_again ∷ []) d)
 one_source d at =
-    let each = λ (m : Mapped). of_element (λ n. n.source ≡ name (codes "refs/tags/a")) (tag_to_x ∷ tag_to_foo ∷ tag_alone ∷ tag_again ∷ []) m (search rules) in
-    at.differ (each at.one at.has_one ∙ sym (each at.other at.has_other))
+    let each = of_element (λ (n : Mapped). n.source ≡ tag_to_x.source) (tag_to_x ∷ tag_to_foo ∷ tag_alone ∷ tag_again ∷ []) in
+    at.differ (each at.one (search rules) at.has_one ∙ sym (each at.other (search rules) at.has_other))
 
 pub rising : (g : List Reading) (l : List Mapped) (c d : Conflict) → c.destination ≡ codes "refs/x/b" → d.destination ≡ codes "refs/x/aa" → ¬ (AreConflicts g l (c ∷ d ∷ [])) × ¬ (AreConflicts g l (c ∷ c ∷ []))
 unfolding IsStrictlySortedBy
@@ -81,9 +79,6 @@ unwritable d elsewhere other (inr is_head) = unequal is_head other
 
 pub writable : IsWritable (codes "refs/x") × IsWritable (codes "HEAD") × ¬ (IsWritable (codes "refs")) × ¬ (IsWritable (codes "HEADS")) × ¬ (IsWritable (codes "foo"))
 writable = (search rules, inr refl, search rules, search rules, search rules)
-
-x_writable : IsWritable (codes "refs/x/a")
-x_writable = inl (search rules)
 
 abbrev pub foo_fix : Removed
 foo_fix = record { destination = codes "foo"; spec = heads_to_x }
@@ -99,7 +94,7 @@ of_one_tag = tag_to_x ∷ tag_to_foo ∷ tag_alone ∷ []
 pub validated : IsValidated both_to_x of_one_tag (tag_to_x ∷ tag_alone ∷ []) (foo_fix ∷ [])
 validated = record {
   free = no_conflicts both_to_x of_one_tag (search rules);
-  survive = (Some tag_to_x, _, (refl, x_writable), (None, _, (λ m made. writable.4 made.1), (Some tag_alone, [], (refl, tt), refl, refl), refl), refl);
+  survive = (Some tag_to_x, _, (refl, inl (search rules)), (None, _, (λ m made. writable.4 made.1), (Some tag_alone, [], (refl, tt), refl, refl), refl), refl);
   fixed = (None, _, (λ fix made. (fixes.1 fix).0 made), (Some foo_fix, [], fixes.0, search rules, refl), refl);
 }
 
@@ -122,7 +117,7 @@ no_less =
     (listed, λ rest fixes is. listed is.free)
 
 pub survivors : Survives tag_alone × Survives tag_to_x × ¬ (Survives tag_to_foo) × ¬ (AreSurvivors (tag_to_foo ∷ []) (tag_to_foo ∷ [])) × ¬ (AreSurvivors (tag_alone ∷ []) [])
-survivors = (tt, x_writable, writable.4, (λ are. search rules), λ are. search rules)
+survivors = (tt, inl (search rules), writable.4, (λ are. search rules), λ are. search rules)
 
 -- the conflict of two specs is the only one, and exactly one of three mappings is removed, with one fix
 pub one_at_x : OneValidation both_to_x meeting → (cs : List Conflict) → AreConflicts both_to_x meeting cs → cs ≡ conflict ∷ []
@@ -131,8 +126,7 @@ one_at_x law cs are = law.conflicts cs _ are conflicts_at_x
 pub two_survive : OneValidation both_to_x of_one_tag → (rest : List Mapped) (fixes : List Removed) → IsValidated both_to_x of_one_tag rest fixes → (rest ≡ tag_to_x ∷ tag_alone ∷ []) × (fixes ≡ foo_fix ∷ [])
 two_survive law rest fixes is = (law.survivors rest _ is.survive validated.survive, law.fixes fixes _ is.fixed validated.fixed)
 
--- an outcome with the same specs and copies of the mappings is a copy, and one that lacks a mapping, has one more or has
--- other specs isn't
+-- a copy has the same specs and copies of the mappings: not one less, one more, or other specs
 pub outcome_copies : (o copy : Outcome 1) (m : Mapping) →
       (copy.group.specs.items ≡ o.group.specs.items → AreMappingCopies o.mappings.items copy.mappings.items → IsOutcomeCopy o copy)
     × (o.mappings.items ≡ m ∷ [] → copy.mappings.items ≡ [] → ¬ (IsOutcomeCopy o copy))
