@@ -4,10 +4,10 @@ use Rattle.gix_refspec.proofs.Common.{pushed, pattern, partial, full_name, objec
 use Rattle.gix_refspec_text.proofs.facts.PrefixFacts.{bracket_split, suffix_split, tells}
 use Rattle.gix_refspec.{proofs.Common.same_Some, proofs.lemmas.prefixes.AskedLemmas.no_list, proofs.facts.KeptFacts.of_one}
 
--- the list of a pattern is its prefix, that of a partial name and `HEAD` their candidates, that of a full name itself, and that of an id empty
+-- the list of a pattern is its prefix, that of a partial name and `HEAD` their candidates, that of an id empty, that of a full name itself
 pub lists_of_sides : ListsSide (codes "refs/heads/*") (codes "refs/heads/" ∷ []) × ListsSide (codes "main") (candidates (codes "main")) × ListsSide (codes "HEAD") (candidates (codes "HEAD")) × ListsSide (codes "e69de29bb2d1d6434b8b29ae775ad8c2e48c5391") [] × ListsSide (codes "refs/heads/main") (codes "refs/heads/main" ∷ [])
 lists_of_sides = (
-  record { kind = pattern (codes "refs/heads/") []; of = search rules; is = (record { below = search rules; further = λ same. cc; first = search rules; last = tt }, refl) },
+  record { kind = pattern (codes "refs/heads/") []; of = search rules; is = search rules },
   record { kind = partial (codes "main"); of = short_kind; is = refl },
   record { kind = partial (codes "HEAD"); of = (refl, search rules, (λ begins. cc (begins.here)), λ is. search rules); is = refl },
   record { kind = object _; of = blob_kind; is = refl },

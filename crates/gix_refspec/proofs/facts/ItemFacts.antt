@@ -5,7 +5,7 @@ use Rattle.gix_refspec.proofs.Common.{tracks_all_but_dev, ◌≡◌, ◌≢◌, 
 use Rattle.gix_refspec.proofs.Common.{bstr_bytes, false≢true, Item, head, Normal, Reading, fetched, pushed, pattern, Ref, Matches, Takes, name, Mapped, HasPair, AreForwardEnds, AreBackwardEnds}
 use Rattle.gix_refspec.proofs.Common.{AreKeptForward, AreKeptBackward, ref_of, AreExpansions, AreAskedFor, ArePart, AskedItems, TakesItem, HasTaken, HaveSamePairs, FewerItems, FetchesHead}
 use Rattle.gix_refspec.proofs.Common.{IsListed, AreListedItems, ListedItems, PassesTaken, FilteredItems, is_begun, FilteredByEntries, FilteredByList, by_cases, empty_blob, IsIdText-empty_blob}
-use Rattle.gix_refspec.{proofs.Common.{blob_kind, object, AsksForNoId, HaveSameNames, NamesDecide, NamesDecideBack, rules, matches_as}, proofs.facts.AskedFacts.lists_of_specs}
+use Rattle.gix_refspec.{proofs.Common.{blob_kind, object, AsksForNoId, HaveSameNames, MakesForward, NamesDecide, NamesDecideBack, rules, matches_as}, proofs.facts.AskedFacts.lists_of_specs}
 use Rattle.gix_refspec.{proofs.lemmas.prefixes.CoverLemmas.joined_covers, proofs.facts.LawFacts.{every_covering, expansion, head_spec}, proofs.facts.KeptFacts.{group, remote_refs, tracking_refs}}
 
 -- the branches of the remote, each once and in another order
@@ -80,9 +80,12 @@ listed_refs = (
 )
 
 -- so by the law it loses no pair: neither of one spec, nor of all
+main_made : MakesForward remote_refs (name (codes "refs/heads/main")) (Some (codes "refs/remotes/origin/main")) every
+main_made = let hit = taken_by remote_refs 0 2 (codes "main") in record { ends = forward_ends; has = are_forward_ends; one = search rules }
+
 pub none_lost : ListedItems group remote_refs branches → (fewer : List Mapped) → AreKeptForward group branches fewer → HasPair fewer (tracked 7 (codes "main")) × HaveSamePairs (tracked 2 (codes "main") ∷ []) fewer
-none_lost law fewer are = let hit = taken_by remote_refs 0 2 (codes "main") in (
-  law.some listed_refs.0 (tracked 2 (codes "main") ∷ []) fewer fetches_all_but_dev are (tracked 7 (codes "main")) (search rules) (0, every, omega arith, refl, (inl every_covering, record { ends = forward_ends; has = are_forward_ends; one = search rules })),
+none_lost law fewer are = (
+  law.some listed_refs.0 (tracked 2 (codes "main") ∷ []) fewer fetches_all_but_dev are (tracked 7 (codes "main")) (search rules) (0, every, omega arith, refl, (inl every_covering, main_made)),
   law.all listed_refs.0 (inl every_covering, (inl (search rules), tt)) (tracked 2 (codes "main") ∷ []) fewer fetches_all_but_dev are,
 )
 

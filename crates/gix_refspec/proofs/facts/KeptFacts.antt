@@ -160,4 +160,4 @@ named_remains g law rest out keeps = ((law.named rest out keeps kept).1 ((0, ome
 
 pub none_new : (g : List Reading) → RemainsExactly g [] → (rest : List Mapped) (out : List LeftOut) (fixes : List Removed) → (IsValidated g [] rest fixes → ¬ (Contains rest kept)) × (KeepsRefNames [] rest out → ¬ (Contains rest kept))
 none_new g law rest out fixes =
-    ((λ valid has. search (rules, (law.validated rest fixes valid kept).0 has)), λ keeps has. search (rules, (law.named rest out keeps kept).0 has))
+    ((λ valid has. search (rules, law.validated rest fixes valid kept)), λ keeps has. search (rules, law.named rest out keeps kept))
