@@ -4,8 +4,8 @@ use Rattle.gix_refspec.proofs.Common.{named, empty_blob, below_tags, blob, blob_
 use Rattle.gix_refspec.proofs.Common.{maps_all, only_dev, tracked, tracks_all, ◌≡◌, inl, inr, ℕ, List, [], ◌∷◌, ◌++◌, None, Some, codes, refl, sym, ap, ◌∙◌, subst, arith, AllByRecursion, Any}
 use Rattle.gix_refspec.proofs.Common.{Contains, slice_get, partial, full_name, Ref, IsFirstCandidate, name, Mapped, HasPair, IsExcluded, AreKeptForward, AreKeptBackward, MakesForward}
 use Rattle.gix_refspec.proofs.Common.{MakesBackward, PairsId, KeptExactly, FirstStays, NothingExcluded, ForwardIndexes, IsValidated, ItemIndexesFit, Removed, same_Some, Reading, id}
-use Rattle.gix_refspec.proofs.Common.{MakesForwardOf, MakesBackwardOf, MadeAtIndexes, RemainsExactly, KeepsRefNames, LeftOut, Ends, AreBackwardEnds, IsPaired, Matches, AreForwardEnds, Takes}
-use Rattle.gix_refspec.{proofs.facts.RefNameFacts.{good, kept, no_ref_names, sides, to_bad}, proofs.facts.ValidationFacts.{unwritable, unequal}}
+use Rattle.gix_refspec.proofs.Common.{MakesForwardOf, MakesBackwardOf, MadeAtIndexes, RemainsExactly, KeepsRefNames, LeftOut, Ends, AreBackwardEnds, IsPaired, Matches, of_element, AreForwardEnds}
+use Rattle.gix_refspec.{proofs.Common.Takes, proofs.facts.RefNameFacts.{good, kept, no_ref_names, sides, to_bad}, proofs.facts.ValidationFacts.{unwritable, unequal}}
 
 abbrev pub group : List Reading
 group = every ∷ no_dev ∷ []
@@ -137,9 +137,10 @@ still_fits items law = law.validated
 -- by the law a mapping of the branch has the index neither of the negative spec nor of the tag
 pub not_of_others : MadeAtIndexes group remote_refs → (rest : List Mapped) → ¬ (AreKeptForward group remote_refs (mapping 2 (codes "refs/heads/main") (Some (codes "refs/remotes/origin/main")) 1 ∷ rest))
     × ¬ (AreKeptForward group remote_refs (tracked 1 (codes "main") ∷ rest))
-not_of_others law rest = (
+not_of_others law rest =
+    let none : ¬ (MakesForwardOf remote_refs (Some 1) (name (codes "refs/heads/main")) (Some (codes "refs/remotes/origin/main")) every) = λ made. search rules in (
   (λ are. (at_spec group 1 _ no_dev refl (law.forward _ are).0).has.positive),
-  λ are. let taken = at_spec group 0 _ every refl (law.forward _ are).0 in search rules,
+  λ are. none (at_spec group 0 _ every refl (law.forward _ are).0),
 )
 
 pub not_of_negative_back : (items : List Ref) → MadeAtIndexes group items → (rest : List Mapped) → ¬ (AreKeptBackward group items (mapping 0 (codes "refs/heads/main") (Some (codes "refs/remotes/origin/main")) 1 ∷ rest))
@@ -160,4 +161,5 @@ named_remains g law rest out keeps = ((law.named rest out keeps kept).1 ((0, ome
 
 pub none_new : (g : List Reading) → RemainsExactly g [] → (rest : List Mapped) (out : List LeftOut) (fixes : List Removed) → (IsValidated g [] rest fixes → ¬ (Contains rest kept)) × (KeepsRefNames [] rest out → ¬ (Contains rest kept))
 none_new g law rest out fixes =
-    ((λ valid has. search (rules, law.validated rest fixes valid kept)), λ keeps has. search (rules, law.named rest out keeps kept))
+    let none : ¬ (Contains [] kept) = of_element (λ m. ⊥) [] kept tt in
+    ((λ valid has. none ((law.validated rest fixes valid kept).0 has).0), λ keeps has. none ((law.named rest out keeps kept).0 has).0)
