@@ -138,7 +138,7 @@ still_fits items law = law.validated
 pub not_of_others : MadeAtIndexes group remote_refs → (rest : List Mapped) → ¬ (AreKeptForward group remote_refs (mapping 2 (codes "refs/heads/main") (Some (codes "refs/remotes/origin/main")) 1 ∷ rest))
     × ¬ (AreKeptForward group remote_refs (tracked 1 (codes "main") ∷ rest))
 not_of_others law rest =
-    let none : ¬ (MakesForwardOf remote_refs (Some 1) (name (codes "refs/heads/main")) (Some (codes "refs/remotes/origin/main")) every) = λ made. search rules in (
+    let none : ¬ (MakesForwardOf remote_refs (Some 1) (name main_ref.name) (Some (codes "refs/remotes/origin/main")) every) = λ m. search rules in (
   (λ are. (at_spec group 1 _ no_dev refl (law.forward _ are).0).has.positive),
   λ are. none (at_spec group 0 _ every refl (law.forward _ are).0),
 )
