@@ -31,16 +31,16 @@ pub tag_made : MakesForwardOf branch_and_tag (Some 1) (name (codes "refs/tags/ma
     × ¬ (MakesForward branch_and_tag (name (codes "refs/heads/main")) (Some (codes "refs/x")) main_to_x)
 tag_made =
     let has : AreForwardEnds main_to_x main_ends = search rules in
-    let paired : IsPaired (Takes branch_and_tag) main_ends (codes "refs/tags/main") (Some (codes "refs/x")) main_tag = 
+    let paired : IsPaired (Takes branch_and_tag) main_ends (codes "refs/tags/main") (Some (codes "refs/x")) main_tag =
     record { word = None; name = refl; takes = takes_the_tag.0; becomes = (full_name (codes "refs/x"), x_kind, refl) } in (
       record { index = 1; is = refl; ref = main_tag; stands = refl; ends = main_ends; has = has; paired = paired },
       (λ taken. search rules),
       (λ taken. cc (taken.is)),
       record { ends = main_ends; has = has; one = (1, main_tag, omega arith, refl, paired) },
       λ made.
-      let (at, item, below, is, paired) = made.one in
-      let first : IsFirstCandidate branch_and_tag (codes "main") item.name = paired.takes.first (codes "main") (rw (← same_Some _ _ made.has.near) short_kind) in
-      no_other_first.0 (search rules),
+          let (at, item, below, is, paired) = made.one in
+          let first : IsFirstCandidate branch_and_tag (codes "main") item.name = paired.takes.first (codes "main") (rw (← same_Some _ _ made.has.near) short_kind) in
+          no_other_first.0 (search rules),
     )
 
 pub pairs_there : KeptExactly (main_to_x ∷ []) branch_and_tag → (kept : List Mapped) → AreKeptForward (main_to_x ∷ []) branch_and_tag kept → HasPair kept tag_pair × ¬ (HasPair kept branch_pair)
@@ -69,7 +69,7 @@ branch_back =
     let r = named (codes "refs/x") in
     let ends : Ends = record { near = codes "refs/x"; far = Some (codes "main") } in
     let has : AreBackwardEnds main_to_x ends = record { positive = tt; near = refl; far = refl; both = refl } in
-    let paired : IsPaired Matches ends (codes "refs/x") (Some (codes "refs/heads/main")) r = 
+    let paired : IsPaired Matches ends (codes "refs/x") (Some (codes "refs/heads/main")) r =
     record { word = None; name = refl; takes = record { kind = full_name (codes "refs/x"); of = x_kind; is = (refl, refl) }; becomes = (partial (codes "main"), short_kind, refl) } in
     search rules
 
@@ -139,9 +139,9 @@ pub not_of_others : MadeAtIndexes group remote_refs → (rest : List Mapped) →
     × ¬ (AreKeptForward group remote_refs (tracked 1 (codes "main") ∷ rest))
 not_of_others law rest =
     let none : ¬ (MakesForwardOf remote_refs (Some 1) (name main_ref.name) (Some (codes "refs/remotes/origin/main")) every) = λ m. search rules in (
-  (λ are. (at_spec group 1 _ no_dev refl (law.forward _ are).0).has.positive),
-  λ are. none (at_spec group 0 _ every refl (law.forward _ are).0),
-)
+      (λ are. (at_spec group 1 _ no_dev refl (law.forward _ are).0).has.positive),
+      λ are. none (at_spec group 0 _ every refl (law.forward _ are).0),
+    )
 
 pub not_of_negative_back : (items : List Ref) → MadeAtIndexes group items → (rest : List Mapped) → ¬ (AreKeptBackward group items (mapping 0 (codes "refs/heads/main") (Some (codes "refs/remotes/origin/main")) 1 ∷ rest))
 not_of_negative_back items law rest are = (at_spec group 1 _ no_dev refl (law.backward _ are).0).has.positive

@@ -51,10 +51,32 @@ left_out_seen b = (refl, refl)
 pub parted : KeepsRefNames (from_bad ∷ kept ∷ to_bad ∷ all_bad ∷ []) (kept ∷ [])
     (record { mapping = from_bad; side = Source } ∷ record { mapping = to_bad; side = Destination } ∷ record { mapping = all_bad; side = Both } ∷ [])
 parted = record {
-  named = (None, _, (λ m made. no_ref_names.2 made.1.source), (Some kept, [], (refl, sides.0),
-    (None, [], (λ m made. no_ref_names.2 made.1.destination), search (rules, no_ref_names.2), refl), refl), refl);
-  others = (Some _, _, record { same = refl; bad = sides.1 }, (None, _, (λ out is. bad_unnamed out.side kept is.bad sides.0),
-    (Some _, _, record { same = refl; bad = sides.2 }, (Some _, [], record { same = refl; bad = sides.3 }, refl, refl), refl), refl), refl);
+  named = (
+    None,
+    _,
+    (λ m made. no_ref_names.2 made.1.source),
+    (
+      Some kept,
+      [],
+      (refl, sides.0),
+      (None, [], (λ m made. no_ref_names.2 made.1.destination), search (rules, no_ref_names.2), refl),
+      refl,
+    ),
+    refl,
+  );
+  others = (
+    Some _,
+    _,
+    record { same = refl; bad = sides.1 },
+    (
+      None,
+      _,
+      (λ out is. bad_unnamed out.side kept is.bad sides.0),
+      (Some _, _, record { same = refl; bad = sides.2 }, (Some _, [], record { same = refl; bad = sides.3 }, refl, refl), refl),
+      refl,
+    ),
+    refl,
+  );
 }
 
 pub none_lost : ¬ (HaveRefNames (kept ∷ []) []) × ¬ (AreLeftOut (to_bad ∷ []) [])

@@ -50,11 +50,14 @@ of_firsts Q y z tag branch =
 pub conflicts_at_x : AreConflicts both_to_x meeting (conflict ∷ [])
 unfolding IsStrictlySortedBy
 conflicts_at_x = record {
-  each = (record {
-    contested = at_x;
-    sources = of_firsts (λ m source. source ≡ m.source) _ _ refl refl;
-    texts = of_firsts (λ m text. IsTextAt both_to_x m.spec text) _ _ (tags_to_x, refl, refl) (heads_to_x, refl, refl);
-  }, tt);
+  each = (
+    record {
+      contested = at_x;
+      sources = of_firsts (λ m source. source ≡ m.source) _ _ refl refl;
+      texts = of_firsts (λ m text. IsTextAt both_to_x m.spec text) _ _ (tags_to_x, refl, refl) (heads_to_x, refl, refl);
+    },
+    tt,
+  );
   every = λ d contested. search rules;
   order = (tt, tt);
 }
@@ -128,7 +131,7 @@ two_survive law rest fixes is = (law.survivors rest _ is.survive validated.survi
 
 -- a copy has the same specs and copies of the mappings: not one less, one more, or other specs
 pub outcome_copies : (o copy : Outcome 1) (m : Mapping) →
-      (copy.group.specs.items ≡ o.group.specs.items → AreMappingCopies o.mappings.items copy.mappings.items → IsOutcomeCopy o copy)
+    (copy.group.specs.items ≡ o.group.specs.items → AreMappingCopies o.mappings.items copy.mappings.items → IsOutcomeCopy o copy)
     × (o.mappings.items ≡ m ∷ [] → copy.mappings.items ≡ [] → ¬ (IsOutcomeCopy o copy))
     × (o.mappings.items ≡ [] → copy.mappings.items ≡ m ∷ [] → ¬ (IsOutcomeCopy o copy))
     × (copy.group.specs.items ≢ o.group.specs.items → ¬ (IsOutcomeCopy o copy))

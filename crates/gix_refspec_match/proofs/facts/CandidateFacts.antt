@@ -24,8 +24,11 @@ tag_first = record { earlier = codes "main" ∷ codes "refs/main" ∷ []; later 
 
 -- so the branch isn't the first, nor is a name that no ref has
 pub no_other_first : ¬ (IsFirstCandidate branch_and_tag (codes "main") (codes "refs/heads/main")) × ¬ (IsFirstCandidate branch_and_tag (codes "main") (codes "main")) × ¬ (IsFirstCandidate [] (codes "main") (codes "refs/tags/main"))
-no_other_first = ((λ first. cc (first_once branch_and_tag _ _ _ tag_first first)),
-    (λ first. grind (arith, first.present)), λ first. first.present)
+no_other_first = (
+  (λ first. cc (first_once branch_and_tag _ _ _ tag_first first)),
+  (λ first. grind (arith, first.present)),
+  λ first. first.present,
+)
 
 pub itself_first : IsFirstCandidate (main_branch ∷ main_tag ∷ just_main ∷ []) (codes "main") (codes "main")
 itself_first = record { earlier = []; later = _; here = refl; absent = tt; present = inr (inr (inl refl)) }
@@ -36,8 +39,11 @@ head_of_remote = record { earlier = take 5 (candidates (codes "x")); later = [];
 
 -- the source takes the tag, and not the branch, though it matches both
 pub takes_the_tag : Takes branch_and_tag (codes "main") main_tag None × ((word : Option (List ℕ)) → ¬ (Takes branch_and_tag (codes "main") main_branch word)) × Matches (codes "main") main_branch None
-takes_the_tag = (taken_by_first branch_and_tag _ main_tag short_kind tag_first, (λ word takes. no_other_first.0 (takes.first _ short_kind)),
-    record { kind = partial (codes "main"); of = short_kind; is = (refl, main_candidate) })
+takes_the_tag = (
+  taken_by_first branch_and_tag _ main_tag short_kind tag_first,
+  (λ word takes. no_other_first.0 (takes.first _ short_kind)),
+  record { kind = partial (codes "main"); of = short_kind; is = (refl, main_candidate) },
+)
 
 -- a full name takes what it matches, whatever the refs are, and no side takes what it doesn't match
 pub takes : Takes [] (codes "refs/tags/blob") (named (codes "refs/tags/blob")) None × ((word : Option (List ℕ)) → ¬ (Takes (named (codes "refs/x/main") ∷ []) (codes "main") (named (codes "refs/x/main")) word))
@@ -73,9 +79,23 @@ pub x_kind : HasKind (codes "refs/x") (full_name (codes "refs/x"))
 x_kind = search (arith, Lacks-tested)
 
 main_hits : AreSpecHits AreForwardEnds (Takes branch_and_tag) branch_and_tag 0 main_to_x (tag_hit ∷ [])
-main_hits = inl (main_ends, search (rules, short_no_id), (None, tag_hit ∷ [], (λ hit is. takes_the_tag.1 is.word is.takes), (Some tag_hit, [],
-    record { word = None; takes = takes_the_tag.0; far = (full_name (codes "refs/x"), x_kind, refl); near = refl; spec = refl; item = refl },
-    refl, refl), refl))
+main_hits = inl (
+  main_ends,
+  search (rules, short_no_id),
+  (
+    None,
+    tag_hit ∷ [],
+    (λ hit is. takes_the_tag.1 is.word is.takes),
+    (
+      Some tag_hit,
+      [],
+      record { word = None; takes = takes_the_tag.0; far = (full_name (codes "refs/x"), x_kind, refl); near = refl; spec = refl; item = refl },
+      refl,
+      refl,
+    ),
+    refl,
+  ),
+)
 
 pub not_excluded : (n : List ℕ) → ¬ (IsExcluded (main_to_x ∷ []) n)
 not_excluded n by = grind arith
@@ -96,7 +116,10 @@ pub maps_no_branch : AreKeptForward (main_to_x ∷ no_tags ∷ []) branch_and_ta
 maps_no_branch = record {
   all = _;
   forward = record {
-    ids = []; hits = tag_hit ∷ []; all = refl; are_ids = (None, [], no_main_id 0 main_to_x refl, (None, [], (λ m made. made.positive), refl, refl), refl);
+    ids = [];
+    hits = tag_hit ∷ [];
+    all = refl;
+    are_ids = (None, [], no_main_id 0 main_to_x refl, (None, [], (λ m made. made.positive), refl, refl), refl);
     are_hits = (tag_hit ∷ [], [], main_hits, ([], [], inr ((λ ends are. are.positive), refl), refl, refl), refl);
   };
   is = (None, [], (λ m stays. stays.1.included (inr (inl (search (rules, tags_excluded))))), refl, refl);

@@ -18,8 +18,13 @@ stays_first = (search rules, (λ stays. stays.first (inl pairs.0)), (Some tag_to
 -- a source alone is near, of a push too, but not that of a negative spec, nor an id, nor is a destination
 pub forward_ends_of : AreForwardEnds every forward_ends × AreForwardEnds (pushed Normal (Some (codes "refs/x/a")) None) (record { near = codes "refs/x/a"; far = None })
     × ((ends : Ends) → ¬ (AreForwardEnds no_dev ends) × ¬ (AreForwardEnds blob ends) × ¬ (AreForwardEnds (pushed Normal None (Some (codes "a"))) ends)) × ¬ (AreForwardEnds every backward_ends) × ¬ (AreForwardEnds every (record { near = codes "refs/heads/*"; far = None }))
-forward_ends_of = (are_forward_ends, search rules, (λ e. ((λ are. are.positive), no_blob_ends e, λ are. none_some e.near are.near)),
-    (λ are. cc (are.near)), λ are. cc (are.far))
+forward_ends_of = (
+  are_forward_ends,
+  search rules,
+  (λ e. ((λ are. are.positive), no_blob_ends e, λ are. none_some e.near are.near)),
+  (λ are. cc (are.near)),
+  λ are. cc (are.far),
+)
 
 abbrev blob_back : Ends
 blob_back = record { near = codes "refs/tags/blob"; far = Some (codes "e69de29bb2d1d6434b8b29ae775ad8c2e48c5391") }
@@ -27,9 +32,13 @@ blob_back = record { near = codes "refs/tags/blob"; far = Some (codes "e69de29bb
 -- a destination is near where there is a source, of a push too, and an id may be far
 pub backward_ends_of : AreBackwardEnds every backward_ends × AreBackwardEnds (pushed Normal (Some (codes "a")) (Some (codes "b"))) (record { near = codes "b"; far = Some (codes "a") }) × AreBackwardEnds blob blob_back
     × ((ends : Ends) → ¬ (AreBackwardEnds no_dev ends) × ¬ (AreBackwardEnds short ends) × ¬ (AreBackwardEnds (pushed Normal None (Some (codes "a"))) ends) × ¬ (AreBackwardEnds (fetched Negative (codes "a") (Some (codes "b"))) ends)) × ¬ (AreBackwardEnds every forward_ends)
-backward_ends_of = (search rules, search rules, search rules,
-    (λ e. ((λ are. are.positive), (λ are. none_some e.near are.near), (λ are. false≢true (rw (← are.far) at are.both)), λ are. are.positive)),
-    λ are. cc (are.near))
+backward_ends_of = (
+  search rules,
+  search rules,
+  search rules,
+  (λ e. ((λ are. are.positive), (λ are. none_some e.near are.near), (λ are. false≢true (rw (← are.far) at are.both)), λ are. are.positive)),
+  λ are. cc (are.near),
+)
 
 abbrev pub x_side : List ℕ
 x_side = codes "refs/x/*"
@@ -79,11 +88,35 @@ pub id_mappings : IsIdMapping 7 (fetched Forced (codes "e69de29bb2d1d6434b8b29ae
     × ¬ (IsIdMapping 0 blob blob_mapping) × ¬ (IsIdMapping 1 blob (record { item = Some 0; source = id empty_blob; destination = Some (codes "refs/tags/blob"); spec = 1 }))
     × ((m : Mapped) → ¬ (IsIdMapping 1 (fetched Negative (codes "e69de29bb2d1d6434b8b29ae775ad8c2e48c5391") None) m) × ¬ (IsIdMapping 1 short m))
     × ¬ (IsIdMapping 1 blob (record { item = None; source = name empty_blob; destination = Some (codes "refs/tags/blob"); spec = 1 }))
-id_mappings = (search (rules, blob_kind), (λ made. omega (arith, made.spec)), (λ made. cc (made.item)),
-    (λ m. ((λ made. made.positive), no_main_id 1 short refl m)), λ made. cc (made.source))
+id_mappings = (
+  search (rules, blob_kind),
+  (λ made. omega (arith, made.spec)),
+  (λ made. cc (made.item)),
+  (λ m. ((λ made. made.positive), no_main_id 1 short refl m)),
+  λ made. cc (made.source),
+)
 
 -- from right to left the id of an object maps nothing where its destination matches nothing
 pub no_id_back : AreBackward (blob ∷ []) (main_ref ∷ []) []
-no_id_back = record { hits = []; are_hits = ([], [], inl (blob_back, backward_ends_of.2, (None, [], (λ hit is.
-    omega (arith, ap length (matches_as (codes "refs/tags/blob") (full_name (codes "refs/tags/blob")) main_ref is.word below_tags is.takes).1)),
-    refl, refl)), refl, refl); all = refl }
+no_id_back = record {
+  hits = [];
+  are_hits = (
+    [],
+    [],
+    inl (
+      blob_back,
+      backward_ends_of.2,
+      (
+        None,
+        [],
+        (λ hit is.
+            omega (arith, ap length (matches_as (codes "refs/tags/blob") (full_name (codes "refs/tags/blob")) main_ref is.word below_tags is.takes).1)),
+        refl,
+        refl,
+      ),
+    ),
+    refl,
+    refl,
+  );
+  all = refl;
+}

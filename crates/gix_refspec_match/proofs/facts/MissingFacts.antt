@@ -27,6 +27,25 @@ id_not_missing = (None, [], (λ k told. no_name told.1.source (same_Some _ _ tol
 
 -- of the same name, which no ref has, a negative spec lacks nothing, and a positive one lacks its source
 pub negative_not_missing : AreMissing (fetched Negative (codes "main") None ∷ short ∷ []) [] (1 ∷ [])
-negative_not_missing = (None, 1 ∷ [], (λ k told. told.1.positive), (Some 1, [],
-    (refl, record { positive = tt; source = codes "main"; is = refl; named = inr short_kind;
-    absent = λ ref word (k, below, is). omega (arith, below) }), refl, refl), refl)
+negative_not_missing = (
+  None,
+  1 ∷ [],
+  (λ k told. told.1.positive),
+  (
+    Some 1,
+    [],
+    (
+      refl,
+      record {
+        positive = tt;
+        source = codes "main";
+        is = refl;
+        named = inr short_kind;
+        absent = λ ref word (k, below, is). omega (arith, below);
+      },
+    ),
+    refl,
+    refl,
+  ),
+  refl,
+)

@@ -35,8 +35,11 @@ not_alone wish refs law missing plan = let (q, has, both) = (law _ missing plan)
 
 pub not_written : (wish : Wish) (refs : List Ref) → ConflictsExactly wish refs → (missing : List Origin) → ¬ (IsPlan wish refs (from_b Written ∷ from_a InConflict ∷ []) missing)
 not_written wish refs law missing plan =
-    cc ((law _ missing plan).0.1 (_, (1, omega arith, refl),
-        record { one = inl refl; other = inr refl; destination = _; one_to = refl; other_to = refl; differ = λ same. grind arith }))
+    cc ((law _ missing plan).0.1 (
+      _,
+      (1, omega arith, refl),
+      record { one = inl refl; other = inr refl; destination = _; one_to = refl; other_to = refl; differ = λ same. grind arith },
+    ))
 
 -- `git fetch origin main`, and `git fetch` with a merged ref
 abbrev fetch_main : Wish

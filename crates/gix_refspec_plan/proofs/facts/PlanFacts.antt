@@ -62,9 +62,19 @@ moved = refl
 
 -- a merged ref is fetched by its full name, and once; no other value is
 pub merges : AreMerges (codes "refs/heads/main" ∷ codes "main" ∷ codes "refs/heads/main" ∷ []) [] (merged (codes "refs/heads/main") ∷ [])
-merges =
-    (Some _, [], (refl, ref_names.0, (λ covers. grind arith), λ has. grind arith), (None, [], (λ a told. no_ref_names.0 told.1),
-    (None, [], (λ a told. told.3 (0, omega arith, refl)), refl, refl), refl), refl)
+merges = (
+  Some _,
+  [],
+  (refl, ref_names.0, (λ covers. grind arith), λ has. grind arith),
+  (
+    None,
+    [],
+    (λ a told. no_ref_names.0 told.1),
+    (None, [], (λ a told. told.3 (0, omega arith, refl)), refl, refl),
+    refl,
+  ),
+  refl,
+)
 
 -- nor is one that a spec fetches already
 pub covered : AreMerges (codes "refs/heads/a" ∷ []) (ax ∷ []) [] × ¬ (AreMerges (codes "refs/heads/a" ∷ []) (bx ∷ []) [])
@@ -122,18 +132,23 @@ index_besides =
 -- `main` is missing among no refs, but not beside a branch of that name; a negative spec and a pattern lack nothing
 pub missing : AreMissing (no_dev ∷ short ∷ all_tags ∷ []) [] (1 ∷ []) × AreMissing (short ∷ []) (main_ref ∷ []) []
 missing =
-  let is : Matches (codes "main") main_ref None = record { kind = partial _; of = short_kind; is = (refl, main_candidate) } in (
-  (None, _, (λ k told. told.1.positive), (Some 1, [], (refl, main_lacking), (None, [], (λ k told. tags_lack_nothing [] told.1), refl, refl), refl), refl),
-  (None, [], (λ k told. told.1.absent main_ref None (0, omega arith, refl) (rw (← same_Some _ _ told.1.is) is)), refl, refl),
-)
+    let is : Matches (codes "main") main_ref None = record { kind = partial _; of = short_kind; is = (refl, main_candidate) } in (
+      (None, _, (λ k told. told.1.positive), (Some 1, [], (refl, main_lacking), (None, [], (λ k told. tags_lack_nothing [] told.1), refl, refl), refl), refl),
+      (None, [], (λ k told. told.1.absent main_ref None (0, omega arith, refl) (rw (← same_Some _ _ told.1.is) is)), refl, refl),
+    )
 
 pub may_be_missing : MayBeMissing (Merge 0) × ¬ (MayBeMissing (Given 0)) × ¬ (MayBeMissing (Configured 0)) × ¬ (MayBeMissing Default)
 may_be_missing = search rules
 
 -- of a name, a merged ref and all tags only the name is missing
 pub lacking : AreLacking [] (listed short (Given 0) ∷ merged (codes "refs/heads/main") ∷ tags_asked true) (Given 0 ∷ [])
-lacking = (Some _, [], (refl, (λ may. may), main_lacking),
-    (None, [], (λ o told. told.1 (rw told.0 tt)), (None, [], (λ o told. tags_lack_nothing [] told.2), refl, refl), refl), refl)
+lacking = (
+  Some _,
+  [],
+  (refl, (λ may. may), main_lacking),
+  (None, [], (λ o told. told.1 (rw told.0 tt)), (None, [], (λ o told. tags_lack_nothing [] told.2), refl, refl), refl),
+  refl,
+)
 
 abbrev planned : Verdict → Planned
 planned v = update ax 0 (Given 0) v

@@ -25,7 +25,7 @@ writes_x source = name_writes _ _ (record { positive = tt; destination = codes "
 from_tag : CanWriteFrom (to_x (codes "main")) x (codes "refs/tags/main")
 from_tag =
     let matches : Matches (codes "main") (ref_named (codes "refs/tags/main")) None =
-        record { kind = partial (codes "main"); of = short_kind; is = (refl, record { earlier = _ ∷ _ ∷ []; later = _; here = refl }) } in
+    record { kind = partial (codes "main"); of = short_kind; is = (refl, record { earlier = _ ∷ _ ∷ []; later = _; here = refl }) } in
     search (rules, writes_x (codes "main"), matches)
 
 by_no_tag : IsExcludedBy (codes "refs/tags/main") no_tag
@@ -63,7 +63,7 @@ pub dev_stale : IsStale (every ∷ []) (main_ref ∷ []) (codes "refs/remotes/or
 dev_stale =
     let whole : IsCompleted every every = whole_pattern (codes "refs/remotes/origin/") in
     let matches : Matches (codes "refs/remotes/origin/*") (ref_named (codes "refs/remotes/origin/dev")) (Some (codes "dev")) =
-        record { kind = pattern (codes "refs/remotes/origin/") []; of = origin_split; is = refl } in
+    record { kind = pattern (codes "refs/remotes/origin/") []; of = origin_split; is = refl } in
     record {
       writable = (every, Some (codes "dev"), (0, omega arith, refl), search (rules, whole, matches));
       no_object = λ (r, there, w). let (v, some, fits) = by_every r _ None there w.writes in cc;
@@ -105,8 +105,13 @@ x_ends = record { positive = tt; near = refl; far = refl; no_object = λ bytes k
 made : AreKeptForward completed (main_ref ∷ []) (forward_of x_hit ∷ [])
 made = record {
   all = forward_of x_hit ∷ [];
-  forward = forward_beside _ _ (x_hit ∷ []) x_ends (refl, tt) (Some _, [],
-    record { word = None; takes = takes; far = (full_name x, x_full, refl); near = refl; spec = refl; item = refl }, refl, refl);
+  forward = forward_beside _ _ (x_hit ∷ []) x_ends (refl, tt) (
+    Some _,
+    [],
+    record { word = None; takes = takes; far = (full_name x, x_full, refl); near = refl; spec = refl; item = refl },
+    refl,
+    refl,
+  );
   is = (Some _, [], (refl, record { first = λ none. none; included = not_excluded tt no_main }), refl, refl);
 }
   where

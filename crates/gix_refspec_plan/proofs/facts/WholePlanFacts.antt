@@ -63,11 +63,14 @@ module _ (far : List ℕ) (split : IsSplit far [] (far ++ codes "*")) where
 -- a merged ref that a configured spec maps and another excludes isn't covered
 pub excluded_uncovered : AreUncovered (record { given = []; configured = every ∷ no_main ∷ []; merges = codes "refs/heads/main" ∷ []; tags = false }) (main_ref ∷ []) (merged (codes "refs/heads/main") ∷ [])
 excluded_uncovered =
-    inr (listed every (Configured 0) ∷ listed no_main (Configured 1) ∷ [], [],
-    (Some _, _, (refl, tt), (Some _, [], (refl, tt), refl, refl), refl),
-    mapped origin_folder origin_split (codes "main" ∷ []) (Configured 0) (listed no_main (Configured 1) ∷ []) [] (search rules, tt)
-    (refl, tt) (None, [], (λ m is. is.1.included (inr (inl (excluded_by (the_name (search (rules, arith)) refl))))), refl, refl),
-    one_merge _ [] ref_names.0 (λ covers. grind arith))
+    inr (
+      listed every (Configured 0) ∷ listed no_main (Configured 1) ∷ [],
+      [],
+      (Some _, _, (refl, tt), (Some _, [], (refl, tt), refl, refl), refl),
+      mapped origin_folder origin_split (codes "main" ∷ []) (Configured 0) (listed no_main (Configured 1) ∷ []) [] (search rules, tt)
+          (refl, tt) (None, [], (λ m is. is.1.included (inr (inl (excluded_by (the_name (search (rules, arith)) refl))))), refl, refl),
+      one_merge _ [] ref_names.0 (λ covers. grind arith),
+    )
 
 -- a fetch of the branches without `dev-*`, besides which all are configured
 abbrev fetch_branches : Wish
@@ -89,13 +92,22 @@ module _ (far : List ℕ) (split : IsSplit far [] (far ++ codes "*")) where
   -- the negative spec excludes dev-a; without it both branches are mapped
   main_mapped : (o p : Origin) → AreMapped (listed (to_below far) o ∷ listed no_dev p ∷ []) branches (main_below far ∷ [])
   main_mapped o p = mapped far split (codes "dev-a" ∷ codes "main" ∷ []) o (listed no_dev p ∷ []) (main_below far ∷ [])
-      (search rules, tt) (refl, tt) (None, _, (λ m is. is.1.included (inr (inl (excluded_by excludes_dev)))),
-      (Some _, [], (refl, record { first = λ pair. grind arith; included = not_excluded tt excludes_no_main }), refl, refl), refl)
+      (search rules, tt) (refl, tt) (
+        None,
+        _,
+        (λ m is. is.1.included (inr (inl (excluded_by excludes_dev)))),
+        (Some _, [], (refl, record { first = λ pair. grind arith; included = not_excluded tt excludes_no_main }), refl, refl),
+        refl,
+      )
 
   both_mapped : (o : Origin) → AreMapped (listed (to_below far) o ∷ []) branches (dev_below far ∷ main_below far ∷ [])
-  both_mapped o = mapped far split (codes "dev-a" ∷ codes "main" ∷ []) o [] (dev_below far ∷ main_below far ∷ []) tt tt
-      (Some _, _, (refl, record { first = λ none. none; included = none_excluded tt }),
-      (Some _, [], (refl, record { first = λ pair. grind arith; included = none_excluded tt }), refl, refl), refl)
+  both_mapped o = mapped far split (codes "dev-a" ∷ codes "main" ∷ []) o [] (dev_below far ∷ main_below far ∷ []) tt tt (
+    Some _,
+    _,
+    (refl, record { first = λ none. none; included = none_excluded tt }),
+    (Some _, [], (refl, record { first = λ pair. grind arith; included = none_excluded tt }), refl, refl),
+    refl,
+  )
 
 -- the configured spec is applied to the branches that the call takes, and the negative spec of the call excludes from them
 pub tracked : IsTracked fetch_branches branches tracking (0 ∷ 1 ∷ []) (main_below origin_folder ∷ [])
@@ -130,14 +142,30 @@ fetched_first = record {
   are_asked = AreAsked.by_call _ (λ none. cc) (Some _, _, (refl, tt), (Some _, [], (refl, tt), refl, refl), refl) refl;
   are_firsts = main_mapped x_folder (split_at_end x_folder refl) (Given 0) (Given 1);
   are_seconds = tracked;
-  are_before = (Some _, [], record { source = refl; item = refl; destination = refl; origin = (_, refl, refl);
-      verdict = (sound _ _ refl refl, alone _) }, refl, refl);
+  are_before = (
+    Some _,
+    [],
+    record {
+      source = refl;
+      item = refl;
+      destination = refl;
+      origin = (_, refl, refl);
+      verdict = (sound _ _ refl refl, alone _);
+    },
+    refl,
+    refl,
+  );
   are_behind =
       let new : ¬ (HasPair (main_below x_folder ∷ []) (main_below origin_folder)) = λ pair. grind arith in
       let free : ¬ (IsTakenOver (main_below x_folder ∷ []) (main_below origin_folder)) = λ (n, has, is, share). grind (arith, one_in) in
       let from : HasOrigin tracking (main_below origin_folder) (Configured 0) = (_, refl, refl) in
       (Some _, [], search (rules, arith, sound, alone), refl, refl);
   all = refl;
-  lacks = (None, [], (λ o told. let named = rw (← same_Some _ _ told.2.is) at told.2.named in grind arith),
-      (None, [], (λ o told. told.2.positive), refl, refl), refl);
+  lacks = (
+    None,
+    [],
+    (λ o told. let named = rw (← same_Some _ _ told.2.is) at told.2.named in grind arith),
+    (None, [], (λ o told. told.2.positive), refl, refl),
+    refl,
+  );
 }

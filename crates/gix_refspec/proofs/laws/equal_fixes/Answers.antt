@@ -1,5 +1,6 @@
 use Rattle.gix_refspec.proofs.Common.{MappingWithPartialDestinationRemoved, ◌↔◌, IsTrue, bstring_bytes, bytes_eq-Decides, Fix, meaning_of, owned_reading_of, IsSameFix, and_parts, and_from, equal_keys}
 use Rattle.gix_refspec.specs.contracts.match_group.validate.FixPartialEq.TheImpl.{ghosts}
+
 -- Names are compared by their bytes, specs by their meaning.
 
 same_fix : (a b : Fix) → IsTrue (ghosts.eq a b) ↔ IsSameFix a b

@@ -5,6 +5,7 @@ use Rattle.gix_refspec_match.specs.contracts.types.SourceRefPartialEq.TheImpl.{g
 use Rattle.gix_refspec.specs.contracts.match_group.validate.IssuePartialEq.TheImpl.{ghosts}
 use Rattle.gix_refspec_match.specs.declared.types.SourceRef.TheVariants as source_ref
 use Rattle.gix_refspec.specs.declared.match_group.validate.Issue.TheVariants as issue
+
 -- Destinations and texts are compared by their bytes, sources as names and ids.
 
 same_source : (a b : SourceRef) → (compared_sources.eq a b ≡ true) ↔ (start_of a ≡ start_of b)

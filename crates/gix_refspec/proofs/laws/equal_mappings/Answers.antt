@@ -1,4 +1,5 @@
 use Rattle.gix_refspec.proofs.Common.{and_parts, and_from}
+
 -- both parts of the pair are the same
 
 pub returns : Rattle.gix_refspec.proofs.laws.equal_mappings.Goals.returns

@@ -125,7 +125,7 @@ kept g h all list alike is =
 forward : (g h : List Reading) (items : List Ref) (list : List Mapped) → AllZip AreAlike g h → AreKeptForward g items list → AreKeptForward h items list
 forward g h items list alike are =
     let ids = made_zip AreAlike IsIdMapping IsIdMapping (λ k r q m same. (id_mapping k r q m same, id_mapping k q r m (alike_back r q same)))
-        0 g h are.forward.ids alike are.forward.are_ids in
+    0 g h are.forward.ids alike are.forward.are_ids in
     search (rules, ids, group_hits AreForwardEnds (Takes items) forward_ends items g h are.forward.hits alike, kept g h are.all list alike)
 
 backward : (g h : List Reading) (items : List Ref) (list : List Mapped) → AllZip AreAlike g h → AreKeptBackward g items list → AreKeptBackward h items list

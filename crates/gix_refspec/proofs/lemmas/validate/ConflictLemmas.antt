@@ -173,8 +173,8 @@ module _ (g : List Reading) (l : List Mapped) (run others : List Update) (cs : L
   skipped : 0 < length run → length run ≤ 1 → AreReported g l others cs
   skipped some few =
       let every = λ (d : List ℕ) (contested : HasConflictAt l d). by_cases (contested_cases d contested) (λ to. absurd (
-        let two = two_firsts l split.destination (rw to at contested) in
-        two.2 (one_update_only split.destination run two.0 two.1 few ((firsts_of_run some two.0).1 two.3) ((firsts_of_run some two.1).1 two.4))
+      let two = two_firsts l split.destination (rw to at contested) in
+      two.2 (one_update_only split.destination run two.0 two.1 few ((firsts_of_run some two.0).1 two.3) ((firsts_of_run some two.1).1 two.4))
       )) (λ other. other) in
       search (rules, settled.left, HasUpdate-right run others, behind_run, strict_right update_cmp run others, all_still_below, every)
 

@@ -69,7 +69,6 @@ made_at_indexes {Y} P Q l k (x ∷ rest) (n ∷ ns) (y ∷ ys) at has rises abov
   where
     is_x : slice_get l k ≡ Some x
     is_x = here_at l k x rest at
-
 made_at_indexes P Q l k rest ns ys at has rises above zip = absurd zip
 
 text_cases : (x y : List ℕ) → (x ≡ y) ⊎ (x ≢ y)

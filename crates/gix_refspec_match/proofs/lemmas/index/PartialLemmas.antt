@@ -36,8 +36,15 @@ IsInRefs n x = (n ≡ codes "refs/" ++ drop 5 n) × ((drop 5 n ≡ x) ⊎ IsBehi
 candidate_from : (n x : List ℕ) → (n ≡ x) ⊎ IsInRefs n x → IsCandidate x n
 candidate_from n x told =
     let at = placed_candidate x n in
-    search (rules, at [], at (codes "refs/"), at (codes "refs/tags/"), at (codes "refs/heads/"), at (codes "refs/remotes/"),
-    remote_candidate x n)
+    search (
+      rules,
+      at [],
+      at (codes "refs/"),
+      at (codes "refs/tags/"),
+      at (codes "refs/heads/"),
+      at (codes "refs/remotes/"),
+      remote_candidate x n,
+    )
 
 candidate_in : (n x : List ℕ) → IsCandidate x n → (n ≡ x) ⊎ IsInRefs n x
 candidate_in n x one = let cases = candidate_cases x n one in grind (arith, cases)

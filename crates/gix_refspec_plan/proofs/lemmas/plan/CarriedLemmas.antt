@@ -86,7 +86,7 @@ carried_out_exactly wish refs planned missing plan = (
     (λ r required lacks.
         let (a, has, (is, stays)) = required_asked wish refs plan.asked r plan.are_asked required in
         let (o, inside, any) = made_has (λ (k : ℕ) (a : Asked) (o : Origin). (o ≡ a.origin) × ¬ (MayBeMissing o) × LacksSource refs a.reading) (λ o. Unit {0}) 0 plan.asked missing a plan.lacks has
-            (λ k. (a.origin, (refl, stays, rw is lacks))) (λ k o told. tt) in
+        (λ k. (a.origin, (refl, stays, rw is lacks))) (λ k o told. tt) in
         nothing_in missing o carried.whole inside),
     (λ p q has_p has_q both.
         All-contains (λ (x : Planned). x.verdict ≢ InConflict) planned p

@@ -34,9 +34,13 @@ StandBehind P ms names = (before : List (List ℕ)) × ((n : List ℕ) → Conta
 
 -- the merged refs stand behind those that sound mappings are of
 pub behind_sources : (merges : List (List ℕ)) (mapped : List Mapped) (names : List BStr) → AreNames merges mapped (map bstr_bytes names) → StandBehind (Covers mapped) merges names
-behind_sources merges mapped names (sources, are, whole) = (sources, (λ n.
-    let told = made_exactly (λ (m : Mapped) (n : List ℕ). IsSound m × (m.source ≡ name n)) (λ m y z of also. let one : name z ≡ name y = sym also.1 ∙ of.1 in cc) mapped sources are n in
-    ((λ has. let (m, inside, (sound, source)) = told.0 has in (m, inside, sound, source)), (λ (m, inside, sound, source). told.1 (m, inside, (sound, source))))), whole)
+behind_sources merges mapped names (sources, are, whole) = (
+  sources,
+  (λ n.
+      let told = made_exactly (λ (m : Mapped) (n : List ℕ). IsSound m × (m.source ≡ name n)) (λ m y z of also. let one : name z ≡ name y = sym also.1 ∙ of.1 in cc) mapped sources are n in
+      ((λ has. let (m, inside, (sound, source)) = told.0 has in (m, inside, sound, source)), (λ (m, inside, sound, source). told.1 (m, inside, (sound, source))))),
+  whole,
+)
 
 -- the names of local refs stand behind the destinations of mappings
 pub behind_destinations : (mapped : List Mapped) (locals : List Ref) (names : List BStr) → AreLocalNames mapped locals (map bstr_bytes names) → StandBehind (HasDestination mapped) (ref_names locals) names

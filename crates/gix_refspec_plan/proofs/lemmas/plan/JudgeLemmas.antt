@@ -17,8 +17,10 @@ use Rattle.gix_refspec_plan.proofs.lemmas.plan.MadeLemmas.{made_one, made_none, 
 
 module _ {X : Type 0} (P : X → Type 0) where
   any_cons : (x : X) (l : List X) → Any P (x ∷ l) ↔ (P x ⊎ Any P l)
-  any_cons x l = ((λ any. search (rules, some_of P (x ∷ l) any, some_at P l)),
-      (λ any. some_at P (x ∷ l) (search (rules, any, some_of P l))))
+  any_cons x l = (
+    (λ any. search (rules, some_of P (x ∷ l) any, some_at P l)),
+    (λ any. some_at P (x ∷ l) (search (rules, any, some_of P l))),
+  )
 
   any_more : (l : List X) (x : X) → Any P (l ++ x ∷ []) ↔ (Any P l ⊎ P x)
   any_more [] x = search (rules, any_cons x [])
@@ -88,8 +90,10 @@ none_contested l empty apart free none d = rw none (
 
 module _ (m : Mapped) (d : List ℕ) (goes : m.destination ≡ Some d) where
   pub taken_told : (l : List Mapped) (w : Option Bool) → IsCount l d w → (is_some w ≡ true) ↔ IsTakenOver l m
-  taken_told l None none = ((λ told. absurd (false≢true told)),
-      (λ (n, (i, below, at), sound, (e, from, to)). absurd (none (i, n, below, at, (sound, to ∙ sym from ∙ goes)))))
+  taken_told l None none = (
+    (λ told. absurd (false≢true told)),
+    (λ (n, (i, below, at), sound, (e, from, to)). absurd (none (i, n, below, at, (sound, to ∙ sym from ∙ goes)))),
+  )
   taken_told l (Some several) ((i, n, below, at, (sound, to)), whether) =
       ((λ told. (n, (i, below, at), sound, (d, goes, to))), (λ taken. refl))
 

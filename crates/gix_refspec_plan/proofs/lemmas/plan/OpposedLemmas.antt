@@ -59,7 +59,7 @@ module _ (over l : List Mapped) (updates : List Planned) (are : AreUpdates over 
       let (m, inside, (source, destination, verdict)) = are.by p has in
       let (sound, free, (n, also, sound_n, (d, from, to), differ)) = subst (HasSecondVerdict over l m) is verdict in
       let free_n : ¬ (IsTakenOver over n) =
-          λ (x, has_x, sound_x, (e, n_to, x_to)). free (x, has_x, sound_x, (d, from, x_to ∙ sym n_to ∙ to)) in
+      λ (x, has_x, sound_x, (e, n_to, x_to)). free (x, has_x, sound_x, (d, from, x_to ∙ sym n_to ∙ to)) in
       let contested : IsContested l n = (m, inside, sound, (d, to, from), λ same. differ (sym same)) in
       let (q, has_q, (q_source, q_destination, q_verdict)) = are.of n also sound_n free_n contested in
       let q_is = conflict_of over l n q.verdict sound_n free_n contested q_verdict in
@@ -71,9 +71,13 @@ module _ (over l : List Mapped) (updates : List Planned) (are : AreUpdates over 
       let (n, in_n, (n_source, n_destination, n_verdict)) = are.by q has_q in
       let (sound, free) = sound_of over l m p.verdict m_verdict both.one in
       let sound_n = (sound_of over l n q.verdict n_verdict both.other).0 in
-      let contested : IsContested l m =
-          (n, in_n, sound_n, (both.destination, sym m_destination ∙ both.one_to, sym n_destination ∙ both.other_to),
-          λ same. both.differ (m_source ∙ same ∙ sym n_source)) in
+      let contested : IsContested l m = (
+        n,
+        in_n,
+        sound_n,
+        (both.destination, sym m_destination ∙ both.one_to, sym n_destination ∙ both.other_to),
+        λ same. both.differ (m_source ∙ same ∙ sym n_source),
+      ) in
       conflict_of over l m p.verdict sound free contested m_verdict
 
 module _ (wish : Wish) (refs : List Ref) (planned : List Planned) (missing : List Origin) (plan : IsPlan wish refs planned missing) where
@@ -81,7 +85,7 @@ module _ (wish : Wish) (refs : List Ref) (planned : List Planned) (missing : Lis
   firsts_are = record {
     by = λ p has.
         let (k, m, inside, of_p) =
-            made_from (λ k m p. IsPlanned plan.asked plan.firsts m p) 0 plan.firsts plan.before p plan.are_before has in
+        made_from (λ k m p. IsPlanned plan.asked plan.firsts m p) 0 plan.firsts plan.before p plan.are_before has in
         (m, inside, (of_p.source, of_p.destination, as_second plan.firsts m p.verdict of_p.verdict));
     of = λ m has sound free contested.
         let (o, from) = origin_of plan.asked plan.firsts m (mappings_of plan.asked refs plan.firsts plan.are_firsts) has in
@@ -127,7 +131,7 @@ module _ (wish : Wish) (refs : List Ref) (planned : List Planned) (missing : Lis
       let (n, in_n, (n_source, n_destination, n_verdict)) = seconds_are.by q has_q in
       let sound = (sound_of [] plan.firsts m p.verdict m_verdict one).0 in
       (sound_of plan.firsts plan.seconds n q.verdict n_verdict other).1
-          (m, in_m, sound, (d, sym n_destination ∙ q_to, sym m_destination ∙ p_to))
+      (m, in_m, sound, (d, sym n_destination ∙ q_to, sym m_destination ∙ p_to))
 
   pub in_conflict : (p q : Planned) → Contains planned p → Contains planned q → DoConflict p q → p.verdict ≡ InConflict
   in_conflict p q has_p has_q both = by (listed p has_p) (listed q has_q)
@@ -160,7 +164,7 @@ module _ (all : List Mapped) (R : ℕ → Mapped → Planned → Type 0)
   each_apart j k m p l ps of_p inside differ made = recursion_from_All (AreWrittenApart p) ps (λ i d below.
       let (n_at, n, has, of_q) = made_from R k l ps (get_or ps i d) made (Contains-get_or ps i d below) in
       pair_apart j n_at m n p (get_or ps i d) of_p of_q (inside n has)
-          (All-contains (λ n. ¬ (IsSamePair m n)) l n (All-from_recursion (λ n. ¬ (IsSamePair m n)) l differ) has))
+      (All-contains (λ n. ¬ (IsSamePair m n)) l n (All-from_recursion (λ n. ¬ (IsSamePair m n)) l differ) has))
 
   list_once : (k : ℕ) (l : List Mapped) (ps : List Planned) → ((n : Mapped) → Contains l n → Contains all n) → AreApart l → IsMadeFrom R k l ps → AreWrittenOnce ps
   list_once k [] ps inside apart none = rw none tt

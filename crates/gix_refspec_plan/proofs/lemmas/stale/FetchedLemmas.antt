@@ -159,17 +159,20 @@ module _ (r c : Reading) (accepted : ∥ IsAccepted r ∥₁) (done : IsComplete
       let (has, becomes) = written_there n w.word w.writes in
       let (t, matches, present, first) = takes_first items w.source s w.word w.matches.kind w.matches.of w.matches.is there in
       let no_object : (bytes : List ℕ) → ¬ (HasKind w.source (object bytes)) = λ bytes kind.
-          no_object_named w.source t w.word bytes kind (matches_as w.source (object bytes) (ref_named t) w.word kind matches) in
-      (t, record { word = w.word; writes = w.writes; source = w.source; is = w.is; matches = matches }, record {
-        ends = record { near = w.source; far = Some w.writes.destination };
-        has = record { positive = subst IsPositive (sym done.mode) w.writes.positive; near = done.source ∙ w.is; far = has; no_object = no_object };
-        one = named_some _ items t present (λ item named. record {
-          word = w.word;
-          name = named;
-          takes = record { matches = match_named w.source (ref_named t) item w.word (sym named) (λ bytes kind. absurd (no_object bytes kind)) matches; first = λ m kind. rw named (first m kind) };
-          becomes = becomes;
-        });
-      })
+      no_object_named w.source t w.word bytes kind (matches_as w.source (object bytes) (ref_named t) w.word kind matches) in (
+        t,
+        record { word = w.word; writes = w.writes; source = w.source; is = w.is; matches = matches },
+        record {
+          ends = record { near = w.source; far = Some w.writes.destination };
+          has = record { positive = subst IsPositive (sym done.mode) w.writes.positive; near = done.source ∙ w.is; far = has; no_object = no_object };
+          one = named_some _ items t present (λ item named. record {
+            word = w.word;
+            name = named;
+            takes = record { matches = match_named w.source (ref_named t) item w.word (sym named) (λ bytes kind. absurd (no_object bytes kind)) matches; first = λ m kind. rw named (first m kind) };
+            becomes = becomes;
+          });
+        },
+      )
 
 pub accepted_in : (h : List Reading) (r : Reading) → AllByRecursion (λ q. ∥ IsAccepted q ∥₁) h → Contains h r → ∥ IsAccepted r ∥₁
 accepted_in h r all there = All-contains (λ q. ∥ IsAccepted q ∥₁) h r (All-from_recursion (λ q. ∥ IsAccepted q ∥₁) h all) there
@@ -181,7 +184,7 @@ module _ (g : List Reading) (remote : List Ref) (mapped : List Mapped) (accepted
       let made = ((kept_exactly by.completed remote).forward mapped by.kept m).0 (contained_pair mapped m inside) in
       let (r, c, at, done, makes) = zip_first IsCompleted (MakesForward remote m.source m.destination) g by.completed by.are made.0 in
       elim (start_writes r c (accepted_in g r accepted at) done remote m.source n
-          (subst (λ (far : Option (List ℕ)). MakesForward remote m.source far c) is makes)) [
+      (subst (λ (far : Option (List ℕ)). MakesForward remote m.source far c) is makes)) [
         | inl w ↦ inl (r, at, w)
         | inr (s, w, has) ↦ inr (s, (r, at, w), has)
       ]

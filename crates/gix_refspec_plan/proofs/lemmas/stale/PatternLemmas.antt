@@ -22,7 +22,7 @@ side_cases (Some x) = inr (x, refl)
 pub some_pattern : (r : Reading) (d before after : List ℕ) → ∥ IsAccepted r ∥₁ → IsPositive r.mode → r.destination ≡ Some d → IsSplit before after d → (p : Pattern) × WritesPattern r p
 some_pattern r d before after accepted positive has split =
     let writes : (parts : Option (Bor (List ℕ) × Bor (List ℕ))) → HasParts r.source parts → (p : Pattern) × WritesPattern r p = λ parts source.
-        (record { before = slice before; after = slice after; source = parts }, record { positive = positive; destination = d; has = has; split = split; source = source }) in
+    (record { before = slice before; after = slice after; source = parts }, record { positive = positive; destination = d; has = has; split = split; source = source }) in
     elim (side_cases r.source) [
       | inl none ↦ writes None (λ x b a is other. let never : None ≡ Some x = sym none ∙ is in cc (never))
       | inr (x, source) ↦ elim ((sides_agree r accepted).both x d source has) [
@@ -78,9 +78,12 @@ word_taken x s w matches = by_kind matches.kind matches.of matches.is
 source_taken : (side : Option (List ℕ)) (found : Option (Bor (List ℕ) × Bor (List ℕ))) (x s w : List ℕ) → side ≡ Some x → HasParts side found → Matches x (ref_named s) (Some w)
     → (parts : Bor (List ℕ) × Bor (List ℕ)) × (found ≡ Some parts) × (s ≡ parts.0.now ++ (w ++ parts.1.now))
 source_taken side None x s w source none matches = let (before, after, split, fits) = word_taken x s w matches in absurd (none x before after source split)
-source_taken side (Some parts) x s w source (y, is, split) matches =
-    (parts, refl, matches_as y (pattern parts.0.now parts.1.now) (ref_named s) (Some w) split
-        (rw (same_side side x y source is) at matches))
+source_taken side (Some parts) x s w source (y, is, split) matches = (
+  parts,
+  refl,
+  matches_as y (pattern parts.0.now parts.1.now) (ref_named s) (Some w) split
+      (rw (same_side side x y source is) at matches),
+)
 
 -- no ref is excluded from which the pattern writes n
 abbrev IncludesSources : Exclusions → List ℕ → Pattern → Type 0
@@ -144,18 +147,24 @@ module _ (g : List Reading) (accepted : AllByRecursion (λ r. ∥ IsAccepted r �
     pub next_unfit : (s : State) → HasStateAmong es g (take i ps) n s → HasPatternState es p n Unwritable → HasStateAmong es g (take (i + 1) ps) n s
     next_unfit Unwritable (names, patterns) unfit =
         (names, rw (take_more ps i d below) (push_all (λ q. HasPatternState es q n Unwritable) (take i ps) p patterns unfit))
-    next_unfit Included (writable, names, patterns) unfit =
-        (writable, names, rw (take_more ps i d below)
-            (push_all (IncludesSources es n) (take i ps) p patterns (λ t from. absurd (unfit from.word from.fits))))
+    next_unfit Included (writable, names, patterns) unfit = (
+      writable,
+      names,
+      rw (take_more ps i d below)
+          (push_all (IncludesSources es n) (take i ps) p patterns (λ t from. absurd (unfit from.word from.fits))),
+    )
     next_unfit (Excluded k) none unfit = absurd none
 
     -- which does, and excludes no ref from which it writes it
     pub next_fit : (s : State) → HasStateAmong es g (take i ps) n s → HasPatternState es p n Included → HasStateAmong es g (take (i + 1) ps) n Included
     next_fit s among ((word, fits), included) =
         let (r, inside, by) = its_reading in
-        let (names, patterns) = others s among in
-        ((r, Some word, inside, pattern_writes r p n word by fits), names, rw (take_more ps i d below)
-            (push_all (IncludesSources es n) (take i ps) p patterns included))
+        let (names, patterns) = others s among in (
+          (r, Some word, inside, pattern_writes r p n word by fits),
+          names,
+          rw (take_more ps i d below)
+              (push_all (IncludesSources es n) (take i ps) p patterns included),
+        )
       where
         others : (s : State) → HasStateAmong es g (take i ps) n s
             → ((r : Reading) (t : List ℕ) → Contains g r → WritesNameFrom r n t → ¬ (ExcludeName es t)) ×

@@ -30,7 +30,7 @@ returns c =
     let ys = c.args.tracked.mappings.items in
     let at : c.len-firsts_len.result ≡ length xs = omega (arith, c.len-firsts_len.ensures, c.args.firsts.ok.0, c.args.firsts.ok.1) in
     let back : c.truncate.new.self.items ≡ xs =
-        (split_again xs ys _ _ _ _ c.in_ok-append.ensures.items at c.truncate.ensures.items refl).0 in
+    (split_again xs ys _ _ _ _ c.in_ok-append.ensures.items at c.truncate.ensures.items refl).0 in
     let whole : c.as_slice-3.result.now ≡ xs ++ ys = c.as_slice-3.ensures.value ∙ c.in_ok-append.ensures.items in
     let first = subst (λ (l : List Mapping). AreFirst (map asked_of c.args.asked.now) (map mapped_of l) (map planned_of c.in_ok-updates.updates.items)) back c.in_ok-updates.ensures in
     judged_of _ _ _ xs ys _ _ c.in_ok-updates.updates.items c.in_ok-besides.besides.items _ (split_again xs ys c.as_slice-3.result.now _ _ _ whole at c.split_at.ensures.front c.split_at.ensures.back) first
