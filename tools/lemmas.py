@@ -62,15 +62,25 @@ def definitions(text):
     return found, equations
 
 
+def items(path, text):
+    """The names of a list between braces, `a.b, c.{d, e as f}`, each with the module that it is of."""
+    for item in re.findall(r"[^,{}]+(?:\{(?:[^{}]|\{[^{}]*\})*\})?", text):
+        folder, brace, inner = item.strip().partition(".{")
+        if brace:
+            yield from items(f"{path}.{folder}", inner[:-1])
+        elif item.strip():
+            name, _, local = item.strip().partition(" as ")
+            *below, name = name.split(".")
+            yield ".".join([path, *below]), name, local or name
+
+
 def imports(text):
     """Where each imported name comes from: its module, and its name there."""
     known = {}
     for line in text.split("\n"):
         used = USE.match(line)
         if used:
-            for item in used[2].split(","):
-                name = item.strip().split(" as ")
-                known[name[-1].strip()] = (used[1], name[0].strip())
+            known.update((local, (module, name)) for module, name, local in items(used[1], used[2]))
     return known
 
 
