@@ -5,7 +5,7 @@ use Rattle.gix_refspec.proofs.Common.{maps_all, only_dev, tracked, tracks_all, �
 use Rattle.gix_refspec.proofs.Common.{Contains, slice_get, partial, full_name, Ref, IsFirstCandidate, name, Mapped, HasPair, IsExcluded, AreKeptForward, AreKeptBackward, MakesForward}
 use Rattle.gix_refspec.proofs.Common.{MakesBackward, PairsId, KeptExactly, FirstStays, NothingExcluded, ForwardIndexes, IsValidated, ItemIndexesFit, Removed, same_Some, Reading, id}
 use Rattle.gix_refspec.proofs.Common.{MakesForwardOf, MakesBackwardOf, MadeAtIndexes, RemainsExactly, KeepsRefNames, LeftOut, Ends, AreBackwardEnds, IsPaired, Matches, of_element, AreForwardEnds}
-use Rattle.gix_refspec.{proofs.Common.Takes, proofs.facts.RefNameFacts.{good, kept, no_ref_names, sides, to_bad}, proofs.facts.ValidationFacts.{unwritable, unequal}}
+use Rattle.gix_refspec.{specs.Matching.Validation.BackwardIndexes, proofs.Common.Takes, proofs.facts.RefNameFacts.{good, kept, no_ref_names, sides, to_bad}, proofs.facts.ValidationFacts.{unwritable, unequal}}
 
 abbrev pub group : List Reading
 group = every ∷ no_dev ∷ []
@@ -130,6 +130,14 @@ no_other_item_back law rest are =
     let fits = (law.backward _ are).0 in
     let stands = rw (← same_Some 0 fits.index fits.item) at fits.stands in
     unequal (same_Some (codes "refs/remotes/origin/main") fits.ref.name fits.named ∙ ap (λ (x : Ref). x.name) (sym (same_Some (named (codes "refs/remotes/origin/dev-a")) fits.ref stands))) refl
+
+-- the item at the index has the name of the destination
+pub item_back : BackwardIndexes group tracking_refs (tracked 1 (codes "main")) × ¬ (BackwardIndexes group tracking_refs (tracked 0 (codes "main")))
+item_back = (
+  record { spec = omega arith; index = 1; ref = named (codes "refs/remotes/origin/main"); item = refl; stands = refl; named = refl },
+  λ fits. let stands = rw (← same_Some 0 fits.index fits.item) at fits.stands in
+      unequal (same_Some (codes "refs/remotes/origin/main") fits.ref.name fits.named ∙ ap (λ (x : Ref). x.name) (sym (same_Some (named (codes "refs/remotes/origin/dev-a")) fits.ref stands))) refl,
+)
 
 pub still_fits : (items : List Ref) → ItemIndexesFit (every ∷ []) items → (l rest : List Mapped) (fixes : List Removed) → IsValidated (every ∷ []) l rest fixes → AllByRecursion (ForwardIndexes (every ∷ []) items) l → AllByRecursion (ForwardIndexes (every ∷ []) items) rest
 still_fits items law = law.validated

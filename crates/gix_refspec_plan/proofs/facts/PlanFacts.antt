@@ -7,6 +7,9 @@ use Rattle.gix_refspec_plan.proofs.Common.{InConflict, Overruled, AllTags, Confi
 use Rattle.gix_refspec_plan.proofs.facts.ExampleLemmas.{alone, below, every, listed, merged, main_candidate, main_lacking, main_ref, mapping, no_dev, no_ref_names, one_in, one_merge, ref_names, whole_pattern}
 use Rattle.gix_refspec_plan.proofs.facts.ExampleLemmas.{short, short_kind, sound, one, update}
 use Rattle.gix_refspec_plan.{proofs.lemmas.plan.CarriedLemmas.tags_lack_nothing, proofs.lemmas.plan.OnePlanLemmas.reading_once, specs.declared.Wish.Wish as DeclaredWish}
+use Rattle.gix_refspec.specs.Matching.Validation.{ShareDestination}
+use Rattle.gix_refspec_plan.{specs.Matching.Plan.IsTakenAt, proofs.Common.{sym, ◌∙◌, AllByRecursion}}
+use Rattle.gix_refspec_text.proofs.facts.FitFacts.{of_element, other_byte}
 use Rattle.gix_refspec.specs.declared.match_group.ref_names.InvalidSide.TheVariants as invalid
 
 -- a destination may be missing, and has to begin `refs/`
@@ -89,10 +92,18 @@ pub uncovered : AreMerges (codes "refs/heads/a" ∷ []) (to (codes "HEAD") 0 (co
 uncovered =
     one_merge _ (to (codes "HEAD") 0 (codes "refs/heads/a") ∷ []) a_sound.source (λ o. writable.2 (one o.1 o.2).destination)
 
+-- what a spec of the call maps but leaves out isn't taken
+pub not_taken : ¬ (IsTakenAt (to (codes "HEAD") 0 (codes "refs/heads/a") ∷ []) 0)
+not_taken (m, has, is, at) = writable.2 (one has is).destination
+
 -- all tags are asked for beside what is configured too
 pub asked : AreAsked (record { given = []; configured = every ∷ []; merges = []; tags = true }) [] (listed every (Configured 0) ∷ listed all_tags AllTags ∷ [])
 asked = AreAsked.without _ refl
     (AreConfigured.by_configuration _ [] (inl (λ none. cc)) (Some _, [], (refl, tt), refl, refl) (inl (refl, refl)) refl) refl
+
+-- all tags are asked for behind the specs of the call
+pub asked_behind : AreAsked (record { given = every ∷ []; configured = []; merges = []; tags = true }) [] (listed every (Given 0) ∷ listed all_tags AllTags ∷ [])
+asked_behind = AreAsked.by_call _ (λ none. cc) (Some _, [], (refl, tt), refl, refl) refl
 
 -- another source with the same destination makes a conflict, but not if its name is no ref name
 pub contested : HasVerdict (ax ∷ bx ∷ []) ax InConflict × HasVerdict (ax ∷ []) ax Written × HasVerdict (from_bad ∷ []) ax Written
@@ -100,6 +111,16 @@ pub contested : HasVerdict (ax ∷ bx ∷ []) ax InConflict × HasVerdict (ax �
 contested =
     let by_b : IsContested (ax ∷ bx ∷ []) ax = (bx, (1, omega arith, refl), sound _ _ refl refl, (_, refl, refl), λ same. grind arith) in
     ((a_sound, by_b), (a_sound, alone ax), (a_sound, (λ o. no_ref_names.2 (one o.1 o.2).source)), (λ is. is.1 by_b), λ is. alone ax is.1)
+
+-- another source conflicts only where it goes to the same destination
+abbrev by : Mapped
+by = to (codes "refs/y") 1 (codes "refs/heads/b")
+
+pub apart : ¬ (HasVerdict (ax ∷ by ∷ []) ax InConflict)
+apart (is, (n, has, s, share, differ)) = differ (of_element (λ n. ShareDestination ax n → ax.source ≡ n.source) (ax ∷ by ∷ []) n each has share)
+  where
+    each : AllByRecursion (λ n. ShareDestination ax n → ax.source ≡ n.source) (ax ∷ by ∷ [])
+    each = ((λ share. refl), ((λ share. absurd (other_byte 5 (codes "refs/x") (codes "refs/y") (λ same. omega (arith, same)) (same_Some _ _ (share.1 ∙ sym share.2)))), tt))
 
 -- an invalid side comes before all other verdicts
 pub left_out : HasVerdict (bx ∷ []) from_bad (LeftOut invalid.Source) × ¬ (HasVerdict (bx ∷ []) from_bad InConflict) × ¬ (HasSecondVerdict (bx ∷ []) [] from_bad Overruled)

@@ -1,10 +1,10 @@
 -- Examples of the definitions on plans over the branches of a remote: what is tracked besides, and a whole plan.
 use Rattle.gix_refspec_plan.proofs.Common.{HasPair, HasOrigin, IsTakenOver, rules, inl, inr, ℕ, ◌+◌, false, List, [], ◌∷◌, ◌++◌, None, Some, codes, map, refl, sym, ap, arith, AllByRecursion, AllZip, append-nil}
-use Rattle.gix_refspec_plan.proofs.Common.{same_Some, Forced, Negative, Reading, fetched, IsSplit, pattern, the_name, lacks_no_pattern, Ref, Takes, IsMadeFrom, Mapped, AreAsked, AreMapped, AreUncovered, Asked}
+use Rattle.gix_refspec_plan.proofs.Common.{same_Some, Forced, Negative, Reading, fetched, IsSplit, pattern, the_name, lacks_no_pattern, Ref, Takes, IsMadeFrom, Mapped, AreAsked, AreConfigured, AreMapped, AreUncovered, Asked}
 use Rattle.gix_refspec_plan.proofs.Common.{IsCompleted, IsNegativeReading, IsPlan, IsTakenAt, IsTracked, Planned, Wish, Origin, Configured, Given, Written}
 use Rattle.gix_refspec_text.proofs.facts.FitFacts.{dev_ref, excludes_dev, excludes_no_main, split_at_end}
 use Rattle.gix_refspec_plan.proofs.facts.ExampleLemmas.{IsKept, AreForwardEnds, Ends, Hit, IsHit, alone, every, excluded_by, forward_beside, forward_of, heads_split, listed, merged, main_ref, mapping, named}
-use Rattle.gix_refspec_plan.proofs.facts.ExampleLemmas.{no_dev, none_excluded, not_excluded, one_in, one_merge, origin_split, ref_names, sound, update, whole_pattern}
+use Rattle.gix_refspec_plan.proofs.facts.ExampleLemmas.{no_dev, nothing_in, none_excluded, not_excluded, one_in, one_merge, origin_split, ref_names, sound, update, whole_pattern}
 
 abbrev origin_folder : List ℕ
 origin_folder = codes "refs/remotes/origin/"
@@ -72,6 +72,17 @@ excluded_uncovered =
       one_merge _ [] ref_names.0 (λ covers. grind arith),
     )
 
+-- a merged ref that no spec maps is behind what is configured
+pub merges_behind : AreConfigured (record { given = []; configured = every ∷ []; merges = codes "refs/heads/main" ∷ []; tags = false }) [] (listed every (Configured 0) ∷ merged (codes "refs/heads/main") ∷ [])
+merges_behind = AreConfigured.by_configuration (listed every (Configured 0) ∷ []) _ (inl (λ none. cc)) (Some _, [], (refl, tt), refl, refl)
+    (inr (
+      listed every (Configured 0) ∷ [],
+      [],
+      (Some _, [], (refl, tt), refl, refl),
+      mapped origin_folder origin_split [] (Configured 0) [] [] tt tt refl,
+      one_merge _ [] ref_names.0 (λ covers. grind arith),
+    )) refl
+
 -- a fetch of the branches without `dev-*`, besides which all are configured
 abbrev fetch_branches : Wish
 fetch_branches = record { given = to_below x_folder ∷ no_dev ∷ []; configured = every ∷ []; merges = []; tags = false }
@@ -125,6 +136,22 @@ tracked =
       are_taken = (Some dev_ref, _, (refl, dev), (Some main_ref, [], (refl, main), refl, refl), refl);
     })
     (main_mapped origin_folder origin_split (Configured 0) (Given 1))
+
+-- a ref that no spec of the call takes isn't tracked
+pub untaken : IsTracked (record { given = no_dev ∷ []; configured = every ∷ []; merges = []; tags = false }) (main_ref ∷ []) (listed every (Configured 0) ∷ listed no_dev (Given 0) ∷ []) [] []
+untaken =
+    let none : (k : ℕ) → ¬ (IsTakenAt [] k) = λ k (m, has, is, at). nothing_in [] m refl has in
+    IsTracked.by_call (listed every (Configured 0) ∷ []) (listed no_dev (Given 0) ∷ []) [] (λ none. cc)
+    (Some _, [], (refl, tt), refl, refl) (Some _, [], (refl, refl), refl, refl) refl
+    (record {
+      asked = [];
+      mapped = [];
+      are_asked = (None, [], (λ a both. both.1), refl, refl);
+      are_mapped = record { completed = []; are = tt; kept = record { all = []; forward = record { ids = []; hits = []; are_ids = refl; are_hits = refl; all = refl }; is = refl } };
+      are_indexes = (None, [], (λ k told. none 0 told.1), refl, refl);
+      are_taken = (None, [], (λ r told. none 0 told.1), refl, refl);
+    })
+    (mapped origin_folder origin_split [] (Configured 0) (listed no_dev (Given 0) ∷ []) [] (search rules, tt) (refl, tt) refl)
 
 abbrev main_update : List ℕ → Origin → Planned
 main_update far o = update (main_below far) 1 o Written
