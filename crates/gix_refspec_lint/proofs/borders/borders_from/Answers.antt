@@ -1,6 +1,5 @@
 -- Each border but the longest is a border of the next longer one.
-use Rattle.gix_refspec_lint.proofs.Common.{length, arith}
-use Rattle.gix_refspec_lint.proofs.lemmas.BorderLemmas.{longer_more, longer_none}
+use Rattle.gix_refspec_lint.proofs.{Common.{length, arith}, lemmas.BorderLemmas.{longer_more, longer_none}}
 use Rattle.gix_refspec_lint.proofs.borders.borders_from.Goals as goal
 
 pub loop-len-init : goal.loop-len-init

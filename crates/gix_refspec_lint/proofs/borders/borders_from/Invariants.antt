@@ -1,4 +1,3 @@
--- the borders longer than `len` are listed
 use Rattle.gix_refspec_lint.proofs.lemmas.BorderLemmas.{AreLonger}
 use Rattle.gix_refspec_lint.proofs.borders.borders_from.Given as goal
 

@@ -1,9 +1,7 @@
 -- The entry for one byte more is its longest border.
-use Rattle.gix_refspec_lint.proofs.Common.{◌≡◌, ◌+◌, length, min, subst, sym, arith, AreLongestTo}
-use Rattle.gix_refspec_lint.proofs.lemmas.BorderLemmas.{one_more}
-use Rattle.gix_refspec_lint.proofs.borders.longest_borders.Goals as goal
+use Rattle.gix_refspec_lint.proofs.{Common.{◌≡◌, ◌+◌, length, min, subst, sym, arith, AreLongestTo}, lemmas.BorderLemmas.one_more}
 
-pub loop-len-preserved : goal.loop-len-preserved
+pub loop-len-preserved : Rattle.gix_refspec_lint.proofs.borders.longest_borders.Goals.loop-len-preserved
 loop-len-preserved c =
     let text = c.args.text.now in
     let len = c.loop-len.len in

@@ -1,4 +1,3 @@
--- no longer border goes on with the next byte
 use Rattle.gix_refspec_lint.proofs.lemmas.BorderLemmas.{IsCandidate}
 use Rattle.gix_refspec_lint.proofs.borders.next_border.Given as goal
 

@@ -1,7 +1,5 @@
--- no conflict at the names with the words so far
 use Rattle.gix_refspec_lint.proofs.Common.{◌++◌, List, map, take, AllByRecursion, bstring_bytes, Reading, IsGroupOf, NoneAt}
-use Rattle.gix_refspec_lint.proofs.conflicts.conflict_among.Given as goal
 
-abbrev pub invariant-loop-word : goal.invariant-loop-word
+abbrev pub invariant-loop-word : Rattle.gix_refspec_lint.proofs.conflicts.conflict_among.Given.invariant-loop-word
 invariant-loop-word l =
     (g : List Reading) → IsGroupOf g l.group → AllByRecursion (λ w. NoneAt g l.first l.second (l.common.prefix.now ++ (w ++ l.common.suffix.now))) (map bstring_bytes (take l.word-index l.word-items))

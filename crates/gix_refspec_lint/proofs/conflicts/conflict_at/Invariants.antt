@@ -1,4 +1,3 @@
--- no conflict between the sources so far
 use Rattle.gix_refspec_lint.proofs.Common.{List, map, take, AllByRecursion, bstr_bytes, Reading, start_of, IsGroupOf}
 use Rattle.gix_refspec_lint.proofs.lemmas.FoundLemmas.{NoConflict}
 use Rattle.gix_refspec_lint.proofs.conflicts.conflict_at.Given as goal

@@ -1,7 +1,6 @@
 -- Both specs map their sources among the two refs.
 use Rattle.gix_refspec_lint.proofs.Common.{map, refl, sym, ◌∙◌, false≢true, IfOk-weaker, bstr_bytes, ref_of, start_of, refs_of, HaveSameNames, ◌++◌}
-use Rattle.gix_refspec_lint.proofs.lemmas.FoundLemmas.{both_named, conflict_made, makes_named}
-use Rattle.gix_refspec_lint.proofs.lemmas.IndexLemmas.{reading_at}
+use Rattle.gix_refspec_lint.proofs.lemmas.{FoundLemmas.{both_named, conflict_made, makes_named}, IndexLemmas.reading_at}
 use Rattle.gix_refspec_lint.proofs.conflicts.do_conflict.Goals as goal
 
 pub returns-then-not-is_fetched : goal.returns-then-not-is_fetched

@@ -1,6 +1,5 @@
 -- A spec at an index excludes the source, or none does.
-use Rattle.gix_refspec_lint.proofs.Common.{refl, sym, subst, false≢true, IsSourceExcluded}
-use Rattle.gix_refspec_lint.proofs.lemmas.IndexLemmas.{excluded_at}
+use Rattle.gix_refspec_lint.proofs.{Common.{refl, sym, subst, false≢true, IsSourceExcluded}, lemmas.IndexLemmas.excluded_at}
 use Rattle.gix_refspec_lint.proofs.conflicts.is_fetched.Goals as goal
 
 pub returns-in-None : goal.returns-in-None

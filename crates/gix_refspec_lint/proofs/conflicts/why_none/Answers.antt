@@ -1,6 +1,5 @@
 -- The source isn't fetched.
-use Rattle.gix_refspec_lint.proofs.Common.{bstr_bytes, bstring_bytes, reading_of}
-use Rattle.gix_refspec_lint.proofs.lemmas.FailLemmas.{first_fails, second_fails}
+use Rattle.gix_refspec_lint.proofs.{Common.{bstr_bytes, bstring_bytes, reading_of}, lemmas.FailLemmas.{first_fails, second_fails}}
 use Rattle.gix_refspec_lint.proofs.conflicts.why_none.Goals as goal
 
 pub returns-in-Some-why_not_fetched : goal.returns-in-Some-why_not_fetched

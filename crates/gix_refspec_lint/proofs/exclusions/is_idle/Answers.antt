@@ -1,6 +1,5 @@
 -- A positive spec isn't idle so, and a negative one only if it excludes nothing.
-use Rattle.gix_refspec_lint.proofs.Common.{map, reading_of, subst, IsPositive}
-use Rattle.gix_refspec_lint.proofs.lemmas.LeftOutLemmas.{idle_told}
+use Rattle.gix_refspec_lint.proofs.{Common.{map, reading_of, subst, IsPositive}, lemmas.LeftOutLemmas.idle_told}
 use Rattle.gix_refspec_lint.proofs.exclusions.is_idle.Goals as goal
 
 pub returns-then-not-is_negative : goal.returns-then-not-is_negative

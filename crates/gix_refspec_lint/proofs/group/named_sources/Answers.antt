@@ -1,8 +1,7 @@
 -- The sources by the kind of the side, of which an accepted spec has one.
 use Rattle.gix_refspec_lint.proofs.Common.{◌≡◌, Some, inl, map, map-id, option_map, refl, sym, ap, ◌∙◌, rules, YieldsList-from_vec, YieldsList-end, bstr_bytes, bstring_bytes, HasKind, reading_of}
-use Rattle.gix_refspec_lint.proofs.Common.{accepted_few, name, start_of}
+use Rattle.gix_refspec_lint.proofs.{Common.{accepted_few, name, start_of}, lemmas.SourceLemmas.{AreSourcesAs, only_pushed, sources_there}}
 use Rattle.gix_refspec_text.specs.Private.SideViews.{kind_of_side}
-use Rattle.gix_refspec_lint.proofs.lemmas.SourceLemmas.{AreSourcesAs, only_pushed, sources_there}
 use Rattle.gix_refspec_lint.proofs.group.named_sources.Goals as goal
 use Rattle.gix_refspec_lint.proofs.group.named_sources.Goals.{in-Pattern, in-FullName+in_ok-from_slice-in-FullName+in_ok-push-in-FullName, in-Object+in_ok-push-in-Object}
 use Rattle.gix_refspec_lint.proofs.group.named_sources.Goals.{in-Partial+in_ok-candidate-items-in-Partial+in-None}

@@ -1,7 +1,6 @@
 -- A spec maps what its completed reading makes.
 use Rattle.gix_refspec_lint.proofs.Common.{map, option_map, sym, ◌∙◌, false≢true, IfOk-weaker, bstr_bytes, ref_of, start_of}
-use Rattle.gix_refspec_lint.proofs.lemmas.IdleLemmas.{does_told}
-use Rattle.gix_refspec_lint.proofs.lemmas.IndexLemmas.{maps_of, of_maps, reading_at}
+use Rattle.gix_refspec_lint.proofs.lemmas.{IdleLemmas.does_told, IndexLemmas.{maps_of, of_maps, reading_at}}
 use Rattle.gix_refspec_lint.proofs.idle.does_map.Goals as goal
 
 pub returns-then-not-may_take : goal.returns-then-not-may_take

@@ -1,7 +1,6 @@
 -- One more spec.
 use Rattle.gix_refspec_lint.proofs.Common.{map, ap, sym, subst, arith, bstring_bytes, reading_of, start_of}
-use Rattle.gix_refspec_lint.proofs.lemmas.IdleLemmas.{FreesSoFar, freeing, frees_less, frees_next, frees_none}
-use Rattle.gix_refspec_lint.proofs.lemmas.IndexLemmas.{reading_at}
+use Rattle.gix_refspec_lint.proofs.lemmas.{IdleLemmas.{FreesSoFar, freeing, frees_less, frees_next, frees_none}, IndexLemmas.reading_at}
 use Rattle.gix_refspec_lint.proofs.idle.freeing_names.Goals as goal
 
 pub loop-at-init : goal.loop-at-init

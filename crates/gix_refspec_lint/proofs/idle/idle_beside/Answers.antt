@@ -1,8 +1,7 @@
 -- By the mapping that is found, and what excludes it or makes it earlier.
 use Rattle.gix_refspec_lint.proofs.Common.{map, bstring_bytes, mapped_of, ref_named, ref_of, refs_of, start_of}
 use Rattle.gix_refspec_lint.proofs.lemmas.IdleLemmas.{explains_invalid, is_at_work, shows_duplicate, shows_excluded}
-use Rattle.gix_refspec_lint.proofs.lemmas.FoundLemmas.{both_named}
-use Rattle.gix_refspec_lint.proofs.lemmas.IndexLemmas.{reading_at}
+use Rattle.gix_refspec_lint.proofs.lemmas.{FoundLemmas.both_named, IndexLemmas.reading_at}
 use Rattle.gix_refspec_lint.proofs.idle.idle_beside.Goals as goal
 
 pub returns-in_default : goal.returns-in_default

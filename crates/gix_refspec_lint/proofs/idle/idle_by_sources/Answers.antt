@@ -1,7 +1,6 @@
 -- What becomes of the mappings of each source that the spec may map.
 use Rattle.gix_refspec_lint.proofs.Common.{inl, inr, map, sym, ◌∙◌, take_all, arith, same_Some, all_weaker, one_more_mapped, start_of, Explains, subst, HasPlainSource}
-use Rattle.gix_refspec_lint.proofs.lemmas.IdleSpecLemmas.{idle_by, sources_explain}
-use Rattle.gix_refspec_lint.proofs.lemmas.IndexLemmas.{reading_at}
+use Rattle.gix_refspec_lint.proofs.lemmas.{IdleSpecLemmas.{idle_by, sources_explain}, IndexLemmas.reading_at}
 use Rattle.gix_refspec_lint.proofs.idle.idle_by_sources.Goals as goal
 
 pub returns-in-None : goal.returns-in-None

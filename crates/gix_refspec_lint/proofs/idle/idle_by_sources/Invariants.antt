@@ -1,7 +1,5 @@
--- the reason explains the sources so far
 use Rattle.gix_refspec_lint.proofs.Common.{List, map, take, AllByRecursion, Reading, start_of, Explains, IsShown, IsGroupOf}
-use Rattle.gix_refspec_lint.proofs.idle.idle_by_sources.Given as goal
 
-abbrev pub invariant-loop-source : goal.invariant-loop-source
+abbrev pub invariant-loop-source : Rattle.gix_refspec_lint.proofs.idle.idle_by_sources.Given.invariant-loop-source
 invariant-loop-source l =
     (g : List Reading) → IsGroupOf g l.group → AllByRecursion (λ s. Explains g l.index s l.reason) (map start_of (take l.source-index l.source-items)) × IsShown g l.index l.reason

@@ -1,8 +1,6 @@
--- the reason explains the names with the words so far
 use Rattle.gix_refspec_lint.proofs.Common.{◌++◌, List, map, take, AllByRecursion, bstring_bytes, Reading, name, Explains, IsShown, IsGroupOf}
-use Rattle.gix_refspec_lint.proofs.idle.idle_by_words.Given as goal
 
-abbrev pub invariant-loop-word : goal.invariant-loop-word
+abbrev pub invariant-loop-word : Rattle.gix_refspec_lint.proofs.idle.idle_by_words.Given.invariant-loop-word
 invariant-loop-word l =
     (g : List Reading) → IsGroupOf g l.group
     → AllByRecursion (λ w. Explains g l.index (name (l.prefix ++ (w ++ l.suffix))) l.reason) (map bstring_bytes (take l.word-index l.word-items)) × IsShown g l.index l.reason

@@ -1,7 +1,6 @@
 -- By the source of the spec.
 use Rattle.gix_refspec_lint.proofs.Common.{◌≡◌, inl, get_or, sym, ◌∙◌, subst, same_Some, IfOk-weaker, IsPositive, Reading, reading_of, accepted_few, HasPlainSource, HasSourcePattern}
-use Rattle.gix_refspec_lint.proofs.lemmas.IdleSpecLemmas.{reason_of}
-use Rattle.gix_refspec_lint.proofs.lemmas.IndexLemmas.{reading_at}
+use Rattle.gix_refspec_lint.proofs.lemmas.{IdleSpecLemmas.reason_of, IndexLemmas.reading_at}
 use Rattle.gix_refspec_lint.proofs.idle.idle_reason.Goals as goal
 
 pub parts_of-requires : goal.parts_of-requires

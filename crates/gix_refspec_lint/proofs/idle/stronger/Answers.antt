@@ -1,6 +1,5 @@
 -- By the reasons.
-use Rattle.gix_refspec_lint.proofs.Common.{sym, inl, inr, Explains, subst}
-use Rattle.gix_refspec_lint.proofs.lemmas.IdleLemmas.{duplicate_any, invalid_any}
+use Rattle.gix_refspec_lint.proofs.{Common.{sym, inl, inr, Explains, subst}, lemmas.IdleLemmas.{duplicate_any, invalid_any}}
 use Rattle.gix_refspec_lint.proofs.idle.stronger.Goals as goal
 
 pub returns-in-Invalid-clause-explains : goal.returns-in-Invalid-clause-explains

@@ -1,7 +1,5 @@
 -- What a spec fetches is kept.
-use Rattle.gix_refspec_lint.proofs.Common.{map, reading_of}
-use Rattle.gix_refspec_lint.proofs.lemmas.FreeLemmas.{examples_conflict}
-use Rattle.gix_refspec_lint.proofs.laws.examples_conflict.Goals as goal
+use Rattle.gix_refspec_lint.proofs.{Common.{map, reading_of}, lemmas.FreeLemmas.examples_conflict}
 
-pub returns : goal.returns
+pub returns : Rattle.gix_refspec_lint.proofs.laws.examples_conflict.Goals.returns
 returns c = examples_conflict (map reading_of c.args.specs.now)

@@ -1,7 +1,6 @@
 -- The spec alone keeps what it makes.
 use Rattle.gix_refspec_lint.proofs.Common.{◌≡◌, length, map, map-id, sym, ◌∙◌, subst, rules, AllByRecursion, YieldsList-from_vec, YieldsList-end, YieldsList-turn, reading_of, mapped_of, ref_of}
-use Rattle.gix_refspec_lint.proofs.Common.{start_of, IsSound}
-use Rattle.gix_refspec_lint.proofs.lemmas.OneSpecLemmas.{none_sound, sound_there}
+use Rattle.gix_refspec_lint.proofs.{Common.{start_of, IsSound}, lemmas.OneSpecLemmas.{none_sound, sound_there}}
 use Rattle.gix_refspec_lint.proofs.sound.sound_mapping.Goals as goal
 
 pub returns-then-is_sound : goal.returns-then-is_sound

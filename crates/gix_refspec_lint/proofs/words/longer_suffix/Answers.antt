@@ -1,6 +1,5 @@
 -- One of the two ends with the other, or no text ends with both.
-use Rattle.gix_refspec_lint.proofs.Common.{[], inl, inr, refl, sym, ◌∙◌, false≢true, Decides-eqb, ends_is}
-use Rattle.gix_refspec_lint.proofs.lemmas.ByteLemmas.{parted}
+use Rattle.gix_refspec_lint.proofs.{Common.{[], inl, inr, refl, sym, ◌∙◌, false≢true, Decides-eqb, ends_is}, lemmas.ByteLemmas.parted}
 use Rattle.gix_refspec_lint.proofs.words.longer_suffix.Goals as goal
 
 pub returns-then-ends_with : goal.returns-then-ends_with

@@ -1,4 +1,3 @@
--- the words so far
 use Rattle.gix_refspec_lint.proofs.Common.{◌≡◌, ◌∷◌, ◌++◌, [], ℕ, List, Bor, map, take, bstring_bytes, endings}
 use Rattle.gix_refspec_lint.proofs.words.words_of.Given as goal
 

@@ -1,7 +1,6 @@
 -- What the group excludes, by the name.
 use Rattle.gix_refspec_lint.proofs.lemmas.OneSpecLemmas.{tells_excluding}
-use Rattle.gix_refspec_lint.proofs.group.Group.excluding.Goals as goal
 
-pub returns-in-FullName : goal.returns-in-FullName
+pub returns-in-FullName : Rattle.gix_refspec_lint.proofs.group.Group.excluding.Goals.returns-in-FullName
 returns-in-FullName c g is =
     rw c.in-FullName.is (tells_excluding g c.args.self.now.exclusions _ c.spec_of.result is.excluded is.excluded_at (rw (c.as_bytes.ensures, c.as_bstr.ensures) at c.spec_of.ensures))

@@ -1,7 +1,6 @@
 -- The borders that are short enough are the overlaps.
 use Rattle.gix_refspec_lint.proofs.Common.{◌≡◌, ◌++◌, ◌-◌, drop, get_or, length, take, length-drop, take_all, ap, ◌∙◌, arith, bstring_bytes, AreBorders, IsBorder, get_or_default, Contains-get_or}
-use Rattle.gix_refspec_lint.proofs.Common.{of_element}
-use Rattle.gix_refspec_lint.proofs.lemmas.BorderLemmas.{AreUpTo, border_of, one_left_out, one_listed, shared_of}
+use Rattle.gix_refspec_lint.proofs.{Common.of_element, lemmas.BorderLemmas.{AreUpTo, border_of, one_left_out, one_listed, shared_of}}
 use Rattle.gix_refspec_lint.proofs.words.Common.overlaps.Goals as goal
 use Rattle.gix_refspec_lint.proofs.words.Common.overlaps.Goals.{then-length-self+in_ok-push, else-length-self}
 

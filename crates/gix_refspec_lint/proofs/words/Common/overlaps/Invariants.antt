@@ -1,7 +1,4 @@
--- the overlaps among the borders so far
-use Rattle.gix_refspec_lint.proofs.Common.{take}
-use Rattle.gix_refspec_lint.proofs.lemmas.BorderLemmas.{AreUpTo}
-use Rattle.gix_refspec_lint.proofs.words.Common.overlaps.Given as goal
+use Rattle.gix_refspec_lint.proofs.{Common.take, lemmas.BorderLemmas.AreUpTo}
 
-abbrev pub invariant-loop-length : goal.invariant-loop-length
+abbrev pub invariant-loop-length : Rattle.gix_refspec_lint.proofs.words.Common.overlaps.Given.invariant-loop-length
 invariant-loop-length l = AreUpTo l.self.prefix.now l.self.suffix.now l.self.most (take l.length-index l.length-items) l.shared.items
