@@ -1,25 +1,19 @@
--- Examples of the definitions of what specs do together, on each side of a border.
 use Rattle.gix_refspec_lint.proofs.Common.{every, heads_split, origin_split, other_byte, other_first, short_kind, short_no_id, split_at_end, false, false≢true, ◌≡◌, ◌≢◌, inl, inr, ℕ, List, [], ◌∷◌}
 use Rattle.gix_refspec_lint.proofs.Common.{◌++◌, Option, None, Some, codes, refl, sym, ◌∙◌, subst, arith, AllByRecursion, Contains, slice_get, same_Some, BeginsWith, Source, Lacks-here, HasName, Ref}
 use Rattle.gix_refspec_lint.proofs.Common.{Excludes, by_pattern, the_name, fetched, Forced, Normal, Negative, Reading, star, IsSplit, Lacks, Lacks-tested, lacks_no_pattern, AreKeptForward, Mapped}
 use Rattle.gix_refspec_lint.proofs.Common.{HasPair, IsExcluded, IsExcludedBy, id, name, MakesForward, IsRefName, one_name, CanBeWritten, IsCompleted, IsPlan, IsSound, Planned, list_any, ◌==◌, slash}
-use Rattle.gix_refspec_lint.proofs.Common.{reading_once, IsSourceExcluded, HasKind, full_name, object, Takes, IsFirstCandidate, named_some, Origin, ConflictFree, ConflictsShown, ExamplesConflict}
-use Rattle.gix_refspec_lint.proofs.Common.{HasSound, IdleExclusionLeftOut, IdleLeftOut, PlanConflictFree, AreExamples, AreIdle, AreIdleExclusions, AreValid, DoesBefore, Example, IsAlwaysEarlier}
+use Rattle.gix_refspec_lint.proofs.Common.{reading_once, IsSourceExcluded, HasKind, full_name, object, Takes, ◌<◌, named_some, Origin, ConflictFree, ConflictsShown, ExamplesConflict}
+use Rattle.gix_refspec_lint.proofs.Common.{HasSound, IdleExclusionLeftOut, IdleLeftOut, PlanConflictFree, AreExamples, AreIdle, Fetches, AreValid, DoesBefore, Example, IsAlwaysEarlier}
 use Rattle.gix_refspec_lint.proofs.Common.{IsExample, IsIdleBy, IsIdleExclusion, Maps, MapsSoundly, refs_of, IsFree}
-use Rattle.gix_refspec_lint.specs.Matching.Lint.{IsAlwaysExcluded}
 use Rattle.gix_refspec_lint.specs.declared.Reason.TheVariants as reason
 use Rattle.gix_refspec_plan.specs.declared.Verdict.TheVariants as verdict
-use Rattle.gix_refspec_text.proofs.lemmas.hits.CandidateLemmas.{taken_by_first}
 use Rattle.gix_refspec_match.proofs.facts.CandidateFacts.{x_kind}
-use Rattle.gix_refspec_text.proofs.lemmas.texts.TestedLemmas.{IsName-tested, is_suspect}
+use Rattle.gix_refspec_text.proofs.lemmas.{hits.CandidateLemmas.taken_by_first, texts.TestedLemmas.{IsName-tested, is_suspect}}
 use Rattle.gix_refspec.specs.Matching.Validation.{ShareDestination}
-use Rattle.gix_refspec_lint.proofs.lemmas.PatternLemmas.{spec_maps, two_patterns, word_of}
-use Rattle.gix_refspec_lint.proofs.lemmas.IndexLemmas.{made_there}
-use Rattle.gix_refspec_lint.proofs.lemmas.SourceLemmas.{sources_there}
-use Rattle.gix_refspec_lint.proofs.lemmas.IdleLemmas.{one_far, valid_named}
+use Rattle.gix_refspec_lint.proofs.lemmas.{PatternLemmas.{spec_maps, two_patterns, word_of}, IdleLemmas.{one_far, valid_named}}
+use Rattle.gix_refspec_lint.proofs.lemmas.{IndexLemmas.made_there, SourceLemmas.sources_there}
 use Rattle.gix_refspec_plan.proofs.lemmas.plan.MadeLemmas.{one_in}
 
--- pull requests in the folder of the branches, and the way out
 abbrev pulls : Reading
 pulls = fetched Forced (codes "refs/pull/*/head") (Some (codes "refs/remotes/origin/pr/*"))
 
@@ -29,7 +23,6 @@ no x = fetched Negative x None
 abbrev no_main : Reading
 no_main = no (codes "main")
 
--- a spec of one destination
 abbrev to_x : List ℕ → Reading
 to_x x = fetched Normal x (Some (codes "refs/x"))
 
@@ -45,21 +38,16 @@ completed_as x a b = record { operation = refl; mode = refl; source = refl; dest
 every_completed : IsCompleted every every
 every_completed = completed_as _ (codes "refs/remotes/origin/") []
 
--- names below `refs/`
 below : (x : List ℕ) → is_suspect slash (codes "refs/" ++ x) ≡ false → CanBeWritten (Some (codes "refs/" ++ x))
 below x fine = (record { after = x; here = refl }, IsName-tested (codes "refs/" ++ x) fine)
 
--- a forced spec of two patterns maps the ref with a word
 maps_at : (p t a b w : List ℕ) → IsSplit p t (p ++ (star ∷ t)) → IsSplit a b (a ++ (star ∷ b)) → (refs : List Ref) → HasName refs (p ++ (w ++ t)) → (g : List Reading) (k : ℕ)
-    → slice_get g k ≡ Some (fetched Forced (p ++ (star ∷ t)) (Some (a ++ (star ∷ b)))) → IsRefName (p ++ (w ++ t))
-        → CanBeWritten (Some (a ++ (w ++ b)))
-    → MapsSoundly g refs k (name (p ++ (w ++ t))) (Some (a ++ (w ++ b)))
+    → slice_get g k ≡ Some (fetched Forced (p ++ (star ∷ t)) (Some (a ++ (star ∷ b))))
+    → IsRefName (p ++ (w ++ t)) → CanBeWritten (Some (a ++ (w ++ b))) → MapsSoundly g refs k (name (p ++ (w ++ t))) (Some (a ++ (w ++ b)))
 maps_at p t a b w source destination refs there g k at valid written =
-    let spec = two_patterns (fetched Forced (p ++ (star ∷ t)) (Some (a ++ (star ∷ b)))) p t a b _ tt (record { text = _; has = refl;
-    split = source }) refl destination in
+    let spec = two_patterns _ p t a b _ tt (record { text = _; has = refl; split = source }) refl destination in
     record {
-      maps = record { reading = _; at = at; completed = _; is = completed_as (p ++ (star ∷ t)) a b;
-          makes = spec_maps _ p t spec refs w there };
+      maps = record { reading = _; at = at; completed = _; is = completed_as _ a b; makes = spec_maps _ p t spec refs w there };
       source = valid;
       destination = written;
     }
@@ -71,11 +59,6 @@ heads_seven : (g : List Reading) (k : ℕ) → slice_get g k ≡ Some every → 
 heads_seven g k at =
     maps_at _ [] (codes "refs/remotes/origin/") [] (codes "pr/7") heads_split origin_split both (inl refl) g k at (inl (below (codes "heads/pr/7") refl)) (below _ refl)
 
-pulls_seven : (g : List Reading) (k : ℕ) → slice_get g k ≡ Some pulls → MapsSoundly g both k seven.other (Some seven.destination)
-pulls_seven g k at =
-    maps_at (codes "refs/pull/") (codes "/head") (codes "refs/remotes/origin/pr/") [] (codes "7") (split_as _ _ refl refl) (split_as _ _ refl refl) both (inr (inl refl)) g k at
-    (inl (below (codes "pull/7/head") refl)) (below _ refl)
-
 none_negative : (r : Reading) → r.mode ≡ Forced → (n : List ℕ) → ¬ (IsExcluded (every ∷ r ∷ []) n)
 none_negative r forced n by = grind arith
 
@@ -85,16 +68,12 @@ excluded p n w split fits = record { negative = refl; text = _; source = refl; e
 pr_excluded : IsExcludedBy (codes "refs/heads/pr/7") (no (codes "refs/heads/pr/*"))
 pr_excluded = excluded (codes "refs/heads/pr/") _ (codes "7") (split_at_end _ refl) refl
 
--- `main` by itself is no valid name of a ref, so it is that of none of the valid refs
 main_no_ref : ¬ (IsRefName (codes "main"))
 main_no_ref (inl (begins, named)) = other_first 109 (codes "ain") (λ same. omega (arith, same)) begins
 main_no_ref (inr same) = other_byte 0 (codes "main") (codes "HEAD") (λ equal. omega (arith, equal)) same
 
--- what the completed reading of a spec makes, where that is the spec itself
 made_by : {g : List Reading} {refs : List Ref} {k : ℕ} {s : Source} {d : Option (List ℕ)} (r : Reading) → slice_get g k ≡ Some r → IsCompleted r r → Maps g refs k s d → MakesForward refs s d r
-made_by {g} {refs} {k} {s} {d} r at done m =
-    subst (MakesForward refs s d) (reading_once r m.completed r (subst (λ q. IsCompleted q m.completed)
-    (same_Some _ _ (sym m.at ∙ at)) m.is) done) m.makes
+made_by r at done m = rw (reading_once r m.completed r (rw (same_Some _ _ (sym m.at ∙ at)) at m.is) done) at m.makes
 
 -- a branch in the folder of the pull requests, and the pull request of its name, are an example of a conflict
 pub example : IsExample (every ∷ pulls ∷ []) 0 1 seven
@@ -104,7 +83,9 @@ example = record {
   order = omega arith;
   conflict = record {
     one = record { maps = heads_seven (every ∷ pulls ∷ []) 0 refl; included = none_negative pulls refl (codes "refs/heads/pr/7") };
-    other = record { maps = pulls_seven (every ∷ pulls ∷ []) 1 refl; included = none_negative pulls refl (codes "refs/pull/7/head") };
+    other = record { included = none_negative pulls refl _; maps = maps_at (codes "refs/pull/") (codes "/head")
+    (codes "refs/remotes/origin/pr/") []
+        (codes "7") (split_as _ _ refl refl) (split_as _ _ refl refl) both (inr (inl refl)) _ 1 refl (inl (below _ refl)) (below _ refl) };
     differ = λ same. other_byte 5 (codes "refs/heads/pr/7") (codes "refs/pull/7/head") (λ equal. omega (arith, equal)) (one_name (codes "refs/heads/pr/7") (codes "refs/pull/7/head") same);
   };
 }
@@ -114,26 +95,20 @@ pub no_example : ¬ (IsExample (every ∷ pulls ∷ no (codes "refs/heads/pr/*")
     × ¬ (IsExample (every ∷ pulls ∷ []) 1 0 (record { first = 1; second = 0; one = seven.other; other = seven.one; destination = seven.destination }))
 no_example = ((λ e. e.conflict.one.included (inr (inr (inl pr_excluded)))), (λ e. omega (arith, e.order)), λ e. omega (arith, e.order))
 
+does_before : (g : List Reading) (k h : ℕ) (refs : List Ref) (s : Source) (d : Option (List ℕ)) → AreValid refs → Fetches g refs k s d
+    → h < k → Maps g refs h s d → DoesBefore g k h
+does_before g k h refs s d valid fetches before maps =
+    record { refs = refs; valid = valid; source = s; destination = d; fetches = fetches; before = before; maps = maps }
+
 -- of two equal specs the second is idle, and not the first, nor is it explained by itself
 pub second_idle : IsIdleBy (every ∷ every ∷ []) 1 (reason.Duplicate 0) × ((h : ℕ) → ¬ (IsIdleBy (every ∷ every ∷ []) 0 (reason.Duplicate h)))
     × ¬ (IsIdleBy (every ∷ every ∷ []) 1 (reason.Duplicate 1))
-second_idle = ((earlier, does), (λ h is. omega (arith, is.1.before)), λ is. omega (arith, is.1.before))
-  where
-    earlier : IsAlwaysEarlier (every ∷ every ∷ []) 1
-    earlier refs s d valid f = (0, omega arith, record { reading = f.maps.maps.reading; at = f.maps.maps.at; completed = f.maps.maps.completed; is = f.maps.maps.is; makes = f.maps.maps.makes })
+second_idle = (((λ refs s d valid f.
+    let m = f.maps.maps in (0, omega arith, record { reading = _; at = m.at; completed = _; is = m.is; makes = m.makes })),
+    does_before _ 1 0 both seven.one (Some seven.destination) ((heads_seven (every ∷ every ∷ []) 0 refl).source, (inl (below (codes "pull/7/head") refl), tt))
+    (record { maps = heads_seven (every ∷ every ∷ []) 1 refl; included = none_negative every refl (codes "refs/heads/pr/7") }) (omega arith)
+    (heads_seven (every ∷ every ∷ []) 0 refl).maps), (λ h is. omega (arith, is.1.before)), λ is. omega (arith, is.1.before))
 
-    does : DoesBefore (every ∷ every ∷ []) 1 0
-    does = record {
-      refs = both;
-      valid = ((heads_seven (every ∷ every ∷ []) 0 refl).source, (inl (below (codes "pull/7/head") refl), tt));
-      source = seven.one;
-      destination = Some seven.destination;
-      fetches = record { maps = heads_seven (every ∷ every ∷ []) 1 refl; included = none_negative every refl (codes "refs/heads/pr/7") };
-      before = omega arith;
-      maps = (heads_seven (every ∷ every ∷ []) 0 refl).maps;
-    }
-
--- a negative spec without `refs/` excludes no valid ref, so it is idle in any group
 names_no_ref : (g : List Reading) → IsIdleExclusion g no_main
 names_no_ref g = record { negative = refl; excludes = λ refs i n d maps by. by_case n by.text by.source by.excludes maps.source }
   where
@@ -155,18 +130,20 @@ all_excluded = every ∷ no_main ∷ no (codes "refs/heads/*") ∷ []
 -- what is always excluded is so by a spec that excludes one of its sources, and not by any negative spec
 pub excluded_by : IsIdleBy all_excluded 0 (reason.Excluded 2) × ¬ (IsIdleBy all_excluded 0 (reason.Excluded 1))
 excluded_by = (
-  (always, record { refs = both; source = _; destination = _; maps = heads_seven all_excluded 0 refl; negative = _; at = refl; excludes = excluded (codes "refs/heads/") _ (codes "pr/7") heads_split refl }),
+  ((λ refs s d f. f.included (by_source refs s d (made_by every refl every_completed f.maps.maps))),
+      record { refs = both; source = _; destination = _; maps = heads_seven all_excluded 0 refl; negative = _; at = refl;
+      excludes = excluded (codes "refs/heads/") _ (codes "pr/7") heads_split refl }),
   (λ is. (names_no_ref all_excluded).excludes is.1.refs 0 is.1.source is.1.destination is.1.maps (subst (IsExcludedBy is.1.source) (sym (same_Some _ _ is.1.at)) is.1.excludes)),
 )
   where
-    always : IsAlwaysExcluded all_excluded 0
-    always refs s d f = f.included (by_source s (made_by every refl every_completed f.maps.maps))
-      where
-        by_source : (s : Source) → MakesForward refs s d every → IsSourceExcluded all_excluded s
-        by_source (id bytes) makes = absurd (makes.object.1 (subst (BeginsWith (codes "refs/")) (same_Some _ _ makes.side) (record { after = codes "heads/*"; here = refl })))
-        by_source (name n) makes =
-            let (w, some, fits) = word_of every refs n d makes (codes "refs/heads/") [] (record { text = codes "refs/heads/*"; has = refl; split = heads_split }) in
-            inr (inr (inl (excluded (codes "refs/heads/") n w heads_split fits)))
+    by_source : (refs : List Ref) (s : Source) (d : Option (List ℕ)) → MakesForward refs s d every → IsSourceExcluded all_excluded s
+    by_source refs (id bytes) d makes =
+        absurd (makes.object.1 (subst (BeginsWith (codes "refs/")) (same_Some _ _ makes.side)
+        (record { after = codes "heads/*"; here = refl })))
+    by_source refs (name n) d makes =
+        let (w, some, fits) = word_of every refs n d makes (codes "refs/heads/") []
+        (record { text = codes "refs/heads/*"; has = refl; split = heads_split }) in
+        inr (inr (inl (excluded (codes "refs/heads/") n w heads_split fits)))
 
 -- so it is listed as idle, and neither of the negative specs, which map nothing either
 pub idle_listed : AreIdle all_excluded (record { spec = 0; reason = reason.Excluded 2 } ∷ [])
@@ -185,7 +162,6 @@ full_kind = (refl, Lacks-tested star full refl, record { after = codes "main"; h
 x_completed : (x : List ℕ) → IsCompleted (to_x x) (to_x x)
 x_completed x = record { operation = refl; mode = refl; source = refl; destination = inr (Lacks-tested star (codes "refs/x") refl, refl) }
 
--- a spec without a star maps what it takes
 maps_full : (x : List ℕ) (k : ℕ) → slice_get main_twice k ≡ Some (to_x x) → ((bytes : List ℕ) → ¬ (HasKind x (object bytes))) → (refs : List Ref) → HasName refs full
     → ((r : Ref) → r.name ≡ full → Takes refs x r None) → Maps main_twice refs k (name full) (Some (codes "refs/x"))
 maps_full x k at no_object refs there takes = record {
@@ -202,49 +178,29 @@ maps_full x k at no_object refs there takes = record {
 
 maps_first : (refs : List Ref) → AreValid refs → HasName refs full → Maps main_twice refs 0 (name full) (Some (codes "refs/x"))
 maps_first refs valid there =
-    let absent : AllByRecursion (λ m. ¬ (HasName refs m)) (codes "main" ∷ []) = ((λ has. main_no_ref (valid_named refs (codes "main") valid has)), tt) in
-    let first : IsFirstCandidate refs (codes "main") full = record { earlier = codes "main" ∷ []; later = _; here = refl; absent = absent; present = there } in
     maps_full (codes "main") 0 refl (λ bytes kind. short_no_id bytes kind.2) refs there
-    (λ r named. taken_by_first refs (codes "main") r short_kind (subst (IsFirstCandidate refs (codes "main")) (sym named) first))
+    (λ r named. taken_by_first refs (codes "main") r short_kind (rw named (record { earlier = codes "main" ∷ []; later = _; here = refl;
+    absent = ((λ has. main_no_ref (valid_named refs (codes "main") valid has)), tt); present = there })))
 
 maps_second : (refs : List Ref) → HasName refs full → Maps main_twice refs 1 (name full) (Some (codes "refs/x"))
 maps_second refs there =
     maps_full full 1 refl (λ bytes kind. kind.1 full_kind.2) refs there
     (λ r named. record { matches = record { kind = full_name full; of = full_kind; is = (refl, named) }; first = λ m short. absurd (short.2 full_kind.2) })
 
--- so the second is idle
 pub full_name_idle : IsIdleBy main_twice 1 (reason.Duplicate 0)
-full_name_idle = (earlier, does)
+full_name_idle = (earlier, does_before _ 1 0 (refs_of (name full)) (name full) (Some (codes "refs/x")) (inl (below _ refl), tt)
+    (record { included = λ by. grind arith; maps = record { maps = maps_second _ (inl refl); source = inl (below _ refl);
+    destination = below _ refl } }) (omega arith) (maps_first _ (inl (below _ refl), tt) (inl refl)))
   where
-    from_full : (refs : List Ref) (d : Option (List ℕ)) → AreValid refs → MakesForward refs (name full) d (to_x full) → Maps main_twice refs 0 (name full) d
-    from_full refs d valid makes =
-        let own = made_by (to_x full) refl (x_completed full) (maps_second (refs_of (name full)) (inl refl)) in
-        subst (Maps main_twice refs 0 (name full)) (one_far (refs_of (name full)) refs (name full) (Some (codes "refs/x")) d
-        (to_x full) own makes)
-        (maps_first refs valid (made_there refs (name full) d (to_x full) makes))
-
     earlier : IsAlwaysEarlier main_twice 1
     earlier refs s d valid f =
         let makes = made_by (to_x full) refl (x_completed full) f.maps.maps in
-        let there = sources_there (to_x full) full refl refs d (full_name full) (name full ∷ []) full_kind
-        (λ b a. lacks_no_pattern full b a full_kind.1) refl s makes in
-        let is : s ≡ name full = one_in (name full) s there in
-        (0, omega arith, subst (λ t. Maps main_twice refs 0 t d) (sym is)
-        (from_full refs d valid (subst (λ t. MakesForward refs t d (to_x full)) is makes)))
-
-    does : DoesBefore main_twice 1 0
-    does = record {
-      refs = refs_of (name full);
-      valid = (inl (below (codes "main") refl), tt);
-      source = name full;
-      destination = Some (codes "refs/x");
-      fetches = record { maps = record { maps = maps_second (refs_of (name full)) (inl refl); source = inl (below (codes "main") refl);
-          destination = below (codes "x") refl }; included = λ by. grind arith };
-      before = omega arith;
-      maps = maps_first _ (inl (below (codes "main") refl), tt) (inl refl);
-    }
-
--- ---- the free byte
+        let is = one_in (name full) s (sources_there (to_x full) full refl refs d (full_name full) _ full_kind
+        (λ b a. lacks_no_pattern full b a full_kind.1) refl s makes) in
+        let here : MakesForward refs (name full) d (to_x full) = rw is at makes in
+        let own = made_by (to_x full) refl (x_completed full) (maps_second (refs_of (name full)) (inl refl)) in
+        (0, omega arith, rw (is, sym (one_far _ refs (name full) _ d (to_x full) own here))
+        (maps_first refs valid (made_there refs (name full) d (to_x full) here)))
 
 -- any byte may be free, but no larger number, no star, no letter of the folders, and none that a side has
 pub free : IsFree [] 255 × ¬ (IsFree [] 256) × ¬ (IsFree [] 42) × ¬ (IsFree [] 114) × ¬ (IsFree (every ∷ []) 105)
@@ -256,8 +212,6 @@ free = (
   λ is. Lacks-here 105 (codes "refs/remotes/or") (codes "gin/*") is.lacks.0.1,
 )
 
--- ---- the laws
-
 -- of two equal specs one is enough
 pub one_enough : IdleLeftOut (every ∷ every ∷ []) → AreIdle (every ∷ every ∷ []) (record { spec = 1; reason = reason.Duplicate 0 } ∷ []) → (refs : List Ref) (kept rest : List Mapped) → AreValid refs → AreKeptForward (every ∷ every ∷ []) refs kept → AreKeptForward (every ∷ []) refs rest
     → (m : Mapped) → IsSound m → HasPair kept m → HasPair rest m
@@ -268,10 +222,10 @@ one_enough law idle refs kept rest valid of_all of_rest m sound has =
 pub main_kept : IdleExclusionLeftOut (every ∷ no_main ∷ []) → (refs : List Ref) (kept rest : List Mapped) → AreKeptForward (every ∷ no_main ∷ []) refs kept → AreKeptForward (every ∷ []) refs rest
     → (m : Mapped) → IsSound m → HasPair rest m → HasPair kept m
 main_kept law refs kept rest of_all of_rest m sound has =
-    (law (1 ∷ []) 1 idle (0, omega arith, refl) (every ∷ no_main ∷ []) refs kept rest (every_completed, (record { operation = refl; mode = refl; source = refl; destination = refl }, tt)) of_all of_rest m sound).0 has
-  where
-    idle : AreIdleExclusions (every ∷ no_main ∷ []) (1 ∷ [])
-    idle = (None, 1 ∷ [], (λ k both. let is : Forced ≡ Negative = both.1.negative in cc), (Some 1, [], (refl, excludes_none.0), refl, refl), refl)
+    (law (1 ∷ []) 1 (None, 1 ∷ [], (λ k both. let is : Forced ≡ Negative = both.1.negative in cc),
+    (Some 1, [], (refl, excludes_none.0), refl, refl), refl)
+    (0, omega arith, refl) (every ∷ no_main ∷ []) refs kept rest
+    (every_completed, (record { operation = refl; mode = refl; source = refl; destination = refl }, tt)) of_all of_rest m sound).0 has
 
 -- a conflict over some refs has an example
 pub conflict_shown : ConflictsShown (every ∷ pulls ∷ []) → (e : Example) × IsExample (every ∷ pulls ∷ []) 0 1 e
@@ -291,6 +245,5 @@ no_conflict law refs planned missing plan = law no_examples (λ empty. cc (empty
 -- and a fetch from the remote of an example keeps a mapping of each of its sources
 pub seven_kept : ExamplesConflict (every ∷ pulls ∷ []) → (kept : List Mapped) → AreKeptForward (every ∷ pulls ∷ []) both kept → HasSound kept seven.one seven.destination × HasSound kept seven.other seven.destination
 seven_kept law kept are =
-    let told = law 0 1 seven example (every ∷ pulls ∷ []) kept (every_completed, (completed_as _ (codes "refs/remotes/origin/pr/") [],
-    tt)) are in
+    let told = law 0 1 seven example (every ∷ pulls ∷ []) kept (every_completed, (completed_as _ (codes "refs/remotes/origin/pr/") [], tt)) are in
     (told.0, told.1)

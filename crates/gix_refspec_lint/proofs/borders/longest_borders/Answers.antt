@@ -1,4 +1,3 @@
--- The entry for one byte more is its longest border.
 use Rattle.gix_refspec_lint.proofs.{Common.{◌≡◌, ◌+◌, length, min, subst, sym, arith, AreLongestTo}, lemmas.BorderLemmas.one_more}
 
 pub loop-len-preserved : Rattle.gix_refspec_lint.proofs.borders.longest_borders.Goals.loop-len-preserved

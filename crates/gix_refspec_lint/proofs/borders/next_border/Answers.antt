@@ -1,6 +1,6 @@
 -- A border of the next byte's front goes on with that byte.
-use Rattle.gix_refspec_lint.proofs.Common.{◌≢◌, get_or, subst, arith}
-use Rattle.gix_refspec_lint.proofs.lemmas.BorderLemmas.{IsCandidate, candidate_first, candidate_next, longest_more, longest_none}
+use Rattle.gix_refspec_lint.proofs.Common.{arith}
+use Rattle.gix_refspec_lint.proofs.lemmas.BorderLemmas.{candidate_first, candidate_next, longest_more, longest_none}
 use Rattle.gix_refspec_lint.proofs.borders.next_border.Goals as goal
 
 pub loop-border-init : goal.loop-border-init
@@ -14,10 +14,7 @@ loop-border-preserved c =
 
 pub returns-then-border-eq0 : goal.returns-then-border-eq0
 returns-then-border-eq0 c =
-    let text = c.args.text.now in
-    let none = c.if-border-eq0.true in
-    longest_none text c.args.len (subst (IsCandidate text c.args.len) none c.loop-border.invariant)
-    (subst (λ b. get_or text b 0 ≢ get_or text c.args.len 0) none c.loop-border-test.true)
+    longest_none _ c.args.len (rw c.if-border-eq0.true at c.loop-border.invariant) (rw c.if-border-eq0.true at c.loop-border-test.true)
 
 pub returns : goal.returns
 returns c = longest_more _ c.args.len _ c.loop-border.invariant c.loop-border-test.false

@@ -1,5 +1,4 @@
--- Without a conflict at the names that decide there is none.
-use Rattle.gix_refspec_lint.proofs.Common.{◌++◌, List, ℕ, map, subst, take_all, arith, AllByRecursion, IfOk-weaker, bstring_bytes, one_more_mapped, NoneAt}
+use Rattle.gix_refspec_lint.proofs.Common.{◌++◌, take_all, arith, IfOk-weaker, bstring_bytes, one_more_mapped, NoneAt}
 use Rattle.gix_refspec_lint.proofs.lemmas.FoundLemmas.{among_found}
 use Rattle.gix_refspec_lint.proofs.conflicts.conflict_among.Goals as goal
 
@@ -13,7 +12,5 @@ returns-in-Some c g is have = rw c.in-Some.is at (c.in_ok-conflict.ensures g is)
 
 pub returns : goal.returns
 returns c g is have =
-    let P : List ℕ → Type 0 = λ w. NoneAt g c.args.first c.args.second (c.args.common.now.prefix.now ++ (w ++ c.args.common.now.suffix.now)) in
-    let all : AllByRecursion P (map bstring_bytes c.args.group.now.words.items) = rw (take_all c.loop-word.word-index c.deref-word-items.result.now (omega arith), c.deref-word-items.ensures.value) at (c.loop-word.invariant g is) in
-    IfOk-weaker c.conflict_overlapping.result _ _ (λ found shown. among_found g c.args.group.now is c.args.first c.args.second c.args.common.now have found (subst (AllByRecursion P) is.words all) shown)
-    (c.conflict_overlapping.ensures g is have)
+    IfOk-weaker c.conflict_overlapping.result _ _ (λ found. among_found g c.args.group.now is c.args.first c.args.second c.args.common.now have found
+    (rw (take_all c.loop-word.word-index c.deref-word-items.result.now (omega arith), c.deref-word-items.ensures.value, is.words) at (c.loop-word.invariant g is))) (c.conflict_overlapping.ensures g is have)

@@ -1,6 +1,5 @@
--- The sources of the two specs, each with each.
-use Rattle.gix_refspec_lint.proofs.Common.{◌≡◌, [], map, take_all, refl, sym, ap, ◌∙◌, arith, AllByRecursion, eqb-true, false≢true, nil_from_length, bstr_bytes, one_more_mapped, start_of, length, ◌<◌}
-use Rattle.gix_refspec_lint.proofs.{Common.{refs_of, ◌++◌}, lemmas.SourceLemmas.none_contained}
+use Rattle.gix_refspec_lint.proofs.Common.{map, take_all, refl, sym, ap, ◌∙◌, arith, AllByRecursion, eqb-true, false≢true, nil_from_length, bstr_bytes, one_more_mapped, start_of, length, ◌<◌}
+use Rattle.gix_refspec_lint.proofs.{lemmas.SourceLemmas.none_contained}
 use Rattle.gix_refspec_lint.proofs.lemmas.FoundLemmas.{NoConflict, copied_example, none_of_all, completed_of, makes_of}
 use Rattle.gix_refspec.proofs.lemmas.validate.ConflictLemmas.{copied_source}
 use Rattle.gix_refspec_lint.proofs.conflicts.conflict_at.Goals as goal
@@ -8,11 +7,10 @@ use Rattle.gix_refspec_lint.proofs.conflicts.conflict_at.Goals as goal
 pub returns-then-is_empty : goal.returns-then-is_empty
 returns-then-is_empty c g is s t k =
     let others = c.in_ok-others.others in
-    let empty : others.items ≡ [] = nil_from_length others.items (omega (arith, eqb-true _ 0 (sym c.if-is_empty.ensures), others.ok.0, others.ok.1)) in
     let (r, done) = completed_of g c.args.group.now is c.args.second c.index-group-second.result c.requires.1 in
     let of_others = rw c.as_bytes.ensures at (c.in_ok-others.ensures r done) in
-    none_contained t (ap (map start_of) empty)
-    (of_others (refs_of s ++ refs_of t) t (makes_of g c.args.group.now is c.args.second c.index-group-second.result c.requires.1 (refs_of s ++ refs_of t) t (bstr_bytes c.args.destination) k.other))
+    none_contained t (ap (map start_of) (nil_from_length others.items (omega (arith, eqb-true _ 0 (sym c.if-is_empty.ensures), others.ok.0, others.ok.1))))
+    (of_others _ t (makes_of g c.args.group.now is c.args.second _ c.requires.1 _ t _ k.other))
 
 pub returns-then-branch : goal.returns-then-branch
 returns-then-branch c g is =
@@ -35,14 +33,13 @@ loop-one-preserved c g is =
 pub returns : goal.returns
 returns c g is =
     let below : c.args.first < length c.args.group.now.specs.now = omega (arith, c.requires.0, c.requires.1) in
-    let d = bstr_bytes c.args.destination in
     let (q, made) = completed_of g c.args.group.now is c.args.first c.index-group-first.result below in
     let (r, done) = completed_of g c.args.group.now is c.args.second c.index-group-second.result c.requires.1 in
     let of_ones = rw c.as_bytes-2.ensures at (c.in_ok-ones.ensures q made) in
     let of_others = rw c.as_bytes.ensures at (c.in_ok-others.ensures r done) in
-    none_of_all g c.args.first c.args.second d (map start_of c.in_ok-ones.ones.items) (map start_of c.in_ok-others.others.items)
+    none_of_all g c.args.first c.args.second (bstr_bytes c.args.destination) (map start_of c.in_ok-ones.ones.items) (map start_of c.in_ok-others.others.items)
     (rw (take_all c.loop-one.one-index c.deref-one-items.result.now (omega arith), c.deref-one-items.ensures.value) at (c.loop-one.invariant g is))
     (λ s t k. (
-      of_ones (refs_of s ++ refs_of t) s (makes_of g c.args.group.now is c.args.first c.index-group-first.result below (refs_of s ++ refs_of t) s d k.one),
-      of_others (refs_of s ++ refs_of t) t (makes_of g c.args.group.now is c.args.second c.index-group-second.result c.requires.1 (refs_of s ++ refs_of t) t d k.other),
+      of_ones _ s (makes_of g c.args.group.now is c.args.first _ below _ s _ k.one),
+      of_others _ t (makes_of g c.args.group.now is c.args.second _ c.requires.1 _ t _ k.other),
     ))

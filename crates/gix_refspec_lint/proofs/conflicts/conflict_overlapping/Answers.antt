@@ -1,6 +1,5 @@
--- One more overlap, which is tried or passed over.
 use Rattle.gix_refspec_lint.proofs.{Common.{take_all, arith, NoneAt, AreOverlaps, Fails}, lemmas.FailLemmas.{fails_again, fails_none}}
-use Rattle.gix_refspec_lint.proofs.lemmas.RunLemmas.{each_overlap, AreSoFar, none_so_far, one_more, passed_over}
+use Rattle.gix_refspec_lint.proofs.lemmas.RunLemmas.{each_overlap, none_so_far, one_more, passed_over}
 use Rattle.gix_refspec_lint.proofs.conflicts.conflict_overlapping.Goals as goal
 use Rattle.gix_refspec_lint.proofs.conflicts.conflict_overlapping.Goals.{in-Some, in-None+in_ok-name-in-None+in_ok-conflict-in-None+in-Nothing}
 
@@ -12,26 +11,22 @@ returns-in-Conflict c g is have = rw c.in-Conflict.is at (c.in_ok-conflict-in-No
 
 pub loop-shared-preserved : goal.loop-shared-preserved
 loop-shared-preserved c g is have =
-    let one = have.one.reading in
-    let other = have.other.reading in
     let list = c.deref-shared-items.result.now in
     let are : AreOverlaps c.args.common.now.prefix.now c.args.common.now.suffix.now c.args.common.now.most list = rw c.deref-shared-items.ensures.value c.in_ok-overlaps.ensures in
     let so_far = c.loop-shared.invariant g is have in
     elim c.match-at.branch [
-      | in-Some w ↦ passed_over (NoneAt g c.args.first c.args.second) (Fails g one other) _ _ _ list are c.loop-shared.shared-index c.loop-shared.run so_far c.loop-shared-test.true (fails_again g one other)
-          (λ why n known reason. fails_none g c.args.group.now is c.args.first c.args.second one other have.one.at have.other.at n why known reason) c.match-at.why c.with-run.result
+      | in-Some w ↦ passed_over (NoneAt g c.args.first c.args.second) (Fails g have.one.reading have.other.reading) _ _ _ list are c.loop-shared.shared-index c.loop-shared.run so_far c.loop-shared-test.true (fails_again g _ _)
+          (λ why n known reason. fails_none g c.args.group.now is c.args.first c.args.second _ _ have.one.at have.other.at n why known reason) c.match-at.why c.with-run.result
           (rw w.why-is (rw w.in-Some.is at c.at.ensures)) c.with-run.ensures
       | in-None+in_ok-name-in-None+in_ok-conflict-in-None+in-Nothing w ↦
-          let told = rw (w.as_bstr.ensures, w.in_ok-name-in-None.ensures) at (rw w.in-Nothing.is at (w.in_ok-conflict-in-None.ensures g is one other have.one.at have.other.at)) in
-          one_more (NoneAt g c.args.first c.args.second) (Fails g one other) _ _ _ list are c.loop-shared.shared-index c.loop-shared.run so_far c.loop-shared-test.true
+          let told = rw (w.as_bstr.ensures, w.in_ok-name-in-None.ensures) at (rw w.in-Nothing.is at (w.in_ok-conflict-in-None.ensures g is _ _ have.one.at have.other.at)) in
+          one_more (NoneAt g c.args.first c.args.second) (Fails g have.one.reading have.other.reading) _ _ _ list are c.loop-shared.shared-index c.loop-shared.run so_far c.loop-shared-test.true
           c.match-at.why c.with-run.result told.0 (rw w.why-is told.1) c.with-run.ensures
     ]
 
 pub returns : goal.returns
 returns c g is have =
-    let prefix = c.args.common.now.prefix.now in
-    let suffix = c.args.common.now.suffix.now in
     let list = c.deref-shared-items.result.now in
-    let are : AreOverlaps prefix suffix c.args.common.now.most list = rw c.deref-shared-items.ensures.value c.in_ok-overlaps.ensures in
-    let all : AreSoFar (NoneAt g c.args.first c.args.second) (Fails g have.one.reading have.other.reading) prefix suffix list c.loop-shared.run = rw (take_all c.loop-shared.shared-index list (omega arith)) at (c.loop-shared.invariant g is have) in
-    each_overlap (NoneAt g c.args.first c.args.second) prefix suffix c.args.common.now.most list are all.all
+    each_overlap (NoneAt g c.args.first c.args.second) _ _ _ list
+    (rw c.deref-shared-items.ensures.value c.in_ok-overlaps.ensures)
+    (rw (take_all c.loop-shared.shared-index list (omega arith)) at (c.loop-shared.invariant g is have).all)

@@ -1,4 +1,3 @@
--- The conflicts of one more spec with later ones.
 use Rattle.gix_refspec_lint.proofs.Common.{◌<◌, length, map, sym, ap, ◌∙◌, take_all, arith, map-append, zip_long, example_of}
 use Rattle.gix_refspec_lint.proofs.lemmas.FoundLemmas.{group_long, rows_next}
 use Rattle.gix_refspec_lint.proofs.conflicts.conflicts_in.Goals as goal

@@ -1,4 +1,3 @@
--- One more spec, with which there is a conflict or not.
 use Rattle.gix_refspec_lint.proofs.Common.{◌<◌, length, map, None, Some, append-nil, sym, ap, ◌∙◌, take_all, arith, map-append, example_of}
 use Rattle.gix_refspec_lint.proofs.lemmas.FoundLemmas.{group_long, row_next, row_same}
 use Rattle.gix_refspec_lint.proofs.conflicts.conflicts_with.Goals as goal

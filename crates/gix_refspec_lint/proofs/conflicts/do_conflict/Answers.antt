@@ -1,4 +1,3 @@
--- Both specs map their sources among the two refs.
 use Rattle.gix_refspec_lint.proofs.Common.{map, refl, sym, ◌∙◌, false≢true, IfOk-weaker, bstr_bytes, ref_of, start_of, refs_of, HaveSameNames, ◌++◌}
 use Rattle.gix_refspec_lint.proofs.lemmas.{FoundLemmas.{both_named, conflict_made, makes_named}, IndexLemmas.reading_at}
 use Rattle.gix_refspec_lint.proofs.conflicts.do_conflict.Goals as goal
@@ -22,18 +21,17 @@ returns-then-not-branch c g is written =
 
 pub returns : goal.returns
 returns c g is written =
-    let cs = c.args.group.now.specs.now in
     let s = start_of c.args.one.now in
     let t = start_of c.args.other.now in
     let refs = map ref_of c.as_slice-refs.result.now in
-    let at = reading_at cs c.args.first c.index-group-first.result c.requires.0 in
-    let also = reading_at cs c.args.second c.index-group-second.result c.requires.1 in
     let named : HaveSameNames refs (refs_of s ++ refs_of t) = rw c.as_slice-refs.ensures.value (both_named _ _ (refs_of s) (refs_of t) (rw c.new-items.ensures.items at c.in_ok-add_item.ensures) c.in_ok-add_item-2.ensures) in
     IfOk-weaker c.makes-2.result _ _
     (λ does told. (
-      (λ yes. conflict_made g _ is.completed c.args.first c.args.second refs s t (bstr_bytes c.args.destination) named _ _ at also
+      (λ yes. conflict_made g _ is.completed c.args.first c.args.second refs s t (bstr_bytes c.args.destination) named _ _
+          (reading_at _ c.args.first c.index-group-first.result c.requires.0) (reading_at _ c.args.second c.index-group-second.result c.requires.1)
           (λ same. false≢true (sym c.if-same_source.false ∙ c.same_source.ensures.1 same)) ((c.if-not-is_fetched.ensures g is).0 refl) ((c.if-not-is_fetched-2.ensures g is).0 refl) written
           (c.in_ok-makes.ensures.0 c.if-not-branch.false) (told.0 yes)),
-      (λ k. told.1 (makes_named g _ is.completed c.args.first c.args.second refs s t (bstr_bytes c.args.destination) named c.args.second _ also t k.other)),
+      (λ k. told.1 (makes_named g _ is.completed c.args.first c.args.second refs s t (bstr_bytes c.args.destination) named c.args.second _
+          (reading_at _ _ c.index-group-second.result c.requires.1) t k.other)),
     ))
     c.makes-2.ensures

@@ -1,4 +1,3 @@
--- A spec at an index excludes the source, or none does.
 use Rattle.gix_refspec_lint.proofs.{Common.{refl, sym, subst, false≢true, IsSourceExcluded}, lemmas.IndexLemmas.excluded_at}
 use Rattle.gix_refspec_lint.proofs.conflicts.is_fetched.Goals as goal
 

@@ -1,4 +1,3 @@
--- One more destination has one more pair of parts.
 use Rattle.gix_refspec_lint.proofs.{Common.{inr, sym, ◌∙◌, reading_of, accepted_few}, lemmas.FoundLemmas.parts_next}
 use Rattle.gix_refspec_lint.proofs.conflicts.parts_in.Goals as goal
 

@@ -1,4 +1,3 @@
--- The source isn't fetched.
 use Rattle.gix_refspec_lint.proofs.{Common.{bstr_bytes, bstring_bytes, reading_of}, lemmas.FailLemmas.{first_fails, second_fails}}
 use Rattle.gix_refspec_lint.proofs.conflicts.why_none.Goals as goal
 

@@ -1,14 +1,12 @@
--- One of the specs maps what is excluded, or none does.
-use Rattle.gix_refspec_lint.proofs.Common.{map, of_element, some_at, slice_get-map, slice_get_read, option_map, ap, ◌∙◌, refl, length, take_all, arith, MatchBool-at_false, MatchBool-at_true, reading_of, one_more_mapped, ExcludesSome}
+use Rattle.gix_refspec_lint.proofs.Common.{of_element, some_at, take_all, arith, MatchBool-at_false, MatchBool-at_true, reading_of, one_more_mapped, ExcludesSome}
+use Rattle.gix_refspec_lint.proofs.lemmas.IndexLemmas.{reading_at}
 use Rattle.gix_refspec_lint.proofs.exclusions.excludes_any.Goals as goal
 
 pub returns-then-branch : goal.returns-then-branch
 returns-then-branch c g is =
-    let specs = c.args.group.now.specs.now in
-    some_at (ExcludesSome (reading_of c.args.negative.now)) (map reading_of specs) c.loop-spec.spec-index (reading_of c.spec-item.result)
-    (slice_get-map reading_of specs c.loop-spec.spec-index ∙ ap (option_map reading_of)
-    (slice_get_read specs (length specs) c.loop-spec.spec-index c.spec-item.result refl c.loop-spec-test.true c.spec-item.is))
-    (MatchBool-at_true _ _ c.if-branch.true (c.in_ok-excludes_of.ensures g is))
+    some_at (ExcludesSome (reading_of c.args.negative.now)) _ c.loop-spec.spec-index _
+    (reading_at c.args.group.now.specs.now c.loop-spec.spec-index c.spec-item.result c.loop-spec-test.true)
+    (rw c.spec-item.is at (MatchBool-at_true _ _ c.if-branch.true (c.in_ok-excludes_of.ensures g is)))
 
 pub loop-spec-preserved : goal.loop-spec-preserved
 loop-spec-preserved c g is =

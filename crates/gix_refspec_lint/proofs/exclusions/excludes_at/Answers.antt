@@ -1,4 +1,3 @@
--- The source is excluded, and it is mapped or not.
 use Rattle.gix_refspec_lint.proofs.{Common.{IfOk-weaker, reading_of, start_of}, lemmas.OneSpecLemmas.excludes_told}
 
 pub returns : Rattle.gix_refspec_lint.proofs.exclusions.excludes_at.Goals.returns

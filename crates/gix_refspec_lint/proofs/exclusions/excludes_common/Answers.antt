@@ -1,5 +1,5 @@
 -- What is excluded and mapped is so at a name that decides.
-use Rattle.gix_refspec_lint.proofs.Common.{◌++◌, ℕ, List, map, subst, take_all, arith, AllByRecursion, MatchBool-at_false, IfOk-weaker, bstring_bytes, reading_of, one_more_mapped, name, ExcludesFrom}
+use Rattle.gix_refspec_lint.proofs.Common.{◌++◌, take_all, arith, MatchBool-at_false, IfOk-weaker, bstring_bytes, reading_of, one_more_mapped, name, ExcludesFrom}
 use Rattle.gix_refspec_lint.proofs.lemmas.LeftOutLemmas.{shared_told}
 use Rattle.gix_refspec_lint.proofs.exclusions.excludes_common.Goals as goal
 
@@ -11,8 +11,5 @@ loop-word-preserved c =
 
 pub returns : goal.returns
 returns c g is share =
-    let P : List ℕ → Type 0 = λ w. ¬ (ExcludesFrom (reading_of c.args.negative.now) (reading_of c.args.spec.now) (name (c.args.common.now.prefix.now ++ (w ++ c.args.common.now.suffix.now)))) in
-    let all : AllByRecursion P (map bstring_bytes c.args.group.now.words.items) = rw (take_all c.loop-word.word-index c.deref-word-items.result.now (omega arith), c.deref-word-items.ensures.value) at c.loop-word.invariant in
-    IfOk-weaker c.excludes_overlapping.result _ _
-    (λ does. shared_told g is.letter is.free (reading_of c.args.negative.now) (reading_of c.args.spec.now) c.args.common.now c.requires.0 c.args.spec.now.accepted share does (subst (AllByRecursion P) is.words all))
-    c.excludes_overlapping.ensures
+    IfOk-weaker c.excludes_overlapping.result _ _ (λ does. shared_told g is.letter is.free _ _ c.args.common.now c.requires.0 c.args.spec.now.accepted share does
+    (rw (take_all c.loop-word.word-index c.deref-word-items.result.now (omega arith), c.deref-word-items.ensures.value, is.words) at c.loop-word.invariant)) c.excludes_overlapping.ensures

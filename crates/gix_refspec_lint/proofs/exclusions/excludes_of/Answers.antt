@@ -1,4 +1,3 @@
--- By what the two sources have in common.
 use Rattle.gix_refspec_lint.proofs.Common.{inl, option_map, sym, ap, ◌∙◌, IfOk-weaker, bstr_bytes, reading_of, accepted_few}
 use Rattle.gix_refspec_lint.proofs.lemmas.{LeftOutLemmas.{none_apart, plain_only}, OneSpecLemmas.parts_pattern}
 use Rattle.gix_refspec_lint.proofs.exclusions.excludes_of.Goals as goal
@@ -25,10 +24,7 @@ returns-in-None c g is =
 
 pub returns-in-Some-of : goal.returns-in-Some-of
 returns-in-Some-of c g is = c.excludes_common.ensures g is (record {
-  before = c.in-Some-parts_of-2.parts.0.now;
-  after = c.in-Some-parts_of-2.parts.1.now;
-  prefix = c.in-Some-parts_of.taken.0.now;
-  suffix = c.in-Some-parts_of.taken.1.now;
+  before = _; after = _; prefix = _; suffix = _;
   one = parts_pattern _ c.in-Some-parts_of-2.parts (rw c.source-3.ensures at c.in-Some-parts_of-2.ensures);
   other = parts_pattern _ c.in-Some-parts_of.taken (rw c.source-2.ensures at c.in-Some-parts_of.ensures);
   shared = c.in-Some-of.ensures;

@@ -1,6 +1,5 @@
--- One more overlap, which is tried or passed over.
 use Rattle.gix_refspec_lint.proofs.Common.{ℕ, List, take_all, arith, MatchBool-at_false, reading_of, name, ExcludesFrom, AreOverlaps, IsUnsound}
-use Rattle.gix_refspec_lint.proofs.lemmas.RunLemmas.{each_overlap, AreSoFar, none_so_far, one_more, passed_over}
+use Rattle.gix_refspec_lint.proofs.lemmas.RunLemmas.{each_overlap, none_so_far, one_more, passed_over}
 use Rattle.gix_refspec_lint.proofs.lemmas.FailLemmas.{unsound_again, unsound_none}
 use Rattle.gix_refspec_lint.proofs.exclusions.excludes_overlapping.Goals as goal
 use Rattle.gix_refspec_lint.proofs.exclusions.excludes_overlapping.Goals.{in-Some, in-None+in_ok-name-in-None+in_ok-why-in-None+in_ok-excludes_at-in-None+else-branch}
@@ -26,10 +25,6 @@ loop-shared-preserved c =
 
 pub returns : goal.returns
 returns c =
-    let P : List ℕ → Type 0 = λ n. ¬ (ExcludesFrom (reading_of c.args.negative.now) (reading_of c.args.spec.now) (name n)) in
-    let prefix = c.args.common.now.prefix.now in
-    let suffix = c.args.common.now.suffix.now in
     let list = c.deref-shared-items.result.now in
-    let are : AreOverlaps prefix suffix c.args.common.now.most list = rw c.deref-shared-items.ensures.value c.in_ok-overlaps.ensures in
-    let all : AreSoFar P (IsUnsound (reading_of c.args.spec.now)) prefix suffix list c.loop-shared.run = rw (take_all c.loop-shared.shared-index list (omega arith)) at c.loop-shared.invariant in
-    each_overlap P prefix suffix c.args.common.now.most list are all.all
+    each_overlap (λ n. ¬ (ExcludesFrom (reading_of c.args.negative.now) (reading_of c.args.spec.now) (name n))) _ _ _ list
+    (rw c.deref-shared-items.ensures.value c.in_ok-overlaps.ensures) (rw (take_all c.loop-shared.shared-index list (omega arith)) at c.loop-shared.invariant.all)

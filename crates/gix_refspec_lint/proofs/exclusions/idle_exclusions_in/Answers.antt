@@ -1,4 +1,3 @@
--- One more spec, which is idle or not.
 use Rattle.gix_refspec_lint.proofs.Common.{◌≡◌, None, Some, append-nil, map, sym, refl, take_all, arith, MatchBool-at_false, MatchBool-at_true, reading_of, IsIdleExclusion}
 use Rattle.gix_refspec_lint.proofs.lemmas.LeftOutLemmas.{idle_completed, one_more_made}
 use Rattle.gix_refspec_lint.proofs.exclusions.idle_exclusions_in.Goals as goal

@@ -1,4 +1,3 @@
--- The items have the name of the source alone.
 use Rattle.gix_refspec_lint.proofs.{Common.{reading_of, start_of, refs_of}, lemmas.OneSpecLemmas.alone_told}
 
 pub returns : Rattle.gix_refspec_lint.proofs.exclusions.maps_alone.Goals.returns

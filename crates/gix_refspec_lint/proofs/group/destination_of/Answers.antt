@@ -1,4 +1,3 @@
--- Both sides of the spec are patterns, with one word.
 use Rattle.gix_refspec_lint.proofs.{Common.{inl, inr, sym, ◌∙◌, IfOk-weaker, reading_of, accepted_few}, lemmas.FailLemmas.destination_told}
 use Rattle.gix_refspec_lint.proofs.group.destination_of.Goals as goal
 

@@ -1,19 +1,18 @@
--- One more name, which is allowed or not.
-use Rattle.gix_refspec_lint.proofs.Common.{map, map-id, sym, ◌∙◌, subst, rules, MatchBool-at_false, MatchBool-at_true, YieldsList-from_vec, YieldsList-end, bstring_bytes, AreAllowed}
+use Rattle.gix_refspec_lint.proofs.Common.{map-id, sym, ◌∙◌, rules, MatchBool-at_false, MatchBool-at_true, YieldsList-from_vec, YieldsList-end}
 use Rattle.gix_refspec_lint.proofs.lemmas.IdleLemmas.{allowed_more, allowed_same}
 use Rattle.gix_refspec_lint.proofs.idle.add_allowed.Goals as goal
 
 pub returns : goal.returns
 returns c =
     let all = YieldsList-end (YieldsList-from_vec {s = c.into_iter-name-iterator.result} c.args.before.items (search rules) (search rules)) c.loop-name.yielded c.loop-name.name-iterator c.loop-name.yielded_by c.next.result c.next.new.self c.in-None.is c.next.ensures.steps in
-    subst (λ l. AreAllowed (map bstring_bytes c.args.names.now.items) (map bstring_bytes l) (map bstring_bytes c.args.kept_away.now) (map bstring_bytes c.loop-name.names.items)) (sym (map-id c.loop-name.yielded) ∙ all.0) c.loop-name.invariant
+    rw (sym (map-id c.loop-name.yielded) ∙ all.0) at c.loop-name.invariant
 
 pub loop-name-preserved-in-Continue-1 : goal.loop-name-preserved-in-Continue-1
 loop-name-preserved-in-Continue-1 c =
-    allowed_more (map bstring_bytes c.args.names.now.items) c.loop-name.yielded (map bstring_bytes c.args.kept_away.now) c.loop-name.names.items c.in-Some.name c.loop-name.invariant c.push.new.self.items c.in_ok-push.ensures.items
+    allowed_more _ c.loop-name.yielded _ c.loop-name.names.items c.in-Some.name c.loop-name.invariant c.push.new.self.items c.in_ok-push.ensures.items
     (rw c.as_bstr.ensures at (MatchBool-at_true _ _ c.if-is_allowed.true c.is_allowed.ensures))
 
 pub loop-name-preserved : goal.loop-name-preserved
 loop-name-preserved c =
-    allowed_same (map bstring_bytes c.args.names.now.items) c.loop-name.yielded (map bstring_bytes c.args.kept_away.now) c.loop-name.names.items c.in-Some.name c.loop-name.invariant
+    allowed_same _ c.loop-name.yielded _ c.loop-name.names.items c.in-Some.name c.loop-name.invariant
     (rw c.as_bstr.ensures at (MatchBool-at_false _ _ c.if-is_allowed.false c.is_allowed.ensures))

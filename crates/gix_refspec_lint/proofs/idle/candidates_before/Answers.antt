@@ -1,4 +1,3 @@
--- By the kind of the source.
 use Rattle.gix_refspec_lint.proofs.Common.{Some, inl, option_map, map, refl, sym, ap, ◌∙◌, IfOk-weaker, bstr_bytes, bstring_bytes, full_name, object, pattern, reading_of, accepted_few, name_bytes}
 use Rattle.gix_refspec_lint.proofs.lemmas.IdleLemmas.{preferred_by, preferred_partial}
 use Rattle.gix_refspec_text.specs.Texts.ObjectId.{id_bytes}

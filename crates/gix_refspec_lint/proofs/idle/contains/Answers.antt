@@ -1,4 +1,3 @@
--- One of the names is the one, or none is.
 use Rattle.gix_refspec_lint.proofs.Common.{◌≡◌, ◌∙◌, map, refl, subst, sym, take_all, arith, Contains, false≢true, bstr_bytes, bstring_bytes, one_more_mapped, text_contained}
 use Rattle.gix_refspec_lint.proofs.lemmas.{OneSpecLemmas.same_bytes, IdleLemmas.none_equal}
 use Rattle.gix_refspec_lint.proofs.idle.contains.Goals as goal

@@ -1,4 +1,3 @@
--- None of the specs so far, and the one at this index or not.
 use Rattle.gix_refspec_lint.proofs.Common.{inl, inr, map, option_map, sym, subst, arith, MatchBool-at_false, bstr_bytes, upto, ref_of, start_of, Maps}
 use Rattle.gix_refspec_lint.proofs.idle.earlier.Goals as goal
 

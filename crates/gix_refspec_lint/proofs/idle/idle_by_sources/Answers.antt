@@ -1,4 +1,3 @@
--- What becomes of the mappings of each source that the spec may map.
 use Rattle.gix_refspec_lint.proofs.Common.{inl, inr, map, sym, ◌∙◌, take_all, arith, same_Some, all_weaker, one_more_mapped, start_of, Explains, subst, HasPlainSource}
 use Rattle.gix_refspec_lint.proofs.lemmas.{IdleSpecLemmas.{idle_by, sources_explain}, IndexLemmas.reading_at}
 use Rattle.gix_refspec_lint.proofs.idle.idle_by_sources.Goals as goal
@@ -20,12 +19,9 @@ loop-source-preserved c g is =
 
 pub returns : goal.returns
 returns c g is r at plain =
-    let cs = c.args.group.now.specs.now in
-    let k = c.args.index in
-    let also = reading_at cs k c.index-group-index.result c.requires in
-    let has = c.in_ok-named_sources.ensures (subst HasPlainSource (same_Some _ _ (sym at ∙ also)) plain) in
+    let also = reading_at c.args.group.now.specs.now c.args.index c.index-group-index.result c.requires in
     let old = c.loop-source.invariant g is in
-    idle_by g k c.loop-source.reason
-    (sources_explain g cs is.completed k _ also (map start_of c.deref-source-items.result.now) (rw c.deref-source-items.ensures.value has) c.loop-source.reason
-    (rw (take_all c.loop-source.source-index c.deref-source-items.result.now (omega arith)) at old.0))
-    old.1
+    idle_by g c.args.index c.loop-source.reason
+    (sources_explain g _ is.completed c.args.index _ also (map start_of c.deref-source-items.result.now)
+    (rw c.deref-source-items.ensures.value (c.in_ok-named_sources.ensures (subst HasPlainSource (same_Some _ _ (sym at ∙ also)) plain))) c.loop-source.reason
+    (rw (take_all c.loop-source.source-index c.deref-source-items.result.now (omega arith)) at old.0)) old.1

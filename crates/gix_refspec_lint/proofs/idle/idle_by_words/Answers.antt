@@ -1,5 +1,5 @@
 -- What becomes of the mappings of the names with the words becomes of all.
-use Rattle.gix_refspec_lint.proofs.Common.{◌++◌, ℕ, List, inl, inr, map, subst, take_all, arith, AllByRecursion, bstring_bytes, all_weaker, one_more_mapped, name, Explains}
+use Rattle.gix_refspec_lint.proofs.Common.{◌++◌, ℕ, List, inl, inr, take_all, arith, bstring_bytes, all_weaker, one_more_mapped, name, Explains}
 use Rattle.gix_refspec_lint.proofs.lemmas.IdleSpecLemmas.{idle_by, words_explain}
 use Rattle.gix_refspec_lint.proofs.idle.idle_by_words.Goals as goal
 
@@ -21,8 +21,6 @@ loop-word-preserved c g is =
 
 pub returns : goal.returns
 returns c g is r at positive source =
-    let k = c.args.index in
-    let P : List ℕ → Type 0 = λ w. Explains g k (name (c.args.prefix.now ++ (w ++ c.args.suffix.now))) c.loop-word.reason in
     let old = c.loop-word.invariant g is in
-    let all : AllByRecursion P (map bstring_bytes c.args.group.now.words.items) = rw (take_all c.loop-word.word-index c.deref-word-items.result.now (omega arith), c.deref-word-items.ensures.value) at old.0 in
-    idle_by g k c.loop-word.reason (words_explain is.letter g is.free c.args.group.now.specs.now is.completed k r at positive c.args.prefix.now c.args.suffix.now source c.loop-word.reason (subst (AllByRecursion P) is.words all)) old.1
+    idle_by g _ c.loop-word.reason (words_explain is.letter g is.free _ is.completed _ r at positive c.args.prefix.now c.args.suffix.now source c.loop-word.reason
+    (rw (take_all c.loop-word.word-index c.deref-word-items.result.now (omega arith), c.deref-word-items.ensures.value, is.words) at old.0)) old.1

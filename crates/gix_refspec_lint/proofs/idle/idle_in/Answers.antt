@@ -1,4 +1,3 @@
--- One more spec, which is idle or not.
 use Rattle.gix_refspec_lint.proofs.Common.{◌≡◌, None, Some, append-nil, map, sym, refl, ap, ◌∙◌, take_all, arith, map-append, IsPositive, reading_of, IsIdleBy, unused_of}
 use Rattle.gix_refspec_lint.proofs.lemmas.IdleSpecLemmas.{idle_none, idle_of, one_more_at}
 use Rattle.gix_refspec_lint.proofs.idle.idle_in.Goals as goal

@@ -1,5 +1,4 @@
--- By the source of the spec.
-use Rattle.gix_refspec_lint.proofs.Common.{◌≡◌, inl, get_or, sym, ◌∙◌, subst, same_Some, IfOk-weaker, IsPositive, Reading, reading_of, accepted_few, HasPlainSource, HasSourcePattern}
+use Rattle.gix_refspec_lint.proofs.Common.{ap, inl, get_or, sym, ◌∙◌, subst, same_Some, IfOk-weaker, IsPositive, Reading, reading_of, accepted_few, HasPlainSource}
 use Rattle.gix_refspec_lint.proofs.lemmas.{IdleSpecLemmas.reason_of, IndexLemmas.reading_at}
 use Rattle.gix_refspec_lint.proofs.idle.idle_reason.Goals as goal
 
@@ -10,18 +9,18 @@ parts_of-requires c x is =
 
 pub returns-in-None : goal.returns-in-None
 returns-in-None c g is =
-    let e = reading_of (get_or c.args.group.now.specs.now c.args.index c.index-group-index.result) in
-    let plain : HasPlainSource e = rw c.source.ensures at c.in-None.ensures in
+    let cs = c.args.group.now.specs.now in
+    let plain : HasPlainSource (reading_of (get_or cs c.args.index c.index-group-index.result)) = rw c.source.ensures at c.in-None.ensures in
     IfOk-weaker c.idle_by_sources.result _ _ (λ why told r at.
-    let same : e ≡ r = same_Some _ _ (sym (reading_at c.args.group.now.specs.now c.args.index c.index-group-index.result c.requires) ∙ at) in
-    reason_of g c.args.index r (subst (λ (q : Reading). IsPositive q.mode) same c.if-is_negative.ensures) why (told r at (subst HasPlainSource same plain))) (c.idle_by_sources.ensures g is)
+    let same = same_Some _ _ (sym (reading_at cs c.args.index c.index-group-index.result c.requires) ∙ at) in
+    reason_of g _ r (subst (λ (q : Reading). IsPositive q.mode) same c.if-is_negative.ensures) why (told r at (subst HasPlainSource same plain))) (c.idle_by_sources.ensures g is)
 
 pub returns-in-Some : goal.returns-in-Some
 returns-in-Some c g is =
-    let e = reading_of (get_or c.args.group.now.specs.now c.args.index c.index-group-index.result) in
     let (x, has, split) = c.in-Some.ensures in
-    let source : HasSourcePattern e c.in-Some.prefix.now c.in-Some.suffix.now = record { text = x; has = sym c.source.ensures ∙ has; split = split } in
     IfOk-weaker c.idle_by_words.result _ _ (λ why told r at.
-    let same : e ≡ r = same_Some _ _ (sym (reading_at c.args.group.now.specs.now c.args.index c.index-group-index.result c.requires) ∙ at) in
+    let same = same_Some _ _ (sym (reading_at c.args.group.now.specs.now c.args.index c.index-group-index.result c.requires) ∙ at) in
     let positive = subst (λ (q : Reading). IsPositive q.mode) same c.if-is_negative.ensures in
-    reason_of g c.args.index r positive why (told r at positive (subst (λ q. HasSourcePattern q c.in-Some.prefix.now c.in-Some.suffix.now) same source))) (c.idle_by_words.ensures g is)
+    reason_of g _ r positive why (told r at positive
+    (record { text = x; has = ap (λ (q : Reading). q.source) (sym same) ∙ sym c.source.ensures ∙ has; split = split })))
+    (c.idle_by_words.ensures g is)

@@ -1,5 +1,4 @@
--- The candidates before the first that is the one.
-use Rattle.gix_refspec_lint.proofs.Common.{◌≡◌, ◌∙◌, ◌<◌, Vec, Global, length, map, refl, ap, subst, sym, take_all, arith, AllByRecursion, false≢true, bstr_bytes, bstring_bytes, BString}
+use Rattle.gix_refspec_lint.proofs.Common.{◌≡◌, ◌∙◌, ◌<◌, Vec, Global, length, map, refl, ap, sym, take_all, arith, false≢true, bstr_bytes, bstring_bytes, BString}
 use Rattle.gix_refspec_lint.proofs.{Common.one_more_mapped, lemmas.{OneSpecLemmas.same_bytes, IdleLemmas.{none_tried, tried_at}}}
 use Rattle.gix_refspec_lint.proofs.idle.tried_before.Goals as goal
 
@@ -23,8 +22,8 @@ loop-at-preserved c =
 
 pub returns : goal.returns
 returns c =
-    let items = c.loop-at.names.items in
-    let same = c.loop-at.invariant.0 in
     none_tried c.args.partial.now (bstr_bytes c.args.candidate)
-    (subst (AllByRecursion (λ x. ¬ (x ≡ bstr_bytes c.args.candidate))) (ap (λ (v : Vec BString Global). map bstring_bytes v.items) same ∙ c.in_ok-names.ensures)
-    (rw (take_all c.loop-at.at items (omega (arith, ap (λ (v : Vec BString Global). length v.items) same, c.loop-at-test.false, c.len-at-end.ensures, c.in_ok-names.names.ok.0, c.in_ok-names.names.ok.1))) at c.loop-at.invariant.1)) _
+    (rw (take_all c.loop-at.at c.loop-at.names.items
+    (omega (arith, ap (λ (v : Vec BString Global). length v.items) c.loop-at.invariant.0, c.loop-at-test.false, c.len-at-end.ensures,
+    c.in_ok-names.names.ok.0, c.in_ok-names.names.ok.1)),
+    c.loop-at.invariant.0, c.in_ok-names.ensures) at c.loop-at.invariant.1) _

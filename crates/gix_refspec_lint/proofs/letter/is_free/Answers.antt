@@ -1,4 +1,3 @@
--- The byte is free if each spec lacks it.
 use Rattle.gix_refspec_lint.proofs.Common.{refl, sym, take_all, arith, false≢true, reading_of, each_mapped, one_more_mapped, SidesLack}
 use Rattle.gix_refspec_lint.proofs.letter.is_free.Goals as goal
 

@@ -1,4 +1,3 @@
--- A byte that is found isn't lacked.
 use Rattle.gix_refspec_lint.proofs.Common.{ℕ, List, Bool, true, false, MatchBool, nat_eq, sym, ◌≡◌, list_any, bstr_bytes, Lacks, Lacks-tested}
 use Rattle.gix_refspec_lint.proofs.lemmas.ByteLemmas.{not_lacked}
 

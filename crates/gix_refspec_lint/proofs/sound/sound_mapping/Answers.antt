@@ -1,6 +1,5 @@
--- The spec alone keeps what it makes.
-use Rattle.gix_refspec_lint.proofs.Common.{◌≡◌, length, map, map-id, sym, ◌∙◌, subst, rules, AllByRecursion, YieldsList-from_vec, YieldsList-end, YieldsList-turn, reading_of, mapped_of, ref_of}
-use Rattle.gix_refspec_lint.proofs.{Common.{start_of, IsSound}, lemmas.OneSpecLemmas.{none_sound, sound_there}}
+use Rattle.gix_refspec_lint.proofs.Common.{length, map, map-id, sym, ◌∙◌, rules, YieldsList-from_vec, YieldsList-end, YieldsList-turn, reading_of, ref_of}
+use Rattle.gix_refspec_lint.proofs.{Common.{start_of}, lemmas.OneSpecLemmas.{none_sound, sound_there}}
 use Rattle.gix_refspec_lint.proofs.sound.sound_mapping.Goals as goal
 
 pub returns-then-is_sound : goal.returns-then-is_sound
@@ -15,5 +14,4 @@ pub returns : goal.returns
 returns c =
     let ms = c.in_ok-mapping-items.mapping-items.items in
     let all = YieldsList-end (YieldsList-from_vec {s = c.into_iter-mapping-iterator.result} ms (search rules) (search rules)) c.loop-mapping.yielded c.loop-mapping.mapping-iterator c.loop-mapping.yielded_by c.next.result c.next.new.self c.in-None.is c.next.ensures.steps in
-    none_sound (reading_of c.args.spec) (map ref_of c.args.items.now) (map mapped_of ms) (start_of c.args.source.now) (rw c.as_slice.ensures at c.in_ok-mapping-items.ensures)
-    (subst (λ l. AllByRecursion (λ m. m.source ≡ start_of c.args.source.now → ¬ (IsSound m)) (map mapped_of l)) (sym (map-id c.loop-mapping.yielded) ∙ all.0) c.loop-mapping.invariant)
+    none_sound _ _ _ _ (rw c.as_slice.ensures at c.in_ok-mapping-items.ensures) (rw (sym (map-id c.loop-mapping.yielded) ∙ all.0) at c.loop-mapping.invariant)

@@ -1,4 +1,3 @@
--- What the group excludes, by the name.
 use Rattle.gix_refspec_lint.proofs.lemmas.OneSpecLemmas.{tells_excluding}
 
 pub returns-in-FullName : Rattle.gix_refspec_lint.proofs.group.Group.excluding.Goals.returns-in-FullName
