@@ -27,16 +27,14 @@ parts_of-requires c x is = accepted_few (reading_of c.args.spec.now) x c.args.sp
 
 pub returns-in_default-parts_of : goal.returns-in_default-parts_of
 returns-in_default-parts_of c r done refs s makes =
-    let has : option_map bstr_bytes c.args.spec.now.dst ≡ Some (bstr_bytes c.in-Some.side) = sym c.destination.ensures ∙ ap
-    (option_map bstr_bytes) c.in-Some.is in
+    let has = sym c.destination.ensures ∙ ap (option_map bstr_bytes) c.in-Some.is in
     let split = split_as (reading_of c.args.spec.now) _ c.in-Some-split_at_first_star.far c.args.spec.now.accepted has (rw c.as_bytes.ensures at c.in-Some-split_at_first_star.ensures) in
     absurd (none_unsplit _ c.args.spec.now.accepted _ _ _ has split (rw c.source.ensures at c.in_default-parts_of.ensures) refs s
     c.args.destination.now makes)
 
 pub returns : goal.returns
 returns c r done refs s makes =
-    let has : option_map bstr_bytes c.args.spec.now.dst ≡ Some (bstr_bytes c.in-Some.side) = sym c.destination.ensures ∙ ap
-    (option_map bstr_bytes) c.in-Some.is in
+    let has = sym c.destination.ensures ∙ ap (option_map bstr_bytes) c.in-Some.is in
     let split = split_as (reading_of c.args.spec.now) _ c.in-Some-split_at_first_star.far c.args.spec.now.accepted has (rw c.as_bytes.ensures at c.in-Some-split_at_first_star.ensures) in
     let (x, is, of) = c.in-Some-parts_of.ensures in
     elim c.match-branch-2.branch [
