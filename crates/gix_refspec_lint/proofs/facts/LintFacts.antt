@@ -83,9 +83,12 @@ example = record {
   order = omega arith;
   conflict = record {
     one = record { maps = heads_seven (every ∷ pulls ∷ []) 0 refl; included = none_negative pulls refl (codes "refs/heads/pr/7") };
-    other = record { included = none_negative pulls refl _; maps = maps_at (codes "refs/pull/") (codes "/head")
-    (codes "refs/remotes/origin/pr/") []
-        (codes "7") (split_as _ _ refl refl) (split_as _ _ refl refl) both (inr (inl refl)) _ 1 refl (inl (below _ refl)) (below _ refl) };
+    other = record {
+      included = none_negative pulls refl _;
+      maps = maps_at (codes "refs/pull/") (codes "/head")
+          (codes "refs/remotes/origin/pr/") []
+          (codes "7") (split_as _ _ refl refl) (split_as _ _ refl refl) both (inr (inl refl)) _ 1 refl (inl (below _ refl)) (below _ refl);
+    };
     differ = λ same. other_byte 5 (codes "refs/heads/pr/7") (codes "refs/pull/7/head") (λ equal. omega (arith, equal)) (one_name (codes "refs/heads/pr/7") (codes "refs/pull/7/head") same);
   };
 }
@@ -103,11 +106,17 @@ does_before g k h refs s d valid fetches before maps =
 -- of two equal specs the second is idle, and not the first, nor is it explained by itself
 pub second_idle : IsIdleBy (every ∷ every ∷ []) 1 (reason.Duplicate 0) × ((h : ℕ) → ¬ (IsIdleBy (every ∷ every ∷ []) 0 (reason.Duplicate h)))
     × ¬ (IsIdleBy (every ∷ every ∷ []) 1 (reason.Duplicate 1))
-second_idle = (((λ refs s d valid f.
-    let m = f.maps.maps in (0, omega arith, record { reading = _; at = m.at; completed = _; is = m.is; makes = m.makes })),
+second_idle = (
+  (
+    (λ refs s d valid f.
+        let m = f.maps.maps in (0, omega arith, record { reading = _; at = m.at; completed = _; is = m.is; makes = m.makes })),
     does_before _ 1 0 both seven.one (Some seven.destination) ((heads_seven (every ∷ every ∷ []) 0 refl).source, (inl (below (codes "pull/7/head") refl), tt))
-    (record { maps = heads_seven (every ∷ every ∷ []) 1 refl; included = none_negative every refl (codes "refs/heads/pr/7") }) (omega arith)
-    (heads_seven (every ∷ every ∷ []) 0 refl).maps), (λ h is. omega (arith, is.1.before)), λ is. omega (arith, is.1.before))
+        (record { maps = heads_seven (every ∷ every ∷ []) 1 refl; included = none_negative every refl (codes "refs/heads/pr/7") }) (omega arith)
+        (heads_seven (every ∷ every ∷ []) 0 refl).maps,
+  ),
+  (λ h is. omega (arith, is.1.before)),
+  λ is. omega (arith, is.1.before),
+)
 
 names_no_ref : (g : List Reading) → IsIdleExclusion g no_main
 names_no_ref g = record { negative = refl; excludes = λ refs i n d maps by. by_case n by.text by.source by.excludes maps.source }
@@ -130,9 +139,18 @@ all_excluded = every ∷ no_main ∷ no (codes "refs/heads/*") ∷ []
 -- what is always excluded is so by a spec that excludes one of its sources, and not by any negative spec
 pub excluded_by : IsIdleBy all_excluded 0 (reason.Excluded 2) × ¬ (IsIdleBy all_excluded 0 (reason.Excluded 1))
 excluded_by = (
-  ((λ refs s d f. f.included (by_source refs s d (made_by every refl every_completed f.maps.maps))),
-      record { refs = both; source = _; destination = _; maps = heads_seven all_excluded 0 refl; negative = _; at = refl;
-      excludes = excluded (codes "refs/heads/") _ (codes "pr/7") heads_split refl }),
+  (
+    (λ refs s d f. f.included (by_source refs s d (made_by every refl every_completed f.maps.maps))),
+    record {
+      refs = both;
+      source = _;
+      destination = _;
+      maps = heads_seven all_excluded 0 refl;
+      negative = _;
+      at = refl;
+      excludes = excluded (codes "refs/heads/") _ (codes "pr/7") heads_split refl;
+    },
+  ),
   (λ is. (names_no_ref all_excluded).excludes is.1.refs 0 is.1.source is.1.destination is.1.maps (subst (IsExcludedBy is.1.source) (sym (same_Some _ _ is.1.at)) is.1.excludes)),
 )
   where
@@ -179,8 +197,13 @@ maps_full x k at no_object refs there takes = record {
 maps_first : (refs : List Ref) → AreValid refs → HasName refs full → Maps main_twice refs 0 (name full) (Some (codes "refs/x"))
 maps_first refs valid there =
     maps_full (codes "main") 0 refl (λ bytes kind. short_no_id bytes kind.2) refs there
-    (λ r named. taken_by_first refs (codes "main") r short_kind (rw named (record { earlier = codes "main" ∷ []; later = _; here = refl;
-    absent = ((λ has. main_no_ref (valid_named refs (codes "main") valid has)), tt); present = there })))
+    (λ r named. taken_by_first refs (codes "main") r short_kind (rw named (record {
+      earlier = codes "main" ∷ [];
+      later = _;
+      here = refl;
+      absent = ((λ has. main_no_ref (valid_named refs (codes "main") valid has)), tt);
+      present = there;
+    })))
 
 maps_second : (refs : List Ref) → HasName refs full → Maps main_twice refs 1 (name full) (Some (codes "refs/x"))
 maps_second refs there =
@@ -188,9 +211,18 @@ maps_second refs there =
     (λ r named. record { matches = record { kind = full_name full; of = full_kind; is = (refl, named) }; first = λ m short. absurd (short.2 full_kind.2) })
 
 pub full_name_idle : IsIdleBy main_twice 1 (reason.Duplicate 0)
-full_name_idle = (earlier, does_before _ 1 0 (refs_of (name full)) (name full) (Some (codes "refs/x")) (inl (below _ refl), tt)
-    (record { included = λ by. grind arith; maps = record { maps = maps_second _ (inl refl); source = inl (below _ refl);
-    destination = below _ refl } }) (omega arith) (maps_first _ (inl (below _ refl), tt) (inl refl)))
+full_name_idle = (
+  earlier,
+  does_before _ 1 0 (refs_of (name full)) (name full) (Some (codes "refs/x")) (inl (below _ refl), tt)
+      (record {
+        included = λ by. grind arith;
+        maps = record {
+          maps = maps_second _ (inl refl);
+          source = inl (below _ refl);
+          destination = below _ refl;
+        };
+      }) (omega arith) (maps_first _ (inl (below _ refl), tt) (inl refl)),
+)
   where
     earlier : IsAlwaysEarlier main_twice 1
     earlier refs s d valid f =
@@ -198,9 +230,12 @@ full_name_idle = (earlier, does_before _ 1 0 (refs_of (name full)) (name full) (
         let is = one_in (name full) s (sources_there (to_x full) full refl refs d (full_name full) _ full_kind
         (λ b a. lacks_no_pattern full b a full_kind.1) refl s makes) in
         let here : MakesForward refs (name full) d (to_x full) = rw is at makes in
-        let own = made_by (to_x full) refl (x_completed full) (maps_second (refs_of (name full)) (inl refl)) in
-        (0, omega arith, rw (is, sym (one_far _ refs (name full) _ d (to_x full) own here))
-        (maps_first refs valid (made_there refs (name full) d (to_x full) here)))
+        let own = made_by (to_x full) refl (x_completed full) (maps_second (refs_of (name full)) (inl refl)) in (
+          0,
+          omega arith,
+          rw (is, sym (one_far _ refs (name full) _ d (to_x full) own here))
+              (maps_first refs valid (made_there refs (name full) d (to_x full) here)),
+        )
 
 -- any byte may be free, but no larger number, no star, no letter of the folders, and none that a side has
 pub free : IsFree [] 255 × ¬ (IsFree [] 256) × ¬ (IsFree [] 42) × ¬ (IsFree [] 114) × ¬ (IsFree (every ∷ []) 105)
@@ -222,8 +257,13 @@ one_enough law idle refs kept rest valid of_all of_rest m sound has =
 pub main_kept : IdleExclusionLeftOut (every ∷ no_main ∷ []) → (refs : List Ref) (kept rest : List Mapped) → AreKeptForward (every ∷ no_main ∷ []) refs kept → AreKeptForward (every ∷ []) refs rest
     → (m : Mapped) → IsSound m → HasPair rest m → HasPair kept m
 main_kept law refs kept rest of_all of_rest m sound has =
-    (law (1 ∷ []) 1 (None, 1 ∷ [], (λ k both. let is : Forced ≡ Negative = both.1.negative in cc),
-    (Some 1, [], (refl, excludes_none.0), refl, refl), refl)
+    (law (1 ∷ []) 1 (
+      None,
+      1 ∷ [],
+      (λ k both. let is : Forced ≡ Negative = both.1.negative in cc),
+      (Some 1, [], (refl, excludes_none.0), refl, refl),
+      refl,
+    )
     (0, omega arith, refl) (every ∷ no_main ∷ []) refs kept rest
     (every_completed, (record { operation = refl; mode = refl; source = refl; destination = refl }, tt)) of_all of_rest m sound).0 has
 

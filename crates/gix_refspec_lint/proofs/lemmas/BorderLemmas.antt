@@ -10,13 +10,17 @@ module _ (text : List ℕ) where
   none_at len some = grind arith
 
   pub border_in : {len b c : ℕ} → IsBorderAt text len b → IsBorderAt text b c → IsBorderAt text len c
-  border_in {len} {b} {c} outer inner = record { shorter = omega arith;
-      repeats = λ i l. grind (arith, inner.repeats i, outer.repeats (b - c + i)) }
+  border_in {len} {b} {c} outer inner = record {
+    shorter = omega arith;
+    repeats = λ i l. grind (arith, inner.repeats i, outer.repeats (b - c + i));
+  }
 
   -- the shorter of two borders is one of the longer
   pub border_between : {len b c : ℕ} → IsBorderAt text len b → IsBorderAt text len c → c < b → IsBorderAt text b c
-  border_between {len} {b} {c} outer inner l = record { shorter = l;
-      repeats = λ i m. grind (arith, inner.repeats i, outer.repeats (b - c + i)) }
+  border_between {len} {b} {c} outer inner l = record {
+    shorter = l;
+    repeats = λ i m. grind (arith, inner.repeats i, outer.repeats (b - c + i));
+  }
 
   -- a border of the first len bytes, such that no longer one goes on with the byte there
   pub record IsCandidate (len b : ℕ) : Type 0 where
@@ -54,8 +58,10 @@ module _ (text : List ℕ) where
   pub longest_none : (len : ℕ) → IsCandidate len 0 → get_or text 0 0 ≢ get_or text len 0 → IsLongestAt text (len + 1) 0
   longest_none len h apart = record {
     is_border = none_at (len + 1) (omega arith);
-    longest = λ other l found. elim (cases_eq other 1) [ inl e ↦ apart (shortened len 0 (rw e at found)).1
-        | inr ne ↦ none_longer len 0 h other (omega arith) found ];
+    longest = λ other l found. elim (cases_eq other 1) [
+      | inl e ↦ apart (shortened len 0 (rw e at found)).1
+      | inr ne ↦ none_longer len 0 h other (omega arith) found
+    ];
   }
 
   pub one_more : (table : List ℕ) (len b : ℕ) → len + 1 < length table → AreLongestTo text table len → IsLongestAt text (len + 1) b → AreLongestTo text (set table (len + 1) b) (len + 1)
@@ -69,14 +75,24 @@ module _ (text : List ℕ) where
 last_bytes : (text : List ℕ) (k : ℕ) → IsBorderAt text (length text) k → drop (length text - k) text ≡ take k text
 last_bytes text k at =
     let p = at.shorter in
-    ext_get_or 0 (drop (length text - k) text) (take k text) (omega (arith, length-drop (length text - k) text, length-take-le k text
-    (omega arith)))
+    ext_get_or 0 (drop (length text - k) text) (take k text) (omega (
+      arith,
+      length-drop (length text - k) text,
+      length-take-le k text
+          (omega arith),
+    ))
     (λ i l. get_or-drop (length text - k) text i 0 ∙ sym (at.repeats i (omega (arith, length-drop (length text - k) text)))
     ∙ sym (get_or-take k text i 0 (omega (arith, length-drop (length text - k) text))))
 
 pub border_here : (text : List ℕ) (k : ℕ) → 0 < k → IsBorderAt text (length text) k → IsBorder text k
-border_here text k some at = record { some = some; shorter = at.shorter; same = record { before = take (length text - k) text;
-    here = rw (← last_bytes text k at) (sym (take-append-drop (length text - k) text)) } }
+border_here text k some at = record {
+  some = some;
+  shorter = at.shorter;
+  same = record {
+    before = take (length text - k) text;
+    here = rw (← last_bytes text k at) (sym (take-append-drop (length text - k) text));
+  };
+}
 
 -- the borders longer than len are listed, and len is the next, or 0
 pub record AreLonger (text lengths : List ℕ) (len : ℕ) : Type 0 where
@@ -122,8 +138,15 @@ module _ (prefix suffix text : List ℕ) (most : ℕ) (in_prefix : most ≤ leng
   border_of k below overlap =
       record {
         some = overlap.some;
-        shorter = omega (arith, ap length is, length-append (take most suffix) end, end_size, length-take-le most suffix in_suffix, below,
-            overlap.some);
+        shorter = omega (
+          arith,
+          ap length is,
+          length-append (take most suffix) end,
+          end_size,
+          length-take-le most suffix in_suffix,
+          below,
+          overlap.some,
+        );
         same = rw (first k below, is) (ends_behind (take k suffix) (take most suffix) end
             (ends_within (take k suffix) (take (length prefix - most) prefix) end (omega (arith, length-take-le k suffix (omega arith), end_size, below)) (rw take-append-drop overlap.ends)));
       }

@@ -56,12 +56,12 @@ module _ (K : List ℕ → Type 0) (kept : K (codes "/") × K (codes ".lock") ×
 pub names_as : (K : List ℕ → Type 0) (kept : K (codes "/") × K (codes ".lock") × K (codes ".") × K (codes "@")) (p q y : List ℕ)
     → ((k w : List ℕ) → K w → EndsWith w (slash ∷ (p ++ k)) → EndsWith w (slash ∷ (q ++ k)))
     → ((e : Error) (before k : List ℕ) (b : ℕ) → slash ∷ p ≡ before ++ (b ∷ k) → AddsFault before b e → Added (slash ∷ (q ++ y)) e)
-        → p ++ y ≢ [] → q ++ y ≢ [] → IsName (q ++ y) → IsName (p ++ y)
+    → p ++ y ≢ [] → q ++ y ≢ [] → IsName (q ++ y) → IsName (p ++ y)
 names_as K kept p q y ends front also some is =
     IsName-from_clean (p ++ y) also
     (λ e added. is e (HasFault-added (q ++ y) e some (elim (parted (slash ∷ p) y added.before (added.byte ∷ added.after) added.here) [
       | inl (k, further, rest) ↦ behind e k added.byte added.after rest (subst (λ x. AddsFault x added.byte e) further added.fault)
-      | inr ([], shorter, rest) ↦ 
+      | inr ([], shorter, rest) ↦
           let at : added.before ≡ slash ∷ (p ++ []) = simp append-nil (sym (simp append-nil at shorter)) in
           behind e [] added.byte added.after (sym rest) (subst (λ x. AddsFault x added.byte e) at added.fault)
       | inr (c ∷ k, shorter, rest) ↦ front e added.before k added.byte (let same : added.byte ≡ c = cc in rw same shorter) added.fault
@@ -70,8 +70,13 @@ names_as K kept p q y ends front also some is =
   where
     behind : (e : Error) (k : List ℕ) (b : ℕ) (after : List ℕ) → y ≡ k ++ (b ∷ after) → AddsFault (slash ∷ (p ++ k)) b e
         → Added (slash ∷ (q ++ y)) e
-    behind e k b after rest fault = record { before = slash ∷ (q ++ k); byte = b; after = after; here = rw (rest, append_assoc);
-        fault = adds_as K kept _ _ (ends k) b e fault }
+    behind e k b after rest fault = record {
+      before = slash ∷ (q ++ k);
+      byte = b;
+      after = after;
+      here = rw (rest, append_assoc);
+      fault = adds_as K kept _ _ (ends k) b e fault;
+    }
 
 module _ (z : ℕ) (usable : IsTrue (is_usable z)) where
   -- the bytes that it isn't
@@ -83,8 +88,10 @@ module _ (z : ℕ) (usable : IsTrue (is_usable z)) where
 
   lacks_listed : (l : List ℕ) → list_any (λ c. z == c) l ≡ false → Lacks z l
   lacks_listed [] none = tt
-  lacks_listed (c ∷ l) none = let both = or_parts (z == c) (list_any (λ k. z == k) l) none in ((λ is. eqb-false z c both.0 (sym is)),
-      lacks_listed l both.1)
+  lacks_listed (c ∷ l) none = let both = or_parts (z == c) (list_any (λ k. z == k) l) none in (
+    (λ is. eqb-false z c both.0 (sym is)),
+    lacks_listed l both.1,
+  )
 
   pub lacks_mid : (before mid after : List ℕ) → kept_from ≡ before ++ (mid ++ after) → Lacks z mid
   lacks_mid before mid after is = all_left (λ c. c ≢ z) mid after (all_right (λ c. c ≢ z) before (mid ++ after) (subst (Lacks z) is (lacks_listed kept_from neither.1)))
@@ -149,9 +156,13 @@ module _ (z : ℕ) (usable : IsTrue (is_usable z)) where
         | inr ([], longer, rest) ↦ absurd (adds_nothing before e (let same : b ≡ z = cc in rw same at fault))
         | inr (c ∷ m, longer, rest) ↦
             let same : c ≡ b = cc in
-            record { before = before; byte = b; after = m ++ (v ++ y);
-                here = simp append_assoc (ap (λ t. t ++ (v ++ y)) (rw same at longer) ∙ append_assoc before (b ∷ m) (v ++ y));
-                fault = fault }
+            record {
+              before = before;
+              byte = b;
+              after = m ++ (v ++ y);
+              here = simp append_assoc (ap (λ t. t ++ (v ++ y)) (rw same at longer) ∙ append_assoc before (b ∷ m) (v ++ y));
+              fault = fault;
+            }
       ]
 
   -- what fits a pattern with the byte has it in its word

@@ -85,9 +85,17 @@ excludes_again text x v y some (by_pattern a b word split fits) (by_pattern p q 
 pub excluded_again : (g : List Reading) (k : ℕ) (x v y : List ℕ) → IsExcludedAt g k (x ++ y) → IsExcludedAt g k (x ++ (v ++ y)) → v ≢ [] → (i : ℕ) → IsExcludedAt g k (x ++ (power v i ++ y))
 excluded_again g k x v y (r, at, by) (q, there, too) some i =
     let same : q ≡ r = same_Some _ _ (sym there ∙ at) in
-    let text : too.text ≡ by.text = same_Some _ _ (sym too.source ∙ ap (λ (s : Reading). s.source) same ∙ by.source) in
-    (r, at, record { negative = by.negative; text = by.text; source = by.source; excludes = excludes_again by.text x v y some by.excludes
-    (subst (λ t. Excludes t (x ++ (v ++ y))) text too.excludes) i })
+    let text : too.text ≡ by.text = same_Some _ _ (sym too.source ∙ ap (λ (s : Reading). s.source) same ∙ by.source) in (
+      r,
+      at,
+      record {
+        negative = by.negative;
+        text = by.text;
+        source = by.source;
+        excludes = excludes_again by.text x v y some by.excludes
+            (subst (λ t. Excludes t (x ++ (v ++ y))) text too.excludes) i;
+      },
+    )
 
 is_there : (v : List ℕ) (i : ℕ) → 5 ≤ length (power v i) → 1 ≤ i
 is_there v zero long = absurd (omega (arith, long))
@@ -104,7 +112,7 @@ sources_again r x v y i some long Bad step all =
       names.front ++ (power names.word (i + 1) ++ names.back),
       names.pairs (i + 1),
       step names.front names.word names.back (λ none. some (nil_from_length v (sym names.size ∙ ap length none)))
-      (rw (power_length names.word i, names.size, ← power_length v i) long)
+          (rw (power_length names.word i, names.size, ← power_length v i) long)
           (λ j below. let (n, paired, bad) = all j below in subst Bad (paired_once r n _ _ paired (names.pairs j)) bad),
     )
 

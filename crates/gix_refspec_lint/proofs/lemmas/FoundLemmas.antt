@@ -58,8 +58,10 @@ parts_at specs parts i s p all below at = subst (λ q. HasParts (reading_of (get
 -- a side that isn't split has no star
 pub unsplit_lacks : (c : Reading) → ∥ IsAccepted c ∥₁ → (n : List ℕ) → (c.source ≡ Some n) ⊎ (c.destination ≡ Some n)
     → ((before after : List ℕ) → ¬ (IsSplit before after n)) → Lacks star n
-unsplit_lacks c accepted n has none = elim ((sides_agree c accepted).each n has) [ inl one ↦ absurd (none one.0 one.1 one.2)
-    | inr lacks ↦ lacks ]
+unsplit_lacks c accepted n has none = elim ((sides_agree c accepted).each n has) [
+  | inl one ↦ absurd (none one.0 one.1 one.2)
+  | inr lacks ↦ lacks
+]
 
 -- what is found at the only destination is all
 pub found_only : (g : List Reading) (i j : ℕ) (n : List ℕ) (found : Option Example) → ((e : Example) → IsExample g i j e → e.destination ≡ n) → IsFoundAt g i j n found → IsFound g i j found

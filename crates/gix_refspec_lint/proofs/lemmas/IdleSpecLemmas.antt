@@ -52,9 +52,19 @@ module _ (z : ℕ) (g : List Reading) (free : IsFree g z) where
       let last = all_join (λ c. c ≢ z) x (codes "/HEAD") lacks (lacks_mid z free.usable (codes "refs/tags/heads/remotes") (codes "/HEAD") _ refl) in
       of_element (Lacks z) (candidates x) n (
         lacks,
-        (behind (codes "refs/") refs, (behind (codes "refs/tags/") (lacks_mid z free.usable [] (codes "refs/tags/") _ refl),
-        (behind (codes "refs/heads/") heads, (behind (codes "refs/remotes/") lacks_remotes,
-        (all_join (λ c. c ≢ z) (codes "refs/remotes/") (x ++ codes "/HEAD") lacks_remotes last, tt))))),
+        (
+          behind (codes "refs/") refs,
+          (
+            behind (codes "refs/tags/") (lacks_mid z free.usable [] (codes "refs/tags/") _ refl),
+            (
+              behind (codes "refs/heads/") heads,
+              (
+                behind (codes "refs/remotes/") lacks_remotes,
+                (all_join (λ c. c ≢ z) (codes "refs/remotes/") (x ++ codes "/HEAD") lacks_remotes last, tt),
+              ),
+            ),
+          ),
+        ),
       ) (candidate_contained x n one)
 
   -- so only a pattern takes it

@@ -23,9 +23,11 @@ module _ (g : List Reading) (z : ℕ) (free : IsFree g z) where
 
   pub ref_moved : (x v y : List ℕ) → BeginsWith (codes "refs/") x → IsRefName (x ++ (v ++ y)) → BeginsWith (codes "refs/") (x ++ (z ∷ y)) × IsName (x ++ (z ∷ y))
   ref_moved x v y begins named =
-      let whole = begins_before x (v ++ y) begins in
-      (begins_before x (z ∷ y) begins, name_with_byte z free.usable x v y
-      (λ none. let same : codes "refs/" ++ whole.after ≡ [] = sym whole.here ∙ none in cc) (name_of_ref (x ++ (v ++ y)) named))
+      let whole = begins_before x (v ++ y) begins in (
+        begins_before x (z ∷ y) begins,
+        name_with_byte z free.usable x v y
+            (λ none. let same : codes "refs/" ++ whole.after ≡ [] = sym whole.here ∙ none in cc) (name_of_ref (x ++ (v ++ y)) named),
+      )
 
   -- the texts of a pattern lack it
   pub lacks_parts : (x before after : List ℕ) → Lacks z x → IsSplit before after x → Lacks z before × Lacks z after

@@ -65,15 +65,20 @@ after_front a s t x v y without once = elim (parted x y a s without) [
   | inr (m, further, rest) ↦ record { front = m; word = v; back = y; size = refl; each = λ i. rw further (simp append_assoc) }
   | inl (c, longer, rest) ↦ elim (parted (v ++ c) s c t (append_assoc v c s ∙ append_cancel_left x _ _
       (simp append_assoc at (rw (longer, rest) at once)))) [
-    | inr (u, is, end) ↦ at c u longer rest is
-    | inl (m, is, end) ↦ at c [] longer rest
-    (rw (nil_from_length v (omega (arith, ap length is, length-append (v ++ c) m, length-append v c))) (sym (append-nil c)))
-  ]
+        | inr (u, is, end) ↦ at c u longer rest is
+        | inl (m, is, end) ↦ at c [] longer rest
+            (rw (nil_from_length v (omega (arith, ap length is, length-append (v ++ c) m, length-append v c))) (sym (append-nil c)))
+      ]
 ]
   where
     at : (c u : List ℕ) → a ≡ x ++ c → y ≡ c ++ s → v ++ c ≡ c ++ u → Repeats x v y (λ z. a ++ z)
-    at c u longer rest is = record { front = []; word = u; back = s; size = same_size c u v is;
-        each = past_repeats c a s u v x y longer rest is }
+    at c u longer rest is = record {
+      front = [];
+      word = u;
+      back = s;
+      size = same_size c u v is;
+      each = past_repeats c a s u v x y longer rest is;
+    }
 
 -- and the same of what ends with b
 before_back : (b s t x v y : List ℕ) → x ++ y ≡ s ++ b → x ++ (v ++ y) ≡ t ++ b → Repeats x v y (λ z. z ++ b)
@@ -81,15 +86,21 @@ before_back b s t x v y without once = elim (parted x y s b without) [
   | inl (m, further, rest) ↦ record { front = x; word = v; back = m; size = refl; each = λ i. rw rest (simp append_assoc) }
   | inr (c, longer, rest) ↦ elim (parted s (c ++ v) t c (append_cancel_right _ _ y
       (simp append_assoc (simp append_assoc at (rw (longer, rest) at once))))) [
-    | inl (u, is, end) ↦ at c u longer rest (sym end)
-    | inr (m, is, end) ↦ at c [] longer rest
-    (rw (nil_from_length v (omega (arith, ap length end, length-append m (c ++ v), length-append c v))) (sym (append-nil c)))
-  ]
+        | inl (u, is, end) ↦ at c u longer rest (sym end)
+        | inr (m, is, end) ↦ at c [] longer rest
+            (rw (nil_from_length v (omega (arith, ap length end, length-append m (c ++ v), length-append c v))) (sym (append-nil c)))
+      ]
 ]
   where
     at : (c u : List ℕ) → x ≡ s ++ c → b ≡ c ++ y → u ++ c ≡ c ++ v → Repeats x v y (λ z. z ++ b)
-    at c u longer rest is = record { front = s; word = u; back = []; size = sym (same_size c v u is); each = λ i. simp append_assoc
-        (sym (past_repeats c x y v u s b longer rest is i)) }
+    at c u longer rest is = record {
+      front = s;
+      word = u;
+      back = [];
+      size = sym (same_size c v u is);
+      each = λ i. simp append_assoc
+          (sym (past_repeats c x y v u s b longer rest is i));
+    }
 
 -- where a name without the word and with it once fits a pattern, it fits however often the word stands there, and what it
 -- has for the star has a word of the same length as often
@@ -98,8 +109,13 @@ words_repeat a b v x y w0 w1 without once =
     let outer = after_front a (w0 ++ b) (w1 ++ b) x v y without once in
     let inner = before_back b w0 w1 outer.front outer.word outer.back (append_cancel_left a _ _ (sym (outer.each 0) ∙ without))
     (append_cancel_left a _ _ (rw (power_one outer.word outer.back, power_one v y) at (sym (outer.each 1)) ∙ once)) in
-    record { front = inner.front; word = inner.word; back = inner.back; size = inner.size ∙ outer.size;
-        each = λ i. outer.each i ∙ ap (λ z. a ++ z) (inner.each i) }
+    record {
+      front = inner.front;
+      word = inner.word;
+      back = inner.back;
+      size = inner.size ∙ outer.size;
+      each = λ i. outer.each i ∙ ap (λ z. a ++ z) (inner.each i);
+    }
 
 -- ---- names in which a word repeats: once more makes no name of what isn't one
 

@@ -63,8 +63,10 @@ module _ (Holds : Why → List ℕ → Type 0) (prefix suffix : List ℕ) where
     front_ends = subst (λ x. EndsWith x prefix) (ap (take k) whole ∙ take_at front (more ++ old) k size) overlap.ends
 
     more_ends : EndsWith more prefix
-    more_ends = subst (EndsWith more) (sym is.ends.here) (ends_behind more is.ends.before is.front (record { before = front;
-        here = parts }))
+    more_ends = subst (EndsWith more) (sym is.ends.here) (ends_behind more is.ends.before is.front (record {
+      before = front;
+      here = parts;
+    }))
 
     -- by as much as those before are apart it is the word once more
     once_more : 0 < is.times → length more ≡ run.step → more ≡ is.word

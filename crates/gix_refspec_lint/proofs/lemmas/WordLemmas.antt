@@ -66,11 +66,22 @@ one_ending v a b (inr is) = inl (part_of (Contains parts) head a v b head_parts 
 one_ending v a b (inl (begins, named)) = elim (parted a (v ++ b) (codes "refs/") begins.after begins.here) [
   | inl (m, whole, rest) ↦ elim (parted v b m begins.after rest) [
     | inl (k, shorter, end) ↦ inl (part_of (Contains parts) (codes "refs/") a v k refs_parts (rw shorter at whole))
-    | inr (k, longer, end) ↦ inr (record { ending = m; rest = k; is = longer; listed = ending_of (Contains endings) a m
-    (subst (AllEndings (Contains endings)) whole refs_endings); begin = (record { after = []; here = sym whole }, tt) })
+    | inr (k, longer, end) ↦ inr (record {
+      ending = m;
+      rest = k;
+      is = longer;
+      listed = ending_of (Contains endings) a m
+          (subst (AllEndings (Contains endings)) whole refs_endings);
+      begin = (record { after = []; here = sym whole }, tt);
+    })
   ]
-  | inr (m, longer, rest) ↦ inr (record { ending = []; rest = v; is = refl; listed = (0, omega arith, refl);
-      begin = (record { after = m; here = append-nil a ∙ longer }, tt) })
+  | inr (m, longer, rest) ↦ inr (record {
+    ending = [];
+    rest = v;
+    is = refl;
+    listed = (0, omega arith, refl);
+    begin = (record { after = m; here = append-nil a ∙ longer }, tt);
+  })
 ]
 
 ending_with : {v : List ℕ} {fronts : List (List ℕ)} (h : HasEnding v fronts) (others : List (List ℕ))
@@ -79,18 +90,28 @@ ending_with h others begin = record { ending = h.ending; rest = h.rest; is = h.i
 
 both_endings : (v a : List ℕ) (fronts : List (List ℕ)) → HasEnding v (a ∷ []) → HasEnding v fronts → HasEnding v (a ∷ fronts)
 both_endings v a fronts one others = elim (parted one.ending one.rest others.ending others.rest (sym one.is ∙ others.is)) [
-  | inl (m, longer, rest) ↦ ending_with others (a ∷ fronts) (subst (λ e. BeginsWith (codes "refs/") (a ++ e)) (sym longer)
-      (begins_later a one.ending m one.begin.0), others.begin)
-  | inr (m, longer, rest) ↦ ending_with one (a ∷ fronts)
-      (one.begin.0, subst (λ e. AllByRecursion (λ x. BeginsWith (codes "refs/") (x ++ e)) fronts) (sym longer)
-      (all_weaker _ _ (λ x. begins_later x others.ending m) fronts others.begin))
+  | inl (m, longer, rest) ↦ ending_with others (a ∷ fronts) (
+    subst (λ e. BeginsWith (codes "refs/") (a ++ e)) (sym longer)
+        (begins_later a one.ending m one.begin.0),
+    others.begin,
+  )
+  | inr (m, longer, rest) ↦ ending_with one (a ∷ fronts) (
+    one.begin.0,
+    subst (λ e. AllByRecursion (λ x. BeginsWith (codes "refs/") (x ++ e)) fronts) (sym longer)
+        (all_weaker _ _ (λ x. begins_later x others.ending m) fronts others.begin),
+  )
 ]
 
 -- a word in several names of refs is a part of `refs/` or `HEAD`, or it has such an ending
 pub ending_or_part : (v : List ℕ) (ts : List Around) → AllByRecursion (IsRefAround v) ts → Contains parts v ⊎ HasEnding v (map (λ t. t.front) ts)
 ending_or_part v [] all = inr (record { ending = []; rest = v; is = refl; listed = (0, omega arith, refl); begin = tt })
-ending_or_part v (t ∷ ts) all = search (rules, one_ending v t.front t.back all.0, ending_or_part v ts all.1, both_endings v t.front
-    (map (λ (x : Around). x.front) ts))
+ending_or_part v (t ∷ ts) all = search (
+  rules,
+  one_ending v t.front t.back all.0,
+  ending_or_part v ts all.1,
+  both_endings v t.front
+      (map (λ (x : Around). x.front) ts),
+)
 
 -- what fits a pattern begins and ends with its texts
 pub fits_begins : (a b n w : List ℕ) → Fits a b n w → BeginsWith a n

@@ -24,7 +24,10 @@ returns-in-None c g is =
 
 pub returns-in-Some-of : goal.returns-in-Some-of
 returns-in-Some-of c g is = c.excludes_common.ensures g is (record {
-  before = _; after = _; prefix = _; suffix = _;
+  before = _;
+  after = _;
+  prefix = _;
+  suffix = _;
   one = parts_pattern _ c.in-Some-parts_of-2.parts (rw c.source-3.ensures at c.in-Some-parts_of-2.ensures);
   other = parts_pattern _ c.in-Some-parts_of.taken (rw c.source-2.ensures at c.in-Some-parts_of.ensures);
   shared = c.in-Some-of.ensures;

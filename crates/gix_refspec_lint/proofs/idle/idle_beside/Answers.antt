@@ -4,11 +4,13 @@ use Rattle.gix_refspec_lint.proofs.lemmas.{FoundLemmas.both_named, IndexLemmas.r
 use Rattle.gix_refspec_lint.proofs.idle.idle_beside.Goals as goal
 
 pub returns-in_default : goal.returns-in_default
-returns-in_default c g is free =
-    (explains_invalid g _ is.completed _ _ (reading_at _ _ c.index-group-index.result c.requires) _ _ free (map ref_of c.as_slice-items.result.now)
-    (rw c.as_slice-items.ensures.value (both_named _ _ _ _ (rw c.new-items.ensures.items at c.in_ok-add_item.ensures)
-    c.in_ok-add_names.ensures))
-    (rw c.in_default.is at c.in_ok-mapping.ensures), tt)
+returns-in_default c g is free = (
+  explains_invalid g _ is.completed _ _ (reading_at _ _ c.index-group-index.result c.requires) _ _ free (map ref_of c.as_slice-items.result.now)
+      (rw c.as_slice-items.ensures.value (both_named _ _ _ _ (rw c.new-items.ensures.items at c.in_ok-add_item.ensures)
+      c.in_ok-add_names.ensures))
+      (rw c.in_default.is at c.in_ok-mapping.ensures),
+  tt,
+)
 
 pub returns-in-Some-excluding : goal.returns-in-Some-excluding
 returns-in-Some-excluding c g is free =

@@ -21,7 +21,16 @@ loop-at-preserved c =
 pub returns : goal.returns
 returns c =
     none_tried c.args.partial.now (bstr_bytes c.args.candidate)
-    (rw (take_all c.loop-at.at c.loop-at.names.items
-    (omega (arith, ap (λ (v : Vec BString Global). length v.items) c.loop-at.invariant.0, c.loop-at-test.false, c.len-at-end.ensures,
-    c.in_ok-names.names.ok.0, c.in_ok-names.names.ok.1)),
-    c.loop-at.invariant.0, c.in_ok-names.ensures) at c.loop-at.invariant.1) _
+    (rw (
+      take_all c.loop-at.at c.loop-at.names.items
+          (omega (
+            arith,
+            ap (λ (v : Vec BString Global). length v.items) c.loop-at.invariant.0,
+            c.loop-at-test.false,
+            c.len-at-end.ensures,
+            c.in_ok-names.names.ok.0,
+            c.in_ok-names.names.ok.1,
+          )),
+      c.loop-at.invariant.0,
+      c.in_ok-names.ensures,
+    ) at c.loop-at.invariant.1) _

@@ -20,6 +20,6 @@ returns-then-starts_with-2 c = record {
 pub returns-else-starts_with-2 : goal.returns-else-starts_with-2
 returns-else-starts_with-2 c n by_one by_other = elim (parted c.args.one.now by_one.after c.args.other.now by_other.after
     (sym by_one.here ∙ by_other.here)) [
-  | inl (m, longer, rest) ↦ false≢true (sym c.if-starts_with-2.false ∙ (starts_is Decides-eqb c.args.other.now c.args.one.now _ c.starts_with-else-starts_with.ensures.value).1 m longer)
-  | inr (m, longer, rest) ↦ false≢true (sym c.if-starts_with.false ∙ (starts_is Decides-eqb c.args.one.now c.args.other.now _ c.starts_with.ensures.value).1 m longer)
-]
+      | inl (m, longer, rest) ↦ false≢true (sym c.if-starts_with-2.false ∙ (starts_is Decides-eqb c.args.other.now c.args.one.now _ c.starts_with-else-starts_with.ensures.value).1 m longer)
+      | inr (m, longer, rest) ↦ false≢true (sym c.if-starts_with.false ∙ (starts_is Decides-eqb c.args.one.now c.args.other.now _ c.starts_with.ensures.value).1 m longer)
+    ]

@@ -19,6 +19,6 @@ returns-then-ends_with-2 c = record {
 pub returns-else-ends_with-2 : goal.returns-else-ends_with-2
 returns-else-ends_with-2 c n by_one by_other = elim (parted by_one.before c.args.one.now by_other.before c.args.other.now
     (sym by_one.here ∙ by_other.here)) [
-  | inl (m, further, longer) ↦ false≢true (sym c.if-ends_with.false ∙ (ends_is Decides-eqb c.args.one.now c.args.other.now _ c.ends_with.ensures.value).1 m longer)
-  | inr (m, further, longer) ↦ false≢true (sym c.if-ends_with-2.false ∙ (ends_is Decides-eqb c.args.other.now c.args.one.now _ c.ends_with-else-ends_with.ensures.value).1 m longer)
-]
+      | inl (m, further, longer) ↦ false≢true (sym c.if-ends_with.false ∙ (ends_is Decides-eqb c.args.one.now c.args.other.now _ c.ends_with.ensures.value).1 m longer)
+      | inr (m, further, longer) ↦ false≢true (sym c.if-ends_with-2.false ∙ (ends_is Decides-eqb c.args.other.now c.args.one.now _ c.ends_with-else-ends_with.ensures.value).1 m longer)
+    ]
