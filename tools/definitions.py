@@ -1,9 +1,10 @@
 #!/usr/bin/env python3
 """Tries slight changes of definitions: tools/definitions.py [CRATE [NAME..]]
 
-A file of crates/*/changed-definitions/ changes a definition as a must-fail edit changes code, and its line `fact:` names the facts
-whose statements it makes false, as FILE.NAME. Each is tried on a copy of the repository, over the libraries that `rt check` or
-`make test` left: the checker has to refuse these facts. So a wrong definition is noticed even where the code follows it.
+A file of crates/*/changed-definitions/ changes a definition as a must-fail edit changes code. Its line `what:` says how, and its
+line `fact:` names what that makes false: facts, as FILE.NAME, or the lemma of a law, with its path. Each is tried on a copy of the
+crate, over the libraries that `make test` left: the checker must not admit these facts. So a wrong definition is noticed even
+where the code follows it. That a fact is false, and not only its proof broken, was looked at by reading.
 """
 import os
 import re
@@ -63,57 +64,74 @@ def read_edit(path):
     return facts, replacements
 
 
+def cited(number, name, crate):
+    """The lines that cite a fact, so that it is checked: an import, and a declaration that rests on it."""
+    *folders, module, fact = name.split(".")
+    path = ".".join([*(folders or ["facts"]), module])
+    line = f"use Rattle.{crate}.proofs.{path}.{{{fact} as cited-{number}}}\n"
+    return line, f"\nseen-{number} : truth\nseen-{number} = let it = cited-{number} in tt\n"
+
+
 def refused(output):
-    """The facts that the checker refuses for what they say, as FILE.NAME."""
-    at = re.compile(r"^(?:\./)?proofs/facts/(\w+)\.antt:\d+:\d+: error: `([^`]+)`: ", re.M)
-    return {f"{found[1]}.{found[2]}" for found in at.finditer(output)}
+    """The numbers of the facts that the checker didn't admit, so that it didn't check what rests on them."""
+    lines = [line for line in output.split("\n") if "not admitted, was not checked" in line]
+    return {int(number) for line in lines for number in re.findall(r"\bseen-(\d+)", line)}
+
+
+class Copy:
+    """A copy of a crate, in which one definition after another is changed."""
+
+    def __init__(self, crate, below, room):
+        self.crate, self.room = crate, room
+        for part in ("src", "specs", "proofs"):
+            shutil.copytree(f"{ROOT}/crates/{crate}/{part}", f"{room}/{part}")
+        os.makedirs(f"{room}/out/definitions")
+        # the checker reads the facts if the function that it is to prove cites them
+        function, self.answers = smallest_proof(room)
+        with open(self.answers, encoding="utf-8") as file:
+            self.text = file.read()
+        self.words = [*command(crate, below), "--only", function]
+
+    def lacking(self, facts, replacements):
+        """Those of the facts that the checker admits with these replacements."""
+        was = {}
+        for place, old, new in replacements:
+            with open(f"{self.room}/{place}", encoding="utf-8") as file:
+                text = file.read()
+            if text.count(old) != 1:
+                sys.exit(f"{self.crate}: in {place} not once: {old}")
+            was.setdefault(place, text)
+            with open(f"{self.room}/{place}", "w", encoding="utf-8") as file:
+                file.write(text.replace(old, new))
+        lines = [cited(number, name, self.crate) for number, name in enumerate(facts)]
+        with open(self.answers, "w", encoding="utf-8") as file:
+            file.write("use Rattle.std.specs.Prelude.{⊤ as truth}\n")
+            file.writelines(line for line, _ in lines)
+            file.write(f"{self.text}\n")
+            file.writelines(line for _, line in lines)
+        how = {"stdout": subprocess.PIPE, "stderr": subprocess.STDOUT, "text": True, "errors": "replace"}
+        found = refused(subprocess.run(self.words, cwd=self.room, check=False, **how).stdout)
+        for place, text in was.items():
+            with open(f"{self.room}/{place}", "w", encoding="utf-8") as file:
+                file.write(text)
+        return [name for number, name in enumerate(facts) if number not in found]
 
 
 def main():
     below = libraries()
     crates = sys.argv[1:2] or [crate for crate in below if os.path.isdir(f"{ROOT}/crates/{crate}/{FOLDER}")]
-    names = sys.argv[2:]
     tried = missed = 0
     for crate in crates:
+        edits = sorted(os.listdir(f"{ROOT}/crates/{crate}/{FOLDER}"))
+        edits = [edit for edit in edits if not sys.argv[2:] or edit.startswith(tuple(sys.argv[2:]))]
         with tempfile.TemporaryDirectory(prefix="definitions-") as room:
-            for part in ("src", "specs", "proofs"):
-                shutil.copytree(f"{ROOT}/crates/{crate}/{part}", f"{room}/{part}")
-            os.makedirs(f"{room}/out/definitions")
-            # the checker reads the facts if a function that it is to prove cites them
-            function, answers = smallest_proof(room)
-            with open(answers, encoding="utf-8") as file:
-                text_of_answers = file.read()
-            for edit in sorted(os.listdir(f"{ROOT}/crates/{crate}/{FOLDER}")):
-                if names and not any(edit.startswith(name) for name in names):
-                    continue
+            copy = Copy(crate, below, room)
+            for edit in edits:
                 facts, replacements = read_edit(f"{ROOT}/crates/{crate}/{FOLDER}/{edit}")
-                was = {}
-                for place, old, new in replacements:
-                    with open(f"{room}/{place}", encoding="utf-8") as file:
-                        text = file.read()
-                    if text.count(old) != 1:
-                        sys.exit(f"{crate}/{edit}: in {place} not once: {old}")
-                    was.setdefault(place, text)
-                    with open(f"{room}/{place}", "w", encoding="utf-8") as file:
-                        file.write(text.replace(old, new))
-                with open(answers, "w", encoding="utf-8") as file:
-                    file.write("use Rattle.std.specs.Prelude.{⊤ as truth}\n")
-                    for number, name in enumerate(facts):
-                        module, _, fact = name.partition(".")
-                        file.write(f"use Rattle.{crate}.proofs.facts.{module}.{{{fact} as cited-{number}}}\n")
-                    file.write(f"{text_of_answers}\n")
-                    for number in range(len(facts)):
-                        file.write(f"\nseen-{number} : truth\nseen-{number} = let it = cited-{number} in tt\n")
-                words = [*command(crate, below), "--only", function]
-                ran = subprocess.run(words, cwd=room, stdout=subprocess.PIPE, stderr=subprocess.STDOUT, text=True, errors="replace", check=False)
-                for place, text in was.items():
-                    with open(f"{room}/{place}", "w", encoding="utf-8") as file:
-                        file.write(text)
-                tried += 1
-                lacking = [fact for fact in facts if fact not in refused(ran.stdout)]
-                missed += bool(lacking or not facts)
-                said = f"not refused: {' '.join(lacking)}" if lacking else f"refused: {' '.join(facts)}" if facts else "it names no fact"
-                print(f"{crate}/{edit}: {said}", flush=True)
+                lacking = copy.lacking(facts, replacements)
+                tried, missed = tried + 1, missed + bool(lacking or not facts)
+                said = f"not refused: {' '.join(lacking)}" if lacking else f"refused: {' '.join(facts)}"
+                print(f"{crate}/{edit}: {said if facts else 'it names no fact'}", flush=True)
     print(f"definitions: {tried} changes, {tried - missed} noticed")
     return 1 if missed or not tried else 0
 
