@@ -5,12 +5,10 @@ use Rattle.gix_refspec_lint.proofs.Common.{take, refl, subst, Contains, take_mor
 use Rattle.gix_refspec_lint.proofs.Common.{AreCommon, HasPattern, HaveCommon, HaveParts, IsFound, IsFoundAt, IsGroupOf, Group, Common, IsAccepted, ◌≤◌, append-nil, option_to_list, arith}
 use Rattle.gix_refspec_lint.proofs.Common.{AllByRecursion, length-map, length-take-le, IsJoinedFrom, IsMadeFrom, MakesOf, some_element, joined_next, made_next, zip_long, NoneAt, MatchOption, drop}
 use Rattle.gix_refspec_lint.proofs.Common.{option_map, IsDeciding, words_with, IsOverlap, example_of, of_element, Fetches}
-use Rattle.gix_refspec_lint.specs.declared.PossibleConflict.{PossibleConflict}
-use Rattle.gix_refspec_lint.proofs.lemmas.IndexLemmas.{IsThere, made_there, makes_fewer, of_maps, maps_of, zip_of, accepted_of, one_completed, reading_at}
-use Rattle.gix_refspec_lint.proofs.lemmas.PatternLemmas.{maps_pattern, MapsPattern}
-use Rattle.gix_refspec_lint.proofs.lemmas.MovedLemmas.{decided}
-use Rattle.gix_refspec_lint.proofs.lemmas.SourceLemmas.{none_made, pattern_there, plain_made}
-use Rattle.gix_refspec_lint.proofs.lemmas.RunLemmas.{each_deciding}
+use Rattle.gix_refspec_lint.proofs.lemmas.IndexLemmas.{IsThere, made_there, makes_fewer, of_maps, maps_of, zip_of, accepted_of}
+use Rattle.gix_refspec_lint.proofs.lemmas.{IndexLemmas.{one_completed, reading_at}, MovedLemmas.decided, PatternLemmas.maps_pattern}
+use Rattle.gix_refspec_lint.proofs.lemmas.{PatternLemmas.MapsPattern, RunLemmas.each_deciding, SourceLemmas.{none_made, pattern_there}}
+use Rattle.gix_refspec_lint.{proofs.lemmas.SourceLemmas.plain_made, specs.declared.PossibleConflict.PossibleConflict}
 
 there_also : (A B : List Ref) (s : Source) → HaveSameNames A B → IsThere A s → IsThere B s
 there_also A B (name n) same there = has_also A B n same there
@@ -28,20 +26,16 @@ module _ (g h : List Reading) (all : AllZip IsCompleted g h) (i j : ℕ) (refs :
   pub makes_named : (k : ℕ) (c : Reading) → slice_get h k ≡ Some c → (r : Source) → Fetches g (refs_of s ++ refs_of t) k r (Some d) → MakesForward refs r (Some d) c
   makes_named k c at r f = makes_also (refs_of s ++ refs_of t) refs r (Some d) c (sym named) (of_maps g h all k c at (refs_of s ++ refs_of t) r (Some d) f.maps.maps)
 
+  fetched : (k : ℕ) (c : Reading) → slice_get h k ≡ Some c → (r : Source) → IsValidSource r × ¬ (IsSourceExcluded g r) → CanBeWritten (Some d) → MakesForward refs r (Some d) c → Fetches g (refs_of s ++ refs_of t) k r (Some d)
+  fetched k c at r valid written makes =
+      let maps = maps_of g h all k c at (refs_of s ++ refs_of t) r (Some d) (makes_also refs (refs_of s ++ refs_of t) r (Some d) c named makes) in
+      record { maps = record { maps = maps; source = valid.0; destination = written }; included = valid.1 }
+
   -- and where both do, they conflict
   pub conflict_made : (b c : Reading) → slice_get h i ≡ Some b → slice_get h j ≡ Some c → s ≢ t → IsValidSource s × ¬ (IsSourceExcluded g s) → IsValidSource t × ¬ (IsSourceExcluded g t) → CanBeWritten (Some d)
       → MakesForward refs s (Some d) b → MakesForward refs t (Some d) c → ConflictOver g (refs_of s ++ refs_of t) i j s t d
-  conflict_made b c at here differ one other written makes also = record {
-    one = record {
-      maps = record { maps = maps_of g h all i b at (refs_of s ++ refs_of t) s (Some d) (makes_also refs (refs_of s ++ refs_of t) s (Some d) b named makes); source = one.0; destination = written };
-      included = one.1;
-    };
-    other = record {
-      maps = record { maps = maps_of g h all j c here (refs_of s ++ refs_of t) t (Some d) (makes_also refs (refs_of s ++ refs_of t) t (Some d) c named also); source = other.0; destination = written };
-      included = other.1;
-    };
-    differ = differ;
-  }
+  conflict_made b c at here differ one other written makes also =
+      record { one = fetched i b at s one written makes; other = fetched j c here t other written also; differ = differ }
 
 -- ---- what an example of a conflict says of its two specs, by their completed readings
 
@@ -55,7 +49,6 @@ pub parts_at : (specs : List RefSpecRef) (parts : List (Option (Bor (List ℕ) �
     → HasParts (reading_of (get_or specs i s)).destination p
 parts_at specs parts i s p all below at = subst (λ q. HasParts (reading_of (get_or specs i s)).destination q) at (zip_at (λ s p. HasParts (reading_of s).destination p) specs parts i s None all below)
 
--- a side that isn't split has no star
 pub unsplit_lacks : (c : Reading) → ∥ IsAccepted c ∥₁ → (n : List ℕ) → (c.source ≡ Some n) ⊎ (c.destination ≡ Some n)
     → ((before after : List ℕ) → ¬ (IsSplit before after n)) → Lacks star n
 unsplit_lacks c accepted n has none = elim ((sides_agree c accepted).each n has) [
@@ -63,7 +56,6 @@ unsplit_lacks c accepted n has none = elim ((sides_agree c accepted).each n has)
   | inr lacks ↦ lacks
 ]
 
--- what is found at the only destination is all
 pub found_only : (g : List Reading) (i j : ℕ) (n : List ℕ) (found : Option Example) → ((e : Example) → IsExample g i j e → e.destination ≡ n) → IsFoundAt g i j n found → IsFound g i j found
 found_only g i j n None only none = λ e shown. none e.one e.other (subst (ConflictOver g (refs_of e.one ++ refs_of e.other) i j e.one e.other) (only e shown) shown.conflict)
 found_only g i j n (Some e) only shown = shown
@@ -83,7 +75,6 @@ module _ (g : List Reading) (group : Group) (is : IsGroupOf g group) (k : ℕ) (
   pub makes_of : (refs : List Ref) (s : Source) (d : List ℕ) → Fetches g refs k s (Some d) → MakesForward refs s (Some d) spec
   makes_of refs s d f = of_maps g (map reading_of group.specs.now) is.completed k spec at refs s (Some d) f.maps.maps
 
-  -- without a destination it fetches nothing to one
   pub none_fetched : spec.destination ≡ None → (refs : List Ref) (s : Source) (d : List ℕ) → ¬ (Fetches g refs k s (Some d))
   none_fetched none refs s d f = none_made refs s d spec none (makes_of refs s d f)
 
@@ -102,7 +93,6 @@ module _ (g : List Reading) (group : Group) (is : IsGroupOf g group) (k : ℕ) (
 
 module _ (g : List Reading) (group : Group) (is : IsGroupOf g group) (parts : List (Option (Bor (List ℕ) × Bor (List ℕ)))) (have : HaveParts group.specs.now parts)
     (i j : ℕ) (x y : RefSpecRef) (below : i < length group.specs.now) (inside : j < length group.specs.now) where
-  -- with two names that differ
   pub names_differ : get_or parts i None ≡ None → get_or parts j None ≡ None → (n m : List ℕ) → (reading_of (get_or group.specs.now i x)).destination ≡ Some n
       → (reading_of (get_or group.specs.now j y)).destination ≡ Some m → n ≢ m → (e : Example) → ¬ (IsExample g i j e)
   names_differ none neither n m has also differ e shown =
@@ -110,7 +100,6 @@ module _ (g : List Reading) (group : Group) (is : IsGroupOf g group) (parts : Li
       let other = fetches_only g group is j y inside parts have neither m also (refs_of e.one ++ refs_of e.other) e.other e.destination shown.conflict.other in
       differ (sym one ∙ other)
 
-  -- with two patterns
   module _ (one other : Bor (List ℕ) × Bor (List ℕ)) (first_parts : get_or parts i None ≡ Some one) (second_parts : get_or parts j None ≡ Some other) where
     of_one : HasParts (reading_of (get_or group.specs.now i x)).destination (Some one)
     of_one = parts_at group.specs.now parts i x (Some one) have below first_parts
@@ -161,15 +150,9 @@ none_of_all g i j d ones others all listed_there s t c =
     let (one, other) = listed_there s t c in
     of_element (NoConflict g i j d s) others t (of_element (λ s. AllByRecursion (NoConflict g i j d s) others) ones s all one) other c
 
--- copies of the sources and of the destination are an example
 pub copied_example : (g : List Reading) (i j : ℕ) (s t u v : Source) (d n : List ℕ) → i < j → u ≡ s → v ≡ t → n ≡ d → ConflictOver g (refs_of s ++ refs_of t) i j s t d
     → IsExample g i j (record { first = i; second = j; one = u; other = v; destination = n })
-copied_example g i j s t u v d n order first second to c = record {
-  first = refl;
-  second = refl;
-  order = order;
-  conflict = subst (λ a. ConflictOver g (refs_of a ++ refs_of v) i j a v n) (sym first) (subst (λ b. ConflictOver g (refs_of s ++ refs_of b) i j s b n) (sym second) (subst (ConflictOver g (refs_of s ++ refs_of t) i j s t) (sym to) c));
-}
+copied_example g i j s t u v d n order first second to c = record { first = refl; second = refl; order = order; conflict = rw (first, second, to) c }
 
 pub group_long : (g : List Reading) (group : Group) → IsGroupOf g group → length g ≡ length group.specs.now
 group_long g group is = zip_long IsCompleted g (map reading_of group.specs.now) is.completed ∙ length-map group.specs.now reading_of
@@ -182,9 +165,8 @@ pub row_next : (g : List Reading) (i j : ℕ) (found : Option Example) (ys zs : 
     → IsMadeFrom (λ j q e. IsExample g i j e) 0 (take (j + 1) g) zs
 row_next g i j found ys zs below is so_far more =
     let x = some_element g j below in
-    subst (IsMadeFrom (λ j q e. IsExample g i j e) 0 (take (j + 1) g)) (sym more)
-    (subst (λ l. IsMadeFrom (λ j q e. IsExample g i j e) 0 l (ys ++ option_to_list found)) (sym (take_more g j x below))
-    (made_next (λ j q e. IsExample g i j e) j (take j g) (get_or g j x) ys found (length-take-le j g (omega (arith, below))) so_far (makes_found g i j (get_or g j x) found is)))
+    rw (more, take_more g j x below)
+    (made_next (λ j q e. IsExample g i j e) j (take j g) (get_or g j x) ys found (length-take-le j g (omega (arith, below))) so_far (makes_found g i j (get_or g j x) found is))
 
 -- a spec doesn't conflict with an earlier one, nor with itself
 pub row_same : (g : List Reading) (i j : ℕ) (ys : List Example) → j < length g → j ≤ i → IsMadeFrom (λ j q e. IsExample g i j e) 0 (take j g) ys → IsMadeFrom (λ j q e. IsExample g i j e) 0 (take (j + 1) g) ys
@@ -197,9 +179,8 @@ pub rows_next : (g : List Reading) (i : ℕ) (row ys zs : List Example) → i < 
     → IsJoinedFrom (λ i r of_first. AreOfFirst g i of_first) 0 (take (i + 1) g) zs
 rows_next g i row ys zs below is so_far more =
     let x = some_element g i below in
-    subst (IsJoinedFrom (λ i r of_first. AreOfFirst g i of_first) 0 (take (i + 1) g)) (sym more)
-    (subst (λ l. IsJoinedFrom (λ i r of_first. AreOfFirst g i of_first) 0 l (ys ++ row)) (sym (take_more g i x below))
-    (joined_next (λ i r of_first. AreOfFirst g i of_first) i (take i g) (get_or g i x) ys row (length-take-le i g (omega (arith, below))) so_far is))
+    rw (more, take_more g i x below)
+    (joined_next (λ i r of_first. AreOfFirst g i of_first) i (take i g) (get_or g i x) ys row (length-take-le i g (omega (arith, below))) so_far is)
 
 -- ---- without a conflict at the names that decide two specs of patterns don't conflict
 

@@ -1,9 +1,9 @@
 -- Without an example of a conflict no kept mappings conflict, whatever refs there are.
-use Rattle.gix_refspec_lint.proofs.Common.{each_made, ◌≡◌, ◌≢◌, inl, inr, ℕ, zero, suc, ◌<◌, List, [], ◌∷◌, ◌++◌, Some, length, map, refl, sym, ap, ◌∙◌, subst, arith, AllZip, Contains, slice_get}
-use Rattle.gix_refspec_lint.proofs.Common.{cases_lt, same_Some, IsFirstCandidate, MatchesAs, Ref, SideKind, pattern, full_name, object, partial, HasKind, Fits, filled, IsAccepted, Reading, HasOneStar}
-use Rattle.gix_refspec_lint.proofs.Common.{reading_of, RefSpecRef, lacks_no_pattern, one_word, AreKeptForward, IsFilled, IsJoinedFrom, IsMadeFrom, Source, name, id, Mapped, matches_as, one_kind}
+use Rattle.gix_refspec_lint.proofs.Common.{rules, star, Lacks, each_made, ◌≡◌, ◌≢◌, inl, inr, ℕ, zero, suc, ◌<◌, List, [], ◌∷◌, ◌++◌, Some, length, map, refl, sym, ap, ◌∙◌, subst, arith, AllZip, Contains, slice_get}
+use Rattle.gix_refspec_lint.proofs.Common.{cases_lt, same_Some, IsFirstCandidate, MatchesAs, Ref, SideKind, pattern, full_name, object, partial, HasKind, IsAccepted, Reading, HasOneStar}
+use Rattle.gix_refspec_lint.proofs.Common.{reading_of, RefSpecRef, lacks_no_pattern, one_word, AreKeptForward, IsJoinedFrom, IsMadeFrom, Source, name, id, Mapped, matches_as, one_kind}
 use Rattle.gix_refspec_lint.proofs.Common.{nothing_joined, nothing_made, MakesForward, kept_exactly, sides_agree, CanBeWritten, IsCompleted, IsSound, reading_once, completed_destination}
-use Rattle.gix_refspec_lint.proofs.Common.{contained_pair, far_there, ConflictFree, AreExamples, Example, Fetches, IsExample, HasSourcePattern, IsSourceExcluded, IsValidSource, completed_excluded}
+use Rattle.gix_refspec_lint.proofs.Common.{contained_pair, far_there, ConflictFree, AreExamples, Example, Fetches, IsExample, IsSourceExcluded, IsValidSource, completed_excluded}
 use Rattle.gix_refspec_lint.proofs.Common.{ExamplesConflict, HasSound, refs_of, pair_of, some_at, ◌+◌, false, None, append-nil, AllByRecursion, AreAsked, AreConfigured, AreUncovered, Asked}
 use Rattle.gix_refspec_lint.proofs.Common.{HasVerdict, IsPlanned, IsPlannedBesides, IsTracked, Wish, by_call, by_configuration, by_default, nothing, tags_asked, without, Origin, none_merged}
 use Rattle.gix_refspec_lint.proofs.Common.{PlanConflictFree, slice_get_within, get_or_from_slice_get}
@@ -13,7 +13,7 @@ use Rattle.gix_refspec_plan.proofs.lemmas.plan.OpposedLemmas.{pair_in}
 use Rattle.gix_refspec_plan.specs.declared.Origin.TheVariants as origin
 use Rattle.gix_refspec_plan.specs.declared.Verdict.TheVariants as verdict
 use Rattle.gix_refspec_lint.proofs.lemmas.IndexLemmas.{conflicts_shown, accepted_of, maps_of, still_excluded, any_at, zip_to}
-use Rattle.gix_refspec_lint.proofs.lemmas.PatternLemmas.{word_of}
+use Rattle.gix_refspec_lint.proofs.lemmas.PatternLemmas.{spec_made, two_patterns}
 
 -- ---- one spec maps one source to a destination
 
@@ -21,28 +21,10 @@ use Rattle.gix_refspec_lint.proofs.lemmas.PatternLemmas.{word_of}
 dest_starred : (r c : Reading) (x e : List ℕ) → ∥ IsAccepted r ∥₁ → IsCompleted r c → c.source ≡ Some x → c.destination ≡ Some e → HasOneStar x → HasOneStar e
 dest_starred r c x e accepted done source destination one =
     let (d, was, shape) = completed_destination r.destination c.destination e done.destination destination in
-    elim ((sides_agree r accepted).both x d (sym done.source ∙ source) was) [
-      | inr (lacks, others) ↦ absurd (lacks_no_pattern x one.0 one.1 lacks one.2)
-      | inl (also, starred_d) ↦ elim shape [
-        | inl (has, same) ↦ subst HasOneStar same starred_d
-        | inr (lacks, same) ↦ absurd (lacks_no_pattern d starred_d.0 starred_d.1 lacks starred_d.2)
-      ]
-    ]
-
-filled_word : (e d w : List ℕ) (one : HasOneStar e) → IsFilled (Some e) (Some w) (Some d) → Fits one.0 one.1 d w
-filled_word e d w one (kind, of, is) =
-    let kinds : kind ≡ pattern one.0 one.1 = one_kind e kind (pattern one.0 one.1) of one.2 in
-    same_Some _ _ (is ∙ ap (λ k. Some (filled k (Some w))) kinds)
+    let none : (y : List ℕ) → Lacks star y → ¬ (HasOneStar y) = λ y lacks also. lacks_no_pattern y also.0 also.1 lacks also.2 in
+    search (rules, (sides_agree r accepted).both x d (sym done.source ∙ source) was, shape, none x, none d)
 
 module _ (r c : Reading) (accepted : ∥ IsAccepted r ∥₁) (done : IsCompleted r c) (refs : List Ref) (d : List ℕ) where
-  -- the word is that of the destination
-  pattern_source : (n : List ℕ) (makes : MakesForward refs (name n) (Some d) c) (p t : List ℕ) → HasSourcePattern c p t → (e : List ℕ) (one : HasOneStar e) → c.destination ≡ Some e
-      → (w : List ℕ) × (n ≡ p ++ (w ++ t)) × Fits one.0 one.1 d w
-  pattern_source n makes p t source e one has =
-      let (w, some, fits) = word_of c refs n (Some d) makes p t source in
-      let far : makes.ends.far ≡ Some e = sym makes.has.far ∙ has in
-      (w, fits, filled_word e d w one (subst (λ v. IsFilled (Some e) v (Some d)) some (subst (λ f. IsFilled f makes.one.4.word (Some d)) far makes.one.4.becomes)))
-
   one_name_source : (n m : List ℕ) → MakesForward refs (name n) (Some d) c → MakesForward refs (name m) (Some d) c → n ≡ m
   one_name_source n m makes also =
       let (k, item, below, is, paired) = makes.one in
@@ -55,9 +37,10 @@ module _ (r c : Reading) (accepted : ∥ IsAccepted r ∥₁) (done : IsComplete
       by_kind (pattern p t) of holds same =
           let (e, far, becomes) = far_there makes.ends.far makes.one.4.word d makes.one.4.becomes in
           let one = dest_starred r c makes.ends.near e accepted done makes.has.near (makes.has.far ∙ far) (p, t, of) in
-          let (w, is, fits) = pattern_source n makes p t (record { text = makes.ends.near; has = makes.has.near; split = of }) e one (makes.has.far ∙ far) in
-          let (v, at, suits) = pattern_source m also p t (record { text = makes.ends.near; has = makes.has.near; split = of }) e one (makes.has.far ∙ far) in
-          is ∙ ap (λ x. p ++ (x ++ t)) (one_word one.0 one.1 d w v fits suits) ∙ sym at
+          let spec = two_patterns c p t one.0 one.1 e makes.has.positive (record { text = makes.ends.near; has = makes.has.near; split = of }) (makes.has.far ∙ far) one.2 in
+          let (w, is, fits, there) = spec_made c p t spec refs n (Some d) makes in
+          let (v, at, suits, again) = spec_made c p t spec refs m (Some d) also in
+          is ∙ ap (λ x. p ++ (x ++ t)) (one_word one.0 one.1 d w v (same_Some _ _ fits) (same_Some _ _ suits)) ∙ sym at
       by_kind (full_name x) of holds same = sym (makes.one.4.name) ∙ holds.1 ∙ sym same.1 ∙ also.one.4.name
       by_kind (object bytes) of holds same = absurd (makes.has.no_object bytes of)
       by_kind (partial x) of holds same =
@@ -85,7 +68,6 @@ none_shown g i j r q e none at also shown =
     let row : IsMadeFrom (λ l p x. IsExample g i l x) 0 g [] = subst (λ k. IsMadeFrom (λ l p x. IsExample g k l x) 0 g []) (omega (arith, size)) (nothing_joined (λ k p row. IsMadeFrom (λ l p x. IsExample g k l x) 0 g row) 0 before r after (subst (λ h. IsJoinedFrom (λ k p row. IsMadeFrom (λ l p x. IsExample g k l x) 0 g row) 0 h []) whole none)) in
     nothing_made (λ l p x. IsExample g i l x) 0 front q back e (subst (λ h. IsMadeFrom (λ l p x. IsExample g i l x) 0 h []) all row) (subst (λ l. IsExample g i l e) (omega (arith, long)) shown)
 
--- a kept mapping that is sound is a fetch of some spec
 fetched_by : (g h : List Reading) (refs : List Ref) (kept : List Mapped) (m : Mapped) (d : List ℕ) → AllZip IsCompleted g h → AreKeptForward h refs kept → Contains kept m → IsSound m
     → m.destination ≡ Some d → (k : ℕ) × Fetches g refs k m.source (Some d)
 fetched_by g h refs kept m d all are has sound to =
@@ -98,13 +80,11 @@ fetched_by g h refs kept m d all are has sound to =
       },
     )
 
--- two fetches to one destination are from one source
 same_fetched : (g : List Reading) (refs : List Ref) (i j : ℕ) (s t : Source) (d : List ℕ) → AreExamples g [] → Fetches g refs i s (Some d) → Fetches g refs j t (Some d) → i < j → s ≢ t → ⊥
 same_fetched g refs i j s t d none one other order differ =
     let (e, shown) = conflicts_shown g i j order (refs, s, t, d, record { one = one; other = other; differ = differ }) in
     none_shown g i j one.maps.maps.reading other.maps.maps.reading e none one.maps.maps.at other.maps.maps.at shown
 
--- of one spec they are the same
 same_spec : (specs : List RefSpecRef) (refs : List Ref) (i j : ℕ) (s t : Source) (d : List ℕ) → Fetches (map reading_of specs) refs i s (Some d) → Fetches (map reading_of specs) refs j t (Some d) → i ≡ j → s ≡ t
 same_spec specs refs i j s t d one other same =
     let a = one.maps.maps in

@@ -1,16 +1,15 @@
 -- Specs that never do anything, source by source.
 use Rattle.gix_refspec_lint.proofs.Common.{map_each, item_named, ◌≡◌, ◌⊎◌, inl, inr, ◌↔◌, ℕ, zero, suc, ◌<◌, Bool, true, false, MatchBool, MatchOption, Bor, List, [], ◌∷◌, ◌++◌, Option, None, Some}
 use Rattle.gix_refspec_lint.proofs.Common.{codes, length, map, take, drop, get_or, append_assoc, refl, sym, ap, ◌∙◌, subst, arith, IsTrue, nat_eq, AllByRecursion, Contains, ends_with, is_some}
-use Rattle.gix_refspec_lint.proofs.Common.{false≢true, Decides-eqb, map-append, Contains-append_left, Contains-append_right, same_Some, ends_is, bstring_bytes, BString, Ref, MatchesAs, Takes}
-use Rattle.gix_refspec_lint.proofs.Common.{SideKind, pattern, full_name, object, partial, HasKind, Fits, candidates, IsCandidate, Reading, IsSplit, EndsWith, Source, name, candidate_cases, map_split}
-use Rattle.gix_refspec_lint.proofs.Common.{IsPaired, MakesForward, IsRefName, AreAllowed, AreTriedBefore, Explains, Reason, Contains-push_cases, of_element, ◌+◌, ◌≤◌, AllZip, slice_get, HasName}
+use Rattle.gix_refspec_lint.proofs.Common.{false≢true, Decides-eqb, map-append, Contains-append_left, Contains-append_right, same_Some, ends_is, bstring_bytes, BString, Ref, MatchesAs}
+use Rattle.gix_refspec_lint.proofs.Common.{SideKind, pattern, full_name, object, partial, HasKind, Fits, candidates, Reading, IsSplit, EndsWith, Source, name, candidate_cases, map_split}
+use Rattle.gix_refspec_lint.proofs.Common.{MakesForward, IsRefName, AreAllowed, AreTriedBefore, Explains, Reason, Contains-push_cases, of_element, ◌+◌, ◌≤◌, AllZip, slice_get, HasName}
 use Rattle.gix_refspec_lint.proofs.Common.{IsFirstCandidate, upto, one_kind, IsCompleted, ref_named, AreValid, Maps, refs_of, AreAbsent, AreFreeing, ArePreferred, refs_with, one_word, all_join}
 use Rattle.gix_refspec_lint.proofs.Common.{IsFilled, id, IsExcludedBy, IsSourceExcluded, matches_as, HaveSameNames, IsValidSource, MapsSoundly, IsAtWork, IsShown, MakesSoundly, all_right}
 use Rattle.gix_refspec_lint.specs.declared.Reason.TheVariants as reason
-use Rattle.gix_refspec_lint.proofs.lemmas.PatternLemmas.{word_of, destination_once}
-use Rattle.gix_refspec_lint.proofs.lemmas.IndexLemmas.{made_there, own_among, named_in, makes_again, zip_to, one_completed, all_listed, maps_as, maps_of, of_maps}
-use Rattle.gix_refspec_lint.proofs.lemmas.IndexLemmas.{excluded_at}
-use Rattle.gix_refspec_lint.proofs.lemmas.FoundLemmas.{makes_also}
+use Rattle.gix_refspec_lint.proofs.lemmas.{PatternLemmas.{word_of, destination_once}, IndexLemmas.{made_there, own_among, named_in}}
+use Rattle.gix_refspec_lint.proofs.lemmas.IndexLemmas.{makes_again, zip_to, one_completed, all_listed, maps_as, maps_of, of_maps}
+use Rattle.gix_refspec_lint.proofs.lemmas.{IndexLemmas.excluded_at, FoundLemmas.makes_also}
 
 pub none_equal : (l : List (List ℕ)) (n : List ℕ) → AllByRecursion (λ x. ¬ (x ≡ n)) l → ¬ (Contains l n)
 none_equal l n all has = of_element (λ x. ¬ (x ≡ n)) l n all has refl
@@ -36,41 +35,28 @@ fits_taken r x has refs n d before after None (y, is, split) none makes =
 -- the name of a candidate ends with the partial one, or it is the head of a remote
 pub ends_taken : (r : Reading) (x : List ℕ) → r.source ≡ Some x → ((y before after : List ℕ) → Some x ≡ Some y → ¬ (IsSplit before after y)) → (refs : List Ref) (n : List ℕ) (d : Option (List ℕ)) → MakesForward refs (name n) d r
     → EndsWith x n ⊎ EndsWith (codes "/HEAD") n
-ends_taken r x has plain refs n d makes = by_kind paired.takes.matches.kind paired.takes.matches.of paired.takes.matches.is
+ends_taken r x has plain refs n d makes = by_kind makes.one.4.takes.matches.kind makes.one.4.takes.matches.of makes.one.4.takes.matches.is
   where
-    item : Ref
-    item = makes.one.1
-
-    paired : IsPaired (Takes refs) makes.ends n d item
-    paired = makes.one.4
-
     near : makes.ends.near ≡ x
     near = same_Some _ _ (sym makes.has.near ∙ has)
 
-    candidate : (m : List ℕ) → m ≡ x → IsCandidate m item.name → EndsWith x n ⊎ EndsWith (codes "/HEAD") n
-    candidate m same one = elim (candidate_cases m item.name one) [
-      | inl (before, folder, is) ↦ inl (record { before = before; here = sym paired.name ∙ is ∙ ap (λ y. before ++ y) same })
-      | inr is ↦ inr (record { before = codes "refs/remotes/" ++ m; here = sym paired.name ∙ is ∙ sym (append_assoc (codes "refs/remotes/") m (codes "/HEAD")) })
+    by_kind : (kind : SideKind) → HasKind makes.ends.near kind → MatchesAs kind makes.one.1 makes.one.4.word → EndsWith x n ⊎ EndsWith (codes "/HEAD") n
+    by_kind (pattern before after) of holds = absurd (plain x before after refl (subst (IsSplit before after) near of))
+    by_kind (full_name m) of holds = inl (record { before = []; here = sym makes.one.4.name ∙ holds.1 ∙ of.0 ∙ near })
+    by_kind (object bytes) of holds = absurd (makes.has.no_object bytes of)
+    by_kind (partial m) of holds = elim (candidate_cases m makes.one.1.name holds.1) [
+      | inl (before, folder, is) ↦ inl (record { before = before; here = sym makes.one.4.name ∙ is ∙ ap (λ y. before ++ y) (of.0 ∙ near) })
+      | inr is ↦ inr (record { before = codes "refs/remotes/" ++ m; here = sym makes.one.4.name ∙ is ∙ sym (append_assoc (codes "refs/remotes/") m (codes "/HEAD")) })
     ]
 
-    by_kind : (kind : SideKind) → HasKind makes.ends.near kind → MatchesAs kind item paired.word → EndsWith x n ⊎ EndsWith (codes "/HEAD") n
-    by_kind (pattern before after) of holds = absurd (plain x before after refl (subst (IsSplit before after) near of))
-    by_kind (full_name m) of holds = inl (record { before = []; here = sym paired.name ∙ holds.1 ∙ of.0 ∙ near })
-    by_kind (object bytes) of holds = absurd (makes.has.no_object bytes of)
-    by_kind (partial m) of holds = candidate m (of.0 ∙ near) holds.1
-
 pub ends_told : (x head n : List ℕ) (b c : Bool) → b ≡ ends_with nat_eq n x → c ≡ ends_with nat_eq n head → b ≡ false → EndsWith x n ⊎ EndsWith head n → c ≡ true
-ends_told x head n b c tells also none (inl ends) = absurd (false≢true (sym none ∙ (ends_is Decides-eqb n x b tells).1 ends.before ends.here))
-ends_told x head n b c tells also none (inr ends) = (ends_is Decides-eqb n head c also).1 ends.before ends.here
+ends_told x head n b c tells also none ends = grind (arith, ends, ends_is Decides-eqb n x b tells, ends_is Decides-eqb n head c also, false≢true)
 
-first_split : (n : List ℕ) (a b c d : List (List ℕ)) → ¬ (Contains a n) → ¬ (Contains c n) → a ++ (n ∷ b) ≡ c ++ (n ∷ d) → a ≡ c
+first_split : (n : List ℕ) (a b c d : List (List ℕ)) → AllByRecursion (λ y. ¬ (y ≡ n)) a → AllByRecursion (λ y. ¬ (y ≡ n)) c → a ++ (n ∷ b) ≡ c ++ (n ∷ d) → a ≡ c
 first_split n [] b [] d no_a no_c same = refl
-first_split n [] b (y ∷ c) d no_a no_c same = absurd (no_c (0, omega arith, cc))
-first_split n (x ∷ a) b [] d no_a no_c same = absurd (no_a (0, omega arith, cc))
-first_split n (x ∷ a) b (y ∷ c) d no_a no_c same =
-    let rest = first_split n a b c d (λ has. no_a (Contains-append_right (x ∷ []) a n has))
-    (λ has. no_c (Contains-append_right (y ∷ []) c n has)) (cc) in
-    cc
+first_split n [] b (y ∷ c) d no_a no_c same = absurd (no_c.0 (cc))
+first_split n (x ∷ a) b [] d no_a no_c same = absurd (no_a.0 (cc))
+first_split n (x ∷ a) b (y ∷ c) d no_a no_c same = let rest = first_split n a b c d no_a.1 no_c.1 (cc) in cc
 
 pub none_tried : (x n : List ℕ) → AllByRecursion (λ y. ¬ (y ≡ n)) (candidates x) → (names : List (List ℕ)) → AreTriedBefore x n names
 none_tried x n none names = record {
@@ -83,7 +69,10 @@ tried_at x n texts i b names all below at is none same =
     let before = map bstring_bytes (take i texts) in
     let after = map bstring_bytes (drop (suc i) texts) in
     let whole : candidates x ≡ before ++ (n ∷ after) = sym all ∙ map_split bstring_bytes texts i b below ∙ ap (λ y. before ++ (y ∷ after)) (ap bstring_bytes (sym at) ∙ is) in
-    record { some = λ earlier later here first. same ∙ first_split n before after earlier later (none_equal before n none) first (sym whole ∙ here) }
+    record {
+      some = λ earlier later here first. same ∙ first_split n before after earlier later none
+          (all_listed (λ y. ¬ (y ≡ n)) earlier (λ y there is. first (subst (Contains earlier) is there))) (sym whole ∙ here);
+    }
 
 module _ (old : List (List ℕ)) (others : List BString) (away : List (List ℕ)) (now : List BString) (b : BString) (so_far : AreAllowed old (map bstring_bytes others) away (map bstring_bytes now)) where
   abbrev n : List ℕ
@@ -113,8 +102,7 @@ module _ (old : List (List ℕ)) (others : List BString) (away : List (List ℕ)
   })
 
 pub does_told : {M P : Type 0} (b : Bool) → IsTrue b ↔ M → (M → P) → (P → M) → MatchBool b P (¬ P)
-does_told true told to from = to (told.0 refl)
-does_told false told to from = λ holds. false≢true (told.1 (from holds))
+does_told b told to from = grind (arith, told, to, from)
 
 -- ---- the refs that a spec prefers to a source, and beside which earlier specs don't take it
 
@@ -177,9 +165,7 @@ frees_next h s away names others new k c at preferred allowed so_far = record {
   allowed = λ n there. elim (allowed.only n there) [ inl old ↦ so_far.allowed n old | inr added ↦ added ];
   preferred = λ i e below here. elim (upto i k below) [
     | inl earlier ↦ let (list, are, has) = so_far.preferred i e earlier here in (list, are, λ n there valid free. allowed.has_old n (has n there valid free))
-    | inr same ↦
-        let one : c ≡ e = same_Some _ _ (sym at ∙ ap (slice_get h) (sym same) ∙ here) in
-        (others, subst (λ q. ArePreferred q s others) one preferred, allowed.has)
+    | inr same ↦ (others, rw (same_Some _ _ (sym here ∙ ap (slice_get h) same ∙ at)) preferred, allowed.has)
   ];
 }
 
@@ -191,14 +177,11 @@ freeing g h all k s away names c at preferred so_far = record {
   frees = frees;
 }
   where
-    same : (refs : List Ref) (d : Option (List ℕ)) (m : Maps g refs k s d) → m.completed ≡ c
-    same refs d m = one_completed g h all k c at m
-
     keeps : (refs : List Ref) (d : Option (List ℕ)) → Maps g refs k s d → Maps g (refs_with s names) k s d
     keeps refs d m =
-        let makes : MakesForward refs s d c = subst (MakesForward refs s d) (same refs d m) m.makes in
+        let makes = of_maps g h all k c at refs s d m in
         let absent = preferred.absent refs d makes in
-        maps_as m (subst (MakesForward (refs_with s names) s d) (sym (same refs d m)) (preferred.enough refs (refs_with s names) d makes
+        maps_as m (subst (MakesForward (refs_with s names) s d) (sym (one_completed g h all k c at m)) (preferred.enough refs (refs_with s names) d makes
         (λ n own. (named_in (refs_of s) (map ref_named names) n).1 (inl own))
         (all_listed (λ n. ¬ (HasName (refs_with s names) n)) away
         (λ n there has. elim ((named_in (refs_of s) (map ref_named names) n).0 has) [
@@ -208,7 +191,7 @@ freeing g h all k s away names c at preferred so_far = record {
 
     frees : (refs : List Ref) (i : ℕ) (d e : Option (List ℕ)) → AreValid refs → Maps g refs k s d → i < k → Maps g (refs_with s names) i s e → Maps g refs i s e
     frees refs i d e valid m below other =
-        let makes : MakesForward refs s d c = subst (MakesForward refs s d) (same refs d m) m.makes in
+        let makes = of_maps g h all k c at refs s d m in
         let (others, are, has) = so_far.preferred i other.completed below (zip_to g h all i other.reading other.completed other.at other.is) in
         let free = are.absent (refs_with s names) e other.makes in
         maps_as other (are.enough (refs_with s names) refs e other.makes (own_among refs s (made_there refs s d c makes))
@@ -222,14 +205,10 @@ frees_less h s away names j k fewer so_far = record { allowed = so_far.allowed; 
 -- ---- why a spec does nothing with a source, beside refs that free earlier specs
 
 same_words : (k : SideKind) (a b : Ref) (v w : Option (List ℕ)) → a.name ≡ b.name → ((bytes : List ℕ) → ¬ (k ≡ object bytes)) → MatchesAs k a v → MatchesAs k b w → v ≡ w
-same_words (pattern before after) a b None w same none of_a of_b = absurd of_a
-same_words (pattern before after) a b (Some v) None same none of_a of_b = absurd of_b
-same_words (pattern before after) a b (Some v) (Some w) same none of_a of_b = ap Some (one_word before after b.name v w (subst (λ n. Fits before after n v) same of_a) of_b)
-same_words (full_name n) a b v w same none of_a of_b = of_a.0 ∙ sym of_b.0
+same_words (pattern before after) a b (Some v) (Some w) same none of_a of_b = ap Some (one_word before after b.name v w (rw same at of_a) of_b)
 same_words (object bytes) a b v w same none of_a of_b = absurd (none bytes refl)
-same_words (partial n) a b v w same none of_a of_b = of_a.0 ∙ sym of_b.0
+same_words k a b v w same none of_a of_b = grind (arith, of_a, of_b)
 
--- a spec maps a source to one destination, whatever refs there are
 pub one_far : (A B : List Ref) (s : Source) (d e : Option (List ℕ)) (c : Reading) → MakesForward A s d c → MakesForward B s e c → d ≡ e
 one_far A B (id bytes) d e c one other = destination_once c None d e one.becomes other.becomes
 one_far A B (name n) d e c one other =
@@ -257,7 +236,6 @@ module _ (g cs : List Reading) (all : AllZip IsCompleted g cs) (k : ℕ) (c : Re
   abbrev refs : List Ref
   refs = refs_with s names
 
-  -- without a sound mapping there is none beside any refs
   pub explains_invalid : ((d : Option (List ℕ)) → ¬ (MakesSoundly items s d c)) → Explains g k s reason.Invalid
   explains_invalid none = λ others d m.
       let kept = freeing.keeps others d m.maps in

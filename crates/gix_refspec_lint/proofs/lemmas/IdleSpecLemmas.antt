@@ -1,26 +1,22 @@
 -- Why a spec does nothing, from what becomes of its mappings at the names that decide.
 use Rattle.gix_refspec_lint.proofs.Common.{candidates, candidate_contained, ◌≡◌, ◌≢◌, inl, inr, ℕ, ◌+◌, ◌<◌, option_to_list, take, List, [], ◌∷◌, ◌++◌, Option, None, Some, codes, length, map, get_or}
-use Rattle.gix_refspec_lint.proofs.Common.{append-nil, refl, sym, ap, ◌∙◌, subst, arith, AllByRecursion, AllZip, Contains, slice_get, same_Some, Ref, HasName, MatchesAs, Takes, SideKind, pattern}
+use Rattle.gix_refspec_lint.proofs.Common.{append-nil, refl, sym, ◌∙◌, subst, arith, AllByRecursion, AllZip, Contains, slice_get, same_Some, Ref, HasName, MatchesAs, SideKind, pattern}
 use Rattle.gix_refspec_lint.proofs.Common.{full_name, object, partial, HasKind, IsCandidate, IsAccepted, IsPositive, Reading, star, IsSplit, Lacks, reading_of, RefSpecRef, lacks_no_pattern, all_join}
-use Rattle.gix_refspec_lint.proofs.Common.{all_right, Lacks-here, first_once, IsMadeFrom, MakesOf, Source, name, id, IsSourceExcluded, some_element, made_more, IsPaired, MakesForward, IsCompleted}
-use Rattle.gix_refspec_lint.proofs.Common.{ref_named, AreIdle, AreValid, Fetches, IsFree, IsIdleBy, Maps, MapsSoundly, Unused, Explains, HasSourcePattern, IsAtWork, IsReasonOf, IsShown, IsWhy}
+use Rattle.gix_refspec_lint.proofs.Common.{all_right, Lacks-here, first_once, IsMadeFrom, MakesOf, Source, name, id, IsSourceExcluded, some_element, made_more, MakesForward, IsCompleted}
+use Rattle.gix_refspec_lint.proofs.Common.{ref_named, AreIdle, IsFree, IsIdleBy, Maps, MapsSoundly, Unused, Explains, HasSourcePattern, IsAtWork, IsReasonOf, IsShown, IsWhy}
 use Rattle.gix_refspec_lint.proofs.Common.{IsDeciding, IsLongerPrefix, IsLongerSuffix, IsMost, words_with, Reason, of_element}
 use Rattle.gix_refspec_lint.specs.declared.Reason.TheVariants as reason
-use Rattle.gix_refspec_lint.proofs.lemmas.ByteLemmas.{excluded_moved, fits_byte, lacks_refs, lacks_mid}
-use Rattle.gix_refspec_lint.proofs.lemmas.WordLemmas.{between}
+use Rattle.gix_refspec_lint.proofs.lemmas.{ByteLemmas.{excluded_moved, fits_byte, lacks_refs, lacks_mid}, WordLemmas.{between, within}}
 use Rattle.gix_refspec_lint.proofs.lemmas.PatternLemmas.{HasShape, pattern_spec, spec_made, spec_maps, PatternSpec}
-use Rattle.gix_refspec_lint.proofs.lemmas.MovedLemmas.{lacks_destination, lacks_parts, lacks_source}
-use Rattle.gix_refspec_lint.proofs.lemmas.DecideLemmas.{Decided, IsMovedFar, decide}
-use Rattle.gix_refspec_lint.proofs.lemmas.LeftOutLemmas.{made_completed}
-use Rattle.gix_refspec_lint.proofs.lemmas.IndexLemmas.{zip_to, reading_at, of_maps, accepted_of, one_completed, maps_as}
+use Rattle.gix_refspec_lint.proofs.lemmas.{MovedLemmas.{lacks_destination, lacks_parts, lacks_source}, DecideLemmas.{Decided, IsMovedFar}}
+use Rattle.gix_refspec_lint.proofs.lemmas.{DecideLemmas.decide, LeftOutLemmas.made_completed, IndexLemmas.{zip_to, reading_at, of_maps}}
+use Rattle.gix_refspec_lint.proofs.lemmas.IndexLemmas.{accepted_of, one_completed, maps_as}
 
--- what explains each source is the reason
 pub idle_by : (g : List Reading) (k : ℕ) (r : Reason) → ((s : Source) → Explains g k s r) → IsShown g k r → IsIdleBy g k r
 idle_by g k reason.Invalid explains shown = λ refs s d. explains s refs d
 idle_by g k (reason.Excluded n) explains shown = ((λ refs s d. explains s refs d), shown)
 idle_by g k (reason.Duplicate h) explains shown = ((λ refs s d. explains s refs d), shown)
 
--- a source that the spec never maps is explained
 pub explains_if : (g : List Reading) (k : ℕ) (s : Source) (r : Reason) → ((refs : List Ref) (d : Option (List ℕ)) → Maps g refs k s d → Explains g k s r) → Explains g k s r
 explains_if g k s reason.Invalid why = λ refs d m. why refs d m.maps refs d m
 explains_if g k s (reason.Excluded n) why = λ refs d f. why refs d f.maps.maps refs d f
@@ -69,22 +65,16 @@ module _ (z : ℕ) (g : List Reading) (free : IsFree g z) where
 
   -- so only a pattern takes it
   pattern_takes : (refs : List Ref) (front back : List ℕ) (d : Option (List ℕ)) (c : Reading) (makes : MakesForward refs (name (front ++ (z ∷ back))) d c) → Lacks z makes.ends.near → (p : List ℕ) × (t : List ℕ) × IsSplit p t makes.ends.near
-  pattern_takes refs front back d c makes lacks = by_kind paired.takes.matches.kind paired.takes.matches.of paired.takes.matches.is
+  pattern_takes refs front back d c makes lacks = by_kind makes.one.4.takes.matches.kind makes.one.4.takes.matches.of makes.one.4.takes.matches.is
     where
-      item : Ref
-      item = makes.one.1
+      with_byte : ¬ (Lacks z makes.one.1.name)
+      with_byte none = Lacks-here z front back (subst (Lacks z) makes.one.4.name none)
 
-      paired : IsPaired (Takes refs) makes.ends (front ++ (z ∷ back)) d item
-      paired = makes.one.4
-
-      with_byte : ¬ (Lacks z item.name)
-      with_byte none = Lacks-here z front back (subst (Lacks z) paired.name none)
-
-      by_kind : (kind : SideKind) → HasKind makes.ends.near kind → MatchesAs kind item paired.word → (p : List ℕ) × (t : List ℕ) × IsSplit p t makes.ends.near
+      by_kind : (kind : SideKind) → HasKind makes.ends.near kind → MatchesAs kind makes.one.1 makes.one.4.word → (p : List ℕ) × (t : List ℕ) × IsSplit p t makes.ends.near
       by_kind (pattern p t) of holds = (p, t, of)
       by_kind (full_name n) of holds = absurd (with_byte (subst (Lacks z) (sym (holds.1 ∙ of.0)) lacks))
       by_kind (object bytes) of holds = absurd (makes.has.no_object bytes of)
-      by_kind (partial n) of holds = absurd (with_byte (candidate_lacks n item.name (subst (Lacks z) (sym of.0) lacks) holds.1))
+      by_kind (partial n) of holds = absurd (with_byte (candidate_lacks n makes.one.1.name (subst (Lacks z) (sym of.0) lacks) holds.1))
 
   -- and takes each word in place of the byte
   module _ (cs : List RefSpecRef) (all : AllZip IsCompleted g (map reading_of cs)) (few refs : List Ref) (h : ℕ) (front back word : List ℕ) (d e : Option (List ℕ)) (k : Reading) (prefix : List ℕ)
@@ -102,26 +92,23 @@ module _ (z : ℕ) (g : List Reading) (free : IsFree g z) where
         let (w, source, is_far, own) = spec_made maps.completed p t spec few (front ++ (z ∷ back)) e maps.makes in
         let sides = lacks_parts g z free maps.makes.ends.near p t near_lacks split in
         let (u, v, before, after, word_is) = fits_byte z free.usable p t front back w sides.0 sides.1 source in
-        let whole : front ++ (word ++ back) ≡ p ++ ((u ++ (word ++ v)) ++ t) = ap (λ x. x ++ (word ++ back)) before ∙ ap (λ x. (p ++ u) ++ (word ++ x)) after ∙ between p u word v t in
-        maps_as maps (subst (λ o. MakesForward refs (name (front ++ (word ++ back))) o maps.completed) (destination spec.shape u v w before word_is is_far)
+        let whole : front ++ (word ++ back) ≡ p ++ ((u ++ (word ++ v)) ++ t) = within p t front back u v word before after in
+        maps_as maps (subst (λ o. MakesForward refs (name (front ++ (word ++ back))) o maps.completed) (destination spec.shape far u v w before word_is is_far)
         (subst (λ n. MakesForward refs (name n) (spec.far (u ++ (word ++ v))) maps.completed) (sym whole) (spec_maps maps.completed p t spec refs (u ++ (word ++ v)) (subst (HasName refs) whole there))))
       where
-        destination : {far_of : List ℕ → Option (List ℕ)} → HasShape maps.completed far_of → (u v w : List ℕ) → front ≡ p ++ u → w ≡ u ++ (z ∷ v) → e ≡ far_of w → far_of (u ++ (word ++ v)) ≡ d
-        destination {far_of} (inl none) u v w before word_is is_far = elim far [
-          | inl (no_d, no_e) ↦ none (u ++ (word ++ v)) ∙ sym no_d
-          | inr (f, l, some_d, some_e, lacks) ↦ let both : None ≡ Some (f ++ (z ∷ l)) = sym (none w) ∙ sym is_far ∙ some_e in absurd (cc (both))
-        ]
-        destination {far_of} (inr one) u v w before word_is is_far = elim far [
-          | inl (no_d, no_e) ↦ let both : Some (one.before ++ (w ++ one.after)) ≡ None = sym (one.is w) ∙ sym is_far ∙ no_e in absurd (cc (both))
-          | inr (f, l, some_d, some_e, lacks) ↦
-              let same : one.before ++ (w ++ one.after) ≡ f ++ (z ∷ l) = same_Some _ _ (sym (one.is w) ∙ sym is_far ∙ some_e) in
-              let split_byte : (one.before ++ u) ++ (z ∷ (v ++ one.after)) ≡ f ++ (z ∷ l) = between one.before u (z ∷ []) v one.after ∙ ap (λ x. one.before ++ (x ++ one.after)) (sym word_is) ∙ same in
-              let side = lacks_destination g z free h maps.reading maps.completed one.side one.before one.after maps.at maps.is one.has one.split in
-              let texts = lacks_parts g z free one.side one.before one.after side one.split in
-              let lacks_u : Lacks z u = all_right (λ c. c ≢ z) p u (subst (Lacks z) before lacks_front) in
-              let both = first_once z (one.before ++ u) f (v ++ one.after) l (all_join (λ c. c ≢ z) one.before u texts.0 lacks_u) (lacks lacks_prefix lacks_far) split_byte in
-              one.is (u ++ (word ++ v)) ∙ ap Some (sym (between one.before u word v one.after) ∙ ap (λ x. x ++ (word ++ (v ++ one.after))) both.0 ∙ ap (λ x. f ++ (word ++ x)) both.1) ∙ sym some_d
-        ]
+        destination : {far_of : List ℕ → Option (List ℕ)} → HasShape maps.completed far_of → IsMovedFar z k prefix word d e → (u v w : List ℕ) → front ≡ p ++ u → w ≡ u ++ (z ∷ v) → e ≡ far_of w → far_of (u ++ (word ++ v)) ≡ d
+        destination (inl none) (inl (no_d, no_e)) u v w before word_is is_far = none (u ++ (word ++ v)) ∙ sym no_d
+        destination (inl none) (inr (f, l, some_d, some_e, lacks)) u v w before word_is is_far = absurd (cc (none w))
+        destination (inr one) (inl (no_d, no_e)) u v w before word_is is_far = absurd (cc (one.is w))
+        destination (inr one) (inr (f, l, some_d, some_e, lacks)) u v w before word_is is_far =
+            let same : one.before ++ (w ++ one.after) ≡ f ++ (z ∷ l) = same_Some _ _ (sym (one.is w) ∙ sym is_far ∙ some_e) in
+            let split_byte : (one.before ++ u) ++ (z ∷ (v ++ one.after)) ≡ f ++ (z ∷ l) = between one.before u (z ∷ []) v one.after ∙ rw word_is at same in
+            let side = lacks_destination g z free h maps.reading maps.completed one.side one.before one.after maps.at maps.is one.has one.split in
+            let texts = lacks_parts g z free one.side one.before one.after side one.split in
+            let lacks_u : Lacks z u = all_right (λ c. c ≢ z) p u (subst (Lacks z) before lacks_front) in
+            let both = first_once z (one.before ++ u) f (v ++ one.after) l (all_join (λ c. c ≢ z) one.before u texts.0 lacks_u) (lacks lacks_prefix lacks_far) split_byte in
+            let moved = between one.before u word v one.after in
+            cc (one.is (u ++ (word ++ v)), both.0, both.1, moved, some_d)
 
     pub maps_back : Maps g refs h (name (front ++ (word ++ back))) d
     maps_back = let (p, t, split) = pattern_takes few front back e maps.completed maps.makes near_lacks in moved_back p t split
@@ -138,9 +125,6 @@ module _ (z : ℕ) (g : List Reading) (free : IsFree g z) where
     ends : IsLongerSuffix t t t
     ends = record { one = record { before = []; here = refl }; other = record { before = []; here = refl }; is = inl refl }
 
-    same_reading : (refs : List Ref) (s : Source) (d : Option (List ℕ)) (m : Maps g refs k s d) → m.completed ≡ c
-    same_reading refs s d m = one_completed g (map reading_of cs) all k c at m
-
     spec : PatternSpec c p t
     spec = pattern_spec c p t (accepted_of cs k c at) positive source
 
@@ -151,21 +135,20 @@ module _ (z : ℕ) (g : List Reading) (free : IsFree g z) where
 
     found : (refs : List Ref) (n : List ℕ) (d : Option (List ℕ)) → MapsSoundly g refs k (name n) d → Found refs n d
     found refs n d m =
-        let same = same_reading refs (name n) d m.maps in
-        let makes : MakesForward refs (name n) d c = subst (MakesForward refs (name n) d) same m.maps.makes in
+        let makes = of_maps g (map reading_of cs) all k c at refs (name n) d m.maps in
         let (v, fits, far, there) = spec_made c p t spec refs n d makes in
         let decided = decide g z free c p t spec p t p t 0 begins ends alone refs n d v fits (record { makes = makes; source = m.source; destination = m.destination }) in
         record {
           decided = decided;
           maps = λ few has.
               let sound = decided.sound few has in
-              record { maps = maps_as m.maps (subst (MakesForward few (name decided.source) decided.destination) (sym same) sound.makes); source = sound.source; destination = sound.destination };
+              record { maps = maps_as m.maps (subst (MakesForward few (name decided.source) decided.destination) (sym (one_completed g (map reading_of cs) all k c at m.maps)) sound.makes); source = sound.source; destination = sound.destination };
         }
 
     -- no spec excludes it, if none excludes the source
     included_there : (n : List ℕ) (d : Option (List ℕ)) (q : Decided z c p t p t 0 n d) → ¬ (IsSourceExcluded g (name n)) → ¬ (IsSourceExcluded g (name q.source))
     included_there n d q none by = elim q.moved [
-      | inl (same, also) ↦ none (subst (λ x. IsSourceExcluded g (name x)) same by)
+      | inl (same, also) ↦ none (rw same at by)
       | inr moved ↦ none (subst (λ x. IsSourceExcluded g (name x)) (sym moved.was) (excluded_moved z free.usable g moved.front moved.word moved.back free.lacks (subst (λ x. IsSourceExcluded g (name x)) moved.is by)))
     ]
 
@@ -179,27 +162,24 @@ module _ (z : ℕ) (g : List Reading) (free : IsFree g z) where
     named (reason.Excluded j) decides n = λ refs d f.
         let q = found refs n d f.maps in
         decides q.decided.source q.decided.deciding (ref_named q.decided.source ∷ []) q.decided.destination (record { maps = q.maps (ref_named q.decided.source ∷ []) (inl refl); included = included_there n d q.decided f.included })
-    named (reason.Duplicate j) decides n = λ refs d valid f. earlier refs d valid f (found refs n d f.maps)
-      where
-        earlier : (refs : List Ref) (d : Option (List ℕ)) → AreValid refs → Fetches g refs k (name n) d → Found refs n d → (i : ℕ) × (i < k) × Maps g refs i (name n) d
-        earlier refs d valid f q = elim q.decided.moved [
-          | inl (same, also) ↦ subst (λ x. Explains g k (name x) (reason.Duplicate j)) same (decides q.decided.source q.decided.deciding) refs d valid f
-          | inr moved ↦
-              let few = ref_named q.decided.source ∷ [] in
-              let sound = q.maps few (inl refl) in
-              let (i, below, maps) = decides q.decided.source q.decided.deciding few q.decided.destination (sound.source, tt) (record { maps = sound; included = included_there n d q.decided f.included }) in
-              let r = f.maps.maps.reading in
-              let same = same_reading refs (name n) d f.maps.maps in
-              let done : IsCompleted r c = subst (IsCompleted r) same f.maps.maps.is in
-              let prefix = lacks_prefix r f.maps.maps.at done in
-              let present = (spec_made c p t spec refs n d (subst (MakesForward refs (name n) d) same f.maps.maps.makes)).3 in (
-                i,
-                below,
-                subst (λ x. Maps g refs i (name x) d) (sym moved.was)
-                    (maps_back cs all few refs i moved.front moved.back moved.word d q.decided.destination c p (subst (λ x. Maps g few i (name x) q.decided.destination) moved.is maps) (subst (HasName refs) moved.was present)
-                    (moved.lacks prefix) prefix moved.far (λ x a b has split. lacks_destination g z free k r c x a b f.maps.maps.at done has split)),
-              )
-        ]
+    named (reason.Duplicate j) decides n = λ refs d valid f. let q = found refs n d f.maps in elim q.decided.moved [
+      | inl (same, also) ↦ subst (λ x. Explains g k (name x) (reason.Duplicate j)) same (decides q.decided.source q.decided.deciding) refs d valid f
+      | inr moved ↦
+          let few = ref_named q.decided.source ∷ [] in
+          let sound = q.maps few (inl refl) in
+          let (i, below, maps) = decides q.decided.source q.decided.deciding few q.decided.destination (sound.source, tt) (record { maps = sound; included = included_there n d q.decided f.included }) in
+          let r = f.maps.maps.reading in
+          let same = one_completed g (map reading_of cs) all k c at f.maps.maps in
+          let done : IsCompleted r c = subst (IsCompleted r) same f.maps.maps.is in
+          let prefix = lacks_prefix r f.maps.maps.at done in
+          let present = (spec_made c p t spec refs n d (subst (MakesForward refs (name n) d) same f.maps.maps.makes)).3 in (
+            i,
+            below,
+            subst (λ x. Maps g refs i (name x) d) (sym moved.was)
+                (maps_back cs all few refs i moved.front moved.back moved.word d q.decided.destination c p (subst (λ x. Maps g few i (name x) q.decided.destination) moved.is maps) (subst (HasName refs) moved.was present)
+                (moved.lacks prefix) prefix moved.far (λ x a b has split. lacks_destination g z free k r c x a b f.maps.maps.at done has split)),
+          )
+    ]
 
     -- what explains the names with the words explains all
     pub words_explain : (r : Reason) → AllByRecursion (λ w. Explains g k (name (p ++ (w ++ t))) r) (words_with z) → (s : Source) → Explains g k s r
@@ -209,17 +189,15 @@ module _ (z : ℕ) (g : List Reading) (free : IsFree g z) where
         by_word n (inl (w, there, is)) = subst (λ x. Explains g k (name x) r) (sym is) (of_element (λ w. Explains g k (name (p ++ (w ++ t))) r) (words_with z) w explained there)
         by_word n (inr (l, none, overlap, is)) = absurd (omega (arith, none, overlap.some))
     words_explain r explained (id bytes) = explains_if g k (id bytes) r (λ refs d m.
-        let makes : MakesForward refs (id bytes) d c = subst (MakesForward refs (id bytes) d) (same_reading refs (id bytes) d m) m.makes in
+        let makes = of_maps g (map reading_of cs) all k c at refs (id bytes) d m in
         let near : makes.text ≡ source.text = same_Some _ _ (sym makes.side ∙ source.has) in
         absurd (lacks_no_pattern source.text p t (subst (Lacks star) near makes.object.0) source.split))
 
--- what is explained at each source that the spec may map is at all
 pub sources_explain : (g : List Reading) (cs : List RefSpecRef) (all : AllZip IsCompleted g (map reading_of cs)) (k : ℕ) (e : Reading) → slice_get (map reading_of cs) k ≡ Some e → (sources : List Source)
     → ((refs : List Ref) (s : Source) (d : Option (List ℕ)) → MakesForward refs s d e → Contains sources s) → (r : Reason) → AllByRecursion (λ s. Explains g k s r) sources → (s : Source) → Explains g k s r
 sources_explain g cs all k e also sources has r explained s = explains_if g k s r (λ refs d m.
     of_element (λ t. Explains g k t r) sources s explained (has refs s d (of_maps g (map reading_of cs) all k e also refs s d m)))
 
--- the idle ones of the completed specs are those of the specs
 pub idle_of : (g h : List Reading) (idle : List Unused) → AllZip IsCompleted g h → IsMadeFrom (λ k c u. (u.spec ≡ k) × IsPositive c.mode × IsIdleBy g k u.reason) 0 h idle → AreIdle g idle
 idle_of g h idle all made =
     made_completed (λ k c u. (u.spec ≡ k) × IsPositive c.mode × IsIdleBy g k u.reason)

@@ -5,11 +5,9 @@ use Rattle.gix_refspec_lint.proofs.Common.{slice_get-map, slice_get-get_or, Read
 use Rattle.gix_refspec_lint.proofs.Common.{MakesForward, IsCompleted, zip_at, zip_long, reading_once, all_accepted, Maps, ◌++◌, ◌⊎◌, HasName, IsFirstCandidate, Takes, all_weaker, IsPaired}
 use Rattle.gix_refspec_lint.proofs.Common.{matches_by_name, named_some, some_named, ConflictsShown, ConflictOver, Fetches, refs_of, HasKind, partial}
 
--- what holds of some element holds of one at an index
 pub any_at : {X : Type 0} (P : X → Type 0) (xs : List X) → Any P xs → (k : ℕ) × (x : X) × (slice_get xs k ≡ Some x) × P x
 any_at P xs (k, x, below, is, holds) = (k, x, slice_get_read xs (length xs) k x refl below (sym is), holds)
 
--- what holds of each element that is in a list
 pub all_listed : {X : Type 0} (P : X → Type 0) (xs : List X) → ((x : X) → Contains xs x → P x) → AllByRecursion P xs
 all_listed P xs each = recursion_from_All P xs (λ k d below. each (get_or xs k d) (Contains-get_or xs k d below))
 
@@ -19,7 +17,6 @@ reading_at cs k x below = slice_get-map reading_of cs k ∙ ap (option_map readi
 pub accepted_of : (cs : List RefSpecRef) (k : ℕ) (c : Reading) → slice_get (map reading_of cs) k ≡ Some c → ∥ IsAccepted c ∥₁
 accepted_of cs k c at = all_at (λ r. ∥ IsAccepted r ∥₁) (map reading_of cs) k c (all_accepted cs) at
 
--- a reading at an index that excludes the name
 pub excluded_at : (g : List Reading) (k : ℕ) (r : Reading) (n : List ℕ) → slice_get g k ≡ Some r → IsExcludedBy n r → IsExcluded g n
 excluded_at [] k r n is by = absurd (cc (is))
 excluded_at (q ∷ g) zero r n is by = inl (subst (IsExcludedBy n) (sym (same_Some _ _ is)) by)
@@ -30,7 +27,6 @@ by_index [] n none = absurd none
 by_index (r ∷ g) n (inl by) = (zero, r, refl, by)
 by_index (r ∷ g) n (inr later) = let (k, q, at, by) = by_index g n later in (suc k, q, at, by)
 
--- a completed negative spec excludes the same
 pub excluded_same : (r c : Reading) (n : List ℕ) → IsCompleted r c → IsExcludedBy n r → IsExcludedBy n c
 excluded_same r c n done by = record { negative = done.mode ∙ by.negative; text = by.text; source = done.source ∙ by.source; excludes = by.excludes }
 
@@ -63,7 +59,6 @@ module _ (g h : List Reading) (all : AllZip IsCompleted g h) where
   still_excluded (id bytes) none = none
 
   module _ (k : ℕ) (c : Reading) (at : slice_get h k ≡ Some c) where
-    -- what a spec maps, its completed reading makes
     pub maps_of : (refs : List Ref) (s : Source) (d : Option (List ℕ)) → MakesForward refs s d c → Maps g refs k s d
     maps_of refs s d makes = let (r, here, done) = zip_of k c at in record { reading = r; at = here; completed = c; is = done; makes = makes }
 
@@ -75,11 +70,9 @@ module _ (g h : List Reading) (all : AllZip IsCompleted g h) where
 
 -- ---- what a spec maps over some refs, it maps over fewer that have the source
 
--- each name of the first list is in the second
 abbrev pub AreAmong : List Ref → List Ref → Type 0
 AreAmong few refs = (n : List ℕ) → HasName few n → HasName refs n
 
--- the source is a name that refs have, or it is an id
 abbrev pub IsThere : List Ref → Source → Type 0
 IsThere refs (name n) = HasName refs n
 IsThere refs (id bytes) = Unit {0}
@@ -134,13 +127,9 @@ pub own_there : (s : Source) → IsThere (refs_of s) s
 own_there (name n) = inl refl
 own_there (id bytes) = tt
 
-there_left : (xs ys : List Ref) (s : Source) → IsThere xs s → IsThere (xs ++ ys) s
-there_left xs ys (name n) there = (named_in xs ys n).1 (inl there)
-there_left xs ys (id bytes) there = tt
-
-there_right : (xs ys : List Ref) (s : Source) → IsThere ys s → IsThere (xs ++ ys) s
-there_right xs ys (name n) there = (named_in xs ys n).1 (inr there)
-there_right xs ys (id bytes) there = tt
+there_more : (few refs : List Ref) (s : Source) → AreAmong few refs → IsThere few s → IsThere refs s
+there_more few refs (name n) among there = among n there
+there_more few refs (id bytes) among there = tt
 
 fetches_fewer : (g : List Reading) (refs few : List Ref) (k : ℕ) (s : Source) (d : Option (List ℕ)) → AreAmong few refs → IsThere few s → Fetches g refs k s d → Fetches g few k s d
 fetches_fewer g refs few k s d among present f = record {
@@ -156,8 +145,8 @@ conflict_of_two g refs i j s t d c =
     let among : AreAmong (refs_of s ++ refs_of t) refs = λ m has. elim
     ((named_in (refs_of s) (refs_of t) m).0 has) [ inl one ↦ own_among refs s there m one | inr other ↦ own_among refs t also m other ] in
     record {
-      one = fetches_fewer g refs (refs_of s ++ refs_of t) i s (Some d) among (there_left (refs_of s) (refs_of t) s (own_there s)) c.one;
-      other = fetches_fewer g refs (refs_of s ++ refs_of t) j t (Some d) among (there_right (refs_of s) (refs_of t) t (own_there t)) c.other;
+      one = fetches_fewer g refs (refs_of s ++ refs_of t) i s (Some d) among (there_more (refs_of s) _ s (λ m has. (named_in (refs_of s) (refs_of t) m).1 (inl has)) (own_there s)) c.one;
+      other = fetches_fewer g refs (refs_of s ++ refs_of t) j t (Some d) among (there_more (refs_of t) _ t (λ m has. (named_in (refs_of s) (refs_of t) m).1 (inr has)) (own_there t)) c.other;
       differ = c.differ;
     }
 

@@ -1,17 +1,15 @@
 -- Negative specs that exclude nothing.
-use Rattle.gix_refspec_lint.proofs.Common.{each_made, cases_eq, ◌≡◌, inl, inr, ℕ, ◌+◌, ◌<◌, ◌≤◌, Bool, true, false, MatchBool, not, drop, take, List, [], ◌∷◌, ◌++◌, Option, None, Some, length, map}
-use Rattle.gix_refspec_lint.proofs.Common.{option_to_list, get_or, refl, sym, ap, ◌∙◌, subst, AllByRecursion, AllZip, Any, slice_get, Excludes, Fits, by_pattern, the_name, IsAccepted, Reading}
+use Rattle.gix_refspec_lint.proofs.Common.{CanBeWritten, each_made, cases_eq, ◌≡◌, inl, inr, ℕ, ◌+◌, ◌<◌, ◌≤◌, Bool, true, false, MatchBool, not, drop, take, List, [], ◌∷◌, ◌++◌, Option, None, Some, length, map}
+use Rattle.gix_refspec_lint.proofs.Common.{option_to_list, get_or, refl, sym, ap, ◌∙◌, subst, AllByRecursion, AllZip, Any, slice_get, Fits, by_pattern, IsAccepted, Reading}
 use Rattle.gix_refspec_lint.proofs.Common.{Negative, IsSplit, IsMadeFrom, MakesOf, Source, name, id, IsExcludedBy, IsSourceExcluded, made_more, some_at, IsCompleted, ref_named, same_excluded, IsFree}
 use Rattle.gix_refspec_lint.proofs.Common.{IsIdleExclusion, ExcludesFrom, ExcludesSome, HasSourcePattern, ShareSources, IsDeciding, words_with, IsOverlap, Common, of_element, ◌≢◌, zero, suc, arith}
 use Rattle.gix_refspec_lint.proofs.Common.{Contains, same_Some, Ref, IsPositive, Mapped, IsExcluded, MakesForward, IsValidSource, kept_exactly, IsSound, IdleExclusionLeftOut, IdleLeftOut, AreValid}
-use Rattle.gix_refspec_lint.proofs.Common.{Fetches, IsIdleBy, MapsSoundly, Reason}
+use Rattle.gix_refspec_lint.proofs.Common.{Fetches, IsIdleBy, Reason}
 use Rattle.gix_refspec_lint.specs.Laws.Lint.{without}
 use Rattle.gix_refspec_lint.specs.declared.Reason.TheVariants as reason
-use Rattle.gix_refspec_lint.proofs.lemmas.RunLemmas.{each_deciding}
-use Rattle.gix_refspec_lint.proofs.lemmas.PatternLemmas.{pattern_spec, spec_made}
-use Rattle.gix_refspec_lint.proofs.lemmas.DecideLemmas.{decide}
-use Rattle.gix_refspec_lint.proofs.lemmas.OneSpecLemmas.{excludes_by, text_excludes, fits_excluded}
-use Rattle.gix_refspec_lint.proofs.lemmas.IndexLemmas.{maps_of, excluded_same, zip_to, any_at, excluded_at, zip_of, still_excluded, completed_at, by_index}
+use Rattle.gix_refspec_lint.proofs.lemmas.{RunLemmas.each_deciding, PatternLemmas.{pattern_spec, spec_made}, DecideLemmas.decide}
+use Rattle.gix_refspec_lint.proofs.lemmas.{OneSpecLemmas.{makes_positive, own_name, excludes_by, text_excludes, fits_excluded}, IndexLemmas.{maps_of, excluded_same}}
+use Rattle.gix_refspec_lint.proofs.lemmas.IndexLemmas.{zip_to, any_at, excluded_at, zip_of, still_excluded, completed_at, by_index}
 
 -- what is excluded and mapped is so at a name that decides
 pub none_shared : (g : List Reading) (z : ℕ) (free : IsFree g z) (negative c : Reading) (common : Common) → negative.mode ≡ Negative → ∥ IsAccepted c ∥₁ → ShareSources negative c common
@@ -45,15 +43,10 @@ pub plain_only : (negative c : Reading) (x : List ℕ) (b : Bool) → negative.m
 plain_only negative c x true is has none e = (name x, e)
 plain_only negative c x false is has none not_x = λ (s, e). some s e
   where
-    named : (m : List ℕ) → Excludes x m → m ≡ x
-    named m (the_name lacks same) = same
-    named m (by_pattern before after w split fits) = absurd (none x before after has split)
-
     some : (s : Source) → ¬ (ExcludesFrom negative c s)
     some (id bytes) e = e.excludes
-    some (name m) e = not_x (subst (λ n. ExcludesFrom negative c (name n)) (named m (text_excludes negative x is has m e.excludes)) e)
+    some (name m) e = not_x (subst (λ n. ExcludesFrom negative c (name n)) (sym (own_name x m (λ before after. none x before after has) (text_excludes negative x is has m e.excludes))) e)
 
--- nothing where no name fits both patterns
 pub none_apart : (negative c : Reading) (a b p t : List ℕ) → negative.mode ≡ Negative → ∥ IsAccepted c ∥₁ → HasSourcePattern negative a b → HasSourcePattern c p t → ((n v w : List ℕ) → Fits a b n v → Fits p t n w → ⊥) → ¬ (ExcludesSome negative c)
 none_apart negative c a b p t is accepted one other apart (id bytes, e) = e.excludes
 none_apart negative c a b p t is accepted one other apart (name m, e) =
@@ -67,7 +60,6 @@ module _ (g h : List Reading) (all : AllZip IsCompleted g h) (negative : Reading
   excluded_one n (inl by) = by
   excluded_one n (inr none) = absurd none
 
-  -- a negative spec that excludes something isn't idle
   pub some_excluded : Any (ExcludesSome negative) h → ¬ (IsIdleExclusion g negative)
   some_excluded any idle = by_source (any_at (ExcludesSome negative) h any)
     where
@@ -85,7 +77,6 @@ module _ (g h : List Reading) (all : AllZip IsCompleted g h) (negative : Reading
         (name n, record { refs = refs; destination = d; makes = record { makes = maps.maps.makes; source = maps.source; destination = maps.destination }; excludes = inl by }));
   }
 
--- what is made of the completed specs is made of the specs
 pub made_completed : {Y : Type 0} (R : ℕ → Reading → Y → Type 0) → ((k : ℕ) (r c : Reading) (y : Y) → IsCompleted r c → R k r y → R k c y) → ((k : ℕ) (r c : Reading) (y : Y) → IsCompleted r c → R k c y → R k r y)
     → (g h : List Reading) (k : ℕ) (ys : List Y) → AllZip IsCompleted g h → IsMadeFrom R k h ys → IsMadeFrom R k g ys
 made_completed R to from [] [] k ys all made = made
@@ -97,7 +88,6 @@ made_completed {Y} R to from (r ∷ g) (c ∷ h) k ys all (one, rest, of, more, 
     by None none = λ y has. none y (to k r c y all.0 has)
     by (Some y) has = from k r c y all.0 has
 
--- as the idle negative specs are
 pub idle_completed : (g h : List Reading) (idle : List ℕ) → AllZip IsCompleted g h → IsMadeFrom (λ k c made. (made ≡ k) × IsIdleExclusion g c) 0 h idle → IsMadeFrom (λ k r made. (made ≡ k) × IsIdleExclusion g r) 0 g idle
 idle_completed g h idle all made =
     made_completed (λ k r made. (made ≡ k) × IsIdleExclusion g r)
@@ -118,7 +108,6 @@ idle_told g h all c is false none = none_excluded g h all c is none
 later_any : (P : Reading → Type 0) (x : Reading) (l : List Reading) → Any P l → Any P (x ∷ l)
 later_any P x l (k, y, below, is, holds) = (suc k, y, omega (arith, below), is, holds)
 
--- what is elsewhere stays
 stays_any : (P : Reading → Type 0) (l : List Reading) (k j : ℕ) (x : Reading) → j ≢ k → slice_get l j ≡ Some x → P x → Any P (without k l)
 stays_any P [] k j x other at holds = absurd (cc (at))
 stays_any P (y ∷ l) zero zero x other at holds = absurd (other refl)
@@ -126,7 +115,6 @@ stays_any P (y ∷ l) zero (suc j) x other at holds = some_at P l j x at holds
 stays_any P (y ∷ l) (suc k) zero x other at holds = (zero, x, omega arith, same_Some _ _ at, holds)
 stays_any P (y ∷ l) (suc k) (suc j) x other at holds = later_any P y (without k l) (stays_any P l k j x (λ same. other (ap suc same)) at holds)
 
--- and nothing is added
 was_any : (P : Reading → Type 0) (l : List Reading) (k : ℕ) → Any P (without k l) → Any P l
 was_any P [] k any = any
 was_any P (y ∷ l) zero any = later_any P y l any
@@ -136,9 +124,18 @@ was_any P (y ∷ l) (suc k) (suc j, x, below, is, holds) = later_any P y l (was_
 excluded_any : (l : List Reading) (n : List ℕ) → Any (IsExcludedBy n) l → IsExcluded l n
 excluded_any l n any = let (k, r, at, by) = any_at (IsExcludedBy n) l any in excluded_at l k r n at by
 
+any_excluded : (l : List Reading) (n : List ℕ) → IsExcluded l n → Any (IsExcludedBy n) l
+any_excluded l n by = let (j, r, at, of) = by_index l n by in some_at (IsExcludedBy n) l j r at of
+
 was_source : (l : List Reading) (k : ℕ) (s : Source) → IsSourceExcluded (without k l) s → IsSourceExcluded l s
-was_source l k (name n) by = let (j, r, at, of) = by_index (without k l) n by in excluded_any l n (was_any (IsExcludedBy n) l k (some_at (IsExcludedBy n) (without k l) j r at of))
+was_source l k (name n) by = excluded_any l n (was_any (IsExcludedBy n) l k (any_excluded (without k l) n by))
 was_source l k (id bytes) none = none
+
+-- what isn't only at index k is elsewhere
+elsewhere : (P : Reading → Type 0) (l : List Reading) (k : ℕ) → ((x : Reading) → slice_get l k ≡ Some x → P x → Any P (without k l)) → Any P l → Any P (without k l)
+elsewhere P l k there any =
+    let (j, x, at, holds) = any_at P l any in
+    elim (cases_eq j k) [ inr other ↦ stays_any P l k j x other at holds | inl same ↦ there x (rw same at at) holds ]
 
 -- a positive spec excludes nothing
 stays_source : (l : List Reading) (k : ℕ) (c : Reading) (s : Source) → slice_get l k ≡ Some c → IsPositive c.mode → IsSourceExcluded l s → IsSourceExcluded (without k l) s
@@ -163,15 +160,9 @@ module _ (g h : List Reading) (all : AllZip IsCompleted g h) (refs : List Ref) (
       stays_any (MakesForward refs s d) h k j m.completed (λ same. omega (arith, same, below)) (zip_to g h all j m.reading m.completed m.at m.is) m.makes
 
   still_made : (r : Reason) → IsIdleBy g k r → (m : Mapped) → IsSound m → ¬ (IsSourceExcluded h m.source) → Any (MakesForward refs m.source m.destination) h → Any (MakesForward refs m.source m.destination) (without k h)
-  still_made r idle m sound included any = by (any_at (MakesForward refs m.source m.destination) h any)
-    where
-      by : (j : ℕ) × (c : Reading) × (slice_get h j ≡ Some c) × MakesForward refs m.source m.destination c → Any (MakesForward refs m.source m.destination) (without k h)
-      by (j, c, at, makes) = elim (cases_eq j k) [
-        | inr other ↦ stays_any (MakesForward refs m.source m.destination) h k j c other at makes
-        | inl same ↦
-            let maps = maps_of g h all k c (subst (λ i. slice_get h i ≡ Some c) same at) refs m.source m.destination makes in
-            earlier r idle m.source m.destination (record { maps = record { maps = maps; source = sound.source; destination = sound.destination }; included = λ by. included (still_excluded g h all m.source by) })
-      ]
+  still_made r idle m sound included any = elsewhere (MakesForward refs m.source m.destination) h k (λ c at makes.
+      let maps = maps_of g h all k c at refs m.source m.destination makes in
+      earlier r idle m.source m.destination (record { maps = record { maps = maps; source = sound.source; destination = sound.destination }; included = λ by. included (still_excluded g h all m.source by) })) any
 
 pub idle_left_out : (g : List Reading) → IdleLeftOut g
 idle_left_out g idle u are there h refs kept rest all valid of_all of_rest m sound =
@@ -191,44 +182,22 @@ idle_left_out g idle u are there h refs kept rest all valid of_all of_rest m sou
 -- ---- idle negative specs
 
 module _ (g h : List Reading) (all : AllZip IsCompleted g h) (refs : List Ref) (k : ℕ) (q : Reading) (here : slice_get g k ≡ Some q) (idle : IsIdleExclusion g q) where
+  of_index : (c : Reading) → slice_get h k ≡ Some c → IsCompleted q c × (c.mode ≡ Negative)
+  of_index c at =
+      let (r, there, done) = zip_of g h all k c at in
+      let one : IsCompleted q c = subst (λ x. IsCompleted x c) (same_Some _ _ (sym there ∙ here)) done in
+      (one, one.mode ∙ idle.negative)
+
   -- what makes a mapping is another spec
   makes_elsewhere : (s : Source) (d : Option (List ℕ)) → Any (MakesForward refs s d) h → Any (MakesForward refs s d) (without k h)
-  makes_elsewhere s d any = by (any_at (MakesForward refs s d) h any)
-    where
-      negative : (c : Reading) (s : Source) → c.mode ≡ Negative → ¬ (MakesForward refs s d c)
-      negative c (name n) is makes = subst IsPositive is makes.has.positive
-      negative c (id bytes) is makes = subst IsPositive is makes.positive
-
-      by : (j : ℕ) × (c : Reading) × (slice_get h j ≡ Some c) × MakesForward refs s d c → Any (MakesForward refs s d) (without k h)
-      by (j, c, at, makes) = elim (cases_eq j k) [
-        | inr other ↦ stays_any (MakesForward refs s d) h k j c other at makes
-        | inl same ↦
-            let (r, there, done) = zip_of g h all k c (subst (λ i. slice_get h i ≡ Some c) same at) in
-            let one : r ≡ q = same_Some _ _ (sym there ∙ here) in
-            absurd (negative c s (done.mode ∙ ap (λ (x : Reading). x.mode) one ∙ idle.negative) makes)
-      ]
+  makes_elsewhere s d any = elsewhere (MakesForward refs s d) h k (λ c at makes. absurd (subst IsPositive (of_index c at).1 (makes_positive refs s d c makes))) any
 
   -- and what excludes its source is another one
-  excluded_elsewhere : (m : Mapped) → IsSound m → Any (MakesForward refs m.source m.destination) h → IsSourceExcluded h m.source → IsSourceExcluded (without k h) m.source
-  excluded_elsewhere m sound any by = of m.source sound.source any by
-    where
-      made : (n : List ℕ) → IsValidSource (name n) → Any (MakesForward refs (name n) m.destination) h → (i : ℕ) × MapsSoundly g refs i (name n) m.destination
-      made n valid any =
-          let (i, e, at, makes) = any_at (MakesForward refs (name n) m.destination) h any in
-          (i, record { maps = maps_of g h all i e at refs (name n) m.destination makes; source = valid; destination = sound.destination })
-
-      of : (s : Source) → IsValidSource s → Any (MakesForward refs s m.destination) h → IsSourceExcluded h s → IsSourceExcluded (without k h) s
-      of (id bytes) valid any none = none
-      of (name n) valid any by =
-          let (j, c, at, excludes) = by_index h n by in
-          elim (cases_eq j k) [
-            | inr other ↦ excluded_any (without k h) n (stays_any (IsExcludedBy n) h k j c other at excludes)
-            | inl same ↦
-                let (i, maps) = made n valid any in
-                let (r, there, done) = zip_of g h all k c (subst (λ l. slice_get h l ≡ Some c) same at) in
-                let one : r ≡ q = same_Some _ _ (sym there ∙ here) in
-                absurd (idle.excludes refs i n m.destination maps (subst (IsExcludedBy n) one (same_excluded r c n done excludes)))
-          ]
+  excluded_elsewhere : (s : Source) (d : Option (List ℕ)) → IsValidSource s → CanBeWritten d → Any (MakesForward refs s d) h → IsSourceExcluded h s → IsSourceExcluded (without k h) s
+  excluded_elsewhere (id bytes) d valid written any none = none
+  excluded_elsewhere (name n) d valid written any by = excluded_any (without k h) n (elsewhere (IsExcludedBy n) h k (λ c at excludes.
+      let (i, e, there, makes) = any_at (MakesForward refs (name n) d) h any in
+      absurd (idle.excludes refs i n d (record { maps = maps_of g h all i e there refs (name n) d makes; source = valid; destination = written }) (same_excluded q c n (of_index c at).0 excludes))) (any_excluded h n by))
 
 pub idle_exclusion_left_out : (g : List Reading) → IdleExclusionLeftOut g
 idle_exclusion_left_out g idle k are there h refs kept rest all of_all of_rest m sound =
@@ -236,6 +205,6 @@ idle_exclusion_left_out g idle k are there h refs kept rest all of_all of_rest m
     let here : slice_get g k ≡ Some q = subst (λ i. slice_get g i ≡ Some q) (omega (arith, same)) at in
     let whole = (kept_exactly h refs).forward kept of_all m in
     let part = (kept_exactly (without k h) refs).forward rest of_rest m in (
-      (λ has. let made = part.0 has in let any = was_any (MakesForward refs m.source m.destination) h k made.0 in whole.1 (any, λ by. made.1 (excluded_elsewhere g h all refs k q here is m sound any by))),
+      (λ has. let made = part.0 has in let any = was_any (MakesForward refs m.source m.destination) h k made.0 in whole.1 (any, λ by. made.1 (excluded_elsewhere g h all refs k q here is m.source m.destination sound.source sound.destination any by))),
       (λ has. let made = whole.0 has in part.1 (makes_elsewhere g h all refs k q here is m.source m.destination made.0, λ by. made.1 (was_source h k m.source by))),
     )

@@ -1,5 +1,5 @@
 -- What one spec maps, and what a group excludes.
-use Rattle.gix_refspec_lint.proofs.Common.{◌≡◌, inl, inr, ◌↔◌, ℕ, zero, suc, List, [], ◌∷◌, Option, None, Some, MatchOption, map, get_or, length, ◌<◌, refl, sym, ap, ◌∙◌, subst, arith, AllByRecursion}
+use Rattle.gix_refspec_lint.proofs.Common.{all_weaker, ◌≡◌, inl, inr, ◌↔◌, ℕ, zero, suc, List, [], ◌∷◌, Option, None, Some, MatchOption, map, get_or, length, ◌<◌, refl, sym, ap, ◌∙◌, subst, arith, AllByRecursion}
 use Rattle.gix_refspec_lint.proofs.Common.{Any, slice_get, get_or-map, length-map, Ref, IsPositive, Reading, AreKeptForward, Source, name, id, Mapped, HasPair, IsExcluded, IsExcludedBy, IsSamePair}
 use Rattle.gix_refspec_lint.proofs.Common.{IsSourceExcluded, mapped_of, Mapping, MakesForward, kept_exactly, Bool, true, false, MatchBool, is_some, HaveSameNames, IsValidSource, CanBeWritten, IsSound}
 use Rattle.gix_refspec_lint.proofs.Common.{refs_of, ExcludesFrom, MakesSoundly, pair_of, Bor, IsTrue, nat_eq, pointwise, false≢true, Decides-eqb, same_Some, slice_eq-Decides, Excludes, Fits}
@@ -15,7 +15,7 @@ pub tells_excluding : (g : List Reading) (es : Exclusions) (n : List ℕ) (answe
 tells_excluding g es n None are at none = λ by. none ((are n).1 by)
 tells_excluding g es n (Some k) are at by = (n, refl, at n k by)
 
-makes_positive : (refs : List Ref) (s : Source) (d : Option (List ℕ)) (r : Reading) → MakesForward refs s d r → IsPositive r.mode
+pub makes_positive : (refs : List Ref) (s : Source) (d : Option (List ℕ)) (r : Reading) → MakesForward refs s d r → IsPositive r.mode
 makes_positive refs (name n) d r makes = makes.has.positive
 makes_positive refs (id bytes) d r makes = makes.positive
 
@@ -28,7 +28,6 @@ only_one : {X : Type 0} (P : X → Type 0) (x : X) → Any P (x ∷ []) → P x
 only_one P x (zero, y, below, is, holds) = subst P (sym is) holds
 only_one P x (suc k, y, below, is, holds) = absurd (omega (arith, below))
 
--- a spec alone keeps the pairs that it makes
 pub kept_alone : (r : Reading) (refs : List Ref) (kept : List Mapped) (pair : Mapped) → AreKeptForward (r ∷ []) refs kept → HasPair kept pair ↔ MakesForward refs pair.source pair.destination r
 kept_alone r refs kept pair are =
     let exact = (kept_exactly (r ∷ []) refs).forward kept are pair in (
@@ -41,7 +40,6 @@ none_paired [] pair all has = has
 none_paired (m ∷ l) pair all (inl same) = all.0 same
 none_paired (m ∷ l) pair all (inr later) = none_paired l pair all.1 later
 
--- a mapping of a list has its pair
 pub pair_there : (l : List Mapping) (k : ℕ) (m : Mapping) (pair : Mapped) → k < length l → m ≡ get_or l k m → IsSamePair (mapped_of m) pair → HasPair (map mapped_of l) pair
 pair_there l k m pair below is same =
     HasPair-from_place (map mapped_of l) k (mapped_of m) pair (omega (arith, below, length-map l mapped_of))
@@ -49,7 +47,6 @@ pair_there l k m pair below is same =
 
 -- ---- the sound mappings of one spec
 
--- a sound mapping of the list
 pub sound_there : (c : Reading) (refs : List Ref) (l : List Mapping) (k : ℕ) (m : Mapping) (s : Source) → AreKeptForward (c ∷ []) refs (map mapped_of l) → k < length l → m ≡ get_or l k m
     → (mapped_of m).source ≡ s → IsSound (mapped_of m) → MakesSoundly refs s (mapped_of m).destination c
 sound_there c refs l k m s kept below is same sound =
@@ -60,21 +57,16 @@ sound_there c refs l k m s kept below is same sound =
       destination = sound.destination;
     }
 
-no_sound_pair : (l : List Mapped) (s : Source) (d : Option (List ℕ)) → AllByRecursion (λ m. m.source ≡ s → ¬ (IsSound m)) l → IsValidSource s → CanBeWritten d → ¬ (HasPair l (pair_of s d))
-no_sound_pair [] s d all valid written has = has
-no_sound_pair (m ∷ l) s d all valid written (inl same) = all.0 same.source (record { source = subst IsValidSource (sym same.source) valid; destination = subst CanBeWritten (sym same.destination) written })
-no_sound_pair (m ∷ l) s d all valid written (inr later) = no_sound_pair l s d all.1 valid written later
-
--- there is none if no mapping of the source is sound
 pub none_sound : (c : Reading) (refs : List Ref) (kept : List Mapped) (s : Source) → AreKeptForward (c ∷ []) refs kept → AllByRecursion (λ m. m.source ≡ s → ¬ (IsSound m)) kept
     → (d : Option (List ℕ)) → ¬ (MakesSoundly refs s d c)
-none_sound c refs kept s are all d makes = no_sound_pair kept s d all makes.source makes.destination ((kept_alone c refs kept (pair_of s d) are).1 makes.makes)
+none_sound c refs kept s are all d makes =
+    none_paired kept (pair_of s d) (all_weaker (λ m. m.source ≡ s → ¬ (IsSound m)) (λ m. ¬ (IsSamePair m (pair_of s d)))
+    (λ m none same. none same.source (record { source = subst IsValidSource (sym same.source) makes.source; destination = subst CanBeWritten (sym same.destination) makes.destination }))
+    kept all) ((kept_alone c refs kept (pair_of s d) are).1 makes.makes)
 
--- those of the same names
 pub sound_also : (A B : List Ref) (s : Source) (d : Option (List ℕ)) (c : Reading) → HaveSameNames A B → MakesSoundly A s d c → MakesSoundly B s d c
 sound_also A B s d c same makes = record { makes = makes_also A B s d c same makes.makes; source = makes.source; destination = makes.destination }
 
--- the source alone
 pub sound_alone : (refs : List Ref) (s : Source) (d : Option (List ℕ)) (c : Reading) → MakesSoundly refs s d c → MakesSoundly (refs_of s) s d c
 sound_alone refs s d c makes = record {
   makes = makes_fewer refs (refs_of s) s d c (own_among refs s (made_there refs s d c makes.makes)) (own_there s) makes.makes;
@@ -97,14 +89,16 @@ excludes_told n c s false by none = λ e. none e.destination (sound_alone e.refs
 
 -- ---- what a negative spec excludes
 
--- a pattern excludes what fits it
 pub fits_excluded : (x before after n : List ℕ) → IsSplit before after x → Excludes x n → (w : List ℕ) × Fits before after n w
 fits_excluded x before after n split (the_name lacks same) = absurd (lacks_no_pattern x before after lacks split)
 fits_excluded x before after n split (by_pattern front back w parts fits) =
     let both = split_once x front back before after parts split in
     (w, subst (λ a. Fits a after n w) both.0 (subst (λ b. Fits front b n w) both.1 fits))
 
--- the texts before and after the star of a source
+pub own_name : (x n : List ℕ) → ((before after : List ℕ) → ¬ (IsSplit before after x)) → Excludes x n → x ≡ n
+own_name x n none (the_name lacks is) = sym is
+own_name x n none (by_pattern before after word split fits) = absurd (none before after split)
+
 pub parts_pattern : (r : Reading) (parts : Bor (List ℕ) × Bor (List ℕ)) → HasParts r.source (Some parts) → HasSourcePattern r parts.0.now parts.1.now
 parts_pattern r parts (x, has, split) = record { text = x; has = has; split = split }
 
@@ -116,18 +110,12 @@ module _ (r : Reading) (x : List ℕ) (negative : r.mode ≡ Negative) (has : r.
   pub excludes_by : Excludes x n → IsSourceExcluded (r ∷ []) (name n)
   excludes_by excludes = inl (record { negative = negative; text = x; source = has; excludes = excludes })
 
-  -- a side without a star excludes its own name
   pub plain_excludes : (b : Bool) → ∥ IsAccepted r ∥₁ → ((y before after : List ℕ) → Some x ≡ Some y → ¬ (IsSplit before after y)) → (b ≡ true) ↔ (x ≡ n) → IsTrue b ↔ IsSourceExcluded (r ∷ []) (name n)
-  plain_excludes b accepted none same = ((λ told. excludes_by (the_name lacks (sym (same.0 told)))), (λ by. same.1 (named (text_excludes by))))
+  plain_excludes b accepted none same = ((λ told. excludes_by (the_name lacks (sym (same.0 told)))), (λ by. same.1 (own_name x n (λ before after. none x before after refl) (text_excludes by))))
     where
       lacks : Lacks star x
       lacks = unsplit_lacks r accepted x (inl has) (λ before after. none x before after refl)
 
-      named : Excludes x n → x ≡ n
-      named (the_name no_star is) = sym is
-      named (by_pattern before after word split fits) = absurd (none x before after refl split)
-
-  -- a pattern each that fits it
   pub pattern_excludes : (before after : List ℕ) (word : Option (Bor (List ℕ))) → ((y : List ℕ) × (Some x ≡ Some y) × IsSplit before after y)
       → MatchOption word ((w : List ℕ) → ¬ (Fits before after n w)) (λ w. Fits before after n w.now) → IsTrue (is_some word) ↔ IsSourceExcluded (r ∷ []) (name n)
   pattern_excludes before after (Some w) (y, is, split) fits = ((λ told. excludes_by (by_pattern before after w.now (subst (IsSplit before after) (sym (same_Some _ _ is)) split) fits)), (λ by. refl))
@@ -136,6 +124,5 @@ module _ (r : Reading) (x : List ℕ) (negative : r.mode ≡ Negative) (has : r.
     (λ by. let (w, fits) = fits_excluded x before after n (subst (IsSplit before after) (sym (same_Some _ _ is)) split) (text_excludes by) in absurd (none w fits)),
   )
 
--- two texts that a test finds equal
 pub same_bytes : (x y n : List ℕ) {b : Bool} → b ≡ pointwise nat_eq x y → y ≡ n → (b ≡ true) ↔ (x ≡ n)
 same_bytes x y n is same = let tells = slice_eq-Decides Decides-eqb x y _ is in ((λ told. tells.0 told ∙ same), (λ equal. tells.1 (equal ∙ sym same)))

@@ -3,7 +3,6 @@ use Rattle.gix_refspec_lint.proofs.Common.{◌≡◌, ◌⊎◌, inl, inr, ℕ, 
 use Rattle.gix_refspec_lint.proofs.Common.{IsPositive, Reading, HasOneStar, IsSplit, lacks_no_pattern, IsFilled, Source, name, id, matches_as, one_kind, IsPaired, MakesForward, sides_agree}
 use Rattle.gix_refspec_lint.proofs.Common.{named_some, filled, HasSourcePattern, some_named, side_cases}
 
--- the word of a name that a source pattern takes
 pub word_of : (c : Reading) (refs : List Ref) (n : List ℕ) (d : Option (List ℕ)) (makes : MakesForward refs (name n) d c) (p t : List ℕ) → HasSourcePattern c p t
     → (w : List ℕ) × (makes.one.4.word ≡ Some w) × (n ≡ p ++ (w ++ t))
 word_of c refs n d makes p t source =
@@ -52,7 +51,6 @@ pattern_spec c p t accepted positive source = elim (side_cases c.destination) [
   ]
 ]
 
--- a destination becomes one thing
 pub destination_once : (c : Reading) (word n m : Option (List ℕ)) → IsFilled c.destination word n → IsFilled c.destination word m → n ≡ m
 destination_once c word n m a b = once c.destination a b
   where
@@ -105,7 +103,6 @@ module _ (c : Reading) (accepted : ∥ IsAccepted c ∥₁) (d a b : List ℕ) (
     | inr (one, other) ↦ absurd (lacks_no_pattern d a b other split)
   ]
 
-  -- the destination gets the word
   becomes : (p t : List ℕ) (spec : PatternSpec c p t) (w : List ℕ) → spec.far w ≡ Some (a ++ (w ++ b))
   becomes p t spec w = destination_once c (Some w) (spec.far w) (Some (a ++ (w ++ b))) (spec.fills w) (subst (λ e. IsFilled e (Some w) (Some (a ++ (w ++ b)))) (sym has) (pattern a b, split, refl))
 

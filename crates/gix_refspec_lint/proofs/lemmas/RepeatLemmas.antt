@@ -14,7 +14,6 @@ pub power_length : (v : List ℕ) (i : ℕ) → length (power v i) ≡ i * lengt
 power_length v zero = grind arith
 power_length v (suc i) = grind (arith, power_length v i, length-append {A = ℕ})
 
--- a word with letters makes it longer each time
 pub power_long : (v : List ℕ) (i : ℕ) → v ≢ [] → i ≤ length (power v i)
 power_long [] i some = absurd (some refl)
 power_long (b ∷ v) i some = grind (arith, power_length (b ∷ v) i)

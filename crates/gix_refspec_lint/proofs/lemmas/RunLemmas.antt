@@ -2,10 +2,8 @@
 use Rattle.gix_refspec_lint.proofs.Common.{drop_at, take_at, ◌≡◌, ◌≢◌, ◌⊎◌, inl, inr, ℕ, zero, suc, ◌+◌, ◌<◌, ◌≤◌, List, [], ◌∷◌, ◌++◌, drop, length, take, append_assoc, append-nil, length-append}
 use Rattle.gix_refspec_lint.proofs.Common.{refl, sym, ap, ◌∙◌, subst, arith, nil_from_length, EndsWith, upto, IsOverlap, power, IsFirstOf, IsNextOf, IsRun, Run, Why, Unknown, take-append-drop}
 use Rattle.gix_refspec_lint.proofs.Common.{length-take-le, get_or, AllByRecursion, take_more, all_join, of_element, Contains-get_or, IsDeciding, AreOverlaps}
-use Rattle.gix_refspec_lint.proofs.lemmas.ByteLemmas.{ends_behind, parted}
-use Rattle.gix_refspec_lint.proofs.lemmas.RepeatLemmas.{power_long}
+use Rattle.gix_refspec_lint.proofs.lemmas.{ByteLemmas.{ends_behind, parted}, RepeatLemmas.power_long}
 
--- texts of one length that a text ends with are the same
 same_end : (x y n : List ℕ) → EndsWith x n → EndsWith y n → length x ≡ length y → x ≡ y
 same_end x y n one other size = elim (parted one.before x other.before y (sym one.here ∙ other.here)) [
   | inl (m, longer, rest) ↦ rw (nil_from_length m (omega (arith, size, ap length rest, length-append m y))) at rest
@@ -150,7 +148,6 @@ module _ (Holds : Why → List ℕ → Type 0) (prefix suffix : List ℕ) where
             | inr equal ↦ later (omega (arith, times)) equal
           ]
 
-  -- with one more overlap
   pub run_with : (run : Run) → IsRun Holds prefix suffix run → (k : ℕ) → IsOverlap prefix suffix k → (why : Why) (new : Run) → Holds why (prefix ++ drop k suffix) → IsFirstOf k why new ⊎ IsNextOf run k why new → IsRun Holds prefix suffix new
   run_with run is k overlap why new holds (inl first) = run_first k why new overlap.within overlap.ends holds first
   run_with run is k overlap why new holds (inr next) = run_next run is k overlap (omega (arith, next.step)) why new next holds
@@ -170,7 +167,6 @@ module _ (P : List ℕ → Type 0) (Holds : Why → List ℕ → Type 0) (prefix
   overlap : IsOverlap prefix suffix k
   overlap = of_element (IsOverlap prefix suffix) list k are.each (Contains-get_or list i 0 below)
 
-  -- one more of which P holds
   pub one_more : (why : Why) (new : Run) → P (prefix ++ drop k suffix) → Holds why (prefix ++ drop k suffix) → IsFirstOf k why new ⊎ IsNextOf run k why new → AreSoFar P Holds prefix suffix (take (i + 1) list) new
   one_more why new holds reason next = record {
     all = subst (AllByRecursion (λ j. P (prefix ++ drop j suffix))) (sym (take_more list i 0 below)) (all_join (λ j. P (prefix ++ drop j suffix)) (take i list) (k ∷ []) so_far.all (holds, tt));
@@ -192,13 +188,11 @@ none_so_far P Holds prefix suffix run holds first = record {
 
 -- ---- what holds at the names that decide
 
--- with each word, and in each overlap
 pub each_deciding : (P : List ℕ → Type 0) (words : List (List ℕ)) (prefix suffix : List ℕ) (most : ℕ) → AllByRecursion (λ w. P (prefix ++ (w ++ suffix))) words
     → ((k : ℕ) → k ≤ most → IsOverlap prefix suffix k → P (prefix ++ drop k suffix)) → (n : List ℕ) → IsDeciding words prefix suffix most n → P n
 each_deciding P words prefix suffix most by_word overlapping n (inl (w, there, is)) = subst P (sym is) (of_element (λ w. P (prefix ++ (w ++ suffix))) words w by_word there)
 each_deciding P words prefix suffix most by_word overlapping n (inr (k, below, overlap, is)) = subst P (sym is) (overlapping k below overlap)
 
--- in each of the overlaps that are listed
 pub each_overlap : (P : List ℕ → Type 0) (prefix suffix : List ℕ) (most : ℕ) (list : List ℕ) → AreOverlaps prefix suffix most list → AllByRecursion (λ k. P (prefix ++ drop k suffix)) list
     → (k : ℕ) → k ≤ most → IsOverlap prefix suffix k → P (prefix ++ drop k suffix)
 each_overlap P prefix suffix most list are all k below overlap = of_element (λ k. P (prefix ++ drop k suffix)) list k all (are.all k below overlap)

@@ -7,7 +7,6 @@ use Rattle.gix_refspec_text.proofs.lemmas.texts.TextLemmas.{Lacks-ContainsText}
 use Rattle.gix_refspec_match.specs.declared.types.SourceRef.{SourceRef}
 use Rattle.gix_refspec_lint.proofs.lemmas.PatternLemmas.{maps_pattern}
 
--- a destination that is made comes from that of the spec
 pub destination_made : (refs : List Ref) (s : Source) (d : List ℕ) (c : Reading) → MakesForward refs s (Some d) c → (e : List ℕ) × (word : Option (List ℕ)) × (c.destination ≡ Some e) × IsFilled (Some e) word (Some d)
 destination_made refs (name n) d c makes =
     let (k, item, below, is, paired) = makes.one in
@@ -15,7 +14,6 @@ destination_made refs (name n) d c makes =
     (e, paired.word, makes.has.far ∙ far, becomes)
 destination_made refs (id bytes) d c makes = let (e, far, becomes) = far_there c.destination None d makes.becomes in (e, None, far, becomes)
 
--- without one none is made
 pub none_made : (refs : List Ref) (s : Source) (d : List ℕ) (c : Reading) → c.destination ≡ None → ¬ (MakesForward refs s (Some d) c)
 none_made refs s d c none makes = let (e, word, has, becomes) = destination_made refs s d c makes in absurd (let never : Some e ≡ None = sym has ∙ none in cc (never))
 
@@ -37,7 +35,6 @@ plain_made r c e done has lacks refs s d makes =
 
 -- ---- sources without a star
 
--- where the destination has no star, the source has none
 pub source_unsplit : (r : Reading) (e : List ℕ) → ∥ IsAccepted r ∥₁ → r.destination ≡ Some e → Lacks star e → (x before after : List ℕ) → r.source ≡ Some x → ¬ (IsSplit before after x)
 source_unsplit r e accepted has lacks x before after source split = elim ((sides_agree r accepted).both x e source has) [
   | inl (one, other) ↦ lacks_no_pattern e other.0 other.1 lacks other.2
@@ -71,15 +68,10 @@ module _ (r : Reading) (x : List ℕ) (source : r.source ≡ Some x) (refs : Lis
 
   pub sources_there : (kind : SideKind) (sources : List Source) → HasKind x kind → ((before after : List ℕ) → ¬ (IsSplit before after x)) → AreSourcesAs x kind sources → (s : Source) → MakesForward refs s d r → Contains sources s
   sources_there kind sources of unsplit are (name n) makes = named_there kind n sources of unsplit are makes
-  sources_there kind sources of unsplit are (id bytes) makes = by_kind kind (object_there kind bytes of makes) are
-    where
-      by_kind : (kind : SideKind) → kind ≡ object bytes → AreSourcesAs x kind sources → Contains sources (id bytes)
-      by_kind (pattern before after) is are = absurd (cc (is))
-      by_kind (full_name m) is are = absurd (cc (is))
-      by_kind (object others) is are = let same : others ≡ bytes = cc (is) in subst (λ l. Contains l (id bytes)) (sym are) (zero, omega arith, ap id same)
-      by_kind (partial m) is are = absurd (cc (is))
+  sources_there kind sources of unsplit are (id bytes) makes =
+      let one : sources ≡ id bytes ∷ [] = subst (λ k. AreSourcesAs x k sources) (object_there kind bytes of makes) are in
+      rw one (zero, omega arith, refl)
 
--- the only source that was pushed
 pub only_pushed : (old new : List SourceRef) (s : SourceRef) (t : Source) → old ≡ [] → new ≡ old ++ s ∷ [] → start_of s ≡ t → map start_of new ≡ t ∷ []
 only_pushed old new s t none made is = ap (map start_of) (made ∙ ap (λ l. l ++ s ∷ []) none) ∙ ap (λ v. v ∷ []) is
 
@@ -90,11 +82,9 @@ pub none_contained : {X : Type 0} {l : List X} (x : X) → l ≡ [] → ¬ (Cont
 none_contained x none (k, below, is) = let long = ap length none in omega (arith, below, long)
 
 module _ (c : Reading) (accepted : ∥ IsAccepted c ∥₁) (d a b : List ℕ) (has : c.destination ≡ Some d) (split : IsSplit a b d) where
-  -- a source without a star has none
   pub none_unsplit : HasParts c.source None → (refs : List Ref) (s : Source) (n : List ℕ) → ¬ (MakesForward refs s (Some n) c)
   none_unsplit none refs s n makes = let m = maps_pattern c accepted d a b has split refs s n makes in none m.side.text m.before m.after m.side.has m.side.split
 
-  -- a pattern has one by the word, if the destination fits
   pub none_fits : (n : List ℕ) → ((w : List ℕ) → ¬ (Fits a b n w)) → (refs : List Ref) (s : Source) → ¬ (MakesForward refs s (Some n) c)
   none_fits n none refs s makes = let m = maps_pattern c accepted d a b has split refs s n makes in none m.word m.fits
 

@@ -113,7 +113,6 @@ ending_or_part v (t ∷ ts) all = search (
       (map (λ (x : Around). x.front) ts),
 )
 
--- what fits a pattern begins and ends with its texts
 pub fits_begins : (a b n w : List ℕ) → Fits a b n w → BeginsWith a n
 fits_begins a b n w fits = record { after = w ++ b; here = fits }
 
@@ -141,8 +140,11 @@ pub record IsParted (a b c d prefix suffix n v w : List ℕ) : Type 0 where
 pub between : (a x m y b : List ℕ) → (a ++ x) ++ (m ++ (y ++ b)) ≡ a ++ ((x ++ (m ++ y)) ++ b)
 between a x m y b = simp append_assoc
 
+pub within : (a b prefix suffix x y u : List ℕ) → prefix ≡ a ++ x → suffix ≡ y ++ b → prefix ++ (u ++ suffix) ≡ a ++ ((x ++ (u ++ y)) ++ b)
+within a b prefix suffix x y u before after = rw (before, after) (simp append_assoc)
+
 word_is : (a b prefix suffix n v m x y : List ℕ) → Fits a b n v → n ≡ prefix ++ (m ++ suffix) → prefix ≡ a ++ x → suffix ≡ y ++ b → v ≡ x ++ (m ++ y)
-word_is a b prefix suffix n v m x y fits whole front back = one_word a b n v (x ++ (m ++ y)) fits (whole ∙ ap (λ z. z ++ (m ++ suffix)) front ∙ ap (λ z. (a ++ x) ++ (m ++ z)) back ∙ between a x m y b)
+word_is a b prefix suffix n v m x y fits whole front back = one_word a b n v (x ++ (m ++ y)) fits (whole ∙ within a b prefix suffix x y m front back)
 
 -- such a name is parted, or it decides itself
 pub common_name : (words : List (List ℕ)) (a b c d prefix suffix : List ℕ) (most : ℕ) (n v w : List ℕ) → IsLongerPrefix a c prefix → IsLongerSuffix b d suffix → IsMost a b c d prefix suffix most → Fits a b n v → Fits c d n w
@@ -153,10 +155,10 @@ common_name words a b c d prefix suffix most n v w longer ends is_most one other
 ]
   where
     starts : BeginsWith prefix n
-    starts = elim longer.is [ inl is ↦ subst (λ x. BeginsWith x n) (sym is) (fits_begins a b n v one) | inr is ↦ subst (λ x. BeginsWith x n) (sym is) (fits_begins c d n w other) ]
+    starts = elim longer.is [ inl is ↦ rw is (fits_begins a b n v one) | inr is ↦ rw is (fits_begins c d n w other) ]
 
     stops : EndsWith suffix n
-    stops = elim ends.is [ inl is ↦ subst (λ x. EndsWith x n) (sym is) (fits_ends a b n v one) | inr is ↦ subst (λ x. EndsWith x n) (sym is) (fits_ends c d n w other) ]
+    stops = elim ends.is [ inl is ↦ rw is (fits_ends a b n v one) | inr is ↦ rw is (fits_ends c d n w other) ]
 
     at : (m : List ℕ) → n ≡ prefix ++ (m ++ suffix) → IsParted a b c d prefix suffix n v w
     at m whole = record {
@@ -174,7 +176,6 @@ common_name words a b c d prefix suffix most n v w longer ends is_most one other
       other = word_is c d prefix suffix n w m longer.other.after ends.other.before other whole longer.other.here ends.other.here;
     }
 
-    -- a name that fits is long enough
     long : (x y u : List ℕ) → Fits x y n u → length x + length y ≤ length prefix + length starts.after
     long x y u fits = omega (arith, length-append prefix starts.after, ap length (sym starts.here ∙ fits), length-append x (u ++ y), length-append u y)
 
