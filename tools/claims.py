@@ -2,8 +2,9 @@
 """Checks what docs/ says of the crates' contracts: tools/claims.py
 
 Each function, clause, wrong body and test that the tables of docs/CLAIMS-TABLE.md name has to exist, and each must-fail edit has
-to be named there. Each text that an edit replaces has to be in its file once. Each block of docs/CALLING.md that begins with the path of a file has to be in that file, in one piece or in
-pieces between lines of `...`.
+to be named there. Each text that an edit of code or of a definition replaces has to be in its file once, and the facts that a
+changed definition names have to exist. Each block of docs/CALLING.md that begins with the path of a file has to be in that file,
+in one piece or in pieces between lines of `...`.
 """
 import os
 import re
@@ -54,6 +55,19 @@ def misplaced(path):
             text = read(f"{crate}/{line[len('file: '):].strip()}")
         elif line.startswith("old: ") and text.count(line[len("old: "):]) != 1:
             yield f"{path}: in its file not once: {line[len('old: '):].strip()}"
+
+
+def unknown_facts(path):
+    """The facts that a changed definition names, and that aren't there; or that it names none."""
+    crate = path.rsplit("/", 2)[0]
+    names = " ".join(re.findall(r"^fact:(.*)$", read(path), re.M)).split()
+    if not names:
+        yield f"{path}: it names no fact"
+    for name in names:
+        *folders, module, fact = name.split(".")
+        place = "/".join([crate, "proofs", *(folders or ["facts"]), f"{module}.antt"])
+        if not os.path.exists(os.path.join(ROOT, place)) or not re.search(rf"^pub {re.escape(fact)} :", read(place), re.M):
+            yield f"{path}: there is no fact {name}"
 
 
 def wrong_quotes(page):
@@ -115,7 +129,9 @@ def main():
                     faults.append(f"{TABLES}:{number}: {column}: there is no {name}")
     named = set(SPAN.findall(page))
     faults += [f"{TABLES}: the edit {name} is not named" for name in sorted(edits - named)]
-    faults += [fault for path in paths for fault in misplaced(path)]
+    changes = [path for crate in crates for path in files_below(f"crates/{crate}/changed-definitions", ".edit")]
+    faults += [fault for path in [*paths, *changes] for fault in misplaced(path)]
+    faults += [fault for path in changes for fault in unknown_facts(path)]
     faults += wrong_quotes(QUOTING)
     for fault in faults:
         print(fault)
