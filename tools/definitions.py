@@ -2,9 +2,10 @@
 """Tries slight changes of definitions: tools/definitions.py [CRATE [NAME..]]
 
 A file of crates/*/changed-definitions/ changes a definition as a must-fail edit changes code. Its line `what:` says how, and its
-line `fact:` names what that makes false: facts, as FILE.NAME, or the lemma of a law, with its path. Each is tried on a copy of the
-crate, over the libraries that `make test` left: the checker must not admit these facts. So a wrong definition is noticed even
-where the code follows it. That a fact is false, and not only its proof broken, was looked at by reading.
+line `fact:` what notices it: facts, as FILE.NAME, that are false then, or no longer follow from a law that says less; or the
+lemma of a law, with its path. Each change is tried on a copy of the crate, over the libraries that `make test` left, and the
+checker must not admit these facts. So a wrong definition is noticed even where the code follows it. Why the checker doesn't
+admit a fact was looked at by reading.
 """
 import os
 import re
