@@ -127,8 +127,11 @@ def main():
         edits = [edit for edit in edits if not sys.argv[2:] or edit.startswith(tuple(sys.argv[2:]))]
         with tempfile.TemporaryDirectory(prefix="definitions-") as room:
             copy = Copy(crate, below, room)
-            for edit in edits:
-                facts, replacements = read_edit(f"{ROOT}/crates/{crate}/{FOLDER}/{edit}")
+            read = [(edit, *read_edit(f"{ROOT}/crates/{crate}/{FOLDER}/{edit}")) for edit in edits]
+            named = sorted({fact for _, facts, _ in read for fact in facts})
+            if copy.lacking(named, []) != named:
+                sys.exit(f"{crate}: not all facts are admitted as the definitions are: run make test first")
+            for edit, facts, replacements in read:
                 lacking = copy.lacking(facts, replacements)
                 tried, missed = tried + 1, missed + bool(lacking or not facts)
                 said = f"not refused: {' '.join(lacking)}" if lacking else f"refused: {' '.join(facts)}"

@@ -5,6 +5,7 @@
 #                               `name.`, or more of it
 set -eu -o pipefail
 [ $# -ne 1 ] || { echo "usage: tools/edits.sh [CRATE NAME..]" >&2; exit 2; }
+shopt -s nullglob
 cd "$(dirname "${BASH_SOURCE[0]}")/.."
 copy=$(mktemp -d)
 trap 'rm -rf "$copy"' EXIT
@@ -14,9 +15,9 @@ git init -q "$copy"
 tar -c --exclude='crates/*/out' --exclude='crates/*/must-fail' --exclude='crates/*/further-edits' crates.txt HANDLES crates | tar -x -C "$copy"
 
 if [ $# -eq 0 ]; then
-    for folder in crates/*/must-fail crates/*/further-edits; do
-        mkdir -p "$copy/${folder%/*}/must-fail"
-        cp "$folder"/*.edit "$copy/${folder%/*}/must-fail"
+    for edit in crates/*/must-fail/*.edit crates/*/further-edits/*.edit; do
+        mkdir -p "$copy/${edit%/*/*}/must-fail"
+        cp "$edit" "$copy/${edit%/*/*}/must-fail"
     done
     cd "$copy"
     rt ci | grep -E '^rt: |NOT REFUSED|NOT TRIED|BAD EDIT| passed, '
@@ -31,7 +32,6 @@ for library in $(sed -nE "s/^$crate( staticlib)?: //p" crates.txt); do
     fi
 done
 mkdir "$copy/crates/$crate/must-fail"
-shopt -s nullglob
 for name in "$@"; do
     found=("crates/$crate/must-fail/$name"*.edit "crates/$crate/further-edits/$name"*.edit)
     [ ${#found[@]} -gt 0 ] || { echo "tools/edits.sh: $crate has no edit that begins with $name" >&2; exit 2; }
