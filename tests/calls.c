@@ -1,7 +1,8 @@
 /* Loaded before a program, this library tells of its reads of the standard input and its writes to the
    standard output: a letter for each, `r` or `w`, and `R` or `W` for one that it fails, to the descriptor in
    TELL. It fails the read or the write whose number, from 1, stands in CALLS_READ or CALLS_WRITE, and
-   only that one. */
+   only that one, as interrupted where CALLS_INTERRUPT is set. Where CALLS_MOST is, the others take at most
+   so many bytes. */
 #define _GNU_SOURCE
 #include <dlfcn.h>
 #include <errno.h>
@@ -11,7 +12,8 @@
 static ssize_t (*real_read)(int, void *, size_t);
 static ssize_t (*real_write)(int, const void *, size_t);
 static int tell = -1;
-static long failing_read, failing_write;
+static long failing_read, failing_write, most;
+static int error = EIO;
 static long reads, writes;
 
 static long number_in(const char *name) {
@@ -25,6 +27,9 @@ __attribute__((constructor)) static void start(void) {
     tell = (int)number_in("TELL");
     failing_read = number_in("CALLS_READ");
     failing_write = number_in("CALLS_WRITE");
+    most = number_in("CALLS_MOST");
+    if (getenv("CALLS_INTERRUPT"))
+        error = EINTR;
 }
 
 /* Tells of a call, and whether it fails. */
@@ -34,18 +39,23 @@ static int fails(long number, long failing, const char *letters) {
     return number == failing;
 }
 
+/* How many bytes a call takes. */
+static size_t taken(size_t size) {
+    return most && size > (size_t)most ? (size_t)most : size;
+}
+
 ssize_t read(int file, void *room, size_t size) {
     if (file == STDIN_FILENO && fails(++reads, failing_read, "rR")) {
-        errno = EIO;
+        errno = error;
         return -1;
     }
-    return real_read(file, room, size);
+    return real_read(file, room, file == STDIN_FILENO ? taken(size) : size);
 }
 
 ssize_t write(int file, const void *bytes, size_t size) {
     if (file == STDOUT_FILENO && fails(++writes, failing_write, "wW")) {
-        errno = EIO;
+        errno = error;
         return -1;
     }
-    return real_write(file, bytes, size);
+    return real_write(file, bytes, file == STDOUT_FILENO ? taken(size) : size);
 }

@@ -19,7 +19,7 @@ try() {
 }
 
 of_program() {
-    for script in words replay agree git git-rows stack devices memory; do
+    for script in words answers replay agree git git-rows stack devices memory; do
         try "$script.py" "$program"
     done
     for script in growths large; do

@@ -85,6 +85,3 @@ fn report(rt: &HostRuntime, fault: &Fault) -> u8 {
     let _ = println!(rt; "{fault}");
     fault.status()
 }
-
-#[cfg(test)]
-mod tests;
