@@ -20,10 +20,10 @@ TESTS := crates/gix_refspec_tests/out/gix_refspec_tests_tests
 PEOPLE_LIBRARY := crates/refspec_json crates/refspec_io crates/refspec_plans crates/refspec_commands crates/refspec_request crates/refspec_git
 PEOPLE := crates/refspec
 PEOPLE_PROGRAM := $(PEOPLE)/out/refspec
-PEOPLE_SOURCES := crates.txt $(shell find $(LIBRARY) $(PEOPLE_LIBRARY) $(PEOPLE) \( -name out -o -name must-fail -o -name further-edits \) -prune -o -type f -print)
+PEOPLE_SOURCES := crates.txt $(shell find $(LIBRARY) $(PEOPLE_LIBRARY) $(PEOPLE) \( -name out -o -name edits \) -prune -o -type f -print)
 LOGS := out
 FIRST := half an hour the first time, with refspec, on 4 processors
-SOURCES := crates.txt $(shell find $(LIBRARY) $(FOLDER) \( -name out -o -name must-fail -o -name further-edits \) -prune -o -type f -print)
+SOURCES := crates.txt $(shell find $(LIBRARY) $(FOLDER) \( -name out -o -name edits \) -prune -o -type f -print)
 
 help:
 	@sed -n 's/^# make/make/p' Makefile
@@ -114,7 +114,7 @@ SHARED := libgix_refspec.so
 C_VERSION := $(shell sed -n 's/^.define GIX_REFSPEC_VERSION "\(.*\)"/\1/p' $(HEADER))
 # What a program asks for: major and minor version, as before 1.0 every new minor version may break callers.
 SONAME := $(SHARED).$(basename $(C_VERSION))
-C_SOURCES := crates.txt tools/archive.sh $(shell find $(LIBRARY) $(C_LIBRARY) \( -name out -o -name must-fail -o -name further-edits \) -prune -o -type f -print)
+C_SOURCES := crates.txt tools/archive.sh $(shell find $(LIBRARY) $(C_LIBRARY) \( -name out -o -name edits \) -prune -o -type f -print)
 
 lib: $(ARCHIVE)
 

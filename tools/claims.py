@@ -1,7 +1,7 @@
 #!/usr/bin/env python3
 """Checks what docs/ says of the crates' contracts: tools/claims.py
 
-Each function, clause, wrong body and test that the tables of docs/CLAIMS-TABLE.md name has to exist, and each must-fail edit has
+Each function, clause, wrong body and test that the tables of docs/CLAIMS-TABLE.md name has to exist, and each edit of edits/ has
 to be named there. Each text that an edit of code or of a definition replaces has to be in its file once, and the facts that a
 changed definition names have to exist. Each block of docs/CALLING.md that begins with the path of a file has to be in that file,
 in one piece or in pieces between lines of `...`.
@@ -85,12 +85,7 @@ def wrong_quotes(page):
 def main():
     crates = [line.split(":")[0].split()[0] for line in read("crates.txt").split("\n") if ":" in line]
     code = "\n".join(sources(f"crates/{crate}/src") for crate in crates)
-    paths = [
-        path
-        for crate in crates
-        for folder in ("must-fail", "further-edits")
-        for path in files_below(f"crates/{crate}/{folder}", ".edit")
-    ]
+    paths = [path for crate in crates for path in files_below(f"crates/{crate}/edits", ".edit")]
     edits = {os.path.basename(path)[: -len(".edit")] for path in paths}
     modules = {
         os.path.basename(path)[: -len(".rt")]

@@ -1,7 +1,7 @@
 #!/usr/bin/env python3
 """Tries slight changes of definitions: tools/definitions.py [CRATE [NAME..]]
 
-A file of crates/*/changed-definitions/ changes a definition as a must-fail edit changes code. Its line `what:` says how, and its
+A file of crates/*/changed-definitions/ changes a definition as one of edits/ changes code. Its line `what:` says how, and its
 line `fact:` what notices it: facts, as FILE.NAME, that are false then, or no longer follow from a law that says less; or the
 lemma of a law, with its path. Each change is tried on a copy of the crate, over the libraries that `make test` left, and the
 checker must not admit these facts. So a wrong definition is noticed even where the code follows it. Why the checker doesn't
@@ -10,20 +10,13 @@ admit a fact was looked at by reading.
 import os
 import re
 import shutil
-import subprocess
 import sys
 import tempfile
 
-ROOT = os.path.normpath(os.path.join(os.path.dirname(os.path.abspath(__file__)), os.pardir))
-KIT = os.path.dirname(subprocess.run(["rt", "doc"], capture_output=True, text=True, check=True).stdout.strip())
+sys.dont_write_bytecode = True
+import kit  # beside this script
+
 FOLDER = "changed-definitions"
-
-
-def libraries():
-    """The crates that each crate names, in the order of crates.txt."""
-    with open(os.path.join(ROOT, "crates.txt"), encoding="utf-8") as file:
-        rows = [re.match(r"(\w+)(?: staticlib)?:(.*)", line) for line in file]
-    return {row[1]: row[2].split() for row in rows if row}
 
 
 def smallest_proof(folder):
@@ -34,35 +27,6 @@ def smallest_proof(folder):
             found.append((os.path.getsize(f"{place}/Answers.antt"), place))
     place = min(found)[1]
     return os.path.relpath(place, f"{folder}/proofs").replace("/", "::"), f"{place}/Answers.antt"
-
-
-def command(crate, below):
-    """The call of the checker for a crate in the current folder."""
-    words = [f"{KIT}/bin/rattle", "check", "--crate-name", crate, "src/lib.rt", "--links", f"{crate}=", "--jobs", "1"]
-    words += ["--antt-project", f"{KIT}/rattle/logic/antt-project.json", "--logic-built", f"{KIT}/logic_built"]
-    words += ["--incremental", "out/definitions", "-L", f"dependency={KIT}/rlibs"]
-    for name in ["std", *below[crate]]:
-        folder = f"{ROOT}/crates/{name}/out/rlib" if name in below else f"{KIT}/rlibs"
-        words += ["--extern", f"{name}={folder}/{name}.rlib", "-L", f"dependency={folder}"]
-    return words
-
-
-def read_edit(path):
-    """The facts that have to notice an edit, and its replacements as file, old and new text."""
-    facts, replacements = [], []
-    with open(path, encoding="utf-8") as file:
-        for line in file:
-            kind, _, text = line.rstrip("\n").partition(":")
-            text = text.removeprefix(" ")
-            if kind == "fact":
-                facts += text.split()
-            elif kind == "file":
-                place = text
-            elif kind == "old":
-                old = text
-            elif kind == "new":
-                replacements.append((place, old, text))
-    return facts, replacements
 
 
 def cited(number, name, crate):
@@ -82,16 +46,15 @@ def refused(output):
 class Copy:
     """A copy of a crate, in which one definition after another is changed."""
 
-    def __init__(self, crate, below, room):
+    def __init__(self, crate, room):
         self.crate, self.room = crate, room
         for part in ("src", "specs", "proofs"):
-            shutil.copytree(f"{ROOT}/crates/{crate}/{part}", f"{room}/{part}")
-        os.makedirs(f"{room}/out/definitions")
+            shutil.copytree(f"{crate.folder}/{part}", f"{room}/{part}")
+        os.mkdir(f"{room}/kept")
         # the checker reads the facts if the function that it is to prove cites them
-        function, self.answers = smallest_proof(room)
+        self.function, self.answers = smallest_proof(room)
         with open(self.answers, encoding="utf-8") as file:
             self.text = file.read()
-        self.words = [*command(crate, below), "--only", function]
 
     def lacking(self, facts, replacements):
         """Those of the facts that the checker admits with these replacements."""
@@ -100,18 +63,17 @@ class Copy:
             with open(f"{self.room}/{place}", encoding="utf-8") as file:
                 text = file.read()
             if text.count(old) != 1:
-                sys.exit(f"{self.crate}: in {place} not once: {old}")
+                sys.exit(f"{self.crate.name}: in {place} not once: {old}")
             was.setdefault(place, text)
             with open(f"{self.room}/{place}", "w", encoding="utf-8") as file:
                 file.write(text.replace(old, new))
-        lines = [cited(number, name, self.crate) for number, name in enumerate(facts)]
+        lines = [cited(number, name, self.crate.name) for number, name in enumerate(facts)]
         with open(self.answers, "w", encoding="utf-8") as file:
             file.write("use Rattle.std.specs.Prelude.{⊤ as truth}\n")
             file.writelines(line for line, _ in lines)
             file.write(f"{self.text}\n")
             file.writelines(line for _, line in lines)
-        how = {"stdout": subprocess.PIPE, "stderr": subprocess.STDOUT, "text": True, "errors": "replace"}
-        found = refused(subprocess.run(self.words, cwd=self.room, check=False, **how).stdout)
+        found = refused(self.crate.check(self.room, f"{self.room}/kept", ["--only", self.function]))
         for place, text in was.items():
             with open(f"{self.room}/{place}", "w", encoding="utf-8") as file:
                 file.write(text)
@@ -119,23 +81,23 @@ class Copy:
 
 
 def main():
-    below = libraries()
-    crates = sys.argv[1:2] or [crate for crate in below if os.path.isdir(f"{ROOT}/crates/{crate}/{FOLDER}")]
+    crates = kit.crates()
     tried = missed = 0
-    for crate in crates:
-        edits = sorted(os.listdir(f"{ROOT}/crates/{crate}/{FOLDER}"))
-        edits = [edit for edit in edits if not sys.argv[2:] or edit.startswith(tuple(sys.argv[2:]))]
+    for crate in [crates[sys.argv[1]]] if sys.argv[1:] else crates.values():
+        edits = [(os.path.basename(path), *kit.read_edit(path)) for path in crate.edits(FOLDER, sys.argv[2:])]
+        if not edits:
+            continue
         with tempfile.TemporaryDirectory(prefix="definitions-") as room:
-            copy = Copy(crate, below, room)
-            read = [(edit, *read_edit(f"{ROOT}/crates/{crate}/{FOLDER}/{edit}")) for edit in edits]
+            copy = Copy(crate, room)
+            read = [(edit, said.get("fact", "").split(), changes) for edit, said, changes in edits]
             named = sorted({fact for _, facts, _ in read for fact in facts})
             if copy.lacking(named, []) != named:
-                sys.exit(f"{crate}: not all facts are admitted as the definitions are: run make test first")
-            for edit, facts, replacements in read:
-                lacking = copy.lacking(facts, replacements)
+                sys.exit(f"{crate.name}: not all facts are admitted as the definitions are: run make test first")
+            for edit, facts, changes in read:
+                lacking = copy.lacking(facts, changes)
                 tried, missed = tried + 1, missed + bool(lacking or not facts)
                 said = f"not refused: {' '.join(lacking)}" if lacking else f"refused: {' '.join(facts)}"
-                print(f"{crate}/{edit}: {said if facts else 'it names no fact'}", flush=True)
+                print(f"{crate.name}/{edit}: {said if facts else 'it names no fact'}", flush=True)
     print(f"definitions: {tried} changes, {tried - missed} noticed")
     return 1 if missed or not tried else 0
 

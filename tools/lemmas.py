@@ -21,7 +21,7 @@ DATA = re.compile(r"(^|→ )(Bool|Ordering|ℕ|List ℕ|List \(List ℕ\)|Option
 
 def files_below(folder, endings):
     for place, folders, names in os.walk(os.path.join(ROOT, folder)):
-        folders[:] = sorted(name for name in folders if name not in ("out", "must-fail"))
+        folders[:] = sorted(name for name in folders if name not in ("out", "edits"))
         for name in sorted(names):
             if name.endswith(endings):
                 yield os.path.relpath(os.path.join(place, name), ROOT)

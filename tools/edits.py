@@ -1,0 +1,144 @@
+#!/usr/bin/env python3
+"""Tries wrong bodies, which the checker has to refuse: tools/edits.py [--after LOG] [CRATE [NAME..]]
+
+An edit, a file of crates/CRATE/edits, changes a function so that it answers something else, and names it behind `at:`. It is
+refused if the checker doesn't prove that function. A proof goes by what other functions promise, and not by their bodies, so
+many edits are tried at once, in rounds: one of a function, and those of functions that call a changed one in a later round.
+An edit with `alone:` changes more than bodies. It has a round of its own, and is refused if `at:` isn't proved for whatever
+reason.
+
+Without CRATE all are tried. NAME is what the names of edits begin with. The libraries below a crate are those that `make test`
+left proved; with --after, those that it proves now, as its log LOG says.
+"""
+import argparse
+import os
+import re
+import shutil
+import sys
+import tempfile
+import time
+
+sys.dont_write_bytecode = True
+import kit  # beside this script
+
+# What the checker says of a function that is proved, and of one that isn't because of those that it calls.
+PROVED = re.compile(r"proved\b")
+BY_OTHERS = re.compile(r".*\bit calls ")
+
+
+class Failure(Exception):
+    pass
+
+
+class Edit:
+    def __init__(self, path):
+        said, self.changes = kit.read_edit(path)
+        self.name = os.path.basename(path).removesuffix(".edit")
+        self.at, self.is_alone = said.get("at"), "alone" in said
+        if not self.at or not self.changes:
+            raise Failure(f"{path}: it has no `at:`, or no `old:` and `new:`")
+
+    def applied(self, crate, texts):
+        """The changed texts, by file, with this edit too; None where another has changed the same line."""
+        texts = dict(texts)
+        for file, old, new in self.changes:
+            if file not in texts:
+                with open(f"{crate.folder}/{file}", encoding="utf-8") as text:
+                    texts[file] = text.read()
+            if texts[file].count(old) != 1:
+                return None
+            texts[file] = texts[file].replace(old, new)
+        return texts
+
+
+def next_round(crate, edits):
+    """Edits to try at once, and the changed texts."""
+    chosen, texts = [], {}
+    for edit in edits:
+        if edit.is_alone and chosen or edit.at in [it.at for it in chosen]:
+            continue
+        applied = edit.applied(crate, texts)
+        if applied is None and not chosen:
+            raise Failure(f"{crate.name}/{edit.name}: an `old:` isn't once in its file")
+        if applied is not None:
+            texts = applied
+            chosen.append(edit)
+        if edit.is_alone:
+            break
+    return chosen, texts
+
+
+def said_of(crate, texts, functions, kept):
+    """What the checker says of these functions, with these texts."""
+    with tempfile.TemporaryDirectory(prefix="edits-") as copy:
+        for part in ("src", "specs", "proofs"):
+            if os.path.isdir(f"{crate.folder}/{part}"):
+                shutil.copytree(f"{crate.folder}/{part}", f"{copy}/{part}")
+        for file, text in texts.items():
+            with open(f"{copy}/{file}", "w", encoding="utf-8") as changed:
+                changed.write(text)
+        text = crate.check(copy, kept, [word for name in functions for word in ("--only", name)])
+    said = dict(re.findall(rf"^fn {crate.name}::(\S+): (.*)$", text, re.M))
+    if not re.search(r"^only=\d+ proved=\d+", text, re.M) or not said.keys() >= functions:
+        raise Failure(f"{crate.name}: {' '.join(functions - said.keys())}: the checker said:\n{text[-2000:]}")
+    return said
+
+
+def try_all(crate, edits):
+    """How many of the edits are refused. Prints a line for each other."""
+    left, rounds, missed = sorted(edits, key=lambda it: it.is_alone), 0, 0
+    with tempfile.TemporaryDirectory(prefix="edits-kept-") as kept:
+        while left:
+            tried, texts = next_round(crate, left)
+            said = said_of(crate, texts, {it.at for it in tried}, kept)
+            proved = [it for it in tried if PROVED.match(said[it.at])]
+            for edit in proved:
+                print(f"edits: {crate.name}/{edit.name}: NOT REFUSED: {edit.at} is still proved", flush=True)
+            decided = [it for it in tried if it in proved or it.is_alone or not BY_OTHERS.match(said[it.at])]
+            if not decided:
+                raise Failure(f"{crate.name}: each calls a changed function: {' '.join(it.name for it in tried)}")
+            left = [it for it in left if it not in decided]
+            rounds, missed = rounds + 1, missed + len(proved)
+    print(f"edits: {crate.name}: {len(edits) - missed} of {len(edits)} refused, in {rounds} rounds", flush=True)
+    return len(edits) - missed
+
+
+def wait_for(names, log):
+    """Waits until a run of `make test` has proved these crates."""
+    while True:
+        with open(log, encoding="utf-8") as lines:
+            text = lines.read()
+        if all(re.search(rf"^rt: {name} (proved|is kept)", text, re.M) for name in names):
+            return
+        if re.search(r"^\d+ passed, |^rt: FAILED", text, re.M):
+            raise Failure(f"not all of {' '.join(names)} are proved")
+        time.sleep(2)
+
+
+def main():
+    parser = argparse.ArgumentParser(description=__doc__, formatter_class=argparse.RawDescriptionHelpFormatter)
+    parser.add_argument("--after", metavar="LOG")
+    parser.add_argument("crate", nargs="?")
+    parser.add_argument("names", nargs="*")
+    given = parser.parse_args()
+    crates = kit.crates()
+    if given.crate and given.crate not in crates:
+        parser.error(f"there is no crate {given.crate}")
+    tried = refused = 0
+    try:
+        for crate in [crates[given.crate]] if given.crate else crates.values():
+            edits = [Edit(path) for path in crate.edits("edits", given.names)]
+            if edits:
+                if given.after:
+                    wait_for(crate.below, given.after)
+                tried += len(edits)
+                refused += try_all(crate, edits)
+    except Failure as failure:
+        sys.exit(f"tools/edits.py: {failure}")
+    if not tried:
+        parser.error("there is no such edit")
+    print(f"edits: {refused} of {tried} refused")
+    sys.exit(refused != tried)
+
+
+main()

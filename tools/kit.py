@@ -1,0 +1,71 @@
+"""The crates of crates.txt, calls of the checker over the libraries that `make test` left proved, and files of edits, for the
+tools beside this file."""
+import os
+import re
+import subprocess
+
+ROOT = os.path.normpath(os.path.join(os.path.dirname(os.path.abspath(__file__)), os.pardir))
+
+
+class Crate:
+    """A crate: the libraries that it names, and all below it, lowest first."""
+
+    def __init__(self, name, kind, uses, earlier):
+        self.name, self.folder = name, f"{ROOT}/crates/{name}"
+        self.is_static = bool(kind)
+        self.uses = uses
+        self.below = []
+        for crate in (earlier[it] for it in uses if it in earlier):
+            self.below += [it for it in [*crate.below, crate.name] if it not in self.below]
+
+    def edits(self, folder, starts):
+        """The paths of the edits in a folder of the crate whose names begin so, all without `starts`."""
+        if not os.path.isdir(f"{self.folder}/{folder}"):
+            return []
+        names = sorted(it for it in os.listdir(f"{self.folder}/{folder}") if it.endswith(".edit"))
+        return [f"{self.folder}/{folder}/{it}" for it in names if not starts or it.startswith(tuple(starts))]
+
+    def check(self, copy, kept, words):
+        """What the checker says of a copy of the crate. It keeps what it proved in the folder `kept`."""
+        kit = os.path.dirname(subprocess.run(["rt", "doc"], stdout=subprocess.PIPE, text=True, check=True).stdout.strip())
+        root = "src/main.rt" if os.path.exists(f"{copy}/src/main.rt") else "src/lib.rt"
+        call = [f"{kit}/bin/rattle", "check", "--crate-name", self.name, root, "--links", f"{self.name}=", "--jobs", "1"]
+        call += ["--antt-project", f"{kit}/rattle/logic/antt-project.json", "--logic-built", f"{kit}/logic_built"]
+        call += ["--incremental", kept, "-L", f"dependency={kit}/rlibs"]
+        call += ["--crate-type", "staticlib"] if self.is_static else []
+        for name in ("std", *self.uses):
+            folder = f"{ROOT}/crates/{name}/out/rlib" if name in self.below else f"{kit}/rlibs"
+            call += ["--extern", f"{name}={folder}/{name}.rlib"]
+        for name in self.below:
+            call += ["-L", f"dependency={ROOT}/crates/{name}/out/rlib"]
+        how = {"stdin": subprocess.DEVNULL, "stdout": subprocess.PIPE, "stderr": subprocess.STDOUT}
+        return subprocess.run([*call, *words], cwd=copy, text=True, errors="replace", check=False, **how).stdout
+
+
+def crates():
+    """The crates by their names, each behind those that it uses."""
+    found = {}
+    with open(f"{ROOT}/crates.txt", encoding="utf-8") as lines:
+        for line in lines:
+            row = re.match(r"(\w+)( staticlib)?: *(.*)", line)
+            if row:
+                found[row[1]] = Crate(row[1], row[2], row[3].split(), found)
+    return found
+
+
+def read_edit(path):
+    """What the lines of an edit say by their first words, and its changes: a file, and an old and a new text."""
+    said, changes, file, old = {}, [], None, None
+    with open(path, encoding="utf-8") as lines:
+        for line in lines:
+            kind, _, text = line.rstrip("\n").partition(":")
+            text = text.removeprefix(" ")
+            if kind == "file":
+                file = text
+            elif kind == "old":
+                old = text
+            elif kind == "new":
+                changes.append((file, old, text))
+            else:
+                said[kind] = f"{said[kind]} {text}" if kind in said else text
+    return said, changes
