@@ -7,25 +7,25 @@ mod copies;
 mod matching;
 mod texts;
 
-use std::alloc::{AllocError, Global};
+use std::alloc::Global;
 use std::test::Fail;
 
 // A room that nothing else asks for: by it the library that refuses growths knows the marks.
 const MARK: usize = 1_048_573;
 
-// Where a call begins, or ends.
-fn mark(alloc: Global) -> Result<(), AllocError> {
-    let mut room: Vec<u8> = Vec::with_capacity(alloc, MARK)?;
-    room.push(0)?;
-    Ok(())
+// Where a call begins, or ends. The library doesn't refuse a mark.
+fn mark(alloc: Global) {
+    if let Ok(mut room) = Vec::with_capacity(alloc, MARK) {
+        let _ = room.push(0u8);
+    }
 }
 
 // What a call answers, between two marks.
 macro_rules! marked {
     ($alloc:expr, $call:expr) => {{
-        let begun = mark($alloc);
+        mark($alloc);
         let answer = $call;
-        begun.and(mark($alloc))?;
+        mark($alloc);
         answer
     }};
 }
