@@ -1,5 +1,5 @@
 -- The name that a partial source takes: the first of its candidates that a ref has.
-use Rattle.gix_refspec_text.proofs.Common.{arith, ◌≡◌, ◌⊎◌, inl, inr, ℕ, List, [], ◌∷◌, ◌++◌, None, refl, sym, ap, ◌∙◌, subst, AllByRecursion, bytes_eq, false≢true, bytes_eq-Decides, partial, HasKind}
+use Rattle.gix_refspec_text.proofs.Common.{[], arith, ◌≡◌, ◌⊎◌, inl, inr, ℕ, List, ◌∷◌, ◌++◌, None, refl, sym, ap, ◌∙◌, subst, AllByRecursion, bytes_eq, false≢true, bytes_eq-Decides, partial, HasKind}
 use Rattle.gix_refspec_text.proofs.Common.{IsCandidate, Ref, HasName, IsFirstCandidate, Takes, FirstCandidate, cases_Bool}
 use Rattle.gix_refspec_text.proofs.lemmas.lists.LacksLemmas.{first_with}
 

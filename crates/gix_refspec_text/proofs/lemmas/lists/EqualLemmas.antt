@@ -1,5 +1,5 @@
 -- Lists that are compared element by element.
-use Rattle.gix_refspec_text.proofs.Common.{◌≡◌, ◌↔◌, Bool, true, List, [], ◌∷◌, map, refl, pointwise, and_parts, and_from}
+use Rattle.gix_refspec_text.proofs.Common.{[], ◌≡◌, ◌↔◌, Bool, true, List, ◌∷◌, map, refl, pointwise, and_parts, and_from}
 
 pub same_keys : {A K : Type 0} (E : A → A → Bool) (key : A → K) → ((a b : A) → (E a b ≡ true) ↔ (key a ≡ key b)) → (xs ys : List A) → (pointwise E xs ys ≡ true) ↔ (map key xs ≡ map key ys)
 same_keys E key same [] [] = ((λ told. refl), (λ told. refl))

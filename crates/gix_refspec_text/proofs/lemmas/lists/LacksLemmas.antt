@@ -1,5 +1,5 @@
 -- The first and the last occurrence of a byte.
-use Rattle.gix_refspec_text.proofs.Common.{◌≡◌, ◌⊎◌, inl, inr, ℕ, List, [], ◌∷◌, ◌++◌, refl, sym, ap, subst, AllByRecursion, Lacks, cases_eq}
+use Rattle.gix_refspec_text.proofs.Common.{[], ◌≡◌, ◌⊎◌, inl, inr, ℕ, List, ◌∷◌, ◌++◌, refl, sym, ap, subst, AllByRecursion, Lacks, cases_eq}
 
 pub Lacks-here : (b : ℕ) (front back : List ℕ) → Lacks b (front ++ (b ∷ back)) → ⊥
 Lacks-here b [] back lacks = lacks.0 refl

@@ -7,5 +7,5 @@ pub reads_once : (op : Operation) (text : List ℕ) (r q : Reading) → Reads op
 reads_once op text r q by_r by_q =
     let a = fine_parts op text r by_r in
     let b = fine_parts op text q by_q in
-    let same = parts_once a.of.mode b.of.mode a.of.source b.of.source a.of.destination b.of.destination text a.of.parts b.of.parts in
+    let same = parts_once a.mode b.mode a.source b.source a.destination b.destination text a.parts b.parts in
     a.is ∙ rw (same.mode, same.source, same.destination) (sym b.is)

@@ -1,12 +1,12 @@
 -- The first reason that applies to parts, and that none applies to valid ones.
-use Rattle.gix_refspec_text.proofs.Common.{arith, ◌≡◌, ◌≢◌, inl, inr, ℕ, List, [], Option, None, Some, unwrap_or, refl, subst, Operation, Push, Fetch, Shape, HasStar, star, Mode, Normal, Negative}
+use Rattle.gix_refspec_text.proofs.Common.{[], arith, ◌≡◌, ◌≢◌, inl, inr, ℕ, List, Option, None, Some, unwrap_or, refl, subst, Operation, Push, Fetch, Shape, HasStar, star, Mode, Normal, Negative}
 use Rattle.gix_refspec_text.proofs.Common.{Refusal, PatternUnbalanced, NegativeEmpty, NegativeObjectHash, IsBadPattern, HasNegativeDestination, HasBadSource, HasBadDestination, IsUnbalanced}
 use Rattle.gix_refspec_text.proofs.Common.{IsOneStarred, Never, IsFirstReason, NeedsMemory, NoReasonBeforeSource, ReachesMemory, IsPositive, LooksLikeObjectHash, MemoryOr, HasShape, HasCheckedShape}
 use Rattle.gix_refspec_text.proofs.Common.{IsBadSide, IsReason, ShowsRefusal}
 use Rattle.gix_refspec_text.specs.declared.parsing.Error.{Error}
 use Rattle.gix_refspec_text.specs.declared.parsing.Error.TheVariants as error
 use Rattle.gix_refspec_text.proofs.lemmas.texts.TextLemmas.{Lacks-ContainsText}
-use Rattle.gix_refspec_text.proofs.lemmas.parsing.SideLemmas.{checked_fine, starred_fine, checked_starred, HasStar-pattern, HasStar-bad}
+use Rattle.gix_refspec_text.proofs.lemmas.parsing.SideLemmas.{checked_fine, starred_fine, checked_starred, HasStar-bad}
 
 pub shows_refusal : (M : Type 0) (P : Refusal → Type 0) (e : Error) → MemoryOr M P e → e ≢ error.Memory → ShowsRefusal P e
 shows_refusal M P e told other = grind arith
@@ -18,17 +18,14 @@ needs_memory M P e told same = subst (MemoryOr M P) same told
 pub MemoryOr-map : (M N : Type 0) (P Q : Refusal → Type 0) (e : Error) → (M → N) → ((f : Refusal) → P f → Q f) → MemoryOr M P e → MemoryOr N Q e
 MemoryOr-map M N P Q e m p h = grind arith
 
-pub positive : (m : Mode) → IsPositive m → m ≡ Negative → ⊥
-positive m pos same = subst IsPositive same pos
-
 pub no_negative : (m : Mode) (d : Option (List ℕ)) → IsPositive m → Never (HasNegativeDestination m d)
-no_negative m d pos e h = grind (arith, positive)
+no_negative m d pos e h = grind arith
 
 pub fetch_reaches : (m : Mode) (s : List ℕ) (d : Option (List ℕ)) → IsPositive m → NoReasonBeforeSource Fetch m s d
-fetch_reaches m s d pos = grind (arith, positive)
+fetch_reaches m s d pos = grind arith
 
 pub push_reaches : (m : Mode) (s t : List ℕ) → IsPositive m → (s ≢ [] → t ≡ [] → ⊥) → NoReasonBeforeSource Push m s (Some t)
-push_reaches m s t pos somewhere = grind (arith, positive)
+push_reaches m s t pos somewhere = grind arith
 
 pub starred_not_empty : (t : List ℕ) → HasStar t → t ≢ []
 starred_not_empty t has empty = Lacks-ContainsText star [] tt (subst HasStar empty has)
@@ -37,7 +34,7 @@ pub bad_source_of_push : (s t : List ℕ) (f : Refusal) → IsBadPattern s f →
 bad_source_of_push s t f bad = record { source = starred_not_empty s (HasStar-bad s f bad); refusal = bad }
 
 pub push_alone_reaches : (m : Mode) (s : List ℕ) → IsPositive m → (s ≡ [] → m ≡ Normal → ⊥) → NoReasonBeforeSource Push m s None
-push_alone_reaches m s pos full = grind (arith, positive)
+push_alone_reaches m s pos full = grind arith
 
 pub reason_at_source : (op : Operation) (m : Mode) (s : List ℕ) (d : Option (List ℕ)) (e : Refusal) → NoReasonBeforeSource op m s d → HasBadSource op s d e → IsFirstReason op m s d e
 reason_at_source op m s d e before bad = inr (before.0, inr (before.1, inr (before.2, inl bad)))
@@ -62,10 +59,10 @@ pub destination_fine : (d : Option (List ℕ)) (k : Shape) → HasCheckedShape (
 destination_fine d k fine e bad = checked_fine bad.word k (rw bad.is at fine) e (bad.destination, bad.refusal)
 
 pub sides_balanced : (s t : List ℕ) (k : Shape) → HasShape s k → HasShape t k → IsOneStarred s t → ⊥
-sides_balanced s t k a b h = grind (arith, Lacks-ContainsText, HasStar-pattern)
+sides_balanced s t k a b h = grind (arith, Lacks-ContainsText)
 
 pub sides_unbalanced : (s t : List ℕ) (j k : Shape) → HasShape s j → HasShape t k → j ≢ k → IsOneStarred s t
-sides_unbalanced s t j k a b differ = grind (arith, HasStar-pattern)
+sides_unbalanced s t j k a b differ = grind arith
 
 pub unbalanced_somewhere : (s t : List ℕ) → IsOneStarred s t → (s ≢ [] → t ≡ [] → ⊥) → t ≢ []
 unbalanced_somewhere s t (inl h) somewhere empty = somewhere (starred_not_empty s h.0) empty

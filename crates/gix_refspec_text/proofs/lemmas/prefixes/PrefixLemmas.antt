@@ -1,6 +1,6 @@
 -- Prefixes and expansions of sides.
-use Rattle.gix_refspec_text.proofs.Common.{is_hex_digit, ◌≡◌, ◌≢◌, inl, inr, ◌≤◌, ◌<◌, ℕ, Bool, true, false, not, ◌↔◌, IsTrue, MatchBool, MatchOption, Bor, if◌then◌else◌, List, [], ◌∷◌, ◌++◌, codes, map, length}
-use Rattle.gix_refspec_text.proofs.Common.{get_or, is_ok, Result, OnOk, OnErr, refl, sym, ap, ◌∙◌, subst, length-append, arith, append_cancel_left, length-map, map-append, false≢true, IsIdText, Lacks}
+use Rattle.gix_refspec_text.proofs.Common.{[], is_hex_digit, ◌≡◌, ◌≢◌, inl, inr, ◌≤◌, ◌<◌, ℕ, Bool, true, false, not, ◌↔◌, IsTrue, MatchBool, MatchOption, Bor, if◌then◌else◌, List, ◌∷◌, ◌++◌, codes}
+use Rattle.gix_refspec_text.proofs.Common.{map, length, get_or, is_ok, Result, OnOk, OnErr, refl, sym, ap, ◌∙◌, subst, length-append, arith, length-map, map-append, false≢true, IsIdText, Lacks}
 use Rattle.gix_refspec_text.proofs.Common.{ContainsText, BeginsWith, IsSplit, HasOneStar, star, slash, head, bracket, Reading, IsId, IsRefPrefix, IsPrefix, of_head, of_name, of_pattern, HasNoPrefix}
 use Rattle.gix_refspec_text.proofs.Common.{Expands, to_prefix, IsAsked, IsExpansion, ◌⊎◌, sameb, Operation, Fetch, ObjectId, id_bytes, HasKind, IsCovering, by_prefix, by_candidates, HasCoveringSource}
 use Rattle.std.specs.Prelude.{⊤}
@@ -28,22 +28,18 @@ prefix_tells x p before after split (of_pattern first last other tells _) =
 pub no_prefix : (x before after : List ℕ) → IsSplit before after x → ¬ (IsRefPrefix before after) → HasNoPrefix x
 no_prefix x before after split vague p is = vague (prefix_tells x p before after split is)
 
--- the text before a star is a prefix if it continues after `refs/` and the pattern contains no bracket
-pub tells : (before after rest : List ℕ) → before ≡ codes "refs/" ++ rest → 1 ≤ length rest → Lacks bracket before → Lacks bracket after → IsRefPrefix before after
-tells before after rest below full first last = search (arith, append_cancel_left)
-
 -- a test for a bracket decides whether a pattern that begins with `refs/` has a prefix
 pub told_clear : (before after rest : List ℕ) → before ≡ codes "refs/" ++ rest → 1 ≤ length rest → Lacks bracket before → (r : Bool) → MatchBool r (ContainsText (bracket ∷ []) after) (Lacks bracket after) → IsTrue (not r) ↔ IsRefPrefix before after
-told_clear before after rest below full first h holds = grind (arith, false≢true, Lacks-ContainsText, tells)
+told_clear before after rest below full first h holds = grind (arith, Lacks-ContainsText)
 
 pub told_bracket : (before after : List ℕ) (r : Bool) → MatchBool r (ContainsText (bracket ∷ []) before) (Lacks bracket before) → ContainsText (bracket ∷ []) before → IsTrue (not r) ↔ IsRefPrefix before after
-told_bracket before after r told holds = grind (arith, false≢true, Lacks-ContainsText)
+told_bracket before after r told holds = grind (arith, Lacks-ContainsText)
 
 pub prefix_expands : (x p : List ℕ) → IsPrefix x p → ¬ (Expands x [])
 prefix_expands x p is nothing = let same = (one_prefix x).expanded (p ∷ []) [] (to_prefix p is refl) nothing in cc
 
 pub itself_expands : (x rest : List ℕ) → x ≡ codes "refs/" ++ rest → Lacks slash rest → ¬ (Expands x [])
-itself_expands x rest below lacks h = grind (arith, append_cancel_left, Lacks-ContainsText)
+itself_expands x rest below lacks h = grind (arith, Lacks-ContainsText)
 
 pub partial_expands : (x : List ℕ) → ¬ (BeginsWith (codes "refs/") x) → ¬ (IsId x) → ¬ (Expands x [])
 partial_expands x outside unlike h = grind arith
@@ -93,7 +89,7 @@ told_source r x b fetch asked told = (
 )
 
 pub fetch_from_test : (o : Operation) → false ≡ not (sameb the_operation o Fetch) → o ≡ Fetch
-fetch_from_test o test = grind (arith, false≢true)
+fetch_from_test o test = grind arith
 
 pub told_name : (x : List ℕ) (k : DeclaredKind) → HasKind x (kind_of_side k) → ((n : Bor (List ℕ)) × (k ≡ kind.FullName n)) ⊎ ((i : ObjectId) × (k ≡ kind.Object i)) → IsCovering x
 told_name x (kind.FullName n) has one = by_prefix x has.2 (of_name has.2 has.1 refl)

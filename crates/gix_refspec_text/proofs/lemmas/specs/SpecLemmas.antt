@@ -1,7 +1,6 @@
 -- Facts on accepted readings, without a text that has the reading at hand.
-use Rattle.gix_refspec_text.proofs.Common.{arith, ◌≡◌, ℕ, Bool, true, false, List, Option, None, Some, option_map, refl, sym, ap, ◌∙◌, subst, inl, inr, nat_eq, ◌↔◌, pointwise, false≢true, not_there}
-use Rattle.gix_refspec_text.proofs.Common.{Operation, Reading, Reads, IsAccepted, Meaning, meaning_of, text_of, printed, keys, IsPrintedBack, KeepsOperation, SaysForOperation, EqualReadings}
-use Rattle.gix_refspec_text.proofs.Common.{same_Some}
+use Rattle.gix_refspec_text.proofs.Common.{refl, arith, ◌≡◌, ℕ, Bool, true, List, Option, Some, option_map, sym, ap, ◌∙◌, subst, inl, inr, nat_eq, ◌↔◌, pointwise, not_there, Operation, Reading, Reads}
+use Rattle.gix_refspec_text.proofs.Common.{IsAccepted, Meaning, meaning_of, text_of, printed, keys, IsPrintedBack, KeepsOperation, SaysForOperation, EqualReadings, same_Some}
 use Rattle.gix_refspec_text.specs.Laws.Order.{same_meaning, same_keys}
 use Rattle.gix_refspec_text.proofs.lemmas.specs.FormsBackLemmas.{read_back, once_or_refused, equal_texts}
 use Rattle.gix_refspec_text.proofs.lemmas.parsing.ReadsLemmas.{fine_parts}
@@ -13,8 +12,7 @@ pub says_for_operation : (r : Reading) → SaysForOperation r
 says_for_operation r m is = grind arith
 
 test_shown : {P : Type 0} (b : Bool) → ∥ P ∥₁ → (P → b ≡ true) → b ≡ true
-test_shown true there shows = refl
-test_shown false there shows = absurd (not_there there (λ fact. false≢true (shows fact)))
+test_shown b there shows = grind (arith, not_there)
 
 -- to show that two meanings are equal, a fact may be assumed of which only the existence is known
 meaning_shown : {P : Type 0} (m n : Option Meaning) → ∥ P ∥₁ → (P → m ≡ n) → m ≡ n
@@ -22,11 +20,7 @@ meaning_shown m n there shows =
     same_meaning m n (test_shown (pointwise (pointwise nat_eq) (keys m) (keys n)) there (λ fact. same_keys m n (shows fact)))
 
 says_by : (r : Reading) (m : Option Meaning) → meaning_of r ≡ m → ∥ IsAccepted r ∥₁ → (n : Meaning) × (meaning_of r ≡ Some n)
-says_by r None is accepted = absurd (not_there accepted (λ a.
-    let back = read_back r.operation a.0 r a.1 in
-    let none = sym (ap (option_map text_of) is) ∙ back.is in
-    cc))
-says_by r (Some m) is accepted = (m, is)
+says_by r m is accepted = grind (arith, not_there, read_back)
 
 pub says : (r : Reading) → ∥ IsAccepted r ∥₁ → (m : Meaning) × (meaning_of r ≡ Some m)
 says r accepted = says_by r (meaning_of r) refl accepted
@@ -38,15 +32,10 @@ same_by_text r q accepted_r accepted_q operation same =
     (equal_texts r.operation a.0 b.0 r q a.1 (subst (λ (op : Operation). Reads op b.0 q) (sym operation) b.1)).1 same))
 
 same_operation : (r q : Reading) → ∥ IsAccepted r ∥₁ → meaning_of r ≡ meaning_of q → r.operation ≡ q.operation
-same_operation r q accepted same =
-    let said = says r accepted in
-    sym (says_for_operation r said.0 said.1) ∙ says_for_operation q said.0 (sym same ∙ said.1)
+same_operation r q accepted same = grind (arith, says, says_for_operation)
 
 pub equal_readings : (r q : Reading) → ∥ IsAccepted r ∥₁ → ∥ IsAccepted q ∥₁ → EqualReadings r q
-equal_readings r q accepted_r accepted_q = (
-  λ same. (same_operation r q accepted_r same, ap (option_map text_of) same),
-  λ both. same_by_text r q accepted_r accepted_q both.0 both.1,
-)
+equal_readings r q accepted_r accepted_q = grind (arith, same_operation, same_by_text)
 
 pub equal_keys : (m n : Option Meaning) → (pointwise (pointwise nat_eq) (keys m) (keys n) ≡ true) ↔ (m ≡ n)
 equal_keys m n = (same_meaning m n, same_keys m n)

@@ -1,5 +1,5 @@
 -- The components of a text, found by the slashes around them, with a slash before the text for the first one.
-use Rattle.gix_refspec_text.proofs.Common.{arith, ◌≡◌, ℕ, List, [], ◌∷◌, ◌++◌, refl, sym, ap, ◌∙◌, inl, inr, append_assoc, AllByRecursion, join_with_byte, cases_eq, append-nil, Lacks, slash}
+use Rattle.gix_refspec_text.proofs.Common.{[], arith, ◌≡◌, ℕ, List, ◌∷◌, ◌++◌, refl, sym, ap, ◌∙◌, inl, inr, append_assoc, AllByRecursion, join_with_byte, cases_eq, append-nil, Lacks, slash}
 use Rattle.gix_refspec_text.proofs.Common.{SomeComponent}
 use Rattle.gix_refspec_text.proofs.lemmas.lists.AllLemmas.{all_join}
 use Rattle.gix_refspec_text.proofs.lemmas.lists.LacksLemmas.{LastIndex, lacks_or_last}

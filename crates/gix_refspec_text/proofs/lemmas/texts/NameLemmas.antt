@@ -1,8 +1,8 @@
 -- The faults that one pass over the bytes finds are the faults of a name.
-use Rattle.gix_refspec_text.proofs.Common.{same_from_push, ◌≡◌, ◌≢◌, ℕ, List, [], ◌∷◌, ◌++◌, codes, length, take, drop, get_or, ◌+◌, ◌<◌, ◌≤◌, suc, Option, MatchOption, true, IsTrue, refl, sym, ap}
-use Rattle.gix_refspec_text.proofs.Common.{◌∙◌, subst, inl, inr, append_assoc, arith, Bool, ◌-◌, nat_eq, Decides, ends_with, ends_is, Decides-eqb, append-nil, ◌⊎◌, false≢true, Error, Empty}
-use Rattle.gix_refspec_text.proofs.Common.{EmptyComponent, StartsWithDot, LockSuffix, EndsWithDot, RepeatedDot, ReflogPortion, Asterisk, InvalidByte, ContainsText, BeginsWith, EndsWith, slash, star}
-use Rattle.gix_refspec_text.proofs.Common.{dot, brace, is_refused_byte, SomeComponent, HasFault, IsName, AddsFault, Added, IsClean, LeavesFault, Finds, drop_of_length-le, take_more}
+use Rattle.gix_refspec_text.proofs.Common.{[], same_from_push, ◌≡◌, ◌≢◌, ℕ, List, ◌∷◌, ◌++◌, codes, length, take, drop, get_or, ◌+◌, ◌<◌, ◌≤◌, suc, Option, MatchOption, refl, sym, ap, ◌∙◌, subst, inl}
+use Rattle.gix_refspec_text.proofs.Common.{inr, append_assoc, arith, Bool, ◌-◌, nat_eq, Decides, ends_with, ends_is, Decides-eqb, append-nil, ◌⊎◌, Error, Empty, EmptyComponent, StartsWithDot}
+use Rattle.gix_refspec_text.proofs.Common.{LockSuffix, EndsWithDot, RepeatedDot, ReflogPortion, Asterisk, InvalidByte, ContainsText, BeginsWith, EndsWith, slash, star, dot, brace, SomeComponent}
+use Rattle.gix_refspec_text.proofs.Common.{HasFault, IsName, AddsFault, Added, IsClean, LeavesFault, Finds, drop_of_length-le, take_more}
 use Rattle.gix_refspec_text.proofs.lemmas.texts.TextLemmas.{split_at}
 use Rattle.gix_refspec_text.proofs.lemmas.texts.ComponentLemmas.{IsEnd, IsComponent, Pieces, pieces_of, fenced, fenced-IsEnd, last_slash_after_one, SomeComponent-from, SomeComponent-index}
 use Rattle.gix_refspec_text.proofs.lemmas.lists.AllLemmas.{all_join}
@@ -34,14 +34,8 @@ IsClean-more y c clean none e added =
       | inr index ↦ clean e (record { before = added.before; byte = added.byte; after = index.0; here = index.1; fault = added.fault })
     ]
 
-dot_no_slash : dot ≢ slash
-dot_no_slash same = omega (arith, same)
-
-refused_no_slash : (c : ℕ) → IsTrue (is_refused_byte c) → c ≢ slash
-refused_no_slash c refused same = false≢true (subst (λ b. is_refused_byte b ≡ true) same refused)
-
 pub slash_adds : (y : List ℕ) (e : Error) → ¬ (EndsWith (codes "/") y) → ¬ (EndsWith (codes ".lock") y) → ¬ (AddsFault y slash e)
-slash_adds y e whole unlocked fault = grind (arith, refused_no_slash)
+slash_adds y e whole unlocked fault = grind arith
 
 pub IsClean-start : IsClean (slash ∷ [])
 IsClean-start = IsClean-more [] slash (λ e added. no_middle added.before added.after added.byte added.here) (λ e.
@@ -62,14 +56,14 @@ dotted_component x p after here =
     let there = here ∙ append_assoc p (slash ∷ []) (dot ∷ after) ∙ ap (λ z. p ++ (slash ∷ (dot ∷ z))) (sym split.here) in
     let ends = fenced-IsEnd split.others in
     SomeComponent-from (BeginsWith (codes ".")) (dot ∷ split.first) x
-    (record { before = p; after = fenced split.others; here = there; whole = (dot_no_slash, split.first_whole); ends = ends })
+    (record { before = p; after = fenced split.others; here = there; whole = (omega arith, split.first_whole); ends = ends })
     (record { after = split.first; here = refl })
 
 regroup : (a b c d : List ℕ) → ((a ++ b) ++ c) ++ d ≡ a ++ ((b ++ c) ++ d)
 regroup a b c d = simp append_assoc
 
 locked_component : (x p after : List ℕ) → slash ∷ x ≡ (p ++ codes ".lock") ++ after → IsEnd after → SomeComponent (EndsWith (codes ".lock")) x
-locked_component x [] after here ends = let first : slash ≡ dot = cc in absurd (dot_no_slash (sym first))
+locked_component x [] after here ends = let first : slash ≡ dot = cc in absurd (omega (arith, first))
 locked_component x (c ∷ p) after here ends =
     let first : slash ≡ c = cc in
     let split : LastIndex slash (c ∷ p) = subst (λ b. LastIndex slash (b ∷ p)) first (last_slash_after_one p) in
@@ -91,12 +85,12 @@ pair_in_text x p after a b c other here ends same =
     record { before = found.before; after = after; here = found.here }
 
 pub HasFault-added : (x : List ℕ) (e : Error) → x ≢ [] → Added (slash ∷ x) e → HasFault x e
-HasFault-added x e some added = grind (arith, empty_component, dotted_component, locked_component, pair_in_text, dot_no_slash, byte_in_text, refused_no_slash)
+HasFault-added x e some added = grind (arith, empty_component, dotted_component, locked_component, pair_in_text, byte_in_text)
 
 pub HasFault-left : (x : List ℕ) (e : Error) → x ≢ [] → LeavesFault (slash ∷ x) e → HasFault x e
 HasFault-left x EmptyComponent some left = (some, empty_component x left.before [] (left.here ∙ sym (append-nil _)) tt)
 HasFault-left x LockSuffix some left = locked_component x left.before [] (left.here ∙ sym (append-nil _)) tt
-HasFault-left x EndsWithDot some left = after_slash x left.before [] dot dot_no_slash left.here
+HasFault-left x EndsWithDot some left = after_slash x left.before [] dot (omega arith) left.here
 HasFault-left x _ some left = absurd left
 
 shown_by_end : (y p after : List ℕ) (e : Error) → y ≡ p ++ after → IsEnd after → AddsFault p slash e → LeavesFault p e → Added y e ⊎ LeavesFault y e
@@ -162,7 +156,7 @@ pub locked_after_slash : (x : List ℕ) (tested : Bool) → tested ≡ ends_with
 locked_after_slash x tested by_test =
     let ends = ends_is Decides-eqb x (codes ".lock") tested by_test in (
       (λ yes. record { before = slash ∷ take (length x - 5) x; here = ap (λ z. slash ∷ z) (ends.0 yes) }),
-      (λ locked. let found : EndsWith (codes ".lock") x = after_slash x locked.before (codes "lock") dot dot_no_slash locked.here in ends.1 found.before found.here),
+      (λ locked. let found : EndsWith (codes ".lock") x = after_slash x locked.before (codes "lock") dot (omega arith) locked.here in ends.1 found.before found.here),
     )
 
 pub ends_last : (x : List ℕ) → 1 ≤ length x → EndsWith (get_or x (length x - 1) 0 ∷ []) (slash ∷ x)

@@ -1,5 +1,5 @@
 -- The texts of ids: which texts they are, that each is the text of only one id, and that decoding finds it.
-use Rattle.gix_refspec_text.proofs.Common.{nat_tests, ◌≡◌, ℕ, zero, suc, ◌+◌, ◌*◌, ◌/◌, ◌%◌, ◌<◌, Bool, List, [], ◌∷◌, length, slice_index, take, nat_lt, ◌⊎◌, inl, inr, Option, Some, is_some, true}
+use Rattle.gix_refspec_text.proofs.Common.{[], nat_tests, ◌≡◌, ℕ, zero, suc, ◌+◌, ◌*◌, ◌/◌, ◌%◌, ◌<◌, Bool, List, ◌∷◌, length, slice_index, take, nat_lt, ◌⊎◌, inl, inr, Option, Some, is_some, true}
 use Rattle.gix_refspec_text.proofs.Common.{agree_below_at, not, ◌||◌, eqb, eqb-true, unwrap_or, false, Result, Ok, Err, refl, sym, ap, ◌∙◌, subst, arith, ◌++◌, drop, IsOk, MatchBool, MatchResult}
 use Rattle.gix_refspec_text.proofs.Common.{AllPass, SomeIndex, list_all, IsAscii, IsUtf8, false≢true, cases_Bool, cases_eq, ltb-true, length-take-le, take-append-le, take_all, All-cons, All-head}
 use Rattle.gix_refspec_text.proofs.Common.{All-nil, All-tail, All-weaker, AllPass-from_list_all, Digit, Length, Kind, Sha1, Sha256, HasIdFault, IsIdLength, IsIdText, IsLowerText, IsSpelledBy, Spells}
@@ -134,10 +134,6 @@ IsId-by_digits t false size same = λ id. false≢true (same ∙ list_all-from_A
 length-room : (kind : Kind) (buffer : List ℕ) → length buffer ≡ 32 → length (take (bytes_of kind) buffer) ≡ bytes_of kind
 length-room kind buffer room = length-take-le (bytes_of kind) buffer (grind arith)
 
--- the call that decodes fails exactly if the text doesn't decode, and otherwise writes the bytes
-decoded : (d : Result (List ℕ) FromHexError) (r : Result (Unit {0}) FromHexError) (new : List ℕ) → MatchResult d (λ bytes. (r ≡ Ok tt) × (new ≡ bytes)) (λ e. r ≡ Err e) → MatchBool (is_err r) (¬ (IsOk d)) (d ≡ Ok new)
-decoded d r new is = grind (arith, false≢true)
-
 -- so it reads the id, or finds that some byte isn't a digit
 reads : (kind : Kind) (t room new : List ℕ) (n : ℕ) (failed : Bool) → n ≡ bytes_of kind → length t ≡ digits_of kind → MatchBool failed (¬ (IsOk (decode_sized t (bytes_of kind)))) (decode_sized t (bytes_of kind) ≡ Ok new) → MatchBool failed (HasIdFault t Digit) (IsIdText t (take (bytes_of kind) (new ++ drop n room)))
 reads kind t room new n true size digits refused = elim (digits_or_not t) [
@@ -151,7 +147,7 @@ reads kind t room new n false size digits made =
     subst (IsIdText t) (sym whole) text
 
 pub read_id : (kind : Kind) (t room new : List ℕ) (n : ℕ) (r : Result (Unit {0}) FromHexError) → n ≡ bytes_of kind → length room ≡ 32 → length t ≡ digits_of kind → MatchResult (decode_sized t (length (take n room))) (λ bytes. (r ≡ Ok tt) × (new ≡ bytes)) (λ e. r ≡ Err e) → MatchBool (is_err r) (HasIdFault t Digit) (IsIdText t (take (bytes_of kind) (new ++ drop n room)))
-read_id kind t room new n r size fits digits told = search (arith, length-room, reads, decoded)
+read_id kind t room new n r size fits digits told = search (arith, length-room, reads)
 
 IsAscii-lower_digits : IsAscii lower_digits
 IsAscii-lower_digits =

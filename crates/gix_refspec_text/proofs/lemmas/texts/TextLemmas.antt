@@ -1,5 +1,5 @@
 -- Bytes that a text lacks, and texts that are split at an index.
-use Rattle.gix_refspec_text.proofs.Common.{below_more, ◌≡◌, ◌||◌, MatchBool, nat_eq, ℕ, suc, ◌+◌, ◌-◌, ◌<◌, ◌≤◌, ◌==◌, Bool, true, false, List, [], ◌∷◌, ◌++◌, length, get_or, take, drop, sym, ap, ◌∙◌}
+use Rattle.gix_refspec_text.proofs.Common.{[], below_more, ◌≡◌, ◌||◌, MatchBool, nat_eq, ℕ, suc, ◌+◌, ◌-◌, ◌<◌, ◌≤◌, ◌==◌, Bool, true, false, List, ◌∷◌, ◌++◌, length, get_or, take, drop, sym, ap, ◌∙◌}
 use Rattle.gix_refspec_text.proofs.Common.{subst, arith, eq-eqb, take-append-drop, drop-cons, length-drop, drop-drop, get_or-drop, take_all, eqb-true, false≢true, add-one, Lacks, ContainsText}
 use Rattle.gix_refspec_text.proofs.lemmas.lists.LacksLemmas.{Lacks-here}
 

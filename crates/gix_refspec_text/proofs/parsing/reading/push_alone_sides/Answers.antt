@@ -1,5 +1,5 @@
 -- A source alone was checked. If it is empty, the text has a sign.
-use Rattle.gix_refspec_text.proofs.Common.{◌≡◌, [], ap, ◌∙◌, Normal, mode_of, side_of}
+use Rattle.gix_refspec_text.proofs.Common.{[], ◌≡◌, ap, ◌∙◌, Normal, mode_of, side_of}
 use Rattle.gix_refspec_text.proofs.lemmas.parsing.SideLemmas.{signed_from_test}
 use Rattle.gix_refspec_text.proofs.lemmas.parsing.ReadsLemmas.{fine_alone, sides_read}
 use Rattle.gix_refspec_text.proofs.lemmas.lists.EmptyLemmas.{full_from_test}
