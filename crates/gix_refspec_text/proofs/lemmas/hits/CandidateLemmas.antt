@@ -1,7 +1,6 @@
 -- The name that a partial source takes: the first of its candidates that a ref has.
 use Rattle.gix_refspec_text.proofs.Common.{[], arith, ◌≡◌, ◌⊎◌, inl, inr, ℕ, List, ◌∷◌, ◌++◌, None, refl, sym, ap, ◌∙◌, subst, AllByRecursion, bytes_eq, false≢true, bytes_eq-Decides, partial, HasKind}
-use Rattle.gix_refspec_text.proofs.Common.{IsCandidate, Ref, HasName, IsFirstCandidate, Takes, FirstCandidate, cases_Bool}
-use Rattle.gix_refspec_text.proofs.lemmas.lists.LacksLemmas.{first_with}
+use Rattle.gix_refspec_text.proofs.{Common.{IsCandidate, Ref, HasName, IsFirstCandidate, Takes, FirstCandidate, cases_Bool}, lemmas.lists.LacksLemmas.first_with}
 
 has_name : (refs : List Ref) (n : List ℕ) → HasName refs n ⊎ (HasName refs n → ⊥)
 has_name [] n = inr (λ none. none)

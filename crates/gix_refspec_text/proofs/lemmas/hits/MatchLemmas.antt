@@ -1,9 +1,8 @@
 -- The refs that sides match, and the prefixes and candidates of sides.
 use Rattle.gix_refspec_text.proofs.Common.{[], arith, ◌≡◌, ◌≢◌, ℕ, List, ◌∷◌, ◌++◌, codes, Option, None, Some, refl, sym, ap, ◌∙◌, subst, append-nil, append_cancel_left, append_cancel_right, Lacks}
 use Rattle.gix_refspec_text.proofs.Common.{BeginsWith, IsSplit, star, head, SideKind, pattern, full_name, object, partial, HasKind, IsId, IsCandidate, Ref, MatchesAs, HasNoPrefix, to_candidates}
-use Rattle.gix_refspec_text.proofs.Common.{OneWord, PrefixBegins, Candidates}
-use Rattle.gix_refspec_text.proofs.lemmas.hits.CandidateLemmas.{first_candidate, first_of_one, takes_first}
-use Rattle.gix_refspec_text.proofs.lemmas.lists.LacksLemmas.{Lacks-here, first_once}
+use Rattle.gix_refspec_text.proofs.{Common.{OneWord, PrefixBegins, Candidates}, lemmas.hits.CandidateLemmas.{first_candidate, first_of_one, takes_first}, lemmas.lists.LacksLemmas.Lacks-here}
+use Rattle.gix_refspec_text.proofs.lemmas.lists.LacksLemmas.{first_once}
 
 pub one_word : (before after n : List ℕ) → OneWord before after n
 one_word before after n v w by_v by_w = append_cancel_right v w after (append_cancel_left before (v ++ after) (w ++ after) (sym by_v ∙ by_w))

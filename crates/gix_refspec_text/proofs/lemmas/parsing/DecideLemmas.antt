@@ -5,13 +5,12 @@ use Rattle.gix_refspec_text.proofs.Common.{Asterisk, InvalidByte, EndsWith, slas
 use Rattle.gix_refspec_text.proofs.Common.{Option, None, Some, unwrap_or, nat_le, is_ascii_hexdigit, leb-true, le-leb, Operation, Push, Fetch, Shape, Plain, Pattern, letter, plus, caret, colon}
 use Rattle.gix_refspec_text.proofs.Common.{ReplacesStar, Mode, Normal, Forced, Negative, Reading, Refusal, NegativeWithDestination, PushToEmpty, PatternUnsupported, ReferenceName, PatternUnbalanced}
 use Rattle.gix_refspec_text.proofs.Common.{NegativeEmpty, NegativeObjectHash, IsBadPattern, IsFirstReason, IsRefused, IsSigned, IsPositive, LooksLikeObjectHash, Reads, HasShape, HasCheckedShape}
-use Rattle.gix_refspec_text.proofs.Common.{IsBadSide, list_all, ◌&&◌, and_parts, and_from, AllPass-from_list_all, list_all-from_AllPass}
-pub use Rattle.gix_refspec_text.proofs.lemmas.lists.LacksLemmas.{lacks_or_first, lacks_or_last}
-use Rattle.gix_refspec_text.proofs.lemmas.texts.NameLemmas.{IsClean-more, IsClean-start, HasFault-added, HasFault-left, IsName-from_clean, end_leaves}
-use Rattle.gix_refspec_text.proofs.lemmas.parsing.ReasonLemmas.{fetch_reaches, push_reaches, push_alone_reaches, negative_reaches, reason_at_source, reason_at_destination, reason_against_object}
-use Rattle.gix_refspec_text.proofs.lemmas.parsing.ReasonLemmas.{reason_against_nothing, fetch_source_fine, push_source_fine, bad_destination, bad_source_of_push, unbalanced_fetch, unbalanced_push}
-use Rattle.gix_refspec_text.proofs.lemmas.parsing.ReasonLemmas.{bad_negative, no_negative}
+use Rattle.gix_refspec_text.proofs.{Common.{IsBadSide, list_all, ◌&&◌, and_parts, and_from, AllPass-from_list_all, list_all-from_AllPass}, lemmas.texts.NameLemmas.{IsClean-more, IsClean-start}}
+use Rattle.gix_refspec_text.proofs.lemmas.{texts.NameLemmas.{HasFault-added, HasFault-left, IsName-from_clean, end_leaves}, parsing.ReasonLemmas.{fetch_reaches, push_reaches, push_alone_reaches}}
+use Rattle.gix_refspec_text.proofs.lemmas.parsing.ReasonLemmas.{negative_reaches, reason_at_source, reason_at_destination, reason_against_object, reason_against_nothing, fetch_source_fine}
+use Rattle.gix_refspec_text.proofs.lemmas.parsing.ReasonLemmas.{push_source_fine, bad_destination, bad_source_of_push, unbalanced_fetch, unbalanced_push, bad_negative, no_negative}
 use Rattle.gix_refspec_text.proofs.lemmas.parsing.ReadsLemmas.{AreFine, fine_fetch, fine_alone, fine_push, fine_negative, made, fine_reads, refused}
+pub use Rattle.gix_refspec_text.proofs.lemmas.lists.LacksLemmas.{lacks_or_first, lacks_or_last}
 
 abbrev pub Decided : Type 0 → Type 0
 Decided P = P ⊎ (P → ⊥)

@@ -1,6 +1,5 @@
 -- A text has only one sign, source and destination.
-use Rattle.gix_refspec_text.proofs.Common.{◌≡◌, ℕ, List, Option, arith, Mode, AreParts}
-use Rattle.gix_refspec_text.proofs.lemmas.lists.LacksLemmas.{Lacks-here, last_once}
+use Rattle.gix_refspec_text.proofs.{Common.{◌≡◌, ℕ, List, Option, arith, Mode, AreParts}, lemmas.lists.LacksLemmas.{Lacks-here, last_once}}
 
 pub record SameParts (m n : Mode) (s t : List ℕ) (d e : Option (List ℕ)) : Type 0 where
   pub mode : m ≡ n

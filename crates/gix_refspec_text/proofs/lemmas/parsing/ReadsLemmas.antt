@@ -3,14 +3,10 @@ use Rattle.gix_refspec_text.proofs.Common.{[], arith, ◌≡◌, ◌≢◌, inl,
 use Rattle.gix_refspec_text.proofs.Common.{Pattern, IsName, IsPattern, Mode, Normal, Forced, Negative, Reading, Refusal, Never, IsFirstReason, IsRefused, ReachesMemory, MayNeedMemory, named_by}
 use Rattle.gix_refspec_text.proofs.Common.{IsPositive, IsNameOrPattern, LooksLikeObjectHash, AreAlike, AreParts, fetched, pushed, Reads, fetches_nothing_named, fetches_colon, fetches, updates}
 use Rattle.gix_refspec_text.proofs.Common.{updates_from_head, fetch_excludes, pushes_plus, pushes_colon, pushes, deletes, pushes_pattern, pushes_to, push_excludes, mode_of, IsErrorOf, HasShape}
-use Rattle.gix_refspec_text.proofs.Common.{HasCheckedShape, side_of, named_or_head, destination_of, HasParts, IsReasonAgainst, bstr_bytes}
-use Rattle.gix_refspec_text.specs.Private.Sides.{AreSidesOf}
-use Rattle.gix_refspec_text.specs.declared.parsing.Error.{Error}
-use Rattle.gix_refspec_text.specs.declared.parsing.reading.Parts.{Parts}
-use Rattle.gix_refspec_text.specs.declared.parsing.reading.Sides.{Sides}
-use Rattle.gix_refspec_text.proofs.lemmas.parsing.SideLemmas.{checked_starred, empty_no_pattern}
-use Rattle.gix_refspec_text.proofs.lemmas.parsing.PartsLemmas.{parts_once}
-use Rattle.gix_refspec_text.proofs.lemmas.parsing.ReasonLemmas.{MemoryOr-map, fetch_source_fine, push_source_fine, alone_fine, destination_fine, sides_balanced}
+use Rattle.gix_refspec_text.proofs.{Common.{HasCheckedShape, side_of, named_or_head, destination_of, HasParts, IsReasonAgainst, bstr_bytes}, lemmas.parsing.SideLemmas.checked_starred}
+use Rattle.gix_refspec_text.proofs.lemmas.parsing.{SideLemmas.empty_no_pattern, PartsLemmas.parts_once, ReasonLemmas.{MemoryOr-map, fetch_source_fine, push_source_fine, alone_fine, destination_fine}}
+use Rattle.gix_refspec_text.proofs.lemmas.parsing.ReasonLemmas.{sides_balanced}
+use Rattle.gix_refspec_text.specs.{Private.Sides.AreSidesOf, declared.parsing.Error.Error, declared.parsing.reading.Parts.Parts, declared.parsing.reading.Sides.Sides}
 
 pub same_reading : (op : Operation) (m : Mode) (s t d e : Option (List ℕ)) → s ≡ t → d ≡ e → ◌≡◌ {A = Reading} (record { operation = op; mode = m; source = s; destination = d }) (record { operation = op; mode = m; source = t; destination = e })
 same_reading op m s t d e same_source same_destination = cc

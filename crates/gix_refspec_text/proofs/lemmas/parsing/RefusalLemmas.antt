@@ -1,9 +1,7 @@
 -- A text is refused for only one reason, apart from which fault of a name it holds.
 use Rattle.gix_refspec_text.proofs.Common.{arith, ◌≡◌, ◌⊎◌, inl, inr, ℕ, List, Option, refl, sym, ap, ◌∙◌, subst, Operation, star, Mode, Refusal, PatternUnsupported, ReferenceName, IsBadName}
-use Rattle.gix_refspec_text.proofs.Common.{IsBadPattern, IsBadSourceFor, HasBadDestination, OrElse, IsFirstReason, IsSameReason, OneRefusal, same_Some}
-use Rattle.gix_refspec_text.proofs.lemmas.texts.TextLemmas.{Lacks-ContainsText}
-use Rattle.gix_refspec_text.proofs.lemmas.parsing.SideLemmas.{bad_name, HasStar-bad, HasSeveralStars-replaced}
-use Rattle.gix_refspec_text.proofs.lemmas.parsing.PartsLemmas.{parts_once}
+use Rattle.gix_refspec_text.proofs.{Common.{IsBadPattern, IsBadSourceFor, HasBadDestination, OrElse, IsFirstReason, IsSameReason, OneRefusal, same_Some}, lemmas.texts.TextLemmas.Lacks-ContainsText}
+use Rattle.gix_refspec_text.proofs.lemmas.parsing.{SideLemmas.{bad_name, HasStar-bad, HasSeveralStars-replaced}, PartsLemmas.parts_once}
 
 abbrev Agree : (Refusal → Type 0) → Type 0
 Agree P = (e f : Refusal) → P e → P f → IsSameReason e f

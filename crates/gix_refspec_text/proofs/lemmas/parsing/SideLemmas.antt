@@ -1,12 +1,11 @@
 -- Names and patterns as sides, and the reasons to refuse a side.
 use Rattle.gix_refspec_text.proofs.Common.{[], arith, ◌≡◌, ◌⊎◌, ℕ, List, ◌∷◌, ◌++◌, Option, None, option_map, unwrap_or, is_some, Bor, false, refl, sym, ◌∙◌, subst, sameb, DeclaredMode, Asterisk}
 use Rattle.gix_refspec_text.proofs.Common.{Shape, Plain, Pattern, Lacks, IsName, IsPattern, HasStar, HasSeveralStars, ReplacesStar, HasFault, star, Normal, Refusal, PatternUnsupported, ReferenceName}
-use Rattle.gix_refspec_text.proofs.Common.{IsBadName, IsBadPattern, Never, mode_of, NothingAgainst, HasShape, HasCheckedShape, IsBadSide}
+use Rattle.gix_refspec_text.proofs.{Common.{IsBadName, IsBadPattern, Never, mode_of, NothingAgainst, HasShape, HasCheckedShape, IsBadSide}, lemmas.texts.TextLemmas.Lacks-ContainsText}
+use Rattle.gix_refspec_text.proofs.lemmas.{texts.TextLemmas.{Lacks-from_absent, one_not_two}, lists.LacksLemmas.first_once}
 use Rattle.gix_refspec_text.specs.contracts.types.Mode.{the_type as the_mode}
 use Rattle.gix_refspec_text.specs.declared.types.Mode.TheVariants as declared_mode
 use Rattle.gix_refspec_text.specs.declared.name.PatternError.TheVariants as found
-use Rattle.gix_refspec_text.proofs.lemmas.texts.TextLemmas.{Lacks-ContainsText, Lacks-from_absent, one_not_two}
-use Rattle.gix_refspec_text.proofs.lemmas.lists.LacksLemmas.{first_once}
 
 pub Lacks-name : (x : List ℕ) → IsName x → Lacks star x
 Lacks-name x name = Lacks-from_absent star x (name Asterisk)

@@ -1,10 +1,7 @@
 -- A side has at most one prefix and at most one expansion.
 use Rattle.gix_refspec_text.proofs.Common.{[], arith, ◌∷◌, ◌≡◌, ℕ, List, ◌++◌, codes, sym, ◌∙◌, subst, append_cancel_left, Lacks, ContainsText, BeginsWith, slash, IsPrefix, of_head, of_name}
-use Rattle.gix_refspec_text.proofs.Common.{of_pattern, Expands, OnePrefix, head, star, IsSplit, ◌⊎◌, IsId, candidates}
-use Rattle.gix_refspec_text.proofs.lemmas.texts.TextLemmas.{Lacks-ContainsText}
-use Rattle.gix_refspec_text.proofs.lemmas.hits.MatchLemmas.{lacks_no_pattern, split_once}
-use Rattle.gix_refspec_text.proofs.lemmas.parsing.SideLemmas.{Lacks-name}
-use Rattle.gix_refspec_text.proofs.lemmas.texts.HeadLemmas.{IsName-head}
+use Rattle.gix_refspec_text.proofs.{Common.{of_pattern, Expands, OnePrefix, head, star, IsSplit, ◌⊎◌, IsId, candidates}, lemmas.texts.TextLemmas.Lacks-ContainsText}
+use Rattle.gix_refspec_text.proofs.lemmas.{hits.MatchLemmas.{lacks_no_pattern, split_once}, parsing.SideLemmas.Lacks-name, texts.HeadLemmas.IsName-head}
 
 pub head_no_split : (x before after : List ℕ) → x ≡ head → IsSplit before after x → ⊥
 head_no_split x before after is split = lacks_no_pattern x before after (subst (Lacks star) (sym is) (Lacks-name head IsName-head)) split

@@ -3,16 +3,10 @@ use Rattle.gix_refspec_text.proofs.Common.{[], is_hex_digit, ◌≡◌, ◌≢�
 use Rattle.gix_refspec_text.proofs.Common.{map, length, get_or, is_ok, Result, OnOk, OnErr, refl, sym, ap, ◌∙◌, subst, length-append, arith, length-map, map-append, false≢true, IsIdText, Lacks}
 use Rattle.gix_refspec_text.proofs.Common.{ContainsText, BeginsWith, IsSplit, HasOneStar, star, slash, head, bracket, Reading, IsId, IsRefPrefix, IsPrefix, of_head, of_name, of_pattern, HasNoPrefix}
 use Rattle.gix_refspec_text.proofs.Common.{Expands, to_prefix, IsAsked, IsExpansion, ◌⊎◌, sameb, Operation, Fetch, ObjectId, id_bytes, HasKind, IsCovering, by_prefix, by_candidates, HasCoveringSource}
-use Rattle.std.specs.Prelude.{⊤}
-use Rattle.std.specs.Bool.{then_some}
-use Rattle.std.proofs.Math.Seq.{get_or-append_seam}
-use Rattle.gix_refspec_text.proofs.lemmas.texts.TextLemmas.{Lacks-ContainsText}
-use Rattle.gix_refspec_text.proofs.lemmas.hits.MatchLemmas.{lacks_no_pattern, split_once, begins_split}
-use Rattle.gix_refspec_text.proofs.lemmas.texts.ObjectIdLemmas.{AllPass-IsIdText, no_kind}
+use Rattle.gix_refspec_text.proofs.lemmas.{texts.TextLemmas.Lacks-ContainsText, hits.MatchLemmas.{lacks_no_pattern, split_once, begins_split}, texts.ObjectIdLemmas.{AllPass-IsIdText, no_kind}}
 use Rattle.gix_refspec_text.proofs.lemmas.prefixes.OnePrefixLemmas.{head_no_split, one_prefix}
-use Rattle.gix_refspec_text.specs.contracts.parsing.Operation.{the_type as the_operation}
-use Rattle.gix_refspec_text.specs.declared.side.SideKind.{SideKind as DeclaredKind}
-use Rattle.gix_refspec_text.specs.Private.SideViews.{kind_of_side}
+use Rattle.std.{specs.Prelude.⊤, specs.Bool.then_some, proofs.Math.Seq.get_or-append_seam}
+use Rattle.gix_refspec_text.specs.{contracts.parsing.Operation.{the_type as the_operation}, declared.side.SideKind.{SideKind as DeclaredKind}, Private.SideViews.kind_of_side}
 use Rattle.gix_refspec_text.specs.declared.side.SideKind.TheVariants as kind
 
 pub id_not_head : (x id : List ℕ) → IsIdText x id → x ≢ head

@@ -1,11 +1,8 @@
 -- The sides of each reading that some text has.
 use Rattle.gix_refspec_text.proofs.Common.{[], Shape, Plain, Pattern, HasShape, IfSome, side_of, Mode, arith, ◌≡◌, ◌⊎◌, ℕ, List, Option, None, Some, sym, subst, ∥∥₁_elim, Operation, HasSeveralStars}
-use Rattle.gix_refspec_text.proofs.Common.{star, Reading, remote_of, named_by, Reads, IsAccepted, IsOneStarred}
-use Rattle.gix_refspec_text.proofs.lemmas.texts.TextLemmas.{Lacks-ContainsText}
-use Rattle.gix_refspec_text.proofs.lemmas.parsing.ReadsLemmas.{AreFine, fine_fetch, fine_alone, fine_push, fine_negative, fine_parts, made, source_of}
-use Rattle.gix_refspec_text.proofs.lemmas.parsing.ReasonLemmas.{sides_balanced}
-use Rattle.gix_refspec_text.proofs.lemmas.parsing.SideLemmas.{checked_starred, empty_no_pattern, HasStar-stars, HasSeveralStars-replaced}
-use Rattle.gix_refspec_text.proofs.lemmas.specs.FormsBackLemmas.{named_pattern}
+use Rattle.gix_refspec_text.proofs.{Common.{star, Reading, remote_of, named_by, Reads, IsAccepted, IsOneStarred}, lemmas.texts.TextLemmas.Lacks-ContainsText, lemmas.parsing.ReadsLemmas.AreFine}
+use Rattle.gix_refspec_text.proofs.lemmas.parsing.{ReadsLemmas.{fine_fetch, fine_alone, fine_push, fine_negative, fine_parts, made, source_of}, ReasonLemmas.sides_balanced, SideLemmas.checked_starred}
+use Rattle.gix_refspec_text.proofs.lemmas.{parsing.SideLemmas.{empty_no_pattern, HasStar-stars, HasSeveralStars-replaced}, specs.FormsBackLemmas.named_pattern}
 
 -- a present side has at most one star
 abbrev pub HasFew : Option (List ℕ) → Type 0

@@ -1,11 +1,8 @@
 -- A reading with another destination.
 use Rattle.gix_refspec_text.proofs.Common.{[], inl, inr, ℕ, List, ◌∷◌, Some, IfSome, IsSome, refl, sym, subst, ∥∥₁_map, Operation, Lacks, IsName, star, head, colon, Mode, Normal, Reading}
 use Rattle.gix_refspec_text.proofs.Common.{with_destination, named_by, AreParts, IsAccepted, IsPositive, Reads, fetches, updates, ◌≡◌, ◌⊎◌, codes, arith, BeginsWith, HasCheckedShape, Plain, Pattern}
-use Rattle.gix_refspec_text.proofs.Common.{with_colon, Option, unwrap_or, side_of, sign, ◌++◌, fetched_alone, all_tags, IsUnsigned}
-use Rattle.gix_refspec_text.proofs.lemmas.texts.TextLemmas.{Lacks-ContainsText}
-use Rattle.gix_refspec_text.proofs.lemmas.texts.HeadLemmas.{Lacks-colon_name}
-use Rattle.gix_refspec_text.proofs.lemmas.parsing.SideLemmas.{HasStar-pattern, empty_no_pattern}
-use Rattle.gix_refspec_text.proofs.lemmas.specs.FormsBackLemmas.{unsigned_front, is_forced}
+use Rattle.gix_refspec_text.proofs.{Common.{with_colon, Option, unwrap_or, side_of, sign, ◌++◌, fetched_alone, all_tags, IsUnsigned}, lemmas.texts.TextLemmas.Lacks-ContainsText}
+use Rattle.gix_refspec_text.proofs.lemmas.{texts.HeadLemmas.Lacks-colon_name, parsing.SideLemmas.{HasStar-pattern, empty_no_pattern}, specs.FormsBackLemmas.{unsigned_front, is_forced}}
 use Rattle.gix_refspec_text.proofs.lemmas.parsing.ReadsLemmas.{AreFine, fine_fetch, fine_alone, fine_push, fine_negative, fine_parts, side_of-full, fine_reads, checked_name, name_not_empty}
 use Rattle.gix_refspec_text.proofs.facts.ManualFacts.{parts, IsPattern-tested}
 

@@ -4,13 +4,9 @@ use Rattle.gix_refspec_text.proofs.Common.{Lacks, IsName, IsPattern, star, caret
 use Rattle.gix_refspec_text.proofs.Common.{LooksLikeObjectHash, fetched, pushed, Reads, fetches_nothing_named, fetches_colon, fetches, updates, updates_from_head, fetch_excludes, pushes_plus}
 use Rattle.gix_refspec_text.proofs.Common.{pushes_colon, pushes, deletes, pushes_pattern, pushes_to, push_excludes, meaning, meaning_of, included, printed, text_of, sign, begins_with_plus}
 use Rattle.gix_refspec_text.proofs.Common.{push_all_matching, push_delete, push_matching, push_exclude, fetch_only, fetch_exclude, fetch_and_update, IsPrintedBack, ReadsOrRefused, EqualTexts}
-use Rattle.gix_refspec_text.proofs.Common.{same_Some, ◌==◌, true, false, if◌then◌else◌, at, IsUnsigned, with_colon, Meaning, eqb-true}
-use Rattle.gix_refspec_text.proofs.lemmas.parsing.SideLemmas.{Lacks-name, HasStar-pattern}
-use Rattle.gix_refspec_text.proofs.lemmas.parsing.DecideLemmas.{read_or_refused}
-use Rattle.gix_refspec_text.proofs.lemmas.texts.HeadLemmas.{IsName-head, Lacks-colon_name, unsigned_name, Lacks-colon_pattern}
-use Rattle.gix_refspec_text.proofs.lemmas.parsing.ReadsLemmas.{alike_full, name_not_empty, pattern_not_empty, either_not_empty}
-use Rattle.gix_refspec_text.proofs.lemmas.parsing.ReadOnceLemmas.{reads_once}
-use Rattle.gix_refspec_text.proofs.lemmas.texts.TextLemmas.{Lacks-ContainsText}
+use Rattle.gix_refspec_text.proofs.{Common.{same_Some, ◌==◌, true, false, if◌then◌else◌, at, IsUnsigned, with_colon, Meaning, eqb-true}, lemmas.parsing.SideLemmas.{Lacks-name, HasStar-pattern}}
+use Rattle.gix_refspec_text.proofs.lemmas.{parsing.DecideLemmas.read_or_refused, texts.HeadLemmas.{IsName-head, Lacks-colon_name, unsigned_name, Lacks-colon_pattern}, parsing.ReadsLemmas.alike_full}
+use Rattle.gix_refspec_text.proofs.lemmas.{parsing.ReadsLemmas.{name_not_empty, pattern_not_empty, either_not_empty}, parsing.ReadOnceLemmas.reads_once, texts.TextLemmas.Lacks-ContainsText}
 
 -- a reading is printed back, given its meaning, and the reading of its canonical text, with the same meaning
 printed_back : (op : Operation) (r q : Reading) (m : Meaning) → meaning_of r ≡ Some m → meaning_of q ≡ Some m → Reads op (text_of m) q → IsPrintedBack op r

@@ -1,9 +1,8 @@
 -- Facts on accepted readings, without a text that has the reading at hand.
 use Rattle.gix_refspec_text.proofs.Common.{refl, arith, ◌≡◌, ℕ, Bool, true, List, Option, Some, option_map, sym, ap, ◌∙◌, subst, inl, inr, nat_eq, ◌↔◌, pointwise, not_there, Operation, Reading, Reads}
 use Rattle.gix_refspec_text.proofs.Common.{IsAccepted, Meaning, meaning_of, text_of, printed, keys, IsPrintedBack, KeepsOperation, SaysForOperation, EqualReadings, same_Some}
+use Rattle.gix_refspec_text.proofs.lemmas.{specs.FormsBackLemmas.{read_back, once_or_refused, equal_texts}, parsing.ReadsLemmas.fine_parts}
 use Rattle.gix_refspec_text.specs.Laws.Order.{same_meaning, same_keys}
-use Rattle.gix_refspec_text.proofs.lemmas.specs.FormsBackLemmas.{read_back, once_or_refused, equal_texts}
-use Rattle.gix_refspec_text.proofs.lemmas.parsing.ReadsLemmas.{fine_parts}
 
 pub keeps_operation : (op : Operation) (text : List ℕ) → KeepsOperation op text
 keeps_operation op text r reads = ap (λ (x : Reading). x.operation) (fine_parts op text r reads).is

@@ -4,8 +4,7 @@ use Rattle.gix_refspec_text.proofs.Common.{inl, inr, arith, agree_below_at, not-
 use Rattle.gix_refspec_text.proofs.Common.{leading_from_mask_l, trailing_mask_l, length-map, get_or-map, prefix_len, prefix_len-le-length, prefix_len_passes, chunk, zip2, mask_l, top, slash, class_at}
 use Rattle.gix_refspec_text.proofs.Common.{IsCalm, AreCalm, lowest_of}
 use Rattle.std.proofs.Common.{Fits}
-use Rattle.gix_refspec_text.specs.declared.name.class.Class.{Class}
-use Rattle.gix_refspec_text.specs.declared.name.class.Class.TheVariants.{Plain}
+use Rattle.gix_refspec_text.specs.declared.name.class.Class.{Class, TheVariants.Plain}
 
 abbrev is_plain_class : Class → Bool
 is_plain_class Plain = true

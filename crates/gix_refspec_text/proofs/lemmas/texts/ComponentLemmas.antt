@@ -1,8 +1,6 @@
 -- The components of a text, found by the slashes around them, with a slash before the text for the first one.
 use Rattle.gix_refspec_text.proofs.Common.{[], arith, ◌≡◌, ℕ, List, ◌∷◌, ◌++◌, refl, sym, ap, ◌∙◌, inl, inr, append_assoc, AllByRecursion, join_with_byte, cases_eq, append-nil, Lacks, slash}
-use Rattle.gix_refspec_text.proofs.Common.{SomeComponent}
-use Rattle.gix_refspec_text.proofs.lemmas.lists.AllLemmas.{all_join}
-use Rattle.gix_refspec_text.proofs.lemmas.lists.LacksLemmas.{LastIndex, lacks_or_last}
+use Rattle.gix_refspec_text.proofs.{Common.SomeComponent, lemmas.lists.AllLemmas.all_join, lemmas.lists.LacksLemmas.{LastIndex, lacks_or_last}}
 
 -- what may follow a component: nothing, or a text that begins with a slash
 abbrev pub IsEnd : List ℕ → Type 0

@@ -1,8 +1,6 @@
 -- `HEAD` is a name, and which bytes a name never contains.
 use Rattle.gix_refspec_text.proofs.Common.{[], ◌≡◌, ◌≢◌, ℕ, false, List, ◌∷◌, ◌++◌, refl, sym, ap, ◌∙◌, subst, arith, eq-eqb, false≢true, InvalidByte, Lacks, star, letter, plus, caret, colon, head}
-use Rattle.gix_refspec_text.proofs.Common.{IsName, IsPattern, IsUnsigned, begins_with_plus}
-use Rattle.gix_refspec_text.proofs.lemmas.texts.TextLemmas.{Lacks-from_absent}
-use Rattle.gix_refspec_text.proofs.lemmas.texts.TestedLemmas.{IsName-tested}
+use Rattle.gix_refspec_text.proofs.{Common.{IsName, IsPattern, IsUnsigned, begins_with_plus}, lemmas.texts.TextLemmas.Lacks-from_absent, lemmas.texts.TestedLemmas.IsName-tested}
 
 pub IsName-head : IsName head
 IsName-head = IsName-tested head refl

@@ -3,10 +3,8 @@ use Rattle.gix_refspec_text.proofs.Common.{[], ◌≡◌, ◌≢◌, ℕ, List, 
 use Rattle.gix_refspec_text.proofs.Common.{if◌then◌else◌, arith, append_assoc, Bool, zero, ◌-◌, ◌≤◌, false, ◌==◌, ◌+◌, eq-eqb, ne_eqb, map-append, count_by_more_no, Error, Asterisk, Lacks, EndsWith}
 use Rattle.gix_refspec_text.proofs.Common.{slash, star, letter, HasFault, IsName, IsSplit, IsPattern, HasOneStar, ReplacesStar, class_at, AddsFault, IsClean, LeavesFault, Finds, letter_for}
 use Rattle.gix_refspec_text.proofs.Common.{with_letters, IsScanned, IsCalm, AreCalm, count_by_more_yes, cond, zero-add, count_by, sum_by-append, HasSeveralStars, take_all, IsStarCount, one_if}
+use Rattle.gix_refspec_text.proofs.lemmas.{lists.LacksLemmas.lacks_or_first, texts.TextLemmas.split_at, texts.NameLemmas.{one_more, IsClean-more, HasFault-added, answer_at_end, slash_adds, last_byte}}
 use Rattle.gix_refspec_text.specs.declared.name.class.Class.TheVariants.{Plain}
-use Rattle.gix_refspec_text.proofs.lemmas.lists.LacksLemmas.{lacks_or_first}
-use Rattle.gix_refspec_text.proofs.lemmas.texts.TextLemmas.{split_at}
-use Rattle.gix_refspec_text.proofs.lemmas.texts.NameLemmas.{one_more, IsClean-more, HasFault-added, answer_at_end, slash_adds, last_byte}
 
 abbrev stars : List ℕ → ℕ
 stars x = count_by (λ b. b == star) x

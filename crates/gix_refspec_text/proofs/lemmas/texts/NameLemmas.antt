@@ -2,11 +2,9 @@
 use Rattle.gix_refspec_text.proofs.Common.{[], same_from_push, ◌≡◌, ◌≢◌, ℕ, List, ◌∷◌, ◌++◌, codes, length, take, drop, get_or, ◌+◌, ◌<◌, ◌≤◌, suc, Option, MatchOption, refl, sym, ap, ◌∙◌, subst, inl}
 use Rattle.gix_refspec_text.proofs.Common.{inr, append_assoc, arith, Bool, ◌-◌, nat_eq, Decides, ends_with, ends_is, Decides-eqb, append-nil, ◌⊎◌, Error, Empty, EmptyComponent, StartsWithDot}
 use Rattle.gix_refspec_text.proofs.Common.{LockSuffix, EndsWithDot, RepeatedDot, ReflogPortion, Asterisk, InvalidByte, ContainsText, BeginsWith, EndsWith, slash, star, dot, brace, SomeComponent}
-use Rattle.gix_refspec_text.proofs.Common.{HasFault, IsName, AddsFault, Added, IsClean, LeavesFault, Finds, drop_of_length-le, take_more}
-use Rattle.gix_refspec_text.proofs.lemmas.texts.TextLemmas.{split_at}
+use Rattle.gix_refspec_text.proofs.{Common.{HasFault, IsName, AddsFault, Added, IsClean, LeavesFault, Finds, drop_of_length-le, take_more}, lemmas.texts.TextLemmas.split_at}
 use Rattle.gix_refspec_text.proofs.lemmas.texts.ComponentLemmas.{IsEnd, IsComponent, Pieces, pieces_of, fenced, fenced-IsEnd, last_slash_after_one, SomeComponent-from, SomeComponent-index}
-use Rattle.gix_refspec_text.proofs.lemmas.lists.AllLemmas.{all_join}
-use Rattle.gix_refspec_text.proofs.lemmas.lists.LacksLemmas.{LastIndex}
+use Rattle.gix_refspec_text.proofs.lemmas.lists.{AllLemmas.all_join, LacksLemmas.LastIndex}
 
 no_middle : (p r : List ℕ) (b : ℕ) → [] ≡ p ++ (b ∷ r) → ⊥
 no_middle [] r b same = cc

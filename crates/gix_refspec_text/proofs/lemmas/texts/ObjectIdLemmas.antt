@@ -4,13 +4,10 @@ use Rattle.gix_refspec_text.proofs.Common.{agree_below_at, not, ◌||◌, eqb, e
 use Rattle.gix_refspec_text.proofs.Common.{AllPass, SomeIndex, list_all, IsAscii, IsUtf8, false≢true, cases_Bool, cases_eq, ltb-true, length-take-le, take-append-le, take_all, All-cons, All-head}
 use Rattle.gix_refspec_text.proofs.Common.{All-nil, All-tail, All-weaker, AllPass-from_list_all, Digit, Length, Kind, Sha1, Sha256, HasIdFault, IsIdLength, IsIdText, IsLowerText, IsSpelledBy, Spells}
 use Rattle.gix_refspec_text.proofs.Common.{bytes_of, digits_of, is_lower_digit, lower_of, IsId, HasOneFault, IdOrFault, OneLowerText, list_all-from_AllPass}
-use Rattle.std.specs.Result.{is_err, result_unwrap_or}
-use Rattle.std.proofs.lemmas.Str.{IsUtf8-from_ascii}
-use Rattle.std.proofs.lemmas.Str.Ascii.{IsAscii-from_all}
-use Rattle.hex.specs.Hex.{IsBytes, decode_of, decode_pairs, decode_sized, encode_with, hex_digit_value, is_hex_digit, lower_digits, pair_value}
-use Rattle.hex.specs.declared.error.FromHexError.{FromHexError}
-use Rattle.hex.proofs.HexLemmas.{IsAscii-encode_with, IsOk-decode_sized, decode_of-ok, decode_of-same, decode_pairs-ok, decode_sized-encode_lower, length-encode_with}
-use Rattle.hex.proofs.Pairs.{cons_byte, decode_pairs-ok_pair, decode_sized-pairs}
+use Rattle.std.{specs.Result.{is_err, result_unwrap_or}, proofs.lemmas.Str.IsUtf8-from_ascii, proofs.lemmas.Str.Ascii.IsAscii-from_all}
+use Rattle.hex.specs.{Hex.{IsBytes, decode_of, decode_pairs, decode_sized, encode_with, hex_digit_value, is_hex_digit, lower_digits, pair_value}, declared.error.FromHexError.FromHexError}
+use Rattle.hex.proofs.{HexLemmas.{IsAscii-encode_with, IsOk-decode_sized, decode_of-ok, decode_of-same, decode_pairs-ok, decode_sized-encode_lower, length-encode_with}, Pairs.cons_byte}
+use Rattle.hex.proofs.Pairs.{decode_pairs-ok_pair, decode_sized-pairs}
 use Rattle.gix_refspec_text.specs.declared.oid.Error.{Error}
 
 pub digits_of-twice : (kind : Kind) → digits_of kind ≡ 2 * bytes_of kind

@@ -1,8 +1,7 @@
 -- A test of each byte and the one before it, which only names pass, and most names do: it computes in examples.
 use Rattle.gix_refspec_text.proofs.Common.{[], ◌≡◌, ℕ, ◌==◌, ◌||◌, ◌&&◌, Bool, false, List, ◌∷◌, ◌++◌, codes, sym, ap, eq-eqb, ◌∙◌, append_assoc, append-nil, or_parts, true≢false, Error}
 use Rattle.gix_refspec_text.proofs.Common.{EmptyComponent, StartsWithDot, LockSuffix, EndsWithDot, RepeatedDot, ReflogPortion, Asterisk, InvalidByte, EndsWith, slash, star, dot, at, brace}
-use Rattle.gix_refspec_text.proofs.Common.{is_refused_byte, IsName, LeavesFault, IsClean}
-use Rattle.gix_refspec_text.proofs.lemmas.texts.NameLemmas.{IsName-from_clean}
+use Rattle.gix_refspec_text.proofs.{Common.{is_refused_byte, IsName, LeavesFault, IsClean}, lemmas.texts.NameLemmas.IsName-from_clean}
 
 -- `k`, the last byte of `.lock`
 abbrev pub lock_end : ℕ

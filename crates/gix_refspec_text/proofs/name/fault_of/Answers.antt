@@ -1,5 +1,4 @@
-use Rattle.gix_refspec_text.proofs.Common.{ap, ◌∙◌, one_if}
-use Rattle.gix_refspec_text.proofs.lemmas.texts.LetterLemmas.{Lacks-count_by, name_without_stars}
+use Rattle.gix_refspec_text.proofs.{Common.{ap, ◌∙◌, one_if}, lemmas.texts.LetterLemmas.{Lacks-count_by, name_without_stars}}
 use Rattle.gix_refspec_text.proofs.name.fault_of.Goals as goal
 
 pub returns-in-Ok-false : goal.returns-in-Ok-false

@@ -1,6 +1,5 @@
-use Rattle.gix_refspec_text.proofs.Common.{◌∷◌, take, get_or, sym, subst, arith, take_all, slash, IsClean}
-use Rattle.gix_refspec_text.proofs.lemmas.texts.NameLemmas.{one_more, IsClean-start, IsClean-more, HasFault-added, added_at, answer_at_end}
-use Rattle.gix_refspec_text.proofs.lemmas.lists.EmptyLemmas.{full_from_test}
+use Rattle.gix_refspec_text.proofs.{Common.{◌∷◌, take, get_or, sym, subst, arith, take_all, slash, IsClean}, lemmas.texts.NameLemmas.{one_more, IsClean-start, IsClean-more, HasFault-added, added_at}}
+use Rattle.gix_refspec_text.proofs.lemmas.{texts.NameLemmas.answer_at_end, lists.EmptyLemmas.full_from_test}
 use Rattle.gix_refspec_text.proofs.name.found_fault.Goals as goal
 
 pub loop-index-init : goal.loop-index-init

@@ -1,5 +1,4 @@
-use Rattle.gix_refspec_text.proofs.Common.{[], ◌≡◌, ℕ, ◌∷◌, codes, arith, both_ways, EndsWith, slash}
-use Rattle.gix_refspec_text.proofs.lemmas.texts.NameLemmas.{end_leaves, last_byte, locked_after_slash}
+use Rattle.gix_refspec_text.proofs.{Common.{[], ◌≡◌, ℕ, ◌∷◌, codes, arith, both_ways, EndsWith, slash}, lemmas.texts.NameLemmas.{end_leaves, last_byte, locked_after_slash}}
 use Rattle.gix_refspec_text.proofs.name.left_fault.Goals as goal
 
 pub returns-in_default : goal.returns-in_default

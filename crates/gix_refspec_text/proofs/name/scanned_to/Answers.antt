@@ -1,7 +1,6 @@
-use Rattle.gix_refspec_text.proofs.Common.{◌≡◌, ◌≢◌, ◌∷◌, take, get_or, arith, common_steps, slash, star}
-use Rattle.gix_refspec_text.proofs.lemmas.texts.LetterLemmas.{second_star, scanned_other, scanned_star, fault_with_letters}
-use Rattle.gix_refspec_text.proofs.name.scanned_to.Goals as goal
+use Rattle.gix_refspec_text.proofs.{Common.{◌≡◌, ◌≢◌, ◌∷◌, take, get_or, arith, common_steps, slash, star}, lemmas.texts.LetterLemmas.{second_star, scanned_other, scanned_star, fault_with_letters}}
 use Rattle.gix_refspec_text.proofs.name.scanned_to.Goals.{then-byte-eq42+else-starred, else-byte-eq42+in_default}
+use Rattle.gix_refspec_text.proofs.name.scanned_to.Goals as goal
 
 pub loop-index-preserved-then-is_plain : goal.loop-index-preserved-then-is_plain
 loop-index-preserved-then-is_plain c =

@@ -1,5 +1,5 @@
-use Rattle.gix_refspec_text.proofs.Common.{◌≡◌, ◌∷◌, codes, sym, subst, arith, both_ways, common_steps, EndsWith, slash, AddsFault}
-use Rattle.gix_refspec_text.proofs.lemmas.texts.NameLemmas.{slash_adds, last_byte, locked_after_slash}
+use Rattle.gix_refspec_text.proofs.{Common.{◌≡◌, ◌∷◌, codes, sym, subst, arith, both_ways, common_steps, EndsWith, slash, AddsFault}, lemmas.texts.NameLemmas.{slash_adds, last_byte}}
+use Rattle.gix_refspec_text.proofs.lemmas.texts.NameLemmas.{locked_after_slash}
 use Rattle.gix_refspec_text.proofs.name.special_fault.Goals as goal
 
 pub returns-then-ends_with : goal.returns-then-ends_with

@@ -1,7 +1,5 @@
 -- The only star makes a pattern. Without one, a side that doesn't begin with `refs/` and isn't an id is a partial name.
-use Rattle.gix_refspec_text.proofs.Common.{refl, rules, ◌∷◌, ◌++◌, ◌∙◌, ap, star}
-use Rattle.gix_refspec_text.proofs.lemmas.texts.ObjectIdLemmas.{IsIdText-sound}
-use Rattle.gix_refspec_text.proofs.lemmas.texts.TextLemmas.{Lacks-from_absent}
+use Rattle.gix_refspec_text.proofs.{Common.{refl, rules, ◌∷◌, ◌++◌, ◌∙◌, ap, star}, lemmas.texts.ObjectIdLemmas.IsIdText-sound, lemmas.texts.TextLemmas.Lacks-from_absent}
 use Rattle.gix_refspec_text.proofs.side.kind_of.Goals as goal
 
 pub returns-in-Some : goal.returns-in-Some

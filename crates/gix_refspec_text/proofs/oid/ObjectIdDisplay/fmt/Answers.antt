@@ -1,5 +1,4 @@
-use Rattle.gix_refspec_text.proofs.Common.{encode_lower, ◌≡◌, IsUtf8}
-use Rattle.gix_refspec_text.proofs.lemmas.texts.ObjectIdLemmas.{IsOk-unless, IsUtf8-lower_of}
+use Rattle.gix_refspec_text.proofs.{Common.{encode_lower, ◌≡◌, IsUtf8}, lemmas.texts.ObjectIdLemmas.{IsOk-unless, IsUtf8-lower_of}}
 use Rattle.gix_refspec_text.proofs.oid.ObjectIdDisplay.fmt.Goals as goal
 
 pub unwrap-requires-2 : goal.unwrap-requires-2

@@ -1,8 +1,6 @@
 -- No reason before those of the source applies to a positive fetch. The checks return the reasons of its sides.
 use Rattle.gix_refspec_text.proofs.Common.{refl, sym, ap, ◌∙◌, subst, rules, err_from_is_err_and, differs_true, differs_false, the_type, Fetch, PatternUnbalanced, HasCheckedShape, destination_of}
-use Rattle.gix_refspec_text.proofs.Common.{side_of}
-use Rattle.gix_refspec_text.proofs.lemmas.parsing.SideLemmas.{now-unwrap_or}
-use Rattle.gix_refspec_text.proofs.lemmas.parsing.ReasonLemmas.{fetch_reaches, error_at_destination, fetch_source_fine, unbalanced_fetch}
+use Rattle.gix_refspec_text.proofs.{Common.side_of, lemmas.parsing.SideLemmas.now-unwrap_or, lemmas.parsing.ReasonLemmas.{fetch_reaches, error_at_destination, fetch_source_fine, unbalanced_fetch}}
 use Rattle.gix_refspec_text.proofs.lemmas.parsing.ReadsLemmas.{fine_fetch, sides_read, side_of-named_or_head}
 use Rattle.gix_refspec_text.proofs.parsing.reading.fetch_sides.Goals as goal
 

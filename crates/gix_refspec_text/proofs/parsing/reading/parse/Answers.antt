@@ -1,7 +1,5 @@
 -- The text has the parts that it was split into, so what holds for the parts holds for the text.
-use Rattle.gix_refspec_text.proofs.Common.{sym, subst, err_from_is_err_and, bstr_bytes, HasParts}
-use Rattle.gix_refspec_text.proofs.lemmas.parsing.ReasonLemmas.{shows_refusal, needs_memory}
-use Rattle.gix_refspec_text.proofs.lemmas.parsing.ReadsLemmas.{error_of_text}
+use Rattle.gix_refspec_text.proofs.{Common.{sym, subst, err_from_is_err_and, bstr_bytes, HasParts}, lemmas.parsing.ReasonLemmas.{shows_refusal, needs_memory}, lemmas.parsing.ReadsLemmas.error_of_text}
 use Rattle.gix_refspec_text.proofs.parsing.reading.parse.Goals as goal
 
 pub returns-in_err-sides-clause-refused : goal.returns-in_err-sides-clause-refused

@@ -1,10 +1,7 @@
 -- A source alone was checked. If it is empty, the text has a sign.
-use Rattle.gix_refspec_text.proofs.Common.{[], ◌≡◌, ap, ◌∙◌, Normal, mode_of, side_of}
-use Rattle.gix_refspec_text.proofs.lemmas.parsing.SideLemmas.{signed_from_test}
-use Rattle.gix_refspec_text.proofs.lemmas.parsing.ReadsLemmas.{fine_alone, sides_read}
-use Rattle.gix_refspec_text.proofs.lemmas.lists.EmptyLemmas.{full_from_test}
+use Rattle.gix_refspec_text.proofs.{Common.{[], ◌≡◌, ap, ◌∙◌, Normal, mode_of, side_of}, lemmas.parsing.SideLemmas.signed_from_test, lemmas.parsing.ReadsLemmas.{fine_alone, sides_read}}
+use Rattle.gix_refspec_text.proofs.{lemmas.lists.EmptyLemmas.full_from_test, parsing.reading.push_alone_sides.Goals.{else-eq-via-then-eq+else-is_empty, else-eq-via-else-eq}}
 use Rattle.gix_refspec_text.proofs.parsing.reading.push_alone_sides.Goals as goal
-use Rattle.gix_refspec_text.proofs.parsing.reading.push_alone_sides.Goals.{else-eq-via-then-eq+else-is_empty, else-eq-via-else-eq}
 
 pub returns-clause-ok : goal.returns-clause-ok
 returns-clause-ok c =

@@ -1,5 +1,4 @@
-use Rattle.gix_refspec_text.proofs.Common.{inl, inr, subst, IsLook}
-use Rattle.gix_refspec_text.proofs.lemmas.parsing.SideLemmas.{Lacks-name}
+use Rattle.gix_refspec_text.proofs.{Common.{inl, inr, subst, IsLook}, lemmas.parsing.SideLemmas.Lacks-name}
 use Rattle.gix_refspec_text.proofs.parsing.reading.starred.Goals as goal
 
 pub returns-in-Name : goal.returns-in-Name

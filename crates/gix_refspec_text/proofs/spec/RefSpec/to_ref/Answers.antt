@@ -1,6 +1,5 @@
 -- Borrowed sides have the bytes of the owned ones, so they are accepted too.
-use Rattle.gix_refspec_text.proofs.Common.{sym, subst, Reading, IsAccepted, mode_of}
-use Rattle.gix_refspec_text.proofs.lemmas.parsing.ReadsLemmas.{same_reading}
+use Rattle.gix_refspec_text.proofs.{Common.{sym, subst, Reading, IsAccepted, mode_of}, lemmas.parsing.ReadsLemmas.same_reading}
 use Rattle.gix_refspec_text.proofs.spec.RefSpec.to_ref.Goals as goal
 
 pub invariant_of-result : goal.invariant_of-result

@@ -1,6 +1,6 @@
 -- The entries of the side on the remote were appended. Without entries no memory is needed.
-use Rattle.gix_refspec_text.proofs.Common.{inl, map, arith, on_ok_weaker, on_err_weaker, bstring_bytes, reading_of}
-use Rattle.gix_refspec_text.proofs.lemmas.prefixes.PrefixLemmas.{asked_nothing, on_any_error, no_entries, appended_ok}
+use Rattle.gix_refspec_text.proofs.{Common.{inl, map, arith, on_ok_weaker, on_err_weaker, bstring_bytes, reading_of}, lemmas.prefixes.PrefixLemmas.{asked_nothing, on_any_error, no_entries}}
+use Rattle.gix_refspec_text.proofs.lemmas.prefixes.PrefixLemmas.{appended_ok}
 use Rattle.gix_refspec_text.proofs.spec.RefSpecRef.expand_prefixes.Goals as goal
 
 pub returns-clause-ok : goal.returns-clause-ok

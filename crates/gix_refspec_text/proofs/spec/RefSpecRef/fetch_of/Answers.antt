@@ -1,5 +1,4 @@
-use Rattle.gix_refspec_text.proofs.Common.{bstr_bytes}
-use Rattle.gix_refspec_text.proofs.lemmas.specs.DestinationLemmas.{alone_accepted}
+use Rattle.gix_refspec_text.proofs.{Common.bstr_bytes, lemmas.specs.DestinationLemmas.alone_accepted}
 use Rattle.gix_refspec_text.proofs.spec.RefSpecRef.fetch_of.Goals as goal
 
 pub invariant_of-result : goal.invariant_of-result

@@ -1,5 +1,4 @@
-use Rattle.gix_refspec_text.proofs.Common.{reading_of}
-use Rattle.gix_refspec_text.proofs.lemmas.prefixes.PrefixLemmas.{fetch_from_test, told_source}
+use Rattle.gix_refspec_text.proofs.{Common.reading_of, lemmas.prefixes.PrefixLemmas.{fetch_from_test, told_source}}
 use Rattle.gix_refspec_text.proofs.spec.RefSpecRef.has_covering_source.Goals as goal
 
 pub returns-in-Some : goal.returns-in-Some

@@ -1,6 +1,5 @@
 -- Owned sides have the bytes of the borrowed ones, so they are accepted too.
-use Rattle.gix_refspec_text.proofs.Common.{sym, subst, Reading, IsAccepted, mode_of}
-use Rattle.gix_refspec_text.proofs.lemmas.parsing.ReadsLemmas.{same_reading}
+use Rattle.gix_refspec_text.proofs.{Common.{sym, subst, Reading, IsAccepted, mode_of}, lemmas.parsing.ReadsLemmas.same_reading}
 use Rattle.gix_refspec_text.proofs.spec.RefSpecRef.to_owned.Goals as goal
 
 pub invariant_of-result : goal.invariant_of-result

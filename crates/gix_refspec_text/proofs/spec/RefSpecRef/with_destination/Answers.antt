@@ -1,5 +1,4 @@
-use Rattle.gix_refspec_text.proofs.Common.{bstr_bytes, reading_of}
-use Rattle.gix_refspec_text.proofs.lemmas.specs.DestinationLemmas.{replaced_accepted}
+use Rattle.gix_refspec_text.proofs.{Common.{bstr_bytes, reading_of}, lemmas.specs.DestinationLemmas.replaced_accepted}
 use Rattle.gix_refspec_text.proofs.spec.RefSpecRef.with_destination.Goals as goal
 
 pub invariant_of-result : goal.invariant_of-result

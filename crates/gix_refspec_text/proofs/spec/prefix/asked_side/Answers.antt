@@ -1,5 +1,4 @@
-use Rattle.gix_refspec_text.proofs.Common.{rules, IsAsked, reading_of}
-use Rattle.gix_refspec_text.proofs.lemmas.specs.AcceptedLemmas.{remote_few}
+use Rattle.gix_refspec_text.proofs.{Common.{rules, IsAsked, reading_of}, lemmas.specs.AcceptedLemmas.remote_few}
 use Rattle.gix_refspec_text.proofs.spec.prefix.asked_side.Goals as goal
 
 pub returns : goal.returns

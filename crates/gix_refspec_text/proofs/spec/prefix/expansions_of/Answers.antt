@@ -1,6 +1,5 @@
 -- The kind of the side decides. Only entries need memory.
-use Rattle.gix_refspec_text.proofs.Common.{refl, sym, ◌∙◌, IfOk-weaker, false≢true, of_head, of_name, of_pattern, to_prefix}
-use Rattle.gix_refspec_text.proofs.lemmas.prefixes.PrefixLemmas.{no_prefix, prefix_expands, on_any_error}
+use Rattle.gix_refspec_text.proofs.{Common.{refl, sym, ◌∙◌, IfOk-weaker, false≢true, of_head, of_name, of_pattern, to_prefix}, lemmas.prefixes.PrefixLemmas.{no_prefix, prefix_expands, on_any_error}}
 use Rattle.gix_refspec_text.proofs.spec.prefix.expansions_of.Goals as goal
 
 pub pattern_expansions-requires : goal.pattern_expansions-requires

@@ -1,6 +1,6 @@
 -- The pattern itself, its candidates or nothing. Only entries need memory.
-use Rattle.gix_refspec_text.proofs.Common.{ap, map, IfOk-weaker, bstring_bytes, to_itself, below_refs, to_candidates}
-use Rattle.gix_refspec_text.proofs.lemmas.prefixes.PrefixLemmas.{itself_expands, partial_expands, starred_no_id, on_any_error}
+use Rattle.gix_refspec_text.proofs.{Common.{ap, map, IfOk-weaker, bstring_bytes, to_itself, below_refs, to_candidates}, lemmas.prefixes.PrefixLemmas.{itself_expands, partial_expands, starred_no_id}}
+use Rattle.gix_refspec_text.proofs.lemmas.prefixes.PrefixLemmas.{on_any_error}
 use Rattle.gix_refspec_text.proofs.spec.prefix.pattern_expansions.Goals as goal
 
 pub returns-in-Some-clause-ok : goal.returns-in-Some-clause-ok
