@@ -171,7 +171,7 @@ Parted text = (m : Mode) × (s : List ℕ) × (d : Option (List ℕ)) × ArePart
 parted_signed : (m : Mode) (text rest : List ℕ) → IsSigned m text rest → Parted text
 parted_signed m text rest signed = elim (lacks_or_last colon rest) [
   | inl lacks ↦ (m, rest, None, record { signed = signed; last = lacks })
-  | inr i ↦ (m, i.before, Some i.after, record { signed = subst (IsSigned m text) i.here signed; last = i.last })
+  | inr (before, after, here, last) ↦ (m, before, Some after, record { signed = subst (IsSigned m text) here signed; last = last })
 ]
 
 pub parted : (text : List ℕ) → Parted text

@@ -8,9 +8,6 @@ use Rattle.gix_refspec_text.proofs.lemmas.parsing.{SideLemmas.empty_no_pattern, 
 use Rattle.gix_refspec_text.proofs.lemmas.parsing.ReasonLemmas.{sides_balanced}
 use Rattle.gix_refspec_text.specs.{Private.Sides.AreSidesOf, declared.parsing.Error.Error, declared.parsing.reading.Parts.Parts, declared.parsing.reading.Sides.Sides}
 
-pub same_reading : (op : Operation) (m : Mode) (s t d e : Option (List ℕ)) → s ≡ t → d ≡ e → ◌≡◌ {A = Reading} (record { operation = op; mode = m; source = s; destination = d }) (record { operation = op; mode = m; source = t; destination = e })
-same_reading op m s t d e same_source same_destination = cc
-
 pub side_of-named : (b : ℕ) (bs : List ℕ) → side_of (named_by (b ∷ bs)) ≡ Some (named_by (b ∷ bs))
 side_of-named b bs = grind arith
 

@@ -79,22 +79,16 @@ memory_at_destination op m s None before source needs = absurd (empty_needs_none
 memory_at_destination op m s (Some d) before source needs = (before, inr (source, needs))
 
 pub error_at_destination : (op : Operation) (m : Mode) (s : List ℕ) (d : Option (List ℕ)) (e : Error) → NoReasonBeforeSource op m s d → Never (HasBadSource op s d) → MemoryOr (NeedsMemory (unwrap_or d [])) (IsBadSide (unwrap_or d [])) e → IsReason op m s d e
-error_at_destination op m s d e before source =
-    MemoryOr-map (NeedsMemory (unwrap_or d [])) (ReachesMemory op m s d) (IsBadSide (unwrap_or d [])) (IsFirstReason op m s d) e (memory_at_destination op m s d before source)
-    (λ f h. reason_at_destination op m s d f before source (bad_destination d f h))
+error_at_destination op m s d e before source told = grind (arith, MemoryOr-map, memory_at_destination, reason_at_destination, bad_destination)
 
 pub negative_reaches : (op : Operation) (s : List ℕ) → NoReasonBeforeSource op Negative s None
 negative_reaches op s = grind arith
 
 pub reason_against_object : (op : Operation) (s : List ℕ) (k : Shape) → s ≢ [] → HasCheckedShape s k → LooksLikeObjectHash s → IsFirstReason op Negative s None NegativeObjectHash
-reason_against_object op s k full a hash =
-    let before = negative_reaches op s in
-    inr (before.0, inr (before.1, inr (before.2, inr (alone_fine op s k a, inr (λ e h. let i = h.is in absurd (cc), inr (λ e h. h.positive, inr (λ e h. full h.no_source, record { negative = refl; hash = hash; refusal = refl })))))))
+reason_against_object op s k full a hash = grind (arith, alone_fine)
 
 pub reason_against_nothing : (op : Operation) (s : List ℕ) (k : Shape) → s ≡ [] → HasCheckedShape s k → IsFirstReason op Negative s None NegativeEmpty
-reason_against_nothing op s k empty a =
-    let before = negative_reaches op s in
-    inr (before.0, inr (before.1, inr (before.2, inr (alone_fine op s k a, inr (λ e h. let i = h.is in absurd (cc), inr (λ e h. h.positive, inl (record { negative = refl; no_source = empty; refusal = refl })))))))
+reason_against_nothing op s k empty a = grind (arith, alone_fine)
 
 pub bad_negative : (op : Operation) (s : List ℕ) (e : Refusal) → IsBadSide s e → HasBadSource op s None e
 bad_negative op s e bad = grind arith

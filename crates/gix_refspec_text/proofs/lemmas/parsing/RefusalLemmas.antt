@@ -1,6 +1,6 @@
 -- A text is refused for only one reason, apart from which fault of a name it holds.
-use Rattle.gix_refspec_text.proofs.Common.{arith, ◌≡◌, ◌⊎◌, inl, inr, ℕ, List, Option, refl, sym, ap, ◌∙◌, subst, Operation, star, Mode, Refusal, PatternUnsupported, ReferenceName, IsBadName}
-use Rattle.gix_refspec_text.proofs.{Common.{IsBadPattern, IsBadSourceFor, HasBadDestination, OrElse, IsFirstReason, IsSameReason, OneRefusal, same_Some}, lemmas.texts.TextLemmas.Lacks-ContainsText}
+use Rattle.gix_refspec_text.proofs.Common.{arith, ◌⊎◌, inl, inr, ℕ, List, Option, refl, sym, ap, ◌∙◌, Operation, star, Mode, Refusal, PatternUnsupported, ReferenceName, IsBadName, IsBadPattern}
+use Rattle.gix_refspec_text.proofs.{Common.{IsBadSourceFor, HasBadDestination, OrElse, IsFirstReason, IsSameReason, OneRefusal, same_Some}, lemmas.texts.TextLemmas.Lacks-ContainsText}
 use Rattle.gix_refspec_text.proofs.lemmas.parsing.{SideLemmas.{bad_name, HasStar-bad, HasSeveralStars-replaced}, PartsLemmas.parts_once}
 
 abbrev Agree : (Refusal → Type 0) → Type 0
@@ -34,20 +34,13 @@ Agree-source : (op : Operation) (d : Option (List ℕ)) (s : List ℕ) → Agree
 Agree-source op d s = grind (arith, Agree-side, Agree-pattern)
 
 Agree-destination : (d : Option (List ℕ)) → Agree (HasBadDestination d)
-Agree-destination d e f a b =
-    let word : b.word ≡ a.word = same_Some b.word a.word (sym b.is ∙ a.is) in
-    Agree-side a.word e f a.refusal (subst (λ (x : List ℕ). IsBadName x f ⊎ IsBadPattern x f) word b.refusal)
+Agree-destination d e f a b = grind (arith, same_Some, Agree-side)
 
 pub Agree-first : (op : Operation) (mode : Mode) (s : List ℕ) (d : Option (List ℕ)) → Agree (IsFirstReason op mode s d)
 Agree-first op mode s d =
-    Agree-or (λ e f a b. inl (a.refusal ∙ sym b.refusal))
-    (Agree-or (λ e f a b. inl (a.refusal ∙ sym b.refusal))
-    (Agree-or (λ e f a b. inl (a.refusal ∙ sym b.refusal))
-    (Agree-or (λ e f a b. Agree-source op d s e f a.refusal b.refusal)
-    (Agree-or (Agree-destination d)
-    (Agree-or (λ e f a b. inl (a.refusal ∙ sym b.refusal))
-    (Agree-or (λ e f a b. inl (a.refusal ∙ sym b.refusal))
-    (λ e f a b. inl (a.refusal ∙ sym b.refusal))))))))
+    Agree-or (λ e f a b. inl (a.refusal ∙ sym b.refusal)) (Agree-or (λ e f a b. inl (a.refusal ∙ sym b.refusal)) (Agree-or (λ e f a b. inl (a.refusal ∙ sym b.refusal))
+    (Agree-or (λ e f a b. Agree-source op d s e f a.refusal b.refusal) (Agree-or (Agree-destination d) (Agree-or (λ e f a b. inl (a.refusal ∙ sym b.refusal))
+    (Agree-or (λ e f a b. inl (a.refusal ∙ sym b.refusal)) (λ e f a b. inl (a.refusal ∙ sym b.refusal))))))))
 
 pub one_refusal : (op : Operation) (text : List ℕ) → OneRefusal op text
 one_refusal op text e f a b =

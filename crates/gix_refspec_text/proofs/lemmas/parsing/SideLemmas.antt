@@ -20,9 +20,7 @@ pub HasStar-stars : (x : List ℕ) → HasSeveralStars x → HasStar x
 HasStar-stars x stars = record { before = stars.before; after = stars.between ++ (star ∷ stars.after); here = stars.here }
 
 pub replaced_once : (x y z : List ℕ) → ReplacesStar x y → ReplacesStar x z → y ≡ z
-replaced_once x y z a b =
-    let same = first_once star a.before b.before a.after b.after a.split.first b.split.first (sym a.split.starred ∙ b.split.starred) in
-    cc (same.0, same.1, a.replaced, b.replaced)
+replaced_once x y z a b = grind (arith, first_once)
 
 pub HasSeveralStars-replaced : (x y : List ℕ) → ReplacesStar x y → HasSeveralStars x → ⊥
 HasSeveralStars-replaced x y replaces stars = one_not_two star replaces.before replaces.after stars.before stars.between stars.after replaces.split.first replaces.split.last (sym replaces.split.starred ∙ stars.here)

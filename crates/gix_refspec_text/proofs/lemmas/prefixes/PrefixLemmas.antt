@@ -1,12 +1,12 @@
 -- Prefixes and expansions of sides.
-use Rattle.gix_refspec_text.proofs.Common.{[], is_hex_digit, ◌≡◌, ◌≢◌, inl, inr, ◌≤◌, ◌<◌, ℕ, Bool, true, false, not, ◌↔◌, IsTrue, MatchBool, MatchOption, Bor, if◌then◌else◌, List, ◌∷◌, ◌++◌, codes}
-use Rattle.gix_refspec_text.proofs.Common.{map, length, get_or, is_ok, Result, OnOk, OnErr, refl, sym, ap, ◌∙◌, subst, length-append, arith, length-map, map-append, false≢true, IsIdText, Lacks}
-use Rattle.gix_refspec_text.proofs.Common.{ContainsText, BeginsWith, IsSplit, HasOneStar, star, slash, head, bracket, Reading, IsId, IsRefPrefix, IsPrefix, of_head, of_name, of_pattern, HasNoPrefix}
-use Rattle.gix_refspec_text.proofs.Common.{Expands, to_prefix, IsAsked, IsExpansion, ◌⊎◌, sameb, Operation, Fetch, ObjectId, id_bytes, HasKind, IsCovering, by_prefix, by_candidates, HasCoveringSource}
-use Rattle.gix_refspec_text.proofs.lemmas.{texts.TextLemmas.Lacks-ContainsText, hits.MatchLemmas.{lacks_no_pattern, split_once, begins_split}, texts.ObjectIdLemmas.{AllPass-IsIdText, no_kind}}
-use Rattle.gix_refspec_text.proofs.lemmas.prefixes.OnePrefixLemmas.{head_no_split, one_prefix}
+use Rattle.gix_refspec_text.proofs.Common.{[], is_hex_digit, ◌≡◌, ◌≢◌, inl, inr, ◌<◌, ℕ, Bool, true, false, ◌↔◌, IsTrue, MatchOption, Bor, if◌then◌else◌, List, ◌∷◌, ◌++◌, codes, map, length, get_or}
+use Rattle.gix_refspec_text.proofs.Common.{is_ok, Result, OnOk, OnErr, refl, sym, ap, ◌∙◌, subst, length-append, arith, length-map, map-append, false≢true, IsIdText, Lacks, BeginsWith, IsSplit}
+use Rattle.gix_refspec_text.proofs.Common.{HasOneStar, star, slash, head, Reading, IsId, IsRefPrefix, IsPrefix, of_head, of_name, of_pattern, HasNoPrefix, Expands, to_prefix, IsAsked, IsExpansion}
+use Rattle.gix_refspec_text.proofs.{Common.{◌⊎◌, Fetch, ObjectId, id_bytes, HasKind, IsCovering, by_prefix, by_candidates, HasCoveringSource}, lemmas.texts.TextLemmas.Lacks-ContainsText}
+use Rattle.gix_refspec_text.proofs.lemmas.{hits.MatchLemmas.{lacks_no_pattern, split_once, begins_split}, texts.ObjectIdLemmas.{AllPass-IsIdText, no_kind}, prefixes.OnePrefixLemmas.head_no_split}
+use Rattle.gix_refspec_text.proofs.lemmas.prefixes.OnePrefixLemmas.{one_prefix}
 use Rattle.std.{specs.Prelude.⊤, specs.Bool.then_some, proofs.Math.Seq.get_or-append_seam}
-use Rattle.gix_refspec_text.specs.{contracts.parsing.Operation.{the_type as the_operation}, declared.side.SideKind.{SideKind as DeclaredKind}, Private.SideViews.kind_of_side}
+use Rattle.gix_refspec_text.specs.{declared.side.SideKind.{SideKind as DeclaredKind}, Private.SideViews.kind_of_side}
 use Rattle.gix_refspec_text.specs.declared.side.SideKind.TheVariants as kind
 
 pub id_not_head : (x id : List ℕ) → IsIdText x id → x ≢ head
@@ -21,13 +21,6 @@ prefix_tells x p before after split (of_pattern first last other tells _) =
 
 pub no_prefix : (x before after : List ℕ) → IsSplit before after x → ¬ (IsRefPrefix before after) → HasNoPrefix x
 no_prefix x before after split vague p is = vague (prefix_tells x p before after split is)
-
--- a test for a bracket decides whether a pattern that begins with `refs/` has a prefix
-pub told_clear : (before after rest : List ℕ) → before ≡ codes "refs/" ++ rest → 1 ≤ length rest → Lacks bracket before → (r : Bool) → MatchBool r (ContainsText (bracket ∷ []) after) (Lacks bracket after) → IsTrue (not r) ↔ IsRefPrefix before after
-told_clear before after rest below full first h holds = grind (arith, Lacks-ContainsText)
-
-pub told_bracket : (before after : List ℕ) (r : Bool) → MatchBool r (ContainsText (bracket ∷ []) before) (Lacks bracket before) → ContainsText (bracket ∷ []) before → IsTrue (not r) ↔ IsRefPrefix before after
-told_bracket before after r told holds = grind (arith, Lacks-ContainsText)
 
 pub prefix_expands : (x p : List ℕ) → IsPrefix x p → ¬ (Expands x [])
 prefix_expands x p is nothing = let same = (one_prefix x).expanded (p ∷ []) [] (to_prefix p is refl) nothing in cc
@@ -81,9 +74,6 @@ told_source r x b fetch asked told = (
   (λ so. record { fetch = fetch; source = λ y also. subst IsCovering (one_asked r x y asked also) (told.0 so) }),
   (λ has. told.1 (has.source x asked)),
 )
-
-pub fetch_from_test : (o : Operation) → false ≡ not (sameb the_operation o Fetch) → o ≡ Fetch
-fetch_from_test o test = grind arith
 
 pub told_name : (x : List ℕ) (k : DeclaredKind) → HasKind x (kind_of_side k) → ((n : Bor (List ℕ)) × (k ≡ kind.FullName n)) ⊎ ((i : ObjectId) × (k ≡ kind.Object i)) → IsCovering x
 told_name x (kind.FullName n) has one = by_prefix x has.2 (of_name has.2 has.1 refl)

@@ -1,9 +1,9 @@
 -- A reading with another destination.
-use Rattle.gix_refspec_text.proofs.Common.{[], inl, inr, ℕ, List, ◌∷◌, Some, IfSome, IsSome, refl, sym, subst, ∥∥₁_map, Operation, Lacks, IsName, star, head, colon, Mode, Normal, Reading}
+use Rattle.gix_refspec_text.proofs.Common.{None, [], inl, inr, ℕ, List, ◌∷◌, Some, IfSome, IsSome, refl, sym, subst, ∥∥₁_map, Operation, Lacks, IsName, star, head, colon, Mode, Normal, Reading}
 use Rattle.gix_refspec_text.proofs.Common.{with_destination, named_by, AreParts, IsAccepted, IsPositive, Reads, fetches, updates, ◌≡◌, ◌⊎◌, codes, arith, BeginsWith, HasCheckedShape, Plain, Pattern}
 use Rattle.gix_refspec_text.proofs.{Common.{with_colon, Option, unwrap_or, side_of, sign, ◌++◌, fetched_alone, all_tags, IsUnsigned}, lemmas.texts.TextLemmas.Lacks-ContainsText}
-use Rattle.gix_refspec_text.proofs.lemmas.{texts.HeadLemmas.Lacks-colon_name, parsing.SideLemmas.{HasStar-pattern, empty_no_pattern}, specs.FormsBackLemmas.{unsigned_front, is_forced}}
-use Rattle.gix_refspec_text.proofs.lemmas.parsing.ReadsLemmas.{AreFine, fine_fetch, fine_alone, fine_push, fine_negative, fine_parts, side_of-full, fine_reads, checked_name, name_not_empty}
+use Rattle.gix_refspec_text.proofs.lemmas.{texts.HeadLemmas.Lacks-colon_name, parsing.SideLemmas.{HasStar-pattern, empty_no_pattern}, specs.FormsBackLemmas.is_forced, parsing.ReadsLemmas.AreFine}
+use Rattle.gix_refspec_text.proofs.lemmas.parsing.ReadsLemmas.{fine_fetch, fine_alone, fine_push, fine_negative, fine_parts, side_of-full, fine_reads, checked_name, name_not_empty}
 use Rattle.gix_refspec_text.proofs.facts.ManualFacts.{parts, IsPattern-tested}
 
 starred_destination : (x : List ℕ) → IfSome (side_of x) (Lacks star) → HasCheckedShape x Pattern → ⊥
@@ -24,7 +24,8 @@ new_fine op m s d new (fine_negative k minus none full a hash) some lacks name =
 
 unsigned_aimed : (s new : List ℕ) (d : Option (List ℕ)) → IsUnsigned (with_colon s d) → IsUnsigned (with_colon s (Some new))
 unsigned_aimed [] new d unsigned = omega arith
-unsigned_aimed (b ∷ s) new d unsigned = unsigned_front (b ∷ s) d (Some new) (λ same. cc) unsigned
+unsigned_aimed (b ∷ s) new None unsigned = unsigned
+unsigned_aimed (b ∷ s) new (Some e) unsigned = unsigned
 
 new_parts : (m : Mode) (s : List ℕ) (d : Option (List ℕ)) (new text : List ℕ) → IsPositive m → AreParts m s d text
     → Lacks colon new → AreParts m s (Some new) (sign (is_forced m) ++ (s ++ (colon ∷ new)))

@@ -4,7 +4,7 @@ use Rattle.gix_refspec_text.proofs.Common.{Lacks, IsName, IsPattern, star, caret
 use Rattle.gix_refspec_text.proofs.Common.{LooksLikeObjectHash, fetched, pushed, Reads, fetches_nothing_named, fetches_colon, fetches, updates, updates_from_head, fetch_excludes, pushes_plus}
 use Rattle.gix_refspec_text.proofs.Common.{pushes_colon, pushes, deletes, pushes_pattern, pushes_to, push_excludes, meaning, meaning_of, included, printed, text_of, sign, begins_with_plus}
 use Rattle.gix_refspec_text.proofs.Common.{push_all_matching, push_delete, push_matching, push_exclude, fetch_only, fetch_exclude, fetch_and_update, IsPrintedBack, ReadsOrRefused, EqualTexts}
-use Rattle.gix_refspec_text.proofs.{Common.{same_Some, ◌==◌, true, false, if◌then◌else◌, at, IsUnsigned, with_colon, Meaning, eqb-true}, lemmas.parsing.SideLemmas.{Lacks-name, HasStar-pattern}}
+use Rattle.gix_refspec_text.proofs.{Common.{same_Some, ◌==◌, true, false, if◌then◌else◌, at, Meaning, eqb-true}, lemmas.parsing.SideLemmas.{Lacks-name, HasStar-pattern}}
 use Rattle.gix_refspec_text.proofs.lemmas.{parsing.DecideLemmas.read_or_refused, texts.HeadLemmas.{IsName-head, Lacks-colon_name, unsigned_name, Lacks-colon_pattern}, parsing.ReadsLemmas.alike_full}
 use Rattle.gix_refspec_text.proofs.lemmas.{parsing.ReadsLemmas.{name_not_empty, pattern_not_empty, either_not_empty}, parsing.ReadOnceLemmas.reads_once, texts.TextLemmas.Lacks-ContainsText}
 
@@ -40,13 +40,6 @@ named_either s h = grind (arith, named_name, named_pattern)
 
 pub Lacks-colon_either : (s : List ℕ) → IsNameOrPattern s → Lacks colon s
 Lacks-colon_either s h = grind (arith, Lacks-colon_name, Lacks-colon_pattern)
-
-pub unsigned_front : (s : List ℕ) (d e : Option (List ℕ)) → s ≢ [] → IsUnsigned (with_colon s d) → IsUnsigned (with_colon s e)
-unsigned_front [] d e full unsigned = absurd (full refl)
-unsigned_front (b ∷ s) None None full unsigned = unsigned
-unsigned_front (b ∷ s) None (Some e) full unsigned = unsigned
-unsigned_front (b ∷ s) (Some d) None full unsigned = unsigned
-unsigned_front (b ∷ s) (Some d) (Some e) full unsigned = unsigned
 
 -- the flag of a positive mode, and its text
 abbrev pub is_forced : Mode → Bool

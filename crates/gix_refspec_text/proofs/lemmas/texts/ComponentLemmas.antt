@@ -70,11 +70,10 @@ pub SomeComponent-from : (P : List ℕ → Type 0) (w x : List ℕ) → IsCompon
 SomeComponent-from P w x found fact =
     let front = fence_parts found.before (let here = found.here in grind arith) in
     let back = fence_parts found.after found.ends in
-    let same : fenced (front.0 ++ (w ∷ back.0)) ≡ slash ∷ x =
-    fenced-append front.0 (w ∷ back.0) ∙ ap (λ y. y ++ fenced (w ∷ back.0)) front.2 ∙ ap (λ y. found.before ++ (slash ∷ (w ++ y))) back.2 ∙ sym found.here in
-    let joined = join_from_fenced (front.0 ++ (w ∷ back.0)) x same in
+    let parts = front.0 ++ (w ∷ back.0) in
+    let same : fenced parts ≡ slash ∷ x = fenced-append front.0 (w ∷ back.0) ∙ ap (λ y. y ++ fenced (w ∷ back.0)) front.2 ∙ ap (λ y. found.before ++ (slash ∷ (w ++ y))) back.2 ∙ sym found.here in
     let whole = all_join (Lacks slash) front.0 (w ∷ back.0) front.1 (found.whole, back.1) in
-    record { before = front.0; component = w; after = back.0; components = record { joined = joined; whole = whole }; fact = fact }
+    record { before = front.0; component = w; after = back.0; components = record { joined = join_from_fenced parts x same; whole = whole }; fact = fact }
 
 fenced_from_join : (ps : List (List ℕ)) (w : List ℕ) (qs : List (List ℕ)) (x : List ℕ) → join_with_byte slash (ps ++ (w ∷ qs)) ≡ x → fenced (ps ++ (w ∷ qs)) ≡ slash ∷ x
 fenced_from_join [] w qs x joined = fenced-join w qs ∙ ap (λ y. slash ∷ y) joined
@@ -82,7 +81,6 @@ fenced_from_join (p ∷ ps) w qs x joined = fenced-join p (ps ++ (w ∷ qs)) ∙
 
 pub SomeComponent-index : (P : List ℕ → Type 0) (x : List ℕ) (some : SomeComponent P x) → IsComponent some.component x
 SomeComponent-index P x some =
-    let here = sym (fenced_from_join some.before some.component some.after x some.components.joined)
-    ∙ fenced-append some.before (some.component ∷ some.after) in
+    let here = sym (fenced_from_join some.before some.component some.after x some.components.joined) ∙ fenced-append some.before (some.component ∷ some.after) in
     let whole = AllByRecursion-parts (Lacks slash) some.before some.component some.after some.components.whole in
     record { before = fenced some.before; after = fenced some.after; here = here; whole = whole; ends = fenced-IsEnd some.after }

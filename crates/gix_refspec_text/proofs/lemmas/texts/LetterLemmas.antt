@@ -120,8 +120,7 @@ letters-Lacks [] lacks = refl
 letters-Lacks (b ∷ x) lacks = ap (λ c. c ∷ with_letters x) (letter_for-other b lacks.0) ∙ ap (λ y. b ∷ y) (letters-Lacks x lacks.1)
 
 pub replaces_one : (before after x : List ℕ) → IsSplit before after x → ReplacesStar x (with_letters x)
-replaces_one before after x split =
-    record { before = before; after = after; split = split; replaced = search (arith, map-append, letters-Lacks) }
+replaces_one before after x split = grind (arith, map-append, letters-Lacks)
 
 pub pattern_with_letter : (x : List ℕ) → HasOneStar x → IsName (with_letters x) → IsPattern x
 pattern_with_letter x (before, after, split) name = record { with_letter = with_letters x; replaces = replaces_one before after x split; name = name }

@@ -1,13 +1,13 @@
 -- The texts of ids: which texts they are, that each is the text of only one id, and that decoding finds it.
-use Rattle.gix_refspec_text.proofs.Common.{[], nat_tests, ◌≡◌, ℕ, zero, suc, ◌+◌, ◌*◌, ◌/◌, ◌%◌, ◌<◌, Bool, List, ◌∷◌, length, slice_index, take, nat_lt, ◌⊎◌, inl, inr, Option, Some, is_some, true}
-use Rattle.gix_refspec_text.proofs.Common.{agree_below_at, not, ◌||◌, eqb, eqb-true, unwrap_or, false, Result, Ok, Err, refl, sym, ap, ◌∙◌, subst, arith, ◌++◌, drop, IsOk, MatchBool, MatchResult}
-use Rattle.gix_refspec_text.proofs.Common.{AllPass, SomeIndex, list_all, IsAscii, IsUtf8, false≢true, cases_Bool, cases_eq, ltb-true, length-take-le, take-append-le, take_all, All-cons, All-head}
-use Rattle.gix_refspec_text.proofs.Common.{All-nil, All-tail, All-weaker, AllPass-from_list_all, Digit, Length, Kind, Sha1, Sha256, HasIdFault, IsIdLength, IsIdText, IsLowerText, IsSpelledBy, Spells}
-use Rattle.gix_refspec_text.proofs.Common.{bytes_of, digits_of, is_lower_digit, lower_of, IsId, HasOneFault, IdOrFault, OneLowerText, list_all-from_AllPass}
-use Rattle.std.{specs.Result.{is_err, result_unwrap_or}, proofs.lemmas.Str.IsUtf8-from_ascii, proofs.lemmas.Str.Ascii.IsAscii-from_all}
-use Rattle.hex.specs.{Hex.{IsBytes, decode_of, decode_pairs, decode_sized, encode_with, hex_digit_value, is_hex_digit, lower_digits, pair_value}, declared.error.FromHexError.FromHexError}
-use Rattle.hex.proofs.{HexLemmas.{IsAscii-encode_with, IsOk-decode_sized, decode_of-ok, decode_of-same, decode_pairs-ok, decode_sized-encode_lower, length-encode_with}, Pairs.cons_byte}
-use Rattle.hex.proofs.Pairs.{decode_pairs-ok_pair, decode_sized-pairs}
+use Rattle.hex.proofs.HexLemmas.{decode_of-digits, decode_sized-twice, IsAscii-encode_with, IsOk-decode_sized, decode_of-ok, decode_of-same, decode_pairs-ok, decode_sized-encode_lower}
+use Rattle.hex.{proofs.HexLemmas.length-encode_with, specs.Hex.{digit_or_error, ◌>>=◌, IsBytes, decode_of, decode_pairs, decode_sized, encode_with, hex_digit_value, is_hex_digit, lower_digits}}
+use Rattle.hex.{specs.Hex.pair_value, specs.declared.error.FromHexError.FromHexError, proofs.Pairs.{cons_byte, decode_pairs-ok_pair, decode_sized-pairs}}
+use Rattle.gix_refspec_text.proofs.Common.{rules, [], nat_tests, ◌≡◌, ℕ, zero, suc, ◌+◌, ◌*◌, ◌/◌, ◌%◌, ◌<◌, Bool, List, ◌∷◌, length, slice_index, take, nat_lt, ◌⊎◌, inl, inr, Option, Some, true}
+use Rattle.gix_refspec_text.proofs.Common.{false, Result, Ok, Err, refl, sym, ap, ◌∙◌, subst, arith, ◌++◌, drop, IsOk, MatchBool, MatchResult, AllPass, SomeIndex, list_all, IsAscii, IsUtf8}
+use Rattle.gix_refspec_text.proofs.Common.{false≢true, cases_Bool, cases_eq, ltb-true, length-take-le, take-append-le, take_all, All-cons, All-head, All-nil, All-tail, All-weaker}
+use Rattle.gix_refspec_text.proofs.Common.{AllPass-from_list_all, Digit, Length, Kind, Sha1, Sha256, HasIdFault, IsIdLength, IsIdText, IsLowerText, IsSpelledBy, Spells, bytes_of, digits_of}
+use Rattle.gix_refspec_text.proofs.Common.{is_lower_digit, lower_of, IsId, HasOneFault, IdOrFault, OneLowerText, list_all-from_AllPass}
+use Rattle.std.{specs.Result.is_err, proofs.lemmas.Str.IsUtf8-from_ascii, proofs.lemmas.Str.Ascii.IsAscii-from_all}
 use Rattle.gix_refspec_text.specs.declared.oid.Error.{Error}
 
 pub digits_of-twice : (kind : Kind) → digits_of kind ≡ 2 * bytes_of kind
@@ -20,11 +20,7 @@ Spells-tail a b x t i spelled k below =
     rw (low, high) at (spelled (suc k) (omega arith))
 
 Spells-cons : (a b x : ℕ) (t i : List ℕ) → IsSpelledBy x a b → Spells t i → Spells (a ∷ b ∷ t) (x ∷ i)
-Spells-cons a b x t i first rest zero below = first
-Spells-cons a b x t i first rest (suc k) below =
-    let low : 2 * suc k + 1 ≡ suc (suc (2 * k + 1)) = omega arith in
-    let high : 2 * suc k ≡ suc (suc (2 * k)) = omega arith in
-    rw (low, high) (rest k (omega arith))
+Spells-cons a b x t i first rest k below = search (arith, rules)
 
 pair_value-spelled : (n a b x : ℕ) → IsSpelledBy x a b → pair_value a b n ≡ Ok x
 pair_value-spelled n a b x s = rw (s.high_read, s.low_read) (ap Ok (let v = s.value in omega arith))
@@ -37,34 +33,20 @@ decode_pairs-spelled n (a ∷ b ∷ t) (x ∷ i) twice spelled =
     ∙ ap (cons_byte x) (decode_pairs-spelled (n + 2) t i (omega arith) (Spells-tail a b x t i spelled))
 decode_pairs-spelled n t i twice spelled = absurd (omega arith)
 
-value_of_digit : (o : Option ℕ) → is_some o ≡ true → (v : ℕ) × (o ≡ Some v)
-value_of_digit o h = grind arith
+pair_taken : (a b n : ℕ) (u v : Option ℕ) (q : Result (List ℕ) FromHexError) (i : List ℕ) → ((digit_or_error a n u >>= (λ (h : ℕ). digit_or_error b (n + 1) v >>= (λ (l : ℕ). Ok (h * 16 + l)))) >>= (λ (x : ℕ). q >>= (λ (r : List ℕ). Ok (x ∷ r)))) ≡ Ok i
+    → (h : ℕ) × (l : ℕ) × (r : List ℕ) × (u ≡ Some h) × (v ≡ Some l) × (q ≡ Ok r) × (i ≡ (h * 16 + l) ∷ r)
+pair_taken a b n u v q i is = grind arith
 
-spelled_byte : (a b : ℕ) → is_hex_digit a ≡ true → is_hex_digit b ≡ true → (x : ℕ) × IsSpelledBy x a b
-spelled_byte a b digit_a digit_b =
-    let high = value_of_digit (hex_digit_value a) digit_a in
-    let low = value_of_digit (hex_digit_value b) digit_b in (
-      16 * high.0 + low.0,
-      record { high_value = high.0; low_value = low.0; high_read = high.1; low_read = low.1; value = refl },
-    )
-
-pub spelled_bytes : (n : ℕ) (t : List ℕ) → length t ≡ 2 * n → AllPass is_hex_digit t
-    → (i : List ℕ) × (length i ≡ n) × Spells t i
-spelled_bytes zero t twice digits = ([], refl, λ k below. absurd (omega arith))
-spelled_bytes (suc n) (a ∷ b ∷ t) twice digits =
-    let tail = All-tail (λ c. is_hex_digit c ≡ true) a (b ∷ t) digits in
-    let rest = spelled_bytes n t (omega arith) (All-tail (λ c. is_hex_digit c ≡ true) b t tail) in
-    let first = spelled_byte a b (All-head (λ c. is_hex_digit c ≡ true) a (b ∷ t) digits) (All-head (λ c. is_hex_digit c ≡ true) b t tail) in
-    let len = rest.1 in
-    (first.0 ∷ rest.0, omega arith, Spells-cons a b first.0 t rest.0 first.1 rest.2)
-spelled_bytes n t twice digits = absurd (omega arith)
+decoded_spells : (n : ℕ) (t i : List ℕ) → decode_pairs n t ≡ Ok i → Spells t i
+unfolding decode_pairs
+decoded_spells n [] i decoded = λ k below. let none : i ≡ [] = cc in absurd (omega (arith, ap length none, below))
+decoded_spells n (a ∷ []) i decoded = absurd (cc)
+decoded_spells n (a ∷ b ∷ t) i decoded =
+    let (h, l, r, high, low, rest, is) = pair_taken a b n (hex_digit_value a) (hex_digit_value b) (decode_pairs (n + 2) t) i decoded in
+    rw is (Spells-cons a b (h * 16 + l) t r (record { high_value = h; low_value = l; high_read = high; low_read = low; value = omega arith }) (decoded_spells (n + 2) t r rest))
 
 pub Spells-decode_pairs : (t i : List ℕ) → decode_pairs 0 t ≡ Ok i → Spells t i
-Spells-decode_pairs t i decoded =
-    let ok = decode_pairs-ok 0 t i decoded in
-    let made = spelled_bytes (length i) t ok.1 ok.0 in
-    let again : decode_pairs 0 t ≡ Ok made.0 = decode_pairs-spelled 0 t made.0 (omega (arith, made.1, ok.1)) made.2 in
-    subst (Spells t) (ap (λ (r : Result (List ℕ) FromHexError). result_unwrap_or r []) (sym again ∙ decoded)) made.2
+Spells-decode_pairs t i decoded = decoded_spells 0 t i decoded
 
 decoded_pairs : (kind : Kind) (t i : List ℕ) → length t ≡ digits_of kind → decode_sized t (bytes_of kind) ≡ Ok i → decode_pairs 0 t ≡ Ok i
 decoded_pairs kind t i digits decoded = let two = digits_of-twice kind in sym (decode_sized-pairs t (bytes_of kind) (omega arith) (omega arith)) ∙ decoded
@@ -86,8 +68,9 @@ AllPass-IsIdText t i text = (decode_of-ok t i (decode_of-IsIdText t i text)).1
 
 pub IsIdText-digits : (t : List ℕ) → IsIdLength (length t) → AllPass is_hex_digit t → (i : List ℕ) × IsIdText t i
 IsIdText-digits t (kind, digits) all =
-    let made = spelled_bytes (bytes_of kind) t (omega (arith, digits_of-twice kind)) all in
-    (made.0, record { kind = kind; digits = digits; bytes = made.1; spelled = made.2 })
+    let two = digits_of-twice kind in
+    let made = decode_of-digits t (omega arith) all in
+    (made.0, IsIdText-decoded kind t made.0 digits (decode_sized-twice t (bytes_of kind) (omega arith) ∙ made.1))
 
 pub IsIdText-sound : (t i : List ℕ) (e : Error) → IsIdText t i → HasIdFault t e → ⊥
 IsIdText-sound t i (Length len) text (same, other) = other (text.kind, text.digits)
@@ -175,11 +158,7 @@ IsLowerText-lower_of kind i size fits =
     )
 
 lower_digit : (c v : ℕ) → is_lower_digit c ≡ true → hex_digit_value c ≡ Some v → slice_index lower_digits v ≡ c
-lower_digit c v lower read =
-    let below : c < 103 = grind (arith, nat_tests) in
-    let table = agree_below_at (λ d. not (is_lower_digit d) || eqb (slice_index lower_digits (unwrap_or (hex_digit_value d) 0)) d)
-    (λ _. true) 103 c refl below in
-    eqb-true _ _ (rw (lower, read) at table)
+lower_digit c v lower read = grind (arith, nat_tests)
 
 lower_text : (t i : List ℕ) → length t ≡ 2 * length i → AllPass is_lower_digit t → Spells t i → t ≡ lower_of i
 unfolding encode_with
@@ -210,7 +189,3 @@ one_lower_text kind buffer room fits =
       lower = IsLowerText-lower_of kind i (length-room kind buffer room) (IsBytes-take (bytes_of kind) buffer fits);
       only = λ t is. lower_text t i (omega (arith, digits_of-twice is.0.kind, is.0.digits, is.0.bytes)) is.1 is.0.spelled;
     }
-
-pub IsOk-unless : {T E : Type 0} {R : Type 0} (r : Result T E) (P : T → Type 0) (Q : E → Type 0) → R
-    → MatchResult r P (λ e. ¬ R × Q e) → IsOk r
-IsOk-unless r P Q fact cases = grind arith

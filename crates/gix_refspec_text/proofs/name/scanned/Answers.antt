@@ -1,5 +1,5 @@
 -- Of each sixteen bytes those after the calm run are checked one by one.
-use Rattle.gix_refspec_text.proofs.{Common.{◌≡◌, ◌+◌, ◌-◌, ◌≤◌, length, refl, arith}, lemmas.texts.NameLemmas.IsClean-start, lemmas.texts.LetterLemmas.calm_scanned}
+use Rattle.gix_refspec_text.proofs.{Common.{arith, ◌≡◌, ◌+◌, ◌-◌, ◌≤◌, length, refl}, lemmas.texts.NameLemmas.IsClean-start, lemmas.texts.LetterLemmas.calm_scanned}
 use Rattle.gix_refspec_text.proofs.name.scanned.Goals as goal
 
 pub scanned_to-requires : goal.scanned_to-requires
