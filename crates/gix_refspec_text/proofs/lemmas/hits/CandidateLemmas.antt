@@ -1,6 +1,6 @@
 -- The name that a partial source takes: the first of its candidates that a ref has.
-use Rattle.gix_refspec_text.proofs.Common.{Bool, Decides, [], arith, ◌≡◌, ◌⊎◌, inl, inr, ℕ, List, ◌∷◌, ◌++◌, None, refl, sym, ap, ◌∙◌, subst, AllByRecursion, bytes_eq, bytes_eq-Decides, partial}
-use Rattle.gix_refspec_text.proofs.{Common.{HasKind, IsCandidate, Ref, HasName, IsFirstCandidate, Takes, FirstCandidate}, lemmas.lists.LacksLemmas.first_with}
+use Rattle.gix_refspec_text.proofs.Common.{Matches, Bool, Decides, [], arith, ◌≡◌, ◌⊎◌, inl, inr, ℕ, List, ◌∷◌, ◌++◌, None, refl, sym, ap, ◌∙◌, subst, AllByRecursion, bytes_eq, bytes_eq-Decides}
+use Rattle.gix_refspec_text.proofs.{Common.{partial, HasKind, IsCandidate, Ref, HasName, IsFirstCandidate, Takes, FirstCandidate}, lemmas.lists.LacksLemmas.first_with}
 
 decided_or : {P Q : Type 0} (b : Bool) → Decides b P → Q ⊎ (Q → ⊥) → (P ⊎ Q) ⊎ (P ⊎ Q → ⊥)
 decided_or b told rest = grind arith
@@ -32,22 +32,16 @@ first_once refs x n m a b =
 
 pub first_of_one : (x : List ℕ) (r : Ref) → IsCandidate x r.name → IsFirstCandidate (r ∷ []) x r.name
 first_of_one x r one =
-    let first = some_first (r ∷ []) x r.name one (inl refl) in
-    let present : HasName (r ∷ []) first.0 = first.1.present in
-    let same : first.0 ≡ r.name = grind arith in
-    subst (IsFirstCandidate (r ∷ []) x) same first.1
+    let (n, first) = some_first (r ∷ []) x r.name one (inl refl) in
+    let same : n ≡ r.name = (let present = first.present in grind arith) in
+    subst (IsFirstCandidate (r ∷ []) x) same first
 
 pub taken_by_first : (refs : List Ref) (x : List ℕ) (r : Ref) → HasKind x (partial x) → IsFirstCandidate refs x r.name → Takes refs x r None
-taken_by_first refs x r kind first = record {
-  matches = record { kind = partial x; of = kind; is = (refl, first_candidate refs x r.name first) };
-  first = λ n also. subst (λ (y : List ℕ). IsFirstCandidate refs y r.name) (sym also.0) first;
-}
+taken_by_first refs x r kind first =
+    let matches : Matches x r None = record { kind = partial x; of = kind; is = (refl, first_candidate refs x r.name first) } in
+    record { matches = matches; first = λ n also. subst (λ (y : List ℕ). IsFirstCandidate refs y r.name) (sym also.0) first }
 
 pub takes_first : (x : List ℕ) (refs : List Ref) → FirstCandidate x refs
 takes_first x refs lacks outside no_id =
     let kind : HasKind x (partial x) = (refl, lacks, outside, no_id) in
-    record {
-      takes = λ r. (λ found. found.1.first x kind, λ first. (None, taken_by_first refs x r kind first));
-      one = first_once refs x;
-      some = some_first refs x;
-    }
+    record { takes = λ r. (λ found. found.1.first x kind, λ first. (None, taken_by_first refs x r kind first)); one = first_once refs x; some = some_first refs x }

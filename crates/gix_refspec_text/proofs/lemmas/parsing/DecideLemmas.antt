@@ -115,10 +115,8 @@ settled_fetch m s d pos = elim (checked s) [
   | inr (e, (full, bad)) ↦ inr (e, reason_at_source Fetch m s d e (fetch_reaches m s d pos) (record { source = full; refusal = bad }))
   | inl (j, source) ↦ elim (checked (unwrap_or d [])) [
     | inr (e, bad) ↦ inr (e, reason_at_destination Fetch m s d e (fetch_reaches m s d pos) (fetch_source_fine s d j source) (bad_destination d e bad))
-    | inl (k, target) ↦ elim (decided_side j k) [
-      | inl same ↦ inl (fine_fetch k refl pos (subst (HasCheckedShape s) same source) target)
-      | inr differ ↦ inr (PatternUnbalanced, unbalanced_fetch m s d j k pos source target differ)
-    ]
+    | inl (k, target) ↦
+        elim (decided_side j k) [ inl same ↦ inl (fine_fetch k refl pos (subst (HasCheckedShape s) same source) target) | inr differ ↦ inr (PatternUnbalanced, unbalanced_fetch m s d j k pos source target differ) ]
   ]
 ]
 
@@ -133,10 +131,8 @@ settled_to m s t pos somewhere = elim (starred s) [
   | inr (e, bad) ↦ inr (e, reason_at_source Push m s (Some t) e (push_reaches m s t pos somewhere) (bad_source_of_push s t e bad))
   | inl (j, source) ↦ elim (checked t) [
     | inr (e, bad) ↦ inr (e, reason_at_destination Push m s (Some t) e (push_reaches m s t pos somewhere) (push_source_fine s t j source) (bad_destination (Some t) e bad))
-    | inl (k, target) ↦ elim (decided_side j k) [
-      | inl same ↦ inl (fine_push k t refl pos refl somewhere (subst (HasShape s) same source) target)
-      | inr differ ↦ inr (PatternUnbalanced, unbalanced_push m s t j k pos somewhere source target differ)
-    ]
+    | inl (k, target) ↦
+        elim (decided_side j k) [ inl same ↦ inl (fine_push k t refl pos refl somewhere (subst (HasShape s) same source) target) | inr differ ↦ inr (PatternUnbalanced, unbalanced_push m s t j k pos somewhere source target differ) ]
   ]
 ]
 
@@ -178,10 +174,7 @@ pub parted : (text : List ℕ) → Parted text
 parted [] = parted_signed Normal [] [] (refl, tt)
 parted (b ∷ x) = elim (cases_eq b plus) [
   | inl same ↦ parted_signed Forced (b ∷ x) x (ap (λ c. c ∷ x) same)
-  | inr no_plus ↦ elim (cases_eq b caret) [
-    | inl same ↦ parted_signed Negative (b ∷ x) x (ap (λ c. c ∷ x) same)
-    | inr no_caret ↦ parted_signed Normal (b ∷ x) (b ∷ x) (refl, (no_plus, no_caret))
-  ]
+  | inr no_plus ↦ elim (cases_eq b caret) [ inl same ↦ parted_signed Negative (b ∷ x) x (ap (λ c. c ∷ x) same) | inr no_caret ↦ parted_signed Normal (b ∷ x) (b ∷ x) (refl, (no_plus, no_caret)) ]
 ]
 
 pub read_or_refused : (op : Operation) (text : List ℕ) → ((r : Reading) × Reads op text r) ⊎ ((e : Refusal) × IsRefused op text e)

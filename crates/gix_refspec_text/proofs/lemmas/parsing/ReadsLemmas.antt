@@ -1,11 +1,10 @@
 -- A text with valid parts has the reading with their sides, and each text with a reading has valid parts.
 use Rattle.gix_refspec_text.proofs.Common.{[], arith, ◌≡◌, ◌≢◌, inl, inr, ℕ, List, ◌∷◌, Option, None, Some, option_map, unwrap_or, refl, ap, subst, Empty, Operation, Push, Fetch, Shape, Plain}
-use Rattle.gix_refspec_text.proofs.Common.{Pattern, IsName, IsPattern, Mode, Normal, Forced, Negative, Reading, Refusal, Never, IsFirstReason, IsRefused, ReachesMemory, MayNeedMemory, named_by}
-use Rattle.gix_refspec_text.proofs.Common.{IsPositive, IsNameOrPattern, LooksLikeObjectHash, AreAlike, AreParts, fetched, pushed, Reads, fetches_nothing_named, fetches_colon, fetches, updates}
-use Rattle.gix_refspec_text.proofs.Common.{updates_from_head, fetch_excludes, pushes_plus, pushes_colon, pushes, deletes, pushes_pattern, pushes_to, push_excludes, mode_of, IsErrorOf, HasShape}
-use Rattle.gix_refspec_text.proofs.{Common.{HasCheckedShape, side_of, named_or_head, destination_of, HasParts, IsReasonAgainst, bstr_bytes}, lemmas.parsing.SideLemmas.checked_starred}
-use Rattle.gix_refspec_text.proofs.lemmas.parsing.{SideLemmas.empty_no_pattern, PartsLemmas.parts_once, ReasonLemmas.{MemoryOr-map, fetch_source_fine, push_source_fine, alone_fine, destination_fine}}
-use Rattle.gix_refspec_text.proofs.lemmas.parsing.ReasonLemmas.{sides_balanced}
+use Rattle.gix_refspec_text.proofs.Common.{Pattern, IsName, IsPattern, Mode, Normal, Forced, Negative, Reading, Refusal, Never, IsFirstReason, IsRefused, MayNeedMemory, named_by, IsPositive}
+use Rattle.gix_refspec_text.proofs.Common.{IsNameOrPattern, LooksLikeObjectHash, AreAlike, AreParts, fetched, pushed, Reads, fetches_nothing_named, fetches_colon, fetches, updates, updates_from_head}
+use Rattle.gix_refspec_text.proofs.Common.{fetch_excludes, pushes_plus, pushes_colon, pushes, deletes, pushes_pattern, pushes_to, push_excludes, mode_of, IsErrorOf, HasShape, HasCheckedShape, side_of}
+use Rattle.gix_refspec_text.proofs.{Common.{named_or_head, destination_of, HasParts, IsReasonAgainst, bstr_bytes}, lemmas.parsing.SideLemmas.{checked_starred, empty_no_pattern}}
+use Rattle.gix_refspec_text.proofs.lemmas.parsing.{PartsLemmas.parts_once, ReasonLemmas.{MemoryOr-map, fetch_source_fine, push_source_fine, alone_fine, destination_fine, sides_balanced}}
 use Rattle.gix_refspec_text.specs.{Private.Sides.AreSidesOf, declared.parsing.Error.Error, declared.parsing.reading.Parts.Parts, declared.parsing.reading.Sides.Sides}
 
 pub side_of-named : (b : ℕ) (bs : List ℕ) → side_of (named_by (b ∷ bs)) ≡ Some (named_by (b ∷ bs))
@@ -18,13 +17,11 @@ pub fetch_reads : (m : Mode) (s : List ℕ) (d : Option (List ℕ)) (k : Shape) 
 fetch_reads m [] None k text pos a b parts = fetches_nothing_named m refl pos parts refl
 fetch_reads m [] (Some []) k text pos a b parts = fetches_colon m refl pos parts refl
 fetch_reads m [] (Some (c ∷ cs)) Plain text pos a b parts = updates_from_head m (c ∷ cs) refl pos parts b refl
-fetch_reads m [] (Some (c ∷ cs)) Pattern text pos a b parts = absurd (empty_no_pattern a)
 fetch_reads m (x ∷ xs) None Plain text pos a b parts = fetches m (x ∷ xs) refl pos (inl parts) a refl
-fetch_reads m (x ∷ xs) None Pattern text pos a b parts = absurd (empty_no_pattern b)
 fetch_reads m (x ∷ xs) (Some []) Plain text pos a b parts = fetches m (x ∷ xs) refl pos (inr parts) a refl
-fetch_reads m (x ∷ xs) (Some []) Pattern text pos a b parts = absurd (empty_no_pattern b)
 fetch_reads m (x ∷ xs) (Some (c ∷ cs)) Plain text pos a b parts = updates m (x ∷ xs) (c ∷ cs) refl pos parts (inl (a, b)) refl
 fetch_reads m (x ∷ xs) (Some (c ∷ cs)) Pattern text pos a b parts = updates m (x ∷ xs) (c ∷ cs) refl pos parts (inr (a, b)) refl
+fetch_reads m s d k text pos a b parts = absurd (search empty_no_pattern)
 
 checked_name_or_pattern : (b : ℕ) (bs : List ℕ) (k : Shape) → HasCheckedShape (b ∷ bs) k → IsNameOrPattern (b ∷ bs)
 checked_name_or_pattern b bs k fine = grind arith
@@ -175,12 +172,7 @@ refused op m s d text e parts first =
     record { unread = unread; mode = m; source = s; destination = d; parts = parts; first = first }
 
 pub error_of_text : (p : Parts) (bytes text : List ℕ) (e : Error) → bytes ≡ text → HasParts bytes p → IsReasonAgainst p e → IsErrorOf p.operation text e
-error_of_text p bytes text e same split =
+error_of_text p bytes text e same split told =
     let parts = subst (λ (x : List ℕ). HasParts x p) same split in
-    let op = p.operation in
-    let m = mode_of p.mode in
-    let s = p.source.now in
-    let d = destination_of p in
-    MemoryOr-map (ReachesMemory op m s d) (MayNeedMemory op text) (IsFirstReason op m s d) (IsRefused op text) e
-    (λ reaches. record { mode = m; source = s; destination = d; parts = parts; reaches = reaches })
-    (λ f first. refused op m s d text f parts first)
+    MemoryOr-map _ (MayNeedMemory p.operation text) _ (IsRefused p.operation text) e
+    (λ reaches. record { mode = mode_of p.mode; source = p.source.now; destination = destination_of p; parts = parts; reaches = reaches }) (λ f first. refused p.operation _ _ _ text f parts first) told

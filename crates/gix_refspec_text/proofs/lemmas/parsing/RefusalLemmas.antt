@@ -1,25 +1,18 @@
 -- A text is refused for only one reason, apart from which fault of a name it holds.
-use Rattle.gix_refspec_text.proofs.Common.{arith, ◌⊎◌, inl, inr, ℕ, List, Option, refl, sym, ap, ◌∙◌, Operation, star, Mode, Refusal, PatternUnsupported, ReferenceName, IsBadName, IsBadPattern}
-use Rattle.gix_refspec_text.proofs.{Common.{IsBadSourceFor, HasBadDestination, OrElse, IsFirstReason, IsSameReason, OneRefusal, same_Some}, lemmas.texts.TextLemmas.Lacks-ContainsText}
+use Rattle.gix_refspec_text.proofs.Common.{arith, ◌⊎◌, inl, ℕ, List, Option, sym, ◌∙◌, Operation, star, Mode, Refusal, PatternUnsupported, ReferenceName, IsBadName, IsBadPattern, IsBadSourceFor}
+use Rattle.gix_refspec_text.proofs.{Common.{HasBadDestination, OrElse, IsFirstReason, IsSameReason, OneRefusal, same_Some}, lemmas.texts.TextLemmas.Lacks-ContainsText}
 use Rattle.gix_refspec_text.proofs.lemmas.parsing.{SideLemmas.{bad_name, HasStar-bad, HasSeveralStars-replaced}, PartsLemmas.parts_once}
 
 abbrev Agree : (Refusal → Type 0) → Type 0
 Agree P = (e f : Refusal) → P e → P f → IsSameReason e f
 
 Agree-or : {P Q : Refusal → Type 0} → Agree P → Agree Q → Agree (OrElse P Q)
-Agree-or p q e f (inl a) (inl b) = p e f a b
-Agree-or p q e f (inl a) (inr b) = absurd (b.0 e a)
-Agree-or p q e f (inr a) (inl b) = absurd (a.0 f b)
-Agree-or p q e f (inr a) (inr b) = q e f a.1 b.1
+Agree-or p q e f h k = grind (arith, p e f, q e f)
 
 Agree-pattern : (x : List ℕ) → Agree (IsBadPattern x)
-Agree-pattern x (PatternUnsupported p) (PatternUnsupported q) a b = inl (ap PatternUnsupported (a.1 ∙ sym b.1))
 Agree-pattern x (PatternUnsupported p) (ReferenceName g) a b = absurd (HasSeveralStars-replaced x b.0 b.1 a.0)
 Agree-pattern x (ReferenceName f) (PatternUnsupported q) a b = absurd (HasSeveralStars-replaced x a.0 a.1 b.0)
-Agree-pattern x (ReferenceName f) (ReferenceName g) a b = inr (f, g, refl, refl)
-Agree-pattern x (PatternUnsupported p) _ a b = absurd b
-Agree-pattern x (ReferenceName f) _ a b = absurd b
-Agree-pattern x _ f a b = absurd a
+Agree-pattern x e f a b = grind arith
 
 Agree-name : (x : List ℕ) → Agree (IsBadName x)
 Agree-name x h f a b = grind arith

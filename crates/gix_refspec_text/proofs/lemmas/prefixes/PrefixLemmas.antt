@@ -64,19 +64,14 @@ covering_tells x before after split (by_prefix p below is) = prefix_tells x p be
 covering_tells x before after split (by_candidates lacks other outside) = absurd (lacks_no_pattern x before after lacks split)
 
 pub told_pattern : (x before after : List ℕ) (r : Bool) → IsSplit before after x → IsTrue r ↔ IsRefPrefix before after → IsTrue r ↔ IsCovering x
-told_pattern x before after r split told = (
-  λ so. let yes = told.0 so in by_prefix before (begins_split x before after split yes.below) (of_pattern before after split yes refl),
-  λ covers. told.1 (covering_tells x before after split covers),
-)
+told_pattern x before after r split told =
+    let tells = λ (so : IsTrue r). told.0 so in
+    (λ so. by_prefix before (begins_split x before after split (tells so).below) (of_pattern before after split (tells so) refl), λ covers. told.1 (covering_tells x before after split covers))
 
 pub told_source : (r : Reading) (x : List ℕ) (b : Bool) → r.operation ≡ Fetch → IsAsked r x → IsTrue b ↔ IsCovering x → IsTrue b ↔ HasCoveringSource r
-told_source r x b fetch asked told = (
-  (λ so. record { fetch = fetch; source = λ y also. subst IsCovering (one_asked r x y asked also) (told.0 so) }),
-  (λ has. told.1 (has.source x asked)),
-)
+told_source r x b fetch asked told = (λ so. record { fetch = fetch; source = λ y also. subst IsCovering (one_asked r x y asked also) (told.0 so) }, λ has. told.1 (has.source x asked))
 
 pub told_name : (x : List ℕ) (k : DeclaredKind) → HasKind x (kind_of_side k) → ((n : Bor (List ℕ)) × (k ≡ kind.FullName n)) ⊎ ((i : ObjectId) × (k ≡ kind.Object i)) → IsCovering x
 told_name x (kind.FullName n) has one = by_prefix x has.2 (of_name has.2 has.1 refl)
 told_name x (kind.Object i) has one = by_candidates has.0 (id_not_head x (id_bytes i) has.2) has.1
-told_name x _ has (inl some) = let same = some.1 in absurd (cc)
-told_name x _ has (inr some) = let same = some.1 in absurd (cc)
+told_name x k has one = absurd (grind arith)

@@ -45,19 +45,14 @@ pub replaced_accepted : (r : Reading) (new : List ℕ) → IsSome r.destination 
 replaced_accepted r new some lacks name accepted = ∥∥₁_map accepted (λ by. replaced_read r.operation by.0 r new some lacks name by.1)
 
 read_alone : (n : List ℕ) → IsName n → IsUnsigned n → named_by n ≡ n → IsAccepted (fetched_alone n)
-read_alone n name unsigned same = (
-  n,
-  fetches Normal n refl tt (inl (record { signed = (refl, unsigned); last = Lacks-colon_name n name })) name
-      (subst (λ (x : List ℕ). fetched_alone n ≡ fetched_alone x) (sym same) refl),
-)
+read_alone n name unsigned same =
+    let fetched = fetches Normal n refl tt (inl (record { signed = (refl, unsigned); last = Lacks-colon_name n name })) name (subst (λ (x : List ℕ). fetched_alone n ≡ fetched_alone x) (sym same) refl) in
+    (n, fetched)
 
 pub alone_accepted : (n : List ℕ) → IsName n → BeginsWith (codes "refs/") n ⊎ (n ≡ head) → IsAccepted (fetched_alone n)
 alone_accepted n name h = grind (arith, read_alone)
 
 pub all_tags_accepted : IsAccepted all_tags
-all_tags_accepted = (
-  _,
-  updates Normal (codes "refs/tags/*") (codes "refs/tags/*") refl tt
-      (parts Normal (codes "refs/tags/*") (Some (codes "refs/tags/*")) refl refl)
-      (inr (IsPattern-tested (codes "refs/tags/") [] refl refl refl, IsPattern-tested (codes "refs/tags/") [] refl refl refl)) refl,
-)
+all_tags_accepted =
+    let tags = IsPattern-tested (codes "refs/tags/") [] refl refl refl in
+    (_, updates Normal (codes "refs/tags/*") (codes "refs/tags/*") refl tt (parts Normal (codes "refs/tags/*") (Some (codes "refs/tags/*")) refl refl) (inr (tags, tags)) refl)

@@ -4,18 +4,15 @@ use Rattle.gix_refspec_text.proofs.Common.{Lacks, IsName, IsPattern, star, caret
 use Rattle.gix_refspec_text.proofs.Common.{LooksLikeObjectHash, fetched, pushed, Reads, fetches_nothing_named, fetches_colon, fetches, updates, updates_from_head, fetch_excludes, pushes_plus}
 use Rattle.gix_refspec_text.proofs.Common.{pushes_colon, pushes, deletes, pushes_pattern, pushes_to, push_excludes, meaning, meaning_of, included, printed, text_of, sign, begins_with_plus}
 use Rattle.gix_refspec_text.proofs.Common.{push_all_matching, push_delete, push_matching, push_exclude, fetch_only, fetch_exclude, fetch_and_update, IsPrintedBack, ReadsOrRefused, EqualTexts}
-use Rattle.gix_refspec_text.proofs.{Common.{same_Some, ◌==◌, true, false, if◌then◌else◌, at, Meaning, eqb-true}, lemmas.parsing.SideLemmas.{Lacks-name, HasStar-pattern}}
-use Rattle.gix_refspec_text.proofs.lemmas.{parsing.DecideLemmas.read_or_refused, texts.HeadLemmas.{IsName-head, Lacks-colon_name, unsigned_name, Lacks-colon_pattern}, parsing.ReadsLemmas.alike_full}
-use Rattle.gix_refspec_text.proofs.lemmas.{parsing.ReadsLemmas.{name_not_empty, pattern_not_empty, either_not_empty}, parsing.ReadOnceLemmas.reads_once, texts.TextLemmas.Lacks-ContainsText}
+use Rattle.gix_refspec_text.proofs.{Common.{same_Some, true, false, at, Meaning}, lemmas.parsing.SideLemmas.{Lacks-name, HasStar-pattern}, lemmas.parsing.DecideLemmas.read_or_refused}
+use Rattle.gix_refspec_text.proofs.lemmas.{texts.HeadLemmas.{IsName-head, Lacks-colon_name, unsigned_name, Lacks-colon_pattern}, parsing.ReadsLemmas.{alike_full, name_not_empty, pattern_not_empty}}
+use Rattle.gix_refspec_text.proofs.lemmas.{parsing.ReadsLemmas.either_not_empty, parsing.ReadOnceLemmas.reads_once, texts.TextLemmas.Lacks-ContainsText}
 
 -- a reading is printed back, given its meaning, and the reading of its canonical text, with the same meaning
 printed_back : (op : Operation) (r q : Reading) (m : Meaning) → meaning_of r ≡ Some m → meaning_of q ≡ Some m → Reads op (text_of m) q → IsPrintedBack op r
-printed_back op r q m says again reads = record {
-  text = text_of m;
-  is = ap (option_map text_of) says;
-  again = record { reading = q; reads = reads; only = λ p by_p. reads_once op (text_of m) p q by_p reads };
-  same = again ∙ sym says;
-}
+printed_back op r q m says again reads =
+    let once = λ (p : Reading) (by_p : Reads op (text_of m) p). reads_once op (text_of m) p q by_p reads in
+    record { text = text_of m; is = ap (option_map text_of) says; again = record { reading = q; reads = reads; only = once }; same = again ∙ sym says }
 
 pub named_so : (P : List ℕ → Type 0) (s : List ℕ) → P head → P s → P (named_by s)
 named_so P s of_head of_s = grind arith
@@ -28,12 +25,7 @@ named_once s = grind arith
 
 -- a pattern names itself, as it isn't `@`, which has no star
 pub named_pattern : (s : List ℕ) → IsPattern s → named_by s ≡ s
-named_pattern [] pattern = refl
-named_pattern (b ∷ []) pattern = elim (cases_Bool (b == at)) [
-  | inl is_at ↦ absurd (Lacks-ContainsText star (b ∷ []) ((λ same. omega (arith, eqb-true b at is_at, same)), tt) (HasStar-pattern (b ∷ []) pattern))
-  | inr other ↦ ap (λ v. if v then head else b ∷ []) other
-]
-named_pattern (b ∷ c ∷ bs) pattern = refl
+named_pattern s pattern = let other : s ≢ at ∷ [] = λ same. Lacks-ContainsText star s (rw same (omega arith)) (HasStar-pattern s pattern) in grind arith
 
 pub named_either : (s : List ℕ) → IsNameOrPattern s → IsNameOrPattern (named_by s)
 named_either s h = grind (arith, named_name, named_pattern)
@@ -134,10 +126,7 @@ read_back op text r (pushes_to m s d push pos parts full plain name is) =
 read_back op text r (push_excludes s push parts either hash is) = rw (push, is) (back_push_exclude s either hash)
 
 pub once_or_refused : (op : Operation) (text : List ℕ) → ReadsOrRefused op text
-once_or_refused op text = elim (read_or_refused op text) [
-  | inl (q, reads) ↦ inl (record { reading = q; reads = reads; only = λ r by_r. reads_once op text r q by_r reads })
-  | inr refusal ↦ inr refusal
-]
+once_or_refused op text = elim (read_or_refused op text) [ inl (q, reads) ↦ inl (record { reading = q; reads = reads; only = λ r by_r. reads_once op text r q by_r reads }) | inr refusal ↦ inr refusal ]
 
 same_meaning_by_text : (op : Operation) (r q : Reading) → IsPrintedBack op r → IsPrintedBack op q → printed r ≡ printed q → meaning_of r ≡ meaning_of q
 same_meaning_by_text op r q back_r back_q same =

@@ -44,14 +44,11 @@ printed_back r accepted =
     let said = says r accepted in
     let text = text_of said.0 in
     let is : printed r ≡ Some text = ap (option_map text_of) said.1 in
-    let reads : (a : IsAccepted r) → Reads r.operation text (read_back r.operation a.0 r a.1).again.reading = λ a.
-    let back = read_back r.operation a.0 r a.1 in
-    subst (λ (x : List ℕ). Reads r.operation x back.again.reading) (same_Some back.text text (sym back.is ∙ is)) back.again.reads in
+    let back = λ (a : IsAccepted r). read_back r.operation a.0 r a.1 in
+    let reads = λ (a : IsAccepted r). subst (λ (x : List ℕ). Reads r.operation x (back a).again.reading) (same_Some (back a).text text (sym (back a).is ∙ is)) (back a).again.reads in
     elim (once_or_refused r.operation text) [
-      | inr refusal ↦ absurd (not_there accepted (λ a. refusal.1.unread (read_back r.operation a.0 r a.1).again.reading (reads a)))
+      | inr refusal ↦ absurd (not_there accepted (λ a. refusal.1.unread (back a).again.reading (reads a)))
       | inl once ↦
-          let same = meaning_shown (meaning_of once.reading) (meaning_of r) accepted (λ a.
-          let back = read_back r.operation a.0 r a.1 in
-          sym (ap meaning_of (once.only back.again.reading (reads a))) ∙ back.same) in
+          let same = meaning_shown (meaning_of once.reading) (meaning_of r) accepted (λ a. sym (ap meaning_of (once.only (back a).again.reading (reads a))) ∙ (back a).same) in
           record { text = text; is = is; again = once; same = same }
     ]

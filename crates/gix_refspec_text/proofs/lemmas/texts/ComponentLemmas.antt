@@ -32,28 +32,19 @@ pub fenced-IsEnd : (ps : List (List ℕ)) → IsEnd (fenced ps)
 fenced-IsEnd [] = tt
 fenced-IsEnd (p ∷ ps) = refl
 
--- a text split at its slashes
-pub record Pieces (x : List ℕ) : Type 0 where
-  pub first : List ℕ
-  pub others : List (List ℕ)
-  pub first_whole : Lacks slash first
-  pub others_whole : AllByRecursion (Lacks slash) others
-  pub here : first ++ fenced others ≡ x
+-- a text split at its slashes: its first component, and the others
+abbrev pub Pieces : List ℕ → Type 0
+Pieces x = (first : List ℕ) × (others : List (List ℕ)) × (first ++ fenced others ≡ x) × AllByRecursion (Lacks slash) (first ∷ others)
 
 pub pieces_of : (x : List ℕ) → Pieces x
-pieces_of [] = record { first = []; others = []; first_whole = tt; others_whole = tt; here = refl }
+pieces_of [] = ([], [], refl, (tt, tt))
 pieces_of (b ∷ x) =
-    let rest : Pieces x = pieces_of x in
-    elim (cases_eq b slash) [
-      | inl same ↦ record { first = []; others = rest.first ∷ rest.others; first_whole = tt; others_whole = (rest.first_whole, rest.others_whole); here = ap (λ y. slash ∷ y) rest.here ∙ ap (λ c. c ∷ x) (sym same) }
-      | inr other ↦ record { first = b ∷ rest.first; others = rest.others; first_whole = (other, rest.first_whole); others_whole = rest.others_whole; here = ap (λ y. b ∷ y) rest.here }
-    ]
+    let (first, others, here, (whole, more)) = pieces_of x in
+    elim (cases_eq b slash) [ inl same ↦ ([], first ∷ others, ap (λ y. slash ∷ y) here ∙ ap (λ c. c ∷ x) (sym same), (tt, (whole, more))) | inr other ↦ (b ∷ first, others, ap (λ y. b ∷ y) here, ((other, whole), more)) ]
 
 fence_parts : (x : List ℕ) → IsEnd x → (ps : List (List ℕ)) × AllByRecursion (Lacks slash) ps × (fenced ps ≡ x)
 fence_parts [] ends = ([], tt, refl)
-fence_parts (b ∷ x) ends =
-    let split : Pieces x = pieces_of x in
-    (split.first ∷ split.others, (split.first_whole, split.others_whole), ap (λ y. slash ∷ y) split.here ∙ ap (λ c. c ∷ x) (sym ends))
+fence_parts (b ∷ x) ends = let (first, others, here, whole) = pieces_of x in (first ∷ others, whole, ap (λ y. slash ∷ y) here ∙ ap (λ c. c ∷ x) (sym ends))
 
 pub last_slash_after_one : (x : List ℕ) → LastIndex slash (slash ∷ x)
 last_slash_after_one x = elim (lacks_or_last slash (slash ∷ x)) [ inl lacks ↦ absurd (lacks.0 refl) | inr found ↦ found ]

@@ -19,7 +19,6 @@ Lacks-colon_pattern x pattern =
 
 pub unsigned_name : (x : List ℕ) → IsName x → begins_with_plus x ≡ false → IsUnsigned x
 unsigned_name [] name other = tt
-unsigned_name (b ∷ x) name other = (
-  λ same. false≢true (sym other ∙ eq-eqb b plus same),
-  λ same. name (InvalidByte caret) (record { before = []; after = x; here = ap (λ c. c ∷ x) same }, refl),
-)
+unsigned_name (b ∷ x) name other =
+    let no_caret = λ (same : b ≡ caret). name (InvalidByte caret) (record { before = []; after = x; here = ap (λ c. c ∷ x) same }, refl) in
+    (λ same. false≢true (sym other ∙ eq-eqb b plus same), no_caret)

@@ -3,7 +3,7 @@ use Rattle.gix_refspec_text.proofs.Common.{[], same_from_push, ◌≡◌, ◌≢
 use Rattle.gix_refspec_text.proofs.Common.{inr, append_assoc, arith, Bool, ◌-◌, nat_eq, Decides, ends_with, ends_is, Decides-eqb, append-nil, ◌⊎◌, Error, Empty, EmptyComponent, StartsWithDot}
 use Rattle.gix_refspec_text.proofs.Common.{LockSuffix, EndsWithDot, RepeatedDot, ReflogPortion, Asterisk, InvalidByte, ContainsText, BeginsWith, EndsWith, slash, star, dot, brace, SomeComponent}
 use Rattle.gix_refspec_text.proofs.{Common.{HasFault, IsName, AddsFault, Added, IsClean, LeavesFault, Finds, drop_of_length-le, take_more}, lemmas.texts.TextLemmas.split_at}
-use Rattle.gix_refspec_text.proofs.lemmas.texts.ComponentLemmas.{IsEnd, IsComponent, Pieces, pieces_of, fenced, fenced-IsEnd, last_slash_after_one, SomeComponent-from, SomeComponent-index}
+use Rattle.gix_refspec_text.proofs.lemmas.texts.ComponentLemmas.{IsEnd, IsComponent, pieces_of, fenced, fenced-IsEnd, last_slash_after_one, SomeComponent-from, SomeComponent-index}
 use Rattle.gix_refspec_text.proofs.lemmas.lists.AllLemmas.{all_join}
 
 no_middle : (p r : List ℕ) (b : ℕ) → [] ≡ p ++ (b ∷ r) → ⊥
@@ -50,10 +50,10 @@ empty_component x p after here ends =
 
 dotted_component : (x p after : List ℕ) → slash ∷ x ≡ (p ++ (slash ∷ [])) ++ (dot ∷ after) → SomeComponent (BeginsWith (codes ".")) x
 dotted_component x p after here =
-    let split : Pieces after = pieces_of after in
-    let there = here ∙ append_assoc p (slash ∷ []) (dot ∷ after) ∙ ap (λ z. p ++ (slash ∷ (dot ∷ z))) (sym split.here) in
-    SomeComponent-from (BeginsWith (codes ".")) (dot ∷ split.first) x
-    (record { before = p; after = fenced split.others; here = there; whole = (omega arith, split.first_whole); ends = fenced-IsEnd split.others }) (record { after = split.first; here = refl })
+    let (first, others, split, whole) = pieces_of after in
+    let there = here ∙ append_assoc p (slash ∷ []) (dot ∷ after) ∙ ap (λ z. p ++ (slash ∷ (dot ∷ z))) (sym split) in
+    SomeComponent-from (BeginsWith (codes ".")) (dot ∷ first) x
+    (record { before = p; after = fenced others; here = there; whole = (omega arith, whole.0); ends = fenced-IsEnd others }) (record { after = first; here = refl })
 
 locked_component : (x p after : List ℕ) → slash ∷ x ≡ (p ++ codes ".lock") ++ after → IsEnd after → SomeComponent (EndsWith (codes ".lock")) x
 locked_component x [] after here ends = let first : slash ≡ dot = cc in absurd (omega (arith, first))
@@ -140,10 +140,9 @@ end_leaves y e whole undotted unlocked left = grind arith
 -- a test for `.lock` at the end of x decides the same for x with a slash before it
 pub locked_after_slash : (x : List ℕ) (tested : Bool) → tested ≡ ends_with nat_eq x (codes ".lock") → Decides tested (EndsWith (codes ".lock") (slash ∷ x))
 locked_after_slash x tested by_test =
-    let ends = ends_is Decides-eqb x (codes ".lock") tested by_test in (
-      (λ yes. record { before = slash ∷ take (length x - 5) x; here = ap (λ z. slash ∷ z) (ends.0 yes) }),
-      (λ locked. let found : EndsWith (codes ".lock") x = after_slash x locked.before (codes "lock") dot (omega arith) locked.here in ends.1 found.before found.here),
-    )
+    let ends = ends_is Decides-eqb x (codes ".lock") tested by_test in
+    let back = λ (locked : EndsWith (codes ".lock") (slash ∷ x)). let found = after_slash x locked.before (codes "lock") dot (omega arith) locked.here in ends.1 found.before found.here in
+    (λ yes. record { before = slash ∷ take (length x - 5) x; here = ap (λ z. slash ∷ z) (ends.0 yes) }, back)
 
 pub ends_last : (x : List ℕ) → 1 ≤ length x → EndsWith (get_or x (length x - 1) 0 ∷ []) (slash ∷ x)
 ends_last x some =

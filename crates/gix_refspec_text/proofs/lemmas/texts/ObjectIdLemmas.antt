@@ -83,10 +83,7 @@ digits_or_not : (t : List ℕ) → AllPass is_hex_digit t ⊎ SomeIndex t (λ k.
 digits_or_not [] = inl (All-nil (λ c. is_hex_digit c ≡ true))
 digits_or_not (c ∷ t) = elim (cases_Bool (is_hex_digit c)) [
   | inr other ↦ inr (0, omega arith, other)
-  | inl digit ↦ elim (digits_or_not t) [
-    | inl digits ↦ inl (All-cons (λ c. is_hex_digit c ≡ true) c t digit digits)
-    | inr index ↦ inr (suc index.0, (let below = index.1 in omega arith), index.2)
-  ]
+  | inl digit ↦ elim (digits_or_not t) [ inl digits ↦ inl (All-cons (λ c. is_hex_digit c ≡ true) c t digit digits) | inr (k, below, other) ↦ inr (suc k, omega (arith, below), other) ]
 ]
 
 pub no_kind : (n : ℕ) → (n ≡ 40 → ⊥) → (n ≡ 64 → ⊥) → ¬ (IsIdLength n)
@@ -100,8 +97,8 @@ id_or_fault t = elim (length_or_not (length t)) [
   | inr other ↦ inr (has_one_fault t (Length (length t)) (refl, other))
   | inl len ↦ elim (digits_or_not t) [
     | inl digits ↦
-        let id = IsIdText-digits t len digits in
-        inl (record { id = id.0; text = id.1; only = λ j other. IsIdText-unique t j id.0 other id.1; sound = λ e. IsIdText-sound t id.0 e id.1 })
+        let (id, text) = IsIdText-digits t len digits in
+        inl (record { id = id; text = text; only = λ j other. IsIdText-unique t j id other text; sound = λ e. IsIdText-sound t id e text })
     | inr index ↦ inr (has_one_fault t Digit (len, index))
   ]
 ]
@@ -116,15 +113,12 @@ length-room kind buffer room = length-take-le (bytes_of kind) buffer (grind arit
 
 -- so it reads the id, or finds that some byte isn't a digit
 reads : (kind : Kind) (t room new : List ℕ) (n : ℕ) (failed : Bool) → n ≡ bytes_of kind → length t ≡ digits_of kind → MatchBool failed (¬ (IsOk (decode_sized t (bytes_of kind)))) (decode_sized t (bytes_of kind) ≡ Ok new) → MatchBool failed (HasIdFault t Digit) (IsIdText t (take (bytes_of kind) (new ++ drop n room)))
-reads kind t room new n true size digits refused = elim (digits_or_not t) [
-  | inl all ↦ absurd (refused ((IsOk-decode_sized t (bytes_of kind)).1 ((let two = digits_of-twice kind in omega arith), all)))
-  | inr index ↦ ((kind, digits), index)
-]
+reads kind t room new n true size digits refused =
+    elim (digits_or_not t) [ inl all ↦ absurd (refused ((IsOk-decode_sized t (bytes_of kind)).1 ((let two = digits_of-twice kind in omega arith), all))) | inr index ↦ ((kind, digits), index) ]
 reads kind t room new n false size digits made =
-    let text = IsIdText-decoded kind t new digits made in
     let long : length new ≡ bytes_of kind = decoded_long kind t new digits made in
-    let whole : take (bytes_of kind) (new ++ drop n room) ≡ new = take-append-le (bytes_of kind) new (drop n room) (omega arith) ∙ take_all (bytes_of kind) new (omega arith) in
-    subst (IsIdText t) (sym whole) text
+    let whole = take-append-le (bytes_of kind) new (drop n room) (omega arith) ∙ take_all (bytes_of kind) new (omega arith) in
+    subst (IsIdText t) (sym whole) (IsIdText-decoded kind t new digits made)
 
 pub read_id : (kind : Kind) (t room new : List ℕ) (n : ℕ) (r : Result (Unit {0}) FromHexError) → n ≡ bytes_of kind → length room ≡ 32 → length t ≡ digits_of kind → MatchResult (decode_sized t (length (take n room))) (λ bytes. (r ≡ Ok tt) × (new ≡ bytes)) (λ e. r ≡ Err e) → MatchBool (is_err r) (HasIdFault t Digit) (IsIdText t (take (bytes_of kind) (new ++ drop n room)))
 read_id kind t room new n r size fits digits told = search (arith, length-room, reads)
@@ -152,10 +146,9 @@ AllPass-encode_with p digits (b ∷ i) each fits =
 
 pub IsLowerText-lower_of : (kind : Kind) (i : List ℕ) → length i ≡ bytes_of kind → IsBytes i → IsLowerText (lower_of i) i
 IsLowerText-lower_of kind i size fits =
-    let digits : length (lower_of i) ≡ digits_of kind = omega (arith, digits_of-twice kind, length-encode_with lower_digits i) in (
-      IsIdText-decoded kind (lower_of i) i digits (decode_sized-encode_lower i (bytes_of kind) size fits),
-      AllPass-encode_with is_lower_digit lower_digits i (λ d below. AllPass-from_list_all is_lower_digit lower_digits refl d 0 below) fits,
-    )
+    let digits : length (lower_of i) ≡ digits_of kind = omega (arith, digits_of-twice kind, length-encode_with lower_digits i) in
+    let lower = AllPass-encode_with is_lower_digit lower_digits i (λ d below. AllPass-from_list_all is_lower_digit lower_digits refl d 0 below) fits in
+    (IsIdText-decoded kind (lower_of i) i digits (decode_sized-encode_lower i (bytes_of kind) size fits), lower)
 
 lower_digit : (c v : ℕ) → is_lower_digit c ≡ true → hex_digit_value c ≡ Some v → slice_index lower_digits v ≡ c
 lower_digit c v lower read = grind (arith, nat_tests)
@@ -185,7 +178,6 @@ IsBytes-take (suc n) (b ∷ x) fits (suc k) = IsBytes-take n x (λ j. fits (suc 
 
 pub one_lower_text : (kind : Kind) (buffer : List ℕ) → length buffer ≡ 32 → IsBytes buffer → OneLowerText (take (bytes_of kind) buffer)
 one_lower_text kind buffer room fits =
-    let i = take (bytes_of kind) buffer in record {
-      lower = IsLowerText-lower_of kind i (length-room kind buffer room) (IsBytes-take (bytes_of kind) buffer fits);
-      only = λ t is. lower_text t i (omega (arith, digits_of-twice is.0.kind, is.0.digits, is.0.bytes)) is.1 is.0.spelled;
-    }
+    let i = take (bytes_of kind) buffer in
+    let lower = IsLowerText-lower_of kind i (length-room kind buffer room) (IsBytes-take (bytes_of kind) buffer fits) in
+    record { lower = lower; only = λ t is. lower_text t i (omega (arith, digits_of-twice is.0.kind, is.0.digits, is.0.bytes)) is.1 is.0.spelled }

@@ -24,10 +24,8 @@ after_index x n inside = rw (drop-drop, add-one) (take_all (length (drop n x) - 
 pub split_at_last : (x front back : List ℕ) (n b : ℕ) → n < length x → (get_or x n 0 == b) ≡ true → NoneFrom b x (n + 1) → front ≡ take n x → back ≡ drop n x → (x ≡ front ++ (b ∷ take (length back - 1) (drop 1 back))) × Lacks b (take (length back - 1) (drop 1 back))
 split_at_last x front back n b inside here none front_is back_is =
     let rest : take (length back - 1) (drop 1 back) ≡ drop (suc n) x = ap (λ y. take (length y - 1) (drop 1 y)) back_is ∙ after_index x n inside in
-    let lacks : Lacks b (drop (suc n) x) = rw (← add-one) (Lacks-drop b x (n + 1) none) in (
-      rw (front_is, rest) (split_at x n b inside (eqb-true (get_or x n 0) b here)),
-      subst (Lacks b) (sym rest) lacks,
-    )
+    let lacks : Lacks b (drop (suc n) x) = rw (← add-one) (Lacks-drop b x (n + 1) none) in
+    (rw (front_is, rest) (split_at x n b inside (eqb-true (get_or x n 0) b here)), subst (Lacks b) (sym rest) lacks)
 
 -- b is in the text, or at none of its first n indexes
 abbrev pub FoundBefore : ℕ → List ℕ → ℕ → Bool → Type 0
@@ -48,10 +46,9 @@ Lacks-ContainsText b x lacks holds = Lacks-here b holds.before holds.after (subs
 
 pub Lacks-from_absent : (b : ℕ) (x : List ℕ) → ¬ (ContainsText (b ∷ []) x) → Lacks b x
 Lacks-from_absent b [] absent = tt
-Lacks-from_absent b (c ∷ x) absent = (
-  λ e. absent (record { before = []; after = x; here = ap (λ d. d ∷ x) e }),
-  Lacks-from_absent b x (λ holds. absent (record { before = c ∷ holds.before; after = holds.after; here = ap (λ y. c ∷ y) holds.here })),
-)
+Lacks-from_absent b (c ∷ x) absent =
+    let later = Lacks-from_absent b x (λ holds. absent (record { before = c ∷ holds.before; after = holds.after; here = ap (λ y. c ∷ y) holds.here })) in
+    (λ e. absent (record { before = []; after = x; here = ap (λ d. d ∷ x) e }), later)
 
 pub one_not_two : (b : ℕ) (u v p q r : List ℕ) → Lacks b u → Lacks b v → u ++ (b ∷ v) ≡ p ++ (b ∷ (q ++ (b ∷ r))) → ⊥
 one_not_two b [] v [] q r lacks_u lacks_v same = let rest : v ≡ q ++ (b ∷ r) = cc in Lacks-here b q r (subst (Lacks b) rest lacks_v)
