@@ -96,10 +96,6 @@ checked (b ∷ x) = elim (starred (b ∷ x)) [
 decided_side : (j k : Shape) → Decided (j ≡ k)
 decided_side j k = grind arith
 
-decided_empty : (x : List ℕ) → Decided (x ≡ [])
-decided_empty [] = inl refl
-decided_empty (b ∷ x) = inr (λ same. cc)
-
 decided_hash : (x : List ℕ) → Decided (LooksLikeObjectHash x)
 decided_hash x =
     decided_by (nat_le 40 (length x) && list_all is_ascii_hexdigit x)
@@ -148,12 +144,12 @@ settled_push m (b ∷ s) (Some (c ∷ t)) pos = settled_to m (b ∷ s) (c ∷ t)
 
 settled : (op : Operation) (m : Mode) (s : List ℕ) (d : Option (List ℕ)) → Settled op m s d
 settled op Negative s (Some t) = inr (NegativeWithDestination, inr ((λ e h. let i = h.no_colon in absurd (cc)), inl (record { negative = refl; colon = refl; refusal = refl })))
-settled op Negative s None = elim (checked s) [
-  | inr (e, bad) ↦ inr (e, reason_at_source op Negative s None e (negative_reaches op s) (bad_negative op s e bad))
-  | inl (k, source) ↦ elim (decided_empty s) [
-    | inl empty ↦ inr (NegativeEmpty, reason_against_nothing op s k empty source)
-    | inr full ↦ elim (decided_hash s) [ inl hash ↦ inr (NegativeObjectHash, reason_against_object op s k full source hash) | inr other ↦ inl (fine_negative k refl refl full source other) ]
-  ]
+settled op Negative [] None = inr (NegativeEmpty, reason_against_nothing op [] Plain refl tt)
+settled op Negative (b ∷ s) None = elim (checked (b ∷ s)) [
+  | inr (e, bad) ↦ inr (e, reason_at_source op Negative (b ∷ s) None e (negative_reaches op (b ∷ s)) (bad_negative op (b ∷ s) e bad))
+  | inl (k, source) ↦
+      let full : b ∷ s ≢ [] = λ same. cc in
+      elim (decided_hash (b ∷ s)) [ inl hash ↦ inr (NegativeObjectHash, reason_against_object op (b ∷ s) k full source hash) | inr other ↦ inl (fine_negative k refl refl full source other) ]
 ]
 settled Fetch Normal s d = settled_fetch Normal s d tt
 settled Fetch Forced s d = settled_fetch Forced s d tt

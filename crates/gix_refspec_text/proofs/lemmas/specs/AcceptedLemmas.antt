@@ -1,8 +1,8 @@
 -- The sides of each reading that some text has.
 use Rattle.gix_refspec_text.proofs.Common.{unwrap_or, [], Shape, Plain, Pattern, HasShape, IfSome, side_of, Mode, arith, ◌≡◌, ◌⊎◌, ℕ, List, Option, Some, subst, ∥∥₁_elim, Operation, HasSeveralStars}
-use Rattle.gix_refspec_text.proofs.{Common.{star, Reading, remote_of, named_by, Reads, IsAccepted, IsOneStarred}, lemmas.parsing.ReadsLemmas.{source_of, AreFine, fine_fetch, fine_alone, fine_push}}
-use Rattle.gix_refspec_text.proofs.lemmas.{parsing.ReadsLemmas.{fine_negative, fine_parts}, texts.TextLemmas.Lacks-ContainsText, parsing.ReasonLemmas.sides_balanced}
-use Rattle.gix_refspec_text.proofs.lemmas.{parsing.SideLemmas.{checked_starred, empty_no_pattern, HasStar-stars, HasSeveralStars-replaced}, specs.FormsBackLemmas.named_pattern}
+use Rattle.gix_refspec_text.proofs.{Common.{star, Reading, remote_of, named_by, Reads, IsAccepted, IsOneStarred}, lemmas.parsing.ReadsLemmas.{source_of, AreFine, fine_parts}}
+use Rattle.gix_refspec_text.proofs.lemmas.{texts.TextLemmas.Lacks-ContainsText, parsing.ReasonLemmas.sides_balanced, parsing.SideLemmas.{checked_starred, empty_no_pattern, HasStar-stars}}
+use Rattle.gix_refspec_text.proofs.lemmas.{parsing.SideLemmas.HasSeveralStars-replaced, specs.FormsBackLemmas.named_pattern}
 
 shape_few : (x : List ℕ) (k : Shape) → HasShape x k → ¬ (HasSeveralStars x)
 shape_few x Plain lacks stars = Lacks-ContainsText star x lacks (HasStar-stars x stars)
@@ -19,10 +19,7 @@ source_shape op s k shape = grind (arith, empty_no_pattern, named_shape)
 
 -- the sides of a reading have one shape
 fine_shape : (op : Operation) (m : Mode) (s : List ℕ) (d : Option (List ℕ)) → AreFine op m s d → (k : Shape) × IfSome (source_of op s) (λ x. HasShape x k) × IfSome (side_of (unwrap_or d [])) (λ x. HasShape x k)
-fine_shape op m s d (fine_fetch k fetch pos a b) = (k, source_shape op s k (checked_starred s k a), side_shape _ k (checked_starred _ k b))
-fine_shape op m s d (fine_push k t push pos is somewhere a b) = (k, source_shape op s k a, rw is (side_shape t k (checked_starred t k b)))
-fine_shape op m s d (fine_alone k push pos none full a) = (k, source_shape op s k (checked_starred s k a), rw none tt)
-fine_shape op m s d (fine_negative k _ none _ a _) = (k, source_shape op s k (checked_starred s k a), rw none tt)
+fine_shape op m s d h = grind (arith, source_shape, side_shape, checked_starred)
 
 reads_shape : (op : Operation) (text : List ℕ) (r : Reading) → Reads op text r → (k : Shape) × IfSome r.source (λ x. HasShape x k) × IfSome r.destination (λ x. HasShape x k)
 reads_shape op text r reads = let p = fine_parts op text r reads in rw p.is (fine_shape op p.mode p.source p.destination p.fine)

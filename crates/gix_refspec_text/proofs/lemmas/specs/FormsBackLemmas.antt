@@ -59,9 +59,6 @@ back_update m s d text pos parts alike =
     printed_back Fetch _ (fetched m (named_by s) (Some d)) (fetch_and_update (named_by s) d (is_forced m)) says says
     (updates m (named_by s) d refl pos again (grind (arith, named_name, named_pattern)) (rw (named_once s)))
 
-pub head_parts : (m : Mode) (d : List ℕ) → IsPositive m → Lacks colon d → AreParts m head (Some d) (sign (is_forced m) ++ (head ++ (colon ∷ d)))
-head_parts m d pos lacks = grind arith
-
 named_hash : (s : List ℕ) → ¬ (LooksLikeObjectHash s) → ¬ (LooksLikeObjectHash (named_by s))
 named_hash s other = named_so (λ (x : List ℕ). ¬ (LooksLikeObjectHash x)) s (λ hash. omega (arith, hash.long)) other
 
@@ -109,7 +106,8 @@ read_back op text r (fetches_colon m fetch pos parts is) = rw (fetch, is) (back_
 read_back op text r (fetches m s fetch pos parts name is) = rw (fetch, is) (back_only m (named_by s) pos (named_name s name) (named_once s))
 read_back op text r (updates m s d fetch pos parts alike is) = rw (fetch, is) (back_update m s d text pos parts alike)
 read_back op text r (updates_from_head m d fetch pos parts name is) =
-    rw (fetch, is) (back_update m head d _ pos (head_parts m d pos (Lacks-colon_name d name)) (inl (IsName-head, name)))
+    let lacks = Lacks-colon_name d name in
+    rw (fetch, is) (back_update m head d (sign (is_forced m) ++ (head ++ (colon ∷ d))) pos (grind arith) (inl (IsName-head, name)))
 read_back op text r (fetch_excludes s fetch parts either hash is) = rw (fetch, is) (back_fetch_exclude s either hash)
 read_back op text r (pushes_plus push parts is) = rw (push, is) (back_all Forced tt)
 read_back op text r (pushes_colon m push pos parts is) = rw (push, is) (back_all m pos)

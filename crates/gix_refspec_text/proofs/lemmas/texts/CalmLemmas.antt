@@ -62,16 +62,12 @@ slashed x = cond (eqb x 47) 255 0
 abbrev ending : ℕ → ℕ
 ending y = bit_or (cond (eqb y 47) 255 0) (cond (eqb y 107) 255 0)
 
--- after a slash or a `k` a byte with a clear lane is plain
-plain_after_end : (x : ℕ) → x < 256 → top 7 (bit_or (stop x) (bit_and (slashed x) 255)) ≡ false → class_at x ≡ Plain
-plain_after_end x below clear = search (arith, rules, plain_class, agree_below_at)
-
 -- and after any other byte it is plain or a slash
 plain_or_slash : (x : ℕ) → x < 256 → top 7 (bit_or (stop x) (bit_and (slashed x) 0)) ≡ false → (is_plain_class (class_at x) || eqb x slash) ≡ true
 plain_or_slash x below clear = search (arith, rules, agree_below_at)
 
 calm_from_clear : (x y : ℕ) → x < 256 → top 7 (bit_or (stop x) (bit_and (slashed x) (ending y))) ≡ false → IsCalm y x
-calm_from_clear x y below clear = search (arith, cases_eq, plain_after_end, plain_class, plain_or_slash)
+calm_from_clear x y below clear = search (arith, rules, cases_eq, plain_class, plain_or_slash, agree_below_at)
 
 pub calm_from_lanes : (d : List ℕ) (i r : ℕ) (s a b : List ℕ) → ((k : ℕ) → Fits w8 (get_or d k 0)) → 0 < i → i + 16 ≤ length d → s ≡ map stop (chunk i 16 d) → a ≡ map slashed (chunk i 16 d) → b ≡ map ending (chunk (i - 1) 16 d)
     → r ≡ lowest_of 16 (mask_l (map (top 7) (zip2 bit_or s (zip2 bit_and a b))) % 2 ^ 64) → AreCalm d i (i + r) × (r ≤ 16)

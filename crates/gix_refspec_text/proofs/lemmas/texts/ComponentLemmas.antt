@@ -24,10 +24,6 @@ fenced-join : (p : List ℕ) (ps : List (List ℕ)) → fenced (p ∷ ps) ≡ sl
 fenced-join p [] = ap (λ x. slash ∷ x) (append-nil p)
 fenced-join p (q ∷ ps) = ap (λ x. slash ∷ (p ++ x)) (fenced-join q ps)
 
-pub join_from_fenced : (ps : List (List ℕ)) (x : List ℕ) → fenced ps ≡ slash ∷ x → join_with_byte slash ps ≡ x
-join_from_fenced [] x same = cc
-join_from_fenced (p ∷ ps) x same = let joined = fenced-join p ps in cc
-
 pub fenced-IsEnd : (ps : List (List ℕ)) → IsEnd (fenced ps)
 fenced-IsEnd [] = tt
 fenced-IsEnd (p ∷ ps) = refl
@@ -57,6 +53,10 @@ pub record IsComponent (w x : List ℕ) : Type 0 where
   pub whole : Lacks slash w
   pub ends : IsEnd after
 
+fenced_joined : (ps : List (List ℕ)) (w : List ℕ) (qs : List (List ℕ)) → fenced (ps ++ (w ∷ qs)) ≡ slash ∷ join_with_byte slash (ps ++ (w ∷ qs))
+fenced_joined [] w qs = fenced-join w qs
+fenced_joined (p ∷ ps) w qs = fenced-join p (ps ++ (w ∷ qs))
+
 pub SomeComponent-from : (P : List ℕ → Type 0) (w x : List ℕ) → IsComponent w x → P w → SomeComponent P x
 SomeComponent-from P w x found fact =
     let front = fence_parts found.before (let here = found.here in grind arith) in
@@ -64,14 +64,10 @@ SomeComponent-from P w x found fact =
     let parts = front.0 ++ (w ∷ back.0) in
     let same : fenced parts ≡ slash ∷ x = fenced-append front.0 (w ∷ back.0) ∙ ap (λ y. y ++ fenced (w ∷ back.0)) front.2 ∙ ap (λ y. found.before ++ (slash ∷ (w ++ y))) back.2 ∙ sym found.here in
     let whole = all_join (Lacks slash) front.0 (w ∷ back.0) front.1 (found.whole, back.1) in
-    record { before = front.0; component = w; after = back.0; components = record { joined = join_from_fenced parts x same; whole = whole }; fact = fact }
-
-fenced_from_join : (ps : List (List ℕ)) (w : List ℕ) (qs : List (List ℕ)) (x : List ℕ) → join_with_byte slash (ps ++ (w ∷ qs)) ≡ x → fenced (ps ++ (w ∷ qs)) ≡ slash ∷ x
-fenced_from_join [] w qs x joined = fenced-join w qs ∙ ap (λ y. slash ∷ y) joined
-fenced_from_join (p ∷ ps) w qs x joined = fenced-join p (ps ++ (w ∷ qs)) ∙ ap (λ y. slash ∷ y) joined
+    record { before = front.0; component = w; after = back.0; components = record { joined = (let joined = fenced_joined front.0 w back.0 in cc); whole = whole }; fact = fact }
 
 pub SomeComponent-index : (P : List ℕ → Type 0) (x : List ℕ) (some : SomeComponent P x) → IsComponent some.component x
 SomeComponent-index P x some =
-    let here = sym (fenced_from_join some.before some.component some.after x some.components.joined) ∙ fenced-append some.before (some.component ∷ some.after) in
+    let here = sym (fenced_joined some.before some.component some.after ∙ ap (λ y. slash ∷ y) some.components.joined) ∙ fenced-append some.before (some.component ∷ some.after) in
     let whole = AllByRecursion-parts (Lacks slash) some.before some.component some.after some.components.whole in
     record { before = fenced some.before; after = fenced some.after; here = here; whole = whole; ends = fenced-IsEnd some.after }

@@ -3,10 +3,10 @@ use Rattle.hex.proofs.HexLemmas.{decode_of-digits, decode_sized-twice, IsAscii-e
 use Rattle.hex.{proofs.HexLemmas.length-encode_with, specs.Hex.{digit_or_error, ◌>>=◌, IsBytes, decode_of, decode_pairs, decode_sized, encode_with, hex_digit_value, is_hex_digit, lower_digits}}
 use Rattle.hex.{specs.Hex.pair_value, specs.declared.error.FromHexError.FromHexError, proofs.Pairs.{cons_byte, decode_pairs-ok_pair, decode_sized-pairs}}
 use Rattle.gix_refspec_text.proofs.Common.{rules, [], nat_tests, ◌≡◌, ℕ, zero, suc, ◌+◌, ◌*◌, ◌/◌, ◌%◌, ◌<◌, Bool, List, ◌∷◌, length, slice_index, take, nat_lt, ◌⊎◌, inl, inr, Option, Some, true}
-use Rattle.gix_refspec_text.proofs.Common.{false, Result, Ok, Err, refl, sym, ap, ◌∙◌, subst, arith, ◌++◌, drop, IsOk, MatchBool, MatchResult, AllPass, SomeIndex, list_all, IsAscii, IsUtf8}
-use Rattle.gix_refspec_text.proofs.Common.{false≢true, cases_Bool, cases_eq, ltb-true, length-take-le, take-append-le, take_all, All-cons, All-head, All-nil, All-tail, All-weaker}
-use Rattle.gix_refspec_text.proofs.Common.{AllPass-from_list_all, Digit, Length, Kind, Sha1, Sha256, HasIdFault, IsIdLength, IsIdText, IsLowerText, IsSpelledBy, Spells, bytes_of, digits_of}
-use Rattle.gix_refspec_text.proofs.Common.{is_lower_digit, lower_of, IsId, HasOneFault, IdOrFault, OneLowerText, list_all-from_AllPass}
+use Rattle.gix_refspec_text.proofs.Common.{false, Result, Ok, Err, refl, sym, ap, ◌∙◌, subst, arith, ◌++◌, drop, IsOk, MatchBool, MatchResult, AllPass, SomeIndex, list_all, IsUtf8, false≢true}
+use Rattle.gix_refspec_text.proofs.Common.{cases_Bool, cases_eq, ltb-true, length-take-le, take-append-le, take_all, All-cons, All-head, All-nil, All-tail, All-weaker, AllPass-from_list_all, Digit}
+use Rattle.gix_refspec_text.proofs.Common.{Length, Kind, Sha1, Sha256, HasIdFault, IsIdLength, IsIdText, IsLowerText, IsSpelledBy, Spells, bytes_of, digits_of, is_lower_digit, lower_of, IsId}
+use Rattle.gix_refspec_text.proofs.Common.{HasOneFault, IdOrFault, OneLowerText, list_all-from_AllPass}
 use Rattle.std.{specs.Result.is_err, proofs.lemmas.Str.IsUtf8-from_ascii, proofs.lemmas.Str.Ascii.IsAscii-from_all}
 use Rattle.gix_refspec_text.specs.declared.oid.Error.{Error}
 
@@ -123,12 +123,10 @@ reads kind t room new n false size digits made =
 pub read_id : (kind : Kind) (t room new : List ℕ) (n : ℕ) (r : Result (Unit {0}) FromHexError) → n ≡ bytes_of kind → length room ≡ 32 → length t ≡ digits_of kind → MatchResult (decode_sized t (length (take n room))) (λ bytes. (r ≡ Ok tt) × (new ≡ bytes)) (λ e. r ≡ Err e) → MatchBool (is_err r) (HasIdFault t Digit) (IsIdText t (take (bytes_of kind) (new ++ drop n room)))
 read_id kind t room new n r size fits digits told = search (arith, length-room, reads)
 
-IsAscii-lower_digits : IsAscii lower_digits
-IsAscii-lower_digits =
-    IsAscii-from_all lower_digits (All-weaker (λ c. nat_lt c 128 ≡ true) (λ c. c < 128) (λ c h. ltb-true c 128 h) lower_digits (AllPass-from_list_all (λ c. nat_lt c 128) lower_digits refl))
-
 pub IsUtf8-lower_of : (i : List ℕ) → IsUtf8 (lower_of i)
-IsUtf8-lower_of i = IsUtf8-from_ascii (lower_of i) (IsAscii-encode_with lower_digits i IsAscii-lower_digits)
+IsUtf8-lower_of i =
+    let small = All-weaker (λ c. nat_lt c 128 ≡ true) (λ c. c < 128) (λ c h. ltb-true c 128 h) lower_digits (AllPass-from_list_all (λ c. nat_lt c 128) lower_digits refl) in
+    IsUtf8-from_ascii (lower_of i) (IsAscii-encode_with lower_digits i (IsAscii-from_all lower_digits small))
 
 -- a digit is in lower case, as `AllPass is_lower_digit` says it
 abbrev is_lower : ℕ → Type 0

@@ -17,13 +17,10 @@ Lacks-drop b x n none = Lacks-from_indexes b (drop n x) (λ k below. rw get_or-d
 pub split_at : (x : List ℕ) (n b : ℕ) → n < length x → get_or x n 0 ≡ b → x ≡ take n x ++ (b ∷ drop (suc n) x)
 split_at x n b inside here = sym (take-append-drop n x) ∙ ap (λ y. take n x ++ y) (drop-cons x n 0 inside ∙ ap (λ c. c ∷ drop (suc n) x) here)
 
--- the text after an index, as the code computes it
-pub after_index : (x : List ℕ) (n : ℕ) → n < length x → take (length (drop n x) - 1) (drop 1 (drop n x)) ≡ drop (suc n) x
-after_index x n inside = rw (drop-drop, add-one) (take_all (length (drop n x) - 1) (drop (suc n) x) (omega (arith, length-drop n x, length-drop (suc n) x)))
-
 pub split_at_last : (x front back : List ℕ) (n b : ℕ) → n < length x → (get_or x n 0 == b) ≡ true → NoneFrom b x (n + 1) → front ≡ take n x → back ≡ drop n x → (x ≡ front ++ (b ∷ take (length back - 1) (drop 1 back))) × Lacks b (take (length back - 1) (drop 1 back))
 split_at_last x front back n b inside here none front_is back_is =
-    let rest : take (length back - 1) (drop 1 back) ≡ drop (suc n) x = ap (λ y. take (length y - 1) (drop 1 y)) back_is ∙ after_index x n inside in
+    let after : take (length (drop n x) - 1) (drop 1 (drop n x)) ≡ drop (suc n) x = rw (drop-drop, add-one) (take_all (length (drop n x) - 1) (drop (suc n) x) (omega (arith, length-drop n x, length-drop (suc n) x))) in
+    let rest : take (length back - 1) (drop 1 back) ≡ drop (suc n) x = ap (λ y. take (length y - 1) (drop 1 y)) back_is ∙ after in
     let lacks : Lacks b (drop (suc n) x) = rw (← add-one) (Lacks-drop b x (n + 1) none) in
     (rw (front_is, rest) (split_at x n b inside (eqb-true (get_or x n 0) b here)), subst (Lacks b) (sym rest) lacks)
 
