@@ -1,7 +1,7 @@
 -- The refs that sides match, and the prefixes and candidates of sides.
 use Rattle.gix_refspec_text.proofs.Common.{[], arith, ◌≡◌, ◌≢◌, ℕ, List, ◌∷◌, ◌++◌, codes, Option, None, Some, refl, sym, ap, ◌∙◌, subst, append-nil, append_cancel_left, append_cancel_right, Lacks}
-use Rattle.gix_refspec_text.proofs.Common.{BeginsWith, IsSplit, star, head, SideKind, pattern, partial, HasKind, IsId, IsCandidate, Ref, MatchesAs, HasNoPrefix, to_candidates, OneWord, PrefixBegins}
-use Rattle.gix_refspec_text.proofs.{Common.Candidates, lemmas.hits.CandidateLemmas.{first_candidate, first_of_one, takes_first}, lemmas.lists.LacksLemmas.{Lacks-here, first_once}}
+use Rattle.gix_refspec_text.proofs.Common.{BeginsWith, IsSplit, star, head, SideKind, pattern, partial, HasKind, Ref, MatchesAs, HasNoPrefix, to_candidates, OneWord, PrefixBegins, Candidates}
+use Rattle.gix_refspec_text.proofs.lemmas.{hits.CandidateLemmas.{first_candidate, first_of_one, takes_first}, lists.LacksLemmas.{Lacks-here, first_once}}
 
 pub one_word : (before after n : List ℕ) → OneWord before after n
 one_word before after n v w by_v by_w = append_cancel_right v w after (append_cancel_left before (v ++ after) (w ++ after) (sym by_v ∙ by_w))
@@ -29,14 +29,11 @@ begins_split x before after split below = record { after = below.after ++ (star 
 pub outside_none : (x : List ℕ) → x ≢ head → ¬ (BeginsWith (codes "refs/") x) → HasNoPrefix x
 outside_none x other outside p h = grind arith
 
-short_matches : (x : List ℕ) (k : SideKind) (r : Ref) (word : Option (List ℕ)) → Lacks star x → ¬ (BeginsWith (codes "refs/") x) → ¬ (IsId x) → HasKind x k → MatchesAs k r word → IsCandidate x r.name
-short_matches x k r word lacks outside no_id kind fits = grind (arith, lacks_no_pattern)
-
 pub has_candidates : (x : List ℕ) → Candidates x
 has_candidates x lacks other outside no_id =
     let takes = λ (r : Ref). (takes_first x (r ∷ []) lacks outside no_id).takes r in record {
       expands = to_candidates (outside_none x other outside) outside no_id refl;
       only = λ list h. grind (arith, outside_none);
-      matches = λ r. (λ found. short_matches x found.1.kind r found.0 lacks outside no_id found.1.of found.1.is, λ one. (None, record { kind = partial x; of = (refl, lacks, outside, no_id); is = (refl, one) }));
+      matches = λ r. (λ found. grind (arith, lacks_no_pattern), λ one. (None, record { kind = partial x; of = (refl, lacks, outside, no_id); is = (refl, one) }));
       takes = λ r. (λ found. first_candidate (r ∷ []) x r.name ((takes r).0 found), λ one. (takes r).1 (first_of_one x r one));
     }

@@ -75,8 +75,7 @@ fine_reads op m s d x (fine_negative k minus none full a hash) p =
 pub sides_read : (p : Parts) (sides : Sides) → AreFine p.operation (mode_of p.mode) p.source.now (destination_of p)
     → option_map bstr_bytes sides.source ≡ source_of p.operation p.source.now
     → option_map bstr_bytes sides.destination ≡ side_of (unwrap_or (destination_of p) []) → AreSidesOf p sides
-sides_read p sides fine source destination text parts =
-    rw (source, destination) (fine_reads p.operation (mode_of p.mode) p.source.now (destination_of p) text fine parts)
+sides_read p sides fine source destination text parts = rw (source, destination) (fine_reads p.operation (mode_of p.mode) p.source.now (destination_of p) text fine parts)
 
 pub checked_name : (x : List ℕ) → IsName x → HasCheckedShape x Plain
 checked_name x name = grind arith

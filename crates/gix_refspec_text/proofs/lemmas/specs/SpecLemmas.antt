@@ -25,9 +25,7 @@ pub says : (r : Reading) → ∥ IsAccepted r ∥₁ → (m : Meaning) × (meani
 says r accepted = says_by r (meaning_of r) refl accepted
 
 same_by_text : (r q : Reading) → ∥ IsAccepted r ∥₁ → ∥ IsAccepted q ∥₁ → r.operation ≡ q.operation → printed r ≡ printed q → meaning_of r ≡ meaning_of q
-same_by_text r q accepted_r accepted_q operation same =
-    meaning_shown (meaning_of r) (meaning_of q) accepted_r (λ a.
-    meaning_shown (meaning_of r) (meaning_of q) accepted_q (λ b.
+same_by_text r q accepted_r accepted_q operation same = meaning_shown (meaning_of r) (meaning_of q) accepted_r (λ a. meaning_shown (meaning_of r) (meaning_of q) accepted_q (λ b.
     (equal_texts r.operation a.0 b.0 r q a.1 (subst (λ (op : Operation). Reads op b.0 q) (sym operation) b.1)).1 same))
 
 same_operation : (r q : Reading) → ∥ IsAccepted r ∥₁ → meaning_of r ≡ meaning_of q → r.operation ≡ q.operation

@@ -1,16 +1,8 @@
 -- Which bytes are calm, by the mask of two loads: of the bytes, and of the bytes before them.
-use Rattle.gix_refspec_text.proofs.Common.{rules, ◌≡◌, ℕ, ◌+◌, ◌-◌, ◌%◌, ◌^◌, ◌<◌, ◌≤◌, ◌||◌, eqb, ltb, cond, Bool, true, false, not, List, map, length, get_or, bit_and, bit_or, w8, sym, ap, ap₂, ◌∙◌}
-use Rattle.gix_refspec_text.proofs.Common.{arith, agree_below_at, not-true, cases_eq, mask_l-mod, length-zip2, get_or-zip2, length-chunk, get_or-chunk, leading_from_mask_l, trailing_mask_l}
-use Rattle.gix_refspec_text.proofs.Common.{length-map, get_or-map, prefix_len, prefix_len-le-length, prefix_len_passes, chunk, zip2, mask_l, top, slash, class_at, IsCalm, AreCalm, lowest_of}
+use Rattle.gix_refspec_text.proofs.Common.{rules, ◌≡◌, ℕ, ◌+◌, ◌-◌, ◌%◌, ◌^◌, ◌<◌, ◌≤◌, eqb, ltb, cond, Bool, false, not, List, map, length, get_or, bit_and, bit_or, w8, sym, ap, ap₂, ◌∙◌, arith}
+use Rattle.gix_refspec_text.proofs.Common.{agree_below_at, not-true, cases_eq, mask_l-mod, length-zip2, get_or-zip2, length-chunk, get_or-chunk, leading_from_mask_l, trailing_mask_l, length-map}
+use Rattle.gix_refspec_text.proofs.Common.{get_or-map, prefix_len, prefix_len-le-length, prefix_len_passes, chunk, zip2, mask_l, top, IsCalm, AreCalm, lowest_of}
 use Rattle.std.proofs.Common.{Fits}
-use Rattle.gix_refspec_text.specs.declared.name.class.Class.{Class, TheVariants.Plain}
-
-abbrev is_plain_class : Class → Bool
-is_plain_class Plain = true
-is_plain_class _ = false
-
-plain_class : (c : Class) → is_plain_class c ≡ true → c ≡ Plain
-plain_class c same = grind arith
 
 -- the lowest set bit of a mask is at the first lane that passes p
 run_is : (p : ℕ → Bool) (z : List ℕ) (n : ℕ) → length z ≡ n → n ≤ 64 → lowest_of n (mask_l (map p z)) ≡ prefix_len (λ x. not (p x)) z
@@ -62,12 +54,8 @@ slashed x = cond (eqb x 47) 255 0
 abbrev ending : ℕ → ℕ
 ending y = bit_or (cond (eqb y 47) 255 0) (cond (eqb y 107) 255 0)
 
--- and after any other byte it is plain or a slash
-plain_or_slash : (x : ℕ) → x < 256 → top 7 (bit_or (stop x) (bit_and (slashed x) 0)) ≡ false → (is_plain_class (class_at x) || eqb x slash) ≡ true
-plain_or_slash x below clear = search (arith, rules, agree_below_at)
-
 calm_from_clear : (x y : ℕ) → x < 256 → top 7 (bit_or (stop x) (bit_and (slashed x) (ending y))) ≡ false → IsCalm y x
-calm_from_clear x y below clear = search (arith, rules, cases_eq, plain_class, plain_or_slash, agree_below_at)
+calm_from_clear x y below clear = search (arith, rules, cases_eq, agree_below_at)
 
 pub calm_from_lanes : (d : List ℕ) (i r : ℕ) (s a b : List ℕ) → ((k : ℕ) → Fits w8 (get_or d k 0)) → 0 < i → i + 16 ≤ length d → s ≡ map stop (chunk i 16 d) → a ≡ map slashed (chunk i 16 d) → b ≡ map ending (chunk (i - 1) 16 d)
     → r ≡ lowest_of 16 (mask_l (map (top 7) (zip2 bit_or s (zip2 bit_and a b))) % 2 ^ 64) → AreCalm d i (i + r) × (r ≤ 16)
