@@ -5,11 +5,11 @@ use Rattle.gix_refspec_text.proofs.Common.{Asterisk, InvalidByte, EndsWith, slas
 use Rattle.gix_refspec_text.proofs.Common.{Option, None, Some, unwrap_or, nat_le, is_ascii_hexdigit, leb-true, le-leb, Operation, Push, Fetch, Shape, Plain, Pattern, letter, plus, caret, colon}
 use Rattle.gix_refspec_text.proofs.Common.{ReplacesStar, Mode, Normal, Forced, Negative, Reading, Refusal, NegativeWithDestination, PushToEmpty, PatternUnsupported, ReferenceName, PatternUnbalanced}
 use Rattle.gix_refspec_text.proofs.Common.{NegativeEmpty, NegativeObjectHash, IsBadPattern, IsFirstReason, IsRefused, IsSigned, IsPositive, LooksLikeObjectHash, Reads, HasShape, HasCheckedShape}
-use Rattle.gix_refspec_text.proofs.{Common.{IsBadSide, list_all, ◌&&◌, and_parts, and_from, AllPass-from_list_all, list_all-from_AllPass}, lemmas.texts.NameLemmas.{IsClean-more, IsClean-start}}
-use Rattle.gix_refspec_text.proofs.lemmas.{texts.NameLemmas.{HasFault-added, HasFault-left, IsName-from_clean, end_leaves}, parsing.ReasonLemmas.{fetch_reaches, push_reaches, push_alone_reaches}}
-use Rattle.gix_refspec_text.proofs.lemmas.parsing.ReasonLemmas.{negative_reaches, reason_at_source, reason_at_destination, reason_against_object, reason_against_nothing, fetch_source_fine}
-use Rattle.gix_refspec_text.proofs.lemmas.parsing.ReasonLemmas.{push_source_fine, bad_destination, bad_source_of_push, unbalanced_fetch, unbalanced_push, bad_negative, no_negative}
-use Rattle.gix_refspec_text.proofs.lemmas.parsing.ReadsLemmas.{AreFine, fine_fetch, fine_alone, fine_push, fine_negative, made, fine_reads, refused}
+use Rattle.gix_refspec_text.proofs.{Common.{IsBadSide, list_all, ◌&&◌, and_parts, and_from, AllPass-from_list_all, list_all-from_AllPass}, lemmas.parsing.ReasonLemmas.starred_not_empty}
+use Rattle.gix_refspec_text.proofs.lemmas.parsing.ReasonLemmas.{fetch_reaches, push_reaches, push_alone_reaches, negative_reaches, reason_at_source, reason_at_destination, reason_against_object}
+use Rattle.gix_refspec_text.proofs.lemmas.parsing.ReasonLemmas.{reason_against_nothing, fetch_source_fine, push_source_fine, bad_destination, unbalanced_fetch, unbalanced_push, bad_negative}
+use Rattle.gix_refspec_text.proofs.lemmas.{parsing.ReasonLemmas.no_negative, parsing.SideLemmas.HasStar-bad, texts.NameLemmas.{IsClean-more, IsClean-start, HasFault-added, HasFault-left}}
+use Rattle.gix_refspec_text.proofs.lemmas.{texts.NameLemmas.{IsName-from_clean, end_leaves}, parsing.ReadsLemmas.{AreFine, fine_fetch, fine_alone, fine_push, fine_negative, made, fine_reads, refused}}
 pub use Rattle.gix_refspec_text.proofs.lemmas.lists.LacksLemmas.{lacks_or_first, lacks_or_last}
 
 abbrev pub Decided : Type 0 → Type 0
@@ -124,7 +124,7 @@ settled_alone m s pos signed = elim (checked s) [
 
 settled_to : (m : Mode) (s t : List ℕ) → IsPositive m → (s ≢ [] → t ≡ [] → ⊥) → Settled Push m s (Some t)
 settled_to m s t pos somewhere = elim (starred s) [
-  | inr (e, bad) ↦ inr (e, reason_at_source Push m s (Some t) e (push_reaches m s t pos somewhere) (bad_source_of_push s t e bad))
+  | inr (e, bad) ↦ inr (e, reason_at_source Push m s (Some t) e (push_reaches m s t pos somewhere) (record { source = starred_not_empty s (HasStar-bad s e bad); refusal = bad }))
   | inl (j, source) ↦ elim (checked t) [
     | inr (e, bad) ↦ inr (e, reason_at_destination Push m s (Some t) e (push_reaches m s t pos somewhere) (push_source_fine s t j source) (bad_destination (Some t) e bad))
     | inl (k, target) ↦

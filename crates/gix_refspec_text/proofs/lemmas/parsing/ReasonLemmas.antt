@@ -1,17 +1,9 @@
 -- The first reason that applies to parts, and that none applies to valid ones.
 use Rattle.gix_refspec_text.proofs.Common.{[], arith, ◌≡◌, ◌≢◌, inl, inr, ℕ, List, Option, None, Some, unwrap_or, refl, subst, Operation, Push, Fetch, Shape, HasStar, star, Mode, Normal, Negative}
-use Rattle.gix_refspec_text.proofs.Common.{Refusal, PatternUnbalanced, NegativeEmpty, NegativeObjectHash, IsBadPattern, HasNegativeDestination, HasBadSource, HasBadDestination, IsUnbalanced}
-use Rattle.gix_refspec_text.proofs.Common.{IsOneStarred, Never, IsFirstReason, NeedsMemory, NoReasonBeforeSource, ReachesMemory, IsPositive, LooksLikeObjectHash, MemoryOr, HasShape, HasCheckedShape}
-use Rattle.gix_refspec_text.proofs.{Common.{IsBadSide, IsReason, ShowsRefusal}, lemmas.texts.TextLemmas.Lacks-ContainsText, lemmas.parsing.SideLemmas.{checked_fine, starred_fine, checked_starred}}
-use Rattle.gix_refspec_text.proofs.lemmas.parsing.SideLemmas.{HasStar-bad}
+use Rattle.gix_refspec_text.proofs.Common.{Refusal, PatternUnbalanced, NegativeEmpty, NegativeObjectHash, HasNegativeDestination, HasBadSource, HasBadDestination, IsUnbalanced, IsOneStarred, Never}
+use Rattle.gix_refspec_text.proofs.Common.{IsFirstReason, NeedsMemory, NoReasonBeforeSource, ReachesMemory, IsPositive, LooksLikeObjectHash, MemoryOr, HasShape, HasCheckedShape, IsBadSide, IsReason}
+use Rattle.gix_refspec_text.proofs.lemmas.{parsing.SideLemmas.{plain_fine, pattern_fine, checked_fine, checked_starred}, texts.TextLemmas.Lacks-ContainsText}
 use Rattle.gix_refspec_text.specs.declared.parsing.Error.{Error}
-use Rattle.gix_refspec_text.specs.declared.parsing.Error.TheVariants as error
-
-pub shows_refusal : (M : Type 0) (P : Refusal → Type 0) (e : Error) → MemoryOr M P e → e ≢ error.Memory → ShowsRefusal P e
-shows_refusal M P e told other = grind arith
-
-pub needs_memory : (M : Type 0) (P : Refusal → Type 0) (e : Error) → MemoryOr M P e → e ≡ error.Memory → M
-needs_memory M P e told same = subst (MemoryOr M P) same told
 
 -- an error that is `Memory` or satisfies P may be weakened to other conditions that follow
 pub MemoryOr-map : (M N : Type 0) (P Q : Refusal → Type 0) (e : Error) → (M → N) → ((f : Refusal) → P f → Q f) → MemoryOr M P e → MemoryOr N Q e
@@ -28,9 +20,6 @@ push_reaches m s t pos somewhere = grind arith
 
 pub starred_not_empty : (t : List ℕ) → HasStar t → t ≢ []
 starred_not_empty t has empty = Lacks-ContainsText star [] tt (subst HasStar empty has)
-
-pub bad_source_of_push : (s t : List ℕ) (f : Refusal) → IsBadPattern s f → HasBadSource Push s (Some t) f
-bad_source_of_push s t f bad = record { source = starred_not_empty s (HasStar-bad s f bad); refusal = bad }
 
 pub push_alone_reaches : (m : Mode) (s : List ℕ) → IsPositive m → (s ≡ [] → m ≡ Normal → ⊥) → NoReasonBeforeSource Push m s None
 push_alone_reaches m s pos full = grind arith
@@ -49,7 +38,7 @@ pub fetch_source_fine : (s : List ℕ) (d : Option (List ℕ)) (k : Shape) → H
 fetch_source_fine s d k fine e bad = checked_fine s k fine e (bad.source, bad.refusal)
 
 pub push_source_fine : (s d : List ℕ) (k : Shape) → HasShape s k → Never (HasBadSource Push s (Some d))
-push_source_fine s d k fine e bad = starred_fine s k fine e bad.refusal
+push_source_fine s d k fine e bad = let refusal = bad.refusal in grind (arith, plain_fine, pattern_fine)
 
 pub alone_fine : (op : Operation) (s : List ℕ) (k : Shape) → HasCheckedShape s k → Never (HasBadSource op s None)
 alone_fine op s k fine e bad = grind (arith, checked_fine)

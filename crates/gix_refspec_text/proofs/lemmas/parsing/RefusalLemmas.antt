@@ -1,7 +1,7 @@
 -- A text is refused for only one reason, apart from which fault of a name it holds.
 use Rattle.gix_refspec_text.proofs.Common.{arith, ◌⊎◌, inl, ℕ, List, Option, sym, ◌∙◌, Operation, star, Mode, Refusal, PatternUnsupported, ReferenceName, IsBadName, IsBadPattern, IsBadSourceFor}
 use Rattle.gix_refspec_text.proofs.{Common.{HasBadDestination, OrElse, IsFirstReason, IsSameReason, OneRefusal, same_Some}, lemmas.texts.TextLemmas.Lacks-ContainsText}
-use Rattle.gix_refspec_text.proofs.lemmas.parsing.{SideLemmas.{bad_name, HasStar-bad, HasSeveralStars-replaced}, PartsLemmas.parts_once}
+use Rattle.gix_refspec_text.proofs.lemmas.parsing.{SideLemmas.{HasStar-bad, HasSeveralStars-replaced}, PartsLemmas.parts_once}
 
 abbrev Agree : (Refusal → Type 0) → Type 0
 Agree P = (e f : Refusal) → P e → P f → IsSameReason e f
@@ -18,7 +18,7 @@ Agree-name : (x : List ℕ) → Agree (IsBadName x)
 Agree-name x h f a b = grind arith
 
 name_no_pattern : (x : List ℕ) (e f : Refusal) → IsBadName x e → IsBadPattern x f → ⊥
-name_no_pattern x e f name pattern = Lacks-ContainsText star x (bad_name x e name).0 (HasStar-bad x f pattern)
+name_no_pattern x e f name pattern = Lacks-ContainsText star x (grind arith) (HasStar-bad x f pattern)
 
 Agree-side : (x : List ℕ) → Agree (λ e. IsBadName x e ⊎ IsBadPattern x e)
 Agree-side x e f h h2 = grind (arith, Agree-name, name_no_pattern, Agree-pattern)

@@ -1,20 +1,15 @@
 -- Names and patterns as sides, and the reasons to refuse a side.
-use Rattle.gix_refspec_text.proofs.Common.{[], arith, ◌≡◌, ◌⊎◌, ℕ, List, ◌∷◌, ◌++◌, Option, None, option_map, unwrap_or, is_some, Bor, false, refl, sym, ◌∙◌, subst, sameb, DeclaredMode, Asterisk}
-use Rattle.gix_refspec_text.proofs.Common.{Shape, Plain, Pattern, Lacks, IsName, IsPattern, HasStar, HasSeveralStars, ReplacesStar, HasFault, star, Normal, Refusal, PatternUnsupported, ReferenceName}
-use Rattle.gix_refspec_text.proofs.{Common.{IsBadName, IsBadPattern, Never, mode_of, NothingAgainst, HasShape, HasCheckedShape, IsBadSide}, lemmas.texts.TextLemmas.Lacks-ContainsText}
-use Rattle.gix_refspec_text.proofs.lemmas.{texts.TextLemmas.{Lacks-from_absent, one_not_two}, lists.LacksLemmas.first_once}
-use Rattle.gix_refspec_text.specs.contracts.types.Mode.{the_type as the_mode}
-use Rattle.gix_refspec_text.specs.declared.types.Mode.TheVariants as declared_mode
+use Rattle.gix_refspec_text.proofs.Common.{[], arith, ◌≡◌, ◌⊎◌, ℕ, List, ◌∷◌, ◌++◌, Option, None, option_map, unwrap_or, is_some, Bor, false, refl, sym, ◌∙◌, subst, Asterisk, Shape, Plain, Pattern}
+use Rattle.gix_refspec_text.proofs.Common.{Lacks, IsName, IsPattern, HasStar, HasSeveralStars, ReplacesStar, HasFault, star, Refusal, PatternUnsupported, ReferenceName, IsBadName, IsBadPattern, Never}
+use Rattle.gix_refspec_text.proofs.{Common.{NothingAgainst, HasShape, HasCheckedShape, IsBadSide}, lemmas.texts.TextLemmas.{Lacks-ContainsText, Lacks-from_absent, one_not_two}}
+use Rattle.gix_refspec_text.proofs.lemmas.lists.LacksLemmas.{first_once}
 use Rattle.gix_refspec_text.specs.declared.name.PatternError.TheVariants as found
 
 pub Lacks-name : (x : List ℕ) → IsName x → Lacks star x
 Lacks-name x name = Lacks-from_absent star x (name Asterisk)
 
-pub HasStar-replaced : (x y : List ℕ) → ReplacesStar x y → HasStar x
-HasStar-replaced x y replaces = record { before = replaces.before; after = replaces.after; here = replaces.split.starred }
-
 pub HasStar-pattern : (x : List ℕ) → IsPattern x → HasStar x
-HasStar-pattern x pattern = HasStar-replaced x pattern.with_letter pattern.replaces
+HasStar-pattern x pattern = let r = pattern.replaces in record { before = r.before; after = r.after; here = r.split.starred }
 
 pub HasStar-stars : (x : List ℕ) → HasSeveralStars x → HasStar x
 HasStar-stars x stars = record { before = stars.before; after = stars.between ++ (star ∷ stars.after); here = stars.here }
@@ -41,9 +36,6 @@ nothing_against x pattern found.Memory long = (refl, long)
 pub plain_fine : (x : List ℕ) → Lacks star x → Never (IsBadPattern x)
 plain_fine x lacks e bad = Lacks-ContainsText star x lacks (HasStar-bad x e bad)
 
-pub bad_name : (x : List ℕ) (e : Refusal) → IsBadName x e → Lacks star x × ¬ (IsName x)
-bad_name x e bad = grind arith
-
 pub name_not_bad : (x : List ℕ) → IsName x → (e : Refusal) → IsBadName x e ⊎ IsBadPattern x e → ⊥
 name_not_bad x name e h = grind (arith, plain_fine, Lacks-name)
 
@@ -54,9 +46,6 @@ pub checked_fine : (x : List ℕ) (k : Shape) → HasCheckedShape x k → Never 
 checked_fine [] k fine e bad = bad.0 refl
 checked_fine (b ∷ bs) Plain fine e bad = name_not_bad (b ∷ bs) fine e bad.1
 checked_fine (b ∷ bs) Pattern fine e bad = pattern_not_bad (b ∷ bs) fine e bad.1
-
-pub starred_fine : (x : List ℕ) (k : Shape) → HasShape x k → Never (IsBadPattern x)
-starred_fine x k fine = grind (arith, plain_fine, pattern_fine)
 
 pub empty_no_pattern : IsPattern [] → ⊥
 empty_no_pattern pattern = Lacks-ContainsText star [] tt (HasStar-pattern [] pattern)
@@ -70,6 +59,3 @@ now-unwrap_or d e x is empty = grind arith
 
 pub none_from_test : (d : Option (Bor (List ℕ))) → false ≡ is_some d → option_map (λ (y : Bor (List ℕ)). y.now) d ≡ None
 none_from_test d test = grind arith
-
-pub signed_from_test : (m : DeclaredMode) → false ≡ sameb the_mode m declared_mode.Normal → mode_of m ≡ Normal → ⊥
-signed_from_test m test normal = grind arith

@@ -30,8 +30,5 @@ ways_once : (P : List ℕ → Type 0) (x : List ℕ) (list other : List (List �
     → Ways P x list → Ways P x other → list ≡ other
 ways_once P x list other once a b = grind (arith, append_cancel_left, Lacks-ContainsText)
 
-expanded_once : (x : List ℕ) (list other : List (List ℕ)) → Expands x list → Expands x other → list ≡ other
-expanded_once x list other a b = ways_once (IsPrefix x) x list other (prefix_once x) (ways_of x list a) (ways_of x other b)
-
 pub one_prefix : (x : List ℕ) → OnePrefix x
-one_prefix x = record { prefix = prefix_once x; expanded = expanded_once x }
+one_prefix x = record { prefix = prefix_once x; expanded = λ list other a b. ways_once (IsPrefix x) x list other (prefix_once x) (ways_of x list a) (ways_of x other b) }

@@ -1,16 +1,12 @@
 -- Prefixes and expansions of sides.
-use Rattle.gix_refspec_text.proofs.Common.{[], is_hex_digit, ◌≡◌, ◌≢◌, inl, inr, ◌<◌, ℕ, Bool, true, false, ◌↔◌, IsTrue, MatchOption, Bor, if◌then◌else◌, List, ◌∷◌, ◌++◌, codes, map, length, get_or}
-use Rattle.gix_refspec_text.proofs.Common.{is_ok, Result, OnOk, OnErr, refl, sym, ap, ◌∙◌, subst, length-append, arith, length-map, map-append, false≢true, IsIdText, Lacks, BeginsWith, IsSplit}
-use Rattle.gix_refspec_text.proofs.Common.{HasOneStar, star, slash, head, Reading, IsId, IsRefPrefix, IsPrefix, of_head, of_name, of_pattern, HasNoPrefix, Expands, to_prefix, IsAsked, IsExpansion}
-use Rattle.gix_refspec_text.proofs.{Common.{◌⊎◌, Fetch, ObjectId, id_bytes, HasKind, IsCovering, by_prefix, by_candidates, HasCoveringSource}, lemmas.texts.TextLemmas.Lacks-ContainsText}
+use Rattle.gix_refspec_text.proofs.Common.{[], is_hex_digit, ◌≡◌, ◌≢◌, inl, inr, ◌<◌, ℕ, Bool, true, false, ◌↔◌, IsTrue, MatchOption, Bor, List, ◌∷◌, map, length, get_or, Result, OnErr, refl, sym, ap}
+use Rattle.gix_refspec_text.proofs.Common.{◌∙◌, subst, length-append, arith, length-map, false≢true, IsSplit, HasOneStar, star, Reading, IsId, IsRefPrefix, IsPrefix, of_head, of_name, of_pattern}
+use Rattle.gix_refspec_text.proofs.Common.{HasNoPrefix, Expands, to_prefix, IsAsked, IsExpansion, ◌⊎◌, Fetch, ObjectId, HasKind, IsCovering, by_prefix, by_candidates, HasCoveringSource}
 use Rattle.gix_refspec_text.proofs.lemmas.{hits.MatchLemmas.{lacks_no_pattern, split_once, begins_split}, texts.ObjectIdLemmas.{AllPass-IsIdText, no_kind}, prefixes.OnePrefixLemmas.head_no_split}
 use Rattle.gix_refspec_text.proofs.lemmas.prefixes.OnePrefixLemmas.{one_prefix}
-use Rattle.std.{specs.Prelude.⊤, specs.Bool.then_some, proofs.Math.Seq.get_or-append_seam}
+use Rattle.std.{specs.Bool.then_some, proofs.Math.Seq.get_or-append_seam}
 use Rattle.gix_refspec_text.specs.{declared.side.SideKind.{SideKind as DeclaredKind}, Private.SideViews.kind_of_side}
 use Rattle.gix_refspec_text.specs.declared.side.SideKind.TheVariants as kind
-
-pub id_not_head : (x id : List ℕ) → IsIdText x id → x ≢ head
-id_not_head x id text is = no_kind 4 (λ same. omega (arith, same)) (λ same. omega (arith, same)) (text.kind, sym (ap length is) ∙ text.digits)
 
 prefix_tells : (x p before after : List ℕ) → IsSplit before after x → IsPrefix x p → IsRefPrefix before after
 prefix_tells x p before after split (of_head is _) = absurd (head_no_split x before after is split)
@@ -25,12 +21,6 @@ no_prefix x before after split vague p is = vague (prefix_tells x p before after
 pub prefix_expands : (x p : List ℕ) → IsPrefix x p → ¬ (Expands x [])
 prefix_expands x p is nothing = let same = (one_prefix x).expanded (p ∷ []) [] (to_prefix p is refl) nothing in cc
 
-pub itself_expands : (x rest : List ℕ) → x ≡ codes "refs/" ++ rest → Lacks slash rest → ¬ (Expands x [])
-itself_expands x rest below lacks h = grind (arith, Lacks-ContainsText)
-
-pub partial_expands : (x : List ℕ) → ¬ (BeginsWith (codes "refs/") x) → ¬ (IsId x) → ¬ (Expands x [])
-partial_expands x outside unlike h = grind arith
-
 pub one_asked : (r : Reading) (x y : List ℕ) → IsAsked r x → IsAsked r y → x ≡ y
 one_asked r x y a b = let p = a.side in let q = b.side in cc
 
@@ -43,9 +33,6 @@ on_any_error r holds = grind arith
 
 pub no_entries : {X : Type 0} (f : X → List ℕ) (r : Reading) (x : List ℕ) (entries : List X) → IsAsked r x → Expands x (map f entries) → IsExpansion r [] → length entries ≡ 0
 no_entries f r x entries asked expands nothing = sym (length-map entries f) ∙ ap length ((one_prefix x).expanded (map f entries) [] expands (asked_nothing r x asked nothing))
-
-pub appended_ok : {X : Type 0} {E : Type 0} (f : X → List ℕ) (r : Result ⊤ E) (old more new : List X) → new ≡ (if is_ok r then old ++ more else old) → OnOk r (map f new ≡ map f old ++ map f more)
-appended_ok f r old more new is = grind (arith, map-append)
 
 pub starred_no_id : (x : List ℕ) → HasOneStar x → ¬ (IsId x)
 starred_no_id x (before, after, split) id =
@@ -73,5 +60,5 @@ told_source r x b fetch asked told = (λ so. record { fetch = fetch; source = λ
 
 pub told_name : (x : List ℕ) (k : DeclaredKind) → HasKind x (kind_of_side k) → ((n : Bor (List ℕ)) × (k ≡ kind.FullName n)) ⊎ ((i : ObjectId) × (k ≡ kind.Object i)) → IsCovering x
 told_name x (kind.FullName n) has one = by_prefix x has.2 (of_name has.2 has.1 refl)
-told_name x (kind.Object i) has one = by_candidates has.0 (id_not_head x (id_bytes i) has.2) has.1
+told_name x (kind.Object i) has one = by_candidates has.0 (λ is. no_kind 4 (λ same. omega (arith, same)) (λ same. omega (arith, same)) (has.2.kind, sym (ap length is) ∙ has.2.digits)) has.1
 told_name x k has one = absurd (grind arith)

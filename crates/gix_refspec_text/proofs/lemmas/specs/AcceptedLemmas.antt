@@ -1,15 +1,12 @@
 -- The sides of each reading that some text has.
 use Rattle.gix_refspec_text.proofs.Common.{unwrap_or, [], Shape, Plain, Pattern, HasShape, IfSome, side_of, Mode, arith, ◌≡◌, ◌⊎◌, ℕ, List, Option, Some, subst, ∥∥₁_elim, Operation, HasSeveralStars}
-use Rattle.gix_refspec_text.proofs.{Common.{star, Reading, remote_of, named_by, Reads, IsAccepted, IsOneStarred}, lemmas.parsing.ReadsLemmas.{source_of, AreFine, fine_parts}}
+use Rattle.gix_refspec_text.proofs.{Common.{star, Reading, named_by, Reads, IsAccepted, IsOneStarred}, lemmas.parsing.ReadsLemmas.{source_of, AreFine, fine_parts}}
 use Rattle.gix_refspec_text.proofs.lemmas.{texts.TextLemmas.Lacks-ContainsText, parsing.ReasonLemmas.sides_balanced, parsing.SideLemmas.{checked_starred, empty_no_pattern, HasStar-stars}}
 use Rattle.gix_refspec_text.proofs.lemmas.{parsing.SideLemmas.HasSeveralStars-replaced, specs.FormsBackLemmas.named_pattern}
 
 shape_few : (x : List ℕ) (k : Shape) → HasShape x k → ¬ (HasSeveralStars x)
 shape_few x Plain lacks stars = Lacks-ContainsText star x lacks (HasStar-stars x stars)
 shape_few x Pattern pattern stars = HasSeveralStars-replaced x pattern.with_letter pattern.replaces stars
-
-side_shape : (x : List ℕ) (k : Shape) → HasShape x k → IfSome (side_of x) (λ y. HasShape y k)
-side_shape x k shape = grind arith
 
 named_shape : (s : List ℕ) (k : Shape) → HasShape s k → HasShape (named_by s) k
 named_shape s k shape = grind (arith, named_pattern)
@@ -19,16 +16,13 @@ source_shape op s k shape = grind (arith, empty_no_pattern, named_shape)
 
 -- the sides of a reading have one shape
 fine_shape : (op : Operation) (m : Mode) (s : List ℕ) (d : Option (List ℕ)) → AreFine op m s d → (k : Shape) × IfSome (source_of op s) (λ x. HasShape x k) × IfSome (side_of (unwrap_or d [])) (λ x. HasShape x k)
-fine_shape op m s d h = grind (arith, source_shape, side_shape, checked_starred)
+fine_shape op m s d h = grind (arith, source_shape, checked_starred)
 
 reads_shape : (op : Operation) (text : List ℕ) (r : Reading) → Reads op text r → (k : Shape) × IfSome r.source (λ x. HasShape x k) × IfSome r.destination (λ x. HasShape x k)
 reads_shape op text r reads = let p = fine_parts op text r reads in rw p.is (fine_shape op p.mode p.source p.destination p.fine)
 
 pub accepted_few : (r : Reading) (x : List ℕ) → ∥ IsAccepted r ∥₁ → (r.source ≡ Some x) ⊎ (r.destination ≡ Some x) → ¬ (HasSeveralStars x)
 accepted_few r x accepted side = ∥∥₁_elim accepted (hlevel []) (λ by. let (k, source, destination) = reads_shape r.operation by.0 r by.1 in grind (arith, shape_few))
-
-pub remote_few : (r : Reading) (x : List ℕ) → ∥ IsAccepted r ∥₁ → remote_of r ≡ Some x → ¬ (HasSeveralStars x)
-remote_few r x accepted is = accepted_few r x accepted (grind arith)
 
 pub accepted_balanced : (r : Reading) (s d : List ℕ) → ∥ IsAccepted r ∥₁ → r.source ≡ Some s → r.destination ≡ Some d → ¬ (IsOneStarred s d)
 accepted_balanced r s d accepted source destination = ∥∥₁_elim accepted (hlevel []) (λ by.

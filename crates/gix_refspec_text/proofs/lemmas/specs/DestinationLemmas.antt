@@ -1,10 +1,9 @@
 -- A reading with another destination.
-use Rattle.gix_refspec_text.proofs.Common.{None, [], inl, inr, ℕ, List, ◌∷◌, Some, IfSome, IsSome, refl, sym, subst, ∥∥₁_map, Operation, Lacks, IsName, star, head, colon, Mode, Normal, Reading}
-use Rattle.gix_refspec_text.proofs.Common.{with_destination, named_by, AreParts, IsAccepted, IsPositive, Reads, fetches, updates, ◌≡◌, ◌⊎◌, codes, arith, BeginsWith, HasCheckedShape, Plain, Pattern}
-use Rattle.gix_refspec_text.proofs.{Common.{with_colon, Option, unwrap_or, side_of, sign, ◌++◌, fetched_alone, all_tags, IsUnsigned}, lemmas.texts.TextLemmas.Lacks-ContainsText}
-use Rattle.gix_refspec_text.proofs.lemmas.{texts.HeadLemmas.Lacks-colon_name, parsing.SideLemmas.{HasStar-pattern, empty_no_pattern}, specs.FormsBackLemmas.is_forced, parsing.ReadsLemmas.AreFine}
-use Rattle.gix_refspec_text.proofs.lemmas.parsing.ReadsLemmas.{fine_fetch, fine_alone, fine_push, fine_negative, fine_parts, side_of-full, fine_reads, checked_name, name_not_empty}
-use Rattle.gix_refspec_text.proofs.facts.ManualFacts.{parts, IsPattern-tested}
+use Rattle.gix_refspec_text.proofs.Common.{None, [], inl, inr, ℕ, List, ◌∷◌, Some, IfSome, IsSome, refl, sym, subst, Operation, Lacks, IsName, star, colon, Mode, Normal, Reading, with_destination}
+use Rattle.gix_refspec_text.proofs.Common.{named_by, AreParts, IsAccepted, IsPositive, Reads, fetches, updates, ◌≡◌, codes, arith, HasCheckedShape, Plain, Pattern, with_colon, Option, unwrap_or}
+use Rattle.gix_refspec_text.proofs.{Common.{side_of, sign, ◌++◌, fetched_alone, all_tags, IsUnsigned}, lemmas.texts.TextLemmas.Lacks-ContainsText, lemmas.texts.HeadLemmas.Lacks-colon_name}
+use Rattle.gix_refspec_text.proofs.lemmas.{parsing.SideLemmas.{HasStar-pattern, empty_no_pattern}, specs.FormsBackLemmas.is_forced, parsing.ReadsLemmas.{AreFine, fine_fetch, fine_alone, fine_push}}
+use Rattle.gix_refspec_text.proofs.{lemmas.parsing.ReadsLemmas.{fine_negative, fine_parts, side_of-full, fine_reads, checked_name, name_not_empty}, facts.ManualFacts.{parts, IsPattern-tested}}
 
 starred_destination : (x : List ℕ) → IfSome (side_of x) (Lacks star) → HasCheckedShape x Pattern → ⊥
 starred_destination [] lacks pattern = empty_no_pattern pattern
@@ -31,7 +30,7 @@ new_parts : (m : Mode) (s : List ℕ) (d : Option (List ℕ)) (new text : List �
     → Lacks colon new → AreParts m s (Some new) (sign (is_forced m) ++ (s ++ (colon ∷ new)))
 new_parts m s d new text pos parts lacks = grind (arith, unsigned_aimed)
 
-replaced_read : (op : Operation) (text : List ℕ) (r : Reading) (new : List ℕ) → IsSome r.destination
+pub replaced_read : (op : Operation) (text : List ℕ) (r : Reading) (new : List ℕ) → IsSome r.destination
     → IfSome r.destination (Lacks star) → IsName new → Reads op text r → IsAccepted (with_destination r new)
 replaced_read op text r new some lacks name reads =
     let p = fine_parts op text r reads in
@@ -41,16 +40,10 @@ replaced_read op text r new some lacks name reads =
     let again = fine_reads op p.mode p.source (Some new) _ fine.0 parts in
     subst (λ (q : Reading). IsAccepted (with_destination q new)) (sym is) (_, rw (side_of-full new (name_not_empty new name)) at again)
 
-pub replaced_accepted : (r : Reading) (new : List ℕ) → IsSome r.destination → IfSome r.destination (Lacks star) → IsName new → ∥ IsAccepted r ∥₁ → ∥ IsAccepted (with_destination r new) ∥₁
-replaced_accepted r new some lacks name accepted = ∥∥₁_map accepted (λ by. replaced_read r.operation by.0 r new some lacks name by.1)
-
-read_alone : (n : List ℕ) → IsName n → IsUnsigned n → named_by n ≡ n → IsAccepted (fetched_alone n)
+pub read_alone : (n : List ℕ) → IsName n → IsUnsigned n → named_by n ≡ n → IsAccepted (fetched_alone n)
 read_alone n name unsigned same =
     let fetched = fetches Normal n refl tt (inl (record { signed = (refl, unsigned); last = Lacks-colon_name n name })) name (subst (λ (x : List ℕ). fetched_alone n ≡ fetched_alone x) (sym same) refl) in
     (n, fetched)
-
-pub alone_accepted : (n : List ℕ) → IsName n → BeginsWith (codes "refs/") n ⊎ (n ≡ head) → IsAccepted (fetched_alone n)
-alone_accepted n name h = grind (arith, read_alone)
 
 pub all_tags_accepted : IsAccepted all_tags
 all_tags_accepted =

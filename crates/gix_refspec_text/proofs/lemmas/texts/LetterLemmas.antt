@@ -1,10 +1,9 @@
 -- A text with letters in place of its stars has the faults that one pass over the text finds.
 use Rattle.gix_refspec_text.proofs.Common.{[], ◌≡◌, ◌≢◌, ℕ, List, ◌∷◌, ◌++◌, codes, length, take, drop, get_or, suc, ◌<◌, Option, Some, None, MatchOption, true, refl, sym, ap, ◌∙◌, subst, inl, inr}
 use Rattle.gix_refspec_text.proofs.Common.{if◌then◌else◌, arith, append_assoc, Bool, zero, ◌-◌, ◌≤◌, false, ◌==◌, ◌+◌, eq-eqb, ne_eqb, map-append, count_by_more_no, Error, Asterisk, Lacks, EndsWith}
-use Rattle.gix_refspec_text.proofs.Common.{slash, star, letter, HasFault, IsName, IsSplit, IsPattern, HasOneStar, ReplacesStar, class_at, AddsFault, IsClean, LeavesFault, Finds, letter_for}
-use Rattle.gix_refspec_text.proofs.Common.{with_letters, IsScanned, IsCalm, AreCalm, count_by_more_yes, cond, zero-add, count_by, sum_by-append, HasSeveralStars, take_all, IsStarCount, one_if}
+use Rattle.gix_refspec_text.proofs.Common.{slash, star, letter, HasFault, IsName, IsSplit, IsPattern, HasOneStar, ReplacesStar, AddsFault, IsClean, LeavesFault, Finds, letter_for, with_letters}
+use Rattle.gix_refspec_text.proofs.Common.{IsScanned, IsCalm, AreCalm, count_by_more_yes, cond, zero-add, count_by, sum_by-append, HasSeveralStars, take_all, IsStarCount, one_if}
 use Rattle.gix_refspec_text.proofs.lemmas.{lists.LacksLemmas.lacks_or_first, texts.TextLemmas.split_at, texts.NameLemmas.{one_more, IsClean-more, HasFault-added, answer_at_end, slash_adds, last_byte}}
-use Rattle.gix_refspec_text.specs.declared.name.class.Class.TheVariants.{Plain}
 
 abbrev stars : List ℕ → ℕ
 stars x = count_by (λ b. b == star) x
@@ -40,11 +39,8 @@ second_star x i below here one =
 letter_for-other : (b : ℕ) → b ≢ star → letter_for b ≡ b
 letter_for-other b other = ap (λ t. if t then letter else b) (ne_eqb b star other)
 
-same_byte : (b c : ℕ) → c ≢ letter → letter_for b ≡ c → b ≡ c
-same_byte b c other same = grind arith
-
 same_word : (y w : List ℕ) → Lacks letter w → with_letters y ≡ w → y ≡ w
-same_word (b ∷ y) (c ∷ w) lacks same = ap (λ d. d ∷ y) (same_byte b c lacks.0 (cc)) ∙ ap (λ z. c ∷ z) (same_word y w lacks.1 (cc))
+same_word (b ∷ y) (c ∷ w) lacks same = let rest : y ≡ w = same_word y w lacks.1 (cc) in grind arith
 same_word y w lacks same = cc
 
 end_before : (y p w : List ℕ) → Lacks letter w → with_letters y ≡ p ++ w → EndsWith w y
@@ -70,9 +66,6 @@ AddsFault-as x y b ends h fault = grind arith
 LeavesFault-as : (x y : List ℕ) → EndsAs x y → (e : Error) → LeavesFault x e → LeavesFault y e
 LeavesFault-as x y ends h left = grind arith
 
-letter_adds_nothing : (y : List ℕ) (e : Error) → ¬ (AddsFault y letter e)
-letter_adds_nothing y e fault = grind arith
-
 -- the bytes up to an index stay scanned with one that adds no fault, which isn't a star, or with the first star
 clean_more : (x : List ℕ) (i : ℕ) → i < length x → ((e : Error) → ¬ (AddsFault (with_letters (slash ∷ take i x)) (letter_for (get_or x i 0)) e)) → IsClean (with_letters (slash ∷ take i x)) → IsClean (with_letters (slash ∷ take (i + 1) x))
 clean_more x i below none clean =
@@ -88,7 +81,7 @@ scanned_other x i s below none scanned =
 
 pub scanned_star : (x : List ℕ) (i : ℕ) → i < length x → get_or x i 0 ≡ star → IsScanned x i false → IsScanned x (i + 1) true
 scanned_star x i below same scanned = (
-  clean_more x i below (λ e fault. letter_adds_nothing _ e (subst (λ b. AddsFault (with_letters (slash ∷ take i x)) (letter_for b) e) same fault)) scanned.0,
+  clean_more x i below (λ e fault. let added = subst (λ b. AddsFault (with_letters (slash ∷ take i x)) (letter_for b) e) same fault in grind arith) scanned.0,
   count_by_more_yes (λ d. d == star) x i 0 below (eq-eqb (get_or x i 0) star same) ∙ ap (λ n. n + 1) scanned.1,
 )
 
@@ -128,11 +121,8 @@ pattern_with_letter x (before, after, split) name = record { with_letter = with_
 pub name_without_stars : (x : List ℕ) → Lacks star x → IsName (with_letters x) → IsName x
 name_without_stars x lacks name = subst IsName (letters-Lacks x lacks) name
 
-plain_adds_nothing : (y : List ℕ) (b : ℕ) → class_at b ≡ Plain → (e : Error) → ¬ (AddsFault y b e)
-plain_adds_nothing y b plain h fault = grind arith
-
 calm_adds_nothing : (y : List ℕ) (p b : ℕ) → EndsWith (p ∷ []) y → IsCalm p b → (e : Error) → ¬ (AddsFault y b e)
-calm_adds_nothing y p b last (inl plain) = plain_adds_nothing y b plain
+calm_adds_nothing y p b last (inl plain) = λ e fault. grind arith
 calm_adds_nothing y p b last (inr quiet) = λ e fault.
     slash_adds y e (λ ends. quiet.1 (last_byte y p slash last ends))
     (λ ends. quiet.2 (last_byte y p 107 last (record { before = ends.before ++ codes ".loc"; here = ends.here ∙ sym (append_assoc ends.before (codes ".loc") (107 ∷ [])) })))

@@ -1,7 +1,7 @@
 -- The texts of ids: which texts they are, that each is the text of only one id, and that decoding finds it.
 use Rattle.hex.proofs.HexLemmas.{decode_of-digits, decode_sized-twice, IsAscii-encode_with, IsOk-decode_sized, decode_of-ok, decode_of-same, decode_pairs-ok, decode_sized-encode_lower}
 use Rattle.hex.{proofs.HexLemmas.length-encode_with, specs.Hex.{digit_or_error, ◌>>=◌, IsBytes, decode_of, decode_pairs, decode_sized, encode_with, hex_digit_value, is_hex_digit, lower_digits}}
-use Rattle.hex.{specs.Hex.pair_value, specs.declared.error.FromHexError.FromHexError, proofs.Pairs.{cons_byte, decode_pairs-ok_pair, decode_sized-pairs}}
+use Rattle.hex.{specs.declared.error.FromHexError.FromHexError, proofs.Pairs.{cons_byte, decode_pairs-ok_pair, decode_sized-pairs}}
 use Rattle.gix_refspec_text.proofs.Common.{rules, [], nat_tests, ◌≡◌, ℕ, zero, suc, ◌+◌, ◌*◌, ◌/◌, ◌%◌, ◌<◌, Bool, List, ◌∷◌, length, slice_index, take, nat_lt, ◌⊎◌, inl, inr, Option, Some, true}
 use Rattle.gix_refspec_text.proofs.Common.{false, Result, Ok, Err, refl, sym, ap, ◌∙◌, subst, arith, ◌++◌, drop, IsOk, MatchBool, MatchResult, AllPass, SomeIndex, list_all, IsUtf8, false≢true}
 use Rattle.gix_refspec_text.proofs.Common.{cases_Bool, cases_eq, ltb-true, length-take-le, take-append-le, take_all, All-cons, All-head, All-nil, All-tail, All-weaker, AllPass-from_list_all, Digit}
@@ -22,15 +22,12 @@ Spells-tail a b x t i spelled k below =
 Spells-cons : (a b x : ℕ) (t i : List ℕ) → IsSpelledBy x a b → Spells t i → Spells (a ∷ b ∷ t) (x ∷ i)
 Spells-cons a b x t i first rest k below = search (arith, rules)
 
-pair_value-spelled : (n a b x : ℕ) → IsSpelledBy x a b → pair_value a b n ≡ Ok x
-pair_value-spelled n a b x s = rw (s.high_read, s.low_read) (ap Ok (let v = s.value in omega arith))
-
 pub decode_pairs-spelled : (n : ℕ) (t i : List ℕ) → length t ≡ 2 * length i → Spells t i → decode_pairs n t ≡ Ok i
 unfolding decode_pairs
 decode_pairs-spelled n [] [] twice spelled = refl
 decode_pairs-spelled n (a ∷ b ∷ t) (x ∷ i) twice spelled =
-    decode_pairs-ok_pair n a b x t (pair_value-spelled n a b x (spelled 0 (omega arith)))
-    ∙ ap (cons_byte x) (decode_pairs-spelled (n + 2) t i (omega arith) (Spells-tail a b x t i spelled))
+    let s = spelled 0 (omega arith) in
+    decode_pairs-ok_pair n a b x t (rw (s.high_read, s.low_read) (ap Ok (let v = s.value in omega arith))) ∙ ap (cons_byte x) (decode_pairs-spelled (n + 2) t i (omega arith) (Spells-tail a b x t i spelled))
 decode_pairs-spelled n t i twice spelled = absurd (omega arith)
 
 pair_taken : (a b n : ℕ) (u v : Option ℕ) (q : Result (List ℕ) FromHexError) (i : List ℕ) → ((digit_or_error a n u >>= (λ (h : ℕ). digit_or_error b (n + 1) v >>= (λ (l : ℕ). Ok (h * 16 + l)))) >>= (λ (x : ℕ). q >>= (λ (r : List ℕ). Ok (x ∷ r)))) ≡ Ok i

@@ -11,9 +11,6 @@ pub Lacks-from_indexes : (b : ℕ) (x : List ℕ) → ((k : ℕ) → k < length 
 Lacks-from_indexes b [] none = tt
 Lacks-from_indexes b (c ∷ x) none = (λ e. none 0 (omega arith) (eq-eqb c b e), Lacks-from_indexes b x (λ k below. none (suc k) (omega arith)))
 
-pub Lacks-drop : (b : ℕ) (x : List ℕ) (n : ℕ) → NoneFrom b x n → Lacks b (drop n x)
-Lacks-drop b x n none = Lacks-from_indexes b (drop n x) (λ k below. rw get_or-drop (none (n + k) (omega arith) (omega (arith, length-drop n x))))
-
 pub split_at : (x : List ℕ) (n b : ℕ) → n < length x → get_or x n 0 ≡ b → x ≡ take n x ++ (b ∷ drop (suc n) x)
 split_at x n b inside here = sym (take-append-drop n x) ∙ ap (λ y. take n x ++ y) (drop-cons x n 0 inside ∙ ap (λ c. c ∷ drop (suc n) x) here)
 
@@ -21,7 +18,7 @@ pub split_at_last : (x front back : List ℕ) (n b : ℕ) → n < length x → (
 split_at_last x front back n b inside here none front_is back_is =
     let after : take (length (drop n x) - 1) (drop 1 (drop n x)) ≡ drop (suc n) x = rw (drop-drop, add-one) (take_all (length (drop n x) - 1) (drop (suc n) x) (omega (arith, length-drop n x, length-drop (suc n) x))) in
     let rest : take (length back - 1) (drop 1 back) ≡ drop (suc n) x = ap (λ y. take (length y - 1) (drop 1 y)) back_is ∙ after in
-    let lacks : Lacks b (drop (suc n) x) = rw (← add-one) (Lacks-drop b x (n + 1) none) in
+    let lacks : Lacks b (drop (suc n) x) = rw (← add-one) (Lacks-from_indexes b (drop (n + 1) x) (λ k below. rw get_or-drop (none (n + 1 + k) (omega arith) (omega (arith, length-drop (n + 1) x))))) in
     (rw (front_is, rest) (split_at x n b inside (eqb-true (get_or x n 0) b here)), subst (Lacks b) (sym rest) lacks)
 
 -- b is in the text, or at none of its first n indexes
