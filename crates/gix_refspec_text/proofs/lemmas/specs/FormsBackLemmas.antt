@@ -65,16 +65,6 @@ named_hash s other = named_so (λ (x : List ℕ). ¬ (LooksLikeObjectHash x)) s 
 excluded_parts : (s : List ℕ) → IsNameOrPattern s → AreParts Negative (named_by s) None (caret ∷ named_by s)
 excluded_parts s either = record { signed = refl; last = Lacks-colon_either (named_by s) (named_either s either) }
 
-back_fetch_exclude : (s : List ℕ) → IsNameOrPattern s → ¬ (LooksLikeObjectHash s) → IsPrintedBack Fetch (fetched Negative (named_by s) None)
-back_fetch_exclude s either other =
-    printed_back Fetch _ (fetched Negative (named_by s) None) (fetch_exclude (named_by s)) refl refl
-    (fetch_excludes (named_by s) refl (excluded_parts s either) (named_either s either) (named_hash s other) (rw (named_once s)))
-
-back_push_exclude : (s : List ℕ) → IsNameOrPattern s → ¬ (LooksLikeObjectHash s) → IsPrintedBack Push (pushed Negative (Some (named_by s)) None)
-back_push_exclude s either other =
-    printed_back Push _ (pushed Negative (Some (named_by s)) None) (push_exclude (named_by s)) refl refl
-    (push_excludes (named_by s) refl (excluded_parts s either) (named_either s either) (named_hash s other) (rw (named_once s)))
-
 back_all : (m : Mode) → IsPositive m → IsPrintedBack Push (pushed m None None)
 back_all m pos =
     let says = means Push m None None pos in
@@ -83,19 +73,6 @@ back_all m pos =
 reads_twice : (m : Mode) (s text : List ℕ) → IsPositive m → AreParts m s (Some s) text → IsNameOrPattern s → Reads Push text (pushed m (Some (named_by s)) (Some s))
 reads_twice m s text pos parts (inl name) = pushes_to m s s refl pos parts (name_not_empty s name) (Lacks-name s name) name refl
 reads_twice m s text pos parts (inr pattern) = pushes_pattern m s s refl pos parts pattern pattern refl
-
-back_alone : (m : Mode) (s text : List ℕ) → IsPositive m → AreParts m s None text → IsNameOrPattern s → IsPrintedBack Push (pushed m (Some (named_by s)) None)
-back_alone m s text pos parts either =
-    let t = named_by s in
-    let either_t = named_either s either in
-    let again = named_parts m s t None text pos (either_not_empty s either) parts (Lacks-colon_either t either_t) in
-    printed_back Push _ (pushed m (Some t) (Some t)) (push_matching t t (is_forced m)) (means Push m (Some t) None pos) (means Push m (Some t) (Some t) pos)
-    (rw (named_once s) at (reads_twice m t _ pos again either_t))
-
-back_delete : (m : Mode) (d : List ℕ) → IsPositive m → IsName d → IsPrintedBack Push (pushed m None (Some d))
-back_delete m d pos name =
-    printed_back Push _ (pushed Normal None (Some d)) (push_delete d) (means Push m None (Some d) pos) refl
-    (deletes Normal d refl tt (record { signed = (refl, omega arith); last = Lacks-colon_name d name }) name refl)
 
 back_push : (m : Mode) (s d : List ℕ) → IsPositive m → Reads Push (sign (is_forced m) ++ (named_by s ++ (colon ∷ d))) (pushed m (Some (named_by s)) (Some d)) → IsPrintedBack Push (pushed m (Some (named_by s)) (Some d))
 back_push m s d pos reads = let says = means Push m (Some (named_by s)) (Some d) pos in printed_back Push _ _ (push_matching (named_by s) d (is_forced m)) says says reads
@@ -108,11 +85,19 @@ read_back op text r (updates m s d fetch pos parts alike is) = rw (fetch, is) (b
 read_back op text r (updates_from_head m d fetch pos parts name is) =
     let lacks = Lacks-colon_name d name in
     rw (fetch, is) (back_update m head d (sign (is_forced m) ++ (head ++ (colon ∷ d))) pos (grind arith) (inl (IsName-head, name)))
-read_back op text r (fetch_excludes s fetch parts either hash is) = rw (fetch, is) (back_fetch_exclude s either hash)
+read_back op text r (fetch_excludes s fetch parts either hash is) =
+    let t = named_by s in
+    rw (fetch, is) (printed_back Fetch _ (fetched Negative t None) (fetch_exclude t) refl refl (fetch_excludes t refl (excluded_parts s either) (named_either s either) (named_hash s hash) (rw (named_once s))))
 read_back op text r (pushes_plus push parts is) = rw (push, is) (back_all Forced tt)
 read_back op text r (pushes_colon m push pos parts is) = rw (push, is) (back_all m pos)
-read_back op text r (pushes m s push pos parts either is) = rw (push, is) (back_alone m s text pos parts either)
-read_back op text r (deletes m d push pos parts name is) = rw (push, is) (back_delete m d pos name)
+read_back op text r (pushes m s push pos parts either is) =
+    let t = named_by s in
+    let again = named_parts m s t None text pos (either_not_empty s either) parts (Lacks-colon_either t (named_either s either)) in
+    rw (push, is) (printed_back Push _ (pushed m (Some t) (Some t)) (push_matching t t (is_forced m)) (means Push m (Some t) None pos) (means Push m (Some t) (Some t) pos)
+    (rw (named_once s) at (reads_twice m t _ pos again (named_either s either))))
+read_back op text r (deletes m d push pos parts name is) =
+    rw (push, is) (printed_back Push _ (pushed Normal None (Some d)) (push_delete d) (means Push m None (Some d) pos) refl
+    (deletes Normal d refl tt (record { signed = (refl, omega arith); last = Lacks-colon_name d name }) name refl))
 read_back op text r (pushes_pattern m s d push pos parts source destination is) =
     let pattern = subst IsPattern (sym (named_pattern s source)) source in
     let again = named_parts m s d (Some d) text pos (pattern_not_empty s source) parts parts.last in
@@ -121,7 +106,9 @@ read_back op text r (pushes_to m s d push pos parts full plain name is) =
     let lacks = named_so (Lacks star) s (Lacks-name head IsName-head) plain in
     let again = named_parts m s d (Some d) text pos full parts parts.last in
     rw (push, is) (back_push m s d pos (pushes_to m (named_by s) d refl pos again (named_so (λ (y : List ℕ). y ≢ []) s (λ same. cc) full) lacks name (rw (named_once s))))
-read_back op text r (push_excludes s push parts either hash is) = rw (push, is) (back_push_exclude s either hash)
+read_back op text r (push_excludes s push parts either hash is) =
+    let t = named_by s in
+    rw (push, is) (printed_back Push _ (pushed Negative (Some t) None) (push_exclude t) refl refl (push_excludes t refl (excluded_parts s either) (named_either s either) (named_hash s hash) (rw (named_once s))))
 
 pub once_or_refused : (op : Operation) (text : List ℕ) → ReadsOrRefused op text
 once_or_refused op text = elim (read_or_refused op text) [ inl (q, reads) ↦ inl (record { reading = q; reads = reads; only = λ r by_r. reads_once op text r q by_r reads }) | inr refusal ↦ inr refusal ]

@@ -1,5 +1,5 @@
 -- Facts on accepted readings, without a text that has the reading at hand.
-use Rattle.gix_refspec_text.proofs.Common.{refl, arith, ◌≡◌, ℕ, Bool, true, List, Option, Some, option_map, sym, ap, ◌∙◌, subst, inl, inr, nat_eq, ◌↔◌, pointwise, not_there, Operation, Reading, Reads}
+use Rattle.gix_refspec_text.proofs.Common.{refl, arith, ◌≡◌, ℕ, true, List, Option, Some, option_map, sym, ap, ◌∙◌, subst, inl, inr, nat_eq, ◌↔◌, pointwise, not_there, Operation, Reading, Reads}
 use Rattle.gix_refspec_text.proofs.Common.{IsAccepted, Meaning, meaning_of, text_of, printed, keys, IsPrintedBack, KeepsOperation, SaysForOperation, EqualReadings, same_Some}
 use Rattle.gix_refspec_text.proofs.lemmas.{specs.FormsBackLemmas.{read_back, once_or_refused, equal_texts}, parsing.ReadsLemmas.fine_parts}
 use Rattle.gix_refspec_text.specs.Laws.Order.{same_meaning, same_keys}
@@ -10,13 +10,9 @@ keeps_operation op text r reads = ap (λ (x : Reading). x.operation) (fine_parts
 pub says_for_operation : (r : Reading) → SaysForOperation r
 says_for_operation r m is = grind arith
 
-test_shown : {P : Type 0} (b : Bool) → ∥ P ∥₁ → (P → b ≡ true) → b ≡ true
-test_shown b there shows = grind (arith, not_there)
-
 -- to show that two meanings are equal, a fact may be assumed of which only the existence is known
 meaning_shown : {P : Type 0} (m n : Option Meaning) → ∥ P ∥₁ → (P → m ≡ n) → m ≡ n
-meaning_shown m n there shows =
-    same_meaning m n (test_shown (pointwise (pointwise nat_eq) (keys m) (keys n)) there (λ fact. same_keys m n (shows fact)))
+meaning_shown m n there shows = same_meaning m n (grind (arith, not_there, same_keys))
 
 says_by : (r : Reading) (m : Option Meaning) → meaning_of r ≡ m → ∥ IsAccepted r ∥₁ → (n : Meaning) × (meaning_of r ≡ Some n)
 says_by r m is accepted = grind (arith, not_there, read_back)
