@@ -5,5 +5,5 @@ pub reads_once : (op : Operation) (text : List ℕ) (r q : Reading) → Reads op
 reads_once op text r q by_r by_q =
     let a = fine_parts op text r by_r in
     let b = fine_parts op text q by_q in
-    let same = parts_once a.mode b.mode a.source b.source a.destination b.destination text a.parts b.parts in
-    a.is ∙ rw (same.mode, same.source, same.destination) (sym b.is)
+    let same = parts_once a.0 b.0 a.1 b.1 a.2 b.2 text a.3 b.3 in
+    a.5 ∙ rw (same.mode, same.source, same.destination) (sym b.5)

@@ -102,13 +102,8 @@ alike_fine op m s d fetch pos (inl names) = fine_fetch Plain fetch pos (checked_
 alike_fine op m s d fetch pos (inr patterns) = fine_fetch Pattern fetch pos (checked_from_pattern s patterns.0) (checked_from_pattern d patterns.1)
 
 -- a text with its parts, which are valid and make the reading r
-pub record FineParts (op : Operation) (text : List ℕ) (r : Reading) : Type 0 where
-  pub mode : Mode
-  pub source : List ℕ
-  pub destination : Option (List ℕ)
-  pub parts : AreParts mode source destination text
-  pub fine : AreFine op mode source destination
-  pub is : r ≡ made op mode source destination
+abbrev pub FineParts : Operation → List ℕ → Reading → Type 0
+FineParts op text r = (m : Mode) × (s : List ℕ) × (d : Option (List ℕ)) × AreParts m s d text × AreFine op m s d × (r ≡ made op m s d)
 
 source_full : (op : Operation) (s : List ℕ) → s ≢ [] → source_of op s ≡ Some (named_by s)
 source_full op s full = grind arith
@@ -117,44 +112,36 @@ pub side_of-full : (s : List ℕ) → s ≢ [] → side_of s ≡ Some s
 side_of-full s full = grind arith
 
 pub fine_parts : (op : Operation) (text : List ℕ) (r : Reading) → Reads op text r → FineParts op text r
-fine_parts op x r (fetches_nothing_named m f pos p is) = record { mode = m; source = []; destination = None; parts = p; fine = fine_fetch Plain f pos tt tt; is = rw f is }
-fine_parts op x r (fetches_colon m f pos p is) = record { mode = m; source = []; destination = Some []; parts = p; fine = fine_fetch Plain f pos tt tt; is = rw f is }
-fine_parts op x r (fetches m s f pos (inl p) name is) =
-    record { mode = m; source = s; destination = None; parts = p; fine = fine_fetch Plain f pos (checked_name s name) tt; is = rw (source_full op s (name_not_empty s name), f) is }
-fine_parts op x r (fetches m s f pos (inr p) name is) =
-    record { mode = m; source = s; destination = Some []; parts = p; fine = fine_fetch Plain f pos (checked_name s name) tt; is = rw (source_full op s (name_not_empty s name), f) is }
+fine_parts op x r (fetches_nothing_named m f pos p is) = (m, [], None, p, fine_fetch Plain f pos tt tt, rw f is)
+fine_parts op x r (fetches_colon m f pos p is) = (m, [], Some [], p, fine_fetch Plain f pos tt tt, rw f is)
+fine_parts op x r (fetches m s f pos (inl p) name is) = (m, s, None, p, fine_fetch Plain f pos (checked_name s name) tt, rw (source_full op s (name_not_empty s name), f) is)
+fine_parts op x r (fetches m s f pos (inr p) name is) = (m, s, Some [], p, fine_fetch Plain f pos (checked_name s name) tt, rw (source_full op s (name_not_empty s name), f) is)
 fine_parts op x r (updates m s d f pos p alike is) =
     let full = alike_full s d alike in
-    record { mode = m; source = s; destination = Some d; parts = p; fine = alike_fine op m s d f pos alike; is = rw (source_full op s full.0, side_of-full d full.1, f) is }
-fine_parts op x r (updates_from_head m d f pos p name is) =
-    record { mode = m; source = []; destination = Some d; parts = p; fine = fine_fetch Plain f pos tt (checked_name d name); is = rw (side_of-full d (name_not_empty d name), f) is }
+    (m, s, Some d, p, alike_fine op m s d f pos alike, rw (source_full op s full.0, side_of-full d full.1, f) is)
+fine_parts op x r (updates_from_head m d f pos p name is) = (m, [], Some d, p, fine_fetch Plain f pos tt (checked_name d name), rw (side_of-full d (name_not_empty d name), f) is)
 fine_parts op x r (fetch_excludes s f p either hash is) =
     let full = either_not_empty s either in
     let side = checked_either s either in
-    record { mode = Negative; source = s; destination = None; parts = p; fine = fine_negative side.0 refl refl full side.1 hash; is = rw (source_full op s full, f) is }
-fine_parts op x r (pushes_plus f p is) =
-    record { mode = Forced; source = []; destination = None; parts = p; fine = fine_alone Plain f tt refl (λ _ forced. cc) tt; is = rw f is }
-fine_parts op x r (pushes_colon m f pos p is) =
-    record { mode = m; source = []; destination = Some []; parts = p; fine = fine_push Plain [] f pos refl (λ full _. full refl) tt tt; is = rw f is }
+    (Negative, s, None, p, fine_negative side.0 refl refl full side.1 hash, rw (source_full op s full, f) is)
+fine_parts op x r (pushes_plus f p is) = (Forced, [], None, p, fine_alone Plain f tt refl (λ _ forced. cc) tt, rw f is)
+fine_parts op x r (pushes_colon m f pos p is) = (m, [], Some [], p, fine_push Plain [] f pos refl (λ full _. full refl) tt tt, rw f is)
 fine_parts op x r (pushes m s f pos p either is) =
     let full = either_not_empty s either in
     let side = checked_either s either in
-    record { mode = m; source = s; destination = None; parts = p; fine = fine_alone side.0 f pos refl (λ empty _. full empty) side.1; is = rw (source_full op s full, f) is }
+    (m, s, None, p, fine_alone side.0 f pos refl (λ empty _. full empty) side.1, rw (source_full op s full, f) is)
 fine_parts op x r (deletes m d f pos p name is) =
-    let fine = fine_push Plain d f pos refl (λ full _. full refl) tt (checked_name d name) in
-    record { mode = m; source = []; destination = Some d; parts = p; fine = fine; is = rw (side_of-full d (name_not_empty d name), f) is }
+    (m, [], Some d, p, fine_push Plain d f pos refl (λ full _. full refl) tt (checked_name d name), rw (side_of-full d (name_not_empty d name), f) is)
 fine_parts op x r (pushes_pattern m s d f pos p of_s of_d is) =
     let full = pattern_not_empty d of_d in
-    let fine = fine_push Pattern d f pos refl (λ _ empty. full empty) of_s (checked_from_pattern d of_d) in
-    record { mode = m; source = s; destination = Some d; parts = p; fine = fine; is = rw (source_full op s (pattern_not_empty s of_s), side_of-full d full, f) is }
+    (m, s, Some d, p, fine_push Pattern d f pos refl (λ _ empty. full empty) of_s (checked_from_pattern d of_d), rw (source_full op s (pattern_not_empty s of_s), side_of-full d full, f) is)
 fine_parts op x r (pushes_to m s d f pos p some plain name is) =
     let full = name_not_empty d name in
-    let fine = fine_push Plain d f pos refl (λ _ empty. full empty) plain (checked_name d name) in
-    record { mode = m; source = s; destination = Some d; parts = p; fine = fine; is = rw (source_full op s some, side_of-full d full, f) is }
+    (m, s, Some d, p, fine_push Plain d f pos refl (λ _ empty. full empty) plain (checked_name d name), rw (source_full op s some, side_of-full d full, f) is)
 fine_parts op x r (push_excludes s f p either hash is) =
     let full = either_not_empty s either in
     let side = checked_either s either in
-    record { mode = Negative; source = s; destination = None; parts = p; fine = fine_negative side.0 refl refl full side.1 hash; is = rw (source_full op s full, f) is }
+    (Negative, s, None, p, fine_negative side.0 refl refl full side.1 hash, rw (source_full op s full, f) is)
 
 pub no_reason : (op : Operation) (m : Mode) (s : List ℕ) (d : Option (List ℕ)) → AreFine op m s d → Never (IsFirstReason op m s d)
 no_reason op m s d h e = grind (arith, destination_fine, sides_balanced, checked_starred, alone_fine, push_source_fine, fetch_source_fine)
@@ -162,9 +149,9 @@ no_reason op m s d h e = grind (arith, destination_fine, sides_balanced, checked
 pub refused : (op : Operation) (m : Mode) (s : List ℕ) (d : Option (List ℕ)) (text : List ℕ) (e : Refusal) → AreParts m s d text → IsFirstReason op m s d e → IsRefused op text e
 refused op m s d text e parts first =
     let unread = λ (r : Reading) (reads : Reads op text r).
-    let p = fine_parts op text r reads in
-    let same = parts_once m p.mode s p.source d p.destination text parts p.parts in
-    no_reason op p.mode p.source p.destination p.fine e (rw (same.mode, same.source, same.destination) at first) in
+    let (n, t, g, again, fine, is) = fine_parts op text r reads in
+    let same = parts_once m n s t d g text parts again in
+    no_reason op n t g fine e (rw (same.mode, same.source, same.destination) at first) in
     record { unread = unread; mode = m; source = s; destination = d; parts = parts; first = first }
 
 pub error_of_text : (p : Parts) (bytes text : List ℕ) (e : Error) → bytes ≡ text → HasParts bytes p → IsReasonAgainst p e → IsErrorOf p.operation text e

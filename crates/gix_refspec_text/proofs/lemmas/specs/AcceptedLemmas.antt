@@ -19,7 +19,7 @@ fine_shape : (op : Operation) (m : Mode) (s : List ℕ) (d : Option (List ℕ)) 
 fine_shape op m s d h = grind (arith, source_shape, checked_starred)
 
 reads_shape : (op : Operation) (text : List ℕ) (r : Reading) → Reads op text r → (k : Shape) × IfSome r.source (λ x. HasShape x k) × IfSome r.destination (λ x. HasShape x k)
-reads_shape op text r reads = let p = fine_parts op text r reads in rw p.is (fine_shape op p.mode p.source p.destination p.fine)
+reads_shape op text r reads = let (m, s, d, parts, fine, is) = fine_parts op text r reads in rw is (fine_shape op m s d fine)
 
 pub accepted_few : (r : Reading) (x : List ℕ) → ∥ IsAccepted r ∥₁ → (r.source ≡ Some x) ⊎ (r.destination ≡ Some x) → ¬ (HasSeveralStars x)
 accepted_few r x accepted side = ∥∥₁_elim accepted (hlevel []) (λ by. let (k, source, destination) = reads_shape r.operation by.0 r by.1 in grind (arith, shape_few))

@@ -33,11 +33,9 @@ new_parts m s d new text pos parts lacks = grind (arith, unsigned_aimed)
 pub replaced_read : (op : Operation) (text : List ℕ) (r : Reading) (new : List ℕ) → IsSome r.destination
     → IfSome r.destination (Lacks star) → IsName new → Reads op text r → IsAccepted (with_destination r new)
 replaced_read op text r new some lacks name reads =
-    let p = fine_parts op text r reads in
-    let is = p.is in
-    let fine = new_fine op p.mode p.source p.destination new p.fine (rw is at some) (rw is at lacks) name in
-    let parts = new_parts p.mode p.source p.destination new text fine.1 p.parts (Lacks-colon_name new name) in
-    let again = fine_reads op p.mode p.source (Some new) _ fine.0 parts in
+    let (m, s, d, parts, fine, is) = fine_parts op text r reads in
+    let (still, positive) = new_fine op m s d new fine (rw is at some) (rw is at lacks) name in
+    let again = fine_reads op m s (Some new) _ still (new_parts m s d new text positive parts (Lacks-colon_name new name)) in
     subst (λ (q : Reading). IsAccepted (with_destination q new)) (sym is) (_, rw (side_of-full new (name_not_empty new name)) at again)
 
 pub read_alone : (n : List ℕ) → IsName n → IsUnsigned n → named_by n ≡ n → IsAccepted (fetched_alone n)

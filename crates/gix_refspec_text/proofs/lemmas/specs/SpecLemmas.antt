@@ -5,7 +5,7 @@ use Rattle.gix_refspec_text.proofs.lemmas.{specs.FormsBackLemmas.{read_back, onc
 use Rattle.gix_refspec_text.specs.Laws.Order.{same_meaning, same_keys}
 
 pub keeps_operation : (op : Operation) (text : List ℕ) → KeepsOperation op text
-keeps_operation op text r reads = ap (λ (x : Reading). x.operation) (fine_parts op text r reads).is
+keeps_operation op text r reads = ap (λ (x : Reading). x.operation) (fine_parts op text r reads).5
 
 pub says_for_operation : (r : Reading) → SaysForOperation r
 says_for_operation r m is = grind arith
