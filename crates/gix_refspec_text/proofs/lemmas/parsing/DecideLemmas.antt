@@ -128,7 +128,8 @@ settled_to m s t pos somewhere = elim (starred s) [
   | inl (j, source) ↦ elim (checked t) [
     | inr (e, bad) ↦ inr (e, reason_at_destination Push m s (Some t) e (push_reaches m s t pos somewhere) (push_source_fine s t j source) (bad_destination (Some t) e bad))
     | inl (k, target) ↦
-        elim (decided_side j k) [ inl same ↦ inl (fine_push k t refl pos refl somewhere (subst (HasShape s) same source) target) | inr differ ↦ inr (PatternUnbalanced, unbalanced_push m s t j k pos somewhere source target differ) ]
+        let unbalanced = unbalanced_push m s t j k pos somewhere source target in
+        elim (decided_side j k) [ inl same ↦ inl (fine_push k t refl pos refl somewhere (subst (HasShape s) same source) target) | inr differ ↦ inr (PatternUnbalanced, unbalanced differ) ]
   ]
 ]
 

@@ -67,7 +67,8 @@ LeavesFault-as : (x y : List ℕ) → EndsAs x y → (e : Error) → LeavesFault
 LeavesFault-as x y ends h left = grind arith
 
 -- the bytes up to an index stay scanned with one that adds no fault, which isn't a star, or with the first star
-clean_more : (x : List ℕ) (i : ℕ) → i < length x → ((e : Error) → ¬ (AddsFault (with_letters (slash ∷ take i x)) (letter_for (get_or x i 0)) e)) → IsClean (with_letters (slash ∷ take i x)) → IsClean (with_letters (slash ∷ take (i + 1) x))
+clean_more : (x : List ℕ) (i : ℕ) → i < length x → ((e : Error) → ¬ (AddsFault (with_letters (slash ∷ take i x)) (letter_for (get_or x i 0)) e))
+    → IsClean (with_letters (slash ∷ take i x)) → IsClean (with_letters (slash ∷ take (i + 1) x))
 clean_more x i below none clean =
     let y = slash ∷ take i x in
     subst IsClean (sym (ap with_letters (one_more x i below) ∙ map-append letter_for y (get_or x i 0 ∷ []))) (IsClean-more (with_letters y) (letter_for (get_or x i 0)) clean none)

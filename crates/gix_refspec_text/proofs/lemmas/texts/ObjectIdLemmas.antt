@@ -30,7 +30,8 @@ decode_pairs-spelled n (a ∷ b ∷ t) (x ∷ i) twice spelled =
     decode_pairs-ok_pair n a b x t (rw (s.high_read, s.low_read) (ap Ok (let v = s.value in omega arith))) ∙ ap (cons_byte x) (decode_pairs-spelled (n + 2) t i (omega arith) (Spells-tail a b x t i spelled))
 decode_pairs-spelled n t i twice spelled = absurd (omega arith)
 
-pair_taken : (a b n : ℕ) (u v : Option ℕ) (q : Result (List ℕ) FromHexError) (i : List ℕ) → ((digit_or_error a n u >>= (λ (h : ℕ). digit_or_error b (n + 1) v >>= (λ (l : ℕ). Ok (h * 16 + l)))) >>= (λ (x : ℕ). q >>= (λ (r : List ℕ). Ok (x ∷ r)))) ≡ Ok i
+pair_taken : (a b n : ℕ) (u v : Option ℕ) (q : Result (List ℕ) FromHexError) (i : List ℕ)
+    → ((digit_or_error a n u >>= (λ (h : ℕ). digit_or_error b (n + 1) v >>= (λ (l : ℕ). Ok (h * 16 + l)))) >>= (λ (x : ℕ). q >>= (λ (r : List ℕ). Ok (x ∷ r)))) ≡ Ok i
     → (h : ℕ) × (l : ℕ) × (r : List ℕ) × (u ≡ Some h) × (v ≡ Some l) × (q ≡ Ok r) × (i ≡ (h * 16 + l) ∷ r)
 pair_taken a b n u v q i is = grind arith
 

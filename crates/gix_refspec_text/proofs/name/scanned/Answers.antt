@@ -15,7 +15,8 @@ scanned_to-requires-in-loop-index c =
     let run = c.calm_run.ensures in
     let room : c.min-from.result + 16 ≤ length x = omega arith in
     let end : c.max-calm.result ≤ c.min-from.result + 16 = omega (arith, run.1) in
-    let scanned = calm_scanned (c.max-calm.result - i) x i c.max-calm.result c.loop-index.starred (omega arith) c.loop-index.invariant.1 (omega (arith, end, room)) (λ k above below. run.0 k (omega (arith, above)) (omega (arith, above, below))) c.loop-index.invariant.0 in
+    let scanned = calm_scanned (c.max-calm.result - i) x i c.max-calm.result c.loop-index.starred (omega arith) c.loop-index.invariant.1 (omega (arith, end, room))
+    (λ k above below. run.0 k (omega (arith, above)) (omega (arith, above, below))) c.loop-index.invariant.0 in
     (end, room, scanned)
 
 pub returns : goal.returns
