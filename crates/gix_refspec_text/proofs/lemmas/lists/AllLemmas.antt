@@ -1,5 +1,5 @@
 -- Facts that hold for each element of a list.
-use Rattle.gix_refspec_text.proofs.Common.{List, [], ◌∷◌, ◌++◌, AllByRecursion}
+use Rattle.gix_refspec_text.proofs.Common.{[], List, ◌∷◌, ◌++◌, AllByRecursion}
 
 pub all_left : {X : Type 0} (P : X → Type 0) (xs ys : List X) → AllByRecursion P (xs ++ ys) → AllByRecursion P xs
 all_left P [] ys all = tt

@@ -1,5 +1,5 @@
 -- The first and the last occurrence of a byte.
-use Rattle.gix_refspec_text.proofs.Common.{◌≡◌, ◌⊎◌, inl, inr, ℕ, List, [], ◌∷◌, ◌++◌, refl, sym, ap, subst, AllByRecursion, Lacks, cases_eq}
+use Rattle.gix_refspec_text.proofs.Common.{[], ◌≡◌, ◌⊎◌, inl, inr, ℕ, List, ◌∷◌, ◌++◌, refl, sym, ap, subst, AllByRecursion, Lacks, cases_eq}
 
 pub Lacks-here : (b : ℕ) (front back : List ℕ) → Lacks b (front ++ (b ∷ back)) → ⊥
 Lacks-here b [] back lacks = lacks.0 refl
@@ -27,10 +27,7 @@ pub lacks_or_first : (b : ℕ) (x : List ℕ) → Lacks b x ⊎ FirstIndex b x
 lacks_or_first b [] = inl tt
 lacks_or_first b (c ∷ x) = elim (cases_eq c b) [
   | inl same ↦ inr (record { before = []; after = x; here = ap (λ d. d ∷ x) same; first = tt })
-  | inr other ↦ elim (lacks_or_first b x) [
-    | inl lacks ↦ inl (other, lacks)
-    | inr i ↦ inr (record { before = c ∷ i.before; after = i.after; here = ap (λ y. c ∷ y) i.here; first = (other, i.first) })
-  ]
+  | inr other ↦ elim (lacks_or_first b x) [ inl lacks ↦ inl (other, lacks) | inr i ↦ inr (record { before = c ∷ i.before; after = i.after; here = ap (λ y. c ∷ y) i.here; first = (other, i.first) }) ]
 ]
 
 pub last_once : (b : ℕ) (p q s t : List ℕ) → Lacks b s → Lacks b t → p ++ (b ∷ s) ≡ q ++ (b ∷ t) → (p ≡ q) × (s ≡ t)
@@ -41,19 +38,12 @@ last_once b (c ∷ p) (d ∷ q) s t lacks_s lacks_t same =
     let rest = last_once b p q s t lacks_s lacks_t (cc) in
     (cc rest.0, rest.1)
 
-pub record LastIndex (b : ℕ) (x : List ℕ) : Type 0 where
-  pub before : List ℕ
-  pub after : List ℕ
-  pub here : x ≡ before ++ (b ∷ after)
-  pub last : Lacks b after
+abbrev pub LastIndex : ℕ → List ℕ → Type 0
+LastIndex b x = (before : List ℕ) × (after : List ℕ) × (x ≡ before ++ (b ∷ after)) × Lacks b after
 
 pub lacks_or_last : (b : ℕ) (x : List ℕ) → Lacks b x ⊎ LastIndex b x
 lacks_or_last b [] = inl tt
-lacks_or_last b (c ∷ x) =
-    elim (lacks_or_last b x) [
-      | inl lacks ↦ elim (cases_eq c b) [
-        | inl same ↦ inr (record { before = []; after = x; here = ap (λ d. d ∷ x) same; last = lacks })
-        | inr other ↦ inl (other, lacks)
-      ]
-      | inr found ↦ inr (record { before = c ∷ found.before; after = found.after; here = ap (λ y. c ∷ y) found.here; last = found.last })
-    ]
+lacks_or_last b (c ∷ x) = elim (lacks_or_last b x) [
+  | inl lacks ↦ elim (cases_eq c b) [ inl same ↦ inr ([], x, ap (λ d. d ∷ x) same, lacks) | inr other ↦ inl (other, lacks) ]
+  | inr (before, after, here, last) ↦ inr (c ∷ before, after, ap (λ y. c ∷ y) here, last)
+]

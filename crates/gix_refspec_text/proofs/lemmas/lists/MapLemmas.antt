@@ -1,5 +1,5 @@
 -- Lists that a function is mapped over.
-use Rattle.gix_refspec_text.proofs.Common.{◌≡◌, ℕ, zero, suc, ◌+◌, ◌<◌, map, take, get_or, List, [], ◌∷◌, ◌++◌, length, sym, ap, ◌∙◌, subst, arith, AllByRecursion, map_more}
+use Rattle.gix_refspec_text.proofs.Common.{[], ◌≡◌, ℕ, zero, suc, ◌+◌, ◌<◌, map, take, get_or, List, ◌∷◌, ◌++◌, length, sym, ap, ◌∙◌, subst, arith, AllByRecursion, map_more}
 use Rattle.gix_refspec_text.proofs.lemmas.lists.AllLemmas.{all_join}
 
 pub map_next : {A B : Type 0} (f : A → B) (xs : List A) (i : ℕ) (x : A) → i < length xs → x ≡ get_or xs i x → map f (take (i + 1) xs) ≡ map f (take i xs) ++ f x ∷ []

@@ -1,39 +1,24 @@
 -- A text with valid parts has the reading with their sides, and each text with a reading has valid parts.
-use Rattle.gix_refspec_text.proofs.Common.{◌∙◌, arith, ◌≡◌, ◌≢◌, inl, inr, ℕ, List, [], ◌∷◌, Option, None, Some, option_map, unwrap_or, refl, sym, ap, subst, Empty, Operation, Push, Fetch, Shape}
-use Rattle.gix_refspec_text.proofs.Common.{Plain, Pattern, IsName, IsPattern, Mode, Normal, Forced, Negative, Reading, Refusal, Never, IsFirstReason, IsRefused, ReachesMemory, MayNeedMemory, named_by}
-use Rattle.gix_refspec_text.proofs.Common.{IsPositive, IsNameOrPattern, LooksLikeObjectHash, AreAlike, AreParts, fetched, pushed, Reads, fetches_nothing_named, fetches_colon, fetches, updates}
-use Rattle.gix_refspec_text.proofs.Common.{updates_from_head, fetch_excludes, pushes_plus, pushes_colon, pushes, deletes, pushes_pattern, pushes_to, push_excludes, mode_of, IsErrorOf, HasShape}
-use Rattle.gix_refspec_text.proofs.Common.{HasCheckedShape, side_of, named_or_head, destination_of, HasParts, IsReasonAgainst, bstr_bytes, NoReasonBeforeSource, HasBadSource, HasBadDestination}
-use Rattle.gix_refspec_text.proofs.Common.{IsUnbalanced, ExcludesNothing, ExcludesObject}
-use Rattle.gix_refspec_text.specs.Private.Sides.{AreSidesOf}
-use Rattle.gix_refspec_text.specs.declared.parsing.Error.{Error}
-use Rattle.gix_refspec_text.specs.declared.parsing.reading.Parts.{Parts}
-use Rattle.gix_refspec_text.specs.declared.parsing.reading.Sides.{Sides}
-use Rattle.gix_refspec_text.proofs.lemmas.parsing.SideLemmas.{Never-or, checked_starred, empty_no_pattern}
-use Rattle.gix_refspec_text.proofs.lemmas.parsing.PartsLemmas.{Parted, parts_once}
-use Rattle.gix_refspec_text.proofs.lemmas.parsing.ReasonLemmas.{MemoryOr-map, positive, fetch_reaches, push_reaches, push_alone_reaches, negative_reaches, fetch_source_fine, push_source_fine}
-use Rattle.gix_refspec_text.proofs.lemmas.parsing.ReasonLemmas.{alone_fine, destination_fine, sides_balanced}
-
-pub same_reading : (op : Operation) (m : Mode) (s t d e : Option (List ℕ)) → s ≡ t → d ≡ e → ◌≡◌ {A = Reading} (record { operation = op; mode = m; source = s; destination = d }) (record { operation = op; mode = m; source = t; destination = e })
-same_reading op m s t d e same_source same_destination = cc
+use Rattle.gix_refspec_text.proofs.Common.{[], arith, ◌≡◌, ◌≢◌, inl, inr, ℕ, List, ◌∷◌, Option, None, Some, option_map, unwrap_or, refl, ap, subst, Empty, Operation, Push, Fetch, Shape, Plain}
+use Rattle.gix_refspec_text.proofs.Common.{Pattern, IsName, IsPattern, Mode, Normal, Forced, Negative, Reading, Refusal, Never, IsFirstReason, IsRefused, MayNeedMemory, named_by, IsPositive}
+use Rattle.gix_refspec_text.proofs.Common.{IsNameOrPattern, LooksLikeObjectHash, AreAlike, AreParts, fetched, pushed, Reads, fetches_nothing_named, fetches_colon, fetches, updates, updates_from_head}
+use Rattle.gix_refspec_text.proofs.Common.{fetch_excludes, pushes_plus, pushes_colon, pushes, deletes, pushes_pattern, pushes_to, push_excludes, mode_of, IsErrorOf, HasShape, HasCheckedShape, side_of}
+use Rattle.gix_refspec_text.proofs.{Common.{named_or_head, destination_of, HasParts, IsReasonAgainst, bstr_bytes}, lemmas.parsing.SideLemmas.{checked_starred, empty_no_pattern}}
+use Rattle.gix_refspec_text.proofs.lemmas.parsing.{PartsLemmas.parts_once, ReasonLemmas.{MemoryOr-map, fetch_source_fine, push_source_fine, alone_fine, destination_fine, sides_balanced}}
+use Rattle.gix_refspec_text.specs.{Private.Sides.AreSidesOf, declared.parsing.Error.Error, declared.parsing.reading.Parts.Parts, declared.parsing.reading.Sides.Sides}
 
 pub side_of-named : (b : ℕ) (bs : List ℕ) → side_of (named_by (b ∷ bs)) ≡ Some (named_by (b ∷ bs))
 side_of-named b bs = grind arith
-
-pub side_of-named_or_head : (s : List ℕ) → side_of (named_or_head s) ≡ Some (named_or_head s)
-side_of-named_or_head s = grind (arith, side_of-named)
 
 pub fetch_reads : (m : Mode) (s : List ℕ) (d : Option (List ℕ)) (k : Shape) (text : List ℕ) → IsPositive m → HasCheckedShape s k → HasCheckedShape (unwrap_or d []) k → AreParts m s d text → Reads Fetch text (fetched m (named_or_head s) (side_of (unwrap_or d [])))
 fetch_reads m [] None k text pos a b parts = fetches_nothing_named m refl pos parts refl
 fetch_reads m [] (Some []) k text pos a b parts = fetches_colon m refl pos parts refl
 fetch_reads m [] (Some (c ∷ cs)) Plain text pos a b parts = updates_from_head m (c ∷ cs) refl pos parts b refl
-fetch_reads m [] (Some (c ∷ cs)) Pattern text pos a b parts = absurd (empty_no_pattern a)
 fetch_reads m (x ∷ xs) None Plain text pos a b parts = fetches m (x ∷ xs) refl pos (inl parts) a refl
-fetch_reads m (x ∷ xs) None Pattern text pos a b parts = absurd (empty_no_pattern b)
 fetch_reads m (x ∷ xs) (Some []) Plain text pos a b parts = fetches m (x ∷ xs) refl pos (inr parts) a refl
-fetch_reads m (x ∷ xs) (Some []) Pattern text pos a b parts = absurd (empty_no_pattern b)
 fetch_reads m (x ∷ xs) (Some (c ∷ cs)) Plain text pos a b parts = updates m (x ∷ xs) (c ∷ cs) refl pos parts (inl (a, b)) refl
 fetch_reads m (x ∷ xs) (Some (c ∷ cs)) Pattern text pos a b parts = updates m (x ∷ xs) (c ∷ cs) refl pos parts (inr (a, b)) refl
+fetch_reads m s d k text pos a b parts = absurd (search empty_no_pattern)
 
 checked_name_or_pattern : (b : ℕ) (bs : List ℕ) (k : Shape) → HasCheckedShape (b ∷ bs) k → IsNameOrPattern (b ∷ bs)
 checked_name_or_pattern b bs k fine = grind arith
@@ -74,7 +59,7 @@ abbrev pub made : Operation → Mode → List ℕ → Option (List ℕ) → Read
 made op m s d = record { operation = op; mode = m; source = source_of op s; destination = side_of (unwrap_or d []) }
 
 pub source_named : (op : Operation) (s : List ℕ) → s ≢ [] → source_of op s ≡ side_of (named_by s)
-source_named op s full = grind (arith, side_of-named)
+source_named op s full = grind arith
 
 pub fine_reads : (op : Operation) (m : Mode) (s : List ℕ) (d : Option (List ℕ)) (text : List ℕ)
     → AreFine op m s d → AreParts m s d text → Reads op text (made op m s d)
@@ -87,8 +72,7 @@ fine_reads op m s d x (fine_negative k minus none full a hash) p =
 pub sides_read : (p : Parts) (sides : Sides) → AreFine p.operation (mode_of p.mode) p.source.now (destination_of p)
     → option_map bstr_bytes sides.source ≡ source_of p.operation p.source.now
     → option_map bstr_bytes sides.destination ≡ side_of (unwrap_or (destination_of p) []) → AreSidesOf p sides
-sides_read p sides fine source destination text parts =
-    rw (source, destination) (fine_reads p.operation (mode_of p.mode) p.source.now (destination_of p) text fine parts)
+sides_read p sides fine source destination text parts = rw (source, destination) (fine_reads p.operation (mode_of p.mode) p.source.now (destination_of p) text fine parts)
 
 pub checked_name : (x : List ℕ) → IsName x → HasCheckedShape x Plain
 checked_name x name = grind arith
@@ -97,7 +81,7 @@ checked_from_pattern : (x : List ℕ) → IsPattern x → HasCheckedShape x Patt
 checked_from_pattern x pattern = grind arith
 
 checked_either : (x : List ℕ) → IsNameOrPattern x → (k : Shape) × HasCheckedShape x k
-checked_either x k = grind (arith, checked_name, checked_from_pattern)
+checked_either x either = grind arith
 
 pub name_not_empty : (x : List ℕ) → IsName x → x ≢ []
 name_not_empty x name empty = name Empty empty
@@ -113,111 +97,65 @@ pub alike_full : (s d : List ℕ) → AreAlike s d → (s ≢ []) × (d ≢ [])
 alike_full s d (inl names) = (name_not_empty s names.0, name_not_empty d names.1)
 alike_full s d (inr patterns) = (pattern_not_empty s patterns.0, pattern_not_empty d patterns.1)
 
--- a text with its parts, which are valid and make the reading r
-pub record FineParts (op : Operation) (text : List ℕ) (r : Reading) : Type 0 where
-  pub of : Parted text
-  pub fine : AreFine op of.mode of.source of.destination
-  pub is : r ≡ made op of.mode of.source of.destination
-
-with_fine : (op o : Operation) (m : Mode) (s : List ℕ) (d : Option (List ℕ)) (text : List ℕ) (r : Reading)
-    → op ≡ o → r ≡ made o m s d → AreParts m s d text → AreFine op m s d → FineParts op text r
-with_fine op o m s d text r same is parts fine =
-    let of : Parted text = record { mode = m; source = s; destination = d; parts = parts } in
-    record { of = of; fine = fine; is = is ∙ sym (ap (λ (x : Operation). made x m s d) same) }
-
-source_full : (op : Operation) (s : List ℕ) → s ≢ [] → source_of op s ≡ Some (named_by s)
-source_full op s full = grind (arith, side_of-named)
-
-pub side_of-full : (s : List ℕ) → s ≢ [] → side_of s ≡ Some s
-side_of-full s full = grind arith
-
--- readings with a source, and with a destination, as parts make them
-named_made : (o : Operation) (m : Mode) (s : List ℕ) (t : Option (List ℕ)) (r : Reading) → s ≢ []
-    → r ≡ record { operation = o; mode = m; source = Some (named_by s); destination = t }
-    → r ≡ record { operation = o; mode = m; source = source_of o s; destination = t }
-named_made o m s t r full is = is ∙ same_reading o m _ _ t t (sym (source_full o s full)) refl
-
-aimed_made : (o : Operation) (m : Mode) (s : Option (List ℕ)) (d : List ℕ) (r : Reading) → d ≢ []
-    → r ≡ record { operation = o; mode = m; source = s; destination = Some d }
-    → r ≡ record { operation = o; mode = m; source = s; destination = side_of d }
-aimed_made o m s d r full is = is ∙ same_reading o m s s _ _ refl (sym (side_of-full d full))
-
 alike_fine : (op : Operation) (m : Mode) (s d : List ℕ) → op ≡ Fetch → IsPositive m → AreAlike s d → AreFine op m s (Some d)
 alike_fine op m s d fetch pos (inl names) = fine_fetch Plain fetch pos (checked_name s names.0) (checked_name d names.1)
 alike_fine op m s d fetch pos (inr patterns) = fine_fetch Pattern fetch pos (checked_from_pattern s patterns.0) (checked_from_pattern d patterns.1)
 
-negative_fine : (op o : Operation) (s text : List ℕ) (r : Reading) → op ≡ o → AreParts Negative s None text → IsNameOrPattern s
-    → ¬ (LooksLikeObjectHash s) → r ≡ record { operation = o; mode = Negative; source = Some (named_by s); destination = None }
-    → FineParts op text r
-negative_fine op o s text r same parts either hash is =
-    let side = checked_either s either in
-    let full = either_not_empty s either in
-    with_fine op o Negative s None text r same (named_made o Negative s None r full is) parts
-    (fine_negative side.0 refl refl full side.1 hash)
+-- a text with its parts, which are valid and make the reading r
+abbrev pub FineParts : Operation → List ℕ → Reading → Type 0
+FineParts op text r = (m : Mode) × (s : List ℕ) × (d : Option (List ℕ)) × AreParts m s d text × AreFine op m s d × (r ≡ made op m s d)
+
+source_full : (op : Operation) (s : List ℕ) → s ≢ [] → source_of op s ≡ Some (named_by s)
+source_full op s full = grind arith
+
+pub side_of-full : (s : List ℕ) → s ≢ [] → side_of s ≡ Some s
+side_of-full s full = grind arith
 
 pub fine_parts : (op : Operation) (text : List ℕ) (r : Reading) → Reads op text r → FineParts op text r
-fine_parts op x r (fetches_nothing_named m f pos p is) = with_fine op Fetch m [] None x r f is p (fine_fetch Plain f pos tt tt)
-fine_parts op x r (fetches_colon m f pos p is) = with_fine op Fetch m [] (Some []) x r f is p (fine_fetch Plain f pos tt tt)
-fine_parts op x r (fetches m s f pos (inl p) name is) =
-    let same = named_made Fetch m s None r (name_not_empty s name) is in
-    with_fine op Fetch m s None x r f same p (fine_fetch Plain f pos (checked_name s name) tt)
-fine_parts op x r (fetches m s f pos (inr p) name is) =
-    let same = named_made Fetch m s None r (name_not_empty s name) is in
-    with_fine op Fetch m s (Some []) x r f same p (fine_fetch Plain f pos (checked_name s name) tt)
+fine_parts op x r (fetches_nothing_named m f pos p is) = (m, [], None, p, fine_fetch Plain f pos tt tt, rw f is)
+fine_parts op x r (fetches_colon m f pos p is) = (m, [], Some [], p, fine_fetch Plain f pos tt tt, rw f is)
+fine_parts op x r (fetches m s f pos (inl p) name is) = (m, s, None, p, fine_fetch Plain f pos (checked_name s name) tt, rw (source_full op s (name_not_empty s name), f) is)
+fine_parts op x r (fetches m s f pos (inr p) name is) = (m, s, Some [], p, fine_fetch Plain f pos (checked_name s name) tt, rw (source_full op s (name_not_empty s name), f) is)
 fine_parts op x r (updates m s d f pos p alike is) =
     let full = alike_full s d alike in
-    let same = aimed_made Fetch m _ d r full.1 (named_made Fetch m s (Some d) r full.0 is) in
-    with_fine op Fetch m s (Some d) x r f same p (alike_fine op m s d f pos alike)
-fine_parts op x r (updates_from_head m d f pos p name is) =
-    let same = aimed_made Fetch m _ d r (name_not_empty d name) is in
-    with_fine op Fetch m [] (Some d) x r f same p (fine_fetch Plain f pos tt (checked_name d name))
-fine_parts op x r (fetch_excludes s f p either hash is) = negative_fine op Fetch s x r f p either hash is
-fine_parts op x r (pushes_plus f p is) = with_fine op Push Forced [] None x r f is p (fine_alone Plain f tt refl (λ _ forced. cc) tt)
-fine_parts op x r (pushes_colon m f pos p is) =
-    with_fine op Push m [] (Some []) x r f is p (fine_push Plain [] f pos refl (λ full _. full refl) tt tt)
-fine_parts op x r (pushes m s f pos p either is) =
-    let side = checked_either s either in
+    (m, s, Some d, p, alike_fine op m s d f pos alike, rw (source_full op s full.0, side_of-full d full.1, f) is)
+fine_parts op x r (updates_from_head m d f pos p name is) = (m, [], Some d, p, fine_fetch Plain f pos tt (checked_name d name), rw (side_of-full d (name_not_empty d name), f) is)
+fine_parts op x r (fetch_excludes s f p either hash is) =
     let full = either_not_empty s either in
-    with_fine op Push m s None x r f (named_made Push m s None r full is) p (fine_alone side.0 f pos refl (λ empty _. full empty) side.1)
+    let side = checked_either s either in
+    (Negative, s, None, p, fine_negative side.0 refl refl full side.1 hash, rw (source_full op s full, f) is)
+fine_parts op x r (pushes_plus f p is) = (Forced, [], None, p, fine_alone Plain f tt refl (λ _ forced. cc) tt, rw f is)
+fine_parts op x r (pushes_colon m f pos p is) = (m, [], Some [], p, fine_push Plain [] f pos refl (λ full _. full refl) tt tt, rw f is)
+fine_parts op x r (pushes m s f pos p either is) =
+    let full = either_not_empty s either in
+    let side = checked_either s either in
+    (m, s, None, p, fine_alone side.0 f pos refl (λ empty _. full empty) side.1, rw (source_full op s full, f) is)
 fine_parts op x r (deletes m d f pos p name is) =
-    let same = aimed_made Push m None d r (name_not_empty d name) is in
-    with_fine op Push m [] (Some d) x r f same p (fine_push Plain d f pos refl (λ full _. full refl) tt (checked_name d name))
+    (m, [], Some d, p, fine_push Plain d f pos refl (λ full _. full refl) tt (checked_name d name), rw (side_of-full d (name_not_empty d name), f) is)
 fine_parts op x r (pushes_pattern m s d f pos p of_s of_d is) =
     let full = pattern_not_empty d of_d in
-    let same = aimed_made Push m _ d r full (named_made Push m s (Some d) r (pattern_not_empty s of_s) is) in
-    with_fine op Push m s (Some d) x r f same p (fine_push Pattern d f pos refl (λ _ empty. full empty) of_s (checked_from_pattern d of_d))
+    (m, s, Some d, p, fine_push Pattern d f pos refl (λ _ empty. full empty) of_s (checked_from_pattern d of_d), rw (source_full op s (pattern_not_empty s of_s), side_of-full d full, f) is)
 fine_parts op x r (pushes_to m s d f pos p some plain name is) =
     let full = name_not_empty d name in
-    let same = aimed_made Push m _ d r full (named_made Push m s (Some d) r some is) in
-    with_fine op Push m s (Some d) x r f same p (fine_push Plain d f pos refl (λ _ empty. full empty) plain (checked_name d name))
-fine_parts op x r (push_excludes s f p either hash is) = negative_fine op Push s x r f p either hash is
-
-none_first : (op : Operation) (m : Mode) (s : List ℕ) (d : Option (List ℕ)) → NoReasonBeforeSource op m s d → Never (HasBadSource op s d) → Never (HasBadDestination d) → Never (IsUnbalanced op m s d) → Never (ExcludesNothing m s)
-    → Never (ExcludesObject m s) → Never (IsFirstReason op m s d)
-none_first op m s d before source destination balance nothing object =
-    Never-or before.0 (Never-or before.1 (Never-or before.2 (Never-or source (Never-or destination (Never-or balance (Never-or nothing object))))))
+    (m, s, Some d, p, fine_push Plain d f pos refl (λ _ empty. full empty) plain (checked_name d name), rw (source_full op s some, side_of-full d full, f) is)
+fine_parts op x r (push_excludes s f p either hash is) =
+    let full = either_not_empty s either in
+    let side = checked_either s either in
+    (Negative, s, None, p, fine_negative side.0 refl refl full side.1 hash, rw (source_full op s full, f) is)
 
 pub no_reason : (op : Operation) (m : Mode) (s : List ℕ) (d : Option (List ℕ)) → AreFine op m s d → Never (IsFirstReason op m s d)
-no_reason op m s d h e =
-    grind (arith, none_first, fetch_reaches, fetch_source_fine, destination_fine, sides_balanced, checked_starred, positive, push_alone_reaches, alone_fine, push_reaches, push_source_fine, negative_reaches)
-
-pub unread : (op : Operation) (m : Mode) (s : List ℕ) (d : Option (List ℕ)) (text : List ℕ) (e : Refusal) (r : Reading) → AreParts m s d text → IsFirstReason op m s d e → ¬ (Reads op text r)
-unread op m s d text e r parts first reads =
-    let fine = fine_parts op text r reads in
-    let p = fine.of in
-    let same = parts_once m p.mode s p.source d p.destination text parts p.parts in
-    no_reason op p.mode p.source p.destination fine.fine e (rw (same.mode, same.source, same.destination) at first)
+no_reason op m s d h e = grind (arith, destination_fine, sides_balanced, checked_starred, alone_fine, push_source_fine, fetch_source_fine)
 
 pub refused : (op : Operation) (m : Mode) (s : List ℕ) (d : Option (List ℕ)) (text : List ℕ) (e : Refusal) → AreParts m s d text → IsFirstReason op m s d e → IsRefused op text e
-refused op m s d text e parts first = record { unread = λ r. unread op m s d text e r parts first; mode = m; source = s; destination = d; parts = parts; first = first }
+refused op m s d text e parts first =
+    let unread = λ (r : Reading) (reads : Reads op text r).
+    let (n, t, g, again, fine, is) = fine_parts op text r reads in
+    let same = parts_once m n s t d g text parts again in
+    no_reason op n t g fine e (rw (same.mode, same.source, same.destination) at first) in
+    record { unread = unread; mode = m; source = s; destination = d; parts = parts; first = first }
 
 pub error_of_text : (p : Parts) (bytes text : List ℕ) (e : Error) → bytes ≡ text → HasParts bytes p → IsReasonAgainst p e → IsErrorOf p.operation text e
-error_of_text p bytes text e same split =
+error_of_text p bytes text e same split told =
     let parts = subst (λ (x : List ℕ). HasParts x p) same split in
-    let op = p.operation in
-    let m = mode_of p.mode in
-    let s = p.source.now in
-    let d = destination_of p in
-    MemoryOr-map (ReachesMemory op m s d) (MayNeedMemory op text) (IsFirstReason op m s d) (IsRefused op text) e
-    (λ reaches. record { mode = m; source = s; destination = d; parts = parts; reaches = reaches })
-    (λ f first. refused op m s d text f parts first)
+    MemoryOr-map _ (MayNeedMemory p.operation text) _ (IsRefused p.operation text) e
+    (λ reaches. record { mode = mode_of p.mode; source = p.source.now; destination = destination_of p; parts = parts; reaches = reaches }) (λ f first. refused p.operation _ _ _ text f parts first) told

@@ -1,43 +1,28 @@
 -- The first reason that applies to parts, and that none applies to valid ones.
-use Rattle.gix_refspec_text.proofs.Common.{arith, ◌≡◌, ◌≢◌, inl, inr, ℕ, List, [], Option, None, Some, unwrap_or, refl, subst, Operation, Push, Fetch, Shape, HasStar, star, Mode, Normal, Negative}
-use Rattle.gix_refspec_text.proofs.Common.{Refusal, PatternUnbalanced, NegativeEmpty, NegativeObjectHash, IsBadPattern, HasNegativeDestination, HasBadSource, HasBadDestination, IsUnbalanced}
-use Rattle.gix_refspec_text.proofs.Common.{IsOneStarred, Never, IsFirstReason, NeedsMemory, NoReasonBeforeSource, ReachesMemory, IsPositive, LooksLikeObjectHash, MemoryOr, HasShape, HasCheckedShape}
-use Rattle.gix_refspec_text.proofs.Common.{IsBadSide, IsReason, ShowsRefusal}
+use Rattle.gix_refspec_text.proofs.Common.{[], arith, ◌≡◌, ◌≢◌, inl, inr, ℕ, List, Option, None, Some, unwrap_or, refl, subst, Operation, Push, Fetch, Shape, HasStar, star, Mode, Normal, Negative}
+use Rattle.gix_refspec_text.proofs.Common.{Refusal, PatternUnbalanced, NegativeEmpty, NegativeObjectHash, HasNegativeDestination, HasBadSource, HasBadDestination, IsUnbalanced, IsOneStarred, Never}
+use Rattle.gix_refspec_text.proofs.Common.{IsFirstReason, NeedsMemory, NoReasonBeforeSource, ReachesMemory, IsPositive, LooksLikeObjectHash, MemoryOr, HasShape, HasCheckedShape, IsBadSide, IsReason}
+use Rattle.gix_refspec_text.proofs.lemmas.{parsing.SideLemmas.{plain_fine, pattern_fine, checked_fine, checked_starred}, texts.TextLemmas.Lacks-ContainsText}
 use Rattle.gix_refspec_text.specs.declared.parsing.Error.{Error}
-use Rattle.gix_refspec_text.specs.declared.parsing.Error.TheVariants as error
-use Rattle.gix_refspec_text.proofs.lemmas.texts.TextLemmas.{Lacks-ContainsText}
-use Rattle.gix_refspec_text.proofs.lemmas.parsing.SideLemmas.{checked_fine, starred_fine, checked_starred, HasStar-pattern, HasStar-bad}
-
-pub shows_refusal : (M : Type 0) (P : Refusal → Type 0) (e : Error) → MemoryOr M P e → e ≢ error.Memory → ShowsRefusal P e
-shows_refusal M P e told other = grind arith
-
-pub needs_memory : (M : Type 0) (P : Refusal → Type 0) (e : Error) → MemoryOr M P e → e ≡ error.Memory → M
-needs_memory M P e told same = subst (MemoryOr M P) same told
 
 -- an error that is `Memory` or satisfies P may be weakened to other conditions that follow
 pub MemoryOr-map : (M N : Type 0) (P Q : Refusal → Type 0) (e : Error) → (M → N) → ((f : Refusal) → P f → Q f) → MemoryOr M P e → MemoryOr N Q e
 MemoryOr-map M N P Q e m p h = grind arith
 
-pub positive : (m : Mode) → IsPositive m → m ≡ Negative → ⊥
-positive m pos same = subst IsPositive same pos
-
 pub no_negative : (m : Mode) (d : Option (List ℕ)) → IsPositive m → Never (HasNegativeDestination m d)
-no_negative m d pos e h = grind (arith, positive)
+no_negative m d pos e h = grind arith
 
 pub fetch_reaches : (m : Mode) (s : List ℕ) (d : Option (List ℕ)) → IsPositive m → NoReasonBeforeSource Fetch m s d
-fetch_reaches m s d pos = grind (arith, positive)
+fetch_reaches m s d pos = grind arith
 
 pub push_reaches : (m : Mode) (s t : List ℕ) → IsPositive m → (s ≢ [] → t ≡ [] → ⊥) → NoReasonBeforeSource Push m s (Some t)
-push_reaches m s t pos somewhere = grind (arith, positive)
+push_reaches m s t pos somewhere = grind arith
 
 pub starred_not_empty : (t : List ℕ) → HasStar t → t ≢ []
 starred_not_empty t has empty = Lacks-ContainsText star [] tt (subst HasStar empty has)
 
-pub bad_source_of_push : (s t : List ℕ) (f : Refusal) → IsBadPattern s f → HasBadSource Push s (Some t) f
-bad_source_of_push s t f bad = record { source = starred_not_empty s (HasStar-bad s f bad); refusal = bad }
-
 pub push_alone_reaches : (m : Mode) (s : List ℕ) → IsPositive m → (s ≡ [] → m ≡ Normal → ⊥) → NoReasonBeforeSource Push m s None
-push_alone_reaches m s pos full = grind (arith, positive)
+push_alone_reaches m s pos full = grind arith
 
 pub reason_at_source : (op : Operation) (m : Mode) (s : List ℕ) (d : Option (List ℕ)) (e : Refusal) → NoReasonBeforeSource op m s d → HasBadSource op s d e → IsFirstReason op m s d e
 reason_at_source op m s d e before bad = inr (before.0, inr (before.1, inr (before.2, inl bad)))
@@ -53,7 +38,7 @@ pub fetch_source_fine : (s : List ℕ) (d : Option (List ℕ)) (k : Shape) → H
 fetch_source_fine s d k fine e bad = checked_fine s k fine e (bad.source, bad.refusal)
 
 pub push_source_fine : (s d : List ℕ) (k : Shape) → HasShape s k → Never (HasBadSource Push s (Some d))
-push_source_fine s d k fine e bad = starred_fine s k fine e bad.refusal
+push_source_fine s d k fine e bad = let refusal = bad.refusal in grind (arith, plain_fine, pattern_fine)
 
 pub alone_fine : (op : Operation) (s : List ℕ) (k : Shape) → HasCheckedShape s k → Never (HasBadSource op s None)
 alone_fine op s k fine e bad = grind (arith, checked_fine)
@@ -62,10 +47,10 @@ pub destination_fine : (d : Option (List ℕ)) (k : Shape) → HasCheckedShape (
 destination_fine d k fine e bad = checked_fine bad.word k (rw bad.is at fine) e (bad.destination, bad.refusal)
 
 pub sides_balanced : (s t : List ℕ) (k : Shape) → HasShape s k → HasShape t k → IsOneStarred s t → ⊥
-sides_balanced s t k a b h = grind (arith, Lacks-ContainsText, HasStar-pattern)
+sides_balanced s t k a b h = grind (arith, Lacks-ContainsText)
 
 pub sides_unbalanced : (s t : List ℕ) (j k : Shape) → HasShape s j → HasShape t k → j ≢ k → IsOneStarred s t
-sides_unbalanced s t j k a b differ = grind (arith, HasStar-pattern)
+sides_unbalanced s t j k a b differ = grind arith
 
 pub unbalanced_somewhere : (s t : List ℕ) → IsOneStarred s t → (s ≢ [] → t ≡ [] → ⊥) → t ≢ []
 unbalanced_somewhere s t (inl h) somewhere empty = somewhere (starred_not_empty s h.0) empty
@@ -83,22 +68,16 @@ memory_at_destination op m s None before source needs = absurd (empty_needs_none
 memory_at_destination op m s (Some d) before source needs = (before, inr (source, needs))
 
 pub error_at_destination : (op : Operation) (m : Mode) (s : List ℕ) (d : Option (List ℕ)) (e : Error) → NoReasonBeforeSource op m s d → Never (HasBadSource op s d) → MemoryOr (NeedsMemory (unwrap_or d [])) (IsBadSide (unwrap_or d [])) e → IsReason op m s d e
-error_at_destination op m s d e before source =
-    MemoryOr-map (NeedsMemory (unwrap_or d [])) (ReachesMemory op m s d) (IsBadSide (unwrap_or d [])) (IsFirstReason op m s d) e (memory_at_destination op m s d before source)
-    (λ f h. reason_at_destination op m s d f before source (bad_destination d f h))
+error_at_destination op m s d e before source told = grind (arith, MemoryOr-map, memory_at_destination, reason_at_destination, bad_destination)
 
 pub negative_reaches : (op : Operation) (s : List ℕ) → NoReasonBeforeSource op Negative s None
 negative_reaches op s = grind arith
 
 pub reason_against_object : (op : Operation) (s : List ℕ) (k : Shape) → s ≢ [] → HasCheckedShape s k → LooksLikeObjectHash s → IsFirstReason op Negative s None NegativeObjectHash
-reason_against_object op s k full a hash =
-    let before = negative_reaches op s in
-    inr (before.0, inr (before.1, inr (before.2, inr (alone_fine op s k a, inr (λ e h. let i = h.is in absurd (cc), inr (λ e h. h.positive, inr (λ e h. full h.no_source, record { negative = refl; hash = hash; refusal = refl })))))))
+reason_against_object op s k full a hash = grind (arith, alone_fine)
 
 pub reason_against_nothing : (op : Operation) (s : List ℕ) (k : Shape) → s ≡ [] → HasCheckedShape s k → IsFirstReason op Negative s None NegativeEmpty
-reason_against_nothing op s k empty a =
-    let before = negative_reaches op s in
-    inr (before.0, inr (before.1, inr (before.2, inr (alone_fine op s k a, inr (λ e h. let i = h.is in absurd (cc), inr (λ e h. h.positive, inl (record { negative = refl; no_source = empty; refusal = refl })))))))
+reason_against_nothing op s k empty a = grind (arith, alone_fine)
 
 pub bad_negative : (op : Operation) (s : List ℕ) (e : Refusal) → IsBadSide s e → HasBadSource op s None e
 bad_negative op s e bad = grind arith

@@ -1,33 +1,24 @@
 -- A text is refused for only one reason, apart from which fault of a name it holds.
-use Rattle.gix_refspec_text.proofs.Common.{arith, ◌≡◌, ◌⊎◌, inl, inr, ℕ, List, Option, refl, sym, ap, ◌∙◌, subst, Operation, star, Mode, Refusal, PatternUnsupported, ReferenceName, IsBadName}
-use Rattle.gix_refspec_text.proofs.Common.{IsBadPattern, IsBadSourceFor, HasBadDestination, OrElse, IsFirstReason, IsSameReason, OneRefusal, same_Some}
-use Rattle.gix_refspec_text.proofs.lemmas.texts.TextLemmas.{Lacks-ContainsText}
-use Rattle.gix_refspec_text.proofs.lemmas.parsing.SideLemmas.{bad_name, HasStar-bad, HasSeveralStars-replaced}
-use Rattle.gix_refspec_text.proofs.lemmas.parsing.PartsLemmas.{parts_once}
+use Rattle.gix_refspec_text.proofs.Common.{arith, ◌⊎◌, inl, ℕ, List, Option, sym, ◌∙◌, Operation, star, Mode, Refusal, PatternUnsupported, ReferenceName, IsBadName, IsBadPattern, IsBadSourceFor}
+use Rattle.gix_refspec_text.proofs.{Common.{HasBadDestination, OrElse, IsFirstReason, IsSameReason, OneRefusal, same_Some}, lemmas.texts.TextLemmas.Lacks-ContainsText}
+use Rattle.gix_refspec_text.proofs.lemmas.parsing.{SideLemmas.{HasStar-bad, HasSeveralStars-replaced}, PartsLemmas.parts_once}
 
 abbrev Agree : (Refusal → Type 0) → Type 0
 Agree P = (e f : Refusal) → P e → P f → IsSameReason e f
 
 Agree-or : {P Q : Refusal → Type 0} → Agree P → Agree Q → Agree (OrElse P Q)
-Agree-or p q e f (inl a) (inl b) = p e f a b
-Agree-or p q e f (inl a) (inr b) = absurd (b.0 e a)
-Agree-or p q e f (inr a) (inl b) = absurd (a.0 f b)
-Agree-or p q e f (inr a) (inr b) = q e f a.1 b.1
+Agree-or p q e f h k = grind (arith, p e f, q e f)
 
 Agree-pattern : (x : List ℕ) → Agree (IsBadPattern x)
-Agree-pattern x (PatternUnsupported p) (PatternUnsupported q) a b = inl (ap PatternUnsupported (a.1 ∙ sym b.1))
 Agree-pattern x (PatternUnsupported p) (ReferenceName g) a b = absurd (HasSeveralStars-replaced x b.0 b.1 a.0)
 Agree-pattern x (ReferenceName f) (PatternUnsupported q) a b = absurd (HasSeveralStars-replaced x a.0 a.1 b.0)
-Agree-pattern x (ReferenceName f) (ReferenceName g) a b = inr (f, g, refl, refl)
-Agree-pattern x (PatternUnsupported p) _ a b = absurd b
-Agree-pattern x (ReferenceName f) _ a b = absurd b
-Agree-pattern x _ f a b = absurd a
+Agree-pattern x e f a b = grind arith
 
 Agree-name : (x : List ℕ) → Agree (IsBadName x)
 Agree-name x h f a b = grind arith
 
 name_no_pattern : (x : List ℕ) (e f : Refusal) → IsBadName x e → IsBadPattern x f → ⊥
-name_no_pattern x e f name pattern = Lacks-ContainsText star x (bad_name x e name).0 (HasStar-bad x f pattern)
+name_no_pattern x e f name pattern = Lacks-ContainsText star x (grind arith) (HasStar-bad x f pattern)
 
 Agree-side : (x : List ℕ) → Agree (λ e. IsBadName x e ⊎ IsBadPattern x e)
 Agree-side x e f h h2 = grind (arith, Agree-name, name_no_pattern, Agree-pattern)
@@ -36,20 +27,13 @@ Agree-source : (op : Operation) (d : Option (List ℕ)) (s : List ℕ) → Agree
 Agree-source op d s = grind (arith, Agree-side, Agree-pattern)
 
 Agree-destination : (d : Option (List ℕ)) → Agree (HasBadDestination d)
-Agree-destination d e f a b =
-    let word : b.word ≡ a.word = same_Some b.word a.word (sym b.is ∙ a.is) in
-    Agree-side a.word e f a.refusal (subst (λ (x : List ℕ). IsBadName x f ⊎ IsBadPattern x f) word b.refusal)
+Agree-destination d e f a b = grind (arith, same_Some, Agree-side)
 
 pub Agree-first : (op : Operation) (mode : Mode) (s : List ℕ) (d : Option (List ℕ)) → Agree (IsFirstReason op mode s d)
 Agree-first op mode s d =
-    Agree-or (λ e f a b. inl (a.refusal ∙ sym b.refusal))
-    (Agree-or (λ e f a b. inl (a.refusal ∙ sym b.refusal))
-    (Agree-or (λ e f a b. inl (a.refusal ∙ sym b.refusal))
-    (Agree-or (λ e f a b. Agree-source op d s e f a.refusal b.refusal)
-    (Agree-or (Agree-destination d)
-    (Agree-or (λ e f a b. inl (a.refusal ∙ sym b.refusal))
-    (Agree-or (λ e f a b. inl (a.refusal ∙ sym b.refusal))
-    (λ e f a b. inl (a.refusal ∙ sym b.refusal))))))))
+    Agree-or (λ e f a b. inl (a.refusal ∙ sym b.refusal)) (Agree-or (λ e f a b. inl (a.refusal ∙ sym b.refusal)) (Agree-or (λ e f a b. inl (a.refusal ∙ sym b.refusal))
+    (Agree-or (λ e f a b. Agree-source op d s e f a.refusal b.refusal) (Agree-or (Agree-destination d) (Agree-or (λ e f a b. inl (a.refusal ∙ sym b.refusal))
+    (Agree-or (λ e f a b. inl (a.refusal ∙ sym b.refusal)) (λ e f a b. inl (a.refusal ∙ sym b.refusal))))))))
 
 pub one_refusal : (op : Operation) (text : List ℕ) → OneRefusal op text
 one_refusal op text e f a b =

@@ -1,38 +1,27 @@
 -- Names and patterns as sides, and the reasons to refuse a side.
-use Rattle.gix_refspec_text.proofs.Common.{arith, ◌≡◌, ◌⊎◌, ℕ, List, [], ◌∷◌, ◌++◌, Option, None, option_map, unwrap_or, is_some, Bor, false, refl, sym, ◌∙◌, subst, false≢true, sameb, DeclaredMode}
-use Rattle.gix_refspec_text.proofs.Common.{Asterisk, Shape, Plain, Pattern, Lacks, IsName, IsPattern, HasStar, HasSeveralStars, ReplacesStar, HasFault, star, Normal, Refusal, PatternUnsupported}
-use Rattle.gix_refspec_text.proofs.Common.{ReferenceName, IsBadName, IsBadPattern, Never, OrElse, mode_of, NothingAgainst, HasShape, HasCheckedShape, IsBadSide}
-use Rattle.gix_refspec_text.specs.contracts.types.Mode.{the_type as the_mode}
-use Rattle.gix_refspec_text.specs.declared.types.Mode.TheVariants as declared_mode
-use Rattle.gix_refspec_text.specs.declared.name.PatternError.TheVariants as found
-use Rattle.gix_refspec_text.proofs.lemmas.texts.TextLemmas.{Lacks-ContainsText, Lacks-from_absent, one_not_two}
+use Rattle.gix_refspec_text.proofs.Common.{[], arith, ◌≡◌, ◌⊎◌, ℕ, List, ◌∷◌, ◌++◌, Option, None, option_map, unwrap_or, is_some, Bor, false, refl, sym, ◌∙◌, subst, Asterisk, Shape, Plain, Pattern}
+use Rattle.gix_refspec_text.proofs.Common.{Lacks, IsName, IsPattern, HasStar, HasSeveralStars, ReplacesStar, HasFault, star, Refusal, PatternUnsupported, ReferenceName, IsBadName, IsBadPattern, Never}
+use Rattle.gix_refspec_text.proofs.{Common.{NothingAgainst, HasShape, HasCheckedShape, IsBadSide}, lemmas.texts.TextLemmas.{Lacks-ContainsText, Lacks-from_absent, one_not_two}}
 use Rattle.gix_refspec_text.proofs.lemmas.lists.LacksLemmas.{first_once}
-
-pub Never-or : {P Q : Refusal → Type 0} → Never P → Never Q → Never (OrElse P Q)
-Never-or p q e h = grind arith
+use Rattle.gix_refspec_text.specs.declared.name.PatternError.TheVariants as found
 
 pub Lacks-name : (x : List ℕ) → IsName x → Lacks star x
 Lacks-name x name = Lacks-from_absent star x (name Asterisk)
 
-pub HasStar-replaced : (x y : List ℕ) → ReplacesStar x y → HasStar x
-HasStar-replaced x y replaces = record { before = replaces.before; after = replaces.after; here = replaces.split.starred }
-
 pub HasStar-pattern : (x : List ℕ) → IsPattern x → HasStar x
-HasStar-pattern x pattern = HasStar-replaced x pattern.with_letter pattern.replaces
+HasStar-pattern x pattern = let r = pattern.replaces in record { before = r.before; after = r.after; here = r.split.starred }
 
 pub HasStar-stars : (x : List ℕ) → HasSeveralStars x → HasStar x
 HasStar-stars x stars = record { before = stars.before; after = stars.between ++ (star ∷ stars.after); here = stars.here }
 
 pub replaced_once : (x y z : List ℕ) → ReplacesStar x y → ReplacesStar x z → y ≡ z
-replaced_once x y z a b =
-    let same = first_once star a.before b.before a.after b.after a.split.first b.split.first (sym a.split.starred ∙ b.split.starred) in
-    cc (same.0, same.1, a.replaced, b.replaced)
+replaced_once x y z a b = grind (arith, first_once)
 
 pub HasSeveralStars-replaced : (x y : List ℕ) → ReplacesStar x y → HasSeveralStars x → ⊥
 HasSeveralStars-replaced x y replaces stars = one_not_two star replaces.before replaces.after stars.before stars.between stars.after replaces.split.first replaces.split.last (sym replaces.split.starred ∙ stars.here)
 
 pub HasStar-bad : (x : List ℕ) (e : Refusal) → IsBadPattern x e → HasStar x
-HasStar-bad x e bad = grind (arith, HasStar-stars, HasStar-replaced)
+HasStar-bad x e bad = grind arith
 
 pub pattern_fine : (x : List ℕ) → IsPattern x → Never (IsBadPattern x)
 pattern_fine x pattern (PatternUnsupported p) bad = HasSeveralStars-replaced x pattern.with_letter pattern.replaces bad.0
@@ -47,22 +36,16 @@ nothing_against x pattern found.Memory long = (refl, long)
 pub plain_fine : (x : List ℕ) → Lacks star x → Never (IsBadPattern x)
 plain_fine x lacks e bad = Lacks-ContainsText star x lacks (HasStar-bad x e bad)
 
-pub bad_name : (x : List ℕ) (e : Refusal) → IsBadName x e → Lacks star x × ¬ (IsName x)
-bad_name x e bad = grind arith
-
 pub name_not_bad : (x : List ℕ) → IsName x → (e : Refusal) → IsBadName x e ⊎ IsBadPattern x e → ⊥
-name_not_bad x name e h = grind (arith, bad_name, plain_fine, Lacks-name)
+name_not_bad x name e h = grind (arith, plain_fine, Lacks-name)
 
 pub pattern_not_bad : (x : List ℕ) → IsPattern x → (e : Refusal) → IsBadName x e ⊎ IsBadPattern x e → ⊥
-pattern_not_bad x pattern e h = grind (arith, Lacks-ContainsText, bad_name, HasStar-pattern, pattern_fine)
+pattern_not_bad x pattern e h = grind (arith, Lacks-ContainsText, pattern_fine)
 
 pub checked_fine : (x : List ℕ) (k : Shape) → HasCheckedShape x k → Never (IsBadSide x)
 checked_fine [] k fine e bad = bad.0 refl
 checked_fine (b ∷ bs) Plain fine e bad = name_not_bad (b ∷ bs) fine e bad.1
 checked_fine (b ∷ bs) Pattern fine e bad = pattern_not_bad (b ∷ bs) fine e bad.1
-
-pub starred_fine : (x : List ℕ) (k : Shape) → HasShape x k → Never (IsBadPattern x)
-starred_fine x k fine = grind (arith, plain_fine, pattern_fine)
 
 pub empty_no_pattern : IsPattern [] → ⊥
 empty_no_pattern pattern = Lacks-ContainsText star [] tt (HasStar-pattern [] pattern)
@@ -75,7 +58,4 @@ pub now-unwrap_or : (d : Option (Bor (List ℕ))) (e x : Bor (List ℕ)) → x �
 now-unwrap_or d e x is empty = grind arith
 
 pub none_from_test : (d : Option (Bor (List ℕ))) → false ≡ is_some d → option_map (λ (y : Bor (List ℕ)). y.now) d ≡ None
-none_from_test d test = grind (arith, false≢true)
-
-pub signed_from_test : (m : DeclaredMode) → false ≡ sameb the_mode m declared_mode.Normal → mode_of m ≡ Normal → ⊥
-signed_from_test m test normal = grind (arith, false≢true)
+none_from_test d test = grind arith

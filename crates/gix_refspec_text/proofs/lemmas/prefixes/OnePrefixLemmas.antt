@@ -1,10 +1,7 @@
 -- A side has at most one prefix and at most one expansion.
-use Rattle.gix_refspec_text.proofs.Common.{arith, [], ◌∷◌, to_prefix, to_itself, below_refs, of_object, to_candidates, ◌≡◌, ℕ, List, ◌++◌, codes, sym, ◌∙◌, subst, append_cancel_left, Lacks}
-use Rattle.gix_refspec_text.proofs.Common.{ContainsText, BeginsWith, slash, IsPrefix, of_head, of_name, of_pattern, Expands, OnePrefix, head, star, IsSplit, ◌⊎◌, inl, inr, IsId, candidates}
-use Rattle.gix_refspec_text.proofs.lemmas.texts.TextLemmas.{Lacks-ContainsText}
-use Rattle.gix_refspec_text.proofs.lemmas.hits.MatchLemmas.{lacks_no_pattern, split_once}
-use Rattle.gix_refspec_text.proofs.lemmas.parsing.SideLemmas.{Lacks-name}
-use Rattle.gix_refspec_text.proofs.lemmas.texts.HeadLemmas.{IsName-head}
+use Rattle.gix_refspec_text.proofs.Common.{[], arith, ◌∷◌, ◌≡◌, ℕ, List, ◌++◌, codes, sym, ◌∙◌, subst, append_cancel_left, Lacks, ContainsText, BeginsWith, slash, IsPrefix, of_head, of_name}
+use Rattle.gix_refspec_text.proofs.{Common.{of_pattern, Expands, OnePrefix, head, star, IsSplit, ◌⊎◌, IsId, candidates}, lemmas.texts.TextLemmas.Lacks-ContainsText}
+use Rattle.gix_refspec_text.proofs.lemmas.{hits.MatchLemmas.{lacks_no_pattern, split_once}, parsing.SideLemmas.Lacks-name, texts.HeadLemmas.IsName-head}
 
 pub head_no_split : (x before after : List ℕ) → x ≡ head → IsSplit before after x → ⊥
 head_no_split x before after is split = lacks_no_pattern x before after (subst (Lacks star) (sym is) (Lacks-name head IsName-head)) split
@@ -27,21 +24,11 @@ Ways P x list = ((p : List ℕ) × P p × (list ≡ p ∷ [])) ⊎ (((p : List �
     ⊎ (¬ (BeginsWith (codes "refs/") x) × ((IsId x × (list ≡ [])) ⊎ (¬ (IsId x) × (list ≡ candidates x))))))
 
 ways_of : (x : List ℕ) (list : List (List ℕ)) → Expands x list → Ways (IsPrefix x) x list
-ways_of x list (to_prefix p is a) = inl (p, is, a)
-ways_of x list (to_itself rest none is lacks a) = inr (none, inl (rest, is, inl (lacks, a)))
-ways_of x list (below_refs rest none is holds a) = inr (none, inl (rest, is, inr (holds, a)))
-ways_of x list (of_object none outside id a) = inr (none, inr (outside, inl (id, a)))
-ways_of x list (to_candidates none outside unlike a) = inr (none, inr (outside, inr (unlike, a)))
-
-begins : (x rest : List ℕ) → x ≡ codes "refs/" ++ rest → BeginsWith (codes "refs/") x
-begins x rest is = record { after = rest; here = is }
+ways_of x list h = grind arith
 
 ways_once : (P : List ℕ → Type 0) (x : List ℕ) (list other : List (List ℕ)) → ((p q : List ℕ) → P p → P q → p ≡ q)
     → Ways P x list → Ways P x other → list ≡ other
-ways_once P x list other once a b = grind (arith, append_cancel_left, Lacks-ContainsText, begins)
-
-expanded_once : (x : List ℕ) (list other : List (List ℕ)) → Expands x list → Expands x other → list ≡ other
-expanded_once x list other a b = ways_once (IsPrefix x) x list other (prefix_once x) (ways_of x list a) (ways_of x other b)
+ways_once P x list other once a b = grind (arith, append_cancel_left, Lacks-ContainsText)
 
 pub one_prefix : (x : List ℕ) → OnePrefix x
-one_prefix x = record { prefix = prefix_once x; expanded = expanded_once x }
+one_prefix x = record { prefix = prefix_once x; expanded = λ list other a b. ways_once (IsPrefix x) x list other (prefix_once x) (ways_of x list a) (ways_of x other b) }

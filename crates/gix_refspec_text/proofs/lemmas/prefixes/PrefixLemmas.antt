@@ -1,22 +1,12 @@
 -- Prefixes and expansions of sides.
-use Rattle.gix_refspec_text.proofs.Common.{is_hex_digit, ◌≡◌, ◌≢◌, inl, inr, ◌≤◌, ◌<◌, ℕ, Bool, true, false, not, ◌↔◌, IsTrue, MatchBool, MatchOption, Bor, if◌then◌else◌, List, [], ◌∷◌, ◌++◌, codes, map, length}
-use Rattle.gix_refspec_text.proofs.Common.{get_or, is_ok, Result, OnOk, OnErr, refl, sym, ap, ◌∙◌, subst, length-append, arith, append_cancel_left, length-map, map-append, false≢true, IsIdText, Lacks}
-use Rattle.gix_refspec_text.proofs.Common.{ContainsText, BeginsWith, IsSplit, HasOneStar, star, slash, head, bracket, Reading, IsId, IsRefPrefix, IsPrefix, of_head, of_name, of_pattern, HasNoPrefix}
-use Rattle.gix_refspec_text.proofs.Common.{Expands, to_prefix, IsAsked, IsExpansion, ◌⊎◌, sameb, Operation, Fetch, ObjectId, id_bytes, HasKind, IsCovering, by_prefix, by_candidates, HasCoveringSource}
-use Rattle.std.specs.Prelude.{⊤}
-use Rattle.std.specs.Bool.{then_some}
-use Rattle.std.proofs.Math.Seq.{get_or-append_seam}
-use Rattle.gix_refspec_text.proofs.lemmas.texts.TextLemmas.{Lacks-ContainsText}
-use Rattle.gix_refspec_text.proofs.lemmas.hits.MatchLemmas.{lacks_no_pattern, split_once, begins_split}
-use Rattle.gix_refspec_text.proofs.lemmas.texts.ObjectIdLemmas.{AllPass-IsIdText, no_kind}
-use Rattle.gix_refspec_text.proofs.lemmas.prefixes.OnePrefixLemmas.{head_no_split, one_prefix}
-use Rattle.gix_refspec_text.specs.contracts.parsing.Operation.{the_type as the_operation}
-use Rattle.gix_refspec_text.specs.declared.side.SideKind.{SideKind as DeclaredKind}
-use Rattle.gix_refspec_text.specs.Private.SideViews.{kind_of_side}
+use Rattle.gix_refspec_text.proofs.Common.{[], is_hex_digit, ◌≡◌, ◌≢◌, inl, inr, ◌<◌, ℕ, Bool, true, false, ◌↔◌, IsTrue, MatchOption, Bor, List, ◌∷◌, map, length, get_or, Result, OnErr, refl, sym, ap}
+use Rattle.gix_refspec_text.proofs.Common.{◌∙◌, subst, length-append, arith, length-map, false≢true, IsSplit, HasOneStar, star, Reading, IsId, IsRefPrefix, IsPrefix, of_head, of_name, of_pattern}
+use Rattle.gix_refspec_text.proofs.Common.{HasNoPrefix, Expands, to_prefix, IsAsked, IsExpansion, ◌⊎◌, Fetch, ObjectId, HasKind, IsCovering, by_prefix, by_candidates, HasCoveringSource}
+use Rattle.gix_refspec_text.proofs.lemmas.{hits.MatchLemmas.{lacks_no_pattern, split_once, begins_split}, texts.ObjectIdLemmas.{AllPass-IsIdText, no_kind}, prefixes.OnePrefixLemmas.head_no_split}
+use Rattle.gix_refspec_text.proofs.lemmas.prefixes.OnePrefixLemmas.{one_prefix}
+use Rattle.std.{specs.Bool.then_some, proofs.Math.Seq.get_or-append_seam}
+use Rattle.gix_refspec_text.specs.{declared.side.SideKind.{SideKind as DeclaredKind}, Private.SideViews.kind_of_side}
 use Rattle.gix_refspec_text.specs.declared.side.SideKind.TheVariants as kind
-
-pub id_not_head : (x id : List ℕ) → IsIdText x id → x ≢ head
-id_not_head x id text is = no_kind 4 (λ same. omega (arith, same)) (λ same. omega (arith, same)) (text.kind, sym (ap length is) ∙ text.digits)
 
 prefix_tells : (x p before after : List ℕ) → IsSplit before after x → IsPrefix x p → IsRefPrefix before after
 prefix_tells x p before after split (of_head is _) = absurd (head_no_split x before after is split)
@@ -28,25 +18,8 @@ prefix_tells x p before after split (of_pattern first last other tells _) =
 pub no_prefix : (x before after : List ℕ) → IsSplit before after x → ¬ (IsRefPrefix before after) → HasNoPrefix x
 no_prefix x before after split vague p is = vague (prefix_tells x p before after split is)
 
--- the text before a star is a prefix if it continues after `refs/` and the pattern contains no bracket
-pub tells : (before after rest : List ℕ) → before ≡ codes "refs/" ++ rest → 1 ≤ length rest → Lacks bracket before → Lacks bracket after → IsRefPrefix before after
-tells before after rest below full first last = search (arith, append_cancel_left)
-
--- a test for a bracket decides whether a pattern that begins with `refs/` has a prefix
-pub told_clear : (before after rest : List ℕ) → before ≡ codes "refs/" ++ rest → 1 ≤ length rest → Lacks bracket before → (r : Bool) → MatchBool r (ContainsText (bracket ∷ []) after) (Lacks bracket after) → IsTrue (not r) ↔ IsRefPrefix before after
-told_clear before after rest below full first h holds = grind (arith, false≢true, Lacks-ContainsText, tells)
-
-pub told_bracket : (before after : List ℕ) (r : Bool) → MatchBool r (ContainsText (bracket ∷ []) before) (Lacks bracket before) → ContainsText (bracket ∷ []) before → IsTrue (not r) ↔ IsRefPrefix before after
-told_bracket before after r told holds = grind (arith, false≢true, Lacks-ContainsText)
-
 pub prefix_expands : (x p : List ℕ) → IsPrefix x p → ¬ (Expands x [])
 prefix_expands x p is nothing = let same = (one_prefix x).expanded (p ∷ []) [] (to_prefix p is refl) nothing in cc
-
-pub itself_expands : (x rest : List ℕ) → x ≡ codes "refs/" ++ rest → Lacks slash rest → ¬ (Expands x [])
-itself_expands x rest below lacks h = grind (arith, append_cancel_left, Lacks-ContainsText)
-
-pub partial_expands : (x : List ℕ) → ¬ (BeginsWith (codes "refs/") x) → ¬ (IsId x) → ¬ (Expands x [])
-partial_expands x outside unlike h = grind arith
 
 pub one_asked : (r : Reading) (x y : List ℕ) → IsAsked r x → IsAsked r y → x ≡ y
 one_asked r x y a b = let p = a.side in let q = b.side in cc
@@ -60,9 +33,6 @@ on_any_error r holds = grind arith
 
 pub no_entries : {X : Type 0} (f : X → List ℕ) (r : Reading) (x : List ℕ) (entries : List X) → IsAsked r x → Expands x (map f entries) → IsExpansion r [] → length entries ≡ 0
 no_entries f r x entries asked expands nothing = sym (length-map entries f) ∙ ap length ((one_prefix x).expanded (map f entries) [] expands (asked_nothing r x asked nothing))
-
-pub appended_ok : {X : Type 0} {E : Type 0} (f : X → List ℕ) (r : Result ⊤ E) (old more new : List X) → new ≡ (if is_ok r then old ++ more else old) → OnOk r (map f new ≡ map f old ++ map f more)
-appended_ok f r old more new is = grind (arith, map-append)
 
 pub starred_no_id : (x : List ℕ) → HasOneStar x → ¬ (IsId x)
 starred_no_id x (before, after, split) id =
@@ -81,22 +51,14 @@ covering_tells x before after split (by_prefix p below is) = prefix_tells x p be
 covering_tells x before after split (by_candidates lacks other outside) = absurd (lacks_no_pattern x before after lacks split)
 
 pub told_pattern : (x before after : List ℕ) (r : Bool) → IsSplit before after x → IsTrue r ↔ IsRefPrefix before after → IsTrue r ↔ IsCovering x
-told_pattern x before after r split told = (
-  λ so. let yes = told.0 so in by_prefix before (begins_split x before after split yes.below) (of_pattern before after split yes refl),
-  λ covers. told.1 (covering_tells x before after split covers),
-)
+told_pattern x before after r split told =
+    let tells = λ (so : IsTrue r). told.0 so in
+    (λ so. by_prefix before (begins_split x before after split (tells so).below) (of_pattern before after split (tells so) refl), λ covers. told.1 (covering_tells x before after split covers))
 
 pub told_source : (r : Reading) (x : List ℕ) (b : Bool) → r.operation ≡ Fetch → IsAsked r x → IsTrue b ↔ IsCovering x → IsTrue b ↔ HasCoveringSource r
-told_source r x b fetch asked told = (
-  (λ so. record { fetch = fetch; source = λ y also. subst IsCovering (one_asked r x y asked also) (told.0 so) }),
-  (λ has. told.1 (has.source x asked)),
-)
-
-pub fetch_from_test : (o : Operation) → false ≡ not (sameb the_operation o Fetch) → o ≡ Fetch
-fetch_from_test o test = grind (arith, false≢true)
+told_source r x b fetch asked told = (λ so. record { fetch = fetch; source = λ y also. subst IsCovering (one_asked r x y asked also) (told.0 so) }, λ has. told.1 (has.source x asked))
 
 pub told_name : (x : List ℕ) (k : DeclaredKind) → HasKind x (kind_of_side k) → ((n : Bor (List ℕ)) × (k ≡ kind.FullName n)) ⊎ ((i : ObjectId) × (k ≡ kind.Object i)) → IsCovering x
 told_name x (kind.FullName n) has one = by_prefix x has.2 (of_name has.2 has.1 refl)
-told_name x (kind.Object i) has one = by_candidates has.0 (id_not_head x (id_bytes i) has.2) has.1
-told_name x _ has (inl some) = let same = some.1 in absurd (cc)
-told_name x _ has (inr some) = let same = some.1 in absurd (cc)
+told_name x (kind.Object i) has one = by_candidates has.0 (λ is. no_kind 4 (λ same. omega (arith, same)) (λ same. omega (arith, same)) (has.2.kind, sym (ap length is) ∙ has.2.digits)) has.1
+told_name x k has one = absurd (grind arith)

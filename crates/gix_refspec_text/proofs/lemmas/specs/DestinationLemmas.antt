@@ -1,13 +1,9 @@
 -- A reading with another destination.
-use Rattle.gix_refspec_text.proofs.Common.{inl, inr, ℕ, List, [], ◌∷◌, Some, IfSome, IsSome, refl, sym, subst, ∥∥₁_map, Operation, Lacks, IsName, star, head, colon, Mode, Normal, Forced, Negative}
-use Rattle.gix_refspec_text.proofs.Common.{Reading, with_destination, named_by, AreParts, IsAccepted, IsPositive, Reads, fetches, updates, ◌≡◌, ◌⊎◌, codes, arith, BeginsWith, HasCheckedShape, Plain}
-use Rattle.gix_refspec_text.proofs.Common.{Pattern, with_colon, Option, unwrap_or, side_of, sign, ◌++◌, fetched_alone, all_tags, IsUnsigned}
-use Rattle.gix_refspec_text.proofs.lemmas.texts.TextLemmas.{Lacks-ContainsText}
-use Rattle.gix_refspec_text.proofs.lemmas.texts.HeadLemmas.{Lacks-colon_name}
-use Rattle.gix_refspec_text.proofs.lemmas.parsing.SideLemmas.{HasStar-pattern, empty_no_pattern}
-use Rattle.gix_refspec_text.proofs.lemmas.specs.FormsBackLemmas.{colon_unsigned, unsigned_front, is_forced}
-use Rattle.gix_refspec_text.proofs.lemmas.parsing.ReadsLemmas.{AreFine, fine_fetch, fine_alone, fine_push, fine_negative, fine_parts, side_of-full, fine_reads, checked_name, name_not_empty}
-use Rattle.gix_refspec_text.proofs.facts.ManualFacts.{parts, IsPattern-tested}
+use Rattle.gix_refspec_text.proofs.Common.{None, [], inl, inr, ℕ, List, ◌∷◌, Some, IfSome, IsSome, refl, sym, subst, Operation, Lacks, IsName, star, colon, Mode, Normal, Reading, with_destination}
+use Rattle.gix_refspec_text.proofs.Common.{named_by, AreParts, IsAccepted, IsPositive, Reads, fetches, updates, ◌≡◌, codes, arith, HasCheckedShape, Plain, Pattern, with_colon, Option, unwrap_or}
+use Rattle.gix_refspec_text.proofs.{Common.{side_of, sign, ◌++◌, fetched_alone, all_tags, IsUnsigned}, lemmas.texts.TextLemmas.Lacks-ContainsText, lemmas.texts.HeadLemmas.Lacks-colon_name}
+use Rattle.gix_refspec_text.proofs.lemmas.{parsing.SideLemmas.{HasStar-pattern, empty_no_pattern}, specs.FormsBackLemmas.is_forced, parsing.ReadsLemmas.{AreFine, fine_fetch, fine_alone, fine_push}}
+use Rattle.gix_refspec_text.proofs.{lemmas.parsing.ReadsLemmas.{fine_negative, fine_parts, side_of-full, fine_reads, checked_name, name_not_empty}, facts.ManualFacts.{parts, IsPattern-tested}}
 
 starred_destination : (x : List ℕ) → IfSome (side_of x) (Lacks star) → HasCheckedShape x Pattern → ⊥
 starred_destination [] lacks pattern = empty_no_pattern pattern
@@ -26,45 +22,28 @@ new_fine op m s d new (fine_push Pattern t push pos is somewhere a b) some lacks
 new_fine op m s d new (fine_negative k minus none full a hash) some lacks name = let nothing = rw none at some in absurd (cc)
 
 unsigned_aimed : (s new : List ℕ) (d : Option (List ℕ)) → IsUnsigned (with_colon s d) → IsUnsigned (with_colon s (Some new))
-unsigned_aimed [] new d unsigned = colon_unsigned
-unsigned_aimed (b ∷ s) new d unsigned = unsigned_front (b ∷ s) d (Some new) (λ same. cc) unsigned
+unsigned_aimed [] new d unsigned = omega arith
+unsigned_aimed (b ∷ s) new None unsigned = unsigned
+unsigned_aimed (b ∷ s) new (Some e) unsigned = unsigned
 
 new_parts : (m : Mode) (s : List ℕ) (d : Option (List ℕ)) (new text : List ℕ) → IsPositive m → AreParts m s d text
     → Lacks colon new → AreParts m s (Some new) (sign (is_forced m) ++ (s ++ (colon ∷ new)))
-new_parts Normal s d new text positive parts lacks = record { signed = (refl, unsigned_aimed s new d parts.signed.1); last = lacks }
-new_parts Forced s d new text positive parts lacks = record { signed = refl; last = lacks }
-new_parts Negative s d new text positive parts lacks = absurd positive
+new_parts m s d new text pos parts lacks = grind (arith, unsigned_aimed)
 
-replaced_read : (op : Operation) (text : List ℕ) (r : Reading) (new : List ℕ) → IsSome r.destination
+pub replaced_read : (op : Operation) (text : List ℕ) (r : Reading) (new : List ℕ) → IsSome r.destination
     → IfSome r.destination (Lacks star) → IsName new → Reads op text r → IsAccepted (with_destination r new)
 replaced_read op text r new some lacks name reads =
-    let parted = fine_parts op text r reads in
-    let p = parted.of in
-    let is = parted.is in
-    let fine = new_fine op p.mode p.source p.destination new parted.fine
-    (subst (λ (q : Reading). IsSome q.destination) is some)
-    (subst (λ (q : Reading). IfSome q.destination (Lacks star)) is lacks) name in
-    let parts = new_parts p.mode p.source p.destination new text fine.1 p.parts (Lacks-colon_name new name) in
-    let again = fine_reads op p.mode p.source (Some new) _ fine.0 parts in
+    let (m, s, d, parts, fine, is) = fine_parts op text r reads in
+    let (still, positive) = new_fine op m s d new fine (rw is at some) (rw is at lacks) name in
+    let again = fine_reads op m s (Some new) _ still (new_parts m s d new text positive parts (Lacks-colon_name new name)) in
     subst (λ (q : Reading). IsAccepted (with_destination q new)) (sym is) (_, rw (side_of-full new (name_not_empty new name)) at again)
 
-pub replaced_accepted : (r : Reading) (new : List ℕ) → IsSome r.destination → IfSome r.destination (Lacks star) → IsName new → ∥ IsAccepted r ∥₁ → ∥ IsAccepted (with_destination r new) ∥₁
-replaced_accepted r new some lacks name accepted = ∥∥₁_map accepted (λ by. replaced_read r.operation by.0 r new some lacks name by.1)
-
-read_alone : (n : List ℕ) → IsName n → IsUnsigned n → named_by n ≡ n → IsAccepted (fetched_alone n)
-read_alone n name unsigned same = (
-  n,
-  fetches Normal n refl tt (inl (record { signed = (refl, unsigned); last = Lacks-colon_name n name })) name
-      (subst (λ (x : List ℕ). fetched_alone n ≡ fetched_alone x) (sym same) refl),
-)
-
-pub alone_accepted : (n : List ℕ) → IsName n → BeginsWith (codes "refs/") n ⊎ (n ≡ head) → IsAccepted (fetched_alone n)
-alone_accepted n name h = grind (arith, read_alone)
+pub read_alone : (n : List ℕ) → IsName n → IsUnsigned n → named_by n ≡ n → IsAccepted (fetched_alone n)
+read_alone n name unsigned same =
+    let fetched = fetches Normal n refl tt (inl (record { signed = (refl, unsigned); last = Lacks-colon_name n name })) name (subst (λ (x : List ℕ). fetched_alone n ≡ fetched_alone x) (sym same) refl) in
+    (n, fetched)
 
 pub all_tags_accepted : IsAccepted all_tags
-all_tags_accepted = (
-  _,
-  updates Normal (codes "refs/tags/*") (codes "refs/tags/*") refl tt
-      (parts Normal (codes "refs/tags/*") (Some (codes "refs/tags/*")) refl refl)
-      (inr (IsPattern-tested (codes "refs/tags/") [] refl refl refl, IsPattern-tested (codes "refs/tags/") [] refl refl refl)) refl,
-)
+all_tags_accepted =
+    let tags = IsPattern-tested (codes "refs/tags/") [] refl refl refl in
+    (_, updates Normal (codes "refs/tags/*") (codes "refs/tags/*") refl tt (parts Normal (codes "refs/tags/*") (Some (codes "refs/tags/*")) refl refl) (inr (tags, tags)) refl)

@@ -1,52 +1,34 @@
 -- Facts on accepted readings, without a text that has the reading at hand.
-use Rattle.gix_refspec_text.proofs.Common.{arith, ◌≡◌, ℕ, Bool, true, false, List, Option, None, Some, option_map, refl, sym, ap, ◌∙◌, subst, inl, inr, nat_eq, ◌↔◌, pointwise, false≢true, not_there}
-use Rattle.gix_refspec_text.proofs.Common.{Operation, Reading, Reads, IsAccepted, Meaning, meaning_of, text_of, printed, keys, IsPrintedBack, KeepsOperation, SaysForOperation, EqualReadings}
-use Rattle.gix_refspec_text.proofs.Common.{same_Some}
+use Rattle.gix_refspec_text.proofs.Common.{refl, arith, ◌≡◌, ℕ, true, List, Option, Some, option_map, sym, ap, ◌∙◌, subst, inl, inr, nat_eq, ◌↔◌, pointwise, not_there, Operation, Reading, Reads}
+use Rattle.gix_refspec_text.proofs.Common.{IsAccepted, Meaning, meaning_of, text_of, printed, keys, IsPrintedBack, KeepsOperation, SaysForOperation, EqualReadings, same_Some}
+use Rattle.gix_refspec_text.proofs.lemmas.{specs.FormsBackLemmas.{read_back, once_or_refused, equal_texts}, parsing.ReadsLemmas.fine_parts}
 use Rattle.gix_refspec_text.specs.Laws.Order.{same_meaning, same_keys}
-use Rattle.gix_refspec_text.proofs.lemmas.specs.FormsBackLemmas.{read_back, once_or_refused, equal_texts}
-use Rattle.gix_refspec_text.proofs.lemmas.parsing.ReadsLemmas.{fine_parts}
 
 pub keeps_operation : (op : Operation) (text : List ℕ) → KeepsOperation op text
-keeps_operation op text r reads = ap (λ (x : Reading). x.operation) (fine_parts op text r reads).is
+keeps_operation op text r reads = ap (λ (x : Reading). x.operation) (fine_parts op text r reads).5
 
 pub says_for_operation : (r : Reading) → SaysForOperation r
 says_for_operation r m is = grind arith
 
-test_shown : {P : Type 0} (b : Bool) → ∥ P ∥₁ → (P → b ≡ true) → b ≡ true
-test_shown true there shows = refl
-test_shown false there shows = absurd (not_there there (λ fact. false≢true (shows fact)))
-
 -- to show that two meanings are equal, a fact may be assumed of which only the existence is known
 meaning_shown : {P : Type 0} (m n : Option Meaning) → ∥ P ∥₁ → (P → m ≡ n) → m ≡ n
-meaning_shown m n there shows =
-    same_meaning m n (test_shown (pointwise (pointwise nat_eq) (keys m) (keys n)) there (λ fact. same_keys m n (shows fact)))
+meaning_shown m n there shows = same_meaning m n (grind (arith, not_there, same_keys))
 
 says_by : (r : Reading) (m : Option Meaning) → meaning_of r ≡ m → ∥ IsAccepted r ∥₁ → (n : Meaning) × (meaning_of r ≡ Some n)
-says_by r None is accepted = absurd (not_there accepted (λ a.
-    let back = read_back r.operation a.0 r a.1 in
-    let none = sym (ap (option_map text_of) is) ∙ back.is in
-    cc))
-says_by r (Some m) is accepted = (m, is)
+says_by r m is accepted = grind (arith, not_there, read_back)
 
 pub says : (r : Reading) → ∥ IsAccepted r ∥₁ → (m : Meaning) × (meaning_of r ≡ Some m)
 says r accepted = says_by r (meaning_of r) refl accepted
 
 same_by_text : (r q : Reading) → ∥ IsAccepted r ∥₁ → ∥ IsAccepted q ∥₁ → r.operation ≡ q.operation → printed r ≡ printed q → meaning_of r ≡ meaning_of q
-same_by_text r q accepted_r accepted_q operation same =
-    meaning_shown (meaning_of r) (meaning_of q) accepted_r (λ a.
-    meaning_shown (meaning_of r) (meaning_of q) accepted_q (λ b.
+same_by_text r q accepted_r accepted_q operation same = meaning_shown (meaning_of r) (meaning_of q) accepted_r (λ a. meaning_shown (meaning_of r) (meaning_of q) accepted_q (λ b.
     (equal_texts r.operation a.0 b.0 r q a.1 (subst (λ (op : Operation). Reads op b.0 q) (sym operation) b.1)).1 same))
 
 same_operation : (r q : Reading) → ∥ IsAccepted r ∥₁ → meaning_of r ≡ meaning_of q → r.operation ≡ q.operation
-same_operation r q accepted same =
-    let said = says r accepted in
-    sym (says_for_operation r said.0 said.1) ∙ says_for_operation q said.0 (sym same ∙ said.1)
+same_operation r q accepted same = grind (arith, says, says_for_operation)
 
 pub equal_readings : (r q : Reading) → ∥ IsAccepted r ∥₁ → ∥ IsAccepted q ∥₁ → EqualReadings r q
-equal_readings r q accepted_r accepted_q = (
-  λ same. (same_operation r q accepted_r same, ap (option_map text_of) same),
-  λ both. same_by_text r q accepted_r accepted_q both.0 both.1,
-)
+equal_readings r q accepted_r accepted_q = grind (arith, same_operation, same_by_text)
 
 pub equal_keys : (m n : Option Meaning) → (pointwise (pointwise nat_eq) (keys m) (keys n) ≡ true) ↔ (m ≡ n)
 equal_keys m n = (same_meaning m n, same_keys m n)
@@ -56,14 +38,11 @@ printed_back r accepted =
     let said = says r accepted in
     let text = text_of said.0 in
     let is : printed r ≡ Some text = ap (option_map text_of) said.1 in
-    let reads : (a : IsAccepted r) → Reads r.operation text (read_back r.operation a.0 r a.1).again.reading = λ a.
-    let back = read_back r.operation a.0 r a.1 in
-    subst (λ (x : List ℕ). Reads r.operation x back.again.reading) (same_Some back.text text (sym back.is ∙ is)) back.again.reads in
+    let back = λ (a : IsAccepted r). read_back r.operation a.0 r a.1 in
+    let reads = λ (a : IsAccepted r). subst (λ (x : List ℕ). Reads r.operation x (back a).again.reading) (same_Some (back a).text text (sym (back a).is ∙ is)) (back a).again.reads in
     elim (once_or_refused r.operation text) [
-      | inr refusal ↦ absurd (not_there accepted (λ a. refusal.1.unread (read_back r.operation a.0 r a.1).again.reading (reads a)))
+      | inr refusal ↦ absurd (not_there accepted (λ a. refusal.1.unread (back a).again.reading (reads a)))
       | inl once ↦
-          let same = meaning_shown (meaning_of once.reading) (meaning_of r) accepted (λ a.
-          let back = read_back r.operation a.0 r a.1 in
-          sym (ap meaning_of (once.only back.again.reading (reads a))) ∙ back.same) in
+          let same = meaning_shown (meaning_of once.reading) (meaning_of r) accepted (λ a. sym (ap meaning_of (once.only (back a).again.reading (reads a))) ∙ (back a).same) in
           record { text = text; is = is; again = once; same = same }
     ]

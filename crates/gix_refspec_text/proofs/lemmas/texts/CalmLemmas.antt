@@ -1,26 +1,12 @@
 -- Which bytes are calm, by the mask of two loads: of the bytes, and of the bytes before them.
-use Rattle.gix_refspec_text.proofs.Common.{◌≡◌, ◌≢◌, ℕ, ◌+◌, ◌-◌, ◌%◌, ◌^◌, ◌<◌, ◌≤◌, ◌||◌, eqb, ltb, cond, Bool, true, false, not, List, map, length, get_or, bit_and, bit_or, w8, refl, sym, ap, ap₂}
-use Rattle.gix_refspec_text.proofs.Common.{◌∙◌, inl, inr, arith, agree_below_at, not-true, cond-true, cond-false, eq-eqb, ne_eqb, cases_eq, mask_l-mod, length-zip2, get_or-zip2, length-chunk}
-use Rattle.gix_refspec_text.proofs.Common.{get_or-chunk, leading_from_mask_l, trailing_mask_l, length-map, get_or-map, prefix_len, prefix_len-le-length, prefix_len_passes, chunk, zip2, mask_l, top}
-use Rattle.gix_refspec_text.proofs.Common.{slash, class_at, IsCalm, AreCalm, lowest_of, or_cases, eqb-true}
+use Rattle.gix_refspec_text.proofs.Common.{rules, ◌≡◌, ℕ, ◌+◌, ◌-◌, ◌%◌, ◌^◌, ◌<◌, ◌≤◌, eqb, ltb, cond, Bool, false, not, List, map, length, get_or, bit_and, bit_or, w8, sym, ap, ap₂, ◌∙◌, arith}
+use Rattle.gix_refspec_text.proofs.Common.{agree_below_at, not-true, cases_eq, mask_l-mod, length-zip2, get_or-zip2, length-chunk, get_or-chunk, leading_from_mask_l, trailing_mask_l, length-map}
+use Rattle.gix_refspec_text.proofs.Common.{get_or-map, prefix_len, prefix_len-le-length, prefix_len_passes, chunk, zip2, mask_l, top, IsCalm, AreCalm, lowest_of}
 use Rattle.std.proofs.Common.{Fits}
-use Rattle.gix_refspec_text.specs.declared.name.class.Class.{Class}
-use Rattle.gix_refspec_text.specs.declared.name.class.Class.TheVariants.{Plain}
-
-abbrev is_plain_class : Class → Bool
-is_plain_class Plain = true
-is_plain_class _ = false
-
-plain_class : (c : Class) → is_plain_class c ≡ true → c ≡ Plain
-plain_class c same = grind arith
 
 -- the lowest set bit of a mask is at the first lane that passes p
 run_is : (p : ℕ → Bool) (z : List ℕ) (n : ℕ) → length z ≡ n → n ≤ 64 → lowest_of n (mask_l (map p z)) ≡ prefix_len (λ x. not (p x)) z
-run_is p z n long few =
-    elim (cases_eq (mask_l (map p z)) 0) [
-      | inl none ↦ cond-true _ _ _ (eq-eqb _ _ none) ∙ sym (leading_from_mask_l p z none ∙ long)
-      | inr some ↦ cond-false _ _ _ (ne_eqb _ _ some) ∙ trailing_mask_l p 64 z (omega arith) (omega arith)
-    ]
+run_is p z n long few = grind (arith, leading_from_mask_l, trailing_mask_l)
 
 -- the lane of a byte, from the lanes f and g of the byte and h of the byte before it
 module _ (f g h : ℕ → ℕ) where
@@ -68,25 +54,8 @@ slashed x = cond (eqb x 47) 255 0
 abbrev ending : ℕ → ℕ
 ending y = bit_or (cond (eqb y 47) 255 0) (cond (eqb y 107) 255 0)
 
--- after a slash or a `k` a byte with a clear lane is plain
-plain_after_end : (x : ℕ) → x < 256 → top 7 (bit_or (stop x) (bit_and (slashed x) 255)) ≡ false → class_at x ≡ Plain
-plain_after_end x below clear =
-    plain_class (class_at x)
-    (sym (ap (λ t. t || is_plain_class (class_at x)) clear) ∙ agree_below_at (λ b. top 7 (bit_or (stop b) (bit_and (slashed b) 255)) || is_plain_class (class_at b)) (λ _. true) 256 x refl below)
-
--- and after any other byte it is plain or a slash
-plain_or_slash : (x : ℕ) → x < 256 → top 7 (bit_or (stop x) (bit_and (slashed x) 0)) ≡ false → (is_plain_class (class_at x) || eqb x slash) ≡ true
-plain_or_slash x below clear =
-    sym (ap (λ t. t || (is_plain_class (class_at x) || eqb x slash)) clear) ∙ agree_below_at (λ b. top 7 (bit_or (stop b) (bit_and (slashed b) 0)) || (is_plain_class (class_at b) || eqb b slash)) (λ _. true) 256 x refl below
-
-ending-other : (y : ℕ) → y ≢ 47 → y ≢ 107 → ending y ≡ 0
-ending-other y not_slash not_k = ap₂ (λ s t. bit_or (cond s 255 0) (cond t 255 0)) (ne_eqb y 47 not_slash) (ne_eqb y 107 not_k)
-
-calm_after_other : (x y : ℕ) → y ≢ 47 → y ≢ 107 → (is_plain_class (class_at x) || eqb x slash) ≡ true → IsCalm y x
-calm_after_other x y not_slash not_k even = search (arith, or_cases, plain_class, eqb-true)
-
 calm_from_clear : (x y : ℕ) → x < 256 → top 7 (bit_or (stop x) (bit_and (slashed x) (ending y))) ≡ false → IsCalm y x
-calm_from_clear x y below clear = search (arith, cases_eq, plain_after_end, calm_after_other, plain_or_slash, ending-other)
+calm_from_clear x y below clear = search (arith, rules, cases_eq, agree_below_at)
 
 pub calm_from_lanes : (d : List ℕ) (i r : ℕ) (s a b : List ℕ) → ((k : ℕ) → Fits w8 (get_or d k 0)) → 0 < i → i + 16 ≤ length d → s ≡ map stop (chunk i 16 d) → a ≡ map slashed (chunk i 16 d) → b ≡ map ending (chunk (i - 1) 16 d)
     → r ≡ lowest_of 16 (mask_l (map (top 7) (zip2 bit_or s (zip2 bit_and a b))) % 2 ^ 64) → AreCalm d i (i + r) × (r ≤ 16)

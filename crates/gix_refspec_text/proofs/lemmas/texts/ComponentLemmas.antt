@@ -1,8 +1,6 @@
 -- The components of a text, found by the slashes around them, with a slash before the text for the first one.
-use Rattle.gix_refspec_text.proofs.Common.{arith, ◌≡◌, ℕ, List, [], ◌∷◌, ◌++◌, refl, sym, ap, ◌∙◌, inl, inr, append_assoc, AllByRecursion, join_with_byte, cases_eq, append-nil, Lacks, slash}
-use Rattle.gix_refspec_text.proofs.Common.{SomeComponent}
-use Rattle.gix_refspec_text.proofs.lemmas.lists.AllLemmas.{all_join}
-use Rattle.gix_refspec_text.proofs.lemmas.lists.LacksLemmas.{LastIndex, lacks_or_last}
+use Rattle.gix_refspec_text.proofs.Common.{[], arith, ◌≡◌, ℕ, List, ◌∷◌, ◌++◌, refl, sym, ap, ◌∙◌, inl, inr, append_assoc, AllByRecursion, join_with_byte, cases_eq, append-nil, Lacks, slash}
+use Rattle.gix_refspec_text.proofs.{Common.SomeComponent, lemmas.lists.AllLemmas.all_join, lemmas.lists.LacksLemmas.{LastIndex, lacks_or_last}}
 
 -- what may follow a component: nothing, or a text that begins with a slash
 abbrev pub IsEnd : List ℕ → Type 0
@@ -26,36 +24,23 @@ fenced-join : (p : List ℕ) (ps : List (List ℕ)) → fenced (p ∷ ps) ≡ sl
 fenced-join p [] = ap (λ x. slash ∷ x) (append-nil p)
 fenced-join p (q ∷ ps) = ap (λ x. slash ∷ (p ++ x)) (fenced-join q ps)
 
-pub join_from_fenced : (ps : List (List ℕ)) (x : List ℕ) → fenced ps ≡ slash ∷ x → join_with_byte slash ps ≡ x
-join_from_fenced [] x same = cc
-join_from_fenced (p ∷ ps) x same = let joined = fenced-join p ps in cc
-
 pub fenced-IsEnd : (ps : List (List ℕ)) → IsEnd (fenced ps)
 fenced-IsEnd [] = tt
 fenced-IsEnd (p ∷ ps) = refl
 
--- a text split at its slashes
-pub record Pieces (x : List ℕ) : Type 0 where
-  pub first : List ℕ
-  pub others : List (List ℕ)
-  pub first_whole : Lacks slash first
-  pub others_whole : AllByRecursion (Lacks slash) others
-  pub here : first ++ fenced others ≡ x
+-- a text split at its slashes: its first component, and the others
+abbrev pub Pieces : List ℕ → Type 0
+Pieces x = (first : List ℕ) × (others : List (List ℕ)) × (first ++ fenced others ≡ x) × AllByRecursion (Lacks slash) (first ∷ others)
 
 pub pieces_of : (x : List ℕ) → Pieces x
-pieces_of [] = record { first = []; others = []; first_whole = tt; others_whole = tt; here = refl }
+pieces_of [] = ([], [], refl, (tt, tt))
 pieces_of (b ∷ x) =
-    let rest : Pieces x = pieces_of x in
-    elim (cases_eq b slash) [
-      | inl same ↦ record { first = []; others = rest.first ∷ rest.others; first_whole = tt; others_whole = (rest.first_whole, rest.others_whole); here = ap (λ y. slash ∷ y) rest.here ∙ ap (λ c. c ∷ x) (sym same) }
-      | inr other ↦ record { first = b ∷ rest.first; others = rest.others; first_whole = (other, rest.first_whole); others_whole = rest.others_whole; here = ap (λ y. b ∷ y) rest.here }
-    ]
+    let (first, others, here, (whole, more)) = pieces_of x in
+    elim (cases_eq b slash) [ inl same ↦ ([], first ∷ others, ap (λ y. slash ∷ y) here ∙ ap (λ c. c ∷ x) (sym same), (tt, (whole, more))) | inr other ↦ (b ∷ first, others, ap (λ y. b ∷ y) here, ((other, whole), more)) ]
 
 fence_parts : (x : List ℕ) → IsEnd x → (ps : List (List ℕ)) × AllByRecursion (Lacks slash) ps × (fenced ps ≡ x)
 fence_parts [] ends = ([], tt, refl)
-fence_parts (b ∷ x) ends =
-    let split : Pieces x = pieces_of x in
-    (split.first ∷ split.others, (split.first_whole, split.others_whole), ap (λ y. slash ∷ y) split.here ∙ ap (λ c. c ∷ x) (sym ends))
+fence_parts (b ∷ x) ends = let (first, others, here, whole) = pieces_of x in (first ∷ others, whole, ap (λ y. slash ∷ y) here ∙ ap (λ c. c ∷ x) (sym ends))
 
 pub last_slash_after_one : (x : List ℕ) → LastIndex slash (slash ∷ x)
 last_slash_after_one x = elim (lacks_or_last slash (slash ∷ x)) [ inl lacks ↦ absurd (lacks.0 refl) | inr found ↦ found ]
@@ -68,23 +53,21 @@ pub record IsComponent (w x : List ℕ) : Type 0 where
   pub whole : Lacks slash w
   pub ends : IsEnd after
 
+fenced_joined : (ps : List (List ℕ)) (w : List ℕ) (qs : List (List ℕ)) → fenced (ps ++ (w ∷ qs)) ≡ slash ∷ join_with_byte slash (ps ++ (w ∷ qs))
+fenced_joined [] w qs = fenced-join w qs
+fenced_joined (p ∷ ps) w qs = fenced-join p (ps ++ (w ∷ qs))
+
 pub SomeComponent-from : (P : List ℕ → Type 0) (w x : List ℕ) → IsComponent w x → P w → SomeComponent P x
 SomeComponent-from P w x found fact =
     let front = fence_parts found.before (let here = found.here in grind arith) in
     let back = fence_parts found.after found.ends in
-    let same : fenced (front.0 ++ (w ∷ back.0)) ≡ slash ∷ x =
-    fenced-append front.0 (w ∷ back.0) ∙ ap (λ y. y ++ fenced (w ∷ back.0)) front.2 ∙ ap (λ y. found.before ++ (slash ∷ (w ++ y))) back.2 ∙ sym found.here in
-    let joined = join_from_fenced (front.0 ++ (w ∷ back.0)) x same in
+    let parts = front.0 ++ (w ∷ back.0) in
+    let same : fenced parts ≡ slash ∷ x = fenced-append front.0 (w ∷ back.0) ∙ ap (λ y. y ++ fenced (w ∷ back.0)) front.2 ∙ ap (λ y. found.before ++ (slash ∷ (w ++ y))) back.2 ∙ sym found.here in
     let whole = all_join (Lacks slash) front.0 (w ∷ back.0) front.1 (found.whole, back.1) in
-    record { before = front.0; component = w; after = back.0; components = record { joined = joined; whole = whole }; fact = fact }
-
-fenced_from_join : (ps : List (List ℕ)) (w : List ℕ) (qs : List (List ℕ)) (x : List ℕ) → join_with_byte slash (ps ++ (w ∷ qs)) ≡ x → fenced (ps ++ (w ∷ qs)) ≡ slash ∷ x
-fenced_from_join [] w qs x joined = fenced-join w qs ∙ ap (λ y. slash ∷ y) joined
-fenced_from_join (p ∷ ps) w qs x joined = fenced-join p (ps ++ (w ∷ qs)) ∙ ap (λ y. slash ∷ y) joined
+    record { before = front.0; component = w; after = back.0; components = record { joined = (let joined = fenced_joined front.0 w back.0 in cc); whole = whole }; fact = fact }
 
 pub SomeComponent-index : (P : List ℕ → Type 0) (x : List ℕ) (some : SomeComponent P x) → IsComponent some.component x
 SomeComponent-index P x some =
-    let here = sym (fenced_from_join some.before some.component some.after x some.components.joined)
-    ∙ fenced-append some.before (some.component ∷ some.after) in
+    let here = sym (fenced_joined some.before some.component some.after ∙ ap (λ y. slash ∷ y) some.components.joined) ∙ fenced-append some.before (some.component ∷ some.after) in
     let whole = AllByRecursion-parts (Lacks slash) some.before some.component some.after some.components.whole in
     record { before = fenced some.before; after = fenced some.after; here = here; whole = whole; ends = fenced-IsEnd some.after }

@@ -1,8 +1,6 @@
 -- `HEAD` is a name, and which bytes a name never contains.
-use Rattle.gix_refspec_text.proofs.Common.{◌≡◌, ◌≢◌, ℕ, false, List, [], ◌∷◌, ◌++◌, refl, sym, ap, ◌∙◌, subst, arith, eq-eqb, false≢true, InvalidByte, Lacks, star, letter, plus, caret, colon, head}
-use Rattle.gix_refspec_text.proofs.Common.{IsName, IsPattern, IsUnsigned, begins_with_plus}
-use Rattle.gix_refspec_text.proofs.lemmas.texts.TextLemmas.{Lacks-from_absent}
-use Rattle.gix_refspec_text.proofs.lemmas.texts.TestedLemmas.{IsName-tested}
+use Rattle.gix_refspec_text.proofs.Common.{[], ◌≡◌, ◌≢◌, ℕ, false, List, ◌∷◌, ◌++◌, refl, sym, ap, ◌∙◌, arith, eq-eqb, false≢true, InvalidByte, Lacks, star, letter, plus, caret, colon, head, IsName}
+use Rattle.gix_refspec_text.proofs.{Common.{IsPattern, IsUnsigned, begins_with_plus}, lemmas.texts.TextLemmas.Lacks-from_absent, lemmas.texts.TestedLemmas.IsName-tested}
 
 pub IsName-head : IsName head
 IsName-head = IsName-tested head refl
@@ -17,11 +15,10 @@ lacks_unreplaced b (c ∷ front) back other lacks = (lacks.0, lacks_unreplaced b
 pub Lacks-colon_pattern : (x : List ℕ) → IsPattern x → Lacks colon x
 Lacks-colon_pattern x pattern =
     let r = pattern.replaces in
-    subst (Lacks colon) (sym r.split.starred) (lacks_unreplaced colon r.before r.after (λ h. omega arith) (subst (Lacks colon) r.replaced (Lacks-colon_name pattern.with_letter pattern.name)))
+    rw r.split.starred (lacks_unreplaced colon r.before r.after (λ h. omega arith) (rw r.replaced at (Lacks-colon_name pattern.with_letter pattern.name)))
 
 pub unsigned_name : (x : List ℕ) → IsName x → begins_with_plus x ≡ false → IsUnsigned x
 unsigned_name [] name other = tt
-unsigned_name (b ∷ x) name other = (
-  λ same. false≢true (sym other ∙ eq-eqb b plus same),
-  λ same. name (InvalidByte caret) (record { before = []; after = x; here = ap (λ c. c ∷ x) same }, refl),
-)
+unsigned_name (b ∷ x) name other =
+    let no_caret = λ (same : b ≡ caret). name (InvalidByte caret) (record { before = []; after = x; here = ap (λ c. c ∷ x) same }, refl) in
+    (λ same. false≢true (sym other ∙ eq-eqb b plus same), no_caret)

@@ -1,82 +1,46 @@
 -- A text with letters in place of its stars has the faults that one pass over the text finds.
-use Rattle.gix_refspec_text.proofs.Common.{◌≡◌, ◌≢◌, ℕ, List, [], ◌∷◌, ◌++◌, codes, length, take, drop, get_or, suc, ◌<◌, Option, Some, None, MatchOption, true, refl, sym, ap, ◌∙◌, subst, inl, inr}
-use Rattle.gix_refspec_text.proofs.Common.{if◌then◌else◌, arith, append_assoc, Bool, zero, ◌-◌, ◌≤◌, false, ◌==◌, ◌+◌, false≢true, cases_eq, eq-eqb, ne_eqb, map-append, count_by_more_no, Error}
-use Rattle.gix_refspec_text.proofs.Common.{Asterisk, Lacks, EndsWith, slash, star, letter, is_refused_byte, HasFault, IsName, IsSplit, IsPattern, HasOneStar, ReplacesStar, class_at, AddsFault}
-use Rattle.gix_refspec_text.proofs.Common.{IsClean, LeavesFault, Finds, letter_for, with_letters, IsScanned, IsCalm, AreCalm, count_by_more_yes, cond, zero-add, count_by, sum_by-append}
-use Rattle.gix_refspec_text.proofs.Common.{HasSeveralStars, take_all, IsStarCount, one_if}
-use Rattle.gix_refspec_text.specs.declared.name.class.Class.TheVariants.{Plain}
-use Rattle.gix_refspec_text.proofs.lemmas.lists.LacksLemmas.{lacks_or_first}
-use Rattle.gix_refspec_text.proofs.lemmas.texts.TextLemmas.{split_at}
-use Rattle.gix_refspec_text.proofs.lemmas.texts.NameLemmas.{one_more, IsClean-more, HasFault-added, answer_at_end, slash_adds, last_byte}
+use Rattle.gix_refspec_text.proofs.Common.{[], ◌≡◌, ◌≢◌, ℕ, List, ◌∷◌, ◌++◌, codes, length, take, drop, get_or, suc, ◌<◌, Option, Some, None, MatchOption, true, refl, sym, ap, ◌∙◌, subst, inl, inr}
+use Rattle.gix_refspec_text.proofs.Common.{if◌then◌else◌, arith, append_assoc, Bool, zero, ◌-◌, ◌≤◌, false, ◌==◌, ◌+◌, eq-eqb, ne_eqb, map-append, count_by_more_no, Error, Asterisk, Lacks, EndsWith}
+use Rattle.gix_refspec_text.proofs.Common.{slash, star, letter, HasFault, IsName, IsSplit, IsPattern, HasOneStar, ReplacesStar, AddsFault, IsClean, LeavesFault, Finds, letter_for, with_letters}
+use Rattle.gix_refspec_text.proofs.Common.{IsScanned, IsCalm, AreCalm, count_by_more_yes, cond, zero-add, count_by, sum_by-append, HasSeveralStars, take_all, IsStarCount, one_if}
+use Rattle.gix_refspec_text.proofs.lemmas.{lists.LacksLemmas.lacks_or_first, texts.TextLemmas.split_at, texts.NameLemmas.{one_more, IsClean-more, HasFault-added, answer_at_end, slash_adds, last_byte}}
 
-stars : List ℕ → ℕ
+abbrev stars : List ℕ → ℕ
 stars x = count_by (λ b. b == star) x
 
 stars-cons : (b : ℕ) (x : List ℕ) → stars (b ∷ x) ≡ cond (b == star) 1 0 + stars x
-unfolding stars
 stars-cons b x = sum_by-append (λ c. cond (c == star) 1 0) (b ∷ []) x ∙ ap (λ n. n + stars x) (zero-add (cond (b == star) 1 0))
 
-stars-star : (b : ℕ) (x : List ℕ) → b ≡ star → stars (b ∷ x) ≡ 1 + stars x
-stars-star b x same = stars-cons b x ∙ ap (λ t. cond t 1 0 + stars x) (eq-eqb b star same)
-
-stars-other : (b : ℕ) (x : List ℕ) → b ≢ star → stars (b ∷ x) ≡ stars x
-stars-other b x other = let one_more : stars (b ∷ x) ≡ 0 + stars x = stars-cons b x ∙ ap (λ t. cond t 1 0 + stars x) (ne_eqb b star other) in omega (arith, one_more)
-
-stars-append : (x y : List ℕ) → stars (x ++ y) ≡ stars x + stars y
-unfolding stars
-stars-append x y = sum_by-append (λ c. cond (c == star) 1 0) x y
-
 stars-split : (x before after : List ℕ) → x ≡ before ++ (star ∷ after) → stars x ≡ stars before + (1 + stars after)
-stars-split x before after here =
-    ap stars here ∙ stars-append before (star ∷ after) ∙ ap (λ n. stars before + n) (stars-star star after refl)
+stars-split x before after here = ap stars here ∙ sum_by-append (λ c. cond (c == star) 1 0) before (star ∷ after) ∙ ap (λ n. stars before + n) (stars-cons star after)
 
 no_stars : (x : List ℕ) → Lacks star x → stars x ≡ 0
-unfolding stars
 no_stars [] lacks = refl
-no_stars (b ∷ x) lacks = stars-other b x lacks.0 ∙ no_stars x lacks.1
+no_stars (b ∷ x) lacks = omega (arith, stars-cons b x ∙ ap (λ t. cond t 1 0 + stars x) (ne_eqb b star lacks.0), no_stars x lacks.1)
 
 pub Lacks-count_by : (x : List ℕ) → count_by (λ b. b == star) x ≡ 0 → Lacks star x
-unfolding stars
-Lacks-count_by x none = elim (lacks_or_first star x) [
-  | inl lacks ↦ lacks
-  | inr index ↦ absurd (omega (arith, none, stars-split x index.before index.after index.here))
-]
+Lacks-count_by x none = elim (lacks_or_first star x) [ inl lacks ↦ lacks | inr i ↦ absurd (omega (arith, none, stars-split x i.before i.after i.here)) ]
 
 pub HasOneStar-count_by : (x : List ℕ) → count_by (λ b. b == star) x ≡ 1 → HasOneStar x
-unfolding stars
 HasOneStar-count_by x one = elim (lacks_or_first star x) [
   | inl lacks ↦ absurd (omega (arith, one, no_stars x lacks))
-  | inr index ↦
-      let last = Lacks-count_by index.after (omega (arith, one, stars-split x index.before index.after index.here)) in
-      (index.before, index.after, record { starred = index.here; first = index.first; last = last })
+  | inr i ↦ (i.before, i.after, record { starred = i.here; first = i.first; last = Lacks-count_by i.after (omega (arith, one, stars-split x i.before i.after i.here)) })
 ]
 
 pub count_by-HasOneStar : (x : List ℕ) → HasOneStar x → count_by (λ b. b == star) x ≡ 1
-unfolding stars
-count_by-HasOneStar x (before, after, split) =
-    omega (arith, stars-split x before after split.starred, no_stars before split.first, no_stars after split.last)
+count_by-HasOneStar x (before, after, split) = omega (arith, stars-split x before after split.starred, no_stars before split.first, no_stars after split.last)
 
 pub second_star : (x : List ℕ) (i : ℕ) → i < length x → get_or x i 0 ≡ star → count_by (λ b. b == star) (take i x) ≡ 1 → HasSeveralStars x
 second_star x i below here one =
     let (before, after, split) = HasOneStar-count_by (take i x) one in
-    let whole = split_at x i star below here ∙ ap (λ y. y ++ (star ∷ drop (suc i) x)) split.starred
-    ∙ append_assoc before (star ∷ after) (star ∷ drop (suc i) x) in
-    record { before = before; between = after; after = drop (suc i) x; here = whole }
-
-letter_for-star : (b : ℕ) → b ≡ star → letter_for b ≡ letter
-letter_for-star b same = ap (λ t. if t then letter else b) (eq-eqb b star same)
+    let rest = star ∷ drop (suc i) x in
+    record { before = before; between = after; after = drop (suc i) x; here = split_at x i star below here ∙ ap (λ y. y ++ rest) split.starred ∙ append_assoc before (star ∷ after) rest }
 
 letter_for-other : (b : ℕ) → b ≢ star → letter_for b ≡ b
 letter_for-other b other = ap (λ t. if t then letter else b) (ne_eqb b star other)
 
-letters-append : (x y : List ℕ) → with_letters (x ++ y) ≡ with_letters x ++ with_letters y
-letters-append x y = map-append letter_for x y
-
-same_byte : (b c : ℕ) → c ≢ letter → letter_for b ≡ c → b ≡ c
-same_byte b c other same = search (arith, cases_eq, letter_for-star, letter_for-other)
-
 same_word : (y w : List ℕ) → Lacks letter w → with_letters y ≡ w → y ≡ w
-same_word (b ∷ y) (c ∷ w) lacks same = ap (λ d. d ∷ y) (same_byte b c lacks.0 (cc)) ∙ ap (λ z. c ∷ z) (same_word y w lacks.1 (cc))
+same_word (b ∷ y) (c ∷ w) lacks same = let rest : y ≡ w = same_word y w lacks.1 (cc) in grind arith
 same_word y w lacks same = cc
 
 end_before : (y p w : List ℕ) → Lacks letter w → with_letters y ≡ p ++ w → EndsWith w y
@@ -86,59 +50,39 @@ end_before (b ∷ y) (c ∷ p) w lacks same =
     let end = end_before y p w lacks (cc) in
     record { before = b ∷ end.before; here = ap (λ z. b ∷ z) end.here }
 
--- a word without the letter and without a star
-abbrev IsKept : List ℕ → Type 0
-IsKept w = Lacks letter w × (with_letters w ≡ w)
-
-slash_kept : IsKept (codes "/")
-slash_kept = (omega arith, refl)
-
-dot_kept : IsKept (codes ".")
-dot_kept = (omega arith, refl)
-
-lock_kept : IsKept (codes ".lock")
-lock_kept = (omega arith, refl)
-
--- y ends with each such word that x ends with
+-- y ends with each word without the letter and without a star that x ends with
 abbrev EndsAs : List ℕ → List ℕ → Type 0
-EndsAs x y = (w : List ℕ) → IsKept w → EndsWith w x → EndsWith w y
+EndsAs x y = (w : List ℕ) → Lacks letter w × (with_letters w ≡ w) → EndsWith w x → EndsWith w y
 
 ends_before : (y : List ℕ) → EndsAs (with_letters y) y
 ends_before y w kept ends = end_before y ends.before w kept.0 ends.here
 
 ends_with_letters : (y : List ℕ) → EndsAs y (with_letters y)
-ends_with_letters y w kept ends = search (arith, letters-append)
+ends_with_letters y w kept ends = record { before = with_letters ends.before; here = ap with_letters ends.here ∙ map-append letter_for ends.before w ∙ ap (λ z. with_letters ends.before ++ z) kept.1 }
 
 AddsFault-as : (x y : List ℕ) (b : ℕ) → EndsAs x y → (e : Error) → AddsFault x b e → AddsFault y b e
-AddsFault-as x y b ends h fault = grind (arith, slash_kept, lock_kept, dot_kept)
+AddsFault-as x y b ends h fault = grind arith
 
 LeavesFault-as : (x y : List ℕ) → EndsAs x y → (e : Error) → LeavesFault x e → LeavesFault y e
-LeavesFault-as x y ends h left = grind (arith, slash_kept, lock_kept, dot_kept)
+LeavesFault-as x y ends h left = grind arith
 
-letter_adds_nothing : (y : List ℕ) (e : Error) → ¬ (AddsFault y letter e)
-letter_adds_nothing y e fault = grind (arith, false≢true)
+-- the bytes up to an index stay scanned with one that adds no fault, which isn't a star, or with the first star
+clean_more : (x : List ℕ) (i : ℕ) → i < length x → ((e : Error) → ¬ (AddsFault (with_letters (slash ∷ take i x)) (letter_for (get_or x i 0)) e))
+    → IsClean (with_letters (slash ∷ take i x)) → IsClean (with_letters (slash ∷ take (i + 1) x))
+clean_more x i below none clean =
+    let y = slash ∷ take i x in
+    subst IsClean (sym (ap with_letters (one_more x i below) ∙ map-append letter_for y (get_or x i 0 ∷ []))) (IsClean-more (with_letters y) (letter_for (get_or x i 0)) clean none)
 
--- one more byte adds none: a star, or another one that adds none to the text
-clean_after_star : (y : List ℕ) (b : ℕ) → b ≡ star → IsClean (with_letters y) → IsClean (with_letters (y ++ (b ∷ [])))
-clean_after_star y b same clean =
-    subst IsClean (sym (letters-append y (b ∷ []))) (IsClean-more (with_letters y) (letter_for b) clean
-    (λ e fault. letter_adds_nothing (with_letters y) e (subst (λ c. AddsFault (with_letters y) c e) (letter_for-star b same) fault)))
-
-clean_after_other : (y : List ℕ) (b : ℕ) → ((e : Error) → ¬ (AddsFault y b e)) → IsClean (with_letters y) → IsClean (with_letters (y ++ (b ∷ [])))
-clean_after_other y b none clean =
-    subst IsClean (sym (letters-append y (b ∷ []))) (IsClean-more (with_letters y) (letter_for b) clean
-    (λ e fault. none e (AddsFault-as (with_letters y) y b (ends_before y) e (subst (λ c. AddsFault (with_letters y) c e) (letter_for-other b (none Asterisk)) fault))))
-
--- so the bytes up to an index stay scanned with one that adds no fault, which isn't a star, or with the first star
 pub scanned_other : (x : List ℕ) (i : ℕ) (s : Bool) → i < length x → ((e : Error) → ¬ (AddsFault (slash ∷ take i x) (get_or x i 0) e)) → IsScanned x i s → IsScanned x (i + 1) s
-scanned_other x i s below none scanned = (
-  subst (λ z. IsClean (with_letters z)) (sym (one_more x i below)) (clean_after_other (slash ∷ take i x) (get_or x i 0) none scanned.0),
-  count_by_more_no (λ d. d == star) x i 0 below (ne_eqb (get_or x i 0) star (none Asterisk)) ∙ scanned.1,
-)
+scanned_other x i s below none scanned =
+    let y = slash ∷ take i x in (
+      clean_more x i below (λ e fault. none e (AddsFault-as (with_letters y) y _ (ends_before y) e (rw (letter_for-other (get_or x i 0) (none Asterisk)) at fault))) scanned.0,
+      count_by_more_no (λ d. d == star) x i 0 below (ne_eqb (get_or x i 0) star (none Asterisk)) ∙ scanned.1,
+    )
 
 pub scanned_star : (x : List ℕ) (i : ℕ) → i < length x → get_or x i 0 ≡ star → IsScanned x i false → IsScanned x (i + 1) true
 scanned_star x i below same scanned = (
-  subst (λ z. IsClean (with_letters z)) (sym (one_more x i below)) (clean_after_star (slash ∷ take i x) (get_or x i 0) same scanned.0),
+  clean_more x i below (λ e fault. let added = subst (λ b. AddsFault (with_letters (slash ∷ take i x)) (letter_for b) e) same fault in grind arith) scanned.0,
   count_by_more_yes (λ d. d == star) x i 0 below (eq-eqb (get_or x i 0) star same) ∙ ap (λ n. n + 1) scanned.1,
 )
 
@@ -149,19 +93,14 @@ some_letters : (x : List ℕ) → x ≢ [] → with_letters x ≢ []
 some_letters [] some same = some refl
 some_letters (b ∷ x) some same = cc
 
-pub some_index : (x : List ℕ) (i : ℕ) → i < length x → x ≢ []
-some_index x i below same = grind arith
-
-pub fault_with_letters : (x : List ℕ) (i : ℕ) (e : Error) → x ≢ [] → i < length x → get_or x i 0 ≢ star → AddsFault (slash ∷ take i x) (get_or x i 0) e → HasFault (with_letters x) e
-fault_with_letters x i e some below other fault =
+pub fault_with_letters : (x : List ℕ) (i : ℕ) (e : Error) → i < length x → get_or x i 0 ≢ star → AddsFault (slash ∷ take i x) (get_or x i 0) e → HasFault (with_letters x) e
+fault_with_letters x i e below other fault =
     let b = get_or x i 0 in
-    let whole : with_letters x ≡ with_letters (take i x) ++ (letter_for b ∷ with_letters (drop (suc i) x)) = ap with_letters (split_at x i b below refl) ∙ letters-append (take i x) (b ∷ drop (suc i) x) in
     let y = slash ∷ take i x in
     let rest = with_letters (drop (suc i) x) in
-    let here = ap (λ z. slash ∷ z) whole ∙ ap (λ c. with_letters y ++ (c ∷ rest)) (letter_for-other b other) in
-    let added = AddsFault-as y (with_letters y) b (ends_with_letters y) e fault in
-    HasFault-added (with_letters x) e (some_letters x some)
-    (record { before = with_letters y; byte = b; after = rest; here = here; fault = added })
+    let here = ap (λ z. with_letters (slash ∷ z)) (split_at x i b below refl) ∙ map-append letter_for y (b ∷ drop (suc i) x) ∙ ap (λ c. with_letters y ++ (c ∷ rest)) (letter_for-other b other) in
+    HasFault-added (with_letters x) e (some_letters x (λ empty. omega (arith, ap length empty)))
+    (record { before = with_letters y; byte = b; after = rest; here = here; fault = AddsFault-as y (with_letters y) b (ends_with_letters y) e fault })
 
 finds_with_letters : (y : List ℕ) (fault : Option Error) → Finds fault (LeavesFault y) → Finds fault (LeavesFault (with_letters y))
 finds_with_letters y None none = λ e left. none e (LeavesFault-as (with_letters y) y (ends_before y) e left)
@@ -175,8 +114,7 @@ letters-Lacks [] lacks = refl
 letters-Lacks (b ∷ x) lacks = ap (λ c. c ∷ with_letters x) (letter_for-other b lacks.0) ∙ ap (λ y. b ∷ y) (letters-Lacks x lacks.1)
 
 pub replaces_one : (before after x : List ℕ) → IsSplit before after x → ReplacesStar x (with_letters x)
-replaces_one before after x split =
-    record { before = before; after = after; split = split; replaced = search (arith, letters-append, letters-Lacks) }
+replaces_one before after x split = grind (arith, map-append, letters-Lacks)
 
 pub pattern_with_letter : (x : List ℕ) → HasOneStar x → IsName (with_letters x) → IsPattern x
 pattern_with_letter x (before, after, split) name = record { with_letter = with_letters x; replaces = replaces_one before after x split; name = name }
@@ -184,39 +122,17 @@ pattern_with_letter x (before, after, split) name = record { with_letter = with_
 pub name_without_stars : (x : List ℕ) → Lacks star x → IsName (with_letters x) → IsName x
 name_without_stars x lacks name = subst IsName (letters-Lacks x lacks) name
 
-plain_as : (b c : ℕ) → class_at b ≡ Plain → b ≡ c → class_at c ≡ Plain
-plain_as b c plain same = subst (λ d. class_at d ≡ Plain) same plain
-
-plain_not_refused : (b : ℕ) → class_at b ≡ Plain → is_refused_byte b ≡ true → ⊥
-plain_not_refused b plain refused = grind arith
-
-plain_adds_nothing : (y : List ℕ) (b : ℕ) → class_at b ≡ Plain → (e : Error) → ¬ (AddsFault y b e)
-plain_adds_nothing y b plain h fault = grind (arith, plain_as, plain_not_refused)
-
-locked_ends : (y : List ℕ) → EndsWith (codes ".lock") y → EndsWith (107 ∷ []) y
-locked_ends y ends = record { before = ends.before ++ codes ".loc"; here = ends.here ∙ sym (append_assoc ends.before (codes ".loc") (107 ∷ [])) }
-
 calm_adds_nothing : (y : List ℕ) (p b : ℕ) → EndsWith (p ∷ []) y → IsCalm p b → (e : Error) → ¬ (AddsFault y b e)
-calm_adds_nothing y p b last (inl plain) = plain_adds_nothing y b plain
+calm_adds_nothing y p b last (inl plain) = λ e fault. grind arith
 calm_adds_nothing y p b last (inr quiet) = λ e fault.
-    slash_adds y e (λ ends. quiet.1 (last_byte y p slash last ends)) (λ locked. quiet.2 (last_byte y p 107 last (locked_ends y locked)))
+    slash_adds y e (λ ends. quiet.1 (last_byte y p slash last ends))
+    (λ ends. quiet.2 (last_byte y p 107 last (record { before = ends.before ++ codes ".loc"; here = ends.here ∙ sym (append_assoc ends.before (codes ".loc") (107 ∷ [])) })))
     (subst (λ c. AddsFault y c e) quiet.0 fault)
 
-last_before : (x : List ℕ) (i : ℕ) → i < length x → EndsWith (get_or x i 0 ∷ []) (slash ∷ take (i + 1) x)
-last_before x i below = record { before = slash ∷ take i x; here = one_more x i below }
-
-calm_more : (x : List ℕ) (i : ℕ) (s : Bool) → 0 < i → i < length x → IsCalm (get_or x (i - 1) 0) (get_or x i 0) → IsScanned x i s → IsScanned x (i + 1) s
-calm_more x i s some below calm scanned =
-    let back : i - 1 + 1 ≡ i = omega (arith, some) in
-    let last : EndsWith (get_or x (i - 1) 0 ∷ []) (slash ∷ take i x) = subst (λ j. EndsWith (get_or x (i - 1) 0 ∷ []) (slash ∷ take j x)) back (last_before x (i - 1) (omega (arith, some, below))) in
-    scanned_other x i s below (calm_adds_nothing (slash ∷ take i x) (get_or x (i - 1) 0) (get_or x i 0) last calm) scanned
-
-calm_scanned : (m : ℕ) (x : List ℕ) (i b : ℕ) (s : Bool) → i + m ≡ b → 0 < i → b ≤ length x → AreCalm x i b → IsScanned x i s
-    → IsScanned x b s
+pub calm_scanned : (m : ℕ) (x : List ℕ) (i b : ℕ) (s : Bool) → i + m ≡ b → 0 < i → b ≤ length x → AreCalm x i b → IsScanned x i s → IsScanned x b s
 calm_scanned zero x i b s there some room calm scanned = let same : i ≡ b = omega arith in subst (λ j. IsScanned x j s) same scanned
 calm_scanned (suc m) x i b s there some room calm scanned =
-    calm_scanned m x (i + 1) b s (omega arith) (omega arith) room (λ k from to. calm k (omega arith) to)
-    (calm_more x i s some (omega arith) (calm i (omega arith) (omega arith)) scanned)
-
-pub calm_to : (x : List ℕ) (i b : ℕ) (s : Bool) → 0 < i → i ≤ b → b ≤ length x → AreCalm x i b → IsScanned x i s → IsScanned x b s
-calm_to x i b s some to room calm scanned = calm_scanned (b - i) x i b s (omega arith) some room calm scanned
+    let back : i - 1 + 1 ≡ i = omega (arith, some) in
+    let last : EndsWith (get_or x (i - 1) 0 ∷ []) (slash ∷ take i x) = record { before = slash ∷ take (i - 1) x; here = rw back at (one_more x (i - 1) (omega arith)) } in
+    let none = calm_adds_nothing (slash ∷ take i x) (get_or x (i - 1) 0) (get_or x i 0) last (calm i (omega arith) (omega arith)) in
+    calm_scanned m x (i + 1) b s (omega arith) (omega arith) room (λ k from to. calm k (omega arith) to) (scanned_other x i s (omega arith) none scanned)

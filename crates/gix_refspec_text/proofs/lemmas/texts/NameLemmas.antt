@@ -1,12 +1,10 @@
 -- The faults that one pass over the bytes finds are the faults of a name.
-use Rattle.gix_refspec_text.proofs.Common.{same_from_push, ◌≡◌, ◌≢◌, ℕ, List, [], ◌∷◌, ◌++◌, codes, length, take, drop, get_or, ◌+◌, ◌<◌, ◌≤◌, suc, Option, MatchOption, true, IsTrue, refl, sym, ap}
-use Rattle.gix_refspec_text.proofs.Common.{◌∙◌, subst, inl, inr, append_assoc, arith, Bool, ◌-◌, nat_eq, Decides, ends_with, ends_is, Decides-eqb, append-nil, ◌⊎◌, false≢true, Error, Empty}
-use Rattle.gix_refspec_text.proofs.Common.{EmptyComponent, StartsWithDot, LockSuffix, EndsWithDot, RepeatedDot, ReflogPortion, Asterisk, InvalidByte, ContainsText, BeginsWith, EndsWith, slash, star}
-use Rattle.gix_refspec_text.proofs.Common.{dot, brace, is_refused_byte, SomeComponent, HasFault, IsName, AddsFault, Added, IsClean, LeavesFault, Finds, drop_of_length-le, take_more}
-use Rattle.gix_refspec_text.proofs.lemmas.texts.TextLemmas.{split_at}
-use Rattle.gix_refspec_text.proofs.lemmas.texts.ComponentLemmas.{IsEnd, IsComponent, Pieces, pieces_of, fenced, fenced-IsEnd, last_slash_after_one, SomeComponent-from, SomeComponent-index}
+use Rattle.gix_refspec_text.proofs.Common.{[], same_from_push, ◌≡◌, ◌≢◌, ℕ, List, ◌∷◌, ◌++◌, codes, length, take, drop, get_or, ◌+◌, ◌<◌, ◌≤◌, suc, Option, MatchOption, refl, sym, ap, ◌∙◌, subst, inl}
+use Rattle.gix_refspec_text.proofs.Common.{inr, append_assoc, arith, Bool, ◌-◌, nat_eq, Decides, ends_with, ends_is, Decides-eqb, append-nil, ◌⊎◌, Error, Empty, EmptyComponent, StartsWithDot}
+use Rattle.gix_refspec_text.proofs.Common.{LockSuffix, EndsWithDot, RepeatedDot, ReflogPortion, Asterisk, InvalidByte, ContainsText, BeginsWith, EndsWith, slash, star, dot, brace, SomeComponent}
+use Rattle.gix_refspec_text.proofs.{Common.{HasFault, IsName, AddsFault, Added, IsClean, LeavesFault, Finds, drop_of_length-le, take_more}, lemmas.texts.TextLemmas.split_at}
+use Rattle.gix_refspec_text.proofs.lemmas.texts.ComponentLemmas.{IsEnd, IsComponent, pieces_of, fenced, fenced-IsEnd, last_slash_after_one, SomeComponent-from, SomeComponent-index}
 use Rattle.gix_refspec_text.proofs.lemmas.lists.AllLemmas.{all_join}
-use Rattle.gix_refspec_text.proofs.lemmas.lists.LacksLemmas.{LastIndex}
 
 no_middle : (p r : List ℕ) (b : ℕ) → [] ≡ p ++ (b ∷ r) → ⊥
 no_middle [] r b same = cc
@@ -34,14 +32,8 @@ IsClean-more y c clean none e added =
       | inr index ↦ clean e (record { before = added.before; byte = added.byte; after = index.0; here = index.1; fault = added.fault })
     ]
 
-dot_no_slash : dot ≢ slash
-dot_no_slash same = omega (arith, same)
-
-refused_no_slash : (c : ℕ) → IsTrue (is_refused_byte c) → c ≢ slash
-refused_no_slash c refused same = false≢true (subst (λ b. is_refused_byte b ≡ true) same refused)
-
 pub slash_adds : (y : List ℕ) (e : Error) → ¬ (EndsWith (codes "/") y) → ¬ (EndsWith (codes ".lock") y) → ¬ (AddsFault y slash e)
-slash_adds y e whole unlocked fault = grind (arith, refused_no_slash)
+slash_adds y e whole unlocked fault = grind arith
 
 pub IsClean-start : IsClean (slash ∷ [])
 IsClean-start = IsClean-more [] slash (λ e added. no_middle added.before added.after added.byte added.here) (λ e.
@@ -58,45 +50,38 @@ empty_component x p after here ends =
 
 dotted_component : (x p after : List ℕ) → slash ∷ x ≡ (p ++ (slash ∷ [])) ++ (dot ∷ after) → SomeComponent (BeginsWith (codes ".")) x
 dotted_component x p after here =
-    let split : Pieces after = pieces_of after in
-    let there = here ∙ append_assoc p (slash ∷ []) (dot ∷ after) ∙ ap (λ z. p ++ (slash ∷ (dot ∷ z))) (sym split.here) in
-    let ends = fenced-IsEnd split.others in
-    SomeComponent-from (BeginsWith (codes ".")) (dot ∷ split.first) x
-    (record { before = p; after = fenced split.others; here = there; whole = (dot_no_slash, split.first_whole); ends = ends })
-    (record { after = split.first; here = refl })
-
-regroup : (a b c d : List ℕ) → ((a ++ b) ++ c) ++ d ≡ a ++ ((b ++ c) ++ d)
-regroup a b c d = simp append_assoc
+    let (first, others, split, whole) = pieces_of after in
+    let there = here ∙ append_assoc p (slash ∷ []) (dot ∷ after) ∙ ap (λ z. p ++ (slash ∷ (dot ∷ z))) (sym split) in
+    SomeComponent-from (BeginsWith (codes ".")) (dot ∷ first) x
+    (record { before = p; after = fenced others; here = there; whole = (omega arith, whole.0); ends = fenced-IsEnd others }) (record { after = first; here = refl })
 
 locked_component : (x p after : List ℕ) → slash ∷ x ≡ (p ++ codes ".lock") ++ after → IsEnd after → SomeComponent (EndsWith (codes ".lock")) x
-locked_component x [] after here ends = let first : slash ≡ dot = cc in absurd (dot_no_slash (sym first))
+locked_component x [] after here ends = let first : slash ≡ dot = cc in absurd (omega (arith, first))
 locked_component x (c ∷ p) after here ends =
-    let first : slash ≡ c = cc in
-    let split : LastIndex slash (c ∷ p) = subst (λ b. LastIndex slash (b ∷ p)) first (last_slash_after_one p) in
-    let there = here ∙ ap (λ z. (z ++ codes ".lock") ++ after) split.here ∙ regroup split.before (slash ∷ split.after) _ after in
-    let whole = all_join (λ c. c ≢ slash) split.after (codes ".lock") split.last (omega arith) in
-    SomeComponent-from (EndsWith (codes ".lock")) (split.after ++ codes ".lock") x
-    (record { before = split.before; after = after; here = there; whole = whole; ends = ends })
-    (record { before = split.after; here = refl })
+    let (before, w, split, lacks) = last_slash_after_one p in
+    let fence : c ∷ p ≡ before ++ (slash ∷ w) = (let first : slash ≡ c = cc in cc) in
+    let there : slash ∷ x ≡ before ++ (slash ∷ ((w ++ codes ".lock") ++ after)) = here ∙ ap (λ z. (z ++ codes ".lock") ++ after) fence ∙ simp append_assoc in
+    let whole = all_join (λ c. c ≢ slash) w (codes ".lock") lacks (omega arith) in
+    SomeComponent-from (EndsWith (codes ".lock")) (w ++ codes ".lock") x (record { before = before; after = after; here = there; whole = whole; ends = ends }) (record { before = w; here = refl })
 
 byte_in_text : (x p after : List ℕ) (b c : ℕ) → c ≢ slash → slash ∷ x ≡ p ++ (b ∷ after) → b ≡ c → ContainsText (c ∷ []) x
 byte_in_text x p after b c other here same =
-    let found : EndsWith (c ∷ after) x = after_slash x p after c other (here ∙ ap (λ d. p ++ (d ∷ after)) same) in
+    let found = after_slash x p after c other (here ∙ ap (λ d. p ++ (d ∷ after)) same) in
     record { before = found.before; after = after; here = found.here }
 
 pair_in_text : (x p after : List ℕ) (a b c : ℕ) → a ≢ slash → slash ∷ x ≡ p ++ (b ∷ after) → EndsWith (a ∷ []) p → b ≡ c → ContainsText (a ∷ c ∷ []) x
 pair_in_text x p after a b c other here ends same =
-    let whole : slash ∷ x ≡ ends.before ++ (a ∷ (c ∷ after)) = here ∙ ap (λ d. p ++ (d ∷ after)) same ∙ ap (λ z. z ++ (c ∷ after)) ends.here ∙ append_assoc ends.before (a ∷ []) (c ∷ after) in
-    let found : EndsWith (a ∷ c ∷ after) x = after_slash x ends.before (c ∷ after) a other whole in
+    let whole = here ∙ ap (λ d. p ++ (d ∷ after)) same ∙ ap (λ z. z ++ (c ∷ after)) ends.here ∙ append_assoc ends.before (a ∷ []) (c ∷ after) in
+    let found = after_slash x ends.before (c ∷ after) a other whole in
     record { before = found.before; after = after; here = found.here }
 
 pub HasFault-added : (x : List ℕ) (e : Error) → x ≢ [] → Added (slash ∷ x) e → HasFault x e
-HasFault-added x e some added = grind (arith, empty_component, dotted_component, locked_component, pair_in_text, dot_no_slash, byte_in_text, refused_no_slash)
+HasFault-added x e some added = grind (arith, empty_component, dotted_component, locked_component, pair_in_text, byte_in_text)
 
 pub HasFault-left : (x : List ℕ) (e : Error) → x ≢ [] → LeavesFault (slash ∷ x) e → HasFault x e
 HasFault-left x EmptyComponent some left = (some, empty_component x left.before [] (left.here ∙ sym (append-nil _)) tt)
 HasFault-left x LockSuffix some left = locked_component x left.before [] (left.here ∙ sym (append-nil _)) tt
-HasFault-left x EndsWithDot some left = after_slash x left.before [] dot dot_no_slash left.here
+HasFault-left x EndsWithDot some left = after_slash x left.before [] dot (omega arith) left.here
 HasFault-left x _ some left = absurd left
 
 shown_by_end : (y p after : List ℕ) (e : Error) → y ≡ p ++ after → IsEnd after → AddsFault p slash e → LeavesFault p e → Added y e ⊎ LeavesFault y e
@@ -106,8 +91,7 @@ pair_added : (x : List ℕ) (a b : ℕ) (e : Error) → ContainsText (a ∷ b �
 pair_added x a b e held adds =
     let front = (slash ∷ held.before) ++ (a ∷ []) in
     let here = ap (λ z. slash ∷ z) held.here ∙ sym (append_assoc (slash ∷ held.before) (a ∷ []) (b ∷ held.after)) in
-    let fault = adds front (record { before = slash ∷ held.before; here = refl }) in
-    record { before = front; byte = b; after = held.after; here = here; fault = fault }
+    record { before = front; byte = b; after = held.after; here = here; fault = adds front (record { before = slash ∷ held.before; here = refl }) }
 
 component_found : (x w : List ℕ) (e : Error) (index : IsComponent w x) → AddsFault (index.before ++ (slash ∷ w)) slash e
     → LeavesFault (index.before ++ (slash ∷ w)) e → Added (slash ∷ x) e ⊎ LeavesFault (slash ∷ x) e
@@ -118,16 +102,13 @@ found_fault : (x : List ℕ) (e : Error) → x ≢ [] → HasFault x e → Added
 found_fault x Empty some fault = absurd (some fault)
 found_fault x EmptyComponent some fault =
     let index : IsComponent fault.1.component x = SomeComponent-index (λ w. w ≡ []) x fault.1 in
-    let ends : EndsWith (codes "/") (index.before ++ (slash ∷ fault.1.component)) =
-    record { before = index.before; here = ap (λ w. index.before ++ (slash ∷ w)) fault.1.fact } in
+    let ends : EndsWith (codes "/") (index.before ++ (slash ∷ fault.1.component)) = record { before = index.before; here = ap (λ w. index.before ++ (slash ∷ w)) fault.1.fact } in
     component_found x fault.1.component EmptyComponent index (refl, ends) ends
 found_fault x StartsWithDot some fault =
     let index : IsComponent fault.component x = SomeComponent-index (BeginsWith (codes ".")) x fault in
-    let front = index.before ++ (slash ∷ []) in
-    let ends : EndsWith (codes "/") front = record { before = index.before; here = refl } in
-    let here = index.here ∙ ap (λ w. index.before ++ (slash ∷ (w ++ index.after))) fault.fact.here
-    ∙ sym (append_assoc index.before (slash ∷ []) (dot ∷ (fault.fact.after ++ index.after))) in
-    inl (record { before = front; byte = dot; after = fault.fact.after ++ index.after; here = here; fault = (refl, ends) })
+    let after = fault.fact.after ++ index.after in
+    let here = index.here ∙ ap (λ w. index.before ++ (slash ∷ (w ++ index.after))) fault.fact.here ∙ sym (append_assoc index.before (slash ∷ []) (dot ∷ after)) in
+    inl (record { before = index.before ++ (slash ∷ []); byte = dot; after = after; here = here; fault = (refl, record { before = index.before; here = refl }) })
 found_fault x LockSuffix some fault =
     let index : IsComponent fault.component x = SomeComponent-index (EndsWith (codes ".lock")) x fault in
     let front = index.before ++ (slash ∷ fault.fact.before) in
@@ -151,8 +132,7 @@ one_more x i below = ap (λ z. slash ∷ z) (take_more x i 0 below)
 
 pub added_at : (x : List ℕ) (i : ℕ) (e : Error) → i < length x → AddsFault (slash ∷ take i x) (get_or x i 0) e → Added (slash ∷ x) e
 added_at x i e below fault =
-    let here = ap (λ z. slash ∷ z) (split_at x i (get_or x i 0) below refl) in
-    record { before = slash ∷ take i x; byte = get_or x i 0; after = drop (suc i) x; here = here; fault = fault }
+    record { before = slash ∷ take i x; byte = get_or x i 0; after = drop (suc i) x; here = ap (λ z. slash ∷ z) (split_at x i (get_or x i 0) below refl); fault = fault }
 
 pub end_leaves : (y : List ℕ) (e : Error) → ¬ (EndsWith (codes "/") y) → ¬ (EndsWith (codes ".") y) → ¬ (EndsWith (codes ".lock") y) → ¬ (LeavesFault y e)
 end_leaves y e whole undotted unlocked left = grind arith
@@ -160,15 +140,12 @@ end_leaves y e whole undotted unlocked left = grind arith
 -- a test for `.lock` at the end of x decides the same for x with a slash before it
 pub locked_after_slash : (x : List ℕ) (tested : Bool) → tested ≡ ends_with nat_eq x (codes ".lock") → Decides tested (EndsWith (codes ".lock") (slash ∷ x))
 locked_after_slash x tested by_test =
-    let ends = ends_is Decides-eqb x (codes ".lock") tested by_test in (
-      (λ yes. record { before = slash ∷ take (length x - 5) x; here = ap (λ z. slash ∷ z) (ends.0 yes) }),
-      (λ locked. let found : EndsWith (codes ".lock") x = after_slash x locked.before (codes "lock") dot dot_no_slash locked.here in ends.1 found.before found.here),
-    )
+    let ends = ends_is Decides-eqb x (codes ".lock") tested by_test in
+    let back = λ (locked : EndsWith (codes ".lock") (slash ∷ x)). let found = after_slash x locked.before (codes "lock") dot (omega arith) locked.here in ends.1 found.before found.here in
+    (λ yes. record { before = slash ∷ take (length x - 5) x; here = ap (λ z. slash ∷ z) (ends.0 yes) }, back)
 
 pub ends_last : (x : List ℕ) → 1 ≤ length x → EndsWith (get_or x (length x - 1) 0 ∷ []) (slash ∷ x)
 ends_last x some =
     let k = length x - 1 in
-    let inside : k < length x = omega arith in
     let rest : drop (suc k) x ≡ [] = drop_of_length-le x {i = suc k} (omega arith) in
-    let whole : x ≡ take k x ++ (get_or x k 0 ∷ []) = split_at x k (get_or x k 0) inside refl ∙ ap (λ y. take k x ++ (get_or x k 0 ∷ y)) rest in
-    record { before = slash ∷ take k x; here = ap (λ y. slash ∷ y) whole }
+    record { before = slash ∷ take k x; here = ap (λ y. slash ∷ y) (split_at x k (get_or x k 0) (omega arith) refl ∙ ap (λ y. take k x ++ (get_or x k 0 ∷ y)) rest) }

@@ -1,16 +1,13 @@
 -- The texts of ids: which texts they are, that each is the text of only one id, and that decoding finds it.
-use Rattle.gix_refspec_text.proofs.Common.{nat_tests, ◌≡◌, ℕ, zero, suc, ◌+◌, ◌*◌, ◌/◌, ◌%◌, ◌<◌, Bool, List, [], ◌∷◌, length, slice_index, take, nat_lt, ◌⊎◌, inl, inr, Option, Some, is_some, true}
-use Rattle.gix_refspec_text.proofs.Common.{agree_below_at, not, ◌||◌, eqb, eqb-true, unwrap_or, false, Result, Ok, Err, refl, sym, ap, ◌∙◌, subst, arith, ◌++◌, drop, IsOk, MatchBool, MatchResult}
-use Rattle.gix_refspec_text.proofs.Common.{AllPass, SomeIndex, list_all, IsAscii, IsUtf8, false≢true, cases_Bool, cases_eq, ltb-true, length-take-le, take-append-le, take_all, All-cons, All-head}
-use Rattle.gix_refspec_text.proofs.Common.{All-nil, All-tail, All-weaker, AllPass-from_list_all, Digit, Length, Kind, Sha1, Sha256, HasIdFault, IsIdLength, IsIdText, IsLowerText, IsSpelledBy, Spells}
-use Rattle.gix_refspec_text.proofs.Common.{bytes_of, digits_of, is_lower_digit, lower_of, IsId, HasOneFault, IdOrFault, OneLowerText, list_all-from_AllPass}
-use Rattle.std.specs.Result.{is_err, result_unwrap_or}
-use Rattle.std.proofs.lemmas.Str.{IsUtf8-from_ascii}
-use Rattle.std.proofs.lemmas.Str.Ascii.{IsAscii-from_all}
-use Rattle.hex.specs.Hex.{IsBytes, decode_of, decode_pairs, decode_sized, encode_with, hex_digit_value, is_hex_digit, lower_digits, pair_value}
-use Rattle.hex.specs.declared.error.FromHexError.{FromHexError}
-use Rattle.hex.proofs.HexLemmas.{IsAscii-encode_with, IsOk-decode_sized, decode_of-ok, decode_of-same, decode_pairs-ok, decode_sized-encode_lower, length-encode_with}
-use Rattle.hex.proofs.Pairs.{cons_byte, decode_pairs-ok_pair, decode_sized-pairs}
+use Rattle.hex.proofs.HexLemmas.{decode_of-digits, decode_sized-twice, IsAscii-encode_with, IsOk-decode_sized, decode_of-ok, decode_of-same, decode_pairs-ok, decode_sized-encode_lower}
+use Rattle.hex.{proofs.HexLemmas.length-encode_with, specs.Hex.{digit_or_error, ◌>>=◌, IsBytes, decode_of, decode_pairs, decode_sized, encode_with, hex_digit_value, is_hex_digit, lower_digits}}
+use Rattle.hex.{specs.declared.error.FromHexError.FromHexError, proofs.Pairs.{cons_byte, decode_pairs-ok_pair, decode_sized-pairs}}
+use Rattle.gix_refspec_text.proofs.Common.{rules, [], nat_tests, ◌≡◌, ℕ, zero, suc, ◌+◌, ◌*◌, ◌/◌, ◌%◌, ◌<◌, Bool, List, ◌∷◌, length, slice_index, take, nat_lt, ◌⊎◌, inl, inr, Option, Some, true}
+use Rattle.gix_refspec_text.proofs.Common.{false, Result, Ok, Err, refl, sym, ap, ◌∙◌, subst, arith, ◌++◌, drop, IsOk, MatchBool, MatchResult, AllPass, SomeIndex, list_all, IsUtf8, false≢true}
+use Rattle.gix_refspec_text.proofs.Common.{cases_Bool, cases_eq, ltb-true, length-take-le, take-append-le, take_all, All-cons, All-head, All-nil, All-tail, All-weaker, AllPass-from_list_all, Digit}
+use Rattle.gix_refspec_text.proofs.Common.{Length, Kind, Sha1, Sha256, HasIdFault, IsIdLength, IsIdText, IsLowerText, IsSpelledBy, Spells, bytes_of, digits_of, is_lower_digit, lower_of, IsId}
+use Rattle.gix_refspec_text.proofs.Common.{HasOneFault, IdOrFault, OneLowerText, list_all-from_AllPass}
+use Rattle.std.{specs.Result.is_err, proofs.lemmas.Str.IsUtf8-from_ascii, proofs.lemmas.Str.Ascii.IsAscii-from_all}
 use Rattle.gix_refspec_text.specs.declared.oid.Error.{Error}
 
 pub digits_of-twice : (kind : Kind) → digits_of kind ≡ 2 * bytes_of kind
@@ -23,51 +20,31 @@ Spells-tail a b x t i spelled k below =
     rw (low, high) at (spelled (suc k) (omega arith))
 
 Spells-cons : (a b x : ℕ) (t i : List ℕ) → IsSpelledBy x a b → Spells t i → Spells (a ∷ b ∷ t) (x ∷ i)
-Spells-cons a b x t i first rest zero below = first
-Spells-cons a b x t i first rest (suc k) below =
-    let low : 2 * suc k + 1 ≡ suc (suc (2 * k + 1)) = omega arith in
-    let high : 2 * suc k ≡ suc (suc (2 * k)) = omega arith in
-    rw (low, high) (rest k (omega arith))
-
-pair_value-spelled : (n a b x : ℕ) → IsSpelledBy x a b → pair_value a b n ≡ Ok x
-pair_value-spelled n a b x s = rw (s.high_read, s.low_read) (ap Ok (let v = s.value in omega arith))
+Spells-cons a b x t i first rest k below = search (arith, rules)
 
 pub decode_pairs-spelled : (n : ℕ) (t i : List ℕ) → length t ≡ 2 * length i → Spells t i → decode_pairs n t ≡ Ok i
 unfolding decode_pairs
 decode_pairs-spelled n [] [] twice spelled = refl
 decode_pairs-spelled n (a ∷ b ∷ t) (x ∷ i) twice spelled =
-    decode_pairs-ok_pair n a b x t (pair_value-spelled n a b x (spelled 0 (omega arith)))
-    ∙ ap (cons_byte x) (decode_pairs-spelled (n + 2) t i (omega arith) (Spells-tail a b x t i spelled))
+    let s = spelled 0 (omega arith) in
+    decode_pairs-ok_pair n a b x t (rw (s.high_read, s.low_read) (ap Ok (let v = s.value in omega arith))) ∙ ap (cons_byte x) (decode_pairs-spelled (n + 2) t i (omega arith) (Spells-tail a b x t i spelled))
 decode_pairs-spelled n t i twice spelled = absurd (omega arith)
 
-value_of_digit : (o : Option ℕ) → is_some o ≡ true → (v : ℕ) × (o ≡ Some v)
-value_of_digit o h = grind arith
+pair_taken : (a b n : ℕ) (u v : Option ℕ) (q : Result (List ℕ) FromHexError) (i : List ℕ)
+    → ((digit_or_error a n u >>= (λ (h : ℕ). digit_or_error b (n + 1) v >>= (λ (l : ℕ). Ok (h * 16 + l)))) >>= (λ (x : ℕ). q >>= (λ (r : List ℕ). Ok (x ∷ r)))) ≡ Ok i
+    → (h : ℕ) × (l : ℕ) × (r : List ℕ) × (u ≡ Some h) × (v ≡ Some l) × (q ≡ Ok r) × (i ≡ (h * 16 + l) ∷ r)
+pair_taken a b n u v q i is = grind arith
 
-spelled_byte : (a b : ℕ) → is_hex_digit a ≡ true → is_hex_digit b ≡ true → (x : ℕ) × IsSpelledBy x a b
-spelled_byte a b digit_a digit_b =
-    let high = value_of_digit (hex_digit_value a) digit_a in
-    let low = value_of_digit (hex_digit_value b) digit_b in (
-      16 * high.0 + low.0,
-      record { high_value = high.0; low_value = low.0; high_read = high.1; low_read = low.1; value = refl },
-    )
-
-pub spelled_bytes : (n : ℕ) (t : List ℕ) → length t ≡ 2 * n → AllPass is_hex_digit t
-    → (i : List ℕ) × (length i ≡ n) × Spells t i
-spelled_bytes zero t twice digits = ([], refl, λ k below. absurd (omega arith))
-spelled_bytes (suc n) (a ∷ b ∷ t) twice digits =
-    let tail = All-tail (λ c. is_hex_digit c ≡ true) a (b ∷ t) digits in
-    let rest = spelled_bytes n t (omega arith) (All-tail (λ c. is_hex_digit c ≡ true) b t tail) in
-    let first = spelled_byte a b (All-head (λ c. is_hex_digit c ≡ true) a (b ∷ t) digits) (All-head (λ c. is_hex_digit c ≡ true) b t tail) in
-    let len = rest.1 in
-    (first.0 ∷ rest.0, omega arith, Spells-cons a b first.0 t rest.0 first.1 rest.2)
-spelled_bytes n t twice digits = absurd (omega arith)
+decoded_spells : (n : ℕ) (t i : List ℕ) → decode_pairs n t ≡ Ok i → Spells t i
+unfolding decode_pairs
+decoded_spells n [] i decoded = λ k below. let none : i ≡ [] = cc in absurd (omega (arith, ap length none, below))
+decoded_spells n (a ∷ []) i decoded = absurd (cc)
+decoded_spells n (a ∷ b ∷ t) i decoded =
+    let (h, l, r, high, low, rest, is) = pair_taken a b n (hex_digit_value a) (hex_digit_value b) (decode_pairs (n + 2) t) i decoded in
+    rw is (Spells-cons a b (h * 16 + l) t r (record { high_value = h; low_value = l; high_read = high; low_read = low; value = omega arith }) (decoded_spells (n + 2) t r rest))
 
 pub Spells-decode_pairs : (t i : List ℕ) → decode_pairs 0 t ≡ Ok i → Spells t i
-Spells-decode_pairs t i decoded =
-    let ok = decode_pairs-ok 0 t i decoded in
-    let made = spelled_bytes (length i) t ok.1 ok.0 in
-    let again : decode_pairs 0 t ≡ Ok made.0 = decode_pairs-spelled 0 t made.0 (omega (arith, made.1, ok.1)) made.2 in
-    subst (Spells t) (ap (λ (r : Result (List ℕ) FromHexError). result_unwrap_or r []) (sym again ∙ decoded)) made.2
+Spells-decode_pairs t i decoded = decoded_spells 0 t i decoded
 
 decoded_pairs : (kind : Kind) (t i : List ℕ) → length t ≡ digits_of kind → decode_sized t (bytes_of kind) ≡ Ok i → decode_pairs 0 t ≡ Ok i
 decoded_pairs kind t i digits decoded = let two = digits_of-twice kind in sym (decode_sized-pairs t (bytes_of kind) (omega arith) (omega arith)) ∙ decoded
@@ -89,8 +66,9 @@ AllPass-IsIdText t i text = (decode_of-ok t i (decode_of-IsIdText t i text)).1
 
 pub IsIdText-digits : (t : List ℕ) → IsIdLength (length t) → AllPass is_hex_digit t → (i : List ℕ) × IsIdText t i
 IsIdText-digits t (kind, digits) all =
-    let made = spelled_bytes (bytes_of kind) t (omega (arith, digits_of-twice kind)) all in
-    (made.0, record { kind = kind; digits = digits; bytes = made.1; spelled = made.2 })
+    let two = digits_of-twice kind in
+    let made = decode_of-digits t (omega arith) all in
+    (made.0, IsIdText-decoded kind t made.0 digits (decode_sized-twice t (bytes_of kind) (omega arith) ∙ made.1))
 
 pub IsIdText-sound : (t i : List ℕ) (e : Error) → IsIdText t i → HasIdFault t e → ⊥
 IsIdText-sound t i (Length len) text (same, other) = other (text.kind, text.digits)
@@ -103,10 +81,7 @@ digits_or_not : (t : List ℕ) → AllPass is_hex_digit t ⊎ SomeIndex t (λ k.
 digits_or_not [] = inl (All-nil (λ c. is_hex_digit c ≡ true))
 digits_or_not (c ∷ t) = elim (cases_Bool (is_hex_digit c)) [
   | inr other ↦ inr (0, omega arith, other)
-  | inl digit ↦ elim (digits_or_not t) [
-    | inl digits ↦ inl (All-cons (λ c. is_hex_digit c ≡ true) c t digit digits)
-    | inr index ↦ inr (suc index.0, (let below = index.1 in omega arith), index.2)
-  ]
+  | inl digit ↦ elim (digits_or_not t) [ inl digits ↦ inl (All-cons (λ c. is_hex_digit c ≡ true) c t digit digits) | inr (k, below, other) ↦ inr (suc k, omega (arith, below), other) ]
 ]
 
 pub no_kind : (n : ℕ) → (n ≡ 40 → ⊥) → (n ≡ 64 → ⊥) → ¬ (IsIdLength n)
@@ -120,8 +95,8 @@ id_or_fault t = elim (length_or_not (length t)) [
   | inr other ↦ inr (has_one_fault t (Length (length t)) (refl, other))
   | inl len ↦ elim (digits_or_not t) [
     | inl digits ↦
-        let id = IsIdText-digits t len digits in
-        inl (record { id = id.0; text = id.1; only = λ j other. IsIdText-unique t j id.0 other id.1; sound = λ e. IsIdText-sound t id.0 e id.1 })
+        let (id, text) = IsIdText-digits t len digits in
+        inl (record { id = id; text = text; only = λ j other. IsIdText-unique t j id other text; sound = λ e. IsIdText-sound t id e text })
     | inr index ↦ inr (has_one_fault t Digit (len, index))
   ]
 ]
@@ -134,31 +109,22 @@ IsId-by_digits t false size same = λ id. false≢true (same ∙ list_all-from_A
 length-room : (kind : Kind) (buffer : List ℕ) → length buffer ≡ 32 → length (take (bytes_of kind) buffer) ≡ bytes_of kind
 length-room kind buffer room = length-take-le (bytes_of kind) buffer (grind arith)
 
--- the call that decodes fails exactly if the text doesn't decode, and otherwise writes the bytes
-decoded : (d : Result (List ℕ) FromHexError) (r : Result (Unit {0}) FromHexError) (new : List ℕ) → MatchResult d (λ bytes. (r ≡ Ok tt) × (new ≡ bytes)) (λ e. r ≡ Err e) → MatchBool (is_err r) (¬ (IsOk d)) (d ≡ Ok new)
-decoded d r new is = grind (arith, false≢true)
-
 -- so it reads the id, or finds that some byte isn't a digit
 reads : (kind : Kind) (t room new : List ℕ) (n : ℕ) (failed : Bool) → n ≡ bytes_of kind → length t ≡ digits_of kind → MatchBool failed (¬ (IsOk (decode_sized t (bytes_of kind)))) (decode_sized t (bytes_of kind) ≡ Ok new) → MatchBool failed (HasIdFault t Digit) (IsIdText t (take (bytes_of kind) (new ++ drop n room)))
-reads kind t room new n true size digits refused = elim (digits_or_not t) [
-  | inl all ↦ absurd (refused ((IsOk-decode_sized t (bytes_of kind)).1 ((let two = digits_of-twice kind in omega arith), all)))
-  | inr index ↦ ((kind, digits), index)
-]
+reads kind t room new n true size digits refused =
+    elim (digits_or_not t) [ inl all ↦ absurd (refused ((IsOk-decode_sized t (bytes_of kind)).1 ((let two = digits_of-twice kind in omega arith), all))) | inr index ↦ ((kind, digits), index) ]
 reads kind t room new n false size digits made =
-    let text = IsIdText-decoded kind t new digits made in
     let long : length new ≡ bytes_of kind = decoded_long kind t new digits made in
-    let whole : take (bytes_of kind) (new ++ drop n room) ≡ new = take-append-le (bytes_of kind) new (drop n room) (omega arith) ∙ take_all (bytes_of kind) new (omega arith) in
-    subst (IsIdText t) (sym whole) text
+    let whole = take-append-le (bytes_of kind) new (drop n room) (omega arith) ∙ take_all (bytes_of kind) new (omega arith) in
+    subst (IsIdText t) (sym whole) (IsIdText-decoded kind t new digits made)
 
 pub read_id : (kind : Kind) (t room new : List ℕ) (n : ℕ) (r : Result (Unit {0}) FromHexError) → n ≡ bytes_of kind → length room ≡ 32 → length t ≡ digits_of kind → MatchResult (decode_sized t (length (take n room))) (λ bytes. (r ≡ Ok tt) × (new ≡ bytes)) (λ e. r ≡ Err e) → MatchBool (is_err r) (HasIdFault t Digit) (IsIdText t (take (bytes_of kind) (new ++ drop n room)))
-read_id kind t room new n r size fits digits told = search (arith, length-room, reads, decoded)
-
-IsAscii-lower_digits : IsAscii lower_digits
-IsAscii-lower_digits =
-    IsAscii-from_all lower_digits (All-weaker (λ c. nat_lt c 128 ≡ true) (λ c. c < 128) (λ c h. ltb-true c 128 h) lower_digits (AllPass-from_list_all (λ c. nat_lt c 128) lower_digits refl))
+read_id kind t room new n r size fits digits told = search (arith, length-room, reads)
 
 pub IsUtf8-lower_of : (i : List ℕ) → IsUtf8 (lower_of i)
-IsUtf8-lower_of i = IsUtf8-from_ascii (lower_of i) (IsAscii-encode_with lower_digits i IsAscii-lower_digits)
+IsUtf8-lower_of i =
+    let small = All-weaker (λ c. nat_lt c 128 ≡ true) (λ c. c < 128) (λ c h. ltb-true c 128 h) lower_digits (AllPass-from_list_all (λ c. nat_lt c 128) lower_digits refl) in
+    IsUtf8-from_ascii (lower_of i) (IsAscii-encode_with lower_digits i (IsAscii-from_all lower_digits small))
 
 -- a digit is in lower case, as `AllPass is_lower_digit` says it
 abbrev is_lower : ℕ → Type 0
@@ -176,17 +142,12 @@ AllPass-encode_with p digits (b ∷ i) each fits =
 
 pub IsLowerText-lower_of : (kind : Kind) (i : List ℕ) → length i ≡ bytes_of kind → IsBytes i → IsLowerText (lower_of i) i
 IsLowerText-lower_of kind i size fits =
-    let digits : length (lower_of i) ≡ digits_of kind = omega (arith, digits_of-twice kind, length-encode_with lower_digits i) in (
-      IsIdText-decoded kind (lower_of i) i digits (decode_sized-encode_lower i (bytes_of kind) size fits),
-      AllPass-encode_with is_lower_digit lower_digits i (λ d below. AllPass-from_list_all is_lower_digit lower_digits refl d 0 below) fits,
-    )
+    let digits : length (lower_of i) ≡ digits_of kind = omega (arith, digits_of-twice kind, length-encode_with lower_digits i) in
+    let lower = AllPass-encode_with is_lower_digit lower_digits i (λ d below. AllPass-from_list_all is_lower_digit lower_digits refl d 0 below) fits in
+    (IsIdText-decoded kind (lower_of i) i digits (decode_sized-encode_lower i (bytes_of kind) size fits), lower)
 
 lower_digit : (c v : ℕ) → is_lower_digit c ≡ true → hex_digit_value c ≡ Some v → slice_index lower_digits v ≡ c
-lower_digit c v lower read =
-    let below : c < 103 = grind (arith, nat_tests) in
-    let table = agree_below_at (λ d. not (is_lower_digit d) || eqb (slice_index lower_digits (unwrap_or (hex_digit_value d) 0)) d)
-    (λ _. true) 103 c refl below in
-    eqb-true _ _ (rw (lower, read) at table)
+lower_digit c v lower read = grind (arith, nat_tests)
 
 lower_text : (t i : List ℕ) → length t ≡ 2 * length i → AllPass is_lower_digit t → Spells t i → t ≡ lower_of i
 unfolding encode_with
@@ -213,11 +174,6 @@ IsBytes-take (suc n) (b ∷ x) fits (suc k) = IsBytes-take n x (λ j. fits (suc 
 
 pub one_lower_text : (kind : Kind) (buffer : List ℕ) → length buffer ≡ 32 → IsBytes buffer → OneLowerText (take (bytes_of kind) buffer)
 one_lower_text kind buffer room fits =
-    let i = take (bytes_of kind) buffer in record {
-      lower = IsLowerText-lower_of kind i (length-room kind buffer room) (IsBytes-take (bytes_of kind) buffer fits);
-      only = λ t is. lower_text t i (omega (arith, digits_of-twice is.0.kind, is.0.digits, is.0.bytes)) is.1 is.0.spelled;
-    }
-
-pub IsOk-unless : {T E : Type 0} {R : Type 0} (r : Result T E) (P : T → Type 0) (Q : E → Type 0) → R
-    → MatchResult r P (λ e. ¬ R × Q e) → IsOk r
-IsOk-unless r P Q fact cases = grind arith
+    let i = take (bytes_of kind) buffer in
+    let lower = IsLowerText-lower_of kind i (length-room kind buffer room) (IsBytes-take (bytes_of kind) buffer fits) in
+    record { lower = lower; only = λ t is. lower_text t i (omega (arith, digits_of-twice is.0.kind, is.0.digits, is.0.bytes)) is.1 is.0.spelled }

@@ -1,21 +1,16 @@
 -- A test of each byte and the one before it, which only names pass, and most names do: it computes in examples.
-use Rattle.gix_refspec_text.proofs.Common.{◌≡◌, ℕ, ◌==◌, ◌||◌, ◌&&◌, Bool, false, List, [], ◌∷◌, ◌++◌, codes, sym, ap, eq-eqb, ◌∙◌, append_assoc, append-nil, or_parts, true≢false, Error}
+use Rattle.gix_refspec_text.proofs.Common.{[], ◌≡◌, ℕ, ◌==◌, ◌||◌, ◌&&◌, Bool, false, List, ◌∷◌, ◌++◌, codes, sym, ap, eq-eqb, ◌∙◌, append_assoc, append-nil, or_parts, true≢false, Error}
 use Rattle.gix_refspec_text.proofs.Common.{EmptyComponent, StartsWithDot, LockSuffix, EndsWithDot, RepeatedDot, ReflogPortion, Asterisk, InvalidByte, EndsWith, slash, star, dot, at, brace}
-use Rattle.gix_refspec_text.proofs.Common.{is_refused_byte, IsName, LeavesFault, IsClean}
-use Rattle.gix_refspec_text.proofs.lemmas.texts.NameLemmas.{IsName-from_clean}
+use Rattle.gix_refspec_text.proofs.{Common.{is_refused_byte, IsName, LeavesFault, IsClean}, lemmas.texts.NameLemmas.IsName-from_clean}
 
--- `k`, the last byte of `.lock`
-abbrev pub lock_end : ℕ
-lock_end = 107
-
--- b may not follow a. To recognise `.lock` by one byte, no component may end with `k`
+-- b may not follow a. To recognise `.lock` by one byte, no component may end with its last byte, 107
 abbrev pub are_apart : ℕ → ℕ → Bool
-are_apart a b = b == slash && (a == slash || a == lock_end) || b == dot && (a == slash || a == dot) || b == brace && a == at
+are_apart a b = b == slash && (a == slash || a == 107) || b == dot && (a == slash || a == dot) || b == brace && a == at
 
 -- some byte of x isn't allowed in a name, or not after the byte before it (before the first byte, a); or the last byte
 -- isn't allowed there
 abbrev pub is_suspect : ℕ → List ℕ → Bool
-is_suspect a [] = a == slash || a == dot || a == lock_end
+is_suspect a [] = a == slash || a == dot || a == 107
 is_suspect a (b ∷ x) = (b == star || (is_refused_byte b || are_apart a b)) || is_suspect b x
 
 abbrev Sound : ℕ → List ℕ → Type 0

@@ -1,5 +1,5 @@
 -- Bytes that a text lacks, and texts that are split at an index.
-use Rattle.gix_refspec_text.proofs.Common.{below_more, ◌≡◌, ◌||◌, MatchBool, nat_eq, ℕ, suc, ◌+◌, ◌-◌, ◌<◌, ◌≤◌, ◌==◌, Bool, true, false, List, [], ◌∷◌, ◌++◌, length, get_or, take, drop, sym, ap, ◌∙◌}
+use Rattle.gix_refspec_text.proofs.Common.{[], below_more, ◌≡◌, ◌||◌, MatchBool, nat_eq, ℕ, suc, ◌+◌, ◌-◌, ◌<◌, ◌≤◌, ◌==◌, Bool, true, false, List, ◌∷◌, ◌++◌, length, get_or, take, drop, sym, ap, ◌∙◌}
 use Rattle.gix_refspec_text.proofs.Common.{subst, arith, eq-eqb, take-append-drop, drop-cons, length-drop, drop-drop, get_or-drop, take_all, eqb-true, false≢true, add-one, Lacks, ContainsText}
 use Rattle.gix_refspec_text.proofs.lemmas.lists.LacksLemmas.{Lacks-here}
 
@@ -11,23 +11,15 @@ pub Lacks-from_indexes : (b : ℕ) (x : List ℕ) → ((k : ℕ) → k < length 
 Lacks-from_indexes b [] none = tt
 Lacks-from_indexes b (c ∷ x) none = (λ e. none 0 (omega arith) (eq-eqb c b e), Lacks-from_indexes b x (λ k below. none (suc k) (omega arith)))
 
-pub Lacks-drop : (b : ℕ) (x : List ℕ) (n : ℕ) → NoneFrom b x n → Lacks b (drop n x)
-Lacks-drop b x n none = Lacks-from_indexes b (drop n x) (λ k below. rw get_or-drop (none (n + k) (omega arith) (omega (arith, length-drop n x))))
-
 pub split_at : (x : List ℕ) (n b : ℕ) → n < length x → get_or x n 0 ≡ b → x ≡ take n x ++ (b ∷ drop (suc n) x)
 split_at x n b inside here = sym (take-append-drop n x) ∙ ap (λ y. take n x ++ y) (drop-cons x n 0 inside ∙ ap (λ c. c ∷ drop (suc n) x) here)
 
--- the text after an index, as the code computes it
-pub after_index : (x : List ℕ) (n : ℕ) → n < length x → take (length (drop n x) - 1) (drop 1 (drop n x)) ≡ drop (suc n) x
-after_index x n inside = rw (drop-drop, add-one) (take_all (length (drop n x) - 1) (drop (suc n) x) (omega (arith, length-drop n x, length-drop (suc n) x)))
-
 pub split_at_last : (x front back : List ℕ) (n b : ℕ) → n < length x → (get_or x n 0 == b) ≡ true → NoneFrom b x (n + 1) → front ≡ take n x → back ≡ drop n x → (x ≡ front ++ (b ∷ take (length back - 1) (drop 1 back))) × Lacks b (take (length back - 1) (drop 1 back))
 split_at_last x front back n b inside here none front_is back_is =
-    let rest : take (length back - 1) (drop 1 back) ≡ drop (suc n) x = ap (λ y. take (length y - 1) (drop 1 y)) back_is ∙ after_index x n inside in
-    let lacks : Lacks b (drop (suc n) x) = rw (← add-one) (Lacks-drop b x (n + 1) none) in (
-      rw (front_is, rest) (split_at x n b inside (eqb-true (get_or x n 0) b here)),
-      subst (Lacks b) (sym rest) lacks,
-    )
+    let after : take (length (drop n x) - 1) (drop 1 (drop n x)) ≡ drop (suc n) x = rw (drop-drop, add-one) (take_all (length (drop n x) - 1) (drop (suc n) x) (omega (arith, length-drop n x, length-drop (suc n) x))) in
+    let rest : take (length back - 1) (drop 1 back) ≡ drop (suc n) x = ap (λ y. take (length y - 1) (drop 1 y)) back_is ∙ after in
+    let lacks : Lacks b (drop (suc n) x) = rw (← add-one) (Lacks-from_indexes b (drop (n + 1) x) (λ k below. rw get_or-drop (none (n + 1 + k) (omega arith) (omega (arith, length-drop (n + 1) x))))) in
+    (rw (front_is, rest) (split_at x n b inside (eqb-true (get_or x n 0) b here)), subst (Lacks b) (sym rest) lacks)
 
 -- b is in the text, or at none of its first n indexes
 abbrev pub FoundBefore : ℕ → List ℕ → ℕ → Bool → Type 0
@@ -48,10 +40,9 @@ Lacks-ContainsText b x lacks holds = Lacks-here b holds.before holds.after (subs
 
 pub Lacks-from_absent : (b : ℕ) (x : List ℕ) → ¬ (ContainsText (b ∷ []) x) → Lacks b x
 Lacks-from_absent b [] absent = tt
-Lacks-from_absent b (c ∷ x) absent = (
-  λ e. absent (record { before = []; after = x; here = ap (λ d. d ∷ x) e }),
-  Lacks-from_absent b x (λ holds. absent (record { before = c ∷ holds.before; after = holds.after; here = ap (λ y. c ∷ y) holds.here })),
-)
+Lacks-from_absent b (c ∷ x) absent =
+    let later = Lacks-from_absent b x (λ holds. absent (record { before = c ∷ holds.before; after = holds.after; here = ap (λ y. c ∷ y) holds.here })) in
+    (λ e. absent (record { before = []; after = x; here = ap (λ d. d ∷ x) e }), later)
 
 pub one_not_two : (b : ℕ) (u v p q r : List ℕ) → Lacks b u → Lacks b v → u ++ (b ∷ v) ≡ p ++ (b ∷ (q ++ (b ∷ r))) → ⊥
 one_not_two b [] v [] q r lacks_u lacks_v same = let rest : v ≡ q ++ (b ∷ r) = cc in Lacks-here b q r (subst (Lacks b) rest lacks_v)

@@ -1,15 +1,12 @@
-use Rattle.gix_refspec_text.proofs.Common.{◌∷◌, take, get_or, sym, subst, arith, take_all, slash, IsClean}
-use Rattle.gix_refspec_text.proofs.lemmas.texts.NameLemmas.{one_more, IsClean-start, IsClean-more, HasFault-added, added_at, answer_at_end}
-use Rattle.gix_refspec_text.proofs.lemmas.lists.EmptyLemmas.{full_from_test}
+use Rattle.gix_refspec_text.proofs.{Common.{arith, ◌∷◌, take, get_or, sym, subst, take_all, slash, IsClean}, lemmas.texts.NameLemmas.{one_more, IsClean-start, IsClean-more, HasFault-added, added_at}}
+use Rattle.gix_refspec_text.proofs.lemmas.{texts.NameLemmas.answer_at_end, lists.EmptyLemmas.full_from_test}
 use Rattle.gix_refspec_text.proofs.name.found_fault.Goals as goal
 
 pub loop-index-init : goal.loop-index-init
 loop-index-init c = IsClean-start
 
 pub returns-in-Some : goal.returns-in-Some
-returns-in-Some c =
-    let x = c.args.text.now in
-    HasFault-added x c.in-Some.fault (full_from_test x c.if-is_empty.ensures) (added_at x c.loop-index.index _ (omega arith) c.in-Some.ensures)
+returns-in-Some c = grind (arith, HasFault-added, full_from_test, added_at)
 
 pub loop-index-preserved : goal.loop-index-preserved
 loop-index-preserved c =

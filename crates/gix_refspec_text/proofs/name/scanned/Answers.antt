@@ -1,7 +1,5 @@
 -- Of each sixteen bytes those after the calm run are checked one by one.
-use Rattle.gix_refspec_text.proofs.Common.{◌≡◌, ◌+◌, ◌≤◌, length, refl, arith}
-use Rattle.gix_refspec_text.proofs.lemmas.texts.NameLemmas.{IsClean-start}
-use Rattle.gix_refspec_text.proofs.lemmas.texts.LetterLemmas.{calm_to}
+use Rattle.gix_refspec_text.proofs.{Common.{arith, ◌≡◌, ◌+◌, ◌-◌, ◌≤◌, length, refl}, lemmas.texts.NameLemmas.IsClean-start, lemmas.texts.LetterLemmas.calm_scanned}
 use Rattle.gix_refspec_text.proofs.name.scanned.Goals as goal
 
 pub scanned_to-requires : goal.scanned_to-requires
@@ -16,11 +14,10 @@ scanned_to-requires-in-loop-index c =
     let i = c.loop-index.index in
     let run = c.calm_run.ensures in
     let room : c.min-from.result + 16 ≤ length x = omega arith in
-    let end : c.max-calm.result ≤ c.min-from.result + 16 = omega (arith, run.1) in (
-      end,
-      room,
-      calm_to x i c.max-calm.result c.loop-index.starred c.loop-index.invariant.1 (omega arith) (omega (arith, end, room)) (λ k above below. run.0 k (omega (arith, above)) (omega (arith, above, below))) c.loop-index.invariant.0,
-    )
+    let end : c.max-calm.result ≤ c.min-from.result + 16 = omega (arith, run.1) in
+    let scanned = calm_scanned (c.max-calm.result - i) x i c.max-calm.result c.loop-index.starred (omega arith) c.loop-index.invariant.1 (omega (arith, end, room))
+    (λ k above below. run.0 k (omega (arith, above)) (omega (arith, above, below))) c.loop-index.invariant.0 in
+    (end, room, scanned)
 
 pub returns : goal.returns
 returns c =

@@ -1,7 +1,6 @@
-use Rattle.gix_refspec_text.proofs.Common.{◌≡◌, ◌≢◌, ◌∷◌, take, get_or, arith, common_steps, slash, star}
-use Rattle.gix_refspec_text.proofs.lemmas.texts.LetterLemmas.{second_star, scanned_other, scanned_star, some_index, fault_with_letters}
-use Rattle.gix_refspec_text.proofs.name.scanned_to.Goals as goal
+use Rattle.gix_refspec_text.proofs.{Common.{◌≡◌, ◌∷◌, take, arith, common_steps, slash}, lemmas.texts.LetterLemmas.{second_star, scanned_other, scanned_star, fault_with_letters}}
 use Rattle.gix_refspec_text.proofs.name.scanned_to.Goals.{then-byte-eq42+else-starred, else-byte-eq42+in_default}
+use Rattle.gix_refspec_text.proofs.name.scanned_to.Goals as goal
 
 pub loop-index-preserved-then-is_plain : goal.loop-index-preserved-then-is_plain
 loop-index-preserved-then-is_plain c =
@@ -12,11 +11,7 @@ pub returns-then-starred : goal.returns-then-starred
 returns-then-starred c = search (arith, second_star)
 
 pub returns-in-Some : goal.returns-in-Some
-returns-in-Some c =
-    let x = c.args.text.now in
-    let i = c.loop-index.index in
-    let other : get_or x i 0 ≢ star = grind (arith, common_steps) in
-    fault_with_letters x i c.in-Some.fault (some_index x i (omega arith)) (omega arith) other c.in-Some.ensures
+returns-in-Some c = grind (arith, common_steps, fault_with_letters)
 
 -- the first star sets the flag, and any other byte adds no fault
 pub loop-index-preserved : goal.loop-index-preserved

@@ -1,7 +1,5 @@
 -- With letters for its stars the text has a fault if a byte adds one, or if one is left at its end.
-use Rattle.gix_refspec_text.proofs.Common.{Some, None}
-use Rattle.gix_refspec_text.proofs.lemmas.texts.LetterLemmas.{scanned_whole, answer_with_letters}
-use Rattle.gix_refspec_text.proofs.lemmas.lists.EmptyLemmas.{full_from_test}
+use Rattle.gix_refspec_text.proofs.{Common.{Some, None}, lemmas.texts.LetterLemmas.{scanned_whole, answer_with_letters}, lemmas.lists.EmptyLemmas.full_from_test}
 use Rattle.gix_refspec_text.proofs.name.starred_name.Goals as goal
 
 pub returns-in-Some : goal.returns-in-Some

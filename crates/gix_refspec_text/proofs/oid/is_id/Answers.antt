@@ -1,5 +1,4 @@
-use Rattle.gix_refspec_text.proofs.Common.{arith}
-use Rattle.gix_refspec_text.proofs.lemmas.texts.ObjectIdLemmas.{IsId-by_digits}
+use Rattle.gix_refspec_text.proofs.{Common.arith, lemmas.texts.ObjectIdLemmas.IsId-by_digits}
 use Rattle.gix_refspec_text.proofs.oid.is_id.Goals as goal
 
 pub returns-in-40 : goal.returns-in-40

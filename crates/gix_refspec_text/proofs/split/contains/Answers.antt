@@ -1,5 +1,4 @@
-use Rattle.gix_refspec_text.proofs.Common.{arith}
-use Rattle.gix_refspec_text.proofs.lemmas.texts.TextLemmas.{found_further, found_whole}
+use Rattle.gix_refspec_text.proofs.{Common.arith, lemmas.texts.TextLemmas.{found_further, found_whole}}
 use Rattle.gix_refspec_text.proofs.split.contains.Goals as goal
 
 pub loop-other-preserved : goal.loop-other-preserved

@@ -1,6 +1,5 @@
 -- Below the lowest set bit of the mask each byte is calm after the byte before it.
-use Rattle.gix_refspec_text.proofs.Common.{ℕ, ◌-◌, ltb, cond, bit_or, bit_and, arith, zip2_splat, length-chunk, chunk}
-use Rattle.gix_refspec_text.proofs.lemmas.texts.CalmLemmas.{calm_from_lanes}
+use Rattle.gix_refspec_text.proofs.{Common.{ℕ, ◌-◌, ltb, cond, bit_or, bit_and, arith, zip2_splat, length-chunk, chunk}, lemmas.texts.CalmLemmas.calm_from_lanes}
 use Rattle.std.proofs.lemmas.Simd.{zip2_of_maps as joined, zip2_splat_left}
 use Rattle.gix_refspec_text.proofs.name.calm.calm_run.Goals as goal
 

@@ -1,5 +1,4 @@
-use Rattle.gix_refspec_text.proofs.Common.{replicate, refl, sym, ◌∙◌, MatchBool-at_true, MatchBool-at_false}
-use Rattle.gix_refspec_text.proofs.lemmas.texts.ObjectIdLemmas.{read_id}
+use Rattle.gix_refspec_text.proofs.{Common.{replicate, refl, sym, ◌∙◌, MatchBool-at_true, MatchBool-at_false}, lemmas.texts.ObjectIdLemmas.read_id}
 use Rattle.gix_refspec_text.proofs.oid.ObjectId.from_hex.Goals as goal
 
 pub returns-then-is_err : goal.returns-then-is_err

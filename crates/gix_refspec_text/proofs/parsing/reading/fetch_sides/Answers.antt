@@ -1,9 +1,7 @@
 -- No reason before those of the source applies to a positive fetch. The checks return the reasons of its sides.
-use Rattle.gix_refspec_text.proofs.Common.{refl, sym, ap, ◌∙◌, subst, rules, err_from_is_err_and, differs_true, differs_false, the_type, Fetch, PatternUnbalanced, HasCheckedShape, destination_of}
-use Rattle.gix_refspec_text.proofs.Common.{side_of}
-use Rattle.gix_refspec_text.proofs.lemmas.parsing.SideLemmas.{now-unwrap_or}
-use Rattle.gix_refspec_text.proofs.lemmas.parsing.ReasonLemmas.{fetch_reaches, error_at_destination, fetch_source_fine, unbalanced_fetch}
-use Rattle.gix_refspec_text.proofs.lemmas.parsing.ReadsLemmas.{fine_fetch, sides_read, side_of-named_or_head}
+use Rattle.gix_refspec_text.proofs.Common.{arith, refl, sym, ap, ◌∙◌, subst, rules, err_from_is_err_and, differs_true, differs_false, the_type, Fetch, PatternUnbalanced, HasCheckedShape}
+use Rattle.gix_refspec_text.proofs.{Common.{destination_of, side_of}, lemmas.parsing.SideLemmas.now-unwrap_or, lemmas.parsing.ReasonLemmas.{fetch_reaches, error_at_destination, fetch_source_fine}}
+use Rattle.gix_refspec_text.proofs.lemmas.parsing.{ReasonLemmas.unbalanced_fetch, ReadsLemmas.{fine_fetch, sides_read}}
 use Rattle.gix_refspec_text.proofs.parsing.reading.fetch_sides.Goals as goal
 
 pub returns-in_err-checked-2-clause-err : goal.returns-in_err-checked-2-clause-err
@@ -29,7 +27,6 @@ returns-clause-ok c =
     let target = now-unwrap_or p.destination _ c.unwrap_or-target.result c.unwrap_or-target.ensures refl in
     let same = differs_false the_type (search rules) c.in_ok-checked.field-0 c.in_ok-checked-2.field-0 (sym c.if-ne.ensures) in
     let shape = subst (λ k. HasCheckedShape p.source.now k) same c.in_ok-checked.ensures.ok in
-    let source = c.new.ensures.source ∙ (ap side_of c.named_or_head.ensures ∙ side_of-named_or_head p.source.now) in
     sides_read p c.new.result
     (fine_fetch c.in_ok-checked-2.field-0 c.requires.operation c.requires.positive shape (rw target at c.in_ok-checked-2.ensures.ok))
-    (rw c.requires.operation source) (c.new.ensures.destination ∙ ap side_of target)
+    (rw c.requires.operation (c.new.ensures.source ∙ (ap side_of c.named_or_head.ensures ∙ (grind arith)))) (c.new.ensures.destination ∙ ap side_of target)

@@ -1,18 +1,9 @@
-use Rattle.gix_refspec_text.proofs.Common.{sym, refl, ap, ◌∙◌, false≢true, LooksLikeObjectHash, NegativeObjectHash, mode_of, side_of}
-use Rattle.gix_refspec_text.proofs.lemmas.parsing.SideLemmas.{none_from_test}
-use Rattle.gix_refspec_text.proofs.lemmas.parsing.ReasonLemmas.{reason_against_object}
-use Rattle.gix_refspec_text.proofs.lemmas.parsing.ReadsLemmas.{fine_negative, source_named, sides_read}
-use Rattle.gix_refspec_text.proofs.lemmas.lists.EmptyLemmas.{full_from_test}
+use Rattle.gix_refspec_text.proofs.{Common.{arith, sym, refl, ap, ◌∙◌, false≢true, LooksLikeObjectHash, NegativeObjectHash, mode_of, side_of}, lemmas.parsing.SideLemmas.none_from_test}
+use Rattle.gix_refspec_text.proofs.lemmas.{parsing.ReasonLemmas.reason_against_object, parsing.ReadsLemmas.{fine_negative, source_named, sides_read}, lists.EmptyLemmas.full_from_test}
 use Rattle.gix_refspec_text.proofs.parsing.reading.negative_sides.Goals as goal
 
 pub returns-then-looks_like_object_hash-clause-err : goal.returns-then-looks_like_object_hash-clause-err
-returns-then-looks_like_object_hash-clause-err c =
-    let p = c.args.parts in
-    let none = none_from_test p.destination c.if-is_some.ensures in
-    let full = full_from_test p.source.now c.if-is_empty.ensures in
-    let hash = c.if-looks_like_object_hash.ensures.0 refl in
-    let first = reason_against_object p.operation p.source.now c.in_ok-checked.field-0 full c.in_ok-checked.ensures.ok hash in
-    (NegativeObjectHash, refl, rw (c.requires, none) first)
+returns-then-looks_like_object_hash-clause-err c = (NegativeObjectHash, refl, grind (arith, none_from_test, full_from_test, reason_against_object))
 
 pub returns-clause-ok : goal.returns-clause-ok
 returns-clause-ok c =

@@ -1,20 +1,12 @@
 -- The text has the parts that it was split into, so what holds for the parts holds for the text.
-use Rattle.gix_refspec_text.proofs.Common.{sym, subst, err_from_is_err_and, bstr_bytes, HasParts}
-use Rattle.gix_refspec_text.proofs.lemmas.parsing.ReasonLemmas.{shows_refusal, needs_memory}
-use Rattle.gix_refspec_text.proofs.lemmas.parsing.ReadsLemmas.{error_of_text}
+use Rattle.gix_refspec_text.proofs.{Common.{arith, sym, subst, err_from_is_err_and, bstr_bytes, HasParts}, lemmas.parsing.ReadsLemmas.error_of_text}
 use Rattle.gix_refspec_text.proofs.parsing.reading.parse.Goals as goal
 
-pub returns-in_err-sides-clause-refused : goal.returns-in_err-sides-clause-refused
-returns-in_err-sides-clause-refused c =
+pub returns-in_err-sides : goal.returns-in_err-sides
+returns-in_err-sides c =
     let told = error_of_text c.new-parts.result _ (bstr_bytes c.args.spec) c.in_err-sides.field-0.0 c.as_bytes.ensures c.new-parts.ensures.parts c.in_err-sides.ensures.err in
     let q = err_from_is_err_and c.from_residual.result c.from_residual.ensures.1 in
-    rw (q.1, q.2, sym c.new-parts.ensures.operation) (shows_refusal _ _ _ told)
-
-pub returns-in_err-sides-clause-memory : goal.returns-in_err-sides-clause-memory
-returns-in_err-sides-clause-memory c =
-    let told = error_of_text c.new-parts.result _ (bstr_bytes c.args.spec) c.in_err-sides.field-0.0 c.as_bytes.ensures c.new-parts.ensures.parts c.in_err-sides.ensures.err in
-    let q = err_from_is_err_and c.from_residual.result c.from_residual.ensures.1 in
-    rw (q.1, q.2, sym c.new-parts.ensures.operation) (needs_memory _ _ _ told)
+    rw (q.1, q.2, sym c.new-parts.ensures.operation) (record { ok = tt; refused = λ other. grind arith; memory = λ same. rw same at told })
 
 pub invariant_of-result : goal.invariant_of-result
 invariant_of-result c =

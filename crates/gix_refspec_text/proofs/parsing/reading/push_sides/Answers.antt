@@ -1,7 +1,6 @@
 -- No reason before those of the source applies to a positive push to a destination.
 use Rattle.gix_refspec_text.proofs.Common.{HasShape, Some, refl, sym, ap, ◌∙◌, subst, rules, err_from_is_err_and, differs_true, differs_false, the_type, Push, PatternUnbalanced, side_of}
-use Rattle.gix_refspec_text.proofs.lemmas.parsing.ReasonLemmas.{push_reaches, error_at_destination, push_source_fine, unbalanced_push}
-use Rattle.gix_refspec_text.proofs.lemmas.parsing.ReadsLemmas.{fine_push, sides_read}
+use Rattle.gix_refspec_text.proofs.lemmas.parsing.{ReasonLemmas.{push_reaches, error_at_destination, push_source_fine, unbalanced_push}, ReadsLemmas.{fine_push, sides_read}}
 use Rattle.gix_refspec_text.proofs.parsing.reading.push_sides.Goals as goal
 
 pub returns-in_err-checked-clause-err : goal.returns-in_err-checked-clause-err

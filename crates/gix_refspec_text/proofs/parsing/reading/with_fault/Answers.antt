@@ -1,5 +1,4 @@
-use Rattle.gix_refspec_text.proofs.Common.{subst, HasFault, refl, ReferenceName, with_letters}
-use Rattle.gix_refspec_text.proofs.lemmas.texts.LetterLemmas.{letters-Lacks, replaces_one}
+use Rattle.gix_refspec_text.proofs.{Common.{subst, HasFault, refl, ReferenceName, with_letters}, lemmas.texts.LetterLemmas.{letters-Lacks, replaces_one}}
 use Rattle.gix_refspec_text.proofs.parsing.reading.with_fault.Goals as goal
 
 pub returns-in-No-clause-ok : goal.returns-in-No-clause-ok

@@ -1,13 +1,13 @@
 -- The entries of the side on the remote were appended. Without entries no memory is needed.
-use Rattle.gix_refspec_text.proofs.Common.{inl, map, arith, on_ok_weaker, on_err_weaker, bstring_bytes, reading_of}
-use Rattle.gix_refspec_text.proofs.lemmas.prefixes.PrefixLemmas.{asked_nothing, on_any_error, no_entries, appended_ok}
+use Rattle.gix_refspec_text.proofs.{Common.{map-append, inl, map, arith, on_ok_weaker, on_err_weaker, bstring_bytes, reading_of}, lemmas.prefixes.PrefixLemmas.{asked_nothing, on_any_error}}
+use Rattle.gix_refspec_text.proofs.lemmas.prefixes.PrefixLemmas.{no_entries}
 use Rattle.gix_refspec_text.proofs.spec.RefSpecRef.expand_prefixes.Goals as goal
 
 pub returns-clause-ok : goal.returns-clause-ok
 returns-clause-ok c =
     on_ok_weaker c.append.result
     (λ appended. record { list = map bstring_bytes c.in_ok-entries.entries.items; is = inl (c.in-Some.side.now, c.in-Some.ensures.0, c.in_ok-entries.ensures.ok); appended = appended })
-    (appended_ok bstring_bytes c.append.result c.args.out.now.items c.in_ok-entries.entries.items c.append.new.self.items c.append.ensures.items)
+    (let items = c.append.ensures.items in grind (arith, map-append))
 
 pub returns-in_err-entries-clause-memory : goal.returns-in_err-entries-clause-memory
 returns-in_err-entries-clause-memory c =

@@ -1,6 +1,5 @@
-use Rattle.gix_refspec_text.proofs.Common.{bstr_bytes}
-use Rattle.gix_refspec_text.proofs.lemmas.specs.DestinationLemmas.{alone_accepted}
+use Rattle.gix_refspec_text.proofs.{Common.arith, lemmas.specs.DestinationLemmas.read_alone}
 use Rattle.gix_refspec_text.proofs.spec.RefSpecRef.fetch_of.Goals as goal
 
 pub invariant_of-result : goal.invariant_of-result
-invariant_of-result c = record { accepted = ∣ alone_accepted (bstr_bytes c.args.name) c.requires.name c.requires.full ∣₁ }
+invariant_of-result c = record { accepted = ∣ (grind (arith, read_alone)) ∣₁ }

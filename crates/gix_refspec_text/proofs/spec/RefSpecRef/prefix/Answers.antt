@@ -1,5 +1,4 @@
-use Rattle.gix_refspec_text.proofs.Common.{List, ℕ, subst, sym, MatchOption, bstr_bytes, HasPrefix, IsPrefix, reading_of}
-use Rattle.gix_refspec_text.proofs.lemmas.prefixes.PrefixLemmas.{one_asked}
+use Rattle.gix_refspec_text.proofs.{Common.{List, ℕ, subst, sym, MatchOption, bstr_bytes, HasPrefix, IsPrefix, reading_of}, lemmas.prefixes.PrefixLemmas.one_asked}
 use Rattle.gix_refspec_text.proofs.spec.RefSpecRef.prefix.Goals as goal
 
 pub returns-in_err-prefix : goal.returns-in_err-prefix

@@ -1,5 +1,4 @@
-use Rattle.gix_refspec_text.proofs.Common.{refl}
-use Rattle.gix_refspec_text.proofs.lemmas.prefixes.PrefixLemmas.{told_name, told_pattern}
+use Rattle.gix_refspec_text.proofs.{Common.refl, lemmas.prefixes.PrefixLemmas.{told_name, told_pattern}}
 use Rattle.gix_refspec_text.proofs.spec.prefix.is_covering.Goals as goal
 
 pub returns-in-Pattern : goal.returns-in-Pattern

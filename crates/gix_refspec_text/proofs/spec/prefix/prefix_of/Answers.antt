@@ -1,5 +1,4 @@
-use Rattle.gix_refspec_text.proofs.Common.{subst, sym, MatchOption, HasNoPrefix, IsPrefix}
-use Rattle.gix_refspec_text.proofs.lemmas.prefixes.PrefixLemmas.{pattern_prefix}
+use Rattle.gix_refspec_text.proofs.{Common.{subst, sym, MatchOption, HasNoPrefix, IsPrefix}, lemmas.prefixes.PrefixLemmas.pattern_prefix}
 use Rattle.gix_refspec_text.proofs.spec.prefix.prefix_of.Goals as goal
 
 pub returns-in-Pattern : goal.returns-in-Pattern
