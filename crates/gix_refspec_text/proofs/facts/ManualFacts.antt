@@ -11,8 +11,8 @@ use Rattle.gix_refspec_text.specs.declared.name.PatternError.TheVariants.{Memory
 pub use Rattle.gix_refspec_text.proofs.readers.Texts.{Lacks-tested}
 use Rattle.gix_refspec_text.proofs.{lemmas.lists.LacksLemmas.Lacks-here, lemmas.parsing.PartsLemmas.parts_once, lemmas.parsing.SideLemmas.HasStar-stars}
 use Rattle.gix_refspec_text.proofs.{lemmas.texts.TestedLemmas.IsName-tested, lemmas.texts.TestedLemmas.is_suspect}
-use Rattle.gix_refspec_text.proofs.{readers.Readings.excludes, readers.Readings.parts_of, readers.Readings.reads}
-use Rattle.gix_refspec_text.proofs.readers.Texts.{bad_side, begins, contains, differ, holds_not, not_several, several, unstarred}
+use Rattle.gix_refspec_text.proofs.{readers.Readings.bad_for, readers.Readings.parts_of, readers.Readings.reads}
+use Rattle.gix_refspec_text.proofs.readers.Texts.{begins, contains, differ, holds_not, not_several, several, unstarred}
 
 -- a text with a byte isn't empty
 pub full : (b : ℕ) (bs : List ℕ) → b ∷ bs ≢ []
@@ -93,15 +93,15 @@ pub manual : Says Fetch (codes "+refs/heads/*:refs/remotes/origin/*") (fetch_and
     × Says Push (codes ":experimental") (push_delete (codes "experimental")) × Says Push (codes ":") (push_all_matching false)
     × Says Push (codes "^refs/heads/dev-*") (push_exclude (codes "refs/heads/dev-*"))
 manual = (
-  (_, reads Pattern tt refl, refl),
-  (_, reads Plain tt refl, refl),
-  (_, reads Plain tt refl, refl),
-  (_, reads Plain tt refl, refl),
-  (_, reads Plain tt refl, refl),
-  (_, reads Plain tt refl, refl),
-  (_, reads Plain tt refl, refl),
-  (_, pushes_colon Normal refl tt (parts_of (codes ":")) refl, refl),
-  (_, excludes Pattern refl refl, refl),
+  (_, reads refl refl, refl),
+  (_, reads refl refl, refl),
+  (_, reads refl refl, refl),
+  (_, reads refl refl, refl),
+  (_, reads refl refl, refl),
+  (_, reads refl refl, refl),
+  (_, reads refl refl, refl),
+  (_, reads refl refl, refl),
+  (_, reads refl refl, refl),
 )
 
 -- the canonical texts of these
@@ -209,7 +209,7 @@ pub memory_after_reasons : ¬ (ReachesMemory Fetch Normal (codes "a..b") (Some (
 memory_after_reasons = (
   (λ reaches. elim reaches.1 [
     | inl needs ↦ holds_not (codes "*") (codes "a..b") refl (elim needs [ inl stars ↦ HasStar-stars (codes "a..b") stars | inr long ↦ long.0 ])
-    | inr after ↦ after.0 (ReferenceName RepeatedDot) (record { source = full _ _; refusal = bad_side (codes "a..b") (ReferenceName RepeatedDot) refl })
+    | inr after ↦ after.0 (ReferenceName RepeatedDot) (record { source = full _ _; refusal = bad_for Fetch (Some (codes "c*d*")) (codes "a..b") (ReferenceName RepeatedDot) refl })
   ]),
   (λ reaches. reaches.0.2 PushToEmpty (record { push = refl; source = full _ _; nowhere = refl; refusal = refl })),
   (λ reaches. reaches.0.1 NegativeWithDestination (record { negative = refl; colon = refl; refusal = refl })),

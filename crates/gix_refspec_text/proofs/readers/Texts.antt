@@ -3,26 +3,23 @@ use Rattle.gix_refspec_text.proofs.Common.{◌≡◌, ◌≢◌, ℕ, Bool, true
 use Rattle.gix_refspec_text.proofs.Common.{sym, ap, ◌∙◌, subst, arith, All, AllByRecursion, All-from_recursion, Decides, Decides-eqb, starts_with, ends_with, starts_is, ends_is, slice_split}
 use Rattle.gix_refspec_text.proofs.Common.{join_with_byte, list_any, list_all, count_by, true≢false, false≢true, eqb-false, eqb-true, ne_eqb, or_parts, or_cases, and_parts, and_from, Error, Empty}
 use Rattle.gix_refspec_text.proofs.Common.{EmptyComponent, StartsWithDot, LockSuffix, EndsWithDot, RepeatedDot, ReflogPortion, Asterisk, InvalidByte, is_refused_byte, Lacks, ContainsText, BeginsWith}
-use Rattle.gix_refspec_text.proofs.Common.{EndsWith, SomeComponent, HasFault, HasOneStar, HasSeveralStars, IsName, IsPattern, IsPatternFault, slash, star, with_letters, inl, inr, ◌⊎◌, Refusal}
+use Rattle.gix_refspec_text.proofs.Common.{EndsWith, SomeComponent, HasFault, HasOneStar, HasSeveralStars, IsName, IsPattern, IsPatternFault, ReplacesStar, slash, star, with_letters, inl, inr, ◌⊎◌, Refusal}
 use Rattle.gix_refspec_text.proofs.Common.{PatternUnsupported, ReferenceName, IsBadName, IsBadPattern}
 use Rattle.gix_refspec_text.specs.declared.name.PatternError.TheVariants.{Name}
 use Rattle.std.specs.List.{onto_first}
+use Rattle.std.proofs.lemmas.Bool.Decides.{Decides-not, not_from_Decides}
 use Rattle.std.proofs.Math.Bool.{or-true}
 use Rattle.std.proofs.lemmas.List.Splits.{slice_split_none, slice_split_at, join_with_byte-slice_split}
 use Rattle.gix_refspec_text.proofs.{lemmas.lists.AllLemmas.all_weaker, lemmas.texts.TestedLemmas.IsName-tested, lemmas.texts.TestedLemmas.is_suspect}
 use Rattle.gix_refspec_text.proofs.{lemmas.parsing.SideLemmas.HasSeveralStars-replaced, lemmas.parsing.SideLemmas.plain_fine, lemmas.parsing.SideLemmas.replaced_once}
 use Rattle.gix_refspec_text.proofs.lemmas.texts.LetterLemmas.{HasOneStar-count_by, count_by-HasOneStar, pattern_with_letter, replaces_one}
 
--- what a test decides
-no : {P : Type 0} (b : Bool) → Decides b P → b ≡ false → ¬ P
-no b decides none holds = true≢false (sym (decides.1 holds) ∙ none)
-
 both_are : {P Q : Type 0} (p q : Bool) → Decides p P → Decides q Q → Decides (p && q) (P × Q)
 both_are p q a b = grind (arith, and_parts, and_from)
 
 -- texts that differ
 pub differ : (x y : List ℕ) → bytes_eq x y ≡ false → x ≢ y
-differ x y = no (bytes_eq x y) (bytes_eq-Decides x y)
+differ x y = not_from_Decides (bytes_eq x y) (bytes_eq-Decides x y)
 
 -- a text without a byte, and one with it
 pub Lacks-tested : (b : ℕ) (x : List ℕ) → list_any (λ c. c == b) x ≡ false → Lacks b x
@@ -48,7 +45,7 @@ pub begins : (w x : List ℕ) → starts_with nat_eq x w ≡ true → BeginsWith
 begins w x = (begins_is w x).0
 
 pub begins_not : (w x : List ℕ) → starts_with nat_eq x w ≡ false → ¬ (BeginsWith w x)
-begins_not w x = no (starts_with nat_eq x w) (begins_is w x)
+begins_not w x = not_from_Decides (starts_with nat_eq x w) (begins_is w x)
 
 -- whether a text contains a word
 abbrev pub holds : List ℕ → List ℕ → Bool
@@ -76,7 +73,7 @@ holds_is : (w x : List ℕ) → Decides (holds w x) (ContainsText w x)
 holds_is w x = (contains w x, λ has. holds_after w has.before has.after x has.here)
 
 pub holds_not : (w x : List ℕ) → holds w x ≡ false → ¬ (ContainsText w x)
-holds_not w x = no (holds w x) (holds_is w x)
+holds_not w x = not_from_Decides (holds w x) (holds_is w x)
 
 -- the components of a text
 abbrev pub components : List ℕ → List (List ℕ)
@@ -136,9 +133,6 @@ is_empty (b ∷ x) = false
 empty_is : (x : List ℕ) → Decides (is_empty x) (x ≡ [])
 empty_is x = grind (arith, false≢true)
 
-not_is : {P : Type 0} (b : Bool) → Decides b P → Decides (not b) (¬ P)
-not_is b decides = grind (arith, false≢true)
-
 -- whether the text has the fault
 abbrev pub has_fault : List ℕ → Error → Bool
 has_fault x Empty = is_empty x
@@ -153,7 +147,7 @@ has_fault x (InvalidByte b) = holds (b ∷ []) x && is_refused_byte b
 
 fault_is : (x : List ℕ) (e : Error) → Decides (has_fault x e) (HasFault x e)
 fault_is x Empty = empty_is x
-fault_is x EmptyComponent = both_are _ _ (not_is _ (empty_is x)) (component_is (λ w. w ≡ []) is_empty x empty_is)
+fault_is x EmptyComponent = both_are _ _ (Decides-not _ (empty_is x)) (component_is (λ w. w ≡ []) is_empty x empty_is)
 fault_is x StartsWithDot = component_is (BeginsWith (codes ".")) (λ w. starts_with nat_eq w (codes ".")) x (begins_is (codes "."))
 fault_is x LockSuffix = component_is (EndsWith (codes ".lock")) (λ w. ends_with nat_eq w (codes ".lock")) x (ends_with_is (codes ".lock"))
 fault_is x EndsWithDot = ends_with_is (codes ".") x
@@ -166,7 +160,7 @@ pub faulty : (x : List ℕ) (e : Error) → has_fault x e ≡ true → HasFault 
 faulty x e = (fault_is x e).0
 
 pub faultless : (x : List ℕ) (e : Error) → has_fault x e ≡ false → ¬ (HasFault x e)
-faultless x e = no (has_fault x e) (fault_is x e)
+faultless x e = not_from_Decides (has_fault x e) (fault_is x e)
 
 pub no_name : (x : List ℕ) (e : Error) → has_fault x e ≡ true → ¬ (IsName x)
 no_name x e so name = name e (faulty x e so)
@@ -191,9 +185,12 @@ not_one_star x other one = eqb-false (stars x) 1 other (count_by-HasOneStar x on
 pub no_pattern : (x : List ℕ) → (stars x == 1) ≡ false → ¬ (IsPattern x)
 no_pattern x other pattern = not_one_star x other (pattern.replaces.before, pattern.replaces.after, pattern.replaces.split)
 
--- a text with one star that has a fault with the letter in its place
+-- a text with one star has the letter in its place, with which it may have a fault
+pub replaced : (x : List ℕ) → (stars x == 1) ≡ true → ReplacesStar x (with_letters x)
+replaced x one = let split = HasOneStar-count_by x (eqb-true (stars x) 1 one) in replaces_one split.0 split.1 x split.2
+
 pub pattern_fault : (x : List ℕ) (e : Error) → (stars x == 1) ≡ true → has_fault (with_letters x) e ≡ true → IsPatternFault (Name e) x
-pattern_fault x e one so = let split = HasOneStar-count_by x (eqb-true (stars x) 1 one) in (with_letters x, replaces_one split.0 split.1 x split.2, faulty (with_letters x) e so)
+pattern_fault x e one so = (with_letters x, replaced x one, faulty (with_letters x) e so)
 
 -- whether there are three parts, as a text with two stars has between its stars
 abbrev pub are_three : List (List ℕ) → Bool
@@ -208,20 +205,26 @@ several x so = several_at x (slice_split (λ c. c == star) x) (join_with_byte-sl
 
 pub pattern_faultless : (x : List ℕ) (e : Error) → (stars x == 1) ≡ true → has_fault (with_letters x) e ≡ false → ¬ (IsPatternFault (Name e) x)
 pattern_faultless x e one none bad =
-    let split = HasOneStar-count_by x (eqb-true (stars x) 1 one) in
-    faultless (with_letters x) e none (subst (λ (y : List ℕ). HasFault y e) (replaced_once x bad.0 (with_letters x) bad.1 (replaces_one split.0 split.1 x split.2)) bad.2)
+    faultless (with_letters x) e none (subst (λ (y : List ℕ). HasFault y e) (replaced_once x bad.0 (with_letters x) bad.1 (replaced x one)) bad.2)
 
 pub not_several : (x : List ℕ) → (stars x == 1) ≡ true → ¬ (HasSeveralStars x)
-not_several x one = let split = HasOneStar-count_by x (eqb-true (stars x) 1 one) in HasSeveralStars-replaced x (with_letters x) (replaces_one split.0 split.1 x split.2)
+not_several x one = HasSeveralStars-replaced x (with_letters x) (replaced x one)
 
 pub unstarred : (x : List ℕ) (e : Refusal) → list_any (λ c. c == star) x ≡ false → ¬ (IsBadPattern x e)
 unstarred x e none = plain_fine x (Lacks-tested star x none) e
 
--- whether a side is bad for this reason
-abbrev pub is_bad : List ℕ → Refusal → Bool
-is_bad x (PatternUnsupported p) = are_three (slice_split (λ c. c == star) x) && bytes_eq p x
-is_bad x (ReferenceName f) = (not (list_any (λ c. c == star) x) && has_fault x f) || ((stars x == 1) && has_fault (with_letters x) f)
-is_bad x e = false
+-- whether a word is a bad pattern or a bad name for this reason
+abbrev pub is_bad_pattern : List ℕ → Refusal → Bool
+is_bad_pattern x (PatternUnsupported p) = are_three (slice_split (λ c. c == star) x) && bytes_eq p x
+is_bad_pattern x (ReferenceName f) = (stars x == 1) && has_fault (with_letters x) f
+is_bad_pattern x e = false
 
-pub bad_side : (x : List ℕ) (e : Refusal) → is_bad x e ≡ true → IsBadName x e ⊎ IsBadPattern x e
-bad_side x e so = grind (arith, and_parts, or_cases, several, bytes_eq-Decides, Lacks-tested, not_true, faulty, pattern_fault, false≢true)
+pub bad_pattern : (x : List ℕ) (e : Refusal) → is_bad_pattern x e ≡ true → IsBadPattern x e
+bad_pattern x e so = grind (arith, and_parts, several, bytes_eq-Decides, pattern_fault, false≢true)
+
+abbrev pub is_bad_name : List ℕ → Refusal → Bool
+is_bad_name x (ReferenceName f) = not (list_any (λ c. c == star) x) && has_fault x f
+is_bad_name x e = false
+
+pub bad_name : (x : List ℕ) (e : Refusal) → is_bad_name x e ≡ true → IsBadName x e
+bad_name x e so = grind (arith, and_parts, Lacks-tested, not_true, faulty, false≢true)
