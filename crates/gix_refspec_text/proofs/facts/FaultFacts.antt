@@ -1,9 +1,9 @@
 -- The faults of ref names: texts that have them, and similar ones that haven't.
-use Rattle.gix_refspec_text.proofs.Common.{ℕ, ◌==◌, List, [], ◌∷◌, codes, refl, subst, AllByRecursion, slice_split, Error, Empty, EmptyComponent, StartsWithDot, LockSuffix, EndsWithDot, RepeatedDot}
+use Rattle.gix_refspec_text.proofs.Common.{rules, ℕ, ◌==◌, List, [], ◌∷◌, codes, refl, subst, AllByRecursion, slice_split, Error, Empty, EmptyComponent, StartsWithDot, LockSuffix, EndsWithDot, RepeatedDot}
 use Rattle.gix_refspec_text.proofs.Common.{ReflogPortion, Asterisk, InvalidByte, SomeComponent, HasFault, HasStar, slash}
 pub use Rattle.gix_refspec_text.proofs.readers.Texts.{begins_not}
 use Rattle.gix_refspec_text.proofs.{lemmas.texts.ComponentLemmas.AllByRecursion-parts}
-use Rattle.gix_refspec_text.proofs.readers.Texts.{all_are, contains, faultless, faulty, has_fault, holds_not, none_are, split_again}
+use Rattle.gix_refspec_text.proofs.readers.Texts.{contains, faultless, faulty, holds_not, split_again}
 
 -- if no word between slashes satisfies P, no component does
 pub no_component : (P : List ℕ → Type 0) (x : List ℕ) → AllByRecursion (λ w. ¬ (P w)) (slice_split (λ c. c == slash) x) → ¬ (SomeComponent P x)
@@ -26,7 +26,7 @@ with_faults =
     ∷ (codes "foo@{bar", ReflogPortion) ∷ (codes "ba.lock", LockSuffix) ∷ [])
 
 pub faults : AllByRecursion Has with_faults
-faults = all_are Has (λ p. has_fault p.0 p.1) (λ p so. faulty p.0 p.1 so) with_faults refl
+faults = search (rules, faulty)
 
 -- the empty text has no component; a dot within or at the end of a component; `.lock` within one, and without its dot; two dots apart;
 -- `@` apart from the brace, alone or after it; no other refused byte than the text has, and no other byte of the text
@@ -37,7 +37,7 @@ without_faults =
     ∷ (codes "@a{/{@/@", ReflogPortion) ∷ ([], Asterisk) ∷ (codes "a b", InvalidByte 58) ∷ (codes "a b", InvalidByte 97) ∷ [])
 
 pub no_faults : AllByRecursion (λ p. ¬ (Has p)) without_faults
-no_faults = none_are (λ p. ¬ (Has p)) (λ p. has_fault p.0 p.1) (λ p none. faultless p.0 p.1 none) without_faults refl
+no_faults = search (rules, faultless)
 
 -- a star anywhere, and none
 pub star_faults : HasStar (codes "a*b") × ¬ (HasStar (codes "a+b"))

@@ -24,11 +24,8 @@ of_element P (y ∷ ys) x all (zero, below, is) = subst P is all.0
 of_element P (y ∷ ys) x all (suc k, below, is) = of_element P ys x all.1 (k, omega (arith, below), is)
 
 -- a word lies between the prefix and the suffix of a pattern, which never overlap
-pub fitting : Fits (codes "refs/heads/") [] (codes "refs/heads/main") (codes "main") × Fits (codes "refs/heads/a") (codes "a") (codes "refs/heads/aa") []
-fitting = (refl, refl)
-
-pub ends_apart : (word : List ℕ) → ¬ (Fits (codes "a") (codes "a") (codes "a") word)
-ends_apart word fits = let size : 1 ≡ suc (length (word ++ codes "a")) = ap length fits in omega (arith, size, length-append word (codes "a"))
+pub fitting : Fits (codes "refs/heads/") [] (codes "refs/heads/main") (codes "main") × Fits (codes "refs/heads/a") (codes "a") (codes "refs/heads/aa") [] × ((word : List ℕ) → ¬ (Fits (codes "a") (codes "a") (codes "a") word))
+fitting = (refl, refl, λ word fits. let size : 1 ≡ suc (length (word ++ codes "a")) = ap length fits in omega (arith, size, length-append word (codes "a")))
 
 -- a pattern that ends with its only star
 pub split_at_end : (before : List ℕ) → list_any (λ c. c == star) before ≡ false → IsSplit before [] (before ++ codes "*")
@@ -36,10 +33,7 @@ split_at_end before none = record { starred = refl; first = Lacks-tested star be
 
 -- a negative spec excludes exactly its name, and not a full name that it may be short for
 pub excludes_name : Excludes (codes "refs/heads/wip") (codes "refs/heads/wip") × ¬ (Excludes (codes "wip") (codes "refs/heads/wip"))
-excludes_name = (the_name (Lacks-tested star (codes "refs/heads/wip") refl) refl, no_candidate)
-  where
-    no_candidate : ¬ (Excludes (codes "wip") (codes "refs/heads/wip"))
-    no_candidate = search (rules, differ, lacks_no_pattern (codes "wip"), Lacks-tested)
+excludes_name = (the_name (Lacks-tested star (codes "refs/heads/wip") refl) refl, search (rules, differ, lacks_no_pattern (codes "wip"), Lacks-tested))
 
 -- a pattern excludes the names that it matches, and no others
 pub excludes_dev : Excludes (codes "refs/heads/dev-*") (codes "refs/heads/dev-a")
@@ -94,7 +88,3 @@ short_no_id bytes text = no_kind 4 (λ same. omega (arith, same)) (λ same. omeg
 
 pub short_kind : HasKind (codes "main") (partial (codes "main"))
 short_kind = search (arith, Lacks-tested, other_byte, short_no_id)
-
--- what a full name and an id become on the other side
-pub filled_others : (filled (full_name (codes "refs/tags/blob")) None ≡ codes "refs/tags/blob") × (filled (object empty_blob) None ≡ codes "refs/heads/e69de29bb2d1d6434b8b29ae775ad8c2e48c5391")
-filled_others = (refl, ap (λ (x : List ℕ). codes "refs/heads/" ++ x) lower_of-empty_blob)

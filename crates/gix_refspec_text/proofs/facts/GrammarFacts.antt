@@ -1,7 +1,6 @@
 -- The definitions of the grammar, and each of its thirteen forms at texts like those of git-fetch(1) and git-push(1), with `+` and without.
 use Rattle.gix_refspec_text.proofs.Common.{rules, map, ◌≡◌, ℕ, List, [], ◌∷◌, ◌++◌, None, Some, codes, refl, arith, replicate, Push, Fetch, letter, caret, colon, Normal, Forced, Negative}
 use Rattle.gix_refspec_text.proofs.Common.{IsUnsigned, IsSigned, with_colon, LastLacksColon, AreParts, IsPositive, named_by, LooksLikeObjectHash, IsNameOrPattern, AreAlike, fetched, pushed, Reads}
-use Rattle.gix_refspec_text.proofs.Common.{InvalidByte, Asterisk}
 use Rattle.gix_refspec_text.proofs.{facts.ManualFacts.no_sign, lemmas.lists.LacksLemmas.Lacks-here, lemmas.texts.TestedLemmas.IsName-tested}
 use Rattle.gix_refspec_text.proofs.readers.{Readings.a_hash, Readings.no_hash, Readings.no_other, Readings.parts_of, Readings.reads, Texts.Lacks-tested, Texts.a_pattern, Texts.differ, Texts.no_name, Texts.no_pattern}
 
@@ -35,7 +34,7 @@ pub names_and_patterns :
     IsNameOrPattern (codes "b") × IsNameOrPattern (codes "a*") × ¬ (IsNameOrPattern (codes "a b"))
     -- two names, two patterns, and one of each
     × AreAlike (codes "b") (codes "b") × AreAlike (codes "a*") (codes "a*") × ¬ (AreAlike (codes "a*") (codes "b")) × ¬ (AreAlike (codes "b") (codes "a*"))
-names_and_patterns = search (rules, IsName-tested, a_pattern, no_name (codes "a b") (InvalidByte 32) refl, no_pattern (codes "a b") refl, no_name (codes "a*") Asterisk refl, no_pattern (codes "b") refl)
+names_and_patterns = search (rules, IsName-tested, a_pattern, no_name (codes "a b") refl, no_pattern (codes "a b") refl, no_name (codes "a*") refl, no_pattern (codes "b") refl)
 
 -- 40 hex digits and more look like an id, in either case; 40 bytes of which one isn't a hex digit don't
 pub hashes : LooksLikeObjectHash (replicate 40 letter) × LooksLikeObjectHash (replicate 41 65) × ¬ (LooksLikeObjectHash (codes "g" ++ replicate 39 letter))

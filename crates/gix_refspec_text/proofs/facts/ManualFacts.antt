@@ -11,8 +11,8 @@ use Rattle.gix_refspec_text.specs.declared.name.PatternError.TheVariants.{Memory
 pub use Rattle.gix_refspec_text.proofs.readers.Texts.{Lacks-tested}
 use Rattle.gix_refspec_text.proofs.{lemmas.lists.LacksLemmas.Lacks-here, lemmas.parsing.PartsLemmas.parts_once, lemmas.parsing.SideLemmas.HasStar-stars}
 use Rattle.gix_refspec_text.proofs.{lemmas.texts.TestedLemmas.IsName-tested, lemmas.texts.TestedLemmas.is_suspect}
-use Rattle.gix_refspec_text.proofs.{readers.Readings.bad_for, readers.Readings.parts_of, readers.Readings.reads}
-use Rattle.gix_refspec_text.proofs.readers.Texts.{begins, contains, differ, holds_not, not_several, several, unstarred}
+use Rattle.gix_refspec_text.proofs.{readers.Readings.bad_for, readers.Readings.parts_of, readers.Readings.reaches, readers.Readings.reads, readers.Readings.is_read, readers.Readings.read_by}
+use Rattle.gix_refspec_text.proofs.readers.Texts.{begins, contains, differ, holds_not, not_several, replaced, several, unstarred}
 
 -- a text with a byte isn't empty
 pub full : (b : ℕ) (bs : List ℕ) → b ∷ bs ≢ []
@@ -37,26 +37,19 @@ Says op text m = (r : Reading) × Reads op text r × (meaning_of r ≡ Some m)
 pub refused_bytes : filter is_refused_byte (range_with_len 0 256) ≡ 0 ∷ 1 ∷ 2 ∷ 3 ∷ 4 ∷ 5 ∷ 6 ∷ 7 ∷ 8 ∷ 9 ∷ 10 ∷ 11 ∷ 12 ∷ 13 ∷ 14 ∷ 15 ∷ 16 ∷ 17 ∷ 18 ∷ 19 ∷ 20 ∷ 21 ∷ 22 ∷ 23 ∷ 24 ∷ 25 ∷ 26 ∷ 27 ∷ 28 ∷ 29 ∷ 30 ∷ 31 ∷ (codes " :?[\\^~" ++ (127 ∷ []))
 refused_bytes = refl
 
--- two texts without a star, and a star between them, are a text with exactly one star, which the letter may replace
+-- two texts without a star, and a star between them, are a text with exactly one star
 pub IsSplit-tested : (before after : List ℕ) → list_any (λ c. c == star) before ≡ false → list_any (λ c. c == star) after ≡ false → IsSplit before after (before ++ (star ∷ after))
 IsSplit-tested before after first last = record { starred = refl; first = Lacks-tested star before first; last = Lacks-tested star after last }
 
-pub ReplacesStar-tested : (before after : List ℕ) → list_any (λ c. c == star) before ≡ false → list_any (λ c. c == star) after ≡ false → ReplacesStar (before ++ (star ∷ after)) (before ++ (letter ∷ after))
-ReplacesStar-tested before after first last = record { before = before; after = after; split = IsSplit-tested before after first last; replaced = refl }
+-- it is a pattern if it is a name with the letter in the place of the star
+pub IsPattern-tested : (before after : List ℕ) → list_any (λ c. c == star) before ≡ false → list_any (λ c. c == star) after ≡ false → is_suspect slash (before ++ (letter ∷ after)) ≡ false → IsPattern (before ++ (star ∷ after))
+IsPattern-tested before after first last sound =
+    record { with_letter = _; replaces = record { before = before; after = after; split = IsSplit-tested before after first last; replaced = refl }; name = IsName-tested _ sound }
 
 -- one star may be in a component of a pattern, but not two
 pub one_star : ReplacesStar (codes "foo/bar*/baz") (codes "foo/bara/baz") × ReplacesStar (codes "foo/bar*baz") (codes "foo/barabaz")
     × ReplacesStar (codes "b*.lock") (codes "ba.lock") × HasSeveralStars (codes "foo/bar*/baz*")
-one_star = (
-  ReplacesStar-tested (codes "foo/bar") (codes "/baz") refl refl,
-  ReplacesStar-tested (codes "foo/bar") (codes "baz") refl refl,
-  ReplacesStar-tested (codes "b") (codes ".lock") refl refl,
-  several (codes "foo/bar*/baz*") refl,
-)
-
--- a text with one star is a pattern if it is a name with the letter in its place
-pub IsPattern-tested : (before after : List ℕ) → list_any (λ c. c == star) before ≡ false → list_any (λ c. c == star) after ≡ false → is_suspect slash (before ++ (letter ∷ after)) ≡ false → IsPattern (before ++ (star ∷ after))
-IsPattern-tested before after first last sound = record { with_letter = _; replaces = ReplacesStar-tested before after first last; name = IsName-tested _ sound }
+one_star = search (rules, replaced, several)
 
 -- a text with another first byte has no sign
 pub no_sign : (b : ℕ) (bs : List ℕ) → (b == plus) ≡ false → (b == caret) ≡ false → IsSigned Normal (b ∷ bs) (b ∷ bs)
@@ -83,6 +76,9 @@ parts mode s d unsigned last = record { signed = sign mode (with_colon s d) unsi
     lacks s None none = Lacks-tested colon s none
     lacks s (Some d) none = Lacks-tested colon d none
 
+says : {op : Operation} {text : List ℕ} {m : Meaning} → is_read op text ≡ true → meaning_of (read_by op text) ≡ Some m → Says op text m
+says so is = (_, reads so refl, is)
+
 -- git fetch origin +refs/heads/*:refs/remotes/origin/*, and so on; the last is an exclusion as in git-fetch(1), given to a push
 pub manual : Says Fetch (codes "+refs/heads/*:refs/remotes/origin/*") (fetch_and_update (codes "refs/heads/*") (codes "refs/remotes/origin/*") true)
     × Says Fetch (codes "+seen:seen") (fetch_and_update (codes "seen") (codes "seen") true)
@@ -92,17 +88,7 @@ pub manual : Says Fetch (codes "+refs/heads/*:refs/remotes/origin/*") (fetch_and
     × Says Push (codes "+dev:master") (push_matching (codes "dev") (codes "master") true)
     × Says Push (codes ":experimental") (push_delete (codes "experimental")) × Says Push (codes ":") (push_all_matching false)
     × Says Push (codes "^refs/heads/dev-*") (push_exclude (codes "refs/heads/dev-*"))
-manual = (
-  (_, reads refl refl, refl),
-  (_, reads refl refl, refl),
-  (_, reads refl refl, refl),
-  (_, reads refl refl, refl),
-  (_, reads refl refl, refl),
-  (_, reads refl refl, refl),
-  (_, reads refl refl, refl),
-  (_, reads refl refl, refl),
-  (_, reads refl refl, refl),
-)
+manual = search (rules, says)
 
 -- the canonical texts of these
 pub texts : map text_of (push_matching (codes "master") (codes "master") false ∷ push_matching (codes "dev") (codes "master") true
@@ -117,110 +103,85 @@ texts = refl
 abbrev pub named : List ℕ → Ref
 named n = record { name = n; target = 1 ∷ []; object = None }
 
--- a full name matches only the ref with this name, and without a word
-pub full_name_matches : Matches (codes "refs/heads/main") (named (codes "refs/heads/main")) None
-full_name_matches = record { kind = full_name (codes "refs/heads/main"); of = search (arith, Lacks-tested, begins); is = (refl, refl) }
-
-pub full_name_differs : ((word : List ℕ) → ¬ (MatchesAs (full_name (codes "refs/heads/main")) (named (codes "refs/heads/main")) (Some word)))
-    × ¬ (MatchesAs (full_name (codes "refs/heads/main")) (named (codes "refs/heads/main2")) None)
-    × ¬ (MatchesAs (full_name (codes "refs/heads/main")) (named (codes "refs/heads/mai")) None)
-full_name_differs = search (rules, arith, differ, some_none)
-
 -- a tag with the first id, of an object with the second
 abbrev tag : Ref
 tag = record { name = codes "refs/tags/v1"; target = 1 ∷ []; object = Some (2 ∷ []) }
 
--- an id matches a ref that points to it, a tag of the object with this id, and no other ref
-pub id_matches : MatchesAs (object (1 ∷ [])) tag None × MatchesAs (object (2 ∷ [])) tag None × ¬ (MatchesAs (object (3 ∷ [])) tag None)
-id_matches = ((refl, inl refl), (refl, inr refl), λ h. grind (arith, differ, same_Some))
+-- a full name matches the ref with this name
+pub full_name_matches : Matches (codes "refs/heads/main") (named (codes "refs/heads/main")) None
+full_name_matches = record { kind = full_name (codes "refs/heads/main"); of = search (arith, Lacks-tested, begins); is = (refl, refl) }
 
--- an id and a partial name match without a word, too
-pub others_have_no_word : (word : List ℕ) → ¬ (MatchesAs (object (1 ∷ [])) tag (Some word)) × ¬ (MatchesAs (partial (codes "main")) (named (codes "main")) (Some word))
-others_have_no_word word = (λ matches. some_none word matches.0, λ matches. some_none word matches.0)
+pub matches :
+    -- and no other one, and without a word
+    ((word : List ℕ) → ¬ (MatchesAs (full_name (codes "refs/heads/main")) (named (codes "refs/heads/main")) (Some word)))
+    × ¬ (MatchesAs (full_name (codes "refs/heads/main")) (named (codes "refs/heads/main2")) None)
+    × ¬ (MatchesAs (full_name (codes "refs/heads/main")) (named (codes "refs/heads/mai")) None)
+    -- an id matches a ref that points to it, a tag of the object with this id, and no other ref
+    × MatchesAs (object (1 ∷ [])) tag None × MatchesAs (object (2 ∷ [])) tag None × ¬ (MatchesAs (object (3 ∷ [])) tag None)
+    -- an id and a partial name match without a word, too
+    × ((word : List ℕ) → ¬ (MatchesAs (object (1 ∷ [])) tag (Some word)) × ¬ (MatchesAs (partial (codes "main")) (named (codes "main")) (Some word)))
+    -- neither the text after the star of a pattern nor the text before it has another star
+    × ¬ (HasKind (codes "a*b*") (pattern (codes "a") (codes "b*"))) × ¬ (HasKind (codes "a*b*") (pattern (codes "a*b") []))
+matches = search (rules, arith, differ, some_none, same_Some, Lacks-here)
 
 -- the names that `main` may stand for, in the order of gitrevisions(7)
 pub candidates_of_main : candidates (codes "main")
     ≡ codes "main" ∷ codes "refs/main" ∷ codes "refs/tags/main" ∷ codes "refs/heads/main" ∷ codes "refs/remotes/main" ∷ codes "refs/remotes/main/HEAD" ∷ []
 candidates_of_main = refl
 
--- neither the text after the star of a pattern nor the text before it has another star
-pub two_stars_no_pattern : ¬ (HasKind (codes "a*b*") (pattern (codes "a") (codes "b*"))) × ¬ (HasKind (codes "a*b*") (pattern (codes "a*b") []))
-two_stars_no_pattern = (λ split. Lacks-here star (codes "b") [] split.last, λ split. Lacks-here star (codes "a") (codes "b") split.first)
-
--- a pattern gets a word for its star, or keeps the star
-pub filled_patterns : (filled (pattern (codes "refs/x/") (codes "/y")) (Some (codes "main")) ≡ codes "refs/x/main/y") × (filled (pattern (codes "refs/x/") (codes "/y")) None ≡ codes "refs/x/*/y")
-filled_patterns = (refl, refl)
-
-pub filled_names : map (λ x. filled (partial x) None) (codes "main" ∷ codes "tags/v1" ∷ codes "remotes/o/main" ∷ codes "tagsv" ∷ [])
-    ≡ codes "refs/heads/main" ∷ codes "refs/tags/v1" ∷ codes "refs/remotes/o/main" ∷ codes "refs/heads/tagsv" ∷ []
-filled_names = refl
+-- a pattern gets a word for its star, or keeps the star; and a partial name gets `refs/` or `refs/heads/` in front
+pub filled_sides : (map (filled (pattern (codes "refs/x/") (codes "/y"))) (Some (codes "main") ∷ None ∷ []) ≡ codes "refs/x/main/y" ∷ codes "refs/x/*/y" ∷ [])
+    × (map (λ x. filled (partial x) None) (codes "main" ∷ codes "tags/v1" ∷ codes "remotes/o/main" ∷ codes "tagsv" ∷ [])
+    ≡ codes "refs/heads/main" ∷ codes "refs/tags/v1" ∷ codes "refs/remotes/o/main" ∷ codes "refs/heads/tagsv" ∷ [])
+filled_sides = (refl, refl)
 
 -- ---- refusals and memory
-
--- a source with two stars is reported whole
-pub reports_the_source : IsBadPattern (codes "a*b*") (PatternUnsupported (codes "a*b*")) × ¬ (IsBadPattern (codes "a*b*") (PatternUnsupported (codes "a*b")))
-reports_the_source = ((several (codes "a*b*") refl, refl), λ bad. differ _ _ refl bad.1)
 
 -- a star and n letters
 abbrev starred : ℕ → List ℕ
 starred n = star ∷ replicate n letter
 
--- a side with a star and 257 bytes may need memory; one with a star and 256 bytes never does, nor does one of 257 bytes without a star
-pub needs_memory : NeedsMemory (starred 256) × ¬ (NeedsMemory (starred 255)) × ¬ (NeedsMemory (replicate 257 letter))
-needs_memory = (inr (contains (codes "*") (starred 256) refl, omega (arith, length-replicate 256 letter)), no_memory, none)
-  where
-    no_memory : ¬ (NeedsMemory (starred 255))
-    no_memory (inl stars) = not_several (starred 255) refl stars
-    no_memory (inr (starry, long)) = omega (arith, length-replicate 255 letter, long)
-
-    none : ¬ (NeedsMemory (replicate 257 letter))
-    none (inl stars) = holds_not (codes "*") (replicate 257 letter) refl (HasStar-stars (replicate 257 letter) stars)
-    none (inr (starry, long)) = holds_not (codes "*") (replicate 257 letter) refl starry
-
--- no reason before those of the source applies, if the source isn't empty, a negative spec has no colon, and the destination isn't empty
-pub before_source : (op : Operation) (mode : Mode) (s : List ℕ) (d : Option (List ℕ)) → s ≢ [] → (mode ≡ Negative → d ≡ None) → d ≢ Some [] → NoReasonBeforeSource op mode s d
-before_source op mode s d not_empty alone somewhere = search (arith, false≢true)
-
-pub text_may_need_memory : MayNeedMemory Fetch (starred 256)
-text_may_need_memory = record {
-  mode = Normal;
-  source = starred 256;
-  destination = None;
-  parts = parts_of (starred 256);
-  reaches = (before_source Fetch Normal (starred 256) None (full _ _) (λ negative. refl) (none_some []), needs_memory.0);
-}
-
-pub text_needs_no_memory : ¬ (MayNeedMemory Fetch (starred 255))
-text_needs_no_memory may =
-    let once = parts_once may.mode Normal may.source (starred 255) may.destination None (starred 255) may.parts (parts_of (starred 255)) in
-    let reaches : ReachesMemory Fetch may.mode may.source None = subst (λ (d : Option (List ℕ)). ReachesMemory Fetch may.mode may.source d) once.destination may.reaches in
-    needs_memory.1 (subst NeedsMemory once.source reaches.1)
+pub needs_memory :
+    -- a source with two stars is reported whole
+    IsBadPattern (codes "a*b*") (PatternUnsupported (codes "a*b*")) × ¬ (IsBadPattern (codes "a*b*") (PatternUnsupported (codes "a*b")))
+    -- a side with a star and 257 bytes may need memory; one with a star and 256 bytes never does, nor does one of 257 bytes without a star
+    × NeedsMemory (starred 256) × ¬ (NeedsMemory (starred 255)) × ¬ (NeedsMemory (replicate 257 letter))
+needs_memory = search (rules, arith, several, contains, differ (codes "a*b") (codes "a*b*") refl, length-replicate {A = ℕ}, not_several (starred 255) refl, holds_not (codes "*") (replicate 257 letter) refl, HasStar-stars)
 
 -- a pattern of 257 bytes may be too long to be copied, and one of 256 is not
 pub pattern_too_long : IsPatternFault Memory (starred 256) × ¬ (IsPatternFault Memory (starred 255))
-pattern_too_long = (omega (arith, length-replicate 256 letter), λ long. omega (arith, length-replicate 255 letter, long))
+pattern_too_long = search (arith, length-replicate)
 
--- so a destination may need memory too
-pub destination_needs_memory : ReachesMemory Push Normal (codes "a..b") (Some (codes "c*d*"))
-destination_needs_memory = search (rules, arith, before_source, full, same_Some, several, unstarred)
-
--- but not after a bad source; nor may the source of a push to an empty destination, or of a negative spec with a colon
-pub memory_after_reasons : ¬ (ReachesMemory Fetch Normal (codes "a..b") (Some (codes "c*d*"))) × ¬ (ReachesMemory Push Normal (codes "a*b*") (Some [])) × ¬ (ReachesMemory Fetch Negative (codes "a*b*") (Some (codes "c")))
-memory_after_reasons = (
-  (λ reaches. elim reaches.1 [
+pub texts_need_memory :
+    -- so a text may need memory, or may not; and a destination may need it too
+    MayNeedMemory Fetch (starred 256) × ¬ (MayNeedMemory Fetch (starred 255)) × ReachesMemory Push Normal (codes "a..b") (Some (codes "c*d*"))
+    -- but not after a bad source; nor may the source of a push to an empty destination, or of a negative spec with a colon
+    × ¬ (ReachesMemory Fetch Normal (codes "a..b") (Some (codes "c*d*"))) × ¬ (ReachesMemory Push Normal (codes "a*b*") (Some []))
+    × ¬ (ReachesMemory Fetch Negative (codes "a*b*") (Some (codes "c")))
+texts_need_memory = (
+  record { mode = _; source = _; destination = _; parts = parts_of (starred 256); reaches = (reaches _ _ _ _ refl, needs_memory.2) },
+  alone,
+  search (rules, reaches, several, unstarred),
+  (λ reached. elim reached.1 [
     | inl needs ↦ holds_not (codes "*") (codes "a..b") refl (elim needs [ inl stars ↦ HasStar-stars (codes "a..b") stars | inr long ↦ long.0 ])
     | inr after ↦ after.0 (ReferenceName RepeatedDot) (record { source = full _ _; refusal = bad_for Fetch (Some (codes "c*d*")) (codes "a..b") (ReferenceName RepeatedDot) refl })
   ]),
-  (λ reaches. reaches.0.2 PushToEmpty (record { push = refl; source = full _ _; nowhere = refl; refusal = refl })),
-  (λ reaches. reaches.0.1 NegativeWithDestination (record { negative = refl; colon = refl; refusal = refl })),
+  (λ reached. reached.0.2 PushToEmpty (record { push = refl; source = full _ _; nowhere = refl; refusal = refl })),
+  (λ reached. reached.0.1 NegativeWithDestination (record { negative = refl; colon = refl; refusal = refl })),
 )
+  where
+    alone : ¬ (MayNeedMemory Fetch (starred 255))
+    alone may =
+        let once = parts_once may.mode Normal may.source (starred 255) may.destination None (starred 255) may.parts (parts_of (starred 255)) in
+        let reached : ReachesMemory Fetch may.mode may.source None = rw once.destination at may.reaches in
+        needs_memory.3 (rw once.source at reached.1)
 
 -- ---- sides of readings
 
--- either side alone is enough
-pub sides : HasSide (pushed Normal (Some (codes "a")) None) × HasSide (pushed Normal None (Some (codes "a"))) × ¬ (HasSide (pushed Normal None None))
+pub sides :
+    -- either side alone is enough
+    HasSide (pushed Normal (Some (codes "a")) None) × HasSide (pushed Normal None (Some (codes "a"))) × ¬ (HasSide (pushed Normal None None))
+    -- a fetch has its source on the remote, and a push its destination
+    × (map remote_of (fetched Normal (codes "a") (Some (codes "b")) ∷ pushed Normal (Some (codes "a")) (Some (codes "b")) ∷ []) ≡ Some (codes "a") ∷ Some (codes "b") ∷ [])
+    × (map local_of (fetched Normal (codes "a") (Some (codes "b")) ∷ pushed Normal (Some (codes "a")) (Some (codes "b")) ∷ []) ≡ Some (codes "b") ∷ Some (codes "a") ∷ [])
 sides = search (arith, false≢true)
-
--- a fetch has its source on the remote, and a push its destination
-pub remote_sides : (remote_of (fetched Normal (codes "a") (Some (codes "b"))) ≡ Some (codes "a")) × (local_of (fetched Normal (codes "a") (Some (codes "b"))) ≡ Some (codes "b")) × (remote_of (pushed Normal (Some (codes "a")) (Some (codes "b"))) ≡ Some (codes "b")) × (local_of (pushed Normal (Some (codes "a")) (Some (codes "b"))) ≡ Some (codes "a"))
-remote_sides = (refl, refl, refl, refl)

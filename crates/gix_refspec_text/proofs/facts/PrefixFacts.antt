@@ -1,5 +1,5 @@
 -- Sides with and without a ref prefix, and their expansions.
-use Rattle.gix_refspec_text.proofs.Common.{◌≢◌, ℕ, List, [], ◌∷◌, None, Some, length, codes, refl, ap, arith, IsSplit, star, slash, Normal, Negative, fetched, pushed, candidates, IsRefPrefix}
+use Rattle.gix_refspec_text.proofs.Common.{◌==◌, ◌≡◌, false, eqb-false, ◌≢◌, ℕ, List, [], ◌∷◌, None, Some, length, codes, refl, ap, arith, IsSplit, star, slash, Normal, Negative, fetched, pushed, candidates, IsRefPrefix}
 use Rattle.gix_refspec_text.proofs.Common.{IsPrefix, of_head, of_name, of_pattern, HasNoPrefix, Expands, to_prefix, to_itself, below_refs, of_object, to_candidates, IsAsked, HasPrefix, IsExpansion}
 use Rattle.gix_refspec_text.proofs.Common.{same_Some}
 use Rattle.gix_refspec_text.proofs.{facts.CoveringFacts.below_heads, facts.CoveringFacts.no_bare_prefix, facts.FaultFacts.begins_not}
@@ -29,24 +29,17 @@ suffix_split = record { starred = refl; first = Lacks-tested star (codes "refs/a
 
 -- a pattern with its star right after `refs/`, or with a bracket, has none
 pub no_prefixes : HasNoPrefix (codes "refs/*") × HasNoPrefix (codes "refs/a]*") × HasNoPrefix (codes "refs/a*/]") × HasNoPrefix (codes "heads/*")
-no_prefixes = (
-  no_bare_prefix,
-  no_prefix (codes "refs/a]*") (codes "refs/a]") [] bracket_split (tells.1 []).2,
-  no_prefix (codes "refs/a*/]") (codes "refs/a") (codes "/]") suffix_split tells.2,
-  outside_none (codes "heads/*") (differ _ _ refl) (begins_not (codes "refs/") (codes "heads/*") refl),
-)
+no_prefixes = (no_bare_prefix, no_prefix _ _ [] bracket_split (tells.1 []).2, no_prefix _ _ (codes "/]") suffix_split tells.2, outside_none _ (differ _ _ refl) (begins_not (codes "refs/") (codes "heads/*") refl))
 
--- without a prefix, a side with one component after `refs/` is expanded to itself, and with a further slash to nothing
-pub expansions_below : Expands (codes "refs/*") (codes "refs/*" ∷ []) × Expands (codes "refs/a]*") (codes "refs/a]*" ∷ []) × Expands (codes "refs/a*/]") []
+pub expansions_below :
+    -- without a prefix, a side with one component after `refs/` is expanded to itself, and with a further slash to nothing
+    Expands (codes "refs/*") (codes "refs/*" ∷ []) × Expands (codes "refs/a]*") (codes "refs/a]*" ∷ []) × Expands (codes "refs/a*/]") []
+    -- an id is expanded to nothing, and `HEAD` to itself
+    × Expands (codes "e69de29bb2d1d6434b8b29ae775ad8c2e48c5391") [] × Expands (codes "HEAD") (codes "HEAD" ∷ [])
 expansions_below = (
   to_itself (codes "*") no_prefixes.0 refl (Lacks-tested slash (codes "*") refl) refl,
   to_itself (codes "a]*") no_prefixes.1 refl (Lacks-tested slash (codes "a]*") refl) refl,
   below_refs (codes "a*/]") no_prefixes.2 refl (record { before = codes "a*"; after = codes "]"; here = refl }) refl,
-)
-
--- an id is expanded to nothing, and `HEAD` to itself
-pub expansions_outside : Expands (codes "e69de29bb2d1d6434b8b29ae775ad8c2e48c5391") [] × Expands (codes "HEAD") (codes "HEAD" ∷ [])
-expansions_outside = (
   of_object (outside_none (codes "e69de29bb2d1d6434b8b29ae775ad8c2e48c5391") (differ _ _ refl) blob_kind.1) blob_kind.1 (empty_blob, IsIdText-empty_blob) refl,
   to_prefix (codes "HEAD") whole_prefixes.0 refl,
 )
@@ -60,17 +53,16 @@ other_prefixes = search (arith, other_length, one_prefix, Lacks-tested, pattern_
 -- a partial name is expanded to its candidates, also with a star, but an id and `HEAD` are not; and a star before a
 -- further slash leaves nothing
 pub other_expansions : Expands (codes "heads/*") (candidates (codes "heads/*")) × ¬ (Expands (codes "main") (codes "main" ∷ [])) × ¬ (Expands (codes "e69de29bb2d1d6434b8b29ae775ad8c2e48c5391") (candidates (codes "e69de29bb2d1d6434b8b29ae775ad8c2e48c5391"))) × ¬ (Expands (codes "HEAD") (candidates (codes "HEAD"))) × ¬ (Expands (codes "refs/a*/]") (codes "refs/a*/]" ∷ [])) × ¬ (Expands (codes "refs/*") [])
-other_expansions = (
-  to_candidates no_prefixes.3 (begins_not (codes "refs/") (codes "heads/*") refl) (starred_no_id (codes "heads/*") (codes "heads/", [], split_at_end (codes "heads/") refl)) refl,
-  (λ one. counts (codes "main") (codes "main" ∷ []) (candidates (codes "main")) (λ size. omega (arith, size)) one (to_candidates other_prefixes.3 short_kind.2 short_kind.3 refl)),
-  (λ all. counts (codes "e69de29bb2d1d6434b8b29ae775ad8c2e48c5391") (candidates (codes "e69de29bb2d1d6434b8b29ae775ad8c2e48c5391")) [] (λ size. omega (arith, size)) all expansions_outside.0),
-  (λ all. counts (codes "HEAD") (candidates (codes "HEAD")) (codes "HEAD" ∷ []) (λ size. omega (arith, size)) all expansions_outside.1),
-  (λ itself. counts (codes "refs/a*/]") (codes "refs/a*/]" ∷ []) [] (λ size. omega (arith, size)) itself expansions_below.2),
-  λ nothing. counts (codes "refs/*") [] (codes "refs/*" ∷ []) (λ size. omega (arith, size)) nothing expansions_below.0,
-)
+other_expansions = (heads_expands, other_list main_expands refl, other_list expansions_below.3 refl, other_list expansions_below.4 refl, other_list expansions_below.2 refl, other_list expansions_below.0 refl)
   where
-    counts : (x : List ℕ) (list other : List (List ℕ)) → length list ≢ length other → Expands x list → Expands x other → ⊥
-    counts x list other differ one another = differ (ap length ((one_prefix x).expanded list other one another))
+    heads_expands : Expands (codes "heads/*") (candidates (codes "heads/*"))
+    heads_expands = to_candidates no_prefixes.3 (begins_not (codes "refs/") (codes "heads/*") refl) (starred_no_id (codes "heads/*") (codes "heads/", [], split_at_end (codes "heads/") refl)) refl
+
+    main_expands : Expands (codes "main") (candidates (codes "main"))
+    main_expands = to_candidates other_prefixes.3 short_kind.2 short_kind.3 refl
+
+    other_list : {x : List ℕ} {list other : List (List ℕ)} → Expands x other → (length list == length other) ≡ false → ¬ (Expands x list)
+    other_list {x} {list} {other} another sizes one = eqb-false (length list) (length other) sizes (ap length ((one_prefix x).expanded list other one another))
 
 -- ---- the prefixes of a reading
 
@@ -85,4 +77,4 @@ prefixes = search (arith, below_heads, whole_prefixes, other_prefixes, same_Some
 
 -- a negative reading, or one without a side on the remote, is expanded to nothing; a fetch of `HEAD` isn't
 pub expansions : IsExpansion (pushed Normal (Some (codes "a")) None) [] × IsExpansion no_dev [] × ¬ (IsExpansion (fetched Normal (codes "HEAD") None) []) × ¬ (IsExpansion no_dev (codes "refs/heads/dev-" ∷ []))
-expansions = search (arith, asked, same_Some, one_prefix, expansions_outside)
+expansions = search (arith, asked, same_Some, one_prefix, expansions_below)

@@ -4,7 +4,7 @@ use Rattle.gix_refspec_text.proofs.Common.{◌≡◌, ◌≢◌, ℕ, Bool, true
 use Rattle.gix_refspec_text.proofs.Common.{arith, list_any, list_all, true≢false, false≢true, eqb-false, eqb-true, and_parts, and_from, leb-true, le-leb, is_ascii_hexdigit, Refusal, ◌∙◌, IsRefused}
 use Rattle.gix_refspec_text.proofs.Common.{AllPass-from_list_all, list_all-from_AllPass, Operation, Push, Fetch, Plain, Pattern, slash, star, plus, caret, colon, Mode, Normal, Forced, Negative}
 use Rattle.gix_refspec_text.proofs.Common.{codes, ap, bytes_eq, Reading, Reads, IsSigned, AreParts, with_colon, LastLacksColon, LooksLikeObjectHash, named_by, named_or_head, side_of, fetched, pushed, HasShape, or_cases}
-use Rattle.gix_refspec_text.proofs.Common.{HasCheckedShape, NoReasonBeforeSource, HasBadSource, Never, IsFirstReason, PatternUnbalanced, IsBadSourceFor, Shape, is_some, IsPositive, NegativeWithDestination, PushToEmpty, NegativeEmpty, NegativeObjectHash}
+use Rattle.gix_refspec_text.proofs.Common.{HasCheckedShape, NoReasonBeforeSource, HasBadDestination, HasBadSource, Never, IsFirstReason, PatternUnbalanced, IsBadSourceFor, Shape, is_some, IsPositive, NegativeWithDestination, PushToEmpty, NegativeEmpty, NegativeObjectHash}
 use Rattle.gix_refspec_text.proofs.{lemmas.parsing.ReadOnceLemmas.reads_once, lemmas.texts.TestedLemmas.IsName-tested, lemmas.texts.TestedLemmas.is_suspect}
 use Rattle.gix_refspec_text.proofs.readers.Texts.{Lacks-tested, differ, a_pattern, bad_name, bad_pattern, is_bad_name, is_bad_pattern, is_empty, is_pattern, not_true}
 use Rattle.gix_refspec_text.proofs.lemmas.parsing.ReadsLemmas.{fetch_reads, negative_reads, push_alone_reads, push_reads, refused}
@@ -136,21 +136,28 @@ reads_parts Push m s (Some d) text parts so =
     let both = and_parts _ _ so in
     push_reads m s d (shape_of s) text tt (λ some empty. grind arith) (star_fit s (shape_of s) both.0) (fit d (shape_of s) both.1) parts
 
-pub reads : {op : Operation} {text : List ℕ} {r : Reading} → readable op (sign_of text) (source text) (end text) ≡ true → made op (sign_of text) (source text) (end text) ≡ r → Reads op text r
+-- the same of a text
+abbrev pub is_read : Operation → List ℕ → Bool
+is_read op text = readable op (sign_of text) (source text) (end text)
+
+abbrev pub read_by : Operation → List ℕ → Reading
+read_by op text = made op (sign_of text) (source text) (end text)
+
+pub reads : {op : Operation} {text : List ℕ} {r : Reading} → is_read op text ≡ true → read_by op text ≡ r → Reads op text r
 reads {op} {text} {r} so is = subst (Reads op text) is (reads_parts op (sign_of text) (source text) (end text) text (parts_of text) so)
 
 -- and none with other sides
 abbrev sides : Reading → List ℕ
 sides r = with_colon (unwrap_or r.destination (codes ":")) r.source
 
-pub no_other : {op : Operation} {text : List ℕ} {r : Reading} → readable op (sign_of text) (source text) (end text) ≡ true → bytes_eq (sides (made op (sign_of text) (source text) (end text))) (sides r) ≡ false → ¬ (Reads op text r)
+pub no_other : {op : Operation} {text : List ℕ} {r : Reading} → is_read op text ≡ true → bytes_eq (sides (read_by op text)) (sides r) ≡ false → ¬ (Reads op text r)
 no_other {op} {text} {r} so other also = differ _ _ other (ap sides (reads_once op text _ r (reads so refl) also))
 
 -- a text is refused for the first reason to refuse its parts
 pub because : {op : Operation} {text : List ℕ} {e : Refusal} → IsFirstReason op (sign_of text) (source text) (end text) e → IsRefused op text e
 because {op} {text} {e} first = refused op (sign_of text) (source text) (end text) text e (parts_of text) first
 
-reaches : (op : Operation) (m : Mode) (s : List ℕ) (d : Option (List ℕ)) → calm op m s d ≡ true → NoReasonBeforeSource op m s d
+pub reaches : (op : Operation) (m : Mode) (s : List ℕ) (d : Option (List ℕ)) → calm op m s d ≡ true → NoReasonBeforeSource op m s d
 reaches op m s d so = grind (arith, false≢true)
 
 -- whether the source, which may have to be only a pattern, is bad for this reason
@@ -174,12 +181,14 @@ at_source op m s d e so =
     let bad = and_parts _ _ both.1 in
     reason_at_source op m s d e (reaches op m s d both.0) (record { source = not_empty s bad.0; refusal = bad_for op d s e bad.1 })
 
+pub bad_end : (d : List ℕ) (e : Refusal) → (not (is_empty d) && is_bad_for Fetch None d e) ≡ true → HasBadDestination (Some d) e
+bad_end d e so = let bad = and_parts _ _ so in bad_destination (Some d) e (not_empty d bad.0, bad_for Fetch None d e bad.1)
+
 pub at_destination : (op : Operation) (m : Mode) (s d : List ℕ) (e : Refusal) → (calm op m s (Some d) && (begins op s (Some d) && (not (is_empty d) && is_bad_for Fetch None d e))) ≡ true → IsFirstReason op m s (Some d) e
 at_destination op m s d e so =
     let both = and_parts _ _ so in
     let sides = and_parts _ _ both.1 in
-    let bad = and_parts _ _ sides.1 in
-    reason_at_destination op m s (Some d) e (reaches op m s (Some d) both.0) (fine_source op s (Some d) sides.0) (bad_destination (Some d) e (not_empty d bad.0, bad_for Fetch None d e bad.1))
+    reason_at_destination op m s (Some d) e (reaches op m s (Some d) both.0) (fine_source op s (Some d) sides.0) (bad_end d e sides.1)
 
 abbrev uneven : Operation → Mode → List ℕ → Option (List ℕ) → Bool
 uneven op Negative s d = false

@@ -1,5 +1,5 @@
 -- Tests that compute what a text contains, which faults it has and whether it is a name or a pattern, so that examples need no witnesses.
-use Rattle.gix_refspec_text.proofs.Common.{◌≡◌, ◌≢◌, ℕ, Bool, true, false, not, ◌==◌, ◌||◌, ◌&&◌, ◌-◌, cond, nat_eq, bytes_eq, bytes_eq-Decides, List, [], ◌∷◌, ◌++◌, length, take, drop, codes, refl}
+use Rattle.gix_refspec_text.proofs.Common.{filter, get_or, if◌then◌else◌, ◌≡◌, ◌≢◌, ℕ, Bool, true, false, not, ◌==◌, ◌||◌, ◌&&◌, ◌-◌, cond, nat_eq, bytes_eq, bytes_eq-Decides, List, [], ◌∷◌, ◌++◌, length, take, drop, codes, refl}
 use Rattle.gix_refspec_text.proofs.Common.{sym, ap, ◌∙◌, subst, arith, All, AllByRecursion, All-from_recursion, Decides, Decides-eqb, starts_with, ends_with, starts_is, ends_is, slice_split}
 use Rattle.gix_refspec_text.proofs.Common.{join_with_byte, list_any, list_all, count_by, true≢false, false≢true, eqb-false, eqb-true, ne_eqb, or_parts, or_cases, and_parts, and_from, Error, Empty}
 use Rattle.gix_refspec_text.proofs.Common.{EmptyComponent, StartsWithDot, LockSuffix, EndsWithDot, RepeatedDot, ReflogPortion, Asterisk, InvalidByte, is_refused_byte, Lacks, ContainsText, BeginsWith}
@@ -11,7 +11,7 @@ use Rattle.std.proofs.lemmas.Bool.Decides.{Decides-not, not_from_Decides}
 use Rattle.std.proofs.Math.Bool.{or-true}
 use Rattle.std.proofs.lemmas.List.Splits.{slice_split_none, slice_split_at, join_with_byte-slice_split}
 use Rattle.gix_refspec_text.proofs.{lemmas.lists.AllLemmas.all_weaker, lemmas.texts.TestedLemmas.IsName-tested, lemmas.texts.TestedLemmas.is_suspect}
-use Rattle.gix_refspec_text.proofs.{lemmas.parsing.SideLemmas.HasSeveralStars-replaced, lemmas.parsing.SideLemmas.plain_fine, lemmas.parsing.SideLemmas.replaced_once}
+use Rattle.gix_refspec_text.proofs.{lemmas.parsing.SideLemmas.HasSeveralStars-replaced, lemmas.parsing.SideLemmas.pattern_fine, lemmas.parsing.SideLemmas.plain_fine, lemmas.parsing.SideLemmas.replaced_once}
 use Rattle.gix_refspec_text.proofs.lemmas.texts.LetterLemmas.{HasOneStar-count_by, count_by-HasOneStar, pattern_with_letter, replaces_one}
 
 both_are : {P Q : Type 0} (p q : Bool) → Decides p P → Decides q Q → Decides (p && q) (P × Q)
@@ -25,15 +25,6 @@ differ x y = not_from_Decides (bytes_eq x y) (bytes_eq-Decides x y)
 pub Lacks-tested : (b : ℕ) (x : List ℕ) → list_any (λ c. c == b) x ≡ false → Lacks b x
 Lacks-tested b [] none = tt
 Lacks-tested b (c ∷ x) none = let both = or_parts (c == b) (list_any (λ c. c == b) x) none in (eqb-false c b both.0, Lacks-tested b x both.1)
-
--- what a test shows of each element
-pub all_are : {X : Type 0} (P : X → Type 0) (test : X → Bool) → ((x : X) → test x ≡ true → P x) → (xs : List X) → list_all test xs ≡ true → AllByRecursion P xs
-all_are P test shows [] so = tt
-all_are P test shows (x ∷ xs) so = let both = and_parts (test x) (list_all test xs) so in (shows x both.0, all_are P test shows xs both.1)
-
-pub none_are : {X : Type 0} (P : X → Type 0) (test : X → Bool) → ((x : X) → test x ≡ false → P x) → (xs : List X) → list_any test xs ≡ false → AllByRecursion P xs
-none_are P test shows [] none = tt
-none_are P test shows (x ∷ xs) none = let both = or_parts (test x) (list_any test xs) none in (shows x both.0, none_are P test shows xs both.1)
 
 begins_is : (w x : List ℕ) → Decides (starts_with nat_eq x w) (BeginsWith w x)
 begins_is w x = let told = starts_is Decides-eqb x w (starts_with nat_eq x w) refl in ((λ so. record { after = drop (length w) x; here = told.0 so }), λ begins. told.1 begins.after begins.here)
@@ -102,14 +93,14 @@ parts_lack (b ∷ x) = onto (b == slash) (components x) refl (parts_lack x)
     onto t ps is lack = grind (arith, eqb-false)
 
 -- an element that passes a test, with those before and after it
-passes : (p : List ℕ → Bool) (xs : List (List ℕ)) → list_any p xs ≡ true → (before : List (List ℕ)) × (w : List ℕ) × (after : List (List ℕ)) × (xs ≡ before ++ (w ∷ after)) × (p w ≡ true)
+pub passes : (p : List ℕ → Bool) (xs : List (List ℕ)) → list_any p xs ≡ true → (before : List (List ℕ)) × (w : List ℕ) × (after : List (List ℕ)) × (xs ≡ before ++ (w ∷ after)) × (p w ≡ true)
 passes p [] so = absurd (false≢true so)
 passes p (x ∷ xs) so = elim (or_cases (p x) (list_any p xs) so) [
   | inl first ↦ ([], x, xs, refl, first)
   | inr later ↦ let found = passes p xs later in (x ∷ found.0, found.1, found.2, ap (λ l. x ∷ l) found.3, found.4)
 ]
 
-passes_back : (p : List ℕ → Bool) (before : List (List ℕ)) (x : List ℕ) (after : List (List ℕ)) → p x ≡ true → list_any p (before ++ (x ∷ after)) ≡ true
+pub passes_back : (p : List ℕ → Bool) (before : List (List ℕ)) (x : List ℕ) (after : List (List ℕ)) → p x ≡ true → list_any p (before ++ (x ∷ after)) ≡ true
 passes_back p [] x after pass = ap (λ t. t || list_any p after) pass
 passes_back p (y ∷ before) x after pass = ap (λ t. p y || t) (passes_back p before x after pass) ∙ or-true (p y)
 
@@ -162,8 +153,14 @@ faulty x e = (fault_is x e).0
 pub faultless : (x : List ℕ) (e : Error) → has_fault x e ≡ false → ¬ (HasFault x e)
 faultless x e = not_from_Decides (has_fault x e) (fault_is x e)
 
-pub no_name : (x : List ℕ) (e : Error) → has_fault x e ≡ true → ¬ (IsName x)
-no_name x e so name = name e (faulty x e so)
+-- a text that has a fault isn't a name
+abbrev some_fault : List ℕ → Error
+some_fault x = if has_fault x Empty then Empty else if has_fault x EmptyComponent then EmptyComponent else if has_fault x StartsWithDot then StartsWithDot
+    else if has_fault x LockSuffix then LockSuffix else if has_fault x EndsWithDot then EndsWithDot else if has_fault x RepeatedDot then RepeatedDot
+    else if has_fault x ReflogPortion then ReflogPortion else if has_fault x Asterisk then Asterisk else InvalidByte (get_or (filter is_refused_byte x) 0 0)
+
+pub no_name : (x : List ℕ) → has_fault x (some_fault x) ≡ true → ¬ (IsName x)
+no_name x so name = name (some_fault x) (faulty x (some_fault x) so)
 
 -- how many stars a text has
 abbrev pub stars : List ℕ → ℕ
@@ -186,11 +183,11 @@ pub no_pattern : (x : List ℕ) → (stars x == 1) ≡ false → ¬ (IsPattern x
 no_pattern x other pattern = not_one_star x other (pattern.replaces.before, pattern.replaces.after, pattern.replaces.split)
 
 -- a text with one star has the letter in its place, with which it may have a fault
-pub replaced : (x : List ℕ) → (stars x == 1) ≡ true → ReplacesStar x (with_letters x)
-replaced x one = let split = HasOneStar-count_by x (eqb-true (stars x) 1 one) in replaces_one split.0 split.1 x split.2
+pub replaced : (x y : List ℕ) → (stars x == 1) ≡ true → with_letters x ≡ y → ReplacesStar x y
+replaced x y one same = let split = HasOneStar-count_by x (eqb-true (stars x) 1 one) in subst (ReplacesStar x) same (replaces_one split.0 split.1 x split.2)
 
 pub pattern_fault : (x : List ℕ) (e : Error) → (stars x == 1) ≡ true → has_fault (with_letters x) e ≡ true → IsPatternFault (Name e) x
-pattern_fault x e one so = (with_letters x, replaced x one, faulty (with_letters x) e so)
+pattern_fault x e one so = (with_letters x, replaced x _ one refl, faulty (with_letters x) e so)
 
 -- whether there are three parts, as a text with two stars has between its stars
 abbrev pub are_three : List (List ℕ) → Bool
@@ -205,10 +202,14 @@ several x so = several_at x (slice_split (λ c. c == star) x) (join_with_byte-sl
 
 pub pattern_faultless : (x : List ℕ) (e : Error) → (stars x == 1) ≡ true → has_fault (with_letters x) e ≡ false → ¬ (IsPatternFault (Name e) x)
 pattern_faultless x e one none bad =
-    faultless (with_letters x) e none (subst (λ (y : List ℕ). HasFault y e) (replaced_once x bad.0 (with_letters x) bad.1 (replaced x one)) bad.2)
+    faultless (with_letters x) e none (subst (λ (y : List ℕ). HasFault y e) (replaced_once x bad.0 (with_letters x) bad.1 (replaced x _ one refl)) bad.2)
+
+-- so it isn't a pattern
+pub unfit : (x : List ℕ) → (stars x == 1) ≡ true → has_fault (with_letters x) (some_fault (with_letters x)) ≡ true → ¬ (IsPattern x)
+unfit x one so pattern = pattern_fine x pattern (ReferenceName (some_fault (with_letters x))) (pattern_fault x (some_fault (with_letters x)) one so)
 
 pub not_several : (x : List ℕ) → (stars x == 1) ≡ true → ¬ (HasSeveralStars x)
-not_several x one = HasSeveralStars-replaced x (with_letters x) (replaced x one)
+not_several x one = HasSeveralStars-replaced x (with_letters x) (replaced x _ one refl)
 
 pub unstarred : (x : List ℕ) (e : Refusal) → list_any (λ c. c == star) x ≡ false → ¬ (IsBadPattern x e)
 unstarred x e none = plain_fine x (Lacks-tested star x none) e
