@@ -1,9 +1,8 @@
 -- The faults of ref names: texts that have them, and similar ones that haven't.
-use Rattle.gix_refspec_text.proofs.Common.{rules, ℕ, ◌==◌, List, [], ◌∷◌, codes, refl, subst, AllByRecursion, slice_split, Error, Empty, EmptyComponent, StartsWithDot, LockSuffix, EndsWithDot, RepeatedDot}
-use Rattle.gix_refspec_text.proofs.Common.{ReflogPortion, Asterisk, InvalidByte, SomeComponent, HasFault, HasStar, slash}
+use Rattle.gix_refspec_text.proofs.Common.{rules, ℕ, ◌==◌, List, [], ◌∷◌, codes, refl, subst, AllByRecursion, slice_split, Error, Empty, EmptyComponent, StartsWithDot, LockSuffix, EndsWithDot}
+use Rattle.gix_refspec_text.proofs.Common.{RepeatedDot, ReflogPortion, Asterisk, InvalidByte, SomeComponent, HasFault, HasStar, slash}
+use Rattle.gix_refspec_text.proofs.{lemmas.texts.ComponentLemmas.AllByRecursion-parts, readers.Texts.{contains, faultless, faulty, holds_not, split_again}}
 pub use Rattle.gix_refspec_text.proofs.readers.Texts.{begins_not}
-use Rattle.gix_refspec_text.proofs.{lemmas.texts.ComponentLemmas.AllByRecursion-parts}
-use Rattle.gix_refspec_text.proofs.readers.Texts.{contains, faultless, faulty, holds_not, split_again}
 
 -- if no word between slashes satisfies P, no component does
 pub no_component : (P : List ℕ → Type 0) (x : List ℕ) → AllByRecursion (λ w. ¬ (P w)) (slice_split (λ c. c == slash) x) → ¬ (SomeComponent P x)

@@ -1,10 +1,9 @@
 -- The definitions on sides of specs, and the readings and names that other examples use.
-use Rattle.gix_refspec_text.proofs.Common.{rules, ◌≡◌, ◌≢◌, ℕ, zero, suc, ◌==◌, false, List, [], ◌∷◌, ◌++◌, None, Some, length, get_or, codes, refl, ap, ◌∙◌, subst, arith, AllByRecursion, Contains, list_any}
-use Rattle.gix_refspec_text.proofs.Common.{length-append, Fetch, Push, BeginsWith, IsSplit, star, IsIdText, Normal, Forced, Negative, Reading, fetched, full_name, object, partial, HasKind, Fits}
-use Rattle.gix_refspec_text.proofs.Common.{Excludes, the_name, by_pattern, filled, Ref}
-use Rattle.gix_refspec_text.proofs.{facts.ManualFacts.Lacks-tested, facts.ManualFacts.named, readers.Texts.differ, lemmas.hits.MatchLemmas.lacks_no_pattern}
-use Rattle.gix_refspec_text.proofs.{lemmas.hits.MatchLemmas.split_once, lemmas.lists.LacksLemmas.Lacks-here, lemmas.texts.ObjectIdLemmas.no_kind}
-use Rattle.gix_refspec_text.proofs.{facts.ObjectIdFacts.IsIdText-empty_blob, facts.ObjectIdFacts.empty_blob, facts.ObjectIdFacts.lower_of-empty_blob}
+use Rattle.gix_refspec_text.proofs.Common.{rules, ◌≡◌, ◌≢◌, ℕ, zero, suc, ◌==◌, false, List, [], ◌∷◌, ◌++◌, None, Some, length, get_or, codes, refl, ap, ◌∙◌, subst, arith, AllByRecursion, Contains}
+use Rattle.gix_refspec_text.proofs.Common.{list_any, length-append, Fetch, Push, BeginsWith, IsSplit, star, IsIdText, Normal, Forced, Negative, Reading, fetched, full_name, object, partial, HasKind}
+use Rattle.gix_refspec_text.proofs.Common.{Fits, Excludes, the_name, by_pattern, Ref}
+use Rattle.gix_refspec_text.proofs.{facts.ManualFacts.{Lacks-tested, named}, readers.Texts.differ, lemmas.hits.MatchLemmas.{lacks_no_pattern, split_once}, lemmas.lists.LacksLemmas.Lacks-here}
+use Rattle.gix_refspec_text.proofs.{lemmas.texts.ObjectIdLemmas.no_kind, facts.ObjectIdFacts.{IsIdText-empty_blob, empty_blob}}
 
 -- texts that differ at an index differ
 pub other_byte : (k : ℕ) (x y : List ℕ) → get_or x k 0 ≢ get_or y k 0 → x ≢ y

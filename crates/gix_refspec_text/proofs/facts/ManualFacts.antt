@@ -1,18 +1,16 @@
 -- The definitions of names and refspecs at the examples of git-check-ref-format(1), git-fetch(1) and git-push(1), and
 -- at similar ones on both sides of a boundary, so that a wrong definition fails here.
-use Rattle.gix_refspec_text.proofs.Common.{rules, ◌≡◌, ◌≢◌, ℕ, ◌==◌, true, false, List, [], ◌∷◌, ◌++◌, Option, None, Some, map, length, codes, refl, ap, subst, inl, inr, arith, replicate, list_any, filter}
-use Rattle.gix_refspec_text.proofs.Common.{range_with_len, length-replicate, eqb-false, false≢true, RepeatedDot, Operation, Push, Fetch, Plain, Pattern, is_refused_byte, HasSeveralStars, IsSplit}
-use Rattle.gix_refspec_text.proofs.Common.{ReplacesStar, IsPattern, IsPatternFault, slash, star, letter, plus, caret, colon, Mode, Normal, Forced, Negative, Reading, HasSide, remote_of, local_of}
-use Rattle.gix_refspec_text.proofs.Common.{IsSigned, AreParts, Reads, pushes_colon, pushed, fetched, Meaning, push_all_matching, push_delete, push_matching, push_exclude, fetch_and_update, meaning_of}
-use Rattle.gix_refspec_text.proofs.Common.{text_of, PatternUnsupported, PushToEmpty, NegativeWithDestination, ReferenceName, IsBadPattern, NeedsMemory, NoReasonBeforeSource, ReachesMemory}
-use Rattle.gix_refspec_text.proofs.Common.{MayNeedMemory, pattern, full_name, object, partial, HasKind, candidates, filled, Ref, Matches, MatchesAs, same_Some, or_parts, unwrap_or, with_colon}
-use Rattle.gix_refspec_text.proofs.Common.{LastLacksColon, Bool, ◌||◌}
+use Rattle.gix_refspec_text.proofs.Common.{rules, ◌≡◌, ◌≢◌, ℕ, ◌==◌, true, false, List, [], ◌∷◌, ◌++◌, Option, None, Some, map, length, codes, refl, ap, inl, inr, arith, replicate, list_any, filter}
+use Rattle.gix_refspec_text.proofs.Common.{range_with_len, length-replicate, eqb-false, false≢true, RepeatedDot, Operation, Push, Fetch, is_refused_byte, HasSeveralStars, IsSplit, ReplacesStar}
+use Rattle.gix_refspec_text.proofs.Common.{IsPattern, IsPatternFault, slash, star, letter, plus, caret, colon, Mode, Normal, Forced, Negative, Reading, HasSide, remote_of, local_of, IsSigned}
+use Rattle.gix_refspec_text.proofs.Common.{AreParts, Reads, pushed, fetched, Meaning, push_all_matching, push_delete, push_matching, push_exclude, fetch_and_update, meaning_of, text_of}
+use Rattle.gix_refspec_text.proofs.Common.{PatternUnsupported, PushToEmpty, NegativeWithDestination, ReferenceName, IsBadPattern, NeedsMemory, ReachesMemory, MayNeedMemory, pattern, full_name, object}
+use Rattle.gix_refspec_text.proofs.Common.{partial, HasKind, candidates, filled, Ref, Matches, MatchesAs, same_Some, or_parts, unwrap_or, with_colon, LastLacksColon, Bool, ◌||◌}
 use Rattle.gix_refspec_text.specs.declared.name.PatternError.TheVariants.{Memory}
-pub use Rattle.gix_refspec_text.proofs.readers.Texts.{Lacks-tested}
 use Rattle.gix_refspec_text.proofs.{lemmas.lists.LacksLemmas.Lacks-here, lemmas.parsing.PartsLemmas.parts_once, lemmas.parsing.SideLemmas.HasStar-stars}
-use Rattle.gix_refspec_text.proofs.{lemmas.texts.TestedLemmas.IsName-tested, lemmas.texts.TestedLemmas.is_suspect}
-use Rattle.gix_refspec_text.proofs.{readers.Readings.bad_for, readers.Readings.parts_of, readers.Readings.reaches, readers.Readings.reads, readers.Readings.is_read, readers.Readings.read_by}
-use Rattle.gix_refspec_text.proofs.readers.Texts.{begins, contains, differ, holds_not, not_several, replaced, several, unstarred}
+use Rattle.gix_refspec_text.proofs.{lemmas.texts.TestedLemmas.{IsName-tested, is_suspect}, readers.Readings.{bad_for, parts_of, reaches, reads, is_read, read_by}}
+use Rattle.gix_refspec_text.proofs.{readers.Texts.{begins, contains, differ, holds_not, not_several, replaced, several, unstarred}}
+pub use Rattle.gix_refspec_text.proofs.readers.Texts.{Lacks-tested}
 
 -- a text with a byte isn't empty
 pub full : (b : ℕ) (bs : List ℕ) → b ∷ bs ≢ []

@@ -1,11 +1,11 @@
 -- Texts that are names and patterns, and texts that are not, by git-check-ref-format(1): for each of its
 -- rules a text that breaks it, and one that just doesn't.
-use Rattle.gix_refspec_text.proofs.Common.{rules, map, ◌≡◌, ℕ, List, [], ◌∷◌, codes, refl, arith, AllByRecursion, Error, Empty, EmptyComponent, StartsWithDot, LockSuffix, EndsWithDot, RepeatedDot, ReflogPortion}
-use Rattle.gix_refspec_text.proofs.Common.{Asterisk, InvalidByte, ArePartsAt, slash, IsName, IsPattern, IsPatternFault, ReferenceName, with_letters, IsStarCount, IsCalm, lowest_of}
+use Rattle.gix_refspec_text.proofs.Common.{rules, map, ◌≡◌, [], ◌∷◌, codes, refl, arith, AllByRecursion, Error, EmptyComponent, StartsWithDot, LockSuffix, ArePartsAt, slash, IsName, IsPattern}
+use Rattle.gix_refspec_text.proofs.Common.{IsPatternFault, ReferenceName, with_letters, IsStarCount, IsCalm, lowest_of}
 use Rattle.gix_refspec_text.specs.declared.name.PatternError.TheVariants.{Name}
-use lib.Count.{count_trailing_zeros}
 use Rattle.gix_refspec_text.proofs.{lemmas.lists.LacksLemmas.Lacks-here, lemmas.parsing.SideLemmas.pattern_fine, lemmas.texts.TestedLemmas.IsName-tested}
-use Rattle.gix_refspec_text.proofs.readers.Texts.{Lacks-tested, a_pattern, no_name, no_pattern, pattern_fault, unfit}
+use Rattle.gix_refspec_text.proofs.{readers.Texts.{Lacks-tested, a_pattern, no_name, no_pattern, pattern_fault, unfit}}
+use lib.Count.{count_trailing_zeros}
 
 -- ---- names
 

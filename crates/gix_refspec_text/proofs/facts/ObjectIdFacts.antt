@@ -1,8 +1,7 @@
 -- The definitions of ids, at the ids that git hash-object prints for the empty blob, and at other lengths.
-use Rattle.gix_refspec_text.proofs.Common.{rules, ◌==◌, ◌||◌, false, or_parts, eqb-false, ◌≡◌, ℕ, ◌+◌, ◌*◌, List, [], ◌∷◌, Some, codes, refl, arith, filter, range_with_len, false≢true, AllPass-from_list_all}
-use Rattle.gix_refspec_text.proofs.Common.{Digit, Length, Sha1, Sha256, id_bytes, is_lower_digit, IsSpelledBy, Spells, IsIdText, IsLowerText, IsIdLength, HasIdFault, lower_of}
-use Rattle.hex.specs.Hex.{hex_digit_value}
-use Rattle.hex.proofs.OnLiterals.{hex_on_literals}
+use Rattle.gix_refspec_text.proofs.Common.{rules, ◌==◌, ◌||◌, false, or_parts, eqb-false, ◌≡◌, ℕ, ◌+◌, ◌*◌, List, [], ◌∷◌, Some, codes, refl, arith, filter, range_with_len, false≢true}
+use Rattle.gix_refspec_text.proofs.Common.{AllPass-from_list_all, Digit, Length, Sha1, Sha256, id_bytes, is_lower_digit, IsSpelledBy, Spells, IsIdText, IsLowerText, IsIdLength, HasIdFault, lower_of}
+use Rattle.hex.{specs.Hex.hex_digit_value, proofs.OnLiterals.hex_on_literals}
 use Rattle.gix_refspec_text.proofs.lemmas.texts.ObjectIdLemmas.{IsIdText-decoded, IsIdText-sound, Spells-decode_pairs, digits_of-twice, no_kind}
 
 -- the bytes of the id under SHA-1

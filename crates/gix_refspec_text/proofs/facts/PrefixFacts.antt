@@ -1,13 +1,11 @@
 -- Sides with and without a ref prefix, and their expansions.
-use Rattle.gix_refspec_text.proofs.Common.{◌==◌, ◌≡◌, false, eqb-false, ◌≢◌, ℕ, List, [], ◌∷◌, None, Some, length, codes, refl, ap, arith, IsSplit, star, slash, Normal, Negative, fetched, pushed, candidates, IsRefPrefix}
-use Rattle.gix_refspec_text.proofs.Common.{IsPrefix, of_head, of_name, of_pattern, HasNoPrefix, Expands, to_prefix, to_itself, below_refs, of_object, to_candidates, IsAsked, HasPrefix, IsExpansion}
-use Rattle.gix_refspec_text.proofs.Common.{same_Some}
-use Rattle.gix_refspec_text.proofs.{facts.CoveringFacts.below_heads, facts.CoveringFacts.no_bare_prefix, facts.FaultFacts.begins_not}
-use Rattle.gix_refspec_text.proofs.{facts.ObjectIdFacts.IsIdText-empty_blob, facts.ObjectIdFacts.empty_blob, readers.Texts.differ}
+use Rattle.gix_refspec_text.proofs.Common.{◌==◌, ◌≡◌, false, eqb-false, ℕ, List, [], ◌∷◌, None, Some, length, codes, refl, ap, arith, IsSplit, star, slash, Normal, Negative, fetched, pushed}
+use Rattle.gix_refspec_text.proofs.Common.{candidates, IsRefPrefix, IsPrefix, of_head, of_name, of_pattern, HasNoPrefix, Expands, to_prefix, to_itself, below_refs, of_object, to_candidates, IsAsked}
+use Rattle.gix_refspec_text.proofs.Common.{HasPrefix, IsExpansion, same_Some}
+use Rattle.gix_refspec_text.proofs.{facts.CoveringFacts.{below_heads, no_bare_prefix}, facts.FaultFacts.begins_not, facts.ObjectIdFacts.{IsIdText-empty_blob, empty_blob}, readers.Texts.differ}
 use Rattle.gix_refspec_text.proofs.{lemmas.hits.MatchLemmas.outside_none, lemmas.lists.LacksLemmas.Lacks-here, lemmas.prefixes.OnePrefixLemmas.one_prefix}
-use Rattle.gix_refspec_text.proofs.{lemmas.prefixes.PrefixLemmas.no_prefix, lemmas.prefixes.PrefixLemmas.starred_no_id}
-use Rattle.gix_refspec_text.proofs.{facts.ManualFacts.Lacks-tested, facts.ManualFacts.none_some, facts.ManualFacts.other_length}
-use Rattle.gix_refspec_text.proofs.facts.FitFacts.{blob_kind, every, no_dev, other_byte, short_kind, split_at_end}
+use Rattle.gix_refspec_text.proofs.{lemmas.prefixes.PrefixLemmas.{no_prefix, starred_no_id}, facts.ManualFacts.{Lacks-tested, none_some, other_length}}
+use Rattle.gix_refspec_text.proofs.{facts.FitFacts.{blob_kind, every, no_dev, other_byte, short_kind, split_at_end}}
 
 -- `HEAD` and a full name are their own prefix
 pub whole_prefixes : IsPrefix (codes "HEAD") (codes "HEAD") × IsPrefix (codes "refs/a]b") (codes "refs/a]b")

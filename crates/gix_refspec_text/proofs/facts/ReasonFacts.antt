@@ -1,15 +1,14 @@
 -- The reasons to refuse a text, each with parts that it applies to, and similar parts that it doesn't apply to.
-use Rattle.gix_refspec_text.proofs.Common.{rules, ◌≡◌, ℕ, List, [], ◌∷◌, ◌++◌, Option, None, Some, codes, refl, sym, subst, inl, inr, arith, replicate, false≢true, LockSuffix, RepeatedDot, Asterisk, NoName}
-use Rattle.gix_refspec_text.proofs.Common.{Operation, Push, Fetch, IsName, HasStar, HasOneStar, IsSplit, IsPatternFault, star, letter, Normal, Forced, Negative, LooksLikeObjectHash, Refusal}
-use Rattle.gix_refspec_text.proofs.Common.{NegativeWithDestination, PushToEmpty, PatternUnsupported, ReferenceName, PatternUnbalanced, NegativeEmpty, NegativeObjectHash, IsBadName, IsBadPattern}
-use Rattle.gix_refspec_text.proofs.Common.{IsEmptyPush, HasNegativeDestination, PushesNowhere, IsBadSourceFor, HasBadSource, HasBadDestination, IsOneStarred, IsUnbalanced, ExcludesNothing}
-use Rattle.gix_refspec_text.proofs.Common.{ExcludesObject, Never, OrElse, IsFirstReason, same_Some, Plain, Empty}
+use Rattle.gix_refspec_text.proofs.Common.{rules, ◌≡◌, ℕ, List, [], Option, None, Some, codes, refl, sym, subst, arith, replicate, false≢true, LockSuffix, RepeatedDot, Asterisk, NoName, Operation}
+use Rattle.gix_refspec_text.proofs.Common.{Push, Fetch, IsName, HasOneStar, IsSplit, IsPatternFault, letter, Normal, Forced, Negative, Refusal, NegativeWithDestination, PushToEmpty}
+use Rattle.gix_refspec_text.proofs.Common.{PatternUnsupported, ReferenceName, PatternUnbalanced, NegativeEmpty, NegativeObjectHash, IsBadName, IsBadPattern, IsEmptyPush, HasNegativeDestination}
+use Rattle.gix_refspec_text.proofs.Common.{PushesNowhere, IsBadSourceFor, HasBadSource, HasBadDestination, IsOneStarred, IsUnbalanced, ExcludesNothing, ExcludesObject, Never, OrElse, IsFirstReason}
+use Rattle.gix_refspec_text.proofs.Common.{same_Some, Plain, Empty}
 use Rattle.gix_refspec_text.specs.declared.name.PatternError.TheVariants.{Name}
-use Rattle.gix_refspec_text.proofs.{facts.RefusalFacts.normal_positive, lemmas.lists.LacksLemmas.Lacks-here, lemmas.parsing.SideLemmas.name_not_bad}
-use Rattle.gix_refspec_text.proofs.{lemmas.parsing.ReasonLemmas.reason_against_object, lemmas.texts.LetterLemmas.HasOneStar-count_by}
-use Rattle.gix_refspec_text.proofs.facts.ManualFacts.{IsSplit-tested, full, none_some, some_none}
-use Rattle.gix_refspec_text.proofs.readers.Readings.{a_hash, no_hash, bad_end, bad_for, excludes_nothing as against_nothing}
-use Rattle.gix_refspec_text.proofs.readers.Texts.{Lacks-tested, bad_name, bad_pattern, contains, holds_not, not_one_star, not_several, pattern_fault, pattern_faultless, unstarred}
+use Rattle.gix_refspec_text.proofs.{facts.RefusalFacts.normal_positive, lemmas.lists.LacksLemmas.Lacks-here, lemmas.parsing.SideLemmas.name_not_bad, lemmas.parsing.ReasonLemmas.reason_against_object}
+use Rattle.gix_refspec_text.proofs.{lemmas.texts.LetterLemmas.HasOneStar-count_by, facts.ManualFacts.{IsSplit-tested, full, none_some, some_none}}
+use Rattle.gix_refspec_text.proofs.{readers.Readings.{a_hash, no_hash, bad_end, bad_for, excludes_nothing as against_nothing}}
+use Rattle.gix_refspec_text.proofs.{readers.Texts.{Lacks-tested, bad_name, contains, holds_not, not_one_star, not_several, pattern_fault, pattern_faultless, unstarred}}
 
 -- ---- names and patterns
 

@@ -1,9 +1,8 @@
 -- The order of refusals: texts with two reasons, of which the first in the order is returned, and the other isn't.
 use Rattle.gix_refspec_text.proofs.Common.{rules, ◌≢◌, ℕ, List, [], Option, None, Some, codes, refl, arith, replicate, LockSuffix, Operation, Push, Fetch, letter, Normal, IsFirstReason, Mode, Empty}
 use Rattle.gix_refspec_text.proofs.Common.{Forced, Negative, LooksLikeObjectHash, Refusal, NegativeWithDestination, PushToEmpty, PatternUnsupported, ReferenceName, PatternUnbalanced, IsEmptyPush}
-use Rattle.gix_refspec_text.proofs.Common.{HasBadDestination, IsUnbalanced, IsSameReason}
-use Rattle.gix_refspec_text.proofs.{facts.ManualFacts.full, lemmas.parsing.RefusalLemmas.Agree-first}
-use Rattle.gix_refspec_text.proofs.readers.{Readings.at_destination, Readings.at_source, Readings.no_hash, Texts.contains, Texts.differ}
+use Rattle.gix_refspec_text.proofs.Common.{IsUnbalanced, IsSameReason}
+use Rattle.gix_refspec_text.proofs.{facts.ManualFacts.full, lemmas.parsing.RefusalLemmas.Agree-first, readers.Readings.{at_destination, at_source, no_hash}, readers.Texts.{contains, differ}}
 
 pub normal_positive : Normal ≢ Negative
 normal_positive same = cc

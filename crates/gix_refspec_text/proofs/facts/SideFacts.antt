@@ -1,14 +1,12 @@
 -- Sides, candidates and matches: also texts of another kind, names that aren't candidates, and refs that aren't matched.
-use Rattle.gix_refspec_text.proofs.Common.{true, false, false≢true, list_any, bytes_eq-Decides, ap, ◌∙◌, ◌++◌, rules, map, ◌≡◌, ◌≢◌, ◌⊎◌, ℕ, List, [], ◌∷◌, Option, None, Some, codes, refl, sym, subst, arith, AllByRecursion, star, SideKind, pattern, full_name, object}
-use Rattle.gix_refspec_text.proofs.Common.{partial, IsId, HasKind, candidates, IsCandidate, Excludes, the_name, by_pattern, filled, MatchesAs, Matches, inl, inr, Lacks, HasOneStar, IsIdText, Normal}
-use Rattle.gix_refspec_text.proofs.Common.{fetched, pushed, Fits, same_Some, bytes_eq}
-use Rattle.gix_refspec_text.specs.{Matching.Side.{written_name_of}, Laws.Sides.{SidesAgree, OneKind, OneId, OneOfEach}}
-use Rattle.gix_refspec_text.proofs.{facts.FaultFacts.begins_not, facts.ReasonFacts.one_star_alone, readers.Texts.differ, readers.Texts.passes, readers.Texts.passes_back}
-use Rattle.gix_refspec_text.proofs.{lemmas.hits.MatchLemmas.has_candidates, lemmas.hits.MatchLemmas.lacks_no_pattern, lemmas.lists.LacksLemmas.Lacks-here}
-use Rattle.gix_refspec_text.proofs.{lemmas.texts.TextLemmas.one_not_two, facts.ManualFacts.IsSplit-tested, facts.ObjectIdFacts.lower_of-empty_blob}
-use Rattle.gix_refspec_text.proofs.{facts.ManualFacts.Lacks-tested, facts.ManualFacts.named, facts.ManualFacts.other_length, facts.ObjectIdFacts.IsIdText-empty_blob}
-use Rattle.gix_refspec_text.proofs.{facts.ObjectIdFacts.IsIdText-others, facts.ObjectIdFacts.empty_blob}
-use Rattle.gix_refspec_text.proofs.facts.FitFacts.{blob_kind, every, heads_split, origin_split, other_byte, short, short_kind, short_no_id}
+use Rattle.gix_refspec_text.proofs.Common.{true, false, false≢true, list_any, bytes_eq-Decides, ap, ◌∙◌, ◌++◌, rules, map, ◌≡◌, ◌⊎◌, ℕ, List, [], ◌∷◌, Option, None, Some, codes, refl, sym, arith}
+use Rattle.gix_refspec_text.proofs.Common.{star, SideKind, pattern, full_name, object, partial, IsId, HasKind, candidates, IsCandidate, Excludes, the_name, by_pattern, filled, MatchesAs, Matches, inl}
+use Rattle.gix_refspec_text.proofs.Common.{inr, Lacks, HasOneStar, IsIdText, Normal, fetched, pushed, Fits, same_Some, bytes_eq}
+use Rattle.gix_refspec_text.specs.{Matching.Side.written_name_of, Laws.Sides.{SidesAgree, OneKind, OneId, OneOfEach}}
+use Rattle.gix_refspec_text.proofs.{facts.FaultFacts.begins_not, facts.ReasonFacts.one_star_alone, readers.Texts.{differ, passes, passes_back}}
+use Rattle.gix_refspec_text.proofs.{lemmas.hits.MatchLemmas.{has_candidates, lacks_no_pattern}, lemmas.lists.LacksLemmas.Lacks-here, lemmas.texts.TextLemmas.one_not_two}
+use Rattle.gix_refspec_text.proofs.{facts.ManualFacts.{IsSplit-tested, Lacks-tested, named, other_length}, facts.ObjectIdFacts.{lower_of-empty_blob, IsIdText-empty_blob, IsIdText-others, empty_blob}}
+use Rattle.gix_refspec_text.proofs.{facts.FitFacts.{blob_kind, every, heads_split, origin_split, other_byte, short, short_kind, short_no_id}}
 
 -- the text of an id is in either case, and a short word isn't an id
 pub ids : IsId (codes "e69de29bb2d1d6434b8b29ae775ad8c2e48c5391") × IsId (codes "E69DE29BB2D1D6434B8B29AE775AD8C2E48C5391") × ¬ (IsId (codes "main"))

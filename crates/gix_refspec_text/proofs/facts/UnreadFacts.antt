@@ -1,11 +1,11 @@
 -- For each condition of the forms a text that breaks it, with the reason to refuse it, so that it has no reading; and
 -- readings that no text has.
-use Rattle.gix_refspec_text.proofs.Common.{rules, arith, ◌≡◌, [], ◌∷◌, None, Some, codes, refl, sym, ◌∙◌, inl, replicate, Operation, Push, Fetch, star, letter, caret, Normal, Forced, Negative, Reading}
+use Rattle.gix_refspec_text.proofs.Common.{rules, ◌≡◌, [], ◌∷◌, None, Some, codes, refl, sym, ◌∙◌, inl, replicate, Operation, Push, Fetch, star, letter, caret, Normal, Forced, Negative, Reading}
 use Rattle.gix_refspec_text.proofs.Common.{fetched, pushed, Reads, IsAccepted, StartsWithDot, InvalidByte, printed, NegativeWithDestination, PushToEmpty, PatternUnsupported, ReferenceName}
 use Rattle.gix_refspec_text.proofs.Common.{PatternUnbalanced, NegativeEmpty, NegativeObjectHash, IsRefused, Empty}
-use Rattle.gix_refspec_text.proofs.{facts.ManualFacts.none_some, facts.RefusalFacts.empty_push, lemmas.parsing.SideLemmas.HasStar-pattern}
-use Rattle.gix_refspec_text.proofs.{lemmas.specs.AcceptedLemmas.accepted_balanced, lemmas.specs.FormsBackLemmas.read_back, readers.Texts.Lacks-tested, readers.Texts.a_pattern}
-use Rattle.gix_refspec_text.proofs.readers.Readings.{at_balance, at_destination, at_source, because, excludes_nothing, excludes_object, negative_with, reads, to_nothing}
+use Rattle.gix_refspec_text.proofs.{facts.ManualFacts.none_some, facts.RefusalFacts.empty_push, lemmas.parsing.SideLemmas.HasStar-pattern, lemmas.specs.AcceptedLemmas.accepted_balanced}
+use Rattle.gix_refspec_text.proofs.{lemmas.specs.FormsBackLemmas.read_back, readers.Texts.{Lacks-tested, a_pattern}}
+use Rattle.gix_refspec_text.proofs.{readers.Readings.{at_balance, at_destination, at_source, because, excludes_nothing, excludes_object, negative_with, reads, to_nothing}}
 
 -- ---- refused texts, which have no reading
 

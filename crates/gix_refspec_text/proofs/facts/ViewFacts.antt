@@ -5,15 +5,16 @@ use Rattle.gix_refspec_text.proofs.Common.{LockSuffix, RepeatedDot, Digit, Lengt
 use Rattle.gix_refspec_text.proofs.Common.{meaning_of, text_of, WritesPrinted, keys, NegativeWithDestination, PushToEmpty, PatternUnsupported, ReferenceName, PatternUnbalanced, NegativeEmpty}
 use Rattle.gix_refspec_text.proofs.Common.{NegativeObjectHash, IsFirstReason, reading_of, owned_reading_of, key_of_spec, key_of_owned, meaning_of_instruction, meant_for, IsShownAs, ShowsRefusal}
 use Rattle.gix_refspec_text.proofs.Common.{AppendsExpansion, to_prefix, Empty}
-use Rattle.bstr.specs.declared.{bstr.BStr.BStr, bstring.BString.BString}
-use Rattle.gix_refspec_text.specs.{declared.spec.RefSpec.{RefSpec, accepted-type as owned-type}, declared.spec.RefSpecRef.{RefSpecRef, accepted-type}, declared.types.Instruction.Instruction, declared.types.Mode.Mode, Views.Errors.IsSameError}
+use Rattle.bstr.{specs.declared.bstr.BStr.BStr, specs.declared.bstring.BString.BString}
+use Rattle.gix_refspec_text.specs.{declared.spec.RefSpec.{RefSpec, accepted-type as owned-type}, declared.spec.RefSpecRef.{RefSpecRef, accepted-type}, declared.types.Instruction.Instruction}
+use Rattle.gix_refspec_text.specs.{declared.types.Mode.Mode, Views.Errors.IsSameError}
+use Rattle.gix_refspec_text.proofs.{facts.FitFacts.{no_dev, other_byte}, facts.ManualFacts.{none_some, other_length}, facts.ObjectIdFacts.empty_blob, facts.PrefixFacts.whole_prefixes}
+use Rattle.gix_refspec_text.proofs.{facts.RefusalFacts.empty_push}
 use Rattle.gix_refspec_text.specs.declared.instruction.Fetch.TheVariants as fetch
 use Rattle.gix_refspec_text.specs.declared.instruction.Push.TheVariants as push
 use Rattle.gix_refspec_text.specs.declared.parsing.Error.TheVariants as error
 use Rattle.gix_refspec_text.specs.declared.types.Instruction.TheVariants as instruction
 use Rattle.gix_refspec_text.specs.declared.types.Mode.TheVariants as mode
-use Rattle.gix_refspec_text.proofs.{facts.FitFacts.no_dev, facts.FitFacts.other_byte, facts.ManualFacts.none_some, facts.ManualFacts.other_length}
-use Rattle.gix_refspec_text.proofs.{facts.ObjectIdFacts.empty_blob, facts.PrefixFacts.whole_prefixes, facts.RefusalFacts.empty_push}
 
 -- a borrowed text
 abbrev pub lent : List ℕ → BStr

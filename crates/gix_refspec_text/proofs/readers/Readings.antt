@@ -1,14 +1,15 @@
 -- What a text reads as, and why it is refused, computed for texts whose names are plain enough for a test of each byte, so that
 -- examples need no witnesses.
-use Rattle.gix_refspec_text.proofs.Common.{◌≡◌, ◌≢◌, ℕ, Bool, true, false, not, ◌==◌, ◌&&◌, ◌||◌, nat_le, if◌then◌else◌, List, [], ◌∷◌, Option, None, Some, length, refl, sym, subst, unwrap_or}
-use Rattle.gix_refspec_text.proofs.Common.{arith, list_any, list_all, true≢false, false≢true, eqb-false, eqb-true, and_parts, and_from, leb-true, le-leb, is_ascii_hexdigit, Refusal, ◌∙◌, IsRefused}
-use Rattle.gix_refspec_text.proofs.Common.{AllPass-from_list_all, list_all-from_AllPass, Operation, Push, Fetch, Plain, Pattern, slash, star, plus, caret, colon, Mode, Normal, Forced, Negative}
-use Rattle.gix_refspec_text.proofs.Common.{codes, ap, bytes_eq, Reading, Reads, IsSigned, AreParts, with_colon, LastLacksColon, LooksLikeObjectHash, named_by, named_or_head, side_of, fetched, pushed, HasShape, or_cases}
-use Rattle.gix_refspec_text.proofs.Common.{HasCheckedShape, NoReasonBeforeSource, HasBadDestination, HasBadSource, Never, IsFirstReason, PatternUnbalanced, IsBadSourceFor, Shape, is_some, IsPositive, NegativeWithDestination, PushToEmpty, NegativeEmpty, NegativeObjectHash}
-use Rattle.gix_refspec_text.proofs.{lemmas.parsing.ReadOnceLemmas.reads_once, lemmas.texts.TestedLemmas.IsName-tested, lemmas.texts.TestedLemmas.is_suspect}
-use Rattle.gix_refspec_text.proofs.readers.Texts.{Lacks-tested, differ, a_pattern, bad_name, bad_pattern, is_bad_name, is_bad_pattern, is_empty, is_pattern, not_true}
-use Rattle.gix_refspec_text.proofs.lemmas.parsing.ReadsLemmas.{fetch_reads, negative_reads, push_alone_reads, push_reads, refused}
-use Rattle.gix_refspec_text.proofs.lemmas.parsing.ReasonLemmas.{alone_fine, bad_destination, fetch_source_fine, no_negative, push_source_fine, reason_against_nothing, reason_against_object, reason_at_destination, reason_at_source, unbalanced_fetch, unbalanced_push}
+use Rattle.gix_refspec_text.proofs.Common.{◌≡◌, ◌≢◌, ℕ, Bool, true, false, not, ◌==◌, ◌&&◌, ◌||◌, nat_le, if◌then◌else◌, List, [], ◌∷◌, Option, None, Some, length, refl, sym, subst, unwrap_or, arith}
+use Rattle.gix_refspec_text.proofs.Common.{list_any, list_all, true≢false, false≢true, eqb-false, eqb-true, and_parts, and_from, leb-true, le-leb, is_ascii_hexdigit, Refusal, ◌∙◌, IsRefused}
+use Rattle.gix_refspec_text.proofs.Common.{AllPass-from_list_all, list_all-from_AllPass, Operation, Push, Fetch, Plain, Pattern, slash, star, plus, caret, colon, Mode, Normal, Forced, Negative, codes}
+use Rattle.gix_refspec_text.proofs.Common.{ap, bytes_eq, Reading, Reads, IsSigned, AreParts, with_colon, LastLacksColon, LooksLikeObjectHash, named_by, named_or_head, side_of, fetched, pushed}
+use Rattle.gix_refspec_text.proofs.Common.{HasShape, or_cases, HasCheckedShape, NoReasonBeforeSource, HasBadDestination, HasBadSource, Never, IsFirstReason, PatternUnbalanced, IsBadSourceFor, Shape}
+use Rattle.gix_refspec_text.proofs.Common.{is_some, IsPositive, NegativeWithDestination, PushToEmpty, NegativeEmpty, NegativeObjectHash}
+use Rattle.gix_refspec_text.proofs.{lemmas.parsing.ReadOnceLemmas.reads_once, lemmas.texts.TestedLemmas.{IsName-tested, is_suspect}}
+use Rattle.gix_refspec_text.proofs.{readers.Texts.{Lacks-tested, differ, a_pattern, bad_name, bad_pattern, is_bad_name, is_bad_pattern, is_empty, is_pattern, not_true}}
+use Rattle.gix_refspec_text.proofs.{lemmas.parsing.ReadsLemmas.{fetch_reads, negative_reads, push_alone_reads, push_reads, refused}}
+use Rattle.gix_refspec_text.proofs.{lemmas.parsing.ReasonLemmas.{alone_fine, bad_destination, fetch_source_fine, no_negative, push_source_fine, reason_against_nothing, reason_against_object, reason_at_destination, reason_at_source, unbalanced_fetch, unbalanced_push}}
 
 -- the sign of a text, and what follows it
 abbrev sign_of : List ℕ → Mode

@@ -1,18 +1,16 @@
 -- Tests that compute what a text contains, which faults it has and whether it is a name or a pattern, so that examples need no witnesses.
-use Rattle.gix_refspec_text.proofs.Common.{filter, get_or, if◌then◌else◌, ◌≡◌, ◌≢◌, ℕ, Bool, true, false, not, ◌==◌, ◌||◌, ◌&&◌, ◌-◌, cond, nat_eq, bytes_eq, bytes_eq-Decides, List, [], ◌∷◌, ◌++◌, length, take, drop, codes, refl}
-use Rattle.gix_refspec_text.proofs.Common.{sym, ap, ◌∙◌, subst, arith, All, AllByRecursion, All-from_recursion, Decides, Decides-eqb, starts_with, ends_with, starts_is, ends_is, slice_split}
-use Rattle.gix_refspec_text.proofs.Common.{join_with_byte, list_any, list_all, count_by, true≢false, false≢true, eqb-false, eqb-true, ne_eqb, or_parts, or_cases, and_parts, and_from, Error, Empty}
-use Rattle.gix_refspec_text.proofs.Common.{EmptyComponent, StartsWithDot, LockSuffix, EndsWithDot, RepeatedDot, ReflogPortion, Asterisk, InvalidByte, is_refused_byte, Lacks, ContainsText, BeginsWith}
-use Rattle.gix_refspec_text.proofs.Common.{EndsWith, SomeComponent, HasFault, HasOneStar, HasSeveralStars, IsName, IsPattern, IsPatternFault, ReplacesStar, slash, star, with_letters, inl, inr, ◌⊎◌, Refusal}
-use Rattle.gix_refspec_text.proofs.Common.{PatternUnsupported, ReferenceName, IsBadName, IsBadPattern}
+use Rattle.gix_refspec_text.proofs.Common.{filter, get_or, if◌then◌else◌, ◌≡◌, ◌≢◌, ℕ, Bool, true, false, not, ◌==◌, ◌||◌, ◌&&◌, ◌-◌, cond, nat_eq, bytes_eq, bytes_eq-Decides, List, [], ◌∷◌, ◌++◌}
+use Rattle.gix_refspec_text.proofs.Common.{length, take, drop, codes, refl, sym, ap, ◌∙◌, subst, arith, All, AllByRecursion, All-from_recursion, Decides, Decides-eqb, starts_with, ends_with}
+use Rattle.gix_refspec_text.proofs.Common.{starts_is, ends_is, slice_split, join_with_byte, list_any, count_by, false≢true, eqb-false, eqb-true, ne_eqb, or_parts, or_cases, and_parts, and_from, Error}
+use Rattle.gix_refspec_text.proofs.Common.{Empty, EmptyComponent, StartsWithDot, LockSuffix, EndsWithDot, RepeatedDot, ReflogPortion, Asterisk, InvalidByte, is_refused_byte, Lacks, ContainsText}
+use Rattle.gix_refspec_text.proofs.Common.{BeginsWith, EndsWith, SomeComponent, HasFault, HasOneStar, HasSeveralStars, IsName, IsPattern, IsPatternFault, ReplacesStar, slash, star, with_letters, inl}
+use Rattle.gix_refspec_text.proofs.Common.{inr, Refusal, PatternUnsupported, ReferenceName, IsBadName, IsBadPattern}
 use Rattle.gix_refspec_text.specs.declared.name.PatternError.TheVariants.{Name}
-use Rattle.std.specs.List.{onto_first}
-use Rattle.std.proofs.lemmas.Bool.Decides.{Decides-not, not_from_Decides}
-use Rattle.std.proofs.Math.Bool.{or-true}
-use Rattle.std.proofs.lemmas.List.Splits.{slice_split_none, slice_split_at, join_with_byte-slice_split}
-use Rattle.gix_refspec_text.proofs.{lemmas.lists.AllLemmas.all_weaker, lemmas.texts.TestedLemmas.IsName-tested, lemmas.texts.TestedLemmas.is_suspect}
-use Rattle.gix_refspec_text.proofs.{lemmas.parsing.SideLemmas.HasSeveralStars-replaced, lemmas.parsing.SideLemmas.pattern_fine, lemmas.parsing.SideLemmas.plain_fine, lemmas.parsing.SideLemmas.replaced_once}
-use Rattle.gix_refspec_text.proofs.lemmas.texts.LetterLemmas.{HasOneStar-count_by, count_by-HasOneStar, pattern_with_letter, replaces_one}
+use Rattle.std.{specs.List.onto_first, proofs.lemmas.Bool.Decides.{Decides-not, not_from_Decides}, proofs.Math.Bool.or-true}
+use Rattle.std.{proofs.lemmas.List.Splits.{slice_split_none, slice_split_at, join_with_byte-slice_split}}
+use Rattle.gix_refspec_text.proofs.{lemmas.lists.AllLemmas.all_weaker, lemmas.texts.TestedLemmas.{IsName-tested, is_suspect}}
+use Rattle.gix_refspec_text.proofs.{lemmas.parsing.SideLemmas.{HasSeveralStars-replaced, pattern_fine, plain_fine, replaced_once}}
+use Rattle.gix_refspec_text.proofs.{lemmas.texts.LetterLemmas.{HasOneStar-count_by, count_by-HasOneStar, pattern_with_letter, replaces_one}}
 
 both_are : {P Q : Type 0} (p q : Bool) → Decides p P → Decides q Q → Decides (p && q) (P × Q)
 both_are p q a b = grind (arith, and_parts, and_from)
