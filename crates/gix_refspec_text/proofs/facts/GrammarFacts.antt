@@ -4,8 +4,6 @@ use Rattle.gix_refspec_text.proofs.Common.{with_colon, LastLacksColon, AreParts,
 use Rattle.gix_refspec_text.proofs.{facts.ManualFacts.no_sign, lemmas.lists.LacksLemmas.Lacks-here, lemmas.texts.TestedLemmas.IsName-tested}
 use Rattle.gix_refspec_text.proofs.{readers.Readings.{a_hash, no_hash, no_other, parts_of, reads}, readers.Texts.{Lacks-tested, a_pattern, differ, no_name, no_pattern}}
 
--- ---- the words of the forms
-
 pub signs :
     -- `+` and `^` are signs only as the first byte
     IsUnsigned [] × IsUnsigned (codes "a+^") × ¬ (IsUnsigned (codes "+a")) × ¬ (IsUnsigned (codes "^a"))
@@ -40,8 +38,6 @@ names_and_patterns = search (rules, IsName-tested, a_pattern, no_name (codes "a 
 pub hashes : LooksLikeObjectHash (replicate 40 letter) × LooksLikeObjectHash (replicate 41 65) × ¬ (LooksLikeObjectHash (codes "g" ++ replicate 39 letter))
 hashes = search (rules, a_hash, no_hash)
 
--- ---- forms of a fetch
-
 -- an empty source, with and without a sign and a colon, is `HEAD`
 pub fetches_head : Reads Fetch [] (fetched Normal (codes "HEAD") None) × Reads Fetch (codes "+") (fetched Forced (codes "HEAD") None) × Reads Fetch (codes ":") (fetched Normal (codes "HEAD") None) × Reads Fetch (codes "+:") (fetched Forced (codes "HEAD") None)
 fetches_head = search (rules, reads)
@@ -71,8 +67,6 @@ pub fetches_without : Reads Fetch (codes "^refs/heads/dev-*") (fetched Negative 
     × Reads Fetch (caret ∷ replicate 39 letter) (fetched Negative (replicate 39 letter) None)
 fetches_without = search (rules, reads)
 
--- ---- forms of a push
-
 pub pushes :
     -- a name, `@`, and 40 bytes of which one isn't a hex digit
     Reads Push (codes "^main") (pushed Negative (Some (codes "main")) None) × Reads Push (codes "^@") (pushed Negative (Some (codes "HEAD")) None)
@@ -95,8 +89,6 @@ pub pushes_objects : Reads Push (codes "main~2:refs/heads/x") (pushed Normal (So
     × Reads Push (codes "+^a..b:x") (pushed Forced (Some (codes "^a..b")) (Some (codes "x"))) × Reads Push (codes "@:@") (pushed Normal (Some (codes "HEAD")) (Some (codes "@")))
     × Reads Push (codes "::x") (pushed Normal (Some (codes ":")) (Some (codes "x")))
 pushes_objects = search (rules, reads)
-
--- ---- no other reading
 
 pub no_other_reading :
     -- a push of a name alone has no destination, nor has a fetch with a colon after its name

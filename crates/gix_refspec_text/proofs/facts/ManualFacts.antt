@@ -1,14 +1,14 @@
 -- The definitions of names and refspecs at the examples of git-check-ref-format(1), git-fetch(1) and git-push(1), and
 -- at similar ones on both sides of a boundary, so that a wrong definition fails here.
-use Rattle.gix_refspec_text.proofs.Common.{rules, ◌≡◌, ◌≢◌, ℕ, ◌==◌, true, false, List, [], ◌∷◌, ◌++◌, Option, None, Some, map, length, codes, refl, ap, inl, inr, arith, replicate, list_any, filter}
-use Rattle.gix_refspec_text.proofs.Common.{range_with_len, length-replicate, eqb-false, false≢true, RepeatedDot, Operation, Push, Fetch, is_refused_byte, HasSeveralStars, IsSplit, ReplacesStar}
-use Rattle.gix_refspec_text.proofs.Common.{IsPattern, IsPatternFault, slash, star, letter, plus, caret, colon, Mode, Normal, Forced, Negative, Reading, HasSide, remote_of, local_of, IsSigned}
-use Rattle.gix_refspec_text.proofs.Common.{AreParts, Reads, pushed, fetched, Meaning, push_all_matching, push_delete, push_matching, push_exclude, fetch_and_update, meaning_of, text_of}
+use Rattle.gix_refspec_text.proofs.Common.{subst, rules, ◌≡◌, ◌≢◌, ℕ, ◌==◌, true, false, List, [], ◌∷◌, ◌++◌, Option, None, Some, map, length, codes, refl, ap, inl, inr, arith, replicate, list_any}
+use Rattle.gix_refspec_text.proofs.Common.{filter, range_with_len, length-replicate, eqb-false, false≢true, RepeatedDot, Operation, Push, Fetch, is_refused_byte, HasSeveralStars, IsSplit}
+use Rattle.gix_refspec_text.proofs.Common.{ReplacesStar, IsPattern, IsPatternFault, slash, star, letter, plus, caret, colon, Mode, Normal, Forced, Negative, Reading, HasSide, remote_of, local_of}
+use Rattle.gix_refspec_text.proofs.Common.{IsSigned, AreParts, Reads, pushed, fetched, Meaning, push_all_matching, push_delete, push_matching, push_exclude, fetch_and_update, meaning_of, text_of}
 use Rattle.gix_refspec_text.proofs.Common.{PatternUnsupported, PushToEmpty, NegativeWithDestination, ReferenceName, IsBadPattern, NeedsMemory, ReachesMemory, MayNeedMemory, pattern, full_name, object}
 use Rattle.gix_refspec_text.proofs.Common.{partial, HasKind, candidates, filled, Ref, Matches, MatchesAs, same_Some, or_parts, unwrap_or, with_colon, LastLacksColon, Bool, ◌||◌}
 use Rattle.gix_refspec_text.specs.declared.name.PatternError.TheVariants.{Memory}
 use Rattle.gix_refspec_text.proofs.{lemmas.lists.LacksLemmas.Lacks-here, lemmas.parsing.PartsLemmas.parts_once, lemmas.parsing.SideLemmas.HasStar-stars}
-use Rattle.gix_refspec_text.proofs.{lemmas.texts.TestedLemmas.{IsName-tested, is_suspect}, readers.Readings.{bad_for, parts_of, reaches, reads, is_read, read_by}}
+use Rattle.gix_refspec_text.proofs.{lemmas.texts.TestedLemmas.{IsName-tested, is_suspect}, readers.Readings.{bad_for, sign_of, words, parts_of, reaches, reads, is_read, read_by}}
 use Rattle.gix_refspec_text.proofs.{readers.Texts.{begins, contains, differ, holds_not, not_several, replaced, several, unstarred}}
 pub use Rattle.gix_refspec_text.proofs.readers.Texts.{Lacks-tested}
 
@@ -53,26 +53,17 @@ one_star = search (rules, replaced, several)
 pub no_sign : (b : ℕ) (bs : List ℕ) → (b == plus) ≡ false → (b == caret) ≡ false → IsSigned Normal (b ∷ bs) (b ∷ bs)
 no_sign b bs no_plus no_caret = (refl, (eqb-false b plus no_plus, eqb-false b caret no_caret))
 
--- whether the first byte is a sign, although the mode has none
-abbrev pub begins_signed : Mode → List ℕ → Bool
-begins_signed Normal (b ∷ rest) = b == plus || b == caret
-begins_signed mode rest = false
-
+-- a sign of a mode, and what follows it
 abbrev pub with_sign : Mode → List ℕ → List ℕ
 with_sign Normal rest = rest
 with_sign Forced rest = plus ∷ rest
 with_sign Negative rest = caret ∷ rest
 
--- a text has these parts if tests find no further sign and no further colon
-pub parts : (mode : Mode) (s : List ℕ) (d : Option (List ℕ)) → begins_signed mode (with_colon s d) ≡ false → list_any (λ c. c == colon) (unwrap_or d s) ≡ false → AreParts mode s d (with_sign mode (with_colon s d))
-parts mode s d unsigned last = record { signed = sign mode (with_colon s d) unsigned; last = lacks s d last }
-  where
-    sign : (mode : Mode) (rest : List ℕ) → begins_signed mode rest ≡ false → IsSigned mode (with_sign mode rest) rest
-    sign mode rest none = grind (arith, or_parts, no_sign)
-
-    lacks : (s : List ℕ) (d : Option (List ℕ)) → list_any (λ c. c == colon) (unwrap_or d s) ≡ false → LastLacksColon s d
-    lacks s None none = Lacks-tested colon s none
-    lacks s (Some d) none = Lacks-tested colon d none
+-- a text has the parts that it is cut into
+pub parts : (mode : Mode) (s : List ℕ) (d : Option (List ℕ)) → sign_of (with_sign mode (with_colon s d)) ≡ mode → words (with_sign mode (with_colon s d)) ≡ (s, d) → AreParts mode s d (with_sign mode (with_colon s d))
+parts mode s d signs cuts =
+    let text = with_sign mode (with_colon s d) in
+    subst (λ (m : Mode). AreParts m s d text) signs (subst (λ (w : List ℕ × Option (List ℕ)). AreParts (sign_of text) w.0 w.1 text) cuts (parts_of text))
 
 says : {op : Operation} {text : List ℕ} {m : Meaning} → is_read op text ≡ true → meaning_of (read_by op text) ≡ Some m → Says op text m
 says so is = (_, reads so refl, is)
@@ -94,8 +85,6 @@ pub texts : map text_of (push_matching (codes "master") (codes "master") false �
     ∷ fetch_and_update (codes "seen") (codes "seen") true ∷ [])
     ≡ codes "master:master" ∷ codes "+dev:master" ∷ codes ":experimental" ∷ codes ":" ∷ codes "^refs/heads/dev-*" ∷ codes "+seen:seen" ∷ []
 texts = refl
-
--- ---- sides and what they match
 
 -- a ref of this name
 abbrev pub named : List ℕ → Ref
@@ -132,8 +121,6 @@ pub filled_sides : (map (filled (pattern (codes "refs/x/") (codes "/y"))) (Some 
     × (map (λ x. filled (partial x) None) (codes "main" ∷ codes "tags/v1" ∷ codes "remotes/o/main" ∷ codes "tagsv" ∷ [])
     ≡ codes "refs/heads/main" ∷ codes "refs/tags/v1" ∷ codes "refs/remotes/o/main" ∷ codes "refs/heads/tagsv" ∷ [])
 filled_sides = (refl, refl)
-
--- ---- refusals and memory
 
 -- a star and n letters
 abbrev starred : ℕ → List ℕ
@@ -173,8 +160,6 @@ texts_need_memory = (
         let once = parts_once may.mode Normal may.source (starred 255) may.destination None (starred 255) may.parts (parts_of (starred 255)) in
         let reached : ReachesMemory Fetch may.mode may.source None = rw once.destination at may.reaches in
         needs_memory.3 (rw once.source at reached.1)
-
--- ---- sides of readings
 
 pub sides :
     -- either side alone is enough

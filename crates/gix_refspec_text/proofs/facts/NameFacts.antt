@@ -7,8 +7,6 @@ use Rattle.gix_refspec_text.proofs.{lemmas.lists.LacksLemmas.Lacks-here, lemmas.
 use Rattle.gix_refspec_text.proofs.{readers.Texts.{Lacks-tested, a_pattern, no_name, no_pattern, pattern_fault, unfit}}
 use lib.Count.{count_trailing_zeros}
 
--- ---- names
-
 pub names_close_to_faults : AllByRecursion IsName
     -- a dot in a component, or at the end of one that isn't the last; `.lock` before the end of a component; `@` and a brace apart; and the
     -- bytes just below and above the refused ones
@@ -22,8 +20,6 @@ names_close_to_faults = search (rules, IsName-tested)
 pub no_names : ¬ (IsName []) × ¬ (IsName (codes "/a")) × ¬ (IsName (codes "a/")) × ¬ (IsName (codes "a//a")) × ¬ (IsName (codes ".b/a")) × ¬ (IsName (codes "a/.b")) × ¬ (IsName (codes "b.lock/a"))
     × ¬ (IsName (codes "a/b.lock")) × ¬ (IsName (codes "a/b.")) × ¬ (IsName (codes "..a")) × ¬ (IsName (codes "@{1}")) × ¬ (IsName (codes "*a")) × ¬ (IsName (codes "a b"))
 no_names = search (rules, no_name)
-
--- ---- patterns
 
 -- a star at the end, alone, as a component, within a component, and first
 pub patterns : AllByRecursion IsPattern (codes "refs/heads/dev-*" ∷ codes "*" ∷ codes "refs/*/head" ∷ codes "foo/bar*/baz" ∷ codes "*/x" ∷ codes "refs/heads/*" ∷ [])
@@ -42,8 +38,6 @@ no_patterns = search (rules, pattern_fault, unfit, no_pattern, no_fault)
   where
     no_fault : (e : Error) → ¬ (IsPatternFault (Name e) (codes "*"))
     no_fault e bad = pattern_fine (codes "*") (a_pattern (codes "*") refl) (ReferenceName e) bad
-
--- ---- how a text is scanned
 
 pub scans :
     -- each star becomes a letter, and other bytes stay

@@ -42,8 +42,6 @@ expansions_below = (
   to_prefix (codes "HEAD") whole_prefixes.0 refl,
 )
 
--- ---- other prefixes, and sides without one
-
 -- the prefix of a name is the whole name, and that of a pattern goes up to its star
 pub other_prefixes : ¬ (IsPrefix (codes "refs/heads/main") (codes "refs/heads/")) × ¬ (IsPrefix (codes "refs/a*/b") (codes "refs/")) × ¬ (IsPrefix (codes "refs/a*/b") (codes "refs/a*/b")) × HasNoPrefix (codes "main") × HasNoPrefix (codes "HEAD/x")
 other_prefixes = search (arith, other_length, one_prefix, Lacks-tested, pattern_prefix, outside_none, other_byte, short_kind, begins_not)
@@ -61,8 +59,6 @@ other_expansions = (heads_expands, other_list main_expands refl, other_list expa
 
     other_list : {x : List ℕ} {list other : List (List ℕ)} → Expands x other → (length list == length other) ≡ false → ¬ (Expands x list)
     other_list {x} {list} {other} another sizes one = eqb-false (length list) (length other) sizes (ap length ((one_prefix x).expanded list other one another))
-
--- ---- the prefixes of a reading
 
 -- the prefix of a spec is by the source of a fetch or the destination of a push, and not by the other side; a negative
 -- spec and a push of a source alone have no such side

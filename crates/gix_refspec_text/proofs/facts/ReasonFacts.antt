@@ -1,6 +1,6 @@
 -- The reasons to refuse a text, each with parts that it applies to, and similar parts that it doesn't apply to.
-use Rattle.gix_refspec_text.proofs.Common.{rules, ◌≡◌, ℕ, List, [], Option, None, Some, codes, refl, sym, subst, arith, replicate, false≢true, LockSuffix, RepeatedDot, Asterisk, NoName, Operation}
-use Rattle.gix_refspec_text.proofs.Common.{Push, Fetch, IsName, HasOneStar, IsSplit, IsPatternFault, letter, Normal, Forced, Negative, Refusal, NegativeWithDestination, PushToEmpty}
+use Rattle.gix_refspec_text.proofs.Common.{star, rules, ◌≡◌, ℕ, List, [], Option, None, Some, codes, refl, sym, subst, arith, replicate, false≢true, LockSuffix, RepeatedDot, Asterisk, NoName}
+use Rattle.gix_refspec_text.proofs.Common.{Operation, Push, Fetch, IsName, HasOneStar, IsSplit, IsPatternFault, letter, Normal, Forced, Negative, Refusal, NegativeWithDestination, PushToEmpty}
 use Rattle.gix_refspec_text.proofs.Common.{PatternUnsupported, ReferenceName, PatternUnbalanced, NegativeEmpty, NegativeObjectHash, IsBadName, IsBadPattern, IsEmptyPush, HasNegativeDestination}
 use Rattle.gix_refspec_text.proofs.Common.{PushesNowhere, IsBadSourceFor, HasBadSource, HasBadDestination, IsOneStarred, IsUnbalanced, ExcludesNothing, ExcludesObject, Never, OrElse, IsFirstReason}
 use Rattle.gix_refspec_text.proofs.Common.{same_Some, Plain, Empty}
@@ -8,9 +8,7 @@ use Rattle.gix_refspec_text.specs.declared.name.PatternError.TheVariants.{Name}
 use Rattle.gix_refspec_text.proofs.{facts.RefusalFacts.normal_positive, lemmas.lists.LacksLemmas.Lacks-here, lemmas.parsing.SideLemmas.name_not_bad, lemmas.parsing.ReasonLemmas.reason_against_object}
 use Rattle.gix_refspec_text.proofs.{lemmas.texts.LetterLemmas.HasOneStar-count_by, facts.ManualFacts.{IsSplit-tested, full, none_some, some_none}}
 use Rattle.gix_refspec_text.proofs.{readers.Readings.{a_hash, no_hash, bad_end, bad_for, excludes_nothing as against_nothing}}
-use Rattle.gix_refspec_text.proofs.{readers.Texts.{Lacks-tested, bad_name, contains, holds_not, not_one_star, not_several, pattern_fault, pattern_faultless, unstarred}}
-
--- ---- names and patterns
+use Rattle.gix_refspec_text.proofs.{readers.Texts.{Lacks-tested, faulty, contains, holds_not, not_one_star, not_several, pattern_fault, pattern_faultless, unstarred}}
 
 -- a text with exactly one star, and texts without one and with two
 pub one_star_alone : HasOneStar (codes "a*b") × IsSplit (codes "a") (codes "b") (codes "a*b") × ¬ (HasOneStar (codes "ab")) × ¬ (HasOneStar (codes "a*b*")) × ¬ (HasOneStar (codes "b"))
@@ -27,9 +25,7 @@ bad_patterns = search (rules, pattern_fault, pattern_faultless, not_several (cod
 
 -- a bad name has a fault of its own, and a text with a star isn't a bad name
 pub bad_names : IsBadName (codes "a..b") (ReferenceName RepeatedDot) × ¬ (IsBadName (codes "a..b") (ReferenceName NoName)) × ¬ (IsBadName (codes "a*..b") (ReferenceName RepeatedDot)) × ¬ (IsBadName (codes "a..b") PatternUnbalanced)
-bad_names = search (rules, bad_name, full, Lacks-here)
-
--- ---- signs and colons
+bad_names = ((Lacks-tested star (codes "a..b") refl, faulty (codes "a..b") RepeatedDot refl), (λ bad. full _ _ bad.1), (λ bad. Lacks-here star (codes "a") (codes "..b") bad.0), λ none. none)
 
 pub at_signs_and_colons :
     -- a push of a source, or of a colon, isn't empty
@@ -42,8 +38,6 @@ pub at_signs_and_colons :
     × PushesNowhere Push (codes "a") (Some []) PushToEmpty × ¬ (PushesNowhere Push (codes "a") (Some []) Empty)
     × ((e : Refusal) → ¬ (PushesNowhere Push [] (Some []) e) × ¬ (PushesNowhere Push (codes "a") None e) × ¬ (PushesNowhere Push (codes "a") (Some (codes "b")) e) × ¬ (PushesNowhere Fetch (codes "a") (Some []) e))
 at_signs_and_colons = search (arith, false≢true, normal_positive, full, none_some, some_none, same_Some)
-
--- ---- sources and destinations
 
 -- `a..b` may be pushed to a destination, but not alone, and not fetched; `a*b*` may not be pushed even to a destination
 pub sources : ((e : Refusal) → ¬ (IsBadSourceFor Push (Some (codes "c")) (codes "a..b") e)) × IsBadSourceFor Push None (codes "a..b") (ReferenceName RepeatedDot)
@@ -65,8 +59,6 @@ destinations = (
   λ is_name e bad. name_not_bad bad.word (subst IsName (same_Some (codes "c") bad.word bad.is) is_name) e bad.refusal,
 )
 
--- ---- balance
-
 pub balances :
     -- one of two texts has a star, whichever it is, but not both or neither
     IsOneStarred (codes "a*") (codes "b") × IsOneStarred (codes "b") (codes "a*") × ¬ (IsOneStarred (codes "a*") (codes "b*")) × ¬ (IsOneStarred (codes "a") (codes "b"))
@@ -75,8 +67,6 @@ pub balances :
     × ((e : Refusal) → ¬ (IsUnbalanced Push Normal (codes "a*") (Some []) e)) × ¬ (IsUnbalanced Push Normal (codes "a*") (Some (codes "b")) NegativeEmpty)
 balances = search (arith, contains, holds_not, Lacks-tested, Lacks-here, full)
 
--- ---- negative specs
-
 -- `^` is refused for excluding nothing; the empty text and `^a` aren't
 pub excludes_nothing : ExcludesNothing Negative [] NegativeEmpty × ((e : Refusal) → ¬ (ExcludesNothing Normal [] e) × ¬ (ExcludesNothing Negative (codes "a") e)) × ¬ (ExcludesNothing Negative [] NegativeObjectHash)
 excludes_nothing = search (arith, full, normal_positive)
@@ -84,8 +74,6 @@ excludes_nothing = search (arith, full, normal_positive)
 -- `^` and 40 digits exclude an object, and the digits alone and `^` and 39 don't
 pub excludes_object : ExcludesObject Negative (replicate 40 letter) NegativeObjectHash × ((e : Refusal) → ¬ (ExcludesObject Normal (replicate 40 letter) e) × ¬ (ExcludesObject Negative (replicate 39 letter) e)) × ¬ (ExcludesObject Negative (replicate 40 letter) NegativeEmpty)
 excludes_object = search (arith, a_hash (replicate 40 letter) refl, no_hash, normal_positive)
-
--- ---- one of two reasons
 
 -- the second reason is returned only if the first never applies
 pub or_else : OrElse (ExcludesNothing Negative []) (ExcludesObject Negative []) NegativeEmpty × OrElse (ExcludesNothing Negative (replicate 40 letter)) (ExcludesObject Negative (replicate 40 letter)) NegativeObjectHash × ¬ (OrElse (λ e. e ≡ NegativeEmpty) (λ e. e ≡ PushToEmpty) PushToEmpty) × ¬ (Never (λ e. e ≡ PushToEmpty))

@@ -69,8 +69,6 @@ pub written_names : map written_name_of (codes "heads/a" ∷ codes "tags/v1" ∷
     ∷ codes "refs/x" ∷ codes "refs/heads/refs" ∷ []
 written_names = refl
 
--- ---- readings whose sides agree, and what a caller concludes from the laws on sides
-
 several_stars : ¬ (HasOneStar (codes "a*b*") ⊎ Lacks star (codes "a*b*"))
 several_stars = search (rules, arith, one_star_alone, Lacks-here)
 

@@ -7,8 +7,6 @@ use Rattle.gix_refspec_text.proofs.{facts.ManualFacts.none_some, facts.RefusalFa
 use Rattle.gix_refspec_text.proofs.{lemmas.specs.FormsBackLemmas.read_back, readers.Texts.{Lacks-tested, a_pattern}}
 use Rattle.gix_refspec_text.proofs.{readers.Readings.{at_balance, at_destination, at_source, because, excludes_nothing, excludes_object, negative_with, reads, to_nothing}}
 
--- ---- refused texts, which have no reading
-
 -- the empty push
 pub nothing_pushed : IsRefused Push [] Empty
 nothing_pushed = because empty_push.0
@@ -52,8 +50,6 @@ unread r =
     let negative = bad_negatives Push in
     let alone = bad_negatives Fetch in
     (nothing_pushed.unread r, bad_pushes.0.unread r, alone.3.unread r, alone.4.unread r, unbalanced_fetches.2.unread r, unbalanced_fetches.7.unread r, bad_sources.1.unread r, negative.2.unread r)
-
--- ---- readings that some text has, and others
 
 no_text : (r : Reading) → printed r ≡ None → ¬ (IsAccepted r)
 no_text r none (text, reads) = let back = read_back r.operation text r reads in none_some back.text (sym none ∙ back.is)

@@ -36,8 +36,6 @@ owned_of op sign s d accepted = record { op = op; mode = sign; src = s; dst = d;
 other_key : (k j : ℕ) (x y : List (List ℕ)) → get_or (get_or x k []) j 0 ≢ get_or (get_or y k []) j 0 → x ≢ y
 other_key k j x y differ same = differ (ap (λ (z : List (List ℕ)). get_or (get_or z k []) j 0) same)
 
--- ---- refspecs
-
 module _
     (update : Accepted Fetch mode.Force (Some (codes "a")) (Some (codes "b")))
     (unforced : Accepted Fetch mode.Normal (Some (codes "a")) (Some (codes "b")))
@@ -89,8 +87,6 @@ module _
         × (key_of_owned (owned_of Fetch mode.Normal (Some n) None alone) ≢ key_of_owned (owned_of Push mode.Normal (Some n) None same_name))
     owned_views = (refl, refl, refl, other_key 0 0 _ _ (λ same. omega (arith, same)))
 
--- ---- instructions
-
 abbrev pushes : List Instruction
 pushes = map instruction.Push (push.AllMatchingBranches true ∷ push.AllMatchingBranches false ∷ push.Delete (lent (codes "x")) ∷ push.Matching (lent (codes "a")) (lent (codes "b")) true ∷ push.Exclude (lent (codes "a")) ∷ [])
 
@@ -107,8 +103,6 @@ pub instructions :
     × (meaning_of (fetched Forced (codes "a") (Some (codes "b"))) ≡ Some (meaning_of_instruction (instruction.Fetch (fetch.AndUpdate (lent (codes "a")) (lent (codes "b")) true))))
     × (meaning_of (pushed Normal (Some (codes "a")) None) ≡ Some (meaning_of_instruction (instruction.Push (push.Matching (lent (codes "a")) (lent (codes "a")) false))))
 instructions = (refl, refl, refl, refl, refl, refl)
-
--- ---- reasons
 
 pub reasons : (p : BString) → bstring_bytes p ≡ codes "a*b*" →
     -- the error of a side with two stars has its whole text, and that of a bad name its fault
@@ -137,8 +131,6 @@ pub refusals :
     × ¬ (ShowsRefusal (λ f. Unit {0}) error.Memory) × ¬ (ShowsRefusal (λ f. Unit {0}) error.NegativePartialName)
 refusals = ((Empty, refl, empty_push.0), (PushToEmpty, refl, refl), (λ shows. let same = sym shows.1 ∙ shows.2 in cc), (λ shows. shows.1), λ shows. shows.1)
 
--- ---- appended texts and prefixes
-
 pub appended :
     -- a canonical text follows what was written
     WritesPrinted (fetched Forced (codes "a") (Some (codes "b"))) (Some (codes "old ")) (Some (codes "old +a:b"))
@@ -159,8 +151,6 @@ appended = (
   search (arith),
   search (arith),
 )
-
--- ---- ids
 
 -- an id with the 20 bytes of the empty blob, and more after them in its buffer
 abbrev pub blob_id : ObjectId

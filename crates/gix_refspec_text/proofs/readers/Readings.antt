@@ -3,16 +3,16 @@
 use Rattle.gix_refspec_text.proofs.Common.{◌≡◌, ◌≢◌, ℕ, Bool, true, false, not, ◌==◌, ◌&&◌, ◌||◌, nat_le, if◌then◌else◌, List, [], ◌∷◌, Option, None, Some, length, refl, sym, subst, unwrap_or, arith}
 use Rattle.gix_refspec_text.proofs.Common.{list_any, list_all, true≢false, false≢true, eqb-false, eqb-true, and_parts, and_from, leb-true, le-leb, is_ascii_hexdigit, Refusal, ◌∙◌, IsRefused}
 use Rattle.gix_refspec_text.proofs.Common.{AllPass-from_list_all, list_all-from_AllPass, Operation, Push, Fetch, Plain, Pattern, slash, star, plus, caret, colon, Mode, Normal, Forced, Negative, codes}
-use Rattle.gix_refspec_text.proofs.Common.{ap, bytes_eq, Reading, Reads, IsSigned, AreParts, with_colon, LastLacksColon, LooksLikeObjectHash, named_by, named_or_head, side_of, fetched, pushed}
-use Rattle.gix_refspec_text.proofs.Common.{HasShape, or_cases, HasCheckedShape, NoReasonBeforeSource, HasBadDestination, HasBadSource, Never, IsFirstReason, PatternUnbalanced, IsBadSourceFor, Shape}
-use Rattle.gix_refspec_text.proofs.Common.{is_some, IsPositive, NegativeWithDestination, PushToEmpty, NegativeEmpty, NegativeObjectHash}
+use Rattle.gix_refspec_text.proofs.Common.{ap, bytes_eq, bytes_eq-Decides, Reading, Reads, IsSigned, AreParts, with_colon, LastLacksColon, LooksLikeObjectHash, named_by, named_or_head, side_of}
+use Rattle.gix_refspec_text.proofs.Common.{fetched, pushed, HasShape, or_cases, HasCheckedShape, NoReasonBeforeSource, HasBadDestination, HasBadSource, Never, IsFirstReason, PatternUnbalanced}
+use Rattle.gix_refspec_text.proofs.Common.{IsBadSourceFor, Shape, is_some, IsPositive, NegativeWithDestination, PushToEmpty, NegativeEmpty, NegativeObjectHash}
 use Rattle.gix_refspec_text.proofs.{lemmas.parsing.ReadOnceLemmas.reads_once, lemmas.texts.TestedLemmas.{IsName-tested, is_suspect}}
-use Rattle.gix_refspec_text.proofs.{readers.Texts.{Lacks-tested, differ, a_pattern, bad_name, bad_pattern, is_bad_name, is_bad_pattern, is_empty, is_pattern, not_true}}
+use Rattle.gix_refspec_text.proofs.{readers.Texts.{Lacks-tested, differ, a_pattern, faulty, is_bad, pattern_fault, several, is_empty, is_pattern, not_true}}
 use Rattle.gix_refspec_text.proofs.{lemmas.parsing.ReadsLemmas.{fetch_reads, negative_reads, push_alone_reads, push_reads, refused}}
 use Rattle.gix_refspec_text.proofs.{lemmas.parsing.ReasonLemmas.{alone_fine, bad_destination, fetch_source_fine, no_negative, push_source_fine, reason_against_nothing, reason_against_object, reason_at_destination, reason_at_source, unbalanced_fetch, unbalanced_push}}
 
 -- the sign of a text, and what follows it
-abbrev sign_of : List ℕ → Mode
+abbrev pub sign_of : List ℕ → Mode
 sign_of [] = Normal
 sign_of (b ∷ x) = if b == plus then Forced else if b == caret then Negative else Normal
 
@@ -33,26 +33,15 @@ abbrev cut : List ℕ → List ℕ × Option (List ℕ)
 cut [] = ([], None)
 cut (b ∷ x) = cut_at b (b == colon) (cut x)
 
-abbrev IsCut : List ℕ → List ℕ × Option (List ℕ) → Type 0
-IsCut x c = (with_colon c.0 c.1 ≡ x) × LastLacksColon c.0 c.1
-
-is_cut : (x : List ℕ) → IsCut x (cut x)
+is_cut : (x : List ℕ) → (with_colon (cut x).0 (cut x).1 ≡ x) × LastLacksColon (cut x).0 (cut x).1
 is_cut [] = (refl, tt)
-is_cut (b ∷ x) = further (b == colon) (cut x) refl (is_cut x)
-  where
-    further : (p : Bool) (c : List ℕ × Option (List ℕ)) → (b == colon) ≡ p → IsCut x c → IsCut (b ∷ x) (cut_at b p c)
-    further p (s, Some d) e is = grind arith
-    further true (s, None) e is = grind (arith, eqb-true)
-    further false (s, None) e is = grind (arith, eqb-false)
+is_cut (b ∷ x) = grind (arith, eqb-true, eqb-false, is_cut x)
 
 -- the words of a text
-abbrev source : List ℕ → List ℕ
-source text = (cut (unsigned text)).0
+abbrev pub words : List ℕ → List ℕ × Option (List ℕ)
+words text = cut (unsigned text)
 
-abbrev end : List ℕ → Option (List ℕ)
-end text = (cut (unsigned text)).1
-
-pub parts_of : (text : List ℕ) → AreParts (sign_of text) (source text) (end text) text
+pub parts_of : (text : List ℕ) → AreParts (sign_of text) (words text).0 (words text).1 text
 parts_of text = let both = is_cut (unsigned text) in record { signed = subst (IsSigned (sign_of text) text) (sym both.0) (signed text); last = both.1 }
 
 -- the shape of a word, if it has one, and the other one
@@ -139,13 +128,13 @@ reads_parts Push m s (Some d) text parts so =
 
 -- the same of a text
 abbrev pub is_read : Operation → List ℕ → Bool
-is_read op text = readable op (sign_of text) (source text) (end text)
+is_read op text = readable op (sign_of text) (words text).0 (words text).1
 
 abbrev pub read_by : Operation → List ℕ → Reading
-read_by op text = made op (sign_of text) (source text) (end text)
+read_by op text = made op (sign_of text) (words text).0 (words text).1
 
 pub reads : {op : Operation} {text : List ℕ} {r : Reading} → is_read op text ≡ true → read_by op text ≡ r → Reads op text r
-reads {op} {text} {r} so is = subst (Reads op text) is (reads_parts op (sign_of text) (source text) (end text) text (parts_of text) so)
+reads {op} {text} {r} so is = subst (Reads op text) is (reads_parts op (sign_of text) (words text).0 (words text).1 text (parts_of text) so)
 
 -- and none with other sides
 abbrev sides : Reading → List ℕ
@@ -155,20 +144,20 @@ pub no_other : {op : Operation} {text : List ℕ} {r : Reading} → is_read op t
 no_other {op} {text} {r} so other also = differ _ _ other (ap sides (reads_once op text _ r (reads so refl) also))
 
 -- a text is refused for the first reason to refuse its parts
-pub because : {op : Operation} {text : List ℕ} {e : Refusal} → IsFirstReason op (sign_of text) (source text) (end text) e → IsRefused op text e
-because {op} {text} {e} first = refused op (sign_of text) (source text) (end text) text e (parts_of text) first
+pub because : {op : Operation} {text : List ℕ} {e : Refusal} → IsFirstReason op (sign_of text) (words text).0 (words text).1 e → IsRefused op text e
+because {op} {text} {e} first = refused op (sign_of text) (words text).0 (words text).1 text e (parts_of text) first
 
 pub reaches : (op : Operation) (m : Mode) (s : List ℕ) (d : Option (List ℕ)) → calm op m s d ≡ true → NoReasonBeforeSource op m s d
 reaches op m s d so = grind (arith, false≢true)
 
--- whether the source, which may have to be only a pattern, is bad for this reason
-abbrev is_bad_for : Operation → Option (List ℕ) → List ℕ → Refusal → Bool
-is_bad_for op None s e = is_bad_name s e || is_bad_pattern s e
-is_bad_for Push (Some d) s e = is_bad_pattern s e
-is_bad_for Fetch (Some d) s e = is_bad_name s e || is_bad_pattern s e
+-- whether a source has to be a name if it isn't a pattern
+abbrev need_names : Operation → Option (List ℕ) → Bool
+need_names op None = true
+need_names Push (Some d) = false
+need_names Fetch (Some d) = true
 
-pub bad_for : (op : Operation) (d : Option (List ℕ)) (s : List ℕ) (e : Refusal) → is_bad_for op d s e ≡ true → IsBadSourceFor op d s e
-bad_for op d s e so = grind (arith, or_cases, bad_name, bad_pattern)
+pub bad_for : (op : Operation) (d : Option (List ℕ)) (s : List ℕ) (e : Refusal) → is_bad (need_names op d) s e ≡ true → IsBadSourceFor op d s e
+bad_for op d s e so = grind (arith, and_parts, or_cases, several, bytes_eq-Decides, Lacks-tested, not_true, faulty, pattern_fault, false≢true)
 
 fine_source : (op : Operation) (s : List ℕ) (d : Option (List ℕ)) → begins op s d ≡ true → Never (HasBadSource op s d)
 fine_source Push s (Some d) so = push_source_fine s d _ (star_fit s _ so)
@@ -176,16 +165,16 @@ fine_source Push s None so = alone_fine Push s _ (fit s _ so)
 fine_source Fetch s d so = fetch_source_fine s d _ (fit s _ so)
 
 -- the first reason is of the source, of the destination, or of the balance between them
-pub at_source : (op : Operation) (m : Mode) (s : List ℕ) (d : Option (List ℕ)) (e : Refusal) → (calm op m s d && (not (is_empty s) && is_bad_for op d s e)) ≡ true → IsFirstReason op m s d e
+pub at_source : (op : Operation) (m : Mode) (s : List ℕ) (d : Option (List ℕ)) (e : Refusal) → (calm op m s d && (not (is_empty s) && is_bad (need_names op d) s e)) ≡ true → IsFirstReason op m s d e
 at_source op m s d e so =
     let both = and_parts _ _ so in
     let bad = and_parts _ _ both.1 in
     reason_at_source op m s d e (reaches op m s d both.0) (record { source = not_empty s bad.0; refusal = bad_for op d s e bad.1 })
 
-pub bad_end : (d : List ℕ) (e : Refusal) → (not (is_empty d) && is_bad_for Fetch None d e) ≡ true → HasBadDestination (Some d) e
+pub bad_end : (d : List ℕ) (e : Refusal) → (not (is_empty d) && is_bad true d e) ≡ true → HasBadDestination (Some d) e
 bad_end d e so = let bad = and_parts _ _ so in bad_destination (Some d) e (not_empty d bad.0, bad_for Fetch None d e bad.1)
 
-pub at_destination : (op : Operation) (m : Mode) (s d : List ℕ) (e : Refusal) → (calm op m s (Some d) && (begins op s (Some d) && (not (is_empty d) && is_bad_for Fetch None d e))) ≡ true → IsFirstReason op m s (Some d) e
+pub at_destination : (op : Operation) (m : Mode) (s d : List ℕ) (e : Refusal) → (calm op m s (Some d) && (begins op s (Some d) && (not (is_empty d) && is_bad true d e))) ≡ true → IsFirstReason op m s (Some d) e
 at_destination op m s d e so =
     let both = and_parts _ _ so in
     let sides = and_parts _ _ both.1 in

@@ -1,12 +1,12 @@
 -- Tests that compute what a text contains, which faults it has and whether it is a name or a pattern, so that examples need no witnesses.
-use Rattle.gix_refspec_text.proofs.Common.{filter, get_or, if◌then◌else◌, ◌≡◌, ◌≢◌, ℕ, Bool, true, false, not, ◌==◌, ◌||◌, ◌&&◌, ◌-◌, cond, nat_eq, bytes_eq, bytes_eq-Decides, List, [], ◌∷◌, ◌++◌}
-use Rattle.gix_refspec_text.proofs.Common.{length, take, drop, codes, refl, sym, ap, ◌∙◌, subst, arith, All, AllByRecursion, All-from_recursion, Decides, Decides-eqb, starts_with, ends_with}
-use Rattle.gix_refspec_text.proofs.Common.{starts_is, ends_is, slice_split, join_with_byte, list_any, count_by, false≢true, eqb-false, eqb-true, ne_eqb, or_parts, or_cases, and_parts, and_from, Error}
-use Rattle.gix_refspec_text.proofs.Common.{Empty, EmptyComponent, StartsWithDot, LockSuffix, EndsWithDot, RepeatedDot, ReflogPortion, Asterisk, InvalidByte, is_refused_byte, Lacks, ContainsText}
-use Rattle.gix_refspec_text.proofs.Common.{BeginsWith, EndsWith, SomeComponent, HasFault, HasOneStar, HasSeveralStars, IsName, IsPattern, IsPatternFault, ReplacesStar, slash, star, with_letters, inl}
-use Rattle.gix_refspec_text.proofs.Common.{inr, Refusal, PatternUnsupported, ReferenceName, IsBadName, IsBadPattern}
+use Rattle.gix_refspec_text.proofs.Common.{ArePartsAt, length-append, filter, get_or, if◌then◌else◌, ◌≡◌, ◌≢◌, ℕ, Bool, true, false, not, ◌==◌, ◌||◌, ◌&&◌, ◌-◌, cond, nat_eq, bytes_eq}
+use Rattle.gix_refspec_text.proofs.Common.{bytes_eq-Decides, List, [], ◌∷◌, ◌++◌, length, take, drop, codes, refl, sym, ap, ◌∙◌, subst, arith, All, AllByRecursion, All-from_recursion, Decides}
+use Rattle.gix_refspec_text.proofs.Common.{Decides-eqb, starts_with, ends_with, starts_is, ends_is, slice_split, join_with_byte, list_any, count_by, false≢true, eqb-false, eqb-true, ne_eqb, or_parts}
+use Rattle.gix_refspec_text.proofs.Common.{or_cases, and_parts, and_from, Error, Empty, EmptyComponent, StartsWithDot, LockSuffix, EndsWithDot, RepeatedDot, ReflogPortion, Asterisk, InvalidByte}
+use Rattle.gix_refspec_text.proofs.Common.{is_refused_byte, Lacks, ContainsText, BeginsWith, EndsWith, SomeComponent, HasFault, HasOneStar, HasSeveralStars, IsName, IsPattern, IsPatternFault}
+use Rattle.gix_refspec_text.proofs.Common.{ReplacesStar, slash, star, with_letters, inl, inr, Refusal, PatternUnsupported, ReferenceName, IsBadName, IsBadPattern}
 use Rattle.gix_refspec_text.specs.declared.name.PatternError.TheVariants.{Name}
-use Rattle.std.{specs.List.onto_first, proofs.lemmas.Bool.Decides.{Decides-not, not_from_Decides}, proofs.Math.Bool.or-true}
+use Rattle.std.{specs.List.onto_first, proofs.lemmas.Bool.Decides.{Decides-not, not_from_Decides}, proofs.Math.Bool.or-true, proofs.lemmas.List.Folds.list_any-append}
 use Rattle.std.{proofs.lemmas.List.Splits.{slice_split_none, slice_split_at, join_with_byte-slice_split}}
 use Rattle.gix_refspec_text.proofs.{lemmas.lists.AllLemmas.all_weaker, lemmas.texts.TestedLemmas.{IsName-tested, is_suspect}}
 use Rattle.gix_refspec_text.proofs.{lemmas.parsing.SideLemmas.{HasSeveralStars-replaced, pattern_fine, plain_fine, replaced_once}}
@@ -72,16 +72,15 @@ no_slash : (x : List ℕ) → Lacks slash x → All (λ c. (c == slash) ≡ fals
 no_slash x lacks = All-from_recursion (λ c. (c == slash) ≡ false) x (all_weaker (λ c. c ≢ slash) (λ c. (c == slash) ≡ false) (λ c other. ne_eqb c slash other) x lacks)
 
 -- parts without a slash are those that a text is split into
-split_joined : (p : List ℕ) (ps : List (List ℕ)) → AllByRecursion (Lacks slash) (p ∷ ps) → components (join_with_byte slash (p ∷ ps)) ≡ p ∷ ps
-split_joined p [] lack = slice_split_none (λ c. c == slash) p (no_slash p lack.0)
-split_joined p (q ∷ ps) lack = slice_split_at (λ c. c == slash) p slash (join_with_byte slash (q ∷ ps)) (no_slash p lack.0) refl ∙ ap (λ l. p ∷ l) (split_joined q ps lack.1)
-
-split_at_one : (ps : List (List ℕ)) (w : List ℕ) (qs : List (List ℕ)) → AllByRecursion (Lacks slash) (ps ++ (w ∷ qs)) → components (join_with_byte slash (ps ++ (w ∷ qs))) ≡ ps ++ (w ∷ qs)
-split_at_one [] w qs lack = split_joined w qs lack
-split_at_one (p ∷ ps) w qs lack = split_joined p (ps ++ (w ∷ qs)) lack
+split_joined : (ps : List (List ℕ)) → ps ≢ [] → AllByRecursion (Lacks slash) ps → components (join_with_byte slash ps) ≡ ps
+split_joined [] full lack = absurd (full refl)
+split_joined (p ∷ []) full lack = slice_split_none (λ c. c == slash) p (no_slash p lack.0)
+split_joined (p ∷ q ∷ ps) full lack =
+    slice_split_at (λ c. c == slash) p slash (join_with_byte slash (q ∷ ps)) (no_slash p lack.0) refl ∙ ap (λ l. p ∷ l) (split_joined (q ∷ ps) (λ e. cc) lack.1)
 
 pub split_again : (P : List ℕ → Type 0) (x : List ℕ) (some : SomeComponent P x) → components x ≡ some.before ++ (some.component ∷ some.after)
-split_again P x some = ap components (sym some.components.joined) ∙ split_at_one some.before some.component some.after some.components.whole
+split_again P x some =
+    ap components (sym some.components.joined) ∙ split_joined _ (λ e. omega (arith, ap length e, length-append some.before (some.component ∷ some.after))) some.components.whole
 
 parts_lack : (x : List ℕ) → AllByRecursion (Lacks slash) (components x)
 parts_lack [] = (tt, tt)
@@ -99,18 +98,14 @@ passes p (x ∷ xs) so = elim (or_cases (p x) (list_any p xs) so) [
 ]
 
 pub passes_back : (p : List ℕ → Bool) (before : List (List ℕ)) (x : List ℕ) (after : List (List ℕ)) → p x ≡ true → list_any p (before ++ (x ∷ after)) ≡ true
-passes_back p [] x after pass = ap (λ t. t || list_any p after) pass
-passes_back p (y ∷ before) x after pass = ap (λ t. p y || t) (passes_back p before x after pass) ∙ or-true (p y)
+passes_back p before x after pass = grind (arith, list_any-append, or-true)
+
+split_parts : (x : List ℕ) → ArePartsAt slash (components x) x
+split_parts x = record { joined = join_with_byte-slice_split slash x; whole = parts_lack x }
 
 component_is : (P : List ℕ → Type 0) (p : List ℕ → Bool) (x : List ℕ) → ((w : List ℕ) → Decides (p w) (P w)) → Decides (list_any p (components x)) (SomeComponent P x)
 component_is P p x is = (
-  (λ so. let found = passes p (components x) so in record {
-    before = found.0;
-    component = found.1;
-    after = found.2;
-    fact = (is found.1).0 found.4;
-    components = record { joined = ap (join_with_byte slash) (sym found.3) ∙ join_with_byte-slice_split slash x; whole = subst (AllByRecursion (Lacks slash)) found.3 (parts_lack x) };
-  }),
+  (λ so. let found = passes p (components x) so in record { before = found.0; component = found.1; after = found.2; fact = (is found.1).0 found.4; components = subst (λ l. ArePartsAt slash l x) found.3 (split_parts x) }),
   λ some. ap (list_any p) (split_again P x some) ∙ passes_back p some.before some.component some.after ((is some.component).1 some.fact),
 )
 
@@ -212,18 +207,8 @@ not_several x one = HasSeveralStars-replaced x (with_letters x) (replaced x _ on
 pub unstarred : (x : List ℕ) (e : Refusal) → list_any (λ c. c == star) x ≡ false → ¬ (IsBadPattern x e)
 unstarred x e none = plain_fine x (Lacks-tested star x none) e
 
--- whether a word is a bad pattern or a bad name for this reason
-abbrev pub is_bad_pattern : List ℕ → Refusal → Bool
-is_bad_pattern x (PatternUnsupported p) = are_three (slice_split (λ c. c == star) x) && bytes_eq p x
-is_bad_pattern x (ReferenceName f) = (stars x == 1) && has_fault (with_letters x) f
-is_bad_pattern x e = false
-
-pub bad_pattern : (x : List ℕ) (e : Refusal) → is_bad_pattern x e ≡ true → IsBadPattern x e
-bad_pattern x e so = grind (arith, and_parts, several, bytes_eq-Decides, pattern_fault, false≢true)
-
-abbrev pub is_bad_name : List ℕ → Refusal → Bool
-is_bad_name x (ReferenceName f) = not (list_any (λ c. c == star) x) && has_fault x f
-is_bad_name x e = false
-
-pub bad_name : (x : List ℕ) (e : Refusal) → is_bad_name x e ≡ true → IsBadName x e
-bad_name x e so = grind (arith, and_parts, Lacks-tested, not_true, faulty, false≢true)
+-- whether a word is a bad pattern for this reason or, where names are needed, a bad name
+abbrev pub is_bad : Bool → List ℕ → Refusal → Bool
+is_bad names x (PatternUnsupported p) = are_three (slice_split (λ c. c == star) x) && bytes_eq p x
+is_bad names x (ReferenceName f) = (names && (not (list_any (λ c. c == star) x) && has_fault x f)) || ((stars x == 1) && has_fault (with_letters x) f)
+is_bad names x e = false
