@@ -12,11 +12,8 @@ pub signs :
     × ¬ (IsSigned Normal (codes "+a") (codes "+a")) × ¬ (IsSigned Forced (codes "++a") (codes "a")) × ¬ (IsSigned Negative (codes "+a") (codes "a"))
     -- a spec with `+` or without a sign is positive, and one with `^` isn't
     × IsPositive Normal × IsPositive Forced × ¬ (IsPositive Negative)
-signs = search (arith, no_sign, differ)
-
-pub words :
     -- a colon comes before a destination, even an empty one, and is missing without one
-    (with_colon (codes "a") None ≡ codes "a") × (with_colon (codes "a") (Some []) ≡ codes "a:") × (with_colon (codes "a:b") (Some (codes "c")) ≡ codes "a:b:c")
+    × (with_colon (codes "a") None ≡ codes "a") × (with_colon (codes "a") (Some []) ≡ codes "a:") × (with_colon (codes "a:b") (Some (codes "c")) ≡ codes "a:b:c")
     -- the last word contains no colon; the one before it may
     × LastLacksColon (codes "a:b") (Some (codes "c")) × LastLacksColon (codes "a") None
     × ¬ (LastLacksColon (codes "a:b") None) × ¬ (LastLacksColon (codes "a") (Some (codes "b:c")))
@@ -25,7 +22,7 @@ pub words :
     × ¬ (AreParts Normal (codes "a") (Some (codes "b:c")) (codes "a:b:c")) × ¬ (AreParts Normal (codes "a:b:c") None (codes "a:b:c"))
     -- `@` alone is short for `HEAD`, but not in a longer word; nor is any other single byte, or the empty text
     × (map named_by (codes "@" ∷ codes "HEAD" ∷ codes "@@" ∷ codes "a@" ∷ codes "a" ∷ [] ∷ []) ≡ codes "HEAD" ∷ codes "HEAD" ∷ codes "@@" ∷ codes "a@" ∷ codes "a" ∷ [] ∷ [])
-words = search (arith, Lacks-tested, Lacks-here, parts_of)
+signs = search (arith, no_sign, differ, Lacks-tested, Lacks-here, parts_of)
 
 pub names_and_patterns :
     -- a name, a pattern, and a text that is neither
@@ -34,8 +31,8 @@ pub names_and_patterns :
     × AreAlike (codes "b") (codes "b") × AreAlike (codes "a*") (codes "a*") × ¬ (AreAlike (codes "a*") (codes "b")) × ¬ (AreAlike (codes "b") (codes "a*"))
 names_and_patterns = search (rules, IsName-tested, a_pattern, no_name (codes "a b") refl, no_pattern (codes "a b") refl, no_name (codes "a*") refl, no_pattern (codes "b") refl)
 
--- 40 hex digits and more look like an id, in either case; 40 bytes of which one isn't a hex digit don't
-pub hashes : LooksLikeObjectHash (replicate 40 letter) × LooksLikeObjectHash (replicate 41 65) × ¬ (LooksLikeObjectHash (codes "g" ++ replicate 39 letter))
+-- 40 hex digits and more look like an id, in either case; 40 bytes of which one isn't a hex digit don't, nor do 39 digits
+pub hashes : LooksLikeObjectHash (replicate 40 letter) × LooksLikeObjectHash (replicate 41 65) × ¬ (LooksLikeObjectHash (codes "g" ++ replicate 39 letter)) × ¬ (LooksLikeObjectHash (replicate 39 letter))
 hashes = search (rules, a_hash, no_hash)
 
 -- an empty source, with and without a sign and a colon, is `HEAD`
@@ -49,6 +46,10 @@ pub fetches_main :
     -- a colon after a name changes nothing
     × Reads Fetch (codes "main:") (fetched Normal (codes "main") None) × Reads Fetch (codes "+main:") (fetched Forced (codes "main") None)
     × Reads Fetch (codes "@:") (fetched Normal (codes "HEAD") None)
+    -- a pattern, a name, `@`, a `+` that isn't a sign, and a text that is almost an id
+    × Reads Fetch (codes "^refs/heads/dev-*") (fetched Negative (codes "refs/heads/dev-*") None) × Reads Fetch (codes "^main") (fetched Negative (codes "main") None)
+    × Reads Fetch (codes "^@") (fetched Negative (codes "HEAD") None) × Reads Fetch (codes "^+main") (fetched Negative (codes "+main") None)
+    × Reads Fetch (caret ∷ replicate 39 letter) (fetched Negative (replicate 39 letter) None)
 fetches_main = search (rules, reads)
 
 pub updates_names :
@@ -60,12 +61,6 @@ pub updates_names :
     -- the source of a destination alone is `HEAD`
     × Reads Fetch (codes ":refs/heads/x") (fetched Normal (codes "HEAD") (Some (codes "refs/heads/x"))) × Reads Fetch (codes "+:refs/heads/x") (fetched Forced (codes "HEAD") (Some (codes "refs/heads/x")))
 updates_names = search (rules, reads)
-
--- a pattern, a name, `@`, a `+` that isn't a sign, and a text that is almost an id
-pub fetches_without : Reads Fetch (codes "^refs/heads/dev-*") (fetched Negative (codes "refs/heads/dev-*") None) × Reads Fetch (codes "^main") (fetched Negative (codes "main") None)
-    × Reads Fetch (codes "^@") (fetched Negative (codes "HEAD") None) × Reads Fetch (codes "^+main") (fetched Negative (codes "+main") None)
-    × Reads Fetch (caret ∷ replicate 39 letter) (fetched Negative (replicate 39 letter) None)
-fetches_without = search (rules, reads)
 
 pub pushes :
     -- a name, `@`, and 40 bytes of which one isn't a hex digit
@@ -81,14 +76,12 @@ pub pushes :
     -- two patterns
     × Reads Push (codes "refs/heads/*:refs/x/*") (pushed Normal (Some (codes "refs/heads/*")) (Some (codes "refs/x/*")))
     × Reads Push (codes "+refs/heads/*:refs/x/*") (pushed Forced (Some (codes "refs/heads/*")) (Some (codes "refs/x/*")))
-pushes = search (rules, reads)
-
--- any expression for an object may be a source, even if it isn't a ref name; it goes up to the last colon
-pub pushes_objects : Reads Push (codes "main~2:refs/heads/x") (pushed Normal (Some (codes "main~2")) (Some (codes "refs/heads/x")))
+    -- any expression for an object may be a source, even if it isn't a ref name; it goes up to the last colon
+    × Reads Push (codes "main~2:refs/heads/x") (pushed Normal (Some (codes "main~2")) (Some (codes "refs/heads/x")))
     × Reads Push (codes ":/message:refs/heads/x") (pushed Normal (Some (codes ":/message")) (Some (codes "refs/heads/x")))
     × Reads Push (codes "+^a..b:x") (pushed Forced (Some (codes "^a..b")) (Some (codes "x"))) × Reads Push (codes "@:@") (pushed Normal (Some (codes "HEAD")) (Some (codes "@")))
     × Reads Push (codes "::x") (pushed Normal (Some (codes ":")) (Some (codes "x")))
-pushes_objects = search (rules, reads)
+pushes = search (rules, reads)
 
 pub no_other_reading :
     -- a push of a name alone has no destination, nor has a fetch with a colon after its name

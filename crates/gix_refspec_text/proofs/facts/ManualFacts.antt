@@ -2,10 +2,10 @@
 -- at similar ones on both sides of a boundary, so that a wrong definition fails here.
 use Rattle.gix_refspec_text.proofs.Common.{subst, rules, ◌≡◌, ◌≢◌, ℕ, ◌==◌, true, false, List, [], ◌∷◌, ◌++◌, Option, None, Some, map, length, codes, refl, ap, inl, inr, arith, replicate, list_any}
 use Rattle.gix_refspec_text.proofs.Common.{filter, range_with_len, length-replicate, eqb-false, false≢true, RepeatedDot, Operation, Push, Fetch, is_refused_byte, HasSeveralStars, IsSplit}
-use Rattle.gix_refspec_text.proofs.Common.{ReplacesStar, IsPattern, IsPatternFault, slash, star, letter, plus, caret, colon, Mode, Normal, Forced, Negative, Reading, HasSide, remote_of, local_of}
-use Rattle.gix_refspec_text.proofs.Common.{IsSigned, AreParts, Reads, pushed, fetched, Meaning, push_all_matching, push_delete, push_matching, push_exclude, fetch_and_update, meaning_of, text_of}
+use Rattle.gix_refspec_text.proofs.Common.{ReplacesStar, IsPattern, IsPatternFault, slash, star, letter, plus, caret, Mode, Normal, Forced, Negative, Reading, HasSide, remote_of, local_of, IsSigned}
+use Rattle.gix_refspec_text.proofs.Common.{AreParts, Reads, pushed, fetched, Meaning, push_all_matching, push_delete, push_matching, push_exclude, fetch_and_update, meaning_of, text_of}
 use Rattle.gix_refspec_text.proofs.Common.{PatternUnsupported, PushToEmpty, NegativeWithDestination, ReferenceName, IsBadPattern, NeedsMemory, ReachesMemory, MayNeedMemory, pattern, full_name, object}
-use Rattle.gix_refspec_text.proofs.Common.{partial, HasKind, candidates, filled, Ref, Matches, MatchesAs, same_Some, or_parts, unwrap_or, with_colon, LastLacksColon, Bool, ◌||◌}
+use Rattle.gix_refspec_text.proofs.Common.{partial, HasKind, candidates, Ref, Matches, MatchesAs, same_Some, with_colon}
 use Rattle.gix_refspec_text.specs.declared.name.PatternError.TheVariants.{Memory}
 use Rattle.gix_refspec_text.proofs.{lemmas.lists.LacksLemmas.Lacks-here, lemmas.parsing.PartsLemmas.parts_once, lemmas.parsing.SideLemmas.HasStar-stars}
 use Rattle.gix_refspec_text.proofs.{lemmas.texts.TestedLemmas.{IsName-tested, is_suspect}, readers.Readings.{bad_for, sign_of, words, parts_of, reaches, reads, is_read, read_by}}
@@ -77,14 +77,11 @@ pub manual : Says Fetch (codes "+refs/heads/*:refs/remotes/origin/*") (fetch_and
     × Says Push (codes "+dev:master") (push_matching (codes "dev") (codes "master") true)
     × Says Push (codes ":experimental") (push_delete (codes "experimental")) × Says Push (codes ":") (push_all_matching false)
     × Says Push (codes "^refs/heads/dev-*") (push_exclude (codes "refs/heads/dev-*"))
+    -- the canonical texts of these
+    × (map text_of (push_matching (codes "master") (codes "master") false ∷ push_matching (codes "dev") (codes "master") true
+    ∷ push_delete (codes "experimental") ∷ push_all_matching false ∷ push_exclude (codes "refs/heads/dev-*") ∷ fetch_and_update (codes "seen") (codes "seen") true ∷ [])
+    ≡ codes "master:master" ∷ codes "+dev:master" ∷ codes ":experimental" ∷ codes ":" ∷ codes "^refs/heads/dev-*" ∷ codes "+seen:seen" ∷ [])
 manual = search (rules, says)
-
--- the canonical texts of these
-pub texts : map text_of (push_matching (codes "master") (codes "master") false ∷ push_matching (codes "dev") (codes "master") true
-    ∷ push_delete (codes "experimental") ∷ push_all_matching false ∷ push_exclude (codes "refs/heads/dev-*")
-    ∷ fetch_and_update (codes "seen") (codes "seen") true ∷ [])
-    ≡ codes "master:master" ∷ codes "+dev:master" ∷ codes ":experimental" ∷ codes ":" ∷ codes "^refs/heads/dev-*" ∷ codes "+seen:seen" ∷ []
-texts = refl
 
 -- a ref of this name
 abbrev pub named : List ℕ → Ref
@@ -115,12 +112,6 @@ matches = search (rules, arith, differ, some_none, same_Some, Lacks-here)
 pub candidates_of_main : candidates (codes "main")
     ≡ codes "main" ∷ codes "refs/main" ∷ codes "refs/tags/main" ∷ codes "refs/heads/main" ∷ codes "refs/remotes/main" ∷ codes "refs/remotes/main/HEAD" ∷ []
 candidates_of_main = refl
-
--- a pattern gets a word for its star, or keeps the star; and a partial name gets `refs/` or `refs/heads/` in front
-pub filled_sides : (map (filled (pattern (codes "refs/x/") (codes "/y"))) (Some (codes "main") ∷ None ∷ []) ≡ codes "refs/x/main/y" ∷ codes "refs/x/*/y" ∷ [])
-    × (map (λ x. filled (partial x) None) (codes "main" ∷ codes "tags/v1" ∷ codes "remotes/o/main" ∷ codes "tagsv" ∷ [])
-    ≡ codes "refs/heads/main" ∷ codes "refs/tags/v1" ∷ codes "refs/remotes/o/main" ∷ codes "refs/heads/tagsv" ∷ [])
-filled_sides = (refl, refl)
 
 -- a star and n letters
 abbrev starred : ℕ → List ℕ

@@ -1,6 +1,7 @@
 -- The definitions of ids, at the ids that git hash-object prints for the empty blob, and at other lengths.
-use Rattle.gix_refspec_text.proofs.Common.{rules, ◌==◌, ◌||◌, false, or_parts, eqb-false, ◌≡◌, ℕ, ◌+◌, ◌*◌, List, [], ◌∷◌, Some, codes, refl, arith, filter, range_with_len, false≢true}
-use Rattle.gix_refspec_text.proofs.Common.{AllPass-from_list_all, Digit, Length, Sha1, Sha256, id_bytes, is_lower_digit, IsSpelledBy, Spells, IsIdText, IsLowerText, IsIdLength, HasIdFault, lower_of}
+use Rattle.gix_refspec_text.proofs.Common.{map, fault_name, rules, ◌==◌, ◌||◌, false, or_parts, eqb-false, ◌≡◌, ℕ, ◌+◌, ◌*◌, List, [], ◌∷◌, Some, codes, refl, arith, filter, range_with_len}
+use Rattle.gix_refspec_text.proofs.Common.{false≢true, AllPass-from_list_all, Digit, Length, Sha1, Sha256, id_bytes, is_lower_digit, IsSpelledBy, Spells, IsIdText, IsLowerText, IsIdLength, HasIdFault}
+use Rattle.gix_refspec_text.proofs.Common.{lower_of}
 use Rattle.hex.{specs.Hex.hex_digit_value, proofs.OnLiterals.hex_on_literals}
 use Rattle.gix_refspec_text.proofs.lemmas.texts.ObjectIdLemmas.{IsIdText-decoded, IsIdText-sound, Spells-decode_pairs, digits_of-twice, no_kind}
 
@@ -74,9 +75,10 @@ pub lower_digits :
     × IsLowerText (codes "e69de29bb2d1d6434b8b29ae775ad8c2e48c5391") empty_blob × ¬ (IsLowerText (codes "E69DE29BB2D1D6434B8B29AE775AD8C2E48C5391") empty_blob)
 lower_digits = (refl, (IsIdText-empty_blob, AllPass-from_list_all is_lower_digit (codes "e69de29bb2d1d6434b8b29ae775ad8c2e48c5391") refl), λ lower. false≢true (lower.1 0 0 (omega arith)))
 
--- a fault of the length holds the length of the text, and a text of 40 digits doesn't have it
+-- a fault of the length holds the length of the text, and a text of 40 digits doesn't have it; the faults by their names, without the length
 pub HasIdFault-length : HasIdFault (codes "e69de2") (Length 6) × ¬ (HasIdFault (codes "e69de2") (Length 5)) × ¬ (HasIdFault (codes "e69de29bb2d1d6434b8b29ae775ad8c2e48c5391") (Length 40))
-HasIdFault-length = ((refl, no_length 6 refl), (λ fault. omega (arith, fault.0)), λ fault. fault.1 (Sha1, refl))
+    × (map fault_name (Length 6 ∷ Length 39 ∷ Digit ∷ []) ≡ codes "Length" ∷ codes "Length" ∷ codes "Digit" ∷ [])
+HasIdFault-length = ((refl, no_length 6 refl), (λ fault. omega (arith, fault.0)), (λ fault. fault.1 (Sha1, refl)), refl)
 
 -- the first byte or the last one may not be a digit; a wrong length is reported first
 pub HasIdFault-digit : HasIdFault (codes "g69de29bb2d1d6434b8b29ae775ad8c2e48c5391") Digit × HasIdFault (codes "e69de29bb2d1d6434b8b29ae775ad8c2e48c539/") Digit × ¬ (HasIdFault (codes "e69de29bb2d1d6434b8b29ae775ad8c2e48c5391") Digit) × ¬ (HasIdFault (codes "g69de2") Digit)

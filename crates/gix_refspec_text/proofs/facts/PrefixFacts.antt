@@ -4,26 +4,26 @@ use Rattle.gix_refspec_text.proofs.Common.{candidates, IsRefPrefix, IsPrefix, of
 use Rattle.gix_refspec_text.proofs.Common.{HasPrefix, IsExpansion, same_Some}
 use Rattle.gix_refspec_text.proofs.{facts.CoveringFacts.{below_heads, no_bare_prefix}, facts.FaultFacts.begins_not, facts.ObjectIdFacts.{IsIdText-empty_blob, empty_blob}, readers.Texts.differ}
 use Rattle.gix_refspec_text.proofs.{lemmas.hits.MatchLemmas.outside_none, lemmas.lists.LacksLemmas.Lacks-here, lemmas.prefixes.OnePrefixLemmas.one_prefix}
-use Rattle.gix_refspec_text.proofs.{lemmas.prefixes.PrefixLemmas.{no_prefix, starred_no_id}, facts.ManualFacts.{Lacks-tested, none_some, other_length}}
+use Rattle.gix_refspec_text.proofs.{lemmas.prefixes.PrefixLemmas.{no_prefix, starred_no_id}, facts.ManualFacts.{IsSplit-tested, Lacks-tested, none_some, other_length}}
 use Rattle.gix_refspec_text.proofs.{facts.FitFacts.{blob_kind, every, no_dev, other_byte, short_kind, split_at_end}}
-
--- `HEAD` and a full name are their own prefix
-pub whole_prefixes : IsPrefix (codes "HEAD") (codes "HEAD") × IsPrefix (codes "refs/a]b") (codes "refs/a]b")
-whole_prefixes = (of_head refl refl, of_name (record { after = codes "a]b"; here = refl }) (Lacks-tested star (codes "refs/a]b") refl) refl)
 
 -- the text before a star is a prefix if it begins with `refs/` and is longer, and no bracket is on either side
 pub tells : IsRefPrefix (codes "refs/a") (codes "/b") × ((after : List ℕ) → ¬ (IsRefPrefix (codes "refs/") after) × ¬ (IsRefPrefix (codes "heads/") after) × ¬ (IsRefPrefix (codes "refs/a]") after)) × ¬ (IsRefPrefix (codes "refs/a") (codes "/]"))
 tells = search (arith, other_length, Lacks-tested, begins_not, Lacks-here)
 
--- the prefix of a pattern is the text before its star, also within a component and before a suffix
-pub pattern_prefix : IsPrefix (codes "refs/a*/b") (codes "refs/a")
-pattern_prefix = of_pattern (codes "refs/a") (codes "/b") (record { starred = refl; first = Lacks-tested star (codes "refs/a") refl; last = Lacks-tested star (codes "/b") refl }) tells.0 refl
+-- `HEAD` and a full name are their own prefix; that of a pattern is the text before its star, also within a component and before a suffix
+pub whole_prefixes : IsPrefix (codes "HEAD") (codes "HEAD") × IsPrefix (codes "refs/a]b") (codes "refs/a]b") × IsPrefix (codes "refs/a*/b") (codes "refs/a")
+whole_prefixes = (
+  of_head refl refl,
+  of_name (record { after = codes "a]b"; here = refl }) (Lacks-tested star (codes "refs/a]b") refl) refl,
+  of_pattern (codes "refs/a") (codes "/b") (IsSplit-tested (codes "refs/a") (codes "/b") refl refl) tells.0 refl,
+)
 
 pub bracket_split : IsSplit (codes "refs/a]") [] (codes "refs/a]*")
 bracket_split = split_at_end (codes "refs/a]") refl
 
 pub suffix_split : IsSplit (codes "refs/a") (codes "/]") (codes "refs/a*/]")
-suffix_split = record { starred = refl; first = Lacks-tested star (codes "refs/a") refl; last = Lacks-tested star (codes "/]") refl }
+suffix_split = IsSplit-tested (codes "refs/a") (codes "/]") refl refl
 
 -- a pattern with its star right after `refs/`, or with a bracket, has none
 pub no_prefixes : HasNoPrefix (codes "refs/*") × HasNoPrefix (codes "refs/a]*") × HasNoPrefix (codes "refs/a*/]") × HasNoPrefix (codes "heads/*")
@@ -44,7 +44,7 @@ expansions_below = (
 
 -- the prefix of a name is the whole name, and that of a pattern goes up to its star
 pub other_prefixes : ¬ (IsPrefix (codes "refs/heads/main") (codes "refs/heads/")) × ¬ (IsPrefix (codes "refs/a*/b") (codes "refs/")) × ¬ (IsPrefix (codes "refs/a*/b") (codes "refs/a*/b")) × HasNoPrefix (codes "main") × HasNoPrefix (codes "HEAD/x")
-other_prefixes = search (arith, other_length, one_prefix, Lacks-tested, pattern_prefix, outside_none, other_byte, short_kind, begins_not)
+other_prefixes = search (arith, other_length, one_prefix, Lacks-tested, whole_prefixes, outside_none, other_byte, short_kind, begins_not)
 
 -- a partial name is expanded to its candidates, also with a star, but an id and `HEAD` are not; and a star before a
 -- further slash leaves nothing

@@ -1,8 +1,7 @@
 -- The order of refusals: texts with two reasons, of which the first in the order is returned, and the other isn't.
-use Rattle.gix_refspec_text.proofs.Common.{rules, ◌≢◌, ℕ, List, [], Option, None, Some, codes, refl, arith, replicate, LockSuffix, Operation, Push, Fetch, letter, Normal, IsFirstReason, Mode, Empty}
-use Rattle.gix_refspec_text.proofs.Common.{Forced, Negative, LooksLikeObjectHash, Refusal, NegativeWithDestination, PushToEmpty, PatternUnsupported, ReferenceName, PatternUnbalanced, IsEmptyPush}
-use Rattle.gix_refspec_text.proofs.Common.{IsUnbalanced, IsSameReason}
-use Rattle.gix_refspec_text.proofs.{facts.ManualFacts.full, lemmas.parsing.RefusalLemmas.Agree-first, readers.Readings.{at_destination, at_source, no_hash}, readers.Texts.{contains, differ}}
+use Rattle.gix_refspec_text.proofs.Common.{rules, ◌≢◌, ℕ, List, [], Option, None, Some, codes, arith, LockSuffix, Operation, Push, Fetch, Normal, IsFirstReason, Mode, Empty, Forced, Negative, Refusal}
+use Rattle.gix_refspec_text.proofs.Common.{NegativeWithDestination, PushToEmpty, PatternUnsupported, ReferenceName, PatternUnbalanced, IsEmptyPush, IsUnbalanced, IsSameReason}
+use Rattle.gix_refspec_text.proofs.{facts.ManualFacts.full, lemmas.parsing.RefusalLemmas.Agree-first, readers.Readings.{at_destination, at_source}, readers.Texts.{contains, differ}}
 
 pub normal_positive : Normal ≢ Negative
 normal_positive same = cc
@@ -33,7 +32,3 @@ not_unbalanced = (search (rules, at_destination), other_reason _ _ _ _ (Referenc
 -- a source alone with a star is unbalanced in a fetch, but not in a push, nor is a negative spec
 pub unbalanced : IsUnbalanced Fetch Normal (codes "a*") None PatternUnbalanced × ((e : Refusal) → ¬ (IsUnbalanced Push Normal (codes "a*") None e)) × ((e : Refusal) → ¬ (IsUnbalanced Fetch Negative (codes "a*") None e))
 unbalanced = search (arith, contains)
-
--- 39 digits don't look like an id
-pub too_short : ¬ (LooksLikeObjectHash (replicate 39 letter))
-too_short = no_hash (replicate 39 letter) refl

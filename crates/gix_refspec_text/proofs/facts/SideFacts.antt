@@ -55,12 +55,15 @@ excludes_little = (two_stars, by_pattern (codes "a/") (codes "/c") (codes "b") (
     two_stars n (the_name lacks same) = Lacks-here star (codes "a") (codes "b*") lacks
     two_stars n (by_pattern before after word split fits) = no_kind (pattern before after) split
 
--- a word changes only a pattern, and a partial name gets just `refs/` only before `tags/` and `remotes/`; a full name stays, and an id is below `refs/heads/`
-pub filled_with_words : (map (λ x. filled x (Some (codes "w"))) (full_name (codes "refs/x/a") ∷ partial (codes "a") ∷ []) ≡ codes "refs/x/a" ∷ codes "refs/heads/a" ∷ [])
-    × (map (λ x. filled x None) (partial (codes "heads/a") ∷ partial (codes "remotes") ∷ partial (codes "x/tags/a") ∷ full_name (codes "refs/tags/blob") ∷ [])
-    ≡ codes "refs/heads/heads/a" ∷ codes "refs/heads/remotes" ∷ codes "refs/heads/x/tags/a" ∷ codes "refs/tags/blob" ∷ [])
-    × (filled (object empty_blob) None ≡ codes "refs/heads/e69de29bb2d1d6434b8b29ae775ad8c2e48c5391")
-filled_with_words = (refl, refl, ap (λ (x : List ℕ). codes "refs/heads/" ++ x) lower_of-empty_blob)
+pub filled_with_words :
+    -- a pattern gets a word for its star, or keeps the star
+    (map (filled (pattern (codes "refs/x/") (codes "/y"))) (Some (codes "main") ∷ None ∷ []) ≡ codes "refs/x/main/y" ∷ codes "refs/x/*/y" ∷ [])
+    -- a word changes only a pattern, and a partial name gets just `refs/` only before `tags/` and `remotes/`; a full name stays, and an id is below `refs/heads/`
+    × (map (λ x. filled x (Some (codes "w"))) (full_name (codes "refs/x/a") ∷ partial (codes "a") ∷ []) ≡ codes "refs/x/a" ∷ codes "refs/heads/a" ∷ [])
+    × (map (λ x. filled (partial x) None) (codes "heads/a" ∷ codes "remotes" ∷ codes "x/tags/a" ∷ codes "main" ∷ codes "tags/v1" ∷ codes "remotes/o/main" ∷ codes "tagsv" ∷ []) ≡ codes "refs/heads/heads/a"
+    ∷ codes "refs/heads/remotes" ∷ codes "refs/heads/x/tags/a" ∷ codes "refs/heads/main" ∷ codes "refs/tags/v1" ∷ codes "refs/remotes/o/main" ∷ codes "refs/heads/tagsv" ∷ [])
+    × (filled (full_name (codes "refs/tags/blob")) None ≡ codes "refs/tags/blob") × (filled (object empty_blob) None ≡ codes "refs/heads/e69de29bb2d1d6434b8b29ae775ad8c2e48c5391")
+filled_with_words = (refl, refl, refl, refl, ap (λ (x : List ℕ). codes "refs/heads/" ++ x) lower_of-empty_blob)
 
 -- a fetch writes a destination below `refs/`: `refs/` is put only before `heads/`, `tags/` and `remotes/`
 pub written_names : map written_name_of (codes "heads/a" ∷ codes "tags/v1" ∷ codes "remotes/o/a" ∷ codes "remotes" ∷ codes "x/tags/a"

@@ -22,18 +22,16 @@ pub bad_sources : IsRefused Fetch (codes "a b") (ReferenceName (InvalidByte 32))
     × IsRefused Fetch (codes "a*b*") (PatternUnsupported (codes "a*b*")) × IsRefused Fetch (codes "a/.*:x") (ReferenceName StartsWithDot)
 bad_sources = search (rules, because, at_source)
 
-pub bad_pushes :
+pub bad_sides :
     -- a push of a source to nothing
     IsRefused Push (codes "a:") PushToEmpty × IsRefused Push (codes "+a:") PushToEmpty
     -- a push of a source alone that isn't a name, and of one with two stars to a destination
     × IsRefused Push (codes "a b") (ReferenceName (InvalidByte 32)) × IsRefused Push (codes "a*b*:c") (PatternUnsupported (codes "a*b*"))
-bad_pushes = search (rules, because, to_nothing, at_source)
-
--- a destination that isn't a name, with a source and without, and one that isn't a pattern
-pub bad_destinations : IsRefused Fetch (codes "a:b c") (ReferenceName (InvalidByte 32)) × IsRefused Fetch (codes ":b c") (ReferenceName (InvalidByte 32))
+    -- a destination that isn't a name, with a source and without, and one that isn't a pattern
+    × IsRefused Fetch (codes "a:b c") (ReferenceName (InvalidByte 32)) × IsRefused Fetch (codes ":b c") (ReferenceName (InvalidByte 32))
     × IsRefused Push (codes "a:b c") (ReferenceName (InvalidByte 32)) × IsRefused Push (codes ":b c") (ReferenceName (InvalidByte 32))
     × IsRefused Fetch (codes "a*:b*c*") (PatternUnsupported (codes "b*c*"))
-bad_destinations = search (rules, because, at_destination)
+bad_sides = search (rules, because, to_nothing, at_source, at_destination)
 
 pub unbalanced_fetches :
     -- a star on only one side, also if the other is missing
@@ -47,9 +45,8 @@ unbalanced_fetches = search (rules, because, at_balance)
 pub unread : (r : Reading) → ¬ (Reads Push [] r) × ¬ (Reads Push (codes "a:") r) × ¬ (Reads Fetch (codes "^") r) × ¬ (Reads Fetch (caret ∷ replicate 40 letter) r) × ¬ (Reads Fetch (codes ":a*") r)
     × ¬ (Reads Push (codes "b:a*") r) × ¬ (Reads Fetch (codes "main~2:x") r) × ¬ (Reads Push (codes "^a:") r)
 unread r =
-    let negative = bad_negatives Push in
-    let alone = bad_negatives Fetch in
-    (nothing_pushed.unread r, bad_pushes.0.unread r, alone.3.unread r, alone.4.unread r, unbalanced_fetches.2.unread r, unbalanced_fetches.7.unread r, bad_sources.1.unread r, negative.2.unread r)
+    let refused = bad_negatives Fetch in
+    (nothing_pushed.unread r, bad_sides.0.unread r, refused.3.unread r, refused.4.unread r, unbalanced_fetches.2.unread r, unbalanced_fetches.7.unread r, bad_sources.1.unread r, (bad_negatives Push).2.unread r)
 
 no_text : (r : Reading) → printed r ≡ None → ¬ (IsAccepted r)
 no_text r none (text, reads) = let back = read_back r.operation text r reads in none_some back.text (sym none ∙ back.is)

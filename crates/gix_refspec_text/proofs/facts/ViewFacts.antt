@@ -1,15 +1,13 @@
 -- Refspecs, instructions, reasons and ids as contracts see them, at values whose fields differ, so that no field is
 -- lost or taken for another. That some text reads as a spec is a premise.
 use Rattle.gix_refspec_text.proofs.Common.{Option, ◌≡◌, ◌≢◌, ℕ, List, [], ◌∷◌, ◌++◌, None, Some, true, false, map, get_or, replicate, option_map, codes, refl, sym, ap, ◌∙◌, inl, arith, bstring_bytes}
-use Rattle.gix_refspec_text.proofs.Common.{LockSuffix, RepeatedDot, Digit, Length, Sha1, ObjectId, Operation, Push, Fetch, fault_name, Normal, Forced, Negative, fetched, pushed, fetch_only}
-use Rattle.gix_refspec_text.proofs.Common.{meaning_of, text_of, WritesPrinted, keys, NegativeWithDestination, PushToEmpty, PatternUnsupported, ReferenceName, PatternUnbalanced, NegativeEmpty}
-use Rattle.gix_refspec_text.proofs.Common.{NegativeObjectHash, IsFirstReason, reading_of, owned_reading_of, key_of_spec, key_of_owned, meaning_of_instruction, meant_for, IsShownAs, ShowsRefusal}
-use Rattle.gix_refspec_text.proofs.Common.{AppendsExpansion, to_prefix, Empty}
+use Rattle.gix_refspec_text.proofs.Common.{LockSuffix, RepeatedDot, Sha1, ObjectId, Operation, Push, Fetch, Normal, Forced, Negative, fetched, pushed, fetch_only, meaning_of, text_of, WritesPrinted}
+use Rattle.gix_refspec_text.proofs.Common.{keys, NegativeWithDestination, PushToEmpty, PatternUnsupported, ReferenceName, PatternUnbalanced, NegativeEmpty, NegativeObjectHash, IsFirstReason}
+use Rattle.gix_refspec_text.proofs.Common.{reading_of, owned_reading_of, key_of_spec, key_of_owned, meaning_of_instruction, meant_for, IsShownAs, ShowsRefusal, AppendsExpansion, to_prefix, Empty}
 use Rattle.bstr.{specs.declared.bstr.BStr.BStr, specs.declared.bstring.BString.BString}
 use Rattle.gix_refspec_text.specs.{declared.spec.RefSpec.{RefSpec, accepted-type as owned-type}, declared.spec.RefSpecRef.{RefSpecRef, accepted-type}, declared.types.Instruction.Instruction}
 use Rattle.gix_refspec_text.specs.{declared.types.Mode.Mode, Views.Errors.IsSameError}
-use Rattle.gix_refspec_text.proofs.{facts.FitFacts.{no_dev, other_byte}, facts.ManualFacts.{none_some, other_length}, facts.ObjectIdFacts.empty_blob, facts.PrefixFacts.whole_prefixes}
-use Rattle.gix_refspec_text.proofs.{facts.RefusalFacts.empty_push}
+use Rattle.gix_refspec_text.proofs.{facts.FitFacts.{no_dev, other_byte}, facts.ManualFacts.none_some, facts.ObjectIdFacts.empty_blob, facts.PrefixFacts.whole_prefixes, facts.RefusalFacts.empty_push}
 use Rattle.gix_refspec_text.specs.declared.instruction.Fetch.TheVariants as fetch
 use Rattle.gix_refspec_text.specs.declared.instruction.Push.TheVariants as push
 use Rattle.gix_refspec_text.specs.declared.parsing.Error.TheVariants as error
@@ -37,14 +35,10 @@ other_key : (k j : ℕ) (x y : List (List ℕ)) → get_or (get_or x k []) j 0 �
 other_key k j x y differ same = differ (ap (λ (z : List (List ℕ)). get_or (get_or z k []) j 0) same)
 
 module _
-    (update : Accepted Fetch mode.Force (Some (codes "a")) (Some (codes "b")))
-    (unforced : Accepted Fetch mode.Normal (Some (codes "a")) (Some (codes "b")))
-    (alone : Accepted Fetch mode.Normal (Some (codes "a")) None)
-    (forced : Accepted Fetch mode.Force (Some (codes "a")) None)
-    (exclusion : Accepted Fetch mode.Negative (Some (codes "a")) None)
-    (same_name : Accepted Push mode.Normal (Some (codes "a")) None)
-    (to_itself : Accepted Push mode.Normal (Some (codes "a")) (Some (codes "a")))
-    (deletion : Accepted Push mode.Normal None (Some (codes "b")))
+    (update : Accepted Fetch mode.Force (Some (codes "a")) (Some (codes "b"))) (unforced : Accepted Fetch mode.Normal (Some (codes "a")) (Some (codes "b")))
+    (alone : Accepted Fetch mode.Normal (Some (codes "a")) None) (forced : Accepted Fetch mode.Force (Some (codes "a")) None)
+    (exclusion : Accepted Fetch mode.Negative (Some (codes "a")) None) (same_name : Accepted Push mode.Normal (Some (codes "a")) None)
+    (to_itself : Accepted Push mode.Normal (Some (codes "a")) (Some (codes "a"))) (deletion : Accepted Push mode.Normal None (Some (codes "b")))
     (all_matching : Accepted Push mode.Force None None)
   where
     abbrev fetches_a : RefSpecRef
@@ -53,29 +47,23 @@ module _
     abbrev updates_b : RefSpecRef
     updates_b = spec_of Fetch mode.Force (Some (codes "a")) (Some (codes "b")) update
 
-    -- `a`, `+a:b` and `^a` in a fetch, `:b` and `+:` in a push
-    pub readings : map reading_of (fetches_a ∷ updates_b ∷ spec_of Fetch mode.Negative (Some (codes "a")) None exclusion ∷ spec_of Push mode.Normal None (Some (codes "b")) deletion ∷ spec_of Push mode.Force None None all_matching ∷ [])
-        ≡ fetched Normal (codes "a") None ∷ fetched Forced (codes "a") (Some (codes "b")) ∷ fetched Negative (codes "a") None ∷ pushed Normal None (Some (codes "b")) ∷ pushed Forced None None ∷ []
-    readings = refl
-
-    pub some_keys :
+    pub readings :
+        -- `a`, `+a:b` and `^a` in a fetch, `:b` and `+:` in a push
+        (map reading_of (fetches_a ∷ updates_b ∷ spec_of Fetch mode.Negative (Some (codes "a")) None exclusion ∷ spec_of Push mode.Normal None (Some (codes "b")) deletion ∷ spec_of Push mode.Force None None all_matching ∷ [])
+        ≡ fetched Normal (codes "a") None ∷ fetched Forced (codes "a") (Some (codes "b")) ∷ fetched Negative (codes "a") None ∷ pushed Normal None (Some (codes "b")) ∷ pushed Forced None None ∷ [])
         -- specs with the same meaning have one key: `a` and `+a` in a fetch, `a` and `a:a` in a push
-        (key_of_spec fetches_a ≡ key_of_spec (spec_of Fetch mode.Force (Some (codes "a")) None forced))
+        × (key_of_spec fetches_a ≡ key_of_spec (spec_of Fetch mode.Force (Some (codes "a")) None forced))
         × (key_of_spec (spec_of Push mode.Normal (Some (codes "a")) None same_name) ≡ key_of_spec (spec_of Push mode.Normal (Some (codes "a")) (Some (codes "a")) to_itself))
         -- specs with different meanings have different keys: `a` in a fetch and in a push, `a` and `^a`, `+a:b` and `a:b`
         × (key_of_spec fetches_a ≢ key_of_spec (spec_of Push mode.Normal (Some (codes "a")) None same_name))
         × (key_of_spec fetches_a ≢ key_of_spec (spec_of Fetch mode.Negative (Some (codes "a")) None exclusion))
         × (key_of_spec updates_b ≢ key_of_spec (spec_of Fetch mode.Normal (Some (codes "a")) (Some (codes "b")) unforced))
-    some_keys = (refl, refl, other_key 0 0 _ _ (λ same. omega (arith, same)), other_key 0 0 _ _ (λ same. omega (arith, same)), other_key 3 0 _ _ (λ same. omega (arith, same)))
+    readings = (refl, refl, refl, other_key 0 0 _ _ (λ same. omega (arith, same)), other_key 0 0 _ _ (λ same. omega (arith, same)), other_key 3 0 _ _ (λ same. omega (arith, same)))
 
 module _
-    (n m : BString)
-    (update : owned-type Fetch mode.Force (Some n) (Some m))
-    (alone : owned-type Fetch mode.Normal (Some n) None)
-    (forced : owned-type Fetch mode.Force (Some n) None)
-    (exclusion : owned-type Fetch mode.Negative (Some n) None)
-    (same_name : owned-type Push mode.Normal (Some n) None)
-    (deletion : owned-type Push mode.Normal None (Some m))
+    (n m : BString) (update : owned-type Fetch mode.Force (Some n) (Some m)) (alone : owned-type Fetch mode.Normal (Some n) None)
+    (forced : owned-type Fetch mode.Force (Some n) None) (exclusion : owned-type Fetch mode.Negative (Some n) None)
+    (same_name : owned-type Push mode.Normal (Some n) None) (deletion : owned-type Push mode.Normal None (Some m))
   where
     pub owned_views :
         -- owned specs have the readings of borrowed ones
@@ -104,15 +92,12 @@ pub instructions :
     × (meaning_of (pushed Normal (Some (codes "a")) None) ≡ Some (meaning_of_instruction (instruction.Push (push.Matching (lent (codes "a")) (lent (codes "a")) false))))
 instructions = (refl, refl, refl, refl, refl, refl)
 
-pub reasons : (p : BString) → bstring_bytes p ≡ codes "a*b*" →
-    -- the error of a side with two stars has its whole text, and that of a bad name its fault
-    IsShownAs (error.PatternUnsupported p) (PatternUnsupported (codes "a*b*")) × ¬ (IsShownAs (error.PatternUnsupported p) (PatternUnsupported (codes "a*b")))
-    × IsShownAs (error.ReferenceName LockSuffix) (ReferenceName LockSuffix) × ¬ (IsShownAs (error.ReferenceName LockSuffix) (ReferenceName RepeatedDot))
-reasons p is = (ap PatternUnsupported (sym is), (λ same. let short : codes "a*b" ≡ codes "a*b*" = cc in other_length _ _ (λ size. omega (arith, size)) short), refl, λ same. cc)
-
 pub errors : (p : BString) →
+    -- the error of a side with two stars has its whole text, and that of a bad name its fault
+    (bstring_bytes p ≡ codes "a*b*" → IsShownAs (error.PatternUnsupported p) (PatternUnsupported (codes "a*b*")) × ¬ (IsShownAs (error.PatternUnsupported p) (PatternUnsupported (codes "a*b"))))
+    × IsShownAs (error.ReferenceName LockSuffix) (ReferenceName LockSuffix) × ¬ (IsShownAs (error.ReferenceName LockSuffix) (ReferenceName RepeatedDot))
     -- an error doesn't stand for the reason of another
-    ¬ (IsShownAs error.Empty NegativeEmpty) × ¬ (IsShownAs error.NegativeEmpty Empty) × ¬ (IsShownAs error.NegativeWithDestination NegativeObjectHash)
+    × ¬ (IsShownAs error.Empty NegativeEmpty) × ¬ (IsShownAs error.NegativeEmpty Empty) × ¬ (IsShownAs error.NegativeWithDestination NegativeObjectHash)
     × ¬ (IsShownAs error.NegativeObjectHash NegativeWithDestination) × ¬ (IsShownAs error.PushToEmpty Empty)
     × ¬ (IsShownAs error.PatternUnbalanced (PatternUnsupported (bstring_bytes p))) × ¬ (IsShownAs (error.PatternUnsupported p) PatternUnbalanced)
     × ¬ (IsShownAs (error.ReferenceName LockSuffix) (PatternUnsupported (bstring_bytes p)))
@@ -155,7 +140,3 @@ appended = (
 -- an id with the 20 bytes of the empty blob, and more after them in its buffer
 abbrev pub blob_id : ObjectId
 blob_id = record { kind = Sha1; buffer = empty_blob ++ replicate 12 7 }
-
--- the two faults of a text by their names, without the length
-pub fault_names : map fault_name (Length 6 ∷ Length 39 ∷ Digit ∷ []) ≡ codes "Length" ∷ codes "Length" ∷ codes "Digit" ∷ []
-fault_names = refl

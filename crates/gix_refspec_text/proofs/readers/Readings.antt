@@ -1,6 +1,6 @@
 -- What a text reads as, and why it is refused, computed for texts whose names are plain enough for a test of each byte, so that
 -- examples need no witnesses.
-use Rattle.gix_refspec_text.proofs.Common.{◌≡◌, ◌≢◌, ℕ, Bool, true, false, not, ◌==◌, ◌&&◌, ◌||◌, nat_le, if◌then◌else◌, List, [], ◌∷◌, Option, None, Some, length, refl, sym, subst, unwrap_or, arith}
+use Rattle.gix_refspec_text.proofs.Common.{◌≡◌, ◌≢◌, ℕ, Bool, true, false, not, ◌==◌, ◌&&◌, nat_le, if◌then◌else◌, List, [], ◌∷◌, Option, None, Some, length, refl, sym, subst, unwrap_or, arith}
 use Rattle.gix_refspec_text.proofs.Common.{list_any, list_all, true≢false, false≢true, eqb-false, eqb-true, and_parts, and_from, leb-true, le-leb, is_ascii_hexdigit, Refusal, ◌∙◌, IsRefused}
 use Rattle.gix_refspec_text.proofs.Common.{AllPass-from_list_all, list_all-from_AllPass, Operation, Push, Fetch, Plain, Pattern, slash, star, plus, caret, colon, Mode, Normal, Forced, Negative, codes}
 use Rattle.gix_refspec_text.proofs.Common.{ap, bytes_eq, bytes_eq-Decides, Reading, Reads, IsSigned, AreParts, with_colon, LastLacksColon, LooksLikeObjectHash, named_by, named_or_head, side_of}

@@ -4,7 +4,7 @@ use Rattle.gix_refspec_text.proofs.Common.{bytes_eq-Decides, List, [], ◌∷◌
 use Rattle.gix_refspec_text.proofs.Common.{Decides-eqb, starts_with, ends_with, starts_is, ends_is, slice_split, join_with_byte, list_any, count_by, false≢true, eqb-false, eqb-true, ne_eqb, or_parts}
 use Rattle.gix_refspec_text.proofs.Common.{or_cases, and_parts, and_from, Error, Empty, EmptyComponent, StartsWithDot, LockSuffix, EndsWithDot, RepeatedDot, ReflogPortion, Asterisk, InvalidByte}
 use Rattle.gix_refspec_text.proofs.Common.{is_refused_byte, Lacks, ContainsText, BeginsWith, EndsWith, SomeComponent, HasFault, HasOneStar, HasSeveralStars, IsName, IsPattern, IsPatternFault}
-use Rattle.gix_refspec_text.proofs.Common.{ReplacesStar, slash, star, with_letters, inl, inr, Refusal, PatternUnsupported, ReferenceName, IsBadName, IsBadPattern}
+use Rattle.gix_refspec_text.proofs.Common.{ReplacesStar, slash, star, with_letters, inl, inr, Refusal, PatternUnsupported, ReferenceName, IsBadPattern}
 use Rattle.gix_refspec_text.specs.declared.name.PatternError.TheVariants.{Name}
 use Rattle.std.{specs.List.onto_first, proofs.lemmas.Bool.Decides.{Decides-not, not_from_Decides}, proofs.Math.Bool.or-true, proofs.lemmas.List.Folds.list_any-append}
 use Rattle.std.{proofs.lemmas.List.Splits.{slice_split_none, slice_split_at, join_with_byte-slice_split}}
@@ -84,10 +84,7 @@ split_again P x some =
 
 parts_lack : (x : List ℕ) → AllByRecursion (Lacks slash) (components x)
 parts_lack [] = (tt, tt)
-parts_lack (b ∷ x) = onto (b == slash) (components x) refl (parts_lack x)
-  where
-    onto : (t : Bool) (ps : List (List ℕ)) → (b == slash) ≡ t → AllByRecursion (Lacks slash) ps → AllByRecursion (Lacks slash) (cond t ([] ∷ ps) (onto_first b ps))
-    onto t ps is lack = grind (arith, eqb-false)
+parts_lack (b ∷ x) = grind (arith, eqb-false, parts_lack x)
 
 -- an element that passes a test, with those before and after it
 pub passes : (p : List ℕ → Bool) (xs : List (List ℕ)) → list_any p xs ≡ true → (before : List (List ℕ)) × (w : List ℕ) × (after : List (List ℕ)) × (xs ≡ before ++ (w ∷ after)) × (p w ≡ true)
@@ -187,11 +184,8 @@ abbrev pub are_three : List (List ℕ) → Bool
 are_three (p ∷ q ∷ r ∷ rest) = true
 are_three parts = false
 
-several_at : (x : List ℕ) (parts : List (List ℕ)) → join_with_byte star parts ≡ x → are_three parts ≡ true → HasSeveralStars x
-several_at x parts joined so = grind (arith, false≢true)
-
 pub several : (x : List ℕ) → are_three (slice_split (λ c. c == star) x) ≡ true → HasSeveralStars x
-several x so = several_at x (slice_split (λ c. c == star) x) (join_with_byte-slice_split star x) so
+several x so = grind (arith, false≢true, join_with_byte-slice_split star x)
 
 pub pattern_faultless : (x : List ℕ) (e : Error) → (stars x == 1) ≡ true → has_fault (with_letters x) e ≡ false → ¬ (IsPatternFault (Name e) x)
 pattern_faultless x e one none bad =
