@@ -15,27 +15,21 @@ Has p = HasFault p.0 p.1
 -- the empty text, which alone is empty; a slash that is first, last or after another one, which leaves an empty component; a dot
 -- at the start and `.lock` at the end of the first component or of the last one; a dot at the end of the name; two dots in a row and
 -- `@` right before a brace anywhere; one star or several; and a refused byte that the text contains
-abbrev pub with_faults : List (List ℕ × Error)
-with_faults =
+pub faults : AllByRecursion Has
     (([], Empty) ∷ (codes "/a", EmptyComponent) ∷ (codes "a/", EmptyComponent) ∷ (codes "a//a", EmptyComponent)
     ∷ (codes ".b/a", StartsWithDot) ∷ (codes "a/.b", StartsWithDot) ∷ (codes "b.lock/a", LockSuffix) ∷ (codes "a/b.lock", LockSuffix)
     ∷ (codes "a/.lock", LockSuffix) ∷ (codes "a/b.", EndsWithDot) ∷ (codes "..a", RepeatedDot) ∷ (codes "a/b..", RepeatedDot)
     ∷ (codes "@{1}", ReflogPortion) ∷ (codes "*a", Asterisk) ∷ (codes "a*/*", Asterisk) ∷ (codes "a b", InvalidByte 32)
     ∷ (codes "a~:", InvalidByte 58) ∷ (codes "foo..bar", RepeatedDot) ∷ (codes "foo.lock", LockSuffix) ∷ (codes "foo.lock/bar", LockSuffix)
     ∷ (codes "foo@{bar", ReflogPortion) ∷ (codes "ba.lock", LockSuffix) ∷ [])
-
-pub faults : AllByRecursion Has with_faults
 faults = search (rules, faulty)
 
 -- the empty text has no component; a dot within or at the end of a component; `.lock` within one, and without its dot; two dots apart;
 -- `@` apart from the brace, alone or after it; no other refused byte than the text has, and no other byte of the text
-abbrev pub without_faults : List (List ℕ × Error)
-without_faults =
+pub no_faults : AllByRecursion (λ p. ¬ (Has p))
     ((codes "/", Empty) ∷ (codes "a/b", EmptyComponent) ∷ ([], EmptyComponent) ∷ (codes "a./b.c", StartsWithDot)
     ∷ (codes "a.lock.b/block", LockSuffix) ∷ (codes "a./b", EndsWithDot) ∷ (codes "a.b.c./.d", RepeatedDot)
     ∷ (codes "@a{/{@/@", ReflogPortion) ∷ ([], Asterisk) ∷ (codes "a b", InvalidByte 58) ∷ (codes "a b", InvalidByte 97) ∷ [])
-
-pub no_faults : AllByRecursion (λ p. ¬ (Has p)) without_faults
 no_faults = search (rules, faultless)
 
 -- a star anywhere, and none

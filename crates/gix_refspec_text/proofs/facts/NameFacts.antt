@@ -34,10 +34,7 @@ pub no_patterns :
     × ¬ (IsPattern (codes "refs/heads/main")) × ¬ (IsPattern []) × ¬ (IsPattern (codes "foo/bar*/baz*"))
     -- a pattern has no fault
     × ((e : Error) → ¬ (IsPatternFault (Name e) (codes "*")))
-no_patterns = search (rules, pattern_fault, unfit, no_pattern, no_fault)
-  where
-    no_fault : (e : Error) → ¬ (IsPatternFault (Name e) (codes "*"))
-    no_fault e bad = pattern_fine (codes "*") (a_pattern (codes "*") refl) (ReferenceName e) bad
+no_patterns = search (rules, pattern_fault, unfit, no_pattern, λ (e : Error). pattern_fine (codes "*") (a_pattern (codes "*") refl) (ReferenceName e))
 
 pub scans :
     -- each star becomes a letter, and other bytes stay

@@ -60,14 +60,15 @@ other_expansions = (heads_expands, other_list main_expands refl, other_list expa
     other_list : {x : List ℕ} {list other : List (List ℕ)} → Expands x other → (length list == length other) ≡ false → ¬ (Expands x list)
     other_list {x} {list} {other} another sizes one = eqb-false (length list) (length other) sizes (ap length ((one_prefix x).expanded list other one another))
 
--- the prefix of a spec is by the source of a fetch or the destination of a push, and not by the other side; a negative
--- spec and a push of a source alone have no such side
-pub asked : IsAsked (fetched Normal (codes "a") (Some (codes "b"))) (codes "a") × IsAsked (pushed Normal (Some (codes "a")) (Some (codes "b"))) (codes "b") × ¬ (IsAsked (pushed Normal (Some (codes "a")) (Some (codes "b"))) (codes "a")) × ((x : List ℕ) → ¬ (IsAsked no_dev x) × ¬ (IsAsked (pushed Normal (Some (codes "a")) None) x))
-asked = search (arith, other_byte, same_Some, none_some)
-
--- a reading has the prefix of its side on the remote, and a negative one has none
-pub prefixes : HasPrefix every (codes "refs/heads/") × HasPrefix (pushed Normal (Some (codes "refs/x/a")) (Some (codes "HEAD"))) (codes "HEAD") × ((p : List ℕ) → ¬ (HasPrefix (fetched Negative (codes "HEAD") None) p) × ¬ (HasPrefix (pushed Normal (Some (codes "HEAD")) (Some (codes "main"))) p))
-prefixes = search (arith, below_heads, whole_prefixes, other_prefixes, same_Some)
+pub asked :
+    -- the prefix of a spec is by the source of a fetch or the destination of a push, and not by the other side; a negative spec and a push of a source
+    -- alone have no such side
+    IsAsked (fetched Normal (codes "a") (Some (codes "b"))) (codes "a") × IsAsked (pushed Normal (Some (codes "a")) (Some (codes "b"))) (codes "b")
+    × ¬ (IsAsked (pushed Normal (Some (codes "a")) (Some (codes "b"))) (codes "a")) × ((x : List ℕ) → ¬ (IsAsked no_dev x) × ¬ (IsAsked (pushed Normal (Some (codes "a")) None) x))
+    -- a reading has the prefix of its side on the remote, and a negative one has none
+    × HasPrefix every (codes "refs/heads/") × HasPrefix (pushed Normal (Some (codes "refs/x/a")) (Some (codes "HEAD"))) (codes "HEAD")
+    × ((p : List ℕ) → ¬ (HasPrefix (fetched Negative (codes "HEAD") None) p) × ¬ (HasPrefix (pushed Normal (Some (codes "HEAD")) (Some (codes "main"))) p))
+asked = search (arith, other_byte, same_Some, none_some, below_heads, whole_prefixes, other_prefixes)
 
 -- a negative reading, or one without a side on the remote, is expanded to nothing; a fetch of `HEAD` isn't
 pub expansions : IsExpansion (pushed Normal (Some (codes "a")) None) [] × IsExpansion no_dev [] × ¬ (IsExpansion (fetched Normal (codes "HEAD") None) []) × ¬ (IsExpansion no_dev (codes "refs/heads/dev-" ∷ []))

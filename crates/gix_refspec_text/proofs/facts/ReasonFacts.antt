@@ -1,13 +1,13 @@
 -- The reasons to refuse a text, each with parts that it applies to, and similar parts that it doesn't apply to.
-use Rattle.gix_refspec_text.proofs.Common.{star, rules, ◌≡◌, ℕ, List, [], Option, None, Some, codes, refl, sym, subst, arith, replicate, false≢true, LockSuffix, RepeatedDot, Asterisk, NoName}
+use Rattle.gix_refspec_text.proofs.Common.{HasFault, rules, ◌≡◌, ℕ, List, [], Option, None, Some, codes, refl, sym, subst, arith, replicate, false≢true, LockSuffix, RepeatedDot, Asterisk, NoName}
 use Rattle.gix_refspec_text.proofs.Common.{Operation, Push, Fetch, IsName, HasOneStar, IsSplit, IsPatternFault, letter, Normal, Forced, Negative, Refusal, NegativeWithDestination, PushToEmpty}
 use Rattle.gix_refspec_text.proofs.Common.{PatternUnsupported, ReferenceName, PatternUnbalanced, NegativeEmpty, NegativeObjectHash, IsBadName, IsBadPattern, IsEmptyPush, HasNegativeDestination}
 use Rattle.gix_refspec_text.proofs.Common.{PushesNowhere, IsBadSourceFor, HasBadSource, HasBadDestination, IsOneStarred, IsUnbalanced, ExcludesNothing, ExcludesObject, Never, OrElse, IsFirstReason}
 use Rattle.gix_refspec_text.proofs.Common.{same_Some, Plain, Empty}
 use Rattle.gix_refspec_text.specs.declared.name.PatternError.TheVariants.{Name}
-use Rattle.gix_refspec_text.proofs.{facts.RefusalFacts.normal_positive, lemmas.lists.LacksLemmas.Lacks-here, lemmas.parsing.SideLemmas.name_not_bad, lemmas.parsing.ReasonLemmas.reason_against_object}
+use Rattle.gix_refspec_text.proofs.{facts.RefusalFacts.normal_positive, lemmas.lists.LacksLemmas.Lacks-here, lemmas.parsing.SideLemmas.name_not_bad, lemmas.parsing.ReasonLemmas.{reason_against_nothing, reason_against_object}}
 use Rattle.gix_refspec_text.proofs.{lemmas.texts.LetterLemmas.HasOneStar-count_by, facts.ManualFacts.{IsSplit-tested, full, none_some, some_none}}
-use Rattle.gix_refspec_text.proofs.{readers.Readings.{a_hash, no_hash, bad_end, bad_for, excludes_nothing as against_nothing}}
+use Rattle.gix_refspec_text.proofs.{readers.Readings.{a_hash, no_hash, bad_end, bad_for}}
 use Rattle.gix_refspec_text.proofs.{readers.Texts.{Lacks-tested, faulty, contains, holds_not, not_one_star, not_several, pattern_fault, pattern_faultless, unstarred}}
 
 -- a text with exactly one star, and texts without one and with two
@@ -21,11 +21,13 @@ pub bad_patterns :
     × ¬ (IsBadPattern (codes "b*.lock") PatternUnbalanced)
     -- and the check of a pattern alone finds the same
     × IsPatternFault (Name LockSuffix) (codes "b*.lock") × ¬ (IsPatternFault (Name Asterisk) (codes "b*.lock")) × ¬ (IsPatternFault (Name LockSuffix) (codes "b.lock"))
-bad_patterns = search (rules, pattern_fault, pattern_faultless, not_several (codes "b*.lock") refl, unstarred (codes "b.lock") (ReferenceName LockSuffix))
-
--- a bad name has a fault of its own, and a text with a star isn't a bad name
-pub bad_names : IsBadName (codes "a..b") (ReferenceName RepeatedDot) × ¬ (IsBadName (codes "a..b") (ReferenceName NoName)) × ¬ (IsBadName (codes "a*..b") (ReferenceName RepeatedDot)) × ¬ (IsBadName (codes "a..b") PatternUnbalanced)
-bad_names = ((Lacks-tested star (codes "a..b") refl, faulty (codes "a..b") RepeatedDot refl), (λ bad. full _ _ bad.1), (λ bad. Lacks-here star (codes "a") (codes "..b") bad.0), λ none. none)
+    -- a bad name has a fault of its own, and a text with a star isn't a bad name
+    × IsBadName (codes "a..b") (ReferenceName RepeatedDot) × ¬ (IsBadName (codes "a..b") (ReferenceName NoName)) × ¬ (IsBadName (codes "a*..b") (ReferenceName RepeatedDot))
+    × ¬ (IsBadName (codes "a..b") PatternUnbalanced)
+bad_patterns = search (rules, pattern_fault, pattern_faultless, not_several (codes "b*.lock") refl, unstarred (codes "b.lock") (ReferenceName LockSuffix), Lacks-tested, dots, full, Lacks-here)
+  where
+    dots : HasFault (codes "a..b") RepeatedDot
+    dots = faulty (codes "a..b") RepeatedDot refl
 
 pub at_signs_and_colons :
     -- a push of a source, or of a colon, isn't empty
@@ -67,18 +69,18 @@ pub balances :
     × ((e : Refusal) → ¬ (IsUnbalanced Push Normal (codes "a*") (Some []) e)) × ¬ (IsUnbalanced Push Normal (codes "a*") (Some (codes "b")) NegativeEmpty)
 balances = search (arith, contains, holds_not, Lacks-tested, Lacks-here, full)
 
--- `^` is refused for excluding nothing; the empty text and `^a` aren't
-pub excludes_nothing : ExcludesNothing Negative [] NegativeEmpty × ((e : Refusal) → ¬ (ExcludesNothing Normal [] e) × ¬ (ExcludesNothing Negative (codes "a") e)) × ¬ (ExcludesNothing Negative [] NegativeObjectHash)
-excludes_nothing = search (arith, full, normal_positive)
-
--- `^` and 40 digits exclude an object, and the digits alone and `^` and 39 don't
-pub excludes_object : ExcludesObject Negative (replicate 40 letter) NegativeObjectHash × ((e : Refusal) → ¬ (ExcludesObject Normal (replicate 40 letter) e) × ¬ (ExcludesObject Negative (replicate 39 letter) e)) × ¬ (ExcludesObject Negative (replicate 40 letter) NegativeEmpty)
-excludes_object = search (arith, a_hash (replicate 40 letter) refl, no_hash, normal_positive)
+pub excludes_nothing :
+    -- `^` is refused for excluding nothing; the empty text and `^a` aren't
+    ExcludesNothing Negative [] NegativeEmpty × ((e : Refusal) → ¬ (ExcludesNothing Normal [] e) × ¬ (ExcludesNothing Negative (codes "a") e)) × ¬ (ExcludesNothing Negative [] NegativeObjectHash)
+    -- `^` and 40 digits exclude an object, and the digits alone and `^` and 39 don't
+    × ExcludesObject Negative (replicate 40 letter) NegativeObjectHash × ((e : Refusal) → ¬ (ExcludesObject Normal (replicate 40 letter) e) × ¬ (ExcludesObject Negative (replicate 39 letter) e))
+    × ¬ (ExcludesObject Negative (replicate 40 letter) NegativeEmpty)
+excludes_nothing = search (arith, full, normal_positive, a_hash (replicate 40 letter) refl, no_hash)
 
 -- the second reason is returned only if the first never applies
 pub or_else : OrElse (ExcludesNothing Negative []) (ExcludesObject Negative []) NegativeEmpty × OrElse (ExcludesNothing Negative (replicate 40 letter)) (ExcludesObject Negative (replicate 40 letter)) NegativeObjectHash × ¬ (OrElse (λ e. e ≡ NegativeEmpty) (λ e. e ≡ PushToEmpty) PushToEmpty) × ¬ (Never (λ e. e ≡ PushToEmpty))
-or_else = search (arith, excludes_nothing, full, excludes_object)
+or_else = search (arith, excludes_nothing, full)
 
 -- the last reasons follow all others
 pub last_reasons : IsFirstReason Fetch Negative [] None NegativeEmpty × (IsName (replicate 40 letter) → IsFirstReason Push Negative (replicate 40 letter) None NegativeObjectHash)
-last_reasons = (against_nothing Fetch, λ is_name. reason_against_object Push (replicate 40 letter) Plain (full _ _) is_name (a_hash (replicate 40 letter) refl))
+last_reasons = (reason_against_nothing Fetch [] Plain refl tt, λ is_name. reason_against_object Push (replicate 40 letter) Plain (full _ _) is_name (a_hash (replicate 40 letter) refl))

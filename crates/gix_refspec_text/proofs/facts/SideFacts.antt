@@ -8,18 +8,16 @@ use Rattle.gix_refspec_text.proofs.{lemmas.hits.MatchLemmas.{has_candidates, lac
 use Rattle.gix_refspec_text.proofs.{facts.ManualFacts.{IsSplit-tested, Lacks-tested, named, other_length}, facts.ObjectIdFacts.{lower_of-empty_blob, IsIdText-empty_blob, IsIdText-others, empty_blob}}
 use Rattle.gix_refspec_text.proofs.{facts.FitFacts.{blob_kind, every, heads_split, origin_split, other_byte, short, short_kind, short_no_id}}
 
--- the text of an id is in either case, and a short word isn't an id
-pub ids : IsId (codes "e69de29bb2d1d6434b8b29ae775ad8c2e48c5391") × IsId (codes "E69DE29BB2D1D6434B8B29AE775AD8C2E48C5391") × ¬ (IsId (codes "main"))
-ids = ((empty_blob, IsIdText-empty_blob), (empty_blob, IsIdText-others.0), λ is. short_no_id is.0 is.1)
-
 pub kinds :
+    -- the text of an id is in either case, and a short word isn't an id
+    IsId (codes "e69de29bb2d1d6434b8b29ae775ad8c2e48c5391") × IsId (codes "E69DE29BB2D1D6434B8B29AE775AD8C2E48C5391") × ¬ (IsId (codes "main"))
     -- a full name isn't a partial one, and `refs` and a pattern aren't full names
-    ¬ (HasKind (codes "refs/heads/main") (partial (codes "refs/heads/main"))) × ¬ (HasKind (codes "refs") (full_name (codes "refs")))
+    × ¬ (HasKind (codes "refs/heads/main") (partial (codes "refs/heads/main"))) × ¬ (HasKind (codes "refs") (full_name (codes "refs")))
     × ¬ (HasKind (codes "refs/heads/*") (full_name (codes "refs/heads/*"))) × ¬ (HasKind (codes "refs/heads/main") (full_name (codes "refs/heads/mai")))
     -- an id and a pattern aren't partial names, and a partial name isn't another text, a full name or an id
     × ¬ (HasKind (codes "e69de29bb2d1d6434b8b29ae775ad8c2e48c5391") (partial (codes "e69de29bb2d1d6434b8b29ae775ad8c2e48c5391"))) × ¬ (HasKind (codes "a*") (partial (codes "a*")))
     × ¬ (HasKind (codes "main") (partial (codes "mai"))) × ¬ (HasKind (codes "main") (full_name (codes "main"))) × ((bytes : List ℕ) → ¬ (HasKind (codes "main") (object bytes)))
-kinds = search (arith, ids, begins_not, Lacks-here, other_length, short_kind, short_no_id)
+kinds = search (arith, IsIdText-empty_blob, IsIdText-others, begins_not, Lacks-here, other_length, short_kind, short_no_id)
 
 -- a side with two stars has no kind
 pub no_kind : (kind : SideKind) → ¬ (HasKind (codes "a*b*") kind)

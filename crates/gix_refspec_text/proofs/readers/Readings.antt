@@ -5,11 +5,11 @@ use Rattle.gix_refspec_text.proofs.Common.{list_any, list_all, true≢false, fal
 use Rattle.gix_refspec_text.proofs.Common.{AllPass-from_list_all, list_all-from_AllPass, Operation, Push, Fetch, Plain, Pattern, slash, star, plus, caret, colon, Mode, Normal, Forced, Negative, codes}
 use Rattle.gix_refspec_text.proofs.Common.{ap, bytes_eq, bytes_eq-Decides, Reading, Reads, IsSigned, AreParts, with_colon, LastLacksColon, LooksLikeObjectHash, named_by, named_or_head, side_of}
 use Rattle.gix_refspec_text.proofs.Common.{fetched, pushed, HasShape, or_cases, HasCheckedShape, NoReasonBeforeSource, HasBadDestination, HasBadSource, Never, IsFirstReason, PatternUnbalanced}
-use Rattle.gix_refspec_text.proofs.Common.{IsBadSourceFor, Shape, is_some, IsPositive, NegativeWithDestination, PushToEmpty, NegativeEmpty, NegativeObjectHash}
+use Rattle.gix_refspec_text.proofs.Common.{IsBadSourceFor, Shape, is_some, IsPositive, NegativeWithDestination, PushToEmpty}
 use Rattle.gix_refspec_text.proofs.{lemmas.parsing.ReadOnceLemmas.reads_once, lemmas.texts.TestedLemmas.{IsName-tested, is_suspect}}
 use Rattle.gix_refspec_text.proofs.{readers.Texts.{Lacks-tested, differ, a_pattern, faulty, is_bad, pattern_fault, several, is_empty, is_pattern, not_true}}
 use Rattle.gix_refspec_text.proofs.{lemmas.parsing.ReadsLemmas.{fetch_reads, negative_reads, push_alone_reads, push_reads, refused}}
-use Rattle.gix_refspec_text.proofs.{lemmas.parsing.ReasonLemmas.{alone_fine, bad_destination, fetch_source_fine, no_negative, push_source_fine, reason_against_nothing, reason_against_object, reason_at_destination, reason_at_source, unbalanced_fetch, unbalanced_push}}
+use Rattle.gix_refspec_text.proofs.{lemmas.parsing.ReasonLemmas.{alone_fine, bad_destination, fetch_source_fine, no_negative, push_source_fine, reason_at_destination, reason_at_source, unbalanced_fetch, unbalanced_push}}
 
 -- the sign of a text, and what follows it
 abbrev pub sign_of : List ℕ → Mode
@@ -111,16 +111,14 @@ made Push m s d = pushed m (side_of (named_by s)) (side_of (unwrap_or d []))
 
 reads_parts : (op : Operation) (m : Mode) (s : List ℕ) (d : Option (List ℕ)) (text : List ℕ) → AreParts m s d text → readable op m s d ≡ true → Reads op text (made op m s d)
 reads_parts op Negative s None text parts so =
-    let both = and_parts _ _ so in
-    let fine = and_parts _ _ both.1 in
-    negative_reads op s (shape_of s) text (not_empty s both.0) (fit s _ fine.1) (no_hash s (not_true _ fine.0)) parts
+    let fine = and_parts _ _ (and_parts _ _ so).1 in
+    negative_reads op s (shape_of s) text (not_empty s (and_parts _ _ so).0) (fit s _ fine.1) (no_hash s (not_true _ fine.0)) parts
 reads_parts op Negative s (Some d) text parts so = absurd (false≢true so)
 reads_parts Fetch m s d text parts so = let both = and_parts _ _ so in fetch_reads m s d (shape_of s) text tt (fit s _ both.0) (fit _ _ both.1) parts
 reads_parts Push Normal [] None text parts so = absurd (false≢true so)
 reads_parts Push Forced [] None text parts so = push_alone_reads Forced [] Plain text tt (λ empty normal. cc) tt parts
 reads_parts Push m (b ∷ s) None text parts so =
-    let both = and_parts _ _ so in
-    push_alone_reads m (b ∷ s) (shape_of (b ∷ s)) text tt (λ empty normal. cc) (fit (b ∷ s) (shape_of (b ∷ s)) both.0) parts
+    push_alone_reads m (b ∷ s) (shape_of (b ∷ s)) text tt (λ empty normal. cc) (fit (b ∷ s) (shape_of (b ∷ s)) (and_parts _ _ so).0) parts
 reads_parts Push m (b ∷ s) (Some []) text parts so = absurd (false≢true so)
 reads_parts Push m s (Some d) text parts so =
     let both = and_parts _ _ so in
@@ -192,15 +190,9 @@ at_balance Push m (b ∷ s) (Some []) so = absurd (false≢true so)
 at_balance Push m s (Some d) so = let both = and_parts _ _ so in unbalanced_push m s d (shape_of s) (other (shape_of s)) tt (λ some empty. grind arith) (star_fit s (shape_of s) both.0) (fit d (other (shape_of s)) both.1) (differs (shape_of s))
 at_balance Fetch m s d so = let both = and_parts _ _ so in unbalanced_fetch m s d (shape_of s) (other (shape_of s)) tt (fit s (shape_of s) both.0) (fit (unwrap_or d []) (other (shape_of s)) both.1) (differs (shape_of s))
 
--- or an earlier one, or of a negative spec alone
+-- or an earlier one
 pub negative_with : (op : Operation) (s d : List ℕ) → IsFirstReason op Negative s (Some d) NegativeWithDestination
 negative_with op s d = search arith
 
 pub to_nothing : (m : Mode) (b : ℕ) (s : List ℕ) → IsPositive m → IsFirstReason Push m (b ∷ s) (Some []) PushToEmpty
 to_nothing m b s pos = grind (arith, no_negative)
-
-pub excludes_nothing : (op : Operation) → IsFirstReason op Negative [] None NegativeEmpty
-excludes_nothing op = reason_against_nothing op [] Plain refl tt
-
-pub excludes_object : (op : Operation) (b : ℕ) (s : List ℕ) → (is_hash (b ∷ s) && fits Plain (b ∷ s)) ≡ true → IsFirstReason op Negative (b ∷ s) None NegativeObjectHash
-excludes_object op b s so = let both = and_parts _ _ so in reason_against_object op (b ∷ s) Plain (λ e. cc) (fit (b ∷ s) Plain both.1) (a_hash (b ∷ s) both.0)

@@ -6,14 +6,11 @@ use Rattle.gix_refspec_text.proofs.Common.{or_cases, and_parts, and_from, Error,
 use Rattle.gix_refspec_text.proofs.Common.{is_refused_byte, Lacks, ContainsText, BeginsWith, EndsWith, SomeComponent, HasFault, HasOneStar, HasSeveralStars, IsName, IsPattern, IsPatternFault}
 use Rattle.gix_refspec_text.proofs.Common.{ReplacesStar, slash, star, with_letters, inl, inr, Refusal, PatternUnsupported, ReferenceName, IsBadPattern}
 use Rattle.gix_refspec_text.specs.declared.name.PatternError.TheVariants.{Name}
-use Rattle.std.{specs.List.onto_first, proofs.lemmas.Bool.Decides.{Decides-not, not_from_Decides}, proofs.Math.Bool.or-true, proofs.lemmas.List.Folds.list_any-append}
+use Rattle.std.{specs.List.onto_first, proofs.lemmas.Bool.Decides.{Decides-and, Decides-not, not_from_Decides}, proofs.Math.Bool.or-true, proofs.lemmas.List.Folds.list_any-append}
 use Rattle.std.{proofs.lemmas.List.Splits.{slice_split_none, slice_split_at, join_with_byte-slice_split}}
 use Rattle.gix_refspec_text.proofs.{lemmas.lists.AllLemmas.all_weaker, lemmas.texts.TestedLemmas.{IsName-tested, is_suspect}}
 use Rattle.gix_refspec_text.proofs.{lemmas.parsing.SideLemmas.{HasSeveralStars-replaced, pattern_fine, plain_fine, replaced_once}}
 use Rattle.gix_refspec_text.proofs.{lemmas.texts.LetterLemmas.{HasOneStar-count_by, count_by-HasOneStar, pattern_with_letter, replaces_one}}
-
-both_are : {P Q : Type 0} (p q : Bool) → Decides p P → Decides q Q → Decides (p && q) (P × Q)
-both_are p q a b = grind (arith, and_parts, and_from)
 
 -- texts that differ
 pub differ : (x y : List ℕ) → bytes_eq x y ≡ false → x ≢ y
@@ -46,17 +43,13 @@ at_start w x so = let found = begins w x so in record { before = []; after = fou
 
 pub contains : (w x : List ℕ) → holds w x ≡ true → ContainsText w x
 contains w [] so = at_start w [] so
-contains w (b ∷ x) so = elim (or_cases (starts_with nat_eq (b ∷ x) w) (holds w x) so) [
-  | inl first ↦ at_start w (b ∷ x) first
-  | inr later ↦ let found = contains w x later in record { before = b ∷ found.before; after = found.after; here = ap (λ y. b ∷ y) found.here }
-]
+contains w (b ∷ x) so = elim (or_cases _ _ so) [ inl first ↦ at_start w (b ∷ x) first | inr later ↦ let found = contains w x later in record { before = b ∷ found.before; after = found.after; here = ap (λ y. b ∷ y) found.here } ]
 
 holds_after : (w before after x : List ℕ) → x ≡ before ++ (w ++ after) → holds w x ≡ true
 holds_after w [] after [] here = (begins_is w []).1 (record { after = after; here = here })
 holds_after w [] after (b ∷ x) here = ap (λ v. v || holds w x) ((begins_is w (b ∷ x)).1 (record { after = after; here = here }))
 holds_after w (c ∷ before) after [] here = cc
-holds_after w (c ∷ before) after (b ∷ x) here =
-    ap (λ v. starts_with nat_eq (b ∷ x) w || v) (holds_after w before after x (cc)) ∙ or-true (starts_with nat_eq (b ∷ x) w)
+holds_after w (c ∷ before) after (b ∷ x) here = grind (arith, or-true, holds_after w before after x)
 
 holds_is : (w x : List ℕ) → Decides (holds w x) (ContainsText w x)
 holds_is w x = (contains w x, λ has. holds_after w has.before has.after x has.here)
@@ -89,10 +82,7 @@ parts_lack (b ∷ x) = grind (arith, eqb-false, parts_lack x)
 -- an element that passes a test, with those before and after it
 pub passes : (p : List ℕ → Bool) (xs : List (List ℕ)) → list_any p xs ≡ true → (before : List (List ℕ)) × (w : List ℕ) × (after : List (List ℕ)) × (xs ≡ before ++ (w ∷ after)) × (p w ≡ true)
 passes p [] so = absurd (false≢true so)
-passes p (x ∷ xs) so = elim (or_cases (p x) (list_any p xs) so) [
-  | inl first ↦ ([], x, xs, refl, first)
-  | inr later ↦ let found = passes p xs later in (x ∷ found.0, found.1, found.2, ap (λ l. x ∷ l) found.3, found.4)
-]
+passes p (x ∷ xs) so = elim (or_cases _ _ so) [ inl first ↦ ([], x, xs, refl, first) | inr later ↦ let found = passes p xs later in (x ∷ found.0, found.1, found.2, ap (λ l. x ∷ l) found.3, found.4) ]
 
 pub passes_back : (p : List ℕ → Bool) (before : List (List ℕ)) (x : List ℕ) (after : List (List ℕ)) → p x ≡ true → list_any p (before ++ (x ∷ after)) ≡ true
 passes_back p before x after pass = grind (arith, list_any-append, or-true)
@@ -128,14 +118,14 @@ has_fault x (InvalidByte b) = holds (b ∷ []) x && is_refused_byte b
 
 fault_is : (x : List ℕ) (e : Error) → Decides (has_fault x e) (HasFault x e)
 fault_is x Empty = empty_is x
-fault_is x EmptyComponent = both_are _ _ (Decides-not _ (empty_is x)) (component_is (λ w. w ≡ []) is_empty x empty_is)
+fault_is x EmptyComponent = Decides-and _ _ (Decides-not _ (empty_is x)) (component_is (λ w. w ≡ []) is_empty x empty_is)
 fault_is x StartsWithDot = component_is (BeginsWith (codes ".")) (λ w. starts_with nat_eq w (codes ".")) x (begins_is (codes "."))
 fault_is x LockSuffix = component_is (EndsWith (codes ".lock")) (λ w. ends_with nat_eq w (codes ".lock")) x (ends_with_is (codes ".lock"))
 fault_is x EndsWithDot = ends_with_is (codes ".") x
 fault_is x RepeatedDot = holds_is (codes "..") x
 fault_is x ReflogPortion = holds_is (codes "@{") x
 fault_is x Asterisk = holds_is (codes "*") x
-fault_is x (InvalidByte b) = both_are _ _ (holds_is (b ∷ []) x) ((λ so. so), λ so. so)
+fault_is x (InvalidByte b) = Decides-and _ _ (holds_is (b ∷ []) x) ((λ so. so), λ so. so)
 
 pub faulty : (x : List ℕ) (e : Error) → has_fault x e ≡ true → HasFault x e
 faulty x e = (fault_is x e).0
