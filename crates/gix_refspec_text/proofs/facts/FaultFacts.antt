@@ -1,7 +1,7 @@
 -- The faults of ref names: texts that have them, and similar ones that haven't.
-use Rattle.gix_refspec_text.proofs.Common.{rules, ℕ, ◌==◌, List, [], ◌∷◌, codes, refl, subst, AllByRecursion, slice_split, Error, Empty, EmptyComponent, StartsWithDot, LockSuffix, EndsWithDot}
-use Rattle.gix_refspec_text.proofs.Common.{RepeatedDot, ReflogPortion, Asterisk, InvalidByte, SomeComponent, HasFault, HasStar, slash}
-use Rattle.gix_refspec_text.proofs.{lemmas.texts.ComponentLemmas.AllByRecursion-parts, readers.Texts.{contains, faultless, faulty, holds_not, split_again}}
+use Rattle.gix_refspec_text.proofs.Common.{rules, ℕ, ◌==◌, List, [], ◌∷◌, codes, subst, AllByRecursion, slice_split, Error, Empty, EmptyComponent, StartsWithDot, LockSuffix, EndsWithDot, RepeatedDot}
+use Rattle.gix_refspec_text.proofs.Common.{ReflogPortion, Asterisk, InvalidByte, SomeComponent, HasFault, slash}
+use Rattle.gix_refspec_text.proofs.{lemmas.texts.ComponentLemmas.AllByRecursion-parts, readers.Texts.{faultless, faulty, split_again}}
 pub use Rattle.gix_refspec_text.proofs.readers.Texts.{begins_not}
 
 -- if no word between slashes satisfies P, no component does
@@ -31,7 +31,3 @@ pub no_faults : AllByRecursion (λ p. ¬ (Has p))
     ∷ (codes "a.lock.b/block", LockSuffix) ∷ (codes "a./b", EndsWithDot) ∷ (codes "a.b.c./.d", RepeatedDot)
     ∷ (codes "@a{/{@/@", ReflogPortion) ∷ ([], Asterisk) ∷ (codes "a b", InvalidByte 58) ∷ (codes "a b", InvalidByte 97) ∷ [])
 no_faults = search (rules, faultless)
-
--- a star anywhere, and none
-pub star_faults : HasStar (codes "a*b") × ¬ (HasStar (codes "a+b"))
-star_faults = (contains (codes "*") (codes "a*b") refl, holds_not (codes "*") (codes "a+b") refl)

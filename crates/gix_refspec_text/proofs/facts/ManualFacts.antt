@@ -1,15 +1,15 @@
 -- The definitions of names and refspecs at the examples of git-check-ref-format(1), git-fetch(1) and git-push(1), and
 -- at similar ones on both sides of a boundary, so that a wrong definition fails here.
 use Rattle.gix_refspec_text.proofs.Common.{subst, rules, ◌≡◌, ◌≢◌, ℕ, ◌==◌, true, false, List, [], ◌∷◌, ◌++◌, Option, None, Some, map, length, codes, refl, ap, inl, inr, arith, replicate, list_any}
-use Rattle.gix_refspec_text.proofs.Common.{filter, range_with_len, length-replicate, eqb-false, false≢true, RepeatedDot, Operation, Push, Fetch, is_refused_byte, HasSeveralStars, IsSplit}
-use Rattle.gix_refspec_text.proofs.Common.{ReplacesStar, IsPattern, IsPatternFault, slash, star, letter, plus, caret, Mode, Normal, Forced, Negative, Reading, HasSide, remote_of, local_of, IsSigned}
-use Rattle.gix_refspec_text.proofs.Common.{AreParts, Reads, pushed, fetched, Meaning, push_all_matching, push_delete, push_matching, push_exclude, fetch_and_update, meaning_of, text_of}
-use Rattle.gix_refspec_text.proofs.Common.{PatternUnsupported, PushToEmpty, NegativeWithDestination, ReferenceName, IsBadPattern, NeedsMemory, ReachesMemory, MayNeedMemory, pattern, full_name, object}
-use Rattle.gix_refspec_text.proofs.Common.{partial, HasKind, candidates, Ref, Matches, MatchesAs, same_Some, with_colon}
+use Rattle.gix_refspec_text.proofs.Common.{filter, range_with_len, length-replicate, eqb-false, false≢true, RepeatedDot, Operation, Push, Fetch, is_refused_byte, IsSplit, IsPattern, IsPatternFault}
+use Rattle.gix_refspec_text.proofs.Common.{slash, star, letter, plus, caret, Mode, Normal, Forced, Negative, Reading, HasSide, remote_of, local_of, IsSigned, AreParts, Reads, pushed, fetched, Meaning}
+use Rattle.gix_refspec_text.proofs.Common.{push_all_matching, push_delete, push_matching, push_exclude, fetch_and_update, meaning_of, text_of, PatternUnsupported, PushToEmpty, NegativeWithDestination}
+use Rattle.gix_refspec_text.proofs.Common.{ReferenceName, IsBadPattern, NeedsMemory, ReachesMemory, MayNeedMemory, pattern, full_name, object, partial, HasKind, candidates, Ref, Matches, MatchesAs}
+use Rattle.gix_refspec_text.proofs.Common.{same_Some, with_colon}
 use Rattle.gix_refspec_text.specs.declared.name.PatternError.TheVariants.{Memory}
 use Rattle.gix_refspec_text.proofs.{lemmas.lists.LacksLemmas.Lacks-here, lemmas.parsing.PartsLemmas.parts_once, lemmas.parsing.SideLemmas.HasStar-stars}
 use Rattle.gix_refspec_text.proofs.{lemmas.texts.TestedLemmas.{IsName-tested, is_suspect}, readers.Readings.{bad_for, sign_of, words, parts_of, reaches, reads, is_read, read_by}}
-use Rattle.gix_refspec_text.proofs.{readers.Texts.{begins, contains, differ, holds_not, not_several, replaced, several, unstarred}}
+use Rattle.gix_refspec_text.proofs.readers.Texts.{begins, contains, differ, holds_not, not_several, several, unstarred}
 pub use Rattle.gix_refspec_text.proofs.readers.Texts.{Lacks-tested}
 
 -- a text with a byte isn't empty
@@ -43,11 +43,6 @@ IsSplit-tested before after first last = record { starred = refl; first = Lacks-
 pub IsPattern-tested : (before after : List ℕ) → list_any (λ c. c == star) before ≡ false → list_any (λ c. c == star) after ≡ false → is_suspect slash (before ++ (letter ∷ after)) ≡ false → IsPattern (before ++ (star ∷ after))
 IsPattern-tested before after first last sound =
     record { with_letter = _; replaces = record { before = before; after = after; split = IsSplit-tested before after first last; replaced = refl }; name = IsName-tested _ sound }
-
--- one star may be in a component of a pattern, but not two
-pub one_star : ReplacesStar (codes "foo/bar*/baz") (codes "foo/bara/baz") × ReplacesStar (codes "foo/bar*baz") (codes "foo/barabaz")
-    × ReplacesStar (codes "b*.lock") (codes "ba.lock") × HasSeveralStars (codes "foo/bar*/baz*")
-one_star = search (rules, replaced, several)
 
 -- a text with another first byte has no sign
 pub no_sign : (b : ℕ) (bs : List ℕ) → (b == plus) ≡ false → (b == caret) ≡ false → IsSigned Normal (b ∷ bs) (b ∷ bs)

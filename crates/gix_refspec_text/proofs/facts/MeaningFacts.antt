@@ -1,9 +1,8 @@
 -- Examples for this project's own rules on meanings, canonical texts, order and reasons: where a sign has a meaning,
 -- which text gets another one, and how instructions compare.
-use Rattle.gix_refspec_text.proofs.Common.{arith, List, ◌∷◌, map, Option, Reading, Meaning, ◌≡◌, true, false, [], None, Some, codes, refl, Less, Equal, Greater, Push, Fetch, Normal, Forced, Negative}
+use Rattle.gix_refspec_text.proofs.Common.{List, ◌∷◌, map, Option, Reading, Meaning, ◌≡◌, true, false, [], None, Some, codes, refl, Less, Equal, Greater, Push, Fetch, Normal, Forced, Negative}
 use Rattle.gix_refspec_text.proofs.Common.{fetched, pushed, push_all_matching, push_delete, push_matching, push_exclude, fetch_only, fetch_exclude, fetch_and_update, meaning_of, text_of, printed}
-use Rattle.gix_refspec_text.proofs.Common.{all_tags, order, is_same, Refusal, NegativeWithDestination, PushToEmpty, PatternUnbalanced, NegativeEmpty, NegativeObjectHash, meant_for, IsShownAs, Empty}
-use Rattle.gix_refspec_text.specs.declared.parsing.Error.TheVariants as error
+use Rattle.gix_refspec_text.proofs.Common.{all_tags, order, is_same, meant_for}
 
 abbrev pub meanings : List (Reading × Option Meaning)
 meanings =
@@ -63,11 +62,3 @@ pub fields_rise :
     × (is_same (fetch_only (codes "a")) (fetch_exclude (codes "a")) ≡ false) × (is_same (push_exclude (codes "a")) (fetch_exclude (codes "a")) ≡ false)
     × (is_same (fetch_only (codes "a")) (fetch_only (codes "a")) ≡ true)
 fields_rise = (refl, refl, refl, refl, refl, refl, refl, refl, refl, refl, refl, refl, refl, refl, refl)
-
-pub reasons :
-    -- each error without a field is the reason of its name
-    IsShownAs error.Empty Empty × IsShownAs error.NegativeWithDestination NegativeWithDestination × IsShownAs error.PushToEmpty PushToEmpty
-    × IsShownAs error.PatternUnbalanced PatternUnbalanced × IsShownAs error.NegativeEmpty NegativeEmpty × IsShownAs error.NegativeObjectHash NegativeObjectHash
-    -- the three variants that are kept for callers are not reasons, nor is `Memory`
-    × ((f : Refusal) → ¬ (IsShownAs error.NegativePartialName f) × ¬ (IsShownAs error.NegativeGlobPattern f) × ¬ (IsShownAs error.InvalidFetchDestination f) × ¬ (IsShownAs error.Memory f))
-reasons = search (arith)

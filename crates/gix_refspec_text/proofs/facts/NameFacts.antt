@@ -1,10 +1,10 @@
 -- Texts that are names and patterns, and texts that are not, by git-check-ref-format(1): for each of its
 -- rules a text that breaks it, and one that just doesn't.
-use Rattle.gix_refspec_text.proofs.Common.{rules, map, ◌≡◌, [], ◌∷◌, codes, refl, arith, AllByRecursion, Error, EmptyComponent, StartsWithDot, LockSuffix, ArePartsAt, slash, IsName, IsPattern}
-use Rattle.gix_refspec_text.proofs.Common.{IsPatternFault, ReferenceName, with_letters, IsStarCount, IsCalm, lowest_of}
+use Rattle.gix_refspec_text.proofs.Common.{ReplacesStar, HasSeveralStars, HasStar, rules, map, ◌≡◌, [], ◌∷◌, codes, refl, arith, AllByRecursion, Error, EmptyComponent, StartsWithDot, LockSuffix}
+use Rattle.gix_refspec_text.proofs.Common.{ArePartsAt, slash, IsName, IsPattern, IsPatternFault, ReferenceName, with_letters, IsStarCount, IsCalm, lowest_of}
 use Rattle.gix_refspec_text.specs.declared.name.PatternError.TheVariants.{Name}
 use Rattle.gix_refspec_text.proofs.{lemmas.lists.LacksLemmas.Lacks-here, lemmas.parsing.SideLemmas.pattern_fine, lemmas.texts.TestedLemmas.IsName-tested}
-use Rattle.gix_refspec_text.proofs.{readers.Texts.{Lacks-tested, a_pattern, no_name, no_pattern, pattern_fault, unfit}}
+use Rattle.gix_refspec_text.proofs.readers.Texts.{replaced, several, contains, holds_not, Lacks-tested, a_pattern, no_name, no_pattern, pattern_fault, unfit}
 use lib.Count.{count_trailing_zeros}
 
 pub names_close_to_faults : AllByRecursion IsName
@@ -39,7 +39,11 @@ no_patterns = search (rules, pattern_fault, unfit, no_pattern, λ (e : Error). p
 pub scans :
     -- each star becomes a letter, and other bytes stay
     (with_letters (codes "b*c*") ≡ codes "baca") × (with_letters (codes "b+c") ≡ codes "b+c")
-    -- only stars are counted, and each of them
+    -- one star may be in a component of a pattern, but not two
+    × ReplacesStar (codes "foo/bar*/baz") (codes "foo/bara/baz") × ReplacesStar (codes "foo/bar*baz") (codes "foo/barabaz") × ReplacesStar (codes "b*.lock") (codes "ba.lock")
+    × HasSeveralStars (codes "foo/bar*/baz*")
+    -- a star anywhere, and none; only stars are counted, and each of them
+    × HasStar (codes "a*b") × ¬ (HasStar (codes "a+b"))
     × IsStarCount (codes "b*c*") 2 × IsStarCount (codes "b+c") 0 × ¬ (IsStarCount (codes "*b") 2) × ¬ (IsStarCount (codes "**") 1)
     -- a letter after a slash is calm, and a slash after a letter; but no slash after a slash or a `k`, and no dot
     × IsCalm 47 97 × IsCalm 97 47 × ¬ (IsCalm 47 47) × ¬ (IsCalm 107 47) × ¬ (IsCalm 97 46)
@@ -49,4 +53,4 @@ pub scans :
     -- the lowest set bit, and a mask without one
     × (map (lowest_of 16) (8 ∷ 12 ∷ 1 ∷ 0 ∷ []) ≡ 3 ∷ 2 ∷ 0 ∷ 16 ∷ [])
 unfolding count_trailing_zeros
-scans = search (rules, arith, Lacks-here, Lacks-tested)
+scans = search (rules, arith, Lacks-here, Lacks-tested, replaced, several, contains, holds_not)

@@ -5,7 +5,7 @@ use Rattle.gix_refspec_text.proofs.Common.{HasPrefix, IsExpansion, same_Some}
 use Rattle.gix_refspec_text.proofs.{facts.CoveringFacts.{below_heads, no_bare_prefix}, facts.FaultFacts.begins_not, facts.ObjectIdFacts.{IsIdText-empty_blob, empty_blob}, readers.Texts.differ}
 use Rattle.gix_refspec_text.proofs.{lemmas.hits.MatchLemmas.outside_none, lemmas.lists.LacksLemmas.Lacks-here, lemmas.prefixes.OnePrefixLemmas.one_prefix}
 use Rattle.gix_refspec_text.proofs.{lemmas.prefixes.PrefixLemmas.{no_prefix, starred_no_id}, facts.ManualFacts.{IsSplit-tested, Lacks-tested, none_some, other_length}}
-use Rattle.gix_refspec_text.proofs.{facts.FitFacts.{blob_kind, every, no_dev, other_byte, short_kind, split_at_end}}
+use Rattle.gix_refspec_text.proofs.facts.FitFacts.{blob_kind, every, no_dev, other_byte, short_kind, split_at_end}
 
 -- the text before a star is a prefix if it begins with `refs/` and is longer, and no bracket is on either side
 pub tells : IsRefPrefix (codes "refs/a") (codes "/b") × ((after : List ℕ) → ¬ (IsRefPrefix (codes "refs/") after) × ¬ (IsRefPrefix (codes "heads/") after) × ¬ (IsRefPrefix (codes "refs/a]") after)) × ¬ (IsRefPrefix (codes "refs/a") (codes "/]"))
@@ -68,8 +68,6 @@ pub asked :
     -- a reading has the prefix of its side on the remote, and a negative one has none
     × HasPrefix every (codes "refs/heads/") × HasPrefix (pushed Normal (Some (codes "refs/x/a")) (Some (codes "HEAD"))) (codes "HEAD")
     × ((p : List ℕ) → ¬ (HasPrefix (fetched Negative (codes "HEAD") None) p) × ¬ (HasPrefix (pushed Normal (Some (codes "HEAD")) (Some (codes "main"))) p))
-asked = search (arith, other_byte, same_Some, none_some, below_heads, whole_prefixes, other_prefixes)
-
--- a negative reading, or one without a side on the remote, is expanded to nothing; a fetch of `HEAD` isn't
-pub expansions : IsExpansion (pushed Normal (Some (codes "a")) None) [] × IsExpansion no_dev [] × ¬ (IsExpansion (fetched Normal (codes "HEAD") None) []) × ¬ (IsExpansion no_dev (codes "refs/heads/dev-" ∷ []))
-expansions = search (arith, asked, same_Some, one_prefix, expansions_below)
+    -- a negative reading, or one without a side on the remote, is expanded to nothing; a fetch of `HEAD` isn't
+    × IsExpansion (pushed Normal (Some (codes "a")) None) [] × IsExpansion no_dev [] × ¬ (IsExpansion (fetched Normal (codes "HEAD") None) []) × ¬ (IsExpansion no_dev (codes "refs/heads/dev-" ∷ []))
+asked = search (arith, other_byte, same_Some, none_some, below_heads, whole_prefixes, other_prefixes, one_prefix, expansions_below)

@@ -1,14 +1,14 @@
 -- The reasons to refuse a text, each with parts that it applies to, and similar parts that it doesn't apply to.
-use Rattle.gix_refspec_text.proofs.Common.{HasFault, rules, ◌≡◌, ℕ, List, [], Option, None, Some, codes, refl, sym, subst, arith, replicate, false≢true, LockSuffix, RepeatedDot, Asterisk, NoName}
-use Rattle.gix_refspec_text.proofs.Common.{Operation, Push, Fetch, IsName, HasOneStar, IsSplit, IsPatternFault, letter, Normal, Forced, Negative, Refusal, NegativeWithDestination, PushToEmpty}
+use Rattle.gix_refspec_text.proofs.Common.{rules, ◌≡◌, ℕ, List, [], Option, None, Some, codes, refl, sym, subst, arith, replicate, false≢true, LockSuffix, RepeatedDot, Asterisk, NoName, Operation}
+use Rattle.gix_refspec_text.proofs.Common.{Push, Fetch, IsName, HasOneStar, IsSplit, IsPatternFault, letter, Normal, Forced, Negative, Refusal, NegativeWithDestination, PushToEmpty}
 use Rattle.gix_refspec_text.proofs.Common.{PatternUnsupported, ReferenceName, PatternUnbalanced, NegativeEmpty, NegativeObjectHash, IsBadName, IsBadPattern, IsEmptyPush, HasNegativeDestination}
 use Rattle.gix_refspec_text.proofs.Common.{PushesNowhere, IsBadSourceFor, HasBadSource, HasBadDestination, IsOneStarred, IsUnbalanced, ExcludesNothing, ExcludesObject, Never, OrElse, IsFirstReason}
 use Rattle.gix_refspec_text.proofs.Common.{same_Some, Plain, Empty}
 use Rattle.gix_refspec_text.specs.declared.name.PatternError.TheVariants.{Name}
-use Rattle.gix_refspec_text.proofs.{facts.RefusalFacts.normal_positive, lemmas.lists.LacksLemmas.Lacks-here, lemmas.parsing.SideLemmas.name_not_bad, lemmas.parsing.ReasonLemmas.{reason_against_nothing, reason_against_object}}
-use Rattle.gix_refspec_text.proofs.{lemmas.texts.LetterLemmas.HasOneStar-count_by, facts.ManualFacts.{IsSplit-tested, full, none_some, some_none}}
-use Rattle.gix_refspec_text.proofs.{readers.Readings.{a_hash, no_hash, bad_end, bad_for}}
-use Rattle.gix_refspec_text.proofs.{readers.Texts.{Lacks-tested, faulty, contains, holds_not, not_one_star, not_several, pattern_fault, pattern_faultless, unstarred}}
+use Rattle.gix_refspec_text.proofs.{facts.RefusalFacts.normal_positive, lemmas.lists.LacksLemmas.Lacks-here, lemmas.parsing.SideLemmas.name_not_bad}
+use Rattle.gix_refspec_text.proofs.{lemmas.parsing.ReasonLemmas.{reason_against_nothing, reason_against_object}, lemmas.texts.LetterLemmas.HasOneStar-count_by}
+use Rattle.gix_refspec_text.proofs.{facts.ManualFacts.{IsSplit-tested, full, none_some, some_none}, readers.Readings.{a_hash, no_hash, bad_end, bad_for}}
+use Rattle.gix_refspec_text.proofs.readers.Texts.{Lacks-tested, faulty, contains, holds_not, not_one_star, not_several, pattern_fault, pattern_faultless, unstarred}
 
 -- a text with exactly one star, and texts without one and with two
 pub one_star_alone : HasOneStar (codes "a*b") × IsSplit (codes "a") (codes "b") (codes "a*b") × ¬ (HasOneStar (codes "ab")) × ¬ (HasOneStar (codes "a*b*")) × ¬ (HasOneStar (codes "b"))
@@ -24,10 +24,17 @@ pub bad_patterns :
     -- a bad name has a fault of its own, and a text with a star isn't a bad name
     × IsBadName (codes "a..b") (ReferenceName RepeatedDot) × ¬ (IsBadName (codes "a..b") (ReferenceName NoName)) × ¬ (IsBadName (codes "a*..b") (ReferenceName RepeatedDot))
     × ¬ (IsBadName (codes "a..b") PatternUnbalanced)
-bad_patterns = search (rules, pattern_fault, pattern_faultless, not_several (codes "b*.lock") refl, unstarred (codes "b.lock") (ReferenceName LockSuffix), Lacks-tested, dots, full, Lacks-here)
-  where
-    dots : HasFault (codes "a..b") RepeatedDot
-    dots = faulty (codes "a..b") RepeatedDot refl
+bad_patterns = search (
+  rules,
+  pattern_fault,
+  pattern_faultless,
+  not_several (codes "b*.lock") refl,
+  unstarred (codes "b.lock") (ReferenceName LockSuffix),
+  Lacks-tested,
+  full,
+  Lacks-here,
+  faulty (codes "a..b") RepeatedDot refl,
+)
 
 pub at_signs_and_colons :
     -- a push of a source, or of a colon, isn't empty
@@ -67,6 +74,9 @@ pub balances :
     -- a push of `a*:b` is unbalanced, and so is one of `+:b*`, but not one of `a*:`
     × IsUnbalanced Push Normal (codes "a*") (Some (codes "b")) PatternUnbalanced × IsUnbalanced Push Forced [] (Some (codes "b*")) PatternUnbalanced
     × ((e : Refusal) → ¬ (IsUnbalanced Push Normal (codes "a*") (Some []) e)) × ¬ (IsUnbalanced Push Normal (codes "a*") (Some (codes "b")) NegativeEmpty)
+    -- a source alone with a star is unbalanced in a fetch, but not in a push, nor is a negative spec
+    × IsUnbalanced Fetch Normal (codes "a*") None PatternUnbalanced
+    × ((e : Refusal) → ¬ (IsUnbalanced Push Normal (codes "a*") None e) × ¬ (IsUnbalanced Fetch Negative (codes "a*") None e))
 balances = search (arith, contains, holds_not, Lacks-tested, Lacks-here, full)
 
 pub excludes_nothing :

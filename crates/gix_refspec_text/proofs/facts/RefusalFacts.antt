@@ -1,7 +1,7 @@
 -- The order of refusals: texts with two reasons, of which the first in the order is returned, and the other isn't.
 use Rattle.gix_refspec_text.proofs.Common.{rules, ◌≢◌, ℕ, List, [], Option, None, Some, codes, arith, LockSuffix, Operation, Push, Fetch, Normal, IsFirstReason, Mode, Empty, Forced, Negative, Refusal}
-use Rattle.gix_refspec_text.proofs.Common.{NegativeWithDestination, PushToEmpty, PatternUnsupported, ReferenceName, PatternUnbalanced, IsEmptyPush, IsUnbalanced, IsSameReason}
-use Rattle.gix_refspec_text.proofs.{facts.ManualFacts.full, lemmas.parsing.RefusalLemmas.Agree-first, readers.Readings.{at_destination, at_source}, readers.Texts.{contains, differ}}
+use Rattle.gix_refspec_text.proofs.Common.{NegativeWithDestination, PushToEmpty, PatternUnsupported, ReferenceName, PatternUnbalanced, IsEmptyPush, IsSameReason}
+use Rattle.gix_refspec_text.proofs.{facts.ManualFacts.full, lemmas.parsing.RefusalLemmas.Agree-first, readers.Readings.{at_destination, at_source}, readers.Texts.differ}
 
 pub normal_positive : Normal ≢ Negative
 normal_positive same = cc
@@ -28,7 +28,3 @@ source_before_destination = (search (rules, at_source), other_reason _ _ _ _ (Pa
 -- fetch `a:b*.lock`
 pub not_unbalanced : IsFirstReason Fetch Normal (codes "a") (Some (codes "b*.lock")) (ReferenceName LockSuffix) × ¬ (IsFirstReason Fetch Normal (codes "a") (Some (codes "b*.lock")) PatternUnbalanced)
 not_unbalanced = (search (rules, at_destination), other_reason _ _ _ _ (ReferenceName LockSuffix) _ (search (rules, at_destination)) (search arith))
-
--- a source alone with a star is unbalanced in a fetch, but not in a push, nor is a negative spec
-pub unbalanced : IsUnbalanced Fetch Normal (codes "a*") None PatternUnbalanced × ((e : Refusal) → ¬ (IsUnbalanced Push Normal (codes "a*") None e)) × ((e : Refusal) → ¬ (IsUnbalanced Fetch Negative (codes "a*") None e))
-unbalanced = search (arith, contains)

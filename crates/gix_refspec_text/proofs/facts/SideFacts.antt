@@ -6,7 +6,7 @@ use Rattle.gix_refspec_text.specs.{Matching.Side.written_name_of, Laws.Sides.{Si
 use Rattle.gix_refspec_text.proofs.{facts.FaultFacts.begins_not, facts.ReasonFacts.one_star_alone, readers.Texts.{differ, passes, passes_back}}
 use Rattle.gix_refspec_text.proofs.{lemmas.hits.MatchLemmas.{has_candidates, lacks_no_pattern}, lemmas.lists.LacksLemmas.Lacks-here, lemmas.texts.TextLemmas.one_not_two}
 use Rattle.gix_refspec_text.proofs.{facts.ManualFacts.{IsSplit-tested, Lacks-tested, named, other_length}, facts.ObjectIdFacts.{lower_of-empty_blob, IsIdText-empty_blob, IsIdText-others, empty_blob}}
-use Rattle.gix_refspec_text.proofs.{facts.FitFacts.{blob_kind, every, heads_split, origin_split, other_byte, short, short_kind, short_no_id}}
+use Rattle.gix_refspec_text.proofs.facts.FitFacts.{blob_kind, every, heads_split, origin_split, other_byte, short, short_kind, short_no_id}
 
 pub kinds :
     -- the text of an id is in either case, and a short word isn't an id

@@ -1,11 +1,11 @@
 -- For each condition of the forms a text that breaks it, with the reason to refuse it, so that it has no reading; and
 -- readings that no text has.
-use Rattle.gix_refspec_text.proofs.Common.{Plain, IsFirstReason, rules, ◌≡◌, [], ◌∷◌, None, Some, codes, refl, sym, ◌∙◌, inl, replicate, Operation, Push, Fetch, star, letter, caret, Normal, Forced, Negative, Reading}
-use Rattle.gix_refspec_text.proofs.Common.{fetched, pushed, Reads, IsAccepted, StartsWithDot, InvalidByte, printed, NegativeWithDestination, PushToEmpty, PatternUnsupported, ReferenceName}
+use Rattle.gix_refspec_text.proofs.Common.{Plain, rules, ◌≡◌, [], ◌∷◌, None, Some, codes, refl, sym, ◌∙◌, inl, replicate, Operation, Push, Fetch, star, letter, caret, Normal, Forced, Negative}
+use Rattle.gix_refspec_text.proofs.Common.{Reading, fetched, pushed, Reads, IsAccepted, StartsWithDot, InvalidByte, printed, NegativeWithDestination, PushToEmpty, PatternUnsupported, ReferenceName}
 use Rattle.gix_refspec_text.proofs.Common.{PatternUnbalanced, NegativeEmpty, NegativeObjectHash, IsRefused, Empty}
-use Rattle.gix_refspec_text.proofs.{facts.ManualFacts.{full, none_some}, lemmas.parsing.ReasonLemmas.{reason_against_nothing, reason_against_object}, lemmas.texts.TestedLemmas.IsName-tested, facts.RefusalFacts.empty_push, lemmas.parsing.SideLemmas.HasStar-pattern, lemmas.specs.AcceptedLemmas.accepted_balanced}
-use Rattle.gix_refspec_text.proofs.{lemmas.specs.FormsBackLemmas.read_back, readers.Texts.{Lacks-tested, a_pattern}}
-use Rattle.gix_refspec_text.proofs.{readers.Readings.{at_balance, at_destination, at_source, because, a_hash, negative_with, reads, to_nothing}}
+use Rattle.gix_refspec_text.proofs.{facts.ManualFacts.{full, none_some}, lemmas.parsing.ReasonLemmas.{reason_against_nothing, reason_against_object}, lemmas.texts.TestedLemmas.IsName-tested}
+use Rattle.gix_refspec_text.proofs.{facts.RefusalFacts.empty_push, lemmas.parsing.SideLemmas.HasStar-pattern, lemmas.specs.AcceptedLemmas.accepted_balanced, lemmas.specs.FormsBackLemmas.read_back}
+use Rattle.gix_refspec_text.proofs.{readers.Texts.{Lacks-tested, a_pattern}, readers.Readings.{at_balance, at_destination, at_source, because, a_hash, negative_with, reads, to_nothing}}
 
 -- the empty push
 pub nothing_pushed : IsRefused Push [] Empty
@@ -15,10 +15,7 @@ nothing_pushed = because empty_push.0
 pub bad_negatives : (op : Operation) → IsRefused op (codes "^a:b") NegativeWithDestination × IsRefused op (codes "^:") NegativeWithDestination × IsRefused op (codes "^a:") NegativeWithDestination
     × IsRefused op (codes "^") NegativeEmpty × IsRefused op (caret ∷ replicate 40 letter) NegativeObjectHash
     × IsRefused op (codes "^a b") (ReferenceName (InvalidByte 32)) × IsRefused op (codes "^^a") (ReferenceName (InvalidByte 94))
-bad_negatives op = search (rules, because, negative_with, at_source, reason_against_nothing op [] Plain refl tt, no_object)
-  where
-    no_object : IsFirstReason op Negative (replicate 40 letter) None NegativeObjectHash
-    no_object = reason_against_object op (replicate 40 letter) Plain (full _ _) (IsName-tested (replicate 40 letter) refl) (a_hash (replicate 40 letter) refl)
+bad_negatives op = search (rules, because, negative_with, at_source, reason_against_nothing op [] Plain refl tt, reason_against_object op (replicate 40 letter) Plain (full _ _), IsName-tested, a_hash)
 
 -- a source that isn't a name in a fetch, whatever else the text says
 pub bad_sources : IsRefused Fetch (codes "a b") (ReferenceName (InvalidByte 32)) × IsRefused Fetch (codes "main~2:x") (ReferenceName (InvalidByte 126)) × IsRefused Fetch (codes ":/message:x") (ReferenceName (InvalidByte 58))

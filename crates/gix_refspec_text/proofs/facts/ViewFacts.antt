@@ -1,9 +1,10 @@
 -- Refspecs, instructions, reasons and ids as contracts see them, at values whose fields differ, so that no field is
 -- lost or taken for another. That some text reads as a spec is a premise.
-use Rattle.gix_refspec_text.proofs.Common.{Option, ◌≡◌, ◌≢◌, ℕ, List, [], ◌∷◌, ◌++◌, None, Some, true, false, map, get_or, replicate, option_map, codes, refl, sym, ap, ◌∙◌, inl, arith, bstring_bytes}
-use Rattle.gix_refspec_text.proofs.Common.{LockSuffix, RepeatedDot, Sha1, ObjectId, Operation, Push, Fetch, Normal, Forced, Negative, fetched, pushed, fetch_only, meaning_of, text_of, WritesPrinted}
-use Rattle.gix_refspec_text.proofs.Common.{keys, NegativeWithDestination, PushToEmpty, PatternUnsupported, ReferenceName, PatternUnbalanced, NegativeEmpty, NegativeObjectHash, IsFirstReason}
-use Rattle.gix_refspec_text.proofs.Common.{reading_of, owned_reading_of, key_of_spec, key_of_owned, meaning_of_instruction, meant_for, IsShownAs, ShowsRefusal, AppendsExpansion, to_prefix, Empty}
+use Rattle.gix_refspec_text.proofs.Common.{Refusal, Option, ◌≡◌, ◌≢◌, ℕ, List, [], ◌∷◌, ◌++◌, None, Some, true, false, map, get_or, replicate, option_map, codes, refl, sym, ap, ◌∙◌, inl, arith}
+use Rattle.gix_refspec_text.proofs.Common.{bstring_bytes, LockSuffix, RepeatedDot, Sha1, ObjectId, Operation, Push, Fetch, Normal, Forced, Negative, fetched, pushed, fetch_only, meaning_of, text_of}
+use Rattle.gix_refspec_text.proofs.Common.{WritesPrinted, keys, NegativeWithDestination, PushToEmpty, PatternUnsupported, ReferenceName, PatternUnbalanced, NegativeEmpty, NegativeObjectHash}
+use Rattle.gix_refspec_text.proofs.Common.{IsFirstReason, reading_of, owned_reading_of, key_of_spec, key_of_owned, meaning_of_instruction, meant_for, IsShownAs, ShowsRefusal, AppendsExpansion}
+use Rattle.gix_refspec_text.proofs.Common.{to_prefix, Empty}
 use Rattle.bstr.{specs.declared.bstr.BStr.BStr, specs.declared.bstring.BString.BString}
 use Rattle.gix_refspec_text.specs.{declared.spec.RefSpec.{RefSpec, accepted-type as owned-type}, declared.spec.RefSpecRef.{RefSpecRef, accepted-type}, declared.types.Instruction.Instruction}
 use Rattle.gix_refspec_text.specs.{declared.types.Mode.Mode, Views.Errors.IsSameError}
@@ -96,6 +97,11 @@ pub errors : (p : BString) →
     -- the error of a side with two stars has its whole text, and that of a bad name its fault
     (bstring_bytes p ≡ codes "a*b*" → IsShownAs (error.PatternUnsupported p) (PatternUnsupported (codes "a*b*")) × ¬ (IsShownAs (error.PatternUnsupported p) (PatternUnsupported (codes "a*b"))))
     × IsShownAs (error.ReferenceName LockSuffix) (ReferenceName LockSuffix) × ¬ (IsShownAs (error.ReferenceName LockSuffix) (ReferenceName RepeatedDot))
+    -- each error without a field is the reason of its name
+    × IsShownAs error.Empty Empty × IsShownAs error.NegativeWithDestination NegativeWithDestination × IsShownAs error.PushToEmpty PushToEmpty
+    × IsShownAs error.PatternUnbalanced PatternUnbalanced × IsShownAs error.NegativeEmpty NegativeEmpty × IsShownAs error.NegativeObjectHash NegativeObjectHash
+    -- the three variants that are kept for callers are not reasons, nor is `Memory`
+    × ((f : Refusal) → ¬ (IsShownAs error.NegativePartialName f) × ¬ (IsShownAs error.NegativeGlobPattern f) × ¬ (IsShownAs error.InvalidFetchDestination f) × ¬ (IsShownAs error.Memory f))
     -- an error doesn't stand for the reason of another
     × ¬ (IsShownAs error.Empty NegativeEmpty) × ¬ (IsShownAs error.NegativeEmpty Empty) × ¬ (IsShownAs error.NegativeWithDestination NegativeObjectHash)
     × ¬ (IsShownAs error.NegativeObjectHash NegativeWithDestination) × ¬ (IsShownAs error.PushToEmpty Empty)

@@ -7,9 +7,9 @@ use Rattle.gix_refspec_text.proofs.Common.{ap, bytes_eq, bytes_eq-Decides, Readi
 use Rattle.gix_refspec_text.proofs.Common.{fetched, pushed, HasShape, or_cases, HasCheckedShape, NoReasonBeforeSource, HasBadDestination, HasBadSource, Never, IsFirstReason, PatternUnbalanced}
 use Rattle.gix_refspec_text.proofs.Common.{IsBadSourceFor, Shape, is_some, IsPositive, NegativeWithDestination, PushToEmpty}
 use Rattle.gix_refspec_text.proofs.{lemmas.parsing.ReadOnceLemmas.reads_once, lemmas.texts.TestedLemmas.{IsName-tested, is_suspect}}
-use Rattle.gix_refspec_text.proofs.{readers.Texts.{Lacks-tested, differ, a_pattern, faulty, is_bad, pattern_fault, several, is_empty, is_pattern, not_true}}
-use Rattle.gix_refspec_text.proofs.{lemmas.parsing.ReadsLemmas.{fetch_reads, negative_reads, push_alone_reads, push_reads, refused}}
-use Rattle.gix_refspec_text.proofs.{lemmas.parsing.ReasonLemmas.{alone_fine, bad_destination, fetch_source_fine, no_negative, push_source_fine, reason_at_destination, reason_at_source, unbalanced_fetch, unbalanced_push}}
+use Rattle.gix_refspec_text.proofs.readers.Texts.{Lacks-tested, differ, a_pattern, faulty, is_bad, pattern_fault, several, is_empty, is_pattern, not_true}
+use Rattle.gix_refspec_text.proofs.lemmas.parsing.ReadsLemmas.{fetch_reads, negative_reads, push_alone_reads, push_reads, refused}
+use Rattle.gix_refspec_text.proofs.lemmas.parsing.ReasonLemmas.{alone_fine, bad_destination, fetch_source_fine, no_negative, push_source_fine, reason_at_destination, reason_at_source, unbalanced_fetch, unbalanced_push}
 
 -- the sign of a text, and what follows it
 abbrev pub sign_of : List ℕ → Mode
