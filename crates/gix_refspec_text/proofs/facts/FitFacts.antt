@@ -1,7 +1,7 @@
 -- The definitions on sides of specs, and the readings and names that other examples use.
-use Rattle.gix_refspec_text.proofs.Common.{rules, ◌≡◌, ◌≢◌, ℕ, zero, suc, ◌==◌, false, List, [], ◌∷◌, ◌++◌, None, Some, length, get_or, codes, refl, ap, ◌∙◌, subst, arith, AllByRecursion, Contains}
-use Rattle.gix_refspec_text.proofs.Common.{list_any, length-append, Fetch, Push, BeginsWith, IsSplit, star, IsIdText, Normal, Forced, Negative, Reading, fetched, full_name, object, partial, HasKind}
-use Rattle.gix_refspec_text.proofs.Common.{Fits, Excludes, the_name, by_pattern, Ref}
+use Rattle.gix_refspec_text.proofs.Common.{rules, ◌≡◌, ◌≢◌, ℕ, zero, suc, ◌==◌, false, List, [], ◌∷◌, ◌++◌, None, Some, length, get_or, codes, refl, ap, ◌∙◌, subst, arith, AllByRecursion, Contains, list_any}
+use Rattle.gix_refspec_text.proofs.Common.{length-append, Fetch, Push, BeginsWith, IsSplit, star, IsIdText, Normal, Forced, Negative, Reading, fetched, full_name, object, partial, HasKind, Fits, Excludes}
+use Rattle.gix_refspec_text.proofs.Common.{the_name, by_pattern, Ref}
 use Rattle.gix_refspec_text.proofs.{facts.ManualFacts.{Lacks-tested, named}, readers.Texts.differ, lemmas.hits.MatchLemmas.{lacks_no_pattern, split_once}, lemmas.lists.LacksLemmas.Lacks-here}
 use Rattle.gix_refspec_text.proofs.{lemmas.texts.ObjectIdLemmas.no_kind, facts.ObjectIdFacts.{IsIdText-empty_blob, empty_blob}}
 
@@ -42,8 +42,7 @@ pub excludes_no_main : ¬ (Excludes (codes "refs/heads/dev-*") (codes "refs/head
 excludes_no_main (the_name lacks same) = Lacks-here star (codes "refs/heads/dev-") [] lacks
 excludes_no_main (by_pattern before after word split fits) =
     let once = split_once (codes "refs/heads/dev-*") before after (codes "refs/heads/dev-") [] split (split_at_end (codes "refs/heads/dev-") refl) in
-    let here : codes "refs/heads/main" ≡ codes "refs/heads/dev-" ++ (word ++ after) = fits ∙ ap (λ (y : List ℕ). y ++ (word ++ after)) once.0 in
-    other_byte 11 (codes "refs/heads/main") (codes "refs/heads/dev-" ++ (word ++ after)) (λ same. omega (arith, same)) here
+    other_byte 11 (codes "refs/heads/main") (codes "refs/heads/dev-" ++ (word ++ after)) (λ same. omega (arith, same)) (fits ∙ ap (λ (y : List ℕ). y ++ (word ++ after)) once.0)
 
 -- what `git clone` writes, and an exclusion of git-fetch(1)
 abbrev pub every : Reading

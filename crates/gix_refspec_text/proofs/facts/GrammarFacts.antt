@@ -1,8 +1,8 @@
 -- The definitions of the grammar, and each of its thirteen forms at texts like those of git-fetch(1) and git-push(1), with `+` and without.
-use Rattle.gix_refspec_text.proofs.Common.{rules, map, ◌≡◌, [], ◌∷◌, ◌++◌, None, Some, codes, refl, arith, replicate, Push, Fetch, letter, caret, Normal, Forced, Negative, IsUnsigned, IsSigned}
-use Rattle.gix_refspec_text.proofs.Common.{with_colon, LastLacksColon, AreParts, IsPositive, named_by, LooksLikeObjectHash, IsNameOrPattern, AreAlike, fetched, pushed, Reads}
-use Rattle.gix_refspec_text.proofs.{facts.ManualFacts.no_sign, lemmas.lists.LacksLemmas.Lacks-here, lemmas.texts.TestedLemmas.IsName-tested}
-use Rattle.gix_refspec_text.proofs.{readers.Readings.{a_hash, no_hash, no_other, parts_of, reads}, readers.Texts.{Lacks-tested, a_pattern, differ, no_name, no_pattern}}
+use Rattle.gix_refspec_text.proofs.Common.{rules, map, ◌≡◌, [], ◌∷◌, ◌++◌, None, Some, codes, refl, arith, replicate, Push, Fetch, letter, caret, Normal, Forced, Negative, IsUnsigned, IsSigned, with_colon}
+use Rattle.gix_refspec_text.proofs.Common.{LastLacksColon, AreParts, IsPositive, named_by, LooksLikeObjectHash, IsNameOrPattern, AreAlike, fetched, pushed, Reads}
+use Rattle.gix_refspec_text.proofs.{facts.ManualFacts.no_sign, lemmas.lists.LacksLemmas.Lacks-here, lemmas.texts.TestedLemmas.IsName-tested, readers.Readings.{a_hash, no_hash, no_other, parts_of, reads}}
+use Rattle.gix_refspec_text.proofs.readers.Texts.{Lacks-tested, a_pattern, differ, no_name, no_pattern}
 
 pub signs :
     -- `+` and `^` are signs only as the first byte

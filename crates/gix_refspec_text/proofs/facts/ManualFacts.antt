@@ -1,15 +1,13 @@
 -- The definitions of names and refspecs at the examples of git-check-ref-format(1), git-fetch(1) and git-push(1), and
 -- at similar ones on both sides of a boundary, so that a wrong definition fails here.
-use Rattle.gix_refspec_text.proofs.Common.{subst, rules, ◌≡◌, ◌≢◌, ℕ, ◌==◌, true, false, List, [], ◌∷◌, ◌++◌, Option, None, Some, map, length, codes, refl, ap, inl, inr, arith, replicate, list_any}
-use Rattle.gix_refspec_text.proofs.Common.{filter, range_with_len, length-replicate, eqb-false, false≢true, RepeatedDot, Operation, Push, Fetch, is_refused_byte, IsSplit, IsPattern, IsPatternFault}
-use Rattle.gix_refspec_text.proofs.Common.{slash, star, letter, plus, caret, Mode, Normal, Forced, Negative, Reading, HasSide, remote_of, local_of, IsSigned, AreParts, Reads, pushed, fetched, Meaning}
-use Rattle.gix_refspec_text.proofs.Common.{push_all_matching, push_delete, push_matching, push_exclude, fetch_and_update, meaning_of, text_of, PatternUnsupported, PushToEmpty, NegativeWithDestination}
-use Rattle.gix_refspec_text.proofs.Common.{ReferenceName, IsBadPattern, NeedsMemory, ReachesMemory, MayNeedMemory, pattern, full_name, object, partial, HasKind, candidates, Ref, Matches, MatchesAs}
-use Rattle.gix_refspec_text.proofs.Common.{same_Some, with_colon}
+use Rattle.gix_refspec_text.proofs.Common.{subst, rules, ◌≡◌, ◌≢◌, ℕ, ◌==◌, true, false, List, [], ◌∷◌, ◌++◌, Option, None, Some, map, length, codes, refl, ap, inl, inr, arith, replicate, list_any, filter}
+use Rattle.gix_refspec_text.proofs.Common.{range_with_len, length-replicate, eqb-false, false≢true, RepeatedDot, Operation, Push, Fetch, is_refused_byte, IsSplit, IsPattern, IsPatternFault, slash, star, letter}
+use Rattle.gix_refspec_text.proofs.Common.{plus, caret, Mode, Normal, Forced, Negative, Reading, HasSide, remote_of, local_of, IsSigned, AreParts, Reads, pushed, fetched, Meaning, push_all_matching}
+use Rattle.gix_refspec_text.proofs.Common.{push_delete, push_matching, push_exclude, fetch_and_update, meaning_of, text_of, PatternUnsupported, PushToEmpty, NegativeWithDestination, ReferenceName, IsBadPattern}
+use Rattle.gix_refspec_text.proofs.Common.{NeedsMemory, ReachesMemory, MayNeedMemory, pattern, full_name, object, partial, HasKind, candidates, Ref, Matches, MatchesAs, same_Some, with_colon}
 use Rattle.gix_refspec_text.specs.declared.name.PatternError.TheVariants.{Memory}
-use Rattle.gix_refspec_text.proofs.{lemmas.lists.LacksLemmas.Lacks-here, lemmas.parsing.PartsLemmas.parts_once, lemmas.parsing.SideLemmas.HasStar-stars}
-use Rattle.gix_refspec_text.proofs.{lemmas.texts.TestedLemmas.{IsName-tested, is_suspect}, readers.Readings.{bad_for, sign_of, words, parts_of, reaches, reads, is_read, read_by}}
-use Rattle.gix_refspec_text.proofs.readers.Texts.{begins, contains, differ, holds_not, not_several, several, unstarred}
+use Rattle.gix_refspec_text.proofs.{lemmas.lists.LacksLemmas.Lacks-here, lemmas.parsing.PartsLemmas.parts_once, lemmas.parsing.SideLemmas.HasStar-stars, lemmas.texts.TestedLemmas.{IsName-tested, is_suspect}}
+use Rattle.gix_refspec_text.proofs.{readers.Readings.{bad_for, sign_of, words, parts_of, reaches, reads, is_read, read_by}, readers.Texts.{begins, contains, differ, holds_not, not_several, several, unstarred}}
 pub use Rattle.gix_refspec_text.proofs.readers.Texts.{Lacks-tested}
 
 -- a text with a byte isn't empty
@@ -65,13 +63,10 @@ says so is = (_, reads so refl, is)
 
 -- git fetch origin +refs/heads/*:refs/remotes/origin/*, and so on; the last is an exclusion as in git-fetch(1), given to a push
 pub manual : Says Fetch (codes "+refs/heads/*:refs/remotes/origin/*") (fetch_and_update (codes "refs/heads/*") (codes "refs/remotes/origin/*") true)
-    × Says Fetch (codes "+seen:seen") (fetch_and_update (codes "seen") (codes "seen") true)
-    × Says Push (codes "master") (push_matching (codes "master") (codes "master") false)
-    × Says Push (codes "HEAD:master") (push_matching (codes "HEAD") (codes "master") false)
-    × Says Push (codes "master:refs/heads/experimental") (push_matching (codes "master") (codes "refs/heads/experimental") false)
+    × Says Fetch (codes "+seen:seen") (fetch_and_update (codes "seen") (codes "seen") true) × Says Push (codes "master") (push_matching (codes "master") (codes "master") false)
+    × Says Push (codes "HEAD:master") (push_matching (codes "HEAD") (codes "master") false) × Says Push (codes "master:refs/heads/experimental") (push_matching (codes "master") (codes "refs/heads/experimental") false)
     × Says Push (codes "+dev:master") (push_matching (codes "dev") (codes "master") true)
-    × Says Push (codes ":experimental") (push_delete (codes "experimental")) × Says Push (codes ":") (push_all_matching false)
-    × Says Push (codes "^refs/heads/dev-*") (push_exclude (codes "refs/heads/dev-*"))
+    × Says Push (codes ":experimental") (push_delete (codes "experimental")) × Says Push (codes ":") (push_all_matching false) × Says Push (codes "^refs/heads/dev-*") (push_exclude (codes "refs/heads/dev-*"))
     -- the canonical texts of these
     × (map text_of (push_matching (codes "master") (codes "master") false ∷ push_matching (codes "dev") (codes "master") true
     ∷ push_delete (codes "experimental") ∷ push_all_matching false ∷ push_exclude (codes "refs/heads/dev-*") ∷ fetch_and_update (codes "seen") (codes "seen") true ∷ [])
@@ -112,16 +107,14 @@ candidates_of_main = refl
 abbrev starred : ℕ → List ℕ
 starred n = star ∷ replicate n letter
 
-pub needs_memory :
+pub pattern_too_long :
+    -- a pattern of 257 bytes may be too long to be copied, and one of 256 is not
+    IsPatternFault Memory (starred 256) × ¬ (IsPatternFault Memory (starred 255))
     -- a source with two stars is reported whole
-    IsBadPattern (codes "a*b*") (PatternUnsupported (codes "a*b*")) × ¬ (IsBadPattern (codes "a*b*") (PatternUnsupported (codes "a*b")))
+    × IsBadPattern (codes "a*b*") (PatternUnsupported (codes "a*b*")) × ¬ (IsBadPattern (codes "a*b*") (PatternUnsupported (codes "a*b")))
     -- a side with a star and 257 bytes may need memory; one with a star and 256 bytes never does, nor does one of 257 bytes without a star
     × NeedsMemory (starred 256) × ¬ (NeedsMemory (starred 255)) × ¬ (NeedsMemory (replicate 257 letter))
-needs_memory = search (rules, arith, several, contains, differ (codes "a*b") (codes "a*b*") refl, length-replicate {A = ℕ}, not_several (starred 255) refl, holds_not (codes "*") (replicate 257 letter) refl, HasStar-stars)
-
--- a pattern of 257 bytes may be too long to be copied, and one of 256 is not
-pub pattern_too_long : IsPatternFault Memory (starred 256) × ¬ (IsPatternFault Memory (starred 255))
-pattern_too_long = search (arith, length-replicate)
+pattern_too_long = search (rules, arith, several, contains, differ (codes "a*b") (codes "a*b*") refl, length-replicate {A = ℕ}, not_several (starred 255) refl, holds_not (codes "*") (replicate 257 letter) refl, HasStar-stars)
 
 pub texts_need_memory :
     -- so a text may need memory, or may not; and a destination may need it too
@@ -130,7 +123,7 @@ pub texts_need_memory :
     × ¬ (ReachesMemory Fetch Normal (codes "a..b") (Some (codes "c*d*"))) × ¬ (ReachesMemory Push Normal (codes "a*b*") (Some []))
     × ¬ (ReachesMemory Fetch Negative (codes "a*b*") (Some (codes "c")))
 texts_need_memory = (
-  record { mode = _; source = _; destination = _; parts = parts_of (starred 256); reaches = (reaches _ _ _ _ refl, needs_memory.2) },
+  record { mode = _; source = _; destination = _; parts = parts_of (starred 256); reaches = (reaches _ _ _ _ refl, pattern_too_long.4) },
   alone,
   search (rules, reaches, several, unstarred),
   (λ reached. elim reached.1 [
@@ -145,7 +138,7 @@ texts_need_memory = (
     alone may =
         let once = parts_once may.mode Normal may.source (starred 255) may.destination None (starred 255) may.parts (parts_of (starred 255)) in
         let reached : ReachesMemory Fetch may.mode may.source None = rw once.destination at may.reaches in
-        needs_memory.3 (rw once.source at reached.1)
+        pattern_too_long.5 (rw once.source at reached.1)
 
 pub sides :
     -- either side alone is enough

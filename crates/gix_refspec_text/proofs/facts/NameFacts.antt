@@ -1,7 +1,7 @@
 -- Texts that are names and patterns, and texts that are not, by git-check-ref-format(1): for each of its
 -- rules a text that breaks it, and one that just doesn't.
-use Rattle.gix_refspec_text.proofs.Common.{ReplacesStar, HasSeveralStars, HasStar, rules, map, ◌≡◌, [], ◌∷◌, codes, refl, arith, AllByRecursion, Error, EmptyComponent, StartsWithDot, LockSuffix}
-use Rattle.gix_refspec_text.proofs.Common.{ArePartsAt, slash, IsName, IsPattern, IsPatternFault, ReferenceName, with_letters, IsStarCount, IsCalm, lowest_of}
+use Rattle.gix_refspec_text.proofs.Common.{ReplacesStar, HasSeveralStars, HasStar, rules, map, ◌≡◌, [], ◌∷◌, codes, refl, arith, AllByRecursion, Error, EmptyComponent, StartsWithDot, LockSuffix, ArePartsAt}
+use Rattle.gix_refspec_text.proofs.Common.{slash, IsName, IsPattern, IsPatternFault, ReferenceName, with_letters, IsStarCount, IsCalm, lowest_of}
 use Rattle.gix_refspec_text.specs.declared.name.PatternError.TheVariants.{Name}
 use Rattle.gix_refspec_text.proofs.{lemmas.lists.LacksLemmas.Lacks-here, lemmas.parsing.SideLemmas.pattern_fine, lemmas.texts.TestedLemmas.IsName-tested}
 use Rattle.gix_refspec_text.proofs.readers.Texts.{replaced, several, contains, holds_not, Lacks-tested, a_pattern, no_name, no_pattern, pattern_fault, unfit}

@@ -1,7 +1,6 @@
 -- The definitions of ids, at the ids that git hash-object prints for the empty blob, and at other lengths.
-use Rattle.gix_refspec_text.proofs.Common.{map, fault_name, rules, ◌==◌, ◌||◌, false, or_parts, eqb-false, ◌≡◌, ℕ, ◌+◌, ◌*◌, List, [], ◌∷◌, Some, codes, refl, arith, filter, range_with_len}
-use Rattle.gix_refspec_text.proofs.Common.{false≢true, AllPass-from_list_all, Digit, Length, Sha1, Sha256, id_bytes, is_lower_digit, IsSpelledBy, Spells, IsIdText, IsLowerText, IsIdLength, HasIdFault}
-use Rattle.gix_refspec_text.proofs.Common.{lower_of}
+use Rattle.gix_refspec_text.proofs.Common.{map, fault_name, rules, ◌==◌, ◌||◌, false, or_parts, eqb-false, ◌≡◌, ℕ, ◌+◌, ◌*◌, List, [], ◌∷◌, Some, codes, refl, arith, filter, range_with_len, false≢true}
+use Rattle.gix_refspec_text.proofs.Common.{AllPass-from_list_all, Digit, Length, Sha1, Sha256, id_bytes, is_lower_digit, IsSpelledBy, Spells, IsIdText, IsLowerText, IsIdLength, HasIdFault, lower_of}
 use Rattle.hex.{specs.Hex.hex_digit_value, proofs.OnLiterals.hex_on_literals}
 use Rattle.gix_refspec_text.proofs.lemmas.texts.ObjectIdLemmas.{IsIdText-decoded, IsIdText-sound, Spells-decode_pairs, digits_of-twice, no_kind}
 

@@ -1,7 +1,7 @@
 -- Sides with and without a ref prefix, and their expansions.
-use Rattle.gix_refspec_text.proofs.Common.{◌==◌, ◌≡◌, false, eqb-false, ℕ, List, [], ◌∷◌, None, Some, length, codes, refl, ap, arith, IsSplit, star, slash, Normal, Negative, fetched, pushed}
-use Rattle.gix_refspec_text.proofs.Common.{candidates, IsRefPrefix, IsPrefix, of_head, of_name, of_pattern, HasNoPrefix, Expands, to_prefix, to_itself, below_refs, of_object, to_candidates, IsAsked}
-use Rattle.gix_refspec_text.proofs.Common.{HasPrefix, IsExpansion, same_Some}
+use Rattle.gix_refspec_text.proofs.Common.{◌==◌, ◌≡◌, false, eqb-false, ℕ, List, [], ◌∷◌, None, Some, length, codes, refl, ap, arith, IsSplit, star, slash, Normal, Negative, fetched, pushed, candidates}
+use Rattle.gix_refspec_text.proofs.Common.{IsRefPrefix, IsPrefix, of_head, of_name, of_pattern, HasNoPrefix, Expands, to_prefix, to_itself, below_refs, of_object, to_candidates, IsAsked, HasPrefix, IsExpansion}
+use Rattle.gix_refspec_text.proofs.Common.{same_Some}
 use Rattle.gix_refspec_text.proofs.{facts.CoveringFacts.{below_heads, no_bare_prefix}, facts.FaultFacts.begins_not, facts.ObjectIdFacts.{IsIdText-empty_blob, empty_blob}, readers.Texts.differ}
 use Rattle.gix_refspec_text.proofs.{lemmas.hits.MatchLemmas.outside_none, lemmas.lists.LacksLemmas.Lacks-here, lemmas.prefixes.OnePrefixLemmas.one_prefix}
 use Rattle.gix_refspec_text.proofs.{lemmas.prefixes.PrefixLemmas.{no_prefix, starred_no_id}, facts.ManualFacts.{IsSplit-tested, Lacks-tested, none_some, other_length}}

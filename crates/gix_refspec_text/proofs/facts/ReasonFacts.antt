@@ -1,9 +1,8 @@
 -- The reasons to refuse a text, each with parts that it applies to, and similar parts that it doesn't apply to.
-use Rattle.gix_refspec_text.proofs.Common.{rules, ◌≡◌, ℕ, List, [], Option, None, Some, codes, refl, sym, subst, arith, replicate, false≢true, LockSuffix, RepeatedDot, Asterisk, NoName, Operation}
-use Rattle.gix_refspec_text.proofs.Common.{Push, Fetch, IsName, HasOneStar, IsSplit, IsPatternFault, letter, Normal, Forced, Negative, Refusal, NegativeWithDestination, PushToEmpty}
-use Rattle.gix_refspec_text.proofs.Common.{PatternUnsupported, ReferenceName, PatternUnbalanced, NegativeEmpty, NegativeObjectHash, IsBadName, IsBadPattern, IsEmptyPush, HasNegativeDestination}
-use Rattle.gix_refspec_text.proofs.Common.{PushesNowhere, IsBadSourceFor, HasBadSource, HasBadDestination, IsOneStarred, IsUnbalanced, ExcludesNothing, ExcludesObject, Never, OrElse, IsFirstReason}
-use Rattle.gix_refspec_text.proofs.Common.{same_Some, Plain, Empty}
+use Rattle.gix_refspec_text.proofs.Common.{rules, ◌≡◌, ℕ, List, [], Option, None, Some, codes, refl, sym, subst, arith, replicate, false≢true, LockSuffix, RepeatedDot, Asterisk, NoName, Operation, Push, Fetch}
+use Rattle.gix_refspec_text.proofs.Common.{IsName, HasOneStar, IsSplit, IsPatternFault, letter, Normal, Forced, Negative, Refusal, NegativeWithDestination, PushToEmpty, PatternUnsupported, ReferenceName}
+use Rattle.gix_refspec_text.proofs.Common.{PatternUnbalanced, NegativeEmpty, NegativeObjectHash, IsBadName, IsBadPattern, IsEmptyPush, HasNegativeDestination, PushesNowhere, IsBadSourceFor, HasBadSource}
+use Rattle.gix_refspec_text.proofs.Common.{HasBadDestination, IsOneStarred, IsUnbalanced, ExcludesNothing, ExcludesObject, Never, OrElse, IsFirstReason, same_Some, Plain, Empty}
 use Rattle.gix_refspec_text.specs.declared.name.PatternError.TheVariants.{Name}
 use Rattle.gix_refspec_text.proofs.{facts.RefusalFacts.normal_positive, lemmas.lists.LacksLemmas.Lacks-here, lemmas.parsing.SideLemmas.name_not_bad}
 use Rattle.gix_refspec_text.proofs.{lemmas.parsing.ReasonLemmas.{reason_against_nothing, reason_against_object}, lemmas.texts.LetterLemmas.HasOneStar-count_by}
@@ -24,17 +23,7 @@ pub bad_patterns :
     -- a bad name has a fault of its own, and a text with a star isn't a bad name
     × IsBadName (codes "a..b") (ReferenceName RepeatedDot) × ¬ (IsBadName (codes "a..b") (ReferenceName NoName)) × ¬ (IsBadName (codes "a*..b") (ReferenceName RepeatedDot))
     × ¬ (IsBadName (codes "a..b") PatternUnbalanced)
-bad_patterns = search (
-  rules,
-  pattern_fault,
-  pattern_faultless,
-  not_several (codes "b*.lock") refl,
-  unstarred (codes "b.lock") (ReferenceName LockSuffix),
-  Lacks-tested,
-  full,
-  Lacks-here,
-  faulty (codes "a..b") RepeatedDot refl,
-)
+bad_patterns = search (rules, pattern_fault, pattern_faultless, not_several (codes "b*.lock") refl, unstarred (codes "b.lock") (ReferenceName LockSuffix), Lacks-tested, faulty (codes "a..b") RepeatedDot refl, full, Lacks-here)
 
 pub at_signs_and_colons :
     -- a push of a source, or of a colon, isn't empty

@@ -1,11 +1,11 @@
 -- Sides, candidates and matches: also texts of another kind, names that aren't candidates, and refs that aren't matched.
-use Rattle.gix_refspec_text.proofs.Common.{true, false, false≢true, list_any, bytes_eq-Decides, ap, ◌∙◌, ◌++◌, rules, map, ◌≡◌, ◌⊎◌, ℕ, List, [], ◌∷◌, Option, None, Some, codes, refl, sym, arith}
-use Rattle.gix_refspec_text.proofs.Common.{star, SideKind, pattern, full_name, object, partial, IsId, HasKind, candidates, IsCandidate, Excludes, the_name, by_pattern, filled, MatchesAs, Matches, inl}
-use Rattle.gix_refspec_text.proofs.Common.{inr, Lacks, HasOneStar, IsIdText, Normal, fetched, pushed, Fits, same_Some, bytes_eq}
+use Rattle.gix_refspec_text.proofs.Common.{true, false, false≢true, list_any, bytes_eq-Decides, ap, ◌∙◌, ◌++◌, rules, map, ◌≡◌, ◌⊎◌, ℕ, List, [], ◌∷◌, Option, None, Some, codes, refl, sym, arith, star}
+use Rattle.gix_refspec_text.proofs.Common.{SideKind, pattern, full_name, object, partial, IsId, HasKind, candidates, IsCandidate, Excludes, the_name, by_pattern, filled, MatchesAs, Matches, inl, inr, Lacks}
+use Rattle.gix_refspec_text.proofs.Common.{HasOneStar, IsIdText, Normal, fetched, pushed, Fits, same_Some, bytes_eq}
 use Rattle.gix_refspec_text.specs.{Matching.Side.written_name_of, Laws.Sides.{SidesAgree, OneKind, OneId, OneOfEach}}
-use Rattle.gix_refspec_text.proofs.{facts.FaultFacts.begins_not, facts.ReasonFacts.one_star_alone, readers.Texts.{differ, passes, passes_back}}
-use Rattle.gix_refspec_text.proofs.{lemmas.hits.MatchLemmas.{has_candidates, lacks_no_pattern}, lemmas.lists.LacksLemmas.Lacks-here, lemmas.texts.TextLemmas.one_not_two}
-use Rattle.gix_refspec_text.proofs.{facts.ManualFacts.{IsSplit-tested, Lacks-tested, named, other_length}, facts.ObjectIdFacts.{lower_of-empty_blob, IsIdText-empty_blob, IsIdText-others, empty_blob}}
+use Rattle.gix_refspec_text.proofs.{facts.FaultFacts.begins_not, facts.ReasonFacts.one_star_alone, readers.Texts.{differ, passes, passes_back}, lemmas.hits.MatchLemmas.{has_candidates, lacks_no_pattern}}
+use Rattle.gix_refspec_text.proofs.{lemmas.lists.LacksLemmas.Lacks-here, lemmas.texts.TextLemmas.one_not_two, facts.ManualFacts.{IsSplit-tested, Lacks-tested, named, other_length}}
+use Rattle.gix_refspec_text.proofs.facts.ObjectIdFacts.{lower_of-empty_blob, IsIdText-empty_blob, IsIdText-others, empty_blob}
 use Rattle.gix_refspec_text.proofs.facts.FitFacts.{blob_kind, every, heads_split, origin_split, other_byte, short, short_kind, short_no_id}
 
 pub kinds :

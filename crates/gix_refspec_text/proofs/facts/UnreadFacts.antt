@@ -1,8 +1,8 @@
 -- For each condition of the forms a text that breaks it, with the reason to refuse it, so that it has no reading; and
 -- readings that no text has.
-use Rattle.gix_refspec_text.proofs.Common.{Plain, rules, ◌≡◌, [], ◌∷◌, None, Some, codes, refl, sym, ◌∙◌, inl, replicate, Operation, Push, Fetch, star, letter, caret, Normal, Forced, Negative}
-use Rattle.gix_refspec_text.proofs.Common.{Reading, fetched, pushed, Reads, IsAccepted, StartsWithDot, InvalidByte, printed, NegativeWithDestination, PushToEmpty, PatternUnsupported, ReferenceName}
-use Rattle.gix_refspec_text.proofs.Common.{PatternUnbalanced, NegativeEmpty, NegativeObjectHash, IsRefused, Empty}
+use Rattle.gix_refspec_text.proofs.Common.{Plain, rules, ◌≡◌, [], ◌∷◌, None, Some, codes, refl, sym, ◌∙◌, inl, replicate, Operation, Push, Fetch, star, letter, caret, Normal, Forced, Negative, Reading, fetched}
+use Rattle.gix_refspec_text.proofs.Common.{pushed, Reads, IsAccepted, StartsWithDot, InvalidByte, printed, NegativeWithDestination, PushToEmpty, PatternUnsupported, ReferenceName, PatternUnbalanced}
+use Rattle.gix_refspec_text.proofs.Common.{NegativeEmpty, NegativeObjectHash, IsRefused, Empty}
 use Rattle.gix_refspec_text.proofs.{facts.ManualFacts.{full, none_some}, lemmas.parsing.ReasonLemmas.{reason_against_nothing, reason_against_object}, lemmas.texts.TestedLemmas.IsName-tested}
 use Rattle.gix_refspec_text.proofs.{facts.RefusalFacts.empty_push, lemmas.parsing.SideLemmas.HasStar-pattern, lemmas.specs.AcceptedLemmas.accepted_balanced, lemmas.specs.FormsBackLemmas.read_back}
 use Rattle.gix_refspec_text.proofs.{readers.Texts.{Lacks-tested, a_pattern}, readers.Readings.{at_balance, at_destination, at_source, because, a_hash, negative_with, reads, to_nothing}}

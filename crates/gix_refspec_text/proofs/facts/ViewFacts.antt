@@ -1,10 +1,9 @@
 -- Refspecs, instructions, reasons and ids as contracts see them, at values whose fields differ, so that no field is
 -- lost or taken for another. That some text reads as a spec is a premise.
-use Rattle.gix_refspec_text.proofs.Common.{Refusal, Option, ◌≡◌, ◌≢◌, ℕ, List, [], ◌∷◌, ◌++◌, None, Some, true, false, map, get_or, replicate, option_map, codes, refl, sym, ap, ◌∙◌, inl, arith}
-use Rattle.gix_refspec_text.proofs.Common.{bstring_bytes, LockSuffix, RepeatedDot, Sha1, ObjectId, Operation, Push, Fetch, Normal, Forced, Negative, fetched, pushed, fetch_only, meaning_of, text_of}
-use Rattle.gix_refspec_text.proofs.Common.{WritesPrinted, keys, NegativeWithDestination, PushToEmpty, PatternUnsupported, ReferenceName, PatternUnbalanced, NegativeEmpty, NegativeObjectHash}
-use Rattle.gix_refspec_text.proofs.Common.{IsFirstReason, reading_of, owned_reading_of, key_of_spec, key_of_owned, meaning_of_instruction, meant_for, IsShownAs, ShowsRefusal, AppendsExpansion}
-use Rattle.gix_refspec_text.proofs.Common.{to_prefix, Empty}
+use Rattle.gix_refspec_text.proofs.Common.{Refusal, Option, ◌≡◌, ◌≢◌, ℕ, List, [], ◌∷◌, ◌++◌, None, Some, true, false, map, get_or, replicate, option_map, codes, refl, sym, ap, ◌∙◌, inl, arith, bstring_bytes}
+use Rattle.gix_refspec_text.proofs.Common.{LockSuffix, RepeatedDot, Sha1, ObjectId, Operation, Push, Fetch, Normal, Forced, Negative, fetched, pushed, fetch_only, meaning_of, text_of, WritesPrinted, keys}
+use Rattle.gix_refspec_text.proofs.Common.{NegativeWithDestination, PushToEmpty, PatternUnsupported, ReferenceName, PatternUnbalanced, NegativeEmpty, NegativeObjectHash, IsFirstReason, reading_of}
+use Rattle.gix_refspec_text.proofs.Common.{owned_reading_of, key_of_spec, key_of_owned, meaning_of_instruction, meant_for, IsShownAs, ShowsRefusal, AppendsExpansion, to_prefix, Empty}
 use Rattle.bstr.{specs.declared.bstr.BStr.BStr, specs.declared.bstring.BString.BString}
 use Rattle.gix_refspec_text.specs.{declared.spec.RefSpec.{RefSpec, accepted-type as owned-type}, declared.spec.RefSpecRef.{RefSpecRef, accepted-type}, declared.types.Instruction.Instruction}
 use Rattle.gix_refspec_text.specs.{declared.types.Mode.Mode, Views.Errors.IsSameError}

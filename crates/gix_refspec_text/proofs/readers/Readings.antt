@@ -1,11 +1,11 @@
 -- What a text reads as, and why it is refused, computed for texts whose names are plain enough for a test of each byte, so that
 -- examples need no witnesses.
-use Rattle.gix_refspec_text.proofs.Common.{◌≡◌, ◌≢◌, ℕ, Bool, true, false, not, ◌==◌, ◌&&◌, nat_le, if◌then◌else◌, List, [], ◌∷◌, Option, None, Some, length, refl, sym, subst, unwrap_or, arith}
-use Rattle.gix_refspec_text.proofs.Common.{list_any, list_all, true≢false, false≢true, eqb-false, eqb-true, and_parts, and_from, leb-true, le-leb, is_ascii_hexdigit, Refusal, ◌∙◌, IsRefused}
-use Rattle.gix_refspec_text.proofs.Common.{AllPass-from_list_all, list_all-from_AllPass, Operation, Push, Fetch, Plain, Pattern, slash, star, plus, caret, colon, Mode, Normal, Forced, Negative, codes}
-use Rattle.gix_refspec_text.proofs.Common.{ap, bytes_eq, bytes_eq-Decides, Reading, Reads, IsSigned, AreParts, with_colon, LastLacksColon, LooksLikeObjectHash, named_by, named_or_head, side_of}
-use Rattle.gix_refspec_text.proofs.Common.{fetched, pushed, HasShape, or_cases, HasCheckedShape, NoReasonBeforeSource, HasBadDestination, HasBadSource, Never, IsFirstReason, PatternUnbalanced}
-use Rattle.gix_refspec_text.proofs.Common.{IsBadSourceFor, Shape, is_some, IsPositive, NegativeWithDestination, PushToEmpty}
+use Rattle.gix_refspec_text.proofs.Common.{◌≡◌, ◌≢◌, ℕ, Bool, true, false, not, ◌==◌, ◌&&◌, nat_le, if◌then◌else◌, List, [], ◌∷◌, Option, None, Some, length, refl, sym, subst, unwrap_or, arith, list_any}
+use Rattle.gix_refspec_text.proofs.Common.{list_all, true≢false, false≢true, eqb-false, eqb-true, and_parts, and_from, leb-true, le-leb, is_ascii_hexdigit, Refusal, ◌∙◌, IsRefused, AllPass-from_list_all}
+use Rattle.gix_refspec_text.proofs.Common.{list_all-from_AllPass, Operation, Push, Fetch, Plain, Pattern, slash, star, plus, caret, colon, Mode, Normal, Forced, Negative, codes, ap, bytes_eq, bytes_eq-Decides}
+use Rattle.gix_refspec_text.proofs.Common.{Reading, Reads, IsSigned, AreParts, with_colon, LastLacksColon, LooksLikeObjectHash, named_by, named_or_head, side_of, fetched, pushed, HasShape, or_cases}
+use Rattle.gix_refspec_text.proofs.Common.{HasCheckedShape, NoReasonBeforeSource, HasBadDestination, HasBadSource, Never, IsFirstReason, PatternUnbalanced, IsBadSourceFor, Shape, is_some, IsPositive}
+use Rattle.gix_refspec_text.proofs.Common.{NegativeWithDestination, PushToEmpty}
 use Rattle.gix_refspec_text.proofs.{lemmas.parsing.ReadOnceLemmas.reads_once, lemmas.texts.TestedLemmas.{IsName-tested, is_suspect}}
 use Rattle.gix_refspec_text.proofs.readers.Texts.{Lacks-tested, differ, a_pattern, faulty, is_bad, pattern_fault, several, is_empty, is_pattern, not_true}
 use Rattle.gix_refspec_text.proofs.lemmas.parsing.ReadsLemmas.{fetch_reads, negative_reads, push_alone_reads, push_reads, refused}

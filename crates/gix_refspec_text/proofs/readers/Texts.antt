@@ -1,10 +1,10 @@
 -- Tests that compute what a text contains, which faults it has and whether it is a name or a pattern, so that examples need no witnesses.
-use Rattle.gix_refspec_text.proofs.Common.{ArePartsAt, length-append, filter, get_or, if◌then◌else◌, ◌≡◌, ◌≢◌, ℕ, Bool, true, false, not, ◌==◌, ◌||◌, ◌&&◌, ◌-◌, nat_eq, bytes_eq, bytes_eq-Decides}
-use Rattle.gix_refspec_text.proofs.Common.{List, [], ◌∷◌, ◌++◌, length, take, drop, codes, refl, sym, ap, ◌∙◌, subst, arith, All, AllByRecursion, All-from_recursion, Decides, Decides-eqb, starts_with}
-use Rattle.gix_refspec_text.proofs.Common.{ends_with, starts_is, ends_is, slice_split, join_with_byte, list_any, count_by, false≢true, eqb-false, eqb-true, ne_eqb, or_parts, or_cases, and_parts}
-use Rattle.gix_refspec_text.proofs.Common.{Error, Empty, EmptyComponent, StartsWithDot, LockSuffix, EndsWithDot, RepeatedDot, ReflogPortion, Asterisk, InvalidByte, is_refused_byte, Lacks}
-use Rattle.gix_refspec_text.proofs.Common.{ContainsText, BeginsWith, EndsWith, SomeComponent, HasFault, HasOneStar, HasSeveralStars, IsName, IsPattern, IsPatternFault, ReplacesStar, slash, star}
-use Rattle.gix_refspec_text.proofs.Common.{with_letters, inl, inr, Refusal, PatternUnsupported, ReferenceName, IsBadPattern}
+use Rattle.gix_refspec_text.proofs.Common.{ArePartsAt, length-append, filter, get_or, if◌then◌else◌, ◌≡◌, ◌≢◌, ℕ, Bool, true, false, not, ◌==◌, ◌||◌, ◌&&◌, ◌-◌, nat_eq, bytes_eq, bytes_eq-Decides, List, []}
+use Rattle.gix_refspec_text.proofs.Common.{◌∷◌, ◌++◌, length, take, drop, codes, refl, sym, ap, ◌∙◌, subst, arith, All, AllByRecursion, All-from_recursion, Decides, Decides-eqb, starts_with, ends_with}
+use Rattle.gix_refspec_text.proofs.Common.{starts_is, ends_is, slice_split, join_with_byte, list_any, count_by, false≢true, eqb-false, eqb-true, ne_eqb, or_parts, or_cases, and_parts, Error, Empty}
+use Rattle.gix_refspec_text.proofs.Common.{EmptyComponent, StartsWithDot, LockSuffix, EndsWithDot, RepeatedDot, ReflogPortion, Asterisk, InvalidByte, is_refused_byte, Lacks, ContainsText, BeginsWith, EndsWith}
+use Rattle.gix_refspec_text.proofs.Common.{SomeComponent, HasFault, HasOneStar, HasSeveralStars, IsName, IsPattern, IsPatternFault, ReplacesStar, slash, star, with_letters, inl, inr, Refusal}
+use Rattle.gix_refspec_text.proofs.Common.{PatternUnsupported, ReferenceName, IsBadPattern}
 use Rattle.gix_refspec_text.specs.declared.name.PatternError.TheVariants.{Name}
 use Rattle.std.{proofs.lemmas.Bool.Decides.{Decides-and, Decides-not, not_from_Decides}, proofs.Math.Bool.or-true, proofs.lemmas.List.Folds.list_any-append}
 use Rattle.std.proofs.lemmas.List.Splits.{slice_split_none, slice_split_at, join_with_byte-slice_split}
