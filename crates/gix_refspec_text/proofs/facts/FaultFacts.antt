@@ -1,5 +1,5 @@
 -- The faults of ref names: texts that have them, and similar ones that haven't.
-use Rattle.gix_refspec_text.proofs.Common.{rules, ℕ, ◌==◌, List, [], ◌∷◌, codes, subst, AllByRecursion, slice_split, Error, Empty, EmptyComponent, StartsWithDot, LockSuffix, EndsWithDot, RepeatedDot}
+use Rattle.gix_refspec_text.proofs.Common.{refl, true, ◌≡◌, ◌++◌, is_refused_byte, rules, ℕ, ◌==◌, List, [], ◌∷◌, codes, subst, AllByRecursion, slice_split, Error, Empty, EmptyComponent, StartsWithDot, LockSuffix, EndsWithDot, RepeatedDot}
 use Rattle.gix_refspec_text.proofs.Common.{ReflogPortion, Asterisk, InvalidByte, SomeComponent, HasFault, slash}
 use Rattle.gix_refspec_text.proofs.{lemmas.texts.ComponentLemmas.AllByRecursion-parts, readers.Texts.{faultless, faulty, split_again}}
 pub use Rattle.gix_refspec_text.proofs.readers.Texts.{begins_not}
@@ -31,3 +31,7 @@ pub no_faults : AllByRecursion (λ p. ¬ (Has p))
     ∷ (codes "a.lock.b/block", LockSuffix) ∷ (codes "a./b", EndsWithDot) ∷ (codes "a.b.c./.d", RepeatedDot)
     ∷ (codes "@a{/{@/@", ReflogPortion) ∷ ([], Asterisk) ∷ (codes "a b", InvalidByte 58) ∷ (codes "a b", InvalidByte 97) ∷ [])
 no_faults = search (rules, faultless)
+
+-- a refused byte is a fault wherever it is
+pub refused_byte : (before after : List ℕ) (b : ℕ) → is_refused_byte b ≡ true → HasFault (before ++ (b ∷ after)) (InvalidByte b)
+refused_byte before after b refuses = (record { before = before; after = after; here = refl }, refuses)

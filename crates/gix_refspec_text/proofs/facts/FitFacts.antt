@@ -23,7 +23,7 @@ of_element P (y ∷ ys) x all (zero, below, is) = subst P is all.0
 of_element P (y ∷ ys) x all (suc k, below, is) = of_element P ys x all.1 (k, omega (arith, below), is)
 
 -- a word lies between the prefix and the suffix of a pattern, which never overlap
-pub fitting : Fits (codes "refs/heads/") [] (codes "refs/heads/main") (codes "main") × Fits (codes "refs/heads/a") (codes "a") (codes "refs/heads/aa") [] × ((word : List ℕ) → ¬ (Fits (codes "a") (codes "a") (codes "a") word))
+pub fitting : Fits (codes "refs/heads/") [] (codes "refs/heads/main") (codes "main") × Fits (codes "refs/heads/a") (codes "a") (codes "refs/heads/aa") [] × ((w : List ℕ) → ¬ (Fits (codes "a") (codes "a") (codes "a") w))
 fitting = (refl, refl, λ word fits. let size : 1 ≡ suc (length (word ++ codes "a")) = ap length fits in omega (arith, size, length-append word (codes "a")))
 
 -- a pattern that ends with its only star

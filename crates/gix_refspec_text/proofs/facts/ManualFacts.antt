@@ -114,7 +114,7 @@ pub pattern_too_long :
     × IsBadPattern (codes "a*b*") (PatternUnsupported (codes "a*b*")) × ¬ (IsBadPattern (codes "a*b*") (PatternUnsupported (codes "a*b")))
     -- a side with a star and 257 bytes may need memory; one with a star and 256 bytes never does, nor does one of 257 bytes without a star
     × NeedsMemory (starred 256) × ¬ (NeedsMemory (starred 255)) × ¬ (NeedsMemory (replicate 257 letter))
-pattern_too_long = search (rules, arith, several, contains, differ (codes "a*b") (codes "a*b*") refl, length-replicate {A = ℕ}, not_several (starred 255) refl, holds_not (codes "*") (replicate 257 letter) refl, HasStar-stars)
+pattern_too_long = search (rules, arith, several, contains, differ, length-replicate {A = ℕ}, not_several (starred 255) refl, holds_not (codes "*") (replicate 257 letter) refl, HasStar-stars)
 
 pub texts_need_memory :
     -- so a text may need memory, or may not; and a destination may need it too

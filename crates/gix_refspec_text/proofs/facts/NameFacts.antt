@@ -12,7 +12,7 @@ pub names_close_to_faults : AllByRecursion IsName
     -- bytes just below and above the refused ones
     (codes "v1.0" ∷ codes "a.b.c" ∷ codes "a./b" ∷ codes "a.lockx" ∷ codes "a.lock.b/c" ∷ codes "a@b{c}" ∷ codes "{@a" ∷ codes "!}" ∷ (128 ∷ 228 ∷ 255 ∷ [])
     -- full names, names of one component, and `@`
-    ∷ codes "refs/heads/main" ∷ codes "refs/heads/dev-a" ∷ codes "refs/remotes/origin/a" ∷ codes "main" ∷ codes "HEAD" ∷ codes "seen" ∷ codes "@" ∷ codes "-" ∷ [])
+    ∷ codes "refs/heads/main" ∷ codes "refs/heads/dev-a" ∷ codes "refs/remotes/origin/a" ∷ codes "main" ∷ codes "HEAD" ∷ codes "seen" ∷ codes "@" ∷ codes "-" ∷ codes "b" ∷ [])
 names_close_to_faults = search (rules, IsName-tested)
 
 -- a text with a fault isn't a name: the empty text, an empty component, one that begins with a dot or ends with
@@ -22,7 +22,7 @@ pub no_names : ¬ (IsName []) × ¬ (IsName (codes "/a")) × ¬ (IsName (codes "
 no_names = search (rules, no_name)
 
 -- a star at the end, alone, as a component, within a component, and first
-pub patterns : AllByRecursion IsPattern (codes "refs/heads/dev-*" ∷ codes "*" ∷ codes "refs/*/head" ∷ codes "foo/bar*/baz" ∷ codes "*/x" ∷ codes "refs/heads/*" ∷ [])
+pub patterns : AllByRecursion IsPattern (codes "refs/heads/dev-*" ∷ codes "*" ∷ codes "refs/*/head" ∷ codes "foo/bar*/baz" ∷ codes "*/x" ∷ codes "refs/heads/*" ∷ codes "a*" ∷ [])
 patterns = search (rules, a_pattern)
 
 pub no_patterns :

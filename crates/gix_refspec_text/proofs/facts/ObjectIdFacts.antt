@@ -61,11 +61,7 @@ spelled = (
 
 -- a text doesn't spell another id, and digits of another length don't spell any
 pub other_texts : ¬ (IsIdText (codes "e69de29bb2d1d6434b8b29ae775ad8c2e48c5390") empty_blob) × ((i : List ℕ) → ¬ (IsIdText (codes "e69de2") i)) × ¬ (IsIdText (codes "e69de29bb2d1d6434b8b29ae775ad8c2e48c5391") [])
-other_texts = (
-  (λ text. omega (arith, spelled_value 0x91 57 48 9 0 refl refl (text.spelled 19 (omega arith)))),
-  (λ i text. no_length 6 refl (text.kind, text.digits)),
-  λ text. no_length 0 refl (text.kind, omega (arith, digits_of-twice text.kind, text.bytes)),
-)
+other_texts = ((λ t. omega (arith, spelled_value 0x91 57 48 9 0 refl refl (t.spelled 19 (omega arith)))), (λ i t. no_length 6 refl (t.kind, t.digits)), λ t. no_length 0 refl (t.kind, omega (arith, digits_of-twice t.kind, t.bytes)))
 
 pub lower_digits :
     -- of the 256 bytes, the digits in lower case

@@ -23,7 +23,7 @@ pub bad_patterns :
     -- a bad name has a fault of its own, and a text with a star isn't a bad name
     × IsBadName (codes "a..b") (ReferenceName RepeatedDot) × ¬ (IsBadName (codes "a..b") (ReferenceName NoName)) × ¬ (IsBadName (codes "a*..b") (ReferenceName RepeatedDot))
     × ¬ (IsBadName (codes "a..b") PatternUnbalanced)
-bad_patterns = search (rules, pattern_fault, pattern_faultless, not_several (codes "b*.lock") refl, unstarred (codes "b.lock") (ReferenceName LockSuffix), Lacks-tested, faulty (codes "a..b") RepeatedDot refl, full, Lacks-here)
+bad_patterns = search (rules, pattern_fault, pattern_faultless, not_several (codes "b*.lock") refl, unstarred (codes "b.lock") (ReferenceName LockSuffix), Lacks-tested, contains, full, Lacks-here)
 
 pub at_signs_and_colons :
     -- a push of a source, or of a colon, isn't empty
@@ -46,14 +46,15 @@ sources = search (rules, unstarred, bad_for)
 pub destinations :
     -- an empty side is neither a bad source nor a bad destination
     ((op : Operation) (d : Option (List ℕ)) (e : Refusal) → ¬ (HasBadSource op [] d e)) × ((e : Refusal) → ¬ (HasBadDestination (Some []) e) × ¬ (HasBadDestination None e))
-    -- `a..b` and `a*b*` are bad destinations, and `c` isn't
+    -- `a..b`, `a*b*` and `b*.lock` are bad destinations, and `c` isn't
     × HasBadDestination (Some (codes "a..b")) (ReferenceName RepeatedDot) × HasBadDestination (Some (codes "a*b*")) (PatternUnsupported (codes "a*b*"))
-    × (IsName (codes "c") → (e : Refusal) → ¬ (HasBadDestination (Some (codes "c")) e))
+    × HasBadDestination (Some (codes "b*.lock")) (ReferenceName LockSuffix) × (IsName (codes "c") → (e : Refusal) → ¬ (HasBadDestination (Some (codes "c")) e))
 destinations = (
   (λ op d e bad. bad.source refl),
   (λ e. ((λ bad. bad.destination (sym (same_Some [] bad.word bad.is))), λ bad. none_some bad.word bad.is)),
   bad_end (codes "a..b") (ReferenceName RepeatedDot) refl,
   bad_end (codes "a*b*") (PatternUnsupported (codes "a*b*")) refl,
+  bad_end (codes "b*.lock") (ReferenceName LockSuffix) refl,
   λ is_name e bad. name_not_bad bad.word (subst IsName (same_Some (codes "c") bad.word bad.is) is_name) e bad.refusal,
 )
 

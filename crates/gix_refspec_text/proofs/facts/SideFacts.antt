@@ -95,8 +95,4 @@ pub known :
     -- the same from the law for any bytes
     × (OneOfEach → ((k : SideKind) → HasKind (codes "e69de29bb2d1d6434b8b29ae775ad8c2e48c5391") k → k ≡ object empty_blob) × ((word : List ℕ) → Fits (codes "a") [] (codes "ab") word → word ≡ codes "b")
     × ((i : List ℕ) → IsIdText (codes "e69de29bb2d1d6434b8b29ae775ad8c2e48c5391") i → i ≡ empty_blob))
-known = (
-  (λ law k is. law k (partial (codes "main")) is short_kind),
-  (λ law i is. law i empty_blob is IsIdText-empty_blob),
-  λ law. ((λ k is. law.kind _ k (object empty_blob) is blob_kind), (λ word fits. law.word (codes "a") [] (codes "ab") word (codes "b") fits refl), λ i is. law.id _ i empty_blob is IsIdText-empty_blob),
-)
+known = ((λ law k is. law k _ is short_kind), (λ law i is. law i _ is IsIdText-empty_blob), λ law. ((λ k is. law.kind _ k _ is blob_kind), (λ w fits. law.word (codes "a") [] _ w (codes "b") fits refl), λ i is. law.id _ i _ is IsIdText-empty_blob))

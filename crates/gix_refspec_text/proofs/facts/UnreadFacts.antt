@@ -18,8 +18,8 @@ pub bad_negatives : (op : Operation) → IsRefused op (codes "^a:b") NegativeWit
 bad_negatives op = search (rules, because, negative_with, at_source, reason_against_nothing op [] Plain refl tt, reason_against_object op (replicate 40 letter) Plain (full _ _), IsName-tested, a_hash)
 
 -- a source that isn't a name in a fetch, whatever else the text says
-pub bad_sources : IsRefused Fetch (codes "a b") (ReferenceName (InvalidByte 32)) × IsRefused Fetch (codes "main~2:x") (ReferenceName (InvalidByte 126)) × IsRefused Fetch (codes ":/message:x") (ReferenceName (InvalidByte 58))
-    × IsRefused Fetch (codes "a*b*") (PatternUnsupported (codes "a*b*")) × IsRefused Fetch (codes "a/.*:x") (ReferenceName StartsWithDot)
+pub bad_sources : IsRefused Fetch (codes "a b") (ReferenceName (InvalidByte 32)) × IsRefused Fetch (codes "main~2:x") (ReferenceName (InvalidByte 126))
+    × IsRefused Fetch (codes ":/message:x") (ReferenceName (InvalidByte 58)) × IsRefused Fetch (codes "a*b*") (PatternUnsupported (codes "a*b*")) × IsRefused Fetch (codes "a/.*:x") (ReferenceName StartsWithDot)
 bad_sources = search (rules, because, at_source)
 
 pub bad_sides :

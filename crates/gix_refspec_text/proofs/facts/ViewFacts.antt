@@ -39,7 +39,7 @@ module _
     (alone : Accepted Fetch mode.Normal (Some (codes "a")) None) (forced : Accepted Fetch mode.Force (Some (codes "a")) None)
     (exclusion : Accepted Fetch mode.Negative (Some (codes "a")) None) (same_name : Accepted Push mode.Normal (Some (codes "a")) None)
     (to_itself : Accepted Push mode.Normal (Some (codes "a")) (Some (codes "a"))) (deletion : Accepted Push mode.Normal None (Some (codes "b")))
-    (all_matching : Accepted Push mode.Force None None)
+    (all : Accepted Push mode.Force None None)
   where
     abbrev fetches_a : RefSpecRef
     fetches_a = spec_of Fetch mode.Normal (Some (codes "a")) None alone
@@ -49,7 +49,7 @@ module _
 
     pub readings :
         -- `a`, `+a:b` and `^a` in a fetch, `:b` and `+:` in a push
-        (map reading_of (fetches_a ∷ updates_b ∷ spec_of Fetch mode.Negative (Some (codes "a")) None exclusion ∷ spec_of Push mode.Normal None (Some (codes "b")) deletion ∷ spec_of Push mode.Force None None all_matching ∷ [])
+        (map reading_of (fetches_a ∷ updates_b ∷ spec_of Fetch mode.Negative (Some (codes "a")) None exclusion ∷ spec_of Push mode.Normal None (Some (codes "b")) deletion ∷ spec_of Push mode.Force None None all ∷ [])
         ≡ fetched Normal (codes "a") None ∷ fetched Forced (codes "a") (Some (codes "b")) ∷ fetched Negative (codes "a") None ∷ pushed Normal None (Some (codes "b")) ∷ pushed Forced None None ∷ [])
         -- specs with the same meaning have one key: `a` and `+a` in a fetch, `a` and `a:a` in a push
         × (key_of_spec fetches_a ≡ key_of_spec (spec_of Fetch mode.Force (Some (codes "a")) None forced))

@@ -187,7 +187,9 @@ pub at_balance : (op : Operation) (m : Mode) (s : List ℕ) (d : Option (List �
 at_balance op Negative s d so = absurd (false≢true so)
 at_balance Push m s None so = absurd (false≢true so)
 at_balance Push m (b ∷ s) (Some []) so = absurd (false≢true so)
-at_balance Push m s (Some d) so = let both = and_parts _ _ so in unbalanced_push m s d (shape_of s) (other (shape_of s)) tt (λ some empty. grind arith) (star_fit s (shape_of s) both.0) (fit d (other (shape_of s)) both.1) (differs (shape_of s))
+at_balance Push m s (Some d) so =
+    let both = and_parts _ _ so in
+    unbalanced_push m s d (shape_of s) (other (shape_of s)) tt (λ some empty. grind arith) (star_fit s (shape_of s) both.0) (fit d (other (shape_of s)) both.1) (differs (shape_of s))
 at_balance Fetch m s d so = let both = and_parts _ _ so in unbalanced_fetch m s d (shape_of s) (other (shape_of s)) tt (fit s (shape_of s) both.0) (fit (unwrap_or d []) (other (shape_of s)) both.1) (differs (shape_of s))
 
 -- or an earlier one

@@ -43,7 +43,7 @@ at_start w x so = let found = begins w x so in record { before = []; after = fou
 
 pub contains : (w x : List ℕ) → holds w x ≡ true → ContainsText w x
 contains w [] so = at_start w [] so
-contains w (b ∷ x) so = elim (or_cases _ _ so) [ inl first ↦ at_start w (b ∷ x) first | inr later ↦ let found = contains w x later in record { before = b ∷ found.before; after = found.after; here = ap (λ y. b ∷ y) found.here } ]
+contains w (b ∷ x) so = elim (or_cases _ _ so) [ inl first ↦ at_start w (b ∷ x) first | inr later ↦ let f = contains w x later in record { before = b ∷ f.before; after = f.after; here = ap (λ y. b ∷ y) f.here } ]
 
 holds_after : (w before after x : List ℕ) → x ≡ before ++ (w ++ after) → holds w x ≡ true
 holds_after w [] after [] here = (begins_is w []).1 (record { after = after; here = here })
@@ -92,7 +92,7 @@ split_parts x = record { joined = join_with_byte-slice_split slash x; whole = pa
 
 component_is : (P : List ℕ → Type 0) (p : List ℕ → Bool) (x : List ℕ) → ((w : List ℕ) → Decides (p w) (P w)) → Decides (list_any p (components x)) (SomeComponent P x)
 component_is P p x is = (
-  (λ so. let found = passes p (components x) so in record { before = found.0; component = found.1; after = found.2; fact = (is found.1).0 found.4; components = subst (λ l. ArePartsAt slash l x) found.3 (split_parts x) }),
+  (λ so. let f = passes p (components x) so in record { before = f.0; component = f.1; after = f.2; fact = (is f.1).0 f.4; components = subst (λ l. ArePartsAt slash l x) f.3 (split_parts x) }),
   λ some. ap (list_any p) (split_again P x some) ∙ passes_back p some.before some.component some.after ((is some.component).1 some.fact),
 )
 
