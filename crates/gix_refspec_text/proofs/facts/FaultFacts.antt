@@ -1,6 +1,6 @@
 -- The faults of ref names: texts that have them, and similar ones that haven't.
-use Rattle.gix_refspec_text.proofs.Common.{refl, true, ◌≡◌, ◌++◌, is_refused_byte, rules, ℕ, ◌==◌, List, [], ◌∷◌, codes, subst, AllByRecursion, slice_split, Error, Empty, EmptyComponent, StartsWithDot, LockSuffix, EndsWithDot, RepeatedDot}
-use Rattle.gix_refspec_text.proofs.Common.{ReflogPortion, Asterisk, InvalidByte, SomeComponent, HasFault, slash}
+use Rattle.gix_refspec_text.proofs.Common.{refl, true, ◌≡◌, ◌++◌, is_refused_byte, rules, ℕ, ◌==◌, List, [], ◌∷◌, codes, subst, AllByRecursion, slice_split, Error, Empty, EmptyComponent, StartsWithDot}
+use Rattle.gix_refspec_text.proofs.Common.{LockSuffix, EndsWithDot, RepeatedDot, ReflogPortion, Asterisk, InvalidByte, SomeComponent, HasFault, slash}
 use Rattle.gix_refspec_text.proofs.{lemmas.texts.ComponentLemmas.AllByRecursion-parts, readers.Texts.{faultless, faulty, split_again}}
 pub use Rattle.gix_refspec_text.proofs.readers.Texts.{begins_not}
 

@@ -7,7 +7,7 @@ use Rattle.gix_refspec_text.specs.declared.name.PatternError.TheVariants.{Name}
 use Rattle.gix_refspec_text.proofs.{facts.RefusalFacts.normal_positive, lemmas.lists.LacksLemmas.Lacks-here, lemmas.parsing.SideLemmas.name_not_bad}
 use Rattle.gix_refspec_text.proofs.{lemmas.parsing.ReasonLemmas.{reason_against_nothing, reason_against_object}, lemmas.texts.LetterLemmas.HasOneStar-count_by}
 use Rattle.gix_refspec_text.proofs.{facts.ManualFacts.{IsSplit-tested, full, none_some, some_none}, readers.Readings.{a_hash, no_hash, bad_end, bad_for}}
-use Rattle.gix_refspec_text.proofs.readers.Texts.{Lacks-tested, faulty, contains, holds_not, not_one_star, not_several, pattern_fault, pattern_faultless, unstarred}
+use Rattle.gix_refspec_text.proofs.readers.Texts.{Lacks-tested, contains, holds_not, not_one_star, not_several, pattern_fault, pattern_faultless, unstarred}
 
 -- a text with exactly one star, and texts without one and with two
 pub one_star_alone : HasOneStar (codes "a*b") × IsSplit (codes "a") (codes "b") (codes "a*b") × ¬ (HasOneStar (codes "ab")) × ¬ (HasOneStar (codes "a*b*")) × ¬ (HasOneStar (codes "b"))

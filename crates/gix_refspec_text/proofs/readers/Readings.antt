@@ -1,5 +1,4 @@
--- What a text reads as, and why it is refused, computed for texts whose names are plain enough for a test of each byte, so that
--- examples need no witnesses.
+-- What a text reads as, and why it is refused, computed for texts whose names pass a test of each byte, so that examples need no witnesses.
 use Rattle.gix_refspec_text.proofs.Common.{◌≡◌, ◌≢◌, ℕ, Bool, true, false, not, ◌==◌, ◌&&◌, nat_le, if◌then◌else◌, List, [], ◌∷◌, Option, None, Some, length, refl, sym, subst, unwrap_or, arith, list_any}
 use Rattle.gix_refspec_text.proofs.Common.{list_all, true≢false, false≢true, eqb-false, eqb-true, and_parts, and_from, leb-true, le-leb, is_ascii_hexdigit, Refusal, ◌∙◌, IsRefused, AllPass-from_list_all}
 use Rattle.gix_refspec_text.proofs.Common.{list_all-from_AllPass, Operation, Push, Fetch, Plain, Pattern, slash, star, plus, caret, colon, Mode, Normal, Forced, Negative, codes, ap, bytes_eq, bytes_eq-Decides}
@@ -51,9 +50,6 @@ shape_of x = if is_pattern x then Pattern else Plain
 abbrev other : Shape → Shape
 other Plain = Pattern
 other Pattern = Plain
-
-differs : (k : Shape) → k ≢ other k
-differs k same = grind arith
 
 -- whether a word has a shape, and whether it has it as the source of a push to a destination
 abbrev fits : Shape → List ℕ → Bool
@@ -165,18 +161,16 @@ fine_source Fetch s d so = fetch_source_fine s d _ (fit s _ so)
 -- the first reason is of the source, of the destination, or of the balance between them
 pub at_source : (op : Operation) (m : Mode) (s : List ℕ) (d : Option (List ℕ)) (e : Refusal) → (calm op m s d && (not (is_empty s) && is_bad (need_names op d) s e)) ≡ true → IsFirstReason op m s d e
 at_source op m s d e so =
-    let both = and_parts _ _ so in
-    let bad = and_parts _ _ both.1 in
-    reason_at_source op m s d e (reaches op m s d both.0) (record { source = not_empty s bad.0; refusal = bad_for op d s e bad.1 })
+    let bad = and_parts _ _ (and_parts _ _ so).1 in
+    reason_at_source op m s d e (reaches op m s d (and_parts _ _ so).0) (record { source = not_empty s bad.0; refusal = bad_for op d s e bad.1 })
 
 pub bad_end : (d : List ℕ) (e : Refusal) → (not (is_empty d) && is_bad true d e) ≡ true → HasBadDestination (Some d) e
 bad_end d e so = let bad = and_parts _ _ so in bad_destination (Some d) e (not_empty d bad.0, bad_for Fetch None d e bad.1)
 
 pub at_destination : (op : Operation) (m : Mode) (s d : List ℕ) (e : Refusal) → (calm op m s (Some d) && (begins op s (Some d) && (not (is_empty d) && is_bad true d e))) ≡ true → IsFirstReason op m s (Some d) e
 at_destination op m s d e so =
-    let both = and_parts _ _ so in
-    let sides = and_parts _ _ both.1 in
-    reason_at_destination op m s (Some d) e (reaches op m s (Some d) both.0) (fine_source op s (Some d) sides.0) (bad_end d e sides.1)
+    let sides = and_parts _ _ (and_parts _ _ so).1 in
+    reason_at_destination op m s (Some d) e (reaches op m s (Some d) (and_parts _ _ so).0) (fine_source op s (Some d) sides.0) (bad_end d e sides.1)
 
 abbrev uneven : Operation → Mode → List ℕ → Option (List ℕ) → Bool
 uneven op Negative s d = false
@@ -189,8 +183,8 @@ at_balance Push m s None so = absurd (false≢true so)
 at_balance Push m (b ∷ s) (Some []) so = absurd (false≢true so)
 at_balance Push m s (Some d) so =
     let both = and_parts _ _ so in
-    unbalanced_push m s d (shape_of s) (other (shape_of s)) tt (λ some empty. grind arith) (star_fit s (shape_of s) both.0) (fit d (other (shape_of s)) both.1) (differs (shape_of s))
-at_balance Fetch m s d so = let both = and_parts _ _ so in unbalanced_fetch m s d (shape_of s) (other (shape_of s)) tt (fit s (shape_of s) both.0) (fit (unwrap_or d []) (other (shape_of s)) both.1) (differs (shape_of s))
+    unbalanced_push m s d (shape_of s) (other (shape_of s)) tt (λ some empty. grind arith) (star_fit s (shape_of s) both.0) (fit d (other (shape_of s)) both.1) (λ same. grind arith)
+at_balance Fetch m s d so = let both = and_parts _ _ so in unbalanced_fetch m s d (shape_of s) (other (shape_of s)) tt (fit s (shape_of s) both.0) (fit (unwrap_or d []) (other (shape_of s)) both.1) (λ same. grind arith)
 
 -- or an earlier one
 pub negative_with : (op : Operation) (s d : List ℕ) → IsFirstReason op Negative s (Some d) NegativeWithDestination
