@@ -1,8 +1,7 @@
 -- Which sources are covering.
 use Rattle.gix_refspec_text.proofs.Common.{rules, [], None, Some, codes, refl, arith, star, Normal, pushed, IsPrefix, of_name, of_pattern, IsCovering, by_prefix, by_candidates, HasCoveringSource, same_Some}
 use Rattle.gix_refspec_text.proofs.Common.{HasNoPrefix}
-use Rattle.gix_refspec_text.proofs.{facts.ManualFacts.Lacks-tested, readers.Texts.differ, lemmas.lists.LacksLemmas.Lacks-here, lemmas.prefixes.PrefixLemmas.no_prefix}
-use Rattle.gix_refspec_text.proofs.{readers.Texts.begins}
+use Rattle.gix_refspec_text.proofs.{facts.ManualFacts.Lacks-tested, readers.Texts.{differ, begins}, lemmas.lists.LacksLemmas.Lacks-here, lemmas.prefixes.PrefixLemmas.no_prefix}
 use Rattle.gix_refspec_text.proofs.facts.FitFacts.{blob_kind, no_dev, other_first, push_is_none, short, short_kind, split_at_end}
 
 -- the prefix of a pattern

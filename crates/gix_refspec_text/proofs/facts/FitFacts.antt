@@ -1,10 +1,9 @@
 -- The definitions on sides of specs, and the readings and names that other examples use.
 use Rattle.gix_refspec_text.proofs.Common.{rules, ◌≡◌, ◌≢◌, ℕ, zero, suc, ◌==◌, false, List, [], ◌∷◌, ◌++◌, None, Some, length, get_or, codes, refl, ap, ◌∙◌, subst, arith, AllByRecursion, Contains, list_any}
-use Rattle.gix_refspec_text.proofs.Common.{length-append, Fetch, Push, BeginsWith, IsSplit, star, IsIdText, Normal, Forced, Negative, Reading, fetched, full_name, object, partial, HasKind, Fits}
-use Rattle.gix_refspec_text.proofs.Common.{Excludes, the_name, by_pattern, filled, Ref}
-use Rattle.gix_refspec_text.proofs.{facts.ManualFacts.Lacks-tested, facts.ManualFacts.named, readers.Texts.differ, lemmas.hits.MatchLemmas.lacks_no_pattern}
-use Rattle.gix_refspec_text.proofs.{lemmas.hits.MatchLemmas.split_once, lemmas.lists.LacksLemmas.Lacks-here, lemmas.texts.ObjectIdLemmas.no_kind}
-use Rattle.gix_refspec_text.proofs.{facts.ObjectIdFacts.IsIdText-empty_blob, facts.ObjectIdFacts.empty_blob, facts.ObjectIdFacts.lower_of-empty_blob}
+use Rattle.gix_refspec_text.proofs.Common.{length-append, Fetch, Push, BeginsWith, IsSplit, star, IsIdText, Normal, Forced, Negative, Reading, fetched, full_name, object, partial, HasKind, Fits, Excludes}
+use Rattle.gix_refspec_text.proofs.Common.{the_name, by_pattern, Ref}
+use Rattle.gix_refspec_text.proofs.{facts.ManualFacts.{Lacks-tested, named}, readers.Texts.differ, lemmas.hits.MatchLemmas.{lacks_no_pattern, split_once}, lemmas.lists.LacksLemmas.Lacks-here}
+use Rattle.gix_refspec_text.proofs.{lemmas.texts.ObjectIdLemmas.no_kind, facts.ObjectIdFacts.{IsIdText-empty_blob, empty_blob}}
 
 -- texts that differ at an index differ
 pub other_byte : (k : ℕ) (x y : List ℕ) → get_or x k 0 ≢ get_or y k 0 → x ≢ y
@@ -24,11 +23,8 @@ of_element P (y ∷ ys) x all (zero, below, is) = subst P is all.0
 of_element P (y ∷ ys) x all (suc k, below, is) = of_element P ys x all.1 (k, omega (arith, below), is)
 
 -- a word lies between the prefix and the suffix of a pattern, which never overlap
-pub fitting : Fits (codes "refs/heads/") [] (codes "refs/heads/main") (codes "main") × Fits (codes "refs/heads/a") (codes "a") (codes "refs/heads/aa") []
-fitting = (refl, refl)
-
-pub ends_apart : (word : List ℕ) → ¬ (Fits (codes "a") (codes "a") (codes "a") word)
-ends_apart word fits = let size : 1 ≡ suc (length (word ++ codes "a")) = ap length fits in omega (arith, size, length-append word (codes "a"))
+pub fitting : Fits (codes "refs/heads/") [] (codes "refs/heads/main") (codes "main") × Fits (codes "refs/heads/a") (codes "a") (codes "refs/heads/aa") [] × ((w : List ℕ) → ¬ (Fits (codes "a") (codes "a") (codes "a") w))
+fitting = (refl, refl, λ word fits. let size : 1 ≡ suc (length (word ++ codes "a")) = ap length fits in omega (arith, size, length-append word (codes "a")))
 
 -- a pattern that ends with its only star
 pub split_at_end : (before : List ℕ) → list_any (λ c. c == star) before ≡ false → IsSplit before [] (before ++ codes "*")
@@ -36,10 +32,7 @@ split_at_end before none = record { starred = refl; first = Lacks-tested star be
 
 -- a negative spec excludes exactly its name, and not a full name that it may be short for
 pub excludes_name : Excludes (codes "refs/heads/wip") (codes "refs/heads/wip") × ¬ (Excludes (codes "wip") (codes "refs/heads/wip"))
-excludes_name = (the_name (Lacks-tested star (codes "refs/heads/wip") refl) refl, no_candidate)
-  where
-    no_candidate : ¬ (Excludes (codes "wip") (codes "refs/heads/wip"))
-    no_candidate = search (rules, differ, lacks_no_pattern (codes "wip"), Lacks-tested)
+excludes_name = (the_name (Lacks-tested star (codes "refs/heads/wip") refl) refl, search (rules, differ, lacks_no_pattern (codes "wip"), Lacks-tested))
 
 -- a pattern excludes the names that it matches, and no others
 pub excludes_dev : Excludes (codes "refs/heads/dev-*") (codes "refs/heads/dev-a")
@@ -49,8 +42,7 @@ pub excludes_no_main : ¬ (Excludes (codes "refs/heads/dev-*") (codes "refs/head
 excludes_no_main (the_name lacks same) = Lacks-here star (codes "refs/heads/dev-") [] lacks
 excludes_no_main (by_pattern before after word split fits) =
     let once = split_once (codes "refs/heads/dev-*") before after (codes "refs/heads/dev-") [] split (split_at_end (codes "refs/heads/dev-") refl) in
-    let here : codes "refs/heads/main" ≡ codes "refs/heads/dev-" ++ (word ++ after) = fits ∙ ap (λ (y : List ℕ). y ++ (word ++ after)) once.0 in
-    other_byte 11 (codes "refs/heads/main") (codes "refs/heads/dev-" ++ (word ++ after)) (λ same. omega (arith, same)) here
+    other_byte 11 (codes "refs/heads/main") (codes "refs/heads/dev-" ++ (word ++ after)) (λ same. omega (arith, same)) (fits ∙ ap (λ (y : List ℕ). y ++ (word ++ after)) once.0)
 
 -- what `git clone` writes, and an exclusion of git-fetch(1)
 abbrev pub every : Reading
@@ -94,7 +86,3 @@ short_no_id bytes text = no_kind 4 (λ same. omega (arith, same)) (λ same. omeg
 
 pub short_kind : HasKind (codes "main") (partial (codes "main"))
 short_kind = search (arith, Lacks-tested, other_byte, short_no_id)
-
--- what a full name and an id become on the other side
-pub filled_others : (filled (full_name (codes "refs/tags/blob")) None ≡ codes "refs/tags/blob") × (filled (object empty_blob) None ≡ codes "refs/heads/e69de29bb2d1d6434b8b29ae775ad8c2e48c5391")
-filled_others = (refl, ap (λ (x : List ℕ). codes "refs/heads/" ++ x) lower_of-empty_blob)

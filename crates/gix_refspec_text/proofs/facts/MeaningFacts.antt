@@ -1,9 +1,8 @@
 -- Examples for this project's own rules on meanings, canonical texts, order and reasons: where a sign has a meaning,
 -- which text gets another one, and how instructions compare.
-use Rattle.gix_refspec_text.proofs.Common.{arith, List, ◌∷◌, map, Option, Reading, Meaning, ◌≡◌, true, false, [], None, Some, codes, refl, Less, Equal, Greater, Push, Fetch, Normal, Forced, Negative}
-use Rattle.gix_refspec_text.proofs.Common.{fetched, pushed, push_all_matching, push_delete, push_matching, push_exclude, fetch_only, fetch_exclude, fetch_and_update, meaning_of, text_of, printed}
-use Rattle.gix_refspec_text.proofs.Common.{all_tags, order, is_same, Refusal, NegativeWithDestination, PushToEmpty, PatternUnbalanced, NegativeEmpty, NegativeObjectHash, meant_for, IsShownAs, Empty}
-use Rattle.gix_refspec_text.specs.declared.parsing.Error.TheVariants as error
+use Rattle.gix_refspec_text.proofs.Common.{List, ◌∷◌, map, Option, Reading, Meaning, ◌≡◌, true, false, [], None, Some, codes, refl, Less, Equal, Greater, Push, Fetch, Normal, Forced, Negative, fetched, pushed}
+use Rattle.gix_refspec_text.proofs.Common.{push_all_matching, push_delete, push_matching, push_exclude, fetch_only, fetch_exclude, fetch_and_update, meaning_of, text_of, printed, all_tags, order, is_same}
+use Rattle.gix_refspec_text.proofs.Common.{meant_for}
 
 abbrev pub meanings : List (Reading × Option Meaning)
 meanings =
@@ -32,53 +31,34 @@ meanings =
 pub each_meaning : map (λ p. meaning_of p.0) meanings ≡ map (λ p. p.1) meanings
 each_meaning = refl
 
--- a lone source that begins with a plus is printed with another one, and no other text is; without a meaning there is no text
-pub pluses : (text_of (fetch_only (codes "+foo")) ≡ codes "++foo") × (text_of (fetch_only (codes "foo+")) ≡ codes "foo+")
-    × (text_of (fetch_exclude (codes "+x")) ≡ codes "^+x") × (text_of (push_delete (codes "+x")) ≡ codes ":+x")
-    × (text_of (fetch_and_update (codes "+a") (codes "b") false) ≡ codes "+a:b")
-    × (text_of (push_matching (codes "+a") (codes "b") false) ≡ codes "+a:b")
-    × (text_of (push_exclude (codes "+x")) ≡ codes "^+x") × (text_of (fetch_only []) ≡ [])
-    × (text_of (fetch_only (codes "^a")) ≡ codes "^a")
-    × (text_of (push_all_matching true) ≡ codes "+:")
-    × (printed (pushed Normal (Some (codes "main")) None) ≡ Some (codes "main:main"))
-    × (printed (fetched Forced (codes "main") None) ≡ Some (codes "main"))
-    × (printed (fetched Negative (codes "a") (Some (codes "b"))) ≡ None)
-pluses = (refl, refl, refl, refl, refl, refl, refl, refl, refl, refl, refl, refl, refl)
+pub pluses :
+    -- a lone source that begins with a plus is printed with another one, and no other text is
+    (map text_of (fetch_only (codes "+foo") ∷ fetch_only (codes "foo+") ∷ fetch_exclude (codes "+x") ∷ push_delete (codes "+x") ∷ fetch_and_update (codes "+a") (codes "b") false
+    ∷ push_matching (codes "+a") (codes "b") false ∷ push_exclude (codes "+x") ∷ fetch_only [] ∷ fetch_only (codes "^a") ∷ push_all_matching true ∷ [])
+    ≡ codes "++foo" ∷ codes "foo+" ∷ codes "^+x" ∷ codes ":+x" ∷ codes "+a:b" ∷ codes "+a:b" ∷ codes "^+x" ∷ [] ∷ codes "^a" ∷ codes "+:" ∷ [])
+    -- without a meaning there is no text
+    × (map printed (pushed Normal (Some (codes "main")) None ∷ fetched Forced (codes "main") None ∷ fetched Negative (codes "a") (Some (codes "b")) ∷ [])
+    ≡ Some (codes "main:main") ∷ Some (codes "main") ∷ None ∷ [])
+    -- the operation of each meaning
+    × (map meant_for (push_exclude (codes "a") ∷ fetch_exclude (codes "a") ∷ push_delete (codes "a") ∷ fetch_only (codes "a") ∷ []) ≡ Push ∷ Fetch ∷ Push ∷ Fetch ∷ [])
+pluses = (refl, refl, refl)
 
 -- all tags are fetched without force
 pub tags_printed : printed all_tags ≡ Some (codes "refs/tags/*:refs/tags/*")
 tags_printed = refl
 
--- the operation of each meaning
-pub operations : (meant_for (push_exclude (codes "a")) ≡ Push) × (meant_for (fetch_exclude (codes "a")) ≡ Fetch) × (meant_for (push_delete (codes "a")) ≡ Push) × (meant_for (fetch_only (codes "a")) ≡ Fetch)
-operations = (refl, refl, refl, refl)
-
--- the variants are in the order of their declarations, pushes before fetches
-pub kinds_rise : (order (push_all_matching true) (push_delete []) ≡ Less)
-    × (order (push_delete (codes "z")) (push_matching (codes "a") (codes "a") false) ≡ Less)
-    × (order (push_matching (codes "z") (codes "z") true) (push_exclude (codes "a")) ≡ Less)
-    × (order (push_exclude (codes "z")) (fetch_only (codes "a")) ≡ Less)
-    × (order (fetch_only (codes "z")) (fetch_exclude (codes "a")) ≡ Less)
-    × (order (fetch_exclude (codes "z")) (fetch_and_update (codes "a") (codes "a") false) ≡ Less)
-kinds_rise = (refl, refl, refl, refl, refl, refl)
-
--- then the source decides, then the destination, and last the sign; bytes are compared before lengths
-pub fields_rise : (order (push_matching (codes "a") (codes "z") true) (push_matching (codes "b") (codes "a") false) ≡ Less)
+pub fields_rise :
+    -- the variants are in the order of their declarations, pushes before fetches
+    (order (push_all_matching true) (push_delete []) ≡ Less) × (order (push_delete (codes "z")) (push_matching (codes "a") (codes "a") false) ≡ Less)
+    × (order (push_matching (codes "z") (codes "z") true) (push_exclude (codes "a")) ≡ Less) × (order (push_exclude (codes "z")) (fetch_only (codes "a")) ≡ Less)
+    × (order (fetch_only (codes "z")) (fetch_exclude (codes "a")) ≡ Less) × (order (fetch_exclude (codes "z")) (fetch_and_update (codes "a") (codes "a") false) ≡ Less)
+    -- then the source decides, then the destination, and last the sign; bytes are compared before lengths
+    × (order (push_matching (codes "a") (codes "z") true) (push_matching (codes "b") (codes "a") false) ≡ Less)
     × (order (push_matching (codes "a") (codes "a") true) (push_matching (codes "a") (codes "b") false) ≡ Less)
     × (order (push_matching (codes "a") (codes "b") false) (push_matching (codes "a") (codes "b") true) ≡ Less)
-    × (order (fetch_only (codes "aa")) (fetch_only (codes "b")) ≡ Less)
-    × (order (fetch_only (codes "aa")) (fetch_only (codes "a")) ≡ Greater)
+    × (order (fetch_only (codes "aa")) (fetch_only (codes "b")) ≡ Less) × (order (fetch_only (codes "aa")) (fetch_only (codes "a")) ≡ Greater)
     × (order (fetch_only (codes "a")) (fetch_only (codes "a")) ≡ Equal)
-fields_rise = (refl, refl, refl, refl, refl, refl)
-
--- instructions of two variants differ, even if their texts are equal
-pub kinds_differ : (is_same (fetch_only (codes "a")) (fetch_exclude (codes "a")) ≡ false) × (is_same (push_exclude (codes "a")) (fetch_exclude (codes "a")) ≡ false) × (is_same (fetch_only (codes "a")) (fetch_only (codes "a")) ≡ true)
-kinds_differ = (refl, refl, refl)
-
--- each error without a field is the reason of its name
-pub reasons : IsShownAs error.Empty Empty × IsShownAs error.NegativeWithDestination NegativeWithDestination × IsShownAs error.PushToEmpty PushToEmpty × IsShownAs error.PatternUnbalanced PatternUnbalanced × IsShownAs error.NegativeEmpty NegativeEmpty × IsShownAs error.NegativeObjectHash NegativeObjectHash
-reasons = (refl, refl, refl, refl, refl, refl)
-
--- the three variants that are kept for callers are not reasons, nor is `Memory`
-pub no_reasons : (f : Refusal) → ¬ (IsShownAs error.NegativePartialName f) × ¬ (IsShownAs error.NegativeGlobPattern f) × ¬ (IsShownAs error.InvalidFetchDestination f) × ¬ (IsShownAs error.Memory f)
-no_reasons f = search (arith)
+    -- instructions of two variants differ, even if their texts are equal
+    × (is_same (fetch_only (codes "a")) (fetch_exclude (codes "a")) ≡ false) × (is_same (push_exclude (codes "a")) (fetch_exclude (codes "a")) ≡ false)
+    × (is_same (fetch_only (codes "a")) (fetch_only (codes "a")) ≡ true)
+fields_rise = (refl, refl, refl, refl, refl, refl, refl, refl, refl, refl, refl, refl, refl, refl, refl)

@@ -1,24 +1,18 @@
 -- Refspecs, instructions, reasons and ids as contracts see them, at values whose fields differ, so that no field is
 -- lost or taken for another. That some text reads as a spec is a premise.
-use Rattle.gix_refspec_text.proofs.Common.{Option, ◌≡◌, ◌≢◌, ℕ, List, [], ◌∷◌, ◌++◌, None, Some, true, false, map, get_or, replicate, option_map, codes, refl, sym, ap, ◌∙◌, inl, arith, bstring_bytes}
-use Rattle.gix_refspec_text.proofs.Common.{LockSuffix, RepeatedDot, Digit, Length, Sha1, ObjectId, Operation, Push, Fetch, fault_name, Normal, Forced, Negative, fetched, pushed, fetch_only}
-use Rattle.gix_refspec_text.proofs.Common.{meaning_of, text_of, WritesPrinted, keys, NegativeWithDestination, PushToEmpty, PatternUnsupported, ReferenceName, PatternUnbalanced, NegativeEmpty}
-use Rattle.gix_refspec_text.proofs.Common.{NegativeObjectHash, IsFirstReason, reading_of, owned_reading_of, key_of_spec, key_of_owned, meaning_of_instruction, meant_for, IsShownAs, ShowsRefusal}
-use Rattle.gix_refspec_text.proofs.Common.{AppendsExpansion, to_prefix, Empty}
-use Rattle.bstr.specs.declared.bstr.BStr.{BStr}
-use Rattle.bstr.specs.declared.bstring.BString.{BString}
-use Rattle.gix_refspec_text.specs.declared.spec.RefSpec.{RefSpec, accepted-type as owned-type}
-use Rattle.gix_refspec_text.specs.declared.spec.RefSpecRef.{RefSpecRef, accepted-type}
-use Rattle.gix_refspec_text.specs.declared.types.Instruction.{Instruction}
-use Rattle.gix_refspec_text.specs.declared.types.Mode.{Mode}
-use Rattle.gix_refspec_text.specs.Views.Errors.{IsSameError}
+use Rattle.gix_refspec_text.proofs.Common.{Refusal, Option, ◌≡◌, ◌≢◌, ℕ, List, [], ◌∷◌, ◌++◌, None, Some, true, false, map, get_or, replicate, option_map, codes, refl, sym, ap, ◌∙◌, inl, arith, bstring_bytes}
+use Rattle.gix_refspec_text.proofs.Common.{LockSuffix, RepeatedDot, Sha1, ObjectId, Operation, Push, Fetch, Normal, Forced, Negative, fetched, pushed, fetch_only, meaning_of, text_of, WritesPrinted, keys}
+use Rattle.gix_refspec_text.proofs.Common.{NegativeWithDestination, PushToEmpty, PatternUnsupported, ReferenceName, PatternUnbalanced, NegativeEmpty, NegativeObjectHash, IsFirstReason, reading_of}
+use Rattle.gix_refspec_text.proofs.Common.{owned_reading_of, key_of_spec, key_of_owned, meaning_of_instruction, meant_for, IsShownAs, ShowsRefusal, AppendsExpansion, to_prefix, Empty}
+use Rattle.bstr.{specs.declared.bstr.BStr.BStr, specs.declared.bstring.BString.BString}
+use Rattle.gix_refspec_text.specs.{declared.spec.RefSpec.{RefSpec, accepted-type as owned-type}, declared.spec.RefSpecRef.{RefSpecRef, accepted-type}, declared.types.Instruction.Instruction}
+use Rattle.gix_refspec_text.specs.{declared.types.Mode.Mode, Views.Errors.IsSameError}
+use Rattle.gix_refspec_text.proofs.{facts.FitFacts.{no_dev, other_byte}, facts.ManualFacts.none_some, facts.ObjectIdFacts.empty_blob, facts.PrefixFacts.whole_prefixes, facts.RefusalFacts.empty_push}
 use Rattle.gix_refspec_text.specs.declared.instruction.Fetch.TheVariants as fetch
 use Rattle.gix_refspec_text.specs.declared.instruction.Push.TheVariants as push
 use Rattle.gix_refspec_text.specs.declared.parsing.Error.TheVariants as error
 use Rattle.gix_refspec_text.specs.declared.types.Instruction.TheVariants as instruction
 use Rattle.gix_refspec_text.specs.declared.types.Mode.TheVariants as mode
-use Rattle.gix_refspec_text.proofs.{facts.FitFacts.no_dev, facts.FitFacts.other_byte, facts.ManualFacts.none_some, facts.ManualFacts.other_length}
-use Rattle.gix_refspec_text.proofs.{facts.ObjectIdFacts.empty_blob, facts.PrefixFacts.whole_prefixes, facts.RefusalFacts.empty_push}
 
 -- a borrowed text
 abbrev pub lent : List ℕ → BStr
@@ -40,18 +34,12 @@ owned_of op sign s d accepted = record { op = op; mode = sign; src = s; dst = d;
 other_key : (k j : ℕ) (x y : List (List ℕ)) → get_or (get_or x k []) j 0 ≢ get_or (get_or y k []) j 0 → x ≢ y
 other_key k j x y differ same = differ (ap (λ (z : List (List ℕ)). get_or (get_or z k []) j 0) same)
 
--- ---- refspecs
-
 module _
-    (update : Accepted Fetch mode.Force (Some (codes "a")) (Some (codes "b")))
-    (unforced : Accepted Fetch mode.Normal (Some (codes "a")) (Some (codes "b")))
-    (alone : Accepted Fetch mode.Normal (Some (codes "a")) None)
-    (forced : Accepted Fetch mode.Force (Some (codes "a")) None)
-    (exclusion : Accepted Fetch mode.Negative (Some (codes "a")) None)
-    (same_name : Accepted Push mode.Normal (Some (codes "a")) None)
-    (to_itself : Accepted Push mode.Normal (Some (codes "a")) (Some (codes "a")))
-    (deletion : Accepted Push mode.Normal None (Some (codes "b")))
-    (all_matching : Accepted Push mode.Force None None)
+    (update : Accepted Fetch mode.Force (Some (codes "a")) (Some (codes "b"))) (unforced : Accepted Fetch mode.Normal (Some (codes "a")) (Some (codes "b")))
+    (alone : Accepted Fetch mode.Normal (Some (codes "a")) None) (forced : Accepted Fetch mode.Force (Some (codes "a")) None)
+    (exclusion : Accepted Fetch mode.Negative (Some (codes "a")) None) (same_name : Accepted Push mode.Normal (Some (codes "a")) None)
+    (to_itself : Accepted Push mode.Normal (Some (codes "a")) (Some (codes "a"))) (deletion : Accepted Push mode.Normal None (Some (codes "b")))
+    (all : Accepted Push mode.Force None None)
   where
     abbrev fetches_a : RefSpecRef
     fetches_a = spec_of Fetch mode.Normal (Some (codes "a")) None alone
@@ -59,109 +47,101 @@ module _
     abbrev updates_b : RefSpecRef
     updates_b = spec_of Fetch mode.Force (Some (codes "a")) (Some (codes "b")) update
 
-    -- `a`, `+a:b` and `^a` in a fetch, `:b` and `+:` in a push
-    pub readings : map reading_of (fetches_a ∷ updates_b ∷ spec_of Fetch mode.Negative (Some (codes "a")) None exclusion ∷ spec_of Push mode.Normal None (Some (codes "b")) deletion ∷ spec_of Push mode.Force None None all_matching ∷ [])
-        ≡ fetched Normal (codes "a") None ∷ fetched Forced (codes "a") (Some (codes "b")) ∷ fetched Negative (codes "a") None ∷ pushed Normal None (Some (codes "b")) ∷ pushed Forced None None ∷ []
-    readings = refl
-
-    -- specs with the same meaning have one key: `a` and `+a` in a fetch, `a` and `a:a` in a push
-    pub same_keys : (key_of_spec fetches_a ≡ key_of_spec (spec_of Fetch mode.Force (Some (codes "a")) None forced)) × (key_of_spec (spec_of Push mode.Normal (Some (codes "a")) None same_name) ≡ key_of_spec (spec_of Push mode.Normal (Some (codes "a")) (Some (codes "a")) to_itself))
-    same_keys = (refl, refl)
-
-    -- specs with different meanings have different keys: `a` in a fetch and in a push, `a` and `^a`, `+a:b` and `a:b`
-    pub other_keys : (key_of_spec fetches_a ≢ key_of_spec (spec_of Push mode.Normal (Some (codes "a")) None same_name)) × (key_of_spec fetches_a ≢ key_of_spec (spec_of Fetch mode.Negative (Some (codes "a")) None exclusion)) × (key_of_spec updates_b ≢ key_of_spec (spec_of Fetch mode.Normal (Some (codes "a")) (Some (codes "b")) unforced))
-    other_keys = (other_key 0 0 _ _ (λ same. omega (arith, same)), other_key 0 0 _ _ (λ same. omega (arith, same)), other_key 3 0 _ _ (λ same. omega (arith, same)))
+    pub readings :
+        -- `a`, `+a:b` and `^a` in a fetch, `:b` and `+:` in a push
+        (map reading_of (fetches_a ∷ updates_b ∷ spec_of Fetch mode.Negative (Some (codes "a")) None exclusion ∷ spec_of Push mode.Normal None (Some (codes "b")) deletion ∷ spec_of Push mode.Force None None all ∷ [])
+        ≡ fetched Normal (codes "a") None ∷ fetched Forced (codes "a") (Some (codes "b")) ∷ fetched Negative (codes "a") None ∷ pushed Normal None (Some (codes "b")) ∷ pushed Forced None None ∷ [])
+        -- specs with the same meaning have one key: `a` and `+a` in a fetch, `a` and `a:a` in a push
+        × (key_of_spec fetches_a ≡ key_of_spec (spec_of Fetch mode.Force (Some (codes "a")) None forced))
+        × (key_of_spec (spec_of Push mode.Normal (Some (codes "a")) None same_name) ≡ key_of_spec (spec_of Push mode.Normal (Some (codes "a")) (Some (codes "a")) to_itself))
+        -- specs with different meanings have different keys: `a` in a fetch and in a push, `a` and `^a`, `+a:b` and `a:b`
+        × (key_of_spec fetches_a ≢ key_of_spec (spec_of Push mode.Normal (Some (codes "a")) None same_name))
+        × (key_of_spec fetches_a ≢ key_of_spec (spec_of Fetch mode.Negative (Some (codes "a")) None exclusion))
+        × (key_of_spec updates_b ≢ key_of_spec (spec_of Fetch mode.Normal (Some (codes "a")) (Some (codes "b")) unforced))
+    readings = (refl, refl, refl, other_key 0 0 _ _ (λ same. omega (arith, same)), other_key 0 0 _ _ (λ same. omega (arith, same)), other_key 3 0 _ _ (λ same. omega (arith, same)))
 
 module _
-    (n m : BString)
-    (update : owned-type Fetch mode.Force (Some n) (Some m))
-    (alone : owned-type Fetch mode.Normal (Some n) None)
-    (forced : owned-type Fetch mode.Force (Some n) None)
-    (exclusion : owned-type Fetch mode.Negative (Some n) None)
-    (same_name : owned-type Push mode.Normal (Some n) None)
-    (deletion : owned-type Push mode.Normal None (Some m))
+    (n m : BString) (update : owned-type Fetch mode.Force (Some n) (Some m)) (alone : owned-type Fetch mode.Normal (Some n) None)
+    (forced : owned-type Fetch mode.Force (Some n) None) (exclusion : owned-type Fetch mode.Negative (Some n) None)
+    (same_name : owned-type Push mode.Normal (Some n) None) (deletion : owned-type Push mode.Normal None (Some m))
   where
-    -- owned specs have the readings of borrowed ones
-    pub owned_readings : map owned_reading_of (owned_of Fetch mode.Force (Some n) (Some m) update ∷ owned_of Fetch mode.Negative (Some n) None exclusion ∷ owned_of Push mode.Normal None (Some m) deletion ∷ [])
-        ≡ fetched Forced (bstring_bytes n) (Some (bstring_bytes m)) ∷ fetched Negative (bstring_bytes n) None ∷ pushed Normal None (Some (bstring_bytes m)) ∷ []
-    owned_readings = refl
-
-    -- and have their keys
-    pub owned_keys : (key_of_owned (owned_of Fetch mode.Force (Some n) None forced) ≡ key_of_owned (owned_of Fetch mode.Normal (Some n) None alone)) × (key_of_owned (owned_of Fetch mode.Normal (Some n) None alone) ≡ keys (Some (fetch_only (bstring_bytes n)))) × (key_of_owned (owned_of Fetch mode.Normal (Some n) None alone) ≢ key_of_owned (owned_of Push mode.Normal (Some n) None same_name))
-    owned_keys = (refl, refl, other_key 0 0 _ _ (λ same. omega (arith, same)))
-
--- ---- instructions
+    pub owned_views :
+        -- owned specs have the readings of borrowed ones
+        (map owned_reading_of (owned_of Fetch mode.Force (Some n) (Some m) update ∷ owned_of Fetch mode.Negative (Some n) None exclusion ∷ owned_of Push mode.Normal None (Some m) deletion ∷ [])
+        ≡ fetched Forced (bstring_bytes n) (Some (bstring_bytes m)) ∷ fetched Negative (bstring_bytes n) None ∷ pushed Normal None (Some (bstring_bytes m)) ∷ [])
+        -- and have their keys
+        × (key_of_owned (owned_of Fetch mode.Force (Some n) None forced) ≡ key_of_owned (owned_of Fetch mode.Normal (Some n) None alone))
+        × (key_of_owned (owned_of Fetch mode.Normal (Some n) None alone) ≡ keys (Some (fetch_only (bstring_bytes n))))
+        × (key_of_owned (owned_of Fetch mode.Normal (Some n) None alone) ≢ key_of_owned (owned_of Push mode.Normal (Some n) None same_name))
+    owned_views = (refl, refl, refl, other_key 0 0 _ _ (λ same. omega (arith, same)))
 
 abbrev pushes : List Instruction
-pushes = instruction.Push (push.AllMatchingBranches true) ∷ instruction.Push (push.AllMatchingBranches false) ∷ instruction.Push (push.Delete (lent (codes "x"))) ∷ instruction.Push (push.Matching (lent (codes "a")) (lent (codes "b")) true) ∷ instruction.Push (push.Exclude (lent (codes "a"))) ∷ []
+pushes = map instruction.Push (push.AllMatchingBranches true ∷ push.AllMatchingBranches false ∷ push.Delete (lent (codes "x")) ∷ push.Matching (lent (codes "a")) (lent (codes "b")) true ∷ push.Exclude (lent (codes "a")) ∷ [])
 
 abbrev fetches : List Instruction
-fetches = instruction.Fetch (fetch.Only (lent (codes "a"))) ∷ instruction.Fetch (fetch.Exclude (lent (codes "a"))) ∷ instruction.Fetch (fetch.AndUpdate (lent (codes "a")) (lent (codes "b")) true) ∷ instruction.Fetch (fetch.AndUpdate (lent (codes "a")) (lent (codes "b")) false) ∷ []
+fetches = map instruction.Fetch (fetch.Only (lent (codes "a")) ∷ fetch.Exclude (lent (codes "a")) ∷ fetch.AndUpdate (lent (codes "a")) (lent (codes "b")) true ∷ fetch.AndUpdate (lent (codes "a")) (lent (codes "b")) false ∷ [])
 
--- the texts of instructions
-pub texts_shown : (map (λ i. text_of (meaning_of_instruction i)) pushes ≡ codes "+:" ∷ codes ":" ∷ codes ":x" ∷ codes "+a:b" ∷ codes "^a" ∷ []) × (map (λ i. text_of (meaning_of_instruction i)) fetches ≡ codes "a" ∷ codes "^a" ∷ codes "+a:b" ∷ codes "a:b" ∷ [])
-texts_shown = (refl, refl)
+pub instructions :
+    -- the texts of instructions
+    (map (λ i. text_of (meaning_of_instruction i)) pushes ≡ codes "+:" ∷ codes ":" ∷ codes ":x" ∷ codes "+a:b" ∷ codes "^a" ∷ [])
+    × (map (λ i. text_of (meaning_of_instruction i)) fetches ≡ codes "a" ∷ codes "^a" ∷ codes "+a:b" ∷ codes "a:b" ∷ [])
+    -- and their operations, which their texts don't show
+    × (map (λ i. meant_for (meaning_of_instruction i)) pushes ≡ Push ∷ Push ∷ Push ∷ Push ∷ Push ∷ []) × (map (λ i. meant_for (meaning_of_instruction i)) fetches ≡ Fetch ∷ Fetch ∷ Fetch ∷ Fetch ∷ [])
+    -- a reading and its instruction have the same meaning
+    × (meaning_of (fetched Forced (codes "a") (Some (codes "b"))) ≡ Some (meaning_of_instruction (instruction.Fetch (fetch.AndUpdate (lent (codes "a")) (lent (codes "b")) true))))
+    × (meaning_of (pushed Normal (Some (codes "a")) None) ≡ Some (meaning_of_instruction (instruction.Push (push.Matching (lent (codes "a")) (lent (codes "a")) false))))
+instructions = (refl, refl, refl, refl, refl, refl)
 
--- and their operations, which their texts don't show
-pub operations_shown : (map (λ i. meant_for (meaning_of_instruction i)) pushes ≡ Push ∷ Push ∷ Push ∷ Push ∷ Push ∷ []) × (map (λ i. meant_for (meaning_of_instruction i)) fetches ≡ Fetch ∷ Fetch ∷ Fetch ∷ Fetch ∷ [])
-operations_shown = (refl, refl)
+pub errors : (p : BString) →
+    -- the error of a side with two stars has its whole text, and that of a bad name its fault
+    (bstring_bytes p ≡ codes "a*b*" → IsShownAs (error.PatternUnsupported p) (PatternUnsupported (codes "a*b*")) × ¬ (IsShownAs (error.PatternUnsupported p) (PatternUnsupported (codes "a*b"))))
+    × IsShownAs (error.ReferenceName LockSuffix) (ReferenceName LockSuffix) × ¬ (IsShownAs (error.ReferenceName LockSuffix) (ReferenceName RepeatedDot))
+    -- each error without a field is the reason of its name
+    × IsShownAs error.Empty Empty × IsShownAs error.NegativeWithDestination NegativeWithDestination × IsShownAs error.PushToEmpty PushToEmpty
+    × IsShownAs error.PatternUnbalanced PatternUnbalanced × IsShownAs error.NegativeEmpty NegativeEmpty × IsShownAs error.NegativeObjectHash NegativeObjectHash
+    -- the three variants that are kept for callers are not reasons, nor is `Memory`
+    × ((f : Refusal) → ¬ (IsShownAs error.NegativePartialName f) × ¬ (IsShownAs error.NegativeGlobPattern f) × ¬ (IsShownAs error.InvalidFetchDestination f) × ¬ (IsShownAs error.Memory f))
+    -- an error doesn't stand for the reason of another
+    × ¬ (IsShownAs error.Empty NegativeEmpty) × ¬ (IsShownAs error.NegativeEmpty Empty) × ¬ (IsShownAs error.NegativeWithDestination NegativeObjectHash)
+    × ¬ (IsShownAs error.NegativeObjectHash NegativeWithDestination) × ¬ (IsShownAs error.PushToEmpty Empty)
+    × ¬ (IsShownAs error.PatternUnbalanced (PatternUnsupported (bstring_bytes p))) × ¬ (IsShownAs (error.PatternUnsupported p) PatternUnbalanced)
+    × ¬ (IsShownAs (error.ReferenceName LockSuffix) (PatternUnsupported (bstring_bytes p)))
+    -- errors are the same by variant and field, and texts with several stars by their bytes
+    × IsSameError error.Memory error.Memory × IsSameError (error.ReferenceName LockSuffix) (error.ReferenceName LockSuffix)
+    × ((q : BString) → bstring_bytes p ≡ bstring_bytes q → IsSameError (error.PatternUnsupported p) (error.PatternUnsupported q))
+    × ((q : BString) → bstring_bytes p ≢ bstring_bytes q → ¬ (IsSameError (error.PatternUnsupported p) (error.PatternUnsupported q)))
+    × ¬ (IsSameError (error.PatternUnsupported p) error.PatternUnbalanced) × ¬ (IsSameError error.PatternUnbalanced (error.PatternUnsupported p))
+    × ¬ (IsSameError error.Empty error.NegativeEmpty) × ¬ (IsSameError (error.ReferenceName LockSuffix) (error.ReferenceName RepeatedDot))
+errors p = search (arith)
 
--- a reading and its instruction have the same meaning
-pub instructions_of : (meaning_of (fetched Forced (codes "a") (Some (codes "b"))) ≡ Some (meaning_of_instruction (instruction.Fetch (fetch.AndUpdate (lent (codes "a")) (lent (codes "b")) true)))) × (meaning_of (pushed Normal (Some (codes "a")) None) ≡ Some (meaning_of_instruction (instruction.Push (push.Matching (lent (codes "a")) (lent (codes "a")) false))))
-instructions_of = (refl, refl)
+pub refusals :
+    -- a push of an empty text is refused as empty
+    ShowsRefusal (IsFirstReason Push Normal [] None) error.Empty × ShowsRefusal (λ f. f ≡ PushToEmpty) error.PushToEmpty × ¬ (ShowsRefusal (λ f. f ≡ PushToEmpty) error.Empty)
+    -- `Memory` is never a refusal of the grammar, nor is a variant that is kept for callers
+    × ¬ (ShowsRefusal (λ f. Unit {0}) error.Memory) × ¬ (ShowsRefusal (λ f. Unit {0}) error.NegativePartialName)
+refusals = ((Empty, refl, empty_push.0), (PushToEmpty, refl, refl), (λ shows. let same = sym shows.1 ∙ shows.2 in cc), (λ shows. shows.1), λ shows. shows.1)
 
--- ---- reasons
-
--- the error of a side with two stars has its whole text, and that of a bad name its fault
-pub reasons_with_fields : (p : BString) → bstring_bytes p ≡ codes "a*b*" → IsShownAs (error.PatternUnsupported p) (PatternUnsupported (codes "a*b*")) × ¬ (IsShownAs (error.PatternUnsupported p) (PatternUnsupported (codes "a*b"))) × IsShownAs (error.ReferenceName LockSuffix) (ReferenceName LockSuffix) × ¬ (IsShownAs (error.ReferenceName LockSuffix) (ReferenceName RepeatedDot))
-reasons_with_fields p is = (ap PatternUnsupported (sym is), (λ same. let short : codes "a*b" ≡ codes "a*b*" = cc in other_length _ _ (λ size. omega (arith, size)) short), refl, λ same. cc)
-
--- an error doesn't stand for the reason of another
-pub other_reasons : (p : BString) → ¬ (IsShownAs error.Empty NegativeEmpty) × ¬ (IsShownAs error.NegativeEmpty Empty) × ¬ (IsShownAs error.NegativeWithDestination NegativeObjectHash) × ¬ (IsShownAs error.NegativeObjectHash NegativeWithDestination) × ¬ (IsShownAs error.PushToEmpty Empty) × ¬ (IsShownAs error.PatternUnbalanced (PatternUnsupported (bstring_bytes p))) × ¬ (IsShownAs (error.PatternUnsupported p) PatternUnbalanced) × ¬ (IsShownAs (error.ReferenceName LockSuffix) (PatternUnsupported (bstring_bytes p)))
-other_reasons p = search (arith)
-
--- errors are the same by variant and field, and texts with several stars by their bytes
-pub same_errors : (p q : BString) → bstring_bytes p ≡ bstring_bytes q → IsSameError (error.PatternUnsupported p) (error.PatternUnsupported q) × IsSameError error.Memory error.Memory × IsSameError (error.ReferenceName LockSuffix) (error.ReferenceName LockSuffix)
-same_errors p q is = (is, refl, refl)
-
-pub other_errors : (p q : BString) → bstring_bytes p ≢ bstring_bytes q → ¬ (IsSameError (error.PatternUnsupported p) (error.PatternUnsupported q)) × ¬ (IsSameError (error.PatternUnsupported p) error.PatternUnbalanced) × ¬ (IsSameError error.PatternUnbalanced (error.PatternUnsupported q)) × ¬ (IsSameError error.Empty error.NegativeEmpty) × ¬ (IsSameError (error.ReferenceName LockSuffix) (error.ReferenceName RepeatedDot))
-other_errors p q differ = (differ, (λ same. cc), (λ same. cc), (λ same. cc), λ same. cc)
-
--- a push of an empty text is refused as empty
-pub refusal_shown : ShowsRefusal (IsFirstReason Push Normal [] None) error.Empty × ShowsRefusal (λ f. f ≡ PushToEmpty) error.PushToEmpty × ¬ (ShowsRefusal (λ f. f ≡ PushToEmpty) error.Empty)
-refusal_shown = ((Empty, refl, empty_push.0), (PushToEmpty, refl, refl), λ shows. let same = sym shows.1 ∙ shows.2 in cc)
-
--- `Memory` is never a refusal of the grammar, nor is a variant that is kept for callers
-pub nothing_shown : ¬ (ShowsRefusal (λ f. Unit {0}) error.Memory) × ¬ (ShowsRefusal (λ f. Unit {0}) error.NegativePartialName)
-nothing_shown = ((λ shows. shows.1), λ shows. shows.1)
-
--- ---- appended texts and prefixes
-
--- a canonical text follows what was written
-pub text_after : WritesPrinted (fetched Forced (codes "a") (Some (codes "b"))) (Some (codes "old ")) (Some (codes "old +a:b"))
-text_after = record { text = codes "+a:b"; is = refl; grown = refl }
-
--- what was written isn't lost, and a reading without a canonical text writes nothing
-pub no_text : ¬ (WritesPrinted (fetched Forced (codes "a") (Some (codes "b"))) (Some (codes "old ")) (Some (codes "+a:b"))) × ((old new : Option (List ℕ)) → ¬ (WritesPrinted (fetched Negative (codes "a") (Some (codes "b"))) old new))
-no_text = ((λ writes. other_byte 0 (codes "+a:b") (codes "old " ++ writes.text) (λ same. omega (arith, same)) writes.grown), λ old new writes. none_some writes.text writes.is)
-
--- the expansion of a reading is appended to the earlier entries, which stay
-pub entries_after : AppendsExpansion (fetched Normal (codes "HEAD") None) (codes "old" ∷ []) (codes "old" ∷ codes "HEAD" ∷ []) × ¬ (AppendsExpansion (fetched Normal (codes "HEAD") None) (codes "old" ∷ []) (codes "HEAD" ∷ []))
-entries_after = (
+pub appended :
+    -- a canonical text follows what was written
+    WritesPrinted (fetched Forced (codes "a") (Some (codes "b"))) (Some (codes "old ")) (Some (codes "old +a:b"))
+    -- what was written isn't lost, and a reading without a canonical text writes nothing
+    × ¬ (WritesPrinted (fetched Forced (codes "a") (Some (codes "b"))) (Some (codes "old ")) (Some (codes "+a:b")))
+    × ((old new : Option (List ℕ)) → ¬ (WritesPrinted (fetched Negative (codes "a") (Some (codes "b"))) old new))
+    -- the expansion of a reading is appended to the earlier entries, which stay
+    × AppendsExpansion (fetched Normal (codes "HEAD") None) (codes "old" ∷ []) (codes "old" ∷ codes "HEAD" ∷ [])
+    × ¬ (AppendsExpansion (fetched Normal (codes "HEAD") None) (codes "old" ∷ []) (codes "HEAD" ∷ []))
+    -- a negative spec adds none
+    × AppendsExpansion no_dev (codes "old" ∷ []) (codes "old" ∷ []) × ¬ (AppendsExpansion no_dev (codes "old" ∷ []) (codes "old" ∷ codes "refs/heads/dev-" ∷ []))
+appended = (
+  record { text = codes "+a:b"; is = refl; grown = refl },
+  (λ writes. other_byte 0 (codes "+a:b") (codes "old " ++ writes.text) (λ same. omega (arith, same)) writes.grown),
+  (λ old new writes. none_some writes.text writes.is),
   record { list = codes "HEAD" ∷ []; is = inl (codes "HEAD", record { positive = tt; side = refl }, to_prefix (codes "HEAD") whole_prefixes.0 refl); appended = refl },
-  λ appends. other_key 0 0 _ _ (λ same. omega (arith, same)) appends.appended,
+  (λ appends. other_key 0 0 _ _ (λ same. omega (arith, same)) appends.appended),
+  search (arith),
+  search (arith),
 )
-
--- a negative spec adds none
-pub none_after : AppendsExpansion no_dev (codes "old" ∷ []) (codes "old" ∷ []) × ¬ (AppendsExpansion no_dev (codes "old" ∷ []) (codes "old" ∷ codes "refs/heads/dev-" ∷ []))
-none_after = search (arith)
-
--- ---- ids
 
 -- an id with the 20 bytes of the empty blob, and more after them in its buffer
 abbrev pub blob_id : ObjectId
 blob_id = record { kind = Sha1; buffer = empty_blob ++ replicate 12 7 }
-
--- the two faults of a text by their names, without the length
-pub fault_names : map fault_name (Length 6 ∷ Length 39 ∷ Digit ∷ []) ≡ codes "Length" ∷ codes "Length" ∷ codes "Digit" ∷ []
-fault_names = refl

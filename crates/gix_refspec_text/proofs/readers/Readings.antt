@@ -1,140 +1,194 @@
--- What a text reads as, computed for texts whose names are plain enough for a test of each byte, so that examples need no witnesses.
-use Rattle.gix_refspec_text.proofs.Common.{◌≡◌, ◌≢◌, ℕ, Bool, true, false, not, ◌==◌, ◌&&◌, nat_le, if◌then◌else◌, List, [], ◌∷◌, ◌++◌, Option, None, Some, length, refl, sym, ◌∙◌, subst}
-use Rattle.gix_refspec_text.proofs.Common.{unwrap_or, and_from, bytes_eq, bytes_eq-Decides, arith, list_any, list_all, true≢false, false≢true, eqb-false, eqb-true, and_parts, leb-true, le-leb}
-use Rattle.gix_refspec_text.proofs.Common.{is_ascii_hexdigit, AllPass-from_list_all, list_all-from_AllPass, Operation, Push, Fetch, Shape, Plain, Pattern, Lacks, slash, star, plus, caret, colon, Mode}
-use Rattle.gix_refspec_text.proofs.Common.{Normal, Forced, Negative, Reading, Reads, IsSigned, AreParts, IsPositive, LooksLikeObjectHash, named_by, named_or_head, side_of, fetched, pushed, HasShape}
-use Rattle.gix_refspec_text.proofs.Common.{HasCheckedShape}
-use Rattle.gix_refspec_text.proofs.{lemmas.parsing.ReadOnceLemmas.reads_once, lemmas.texts.TestedLemmas.IsName-tested, lemmas.texts.TestedLemmas.is_suspect}
-use Rattle.gix_refspec_text.proofs.readers.Texts.{Lacks-tested, a_pattern, is_empty, is_pattern, not_true}
-use Rattle.gix_refspec_text.proofs.lemmas.parsing.ReadsLemmas.{fetch_reads, negative_reads, push_alone_reads, push_reads}
+-- What a text reads as, and why it is refused, computed for texts whose names pass a test of each byte, so that examples need no witnesses.
+use Rattle.gix_refspec_text.proofs.Common.{◌≡◌, ◌≢◌, ℕ, Bool, true, false, not, ◌==◌, ◌&&◌, nat_le, if◌then◌else◌, List, [], ◌∷◌, Option, None, Some, length, refl, sym, subst, unwrap_or, arith, list_any}
+use Rattle.gix_refspec_text.proofs.Common.{list_all, true≢false, false≢true, eqb-false, eqb-true, and_parts, and_from, leb-true, le-leb, is_ascii_hexdigit, Refusal, ◌∙◌, IsRefused, AllPass-from_list_all}
+use Rattle.gix_refspec_text.proofs.Common.{list_all-from_AllPass, Operation, Push, Fetch, Plain, Pattern, slash, star, plus, caret, colon, Mode, Normal, Forced, Negative, codes, ap, bytes_eq, bytes_eq-Decides}
+use Rattle.gix_refspec_text.proofs.Common.{Reading, Reads, IsSigned, AreParts, with_colon, LastLacksColon, LooksLikeObjectHash, named_by, named_or_head, side_of, fetched, pushed, HasShape, or_cases}
+use Rattle.gix_refspec_text.proofs.Common.{HasCheckedShape, NoReasonBeforeSource, HasBadDestination, HasBadSource, Never, IsFirstReason, PatternUnbalanced, IsBadSourceFor, Shape, is_some, IsPositive}
+use Rattle.gix_refspec_text.proofs.Common.{NegativeWithDestination, PushToEmpty}
+use Rattle.gix_refspec_text.proofs.{lemmas.parsing.ReadOnceLemmas.reads_once, lemmas.texts.TestedLemmas.{IsName-tested, is_suspect}}
+use Rattle.gix_refspec_text.proofs.readers.Texts.{Lacks-tested, differ, a_pattern, faulty, is_bad, pattern_fault, several, is_empty, is_pattern, not_true}
+use Rattle.gix_refspec_text.proofs.lemmas.parsing.ReadsLemmas.{fetch_reads, negative_reads, push_alone_reads, push_reads, refused}
+use Rattle.gix_refspec_text.proofs.lemmas.parsing.ReasonLemmas.{alone_fine, bad_destination, fetch_source_fine, no_negative, push_source_fine, reason_at_destination, reason_at_source, unbalanced_fetch, unbalanced_push}
 
 -- the sign of a text, and what follows it
 abbrev pub sign_of : List ℕ → Mode
 sign_of [] = Normal
 sign_of (b ∷ x) = if b == plus then Forced else if b == caret then Negative else Normal
 
-abbrev pub unsigned : List ℕ → List ℕ
+abbrev unsigned : List ℕ → List ℕ
 unsigned [] = []
 unsigned (b ∷ x) = if b == plus then x else if b == caret then x else b ∷ x
 
 signed : (text : List ℕ) → IsSigned (sign_of text) text (unsigned text)
 signed text = grind (arith, eqb-true, eqb-false)
 
--- a text whole, or the halves around its last colon
-pub data Cut : Type 0 where
-  whole : List ℕ → Cut
-  halves : List ℕ → List ℕ → Cut
+-- a text up to its last colon, and what follows that
+abbrev cut_at : ℕ → Bool → List ℕ × Option (List ℕ) → List ℕ × Option (List ℕ)
+cut_at b p (s, Some d) = (b ∷ s, Some d)
+cut_at b true (s, None) = ([], Some s)
+cut_at b false (s, None) = (b ∷ s, None)
 
-abbrev cut_at : ℕ → Bool → Cut → Cut
-cut_at b p (halves s d) = halves (b ∷ s) d
-cut_at b true (whole s) = halves [] s
-cut_at b false (whole s) = whole (b ∷ s)
-
-abbrev pub cut : List ℕ → Cut
-cut [] = whole []
+abbrev cut : List ℕ → List ℕ × Option (List ℕ)
+cut [] = ([], None)
 cut (b ∷ x) = cut_at b (b == colon) (cut x)
 
-abbrev IsCut : List ℕ → Cut → Type 0
-IsCut x (whole s) = (s ≡ x) × Lacks colon s
-IsCut x (halves s d) = (s ++ (colon ∷ d) ≡ x) × Lacks colon d
-
-is_cut : (x : List ℕ) → IsCut x (cut x)
+is_cut : (x : List ℕ) → (with_colon (cut x).0 (cut x).1 ≡ x) × LastLacksColon (cut x).0 (cut x).1
 is_cut [] = (refl, tt)
-is_cut (b ∷ x) = further (b == colon) (cut x) refl (is_cut x)
-  where
-    further : (p : Bool) (c : Cut) → (b == colon) ≡ p → IsCut x c → IsCut (b ∷ x) (cut_at b p c)
-    further p c e is = grind (arith, eqb-true, eqb-false)
+is_cut (b ∷ x) = grind (arith, eqb-true, eqb-false, is_cut x)
 
--- the parts of a text
-abbrev pub source_of : Cut → List ℕ
-source_of (whole s) = s
-source_of (halves s d) = s
+-- the words of a text
+abbrev pub words : List ℕ → List ℕ × Option (List ℕ)
+words text = cut (unsigned text)
 
-abbrev pub end_of : Cut → Option (List ℕ)
-end_of (whole s) = None
-end_of (halves s d) = Some d
+pub parts_of : (text : List ℕ) → AreParts (sign_of text) (words text).0 (words text).1 text
+parts_of text = let both = is_cut (unsigned text) in record { signed = subst (IsSigned (sign_of text) text) (sym both.0) (signed text); last = both.1 }
 
-parts_at : (text x : List ℕ) (m : Mode) (c : Cut) → IsSigned m text x → IsCut x c → AreParts m (source_of c) (end_of c) text
-parts_at text x m c sign is = grind arith
+-- the shape of a word, if it has one, and the other one
+abbrev shape_of : List ℕ → Shape
+shape_of x = if is_pattern x then Pattern else Plain
 
-abbrev pub source : List ℕ → List ℕ
-source text = source_of (cut (unsigned text))
+abbrev other : Shape → Shape
+other Plain = Pattern
+other Pattern = Plain
 
-abbrev pub end : List ℕ → Option (List ℕ)
-end text = end_of (cut (unsigned text))
-
-pub parts_of : (text : List ℕ) → AreParts (sign_of text) (source text) (end text) text
-parts_of text = parts_at text (unsigned text) (sign_of text) (cut (unsigned text)) (signed text) (is_cut (unsigned text))
-
--- whether a side is empty or a name, or a pattern
-abbrev pub fits : Shape → List ℕ → Bool
+-- whether a word has a shape, and whether it has it as the source of a push to a destination
+abbrev fits : Shape → List ℕ → Bool
 fits Plain [] = true
 fits Plain (b ∷ x) = not (is_suspect slash (b ∷ x))
 fits Pattern x = is_pattern x
 
-pub fit : (x : List ℕ) (k : Shape) → fits k x ≡ true → HasCheckedShape x k
+fit : (x : List ℕ) (k : Shape) → fits k x ≡ true → HasCheckedShape x k
 fit x k so = grind (arith, IsName-tested, a_pattern, not_true)
 
--- whether it has no star, or is a pattern
-abbrev pub starred : Shape → List ℕ → Bool
+abbrev starred : Shape → List ℕ → Bool
 starred Plain x = not (list_any (λ c. c == star) x)
 starred Pattern x = is_pattern x
 
-pub star_fit : (x : List ℕ) (k : Shape) → starred k x ≡ true → HasShape x k
+star_fit : (x : List ℕ) (k : Shape) → starred k x ≡ true → HasShape x k
 star_fit x k so = grind (arith, Lacks-tested, a_pattern, not_true)
 
 -- whether it looks like an id
-abbrev pub is_hash : List ℕ → Bool
+abbrev is_hash : List ℕ → Bool
 is_hash x = nat_le 40 (length x) && list_all is_ascii_hexdigit x
 
 pub a_hash : (x : List ℕ) → is_hash x ≡ true → LooksLikeObjectHash x
-a_hash x so = let parts = and_parts (nat_le 40 (length x)) (list_all is_ascii_hexdigit x) so in record { long = leb-true 40 (length x) parts.0; digits = AllPass-from_list_all is_ascii_hexdigit x parts.1 }
+a_hash x so = grind (arith, and_parts, leb-true, AllPass-from_list_all)
 
 pub no_hash : (x : List ℕ) → is_hash x ≡ false → ¬ (LooksLikeObjectHash x)
 no_hash x none hash = true≢false (sym (and_from (nat_le 40 (length x)) (list_all is_ascii_hexdigit x) (le-leb 40 (length x) hash.long) (list_all-from_AllPass is_ascii_hexdigit x hash.digits)) ∙ none)
 
-pub not_empty : (s : List ℕ) → not (is_empty s) ≡ true → s ≢ []
+not_empty : (s : List ℕ) → not (is_empty s) ≡ true → s ≢ []
 not_empty s so same = grind (arith, false≢true)
 
--- whether positive parts whose sides have this shape have a reading, and their reading
-abbrev readable : Operation → Shape → Cut → Bool
-readable Fetch k c = fits k (source_of c) && fits k (unwrap_or (end_of c) [])
-readable Push k (whole s) = not (is_empty s) && fits k s
-readable Push k (halves s d) = not (is_empty d) && (starred k s && fits k d)
+-- whether no reason before those of the source applies, and then whether the source and, without `^`, the destination are fine
+abbrev calm : Operation → Mode → List ℕ → Option (List ℕ) → Bool
+calm op Negative s d = not (is_some d)
+calm Push Normal [] None = false
+calm Push m (b ∷ s) (Some []) = false
+calm op m s d = true
 
-abbrev made : Operation → Mode → Cut → Reading
-made Fetch m c = fetched m (named_or_head (source_of c)) (side_of (unwrap_or (end_of c) []))
-made Push m c = pushed m (side_of (named_by (source_of c))) (side_of (unwrap_or (end_of c) []))
+abbrev begins : Operation → List ℕ → Option (List ℕ) → Bool
+begins Push s (Some d) = starred (shape_of s) s
+begins op s d = fits (shape_of s) s
 
-reads_parts : (op : Operation) (m : Mode) (c : Cut) (k : Shape) (text : List ℕ) → IsPositive m → AreParts m (source_of c) (end_of c) text → readable op k c ≡ true → Reads op text (made op m c)
-reads_parts Fetch m c k text pos parts so = let both = and_parts _ _ so in fetch_reads m (source_of c) (end_of c) k text pos (fit _ k both.0) (fit _ k both.1) parts
-reads_parts Push m (whole s) k text pos parts so = let both = and_parts _ _ so in push_alone_reads m s k text pos (λ empty normal. not_empty s both.0 empty) (fit s k both.1) parts
-reads_parts Push m (halves s d) k text pos parts so =
+abbrev ends : Operation → Shape → Option (List ℕ) → Bool
+ends Push k None = true
+ends op k d = fits k (unwrap_or d [])
+
+-- whether the parts have a reading, and that reading
+abbrev readable : Operation → Mode → List ℕ → Option (List ℕ) → Bool
+readable op Negative s d = not (is_some d) && (not (is_empty s) && (not (is_hash s) && fits (shape_of s) s))
+readable op m s d = calm op m s d && (begins op s d && ends op (shape_of s) d)
+
+abbrev made : Operation → Mode → List ℕ → Option (List ℕ) → Reading
+made op Negative s d = record { operation = op; mode = Negative; source = side_of (named_by s); destination = None }
+made Fetch m s d = fetched m (named_or_head s) (side_of (unwrap_or d []))
+made Push m s d = pushed m (side_of (named_by s)) (side_of (unwrap_or d []))
+
+reads_parts : (op : Operation) (m : Mode) (s : List ℕ) (d : Option (List ℕ)) (text : List ℕ) → AreParts m s d text → readable op m s d ≡ true → Reads op text (made op m s d)
+reads_parts op Negative s None text parts so =
+    let fine = and_parts _ _ (and_parts _ _ so).1 in
+    negative_reads op s (shape_of s) text (not_empty s (and_parts _ _ so).0) (fit s _ fine.1) (no_hash s (not_true _ fine.0)) parts
+reads_parts op Negative s (Some d) text parts so = absurd (false≢true so)
+reads_parts Fetch m s d text parts so = let both = and_parts _ _ so in fetch_reads m s d (shape_of s) text tt (fit s _ both.0) (fit _ _ both.1) parts
+reads_parts Push Normal [] None text parts so = absurd (false≢true so)
+reads_parts Push Forced [] None text parts so = push_alone_reads Forced [] Plain text tt (λ empty normal. cc) tt parts
+reads_parts Push m (b ∷ s) None text parts so =
+    push_alone_reads m (b ∷ s) (shape_of (b ∷ s)) text tt (λ empty normal. cc) (fit (b ∷ s) (shape_of (b ∷ s)) (and_parts _ _ so).0) parts
+reads_parts Push m (b ∷ s) (Some []) text parts so = absurd (false≢true so)
+reads_parts Push m s (Some d) text parts so =
     let both = and_parts _ _ so in
-    let sides = and_parts _ _ both.1 in
-    push_reads m s d k text pos (λ some. not_empty d both.0) (star_fit s k sides.0) (fit d k sides.1) parts
+    push_reads m s d (shape_of s) text tt (λ some empty. grind arith) (star_fit s (shape_of s) both.0) (fit d (shape_of s) both.1) parts
 
-pub reads : {op : Operation} {text : List ℕ} (k : Shape) → IsPositive (sign_of text) → readable op k (cut (unsigned text)) ≡ true → Reads op text (made op (sign_of text) (cut (unsigned text)))
-reads {op} {text} k pos so = reads_parts op (sign_of text) (cut (unsigned text)) k text pos (parts_of text) so
+-- the same of a text
+abbrev pub is_read : Operation → List ℕ → Bool
+is_read op text = readable op (sign_of text) (words text).0 (words text).1
 
--- the reading of a negative text
-pub excludes : {op : Operation} {s : List ℕ} (k : Shape) → list_any (λ c. c == colon) s ≡ false → (not (is_empty s) && (not (is_hash s) && fits k s)) ≡ true → Reads op (caret ∷ s) (record { operation = op; mode = Negative; source = side_of (named_by s); destination = None })
-excludes {op} {s} k last so =
+abbrev pub read_by : Operation → List ℕ → Reading
+read_by op text = made op (sign_of text) (words text).0 (words text).1
+
+pub reads : {op : Operation} {text : List ℕ} {r : Reading} → is_read op text ≡ true → read_by op text ≡ r → Reads op text r
+reads {op} {text} {r} so is = subst (Reads op text) is (reads_parts op (sign_of text) (words text).0 (words text).1 text (parts_of text) so)
+
+-- and none with other sides
+abbrev sides : Reading → List ℕ
+sides r = with_colon (unwrap_or r.destination (codes ":")) r.source
+
+pub no_other : {op : Operation} {text : List ℕ} {r : Reading} → is_read op text ≡ true → bytes_eq (sides (read_by op text)) (sides r) ≡ false → ¬ (Reads op text r)
+no_other {op} {text} {r} so other also = differ _ _ other (ap sides (reads_once op text _ r (reads so refl) also))
+
+-- a text is refused for the first reason to refuse its parts
+pub because : {op : Operation} {text : List ℕ} {e : Refusal} → IsFirstReason op (sign_of text) (words text).0 (words text).1 e → IsRefused op text e
+because {op} {text} {e} first = refused op (sign_of text) (words text).0 (words text).1 text e (parts_of text) first
+
+pub reaches : (op : Operation) (m : Mode) (s : List ℕ) (d : Option (List ℕ)) → calm op m s d ≡ true → NoReasonBeforeSource op m s d
+reaches op m s d so = grind (arith, false≢true)
+
+-- whether a source has to be a name if it isn't a pattern
+abbrev need_names : Operation → Option (List ℕ) → Bool
+need_names op None = true
+need_names Push (Some d) = false
+need_names Fetch (Some d) = true
+
+pub bad_for : (op : Operation) (d : Option (List ℕ)) (s : List ℕ) (e : Refusal) → is_bad (need_names op d) s e ≡ true → IsBadSourceFor op d s e
+bad_for op d s e so = grind (arith, and_parts, or_cases, several, bytes_eq-Decides, Lacks-tested, not_true, faulty, pattern_fault, false≢true)
+
+fine_source : (op : Operation) (s : List ℕ) (d : Option (List ℕ)) → begins op s d ≡ true → Never (HasBadSource op s d)
+fine_source Push s (Some d) so = push_source_fine s d _ (star_fit s _ so)
+fine_source Push s None so = alone_fine Push s _ (fit s _ so)
+fine_source Fetch s d so = fetch_source_fine s d _ (fit s _ so)
+
+-- the first reason is of the source, of the destination, or of the balance between them
+pub at_source : (op : Operation) (m : Mode) (s : List ℕ) (d : Option (List ℕ)) (e : Refusal) → (calm op m s d && (not (is_empty s) && is_bad (need_names op d) s e)) ≡ true → IsFirstReason op m s d e
+at_source op m s d e so =
+    let bad = and_parts _ _ (and_parts _ _ so).1 in
+    reason_at_source op m s d e (reaches op m s d (and_parts _ _ so).0) (record { source = not_empty s bad.0; refusal = bad_for op d s e bad.1 })
+
+pub bad_end : (d : List ℕ) (e : Refusal) → (not (is_empty d) && is_bad true d e) ≡ true → HasBadDestination (Some d) e
+bad_end d e so = let bad = and_parts _ _ so in bad_destination (Some d) e (not_empty d bad.0, bad_for Fetch None d e bad.1)
+
+pub at_destination : (op : Operation) (m : Mode) (s d : List ℕ) (e : Refusal) → (calm op m s (Some d) && (begins op s (Some d) && (not (is_empty d) && is_bad true d e))) ≡ true → IsFirstReason op m s (Some d) e
+at_destination op m s d e so =
+    let sides = and_parts _ _ (and_parts _ _ so).1 in
+    reason_at_destination op m s (Some d) e (reaches op m s (Some d) (and_parts _ _ so).0) (fine_source op s (Some d) sides.0) (bad_end d e sides.1)
+
+abbrev uneven : Operation → Mode → List ℕ → Option (List ℕ) → Bool
+uneven op Negative s d = false
+uneven Push m s None = false
+uneven op m s d = calm op m s d && (begins op s d && ends op (other (shape_of s)) d)
+
+pub at_balance : (op : Operation) (m : Mode) (s : List ℕ) (d : Option (List ℕ)) → uneven op m s d ≡ true → IsFirstReason op m s d PatternUnbalanced
+at_balance op Negative s d so = absurd (false≢true so)
+at_balance Push m s None so = absurd (false≢true so)
+at_balance Push m (b ∷ s) (Some []) so = absurd (false≢true so)
+at_balance Push m s (Some d) so =
     let both = and_parts _ _ so in
-    let fine = and_parts _ _ both.1 in
-    negative_reads op s k (caret ∷ s) (not_empty s both.0) (fit s k fine.1) (no_hash s (not_true _ fine.0)) (record { signed = refl; last = Lacks-tested colon s last })
+    unbalanced_push m s d (shape_of s) (other (shape_of s)) tt (λ some empty. grind arith) (star_fit s (shape_of s) both.0) (fit d (other (shape_of s)) both.1) (λ same. grind arith)
+at_balance Fetch m s d so = let both = and_parts _ _ so in unbalanced_fetch m s d (shape_of s) (other (shape_of s)) tt (fit s (shape_of s) both.0) (fit (unwrap_or d []) (other (shape_of s)) both.1) (λ same. grind arith)
 
--- a text doesn't have a reading with another side
-abbrev same_side : Option (List ℕ) → Option (List ℕ) → Bool
-same_side None None = true
-same_side (Some x) (Some y) = bytes_eq x y
-same_side x y = false
+-- or an earlier one
+pub negative_with : (op : Operation) (s d : List ℕ) → IsFirstReason op Negative s (Some d) NegativeWithDestination
+negative_with op s d = search arith
 
-same_self : (x : Option (List ℕ)) → same_side x x ≡ true
-same_self x = grind (arith, bytes_eq-Decides)
-
-pub no_other : {op : Operation} {text : List ℕ} {r q : Reading} → Reads op text r → (same_side r.source q.source && same_side r.destination q.destination) ≡ false → ¬ (Reads op text q)
-no_other {op} {text} {r} {q} reads other also =
-    let same : r ≡ q = reads_once op text r q reads also in
-    let agree = and_from _ _ (same_self r.source) (same_self r.destination) in
-    true≢false (sym (subst (λ (z : Reading). (same_side r.source z.source && same_side r.destination z.destination) ≡ true) same agree) ∙ other)
+pub to_nothing : (m : Mode) (b : ℕ) (s : List ℕ) → IsPositive m → IsFirstReason Push m (b ∷ s) (Some []) PushToEmpty
+to_nothing m b s pos = grind (arith, no_negative)
