@@ -1,6 +1,6 @@
 -- Which items may be left out, what of an item decides, and what a caller concludes from the laws on that.
 use Rattle.gix_refspec.proofs.Common.{some_of, covering, not_covering, branch_and_tag, main_branch, main_tag, main_ends, main_to_x, takes_the_tag, named, dev_ref, every, main_ref, no_dev}
-use Rattle.gix_refspec.proofs.Common.{origin_split, short, short_no_id, tag_ref, of_element, push_is_none, are_forward_ends, fetches_all_but_dev, forward_ends, taken_by, takes_no_tag, tracked}
+use Rattle.gix_refspec.proofs.Common.{origin_split, short, short_no_id, tag_ref, of_element, push_is_none, fetches_all_but_dev, forward_ends, taken_by, takes_no_tag, tracked}
 use Rattle.gix_refspec.proofs.Common.{tracks_all_but_dev, ◌≡◌, ◌≢◌, inl, inr, ℕ, List, [], ◌∷◌, None, Some, codes, refl, sym, subst, arith, Bool, true, false, map, filter, Any, Contains}
 use Rattle.gix_refspec.proofs.Common.{bstr_bytes, false≢true, Item, head, Normal, Reading, fetched, pushed, pattern, Ref, Matches, Takes, name, Mapped, HasPair, AreForwardEnds, AreBackwardEnds}
 use Rattle.gix_refspec.proofs.Common.{AreKeptForward, AreKeptBackward, ref_of, AreExpansions, AreAskedFor, ArePart, AskedItems, TakesItem, HasTaken, HaveSamePairs, FewerItems, FetchesHead}
@@ -19,7 +19,7 @@ main_alone : ¬ (Contains (main_ref ∷ []) dev_ref)
 main_alone has = search rules
 
 takes_main : (refs : List Ref) → TakesItem AreForwardEnds (Takes refs) main_ref every
-takes_main refs = let hit = taken_by refs 0 0 (codes "main") in record { ends = forward_ends; has = are_forward_ends; word = hit.word; takes = hit.takes }
+takes_main refs = let hit = taken_by refs 0 0 (codes "main") in record { ends = forward_ends; has = search rules; word = hit.word; takes = hit.takes }
 
 -- the spec takes the branch and no tag, and a negative one takes nothing
 pub taken : TakesItem AreForwardEnds (Takes remote_refs) main_ref every × ¬ (TakesItem AreForwardEnds (Takes remote_refs) tag_ref every) × ¬ (TakesItem AreForwardEnds (Takes remote_refs) main_ref no_dev)
@@ -81,7 +81,7 @@ listed_refs = (
 
 -- so by the law it loses no pair: neither of one spec, nor of all
 main_made : MakesForward remote_refs (name (codes "refs/heads/main")) (Some (codes "refs/remotes/origin/main")) every
-main_made = let hit = taken_by remote_refs 0 2 (codes "main") in record { ends = forward_ends; has = are_forward_ends; one = search rules }
+main_made = let hit = taken_by remote_refs 0 2 (codes "main") in record { ends = forward_ends; has = search rules; one = search rules }
 
 pub none_lost : ListedItems group remote_refs branches → (fewer : List Mapped) → AreKeptForward group branches fewer → HasPair fewer (tracked 7 (codes "main")) × HaveSamePairs (tracked 2 (codes "main") ∷ []) fewer
 none_lost law fewer are = (
