@@ -1,8 +1,7 @@
 -- Examples of ref prefixes, for sides and groups like those of git-fetch(1), and what a caller concludes from them.
-use Rattle.gix_refspec.proofs.Common.{begins_not, blob_kind, every, no_dev, short_kind, mapping, inl, inr, ℕ, List, [], ◌∷◌, ◌++◌, None, Some, codes, refl, arith, BeginsWith, Normal, fetched}
-use Rattle.gix_refspec.proofs.Common.{pushed, pattern, partial, full_name, object, candidates, Ref, Mapped, AreKeptForward, HasNoList, Lists, ListsGroup, ListsSide, Serves, by_cases, rules}
-use Rattle.gix_refspec_text.proofs.facts.PrefixFacts.{bracket_split, suffix_split, tells}
-use Rattle.gix_refspec.{proofs.Common.same_Some, proofs.lemmas.prefixes.AskedLemmas.no_list, proofs.facts.KeptFacts.of_one}
+use Rattle.gix_refspec.proofs.Common.{begins_not, blob_kind, every, no_dev, short_kind, mapping, inl, inr, ℕ, List, [], ◌∷◌, ◌++◌, None, Some, codes, refl, arith, BeginsWith, Normal, fetched, pushed, pattern}
+use Rattle.gix_refspec.proofs.{Common.{partial, full_name, object, candidates, Ref, Mapped, AreKeptForward, HasNoList, Lists, ListsGroup, ListsSide, Serves, by_cases, rules, same_Some}, facts.KeptFacts.of_one}
+use Rattle.{gix_refspec.proofs.lemmas.prefixes.AskedLemmas.no_list, gix_refspec_text.proofs.facts.PrefixFacts.{bracket_split, suffix_split, tells}}
 
 -- the list of a pattern is its prefix, that of a partial name and `HEAD` their candidates, that of an id empty, that of a full name itself
 pub lists_of_sides : ListsSide (codes "refs/heads/*") (codes "refs/heads/" ∷ []) × ListsSide (codes "main") (candidates (codes "main")) × ListsSide (codes "HEAD") (candidates (codes "HEAD")) × ListsSide (codes "e69de29bb2d1d6434b8b29ae775ad8c2e48c5391") [] × ListsSide (codes "refs/heads/main") (codes "refs/heads/main" ∷ [])

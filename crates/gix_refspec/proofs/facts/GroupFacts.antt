@@ -1,16 +1,14 @@
 -- The plain data of names, items, mappings, groups and issues whose fields differ: none is lost or taken for another.
-use Rattle.gix_refspec.proofs.Common.{mapping, empty_blob, lower_of-empty_blob, Option, ◌≡◌, ◌≢◌, ℕ, List, [], ◌∷◌, ◌++◌, None, Some, true, false, map, filter, option_map, replicate, Vec, Global}
-use Rattle.gix_refspec.proofs.Common.{codes, refl, sym, ap, ◌∙◌, BString, bstring_bytes, Item, Mapping, MatchGroup, NameRef, Borrowed, Owned, SourceRef, Fix, MappingWithPartialDestinationRemoved}
-use Rattle.gix_refspec.proofs.Common.{Issue, Sha1, Push, Fetch, RefSpecRef, Normal, Forced, fetched, pushed, reading_of, name, id, Conflict, name_bytes, start_of, mapped_of, ref_of}
-use Rattle.gix_refspec.proofs.Common.{text_of_source, readings_of, is_for, is_same_operation, IsGathered, ForwardOutcome, mappings_of, conflict_of, conflicts_of, removed_of, IsSameFix}
-use Rattle.gix_refspec_text.{proofs.facts.ViewFacts.{lent, Accepted, spec_of, owned_of, blob_id}, specs.declared.oid.ObjectId.ObjectId, specs.declared.spec.RefSpec.accepted-type}
+use Rattle.gix_refspec.proofs.Common.{mapping, empty_blob, lower_of-empty_blob, Option, ◌≡◌, ◌≢◌, ℕ, List, [], ◌∷◌, ◌++◌, None, Some, true, false, map, filter, option_map, replicate, Vec, Global, codes, refl}
+use Rattle.gix_refspec.proofs.Common.{sym, ap, ◌∙◌, BString, bstring_bytes, Item, Mapping, MatchGroup, NameRef, Borrowed, Owned, SourceRef, Fix, MappingWithPartialDestinationRemoved, Issue, Sha1, Push, Fetch}
+use Rattle.gix_refspec.proofs.Common.{RefSpecRef, Normal, Forced, fetched, pushed, reading_of, name, id, Conflict, name_bytes, start_of, mapped_of, ref_of, text_of_source, readings_of, is_for, is_same_operation}
+use Rattle.gix_refspec.proofs.Common.{IsGathered, ForwardOutcome, mappings_of, conflict_of, conflicts_of, removed_of, IsSameFix, IfConflicts, IfMemory, tracked, fetches_all_but_dev, tracks_all_but_dev, Outcome}
+use Rattle.{gix_refspec.proofs.{Common.{AreForward, AreBackward, AreKeptForward, AreKeptBackward, IsOutcome, Maps}, facts.KeptFacts.{group, remote_refs, tracking_refs}}, bstr.specs.Utf8.pieces_from}
+use Rattle.gix_refspec.specs.declared.match_group.validate.{Error.Error, Issue.TheVariants.Conflict as ConflictIssue, Refusal.TheVariants.{Conflicts, Memory}}
+use Rattle.{gix_refspec_match.{proofs.lemmas.hits.HitLemmas.{one_forward, one_backward}, specs.declared.types.SourceRef.TheVariants.{FullName, ObjectId as IdSource}}, gix_refspec_text.proofs.facts.ViewFacts.lent}
+use Rattle.{gix_refspec_text.{proofs.facts.ViewFacts.{Accepted, spec_of, owned_of, blob_id}, specs.declared.{oid.ObjectId.ObjectId, spec.RefSpec.accepted-type}}, std.specs.Char.encode_utf8}
+use Rattle.std.specs.Iterator.{YieldsFirst, Drains}
 use Rattle.gix_refspec_text.specs.declared.types.Mode.TheVariants as mode
-use Rattle.gix_refspec_match.{specs.declared.types.SourceRef.TheVariants.{FullName, ObjectId as IdSource}, proofs.lemmas.hits.HitLemmas.{one_forward, one_backward}}
-use Rattle.gix_refspec.proofs.Common.{IfConflicts, IfMemory, tracked, fetches_all_but_dev, tracks_all_but_dev, Outcome, AreForward, AreBackward, AreKeptForward, AreKeptBackward, IsOutcome, Maps}
-use Rattle.gix_refspec.{specs.declared.match_group.validate.Error.Error, specs.declared.match_group.validate.Refusal.TheVariants.{Conflicts, Memory}}
-use Rattle.gix_refspec.{proofs.facts.KeptFacts.{group, remote_refs, tracking_refs}, specs.declared.match_group.validate.Issue.TheVariants.Conflict as ConflictIssue}
-use Rattle.std.{specs.Char.encode_utf8, specs.Iterator.{YieldsFirst, Drains}}
-use Rattle.bstr.specs.Utf8.{pieces_from}
 
 abbrev lent_name : List ℕ → NameRef
 lent_name x = Borrowed (lent x)

@@ -1,12 +1,11 @@
 -- Which items may be left out, what of an item decides, and what a caller concludes from the laws on that.
-use Rattle.gix_refspec.proofs.Common.{some_of, covering, not_covering, branch_and_tag, main_branch, main_tag, main_ends, main_to_x, takes_the_tag, named, dev_ref, every, main_ref, no_dev}
-use Rattle.gix_refspec.proofs.Common.{origin_split, short, short_no_id, tag_ref, of_element, push_is_none, fetches_all_but_dev, forward_ends, taken_by, takes_no_tag, tracked}
-use Rattle.gix_refspec.proofs.Common.{tracks_all_but_dev, ◌≡◌, ◌≢◌, inl, inr, ℕ, List, [], ◌∷◌, None, Some, codes, refl, sym, subst, arith, Bool, true, false, map, filter, Any, Contains}
-use Rattle.gix_refspec.proofs.Common.{bstr_bytes, false≢true, Item, head, Normal, Reading, fetched, pushed, pattern, Ref, Matches, Takes, name, Mapped, HasPair, AreForwardEnds, AreBackwardEnds}
-use Rattle.gix_refspec.proofs.Common.{AreKeptForward, AreKeptBackward, ref_of, AreExpansions, AreAskedFor, ArePart, AskedItems, TakesItem, HasTaken, HaveSamePairs, FewerItems, FetchesHead}
-use Rattle.gix_refspec.proofs.Common.{IsListed, AreListedItems, ListedItems, PassesTaken, FilteredItems, is_begun, FilteredByEntries, FilteredByList, by_cases, empty_blob, IsIdText-empty_blob}
-use Rattle.gix_refspec.{proofs.Common.{blob_kind, object, AsksForNoId, HaveSameNames, MakesForward, NamesDecide, NamesDecideBack, rules, matches_as}, proofs.facts.AskedFacts.lists_of_specs}
-use Rattle.gix_refspec.{proofs.lemmas.prefixes.CoverLemmas.joined_covers, proofs.facts.LawFacts.{every_covering, expansion, head_spec}, proofs.facts.KeptFacts.{group, remote_refs, tracking_refs}}
+use Rattle.gix_refspec.proofs.Common.{some_of, covering, not_covering, branch_and_tag, main_branch, main_tag, main_ends, main_to_x, takes_the_tag, named, dev_ref, every, main_ref, no_dev, origin_split, short}
+use Rattle.gix_refspec.proofs.Common.{short_no_id, tag_ref, of_element, push_is_none, fetches_all_but_dev, forward_ends, taken_by, takes_no_tag, tracked, tracks_all_but_dev, ◌≡◌, inl, inr, ℕ, List, [], ◌∷◌, None}
+use Rattle.gix_refspec.proofs.Common.{Some, codes, refl, sym, subst, arith, Bool, true, false, map, filter, Any, Contains, bstr_bytes, false≢true, Item, head, Normal, Reading, fetched, pushed, pattern, Ref}
+use Rattle.gix_refspec.proofs.Common.{Matches, Takes, name, Mapped, HasPair, AreForwardEnds, AreBackwardEnds, AreKeptForward, AreKeptBackward, ref_of, AreExpansions, AreAskedFor, ArePart, AskedItems, TakesItem}
+use Rattle.gix_refspec.proofs.Common.{HasTaken, HaveSamePairs, FewerItems, FetchesHead, IsListed, AreListedItems, ListedItems, PassesTaken, FilteredItems, is_begun, FilteredByEntries, FilteredByList, by_cases}
+use Rattle.gix_refspec.proofs.Common.{empty_blob, IsIdText-empty_blob, blob_kind, object, AsksForNoId, HaveSameNames, MakesForward, NamesDecide, NamesDecideBack, rules, matches_as}
+use Rattle.gix_refspec.proofs.{facts.{AskedFacts.lists_of_specs, KeptFacts.{group, remote_refs, tracking_refs}, LawFacts.{asks, expansions, head_spec}}, lemmas.prefixes.CoverLemmas.joined_covers}
 
 -- the branches of the remote, each once and in another order
 abbrev branches : List Ref
@@ -61,7 +60,7 @@ head_listed = (search rules, (λ fetches. search rules), (λ fetches. push_is_no
 -- a covering source is listed, whatever the refs are, and a star outside `refs/` isn't
 pub listed_sources : IsListed [] every × IsListed [] no_dev × IsListed (named head ∷ []) head_spec × ¬ (IsListed [] head_spec) × ¬ (IsListed (named head ∷ []) (fetched Normal (codes "*") None))
 listed_sources = (
-  inl every_covering,
+  inl asks.0,
   inl (search rules),
   inr head_listed.0,
   (λ listed. by_cases listed (λ covering. not_covering.0 (search rules)) (λ fetches. fetches.there)),
@@ -69,13 +68,13 @@ listed_sources = (
 )
 
 expanded : AreExpansions group (codes "refs/heads/" ∷ [])
-expanded = (codes "refs/heads/" ∷ [], [], expansion, search rules, refl)
+expanded = (codes "refs/heads/" ∷ [], [], expansions.0, search rules, refl)
 
 -- the branches are what a server lists for that; it doesn't list fewer, nor refs that aren't there
 pub listed_refs : AreListedItems group remote_refs branches × ¬ (AreListedItems group remote_refs (main_ref ∷ [])) × ¬ (AreListedItems group [] (main_ref ∷ []))
 listed_refs = (
   record { entries = codes "refs/heads/" ∷ []; expansions = expanded; part = parts.0; listed = λ item. search rules },
-  (λ are. main_alone (are.listed dev_ref (0, omega arith, refl) (joined_covers _ group 0 are.entries (0, every, omega arith, refl, record { entries = _; expansion = expansion; one = search rules }) are.expansions))),
+  (λ are. main_alone (are.listed dev_ref (0, omega arith, refl) (joined_covers _ group 0 are.entries (0, every, omega arith, refl, record { entries = _; expansion = expansions.0; one = search rules }) are.expansions))),
   λ are. parts.2 are.part,
 )
 
@@ -85,8 +84,8 @@ main_made = let hit = taken_by remote_refs 0 2 (codes "main") in record { ends =
 
 pub none_lost : ListedItems group remote_refs branches → (fewer : List Mapped) → AreKeptForward group branches fewer → HasPair fewer (tracked 7 (codes "main")) × HaveSamePairs (tracked 2 (codes "main") ∷ []) fewer
 none_lost law fewer are = (
-  law.some listed_refs.0 (tracked 2 (codes "main") ∷ []) fewer fetches_all_but_dev are (tracked 7 (codes "main")) (search rules) (0, every, omega arith, refl, (inl every_covering, main_made)),
-  law.all listed_refs.0 (inl every_covering, (inl (search rules), tt)) (tracked 2 (codes "main") ∷ []) fewer fetches_all_but_dev are,
+  law.some listed_refs.0 (tracked 2 (codes "main") ∷ []) fewer fetches_all_but_dev are (tracked 7 (codes "main")) (search rules) (0, every, omega arith, refl, (inl asks.0, main_made)),
+  law.all listed_refs.0 (inl asks.0, (inl (search rules), tt)) (tracked 2 (codes "main") ∷ []) fewer fetches_all_but_dev are,
 )
 
 pub begun_names : (is_begun (codes "refs/tags/" ∷ codes "refs/heads/" ∷ []) (codes "refs/heads/main") ≡ true) × (is_begun (codes "heads/" ∷ []) (codes "refs/heads/main") ≡ false) × (is_begun [] (codes "refs/heads/main") ≡ false)

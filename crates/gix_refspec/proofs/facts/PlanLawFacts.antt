@@ -1,7 +1,7 @@
 -- Examples of the definitions of the laws on plans, and what a caller concludes from these laws.
-use Rattle.gix_refspec.proofs.Common.{empty_blob, lower_of-empty_blob, branch_to_x, mapping, tag_alone, tag_to_x, ◌≢◌, ℕ, List, [], ◌∷◌, None, Some, codes, refl, subst, arith, AllByRecursion}
-use Rattle.gix_refspec.proofs.Common.{Fetch, Lacks, Reading, Reads, printed, Ref, id, Mapped, AreKeptForward, Removed, IsValidated, AreFixesApart, HaveSourcesByIndex, LacksIn, MappedLacks}
-use Rattle.gix_refspec.{proofs.Common.{NoControlCharacter, PlansApart, SidesLack, SourceLacks, rules}, proofs.facts.ValidationFacts.foo_fix}
+use Rattle.gix_refspec.proofs.Common.{empty_blob, lower_of-empty_blob, branch_to_x, mapping, tag_alone, tag_to_x, ◌≢◌, ℕ, List, [], ◌∷◌, None, Some, codes, refl, subst, arith, AllByRecursion, Fetch, Lacks}
+use Rattle.gix_refspec.proofs.Common.{Reading, Reads, printed, Ref, id, Mapped, AreKeptForward, Removed, IsValidated, AreFixesApart, HaveSourcesByIndex, LacksIn, MappedLacks, NoControlCharacter, PlansApart}
+use Rattle.gix_refspec.proofs.{Common.{SidesLack, SourceLacks, rules}, facts.ValidationFacts.foo_fix}
 
 abbrev branch_alone : Mapped
 branch_alone = mapping 0 (codes "refs/heads/a") None 1

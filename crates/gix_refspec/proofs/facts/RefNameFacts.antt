@@ -1,10 +1,9 @@
 -- Examples of the definitions on ref names, valid and invalid, and what a caller concludes from their law.
-use Rattle.gix_refspec.proofs.Common.{nothing_made, mapping, ◌≡◌, inl, inr, ℕ, List, [], ◌∷◌, ◌++◌, None, Some, codes, refl, AllByRecursion, RepeatedDot, InvalidMapping, Reading, Ref, id, Mapped}
-use Rattle.gix_refspec.proofs.Common.{mapped_of, AreKeptForward, ForwardIndexes, IndexesFit, IsValidated, Removed, AreLeftOut, HaveRefNames, IsInvalidAt, IsLeftOut, HasRefNames}
-use Rattle.gix_refspec.proofs.Common.{IsValidDestination, IsValidSource, IsRefName, KeepsRefNames, LeftOut, StaysAmongRefs, WritesRefs, left_out_of, true, false, IsTrue, list_all, list_any}
-use Rattle.gix_refspec.{proofs.Common.{IsName, is_plain_component, is_plain_name, PlainNames, rules}, proofs.lemmas.validate.RefNameLemmas.{bad_unnamed, name_of_ref, stays_among_refs}}
-use Rattle.gix_refspec.specs.declared.match_group.ref_names.InvalidSide.TheVariants.{Source, Destination, Both}
-use Rattle.gix_refspec_text.{proofs.lemmas.texts.TestedLemmas.IsName-tested, proofs.facts.NameFacts.{no_names, names_close_to_faults}}
+use Rattle.gix_refspec.proofs.Common.{nothing_made, mapping, ◌≡◌, inl, inr, ℕ, List, [], ◌∷◌, ◌++◌, None, Some, codes, refl, AllByRecursion, RepeatedDot, InvalidMapping, Reading, Ref, id, Mapped, mapped_of}
+use Rattle.gix_refspec.proofs.Common.{AreKeptForward, ForwardIndexes, IndexesFit, IsValidated, Removed, AreLeftOut, HaveRefNames, IsInvalidAt, IsLeftOut, HasRefNames, IsValidDestination, IsValidSource, IsRefName}
+use Rattle.gix_refspec.proofs.Common.{KeepsRefNames, LeftOut, StaysAmongRefs, WritesRefs, left_out_of, true, false, IsTrue, list_all, list_any, IsName, is_plain_component, is_plain_name, PlainNames, rules}
+use Rattle.gix_refspec.{proofs.lemmas.validate.RefNameLemmas.{bad_unnamed, name_of_ref, stays_among_refs}, specs.declared.match_group.ref_names.InvalidSide.TheVariants.{Source, Destination, Both}}
+use Rattle.gix_refspec_text.proofs.{facts.NameFacts.{no_names, names_close_to_faults}, lemmas.texts.TestedLemmas.IsName-tested}
 
 pub ref_names : IsRefName (codes "refs/heads/main") × IsRefName (codes "HEAD")
 ref_names = (inl (search rules, IsName-tested (codes "refs/heads/main") refl), inr refl)

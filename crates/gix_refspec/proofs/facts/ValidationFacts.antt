@@ -1,9 +1,9 @@
 -- Examples of the definitions on validation, for mappings to one destination and to others.
-use Rattle.gix_refspec.proofs.Common.{nothing_made, none_some, of_element, mapping, tag_to_x, branch_to_x, tag_again, tag_to_foo, tag_alone, ◌≡◌, ◌⊎◌, ℕ, List, [], ◌∷◌, None, Some, codes, refl}
-use Rattle.gix_refspec.proofs.Common.{sym, ◌∙◌, inl, inr, arith, IsStrictlySortedBy, Normal, Forced, Reading, fetched, name, Mapped, IndexesFit, HasConflictAt, IsFirstTo, IsTextAt, Conflict}
-use Rattle.gix_refspec.proofs.Common.{IsConflict, AreConflicts, IsWritable, Survives, AreSurvivors, Removed, IsFix, AreFixes, IsValidated, DestinationsHaveOneSource, ShareDestination}
-use Rattle.gix_refspec.proofs.Common.{HaveDistinctDestinations, false, nat_eq, starts_with, false≢true, bytes_eq, head, by_cases, ◌≢◌, map, Mapping, Outcome, mapped_of, AreMappingCopies}
-use Rattle.gix_refspec.{proofs.Common.{readings_of, OneValidation, IsOutcomeCopy, CopiedOutcome, IsMadeFrom, rules}, proofs.lemmas.validate.ConflictLemmas.no_conflicts}
+use Rattle.gix_refspec.proofs.Common.{nothing_made, none_some, of_element, mapping, tag_to_x, branch_to_x, tag_again, tag_to_foo, tag_alone, ◌≡◌, ◌⊎◌, ℕ, List, [], ◌∷◌, None, Some, codes, refl, sym, ◌∙◌, inl}
+use Rattle.gix_refspec.proofs.Common.{inr, arith, IsStrictlySortedBy, Normal, Forced, Reading, fetched, name, Mapped, IndexesFit, HasConflictAt, IsFirstTo, IsTextAt, Conflict, IsConflict, AreConflicts}
+use Rattle.gix_refspec.proofs.Common.{IsWritable, Survives, AreSurvivors, Removed, IsFix, AreFixes, IsValidated, DestinationsHaveOneSource, ShareDestination, HaveDistinctDestinations, false, nat_eq, starts_with}
+use Rattle.gix_refspec.proofs.Common.{false≢true, bytes_eq, head, by_cases, ◌≢◌, map, Mapping, Outcome, mapped_of, AreMappingCopies, readings_of, OneValidation, IsOutcomeCopy, CopiedOutcome, IsMadeFrom, rules}
+use Rattle.gix_refspec.proofs.lemmas.validate.ConflictLemmas.{no_conflicts}
 
 abbrev tags_to_x : Reading
 tags_to_x = fetched Normal (codes "refs/tags/*") (Some (codes "refs/x/*"))
