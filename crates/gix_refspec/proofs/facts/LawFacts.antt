@@ -64,21 +64,19 @@ mapped_alike kept = (
 
 -- the expansions of the specs of a group, one after the other; that of a negative spec is empty
 pub expansions : IsExpansion every (codes "refs/heads/" ∷ []) × AreExpansions (every ∷ no_dev ∷ short ∷ []) (codes "refs/heads/" ∷ candidates (codes "main"))
-    × BeginsWithOne (codes "refs/tags/" ∷ codes "refs/heads/" ∷ []) (codes "refs/heads/main") × ¬ (BeginsWithOne (codes "heads/" ∷ []) (codes "refs/heads/main"))
+    × AreExpansions group (codes "refs/heads/" ∷ []) × BeginsWithOne (codes "refs/tags/" ∷ codes "refs/heads/" ∷ []) (codes "refs/heads/main") × ¬ (BeginsWithOne (codes "heads/" ∷ []) (codes "refs/heads/main"))
 expansions =
     let begins : BeginsWithOne (codes "refs/tags/" ∷ codes "refs/heads/" ∷ []) (codes "refs/heads/main") = (1, codes "refs/heads/", omega arith, refl, search rules) in
     let below : IsExpansion every (codes "refs/heads/" ∷ []) = inl (codes "refs/heads/*", search rules, to_prefix (codes "refs/heads/") below_heads refl) in
     let all = to_candidates (outside_none (codes "main") (λ same. unequal same refl) short_kind.2) short_kind.2 short_kind.3 refl in
-    (below, (_, _, below, ([], _, search rules, (_, [], inl (codes "main", record { positive = tt; side = refl }, all), refl, refl), refl), refl), begins, λ begins. search rules)
+    (below, (_, _, below, ([], _, search rules, (_, [], inl (codes "main", record { positive = tt; side = refl }, all), refl, refl), refl), refl), (_, [], below, ([], [], search rules, refl, refl), refl), begins, λ begins. search rules)
 
 abbrev pub head_spec : Reading
 head_spec = fetched Normal (codes "HEAD") None
 
 -- a fetch of `HEAD` covers the name `HEAD`, and no other, one of all branches any, and a push none
 pub asks : HasCoveringSource every × AsksFor head_spec (codes "HEAD") × ¬ (AsksFor head_spec (codes "refs/heads/HEAD")) × ((n : List ℕ) → AsksFor every n × ¬ (AsksFor (pushed Normal (Some (codes "HEAD")) None) n))
-asks =
-    let all : HasCoveringSource every = record { fetch = refl; source = λ x asked. rw (← same_Some (codes "refs/heads/*") x asked.side) covering.0 } in
-    (all, search rules, (λ asks. by_cases asks (λ has. not_covering.0 (search rules)) (λ (fetch, also, same). cc)), λ n. (inl all, λ asks. search rules))
+asks = search (rules, covering, not_covering, by_cases)
 
 -- the branch begins with an entry of the expansion of its spec, whatever the other specs are, and of that of its group
 pub covered : ((others : List Reading) (kept : List Mapped) → Cover (every ∷ others) remote_refs → AreKeptForward (every ∷ others) remote_refs (tracked 2 (codes "main") ∷ kept) → IsCoveredBy (codes "refs/heads/main") every)
