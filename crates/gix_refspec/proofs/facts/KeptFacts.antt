@@ -4,7 +4,7 @@ use Rattle.gix_refspec.proofs.Common.{below_tags, blob, blob_kind, dev_ref, ever
 use Rattle.gix_refspec.proofs.Common.{◌≡◌, inl, inr, ℕ, List, [], ◌∷◌, ◌++◌, None, Some, codes, refl, sym, ap, ◌∙◌, subst, arith, AllByRecursion, Any, Contains, slice_get, partial, full_name, Ref}
 use Rattle.gix_refspec.proofs.Common.{IsFirstCandidate, name, Mapped, HasPair, IsExcluded, AreKeptForward, AreKeptBackward, MakesForward, MakesBackward, PairsId, KeptExactly, FirstStays, NothingExcluded}
 use Rattle.gix_refspec.proofs.Common.{ForwardIndexes, IsValidated, ItemIndexesFit, Removed, same_Some, Reading, id, MakesForwardOf, MakesBackwardOf, MadeAtIndexes, RemainsExactly, KeepsRefNames, LeftOut}
-use Rattle.gix_refspec.proofs.{Common.{AreBackwardEnds, IsPaired, Matches, of_element, AreForwardEnds, Takes}, facts.{RefNameFacts.{good, kept, no_ref_names, sides, to_bad}, ValidationFacts.unwritable}}
+use Rattle.gix_refspec.proofs.{Common.{AreBackwardEnds, IsPaired, Matches, of_element, AreForwardEnds, Takes}, facts.{RefNameFacts.{good, kept, no_ref_names, no_other_sides, to_bad}, ValidationFacts.unwritable}}
 use Rattle.gix_refspec.{proofs.facts.ValidationFacts.unequal, specs.{Laws.Matching.IsFirstOfPair, Matching.Validation.BackwardIndexes}}
 
 abbrev pub group : List Reading
@@ -112,11 +112,7 @@ pub no_other_indexes : (rest : List Mapped) → (ItemIndexesFit group remote_ref
     × ¬ (AreKeptForward group remote_refs (mapping 2 (codes "refs/heads/main") (Some (codes "refs/remotes/origin/main")) 2 ∷ rest)))
     × (ItemIndexesFit group tracking_refs → ¬ (AreKeptBackward group tracking_refs (tracked 0 (codes "main") ∷ rest)))
     × ((items : List Ref) (l : List Mapped) (fixes : List Removed) → ItemIndexesFit (every ∷ []) items → IsValidated (every ∷ []) l rest fixes → AllByRecursion (ForwardIndexes (every ∷ []) items) l → AllByRecursion (ForwardIndexes (every ∷ []) items) rest)
-no_other_indexes rest = (
-  (λ law. ((λ are. let (r, stands, named) = (law.forward _ are).0.item 1 refl in cc), λ are. let below = (law.forward _ are).0.spec in omega (arith, below))),
-  (λ law are. item_back.1 (law.backward _ are).0),
-  λ items l fixes law. law.validated l rest fixes,
-)
+no_other_indexes rest = search (rules, item_back)
 
 -- by the law a mapping of the branch has the index neither of the negative spec nor of the tag
 pub not_of_others : (rest : List Mapped) → (MadeAtIndexes group remote_refs → ¬ (AreKeptForward group remote_refs (mapping 2 (codes "refs/heads/main") (Some (codes "refs/remotes/origin/main")) 1 ∷ rest))
@@ -138,6 +134,6 @@ pub good_remains : (g : List Reading) (rest : List Mapped) → (RemainsExactly g
 good_remains g rest =
     let none : ¬ (Contains [] kept) = of_element (λ m. ⊥) [] kept tt in (
       (λ law fixes valid. ((law.validated rest fixes valid kept).1 ((0, omega arith, refl), inl (record { after = codes "heads/main"; here = refl })), λ has. unwritable (codes "main") refl refl ((law.validated rest fixes valid to_partial).0 has).1)),
-      (λ law out keeps. ((law.named rest out keeps kept).1 ((0, omega arith, refl), sides.0), λ has. no_ref_names.2 ((law.named rest out keeps to_bad).0 has).1.destination)),
+      (λ law out keeps. ((law.named rest out keeps kept).1 ((0, omega arith, refl), no_other_sides.0), λ has. no_ref_names.2 ((law.named rest out keeps to_bad).0 has).1.destination)),
       λ law. ((λ fixes valid has. none ((law.validated rest fixes valid kept).0 has).0), λ out keeps has. none ((law.named rest out keeps kept).0 has).0),
     )
