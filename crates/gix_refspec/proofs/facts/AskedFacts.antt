@@ -3,22 +3,18 @@ use Rattle.gix_refspec.proofs.Common.{begins_not, blob_kind, every, no_dev, shor
 use Rattle.gix_refspec.proofs.{Common.{partial, full_name, object, candidates, Ref, Mapped, AreKeptForward, HasNoList, Lists, ListsGroup, ListsSide, Serves, by_cases, rules, same_Some}, facts.KeptFacts.of_one}
 use Rattle.{gix_refspec.proofs.lemmas.prefixes.AskedLemmas.no_list, gix_refspec_text.proofs.facts.PrefixFacts.{bracket_split, suffix_split, tells}}
 
--- the list of a pattern is its prefix, that of a partial name and `HEAD` their candidates, that of an id empty, that of a full name itself
-pub lists_of_sides : ListsSide (codes "refs/heads/*") (codes "refs/heads/" ∷ []) × ListsSide (codes "main") (candidates (codes "main")) × ListsSide (codes "HEAD") (candidates (codes "HEAD")) × ListsSide (codes "e69de29bb2d1d6434b8b29ae775ad8c2e48c5391") [] × ListsSide (codes "refs/heads/main") (codes "refs/heads/main" ∷ [])
+-- the list of a pattern is its prefix, that of a partial name and `HEAD` their candidates, that of an id empty, that of a full name itself. A star directly after `refs/` has no list; that of `HEAD` isn't `HEAD` alone, and
+-- that of a partial name isn't empty
+pub lists_of_sides : ListsSide (codes "refs/heads/*") (codes "refs/heads/" ∷ []) × ListsSide (codes "main") (candidates (codes "main")) × ListsSide (codes "HEAD") (candidates (codes "HEAD"))
+    × ListsSide (codes "e69de29bb2d1d6434b8b29ae775ad8c2e48c5391") [] × ListsSide (codes "refs/heads/main") (codes "refs/heads/main" ∷ [])
+    × ((list : List (List ℕ)) → ¬ (ListsSide (codes "refs/*") list) × ¬ (ListsSide (codes "HEAD") (codes "HEAD" ∷ [])) × ¬ (ListsSide (codes "main") []))
 lists_of_sides = (
   record { kind = pattern (codes "refs/heads/") []; of = search rules; is = search rules },
   record { kind = partial (codes "main"); of = short_kind; is = refl },
   record { kind = partial (codes "HEAD"); of = (refl, search rules, (λ begins. cc (begins.here)), λ is. search rules); is = refl },
   record { kind = object _; of = blob_kind; is = refl },
   record { kind = full_name _; of = search rules; is = refl },
-)
-
--- a star directly after `refs/` has no list; that of `HEAD` isn't `HEAD` alone, and that of a partial name isn't empty
-pub no_lists_of_sides : (list : List (List ℕ)) → ¬ (ListsSide (codes "refs/*") list) × ¬ (ListsSide (codes "HEAD") (codes "HEAD" ∷ [])) × ¬ (ListsSide (codes "main") [])
-no_lists_of_sides list = (
-  no_list (codes "refs/*") (codes "refs/") [] (search rules) ((tells.1 []).0) list,
-  (λ lists. search rules),
-  λ lists. search rules,
+  λ list. (no_list (codes "refs/*") (codes "refs/") [] (search rules) ((tells.1 []).0) list, (λ lists. search rules), λ lists. search rules),
 )
 
 -- a `]` after the star is allowed, but a star after a `]` has no list
@@ -28,16 +24,16 @@ lists_at_brackets = (
   no_list (codes "refs/a]*") (codes "refs/a]") [] bracket_split (λ tells. search rules),
 )
 
--- the list of a negative spec is empty, and a push without a destination has none
+-- the list of a negative spec is empty, and a push without a destination has none. The lists of a group follow one another
 pub lists_of_specs : Lists every (codes "refs/heads/" ∷ []) × Lists no_dev [] × ((list : List (List ℕ)) → ¬ (Lists (pushed Normal (Some (codes "main")) None) list))
-lists_of_specs = (inr (codes "refs/heads/*", search rules, lists_of_sides.0), inl (refl, refl), λ list lists. search rules)
-
-pub lists_of_groups : ListsGroup (fetched Normal (codes "main") None ∷ no_dev ∷ every ∷ []) (candidates (codes "main") ++ codes "refs/heads/" ∷ [])
-lists_of_groups = (_, _, inr (codes "main", search rules, lists_of_sides.1), ([], _, lists_of_specs.1, (_, [], lists_of_specs.0, refl, refl), refl), refl)
+    × ListsGroup (fetched Normal (codes "main") None ∷ no_dev ∷ every ∷ []) (candidates (codes "main") ++ codes "refs/heads/" ∷ [])
+lists_of_specs =
+    let below : Lists every (codes "refs/heads/" ∷ []) = inr (codes "refs/heads/*", search rules, lists_of_sides.0) in
+    (below, inl (refl, refl), (λ list lists. search rules), (_, _, inr (codes "main", search rules, lists_of_sides.1), ([], _, inl (refl, refl), (_, [], below, refl, refl), refl), refl))
 
 pub none_for_all : HasNoList (every ∷ fetched Normal (codes "refs/*") (Some (codes "refs/x/*")) ∷ []) × ¬ (HasNoList (every ∷ []))
 none_for_all = (
-  (1, fetched Normal (codes "refs/*") (Some (codes "refs/x/*")), omega arith, refl, λ list lists. by_cases lists (λ negative. cc (negative.0)) (λ asked. (no_lists_of_sides list).0 (rw (← same_Some (codes "refs/*") asked.0 asked.1.side) at asked.2))),
+  (1, fetched Normal (codes "refs/*") (Some (codes "refs/x/*")), omega arith, refl, λ list lists. by_cases lists (λ negative. cc (negative.0)) (λ asked. (lists_of_sides.5 list).0 (rw (← same_Some (codes "refs/*") asked.0 asked.1.side) at asked.2))),
   λ none. of_one (λ r. (list : List (List ℕ)) → ¬ (Lists r list)) every none (codes "refs/heads/" ∷ []) lists_of_specs.0,
 )
 
