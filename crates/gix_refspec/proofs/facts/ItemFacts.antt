@@ -44,7 +44,8 @@ mapped_still fewer = (
 )
 
 -- `HEAD` is listed if it is among the refs, and not if only another of its candidates is. A covering source is listed, whatever the refs are, and a star outside `refs/` isn't
-pub listed_sources : FetchesHead (named head ∷ []) head_spec × ¬ (FetchesHead (named (codes "refs/heads/HEAD") ∷ []) head_spec) × ¬ (FetchesHead (named head ∷ []) (pushed Normal (Some head) None)) × ¬ (FetchesHead (named head ∷ []) short)
+pub listed_sources : FetchesHead (named head ∷ []) head_spec × ¬ (FetchesHead (named (codes "refs/heads/HEAD") ∷ []) head_spec)
+    × ¬ (FetchesHead (named head ∷ []) (pushed Normal (Some head) None)) × ¬ (FetchesHead (named head ∷ []) short)
     × IsListed [] every × IsListed [] no_dev × IsListed (named head ∷ []) head_spec × ¬ (IsListed [] head_spec) × ¬ (IsListed (named head ∷ []) (fetched Normal (codes "*") None))
 listed_sources = search (rules, push_is_none, asks, not_covering)
 
@@ -78,16 +79,10 @@ asked_for law =
     ((λ fewer. same _ fewer fetches_all_but_dev), λ are. same_pairs.1 (same _ [] fetches_all_but_dev are))
 
 -- if all items pass, those that some spec takes do; if none does, the branch is taken and doesn't pass
-pub passing : (is_begun (codes "refs/tags/" ∷ codes "refs/heads/" ∷ []) (codes "refs/heads/main") ≡ true) × (is_begun (codes "heads/" ∷ []) (codes "refs/heads/main") ≡ false) × (is_begun [] (codes "refs/heads/main") ≡ false)
-    × ((items : List Item) → PassesTaken AreForwardEnds (Takes (map ref_of items)) group items (λ item. true)) × ((item : Item) → ref_of item ≡ main_ref → ¬ (PassesTaken AreForwardEnds (Takes (map ref_of (item ∷ []))) group (item ∷ []) (λ other. false)))
-passing = (
-  refl,
-  refl,
-  refl,
-  (λ items item there taken. refl),
-  λ item is passes. let refs = map ref_of (item ∷ []) in
-      false≢true (passes item (0, omega arith, refl) (0, every, omega arith, refl, subst (λ (r : Ref). TakesItem AreForwardEnds (Takes refs) r every) (sym is) (taken.0 refs))),
-)
+pub passing : (is_begun (codes "refs/tags/" ∷ codes "refs/heads/" ∷ []) (codes "refs/heads/main") ≡ true) × (is_begun (codes "heads/" ∷ []) (codes "refs/heads/main") ≡ false)
+    × (is_begun [] (codes "refs/heads/main") ≡ false) × ((items : List Item) → PassesTaken AreForwardEnds (Takes (map ref_of items)) group items (λ item. true))
+    × ((item : Item) → ref_of item ≡ main_ref → ¬ (PassesTaken AreForwardEnds (Takes (map ref_of (item ∷ []))) group (item ∷ []) (λ other. false)))
+passing = (refl, refl, refl, (λ items item there taken. refl), λ item is passes. false≢true (passes item (0, omega arith, refl) (0, every, omega arith, refl, rw is (taken.0 (main_ref ∷ [])))))
 
 -- by the laws the items that pass such a filter are some with those that a spec takes, in both directions, or are those listed
 pub filtered : (items some : List Item) → ((p : Item → Bool) → FilteredItems group items some → some ≡ filter p items
@@ -104,15 +99,12 @@ moved n = record { name = n; target = 2 ∷ []; object = Some (3 ∷ []) }
 -- which groups ask for no id, and which refs don't have the same names. Of two refs with the same name, a destination that is an id matches the one with this id
 pub ids_asked_for : AsksForNoId (no_dev ∷ main_to_x ∷ []) × ¬ (AsksForNoId (main_to_x ∷ fetched Normal (codes "main") (Some (codes "e69de29bb2d1d6434b8b29ae775ad8c2e48c5391")) ∷ []))
     × ¬ (HaveSameNames (main_ref ∷ []) (dev_ref ∷ [])) × ¬ (HaveSameNames (main_ref ∷ []) (main_ref ∷ main_ref ∷ []))
-    × Matches (codes "e69de29bb2d1d6434b8b29ae775ad8c2e48c5391") (record { name = codes "refs/tags/blob"; target = empty_blob; object = None }) None × ¬ (Matches (codes "e69de29bb2d1d6434b8b29ae775ad8c2e48c5391") (named (codes "refs/tags/blob")) None)
-ids_asked_for = (
-  search rules,
-  (λ none. none.1.0 (codes "e69de29bb2d1d6434b8b29ae775ad8c2e48c5391", refl, (empty_blob, IsIdText-empty_blob))),
-  (λ same. cc),
-  (λ same. cc),
-  record { kind = object empty_blob; of = blob_kind; is = (refl, inl refl) },
-  λ matches. by_cases (matches_as (codes "e69de29bb2d1d6434b8b29ae775ad8c2e48c5391") (object empty_blob) (named (codes "refs/tags/blob")) None blob_kind matches).1 (λ same. cc) (λ same. cc),
-)
+    × Matches (codes "e69de29bb2d1d6434b8b29ae775ad8c2e48c5391") (record { name = codes "refs/tags/blob"; target = empty_blob; object = None }) None
+    × ¬ (Matches (codes "e69de29bb2d1d6434b8b29ae775ad8c2e48c5391") (named (codes "refs/tags/blob")) None)
+ids_asked_for =
+    let other : ¬ (Matches (codes "e69de29bb2d1d6434b8b29ae775ad8c2e48c5391") (named (codes "refs/tags/blob")) None) = λ matches.
+    by_cases (matches_as _ (object empty_blob) (named (codes "refs/tags/blob")) None blob_kind matches).1 (λ same. cc) (λ same. cc) in
+    (search rules, (λ none. none.1.0 (_, refl, (empty_blob, IsIdText-empty_blob))), (λ same. cc), (λ same. cc), record { kind = object empty_blob; of = blob_kind; is = (refl, inl refl) }, other)
 
 -- other ids change no mapping from left to right, nor from right to left, if no destination is an id
 pub names_alone : (NamesDecide group remote_refs → AreKeptForward group (moved dev_ref.name ∷ moved tag_ref.name ∷ moved main_ref.name ∷ moved main_ref.name ∷ []) (tracked 2 (codes "main") ∷ []))

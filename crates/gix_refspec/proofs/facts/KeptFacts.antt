@@ -25,8 +25,9 @@ at_spec g k P r is (q, here, holds) = subst P (same_Some q r (sym here ∙ is)) 
 
 -- the spec takes the tag at its index, not at that of the branch or without one, and so makes its pair, and none of the branch
 pub tag_made : MakesForwardOf branch_and_tag (Some 1) (name (codes "refs/tags/main")) (Some (codes "refs/x")) main_to_x
-    × ¬ (MakesForwardOf branch_and_tag (Some 0) (name (codes "refs/tags/main")) (Some (codes "refs/x")) main_to_x) × ¬ (MakesForwardOf branch_and_tag None (name (codes "refs/tags/main")) (Some (codes "refs/x")) main_to_x)
-    × MakesForward branch_and_tag (name (codes "refs/tags/main")) (Some (codes "refs/x")) main_to_x × ¬ (MakesForward branch_and_tag (name (codes "refs/heads/main")) (Some (codes "refs/x")) main_to_x)
+    × ¬ (MakesForwardOf branch_and_tag (Some 0) (name (codes "refs/tags/main")) (Some (codes "refs/x")) main_to_x)
+    × ¬ (MakesForwardOf branch_and_tag None (name (codes "refs/tags/main")) (Some (codes "refs/x")) main_to_x) × MakesForward branch_and_tag (name (codes "refs/tags/main")) (Some (codes "refs/x")) main_to_x
+    × ¬ (MakesForward branch_and_tag (name (codes "refs/heads/main")) (Some (codes "refs/x")) main_to_x)
 tag_made =
     let has : AreForwardEnds main_to_x main_ends = search rules in
     let paired : IsPaired (Takes branch_and_tag) main_ends (codes "refs/tags/main") (Some (codes "refs/x")) main_tag =
@@ -61,7 +62,8 @@ pub pairs_kept : (kept : List Mapped) → (KeptExactly (main_to_x ∷ []) branch
     × (KeptExactly (main_to_x ∷ []) local_x → AreKeptBackward (main_to_x ∷ []) local_x kept → HasPair kept branch_pair)
     × ((items : List Ref) → KeptExactly (blob ∷ []) items → AreKeptForward (blob ∷ []) items kept → HasPair kept blob_mapping)
     × (KeptExactly (main_to_x ∷ no_tags ∷ []) branch_and_tag → AreKeptForward (main_to_x ∷ no_tags ∷ []) branch_and_tag kept → ¬ (HasPair kept tag_pair))
-    × ((items : List Ref) → NothingExcluded (main_to_x ∷ no_tags ∷ []) items → ¬ (AreKeptForward (main_to_x ∷ no_tags ∷ []) items (tag_pair ∷ kept)) × ¬ (AreKeptBackward (main_to_x ∷ no_tags ∷ []) items (tag_pair ∷ kept)))
+    × ((items : List Ref) → NothingExcluded (main_to_x ∷ no_tags ∷ []) items
+    → ¬ (AreKeptForward (main_to_x ∷ no_tags ∷ []) items (tag_pair ∷ kept)) × ¬ (AreKeptBackward (main_to_x ∷ no_tags ∷ []) items (tag_pair ∷ kept)))
 pairs_kept kept =
     let excluded : IsExcluded (main_to_x ∷ no_tags ∷ []) (codes "refs/tags/main") = inr (inl (search (rules, tags_excluded))) in (
       (λ law are. ((law.forward kept are tag_pair).1 ((0, main_to_x, omega arith, refl, tag_made.3), search rules), λ has. tag_made.4 (of_one _ main_to_x ((law.forward kept are branch_pair).0 has).0))),
@@ -87,7 +89,8 @@ no_first (x ∷ y ∷ before) after here new = let same : y ≡ tracked 2 (codes
 no_first before after here new = let items = ap (map (λ (m : Mapped). m.item)) here in cc
 
 -- by the law the first mapping of the branch is kept, with its index, and neither its duplicate nor the excluded branch
-pub first_there : (kept : List Mapped) → (FirstStays group remote_refs → AreKeptForward group remote_refs kept → Contains kept (tracked 2 (codes "main")) × ¬ (Contains kept (tracked 3 (codes "main"))) × ¬ (Contains kept (tracked 0 (codes "dev-a"))))
+pub first_there : (kept : List Mapped) → (FirstStays group remote_refs → AreKeptForward group remote_refs kept
+    → Contains kept (tracked 2 (codes "main")) × ¬ (Contains kept (tracked 3 (codes "main"))) × ¬ (Contains kept (tracked 0 (codes "dev-a"))))
     × (FirstStays group tracking_refs → AreKeptBackward group tracking_refs kept → Contains kept (tracked 1 (codes "main")) × ¬ (Contains kept (tracked 0 (codes "dev-a"))))
 first_there kept =
     let first : IsFirstOfPair group mapped (tracked 2 (codes "main")) = record { before = tracked 0 (codes "dev-a") ∷ []; after = _; here = refl; first = only_dev 2; included = main_stays } in
@@ -100,18 +103,17 @@ first_there kept =
 
 -- the item at the index has the name of the destination
 pub item_back : BackwardIndexes group tracking_refs (tracked 1 (codes "main")) × ¬ (BackwardIndexes group tracking_refs (tracked 0 (codes "main")))
-item_back = (
-  record { spec = omega arith; index = 1; ref = named (codes "refs/remotes/origin/main"); item = refl; stands = refl; named = refl },
-  λ fits. let stands = rw (← same_Some 0 fits.index fits.item) at fits.stands in
-      unequal (same_Some (codes "refs/remotes/origin/main") fits.ref.name fits.named ∙ ap (λ (x : Ref). x.name) (sym (same_Some (named (codes "refs/remotes/origin/dev-a")) fits.ref stands))) refl,
-)
+item_back =
+    let one : BackwardIndexes group tracking_refs (tracked 1 (codes "main")) = record { spec = omega arith; index = 1; ref = named (codes "refs/remotes/origin/main"); item = refl; stands = refl; named = refl } in
+    (one, λ fits. let stands = rw (← same_Some 0 fits.index fits.item) at fits.stands in let same : codes "refs/remotes/origin/main" ≡ codes "refs/remotes/origin/dev-a" = cc in unequal same refl)
 
 -- by the law a mapping of the branch doesn't have the index of the tag, nor that of a third spec, if there are two, and one from right to left doesn't have
 -- the index of another tracking ref. Mappings that fit still do after they are validated
 pub no_other_indexes : (rest : List Mapped) → (ItemIndexesFit group remote_refs → ¬ (AreKeptForward group remote_refs (tracked 1 (codes "main") ∷ rest))
     × ¬ (AreKeptForward group remote_refs (mapping 2 (codes "refs/heads/main") (Some (codes "refs/remotes/origin/main")) 2 ∷ rest)))
     × (ItemIndexesFit group tracking_refs → ¬ (AreKeptBackward group tracking_refs (tracked 0 (codes "main") ∷ rest)))
-    × ((items : List Ref) (l : List Mapped) (fixes : List Removed) → ItemIndexesFit (every ∷ []) items → IsValidated (every ∷ []) l rest fixes → AllByRecursion (ForwardIndexes (every ∷ []) items) l → AllByRecursion (ForwardIndexes (every ∷ []) items) rest)
+    × ((items : List Ref) (l : List Mapped) (fixes : List Removed) → ItemIndexesFit (every ∷ []) items
+    → IsValidated (every ∷ []) l rest fixes → AllByRecursion (ForwardIndexes (every ∷ []) items) l → AllByRecursion (ForwardIndexes (every ∷ []) items) rest)
 no_other_indexes rest = search (rules, item_back)
 
 -- by the law a mapping of the branch has the index neither of the negative spec nor of the tag
@@ -124,16 +126,10 @@ not_of_others rest =
       λ items law are. (at_spec group 1 _ no_dev refl (law.backward _ are).0).has.positive,
     )
 
-abbrev to_partial : Mapped
-to_partial = mapping 1 good (Some (codes "main")) 0
-
 -- by the law a mapping to a full name remains, and one to a partial name or to an invalid one doesn't, and none is new
-pub good_remains : (g : List Reading) (rest : List Mapped) → (RemainsExactly g (kept ∷ to_partial ∷ []) → (fixes : List Removed) → IsValidated g (kept ∷ to_partial ∷ []) rest fixes → Contains rest kept × ¬ (Contains rest to_partial))
+pub good_remains : (g : List Reading) (rest : List Mapped)
+    → (RemainsExactly g (kept ∷ mapping 1 good (Some (codes "main")) 0 ∷ []) → (fixes : List Removed) → IsValidated g (kept ∷ mapping 1 good (Some (codes "main")) 0 ∷ []) rest fixes
+    → Contains rest kept × ¬ (Contains rest (mapping 1 good (Some (codes "main")) 0)))
     × (RemainsExactly g (kept ∷ to_bad ∷ []) → (out : List LeftOut) → KeepsRefNames (kept ∷ to_bad ∷ []) rest out → Contains rest kept × ¬ (Contains rest to_bad))
     × (RemainsExactly g [] → ((fixes : List Removed) → IsValidated g [] rest fixes → ¬ (Contains rest kept)) × ((out : List LeftOut) → KeepsRefNames [] rest out → ¬ (Contains rest kept)))
-good_remains g rest =
-    let none : ¬ (Contains [] kept) = of_element (λ m. ⊥) [] kept tt in (
-      (λ law fixes valid. ((law.validated rest fixes valid kept).1 ((0, omega arith, refl), inl (record { after = codes "heads/main"; here = refl })), λ has. unwritable (codes "main") refl refl ((law.validated rest fixes valid to_partial).0 has).1)),
-      (λ law out keeps. ((law.named rest out keeps kept).1 ((0, omega arith, refl), no_other_sides.0), λ has. no_ref_names.2 ((law.named rest out keeps to_bad).0 has).1.destination)),
-      λ law. ((λ fixes valid has. none ((law.validated rest fixes valid kept).0 has).0), λ out keeps has. none ((law.named rest out keeps kept).0 has).0),
-    )
+good_remains g rest = search (rules, of_element, unwritable, no_other_sides, no_ref_names)

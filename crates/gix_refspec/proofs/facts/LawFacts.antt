@@ -43,13 +43,11 @@ reads_unforced =
     let again : ReadsAgainAs forced short × ReadsAgainAs short short = search rules in
     (again.0, again.1, (λ again. search rules), (λ s d q again. push_is_none again.fetch), (again.0, (again.1, tt)), (λ none. none), (λ none. none), λ again. search rules)
 
-abbrev push_main : Option (List ℕ) → Reading
-push_main d = pushed Normal (Some (codes "main")) d
-
 -- the force of a fetch counts only if it has a destination, and pushes, even with the same meaning, aren't fetches
 pub same_fetches : FetchTheSame forced short × ¬ (FetchTheSame (fetched Normal (codes "refs/heads/*") (Some (codes "refs/remotes/origin/*"))) every)
-    × (meaning_of (push_main None) ≡ meaning_of (push_main (Some (codes "main")))) × ¬ (FetchTheSame (push_main None) (push_main (Some (codes "main"))))
-    × AreFetches group × AreFetches [] × ¬ (AreFetches (push_main None ∷ every ∷ [])) × ¬ (AreFetches (every ∷ push_main None ∷ []))
+    × (meaning_of (pushed Normal (Some (codes "main")) None) ≡ meaning_of (pushed Normal (Some (codes "main")) (Some (codes "main"))))
+    × ¬ (FetchTheSame (pushed Normal (Some (codes "main")) None) (pushed Normal (Some (codes "main")) (Some (codes "main"))))
+    × AreFetches group × AreFetches [] × ¬ (AreFetches (pushed Normal (Some (codes "main")) None ∷ every ∷ [])) × ¬ (AreFetches (every ∷ pushed Normal (Some (codes "main")) None ∷ []))
 same_fetches = search (rules, push_is_none)
 
 -- so by either law they map alike, and groups that do map alike in each direction
@@ -69,7 +67,9 @@ expansions =
     let begins : BeginsWithOne (codes "refs/tags/" ∷ codes "refs/heads/" ∷ []) (codes "refs/heads/main") = (1, codes "refs/heads/", omega arith, refl, search rules) in
     let below : IsExpansion every (codes "refs/heads/" ∷ []) = inl (codes "refs/heads/*", search rules, to_prefix (codes "refs/heads/") below_heads refl) in
     let all = to_candidates (outside_none (codes "main") (λ same. unequal same refl) short_kind.2) short_kind.2 short_kind.3 refl in
-    (below, (_, _, below, ([], _, search rules, (_, [], inl (codes "main", record { positive = tt; side = refl }, all), refl, refl), refl), refl), (_, [], below, ([], [], search rules, refl, refl), refl), begins, λ begins. search rules)
+    let three : AreExpansions (every ∷ no_dev ∷ short ∷ []) (codes "refs/heads/" ∷ candidates (codes "main")) =
+    (_, _, below, ([], _, search rules, (_, [], inl (codes "main", record { positive = tt; side = refl }, all), refl, refl), refl), refl) in
+    (below, three, (_, [], below, ([], [], search rules, refl, refl), refl), begins, λ begins. search rules)
 
 abbrev pub head_spec : Reading
 head_spec = fetched Normal (codes "HEAD") None
@@ -79,8 +79,10 @@ pub asks : HasCoveringSource every × AsksFor head_spec (codes "HEAD") × ¬ (As
 asks = search (rules, covering, not_covering, by_cases)
 
 -- the branch begins with an entry of the expansion of its spec, whatever the other specs are, and of that of its group
-pub covered : ((others : List Reading) (kept : List Mapped) → Cover (every ∷ others) remote_refs → AreKeptForward (every ∷ others) remote_refs (tracked 2 (codes "main") ∷ kept) → IsCoveredBy (codes "refs/heads/main") every)
-    × (Cover group remote_refs → IsCoveredBy (codes "refs/heads/main") every) × (CoverTogether group remote_refs → (entries : List (List ℕ)) → AreExpansions group entries → BeginsWithOne entries (codes "refs/heads/main"))
+pub covered : ((others : List Reading) (kept : List Mapped) → Cover (every ∷ others) remote_refs → AreKeptForward (every ∷ others) remote_refs (tracked 2 (codes "main") ∷ kept)
+    → IsCoveredBy (codes "refs/heads/main") every)
+    × (Cover group remote_refs → IsCoveredBy (codes "refs/heads/main") every)
+    × (CoverTogether group remote_refs → (entries : List (List ℕ)) → AreExpansions group entries → BeginsWithOne entries (codes "refs/heads/main"))
 covered = (
   (λ others kept law are. at_spec (every ∷ others) 0 _ every refl ((law (tracked 2 (codes "main") ∷ kept) are).0 (codes "refs/heads/main") refl) (inl asks.0)),
   (λ law. at_spec group 0 _ every refl ((law _ fetches_all_but_dev).0 (codes "refs/heads/main") refl) (inl asks.0)),
@@ -90,7 +92,8 @@ covered = (
 -- what holds of the spec of a mapping holds of the one at its index, and there has to be one. What holds of each source and its spec holds of the branch, whose
 -- mapping is the only one
 pub each_source : ((P : Reading → Type 0) → (AtSpec (no_dev ∷ every ∷ []) (mapping 0 (codes "refs/heads/main") None 1) P → P every) × ¬ (AtSpec (every ∷ []) (mapping 0 (codes "refs/heads/main") None 1) P))
-    × ((P : Reading → List ℕ → Type 0) → EachSource group remote_refs P → P every (codes "refs/heads/main")) × (OneForward group remote_refs → EachSource group remote_refs (λ r n. (r ≡ every) × (n ≡ codes "refs/heads/main")))
+    × ((P : Reading → List ℕ → Type 0) → EachSource group remote_refs P → P every (codes "refs/heads/main"))
+    × (OneForward group remote_refs → EachSource group remote_refs (λ r n. (r ≡ every) × (n ≡ codes "refs/heads/main")))
 each_source = (
   (λ P. (search rules, λ (r, here, holds). cc)),
   (λ P each. at_spec group 0 (λ r. P r (codes "refs/heads/main")) every refl ((each _ fetches_all_but_dev).0 (codes "refs/heads/main") refl)),
@@ -118,7 +121,8 @@ pub one_answer : (OneForward group remote_refs → (l : List Mapped) → AreKept
 one_answer = ((λ law l kept. law l _ kept fetches_all_but_dev), (λ law l kept. law l _ kept tracks_all_but_dev), (λ g items law l m forward back. (law l (inl forward), law m (inr back))), λ law word fits. law word (codes "b") fits refl)
 
 pub fits : (ForwardFits group remote_refs → IndexesFit group (tracked 2 (codes "main") ∷ [])) × ((g : List Reading) (items : List Ref) (m n : Mapped) → ForwardFits g items → AreKeptForward g items (m ∷ n ∷ []) → n.spec < length g)
-    × (ValidatedOnce both_to_x remote_refs → DestinationsHaveOneSource (tag_to_x ∷ tag_alone ∷ []) × (AreKeptForward both_to_x remote_refs (tag_to_x ∷ tag_to_foo ∷ tag_alone ∷ []) → HaveDistinctDestinations (tag_to_x ∷ tag_alone ∷ [])))
+    × (ValidatedOnce both_to_x remote_refs → DestinationsHaveOneSource (tag_to_x ∷ tag_alone ∷ [])
+    × (AreKeptForward both_to_x remote_refs (tag_to_x ∷ tag_to_foo ∷ tag_alone ∷ []) → HaveDistinctDestinations (tag_to_x ∷ tag_alone ∷ [])))
 fits = ((λ law. law _ fetches_all_but_dev), (λ g items m n law kept. (law _ kept).1.0), λ law. law _ _ (foo_fix ∷ []) validated)
 
 -- a partial name is expanded to its candidates and nothing else, and matches each. Over one ref it takes each. A ref that a pattern matches begins with the
@@ -134,9 +138,11 @@ asked_for = (
 )
 
 -- a text of another length isn't an id and has one fault; the id of the empty blob is that of its text alone, and prints as it
-pub one_id : (IdOrFault (codes "e69de29bb2d1d6434b8b29ae775ad8c2e48c5391") → ((i : List ℕ) → IsIdText (codes "e69de29bb2d1d6434b8b29ae775ad8c2e48c5391") i → i ≡ empty_blob) × ((e : IdError) → ¬ (HasIdFault (codes "e69de29bb2d1d6434b8b29ae775ad8c2e48c5391") e)))
+pub one_id : (IdOrFault (codes "e69de29bb2d1d6434b8b29ae775ad8c2e48c5391") → ((i : List ℕ) → IsIdText (codes "e69de29bb2d1d6434b8b29ae775ad8c2e48c5391") i → i ≡ empty_blob)
+    × ((e : IdError) → ¬ (HasIdFault (codes "e69de29bb2d1d6434b8b29ae775ad8c2e48c5391") e)))
     × (IdOrFault (codes "e69de2") → ((e : IdError) → HasIdFault (codes "e69de2") e → e ≡ Length 6) × ((i : List ℕ) → ¬ (IsIdText (codes "e69de2") i)))
-    × (HasOneId (codes "e69de29bb2d1d6434b8b29ae775ad8c2e48c5391") → (i : List ℕ) × IsIdText (codes "e69de29bb2d1d6434b8b29ae775ad8c2e48c5391") i) × (HasOneFault (codes "e69de2") → (e : IdError) × HasIdFault (codes "e69de2") e)
+    × (HasOneId (codes "e69de29bb2d1d6434b8b29ae775ad8c2e48c5391") → (i : List ℕ) × IsIdText (codes "e69de29bb2d1d6434b8b29ae775ad8c2e48c5391") i)
+    × (HasOneFault (codes "e69de2") → (e : IdError) × HasIdFault (codes "e69de2") e)
     × (OneLowerText empty_blob → ((t : List ℕ) → IsLowerText t empty_blob → t ≡ codes "e69de29bb2d1d6434b8b29ae775ad8c2e48c5391") × IsLowerText (codes "e69de29bb2d1d6434b8b29ae775ad8c2e48c5391") empty_blob)
 one_id = (
   (λ law. by_cases law (λ one. ((λ i text. one.only i text ∙ sym (one.only empty_blob IsIdText-empty_blob)), one.sound)) (λ fault. absurd (fault.unread empty_blob IsIdText-empty_blob))),
@@ -153,7 +159,8 @@ nothing_wrong = ((λ law e fault. let long : 256 < 1 = (law (IsPattern-tested []
 pub cloned : {T : Type 0} (is_clone : T → T → Type 0) (is_infallible : T → Type 0) → ClonesExactly is_clone is_infallible → (x y : T) → is_infallible x × (is_clone x y → y ≡ x)
 cloned is_clone is_infallible law x y = ((law x).0, (law x).1 y)
 
--- a text has one reading or is refused, for one reason, except that any fault of a name may be reported, if that applies to its parts: faults of a name are one reason, but a fault and another reason, or two others, are two. Its operation is that of the reading, and texts mean the same exactly if their canonical texts are equal
+-- a text has one reading or is refused, for one reason, except that any fault of a name may be reported, if that applies to its parts: faults of a name are one reason, but a fault and another reason, or two
+-- others, are two. Its operation is that of the reading, and texts mean the same exactly if their canonical texts are equal
 pub of_texts : (ReadsOnce Fetch (codes "main") → Reads Fetch (codes "main") short → (r : Reading) → Reads Fetch (codes "main") r → r ≡ short)
     × (Reads Fetch (codes "main") short → (e : Refusal) → ¬ (IsRefused Fetch (codes "main") e))
     × (ReadsOrRefused Fetch (codes "main") → ((r : Reading) → ¬ (Reads Fetch (codes "main") r)) → (e : Refusal) × IsRefused Fetch (codes "main") e)
@@ -162,7 +169,8 @@ pub of_texts : (ReadsOnce Fetch (codes "main") → Reads Fetch (codes "main") sh
     × (KeepsOperation Fetch (codes "main") → (r : Reading) → Reads Fetch (codes "main") r → r.operation ≡ Fetch)
     × ((r : Reading) → SaysForOperation r → (d : List ℕ) → meaning_of r ≡ Some (push_delete d) → r.operation ≡ Push)
     × (EqualTexts Fetch (codes "+main") (codes "main") → (r q : Reading) → Reads Fetch (codes "+main") r → Reads Fetch (codes "main") q → (printed r ≡ printed q → meaning_of r ≡ meaning_of q) × (meaning_of r ≡ meaning_of q → printed r ≡ printed q))
-    × (IsSameReason (ReferenceName LockSuffix) (ReferenceName RepeatedDot) × IsSameReason NegativeEmpty NegativeEmpty × ¬ (IsSameReason NegativeEmpty (ReferenceName LockSuffix)) × ¬ (IsSameReason (ReferenceName LockSuffix) PatternUnbalanced))
+    × (IsSameReason (ReferenceName LockSuffix) (ReferenceName RepeatedDot) × IsSameReason NegativeEmpty NegativeEmpty
+    × ¬ (IsSameReason NegativeEmpty (ReferenceName LockSuffix)) × ¬ (IsSameReason (ReferenceName LockSuffix) PatternUnbalanced))
 of_texts = (
   (λ law reads r other. law.only r other ∙ sym (law.only short reads)),
   (λ reads e refused. refused.unread short reads),

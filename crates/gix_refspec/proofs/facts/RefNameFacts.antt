@@ -13,48 +13,39 @@ no_ref_names =
     let dots : ¬ (IsRefName (codes "refs/../x")) = λ ref. name_of_ref (codes "refs/../x") ref RepeatedDot (record { before = codes "refs/"; after = codes "/x"; here = refl }) in
     ((λ ref. search rules), (λ ref. search rules), dots)
 
-abbrev bad : List ℕ
-bad = codes "refs/../x"
-
 abbrev pub good : List ℕ
 good = codes "refs/heads/main"
 
 -- ids and missing destinations are valid, and so is `HEAD`, on both sides
-pub without_names : IsValidSource (id []) × IsValidDestination None × ¬ (IsValidDestination (Some bad)) × HasRefNames (mapping 0 (codes "HEAD") (Some (codes "HEAD")) 0)
+pub without_names : IsValidSource (id []) × IsValidDestination None × ¬ (IsValidDestination (Some (codes "refs/../x"))) × HasRefNames (mapping 0 (codes "HEAD") (Some (codes "HEAD")) 0)
 without_names = (tt, tt, no_ref_names.2, search rules)
 
 abbrev pub kept : Mapped
 kept = mapping 0 good (Some good) 0
 
 abbrev from_bad : Mapped
-from_bad = mapping 1 bad (Some good) 0
+from_bad = mapping 1 (codes "refs/../x") (Some good) 0
 
 abbrev pub to_bad : Mapped
-to_bad = mapping 2 good (Some bad) 0
+to_bad = mapping 2 good (Some (codes "refs/../x")) 0
 
 abbrev all_bad : Mapped
-all_bad = mapping 3 bad (Some bad) 0
+all_bad = mapping 3 (codes "refs/../x") (Some (codes "refs/../x")) 0
 
 -- each invalid mapping has its side, and no other
 pub no_other_sides : HasRefNames kept × IsInvalidAt Source from_bad × IsInvalidAt Destination to_bad × IsInvalidAt Both all_bad
     × ¬ (IsInvalidAt Both from_bad) × ¬ (IsInvalidAt Source all_bad) × ¬ (IsInvalidAt Source to_bad) × ¬ (IsInvalidAt Destination all_bad) × ¬ (IsInvalidAt Destination kept)
-no_other_sides =
-    let (good, head) = ref_names in
-    let bad = no_ref_names.2 in search rules
+no_other_sides = search (rules, ref_names, no_ref_names)
 
 -- one of four is kept, and the others are listed in order, each with its side
 pub parted : KeepsRefNames (from_bad ∷ kept ∷ to_bad ∷ all_bad ∷ []) (kept ∷ [])
     (record { mapping = from_bad; side = Source } ∷ record { mapping = to_bad; side = Destination } ∷ record { mapping = all_bad; side = Both } ∷ [])
-parted = record {
-  named = (None, _, (λ m made. no_ref_names.2 made.1.source), (Some kept, [], (refl, no_other_sides.0), (None, [], (λ m made. no_ref_names.2 made.1.destination), search (rules, no_ref_names.2), refl), refl), refl);
-  others = (Some _, _, record { same = refl; bad = no_other_sides.1 }, (None, _, (λ out is. bad_unnamed out.side kept is.bad no_other_sides.0), (Some _, _, destination, (Some _, [], both, refl, refl), refl), refl), refl);
-}
-  where
-    destination : IsLeftOut to_bad (record { mapping = to_bad; side = Destination })
-    destination = record { same = refl; bad = no_other_sides.2 }
-
-    both : IsLeftOut all_bad (record { mapping = all_bad; side = Both })
-    both = record { same = refl; bad = no_other_sides.3 }
+parted =
+    let destination : IsLeftOut to_bad (record { mapping = to_bad; side = Destination }) = record { same = refl; bad = no_other_sides.2 } in
+    let both : IsLeftOut all_bad (record { mapping = all_bad; side = Both }) = record { same = refl; bad = no_other_sides.3 } in record {
+      named = (None, _, (λ m made. no_ref_names.2 made.1.source), (Some kept, [], (refl, no_other_sides.0), (None, [], (λ m made. no_ref_names.2 made.1.destination), search (rules, no_ref_names.2), refl), refl), refl);
+      others = (Some _, _, record { same = refl; bad = no_other_sides.1 }, (None, _, (λ out is. bad_unnamed out.side kept is.bad no_other_sides.0), (Some _, _, destination, (Some _, [], both, refl, refl), refl), refl), refl);
+    }
 
 pub none_lost : ¬ (HaveRefNames (kept ∷ []) []) × ¬ (AreLeftOut (to_bad ∷ []) []) × ((b : InvalidMapping) → ((left_out_of b).mapping ≡ mapped_of b.mapping) × ((left_out_of b).side ≡ b.side))
 none_lost =
@@ -75,14 +66,15 @@ pub none_to_bad : (items : List Ref) (g : List Reading) → WritesRefs g items �
     × ((rest : List Mapped) (fixes : List Removed) → IsValidated g l named fixes → ¬ (KeepsRefNames named (to_bad ∷ rest) out) × (AreKeptForward g items l → ¬ (KeepsRefNames named (kept ∷ kept ∷ rest) out)))
     × (KeepsRefNames l named out → IndexesFit g l → AllByRecursion (ForwardIndexes g items) l → IndexesFit g named × AllByRecursion (ForwardIndexes g items) named)
 none_to_bad items g law l named out = (
-  (λ rest fixes keeps. ((λ valid. no_ref_names.2 ((law.before l named _ out fixes keeps valid).0.0 bad refl).0), λ are valid. ((law.before l named _ out fixes keeps valid).1 are).0.0 (good, refl, refl))),
-  (λ rest fixes valid. ((λ keeps. no_ref_names.2 ((law.after l named _ fixes out valid keeps).0.0 bad refl).0), λ are keeps. ((law.after l named _ fixes out valid keeps).1 are).0.0 (good, refl, refl))),
+  (λ rest fixes keeps. ((λ valid. no_ref_names.2 ((law.before l named _ out fixes keeps valid).0.0 (codes "refs/../x") refl).0), λ are valid. ((law.before l named _ out fixes keeps valid).1 are).0.0 (good, refl, refl))),
+  (λ rest fixes valid. ((λ keeps. no_ref_names.2 ((law.after l named _ fixes out valid keeps).0.0 (codes "refs/../x") refl).0), λ are keeps. ((law.after l named _ fixes out valid keeps).1 are).0.0 (good, refl, refl))),
   λ keeps fit indexes. (law.fits l named out keeps fit, law.indexes l named out keeps indexes),
 )
 
 -- full names and others, components that end with a part of `.lock`, and the bytes next to the special ones are plain. Not so the empty text, an empty component, and each of the special bytes in a text that isn't a name
 pub plain : (list_all is_plain_name (codes "refs/heads/main" ∷ codes "refs/remotes/origin/HEAD" ∷ codes "HEAD" ∷ codes "k/lock" ∷ codes "@" ∷ codes "-" ∷ codes "!)+-09;>@Z]_z|}" ∷ (128 ∷ 255 ∷ []) ∷ []) ≡ true)
-    × (list_any is_plain_name ([] ∷ codes "/a" ∷ codes "a/" ∷ codes "a//a" ∷ codes ".b/a" ∷ codes "a/.b" ∷ codes "b.lock/a" ∷ codes "a/b.lock" ∷ codes "a/b." ∷ codes "..a" ∷ codes "@{1}" ∷ codes "*a" ∷ codes "a b" ∷ codes "a~" ∷ codes "a^"
+    × (list_any is_plain_name ([] ∷ codes "/a" ∷ codes "a/" ∷ codes "a//a" ∷ codes ".b/a" ∷ codes "a/.b" ∷ codes "b.lock/a" ∷ codes "a/b.lock" ∷ codes "a/b." ∷ codes "..a"
+    ∷ codes "@{1}" ∷ codes "*a" ∷ codes "a b" ∷ codes "a~" ∷ codes "a^"
     ∷ codes "a:" ∷ codes "a?" ∷ codes "a[" ∷ codes "a\\" ∷ (97 ∷ 31 ∷ []) ∷ (97 ∷ 127 ∷ []) ∷ []) ≡ false)
 plain = (refl, refl)
 
@@ -91,4 +83,6 @@ plain = (refl, refl)
 pub at_the_border : (is_plain_name (codes "a/a") ≡ true) × (is_plain_name (codes "a//a") ≡ false) × ¬ (IsName (codes "a//a")) × (is_plain_component (codes "a-a") ≡ true) × (is_plain_component (codes "a/a") ≡ false)
     × (list_any is_plain_name (codes "v1.0" ∷ codes "a@b{c}" ∷ []) ≡ false) × IsName (codes "v1.0") × IsName (codes "a@b{c}")
     × (PlainNames → IsName (codes "refs/heads/work") × ((x : List ℕ) → IsTrue (is_plain_name x) → IsRefName (codes "refs/heads/" ++ x)))
-at_the_border = (refl, refl, no_names.3, refl, refl, refl, names_close_to_faults.0, names_close_to_faults.1.1.1.1.1.0, λ law. (law _ refl, λ x plain. inl (record { after = codes "heads/" ++ x; here = refl }, law _ plain)))
+at_the_border =
+    let others = names_close_to_faults.1.1.1.1.1 in
+    (refl, refl, no_names.3, refl, refl, refl, names_close_to_faults.0, others.0, λ law. (law _ refl, λ x plain. inl (record { after = codes "heads/" ++ x; here = refl }, law _ plain)))

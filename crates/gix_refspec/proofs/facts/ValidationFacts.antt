@@ -36,14 +36,10 @@ pub only_x : ((d : List ℕ) → HasConflictAt meeting d → d ≡ codes "refs/x
     × ((d : List ℕ) → ¬ (HasConflictAt (tag_to_x ∷ tag_to_foo ∷ tag_alone ∷ tag_again ∷ []) d))
     × ¬ (AreConflicts both_to_x meeting []) × ((rest : List Mapped) (fixes : List Removed) → ¬ (IsValidated both_to_x meeting rest fixes))
 only_x =
+    let at_a : (d : List ℕ) → HasConflictAt meeting d → d ≡ codes "refs/x/a" = λ d contested. search (rules, of_element) in
+    let one_source : (d : List ℕ) → ¬ (HasConflictAt (tag_to_x ∷ tag_to_foo ∷ tag_alone ∷ tag_again ∷ []) d) = λ d at. search (rules, of_element) in
     let listed : ¬ (AreConflicts both_to_x meeting []) = λ are. of_element (λ d. ⊥) [] _ tt (are.every (codes "refs/x/a") at_x) in
-    ((λ d. at_a d), (λ c is conflicts. unequal (sym is ∙ at_a c.destination conflicts.contested) refl), one_source, listed, λ rest fixes is. listed is.free)
-  where
-    at_a : (d : List ℕ) → HasConflictAt meeting d → d ≡ codes "refs/x/a"
-    at_a d contested = search (rules, of_element)
-
-    one_source : (d : List ℕ) → ¬ (HasConflictAt (tag_to_x ∷ tag_to_foo ∷ tag_alone ∷ tag_again ∷ []) d)
-    one_source d at = search (rules, of_element)
+    (at_a, (λ c is conflicts. unequal (sym is ∙ at_a c.destination conflicts.contested) refl), one_source, listed, λ rest fixes is. listed is.free)
 
 of_firsts : {Y : Type 0} (Q : Mapped → Y → Type 0) (y z : Y) → Q tag_to_x y → Q branch_to_x z → IsMadeFrom (λ k m made. IsFirstTo (codes "refs/x/a") meeting k m × Q m made) 0 meeting (y ∷ z ∷ [])
 of_firsts Q y z tag branch = (None, _, (λ made is. search rules), (Some y, _, (search rules, tag), (Some z, [], (search rules, branch), search rules, refl), refl), refl)
@@ -51,11 +47,8 @@ of_firsts Q y z tag branch = (None, _, (λ made is. search rules), (Some y, _, (
 pub conflicts_at_x : AreConflicts both_to_x meeting (conflict ∷ [])
 unfolding IsStrictlySortedBy
 conflicts_at_x =
-    let at_a : IsConflict both_to_x meeting conflict = record {
-      contested = at_x;
-      sources = of_firsts (λ m source. source ≡ m.source) _ _ refl refl;
-      texts = of_firsts (λ m text. IsTextAt both_to_x m.spec text) _ _ (tags_to_x, refl, refl) (heads_to_x, refl, refl);
-    } in
+    let at_a : IsConflict both_to_x meeting conflict =
+    record { contested = at_x; sources = of_firsts (λ m source. source ≡ m.source) _ _ refl refl; texts = of_firsts (λ m text. IsTextAt both_to_x m.spec text) _ _ (tags_to_x, refl, refl) (heads_to_x, refl, refl) } in
     record { each = (at_a, tt); every = λ d contested. search (rules, only_x.0 d contested); order = (tt, tt) }
 
 pub rising : (g : List Reading) (l : List Mapped) (c d : Conflict) → c.destination ≡ codes "refs/x/b" → d.destination ≡ codes "refs/x/aa" → ¬ (AreConflicts g l (c ∷ d ∷ [])) × ¬ (AreConflicts g l (c ∷ c ∷ []))
@@ -77,7 +70,8 @@ pub fixes : IsFix both_to_x tag_to_foo foo_fix × ((fix : Removed) → ¬ (IsFix
     × (Survives tag_alone × Survives tag_to_x × ¬ (Survives tag_to_foo) × ¬ (AreSurvivors (tag_to_foo ∷ []) (tag_to_foo ∷ [])) × ¬ (AreSurvivors (tag_alone ∷ []) []))
 fixes =
     let foo : IsFix both_to_x tag_to_foo foo_fix = record { goes = refl; unwritable = writable.4; spec = refl } in
-    (foo, (λ fix. search rules), (λ is. search rules), (λ are. nothing_made (λ k m fix. IsFix both_to_x m fix) 0 [] tag_to_foo [] foo_fix are foo), (tt, inl (search rules), writable.4, (λ are. search rules), λ are. search rules))
+    let survivors : ¬ (AreSurvivors (tag_to_foo ∷ []) (tag_to_foo ∷ [])) × ¬ (AreSurvivors (tag_alone ∷ []) []) = ((λ are. search rules), λ are. search rules) in
+    (foo, (λ fix. search rules), (λ is. search rules), (λ are. nothing_made (λ k m fix. IsFix both_to_x m fix) 0 [] tag_to_foo [] foo_fix are foo), (tt, inl (search rules), writable.4, survivors.0, survivors.1))
 
 abbrev of_one_tag : List Mapped
 of_one_tag = tag_to_x ∷ tag_to_foo ∷ tag_alone ∷ []
@@ -91,14 +85,15 @@ validated = record {
 
 -- which indexes fit, and the canonical texts of the specs at them
 pub indexes : IndexesFit both_to_x (tag_to_x ∷ tag_again ∷ []) × ¬ (IndexesFit both_to_x (tag_to_x ∷ mapping 0 (codes "a") None 2 ∷ []))
-    × IsTextAt both_to_x 0 (codes "refs/tags/*:refs/x/*") × IsTextAt (fetched Forced (codes "main") None ∷ []) 0 (codes "main") × ¬ (IsTextAt both_to_x 1 (codes "refs/tags/*:refs/x/*")) × ((text : List ℕ) → ¬ (IsTextAt both_to_x 2 text))
+    × IsTextAt both_to_x 0 (codes "refs/tags/*:refs/x/*") × IsTextAt (fetched Forced (codes "main") None ∷ []) 0 (codes "main")
+    × ¬ (IsTextAt both_to_x 1 (codes "refs/tags/*:refs/x/*")) × ((text : List ℕ) → ¬ (IsTextAt both_to_x 2 text))
 indexes = (search rules, (λ fit. search rules), (tags_to_x, refl, refl), (fetched Forced (codes "main") None, refl, refl), (λ (r, is, prints). search rules), λ text (r, is, prints). cc)
 
 -- mappings without a destination share none. One source may be mapped twice to a destination, which then isn't distinct
-pub meet : ShareDestination tag_to_x branch_to_x × ¬ (ShareDestination tag_to_x tag_to_foo) × ¬ (ShareDestination tag_alone tag_alone) × DestinationsHaveOneSource (tag_to_x ∷ tag_again ∷ []) × ¬ (DestinationsHaveOneSource meeting)
-    × HaveDistinctDestinations (tag_to_x ∷ tag_to_foo ∷ tag_alone ∷ tag_alone ∷ []) × ¬ (HaveDistinctDestinations (tag_to_x ∷ tag_alone ∷ tag_again ∷ []))
+pub meet : ShareDestination tag_to_x branch_to_x × ¬ (ShareDestination tag_to_x tag_to_foo) × ¬ (ShareDestination tag_alone tag_alone)
+    × DestinationsHaveOneSource (tag_to_x ∷ tag_again ∷ []) × ¬ (DestinationsHaveOneSource meeting) × HaveDistinctDestinations (tag_to_x ∷ tag_to_foo ∷ tag_alone ∷ tag_alone ∷ []) × ¬ (HaveDistinctDestinations (tag_to_x ∷ tag_alone ∷ tag_again ∷ []))
 unfolding at_x
-meet = (search rules, (λ at. search rules), (λ at. none_some at.0 at.1), search rules, (λ one. at_x.differ (one tag_to_x branch_to_x (codes "refs/x/a") at_x.has_one at_x.has_other refl refl)), search rules, λ never. search rules)
+meet = (search rules, (λ at. search rules), (λ at. none_some at.0 at.1), search rules, (λ one. at_x.differ (one _ _ _ at_x.has_one at_x.has_other refl refl)), search rules, λ never. search rules)
 
 -- the conflict of two specs is the only one, and exactly one of three mappings is removed, with one fix
 pub one_at_x : (OneValidation both_to_x meeting → (cs : List Conflict) → AreConflicts both_to_x meeting cs → cs ≡ conflict ∷ [])
