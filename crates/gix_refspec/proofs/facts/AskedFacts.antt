@@ -1,10 +1,10 @@
 -- Examples of ref prefixes, for sides and groups like those of git-fetch(1), and what a caller concludes from them.
-use Rattle.gix_refspec.proofs.Common.{begins_not, blob_kind, every, no_dev, short_kind, mapping, inl, inr, ℕ, List, [], ◌∷◌, ◌++◌, None, Some, codes, refl, arith, BeginsWith, Normal, fetched, pushed, pattern}
-use Rattle.gix_refspec.proofs.{Common.{partial, full_name, object, candidates, Ref, Mapped, AreKeptForward, HasNoList, Lists, ListsGroup, ListsSide, Serves, by_cases, rules, same_Some}, facts.KeptFacts.of_one}
+use Rattle.gix_refspec.proofs.Common.{begins_not, blob_kind, every, no_dev, short_kind, mapping, inl, inr, ℕ, List, [], ◌∷◌, ◌++◌, None, Some, codes, refl, arith, BeginsWith, Normal, fetched, pushed, pattern, partial}
+use Rattle.gix_refspec.proofs.{Common.{full_name, object, candidates, Ref, Mapped, AreKeptForward, HasNoList, Lists, ListsGroup, ListsSide, Serves, by_cases, rules, same_Some}, facts.KeptFacts.of_one}
 use Rattle.{gix_refspec.proofs.lemmas.prefixes.AskedLemmas.no_list, gix_refspec_text.proofs.facts.PrefixFacts.{bracket_split, suffix_split, tells}}
 
--- the list of a pattern is its prefix, that of a partial name and `HEAD` their candidates, that of an id empty, that of a full name itself. A star directly after `refs/` has no list; that of `HEAD` isn't `HEAD` alone, and
--- that of a partial name isn't empty
+-- the list of a pattern is its prefix, that of a partial name and `HEAD` their candidates, that of an id empty, that of a full name itself. A star directly after `refs/` has no list; that of `HEAD` isn't
+-- `HEAD` alone, and that of a partial name isn't empty
 pub lists_of_sides : ListsSide (codes "refs/heads/*") (codes "refs/heads/" ∷ []) × ListsSide (codes "main") (candidates (codes "main")) × ListsSide (codes "HEAD") (candidates (codes "HEAD"))
     × ListsSide (codes "e69de29bb2d1d6434b8b29ae775ad8c2e48c5391") [] × ListsSide (codes "refs/heads/main") (codes "refs/heads/main" ∷ [])
     × ((list : List (List ℕ)) → ¬ (ListsSide (codes "refs/*") list) × ¬ (ListsSide (codes "HEAD") (codes "HEAD" ∷ [])) × ¬ (ListsSide (codes "main") []))
@@ -32,10 +32,10 @@ lists_of_specs =
     (below, inl (refl, refl), (λ list lists. search rules), (_, _, inr (codes "main", search rules, lists_of_sides.1), ([], _, inl (refl, refl), (_, [], below, refl, refl), refl), refl))
 
 pub none_for_all : HasNoList (every ∷ fetched Normal (codes "refs/*") (Some (codes "refs/x/*")) ∷ []) × ¬ (HasNoList (every ∷ []))
-none_for_all = (
-  (1, fetched Normal (codes "refs/*") (Some (codes "refs/x/*")), omega arith, refl, λ list lists. by_cases lists (λ negative. cc (negative.0)) (λ asked. (lists_of_sides.5 list).0 (rw (← same_Some (codes "refs/*") asked.0 asked.1.side) at asked.2))),
-  λ none. of_one (λ r. (list : List (List ℕ)) → ¬ (Lists r list)) every none (codes "refs/heads/" ∷ []) lists_of_specs.0,
-)
+none_for_all =
+    let none : (list : List (List ℕ)) → ¬ (Lists (fetched Normal (codes "refs/*") (Some (codes "refs/x/*"))) list) = λ list lists.
+    by_cases lists (λ negative. cc (negative.0)) (λ asked. (lists_of_sides.5 list).0 (rw (← same_Some (codes "refs/*") asked.0 asked.1.side) at asked.2)) in
+    ((1, _, omega arith, refl, none), λ none. of_one (λ r. (list : List (List ℕ)) → ¬ (Lists r list)) every none (codes "refs/heads/" ∷ []) lists_of_specs.0)
 
 -- if the list serves, no tag is a source, over any items
 pub no_tag_served : Serves (codes "refs/heads/" ∷ []) (every ∷ []) → (items : List Ref) (d : ℕ) (rest : List Mapped) → ¬ (AreKeptForward (every ∷ []) items (mapping 0 (codes "refs/tags/v1") None d ∷ rest))

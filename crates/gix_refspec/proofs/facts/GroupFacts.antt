@@ -6,8 +6,8 @@ use Rattle.gix_refspec.proofs.Common.{IsGathered, ForwardOutcome, mappings_of, c
 use Rattle.{gix_refspec.proofs.{Common.{AreForward, AreBackward, AreKeptForward, AreKeptBackward, IsOutcome, Maps}, facts.KeptFacts.{group, remote_refs, tracking_refs}}, bstr.specs.Utf8.pieces_from}
 use Rattle.gix_refspec.specs.declared.match_group.validate.{Error.Error, Issue.TheVariants.Conflict as ConflictIssue, Refusal.TheVariants.{Conflicts, Memory}}
 use Rattle.{gix_refspec_match.{proofs.lemmas.hits.HitLemmas.{one_forward, one_backward}, specs.declared.types.SourceRef.TheVariants.{FullName, ObjectId as IdSource}}, gix_refspec_text.proofs.facts.ViewFacts.lent}
-use Rattle.{gix_refspec_text.{proofs.facts.ViewFacts.{Accepted, spec_of, owned_of, blob_id}, specs.declared.{oid.ObjectId.ObjectId, spec.RefSpec.accepted-type}}, std.specs.Char.encode_utf8}
-use Rattle.std.specs.Iterator.{YieldsFirst, Drains}
+use Rattle.{gix_refspec_text.{proofs.facts.ViewFacts.{Accepted, spec_of, owned_of, blob_id}, specs.declared.{oid.ObjectId.ObjectId, spec.RefSpec.accepted-type}}, std.specs.{Char.encode_utf8, Iterator.YieldsFirst}}
+use Rattle.std.specs.Iterator.{Drains}
 use Rattle.gix_refspec_text.specs.declared.types.Mode.TheVariants as mode
 
 abbrev lent_name : List ℕ → NameRef
@@ -15,9 +15,9 @@ lent_name x = Borrowed (lent x)
 
 -- the source of a mapping is a name or an id: a name with the bytes of an id isn't an id. An id is printed in lower case, a name that is UTF-8, like `ä`, unchanged, and U+FFFD replaces a byte that isn't UTF-8
 pub names_seen : (name_bytes (lent_name (codes "main")) ≡ codes "main") × ((o : BString) → bstring_bytes o ≡ codes "main" → name_bytes (Owned o) ≡ codes "main")
-    × (start_of (FullName (lent_name (codes "refs/heads/main"))) ≡ name (codes "refs/heads/main")) × (start_of (IdSource blob_id) ≡ id empty_blob) × (start_of (FullName (lent_name empty_blob)) ≢ start_of (IdSource blob_id))
-    × (text_of_source (IdSource blob_id) ≡ codes "e69de29bb2d1d6434b8b29ae775ad8c2e48c5391") × (text_of_source (FullName (lent_name (0xC3 ∷ 0xA4 ∷ []))) ≡ 0xC3 ∷ 0xA4 ∷ [])
-    × (text_of_source (FullName (lent_name (codes "a" ++ 0xFF ∷ codes "b"))) ≡ codes "a" ++ 239 ∷ 191 ∷ 189 ∷ codes "b")
+    × (start_of (FullName (lent_name (codes "refs/heads/main"))) ≡ name (codes "refs/heads/main")) × (start_of (IdSource blob_id) ≡ id empty_blob)
+    × (start_of (FullName (lent_name empty_blob)) ≢ start_of (IdSource blob_id)) × (text_of_source (IdSource blob_id) ≡ codes "e69de29bb2d1d6434b8b29ae775ad8c2e48c5391")
+    × (text_of_source (FullName (lent_name (0xC3 ∷ 0xA4 ∷ []))) ≡ 0xC3 ∷ 0xA4 ∷ []) × (text_of_source (FullName (lent_name (codes "a" ++ 0xFF ∷ codes "b"))) ≡ codes "a" ++ 239 ∷ 191 ∷ 189 ∷ codes "b")
 unfolding pieces_from encode_utf8
 names_seen = (refl, (λ o is. is), refl, refl, (λ same. cc), lower_of-empty_blob, refl, refl)
 
@@ -30,15 +30,13 @@ branch = record { item_index = Some 3; lhs = FullName (lent_name (codes "refs/he
 abbrev object : Mapping
 object = record { item_index = None; lhs = IdSource blob_id; rhs = None; spec_index = 1 }
 
--- the object of a tag isn't its target, and may be missing. The indexes of the item and of the spec aren't swapped, nor are the source and the destination
+-- the object of a tag isn't its target, and may be missing. The indexes of the item and of the spec aren't swapped, nor are the source and the destination, and a push isn't a fetch
 pub mappings_seen : (ref_of (item_of (record { kind = Sha1; buffer = replicate 32 1 }) (Some blob_id)) ≡ record { name = codes "refs/tags/v1"; target = replicate 20 1; object = Some empty_blob })
     × (ref_of (item_of blob_id None) ≡ record { name = codes "refs/tags/v1"; target = empty_blob; object = None })
     × (mapped_of branch ≡ mapping 3 (codes "refs/heads/a") (Some (codes "refs/x/a")) 5) × (mapped_of object ≡ record { item = None; source = id empty_blob; destination = None; spec = 1 })
     × ((o : ForwardOutcome) → o.mappings.items ≡ branch ∷ object ∷ [] → mappings_of o ≡ mapping 3 (codes "refs/heads/a") (Some (codes "refs/x/a")) 5 ∷ record { item = None; source = id empty_blob; destination = None; spec = 1 } ∷ [])
-mappings_seen = (refl, refl, refl, refl, λ o are. ap (map mapped_of) are)
-
-pub operations_apart : is_same_operation Push Push ∷ is_same_operation Push Fetch ∷ is_same_operation Fetch Push ∷ is_same_operation Fetch Fetch ∷ [] ≡ true ∷ false ∷ false ∷ true ∷ []
-operations_apart = refl
+    × (is_same_operation Push Push ∷ is_same_operation Push Fetch ∷ is_same_operation Fetch Push ∷ is_same_operation Fetch Fetch ∷ [] ≡ true ∷ false ∷ false ∷ true ∷ [])
+mappings_seen = (refl, refl, refl, refl, (λ o are. ap (map mapped_of) are), refl)
 
 abbrev Gathers : List RefSpecRef → MatchGroup → Type 0
 Gathers = IsGathered (λ source it. it ≡ source) (YieldsFirst (λ rest. rest)) Fetch
@@ -57,8 +55,8 @@ module _ (a : Accepted Fetch mode.Normal (Some (codes "a")) None) (b : Accepted 
 
   -- a group of fetches gathers the two fetches among these, in order, and nothing else: not one alone, nor both in the other order, nor all three
   pub group_seen : (map (is_for Fetch) all_specs ≡ true ∷ false ∷ true ∷ []) × (map (is_for Push) all_specs ≡ false ∷ true ∷ false ∷ [])
-      × ((g : MatchGroup) → (g.specs.items ≡ all_specs → (readings_of g ≡ fetched Normal (codes "a") None ∷ pushed Normal (Some (codes "b")) None ∷ fetched Forced (codes "c") (Some (codes "d")) ∷ []) × ¬ (Gathers all_specs g))
-      × (g.specs.items ≡ fetches → Gathers all_specs g) × (Gathers all_specs g → g.specs.items ≡ fetches))
+      × ((g : MatchGroup) → (g.specs.items ≡ all_specs → (readings_of g ≡ fetched Normal (codes "a") None ∷ pushed Normal (Some (codes "b")) None ∷ fetched Forced (codes "c") (Some (codes "d")) ∷ [])
+      × ¬ (Gathers all_specs g)) × (g.specs.items ≡ fetches → Gathers all_specs g) × (Gathers all_specs g → g.specs.items ≡ fetches))
   group_seen =
       let no_other = λ (g : MatchGroup) (gathered : Gathers all_specs g). gathered.specs ∙ ap (filter (is_for Fetch)) (given gathered.iterator gathered.all gathered.given ∙ gathered.made) in
       let gathers : (g : MatchGroup) → g.specs.items ≡ fetches → Gathers all_specs g = λ g are.
@@ -80,12 +78,10 @@ module _ (n m o : BString) (alone : accepted-type Fetch mode.Normal (Some o) Non
   abbrev fix : BString → Fix
   fix d = MappingWithPartialDestinationRemoved d (owned_of Fetch mode.Normal (Some o) None alone)
 
-  abbrev forced_fix : Fix
-  forced_fix = MappingWithPartialDestinationRemoved n (owned_of Fetch mode.Force (Some o) None forced)
-
   -- fixes are the same exactly if their specs mean the same and the bytes of their destinations are equal
-  pub same_fixes : (removed_of forced_fix ≡ record { destination = bstring_bytes n; spec = fetched Forced (bstring_bytes o) None }) × IsSameFix forced_fix (fix n)
-      × (bstring_bytes n ≡ bstring_bytes m → IsSameFix (fix n) (fix m)) × ¬ (IsSameFix (fix n) (MappingWithPartialDestinationRemoved n (owned_of Push mode.Normal (Some o) None same_name))) × (bstring_bytes n ≢ bstring_bytes m → ¬ (IsSameFix (fix n) (fix m)))
+  pub same_fixes : (removed_of (MappingWithPartialDestinationRemoved n (owned_of Fetch mode.Force (Some o) None forced)) ≡ record { destination = bstring_bytes n; spec = fetched Forced (bstring_bytes o) None })
+      × IsSameFix (MappingWithPartialDestinationRemoved n (owned_of Fetch mode.Force (Some o) None forced)) (fix n) × (bstring_bytes n ≡ bstring_bytes m → IsSameFix (fix n) (fix m))
+      × ¬ (IsSameFix (fix n) (MappingWithPartialDestinationRemoved n (owned_of Push mode.Normal (Some o) None same_name))) × (bstring_bytes n ≢ bstring_bytes m → ¬ (IsSameFix (fix n) (fix m)))
   same_fixes = (refl, record { destination = refl; spec = refl }, (λ same. record { destination = same; spec = refl }), (λ same. cc (same.spec)), λ differ same. differ same.destination)
 
 -- for a group with a spec for all branches and one without those that begin `dev-`, an outcome has the unchanged group, and the one branch that is kept, so that memory may be needed for mappings

@@ -1,11 +1,11 @@
 -- Which items may be left out, what of an item decides, and what a caller concludes from the laws on that.
-use Rattle.gix_refspec.proofs.Common.{some_of, covering, not_covering, branch_and_tag, main_branch, main_tag, main_ends, main_to_x, takes_the_tag, named, dev_ref, every, main_ref, no_dev, origin_split, short}
-use Rattle.gix_refspec.proofs.Common.{short_no_id, tag_ref, of_element, push_is_none, fetches_all_but_dev, forward_ends, taken_by, takes_no_tag, tracked, tracks_all_but_dev, ◌≡◌, inl, inr, ℕ, List, [], ◌∷◌, None}
-use Rattle.gix_refspec.proofs.Common.{Some, codes, refl, sym, subst, arith, Bool, true, false, map, filter, Any, Contains, bstr_bytes, false≢true, Item, head, Normal, Reading, fetched, pushed, pattern, Ref}
-use Rattle.gix_refspec.proofs.Common.{Matches, Takes, name, Mapped, HasPair, AreForwardEnds, AreBackwardEnds, AreKeptForward, AreKeptBackward, ref_of, AreExpansions, AreAskedFor, ArePart, AskedItems, TakesItem}
-use Rattle.gix_refspec.proofs.Common.{HasTaken, HaveSamePairs, FewerItems, FetchesHead, IsListed, AreListedItems, ListedItems, PassesTaken, FilteredItems, is_begun, FilteredByEntries, FilteredByList, by_cases}
-use Rattle.gix_refspec.proofs.Common.{empty_blob, IsIdText-empty_blob, blob_kind, object, AsksForNoId, HaveSameNames, MakesForward, NamesDecide, NamesDecideBack, rules, matches_as}
-use Rattle.gix_refspec.proofs.{facts.{AskedFacts.lists_of_specs, KeptFacts.{group, remote_refs, tracking_refs}, LawFacts.{asks, expansions, head_spec}}, lemmas.prefixes.CoverLemmas.joined_covers}
+use Rattle.gix_refspec.proofs.Common.{some_of, not_covering, branch_and_tag, main_branch, main_tag, main_ends, main_to_x, takes_the_tag, named, dev_ref, every, main_ref, no_dev, origin_split, short, short_no_id}
+use Rattle.gix_refspec.proofs.Common.{tag_ref, of_element, push_is_none, fetches_all_but_dev, forward_ends, taken_by, takes_no_tag, tracked, tracks_all_but_dev, ◌≡◌, inl, ℕ, List, [], ◌∷◌, None, Some, codes, refl}
+use Rattle.gix_refspec.proofs.Common.{arith, Bool, true, false, map, filter, Any, Contains, bstr_bytes, false≢true, Item, head, Normal, fetched, pushed, pattern, Ref, Matches, Takes, name, Mapped, HasPair}
+use Rattle.gix_refspec.proofs.Common.{AreForwardEnds, AreBackwardEnds, AreKeptForward, AreKeptBackward, ref_of, AreAskedFor, ArePart, AskedItems, TakesItem, HasTaken, HaveSamePairs, FewerItems, FetchesHead, IsListed}
+use Rattle.gix_refspec.proofs.Common.{AreListedItems, ListedItems, PassesTaken, FilteredItems, is_begun, FilteredByEntries, FilteredByList, by_cases, empty_blob, IsIdText-empty_blob, blob_kind, object, AsksForNoId}
+use Rattle.gix_refspec.proofs.{Common.{HaveSameNames, MakesForward, NamesDecide, NamesDecideBack, rules, matches_as}, facts.{AskedFacts.lists_of_specs, KeptFacts.{group, remote_refs, tracking_refs}, LawFacts.asks}}
+use Rattle.gix_refspec.proofs.{facts.LawFacts.{expansions, head_spec}, lemmas.prefixes.CoverLemmas.joined_covers}
 
 -- the branches of the remote, each once and in another order
 abbrev branches : List Ref

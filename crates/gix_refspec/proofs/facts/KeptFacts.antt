@@ -1,11 +1,11 @@
 -- What a caller concludes from the laws on kept mappings: whether a pair is kept, and by which spec and item.
 use Rattle.gix_refspec.proofs.Common.{some_of, by_cases, map, rules, branch_and_tag, main_tag, main_ends, main_to_x, no_tags, no_other_first, not_excluded, tags_excluded, takes_the_tag, x_kind, named, empty_blob}
-use Rattle.gix_refspec.proofs.Common.{below_tags, blob, blob_kind, dev_ref, every, main_ref, no_dev, short_kind, tag_ref, blob_mapping, dev_excluded, main_stays, mapping, maps_all, only_dev, tracked, tracks_all}
-use Rattle.gix_refspec.proofs.Common.{◌≡◌, inl, inr, ℕ, List, [], ◌∷◌, ◌++◌, None, Some, codes, refl, sym, ap, ◌∙◌, subst, arith, AllByRecursion, Any, Contains, slice_get, partial, full_name, Ref}
-use Rattle.gix_refspec.proofs.Common.{IsFirstCandidate, name, Mapped, HasPair, IsExcluded, AreKeptForward, AreKeptBackward, MakesForward, MakesBackward, PairsId, KeptExactly, FirstStays, NothingExcluded}
-use Rattle.gix_refspec.proofs.Common.{ForwardIndexes, IsValidated, ItemIndexesFit, Removed, same_Some, Reading, id, MakesForwardOf, MakesBackwardOf, MadeAtIndexes, RemainsExactly, KeepsRefNames, LeftOut}
-use Rattle.gix_refspec.proofs.{Common.{AreBackwardEnds, IsPaired, Matches, of_element, AreForwardEnds, Takes}, facts.{RefNameFacts.{good, kept, no_ref_names, no_other_sides, to_bad}, ValidationFacts.unwritable}}
-use Rattle.gix_refspec.{proofs.facts.ValidationFacts.unequal, specs.{Laws.Matching.IsFirstOfPair, Matching.Validation.BackwardIndexes}}
+use Rattle.gix_refspec.proofs.Common.{below_tags, blob, blob_kind, dev_ref, every, main_ref, no_dev, short_kind, tag_ref, blob_mapping, dev_excluded, main_stays, mapping, maps_all, only_dev, tracked, tracks_all, ◌≡◌}
+use Rattle.gix_refspec.proofs.Common.{inl, inr, ℕ, List, [], ◌∷◌, ◌++◌, None, Some, codes, refl, sym, ap, ◌∙◌, subst, arith, AllByRecursion, Any, Contains, slice_get, partial, full_name, Ref, IsFirstCandidate, name}
+use Rattle.gix_refspec.proofs.Common.{Mapped, HasPair, IsExcluded, AreKeptForward, AreKeptBackward, MakesForward, MakesBackward, PairsId, KeptExactly, FirstStays, NothingExcluded, ForwardIndexes, IsValidated}
+use Rattle.gix_refspec.proofs.Common.{ItemIndexesFit, Removed, same_Some, Reading, id, MakesForwardOf, MakesBackwardOf, MadeAtIndexes, RemainsExactly, KeepsRefNames, LeftOut, AreBackwardEnds, IsPaired, Matches}
+use Rattle.gix_refspec.proofs.{Common.{of_element, AreForwardEnds, Takes}, facts.{RefNameFacts.{good, kept, no_ref_names, no_other_sides, to_bad}, ValidationFacts.{unwritable, unequal}}}
+use Rattle.gix_refspec.specs.{Laws.Matching.IsFirstOfPair, Matching.Validation.BackwardIndexes}
 
 abbrev pub group : List Reading
 group = every ∷ no_dev ∷ []

@@ -1,17 +1,17 @@
 -- Examples of the definitions that only laws use: on directions, covering sources, canonical texts and expansions.
-use Rattle.gix_refspec.proofs.Common.{below_heads, covering, not_covering, Lacks-tested, IsPattern-tested, named, begins_not, empty_blob, IsIdText-empty_blob, lower_of-empty_blob, HasIdFault-length, every}
-use Rattle.gix_refspec.proofs.Common.{no_dev, short, short_kind, push_is_none, mapping, tracked, fetches_all_but_dev, tracks_all_but_dev, tracks_nothing, tag_to_x, tag_to_foo, tag_alone, ◌≡◌, ◌≢◌, ◌⊎◌, ◌<◌, ℕ}
-use Rattle.gix_refspec.proofs.Common.{List, [], ◌∷◌, Option, None, Some, length, codes, refl, sym, ap, ◌∙◌, subst, inl, inr, arith, Push, Fetch, BeginsWith, IsPattern, Normal, Forced, Negative, Reading, Reads}
-use Rattle.gix_refspec.proofs.Common.{fetched, pushed, candidates, IsCandidate, Fits, name, id, Mapped, HasPair, AreApart, AreKeptForward, AreKeptBackward, OneForward, OneBackward, KeptOnce, Ref, Matches}
-use Rattle.gix_refspec.proofs.Common.{HasName, Takes, ValidatedOnce, DestinationsHaveOneSource, HaveDistinctDestinations, ForwardFits, IndexesFit, push_delete, fetch_only, printed, meaning_of, Refusal}
-use Rattle.gix_refspec.proofs.Common.{PatternUnbalanced, NegativeEmpty, ReferenceName, IsRefused, IsIdText, IsLowerText, HasIdFault, LockSuffix, RepeatedDot, IsPrefix, Expands, to_prefix, to_candidates}
-use Rattle.gix_refspec.proofs.Common.{HasCoveringSource, MapAlike, AreReadAgain, AsksFor, AtSpec, EachSource, Transpose, Cover, CoverTogether, FetchGroupReadsBack, IsCoveredBy, IsSourceAmong, IsDestinationAmong}
-use Rattle.gix_refspec.proofs.Common.{GoesBothWays, ReadsAgainAs, Lacks-ContainsText, BeginsWithOne, AreExpansions, same_Some, by_cases, EqualGroups, AreFetches, FetchTheSame, rules, main_ref, IsExpansion}
-use Rattle.gix_refspec.{proofs.facts.{KeptFacts.{at_spec, group, remote_refs, tracking_refs}, ValidationFacts.{both_to_x, foo_fix, validated, unequal}}, specs.Laws.Reasons.ReasonRefuses}
-use Rattle.gix_refspec_text.{proofs.{facts.{GrammarFacts.fetches_main, UnreadFacts.unbalanced_fetches}, lemmas.hits.MatchLemmas.outside_none}, specs.Laws.Readings.{ReadsOnce, ReadsOrRefused, IsSameReason}}
-use Rattle.gix_refspec_text.specs.Laws.Readings.{SaysForOperation, IsPrintedBack, ReadsBack, EqualReadings, HasOneId, HasOneFault, HasCandidates, KeepsOperation, EqualTexts, NothingAgainst, ClonesExactly}
-use Rattle.gix_refspec_text.specs.{Laws.Readings.{OneWord, PrefixBegins, OnePrefix, Candidates, IdOrFault, OneLowerText, OneRefusal}, Texts.PatternError.IsPatternFault, declared.name.Error.Error as NameError}
-use Rattle.gix_refspec_text.specs.declared.{name.PatternError.{PatternError, TheVariants.Name}, oid.Error.{Error as IdError, TheVariants.Length}}
+use Rattle.gix_refspec.proofs.Common.{below_heads, covering, not_covering, Lacks-tested, IsPattern-tested, named, begins_not, empty_blob, IsIdText-empty_blob, lower_of-empty_blob, HasIdFault-length, every, no_dev}
+use Rattle.gix_refspec.proofs.Common.{short, short_kind, push_is_none, mapping, tracked, fetches_all_but_dev, tracks_all_but_dev, tracks_nothing, tag_to_x, tag_to_foo, tag_alone, ◌≡◌, ◌≢◌, ◌⊎◌, ◌<◌, ℕ, List, [], ◌∷◌}
+use Rattle.gix_refspec.proofs.Common.{Option, None, Some, length, codes, refl, sym, ap, ◌∙◌, subst, inl, inr, arith, Push, Fetch, BeginsWith, IsPattern, Normal, Forced, Negative, Reading, Reads, fetched, pushed}
+use Rattle.gix_refspec.proofs.Common.{candidates, IsCandidate, Fits, name, id, Mapped, HasPair, AreApart, AreKeptForward, AreKeptBackward, OneForward, OneBackward, KeptOnce, Ref, Matches, HasName, Takes, ValidatedOnce}
+use Rattle.gix_refspec.proofs.Common.{DestinationsHaveOneSource, HaveDistinctDestinations, ForwardFits, IndexesFit, push_delete, fetch_only, printed, meaning_of, Refusal, PatternUnbalanced, NegativeEmpty, ReferenceName}
+use Rattle.gix_refspec.proofs.Common.{IsRefused, IsIdText, IsLowerText, HasIdFault, LockSuffix, RepeatedDot, IsPrefix, Expands, to_prefix, to_candidates, HasCoveringSource, MapAlike, AreReadAgain, AsksFor, AtSpec}
+use Rattle.gix_refspec.proofs.Common.{EachSource, Transpose, Cover, CoverTogether, FetchGroupReadsBack, IsCoveredBy, IsSourceAmong, IsDestinationAmong, GoesBothWays, ReadsAgainAs, Lacks-ContainsText, BeginsWithOne}
+use Rattle.gix_refspec.proofs.{Common.{AreExpansions, same_Some, by_cases, EqualGroups, AreFetches, FetchTheSame, rules, main_ref, IsExpansion}, facts.KeptFacts.{at_spec, group, remote_refs, tracking_refs}}
+use Rattle.{gix_refspec.{proofs.facts.ValidationFacts.{both_to_x, foo_fix, validated, unequal}, specs.Laws.Reasons.ReasonRefuses}, gix_refspec_text.proofs.facts.GrammarFacts.fetches_main}
+use Rattle.gix_refspec_text.{proofs.{facts.UnreadFacts.unbalanced_fetches, lemmas.hits.MatchLemmas.outside_none}, specs.Laws.Readings.{ReadsOnce, ReadsOrRefused, IsSameReason, SaysForOperation, IsPrintedBack}}
+use Rattle.gix_refspec_text.specs.Laws.Readings.{ReadsBack, EqualReadings, HasOneId, HasOneFault, HasCandidates, KeepsOperation, EqualTexts, NothingAgainst, ClonesExactly, OneWord, PrefixBegins, OnePrefix, Candidates}
+use Rattle.gix_refspec_text.specs.{Laws.Readings.{IdOrFault, OneLowerText, OneRefusal}, Texts.PatternError.IsPatternFault, declared.name.{Error.Error as NameError, PatternError.{PatternError, TheVariants.Name}}}
+use Rattle.gix_refspec_text.specs.declared.oid.Error.{Error as IdError, TheVariants.Length}
 
 abbrev forced : Reading
 forced = fetched Forced (codes "main") None

@@ -1,10 +1,11 @@
 -- Examples of the definitions of the laws on plans, and what a caller concludes from these laws.
-use Rattle.gix_refspec.proofs.Common.{◌<◌, empty_blob, lower_of-empty_blob, branch_to_x, mapping, tag_alone, tag_to_x, ◌≢◌, ℕ, List, [], ◌∷◌, None, Some, codes, refl, subst, arith, AllByRecursion, Fetch, Lacks}
-use Rattle.gix_refspec.proofs.Common.{Reading, Reads, printed, Ref, id, Mapped, AreKeptForward, Removed, IsValidated, AreFixesApart, HaveSourcesByIndex, LacksIn, MappedLacks, NoControlCharacter, PlansApart}
-use Rattle.gix_refspec.proofs.{Common.{SidesLack, SourceLacks, rules}, facts.ValidationFacts.foo_fix}
+use Rattle.gix_refspec.proofs.Common.{◌<◌, empty_blob, lower_of-empty_blob, branch_to_x, mapping, tag_alone, tag_to_x, ◌≢◌, ℕ, List, [], ◌∷◌, None, Some, codes, refl, subst, arith, AllByRecursion, Fetch, Lacks, Reading}
+use Rattle.gix_refspec.proofs.Common.{Reads, printed, Ref, id, Mapped, AreKeptForward, Removed, IsValidated, AreFixesApart, HaveSourcesByIndex, LacksIn, MappedLacks, NoControlCharacter, PlansApart, SidesLack}
+use Rattle.gix_refspec.proofs.{Common.{SourceLacks, rules}, facts.ValidationFacts.foo_fix}
 
 -- different sources have different items or different specs, and fixes are apart unless they are equal
-pub starts : HaveSourcesByIndex (tag_to_x ∷ branch_to_x ∷ []) × ¬ (HaveSourcesByIndex (tag_alone ∷ mapping 0 (codes "refs/heads/a") None 1 ∷ [])) × AreFixesApart (foo_fix ∷ []) × ¬ (AreFixesApart (foo_fix ∷ foo_fix ∷ []))
+pub starts : HaveSourcesByIndex (tag_to_x ∷ branch_to_x ∷ []) × ¬ (HaveSourcesByIndex (tag_alone ∷ mapping 0 (codes "refs/heads/a") None 1 ∷ []))
+    × AreFixesApart (foo_fix ∷ []) × ¬ (AreFixesApart (foo_fix ∷ foo_fix ∷ []))
 starts = (search rules, (λ have. search rules), (tt, tt), λ apart. apart.0.0 refl)
 
 -- by the law there is no duplicate mapping or fix, and no two sources have the same indexes

@@ -41,10 +41,11 @@ no_other_sides = search (rules, ref_names, no_ref_names)
 pub parted : KeepsRefNames (from_bad ∷ kept ∷ to_bad ∷ all_bad ∷ []) (kept ∷ [])
     (record { mapping = from_bad; side = Source } ∷ record { mapping = to_bad; side = Destination } ∷ record { mapping = all_bad; side = Both } ∷ [])
 parted =
+    let source : IsLeftOut from_bad (record { mapping = from_bad; side = Source }) = record { same = refl; bad = no_other_sides.1 } in
     let destination : IsLeftOut to_bad (record { mapping = to_bad; side = Destination }) = record { same = refl; bad = no_other_sides.2 } in
     let both : IsLeftOut all_bad (record { mapping = all_bad; side = Both }) = record { same = refl; bad = no_other_sides.3 } in record {
       named = (None, _, (λ m made. no_ref_names.2 made.1.source), (Some kept, [], (refl, no_other_sides.0), (None, [], (λ m made. no_ref_names.2 made.1.destination), search (rules, no_ref_names.2), refl), refl), refl);
-      others = (Some _, _, record { same = refl; bad = no_other_sides.1 }, (None, _, (λ out is. bad_unnamed out.side kept is.bad no_other_sides.0), (Some _, _, destination, (Some _, [], both, refl, refl), refl), refl), refl);
+      others = (Some _, _, source, (None, _, (λ out is. bad_unnamed out.side kept is.bad no_other_sides.0), (Some _, _, destination, (Some _, [], both, refl, refl), refl), refl), refl);
     }
 
 pub none_lost : ¬ (HaveRefNames (kept ∷ []) []) × ¬ (AreLeftOut (to_bad ∷ []) []) × ((b : InvalidMapping) → ((left_out_of b).mapping ≡ mapped_of b.mapping) × ((left_out_of b).side ≡ b.side))

@@ -1,9 +1,8 @@
 -- Examples of the definitions on validation, for mappings to one destination and to others.
-use Rattle.gix_refspec.proofs.Common.{nothing_made, none_some, of_element, mapping, tag_to_x, branch_to_x, tag_again, tag_to_foo, tag_alone, ◌≡◌, ◌⊎◌, ℕ, List, [], ◌∷◌, None, Some, codes, refl, sym, ◌∙◌, inl}
-use Rattle.gix_refspec.proofs.Common.{inr, arith, IsStrictlySortedBy, Normal, Forced, Reading, fetched, name, Mapped, IndexesFit, HasConflictAt, IsFirstTo, IsTextAt, Conflict, IsConflict, AreConflicts}
-use Rattle.gix_refspec.proofs.Common.{IsWritable, Survives, AreSurvivors, Removed, IsFix, AreFixes, IsValidated, DestinationsHaveOneSource, ShareDestination, HaveDistinctDestinations, false, nat_eq, starts_with}
-use Rattle.gix_refspec.proofs.Common.{false≢true, bytes_eq, head, by_cases, ◌≢◌, map, Mapping, Outcome, mapped_of, AreMappingCopies, readings_of, OneValidation, IsOutcomeCopy, CopiedOutcome, IsMadeFrom, rules}
-use Rattle.gix_refspec.proofs.lemmas.validate.ConflictLemmas.{no_conflicts}
+use Rattle.gix_refspec.proofs.Common.{nothing_made, none_some, of_element, mapping, tag_to_x, branch_to_x, tag_again, tag_to_foo, tag_alone, ◌≡◌, ℕ, List, [], ◌∷◌, None, Some, codes, refl, sym, ◌∙◌, inl, inr, arith}
+use Rattle.gix_refspec.proofs.Common.{IsStrictlySortedBy, Normal, Forced, Reading, fetched, name, Mapped, IndexesFit, HasConflictAt, IsFirstTo, IsTextAt, Conflict, IsConflict, AreConflicts, IsWritable, Survives}
+use Rattle.gix_refspec.proofs.Common.{AreSurvivors, Removed, IsFix, AreFixes, IsValidated, DestinationsHaveOneSource, ShareDestination, HaveDistinctDestinations, false, nat_eq, starts_with, false≢true, bytes_eq, head}
+use Rattle.gix_refspec.proofs.{Common.{◌≢◌, map, Mapping, Outcome, mapped_of, AreMappingCopies, readings_of, OneValidation, IsOutcomeCopy, CopiedOutcome, IsMadeFrom, rules}, lemmas.validate.ConflictLemmas.no_conflicts}
 
 abbrev tags_to_x : Reading
 tags_to_x = fetched Normal (codes "refs/tags/*") (Some (codes "refs/x/*"))
@@ -91,7 +90,8 @@ indexes = (search rules, (λ fit. search rules), (tags_to_x, refl, refl), (fetch
 
 -- mappings without a destination share none. One source may be mapped twice to a destination, which then isn't distinct
 pub meet : ShareDestination tag_to_x branch_to_x × ¬ (ShareDestination tag_to_x tag_to_foo) × ¬ (ShareDestination tag_alone tag_alone)
-    × DestinationsHaveOneSource (tag_to_x ∷ tag_again ∷ []) × ¬ (DestinationsHaveOneSource meeting) × HaveDistinctDestinations (tag_to_x ∷ tag_to_foo ∷ tag_alone ∷ tag_alone ∷ []) × ¬ (HaveDistinctDestinations (tag_to_x ∷ tag_alone ∷ tag_again ∷ []))
+    × DestinationsHaveOneSource (tag_to_x ∷ tag_again ∷ []) × ¬ (DestinationsHaveOneSource meeting)
+    × HaveDistinctDestinations (tag_to_x ∷ tag_to_foo ∷ tag_alone ∷ tag_alone ∷ []) × ¬ (HaveDistinctDestinations (tag_to_x ∷ tag_alone ∷ tag_again ∷ []))
 unfolding at_x
 meet = (search rules, (λ at. search rules), (λ at. none_some at.0 at.1), search rules, (λ one. at_x.differ (one _ _ _ at_x.has_one at_x.has_other refl refl)), search rules, λ never. search rules)
 

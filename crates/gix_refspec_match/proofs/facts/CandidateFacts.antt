@@ -1,8 +1,7 @@
 -- Which candidate a partial source takes: the first by gitrevisions(7) that is there, not the first in the list of refs.
-use Rattle.gix_refspec_match.proofs.Common.{List, [], ◌∷◌, None, Some, codes, refl, ◌≡◌, ℕ, Option, arith, inl, inr, taken_by_first, first_once, FirstCandidate, rules, take, candidates, fetched, Ref, Matches}
-use Rattle.gix_refspec_match.proofs.Common.{Takes, IsFirstCandidate, HasKind, full_name, Excludes, partial, by_pattern, Normal, Negative, Reading, Ends, AreForwardEnds, Hit, IsHit, AreSpecHits, AreKeptForward}
-use Rattle.gix_refspec_match.proofs.Common.{AreKeptBackward, IsExcluded}
-use Rattle.{gix_refspec_match.proofs.facts.MatchFacts.{mapping, main_candidate, no_main_id, keeps, keeps_back}, gix_refspec_text.proofs.facts.FitFacts.{below_tags, short_kind, short_no_id}}
+use Rattle.gix_refspec_match.proofs.Common.{List, [], ◌∷◌, None, Some, codes, refl, ◌≡◌, ℕ, Option, arith, inl, inr, taken_by_first, first_once, FirstCandidate, rules, take, candidates, fetched, Ref, Matches, Takes}
+use Rattle.gix_refspec_match.proofs.Common.{IsFirstCandidate, HasKind, full_name, Excludes, partial, by_pattern, Normal, Negative, Reading, Ends, AreForwardEnds, Hit, IsHit, AreSpecHits, AreKeptForward, AreKeptBackward}
+use Rattle.{gix_refspec_match.proofs.{Common.IsExcluded, facts.MatchFacts.{mapping, main_candidate, no_main_id, keeps, keeps_back}}, gix_refspec_text.proofs.facts.FitFacts.{below_tags, short_kind, short_no_id}}
 use Rattle.gix_refspec_text.proofs.facts.{ManualFacts.{Lacks-tested, named}, SideFacts.partial_matches}
 
 abbrev pub main_branch : Ref

@@ -1,8 +1,7 @@
 -- The words on names that are borrowed or owned, and on copies: which of both kinds they hold of.
-use Rattle.gix_refspec_match.proofs.Common.{None, Some, ◌≡◌, ℕ, Option, rules, bstr_bytes, ObjectId, IsBorrowed, IsOwned, IsLent, IsOwnedSource, HasOwned, IsNameCopy, IsSourceCopy, IsDestinationCopy}
-use Rattle.gix_refspec_match.proofs.Common.{IsMappingCopy, Mapping, NameRef}
-use Rattle.{bstr.specs.{Owned.bstring_bytes, declared.{bstr.BStr.BStr, bstring.BString.BString}}, gix_refspec_match.specs.declared.types.{NameRef.TheVariants.{Borrowed, Owned}, SourceRef.TheVariants.FullName}}
-use Rattle.gix_refspec_match.specs.declared.types.SourceRef.TheVariants.{ObjectId as IdSource}
+use Rattle.gix_refspec_match.proofs.Common.{None, Some, ◌≡◌, ℕ, Option, rules, bstr_bytes, ObjectId, IsBorrowed, IsOwned, IsLent, IsOwnedSource, HasOwned, IsNameCopy, IsSourceCopy, IsDestinationCopy, IsMappingCopy}
+use Rattle.{gix_refspec_match.{proofs.Common.{Mapping, NameRef}, specs.declared.types.NameRef.TheVariants.{Borrowed, Owned}}, bstr.specs.{Owned.bstring_bytes, declared.{bstr.BStr.BStr, bstring.BString.BString}}}
+use Rattle.gix_refspec_match.specs.declared.types.SourceRef.TheVariants.{FullName, ObjectId as IdSource}
 
 -- a name is either borrowed or owned. A source is so where it is a name, and an id is neither. A mapping that owns a name on
 -- either side has owned ones, and one of an id to nothing has none

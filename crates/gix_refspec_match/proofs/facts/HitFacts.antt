@@ -1,10 +1,9 @@
 -- The words on hits and mappings: which specs have no such ends, which items no hit, and which mappings no place.
-use Rattle.gix_refspec_match.proofs.Common.{List, [], ◌∷◌, None, Some, codes, refl, ◌≡◌, ℕ, Option, arith, inl, inr, fetched, pushed, full_name, rules, First, ap, length, map, Matches, IsSourceExcluded, Takes}
-use Rattle.gix_refspec_match.proofs.Common.{pattern, HasKind, Normal, Forced, Negative, Ends, AreForwardEnds, AreBackwardEnds, IsFilled, Hit, IsHit, AreSpecHits, AreHits, forward_of, backward_of, IsIdMapping}
-use Rattle.gix_refspec_match.proofs.Common.{AreBackward, name, id, Mapped, IsExcludedBy, IsExcluded, IsKeptAt, IsKept}
-use Rattle.gix_refspec_match.proofs.facts.MatchFacts.{pairs, blob_mapping, mapping, tag_to_x, tag_again, no_blob_ends, no_main_id, forward_ends, backward_ends, hit_by, taken_by}
-use Rattle.{gix_refspec_match.proofs.lemmas.{hits.HitLemmas.{matches_as, one_pair}, lists.JoinLemmas.nothing_made}, gix_refspec_text.proofs.facts.FitFacts.{every, no_dev, excludes_dev, short, blob, blob_kind}}
-use Rattle.gix_refspec_text.proofs.facts.{FitFacts.{dev_ref, main_ref, below_tags}, ManualFacts.{Lacks-tested, none_some, some_none}, ObjectIdFacts.empty_blob}
+use Rattle.gix_refspec_match.proofs.Common.{List, [], ◌∷◌, None, Some, codes, refl, ◌≡◌, ℕ, Option, arith, inl, inr, fetched, pushed, full_name, rules, First, ap, length, map, Matches, IsSourceExcluded, Takes, pattern}
+use Rattle.gix_refspec_match.proofs.Common.{HasKind, Normal, Forced, Negative, Ends, AreForwardEnds, AreBackwardEnds, IsFilled, Hit, IsHit, AreSpecHits, AreHits, forward_of, backward_of, IsIdMapping, AreBackward, name}
+use Rattle.gix_refspec_match.proofs.{Common.{id, Mapped, IsExcludedBy, IsExcluded, IsKeptAt, IsKept}, facts.MatchFacts.{pairs, blob_mapping, mapping, tag_to_x, tag_again, no_blob_ends, no_main_id, forward_ends}}
+use Rattle.{gix_refspec_match.proofs.{facts.MatchFacts.{backward_ends, hit_by, taken_by}, lemmas.{hits.HitLemmas.{matches_as, one_pair}, lists.JoinLemmas.nothing_made}}, gix_refspec_text.proofs.facts.FitFacts.every}
+use Rattle.gix_refspec_text.proofs.facts.{FitFacts.{no_dev, excludes_dev, short, blob, blob_kind, dev_ref, main_ref, below_tags}, ManualFacts.{Lacks-tested, none_some, some_none}, ObjectIdFacts.empty_blob}
 
 -- a negative spec excludes wherever it is, and a positive one doesn't, nor one without a source. No spec excludes the id of an object, and one that
 -- names it excludes that name alone

@@ -1,6 +1,6 @@
 -- The words on lists that are made element by element, where nothing is left out, added or turned round, and on prefixes at small lists of refs.
-use Rattle.gix_refspec_match.proofs.Common.{List, [], ◌∷◌, None, Some, codes, refl, ◌≡◌, ℕ, sym, ◌∙◌, arith, rules, BeginsWith, MakesOf, IsMadeFrom, IsJoinedFrom, ArePlacesBehind}
-use Rattle.{gix_refspec_match.proofs.lemmas.lists.{JoinLemmas.{nothing_made, one_joined}, ListsLemmas.made_once}, gix_refspec_text.proofs.facts.{FaultFacts.begins_not, ManualFacts.named}}
+use Rattle.gix_refspec_match.proofs.{Common.{List, [], ◌∷◌, None, Some, codes, refl, ◌≡◌, ℕ, sym, ◌∙◌, arith, rules, BeginsWith, MakesOf, IsMadeFrom, IsJoinedFrom, ArePlacesBehind}, lemmas.lists.JoinLemmas.nothing_made}
+use Rattle.{gix_refspec_match.proofs.lemmas.lists.{JoinLemmas.one_joined, ListsLemmas.made_once}, gix_refspec_text.proofs.facts.{FaultFacts.begins_not, ManualFacts.named}}
 
 -- of the element 5 its place is made, and nothing of another element
 abbrev pub PlaceOfFive : ℕ → ℕ → ℕ → Type 0

@@ -1,10 +1,10 @@
 -- The words on matching at groups like those of git-fetch(1) under `<refspec>`: what is mapped, and what isn't.
-use Rattle.gix_refspec_match.proofs.Common.{List, [], ◌∷◌, None, Some, codes, refl, ◌≡◌, ℕ, ◌++◌, Option, sym, ◌∙◌, inl, inr, ap, append-nil, same_Some, lacks_no_pattern, rules, first_of_one, taken_by_first}
-use Rattle.gix_refspec_match.proofs.Common.{IsSplit, Ref, Matches, Takes, pattern, full_name, IsCandidate, Reading, IsMadeFrom, Ends, AreForwardEnds, AreBackwardEnds, Hit, IsHit, AreHits, IsIdMapping}
-use Rattle.gix_refspec_match.proofs.Common.{AreBackward, AreForward, AreKeptForward, AreKeptBackward, name, id, Mapped, IsExcluded, IsKept, map, forward_of, backward_of, IsSourceExcluded, IsSamePair, HasPair}
-use Rattle.{gix_refspec_match.{proofs.lemmas.{hits.HitLemmas.matches_as, index.PlacedLemmas.begins_as}, specs.Matching.Mappings.AreApart}, gix_refspec_text.proofs.facts.FaultFacts.begins_not}
-use Rattle.gix_refspec_text.proofs.facts.FitFacts.{excludes_dev, excludes_no_main, every, no_dev, dev_ref, tag_ref, main_ref, heads_split, origin_split, short, blob, below_tags, blob_kind, short_no_id}
-use Rattle.gix_refspec_text.proofs.facts.{FitFacts.short_kind, ManualFacts.named, ObjectIdFacts.empty_blob}
+use Rattle.gix_refspec_match.proofs.Common.{List, [], ◌∷◌, None, Some, codes, refl, ◌≡◌, ℕ, ◌++◌, Option, sym, ◌∙◌, inl, inr, ap, append-nil, same_Some, lacks_no_pattern, rules, first_of_one, taken_by_first, IsSplit}
+use Rattle.gix_refspec_match.proofs.Common.{Ref, Matches, Takes, pattern, full_name, IsCandidate, Reading, IsMadeFrom, Ends, AreForwardEnds, AreBackwardEnds, Hit, IsHit, AreHits, IsIdMapping, AreBackward, AreForward}
+use Rattle.gix_refspec_match.proofs.{Common.{AreKeptForward, AreKeptBackward, name, id, Mapped, IsExcluded, IsKept, map, forward_of, backward_of, IsSourceExcluded, IsSamePair, HasPair}, lemmas.hits.HitLemmas.matches_as}
+use Rattle.{gix_refspec_match.{proofs.lemmas.index.PlacedLemmas.begins_as, specs.Matching.Mappings.AreApart}, gix_refspec_text.proofs.facts.{FaultFacts.begins_not, FitFacts.{excludes_dev, excludes_no_main, every}}}
+use Rattle.gix_refspec_text.proofs.facts.{FitFacts.{no_dev, dev_ref, tag_ref, main_ref, heads_split, origin_split, short, blob, below_tags, blob_kind, short_no_id, short_kind}, ManualFacts.named}
+use Rattle.gix_refspec_text.proofs.facts.ObjectIdFacts.{empty_blob}
 
 -- the mapping that such a spec at place 0 gives of a branch at a place
 abbrev pub tracked : ℕ → List ℕ → Mapped

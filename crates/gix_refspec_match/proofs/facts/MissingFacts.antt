@@ -1,7 +1,7 @@
 -- Which specs lack their source: those of a name that no ref has, but neither of an id nor negative ones.
-use Rattle.gix_refspec_match.proofs.Common.{List, [], ◌∷◌, None, Some, codes, refl, ◌≡◌, ℕ, Option, ap, length, arith, inl, inr, same_Some, ◌⊎◌, Ref, Matches, HasKind, full_name, partial, fetched, Normal}
-use Rattle.gix_refspec_match.proofs.Common.{Negative, Contains, AreMissing, LacksSource}
-use Rattle.{gix_refspec_match.proofs.lemmas.hits.HitLemmas.matches_as, gix_refspec_text.proofs.facts.{FitFacts.{blob, blob_kind, main_ref, of_element, short, short_kind}, ManualFacts.Lacks-tested}}
+use Rattle.gix_refspec_match.proofs.Common.{List, [], ◌∷◌, None, Some, codes, refl, ◌≡◌, ℕ, Option, ap, length, arith, inl, inr, same_Some, ◌⊎◌, Ref, Matches, HasKind, full_name, partial, fetched, Normal, Negative}
+use Rattle.{gix_refspec_match.proofs.{Common.{Contains, AreMissing, LacksSource}, lemmas.hits.HitLemmas.matches_as}, gix_refspec_text.proofs.facts.FitFacts.{blob, blob_kind, main_ref, of_element, short, short_kind}}
+use Rattle.gix_refspec_text.proofs.facts.ManualFacts.{Lacks-tested}
 
 -- a full name that no ref has is missing
 pub full_name_missing : AreMissing (fetched Normal (codes "refs/heads/a") None ∷ []) (main_ref ∷ []) (0 ∷ [])
