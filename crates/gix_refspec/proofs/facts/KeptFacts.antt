@@ -4,7 +4,7 @@ use Rattle.gix_refspec.proofs.Common.{below_tags, blob, blob_kind, dev_ref, ever
 use Rattle.gix_refspec.proofs.Common.{inl, inr, ℕ, List, [], ◌∷◌, ◌++◌, None, Some, codes, refl, sym, ap, ◌∙◌, subst, arith, AllByRecursion, Any, Contains, slice_get, partial, full_name, Ref, IsFirstCandidate, name}
 use Rattle.gix_refspec.proofs.Common.{Mapped, HasPair, IsExcluded, AreKeptForward, AreKeptBackward, MakesForward, MakesBackward, PairsId, KeptExactly, FirstStays, NothingExcluded, ForwardIndexes, IsValidated}
 use Rattle.gix_refspec.proofs.Common.{ItemIndexesFit, Removed, same_Some, Reading, id, MakesForwardOf, MakesBackwardOf, MadeAtIndexes, RemainsExactly, KeepsRefNames, LeftOut, AreBackwardEnds, IsPaired, Matches}
-use Rattle.gix_refspec.proofs.{Common.{of_element, AreForwardEnds, Takes}, facts.{RefNameFacts.{good, kept, no_ref_names, no_other_sides, to_bad}, ValidationFacts.{unwritable, unequal}}}
+use Rattle.gix_refspec.proofs.{Common.{of_element, AreForwardEnds, Takes}, facts.{RefNameFacts.{good, kept, no_ref_names, no_other_sides, to_bad}, ValidationFacts.{writable, unequal}}}
 use Rattle.gix_refspec.specs.{Laws.Matching.IsFirstOfPair, Matching.Validation.BackwardIndexes}
 
 abbrev pub group : List Reading
@@ -80,11 +80,8 @@ remote_refs = dev_ref ∷ tag_ref ∷ main_ref ∷ main_ref ∷ []
 abbrev pub tracking_refs : List Ref
 tracking_refs = named (codes "refs/remotes/origin/dev-a") ∷ named (codes "refs/remotes/origin/main") ∷ []
 
-abbrev mapped : List Mapped
-mapped = tracked 0 (codes "dev-a") ∷ tracked 2 (codes "main") ∷ tracked 3 (codes "main") ∷ []
-
 -- the duplicate has the same pair, and so isn't the first
-no_first : (before after : List Mapped) → mapped ≡ before ++ (tracked 3 (codes "main") ∷ after) → ¬ (HasPair before (tracked 3 (codes "main"))) → ⊥
+no_first : (before after : List Mapped) → tracked 0 (codes "dev-a") ∷ tracked 2 (codes "main") ∷ tracked 3 (codes "main") ∷ [] ≡ before ++ (tracked 3 (codes "main") ∷ after) → ¬ (HasPair before (tracked 3 (codes "main"))) → ⊥
 no_first (x ∷ y ∷ before) after here new = let same : y ≡ tracked 2 (codes "main") = cc in search rules
 no_first before after here new = let items = ap (map (λ (m : Mapped). m.item)) here in cc
 
@@ -93,10 +90,11 @@ pub first_there : (kept : List Mapped) → (FirstStays group remote_refs → Are
     → Contains kept (tracked 2 (codes "main")) × ¬ (Contains kept (tracked 3 (codes "main"))) × ¬ (Contains kept (tracked 0 (codes "dev-a"))))
     × (FirstStays group tracking_refs → AreKeptBackward group tracking_refs kept → Contains kept (tracked 1 (codes "main")) × ¬ (Contains kept (tracked 0 (codes "dev-a"))))
 first_there kept =
-    let first : IsFirstOfPair group mapped (tracked 2 (codes "main")) = record { before = tracked 0 (codes "dev-a") ∷ []; after = _; here = refl; first = only_dev 2; included = main_stays } in
+    let first : IsFirstOfPair group (tracked 0 (codes "dev-a") ∷ tracked 2 (codes "main") ∷ tracked 3 (codes "main") ∷ []) (tracked 2 (codes "main")) =
+    record { before = tracked 0 (codes "dev-a") ∷ []; after = _; here = refl; first = only_dev 2; included = main_stays } in
     let back : IsFirstOfPair group (tracked 0 (codes "dev-a") ∷ tracked 1 (codes "main") ∷ []) (tracked 1 (codes "main")) =
     record { before = tracked 0 (codes "dev-a") ∷ []; after = []; here = refl; first = only_dev 1; included = main_stays } in (
-      (λ law are. let stays = law.forward mapped kept maps_all are in
+      (λ law are. let stays = law.forward _ kept maps_all are in
           ((stays _).1 first, (λ has. let is = (stays (tracked 3 (codes "main"))).0 has in no_first is.before is.after is.here is.first), λ has. ((stays (tracked 0 (codes "dev-a"))).0 has).included dev_excluded)),
       λ law are. let stays = law.backward _ kept tracks_all are in ((stays _).1 back, λ has. ((stays (tracked 0 (codes "dev-a"))).0 has).included dev_excluded),
     )
@@ -132,4 +130,4 @@ pub good_remains : (g : List Reading) (rest : List Mapped)
     → Contains rest kept × ¬ (Contains rest (mapping 1 good (Some (codes "main")) 0)))
     × (RemainsExactly g (kept ∷ to_bad ∷ []) → (out : List LeftOut) → KeepsRefNames (kept ∷ to_bad ∷ []) rest out → Contains rest kept × ¬ (Contains rest to_bad))
     × (RemainsExactly g [] → ((fixes : List Removed) → IsValidated g [] rest fixes → ¬ (Contains rest kept)) × ((out : List LeftOut) → KeepsRefNames [] rest out → ¬ (Contains rest kept)))
-good_remains g rest = search (rules, of_element, unwritable, no_other_sides, no_ref_names)
+good_remains g rest = search (rules, of_element, writable, no_other_sides, no_ref_names)

@@ -1,5 +1,5 @@
 -- Examples of the definitions on validation, for mappings to one destination and to others.
-use Rattle.gix_refspec.proofs.Common.{nothing_made, none_some, of_element, mapping, tag_to_x, branch_to_x, tag_again, tag_to_foo, tag_alone, ◌≡◌, ℕ, List, [], ◌∷◌, None, Some, codes, refl, sym, ◌∙◌, inl, inr, arith}
+use Rattle.gix_refspec.proofs.Common.{by_cases, nothing_made, none_some, of_element, mapping, tag_to_x, branch_to_x, tag_again, tag_to_foo, tag_alone, ◌≡◌, ℕ, List, [], ◌∷◌, None, Some, codes, refl, sym, ◌∙◌, inl, inr, arith}
 use Rattle.gix_refspec.proofs.Common.{IsStrictlySortedBy, Normal, Forced, Reading, fetched, name, Mapped, IndexesFit, HasConflictAt, IsFirstTo, IsTextAt, Conflict, IsConflict, AreConflicts, IsWritable, Survives}
 use Rattle.gix_refspec.proofs.Common.{AreSurvivors, Removed, IsFix, AreFixes, IsValidated, DestinationsHaveOneSource, ShareDestination, HaveDistinctDestinations, false, nat_eq, starts_with, false≢true, bytes_eq, head}
 use Rattle.gix_refspec.proofs.{Common.{◌≢◌, map, Mapping, Outcome, mapped_of, AreMappingCopies, readings_of, OneValidation, IsOutcomeCopy, CopiedOutcome, IsMadeFrom, rules}, lemmas.validate.ConflictLemmas.no_conflicts}
@@ -13,12 +13,9 @@ heads_to_x = fetched Forced (codes "refs/heads/*") (Some (codes "refs/x/*"))
 abbrev pub both_to_x : List Reading
 both_to_x = tags_to_x ∷ heads_to_x ∷ []
 
-abbrev branch_to_y : Mapped
-branch_to_y = mapping 3 (codes "refs/heads/b") (Some (codes "refs/x/b")) 1
-
 -- two sources of one destination, the first with a duplicate, and another destination
 abbrev pub meeting : List Mapped
-meeting = branch_to_y ∷ tag_to_x ∷ branch_to_x ∷ tag_again ∷ []
+meeting = mapping 3 (codes "refs/heads/b") (Some (codes "refs/x/b")) 1 ∷ tag_to_x ∷ branch_to_x ∷ tag_again ∷ []
 
 -- the sources are in the order of the mappings, without duplicates, with the canonical texts of their specs
 abbrev pub conflict : Conflict
@@ -55,12 +52,9 @@ unfolding IsStrictlySortedBy
 rising g l c d to_b to_aa = ((λ are. search rules), λ are. cc (rw to_b at are.order.0.0))
 
 -- a text that computes to begin otherwise, and not to be `HEAD`, can't be written
-pub unwritable : (d : List ℕ) → starts_with nat_eq d (codes "refs/") ≡ false → bytes_eq d head ≡ false → ¬ (IsWritable d)
-unwritable d elsewhere other (inl begins) = search rules
-unwritable d elsewhere other (inr is_head) = unequal is_head other
-
 pub writable : IsWritable (codes "refs/x") × IsWritable (codes "HEAD") × ¬ (IsWritable (codes "refs")) × ¬ (IsWritable (codes "HEADS")) × ¬ (IsWritable (codes "foo"))
-writable = (search rules, inr refl, search rules, search rules, search rules)
+    × ((d : List ℕ) → starts_with nat_eq d (codes "refs/") ≡ false → bytes_eq d head ≡ false → ¬ (IsWritable d))
+writable = (search rules, inr refl, search rules, search rules, search rules, λ d elsewhere other is. by_cases is (λ begins. search rules) (λ is_head. unequal is_head other))
 
 abbrev pub foo_fix : Removed
 foo_fix = record { destination = codes "foo"; spec = heads_to_x }
@@ -100,15 +94,12 @@ pub one_at_x : (OneValidation both_to_x meeting → (cs : List Conflict) → Are
     × (OneValidation both_to_x of_one_tag → (rest : List Mapped) (fixes : List Removed) → IsValidated both_to_x of_one_tag rest fixes → (rest ≡ tag_to_x ∷ tag_alone ∷ []) × (fixes ≡ foo_fix ∷ []))
 one_at_x = ((λ law cs are. law.conflicts cs _ are conflicts_at_x), λ law rest fixes is. (law.survivors rest _ is.survive validated.survive, law.fixes fixes _ is.fixed validated.fixed))
 
--- a copy has the same specs and copies of the mappings: not one less, one more, or other specs
-pub outcome_copies : (o copy : Outcome 1) → (copy.group.specs.items ≡ o.group.specs.items → AreMappingCopies o.mappings.items copy.mappings.items → IsOutcomeCopy o copy)
+-- a copy has the same specs and copies of the mappings, not one less, one more, or other specs, and so the conflicts, survivors and fixes of its original
+pub outcome_copies : ((o copy : Outcome 1) → (copy.group.specs.items ≡ o.group.specs.items → AreMappingCopies o.mappings.items copy.mappings.items → IsOutcomeCopy o copy)
     × ((m : Mapping) → o.mappings.items ≡ m ∷ [] → copy.mappings.items ≡ [] → ¬ (IsOutcomeCopy o copy)) × ((m : Mapping) → o.mappings.items ≡ [] → copy.mappings.items ≡ m ∷ [] → ¬ (IsOutcomeCopy o copy))
-    × (copy.group.specs.items ≢ o.group.specs.items → ¬ (IsOutcomeCopy o copy))
-outcome_copies o copy = ((λ specs are. search rules), (λ m some none is. search rules), (λ m none some is. search rules), λ other is. search rules)
-
--- a copy has the specs and the mappings of its original, and so its conflicts, survivors and fixes
-pub copied : (o copy : Outcome 0) → CopiedOutcome o copy → IsOutcomeCopy o copy → (readings_of copy.group ≡ readings_of o.group) × (map mapped_of copy.mappings.items ≡ map mapped_of o.mappings.items)
-copied o copy law is = let same = law is in (same.readings, same.mappings)
+    × (copy.group.specs.items ≢ o.group.specs.items → ¬ (IsOutcomeCopy o copy)))
+    × ((o copy : Outcome 0) → CopiedOutcome o copy → IsOutcomeCopy o copy → (readings_of copy.group ≡ readings_of o.group) × (map mapped_of copy.mappings.items ≡ map mapped_of o.mappings.items))
+outcome_copies = ((λ o copy. search rules), λ o copy law is. ((law is).readings, (law is).mappings))
 
 pub validated_alike : (o copy : Outcome 1) → CopiedOutcome o copy → IsOutcomeCopy o copy
     → (readings_of o.group ≡ both_to_x → map mapped_of o.mappings.items ≡ meeting → (cs : List Conflict) → AreConflicts (readings_of copy.group) (map mapped_of copy.mappings.items) cs → cs ≡ conflict ∷ [])
