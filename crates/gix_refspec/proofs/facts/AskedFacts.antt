@@ -3,8 +3,7 @@ use Rattle.gix_refspec.proofs.Common.{begins_not, blob_kind, every, no_dev, shor
 use Rattle.gix_refspec.proofs.{Common.{full_name, object, candidates, Ref, Mapped, AreKeptForward, HasNoList, Lists, ListsGroup, ListsSide, Serves, by_cases, rules, same_Some}, facts.KeptFacts.of_one}
 use Rattle.{gix_refspec.proofs.lemmas.prefixes.AskedLemmas.no_list, gix_refspec_text.proofs.facts.PrefixFacts.{bracket_split, suffix_split, tells}}
 
--- the list of a pattern is its prefix, that of a partial name and `HEAD` their candidates, that of an id empty, that of a full name itself. A star directly after `refs/` has no list; that of `HEAD` isn't
--- `HEAD` alone, and that of a partial name isn't empty
+-- the list of a pattern is its prefix, that of a partial name and `HEAD` their candidates and nothing less, that of an id empty, that of a full name itself. A star directly after `refs/` has no list
 pub lists_of_sides : ListsSide (codes "refs/heads/*") (codes "refs/heads/" ∷ []) × ListsSide (codes "main") (candidates (codes "main")) × ListsSide (codes "HEAD") (candidates (codes "HEAD"))
     × ListsSide (codes "e69de29bb2d1d6434b8b29ae775ad8c2e48c5391") [] × ListsSide (codes "refs/heads/main") (codes "refs/heads/main" ∷ [])
     × ((list : List (List ℕ)) → ¬ (ListsSide (codes "refs/*") list) × ¬ (ListsSide (codes "HEAD") (codes "HEAD" ∷ [])) × ¬ (ListsSide (codes "main") []))

@@ -56,8 +56,7 @@ id_without_item =
     record { positive = tt; text = codes "e69de29bb2d1d6434b8b29ae775ad8c2e48c5391"; side = refl; object = blob_kind; becomes = (full_name (codes "refs/tags/blob"), below_tags, refl) } in
     search rules
 
--- by the law the kept mappings have the pair of the tag and not that of the branch, the pair from right to left, and that of the id. A pair whose source is
--- excluded isn't kept, though a spec makes it
+-- by the law the kept mappings have the pair of the tag and not that of the branch, the pair from right to left, and that of the id. A pair whose source is excluded isn't kept, though a spec makes it
 pub pairs_kept : (kept : List Mapped) → (KeptExactly (main_to_x ∷ []) branch_and_tag → AreKeptForward (main_to_x ∷ []) branch_and_tag kept → HasPair kept tag_pair × ¬ (HasPair kept branch_pair))
     × (KeptExactly (main_to_x ∷ []) local_x → AreKeptBackward (main_to_x ∷ []) local_x kept → HasPair kept branch_pair)
     × ((items : List Ref) → KeptExactly (blob ∷ []) items → AreKeptForward (blob ∷ []) items kept → HasPair kept blob_mapping)
@@ -105,8 +104,7 @@ item_back =
     let one : BackwardIndexes group tracking_refs (tracked 1 (codes "main")) = record { spec = omega arith; index = 1; ref = named (codes "refs/remotes/origin/main"); item = refl; stands = refl; named = refl } in
     (one, λ fits. let stands = rw (← same_Some 0 fits.index fits.item) at fits.stands in let same : codes "refs/remotes/origin/main" ≡ codes "refs/remotes/origin/dev-a" = cc in unequal same refl)
 
--- by the law a mapping of the branch doesn't have the index of the tag, nor that of a third spec, if there are two, and one from right to left doesn't have
--- the index of another tracking ref. Mappings that fit still do after they are validated
+-- by the law a mapping of the branch has neither the index of the tag nor that of a third spec, if there are two, and one from right to left not that of another tracking ref. Mappings that fit do so once validated
 pub no_other_indexes : (rest : List Mapped) → (ItemIndexesFit group remote_refs → ¬ (AreKeptForward group remote_refs (tracked 1 (codes "main") ∷ rest))
     × ¬ (AreKeptForward group remote_refs (mapping 2 (codes "refs/heads/main") (Some (codes "refs/remotes/origin/main")) 2 ∷ rest)))
     × (ItemIndexesFit group tracking_refs → ¬ (AreKeptBackward group tracking_refs (tracked 0 (codes "main") ∷ rest)))

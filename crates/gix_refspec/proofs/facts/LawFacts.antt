@@ -34,8 +34,7 @@ looked_up law =
     let found = λ (l m : List Mapped). law (go_one_way.2.0, (go_one_way.2.3, tt)) l m in
     ((λ m back. ((found _ m fetches_all_but_dev back (tracked 0 (codes "main"))).0 (search rules)).0), λ l forward. ((found l _ forward tracks_all_but_dev (tracked 0 (codes "main"))).1 (search rules)).0)
 
--- the canonical text of a forced fetch without a destination reads as one that isn't forced, as does that of one that isn't, and not as a forced one, nor does a
--- push read as anything again. `AreReadAgain` doesn't hold of groups of different lengths, or in another order
+-- the canonical text of a fetch without a destination, forced or not, reads as one that isn't forced, and that of a push as nothing again. Groups read again in the same order, and have the same length
 pub reads_unforced : ReadsAgainAs forced short × ReadsAgainAs short short × ¬ (ReadsAgainAs forced forced) × ((s d : Option (List ℕ)) (q : Reading) → ¬ (ReadsAgainAs (pushed Normal s d) q))
     × AreReadAgain (forced ∷ short ∷ []) (short ∷ short ∷ []) × ¬ (AreReadAgain (short ∷ []) []) × ¬ (AreReadAgain [] (short ∷ [])) × ¬ (AreReadAgain (pushed Normal None None ∷ []) (short ∷ []))
 reads_unforced =
@@ -64,12 +63,11 @@ mapped_alike kept = (
 pub expansions : IsExpansion every (codes "refs/heads/" ∷ []) × AreExpansions (every ∷ no_dev ∷ short ∷ []) (codes "refs/heads/" ∷ candidates (codes "main"))
     × AreExpansions group (codes "refs/heads/" ∷ []) × BeginsWithOne (codes "refs/tags/" ∷ codes "refs/heads/" ∷ []) (codes "refs/heads/main") × ¬ (BeginsWithOne (codes "heads/" ∷ []) (codes "refs/heads/main"))
 expansions =
-    let begins : BeginsWithOne (codes "refs/tags/" ∷ codes "refs/heads/" ∷ []) (codes "refs/heads/main") = (1, codes "refs/heads/", omega arith, refl, search rules) in
     let below : IsExpansion every (codes "refs/heads/" ∷ []) = inl (codes "refs/heads/*", search rules, to_prefix (codes "refs/heads/") below_heads refl) in
     let all = to_candidates (outside_none (codes "main") (λ same. unequal same refl) short_kind.2) short_kind.2 short_kind.3 refl in
     let three : AreExpansions (every ∷ no_dev ∷ short ∷ []) (codes "refs/heads/" ∷ candidates (codes "main")) =
     (_, _, below, ([], _, search rules, (_, [], inl (codes "main", record { positive = tt; side = refl }, all), refl, refl), refl), refl) in
-    (below, three, (_, [], below, ([], [], search rules, refl, refl), refl), begins, λ begins. search rules)
+    (below, three, (_, [], below, ([], [], search rules, refl, refl), refl), (1, codes "refs/heads/", omega arith, refl, search rules), λ begins. search rules)
 
 abbrev pub head_spec : Reading
 head_spec = fetched Normal (codes "HEAD") None
@@ -89,8 +87,7 @@ covered = (
   λ law entries are. at_spec group 0 _ every refl ((law entries are _ fetches_all_but_dev).0 (codes "refs/heads/main") refl) (inl asks.0),
 )
 
--- what holds of the spec of a mapping holds of the one at its index, and there has to be one. What holds of each source and its spec holds of the branch, whose
--- mapping is the only one
+-- what holds of the spec of a mapping holds of the one at its index, and there has to be one. What holds of each source and its spec holds of the branch, whose mapping is the only one
 pub each_source : ((P : Reading → Type 0) → (AtSpec (no_dev ∷ every ∷ []) (mapping 0 (codes "refs/heads/main") None 1) P → P every) × ¬ (AtSpec (every ∷ []) (mapping 0 (codes "refs/heads/main") None 1) P))
     × ((P : Reading → List ℕ → Type 0) → EachSource group remote_refs P → P every (codes "refs/heads/main"))
     × (OneForward group remote_refs → EachSource group remote_refs (λ r n. (r ≡ every) × (n ≡ codes "refs/heads/main")))
@@ -104,15 +101,12 @@ each_source = (
 pub one_below : OnePrefix (codes "refs/heads/*") → ((p : List ℕ) → IsPrefix (codes "refs/heads/*") p → p ≡ codes "refs/heads/") × ((list : List (List ℕ)) → Expands (codes "refs/heads/*") list → list ≡ codes "refs/heads/" ∷ [])
     × ¬ (IsCoveredBy (codes "refs/tags/v1") every) × ¬ (IsCoveredBy (codes "refs/heads/dev-a") no_dev)
 one_below law =
-    let expanded : (list : List (List ℕ)) → Expands (codes "refs/heads/*") list → list ≡ codes "refs/heads/" ∷ [] = λ list expands. law.expanded list _ expands (to_prefix (codes "refs/heads/") below_heads refl) in (
-      (λ p prefix. law.prefix p _ prefix below_heads),
-      expanded,
-      (λ covers. by_cases covers.expansion
-          (λ (x, asked, expands).
-          let same = expanded covers.entries (rw (← same_Some (codes "refs/heads/*") x asked.side) at expands) in begins_not (codes "refs/heads/") (codes "refs/tags/v1") refl (search rules))
-          (λ (none, same). search rules)),
-      λ covers. search rules,
-    )
+    let expanded : (list : List (List ℕ)) → Expands (codes "refs/heads/*") list → list ≡ codes "refs/heads/" ∷ [] = λ list expands.
+    law.expanded list _ expands (to_prefix (codes "refs/heads/") below_heads refl) in
+    let tag : ¬ (IsCoveredBy (codes "refs/tags/v1") every) = λ covers. by_cases covers.expansion
+    (λ (x, asked, expands). let same = expanded covers.entries (rw (← same_Some (codes "refs/heads/*") x asked.side) at expands) in begins_not (codes "refs/heads/") (codes "refs/tags/v1") refl (search rules))
+    (λ (none, same). search rules) in
+    ((λ p prefix. law.prefix p _ prefix below_heads), expanded, tag, λ covers. search rules)
 
 pub one_answer : (OneForward group remote_refs → (l : List Mapped) → AreKeptForward group remote_refs l → l ≡ tracked 2 (codes "main") ∷ [])
     × (OneBackward group tracking_refs → (l : List Mapped) → AreKeptBackward group tracking_refs l → l ≡ tracked 1 (codes "main") ∷ [])
@@ -125,8 +119,7 @@ pub fits : (ForwardFits group remote_refs → IndexesFit group (tracked 2 (codes
     × (AreKeptForward both_to_x remote_refs (tag_to_x ∷ tag_to_foo ∷ tag_alone ∷ []) → HaveDistinctDestinations (tag_to_x ∷ tag_alone ∷ [])))
 fits = ((λ law. law _ fetches_all_but_dev), (λ g items m n law kept. (law _ kept).1.0), λ law. law _ _ (foo_fix ∷ []) validated)
 
--- a partial name is expanded to its candidates and nothing else, and matches each. Over one ref it takes each. A ref that a pattern matches begins with the
--- prefix of the pattern
+-- a partial name is expanded to its candidates and nothing else, and matches each. Over one ref it takes each. A ref that a pattern matches begins with the prefix of the pattern
 pub asked_for : (Candidates (codes "main") → Expands (codes "main") (candidates (codes "main")) × ((list : List (List ℕ)) → Expands (codes "main") list → list ≡ candidates (codes "main"))
     × ((r : Ref) → IsCandidate (codes "main") r.name → ((word : Option (List ℕ)) × Matches (codes "main") r word) × ((word : Option (List ℕ)) × Takes (r ∷ []) (codes "main") r word)))
     × (HasCandidates (codes "main") → (r : Ref) (word : Option (List ℕ)) → Matches (codes "main") r word ⊎ Takes (r ∷ []) (codes "main") r word → IsCandidate (codes "main") r.name)
@@ -183,8 +176,7 @@ of_texts = (
   search rules,
 )
 
--- the canonical text of a forced fetch without a destination has one reading, with the same meaning. Readings for one operation with the same canonical text
--- mean the same; a fetch and a push never do
+-- the canonical text of a forced fetch without a destination has one reading, with the same meaning. Readings for one operation with the same canonical text mean the same; a fetch and a push never do
 pub read_back_once : (ReadsBack Fetch (codes "+main") → Reads Fetch (codes "+main") forced → (q : Reading) → Reads Fetch (codes "main") q → meaning_of q ≡ Some (fetch_only (codes "main")))
     × (IsPrintedBack Fetch forced → (q : Reading) × Reads Fetch (codes "main") q)
     × ((r q : Reading) → EqualReadings r q → (r.operation ≡ q.operation → printed r ≡ printed q → meaning_of r ≡ meaning_of q) × (meaning_of r ≡ meaning_of q → (r.operation ≡ q.operation) × (printed r ≡ printed q)))
