@@ -54,7 +54,7 @@ pub listed_refs : AreListedItems group remote_refs branches × ¬ (AreListedItem
     × AreAskedFor (codes "refs/heads/" ∷ []) remote_refs branches × ¬ (AreAskedFor (codes "refs/heads/" ∷ []) remote_refs (main_ref ∷ [])) × ¬ (AreAskedFor [] [] (main_ref ∷ []))
 listed_refs =
     let alone : ¬ (Contains (main_ref ∷ []) dev_ref) = λ has. search rules in (
-      record { entries = codes "refs/heads/" ∷ []; expansions = expansions.2; part = parts.0; listed = λ item. search rules },
+      search (rules, expansions, parts),
       (λ are. alone (are.listed dev_ref (0, omega arith, refl) (joined_covers _ group 0 are.entries (0, every, omega arith, refl, record { entries = _; expansion = expansions.0; one = search rules }) are.expansions))),
       (λ are. parts.2 are.part),
       record { part = parts.0; asked = λ item. search rules },

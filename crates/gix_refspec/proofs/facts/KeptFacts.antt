@@ -117,10 +117,8 @@ pub not_of_others : (rest : List Mapped) → (MadeAtIndexes group remote_refs �
     × ¬ (AreKeptForward group remote_refs (tracked 1 (codes "main") ∷ rest)))
     × ((items : List Ref) → MadeAtIndexes group items → ¬ (AreKeptBackward group items (mapping 0 (codes "refs/heads/main") (Some (codes "refs/remotes/origin/main")) 1 ∷ rest)))
 not_of_others rest =
-    let none : ¬ (MakesForwardOf remote_refs (Some 1) (name main_ref.name) (Some (codes "refs/remotes/origin/main")) every) = λ m. search rules in (
-      (λ law. ((λ are. (at_spec group 1 _ no_dev refl (law.forward _ are).0).has.positive), λ are. none (at_spec group 0 _ every refl (law.forward _ are).0))),
-      λ items law are. (at_spec group 1 _ no_dev refl (law.backward _ are).0).has.positive,
-    )
+    let none : ¬ (MakesForwardOf remote_refs (Some 1) (name main_ref.name) (Some (codes "refs/remotes/origin/main")) every) = λ m. search rules in
+    (search rules, λ items law are. (at_spec group 1 _ no_dev refl (law.backward _ are).0).has.positive)
 
 -- by the law a mapping to a full name remains, and one to a partial name or to an invalid one doesn't, and none is new
 pub good_remains : (g : List Reading) (rest : List Mapped)

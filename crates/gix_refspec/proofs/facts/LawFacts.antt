@@ -1,8 +1,8 @@
 -- Examples of the definitions that only laws use: on directions, covering sources, canonical texts and expansions.
-use Rattle.gix_refspec.proofs.Common.{below_heads, covering, not_covering, Lacks-tested, IsPattern-tested, named, begins_not, empty_blob, IsIdText-empty_blob, lower_of-empty_blob, HasIdFault-length, every, no_dev}
-use Rattle.gix_refspec.proofs.Common.{short, short_kind, push_is_none, mapping, tracked, fetches_all_but_dev, tracks_all_but_dev, tracks_nothing, tag_to_x, tag_to_foo, tag_alone, ◌≡◌, ◌≢◌, ◌⊎◌, ◌<◌, ℕ, List, [], ◌∷◌}
-use Rattle.gix_refspec.proofs.Common.{Option, None, Some, length, codes, refl, sym, ap, ◌∙◌, subst, inl, inr, arith, Push, Fetch, BeginsWith, IsPattern, Normal, Forced, Negative, Reading, Reads, fetched, pushed}
-use Rattle.gix_refspec.proofs.Common.{candidates, IsCandidate, Fits, name, id, Mapped, HasPair, AreApart, AreKeptForward, AreKeptBackward, OneForward, OneBackward, KeptOnce, Ref, Matches, HasName, Takes, ValidatedOnce}
+use Rattle.gix_refspec.proofs.Common.{below_heads, covering, not_covering, Lacks-tested, IsPattern-tested, named, begins_not, empty_blob, IsIdText-empty_blob, lower_of-empty_blob, every, no_dev, short, short_kind}
+use Rattle.gix_refspec.proofs.Common.{push_is_none, mapping, tracked, fetches_all_but_dev, tracks_all_but_dev, tracks_nothing, tag_to_x, tag_to_foo, tag_alone, ◌≡◌, ◌≢◌, ◌⊎◌, ◌<◌, ℕ, List, [], ◌∷◌, Option, None, Some}
+use Rattle.gix_refspec.proofs.Common.{length, codes, refl, sym, ap, ◌∙◌, subst, inl, inr, arith, Push, Fetch, BeginsWith, IsPattern, Normal, Forced, Negative, Reading, Reads, fetched, pushed, candidates, IsCandidate}
+use Rattle.gix_refspec.proofs.Common.{Fits, name, id, Mapped, HasPair, AreApart, AreKeptForward, AreKeptBackward, OneForward, OneBackward, KeptOnce, Ref, Matches, HasName, Takes, ValidatedOnce}
 use Rattle.gix_refspec.proofs.Common.{DestinationsHaveOneSource, HaveDistinctDestinations, ForwardFits, IndexesFit, push_delete, fetch_only, printed, meaning_of, Refusal, PatternUnbalanced, NegativeEmpty, ReferenceName}
 use Rattle.gix_refspec.proofs.Common.{IsRefused, IsIdText, IsLowerText, HasIdFault, LockSuffix, RepeatedDot, IsPrefix, Expands, to_prefix, to_candidates, HasCoveringSource, MapAlike, AreReadAgain, AsksFor, AtSpec}
 use Rattle.gix_refspec.proofs.Common.{EachSource, Transpose, Cover, CoverTogether, FetchGroupReadsBack, IsCoveredBy, IsSourceAmong, IsDestinationAmong, GoesBothWays, ReadsAgainAs, Lacks-ContainsText, BeginsWithOne}
@@ -54,9 +54,8 @@ pub mapped_alike : (kept : List Mapped) → (FetchGroupReadsBack (forced ∷ [])
     → (AreKeptForward (forced ∷ []) (main_ref ∷ []) kept → AreKeptForward (short ∷ []) (main_ref ∷ []) kept) × AreKeptBackward (forced ∷ []) (main_ref ∷ []) [])
     × ((g h : List Reading) (items : List Ref) → MapAlike g h items → (AreKeptForward h items kept → AreKeptForward g items kept) × (AreKeptBackward g items kept → AreKeptBackward h items kept))
 mapped_alike kept = (
-  (λ law. let alike : MapAlike (forced ∷ []) (short ∷ []) (main_ref ∷ []) = by_cases law (λ back. back (reads_unforced.0, tt)) (λ equal. equal (same_fetches.0, tt)) in
-      ((alike.forward kept).0, (alike.backward []).1 tracks_nothing)),
-  λ g h items alike. ((alike.forward kept).1, (alike.backward kept).0),
+  (λ law. let alike : MapAlike (forced ∷ []) (short ∷ []) (main_ref ∷ []) = by_cases law (λ back. back (reads_unforced.0, tt)) (λ equal. equal (same_fetches.0, tt)) in search (rules, tracks_nothing)),
+  search rules,
 )
 
 -- the expansions of the specs of a group, one after the other; that of a negative spec is empty
@@ -91,11 +90,7 @@ covered = (
 pub each_source : ((P : Reading → Type 0) → (AtSpec (no_dev ∷ every ∷ []) (mapping 0 (codes "refs/heads/main") None 1) P → P every) × ¬ (AtSpec (every ∷ []) (mapping 0 (codes "refs/heads/main") None 1) P))
     × ((P : Reading → List ℕ → Type 0) → EachSource group remote_refs P → P every (codes "refs/heads/main"))
     × (OneForward group remote_refs → EachSource group remote_refs (λ r n. (r ≡ every) × (n ≡ codes "refs/heads/main")))
-each_source = (
-  (λ P. (search rules, λ (r, here, holds). cc)),
-  (λ P each. at_spec group 0 (λ r. P r (codes "refs/heads/main")) every refl ((each _ fetches_all_but_dev).0 (codes "refs/heads/main") refl)),
-  λ law kept are. rw (law kept (tracked 2 (codes "main") ∷ []) are fetches_all_but_dev) (search rules),
-)
+each_source = (search rules, (λ P each. at_spec group 0 (λ r. P r _) every refl ((each _ fetches_all_but_dev).0 _ refl)), λ law kept are. rw (law kept _ are fetches_all_but_dev) (search rules))
 
 -- a pattern has one prefix and one expansion; a name that begins with no entry of the expansion of a spec isn't covered by it
 pub one_below : OnePrefix (codes "refs/heads/*") → ((p : List ℕ) → IsPrefix (codes "refs/heads/*") p → p ≡ codes "refs/heads/") × ((list : List (List ℕ)) → Expands (codes "refs/heads/*") list → list ≡ codes "refs/heads/" ∷ [])
@@ -126,22 +121,20 @@ pub asked_for : (Candidates (codes "main") → Expands (codes "main") (candidate
     × (PrefixBegins (codes "refs/heads/*") → (r : Ref) (word : Option (List ℕ)) → Matches (codes "refs/heads/*") r word → BeginsWith (codes "refs/heads/") r.name)
 asked_for = (
   (λ law. let all = law short_kind.1 (λ same. unequal same refl) short_kind.2 short_kind.3 in (all.expands, all.only, λ r one. ((all.matches r).1 one, (all.takes r).1 one))),
-  (λ law r word by. by_cases by (λ matches. (law.matches r).0 (word, matches)) (λ takes. (law.takes r).0 (word, takes))),
+  search rules,
   λ law r word. law (codes "refs/heads/") r word below_heads (λ same. cc),
 )
 
 -- a text of another length isn't an id and has one fault; the id of the empty blob is that of its text alone, and prints as it
 pub one_id : (IdOrFault (codes "e69de29bb2d1d6434b8b29ae775ad8c2e48c5391") → ((i : List ℕ) → IsIdText (codes "e69de29bb2d1d6434b8b29ae775ad8c2e48c5391") i → i ≡ empty_blob)
     × ((e : IdError) → ¬ (HasIdFault (codes "e69de29bb2d1d6434b8b29ae775ad8c2e48c5391") e)))
-    × (IdOrFault (codes "e69de2") → ((e : IdError) → HasIdFault (codes "e69de2") e → e ≡ Length 6) × ((i : List ℕ) → ¬ (IsIdText (codes "e69de2") i)))
+    × ((IdOrFault (codes "e69de2") → ((e : IdError) → HasIdFault (codes "e69de2") e → e ≡ Length 6) × ((i : List ℕ) → ¬ (IsIdText (codes "e69de2") i)))
     × (HasOneId (codes "e69de29bb2d1d6434b8b29ae775ad8c2e48c5391") → (i : List ℕ) × IsIdText (codes "e69de29bb2d1d6434b8b29ae775ad8c2e48c5391") i)
-    × (HasOneFault (codes "e69de2") → (e : IdError) × HasIdFault (codes "e69de2") e)
+    × (HasOneFault (codes "e69de2") → (e : IdError) × HasIdFault (codes "e69de2") e))
     × (OneLowerText empty_blob → ((t : List ℕ) → IsLowerText t empty_blob → t ≡ codes "e69de29bb2d1d6434b8b29ae775ad8c2e48c5391") × IsLowerText (codes "e69de29bb2d1d6434b8b29ae775ad8c2e48c5391") empty_blob)
 one_id = (
   (λ law. by_cases law (λ one. ((λ i text. one.only i text ∙ sym (one.only empty_blob IsIdText-empty_blob)), one.sound)) (λ fault. absurd (fault.unread empty_blob IsIdText-empty_blob))),
-  (λ law. by_cases law (λ one. absurd (one.sound (Length 6) HasIdFault-length.0)) (λ fault. ((λ e has. fault.only e has ∙ sym (fault.only (Length 6) HasIdFault-length.0)), fault.unread))),
-  (λ one. (one.id, one.text)),
-  (λ one. (one.fault, one.has)),
+  search rules,
   λ law. ((λ t lower. law.only t lower ∙ lower_of-empty_blob), subst (λ (t : List ℕ). IsLowerText t empty_blob) lower_of-empty_blob law.lower),
 )
 
@@ -157,21 +150,18 @@ cloned is_clone is_infallible law x y = ((law x).0, (law x).1 y)
 pub of_texts : (ReadsOnce Fetch (codes "main") → Reads Fetch (codes "main") short → (r : Reading) → Reads Fetch (codes "main") r → r ≡ short)
     × (Reads Fetch (codes "main") short → (e : Refusal) → ¬ (IsRefused Fetch (codes "main") e))
     × (ReadsOrRefused Fetch (codes "main") → ((r : Reading) → ¬ (Reads Fetch (codes "main") r)) → (e : Refusal) × IsRefused Fetch (codes "main") e)
-    × (OneRefusal Fetch (codes "a*") → ¬ (IsRefused Fetch (codes "a*") NegativeEmpty))
     × (ReasonRefuses Fetch (codes "a*") → (r : Reading) → ¬ (Reads Fetch (codes "a*") r))
+    × (EqualTexts Fetch (codes "+main") (codes "main") → (r q : Reading) → Reads Fetch (codes "+main") r → Reads Fetch (codes "main") q → (printed r ≡ printed q → meaning_of r ≡ meaning_of q) × (meaning_of r ≡ meaning_of q → printed r ≡ printed q))
+    × ((OneRefusal Fetch (codes "a*") → ¬ (IsRefused Fetch (codes "a*") NegativeEmpty))
     × (KeepsOperation Fetch (codes "main") → (r : Reading) → Reads Fetch (codes "main") r → r.operation ≡ Fetch)
     × ((r : Reading) → SaysForOperation r → (d : List ℕ) → meaning_of r ≡ Some (push_delete d) → r.operation ≡ Push)
-    × (EqualTexts Fetch (codes "+main") (codes "main") → (r q : Reading) → Reads Fetch (codes "+main") r → Reads Fetch (codes "main") q → (printed r ≡ printed q → meaning_of r ≡ meaning_of q) × (meaning_of r ≡ meaning_of q → printed r ≡ printed q))
-    × (IsSameReason (ReferenceName LockSuffix) (ReferenceName RepeatedDot) × IsSameReason NegativeEmpty NegativeEmpty
+    × IsSameReason (ReferenceName LockSuffix) (ReferenceName RepeatedDot) × IsSameReason NegativeEmpty NegativeEmpty
     × ¬ (IsSameReason NegativeEmpty (ReferenceName LockSuffix)) × ¬ (IsSameReason (ReferenceName LockSuffix) PatternUnbalanced))
 of_texts = (
   (λ law reads r other. law.only r other ∙ sym (law.only short reads)),
   (λ reads e refused. refused.unread short reads),
   (λ law unread. by_cases law (λ once. absurd (unread once.reading once.reads)) (λ refused. refused)),
-  (λ law empty. by_cases (law PatternUnbalanced NegativeEmpty unbalanced_fetches.5 empty) (λ same. cc) (λ (a, b, is_name, also). cc)),
-  (λ law. let bad = unbalanced_fetches.5 in (law bad.mode bad.source bad.destination PatternUnbalanced bad.parts bad.first).unread),
-  (λ law. law),
-  (λ r law d means. sym (law (push_delete d) means)),
+  search (rules, unbalanced_fetches),
   (λ law r q reads_r reads_q. let alike = law r q reads_r reads_q in (alike.1, alike.0)),
   search rules,
 )
@@ -179,11 +169,10 @@ of_texts = (
 -- the canonical text of a forced fetch without a destination has one reading, with the same meaning. Readings for one operation with the same canonical text mean the same; a fetch and a push never do
 pub read_back_once : (ReadsBack Fetch (codes "+main") → Reads Fetch (codes "+main") forced → (q : Reading) → Reads Fetch (codes "main") q → meaning_of q ≡ Some (fetch_only (codes "main")))
     × (IsPrintedBack Fetch forced → (q : Reading) × Reads Fetch (codes "main") q)
-    × ((r q : Reading) → EqualReadings r q → (r.operation ≡ q.operation → printed r ≡ printed q → meaning_of r ≡ meaning_of q) × (meaning_of r ≡ meaning_of q → (r.operation ≡ q.operation) × (printed r ≡ printed q)))
-    × (EqualReadings (fetched Negative (codes "a") None) (pushed Negative (Some (codes "a")) None) → meaning_of (fetched Negative (codes "a") None) ≢ meaning_of (pushed Negative (Some (codes "a")) None))
+    × (((r q : Reading) → EqualReadings r q → (r.operation ≡ q.operation → printed r ≡ printed q → meaning_of r ≡ meaning_of q) × (meaning_of r ≡ meaning_of q → (r.operation ≡ q.operation) × (printed r ≡ printed q)))
+    × (EqualReadings (fetched Negative (codes "a") None) (pushed Negative (Some (codes "a")) None) → meaning_of (fetched Negative (codes "a") None) ≢ meaning_of (pushed Negative (Some (codes "a")) None)))
 read_back_once = (
   (λ law reads q again. let back = law forced reads in ap meaning_of (back.again.only q (rw (same_Some (codes "main") back.text back.is) at again)) ∙ back.same),
   (λ back. (back.again.reading, rw (← same_Some (codes "main") back.text back.is) at back.again.reads)),
-  (λ r q law. ((λ operations texts. law.1 (operations, texts)), law.0)),
-  λ law same. push_is_none (sym (law.0 same).0),
+  search (rules, push_is_none),
 )

@@ -11,11 +11,8 @@ starts = (search rules, (λ have. search rules), (tt, tt), λ apart. apart.0.0 r
 -- by the law there is no duplicate mapping or fix, and no two sources have the same indexes
 pub none_twice : PlansApart → (g : List Reading) (items : List Ref) (l rest : List Mapped) (out : List Removed) → AreKeptForward g items l
     → ¬ (IsValidated g l (tag_to_x ∷ tag_to_x ∷ []) out) × ¬ (IsValidated g l rest (foo_fix ∷ foo_fix ∷ [])) × ¬ (IsValidated g l (tag_alone ∷ mapping 0 (codes "refs/heads/a") None 1 ∷ []) out)
-none_twice law g items l rest out kept = (
-  (λ valid. (law g items l _ out kept valid).pairs.0.0 (search rules)),
-  (λ valid. starts.3 (law g items l rest _ kept valid).fixed),
-  λ valid. starts.1 (law g items l _ out kept valid).starts,
-)
+none_twice law g items l rest out kept =
+    ((λ valid. (law g items l _ out kept valid).pairs.0.0 (search rules)), (λ valid. starts.3 (law g items l rest _ kept valid).fixed), λ valid. starts.1 (law g items l _ out kept valid).starts)
 
 -- a mapping lacks a byte that neither side contains. An id contains its digits in lower case
 pub lacks : MappedLacks 10 tag_to_x × MappedLacks 10 tag_alone × ¬ (MappedLacks 10 (mapping 0 (codes "a\nb") None 0)) × ¬ (MappedLacks 10 (mapping 0 (codes "a") (Some (codes "b\n")) 0))

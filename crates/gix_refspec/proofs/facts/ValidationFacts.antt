@@ -1,6 +1,6 @@
 -- Examples of the definitions on validation, for mappings to one destination and to others.
-use Rattle.gix_refspec.proofs.Common.{by_cases, nothing_made, none_some, of_element, mapping, tag_to_x, branch_to_x, tag_again, tag_to_foo, tag_alone, ◌≡◌, ℕ, List, [], ◌∷◌, None, Some, codes, refl, sym, ◌∙◌, inl, inr, arith}
-use Rattle.gix_refspec.proofs.Common.{IsStrictlySortedBy, Normal, Forced, Reading, fetched, name, Mapped, IndexesFit, HasConflictAt, IsFirstTo, IsTextAt, Conflict, IsConflict, AreConflicts, IsWritable, Survives}
+use Rattle.gix_refspec.proofs.Common.{by_cases, nothing_made, none_some, of_element, mapping, tag_to_x, branch_to_x, tag_again, tag_to_foo, tag_alone, ◌≡◌, ℕ, List, [], ◌∷◌, None, Some, codes, refl, sym, ◌∙◌, inl, inr}
+use Rattle.gix_refspec.proofs.Common.{arith, IsStrictlySortedBy, Normal, Forced, Reading, fetched, name, Mapped, IndexesFit, HasConflictAt, IsFirstTo, IsTextAt, Conflict, IsConflict, AreConflicts, IsWritable, Survives}
 use Rattle.gix_refspec.proofs.Common.{AreSurvivors, Removed, IsFix, AreFixes, IsValidated, DestinationsHaveOneSource, ShareDestination, HaveDistinctDestinations, false, nat_eq, starts_with, false≢true, bytes_eq, head}
 use Rattle.gix_refspec.proofs.{Common.{◌≢◌, map, Mapping, Outcome, mapped_of, AreMappingCopies, readings_of, OneValidation, IsOutcomeCopy, CopiedOutcome, IsMadeFrom, rules}, lemmas.validate.ConflictLemmas.no_conflicts}
 
@@ -105,8 +105,4 @@ pub validated_alike : (o copy : Outcome 1) → CopiedOutcome o copy → IsOutcom
     → (readings_of o.group ≡ both_to_x → map mapped_of o.mappings.items ≡ meeting → (cs : List Conflict) → AreConflicts (readings_of copy.group) (map mapped_of copy.mappings.items) cs → cs ≡ conflict ∷ [])
     × (map mapped_of o.mappings.items ≡ of_one_tag → (rest : List Mapped) → AreSurvivors (map mapped_of copy.mappings.items) rest → rest ≡ tag_to_x ∷ tag_alone ∷ [])
     × (readings_of o.group ≡ both_to_x → map mapped_of o.mappings.items ≡ of_one_tag → (fixes : List Removed) → AreFixes (readings_of copy.group) (map mapped_of copy.mappings.items) fixes → fixes ≡ foo_fix ∷ [])
-validated_alike o copy law is = let same = (law is).validated in (
-  (λ specs mappings cs are. sym (same.conflicts (conflict ∷ []) cs (rw (specs, mappings) conflicts_at_x) are)),
-  (λ mappings rest are. sym (same.survivors (tag_to_x ∷ tag_alone ∷ []) rest (rw mappings validated.survive) are)),
-  λ specs mappings fixes are. sym (same.fixes (foo_fix ∷ []) fixes (rw (specs, mappings) validated.fixed) are),
-)
+validated_alike o copy law is = let same = (law is).validated in (search (rules, conflicts_at_x), search (rules, validated), search (rules, validated))
