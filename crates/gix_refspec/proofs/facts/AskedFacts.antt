@@ -18,10 +18,7 @@ lists_of_sides = (
 
 -- a `]` after the star is allowed, but a star after a `]` has no list
 pub lists_at_brackets : ListsSide (codes "refs/a*/]") (codes "refs/a" ∷ []) × ((list : List (List ℕ)) → ¬ (ListsSide (codes "refs/a]*") list))
-lists_at_brackets = (
-  record { kind = pattern (codes "refs/a") (codes "/]"); of = suffix_split; is = search rules },
-  no_list (codes "refs/a]*") (codes "refs/a]") [] bracket_split (λ tells. search rules),
-)
+lists_at_brackets = (record { kind = pattern (codes "refs/a") (codes "/]"); of = suffix_split; is = search rules }, no_list (codes "refs/a]*") (codes "refs/a]") [] bracket_split (λ tells. search rules))
 
 -- the list of a negative spec is empty, and a push without a destination has none. The lists of a group follow one another
 pub lists_of_specs : Lists every (codes "refs/heads/" ∷ []) × Lists no_dev [] × ((list : List (List ℕ)) → ¬ (Lists (pushed Normal (Some (codes "main")) None) list))
@@ -39,5 +36,4 @@ none_for_all =
 -- if the list serves, no tag is a source, over any items
 pub no_tag_served : Serves (codes "refs/heads/" ∷ []) (every ∷ []) → (items : List Ref) (d : ℕ) (rest : List Mapped) → ¬ (AreKeptForward (every ∷ []) items (mapping 0 (codes "refs/tags/v1") None d ∷ rest))
 no_tag_served serves items d rest are =
-    let begins = of_one (λ p. BeginsWith p (codes "refs/tags/v1")) (codes "refs/heads/") ((serves (refl, tt) items _ are).0 (codes "refs/tags/v1") refl) in
-    begins_not (codes "refs/heads/") (codes "refs/tags/v1") refl begins
+    begins_not (codes "refs/heads/") (codes "refs/tags/v1") refl (of_one (λ p. BeginsWith p (codes "refs/tags/v1")) (codes "refs/heads/") ((serves (refl, tt) items _ are).0 (codes "refs/tags/v1") refl))

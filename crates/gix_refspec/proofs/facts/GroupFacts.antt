@@ -27,14 +27,12 @@ item_of target object = record { full_ref_name = lent (codes "refs/tags/v1"); ta
 abbrev branch : Mapping
 branch = record { item_index = Some 3; lhs = FullName (lent_name (codes "refs/heads/a")); rhs = Some (lent_name (codes "refs/x/a")); spec_index = 5 }
 
-abbrev object : Mapping
-object = record { item_index = None; lhs = IdSource blob_id; rhs = None; spec_index = 1 }
-
 -- the object of a tag isn't its target, and may be missing. The indexes of the item and of the spec aren't swapped, nor are the source and the destination, and a push isn't a fetch
 pub mappings_seen : (ref_of (item_of (record { kind = Sha1; buffer = replicate 32 1 }) (Some blob_id)) ≡ record { name = codes "refs/tags/v1"; target = replicate 20 1; object = Some empty_blob })
-    × (ref_of (item_of blob_id None) ≡ record { name = codes "refs/tags/v1"; target = empty_blob; object = None })
-    × (mapped_of branch ≡ mapping 3 (codes "refs/heads/a") (Some (codes "refs/x/a")) 5) × (mapped_of object ≡ record { item = None; source = id empty_blob; destination = None; spec = 1 })
-    × ((o : ForwardOutcome) → o.mappings.items ≡ branch ∷ object ∷ [] → mappings_of o ≡ mapping 3 (codes "refs/heads/a") (Some (codes "refs/x/a")) 5 ∷ record { item = None; source = id empty_blob; destination = None; spec = 1 } ∷ [])
+    × (ref_of (item_of blob_id None) ≡ record { name = codes "refs/tags/v1"; target = empty_blob; object = None }) × (mapped_of branch ≡ mapping 3 (codes "refs/heads/a") (Some (codes "refs/x/a")) 5)
+    × (mapped_of (record { item_index = None; lhs = IdSource blob_id; rhs = None; spec_index = 1 }) ≡ record { item = None; source = id empty_blob; destination = None; spec = 1 })
+    × ((o : ForwardOutcome) → o.mappings.items ≡ branch ∷ record { item_index = None; lhs = IdSource blob_id; rhs = None; spec_index = 1 } ∷ []
+    → mappings_of o ≡ mapping 3 (codes "refs/heads/a") (Some (codes "refs/x/a")) 5 ∷ record { item = None; source = id empty_blob; destination = None; spec = 1 } ∷ [])
     × (is_same_operation Push Push ∷ is_same_operation Push Fetch ∷ is_same_operation Fetch Push ∷ is_same_operation Fetch Fetch ∷ [] ≡ true ∷ false ∷ false ∷ true ∷ [])
 mappings_seen = (refl, refl, refl, refl, (λ o are. ap (map mapped_of) are), refl)
 

@@ -80,9 +80,9 @@ abbrev pub tracking_refs : List Ref
 tracking_refs = named (codes "refs/remotes/origin/dev-a") ∷ named (codes "refs/remotes/origin/main") ∷ []
 
 -- the duplicate has the same pair, and so isn't the first
-no_first : (before after : List Mapped) → tracked 0 (codes "dev-a") ∷ tracked 2 (codes "main") ∷ tracked 3 (codes "main") ∷ [] ≡ before ++ (tracked 3 (codes "main") ∷ after) → ¬ (HasPair before (tracked 3 (codes "main"))) → ⊥
-no_first (x ∷ y ∷ before) after here new = let same : y ≡ tracked 2 (codes "main") = cc in search rules
-no_first before after here new = let items = ap (map (λ (m : Mapped). m.item)) here in cc
+no_first : (front rest : List Mapped) → tracked 0 (codes "dev-a") ∷ tracked 2 (codes "main") ∷ tracked 3 (codes "main") ∷ [] ≡ front ++ (tracked 3 (codes "main") ∷ rest) → ¬ (HasPair front (tracked 3 (codes "main"))) → ⊥
+no_first (x ∷ y ∷ front) rest here new = let same : y ≡ tracked 2 (codes "main") = cc in search rules
+no_first front rest here new = let items = ap (map (λ (m : Mapped). m.item)) here in cc
 
 -- by the law the first mapping of the branch is kept, with its index, and neither its duplicate nor the excluded branch
 pub first_there : (kept : List Mapped) → (FirstStays group remote_refs → AreKeptForward group remote_refs kept

@@ -152,8 +152,7 @@ pub of_texts : (ReadsOnce Fetch (codes "main") → Reads Fetch (codes "main") sh
     × (ReadsOrRefused Fetch (codes "main") → ((r : Reading) → ¬ (Reads Fetch (codes "main") r)) → (e : Refusal) × IsRefused Fetch (codes "main") e)
     × (ReasonRefuses Fetch (codes "a*") → (r : Reading) → ¬ (Reads Fetch (codes "a*") r))
     × (EqualTexts Fetch (codes "+main") (codes "main") → (r q : Reading) → Reads Fetch (codes "+main") r → Reads Fetch (codes "main") q → (printed r ≡ printed q → meaning_of r ≡ meaning_of q) × (meaning_of r ≡ meaning_of q → printed r ≡ printed q))
-    × ((OneRefusal Fetch (codes "a*") → ¬ (IsRefused Fetch (codes "a*") NegativeEmpty))
-    × (KeepsOperation Fetch (codes "main") → (r : Reading) → Reads Fetch (codes "main") r → r.operation ≡ Fetch)
+    × ((OneRefusal Fetch (codes "a*") → ¬ (IsRefused Fetch (codes "a*") NegativeEmpty)) × (KeepsOperation Fetch (codes "main") → (r : Reading) → Reads Fetch (codes "main") r → r.operation ≡ Fetch)
     × ((r : Reading) → SaysForOperation r → (d : List ℕ) → meaning_of r ≡ Some (push_delete d) → r.operation ≡ Push)
     × IsSameReason (ReferenceName LockSuffix) (ReferenceName RepeatedDot) × IsSameReason NegativeEmpty NegativeEmpty
     × ¬ (IsSameReason NegativeEmpty (ReferenceName LockSuffix)) × ¬ (IsSameReason (ReferenceName LockSuffix) PatternUnbalanced))

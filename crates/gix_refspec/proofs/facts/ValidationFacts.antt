@@ -63,8 +63,7 @@ pub fixes : IsFix both_to_x tag_to_foo foo_fix × ((fix : Removed) → ¬ (IsFix
     × (Survives tag_alone × Survives tag_to_x × ¬ (Survives tag_to_foo) × ¬ (AreSurvivors (tag_to_foo ∷ []) (tag_to_foo ∷ [])) × ¬ (AreSurvivors (tag_alone ∷ []) []))
 fixes =
     let foo : IsFix both_to_x tag_to_foo foo_fix = record { goes = refl; unwritable = writable.4; spec = refl } in
-    let survivors : ¬ (AreSurvivors (tag_to_foo ∷ []) (tag_to_foo ∷ [])) × ¬ (AreSurvivors (tag_alone ∷ []) []) = ((λ are. search rules), λ are. search rules) in
-    (foo, (λ fix. search rules), (λ is. search rules), (λ are. nothing_made (λ k m fix. IsFix both_to_x m fix) 0 [] tag_to_foo [] foo_fix are foo), (tt, inl (search rules), writable.4, survivors.0, survivors.1))
+    (foo, search rules, search rules, (λ are. nothing_made (λ k m fix. IsFix both_to_x m fix) 0 [] tag_to_foo [] foo_fix are foo), (tt, inl (search rules), writable.4, (λ are. search rules), λ are. search rules))
 
 abbrev of_one_tag : List Mapped
 of_one_tag = tag_to_x ∷ tag_to_foo ∷ tag_alone ∷ []
@@ -77,15 +76,13 @@ validated = record {
 }
 
 -- which indexes fit, and the canonical texts of the specs at them
-pub indexes : IndexesFit both_to_x (tag_to_x ∷ tag_again ∷ []) × ¬ (IndexesFit both_to_x (tag_to_x ∷ mapping 0 (codes "a") None 2 ∷ []))
-    × IsTextAt both_to_x 0 (codes "refs/tags/*:refs/x/*") × IsTextAt (fetched Forced (codes "main") None ∷ []) 0 (codes "main")
-    × ¬ (IsTextAt both_to_x 1 (codes "refs/tags/*:refs/x/*")) × ((text : List ℕ) → ¬ (IsTextAt both_to_x 2 text))
+pub indexes : IndexesFit both_to_x (tag_to_x ∷ tag_again ∷ []) × ¬ (IndexesFit both_to_x (tag_to_x ∷ mapping 0 (codes "a") None 2 ∷ [])) × IsTextAt both_to_x 0 (codes "refs/tags/*:refs/x/*")
+    × IsTextAt (fetched Forced (codes "main") None ∷ []) 0 (codes "main") × ¬ (IsTextAt both_to_x 1 (codes "refs/tags/*:refs/x/*")) × ((text : List ℕ) → ¬ (IsTextAt both_to_x 2 text))
 indexes = (search rules, (λ fit. search rules), (tags_to_x, refl, refl), (fetched Forced (codes "main") None, refl, refl), (λ (r, is, prints). search rules), λ text (r, is, prints). cc)
 
 -- mappings without a destination share none. One source may be mapped twice to a destination, which then isn't distinct
-pub meet : ShareDestination tag_to_x branch_to_x × ¬ (ShareDestination tag_to_x tag_to_foo) × ¬ (ShareDestination tag_alone tag_alone)
-    × DestinationsHaveOneSource (tag_to_x ∷ tag_again ∷ []) × ¬ (DestinationsHaveOneSource meeting)
-    × HaveDistinctDestinations (tag_to_x ∷ tag_to_foo ∷ tag_alone ∷ tag_alone ∷ []) × ¬ (HaveDistinctDestinations (tag_to_x ∷ tag_alone ∷ tag_again ∷ []))
+pub meet : ShareDestination tag_to_x branch_to_x × ¬ (ShareDestination tag_to_x tag_to_foo) × ¬ (ShareDestination tag_alone tag_alone) × DestinationsHaveOneSource (tag_to_x ∷ tag_again ∷ [])
+    × ¬ (DestinationsHaveOneSource meeting) × HaveDistinctDestinations (tag_to_x ∷ tag_to_foo ∷ tag_alone ∷ tag_alone ∷ []) × ¬ (HaveDistinctDestinations (tag_to_x ∷ tag_alone ∷ tag_again ∷ []))
 unfolding at_x
 meet = (search rules, (λ at. search rules), (λ at. none_some at.0 at.1), search rules, (λ one. at_x.differ (one _ _ _ at_x.has_one at_x.has_other refl refl)), search rules, λ never. search rules)
 
