@@ -78,7 +78,7 @@ asked_for law =
     let same = law _ (codes "refs/heads/" ∷ [], [], lists_of_specs.0, ([], [], lists_of_specs.1, refl, refl), refl) (refl, (refl, tt)) listed_refs.3 in
     ((λ fewer. same _ fewer fetches_all_but_dev), λ are. same_pairs.1 (same _ [] fetches_all_but_dev are))
 
--- if all items pass, those that some spec takes do; if none does, the branch is taken and doesn't pass
+-- a name begins with one of the entries or with none. If all items pass, those that some spec takes do; if none does, the branch is taken and doesn't pass
 pub passing : (is_begun (codes "refs/tags/" ∷ codes "refs/heads/" ∷ []) (codes "refs/heads/main") ≡ true) × (is_begun (codes "heads/" ∷ []) (codes "refs/heads/main") ≡ false)
     × (is_begun [] (codes "refs/heads/main") ≡ false) × ((items : List Item) → PassesTaken AreForwardEnds (Takes (map ref_of items)) group items (λ item. true))
     × ((item : Item) → ref_of item ≡ main_ref → ¬ (PassesTaken AreForwardEnds (Takes (map ref_of (item ∷ []))) group (item ∷ []) (λ other. false)))

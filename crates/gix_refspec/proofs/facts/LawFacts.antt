@@ -58,7 +58,7 @@ mapped_alike kept = (
   search rules,
 )
 
--- the expansions of the specs of a group, one after the other; that of a negative spec is empty
+-- the expansions of the specs of a group, one after the other; that of a negative spec is empty. A name begins with one entry of a list, or with none
 pub expansions : IsExpansion every (codes "refs/heads/" ∷ []) × AreExpansions (every ∷ no_dev ∷ short ∷ []) (codes "refs/heads/" ∷ candidates (codes "main"))
     × AreExpansions group (codes "refs/heads/" ∷ []) × BeginsWithOne (codes "refs/tags/" ∷ codes "refs/heads/" ∷ []) (codes "refs/heads/main") × ¬ (BeginsWithOne (codes "heads/" ∷ []) (codes "refs/heads/main"))
 expansions =
