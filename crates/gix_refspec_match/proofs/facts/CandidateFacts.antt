@@ -34,10 +34,7 @@ takes_the_tag =
 
 -- a full name takes what it matches, whatever the refs are, and no side takes what it doesn't match
 pub takes : Takes [] (codes "refs/tags/blob") (named (codes "refs/tags/blob")) None × ((word : Option (List ℕ)) → ¬ (Takes (named (codes "refs/x/main") ∷ []) (codes "main") (named (codes "refs/x/main")) word))
-takes = (
-  record { matches = record { kind = full_name (codes "refs/tags/blob"); of = below_tags; is = (refl, refl) }; first = λ n kind. absurd (kind.2 below_tags.2) },
-  λ word taken. partial_matches.2 word taken.matches,
-)
+takes = (record { matches = record { kind = full_name (codes "refs/tags/blob"); of = below_tags; is = (refl, refl) }; first = λ n kind. absurd (kind.2 below_tags.2) }, λ word taken. partial_matches.2 word taken.matches)
 
 -- from the law: a caller with a branch and a tag gets the tag alone, and one with a ref of some candidate gets one
 pub concluded : FirstCandidate (codes "main") branch_and_tag → ((r : Ref) (word : Option (List ℕ)) → Takes branch_and_tag (codes "main") r word → r.name ≡ codes "refs/tags/main")
