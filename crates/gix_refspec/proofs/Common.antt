@@ -97,7 +97,7 @@ pub use Rattle.gix_refspec_text.proofs.facts.FitFacts.{push_is_none, below_tags,
 pub use Rattle.gix_refspec_text.proofs.facts.FaultFacts.{begins_not, no_component}
 pub use Rattle.gix_refspec_text.proofs.facts.ObjectIdFacts.{empty_blob, lower_of-empty_blob, IsIdText-empty_blob, HasIdFault-length}
 pub use Rattle.gix_refspec_text.proofs.facts.CoveringFacts.{below_heads, covering, not_covering}
-pub use Rattle.gix_refspec_match.proofs.facts.MatchFacts.{mapping, tracked, bytes_in, tag_to_x, branch_to_x, tag_again, tag_to_foo, tag_alone, pairs, are_forward_ends, fetches_all_but_dev, forward_ends}
+pub use Rattle.gix_refspec_match.proofs.facts.MatchFacts.{mapping, tracked, tag_to_x, branch_to_x, tag_again, tag_to_foo, tag_alone, pairs, fetches_all_but_dev, forward_ends}
 pub use Rattle.gix_refspec_match.proofs.facts.MatchFacts.{taken_by, takes_no_tag, tracks_all_but_dev, blob_mapping, dev_excluded, main_stays, maps_all, only_dev, tracks_all, tracks_nothing}
 pub use Rattle.gix_refspec_match.proofs.facts.CandidateFacts.{branch_and_tag, main_tag, main_ends, main_to_x, takes_the_tag, x_kind, main_branch, no_tags, no_other_first, not_excluded, tags_excluded}
 

@@ -1,5 +1,4 @@
 -- Examples of the definitions in specs/, of this crate and of those below it, each on one side of a border.
-pub mod IndexFacts
 pub mod MatchFacts
 pub mod MissingFacts
 pub mod HitFacts

@@ -1,30 +1,29 @@
--- The words on lists that are made element by element: nothing is left out, added or turned round.
-use Rattle.gix_refspec_match.proofs.Common.{List, [], ◌∷◌, None, Some, refl, ◌≡◌, ℕ, sym, ◌∙◌, arith, MakesOf, IsMadeFrom, IsJoinedFrom}
-use Rattle.gix_refspec_match.proofs.lemmas.lists.{JoinLemmas.one_joined, ListsLemmas.made_once}
+-- The words on lists that are made element by element, where nothing is left out, added or turned round, and on prefixes at small lists of refs.
+use Rattle.gix_refspec_match.proofs.{Common.{List, [], ◌∷◌, None, Some, codes, refl, ◌≡◌, ℕ, sym, ◌∙◌, arith, rules, MakesOf, IsMadeFrom, IsJoinedFrom, ArePlacesBehind}, lemmas.lists.JoinLemmas.one_joined}
+use Rattle.{gix_refspec_match.proofs.lemmas.lists.ListsLemmas.made_once, gix_refspec_text.proofs.facts.{FaultFacts.begins_not, ManualFacts.named}}
 
 -- of the element 5 its place is made, and nothing of another element
-pub record PlaceOfFive (k x y : ℕ) : Type 0 where
-  pub five : x ≡ 5
-  pub place : y ≡ k
+abbrev pub PlaceOfFive : ℕ → ℕ → ℕ → Type 0
+PlaceOfFive k x y = (x ≡ 5) × (y ≡ k)
 
--- what is made of an element is there, and where nothing is, nothing can be made
-pub makes : MakesOf PlaceOfFive 7 5 (Some 7) × ¬ (MakesOf PlaceOfFive 7 5 None) × ¬ (MakesOf PlaceOfFive 7 6 (Some 7)) × MakesOf PlaceOfFive 7 6 None
-makes = (record { five = refl; place = refl }, (λ none. none 7 (record { five = refl; place = refl })), (λ made. omega (arith, made.five)), (λ y made. omega (arith, made.five)))
-
--- from place 7 on, the places of each 5, in order
-pub made : IsMadeFrom PlaceOfFive 7 (5 ∷ 6 ∷ 5 ∷ []) (7 ∷ 9 ∷ [])
-made = (Some 7, 9 ∷ [], makes.0, (None, 9 ∷ [], (λ y other. omega (arith, other.five)), (Some 9, [], record { five = refl; place = refl }, refl, refl), refl), refl)
-
-pub made_alone : (ys : List ℕ) → IsMadeFrom PlaceOfFive 7 (5 ∷ 6 ∷ 5 ∷ []) ys → ys ≡ 7 ∷ 9 ∷ []
-made_alone ys are = made_once PlaceOfFive (λ k x y z one other. one.place ∙ sym other.place) 7 (5 ∷ 6 ∷ 5 ∷ []) ys (7 ∷ 9 ∷ []) are made
+-- what is made of an element is there, and where nothing is, nothing can be made. From place 7 on, the places of each 5 are made in order, and nothing else
+pub made : MakesOf PlaceOfFive 7 5 (Some 7) × ¬ (MakesOf PlaceOfFive 7 5 None) × ¬ (MakesOf PlaceOfFive 7 6 (Some 7)) × MakesOf PlaceOfFive 7 6 None
+    × IsMadeFrom PlaceOfFive 7 (5 ∷ 6 ∷ 5 ∷ []) (7 ∷ 9 ∷ []) × ((ys : List ℕ) → IsMadeFrom PlaceOfFive 7 (5 ∷ 6 ∷ 5 ∷ []) ys → ys ≡ 7 ∷ 9 ∷ [])
+made =
+    let none_of_six : (k y : ℕ) → ¬ (PlaceOfFive k 6 y) = λ k y is. omega (arith, is.0) in
+    let all : IsMadeFrom PlaceOfFive 7 (5 ∷ 6 ∷ 5 ∷ []) (7 ∷ 9 ∷ []) = (Some 7, _, (refl, refl), (None, _, none_of_six 8, (Some 9, [], (refl, refl), refl, refl), refl), refl) in
+    ((refl, refl), (λ none. none 7 (refl, refl)), none_of_six 7 7, none_of_six 7, all, λ ys are. made_once PlaceOfFive (λ k x y z one other. one.1 ∙ sym other.1) 7 (5 ∷ 6 ∷ 5 ∷ []) ys (7 ∷ 9 ∷ []) are all)
 
 -- of each element its place and itself
-pub record PlaceAndElement (k x : ℕ) (ys : List ℕ) : Type 0 where
-  pub both : ys ≡ k ∷ x ∷ []
+abbrev pub PlaceAndElement : ℕ → ℕ → List ℕ → Type 0
+PlaceAndElement k x ys = ys ≡ k ∷ x ∷ []
 
--- from place 7 on, the lists of each element, one after the other
-pub joined : IsJoinedFrom PlaceAndElement 7 (5 ∷ 6 ∷ []) (7 ∷ 5 ∷ 8 ∷ 6 ∷ [])
-joined = (7 ∷ 5 ∷ [], 8 ∷ 6 ∷ [], record { both = refl }, (8 ∷ 6 ∷ [], [], record { both = refl }, refl, refl), refl)
+-- from place 7 on, the lists of each element, one after the other, and no others
+pub joined : IsJoinedFrom PlaceAndElement 7 (5 ∷ 6 ∷ []) (7 ∷ 5 ∷ 8 ∷ 6 ∷ []) × ((ys : List ℕ) → IsJoinedFrom PlaceAndElement 7 (5 ∷ 6 ∷ []) ys → ys ≡ 7 ∷ 5 ∷ 8 ∷ 6 ∷ [])
+joined =
+    let all : IsJoinedFrom PlaceAndElement 7 (5 ∷ 6 ∷ []) (7 ∷ 5 ∷ 8 ∷ 6 ∷ []) = (_, _, refl, (_, [], refl, refl, refl), refl) in
+    (all, λ ys are. one_joined PlaceAndElement (λ k x y z one other. one ∙ sym other) 7 (5 ∷ 6 ∷ []) ys (7 ∷ 5 ∷ 8 ∷ 6 ∷ []) are all)
 
-pub joined_alone : (ys : List ℕ) → IsJoinedFrom PlaceAndElement 7 (5 ∷ 6 ∷ []) ys → ys ≡ 7 ∷ 5 ∷ 8 ∷ 6 ∷ []
-joined_alone ys are = one_joined PlaceAndElement (λ k x y z one other. one.both ∙ sym other.both) 7 (5 ∷ 6 ∷ []) ys (7 ∷ 5 ∷ 8 ∷ 6 ∷ []) are joined
+-- the prefix itself begins with it, and so does a longer name, but no other, and no place may be missing
+pub places_after_a : ArePlacesBehind (codes "a") (named (codes "ab") ∷ named (codes "b") ∷ named (codes "a") ∷ []) (0 ∷ 2 ∷ []) × ¬ (ArePlacesBehind (codes "a") (named (codes "a") ∷ []) [])
+places_after_a = ((Some 0, _, (search rules, refl), (None, _, (λ place both. begins_not (codes "a") (codes "b") refl both.0), (Some 2, [], (search rules, refl), refl, refl), refl), refl), search rules)
