@@ -1,14 +1,12 @@
 -- What holds of mappings before and after a validation, which leaves no duplicate mappings and no duplicate fixes.
 use Rattle.gix_refspec.proofs.Common.{all_weaker, ◌≡◌, ℕ, suc, ◌+◌, ◌<◌, List, [], ◌∷◌, None, Some, length, get_or, refl, sym, ◌∙◌, subst, arith, AllByRecursion, Contains, All-contains_itself}
-use Rattle.gix_refspec.proofs.Common.{All-from_recursion, Contains-get_or, recursion_from_All, Reading, IsMadeFrom, Ref, Mapped, IsSamePair, AreApart, AreKeptForward, AreConflicts, ForwardFits}
+use Rattle.gix_refspec.proofs.Common.{All-from_recursion, Contains-get_or, recursion_from_All, Reading, IsMadeFrom, Ref, Mapped, IsSamePair, AreApart, AreConflicts, ForwardFits}
 use Rattle.gix_refspec.proofs.Common.{DestinationsHaveOneSource, IsValidated, ShareDestination, HaveDistinctDestinations, Removed, Survives, ValidatedOnce, ForwardIndexes, Option, ap, name}
-use Rattle.gix_refspec.proofs.Common.{HaveOneSource, HaveSourcesByIndex, PlansApart, ◌≢◌, slice_get, same_Some, IsIdText, Source, IsFix, MakesForwardOf, AreFixesApart, id, by_cases, ◌↔◌, ◌++◌}
-use Rattle.gix_refspec.proofs.Common.{option_map, Bool, true, false, map, take, items_where_true, false≢true, append-nil, slice_get-map, slice_get_read, Mapping, NameRef, Fix, Issue, RefSpecRef}
-use Rattle.gix_refspec.proofs.Common.{reading_of, mapped_of, name_bytes, conflict_of, removed_of, AreFixes, AreSurvivors, IsWritable, length-append, made_more, map-append, one_more_mapped, kept_once}
-use Rattle.gix_refspec.proofs.Common.{IsIdText-unique}
-use Rattle.gix_refspec.proofs.lemmas.validate.FirstLemmas.{start_cases}
-use Rattle.gix_refspec.proofs.lemmas.MadeLemmas.{stays_each, made_all}
-use Rattle.gix_refspec.proofs.lemmas.validate.MadeAtLemmas.{item_indexes_fit, ForwardAt, made_at_indexes}
+use Rattle.gix_refspec.proofs.Common.{HaveOneSource, HaveSourcesByIndex, PlansApart, ◌≢◌, slice_get, same_Some, IsIdText, Source, IsFix, MakesForwardOf, AreFixesApart, id, ◌↔◌, ◌++◌, option_map, Bool}
+use Rattle.gix_refspec.proofs.Common.{true, false, map, take, items_where_true, false≢true, append-nil, slice_get-map, slice_get_read, Mapping, NameRef, Fix, Issue, RefSpecRef, reading_of, mapped_of}
+use Rattle.gix_refspec.proofs.Common.{name_bytes, conflict_of, removed_of, AreFixes, AreSurvivors, IsWritable, length-append, made_more, map-append, one_more_mapped, kept_once, IsIdText-unique}
+use Rattle.gix_refspec.proofs.{Common.{All-contains, AreKeptForward, by_cases}, lemmas.{MadeLemmas.{stays_each, made_all}}}
+use Rattle.gix_refspec.proofs.lemmas.validate.{FirstLemmas.{start_cases}, MadeAtLemmas.{item_indexes_fit, ForwardAt, made_at_indexes}}
 use Rattle.std.specs.List.Retain.{ReturnsInTurn, IsFiltered}
 
 pub forward_fits : (g : List Reading) (items : List Ref) → ForwardFits g items
@@ -22,7 +20,7 @@ apart_still S k (x ∷ xs) ys apart (Some y, rest, one, more, is) = subst AreApa
   apart_still S (k + 1) xs rest apart.1 more,
 )
 
-distinct_destinations : (l : List Mapped) → DestinationsHaveOneSource l → AreApart l → HaveDistinctDestinations l
+pub distinct_destinations : (l : List Mapped) → DestinationsHaveOneSource l → AreApart l → HaveDistinctDestinations l
 distinct_destinations [] one apart = tt
 distinct_destinations (m ∷ l) one apart = (
   recursion_from_All (λ n. ¬ (ShareDestination m n)) l (λ k d below meet.
@@ -42,11 +40,13 @@ free_one_source g l free m n d has_m has_n m_to n_to = by_cases (start_cases m.s
 pub kept_distinct_destinations : (g : List Reading) (items : List Ref) (l : List Mapped) → AreKeptForward g items l → AreConflicts g l [] → HaveDistinctDestinations l
 kept_distinct_destinations g items l kept free = distinct_destinations l (free_one_source g l free) (kept_once g kept.all l kept.is)
 
+pub one_source_still : (S : ℕ → Mapped → Type 0) (l rest : List Mapped) → DestinationsHaveOneSource l → IsMadeFrom (λ j x y. (y ≡ x) × S j x) 0 l rest → DestinationsHaveOneSource rest
+one_source_still S l rest one made m n d has_m has_n =
+    let was = stays_each S (Contains l) 0 l rest (recursion_from_All (Contains l) l (All-contains_itself l)) made in
+    one m n d (All-contains (Contains l) rest m (All-from_recursion (Contains l) rest was) has_m) (All-contains (Contains l) rest n (All-from_recursion (Contains l) rest was) has_n)
+
 one_source : (g : List Reading) (l rest : List Mapped) (fixes : List Removed) → IsValidated g l rest fixes → DestinationsHaveOneSource rest
-one_source g l rest fixes valid m n d has_m has_n m_to n_to = free_one_source g l valid.free m n d (was m has_m) (was n has_n) m_to n_to
-  where
-    was : (m : Mapped) → Contains rest m → Contains l m
-    was m (k, below, is) = subst (Contains l) is (All-from_recursion (Contains l) rest (stays_each (λ j x. Survives x) (Contains l) 0 l rest (recursion_from_All (Contains l) l (All-contains_itself l)) valid.survive) k m below)
+one_source g l rest fixes valid = one_source_still (λ j x. Survives x) l rest (free_one_source g l valid.free) valid.survive
 
 pub distinct_destinations_after : (g : List Reading) (l rest : List Mapped) (fixes : List Removed) → IsValidated g l rest fixes → AreApart l → HaveDistinctDestinations rest
 distinct_destinations_after g l rest fixes valid apart = distinct_destinations rest (one_source g l rest fixes valid) (apart_still (λ k m. Survives m) 0 l rest apart valid.survive)
