@@ -78,10 +78,7 @@ included : (g : List Reading) (l list : List Mapped) → IsKept g l list → All
 included g l list is = each_made (Keeps g l) (λ m. ¬ (IsSourceExcluded g m.source)) l list (λ k x y stands keeps. subst (λ (z : Mapped). ¬ (IsSourceExcluded g z.source)) (sym keeps.0) keeps.1.included) is
 
 pub nothing_excluded : (g : List Reading) (items : List Ref) → NothingExcluded g items
-nothing_excluded g items = record {
-  names = λ list either. by_cases either (λ are. included g are.all list are.is) (λ are. included g are.all list are.is);
-  ids = λ bytes excluded. excluded;
-}
+nothing_excluded g items = grind (arith, included)
 
 kept_first : (g : List Reading) (l : List Mapped) (k : ℕ) (x y : Mapped) → slice_get l k ≡ Some x → Keeps g l k x y → IsFirstOfPair g l y
 kept_first g l k x y stands (same, keeps) = subst (IsFirstOfPair g l) (sym same) (record {

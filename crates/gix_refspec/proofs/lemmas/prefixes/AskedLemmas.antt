@@ -28,8 +28,7 @@ pub side_serves : (x : List ℕ) (list : List (List ℕ)) (r : Ref) (word : Opti
 side_serves x list r word no_object matches lists = kind_serves x matches.kind list r word matches.of no_object matches.is (list_as x matches.kind list matches.of lists)
 
 lists_side : (r : Reading) (x : List ℕ) (list : List (List ℕ)) → IsAsked r x → Lists r list → ListsSide x list
-lists_side r x list asked (inl (negative, empty)) = absurd (subst IsPositive negative asked.positive)
-lists_side r x list asked (inr (y, also, told)) = subst (λ (z : List ℕ). ListsSide z list) (one_asked r y x also asked) told
+lists_side r x list asked lists = grind (arith, one_asked)
 
 -- an item that a fetch of the group takes begins with an entry of the list of the group
 taken_begins : (g : List Reading) (list : List (List ℕ)) (A : List Ref) (item : Ref) → ListsGroup g list → AreFetches g → AnyAt (TakesItem AreForwardEnds (Takes A) item) g → AnyAt (λ p. BeginsWith p item.name) list

@@ -16,8 +16,7 @@ fine_bytes [] none = tt
 fine_bytes (b ∷ w) none = let parts = or_parts (is_special_byte b) (list_any is_special_byte w) none in (inr parts.0, fine_bytes w parts.1)
 
 none_special : (w : List ℕ) → is_plain_component w ≡ true → AllByRecursion Fine w
-none_special [] plain = absurd (false≢true plain)
-none_special (b ∷ w) plain = fine_bytes (b ∷ w) (not-true (list_any is_special_byte (b ∷ w)) plain)
+none_special w plain = grind (arith, false≢true, fine_bytes, is_special_byte, not-true)
 
 -- no byte of plain components joined by slashes is special, except for the slashes
 joined_fine : (parts : List (List ℕ)) → list_all is_plain_component parts ≡ true → AllByRecursion Fine (join_with_byte slash parts)
@@ -28,8 +27,7 @@ joined_fine (w ∷ v ∷ parts) plain =
     all_join Fine w (slash ∷ join_with_byte slash (v ∷ parts)) (none_special w each.0) (inl refl, joined_fine (v ∷ parts) each.1)
 
 not_there : (b : ℕ) (before after x : List ℕ) → b ≢ slash → is_special_byte b ≡ true → AllByRecursion Fine x → x ≡ before ++ (b ∷ after) → ⊥
-not_there b before after x other special fine here = by_cases (AllByRecursion-parts Fine before b after (subst (AllByRecursion Fine) here fine)) (λ same. other same)
-    (λ none. true≢false (sym special ∙ none))
+not_there b before after x other special fine here = grind (arith, AllByRecursion-parts, true≢false)
 
 no_dot : (before after x : List ℕ) → AllByRecursion Fine x → ¬ (x ≡ before ++ (dot ∷ after))
 no_dot before after x fine here = not_there dot before after x (λ e. omega (arith, e)) refl fine here

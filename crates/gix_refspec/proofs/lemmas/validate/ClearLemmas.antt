@@ -108,9 +108,7 @@ control_refused : (b : ℕ) → b < 32 → IsTrue (is_refused_byte b)
 control_refused b below = ap (λ t. t || b == 127 || list_any (λ c. b == c) (codes " ~^:?[\\")) (lt-ltb b 32 below)
 
 control_no_digit : (b : ℕ) → b < 32 → is_lower_digit b ≡ false
-control_no_digit b below =
-    ap (λ t. t && nat_le b 57 || nat_le 97 b && nat_le b 102) (lt-leb 48 b (omega (arith, below)))
-    ∙ ap (λ t. t && nat_le b 102) (lt-leb 97 b (omega (arith, below)))
+control_no_digit b below = search (rules, is_lower_digit, lt-leb)
 
 pub no_control_character : NoControlCharacter
 no_control_character = search (rules, sides_lack, printed_lacks, kept_lacks, control_refused, control_no_digit)

@@ -17,10 +17,7 @@ pub copied_destination : (d e : Option NameRef) → IsDestinationCopy d e → op
 copied_destination d e copy = grind (arith, copied_name)
 
 pub copied_mapping : (m copy : Mapping) → IsMappingCopy m copy → mapped_of copy ≡ mapped_of m
-copied_mapping m copy is =
-    let source = copied_source m.lhs copy.lhs is.source in
-    let destination = copied_destination m.rhs copy.rhs is.destination in
-    λ i. record { item = is.item i; source = source i; destination = destination i; spec = is.spec i }
+copied_mapping m copy is = grind (arith, copied_destination, copied_source)
 
 pub name_of_ref : (n : List ℕ) → IsRefName n → IsName n
 name_of_ref n ref = by_cases ref (λ full. full.1) (λ is. subst IsName (sym is) IsName-head)
@@ -30,10 +27,7 @@ each_between : {X : Type 0} (P : X → Type 0) (xs : List X) → ((before : List
 each_between P xs of = recursion_from_All P xs (λ k d below. of (take k xs) (get_or xs k d) (drop (k + 1) xs) (sym (take-append-drop k xs) ∙ ap (λ z. take k xs ++ z) (drop_more xs k d below)))
 
 plain_byte : (b : ℕ) → ¬ (IsTrue (is_refused_byte b)) → (32 ≤ b) × (b ≢ 127)
-plain_byte b fine = (
-  by_cases (cases_lt b 32) (λ less. absurd (fine (ap (λ t. t || b == 127 || list_any (λ c. b == c) (codes " ~^:?[\\")) (lt-ltb b 32 less)))) (λ fits. fits),
-  λ delete. fine (subst (λ c. IsTrue (is_refused_byte c)) (sym delete) refl),
-)
+plain_byte b fine = grind (arith, cases_lt, is_refused_byte, lt-ltb)
 
 pub stays_among_refs : (n : List ℕ) → IsRefName n → StaysAmongRefs n
 stays_among_refs n ref =
