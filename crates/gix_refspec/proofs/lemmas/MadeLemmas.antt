@@ -1,6 +1,6 @@
 -- What holds of each element that is made of the elements of a list, or joined of them.
 use Rattle.gix_refspec.proofs.Common.{Any as AnyAt, all_join, ◌≡◌, [], ◌∷◌, suc, refl, sym, subst, arith, map, ◌+◌, slice_get, AllByRecursion, slice_get_within, get_or_from_slice_get}
-use Rattle.gix_refspec.proofs.Common.{All-from_recursion, IsMadeFrom, IsJoinedFrom, ℕ, List, None, Some, Contains, AnyOf as Any, some_at, some_of}
+use Rattle.gix_refspec.proofs.Common.{◌<◌, ◌↔◌, IsTrue, false, false≢true, length, get_or, each_mapped, All-from_recursion, IsMadeFrom, IsJoinedFrom, ℕ, List, None, Some, Contains, AnyOf as Any, some_at, some_of}
 
 -- an element of a list, by index and by recursion
 pub there : {X : Type 0} (ys : List X) (m : X) → Contains ys m → Any (λ y. y ≡ m) ys
@@ -46,3 +46,7 @@ each_made R P xs ys each = made_standing R P 0 xs ys (λ j x y at made. each j x
 
 pub each_joined : {X Y : Type 0} (R : ℕ → X → List Y → Type 0) (P : Y → Type 0) (xs : List X) (ys : List Y) → ((k : ℕ) (x : X) (made : List Y) → slice_get xs k ≡ Some x → R k x made → AllByRecursion P made) → IsJoinedFrom R 0 xs ys → AllByRecursion P ys
 each_joined R P xs ys each = joined_standing R P 0 xs ys (λ j x made at makes. each j x made at (subst (λ n. R n x made) (omega arith) makes))
+
+-- if P doesn't hold of what one element is mapped to, it doesn't hold of each
+pub none_of_all : {A B : Type 0} (f : A → B) (P : B → Type 0) (xs : List A) (k : ℕ) (x : A) → k < length xs → x ≡ get_or xs k x → ¬ (P (f x)) → IsTrue false ↔ AllByRecursion P (map f xs)
+none_of_all f P xs k x below is none = ((λ no. absurd (false≢true no)), λ all. absurd (none (each_mapped f P xs k x all below is)))

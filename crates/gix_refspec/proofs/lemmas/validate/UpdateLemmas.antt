@@ -91,9 +91,7 @@ updates_sorted l flags p cs new past made moved sorted = record {
 }
 
 one_index : (l : List Mapped) (k : ℕ) (d e : List ℕ) → GoesTo l k d → GoesTo l k e → d ≡ e
-one_index l k d e (m, is_m, to_d) (n, is_n, to_e) =
-    let one : m ≡ n = same_Some m n (sym is_m ∙ is_n) in
-    same_Some d e (sym to_d ∙ ap (λ (x : Mapped). x.destination) one ∙ to_e)
+one_index l k d e to_d to_e = search (rules, same_Some)
 
 pub updates_more : (l : List Mapped) (flags : List Bool) (cs new : List Update) (c : Update) → new ≡ cs ++ c ∷ [] → GoesTo l c.index c.destination.now → ¬ (IsFlagged flags c.index) → AreUpdatesUpto l flags c.index cs → AreUpdatesUpto l flags (c.index + 1) new
 updates_more l flags cs new c is goes unflagged made =
@@ -160,10 +158,7 @@ pub mapped_at : (ms : List Mapping) (k : ℕ) (m : Mapping) → k < length ms �
 mapped_at ms k m below is = slice_get-map mapped_of ms k ∙ ap (option_map mapped_of) (slice_get_read ms (length ms) k m refl below is)
 
 pub goes_nowhere : (ms : List Mapping) (k : ℕ) (m : Mapping) (d : List ℕ) → k < length ms → m ≡ get_or ms k m → m.rhs ≡ None → GoesTo (map mapped_of ms) k d → ⊥
-goes_nowhere ms k m d below is none (n, is_n, to) =
-    let one = same_Some _ _ (sym (mapped_at ms k m below is) ∙ is_n) in
-    let gone : None ≡ Some d = rw none at (ap (λ (x : Mapped). x.destination) one ∙ to) in
-    absurd (cc)
+goes_nowhere ms k m d below is none goes = search (rules, mapped_at, same_Some)
 
 pub goes_to_name : (ms : List Mapping) (k : ℕ) (m : Mapping) (n : NameRef) → k < length ms → m ≡ get_or ms k m → m.rhs ≡ Some n → GoesTo (map mapped_of ms) k (name_bytes n)
 goes_to_name ms k m n below is to = (mapped_of m, mapped_at ms k m below is, ap (option_map name_bytes) to)
