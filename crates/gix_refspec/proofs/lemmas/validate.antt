@@ -4,6 +4,5 @@ pub mod ConflictLemmas
 pub mod DifferLemmas
 pub mod OneValidationLemmas
 pub mod AfterLemmas
-pub mod MadeAtLemmas
 pub mod ClearLemmas
 pub mod RefNameLemmas

@@ -1,2 +1,2 @@
 pub returns : Rattle.gix_refspec.proofs.laws.item_indexes_fit.Goals.returns
-returns c = Rattle.gix_refspec.proofs.lemmas.validate.MadeAtLemmas.item_indexes_fit _ _
+returns c = Rattle.gix_refspec.proofs.lemmas.MadeLemmas.item_indexes_fit _ _

@@ -1,2 +1,2 @@
 pub returns : Rattle.gix_refspec.proofs.laws.plain_names.Goals.returns
-returns c = Rattle.gix_refspec.proofs.lemmas.specs.PlainNameLemmas.plain_names
+returns c = Rattle.gix_refspec.proofs.lemmas.specs.SideLawLemmas.plain_names

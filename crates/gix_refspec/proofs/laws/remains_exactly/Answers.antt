@@ -1,2 +1,2 @@
 pub returns : Rattle.gix_refspec.proofs.laws.remains_exactly.Goals.returns
-returns c = Rattle.gix_refspec.proofs.lemmas.validate.MadeAtLemmas.remains_exactly _ _
+returns c = Rattle.gix_refspec.proofs.lemmas.MadeLemmas.remains_exactly _ _

@@ -1,16 +1,11 @@
 -- The two directions agree for readings that go both ways, and a test of the sides decides whether one does.
 use Rattle.gix_refspec.proofs.Common.{Any as AnyAt, ◌≡◌, ◌⊎◌, inl, inr, ℕ, List, [], ◌∷◌, ◌++◌, codes, Option, None, Some, map, refl, ap, ◌∙◌, subst, AllByRecursion, RefSpecRef, Lacks, BeginsWith}
 use Rattle.gix_refspec.proofs.Common.{star, HasStar, HasSeveralStars, HasOneStar, Reading, IsAccepted, IsPositive, IsOneStarred, reading_of, SideKind, pattern, full_name, object, partial, HasKind}
-use Rattle.gix_refspec.proofs.Common.{filled, Ref, MatchesAs, Matches, HasName, Takes, name, AreForwardEnds, AreBackwardEnds, IsFilled, IsSourceAmong, IsDestinationAmong, GoesBothWays, Transpose}
-use Rattle.gix_refspec.proofs.Common.{true, Bool, IsTrue, ◌↔◌, Source, MakesForward, MakesBackward, PairsItem, id, IsPaired, by_cases, one_kind, matches_as, same_side, Any-all, Any-both, some_at}
-use Rattle.gix_refspec.proofs.Common.{some_of, Lacks-ContainsText, accepted_few, accepted_balanced}
-use Rattle.gix_refspec_text.proofs.lemmas.parsing.DecideLemmas.{lacks_or_first}
-use Rattle.gix_refspec.proofs.lemmas.keep.FilterLemmas.{item_named, name_there}
+use Rattle.gix_refspec.proofs.Common.{filled, Ref, Matches, HasName, Takes, name, AreForwardEnds, AreBackwardEnds, IsFilled, IsSourceAmong, IsDestinationAmong, GoesBothWays, Transpose, true, Bool}
+use Rattle.gix_refspec.proofs.Common.{IsTrue, ◌↔◌, Source, MakesForward, MakesBackward, PairsItem, id, IsPaired, by_cases, one_kind, matches_as, same_side, Any-all, Any-both, some_at, some_of}
+use Rattle.gix_refspec.proofs.{Common.{Lacks-ContainsText, accepted_few, accepted_balanced, rules, arith, Ends}, lemmas.{MadeLemmas.{side_there}, keep.FilterLemmas.{item_named, name_there}}}
 use Rattle.gix_refspec.proofs.lemmas.keep.PairMadeLemmas.{kept_exactly}
-use Rattle.gix_refspec.proofs.lemmas.validate.MadeAtLemmas.{side_there}
-use Rattle.gix_refspec.proofs.Common.{rules}
-use Rattle.gix_refspec.proofs.Common.{arith}
-use Rattle.gix_refspec.proofs.Common.{Ends}
+use Rattle.gix_refspec_text.proofs.lemmas.parsing.DecideLemmas.{lacks_or_first}
 
 -- two sides that map alike in both directions: two patterns, or two full names
 abbrev AreTwins : List ℕ → List ℕ → Type 0

@@ -2,14 +2,12 @@
 use Rattle.gix_refspec.proofs.Common.{Any as AnyAt, ◌≡◌, inl, ◌↔◌, ℕ, ◌+◌, List, [], ◌∷◌, ◌++◌, Option, None, Some, map, unwrap_or, refl, sym, ap, ◌∙◌, subst, AllByRecursion, First, All, Reading, Ref}
 use Rattle.gix_refspec.proofs.Common.{Matches, Takes, IsMadeFrom, Source, name, id, Mapped, HasPair, IsSourceExcluded, IsKeptAt, Hit, IsIdMapping, AreForward, AreBackward, forward_of, backward_of}
 use Rattle.gix_refspec.proofs.Common.{IsPaired, MakesForward, MakesBackward, KeptExactly, NothingExcluded, option_to_list, length, take, arith, Contains, IsKept, IsFirstOfPair, FirstStays, drop}
-use Rattle.gix_refspec.proofs.Common.{slice_get, slice_get_within, get_or_from_slice_get, take-append-drop, drop_more, All-from_recursion, All-contains, MakesForwardOf, MakesBackwardOf, by_cases}
-use Rattle.gix_refspec.proofs.Common.{id_once, forward_once, backward_once, AnyOf as Any, Any-all, Any-left, Any-right, Any-map, Any-weaker, Any-fact, any_made, some_at, some_of, AtSpec, all_weaker}
-use Rattle.gix_refspec.proofs.lemmas.{MadeLemmas.{any_at, back, each_made}, validate.MadeAtLemmas.{BackwardAt, ForwardAt, backward_all, forward_all}}
+use Rattle.gix_refspec.proofs.Common.{slice_get, slice_get_within, get_or_from_slice_get, take-append-drop, drop_more, All-from_recursion, All-contains, MakesForwardOf, MakesBackwardOf, id_once}
+use Rattle.gix_refspec.proofs.Common.{forward_once, backward_once, AnyOf as Any, Any-all, Any-left, Any-right, Any-map, Any-weaker, Any-fact, any_made, some_at, some_of, AtSpec, all_weaker, AreHits}
+use Rattle.gix_refspec.proofs.{Common.{PairsItem}, lemmas.MadeLemmas.{any_at, back, each_made, BackwardAt, ForwardAt, backward_all, forward_all}}
 use Rattle.gix_refspec_match.proofs.lemmas.{hits.ReachLemmas.{reach_hits}, keep.KeptPairLemmas.{IsOfPair, Any-HasPair, HasPair-Any, kept_pairs, Keeps}}
 use Rattle.gix_refspec_match.specs.{Private.Matchers.{HasEnds, TakesIn}, declared.matcher.Candidates.{Candidates}}
 use Rattle.std.proofs.Math.Seq.{take-append_seam}
-use Rattle.gix_refspec.proofs.Common.{AreHits}
-use Rattle.gix_refspec.proofs.Common.{PairsItem}
 
 makes_forward : (items : List Ref) (item : Option ℕ) (s : Source) (d : Option (List ℕ)) (r : Reading) → MakesForwardOf items item s d r → MakesForward items s d r
 makes_forward items item (name n) d r at = record { ends = at.ends; has = at.has; one = any_at (IsPaired (Takes items) at.ends n d) items at.index at.ref at.stands at.paired }

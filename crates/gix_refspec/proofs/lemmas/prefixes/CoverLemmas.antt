@@ -3,9 +3,8 @@ use Rattle.gix_refspec.proofs.Common.{all_weaker, ◌≡◌, ◌≢◌, inl, inr
 use Rattle.gix_refspec.proofs.Common.{star, head, Reading, side_on_remote, SideKind, pattern, full_name, object, partial, HasKind, IsId, candidates, Ref, Matches, Takes, of_head, IsAsked, Expands}
 use Rattle.gix_refspec.proofs.Common.{to_prefix, IsExpansion, IsJoinedFrom, name, Ends, AreForwardEnds, IsCovering, by_prefix, by_candidates, BeginsWithOne, IsCoveredBy, AsksFor, AtSpec, Cover}
 use Rattle.gix_refspec.proofs.Common.{CoverTogether, Any-right, Any-weaker, any_joined, some_at as at_place, some_of, lacks_no_pattern, prefix_begins, has_candidates, one_asked, HasCoveringSource}
-use Rattle.gix_refspec.proofs.{Common.{MakesForwardOf, TakesAt, by_cases}, lemmas.{MadeLemmas.{any_at}, validate.MadeAtLemmas.{ForwardAt, made_at_indexes}}}
+use Rattle.gix_refspec.proofs.{Common.{MakesForwardOf, TakesAt, by_cases, Source}, lemmas.MadeLemmas.{any_at, ForwardAt, made_at_indexes}}
 use Rattle.gix_refspec_text.proofs.lemmas.prefixes.OnePrefixLemmas.{one_prefix}
-use Rattle.gix_refspec.proofs.Common.{Source}
 
 pub below_not_head : (x : List ℕ) → BeginsWith (codes "refs/") x → x ≢ head
 below_not_head x below is = let first : 114 ≡ 72 = ap (λ (y : List ℕ). get_or y 0 0) (sym below.here ∙ is) in omega (arith, first)

@@ -2,11 +2,11 @@
 use Rattle.gix_refspec.proofs.Common.{all_weaker, ◌≡◌, ℕ, suc, ◌+◌, ◌<◌, List, [], ◌∷◌, None, Some, length, get_or, refl, sym, ◌∙◌, subst, arith, AllByRecursion, Contains, All-contains_itself}
 use Rattle.gix_refspec.proofs.Common.{All-from_recursion, Contains-get_or, recursion_from_All, Reading, IsMadeFrom, Ref, Mapped, IsSamePair, AreApart, AreConflicts, ForwardFits}
 use Rattle.gix_refspec.proofs.Common.{DestinationsHaveOneSource, IsValidated, ShareDestination, HaveDistinctDestinations, Removed, Survives, ValidatedOnce, ForwardIndexes, Option, ap, name}
-use Rattle.gix_refspec.proofs.Common.{HaveOneSource, HaveSourcesByIndex, PlansApart, ◌≢◌, slice_get, same_Some, IsIdText, Source, IsFix, MakesForwardOf, AreFixesApart, id, ◌↔◌, ◌++◌, option_map, Bool}
-use Rattle.gix_refspec.proofs.Common.{true, false, map, take, items_where_true, false≢true, append-nil, slice_get-map, slice_get_read, Mapping, NameRef, Fix, Issue, RefSpecRef, reading_of, mapped_of}
+use Rattle.gix_refspec.proofs.Common.{HaveOneSource, HaveSourcesByIndex, PlansApart, ◌≢◌, slice_get, same_Some, IsIdText, Source, IsFix, MakesForwardOf, AreFixesApart, id, ◌↔◌, ◌++◌, Bool, true}
+use Rattle.gix_refspec.proofs.Common.{false, map, take, items_where_true, false≢true, append-nil, slice_get-map, slice_get_read, Mapping, NameRef, Fix, Issue, RefSpecRef, reading_of, mapped_of}
 use Rattle.gix_refspec.proofs.Common.{name_bytes, conflict_of, removed_of, AreFixes, AreSurvivors, IsWritable, length-append, made_more, map-append, one_more_mapped, kept_once, IsIdText-unique}
-use Rattle.gix_refspec.proofs.{Common.{All-contains, AreKeptForward, by_cases}, lemmas.{MadeLemmas.{stays_each, made_all}}}
-use Rattle.gix_refspec.proofs.lemmas.validate.{FirstLemmas.{start_cases}, MadeAtLemmas.{item_indexes_fit, ForwardAt, made_at_indexes}}
+use Rattle.gix_refspec.proofs.{Common.{All-contains, AreKeptForward, by_cases}, lemmas.MadeLemmas.{stays_each, made_all, item_indexes_fit, ForwardAt, made_at_indexes}}
+use Rattle.gix_refspec.proofs.lemmas.validate.FirstLemmas.{start_cases}
 use Rattle.std.specs.List.Retain.{ReturnsInTurn, IsFiltered}
 
 pub forward_fits : (g : List Reading) (items : List Ref) → ForwardFits g items
@@ -75,9 +75,7 @@ one_start items item r (id i) (id j) d e (none, made) (no_item, also) =
     ap id (IsIdText-unique also.text i j (subst (λ (t : List ℕ). IsIdText t i) text made.object.2) also.object.2)
 
 one_source_by_index : (g : List Reading) (items : List Ref) (m n : Mapped) → ForwardAt g items m → ForwardAt g items n → HaveOneSource m n
-one_source_by_index g items m n (r, here, made) (q, there, also) spec item =
-    let same : r ≡ q = same_Some r q (sym here ∙ ap (slice_get g) spec ∙ there) in
-    one_start items n.item q m.source n.source m.destination n.destination (subst (λ (x : Reading). MakesForwardOf items n.item m.source m.destination x) same (subst (λ (i : Option ℕ). MakesForwardOf items i m.source m.destination r) item made)) also
+one_source_by_index g items m n one other = grind (arith, one_start, same_Some)
 
 sources_by_index : (g : List Reading) (items : List Ref) (l : List Mapped) → AllByRecursion (ForwardAt g items) l → HaveSourcesByIndex l
 sources_by_index g items [] made = tt
@@ -116,17 +114,10 @@ kept_whole P k [] all = refl
 kept_whole P k (m ∷ l) all = (Some m, l, (refl, all.0), kept_whole P (k + 1) l all.1, refl)
 
 pub no_fix_written : (g : List Reading) (m : Mapping) (n : NameRef) → m.rhs ≡ Some n → IsWritable (name_bytes n) → (fix : Removed) → ¬ (IsFix g (mapped_of m) fix)
-no_fix_written g m n to writable fix is =
-    let both : Some (name_bytes n) ≡ Some fix.destination = sym (ap (option_map name_bytes) to) ∙ is.goes in
-    let same : name_bytes n ≡ fix.destination = cc in
-    is.unwritable (subst IsWritable same writable)
+no_fix_written g m n to writable fix is = grind arith
 
 pub fix_of : (specs : List RefSpecRef) (m : Mapping) (n : NameRef) (spec : RefSpecRef) (fix : Removed) → m.rhs ≡ Some n → ¬ (IsWritable (name_bytes n)) → m.spec_index < length specs → spec ≡ get_or specs m.spec_index spec → fix.destination ≡ name_bytes n → fix.spec ≡ reading_of spec → IsFix (map reading_of specs) (mapped_of m) fix
-fix_of specs m n spec fix to unwritable below is destination reads = record {
-  goes = ap (option_map name_bytes) to ∙ ap Some (sym destination);
-  unwritable = λ writable. unwritable (subst IsWritable destination writable);
-  spec = slice_get-map reading_of specs m.spec_index ∙ ap (option_map reading_of) (slice_get_read specs (length specs) m.spec_index spec refl below is) ∙ ap Some (sym reads);
-}
+fix_of specs m n spec fix to unwritable below is destination reads = grind (arith, slice_get-map, slice_get_read)
 
 -- a filter by a test that decides P keeps the mappings of which P holds
 module _ {F : Type 0} (P : Mapped → Type 0) (R : F → Mapping → Bool → F → Type 0) (tells : (p : F) (m : Mapping) (b : Bool) (q : F) → R p m b q → (b ≡ true) ↔ P (mapped_of m)) where
