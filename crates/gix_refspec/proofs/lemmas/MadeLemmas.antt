@@ -146,7 +146,4 @@ exactly S xs ys made m = (
 )
 
 pub remains_exactly : (g : List Reading) (l : List Mapped) → RemainsExactly g l
-remains_exactly g l = record {
-  validated = λ rest fixes valid. exactly Survives l rest valid.survive;
-  named = λ rest out keeps. exactly HasRefNames l rest keeps.named;
-}
+remains_exactly g l = record { validated = λ rest fixes valid. exactly Survives l rest valid.survive; named = λ rest out keeps. exactly HasRefNames l rest keeps.named }

@@ -1,7 +1,6 @@
 pub mod UpdateLemmas
 pub mod FirstLemmas
 pub mod ConflictLemmas
-pub mod DifferLemmas
 pub mod OneValidationLemmas
 pub mod AfterLemmas
 pub mod ClearLemmas

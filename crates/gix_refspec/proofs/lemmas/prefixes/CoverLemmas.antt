@@ -16,11 +16,7 @@ matched_no_id x (object bytes) lacks outside none kind = absurd (none bytes kind
 matched_no_id x (partial n) lacks outside none kind = kind.3
 
 pub side_covers : (x : List ℕ) (r : Ref) (word : Option (List ℕ)) → IsCovering x → ((bytes : List ℕ) → ¬ (HasKind x (object bytes))) → Matches x r word → (entries : List (List ℕ)) × Expands x entries × BeginsWithOne entries r.name
-side_covers x r word (by_prefix p below is) no_object matches = (
-  p ∷ [],
-  to_prefix p is refl,
-  (0, p, omega arith, refl, prefix_begins x p r word is (below_not_head x below) matches),
-)
+side_covers x r word (by_prefix p below is) no_object matches = (p ∷ [], to_prefix p is refl, (0, p, omega arith, refl, prefix_begins x p r word is (below_not_head x below) matches))
 side_covers x r word (by_candidates lacks other outside) no_object matches =
     let has = has_candidates x lacks other outside (matched_no_id x matches.kind lacks outside no_object matches.of) in
     let one = (has.matches r).0 (word, matches) in

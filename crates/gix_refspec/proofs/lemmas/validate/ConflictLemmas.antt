@@ -9,6 +9,8 @@ use Rattle.gix_refspec.proofs.lemmas.MadeLemmas.{map_each}
 use Rattle.gix_refspec.proofs.lemmas.validate.UpdateLemmas.{HasUpdate-cases, HasUpdate-left, HasUpdate-right, later, mapped_at, past_end, strict_left, strict_right, update_at}
 use Rattle.gix_refspec.proofs.lemmas.validate.FirstLemmas.{Has, Increase, IsOfIndex, contested_from_firsts, made_at_indexes, one_mapping, two_firsts}
 use Rattle.std.proofs.lemmas.Slice.Zip.{all_zipped_more}
+use Rattle.gix_refspec.proofs.lemmas.validate.UpdateLemmas.{update_within}
+use Rattle.gix_refspec.proofs.Common.{All-contains}
 
 -- the mappings at the indexes have these sources, and their specs these texts
 pub record AreTold (g : List Reading) (l : List Mapped) (ns : List ℕ) (sources : List Source) (texts : List (List ℕ)) : Type 0 where
@@ -20,6 +22,9 @@ pub indexes_to_one : (x : List ℕ) (cs : List Update) (k : ℕ) → AllByRecurs
 indexes_to_one x [] k same = ((λ none. none), (λ none. none))
 indexes_to_one x (c ∷ cs) k same = let rest = indexes_to_one x cs k same.1 in ((λ has. grind (arith, rest, same)), λ has. grind (arith, rest))
 
+later_index : (x : List ℕ) (c y : Update) → c.destination.now ≡ x → y.destination.now ≡ x → update_cmp c y ≡ Less → c.index < y.index
+later_index x c y to also less = grind (arith, later, not_below_itself)
+
 -- and if the updates are sorted, the indexes are strictly increasing
 pub indexes_rise : (x : List ℕ) (cs : List Update) → AllByRecursion (λ c. c.destination.now ≡ x) cs → IsStrictlySortedBy update_cmp cs → Increase (updated_indexes cs)
 unfolding IsStrictlySortedBy
@@ -28,11 +33,7 @@ indexes_rise x (c ∷ cs) same strict = (each cs same.1 strict.0, indexes_rise x
   where
     each : (ys : List Update) → AllByRecursion (λ y. y.destination.now ≡ x) ys → AllByRecursion (λ y. update_cmp c y ≡ Less) ys → AllByRecursion (λ n. c.index < n) (updated_indexes ys)
     each [] same2 less = tt
-    each (y ∷ ys) same2 less = (
-      by_cases (later c y less.0)
-          (λ below. absurd (not_below_itself x (subst (λ (d : List ℕ). slice_cmp nat_cmp d x ≡ Less) same.0 (subst (λ (d : List ℕ). slice_cmp nat_cmp c.destination.now d ≡ Less) same2.0 below)))) (λ tied. tied.1),
-      each ys same2.1 less.1,
-    )
+    each (y ∷ ys) same2 less = (later_index x c y same.0 same2.0 less.0, each ys same2.1 less.1)
 
 pub conflicting_fits : (ms : List Mapping) (run : List Update) (i : ℕ) (d : Update) → AreConflicting (map mapped_of ms) run → i < length run → (get_or run i d).index < length ms
 conflicting_fits ms run i d conflicting below =
@@ -43,32 +44,24 @@ conflicting_fits ms run i d conflicting below =
 
 -- the sources and texts of the updates of all sources of a destination are its conflict
 pub conflict_from_conflicting : (g : List Reading) (l : List Mapped) (run : List Update) (d : List ℕ) (sources : List Source) (texts : List (List ℕ)) → (conflicting : AreConflicting l run) → AreTold g l (updated_indexes run) sources texts → d ≡ conflicting.destination → IsConflictOf g l run (record { destination = d; sources = sources; texts = texts })
-conflict_from_conflicting g l run d sources texts conflicting told to = rw to (record {
-  is = record {
-    contested = two run conflicting.several rises (λ k has. (conflicting.are k).0 ((indexes_to_one x run k conflicting.same).0 has));
-    sources = made (λ m source. source ≡ m.source) sources told.sources_are;
-    texts = made (λ m text. IsTextAt g m.spec text) texts told.texts_are;
-  };
-  same = conflicting.same;
-})
+conflict_from_conflicting g l run d sources texts conflicting told to =
+    let is : IsConflict g l (record { destination = conflicting.destination; sources = sources; texts = texts }) = record { contested = two run conflicting.several rises (λ k has. (at k).0 has); sources = made (λ m source. source ≡ m.source) sources told.sources_are; texts = made (λ m text. IsTextAt g m.spec text) texts told.texts_are } in
+    rw to (record { is = is; same = conflicting.same })
   where
-    x : List ℕ
-    x = conflicting.destination
-
     rises : Increase (updated_indexes run)
-    rises = indexes_rise x run conflicting.same conflicting.order
+    rises = indexes_rise conflicting.destination run conflicting.same conflicting.order
 
-    has : (j : ℕ) (m : Mapped) → 0 ≤ j → slice_get l j ≡ Some m → Has (updated_indexes run) j ↔ IsFirstTo x l j m
-    has j m low is = (
-      (λ there. let first = (conflicting.are j).0 ((indexes_to_one x run j conflicting.same).0 there) in subst (λ (n : Mapped). IsFirstTo x l j n) (one_mapping l j first.0 m first.1 is) first.2),
-      (λ first. (indexes_to_one x run j conflicting.same).1 ((conflicting.are j).1 (m, is, first))),
-    )
+    at : (k : ℕ) → Has (updated_indexes run) k ↔ IsFirstAt l k conflicting.destination
+    at k = let one = indexes_to_one conflicting.destination run k conflicting.same in let are = conflicting.are k in ((λ has. are.0 (one.0 has)), λ first. one.1 (are.1 first))
 
-    made : {Y : Type 0} (Q : Mapped → Y → Type 0) (ys : List Y) → AllZip (IsOfIndex Q l) (updated_indexes run) ys → IsMadeFrom (λ k m y. IsFirstTo x l k m × Q m y) 0 l ys
-    made Q ys = made_at_indexes (λ k m. IsFirstTo x l k m) Q l 0 l (updated_indexes run) ys (λ j. let same : j ≡ 0 + j = omega arith in ap (slice_get l) same) has rises (recursion_from_All (λ n. 0 ≤ n) (updated_indexes run) (λ k d below. omega arith))
+    made : {Y : Type 0} (Q : Mapped → Y → Type 0) (ys : List Y) → AllZip (IsOfIndex Q l) (updated_indexes run) ys → IsMadeFrom (λ k m y. IsFirstTo conflicting.destination l k m × Q m y) 0 l ys
+    made Q ys = made_at_indexes (λ k m. IsFirstTo conflicting.destination l k m) Q l 0 l (updated_indexes run) ys (λ j. let same : j ≡ 0 + j = omega arith in ap (slice_get l) same) (λ j m low is. (
+      (λ there. let first = (at j).0 there in subst (λ (n : Mapped). IsFirstTo conflicting.destination l j n) (one_mapping l j first.0 m first.1 is) first.2),
+      (λ first. (at j).1 (m, is, first)),
+    )) rises (recursion_from_All (λ n. 0 ≤ n) (updated_indexes run) (λ k d below. omega arith))
 
-    two : (cs : List Update) → 1 < length cs → Increase (updated_indexes cs) → ((k : ℕ) → Has (updated_indexes cs) k → IsFirstAt l k x) → HasConflictAt l x
-    two (c ∷ y ∷ cs) several up first = contested_from_firsts l x c.index y.index up.0.0 (first c.index (inl refl)) (first y.index (inr (inl refl)))
+    two : (cs : List Update) → 1 < length cs → Increase (updated_indexes cs) → ((k : ℕ) → Has (updated_indexes cs) k → IsFirstAt l k conflicting.destination) → HasConflictAt l conflicting.destination
+    two (c ∷ y ∷ cs) several up first = contested_from_firsts l conflicting.destination c.index y.index up.0.0 (first c.index (inl refl)) (first y.index (inr (inl refl)))
     two cs several up first = absurd (omega arith)
 
 pub copied_name : (n m : NameRef) → IsNameCopy n m → name_bytes m ≡ name_bytes n
@@ -126,12 +119,10 @@ all_reported g l [] cs empty settled =
 all_reported g l (c ∷ rest) cs empty settled = absurd (omega arith)
 
 not_beyond : (x : List ℕ) (cs : List Update) (k : ℕ) → AllByRecursion (λ c. slice_cmp nat_cmp x c.destination.now ≡ Less) cs → HasUpdate cs k x → ⊥
-not_beyond x [] k beyond has = has
-not_beyond x (c ∷ cs) k beyond has = by_cases has (λ is. not_below_itself x (subst (λ (d : List ℕ). slice_cmp nat_cmp x d ≡ Less) is.1 beyond.0)) (not_beyond x cs k beyond.1)
+not_beyond x cs k beyond has = let (c, there, index, to) = update_within cs k x has in not_below_itself x (subst (λ (d : List ℕ). slice_cmp nat_cmp x d ≡ Less) to (All-contains (λ (u : Update). slice_cmp nat_cmp x u.destination.now ≡ Less) cs c (All-from_recursion _ cs beyond) there))
 
 to_same : (x : List ℕ) (cs : List Update) (k : ℕ) (d : List ℕ) → AllByRecursion (λ c. c.destination.now ≡ x) cs → HasUpdate cs k d → d ≡ x
-to_same x [] k d same has = absurd has
-to_same x (c ∷ cs) k d same has = by_cases has (λ is. sym is.1 ∙ same.0) (to_same x cs k d same.1)
+to_same x cs k d same has = let (c, there, index, to) = update_within cs k d has in sym to ∙ All-contains (λ (u : Update). u.destination.now ≡ x) cs c (All-from_recursion _ cs same) there
 
 one_update_only : (x : List ℕ) (run : List Update) (j k : ℕ) → length run ≤ 1 → HasUpdate run j x → HasUpdate run k x → j ≡ k
 one_update_only x [] j k few has also = absurd has

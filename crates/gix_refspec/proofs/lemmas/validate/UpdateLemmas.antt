@@ -53,7 +53,7 @@ strict_from_sorted xs (c ∷ cs) moved rises sorted =
     (λ tied. apart_places (updated_indexes xs) (updated_indexes ys) (IsPermutation-map (λ (u : Update). u.index) xs ys moved) rises i (i + 1) 0 (omega arith) (omega (arith, below, length-map ys (λ (u : Update). u.index)))
     (get_or-map (λ (u : Update). u.index) ys i c 0 (omega (arith, below)) ∙ sym (ranked y.index x.index Equal (sym (both_equal (slice_cmp nat_cmp y.destination.now x.destination.now) (nat_cmp y.index x.index) tied).1)) ∙ sym (get_or-map (λ (u : Update). u.index) ys (i + 1) c 0 below))))
 
-update_within : (cs : List Update) (k : ℕ) (d : List ℕ) → HasUpdate cs k d → (c : Update) × Contains cs c × (c.index ≡ k) × (c.destination.now ≡ d)
+pub update_within : (cs : List Update) (k : ℕ) (d : List ℕ) → HasUpdate cs k d → (c : Update) × Contains cs c × (c.index ≡ k) × (c.destination.now ≡ d)
 update_within [] k d has = absurd has
 update_within (c ∷ cs) k d (inl is) = (c, (0, omega arith, refl), is.0, is.1)
 update_within (c ∷ cs) k d (inr has) = let at = update_within cs k d has in (at.0, (suc at.1.0, omega (arith, at.1.1), at.1.2), at.2, at.3)

@@ -10,9 +10,7 @@ pub offset_bounds-mappings-update : goal.offset_bounds-mappings-update
 offset_bounds-mappings-update c = let below = bounds-mappings-update c in search rules
 
 pub bounds-specs-mapping : goal.bounds-specs-mapping
-bounds-specs-mapping c =
-    let fits = conflicting_fits c.args.mappings.now c.args.run.now c.loop-update.update-index past_end c.requires.conflicting c.loop-update-test.true in
-    spec_fits c.args.specs.now c.args.mappings.now (get_or c.args.run.now c.loop-update.update-index past_end).index c.index-mappings-update.result c.requires.fits fits c.index-mappings-update.is
+bounds-specs-mapping c = search (rules, conflicting_fits, spec_fits)
 
 pub offset_bounds-specs-mapping : goal.offset_bounds-specs-mapping
 offset_bounds-specs-mapping c = let below = bounds-specs-mapping c in search rules
