@@ -1,6 +1,5 @@
-use Rattle.gix_refspec.proofs.Common.{MappingWithPartialDestinationRemoved, ◌↔◌, IsTrue, bstring_bytes, bytes_eq-Decides, Fix, meaning_of, owned_reading_of, IsSameFix, and_parts, and_from, equal_keys}
+use Rattle.gix_refspec.proofs.Common.{MappingWithPartialDestinationRemoved, ◌↔◌, IsTrue, bstring_bytes, bytes_eq-Decides, Fix, meaning_of, owned_reading_of, IsSameFix, equal_keys, arith}
 use Rattle.gix_refspec.specs.contracts.match_group.validate.FixPartialEq.TheImpl.{ghosts}
-use Rattle.gix_refspec.proofs.Common.{arith}
 
 -- Names are compared by their bytes, specs by their meaning.
 

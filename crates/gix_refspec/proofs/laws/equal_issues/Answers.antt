@@ -1,11 +1,9 @@
-use Rattle.gix_refspec.proofs.Common.{◌≡◌, ◌↔◌, true, ap, IsTrue, bstring_bytes, bytes_eq-Decides, SourceRef, Issue, name, id, id_bytes, name_bytes, start_of, Conflict, conflict_of, and_parts}
-use Rattle.gix_refspec.proofs.Common.{and_from, same_keys}
+use Rattle.gix_refspec.proofs.Common.{◌≡◌, ◌↔◌, true, IsTrue, bstring_bytes, bytes_eq-Decides, SourceRef, Issue, id_bytes, name_bytes, start_of, conflict_of, same_keys, arith}
 use Rattle.bstr.specs.contracts.bstring.BStringPartialEq.TheImpl.{ghosts as compared_texts}
-use Rattle.gix_refspec_match.specs.contracts.types.SourceRefPartialEq.TheImpl.{ghosts as compared_sources}
 use Rattle.gix_refspec.specs.contracts.match_group.validate.IssuePartialEq.TheImpl.{ghosts}
+use Rattle.gix_refspec_match.specs.contracts.types.SourceRefPartialEq.TheImpl.{ghosts as compared_sources}
 use Rattle.gix_refspec_match.specs.declared.types.SourceRef.TheVariants as source_ref
 use Rattle.gix_refspec.specs.declared.match_group.validate.Issue.TheVariants as issue
-use Rattle.gix_refspec.proofs.Common.{arith}
 
 -- Destinations and texts are compared by their bytes, sources as names and ids.
 

@@ -1,4 +1,3 @@
-use Rattle.gix_refspec.proofs.Common.{and_parts, and_from}
 use Rattle.gix_refspec.proofs.Common.{rules}
 
 -- both parts of the pair are the same

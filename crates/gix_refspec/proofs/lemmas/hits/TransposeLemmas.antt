@@ -1,10 +1,9 @@
 -- The two directions agree for readings that go both ways, and a test of the sides decides whether one does.
-use Rattle.gix_refspec.proofs.Common.{Any as AnyAt, ◌≡◌, ◌⊎◌, inl, inr, ℕ, List, [], ◌∷◌, ◌++◌, codes, Option, None, Some, map, refl, ap, ◌∙◌, subst, AllByRecursion, RefSpecRef, Lacks, BeginsWith}
-use Rattle.gix_refspec.proofs.Common.{star, HasStar, HasSeveralStars, HasOneStar, Reading, IsAccepted, IsPositive, IsOneStarred, reading_of, SideKind, pattern, full_name, object, partial, HasKind}
-use Rattle.gix_refspec.proofs.Common.{filled, Ref, Matches, HasName, Takes, name, AreForwardEnds, AreBackwardEnds, IsFilled, IsSourceAmong, IsDestinationAmong, GoesBothWays, Transpose, true, Bool}
-use Rattle.gix_refspec.proofs.Common.{IsTrue, ◌↔◌, Source, MakesForward, MakesBackward, PairsItem, id, IsPaired, by_cases, one_kind, matches_as, same_side, Any-all, Any-both, some_at, some_of}
-use Rattle.gix_refspec.proofs.{Common.{Lacks-ContainsText, accepted_few, accepted_balanced, rules, arith, Ends}, lemmas.{MadeLemmas.{side_there}, keep.FilterLemmas.{item_named, name_there}}}
-use Rattle.gix_refspec.proofs.lemmas.keep.PairMadeLemmas.{kept_exactly}
+use Rattle.gix_refspec.proofs.Common.{Any as AnyAt, ◌≡◌, ◌⊎◌, inl, inr, ℕ, List, [], ◌∷◌, ◌++◌, codes, Option, None, Some, map, refl, ap, ◌∙◌, subst, AllByRecursion, RefSpecRef, Lacks, BeginsWith, star, HasStar}
+use Rattle.gix_refspec.proofs.Common.{HasSeveralStars, HasOneStar, Reading, IsAccepted, IsPositive, IsOneStarred, reading_of, SideKind, pattern, full_name, object, partial, HasKind, filled, Ref, Matches, HasName}
+use Rattle.gix_refspec.proofs.Common.{Takes, name, AreForwardEnds, AreBackwardEnds, IsFilled, IsSourceAmong, IsDestinationAmong, GoesBothWays, Transpose, true, Bool, IsTrue, ◌↔◌, Source, MakesForward, MakesBackward}
+use Rattle.gix_refspec.proofs.Common.{PairsItem, id, IsPaired, by_cases, one_kind, matches_as, same_side, Any-all, Any-both, some_at, some_of, Lacks-ContainsText, accepted_few, accepted_balanced, rules, arith, Ends}
+use Rattle.gix_refspec.proofs.lemmas.{MadeLemmas.{side_there}, keep.{FilterLemmas.{item_named, name_there}, PairMadeLemmas.{kept_exactly}}}
 use Rattle.gix_refspec_text.proofs.lemmas.parsing.DecideLemmas.{lacks_or_first}
 
 -- two sides that map alike in both directions: two patterns, or two full names

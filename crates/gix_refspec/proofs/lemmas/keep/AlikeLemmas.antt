@@ -1,9 +1,9 @@
 -- Fetches map alike if they are equal, or if the canonical text of one reads as the other.
-use Rattle.gix_refspec.proofs.Common.{◌≡◌, inl, inr, ◌↔◌, ℕ, ◌+◌, Bool, true, false, List, [], ◌∷◌, map, Option, None, Some, refl, sym, ap, ◌∙◌, nat_eq, pointwise, AllZip, Operation, Fetch}
-use Rattle.gix_refspec.proofs.Common.{RefSpecRef, Mode, Normal, Forced, Negative, Reading, IsPositive, IsAccepted, Reads, Meaning, fetch_only, fetch_exclude, fetch_and_update, meaning, meaning_of}
-use Rattle.gix_refspec.proofs.Common.{key_of_spec, reading_of, Ref, Matches, Takes, IsMadeFrom, IsJoinedFrom, Source, name, id, Mapped, IsExcludedBy, IsExcluded, IsSourceExcluded, IsKeptAt, IsKept}
-use Rattle.gix_refspec.proofs.Common.{Ends, AreForwardEnds, AreBackwardEnds, Hit, AreSpecHits, AreHits, IsIdMapping, AreKeptForward, AreKeptBackward, ReadsAgainAs, MapAlike, FetchGroupReadsBack}
-use Rattle.gix_refspec.proofs.Common.{FetchTheSame, EqualGroups, AreFetches, same_Some, by_cases, rules, subst, same_keys, equal_keys, keeps_operation, printed_back, says, says_for_operation, arith}
+use Rattle.gix_refspec.proofs.Common.{◌≡◌, inl, inr, ◌↔◌, ℕ, ◌+◌, Bool, true, false, List, [], ◌∷◌, map, Option, None, Some, refl, sym, ap, ◌∙◌, nat_eq, pointwise, AllZip, Operation, Fetch, RefSpecRef, Mode, Normal}
+use Rattle.gix_refspec.proofs.Common.{Forced, Negative, Reading, IsPositive, IsAccepted, Reads, Meaning, fetch_only, fetch_exclude, fetch_and_update, meaning, meaning_of, key_of_spec, reading_of, Ref, Matches, Takes}
+use Rattle.gix_refspec.proofs.Common.{IsMadeFrom, IsJoinedFrom, Source, Mapped, IsExcludedBy, IsExcluded, IsSourceExcluded, IsKeptAt, IsKept, Ends, AreForwardEnds, AreBackwardEnds, Hit, AreSpecHits, AreHits}
+use Rattle.gix_refspec.proofs.Common.{IsIdMapping, AreKeptForward, AreKeptBackward, ReadsAgainAs, MapAlike, FetchGroupReadsBack, FetchTheSame, EqualGroups, AreFetches, same_Some, by_cases, rules, subst, same_keys}
+use Rattle.gix_refspec.proofs.Common.{equal_keys, keeps_operation, printed_back, says, says_for_operation, arith}
 
 abbrev pub is_negative : Mode → Bool
 is_negative Negative = true

@@ -1,19 +1,13 @@
 -- Filters of items: the same pairs are kept, if no item that some spec takes is left out.
 use Rattle.gix_refspec.proofs.Common.{◌≡◌, ℕ, zero, suc, Bool, true, List, [], ◌∷◌, Option, map, refl, sym, ap, ◌∙◌, subst, arith, nat_eq, Any, Contains, filter, starts_with, get_or-map, length-map}
-use Rattle.gix_refspec.proofs.Common.{All-contains_itself, All-filter, starts_is, bstr_bytes, Item, Reading, Ref, Matches, Takes, Ends, AreForwardEnds, AreBackwardEnds, ref_of, BeginsWithOne, ArePart}
-use Rattle.gix_refspec.proofs.Common.{TakesItem, HasTaken, PassesTaken, FilteredItems, FilteredByEntries, FilteredByList, is_begun, All-contains, all_weaker, inl, inr, ◌↔◌, None, Some, Lacks, star}
-use Rattle.gix_refspec.proofs.Common.{head, SideKind, pattern, full_name, object, partial, HasKind, HasName, IsFirstCandidate, Source, name, id, Mapped, AreKeptForward, PairsItem, MakesForward}
-use Rattle.gix_refspec.proofs.Common.{MakesBackward, IsCoveredBy, HaveSamePairs, FewerItems, IsListed, AreListedItems, ListedItems, same_Some, All-from_recursion, Lacks-tested, rules}
-use Rattle.gix_refspec.proofs.{Common.{lacks_no_pattern}, lemmas.{keep.PairMadeLemmas.{kept_exactly}, prefixes.CoverLemmas.{below_not_head, joined_covers, source_asked}}}
+use Rattle.gix_refspec.proofs.Common.{All-contains_itself, All-filter, starts_is, bstr_bytes, Item, Reading, Ref, Matches, Takes, Ends, AreForwardEnds, AreBackwardEnds, ref_of, BeginsWithOne, ArePart, TakesItem}
+use Rattle.gix_refspec.proofs.Common.{HasTaken, PassesTaken, FilteredItems, FilteredByEntries, FilteredByList, is_begun, All-contains, all_weaker, inl, inr, ◌↔◌, None, Lacks, star, head, SideKind, pattern, full_name}
+use Rattle.gix_refspec.proofs.Common.{object, partial, HasKind, HasName, IsFirstCandidate, Source, name, id, Mapped, AreKeptForward, PairsItem, MakesForward, MakesBackward, IsCoveredBy, HaveSamePairs, FewerItems}
+use Rattle.gix_refspec.proofs.{Common.{IsListed, AreListedItems, ListedItems, same_Some, All-from_recursion, Lacks-tested, rules, lacks_no_pattern, some_at, Any-from_map, IsAsked}, lemmas.MadeLemmas.{there}}
+use Rattle.gix_refspec.proofs.lemmas.{keep.PairMadeLemmas.{kept_exactly}, prefixes.CoverLemmas.{below_not_head, joined_covers, source_asked, covering_covers, head_covers}}
 use Rattle.gix_refspec_match.proofs.lemmas.duplicates.HashKeyLemmas.{contains_filter}
 use Rattle.gix_refspec_text.proofs.lemmas.hits.CandidateLemmas.{first_candidate, first_once, some_first, taken_by_first}
 use Rattle.std.proofs.lemmas.{Bool.Decides.{Decides-eqb}, List.Folds.{list_any-from_Any}}
-use Rattle.gix_refspec.proofs.lemmas.prefixes.CoverLemmas.{covering_covers}
-use Rattle.gix_refspec.proofs.Common.{some_at}
-use Rattle.gix_refspec.proofs.lemmas.prefixes.CoverLemmas.{head_covers}
-use Rattle.gix_refspec.proofs.Common.{Any-from_map}
-use Rattle.gix_refspec.proofs.Common.{IsAsked}
-use Rattle.gix_refspec.proofs.lemmas.MadeLemmas.{there}
 
 pub mapped_there : {X Y : Type 0} (f : X → Y) (xs : List X) (x : X) → Contains xs x → Contains (map f xs) (f x)
 mapped_there f xs x (k, below, is) = (k, omega (arith, below, length-map xs f), get_or-map f xs k x (f x) below ∙ ap f is)

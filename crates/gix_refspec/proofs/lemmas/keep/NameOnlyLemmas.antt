@@ -1,13 +1,7 @@
 -- Refs with the same names have the same mappings, from right to left if no destination is an id.
-use Rattle.gix_refspec.proofs.Common.{all_weaker, ◌≡◌, ℕ, ◌+◌, inl, inr, List, [], ◌∷◌, Option, None, Some, refl, sym, ◌∙◌, subst, Reading, SideKind, pattern, full_name, object, partial, HasKind}
-use Rattle.gix_refspec.proofs.Common.{Fits, IsCandidate, Ref, Matches, MatchesAs, HasName, IsFirstCandidate, Takes, IsJoinedFrom, Ends, AreBackwardEnds, AreForwardEnds, Hit, IsHit, AreSpecHits}
-use Rattle.gix_refspec.proofs.{Common.{HasIdDestination, HaveSameNames, NamesDecide, NamesDecideBack, rules, AllByRecursion, recursion_from_All}, lemmas.keep.AlikeLemmas.{made_zip}}
-use Rattle.gix_refspec.proofs.lemmas.keep.FilterLemmas.{item_named}
-use Rattle.gix_refspec.proofs.lemmas.keep.AlikeLemmas.{zip_keys}
-use Rattle.gix_refspec.proofs.lemmas.keep.FilterLemmas.{mapped_from}
-use Rattle.gix_refspec.proofs.Common.{Contains}
-use Rattle.gix_refspec.proofs.lemmas.keep.FilterLemmas.{mapped_there}
-use Rattle.gix_refspec.proofs.lemmas.keep.FilterLemmas.{name_there}
+use Rattle.gix_refspec.proofs.Common.{all_weaker, ◌≡◌, ℕ, ◌+◌, inl, inr, List, [], ◌∷◌, Option, sym, ◌∙◌, subst, Reading, SideKind, object, HasKind, Ref, Matches, MatchesAs, HasName, IsFirstCandidate, Takes}
+use Rattle.gix_refspec.proofs.Common.{IsJoinedFrom, Ends, AreBackwardEnds, AreForwardEnds, Hit, IsHit, AreSpecHits, HasIdDestination, HaveSameNames, NamesDecide, NamesDecideBack, rules, AllByRecursion}
+use Rattle.gix_refspec.proofs.{Common.{recursion_from_All, Contains}, lemmas.keep.{AlikeLemmas.{made_zip, zip_keys}, FilterLemmas.{item_named, mapped_from, mapped_there, name_there}}}
 
 pub has_also : (A B : List Ref) (n : List ℕ) → HaveSameNames A B → HasName A n → HasName B n
 has_also A B n same has =

@@ -1,10 +1,10 @@
 -- A pair is kept exactly if some reading makes it and none excludes it, and only its first mapping is.
-use Rattle.gix_refspec.proofs.Common.{Any as AnyAt, ◌≡◌, inl, ◌↔◌, ℕ, ◌+◌, List, [], ◌∷◌, ◌++◌, Option, None, Some, map, unwrap_or, refl, sym, ap, ◌∙◌, subst, AllByRecursion, First, All, Reading, Ref}
-use Rattle.gix_refspec.proofs.Common.{Matches, Takes, IsMadeFrom, Source, name, id, Mapped, HasPair, IsSourceExcluded, IsKeptAt, Hit, IsIdMapping, AreForward, AreBackward, forward_of, backward_of}
-use Rattle.gix_refspec.proofs.Common.{IsPaired, MakesForward, MakesBackward, KeptExactly, NothingExcluded, option_to_list, length, take, arith, Contains, IsKept, IsFirstOfPair, FirstStays, drop}
-use Rattle.gix_refspec.proofs.Common.{slice_get, slice_get_within, get_or_from_slice_get, take-append-drop, drop_more, All-from_recursion, All-contains, MakesForwardOf, MakesBackwardOf, id_once}
-use Rattle.gix_refspec.proofs.Common.{forward_once, backward_once, AnyOf as Any, Any-all, Any-left, Any-right, Any-map, Any-weaker, Any-fact, any_made, some_at, some_of, AtSpec, all_weaker, AreHits}
-use Rattle.gix_refspec.proofs.{Common.{PairsItem}, lemmas.MadeLemmas.{any_at, back, each_made, BackwardAt, ForwardAt, backward_all, forward_all}}
+use Rattle.gix_refspec.proofs.Common.{Any as AnyAt, ◌≡◌, inl, ◌↔◌, ℕ, ◌+◌, List, [], ◌∷◌, ◌++◌, Option, None, Some, map, unwrap_or, refl, sym, ap, ◌∙◌, subst, AllByRecursion, First, All, Reading, Ref, Matches, Takes}
+use Rattle.gix_refspec.proofs.Common.{IsMadeFrom, Source, name, id, Mapped, HasPair, IsSourceExcluded, IsKeptAt, Hit, IsIdMapping, AreForward, AreBackward, forward_of, backward_of, IsPaired, MakesForward}
+use Rattle.gix_refspec.proofs.Common.{MakesBackward, KeptExactly, NothingExcluded, option_to_list, length, take, arith, Contains, IsKept, IsFirstOfPair, FirstStays, drop, slice_get, slice_get_within}
+use Rattle.gix_refspec.proofs.Common.{get_or_from_slice_get, take-append-drop, drop_more, All-from_recursion, All-contains, MakesForwardOf, MakesBackwardOf, id_once, forward_once, backward_once, AnyOf as Any}
+use Rattle.gix_refspec.proofs.{Common.{Any-all, Any-left, Any-right, Any-map, Any-weaker, Any-fact, any_made, some_at, some_of, AtSpec, all_weaker, AreHits, PairsItem}, lemmas.MadeLemmas.{any_at, back, each_made}}
+use Rattle.gix_refspec.proofs.lemmas.MadeLemmas.{BackwardAt, ForwardAt, backward_all, forward_all}
 use Rattle.gix_refspec_match.proofs.lemmas.{hits.ReachLemmas.{reach_hits}, keep.KeptPairLemmas.{IsOfPair, Any-HasPair, HasPair-Any, kept_pairs, Keeps}}
 use Rattle.gix_refspec_match.specs.{Private.Matchers.{HasEnds, TakesIn}, declared.matcher.Candidates.{Candidates}}
 use Rattle.std.proofs.Math.Seq.{take-append_seam}

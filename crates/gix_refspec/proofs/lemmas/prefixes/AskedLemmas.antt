@@ -1,10 +1,9 @@
 -- Over the items that a server lists for the ref prefixes of a group of fetches, the same pairs are kept.
-use Rattle.gix_refspec.proofs.Common.{Any as AnyAt, joined_next, map_split, map_long, nothing_joined, ◌≡◌, inl, inr, ℕ, suc, ◌+◌, ◌<◌, List, [], ◌∷◌, ◌++◌, Option, None, Some, MatchOption, Vec}
-use Rattle.gix_refspec.proofs.Common.{Global, length, map, take, drop, get_or, sym, ap, ◌∙◌, subst, arith, BString, bstring_bytes, append-nil, get_or-map, length-map, map-append, map_more, RefSpecRef}
-use Rattle.gix_refspec.proofs.Common.{reading_of, BeginsWith, IsSplit, IsPositive, Reading, SideKind, pattern, full_name, object, partial, HasKind, Ref, Matches, MatchesAs, Takes, IsRefPrefix}
-use Rattle.gix_refspec.proofs.Common.{IsAsked, Source, name, AreForwardEnds, HasNoList, Lists, ListsAs, ListsGroup, ListsSide, Serves, AreFetches, AskedItems, TakesItem, one_kind, AnyOf as Any}
-use Rattle.gix_refspec.proofs.{Common.{Any-all, Any-right, any_joined, some_at, some_of, one_asked, MakesForwardOf, TakesAt, all_weaker}, lemmas.MadeLemmas.{any_at, ForwardAt, made_at_indexes}}
-use Rattle.gix_refspec.proofs.lemmas.{keep.FilterLemmas.{fewer_items}, prefixes.CoverLemmas.{source_asked}}
+use Rattle.gix_refspec.proofs.Common.{Any as AnyAt, joined_next, map_split, map_long, nothing_joined, ◌≡◌, inl, inr, ℕ, suc, ◌+◌, ◌<◌, List, [], ◌∷◌, ◌++◌, Option, None, Some, MatchOption, Vec, Global, length, map}
+use Rattle.gix_refspec.proofs.Common.{take, drop, get_or, sym, ap, ◌∙◌, subst, arith, BString, bstring_bytes, append-nil, get_or-map, length-map, map-append, map_more, RefSpecRef, reading_of, BeginsWith, IsSplit}
+use Rattle.gix_refspec.proofs.Common.{IsPositive, Reading, SideKind, pattern, full_name, object, partial, HasKind, Ref, Matches, MatchesAs, Takes, IsRefPrefix, IsAsked, Source, name, AreForwardEnds, HasNoList, Lists}
+use Rattle.gix_refspec.proofs.Common.{ListsAs, ListsGroup, ListsSide, Serves, AreFetches, AskedItems, TakesItem, one_kind, AnyOf as Any, Any-all, Any-right, any_joined, some_at, some_of, one_asked, MakesForwardOf}
+use Rattle.gix_refspec.proofs.{Common.{TakesAt, all_weaker}, lemmas.{MadeLemmas.{any_at, ForwardAt, made_at_indexes}, keep.FilterLemmas.{fewer_items}, prefixes.CoverLemmas.{source_asked}}}
 
 pub list_as : (x : List ℕ) (k : SideKind) (list : List (List ℕ)) → HasKind x k → ListsSide x list → ListsAs k list
 list_as x k list kind lists = subst (λ (l : SideKind). ListsAs l list) (one_kind x lists.kind k lists.of kind) lists.is

@@ -1,9 +1,9 @@
 -- The expansions of the specs of a group cover the names that they match.
-use Rattle.gix_refspec.proofs.Common.{all_weaker, ◌≡◌, ◌≢◌, inl, inr, ℕ, List, [], ◌∷◌, codes, Option, get_or, refl, sym, ap, ◌∙◌, subst, arith, append-nil, Any, Operation, Fetch, Lacks, BeginsWith}
-use Rattle.gix_refspec.proofs.Common.{star, head, Reading, side_on_remote, SideKind, pattern, full_name, object, partial, HasKind, IsId, candidates, Ref, Matches, Takes, of_head, IsAsked, Expands}
-use Rattle.gix_refspec.proofs.Common.{to_prefix, IsExpansion, IsJoinedFrom, name, Ends, AreForwardEnds, IsCovering, by_prefix, by_candidates, BeginsWithOne, IsCoveredBy, AsksFor, AtSpec, Cover}
-use Rattle.gix_refspec.proofs.Common.{CoverTogether, Any-right, Any-weaker, any_joined, some_at as at_place, some_of, lacks_no_pattern, prefix_begins, has_candidates, one_asked, HasCoveringSource}
-use Rattle.gix_refspec.proofs.{Common.{MakesForwardOf, TakesAt, by_cases, Source}, lemmas.MadeLemmas.{any_at, ForwardAt, made_at_indexes}}
+use Rattle.gix_refspec.proofs.Common.{all_weaker, ◌≡◌, ◌≢◌, inl, inr, ℕ, List, [], ◌∷◌, codes, Option, get_or, refl, sym, ap, ◌∙◌, subst, arith, append-nil, Any, Operation, Fetch, Lacks, BeginsWith, star, head}
+use Rattle.gix_refspec.proofs.Common.{Reading, side_on_remote, SideKind, pattern, full_name, object, partial, HasKind, IsId, candidates, Ref, Matches, Takes, of_head, IsAsked, Expands, to_prefix, IsExpansion}
+use Rattle.gix_refspec.proofs.Common.{IsJoinedFrom, name, Ends, AreForwardEnds, IsCovering, by_prefix, by_candidates, BeginsWithOne, IsCoveredBy, AsksFor, AtSpec, Cover, CoverTogether, Any-right, Any-weaker}
+use Rattle.gix_refspec.proofs.Common.{any_joined, some_at as at_place, some_of, lacks_no_pattern, prefix_begins, has_candidates, one_asked, HasCoveringSource, MakesForwardOf, TakesAt, by_cases, Source}
+use Rattle.gix_refspec.proofs.lemmas.MadeLemmas.{any_at, ForwardAt, made_at_indexes}
 use Rattle.gix_refspec_text.proofs.lemmas.prefixes.OnePrefixLemmas.{one_prefix}
 
 pub below_not_head : (x : List ℕ) → BeginsWith (codes "refs/") x → x ≢ head

@@ -1,9 +1,9 @@
 -- Both sides of an accepted reading have a star or neither has, and kind, word and id are unique.
-use Rattle.gix_refspec.proofs.Common.{inl, inr, Reading, IsAccepted, by_cases, one_kind, IsIdText-unique, one_word, accepted_few, accepted_balanced, no_component, all_join, ◌≡◌, ◌≢◌, ◌⊎◌, ℕ, true}
-use Rattle.gix_refspec.proofs.Common.{false, ◌==◌, List, [], ◌∷◌, ◌++◌, codes, refl, sym, ap, ◌∙◌, subst, append_assoc, arith, AllByRecursion, join_with_byte, list_all, list_any, slice_split}
-use Rattle.gix_refspec.proofs.Common.{and_parts, false≢true, or_left, or_parts, true≢false, Empty, EmptyComponent, StartsWithDot, LockSuffix, EndsWithDot, RepeatedDot, ReflogPortion, Asterisk}
-use Rattle.gix_refspec.proofs.Common.{InvalidByte, at, brace, dot, slash, star, BeginsWith, EndsWith, is_refused_byte, HasFault, SomeComponent, is_plain_component, is_plain_name, is_special_byte}
-use Rattle.gix_refspec.proofs.{Common.{PlainNames, not-true}, lemmas.hits.TransposeLemmas.{both_or_neither, one_star, starred}}
+use Rattle.gix_refspec.proofs.Common.{inl, inr, Reading, IsAccepted, by_cases, one_kind, IsIdText-unique, one_word, accepted_few, accepted_balanced, no_component, all_join, ◌≡◌, ◌≢◌, ◌⊎◌, ℕ, true, false, ◌==◌, List}
+use Rattle.gix_refspec.proofs.Common.{[], ◌∷◌, ◌++◌, codes, refl, sym, ap, ◌∙◌, subst, append_assoc, arith, AllByRecursion, join_with_byte, list_all, list_any, slice_split, and_parts, false≢true, or_left, or_parts}
+use Rattle.gix_refspec.proofs.Common.{true≢false, Empty, EmptyComponent, StartsWithDot, LockSuffix, EndsWithDot, RepeatedDot, ReflogPortion, Asterisk, InvalidByte, at, brace, dot, slash, star, BeginsWith, EndsWith}
+use Rattle.gix_refspec.proofs.{Common.{is_refused_byte, HasFault, SomeComponent, is_plain_component, is_plain_name, is_special_byte, PlainNames, not-true}, lemmas.hits.TransposeLemmas.{both_or_neither, one_star}}
+use Rattle.gix_refspec.proofs.lemmas.hits.TransposeLemmas.{starred}
 use Rattle.gix_refspec_text.proofs.lemmas.texts.ComponentLemmas.{AllByRecursion-parts}
 use Rattle.gix_refspec_text.specs.{Laws.Sides.{SidesAgree, OneOfEach}, declared.name.Error.{Error}}
 use Rattle.std.proofs.lemmas.List.Splits.{join_with_byte-slice_split}

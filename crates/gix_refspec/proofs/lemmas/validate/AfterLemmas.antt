@@ -1,11 +1,10 @@
 -- What holds of mappings before and after a validation, which leaves no duplicate mappings and no duplicate fixes.
-use Rattle.gix_refspec.proofs.Common.{all_weaker, ◌≡◌, ℕ, suc, ◌+◌, ◌<◌, List, [], ◌∷◌, None, Some, length, get_or, refl, sym, ◌∙◌, subst, arith, AllByRecursion, Contains, All-contains_itself}
-use Rattle.gix_refspec.proofs.Common.{All-from_recursion, Contains-get_or, recursion_from_All, Reading, IsMadeFrom, Ref, Mapped, IsSamePair, AreApart, AreConflicts, ForwardFits}
-use Rattle.gix_refspec.proofs.Common.{DestinationsHaveOneSource, IsValidated, ShareDestination, HaveDistinctDestinations, Removed, Survives, ValidatedOnce, ForwardIndexes, Option, ap, name}
-use Rattle.gix_refspec.proofs.Common.{HaveOneSource, HaveSourcesByIndex, PlansApart, ◌≢◌, slice_get, same_Some, IsIdText, Source, IsFix, MakesForwardOf, AreFixesApart, id, ◌↔◌, ◌++◌, Bool, true}
-use Rattle.gix_refspec.proofs.Common.{false, map, take, items_where_true, false≢true, append-nil, slice_get-map, slice_get_read, Mapping, NameRef, Fix, Issue, RefSpecRef, reading_of, mapped_of}
-use Rattle.gix_refspec.proofs.Common.{name_bytes, conflict_of, removed_of, AreFixes, AreSurvivors, IsWritable, length-append, made_more, map-append, one_more_mapped, kept_once, IsIdText-unique}
-use Rattle.gix_refspec.proofs.{Common.{All-contains, AreKeptForward, by_cases}, lemmas.MadeLemmas.{stays_each, made_all, item_indexes_fit, ForwardAt, made_at_indexes}}
+use Rattle.gix_refspec.proofs.Common.{all_weaker, ◌≡◌, ℕ, suc, ◌+◌, ◌<◌, List, [], ◌∷◌, None, Some, length, get_or, refl, sym, ◌∙◌, subst, arith, AllByRecursion, Contains, All-contains_itself, All-from_recursion}
+use Rattle.gix_refspec.proofs.Common.{Contains-get_or, recursion_from_All, Reading, IsMadeFrom, Ref, Mapped, IsSamePair, AreApart, AreConflicts, ForwardFits, DestinationsHaveOneSource, IsValidated, ShareDestination}
+use Rattle.gix_refspec.proofs.Common.{HaveDistinctDestinations, Removed, Survives, ValidatedOnce, ForwardIndexes, Option, ap, name, HaveOneSource, HaveSourcesByIndex, PlansApart, ◌≢◌, slice_get, same_Some, IsIdText}
+use Rattle.gix_refspec.proofs.Common.{Source, IsFix, MakesForwardOf, AreFixesApart, id, ◌↔◌, ◌++◌, Bool, true, false, map, take, items_where_true, false≢true, append-nil, slice_get-map, slice_get_read, Mapping}
+use Rattle.gix_refspec.proofs.Common.{NameRef, Fix, Issue, RefSpecRef, reading_of, mapped_of, name_bytes, conflict_of, removed_of, AreFixes, AreSurvivors, IsWritable, length-append, made_more, map-append}
+use Rattle.gix_refspec.proofs.{Common.{one_more_mapped, kept_once, IsIdText-unique, All-contains, AreKeptForward, by_cases}, lemmas.MadeLemmas.{stays_each, made_all, item_indexes_fit, ForwardAt, made_at_indexes}}
 use Rattle.gix_refspec.proofs.lemmas.validate.FirstLemmas.{start_cases}
 use Rattle.std.specs.List.Retain.{ReturnsInTurn, IsFiltered}
 

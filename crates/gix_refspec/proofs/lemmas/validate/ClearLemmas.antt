@@ -1,11 +1,11 @@
 -- Canonical texts of fetches contain no control character, nor do mappings, if no name of an item does.
-use Rattle.gix_refspec.proofs.Common.{all_left, all_right, all_join, at, fetches_nothing_named, fetches_colon, fetches, updates, updates_from_head, fetch_excludes, ◌≡◌, ◌≢◌, ℕ, ◌<◌, ◌==◌, ◌||◌, Bool}
-use Rattle.gix_refspec.proofs.Common.{true, false, IsTrue, if◌then◌else◌, List, [], ◌∷◌, ◌++◌, Option, None, Some, codes, get_or, sym, ap, ◌∙◌, subst, nat_eq, arith, AllByRecursion, list_any}
-use Rattle.gix_refspec.proofs.Common.{starts_with, eqb-true, false≢true, lt-leb, lt-ltb, Lacks, star, is_refused_byte, IsIdText, is_lower_digit, lower_of, Reading, SideKind, pattern, full_name}
-use Rattle.gix_refspec.proofs.Common.{object, partial, HasKind, filled, Ref, MatchesAs, Mapped, IsFilled, AreKeptForward, LacksIn, MappedLacks, NoControlCharacter, SidesLack, SourceLacks, same_Some}
-use Rattle.gix_refspec.proofs.Common.{head, colon, letter, Mode, Reads, named_by, Fetch, printed, sign, begins_with_plus, IsPattern, IsName, InvalidByte, Normal, Forced, Negative, by_cases, some_none}
-use Rattle.gix_refspec.proofs.Common.{Lacks-from_absent, Lacks-from_indexes, lower_of-digits, IsName-head, rules, MakesForwardOf, Source, keeps_operation, name, all_weaker, pushes_plus, pushes_colon}
-use Rattle.gix_refspec.proofs.{Common.{pushes, deletes, pushes_pattern, pushes_to, push_excludes, push_is_none, Operation, id}, lemmas.MadeLemmas.{all_at, ForwardAt, made_at_indexes}}
+use Rattle.gix_refspec.proofs.Common.{all_left, all_right, all_join, at, fetches_nothing_named, fetches_colon, fetches, updates, updates_from_head, fetch_excludes, ◌≡◌, ◌≢◌, ℕ, ◌<◌, ◌==◌, ◌||◌, Bool, true, false}
+use Rattle.gix_refspec.proofs.Common.{IsTrue, if◌then◌else◌, List, [], ◌∷◌, ◌++◌, Option, None, Some, codes, get_or, sym, ap, ◌∙◌, subst, nat_eq, arith, AllByRecursion, list_any, starts_with, eqb-true, false≢true}
+use Rattle.gix_refspec.proofs.Common.{lt-leb, lt-ltb, Lacks, star, is_refused_byte, IsIdText, is_lower_digit, lower_of, Reading, SideKind, pattern, full_name, object, partial, HasKind, filled, Ref, MatchesAs, Mapped}
+use Rattle.gix_refspec.proofs.Common.{IsFilled, AreKeptForward, LacksIn, MappedLacks, NoControlCharacter, SidesLack, SourceLacks, same_Some, head, colon, letter, Mode, Reads, named_by, Fetch, printed, sign}
+use Rattle.gix_refspec.proofs.Common.{begins_with_plus, IsPattern, IsName, InvalidByte, Normal, Forced, Negative, by_cases, some_none, Lacks-from_absent, Lacks-from_indexes, lower_of-digits, IsName-head, rules}
+use Rattle.gix_refspec.proofs.Common.{MakesForwardOf, Source, keeps_operation, name, all_weaker, pushes_plus, pushes_colon, pushes, deletes, pushes_pattern, pushes_to, push_excludes, push_is_none, Operation, id}
+use Rattle.gix_refspec.proofs.lemmas.MadeLemmas.{all_at, ForwardAt, made_at_indexes}
 
 either_way : (b : ℕ) (v : Bool) (x y : List ℕ) → Lacks b x → Lacks b y → Lacks b (if v then x else y)
 either_way b v x y first second = grind arith

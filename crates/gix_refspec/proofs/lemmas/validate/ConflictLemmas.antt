@@ -1,16 +1,13 @@
 -- Conflicts, from sorted updates.
-use Rattle.gix_refspec.proofs.Common.{not_below_itself, all_right, all_join, all_weaker, each_mapped, ◌≡◌, ◌⊎◌, inl, inr, ◌↔◌, ℕ, ◌+◌, ◌<◌, ◌≤◌, List, [], ◌∷◌, ◌++◌, Some, option_map, length, map}
-use Rattle.gix_refspec.proofs.Common.{take, drop, get_or, refl, sym, ap, ◌∙◌, subst, arith, AllByRecursion, AllZip, Contains, slice_get, IsStrictlySortedBy, Less, nat_cmp, slice_cmp, length-map}
-use Rattle.gix_refspec.proofs.Common.{length-take-le, map-append, take-append-drop, take_more, All-from_recursion, Contains-append_left, Contains-push, slice_get-map, slice_get_read, slice_get_within}
-use Rattle.gix_refspec.proofs.Common.{Mapping, NameRef, SourceRef, Update, RefSpecRef, Reading, printed, reading_of, Source, Mapped, mapped_of, name_bytes, start_of, IsNameCopy, IsSourceCopy}
-use Rattle.gix_refspec.proofs.Common.{AreConflicts, Conflict, IndexesFit, IsConflict, HasConflictAt, IsFirstTo, IsTextAt, AddsConflict, AreFirstUpdates, AreConflicting, HasUpdate, IsRun, IsFirstAt}
-use Rattle.gix_refspec.proofs.Common.{IsConflictOf, update_cmp, updated_indexes, by_cases, recursion_from_All, get_or_default, all_left, IsMadeFrom, rules}
-use Rattle.gix_refspec.proofs.lemmas.MadeLemmas.{map_each}
-use Rattle.gix_refspec.proofs.lemmas.validate.UpdateLemmas.{HasUpdate-cases, HasUpdate-left, HasUpdate-right, later, mapped_at, past_end, strict_left, strict_right, update_at}
-use Rattle.gix_refspec.proofs.lemmas.validate.FirstLemmas.{Has, Increase, IsOfIndex, contested_from_firsts, made_at_indexes, one_mapping, two_firsts}
+use Rattle.gix_refspec.proofs.Common.{not_below_itself, all_right, all_join, all_weaker, each_mapped, ◌≡◌, ◌⊎◌, inl, inr, ◌↔◌, ℕ, ◌+◌, ◌<◌, ◌≤◌, List, [], ◌∷◌, ◌++◌, Some, option_map, length, map, take, drop, get_or}
+use Rattle.gix_refspec.proofs.Common.{refl, sym, ap, ◌∙◌, subst, arith, AllByRecursion, AllZip, Contains, slice_get, IsStrictlySortedBy, Less, nat_cmp, slice_cmp, length-map, length-take-le, map-append}
+use Rattle.gix_refspec.proofs.Common.{take-append-drop, take_more, All-from_recursion, Contains-append_left, Contains-push, slice_get-map, slice_get_read, slice_get_within, Mapping, NameRef, SourceRef, Update}
+use Rattle.gix_refspec.proofs.Common.{RefSpecRef, Reading, printed, reading_of, Source, Mapped, mapped_of, name_bytes, start_of, IsNameCopy, IsSourceCopy, AreConflicts, Conflict, IndexesFit, IsConflict}
+use Rattle.gix_refspec.proofs.Common.{HasConflictAt, IsFirstTo, IsTextAt, AddsConflict, AreFirstUpdates, AreConflicting, HasUpdate, IsRun, IsFirstAt, IsConflictOf, update_cmp, updated_indexes, by_cases}
+use Rattle.gix_refspec.proofs.{Common.{recursion_from_All, get_or_default, all_left, IsMadeFrom, rules, All-contains}, lemmas.{MadeLemmas.{map_each}, validate.FirstLemmas.{Has, Increase, IsOfIndex}}}
+use Rattle.gix_refspec.proofs.lemmas.validate.{FirstLemmas.{contested_from_firsts, made_at_indexes, one_mapping, two_firsts}, UpdateLemmas.{HasUpdate-cases, HasUpdate-left, HasUpdate-right, later, mapped_at}}
+use Rattle.gix_refspec.proofs.lemmas.validate.UpdateLemmas.{past_end, strict_left, strict_right, update_at, update_within}
 use Rattle.std.proofs.lemmas.Slice.Zip.{all_zipped_more}
-use Rattle.gix_refspec.proofs.lemmas.validate.UpdateLemmas.{update_within}
-use Rattle.gix_refspec.proofs.Common.{All-contains}
 
 -- the mappings at the indexes have these sources, and their specs these texts
 pub record AreTold (g : List Reading) (l : List Mapped) (ns : List ℕ) (sources : List Source) (texts : List (List ℕ)) : Type 0 where

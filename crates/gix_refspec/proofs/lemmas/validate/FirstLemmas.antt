@@ -1,9 +1,9 @@
 -- The first mappings from each source to each destination, by their indexes.
-use Rattle.gix_refspec.proofs.Common.{equal_pair, same_pair, all_weaker, ◌≡◌, ◌≢◌, ◌⊎◌, inl, inr, ◌↔◌, ℕ, suc, ◌+◌, ◌-◌, ◌<◌, ◌≤◌, List, [], ◌∷◌, None, Some, take, refl, sym, ap, ◌∙◌, subst, arith}
-use Rattle.gix_refspec.proofs.Common.{AllByRecursion, AllZip, Contains, slice_get, cases_lt, get_or_from_slice_get, slice_get-get_or, slice_get_within, bytes_eq-Decides, IsMadeFrom, Source, name, id}
-use Rattle.gix_refspec.proofs.Common.{Mapped, IsSamePair, HasPair, HasConflictAt, IsFirstAt, by_cases, get_or-take, length-take-le, HasPair-from_place, option_map, Bool, length, map, get_or}
-use Rattle.gix_refspec.proofs.Common.{length-map, slice_get-map, Mapping, Update, mapped_of, FlagsDuplicates, IsFlagged, AreUpdates, AreFirstUpdates, by_pair, duplicate_at, some_mapping, false}
-use Rattle.gix_refspec.proofs.Common.{option_to_list, false≢true, get_or-map, get_or_past, bstr_bytes, BStr, bytes_order, equal_texts, all_destinations, take-take}
+use Rattle.gix_refspec.proofs.Common.{equal_pair, same_pair, all_weaker, ◌≡◌, ◌≢◌, ◌⊎◌, inl, inr, ◌↔◌, ℕ, suc, ◌+◌, ◌-◌, ◌<◌, ◌≤◌, List, [], ◌∷◌, None, Some, take, refl, sym, ap, ◌∙◌, subst, arith, AllByRecursion}
+use Rattle.gix_refspec.proofs.Common.{AllZip, Contains, slice_get, cases_lt, get_or_from_slice_get, slice_get-get_or, slice_get_within, bytes_eq-Decides, IsMadeFrom, Source, name, id, Mapped, IsSamePair, HasPair}
+use Rattle.gix_refspec.proofs.Common.{HasConflictAt, IsFirstAt, by_cases, get_or-take, length-take-le, HasPair-from_place, option_map, Bool, length, map, get_or, length-map, slice_get-map, Mapping, Update, mapped_of}
+use Rattle.gix_refspec.proofs.Common.{FlagsDuplicates, IsFlagged, AreUpdates, AreFirstUpdates, by_pair, duplicate_at, some_mapping, false, option_to_list, false≢true, get_or-map, get_or_past, bstr_bytes, BStr}
+use Rattle.gix_refspec.proofs.Common.{bytes_order, equal_texts, all_destinations, take-take}
 use Rattle.std.proofs.lemmas.List.{Concat.{get_or-flat_map}, Folds.{length-flat_map-take}}
 
 abbrev pub Has : List ℕ → ℕ → Type 0

@@ -1,11 +1,9 @@
 -- A validation has one result, and a copy of an outcome has the same.
-use Rattle.gix_refspec.proofs.Common.{not_below_itself, ◌≡◌, inl, inr, ℕ, List, [], ◌∷◌, Some, map, refl, sym, ap, ◌∙◌, subst, AllByRecursion, IsStrictlySortedBy, Less, nat_cmp, slice_cmp, Mapping}
-use Rattle.gix_refspec.proofs.Common.{Outcome, Reading, reading_of, IsMadeFrom, printed, Mapped, mapped_of, AreMappingCopies, readings_of, IsFirstTo, IsTextAt, Conflict, IsConflict, AreConflicts}
-use Rattle.gix_refspec.proofs.Common.{Survives, Removed, IsFix, ValidateAlike, OneValidation, CopiedOutcome, same_Some, AnyOf as Any, Any-all, Any-fact, Any-from_map, rules}
-use Rattle.gix_refspec.proofs.lemmas.MadeLemmas.{there}
+use Rattle.gix_refspec.proofs.Common.{not_below_itself, ◌≡◌, inl, inr, ℕ, List, [], ◌∷◌, map, refl, sym, ap, ◌∙◌, subst, AllByRecursion, IsStrictlySortedBy, Less, nat_cmp, slice_cmp, Mapping, Outcome, Reading}
+use Rattle.gix_refspec.proofs.Common.{IsMadeFrom, Mapped, mapped_of, AreMappingCopies, readings_of, IsFirstTo, IsTextAt, Conflict, IsConflict, AreConflicts, Survives, Removed, IsFix, ValidateAlike, OneValidation}
+use Rattle.gix_refspec.proofs.{Common.{CopiedOutcome, same_Some, AnyOf as Any, Any-all, Any-fact, Any-from_map, rules}, lemmas.{MadeLemmas.{there}, validate.RefNameLemmas.{copied_mapping}}}
 use Rattle.gix_refspec.proofs.lemmas.validate.UpdateLemmas.{below_trans}
 use Rattle.gix_refspec_match.proofs.lemmas.lists.ListsLemmas.{made_once}
-use Rattle.gix_refspec.proofs.lemmas.validate.RefNameLemmas.{copied_mapping}
 
 above : (x d : List ℕ) (xs : List (List ℕ)) → AllByRecursion (λ y. slice_cmp nat_cmp x y ≡ Less) xs → Any (λ y. y ≡ d) xs → slice_cmp nat_cmp x d ≡ Less
 above x d xs all any = Any-fact _ xs (Any-all _ _ _ (λ y less here. subst (λ (z : List ℕ). slice_cmp nat_cmp x z ≡ Less) here less) xs all any)

@@ -1,14 +1,13 @@
 -- Sorted updates, and where they are split.
-use Rattle.gix_refspec.proofs.Common.{Ordering, all_left, all_right, all_join, all_weaker, ◌≡◌, ◌≢◌, ◌⊎◌, inl, inr, ◌↔◌, ℕ, zero, suc, ◌+◌, ◌<◌, ◌≤◌, List, [], ◌∷◌, ◌++◌, None, Some, option_map, Bool}
-use Rattle.gix_refspec.proofs.Common.{true, false, not, length, map, take, drop, get_or, refl, sym, ap, ◌∙◌, subst, arith, AllByRecursion, Contains, slice_get, IsPermutation, IsSorted}
-use Rattle.gix_refspec.proofs.Common.{IsStrictlySortedBy, Less, Equal, is_lt, nat_cmp, ordering_then, ordering_reverse, slice_cmp, nat_list_cmp_total, false≢true, not-false, not-true}
-use Rattle.gix_refspec.proofs.Common.{bytes_eq-Decides, bytes_eq, get_or-map, length-map, map-append, take-append-drop, take_more, length-drop, All-from_recursion, slice_get-map, slice_get_read}
-use Rattle.gix_refspec.proofs.Common.{slice_get_within, Update, Mapping, NameRef, Mapped, mapped_of, name_bytes, IsFlagged, Rises, AreUpdates, GoesTo, HasUpdate, IsRun, update_cmp, updated_indexes}
-use Rattle.gix_refspec.proofs.Common.{same_texts, both_equal, rules, same_Some, by_cases, get_or-drop, add-zero, apart_places}
-use Rattle.std.specs.Cmp.{IsTotalOrder}
-use Rattle.std.proofs.lemmas.{Cmp.{nat_cmp_total, on_total, ranked, then_total}, List.Quantifiers.all_pairs_push}
-use Rattle.std.proofs.lemmas.{List.Sorted.{Contains-permutation, IsPermutation-map, IsPermutation-sym}, Map.Keys.sorted_from_all_adjacent}
+use Rattle.gix_refspec.proofs.Common.{Ordering, all_left, all_right, all_join, all_weaker, ◌≡◌, ◌≢◌, ◌⊎◌, inl, inr, ◌↔◌, ℕ, zero, suc, ◌+◌, ◌<◌, ◌≤◌, List, [], ◌∷◌, ◌++◌, None, Some, option_map, Bool, true, false}
+use Rattle.gix_refspec.proofs.Common.{not, length, map, take, drop, get_or, refl, sym, ap, ◌∙◌, subst, arith, AllByRecursion, Contains, slice_get, IsPermutation, IsSorted, IsStrictlySortedBy, Less, Equal, is_lt}
+use Rattle.gix_refspec.proofs.Common.{nat_cmp, ordering_then, ordering_reverse, slice_cmp, nat_list_cmp_total, false≢true, not-false, not-true, bytes_eq-Decides, bytes_eq, get_or-map, length-map, map-append}
+use Rattle.gix_refspec.proofs.Common.{take-append-drop, take_more, length-drop, All-from_recursion, slice_get-map, slice_get_read, slice_get_within, Update, Mapping, NameRef, Mapped, mapped_of, name_bytes, IsFlagged}
+use Rattle.gix_refspec.proofs.Common.{Rises, AreUpdates, GoesTo, HasUpdate, IsRun, update_cmp, updated_indexes, same_texts, both_equal, rules, same_Some, by_cases, get_or-drop, add-zero, apart_places}
 use Rattle.gix_refspec_text.proofs.lemmas.lists.NumberLemmas.{upto}
+use Rattle.std.proofs.lemmas.{Cmp.{nat_cmp_total, on_total, ranked, then_total}, List.{Quantifiers.{all_pairs_push}, Sorted.{Contains-permutation, IsPermutation-map, IsPermutation-sym}}}
+use Rattle.std.proofs.lemmas.Map.Keys.{sorted_from_all_adjacent}
+use Rattle.std.specs.Cmp.{IsTotalOrder}
 
 -- the updates of the mappings before index p that have a destination and aren't flagged, by index
 pub record AreUpdatesUpto (l : List Mapped) (flags : List Bool) (p : ℕ) (cs : List Update) : Type 0 where

@@ -1,8 +1,6 @@
 -- Both sides have a star exactly if the source has one.
-use Rattle.gix_refspec.proofs.Common.{◌↔◌, IsTrue, List, ℕ, Some, option_map, sym, ap, ◌∙◌, subst, bstr_bytes, reading_of, GoesBothWays}
-use Rattle.gix_refspec.proofs.lemmas.hits.TransposeLemmas.{goes_below_refs, goes_by_star}
+use Rattle.gix_refspec.proofs.{Common.{List, ℕ, Some, option_map, sym, ap, ◌∙◌, bstr_bytes, reading_of, rules}, lemmas.hits.TransposeLemmas.{goes_below_refs, goes_by_star}}
 use Rattle.gix_refspec.proofs.match_group.premises.goes_both_ways.Goals as goal
-use Rattle.gix_refspec.proofs.Common.{rules}
 
 pub returns-then-contains : goal.returns-then-contains
 returns-then-contains c = search (rules, goes_by_star)

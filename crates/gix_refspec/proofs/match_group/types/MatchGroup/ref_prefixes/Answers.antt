@@ -1,7 +1,5 @@
-use Rattle.gix_refspec.proofs.Common.{length, ap, arith, take_all, on_any_error}
-use Rattle.gix_refspec.proofs.lemmas.prefixes.AskedLemmas.{asks_no_names, none_at, nothing_at, one_more_list, serves}
+use Rattle.gix_refspec.proofs.{Common.{length, ap, arith, take_all, on_any_error, rules}, lemmas.prefixes.AskedLemmas.{asks_no_names, none_at, nothing_at, one_more_list, serves}}
 use Rattle.gix_refspec.proofs.match_group.types.MatchGroup.ref_prefixes.Goals as goal
-use Rattle.gix_refspec.proofs.Common.{rules}
 
 pub returns-in_err-names-clause-memory : goal.returns-in_err-names-clause-memory
 returns-in_err-names-clause-memory c =

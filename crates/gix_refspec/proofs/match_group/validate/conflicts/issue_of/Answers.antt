@@ -1,6 +1,5 @@
-use Rattle.gix_refspec.proofs.Common.{◌≡◌, get_or, ◌∙◌, arith, rules, bstring_bytes, map-append, take_all, All-from_recursion, Update, start_of, [], ◌∷◌}
-use Rattle.gix_refspec.proofs.lemmas.validate.ConflictLemmas.{conflict_from_conflicting, copied_source, conflicting_fits, spec_fits, text_at, told_more}
-use Rattle.gix_refspec.proofs.lemmas.validate.UpdateLemmas.{past_end}
+use Rattle.gix_refspec.proofs.{Common.{◌≡◌, get_or, ◌∙◌, arith, rules, bstring_bytes, map-append, take_all, All-from_recursion, Update, start_of, [], ◌∷◌}, lemmas.validate.ConflictLemmas.{conflict_from_conflicting}}
+use Rattle.gix_refspec.proofs.lemmas.validate.{ConflictLemmas.{copied_source, conflicting_fits, spec_fits, text_at, told_more}, UpdateLemmas.{past_end}}
 use Rattle.gix_refspec.proofs.match_group.validate.conflicts.issue_of.Goals as goal
 
 pub bounds-mappings-update : goal.bounds-mappings-update

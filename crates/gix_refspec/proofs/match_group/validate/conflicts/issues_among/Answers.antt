@@ -1,7 +1,6 @@
-use Rattle.gix_refspec.proofs.Common.{◌≡◌, ◌-◌, ◌≤◌, length, take, drop, arith, drop-drop, length-drop, take_all}
-use Rattle.gix_refspec.proofs.lemmas.validate.ConflictLemmas.{all_reported, conflicting_of_run, reported_more, reported_none}
+use Rattle.gix_refspec.proofs.{Common.{◌≡◌, ◌-◌, ◌≤◌, length, take, drop, arith, drop-drop, length-drop, take_all, rules}, lemmas.validate.ConflictLemmas.{all_reported, conflicting_of_run, reported_more}}
+use Rattle.gix_refspec.proofs.lemmas.validate.ConflictLemmas.{reported_none}
 use Rattle.gix_refspec.proofs.match_group.validate.conflicts.issues_among.Goals as goal
-use Rattle.gix_refspec.proofs.Common.{rules}
 
 pub loop-at-init : goal.loop-at-init
 loop-at-init c = search (rules, reported_none, c.requires.firsts, c.new-issues.ensures.items)

@@ -1,6 +1,4 @@
-use Rattle.gix_refspec.proofs.Common.{sym, ◌∙◌, eqb-true}
-use Rattle.gix_refspec.proofs.lemmas.validate.ConflictLemmas.{free_empty, no_conflicts}
-use Rattle.gix_refspec.proofs.lemmas.validate.FirstLemmas.{firsts_from_updates}
+use Rattle.gix_refspec.proofs.{Common.{sym, ◌∙◌, eqb-true}, lemmas.validate.{ConflictLemmas.{free_empty, no_conflicts}, FirstLemmas.{firsts_from_updates}}}
 use Rattle.gix_refspec.proofs.match_group.validate.conflicts.issues_of.Goals as goal
 
 pub returns-then-is_empty-clause-ok : goal.returns-then-is_empty-clause-ok

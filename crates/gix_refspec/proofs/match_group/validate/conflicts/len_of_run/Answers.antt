@@ -1,5 +1,5 @@
-use Rattle.gix_refspec.proofs.Common.{◌≡◌, ℕ, get_or, length, take, drop, ap, ◌∙◌, subst, arith, get_or_default, Update, IsRun}
-use Rattle.gix_refspec.proofs.lemmas.validate.UpdateLemmas.{all_more, past_end, split_at, differ_from_test, same_from_test}
+use Rattle.gix_refspec.proofs.{Common.{◌≡◌, ℕ, get_or, length, take, drop, ap, ◌∙◌, subst, arith, get_or_default, Update, IsRun}, lemmas.validate.UpdateLemmas.{all_more, past_end, split_at, differ_from_test}}
+use Rattle.gix_refspec.proofs.lemmas.validate.UpdateLemmas.{same_from_test}
 use Rattle.gix_refspec.proofs.match_group.validate.conflicts.len_of_run.Goals as goal
 
 pub returns-then-ne-clause-split : goal.returns-then-ne-clause-split
