@@ -4,6 +4,7 @@ use Rattle.gix_refspec.proofs.Common.{false≢true, length, get_or, each_mapped,
 use Rattle.gix_refspec.proofs.Common.{Option, unwrap_or, ap, ◌∙◌, Reading, Ref, Matches, Takes, Source, Mapped, IsKeptAt, Ends, AreForwardEnds, AreBackwardEnds, Hit, IsHit, AreSpecHits, AreHits, IsIdMapping}
 use Rattle.gix_refspec.proofs.Common.{AreForward, AreBackward, forward_of, backward_of, AtSpec, TakesAt, MakesForwardOf, MakesBackwardOf, MadeAtIndexes, RemainsExactly, Survives, HasRefNames, same_Some}
 use Rattle.gix_refspec.proofs.Common.{ForwardIndexes, ItemIndexesFit, BackwardIndexes, name, id, IsSome, IsFilled, Any-both, Any-weaker, any_made, made_any}
+use Rattle.gix_refspec.proofs.Common.{rules}
 
 -- an element of a list, by index and by recursion
 pub there : {X : Type 0} (ys : List X) (m : X) → Contains ys m → Any (λ y. y ≡ m) ys
@@ -62,12 +63,7 @@ record IsTakenHit (HasEnds : Reading → Ends → Type 0) (Taken : List ℕ → 
   takes : TakesAt HasEnds Taken items (Some h.item) h.near h.far reading
 
 spec_takes : (HasEnds : Reading → Ends → Type 0) (Taken : List ℕ → Ref → Option (List ℕ) → Type 0) (g : List Reading) (items : List Ref) (k : ℕ) (r : Reading) (hits : List Hit) → slice_get g k ≡ Some r → AreSpecHits HasEnds Taken items k r hits → AllByRecursion (IsTakenHit HasEnds Taken g items) hits
-spec_takes HasEnds Taken g items k r hits here (inl (ends, has, made)) =
-    each_made (IsHit Taken ends k) (IsTakenHit HasEnds Taken g items) items hits (λ j ref hit stands is. record {
-      reading = r;
-      here = subst (λ (i : ℕ). slice_get g i ≡ Some r) (sym is.spec) here;
-      takes = record { index = j; is = ap Some is.item; ref = ref; stands = stands; ends = ends; has = has; paired = record { word = is.word; name = sym is.near; takes = is.takes; becomes = is.far } };
-    }) made
+spec_takes HasEnds Taken g items k r hits here (inl (ends, has, made)) = each_made (IsHit Taken ends k) (IsTakenHit HasEnds Taken g items) items hits (λ j ref hit stands is. search rules) made
 spec_takes HasEnds Taken g items k r hits here (inr (none, empty)) = subst (AllByRecursion (IsTakenHit HasEnds Taken g items)) (sym empty) tt
 
 hits_taken : (HasEnds : Reading → Ends → Type 0) (Taken : List ℕ → Ref → Option (List ℕ) → Type 0) (g : List Reading) (items : List Ref) (hits : List Hit) → AreHits HasEnds Taken g items hits → AllByRecursion (IsTakenHit HasEnds Taken g items) hits
@@ -114,16 +110,8 @@ made_at_indexes g items = record {
 }
 
 fits_forward : (g : List Reading) (items : List Ref) (m : Mapped) (s : Source) → m.source ≡ s → AtSpec g m (MakesForwardOf items m.item s m.destination) → ForwardIndexes g items m
-fits_forward g items m (name n) is (r, here, at) = record {
-  spec = slice_get_within g m.spec r here;
-  item = λ j some. (at.ref, subst (λ (i : ℕ). slice_get items i ≡ Some at.ref) (same_Some at.index j (sym at.is ∙ some)) at.stands, is ∙ ap name (sym at.paired.name));
-  start = λ none. let gone : Some at.index ≡ None = sym at.is ∙ none in absurd (cc);
-}
-fits_forward g items m (id bytes) is (r, here, (none, made)) = record {
-  spec = slice_get_within g m.spec r here;
-  item = λ j some. let gone : Some j ≡ None = sym some ∙ none in absurd (cc);
-  start = λ _. (bytes, is);
-}
+fits_forward g items m (name n) is (r, here, at) = search (rules, slice_get_within, same_Some)
+fits_forward g items m (id bytes) is (r, here, (none, made)) = search (rules, slice_get_within)
 
 fits_backward : (g : List Reading) (items : List Ref) (m : Mapped) (s : Source) (d : Option (List ℕ)) → m.destination ≡ d → AtSpec g m (MakesBackwardOf items m.item s d) → BackwardIndexes g items m
 fits_backward g items m (name n) (Some d) is (r, here, at) = record { spec = slice_get_within g m.spec r here; index = at.index; ref = at.ref; item = at.is; stands = at.stands; named = is ∙ ap Some (sym at.paired.name) }

@@ -8,9 +8,7 @@ use Rattle.gix_refspec.specs.declared.match_group.validate.Issue.TheVariants as 
 -- Destinations and texts are compared by their bytes, sources as names and ids.
 
 same_source : (a b : SourceRef) → (compared_sources.eq a b ≡ true) ↔ (start_of a ≡ start_of b)
-same_source (source_ref.FullName n) (source_ref.FullName m) = grind (arith, bytes_eq-Decides (name_bytes n) (name_bytes m))
-same_source (source_ref.ObjectId i) (source_ref.ObjectId j) = grind (arith, bytes_eq-Decides (id_bytes i) (id_bytes j))
-same_source a b = grind arith
+same_source a b = grind (arith, bytes_eq-Decides)
 
 same_issue : (a b : Issue) → IsTrue (ghosts.eq a b) ↔ (conflict_of a ≡ conflict_of b)
 same_issue (issue.Conflict d sources specs) (issue.Conflict e others texts) =

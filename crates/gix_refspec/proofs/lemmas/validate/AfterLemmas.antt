@@ -7,6 +7,7 @@ use Rattle.gix_refspec.proofs.Common.{NameRef, Fix, Issue, RefSpecRef, reading_o
 use Rattle.gix_refspec.proofs.{Common.{one_more_mapped, kept_once, IsIdText-unique, All-contains, AreKeptForward, by_cases}, lemmas.MadeLemmas.{stays_each, made_all, item_indexes_fit, ForwardAt, made_at_indexes}}
 use Rattle.gix_refspec.proofs.lemmas.validate.FirstLemmas.{start_cases}
 use Rattle.std.specs.List.Retain.{ReturnsInTurn, IsFiltered}
+use Rattle.gix_refspec.proofs.Common.{rules}
 
 pub forward_fits : (g : List Reading) (items : List Ref) → ForwardFits g items
 forward_fits g items l kept = all_weaker (ForwardIndexes g items) (λ m. m.spec < length g) (λ m fit. fit.spec) l ((item_indexes_fit g items).forward l kept)
@@ -21,37 +22,27 @@ apart_still S k (x ∷ xs) ys apart (Some y, rest, one, more, is) = subst AreApa
 
 pub distinct_destinations : (l : List Mapped) → DestinationsHaveOneSource l → AreApart l → HaveDistinctDestinations l
 distinct_destinations [] one apart = tt
-distinct_destinations (m ∷ l) one apart = (
-  recursion_from_All (λ n. ¬ (ShareDestination m n)) l (λ k d below meet.
-      let n = get_or l k d in
-      let there : Contains (m ∷ l) n = within n (Contains-get_or l k d below) in
-      All-from_recursion (λ z. ¬ (IsSamePair m z)) l apart.0 k d below (record { source = one m n meet.0 (0, omega arith, refl) there meet.1 meet.2; destination = meet.1 ∙ sym meet.2 })),
-  distinct_destinations l (λ a b d has_a has_b. one a b d (within a has_a) (within b has_b)) apart.1,
-)
-  where
-    within : (n : Mapped) → Contains l n → Contains (m ∷ l) n
-    within n (k, below, is) = (suc k, omega (arith, below), is)
+distinct_destinations (m ∷ l) one apart =
+    let within : (n : Mapped) → Contains l n → Contains (m ∷ l) n = λ n (k, below, is). (suc k, omega (arith, below), is) in (
+      recursion_from_All (λ n. ¬ (ShareDestination m n)) l (λ k d below meet.
+          All-from_recursion (λ z. ¬ (IsSamePair m z)) l apart.0 k d below (record { source = one m (get_or l k d) meet.0 (0, omega arith, refl) (within (get_or l k d) (Contains-get_or l k d below)) meet.1 meet.2; destination = meet.1 ∙ sym meet.2 })),
+      distinct_destinations l (λ a b d has_a has_b. one a b d (within a has_a) (within b has_b)) apart.1,
+    )
 
 pub free_one_source : (g : List Reading) (l : List Mapped) → AreConflicts g l [] → DestinationsHaveOneSource l
 free_one_source g l free m n d has_m has_n m_to n_to = by_cases (start_cases m.source n.source) (λ same. same) (λ apart.
     let none = free.every d (record { one = m; other = n; has_one = has_m; has_other = has_n; one_to = m_to; other_to = n_to; differ = apart }) in let inside = none.1 in absurd (omega (arith, inside)))
-
-pub kept_distinct_destinations : (g : List Reading) (items : List Ref) (l : List Mapped) → AreKeptForward g items l → AreConflicts g l [] → HaveDistinctDestinations l
-kept_distinct_destinations g items l kept free = distinct_destinations l (free_one_source g l free) (kept_once g kept.all l kept.is)
 
 pub one_source_still : (S : ℕ → Mapped → Type 0) (l rest : List Mapped) → DestinationsHaveOneSource l → IsMadeFrom (λ j x y. (y ≡ x) × S j x) 0 l rest → DestinationsHaveOneSource rest
 one_source_still S l rest one made m n d has_m has_n =
     let was = stays_each S (Contains l) 0 l rest (recursion_from_All (Contains l) l (All-contains_itself l)) made in
     one m n d (All-contains (Contains l) rest m (All-from_recursion (Contains l) rest was) has_m) (All-contains (Contains l) rest n (All-from_recursion (Contains l) rest was) has_n)
 
-one_source : (g : List Reading) (l rest : List Mapped) (fixes : List Removed) → IsValidated g l rest fixes → DestinationsHaveOneSource rest
-one_source g l rest fixes valid = one_source_still (λ j x. Survives x) l rest (free_one_source g l valid.free) valid.survive
-
 pub distinct_destinations_after : (g : List Reading) (l rest : List Mapped) (fixes : List Removed) → IsValidated g l rest fixes → AreApart l → HaveDistinctDestinations rest
-distinct_destinations_after g l rest fixes valid apart = distinct_destinations rest (one_source g l rest fixes valid) (apart_still (λ k m. Survives m) 0 l rest apart valid.survive)
+distinct_destinations_after g l rest fixes valid apart = distinct_destinations rest (one_source_still (λ j x. Survives x) l rest (free_one_source g l valid.free) valid.survive) (apart_still (λ k m. Survives m) 0 l rest apart valid.survive)
 
 pub validated_once : (g : List Reading) (items : List Ref) → ValidatedOnce g items
-validated_once g items l rest fixes valid = (one_source g l rest fixes valid, λ kept. distinct_destinations_after g l rest fixes valid (kept_once g kept.all l kept.is))
+validated_once g items l rest fixes valid = (one_source_still (λ j x. Survives x) l rest (free_one_source g l valid.free) valid.survive, λ kept. distinct_destinations_after g l rest fixes valid (kept_once g kept.all l kept.is))
 
 fixes_apart : (g : List Reading) (k : ℕ) (l : List Mapped) (fixes : List Removed) → HaveDistinctDestinations l → IsMadeFrom (λ j m fix. IsFix g m fix) k l fixes → AreFixesApart fixes
 fixes_apart g k [] fixes apart empty = subst AreFixesApart (sym empty) tt
@@ -63,10 +54,7 @@ fixes_apart g k (m ∷ l) fixes apart (Some f, rest, fix, more, is) = subst AreF
 
 -- what one spec makes of one item, or without an item, has one source
 one_start : (items : List Ref) (item : Option ℕ) (r : Reading) (s t : Source) (d e : Option (List ℕ)) → MakesForwardOf items item s d r → MakesForwardOf items item t e r → s ≡ t
-one_start items item r (name n) (name m) d e at also =
-    let index : at.index ≡ also.index = same_Some at.index also.index (sym at.is ∙ also.is) in
-    let one : at.ref ≡ also.ref = same_Some at.ref also.ref (sym at.stands ∙ ap (slice_get items) index ∙ also.stands) in
-    ap name (sym at.paired.name ∙ ap (λ (x : Ref). x.name) one ∙ also.paired.name)
+one_start items item r (name n) (name m) d e at also = search (rules, same_Some)
 one_start items item r (name n) (id j) d e at (none, made) = let gone : Some at.index ≡ None = sym at.is ∙ none in absurd (cc)
 one_start items item r (id i) (name m) d e (none, made) also = let gone : Some also.index ≡ None = sym also.is ∙ none in absurd (cc)
 one_start items item r (id i) (id j) d e (none, made) (no_item, also) =
@@ -81,16 +69,13 @@ sources_by_index g items [] made = tt
 sources_by_index g items (m ∷ l) made = (all_weaker (ForwardAt g items) (HaveOneSource m) (λ n also. one_source_by_index g items m n made.0 also) l made.1, sources_by_index g items l made.1)
 
 pub plans_apart : PlansApart
-plans_apart g items l rest fixes kept valid =
-    let law = item_indexes_fit g items in
-    let indexes = law.validated l rest fixes valid (law.forward l kept) in
-    record {
-      indexes = indexes;
-      starts = sources_by_index g items rest (stays_each (λ j m. Survives m) (ForwardAt g items) 0 l rest ((made_at_indexes g items).forward l kept) valid.survive);
-      pairs = apart_still (λ j m. Survives m) 0 l rest (kept_once g kept.all l kept.is) valid.survive;
-      destinations = (validated_once g items l rest fixes valid).1 kept;
-      fixed = fixes_apart g 0 l fixes (kept_distinct_destinations g items l kept valid.free) valid.fixed;
-    }
+plans_apart g items l rest fixes kept valid = record {
+  indexes = (item_indexes_fit g items).validated l rest fixes valid ((item_indexes_fit g items).forward l kept);
+  starts = sources_by_index g items rest (stays_each (λ j m. Survives m) (ForwardAt g items) 0 l rest ((made_at_indexes g items).forward l kept) valid.survive);
+  pairs = apart_still (λ j m. Survives m) 0 l rest (kept_once g kept.all l kept.is) valid.survive;
+  destinations = (validated_once g items l rest fixes valid).1 kept;
+  fixed = fixes_apart g 0 l fixes (distinct_destinations l (free_one_source g l valid.free) (kept_once g kept.all l kept.is)) valid.fixed;
+}
 
 -- one more mapping of which P holds, and of which nothing is made
 pub nothing_more : {Y E : Type 0} (R : ℕ → Mapped → Y → Type 0) (P : Mapped → Type 0) (ms : List Mapping) (i : ℕ) (m : Mapping) (ys : List Y) → i < length ms → m ≡ get_or ms i m → ((y : Y) → ¬ (R i (mapped_of m) y)) → P (mapped_of m)

@@ -5,9 +5,10 @@ use Rattle.gix_refspec.proofs.Common.{take-append-drop, take_more, All-from_recu
 use Rattle.gix_refspec.proofs.Common.{RefSpecRef, Reading, printed, reading_of, Source, Mapped, mapped_of, name_bytes, start_of, IsNameCopy, IsSourceCopy, AreConflicts, Conflict, IndexesFit, IsConflict}
 use Rattle.gix_refspec.proofs.Common.{HasConflictAt, IsFirstTo, IsTextAt, AddsConflict, AreFirstUpdates, AreConflicting, HasUpdate, IsRun, IsFirstAt, IsConflictOf, update_cmp, updated_indexes, by_cases}
 use Rattle.gix_refspec.proofs.{Common.{recursion_from_All, get_or_default, all_left, IsMadeFrom, rules, All-contains}, lemmas.{MadeLemmas.{map_each}, validate.FirstLemmas.{Has, Increase, IsOfIndex}}}
-use Rattle.gix_refspec.proofs.lemmas.validate.{FirstLemmas.{contested_from_firsts, made_at_indexes, one_mapping, two_firsts}, UpdateLemmas.{HasUpdate-cases, HasUpdate-left, HasUpdate-right, later, mapped_at}}
+use Rattle.gix_refspec.proofs.lemmas.validate.{FirstLemmas.{contested_from_firsts, made_at_indexes, one_mapping, two_firsts}, UpdateLemmas.{later, mapped_at}}
 use Rattle.gix_refspec.proofs.lemmas.validate.UpdateLemmas.{past_end, strict_left, strict_right, update_at, update_within}
 use Rattle.std.proofs.lemmas.Slice.Zip.{all_zipped_more}
+use Rattle.gix_refspec.proofs.lemmas.validate.UpdateLemmas.{HasUpdate-append}
 
 -- the mappings at the indexes have these sources, and their specs these texts
 pub record AreTold (g : List Reading) (l : List Mapped) (ns : List ℕ) (sources : List Source) (texts : List (List ℕ)) : Type 0 where
@@ -98,15 +99,9 @@ pub record AreReported (g : List Reading) (l : List Mapped) (rest : List Update)
 -- before the loop all updates are in the rest
 pub reported_none : (g : List Reading) (l : List Mapped) (firsts : List Update) → AreFirstUpdates l firsts → AreReported g l firsts []
 unfolding IsStrictlySortedBy
-reported_none g l firsts are = record {
-  left = λ k d. (are.are k d).0;
-  all = λ k d first. inl ((are.are k d).1 first);
-  order = are.order;
-  each = tt;
-  below = tt;
-  rise = tt;
-  every = λ d contested. let two = two_firsts l d contested in inr (two.0, (are.are two.0 d).1 two.3);
-}
+reported_none g l firsts are =
+    let every = λ (d : List ℕ) (at : HasConflictAt l d). let two = two_firsts l d at in (are.are two.0 d).1 two.3 in
+    record { left = λ k d. (are.are k d).0; all = λ k d first. inl ((are.are k d).1 first); order = are.order; each = tt; below = tt; rise = tt; every = λ d at. inr (_, every d at) }
 
 -- and after it none is
 pub all_reported : (g : List Reading) (l : List Mapped) (rest : List Update) (cs : List Conflict) → length rest ≡ 0 → AreReported g l rest cs → AreConflicts g l cs
@@ -135,9 +130,9 @@ module _ (g : List Reading) (l : List Mapped) (run others : List Update) (cs : L
   -- the run has all first mappings to its destination
   firsts_of_run : 0 < length run → (k : ℕ) → HasUpdate run k split.destination ↔ IsFirstAt l k split.destination
   firsts_of_run some k = (
-    (λ has. settled.left k split.destination (HasUpdate-left run others k split.destination has)),
+    (λ has. settled.left k split.destination ((HasUpdate-append run others k split.destination).1 (inl has))),
     (λ first. by_cases (settled.all k split.destination first)
-        (λ has. by_cases (HasUpdate-cases run others k split.destination has) (λ here. here) (λ there. absurd (not_beyond split.destination others k split.beyond there)))
+        (λ has. by_cases ((HasUpdate-append run others k split.destination).0 has) (λ here. here) (λ there. absurd (not_beyond split.destination others k split.beyond there)))
         (λ past. absurd (not_below_itself split.destination (rw at_start at (All-from_recursion (λ c. slice_cmp nat_cmp split.destination c.destination.now ≡ Less) run (all_left _ run others past) 0 past_end some))))),
   )
     where
@@ -147,7 +142,7 @@ module _ (g : List Reading) (l : List Mapped) (run others : List Update) (cs : L
   -- an update of a first mapping is among the others, or its destination is less than all of theirs
   behind_run : (k : ℕ) (d : List ℕ) → IsFirstAt l k d → HasUpdate others k d ⊎ AllByRecursion (λ c. slice_cmp nat_cmp d c.destination.now ≡ Less) others
   behind_run k d first = by_cases (settled.all k d first)
-      (λ has. by_cases (HasUpdate-cases run others k d has) (λ here. inr (rw (to_same split.destination run k d split.same here) split.beyond)) (λ there. inl there))
+      (λ has. by_cases ((HasUpdate-append run others k d).0 has) (λ here. inr (rw (to_same split.destination run k d split.same here) split.beyond)) (λ there. inl there))
       (λ past. inr (all_right (λ c. slice_cmp nat_cmp d c.destination.now ≡ Less) run others past))
 
   all_still_below : AllByRecursion (λ c. AllByRecursion (λ x. slice_cmp nat_cmp c.destination x.destination.now ≡ Less) others) cs
@@ -155,7 +150,7 @@ module _ (g : List Reading) (l : List Mapped) (run others : List Update) (cs : L
 
   contested_cases : (d : List ℕ) → HasConflictAt l d → (d ≡ split.destination) ⊎ (Contains (map (λ c. c.destination) cs) d ⊎ ((k : ℕ) × HasUpdate others k d))
   contested_cases d contested = by_cases (settled.every d contested) (λ told. inr (inl told))
-      (λ has. by_cases (HasUpdate-cases run others has.0 d has.1) (λ here. inl (to_same split.destination run has.0 d split.same here)) (λ there. inr (inr (has.0, there))))
+      (λ has. by_cases ((HasUpdate-append run others has.0 d).0 has.1) (λ here. inl (to_same split.destination run has.0 d split.same here)) (λ there. inr (inr (has.0, there))))
 
   -- a run of one update adds no conflict
   skipped : 0 < length run → length run ≤ 1 → AreReported g l others cs
@@ -164,32 +159,26 @@ module _ (g : List Reading) (l : List Mapped) (run others : List Update) (cs : L
       let two = two_firsts l split.destination (rw to at contested) in
       two.2 (one_update_only split.destination run two.0 two.1 few ((firsts_of_run some two.0).1 two.3) ((firsts_of_run some two.1).1 two.4))
       )) (λ other. other) in
-      search (rules, settled.left, HasUpdate-right run others, behind_run, strict_right update_cmp run others, all_still_below, every)
+      search (rules, settled.left, HasUpdate-append run others, behind_run, strict_right update_cmp run others, all_still_below, every)
 
   -- a run of several updates adds one
   reported : (c : Conflict) → 1 < length run → IsConflictOf g l run c → AreReported g l others (cs ++ c ∷ [])
   reported c several over =
+      let first : (P : Update → Type 0) → AllByRecursion P run → P (get_or run 0 past_end) = λ P all. All-from_recursion P run all 0 past_end (omega (arith, several)) in
+      let at_start : (get_or run 0 past_end).destination.now ≡ c.destination = first (λ x. x.destination.now ≡ c.destination) over.same in
+      let to : c.destination ≡ split.destination = sym at_start ∙ first (λ x. x.destination.now ≡ split.destination) split.same in
       let destinations : map (λ (y : Conflict). y.destination) (cs ++ c ∷ []) ≡ map (λ (y : Conflict). y.destination) cs ++ c.destination ∷ [] = map-append (λ (y : Conflict). y.destination) cs (c ∷ []) in record {
-        left = λ k d has. settled.left k d (HasUpdate-right run others k d has);
+        left = λ k d has. settled.left k d ((HasUpdate-append run others k d).1 (inr has));
         all = behind_run;
         order = strict_right update_cmp run others settled.order;
         each = all_join (IsConflict g l) cs (c ∷ []) settled.each (over.is, tt);
         below = all_join (λ y. AllByRecursion (λ z. slice_cmp nat_cmp y.destination z.destination.now ≡ Less) others) cs (c ∷ []) all_still_below (rw to split.beyond, tt);
         rise = rw destinations (rise_more (map (λ (y : Conflict). y.destination) cs) c.destination settled.rise
-            (map_each _ (λ d. slice_cmp nat_cmp d c.destination ≡ Less) (λ (y : Conflict). y.destination) (λ y below. rw (at_start over.same) at (start (λ x. slice_cmp nat_cmp y.destination x.destination.now ≡ Less) (all_left _ run others below))) cs settled.below));
+            (map_each _ (λ d. slice_cmp nat_cmp d c.destination ≡ Less) (λ (y : Conflict). y.destination) (λ y below. rw at_start at (first (λ x. slice_cmp nat_cmp y.destination x.destination.now ≡ Less) (all_left _ run others below))) cs settled.below));
         every = λ d contested. rw destinations (by_cases (contested_cases d contested)
             (λ is. inl (rw (is ∙ sym to) (Contains-push (map (λ (y : Conflict). y.destination) cs) c.destination)))
             (λ other. by_cases other (λ told. inl (Contains-append_left (map (λ (y : Conflict). y.destination) cs) (c.destination ∷ []) d told)) (λ there. inr there)));
       }
-    where
-      start : (P : Update → Type 0) → AllByRecursion P run → P (get_or run 0 past_end)
-      start P all = All-from_recursion P run all 0 past_end (omega (arith, several))
-
-      at_start : {d : List ℕ} → AllByRecursion (λ x. x.destination.now ≡ d) run → (get_or run 0 past_end).destination.now ≡ d
-      at_start {d} = start (λ x. x.destination.now ≡ d)
-
-      to : c.destination ≡ split.destination
-      to = sym (at_start over.same) ∙ at_start split.same
 
 pub conflicting_of_run : (g : List Reading) (l : List Mapped) (rest : List Update) (n : ℕ) (cs : List Conflict) → 1 < length (take n rest) → (split : IsRun (take n rest) (drop n rest)) → AreReported g l rest cs → AreConflicting l (take n rest)
 conflicting_of_run g l rest n cs several split settled =

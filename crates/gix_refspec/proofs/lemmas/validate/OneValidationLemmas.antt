@@ -42,10 +42,7 @@ one_conflict g l c e same a b =
 
 one_list : (g : List Reading) (l : List Mapped) (cs other : List Conflict) → AllByRecursion (IsConflict g l) cs → AllByRecursion (IsConflict g l) other → map (λ (c : Conflict). c.destination) cs ≡ map (λ (c : Conflict). c.destination) other → cs ≡ other
 one_list g l [] [] a b same = refl
-one_list g l (c ∷ cs) (e ∷ other) a b same =
-    let first : c.destination ≡ e.destination = cc in
-    let rest : map (λ (x : Conflict). x.destination) cs ≡ map (λ (x : Conflict). x.destination) other = cc in
-    ap (λ (x : Conflict). x ∷ cs) (one_conflict g l c e first a.0 b.0) ∙ ap (λ (xs : List Conflict). e ∷ xs) (one_list g l cs other a.1 b.1 rest)
+one_list g l (c ∷ cs) (e ∷ other) a b same = let one = one_conflict g l c e (cc) a.0 b.0 in let more = one_list g l cs other a.1 b.1 (cc) in cc
 one_list g l cs other a b same = absurd (cc)
 
 one_fix : (g : List Reading) (m : Mapped) (a b : Removed) → IsFix g m a → IsFix g m b → a ≡ b

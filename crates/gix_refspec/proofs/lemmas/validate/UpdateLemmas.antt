@@ -68,17 +68,9 @@ HasUpdate-permuted xs ys k d moved has =
     let at = Contains-permutation xs ys c.0 moved c.1 in
     update_at ys at.0 c.0 k d at.1 at.2 c.2 c.3
 
-pub HasUpdate-left : (xs ys : List Update) (k : ℕ) (d : List ℕ) → HasUpdate xs k d → HasUpdate (xs ++ ys) k d
-HasUpdate-left [] ys k d has = absurd has
-HasUpdate-left (x ∷ xs) ys k d has = search (rules, HasUpdate-left xs ys k d)
-
-pub HasUpdate-right : (xs ys : List Update) (k : ℕ) (d : List ℕ) → HasUpdate ys k d → HasUpdate (xs ++ ys) k d
-HasUpdate-right [] ys k d has = has
-HasUpdate-right (x ∷ xs) ys k d has = inr (HasUpdate-right xs ys k d has)
-
-pub HasUpdate-cases : (xs ys : List Update) (k : ℕ) (d : List ℕ) → HasUpdate (xs ++ ys) k d → HasUpdate xs k d ⊎ HasUpdate ys k d
-HasUpdate-cases [] ys k d has = inr has
-HasUpdate-cases (x ∷ xs) ys k d has = search (rules, HasUpdate-cases xs ys k d)
+pub HasUpdate-append : (xs ys : List Update) (k : ℕ) (d : List ℕ) → HasUpdate (xs ++ ys) k d ↔ (HasUpdate xs k d ⊎ HasUpdate ys k d)
+HasUpdate-append [] ys k d = ((λ has. inr has), λ either. by_cases either (λ has. absurd has) (λ has. has))
+HasUpdate-append (x ∷ xs) ys k d = let rest = HasUpdate-append xs ys k d in grind (arith, rest)
 
 pub updates_sorted : (l : List Mapped) (flags : List Bool) (p : ℕ) (cs new : List Update) → length l ≤ p → AreUpdatesUpto l flags p cs → IsPermutation cs new → IsSorted (λ (x : Update) (y : Update). ordering_then (slice_cmp nat_cmp x.destination.now y.destination.now) (nat_cmp x.index y.index)) new → AreUpdates l flags new
 updates_sorted l flags p cs new past made moved sorted = record {
@@ -96,9 +88,9 @@ pub updates_more : (l : List Mapped) (flags : List Bool) (cs new : List Update) 
 updates_more l flags cs new c is goes unflagged made =
     let indexes : updated_indexes new ≡ updated_indexes cs ++ c.index ∷ [] = ap updated_indexes is ∙ map-append (λ (x : Update). x.index) cs (c ∷ []) in record {
       are = λ k d. rw is (
-        (λ has. by_cases (HasUpdate-cases cs (c ∷ []) k d has) (λ old. let told = (made.are k d).0 old in (omega (arith, told.0), told.1)) (λ last. only last)),
-        (λ told. by_cases (upto k c.index told.0) (λ less. HasUpdate-left cs (c ∷ []) k d ((made.are k d).1 (less, told.1)))
-            (λ here. HasUpdate-right cs (c ∷ []) k d (inl (sym here, one_index l k c.destination.now d (rw here goes) told.1.0)))),
+        (λ has. by_cases ((HasUpdate-append cs (c ∷ []) k d).0 has) (λ old. let told = (made.are k d).0 old in (omega (arith, told.0), told.1)) (λ last. only last)),
+        (λ told. by_cases (upto k c.index told.0) (λ less. (HasUpdate-append cs (c ∷ []) k d).1 (inl ((made.are k d).1 (less, told.1))))
+            (λ here. (HasUpdate-append cs (c ∷ []) k d).1 (inr (inl (sym here, one_index l k c.destination.now d (rw here goes) told.1.0))))),
       );
       rises = rw indexes (all_pairs_push (λ n m. n < m) (updated_indexes cs) c.index made.rises (All-from_recursion (λ n. n < c.index) (updated_indexes cs) made.below));
       below = rw indexes (all_join (λ n. n < c.index + 1) (updated_indexes cs) (c.index ∷ []) (all_weaker (λ n. n < c.index) (λ n. n < c.index + 1) (λ n less. omega arith) (updated_indexes cs) made.below) (omega arith, tt));
