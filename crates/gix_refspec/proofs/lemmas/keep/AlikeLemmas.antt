@@ -23,9 +23,6 @@ zip_back [] [] alike = tt
 zip_back (r ∷ g) (q ∷ h) alike = (alike_back r q alike.0, zip_back g h alike.1)
 zip_back g h alike = absurd alike
 
-sign_negative : (mode : Mode) → is_negative mode ≡ true → mode ≡ Negative
-sign_negative mode sign = grind arith
-
 alike_positive : (r q : Reading) → AreAlike r q → IsPositive r.mode → IsPositive q.mode
 alike_positive r q alike positive = grind arith
 
@@ -79,12 +76,6 @@ zip_keys f h [] [] same = tt
 zip_keys f h (x ∷ xs) (z ∷ zs) same = (cc, zip_keys f h xs zs (cc))
 zip_keys f h xs zs same = absurd (cc)
 
-forward_ends : (r q : Reading) (ends : Ends) → AreAlike r q → AreForwardEnds r ends → AreForwardEnds q ends
-forward_ends r q ends alike are = search (rules, alike_positive r q alike are.positive)
-
-backward_ends : (r q : Reading) (ends : Ends) → AreAlike r q → AreBackwardEnds r ends → AreBackwardEnds q ends
-backward_ends r q ends alike are = search (rules, alike_positive r q alike are.positive)
-
 module _ (HasEnds : Reading → Ends → Type 0) (Taken : List ℕ → Ref → Option (List ℕ) → Type 0) (keeps : (r q : Reading) (ends : Ends) → AreAlike r q → HasEnds r ends → HasEnds q ends) (items : List Ref) where
   spec_hits : (k : ℕ) (r q : Reading) (hits : List Hit) → AreAlike r q → AreSpecHits HasEnds Taken items k r hits → AreSpecHits HasEnds Taken items k q hits
   spec_hits k r q hits alike (inl (ends, has, made)) = inl (ends, keeps r q ends alike has, made)
@@ -97,7 +88,7 @@ id_mapping : (k : ℕ) (r q : Reading) (m : Mapped) → AreAlike r q → IsIdMap
 id_mapping k r q m alike is = search (rules, alike_positive r q alike is.positive, rw alike.destination at is.destination)
 
 excluded_by : (n : List ℕ) (r q : Reading) → AreAlike r q → IsExcludedBy n r → IsExcludedBy n q
-excluded_by n r q alike by = search (rules, sign_negative q.mode (sym alike.negative ∙ ap is_negative by.negative), sym alike.source ∙ by.source)
+excluded_by n r q alike by = record { negative = grind arith; text = by.text; source = sym alike.source ∙ by.source; excludes = by.excludes }
 
 excluded : (n : List ℕ) (g h : List Reading) → AllZip AreAlike g h → IsExcluded g n → IsExcluded h n
 excluded n [] h alike is = absurd is
@@ -118,11 +109,11 @@ forward : (g h : List Reading) (items : List Ref) (list : List Mapped) → AllZi
 forward g h items list alike are =
     let ids = made_zip AreAlike IsIdMapping IsIdMapping (λ k r q m same. (id_mapping k r q m same, id_mapping k q r m (alike_back r q same)))
     0 g h are.forward.ids alike are.forward.are_ids in
-    search (rules, ids, group_hits AreForwardEnds (Takes items) forward_ends items g h are.forward.hits alike, kept g h are.all list alike)
+    search (rules, ids, group_hits AreForwardEnds (Takes items) (λ r q ends same has. search (rules, alike_positive r q same has.positive)) items g h are.forward.hits alike, kept g h are.all list alike)
 
 backward : (g h : List Reading) (items : List Ref) (list : List Mapped) → AllZip AreAlike g h → AreKeptBackward g items list → AreKeptBackward h items list
 backward g h items list alike are =
-    search (rules, group_hits AreBackwardEnds Matches backward_ends items g h are.backward.hits alike, kept g h are.all list alike)
+    search (rules, group_hits AreBackwardEnds Matches (λ r q ends same has. search (rules, alike_positive r q same has.positive)) items g h are.backward.hits alike, kept g h are.all list alike)
 
 map_alike : (g h : List Reading) (items : List Ref) → AllZip AreAlike g h → MapAlike g h items
 map_alike g h items alike = search (rules, forward, backward, zip_back)

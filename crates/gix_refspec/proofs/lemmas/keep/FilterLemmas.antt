@@ -15,10 +15,10 @@ mapped_there f xs x (k, below, is) = (k, omega (arith, below, length-map xs f), 
 pub mapped_from : {X Y : Type 0} (f : X → Y) (xs : List X) (y : Y) → Contains (map f xs) y → (x : X) × Contains xs x × (f x ≡ y)
 mapped_from f xs y has = let (k, x, below, is, same) = some_at (λ x. f x ≡ y) xs (Any-from_map (λ z. z ≡ y) f xs (there (map f xs) y has)) in (x, (k, below, is), same)
 
-filtered_part : (p : Item → Bool) (items : List Item) → ArePart (map ref_of items) (map ref_of (filter p items))
-filtered_part p items ref has =
+filtered_part : (p : Item → Bool) (items some : List Item) → some ≡ filter p items → ArePart (map ref_of items) (map ref_of some)
+filtered_part p items some is = rw is (λ ref has.
     let (item, there, same) = mapped_from ref_of (filter p items) ref has in
-    subst (Contains (map ref_of items)) same (mapped_there ref_of items item (All-contains (Contains items) (filter p items) item (All-filter p (Contains items) items (All-contains_itself items)) there))
+    subst (Contains (map ref_of items)) same (mapped_there ref_of items item (All-contains (Contains items) (filter p items) item (All-filter p (Contains items) items (All-contains_itself items)) there)))
 
 passed : (p : Item → Bool) (items : List Item) (P : Ref → Type 0) → ((item : Item) → Contains items item → P (ref_of item) → p item ≡ true) → (ref : Ref) → Contains (map ref_of items) ref → P ref → Contains (map ref_of (filter p items)) ref
 passed p items P passes ref has holds =
@@ -29,11 +29,7 @@ filtered_taken : (HasEnds : Reading → Ends → Type 0) (Taken : List ℕ → R
 filtered_taken HasEnds Taken g items some p is passes = subst (λ (l : List Item). HasTaken HasEnds Taken g (map ref_of items) (map ref_of l)) (sym is) (passed p items (λ (r : Ref). Any (TakesItem HasEnds Taken r) g) passes)
 
 pub filtered_items : (g : List Reading) (items some : List Item) → FilteredItems g items some
-filtered_items g items some = record {
-  part = λ p is. subst (λ (l : List Item). ArePart (map ref_of items) (map ref_of l)) (sym is) (filtered_part p items);
-  forward = λ p is passes. filtered_taken AreForwardEnds (Takes (map ref_of items)) g items some p is passes;
-  backward = λ p is passes. filtered_taken AreBackwardEnds Matches g items some p is passes;
-}
+filtered_items g items some = search (rules, filtered_part, filtered_taken)
 
 begun : (n : List ℕ) (entries : List (List ℕ)) → BeginsWithOne entries n → is_begun entries n ≡ true
 begun n entries (k, e, below, is, begins) = list_any-from_Any (λ entry. starts_with nat_eq n entry) entries (k, e, below, is, (starts_is Decides-eqb n e (starts_with nat_eq n e) refl).1 begins.after begins.here)
@@ -42,7 +38,7 @@ pub filtered_by_list : (items some : List Item) → FilteredByList items some
 filtered_by_list items some entries is =
     let p : Item → Bool = λ item. is_begun entries (bstr_bytes item.full_ref_name) in
     record {
-      part = subst (λ (l : List Item). ArePart (map ref_of items) (map ref_of l)) (sym is) (filtered_part p items);
+      part = filtered_part p items some is;
       asked = λ ref has begins. subst (λ (l : List Item). Contains (map ref_of l) ref) (sym is) (passed p items (λ (r : Ref). BeginsWithOne entries r.name) (λ item there of_item. begun (bstr_bytes item.full_ref_name) entries of_item) ref has begins);
     }
 
@@ -73,18 +69,17 @@ takes_in_part A B part x item word there takes = search (rules, first_in_part A 
 
 -- if no item that is taken is left out, an item that is taken in the subset is taken among all
 takes_in_all : (A B : List Ref) → ArePart A B → (x : List ℕ) → ((item : Ref) (word : Option (List ℕ)) → Contains A item → Takes A x item word → Contains B item) → (item : Ref) (word : Option (List ℕ)) → Contains B item → Takes B x item word → Takes A x item word
-takes_in_all A B part x has item word there takes = record { matches = takes.matches; first = first }
-  where
-    first : (n : List ℕ) → HasKind x (partial n) → IsFirstCandidate A n item.name
-    first n kind =
-        let among = takes.first n kind in
-        let (m, of_all) = some_first A n item.name (first_candidate B n item.name among) (name_there A item (part item there)) in
-        let (other, is_there, named) = item_named A m of_all.present in
-        let whole : HasKind x (partial x) = (refl, kind.1, kind.2, kind.3) in
-        let first_of_x : IsFirstCandidate A x other.name = subst (λ (y : List ℕ). IsFirstCandidate A y other.name) kind.0 (subst (IsFirstCandidate A n) (sym named) of_all) in
-        let in_part = has other None is_there (taken_by_first A x other whole first_of_x) in
-        let same : item.name ≡ m = first_once B n item.name m among (first_in_part A B part n m (subst (HasName B) named (name_there B other in_part)) of_all) in
-        subst (IsFirstCandidate A n) (sym same) of_all
+takes_in_all A B part x has item word there takes = record {
+  matches = takes.matches;
+  first = λ n kind.
+      let among = takes.first n kind in
+      let (m, of_all) = some_first A n item.name (first_candidate B n item.name among) (name_there A item (part item there)) in
+      let (other, is_there, named) = item_named A m of_all.present in
+      let first_of_x : IsFirstCandidate A x other.name = subst (λ (y : List ℕ). IsFirstCandidate A y other.name) kind.0 (subst (IsFirstCandidate A n) (sym named) of_all) in
+      let in_part = has other None is_there (taken_by_first A x other (refl, kind.1, kind.2, kind.3) first_of_x) in
+      let same : item.name ≡ m = first_once B n item.name m among (first_in_part A B part n m (subst (HasName B) named (name_there B other in_part)) of_all) in
+      subst (IsFirstCandidate A n) (sym same) of_all;
+}
 
 -- a pair is made over other items, if those that make it are there and are taken
 pairs_moved : (HasEnds : Reading → Ends → Type 0) (T U : List ℕ → Ref → Option (List ℕ) → Type 0) (A B : List Ref) (n : List ℕ) (far : Option (List ℕ)) (r : Reading)

@@ -79,13 +79,9 @@ pub nothing_excluded : (g : List Reading) (items : List Ref) → NothingExcluded
 nothing_excluded g items = grind (arith, included)
 
 kept_first : (g : List Reading) (l : List Mapped) (k : ℕ) (x y : Mapped) → slice_get l k ≡ Some x → Keeps g l k x y → IsFirstOfPair g l y
-kept_first g l k x y stands (same, keeps) = subst (IsFirstOfPair g l) (sym same) (record {
-  before = take k l;
-  after = drop (k + 1) l;
-  here = sym (take-append-drop k l) ∙ ap (λ (z : List Mapped). take k l ++ z) (drop_more l k x (slice_get_within l k x stands) ∙ ap (λ (z : Mapped). z ∷ drop (k + 1) l) (get_or_from_slice_get l k x x stands));
-  first = keeps.first;
-  included = keeps.included;
-})
+kept_first g l k x y stands (same, keeps) =
+    let here = sym (take-append-drop k l) ∙ ap (λ (z : List Mapped). take k l ++ z) (drop_more l k x (slice_get_within l k x stands) ∙ ap (λ (z : Mapped). z ∷ drop (k + 1) l) (get_or_from_slice_get l k x x stands)) in
+    subst (IsFirstOfPair g l) (sym same) (record { before = take k l; after = drop (k + 1) l; here = here; first = keeps.first; included = keeps.included })
 
 kept_at : (g : List Reading) (l : List Mapped) (k : ℕ) (before : List Mapped) (x : Mapped) (after ys : List Mapped) → IsMadeFrom (Keeps g l) k (before ++ (x ∷ after)) ys → IsKeptAt g l (k + length before) x → Any (λ y. y ≡ x) ys
 kept_at g l k [] x after ys (None, rest, none, more, is) stays = absurd (none x (refl, subst (λ (n : ℕ). IsKeptAt g l n x) (omega arith) stays))

@@ -29,8 +29,7 @@ module _ (b : ℕ) (below : b < 32) (refused : IsTrue (is_refused_byte b)) where
   named_lacks (c ∷ d ∷ s) lacks = lacks
 
   sign_lacks : (forced : Bool) → Lacks b (sign forced)
-  sign_lacks true = ((λ same. omega (arith, same, below)), tt)
-  sign_lacks false = tt
+  sign_lacks forced = grind arith
 
   forced_lacks : (forced : Bool) (s d : List ℕ) → Lacks b s → Lacks b d → Lacks b (sign forced ++ (s ++ (colon ∷ d)))
   forced_lacks forced s d source destination = all_join (λ c. c ≢ b) (sign forced) (s ++ (colon ∷ d)) (sign_lacks forced) (all_join (λ c. c ≢ b) s (colon ∷ d) source ((λ same. omega (arith, same, below)), destination))

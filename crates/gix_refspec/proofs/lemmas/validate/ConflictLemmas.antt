@@ -129,15 +129,12 @@ rise_more (d ∷ ds) x strict below = (all_join (λ y. slice_cmp nat_cmp d y ≡
 module _ (g : List Reading) (l : List Mapped) (run others : List Update) (cs : List Conflict) (split : IsRun run others) (settled : AreReported g l (run ++ others) cs) where
   -- the run has all first mappings to its destination
   firsts_of_run : 0 < length run → (k : ℕ) → HasUpdate run k split.destination ↔ IsFirstAt l k split.destination
-  firsts_of_run some k = (
+  firsts_of_run some k = let at_start = All-from_recursion (λ (c : Update). c.destination.now ≡ split.destination) run split.same 0 past_end some in (
     (λ has. settled.left k split.destination ((HasUpdate-append run others k split.destination).1 (inl has))),
     (λ first. by_cases (settled.all k split.destination first)
         (λ has. by_cases ((HasUpdate-append run others k split.destination).0 has) (λ here. here) (λ there. absurd (not_beyond split.destination others k split.beyond there)))
         (λ past. absurd (not_below_itself split.destination (rw at_start at (All-from_recursion (λ c. slice_cmp nat_cmp split.destination c.destination.now ≡ Less) run (all_left _ run others past) 0 past_end some))))),
   )
-    where
-      at_start : (get_or run 0 past_end).destination.now ≡ split.destination
-      at_start = All-from_recursion (λ (c : Update). c.destination.now ≡ split.destination) run split.same 0 past_end some
 
   -- an update of a first mapping is among the others, or its destination is less than all of theirs
   behind_run : (k : ℕ) (d : List ℕ) → IsFirstAt l k d → HasUpdate others k d ⊎ AllByRecursion (λ c. slice_cmp nat_cmp d c.destination.now ≡ Less) others

@@ -47,7 +47,7 @@ made_at_indexes P Q l k [] (n ∷ ns) (y ∷ ys) at has rises above zip =
     absurd (cc)
 made_at_indexes {Y} P Q l k (x ∷ rest) [] ys at has rises above zip =
     (None, ys, (λ y both. (has k x (omega arith) (here_at l k x rest at)).1 both.0), made_at_indexes P Q l (k + 1) rest [] ys (tail_at l k x rest at) (λ j m low is. has j m (omega arith) is) rises tt zip, refl)
-made_at_indexes {Y} P Q l k (x ∷ rest) (n ∷ ns) (y ∷ ys) at has rises above zip = elim (cases_lt k n) [
+made_at_indexes {Y} P Q l k (x ∷ rest) (n ∷ ns) (y ∷ ys) at has rises above zip = let is_x = here_at l k x rest at in elim (cases_lt k n) [
   | inl less ↦
       let over : AllByRecursion (λ m. k + 1 ≤ m) (n ∷ ns) = (omega (arith, less), all_weaker (λ m. n < m) (λ m. k + 1 ≤ m) (λ m below. omega (arith, below, less)) ns rises.0) in (
         None,
@@ -69,9 +69,6 @@ made_at_indexes {Y} P Q l k (x ∷ rest) (n ∷ ns) (y ∷ ys) at has rises abov
         refl,
       )
 ]
-  where
-    is_x : slice_get l k ≡ Some x
-    is_x = here_at l k x rest at
 made_at_indexes P Q l k rest ns ys at has rises above zip = absurd zip
 
 text_cases : (x y : List ℕ) → (x ≡ y) ⊎ (x ≢ y)
@@ -114,22 +111,13 @@ AreApart ds = (i j : ℕ) (d : List ℕ) → i < j → j < length ds → get_or 
 -- no two mappings have one destination, if no destination is there twice
 two_places : (l : List Mapped) (j k : ℕ) (m n : Mapped) (d : List ℕ) → AreApart (all_destinations l) → j < k → slice_get l j ≡ Some m → slice_get l k ≡ Some n → m.destination ≡ Some d → n.destination ≡ Some d → ⊥
 two_places l j k m n d apart before is_m is_n to_m to_n =
+    let of : Mapped → List (List ℕ) = λ x. option_to_list x.destination in
+    let place : ℕ → ℕ = λ i. length (all_destinations (take i l)) in
+    let one : (i : ℕ) (x : Mapped) → slice_get l i ≡ Some x → x.destination ≡ Some d → length (of (get_or l i x)) ≡ 1 = λ i x is to. rw (get_or_from_slice_get l i x x is, to) refl in
+    let at : (i : ℕ) (x : Mapped) → slice_get l i ≡ Some x → x.destination ≡ Some d → get_or (all_destinations l) (place i + 0) d ≡ d = λ i x is to.
+    get_or-flat_map of l i 0 x d (slice_get_within l i x is) (omega (arith, one i x is to)) ∙ rw (get_or_from_slice_get l i x x is, to) refl in
+    let earlier : place j + length (of (get_or l j m)) ≤ place k = rw (take-take j k l (omega (arith, before)), get_or-take k l j m before) at (length-flat_map-take of (take k l) j m (omega (arith, before, slice_get_within l k n is_n, length-take-le k l))) in
     apart (place j + 0) (place k + 0) d (omega (arith, earlier, one j m is_m to_m)) (omega (arith, length-flat_map-take of l k n (slice_get_within l k n is_n), one k n is_n to_n)) (at j m is_m to_m ∙ sym (at k n is_n to_n))
-  where
-    of : Mapped → List (List ℕ)
-    of x = option_to_list x.destination
-
-    place : ℕ → ℕ
-    place i = length (all_destinations (take i l))
-
-    one : (i : ℕ) (x : Mapped) → slice_get l i ≡ Some x → x.destination ≡ Some d → length (of (get_or l i x)) ≡ 1
-    one i x is to = rw (get_or_from_slice_get l i x x is, to) refl
-
-    at : (i : ℕ) (x : Mapped) → slice_get l i ≡ Some x → x.destination ≡ Some d → get_or (all_destinations l) (place i + 0) d ≡ d
-    at i x is to = get_or-flat_map of l i 0 x d (slice_get_within l i x is) (omega (arith, one i x is to)) ∙ rw (get_or_from_slice_get l i x x is, to) refl
-
-    earlier : place j + length (of (get_or l j m)) ≤ place k
-    earlier = rw (take-take j k l (omega (arith, before)), get_or-take k l j m before) at (length-flat_map-take of (take k l) j m (omega (arith, before, slice_get_within l k n is_n, length-take-le k l)))
 
 pub none_contested : (l : List Mapped) (ds : List BStr) (flags : List Bool) → map bstr_bytes ds ≡ all_destinations l → FlagsDuplicates (λ (x : BStr) (y : BStr). bytes_order (bstr_bytes x) (bstr_bytes y)) ds flags → length flags ≡ 0 → (d : List ℕ) → ¬ (HasConflictAt l d)
 none_contested l ds flags are all none d c =

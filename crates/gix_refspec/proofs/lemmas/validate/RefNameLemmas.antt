@@ -12,11 +12,8 @@ bad_unnamed side m bad named = grind arith
 pub some_unnamed : (ms : List Mapping) (i : ℕ) (m : Mapping) (side : InvalidSide) → i < length ms → m ≡ get_or ms i m → IsInvalidAt side (mapped_of m) → ¬ (AllByRecursion HasRefNames (map mapped_of ms))
 some_unnamed ms i m side below is bad all = bad_unnamed side (mapped_of m) bad (each_mapped mapped_of HasRefNames ms i m all below is)
 
-pub copied_destination : (d e : Option NameRef) → IsDestinationCopy d e → option_map name_bytes e ≡ option_map name_bytes d
-copied_destination d e copy = grind (arith, copied_name)
-
 pub copied_mapping : (m copy : Mapping) → IsMappingCopy m copy → mapped_of copy ≡ mapped_of m
-copied_mapping m copy is = grind (arith, copied_destination, copied_source)
+copied_mapping m copy is = grind (arith, copied_name, copied_source)
 
 pub name_of_ref : (n : List ℕ) → IsRefName n → IsName n
 name_of_ref n ref = by_cases ref (λ full. full.1) (λ is. subst IsName (sym is) IsName-head)

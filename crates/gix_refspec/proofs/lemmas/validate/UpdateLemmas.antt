@@ -88,17 +88,13 @@ pub updates_more : (l : List Mapped) (flags : List Bool) (cs new : List Update) 
 updates_more l flags cs new c is goes unflagged made =
     let indexes : updated_indexes new ≡ updated_indexes cs ++ c.index ∷ [] = ap updated_indexes is ∙ map-append (λ (x : Update). x.index) cs (c ∷ []) in record {
       are = λ k d. rw is (
-        (λ has. by_cases ((HasUpdate-append cs (c ∷ []) k d).0 has) (λ old. let told = (made.are k d).0 old in (omega (arith, told.0), told.1)) (λ last. only last)),
+        (λ has. by_cases ((HasUpdate-append cs (c ∷ []) k d).0 has) (λ old. let told = (made.are k d).0 old in (omega (arith, told.0), told.1)) (λ last. by_cases last (λ at. rw (← at.0, ← at.1) (omega arith, (goes, unflagged))) (λ none. absurd none))),
         (λ told. by_cases (upto k c.index told.0) (λ less. (HasUpdate-append cs (c ∷ []) k d).1 (inl ((made.are k d).1 (less, told.1))))
             (λ here. (HasUpdate-append cs (c ∷ []) k d).1 (inr (inl (sym here, one_index l k c.destination.now d (rw here goes) told.1.0))))),
       );
       rises = rw indexes (all_pairs_push (λ n m. n < m) (updated_indexes cs) c.index made.rises (All-from_recursion (λ n. n < c.index) (updated_indexes cs) made.below));
       below = rw indexes (all_join (λ n. n < c.index + 1) (updated_indexes cs) (c.index ∷ []) (all_weaker (λ n. n < c.index) (λ n. n < c.index + 1) (λ n less. omega arith) (updated_indexes cs) made.below) (omega arith, tt));
     }
-  where
-    only : {k : ℕ} {d : List ℕ} → HasUpdate (c ∷ []) k d → (k < c.index + 1) × (GoesTo l k d × ¬ (IsFlagged flags k))
-    only (inl at) = rw (← at.0, ← at.1) (omega arith, (goes, unflagged))
-    only (inr none) = absurd none
 
 pub updates_same : (l : List Mapped) (flags : List Bool) (p : ℕ) (cs : List Update) → ((d : List ℕ) → GoesTo l p d → ¬ (IsFlagged flags p) → ⊥) → AreUpdatesUpto l flags p cs → AreUpdatesUpto l flags (p + 1) cs
 updates_same l flags p cs none made = record {
