@@ -1,11 +1,9 @@
+-- Destinations and texts are compared by their bytes, sources as names and ids.
 use Rattle.gix_refspec.proofs.Common.{◌≡◌, ◌↔◌, true, IsTrue, bstring_bytes, bytes_eq-Decides, SourceRef, Issue, id_bytes, name_bytes, start_of, conflict_of, same_keys, arith}
 use Rattle.bstr.specs.contracts.bstring.BStringPartialEq.TheImpl.{ghosts as compared_texts}
 use Rattle.gix_refspec.specs.contracts.match_group.validate.IssuePartialEq.TheImpl.{ghosts}
 use Rattle.gix_refspec_match.specs.contracts.types.SourceRefPartialEq.TheImpl.{ghosts as compared_sources}
-use Rattle.gix_refspec_match.specs.declared.types.SourceRef.TheVariants as source_ref
 use Rattle.gix_refspec.specs.declared.match_group.validate.Issue.TheVariants as issue
-
--- Destinations and texts are compared by their bytes, sources as names and ids.
 
 same_source : (a b : SourceRef) → (compared_sources.eq a b ≡ true) ↔ (start_of a ≡ start_of b)
 same_source a b = grind (arith, bytes_eq-Decides)

@@ -9,5 +9,4 @@ returns-then-branch-clause-ok c = rw c.new-then-branch.ensures.items (no_conflic
 
 pub issues_among-requires-clause-firsts : goal.issues_among-requires-clause-firsts
 issues_among-requires-clause-firsts c =
-    rw c.as_slice-2.ensures.value
-    (firsts_from_updates c.args.mappings.now c.in_ok-repeats.repeats.items c.in_ok-firsts.firsts.items c.in_ok-repeats.ensures.ok (rw c.as_slice.ensures.value at c.in_ok-firsts.ensures))
+    rw c.as_slice-2.ensures.value (firsts_from_updates c.args.mappings.now c.in_ok-repeats.repeats.items c.in_ok-firsts.firsts.items c.in_ok-repeats.ensures.ok (rw c.as_slice.ensures.value at c.in_ok-firsts.ensures))
