@@ -3,7 +3,8 @@ use Rattle.gix_refspec.proofs.Common.{MappingWithPartialDestinationRemoved, ◌�
 use Rattle.gix_refspec.specs.contracts.match_group.validate.FixPartialEq.TheImpl.{ghosts}
 
 same_fix : (a b : Fix) → IsTrue (ghosts.eq a b) ↔ IsSameFix a b
-same_fix (MappingWithPartialDestinationRemoved n s) (MappingWithPartialDestinationRemoved m t) = grind (arith, bytes_eq-Decides (bstring_bytes n) (bstring_bytes m), equal_keys (meaning_of (owned_reading_of s)) (meaning_of (owned_reading_of t)))
+same_fix (MappingWithPartialDestinationRemoved n s) (MappingWithPartialDestinationRemoved m t) =
+    grind (arith, bytes_eq-Decides (bstring_bytes n) (bstring_bytes m), equal_keys (meaning_of (owned_reading_of s)) (meaning_of (owned_reading_of t)))
 
 pub returns : Rattle.gix_refspec.proofs.laws.equal_fixes.Goals.returns
 returns c = same_fix c.args.a.now c.args.b.now

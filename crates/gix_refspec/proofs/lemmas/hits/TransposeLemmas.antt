@@ -34,7 +34,8 @@ filled_as y m kind word has becomes = grind (arith, one_kind)
 taken_back : (x y m : List ℕ) (r q : Ref) (word : Option (List ℕ)) → AreTwins x y → Matches x r word → IsFilled (Some y) word (Some m) → q.name ≡ m → (v : Option (List ℕ)) × Matches y q v × IsFilled (Some x) v (Some r.name)
 taken_back x y m r q None (inl ((before, after, of_x), of_y)) matches becomes same = absurd (matches_as x (pattern before after) r None of_x matches)
 taken_back x y m r q (Some w) (inl ((before, after, of_x), (front, back, of_y))) matches becomes same =
-    (Some w, record { kind = pattern front back; of = of_y; is = same ∙ filled_as y m (pattern front back) (Some w) of_y becomes }, (pattern before after, of_x, ap Some (matches_as x (pattern before after) r (Some w) of_x matches)))
+    let matched : Matches y q (Some w) = record { kind = pattern front back; of = of_y; is = same ∙ filled_as y m (pattern front back) (Some w) of_y becomes } in
+    (Some w, matched, (pattern before after, of_x, ap Some (matches_as x (pattern before after) r (Some w) of_x matches)))
 taken_back x y m r q word (inr (of_x, of_y)) matches becomes same =
     (None, record { kind = full_name y; of = of_y; is = (refl, same ∙ filled_as y m (full_name y) word of_y becomes) }, (full_name x, of_x, ap Some ((matches_as x (full_name x) r word of_x matches).1)))
 
@@ -74,14 +75,15 @@ forward_back A B n m r fine to makes =
     let (k, i, below, at, paired) = makes.one in
     let (y, is_y) = far_there makes.ends.far paired.word m paired.becomes in
     let has : AreBackwardEnds r (record { near = y; far = Some makes.ends.near }) = record { positive = makes.has.positive; near = makes.has.far ∙ is_y; far = makes.has.near; both = refl } in
-    pairs_back AreForwardEnds AreBackwardEnds (Takes A) Matches A B n m r makes y is_y (fine_twins r makes.ends.near y fine makes.has.positive makes.has.near has.near) has (λ i word takes. takes.matches) (λ i word matches. matches) to
+    pairs_back _ _ _ _ A B n m r makes y is_y (fine_twins r makes.ends.near y fine makes.has.positive makes.has.near has.near) has (λ i word takes. takes.matches) (λ i word matches. matches) to
 
 back_forward : (A B : List Ref) (n m : List ℕ) (r : Reading) → IsFine r → HasName A n → PairsItem AreBackwardEnds Matches B m (Some n) r → PairsItem AreForwardEnds (Takes A) A n (Some m) r
 back_forward A B n m r fine from makes =
     let (x, is_x) = side_there makes.ends.far makes.has.both in
     let twin = fine_twins r x makes.ends.near fine makes.has.positive (makes.has.far ∙ is_x) makes.has.near in
-    let has : AreForwardEnds r (record { near = x; far = Some makes.ends.near }) = record { positive = makes.has.positive; near = makes.has.far ∙ is_x; far = makes.has.near; no_object = λ bytes. no_object x makes.ends.near bytes twin } in
-    pairs_back AreBackwardEnds AreForwardEnds Matches (Takes A) B A m n r makes x is_x (search rules) has (λ i word matches. matches) (λ i word matches. record { matches = matches; first = λ p kind. absurd (no_partial x makes.ends.near p twin kind) }) from
+    let has : AreForwardEnds r (record { near = x; far = Some makes.ends.near }) =
+    record { positive = makes.has.positive; near = makes.has.far ∙ is_x; far = makes.has.near; no_object = λ bytes. no_object x makes.ends.near bytes twin } in
+    pairs_back _ _ _ _ B A m n r makes x is_x (search rules) has (λ i word matches. matches) (λ i word matches. record { matches = matches; first = λ p kind. absurd (no_partial x makes.ends.near p twin kind) }) from
 
 turned : (A B : List Ref) (s : Source) (d : Option (List ℕ)) (r : Reading) → IsFine r → IsDestinationAmong B d → MakesForward A s d r → MakesBackward B s d r × IsSourceAmong A s
 turned A B (name n) (Some m) r fine to makes = (forward_back A B n m r fine to makes, name_among n A (IsPaired (Takes A) makes.ends n (Some m)) (λ i is. is.name) makes.one)

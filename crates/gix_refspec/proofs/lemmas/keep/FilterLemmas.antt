@@ -147,7 +147,7 @@ pub listed_items : (g : List Reading) (A B : List Ref) → ListedItems g A B
 listed_items g A B = record {
   some = λ listed kept fewer of_all of_part pair has any.
       let included = ((kept_exactly g A).forward kept of_all pair).0 has in
-      let made : Any (MakesForward B pair.source pair.destination) g = any_each _ _ g (λ r there both. (forward_moved A B listed.part pair.source pair.destination r (listed_taken g A B listed r there both.0)).0 both.1) any in
+      let made : Any (MakesForward B pair.source pair.destination) g = any_each _ _ g (λ r there both. (forward_moved A B listed.part _ _ r (listed_taken g A B listed r there both.0)).0 both.1) any in
       ((kept_exactly g B).forward fewer of_part pair).1 (made, included.1);
   all = λ listed each kept fewer of_all of_part. forward_fewer g A B listed.part (λ r there. listed_taken g A B listed r there (All-contains (IsListed A) g r (All-from_recursion (IsListed A) g each) there)) kept fewer of_all of_part;
 }

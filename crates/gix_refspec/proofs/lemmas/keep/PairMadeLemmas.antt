@@ -29,18 +29,21 @@ pub one_name : (n m : List ℕ) → name n ≡ name m → n ≡ m
 one_name n m same = cc
 
 -- a hit has the pair of each item that a reading takes, and what the other side becomes
-reached : (which : Candidates) (g : List Reading) (items : List Ref) (hits : List Hit) (n : List ℕ) (d : Option (List ℕ)) → AreHits (HasEnds which) (TakesIn which items) g items hits → Any (PairsItem (HasEnds which) (TakesIn which items) items n d) g → Any (λ (h : Hit). (h.near ≡ n) × (h.far ≡ d)) hits
+reached : (which : Candidates) (g : List Reading) (items : List Ref) (hits : List Hit) (n : List ℕ) (d : Option (List ℕ)) → AreHits (HasEnds which) (TakesIn which items) g items hits
+    → Any (PairsItem (HasEnds which) (TakesIn which items) items n d) g → Any (λ (h : Hit). (h.near ≡ n) × (h.far ≡ d)) hits
 reached which g items hits n d are any =
-    reach_hits which g items hits (λ near far. (near ≡ n) × (far ≡ d)) are (Any-weaker _ _ (λ r makes. (makes.ends, makes.has, Any-weaker _ _ (λ i is. (is.word, d, is.takes, is.becomes, (is.name, refl))) items (some_of _ items makes.one))) g any)
+    reach_hits which g items hits (λ near far. (near ≡ n) × (far ≡ d)) are
+    (Any-weaker _ _ (λ r makes. (makes.ends, makes.has, Any-weaker _ _ (λ i is. (is.word, d, is.takes, is.becomes, (is.name, refl))) items (some_of _ items makes.one))) g any)
 
-forward_made : (g : List Reading) (items : List Ref) (l : List Mapped) → AreForward g items l → (i : Option ℕ) (s : Source) (d : Option (List ℕ)) (k : ℕ) → Any (MakesForward items s d) g → HasPair l (record { item = i; source = s; destination = d; spec = k })
+forward_made : (g : List Reading) (items : List Ref) (l : List Mapped) → AreForward g items l → (i : Option ℕ) (s : Source) (d : Option (List ℕ)) (k : ℕ)
+    → Any (MakesForward items s d) g → HasPair l (record { item = i; source = s; destination = d; spec = k })
 forward_made g items l are i (name n) d k any =
     let pair : Mapped = record { item = i; source = name n; destination = d; spec = k } in
     rw are.all (HasPair-Any (are.ids ++ map forward_of are.hits) pair (Any-right (IsOfPair pair) are.ids (map forward_of are.hits)
     (Any-map (IsOfPair pair) forward_of are.hits (Any-weaker _ _ (λ (h : Hit) both. record { source = ap name both.0; destination = both.1 }) are.hits (reached First g items are.hits n d are.are_hits any)))))
 forward_made g items l are i (id bytes) d k any =
     let pair : Mapped = record { item = i; source = id bytes; destination = d; spec = k } in
-    rw are.all (HasPair-Any (are.ids ++ map forward_of are.hits) pair (Any-left (IsOfPair pair) are.ids (map forward_of are.hits) (any_made IsIdMapping (IsOfPair pair) 0 g are.ids are.are_ids (Any-weaker _ _ (λ r makes j.
+    rw are.all (HasPair-Any (are.ids ++ map forward_of are.hits) pair (Any-left (IsOfPair pair) are.ids _ (any_made IsIdMapping (IsOfPair pair) 0 g are.ids are.are_ids (Any-weaker _ _ (λ r makes j.
     let m : Mapped = record { item = None; source = id bytes; destination = d; spec = j } in
     let is : IsIdMapping j r m = record { positive = makes.positive; text = makes.text; bytes = bytes; side = makes.side; object = makes.object; item = refl; source = refl; destination = makes.becomes; spec = refl } in
     (m, is, λ z also. subst (IsOfPair pair) (id_once j r m z is also) (record { source = refl; destination = refl }))) g any))))
@@ -51,10 +54,12 @@ forward_pairs g items l pair are = (
   forward_made g items l are pair.item pair.source pair.destination pair.spec,
 )
 
-backward_made : (g : List Reading) (items : List Ref) (l : List Mapped) → AreBackward g items l → (i : Option ℕ) (s : Source) (d : Option (List ℕ)) (k : ℕ) → Any (MakesBackward items s d) g → HasPair l (record { item = i; source = s; destination = d; spec = k })
+backward_made : (g : List Reading) (items : List Ref) (l : List Mapped) → AreBackward g items l → (i : Option ℕ) (s : Source) (d : Option (List ℕ)) (k : ℕ)
+    → Any (MakesBackward items s d) g → HasPair l (record { item = i; source = s; destination = d; spec = k })
 backward_made g items l are i (name n) (Some m) k any =
     let pair : Mapped = record { item = i; source = name n; destination = Some m; spec = k } in
-    rw are.all (HasPair-Any (map backward_of are.hits) pair (Any-map (IsOfPair pair) backward_of are.hits (Any-weaker _ _ (λ (h : Hit) both. record { source = ap (λ (f : Option (List ℕ)). name (unwrap_or f [])) both.1; destination = ap (λ (x : List ℕ). Some x) both.0 }) are.hits (reached All g items are.hits m (Some n) are.are_hits any))))
+    rw are.all (HasPair-Any (map backward_of are.hits) pair (Any-map (IsOfPair pair) backward_of are.hits
+    (Any-weaker _ _ (λ (h : Hit) both. record { source = ap (λ (f : Option (List ℕ)). name (unwrap_or f [])) both.1; destination = ap (λ (x : List ℕ). Some x) both.0 }) are.hits (reached All g items are.hits m (Some n) are.are_hits any))))
 backward_made g items l are i s d k any = absurd (Any-fact ⊥ g any)
 
 backward_pairs : (g : List Reading) (items : List Ref) (l : List Mapped) (pair : Mapped) → AreBackward g items l → HasPair l pair ↔ Any (MakesBackward items pair.source pair.destination) g

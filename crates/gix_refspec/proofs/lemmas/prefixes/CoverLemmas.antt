@@ -19,8 +19,12 @@ pub side_covers : (x : List ℕ) (r : Ref) (word : Option (List ℕ)) → IsCove
 side_covers x r word (by_prefix p below is) no_object matches = (p ∷ [], to_prefix p is refl, (0, p, omega arith, refl, prefix_begins x p r word is (below_not_head x below) matches))
 side_covers x r word (by_candidates lacks other outside) no_object matches =
     let has = has_candidates x lacks other outside (matched_no_id x matches.kind lacks outside no_object matches.of) in
-    let one = (has.matches r).0 (word, matches) in
-    (candidates x, has.expands, subst (λ (names : List (List ℕ)). BeginsWithOne names r.name) (sym one.here) (at_place (λ entry. BeginsWith entry r.name) _ (Any-right _ one.earlier (r.name ∷ one.later) (inl (record { after = []; here = sym (append-nil r.name) })))))
+    let one = (has.matches r).0 (word, matches) in (
+      candidates x,
+      has.expands,
+      subst (λ (names : List (List ℕ)). BeginsWithOne names r.name) (sym one.here)
+          (at_place (λ entry. BeginsWith entry r.name) _ (Any-right _ one.earlier (r.name ∷ one.later) (inl (record { after = []; here = sym (append-nil r.name) })))),
+    )
 
 pub source_asked : (r : Reading) (ends : Ends) → r.operation ≡ Fetch → AreForwardEnds r ends → IsAsked r ends.near
 source_asked r ends fetch are = record { positive = are.positive; side = ap (λ (op : Operation). side_on_remote op r.source r.destination) fetch ∙ are.near }
@@ -43,8 +47,12 @@ pub cover : (g : List Reading) (items : List Ref) → Cover g items
 cover g items kept stays =
     all_weaker (ForwardAt g items) (λ m. (n : List ℕ) → m.source ≡ name n → AtSpec g m (λ r. AsksFor r n → IsCoveredBy n r))
     (λ m (r, here, at) n is.
-    let made : TakesAt AreForwardEnds (Takes items) items m.item n m.destination r = subst (λ (s : Source). MakesForwardOf items m.item s m.destination r) is at in
-    (r, here, λ asks. by_cases asks (λ covering. subst (λ (x : List ℕ). IsCoveredBy x r) made.paired.name (covering_covers r made.ends made.ref made.paired.word covering made.has made.paired.takes.matches)) (λ fetch. head_covers r n fetch.1 fetch.2))) kept ((made_at_indexes g items).forward kept stays)
+    let made : TakesAt AreForwardEnds (Takes items) items m.item n m.destination r = subst (λ (s : Source). MakesForwardOf items m.item s m.destination r) is at in (
+      r,
+      here,
+      λ asks. by_cases asks
+          (λ covering. subst (λ (x : List ℕ). IsCoveredBy x r) made.paired.name (covering_covers r made.ends made.ref made.paired.word covering made.has made.paired.takes.matches)) (λ fetch. head_covers r n fetch.1 fetch.2),
+    )) kept ((made_at_indexes g items).forward kept stays)
 
 expansion_once : (r : Reading) (list other : List (List ℕ)) → IsExpansion r list → IsExpansion r other → list ≡ other
 expansion_once r list other (inl (x, asked, a)) (inl (y, also, b)) = (one_prefix x).expanded list other a (subst (λ (z : List ℕ). Expands z other) (one_asked r y x also asked) b)

@@ -25,7 +25,8 @@ distinct_destinations [] one apart = tt
 distinct_destinations (m ∷ l) one apart =
     let within : (n : Mapped) → Contains l n → Contains (m ∷ l) n = λ n (k, below, is). (suc k, omega (arith, below), is) in (
       recursion_from_All (λ n. ¬ (ShareDestination m n)) l (λ k d below meet.
-          All-from_recursion (λ z. ¬ (IsSamePair m z)) l apart.0 k d below (record { source = one m (get_or l k d) meet.0 (0, omega arith, refl) (within (get_or l k d) (Contains-get_or l k d below)) meet.1 meet.2; destination = meet.1 ∙ sym meet.2 })),
+          let n = get_or l k d in
+          All-from_recursion (λ z. ¬ (IsSamePair m z)) l apart.0 k d below (record { source = one m n meet.0 (0, omega arith, refl) (within n (Contains-get_or l k d below)) meet.1 meet.2; destination = meet.1 ∙ sym meet.2 })),
       distinct_destinations l (λ a b d has_a has_b. one a b d (within a has_a) (within b has_b)) apart.1,
     )
 
@@ -39,10 +40,10 @@ one_source_still S l rest one made m n d has_m has_n =
     one m n d (All-contains (Contains l) rest m (All-from_recursion (Contains l) rest was) has_m) (All-contains (Contains l) rest n (All-from_recursion (Contains l) rest was) has_n)
 
 pub distinct_destinations_after : (g : List Reading) (l rest : List Mapped) (fixes : List Removed) → IsValidated g l rest fixes → AreApart l → HaveDistinctDestinations rest
-distinct_destinations_after g l rest fixes valid apart = distinct_destinations rest (one_source_still (λ j x. Survives x) l rest (free_one_source g l valid.free) valid.survive) (apart_still (λ k m. Survives m) 0 l rest apart valid.survive)
+distinct_destinations_after g l rest fixes valid apart = distinct_destinations rest (one_source_still _ l rest (free_one_source g l valid.free) valid.survive) (apart_still _ 0 l rest apart valid.survive)
 
 pub validated_once : (g : List Reading) (items : List Ref) → ValidatedOnce g items
-validated_once g items l rest fixes valid = (one_source_still (λ j x. Survives x) l rest (free_one_source g l valid.free) valid.survive, λ kept. distinct_destinations_after g l rest fixes valid (kept_once g kept.all l kept.is))
+validated_once g items l rest fixes valid = (one_source_still _ l rest (free_one_source g l valid.free) valid.survive, λ kept. distinct_destinations_after g l rest fixes valid (kept_once g kept.all l kept.is))
 
 fixes_apart : (g : List Reading) (k : ℕ) (l : List Mapped) (fixes : List Removed) → HaveDistinctDestinations l → IsMadeFrom (λ j m fix. IsFix g m fix) k l fixes → AreFixesApart fixes
 fixes_apart g k [] fixes apart empty = subst AreFixesApart (sym empty) tt

@@ -61,7 +61,8 @@ module _ (b : ℕ) (below : b < 32) (refused : IsTrue (is_refused_byte b)) where
   printed_lacks : (text : List ℕ) (r : Reading) (t : List ℕ) → Reads Fetch text r → printed r ≡ Some t → Lacks b t
   printed_lacks text r t reads prints =
       let sides = sides_lack text r reads in
-      fetch_lacks r.mode r.source r.destination t sides.0 sides.1 (subst (λ (op : Operation). printed (record { operation = op; mode = r.mode; source = r.source; destination = r.destination }) ≡ Some t) (keeps_operation Fetch text r reads) prints)
+      fetch_lacks r.mode r.source r.destination t sides.0 sides.1
+      (subst (λ (op : Operation). printed (record { operation = op; mode = r.mode; source = r.source; destination = r.destination }) ≡ Some t) (keeps_operation Fetch text r reads) prints)
 
 module _ (b : ℕ) (below : b < 32) (no_digit : is_lower_digit b ≡ false) where
   lower_lacks : (t i : List ℕ) → IsIdText t i → Lacks b (lower_of i)
@@ -78,7 +79,8 @@ module _ (b : ℕ) (below : b < 32) (no_digit : is_lower_digit b ≡ false) wher
   filled_lacks x (object i) word has lacks clear = all_join (λ c. c ≢ b) (codes "refs/heads/") (lower_of i) (search arith) (lower_lacks x i has.2)
   filled_lacks x (partial n) word has lacks clear =
       let named = subst (Lacks b) (sym has.0) lacks in
-      either_way b (starts_with nat_eq n (codes "tags/") || starts_with nat_eq n (codes "remotes/")) (codes "refs/" ++ n) (codes "refs/heads/" ++ n) (all_join (λ c. c ≢ b) (codes "refs/") n (search arith) named) (all_join (λ c. c ≢ b) (codes "refs/heads/") n (search arith) named)
+      either_way b (starts_with nat_eq n (codes "tags/") || starts_with nat_eq n (codes "remotes/")) (codes "refs/" ++ n) (codes "refs/heads/" ++ n)
+      (all_join (λ c. c ≢ b) (codes "refs/") n (search arith) named) (all_join (λ c. c ≢ b) (codes "refs/heads/") n (search arith) named)
 
   word_lacks : (kind : SideKind) (r : Ref) (word : Option (List ℕ)) → MatchesAs kind r word → Lacks b r.name → LacksIn b word
   word_lacks kind r None is lacks = tt
@@ -89,15 +91,17 @@ module _ (b : ℕ) (below : b < 32) (no_digit : is_lower_digit b ≡ false) wher
   far_lacks None word n is lacks clear = subst (LacksIn b) (sym is) tt
   far_lacks (Some x) word n (kind, has, is) lacks clear = subst (LacksIn b) (sym is) (filled_lacks x kind word has lacks clear)
 
-  made_lacks : (items : List Ref) (item : Option ℕ) (s : Source) (far : Option (List ℕ)) (r : Reading) → AllByRecursion (λ x. Lacks b x.name) items → SidesLack b r → MakesForwardOf items item s far r → SourceLacks b s × LacksIn b far
+  made_lacks : (items : List Ref) (item : Option ℕ) (s : Source) (far : Option (List ℕ)) (r : Reading) → AllByRecursion (λ x. Lacks b x.name) items → SidesLack b r
+      → MakesForwardOf items item s far r → SourceLacks b s × LacksIn b far
   made_lacks items item (name n) far r names sides at =
       let clear = all_at (λ x. Lacks b x.name) items at.index at.ref names at.stands in
-      (subst (Lacks b) at.paired.name clear, far_lacks at.ends.far at.paired.word far at.paired.becomes (subst (LacksIn b) at.has.far sides.1) (word_lacks at.paired.takes.matches.kind at.ref at.paired.word at.paired.takes.matches.is clear))
+      let word = word_lacks at.paired.takes.matches.kind at.ref at.paired.word at.paired.takes.matches.is clear in
+      (subst (Lacks b) at.paired.name clear, far_lacks at.ends.far at.paired.word far at.paired.becomes (subst (LacksIn b) at.has.far sides.1) word)
   made_lacks items item (id i) far r names sides (none, made) = (lower_lacks made.text i made.object.2, far_lacks r.destination None far made.becomes sides.1 tt)
 
   kept_lacks : (g : List Reading) (items : List Ref) (l : List Mapped) → AllByRecursion (SidesLack b) g → AllByRecursion (λ r. Lacks b r.name) items → AreKeptForward g items l → AllByRecursion (MappedLacks b) l
   kept_lacks g items l sides names kept =
-      all_weaker (ForwardAt g items) (MappedLacks b) (λ m (r, here, at). made_lacks items m.item m.source m.destination r names (all_at (SidesLack b) g m.spec r sides here) at) l ((made_at_indexes g items).forward l kept)
+      all_weaker (ForwardAt g items) (MappedLacks b) (λ m (r, is, at). made_lacks items m.item m.source m.destination r names (all_at (SidesLack b) g m.spec r sides is) at) l ((made_at_indexes g items).forward l kept)
 
 -- a name contains no control character, and no digit is one
 control_refused : (b : ℕ) → b < 32 → IsTrue (is_refused_byte b)

@@ -43,8 +43,10 @@ conflicting_fits ms run i d conflicting below =
 -- the sources and texts of the updates of all sources of a destination are its conflict
 pub conflict_from_conflicting : (g : List Reading) (l : List Mapped) (run : List Update) (d : List ℕ) (sources : List Source) (texts : List (List ℕ)) → (conflicting : AreConflicting l run) → AreTold g l (updated_indexes run) sources texts → d ≡ conflicting.destination → IsConflictOf g l run (record { destination = d; sources = sources; texts = texts })
 conflict_from_conflicting g l run d sources texts conflicting told to =
-    let is : IsConflict g l (record { destination = conflicting.destination; sources = sources; texts = texts }) = record { contested = two run conflicting.several rises (λ k has. (at k).0 has); sources = made (λ m source. source ≡ m.source) sources told.sources_are; texts = made (λ m text. IsTextAt g m.spec text) texts told.texts_are } in
-    rw to (record { is = is; same = conflicting.same })
+    rw to (record {
+      is = record { contested = two run conflicting.several rises (λ k. (at k).0); sources = made (λ m s. s ≡ m.source) sources told.sources_are; texts = made (λ m t. IsTextAt g m.spec t) texts told.texts_are };
+      same = conflicting.same;
+    })
   where
     rises : Increase (updated_indexes run)
     rises = indexes_rise conflicting.destination run conflicting.same conflicting.order
@@ -111,7 +113,9 @@ all_reported g l [] cs empty settled =
 all_reported g l (c ∷ rest) cs empty settled = absurd (omega arith)
 
 not_beyond : (x : List ℕ) (cs : List Update) (k : ℕ) → AllByRecursion (λ c. slice_cmp nat_cmp x c.destination.now ≡ Less) cs → HasUpdate cs k x → ⊥
-not_beyond x cs k beyond has = let (c, there, index, to) = update_within cs k x has in not_below_itself x (subst (λ (d : List ℕ). slice_cmp nat_cmp x d ≡ Less) to (All-contains (λ (u : Update). slice_cmp nat_cmp x u.destination.now ≡ Less) cs c (All-from_recursion _ cs beyond) there))
+not_beyond x cs k beyond has =
+    let (c, there, index, to) = update_within cs k x has in
+    not_below_itself x (subst (λ (d : List ℕ). slice_cmp nat_cmp x d ≡ Less) to (All-contains (λ (u : Update). slice_cmp nat_cmp x u.destination.now ≡ Less) cs c (All-from_recursion _ cs beyond) there))
 
 to_same : (x : List ℕ) (cs : List Update) (k : ℕ) (d : List ℕ) → AllByRecursion (λ c. c.destination.now ≡ x) cs → HasUpdate cs k d → d ≡ x
 to_same x cs k d same has = let (c, there, index, to) = update_within cs k d has in sym to ∙ All-contains (λ (u : Update). u.destination.now ≡ x) cs c (All-from_recursion _ cs same) there

@@ -100,7 +100,8 @@ two_firsts l d c =
 
 pub contested_from_firsts : (l : List Mapped) (d : List ℕ) (j k : ℕ) → j < k → IsFirstAt l j d → IsFirstAt l k d → HasConflictAt l d
 contested_from_firsts l d j k before (m, is_m, m_first) (n, is_n, n_first) =
-    let differ : m.source ≢ n.source = λ same. n_first.first (HasPair-from_place (take k l) j m n (omega (arith, before, slice_get_within l k n is_n, length-take-le k l)) (rw (get_or-take k l j m before, get_or_from_slice_get l j m m is_m) (record { source = same; destination = m_first.goes ∙ sym n_first.goes }))) in
+    let differ : m.source ≢ n.source = λ same. n_first.first (HasPair-from_place (take k l) j m n (omega (arith, before, slice_get_within l k n is_n, length-take-le k l))
+    (rw (get_or-take k l j m before, get_or_from_slice_get l j m m is_m) (record { source = same; destination = m_first.goes ∙ sym n_first.goes }))) in
     record { one = m; other = n; has_one = contains_at l j m is_m; has_other = contains_at l k n is_n; one_to = m_first.goes; other_to = n_first.goes; differ = differ }
 
 -- ---- if all destinations differ, nothing is in conflict; and the updates without a duplicate pair are the first ones
@@ -116,7 +117,8 @@ two_places l j k m n d apart before is_m is_n to_m to_n =
     let one : (i : ℕ) (x : Mapped) → slice_get l i ≡ Some x → x.destination ≡ Some d → length (of (get_or l i x)) ≡ 1 = λ i x is to. rw (get_or_from_slice_get l i x x is, to) refl in
     let at : (i : ℕ) (x : Mapped) → slice_get l i ≡ Some x → x.destination ≡ Some d → get_or (all_destinations l) (place i + 0) d ≡ d = λ i x is to.
     get_or-flat_map of l i 0 x d (slice_get_within l i x is) (omega (arith, one i x is to)) ∙ rw (get_or_from_slice_get l i x x is, to) refl in
-    let earlier : place j + length (of (get_or l j m)) ≤ place k = rw (take-take j k l (omega (arith, before)), get_or-take k l j m before) at (length-flat_map-take of (take k l) j m (omega (arith, before, slice_get_within l k n is_n, length-take-le k l))) in
+    let earlier : place j + length (of (get_or l j m)) ≤ place k = rw (take-take j k l (omega (arith, before)), get_or-take k l j m before) at
+    (length-flat_map-take of (take k l) j m (omega (arith, before, slice_get_within l k n is_n, length-take-le k l))) in
     apart (place j + 0) (place k + 0) d (omega (arith, earlier, one j m is_m to_m)) (omega (arith, length-flat_map-take of l k n (slice_get_within l k n is_n), one k n is_n to_n)) (at j m is_m to_m ∙ sym (at k n is_n to_n))
 
 pub none_contested : (l : List Mapped) (ds : List BStr) (flags : List Bool) → map bstr_bytes ds ≡ all_destinations l → FlagsDuplicates (λ (x : BStr) (y : BStr). bytes_order (bstr_bytes x) (bstr_bytes y)) ds flags → length flags ≡ 0 → (d : List ℕ) → ¬ (HasConflictAt l d)

@@ -88,7 +88,8 @@ pub updates_more : (l : List Mapped) (flags : List Bool) (cs new : List Update) 
 updates_more l flags cs new c is goes unflagged made =
     let indexes : updated_indexes new ≡ updated_indexes cs ++ c.index ∷ [] = ap updated_indexes is ∙ map-append (λ (x : Update). x.index) cs (c ∷ []) in record {
       are = λ k d. rw is (
-        (λ has. by_cases ((HasUpdate-append cs (c ∷ []) k d).0 has) (λ old. let told = (made.are k d).0 old in (omega (arith, told.0), told.1)) (λ last. by_cases last (λ at. rw (← at.0, ← at.1) (omega arith, (goes, unflagged))) (λ none. absurd none))),
+        (λ has. by_cases ((HasUpdate-append cs (c ∷ []) k d).0 has) (λ old. let told = (made.are k d).0 old in (omega (arith, told.0), told.1))
+            (λ last. by_cases last (λ at. rw (← at.0, ← at.1) (omega arith, (goes, unflagged))) (λ none. absurd none))),
         (λ told. by_cases (upto k c.index told.0) (λ less. (HasUpdate-append cs (c ∷ []) k d).1 (inl ((made.are k d).1 (less, told.1))))
             (λ here. (HasUpdate-append cs (c ∷ []) k d).1 (inr (inl (sym here, one_index l k c.destination.now d (rw here goes) told.1.0))))),
       );

@@ -33,5 +33,6 @@ pub returns : goal.returns
 returns c =
     let run = c.args.run.now in
     let conflicting = c.requires.conflicting in
-    let first : (get_or run 0 past_end).destination.now ≡ conflicting.destination = All-from_recursion (λ (x : Update). x.destination.now ≡ conflicting.destination) run conflicting.same 0 past_end (omega (arith, conflicting.several)) in
+    let first : (get_or run 0 past_end).destination.now ≡ conflicting.destination =
+    All-from_recursion (λ (x : Update). x.destination.now ≡ conflicting.destination) run conflicting.same 0 past_end (omega (arith, conflicting.several)) in
     conflict_from_conflicting _ _ run _ _ _ conflicting (rw (take_all c.loop-update.update-index run (omega arith)) at c.loop-update.invariant) (c.in_ok-from_slice.ensures ∙ c.new.ensures ∙ first)

@@ -14,4 +14,5 @@ loop-len-preserved c d =
 pub returns-clause-split : goal.returns-clause-split
 returns-clause-split c =
     let whole : c.loop-len.len ≡ length c.args.updates.now = omega arith in
-    subst (λ (n : ℕ). IsRun (take n c.args.updates.now) (drop n c.args.updates.now)) whole (split_at c.args.updates.now c.loop-len.len past_end c.requires.some c.requires.order (c.loop-len.invariant past_end) (λ below. absurd (omega arith)))
+    subst (λ (n : ℕ). IsRun (take n c.args.updates.now) (drop n c.args.updates.now)) whole
+    (split_at c.args.updates.now c.loop-len.len past_end c.requires.some c.requires.order (c.loop-len.invariant past_end) (λ below. absurd (omega arith)))
