@@ -28,16 +28,13 @@ contested g l cs other d each are any =
     let destinations = map (λ (c : Conflict). c.destination) other in
     Any-fact _ cs (Any-all (IsConflict g l) _ _ (λ c is here. subst (λ (z : List ℕ). Any (λ x. x ≡ z) destinations) here (there destinations c.destination (are.every c.destination is.contested))) cs each (Any-from_map _ (λ (c : Conflict). c.destination) cs any))
 
-one_text : (g : List Reading) (index : ℕ) (text other : List ℕ) → IsTextAt g index text → IsTextAt g index other → text ≡ other
-one_text g index text other is also = search (rules, same_Some)
-
 one_conflict : (g : List Reading) (l : List Mapped) (c e : Conflict) → c.destination ≡ e.destination → IsConflict g l c → IsConflict g l e → c ≡ e
 one_conflict g l c e same a b =
     let to = c.destination in
     let sources = subst (λ (d : List ℕ). IsMadeFrom (λ k m source. IsFirstTo d l k m × (source ≡ m.source)) 0 l e.sources) (sym same) b.sources in
     let texts = subst (λ (d : List ℕ). IsMadeFrom (λ k m text. IsFirstTo d l k m × IsTextAt g m.spec text) 0 l e.texts) (sym same) b.texts in
     let from = made_once (λ k m source. IsFirstTo to l k m × (source ≡ m.source)) (λ k m x y is_x is_y. is_x.1 ∙ sym is_y.1) 0 l c.sources e.sources a.sources sources in
-    let by = made_once (λ k m text. IsFirstTo to l k m × IsTextAt g m.spec text) (λ k m x y is_x is_y. one_text g m.spec x y is_x.1 is_y.1) 0 l c.texts e.texts a.texts texts in
+    let by = made_once (λ k m text. IsFirstTo to l k m × IsTextAt g m.spec text) (λ k m x y is_x is_y. search (rules, same_Some)) 0 l c.texts e.texts a.texts texts in
     λ i. record { destination = same i; sources = from i; texts = by i }
 
 one_list : (g : List Reading) (l : List Mapped) (cs other : List Conflict) → AllByRecursion (IsConflict g l) cs → AllByRecursion (IsConflict g l) other → map (λ (c : Conflict). c.destination) cs ≡ map (λ (c : Conflict). c.destination) other → cs ≡ other
@@ -45,15 +42,12 @@ one_list g l [] [] a b same = refl
 one_list g l (c ∷ cs) (e ∷ other) a b same = let one = one_conflict g l c e (cc) a.0 b.0 in let more = one_list g l cs other a.1 b.1 (cc) in cc
 one_list g l cs other a b same = absurd (cc)
 
-one_fix : (g : List Reading) (m : Mapped) (a b : Removed) → IsFix g m a → IsFix g m b → a ≡ b
-one_fix g m a b is also = search (rules, same_Some)
-
 pub one_validation : (g : List Reading) (l : List Mapped) → OneValidation g l
 one_validation g l = record {
   conflicts = λ cs other a b. one_list g l cs other a.each b.each
       (one_order (map (λ (c : Conflict). c.destination) cs) (map (λ (c : Conflict). c.destination) other) a.order b.order (λ d any. contested g l cs other d a.each b any) (λ d any. contested g l other cs d b.each a any));
   survivors = λ rest other a b. made_once (λ k m made. (made ≡ m) × Survives m) (λ k m x y is_x is_y. is_x.0 ∙ sym is_y.0) 0 l rest other a b;
-  fixes = λ fixes other a b. made_once (λ k m fix. IsFix g m fix) (λ k m x y is_x is_y. one_fix g m x y is_x is_y) 0 l fixes other a b;
+  fixes = λ fixes other a b. made_once (λ k m fix. IsFix g m fix) (λ k m x y is_x is_y. search (rules, same_Some)) 0 l fixes other a b;
 }
 
 copied_mappings : (ms copies : List Mapping) → AreMappingCopies ms copies → map mapped_of copies ≡ map mapped_of ms
