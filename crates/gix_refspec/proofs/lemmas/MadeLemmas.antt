@@ -63,8 +63,7 @@ record IsTakenHit (HasEnds : Reading → Ends → Type 0) (Taken : List ℕ → 
   takes : TakesAt HasEnds Taken items (Some h.item) h.near h.far reading
 
 spec_takes : (HasEnds : Reading → Ends → Type 0) (Taken : List ℕ → Ref → Option (List ℕ) → Type 0) (g : List Reading) (items : List Ref) (k : ℕ) (r : Reading) (hits : List Hit) → slice_get g k ≡ Some r → AreSpecHits HasEnds Taken items k r hits → AllByRecursion (IsTakenHit HasEnds Taken g items) hits
-spec_takes HasEnds Taken g items k r hits here (inl (ends, has, made)) = each_made (IsHit Taken ends k) (IsTakenHit HasEnds Taken g items) items hits (λ j ref hit stands is. search rules) made
-spec_takes HasEnds Taken g items k r hits here (inr (none, empty)) = subst (AllByRecursion (IsTakenHit HasEnds Taken g items)) (sym empty) tt
+spec_takes HasEnds Taken g items k r hits here are = search (arith, rules, each_made)
 
 hits_taken : (HasEnds : Reading → Ends → Type 0) (Taken : List ℕ → Ref → Option (List ℕ) → Type 0) (g : List Reading) (items : List Ref) (hits : List Hit) → AreHits HasEnds Taken g items hits → AllByRecursion (IsTakenHit HasEnds Taken g items) hits
 hits_taken HasEnds Taken g items hits are = each_joined (AreSpecHits HasEnds Taken items) (IsTakenHit HasEnds Taken g items) g hits (spec_takes HasEnds Taken g items) are
@@ -83,15 +82,10 @@ id_at g items k r m here is = (
 )
 
 pub side_there : (far : Option (List ℕ)) → IsSome far → (x : List ℕ) × (far ≡ Some x)
-side_there None some = absurd (false≢true some)
-side_there (Some x) some = (x, refl)
+side_there far some = search (rules, false≢true)
 
 hit_back : (g : List Reading) (items : List Ref) (h : Hit) → IsTakenHit AreBackwardEnds Matches g items h → BackwardAt g items (backward_of h)
-hit_back g items h taken =
-    let at = taken.takes in
-    let far = (subst (λ (x : Option (List ℕ)). IsFilled x at.paired.word h.far) (side_there at.ends.far at.has.both).1 at.paired.becomes).2 in
-    let same : h.far ≡ Some (unwrap_or h.far []) = far ∙ ap (λ (x : Option (List ℕ)). Some (unwrap_or x [])) (sym far) in
-    (taken.reading, taken.here, subst (λ (x : Option (List ℕ)). TakesAt AreBackwardEnds Matches items (Some h.item) h.near x taken.reading) same at)
+hit_back g items h taken = search (rules, side_there)
 
 pub forward_all : (g : List Reading) (items : List Ref) (l : List Mapped) → AreForward g items l → AllByRecursion (ForwardAt g items) l
 forward_all g items l are =
@@ -110,12 +104,10 @@ made_at_indexes g items = record {
 }
 
 fits_forward : (g : List Reading) (items : List Ref) (m : Mapped) (s : Source) → m.source ≡ s → AtSpec g m (MakesForwardOf items m.item s m.destination) → ForwardIndexes g items m
-fits_forward g items m (name n) is (r, here, at) = search (rules, slice_get_within, same_Some)
-fits_forward g items m (id bytes) is (r, here, (none, made)) = search (rules, slice_get_within)
+fits_forward g items m s is at = search (arith, rules, same_Some, slice_get_within)
 
 fits_backward : (g : List Reading) (items : List Ref) (m : Mapped) (s : Source) (d : Option (List ℕ)) → m.destination ≡ d → AtSpec g m (MakesBackwardOf items m.item s d) → BackwardIndexes g items m
-fits_backward g items m (name n) (Some d) is (r, here, at) = record { spec = slice_get_within g m.spec r here; index = at.index; ref = at.ref; item = at.is; stands = at.stands; named = is ∙ ap Some (sym at.paired.name) }
-fits_backward g items m s d is (r, here, none) = absurd none
+fits_backward g items m s d is at = search (arith, rules, slice_get_within)
 
 pub item_indexes_fit : (g : List Reading) (items : List Ref) → ItemIndexesFit g items
 item_indexes_fit g items = record {

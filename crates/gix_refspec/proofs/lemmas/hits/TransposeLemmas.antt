@@ -19,9 +19,7 @@ pub starred : (x : List ℕ) → Lacks star x ⊎ HasStar x
 starred x = by_cases (lacks_or_first star x) (λ lacks. inl lacks) (λ index. inr (record { before = index.before; after = index.after; here = index.here }))
 
 pub both_or_neither : (s d : List ℕ) → ¬ (HasSeveralStars s) → ¬ (HasSeveralStars d) → ¬ (IsOneStarred s d) → (HasOneStar s × HasOneStar d) ⊎ (Lacks star s × Lacks star d)
-both_or_neither s d few_s few_d balanced = by_cases (starred s)
-    (λ no_s. by_cases (starred d) (λ no_d. inr (no_s, no_d)) (λ of_d. absurd (balanced (inr (no_s, of_d)))))
-    (λ of_s. by_cases (starred d) (λ no_d. absurd (balanced (inl (of_s, no_d)))) (λ of_d. inl (one_star s of_s few_s, one_star d of_d few_d)))
+both_or_neither s d few_s few_d balanced = search (rules, one_star, starred)
 
 twins : (x y : List ℕ) → ¬ (HasSeveralStars x) → ¬ (HasSeveralStars y) → ¬ (IsOneStarred x y) → (HasStar x × HasStar y) ⊎ (BeginsWith (codes "refs/") x × BeginsWith (codes "refs/") y) → AreTwins x y
 twins x y few_x few_y balanced (inl stars) = inl (one_star x stars.0 few_x, one_star y stars.1 few_y)
@@ -56,8 +54,7 @@ name_among : (n : List ℕ) (items : List Ref) (P : Ref → Type 0) → ((i : Re
 name_among n items P named (k, i, below, at, holds) = subst (HasName items) (named i holds) (name_there items i (k, below, at))
 
 far_there : (far : Option (List ℕ)) (word : Option (List ℕ)) (m : List ℕ) → IsFilled far word (Some m) → (y : List ℕ) × (far ≡ Some y)
-far_there None word m is = absurd (cc)
-far_there (Some y) word m is = (y, refl)
+far_there far word m is = search rules
 
 -- what one direction makes of an item, the other makes of what the item becomes
 pairs_back : (HasEnds Other : Reading → Ends → Type 0) (T U : List ℕ → Ref → Option (List ℕ) → Type 0) (A B : List Ref) (n m : List ℕ) (r : Reading) (makes : PairsItem HasEnds T A n (Some m) r) (y : List ℕ)
