@@ -1,10 +1,9 @@
 -- What holds of each element that is made of the elements of a list, or joined of them.
 use Rattle.gix_refspec.proofs.Common.{Any as AnyAt, all_join, ◌≡◌, [], ◌∷◌, suc, refl, sym, subst, arith, map, ◌+◌, slice_get, AllByRecursion, slice_get_within, get_or_from_slice_get, ◌<◌, ◌↔◌, IsTrue, false}
-use Rattle.gix_refspec.proofs.Common.{false≢true, length, get_or, each_mapped, All-from_recursion, IsMadeFrom, IsJoinedFrom, ℕ, List, None, Some, Contains, AnyOf as Any, some_at, some_of, all_weaker, inl, inr}
-use Rattle.gix_refspec.proofs.Common.{Option, unwrap_or, ap, ◌∙◌, Reading, Ref, Matches, Takes, Source, Mapped, IsKeptAt, Ends, AreForwardEnds, AreBackwardEnds, Hit, IsHit, AreSpecHits, AreHits, IsIdMapping}
-use Rattle.gix_refspec.proofs.Common.{AreForward, AreBackward, forward_of, backward_of, AtSpec, TakesAt, MakesForwardOf, MakesBackwardOf, MadeAtIndexes, RemainsExactly, Survives, HasRefNames, same_Some}
-use Rattle.gix_refspec.proofs.Common.{ForwardIndexes, ItemIndexesFit, BackwardIndexes, name, id, IsSome, IsFilled, Any-both, Any-weaker, any_made, made_any}
-use Rattle.gix_refspec.proofs.Common.{rules}
+use Rattle.gix_refspec.proofs.Common.{false≢true, length, get_or, each_mapped, All-from_recursion, IsMadeFrom, IsJoinedFrom, ℕ, List, None, Some, Contains, AnyOf as Any, some_at, some_of, all_weaker, Option, ◌∙◌}
+use Rattle.gix_refspec.proofs.Common.{Reading, Ref, Matches, Takes, Source, Mapped, IsKeptAt, Ends, AreForwardEnds, AreBackwardEnds, Hit, AreSpecHits, AreHits, IsIdMapping, AreForward, AreBackward, forward_of}
+use Rattle.gix_refspec.proofs.Common.{backward_of, AtSpec, TakesAt, MakesForwardOf, MakesBackwardOf, MadeAtIndexes, RemainsExactly, Survives, HasRefNames, same_Some, ForwardIndexes, ItemIndexesFit, BackwardIndexes}
+use Rattle.gix_refspec.proofs.Common.{IsSome, Any-both, Any-weaker, any_made, made_any, rules}
 
 -- an element of a list, by index and by recursion
 pub there : {X : Type 0} (ys : List X) (m : X) → Contains ys m → Any (λ y. y ≡ m) ys

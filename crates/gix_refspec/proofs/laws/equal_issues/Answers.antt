@@ -1,5 +1,5 @@
 -- Destinations and texts are compared by their bytes, sources as names and ids.
-use Rattle.gix_refspec.proofs.Common.{◌≡◌, ◌↔◌, true, IsTrue, bstring_bytes, bytes_eq-Decides, SourceRef, Issue, id_bytes, name_bytes, start_of, conflict_of, same_keys, arith}
+use Rattle.gix_refspec.proofs.Common.{◌≡◌, ◌↔◌, true, IsTrue, bstring_bytes, bytes_eq-Decides, SourceRef, Issue, start_of, conflict_of, same_keys, arith}
 use Rattle.bstr.specs.contracts.bstring.BStringPartialEq.TheImpl.{ghosts as compared_texts}
 use Rattle.gix_refspec.specs.contracts.match_group.validate.IssuePartialEq.TheImpl.{ghosts}
 use Rattle.gix_refspec_match.specs.contracts.types.SourceRefPartialEq.TheImpl.{ghosts as compared_sources}

@@ -2,8 +2,8 @@
 use Rattle.gix_refspec.proofs.Common.{all_weaker, ◌≡◌, ◌≢◌, inl, inr, ℕ, List, [], ◌∷◌, codes, Option, get_or, refl, sym, ap, ◌∙◌, subst, arith, append-nil, Any, Operation, Fetch, Lacks, BeginsWith, star, head}
 use Rattle.gix_refspec.proofs.Common.{Reading, side_on_remote, SideKind, pattern, full_name, object, partial, HasKind, IsId, candidates, Ref, Matches, Takes, of_head, IsAsked, Expands, to_prefix, IsExpansion}
 use Rattle.gix_refspec.proofs.Common.{IsJoinedFrom, name, Ends, AreForwardEnds, IsCovering, by_prefix, by_candidates, BeginsWithOne, IsCoveredBy, AsksFor, AtSpec, Cover, CoverTogether, Any-right, Any-weaker}
-use Rattle.gix_refspec.proofs.Common.{any_joined, some_at as at_place, some_of, lacks_no_pattern, prefix_begins, has_candidates, one_asked, HasCoveringSource, MakesForwardOf, TakesAt, by_cases, Source}
-use Rattle.gix_refspec.proofs.lemmas.MadeLemmas.{any_at, ForwardAt, made_at_indexes}
+use Rattle.gix_refspec.proofs.Common.{any_joined, some_at as at_place, some_of, lacks_no_pattern, prefix_begins, has_candidates, one_asked, HasCoveringSource, MakesForwardOf, TakesAt, by_cases, Source, slice_get}
+use Rattle.gix_refspec.proofs.{Common.{Some}, lemmas.MadeLemmas.{any_at, ForwardAt, made_at_indexes}}
 use Rattle.gix_refspec_text.proofs.lemmas.prefixes.OnePrefixLemmas.{one_prefix}
 
 pub below_not_head : (x : List ℕ) → BeginsWith (codes "refs/") x → x ≢ head
@@ -66,7 +66,10 @@ joined_covers n g k entries covered joined =
     at_place (λ entry. BeginsWith entry n) entries (any_joined (λ i r list. IsExpansion r list) (λ entry. BeginsWith entry n) k g entries joined
     (Any-weaker (IsCoveredBy n) _ (λ r of i list expands. some_of _ list (subst (λ (names : List (List ℕ)). BeginsWithOne names n) (expansion_once r of.entries list of.expansion expands) of.one)) g (some_of _ g covered)))
 
+pub some_at : (P : Reading → Type 0) (g : List Reading) (i : ℕ) (r : Reading) → slice_get g i ≡ Some r → P r → Any P g
+some_at P g i r here holds = any_at P g i r here holds
+
 pub cover_together : (g : List Reading) (items : List Ref) → CoverTogether g items
 cover_together g items entries joined kept stays =
     all_weaker (λ m. (n : List ℕ) → m.source ≡ name n → AtSpec g m (λ r. AsksFor r n → IsCoveredBy n r)) (λ m. (n : List ℕ) → m.source ≡ name n → AtSpec g m (λ r. AsksFor r n → BeginsWithOne entries n))
-    (λ m covered n is. let (r, here, covers) = covered n is in (r, here, λ asks. joined_covers n g 0 entries (any_at (IsCoveredBy n) g m.spec r here (covers asks)) joined)) kept (cover g items kept stays)
+    (λ m covered n is. let (r, here, covers) = covered n is in (r, here, λ asks. joined_covers n g 0 entries (some_at (IsCoveredBy n) g m.spec r here (covers asks)) joined)) kept (cover g items kept stays)

@@ -1,13 +1,12 @@
 -- What holds of mappings before and after a validation, which leaves no duplicate mappings and no duplicate fixes.
 use Rattle.gix_refspec.proofs.Common.{all_weaker, ◌≡◌, ℕ, suc, ◌+◌, ◌<◌, List, [], ◌∷◌, None, Some, length, get_or, refl, sym, ◌∙◌, subst, arith, AllByRecursion, Contains, All-contains_itself, All-from_recursion}
 use Rattle.gix_refspec.proofs.Common.{Contains-get_or, recursion_from_All, Reading, IsMadeFrom, Ref, Mapped, IsSamePair, AreApart, AreConflicts, ForwardFits, DestinationsHaveOneSource, IsValidated, ShareDestination}
-use Rattle.gix_refspec.proofs.Common.{HaveDistinctDestinations, Removed, Survives, ValidatedOnce, ForwardIndexes, Option, ap, name, HaveOneSource, HaveSourcesByIndex, PlansApart, ◌≢◌, slice_get, same_Some, IsIdText}
-use Rattle.gix_refspec.proofs.Common.{Source, IsFix, MakesForwardOf, AreFixesApart, id, ◌↔◌, ◌++◌, Bool, true, false, map, take, items_where_true, false≢true, append-nil, slice_get-map, slice_get_read, Mapping}
-use Rattle.gix_refspec.proofs.Common.{NameRef, Fix, Issue, RefSpecRef, reading_of, mapped_of, name_bytes, conflict_of, removed_of, AreFixes, AreSurvivors, IsWritable, length-append, made_more, map-append}
-use Rattle.gix_refspec.proofs.{Common.{one_more_mapped, kept_once, IsIdText-unique, All-contains, AreKeptForward, by_cases}, lemmas.MadeLemmas.{stays_each, made_all, item_indexes_fit, ForwardAt, made_at_indexes}}
+use Rattle.gix_refspec.proofs.Common.{HaveDistinctDestinations, Removed, Survives, ValidatedOnce, ForwardIndexes, Option, ap, name, HaveOneSource, HaveSourcesByIndex, PlansApart, ◌≢◌, same_Some, IsIdText, Source}
+use Rattle.gix_refspec.proofs.Common.{IsFix, MakesForwardOf, AreFixesApart, id, ◌↔◌, ◌++◌, Bool, true, false, map, take, items_where_true, false≢true, append-nil, slice_get-map, slice_get_read, Mapping, NameRef, Fix}
+use Rattle.gix_refspec.proofs.Common.{Issue, RefSpecRef, reading_of, mapped_of, name_bytes, conflict_of, removed_of, AreFixes, AreSurvivors, IsWritable, length-append, made_more, map-append, one_more_mapped}
+use Rattle.gix_refspec.proofs.{Common.{kept_once, IsIdText-unique, All-contains, by_cases, rules}, lemmas.MadeLemmas.{stays_each, made_all, item_indexes_fit, ForwardAt, made_at_indexes}}
 use Rattle.gix_refspec.proofs.lemmas.validate.FirstLemmas.{start_cases}
 use Rattle.std.specs.List.Retain.{ReturnsInTurn, IsFiltered}
-use Rattle.gix_refspec.proofs.Common.{rules}
 
 pub forward_fits : (g : List Reading) (items : List Ref) → ForwardFits g items
 forward_fits g items l kept = all_weaker (ForwardIndexes g items) (λ m. m.spec < length g) (λ m fit. fit.spec) l ((item_indexes_fit g items).forward l kept)

@@ -5,10 +5,9 @@ use Rattle.gix_refspec.proofs.Common.{take-append-drop, take_more, All-from_recu
 use Rattle.gix_refspec.proofs.Common.{RefSpecRef, Reading, printed, reading_of, Source, Mapped, mapped_of, name_bytes, start_of, IsNameCopy, IsSourceCopy, AreConflicts, Conflict, IndexesFit, IsConflict}
 use Rattle.gix_refspec.proofs.Common.{HasConflictAt, IsFirstTo, IsTextAt, AddsConflict, AreFirstUpdates, AreConflicting, HasUpdate, IsRun, IsFirstAt, IsConflictOf, update_cmp, updated_indexes, by_cases}
 use Rattle.gix_refspec.proofs.{Common.{recursion_from_All, get_or_default, all_left, IsMadeFrom, rules, All-contains}, lemmas.{MadeLemmas.{map_each}, validate.FirstLemmas.{Has, Increase, IsOfIndex}}}
-use Rattle.gix_refspec.proofs.lemmas.validate.{FirstLemmas.{contested_from_firsts, made_at_indexes, one_mapping, two_firsts}, UpdateLemmas.{later, mapped_at}}
-use Rattle.gix_refspec.proofs.lemmas.validate.UpdateLemmas.{past_end, strict_left, strict_right, update_at, update_within}
+use Rattle.gix_refspec.proofs.lemmas.validate.{FirstLemmas.{contested_from_firsts, made_at_indexes, one_mapping, two_firsts}, UpdateLemmas.{later, mapped_at, past_end, strict_left, strict_right, update_at}}
+use Rattle.gix_refspec.proofs.lemmas.validate.UpdateLemmas.{update_within, HasUpdate-append}
 use Rattle.std.proofs.lemmas.Slice.Zip.{all_zipped_more}
-use Rattle.gix_refspec.proofs.lemmas.validate.UpdateLemmas.{HasUpdate-append}
 
 -- the mappings at the indexes have these sources, and their specs these texts
 pub record AreTold (g : List Reading) (l : List Mapped) (ns : List ℕ) (sources : List Source) (texts : List (List ℕ)) : Type 0 where

@@ -1,6 +1,6 @@
 -- A validation has one result, and a copy of an outcome has the same.
 use Rattle.gix_refspec.proofs.Common.{not_below_itself, ◌≡◌, inl, inr, ℕ, List, [], ◌∷◌, map, refl, sym, ap, ◌∙◌, subst, AllByRecursion, IsStrictlySortedBy, Less, nat_cmp, slice_cmp, Mapping, Outcome, Reading}
-use Rattle.gix_refspec.proofs.Common.{IsMadeFrom, Mapped, mapped_of, AreMappingCopies, readings_of, IsFirstTo, IsTextAt, Conflict, IsConflict, AreConflicts, Survives, Removed, IsFix, ValidateAlike, OneValidation}
+use Rattle.gix_refspec.proofs.Common.{IsMadeFrom, Mapped, mapped_of, AreMappingCopies, readings_of, IsFirstTo, IsTextAt, Conflict, IsConflict, AreConflicts, Survives, IsFix, ValidateAlike, OneValidation}
 use Rattle.gix_refspec.proofs.{Common.{CopiedOutcome, same_Some, AnyOf as Any, Any-all, Any-fact, Any-from_map, rules}, lemmas.{MadeLemmas.{there}, validate.RefNameLemmas.{copied_mapping}}}
 use Rattle.gix_refspec.proofs.lemmas.validate.UpdateLemmas.{below_trans}
 use Rattle.gix_refspec_match.proofs.lemmas.lists.ListsLemmas.{made_once}

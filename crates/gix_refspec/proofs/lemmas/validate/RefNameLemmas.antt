@@ -1,9 +1,9 @@
 -- Mappings that are split by their ref names, and what holds of the kept ones.
-use Rattle.gix_refspec.proofs.Common.{all_weaker, each_mapped, ◌≡◌, ◌≢◌, inl, inr, ℕ, ◌+◌, ◌<◌, ◌≤◌, List, ◌∷◌, ◌++◌, Option, length, map, get_or, option_map, sym, ap, ◌∙◌, subst, AllByRecursion, IsTrue, cases_lt}
-use Rattle.gix_refspec.proofs.Common.{lt-ltb, Mapping, NameRef, Empty, EmptyComponent, StartsWithDot, InvalidByte, slash, ArePartsAt, is_refused_byte, IsName, Reading, Ref, Mapped, mapped_of, name_bytes}
-use Rattle.gix_refspec.proofs.Common.{IsMappingCopy, IsDestinationCopy, ForwardIndexes, Survives, HaveRefNames, IsInvalidAt, HasRefNames, IsValidDestination, IsRefName, StaysAmongRefs, WritesRef, WritesRefs}
-use Rattle.gix_refspec.proofs.{Common.{by_cases, kept_once, IsName-head, arith, drop, drop_more, recursion_from_All, take, take-append-drop}, lemmas.MadeLemmas.{each_made, stays_each}}
-use Rattle.gix_refspec.proofs.lemmas.validate.{AfterLemmas.{apart_still, distinct_destinations_after, validated_once, distinct_destinations, one_source_still}, ConflictLemmas.{copied_name, copied_source}}
+use Rattle.gix_refspec.proofs.Common.{all_weaker, each_mapped, ◌≡◌, ◌≢◌, inl, inr, ℕ, ◌+◌, ◌<◌, ◌≤◌, List, ◌∷◌, ◌++◌, length, map, get_or, sym, ap, ◌∙◌, subst, AllByRecursion, IsTrue, cases_lt, lt-ltb, Mapping}
+use Rattle.gix_refspec.proofs.Common.{Empty, EmptyComponent, StartsWithDot, InvalidByte, slash, ArePartsAt, is_refused_byte, IsName, Reading, Ref, Mapped, mapped_of, IsMappingCopy, ForwardIndexes, Survives}
+use Rattle.gix_refspec.proofs.Common.{HaveRefNames, IsInvalidAt, HasRefNames, IsValidDestination, IsRefName, StaysAmongRefs, WritesRef, WritesRefs, by_cases, kept_once, IsName-head, arith, drop, drop_more}
+use Rattle.gix_refspec.proofs.{Common.{recursion_from_All, take, take-append-drop}, lemmas.{MadeLemmas.{each_made, stays_each}, validate.AfterLemmas.{apart_still, distinct_destinations_after, validated_once}}}
+use Rattle.gix_refspec.proofs.lemmas.validate.{AfterLemmas.{distinct_destinations, one_source_still}, ConflictLemmas.{copied_name, copied_source}}
 use Rattle.gix_refspec.specs.declared.match_group.ref_names.InvalidSide.{InvalidSide}
 
 pub bad_unnamed : (side : InvalidSide) (m : Mapped) → IsInvalidAt side m → ¬ (HasRefNames m)
