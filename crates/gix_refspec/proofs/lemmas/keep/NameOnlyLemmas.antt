@@ -32,7 +32,10 @@ spec_zip HasEnds T U A B k r hits same also (inl (ends, has, made)) = inl (
   ends,
   has,
   made_zip (λ a b. a.name ≡ b.name) (IsHit T ends k) (IsHit U ends k)
-      (λ j a b hit named. (hit_also T U ends k j a b hit (λ word. (also ends a b word has named).0) named, hit_also U T ends k j b a hit (λ word. (also ends a b word has named).1) (sym named))) 0 A B hits (zip_keys (λ (r : Ref). r.name) (λ (r : Ref). r.name) A B same) made,
+      (λ j a b hit named. (
+        hit_also T U ends k j a b hit (λ word. (also ends a b word has named).0) named,
+        hit_also U T ends k j b a hit (λ word. (also ends a b word has named).1) (sym named),
+      )) 0 A B hits (zip_keys (λ (r : Ref). r.name) (λ (r : Ref). r.name) A B same) made,
 )
 spec_zip HasEnds T U A B k r hits same also (inr none) = inr none
 

@@ -59,7 +59,8 @@ backward_made : (g : List Reading) (items : List Ref) (l : List Mapped) → AreB
 backward_made g items l are i (name n) (Some m) k any =
     let pair : Mapped = record { item = i; source = name n; destination = Some m; spec = k } in
     rw are.all (HasPair-Any (map backward_of are.hits) pair (Any-map (IsOfPair pair) backward_of are.hits
-    (Any-weaker _ _ (λ (h : Hit) both. record { source = ap (λ (f : Option (List ℕ)). name (unwrap_or f [])) both.1; destination = ap (λ (x : List ℕ). Some x) both.0 }) are.hits (reached All g items are.hits m (Some n) are.are_hits any))))
+    (Any-weaker _ _ (λ (h : Hit) both. record { source = ap (λ (f : Option (List ℕ)). name (unwrap_or f [])) both.1; destination = ap (λ (x : List ℕ). Some x) both.0 }) are.hits
+    (reached All g items are.hits m (Some n) are.are_hits any))))
 backward_made g items l are i s d k any = absurd (Any-fact ⊥ g any)
 
 backward_pairs : (g : List Reading) (items : List Ref) (l : List Mapped) (pair : Mapped) → AreBackward g items l → HasPair l pair ↔ Any (MakesBackward items pair.source pair.destination) g

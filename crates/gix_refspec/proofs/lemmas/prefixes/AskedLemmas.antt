@@ -39,7 +39,8 @@ serves g list joined fetches items kept are =
     all_weaker (ForwardAt g items) (λ m. (n : List ℕ) → m.source ≡ name n → AnyAt (λ p. BeginsWith p n) list) (λ m (r, here, at) n is.
     let made : TakesAt AreForwardEnds (Takes items) items m.item n m.destination r = subst (λ (s : Source). MakesForwardOf items m.item s m.destination r) is at in
     subst (λ (x : List ℕ). AnyAt (λ p. BeginsWith p x) list) made.paired.name
-    (taken_begins g list items made.ref joined fetches (any_at _ g m.spec r here (record { ends = made.ends; has = made.has; word = made.paired.word; takes = made.paired.takes })))) kept ((made_at_indexes g items).forward kept are)
+    (taken_begins g list items made.ref joined fetches (any_at _ g m.spec r here (record { ends = made.ends; has = made.has; word = made.paired.word; takes = made.paired.takes }))))
+    kept ((made_at_indexes g items).forward kept are)
 
 pub asked_items : (g : List Reading) (A B : List Ref) → AskedItems g A B
 asked_items g A B list told fetches are = (fewer_items g A B).forward are.part (λ item there any. are.asked item there (taken_begins g list A item told fetches any))

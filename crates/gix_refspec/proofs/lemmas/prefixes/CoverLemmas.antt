@@ -51,7 +51,8 @@ cover g items kept stays =
       r,
       here,
       λ asks. by_cases asks
-          (λ covering. subst (λ (x : List ℕ). IsCoveredBy x r) made.paired.name (covering_covers r made.ends made.ref made.paired.word covering made.has made.paired.takes.matches)) (λ fetch. head_covers r n fetch.1 fetch.2),
+          (λ covering. subst (λ (x : List ℕ). IsCoveredBy x r) made.paired.name (covering_covers r made.ends made.ref made.paired.word covering made.has made.paired.takes.matches))
+          (λ fetch. head_covers r n fetch.1 fetch.2),
     )) kept ((made_at_indexes g items).forward kept stays)
 
 expansion_once : (r : Reading) (list other : List (List ℕ)) → IsExpansion r list → IsExpansion r other → list ≡ other

@@ -25,7 +25,7 @@ distinct_destinations (m ∷ l) one apart =
     let within : (n : Mapped) → Contains l n → Contains (m ∷ l) n = λ n (k, below, is). (suc k, omega (arith, below), is) in (
       recursion_from_All (λ n. ¬ (ShareDestination m n)) l (λ k d below meet.
           let n = get_or l k d in
-          All-from_recursion (λ z. ¬ (IsSamePair m z)) l apart.0 k d below (record { source = one m n meet.0 (0, omega arith, refl) (within n (Contains-get_or l k d below)) meet.1 meet.2; destination = meet.1 ∙ sym meet.2 })),
+          All-from_recursion _ l apart.0 k d below (record { source = one m n meet.0 (0, omega arith, refl) (within n (Contains-get_or l k d below)) meet.1 meet.2; destination = meet.1 ∙ sym meet.2 })),
       distinct_destinations l (λ a b d has_a has_b. one a b d (within a has_a) (within b has_b)) apart.1,
     )
 
