@@ -2,10 +2,10 @@
 """Lists the lemmas that nothing cites, and those with equal statements: tools/lemmas.py
 
 A lemma is a name with a type at the margin of a file in crates/*/proofs/lemmas, or of a file *Lemmas.antt there. It is
-cited if its name, imported from its file or from one that passes it on, is a word of a block of some file of a crate, other
-than its own and `use` lines. Two statements are equal if they are after their variables are numbered in the order in which
-they are bound, and each word of them comes from the same module. Statements of functions, which return data, are not
-compared.
+cited if its name, imported from its file or from one that passes it on, or its whole path, is a word of a block of some
+file of a crate, other than its own and `use` lines. Two statements are equal if they are after their variables are
+numbered in the order in which they are bound, and each word of them comes from the same module. Statements of functions,
+which return data, are not compared.
 """
 import os
 import re
@@ -14,6 +14,7 @@ import sys
 ROOT = os.path.join(os.path.dirname(os.path.abspath(__file__)), os.pardir)
 WORD = re.compile(r"[^\s(){}\[\],;.→×λ]+")
 SIGNATURE = re.compile(r"^(?:opaque |abbrev )?(?:pub )?([^\s:(){}]+) : (.*)$")
+WHOLE = re.compile(r"(Rattle\.[^\s(){}\[\],;→×λ]+)\.([^\s(){}\[\],;.→×λ]+)")
 USE = re.compile(r"^\s*(?:ghost )?(?:pub )?use (Rattle\.[^\s{]+?)\.\{(.*)\}")
 LEMMAS = re.compile(r"crates/[^/]+/proofs/(lemmas/.*|.*Lemmas)\.antt$")
 DATA = re.compile(r"(^|→ )(Bool|Ordering|ℕ|List ℕ|List \(List ℕ\)|Option \(List ℕ\)|Type 0|Mapping|Reading)$")
@@ -137,8 +138,8 @@ def main():
             head = head_of(block)
             if USE.match(block[0]):
                 continue
-            for word in WORD.findall("\n".join(block)):
-                lemma = known.get(word)
+            whole = (origin(*path_of, uses) for path_of in WHOLE.findall("\n".join(block)))
+            for lemma in [known.get(word) for word in WORD.findall("\n".join(block))] + [(modules.get(module), name) for module, name in whole]:
                 if lemma in cited and lemma != (path, head):
                     cited[lemma].add((path, head))
 

@@ -1,2 +1,1 @@
 pub mod SideLawLemmas
-pub mod PlainNameLemmas

@@ -1,9 +1,7 @@
 pub mod UpdateLemmas
 pub mod FirstLemmas
 pub mod ConflictLemmas
-pub mod DifferLemmas
 pub mod OneValidationLemmas
 pub mod AfterLemmas
-pub mod MadeAtLemmas
 pub mod ClearLemmas
 pub mod RefNameLemmas

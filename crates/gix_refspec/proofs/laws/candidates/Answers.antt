@@ -1,4 +1,2 @@
-use Rattle.gix_refspec_text.proofs.lemmas.hits.MatchLemmas.{has_candidates}
-
 pub returns : Rattle.gix_refspec.proofs.laws.candidates.Goals.returns
-returns c = has_candidates c.args.side.now
+returns c = Rattle.gix_refspec_text.proofs.lemmas.hits.MatchLemmas.has_candidates c.args.side.now

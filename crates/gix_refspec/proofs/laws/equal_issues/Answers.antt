@@ -1,29 +1,19 @@
-use Rattle.gix_refspec.proofs.Common.{◌≡◌, ◌↔◌, true, ap, IsTrue, bstring_bytes, bytes_eq-Decides, SourceRef, Issue, name, id, id_bytes, name_bytes, start_of, Conflict, conflict_of, and_parts}
-use Rattle.gix_refspec.proofs.Common.{and_from, same_keys}
+-- Destinations and texts are compared by their bytes, sources as names and ids.
+use Rattle.gix_refspec.proofs.Common.{◌≡◌, ◌↔◌, true, IsTrue, bstring_bytes, bytes_eq-Decides, SourceRef, Issue, start_of, conflict_of, same_keys, arith}
 use Rattle.bstr.specs.contracts.bstring.BStringPartialEq.TheImpl.{ghosts as compared_texts}
-use Rattle.gix_refspec_match.specs.contracts.types.SourceRefPartialEq.TheImpl.{ghosts as compared_sources}
 use Rattle.gix_refspec.specs.contracts.match_group.validate.IssuePartialEq.TheImpl.{ghosts}
-use Rattle.gix_refspec_match.specs.declared.types.SourceRef.TheVariants as source_ref
+use Rattle.gix_refspec_match.specs.contracts.types.SourceRefPartialEq.TheImpl.{ghosts as compared_sources}
 use Rattle.gix_refspec.specs.declared.match_group.validate.Issue.TheVariants as issue
 
--- Destinations and texts are compared by their bytes, sources as names and ids.
-
 same_source : (a b : SourceRef) → (compared_sources.eq a b ≡ true) ↔ (start_of a ≡ start_of b)
-same_source (source_ref.FullName n) (source_ref.FullName m) = let names = bytes_eq-Decides (name_bytes n) (name_bytes m) in ((λ told. ap name (names.0 told)), (λ same. names.1 (cc)))
-same_source (source_ref.ObjectId i) (source_ref.ObjectId j) = let ids = bytes_eq-Decides (id_bytes i) (id_bytes j) in ((λ told. ap id (ids.0 told)), (λ same. ids.1 (cc)))
-same_source a b = ((λ told. absurd (cc)), (λ same. absurd (cc)))
+same_source a b = grind (arith, bytes_eq-Decides)
 
 same_issue : (a b : Issue) → IsTrue (ghosts.eq a b) ↔ (conflict_of a ≡ conflict_of b)
 same_issue (issue.Conflict d sources specs) (issue.Conflict e others texts) =
     let names = bytes_eq-Decides (bstring_bytes d) (bstring_bytes e) in
     let starts = same_keys compared_sources.eq start_of same_source sources.items others.items in
-    let words = same_keys compared_texts.eq bstring_bytes (λ n m. let told = bytes_eq-Decides (bstring_bytes n) (bstring_bytes m) in (told.0, told.1)) specs.items texts.items in (
-      (λ told.
-          let first = and_parts _ _ told in
-          let rest = and_parts _ _ first.1 in
-          (λ i. record { destination = names.0 first.0 i; sources = starts.0 rest.0 i; texts = words.0 rest.1 i })),
-      (λ same. and_from _ _ (names.1 (ap (λ (c : Conflict). c.destination) same)) (and_from _ _ (starts.1 (ap (λ (c : Conflict). c.sources) same)) (words.1 (ap (λ (c : Conflict). c.texts) same)))),
-    )
+    let words = same_keys compared_texts.eq bstring_bytes (λ n m. let told = bytes_eq-Decides (bstring_bytes n) (bstring_bytes m) in (told.0, told.1)) specs.items texts.items in
+    grind (arith, names, starts, words)
 
 pub returns : Rattle.gix_refspec.proofs.laws.equal_issues.Goals.returns
 returns c = same_issue c.args.a.now c.args.b.now

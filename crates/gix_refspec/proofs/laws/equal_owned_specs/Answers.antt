@@ -1,8 +1,5 @@
-use Rattle.gix_refspec_text.proofs.lemmas.specs.SpecLemmas.{equal_readings, equal_keys}
-use Rattle.gix_refspec.proofs.laws.equal_owned_specs.Goals as goal
+pub returns-clause-same : Rattle.gix_refspec.proofs.laws.equal_owned_specs.Goals.returns-clause-same
+returns-clause-same c = Rattle.gix_refspec_text.proofs.lemmas.specs.SpecLemmas.equal_keys _ _
 
-pub returns-clause-same : goal.returns-clause-same
-returns-clause-same c = equal_keys _ _
-
-pub returns-clause-text : goal.returns-clause-text
-returns-clause-text c = equal_readings _ _ c.args.a.now.accepted c.args.b.now.accepted
+pub returns-clause-text : Rattle.gix_refspec.proofs.laws.equal_owned_specs.Goals.returns-clause-text
+returns-clause-text c = Rattle.gix_refspec_text.proofs.lemmas.specs.SpecLemmas.equal_readings _ _ c.args.a.now.accepted c.args.b.now.accepted

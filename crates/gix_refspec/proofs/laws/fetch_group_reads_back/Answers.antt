@@ -1,4 +1,2 @@
-use Rattle.gix_refspec.proofs.lemmas.keep.AlikeLemmas.{reads_back}
-
 pub returns : Rattle.gix_refspec.proofs.laws.fetch_group_reads_back.Goals.returns
-returns c = reads_back c.args.group.now.specs.items _ _
+returns c = Rattle.gix_refspec.proofs.lemmas.keep.AlikeLemmas.reads_back c.args.group.now.specs.items _ _

@@ -1,4 +1,2 @@
-use Rattle.gix_refspec.proofs.lemmas.keep.PairMadeLemmas.{first_stays}
-
 pub returns : Rattle.gix_refspec.proofs.laws.first_stays.Goals.returns
-returns c = first_stays _ _
+returns c = Rattle.gix_refspec.proofs.lemmas.keep.PairMadeLemmas.first_stays _ _

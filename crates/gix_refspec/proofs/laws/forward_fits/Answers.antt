@@ -1,4 +1,2 @@
-use Rattle.gix_refspec.proofs.lemmas.validate.AfterLemmas.{forward_fits}
-
 pub returns : Rattle.gix_refspec.proofs.laws.forward_fits.Goals.returns
-returns c = forward_fits _ _
+returns c = Rattle.gix_refspec.proofs.lemmas.validate.AfterLemmas.forward_fits _ _

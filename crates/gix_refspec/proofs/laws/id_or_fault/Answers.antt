@@ -1,4 +1,2 @@
-use Rattle.gix_refspec_text.proofs.lemmas.texts.ObjectIdLemmas.{id_or_fault}
-
 pub returns : Rattle.gix_refspec.proofs.laws.id_or_fault.Goals.returns
-returns c = id_or_fault c.args.text.now
+returns c = Rattle.gix_refspec_text.proofs.lemmas.texts.ObjectIdLemmas.id_or_fault c.args.text.now

@@ -1,4 +1,2 @@
-use Rattle.gix_refspec.proofs.lemmas.validate.MadeAtLemmas.{item_indexes_fit}
-
 pub returns : Rattle.gix_refspec.proofs.laws.item_indexes_fit.Goals.returns
-returns c = item_indexes_fit _ _
+returns c = Rattle.gix_refspec.proofs.lemmas.MadeLemmas.item_indexes_fit _ _

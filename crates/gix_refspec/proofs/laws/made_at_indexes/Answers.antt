@@ -1,4 +1,2 @@
-use Rattle.gix_refspec.proofs.lemmas.validate.MadeAtLemmas.{made_at_indexes}
-
 pub returns : Rattle.gix_refspec.proofs.laws.made_at_indexes.Goals.returns
-returns c = made_at_indexes _ _
+returns c = Rattle.gix_refspec.proofs.lemmas.MadeLemmas.made_at_indexes _ _

@@ -1,4 +1,2 @@
-use Rattle.gix_refspec.proofs.lemmas.keep.NameOnlyLemmas.{names_decide_back}
-
 pub returns : Rattle.gix_refspec.proofs.laws.names_decide_back.Goals.returns
-returns c = names_decide_back _ _
+returns c = Rattle.gix_refspec.proofs.lemmas.keep.NameOnlyLemmas.names_decide_back _ _

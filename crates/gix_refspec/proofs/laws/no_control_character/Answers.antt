@@ -1,4 +1,2 @@
-use Rattle.gix_refspec.proofs.lemmas.validate.ClearLemmas.{no_control_character}
-
 pub returns : Rattle.gix_refspec.proofs.laws.no_control_character.Goals.returns
-returns c = no_control_character
+returns c = Rattle.gix_refspec.proofs.lemmas.validate.ClearLemmas.no_control_character

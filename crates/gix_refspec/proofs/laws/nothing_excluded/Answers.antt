@@ -1,4 +1,2 @@
-use Rattle.gix_refspec.proofs.lemmas.keep.PairMadeLemmas.{nothing_excluded}
-
 pub returns : Rattle.gix_refspec.proofs.laws.nothing_excluded.Goals.returns
-returns c = nothing_excluded _ _
+returns c = Rattle.gix_refspec.proofs.lemmas.keep.PairMadeLemmas.nothing_excluded _ _

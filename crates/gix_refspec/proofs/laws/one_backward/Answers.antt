@@ -1,4 +1,2 @@
-use Rattle.gix_refspec_match.proofs.lemmas.hits.HitLemmas.{one_backward}
-
 pub returns : Rattle.gix_refspec.proofs.laws.one_backward.Goals.returns
-returns c = one_backward _ _
+returns c = Rattle.gix_refspec_match.proofs.lemmas.hits.HitLemmas.one_backward _ _

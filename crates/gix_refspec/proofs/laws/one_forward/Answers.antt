@@ -1,4 +1,2 @@
-use Rattle.gix_refspec_match.proofs.lemmas.hits.HitLemmas.{one_forward}
-
 pub returns : Rattle.gix_refspec.proofs.laws.one_forward.Goals.returns
-returns c = one_forward _ _
+returns c = Rattle.gix_refspec_match.proofs.lemmas.hits.HitLemmas.one_forward _ _

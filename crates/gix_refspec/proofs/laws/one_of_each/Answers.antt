@@ -1,4 +1,2 @@
-use Rattle.gix_refspec.proofs.lemmas.specs.SideLawLemmas.{one_of_each}
-
 pub returns : Rattle.gix_refspec.proofs.laws.one_of_each.Goals.returns
-returns c = one_of_each
+returns c = Rattle.gix_refspec.proofs.lemmas.specs.SideLawLemmas.one_of_each

@@ -1,4 +1,2 @@
-use Rattle.gix_refspec_text.proofs.lemmas.parsing.RefusalLemmas.{one_refusal}
-
 pub returns : Rattle.gix_refspec.proofs.laws.one_refusal.Goals.returns
-returns c = one_refusal c.args.operation c.args.text.now
+returns c = Rattle.gix_refspec_text.proofs.lemmas.parsing.RefusalLemmas.one_refusal c.args.operation c.args.text.now

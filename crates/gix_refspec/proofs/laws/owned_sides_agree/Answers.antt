@@ -1,4 +1,2 @@
-use Rattle.gix_refspec.proofs.lemmas.specs.SideLawLemmas.{sides_agree}
-
 pub returns : Rattle.gix_refspec.proofs.laws.owned_sides_agree.Goals.returns
-returns c = sides_agree _ c.args.spec.now.accepted
+returns c = Rattle.gix_refspec.proofs.lemmas.specs.SideLawLemmas.sides_agree _ c.args.spec.now.accepted

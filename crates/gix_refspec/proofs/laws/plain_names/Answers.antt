@@ -1,4 +1,2 @@
-use Rattle.gix_refspec.proofs.lemmas.specs.PlainNameLemmas.{plain_names}
-
 pub returns : Rattle.gix_refspec.proofs.laws.plain_names.Goals.returns
-returns c = plain_names
+returns c = Rattle.gix_refspec.proofs.lemmas.specs.SideLawLemmas.plain_names

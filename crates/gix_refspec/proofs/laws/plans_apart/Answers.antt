@@ -1,4 +1,2 @@
-use Rattle.gix_refspec.proofs.lemmas.validate.AfterLemmas.{plans_apart}
-
 pub returns : Rattle.gix_refspec.proofs.laws.plans_apart.Goals.returns
-returns c = plans_apart
+returns c = Rattle.gix_refspec.proofs.lemmas.validate.AfterLemmas.plans_apart

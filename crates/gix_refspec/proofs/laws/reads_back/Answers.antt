@@ -1,4 +1,2 @@
-use Rattle.gix_refspec_text.proofs.lemmas.specs.FormsBackLemmas.{read_back}
-
 pub returns : Rattle.gix_refspec.proofs.laws.reads_back.Goals.returns
-returns c = read_back c.args.operation c.args.text.now
+returns c = Rattle.gix_refspec_text.proofs.lemmas.specs.FormsBackLemmas.read_back c.args.operation c.args.text.now

@@ -1,4 +1,2 @@
-use Rattle.gix_refspec.proofs.lemmas.validate.MadeAtLemmas.{remains_exactly}
-
 pub returns : Rattle.gix_refspec.proofs.laws.remains_exactly.Goals.returns
-returns c = remains_exactly _ _
+returns c = Rattle.gix_refspec.proofs.lemmas.MadeLemmas.remains_exactly _ _

@@ -1,4 +1,2 @@
-use Rattle.gix_refspec_text.proofs.lemmas.specs.SpecLemmas.{says_for_operation}
-
 pub returns : Rattle.gix_refspec.proofs.laws.says_for_operation.Goals.returns
-returns c = says_for_operation _
+returns c = Rattle.gix_refspec_text.proofs.lemmas.specs.SpecLemmas.says_for_operation _

@@ -1,4 +1,2 @@
-use Rattle.gix_refspec.proofs.lemmas.validate.RefNameLemmas.{writes_refs}
-
 pub returns : Rattle.gix_refspec.proofs.laws.writes_refs.Goals.returns
-returns c = writes_refs _ _
+returns c = Rattle.gix_refspec.proofs.lemmas.validate.RefNameLemmas.writes_refs _ _

@@ -1,22 +1,14 @@
 -- The two directions agree for readings that go both ways, and a test of the sides decides whether one does.
-use Rattle.gix_refspec.proofs.Common.{Any as AnyAt, ◌≡◌, ◌⊎◌, inl, inr, ℕ, List, [], ◌∷◌, ◌++◌, codes, Option, None, Some, map, refl, ap, ◌∙◌, subst, AllByRecursion, RefSpecRef, Lacks, BeginsWith}
-use Rattle.gix_refspec.proofs.Common.{star, HasStar, HasSeveralStars, HasOneStar, Reading, IsAccepted, IsPositive, IsOneStarred, reading_of, SideKind, pattern, full_name, object, partial, HasKind}
-use Rattle.gix_refspec.proofs.Common.{filled, Ref, MatchesAs, Matches, HasName, Takes, name, AreForwardEnds, AreBackwardEnds, IsFilled, IsSourceAmong, IsDestinationAmong, GoesBothWays, Transpose}
-use Rattle.gix_refspec.proofs.Common.{true, Bool, IsTrue, ◌↔◌, Source, MakesForward, MakesBackward, PairsItem, id, IsPaired, by_cases, one_kind, matches_as, same_side, Any-all, Any-both, some_at}
-use Rattle.gix_refspec.proofs.Common.{some_of, Lacks-ContainsText, accepted_few, accepted_balanced}
+use Rattle.gix_refspec.proofs.Common.{Any as AnyAt, ◌≡◌, ◌⊎◌, inl, inr, ℕ, List, [], ◌∷◌, ◌++◌, codes, Option, None, Some, map, refl, ap, ◌∙◌, subst, AllByRecursion, RefSpecRef, Lacks, BeginsWith, star, HasStar}
+use Rattle.gix_refspec.proofs.Common.{HasSeveralStars, HasOneStar, Reading, IsAccepted, IsPositive, IsOneStarred, reading_of, SideKind, pattern, full_name, object, partial, HasKind, filled, Ref, Matches, HasName}
+use Rattle.gix_refspec.proofs.Common.{Takes, name, AreForwardEnds, AreBackwardEnds, IsFilled, IsSourceAmong, IsDestinationAmong, GoesBothWays, Transpose, true, Bool, IsTrue, ◌↔◌, Source, MakesForward, MakesBackward}
+use Rattle.gix_refspec.proofs.Common.{PairsItem, id, IsPaired, by_cases, one_kind, matches_as, same_side, Any-all, Any-both, some_at, some_of, Lacks-ContainsText, accepted_few, accepted_balanced, rules, arith, Ends}
+use Rattle.gix_refspec.proofs.lemmas.{MadeLemmas.{side_there}, keep.{FilterLemmas.{item_named, name_there}, PairMadeLemmas.{kept_exactly}}}
 use Rattle.gix_refspec_text.proofs.lemmas.parsing.DecideLemmas.{lacks_or_first}
-use Rattle.gix_refspec.proofs.lemmas.keep.FilterLemmas.{item_named, name_there}
-use Rattle.gix_refspec.proofs.lemmas.keep.PairMadeLemmas.{kept_exactly}
-use Rattle.gix_refspec.proofs.lemmas.validate.MadeAtLemmas.{side_there}
 
 -- two sides that map alike in both directions: two patterns, or two full names
-data AreTwins (x y : List ℕ) : Type 0 where
-  patterns : HasOneStar x → HasOneStar y → AreTwins x y
-  names : HasKind x (full_name x) → HasKind y (full_name y) → AreTwins x y
-
-twins_back : (x y : List ℕ) → AreTwins x y → AreTwins y x
-twins_back x y (patterns of_x of_y) = patterns of_y of_x
-twins_back x y (names of_x of_y) = names of_y of_x
+abbrev AreTwins : List ℕ → List ℕ → Type 0
+AreTwins x y = (HasOneStar x × HasOneStar y) ⊎ (HasKind x (full_name x) × HasKind y (full_name y))
 
 pub one_star : (x : List ℕ) → HasStar x → ¬ (HasSeveralStars x) → HasOneStar x
 one_star x has few = by_cases (lacks_or_first star x) (λ lacks. absurd (Lacks-ContainsText star x lacks has)) (λ p. by_cases (lacks_or_first star p.after)
@@ -27,37 +19,29 @@ pub starred : (x : List ℕ) → Lacks star x ⊎ HasStar x
 starred x = by_cases (lacks_or_first star x) (λ lacks. inl lacks) (λ index. inr (record { before = index.before; after = index.after; here = index.here }))
 
 pub both_or_neither : (s d : List ℕ) → ¬ (HasSeveralStars s) → ¬ (HasSeveralStars d) → ¬ (IsOneStarred s d) → (HasOneStar s × HasOneStar d) ⊎ (Lacks star s × Lacks star d)
-both_or_neither s d few_s few_d balanced = by_cases (starred s)
-    (λ no_s. by_cases (starred d) (λ no_d. inr (no_s, no_d)) (λ of_d. absurd (balanced (inr (no_s, of_d)))))
-    (λ of_s. by_cases (starred d) (λ no_d. absurd (balanced (inl (of_s, no_d)))) (λ of_d. inl (one_star s of_s few_s, one_star d of_d few_d)))
+both_or_neither s d few_s few_d balanced = search (rules, one_star, starred)
 
 twins : (x y : List ℕ) → ¬ (HasSeveralStars x) → ¬ (HasSeveralStars y) → ¬ (IsOneStarred x y) → (HasStar x × HasStar y) ⊎ (BeginsWith (codes "refs/") x × BeginsWith (codes "refs/") y) → AreTwins x y
-twins x y few_x few_y balanced (inl stars) = patterns (one_star x stars.0 few_x) (one_star y stars.1 few_y)
-twins x y few_x few_y balanced (inr below) = by_cases (both_or_neither x y few_x few_y balanced) (λ one. patterns one.0 one.1) (λ none. names (refl, none.0, below.0) (refl, none.1, below.1))
+twins x y few_x few_y balanced (inl stars) = inl (one_star x stars.0 few_x, one_star y stars.1 few_y)
+twins x y few_x few_y balanced (inr below) = by_cases (both_or_neither x y few_x few_y balanced) (λ one. inl one) (λ none. inr ((refl, none.0, below.0), (refl, none.1, below.1)))
 
 filled_as : (y m : List ℕ) (kind : SideKind) (word : Option (List ℕ)) → HasKind y kind → IsFilled (Some y) word (Some m) → m ≡ filled kind word
-filled_as y m kind word has (other, of, same) =
-    let is : m ≡ filled other word = cc in
-    is ∙ ap (λ (k : SideKind). filled k word) (one_kind y other kind of has)
+filled_as y m kind word has becomes = grind (arith, one_kind)
 
 -- if one of such sides takes a name, the other takes what it becomes, and the first becomes that name
 taken_back : (x y m : List ℕ) (r q : Ref) (word : Option (List ℕ)) → AreTwins x y → Matches x r word → IsFilled (Some y) word (Some m) → q.name ≡ m → (v : Option (List ℕ)) × Matches y q v × IsFilled (Some x) v (Some r.name)
-taken_back x y m r q word (patterns (before, after, of_x) (front, back, of_y)) matches becomes same =
-    with_word word (matches_as x (pattern before after) r word of_x matches) (filled_as y m (pattern front back) word of_y becomes)
-  where
-    with_word : (w : Option (List ℕ)) → MatchesAs (pattern before after) r w → m ≡ filled (pattern front back) w → (v : Option (List ℕ)) × Matches y q v × IsFilled (Some x) v (Some r.name)
-    with_word None fits is = absurd fits
-    with_word (Some w) fits is = (Some w, record { kind = pattern front back; of = of_y; is = same ∙ is }, (pattern before after, of_x, ap Some fits))
-taken_back x y m r q word (names of_x of_y) matches becomes same =
+taken_back x y m r q None (inl ((before, after, of_x), of_y)) matches becomes same = absurd (matches_as x (pattern before after) r None of_x matches)
+taken_back x y m r q (Some w) (inl ((before, after, of_x), (front, back, of_y))) matches becomes same =
+    let matched : Matches y q (Some w) = record { kind = pattern front back; of = of_y; is = same ∙ filled_as y m (pattern front back) (Some w) of_y becomes } in
+    (Some w, matched, (pattern before after, of_x, ap Some (matches_as x (pattern before after) r (Some w) of_x matches)))
+taken_back x y m r q word (inr (of_x, of_y)) matches becomes same =
     (None, record { kind = full_name y; of = of_y; is = (refl, same ∙ filled_as y m (full_name y) word of_y becomes) }, (full_name x, of_x, ap Some ((matches_as x (full_name x) r word of_x matches).1)))
 
 no_object : (x y bytes : List ℕ) → AreTwins x y → ¬ (HasKind x (object bytes))
-no_object x y bytes (patterns (before, after, of_x) of_y) is = cc (one_kind x (pattern before after) (object bytes) of_x is)
-no_object x y bytes (names of_x of_y) is = cc (one_kind x (full_name x) (object bytes) of_x is)
+no_object x y bytes twin is = by_cases twin (λ (one, other). cc (one_kind x (pattern one.0 one.1) (object bytes) one.2 is)) (λ (full, other). cc (one_kind x (full_name x) (object bytes) full is))
 
 no_partial : (x y n : List ℕ) → AreTwins x y → ¬ (HasKind x (partial n))
-no_partial x y n (patterns (before, after, of_x) of_y) is = cc (one_kind x (pattern before after) (partial n) of_x is)
-no_partial x y n (names of_x of_y) is = cc (one_kind x (full_name x) (partial n) of_x is)
+no_partial x y n twin is = by_cases twin (λ (one, other). cc (one_kind x (pattern one.0 one.1) (partial n) one.2 is)) (λ (full, other). cc (one_kind x (full_name x) (partial n) full is))
 
 abbrev IsFine : Reading → Type 0
 IsFine r = ∥ IsAccepted r ∥₁ × GoesBothWays r
@@ -70,39 +54,33 @@ name_among : (n : List ℕ) (items : List Ref) (P : Ref → Type 0) → ((i : Re
 name_among n items P named (k, i, below, at, holds) = subst (HasName items) (named i holds) (name_there items i (k, below, at))
 
 far_there : (far : Option (List ℕ)) (word : Option (List ℕ)) (m : List ℕ) → IsFilled far word (Some m) → (y : List ℕ) × (far ≡ Some y)
-far_there None word m is = absurd (cc)
-far_there (Some y) word m is = (y, refl)
+far_there far word m is = search rules
+
+-- what one direction makes of an item, the other makes of what the item becomes
+pairs_back : (HasEnds Other : Reading → Ends → Type 0) (T U : List ℕ → Ref → Option (List ℕ) → Type 0) (A B : List Ref) (n m : List ℕ) (r : Reading) (makes : PairsItem HasEnds T A n (Some m) r) (y : List ℕ)
+    → makes.ends.far ≡ Some y → AreTwins makes.ends.near y → Other r (record { near = y; far = Some makes.ends.near }) → ((i : Ref) (word : Option (List ℕ)) → T makes.ends.near i word → Matches makes.ends.near i word)
+    → ((i : Ref) (word : Option (List ℕ)) → Matches y i word → U y i word) → HasName B m → PairsItem Other U B m (Some n) r
+pairs_back HasEnds Other T U A B n m r makes y is_y twin has matches takes to =
+    let (k, i, below, at, paired) = makes.one in
+    let (j, (q, inside, stands), same) = item_named B m to in
+    let taken = taken_back makes.ends.near y m i j paired.word twin (matches i paired.word paired.takes) (subst (λ (o : Option (List ℕ)). IsFilled o paired.word (Some m)) is_y paired.becomes) same in
+    let becomes = subst (λ (z : List ℕ). IsFilled (Some makes.ends.near) taken.0 (Some z)) paired.name taken.2 in
+    record { ends = record { near = y; far = Some makes.ends.near }; has = has; one = (q, j, inside, stands, record { word = taken.0; name = same; takes = takes j taken.0 taken.1; becomes = becomes }) }
 
 forward_back : (A B : List Ref) (n m : List ℕ) (r : Reading) → IsFine r → HasName B m → PairsItem AreForwardEnds (Takes A) A n (Some m) r → PairsItem AreBackwardEnds Matches B m (Some n) r
 forward_back A B n m r fine to makes =
     let (k, i, below, at, paired) = makes.one in
-    let near = makes.ends.near in
     let (y, is_y) = far_there makes.ends.far paired.word m paired.becomes in
-    let right_is : r.destination ≡ Some y = makes.has.far ∙ is_y in
-    let twin = fine_twins r near y fine makes.has.positive makes.has.near right_is in
-    let (j, (q, inside, stands), same) = item_named B m to in
-    let taken = taken_back near y m i j paired.word twin paired.takes.matches (subst (λ (o : Option (List ℕ)). IsFilled o paired.word (Some m)) is_y paired.becomes) same in
-    record {
-      ends = record { near = y; far = Some near };
-      has = record { positive = makes.has.positive; near = right_is; far = makes.has.near; both = refl };
-      one = (q, j, inside, stands, record { word = taken.0; name = same; takes = taken.1; becomes = subst (λ (z : List ℕ). IsFilled (Some near) taken.0 (Some z)) paired.name taken.2 });
-    }
+    let has : AreBackwardEnds r (record { near = y; far = Some makes.ends.near }) = record { positive = makes.has.positive; near = makes.has.far ∙ is_y; far = makes.has.near; both = refl } in
+    pairs_back _ _ _ _ A B n m r makes y is_y (fine_twins r makes.ends.near y fine makes.has.positive makes.has.near has.near) has (λ i word takes. takes.matches) (λ i word matches. matches) to
 
 back_forward : (A B : List Ref) (n m : List ℕ) (r : Reading) → IsFine r → HasName A n → PairsItem AreBackwardEnds Matches B m (Some n) r → PairsItem AreForwardEnds (Takes A) A n (Some m) r
 back_forward A B n m r fine from makes =
-    let (k, i, below, at, paired) = makes.one in
-    let near = makes.ends.near in
     let (x, is_x) = side_there makes.ends.far makes.has.both in
-    let left_is : r.source ≡ Some x = makes.has.far ∙ is_x in
-    let twin = fine_twins r x near fine makes.has.positive left_is makes.has.near in
-    let (j, (q, inside, stands), same) = item_named A n from in
-    let taken = taken_back near x n i j paired.word (twins_back x near twin) paired.takes (subst (λ (o : Option (List ℕ)). IsFilled o paired.word (Some n)) is_x paired.becomes) same in
-    let takes : Takes A x j taken.0 = record { matches = taken.1; first = λ p kind. absurd (no_partial x near p twin kind) } in
-    record {
-      ends = record { near = x; far = Some near };
-      has = record { positive = makes.has.positive; near = left_is; far = makes.has.near; no_object = λ bytes. no_object x near bytes twin };
-      one = (q, j, inside, stands, record { word = taken.0; name = same; takes = takes; becomes = subst (λ (z : List ℕ). IsFilled (Some near) taken.0 (Some z)) paired.name taken.2 });
-    }
+    let twin = fine_twins r x makes.ends.near fine makes.has.positive (makes.has.far ∙ is_x) makes.has.near in
+    let has : AreForwardEnds r (record { near = x; far = Some makes.ends.near }) =
+    record { positive = makes.has.positive; near = makes.has.far ∙ is_x; far = makes.has.near; no_object = λ bytes. no_object x makes.ends.near bytes twin } in
+    pairs_back _ _ _ _ B A m n r makes x is_x (search rules) has (λ i word matches. matches) (λ i word matches. record { matches = matches; first = λ p kind. absurd (no_partial x makes.ends.near p twin kind) }) from
 
 turned : (A B : List Ref) (s : Source) (d : Option (List ℕ)) (r : Reading) → IsFine r → IsDestinationAmong B d → MakesForward A s d r → MakesBackward B s d r × IsSourceAmong A s
 turned A B (name n) (Some m) r fine to makes = (forward_back A B n m r fine to makes, name_among n A (IsPaired (Takes A) makes.ends n (Some m)) (λ i is. is.name) makes.one)

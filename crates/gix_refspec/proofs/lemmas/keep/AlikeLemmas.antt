@@ -1,10 +1,9 @@
 -- Fetches map alike if they are equal, or if the canonical text of one reads as the other.
-use Rattle.gix_refspec.proofs.Common.{◌≡◌, inl, inr, ◌↔◌, ℕ, ◌+◌, Bool, true, false, List, [], ◌∷◌, map, Option, None, Some, refl, sym, ap, ◌∙◌, nat_eq, pointwise, AllZip, Operation, Fetch}
-use Rattle.gix_refspec.proofs.Common.{RefSpecRef, Mode, Normal, Forced, Negative, Reading, IsPositive, IsAccepted, Reads, Meaning, fetch_only, fetch_exclude, fetch_and_update, meaning, meaning_of}
-use Rattle.gix_refspec.proofs.Common.{key_of_spec, reading_of, Ref, Matches, Takes, MakesOf, IsMadeFrom, IsJoinedFrom, Source, name, id, Mapped, IsExcludedBy, IsExcluded, IsSourceExcluded, IsKeptAt}
-use Rattle.gix_refspec.proofs.Common.{IsKept, Ends, AreForwardEnds, AreBackwardEnds, Hit, AreSpecHits, AreHits, IsIdMapping, AreKeptForward, AreKeptBackward, ReadsAgainAs, MapAlike}
-use Rattle.gix_refspec.proofs.Common.{FetchGroupReadsBack, FetchTheSame, EqualGroups, AreFetches, same_Some, by_cases, rules, subst, same_keys, equal_keys, keeps_operation, printed_back, says}
-use Rattle.gix_refspec.proofs.Common.{says_for_operation, arith}
+use Rattle.gix_refspec.proofs.Common.{◌≡◌, inl, inr, ◌↔◌, ℕ, ◌+◌, Bool, true, false, List, [], ◌∷◌, map, Option, None, Some, refl, sym, ap, ◌∙◌, nat_eq, pointwise, AllZip, Operation, Fetch, RefSpecRef, Mode, Normal}
+use Rattle.gix_refspec.proofs.Common.{Forced, Negative, Reading, IsPositive, IsAccepted, Reads, Meaning, fetch_only, fetch_exclude, fetch_and_update, meaning, meaning_of, key_of_spec, reading_of, Ref, Matches, Takes}
+use Rattle.gix_refspec.proofs.Common.{IsMadeFrom, IsJoinedFrom, Source, Mapped, IsExcludedBy, IsExcluded, IsSourceExcluded, IsKeptAt, IsKept, Ends, AreForwardEnds, AreBackwardEnds, Hit, AreSpecHits, AreHits}
+use Rattle.gix_refspec.proofs.Common.{IsIdMapping, AreKeptForward, AreKeptBackward, ReadsAgainAs, MapAlike, FetchGroupReadsBack, FetchTheSame, EqualGroups, AreFetches, same_Some, by_cases, rules, subst, same_keys}
+use Rattle.gix_refspec.proofs.Common.{equal_keys, keeps_operation, printed_back, says, says_for_operation, arith}
 
 abbrev pub is_negative : Mode → Bool
 is_negative Negative = true
@@ -23,9 +22,6 @@ zip_back : (g h : List Reading) → AllZip AreAlike g h → AllZip AreAlike h g
 zip_back [] [] alike = tt
 zip_back (r ∷ g) (q ∷ h) alike = (alike_back r q alike.0, zip_back g h alike.1)
 zip_back g h alike = absurd alike
-
-sign_negative : (mode : Mode) → is_negative mode ≡ true → mode ≡ Negative
-sign_negative mode sign = grind arith
 
 alike_positive : (r q : Reading) → AreAlike r q → IsPositive r.mode → IsPositive q.mode
 alike_positive r q alike positive = grind arith
@@ -48,9 +44,7 @@ are_parts op mode s d m fetch means = absurd (cc)
 
 -- two fetches with the same meaning are alike: only the force of one without a destination may differ
 said_alike : (r q : Reading) (m : Meaning) → r.operation ≡ Fetch → q.operation ≡ Fetch → meaning_of r ≡ Some m → meaning_of q ≡ meaning_of r → AreAlike r q
-said_alike r q m fetch_r fetch_q means same =
-    let both = sym (are_parts r.operation r.mode r.source r.destination m fetch_r means) ∙ ap parts_of (sym same) ∙ are_parts q.operation q.mode q.source q.destination m fetch_q (same ∙ means) in
-    record { source = ap (λ p. p.0) both; destination = ap (λ p. p.1) both; negative = ap (λ p. p.2) both }
+said_alike r q m fetch_r fetch_q means same = search (rules, are_parts)
 
 again_alike : (r q : Reading) → ∥ IsAccepted r ∥₁ → ReadsAgainAs r q → AreAlike r q
 again_alike r q accepted again =
@@ -64,14 +58,10 @@ zip_mapped f P Q of [] [] all = tt
 zip_mapped f P Q of (a ∷ xs) (b ∷ ys) all = (of a b all.0, zip_mapped f P Q of xs ys all.1)
 zip_mapped f P Q of xs ys all = absurd all
 
-makes_alike : {X Z Y : Type 0} (R : ℕ → X → Y → Type 0) (S : ℕ → Z → Y → Type 0) (k : ℕ) (x : X) (z : Z) (made : Option Y) → ((y : Y) → R k x y ↔ S k z y) → MakesOf R k x made → MakesOf S k z made
-makes_alike R S k x z None both none = λ y makes. none y ((both y).1 makes)
-makes_alike R S k x z (Some y) both makes = (both y).0 makes
-
 pub made_zip : {X Z Y : Type 0} (T : X → Z → Type 0) (R : ℕ → X → Y → Type 0) (S : ℕ → Z → Y → Type 0) → ((k : ℕ) (x : X) (z : Z) (y : Y) → T x z → R k x y ↔ S k z y) → (k : ℕ) (xs : List X) (zs : List Z) (ys : List Y) → AllZip T xs zs → IsMadeFrom R k xs ys → IsMadeFrom S k zs ys
 made_zip T R S both k [] [] ys alike made = made
-made_zip T R S both k (x ∷ xs) (z ∷ zs) ys alike (made, rest, here, more, is) =
-    (made, rest, makes_alike R S k x z made (λ y. both k x z y alike.0) here, made_zip T R S both (k + 1) xs zs rest alike.1 more, is)
+made_zip T R S both k (x ∷ xs) (z ∷ zs) ys alike (None, rest, none, more, is) = (None, rest, (λ y makes. none y ((both k x z y alike.0).1 makes)), made_zip T R S both (k + 1) xs zs rest alike.1 more, is)
+made_zip T R S both k (x ∷ xs) (z ∷ zs) ys alike (Some y, rest, one, more, is) = (Some y, rest, (both k x z y alike.0).0 one, made_zip T R S both (k + 1) xs zs rest alike.1 more, is)
 made_zip T R S both k xs zs ys alike made = absurd alike
 
 joined_zip : {X Z Y : Type 0} (T : X → Z → Type 0) (R : ℕ → X → List Y → Type 0) (S : ℕ → Z → List Y → Type 0) → ((k : ℕ) (x : X) (z : Z) (ys : List Y) → T x z → R k x ys → S k z ys) → (k : ℕ) (xs : List X) (zs : List Z) (ys : List Y) → AllZip T xs zs → IsJoinedFrom R k xs ys → IsJoinedFrom S k zs ys
@@ -80,15 +70,11 @@ joined_zip T R S each k (x ∷ xs) (z ∷ zs) ys alike (made, rest, here, more, 
     (made, rest, each k x z made alike.0 here, joined_zip T R S each (k + 1) xs zs rest alike.1 more, is)
 joined_zip T R S each k xs zs ys alike joined = absurd alike
 
-same_zip : {X : Type 0} (xs : List X) → AllZip (λ x y. x ≡ y) xs xs
-same_zip [] = tt
-same_zip (x ∷ xs) = (refl, same_zip xs)
-
-forward_ends : (r q : Reading) (ends : Ends) → AreAlike r q → AreForwardEnds r ends → AreForwardEnds q ends
-forward_ends r q ends alike are = search (rules, alike_positive r q alike are.positive)
-
-backward_ends : (r q : Reading) (ends : Ends) → AreAlike r q → AreBackwardEnds r ends → AreBackwardEnds q ends
-backward_ends r q ends alike are = search (rules, alike_positive r q alike are.positive)
+-- lists with the same keys have the same key at each place
+pub zip_keys : {X Z K : Type 0} (f : X → K) (h : Z → K) (xs : List X) (zs : List Z) → map f xs ≡ map h zs → AllZip (λ x z. f x ≡ h z) xs zs
+zip_keys f h [] [] same = tt
+zip_keys f h (x ∷ xs) (z ∷ zs) same = (cc, zip_keys f h xs zs (cc))
+zip_keys f h xs zs same = absurd (cc)
 
 module _ (HasEnds : Reading → Ends → Type 0) (Taken : List ℕ → Ref → Option (List ℕ) → Type 0) (keeps : (r q : Reading) (ends : Ends) → AreAlike r q → HasEnds r ends → HasEnds q ends) (items : List Ref) where
   spec_hits : (k : ℕ) (r q : Reading) (hits : List Hit) → AreAlike r q → AreSpecHits HasEnds Taken items k r hits → AreSpecHits HasEnds Taken items k q hits
@@ -102,7 +88,7 @@ id_mapping : (k : ℕ) (r q : Reading) (m : Mapped) → AreAlike r q → IsIdMap
 id_mapping k r q m alike is = search (rules, alike_positive r q alike is.positive, rw alike.destination at is.destination)
 
 excluded_by : (n : List ℕ) (r q : Reading) → AreAlike r q → IsExcludedBy n r → IsExcludedBy n q
-excluded_by n r q alike by = search (rules, sign_negative q.mode (sym alike.negative ∙ ap is_negative by.negative), sym alike.source ∙ by.source)
+excluded_by n r q alike by = record { negative = grind arith; text = by.text; source = sym alike.source ∙ by.source; excludes = by.excludes }
 
 excluded : (n : List ℕ) (g h : List Reading) → AllZip AreAlike g h → IsExcluded g n → IsExcluded h n
 excluded n [] h alike is = absurd is
@@ -110,27 +96,24 @@ excluded n (r ∷ g) [] alike is = absurd alike
 excluded n (r ∷ g) (q ∷ h) alike is = by_cases is (λ by. inl (excluded_by n r q alike.0 by)) (λ later. inr (excluded n g h alike.1 later))
 
 start_excluded : (s : Source) (g h : List Reading) → AllZip AreAlike g h → IsSourceExcluded g s → IsSourceExcluded h s
-start_excluded (name n) g h alike is = excluded n g h alike is
-start_excluded (id i) g h alike is = is
-
-stays : (g h : List Reading) (all : List Mapped) (k : ℕ) (m : Mapped) → AllZip AreAlike g h → IsKeptAt g all k m → IsKeptAt h all k m
-stays g h all k m alike is = record { first = is.first; included = λ by. is.included (start_excluded m.source h g (zip_back g h alike) by) }
+start_excluded s g h alike is = search (rules, excluded)
 
 kept : (g h : List Reading) (all list : List Mapped) → AllZip AreAlike g h → IsKept g all list → IsKept h all list
 kept g h all list alike is =
-    made_zip (λ x y. x ≡ y) (λ k m made. (made ≡ m) × IsKeptAt g all k m) (λ k m made. (made ≡ m) × IsKeptAt h all k m)
-    (λ k m n made same. rw same ((λ of_g. (of_g.0, stays g h all k n alike of_g.1)), λ of_h. (of_h.0, stays h g all k n (zip_back g h alike) of_h.1)))
-    0 all all list (same_zip all) is
+    made_zip (λ x y. x ≡ y) (λ k m made. (made ≡ m) × IsKeptAt g all k m) (λ k m made. (made ≡ m) × IsKeptAt h all k m) (λ k m n made same. rw same (
+      (λ of_g. (of_g.0, record { first = of_g.1.first; included = λ by. of_g.1.included (start_excluded n.source h g (zip_back g h alike) by) })),
+      λ of_h. (of_h.0, record { first = of_h.1.first; included = λ by. of_h.1.included (start_excluded n.source g h alike by) }),
+    )) 0 all all list (zip_keys (λ x. x) (λ x. x) all all refl) is
 
 forward : (g h : List Reading) (items : List Ref) (list : List Mapped) → AllZip AreAlike g h → AreKeptForward g items list → AreKeptForward h items list
 forward g h items list alike are =
     let ids = made_zip AreAlike IsIdMapping IsIdMapping (λ k r q m same. (id_mapping k r q m same, id_mapping k q r m (alike_back r q same)))
     0 g h are.forward.ids alike are.forward.are_ids in
-    search (rules, ids, group_hits AreForwardEnds (Takes items) forward_ends items g h are.forward.hits alike, kept g h are.all list alike)
+    search (rules, ids, group_hits AreForwardEnds (Takes items) (λ r q ends same has. search (rules, alike_positive r q same has.positive)) items g h are.forward.hits alike, kept g h are.all list alike)
 
 backward : (g h : List Reading) (items : List Ref) (list : List Mapped) → AllZip AreAlike g h → AreKeptBackward g items list → AreKeptBackward h items list
 backward g h items list alike are =
-    search (rules, group_hits AreBackwardEnds Matches backward_ends items g h are.backward.hits alike, kept g h are.all list alike)
+    search (rules, group_hits AreBackwardEnds Matches (λ r q ends same has. search (rules, alike_positive r q same has.positive)) items g h are.backward.hits alike, kept g h are.all list alike)
 
 map_alike : (g h : List Reading) (items : List Ref) → AllZip AreAlike g h → MapAlike g h items
 map_alike g h items alike = search (rules, forward, backward, zip_back)
@@ -139,20 +122,14 @@ pub reads_back : (specs : List RefSpecRef) (h : List Reading) (items : List Ref)
 reads_back specs h items again = map_alike (map reading_of specs) h items (zip_mapped reading_of ReadsAgainAs AreAlike (λ s q of_s. again_alike (reading_of s) q s.accepted of_s) specs h again)
 
 equal_alike : (s : RefSpecRef) (q : Reading) → FetchTheSame (reading_of s) q → AreAlike (reading_of s) q
-equal_alike s q equal =
-    let said = says (reading_of s) s.accepted in
-    let fetch = sym (says_for_operation q said.0 (sym equal.same ∙ said.1)) ∙ (says_for_operation (reading_of s) said.0 said.1 ∙ equal.fetch) in
-    said_alike (reading_of s) q said.0 equal.fetch fetch said.1 (sym equal.same)
+equal_alike s q equal = search (rules, said_alike, says, says_for_operation)
 
 pub equal_groups : (specs other : List RefSpecRef) (items : List Ref) → EqualGroups (map reading_of specs) (map reading_of other) items
 equal_groups specs other items equal = map_alike (map reading_of specs) (map reading_of other) items (zip_mapped reading_of FetchTheSame AreAlike equal_alike specs (map reading_of other) equal)
 
 equal_fetches : (specs other : List RefSpecRef) → AreFetches (map reading_of specs) → map (λ (s : RefSpecRef). meaning_of (reading_of s)) specs ≡ map (λ (s : RefSpecRef). meaning_of (reading_of s)) other → AllZip FetchTheSame (map reading_of specs) (map reading_of other)
 equal_fetches [] [] fetches same = tt
-equal_fetches (s ∷ specs) (t ∷ other) fetches same =
-    let first : meaning_of (reading_of s) ≡ meaning_of (reading_of t) = cc in
-    let rest : map (λ (x : RefSpecRef). meaning_of (reading_of x)) specs ≡ map (λ (x : RefSpecRef). meaning_of (reading_of x)) other = cc in
-    (record { fetch = fetches.0; same = first }, equal_fetches specs other fetches.1 rest)
+equal_fetches (s ∷ specs) (t ∷ other) fetches same = (record { fetch = fetches.0; same = cc }, equal_fetches specs other fetches.1 (cc))
 equal_fetches specs other fetches same = absurd (cc)
 
 pub equal_lists : (specs other : List RefSpecRef) (items : List Ref) → pointwise (λ (a : RefSpecRef) (b : RefSpecRef). pointwise (pointwise nat_eq) (key_of_spec a) (key_of_spec b)) specs other ≡ true → AreFetches (map reading_of specs) → MapAlike (map reading_of specs) (map reading_of other) items

@@ -1,28 +1,24 @@
 -- Filters of items: the same pairs are kept, if no item that some spec takes is left out.
-use Rattle.gix_refspec.proofs.Common.{◌≡◌, ℕ, zero, suc, Bool, true, List, [], ◌∷◌, Option, map, refl, sym, ap, ◌∙◌, subst, arith, nat_eq, Any, Contains, filter, starts_with, or_left, or_right}
-use Rattle.gix_refspec.proofs.Common.{get_or-map, length-map, All-contains_itself, All-filter, starts_is, bstr_bytes, Item, BeginsWith, Reading, Ref, Matches, Takes, Ends, AreForwardEnds}
-use Rattle.gix_refspec.proofs.Common.{AreBackwardEnds, ref_of, BeginsWithOne, ArePart, TakesItem, HasTaken, PassesTaken, FilteredItems, FilteredByEntries, FilteredByList, is_begun, All-contains}
-use Rattle.gix_refspec.proofs.Common.{all_weaker, inl, inr, ◌↔◌, None, Some, append-nil, Lacks, star, head, SideKind, pattern, full_name, object, partial, HasKind, HasName, IsFirstCandidate, of_head}
-use Rattle.gix_refspec.proofs.Common.{to_prefix, Source, name, id, Mapped, AreKeptForward, AreKeptBackward, PairsItem, MakesForward, MakesBackward, IsCoveredBy, HaveSamePairs, FewerItems, IsListed}
-use Rattle.gix_refspec.proofs.Common.{AreListedItems, ListedItems, same_Some, All-from_recursion, Lacks-tested, rules, lacks_no_pattern}
-use Rattle.std.proofs.lemmas.Bool.Decides.{Decides-eqb}
+use Rattle.gix_refspec.proofs.Common.{◌≡◌, ℕ, zero, suc, Bool, true, List, [], ◌∷◌, Option, map, refl, sym, ap, ◌∙◌, subst, arith, nat_eq, Any, Contains, filter, starts_with, get_or-map, length-map}
+use Rattle.gix_refspec.proofs.Common.{All-contains_itself, All-filter, starts_is, bstr_bytes, Item, Reading, Ref, Matches, Takes, Ends, AreForwardEnds, AreBackwardEnds, ref_of, BeginsWithOne, ArePart, TakesItem}
+use Rattle.gix_refspec.proofs.Common.{HasTaken, PassesTaken, FilteredItems, FilteredByEntries, FilteredByList, is_begun, All-contains, all_weaker, inl, inr, ◌↔◌, None, Lacks, star, head, SideKind, pattern, full_name}
+use Rattle.gix_refspec.proofs.Common.{object, partial, HasKind, HasName, IsFirstCandidate, Source, name, id, Mapped, AreKeptForward, PairsItem, MakesForward, MakesBackward, IsCoveredBy, HaveSamePairs, FewerItems}
+use Rattle.gix_refspec.proofs.{Common.{IsListed, AreListedItems, ListedItems, same_Some, All-from_recursion, Lacks-tested, rules, lacks_no_pattern, some_at, Any-from_map, IsAsked}, lemmas.MadeLemmas.{there}}
+use Rattle.gix_refspec.proofs.lemmas.{keep.PairMadeLemmas.{kept_exactly}, prefixes.CoverLemmas.{below_not_head, joined_covers, source_asked, covering_covers, head_covers}}
 use Rattle.gix_refspec_match.proofs.lemmas.duplicates.HashKeyLemmas.{contains_filter}
 use Rattle.gix_refspec_text.proofs.lemmas.hits.CandidateLemmas.{first_candidate, first_once, some_first, taken_by_first}
-use Rattle.gix_refspec.proofs.lemmas.prefixes.CoverLemmas.{below_not_head, joined_covers, side_covers, source_asked}
-use Rattle.gix_refspec.proofs.lemmas.keep.PairMadeLemmas.{kept_exactly}
+use Rattle.std.proofs.lemmas.{Bool.Decides.{Decides-eqb}, List.Folds.{list_any-from_Any}}
 
 pub mapped_there : {X Y : Type 0} (f : X → Y) (xs : List X) (x : X) → Contains xs x → Contains (map f xs) (f x)
 mapped_there f xs x (k, below, is) = (k, omega (arith, below, length-map xs f), get_or-map f xs k x (f x) below ∙ ap f is)
 
-mapped_from : {X Y : Type 0} (f : X → Y) (xs : List X) (y : Y) → Contains (map f xs) y → (x : X) × Contains xs x × (f x ≡ y)
-mapped_from f [] y (k, below, is) = absurd (omega (arith, below))
-mapped_from f (x ∷ xs) y (zero, below, is) = (x, (0, omega arith, refl), is)
-mapped_from f (x ∷ xs) y (suc k, below, is) = let (z, (j, inside, at), same) = mapped_from f xs y (k, omega (arith, below), is) in (z, (suc j, omega (arith, inside), at), same)
+pub mapped_from : {X Y : Type 0} (f : X → Y) (xs : List X) (y : Y) → Contains (map f xs) y → (x : X) × Contains xs x × (f x ≡ y)
+mapped_from f xs y has = let (k, x, below, is, same) = some_at (λ x. f x ≡ y) xs (Any-from_map (λ z. z ≡ y) f xs (there (map f xs) y has)) in (x, (k, below, is), same)
 
-filtered_part : (p : Item → Bool) (items : List Item) → ArePart (map ref_of items) (map ref_of (filter p items))
-filtered_part p items ref has =
+filtered_part : (p : Item → Bool) (items some : List Item) → some ≡ filter p items → ArePart (map ref_of items) (map ref_of some)
+filtered_part p items some is = rw is (λ ref has.
     let (item, there, same) = mapped_from ref_of (filter p items) ref has in
-    subst (Contains (map ref_of items)) same (mapped_there ref_of items item (All-contains (Contains items) (filter p items) item (All-filter p (Contains items) items (All-contains_itself items)) there))
+    subst (Contains (map ref_of items)) same (mapped_there ref_of items item (All-contains (Contains items) (filter p items) item (All-filter p (Contains items) items (All-contains_itself items)) there)))
 
 passed : (p : Item → Bool) (items : List Item) (P : Ref → Type 0) → ((item : Item) → Contains items item → P (ref_of item) → p item ≡ true) → (ref : Ref) → Contains (map ref_of items) ref → P ref → Contains (map ref_of (filter p items)) ref
 passed p items P passes ref has holds =
@@ -33,24 +29,16 @@ filtered_taken : (HasEnds : Reading → Ends → Type 0) (Taken : List ℕ → R
 filtered_taken HasEnds Taken g items some p is passes = subst (λ (l : List Item). HasTaken HasEnds Taken g (map ref_of items) (map ref_of l)) (sym is) (passed p items (λ (r : Ref). Any (TakesItem HasEnds Taken r) g) passes)
 
 pub filtered_items : (g : List Reading) (items some : List Item) → FilteredItems g items some
-filtered_items g items some = record {
-  part = λ p is. subst (λ (l : List Item). ArePart (map ref_of items) (map ref_of l)) (sym is) (filtered_part p items);
-  forward = λ p is passes. filtered_taken AreForwardEnds (Takes (map ref_of items)) g items some p is passes;
-  backward = λ p is passes. filtered_taken AreBackwardEnds Matches g items some p is passes;
-}
+filtered_items g items some = search (rules, filtered_part, filtered_taken)
 
 begun : (n : List ℕ) (entries : List (List ℕ)) → BeginsWithOne entries n → is_begun entries n ≡ true
-begun n [] (k, e, below, is, begins) = absurd (omega (arith, below))
-begun n (entry ∷ entries) (zero, e, below, is, begins) =
-    let first : BeginsWith entry n = subst (λ (x : List ℕ). BeginsWith x n) (sym is) begins in
-    or_left (starts_with nat_eq n entry) (is_begun entries n) ((starts_is Decides-eqb n entry (starts_with nat_eq n entry) refl).1 first.after first.here)
-begun n (entry ∷ entries) (suc k, e, below, is, begins) = or_right (starts_with nat_eq n entry) (is_begun entries n) (begun n entries (k, e, omega (arith, below), is, begins))
+begun n entries (k, e, below, is, begins) = list_any-from_Any (λ entry. starts_with nat_eq n entry) entries (k, e, below, is, (starts_is Decides-eqb n e (starts_with nat_eq n e) refl).1 begins.after begins.here)
 
 pub filtered_by_list : (items some : List Item) → FilteredByList items some
 filtered_by_list items some entries is =
     let p : Item → Bool = λ item. is_begun entries (bstr_bytes item.full_ref_name) in
     record {
-      part = subst (λ (l : List Item). ArePart (map ref_of items) (map ref_of l)) (sym is) (filtered_part p items);
+      part = filtered_part p items some is;
       asked = λ ref has begins. subst (λ (l : List Item). Contains (map ref_of l) ref) (sym is) (passed p items (λ (r : Ref). BeginsWithOne entries r.name) (λ item there of_item. begun (bstr_bytes item.full_ref_name) entries of_item) ref has begins);
     }
 
@@ -74,89 +62,67 @@ name_in_all A B part n has = let (item, there, same) = item_named B n has in sub
 
 -- the first candidate among all items is the first in a subset that has it
 first_in_part : (A B : List Ref) → ArePart A B → (x n : List ℕ) → HasName B n → IsFirstCandidate A x n → IsFirstCandidate B x n
-first_in_part A B part x n has first =
-    let absent = all_weaker (λ m. ¬ (HasName A m)) (λ m. ¬ (HasName B m)) (λ m none there. none (name_in_all A B part m there)) first.earlier first.absent in
-    search (rules, absent)
+first_in_part A B part x n has first = grind (arith, all_weaker, name_in_all)
 
 takes_in_part : (A B : List Ref) → ArePart A B → (x : List ℕ) (item : Ref) (word : Option (List ℕ)) → Contains B item → Takes A x item word → Takes B x item word
 takes_in_part A B part x item word there takes = search (rules, first_in_part A B part, takes.first, name_there B item there)
 
 -- if no item that is taken is left out, an item that is taken in the subset is taken among all
 takes_in_all : (A B : List Ref) → ArePart A B → (x : List ℕ) → ((item : Ref) (word : Option (List ℕ)) → Contains A item → Takes A x item word → Contains B item) → (item : Ref) (word : Option (List ℕ)) → Contains B item → Takes B x item word → Takes A x item word
-takes_in_all A B part x has item word there takes = record { matches = takes.matches; first = first }
-  where
-    first : (n : List ℕ) → HasKind x (partial n) → IsFirstCandidate A n item.name
-    first n kind =
-        let among = takes.first n kind in
-        let (m, of_all) = some_first A n item.name (first_candidate B n item.name among) (name_there A item (part item there)) in
-        let (other, is_there, named) = item_named A m of_all.present in
-        let whole : HasKind x (partial x) = (refl, kind.1, kind.2, kind.3) in
-        let first_of_x : IsFirstCandidate A x other.name = subst (λ (y : List ℕ). IsFirstCandidate A y other.name) kind.0 (subst (IsFirstCandidate A n) (sym named) of_all) in
-        let in_part = has other None is_there (taken_by_first A x other whole first_of_x) in
-        let same : item.name ≡ m = first_once B n item.name m among (first_in_part A B part n m (subst (HasName B) named (name_there B other in_part)) of_all) in
-        subst (IsFirstCandidate A n) (sym same) of_all
+takes_in_all A B part x has item word there takes = record {
+  matches = takes.matches;
+  first = λ n kind.
+      let among = takes.first n kind in
+      let (m, of_all) = some_first A n item.name (first_candidate B n item.name among) (name_there A item (part item there)) in
+      let (other, is_there, named) = item_named A m of_all.present in
+      let first_of_x : IsFirstCandidate A x other.name = subst (λ (y : List ℕ). IsFirstCandidate A y other.name) kind.0 (subst (IsFirstCandidate A n) (sym named) of_all) in
+      let in_part = has other None is_there (taken_by_first A x other (refl, kind.1, kind.2, kind.3) first_of_x) in
+      let same : item.name ≡ m = first_once B n item.name m among (first_in_part A B part n m (subst (HasName B) named (name_there B other in_part)) of_all) in
+      subst (IsFirstCandidate A n) (sym same) of_all;
+}
 
 -- a pair is made over other items, if those that make it are there and are taken
 pairs_moved : (HasEnds : Reading → Ends → Type 0) (T U : List ℕ → Ref → Option (List ℕ) → Type 0) (A B : List Ref) (n : List ℕ) (far : Option (List ℕ)) (r : Reading)
     → ((ends : Ends) (item : Ref) (word : Option (List ℕ)) → HasEnds r ends → Contains A item → T ends.near item word → Contains B item × U ends.near item word)
     → PairsItem HasEnds T A n far r → PairsItem HasEnds U B n far r
-pairs_moved HasEnds T U A B n far r moves pairs =
-    let (k, item, below, is, pair) = pairs.one in
-    let ((j, inside, at), takes) = moves pairs.ends item pair.word pairs.has (k, below, is) pair.takes in
-    record { ends = pairs.ends; has = pairs.has; one = (j, item, inside, at, record { word = pair.word; name = pair.name; takes = takes; becomes = pair.becomes }) }
+pairs_moved HasEnds T U A B n far r moves pairs = search rules
 
 -- B contains each item of A that the reading takes
 abbrev HasTakenBy : (Reading → Ends → Type 0) → (List ℕ → Ref → Option (List ℕ) → Type 0) → List Ref → List Ref → Reading → Type 0
 HasTakenBy HasEnds Taken A B r = (item : Ref) → Contains A item → TakesItem HasEnds Taken item r → Contains B item
 
-forward_in_part : (A B : List Ref) → ArePart A B → (s : Source) (far : Option (List ℕ)) (r : Reading) → HasTakenBy AreForwardEnds (Takes A) A B r → MakesForward A s far r → MakesForward B s far r
-forward_in_part A B part (name n) far r has makes =
-    pairs_moved AreForwardEnds (Takes A) (Takes B) A B n far r (λ ends item word of_r there takes.
-    let in_part = has item there (record { ends = ends; has = of_r; word = word; takes = takes }) in
-    (in_part, takes_in_part A B part ends.near item word in_part takes)) makes
-forward_in_part A B part (id bytes) far r has makes = makes
+forward_moved : (A B : List Ref) → ArePart A B → (s : Source) (far : Option (List ℕ)) (r : Reading) → HasTakenBy AreForwardEnds (Takes A) A B r → MakesForward A s far r ↔ MakesForward B s far r
+forward_moved A B part (name n) far r has = (
+  pairs_moved AreForwardEnds (Takes A) (Takes B) A B n far r (λ ends item word of_r there takes.
+      let in_part = has item there (record { ends = ends; has = of_r; word = word; takes = takes }) in
+      (in_part, takes_in_part A B part ends.near item word in_part takes)),
+  pairs_moved AreForwardEnds (Takes B) (Takes A) B A n far r (λ ends item word of_r there takes.
+      (part item there, takes_in_all A B part ends.near (λ other v in_all taken. has other in_all (record { ends = ends; has = of_r; word = v; takes = taken })) item word there takes)),
+)
+forward_moved A B part (id bytes) far r has = ((λ makes. makes), λ makes. makes)
 
-forward_in_all : (A B : List Ref) → ArePart A B → (s : Source) (far : Option (List ℕ)) (r : Reading) → HasTakenBy AreForwardEnds (Takes A) A B r → MakesForward B s far r → MakesForward A s far r
-forward_in_all A B part (name n) far r has makes =
-    pairs_moved AreForwardEnds (Takes B) (Takes A) B A n far r (λ ends item word of_r there takes.
-    (part item there, takes_in_all A B part ends.near (λ other v in_all taken. has other in_all (record { ends = ends; has = of_r; word = v; takes = taken })) item word there takes)) makes
-forward_in_all A B part (id bytes) far r has makes = makes
-
-backward_in_part : (A B : List Ref) (s : Source) (far : Option (List ℕ)) (r : Reading) → HasTakenBy AreBackwardEnds Matches A B r → MakesBackward A s far r → MakesBackward B s far r
-backward_in_part A B (name n) (Some d) r has makes =
-    pairs_moved AreBackwardEnds Matches Matches A B d (Some n) r (λ ends item word of_r there takes.
-    (has item there (record { ends = ends; has = of_r; word = word; takes = takes }), takes)) makes
-backward_in_part A B s far r has makes = makes
-
-backward_in_all : (A B : List Ref) → ArePart A B → (s : Source) (far : Option (List ℕ)) (r : Reading) → MakesBackward B s far r → MakesBackward A s far r
-backward_in_all A B part (name n) (Some d) r makes = pairs_moved AreBackwardEnds Matches Matches B A d (Some n) r (λ ends item word of_r there takes. (part item there, takes)) makes
-backward_in_all A B part s far r makes = makes
+backward_moved : (A B : List Ref) → ArePart A B → (s : Source) (far : Option (List ℕ)) (r : Reading) → HasTakenBy AreBackwardEnds Matches A B r → MakesBackward A s far r ↔ MakesBackward B s far r
+backward_moved A B part s far r has = search (rules, pairs_moved)
 
 -- if P implies Q for each reading of a group, and P holds of some, Q holds of some
 any_each : (P Q : Reading → Type 0) (g : List Reading) → ((r : Reading) → Contains g r → P r → Q r) → Any P g → Any Q g
 any_each P Q g each (k, r, below, is, holds) = (k, r, below, is, each r (k, below, is) holds)
 
-taken_by_one : (HasEnds : Reading → Ends → Type 0) (Taken : List ℕ → Ref → Option (List ℕ) → Type 0) (g : List Reading) (A B : List Ref) → HasTaken HasEnds Taken g A B → (r : Reading) → Contains g r → HasTakenBy HasEnds Taken A B r
-taken_by_one HasEnds Taken g A B has r (k, below, is) item there takes = has item there (k, r, below, is, takes)
-
--- a pair is kept if it is made and not excluded, so the same are kept if the same are made
-same_kept : {K F X MA MB : Type 0} → K ↔ (MA × X) → F ↔ (MB × X) → (MA → MB) → (MB → MA) → K ↔ F
-same_kept of_all of_part to back = ((λ k. of_part.1 (to (of_all.0 k).0, (of_all.0 k).1)), (λ f. of_all.1 (back (of_part.0 f).0, (of_part.0 f).1)))
+-- a pair is kept if it is made and not excluded, so the same are kept if each reading makes the same
+same_kept : {K F X : Type 0} (P Q : Reading → Type 0) (g : List Reading) → K ↔ (Any P g × X) → F ↔ (Any Q g × X) → ((r : Reading) → Contains g r → P r ↔ Q r) → K ↔ F
+same_kept P Q g of_all of_part each = search (rules, any_each)
 
 forward_fewer : (g : List Reading) (A B : List Ref) → ArePart A B → ((r : Reading) → Contains g r → HasTakenBy AreForwardEnds (Takes A) A B r) → (kept fewer : List Mapped) → AreKeptForward g A kept → AreKeptForward g B fewer → HaveSamePairs kept fewer
 forward_fewer g A B part has kept fewer of_all of_part pair =
-    same_kept ((kept_exactly g A).forward kept of_all pair) ((kept_exactly g B).forward fewer of_part pair)
-    (any_each _ _ g (λ r there. forward_in_part A B part pair.source pair.destination r (has r there)))
-    (any_each _ _ g (λ r there. forward_in_all A B part pair.source pair.destination r (has r there)))
-
-backward_fewer : (g : List Reading) (A B : List Ref) → ArePart A B → HasTaken AreBackwardEnds Matches g A B → (kept fewer : List Mapped) → AreKeptBackward g A kept → AreKeptBackward g B fewer → HaveSamePairs kept fewer
-backward_fewer g A B part has kept fewer of_all of_part pair =
-    same_kept ((kept_exactly g A).backward kept of_all pair) ((kept_exactly g B).backward fewer of_part pair)
-    (any_each _ _ g (λ r there. backward_in_part A B pair.source pair.destination r (taken_by_one AreBackwardEnds Matches g A B has r there)))
-    (any_each _ _ g (λ r there. backward_in_all A B part pair.source pair.destination r))
+    same_kept _ _ g ((kept_exactly g A).forward kept of_all pair) ((kept_exactly g B).forward fewer of_part pair) (λ r there. forward_moved A B part pair.source pair.destination r (has r there))
 
 pub fewer_items : (g : List Reading) (A B : List Ref) → FewerItems g A B
-fewer_items g A B = search (rules, forward_fewer, backward_fewer, taken_by_one AreForwardEnds (Takes A) g A B)
+fewer_items g A B = record {
+  forward = λ part has. forward_fewer g A B part (λ r (k, below, is) item there takes. has item there (k, r, below, is, takes));
+  backward = λ part has kept fewer of_all of_part pair.
+      same_kept _ _ g ((kept_exactly g A).backward kept of_all pair) ((kept_exactly g B).backward fewer of_part pair)
+      (λ r (k, below, is). backward_moved A B part pair.source pair.destination r (λ item there takes. has item there (k, r, below, is, takes)));
+}
 
 head_taken : (A : List Ref) (x : List ℕ) (item : Ref) (word : Option (List ℕ)) (kind : SideKind) → x ≡ head → HasName A head → ((bytes : List ℕ) → ¬ (HasKind x (object bytes))) → HasKind x kind → Takes A x item word → item.name ≡ x
 head_taken A x item word (pattern before after) is there none kind takes = absurd (lacks_no_pattern x before after (subst (Lacks star) (sym is) (Lacks-tested star head refl)) kind)
@@ -168,18 +134,10 @@ head_taken A x item word (partial n) is there none kind takes =
 
 -- the name of an item that a listed reading takes begins with an entry of its expansion
 listed_covers : (A : List Ref) (r : Reading) (ends : Ends) (item : Ref) (word : Option (List ℕ)) → IsListed A r → AreForwardEnds r ends → Takes A ends.near item word → IsCoveredBy item.name r
-listed_covers A r ends item word (inl covering) are takes =
-    let asked = source_asked r ends covering.fetch are in
-    let covers = side_covers ends.near item word (covering.source ends.near asked) are.no_object takes.matches in
-    record { entries = covers.0; expansion = inl (ends.near, asked, covers.1); one = covers.2 }
+listed_covers A r ends item word (inl covering) are takes = covering_covers r ends item word covering are takes.matches
 listed_covers A r ends item word (inr fetches) are takes =
     let is : ends.near ≡ head = same_Some ends.near head (sym are.near ∙ fetches.source) in
-    let same : item.name ≡ ends.near = head_taken A ends.near item word takes.matches.kind is fetches.there are.no_object takes.matches.of takes in
-    record {
-      entries = ends.near ∷ [];
-      expansion = inl (ends.near, source_asked r ends fetches.fetch are, to_prefix ends.near (of_head is refl) refl);
-      one = (0, ends.near, omega arith, refl, record { after = []; here = same ∙ sym (append-nil ends.near) });
-    }
+    head_covers r item.name (subst (IsAsked r) is (source_asked r ends fetches.fetch are)) (head_taken A ends.near item word takes.matches.kind is fetches.there are.no_object takes.matches.of takes ∙ is)
 
 listed_taken : (g : List Reading) (A B : List Ref) → AreListedItems g A B → (r : Reading) → Contains g r → IsListed A r → HasTakenBy AreForwardEnds (Takes A) A B r
 listed_taken g A B listed r (k, below, is) of_r item there takes =
@@ -189,7 +147,7 @@ pub listed_items : (g : List Reading) (A B : List Ref) → ListedItems g A B
 listed_items g A B = record {
   some = λ listed kept fewer of_all of_part pair has any.
       let included = ((kept_exactly g A).forward kept of_all pair).0 has in
-      let made : Any (MakesForward B pair.source pair.destination) g = any_each _ _ g (λ r there both. forward_in_part A B listed.part pair.source pair.destination r (listed_taken g A B listed r there both.0) both.1) any in
+      let made : Any (MakesForward B pair.source pair.destination) g = any_each _ _ g (λ r there both. (forward_moved A B listed.part _ _ r (listed_taken g A B listed r there both.0)).0 both.1) any in
       ((kept_exactly g B).forward fewer of_part pair).1 (made, included.1);
   all = λ listed each kept fewer of_all of_part. forward_fewer g A B listed.part (λ r there. listed_taken g A B listed r there (All-contains (IsListed A) g r (All-from_recursion (IsListed A) g each) there)) kept fewer of_all of_part;
 }

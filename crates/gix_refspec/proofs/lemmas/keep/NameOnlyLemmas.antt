@@ -1,46 +1,28 @@
 -- Refs with the same names have the same mappings, from right to left if no destination is an id.
-use Rattle.gix_refspec.proofs.Common.{all_weaker, ◌≡◌, ℕ, ◌+◌, inl, inr, List, [], ◌∷◌, Option, None, Some, map, refl, sym, ap, ◌∙◌, subst, length, arith, Reading, SideKind, pattern, full_name}
-use Rattle.gix_refspec.proofs.Common.{object, partial, HasKind, Fits, IsCandidate, Ref, Matches, MatchesAs, HasName, IsFirstCandidate, Takes, IsJoinedFrom, Ends, AreBackwardEnds, AreForwardEnds, Hit}
-use Rattle.gix_refspec.proofs.Common.{IsHit, AreSpecHits, HasIdDestination, HaveSameNames, NamesDecide, NamesDecideBack, AllZip, by_cases, rules, AllByRecursion, recursion_from_All}
-use Rattle.gix_refspec.proofs.lemmas.keep.AlikeLemmas.{made_zip}
-
-first_name : (r q : Ref) (refs others : List Ref) → HaveSameNames (r ∷ refs) (q ∷ others) → (r.name ≡ q.name) × HaveSameNames refs others
-first_name r q refs others same =
-    let both : r.name ∷ map (λ (x : Ref). x.name) refs ≡ q.name ∷ map (λ (x : Ref). x.name) others = same in
-    (cc, cc)
+use Rattle.gix_refspec.proofs.Common.{all_weaker, ◌≡◌, ℕ, ◌+◌, inl, inr, List, [], ◌∷◌, Option, sym, ◌∙◌, subst, Reading, SideKind, object, HasKind, Ref, Matches, MatchesAs, HasName, IsFirstCandidate, Takes}
+use Rattle.gix_refspec.proofs.Common.{IsJoinedFrom, Ends, AreBackwardEnds, AreForwardEnds, Hit, IsHit, AreSpecHits, HasIdDestination, HaveSameNames, NamesDecide, NamesDecideBack, rules, AllByRecursion}
+use Rattle.gix_refspec.proofs.{Common.{recursion_from_All, Contains}, lemmas.keep.{AlikeLemmas.{made_zip, zip_keys}, FilterLemmas.{item_named, mapped_from, mapped_there, name_there}}}
 
 pub has_also : (A B : List Ref) (n : List ℕ) → HaveSameNames A B → HasName A n → HasName B n
-has_also [] B n same has = absurd has
-has_also (a ∷ A) [] n same has = absurd (omega (arith, ap length same))
-has_also (a ∷ A) (b ∷ B) n same has = let first = first_name a b A B same in by_cases has (λ here. inl (sym first.0 ∙ here)) (λ later. inr (has_also A B n first.1 later))
+has_also A B n same has =
+    let (a, in_A, is) = item_named A n has in
+    let (b, in_B, named) = mapped_from (λ (r : Ref). r.name) B a.name (subst (λ (names : List (List ℕ)). Contains names a.name) same (mapped_there (λ (r : Ref). r.name) A a in_A)) in
+    subst (HasName B) (named ∙ is) (name_there B b in_B)
 
 first_also : (A B : List Ref) (x n : List ℕ) → HaveSameNames A B → IsFirstCandidate A x n → IsFirstCandidate B x n
-first_also A B x n same first =
-    let absent = all_weaker (λ m. ¬ (HasName A m)) (λ m. ¬ (HasName B m)) (λ m none there. none (has_also B A m (sym same) there)) first.earlier first.absent in
-    search (rules, absent, has_also A B n same first.present)
+first_also A B x n same first = search (rules, all_weaker, has_also)
 
 matches_also : (kind : SideKind) (a b : Ref) (word : Option (List ℕ)) → a.name ≡ b.name → ((id : List ℕ) → ¬ (kind ≡ object id)) → MatchesAs kind a word → MatchesAs kind b word
-matches_also (pattern before after) a b None same none fits = absurd fits
-matches_also (pattern before after) a b (Some word) same none fits = subst (λ (n : List ℕ). Fits before after n word) same fits
-matches_also (full_name n) a b word same none fits = (fits.0, sym same ∙ fits.1)
-matches_also (object id) a b word same none fits = absurd (none id refl)
-matches_also (partial n) a b word same none fits = (fits.0, subst (IsCandidate n) same fits.1)
+matches_also kind a b word same none fits = search rules
 
 pub matches_by_name : (ends : Ends) (a b : Ref) (word : Option (List ℕ)) → a.name ≡ b.name → ((id : List ℕ) → ¬ (HasKind ends.near (object id))) → Matches ends.near a word → Matches ends.near b word
 matches_by_name ends a b word named none matches = search (rules, matches_also matches.kind a b word named (λ id is. none id (rw is at matches.of)) matches.is)
 
 takes_also : (A B : List Ref) (ends : Ends) (a b : Ref) (word : Option (List ℕ)) → HaveSameNames A B → a.name ≡ b.name → ((id : List ℕ) → ¬ (HasKind ends.near (object id))) → Takes A ends.near a word → Takes B ends.near b word
-takes_also A B ends a b word same named none takes =
-    let first = λ (n : List ℕ) (kind : HasKind ends.near (partial n)). rw named at (first_also A B n a.name same (takes.first n kind)) in
-    search (rules, first, matches_by_name ends a b word named none takes.matches)
+takes_also A B ends a b word same named none takes = search (rules, first_also, matches_by_name)
 
 hit_also : (T U : List ℕ → Ref → Option (List ℕ) → Type 0) (ends : Ends) (k j : ℕ) (a b : Ref) (hit : Hit) → ((word : Option (List ℕ)) → T ends.near a word → U ends.near b word) → a.name ≡ b.name → IsHit T ends k j a hit → IsHit U ends k j b hit
 hit_also T U ends k j a b hit also named is = search (rules, also is.word is.takes)
-
-named_zip : (A B : List Ref) → HaveSameNames A B → AllZip (λ a b. a.name ≡ b.name) A B
-named_zip [] [] same = tt
-named_zip (a ∷ A) (b ∷ B) same = let first = first_name a b A B same in (first.0, named_zip A B first.1)
-named_zip A B same = absurd (omega (arith, ap length same))
 
 -- a spec whose side takes refs by their names takes the same refs
 spec_zip : (HasEnds : Reading → Ends → Type 0) (T U : List ℕ → Ref → Option (List ℕ) → Type 0) (A B : List Ref) (k : ℕ) (r : Reading) (hits : List Hit) → HaveSameNames A B
@@ -50,7 +32,10 @@ spec_zip HasEnds T U A B k r hits same also (inl (ends, has, made)) = inl (
   ends,
   has,
   made_zip (λ a b. a.name ≡ b.name) (IsHit T ends k) (IsHit U ends k)
-      (λ j a b hit named. (hit_also T U ends k j a b hit (λ word. (also ends a b word has named).0) named, hit_also U T ends k j b a hit (λ word. (also ends a b word has named).1) (sym named))) 0 A B hits (named_zip A B same) made,
+      (λ j a b hit named. (
+        hit_also T U ends k j a b hit (λ word. (also ends a b word has named).0) named,
+        hit_also U T ends k j b a hit (λ word. (also ends a b word has named).1) (sym named),
+      )) 0 A B hits (zip_keys (λ (r : Ref). r.name) (λ (r : Ref). r.name) A B same) made,
 )
 spec_zip HasEnds T U A B k r hits same also (inr none) = inr none
 

@@ -1,12 +1,9 @@
 -- Over the items that a server lists for the ref prefixes of a group of fetches, the same pairs are kept.
-use Rattle.gix_refspec.proofs.Common.{Any as AnyAt, joined_next, map_split, map_long, nothing_joined, ◌≡◌, inl, inr, ℕ, suc, ◌+◌, ◌<◌, List, [], ◌∷◌, ◌++◌, Option, None, Some, MatchOption, Vec}
-use Rattle.gix_refspec.proofs.Common.{Global, length, map, take, drop, get_or, refl, sym, ap, ◌∙◌, subst, arith, BString, bstring_bytes, append-nil, get_or-map, length-map, map-append, map_more}
-use Rattle.gix_refspec.proofs.Common.{recursion_from_All, Fetch, RefSpecRef, reading_of, BeginsWith, IsSplit, IsPositive, Reading, SideKind, pattern, full_name, object, partial, HasKind, Ref, Matches}
-use Rattle.gix_refspec.proofs.Common.{MatchesAs, Takes, IsRefPrefix, IsAsked, Source, name, AreForwardEnds, MakesForward, PairsItem, HasNoList, Lists, ListsAs, ListsGroup, ListsSide, Serves}
-use Rattle.gix_refspec.proofs.Common.{AreFetches, AskedItems, TakesItem, by_cases, one_kind, HasPair-from_place, AnyOf as Any, Any-all, Any-right, any_joined, some_at, some_of, one_asked}
-use Rattle.gix_refspec.proofs.lemmas.keep.PairMadeLemmas.{kept_exactly}
-use Rattle.gix_refspec.proofs.lemmas.prefixes.CoverLemmas.{source_asked}
-use Rattle.gix_refspec.proofs.lemmas.keep.FilterLemmas.{fewer_items}
+use Rattle.gix_refspec.proofs.Common.{Any as AnyAt, joined_next, map_split, map_long, nothing_joined, ◌≡◌, inl, inr, ℕ, suc, ◌+◌, ◌<◌, List, [], ◌∷◌, ◌++◌, Option, None, Some, MatchOption, Vec, Global, length, map}
+use Rattle.gix_refspec.proofs.Common.{take, drop, get_or, sym, ap, ◌∙◌, subst, arith, BString, bstring_bytes, append-nil, get_or-map, length-map, map-append, map_more, RefSpecRef, reading_of, BeginsWith, IsSplit}
+use Rattle.gix_refspec.proofs.Common.{IsPositive, Reading, SideKind, pattern, full_name, object, partial, HasKind, Ref, Matches, MatchesAs, Takes, IsRefPrefix, IsAsked, Source, name, AreForwardEnds, HasNoList, Lists}
+use Rattle.gix_refspec.proofs.Common.{ListsAs, ListsGroup, ListsSide, Serves, AreFetches, AskedItems, TakesItem, one_kind, AnyOf as Any, Any-all, Any-right, any_joined, some_at, some_of, one_asked, MakesForwardOf}
+use Rattle.gix_refspec.proofs.{Common.{TakesAt, all_weaker}, lemmas.{MadeLemmas.{any_at, ForwardAt, made_at_indexes}, keep.FilterLemmas.{fewer_items}, prefixes.CoverLemmas.{source_asked}}}
 
 pub list_as : (x : List ℕ) (k : SideKind) (list : List (List ℕ)) → HasKind x k → ListsSide x list → ListsAs k list
 list_as x k list kind lists = subst (λ (l : SideKind). ListsAs l list) (one_kind x lists.kind k lists.of kind) lists.is
@@ -28,38 +25,28 @@ kind_serves x (partial n) list r word of no_object matches lists = subst (Begins
 pub side_serves : (x : List ℕ) (list : List (List ℕ)) (r : Ref) (word : Option (List ℕ)) → ((bytes : List ℕ) → ¬ (HasKind x (object bytes))) → Matches x r word → ListsSide x list → BeginsWithSome r.name list
 side_serves x list r word no_object matches lists = kind_serves x matches.kind list r word matches.of no_object matches.is (list_as x matches.kind list matches.of lists)
 
-reading_asks : (r : Reading) (A : List Ref) (item : Ref) (list : List (List ℕ)) → r.operation ≡ Fetch → TakesItem AreForwardEnds (Takes A) item r → Lists r list → BeginsWithSome item.name list
-reading_asks r A item list fetch takes (inl (negative, empty)) = absurd (subst IsPositive negative takes.has.positive)
-reading_asks r A item list fetch takes (inr (x, asked, told)) =
-    let near = source_asked r takes.ends fetch takes.has in
-    side_serves takes.ends.near list item takes.word takes.has.no_object takes.takes.matches (subst (λ (y : List ℕ). ListsSide y list) (one_asked r x takes.ends.near asked near) told)
+lists_side : (r : Reading) (x : List ℕ) (list : List (List ℕ)) → IsAsked r x → Lists r list → ListsSide x list
+lists_side r x list asked lists = grind (arith, one_asked)
 
-reading_serves : (r : Reading) (items : List Ref) (n : List ℕ) (far : Option (List ℕ)) (list : List (List ℕ)) → r.operation ≡ Fetch → PairsItem AreForwardEnds (Takes items) items n far r → Lists r list → BeginsWithSome n list
-reading_serves r items n far list fetch pairs lists =
-    let (index, item, below, at, one) = pairs.one in
-    subst (λ (m : List ℕ). BeginsWithSome m list) one.name (reading_asks r items item list fetch (record { ends = pairs.ends; has = pairs.has; word = one.word; takes = one.takes }) lists)
-
--- a name that begins with an entry of the list of each fetch of which P holds begins with one of the list of the group
-group_begins : (P : Reading → Type 0) (n : List ℕ) → ((r : Reading) (list : List (List ℕ)) → r.operation ≡ Fetch → P r → Lists r list → BeginsWithSome n list)
-    → (g : List Reading) (list : List (List ℕ)) → AreFetches g → AnyAt P g → ListsGroup g list → AnyAt (λ p. BeginsWith p n) list
-group_begins P n begins g list fetches any joined =
-    some_at (λ p. BeginsWith p n) list (any_joined (λ k r names. Lists r names) (λ p. BeginsWith p n) 0 g list joined (Any-all _ P _ (λ r fetch holds k names told. begins r names fetch holds told) g fetches (some_of P g any)))
+-- an item that a fetch of the group takes begins with an entry of the list of the group
+taken_begins : (g : List Reading) (list : List (List ℕ)) (A : List Ref) (item : Ref) → ListsGroup g list → AreFetches g → AnyAt (TakesItem AreForwardEnds (Takes A) item) g → AnyAt (λ p. BeginsWith p item.name) list
+taken_begins g list A item joined fetches any =
+    some_at (λ p. BeginsWith p item.name) list (any_joined (λ k r names. Lists r names) (λ p. BeginsWith p item.name) 0 g list joined (Any-all _ (TakesItem AreForwardEnds (Takes A) item) _ (λ r fetch takes k names told.
+    side_serves takes.ends.near names item takes.word takes.has.no_object takes.takes.matches (lists_side r takes.ends.near names (source_asked r takes.ends fetch takes.has) told)) g fetches (some_of _ g any)))
 
 pub serves : (g : List Reading) (list : List (List ℕ)) → ListsGroup g list → Serves list g
 serves g list joined fetches items kept are =
-    recursion_from_All (λ m. (n : List ℕ) → m.source ≡ name n → AnyAt (λ p. BeginsWith p n) list) kept (λ k d below n is.
-    let m = get_or kept k d in
-    let made = (((kept_exactly g items).forward kept are m).0 (HasPair-from_place kept k d m below (record { source = refl; destination = refl }))).0 in
-    let pairs : AnyAt (MakesForward items (name n) m.destination) g = subst (λ (s : Source). AnyAt (MakesForward items s m.destination) g) is made in
-    group_begins (MakesForward items (name n) m.destination) n (λ r names fetch makes told. reading_serves r items n m.destination names fetch makes told) g list fetches pairs joined)
+    all_weaker (ForwardAt g items) (λ m. (n : List ℕ) → m.source ≡ name n → AnyAt (λ p. BeginsWith p n) list) (λ m (r, here, at) n is.
+    let made : TakesAt AreForwardEnds (Takes items) items m.item n m.destination r = subst (λ (s : Source). MakesForwardOf items m.item s m.destination r) is at in
+    subst (λ (x : List ℕ). AnyAt (λ p. BeginsWith p x) list) made.paired.name
+    (taken_begins g list items made.ref joined fetches (any_at _ g m.spec r here (record { ends = made.ends; has = made.has; word = made.paired.word; takes = made.paired.takes }))))
+    kept ((made_at_indexes g items).forward kept are)
 
 pub asked_items : (g : List Reading) (A B : List Ref) → AskedItems g A B
-asked_items g A B list told fetches are kept fewer of_all of_part =
-    (fewer_items g A B).forward are.part (λ item there any. are.asked item there (group_begins (TakesItem AreForwardEnds (Takes A) item) item.name (λ r names fetch takes told. reading_asks r A item names fetch takes told) g list fetches any told)) kept fewer of_all of_part
+asked_items g A B list told fetches are = (fewer_items g A B).forward are.part (λ item there any. are.asked item there (taken_begins g list A item told fetches any))
 
 pub list_of_side : (r : Reading) (x : List ℕ) (asked : Option (Vec BString Global)) → IsAsked r x → MatchOption asked ((list : List (List ℕ)) → ¬ (ListsSide x list)) (λ v. ListsSide x (map bstring_bytes v.items)) → MatchOption asked ((list : List (List ℕ)) → ¬ (Lists r list)) (λ v. Lists r (map bstring_bytes v.items))
-list_of_side r x None is none = λ list lists. by_cases lists (λ negative. subst IsPositive negative.0 is.positive)
-    (λ other. none list (subst (λ (z : List ℕ). ListsSide z list) (one_asked r other.0 x other.1 is) other.2))
+list_of_side r x None is none = λ list lists. none list (lists_side r x list is lists)
 list_of_side r x (Some v) is lists = inr (x, is, lists)
 
 as_once : (k : SideKind) (a b : List (List ℕ)) → ListsAs k a → ListsAs k b → a ≡ b
@@ -68,8 +55,7 @@ as_once k a b one other = grind arith
 lists_once : (r : Reading) (a b : List (List ℕ)) → Lists r a → Lists r b → a ≡ b
 lists_once r a b (inl (negative, empty)) (inl (also, other)) = empty ∙ sym other
 lists_once r a b (inl (negative, empty)) (inr (x, asked, lists)) = absurd (subst IsPositive negative asked.positive)
-lists_once r a b (inr (x, asked, lists)) (inl (negative, empty)) = absurd (subst IsPositive negative asked.positive)
-lists_once r a b (inr (x, asked, one)) (inr (y, also, other)) = as_once one.kind a b one.is (list_as x one.kind b one.of (subst (λ (z : List ℕ). ListsSide z b) (one_asked r y x also asked) other))
+lists_once r a b (inr (x, asked, one)) other = as_once one.kind a b one.is (list_as x one.kind b one.of (lists_side r x b asked other))
 
 pub nothing_at : (specs : List RefSpecRef) (i : ℕ) (spec : RefSpecRef) → i < length specs → spec ≡ get_or specs i spec → ListsGroup (map reading_of specs) [] → Lists (reading_of spec) []
 nothing_at specs i spec below is asks =

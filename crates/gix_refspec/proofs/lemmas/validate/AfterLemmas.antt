@@ -1,14 +1,11 @@
 -- What holds of mappings before and after a validation, which leaves no duplicate mappings and no duplicate fixes.
-use Rattle.gix_refspec.proofs.Common.{all_weaker, ◌≡◌, ℕ, suc, ◌+◌, ◌<◌, List, [], ◌∷◌, None, Some, length, get_or, refl, sym, ◌∙◌, subst, arith, AllByRecursion, Contains, All-contains_itself}
-use Rattle.gix_refspec.proofs.Common.{All-from_recursion, Contains-get_or, recursion_from_All, Reading, IsMadeFrom, Ref, Mapped, IsSamePair, AreApart, AreKeptForward, AreConflicts, ForwardFits}
-use Rattle.gix_refspec.proofs.Common.{DestinationsHaveOneSource, IsValidated, ShareDestination, HaveDistinctDestinations, Removed, Survives, ValidatedOnce, ForwardIndexes, Option, ap, name}
-use Rattle.gix_refspec.proofs.Common.{HaveOneSource, HaveSourcesByIndex, PlansApart, ◌≢◌, slice_get, same_Some, IsIdText, Source, IsFix, MakesForwardOf, AreFixesApart, id, by_cases, ◌↔◌, ◌++◌}
-use Rattle.gix_refspec.proofs.Common.{option_map, Bool, true, false, map, take, items_where_true, false≢true, append-nil, slice_get-map, slice_get_read, Mapping, NameRef, Fix, Issue, RefSpecRef}
-use Rattle.gix_refspec.proofs.Common.{reading_of, mapped_of, name_bytes, conflict_of, removed_of, AreFixes, AreSurvivors, IsWritable, length-append, made_more, map-append, one_more_mapped, kept_once}
-use Rattle.gix_refspec.proofs.Common.{IsIdText-unique}
+use Rattle.gix_refspec.proofs.Common.{all_weaker, ◌≡◌, ℕ, suc, ◌+◌, ◌<◌, List, [], ◌∷◌, None, Some, length, get_or, refl, sym, ◌∙◌, subst, arith, AllByRecursion, Contains, All-contains_itself, All-from_recursion}
+use Rattle.gix_refspec.proofs.Common.{Contains-get_or, recursion_from_All, Reading, IsMadeFrom, Ref, Mapped, IsSamePair, AreApart, AreConflicts, ForwardFits, DestinationsHaveOneSource, IsValidated, ShareDestination}
+use Rattle.gix_refspec.proofs.Common.{HaveDistinctDestinations, Removed, Survives, ValidatedOnce, ForwardIndexes, Option, ap, name, HaveOneSource, HaveSourcesByIndex, PlansApart, ◌≢◌, same_Some, IsIdText, Source}
+use Rattle.gix_refspec.proofs.Common.{IsFix, MakesForwardOf, AreFixesApart, id, ◌↔◌, ◌++◌, Bool, true, false, map, take, items_where_true, false≢true, append-nil, slice_get-map, slice_get_read, Mapping, NameRef, Fix}
+use Rattle.gix_refspec.proofs.Common.{Issue, RefSpecRef, reading_of, mapped_of, name_bytes, conflict_of, removed_of, AreFixes, AreSurvivors, IsWritable, length-append, made_more, map-append, one_more_mapped}
+use Rattle.gix_refspec.proofs.{Common.{kept_once, IsIdText-unique, All-contains, by_cases, rules}, lemmas.MadeLemmas.{stays_each, made_all, item_indexes_fit, ForwardAt, made_at_indexes}}
 use Rattle.gix_refspec.proofs.lemmas.validate.FirstLemmas.{start_cases}
-use Rattle.gix_refspec.proofs.lemmas.MadeLemmas.{stays_each, made_all}
-use Rattle.gix_refspec.proofs.lemmas.validate.MadeAtLemmas.{item_indexes_fit, ForwardAt, made_at_indexes}
 use Rattle.std.specs.List.Retain.{ReturnsInTurn, IsFiltered}
 
 pub forward_fits : (g : List Reading) (items : List Ref) → ForwardFits g items
@@ -22,37 +19,30 @@ apart_still S k (x ∷ xs) ys apart (Some y, rest, one, more, is) = subst AreApa
   apart_still S (k + 1) xs rest apart.1 more,
 )
 
-distinct_destinations : (l : List Mapped) → DestinationsHaveOneSource l → AreApart l → HaveDistinctDestinations l
+pub distinct_destinations : (l : List Mapped) → DestinationsHaveOneSource l → AreApart l → HaveDistinctDestinations l
 distinct_destinations [] one apart = tt
-distinct_destinations (m ∷ l) one apart = (
-  recursion_from_All (λ n. ¬ (ShareDestination m n)) l (λ k d below meet.
-      let n = get_or l k d in
-      let there : Contains (m ∷ l) n = within n (Contains-get_or l k d below) in
-      All-from_recursion (λ z. ¬ (IsSamePair m z)) l apart.0 k d below (record { source = one m n meet.0 (0, omega arith, refl) there meet.1 meet.2; destination = meet.1 ∙ sym meet.2 })),
-  distinct_destinations l (λ a b d has_a has_b. one a b d (within a has_a) (within b has_b)) apart.1,
-)
-  where
-    within : (n : Mapped) → Contains l n → Contains (m ∷ l) n
-    within n (k, below, is) = (suc k, omega (arith, below), is)
+distinct_destinations (m ∷ l) one apart =
+    let within : (n : Mapped) → Contains l n → Contains (m ∷ l) n = λ n (k, below, is). (suc k, omega (arith, below), is) in (
+      recursion_from_All (λ n. ¬ (ShareDestination m n)) l (λ k d below meet.
+          let n = get_or l k d in
+          All-from_recursion _ l apart.0 k d below (record { source = one m n meet.0 (0, omega arith, refl) (within n (Contains-get_or l k d below)) meet.1 meet.2; destination = meet.1 ∙ sym meet.2 })),
+      distinct_destinations l (λ a b d has_a has_b. one a b d (within a has_a) (within b has_b)) apart.1,
+    )
 
 pub free_one_source : (g : List Reading) (l : List Mapped) → AreConflicts g l [] → DestinationsHaveOneSource l
 free_one_source g l free m n d has_m has_n m_to n_to = by_cases (start_cases m.source n.source) (λ same. same) (λ apart.
     let none = free.every d (record { one = m; other = n; has_one = has_m; has_other = has_n; one_to = m_to; other_to = n_to; differ = apart }) in let inside = none.1 in absurd (omega (arith, inside)))
 
-pub kept_distinct_destinations : (g : List Reading) (items : List Ref) (l : List Mapped) → AreKeptForward g items l → AreConflicts g l [] → HaveDistinctDestinations l
-kept_distinct_destinations g items l kept free = distinct_destinations l (free_one_source g l free) (kept_once g kept.all l kept.is)
-
-one_source : (g : List Reading) (l rest : List Mapped) (fixes : List Removed) → IsValidated g l rest fixes → DestinationsHaveOneSource rest
-one_source g l rest fixes valid m n d has_m has_n m_to n_to = free_one_source g l valid.free m n d (was m has_m) (was n has_n) m_to n_to
-  where
-    was : (m : Mapped) → Contains rest m → Contains l m
-    was m (k, below, is) = subst (Contains l) is (All-from_recursion (Contains l) rest (stays_each (λ j x. Survives x) (Contains l) 0 l rest (recursion_from_All (Contains l) l (All-contains_itself l)) valid.survive) k m below)
+pub one_source_still : (S : ℕ → Mapped → Type 0) (l rest : List Mapped) → DestinationsHaveOneSource l → IsMadeFrom (λ j x y. (y ≡ x) × S j x) 0 l rest → DestinationsHaveOneSource rest
+one_source_still S l rest one made m n d has_m has_n =
+    let was = stays_each S (Contains l) 0 l rest (recursion_from_All (Contains l) l (All-contains_itself l)) made in
+    one m n d (All-contains (Contains l) rest m (All-from_recursion (Contains l) rest was) has_m) (All-contains (Contains l) rest n (All-from_recursion (Contains l) rest was) has_n)
 
 pub distinct_destinations_after : (g : List Reading) (l rest : List Mapped) (fixes : List Removed) → IsValidated g l rest fixes → AreApart l → HaveDistinctDestinations rest
-distinct_destinations_after g l rest fixes valid apart = distinct_destinations rest (one_source g l rest fixes valid) (apart_still (λ k m. Survives m) 0 l rest apart valid.survive)
+distinct_destinations_after g l rest fixes valid apart = distinct_destinations rest (one_source_still _ l rest (free_one_source g l valid.free) valid.survive) (apart_still _ 0 l rest apart valid.survive)
 
 pub validated_once : (g : List Reading) (items : List Ref) → ValidatedOnce g items
-validated_once g items l rest fixes valid = (one_source g l rest fixes valid, λ kept. distinct_destinations_after g l rest fixes valid (kept_once g kept.all l kept.is))
+validated_once g items l rest fixes valid = (one_source_still _ l rest (free_one_source g l valid.free) valid.survive, λ kept. distinct_destinations_after g l rest fixes valid (kept_once g kept.all l kept.is))
 
 fixes_apart : (g : List Reading) (k : ℕ) (l : List Mapped) (fixes : List Removed) → HaveDistinctDestinations l → IsMadeFrom (λ j m fix. IsFix g m fix) k l fixes → AreFixesApart fixes
 fixes_apart g k [] fixes apart empty = subst AreFixesApart (sym empty) tt
@@ -64,10 +54,7 @@ fixes_apart g k (m ∷ l) fixes apart (Some f, rest, fix, more, is) = subst AreF
 
 -- what one spec makes of one item, or without an item, has one source
 one_start : (items : List Ref) (item : Option ℕ) (r : Reading) (s t : Source) (d e : Option (List ℕ)) → MakesForwardOf items item s d r → MakesForwardOf items item t e r → s ≡ t
-one_start items item r (name n) (name m) d e at also =
-    let index : at.index ≡ also.index = same_Some at.index also.index (sym at.is ∙ also.is) in
-    let one : at.ref ≡ also.ref = same_Some at.ref also.ref (sym at.stands ∙ ap (slice_get items) index ∙ also.stands) in
-    ap name (sym at.paired.name ∙ ap (λ (x : Ref). x.name) one ∙ also.paired.name)
+one_start items item r (name n) (name m) d e at also = search (rules, same_Some)
 one_start items item r (name n) (id j) d e at (none, made) = let gone : Some at.index ≡ None = sym at.is ∙ none in absurd (cc)
 one_start items item r (id i) (name m) d e (none, made) also = let gone : Some also.index ≡ None = sym also.is ∙ none in absurd (cc)
 one_start items item r (id i) (id j) d e (none, made) (no_item, also) =
@@ -75,25 +62,20 @@ one_start items item r (id i) (id j) d e (none, made) (no_item, also) =
     ap id (IsIdText-unique also.text i j (subst (λ (t : List ℕ). IsIdText t i) text made.object.2) also.object.2)
 
 one_source_by_index : (g : List Reading) (items : List Ref) (m n : Mapped) → ForwardAt g items m → ForwardAt g items n → HaveOneSource m n
-one_source_by_index g items m n (r, here, made) (q, there, also) spec item =
-    let same : r ≡ q = same_Some r q (sym here ∙ ap (slice_get g) spec ∙ there) in
-    one_start items n.item q m.source n.source m.destination n.destination (subst (λ (x : Reading). MakesForwardOf items n.item m.source m.destination x) same (subst (λ (i : Option ℕ). MakesForwardOf items i m.source m.destination r) item made)) also
+one_source_by_index g items m n one other = grind (arith, one_start, same_Some)
 
 sources_by_index : (g : List Reading) (items : List Ref) (l : List Mapped) → AllByRecursion (ForwardAt g items) l → HaveSourcesByIndex l
 sources_by_index g items [] made = tt
 sources_by_index g items (m ∷ l) made = (all_weaker (ForwardAt g items) (HaveOneSource m) (λ n also. one_source_by_index g items m n made.0 also) l made.1, sources_by_index g items l made.1)
 
 pub plans_apart : PlansApart
-plans_apart g items l rest fixes kept valid =
-    let law = item_indexes_fit g items in
-    let indexes = law.validated l rest fixes valid (law.forward l kept) in
-    record {
-      indexes = indexes;
-      starts = sources_by_index g items rest (stays_each (λ j m. Survives m) (ForwardAt g items) 0 l rest ((made_at_indexes g items).forward l kept) valid.survive);
-      pairs = apart_still (λ j m. Survives m) 0 l rest (kept_once g kept.all l kept.is) valid.survive;
-      destinations = (validated_once g items l rest fixes valid).1 kept;
-      fixed = fixes_apart g 0 l fixes (kept_distinct_destinations g items l kept valid.free) valid.fixed;
-    }
+plans_apart g items l rest fixes kept valid = record {
+  indexes = (item_indexes_fit g items).validated l rest fixes valid ((item_indexes_fit g items).forward l kept);
+  starts = sources_by_index g items rest (stays_each (λ j m. Survives m) (ForwardAt g items) 0 l rest ((made_at_indexes g items).forward l kept) valid.survive);
+  pairs = apart_still (λ j m. Survives m) 0 l rest (kept_once g kept.all l kept.is) valid.survive;
+  destinations = (validated_once g items l rest fixes valid).1 kept;
+  fixed = fixes_apart g 0 l fixes (distinct_destinations l (free_one_source g l valid.free) (kept_once g kept.all l kept.is)) valid.fixed;
+}
 
 -- one more mapping of which P holds, and of which nothing is made
 pub nothing_more : {Y E : Type 0} (R : ℕ → Mapped → Y → Type 0) (P : Mapped → Type 0) (ms : List Mapping) (i : ℕ) (m : Mapping) (ys : List Y) → i < length ms → m ≡ get_or ms i m → ((y : Y) → ¬ (R i (mapped_of m) y)) → P (mapped_of m)
@@ -116,17 +98,10 @@ kept_whole P k [] all = refl
 kept_whole P k (m ∷ l) all = (Some m, l, (refl, all.0), kept_whole P (k + 1) l all.1, refl)
 
 pub no_fix_written : (g : List Reading) (m : Mapping) (n : NameRef) → m.rhs ≡ Some n → IsWritable (name_bytes n) → (fix : Removed) → ¬ (IsFix g (mapped_of m) fix)
-no_fix_written g m n to writable fix is =
-    let both : Some (name_bytes n) ≡ Some fix.destination = sym (ap (option_map name_bytes) to) ∙ is.goes in
-    let same : name_bytes n ≡ fix.destination = cc in
-    is.unwritable (subst IsWritable same writable)
+no_fix_written g m n to writable fix is = grind arith
 
 pub fix_of : (specs : List RefSpecRef) (m : Mapping) (n : NameRef) (spec : RefSpecRef) (fix : Removed) → m.rhs ≡ Some n → ¬ (IsWritable (name_bytes n)) → m.spec_index < length specs → spec ≡ get_or specs m.spec_index spec → fix.destination ≡ name_bytes n → fix.spec ≡ reading_of spec → IsFix (map reading_of specs) (mapped_of m) fix
-fix_of specs m n spec fix to unwritable below is destination reads = record {
-  goes = ap (option_map name_bytes) to ∙ ap Some (sym destination);
-  unwritable = λ writable. unwritable (subst IsWritable destination writable);
-  spec = slice_get-map reading_of specs m.spec_index ∙ ap (option_map reading_of) (slice_get_read specs (length specs) m.spec_index spec refl below is) ∙ ap Some (sym reads);
-}
+fix_of specs m n spec fix to unwritable below is destination reads = grind (arith, slice_get-map, slice_get_read)
 
 -- a filter by a test that decides P keeps the mappings of which P holds
 module _ {F : Type 0} (P : Mapped → Type 0) (R : F → Mapping → Bool → F → Type 0) (tells : (p : F) (m : Mapping) (b : Bool) (q : F) → R p m b q → (b ≡ true) ↔ P (mapped_of m)) where

@@ -1,23 +1,18 @@
 -- A validation has one result, and a copy of an outcome has the same.
-use Rattle.gix_refspec.proofs.Common.{not_below_itself, ◌≡◌, inl, inr, ℕ, List, [], ◌∷◌, Some, map, refl, sym, ap, ◌∙◌, subst, AllByRecursion, IsStrictlySortedBy, Less, nat_cmp, slice_cmp, Mapping}
-use Rattle.gix_refspec.proofs.Common.{Outcome, Reading, reading_of, IsMadeFrom, printed, Mapped, mapped_of, AreMappingCopies, readings_of, IsFirstTo, IsTextAt, Conflict, IsConflict, AreConflicts}
-use Rattle.gix_refspec.proofs.Common.{Survives, Removed, IsFix, ValidateAlike, OneValidation, CopiedOutcome, same_Some, AnyOf as Any, Any-all, Any-fact, Any-from_map, rules}
-use Rattle.gix_refspec.proofs.lemmas.MadeLemmas.{there}
+use Rattle.gix_refspec.proofs.Common.{not_below_itself, ◌≡◌, inl, inr, ℕ, List, [], ◌∷◌, map, refl, sym, ap, ◌∙◌, subst, AllByRecursion, IsStrictlySortedBy, Less, nat_cmp, slice_cmp, Mapping, Outcome, Reading}
+use Rattle.gix_refspec.proofs.Common.{IsMadeFrom, Mapped, mapped_of, AreMappingCopies, readings_of, IsFirstTo, IsTextAt, Conflict, IsConflict, AreConflicts, Survives, IsFix, ValidateAlike, OneValidation}
+use Rattle.gix_refspec.proofs.{Common.{CopiedOutcome, same_Some, AnyOf as Any, Any-all, Any-fact, Any-from_map, rules}, lemmas.{MadeLemmas.{there}, validate.RefNameLemmas.{copied_mapping}}}
 use Rattle.gix_refspec.proofs.lemmas.validate.UpdateLemmas.{below_trans}
 use Rattle.gix_refspec_match.proofs.lemmas.lists.ListsLemmas.{made_once}
-use Rattle.gix_refspec.proofs.lemmas.validate.RefNameLemmas.{copied_mapping}
 
 above : (x d : List ℕ) (xs : List (List ℕ)) → AllByRecursion (λ y. slice_cmp nat_cmp x y ≡ Less) xs → Any (λ y. y ≡ d) xs → slice_cmp nat_cmp x d ≡ Less
 above x d xs all any = Any-fact _ xs (Any-all _ _ _ (λ y less here. subst (λ (z : List ℕ). slice_cmp nat_cmp x z ≡ Less) here less) xs all any)
 
 same_first : (x y : List ℕ) (xs ys : List (List ℕ)) → AllByRecursion (λ z. slice_cmp nat_cmp x z ≡ Less) xs → AllByRecursion (λ z. slice_cmp nat_cmp y z ≡ Less) ys → Any (λ z. z ≡ x) (y ∷ ys) → Any (λ z. z ≡ y) (x ∷ xs) → x ≡ y
-same_first x y xs ys over_x over_y (inl here) back = sym here
-same_first x y xs ys over_x over_y (inr later) (inl here) = here
-same_first x y xs ys over_x over_y (inr later) (inr also) = absurd (not_below_itself x (below_trans x y x (above x y xs over_x also) (above y x ys over_y later)))
+same_first x y xs ys over_x over_y to back = search (rules, above, below_trans, not_below_itself)
 
 behind : (x y d : List ℕ) (xs ys : List (List ℕ)) → x ≡ y → AllByRecursion (λ z. slice_cmp nat_cmp x z ≡ Less) xs → Any (λ z. z ≡ d) xs → Any (λ z. z ≡ d) (y ∷ ys) → Any (λ z. z ≡ d) ys
-behind x y d xs ys same over any (inl here) = absurd (not_below_itself x (subst (λ (z : List ℕ). slice_cmp nat_cmp x z ≡ Less) (sym (same ∙ here)) (above x d xs over any)))
-behind x y d xs ys same over any (inr later) = later
+behind x y d xs ys same over any there = search (rules, above, not_below_itself)
 
 one_order : (xs ys : List (List ℕ)) → IsStrictlySortedBy (slice_cmp nat_cmp) xs → IsStrictlySortedBy (slice_cmp nat_cmp) ys → ((d : List ℕ) → Any (λ x. x ≡ d) xs → Any (λ x. x ≡ d) ys) → ((d : List ℕ) → Any (λ x. x ≡ d) ys → Any (λ x. x ≡ d) xs) → xs ≡ ys
 unfolding IsStrictlySortedBy
@@ -26,18 +21,12 @@ one_order [] (y ∷ ys) rise also to back = absurd (back y (inl refl))
 one_order (x ∷ xs) [] rise also to back = absurd (to x (inl refl))
 one_order (x ∷ xs) (y ∷ ys) rise also to back =
     let first : x ≡ y = same_first x y xs ys rise.0 also.0 (to x (inl refl)) (back y (inl refl)) in
-    let rest : xs ≡ ys = one_order xs ys rise.1 also.1 (λ d any. behind x y d xs ys first rise.0 any (to d (inr any))) (λ d any. behind y x d ys xs (sym first) also.0 any (back d (inr any))) in
-    ap (λ (z : List ℕ). z ∷ xs) first ∙ ap (λ (zs : List (List ℕ)). y ∷ zs) rest
+    let rest = one_order xs ys rise.1 also.1 (λ d any. behind x y d xs ys first rise.0 any (to d (inr any))) (λ d any. behind y x d ys xs (sym first) also.0 any (back d (inr any))) in cc
 
 contested : (g : List Reading) (l : List Mapped) (cs other : List Conflict) (d : List ℕ) → AllByRecursion (IsConflict g l) cs → AreConflicts g l other → Any (λ x. x ≡ d) (map (λ (c : Conflict). c.destination) cs) → Any (λ x. x ≡ d) (map (λ (c : Conflict). c.destination) other)
 contested g l cs other d each are any =
     let destinations = map (λ (c : Conflict). c.destination) other in
     Any-fact _ cs (Any-all (IsConflict g l) _ _ (λ c is here. subst (λ (z : List ℕ). Any (λ x. x ≡ z) destinations) here (there destinations c.destination (are.every c.destination is.contested))) cs each (Any-from_map _ (λ (c : Conflict). c.destination) cs any))
-
-one_text : (g : List Reading) (index : ℕ) (text other : List ℕ) → IsTextAt g index text → IsTextAt g index other → text ≡ other
-one_text g index text other (r, stands, prints) (q, stood, also) =
-    let reading : q ≡ r = same_Some q r (sym stood ∙ stands) in
-    same_Some text other (sym prints ∙ subst (λ (z : Reading). printed z ≡ Some other) reading also)
 
 one_conflict : (g : List Reading) (l : List Mapped) (c e : Conflict) → c.destination ≡ e.destination → IsConflict g l c → IsConflict g l e → c ≡ e
 one_conflict g l c e same a b =
@@ -45,29 +34,20 @@ one_conflict g l c e same a b =
     let sources = subst (λ (d : List ℕ). IsMadeFrom (λ k m source. IsFirstTo d l k m × (source ≡ m.source)) 0 l e.sources) (sym same) b.sources in
     let texts = subst (λ (d : List ℕ). IsMadeFrom (λ k m text. IsFirstTo d l k m × IsTextAt g m.spec text) 0 l e.texts) (sym same) b.texts in
     let from = made_once (λ k m source. IsFirstTo to l k m × (source ≡ m.source)) (λ k m x y is_x is_y. is_x.1 ∙ sym is_y.1) 0 l c.sources e.sources a.sources sources in
-    let by = made_once (λ k m text. IsFirstTo to l k m × IsTextAt g m.spec text) (λ k m x y is_x is_y. one_text g m.spec x y is_x.1 is_y.1) 0 l c.texts e.texts a.texts texts in
+    let by = made_once (λ k m text. IsFirstTo to l k m × IsTextAt g m.spec text) (λ k m x y is_x is_y. search (rules, same_Some)) 0 l c.texts e.texts a.texts texts in
     λ i. record { destination = same i; sources = from i; texts = by i }
 
 one_list : (g : List Reading) (l : List Mapped) (cs other : List Conflict) → AllByRecursion (IsConflict g l) cs → AllByRecursion (IsConflict g l) other → map (λ (c : Conflict). c.destination) cs ≡ map (λ (c : Conflict). c.destination) other → cs ≡ other
 one_list g l [] [] a b same = refl
-one_list g l (c ∷ cs) (e ∷ other) a b same =
-    let first : c.destination ≡ e.destination = cc in
-    let rest : map (λ (x : Conflict). x.destination) cs ≡ map (λ (x : Conflict). x.destination) other = cc in
-    ap (λ (x : Conflict). x ∷ cs) (one_conflict g l c e first a.0 b.0) ∙ ap (λ (xs : List Conflict). e ∷ xs) (one_list g l cs other a.1 b.1 rest)
+one_list g l (c ∷ cs) (e ∷ other) a b same = let one = one_conflict g l c e (cc) a.0 b.0 in let more = one_list g l cs other a.1 b.1 (cc) in cc
 one_list g l cs other a b same = absurd (cc)
-
-one_fix : (g : List Reading) (m : Mapped) (a b : Removed) → IsFix g m a → IsFix g m b → a ≡ b
-one_fix g m a b is_a is_b =
-    let destination = same_Some a.destination b.destination (sym is_a.goes ∙ is_b.goes) in
-    let spec = same_Some a.spec b.spec (sym is_a.spec ∙ is_b.spec) in
-    λ i. record { destination = destination i; spec = spec i }
 
 pub one_validation : (g : List Reading) (l : List Mapped) → OneValidation g l
 one_validation g l = record {
   conflicts = λ cs other a b. one_list g l cs other a.each b.each
       (one_order (map (λ (c : Conflict). c.destination) cs) (map (λ (c : Conflict). c.destination) other) a.order b.order (λ d any. contested g l cs other d a.each b any) (λ d any. contested g l other cs d b.each a any));
   survivors = λ rest other a b. made_once (λ k m made. (made ≡ m) × Survives m) (λ k m x y is_x is_y. is_x.0 ∙ sym is_y.0) 0 l rest other a b;
-  fixes = λ fixes other a b. made_once (λ k m fix. IsFix g m fix) (λ k m x y is_x is_y. one_fix g m x y is_x is_y) 0 l fixes other a b;
+  fixes = λ fixes other a b. made_once (λ k m fix. IsFix g m fix) (λ k m x y is_x is_y. search (rules, same_Some)) 0 l fixes other a b;
 }
 
 copied_mappings : (ms copies : List Mapping) → AreMappingCopies ms copies → map mapped_of copies ≡ map mapped_of ms
@@ -79,7 +59,4 @@ validate_alike : (g h : List Reading) (l m : List Mapped) → h ≡ g → m ≡ 
 validate_alike g h l m readings mappings = subst (λ (z : List Reading). ValidateAlike g l z m) (sym readings) (subst (λ (z : List Mapped). ValidateAlike g l g z) (sym mappings) (one_validation g l))
 
 pub copied_outcome : {forward : ℕ} (o copy : Outcome forward) → CopiedOutcome o copy
-copied_outcome o copy is =
-    let readings : readings_of copy.group ≡ readings_of o.group = ap (map reading_of) is.specs in
-    let mappings : map mapped_of copy.mappings.items ≡ map mapped_of o.mappings.items = copied_mappings o.mappings.items copy.mappings.items is.mappings in
-    search (rules, readings, mappings, validate_alike _ _ _ _ readings mappings)
+copied_outcome o copy = search (rules, copied_mappings, readings_of, validate_alike)

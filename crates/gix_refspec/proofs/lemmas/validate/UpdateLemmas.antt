@@ -1,14 +1,13 @@
 -- Sorted updates, and where they are split.
-use Rattle.gix_refspec.proofs.Common.{Ordering, all_left, all_right, all_join, all_weaker, ◌≡◌, ◌≢◌, ◌⊎◌, inl, inr, ◌↔◌, ℕ, zero, suc, ◌+◌, ◌<◌, ◌≤◌, List, [], ◌∷◌, ◌++◌, None, Some, option_map, Bool}
-use Rattle.gix_refspec.proofs.Common.{true, false, not, length, map, take, drop, get_or, refl, sym, ap, ◌∙◌, subst, arith, AllByRecursion, Contains, slice_get, IsPermutation, IsSorted}
-use Rattle.gix_refspec.proofs.Common.{IsStrictlySortedBy, Less, Equal, is_lt, nat_cmp, ordering_then, ordering_reverse, slice_cmp, nat_list_cmp_total, false≢true, not-false, not-true}
-use Rattle.gix_refspec.proofs.Common.{bytes_eq-Decides, bytes_eq, get_or-map, length-map, map-append, take-append-drop, take_more, length-drop, All-from_recursion, slice_get-map, slice_get_read}
-use Rattle.gix_refspec.proofs.Common.{slice_get_within, Update, Mapping, NameRef, Mapped, mapped_of, name_bytes, IsFlagged, Rises, AreUpdates, GoesTo, HasUpdate, IsRun, update_cmp, updated_indexes}
-use Rattle.gix_refspec.proofs.Common.{same_texts, both_equal, rules, same_Some, by_cases, get_or-drop, add-zero, apart_places}
-use Rattle.std.specs.Cmp.{IsTotalOrder}
-use Rattle.std.proofs.lemmas.{Cmp.{nat_cmp_total, on_total, ranked, then_total}, List.Quantifiers.all_pairs_push}
-use Rattle.std.proofs.lemmas.{List.Sorted.{Contains-permutation, IsPermutation-map, IsPermutation-sym}, Map.Keys.sorted_from_all_adjacent}
+use Rattle.gix_refspec.proofs.Common.{Ordering, all_left, all_right, all_join, all_weaker, ◌≡◌, ◌≢◌, ◌⊎◌, inl, inr, ◌↔◌, ℕ, zero, suc, ◌+◌, ◌<◌, ◌≤◌, List, [], ◌∷◌, ◌++◌, None, Some, option_map, Bool, true, false}
+use Rattle.gix_refspec.proofs.Common.{not, length, map, take, drop, get_or, refl, sym, ap, ◌∙◌, subst, arith, AllByRecursion, Contains, slice_get, IsPermutation, IsSorted, IsStrictlySortedBy, Less, Equal, is_lt}
+use Rattle.gix_refspec.proofs.Common.{nat_cmp, ordering_then, ordering_reverse, slice_cmp, nat_list_cmp_total, false≢true, not-false, not-true, bytes_eq-Decides, bytes_eq, get_or-map, length-map, map-append}
+use Rattle.gix_refspec.proofs.Common.{take-append-drop, take_more, length-drop, All-from_recursion, slice_get-map, slice_get_read, slice_get_within, Update, Mapping, NameRef, Mapped, mapped_of, name_bytes, IsFlagged}
+use Rattle.gix_refspec.proofs.Common.{Rises, AreUpdates, GoesTo, HasUpdate, IsRun, update_cmp, updated_indexes, same_texts, both_equal, rules, same_Some, by_cases, get_or-drop, add-zero, apart_places}
 use Rattle.gix_refspec_text.proofs.lemmas.lists.NumberLemmas.{upto}
+use Rattle.std.proofs.lemmas.{Cmp.{nat_cmp_total, on_total, ranked, then_total}, List.{Quantifiers.{all_pairs_push}, Sorted.{Contains-permutation, IsPermutation-map, IsPermutation-sym}}}
+use Rattle.std.proofs.lemmas.Map.Keys.{sorted_from_all_adjacent}
+use Rattle.std.specs.Cmp.{IsTotalOrder}
 
 -- the updates of the mappings before index p that have a destination and aren't flagged, by index
 pub record AreUpdatesUpto (l : List Mapped) (flags : List Bool) (p : ℕ) (cs : List Update) : Type 0 where
@@ -53,7 +52,7 @@ strict_from_sorted xs (c ∷ cs) moved rises sorted =
     (λ tied. apart_places (updated_indexes xs) (updated_indexes ys) (IsPermutation-map (λ (u : Update). u.index) xs ys moved) rises i (i + 1) 0 (omega arith) (omega (arith, below, length-map ys (λ (u : Update). u.index)))
     (get_or-map (λ (u : Update). u.index) ys i c 0 (omega (arith, below)) ∙ sym (ranked y.index x.index Equal (sym (both_equal (slice_cmp nat_cmp y.destination.now x.destination.now) (nat_cmp y.index x.index) tied).1)) ∙ sym (get_or-map (λ (u : Update). u.index) ys (i + 1) c 0 below))))
 
-update_within : (cs : List Update) (k : ℕ) (d : List ℕ) → HasUpdate cs k d → (c : Update) × Contains cs c × (c.index ≡ k) × (c.destination.now ≡ d)
+pub update_within : (cs : List Update) (k : ℕ) (d : List ℕ) → HasUpdate cs k d → (c : Update) × Contains cs c × (c.index ≡ k) × (c.destination.now ≡ d)
 update_within [] k d has = absurd has
 update_within (c ∷ cs) k d (inl is) = (c, (0, omega arith, refl), is.0, is.1)
 update_within (c ∷ cs) k d (inr has) = let at = update_within cs k d has in (at.0, (suc at.1.0, omega (arith, at.1.1), at.1.2), at.2, at.3)
@@ -69,17 +68,9 @@ HasUpdate-permuted xs ys k d moved has =
     let at = Contains-permutation xs ys c.0 moved c.1 in
     update_at ys at.0 c.0 k d at.1 at.2 c.2 c.3
 
-pub HasUpdate-left : (xs ys : List Update) (k : ℕ) (d : List ℕ) → HasUpdate xs k d → HasUpdate (xs ++ ys) k d
-HasUpdate-left [] ys k d has = absurd has
-HasUpdate-left (x ∷ xs) ys k d has = search (rules, HasUpdate-left xs ys k d)
-
-pub HasUpdate-right : (xs ys : List Update) (k : ℕ) (d : List ℕ) → HasUpdate ys k d → HasUpdate (xs ++ ys) k d
-HasUpdate-right [] ys k d has = has
-HasUpdate-right (x ∷ xs) ys k d has = inr (HasUpdate-right xs ys k d has)
-
-pub HasUpdate-cases : (xs ys : List Update) (k : ℕ) (d : List ℕ) → HasUpdate (xs ++ ys) k d → HasUpdate xs k d ⊎ HasUpdate ys k d
-HasUpdate-cases [] ys k d has = inr has
-HasUpdate-cases (x ∷ xs) ys k d has = search (rules, HasUpdate-cases xs ys k d)
+pub HasUpdate-append : (xs ys : List Update) (k : ℕ) (d : List ℕ) → HasUpdate (xs ++ ys) k d ↔ (HasUpdate xs k d ⊎ HasUpdate ys k d)
+HasUpdate-append [] ys k d = ((λ has. inr has), λ either. by_cases either (λ has. absurd has) (λ has. has))
+HasUpdate-append (x ∷ xs) ys k d = let rest = HasUpdate-append xs ys k d in grind (arith, rest)
 
 pub updates_sorted : (l : List Mapped) (flags : List Bool) (p : ℕ) (cs new : List Update) → length l ≤ p → AreUpdatesUpto l flags p cs → IsPermutation cs new → IsSorted (λ (x : Update) (y : Update). ordering_then (slice_cmp nat_cmp x.destination.now y.destination.now) (nat_cmp x.index y.index)) new → AreUpdates l flags new
 updates_sorted l flags p cs new past made moved sorted = record {
@@ -91,25 +82,20 @@ updates_sorted l flags p cs new past made moved sorted = record {
 }
 
 one_index : (l : List Mapped) (k : ℕ) (d e : List ℕ) → GoesTo l k d → GoesTo l k e → d ≡ e
-one_index l k d e (m, is_m, to_d) (n, is_n, to_e) =
-    let one : m ≡ n = same_Some m n (sym is_m ∙ is_n) in
-    same_Some d e (sym to_d ∙ ap (λ (x : Mapped). x.destination) one ∙ to_e)
+one_index l k d e to_d to_e = search (rules, same_Some)
 
 pub updates_more : (l : List Mapped) (flags : List Bool) (cs new : List Update) (c : Update) → new ≡ cs ++ c ∷ [] → GoesTo l c.index c.destination.now → ¬ (IsFlagged flags c.index) → AreUpdatesUpto l flags c.index cs → AreUpdatesUpto l flags (c.index + 1) new
 updates_more l flags cs new c is goes unflagged made =
     let indexes : updated_indexes new ≡ updated_indexes cs ++ c.index ∷ [] = ap updated_indexes is ∙ map-append (λ (x : Update). x.index) cs (c ∷ []) in record {
       are = λ k d. rw is (
-        (λ has. by_cases (HasUpdate-cases cs (c ∷ []) k d has) (λ old. let told = (made.are k d).0 old in (omega (arith, told.0), told.1)) (λ last. only last)),
-        (λ told. by_cases (upto k c.index told.0) (λ less. HasUpdate-left cs (c ∷ []) k d ((made.are k d).1 (less, told.1)))
-            (λ here. HasUpdate-right cs (c ∷ []) k d (inl (sym here, one_index l k c.destination.now d (rw here goes) told.1.0)))),
+        (λ has. by_cases ((HasUpdate-append cs (c ∷ []) k d).0 has) (λ old. let told = (made.are k d).0 old in (omega (arith, told.0), told.1))
+            (λ last. by_cases last (λ at. rw (← at.0, ← at.1) (omega arith, (goes, unflagged))) (λ none. absurd none))),
+        (λ told. by_cases (upto k c.index told.0) (λ less. (HasUpdate-append cs (c ∷ []) k d).1 (inl ((made.are k d).1 (less, told.1))))
+            (λ here. (HasUpdate-append cs (c ∷ []) k d).1 (inr (inl (sym here, one_index l k c.destination.now d (rw here goes) told.1.0))))),
       );
       rises = rw indexes (all_pairs_push (λ n m. n < m) (updated_indexes cs) c.index made.rises (All-from_recursion (λ n. n < c.index) (updated_indexes cs) made.below));
       below = rw indexes (all_join (λ n. n < c.index + 1) (updated_indexes cs) (c.index ∷ []) (all_weaker (λ n. n < c.index) (λ n. n < c.index + 1) (λ n less. omega arith) (updated_indexes cs) made.below) (omega arith, tt));
     }
-  where
-    only : {k : ℕ} {d : List ℕ} → HasUpdate (c ∷ []) k d → (k < c.index + 1) × (GoesTo l k d × ¬ (IsFlagged flags k))
-    only (inl at) = rw (← at.0, ← at.1) (omega arith, (goes, unflagged))
-    only (inr none) = absurd none
 
 pub updates_same : (l : List Mapped) (flags : List Bool) (p : ℕ) (cs : List Update) → ((d : List ℕ) → GoesTo l p d → ¬ (IsFlagged flags p) → ⊥) → AreUpdatesUpto l flags p cs → AreUpdatesUpto l flags (p + 1) cs
 updates_same l flags p cs none made = record {
@@ -160,10 +146,7 @@ pub mapped_at : (ms : List Mapping) (k : ℕ) (m : Mapping) → k < length ms �
 mapped_at ms k m below is = slice_get-map mapped_of ms k ∙ ap (option_map mapped_of) (slice_get_read ms (length ms) k m refl below is)
 
 pub goes_nowhere : (ms : List Mapping) (k : ℕ) (m : Mapping) (d : List ℕ) → k < length ms → m ≡ get_or ms k m → m.rhs ≡ None → GoesTo (map mapped_of ms) k d → ⊥
-goes_nowhere ms k m d below is none (n, is_n, to) =
-    let one = same_Some _ _ (sym (mapped_at ms k m below is) ∙ is_n) in
-    let gone : None ≡ Some d = rw none at (ap (λ (x : Mapped). x.destination) one ∙ to) in
-    absurd (cc)
+goes_nowhere ms k m d below is none goes = search (rules, mapped_at, same_Some)
 
 pub goes_to_name : (ms : List Mapping) (k : ℕ) (m : Mapping) (n : NameRef) → k < length ms → m ≡ get_or ms k m → m.rhs ≡ Some n → GoesTo (map mapped_of ms) k (name_bytes n)
 goes_to_name ms k m n below is to = (mapped_of m, mapped_at ms k m below is, ap (option_map name_bytes) to)

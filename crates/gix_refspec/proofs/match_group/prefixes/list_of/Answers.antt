@@ -1,5 +1,4 @@
-use Rattle.gix_refspec.proofs.Common.{sym, ◌∙◌, false≢true}
-use Rattle.gix_refspec.proofs.lemmas.prefixes.AskedLemmas.{no_list}
+use Rattle.gix_refspec.proofs.{Common.{sym, ◌∙◌, false≢true}, lemmas.prefixes.AskedLemmas.{no_list}}
 use Rattle.gix_refspec.proofs.match_group.prefixes.list_of.Goals as goal
 
 pub returns-then-not-is_ref_prefix-clause-ok : goal.returns-then-not-is_ref_prefix-clause-ok

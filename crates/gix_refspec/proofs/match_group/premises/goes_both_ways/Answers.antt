@@ -1,13 +1,9 @@
 -- Both sides have a star exactly if the source has one.
-use Rattle.gix_refspec.proofs.Common.{◌↔◌, IsTrue, List, ℕ, Some, option_map, sym, ap, ◌∙◌, subst, bstr_bytes, reading_of, GoesBothWays}
-use Rattle.gix_refspec.proofs.lemmas.hits.TransposeLemmas.{goes_below_refs, goes_by_star}
+use Rattle.gix_refspec.proofs.{Common.{List, ℕ, Some, option_map, sym, ap, ◌∙◌, bstr_bytes, reading_of, rules}, lemmas.hits.TransposeLemmas.{goes_below_refs, goes_by_star}}
 use Rattle.gix_refspec.proofs.match_group.premises.goes_both_ways.Goals as goal
 
 pub returns-then-contains : goal.returns-then-contains
-returns-then-contains c =
-    subst (λ b. IsTrue b ↔ GoesBothWays (reading_of c.args.spec.now)) (sym c.if-contains.true)
-    (goes_by_star (reading_of c.args.spec.now) c.as_bytes-source.result.now c.args.spec.now.accepted
-    (sym c.source.ensures ∙ ap (option_map bstr_bytes) c.in-Some-Some.is-0 ∙ ap (λ (x : List ℕ). Some x) (sym c.as_bytes-source.ensures)) c.if-contains.ensures)
+returns-then-contains c = search (rules, goes_by_star)
 
 pub returns-else-contains : goal.returns-else-contains
 returns-else-contains c =

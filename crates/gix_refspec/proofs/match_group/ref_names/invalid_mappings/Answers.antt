@@ -1,16 +1,12 @@
-use Rattle.gix_refspec.proofs.Common.{map, rules, InvalidMapping, mapped_of, IsLeftOut, HasRefNames, left_out_of}
-use Rattle.gix_refspec.proofs.lemmas.validate.AfterLemmas.{nothing_more, one_more}
-use Rattle.gix_refspec.proofs.lemmas.validate.RefNameLemmas.{bad_unnamed, copied_mapping, some_unnamed}
+use Rattle.gix_refspec.proofs.{Common.{map, rules, InvalidMapping, mapped_of, IsLeftOut, HasRefNames, left_out_of}, lemmas.validate.{AfterLemmas.{nothing_more, one_more}, RefNameLemmas.{bad_unnamed, copied_mapping}}}
+use Rattle.gix_refspec.proofs.{lemmas.validate.RefNameLemmas.{some_unnamed}, match_group.ref_names.invalid_mappings.Goals.{in-Some+in_ok-clone+in_ok-push, in_default}}
 use Rattle.gix_refspec.proofs.match_group.ref_names.invalid_mappings.Goals as goal
-use Rattle.gix_refspec.proofs.match_group.ref_names.invalid_mappings.Goals.{in-Some+in_ok-clone+in_ok-push, in_default}
 
 pub returns-in_err-clone-clause-memory : goal.returns-in_err-clone-clause-memory
-returns-in_err-clone-clause-memory c =
-    search (rules, some_unnamed c.args.mappings.now c.loop-mapping.mapping-index c.mapping-item.result c.in-Some.side c.loop-mapping-test.true c.mapping-item.is c.in-Some.ensures)
+returns-in_err-clone-clause-memory c = search (rules, some_unnamed)
 
 pub returns-in_err-push-clause-memory : goal.returns-in_err-push-clause-memory
-returns-in_err-push-clause-memory c =
-    search (rules, some_unnamed c.args.mappings.now c.loop-mapping.mapping-index c.mapping-item.result c.in-Some.side c.loop-mapping-test.true c.mapping-item.is c.in-Some.ensures)
+returns-in_err-push-clause-memory c = search (rules, some_unnamed)
 
 pub loop-mapping-preserved : goal.loop-mapping-preserved
 loop-mapping-preserved c =

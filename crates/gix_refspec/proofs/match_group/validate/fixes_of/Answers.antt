@@ -1,8 +1,7 @@
-use Rattle.gix_refspec.proofs.Common.{MappingWithPartialDestinationRemoved, map, sym, ◌∙◌, rules, false≢true, Fix, reading_of, mapped_of, IsFix, Survives, removed_of, Removed}
-use Rattle.gix_refspec.proofs.lemmas.validate.ConflictLemmas.{spec_fits}
-use Rattle.gix_refspec.proofs.lemmas.validate.AfterLemmas.{fix_of, no_fix_written, nothing_more, one_more}
-use Rattle.gix_refspec.proofs.match_group.validate.fixes_of.Goals as goal
+use Rattle.gix_refspec.proofs.{Common.{MappingWithPartialDestinationRemoved, map, sym, ◌∙◌, rules, false≢true, Fix, reading_of, mapped_of, IsFix, Survives, removed_of, Removed}, lemmas.validate.AfterLemmas.{fix_of}}
+use Rattle.gix_refspec.proofs.lemmas.validate.{AfterLemmas.{no_fix_written, nothing_more, one_more}, ConflictLemmas.{spec_fits}}
 use Rattle.gix_refspec.proofs.match_group.validate.fixes_of.Goals.{in-Some+then-not-can_be_written+in_ok-from_slice+in_ok-to_owned+in_ok-push, in-Some+else-not-can_be_written, in_default}
+use Rattle.gix_refspec.proofs.match_group.validate.fixes_of.Goals as goal
 
 pub bounds-specs-mapping : goal.bounds-specs-mapping
 bounds-specs-mapping c = spec_fits c.args.specs.now c.args.mappings.now c.loop-mapping.mapping-index c.mapping-item.result c.requires c.loop-mapping-test.true c.mapping-item.is

@@ -1,6 +1,5 @@
 -- if none is listed, all have ref names; otherwise those that the filter keeps have, and the others are listed
-use Rattle.gix_refspec.proofs.Common.{◌≡◌, [], refl, sym, ◌∙◌, arith, rules, eqb-true, HasRefNames, nil_from_length}
-use Rattle.gix_refspec.proofs.lemmas.validate.AfterLemmas.{filtered_so, kept_whole}
+use Rattle.gix_refspec.proofs.{Common.{◌≡◌, [], refl, sym, ◌∙◌, arith, rules, eqb-true, HasRefNames, nil_from_length}, lemmas.validate.AfterLemmas.{filtered_so, kept_whole}}
 use Rattle.gix_refspec.proofs.match_group.ref_names.match_lhs+Outcome.without_invalid_names.Goals as goal
 
 pub returns-then-is_empty-clause-ok : goal.returns-then-is_empty-clause-ok

@@ -1,12 +1,10 @@
-use Rattle.gix_refspec.proofs.Common.{one_more_mapped, each_mapped, GoesBothWays, reading_of, false≢true}
+use Rattle.gix_refspec.proofs.{Common.{one_more_mapped, GoesBothWays, reading_of, false≢true}, lemmas.MadeLemmas.{none_of_all}}
 use Rattle.gix_refspec.proofs.match_group.types.MatchGroup.goes_both_ways.Goals as goal
 
 pub returns-then-not-goes_both_ways : goal.returns-then-not-goes_both_ways
-returns-then-not-goes_both_ways c = (
-  (λ none. absurd (false≢true none)),
-  (λ all.
-      absurd (false≢true (c.if-not-goes_both_ways.ensures.1 (each_mapped reading_of GoesBothWays c.deref-spec-items.result.now c.loop-spec.spec-index c.spec-item.result (rw (← c.deref-spec-items.ensures.value) at all) c.loop-spec-test.true c.spec-item.is)))),
-)
+returns-then-not-goes_both_ways c =
+    rw (← c.deref-spec-items.ensures.value)
+    (none_of_all reading_of GoesBothWays c.deref-spec-items.result.now c.loop-spec.spec-index c.spec-item.result c.loop-spec-test.true c.spec-item.is (λ goes. false≢true (c.if-not-goes_both_ways.ensures.1 goes)))
 
 pub loop-spec-preserved : goal.loop-spec-preserved
 loop-spec-preserved c =

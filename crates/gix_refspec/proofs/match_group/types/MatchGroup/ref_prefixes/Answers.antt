@@ -1,5 +1,4 @@
-use Rattle.gix_refspec.proofs.Common.{length, ap, arith, take_all, on_any_error}
-use Rattle.gix_refspec.proofs.lemmas.prefixes.AskedLemmas.{asks_no_names, none_at, nothing_at, one_more_list, serves}
+use Rattle.gix_refspec.proofs.{Common.{length, ap, arith, take_all, on_any_error, rules}, lemmas.prefixes.AskedLemmas.{asks_no_names, none_at, nothing_at, one_more_list, serves}}
 use Rattle.gix_refspec.proofs.match_group.types.MatchGroup.ref_prefixes.Goals as goal
 
 pub returns-in_err-names-clause-memory : goal.returns-in_err-names-clause-memory
@@ -8,27 +7,19 @@ returns-in_err-names-clause-memory c =
     (rw (← c.deref-spec-items.ensures.value) (λ asks. c.in_err-names.ensures.memory (nothing_at c.deref-spec-items.result.now c.loop-spec.spec-index c.spec-item.result c.loop-spec-test.true c.spec-item.is asks)))
 
 pub returns-in_default-clause-ok : goal.returns-in_default-clause-ok
-returns-in_default-clause-ok c =
-    let none = rw c.in_default.is at c.in_ok-names.ensures.ok in
-    rw (← c.deref-spec-items.ensures.value) (none_at c.deref-spec-items.result.now c.loop-spec.spec-index c.spec-item.result c.loop-spec-test.true c.spec-item.is none)
+returns-in_default-clause-ok c = search (rules, none_at)
 
 pub returns-in_err-append-clause-memory : goal.returns-in_err-append-clause-memory
 returns-in_err-append-clause-memory c =
     let specs = c.deref-spec-items.result.now in
-    let list = c.loop-spec.list in
     let names = c.in-Some.names in
     let given = rw c.in-Some.is at c.in_ok-names.ensures.ok in
     on_any_error c.from_residual-in_err-append.result (λ asks.
     let nothing = rw (← c.deref-spec-items.ensures.value) at asks in
-    omega (arith, c.in_err-append.ensures.full, list.ok.1, names.ok.0, asks_no_names specs c.loop-spec.spec-index c.spec-item.result names.items c.loop-spec-test.true c.spec-item.is given nothing))
+    omega (arith, c.in_err-append.ensures.full, c.loop-spec.list.ok.1, names.ok.0, asks_no_names specs c.loop-spec.spec-index c.spec-item.result names.items c.loop-spec-test.true c.spec-item.is given nothing))
 
 pub loop-spec-preserved : goal.loop-spec-preserved
-loop-spec-preserved c =
-    let specs = c.deref-spec-items.result.now in
-    let names = c.in-Some.names in
-    let given = rw c.in-Some.is at c.in_ok-names.ensures.ok in
-    rw (← c.deref-spec-items.ensures.value)
-    (one_more_list specs c.loop-spec.spec-index c.spec-item.result c.loop-spec.list.items names.items c.append.new.self.items c.loop-spec-test.true c.spec-item.is c.in_ok-append.ensures.items given (rw (← c.deref-spec-items.ensures.value) at c.loop-spec.invariant))
+loop-spec-preserved c = search (rules, one_more_list)
 
 pub returns-clause-serves : goal.returns-clause-serves
 returns-clause-serves c =

@@ -1,5 +1,4 @@
-use Rattle.gix_refspec.proofs.Common.{◌≡◌, length, sym, ◌∙◌, arith, eqb-true}
-use Rattle.gix_refspec.proofs.lemmas.validate.DifferLemmas.{none_contested}
+use Rattle.gix_refspec.proofs.{Common.{◌≡◌, length, sym, ◌∙◌, arith, eqb-true}, lemmas.validate.FirstLemmas.{none_contested}}
 
 pub returns : Rattle.gix_refspec.proofs.match_group.validate.conflicts.destinations_differ.Goals.returns
 returns c is_so =

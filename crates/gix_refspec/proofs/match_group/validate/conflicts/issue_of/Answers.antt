@@ -1,6 +1,5 @@
-use Rattle.gix_refspec.proofs.Common.{◌≡◌, get_or, ◌∙◌, arith, rules, bstring_bytes, map-append, take_all, All-from_recursion, Update, start_of, [], ◌∷◌}
-use Rattle.gix_refspec.proofs.lemmas.validate.ConflictLemmas.{conflict_from_conflicting, copied_source, conflicting_fits, spec_fits, text_at, told_more}
-use Rattle.gix_refspec.proofs.lemmas.validate.UpdateLemmas.{past_end}
+use Rattle.gix_refspec.proofs.{Common.{◌≡◌, get_or, ◌∙◌, arith, rules, bstring_bytes, map-append, take_all, All-from_recursion, Update, start_of, [], ◌∷◌}, lemmas.validate.ConflictLemmas.{conflict_from_conflicting}}
+use Rattle.gix_refspec.proofs.lemmas.validate.{ConflictLemmas.{copied_source, conflicting_fits, spec_fits, text_at, told_more}, UpdateLemmas.{past_end}}
 use Rattle.gix_refspec.proofs.match_group.validate.conflicts.issue_of.Goals as goal
 
 pub bounds-mappings-update : goal.bounds-mappings-update
@@ -10,9 +9,7 @@ pub offset_bounds-mappings-update : goal.offset_bounds-mappings-update
 offset_bounds-mappings-update c = let below = bounds-mappings-update c in search rules
 
 pub bounds-specs-mapping : goal.bounds-specs-mapping
-bounds-specs-mapping c =
-    let fits = conflicting_fits c.args.mappings.now c.args.run.now c.loop-update.update-index past_end c.requires.conflicting c.loop-update-test.true in
-    spec_fits c.args.specs.now c.args.mappings.now (get_or c.args.run.now c.loop-update.update-index past_end).index c.index-mappings-update.result c.requires.fits fits c.index-mappings-update.is
+bounds-specs-mapping c = search (rules, conflicting_fits, spec_fits)
 
 pub offset_bounds-specs-mapping : goal.offset_bounds-specs-mapping
 offset_bounds-specs-mapping c = let below = bounds-specs-mapping c in search rules
@@ -36,6 +33,6 @@ pub returns : goal.returns
 returns c =
     let run = c.args.run.now in
     let conflicting = c.requires.conflicting in
-    let several = conflicting.several in
-    let first : (get_or run 0 past_end).destination.now ≡ conflicting.destination = All-from_recursion (λ (x : Update). x.destination.now ≡ conflicting.destination) run conflicting.same 0 past_end (omega (arith, several)) in
+    let first : (get_or run 0 past_end).destination.now ≡ conflicting.destination =
+    All-from_recursion (λ (x : Update). x.destination.now ≡ conflicting.destination) run conflicting.same 0 past_end (omega (arith, conflicting.several)) in
     conflict_from_conflicting _ _ run _ _ _ conflicting (rw (take_all c.loop-update.update-index run (omega arith)) at c.loop-update.invariant) (c.in_ok-from_slice.ensures ∙ c.new.ensures ∙ first)

@@ -1,19 +1,12 @@
-use Rattle.gix_refspec.proofs.Common.{◌≡◌, ◌-◌, ◌≤◌, length, take, drop, arith, drop-drop, length-drop, take_all}
-use Rattle.gix_refspec.proofs.lemmas.validate.ConflictLemmas.{all_reported, conflicting_of_run, reported_more, reported_none}
+use Rattle.gix_refspec.proofs.{Common.{◌≡◌, ◌-◌, ◌≤◌, length, take, drop, arith, drop-drop, length-drop, take_all, rules}, lemmas.validate.ConflictLemmas.{all_reported, conflicting_of_run, reported_more}}
+use Rattle.gix_refspec.proofs.lemmas.validate.ConflictLemmas.{reported_none}
 use Rattle.gix_refspec.proofs.match_group.validate.conflicts.issues_among.Goals as goal
 
 pub loop-at-init : goal.loop-at-init
-loop-at-init c = (
-  omega arith,
-  rw c.new-issues.ensures.items (reported_none _ _ c.args.firsts.now c.requires.firsts),
-)
+loop-at-init c = search (rules, reported_none, c.requires.firsts, c.new-issues.ensures.items)
 
 pub add_issue-requires-clause-conflicting : goal.add_issue-requires-clause-conflicting
-add_issue-requires-clause-conflicting c =
-    let firsts = c.args.firsts.now in
-    let at = c.loop-at.at in
-    let rest : take (length firsts - at) (drop at firsts) ≡ drop at firsts = take_all (length firsts - at) (drop at firsts) (omega (arith, length-drop at firsts)) in
-    rw rest (λ several. conflicting_of_run _ _ (drop at firsts) c.len_of_run-len.result _ several (rw rest at c.len_of_run-len.ensures.split) c.loop-at.invariant.1)
+add_issue-requires-clause-conflicting c = search (rules, conflicting_of_run, length-drop, take_all)
 
 pub loop-at-preserved : goal.loop-at-preserved
 loop-at-preserved c =

@@ -1,5 +1,4 @@
-use Rattle.gix_refspec.proofs.Common.{◌≤◌, ◌-◌, length, map, drop, reading_of, mapped_of, conflict_of}
-use Rattle.gix_refspec.proofs.lemmas.validate.ConflictLemmas.{AreReported}
+use Rattle.gix_refspec.proofs.{Common.{◌≤◌, ◌-◌, length, map, drop, reading_of, mapped_of, conflict_of}, lemmas.validate.ConflictLemmas.{AreReported}}
 use Rattle.gix_refspec.proofs.match_group.validate.conflicts.issues_among.Given as goal
 
 abbrev pub invariant-loop-at : goal.invariant-loop-at

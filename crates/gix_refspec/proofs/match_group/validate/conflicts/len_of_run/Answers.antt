@@ -1,5 +1,5 @@
-use Rattle.gix_refspec.proofs.Common.{◌≡◌, ℕ, get_or, length, take, drop, ap, ◌∙◌, subst, arith, get_or_default, Update, IsRun}
-use Rattle.gix_refspec.proofs.lemmas.validate.UpdateLemmas.{all_more, past_end, split_at, differ_from_test, same_from_test}
+use Rattle.gix_refspec.proofs.{Common.{◌≡◌, ℕ, get_or, length, take, drop, ap, ◌∙◌, subst, arith, get_or_default, Update, IsRun}, lemmas.validate.UpdateLemmas.{all_more, past_end, split_at, differ_from_test}}
+use Rattle.gix_refspec.proofs.lemmas.validate.UpdateLemmas.{same_from_test}
 use Rattle.gix_refspec.proofs.match_group.validate.conflicts.len_of_run.Goals as goal
 
 pub returns-then-ne-clause-split : goal.returns-then-ne-clause-split
@@ -13,6 +13,6 @@ loop-len-preserved c d =
 
 pub returns-clause-split : goal.returns-clause-split
 returns-clause-split c =
-    let cs = c.args.updates.now in
-    let whole : c.loop-len.len ≡ length cs = omega arith in
-    subst (λ (n : ℕ). IsRun (take n cs) (drop n cs)) whole (split_at cs c.loop-len.len past_end c.requires.some c.requires.order (c.loop-len.invariant past_end) (λ below. absurd (omega arith)))
+    let whole : c.loop-len.len ≡ length c.args.updates.now = omega arith in
+    subst (λ (n : ℕ). IsRun (take n c.args.updates.now) (drop n c.args.updates.now)) whole
+    (split_at c.args.updates.now c.loop-len.len past_end c.requires.some c.requires.order (c.loop-len.invariant past_end) (λ below. absurd (omega arith)))

@@ -1,7 +1,6 @@
-use Rattle.gix_refspec.proofs.Common.{map, sym, ◌∙◌, arith, false≢true, length-map, mapped_of}
-use Rattle.gix_refspec.proofs.lemmas.validate.UpdateLemmas.{updates_more, updates_same, updates_sorted, goes_nowhere, goes_to_name}
-use Rattle.gix_refspec.proofs.match_group.validate.conflicts.updates_in_order.Goals as goal
+use Rattle.gix_refspec.proofs.{Common.{map, sym, ◌∙◌, arith, false≢true, length-map, mapped_of}, lemmas.validate.UpdateLemmas.{updates_more, updates_same, updates_sorted, goes_nowhere, goes_to_name}}
 use Rattle.gix_refspec.proofs.match_group.validate.conflicts.updates_in_order.Goals.{then-not-is_flagged+in_ok-push, else-not-is_flagged}
+use Rattle.gix_refspec.proofs.match_group.validate.conflicts.updates_in_order.Goals as goal
 
 pub loop-index-preserved-in_default : goal.loop-index-preserved-in_default
 loop-index-preserved-in_default c = updates_same (map mapped_of c.args.mappings.now) c.args.flags.now c.loop-index.index c.loop-index.updates.items (λ d goes unflagged. goes_nowhere c.args.mappings.now c.loop-index.index c.index-mappings-index.result d c.loop-index-test.true c.index-mappings-index.is c.in_default.is goes) c.loop-index.invariant

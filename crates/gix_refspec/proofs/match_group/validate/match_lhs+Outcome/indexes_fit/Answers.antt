@@ -1,12 +1,8 @@
-use Rattle.gix_refspec.proofs.Common.{arith}
-use Rattle.gix_refspec.proofs.lemmas.validate.ConflictLemmas.{spec_fits}
-use Rattle.gix_refspec.proofs.match_group.validate.match_lhs+Outcome.indexes_fit.Goals as goal
+use Rattle.gix_refspec.proofs.{Common.{arith, ◌<◌, length, mapped_of, readings_of, length-map, reading_of}, lemmas.MadeLemmas.{none_of_all}}
 
-pub returns-then-mapping-len : goal.returns-then-mapping-len
-returns-then-mapping-len c = (
-  λ none. absurd (cc),
-  λ fits.
-      let specs = c.args.self.now.group.specs in
-      let inside = spec_fits specs.items c.deref-mapping-items.result.now c.loop-mapping.mapping-index c.mapping-item.result (rw (← c.deref-mapping-items.ensures.value) at fits) c.loop-mapping-test.true c.mapping-item.is in
-      absurd (omega (arith, inside, c.if-mapping-len.true, c.len.ensures, specs.ok.0, specs.ok.1)),
-)
+pub returns-then-mapping-len : Rattle.gix_refspec.proofs.match_group.validate.match_lhs+Outcome.indexes_fit.Goals.returns-then-mapping-len
+returns-then-mapping-len c =
+    let group = c.args.self.now.group in
+    rw (← c.deref-mapping-items.ensures.value)
+    (none_of_all mapped_of (λ m. m.spec < length (readings_of group)) c.deref-mapping-items.result.now c.loop-mapping.mapping-index c.mapping-item.result c.loop-mapping-test.true c.mapping-item.is
+    (λ inside. omega (arith, inside, c.if-mapping-len.true, c.len.ensures, group.specs.ok.0, group.specs.ok.1, length-map group.specs.items reading_of)))

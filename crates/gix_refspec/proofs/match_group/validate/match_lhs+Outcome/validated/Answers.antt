@@ -1,6 +1,5 @@
 -- without an issue nothing is in conflict; without a fix all survive, and otherwise those that the filter keeps do
-use Rattle.gix_refspec.proofs.Common.{◌≡◌, [], map, refl, sym, ◌∙◌, arith, rules, eqb-true, mapped_of, Survives, nil_from_length}
-use Rattle.gix_refspec.proofs.lemmas.validate.AfterLemmas.{filtered_so, kept_whole, validated_so}
+use Rattle.gix_refspec.proofs.{Common.{◌≡◌, [], map, refl, sym, ◌∙◌, arith, rules, eqb-true, mapped_of, Survives, nil_from_length}, lemmas.validate.AfterLemmas.{filtered_so, kept_whole, validated_so}}
 use Rattle.gix_refspec.proofs.match_group.validate.match_lhs+Outcome.validated.Goals as goal
 
 pub returns-then-is_empty-clause-ok : goal.returns-then-is_empty-clause-ok
