@@ -1,11 +1,11 @@
 -- What the examples of plans cite: names passed on, data in few words, and proofs that hold for all examples of a kind.
-use Rattle.gix_refspec_plan.proofs.Common.{◌≡◌, inl, inr, ℕ, ◌+◌, false, List, [], ◌∷◌, ◌++◌, None, Some, codes, map, refl, sym, ◌∙◌, subst, arith, AllByRecursion, Contains, append-nil, same_Some, Origin}
-use Rattle.gix_refspec_plan.proofs.Common.{Verdict, CanBeWritten, HasStar, rules, Reading, Negative, IsPositive, fetched, fetched_alone, Ref, Takes, IsMadeFrom, Mapped, IsExcluded, IsExcludedBy}
-use Rattle.gix_refspec_plan.proofs.Common.{LacksSource, IsRefName, AreMerges, Asked, Covers, IsCompleted, IsContested, IsNegativeReading, IsSound, Planned, Merge}
-use Rattle.gix_refspec_text.{specs.Specs.Reading.Mode, specs.Matching.Side.Excludes, specs.Texts.Bytes.slash, proofs.lemmas.texts.TestedLemmas.IsName-tested, proofs.lemmas.texts.TestedLemmas.is_suspect}
-pub use Rattle.gix_refspec_text.proofs.facts.{ManualFacts.Lacks-tested, ManualFacts.named, FitFacts.every, FitFacts.heads_split, FitFacts.main_ref, FitFacts.no_dev, FitFacts.origin_split, FitFacts.short, FitFacts.short_kind}
-pub use Rattle.gix_refspec_match.specs.Matching.{Hits.AreForward, Hits.AreForwardEnds, Hits.AreSpecHits, Hits.Ends, Hits.Hit, Hits.IsHit, Hits.IsIdMapping, Hits.forward_of, Lists.IsJoinedFrom, Mappings.IsKept}
-pub use Rattle.gix_refspec_match.proofs.facts.MatchFacts.{mapping, main_candidate}
+use Rattle.gix_refspec_plan.proofs.Common.{◌≡◌, inl, inr, ℕ, ◌+◌, false, List, [], ◌∷◌, ◌++◌, None, Some, codes, map, refl, sym, ◌∙◌, subst, arith, AllByRecursion, Contains, append-nil, same_Some, Origin, Verdict}
+use Rattle.gix_refspec_plan.proofs.Common.{CanBeWritten, HasStar, rules, Reading, Negative, IsPositive, fetched, fetched_alone, Ref, Takes, IsMadeFrom, Mapped, IsExcluded, IsExcludedBy, LacksSource, IsRefName}
+use Rattle.gix_refspec_plan.proofs.Common.{AreMerges, Asked, Covers, IsCompleted, IsContested, IsNegativeReading, IsSound, Planned, Given, Merge}
+use Rattle.gix_refspec_text.{specs.{Specs.Reading.Mode, Matching.Side.Excludes, Texts.Bytes.slash}, proofs.lemmas.texts.TestedLemmas.{IsName-tested, is_suspect}}
+pub use Rattle.gix_refspec_text.proofs.facts.{FitFacts.{every, heads_split, main_ref, no_dev, origin_split, short, short_kind}, ManualFacts.{Lacks-tested, named}}
+pub use Rattle.gix_refspec_match.{specs.Matching.{Hits.{AreForward, AreForwardEnds, AreSpecHits, Ends, Hit, IsHit, IsIdMapping, forward_of}, Lists.IsJoinedFrom, Mappings.IsKept}, proofs.facts.MatchFacts.mapping}
+pub use Rattle.gix_refspec_match.proofs.facts.MatchFacts.{main_candidate}
 pub use Rattle.gix_refspec.proofs.facts.RefNameFacts.{no_ref_names, ref_names}
 pub use Rattle.gix_refspec_plan.proofs.lemmas.plan.MadeLemmas.{nothing_in, one_in}
 
@@ -18,6 +18,16 @@ merged n = listed (fetched_alone n) (Merge 0)
 
 abbrev pub update : Mapped → ℕ → Origin → Verdict → Planned
 update m item o v = record { source = m.source; item = Some item; destination = m.destination; origin = o; verdict = v }
+
+-- mappings from two sources to refs/x, and what a spec of the call makes of the first
+abbrev pub ax : Mapped
+ax = mapping 0 (codes "refs/heads/a") (Some (codes "refs/x")) 0
+
+abbrev pub bx : Mapped
+bx = mapping 1 (codes "refs/heads/b") (Some (codes "refs/x")) 0
+
+abbrev pub from_a : Verdict → Planned
+from_a v = update ax 0 (Given 0) v
 
 pub below : (x : List ℕ) → is_suspect slash (codes "refs/" ++ x) ≡ false → CanBeWritten (Some (codes "refs/" ++ x))
 below x sound = (record { after = x; here = refl }, IsName-tested (codes "refs/" ++ x) sound)

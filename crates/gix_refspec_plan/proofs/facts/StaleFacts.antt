@@ -1,13 +1,11 @@
 -- Examples of the definition of stale refs: what keeps a local ref from being stale, one that is, and one that a spec keeps.
-use Rattle.gix_refspec_plan.proofs.Common.{Matches, ref_named, AreKeptForward, HasKind, ◌++◌, ◌∙◌, ap, append_cancel_left, ◌≡◌, inl, inr, ℕ, List, [], ◌∷◌, Option, None, Some, codes, refl, sym, subst, arith}
-use Rattle.gix_refspec_plan.proofs.Common.{rules, Contains, same_Some, star, Lacks, Negative, Normal, Reading, fetched, full_name, partial, pattern, Fits, the_name, split_once, lacks_no_pattern, Lacks-here}
-use Rattle.gix_refspec_plan.proofs.Common.{Takes, IsExcludedBy, one_forward, CanWrite, CanWriteFrom, IsCompleted, IsFetched, IsKeptBy, IsStale, IsWritable}
-use Rattle.gix_refspec_plan.specs.Matching.Stale.{AreStale}
-use Rattle.gix_refspec_text.{proofs.lemmas.hits.CandidateLemmas.first_of_one, proofs.lemmas.hits.CandidateLemmas.taken_by_first, proofs.facts.ObjectIdFacts.empty_blob, proofs.facts.FitFacts.blob_kind}
-use Rattle.gix_refspec_text.{proofs.facts.FitFacts.short_no_id, specs.Matching.Side.Excludes, specs.Matching.Side.by_pattern}
-use Rattle.gix_refspec_plan.proofs.facts.ExampleLemmas.{AreForwardEnds, Hit, Lacks-tested, every, excluded_by, forward_beside, forward_of, heads_split, main_candidate, main_ref, named, none_excluded}
-use Rattle.gix_refspec_plan.proofs.facts.ExampleLemmas.{not_excluded, nothing_in, one_in, origin_split, short_kind, whole_pattern}
-use Rattle.gix_refspec_plan.proofs.lemmas.{stale.PatternLemmas.name_writes, stale.PatternLemmas.word_taken, stale.PatternLemmas.writes_cases, plan.OnePlanLemmas.completed_once}
+use Rattle.gix_refspec_plan.proofs.Common.{Matches, ref_named, AreKeptForward, HasKind, ◌++◌, ◌∙◌, ap, append_cancel_left, ◌≡◌, inl, inr, ℕ, List, [], ◌∷◌, Option, None, Some, codes, refl, sym, subst, arith, rules}
+use Rattle.gix_refspec_plan.proofs.Common.{Contains, same_Some, star, Lacks, Negative, Normal, Reading, fetched, full_name, partial, pattern, Fits, the_name, split_once, lacks_no_pattern, Lacks-here, Takes}
+use Rattle.gix_refspec_plan.{proofs.Common.{IsExcludedBy, one_forward, CanWrite, CanWriteFrom, IsCompleted, IsFetched, IsKeptBy, IsStale}, specs.Matching.Stale.AreStale, proofs.facts.ExampleLemmas.AreForwardEnds}
+use Rattle.gix_refspec_plan.proofs.facts.ExampleLemmas.{Hit, Lacks-tested, every, excluded_by, forward_beside, forward_of, heads_split, main_candidate, main_ref, named, none_excluded, not_excluded, nothing_in}
+use Rattle.gix_refspec_plan.proofs.{facts.ExampleLemmas.{one_in, origin_split, short_kind, whole_pattern}, lemmas.{plan.OnePlanLemmas.completed_once, stale.PatternLemmas.{name_writes, word_taken, writes_cases}}}
+use Rattle.gix_refspec_text.proofs.{lemmas.hits.CandidateLemmas.{first_of_one, taken_by_first}, facts.{FitFacts.{blob_kind, short_no_id}, ObjectIdFacts.empty_blob}}
+use Rattle.gix_refspec_text.specs.Matching.Side.{Excludes, by_pattern}
 
 -- a fetch into `x`, which is refs/heads/x, and a negative spec
 abbrev to_x : List ℕ → Reading
@@ -31,15 +29,6 @@ from_tag =
 by_no_tag : IsExcludedBy (codes "refs/tags/main") no_tag
 by_no_tag = excluded_by (the_name (search (rules, arith)) refl)
 
--- what could be written from a ref of the remote, from an excluded one or from an object isn't stale
-pub not_stale : ¬ (IsStale (to_x (codes "main") ∷ []) (named (codes "refs/tags/main") ∷ []) x) × ¬ (IsStale (to_x (codes "main") ∷ no_tag ∷ []) [] x)
-    × ¬ (IsStale (to_x (codes "e69de29bb2d1d6434b8b29ae775ad8c2e48c5391") ∷ []) [] x)
-not_stale = (
-  (λ s. s.absent _ (_, (0, omega arith, refl), from_tag) (inl refl)),
-  (λ s. s.included _ (_, (0, omega arith, refl), from_tag) (inr (inl by_no_tag))),
-  λ s. s.no_object (_, (0, omega arith, refl), record { writes = writes_x _; source = _; is = refl; bytes = empty_blob; asks = blob_kind }),
-)
-
 -- what the pattern could write, and the one ref from which it could write the branch `dev` of the remote
 by_every : (r : Reading) (n : List ℕ) (word : Option (List ℕ)) → Contains (every ∷ []) r → CanWrite r n word
     → (w : List ℕ) × (word ≡ Some w) × Fits (codes "refs/remotes/origin/") [] n w
@@ -58,36 +47,36 @@ only_dev s from =
     (rw (near.0, near.1) at of)
     ∙ ap (λ (y : List ℕ). codes "refs/heads/" ++ y) (append_cancel_left (codes "refs/remotes/origin/") (w ++ []) (codes "dev") (sym fits))
 
--- `dev` is stale where the remote has `main` alone
-pub dev_stale : IsStale (every ∷ []) (main_ref ∷ []) (codes "refs/remotes/origin/dev")
-dev_stale =
+-- what could be written from a ref of the remote, from an excluded one or from an object isn't stale, nor is a local ref that no
+-- spec writes: a branch of one's own, or a tag where `x` is completed to refs/heads/x
+pub unwritable : ¬ (IsStale (to_x (codes "main") ∷ []) (named (codes "refs/tags/main") ∷ []) x) × ¬ (IsStale (to_x (codes "main") ∷ no_tag ∷ []) [] x)
+    × ¬ (IsStale (to_x (codes "e69de29bb2d1d6434b8b29ae775ad8c2e48c5391") ∷ []) [] x)
+    × ¬ (IsStale (every ∷ []) [] (codes "refs/heads/mine")) × ¬ (IsStale (to_x (codes "main") ∷ []) [] (codes "refs/tags/x"))
+unwritable = (
+  (λ s. s.absent _ (_, (0, omega arith, refl), from_tag) (inl refl)),
+  (λ s. s.included _ (_, (0, omega arith, refl), from_tag) (inr (inl by_no_tag))),
+  (λ s. s.no_object (_, (0, omega arith, refl), record { writes = writes_x _; source = _; is = refl; bytes = empty_blob; asks = blob_kind })),
+  (λ s. let (r, word, there, w) = s.writable in let (v, some, fits) = by_every r _ word there w in grind arith),
+  λ s. let (r, word, there, w) = s.writable in elim (writes_cases _ _ word (rw (one_in (to_x (codes "main")) r there) at w)) [
+    | inl (name, none) ↦ let is = rw (← same_Some _ _ name.has) at name.is in grind arith
+    | inr (d, before, after, v, has, split, some, fits) ↦ lacks_no_pattern _ before after (Lacks-tested star (codes "x") refl) (rw (← same_Some _ _ has) at split)
+  ],
+)
+
+-- `dev` is stale where the remote has `main` alone; of two local refs of one name the first is listed
+pub listed_once : IsStale (every ∷ []) (main_ref ∷ []) (codes "refs/remotes/origin/dev")
+    × AreStale (every ∷ []) (main_ref ∷ []) (named (codes "refs/remotes/origin/dev") ∷ named (codes "refs/remotes/origin/dev") ∷ []) (record { item = 0; kept_by = None } ∷ [])
+listed_once =
     let whole : IsCompleted every every = whole_pattern (codes "refs/remotes/origin/") in
     let matches : Matches (codes "refs/remotes/origin/*") (ref_named (codes "refs/remotes/origin/dev")) (Some (codes "dev")) =
     record { kind = pattern (codes "refs/remotes/origin/") []; of = origin_split; is = refl } in
-    record {
+    let stale : IsStale (every ∷ []) (main_ref ∷ []) (codes "refs/remotes/origin/dev") = record {
       writable = (every, Some (codes "dev"), (0, omega arith, refl), search (rules, whole, matches));
       no_object = λ (r, there, w). let (v, some, fits) = by_every r _ None there w.writes in cc;
       absent = λ s (r, there, from) has. let same = only_dev s (rw (one_in every r there) at from) in grind arith;
       included = λ s of. none_excluded tt;
-    }
-
--- nor is a local ref that no spec writes: a branch of one's own, or a tag where `x` is completed to refs/heads/x
-pub unwritable : ¬ (IsStale (every ∷ []) [] (codes "refs/heads/mine")) × ¬ (IsStale (to_x (codes "main") ∷ []) [] (codes "refs/tags/x"))
-unwritable = (λ stale. no_own stale.writable, λ stale. no_other stale.writable)
-  where
-    no_own : ¬ (IsWritable (every ∷ []) (codes "refs/heads/mine"))
-    no_own (r, word, there, w) = let (v, some, fits) = by_every r _ word there w in grind arith
-
-    no_other : ¬ (IsWritable (to_x (codes "main") ∷ []) (codes "refs/tags/x"))
-    no_other (r, word, there, w) = elim (writes_cases _ _ word (rw (one_in (to_x (codes "main")) r there) at w)) [
-      | inl (name, none) ↦ let is = rw (← same_Some _ _ name.has) at name.is in grind arith
-      | inr (d, before, after, v, has, split, some, fits) ↦
-          lacks_no_pattern _ before after (Lacks-tested star (codes "x") refl) (rw (← same_Some _ _ has) at split)
-    ]
-
--- of two local refs of one name the first is listed
-pub listed_once : AreStale (every ∷ []) (main_ref ∷ []) (named (codes "refs/remotes/origin/dev") ∷ named (codes "refs/remotes/origin/dev") ∷ []) (record { item = 0; kept_by = None } ∷ [])
-listed_once = (Some _, [], (refl, (λ none. none), dev_stale), (None, [], (λ f told. told.1 (inl refl)), refl, refl), refl)
+    } in
+    (stale, (Some _, [], (refl, (λ none. none), stale), (None, [], (λ f told. told.1 (inl refl)), refl, refl), refl))
 
 -- the specs with `x` completed, and what the first makes of the branch `main`
 abbrev specs : List Reading

@@ -1,10 +1,8 @@
 -- A plan is carried out exactly if no source is missing that has to be there, and no two updates conflict.
-use Rattle.gix_refspec_plan.proofs.Common.{◌≡◌, ◌≢◌, ◌⊎◌, inl, inr, ℕ, Bool, true, false, List, [], ◌∷◌, ◌++◌, codes, take, get_or, refl, sym, ap, subst, arith, Contains, All-from_recursion}
-use Rattle.gix_refspec_plan.proofs.Common.{Contains-append_cases, Contains-append_left, Contains-get_or, recursion_from_All, same_Some, Origin, star, Lacks, Reading, all_tags, fetched_alone, head, Ref}
-use Rattle.gix_refspec_plan.proofs.Common.{LacksSource, AreAsked, AreConfigured, AreThose, AreUncovered, Asked, Covers, IsPlan, MayBeMissing, Planned, Wish, tags_asked, IsRefName, CarriedOutExactly}
-use Rattle.gix_refspec_plan.proofs.Common.{IsRequired, All-contains, InConflict, Configured, Default, Given, Merge, rules}
-use Rattle.gix_refspec_plan.proofs.lemmas.plan.MadeLemmas.{made_from, made_has, nothing_in, one_in}
-use Rattle.gix_refspec_plan.proofs.lemmas.plan.OpposedLemmas.{in_conflict, opposed}
+use Rattle.gix_refspec_plan.proofs.Common.{◌≡◌, ◌≢◌, ◌⊎◌, inl, inr, ℕ, Bool, true, false, List, [], ◌∷◌, ◌++◌, codes, take, get_or, refl, sym, ap, subst, arith, Contains, All-from_recursion, Contains-append_cases}
+use Rattle.gix_refspec_plan.proofs.Common.{Contains-append_left, Contains-get_or, recursion_from_All, same_Some, Origin, star, Lacks, Reading, all_tags, fetched_alone, head, Ref, LacksSource, AreAsked}
+use Rattle.gix_refspec_plan.proofs.Common.{AreConfigured, AreThose, AreUncovered, Asked, Covers, IsPlan, MayBeMissing, Planned, Wish, tags_asked, IsRefName, CarriedOutExactly, IsRequired, All-contains, InConflict}
+use Rattle.gix_refspec_plan.proofs.{Common.{Configured, Default, Given, Merge, rules}, lemmas.plan.{MadeLemmas.{made_from, made_has, nothing_in, one_in}, OpposedLemmas.{in_conflict, opposed}}}
 
 -- a spec with this reading, whose source has to be there
 abbrev IsAskedWith : List Asked → Reading → Type 0

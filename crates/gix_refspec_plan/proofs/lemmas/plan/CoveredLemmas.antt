@@ -1,12 +1,11 @@
 -- Names that stand behind others, as duplicates among all: merged refs behind the refs of sound mappings, and local refs behind destinations.
-use Rattle.gix_refspec_plan.proofs.Common.{◌≡◌, ◌⊎◌, inl, inr, ◌↔◌, IsTrue, Bool, false, ℕ, ◌+◌, ◌-◌, ◌<◌, ◌≤◌, List, [], ◌∷◌, ◌++◌, length, map, take, get_or, sym, ap, ◌∙◌, arith, Contains}
-use Rattle.gix_refspec_plan.proofs.Common.{take-append-add, cases_lt, get_or-append-add, get_or-map, get_or-take, get_or_append_left, get_or_push, length-append, length-map, length-take-le, length_push}
-use Rattle.gix_refspec_plan.proofs.Common.{Contains-append_cases, Contains-append_left, Contains-append_right, BStr, bstr_bytes, Mapped, name, FlagsDuplicates, IsDuplicate, IsFlagged, some_element, Covers}
-use Rattle.gix_refspec_plan.proofs.Common.{IsSound, AreNames, same_Some, HasDestination, ref_names, Ref, Some, rules, ◌≢◌, Option, option_map, append_assoc, map-append, map_more, Item, NameRef}
-use Rattle.gix_refspec_plan.proofs.{Common.name_bytes, Common.ref_of, lemmas.plan.MadeLemmas.made_exactly}
+use Rattle.gix_refspec_plan.proofs.Common.{◌≡◌, ◌⊎◌, inl, inr, ◌↔◌, IsTrue, Bool, false, ℕ, ◌+◌, ◌-◌, ◌<◌, ◌≤◌, List, [], ◌∷◌, ◌++◌, length, map, take, get_or, sym, ap, ◌∙◌, arith, Contains, take-append-add}
+use Rattle.gix_refspec_plan.proofs.Common.{cases_lt, get_or-append-add, get_or-map, get_or-take, get_or_append_left, get_or_push, length-append, length-map, length-take-le, length_push, Contains-append_cases}
+use Rattle.gix_refspec_plan.proofs.Common.{Contains-append_left, Contains-append_right, BStr, bstr_bytes, Mapped, name, FlagsDuplicates, IsDuplicate, IsFlagged, some_element, Covers, IsSound, AreNames, same_Some}
+use Rattle.gix_refspec_plan.proofs.Common.{HasDestination, ref_names, Ref, Some, rules, ◌≢◌, Option, option_map, append_assoc, map-append, map_more, Item, NameRef, name_bytes, ref_of}
+use Rattle.gix_refspec_plan.{proofs.lemmas.plan.MadeLemmas.made_exactly, specs.Private.Stales.AreNames as AreLocalNames}
 use Rattle.std.specs.declared.cmp.Ordering.{Ordering}
 use Rattle.gix_refspec_match.specs.Private.Orders.{bytes_order, equal_texts, same_texts}
-use Rattle.gix_refspec_plan.specs.Private.Stales.{AreNames as AreLocalNames}
 
 abbrev pub by_text : BStr → BStr → Ordering
 by_text x y = bytes_order (bstr_bytes x) (bstr_bytes y)

@@ -1,19 +1,15 @@
 -- Which destinations are written, the verdicts by that, and the updates of mappings, one by one.
-use Rattle.gix_refspec_plan.proofs.Common.{◌≡◌, ◌≢◌, ◌⊎◌, ◌↔◌, inl, inr, ℕ, zero, suc, ◌+◌, ◌<◌, Bool, Bor, true, false, cond, List, [], ◌∷◌, ◌++◌, Option, None, Some, is_some, bytes_eq, map, take, get_or}
-use Rattle.gix_refspec_plan.proofs.Common.{length, refl, sym, ap, ◌∙◌, subst, arith, BTreeMap, UpdatesBy, get_by, slice_cmp, nat_cmp, Any, Contains, false≢true, map_more, All-from_recursion}
-use Rattle.gix_refspec_plan.proofs.Common.{bytes_eq-Decides, Mapping, Mapped, IsSamePair, AreApart, mapped_of, IsContested, IsSound, IsTakenOver, CountDestinations, HasTwo, IsCount, TellContested}
-use Rattle.gix_refspec_plan.proofs.Common.{WritesTo, rules, same_Some, some_at, some_of, IsTrue, IsSome, MatchOption, option_map, length-append, drop, append-nil, is_at, lookup, AllByRecursion, AllZip}
-use Rattle.gix_refspec_plan.proofs.Common.{slice_get, drop-append_seam, take-append-add, take-append_seam, get_or-append-add, get_or-map, get_or_default, length-map, map-append, take_more, slice_get-map}
-use Rattle.gix_refspec_plan.proofs.Common.{slice_get_read, DeclaredAsked, Origin, Update, Verdict, Ref, IsMadeFrom, HasPair, FlagsDuplicates, IsDuplicate, IsFlagged, IsMappingCopy, AreMapped, Asked}
-use Rattle.gix_refspec_plan.proofs.Common.{HasOrigin, HasSecondVerdict, HasVerdict, IsCompleted, IsPlanned, IsPlannedBesides, IsTracked, Planned, Wish, AreFirst, AreJudged, AreMappings, AreSecond}
-use Rattle.gix_refspec_plan.proofs.Common.{FlagKnown, planned_by, asked_of, planned_of, copied_mapping, each_mapped}
+use Rattle.gix_refspec_plan.proofs.Common.{◌≡◌, ◌≢◌, ◌⊎◌, ◌↔◌, inl, inr, ℕ, zero, suc, ◌+◌, ◌<◌, Bool, Bor, true, false, cond, List, [], ◌∷◌, ◌++◌, Option, None, Some, is_some, bytes_eq, map, take, get_or, length}
+use Rattle.gix_refspec_plan.proofs.Common.{refl, sym, ap, ◌∙◌, subst, arith, BTreeMap, UpdatesBy, get_by, slice_cmp, nat_cmp, Any, Contains, false≢true, map_more, All-from_recursion, bytes_eq-Decides, Mapping}
+use Rattle.gix_refspec_plan.proofs.Common.{Mapped, IsSamePair, AreApart, mapped_of, IsContested, IsSound, IsTakenOver, CountDestinations, HasTwo, IsCount, TellContested, WritesTo, rules, same_Some, some_at}
+use Rattle.gix_refspec_plan.proofs.Common.{some_of, IsTrue, IsSome, MatchOption, option_map, length-append, drop, append-nil, is_at, lookup, AllByRecursion, AllZip, slice_get, drop-append_seam, take-append-add}
+use Rattle.gix_refspec_plan.proofs.Common.{take-append_seam, get_or-append-add, get_or-map, get_or_default, length-map, map-append, take_more, slice_get-map, slice_get_read, DeclaredAsked, Origin, Update, Verdict}
+use Rattle.gix_refspec_plan.proofs.Common.{Ref, IsMadeFrom, HasPair, FlagsDuplicates, IsDuplicate, IsFlagged, IsMappingCopy, AreMapped, Asked, HasOrigin, HasSecondVerdict, HasVerdict, IsCompleted, IsPlanned}
+use Rattle.gix_refspec_plan.proofs.Common.{IsPlannedBesides, IsTracked, Planned, Wish, AreFirst, AreJudged, AreMappings, AreSecond, FlagKnown, planned_by, asked_of, planned_of, copied_mapping, each_mapped}
+use Rattle.gix_refspec_plan.proofs.lemmas.plan.{NameLemmas.{zip_at, zip_long, zip_more}, MadeLemmas.{made_one, made_none, there}}
 use Rattle.std.proofs.lemmas.Map.Text.{btree_map_updates_str}
-use Rattle.gix_refspec.{specs.Matching.Validation.HasConflictAt, proofs.lemmas.validate.FirstLemmas.start_cases}
-use Rattle.gix_refspec_match.proofs.lemmas.keep.KeptLemmas.{HasPair-left, by_pair, duplicate_at, kept_once}
-use Rattle.gix_refspec_match.proofs.lemmas.keep.RepeatLemmas.{some_mapping}
-use Rattle.gix_refspec.proofs.lemmas.validate.AfterLemmas.{forward_fits}
-use Rattle.gix_refspec_plan.proofs.lemmas.plan.NameLemmas.{zip_at, zip_long, zip_more}
-use Rattle.gix_refspec_plan.proofs.lemmas.plan.MadeLemmas.{made_one, made_none, there}
+use Rattle.gix_refspec.{specs.Matching.Validation.HasConflictAt, proofs.lemmas.validate.{FirstLemmas.start_cases, AfterLemmas.forward_fits}}
+use Rattle.gix_refspec_match.proofs.lemmas.keep.{KeptLemmas.{HasPair-left, by_pair, duplicate_at, kept_once}, RepeatLemmas.some_mapping}
 
 module _ {X : Type 0} (P : X → Type 0) where
   any_cons : (x : X) (l : List X) → Any P (x ∷ l) ↔ (P x ⊎ Any P l)

@@ -1,6 +1,5 @@
 -- Lists that are related element by element.
-use Rattle.gix_refspec_plan.proofs.Common.{◌≡◌, ℕ, zero, suc, ◌+◌, ◌<◌, List, [], ◌∷◌, ◌++◌, length, map, take, get_or, sym, ◌∙◌, subst, arith, AllZip, get_or-map, length-map, map-append}
-use Rattle.gix_refspec_plan.proofs.Common.{take_more, rules}
+use Rattle.gix_refspec_plan.proofs.Common.{◌≡◌, ℕ, zero, suc, ◌+◌, ◌<◌, List, [], ◌∷◌, ◌++◌, length, map, take, get_or, sym, ◌∙◌, subst, arith, AllZip, get_or-map, length-map, map-append, take_more, rules}
 use Rattle.std.proofs.lemmas.Slice.Zip.{AllZip-long, all_zipped_more}
 
 pub zip_more : {X Y : Type 0} (R : X → Y → Type 0) (xs : List X) (ys : List Y) (x : X) (y : Y) → AllZip R xs ys → R x y → AllZip R (xs ++ x ∷ []) (ys ++ y ∷ [])

@@ -1,10 +1,9 @@
 -- A wish and the refs of a remote have one plan.
-use Rattle.gix_refspec_plan.proofs.Common.{◌≡◌, ◌⊎◌, inl, inr, ℕ, List, [], ◌∷◌, ◌++◌, Option, None, Some, MatchOption, map, take, refl, sym, ap, ◌∙◌, subst, AllZip, Contains, slice_get, same_Some, Origin}
-use Rattle.gix_refspec_plan.proofs.Common.{Verdict, InvalidSide, star, Lacks, HasStar, Reading, fetched_alone, written_name_of, Ref, Lacks-ContainsText, Mapped, AreKeptForward, LacksSource, one_forward}
-use Rattle.gix_refspec_plan.proofs.Common.{IsRefName, AreAsked, AreConfigured, AreMapped, AreMerges, AreTaken, AreThose, AreUncovered, Asked, Covers, HasOrigin, HasSecondVerdict, HasVerdict, IsCompleted}
-use Rattle.gix_refspec_plan.proofs.Common.{IsNegativeReading, IsPlanned, IsPlannedBesides, IsPositiveReading, IsTakenAt, IsTracked, IsUnwritableAt, MayBeMissing, Planned, Wish, OnePlan, rules, Configured}
-use Rattle.gix_refspec_plan.proofs.Common.{arith}
-use Rattle.gix_refspec_plan.proofs.{Common.Given, Common.Merge, lemmas.plan.OpposedLemmas.unsound, lemmas.plan.OpposedLemmas.as_second}
+use Rattle.gix_refspec_plan.proofs.Common.{◌≡◌, ◌⊎◌, inl, inr, ℕ, List, [], ◌∷◌, ◌++◌, Option, None, Some, MatchOption, map, take, refl, sym, ap, ◌∙◌, subst, AllZip, Contains, slice_get, same_Some, Origin, Verdict}
+use Rattle.gix_refspec_plan.proofs.Common.{InvalidSide, star, Lacks, HasStar, Reading, fetched_alone, written_name_of, Ref, Lacks-ContainsText, Mapped, AreKeptForward, LacksSource, one_forward, IsRefName, AreAsked}
+use Rattle.gix_refspec_plan.proofs.Common.{AreConfigured, AreMapped, AreMerges, AreTaken, AreThose, AreUncovered, Asked, Covers, HasOrigin, HasSecondVerdict, HasVerdict, IsCompleted, IsNegativeReading, IsPlanned}
+use Rattle.gix_refspec_plan.proofs.Common.{IsPlannedBesides, IsPositiveReading, IsTakenAt, IsTracked, IsUnwritableAt, MayBeMissing, Planned, Wish, OnePlan, rules, Configured, arith, Given, Merge}
+use Rattle.gix_refspec_plan.proofs.lemmas.plan.OpposedLemmas.{unsound, as_second}
 use Rattle.gix_refspec_match.proofs.lemmas.lists.ListsLemmas.{made_once}
 use Rattle.gix_refspec.specs.declared.match_group.ref_names.InvalidSide.TheVariants as invalid
 

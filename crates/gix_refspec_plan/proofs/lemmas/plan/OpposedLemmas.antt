@@ -1,12 +1,11 @@
 -- An update is in conflict exactly if it conflicts with another one, and no ref is written twice.
 use Rattle.gix_refspec_plan.proofs.Common.{◌≡◌, ◌⊎◌, inl, inr, ◌↔◌, ℕ, ◌<◌, List, [], Option, None, Some, IsSome, MatchOption, get_or, length, refl, sym, ◌∙◌, subst, Contains, slice_get, get_or_default}
-use Rattle.gix_refspec_plan.proofs.Common.{All-from_recursion, Contains-append_cases, Contains-append_left, Contains-append_right, Contains-get_or, recursion_from_All, slice_get_read, Origin, Verdict}
-use Rattle.gix_refspec_plan.proofs.Common.{InvalidSide, Ref, HasPair, IsSamePair, Mapped, IsValidSource, Asked, CanBeWritten, HasOrigin, HasSecondVerdict, HasVerdict, IsContested, IsPlan, IsPlanned}
-use Rattle.gix_refspec_plan.proofs.Common.{IsPlannedBesides, IsSound, IsTakenOver, IsUnwritableAt, Planned, Wish, ConflictsExactly, DoConflict, All-contains, Written, InConflict, Any-HasPair, IsOfPair}
-use Rattle.gix_refspec_plan.proofs.Common.{some_at, some_element, AreMappings, ◌≢◌, arith, ◌+◌, ◌∷◌, ◌++◌, AllByRecursion, all_join, IsMadeFrom, AreApart, AreWrittenApart, AreWrittenOnce}
-use Rattle.gix_refspec_plan.proofs.{Common.WritesOnce, lemmas.plan.JudgeLemmas.mappings_of, lemmas.plan.JudgeLemmas.tracked_mappings}
+use Rattle.gix_refspec_plan.proofs.Common.{All-from_recursion, Contains-append_cases, Contains-append_left, Contains-append_right, Contains-get_or, recursion_from_All, slice_get_read, Origin, Verdict, InvalidSide}
+use Rattle.gix_refspec_plan.proofs.Common.{Ref, HasPair, IsSamePair, Mapped, IsValidSource, Asked, CanBeWritten, HasOrigin, HasSecondVerdict, HasVerdict, IsContested, IsPlan, IsPlanned, IsPlannedBesides, IsSound}
+use Rattle.gix_refspec_plan.proofs.Common.{IsTakenOver, IsUnwritableAt, Planned, Wish, ConflictsExactly, DoConflict, All-contains, Written, InConflict, Any-HasPair, IsOfPair, some_at, some_element, AreMappings}
+use Rattle.gix_refspec_plan.proofs.{Common.{◌≢◌, arith, ◌+◌, ◌∷◌, ◌++◌, AllByRecursion, all_join, IsMadeFrom, AreApart, AreWrittenApart, AreWrittenOnce, WritesOnce}, lemmas.plan.JudgeLemmas.mappings_of}
+use Rattle.gix_refspec_plan.proofs.lemmas.plan.{JudgeLemmas.tracked_mappings, MadeLemmas.{made_from, nothing_in, made_has, there}}
 use Rattle.gix_refspec.specs.declared.match_group.ref_names.InvalidSide.TheVariants as invalid
-use Rattle.gix_refspec_plan.proofs.lemmas.plan.MadeLemmas.{made_from, nothing_in, made_has, there}
 
 pub unsound : (side : InvalidSide) (m : Mapped) → IsUnwritableAt side m → ¬ (IsSound m)
 unsound side m is sound = grind arith

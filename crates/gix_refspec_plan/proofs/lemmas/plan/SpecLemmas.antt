@@ -1,11 +1,11 @@
 -- The specs and the merged refs that are asked for, the items that are taken, and the origins of the specs whose source no ref has.
-use Rattle.gix_refspec_plan.proofs.Common.{◌≡◌, ◌≢◌, ◌⊎◌, inl, inr, ◌==◌, Bool, true, false, ℕ, ◌+◌, ◌<◌, List, [], ◌∷◌, ◌++◌, map, take, get_or, length, refl, sym, ap, ◌∙◌, append_assoc, arith}
-use Rattle.gix_refspec_plan.proofs.Common.{false≢true, map-append, BStr, bstr_bytes, NameRef, Mapped, name, start_of, AreNames, DeclaredAsked, Origin, Reading, Ref, reading_of, AreAsked, AreConfigured}
-use Rattle.gix_refspec_plan.proofs.Common.{AreThose, Asked, Wish, tags_asked, asked_of, map_next, Given, ◌↔◌, Contains, get_or-map, length-map, fetched_alone, IsFlagged, IsRefName, Covers, FlagCovered}
-use Rattle.gix_refspec_plan.proofs.Common.{Merge, suc, Option, None, Some, option_to_list, subst, zero-add, AllByRecursion, get_or_default, length-take-le, take_more, All-from_recursion, RefSpecRef}
-use Rattle.gix_refspec_plan.proofs.Common.{IsMadeFrom, MakesOf, AreMissing, LacksSource, made_next, AreLacking, MayBeMissing, ◌-◌, ◌≤◌, set, replicate, cases_eq, append-nil, get_or-replicate}
-use Rattle.gix_refspec_plan.proofs.Common.{get_or-set_other, get_or-set_same, length-replicate, length-set, map_more, take_all, Contains-append_left, Contains-push, Contains-push_cases, Item, Mapping}
-use Rattle.gix_refspec_plan.proofs.Common.{mapped_of, ref_of, made_more, IsSound, IsTakenAt, FlagsTaken, rules, nil_from_length}
+use Rattle.gix_refspec_plan.proofs.Common.{◌≡◌, ◌≢◌, ◌⊎◌, inl, inr, ◌==◌, Bool, true, false, ℕ, ◌+◌, ◌<◌, List, [], ◌∷◌, ◌++◌, map, take, get_or, length, refl, sym, ap, ◌∙◌, append_assoc, arith, false≢true}
+use Rattle.gix_refspec_plan.proofs.Common.{map-append, BStr, bstr_bytes, NameRef, Mapped, name, start_of, AreNames, DeclaredAsked, Origin, Reading, Ref, reading_of, AreAsked, AreConfigured, AreThose, Asked, Wish}
+use Rattle.gix_refspec_plan.proofs.Common.{tags_asked, asked_of, map_next, Given, ◌↔◌, Contains, get_or-map, length-map, fetched_alone, IsFlagged, IsRefName, Covers, FlagCovered, Merge, suc, Option, None, Some}
+use Rattle.gix_refspec_plan.proofs.Common.{option_to_list, subst, zero-add, AllByRecursion, get_or_default, length-take-le, take_more, All-from_recursion, RefSpecRef, IsMadeFrom, MakesOf, AreMissing, LacksSource}
+use Rattle.gix_refspec_plan.proofs.Common.{made_next, AreLacking, MayBeMissing, ◌-◌, ◌≤◌, set, replicate, cases_eq, append-nil, get_or-replicate, get_or-set_other, get_or-set_same, length-replicate, length-set}
+use Rattle.gix_refspec_plan.proofs.Common.{map_more, take_all, Contains-append_left, Contains-push, Contains-push_cases, Item, Mapping, mapped_of, ref_of, made_more, IsSound, IsTakenAt, FlagsTaken, rules}
+use Rattle.gix_refspec_plan.proofs.Common.{nil_from_length}
 use Rattle.gix_refspec_match.specs.declared.types.SourceRef.{SourceRef}
 use Rattle.gix_refspec_match.specs.declared.types.SourceRef.TheVariants as source_ref
 

@@ -1,17 +1,14 @@
 -- What a fetch writes, and what could be written from an object or from a ref of the remote.
-use Rattle.gix_refspec_plan.proofs.Common.{◌≡◌, ◌⊎◌, inl, inr, ℕ, List, [], ◌∷◌, ◌++◌, ◌≢◌, MatchOption, true, Option, None, Some, length, codes, drop, nat_eq, refl, sym, ap, ◌∙◌, subst, arith}
-use Rattle.gix_refspec_plan.proofs.Common.{AllByRecursion, Any, Contains, starts_with, starts_is, star, BeginsWith, Lacks, HasOneStar, HasStar, Reading, IsAccepted, IsPositive, SideKind, pattern, full_name}
-use Rattle.gix_refspec_plan.proofs.Common.{object, partial, HasKind, filled, written_name_of, Ref, HasName, Matches, MatchesAs, IsFirstCandidate, Takes, all_join, Lacks-here, Lacks-ContainsText, Source}
-use Rattle.gix_refspec_plan.proofs.Common.{name, id, Mapped, HasPair, IsExcluded, IsSourceExcluded, IsFilled, matches_as, one_forward, one_kind, IsCompleted, CanWriteFrom, CanWriteObject, IsFetched}
-use Rattle.gix_refspec_plan.proofs.Common.{IsSourceOf, IsWritableFromObject, ref_named, AreMappedBy, HasDestination, sides_agree, All-contains, All-from_recursion, CanWrite, HasPair-Any, IsOfPair, some_at}
-use Rattle.gix_refspec_plan.proofs.Common.{some_of, rules, Bool, false, if◌then◌else◌, ◌||◌}
-use Rattle.std.proofs.lemmas.Bool.Decides.{Decides-eqb}
-use Rattle.gix_refspec_text.proofs.lemmas.hits.CandidateLemmas.{first_candidate, some_first}
-use Rattle.gix_refspec.specs.Laws.Matching.{IsPaired, MakesForward, PairsId}
-use Rattle.gix_refspec.proofs.lemmas.keep.PairMadeLemmas.{kept_exactly}
-use Rattle.gix_refspec_text.proofs.facts.ManualFacts.{Lacks-tested}
-use Rattle.gix_refspec_plan.proofs.lemmas.plan.{OnePlanLemmas.completed_once, OnePlanLemmas.reading_once, OpposedLemmas.pair_in}
+use Rattle.gix_refspec_plan.proofs.Common.{◌≡◌, ◌⊎◌, inl, inr, ℕ, List, [], ◌∷◌, ◌++◌, ◌≢◌, MatchOption, true, Option, None, Some, length, codes, drop, nat_eq, refl, sym, ap, ◌∙◌, subst, arith, AllByRecursion, Any}
+use Rattle.gix_refspec_plan.proofs.Common.{Contains, starts_with, starts_is, star, BeginsWith, Lacks, HasOneStar, HasStar, Reading, IsAccepted, IsPositive, SideKind, pattern, full_name, object, partial, HasKind}
+use Rattle.gix_refspec_plan.proofs.Common.{filled, written_name_of, Ref, HasName, Matches, MatchesAs, IsFirstCandidate, Takes, all_join, Lacks-here, Lacks-ContainsText, Source, name, id, Mapped, HasPair}
+use Rattle.gix_refspec_plan.proofs.Common.{IsExcluded, IsSourceExcluded, IsFilled, matches_as, one_forward, one_kind, IsCompleted, CanWriteFrom, CanWriteObject, IsFetched, IsSourceOf, IsWritableFromObject}
+use Rattle.gix_refspec_plan.proofs.Common.{ref_named, AreMappedBy, HasDestination, sides_agree, All-contains, All-from_recursion, CanWrite, HasPair-Any, IsOfPair, some_at, some_of, rules, Bool, false}
+use Rattle.gix_refspec_plan.proofs.{Common.{if◌then◌else◌, ◌||◌}, lemmas.plan.{OnePlanLemmas.{completed_once, reading_once}, OpposedLemmas.pair_in}}
 use Rattle.gix_refspec_plan.proofs.lemmas.stale.ZipLemmas.{completed_excluded, zip_first, zip_partner}
+use Rattle.std.proofs.lemmas.Bool.Decides.{Decides-eqb}
+use Rattle.gix_refspec_text.proofs.{lemmas.hits.CandidateLemmas.{first_candidate, some_first}, facts.ManualFacts.Lacks-tested}
+use Rattle.gix_refspec.{specs.Laws.Matching.{IsPaired, MakesForward, PairsId}, proofs.lemmas.keep.PairMadeLemmas.kept_exactly}
 
 pub contained_pair : (l : List Mapped) (m : Mapped) → Contains l m → HasPair l m
 contained_pair l m (k, below, is) = HasPair-Any l m (some_of (IsOfPair m) l (k, m, below, is, record { source = refl; destination = refl }))

@@ -1,16 +1,13 @@
 -- What specs say of a local ref, by the names that they write and by their patterns, and what one more of them writes.
-use Rattle.gix_refspec_plan.proofs.Common.{◌≡◌, ◌⊎◌, inl, inr, ℕ, ◌+◌, ◌<◌, List, [], ◌++◌, Option, None, Some, codes, get_or, length, take, refl, sym, ap, ◌∙◌, subst, Bor, AllByRecursion, Contains}
-use Rattle.gix_refspec_plan.proofs.Common.{get_or_default, take_more, Pattern, star, BeginsWith, Lacks, HasStar, IsSplit, Reading, with_destination, IsAccepted, IsPositive, SideKind, pattern, full_name}
-use Rattle.gix_refspec_plan.proofs.Common.{object, partial, HasKind, Fits, written_name_of, Matches, MatchesAs, split_once, Lacks-here, Lacks-ContainsText, Exclusions, IsMadeFrom, IsExcluded}
-use Rattle.gix_refspec_plan.proofs.Common.{AreExclusionsAt, AreExclusionsOf, ExcludeName, same_side, CanWrite, IsSourceOf, IsWritable, ref_named, HasNameState, HasParts, HasPatternState, HasState}
-use Rattle.gix_refspec_plan.proofs.Common.{IsPatternSource, WritesName, WritesNameFrom, WritesPattern, sides_agree, Excluded, Included, Unwritable, rules, matches_as, arith, Bool, cond, ◌∷◌, MatchOption}
-use Rattle.gix_refspec_plan.proofs.Common.{append-nil, bytes_eq, lookup, option_flatten, option_or, bytes_decides, false≢true, nil_from_length, BStr, bstr_bytes, Contains-append_left, Contains-push}
-use Rattle.gix_refspec_plan.proofs.Common.{ExcludeNameAt, made_next, AddsName, AddsPattern, AreWriters, state_for, option_to_list, true, false}
-use Rattle.gix_refspec_plan.specs.declared.stale.State.{State}
-use Rattle.gix_refspec_plan.proofs.lemmas.stale.FetchedLemmas.{accepted_in, completed_destination, no_object_named, written_below, written_lacks}
-use Rattle.gix_refspec_plan.proofs.lemmas.plan.MadeLemmas.{nothing_in, push_all, made_has, made_from}
+use Rattle.gix_refspec_plan.proofs.Common.{◌≡◌, ◌⊎◌, inl, inr, ℕ, ◌+◌, ◌<◌, List, [], ◌++◌, Option, None, Some, codes, get_or, length, take, refl, sym, ap, ◌∙◌, subst, Bor, AllByRecursion, Contains, get_or_default}
+use Rattle.gix_refspec_plan.proofs.Common.{take_more, Pattern, star, BeginsWith, Lacks, HasStar, IsSplit, Reading, with_destination, IsAccepted, IsPositive, SideKind, pattern, full_name, object, partial, HasKind}
+use Rattle.gix_refspec_plan.proofs.Common.{Fits, written_name_of, Matches, MatchesAs, split_once, Lacks-here, Lacks-ContainsText, Exclusions, IsMadeFrom, IsExcluded, AreExclusionsAt, AreExclusionsOf, ExcludeName}
+use Rattle.gix_refspec_plan.proofs.Common.{same_side, CanWrite, IsSourceOf, IsWritable, ref_named, HasNameState, HasParts, HasPatternState, HasState, IsPatternSource, WritesName, WritesNameFrom, WritesPattern}
+use Rattle.gix_refspec_plan.proofs.Common.{sides_agree, Excluded, Included, Unwritable, rules, matches_as, arith, Bool, cond, ◌∷◌, MatchOption, append-nil, bytes_eq, lookup, option_flatten, option_or}
+use Rattle.gix_refspec_plan.proofs.Common.{bytes_decides, false≢true, nil_from_length, BStr, bstr_bytes, Contains-append_left, Contains-push, ExcludeNameAt, made_next, AddsName, AddsPattern, AreWriters, state_for}
+use Rattle.gix_refspec_plan.{proofs.Common.{option_to_list, true, false}, specs.declared.stale.{State.State, Writers.Writers}, proofs.lemmas.plan.MadeLemmas.{nothing_in, push_all, made_has, made_from}}
+use Rattle.gix_refspec_plan.proofs.lemmas.stale.{FetchedLemmas.{accepted_in, completed_destination, no_object_named, written_below, written_lacks}, SourceLemmas.ExcludesNamed}
 use Rattle.std.specs.HashMap.{hash_map_len}
-use Rattle.gix_refspec_plan.{specs.declared.stale.Writers.Writers, proofs.lemmas.stale.SourceLemmas.ExcludesNamed}
 
 abbrev slice : List ℕ → Bor (List ℕ)
 slice x = record { ref_ptr = (0, 0); now = x }

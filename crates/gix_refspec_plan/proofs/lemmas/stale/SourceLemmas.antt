@@ -1,9 +1,9 @@
 -- Sides with a star and without one, the refs for which a source may stand, and one of them that is excluded.
-use Rattle.gix_refspec_plan.proofs.Common.{◌≡◌, ℕ, true, zero, suc, ◌<◌, List, ◌∷◌, ◌++◌, Option, None, Some, MatchOption, All, drop, drop-cons, get_or, length, map, take, take-append-drop, refl, sym, ap}
-use Rattle.gix_refspec_plan.proofs.Common.{◌∙◌, subst, arith, Bor, Contains, is_some, false≢true, get_or-map, length-map, Contains-append_right, BString, bstring_bytes, star, Lacks, HasSeveralStars}
-use Rattle.gix_refspec_plan.proofs.Common.{IsSplit, Reading, SideKind, full_name, partial, HasKind, IsCandidate, Fits, candidates, Matches, MatchesAs, lacks_no_pattern, one_word, Lacks-here}
-use Rattle.gix_refspec_plan.proofs.Common.{Lacks-from_absent, Exclusions, ExcludeName, ExcludeNameAt, matches_as, same_side, Pattern, ref_named, HasParts, HasPatternState, IsNamedBy, IsPatternSource}
-use Rattle.gix_refspec_plan.proofs.Common.{WritesName, WritesPattern, Included, All-contains, All-map, same_Some}
+use Rattle.gix_refspec_plan.proofs.Common.{◌≡◌, ℕ, true, zero, suc, ◌<◌, List, ◌∷◌, ◌++◌, Option, None, Some, MatchOption, All, drop, drop-cons, get_or, length, map, take, take-append-drop, refl, sym, ap, ◌∙◌}
+use Rattle.gix_refspec_plan.proofs.Common.{subst, arith, Bor, Contains, is_some, false≢true, get_or-map, length-map, Contains-append_right, BString, bstring_bytes, star, Lacks, HasSeveralStars, IsSplit, Reading}
+use Rattle.gix_refspec_plan.proofs.Common.{SideKind, full_name, partial, HasKind, IsCandidate, Fits, candidates, Matches, MatchesAs, lacks_no_pattern, one_word, Lacks-here, Lacks-from_absent, Exclusions}
+use Rattle.gix_refspec_plan.proofs.Common.{ExcludeName, ExcludeNameAt, matches_as, same_side, Pattern, ref_named, HasParts, HasPatternState, IsNamedBy, IsPatternSource, WritesName, WritesPattern, Included}
+use Rattle.gix_refspec_plan.proofs.Common.{All-contains, All-map, same_Some}
 
 -- what splitting a side at its first star says of it
 abbrev IsSplitAt : List ℕ → Option (Bor (List ℕ) × Bor (List ℕ)) → Type 0

@@ -1,10 +1,9 @@
 -- Which local refs are stale or kept, by what a fetch writes and what the specs say of a name.
-use Rattle.gix_refspec_plan.proofs.Common.{◌≡◌, ◌⊎◌, inl, inr, ℕ, ◌+◌, ◌<◌, ◌++◌, ◌∷◌, zero, suc, ◌↔◌, Bool, List, [], Option, None, Some, MatchOption, length, map, take, get_or, ap, ◌∙◌, arith}
-use Rattle.gix_refspec_plan.proofs.Common.{AllByRecursion, Contains, get_or-map, length-map, take-map, bstr_bytes, RefSpecRef, reading_of, Item, IsMadeFrom, ref_of, IsFlagged, found_of, Reading, IsAccepted}
-use Rattle.gix_refspec_plan.proofs.Common.{Ref, HasName, Mapped, Found, IsKeptBy, IsStale, IsWritable, AreMappedBy, FlagWritten, HasDestination, HasState, ref_names, Excluded, Included, rules}
-use Rattle.gix_refspec_plan.{proofs.Common.get_or_default, specs.declared.stale.Stale.Stale}
-use Rattle.gix_refspec_plan.proofs.lemmas.plan.MadeLemmas.{made_one, made_none}
-use Rattle.gix_refspec_plan.proofs.lemmas.stale.FetchedLemmas.{fetched_written, object_written, present_written, written_fetched, written_from}
+use Rattle.gix_refspec_plan.proofs.Common.{◌≡◌, ◌⊎◌, inl, inr, ℕ, ◌+◌, ◌<◌, ◌++◌, ◌∷◌, zero, suc, ◌↔◌, Bool, List, [], Option, None, Some, MatchOption, length, map, take, get_or, ap, ◌∙◌, arith, AllByRecursion}
+use Rattle.gix_refspec_plan.proofs.Common.{Contains, get_or-map, length-map, take-map, bstr_bytes, RefSpecRef, reading_of, Item, IsMadeFrom, ref_of, IsFlagged, found_of, Reading, IsAccepted, Ref, HasName, Mapped}
+use Rattle.gix_refspec_plan.proofs.Common.{Found, IsKeptBy, IsStale, IsWritable, AreMappedBy, FlagWritten, HasDestination, HasState, ref_names, Excluded, Included, rules, get_or_default}
+use Rattle.gix_refspec_plan.{specs.declared.stale.Stale.Stale, proofs.lemmas.{plan.MadeLemmas.{made_one, made_none}, stale.FetchedLemmas.{fetched_written, object_written, present_written, written_fetched}}}
+use Rattle.gix_refspec_plan.proofs.lemmas.stale.FetchedLemmas.{written_from}
 
 pub named_among : (refs : List Ref) (n : List ℕ) → HasName refs n → Contains (ref_names refs) n
 named_among [] n none = absurd none

@@ -1,6 +1,6 @@
 -- The given specs, or those without any, and behind them all tags.
-use Rattle.gix_refspec_plan.proofs.Common.{map, inl, inr, true, false, refl, sym, append-nil, ref_of, AllTags, asked_of, wish_of, reading_of}
-use Rattle.gix_refspec_plan.proofs.lemmas.plan.SpecLemmas.{AreBefore, none_mapped, one_more, some_mapped, with_tags}
+use Rattle.gix_refspec_plan.proofs.{Common.{map, inl, inr, true, false, refl, sym, append-nil, ref_of, AllTags, asked_of, wish_of, reading_of}, lemmas.plan.SpecLemmas.{AreBefore, none_mapped, one_more}}
+use Rattle.gix_refspec_plan.proofs.lemmas.plan.SpecLemmas.{some_mapped, with_tags}
 use Rattle.gix_refspec_plan.proofs.specs.asked_specs.Goals as goal
 
 pub returns : goal.returns

@@ -1,6 +1,6 @@
 -- A merged ref that isn't flagged is asked for, if it is a ref name.
-use Rattle.gix_refspec_plan.proofs.Common.{[], sym, ◌∙◌, inl, inr, subst, false≢true, BStr, IsRefName, name_of_ref, bstr_bytes, asked_of, slice_index_or, get_or_default, Merge}
-use Rattle.gix_refspec_plan.proofs.lemmas.plan.{SpecLemmas.merge_flag, MadeLemmas.made_one, MadeLemmas.made_none}
+use Rattle.gix_refspec_plan.proofs.{Common.{[], sym, ◌∙◌, inl, inr, subst, false≢true, BStr, IsRefName, name_of_ref, bstr_bytes, asked_of, slice_index_or, get_or_default, Merge}, lemmas.plan.SpecLemmas.merge_flag}
+use Rattle.gix_refspec_plan.proofs.lemmas.plan.MadeLemmas.{made_one, made_none}
 use Rattle.gix_refspec_plan.proofs.specs.merge_specs.Goals as goal
 
 pub fetch_of-requires-clause-name : goal.fetch_of-requires-clause-name

@@ -1,5 +1,4 @@
-use Rattle.gix_refspec_plan.proofs.Common.{mapped_of, bstr_bytes, start_of, ap, name, sym, ◌∙◌, false≢true}
-use Rattle.gix_refspec_plan.proofs.lemmas.plan.{SpecLemmas.not_named, MadeLemmas.made_one, MadeLemmas.made_none}
+use Rattle.gix_refspec_plan.proofs.{Common.{mapped_of, bstr_bytes, start_of, ap, name, sym, ◌∙◌, false≢true}, lemmas.plan.{SpecLemmas.not_named, MadeLemmas.{made_one, made_none}}}
 use Rattle.gix_refspec_plan.proofs.specs.sources_of.Goals as goal
 
 pub loop-mapping-preserved : goal.loop-mapping-preserved

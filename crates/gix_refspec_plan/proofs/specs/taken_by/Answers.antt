@@ -1,5 +1,4 @@
-use Rattle.gix_refspec_plan.proofs.Common.{map, sym, ◌∙◌, take_all, arith, false≢true, mapped_of, some_element, rules}
-use Rattle.gix_refspec_plan.proofs.lemmas.plan.SpecLemmas.{picked_here, picked_same}
+use Rattle.gix_refspec_plan.proofs.{Common.{map, sym, ◌∙◌, take_all, arith, false≢true, mapped_of, some_element, rules}, lemmas.plan.SpecLemmas.{picked_here, picked_same}}
 use Rattle.gix_refspec_plan.proofs.specs.taken_by.Goals as goal
 
 pub loop-index-preserved : goal.loop-index-preserved

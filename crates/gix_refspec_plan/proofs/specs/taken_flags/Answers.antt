@@ -1,5 +1,4 @@
-use Rattle.gix_refspec_plan.proofs.Common.{sym, ◌∙◌, arith, false≢true}
-use Rattle.gix_refspec_plan.proofs.lemmas.plan.SpecLemmas.{none_taken, some_apart, taken_here, taken_same}
+use Rattle.gix_refspec_plan.proofs.{Common.{sym, ◌∙◌, arith, false≢true}, lemmas.plan.SpecLemmas.{none_taken, some_apart, taken_here, taken_same}}
 use Rattle.gix_refspec_plan.proofs.specs.taken_flags.Goals as goal
 
 pub loop-mapping-init : goal.loop-mapping-init

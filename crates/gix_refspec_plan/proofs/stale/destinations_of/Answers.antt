@@ -1,5 +1,4 @@
-use Rattle.gix_refspec_plan.proofs.Common.{mapped_of, bstr_bytes, option_map, name_bytes, Some, ap, ◌∙◌, sym}
-use Rattle.gix_refspec_plan.proofs.lemmas.plan.{CoveredLemmas.no_side, MadeLemmas.made_one, MadeLemmas.made_none}
+use Rattle.gix_refspec_plan.proofs.{Common.{mapped_of, bstr_bytes, option_map, name_bytes, Some, ap, ◌∙◌, sym}, lemmas.plan.{CoveredLemmas.no_side, MadeLemmas.{made_one, made_none}}}
 use Rattle.gix_refspec_plan.proofs.stale.destinations_of.Goals as goal
 
 pub loop-mapping-preserved : goal.loop-mapping-preserved

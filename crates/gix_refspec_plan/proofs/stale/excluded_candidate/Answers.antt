@@ -1,6 +1,5 @@
 -- The candidates are tried in order.
-use Rattle.gix_refspec_plan.proofs.Common.{◌∙◌, ap, map, take_all, All-more, bstring_bytes, ExcludeName}
-use Rattle.gix_refspec_plan.proofs.lemmas.stale.SourceLemmas.{none_contained, text_contained}
+use Rattle.gix_refspec_plan.proofs.{Common.{◌∙◌, ap, map, take_all, All-more, bstring_bytes, ExcludeName}, lemmas.stale.SourceLemmas.{none_contained, text_contained}}
 use Rattle.gix_refspec_plan.proofs.stale.excluded_candidate.Goals as goal
 
 pub returns-in-Some : goal.returns-in-Some

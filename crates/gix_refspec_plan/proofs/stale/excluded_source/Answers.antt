@@ -1,7 +1,6 @@
 -- What the source may stand for is told by its kind.
-use Rattle.gix_refspec_plan.proofs.Common.{inl, inr, Some, option_map, sym, ap, ◌∙◌, IfOk-weaker, bstr_bytes, reading_of, accepted_few, pattern, None, object}
-use Rattle.gix_refspec_plan.proofs.lemmas.stale.SourceLemmas.{full_excluded, named_as, partial_excluded}
-use Rattle.gix_refspec_plan.proofs.lemmas.stale.FetchedLemmas.{no_object_named}
+use Rattle.gix_refspec_plan.proofs.{Common.{inl, inr, Some, option_map, sym, ap, ◌∙◌, IfOk-weaker, bstr_bytes, reading_of, accepted_few, pattern, None, object}, lemmas.stale.SourceLemmas.{full_excluded, named_as}}
+use Rattle.gix_refspec_plan.proofs.lemmas.stale.{SourceLemmas.partial_excluded, FetchedLemmas.no_object_named}
 use Rattle.gix_refspec_plan.proofs.stale.excluded_source.Goals as goal
 
 pub kind_of-requires : goal.kind_of-requires

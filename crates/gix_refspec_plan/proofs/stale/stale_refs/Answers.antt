@@ -1,5 +1,5 @@
-use Rattle.gix_refspec_plan.proofs.Common.{inl, inr, map, refl, false≢true, IfOk-at_ok, reading_of, mapped_of, ref_of, some_element}
-use Rattle.gix_refspec_plan.proofs.lemmas.stale.StateLemmas.{all_accepted, excluded_kept, included_stale, tell_next, tell_none}
+use Rattle.gix_refspec_plan.proofs.{Common.{inl, inr, map, refl, false≢true, IfOk-at_ok, reading_of, mapped_of, ref_of, some_element}, lemmas.stale.StateLemmas.{all_accepted, excluded_kept, included_stale}}
+use Rattle.gix_refspec_plan.proofs.lemmas.stale.StateLemmas.{tell_next, tell_none}
 use Rattle.gix_refspec_plan.proofs.stale.stale_refs.Goals as goal
 
 pub loop-item_index-preserved-then-is_flagged : goal.loop-item_index-preserved-then-is_flagged

@@ -1,7 +1,6 @@
 -- Each mapping has an update, with the verdict at its place.
-use Rattle.gix_refspec_plan.proofs.Common.{◌≡◌, length, map, arith, rules, mapped_of, asked_of, length-map}
+use Rattle.gix_refspec_plan.proofs.{Common.{◌≡◌, length, map, arith, rules, mapped_of, asked_of, length-map}, lemmas.plan.{JudgeLemmas.{first_more, origin_at, spec_inside}, NameLemmas.zip_long}}
 use Rattle.std.proofs.lemmas.Iterator.{Adapters.YieldsList-from_vec, Consumers.YieldsList-turn}
-use Rattle.gix_refspec_plan.proofs.lemmas.plan.{JudgeLemmas.first_more, JudgeLemmas.origin_at, JudgeLemmas.spec_inside, NameLemmas.zip_long}
 use Rattle.gix_refspec_plan.proofs.verdicts.first_updates.Goals as goal
 
 pub bounds-asked-mapping : goal.bounds-asked-mapping

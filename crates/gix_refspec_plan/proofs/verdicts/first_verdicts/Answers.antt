@@ -1,8 +1,6 @@
-use Rattle.gix_refspec_plan.proofs.Common.{[], map, mapped_of}
-use Rattle.gix_refspec_plan.proofs.lemmas.plan.JudgeLemmas.{has_mapping, none_counted, verdict_next}
-use Rattle.gix_refspec_plan.proofs.verdicts.first_verdicts.Goals as goal
+use Rattle.gix_refspec_plan.proofs.{Common.{[], map, mapped_of}, lemmas.plan.JudgeLemmas.{has_mapping, none_counted, verdict_next}}
 
-pub loop-mapping-preserved : goal.loop-mapping-preserved
+pub loop-mapping-preserved : Rattle.gix_refspec_plan.proofs.verdicts.first_verdicts.Goals.loop-mapping-preserved
 loop-mapping-preserved c =
     let ms = c.args.mappings.now in
     let i = c.loop-mapping.mapping-index in

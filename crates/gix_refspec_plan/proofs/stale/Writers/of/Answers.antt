@@ -1,7 +1,6 @@
-use Rattle.gix_refspec_plan.proofs.Common.{option_map, map, refl, sym, take, take_all, arith, bstring_bytes, length-map, reading_of, IsWrittenBy}
+use Rattle.gix_refspec_plan.proofs.{Common.{option_map, map, refl, sym, take, take_all, arith, bstring_bytes, length-map, reading_of, IsWrittenBy}, lemmas.plan.NameLemmas.{zip_long, zip_mapped_at}}
+use Rattle.gix_refspec_plan.proofs.lemmas.stale.{StateLemmas.all_accepted, PatternLemmas.{none_written, writers_next}}
 use Rattle.gix_refspec_text.proofs.lemmas.lists.MapLemmas.{map_next}
-use Rattle.gix_refspec_plan.proofs.lemmas.plan.NameLemmas.{zip_long, zip_mapped_at}
-use Rattle.gix_refspec_plan.proofs.lemmas.stale.{StateLemmas.all_accepted, PatternLemmas.none_written, PatternLemmas.writers_next}
 use Rattle.gix_refspec_plan.proofs.stale.Writers.of.Goals as goal
 
 pub loop-index-init : goal.loop-index-init

@@ -1,5 +1,5 @@
-use Rattle.gix_refspec_plan.proofs.Common.{Some, sym, ap, ◌∙◌, subst, take_all, bstr_bytes, HasNameState}
-use Rattle.gix_refspec_plan.proofs.lemmas.stale.PatternLemmas.{all_among, among_name, among_none, name_excluded, next_excluded, next_fit, next_unfit}
+use Rattle.gix_refspec_plan.proofs.{Common.{Some, sym, ap, ◌∙◌, subst, take_all, bstr_bytes, HasNameState}, lemmas.stale.PatternLemmas.{all_among, among_name, among_none, name_excluded, next_excluded, next_fit}}
+use Rattle.gix_refspec_plan.proofs.lemmas.stale.PatternLemmas.{next_unfit}
 use Rattle.gix_refspec_plan.proofs.stale.Writers.state_of.Goals as goal
 
 pub returns-in-Some-Some : goal.returns-in-Some-Some
