@@ -1,7 +1,7 @@
 -- Examples of the definitions of the laws on fetches, and what a caller concludes from these laws.
 use Rattle.gix_refspec_plan.proofs.Common.{◌≡◌, ◌⊎◌, inl, inr, false, List, [], ◌∷◌, codes, refl, arith, head, Reading, fetched_alone, Ref, IsCarriedOut, IsPlan, Planned, Wish, AreWrittenOnce, CarriedOutExactly}
-use Rattle.gix_refspec_plan.proofs.{Common.{ConflictsExactly, DoConflict, IsRequired, OnePlan, WritesOnce, Origin, Verdict, Given, Written, InConflict, Overruled}, facts.ExampleLemmas.{every, bx, from_a}}
-use Rattle.gix_refspec_plan.proofs.facts.ExampleLemmas.{main_lacking, one_in, short, update}
+use Rattle.gix_refspec_plan.proofs.{Common.{ConflictsExactly, DoConflict, IsRequired, OnePlan, WritesOnce, Origin, Verdict, Given, Written, InConflict, Overruled}, facts.ExampleLemmas.{every, main_lacking, one_in}}
+use Rattle.gix_refspec_plan.proofs.facts.{ExampleLemmas.{short, update}, PlanFacts.{bx, from_a}}
 
 abbrev from_b : Verdict → Planned
 from_b v = update bx 1 (Given 1) v
@@ -9,13 +9,10 @@ from_b v = update bx 1 (Given 1) v
 opposed : {v w : Verdict} → (v ≡ Written) ⊎ (v ≡ InConflict) → (w ≡ Written) ⊎ (w ≡ InConflict) → DoConflict (from_a v) (from_b w)
 opposed one other = record { one = one; other = other; destination = _; one_to = refl; other_to = refl; differ = λ same. grind arith }
 
--- only what is written counts, and what has a destination
+-- only what is written counts, and what has a destination; two sources conflict, but not a source with itself, nor with what is overruled
 pub once : AreWrittenOnce (from_a Written ∷ from_b Overruled ∷ []) × ¬ (AreWrittenOnce (from_a Written ∷ from_b Written ∷ []))
-once = ((((λ written other d to also. cc (other)), tt), (tt, tt)), λ apart. apart.0.0 refl refl (codes "refs/x") refl refl)
-
--- two sources conflict, but not a source with itself, nor with what is overruled
-pub conflict : DoConflict (from_a InConflict) (from_b Written) × ¬ (DoConflict (from_a Written) (from_a Written)) × ¬ (DoConflict (from_a Written) (from_b Overruled))
-conflict = (opposed (inr refl) (inl refl), (λ both. both.differ refl), λ both. grind arith)
+    × DoConflict (from_a InConflict) (from_b Written) × ¬ (DoConflict (from_a Written) (from_a Written)) × ¬ (DoConflict (from_a Written) (from_b Overruled))
+once = ((((λ written other d to also. cc (other)), tt), (tt, tt)), (λ apart. apart.0.0 refl refl (codes "refs/x") refl refl), opposed (inr refl) (inl refl), (λ both. both.differ refl), λ both. grind arith)
 
 -- by the laws a wish that writes nothing doesn't write a ref too; no plan writes a ref twice; no update is in conflict alone, and of
 -- two sources with one destination none is written; nor does a conflict let anything be written

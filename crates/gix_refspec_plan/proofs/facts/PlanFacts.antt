@@ -1,15 +1,24 @@
 -- Examples of the definitions on plans: what Git completes and leaves out, what is asked for and missing, and the verdicts.
-use Rattle.gix_refspec_plan.proofs.Common.{◌≡◌, inl, ℕ, true, false, List, [], ◌∷◌, None, Some, codes, map, option_map, refl, arith, rules, false≢true, same_Some, bstr_bytes, bstring_bytes, Normal, Forced, Reading}
-use Rattle.gix_refspec_plan.proofs.Common.{all_tags, fetched, fetched_alone, with_destination, partial, Matches, reading_of, Mapped, AreMissing, start_of, AreAsked, AreConfigured, AreLacking, AreMerges, AreThose}
-use Rattle.gix_refspec_plan.proofs.Common.{Asked, CanBeWritten, HasSecondVerdict, HasVerdict, IsCarriedOut, IsCompleted, IsContested, IsNegativeReading, IsPlannedBesides, IsPositiveReading, IsSound, IsTakenOver}
-use Rattle.gix_refspec_plan.proofs.Common.{IsUnwritableAt, MayBeMissing, Planned, tags_asked, HasOrigin, asked_of, planned_of, wish_of, DeclaredAsked, Update, Written, LeftOut, InConflict, Overruled}
-use Rattle.gix_refspec_plan.proofs.{Common.{Contains-push_cases, AllTags, Configured, Default, Given, Merge}, facts.ExampleLemmas.{alone, ax, bx, from_a, below, every, listed, merged, main_candidate, main_lacking}}
-use Rattle.gix_refspec_plan.proofs.facts.ExampleLemmas.{main_ref, mapping, no_dev, no_ref_names, one_in, one_merge, ref_names, whole_pattern, short, short_kind, sound, one, update}
-use Rattle.gix_refspec_plan.{proofs.lemmas.plan.{CarriedLemmas.tags_lack_nothing, OnePlanLemmas.reading_once}, specs.{declared.Wish.Wish as DeclaredWish, Matching.Plan.IsTakenAt}}
+use Rattle.gix_refspec_plan.proofs.Common.{Verdict, IsSound, ◌≡◌, inl, ℕ, true, false, List, [], ◌∷◌, None, Some, codes, map, option_map, refl, arith, rules, false≢true, same_Some, bstr_bytes, bstring_bytes}
+use Rattle.gix_refspec_plan.proofs.Common.{Normal, Forced, Reading, all_tags, fetched, fetched_alone, with_destination, partial, Matches, reading_of, Mapped, AreMissing, start_of, AreAsked, AreConfigured}
+use Rattle.gix_refspec_plan.proofs.Common.{AreLacking, AreMerges, AreThose, Asked, CanBeWritten, HasSecondVerdict, HasVerdict, IsCarriedOut, IsCompleted, IsContested, IsNegativeReading, IsPlannedBesides}
+use Rattle.gix_refspec_plan.proofs.Common.{IsPositiveReading, IsTakenOver, IsUnwritableAt, MayBeMissing, Planned, tags_asked, HasOrigin, asked_of, planned_of, wish_of, DeclaredAsked, Update, Written, LeftOut}
+use Rattle.gix_refspec_plan.proofs.{Common.{InConflict, Overruled, nothing_made, Contains-push_cases, AllTags, Configured, Default, Given, Merge}, facts.ExampleLemmas.{alone, below, every, listed, merged}}
+use Rattle.gix_refspec_plan.proofs.facts.ExampleLemmas.{main_candidate, main_lacking, main_ref, mapping, no_dev, no_ref_names, one_in, one_merge, ref_names, whole_pattern, short, short_kind, sound, one, update}
+use Rattle.gix_refspec_plan.{proofs.lemmas.plan.{SpecLemmas.Merges, CarriedLemmas.tags_lack_nothing, OnePlanLemmas.reading_once}, specs.{declared.Wish.Wish as DeclaredWish, Matching.Plan.IsTakenAt}}
 use Rattle.gix_refspec.specs.declared.match_group.ref_names.InvalidSide.TheVariants as invalid
 
 abbrev to : List ℕ → ℕ → List ℕ → Mapped
 to d item s = mapping item s (Some d) 0
+
+abbrev pub ax : Mapped
+ax = to (codes "refs/x") 0 (codes "refs/heads/a")
+
+abbrev pub bx : Mapped
+bx = to (codes "refs/x") 1 (codes "refs/heads/b")
+
+abbrev pub from_a : Verdict → Planned
+from_a v = update ax 0 (Given 0) v
 
 abbrev from_bad : Mapped
 from_bad = to (codes "refs/x") 2 (codes "refs/../x")
@@ -18,14 +27,11 @@ from_bad = to (codes "refs/x") 2 (codes "refs/../x")
 pub writable : CanBeWritten None × CanBeWritten (Some (codes "refs/heads/main")) × ¬ (CanBeWritten (Some (codes "HEAD"))) × ¬ (CanBeWritten (Some (codes "refs/../x")))
 writable = (tt, below _ refl, (λ can. cc (can.0.here)), λ can. no_ref_names.2 (inl can))
 
-a_sound : IsSound ax
-a_sound = sound _ _ refl refl
-
 -- `HEAD` is a source, but no destination
 pub sides : IsUnwritableAt invalid.Destination (to (codes "HEAD") 0 (codes "HEAD")) × IsUnwritableAt invalid.Source from_bad × IsUnwritableAt invalid.Both (to (codes "HEAD") 2 (codes "refs/../x"))
     × ¬ (IsUnwritableAt invalid.Both (to (codes "HEAD") 0 (codes "HEAD"))) × ¬ (IsUnwritableAt invalid.Destination from_bad)
     × ¬ (IsUnwritableAt invalid.Source (to (codes "HEAD") 2 (codes "refs/../x"))) × ¬ (IsUnwritableAt invalid.Destination ax)
-sides = search (rules, arith, writable, no_ref_names, a_sound)
+sides = let whole : IsSound ax = sound _ _ refl refl in search (rules, arith, writable, no_ref_names, whole)
 
 -- each negative spec and each positive one has its index among all
 pub parts : AreThose IsPositiveReading Given (no_dev ∷ every ∷ []) (listed every (Given 1) ∷ [])
@@ -52,9 +58,9 @@ pub uncovered : AreMerges (codes "refs/heads/main" ∷ codes "main" ∷ codes "r
     × AreMerges (codes "refs/heads/a" ∷ []) (to (codes "HEAD") 0 (codes "refs/heads/a") ∷ []) (merged (codes "refs/heads/a") ∷ [])
 uncovered = (
   (Some _, [], (refl, ref_names.0, (λ covers. grind arith), λ has. grind arith), (None, [], (λ a told. no_ref_names.0 told.1), (None, [], (λ a told. told.3 (0, omega arith, refl)), refl, refl), refl), refl),
-  (None, [], (λ a told. told.2 (ax, (0, omega arith, refl), a_sound, refl)), refl, refl),
-  (λ made. grind (arith, one_in, made.2 _ (refl, a_sound.source, (λ covers. grind (arith, one_in)), λ has. grind arith))),
-  one_merge _ (to (codes "HEAD") 0 (codes "refs/heads/a") ∷ []) a_sound.source (λ o. writable.2 (one o.1 o.2).destination),
+  (None, [], (λ a told. told.2 (ax, (0, omega arith, refl), sound _ _ refl refl, refl)), refl, refl),
+  (λ made. nothing_made (Merges (codes "refs/heads/a" ∷ []) (bx ∷ [])) 0 [] (codes "refs/heads/a") [] _ made (refl, (inl (below (codes "heads/a") refl)), (λ covers. grind (arith, one_in)), λ has. grind arith)),
+  one_merge _ (to (codes "HEAD") 0 (codes "refs/heads/a") ∷ []) (inl (below (codes "heads/a") refl)) (λ o. writable.2 (one o.1 o.2).destination),
 )
 
 -- what a spec of the call maps but leaves out isn't taken
@@ -73,15 +79,10 @@ asked_behind = AreAsked.by_call _ (λ none. cc) (Some _, [], (refl, tt), refl, r
 pub apart : HasVerdict (ax ∷ bx ∷ []) ax InConflict × HasVerdict (ax ∷ []) ax Written × HasVerdict (from_bad ∷ []) ax Written
     × ¬ (HasVerdict (ax ∷ bx ∷ []) ax Written) × ¬ (HasVerdict (ax ∷ []) ax InConflict) × ¬ (HasVerdict (ax ∷ to (codes "refs/y") 1 (codes "refs/heads/b") ∷ []) ax InConflict)
 apart =
-    let by_b : IsContested (ax ∷ bx ∷ []) ax = (bx, (1, omega arith, refl), sound _ _ refl refl, (_, refl, refl), λ same. grind arith) in (
-      (a_sound, by_b),
-      (a_sound, alone ax),
-      (a_sound, (λ o. no_ref_names.2 (one o.1 o.2).source)),
-      (λ is. is.1 by_b),
-      (λ is. alone ax is.1),
-      λ (is, (n, has, s, share, differ)).
-          grind (arith, one_in, Contains-push_cases (ax ∷ []) (to (codes "refs/y") 1 (codes "refs/heads/b")) n has),
-    )
+    let by_b : IsContested (ax ∷ bx ∷ []) ax = (bx, (1, omega arith, refl), sound _ _ refl refl, (_, refl, refl), λ same. grind arith) in
+    let no_bad : ¬ (IsContested (from_bad ∷ []) ax) = λ o. no_ref_names.2 (one o.1 o.2).source in
+    let no_y : ¬ (IsContested (ax ∷ to (codes "refs/y") 1 (codes "refs/heads/b") ∷ []) ax) = λ (n, has, s, share, differ). grind (arith, one_in, Contains-push_cases (ax ∷ []) _ n has) in
+    ((sound _ _ refl refl, by_b), (sound _ _ refl refl, alone ax), (sound _ _ refl refl, no_bad), (λ is. is.1 by_b), (λ is. alone ax is.1), λ is. no_y is.1)
 
 -- an invalid side comes before all other verdicts; what is fetched to the destination of another mapping wins over it, and isn't a
 -- conflict; but a mapping that is left out doesn't win
@@ -89,16 +90,9 @@ pub not_overruled : HasVerdict (bx ∷ []) from_bad (LeftOut invalid.Source) × 
     × HasSecondVerdict (ax ∷ []) (bx ∷ []) bx Overruled × ¬ (HasSecondVerdict (ax ∷ []) (bx ∷ []) bx Written) × ¬ (HasSecondVerdict (ax ∷ []) (ax ∷ bx ∷ []) bx InConflict)
     × HasSecondVerdict (from_bad ∷ []) (bx ∷ []) bx Written × ¬ (HasSecondVerdict (from_bad ∷ []) (bx ∷ []) bx Overruled)
 not_overruled =
-    let by_a : IsTakenOver (ax ∷ []) bx = (ax, (0, omega arith, refl), a_sound, (_, refl, refl)) in (
-      sides.1,
-      (λ is. no_ref_names.2 is.0.source),
-      (λ is. no_ref_names.2 is.0.source),
-      (sound _ _ refl refl, by_a),
-      (λ is. is.1 by_a),
-      (λ is. is.1 by_a),
-      (sound _ _ refl refl, (λ o. no_ref_names.2 (one o.1 o.2).source), alone bx),
-      λ i. no_ref_names.2 (one i.1.1 i.1.2).source,
-    )
+    let by_a : IsTakenOver (ax ∷ []) bx = (ax, (0, omega arith, refl), sound _ _ refl refl, (_, refl, refl)) in
+    let no_bad : ¬ (IsTakenOver (from_bad ∷ []) bx) = λ o. no_ref_names.2 (one o.1 o.2).source in
+    (sides.1, (λ is. no_ref_names.2 is.0.source), (λ is. no_ref_names.2 is.0.source), (sound _ _ refl refl, by_a), (λ is. is.1 by_a), (λ is. is.1 by_a), (sound _ _ refl refl, no_bad, alone bx), λ is. no_bad is.1)
 
 -- without a destination, or where the call makes the pair already, nothing is planned besides
 pub nothing_besides : (specs : List Asked) (indexes : List ℕ) (p : Planned)
@@ -117,15 +111,12 @@ pub lacking : AreMissing (no_dev ∷ short ∷ all_tags ∷ []) [] (1 ∷ []) ×
     × MayBeMissing (Merge 0) × ¬ (MayBeMissing (Given 0)) × ¬ (MayBeMissing (Configured 0)) × ¬ (MayBeMissing Default)
     × AreLacking [] (listed short (Given 0) ∷ merged (codes "refs/heads/main") ∷ tags_asked true) (Given 0 ∷ [])
 lacking =
-    let is : Matches (codes "main") main_ref None = record { kind = partial _; of = short_kind; is = (refl, main_candidate) } in (
-      (None, _, (λ k told. told.1.positive), (Some 1, [], (refl, main_lacking), (None, [], (λ k told. tags_lack_nothing [] told.1), refl, refl), refl), refl),
-      (None, [], (λ k told. told.1.absent main_ref None (0, omega arith, refl) (rw (← same_Some _ _ told.1.is) is)), refl, refl),
-      tt,
-      (λ may. may),
-      (λ may. may),
-      (λ may. may),
-      (Some _, [], (refl, (λ may. may), main_lacking), (None, [], (λ o told. told.1 (rw told.0 tt)), (None, [], (λ o told. tags_lack_nothing [] told.2), refl, refl), refl), refl),
-    )
+    let is : Matches (codes "main") main_ref None = record { kind = partial _; of = short_kind; is = (refl, main_candidate) } in
+    let named : AreMissing (no_dev ∷ short ∷ all_tags ∷ []) [] (1 ∷ []) = (None, _, (λ k told. told.1.positive), (Some 1, [], (refl, main_lacking), (None, [], (λ k told. tags_lack_nothing [] told.1), refl, refl), refl), refl) in
+    let beside : AreMissing (short ∷ []) (main_ref ∷ []) [] = (None, [], (λ k told. told.1.absent main_ref None (0, omega arith, refl) (rw (← same_Some _ _ told.1.is) is)), refl, refl) in
+    let told : AreLacking [] (listed short (Given 0) ∷ merged (codes "refs/heads/main") ∷ tags_asked true) (Given 0 ∷ []) =
+    (Some _, [], (refl, (λ may. may), main_lacking), (None, [], (λ o told. told.1 (rw told.0 tt)), (None, [], (λ o told. tags_lack_nothing [] told.2), refl, refl), refl), refl) in
+    (named, beside, tt, (λ may. may), (λ may. may), (λ may. may), told)
 
 -- what is left out or overruled doesn't stop a fetch, and a conflict or a missing source does
 pub carried_out : IsCarriedOut [] [] × IsCarriedOut (from_a (LeftOut invalid.Source) ∷ from_a Overruled ∷ []) []

@@ -2,10 +2,10 @@
 use Rattle.gix_refspec_plan.proofs.Common.{Matches, ref_named, AreKeptForward, HasKind, ◌++◌, ◌∙◌, ap, append_cancel_left, ◌≡◌, inl, inr, ℕ, List, [], ◌∷◌, Option, None, Some, codes, refl, sym, subst, arith, rules}
 use Rattle.gix_refspec_plan.proofs.Common.{Contains, same_Some, star, Lacks, Negative, Normal, Reading, fetched, full_name, partial, pattern, Fits, the_name, split_once, lacks_no_pattern, Lacks-here, Takes}
 use Rattle.gix_refspec_plan.{proofs.Common.{IsExcludedBy, one_forward, CanWrite, CanWriteFrom, IsCompleted, IsFetched, IsKeptBy, IsStale}, specs.Matching.Stale.AreStale, proofs.facts.ExampleLemmas.AreForwardEnds}
-use Rattle.gix_refspec_plan.proofs.facts.ExampleLemmas.{Hit, Lacks-tested, every, excluded_by, forward_beside, forward_of, heads_split, main_candidate, main_ref, named, none_excluded, not_excluded, nothing_in}
-use Rattle.gix_refspec_plan.proofs.{facts.ExampleLemmas.{one_in, origin_split, short_kind, whole_pattern}, lemmas.{plan.OnePlanLemmas.completed_once, stale.PatternLemmas.{name_writes, word_taken, writes_cases}}}
+use Rattle.gix_refspec_plan.proofs.facts.ExampleLemmas.{Hit, Lacks-tested, every, forward_beside, forward_of, heads_split, main_candidate, main_ref, named, none_excluded, not_excluded, nothing_in, one_in}
+use Rattle.gix_refspec_plan.proofs.{facts.ExampleLemmas.{origin_split, short_kind, whole_pattern}, lemmas.{plan.OnePlanLemmas.completed_once, stale.PatternLemmas.{name_writes, word_taken, writes_cases}}}
 use Rattle.gix_refspec_text.proofs.{lemmas.hits.CandidateLemmas.{first_of_one, taken_by_first}, facts.{FitFacts.{blob_kind, short_no_id}, ObjectIdFacts.empty_blob}}
-use Rattle.gix_refspec_text.specs.Matching.Side.{Excludes, by_pattern}
+use Rattle.gix_refspec_text.specs.Matching.Side.{Excludes}
 
 -- a fetch into `x`, which is refs/heads/x, and a negative spec
 abbrev to_x : List ℕ → Reading
@@ -27,7 +27,7 @@ from_tag =
     search (rules, writes_x (codes "main"), matches)
 
 by_no_tag : IsExcludedBy (codes "refs/tags/main") no_tag
-by_no_tag = excluded_by (the_name (search (rules, arith)) refl)
+by_no_tag = let name : Excludes (codes "refs/tags/main") (codes "refs/tags/main") = the_name (search (rules, arith)) refl in search (rules, name)
 
 -- what the pattern could write, and the one ref from which it could write the branch `dev` of the remote
 by_every : (r : Reading) (n : List ℕ) (word : Option (List ℕ)) → Contains (every ∷ []) r → CanWrite r n word
@@ -92,39 +92,19 @@ x_ends : AreForwardEnds (fetched Normal (codes "main") (Some x)) (record { near 
 x_ends = record { positive = tt; near = refl; far = refl; no_object = λ bytes kind. short_no_id bytes kind.2 }
 
 made : AreKeptForward completed (main_ref ∷ []) (forward_of x_hit ∷ [])
-made = record {
-  all = forward_of x_hit ∷ [];
-  forward = forward_beside _ _ (x_hit ∷ []) x_ends (refl, tt) (
-    Some _,
-    [],
-    record { word = None; takes = takes; far = (full_name x, x_full, refl); near = refl; spec = refl; item = refl },
-    refl,
-    refl,
-  );
-  is = (Some _, [], (refl, record { first = λ none. none; included = not_excluded tt no_main }), refl, refl);
-}
-  where
-    takes : Takes (main_ref ∷ []) (codes "main") main_ref None
-    takes = taken_by_first _ _ main_ref short_kind (first_of_one _ main_ref main_candidate)
-
-    x_full : HasKind x (full_name x)
-    x_full = (refl, search (rules, arith), record { after = codes "heads/x"; here = refl })
-
-    no_main : ¬ (Excludes (codes "refs/tags/main") (codes "refs/heads/main"))
-    no_main (the_name lacks same) = grind arith
-    no_main (by_pattern before after word split fits) = lacks_no_pattern (codes "refs/tags/main") before after (Lacks-tested star (codes "refs/tags/main") refl) split
-
-main_fetched : IsFetched specs (main_ref ∷ []) x
-main_fetched =
-    let there : Contains (forward_of x_hit ∷ []) (forward_of x_hit) = (0, omega arith, refl) in
-    record { completed = _; are = search (rules, arith); mapped = _; kept = made; mapping = _; has = there; destination = refl }
+made =
+    let takes : Takes (main_ref ∷ []) (codes "main") main_ref None = taken_by_first _ _ main_ref short_kind (first_of_one _ main_ref main_candidate) in
+    let x_full : HasKind x (full_name x) = (refl, search (rules, arith), record { after = codes "heads/x"; here = refl }) in
+    let no_main : ¬ (Excludes (codes "refs/tags/main") (codes "refs/heads/main")) = search (rules, arith, lacks_no_pattern (codes "refs/tags/main"), Lacks-tested) in
+    record {
+      all = forward_of x_hit ∷ [];
+      forward = forward_beside _ _ (x_hit ∷ []) x_ends (refl, tt) (Some _, [], record { word = None; takes = takes; far = (full_name x, x_full, refl); near = refl; spec = refl; item = refl }, refl, refl);
+      is = (Some _, [], (refl, record { first = λ none. none; included = not_excluded tt no_main }), refl, refl);
+    }
 
 -- the spec that excludes the tag `main` keeps refs/heads/x where the remote has no `main`, but not where a fetch writes it from the branch
 pub kept : IsKeptBy specs [] x 1 × ((k : ℕ) → ¬ (IsKeptBy specs (main_ref ∷ []) x k))
-kept = (
-  record { unwritten = none; source = _; is_source = (_, (0, omega arith, refl), from_tag); negative = _; at = refl; excludes = by_no_tag },
-  (λ k by. by.unwritten main_fetched),
-)
+kept = (record { unwritten = none; source = _; is_source = (_, (0, omega arith, refl), from_tag); negative = _; at = refl; excludes = by_no_tag }, (λ k by. by.unwritten main))
   where
     none : ¬ (IsFetched specs [] x)
     none f =
@@ -132,3 +112,6 @@ kept = (
         let k : AreKeptForward completed [] [] = record { all = []; forward = forward_beside _ [] [] x_ends (refl, tt) refl; is = refl } in
         let empty : f.mapped ≡ [] = one_forward completed [] f.mapped [] (rw same at f.kept) k in
         nothing_in f.mapped f.mapping empty f.has
+
+    main : IsFetched specs (main_ref ∷ []) x
+    main = let there : Contains (forward_of x_hit ∷ []) (forward_of x_hit) = (0, omega arith, refl) in record { completed = _; are = search (rules, arith); mapped = _; kept = made; mapping = _; has = there; destination = refl }

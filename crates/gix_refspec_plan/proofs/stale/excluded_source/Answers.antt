@@ -4,8 +4,7 @@ use Rattle.gix_refspec_plan.proofs.lemmas.stale.{SourceLemmas.partial_excluded, 
 use Rattle.gix_refspec_plan.proofs.stale.excluded_source.Goals as goal
 
 pub kind_of-requires : goal.kind_of-requires
-kind_of-requires c =
-    rw c.as_bytes.ensures (accepted_few _ _ c.args.spec.now.accepted (inl (sym c.source.ensures ∙ ap (option_map bstr_bytes) c.in-Some.is)))
+kind_of-requires c = rw c.as_bytes.ensures (accepted_few _ _ c.args.spec.now.accepted (inl (sym c.source.ensures ∙ ap (option_map bstr_bytes) c.in-Some.is)))
 
 pub returns-in-FullName : goal.returns-in-FullName
 returns-in-FullName c =
