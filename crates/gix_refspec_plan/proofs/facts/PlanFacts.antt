@@ -112,7 +112,8 @@ pub lacking : AreMissing (no_dev ∷ short ∷ all_tags ∷ []) [] (1 ∷ []) ×
     × AreLacking [] (listed short (Given 0) ∷ merged (codes "refs/heads/main") ∷ tags_asked true) (Given 0 ∷ [])
 lacking =
     let is : Matches (codes "main") main_ref None = record { kind = partial _; of = short_kind; is = (refl, main_candidate) } in
-    let named : AreMissing (no_dev ∷ short ∷ all_tags ∷ []) [] (1 ∷ []) = (None, _, (λ k told. told.1.positive), (Some 1, [], (refl, main_lacking), (None, [], (λ k told. tags_lack_nothing [] told.1), refl, refl), refl), refl) in
+    let named : AreMissing (no_dev ∷ short ∷ all_tags ∷ []) [] (1 ∷ []) =
+    (None, _, (λ k told. told.1.positive), (Some 1, [], (refl, main_lacking), (None, [], (λ k told. tags_lack_nothing [] told.1), refl, refl), refl), refl) in
     let beside : AreMissing (short ∷ []) (main_ref ∷ []) [] = (None, [], (λ k told. told.1.absent main_ref None (0, omega arith, refl) (rw (← same_Some _ _ told.1.is) is)), refl, refl) in
     let told : AreLacking [] (listed short (Given 0) ∷ merged (codes "refs/heads/main") ∷ tags_asked true) (Given 0 ∷ []) =
     (Some _, [], (refl, (λ may. may), main_lacking), (None, [], (λ o told. told.1 (rw told.0 tt)), (None, [], (λ o told. tags_lack_nothing [] told.2), refl, refl), refl), refl) in

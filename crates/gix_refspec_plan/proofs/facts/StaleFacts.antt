@@ -114,4 +114,4 @@ kept = (record { unwritten = none; source = _; is_source = (_, (0, omega arith, 
         nothing_in f.mapped f.mapping empty f.has
 
     main : IsFetched specs (main_ref ∷ []) x
-    main = let there : Contains (forward_of x_hit ∷ []) (forward_of x_hit) = (0, omega arith, refl) in record { completed = _; are = search (rules, arith); mapped = _; kept = made; mapping = _; has = there; destination = refl }
+    main = record { completed = _; are = search (rules, arith); mapped = _; kept = made; mapping = forward_of x_hit; has = (0, omega arith, refl); destination = refl }

@@ -5,8 +5,7 @@ use Rattle.gix_refspec_plan.proofs.missing_of.Goals as goal
 
 pub bounds-asked-index : goal.bounds-asked-index
 bounds-asked-index c =
-    missing_within c.args.asked.now c.in_ok-specs.specs.items c.as_slice.result.now (map ref_of c.args.items.now) c.in_ok-missing_sources.field-0.items c.as_slice-index-items.result.now c.loop-index.index-index
-    c.in_ok-specs.ensures c.as_slice.ensures.value c.in_ok-missing_sources.ensures c.as_slice-index-items.ensures.value c.loop-index-test.true
+    missing_within c.args.asked.now _ _ (map ref_of c.args.items.now) _ _ c.loop-index.index-index c.in_ok-specs.ensures c.as_slice.ensures.value c.in_ok-missing_sources.ensures c.as_slice-index-items.ensures.value c.loop-index-test.true
 
 pub bounds-asked-index-in-loop-index : goal.bounds-asked-index-in-loop-index
 bounds-asked-index-in-loop-index c = bounds-asked-index c
@@ -20,11 +19,10 @@ loop-index-preserved c =
     let indexes = c.as_slice-index-items.result.now in
     let i = c.loop-index.index-index in
     let a = c.index-asked-index.result in
-    let inside =
-    missing_within asked c.in_ok-specs.specs.items c.as_slice.result.now (map ref_of c.args.items.now) c.in_ok-missing_sources.field-0.items indexes i
-    c.in_ok-specs.ensures c.as_slice.ensures.value c.in_ok-missing_sources.ensures c.as_slice-index-items.ensures.value c.loop-index-test.true in
+    let inside = missing_within asked _ _ (map ref_of c.args.items.now) _ indexes i c.in_ok-specs.ensures c.as_slice.ensures.value c.in_ok-missing_sources.ensures c.as_slice-index-items.ensures.value c.loop-index-test.true in
     let n = slice_index_or indexes i 0 in
-    let from : (slice_index_or asked n a).origin ≡ (slice_index_or (map asked_of asked) n (record { reading = all_tags; origin = AllTags })).origin = ap (λ (x : Asked). x.origin) (sym (get_or-map asked_of asked n a _ inside)) in
+    let from : (slice_index_or asked n a).origin ≡ (slice_index_or (map asked_of asked) n (record { reading = all_tags; origin = AllTags })).origin =
+    ap (λ (x : Asked). x.origin) (sym (get_or-map asked_of asked n a _ inside)) in
     elim c.if-not-may_be_missing.branch [
       | goal.then-not-may_be_missing+in_ok-push w ↦ rw w.missing-is
           (origin_next (map asked_of asked) indexes i 0 c.loop-index.missing.items _ (Some (slice_index_or asked n a).origin) c.loop-index-test.true c.loop-index.invariant
@@ -36,6 +34,5 @@ loop-index-preserved c =
 
 pub returns : goal.returns
 returns c =
-    all_lacking (map ref_of c.args.items.now) c.args.asked.now c.in_ok-specs.specs.items c.as_slice.result.now c.in_ok-missing_sources.field-0.items c.as_slice-index-items.result.now _
-    c.in_ok-specs.ensures c.as_slice.ensures.value c.in_ok-missing_sources.ensures c.as_slice-index-items.ensures.value
+    all_lacking (map ref_of c.args.items.now) c.args.asked.now _ _ _ _ _ c.in_ok-specs.ensures c.as_slice.ensures.value c.in_ok-missing_sources.ensures c.as_slice-index-items.ensures.value
     (rw (take_all c.loop-index.index-index c.as_slice-index-items.result.now (omega arith)) at c.loop-index.invariant)

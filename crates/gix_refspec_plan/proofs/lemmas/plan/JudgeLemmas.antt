@@ -181,5 +181,6 @@ pub known_of : (xs ys fs bs all : List Mapping) (flags given : List Bool) → (f
 known_of xs ys fs bs all flags given (first, second) whole same apart flagged =
     rw (first, second, same) (flag_known xs ys flags apart (subst (λ (l : List Mapping). FlagsDuplicates by_pair l flags) whole flagged))
 
-pub planned_copy : (m copy : Mapping) (u : Update) (item : Option ℕ) (o : Origin) (v : Verdict) → IsMappingCopy m copy → planned_of u ≡ planned_by (mapped_of copy) item o v → planned_of u ≡ planned_by (mapped_of m) item o v
+pub planned_copy : (m copy : Mapping) (u : Update) (item : Option ℕ) (o : Origin) (v : Verdict) → IsMappingCopy m copy → planned_of u ≡ planned_by (mapped_of copy) item o v
+    → planned_of u ≡ planned_by (mapped_of m) item o v
 planned_copy m copy u item o v copied same = same ∙ ap (λ (x : Mapped). planned_by x item o v) (copied_mapping m copy copied)

@@ -70,7 +70,7 @@ module _ (wish : Wish) (refs : List Ref) (planned : List Planned) (missing : Lis
     of = λ m has sound free contested.
         let (o, from) = origin_of plan.asked plan.firsts m (mappings_of plan.asked refs plan.firsts plan.are_firsts) has in
         made_has _ (IsUpdate [] plan.firsts m) 0 plan.firsts plan.before m plan.are_before has
-        (λ k. (record { source = m.source; item = m.item; destination = m.destination; origin = o; verdict = InConflict }, search (rules, from, sound, contested))) (λ k p of_p. search (rules, of_p, as_second));
+        (λ k. (record { source = m.source; item = m.item; destination = m.destination; origin = o; verdict = InConflict }, search rules)) (λ k p of_p. search (rules, of_p, as_second));
   }
 
   seconds_are : AreUpdates plan.firsts plan.seconds plan.behind
@@ -82,7 +82,7 @@ module _ (wish : Wish) (refs : List Ref) (planned : List Planned) (missing : Lis
         let to : IsSome m.destination = search (rules, contested.3) in
         let unpaired : ¬ (HasPair plan.firsts m) = λ pair. let (x, inside, same) = pair_in plan.firsts m pair in search (rules, free, inside, sound_pair x m same sound, same.destination, contested.3) in
         made_has _ (IsUpdate plan.firsts plan.seconds m) 0 plan.seconds plan.behind m plan.are_behind has
-        (λ k. (record { source = m.source; item = item; destination = m.destination; origin = o; verdict = InConflict }, search (rules, to, unpaired, among, from, sound, free, contested))) (λ k p of_p. search (rules, of_p));
+        (λ k. (record { source = m.source; item = item; destination = m.destination; origin = o; verdict = InConflict }, search rules)) (λ k p of_p. search (rules, of_p));
   }
 
   listed : (p : Planned) → Contains planned p → Contains plan.before p ⊎ Contains plan.behind p
@@ -92,7 +92,7 @@ module _ (wish : Wish) (refs : List Ref) (planned : List Planned) (missing : Lis
   opposed p has is =
       let firsts = list_opposed [] plan.firsts plan.before firsts_are p in
       let seconds = list_opposed plan.firsts plan.seconds plan.behind seconds_are p in
-      let found : (q : Planned) × Contains (plan.before ++ plan.behind) q × DoConflict p q = search (rules, listed p has, firsts, seconds, is, Contains-append_left plan.before plan.behind, Contains-append_right plan.before plan.behind) in
+      let found : (q : Planned) × Contains (plan.before ++ plan.behind) q × DoConflict p q = search (rules, listed p has, Contains-append_left plan.before plan.behind, Contains-append_right plan.before plan.behind) in
       rw plan.all found
 
   -- what the first list writes, the second one doesn't

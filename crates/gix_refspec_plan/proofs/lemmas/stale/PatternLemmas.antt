@@ -159,13 +159,15 @@ module _ (es : Exclusions) (g : List Reading) (r : Reading) where
   name_written n None None writes included state = ((r, Contains-push g r, writes), included_more n (λ q s before from. absurd (state q before from.writes)) (λ s from. included s from.named))
   name_written n (Some None) None writes included (some, others) = ((r, Contains-push g r, writes), included_more n others (λ s from. included s from.named))
 
-  pub names_more : (n : List ℕ) (e : Option ℕ) (old new : List ℕ → Option (Option ℕ)) → WritesName r n → ExcludesNamed es r e → ((m : List ℕ) → new m ≡ cond (bytes_eq n m) (Some (option_or (option_flatten (old n)) e)) (old m))
-      → ((m : List ℕ) → HasNameState es g m (old m)) → (m : List ℕ) → HasNameState es (g ++ r ∷ []) m (new m)
+  pub names_more : (n : List ℕ) (e : Option ℕ) (old new : List ℕ → Option (Option ℕ)) → WritesName r n → ExcludesNamed es r e
+      → ((m : List ℕ) → new m ≡ cond (bytes_eq n m) (Some (option_or (option_flatten (old n)) e)) (old m)) → ((m : List ℕ) → HasNameState es g m (old m)) → (m : List ℕ) → HasNameState es (g ++ r ∷ []) m (new m)
   names_more n e old new writes excluded updates state m = subst (HasNameState es (g ++ r ∷ []) m) (sym (updates m)) (by (bytes_eq n m) refl)
     where
       by : (b : Bool) → bytes_eq n m ≡ b → HasNameState es (g ++ r ∷ []) m (cond b (Some (option_or (option_flatten (old n)) e)) (old m))
       by true same = subst (λ (x : List ℕ). HasNameState es (g ++ r ∷ []) x (Some (option_or (option_flatten (old n)) e))) ((bytes_decides n m).0 same) (name_written n (old n) e writes excluded (state n))
-      by false differ = name_stays m (old m) (λ also. false≢true (sym differ ∙ (bytes_decides n m).1 (writes.is ∙ ap written_name_of (same_side r.destination writes.destination also.destination writes.has also.has) ∙ sym also.is))) (state m)
+      by false differ = name_stays m (old m) (λ also.
+          let same = same_side r.destination writes.destination also.destination writes.has also.has in
+          false≢true (sym differ ∙ (bytes_decides n m).1 (writes.is ∙ ap written_name_of same ∙ sym also.is))) (state m)
 
 patterns_next : (g : List Reading) (r : Reading) (old new : List Pattern) (made : Option Pattern) → MatchOption made ((p : Pattern) → ¬ (WritesPattern r p)) (WritesPattern r) → new ≡ old ++ option_to_list made
     → IsMadeFrom (λ k q x. WritesPattern q x) 0 g old → IsMadeFrom (λ k q x. WritesPattern q x) 0 (g ++ r ∷ []) new

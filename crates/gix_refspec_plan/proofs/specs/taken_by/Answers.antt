@@ -16,7 +16,8 @@ loop-index-preserved c =
           let takes = each.0 (flag.0 w.if-is_flagged.true) in
           rw w.taken-is (
             made_more _ ref_of items i d taken.indexes.items _ (Some i) below c.loop-index.invariant.0 (refl, takes) w.in_ok-push-2.ensures.items,
-            made_one _ ref_of ref_of items i (slice_index_or items i d) taken.items.items below (get_or_default items i d _ below) c.loop-index.invariant.1 _ _ (ap ref_of (get_or_default items i _ d below), takes) w.in_ok-push.ensures.items,
+            made_one _ ref_of ref_of items i (slice_index_or items i d) taken.items.items below (get_or_default items i d _ below) c.loop-index.invariant.1 _ _
+                (ap ref_of (get_or_default items i _ d below), takes) w.in_ok-push.ensures.items,
           )
       | goal.else-is_flagged w ↦
           let apart : ¬ (IsTakenAt (map mapped_of c.in_ok-mappings.mappings.items) i) = λ takes. false≢true (sym w.if-is_flagged.false ∙ flag.1 (each.1 takes)) in
