@@ -5,7 +5,7 @@ use Rattle.gix_refspec_plan.proofs.missing_of.Goals as goal
 
 pub bounds-asked-index : goal.bounds-asked-index
 bounds-asked-index c =
-    missing_within c.args.asked.now _ _ (map ref_of c.args.items.now) _ _ c.loop-index.index-index c.in_ok-specs.ensures c.as_slice.ensures.value c.in_ok-missing_sources.ensures c.as_slice-index-items.ensures.value c.loop-index-test.true
+    missing_within c.args.asked.now _ _ _ _ _ c.loop-index.index-index c.in_ok-specs.ensures c.as_slice.ensures.value c.in_ok-missing_sources.ensures c.as_slice-index-items.ensures.value c.loop-index-test.true
 
 pub bounds-asked-index-in-loop-index : goal.bounds-asked-index-in-loop-index
 bounds-asked-index-in-loop-index c = bounds-asked-index c
@@ -19,7 +19,7 @@ loop-index-preserved c =
     let indexes = c.as_slice-index-items.result.now in
     let i = c.loop-index.index-index in
     let a = c.index-asked-index.result in
-    let inside = missing_within asked _ _ (map ref_of c.args.items.now) _ indexes i c.in_ok-specs.ensures c.as_slice.ensures.value c.in_ok-missing_sources.ensures c.as_slice-index-items.ensures.value c.loop-index-test.true in
+    let inside = missing_within asked _ _ _ _ indexes i c.in_ok-specs.ensures c.as_slice.ensures.value c.in_ok-missing_sources.ensures c.as_slice-index-items.ensures.value c.loop-index-test.true in
     let n = slice_index_or indexes i 0 in
     let from : (slice_index_or asked n a).origin ≡ (slice_index_or (map asked_of asked) n (record { reading = all_tags; origin = AllTags })).origin =
     ap (λ (x : Asked). x.origin) (sym (get_or-map asked_of asked n a _ inside)) in
