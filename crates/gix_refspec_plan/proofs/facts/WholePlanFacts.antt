@@ -48,25 +48,15 @@ module _ (far : List ℕ) (split : IsSplit far [] (far ++ codes "*")) where
 -- a merged ref that a configured spec maps and another excludes isn't covered
 pub excluded_uncovered : AreUncovered (record { given = []; configured = every ∷ no_main ∷ []; merges = codes "refs/heads/main" ∷ []; tags = false }) (main_ref ∷ []) (merged (codes "refs/heads/main") ∷ [])
 excluded_uncovered =
-    inr (
-      listed every (Configured 0) ∷ listed no_main (Configured 1) ∷ [],
-      [],
-      (Some _, _, (refl, tt), (Some _, [], (refl, tt), refl, refl), refl),
-      mapped (codes "refs/remotes/origin/") origin_split (codes "main" ∷ []) (Configured 0) (listed no_main (Configured 1) ∷ []) [] (search rules, tt)
-          (refl, tt) (None, [], (λ m is. is.1.included (inr (inl (let name : Excludes (codes "refs/heads/main") (codes "refs/heads/main") = the_name (search (rules, arith)) refl in search (rules, name))))), refl, refl),
-      one_merge _ [] ref_names.0 (λ covers. grind arith),
-    )
+    let name : Excludes (codes "refs/heads/main") (codes "refs/heads/main") = the_name (search (rules, arith)) refl in
+    let none = mapped (codes "refs/remotes/origin/") origin_split (codes "main" ∷ []) (Configured 0) (listed no_main (Configured 1) ∷ []) [] (search rules, tt) (refl, tt)
+    (None, [], (λ m is. is.1.included (inr (inl (search (rules, name))))), refl, refl) in
+    inr (listed every (Configured 0) ∷ listed no_main (Configured 1) ∷ [], [], (Some _, _, (refl, tt), (Some _, [], (refl, tt), refl, refl), refl), none, one_merge _ [] ref_names.0 (λ covers. grind arith))
 
 -- a merged ref that no spec maps is behind what is configured
 pub merges_behind : AreConfigured (record { given = []; configured = every ∷ []; merges = codes "refs/heads/main" ∷ []; tags = false }) [] (listed every (Configured 0) ∷ merged (codes "refs/heads/main") ∷ [])
 merges_behind = AreConfigured.by_configuration (listed every (Configured 0) ∷ []) _ (inl (λ none. cc)) (Some _, [], (refl, tt), refl, refl)
-    (inr (
-      listed every (Configured 0) ∷ [],
-      [],
-      (Some _, [], (refl, tt), refl, refl),
-      mapped (codes "refs/remotes/origin/") origin_split [] (Configured 0) [] [] tt tt refl,
-      one_merge _ [] ref_names.0 (λ covers. grind arith),
-    )) refl
+    (inr (listed every (Configured 0) ∷ [], [], (Some _, [], (refl, tt), refl, refl), mapped (codes "refs/remotes/origin/") origin_split [] (Configured 0) [] [] tt tt refl, one_merge _ [] ref_names.0 (λ covers. grind arith))) refl
 
 -- a fetch of the branches without `dev-*`, besides which all are configured
 abbrev fetch_branches : Wish

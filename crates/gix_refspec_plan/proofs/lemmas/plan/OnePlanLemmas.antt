@@ -1,8 +1,7 @@
 -- A wish and the refs of a remote have one plan.
 use Rattle.gix_refspec_plan.proofs.Common.{◌≡◌, inl, inr, ℕ, List, [], ◌∷◌, ◌++◌, map, refl, sym, ap, ◌∙◌, subst, AllZip, Origin, Verdict, star, Reading, Ref, Lacks-ContainsText, Mapped, AreKeptForward}
-use Rattle.gix_refspec_plan.proofs.Common.{LacksSource, one_forward, AreAsked, AreConfigured, AreMapped, AreMerges, AreTaken, AreThose, AreUncovered, Asked, HasSecondVerdict, IsCompleted, IsNegativeReading}
-use Rattle.gix_refspec_plan.proofs.Common.{IsPlanned, IsPlannedBesides, IsPositiveReading, IsTakenAt, IsTracked, MayBeMissing, Planned, Wish, OnePlan, rules, Configured, arith, Given}
-use Rattle.gix_refspec_plan.proofs.lemmas.plan.OpposedLemmas.{as_second}
+use Rattle.gix_refspec_plan.proofs.Common.{one_forward, AreAsked, AreConfigured, AreMapped, AreMerges, AreTaken, AreThose, AreUncovered, Asked, HasSecondVerdict, IsCompleted, IsNegativeReading, IsPlanned}
+use Rattle.gix_refspec_plan.proofs.{Common.{IsPlannedBesides, IsPositiveReading, IsTracked, Planned, Wish, OnePlan, rules, Configured, arith, Given}, lemmas.plan.OpposedLemmas.as_second}
 use Rattle.gix_refspec_match.proofs.lemmas.lists.ListsLemmas.{made_once}
 use Rattle.gix_refspec.specs.declared.match_group.ref_names.InvalidSide.TheVariants as invalid
 
@@ -54,10 +53,9 @@ asked_once wish refs a b (AreAsked.without specs none are is) (AreAsked.without 
 
 taken_once : (given : List Reading) (refs : List Ref) (i j : List ℕ) (s t : List Ref) → AreTaken given refs i s → AreTaken given refs j t → (i ≡ j) × (s ≡ t)
 taken_once given refs i j s t is also =
-    let same = mapped_once is.asked also.asked refs is.mapped also.mapped (those_once IsPositiveReading Given given is.asked also.asked is.are_asked also.are_asked) is.are_mapped also.are_mapped in (
-      made_once (λ (k : ℕ) (r : Ref) (index : ℕ). (index ≡ k) × IsTakenAt also.mapped k) (λ k r x y of_x of_y. of_x.0 ∙ sym of_y.0) 0 refs i j (rw same at is.are_indexes) also.are_indexes,
-      made_once (λ (k : ℕ) (r : Ref) (made : Ref). (made ≡ r) × IsTakenAt also.mapped k) (λ k r x y of_x of_y. of_x.0 ∙ sym of_y.0) 0 refs s t (rw same at is.are_taken) also.are_taken,
-    )
+    let same = mapped_once is.asked also.asked refs is.mapped also.mapped (those_once IsPositiveReading Given given is.asked also.asked is.are_asked also.are_asked) is.are_mapped also.are_mapped in
+    let indexes = made_once _ (λ k r x y of_x of_y. of_x.0 ∙ sym of_y.0) 0 refs i j (rw same at is.are_indexes) also.are_indexes in
+    (indexes, made_once _ (λ k r x y of_x of_y. of_x.0 ∙ sym of_y.0) 0 refs s t (rw same at is.are_taken) also.are_taken)
 
 tracked_once : (wish : Wish) (refs : List Ref) (a b : List Asked) (i j : List ℕ) (l m : List Mapped) → IsTracked wish refs a i l → IsTracked wish refs b j m → (a ≡ b) × (i ≡ j) × (l ≡ m)
 tracked_once wish refs a b i j l m (IsTracked.by_call positive negative taken some those bars is are mapped) (IsTracked.by_call others others_negative others_taken again others_those others_bars also others_are others_mapped) =
@@ -85,10 +83,7 @@ one_plan wish refs p q missing others is also =
     let asked = asked_once wish refs is.asked also.asked is.are_asked also.are_asked in
     let firsts = mapped_once is.asked also.asked refs is.firsts also.firsts asked is.are_firsts also.are_firsts in
     let (tracking, indexes, seconds) = tracked_once wish refs is.tracking also.tracking is.indexes also.indexes is.seconds also.seconds is.are_seconds also.are_seconds in
-    let before = made_once (λ (k : ℕ) (m : Mapped) (p : Planned). IsPlanned also.asked also.firsts m p) (planned_once also.asked also.firsts) 0 also.firsts is.before also.before
-    (rw (asked, firsts) at is.are_before) also.are_before in
-    let behind = made_once (λ (k : ℕ) (m : Mapped) (p : Planned). IsPlannedBesides also.tracking also.indexes also.firsts also.seconds m p)
-    (besides_once also.tracking also.indexes also.firsts also.seconds) 0 also.seconds is.behind also.behind (rw (tracking, indexes, firsts, seconds) at is.are_behind) also.are_behind in (
-      is.all ∙ ap (λ (l : List Planned). l ++ is.behind) before ∙ ap (λ (l : List Planned). also.before ++ l) behind ∙ sym also.all,
-      made_once (λ (k : ℕ) (a : Asked) (o : Origin). (o ≡ a.origin) × ¬ (MayBeMissing o) × LacksSource refs a.reading) (λ k a x y of_x of_y. of_x.0 ∙ sym of_y.0) 0 also.asked missing others (rw asked at is.lacks) also.lacks,
-    )
+    let before = made_once _ (planned_once also.asked also.firsts) 0 also.firsts is.before also.before (rw (asked, firsts) at is.are_before) also.are_before in
+    let behind = made_once _ (besides_once also.tracking also.indexes also.firsts also.seconds) 0 also.seconds is.behind also.behind (rw (tracking, indexes, firsts, seconds) at is.are_behind) also.are_behind in
+    let lacking = made_once _ (λ k a x y of_x of_y. of_x.0 ∙ sym of_y.0) 0 also.asked missing others (rw asked at is.lacks) also.lacks in
+    (is.all ∙ ap (λ (l : List Planned). l ++ is.behind) before ∙ ap (λ (l : List Planned). also.before ++ l) behind ∙ sym also.all, lacking)

@@ -113,15 +113,13 @@ module _ (r c : Reading) (accepted : ∥ IsAccepted r ∥₁) (done : IsComplete
       let (has, becomes) = written_there n w.word w.writes in
       let (t, matches, present, first) = takes_first items w.source s w.word w.matches.kind w.matches.of w.matches.is there in
       let no_object : (bytes : List ℕ) → ¬ (HasKind w.source (object bytes)) = λ bytes kind. no_object_named w.source t w.word bytes kind (matches_as w.source (object bytes) (ref_named t) w.word kind matches) in
-      let also = λ (item : Ref) (named : item.name ≡ t). matches_by_name (record { near = w.source; far = None }) (ref_named t) item w.word (sym named) no_object matches in (
-        t,
-        record { word = w.word; writes = w.writes; source = w.source; is = w.is; matches = matches },
-        record {
-          ends = record { near = w.source; far = Some w.writes.destination };
-          has = record { positive = subst IsPositive (sym done.mode) w.writes.positive; near = done.source ∙ w.is; far = has; no_object = no_object };
-          one = named_some _ items t present (λ item named. record { word = w.word; name = named; takes = record { matches = also item named; first = λ m kind. rw named (first m kind) }; becomes = becomes });
-        },
-      )
+      let also = λ (item : Ref) (named : item.name ≡ t). matches_by_name (record { near = w.source; far = None }) (ref_named t) item w.word (sym named) no_object matches in
+      let pair : MakesForward items (name t) (Some n) c = record {
+        ends = record { near = w.source; far = Some w.writes.destination };
+        has = record { positive = subst IsPositive (sym done.mode) w.writes.positive; near = done.source ∙ w.is; far = has; no_object = no_object };
+        one = named_some _ items t present (λ item named. record { word = w.word; name = named; takes = record { matches = also item named; first = λ m kind. rw named (first m kind) }; becomes = becomes });
+      } in
+      (t, record { word = w.word; writes = w.writes; source = w.source; is = w.is; matches = matches }, pair)
 
 pub accepted_in : (h : List Reading) (r : Reading) → AllByRecursion (λ q. ∥ IsAccepted q ∥₁) h → Contains h r → ∥ IsAccepted r ∥₁
 accepted_in h r all there = All-contains (λ q. ∥ IsAccepted q ∥₁) h r (All-from_recursion (λ q. ∥ IsAccepted q ∥₁) h all) there

@@ -63,12 +63,7 @@ word_taken x s w matches = grind (arith, matches.is, matches.of)
 source_taken : (side : Option (List ℕ)) (found : Option (Bor (List ℕ) × Bor (List ℕ))) (x s w : List ℕ) → side ≡ Some x → HasParts side found → Matches x (ref_named s) (Some w)
     → (parts : Bor (List ℕ) × Bor (List ℕ)) × (found ≡ Some parts) × (s ≡ parts.0.now ++ (w ++ parts.1.now))
 source_taken side None x s w source none matches = let (before, after, split, fits) = word_taken x s w matches in absurd (none x before after source split)
-source_taken side (Some parts) x s w source (y, is, split) matches = (
-  parts,
-  refl,
-  matches_as y (pattern parts.0.now parts.1.now) (ref_named s) (Some w) split
-      (rw (same_side side x y source is) at matches),
-)
+source_taken side (Some parts) x s w source (y, is, split) matches = (parts, refl, matches_as y (pattern parts.0.now parts.1.now) (ref_named s) (Some w) split (rw (same_side side x y source is) at matches))
 
 -- no ref is excluded from which the pattern writes n
 abbrev IncludesSources : Exclusions → List ℕ → Pattern → Type 0
