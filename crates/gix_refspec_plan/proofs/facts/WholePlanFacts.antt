@@ -56,7 +56,7 @@ excluded_uncovered =
 -- a merged ref that no spec maps is behind what is configured
 pub merges_behind : AreConfigured (record { given = []; configured = every ∷ []; merges = codes "refs/heads/main" ∷ []; tags = false }) [] (listed every (Configured 0) ∷ merged (codes "refs/heads/main") ∷ [])
 merges_behind = AreConfigured.by_configuration (listed every (Configured 0) ∷ []) _ (inl (λ none. cc)) (Some _, [], (refl, tt), refl, refl)
-    (inr (listed every (Configured 0) ∷ [], [], (Some _, [], (refl, tt), refl, refl), mapped (codes "refs/remotes/origin/") origin_split [] (Configured 0) [] [] tt tt refl, one_merge _ [] ref_names.0 (λ covers. grind arith))) refl
+    (inr (listed every (Configured 0) ∷ [], [], (Some _, [], (refl, tt), refl, refl), mapped _ origin_split [] (Configured 0) [] [] tt tt refl, one_merge _ [] ref_names.0 (λ covers. grind arith))) refl
 
 -- a fetch of the branches without `dev-*`, besides which all are configured
 abbrev fetch_branches : Wish
