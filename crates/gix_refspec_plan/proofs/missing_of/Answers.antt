@@ -1,6 +1,6 @@
 -- The origin at each index of a missing source, unless it may be missing.
-use Rattle.gix_refspec_plan.proofs.Common.{None, Some, append-nil, map, sym, ◌∙◌, slice_index_or, subst, take_all, arith, rules, MatchBool-at_false, MatchBool-at_true, ref_of, MayBeMissing, asked_of, ap}
-use Rattle.gix_refspec_plan.proofs.{Common.{get_or-map, Asked, all_tags, AllTags, ◌≡◌}, lemmas.plan.SpecLemmas.{all_lacking, missing_within, origin_next}}
+use Rattle.gix_refspec_plan.proofs.Common.{refl, None, Some, append-nil, map, sym, ◌∙◌, slice_index_or, subst, take_all, arith, rules, MatchBool-at_false, MatchBool-at_true, MayBeMissing, asked_of, ap, get_or-map}
+use Rattle.gix_refspec_plan.proofs.{Common.{Asked, all_tags, AllTags, ◌≡◌}, lemmas.plan.SpecLemmas.{lacking_made, missing_within, origin_next}}
 use Rattle.gix_refspec_plan.proofs.missing_of.Goals as goal
 
 pub bounds-asked-index : goal.bounds-asked-index
@@ -34,5 +34,6 @@ loop-index-preserved c =
 
 pub returns : goal.returns
 returns c =
-    all_lacking (map ref_of c.args.items.now) c.args.asked.now _ _ _ _ _ c.in_ok-specs.ensures c.as_slice.ensures.value c.in_ok-missing_sources.ensures c.as_slice-index-items.ensures.value
+    let found = rw (c.as_slice.ensures.value, c.in_ok-specs.ensures) at c.in_ok-missing_sources.ensures in
+    lacking_made (map asked_of c.args.asked.now) _ 0 0 _ _ _ refl (rw c.as_slice-index-items.ensures.value found)
     (rw (take_all c.loop-index.index-index c.as_slice-index-items.result.now (omega arith)) at c.loop-index.invariant)

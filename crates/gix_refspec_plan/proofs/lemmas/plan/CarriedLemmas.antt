@@ -34,21 +34,20 @@ tags_lack_nothing refs lacks = elim lacks.named [ inl full ↦ starred full.1 | 
 tags_are : (b : Bool) (a : Asked) → Contains (tags_asked b) a → a.reading ≡ all_tags
 tags_are b a has = grind (arith, one_in)
 
+configured_asked : (wish : Wish) (refs : List Ref) (asked : List Asked) (r : Reading) → AreConfigured wish refs asked → IsRequired wish r → wish.given ≡ [] → IsAskedWith asked r
+configured_asked wish refs asked r are (IsRequired.by_call has) none = absurd (nothing_in wish.given r none has)
+configured_asked wish refs asked r (AreConfigured.by_configuration configured merges some those uncovered joined) (IsRequired.by_configuration also has) none =
+    with_more configured merges asked r joined (those_have Configured wish.configured configured r (λ k may. may) those has)
+configured_asked wish refs asked r (AreConfigured.by_configuration configured merges some those uncovered joined) (IsRequired.by_default also empty alone same) none = absurd (search (rules, some))
+configured_asked wish refs asked r (AreConfigured.by_default empty alone only) (IsRequired.by_configuration also has) none = absurd (nothing_in wish.configured r empty has)
+configured_asked wish refs asked r (AreConfigured.by_default none_configured none_merged only) (IsRequired.by_default also empty alone same) none =
+    (record { reading = fetched_alone head; origin = Default }, rw only (0, omega arith, refl), (sym same, λ may. may))
+
 required_asked : (wish : Wish) (refs : List Ref) (asked : List Asked) (r : Reading) → AreAsked wish refs asked → IsRequired wish r → IsAskedWith asked r
 required_asked wish refs asked r (AreAsked.by_call given some those is) (IsRequired.by_call has) = with_more given (tags_asked wish.tags) asked r is (those_have Given wish.given given r (λ k may. may) those has)
 required_asked wish refs asked r (AreAsked.by_call given some those is) (IsRequired.by_configuration none has) = absurd (some none)
 required_asked wish refs asked r (AreAsked.by_call given some those is) (IsRequired.by_default none empty alone same) = absurd (some none)
-required_asked wish refs asked r (AreAsked.without configured none are is) (IsRequired.by_call has) = absurd (nothing_in wish.given r none has)
-required_asked wish refs asked r (AreAsked.without all none are is) (IsRequired.by_configuration also has) = with_more all (tags_asked wish.tags) asked r is (elim are [
-  | AreConfigured.by_configuration configured merges some those uncovered joined ↦ with_more configured merges all r joined (those_have Configured wish.configured configured r (λ k may. may) those has)
-  | AreConfigured.by_default empty alone same ↦ absurd (nothing_in wish.configured r empty has)
-])
-required_asked wish refs asked r (AreAsked.without all none are is) (IsRequired.by_default also empty alone same) = with_more all (tags_asked wish.tags) asked r is (elim are [
-  | AreConfigured.by_configuration configured merges some those uncovered joined ↦ absurd
-      (elim some [ inl has ↦ has empty | inr has ↦ has alone ])
-  | AreConfigured.by_default none_configured none_merged only ↦
-      (record { reading = fetched_alone head; origin = Default }, rw only (0, omega arith, refl), (sym same, λ may. may))
-])
+required_asked wish refs asked r (AreAsked.without all none are is) required = with_more all (tags_asked wish.tags) asked r is (configured_asked wish refs all r are required none)
 
 configured_required : (wish : Wish) (refs : List Ref) (asked : List Asked) (a : Asked) → AreConfigured wish refs asked → Contains asked a → ¬ (MayBeMissing a.origin) → wish.given ≡ [] → IsRequired wish a.reading
 configured_required wish refs asked a (AreConfigured.by_configuration configured merges some those uncovered joined) has stays none =

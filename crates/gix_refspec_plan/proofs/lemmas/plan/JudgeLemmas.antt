@@ -175,12 +175,6 @@ judged_of asked tracking indexes xs ys fs bs before behind new (first, second) a
     let seconds = rw (first, second) at are_behind in
     record { before = map planned_of before; behind = map planned_of behind; are_before = are_before; are_behind = seconds; all = ap (map planned_of) joined ∙ map-append planned_of before behind }
 
--- the flags of both lists, for what is split
-pub known_of : (xs ys fs bs all : List Mapping) (flags given : List Bool) → (fs ≡ xs) × (bs ≡ ys) → all ≡ xs ++ ys → given ≡ flags → AreApart (map mapped_of ys) → FlagsDuplicates by_pair all flags
-    → FlagKnown (map mapped_of fs) (map mapped_of bs) given
-known_of xs ys fs bs all flags given (first, second) whole same apart flagged =
-    rw (first, second, same) (flag_known xs ys flags apart (subst (λ (l : List Mapping). FlagsDuplicates by_pair l flags) whole flagged))
-
 pub planned_copy : (m copy : Mapping) (u : Update) (item : Option ℕ) (o : Origin) (v : Verdict) → IsMappingCopy m copy → planned_of u ≡ planned_by (mapped_of copy) item o v
     → planned_of u ≡ planned_by (mapped_of m) item o v
 planned_copy m copy u item o v copied same = same ∙ ap (λ (x : Mapped). planned_by x item o v) (copied_mapping m copy copied)

@@ -1,9 +1,9 @@
 -- The specs and the merged refs that are asked for, the items that are taken, and the origins of the specs whose source no ref has.
 use Rattle.gix_refspec_plan.proofs.Common.{fetched_alone, Merge, IsRefName, Covers, Contains, ◌≡◌, ◌≢◌, ◌⊎◌, ◌==◌, Bool, true, false, ℕ, ◌+◌, ◌<◌, List, [], ◌∷◌, ◌++◌, map, take, get_or, length, refl, sym, ap, ◌∙◌}
 use Rattle.gix_refspec_plan.proofs.Common.{arith, false≢true, map-append, Mapped, DeclaredAsked, Origin, Reading, Ref, reading_of, Asked, asked_of, ◌↔◌, length-map, IsFlagged, Option, None, Some, option_to_list}
-use Rattle.gix_refspec_plan.proofs.Common.{AllByRecursion, length-take-le, take_more, All-from_recursion, RefSpecRef, IsMadeFrom, MakesOf, AreMissing, LacksSource, made_next, AreLacking, MayBeMissing, ◌-◌, set}
-use Rattle.gix_refspec_plan.proofs.Common.{replicate, cases_eq, get_or-replicate, get_or-set_other, get_or-set_same, length-replicate, length-set, map_more, take_all, Contains-append_left, Contains-push}
-use Rattle.gix_refspec_plan.proofs.Common.{Contains-push_cases, Mapping, mapped_of, IsSound, IsTakenAt, FlagsTaken, rules, nil_from_length, all_tags, AllTags, drop}
+use Rattle.gix_refspec_plan.proofs.Common.{AllByRecursion, length-take-le, take_more, All-from_recursion, RefSpecRef, IsMadeFrom, MakesOf, AreMissing, LacksSource, made_next, MayBeMissing, ◌-◌, set, replicate}
+use Rattle.gix_refspec_plan.proofs.Common.{cases_eq, get_or-replicate, get_or-set_other, get_or-set_same, length-replicate, length-set, map_more, take_all, Contains-append_left, Contains-push, Contains-push_cases}
+use Rattle.gix_refspec_plan.proofs.Common.{Mapping, mapped_of, IsSound, IsTakenAt, FlagsTaken, rules, nil_from_length, all_tags, AllTags, drop}
 use Rattle.std.proofs.lemmas.List.{length-drop, drop_more}
 use Rattle.gix_refspec_match.specs.declared.types.SourceRef.TheVariants as source_ref
 
@@ -52,7 +52,7 @@ lacking_here : (all : List Asked) (refs : List Ref) (k j n : ℕ) (a : Asked) (m
 lacking_here all refs k j n a made here at of = grind (arith, at (record { reading = all_tags; origin = AllTags }))
 
 -- of the specs from the index k on those whose source no ref has are lacking
-lacking_made : (all : List Asked) (refs : List Ref) (k j : ℕ) (asked : List Asked) (indexes : List ℕ) (missing : List Origin) → drop k all ≡ asked
+pub lacking_made : (all : List Asked) (refs : List Ref) (k j : ℕ) (asked : List Asked) (indexes : List ℕ) (missing : List Origin) → drop k all ≡ asked
     → IsMadeFrom (λ n r made. (made ≡ n) × LacksSource refs r) k (map (λ a. a.reading) asked) indexes → IsMadeFrom (Origins all) j indexes missing
     → IsMadeFrom (λ i b o. (o ≡ b.origin) × ¬ (MayBeMissing o) × LacksSource refs b.reading) k asked missing
 lacking_made all refs k j [] indexes missing from empty origins = rw empty at origins
@@ -62,12 +62,6 @@ lacking_made all refs k j (a ∷ asked) indexes missing from (None, rest, none, 
 lacking_made all refs k j (a ∷ asked) indexes missing from (Some n, rest, here, more, is) origins =
     let (made, found, of, later, same) = rw is at origins in
     (made, found, lacking_here all refs k j n a made here (rest_of all k a asked from).0 of, lacking_made all refs (k + 1) (j + 1) asked rest found (rest_of all k a asked from).1 more later, same)
-
--- the origins by the indexes are those of the specs
-pub all_lacking : (refs : List Ref) (asked : List DeclaredAsked) (specs given : List RefSpecRef) (found indexes : List ℕ) (missing : List Origin) → map reading_of specs ≡ map (λ a. a.reading) (map asked_of asked)
-    → given ≡ specs → AreMissing (map reading_of given) refs found → indexes ≡ found → IsMadeFrom (Origins (map asked_of asked)) 0 indexes missing → AreLacking refs (map asked_of asked) missing
-all_lacking refs asked specs given found indexes missing readings same are listed origins =
-    lacking_made (map asked_of asked) refs 0 0 (map asked_of asked) indexes missing refl (rw listed (rw (same, readings) at are)) origins
 
 taken_cases : (l : List Mapped) (m : Mapped) (k : ℕ) → IsTakenAt (l ++ m ∷ []) k ↔ (IsTakenAt l k ⊎ (IsSound m × (m.item ≡ Some k)))
 taken_cases l m k = ((λ (n, has, sound, item). search (rules, Contains-push_cases l m n has)), (λ either. search (rules, Contains-append_left l (m ∷ []), Contains-push l m)))

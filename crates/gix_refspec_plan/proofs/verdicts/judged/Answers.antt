@@ -1,6 +1,6 @@
 -- The lists are joined, to find which pairs of the second one are in the first, and split again.
 use Rattle.gix_refspec_plan.proofs.Common.{append-nil, ◌++◌, ◌≡◌, [], List, length, map, refl, sym, ◌∙◌, subst, arith, eqb-true, nil_from_length, Mapping, mapped_of, ok_weaker, AreFirst, asked_of, planned_of}
-use Rattle.gix_refspec_plan.proofs.{Common.rules, lemmas.plan.JudgeLemmas.{judged_of, known_of, split_again}}
+use Rattle.gix_refspec_plan.proofs.{Common.rules, lemmas.plan.JudgeLemmas.{judged_of, flag_known, split_again}}
 use Rattle.gix_refspec_plan.proofs.verdicts.judged.Goals as goal
 
 pub returns-then-is_empty : goal.returns-then-is_empty
@@ -15,7 +15,8 @@ second_updates-requires-clause-repeated c =
     let ys = c.args.tracked.mappings.items in
     let whole : c.as_slice-3.result.now ≡ xs ++ ys = c.as_slice-3.ensures.value ∙ c.in_ok-append.ensures.items in
     let at : c.len-firsts_len.result ≡ length xs = omega (arith, c.len-firsts_len.ensures, c.args.firsts.ok.0, c.args.firsts.ok.1) in
-    known_of xs ys _ _ c.as_slice-2.result.now _ _ (split_again xs ys c.as_slice-3.result.now _ _ _ whole at c.split_at.ensures.front c.split_at.ensures.back) (c.as_slice-2.ensures.value ∙ c.in_ok-append.ensures.items) c.as_slice-6.ensures.value c.requires.seconds.apart c.in_ok-repeated.ensures.ok
+    let (front, back) = split_again xs ys c.as_slice-3.result.now _ _ _ whole at c.split_at.ensures.front c.split_at.ensures.back in
+    rw (front, back, c.as_slice-6.ensures.value) (flag_known xs ys _ c.requires.seconds.apart (rw (c.as_slice-2.ensures.value, c.in_ok-append.ensures.items) at c.in_ok-repeated.ensures.ok))
 
 pub first_updates-requires-2 : goal.first_updates-requires-2
 first_updates-requires-2 c =
