@@ -11,20 +11,16 @@ abbrev pub by_text : BStr → BStr → Ordering
 by_text x y = bytes_order (bstr_bytes x) (bstr_bytes y)
 
 duplicate_text : (names : List BStr) (k : ℕ) (e : List ℕ) → k < length names → IsDuplicate by_text names k ↔ Contains (take k (map bstr_bytes names)) (get_or (map bstr_bytes names) k e)
-duplicate_text names k e below = (
-  (λ (_, (j, before, equal)).
-      let d = some_element names k below in
-      (j, omega (arith, size, before), at j d (get_or (map bstr_bytes names) k e) before ∙ same_texts (bstr_bytes (get_or names j d)) (bstr_bytes (get_or names k d)) (equal d) ∙ sym (get_or-map bstr_bytes names k d e below))),
-  (λ (j, inside, same).
-      let before : j < k = omega (arith, size, inside) in
-      (below, (j, before, λ d. equal_texts (bstr_bytes (get_or names j d)) (bstr_bytes (get_or names k d)) (sym (at j d (get_or (map bstr_bytes names) k e) before) ∙ same ∙ get_or-map bstr_bytes names k d e below)))),
-)
-  where
-    size : length (take k (map bstr_bytes names)) ≡ k
-    size = length-take-le k (map bstr_bytes names) (omega (arith, length-map names bstr_bytes))
-
-    at : (j : ℕ) (d : BStr) (n : List ℕ) → j < k → get_or (take k (map bstr_bytes names)) j n ≡ bstr_bytes (get_or names j d)
-    at j d n before = get_or-take k (map bstr_bytes names) j n before ∙ get_or-map bstr_bytes names j d n (omega (arith, before))
+duplicate_text names k e below =
+    let size = length-take-le k (map bstr_bytes names) (omega (arith, length-map names bstr_bytes)) in
+    let at = λ (j : ℕ) (d : BStr) (n : List ℕ) (before : j < k). get_or-take k (map bstr_bytes names) j n before ∙ get_or-map bstr_bytes names j d n (omega (arith, before)) in (
+      (λ (_, (j, before, equal)).
+          let d = some_element names k below in
+          (j, omega (arith, size, before), at j d (get_or (map bstr_bytes names) k e) before ∙ same_texts _ _ (equal d) ∙ sym (get_or-map bstr_bytes names k d e below))),
+      (λ (j, inside, same).
+          let before : j < k = omega (arith, size, inside) in
+          (below, (j, before, λ d. equal_texts _ _ (sym (at j d (get_or (map bstr_bytes names) k e) before) ∙ same ∙ get_or-map bstr_bytes names k d e below)))),
+    )
 
 -- the last names are ms, and those before them are as P says
 abbrev pub StandBehind : (List ℕ → Type 0) → List (List ℕ) → List BStr → Type 0

@@ -41,24 +41,19 @@ module _ (specs : List RefSpecRef) (remote : List Ref) (mapped : List Mapped) (b
   abbrev n : List ℕ
   n = bstr_bytes (get_or local i d).full_ref_name
 
-  abbrev refs : List Ref
-  refs = map ref_of local
-
-  named : get_or (ref_names refs) i [] ≡ n
-  named = get_or-map (λ (r : Ref). r.name) refs i (ref_of d) [] (rw (length-map local ref_of) below) ∙ ap (λ (r : Ref). r.name) (get_or-map ref_of local i d (ref_of d) below)
-
-  flagged : IsFlagged flags i ↔ (HasDestination mapped n ⊎ HasName (take i refs) n)
+  flagged : IsFlagged flags i ↔ (HasDestination mapped n ⊎ HasName (take i (map ref_of local)) n)
   flagged =
+      let named = get_or-map (λ (r : Ref). r.name) (map ref_of local) i (ref_of d) [] (rw (length-map local ref_of) below) ∙ ap (λ (r : Ref). r.name) (get_or-map ref_of local i d (ref_of d) below) in
       let at = told i [] (rw (length-map (map ref_of local) (λ (r : Ref). r.name), length-map local ref_of) below) in
-      let here : IsFlagged flags i ↔ (HasDestination mapped n ⊎ Contains (ref_names (take i refs)) n) = rw (named, take-map (λ (r : Ref). r.name) i refs) at at in
-      search (rules, here, among_named (take i refs) n, named_among (take i refs) n)
+      let here : IsFlagged flags i ↔ (HasDestination mapped n ⊎ Contains (ref_names (take i (map ref_of local))) n) = rw (named, take-map (λ (r : Ref). r.name) i (map ref_of local)) at at in
+      search (rules, here, among_named (take i (map ref_of local)) n, named_among (take i (map ref_of local)) n)
 
   pub tell_next : (new : List Stale) (s : Stale) → s.item_index ≡ i → ¬ (IsFlagged flags i) → (¬ (HasDestination mapped n) → MatchOption s.kept_by (IsStale (map reading_of specs) remote n) (IsKeptBy (map reading_of specs) remote n))
-      → new ≡ old ++ s ∷ [] → IsMadeFrom (Tells (map reading_of specs) remote refs) 0 (map ref_of (take (i + 1) local)) (map found_of new)
-  tell_next new s at unflagged state more = made_one (Tells (map reading_of specs) remote refs) ref_of found_of local i (get_or local i d) old below (get_or_default local i d _ below) so_far new s
+      → new ≡ old ++ s ∷ [] → IsMadeFrom (Tells (map reading_of specs) remote (map ref_of local)) 0 (map ref_of (take (i + 1) local)) (map found_of new)
+  tell_next new s at unflagged state more = made_one (Tells (map reading_of specs) remote (map ref_of local)) ref_of found_of local i (get_or local i d) old below (get_or_default local i d _ below) so_far new s
       (at, (λ before. unflagged (flagged.1 (inr before))), state (λ has. unflagged (flagged.1 (inl has)))) more
 
-  pub tell_none : IsFlagged flags i ⊎ ¬ (IsWritable (map reading_of specs) n) → IsMadeFrom (Tells (map reading_of specs) remote refs) 0 (map ref_of (take (i + 1) local)) (map found_of old)
-  tell_none either = made_none (Tells (map reading_of specs) remote refs) ref_of found_of local i (get_or local i d) old below (get_or_default local i d _ below) so_far (λ f (at, new, state).
+  pub tell_none : IsFlagged flags i ⊎ ¬ (IsWritable (map reading_of specs) n) → IsMadeFrom (Tells (map reading_of specs) remote (map ref_of local)) 0 (map ref_of (take (i + 1) local)) (map found_of old)
+  tell_none either = made_none (Tells (map reading_of specs) remote (map ref_of local)) ref_of found_of local i (get_or local i d) old below (get_or_default local i d _ below) so_far (λ f (at, new, state).
       let untold = written_untold (map reading_of specs) remote mapped (all_accepted specs) by n in
       search (rules, flagged, untold, unwritable_untold (map reading_of specs) remote mapped (all_accepted specs) by n))
