@@ -11,6 +11,7 @@ use Rattle.gix_refspec.specs.declared.match_group.ref_names.InvalidSide.TheVaria
 abbrev to : List ℕ → ℕ → List ℕ → Mapped
 to d item s = mapping item s (Some d) 0
 
+-- mappings from two sources to refs/x, and the update by the first
 abbrev pub ax : Mapped
 ax = to (codes "refs/x") 0 (codes "refs/heads/a")
 
