@@ -1,11 +1,11 @@
 -- What the examples of plans cite: names passed on, data in few words, and proofs that hold for all examples of a kind.
-use Rattle.gix_refspec_plan.proofs.Common.{◌≡◌, inl, inr, ℕ, ◌+◌, false, List, [], ◌∷◌, ◌++◌, None, Some, codes, map, refl, sym, ◌∙◌, subst, arith, AllByRecursion, Contains, append-nil, same_Some, Origin}
-use Rattle.gix_refspec_plan.proofs.Common.{Verdict, CanBeWritten, HasStar, rules, Reading, Negative, IsPositive, fetched, fetched_alone, Ref, Takes, IsMadeFrom, Mapped, IsExcluded, IsExcludedBy}
-use Rattle.gix_refspec_plan.proofs.Common.{LacksSource, IsRefName, AreMerges, Asked, Covers, IsCompleted, IsContested, IsNegativeReading, IsSound, Planned, Merge}
-use Rattle.gix_refspec_text.{specs.Specs.Reading.Mode, specs.Matching.Side.Excludes, specs.Texts.Bytes.slash, proofs.lemmas.texts.TestedLemmas.IsName-tested, proofs.lemmas.texts.TestedLemmas.is_suspect}
-pub use Rattle.gix_refspec_text.proofs.facts.{ManualFacts.Lacks-tested, ManualFacts.named, FitFacts.every, FitFacts.heads_split, FitFacts.main_ref, FitFacts.no_dev, FitFacts.origin_split, FitFacts.short, FitFacts.short_kind}
-pub use Rattle.gix_refspec_match.specs.Matching.{Hits.AreForward, Hits.AreForwardEnds, Hits.AreSpecHits, Hits.Ends, Hits.Hit, Hits.IsHit, Hits.IsIdMapping, Hits.forward_of, Lists.IsJoinedFrom, Mappings.IsKept}
-pub use Rattle.gix_refspec_match.proofs.facts.MatchFacts.{mapping, main_candidate}
+use Rattle.gix_refspec_plan.proofs.Common.{◌≡◌, inl, inr, ℕ, ◌+◌, false, List, [], ◌∷◌, ◌++◌, None, Some, codes, map, refl, sym, ◌∙◌, subst, arith, AllByRecursion, Contains, append-nil, same_Some, Origin, Verdict}
+use Rattle.gix_refspec_plan.proofs.Common.{CanBeWritten, HasStar, rules, Reading, Negative, IsPositive, fetched, fetched_alone, Ref, Takes, IsMadeFrom, Mapped, IsExcluded, LacksSource, IsRefName, AreMerges, Asked}
+use Rattle.gix_refspec_plan.proofs.Common.{Covers, IsCompleted, IsContested, IsNegativeReading, IsSound, Planned, Merge}
+use Rattle.gix_refspec_text.{specs.{Specs.Reading.Mode, Matching.Side.Excludes, Texts.Bytes.slash}, proofs.lemmas.texts.TestedLemmas.{IsName-tested, is_suspect}}
+pub use Rattle.gix_refspec_text.proofs.facts.{FitFacts.{every, heads_split, main_ref, no_dev, origin_split, short, short_kind}, ManualFacts.{Lacks-tested, named}}
+pub use Rattle.gix_refspec_match.{specs.Matching.{Hits.{AreForward, AreForwardEnds, AreSpecHits, Ends, Hit, IsHit, IsIdMapping, forward_of}, Lists.IsJoinedFrom, Mappings.IsKept}, proofs.facts.MatchFacts.mapping}
+pub use Rattle.gix_refspec_match.proofs.facts.MatchFacts.{main_candidate}
 pub use Rattle.gix_refspec.proofs.facts.RefNameFacts.{no_ref_names, ref_names}
 pub use Rattle.gix_refspec_plan.proofs.lemmas.plan.MadeLemmas.{nothing_in, one_in}
 
@@ -38,21 +38,15 @@ one_merge n mapped is uncovered = (Some _, [], (refl, is, uncovered, (λ has. no
 pub main_lacking : LacksSource [] short
 main_lacking = record { positive = tt; source = codes "main"; is = refl; named = inr short_kind; absent = λ ref word has. absurd (nothing_in [] ref refl has) }
 
--- a negative spec excludes what its source does, and a positive one nothing
-pub excluded_by : {x n : List ℕ} → Excludes x n → IsExcludedBy n (fetched Negative x None)
-excluded_by {x} excludes = record { negative = refl; text = x; source = refl; excludes = excludes }
-
 pub none_excluded : {r : Reading} {n : List ℕ} → IsPositive r.mode → ¬ (IsExcluded (r ∷ []) n)
-none_excluded positive (inl by) = subst IsPositive by.negative positive
-none_excluded positive (inr none) = none
+none_excluded positive by = grind arith
 
 pub not_excluded : {r : Reading} {x n : List ℕ} → IsPositive r.mode → ¬ (Excludes x n) → ¬ (IsExcluded (r ∷ fetched Negative x None ∷ []) n)
 not_excluded positive excludes (inl by) = subst IsPositive by.negative positive
 not_excluded positive excludes (inr (inl by)) = excludes (rw (← same_Some _ _ by.source) at by.excludes)
 not_excluded positive excludes (inr (inr none)) = none
 
-pub whole_pattern : {mode : Mode} {x : List ℕ} (far : List ℕ)
-    → IsCompleted (fetched mode x (Some (far ++ codes "*"))) (fetched mode x (Some (far ++ codes "*")))
+pub whole_pattern : {mode : Mode} {x : List ℕ} (far : List ℕ) → IsCompleted (fetched mode x (Some (far ++ codes "*"))) (fetched mode x (Some (far ++ codes "*")))
 whole_pattern far = let starred : HasStar (far ++ codes "*") = record { before = far; after = []; here = refl } in search (rules, starred)
 
 -- beside negative specs, which give no ids and take nothing, what a spec takes is all
@@ -67,10 +61,7 @@ no_hits items k (r ∷ g) all = ([], [], inr ((λ ends are. subst IsPositive all
 pub forward_beside : {r : Reading} {ends : Ends} (g : List Reading) (items : List Ref) (hits : List Hit) → AreForwardEnds r ends
     → AllByRecursion IsNegativeReading g → IsMadeFrom (IsHit (Takes items) ends 0) 0 items hits
     → AreForward (r ∷ g) items (map forward_of hits)
-forward_beside {r} {ends} g items hits are all taken = record {
-  ids = [];
-  hits = hits;
-  are_ids = (None, [], (λ m made. are.no_object _ (rw (same_Some _ _ (sym made.side ∙ are.near)) at made.object)), no_ids 1 g all, refl);
-  are_hits = (hits, [], inl (ends, are, taken), no_hits items 1 g all, sym (append-nil hits));
-  all = refl;
-}
+forward_beside {r} {ends} g items hits are all taken =
+    let ids : IsMadeFrom IsIdMapping 0 (r ∷ g) [] = (None, [], (λ m made. are.no_object _ (rw (same_Some _ _ (sym made.side ∙ are.near)) at made.object)), no_ids 1 g all, refl) in
+    let found : IsJoinedFrom (AreSpecHits AreForwardEnds (Takes items) items) 0 (r ∷ g) hits = (hits, [], inl (ends, are, taken), no_hits items 1 g all, sym (append-nil hits)) in
+    record { ids = []; hits = hits; are_ids = ids; are_hits = found; all = refl }

@@ -1,5 +1,4 @@
-use Rattle.gix_refspec_plan.proofs.{Common.map, Common.take, Common.IsMadeFrom, Common.asked_of, lemmas.plan.SpecLemmas.Origins}
-use Rattle.gix_refspec_plan.proofs.missing_of.Given as goal
+use Rattle.gix_refspec_plan.proofs.{Common.{map, take, IsMadeFrom, asked_of}, lemmas.plan.SpecLemmas.Origins}
 
-abbrev pub invariant-loop-index : goal.invariant-loop-index
+abbrev pub invariant-loop-index : Rattle.gix_refspec_plan.proofs.missing_of.Given.invariant-loop-index
 invariant-loop-index l = IsMadeFrom (Origins (map asked_of l.asked)) 0 (take l.index-index l.index-items) l.missing.items

@@ -1,4 +1,4 @@
-use Rattle.gix_refspec_plan.proofs.{Common.rules, lemmas.plan.JudgeLemmas.mappings_of, lemmas.plan.JudgeLemmas.tracked_mappings}
+use Rattle.gix_refspec_plan.proofs.{Common.rules, lemmas.plan.JudgeLemmas.{mappings_of, tracked_mappings}}
 use Rattle.gix_refspec_plan.proofs.plan_fetch.Goals as goal
 
 pub judged-requires : goal.judged-requires

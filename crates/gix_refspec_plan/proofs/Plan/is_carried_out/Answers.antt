@@ -1,14 +1,12 @@
-use Rattle.gix_refspec_plan.proofs.Common.{◌≡◌, ◌≢◌, [], map, refl, sym, subst, take_all, arith, eqb-true, false≢true, nil_from_length, All-map, All-more, recursion_from_All, Update, IsCarriedOut, Planned}
-use Rattle.gix_refspec_plan.proofs.Common.{planned_of, each_mapped, InConflict}
+use Rattle.gix_refspec_plan.proofs.Common.{◌≡◌, ◌≢◌, [], map, refl, sym, take_all, arith, eqb-true, false≢true, nil_from_length, All-map, All-more, recursion_from_All, IsCarriedOut, Planned, planned_of}
+use Rattle.gix_refspec_plan.proofs.Common.{each_mapped, InConflict}
 use Rattle.gix_refspec_plan.proofs.Plan.is_carried_out.Goals as goal
 
 abbrev IsPlannedFree : Planned → Type 0
 IsPlannedFree p = p.verdict ≢ InConflict
 
 pub loop-update-preserved : goal.loop-update-preserved
-loop-update-preserved c =
-    All-more (λ u. u.verdict ≢ InConflict) c.deref-update-items.result.now c.loop-update.update-index c.update-item.result c.loop-update-test.true c.loop-update.invariant
-    (subst (λ (u : Update). u.verdict ≢ InConflict) c.update-item.is c.in_default.not-InConflict)
+loop-update-preserved c = All-more (λ u. u.verdict ≢ InConflict) c.deref-update-items.result.now _ _ c.loop-update-test.true c.loop-update.invariant (rw c.update-item.is at c.in_default.not-InConflict)
 
 pub returns-in-InConflict : goal.returns-in-InConflict
 returns-in-InConflict c = (

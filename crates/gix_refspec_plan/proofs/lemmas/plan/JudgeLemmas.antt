@@ -1,26 +1,19 @@
 -- Which destinations are written, the verdicts by that, and the updates of mappings, one by one.
-use Rattle.gix_refspec_plan.proofs.Common.{◌≡◌, ◌≢◌, ◌⊎◌, ◌↔◌, inl, inr, ℕ, zero, suc, ◌+◌, ◌<◌, Bool, Bor, true, false, cond, List, [], ◌∷◌, ◌++◌, Option, None, Some, is_some, bytes_eq, map, take, get_or}
-use Rattle.gix_refspec_plan.proofs.Common.{length, refl, sym, ap, ◌∙◌, subst, arith, BTreeMap, UpdatesBy, get_by, slice_cmp, nat_cmp, Any, Contains, false≢true, map_more, All-from_recursion}
-use Rattle.gix_refspec_plan.proofs.Common.{bytes_eq-Decides, Mapping, Mapped, IsSamePair, AreApart, mapped_of, IsContested, IsSound, IsTakenOver, CountDestinations, HasTwo, IsCount, TellContested}
-use Rattle.gix_refspec_plan.proofs.Common.{WritesTo, rules, same_Some, some_at, some_of, IsTrue, IsSome, MatchOption, option_map, length-append, drop, append-nil, is_at, lookup, AllByRecursion, AllZip}
-use Rattle.gix_refspec_plan.proofs.Common.{slice_get, drop-append_seam, take-append-add, take-append_seam, get_or-append-add, get_or-map, get_or_default, length-map, map-append, take_more, slice_get-map}
-use Rattle.gix_refspec_plan.proofs.Common.{slice_get_read, DeclaredAsked, Origin, Update, Verdict, Ref, IsMadeFrom, HasPair, FlagsDuplicates, IsDuplicate, IsFlagged, IsMappingCopy, AreMapped, Asked}
-use Rattle.gix_refspec_plan.proofs.Common.{HasOrigin, HasSecondVerdict, HasVerdict, IsCompleted, IsPlanned, IsPlannedBesides, IsTracked, Planned, Wish, AreFirst, AreJudged, AreMappings, AreSecond}
-use Rattle.gix_refspec_plan.proofs.Common.{FlagKnown, planned_by, asked_of, planned_of, copied_mapping, each_mapped}
+use Rattle.gix_refspec_plan.proofs.Common.{Contains-append_cases, IsMappingCopy, copied_mapping, ◌≡◌, ◌≢◌, ◌⊎◌, ◌↔◌, inl, inr, ℕ, zero, suc, ◌+◌, ◌<◌, Bool, Bor, true, false, cond, List, [], ◌∷◌, ◌++◌, Option}
+use Rattle.gix_refspec_plan.proofs.Common.{None, Some, is_some, bytes_eq, map, take, get_or, length, refl, sym, ap, ◌∙◌, subst, arith, BTreeMap, UpdatesBy, get_by, slice_cmp, nat_cmp, Any, Contains, false≢true}
+use Rattle.gix_refspec_plan.proofs.Common.{All-from_recursion, bytes_eq-Decides, Mapping, Mapped, IsSamePair, AreApart, mapped_of, IsContested, IsSound, IsTakenOver, CountDestinations, HasTwo, IsCount}
+use Rattle.gix_refspec_plan.proofs.Common.{TellContested, WritesTo, rules, same_Some, some_at, some_of, IsTrue, IsSome, MatchOption, option_map, length-append, drop, is_at, lookup, AllByRecursion, AllZip}
+use Rattle.gix_refspec_plan.proofs.Common.{slice_get, drop-append_seam, take-append-add, take-append_seam, get_or-append-add, get_or-map, get_or_default, length-map, map-append, slice_get-map, slice_get_read}
+use Rattle.gix_refspec_plan.proofs.Common.{DeclaredAsked, Origin, Update, Verdict, Ref, IsMadeFrom, HasPair, FlagsDuplicates, IsDuplicate, IsFlagged, AreMapped, Asked, HasOrigin, HasSecondVerdict, HasVerdict}
+use Rattle.gix_refspec_plan.proofs.Common.{IsCompleted, IsPlanned, IsPlannedBesides, IsTracked, Planned, Wish, AreFirst, AreJudged, AreMappings, AreSecond, FlagKnown, planned_by, asked_of, planned_of, each_mapped}
+use Rattle.gix_refspec_plan.proofs.lemmas.plan.{NameLemmas.{zip_at, zip_long}, MadeLemmas.{one_in, made_one, made_none, there}}
 use Rattle.std.proofs.lemmas.Map.Text.{btree_map_updates_str}
-use Rattle.gix_refspec.{specs.Matching.Validation.HasConflictAt, proofs.lemmas.validate.FirstLemmas.start_cases}
-use Rattle.gix_refspec_match.proofs.lemmas.keep.KeptLemmas.{HasPair-left, by_pair, duplicate_at, kept_once}
-use Rattle.gix_refspec_match.proofs.lemmas.keep.RepeatLemmas.{some_mapping}
-use Rattle.gix_refspec.proofs.lemmas.validate.AfterLemmas.{forward_fits}
-use Rattle.gix_refspec_plan.proofs.lemmas.plan.NameLemmas.{zip_at, zip_long, zip_more}
-use Rattle.gix_refspec_plan.proofs.lemmas.plan.MadeLemmas.{made_one, made_none, there}
+use Rattle.gix_refspec.{specs.Matching.Validation.HasConflictAt, proofs.lemmas.validate.{FirstLemmas.start_cases, AfterLemmas.forward_fits}}
+use Rattle.gix_refspec_match.proofs.lemmas.keep.{KeptLemmas.{HasPair-left, by_pair, duplicate_at, kept_once}, RepeatLemmas.some_mapping}
 
 module _ {X : Type 0} (P : X → Type 0) where
   any_cons : (x : X) (l : List X) → Any P (x ∷ l) ↔ (P x ⊎ Any P l)
-  any_cons x l = (
-    (λ any. search (rules, some_of P (x ∷ l) any, some_at P l)),
-    (λ any. some_at P (x ∷ l) (search (rules, any, some_of P l))),
-  )
+  any_cons x l = ((λ any. search (rules, some_of P (x ∷ l) any, some_at P l)), (λ any. some_at P (x ∷ l) (search (rules, any, some_of P l))))
 
   any_more : (l : List X) (x : X) → Any P (l ++ x ∷ []) ↔ (Any P l ⊎ P x)
   any_more [] x = search (rules, any_cons x [])
@@ -35,13 +28,11 @@ module _ {X : Type 0} (P : X → Type 0) where
   two_more (y ∷ l) x = search (rules, any_cons y l, any_more l x, two_more l x)
 
   two_of : (l : List X) (m n : X) → Contains l m → Contains l n → P m → P n → m ≢ n → HasTwo P l
-  two_of [] m n (i, below, at) has is also differ = absurd (omega (arith, below))
-  two_of (x ∷ l) m n (zero, below, at) (zero, below2, at2) is also differ = absurd (differ (sym at ∙ at2))
-  two_of (x ∷ l) m n (zero, below, at) (suc j, below2, at2) is also differ = inl (subst P (sym at) is, (j, n, omega (arith, below2), at2, also))
-  two_of (x ∷ l) m n (suc i, below, at) (zero, below2, at2) is also differ = inl (subst P (sym at2) also, (i, m, omega (arith, below), at, is))
-  two_of (x ∷ l) m n (suc i, below, at) (suc j, below2, at2) is also differ = inr (two_of l m n (i, omega (arith, below), at) (j, omega (arith, below2), at2) is also differ)
+  two_of [] m n has_m has_n is also differ = absurd (omega (arith, has_m.1))
+  two_of (x ∷ l) m n has_m has_n is also differ =
+      search (rules, Contains-append_cases (x ∷ []) l m has_m, Contains-append_cases (x ∷ []) l n has_n, one_in x m, one_in x n, is, also, differ, two_of l m n)
 
-count_same : (l : List Mapped) (x : Mapped) (d : List ℕ) (w : Option Bool) → ¬ (WritesTo d x) → IsCount l d w → IsCount (l ++ x ∷ []) d w
+pub count_same : (l : List Mapped) (x : Mapped) (d : List ℕ) (w : Option Bool) → ¬ (WritesTo d x) → IsCount l d w → IsCount (l ++ x ∷ []) d w
 count_same l x d w other is = grind (arith, any_more (WritesTo d) l x, two_more (WritesTo d) l x)
 
 count_next : (l : List Mapped) (x : Mapped) (d : List ℕ) (w : Option Bool) → WritesTo d x → IsCount l d w → IsCount (l ++ x ∷ []) d (Some (is_some w))
@@ -51,29 +42,21 @@ count_next l x d w writes is = grind (arith, any_more (WritesTo d) l x, two_more
 abbrev pub count_at : BTreeMap (Bor (List ℕ)) Bool → List ℕ → Option Bool
 count_at counts d = get_by (λ k. slice_cmp nat_cmp d k.now) counts
 
-module _ (ms : List Mapping) (i : ℕ) (m : Mapping) (old : BTreeMap (Bor (List ℕ)) Bool) (below : i < length ms) (is : m ≡ get_or ms i m) (so_far : CountDestinations (map mapped_of (take i ms)) old) where
-  with_mapping : (new : BTreeMap (Bor (List ℕ)) Bool) → CountDestinations (map mapped_of (take i ms) ++ mapped_of m ∷ []) new → CountDestinations (map mapped_of (take (i + 1) ms)) new
-  with_mapping new are = rw (map_more mapped_of ms i m below, ← is) are
-
-  pub counted_same : ((d : List ℕ) → ¬ (WritesTo d (mapped_of m))) → CountDestinations (map mapped_of (take (i + 1) ms)) old
-  counted_same none = with_mapping old (λ d. count_same (map mapped_of (take i ms)) (mapped_of m) d (count_at old d) (none d) (so_far d))
-
-  pub counted_more : (new : BTreeMap (Bor (List ℕ)) Bool) (e : Bor (List ℕ)) (several : Bool) → WritesTo e.now (mapped_of m) → several ≡ is_some (count_at old e.now)
-      → UpdatesBy (λ x y. slice_cmp nat_cmp x.now y.now) (λ k. slice_cmp nat_cmp e.now k.now) old new (Some several) → CountDestinations (map mapped_of (take (i + 1) ms)) new
-  counted_more new e several writes known updates = with_mapping new (λ d. rw (btree_map_updates_str e.now old new (Some several) updates d) (by d (bytes_eq e.now d) refl))
-    where
-      by : (d : List ℕ) (b : Bool) → bytes_eq e.now d ≡ b → IsCount (map mapped_of (take i ms) ++ mapped_of m ∷ []) d (cond b (Some several) (count_at old d))
-      by d true same = let here = (bytes_eq-Decides e.now d).0 same in rw (known, here) (count_next (map mapped_of (take i ms)) (mapped_of m) d (count_at old d) (rw here at writes) (so_far d))
-      by d false other = count_same (map mapped_of (take i ms)) (mapped_of m) d (count_at old d)
-          (λ also. false≢true (sym other ∙ (bytes_eq-Decides e.now d).1 (same_Some e.now d (sym writes.1 ∙ also.1)))) (so_far d)
+pub counted_more : (l : List Mapped) (m : Mapped) (old new : BTreeMap (Bor (List ℕ)) Bool) (e : Bor (List ℕ)) (several : Bool) → CountDestinations l old → WritesTo e.now m → several ≡ is_some (count_at old e.now)
+    → UpdatesBy (λ x y. slice_cmp nat_cmp x.now y.now) (λ k. slice_cmp nat_cmp e.now k.now) old new (Some several) → CountDestinations (l ++ m ∷ []) new
+counted_more l m old new e several so_far writes known updates d = rw (btree_map_updates_str e.now old new (Some several) updates d) (by (bytes_eq e.now d) refl)
+  where
+    by : (b : Bool) → bytes_eq e.now d ≡ b → IsCount (l ++ m ∷ []) d (cond b (Some several) (count_at old d))
+    by true same = let here = (bytes_eq-Decides e.now d).0 same in rw (known, here) (count_next l m d (count_at old d) (rw here at writes) (so_far d))
+    by false other = count_same l m d (count_at old d) (λ also. false≢true (sym other ∙ (bytes_eq-Decides e.now d).1 (same_Some e.now d (sym writes.1 ∙ also.1)))) (so_far d)
 
 -- two mappings to a destination, from different sources
 rivalry : (l : List Mapped) (d : List ℕ) → AreApart l → HasTwo (WritesTo d) l → (m : Mapped) × (n : Mapped) × Contains l m × Contains l n × WritesTo d m × WritesTo d n × (m.source ≢ n.source)
 rivalry [] d apart two = absurd two
 rivalry (x ∷ l) d apart (inl (writes, (i, y, below, at, also))) =
-    let differ = subst (λ (z : Mapped). ¬ (IsSamePair x z)) at (All-from_recursion (λ z. ¬ (IsSamePair x z)) l apart.0 i y below) in
-    (x, y, (0, omega arith, refl), (suc i, omega (arith, below), at), writes, also, λ same. differ (record { source = same; destination = writes.1 ∙ sym also.1 }))
-rivalry (x ∷ l) d apart (inr two) = let (m, n, has_m, has_n, m_writes, n_writes, differ) = rivalry l d apart.1 two in (m, n, there x l m has_m, there x l n has_n, m_writes, n_writes, differ)
+    let differ = All-from_recursion (λ z. ¬ (IsSamePair x z)) l apart.0 i y below in
+    (x, y, (0, omega arith, refl), (suc i, omega (arith, below), at), writes, also, λ same. search (rules, differ, at, writes, also, same))
+rivalry (x ∷ l) d apart (inr two) = search (rules, rivalry l d apart.1 two, there x l)
 
 -- what is counted tells of each destination whether it is contested
 pub counted_contested : (l : List Mapped) (counts : BTreeMap (Bor (List ℕ)) Bool) → CountDestinations l counts → TellContested l counts
@@ -81,32 +64,16 @@ counted_contested l counts are d = grind (arith, are d, two_any (WritesTo d) l, 
 
 -- where no destination is in conflict, an empty map tells that
 pub none_contested : (l : List Mapped) (empty : BTreeMap (Bor (List ℕ)) Bool) → AreApart l → ((d : List ℕ) → ¬ (HasConflictAt l d)) → empty.entries ≡ [] → TellContested l empty
-none_contested l empty apart free none d = rw none (
-  (λ told. absurd (false≢true told)),
-  (λ two.
-      let (m, n, has_m, has_n, m_writes, n_writes, differ) = rivalry l d apart two in
-      absurd (free d (record { one = m; other = n; has_one = has_m; has_other = has_n; one_to = m_writes.1; other_to = n_writes.1; differ = differ }))),
-)
+none_contested l empty apart free none d = rw none (grind (arith, rivalry l d apart, free d, false≢true))
 
 module _ (m : Mapped) (d : List ℕ) (goes : m.destination ≡ Some d) where
   pub taken_told : (l : List Mapped) (w : Option Bool) → IsCount l d w → (is_some w ≡ true) ↔ IsTakenOver l m
-  taken_told l None none = (
-    (λ told. absurd (false≢true told)),
-    (λ (n, (i, below, at), sound, (e, from, to)). absurd (none (i, n, below, at, (sound, to ∙ sym from ∙ goes)))),
-  )
-  taken_told l (Some several) ((i, n, below, at, (sound, to)), whether) =
-      ((λ told. (n, (i, below, at), sound, (d, goes, to))), (λ taken. refl))
+  taken_told l w is = grind (arith, is, false≢true)
 
   pub contested_told : (l : List Mapped) → AreApart l → IsSound m → Contains l m → HasTwo (WritesTo d) l ↔ IsContested l m
   contested_told l apart sound has = (
-    (λ two.
-        let (x, y, has_x, has_y, x_writes, y_writes, differ) = rivalry l d apart two in
-        elim (start_cases m.source x.source) [
-          | inl same ↦ (y, has_y, y_writes.0, (d, goes, y_writes.1), (λ also. differ (sym same ∙ also)))
-          | inr other ↦ (x, has_x, x_writes.0, (d, goes, x_writes.1), other)
-        ]),
-    (λ (n, contains, sound_n, (e, from, to), differ).
-        two_of (WritesTo d) l m n has contains (sound, goes) (sound_n, to ∙ sym from ∙ goes) (λ same. differ (ap (λ (x : Mapped). x.source) same))),
+    (λ two. let (x, y, has_x, has_y, x_writes, y_writes, differ) = rivalry l d apart two in search (rules, start_cases m.source x.source, x_writes, y_writes, differ, goes, has_x, has_y)),
+    (λ (n, contains, sound_n, (e, from, to), differ). search (rules, two_of (WritesTo d) l m n has contains, to ∙ sym from ∙ goes, differ)),
   )
 
 module _ (ms : List Mapping) (i : ℕ) (m : Mapping) (below : i < length ms) (is : m ≡ get_or ms i m) where
@@ -117,7 +84,7 @@ module _ (ms : List Mapping) (i : ℕ) (m : Mapping) (below : i < length ms) (is
   has_mapping = (i, omega (arith, below, length-map ms mapped_of), mapped_here (mapped_of m))
 
   pub spec_inside : (asked : List DeclaredAsked) → AreMappings (map asked_of asked) (map mapped_of ms) → m.spec_index < length asked
-  spec_inside asked are = let here = each_mapped mapped_of (λ n. n.spec < length (map asked_of asked)) ms i m are.fit below is in omega (arith, here, length-map asked asked_of)
+  spec_inside asked are = omega (arith, each_mapped mapped_of (λ n. n.spec < length (map asked_of asked)) ms i m are.fit below is, length-map asked asked_of)
 
   pub verdict_at : (l : List Mapped) (verdicts : List Verdict) (e : Verdict) → AllZip (HasVerdict l) (map mapped_of ms) verdicts → HasVerdict l (mapped_of m) (get_or verdicts i e)
   verdict_at l verdicts e all = rw (mapped_here (mapped_of m)) at (zip_at (HasVerdict l) (map mapped_of ms) verdicts i (mapped_of m) e all (omega (arith, below, length-map ms mapped_of)))
@@ -135,12 +102,6 @@ none_counted counts empty d = subst (λ (es : List (Bor (List ℕ) × Bool)). Is
 
 pub only_verdict : (l : List Mapped) (m : Mapped) (v : Verdict) → HasSecondVerdict [] l m v → HasVerdict l m v
 only_verdict l m v is = grind arith
-
-pub verdict_next : (ms : List Mapping) (i : ℕ) (m : Mapping) (l : List Mapped) (old new : List Verdict) (v : Verdict) → i < length ms → m ≡ get_or ms i m → AllZip (HasVerdict l) (map mapped_of (take i ms)) old
-    → HasSecondVerdict [] l (mapped_of m) v → new ≡ old ++ v ∷ [] → AllZip (HasVerdict l) (map mapped_of (take (i + 1) ms)) new
-verdict_next ms i m l old new v below is so_far judged more =
-    rw (take_more ms i m below, more, map-append)
-    (zip_more (HasVerdict l) (map mapped_of (take i ms)) old (mapped_of (get_or ms i m)) v so_far (subst (λ (x : Mapping). HasVerdict l (mapped_of x) v) is (only_verdict l (mapped_of m) v judged)))
 
 module _ (ms : List Mapping) (i : ℕ) (m : Mapping) (old : List Update) (below : i < length ms) (is : m ≡ get_or ms i m) (asked : List Asked) (indexes : List ℕ) (firsts l : List Mapped)
     (so_far : IsMadeFrom (λ k x p. IsPlannedBesides asked indexes firsts l x p) 0 (map mapped_of (take i ms)) (map planned_of old))
@@ -170,9 +131,6 @@ first_more ms xs m asked verdicts old new u o n e (below, is) (so_far, long) all
     let next = made_one (λ j x p. IsPlanned asked (map mapped_of ms) x p) mapped_of planned_of ms (length old) m old (omega (arith, below, long)) (is ∙ ap (λ (k : ℕ). get_or ms k m) (sym long)) so_far new u planned more in
     (subst (λ (k : ℕ). IsMadeFrom (λ j x p. IsPlanned asked (map mapped_of ms) x p) 0 (map mapped_of (take k ms)) (map planned_of new)) (sym longer) next, omega (arith, longer, long, length-append xs (m ∷ [])))
 
-pub planned_copy : (m copy : Mapping) (u : Update) (item : Option ℕ) (o : Origin) (v : Verdict) → IsMappingCopy m copy → planned_of u ≡ planned_by (mapped_of copy) item o v → planned_of u ≡ planned_by (mapped_of m) item o v
-planned_copy m copy u item o v copied same = same ∙ ap (λ (x : Mapped). planned_by x item o v) (copied_mapping m copy copied)
-
 pair_cases : (xs ys : List Mapped) (m : Mapped) → HasPair (xs ++ ys) m → HasPair xs m ⊎ HasPair ys m
 pair_cases [] ys m has = inr has
 pair_cases (x ∷ xs) ys m has = search (rules, pair_cases xs ys m)
@@ -181,8 +139,8 @@ pair_cases (x ∷ xs) ys m has = search (rules, pair_cases xs ys m)
 apart_before : (l : List Mapped) (k : ℕ) (m : Mapped) → AreApart l → k < length l → get_or l k m ≡ m → HasPair (take k l) m → ⊥
 apart_before [] k m apart below at has = omega (arith, below)
 apart_before (x ∷ l) zero m apart below at has = has
-apart_before (x ∷ l) (suc k) m apart below at (inl same) = subst (λ (z : Mapped). ¬ (IsSamePair x z)) at (All-from_recursion (λ z. ¬ (IsSamePair x z)) l apart.0 k m (omega (arith, below))) same
-apart_before (x ∷ l) (suc k) m apart below at (inr has) = apart_before l k m apart.1 (omega (arith, below)) at has
+apart_before (x ∷ l) (suc k) m apart below at has =
+    let differ = All-from_recursion (λ z. ¬ (IsSamePair x z)) l apart.0 k m (omega (arith, below)) in search (rules, has, differ, at, apart_before l k m apart.1 (omega (arith, below)) at)
 
 pub flag_known : (xs ys : List Mapping) (flags : List Bool) → AreApart (map mapped_of ys) → FlagsDuplicates by_pair (xs ++ ys) flags → FlagKnown (map mapped_of xs) (map mapped_of ys) flags
 flag_known xs ys flags apart flagged k d below =
@@ -217,13 +175,6 @@ judged_of asked tracking indexes xs ys fs bs before behind new (first, second) a
     let seconds = rw (first, second) at are_behind in
     record { before = map planned_of before; behind = map planned_of behind; are_before = are_before; are_behind = seconds; all = ap (map planned_of) joined ∙ map-append planned_of before behind }
 
-pub judged_alone : (asked tracking : List Asked) (indexes : List ℕ) (firsts : List Mapped) (ys : List Mapping) (new : List Planned) → ys ≡ [] → AreFirst asked firsts new
-    → AreJudged asked firsts tracking indexes (map mapped_of ys) new
-judged_alone asked tracking indexes firsts ys new none first =
-    subst (λ (l : List Mapping). AreJudged asked firsts tracking indexes (map mapped_of l) new) (sym none) (record { before = new; behind = []; are_before = first; are_behind = refl; all = sym (append-nil new) })
-
--- the flags of both lists, for what is split
-pub known_of : (xs ys fs bs all : List Mapping) (flags given : List Bool) → (fs ≡ xs) × (bs ≡ ys) → all ≡ xs ++ ys → given ≡ flags → AreApart (map mapped_of ys) → FlagsDuplicates by_pair all flags
-    → FlagKnown (map mapped_of fs) (map mapped_of bs) given
-known_of xs ys fs bs all flags given (first, second) whole same apart flagged =
-    rw (first, second, same) (flag_known xs ys flags apart (subst (λ (l : List Mapping). FlagsDuplicates by_pair l flags) whole flagged))
+pub planned_copy : (m copy : Mapping) (u : Update) (item : Option ℕ) (o : Origin) (v : Verdict) → IsMappingCopy m copy → planned_of u ≡ planned_by (mapped_of copy) item o v
+    → planned_of u ≡ planned_by (mapped_of m) item o v
+planned_copy m copy u item o v copied same = same ∙ ap (λ (x : Mapped). planned_by x item o v) (copied_mapping m copy copied)

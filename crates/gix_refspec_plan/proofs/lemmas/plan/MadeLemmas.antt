@@ -1,19 +1,18 @@
 -- Elements of lists, and what a relation makes of them.
-use Rattle.gix_refspec_plan.proofs.Common.{◌≡◌, ◌↔◌, ◌<◌, ◌+◌, ◌++◌, ◌∙◌, ℕ, zero, suc, List, [], ◌∷◌, None, Some, length, map, take, get_or, append-nil, map-append, refl, sym, ap, subst, arith, Contains}
-use Rattle.gix_refspec_plan.proofs.Common.{IsMadeFrom, MakesOnly, any_made, made_any, made_more, some_at, some_of, inl, inr, Contains-push_cases}
+use Rattle.gix_refspec_plan.proofs.Common.{rules, ◌≡◌, ◌↔◌, ◌<◌, ◌+◌, ◌++◌, ◌∙◌, ℕ, suc, List, [], ◌∷◌, None, Some, length, map, take, get_or, append-nil, map-append, refl, sym, ap, subst, arith, Contains}
+use Rattle.gix_refspec_plan.proofs.Common.{IsMadeFrom, MakesOnly, any_made, made_any, made_more, some_at, some_of, Contains-push_cases}
 
 pub nothing_in : {X : Type 0} (l : List X) (x : X) → l ≡ [] → ¬ (Contains l x)
-nothing_in {X} l x empty has = let (i, below, at) = subst (λ (m : List X). Contains m x) empty has in omega (arith, below)
+nothing_in l x empty has = grind arith
 
 pub one_in : {X : Type 0} (x y : X) → Contains (x ∷ []) y → y ≡ x
-one_in x y (zero, below, at) = sym at
-one_in x y (suc i, below, at) = absurd (omega (arith, below))
+one_in x y has = grind arith
 
 pub there : {X : Type 0} (y : X) (xs : List X) (x : X) → Contains xs x → Contains (y ∷ xs) x
 there y xs x (i, below, at) = (suc i, omega (arith, below), at)
 
 pub push_all : {X : Type 0} (P : X → Type 0) (xs : List X) (x : X) → ((y : X) → Contains xs y → P y) → P x → (y : X) → Contains (xs ++ x ∷ []) y → P y
-push_all P xs x all last y there = elim (Contains-push_cases xs x y there) [ inl before ↦ all y before | inr same ↦ subst P same last ]
+push_all P xs x all last y there = search (rules, Contains-push_cases xs x y there)
 
 pub made_from : {X Y : Type 0} (R : ℕ → X → Y → Type 0) (k : ℕ) (xs : List X) (ys : List Y) (y : Y) → IsMadeFrom R k xs ys → Contains ys y → (j : ℕ) × (x : X) × Contains xs x × R j x y
 made_from {X} {Y} R k xs ys y made (i, below, at) =

@@ -1,25 +1,16 @@
 -- A wish and the refs of a remote have one plan.
-use Rattle.gix_refspec_plan.proofs.Common.{◌≡◌, ◌⊎◌, inl, inr, ℕ, List, [], ◌∷◌, ◌++◌, Option, None, Some, MatchOption, map, take, refl, sym, ap, ◌∙◌, subst, AllZip, Contains, slice_get, same_Some, Origin}
-use Rattle.gix_refspec_plan.proofs.Common.{Verdict, InvalidSide, star, Lacks, HasStar, Reading, fetched_alone, written_name_of, Ref, Lacks-ContainsText, Mapped, AreKeptForward, LacksSource, one_forward}
-use Rattle.gix_refspec_plan.proofs.Common.{IsRefName, AreAsked, AreConfigured, AreMapped, AreMerges, AreTaken, AreThose, AreUncovered, Asked, Covers, HasOrigin, HasSecondVerdict, HasVerdict, IsCompleted}
-use Rattle.gix_refspec_plan.proofs.Common.{IsNegativeReading, IsPlanned, IsPlannedBesides, IsPositiveReading, IsTakenAt, IsTracked, IsUnwritableAt, MayBeMissing, Planned, Wish, OnePlan, rules, Configured}
-use Rattle.gix_refspec_plan.proofs.Common.{arith}
-use Rattle.gix_refspec_plan.proofs.{Common.Given, Common.Merge, lemmas.plan.OpposedLemmas.unsound, lemmas.plan.OpposedLemmas.as_second}
+use Rattle.gix_refspec_plan.proofs.Common.{◌≡◌, inl, inr, ℕ, List, [], ◌∷◌, ◌++◌, map, refl, sym, ap, ◌∙◌, subst, AllZip, Origin, Verdict, star, Reading, Ref, Lacks-ContainsText, Mapped, AreKeptForward}
+use Rattle.gix_refspec_plan.proofs.Common.{one_forward, AreAsked, AreConfigured, AreMapped, AreMerges, AreTaken, AreThose, AreUncovered, Asked, HasSecondVerdict, IsCompleted, IsNegativeReading, IsPlanned}
+use Rattle.gix_refspec_plan.proofs.{Common.{IsPlannedBesides, IsPositiveReading, IsTracked, Planned, Wish, OnePlan, rules, Configured, arith, Given}, lemmas.plan.OpposedLemmas.as_second}
 use Rattle.gix_refspec_match.proofs.lemmas.lists.ListsLemmas.{made_once}
 use Rattle.gix_refspec.specs.declared.match_group.ref_names.InvalidSide.TheVariants as invalid
 
 those_once : (P : Reading → Type 0) (origin_at : ℕ → Origin) (specs : List Reading) (a b : List Asked) → AreThose P origin_at specs a → AreThose P origin_at specs b → a ≡ b
 those_once P origin_at specs = made_once (λ (k : ℕ) (r : Reading) (a : Asked). (a ≡ record { reading = r; origin = origin_at k }) × P r) (λ k r x y of_x of_y. of_x.0 ∙ sym of_y.0) 0 specs
 
-abbrev Becomes : Option (List ℕ) → Option (List ℕ) → Type 0
-Becomes d x = MatchOption d (x ≡ None) (λ t. (HasStar t × (x ≡ Some t)) ⊎ (Lacks star t × (x ≡ Some (written_name_of t))))
-
-destination_once : (d x y : Option (List ℕ)) → Becomes d x → Becomes d y → x ≡ y
-destination_once d x y of_x of_y = grind (arith, Lacks-ContainsText star)
-
 pub reading_once : (r a b : Reading) → IsCompleted r a → IsCompleted r b → a ≡ b
 reading_once r a b is also =
-    let destination = destination_once r.destination a.destination b.destination is.destination also.destination in
+    let destination : a.destination ≡ b.destination = grind (arith, Lacks-ContainsText star, is.destination, also.destination) in
     λ i. record { operation = (is.operation ∙ sym also.operation) i; mode = (is.mode ∙ sym also.mode) i; source = (is.source ∙ sym also.source) i; destination = destination i }
 
 pub completed_once : (g a b : List Reading) → AllZip IsCompleted g a → AllZip IsCompleted g b → a ≡ b
@@ -32,10 +23,6 @@ mapped_once a b refs l m same is other =
     let also = subst (λ (x : List Asked). AreMapped x refs m) (sym same) other in
     one_forward also.completed refs l m (subst (λ (g : List Reading). AreKeptForward g refs l) (completed_once (map (λ x. x.reading) a) is.completed also.completed is.are also.are) is.kept) also.kept
 
-merges_once : (merges : List (List ℕ)) (mapped : List Mapped) (a b : List Asked) → AreMerges merges mapped a → AreMerges merges mapped b → a ≡ b
-merges_once merges mapped =
-    made_once (λ (k : ℕ) (n : List ℕ) (a : Asked). (a ≡ record { reading = fetched_alone n; origin = Merge k }) × IsRefName n × ¬ (Covers mapped n) × ¬ (Contains (take k merges) n)) (λ k n x y of_x of_y. of_x.0 ∙ sym of_y.0) 0 merges
-
 pub none_merged : (merges : List (List ℕ)) (mapped : List Mapped) (a : List Asked) → merges ≡ [] → AreMerges merges mapped a → a ≡ []
 none_merged merges mapped a none are = subst (λ (l : List (List ℕ)). AreMerges l mapped a) none are
 
@@ -45,7 +32,7 @@ uncovered_once wish refs a b (inl (none, is)) (inr (specs, mapped, those, are, m
 uncovered_once wish refs a b (inr (specs, mapped, those, are, made)) (inl (none, is)) = none_merged wish.merges mapped a none made ∙ sym is
 uncovered_once wish refs a b (inr (specs, mapped, those, are, made)) (inr (others, others_mapped, others_those, others_are, others_made)) =
     let same = mapped_once specs others refs mapped others_mapped (those_once (λ r. Unit {0}) Configured wish.configured specs others those others_those) are others_are in
-    merges_once wish.merges mapped a b made (subst (λ (l : List Mapped). AreMerges wish.merges l b) (sym same) others_made)
+    made_once _ (λ k n x y of_x of_y. of_x.0 ∙ sym of_y.0) 0 wish.merges a b made (rw (← same) at others_made)
 
 configured_once : (wish : Wish) (refs : List Ref) (a b : List Asked) → AreConfigured wish refs a → AreConfigured wish refs b → a ≡ b
 configured_once wish refs a b (AreConfigured.by_configuration specs merges some those are is) (AreConfigured.by_configuration others others_merges others_some others_those others_are also) =
@@ -66,10 +53,9 @@ asked_once wish refs a b (AreAsked.without specs none are is) (AreAsked.without 
 
 taken_once : (given : List Reading) (refs : List Ref) (i j : List ℕ) (s t : List Ref) → AreTaken given refs i s → AreTaken given refs j t → (i ≡ j) × (s ≡ t)
 taken_once given refs i j s t is also =
-    let same = mapped_once is.asked also.asked refs is.mapped also.mapped (those_once IsPositiveReading Given given is.asked also.asked is.are_asked also.are_asked) is.are_mapped also.are_mapped in (
-      made_once (λ (k : ℕ) (r : Ref) (index : ℕ). (index ≡ k) × IsTakenAt also.mapped k) (λ k r x y of_x of_y. of_x.0 ∙ sym of_y.0) 0 refs i j (rw same at is.are_indexes) also.are_indexes,
-      made_once (λ (k : ℕ) (r : Ref) (made : Ref). (made ≡ r) × IsTakenAt also.mapped k) (λ k r x y of_x of_y. of_x.0 ∙ sym of_y.0) 0 refs s t (rw same at is.are_taken) also.are_taken,
-    )
+    let same = mapped_once is.asked also.asked refs is.mapped also.mapped (those_once IsPositiveReading Given given is.asked also.asked is.are_asked also.are_asked) is.are_mapped also.are_mapped in
+    let indexes = made_once _ (λ k r x y of_x of_y. of_x.0 ∙ sym of_y.0) 0 refs i j (rw same at is.are_indexes) also.are_indexes in
+    (indexes, made_once _ (λ k r x y of_x of_y. of_x.0 ∙ sym of_y.0) 0 refs s t (rw same at is.are_taken) also.are_taken)
 
 tracked_once : (wish : Wish) (refs : List Ref) (a b : List Asked) (i j : List ℕ) (l m : List Mapped) → IsTracked wish refs a i l → IsTracked wish refs b j m → (a ≡ b) × (i ≡ j) × (l ≡ m)
 tracked_once wish refs a b i j l m (IsTracked.by_call positive negative taken some those bars is are mapped) (IsTracked.by_call others others_negative others_taken again others_those others_bars also others_are others_mapped) =
@@ -82,42 +68,22 @@ tracked_once wish refs a b i j l m (IsTracked.by_call positive negative taken so
 tracked_once wish refs a b i j l m (IsTracked.nothing none no_specs no_indexes no_mappings) (IsTracked.by_call positive negative taken some those bars is are mapped) = absurd (some none)
 tracked_once wish refs a b i j l m (IsTracked.nothing none no_specs no_indexes no_mappings) (IsTracked.nothing again no_specs_too no_indexes_too no_mappings_too) = (no_specs ∙ sym no_specs_too, no_indexes ∙ sym no_indexes_too, no_mappings ∙ sym no_mappings_too)
 
-side_once : (m : Mapped) (s t : InvalidSide) → IsUnwritableAt s m → IsUnwritableAt t m → s ≡ t
-side_once m s t is also = grind arith
-
 second_verdict_once : (firsts l : List Mapped) (m : Mapped) (v w : Verdict) → HasSecondVerdict firsts l m v → HasSecondVerdict firsts l m w → v ≡ w
-second_verdict_once firsts l m v w has also = grind (arith, side_once m, unsound)
-
-verdict_once : (l : List Mapped) (m : Mapped) (v w : Verdict) → HasVerdict l m v → HasVerdict l m w → v ≡ w
-verdict_once l m v w has also = second_verdict_once [] l m v w (as_second l m v has) (as_second l m w also)
-
-origin_once : (asked : List Asked) (m : Mapped) (o p : Origin) → HasOrigin asked m o → HasOrigin asked m p → o ≡ p
-origin_once asked m o p (a, is, from) (b, also, too) = sym from ∙ ap (λ (x : Asked). x.origin) (same_Some a b (sym is ∙ also)) ∙ too
-
-item_once : (indexes : List ℕ) (j x y : Option ℕ) → MatchOption j (x ≡ None) (λ i. slice_get indexes i ≡ x) → MatchOption j (y ≡ None) (λ i. slice_get indexes i ≡ y) → x ≡ y
-item_once indexes j x y is also = grind arith
-
-same_planned : (p q : Planned) → p.source ≡ q.source → p.item ≡ q.item → p.destination ≡ q.destination → p.origin ≡ q.origin → p.verdict ≡ q.verdict → p ≡ q
-same_planned p q source item destination from judged = λ i. record { source = source i; item = item i; destination = destination i; origin = from i; verdict = judged i }
+second_verdict_once firsts l m v w has also = grind arith
 
 planned_once : (asked : List Asked) (firsts : List Mapped) (k : ℕ) (m : Mapped) (p q : Planned) → IsPlanned asked firsts m p → IsPlanned asked firsts m q → p ≡ q
-planned_once asked firsts k m p q is also = same_planned p q (is.source ∙ sym also.source) (is.item ∙ sym also.item) (is.destination ∙ sym also.destination)
-    (origin_once asked m p.origin q.origin is.origin also.origin) (verdict_once firsts m p.verdict q.verdict is.verdict also.verdict)
+planned_once asked firsts k m p q is also = grind (arith, is, also, second_verdict_once [] firsts m, as_second firsts m)
 
 besides_once : (asked : List Asked) (indexes : List ℕ) (firsts seconds : List Mapped) (k : ℕ) (m : Mapped) (p q : Planned)
     → IsPlannedBesides asked indexes firsts seconds m p → IsPlannedBesides asked indexes firsts seconds m q → p ≡ q
-besides_once asked indexes firsts seconds k m p q is also = same_planned p q (is.source ∙ sym also.source) (item_once indexes m.item p.item q.item is.item also.item) (is.destination ∙ sym also.destination)
-    (origin_once asked m p.origin q.origin is.origin also.origin) (second_verdict_once firsts seconds m p.verdict q.verdict is.verdict also.verdict)
+besides_once asked indexes firsts seconds k m p q is also = grind (arith, is, also, second_verdict_once firsts seconds m)
 
 pub one_plan : (wish : Wish) (refs : List Ref) → OnePlan wish refs
 one_plan wish refs p q missing others is also =
     let asked = asked_once wish refs is.asked also.asked is.are_asked also.are_asked in
     let firsts = mapped_once is.asked also.asked refs is.firsts also.firsts asked is.are_firsts also.are_firsts in
     let (tracking, indexes, seconds) = tracked_once wish refs is.tracking also.tracking is.indexes also.indexes is.seconds also.seconds is.are_seconds also.are_seconds in
-    let before = made_once (λ (k : ℕ) (m : Mapped) (p : Planned). IsPlanned also.asked also.firsts m p) (planned_once also.asked also.firsts) 0 also.firsts is.before also.before
-    (rw (asked, firsts) at is.are_before) also.are_before in
-    let behind = made_once (λ (k : ℕ) (m : Mapped) (p : Planned). IsPlannedBesides also.tracking also.indexes also.firsts also.seconds m p)
-    (besides_once also.tracking also.indexes also.firsts also.seconds) 0 also.seconds is.behind also.behind (rw (tracking, indexes, firsts, seconds) at is.are_behind) also.are_behind in (
-      is.all ∙ ap (λ (l : List Planned). l ++ is.behind) before ∙ ap (λ (l : List Planned). also.before ++ l) behind ∙ sym also.all,
-      made_once (λ (k : ℕ) (a : Asked) (o : Origin). (o ≡ a.origin) × ¬ (MayBeMissing o) × LacksSource refs a.reading) (λ k a x y of_x of_y. of_x.0 ∙ sym of_y.0) 0 also.asked missing others (rw asked at is.lacks) also.lacks,
-    )
+    let before = made_once _ (planned_once also.asked also.firsts) 0 also.firsts is.before also.before (rw (asked, firsts) at is.are_before) also.are_before in
+    let behind = made_once _ (besides_once also.tracking also.indexes also.firsts also.seconds) 0 also.seconds is.behind also.behind (rw (tracking, indexes, firsts, seconds) at is.are_behind) also.are_behind in
+    let lacking = made_once _ (λ k a x y of_x of_y. of_x.0 ∙ sym of_y.0) 0 also.asked missing others (rw asked at is.lacks) also.lacks in
+    (is.all ∙ ap (λ (l : List Planned). l ++ is.behind) before ∙ ap (λ (l : List Planned). also.before ++ l) behind ∙ sym also.all, lacking)

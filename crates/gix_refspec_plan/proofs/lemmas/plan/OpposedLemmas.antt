@@ -1,47 +1,38 @@
 -- An update is in conflict exactly if it conflicts with another one, and no ref is written twice.
-use Rattle.gix_refspec_plan.proofs.Common.{◌≡◌, ◌⊎◌, inl, inr, ◌↔◌, ℕ, ◌<◌, List, [], Option, None, Some, IsSome, MatchOption, get_or, length, refl, sym, ◌∙◌, subst, Contains, slice_get, get_or_default}
-use Rattle.gix_refspec_plan.proofs.Common.{All-from_recursion, Contains-append_cases, Contains-append_left, Contains-append_right, Contains-get_or, recursion_from_All, slice_get_read, Origin, Verdict}
-use Rattle.gix_refspec_plan.proofs.Common.{InvalidSide, Ref, HasPair, IsSamePair, Mapped, IsValidSource, Asked, CanBeWritten, HasOrigin, HasSecondVerdict, HasVerdict, IsContested, IsPlan, IsPlanned}
-use Rattle.gix_refspec_plan.proofs.Common.{IsPlannedBesides, IsSound, IsTakenOver, IsUnwritableAt, Planned, Wish, ConflictsExactly, DoConflict, All-contains, Written, InConflict, Any-HasPair, IsOfPair}
-use Rattle.gix_refspec_plan.proofs.Common.{some_at, some_element, AreMappings, ◌≢◌, arith, ◌+◌, ◌∷◌, ◌++◌, AllByRecursion, all_join, IsMadeFrom, AreApart, AreWrittenApart, AreWrittenOnce}
-use Rattle.gix_refspec_plan.proofs.{Common.WritesOnce, lemmas.plan.JudgeLemmas.mappings_of, lemmas.plan.JudgeLemmas.tracked_mappings}
+use Rattle.gix_refspec_plan.proofs.Common.{option_flatten, option_map, IsSome, rules, ◌≡◌, ◌⊎◌, inl, ◌↔◌, ℕ, ◌<◌, List, [], Option, None, Some, MatchOption, get_or, length, refl, sym, ◌∙◌, subst, Contains}
+use Rattle.gix_refspec_plan.proofs.Common.{slice_get, get_or_default, All-from_recursion, Contains-append_cases, Contains-append_left, Contains-append_right, Contains-get_or, recursion_from_All, slice_get_read}
+use Rattle.gix_refspec_plan.proofs.Common.{Origin, Verdict, Ref, HasPair, IsSamePair, Mapped, Asked, HasOrigin, HasSecondVerdict, HasVerdict, IsContested, IsPlan, IsPlanned, IsPlannedBesides, IsSound, IsTakenOver}
+use Rattle.gix_refspec_plan.proofs.Common.{Planned, Wish, ConflictsExactly, DoConflict, All-contains, Written, InConflict, Any-HasPair, IsOfPair, some_at, some_element, AreMappings, ◌≢◌, arith, ◌+◌, ◌∷◌, ◌++◌}
+use Rattle.gix_refspec_plan.proofs.{Common.{AllByRecursion, all_join, IsMadeFrom, AreApart, AreWrittenApart, AreWrittenOnce, WritesOnce}, lemmas.plan.JudgeLemmas.{mappings_of, tracked_mappings}}
+use Rattle.gix_refspec_plan.proofs.lemmas.plan.MadeLemmas.{made_from, made_has, there}
 use Rattle.gix_refspec.specs.declared.match_group.ref_names.InvalidSide.TheVariants as invalid
-use Rattle.gix_refspec_plan.proofs.lemmas.plan.MadeLemmas.{made_from, nothing_in, made_has, there}
-
-pub unsound : (side : InvalidSide) (m : Mapped) → IsUnwritableAt side m → ¬ (IsSound m)
-unsound side m is sound = grind arith
 
 module _ (over l : List Mapped) (m : Mapped) where
   sound_of : (v : Verdict) → HasSecondVerdict over l m v → (v ≡ Written) ⊎ (v ≡ InConflict) → IsSound m × ¬ (IsTakenOver over m)
   sound_of v has either = grind arith
 
   conflict_of : (v : Verdict) → IsSound m → ¬ (IsTakenOver over m) → IsContested l m → HasSecondVerdict over l m v → v ≡ InConflict
-  conflict_of v sound free contested has = grind (arith, unsound)
-
-untaken : (m : Mapped) → ¬ (IsTakenOver [] m)
-untaken m (n, has, sound, share) = nothing_in [] n refl has
+  conflict_of v sound free contested has = grind arith
 
 -- a verdict of one list is the same where another list without mappings wins
 pub as_second : (l : List Mapped) (m : Mapped) (v : Verdict) → HasVerdict l m v → HasSecondVerdict [] l m v
-as_second l m v is = grind (arith, untaken m)
+as_second l m v is = grind arith
 
 origin_of : (asked : List Asked) (l : List Mapped) (m : Mapped) → AreMappings asked l → Contains l m → (o : Origin) × HasOrigin asked m o
 origin_of asked l m are has =
     let below : m.spec < length asked = All-contains (λ (x : Mapped). x.spec < length asked) l m (All-from_recursion (λ (x : Mapped). x.spec < length asked) l are.fit) has in
-    let d = some_element asked m.spec below in
-    let a = get_or asked m.spec d in
-    (a.origin, (a, slice_get_read asked (length asked) m.spec a refl below (get_or_default asked m.spec d a below), refl))
+    let a = get_or asked m.spec (some_element asked m.spec below) in
+    (a.origin, (a, slice_get_read asked (length asked) m.spec a refl below (get_or_default asked m.spec _ a below), refl))
 
 -- the index among all refs, of an index among those that are taken
 item_of : (indexes : List ℕ) (j : Option ℕ) → (item : Option ℕ) × MatchOption j (item ≡ None) (λ i. slice_get indexes i ≡ item)
-item_of indexes None = (None, refl)
-item_of indexes (Some j) = (slice_get indexes j, refl)
+item_of indexes j = (option_flatten (option_map (slice_get indexes) j), grind arith)
 
 pub pair_in : (l : List Mapped) (m : Mapped) → HasPair l m → (n : Mapped) × Contains l n × IsSamePair n m
 pair_in l m has = let (k, n, below, is, same) = some_at (IsOfPair m) l (Any-HasPair l m has) in (n, (k, below, is), same)
 
 sound_pair : (m n : Mapped) → IsSamePair m n → IsSound n → IsSound m
-sound_pair m n same sound = record { source = subst IsValidSource (sym same.source) sound.source; destination = subst CanBeWritten (sym same.destination) sound.destination }
+sound_pair m n same sound = grind arith
 
 -- the update by a mapping of l, where the mappings of over win
 abbrev IsUpdate : List Mapped → List Mapped → Mapped → Planned → Type 0
@@ -50,20 +41,18 @@ IsUpdate over l m p = (p.source ≡ m.source) × (p.destination ≡ m.destinatio
 -- each update is by a mapping, and each mapping in conflict has one
 pub record AreUpdates (over l : List Mapped) (updates : List Planned) : Type 0 where
   pub by : (p : Planned) → Contains updates p → (m : Mapped) × Contains l m × IsUpdate over l m p
-  pub of : (m : Mapped) → Contains l m → IsSound m → ¬ (IsTakenOver over m) → IsContested l m
-      → (p : Planned) × Contains updates p × IsUpdate over l m p
+  pub of : (m : Mapped) → Contains l m → IsSound m → ¬ (IsTakenOver over m) → IsContested l m → (p : Planned) × Contains updates p × IsUpdate over l m p
 
 module _ (over l : List Mapped) (updates : List Planned) (are : AreUpdates over l updates) where
   list_opposed : (p : Planned) → Contains updates p → p.verdict ≡ InConflict → (q : Planned) × Contains updates q × DoConflict p q
   list_opposed p has is =
       let (m, inside, (source, destination, verdict)) = are.by p has in
       let (sound, free, (n, also, sound_n, (d, from, to), differ)) = subst (HasSecondVerdict over l m) is verdict in
-      let free_n : ¬ (IsTakenOver over n) =
-      λ (x, has_x, sound_x, (e, n_to, x_to)). free (x, has_x, sound_x, (d, from, x_to ∙ sym n_to ∙ to)) in
-      let contested : IsContested l n = (m, inside, sound, (d, to, from), λ same. differ (sym same)) in
+      let free_n : ¬ (IsTakenOver over n) = λ (x, has_x, sound_x, (e, n_to, x_to)). free (x, has_x, sound_x, (d, from, x_to ∙ sym n_to ∙ to)) in
+      let contested : IsContested l n = search (rules, from, to, sound, inside, differ) in
       let (q, has_q, (q_source, q_destination, q_verdict)) = are.of n also sound_n free_n contested in
       let q_is = conflict_of over l n q.verdict sound_n free_n contested q_verdict in
-      (q, has_q, record { one = inr is; other = inr q_is; destination = d; one_to = destination ∙ from; other_to = q_destination ∙ to; differ = λ same. differ (sym source ∙ same ∙ q_source) })
+      search (rules, has_q, q_is, is, destination ∙ from, q_destination ∙ to, differ)
 
   list_conflict : (p q : Planned) → Contains updates p → Contains updates q → DoConflict p q → p.verdict ≡ InConflict
   list_conflict p q has_p has_q both =
@@ -71,76 +60,54 @@ module _ (over l : List Mapped) (updates : List Planned) (are : AreUpdates over 
       let (n, in_n, (n_source, n_destination, n_verdict)) = are.by q has_q in
       let (sound, free) = sound_of over l m p.verdict m_verdict both.one in
       let sound_n = (sound_of over l n q.verdict n_verdict both.other).0 in
-      let contested : IsContested l m = (
-        n,
-        in_n,
-        sound_n,
-        (both.destination, sym m_destination ∙ both.one_to, sym n_destination ∙ both.other_to),
-        λ same. both.differ (m_source ∙ same ∙ sym n_source),
-      ) in
+      let contested : IsContested l m = search (rules, sym m_destination ∙ both.one_to, sym n_destination ∙ both.other_to, both.differ) in
       conflict_of over l m p.verdict sound free contested m_verdict
 
 module _ (wish : Wish) (refs : List Ref) (planned : List Planned) (missing : List Origin) (plan : IsPlan wish refs planned missing) where
   firsts_are : AreUpdates [] plan.firsts plan.before
   firsts_are = record {
-    by = λ p has.
-        let (k, m, inside, of_p) =
-        made_from (λ k m p. IsPlanned plan.asked plan.firsts m p) 0 plan.firsts plan.before p plan.are_before has in
-        (m, inside, (of_p.source, of_p.destination, as_second plan.firsts m p.verdict of_p.verdict));
+    by = λ p has. let (k, m, inside, of_p) = made_from _ 0 plan.firsts plan.before p plan.are_before has in search (rules, inside, of_p, as_second);
     of = λ m has sound free contested.
         let (o, from) = origin_of plan.asked plan.firsts m (mappings_of plan.asked refs plan.firsts plan.are_firsts) has in
-        made_has (λ k m p. IsPlanned plan.asked plan.firsts m p) (IsUpdate [] plan.firsts m) 0 plan.firsts plan.before m plan.are_before has
-        (λ k. (record { source = m.source; item = m.item; destination = m.destination; origin = o; verdict = InConflict }, record { source = refl; item = refl; destination = refl; origin = from; verdict = (sound, contested) }))
-        (λ k p of_p. (of_p.source, of_p.destination, as_second plan.firsts m p.verdict of_p.verdict));
+        made_has _ (IsUpdate [] plan.firsts m) 0 plan.firsts plan.before m plan.are_before has
+        (λ k. (record { source = m.source; item = m.item; destination = m.destination; origin = o; verdict = InConflict }, search rules)) (λ k p of_p. search (rules, of_p, as_second));
   }
 
   seconds_are : AreUpdates plan.firsts plan.seconds plan.behind
   seconds_are = record {
-    by = λ p has.
-        let (k, m, inside, of_p) = made_from (λ k m p. IsPlannedBesides plan.tracking plan.indexes plan.firsts plan.seconds m p) 0 plan.seconds plan.behind p plan.are_behind has in
-        (m, inside, (of_p.source, of_p.destination, of_p.verdict));
-    of = λ m has sound free (n, also, sound_n, (d, to, n_to), differ).
+    by = λ p has. let (k, m, inside, of_p) = made_from _ 0 plan.seconds plan.behind p plan.are_behind has in search (rules, inside, of_p);
+    of = λ m has sound free contested.
         let (o, from) = origin_of plan.tracking plan.seconds m (tracked_mappings wish refs plan.tracking plan.indexes plan.seconds plan.are_seconds) has in
         let (item, among) = item_of plan.indexes m.item in
-        let unpaired : ¬ (HasPair plan.firsts m) = λ pair. let (x, inside, same) = pair_in plan.firsts m pair in free (x, inside, sound_pair x m same sound, (d, to, same.destination ∙ to)) in
-        made_has (λ k m p. IsPlannedBesides plan.tracking plan.indexes plan.firsts plan.seconds m p) (IsUpdate plan.firsts plan.seconds m) 0 plan.seconds plan.behind m plan.are_behind has
-        (λ k. (
-          record { source = m.source; item = item; destination = m.destination; origin = o; verdict = InConflict },
-          record { updates = subst IsSome (sym to) refl; new = unpaired; source = refl; item = among; destination = refl; origin = from; verdict = (sound, free, (n, also, sound_n, (d, to, n_to), differ)) },
-        ))
-        (λ k p of_p. (of_p.source, of_p.destination, of_p.verdict));
+        let to : IsSome m.destination = search (rules, contested.3) in
+        let unpaired : ¬ (HasPair plan.firsts m) = λ pair. let (x, inside, same) = pair_in plan.firsts m pair in search (rules, free, inside, sound_pair x m same sound, same.destination, contested.3) in
+        made_has _ (IsUpdate plan.firsts plan.seconds m) 0 plan.seconds plan.behind m plan.are_behind has
+        (λ k. (record { source = m.source; item = item; destination = m.destination; origin = o; verdict = InConflict }, search rules)) (λ k p of_p. search (rules, of_p));
   }
 
   listed : (p : Planned) → Contains planned p → Contains plan.before p ⊎ Contains plan.behind p
   listed p has = Contains-append_cases plan.before plan.behind p (subst (λ (l : List Planned). Contains l p) plan.all has)
 
   pub opposed : (p : Planned) → Contains planned p → p.verdict ≡ InConflict → (q : Planned) × Contains planned q × DoConflict p q
-  opposed p has is = rw plan.all (elim (listed p has) [
-    | inl first ↦ let (q, inside, both) = list_opposed [] plan.firsts plan.before firsts_are p first is in
-        (q, Contains-append_left plan.before plan.behind q inside, both)
-    | inr second ↦ let (q, inside, both) = list_opposed plan.firsts plan.seconds plan.behind seconds_are p second is in
-        (q, Contains-append_right plan.before plan.behind q inside, both)
-  ])
+  opposed p has is =
+      let firsts = list_opposed [] plan.firsts plan.before firsts_are p in
+      let seconds = list_opposed plan.firsts plan.seconds plan.behind seconds_are p in
+      let found : (q : Planned) × Contains (plan.before ++ plan.behind) q × DoConflict p q = search (rules, listed p has, Contains-append_left plan.before plan.behind, Contains-append_right plan.before plan.behind) in
+      rw plan.all found
 
   -- what the first list writes, the second one doesn't
-  pub never_both : (p q : Planned) → Contains plan.before p → Contains plan.behind q → (p.verdict ≡ Written) ⊎ (p.verdict ≡ InConflict)
-      → (q.verdict ≡ Written) ⊎ (q.verdict ≡ InConflict)
+  pub never_both : (p q : Planned) → Contains plan.before p → Contains plan.behind q → (p.verdict ≡ Written) ⊎ (p.verdict ≡ InConflict) → (q.verdict ≡ Written) ⊎ (q.verdict ≡ InConflict)
       → (d : List ℕ) → p.destination ≡ Some d → q.destination ≢ Some d
   never_both p q has_p has_q one other d p_to q_to =
       let (m, in_m, (m_source, m_destination, m_verdict)) = firsts_are.by p has_p in
       let (n, in_n, (n_source, n_destination, n_verdict)) = seconds_are.by q has_q in
-      let sound = (sound_of [] plan.firsts m p.verdict m_verdict one).0 in
-      (sound_of plan.firsts plan.seconds n q.verdict n_verdict other).1
-      (m, in_m, sound, (d, sym n_destination ∙ q_to, sym m_destination ∙ p_to))
+      search (rules, sound_of [] plan.firsts m p.verdict m_verdict one, sound_of plan.firsts plan.seconds n q.verdict n_verdict other)
 
   pub in_conflict : (p q : Planned) → Contains planned p → Contains planned q → DoConflict p q → p.verdict ≡ InConflict
-  in_conflict p q has_p has_q both = by (listed p has_p) (listed q has_q)
-    where
-      by : Contains plan.before p ⊎ Contains plan.behind p → Contains plan.before q ⊎ Contains plan.behind q → p.verdict ≡ InConflict
-      by (inl first) (inl too) = list_conflict [] plan.firsts plan.before firsts_are p q first too both
-      by (inl first) (inr second) = absurd (never_both p q first second both.one both.other both.destination both.one_to both.other_to)
-      by (inr second) (inl first) = absurd (never_both q p first second both.other both.one both.destination both.other_to both.one_to)
-      by (inr second) (inr too) = list_conflict plan.firsts plan.seconds plan.behind seconds_are p q second too both
+  in_conflict p q has_p has_q both =
+      let firsts = list_conflict [] plan.firsts plan.before firsts_are p q in
+      let seconds = list_conflict plan.firsts plan.seconds plan.behind seconds_are p q in
+      search (rules, listed p has_p, listed q has_q, firsts, seconds, never_both p q, never_both q p, both)
 
 pub conflicts_exactly : (wish : Wish) (refs : List Ref) → ConflictsExactly wish refs
 conflicts_exactly wish refs planned missing plan = recursion_from_All (λ p. (p.verdict ≡ InConflict) ↔ ((q : Planned) × Contains planned q × DoConflict p q)) planned (λ k d below.
@@ -151,33 +118,24 @@ conflicts_exactly wish refs planned missing plan = recursion_from_All (λ p. (p.
 -- what is written of a list of mappings is sound, and nothing else of that list has its destination
 module _ (all : List Mapped) (R : ℕ → Mapped → Planned → Type 0)
     (told : (k : ℕ) (m : Mapped) (p : Planned) → R k m p → (p.destination ≡ m.destination) × (p.verdict ≡ Written → IsSound m × ¬ (IsContested all m))) where
-  pair_apart : (j k : ℕ) (m n : Mapped) (p q : Planned) → R j m p → R k n q → Contains all n → ¬ (IsSamePair m n) → AreWrittenApart p q
-  pair_apart j k m n p q of_p of_q has differ p_written q_written d p_to q_to =
-      let (p_is, p_told) = told j m p of_p in
-      let (q_is, q_told) = told k n q of_q in
-      let m_to = sym p_is ∙ p_to in
-      let n_to = sym q_is ∙ q_to in
-      (p_told p_written).1 (n, has, (q_told q_written).0, (d, m_to, n_to), λ same. differ (record { source = same; destination = m_to ∙ sym n_to }))
-
   each_apart : (j k : ℕ) (m : Mapped) (p : Planned) (l : List Mapped) (ps : List Planned) → R j m p → ((n : Mapped) → Contains l n → Contains all n)
       → AllByRecursion (λ n. ¬ (IsSamePair m n)) l → IsMadeFrom R k l ps → AllByRecursion (AreWrittenApart p) ps
-  each_apart j k m p l ps of_p inside differ made = recursion_from_All (AreWrittenApart p) ps (λ i d below.
+  each_apart j k m p l ps of_p inside differ made = recursion_from_All (AreWrittenApart p) ps (λ i d below p_written q_written e p_to q_to.
       let (n_at, n, has, of_q) = made_from R k l ps (get_or ps i d) made (Contains-get_or ps i d below) in
-      pair_apart j n_at m n p (get_or ps i d) of_p of_q (inside n has)
-      (All-contains (λ n. ¬ (IsSamePair m n)) l n (All-from_recursion (λ n. ¬ (IsSamePair m n)) l differ) has))
+      let apart = All-contains (λ n. ¬ (IsSamePair m n)) l n (All-from_recursion (λ n. ¬ (IsSamePair m n)) l differ) has in
+      search (rules, told j m p of_p, told n_at n (get_or ps i d) of_q, apart, inside n has))
 
   list_once : (k : ℕ) (l : List Mapped) (ps : List Planned) → ((n : Mapped) → Contains l n → Contains all n) → AreApart l → IsMadeFrom R k l ps → AreWrittenOnce ps
   list_once k [] ps inside apart none = rw none tt
-  list_once k (m ∷ l) ps inside (differ, apart) (None, rest, none, more, is) = rw is (list_once (k + 1) l rest (λ x has. inside x (there m l x has)) apart more)
-  list_once k (m ∷ l) ps inside (differ, apart) (Some p, rest, of_p, more, is) =
-      rw is (each_apart k (k + 1) m p l rest of_p (λ x has. inside x (there m l x has)) differ more, list_once (k + 1) l rest (λ x has. inside x (there m l x has)) apart more)
+  list_once k (m ∷ l) ps inside (differ, apart) (made, rest, makes, more, is) =
+      let each = λ (p : Planned) (of_p : R k m p). each_apart k (k + 1) m p l rest of_p (λ x has. inside x (there m l x has)) differ more in
+      rw is (search (rules, makes, list_once (k + 1) l rest (λ x has. inside x (there m l x has)) apart more, each))
 
 once_join : (xs ys : List Planned) → AreWrittenOnce xs → AreWrittenOnce ys → ((p q : Planned) → Contains xs p → Contains ys q → AreWrittenApart p q) → AreWrittenOnce (xs ++ ys)
 once_join [] ys once_xs once_ys apart = once_ys
-once_join (p ∷ xs) ys (later, once_xs) once_ys apart = (
-  all_join (AreWrittenApart p) xs ys later (recursion_from_All (AreWrittenApart p) ys (λ k d below. apart p (get_or ys k d) (0, omega arith, refl) (Contains-get_or ys k d below))),
-  once_join xs ys once_xs once_ys (λ x y has. apart x y (there p xs x has)),
-)
+once_join (p ∷ xs) ys (later, once_xs) once_ys apart =
+    let first = recursion_from_All (AreWrittenApart p) ys (λ k d below. apart p (get_or ys k d) (0, omega arith, refl) (Contains-get_or ys k d below)) in
+    (all_join (AreWrittenApart p) xs ys later first, once_join xs ys once_xs once_ys (λ x y has. apart x y (there p xs x has)))
 
 pub writes_once : (wish : Wish) (refs : List Ref) → WritesOnce wish refs
 writes_once wish refs planned missing plan = subst AreWrittenOnce (sym plan.all) (once_join plan.before plan.behind

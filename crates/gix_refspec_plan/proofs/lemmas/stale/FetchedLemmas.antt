@@ -1,24 +1,19 @@
 -- What a fetch writes, and what could be written from an object or from a ref of the remote.
-use Rattle.gix_refspec_plan.proofs.Common.{◌≡◌, ◌⊎◌, inl, inr, ℕ, List, [], ◌∷◌, ◌++◌, ◌≢◌, MatchOption, true, Option, None, Some, length, codes, drop, nat_eq, refl, sym, ap, ◌∙◌, subst, arith}
-use Rattle.gix_refspec_plan.proofs.Common.{AllByRecursion, Any, Contains, starts_with, starts_is, star, BeginsWith, Lacks, HasOneStar, HasStar, Reading, IsAccepted, IsPositive, SideKind, pattern, full_name}
-use Rattle.gix_refspec_plan.proofs.Common.{object, partial, HasKind, filled, written_name_of, Ref, HasName, Matches, MatchesAs, IsFirstCandidate, Takes, all_join, Lacks-here, Lacks-ContainsText, Source}
-use Rattle.gix_refspec_plan.proofs.Common.{name, id, Mapped, HasPair, IsExcluded, IsSourceExcluded, IsFilled, matches_as, one_forward, one_kind, IsCompleted, CanWriteFrom, CanWriteObject, IsFetched}
-use Rattle.gix_refspec_plan.proofs.Common.{IsSourceOf, IsWritableFromObject, ref_named, AreMappedBy, HasDestination, sides_agree, All-contains, All-from_recursion, CanWrite, HasPair-Any, IsOfPair, some_at}
-use Rattle.gix_refspec_plan.proofs.Common.{some_of, rules, Bool, false, if◌then◌else◌, ◌||◌}
+use Rattle.gix_refspec_plan.proofs.Common.{◌≡◌, ◌⊎◌, inl, inr, ℕ, List, [], ◌∷◌, ◌++◌, ◌≢◌, MatchOption, true, Option, None, Some, length, codes, drop, nat_eq, refl, sym, ap, ◌∙◌, subst, arith, AllByRecursion, Any}
+use Rattle.gix_refspec_plan.proofs.Common.{Contains, starts_with, starts_is, star, BeginsWith, Lacks, HasOneStar, HasStar, Reading, IsAccepted, IsPositive, SideKind, object, partial, HasKind, filled}
+use Rattle.gix_refspec_plan.proofs.Common.{written_name_of, Ref, HasName, Matches, MatchesAs, IsFirstCandidate, Takes, all_join, Lacks-here, Lacks-ContainsText, Source, name, id, Mapped, HasPair, IsExcluded}
+use Rattle.gix_refspec_plan.proofs.Common.{IsSourceExcluded, IsFilled, matches_as, one_forward, one_kind, IsCompleted, CanWriteFrom, CanWriteObject, IsFetched, IsSourceOf, IsWritableFromObject, ref_named}
+use Rattle.gix_refspec_plan.proofs.Common.{AreMappedBy, HasDestination, sides_agree, All-contains, All-from_recursion, CanWrite, HasPair-Any, IsOfPair, some_at, some_of, rules, Bool, false, if◌then◌else◌, ◌||◌}
+use Rattle.gix_refspec_plan.proofs.lemmas.{plan.{OnePlanLemmas.{completed_once, reading_once}, OpposedLemmas.pair_in}, stale.ZipLemmas.{completed_excluded, zip_first, zip_partner}}
 use Rattle.std.proofs.lemmas.Bool.Decides.{Decides-eqb}
-use Rattle.gix_refspec_text.proofs.lemmas.hits.CandidateLemmas.{first_candidate, some_first}
-use Rattle.gix_refspec.specs.Laws.Matching.{IsPaired, MakesForward, PairsId}
-use Rattle.gix_refspec.proofs.lemmas.keep.PairMadeLemmas.{kept_exactly}
-use Rattle.gix_refspec_text.proofs.facts.ManualFacts.{Lacks-tested}
-use Rattle.gix_refspec_plan.proofs.lemmas.plan.{OnePlanLemmas.completed_once, OnePlanLemmas.reading_once, OpposedLemmas.pair_in}
-use Rattle.gix_refspec_plan.proofs.lemmas.stale.ZipLemmas.{completed_excluded, zip_first, zip_partner}
+use Rattle.gix_refspec_text.proofs.{lemmas.hits.CandidateLemmas.{first_candidate, some_first}, facts.ManualFacts.Lacks-tested}
+use Rattle.gix_refspec.{proofs.lemmas.keep.{NameOnlyLemmas.matches_by_name, FilterLemmas.item_named, PairMadeLemmas.kept_exactly}, specs.Laws.Matching.{IsPaired, MakesForward, PairsId}}
 
 pub contained_pair : (l : List Mapped) (m : Mapped) → Contains l m → HasPair l m
 contained_pair l m (k, below, is) = HasPair-Any l m (some_of (IsOfPair m) l (k, m, below, is, record { source = refl; destination = refl }))
 
 pub named_some : (P : Ref → Type 0) (refs : List Ref) (n : List ℕ) → HasName refs n → ((r : Ref) → r.name ≡ n → P r) → Any P refs
-named_some P [] n none holds = absurd none
-named_some P (r ∷ refs) n has holds = some_at P (r ∷ refs) (search (rules, has, holds r, λ (later : HasName refs n). some_of P refs (named_some P refs n later holds)))
+named_some P refs n has holds = let (item, (k, below, at), same) = item_named refs n has in (k, item, below, at, holds item same)
 
 pub some_named : (P : Ref → Type 0) (refs : List Ref) (n : List ℕ) → ((r : Ref) → P r → r.name ≡ n) → Any P refs → HasName refs n
 some_named P [] n names any = some_of P [] any
@@ -33,14 +28,8 @@ below_if false false x is = record { after = codes "heads/" ++ x; here = refl }
 pub written_below : (x : List ℕ) → BeginsWith (codes "refs/") (written_name_of x)
 written_below x = below_if (starts_with nat_eq x (codes "refs/")) (starts_with nat_eq x (codes "heads/") || starts_with nat_eq x (codes "tags/") || starts_with nat_eq x (codes "remotes/")) x refl
 
--- and has no star
-lacks_if : (b c : Bool) (x : List ℕ) → Lacks star x → Lacks star (if b then x else (if c then codes "refs/" ++ x else codes "refs/heads/" ++ x))
-lacks_if true c x lacks = lacks
-lacks_if false true x lacks = all_join (λ c. c ≢ star) (codes "refs/") x (Lacks-tested star (codes "refs/") refl) lacks
-lacks_if false false x lacks = all_join (λ c. c ≢ star) (codes "refs/heads/") x (Lacks-tested star (codes "refs/heads/") refl) lacks
-
 pub written_lacks : (x : List ℕ) → Lacks star x → Lacks star (written_name_of x)
-written_lacks x lacks = lacks_if (starts_with nat_eq x (codes "refs/")) (starts_with nat_eq x (codes "heads/") || starts_with nat_eq x (codes "tags/") || starts_with nat_eq x (codes "remotes/")) x lacks
+written_lacks x lacks = search (rules, all_join (λ c. c ≢ star), Lacks-tested star)
 
 pub completed_destination : (side full : Option (List ℕ)) (d : List ℕ)
     → MatchOption side (full ≡ None) (λ x. (HasStar x × (full ≡ Some x)) ⊎ (Lacks star x × (full ≡ Some (written_name_of x)))) → full ≡ Some d
@@ -52,49 +41,22 @@ completed_destination (Some x) full d shape is = (x, refl, grind (arith, shape, 
 pub no_object_named : (x n : List ℕ) (word : Option (List ℕ)) (bytes : List ℕ) → HasKind x (object bytes) → ¬ (MatchesAs (object bytes) (ref_named n) word)
 no_object_named x n word bytes kind holds = grind (arith, kind.2.bytes)
 
--- a side matches by names alone, unless it is an object
-match_named : (x : List ℕ) (q r : Ref) (word : Option (List ℕ)) → q.name ≡ r.name → ((bytes : List ℕ) → HasKind x (object bytes) → ¬ (MatchesAs (object bytes) q word)) → Matches x q word → Matches x r word
-match_named x q r word same no_object matches =
-    record { kind = matches.kind; of = matches.of; is = by matches.kind matches.of (subst (λ (n : List ℕ). MatchesAs matches.kind (record { name = n; target = q.target; object = q.object }) word) same matches.is) }
-  where
-    by : (k : SideKind) → HasKind x k → MatchesAs k (record { name = r.name; target = q.target; object = q.object }) word
-        → MatchesAs k r word
-    by (object bytes) of holds = absurd (no_object bytes of holds)
-    by k of holds = holds
-
-plain_word : (x : List ℕ) (r : Ref) (word : Option (List ℕ)) (k : SideKind) → Lacks star x → HasKind x k → MatchesAs k r word → word ≡ None
-plain_word x r word (pattern before after) lacks of holds = absurd (Lacks-here star before after (subst (Lacks star) of.starred lacks))
-plain_word x r word k lacks of holds = holds.0
-
 -- both sides of a spec, with its destination completed, are patterns, or neither is
 abbrev AreAlike : List ℕ → List ℕ → Type 0
 AreAlike x d = (HasOneStar x × HasStar d) ⊎ (Lacks star x × Lacks star d × BeginsWith (codes "refs/") d)
 
 -- what a destination becomes where its source takes a ref is the name that it matches with the same word
 filled_matches : (x d : List ℕ) (r : Ref) (word : Option (List ℕ)) (n : List ℕ) → AreAlike x d → Matches x r word → IsFilled (Some d) word (Some n) → Matches d (ref_named n) word
-filled_matches x d r None n (inl (one, has)) takes filled = absurd (matches_as x (pattern one.0 one.1) r None one.2 takes)
-filled_matches x d r (Some w) n (inl (one, has)) takes (pattern before after, of, is) =
-    record { kind = pattern before after; of = of; is = cc (is) }
-filled_matches x d r word n (inr (lacks_x, lacks, begins)) takes (full_name m, of, is) =
-    record { kind = full_name m; of = of; is = (plain_word x r word takes.kind lacks_x takes.of takes.is, cc (is)) }
-filled_matches x d r word n (inr (lacks_x, lacks, begins)) takes (pattern before after, of, is) = absurd (Lacks-here star before after (subst (Lacks star) of.starred lacks))
-filled_matches x d r word n (inl (one, has)) takes (k, of, is) = absurd (search (rules, Lacks-ContainsText star d))
-filled_matches x d r word n (inr (lacks_x, lacks, begins)) takes (k, of, is) = absurd (search rules)
+filled_matches x d r word n alike takes filled = grind (arith, alike, takes.of, takes.is, filled, Lacks-ContainsText star d, Lacks-here star, matches_as x)
 
 matches_filled : (d : List ℕ) (word : Option (List ℕ)) (n : List ℕ) (k : SideKind) → HasStar d ⊎ BeginsWith (codes "refs/") d → HasKind d k → MatchesAs k (ref_named n) word → IsFilled (Some d) word (Some n)
-matches_filled d None n (pattern before after) shape of holds = absurd holds
-matches_filled d (Some w) n (pattern before after) shape of holds = (pattern before after, of, ap Some holds)
-matches_filled d word n (full_name m) shape of holds = (full_name m, of, ap Some holds.1)
-matches_filled d word n (object bytes) shape of holds = absurd (no_object_named d n word bytes of holds)
-matches_filled d word n (partial m) shape of holds = absurd (search (rules, shape, Lacks-ContainsText star d of.1, of.2))
+matches_filled d word n k shape of holds = grind (arith, shape, of, holds, Lacks-ContainsText star d)
 
 pub far_there : (side word : Option (List ℕ)) (n : List ℕ) → IsFilled side word (Some n) → (d : List ℕ) × (side ≡ Some d) × IsFilled (Some d) word (Some n)
-far_there None word n none = absurd (cc (none))
-far_there (Some d) word n is = (d, refl, is)
+far_there side word n is = grind (arith, is)
 
 -- of the refs with a name for which a side stands, one that it takes
-takes_first : (items : List Ref) (x s : List ℕ) (word : Option (List ℕ)) (k : SideKind) → HasKind x k → MatchesAs k (ref_named s) word
-    → HasName items s
+takes_first : (items : List Ref) (x s : List ℕ) (word : Option (List ℕ)) (k : SideKind) → HasKind x k → MatchesAs k (ref_named s) word → HasName items s
     → (t : List ℕ) × Matches x (ref_named t) word × HasName items t × ((m : List ℕ) → HasKind x (partial m) → IsFirstCandidate items m t)
 takes_first items x s word (partial y) of holds there =
     let (t, first) = some_first items y s holds.1 there in
@@ -119,20 +81,14 @@ module _ (r c : Reading) (accepted : ∥ IsAccepted r ∥₁) (done : IsComplete
   completed_writes d n word positive has matches = record { positive = subst IsPositive done.mode positive; completed = c; is = done; destination = d; has = has; matches = matches }
 
   -- a pair that the spec makes is one that it can write
-  start_writes : (items : List Ref) (start : Source) (n : List ℕ) → MakesForward items start (Some n) c
-      → CanWriteObject r n ⊎ ((s : List ℕ) × CanWriteFrom r n s × HasName items s)
+  start_writes : (items : List Ref) (start : Source) (n : List ℕ) → MakesForward items start (Some n) c → CanWriteObject r n ⊎ ((s : List ℕ) × CanWriteFrom r n s × HasName items s)
   start_writes items (name s) n makes =
       let (k, item, below, is, paired) = makes.one in
       let (d, far, becomes) = far_there makes.ends.far paired.word n paired.becomes in
       let has : c.destination ≡ Some d = makes.has.far ∙ far in
-      let alike = sides_alike makes.ends.near d makes.has.near has in
-      let from : CanWriteFrom r n s = record {
-        word = paired.word;
-        writes = completed_writes d n paired.word makes.has.positive has (filled_matches makes.ends.near d item paired.word n alike paired.takes.matches becomes);
-        source = makes.ends.near;
-        is = sym done.source ∙ makes.has.near;
-        matches = match_named makes.ends.near item (ref_named s) paired.word paired.name (λ bytes kind. absurd (makes.has.no_object bytes kind)) paired.takes.matches;
-      } in
+      let writes = completed_writes d n paired.word makes.has.positive has (filled_matches makes.ends.near d item paired.word n (sides_alike makes.ends.near d makes.has.near has) paired.takes.matches becomes) in
+      let matches = matches_by_name makes.ends item (ref_named s) paired.word paired.name makes.has.no_object paired.takes.matches in
+      let from : CanWriteFrom r n s = record { word = paired.word; writes = writes; source = makes.ends.near; is = sym done.source ∙ makes.has.near; matches = matches } in
       inr (s, from, some_named (IsPaired (Takes items) makes.ends s (Some n)) items s (λ item paired. paired.name) makes.one)
   start_writes items (id bytes) n makes =
       let (d, far, becomes) = far_there c.destination None n makes.becomes in
@@ -140,8 +96,7 @@ module _ (r c : Reading) (accepted : ∥ IsAccepted r ∥₁) (done : IsComplete
       let writes = completed_writes d n None makes.positive far (filled_matches makes.text d _ None n (sides_alike makes.text d makes.side far) matches becomes) in
       inl (record { writes = writes; source = makes.text; is = sym done.source ∙ makes.side; bytes = bytes; asks = makes.object })
 
-  written_there : (n : List ℕ) (word : Option (List ℕ)) (w : CanWrite r n word)
-      → (c.destination ≡ Some w.destination) × IsFilled (Some w.destination) word (Some n)
+  written_there : (n : List ℕ) (word : Option (List ℕ)) (w : CanWrite r n word) → (c.destination ≡ Some w.destination) × IsFilled (Some w.destination) word (Some n)
   written_there n word w =
       let has : c.destination ≡ Some w.destination = ap (λ (q : Reading). q.destination) (reading_once r c w.completed done w.is) ∙ w.has in
       let shape : HasStar w.destination ⊎ BeginsWith (codes "refs/") w.destination = search (rules, completed_shape w.destination has) in
@@ -150,29 +105,21 @@ module _ (r c : Reading) (accepted : ∥ IsAccepted r ∥₁) (done : IsComplete
   object_makes : (n : List ℕ) (w : CanWriteObject r n) → PairsId w.bytes (Some n) c
   object_makes n w =
       let (has, becomes) = written_there n None w.writes in
-      let positive = subst IsPositive (sym done.mode) w.writes.positive in
-      record { positive = positive; text = w.source; side = done.source ∙ w.is; object = w.asks; becomes = rw has becomes }
+      record { positive = subst IsPositive (sym done.mode) w.writes.positive; text = w.source; side = done.source ∙ w.is; object = w.asks; becomes = rw has becomes }
 
   -- a ref that it can be written from, or the first candidate of a partial name among the refs, makes its pair
   source_makes : (items : List Ref) (n s : List ℕ) → HasName items s → CanWriteFrom r n s → (t : List ℕ) × CanWriteFrom r n t × MakesForward items (name t) (Some n) c
   source_makes items n s there w =
       let (has, becomes) = written_there n w.word w.writes in
       let (t, matches, present, first) = takes_first items w.source s w.word w.matches.kind w.matches.of w.matches.is there in
-      let no_object : (bytes : List ℕ) → ¬ (HasKind w.source (object bytes)) = λ bytes kind.
-      no_object_named w.source t w.word bytes kind (matches_as w.source (object bytes) (ref_named t) w.word kind matches) in (
-        t,
-        record { word = w.word; writes = w.writes; source = w.source; is = w.is; matches = matches },
-        record {
-          ends = record { near = w.source; far = Some w.writes.destination };
-          has = record { positive = subst IsPositive (sym done.mode) w.writes.positive; near = done.source ∙ w.is; far = has; no_object = no_object };
-          one = named_some _ items t present (λ item named. record {
-            word = w.word;
-            name = named;
-            takes = record { matches = match_named w.source (ref_named t) item w.word (sym named) (λ bytes kind. absurd (no_object bytes kind)) matches; first = λ m kind. rw named (first m kind) };
-            becomes = becomes;
-          });
-        },
-      )
+      let no_object : (bytes : List ℕ) → ¬ (HasKind w.source (object bytes)) = λ bytes kind. no_object_named w.source t w.word bytes kind (matches_as w.source (object bytes) (ref_named t) w.word kind matches) in
+      let also = λ (item : Ref) (named : item.name ≡ t). matches_by_name (record { near = w.source; far = None }) (ref_named t) item w.word (sym named) no_object matches in
+      let pair : MakesForward items (name t) (Some n) c = record {
+        ends = record { near = w.source; far = Some w.writes.destination };
+        has = record { positive = subst IsPositive (sym done.mode) w.writes.positive; near = done.source ∙ w.is; far = has; no_object = no_object };
+        one = named_some _ items t present (λ item named. record { word = w.word; name = named; takes = record { matches = also item named; first = λ m kind. rw named (first m kind) }; becomes = becomes });
+      } in
+      (t, record { word = w.word; writes = w.writes; source = w.source; is = w.is; matches = matches }, pair)
 
 pub accepted_in : (h : List Reading) (r : Reading) → AllByRecursion (λ q. ∥ IsAccepted q ∥₁) h → Contains h r → ∥ IsAccepted r ∥₁
 accepted_in h r all there = All-contains (λ q. ∥ IsAccepted q ∥₁) h r (All-from_recursion (λ q. ∥ IsAccepted q ∥₁) h all) there
@@ -209,9 +156,8 @@ module _ (g : List Reading) (remote : List Ref) (mapped : List Mapped) (accepted
 
   pub fetched_written : (n : List ℕ) → IsFetched g remote n → HasDestination mapped n
   fetched_written n f =
-      let same : f.completed ≡ by.completed = completed_once g f.completed by.completed f.are by.are in
-      let one : f.mapped ≡ mapped = one_forward by.completed remote f.mapped mapped (rw same at f.kept) by.kept in
-      (f.mapping, rw one at f.has, f.destination)
+      let same = completed_once g f.completed by.completed f.are by.are in
+      (f.mapping, rw (one_forward by.completed remote f.mapped mapped (rw same at f.kept) by.kept) at f.has, f.destination)
 
   pub written_fetched : (n : List ℕ) → HasDestination mapped n → IsFetched g remote n
   written_fetched n (m, inside, is) = record { completed = by.completed; are = by.are; mapped = mapped; kept = by.kept; mapping = m; has = inside; destination = is }

@@ -1,16 +1,12 @@
 -- What specs say of a local ref, by the names that they write and by their patterns, and what one more of them writes.
-use Rattle.gix_refspec_plan.proofs.Common.{◌≡◌, ◌⊎◌, inl, inr, ℕ, ◌+◌, ◌<◌, List, [], ◌++◌, Option, None, Some, codes, get_or, length, take, refl, sym, ap, ◌∙◌, subst, Bor, AllByRecursion, Contains}
-use Rattle.gix_refspec_plan.proofs.Common.{get_or_default, take_more, Pattern, star, BeginsWith, Lacks, HasStar, IsSplit, Reading, with_destination, IsAccepted, IsPositive, SideKind, pattern, full_name}
-use Rattle.gix_refspec_plan.proofs.Common.{object, partial, HasKind, Fits, written_name_of, Matches, MatchesAs, split_once, Lacks-here, Lacks-ContainsText, Exclusions, IsMadeFrom, IsExcluded}
-use Rattle.gix_refspec_plan.proofs.Common.{AreExclusionsAt, AreExclusionsOf, ExcludeName, same_side, CanWrite, IsSourceOf, IsWritable, ref_named, HasNameState, HasParts, HasPatternState, HasState}
-use Rattle.gix_refspec_plan.proofs.Common.{IsPatternSource, WritesName, WritesNameFrom, WritesPattern, sides_agree, Excluded, Included, Unwritable, rules, matches_as, arith, Bool, cond, ◌∷◌, MatchOption}
-use Rattle.gix_refspec_plan.proofs.Common.{append-nil, bytes_eq, lookup, option_flatten, option_or, bytes_decides, false≢true, nil_from_length, BStr, bstr_bytes, Contains-append_left, Contains-push}
-use Rattle.gix_refspec_plan.proofs.Common.{ExcludeNameAt, made_next, AddsName, AddsPattern, AreWriters, state_for, option_to_list, true, false}
-use Rattle.gix_refspec_plan.specs.declared.stale.State.{State}
-use Rattle.gix_refspec_plan.proofs.lemmas.stale.FetchedLemmas.{accepted_in, completed_destination, no_object_named, written_below, written_lacks}
-use Rattle.gix_refspec_plan.proofs.lemmas.plan.MadeLemmas.{nothing_in, push_all, made_has, made_from}
-use Rattle.std.specs.HashMap.{hash_map_len}
-use Rattle.gix_refspec_plan.{specs.declared.stale.Writers.Writers, proofs.lemmas.stale.SourceLemmas.ExcludesNamed}
+use Rattle.gix_refspec_plan.proofs.Common.{IsCompleted, ◌≡◌, ◌⊎◌, inl, inr, ℕ, ◌+◌, ◌<◌, List, [], ◌++◌, Option, None, Some, codes, get_or, length, take, refl, sym, ap, ◌∙◌, subst, Bor, AllByRecursion, Contains}
+use Rattle.gix_refspec_plan.proofs.Common.{get_or_default, take_more, Pattern, star, BeginsWith, Lacks, HasStar, IsSplit, Reading, with_destination, IsAccepted, IsPositive, SideKind, pattern, full_name, object}
+use Rattle.gix_refspec_plan.proofs.Common.{partial, HasKind, Fits, written_name_of, Matches, MatchesAs, split_once, Lacks-here, Lacks-ContainsText, Exclusions, IsMadeFrom, IsExcluded, AreExclusionsAt}
+use Rattle.gix_refspec_plan.proofs.Common.{AreExclusionsOf, ExcludeName, same_side, CanWrite, IsSourceOf, IsWritable, ref_named, HasNameState, HasParts, HasPatternState, HasState, IsPatternSource, WritesName}
+use Rattle.gix_refspec_plan.proofs.Common.{WritesNameFrom, WritesPattern, sides_agree, Excluded, Included, Unwritable, rules, matches_as, arith, Bool, cond, ◌∷◌, MatchOption, append-nil, bytes_eq, option_flatten}
+use Rattle.gix_refspec_plan.proofs.Common.{option_or, bytes_decides, false≢true, Contains-append_left, Contains-push, made_next, AddsName, AddsPattern, AreWriters, state_for, option_to_list, true, false}
+use Rattle.gix_refspec_plan.{specs.declared.stale.{State.State, Writers.Writers}, proofs.lemmas.{plan.MadeLemmas.{push_all, made_has, made_from}, stale.FetchedLemmas.{accepted_in, completed_destination}}}
+use Rattle.gix_refspec_plan.proofs.lemmas.stale.{FetchedLemmas.{no_object_named, written_below, written_lacks}, SourceLemmas.ExcludesNamed}
 
 abbrev slice : List ℕ → Bor (List ℕ)
 slice x = record { ref_ptr = (0, 0); now = x }
@@ -32,24 +28,17 @@ some_pattern r d before after accepted positive has split =
     ]
 
 pub pattern_writes : (r : Reading) (p : Pattern) (n word : List ℕ) → WritesPattern r p → Fits p.before.now p.after.now n word → CanWrite r n (Some word)
-pattern_writes r p n word by fits = record {
-  positive = by.positive;
-  completed = r;
-  is = record { operation = refl; mode = refl; source = refl; destination = rw by.has (inl (record { before = p.before.now; after = p.after.now; here = by.split.starred }, refl)) };
-  destination = by.destination;
-  has = by.has;
-  matches = record { kind = pattern p.before.now p.after.now; of = by.split; is = fits };
-}
+pattern_writes r p n word by fits =
+    let is : IsCompleted r r = record { operation = refl; mode = refl; source = refl; destination = rw by.has (inl (record { before = p.before.now; after = p.after.now; here = by.split.starred }, refl)) } in
+    let matches : Matches by.destination (ref_named n) (Some word) = record { kind = pattern p.before.now p.after.now; of = by.split; is = fits } in
+    record { positive = by.positive; completed = r; is = is; destination = by.destination; has = by.has; matches = matches }
 
 pub name_writes : (r : Reading) (n : List ℕ) → WritesName r n → CanWrite r n None
-name_writes r n by = record {
-  positive = by.positive;
-  completed = with_destination r (written_name_of by.destination);
-  is = record { operation = refl; mode = refl; source = refl; destination = rw by.has (inr (by.lacks, refl)) };
-  destination = written_name_of by.destination;
-  has = refl;
-  matches = record { kind = full_name (written_name_of by.destination); of = (refl, written_lacks by.destination by.lacks, written_below by.destination); is = (refl, by.is) };
-}
+name_writes r n by =
+    let full = written_name_of by.destination in
+    let matches : Matches full (ref_named n) None = record { kind = full_name full; of = (refl, written_lacks by.destination by.lacks, written_below by.destination); is = (refl, by.is) } in
+    let is : IsCompleted r (with_destination r full) = record { operation = refl; mode = refl; source = refl; destination = rw by.has (inr (by.lacks, refl)) } in
+    record { positive = by.positive; completed = with_destination r full; is = is; destination = full; has = refl; matches = matches }
 
 pub writes_cases : (r : Reading) (n : List ℕ) (word : Option (List ℕ)) → CanWrite r n word
     → (WritesName r n × (word ≡ None)) ⊎ ((d : List ℕ) × (before : List ℕ) × (after : List ℕ) × (w : List ℕ) × (r.destination ≡ Some d) × IsSplit before after d × (word ≡ Some w) × Fits before after n w)
@@ -68,34 +57,27 @@ writes_cases r n word by =
     by_kind x was (inr (lacks, same)) (partial m) of v holds = absurd (of.2 (subst (BeginsWith (codes "refs/")) same (written_below x)))
 
 pub word_taken : (x s w : List ℕ) → Matches x (ref_named s) (Some w) → (before : List ℕ) × (after : List ℕ) × IsSplit before after x × Fits before after s w
-word_taken x s w matches = by_kind matches.kind matches.of matches.is
-  where
-    by_kind : (k : SideKind) → HasKind x k → MatchesAs k (ref_named s) (Some w) → (before : List ℕ) × (after : List ℕ) × IsSplit before after x × Fits before after s w
-    by_kind (pattern before after) of holds = (before, after, of, holds)
-    by_kind k of holds = absurd (let no = holds.0 in cc)
+word_taken x s w matches = grind (arith, matches.is, matches.of)
 
 -- a source that takes a ref with a word is the pattern by which the spec writes
 source_taken : (side : Option (List ℕ)) (found : Option (Bor (List ℕ) × Bor (List ℕ))) (x s w : List ℕ) → side ≡ Some x → HasParts side found → Matches x (ref_named s) (Some w)
     → (parts : Bor (List ℕ) × Bor (List ℕ)) × (found ≡ Some parts) × (s ≡ parts.0.now ++ (w ++ parts.1.now))
 source_taken side None x s w source none matches = let (before, after, split, fits) = word_taken x s w matches in absurd (none x before after source split)
-source_taken side (Some parts) x s w source (y, is, split) matches = (
-  parts,
-  refl,
-  matches_as y (pattern parts.0.now parts.1.now) (ref_named s) (Some w) split
-      (rw (same_side side x y source is) at matches),
-)
+source_taken side (Some parts) x s w source (y, is, split) matches = (parts, refl, matches_as y (pattern parts.0.now parts.1.now) (ref_named s) (Some w) split (rw (same_side side x y source is) at matches))
 
 -- no ref is excluded from which the pattern writes n
 abbrev IncludesSources : Exclusions → List ℕ → Pattern → Type 0
 IncludesSources es n p = (s : List ℕ) → IsPatternSource p n s → ¬ (ExcludeName es s)
 
--- what the names of a group and some of its patterns say of n, of which none says that a ref is excluded
+-- whether the names of a group or some of its patterns write n
+abbrev pub IsWrittenAmong : Exclusions → List Reading → List Pattern → List ℕ → State → Type 0
+IsWrittenAmong es g ps n Unwritable = ((r : Reading) → Contains g r → ¬ (WritesName r n)) × ((p : Pattern) → Contains ps p → HasPatternState es p n Unwritable)
+IsWrittenAmong es g ps n Included = IsWritable g n
+IsWrittenAmong es g ps n (Excluded k) = ⊥
+
+-- and that none of them says that a ref is excluded
 abbrev pub HasStateAmong : Exclusions → List Reading → List Pattern → List ℕ → State → Type 0
-HasStateAmong es g ps n Unwritable = ((r : Reading) → Contains g r → ¬ (WritesName r n)) × ((p : Pattern) → Contains ps p → HasPatternState es p n Unwritable)
-HasStateAmong es g ps n Included =
-    IsWritable g n × ((r : Reading) (s : List ℕ) → Contains g r → WritesNameFrom r n s → ¬ (ExcludeName es s)) ×
-    ((p : Pattern) → Contains ps p → IncludesSources es n p)
-HasStateAmong es g ps n (Excluded k) = ⊥
+HasStateAmong es g ps n s = ((r : Reading) (s : List ℕ) → Contains g r → WritesNameFrom r n s → ¬ (ExcludeName es s)) × ((p : Pattern) → Contains ps p → IncludesSources es n p) × IsWrittenAmong es g ps n s
 
 module _ (g : List Reading) (accepted : AllByRecursion (λ r. ∥ IsAccepted r ∥₁) g) (es : Exclusions) (ps : List Pattern) (are : IsMadeFrom (λ k q x. WritesPattern q x) 0 g ps) (n : List ℕ) where
   its_pattern : (r : Reading) (d before after w : List ℕ) → Contains g r → IsPositive r.mode → r.destination ≡ Some d → IsSplit before after d → Fits before after n w → (p : Pattern) × Contains ps p × WritesPattern r p × Fits p.before.now p.after.now n w
@@ -108,14 +90,14 @@ module _ (g : List Reading) (accepted : AllByRecursion (λ r. ∥ IsAccepted r �
 
   -- where no name is n and no pattern matches it, no spec can write it
   no_writer : HasStateAmong es g ps n Unwritable → ¬ (IsWritable g n)
-  no_writer (names, patterns) (r, word, inside, by) = elim (writes_cases r n word by) [
+  no_writer (included, sources, (names, patterns)) (r, word, inside, by) = elim (writes_cases r n word by) [
     | inl (name, none) ↦ names r inside name
     | inr (d, before, after, w, has, split, some, fits) ↦ let (p, there, of, so) = its_pattern r d before after w inside by.positive has split fits in patterns p there w so
   ]
 
   -- where none of the refs of names and patterns is excluded, none is from which n could be written
   all_included : AreExclusionsOf g es → HasStateAmong es g ps n Included → (s : List ℕ) → IsSourceOf g n s → ¬ (IsExcluded g s)
-  all_included whole (writable, names, patterns) s (r, inside, from) excluded = elim (writes_cases r n from.word from.writes) [
+  all_included whole (names, patterns, writable) s (r, inside, from) excluded = elim (writes_cases r n from.word from.writes) [
     | inl (name, none) ↦ names r s inside (record { writes = name; named = record { source = from.source; is = from.is; stands = subst (Matches from.source (ref_named s)) none from.matches } }) ((whole s).1 excluded)
     | inr (d, before, after, w, has, split, some, fits) ↦
         let (p, there, of, so) = its_pattern r d before after w inside from.writes.positive has split fits in
@@ -126,16 +108,6 @@ module _ (g : List Reading) (accepted : AllByRecursion (λ r. ∥ IsAccepted r �
   pub all_among : AreExclusionsOf g es → (s : State) → HasStateAmong es g ps n s → HasState g n s
   all_among whole s among = grind (arith, no_writer, all_included whole)
 
-  pub name_excluded : AreExclusionsAt g es → (k : ℕ) → HasNameState es g n (Some (Some k)) → HasState g n (Excluded k)
-  name_excluded at k (r, s, inside, from, excluded) =
-      (s, (r, inside, record { word = None; writes = name_writes r n from.writes; source = from.named.source; is = from.named.is; matches = from.named.stands }), at s k excluded)
-
-  pub among_none : HasNameState es g n None → HasStateAmong es g [] n Unwritable
-  among_none none = (none, λ p there. absurd (nothing_in [] p refl there))
-
-  pub among_name : HasNameState es g n (Some None) → HasStateAmong es g [] n Included
-  among_name ((r, inside, writes), included) = ((r, None, inside, name_writes r n writes), included, λ p there. absurd (nothing_in [] p refl there))
-
   module _ (i : ℕ) (d : Pattern) (below : i < length ps) where
     abbrev p : Pattern
     p = get_or ps i d
@@ -145,33 +117,18 @@ module _ (g : List Reading) (accepted : AllByRecursion (λ r. ∥ IsAccepted r �
 
     -- which doesn't match n
     pub next_unfit : (s : State) → HasStateAmong es g (take i ps) n s → HasPatternState es p n Unwritable → HasStateAmong es g (take (i + 1) ps) n s
-    next_unfit Unwritable (names, patterns) unfit =
-        (names, rw (take_more ps i d below) (push_all (λ q. HasPatternState es q n Unwritable) (take i ps) p patterns unfit))
-    next_unfit Included (writable, names, patterns) unfit = (
-      writable,
-      names,
-      rw (take_more ps i d below)
-          (push_all (IncludesSources es n) (take i ps) p patterns (λ t from. absurd (unfit from.word from.fits))),
-    )
-    next_unfit (Excluded k) none unfit = absurd none
+    next_unfit s (names, patterns, known) unfit =
+        (names, rw (take_more ps i d below) (push_all (IncludesSources es n) (take i ps) p patterns (λ t from. absurd (unfit from.word from.fits))), by s known)
+      where
+        by : (s : State) → IsWrittenAmong es g (take i ps) n s → IsWrittenAmong es g (take (i + 1) ps) n s
+        by Unwritable (no_name, no_pattern) = (no_name, rw (take_more ps i d below) (push_all (λ q. HasPatternState es q n Unwritable) (take i ps) p no_pattern unfit))
+        by s known = known
 
     -- which does, and excludes no ref from which it writes it
     pub next_fit : (s : State) → HasStateAmong es g (take i ps) n s → HasPatternState es p n Included → HasStateAmong es g (take (i + 1) ps) n Included
-    next_fit s among ((word, fits), included) =
+    next_fit s (names, patterns, known) ((word, fits), included) =
         let (r, inside, by) = its_reading in
-        let (names, patterns) = others s among in (
-          (r, Some word, inside, pattern_writes r p n word by fits),
-          names,
-          rw (take_more ps i d below)
-              (push_all (IncludesSources es n) (take i ps) p patterns included),
-        )
-      where
-        others : (s : State) → HasStateAmong es g (take i ps) n s
-            → ((r : Reading) (t : List ℕ) → Contains g r → WritesNameFrom r n t → ¬ (ExcludeName es t)) ×
-            ((q : Pattern) → Contains (take i ps) q → IncludesSources es n q)
-        others Unwritable (names, patterns) = (λ r t inside from. absurd (names r inside from.writes), λ q there t from. absurd (patterns q there from.word from.fits))
-        others Included (writable, names, patterns) = (names, patterns)
-        others (Excluded k) none = absurd none
+        (names, rw (take_more ps i d below) (push_all (IncludesSources es n) (take i ps) p patterns included), (r, Some word, inside, pattern_writes r p n word by fits))
 
     -- which excludes one
     pub next_excluded : AreExclusionsAt g es → (k : ℕ) → HasPatternState es p n (Excluded k) → HasState g n (Excluded k)
@@ -180,9 +137,6 @@ module _ (g : List Reading) (accepted : AllByRecursion (λ r. ∥ IsAccepted r �
         let (x, source, split) = subst (HasParts r.source) from.has by.source in
         let matches : Matches x (ref_named s) (Some from.word) = record { kind = pattern from.parts.0.now from.parts.1.now; of = split; is = from.is } in
         (s, (r, inside, record { word = Some from.word; writes = pattern_writes r p n from.word by from.fits; source = x; is = source; matches = matches }), at s k excluded)
-
-pub one_written : (r : Reading) (n m : List ℕ) → WritesName r n → WritesName r m → n ≡ m
-one_written r n m a b = a.is ∙ ap written_name_of (same_side r.destination a.destination b.destination a.has b.has) ∙ sym b.is
 
 module _ (es : Exclusions) (g : List Reading) (r : Reading) where
   included_more : (n : List ℕ) → ((q : Reading) (s : List ℕ) → Contains g q → WritesNameFrom q n s → ¬ (ExcludeName es s)) → ((s : List ℕ) → WritesNameFrom r n s → ¬ (ExcludeName es s))
@@ -194,44 +148,36 @@ module _ (es : Exclusions) (g : List Reading) (r : Reading) where
   name_stays n (Some None) apart ((q, at, writes), included) = ((q, Contains-append_left g (r ∷ []) q at, writes), included_more n included (λ s from. absurd (apart from.writes)))
   name_stays n (Some (Some k)) apart (q, s, at, from, excluded) = (q, s, Contains-append_left g (r ∷ []) q at, from, excluded)
 
-  abbrev IsExcludedFor : List ℕ → Option ℕ → Type 0
-  IsExcludedFor n e = MatchOption e ((s : List ℕ) → WritesNameFrom r n s → ¬ (ExcludeName es s)) (λ k. (s : List ℕ) × WritesNameFrom r n s × ExcludeNameAt es s k)
-
-  name_written : (n : List ℕ) (o : Option (Option ℕ)) (e : Option ℕ) → WritesName r n → IsExcludedFor n e → HasNameState es g n o → HasNameState es (g ++ r ∷ []) n (Some (option_or (option_flatten o) e))
+  name_written : (n : List ℕ) (o : Option (Option ℕ)) (e : Option ℕ) → WritesName r n → ExcludesNamed es r e → HasNameState es g n o → HasNameState es (g ++ r ∷ []) n (Some (option_or (option_flatten o) e))
   name_written n (Some (Some k)) e writes excluded (q, s, at, from, excluded_by) = (q, s, Contains-append_left g (r ∷ []) q at, from, excluded_by)
-  name_written n o (Some k) writes (s, from, excluded) state = (r, s, Contains-push g r, from, excluded)
-  name_written n None None writes included state = ((r, Contains-push g r, writes), included_more n (λ q s before from. absurd (state q before from.writes)) included)
-  name_written n (Some None) None writes included (some, others) = ((r, Contains-push g r, writes), included_more n others included)
+  name_written n o (Some k) writes (s, named, excluded) state = (r, s, Contains-push g r, record { writes = writes; named = named }, excluded)
+  name_written n None None writes included state = ((r, Contains-push g r, writes), included_more n (λ q s before from. absurd (state q before from.writes)) (λ s from. included s from.named))
+  name_written n (Some None) None writes included (some, others) = ((r, Contains-push g r, writes), included_more n others (λ s from. included s from.named))
 
-  pub names_more : (n : List ℕ) (e : Option ℕ) (old new : List ℕ → Option (Option ℕ)) → WritesName r n → IsExcludedFor n e → ((m : List ℕ) → new m ≡ cond (bytes_eq n m) (Some (option_or (option_flatten (old n)) e)) (old m))
-      → ((m : List ℕ) → HasNameState es g m (old m)) → (m : List ℕ) → HasNameState es (g ++ r ∷ []) m (new m)
+  pub names_more : (n : List ℕ) (e : Option ℕ) (old new : List ℕ → Option (Option ℕ)) → WritesName r n → ExcludesNamed es r e
+      → ((m : List ℕ) → new m ≡ cond (bytes_eq n m) (Some (option_or (option_flatten (old n)) e)) (old m)) → ((m : List ℕ) → HasNameState es g m (old m)) → (m : List ℕ) → HasNameState es (g ++ r ∷ []) m (new m)
   names_more n e old new writes excluded updates state m = subst (HasNameState es (g ++ r ∷ []) m) (sym (updates m)) (by (bytes_eq n m) refl)
     where
       by : (b : Bool) → bytes_eq n m ≡ b → HasNameState es (g ++ r ∷ []) m (cond b (Some (option_or (option_flatten (old n)) e)) (old m))
       by true same = subst (λ (x : List ℕ). HasNameState es (g ++ r ∷ []) x (Some (option_or (option_flatten (old n)) e))) ((bytes_decides n m).0 same) (name_written n (old n) e writes excluded (state n))
-      by false differ = name_stays m (old m) (λ also. false≢true (sym differ ∙ (bytes_decides n m).1 (one_written r n m writes also))) (state m)
+      by false differ = name_stays m (old m) (λ also.
+          let same = same_side r.destination writes.destination also.destination writes.has also.has in
+          false≢true (sym differ ∙ (bytes_decides n m).1 (writes.is ∙ ap written_name_of same ∙ sym also.is))) (state m)
 
 patterns_next : (g : List Reading) (r : Reading) (old new : List Pattern) (made : Option Pattern) → MatchOption made ((p : Pattern) → ¬ (WritesPattern r p)) (WritesPattern r) → new ≡ old ++ option_to_list made
     → IsMadeFrom (λ k q x. WritesPattern q x) 0 g old → IsMadeFrom (λ k q x. WritesPattern q x) 0 (g ++ r ∷ []) new
 patterns_next g r old new made makes more so_far = rw more (made_next (λ k q x. WritesPattern q x) (length g) g r old made refl so_far makes)
-
-plain_no_pattern : (r : Reading) (n : List ℕ) (p : Pattern) → WritesName r n → ¬ (WritesPattern r p)
-plain_no_pattern r n p name by =
-    let same = same_side r.destination name.destination by.destination name.has by.has in
-    Lacks-here star p.before.now p.after.now (subst (Lacks star) (same ∙ by.split.starred) name.lacks)
 
 module _ (r : Reading) (old new : Writers) (keeps : new.exclusions ≡ old.exclusions) where
   pub adds_name : (n : List ℕ) (e : Option ℕ) → new.patterns.items ≡ old.patterns.items → ExcludesNamed old.exclusions r e
       → ((m : List ℕ) → state_for new.names m ≡ cond (bytes_eq n m) (Some (option_or (option_flatten (state_for old.names n)) e)) (state_for old.names m)) → AddsName r n old new
   adds_name n e same excluded updates = λ g es writes are. record {
     exclusions = keeps ∙ are.exclusions;
-    names = names_more es g r n e (state_for old.names) (state_for new.names) writes (by_name g es n e writes (subst (λ (x : Exclusions). ExcludesNamed x r e) are.exclusions excluded)) updates are.names;
-    patterns = patterns_next g r old.patterns.items new.patterns.items None (λ p. plain_no_pattern r n p writes) (same ∙ sym (append-nil old.patterns.items)) are.patterns;
+    names = names_more es g r n e (state_for old.names) (state_for new.names) writes (subst (λ (x : Exclusions). ExcludesNamed x r e) are.exclusions excluded) updates are.names;
+    patterns = patterns_next g r old.patterns.items new.patterns.items None
+        (λ p by. Lacks-here star p.before.now p.after.now (subst (Lacks star) (same_side r.destination writes.destination by.destination writes.has by.has ∙ by.split.starred) writes.lacks))
+        (same ∙ sym (append-nil old.patterns.items)) are.patterns;
   }
-    where
-      by_name : (g : List Reading) (es : Exclusions) (n : List ℕ) (e : Option ℕ) → WritesName r n → ExcludesNamed es r e → IsExcludedFor es g r n e
-      by_name g es n None writes none = λ s from. none s from.named
-      by_name g es n (Some k) writes (s, named, at) = (s, record { writes = writes; named = named }, at)
 
   pub adds_pattern : (made : Option Pattern) → ((m : List ℕ) → state_for new.names m ≡ state_for old.names m)
       → MatchOption made ((p : Pattern) → ¬ (WritesPattern r p)) (WritesPattern r) → new.patterns.items ≡ old.patterns.items ++ option_to_list made → AddsPattern r old new
@@ -240,13 +186,6 @@ module _ (r : Reading) (old new : Writers) (keeps : new.exclusions ≡ old.exclu
     names = λ m. subst (HasNameState es (g ++ r ∷ []) m) (sym (same m)) (name_stays es g r m (state_for old.names m) (none m) (are.names m));
     patterns = patterns_next g r old.patterns.items new.patterns.items made makes more are.patterns;
   }
-
-pub none_written : (es : Exclusions) (w : Writers) → w.exclusions ≡ es → hash_map_len w.names ≡ 0 → w.patterns.items ≡ [] → AreWriters es [] w
-none_written es w is empty none = record {
-  exclusions = is;
-  names = λ n. subst (HasNameState es [] n) (sym (ap (lookup (λ (k : BStr). bytes_eq n (bstr_bytes k))) (nil_from_length w.names.entries empty))) (λ r there writes. nothing_in [] r refl there);
-  patterns = none;
-}
 
 -- what the readings of h write, and what those of g exclude
 abbrev pub AreWritersSoFar : List Reading → List Reading → Writers → Type 0

@@ -1,24 +1,18 @@
 -- Sides with a star and without one, the refs for which a source may stand, and one of them that is excluded.
-use Rattle.gix_refspec_plan.proofs.Common.{◌≡◌, ℕ, true, zero, suc, ◌<◌, List, ◌∷◌, ◌++◌, Option, None, Some, MatchOption, All, drop, drop-cons, get_or, length, map, take, take-append-drop, refl, sym, ap}
-use Rattle.gix_refspec_plan.proofs.Common.{◌∙◌, subst, arith, Bor, Contains, is_some, false≢true, get_or-map, length-map, Contains-append_right, BString, bstring_bytes, star, Lacks, HasSeveralStars}
-use Rattle.gix_refspec_plan.proofs.Common.{IsSplit, Reading, SideKind, full_name, partial, HasKind, IsCandidate, Fits, candidates, Matches, MatchesAs, lacks_no_pattern, one_word, Lacks-here}
-use Rattle.gix_refspec_plan.proofs.Common.{Lacks-from_absent, Exclusions, ExcludeName, ExcludeNameAt, matches_as, same_side, Pattern, ref_named, HasParts, HasPatternState, IsNamedBy, IsPatternSource}
-use Rattle.gix_refspec_plan.proofs.Common.{WritesName, WritesPattern, Included, All-contains, All-map, same_Some}
+use Rattle.gix_refspec_plan.proofs.Common.{◌≡◌, ℕ, true, zero, suc, ◌<◌, List, ◌∷◌, ◌++◌, Option, None, Some, MatchOption, All, drop, drop-cons, get_or, length, map, take, take-append-drop, refl, sym, ap, ◌∙◌}
+use Rattle.gix_refspec_plan.proofs.Common.{subst, arith, Bor, Contains, is_some, false≢true, get_or-map, length-map, Contains-append_right, BString, bstring_bytes, star, Lacks, HasSeveralStars, Reading, SideKind}
+use Rattle.gix_refspec_plan.proofs.Common.{full_name, partial, HasKind, IsCandidate, Fits, candidates, Matches, MatchesAs, lacks_no_pattern, one_word, Lacks-here, Lacks-from_absent, Exclusions, ExcludeName}
+use Rattle.gix_refspec_plan.proofs.Common.{ExcludeNameAt, matches_as, same_side, Pattern, ref_named, HasParts, HasPatternState, IsNamedBy, WritesName, WritesPattern, Included, All-contains, All-map}
 
 -- what splitting a side at its first star says of it
 abbrev IsSplitAt : List ℕ → Option (Bor (List ℕ) × Bor (List ℕ)) → Type 0
 IsSplitAt x found = MatchOption found (Lacks star x) (λ parts. (x ≡ parts.0.now ++ (star ∷ parts.1.now)) × Lacks star parts.0.now)
 
 pub starred_unwritten : (r : Reading) (d n : List ℕ) (found : Option (Bor (List ℕ) × Bor (List ℕ))) → r.destination ≡ Some d → true ≡ is_some found → IsSplitAt d found → ¬ (WritesName r n)
-starred_unwritten r d n None is some lacks by = false≢true (sym some)
-starred_unwritten r d n (Some parts) is some (starred, first) by =
-    Lacks-here star parts.0.now parts.1.now (subst (Lacks star) (same_side r.destination by.destination d by.has is ∙ starred) by.lacks)
+starred_unwritten r d n found is some split by = grind (arith, split, Lacks-here star, false≢true)
 
 pub parts_split : (x : List ℕ) (found : Option (Bor (List ℕ) × Bor (List ℕ))) → ¬ (HasSeveralStars x) → IsSplitAt x found → HasParts (Some x) found
-parts_split x None few lacks = λ y before after is split. lacks_no_pattern x before after lacks (let same : x ≡ y = cc (is) in subst (IsSplit before after) (sym same) split)
-parts_split x (Some parts) few (starred, first) =
-    let last = Lacks-from_absent star parts.1.now (λ more. few (record { before = parts.0.now; between = more.before; after = more.after; here = starred ∙ ap (λ (y : List ℕ). parts.0.now ++ (star ∷ y)) more.here })) in
-    (x, refl, record { starred = starred; first = first; last = last })
+parts_split x found few split = grind (arith, split, lacks_no_pattern x, Lacks-from_absent star, few)
 
 pub unsplit_unwritten : (r : Reading) (p : Pattern) → HasParts r.destination None → ¬ (WritesPattern r p)
 unsplit_unwritten r p none by = none by.destination p.before.now p.after.now by.has by.split
@@ -27,11 +21,7 @@ pub candidate_contained : (x n : List ℕ) → IsCandidate x n → Contains (can
 candidate_contained x n one = subst (λ (l : List (List ℕ)). Contains l n) (sym one.here) (Contains-append_right one.earlier (n ∷ one.later) n (zero, omega arith, refl))
 
 contained_candidate : (x n : List ℕ) → Contains (candidates x) n → IsCandidate x n
-contained_candidate x n (k, below, is) = record {
-  earlier = take k (candidates x);
-  later = drop (suc k) (candidates x);
-  here = sym (take-append-drop k (candidates x)) ∙ ap (λ (t : List (List ℕ)). take k (candidates x) ++ t) (drop-cons (candidates x) k n below ∙ rw is refl);
-}
+contained_candidate x n (k, below, is) = record { earlier = take k (candidates x); later = drop (suc k) (candidates x); here = cc (take-append-drop k (candidates x), drop-cons (candidates x) k n below, is) }
 
 pub text_contained : (texts : List BString) (i : ℕ) (b : BString) (l : List (List ℕ)) → map bstring_bytes texts ≡ l → i < length texts → b ≡ get_or texts i b → Contains l (bstring_bytes b)
 text_contained texts i b l same below is =
@@ -52,23 +42,14 @@ module _ (es : Exclusions) (r : Reading) (x : List ℕ) (source : r.source ≡ S
   as_named k s of holds = record { source = x; is = source; stands = record { kind = k; of = of; is = holds } }
 
   pub full_excluded : (n : List ℕ) (by : Option ℕ) → HasKind x (full_name n) → MatchOption by (¬ (ExcludeName es n)) (ExcludeNameAt es n) → ExcludesNamed es r by
-  full_excluded n None of none = λ s named excluded. none (subst (ExcludeName es) (named_as (full_name n) s of named).1 excluded)
-  full_excluded n (Some k) of at = (n, as_named (full_name n) n of (refl, refl), at)
+  full_excluded n by of told = grind (arith, of, told, named_as (full_name n), as_named (full_name n))
 
   pub partial_excluded : (n : List ℕ) (by : Option ℕ) → HasKind x (partial n)
       → MatchOption by ((s : List ℕ) → Contains (candidates n) s → ¬ (ExcludeName es s)) (λ k. (s : List ℕ) × Contains (candidates n) s × ExcludeNameAt es s k) → ExcludesNamed es r by
   partial_excluded n None of none = λ s named excluded. none s (candidate_contained n s (named_as (partial n) s of named).1) excluded
   partial_excluded n (Some k) of (s, there, at) = (s, as_named (partial n) s of (refl, contained_candidate n s there), at)
 
--- a pattern writes a ref from one
-source_once : (p : Pattern) (n s word : List ℕ) (parts : Bor (List ℕ) × Bor (List ℕ)) → Fits p.before.now p.after.now n word → p.source ≡ Some parts → IsPatternSource p n s → s ≡ parts.0.now ++ (word ++ parts.1.now)
-source_once p n s word parts fits has from =
-    rw (one_word p.before.now p.after.now n from.word word from.fits fits, same_Some from.parts parts (sym from.has ∙ has)) at from.is
-
--- so what is known of it says what the pattern does
-module _ (es : Exclusions) (p : Pattern) (n word : List ℕ) (fits : Fits p.before.now p.after.now n word) where
-  pub without_source : p.source ≡ None → HasPatternState es p n Included
-  without_source none = ((word, fits), λ s from. absurd (let never : None ≡ Some from.parts = sym none ∙ from.has in cc (never)))
-
-  pub source_included : (parts : Bor (List ℕ) × Bor (List ℕ)) → p.source ≡ Some parts → ¬ (ExcludeName es (parts.0.now ++ (word ++ parts.1.now))) → HasPatternState es p n Included
-  source_included parts has included = ((word, fits), λ s from excluded. included (subst (ExcludeName es) (source_once p n s word parts fits has from) excluded))
+-- a pattern writes a ref from one, so what is known of that says what the pattern does
+pub source_included : (es : Exclusions) (p : Pattern) (n word : List ℕ) → Fits p.before.now p.after.now n word → (parts : Bor (List ℕ) × Bor (List ℕ)) → p.source ≡ Some parts
+    → ¬ (ExcludeName es (parts.0.now ++ (word ++ parts.1.now))) → HasPatternState es p n Included
+source_included es p n word fits parts has included = ((word, fits), λ s from excluded. grind (arith, one_word p.before.now p.after.now n from.word word from.fits fits, from.is))

@@ -1,5 +1,4 @@
-use Rattle.gix_refspec_plan.proofs.Common.{arith, length-map, reading_of, option_map, bstring_bytes, rules}
-use Rattle.gix_refspec_plan.proofs.lemmas.plan.NameLemmas.{zip_long, zip_mapped_at, zip_next}
+use Rattle.gix_refspec_plan.proofs.{Common.{arith, length-map, reading_of, option_map, bstring_bytes, rules}, lemmas.plan.NameLemmas.{zip_long, zip_mapped_at, zip_next}}
 use Rattle.gix_refspec_plan.proofs.mapped.completed_specs.Goals as goal
 
 pub bounds-names-index : goal.bounds-names-index

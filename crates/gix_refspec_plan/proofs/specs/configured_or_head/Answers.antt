@@ -1,7 +1,7 @@
 -- The configured specs and what is merged, or `HEAD`.
 use Rattle.gix_refspec_plan.proofs.Common.{[], map, inl, inr, refl, sym, ap, ◌∙◌, subst, append-nil, map-append, IsName, fetched_alone, mapped_of, Default, AreConfigured, asked_of, reading_of, bstr_bytes}
-use Rattle.gix_refspec_text.proofs.lemmas.texts.HeadLemmas.{IsName-head}
 use Rattle.gix_refspec_plan.proofs.lemmas.plan.SpecLemmas.{none_mapped, one_more, some_mapped}
+use Rattle.gix_refspec_text.proofs.lemmas.texts.HeadLemmas.{IsName-head}
 use Rattle.gix_refspec_plan.proofs.specs.configured_or_head.Goals as goal
 
 pub fetch_of-requires-clause-name : goal.fetch_of-requires-clause-name

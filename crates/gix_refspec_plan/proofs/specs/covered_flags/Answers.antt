@@ -1,6 +1,5 @@
 -- The merged refs stand behind the names of sound mappings' refs.
-use Rattle.gix_refspec_plan.proofs.Common.{arith, length-map, bstr_bytes}
-use Rattle.gix_refspec_plan.proofs.lemmas.plan.CoveredLemmas.{behind_flagged, behind_sources, copied_next, names_long}
+use Rattle.gix_refspec_plan.proofs.{Common.{arith, length-map, bstr_bytes}, lemmas.plan.CoveredLemmas.{behind_flagged, behind_sources, copied_next, names_long}}
 use Rattle.gix_refspec_plan.proofs.specs.covered_flags.Goals as goal
 
 pub loop-index-preserved : goal.loop-index-preserved

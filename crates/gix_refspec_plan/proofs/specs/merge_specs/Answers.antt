@@ -1,6 +1,6 @@
 -- A merged ref that isn't flagged is asked for, if it is a ref name.
-use Rattle.gix_refspec_plan.proofs.Common.{[], sym, ◌∙◌, inl, inr, subst, false≢true, BStr, IsRefName, name_of_ref, bstr_bytes, asked_of, slice_index_or, get_or_default, Merge}
-use Rattle.gix_refspec_plan.proofs.lemmas.plan.{SpecLemmas.merge_flag, MadeLemmas.made_one, MadeLemmas.made_none}
+use Rattle.gix_refspec_plan.proofs.Common.{[], sym, ◌∙◌, inl, inr, subst, false≢true, BStr, IsRefName, name_of_ref, bstr_bytes, asked_of, slice_index_or, get_or_default, get_or-map, length-map, arith, Merge}
+use Rattle.gix_refspec_plan.proofs.lemmas.plan.MadeLemmas.{made_one, made_none}
 use Rattle.gix_refspec_plan.proofs.specs.merge_specs.Goals as goal
 
 pub fetch_of-requires-clause-name : goal.fetch_of-requires-clause-name
@@ -15,7 +15,7 @@ loop-index-preserved c =
     let n = slice_index_or merges i d in
     let is = get_or_default merges i d n below in
     let flag = rw c.as_slice.ensures.value at c.is_flagged.ensures in
-    let told = merge_flag merges _ c.in_ok-flags.flags.items i d below c.in_ok-flags.ensures in
+    let told = rw (get_or-map bstr_bytes merges i d [] below) at (c.in_ok-flags.ensures i [] (omega (arith, length-map merges bstr_bytes))) in
     elim c.if-not-is_flagged.branch [
       | goal.then-not-is_flagged+then-is_ref_name+in_ok-push w ↦ rw w.made-is (made_one _ bstr_bytes asked_of merges i n _ below is c.loop-index.invariant _ _ (
         (λ j. record { reading = w.fetch_of.ensures j; origin = Merge i }),

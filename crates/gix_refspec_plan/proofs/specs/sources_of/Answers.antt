@@ -1,5 +1,4 @@
-use Rattle.gix_refspec_plan.proofs.Common.{mapped_of, bstr_bytes, start_of, ap, name, sym, ◌∙◌, false≢true}
-use Rattle.gix_refspec_plan.proofs.lemmas.plan.{SpecLemmas.not_named, MadeLemmas.made_one, MadeLemmas.made_none}
+use Rattle.gix_refspec_plan.proofs.{Common.{rules, mapped_of, bstr_bytes, start_of, ap, name, sym, ◌∙◌, false≢true}, lemmas.plan.MadeLemmas.{made_one, made_none}}
 use Rattle.gix_refspec_plan.proofs.specs.sources_of.Goals as goal
 
 pub loop-mapping-preserved : goal.loop-mapping-preserved
@@ -14,5 +13,5 @@ loop-mapping-preserved c =
       | goal.in-FullName+else-is_sound w ↦ rw w.names-is
           (made_none _ mapped_of bstr_bytes ms i m _ c.loop-mapping-test.true c.mapping-item.is c.loop-mapping.invariant (λ n both. false≢true (sym w.if-is_sound.false ∙ w.is_sound.ensures.1 both.0)))
       | goal.in_default w ↦ rw w.names-is
-          (made_none _ mapped_of bstr_bytes ms i m _ c.loop-mapping-test.true c.mapping-item.is c.loop-mapping.invariant (λ n both. not_named m.lhs w.in_default.not-FullName n both.1))
+          (made_none _ mapped_of bstr_bytes ms i m _ c.loop-mapping-test.true c.mapping-item.is c.loop-mapping.invariant (λ n both. search (rules, w.in_default.not-FullName, both.1)))
     ]

@@ -1,5 +1,4 @@
 use Rattle.gix_refspec_plan.proofs.Common.{map, take, bstr_bytes, mapped_of, AreSoundNames}
-use Rattle.gix_refspec_plan.proofs.specs.sources_of.Given as goal
 
-abbrev pub invariant-loop-mapping : goal.invariant-loop-mapping
+abbrev pub invariant-loop-mapping : Rattle.gix_refspec_plan.proofs.specs.sources_of.Given.invariant-loop-mapping
 invariant-loop-mapping l = AreSoundNames (map mapped_of (take l.mapping-index l.mappings)) (map bstr_bytes l.names.items)

@@ -1,4 +1,4 @@
-use Rattle.gix_refspec_plan.proofs.{Common.reading_of, Common.asked_of, lemmas.plan.MadeLemmas.made_one, lemmas.plan.MadeLemmas.made_none}
+use Rattle.gix_refspec_plan.proofs.{Common.{reading_of, asked_of}, lemmas.plan.MadeLemmas.{made_one, made_none}}
 use Rattle.gix_refspec_plan.proofs.specs.specs_of.Goals as goal
 
 pub loop-index-preserved : goal.loop-index-preserved

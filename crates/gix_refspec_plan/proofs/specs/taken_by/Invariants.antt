@@ -1,5 +1,6 @@
-use Rattle.gix_refspec_plan.proofs.{Common.map, Common.take, Common.mapped_of, Common.ref_of, lemmas.plan.SpecLemmas.ArePicked}
-use Rattle.gix_refspec_plan.proofs.specs.taken_by.Given as goal
+use Rattle.gix_refspec_plan.proofs.{Common.{map, take, mapped_of, ref_of, IsMadeFrom}, lemmas.plan.SpecLemmas.{Indexes, Refs}}
 
-abbrev pub invariant-loop-index : goal.invariant-loop-index
-invariant-loop-index l = ArePicked (map mapped_of l.mappings.items) (map ref_of (take l.index l.items)) l.taken.indexes.items (map ref_of l.taken.items.items)
+abbrev pub invariant-loop-index : Rattle.gix_refspec_plan.proofs.specs.taken_by.Given.invariant-loop-index
+invariant-loop-index l =
+    IsMadeFrom (Indexes (map mapped_of l.mappings.items)) 0 (map ref_of (take l.index l.items)) l.taken.indexes.items
+    × IsMadeFrom (Refs (map mapped_of l.mappings.items)) 0 (map ref_of (take l.index l.items)) (map ref_of l.taken.items.items)

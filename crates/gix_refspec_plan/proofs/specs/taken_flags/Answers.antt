@@ -1,5 +1,4 @@
-use Rattle.gix_refspec_plan.proofs.Common.{sym, ◌∙◌, arith, false≢true}
-use Rattle.gix_refspec_plan.proofs.lemmas.plan.SpecLemmas.{none_taken, some_apart, taken_here, taken_same}
+use Rattle.gix_refspec_plan.proofs.{Common.{◌≡◌, sym, ◌∙◌, arith, false≢true}, lemmas.plan.SpecLemmas.{none_taken, taken_here, taken_same}}
 use Rattle.gix_refspec_plan.proofs.specs.taken_flags.Goals as goal
 
 pub loop-mapping-init : goal.loop-mapping-init
@@ -18,7 +17,7 @@ loop-mapping-preserved c =
           (taken_same c.args.mappings.now i m c.args.len flags.items c.loop-mapping-test.true c.mapping-item.is c.loop-mapping.invariant
           (elim w.else-index-len.branch [
             | goal.else-index-len-via-then-index-len+else-is_sound v ↦ λ k below sound. absurd (false≢true (sym v.if-is_sound.false ∙ v.is_sound.ensures.1 sound))
-            | goal.else-index-len-via-else-index-len v ↦ λ k below sound. some_apart m.item_index w.in-Some.index k c.args.len w.in-Some.is (omega (arith, v.if-index-len.false, w.len.ensures, long, flags.ok)) below
+            | goal.else-index-len-via-else-index-len v ↦ λ k below sound other. let same : w.in-Some.index ≡ k = cc (w.in-Some.is, other) in omega (arith, same, below, v.if-index-len.false, w.len.ensures, long, flags.ok)
           ]))
       | goal.in_default w ↦ rw w.flags-is
           (taken_same c.args.mappings.now i m c.args.len flags.items c.loop-mapping-test.true c.mapping-item.is c.loop-mapping.invariant (λ k below sound. w.in_default.not-Some k))

@@ -1,5 +1,4 @@
-use Rattle.gix_refspec_plan.proofs.Common.{mapped_of, bstr_bytes, option_map, name_bytes, Some, ap, ◌∙◌, sym}
-use Rattle.gix_refspec_plan.proofs.lemmas.plan.{CoveredLemmas.no_side, MadeLemmas.made_one, MadeLemmas.made_none}
+use Rattle.gix_refspec_plan.proofs.{Common.{rules, mapped_of, bstr_bytes, option_map, name_bytes, Some, ap, ◌∙◌, sym}, lemmas.plan.MadeLemmas.{made_one, made_none}}
 use Rattle.gix_refspec_plan.proofs.stale.destinations_of.Goals as goal
 
 pub loop-mapping-preserved : goal.loop-mapping-preserved
@@ -11,5 +10,5 @@ loop-mapping-preserved c =
           (made_one _ mapped_of bstr_bytes ms i c.mapping-item.result _ c.loop-mapping-test.true c.mapping-item.is c.loop-mapping.invariant _ _
           (ap (option_map name_bytes) w.in-Some.is ∙ ap Some (sym w.as_bstr.ensures)) w.in_ok-push.ensures.items)
       | goal.in_default w ↦ rw w.names-is
-          (made_none _ mapped_of bstr_bytes ms i c.mapping-item.result _ c.loop-mapping-test.true c.mapping-item.is c.loop-mapping.invariant (no_side c.mapping-item.result.rhs w.in_default.not-Some))
+          (made_none _ mapped_of bstr_bytes ms i c.mapping-item.result _ c.loop-mapping-test.true c.mapping-item.is c.loop-mapping.invariant (λ n same. search (rules, w.in_default.not-Some, same)))
     ]

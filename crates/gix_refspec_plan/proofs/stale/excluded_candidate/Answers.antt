@@ -1,6 +1,5 @@
 -- The candidates are tried in order.
-use Rattle.gix_refspec_plan.proofs.Common.{◌∙◌, ap, map, take_all, All-more, bstring_bytes, ExcludeName}
-use Rattle.gix_refspec_plan.proofs.lemmas.stale.SourceLemmas.{none_contained, text_contained}
+use Rattle.gix_refspec_plan.proofs.{Common.{◌∙◌, ap, map, take_all, All-more, bstring_bytes, ExcludeName}, lemmas.stale.SourceLemmas.{none_contained, text_contained}}
 use Rattle.gix_refspec_plan.proofs.stale.excluded_candidate.Goals as goal
 
 pub returns-in-Some : goal.returns-in-Some
@@ -9,8 +8,7 @@ returns-in-Some c =
     (bstring_bytes c.candidate-item.result, name, rw (c.as_bytes.ensures, c.as_bstr.ensures) at c.in-Some.ensures)
 
 pub loop-candidate-preserved : goal.loop-candidate-preserved
-loop-candidate-preserved c =
-    All-more (λ b. ¬ (ExcludeName c.args.exclusions.now (bstring_bytes b))) c.deref-candidate-items.result.now _ _ c.loop-candidate-test.true c.loop-candidate.invariant
+loop-candidate-preserved c = All-more (λ b. ¬ (ExcludeName c.args.exclusions.now (bstring_bytes b))) _ _ _ c.loop-candidate-test.true c.loop-candidate.invariant
     (rw (c.as_bytes.ensures, c.as_bstr.ensures, c.candidate-item.is) at c.in_default.ensures)
 
 pub returns : goal.returns

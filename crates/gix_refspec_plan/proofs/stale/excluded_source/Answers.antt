@@ -1,12 +1,10 @@
 -- What the source may stand for is told by its kind.
-use Rattle.gix_refspec_plan.proofs.Common.{inl, inr, Some, option_map, sym, ap, ◌∙◌, IfOk-weaker, bstr_bytes, reading_of, accepted_few, pattern, None, object}
-use Rattle.gix_refspec_plan.proofs.lemmas.stale.SourceLemmas.{full_excluded, named_as, partial_excluded}
-use Rattle.gix_refspec_plan.proofs.lemmas.stale.FetchedLemmas.{no_object_named}
+use Rattle.gix_refspec_plan.proofs.{Common.{inl, inr, Some, option_map, sym, ap, ◌∙◌, IfOk-weaker, bstr_bytes, reading_of, accepted_few, pattern, None, object}, lemmas.stale.SourceLemmas.{full_excluded, named_as}}
+use Rattle.gix_refspec_plan.proofs.lemmas.stale.{SourceLemmas.partial_excluded, FetchedLemmas.no_object_named}
 use Rattle.gix_refspec_plan.proofs.stale.excluded_source.Goals as goal
 
 pub kind_of-requires : goal.kind_of-requires
-kind_of-requires c =
-    rw c.as_bytes.ensures (accepted_few _ _ c.args.spec.now.accepted (inl (sym c.source.ensures ∙ ap (option_map bstr_bytes) c.in-Some.is)))
+kind_of-requires c = rw c.as_bytes.ensures (accepted_few _ _ c.args.spec.now.accepted (inl (sym c.source.ensures ∙ ap (option_map bstr_bytes) c.in-Some.is)))
 
 pub returns-in-FullName : goal.returns-in-FullName
 returns-in-FullName c =

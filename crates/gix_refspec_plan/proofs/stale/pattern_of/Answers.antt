@@ -1,6 +1,5 @@
 -- Accepted specs have sides with one star or none.
-use Rattle.gix_refspec_plan.proofs.Common.{inl, inr, sym, ◌∙◌, reading_of, accepted_few}
-use Rattle.gix_refspec_plan.proofs.lemmas.stale.SourceLemmas.{unsplit_unwritten}
+use Rattle.gix_refspec_plan.proofs.{Common.{inl, inr, sym, ◌∙◌, reading_of, accepted_few}, lemmas.stale.SourceLemmas.unsplit_unwritten}
 use Rattle.gix_refspec_plan.proofs.stale.pattern_of.Goals as goal
 
 pub parts_of-requires : goal.parts_of-requires

@@ -1,9 +1,9 @@
 -- The ref with the same word is excluded, or it isn't.
-use Rattle.gix_refspec_plan.proofs.lemmas.stale.SourceLemmas.{source_included, without_source}
+use Rattle.gix_refspec_plan.proofs.{Common.rules, lemmas.stale.SourceLemmas.source_included}
 use Rattle.gix_refspec_plan.proofs.stale.pattern_state.Goals as goal
 
 pub returns-in_default-source : goal.returns-in_default-source
-returns-in_default-source c = without_source c.args.exclusions.now c.args.pattern.now c.args.name.now c.in-Some.word.now c.in-Some.ensures c.in_default-source.is
+returns-in_default-source c = search (rules, c.in-Some.ensures, c.in_default-source.is)
 
 pub returns-in-None : goal.returns-in-None
 returns-in-None c =

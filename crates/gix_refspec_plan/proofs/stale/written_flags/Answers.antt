@@ -1,6 +1,5 @@
 -- The names of local refs stand behind the destinations.
-use Rattle.gix_refspec_plan.proofs.Common.{length, map, arith, length-map, ref_of, ◌≡◌, ◌∙◌}
-use Rattle.gix_refspec_plan.proofs.lemmas.plan.CoveredLemmas.{behind_destinations, behind_flagged, copied_next, names_long}
+use Rattle.gix_refspec_plan.proofs.{Common.{length, map, arith, length-map, ref_of, ◌≡◌, ◌∙◌}, lemmas.plan.CoveredLemmas.{behind_destinations, behind_flagged, copied_next, names_long}}
 use Rattle.gix_refspec_plan.proofs.stale.written_flags.Goals as goal
 
 pub loop-index-preserved : goal.loop-index-preserved

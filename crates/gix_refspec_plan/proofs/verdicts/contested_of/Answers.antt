@@ -1,6 +1,5 @@
 -- Where the destinations differ nothing is contested.
-use Rattle.gix_refspec_plan.proofs.Common.{mapped_of, map, IfOk-weaker}
-use Rattle.gix_refspec_plan.proofs.lemmas.plan.JudgeLemmas.{counted_contested, none_contested}
+use Rattle.gix_refspec_plan.proofs.{Common.{mapped_of, map, IfOk-weaker}, lemmas.plan.JudgeLemmas.{counted_contested, none_contested}}
 use Rattle.gix_refspec_plan.proofs.verdicts.contested_of.Goals as goal
 
 pub returns-then-branch : goal.returns-then-branch

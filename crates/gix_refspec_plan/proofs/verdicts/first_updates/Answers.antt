@@ -1,14 +1,13 @@
 -- Each mapping has an update, with the verdict at its place.
-use Rattle.gix_refspec_plan.proofs.Common.{◌≡◌, length, map, arith, rules, mapped_of, asked_of, length-map}
+use Rattle.gix_refspec_plan.proofs.{Common.{◌≡◌, length, map, arith, rules, mapped_of, asked_of, length-map}, lemmas.plan.{JudgeLemmas.{first_more, origin_at, spec_inside}, NameLemmas.zip_long}}
 use Rattle.std.proofs.lemmas.Iterator.{Adapters.YieldsList-from_vec, Consumers.YieldsList-turn}
-use Rattle.gix_refspec_plan.proofs.lemmas.plan.{JudgeLemmas.first_more, JudgeLemmas.origin_at, JudgeLemmas.spec_inside, NameLemmas.zip_long}
 use Rattle.gix_refspec_plan.proofs.verdicts.first_updates.Goals as goal
 
 pub bounds-asked-mapping : goal.bounds-asked-mapping
 bounds-asked-mapping c =
-    let turn = YieldsList-turn (YieldsList-from_vec {s = c.into_iter-mapping-iterator.result} c.args.mappings.items (search rules) (search rules))
-    c.loop-mapping.yielded c.loop-mapping.mapping-iterator c.loop-mapping.yielded_by c.next.result c.next.new.self c.in-Some.mapping c.in-Some.is c.next.ensures.steps in
-    spec_inside c.args.mappings.items (length c.loop-mapping.yielded) c.in-Some.mapping turn.0 turn.1 c.args.asked.now c.requires.mappings
+    let ms = c.args.mappings.items in
+    let turn = YieldsList-turn (YieldsList-from_vec {s = c.into_iter-mapping-iterator.result} ms (search rules) (search rules)) _ _ c.loop-mapping.yielded_by _ c.next.new.self _ c.in-Some.is c.next.ensures.steps in
+    spec_inside ms (length c.loop-mapping.yielded) c.in-Some.mapping turn.0 turn.1 c.args.asked.now c.requires.mappings
 
 pub bounds-asked-mapping-in-Some : goal.bounds-asked-mapping-in-Some
 bounds-asked-mapping-in-Some c = bounds-asked-mapping c
@@ -20,8 +19,7 @@ pub bounds-verdicts-len : goal.bounds-verdicts-len
 bounds-verdicts-len c =
     let ms = c.args.mappings.items in
     let updates = c.loop-mapping.updates in
-    let turn = YieldsList-turn (YieldsList-from_vec {s = c.into_iter-mapping-iterator.result} c.args.mappings.items (search rules) (search rules))
-    c.loop-mapping.yielded c.loop-mapping.mapping-iterator c.loop-mapping.yielded_by c.next.result c.next.new.self c.in-Some.mapping c.in-Some.is c.next.ensures.steps in
+    let turn = YieldsList-turn (YieldsList-from_vec {s = c.into_iter-mapping-iterator.result} ms (search rules) (search rules)) _ _ c.loop-mapping.yielded_by _ c.next.new.self _ c.in-Some.is c.next.ensures.steps in
     omega (arith, zip_long _ _ _ c.requires.verdicts, length-map ms mapped_of, turn.0, c.loop-mapping.invariant.1, c.len-in-loop-mapping.ensures, updates.ok.0, updates.ok.1)
 
 pub loop-mapping-preserved : goal.loop-mapping-preserved
@@ -30,8 +28,7 @@ loop-mapping-preserved c =
     let ms = c.args.mappings.items in
     let m = c.in-Some.mapping in
     let updates = c.loop-mapping.updates in
-    let turn = YieldsList-turn (YieldsList-from_vec {s = c.into_iter-mapping-iterator.result} c.args.mappings.items (search rules) (search rules))
-    c.loop-mapping.yielded c.loop-mapping.mapping-iterator c.loop-mapping.yielded_by c.next.result c.next.new.self c.in-Some.mapping c.in-Some.is c.next.ensures.steps in
+    let turn = YieldsList-turn (YieldsList-from_vec {s = c.into_iter-mapping-iterator.result} ms (search rules) (search rules)) _ _ c.loop-mapping.yielded_by _ c.next.new.self _ c.in-Some.is c.next.ensures.steps in
     let at : c.len-in-loop-mapping.result ≡ length updates.items = omega (arith, c.len-in-loop-mapping.ensures, updates.ok.0, updates.ok.1) in
     first_more ms c.loop-mapping.yielded m (map asked_of asked) c.args.verdicts.now updates.items _ _ _ _ _ turn c.loop-mapping.invariant c.requires.verdicts at
     (origin_at asked (mapped_of m) c.index-asked-mapping.result (spec_inside ms (length c.loop-mapping.yielded) m turn.0 turn.1 asked c.requires.mappings))

@@ -1,13 +1,13 @@
 -- The lists are joined, to find which pairs of the second one are in the first, and split again.
-use Rattle.gix_refspec_plan.proofs.Common.{◌++◌, ◌≡◌, [], List, length, map, refl, sym, ◌∙◌, subst, arith, eqb-true, nil_from_length, Mapping, mapped_of, ok_weaker, AreFirst, asked_of, planned_of, rules}
-use Rattle.gix_refspec_plan.proofs.lemmas.plan.JudgeLemmas.{judged_alone, judged_of, known_of, split_again}
+use Rattle.gix_refspec_plan.proofs.Common.{append-nil, ◌++◌, ◌≡◌, [], List, length, map, refl, sym, ◌∙◌, subst, arith, eqb-true, nil_from_length, Mapping, mapped_of, ok_weaker, AreFirst, asked_of, planned_of}
+use Rattle.gix_refspec_plan.proofs.{Common.rules, lemmas.plan.JudgeLemmas.{judged_of, flag_known, split_again}}
 use Rattle.gix_refspec_plan.proofs.verdicts.judged.Goals as goal
 
 pub returns-then-is_empty : goal.returns-then-is_empty
 returns-then-is_empty c =
     let seconds = c.args.tracked.mappings in
     let none : seconds.items ≡ [] = nil_from_length seconds.items (let empty = eqb-true _ _ (sym c.is_empty.ensures ∙ c.if-is_empty.true) in omega (arith, empty, seconds.ok.0, seconds.ok.1)) in
-    ok_weaker c.first_updates.result _ _ (λ updates first. judged_alone _ _ _ _ seconds.items _ none first) c.first_updates.ensures
+    ok_weaker c.first_updates.result _ _ (λ updates first. rw none (record { before = _; behind = []; are_before = first; are_behind = refl; all = sym (append-nil _) })) c.first_updates.ensures
 
 pub second_updates-requires-clause-repeated : goal.second_updates-requires-clause-repeated
 second_updates-requires-clause-repeated c =
@@ -15,7 +15,8 @@ second_updates-requires-clause-repeated c =
     let ys = c.args.tracked.mappings.items in
     let whole : c.as_slice-3.result.now ≡ xs ++ ys = c.as_slice-3.ensures.value ∙ c.in_ok-append.ensures.items in
     let at : c.len-firsts_len.result ≡ length xs = omega (arith, c.len-firsts_len.ensures, c.args.firsts.ok.0, c.args.firsts.ok.1) in
-    known_of xs ys _ _ c.as_slice-2.result.now _ _ (split_again xs ys c.as_slice-3.result.now _ _ _ whole at c.split_at.ensures.front c.split_at.ensures.back) (c.as_slice-2.ensures.value ∙ c.in_ok-append.ensures.items) c.as_slice-6.ensures.value c.requires.seconds.apart c.in_ok-repeated.ensures.ok
+    let (front, back) = split_again xs ys c.as_slice-3.result.now _ _ _ whole at c.split_at.ensures.front c.split_at.ensures.back in
+    rw (front, back, c.as_slice-6.ensures.value) (flag_known xs ys _ c.requires.seconds.apart (rw (c.as_slice-2.ensures.value, c.in_ok-append.ensures.items) at c.in_ok-repeated.ensures.ok))
 
 pub first_updates-requires-2 : goal.first_updates-requires-2
 first_updates-requires-2 c =
@@ -29,8 +30,7 @@ returns c =
     let xs = c.args.firsts.items in
     let ys = c.args.tracked.mappings.items in
     let at : c.len-firsts_len.result ≡ length xs = omega (arith, c.len-firsts_len.ensures, c.args.firsts.ok.0, c.args.firsts.ok.1) in
-    let back : c.truncate.new.self.items ≡ xs =
-    (split_again xs ys _ _ _ _ c.in_ok-append.ensures.items at c.truncate.ensures.items refl).0 in
+    let back : c.truncate.new.self.items ≡ xs = (split_again xs ys _ _ _ _ c.in_ok-append.ensures.items at c.truncate.ensures.items refl).0 in
     let whole : c.as_slice-3.result.now ≡ xs ++ ys = c.as_slice-3.ensures.value ∙ c.in_ok-append.ensures.items in
     let first = subst (λ (l : List Mapping). AreFirst (map asked_of c.args.asked.now) (map mapped_of l) (map planned_of c.in_ok-updates.updates.items)) back c.in_ok-updates.ensures in
     judged_of _ _ _ xs ys _ _ c.in_ok-updates.updates.items c.in_ok-besides.besides.items _ (split_again xs ys c.as_slice-3.result.now _ _ _ whole at c.split_at.ensures.front c.split_at.ensures.back) first

@@ -1,5 +1,5 @@
-use Rattle.gix_refspec_plan.proofs.Common.{length, map, take_all, arith, rules, ◌+◌, mapped_of, asked_of}
-use Rattle.gix_refspec_plan.proofs.lemmas.plan.JudgeLemmas.{has_mapping, known_here, origin_at, planned_copy, second_next, second_same, spec_inside}
+use Rattle.gix_refspec_plan.proofs.{Common.{length, map, take_all, arith, rules, ◌+◌, mapped_of, asked_of}, lemmas.plan.JudgeLemmas.{planned_copy, has_mapping, known_here, origin_at, second_next, second_same}}
+use Rattle.gix_refspec_plan.proofs.lemmas.plan.JudgeLemmas.{spec_inside}
 use Rattle.gix_refspec_plan.proofs.verdicts.second_updates.Goals as goal
 
 pub bounds-specs-mapping : goal.bounds-specs-mapping

@@ -1,6 +1,5 @@
 -- The destination is looked up among those that win, and among those of the same list.
-use Rattle.gix_refspec_plan.proofs.Common.{◌≡◌, Some, option_map, unwrap_or, sym, ap, ◌∙◌, false, true, mapped_of, name_bytes, rules, false≢true}
-use Rattle.gix_refspec_plan.proofs.lemmas.plan.JudgeLemmas.{contested_told, count_at, taken_told}
+use Rattle.gix_refspec_plan.proofs.{Common.{◌≡◌, Some, option_map, unwrap_or, sym, ap, ◌∙◌, false, true, mapped_of, name_bytes, rules, false≢true}, lemmas.plan.JudgeLemmas.{contested_told, count_at, taken_told}}
 use Rattle.gix_refspec_plan.proofs.verdicts.verdict_on.Goals as goal
 
 pub returns-then-contains_key : goal.returns-then-contains_key

@@ -1,9 +1,7 @@
 -- The map has the name, with a spec that excludes a ref from which one of the readings writes it.
-use Rattle.gix_refspec_plan.proofs.Common.{Some, cond, bytes_eq, refl, ap, ◌∙◌, ℕ, Option, option_flatten, option_or, bstr_bytes, reading_of, state_for}
-use Rattle.gix_refspec_plan.proofs.lemmas.stale.PatternLemmas.{adds_name}
-use Rattle.gix_refspec_plan.proofs.stale.Writers.add_name.Goals as goal
+use Rattle.gix_refspec_plan.proofs.{Common.{Some, cond, bytes_eq, refl, ap, ◌∙◌, ℕ, Option, option_flatten, option_or, bstr_bytes, reading_of, state_for}, lemmas.stale.PatternLemmas.adds_name}
 
-pub returns : goal.returns
+pub returns : Rattle.gix_refspec_plan.proofs.stale.Writers.add_name.Goals.returns
 returns c =
     let n = bstr_bytes c.args.name in
     let old = c.args.self.now in

@@ -1,5 +1,4 @@
-use Rattle.gix_refspec_plan.proofs.Common.{refl, reading_of, Some, None, sym, append-nil}
-use Rattle.gix_refspec_plan.proofs.lemmas.stale.PatternLemmas.{adds_pattern}
+use Rattle.gix_refspec_plan.proofs.{Common.{refl, reading_of, Some, None, sym, append-nil}, lemmas.stale.PatternLemmas.adds_pattern}
 use Rattle.gix_refspec_plan.proofs.stale.Writers.add_pattern.Goals as goal
 
 pub returns-in_ok-push : goal.returns-in_ok-push

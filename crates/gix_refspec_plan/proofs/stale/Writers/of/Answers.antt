@@ -1,15 +1,17 @@
-use Rattle.gix_refspec_plan.proofs.Common.{option_map, map, refl, sym, take, take_all, arith, bstring_bytes, length-map, reading_of, IsWrittenBy}
+use Rattle.gix_refspec_plan.proofs.Common.{[], ℕ, List, ap, subst, lookup, bytes_eq, BStr, bstr_bytes, nil_from_length, HasNameState, state_for, option_map, map, refl, sym, take, take_all, arith, bstring_bytes}
+use Rattle.gix_refspec_plan.proofs.{Common.{length-map, reading_of, IsWrittenBy}, lemmas.plan.{NameLemmas.{zip_long, zip_mapped_at}, MadeLemmas.nothing_in}}
+use Rattle.gix_refspec_plan.proofs.lemmas.stale.{StateLemmas.all_accepted, PatternLemmas.writers_next}
 use Rattle.gix_refspec_text.proofs.lemmas.lists.MapLemmas.{map_next}
-use Rattle.gix_refspec_plan.proofs.lemmas.plan.NameLemmas.{zip_long, zip_mapped_at}
-use Rattle.gix_refspec_plan.proofs.lemmas.stale.{StateLemmas.all_accepted, PatternLemmas.none_written, PatternLemmas.writers_next}
 use Rattle.gix_refspec_plan.proofs.stale.Writers.of.Goals as goal
 
 pub loop-index-init : goal.loop-index-init
-loop-index-init c = (c.in_ok-of.ensures.names, c.in_ok-of.ensures.indexes, none_written c.in_ok-of.field-0 _ refl c.new.ensures.len c.new-2.ensures.items)
+loop-index-init c =
+    let unnamed : (n : List ℕ) → HasNameState c.in_ok-of.field-0 [] n (state_for c.new.result n) = λ n.
+    subst (HasNameState c.in_ok-of.field-0 [] n) (sym (ap (lookup (λ (k : BStr). bytes_eq n (bstr_bytes k))) (nil_from_length c.new.result.entries c.new.ensures.len))) (λ r there writes. nothing_in [] r refl there) in
+    (c.in_ok-of.ensures.names, c.in_ok-of.ensures.indexes, record { exclusions = refl; names = unnamed; patterns = c.new-2.ensures.items })
 
 pub bounds-names-index : goal.bounds-names-index
-bounds-names-index c =
-    omega (arith, zip_long IsWrittenBy _ _ c.requires, length-map c.args.specs.now reading_of, length-map c.args.names.now (option_map bstring_bytes), c.loop-index-test.true)
+bounds-names-index c = omega (arith, zip_long IsWrittenBy _ _ c.requires, length-map c.args.specs.now reading_of, length-map c.args.names.now (option_map bstring_bytes), c.loop-index-test.true)
 
 pub loop-index-preserved : goal.loop-index-preserved
 loop-index-preserved c =

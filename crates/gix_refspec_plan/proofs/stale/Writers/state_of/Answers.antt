@@ -1,13 +1,13 @@
-use Rattle.gix_refspec_plan.proofs.Common.{Some, sym, ap, ◌∙◌, subst, take_all, bstr_bytes, HasNameState}
-use Rattle.gix_refspec_plan.proofs.lemmas.stale.PatternLemmas.{all_among, among_name, among_none, name_excluded, next_excluded, next_fit, next_unfit}
+use Rattle.gix_refspec_plan.proofs.{Common.{None, [], refl, Some, sym, ap, ◌∙◌, subst, take_all, bstr_bytes, HasNameState}, lemmas.{plan.MadeLemmas.nothing_in, stale.PatternLemmas.{all_among, name_writes}}}
+use Rattle.gix_refspec_plan.proofs.lemmas.stale.PatternLemmas.{next_excluded, next_fit, next_unfit}
 use Rattle.gix_refspec_plan.proofs.stale.Writers.state_of.Goals as goal
 
 pub returns-in-Some-Some : goal.returns-in-Some-Some
 returns-in-Some-Some c g are =
     let n = bstr_bytes c.args.name in
     let w = c.args.self.now in
-    name_excluded g are.accepted w.exclusions w.patterns.items are.are.patterns n are.excluded_at c.in-Some-Some.spec
-    (subst (HasNameState w.exclusions g n) (sym c.in-Some-Some.ensures.value ∙ ap Some c.in-Some-Some.field-0-is) (are.are.names n))
+    let (r, s, inside, from, excluded) = subst (HasNameState w.exclusions g n) (sym c.in-Some-Some.ensures.value ∙ ap Some c.in-Some-Some.field-0-is) (are.are.names n) in
+    (s, (r, inside, record { word = None; writes = name_writes r n from.writes; source = from.named.source; is = from.named.is; matches = from.named.stands }), are.excluded_at s c.in-Some-Some.spec excluded)
 
 pub returns-in-Excluded : goal.returns-in-Excluded
 returns-in-Excluded c g are =
@@ -19,9 +19,12 @@ loop-pattern-init c g are =
     let n = bstr_bytes c.args.name in
     let w = c.args.self.now in
     elim c.match-get.branch [
-      | goal.in-None v ↦ rw v.state-is (among_none g are.accepted w.exclusions w.patterns.items are.are.patterns n (subst (HasNameState w.exclusions g n) (sym v.in-None.ensures.value) (are.are.names n)))
-      | goal.in-Some-None v ↦ rw v.state-is (among_name g are.accepted w.exclusions w.patterns.items are.are.patterns n
-          (subst (HasNameState w.exclusions g n) (sym v.in-Some-None.ensures.value ∙ ap Some v.in-Some-None.field-0-is) (are.are.names n)))
+      | goal.in-None v ↦
+          let none = subst (HasNameState w.exclusions g n) (sym v.in-None.ensures.value) (are.are.names n) in
+          rw v.state-is ((λ r s inside from. absurd (none r inside from.writes)), (λ p there. absurd (nothing_in [] p refl there)), (none, λ p there. absurd (nothing_in [] p refl there)))
+      | goal.in-Some-None v ↦
+          let ((r, inside, writes), included) = subst (HasNameState w.exclusions g n) (sym v.in-Some-None.ensures.value ∙ ap Some v.in-Some-None.field-0-is) (are.are.names n) in
+          rw v.state-is (included, (λ p there. absurd (nothing_in [] p refl there)), (r, None, inside, name_writes r n writes))
     ]
 
 pub loop-pattern-preserved : goal.loop-pattern-preserved
