@@ -2,17 +2,16 @@ use Rattle.gix_refspec_lint.proofs.Common.{every, heads_split, origin_split, oth
 use Rattle.gix_refspec_lint.proofs.Common.{◌++◌, Option, None, Some, codes, refl, sym, ◌∙◌, subst, arith, AllByRecursion, Contains, slice_get, same_Some, BeginsWith, Source, Lacks-here, HasName, Ref}
 use Rattle.gix_refspec_lint.proofs.Common.{Excludes, by_pattern, the_name, fetched, Forced, Normal, Negative, Reading, star, IsSplit, Lacks, Lacks-tested, lacks_no_pattern, AreKeptForward, Mapped}
 use Rattle.gix_refspec_lint.proofs.Common.{HasPair, IsExcluded, IsExcludedBy, id, name, MakesForward, IsRefName, one_name, CanBeWritten, IsCompleted, IsPlan, IsSound, Planned, list_any, ◌==◌, slash}
-use Rattle.gix_refspec_lint.proofs.Common.{reading_once, IsSourceExcluded, HasKind, full_name, object, Takes, ◌<◌, named_some, Origin, ConflictFree, ConflictsShown, ExamplesConflict}
-use Rattle.gix_refspec_lint.proofs.Common.{HasSound, IdleExclusionLeftOut, IdleLeftOut, PlanConflictFree, AreExamples, AreIdle, Fetches, AreValid, DoesBefore, Example, IsAlwaysEarlier}
-use Rattle.gix_refspec_lint.proofs.Common.{IsExample, IsIdleBy, IsIdleExclusion, Maps, MapsSoundly, refs_of, IsFree}
-use Rattle.gix_refspec_lint.specs.declared.Reason.TheVariants as reason
-use Rattle.gix_refspec_plan.specs.declared.Verdict.TheVariants as verdict
+use Rattle.gix_refspec_lint.proofs.Common.{reading_once, IsSourceExcluded, HasKind, full_name, object, Takes, ◌<◌, named_some, Origin, ConflictFree, ConflictsShown, ExamplesConflict, HasSound}
+use Rattle.gix_refspec_lint.proofs.Common.{IdleExclusionLeftOut, IdleLeftOut, PlanConflictFree, AreExamples, AreIdle, Fetches, AreValid, DoesBefore, Example, IsAlwaysEarlier, IsExample, IsIdleBy}
+use Rattle.gix_refspec_lint.proofs.{Common.{IsIdleExclusion, Maps, MapsSoundly, refs_of, IsFree}, lemmas.{IdleLemmas.{one_far, valid_named}, IndexLemmas.made_there, PatternLemmas.spec_maps}}
+use Rattle.gix_refspec_lint.proofs.lemmas.{PatternLemmas.{two_patterns, word_of}, SourceLemmas.sources_there}
 use Rattle.gix_refspec_match.proofs.facts.CandidateFacts.{x_kind}
 use Rattle.gix_refspec_text.proofs.lemmas.{hits.CandidateLemmas.taken_by_first, texts.TestedLemmas.{IsName-tested, is_suspect}}
 use Rattle.gix_refspec.specs.Matching.Validation.{ShareDestination}
-use Rattle.gix_refspec_lint.proofs.lemmas.{PatternLemmas.{spec_maps, two_patterns, word_of}, IdleLemmas.{one_far, valid_named}}
-use Rattle.gix_refspec_lint.proofs.lemmas.{IndexLemmas.made_there, SourceLemmas.sources_there}
 use Rattle.gix_refspec_plan.proofs.lemmas.plan.MadeLemmas.{one_in}
+use Rattle.gix_refspec_lint.specs.declared.Reason.TheVariants as reason
+use Rattle.gix_refspec_plan.specs.declared.Verdict.TheVariants as verdict
 
 abbrev pulls : Reading
 pulls = fetched Forced (codes "refs/pull/*/head") (Some (codes "refs/remotes/origin/pr/*"))

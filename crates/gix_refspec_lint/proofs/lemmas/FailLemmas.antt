@@ -3,11 +3,8 @@ use Rattle.gix_refspec_lint.proofs.Common.{Bor, ◌≡◌, ◌≢◌, ℕ, zero,
 use Rattle.gix_refspec_lint.proofs.Common.{the_name, by_pattern, Reading, one_word, split_once, lacks_no_pattern, IsRefName, CanBeWritten, power, ArePaired, IsExcludedAt, Fails, IsUnsound, First}
 use Rattle.gix_refspec_lint.proofs.Common.{Second, Why, Unknown, Unwritable, Invalid, Excluded, Same, append-nil, None, IfSome, MatchOption, bstring_bytes, BString, HasParts, map, slice_get, Ref}
 use Rattle.gix_refspec_lint.proofs.Common.{pattern, IsAccepted, reading_of, IsFilled, Source, name, IsSourceExcluded, MakesForward, IsValidSource, ExcludesFrom, IsGroupOf, NoneAt, IsNotFetched, Group}
-use Rattle.gix_refspec_lint.proofs.Common.{Fetches}
-use Rattle.gix_refspec_lint.proofs.lemmas.RepeatLemmas.{power_length, power_one, words_repeat, same_repeats, differ_again, names_again}
-use Rattle.gix_refspec_lint.proofs.lemmas.{RepeatLemmas.written_again, WordLemmas.between, SourceLemmas.pattern_there}
-use Rattle.gix_refspec_lint.proofs.lemmas.{PatternLemmas.{destination_once, pattern_spec, spec_made}, IndexLemmas.excluded_at}
-use Rattle.gix_refspec_lint.proofs.lemmas.IndexLemmas.{accepted_of, of_maps}
+use Rattle.gix_refspec_lint.proofs.{Common.Fetches, lemmas.{IndexLemmas.{excluded_at, accepted_of, of_maps}, PatternLemmas.{destination_once, pattern_spec, spec_made}, RepeatLemmas.power_length}}
+use Rattle.gix_refspec_lint.proofs.lemmas.{RepeatLemmas.{power_one, words_repeat, same_repeats, differ_again, names_again, written_again}, SourceLemmas.pattern_there, WordLemmas.between}
 
 -- with its sides the other way round a reading pairs names the other way round
 abbrev swapped : Reading → Reading

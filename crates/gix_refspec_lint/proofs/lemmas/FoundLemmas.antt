@@ -4,11 +4,9 @@ use Rattle.gix_refspec_lint.proofs.Common.{HaveSameNames, MakesForward, IsValidS
 use Rattle.gix_refspec_lint.proofs.Common.{take, refl, subst, Contains, take_more, star, Lacks, reading_of, RefSpecRef, sides_agree, HasParts, zip_at, zip_more, Example, IsExample, AreApart}
 use Rattle.gix_refspec_lint.proofs.Common.{AreCommon, HasPattern, HaveCommon, HaveParts, IsFound, IsFoundAt, IsGroupOf, Group, Common, IsAccepted, ◌≤◌, append-nil, option_to_list, arith}
 use Rattle.gix_refspec_lint.proofs.Common.{AllByRecursion, length-map, length-take-le, IsJoinedFrom, IsMadeFrom, MakesOf, some_element, joined_next, made_next, zip_long, NoneAt, MatchOption, drop}
-use Rattle.gix_refspec_lint.proofs.Common.{option_map, IsDeciding, words_with, IsOverlap, example_of, of_element, Fetches}
-use Rattle.gix_refspec_lint.proofs.lemmas.IndexLemmas.{IsThere, made_there, makes_fewer, of_maps, maps_of, zip_of, accepted_of}
-use Rattle.gix_refspec_lint.proofs.lemmas.{IndexLemmas.{one_completed, reading_at}, MovedLemmas.decided, PatternLemmas.maps_pattern}
-use Rattle.gix_refspec_lint.proofs.lemmas.{PatternLemmas.MapsPattern, RunLemmas.each_deciding, SourceLemmas.{none_made, pattern_there}}
-use Rattle.gix_refspec_lint.{proofs.lemmas.SourceLemmas.plain_made, specs.declared.PossibleConflict.PossibleConflict}
+use Rattle.gix_refspec_lint.proofs.{Common.{option_map, IsDeciding, words_with, IsOverlap, example_of, of_element, Fetches}, lemmas.IndexLemmas.{IsThere, made_there, makes_fewer, of_maps, maps_of}}
+use Rattle.gix_refspec_lint.proofs.lemmas.{IndexLemmas.{zip_of, accepted_of, one_completed, reading_at}, MovedLemmas.decided, PatternLemmas.{maps_pattern, MapsPattern}, RunLemmas.each_deciding}
+use Rattle.gix_refspec_lint.{proofs.lemmas.SourceLemmas.{none_made, pattern_there, plain_made}, specs.declared.PossibleConflict.PossibleConflict}
 
 there_also : (A B : List Ref) (s : Source) → HaveSameNames A B → IsThere A s → IsThere B s
 there_also A B (name n) same there = has_also A B n same there

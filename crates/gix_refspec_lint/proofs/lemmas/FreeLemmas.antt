@@ -1,19 +1,18 @@
 -- Without an example of a conflict no kept mappings conflict, whatever refs there are.
-use Rattle.gix_refspec_lint.proofs.Common.{rules, star, Lacks, each_made, ◌≡◌, ◌≢◌, inl, inr, ℕ, zero, suc, ◌<◌, List, [], ◌∷◌, ◌++◌, Some, length, map, refl, sym, ap, ◌∙◌, subst, arith, AllZip, Contains, slice_get}
-use Rattle.gix_refspec_lint.proofs.Common.{cases_lt, same_Some, IsFirstCandidate, MatchesAs, Ref, SideKind, pattern, full_name, object, partial, HasKind, IsAccepted, Reading, HasOneStar}
-use Rattle.gix_refspec_lint.proofs.Common.{reading_of, RefSpecRef, lacks_no_pattern, one_word, AreKeptForward, IsJoinedFrom, IsMadeFrom, Source, name, id, Mapped, matches_as, one_kind}
+use Rattle.gix_refspec_lint.proofs.Common.{rules, star, Lacks, each_made, ◌≡◌, ◌≢◌, inl, inr, ℕ, zero, suc, ◌<◌, List, [], ◌∷◌, ◌++◌, Some, length, map, refl, sym, ap, ◌∙◌, subst, arith, AllZip}
+use Rattle.gix_refspec_lint.proofs.Common.{Contains, slice_get, cases_lt, same_Some, IsFirstCandidate, MatchesAs, Ref, SideKind, pattern, full_name, object, partial, HasKind, IsAccepted, Reading}
+use Rattle.gix_refspec_lint.proofs.Common.{HasOneStar, reading_of, RefSpecRef, lacks_no_pattern, one_word, AreKeptForward, IsJoinedFrom, IsMadeFrom, Source, name, id, Mapped, matches_as, one_kind}
 use Rattle.gix_refspec_lint.proofs.Common.{nothing_joined, nothing_made, MakesForward, kept_exactly, sides_agree, CanBeWritten, IsCompleted, IsSound, reading_once, completed_destination}
-use Rattle.gix_refspec_lint.proofs.Common.{contained_pair, far_there, ConflictFree, AreExamples, Example, Fetches, IsExample, IsSourceExcluded, IsValidSource, completed_excluded}
-use Rattle.gix_refspec_lint.proofs.Common.{ExamplesConflict, HasSound, refs_of, pair_of, some_at, ◌+◌, false, None, append-nil, AllByRecursion, AreAsked, AreConfigured, AreUncovered, Asked}
-use Rattle.gix_refspec_lint.proofs.Common.{HasVerdict, IsPlanned, IsPlannedBesides, IsTracked, Wish, by_call, by_configuration, by_default, nothing, tags_asked, without, Origin, none_merged}
-use Rattle.gix_refspec_lint.proofs.Common.{PlanConflictFree, slice_get_within, get_or_from_slice_get}
+use Rattle.gix_refspec_lint.proofs.Common.{contained_pair, far_there, ConflictFree, AreExamples, Example, Fetches, IsExample, IsSourceExcluded, IsValidSource, completed_excluded, ExamplesConflict}
+use Rattle.gix_refspec_lint.proofs.Common.{HasSound, refs_of, pair_of, some_at, ◌+◌, false, None, append-nil, AllByRecursion, AreAsked, AreConfigured, AreUncovered, Asked, HasVerdict, IsPlanned}
+use Rattle.gix_refspec_lint.proofs.Common.{IsPlannedBesides, IsTracked, Wish, by_call, by_configuration, by_default, nothing, tags_asked, without, Origin, none_merged, PlanConflictFree}
+use Rattle.gix_refspec_lint.proofs.{Common.{slice_get_within, get_or_from_slice_get}, lemmas.IndexLemmas.{conflicts_shown, accepted_of, maps_of, still_excluded, any_at, zip_to}}
+use Rattle.gix_refspec_lint.proofs.lemmas.PatternLemmas.{spec_made, two_patterns}
 use Rattle.gix_refspec_text.proofs.lemmas.hits.CandidateLemmas.{first_once}
 use Rattle.gix_refspec.proofs.lemmas.validate.FirstLemmas.{start_cases}
 use Rattle.gix_refspec_plan.proofs.lemmas.plan.OpposedLemmas.{pair_in}
 use Rattle.gix_refspec_plan.specs.declared.Origin.TheVariants as origin
 use Rattle.gix_refspec_plan.specs.declared.Verdict.TheVariants as verdict
-use Rattle.gix_refspec_lint.proofs.lemmas.IndexLemmas.{conflicts_shown, accepted_of, maps_of, still_excluded, any_at, zip_to}
-use Rattle.gix_refspec_lint.proofs.lemmas.PatternLemmas.{spec_made, two_patterns}
 
 -- ---- one spec maps one source to a destination
 

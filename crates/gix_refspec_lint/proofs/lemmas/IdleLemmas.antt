@@ -1,15 +1,14 @@
 -- Specs that never do anything, source by source.
 use Rattle.gix_refspec_lint.proofs.Common.{map_each, item_named, ◌≡◌, ◌⊎◌, inl, inr, ◌↔◌, ℕ, zero, suc, ◌<◌, Bool, true, false, MatchBool, MatchOption, Bor, List, [], ◌∷◌, ◌++◌, Option, None, Some}
 use Rattle.gix_refspec_lint.proofs.Common.{codes, length, map, take, drop, get_or, append_assoc, refl, sym, ap, ◌∙◌, subst, arith, IsTrue, nat_eq, AllByRecursion, Contains, ends_with, is_some}
-use Rattle.gix_refspec_lint.proofs.Common.{false≢true, Decides-eqb, map-append, Contains-append_left, Contains-append_right, same_Some, ends_is, bstring_bytes, BString, Ref, MatchesAs}
-use Rattle.gix_refspec_lint.proofs.Common.{SideKind, pattern, full_name, object, partial, HasKind, Fits, candidates, Reading, IsSplit, EndsWith, Source, name, candidate_cases, map_split}
-use Rattle.gix_refspec_lint.proofs.Common.{MakesForward, IsRefName, AreAllowed, AreTriedBefore, Explains, Reason, Contains-push_cases, of_element, ◌+◌, ◌≤◌, AllZip, slice_get, HasName}
-use Rattle.gix_refspec_lint.proofs.Common.{IsFirstCandidate, upto, one_kind, IsCompleted, ref_named, AreValid, Maps, refs_of, AreAbsent, AreFreeing, ArePreferred, refs_with, one_word, all_join}
-use Rattle.gix_refspec_lint.proofs.Common.{IsFilled, id, IsExcludedBy, IsSourceExcluded, matches_as, HaveSameNames, IsValidSource, MapsSoundly, IsAtWork, IsShown, MakesSoundly, all_right}
+use Rattle.gix_refspec_lint.proofs.Common.{false≢true, Decides-eqb, map-append, Contains-append_left, Contains-append_right, same_Some, ends_is, bstring_bytes, BString, Ref, MatchesAs, SideKind}
+use Rattle.gix_refspec_lint.proofs.Common.{pattern, full_name, object, partial, HasKind, Fits, candidates, Reading, IsSplit, EndsWith, Source, name, candidate_cases, map_split, MakesForward}
+use Rattle.gix_refspec_lint.proofs.Common.{IsRefName, AreAllowed, AreTriedBefore, Explains, Reason, Contains-push_cases, of_element, ◌+◌, ◌≤◌, AllZip, slice_get, HasName, IsFirstCandidate, upto}
+use Rattle.gix_refspec_lint.proofs.Common.{one_kind, IsCompleted, ref_named, AreValid, Maps, refs_of, AreAbsent, AreFreeing, ArePreferred, refs_with, one_word, all_join, IsFilled, id, IsExcludedBy}
+use Rattle.gix_refspec_lint.proofs.{Common.{IsSourceExcluded, matches_as, HaveSameNames, IsValidSource, MapsSoundly, IsAtWork, IsShown, MakesSoundly, all_right}, lemmas.FoundLemmas.makes_also}
+use Rattle.gix_refspec_lint.proofs.lemmas.{IndexLemmas.{made_there, own_among, named_in, makes_again, zip_to, one_completed, all_listed, maps_as, maps_of, of_maps, excluded_at}, PatternLemmas.word_of}
+use Rattle.gix_refspec_lint.proofs.lemmas.PatternLemmas.{destination_once}
 use Rattle.gix_refspec_lint.specs.declared.Reason.TheVariants as reason
-use Rattle.gix_refspec_lint.proofs.lemmas.{PatternLemmas.{word_of, destination_once}, IndexLemmas.{made_there, own_among, named_in}}
-use Rattle.gix_refspec_lint.proofs.lemmas.IndexLemmas.{makes_again, zip_to, one_completed, all_listed, maps_as, maps_of, of_maps}
-use Rattle.gix_refspec_lint.proofs.lemmas.{IndexLemmas.excluded_at, FoundLemmas.makes_also}
 
 pub none_equal : (l : List (List ℕ)) (n : List ℕ) → AllByRecursion (λ x. ¬ (x ≡ n)) l → ¬ (Contains l n)
 none_equal l n all has = of_element (λ x. ¬ (x ≡ n)) l n all has refl

@@ -1,16 +1,13 @@
 -- Why a spec does nothing, from what becomes of its mappings at the names that decide.
 use Rattle.gix_refspec_lint.proofs.Common.{candidates, candidate_contained, ◌≡◌, ◌≢◌, inl, inr, ℕ, ◌+◌, ◌<◌, option_to_list, take, List, [], ◌∷◌, ◌++◌, Option, None, Some, codes, length, map, get_or}
-use Rattle.gix_refspec_lint.proofs.Common.{append-nil, refl, sym, ◌∙◌, subst, arith, AllByRecursion, AllZip, Contains, slice_get, same_Some, Ref, HasName, MatchesAs, SideKind, pattern}
-use Rattle.gix_refspec_lint.proofs.Common.{full_name, object, partial, HasKind, IsCandidate, IsAccepted, IsPositive, Reading, star, IsSplit, Lacks, reading_of, RefSpecRef, lacks_no_pattern, all_join}
-use Rattle.gix_refspec_lint.proofs.Common.{all_right, Lacks-here, first_once, IsMadeFrom, MakesOf, Source, name, id, IsSourceExcluded, some_element, made_more, MakesForward, IsCompleted}
-use Rattle.gix_refspec_lint.proofs.Common.{ref_named, AreIdle, IsFree, IsIdleBy, Maps, MapsSoundly, Unused, Explains, HasSourcePattern, IsAtWork, IsReasonOf, IsShown, IsWhy}
-use Rattle.gix_refspec_lint.proofs.Common.{IsDeciding, IsLongerPrefix, IsLongerSuffix, IsMost, words_with, Reason, of_element}
+use Rattle.gix_refspec_lint.proofs.Common.{append-nil, refl, sym, ◌∙◌, subst, arith, AllByRecursion, AllZip, Contains, slice_get, same_Some, Ref, HasName, MatchesAs, SideKind, pattern, full_name}
+use Rattle.gix_refspec_lint.proofs.Common.{object, partial, HasKind, IsCandidate, IsAccepted, IsPositive, Reading, star, IsSplit, Lacks, reading_of, RefSpecRef, lacks_no_pattern, all_join, all_right}
+use Rattle.gix_refspec_lint.proofs.Common.{Lacks-here, first_once, IsMadeFrom, MakesOf, Source, name, id, IsSourceExcluded, some_element, made_more, MakesForward, IsCompleted, ref_named, AreIdle}
+use Rattle.gix_refspec_lint.proofs.Common.{IsFree, IsIdleBy, Maps, MapsSoundly, Unused, Explains, HasSourcePattern, IsAtWork, IsReasonOf, IsShown, IsWhy, IsDeciding, IsLongerPrefix, IsLongerSuffix}
+use Rattle.gix_refspec_lint.proofs.{Common.{IsMost, words_with, Reason, of_element}, lemmas.{ByteLemmas.{excluded_moved, fits_byte, lacks_refs, lacks_mid}, DecideLemmas.{Decided, IsMovedFar, decide}}}
+use Rattle.gix_refspec_lint.proofs.lemmas.{IndexLemmas.{zip_to, reading_at, of_maps, accepted_of, one_completed, maps_as}, LeftOutLemmas.made_completed, MovedLemmas.{lacks_destination, lacks_parts}}
+use Rattle.gix_refspec_lint.proofs.lemmas.{MovedLemmas.lacks_source, PatternLemmas.{HasShape, pattern_spec, spec_made, spec_maps, PatternSpec}, WordLemmas.{between, within}}
 use Rattle.gix_refspec_lint.specs.declared.Reason.TheVariants as reason
-use Rattle.gix_refspec_lint.proofs.lemmas.{ByteLemmas.{excluded_moved, fits_byte, lacks_refs, lacks_mid}, WordLemmas.{between, within}}
-use Rattle.gix_refspec_lint.proofs.lemmas.PatternLemmas.{HasShape, pattern_spec, spec_made, spec_maps, PatternSpec}
-use Rattle.gix_refspec_lint.proofs.lemmas.{MovedLemmas.{lacks_destination, lacks_parts, lacks_source}, DecideLemmas.{Decided, IsMovedFar}}
-use Rattle.gix_refspec_lint.proofs.lemmas.{DecideLemmas.decide, LeftOutLemmas.made_completed, IndexLemmas.{zip_to, reading_at, of_maps}}
-use Rattle.gix_refspec_lint.proofs.lemmas.IndexLemmas.{accepted_of, one_completed, maps_as}
 
 pub idle_by : (g : List Reading) (k : ℕ) (r : Reason) → ((s : Source) → Explains g k s r) → IsShown g k r → IsIdleBy g k r
 idle_by g k reason.Invalid explains shown = λ refs s d. explains s refs d

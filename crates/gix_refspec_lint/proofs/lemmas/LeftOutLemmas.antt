@@ -1,15 +1,13 @@
 -- Negative specs that exclude nothing.
-use Rattle.gix_refspec_lint.proofs.Common.{CanBeWritten, each_made, cases_eq, ◌≡◌, inl, inr, ℕ, ◌+◌, ◌<◌, ◌≤◌, Bool, true, false, MatchBool, not, drop, take, List, [], ◌∷◌, ◌++◌, Option, None, Some, length, map}
-use Rattle.gix_refspec_lint.proofs.Common.{option_to_list, get_or, refl, sym, ap, ◌∙◌, subst, AllByRecursion, AllZip, Any, slice_get, Fits, by_pattern, IsAccepted, Reading}
-use Rattle.gix_refspec_lint.proofs.Common.{Negative, IsSplit, IsMadeFrom, MakesOf, Source, name, id, IsExcludedBy, IsSourceExcluded, made_more, some_at, IsCompleted, ref_named, same_excluded, IsFree}
+use Rattle.gix_refspec_lint.proofs.Common.{CanBeWritten, each_made, cases_eq, ◌≡◌, inl, inr, ℕ, ◌+◌, ◌<◌, ◌≤◌, Bool, true, false, MatchBool, not, drop, take, List, [], ◌∷◌, ◌++◌, Option, None, Some}
+use Rattle.gix_refspec_lint.proofs.Common.{length, map, option_to_list, get_or, refl, sym, ap, ◌∙◌, subst, AllByRecursion, AllZip, Any, slice_get, Fits, by_pattern, IsAccepted, Reading, Negative}
+use Rattle.gix_refspec_lint.proofs.Common.{IsSplit, IsMadeFrom, MakesOf, Source, name, id, IsExcludedBy, IsSourceExcluded, made_more, some_at, IsCompleted, ref_named, same_excluded, IsFree}
 use Rattle.gix_refspec_lint.proofs.Common.{IsIdleExclusion, ExcludesFrom, ExcludesSome, HasSourcePattern, ShareSources, IsDeciding, words_with, IsOverlap, Common, of_element, ◌≢◌, zero, suc, arith}
 use Rattle.gix_refspec_lint.proofs.Common.{Contains, same_Some, Ref, IsPositive, Mapped, IsExcluded, MakesForward, IsValidSource, kept_exactly, IsSound, IdleExclusionLeftOut, IdleLeftOut, AreValid}
-use Rattle.gix_refspec_lint.proofs.Common.{Fetches, IsIdleBy, Reason}
-use Rattle.gix_refspec_lint.specs.Laws.Lint.{without}
+use Rattle.gix_refspec_lint.proofs.{Common.{Fetches, IsIdleBy, Reason}, lemmas.{DecideLemmas.decide, IndexLemmas.{maps_of, excluded_same, zip_to, any_at, excluded_at, zip_of, still_excluded}}}
+use Rattle.gix_refspec_lint.proofs.lemmas.{IndexLemmas.{completed_at, by_index}, OneSpecLemmas.{makes_positive, own_name, excludes_by, text_excludes, fits_excluded}, PatternLemmas.pattern_spec}
+use Rattle.gix_refspec_lint.{proofs.lemmas.{PatternLemmas.spec_made, RunLemmas.each_deciding}, specs.Laws.Lint.without}
 use Rattle.gix_refspec_lint.specs.declared.Reason.TheVariants as reason
-use Rattle.gix_refspec_lint.proofs.lemmas.{RunLemmas.each_deciding, PatternLemmas.{pattern_spec, spec_made}, DecideLemmas.decide}
-use Rattle.gix_refspec_lint.proofs.lemmas.{OneSpecLemmas.{makes_positive, own_name, excludes_by, text_excludes, fits_excluded}, IndexLemmas.{maps_of, excluded_same}}
-use Rattle.gix_refspec_lint.proofs.lemmas.IndexLemmas.{zip_to, any_at, excluded_at, zip_of, still_excluded, completed_at, by_index}
 
 -- what is excluded and mapped is so at a name that decides
 pub none_shared : (g : List Reading) (z : ℕ) (free : IsFree g z) (negative c : Reading) (common : Common) → negative.mode ≡ Negative → ∥ IsAccepted c ∥₁ → ShareSources negative c common

@@ -1,14 +1,11 @@
 -- What a spec of two patterns fetches with the free byte in place of a word, and that the names that decide show each conflict of two.
 use Rattle.gix_refspec_lint.proofs.Common.{all_at, ◌≡◌, ◌≢◌, ◌⊎◌, inl, inr, ℕ, List, [], ◌∷◌, ◌++◌, codes, Some, map, append_assoc, refl, sym, ap, ◌∙◌, subst, AllByRecursion, Contains, slice_get}
-use Rattle.gix_refspec_lint.proofs.Common.{Contains-append_left, Contains-append_right, Ref, HasName, IsAccepted, Reading, star, IsSplit, BeginsWith, Lacks, lacks_no_pattern, all_join}
-use Rattle.gix_refspec_lint.proofs.Common.{all_left, all_right, first_once, Source, name, IsSourceExcluded, SidesLack, IsRefName, IsValidSource, mapped_there, one_name, CanBeWritten}
-use Rattle.gix_refspec_lint.proofs.Common.{IsCompleted, completed_destination, written_lacks, ConflictOver, Fetches, IsFree, refs_of, IsDeciding, IsLongerPrefix, IsLongerSuffix, IsMost, endings}
-use Rattle.gix_refspec_lint.proofs.Common.{parts, words_with, of_element}
-use Rattle.gix_refspec_lint.proofs.lemmas.IndexLemmas.{conflict_of_two, maps_as}
-use Rattle.gix_refspec_lint.proofs.lemmas.ByteLemmas.{excluded_moved, lacks_refs, name_with_byte, lacks_in}
-use Rattle.gix_refspec_lint.proofs.lemmas.WordLemmas.{begins_before, Around, IsParted, IsRefAround, between, common_name, ending_or_part, within}
+use Rattle.gix_refspec_lint.proofs.Common.{Contains-append_left, Contains-append_right, Ref, HasName, IsAccepted, Reading, star, IsSplit, BeginsWith, Lacks, lacks_no_pattern, all_join, all_left}
+use Rattle.gix_refspec_lint.proofs.Common.{all_right, first_once, Source, name, IsSourceExcluded, SidesLack, IsRefName, IsValidSource, mapped_there, one_name, CanBeWritten, IsCompleted}
+use Rattle.gix_refspec_lint.proofs.Common.{completed_destination, written_lacks, ConflictOver, Fetches, IsFree, refs_of, IsDeciding, IsLongerPrefix, IsLongerSuffix, IsMost, endings, parts, words_with}
+use Rattle.gix_refspec_lint.proofs.{Common.of_element, lemmas.{ByteLemmas.{excluded_moved, lacks_refs, name_with_byte, lacks_in}, IndexLemmas.{conflict_of_two, maps_as}, PatternLemmas.MapsPattern}}
+use Rattle.gix_refspec_lint.proofs.lemmas.{PatternLemmas.{maps_pattern, pattern_maps}, WordLemmas.{begins_before, Around, IsParted, IsRefAround, between, common_name, ending_or_part, within}}
 use Rattle.gix_refspec.proofs.lemmas.validate.RefNameLemmas.{name_of_ref}
-use Rattle.gix_refspec_lint.proofs.lemmas.PatternLemmas.{MapsPattern, maps_pattern, pattern_maps}
 
 pub regroup : (p x e z y t : List ℕ) → p ++ ((x ++ ((e ++ z) ++ y)) ++ t) ≡ ((p ++ x) ++ e) ++ (z ++ (y ++ t))
 regroup p x e z y t = simp append_assoc

@@ -2,10 +2,9 @@
 use Rattle.gix_refspec_lint.proofs.Common.{◌≡◌, inl, inr, ℕ, zero, List, [], ◌∷◌, ◌++◌, codes, Option, None, Some, map, length, refl, sym, ap, ◌∙◌, subst, arith, Contains, same_Some, Matches}
 use Rattle.gix_refspec_lint.proofs.Common.{MatchesAs, Ref, SideKind, pattern, full_name, object, partial, HasKind, Fits, candidates, filled, IsAccepted, Reading, star, HasStar, IsSplit, BeginsWith}
 use Rattle.gix_refspec_lint.proofs.Common.{Lacks, lacks_no_pattern, one_word, IsFilled, Source, name, id, start_of, matches_as, one_kind, MakesForward, sides_agree, IsCompleted, HasParts}
-use Rattle.gix_refspec_lint.proofs.Common.{completed_destination, far_there, written_below, candidate_contained, HasSourcePattern, mapped_there}
+use Rattle.gix_refspec_lint.proofs.{Common.{completed_destination, far_there, written_below, candidate_contained, HasSourcePattern, mapped_there}, lemmas.PatternLemmas.maps_pattern}
 use Rattle.gix_refspec_text.proofs.lemmas.texts.TextLemmas.{Lacks-ContainsText}
 use Rattle.gix_refspec_match.specs.declared.types.SourceRef.{SourceRef}
-use Rattle.gix_refspec_lint.proofs.lemmas.PatternLemmas.{maps_pattern}
 
 pub destination_made : (refs : List Ref) (s : Source) (d : List ℕ) (c : Reading) → MakesForward refs s (Some d) c → (e : List ℕ) × (word : Option (List ℕ)) × (c.destination ≡ Some e) × IsFilled (Some e) word (Some d)
 destination_made refs (name n) d c makes =

@@ -1,5 +1,4 @@
-use Rattle.gix_refspec_lint.proofs.Common.{of_element, some_at, take_all, arith, MatchBool-at_false, MatchBool-at_true, reading_of, one_more_mapped, ExcludesSome}
-use Rattle.gix_refspec_lint.proofs.lemmas.IndexLemmas.{reading_at}
+use Rattle.gix_refspec_lint.proofs.{Common.{of_element, some_at, take_all, arith, MatchBool-at_false, MatchBool-at_true, reading_of, one_more_mapped, ExcludesSome}, lemmas.IndexLemmas.reading_at}
 use Rattle.gix_refspec_lint.proofs.exclusions.excludes_any.Goals as goal
 
 pub returns-then-branch : goal.returns-then-branch

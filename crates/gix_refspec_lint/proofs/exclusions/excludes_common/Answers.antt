@@ -1,6 +1,5 @@
 -- What is excluded and mapped is so at a name that decides.
-use Rattle.gix_refspec_lint.proofs.Common.{◌++◌, take_all, arith, MatchBool-at_false, IfOk-weaker, bstring_bytes, reading_of, one_more_mapped, name, ExcludesFrom}
-use Rattle.gix_refspec_lint.proofs.lemmas.LeftOutLemmas.{shared_told}
+use Rattle.gix_refspec_lint.proofs.{Common.{◌++◌, take_all, arith, MatchBool-at_false, IfOk-weaker, bstring_bytes, reading_of, one_more_mapped, name, ExcludesFrom}, lemmas.LeftOutLemmas.shared_told}
 use Rattle.gix_refspec_lint.proofs.exclusions.excludes_common.Goals as goal
 
 pub loop-word-preserved : goal.loop-word-preserved

@@ -1,7 +1,6 @@
 use Rattle.gix_refspec_lint.proofs.Common.{◌≡◌, None, Some, append-nil, map, sym, refl, take_all, arith, MatchBool-at_false, MatchBool-at_true, reading_of, IsIdleExclusion}
-use Rattle.gix_refspec_lint.proofs.lemmas.LeftOutLemmas.{idle_completed, one_more_made}
+use Rattle.gix_refspec_lint.proofs.{exclusions.idle_exclusions_in.Goals.{then-branch+in_ok-push, else-branch}, lemmas.LeftOutLemmas.{idle_completed, one_more_made}}
 use Rattle.gix_refspec_lint.proofs.exclusions.idle_exclusions_in.Goals as goal
-use Rattle.gix_refspec_lint.proofs.exclusions.idle_exclusions_in.Goals.{then-branch+in_ok-push, else-branch}
 
 pub loop-index-preserved : goal.loop-index-preserved
 loop-index-preserved c g is =

@@ -1,9 +1,8 @@
 -- A pattern has one source by the word, and any other spec those of its only destination.
 use Rattle.gix_refspec_lint.proofs.Common.{◌≡◌, Some, inl, inr, not, option_map, sym, ap, ◌∙◌, pointwise_decides, false≢true, Decides-eqb, IfOk-weaker, bstr_bytes, star, Lacks, reading_of}
-use Rattle.gix_refspec_lint.proofs.Common.{accepted_few, name, parts_split, same_Some, ℕ, List, Bor, ◌++◌, ◌∷◌, Reading, IsAccepted, IsSplit}
-use Rattle.gix_refspec_lint.proofs.lemmas.SourceLemmas.{has_one, none_fits, none_unsplit, only_pushed, pattern_there, plain_made, source_unsplit}
+use Rattle.gix_refspec_lint.proofs.{Common.{accepted_few, name, parts_split, same_Some, ℕ, List, Bor, ◌++◌, ◌∷◌, Reading, IsAccepted, IsSplit}, group.sources_for.Goals.in-Some-2+in_ok-push}
+use Rattle.gix_refspec_lint.proofs.{group.sources_for.Goals.in_default-2, lemmas.SourceLemmas.{has_one, none_fits, none_unsplit, only_pushed, pattern_there, plain_made, source_unsplit}}
 use Rattle.gix_refspec_lint.proofs.group.sources_for.Goals as goal
-use Rattle.gix_refspec_lint.proofs.group.sources_for.Goals.{in-Some-2+in_ok-push, in_default-2}
 
 split_as : (r : Reading) (e : List ℕ) (far : Bor (List ℕ) × Bor (List ℕ)) → ∥ IsAccepted r ∥₁ → r.destination ≡ Some e → (e ≡ far.0.now ++ (star ∷ far.1.now)) × Lacks star far.0.now
     → IsSplit far.0.now far.1.now e

@@ -1,5 +1,4 @@
-use Rattle.gix_refspec_lint.proofs.Common.{map-id, sym, ◌∙◌, rules, MatchBool-at_false, MatchBool-at_true, YieldsList-from_vec, YieldsList-end}
-use Rattle.gix_refspec_lint.proofs.lemmas.IdleLemmas.{allowed_more, allowed_same}
+use Rattle.gix_refspec_lint.proofs.{Common.{map-id, sym, ◌∙◌, rules, MatchBool-at_false, MatchBool-at_true, YieldsList-from_vec, YieldsList-end}, lemmas.IdleLemmas.{allowed_more, allowed_same}}
 use Rattle.gix_refspec_lint.proofs.idle.add_allowed.Goals as goal
 
 pub returns : goal.returns

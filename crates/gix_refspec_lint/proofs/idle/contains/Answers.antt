@@ -1,5 +1,5 @@
 use Rattle.gix_refspec_lint.proofs.Common.{◌≡◌, ◌∙◌, map, refl, subst, sym, take_all, arith, Contains, false≢true, bstr_bytes, bstring_bytes, one_more_mapped, text_contained}
-use Rattle.gix_refspec_lint.proofs.lemmas.{OneSpecLemmas.same_bytes, IdleLemmas.none_equal}
+use Rattle.gix_refspec_lint.proofs.lemmas.{IdleLemmas.none_equal, OneSpecLemmas.same_bytes}
 use Rattle.gix_refspec_lint.proofs.idle.contains.Goals as goal
 
 pub returns-then-eq : goal.returns-then-eq

@@ -1,5 +1,4 @@
-use Rattle.gix_refspec_lint.proofs.Common.{sym, ◌∙◌, false≢true, IfOk-weaker}
-use Rattle.gix_refspec_lint.proofs.lemmas.{IdleLemmas.does_told, IndexLemmas.{maps_of, of_maps, reading_at}}
+use Rattle.gix_refspec_lint.proofs.{Common.{sym, ◌∙◌, false≢true, IfOk-weaker}, lemmas.{IdleLemmas.does_told, IndexLemmas.{maps_of, of_maps, reading_at}}}
 use Rattle.gix_refspec_lint.proofs.idle.does_map.Goals as goal
 
 pub returns-then-not-may_take : goal.returns-then-not-may_take

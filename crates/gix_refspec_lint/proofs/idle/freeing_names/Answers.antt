@@ -1,5 +1,4 @@
-use Rattle.gix_refspec_lint.proofs.Common.{map, arith, bstring_bytes, reading_of, start_of}
-use Rattle.gix_refspec_lint.proofs.lemmas.{IdleLemmas.{freeing, frees_less, frees_next, frees_none}, IndexLemmas.reading_at}
+use Rattle.gix_refspec_lint.proofs.{Common.{map, arith, bstring_bytes, reading_of, start_of}, lemmas.{IdleLemmas.{freeing, frees_less, frees_next, frees_none}, IndexLemmas.reading_at}}
 use Rattle.gix_refspec_lint.proofs.idle.freeing_names.Goals as goal
 
 pub loop-at-init : goal.loop-at-init

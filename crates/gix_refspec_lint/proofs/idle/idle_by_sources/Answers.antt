@@ -1,5 +1,5 @@
-use Rattle.gix_refspec_lint.proofs.Common.{inl, inr, map, sym, ◌∙◌, take_all, arith, same_Some, all_weaker, one_more_mapped, start_of, Explains, subst, HasPlainSource}
-use Rattle.gix_refspec_lint.proofs.lemmas.{IdleSpecLemmas.{idle_by, sources_explain}, IndexLemmas.reading_at}
+use Rattle.gix_refspec_lint.proofs.{Common.{inl, inr, map, sym, ◌∙◌, take_all, arith, same_Some, all_weaker, one_more_mapped, start_of, Explains, subst, HasPlainSource}, lemmas.IdleSpecLemmas.idle_by}
+use Rattle.gix_refspec_lint.proofs.lemmas.{IdleSpecLemmas.sources_explain, IndexLemmas.reading_at}
 use Rattle.gix_refspec_lint.proofs.idle.idle_by_sources.Goals as goal
 
 pub returns-in-None : goal.returns-in-None

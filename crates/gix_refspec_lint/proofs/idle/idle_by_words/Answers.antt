@@ -1,6 +1,5 @@
 -- What becomes of the mappings of the names with the words becomes of all.
-use Rattle.gix_refspec_lint.proofs.Common.{◌++◌, ℕ, List, inl, inr, take_all, arith, bstring_bytes, all_weaker, one_more_mapped, name, Explains}
-use Rattle.gix_refspec_lint.proofs.lemmas.IdleSpecLemmas.{idle_by, words_explain}
+use Rattle.gix_refspec_lint.proofs.{Common.{◌++◌, ℕ, List, inl, inr, take_all, arith, bstring_bytes, all_weaker, one_more_mapped, name, Explains}, lemmas.IdleSpecLemmas.{idle_by, words_explain}}
 use Rattle.gix_refspec_lint.proofs.idle.idle_by_words.Goals as goal
 
 pub returns-in-None : goal.returns-in-None

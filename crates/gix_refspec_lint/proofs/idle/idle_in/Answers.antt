@@ -1,7 +1,6 @@
-use Rattle.gix_refspec_lint.proofs.Common.{◌≡◌, None, Some, append-nil, map, sym, refl, ap, ◌∙◌, take_all, arith, map-append, IsPositive, reading_of, IsIdleBy, unused_of}
-use Rattle.gix_refspec_lint.proofs.lemmas.IdleSpecLemmas.{idle_none, idle_of, one_more_at}
+use Rattle.gix_refspec_lint.proofs.{Common.{◌≡◌, None, Some, append-nil, map, sym, refl, ap, ◌∙◌, take_all, arith, map-append, IsPositive, reading_of, IsIdleBy, unused_of}, idle.idle_in.Goals.in-None}
+use Rattle.gix_refspec_lint.proofs.{idle.idle_in.Goals.in-Some+in_ok-push-in-Some, lemmas.IdleSpecLemmas.{idle_none, idle_of, one_more_at}}
 use Rattle.gix_refspec_lint.proofs.idle.idle_in.Goals as goal
-use Rattle.gix_refspec_lint.proofs.idle.idle_in.Goals.{in-None, in-Some+in_ok-push-in-Some}
 
 pub loop-spec_index-preserved : goal.loop-spec_index-preserved
 loop-spec_index-preserved c g is =

@@ -1,5 +1,5 @@
-use Rattle.gix_refspec_lint.proofs.Common.{ap, inl, get_or, sym, ◌∙◌, subst, same_Some, IfOk-weaker, IsPositive, Reading, reading_of, accepted_few, HasPlainSource}
-use Rattle.gix_refspec_lint.proofs.lemmas.{IdleSpecLemmas.reason_of, IndexLemmas.reading_at}
+use Rattle.gix_refspec_lint.proofs.{Common.{ap, inl, get_or, sym, ◌∙◌, subst, same_Some, IfOk-weaker, IsPositive, Reading, reading_of, accepted_few, HasPlainSource}, lemmas.IdleSpecLemmas.reason_of}
+use Rattle.gix_refspec_lint.proofs.lemmas.IndexLemmas.{reading_at}
 use Rattle.gix_refspec_lint.proofs.idle.idle_reason.Goals as goal
 
 pub parts_of-requires : goal.parts_of-requires

@@ -1,5 +1,5 @@
-use Rattle.gix_refspec_lint.proofs.Common.{◌≡◌, ◌∙◌, ◌<◌, Vec, Global, length, map, refl, ap, sym, take_all, arith, false≢true, bstr_bytes, bstring_bytes, BString}
-use Rattle.gix_refspec_lint.proofs.{Common.one_more_mapped, lemmas.{OneSpecLemmas.same_bytes, IdleLemmas.{none_tried, tried_at}}}
+use Rattle.gix_refspec_lint.proofs.Common.{◌≡◌, ◌∙◌, ◌<◌, Vec, Global, length, map, refl, ap, sym, take_all, arith, false≢true, bstr_bytes, bstring_bytes, BString, one_more_mapped}
+use Rattle.gix_refspec_lint.proofs.lemmas.{IdleLemmas.{none_tried, tried_at}, OneSpecLemmas.same_bytes}
 use Rattle.gix_refspec_lint.proofs.idle.tried_before.Goals as goal
 
 pub returns-then-eq : goal.returns-then-eq
