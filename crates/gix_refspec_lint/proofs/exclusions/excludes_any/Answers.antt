@@ -3,8 +3,7 @@ use Rattle.gix_refspec_lint.proofs.exclusions.excludes_any.Goals as goal
 
 pub returns-then-branch : goal.returns-then-branch
 returns-then-branch c g is =
-    some_at (ExcludesSome (reading_of c.args.negative.now)) _ c.loop-spec.spec-index _
-    (reading_at c.args.group.now.specs.now c.loop-spec.spec-index c.spec-item.result c.loop-spec-test.true)
+    some_at (ExcludesSome (reading_of c.args.negative.now)) _ c.loop-spec.spec-index _ (reading_at c.args.group.now.specs.now c.loop-spec.spec-index c.spec-item.result c.loop-spec-test.true)
     (rw c.spec-item.is at (MatchBool-at_true _ _ c.if-branch.true (c.in_ok-excludes_of.ensures g is)))
 
 pub loop-spec-preserved : goal.loop-spec-preserved

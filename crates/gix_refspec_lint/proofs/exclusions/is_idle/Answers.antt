@@ -6,5 +6,4 @@ pub returns-then-not-is_negative : goal.returns-then-not-is_negative
 returns-then-not-is_negative c g is idle = subst IsPositive idle.negative c.if-not-is_negative.ensures
 
 pub returns : goal.returns
-returns c g is =
-    idle_told g (map reading_of c.args.group.now.specs.now) is.completed (reading_of c.args.spec.now) c.if-not-is_negative.ensures _ (c.in_ok-excludes.ensures g is)
+returns c g is = idle_told g (map reading_of c.args.group.now.specs.now) is.completed (reading_of c.args.spec.now) c.if-not-is_negative.ensures _ (c.in_ok-excludes.ensures g is)

@@ -11,8 +11,7 @@ returns-then-is_pair c =
 pub loop-mapping-preserved : goal.loop-mapping-preserved
 loop-mapping-preserved c =
     one_more_mapped mapped_of (λ m. ¬ (IsSamePair m (pair_of (start_of c.args.source.now) (option_map bstr_bytes c.args.destination)))) c.deref-mapping-items.result.now c.loop-mapping.mapping-index
-    c.mapping-item.result c.loop-mapping.invariant c.loop-mapping-test.true c.mapping-item.is
-    (λ same. false≢true (sym c.if-is_pair.false ∙ c.is_pair.ensures.1 same))
+    c.mapping-item.result c.loop-mapping.invariant c.loop-mapping-test.true c.mapping-item.is (λ same. false≢true (sym c.if-is_pair.false ∙ c.is_pair.ensures.1 same))
 
 pub returns : goal.returns
 returns c =

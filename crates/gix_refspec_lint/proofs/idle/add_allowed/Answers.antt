@@ -13,5 +13,4 @@ loop-name-preserved-in-Continue-1 c =
 
 pub loop-name-preserved : goal.loop-name-preserved
 loop-name-preserved c =
-    allowed_same _ c.loop-name.yielded _ c.loop-name.names.items c.in-Some.name c.loop-name.invariant
-    (rw c.as_bstr.ensures at (MatchBool-at_false _ _ c.if-is_allowed.false c.is_allowed.ensures))
+    allowed_same _ c.loop-name.yielded _ c.loop-name.names.items c.in-Some.name c.loop-name.invariant (rw c.as_bstr.ensures at (MatchBool-at_false _ _ c.if-is_allowed.false c.is_allowed.ensures))

@@ -1,5 +1,5 @@
-use Rattle.gix_refspec_lint.proofs.Common.{◌≡◌, ◌∙◌, map, refl, subst, sym, take_all, arith, Contains, false≢true, bstr_bytes, bstring_bytes, one_more_mapped, text_contained}
-use Rattle.gix_refspec_lint.proofs.lemmas.{IdleLemmas.none_equal, OneSpecLemmas.same_bytes}
+use Rattle.gix_refspec_lint.proofs.Common.{◌≡◌, ◌∙◌, map, refl, subst, sym, take_all, arith, Contains, false≢true, bstr_bytes, bstring_bytes, one_more_mapped, text_contained, of_element}
+use Rattle.gix_refspec_lint.proofs.lemmas.OneSpecLemmas.{same_bytes}
 use Rattle.gix_refspec_lint.proofs.idle.contains.Goals as goal
 
 pub returns-then-eq : goal.returns-then-eq
@@ -13,7 +13,5 @@ loop-one-preserved c =
     (λ same. false≢true (sym c.if-eq.false ∙ (same_bytes _ _ (bstr_bytes c.args.name) c.eq.ensures refl).1 (c.as_bstr.ensures ∙ same)))
 
 pub returns : goal.returns
-returns c = (
-  (λ told. absurd (false≢true told)),
-  (λ has. absurd (none_equal _ _ (rw (take_all c.loop-one.one-index c.args.names.now (omega arith)) at c.loop-one.invariant) has)),
-)
+returns c =
+    ((λ told. absurd (false≢true told)), λ has. absurd (of_element (λ x. ¬ (x ≡ bstr_bytes c.args.name)) _ _ (rw (take_all c.loop-one.one-index c.args.names.now (omega arith)) at c.loop-one.invariant) has refl))

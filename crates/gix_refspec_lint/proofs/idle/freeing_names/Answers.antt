@@ -1,8 +1,8 @@
-use Rattle.gix_refspec_lint.proofs.{Common.{map, arith, bstring_bytes, reading_of, start_of}, lemmas.{IdleLemmas.{freeing, frees_less, frees_next, frees_none}, IndexLemmas.reading_at}}
+use Rattle.gix_refspec_lint.proofs.{Common.{map, arith, bstring_bytes}, lemmas.{IdleLemmas.{freeing, frees_next}, IndexLemmas.reading_at}}
 use Rattle.gix_refspec_lint.proofs.idle.freeing_names.Goals as goal
 
 pub loop-at-init : goal.loop-at-init
-loop-at-init c = rw c.new-names.ensures.items (frees_none (map reading_of c.args.group.now.specs.now) (start_of c.args.source.now) (map bstring_bytes c.in_ok-kept_away.kept_away.items))
+loop-at-init c = rw c.new-names.ensures.items (record { allowed = λ n none. absurd (omega (arith, none.1)); preferred = λ i c below at. absurd (omega (arith, below)) })
 
 pub loop-at-preserved : goal.loop-at-preserved
 loop-at-preserved c =
@@ -11,5 +11,5 @@ loop-at-preserved c =
 
 pub returns : goal.returns
 returns c g is =
-    freeing g _ is.completed _ _ (map bstring_bytes c.in_ok-kept_away.kept_away.items) _ _ (reading_at c.args.group.now.specs.now c.args.index c.index-group-index.result c.requires) c.in_ok-kept_away.ensures
-    (frees_less _ _ _ _ c.loop-at.at c.args.index (omega (arith, c.loop-at-test.false)) c.loop-at.invariant)
+    freeing g _ is.completed c.loop-at.at _ _ (map bstring_bytes c.in_ok-kept_away.kept_away.items) _ _ (reading_at c.args.group.now.specs.now c.args.index c.index-group-index.result c.requires)
+    (omega (arith, c.loop-at-test.false)) c.in_ok-kept_away.ensures c.loop-at.invariant

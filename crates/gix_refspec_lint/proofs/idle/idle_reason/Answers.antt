@@ -21,6 +21,4 @@ returns-in-Some c g is =
     IfOk-weaker c.idle_by_words.result _ _ (λ why told r at.
     let same = same_Some _ _ (sym (reading_at c.args.group.now.specs.now c.args.index c.index-group-index.result c.requires) ∙ at) in
     let positive = subst (λ (q : Reading). IsPositive q.mode) same c.if-is_negative.ensures in
-    reason_of g _ r positive why (told r at positive
-    (record { text = x; has = ap (λ (q : Reading). q.source) (sym same) ∙ sym c.source.ensures ∙ has; split = split })))
-    (c.idle_by_words.ensures g is)
+    reason_of g _ r positive why (told r at positive (record { text = x; has = ap (λ (q : Reading). q.source) (sym same) ∙ sym c.source.ensures ∙ has; split = split }))) (c.idle_by_words.ensures g is)

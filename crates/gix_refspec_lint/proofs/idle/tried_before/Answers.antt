@@ -1,4 +1,4 @@
-use Rattle.gix_refspec_lint.proofs.Common.{◌≡◌, ◌∙◌, ◌<◌, Vec, Global, length, map, refl, ap, sym, take_all, arith, false≢true, bstr_bytes, bstring_bytes, BString, one_more_mapped}
+use Rattle.gix_refspec_lint.proofs.Common.{◌≤◌, ◌≡◌, ◌∙◌, ◌<◌, Vec, Global, length, map, refl, ap, sym, take_all, arith, false≢true, bstr_bytes, bstring_bytes, BString, one_more_mapped}
 use Rattle.gix_refspec_lint.proofs.lemmas.{IdleLemmas.{none_tried, tried_at}, OneSpecLemmas.same_bytes}
 use Rattle.gix_refspec_lint.proofs.idle.tried_before.Goals as goal
 
@@ -12,25 +12,13 @@ returns-then-eq c =
 pub loop-at-preserved : goal.loop-at-preserved
 loop-at-preserved c =
     let same = c.loop-at.invariant.0 in
-    let below : c.loop-at.at < length c.loop-at.names.items = omega (arith, ap (λ (v : Vec BString Global). length v.items) same, c.loop-at-test.true, c.len-at-end.ensures, c.in_ok-names.names.ok.0, c.in_ok-names.names.ok.1) in (
-      same,
-      one_more_mapped bstring_bytes (λ x. ¬ (x ≡ bstr_bytes c.args.candidate)) _ c.loop-at.at c.index.result.now c.loop-at.invariant.1 below c.index.ensures
-          (λ equal. false≢true (sym c.if-eq.false ∙ (same_bytes _ _ (bstr_bytes c.args.candidate) c.eq.ensures refl).1 (c.as_bstr.ensures ∙ equal))),
-    )
+    let below : c.loop-at.at < length c.loop-at.names.items = omega (arith, ap (λ (v : Vec BString Global). length v.items) same, c.loop-at-test.true, c.len-at-end.ensures, c.in_ok-names.names.ok.0, c.in_ok-names.names.ok.1) in
+    let more = one_more_mapped bstring_bytes (λ x. ¬ (x ≡ bstr_bytes c.args.candidate)) _ c.loop-at.at c.index.result.now c.loop-at.invariant.1 below c.index.ensures
+    (λ equal. false≢true (sym c.if-eq.false ∙ (same_bytes _ _ (bstr_bytes c.args.candidate) c.eq.ensures refl).1 (c.as_bstr.ensures ∙ equal))) in
+    (same, more)
 
 pub returns : goal.returns
 returns c =
-    none_tried c.args.partial.now (bstr_bytes c.args.candidate)
-    (rw (
-      take_all c.loop-at.at c.loop-at.names.items
-          (omega (
-            arith,
-            ap (λ (v : Vec BString Global). length v.items) c.loop-at.invariant.0,
-            c.loop-at-test.false,
-            c.len-at-end.ensures,
-            c.in_ok-names.names.ok.0,
-            c.in_ok-names.names.ok.1,
-          )),
-      c.loop-at.invariant.0,
-      c.in_ok-names.ensures,
-    ) at c.loop-at.invariant.1) _
+    let same = c.loop-at.invariant.0 in
+    let end : length c.loop-at.names.items ≤ c.loop-at.at = omega (arith, ap (λ (v : Vec BString Global). length v.items) same, c.loop-at-test.false, c.len-at-end.ensures, c.in_ok-names.names.ok.0, c.in_ok-names.names.ok.1) in
+    none_tried c.args.partial.now (bstr_bytes c.args.candidate) (rw (take_all c.loop-at.at c.loop-at.names.items end, same, c.in_ok-names.ensures) at c.loop-at.invariant.1) _
