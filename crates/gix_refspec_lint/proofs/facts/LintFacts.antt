@@ -106,10 +106,7 @@ names_no_ref g = record { negative = refl; excludes = λ refs i n d maps by. by_
 -- a negative spec without `refs/` names no branch, also where a spec maps `main`, and one of a branch excludes something
 pub excludes_none : IsIdleExclusion (every ∷ no_main ∷ []) no_main × ¬ (IsIdleExclusion (every ∷ no (codes "refs/heads/pr/*") ∷ []) (no (codes "refs/heads/pr/*")))
     × IsIdleExclusion (to_x (codes "main") ∷ no_main ∷ []) no_main
-excludes_none =
-    let something = λ (idle : IsIdleExclusion (every ∷ no (codes "refs/heads/pr/*") ∷ []) (no (codes "refs/heads/pr/*"))).
-    idle.excludes both 0 (codes "refs/heads/pr/7") (Some seven.destination) (heads_seven (every ∷ no (codes "refs/heads/pr/*") ∷ []) 0 refl) pr_excluded in
-    (names_no_ref _, something, names_no_ref _)
+excludes_none = (names_no_ref _, (λ idle. idle.excludes both 0 (codes "refs/heads/pr/7") (Some seven.destination) (heads_seven _ 0 refl) pr_excluded), names_no_ref _)
 
 abbrev all_excluded : List Reading
 all_excluded = every ∷ no_main ∷ no (codes "refs/heads/*") ∷ []

@@ -24,14 +24,7 @@ module _ (g h : List Reading) (all : AllZip IsCompleted g h) (i j : ℕ) (refs :
   -- and where both do, they conflict
   pub conflict_made : (b c : Reading) → slice_get h i ≡ Some b → slice_get h j ≡ Some c → s ≢ t → IsValidSource s × ¬ (IsSourceExcluded g s) → IsValidSource t × ¬ (IsSourceExcluded g t) → CanBeWritten (Some d)
       → MakesForward refs s (Some d) b → MakesForward refs t (Some d) c → ConflictOver g (refs_of s ++ refs_of t) i j s t d
-  conflict_made b c at here differ one other written makes also =
-      let maps = λ (k : ℕ) (e : Reading) (there : slice_get h k ≡ Some e) (r : Source) (does : MakesForward refs r (Some d) e).
-      maps_of g h all k e there (refs_of s ++ refs_of t) r (Some d) (makes_also refs (refs_of s ++ refs_of t) r (Some d) e named does) in
-      record {
-        one = record { maps = record { maps = maps i b at s makes; source = one.0; destination = written }; included = one.1 };
-        other = record { maps = record { maps = maps j c here t also; source = other.0; destination = written }; included = other.1 };
-        differ = differ;
-      }
+  conflict_made b c at here differ one other written makes also = grind (arith, maps_of, makes_also)
 
 -- ---- what an example of a conflict says of its two specs, by their completed readings
 

@@ -1,12 +1,12 @@
 -- Without an example of a conflict no kept mappings conflict, whatever refs there are.
 use Rattle.gix_refspec_lint.proofs.Common.{rules, star, Lacks, each_made, ◌≡◌, ◌≢◌, inl, inr, ℕ, ◌<◌, List, [], ◌∷◌, ◌++◌, Some, map, refl, sym, ap, ◌∙◌, subst, arith, AllZip, Contains, slice_get}
-use Rattle.gix_refspec_lint.proofs.Common.{cases_lt, same_Some, IsFirstCandidate, MatchesAs, Ref, SideKind, pattern, full_name, object, partial, HasKind, IsAccepted, Reading, HasOneStar, reading_of}
-use Rattle.gix_refspec_lint.proofs.Common.{RefSpecRef, lacks_no_pattern, one_word, AreKeptForward, IsJoinedFrom, IsMadeFrom, Source, name, id, Mapped, one_kind, nothing_joined, MakesForward}
-use Rattle.gix_refspec_lint.proofs.Common.{kept_exactly, sides_agree, CanBeWritten, IsCompleted, IsSound, reading_once, completed_destination, contained_pair, far_there, ConflictFree, AreExamples}
-use Rattle.gix_refspec_lint.proofs.Common.{Example, Fetches, IsExample, IsSourceExcluded, IsValidSource, completed_excluded, ExamplesConflict, HasSound, refs_of, pair_of, some_at, ◌+◌, false, None}
-use Rattle.gix_refspec_lint.proofs.Common.{append-nil, AllByRecursion, AreAsked, Asked, HasVerdict, IsPlanned, IsPlannedBesides, Wish, by_call, by_configuration, by_default, nothing, tags_asked}
-use Rattle.gix_refspec_lint.proofs.{Common.{without, Origin, none_merged, PlanConflictFree, slice_get_within, get_or_from_slice_get, map_split, map-id}, lemmas.IndexLemmas.conflicts_shown}
-use Rattle.gix_refspec_lint.proofs.lemmas.{IndexLemmas.{accepted_of, maps_of, still_excluded, any_at, zip_to}, PatternLemmas.{spec_made, two_patterns}, SourceLemmas.taken_as}
+use Rattle.gix_refspec_lint.proofs.Common.{same_Some, IsFirstCandidate, MatchesAs, Ref, SideKind, pattern, full_name, object, partial, HasKind, IsAccepted, Reading, HasOneStar, reading_of, RefSpecRef}
+use Rattle.gix_refspec_lint.proofs.Common.{lacks_no_pattern, one_word, AreKeptForward, IsJoinedFrom, IsMadeFrom, Source, name, id, Mapped, one_kind, nothing_joined, MakesForward, kept_exactly}
+use Rattle.gix_refspec_lint.proofs.Common.{sides_agree, CanBeWritten, IsCompleted, IsSound, reading_once, completed_destination, contained_pair, far_there, ConflictFree, AreExamples, Example, Fetches}
+use Rattle.gix_refspec_lint.proofs.Common.{IsExample, IsSourceExcluded, IsValidSource, completed_excluded, ExamplesConflict, HasSound, refs_of, pair_of, some_at, ◌+◌, false, None, append-nil}
+use Rattle.gix_refspec_lint.proofs.Common.{AllByRecursion, AreAsked, Asked, HasVerdict, IsPlanned, IsPlannedBesides, Wish, by_call, by_configuration, by_default, nothing, tags_asked, without, Origin}
+use Rattle.gix_refspec_lint.proofs.{Common.{none_merged, PlanConflictFree, slice_get_within, get_or_from_slice_get, map_split, map-id}, lemmas.IndexLemmas.{conflicts_shown, accepted_of, maps_of}}
+use Rattle.gix_refspec_lint.proofs.lemmas.{IndexLemmas.{still_excluded, any_at, zip_to}, PatternLemmas.{spec_made, two_patterns}, SourceLemmas.taken_as}
 use Rattle.gix_refspec_text.proofs.lemmas.hits.CandidateLemmas.{first_once}
 use Rattle.gix_refspec.proofs.lemmas.validate.FirstLemmas.{start_cases}
 use Rattle.gix_refspec_plan.proofs.lemmas.plan.OpposedLemmas.{pair_in}
@@ -50,11 +50,11 @@ module _ (r c : Reading) (accepted : ∥ IsAccepted r ∥₁) (done : IsComplete
       cc
 
 none_shown : (g : List Reading) (i j : ℕ) (r q : Reading) (e : Example) → AreExamples g [] → slice_get g i ≡ Some r → slice_get g j ≡ Some q → ¬ (IsExample g i j e)
-none_shown g i j r q e none at also shown =
+none_shown g i j r q e none at also is =
     let below = slice_get_within g i r at in
     let Rows : ℕ → Reading → List Example → Type 0 = λ k p row. IsMadeFrom (λ l p x. IsExample g k l x) 0 g row in
     let row = nothing_joined Rows 0 _ _ _ (subst (λ h. IsJoinedFrom Rows 0 h []) (sym (map-id g) ∙ map_split (λ (x : Reading). x) g i r below) none) in
-    made_none (λ l p x. IsExample g i l x) 0 g (subst (λ k. Rows k r []) (omega (arith, map_long (λ (x : Reading). x) g i below)) row) j q (slice_get_within g j q also) e (subst (λ l. IsExample g i l e) (omega arith) shown)
+    made_none (λ l p x. IsExample g i l x) 0 g (subst (λ k. Rows k r []) (omega (arith, map_long (λ (x : Reading). x) g i below)) row) j q (slice_get_within g j q also) e (subst (λ l. IsExample g i l e) (omega arith) is)
 
 fetched_by : (g h : List Reading) (refs : List Ref) (kept : List Mapped) (m : Mapped) (d : List ℕ) → AllZip IsCompleted g h → AreKeptForward h refs kept → Contains kept m → IsSound m
     → m.destination ≡ Some d → (k : ℕ) × Fetches g refs k m.source (Some d)
@@ -82,16 +82,7 @@ conflict_free specs none h refs kept all are m n has also sound sane (d, to, goe
     let g = map reading_of specs in
     let (i, one) = fetched_by g h refs kept m d all are has sound to in
     let (j, other) = fetched_by g h refs kept n d all are also sane goes in
-    elim (start_cases m.source n.source) [
-      | inl same ↦ same
-      | inr differ ↦ elim (cases_lt i j) [
-        | inl below ↦ absurd (same_fetched g refs i j m.source n.source d none one other below differ)
-        | inr over ↦ elim (cases_lt j i) [
-          | inl below ↦ absurd (same_fetched g refs j i n.source m.source d none other one below (λ same. differ (sym same)))
-          | inr under ↦ same_spec specs refs i j m.source n.source d one other (omega (arith, over, under))
-        ]
-      ]
-    ]
+    grind (arith, start_cases m.source n.source, same_fetched g refs i j m.source n.source d none one other, same_fetched g refs j i n.source m.source d none other one, same_spec specs refs i j m.source n.source d one other)
 
 -- ---- over the refs of an example both of its mappings are kept
 

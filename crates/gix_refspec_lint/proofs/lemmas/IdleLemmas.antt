@@ -171,9 +171,7 @@ module _ (g cs : List Reading) (all : AllZip IsCompleted g cs) (k : ℕ) (c : Re
   refs = refs_with s names
 
   pub explains_invalid : ((d : Option (List ℕ)) → ¬ (MakesSoundly items s d c)) → Explains g k s reason.Invalid
-  explains_invalid none = λ others d m.
-      let makes = makes_also refs items s d c (sym same) (of_maps g cs all k c here refs s d (freeing.keeps others d m.maps)) in
-      none d (record { makes = makes; source = m.source; destination = m.destination })
+  explains_invalid none = grind (arith, makes_also, of_maps)
 
   module _ (e : Option (List ℕ)) (makes : MakesSoundly items s e c) where
     maps : MapsSoundly g refs k s e

@@ -35,8 +35,8 @@ module _ (z : ℕ) (g : List Reading) (free : IsFree g z) where
       let heads = join (codes "refs/") (codes "heads/") refs (lacks_mid z free.usable (codes "refs/tags/") (codes "heads/") _ refl) in
       let remotes = join (codes "refs/") (codes "remotes/") refs (lacks_mid z free.usable (codes "refs/tags/heads/") (codes "remotes/") _ refl) in
       let last = join (codes "refs/remotes/") (x ++ codes "/HEAD") remotes (join x (codes "/HEAD") lacks (lacks_mid z free.usable (codes "refs/tags/heads/remotes") (codes "/HEAD") _ refl)) in
-      let behind : (f : List ℕ) → Lacks z f → Lacks z (f ++ x) = λ f front. join f x front lacks in
-      let all : AllByRecursion (Lacks z) (candidates x) = (lacks, (behind (codes "refs/") refs, (behind (codes "refs/tags/") tags, (behind (codes "refs/heads/") heads, (behind (codes "refs/remotes/") remotes, (last, tt)))))) in
+      let add : (f : List ℕ) → Lacks z f → Lacks z (f ++ x) = λ f front. join f x front lacks in
+      let all : AllByRecursion (Lacks z) (candidates x) = (lacks, (add (codes "refs/") refs, (add (codes "refs/tags/") tags, (add (codes "refs/heads/") heads, (add (codes "refs/remotes/") remotes, (last, tt)))))) in
       of_element (Lacks z) (candidates x) n all (candidate_contained x n one)
 
   -- and takes each word in place of the byte
@@ -99,10 +99,7 @@ module _ (z : ℕ) (g : List Reading) (free : IsFree g z) where
 
     -- no spec excludes it, if none excludes the source
     included_there : (n : List ℕ) (d : Option (List ℕ)) (q : Decided z c p t p t 0 n d) → ¬ (IsSourceExcluded g (name n)) → ¬ (IsSourceExcluded g (name q.source))
-    included_there n d q none by = elim q.moved [
-      | inl (same, also) ↦ none (rw same at by)
-      | inr moved ↦ none (subst (λ x. IsSourceExcluded g (name x)) (sym moved.was) (excluded_moved z free.usable g moved.front moved.word moved.back free.lacks (subst (λ x. IsSourceExcluded g (name x)) moved.is by)))
-    ]
+    included_there n d q none by = grind (arith, excluded_moved)
 
     named : (r : Reason) → ((n : List ℕ) → IsDeciding (words_with z) p t 0 n → Explains g k (name n) r) → (n : List ℕ) → Explains g k (name n) r
     named reason.Invalid decides n = λ refs d m. let (q, maps) = found refs n d m in decides q.source q.deciding (refs_of (name q.source)) q.destination (maps (refs_of (name q.source)) (inl refl))
@@ -147,8 +144,7 @@ abbrev pub IsIdleAt : List Reading → ℕ → Reading → Unused → Type 0
 IsIdleAt g k c u = (u.spec ≡ k) × IsPositive c.mode × IsIdleBy g k u.reason
 
 pub idle_of : (g h : List Reading) (idle : List Unused) → AllZip IsCompleted g h → IsMadeFrom (IsIdleAt g) 0 h idle → AreIdle g idle
-idle_of g h idle all made =
-    made_completed (IsIdleAt g) (λ k r c u done. ((λ is. (is.0, subst IsPositive (sym done.mode) is.1, is.2)), λ is. (is.0, subst IsPositive done.mode is.1, is.2))) g h 0 idle all made
+idle_of g h idle all made = grind (arith, made_completed)
 
 -- one more spec, with the reason if it is idle
 pub idle_next : (g : List Reading) (cs : List RefSpecRef) (i : ℕ) (ys zs : List Unused) (why : Option Reason) → i < length cs → ((c : Reading) → slice_get (map reading_of cs) i ≡ Some c → IsReasonOf g i c why)

@@ -114,7 +114,7 @@ elsewhere P l k there any =
 -- a positive spec excludes nothing
 stays_source : (l : List Reading) (k : ℕ) (c : Reading) (s : Source) → slice_get l k ≡ Some c → IsPositive c.mode → IsSourceExcluded l s → IsSourceExcluded (without k l) s
 stays_source l k c (name n) at positive by =
-    (any_excluded (without k l) n).1 (elsewhere (IsExcludedBy n) l k (λ x here of. absurd (subst IsPositive (ap (λ (q : Reading). q.mode) (same_Some _ _ (sym at ∙ here)) ∙ of.negative) positive)) ((any_excluded l n).0 by))
+    (any_excluded (without k l) n).1 (elsewhere (IsExcludedBy n) l k (λ x is of. absurd (subst IsPositive (ap (λ (q : Reading). q.mode) (same_Some _ _ (sym at ∙ is)) ∙ of.negative) positive)) ((any_excluded l n).0 by))
 stays_source l k c (id bytes) at positive none = none
 
 made_of : {Y : Type 0} (P : ℕ → Reading → Y → Type 0) (g : List Reading) (idle : List Y) (u : Y) → IsMadeFrom P 0 g idle → Contains idle u → (j : ℕ) × (r : Reading) × (slice_get g j ≡ Some r) × P j r u
@@ -126,8 +126,8 @@ still_made : (g h : List Reading) → AllZip IsCompleted g h → (refs : List Re
     → Any (MakesForward refs m.source m.destination) h → Any (MakesForward refs m.source m.destination) (without k h)
 still_made g h all refs valid k r idle m sound included any = elsewhere (MakesForward refs m.source m.destination) h k (λ c at makes.
     let maps = maps_of g h all k c at refs m.source m.destination makes in
-    let fetches : Fetches g refs k m.source m.destination = record { maps = record { maps = maps; source = sound.source; destination = sound.destination }; included = λ by. included (still_excluded g h all m.source by) } in
-    let (j, below, n) = idle_earlier g k r idle refs m.source m.destination valid fetches in
+    let f : Fetches g refs k m.source m.destination = record { maps = record { maps = maps; source = sound.source; destination = sound.destination }; included = λ by. included (still_excluded g h all m.source by) } in
+    let (j, below, n) = idle_earlier g k r idle refs m.source m.destination valid f in
     stays_any (MakesForward refs m.source m.destination) h k j n.completed (λ same. omega (arith, same, below)) (zip_to g h all j n.reading n.completed n.at n.is) n.makes) any
 
 pub idle_left_out : (g : List Reading) → IdleLeftOut g
@@ -150,10 +150,7 @@ idle_left_out g idle u are there h refs kept rest all valid of_all of_rest m sou
 
 module _ (g h : List Reading) (all : AllZip IsCompleted g h) (refs : List Ref) (k : ℕ) (q : Reading) (here : slice_get g k ≡ Some q) (idle : IsIdleExclusion g q) where
   of_index : (c : Reading) → slice_get h k ≡ Some c → IsCompleted q c × (c.mode ≡ Negative)
-  of_index c at =
-      let (r, there, done) = zip_of g h all k c at in
-      let one : IsCompleted q c = subst (λ x. IsCompleted x c) (same_Some _ _ (sym there ∙ here)) done in
-      (one, one.mode ∙ idle.negative)
+  of_index c at = grind (arith, zip_of, same_Some)
 
   -- what makes a mapping is another spec
   makes_elsewhere : (s : Source) (d : Option (List ℕ)) → Any (MakesForward refs s d) h → Any (MakesForward refs s d) (without k h)

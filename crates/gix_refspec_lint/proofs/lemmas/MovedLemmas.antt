@@ -90,7 +90,7 @@ module _ (g : List Reading) (z : ℕ) (free : IsFree g z) where
         let makes = pattern_maps c accepted d a b has split few q.before q.after w q.positive q.side (subst (HasName few) (sym same) there) in
         let moved = subst (λ o. MakesForward few (name o) (Some m) c) same (subst (λ o. MakesForward few (name (q.before ++ (w ++ q.after))) (Some o) c) (sym is) makes) in
         let own : IsValidSource (name (front ++ (z ∷ back))) = inl (subst (λ o. CanBeWritten (Some o)) (between q.before x (e ++ z ∷ []) y q.after ∙ same) valid) in
-        record { maps = record { maps = maps_as f.maps.maps moved; source = own; destination = written }; included = λ excluded. f.included (rw was (excluded_moved z free.usable g front rest back free.lacks excluded)) } in
+        record { maps = record { maps = maps_as f.maps.maps moved; source = own; destination = written }; included = λ by. f.included (rw was (excluded_moved z free.usable g front rest back free.lacks by)) } in
         (front, back, was, all_join (λ c. c ≢ z) (q.before ++ x) e before also, fetches)
 
 -- ---- conflicts of two patterns

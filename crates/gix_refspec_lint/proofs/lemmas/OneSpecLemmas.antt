@@ -68,9 +68,7 @@ alone_told refs few s c (Some m) same makes = ((mapped_of m).destination, sound_
 pub excludes_told : (n c : Reading) (s : Source) (b : Bool) → IsSourceExcluded (n ∷ []) s → MatchBool b ((d : Option (List ℕ)) × MakesSoundly (refs_of s) s d c) ((d : Option (List ℕ)) → ¬ (MakesSoundly (refs_of s) s d c))
     → MatchBool b (ExcludesFrom n c s) (¬ (ExcludesFrom n c s))
 excludes_told n c s true by (d, makes) = record { refs = refs_of s; destination = d; makes = makes; excludes = by }
-excludes_told n c s false by none = λ e.
-    let alone = makes_fewer e.refs (refs_of s) s e.destination c (own_among e.refs s (made_there e.refs s e.destination c e.makes.makes)) (own_there s) e.makes.makes in
-    none e.destination (record { makes = alone; source = e.makes.source; destination = e.makes.destination })
+excludes_told n c s false by none = grind (arith, makes_fewer, own_among, made_there, own_there)
 
 -- ---- what a negative spec excludes
 

@@ -1,5 +1,5 @@
 -- The sources from which a spec can write a destination.
-use Rattle.gix_refspec_lint.proofs.Common.{◌≡◌, inl, inr, ℕ, zero, List, [], ◌∷◌, ◌++◌, codes, Option, None, Some, map, length, refl, sym, ap, ◌∙◌, subst, arith, Contains, same_Some, MatchesAs, Ref}
+use Rattle.gix_refspec_lint.proofs.Common.{◌≡◌, inl, inr, ℕ, zero, List, [], ◌∷◌, ◌++◌, codes, Option, Some, map, length, refl, sym, ap, ◌∙◌, subst, arith, Contains, same_Some, MatchesAs, Ref}
 use Rattle.gix_refspec_lint.proofs.Common.{SideKind, pattern, full_name, object, partial, HasKind, Fits, candidates, filled, IsAccepted, Reading, star, HasStar, IsSplit, BeginsWith, Lacks}
 use Rattle.gix_refspec_lint.proofs.Common.{lacks_no_pattern, one_word, IsFilled, Source, name, id, start_of, matches_as, one_kind, MakesForward, sides_agree, IsCompleted, completed_destination}
 use Rattle.gix_refspec_lint.proofs.{Common.{far_there, written_below, candidate_contained, HasSourcePattern, mapped_there, ◌⊎◌, IsCandidate}, lemmas.PatternLemmas.maps_pattern}
@@ -7,11 +7,8 @@ use Rattle.gix_refspec_text.proofs.lemmas.texts.TextLemmas.{Lacks-ContainsText}
 use Rattle.gix_refspec_match.specs.declared.types.SourceRef.{SourceRef}
 
 pub destination_made : (refs : List Ref) (s : Source) (d : List ℕ) (c : Reading) → MakesForward refs s (Some d) c → (e : List ℕ) × (word : Option (List ℕ)) × (c.destination ≡ Some e) × IsFilled (Some e) word (Some d)
-destination_made refs (name n) d c makes =
-    let (k, item, below, is, paired) = makes.one in
-    let (e, far, becomes) = far_there makes.ends.far paired.word d paired.becomes in
-    (e, paired.word, makes.has.far ∙ far, becomes)
-destination_made refs (id bytes) d c makes = let (e, far, becomes) = far_there c.destination None d makes.becomes in (e, None, far, becomes)
+destination_made refs (name n) d c makes = grind (arith, far_there)
+destination_made refs (id bytes) d c makes = grind (arith, far_there)
 
 -- a completed one without a star is written as it is
 pub plain_made : (r c : Reading) (e : List ℕ) → IsCompleted r c → c.destination ≡ Some e → Lacks star e → (refs : List Ref) (s : Source) (d : List ℕ) → MakesForward refs s (Some d) c → d ≡ e
@@ -32,8 +29,7 @@ source_unsplit r e accepted has lacks x before after source split =
 -- a spec takes a ref as the kind of its source says
 pub taken_as : (r : Reading) (x : List ℕ) (kind : SideKind) → r.source ≡ Some x → HasKind x kind → (refs : List Ref) (n : List ℕ) (d : Option (List ℕ)) (makes : MakesForward refs (name n) d r)
     → MatchesAs kind makes.one.1 makes.one.4.word
-taken_as r x kind source of refs n d makes =
-    matches_as makes.ends.near kind makes.one.1 makes.one.4.word (subst (λ y. HasKind y kind) (same_Some _ _ (sym source ∙ makes.has.near)) of) makes.one.4.takes.matches
+taken_as r x kind source of refs n d makes = grind (arith, matches_as, same_Some)
 
 -- what it takes fits its pattern, is its source, or is one of its candidates
 pub taken_cases : (r : Reading) (refs : List Ref) (n : List ℕ) (d : Option (List ℕ)) (makes : MakesForward refs (name n) d r)
@@ -53,8 +49,8 @@ AreSourcesAs x (full_name n) sources = sources ≡ name x ∷ []
 AreSourcesAs x (object bytes) sources = sources ≡ id bytes ∷ []
 AreSourcesAs x (partial n) sources = sources ≡ map name (candidates n)
 
-pub sources_there : (r : Reading) (x : List ℕ) → r.source ≡ Some x → (refs : List Ref) (d : Option (List ℕ)) (kind : SideKind) (sources : List Source) → HasKind x kind → ((before after : List ℕ) → ¬ (IsSplit before after x))
-    → AreSourcesAs x kind sources → (s : Source) → MakesForward refs s d r → Contains sources s
+pub sources_there : (r : Reading) (x : List ℕ) → r.source ≡ Some x → (refs : List Ref) (d : Option (List ℕ)) (kind : SideKind) (sources : List Source) → HasKind x kind
+    → ((before after : List ℕ) → ¬ (IsSplit before after x)) → AreSourcesAs x kind sources → (s : Source) → MakesForward refs s d r → Contains sources s
 sources_there r x source refs d kind sources of unsplit are (id bytes) makes =
     let kinds = one_kind x kind (object bytes) of (subst (λ y. HasKind y (object bytes)) (same_Some _ _ (sym makes.side ∙ source)) makes.object) in
     rw (subst (λ k. AreSourcesAs x k sources) kinds are) (zero, omega arith, refl)

@@ -1,6 +1,5 @@
-use Rattle.gix_refspec_lint.proofs.Common.{Some, inl, option_map, map, refl, sym, ap, ◌∙◌, IfOk-weaker, bstr_bytes, bstring_bytes, full_name, object, pattern, reading_of, accepted_few, name_bytes}
+use Rattle.gix_refspec_lint.proofs.Common.{Some, inl, option_map, map, refl, sym, ap, ◌∙◌, IfOk-weaker, bstr_bytes, bstring_bytes, full_name, pattern, reading_of, accepted_few, name_bytes}
 use Rattle.gix_refspec_lint.proofs.lemmas.IdleLemmas.{preferred_by, preferred_partial}
-use Rattle.gix_refspec_text.specs.Texts.ObjectId.{id_bytes}
 use Rattle.gix_refspec_lint.proofs.idle.candidates_before.Goals as goal
 
 pub kind_of-requires : goal.kind_of-requires
@@ -21,8 +20,3 @@ pub returns-in-FullName : goal.returns-in-FullName
 returns-in-FullName c =
     rw c.in-Some-FullName.is-1 (preferred_by (reading_of c.args.spec.now) c.as_bytes.result.now (name_bytes c.in-Some-FullName.name) (full_name c.in-FullName.field-0.now) _
     (sym c.source.ensures ∙ ap (option_map bstr_bytes) c.in-Some-FullName.is-0 ∙ ap Some (sym c.as_bytes.ensures)) c.in-FullName.ensures (λ m same. cc (same)) (ap (map bstring_bytes) c.new-in-FullName.ensures.items))
-
-pub returns-in-Object : goal.returns-in-Object
-returns-in-Object c =
-    rw c.in-Some-FullName.is-1 (preferred_by (reading_of c.args.spec.now) c.as_bytes.result.now (name_bytes c.in-Some-FullName.name) (object (id_bytes c.in-Object.field-0)) _
-    (sym c.source.ensures ∙ ap (option_map bstr_bytes) c.in-Some-FullName.is-0 ∙ ap Some (sym c.as_bytes.ensures)) c.in-Object.ensures (λ m same. cc (same)) (ap (map bstring_bytes) c.new-in-Object.ensures.items))

@@ -1,9 +1,6 @@
 use Rattle.gix_refspec_lint.proofs.{Common.{map, arith, bstring_bytes}, lemmas.{IdleLemmas.{freeing, frees_next}, IndexLemmas.reading_at}}
 use Rattle.gix_refspec_lint.proofs.idle.freeing_names.Goals as goal
 
-pub loop-at-init : goal.loop-at-init
-loop-at-init c = rw c.new-names.ensures.items (record { allowed = λ n none. absurd (omega (arith, none.1)); preferred = λ i c below at. absurd (omega (arith, below)) })
-
 pub loop-at-preserved : goal.loop-at-preserved
 loop-at-preserved c =
     frees_next _ _ _ _ (map bstring_bytes c.in_ok-before.before.items) _ c.loop-at.at _

@@ -11,10 +11,6 @@ returns-in-Duplicate-other-clause-explains c g k s either =
 pub returns-in-Invalid-other-clause-explains : goal.returns-in-Invalid-other-clause-explains
 returns-in-Invalid-other-clause-explains c g k s either = elim either [ inl one ↦ one | inr other ↦ explains_if g k s c.args.one (λ refs d m. absurd (rw c.in-Invalid-other.is at other refs d m)) ]
 
-pub returns-in-Excluded-other-clause-explains : goal.returns-in-Excluded-other-clause-explains
-returns-in-Excluded-other-clause-explains c g k s either =
-    elim either [ inl one ↦ one | inr other ↦ rw c.in-Excluded.is (rw c.in-Excluded-other.is at other) ]
-
 pub returns-in-Duplicate-clause-explains : goal.returns-in-Duplicate-clause-explains
 returns-in-Duplicate-clause-explains c g k s either =
     elim either [ inl one ↦ one | inr other ↦ rw c.in-Duplicate.is (duplicate_any g k s c.args.other 0 other) ]
