@@ -1,6 +1,6 @@
 -- A pattern has one source by the word, and any other spec those of its only destination.
-use Rattle.gix_refspec_lint.proofs.Common.{◌≡◌, Some, inl, inr, not, option_map, sym, ap, ◌∙◌, pointwise_decides, false≢true, Decides-eqb, IfOk-weaker, bstr_bytes, star, Lacks, reading_of}
-use Rattle.gix_refspec_lint.proofs.{Common.{accepted_few, name, parts_split, same_Some, ℕ, List, Bor, ◌++◌, ◌∷◌, Reading, IsAccepted, IsSplit, arith}, group.sources_for.Goals.in-Some-2+in_ok-push}
+use Rattle.gix_refspec_lint.proofs.Common.{arith, ◌≡◌, Some, inl, inr, option_map, sym, ap, ◌∙◌, pointwise_decides, false≢true, Decides-eqb, IfOk-weaker, bstr_bytes, star, Lacks, reading_of}
+use Rattle.gix_refspec_lint.proofs.{Common.{accepted_few, name, parts_split, same_Some, ℕ, List, Bor, ◌++◌, ◌∷◌, Reading, IsAccepted, IsSplit}, group.sources_for.Goals.in-Some-2+in_ok-push}
 use Rattle.gix_refspec_lint.proofs.{group.sources_for.Goals.in_default-2, lemmas.{PatternLemmas.maps_pattern, SourceLemmas.{only_pushed, pattern_there, plain_made, source_unsplit}}}
 use Rattle.gix_refspec_lint.proofs.group.sources_for.Goals as goal
 
@@ -10,9 +10,7 @@ split_as r e far accepted has split =
     let (y, is, of) = parts_split e (Some far) (accepted_few r e accepted (inr has)) split in rw (same_Some _ _ (sym is)) at of
 
 pub returns-then-ne : goal.returns-then-ne
-returns-then-ne c r done refs s makes =
-    let same = plain_made r _ _ done (sym c.destination.ensures ∙ ap (option_map bstr_bytes) c.in-Some.is) (rw c.as_bytes.ensures at c.in_default-split_at_first_star.ensures) refs s c.args.destination.now makes in
-    absurd (false≢true (sym (c.ne.ensures ∙ ap not ((pointwise_decides Decides-eqb c.as_bytes-in_default-split_at_first_star.result.now c.args.destination.now).1 (c.as_bytes-in_default-split_at_first_star.ensures ∙ sym same))) ∙ c.if-ne.true))
+returns-then-ne c r done refs s makes = grind (arith, plain_made, false≢true, pointwise_decides, Decides-eqb)
 
 pub returns-in_default-split_at_first_star : goal.returns-in_default-split_at_first_star
 returns-in_default-split_at_first_star c r done =

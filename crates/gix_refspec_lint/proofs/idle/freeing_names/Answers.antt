@@ -1,10 +1,8 @@
-use Rattle.gix_refspec_lint.proofs.{Common.{map, arith, bstring_bytes}, lemmas.{IdleLemmas.{freeing, frees_next}, IndexLemmas.reading_at}}
+use Rattle.gix_refspec_lint.proofs.{Common.{arith, map, bstring_bytes}, lemmas.{IdleLemmas.{freeing, frees_next}, IndexLemmas.reading_at}}
 use Rattle.gix_refspec_lint.proofs.idle.freeing_names.Goals as goal
 
 pub loop-at-preserved : goal.loop-at-preserved
-loop-at-preserved c =
-    frees_next _ _ _ _ (map bstring_bytes c.in_ok-before.before.items) _ c.loop-at.at _
-    (reading_at c.args.group.now.specs.now c.loop-at.at c.index-group-at.result (omega (arith, c.loop-at-test.true, c.requires))) c.in_ok-before.ensures (rw c.as_slice.ensures.value at c.in_ok-add_allowed.ensures) c.loop-at.invariant
+loop-at-preserved c = grind (arith, frees_next, reading_at)
 
 pub returns : goal.returns
 returns c g is =

@@ -1,4 +1,4 @@
-use Rattle.gix_refspec_lint.proofs.{Common.{◌≤◌, ◌∙◌, ◌<◌, Vec, Global, length, map, refl, ap, sym, take_all, arith, bstr_bytes, bstring_bytes, BString}, lemmas.IdleLemmas.{none_tried, tried_at}}
+use Rattle.gix_refspec_lint.proofs.{Common.{◌∙◌, ◌<◌, Vec, Global, length, map, refl, ap, sym, take_all, arith, bstr_bytes, bstring_bytes, BString}, lemmas.IdleLemmas.{none_tried, tried_at}}
 use Rattle.gix_refspec_lint.proofs.lemmas.OneSpecLemmas.{same_bytes}
 use Rattle.gix_refspec_lint.proofs.idle.tried_before.Goals as goal
 
@@ -10,8 +10,4 @@ returns-then-eq c =
     (sym c.as_bstr.ensures ∙ (same_bytes _ _ (bstr_bytes c.args.candidate) c.eq.ensures refl).0 c.if-eq.true) c.loop-at.invariant.1 (ap (map bstring_bytes) c.truncate.ensures.items)
 
 pub returns : goal.returns
-returns c =
-    let same = c.loop-at.invariant.0 in
-    let long = ap (λ (v : Vec BString Global). length v.items) same in
-    let end : length c.loop-at.names.items ≤ c.loop-at.at = omega (arith, long, c.loop-at-test.false, c.len-at-end.ensures, c.in_ok-names.names.ok.0, c.in_ok-names.names.ok.1) in
-    none_tried c.args.partial.now (bstr_bytes c.args.candidate) (rw (take_all c.loop-at.at c.loop-at.names.items end, same, c.in_ok-names.ensures) at c.loop-at.invariant.1) _
+returns c = grind (arith, none_tried, take_all)
