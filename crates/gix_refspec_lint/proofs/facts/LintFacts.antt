@@ -1,11 +1,11 @@
-use Rattle.gix_refspec_lint.proofs.Common.{every, heads_split, origin_split, other_byte, other_first, short_kind, short_no_id, split_at_end, false, false≢true, ◌≡◌, ◌≢◌, inl, inr, ℕ, List, [], ◌∷◌}
-use Rattle.gix_refspec_lint.proofs.Common.{◌++◌, Option, None, Some, codes, refl, sym, ◌∙◌, subst, arith, AllByRecursion, Contains, slice_get, same_Some, BeginsWith, Source, Lacks-here, HasName, Ref}
-use Rattle.gix_refspec_lint.proofs.Common.{Excludes, by_pattern, the_name, fetched, Forced, Normal, Negative, Reading, star, IsSplit, Lacks, Lacks-tested, lacks_no_pattern, AreKeptForward, Mapped}
-use Rattle.gix_refspec_lint.proofs.Common.{HasPair, IsExcluded, IsExcludedBy, id, name, MakesForward, IsRefName, one_name, CanBeWritten, IsCompleted, IsPlan, IsSound, Planned, list_any, ◌==◌, slash}
-use Rattle.gix_refspec_lint.proofs.Common.{reading_once, IsSourceExcluded, HasKind, full_name, object, Takes, named_some, Origin, ConflictFree, ConflictsShown, ExamplesConflict, HasSound}
-use Rattle.gix_refspec_lint.proofs.Common.{IdleExclusionLeftOut, IdleLeftOut, PlanConflictFree, AreExamples, AreIdle, Fetches, AreValid, DoesBefore, Example, IsAlwaysEarlier, IsExample, IsIdleBy}
-use Rattle.gix_refspec_lint.proofs.{Common.{IsIdleExclusion, Maps, MapsSoundly, refs_of, IsFree, AreIdleExclusions, Wish}, lemmas.{IdleLemmas.{one_far, each_named}, IndexLemmas.made_there}}
-use Rattle.gix_refspec_lint.{proofs.lemmas.{PatternLemmas.{spec_maps, two_patterns, word_of}, SourceLemmas.sources_there}, specs.Matching.Lint.ExcludesOne}
+use Rattle.gix_refspec_lint.proofs.Common.{every, heads_split, origin_split, other_byte, other_first, short_kind, short_no_id, split_at_end, false, false≢true, ◌≡◌, ◌≢◌, inl, inr, ℕ, List, [], ◌∷◌, ◌++◌}
+use Rattle.gix_refspec_lint.proofs.Common.{Option, None, Some, codes, refl, sym, ◌∙◌, subst, arith, AllByRecursion, Contains, slice_get, same_Some, BeginsWith, Source, Lacks-here, HasName, Ref, Excludes}
+use Rattle.gix_refspec_lint.proofs.Common.{by_pattern, the_name, fetched, Forced, Normal, Negative, Reading, star, IsSplit, Lacks, Lacks-tested, lacks_no_pattern, AreKeptForward, Mapped, HasPair}
+use Rattle.gix_refspec_lint.proofs.Common.{IsExcluded, IsExcludedBy, id, name, MakesForward, IsRefName, one_name, CanBeWritten, IsCompleted, IsPlan, IsSound, Planned, list_any, ◌==◌, slash, reading_once}
+use Rattle.gix_refspec_lint.proofs.Common.{IsSourceExcluded, HasKind, full_name, object, Takes, named_some, Origin, ConflictFree, ConflictsShown, ExamplesConflict, HasSound, IdleExclusionLeftOut}
+use Rattle.gix_refspec_lint.proofs.Common.{IdleLeftOut, PlanConflictFree, AreExamples, AreIdle, Fetches, AreValid, DoesBefore, Example, IsAlwaysEarlier, IsExample, IsIdleBy, IsIdleExclusion, Maps}
+use Rattle.gix_refspec_lint.proofs.{Common.{MapsSoundly, refs_of, IsFree, AreIdleExclusions, Wish}, lemmas.{IdleLemmas.{one_far, each_named}, IndexLemmas.made_there, PatternLemmas.spec_maps}}
+use Rattle.gix_refspec_lint.{proofs.lemmas.{PatternLemmas.{two_patterns, word_of}, SourceLemmas.sources_there}, specs.Matching.Lint.ExcludesOne}
 use Rattle.gix_refspec_match.proofs.facts.CandidateFacts.{x_kind}
 use Rattle.gix_refspec_text.proofs.lemmas.{hits.CandidateLemmas.taken_by_first, texts.TestedLemmas.{IsName-tested, is_suspect}}
 use Rattle.gix_refspec.specs.Matching.Validation.{ShareDestination}
@@ -181,9 +181,7 @@ full_name_idle =
 
 -- any byte may be free, but no larger number, no star, no letter of the folders, and none that a side has
 pub free : IsFree [] 255 × ¬ (IsFree [] 256) × ¬ (IsFree [] 42) × ¬ (IsFree [] 114) × ¬ (IsFree (every ∷ []) 105)
-free =
-    let byte : IsFree [] 255 = record { byte = omega arith; usable = refl; lacks = tt } in
-    (byte, (λ is. omega (arith, is.byte)), (λ is. false≢true is.usable), (λ is. false≢true is.usable), λ is. Lacks-here 105 (codes "refs/remotes/or") (codes "gin/*") is.lacks.0.1)
+free = grind (arith, false≢true, Lacks-here)
 
 -- of two equal specs one is enough
 pub one_enough : IdleLeftOut (every ∷ every ∷ []) → AreIdle (every ∷ every ∷ []) (record { spec = 1; reason = reason.Duplicate 0 } ∷ []) → (refs : List Ref) (kept rest : List Mapped) → AreValid refs

@@ -1,11 +1,10 @@
 -- Reasons for which names come to nothing, where a word repeats in the names: they hold with the word once more.
-use Rattle.gix_refspec_lint.proofs.Common.{HasSourcePattern, Bor, ◌≡◌, ◌≢◌, ℕ, zero, suc, ◌+◌, ◌≤◌, List, [], ◌++◌, Option, Some, length, refl, sym, ap, ◌∙◌, subst, arith, nil_from_length, same_Some}
-use Rattle.gix_refspec_lint.proofs.Common.{Fits, Excludes, the_name, by_pattern, Reading, one_word, split_once, lacks_no_pattern, IsRefName, CanBeWritten, power, ArePaired, IsExcludedAt, Fails}
-use Rattle.gix_refspec_lint.proofs.Common.{IsUnsound, First, Second, Why, Unknown, Unwritable, Invalid, Excluded, Same, append-nil, None, IfSome, MatchOption, bstring_bytes, BString, HasParts, map}
-use Rattle.gix_refspec_lint.proofs.Common.{slice_get, Ref, pattern, IsAccepted, reading_of, IsFilled, Source, name, IsSourceExcluded, MakesForward, IsValidSource, ExcludesFrom, IsGroupOf, NoneAt}
-use Rattle.gix_refspec_lint.proofs.{Common.{IsNotFetched, Group, Fetches}, lemmas.{IndexLemmas.{excluded_at, accepted_of, of_maps}, PatternLemmas.{destination_once, pattern_spec, spec_made}}}
-use Rattle.gix_refspec_lint.proofs.lemmas.{RepeatLemmas.{power_length, power_one, words_repeat, same_repeats, differ_again, names_again, written_again}, SourceLemmas.pattern_there, WordLemmas.between}
-use Rattle.gix_refspec_lint.specs.Private.Runs.{HasDestinationPattern}
+use Rattle.gix_refspec_lint.proofs.Common.{HasSourcePattern, Bor, ◌≡◌, ◌≢◌, ℕ, zero, suc, ◌+◌, ◌≤◌, List, [], ◌++◌, Option, Some, length, refl, sym, ap, ◌∙◌, subst, arith, nil_from_length, same_Some, Fits}
+use Rattle.gix_refspec_lint.proofs.Common.{Excludes, the_name, by_pattern, Reading, one_word, split_once, lacks_no_pattern, IsRefName, CanBeWritten, power, ArePaired, IsExcludedAt, Fails, IsUnsound, First}
+use Rattle.gix_refspec_lint.proofs.Common.{Second, Why, Unknown, Unwritable, Invalid, Excluded, Same, append-nil, None, IfSome, MatchOption, bstring_bytes, BString, HasParts, map, slice_get, Ref, pattern}
+use Rattle.gix_refspec_lint.proofs.Common.{IsAccepted, reading_of, IsFilled, Source, name, IsSourceExcluded, MakesForward, IsValidSource, ExcludesFrom, IsGroupOf, NoneAt, IsNotFetched, Group, Fetches}
+use Rattle.gix_refspec_lint.proofs.lemmas.{IndexLemmas.{excluded_at, accepted_of, of_maps}, PatternLemmas.{destination_once, pattern_spec, spec_made}, RepeatLemmas.{power_length, power_one, words_repeat}}
+use Rattle.gix_refspec_lint.{proofs.lemmas.{RepeatLemmas.{same_repeats, differ_again, names_again, written_again}, SourceLemmas.pattern_there, WordLemmas.between}, specs.Private.Runs.HasDestinationPattern}
 
 -- with its sides the other way round a reading pairs names the other way round
 abbrev swapped : Reading → Reading

@@ -1,12 +1,12 @@
 -- Whether two specs conflict over the refs of two sources, by what their completed readings make of items with these names.
 use Rattle.gix_refspec_lint.proofs.Common.{IsSplit, ◌⊎◌, Bor, ◌≡◌, ◌≢◌, ℕ, List, ◌++◌, Option, Some, map, sym, ap, ◌∙◌, AllZip, slice_get, map-append, Ref, Reading, Source, name, id, IsSourceExcluded}
-use Rattle.gix_refspec_lint.proofs.Common.{HaveSameNames, MakesForward, IsValidSource, has_also, CanBeWritten, IsCompleted, ConflictOver, refs_of, inl, inr, ◌+◌, ◌<◌, [], ◌∷◌, None, get_or, length}
-use Rattle.gix_refspec_lint.proofs.Common.{take, refl, subst, Contains, take_more, star, Lacks, reading_of, RefSpecRef, sides_agree, HasParts, zip_at, zip_more, Example, IsExample, AreApart}
-use Rattle.gix_refspec_lint.proofs.Common.{AreCommon, HasPattern, HaveCommon, HaveParts, IsFound, IsFoundAt, IsGroupOf, Group, Common, IsAccepted, ◌≤◌, append-nil, option_to_list, arith}
-use Rattle.gix_refspec_lint.proofs.Common.{AllByRecursion, length-map, length-take-le, IsJoinedFrom, IsMadeFrom, MakesOf, some_element, joined_next, made_next, zip_long, NoneAt, MatchOption, drop}
-use Rattle.gix_refspec_lint.proofs.{Common.{option_map, words_with, IsOverlap, example_of, of_element, Fetches}, lemmas.IndexLemmas.{made_there, makes_fewer, of_maps, maps_of, zip_of, accepted_of}}
-use Rattle.gix_refspec_lint.proofs.lemmas.{IndexLemmas.{one_completed, reading_at}, MovedLemmas.decided, PatternLemmas.{maps_pattern, MapsPattern}, RunLemmas.each_deciding}
-use Rattle.gix_refspec_lint.{proofs.lemmas.SourceLemmas.{destination_made, pattern_there, plain_made}, specs.declared.PossibleConflict.PossibleConflict}
+use Rattle.gix_refspec_lint.proofs.Common.{HaveSameNames, MakesForward, IsValidSource, has_also, CanBeWritten, IsCompleted, ConflictOver, refs_of, inl, inr, ◌+◌, ◌<◌, [], ◌∷◌, None, get_or, length, take}
+use Rattle.gix_refspec_lint.proofs.Common.{refl, subst, Contains, take_more, star, Lacks, reading_of, RefSpecRef, sides_agree, HasParts, zip_at, zip_more, Example, IsExample, AreApart, AreCommon}
+use Rattle.gix_refspec_lint.proofs.Common.{HasPattern, HaveCommon, HaveParts, IsFound, IsFoundAt, IsGroupOf, Group, Common, IsAccepted, ◌≤◌, append-nil, option_to_list, arith, AllByRecursion, length-map}
+use Rattle.gix_refspec_lint.proofs.Common.{length-take-le, IsJoinedFrom, IsMadeFrom, MakesOf, some_element, joined_next, made_next, zip_long, NoneAt, MatchOption, drop, option_map, words_with, IsOverlap}
+use Rattle.gix_refspec_lint.proofs.{Common.{example_of, of_element, Fetches}, lemmas.IndexLemmas.{made_there, makes_fewer, of_maps, maps_of, zip_of, accepted_of, one_completed, reading_at}}
+use Rattle.gix_refspec_lint.proofs.lemmas.{MovedLemmas.decided, PatternLemmas.{maps_pattern, MapsPattern}, RunLemmas.each_deciding, SourceLemmas.{destination_made, pattern_there, plain_made}}
+use Rattle.gix_refspec_lint.specs.declared.PossibleConflict.{PossibleConflict}
 
 pub makes_also : (A B : List Ref) (s : Source) (d : Option (List ℕ)) (r : Reading) → HaveSameNames A B → MakesForward A s d r → MakesForward B s d r
 makes_also A B (name n) d r same makes = makes_fewer A B (name n) d r (λ n has. has_also B A n (sym same) has) (has_also A B n same (made_there A (name n) d r makes)) makes

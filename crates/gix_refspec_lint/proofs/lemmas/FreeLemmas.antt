@@ -1,12 +1,12 @@
 -- Without an example of a conflict no kept mappings conflict, whatever refs there are.
 use Rattle.gix_refspec_lint.proofs.Common.{rules, star, Lacks, each_made, ◌≡◌, ◌≢◌, inl, inr, ℕ, ◌<◌, List, [], ◌∷◌, ◌++◌, Some, map, refl, sym, ap, ◌∙◌, subst, arith, AllZip, Contains, slice_get}
 use Rattle.gix_refspec_lint.proofs.Common.{same_Some, IsFirstCandidate, MatchesAs, Ref, SideKind, pattern, full_name, object, partial, HasKind, IsAccepted, Reading, HasOneStar, reading_of, RefSpecRef}
-use Rattle.gix_refspec_lint.proofs.Common.{lacks_no_pattern, one_word, AreKeptForward, IsJoinedFrom, IsMadeFrom, Source, name, id, Mapped, one_kind, nothing_joined, MakesForward, kept_exactly}
-use Rattle.gix_refspec_lint.proofs.Common.{sides_agree, CanBeWritten, IsCompleted, IsSound, reading_once, completed_destination, contained_pair, far_there, ConflictFree, AreExamples, Example, Fetches}
-use Rattle.gix_refspec_lint.proofs.Common.{IsExample, IsSourceExcluded, IsValidSource, completed_excluded, ExamplesConflict, HasSound, refs_of, pair_of, some_at, ◌+◌, false, None, append-nil}
-use Rattle.gix_refspec_lint.proofs.Common.{AllByRecursion, AreAsked, Asked, HasVerdict, IsPlanned, IsPlannedBesides, Wish, by_call, by_configuration, by_default, nothing, tags_asked, without, Origin}
-use Rattle.gix_refspec_lint.proofs.{Common.{none_merged, PlanConflictFree, slice_get_within, get_or_from_slice_get, map_split, map-id}, lemmas.IndexLemmas.{conflicts_shown, accepted_of, maps_of}}
-use Rattle.gix_refspec_lint.proofs.lemmas.{IndexLemmas.{still_excluded, any_at, zip_to}, PatternLemmas.{spec_made, two_patterns}, SourceLemmas.taken_as}
+use Rattle.gix_refspec_lint.proofs.Common.{lacks_no_pattern, one_word, AreKeptForward, IsJoinedFrom, IsMadeFrom, Source, name, id, Mapped, one_kind, nothing_joined, MakesForward, kept_exactly, sides_agree}
+use Rattle.gix_refspec_lint.proofs.Common.{CanBeWritten, IsCompleted, IsSound, reading_once, completed_destination, contained_pair, far_there, ConflictFree, AreExamples, Example, Fetches, IsExample}
+use Rattle.gix_refspec_lint.proofs.Common.{IsSourceExcluded, IsValidSource, completed_excluded, ExamplesConflict, HasSound, refs_of, pair_of, some_at, ◌+◌, false, None, append-nil, AllByRecursion}
+use Rattle.gix_refspec_lint.proofs.Common.{AreAsked, Asked, HasVerdict, IsPlanned, IsPlannedBesides, Wish, by_call, by_configuration, by_default, nothing, tags_asked, without, Origin, none_merged}
+use Rattle.gix_refspec_lint.proofs.{Common.{PlanConflictFree, slice_get_within, get_or_from_slice_get, map_split, map-id}, lemmas.IndexLemmas.{conflicts_shown, accepted_of, maps_of, still_excluded}}
+use Rattle.gix_refspec_lint.proofs.lemmas.{IndexLemmas.{any_at, zip_to}, PatternLemmas.{spec_made, two_patterns}, SourceLemmas.taken_as}
 use Rattle.gix_refspec_text.proofs.lemmas.hits.CandidateLemmas.{first_once}
 use Rattle.gix_refspec.proofs.lemmas.validate.FirstLemmas.{start_cases}
 use Rattle.gix_refspec_plan.proofs.lemmas.plan.OpposedLemmas.{pair_in}

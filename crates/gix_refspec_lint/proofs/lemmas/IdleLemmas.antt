@@ -1,13 +1,12 @@
 -- Specs that never do anything, source by source.
-use Rattle.gix_refspec_lint.proofs.Common.{Fetches, map_each, item_named, ◌≡◌, ◌⊎◌, inl, inr, ℕ, zero, suc, ◌<◌, Bool, true, false, MatchOption, Bor, List, [], ◌∷◌, ◌++◌, Option, None, Some, codes}
-use Rattle.gix_refspec_lint.proofs.Common.{length, map, take, drop, get_or, append_assoc, refl, sym, ap, ◌∙◌, subst, arith, IsTrue, nat_eq, AllByRecursion, Contains, ends_with, is_some, false≢true}
-use Rattle.gix_refspec_lint.proofs.Common.{Decides-eqb, map-append, Contains-append_left, Contains-append_right, same_Some, ends_is, bstring_bytes, BString, Ref, MatchesAs, SideKind, pattern, object}
-use Rattle.gix_refspec_lint.proofs.Common.{partial, HasKind, Fits, candidates, Reading, IsSplit, EndsWith, Source, name, candidate_cases, map_split, MakesForward, IsRefName, AreAllowed}
-use Rattle.gix_refspec_lint.proofs.Common.{AreTriedBefore, Explains, Reason, Contains-push_cases, of_element, ◌+◌, ◌≤◌, AllZip, slice_get, HasName, IsFirstCandidate, upto, one_kind, IsCompleted}
-use Rattle.gix_refspec_lint.proofs.Common.{ref_named, AreValid, Maps, refs_of, AreAbsent, AreFreeing, ArePreferred, refs_with, one_word, all_join, IsFilled, id, IsExcludedBy, IsSourceExcluded}
-use Rattle.gix_refspec_lint.proofs.{Common.{HaveSameNames, IsValidSource, MapsSoundly, IsAtWork, IsShown, MakesSoundly, all_right, mapped_there}, lemmas.FoundLemmas.makes_also}
-use Rattle.gix_refspec_lint.proofs.lemmas.{IndexLemmas.{made_there, own_among, named_in, makes_again, zip_to, one_completed, all_listed, maps_as, maps_of, of_maps, excluded_at}, PatternLemmas.word_of}
-use Rattle.gix_refspec_lint.proofs.lemmas.{PatternLemmas.destination_once, SourceLemmas.{taken_as, taken_cases}}
+use Rattle.gix_refspec_lint.proofs.Common.{Fetches, map_each, item_named, ◌≡◌, ◌⊎◌, inl, inr, ℕ, zero, suc, ◌<◌, Bool, true, false, MatchOption, Bor, List, [], ◌∷◌, ◌++◌, Option, None, Some, codes, length}
+use Rattle.gix_refspec_lint.proofs.Common.{map, take, drop, get_or, append_assoc, refl, sym, ap, ◌∙◌, subst, arith, IsTrue, nat_eq, AllByRecursion, Contains, ends_with, is_some, false≢true, Decides-eqb}
+use Rattle.gix_refspec_lint.proofs.Common.{map-append, Contains-append_left, Contains-append_right, same_Some, ends_is, bstring_bytes, BString, Ref, MatchesAs, SideKind, pattern, object, partial, HasKind}
+use Rattle.gix_refspec_lint.proofs.Common.{Fits, candidates, Reading, IsSplit, EndsWith, Source, name, candidate_cases, map_split, MakesForward, IsRefName, AreAllowed, AreTriedBefore, Explains, Reason}
+use Rattle.gix_refspec_lint.proofs.Common.{Contains-push_cases, of_element, ◌+◌, ◌≤◌, AllZip, slice_get, HasName, IsFirstCandidate, upto, one_kind, IsCompleted, ref_named, AreValid, Maps, refs_of}
+use Rattle.gix_refspec_lint.proofs.Common.{AreAbsent, AreFreeing, ArePreferred, refs_with, one_word, all_join, IsFilled, id, IsExcludedBy, IsSourceExcluded, HaveSameNames, IsValidSource, MapsSoundly}
+use Rattle.gix_refspec_lint.proofs.{Common.{IsAtWork, IsShown, MakesSoundly, all_right, mapped_there}, lemmas.{FoundLemmas.makes_also, IndexLemmas.{made_there, own_among, named_in, makes_again, zip_to}}}
+use Rattle.gix_refspec_lint.proofs.lemmas.{IndexLemmas.{one_completed, all_listed, maps_as, maps_of, of_maps, excluded_at}, PatternLemmas.{word_of, destination_once}, SourceLemmas.{taken_as, taken_cases}}
 use Rattle.gix_refspec_text.proofs.lemmas.lists.LacksLemmas.{first_with}
 use Rattle.gix_refspec.proofs.lemmas.keep.FilterLemmas.{name_there}
 use Rattle.gix_refspec_lint.specs.declared.Reason.TheVariants as reason

@@ -1,12 +1,11 @@
 -- Negative specs that exclude nothing.
-use Rattle.gix_refspec_lint.proofs.Common.{◌↔◌, IsAlwaysEarlier, CanBeWritten, each_made, cases_eq, ◌≡◌, inl, inr, ℕ, ◌+◌, ◌≤◌, Bool, true, false, MatchBool, not, drop, List, [], ◌∷◌, ◌++◌, Option}
-use Rattle.gix_refspec_lint.proofs.Common.{None, Some, refl, sym, ap, ◌∙◌, subst, AllByRecursion, AllZip, Any, slice_get, Fits, by_pattern, IsAccepted, Reading, Negative, IsSplit, IsMadeFrom, MakesOf}
-use Rattle.gix_refspec_lint.proofs.Common.{Source, name, id, IsExcludedBy, IsSourceExcluded, some_at, IsCompleted, ref_named, same_excluded, IsFree, IsIdleExclusion, ExcludesFrom, ExcludesSome}
-use Rattle.gix_refspec_lint.proofs.Common.{HasSourcePattern, ShareSources, words_with, IsOverlap, Common, of_element, ◌≢◌, zero, suc, arith, Contains, same_Some, Ref, IsPositive, Mapped, IsExcluded}
-use Rattle.gix_refspec_lint.proofs.Common.{MakesForward, IsValidSource, kept_exactly, IsSound, IdleExclusionLeftOut, IdleLeftOut, AreValid, Fetches, IsIdleBy, Reason, MapsSoundly}
-use Rattle.gix_refspec_lint.proofs.lemmas.{DecideLemmas.decide, IndexLemmas.{maps_of, excluded_same, zip_to, any_at, excluded_at, zip_of, still_excluded, completed_at, by_index}}
-use Rattle.gix_refspec_lint.proofs.lemmas.{OneSpecLemmas.{makes_positive, own_name, excludes_by, text_excludes, fits_excluded}, PatternLemmas.{pattern_spec, spec_made}, RunLemmas.each_deciding}
-use Rattle.gix_refspec_lint.specs.Laws.Lint.{without}
+use Rattle.gix_refspec_lint.proofs.Common.{◌↔◌, IsAlwaysEarlier, CanBeWritten, each_made, cases_eq, ◌≡◌, inl, inr, ℕ, ◌+◌, ◌≤◌, Bool, true, false, MatchBool, not, drop, List, [], ◌∷◌, ◌++◌, Option, None}
+use Rattle.gix_refspec_lint.proofs.Common.{Some, refl, sym, ap, ◌∙◌, subst, AllByRecursion, AllZip, Any, slice_get, Fits, by_pattern, IsAccepted, Reading, Negative, IsSplit, IsMadeFrom, MakesOf, Source}
+use Rattle.gix_refspec_lint.proofs.Common.{name, id, IsExcludedBy, IsSourceExcluded, some_at, IsCompleted, ref_named, same_excluded, IsFree, IsIdleExclusion, ExcludesFrom, ExcludesSome, HasSourcePattern}
+use Rattle.gix_refspec_lint.proofs.Common.{ShareSources, words_with, IsOverlap, Common, of_element, ◌≢◌, zero, suc, arith, Contains, same_Some, Ref, IsPositive, Mapped, IsExcluded, MakesForward}
+use Rattle.gix_refspec_lint.proofs.{Common.{IsValidSource, kept_exactly, IsSound, IdleExclusionLeftOut, IdleLeftOut, AreValid, Fetches, IsIdleBy, Reason, MapsSoundly}, lemmas.DecideLemmas.decide}
+use Rattle.gix_refspec_lint.proofs.lemmas.{IndexLemmas.{maps_of, excluded_same, zip_to, any_at, excluded_at, zip_of, still_excluded, completed_at, by_index}, OneSpecLemmas.{makes_positive, own_name}}
+use Rattle.gix_refspec_lint.{proofs.lemmas.{OneSpecLemmas.{excludes_by, text_excludes, fits_excluded}, PatternLemmas.{pattern_spec, spec_made}, RunLemmas.each_deciding}, specs.Laws.Lint.without}
 use Rattle.gix_refspec_lint.specs.declared.Reason.TheVariants as reason
 
 -- what a negative spec excludes is a name

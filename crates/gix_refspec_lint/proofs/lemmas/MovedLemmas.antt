@@ -1,8 +1,8 @@
 -- What a spec of two patterns fetches with the free byte in place of a word, and that the names that decide show each conflict of two.
 use Rattle.gix_refspec_lint.proofs.Common.{MakesForward, all_at, ◌≡◌, ◌≢◌, ◌⊎◌, inl, inr, ℕ, List, [], ◌∷◌, ◌++◌, codes, Some, map, append_assoc, refl, sym, ap, ◌∙◌, subst, AllByRecursion, Contains}
-use Rattle.gix_refspec_lint.proofs.Common.{slice_get, Contains-append_left, Contains-append_right, Ref, HasName, IsAccepted, Reading, star, IsSplit, BeginsWith, Lacks, lacks_no_pattern, all_join}
-use Rattle.gix_refspec_lint.proofs.Common.{all_left, all_right, first_once, Source, name, SidesLack, IsRefName, IsValidSource, mapped_there, one_name, CanBeWritten, IsCompleted, completed_destination}
-use Rattle.gix_refspec_lint.proofs.Common.{written_lacks, ConflictOver, Fetches, IsFree, refs_of, IsDeciding, IsLongerPrefix, IsLongerSuffix, IsMost, endings, parts, words_with, of_element}
+use Rattle.gix_refspec_lint.proofs.Common.{slice_get, Contains-append_left, Contains-append_right, Ref, HasName, IsAccepted, Reading, star, IsSplit, BeginsWith, Lacks, lacks_no_pattern, all_join, all_left}
+use Rattle.gix_refspec_lint.proofs.Common.{all_right, first_once, Source, name, SidesLack, IsRefName, IsValidSource, mapped_there, one_name, CanBeWritten, IsCompleted, completed_destination, written_lacks}
+use Rattle.gix_refspec_lint.proofs.Common.{ConflictOver, Fetches, IsFree, refs_of, IsDeciding, IsLongerPrefix, IsLongerSuffix, IsMost, endings, parts, words_with, of_element}
 use Rattle.gix_refspec_lint.proofs.lemmas.{ByteLemmas.{excluded_moved, lacks_refs, name_with_byte, lacks_in}, IndexLemmas.{conflict_of_two, maps_as}, PatternLemmas.{MapsPattern, maps_pattern}}
 use Rattle.gix_refspec_lint.proofs.lemmas.{PatternLemmas.pattern_maps, WordLemmas.{begins_before, Around, IsParted, IsRefAround, between, common_name, ending_or_part, within}}
 use Rattle.gix_refspec.proofs.lemmas.validate.RefNameLemmas.{name_of_ref}

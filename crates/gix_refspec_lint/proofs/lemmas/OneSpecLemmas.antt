@@ -1,10 +1,10 @@
 -- What one spec maps, and what a group excludes.
-use Rattle.gix_refspec_lint.proofs.Common.{all_weaker, ◌≡◌, inl, inr, ◌↔◌, ℕ, List, [], ◌∷◌, Option, None, Some, MatchOption, map, get_or, length, ◌<◌, refl, sym, ap, ◌∙◌, subst, arith}
-use Rattle.gix_refspec_lint.proofs.Common.{AllByRecursion, slice_get, get_or-map, length-map, Ref, IsPositive, Reading, AreKeptForward, Source, name, id, Mapped, HasPair, IsExcluded, IsExcludedBy}
-use Rattle.gix_refspec_lint.proofs.Common.{IsSamePair, IsSourceExcluded, mapped_of, Mapping, MakesForward, kept_exactly, Bool, true, false, MatchBool, is_some, HaveSameNames, IsValidSource}
-use Rattle.gix_refspec_lint.proofs.Common.{CanBeWritten, IsSound, refs_of, ExcludesFrom, MakesSoundly, pair_of, Bor, IsTrue, nat_eq, pointwise, false≢true, Decides-eqb, same_Some, slice_eq-Decides}
-use Rattle.gix_refspec_lint.proofs.Common.{Excludes, Fits, by_pattern, the_name, IsAccepted, Negative, IsSplit, lacks_no_pattern, split_once, HasSourcePattern, HasParts}
-use Rattle.gix_refspec_lint.proofs.lemmas.{FoundLemmas.{makes_also, unsplit_lacks}, IndexLemmas.{made_there, makes_fewer, own_among, own_there}}
+use Rattle.gix_refspec_lint.proofs.Common.{all_weaker, ◌≡◌, inl, inr, ◌↔◌, ℕ, List, [], ◌∷◌, Option, None, Some, MatchOption, map, get_or, length, ◌<◌, refl, sym, ap, ◌∙◌, subst, arith, AllByRecursion}
+use Rattle.gix_refspec_lint.proofs.Common.{slice_get, get_or-map, length-map, Ref, IsPositive, Reading, AreKeptForward, Source, name, id, Mapped, HasPair, IsExcluded, IsExcludedBy, IsSamePair}
+use Rattle.gix_refspec_lint.proofs.Common.{IsSourceExcluded, mapped_of, Mapping, MakesForward, kept_exactly, Bool, true, false, MatchBool, is_some, HaveSameNames, IsValidSource, CanBeWritten, IsSound}
+use Rattle.gix_refspec_lint.proofs.Common.{refs_of, ExcludesFrom, MakesSoundly, pair_of, Bor, IsTrue, nat_eq, pointwise, false≢true, Decides-eqb, same_Some, slice_eq-Decides, Excludes, Fits, by_pattern}
+use Rattle.gix_refspec_lint.proofs.{Common.{the_name, IsAccepted, Negative, IsSplit, lacks_no_pattern, split_once, HasSourcePattern, HasParts}, lemmas.FoundLemmas.{makes_also, unsplit_lacks}}
+use Rattle.gix_refspec_lint.proofs.lemmas.IndexLemmas.{made_there, makes_fewer, own_among, own_there}
 use Rattle.gix_refspec_match.{proofs.lemmas.keep.KeptLemmas.HasPair-from_place, specs.Private.Kept.{AreExclusionsAt, AreExclusionsOf, ExcludeName, ExcludeNameAt}}
 use Rattle.gix_refspec_match.specs.declared.exclusions.Exclusions.{Exclusions}
 

@@ -1,8 +1,8 @@
 -- The sources from which a spec can write a destination.
-use Rattle.gix_refspec_lint.proofs.Common.{◌≡◌, inl, inr, ℕ, zero, List, [], ◌∷◌, ◌++◌, codes, Option, Some, map, length, refl, sym, ap, ◌∙◌, subst, arith, Contains, same_Some, MatchesAs, Ref}
-use Rattle.gix_refspec_lint.proofs.Common.{SideKind, pattern, full_name, object, partial, HasKind, Fits, candidates, filled, IsAccepted, Reading, star, HasStar, IsSplit, BeginsWith, Lacks}
-use Rattle.gix_refspec_lint.proofs.Common.{lacks_no_pattern, one_word, IsFilled, Source, name, id, start_of, matches_as, one_kind, MakesForward, sides_agree, IsCompleted, completed_destination}
-use Rattle.gix_refspec_lint.proofs.{Common.{far_there, written_below, candidate_contained, HasSourcePattern, mapped_there, ◌⊎◌, IsCandidate}, lemmas.PatternLemmas.maps_pattern}
+use Rattle.gix_refspec_lint.proofs.Common.{◌≡◌, inl, inr, ℕ, zero, List, [], ◌∷◌, ◌++◌, codes, Option, Some, map, length, refl, sym, ap, ◌∙◌, subst, arith, Contains, same_Some, MatchesAs, Ref, SideKind}
+use Rattle.gix_refspec_lint.proofs.Common.{pattern, full_name, object, partial, HasKind, Fits, candidates, filled, IsAccepted, Reading, star, HasStar, IsSplit, BeginsWith, Lacks, lacks_no_pattern}
+use Rattle.gix_refspec_lint.proofs.Common.{one_word, IsFilled, Source, name, id, start_of, matches_as, one_kind, MakesForward, sides_agree, IsCompleted, completed_destination, far_there, written_below}
+use Rattle.gix_refspec_lint.proofs.{Common.{candidate_contained, HasSourcePattern, mapped_there, ◌⊎◌, IsCandidate}, lemmas.PatternLemmas.maps_pattern}
 use Rattle.gix_refspec_text.proofs.lemmas.texts.TextLemmas.{Lacks-ContainsText}
 use Rattle.gix_refspec_match.specs.declared.types.SourceRef.{SourceRef}
 

@@ -1,5 +1,4 @@
-use Rattle.gix_refspec_lint.proofs.{Common.{inl, option_map, sym, ap, ◌∙◌, IfOk-weaker, bstr_bytes, reading_of, accepted_few}, lemmas.LeftOutLemmas.{none_apart, plain_only}}
-use Rattle.gix_refspec_lint.proofs.lemmas.OneSpecLemmas.{parts_pattern}
+use Rattle.gix_refspec_lint.proofs.{Common.{inl, option_map, sym, ap, ◌∙◌, IfOk-weaker, bstr_bytes, reading_of, accepted_few}, lemmas.{LeftOutLemmas.{none_apart, plain_only}, OneSpecLemmas.parts_pattern}}
 use Rattle.gix_refspec_lint.proofs.exclusions.excludes_of.Goals as goal
 
 pub parts_of-requires : goal.parts_of-requires

@@ -1,7 +1,7 @@
 -- A pattern has one source by the word, and any other spec those of its only destination.
-use Rattle.gix_refspec_lint.proofs.Common.{arith, ◌≡◌, Some, inl, inr, option_map, sym, ap, ◌∙◌, pointwise_decides, false≢true, Decides-eqb, IfOk-weaker, bstr_bytes, star, Lacks, reading_of}
-use Rattle.gix_refspec_lint.proofs.{Common.{accepted_few, name, parts_split, same_Some, ℕ, List, Bor, ◌++◌, ◌∷◌, Reading, IsAccepted, IsSplit}, group.sources_for.Goals.in-Some-2+in_ok-push}
-use Rattle.gix_refspec_lint.proofs.{group.sources_for.Goals.in_default-2, lemmas.{PatternLemmas.maps_pattern, SourceLemmas.{only_pushed, pattern_there, plain_made, source_unsplit}}}
+use Rattle.gix_refspec_lint.proofs.Common.{arith, ◌≡◌, Some, inl, inr, option_map, sym, ap, ◌∙◌, pointwise_decides, false≢true, Decides-eqb, IfOk-weaker, bstr_bytes, star, Lacks, reading_of, accepted_few}
+use Rattle.gix_refspec_lint.proofs.{Common.{name, parts_split, same_Some, ℕ, List, Bor, ◌++◌, ◌∷◌, Reading, IsAccepted, IsSplit}, group.sources_for.Goals.{in-Some-2+in_ok-push, in_default-2}}
+use Rattle.gix_refspec_lint.proofs.lemmas.{PatternLemmas.maps_pattern, SourceLemmas.{only_pushed, pattern_there, plain_made, source_unsplit}}
 use Rattle.gix_refspec_lint.proofs.group.sources_for.Goals as goal
 
 split_as : (r : Reading) (e : List ℕ) (far : Bor (List ℕ) × Bor (List ℕ)) → ∥ IsAccepted r ∥₁ → r.destination ≡ Some e → (e ≡ far.0.now ++ (star ∷ far.1.now)) × Lacks star far.0.now

@@ -1,5 +1,4 @@
-use Rattle.gix_refspec_lint.proofs.{Common.{map, mapped_of, ref_of}, lemmas.{FoundLemmas.both_named, IdleLemmas.{explains_invalid, is_at_work, shows_duplicate, shows_excluded}}}
-use Rattle.gix_refspec_lint.proofs.lemmas.IndexLemmas.{reading_at}
+use Rattle.gix_refspec_lint.proofs.{Common.{map, mapped_of, ref_of}, lemmas.{FoundLemmas.both_named, IdleLemmas.{explains_invalid, is_at_work, shows_duplicate, shows_excluded}, IndexLemmas.reading_at}}
 use Rattle.gix_refspec_lint.proofs.idle.idle_beside.Goals as goal
 
 pub returns-in_default : goal.returns-in_default
