@@ -1,12 +1,12 @@
 -- Why a spec does nothing, from what becomes of its mappings at the names that decide.
 use Rattle.gix_refspec_lint.proofs.Common.{option_map, candidates, candidate_contained, ◌≡◌, ◌≢◌, inl, inr, ℕ, ◌+◌, ◌<◌, option_to_list, take, List, [], ◌∷◌, ◌++◌, Option, None, Some, codes, length, map}
-use Rattle.gix_refspec_lint.proofs.Common.{get_or, append-nil, refl, sym, ◌∙◌, subst, arith, AllByRecursion, AllZip, Contains, slice_get, same_Some, Ref, HasName, object, IsCandidate, IsPositive, Reading}
-use Rattle.gix_refspec_lint.proofs.Common.{star, IsSplit, Lacks, reading_of, RefSpecRef, lacks_no_pattern, all_join, all_right, Lacks-here, first_once, IsMadeFrom, MakesOf, Source, name, id}
-use Rattle.gix_refspec_lint.proofs.Common.{IsSourceExcluded, some_element, made_more, MakesForward, IsCompleted, AreIdle, IsFree, IsIdleBy, Maps, MapsSoundly, Unused, Explains, HasSourcePattern}
-use Rattle.gix_refspec_lint.proofs.{Common.{IsReasonOf, IsShown, IsWhy, IsDeciding, IsLongerPrefix, IsLongerSuffix, words_with, Reason, of_element, refs_of, MakesSoundly}, lemmas.ByteLemmas.excluded_moved}
-use Rattle.gix_refspec_lint.proofs.lemmas.{ByteLemmas.{fits_byte, lacks_refs, lacks_mid}, DecideLemmas.{Decided, IsMovedFar, decide}, IndexLemmas.{zip_to, reading_at, of_maps, accepted_of, one_completed}}
-use Rattle.gix_refspec_lint.proofs.lemmas.{IndexLemmas.maps_as, LeftOutLemmas.{made_completed, idle_earlier}, MovedLemmas.{lacks_destination, lacks_parts, lacks_source}, PatternLemmas.HasShape}
-use Rattle.gix_refspec_lint.proofs.lemmas.{PatternLemmas.{pattern_spec, spec_made, spec_maps, PatternSpec}, SourceLemmas.taken_cases, WordLemmas.{between, within}}
+use Rattle.gix_refspec_lint.proofs.Common.{get_or, append-nil, refl, sym, ◌∙◌, subst, arith, AllByRecursion, AllZip, Contains, slice_get, same_Some, Ref, HasName, IsCandidate, IsPositive, Reading, star}
+use Rattle.gix_refspec_lint.proofs.Common.{IsSplit, Lacks, reading_of, RefSpecRef, lacks_no_pattern, all_join, all_right, Lacks-here, first_once, IsMadeFrom, MakesOf, Source, name, id, IsSourceExcluded}
+use Rattle.gix_refspec_lint.proofs.Common.{some_element, made_more, MakesForward, IsCompleted, AreIdle, IsFree, IsIdleBy, Maps, MapsSoundly, Unused, Explains, HasSourcePattern, IsReasonOf, IsShown, IsWhy}
+use Rattle.gix_refspec_lint.proofs.{Common.{IsDeciding, IsLongerPrefix, IsLongerSuffix, words_with, Reason, of_element, refs_of, MakesSoundly}, lemmas.ByteLemmas.{excluded_moved, fits_byte, lacks_refs}}
+use Rattle.gix_refspec_lint.proofs.lemmas.{ByteLemmas.lacks_mid, DecideLemmas.{Decided, IsMovedFar, decide}, IndexLemmas.{zip_to, reading_at, of_maps, accepted_of, one_completed, maps_as}}
+use Rattle.gix_refspec_lint.proofs.lemmas.{LeftOutLemmas.{made_completed, idle_earlier}, MovedLemmas.{lacks_destination, lacks_parts, lacks_source}, PatternLemmas.{HasShape, pattern_spec, spec_made}}
+use Rattle.gix_refspec_lint.proofs.lemmas.{PatternLemmas.{spec_maps, PatternSpec}, SourceLemmas.taken_cases, WordLemmas.{between, within}}
 use Rattle.gix_refspec_lint.specs.declared.Reason.TheVariants as reason
 
 pub idle_by : (g : List Reading) (k : ℕ) (r : Reason) → ((s : Source) → Explains g k s r) → IsShown g k r → IsIdleBy g k r
