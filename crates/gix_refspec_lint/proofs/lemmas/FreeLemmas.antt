@@ -82,7 +82,8 @@ conflict_free specs none h refs kept all are m n has also sound sane (d, to, goe
     let g = map reading_of specs in
     let (i, one) = fetched_by g h refs kept m d all are has sound to in
     let (j, other) = fetched_by g h refs kept n d all are also sane goes in
-    grind (arith, start_cases m.source n.source, same_fetched g refs i j m.source n.source d none one other, same_fetched g refs j i n.source m.source d none other one, same_spec specs refs i j m.source n.source d one other)
+    let alike = same_spec specs refs i j m.source n.source d one other in
+    grind (arith, start_cases m.source n.source, same_fetched g refs i j m.source n.source d none one other, same_fetched g refs j i n.source m.source d none other one, alike)
 
 -- ---- over the refs of an example both of its mappings are kept
 
