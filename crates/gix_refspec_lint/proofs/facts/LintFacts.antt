@@ -1,18 +1,17 @@
-use Rattle.gix_refspec_lint.proofs.Common.{every, heads_split, origin_split, other_byte, other_first, short_kind, short_no_id, split_at_end, false, false≢true, ◌≡◌, ◌≢◌, inl, inr, ℕ, List, [], ◌∷◌}
-use Rattle.gix_refspec_lint.proofs.Common.{◌++◌, Option, None, Some, codes, refl, sym, ◌∙◌, subst, arith, AllByRecursion, Contains, slice_get, same_Some, BeginsWith, Source, Lacks-here, HasName, Ref}
-use Rattle.gix_refspec_lint.proofs.Common.{Excludes, by_pattern, the_name, fetched, Forced, Normal, Negative, Reading, star, IsSplit, Lacks, Lacks-tested, lacks_no_pattern, AreKeptForward, Mapped}
-use Rattle.gix_refspec_lint.proofs.Common.{HasPair, IsExcluded, IsExcludedBy, id, name, MakesForward, IsRefName, one_name, CanBeWritten, IsCompleted, IsPlan, IsSound, Planned, list_any, ◌==◌, slash}
-use Rattle.gix_refspec_lint.proofs.Common.{reading_once, IsSourceExcluded, HasKind, full_name, object, Takes, ◌<◌, named_some, Origin, ConflictFree, ConflictsShown, ExamplesConflict}
-use Rattle.gix_refspec_lint.proofs.Common.{HasSound, IdleExclusionLeftOut, IdleLeftOut, PlanConflictFree, AreExamples, AreIdle, Fetches, AreValid, DoesBefore, Example, IsAlwaysEarlier}
-use Rattle.gix_refspec_lint.proofs.Common.{IsExample, IsIdleBy, IsIdleExclusion, Maps, MapsSoundly, refs_of, IsFree}
-use Rattle.gix_refspec_lint.specs.declared.Reason.TheVariants as reason
-use Rattle.gix_refspec_plan.specs.declared.Verdict.TheVariants as verdict
+use Rattle.gix_refspec_lint.proofs.Common.{every, heads_split, origin_split, other_byte, other_first, short_kind, short_no_id, split_at_end, false, false≢true, ◌≡◌, ◌≢◌, inl, inr, ℕ, List, [], ◌∷◌, ◌++◌}
+use Rattle.gix_refspec_lint.proofs.Common.{Option, None, Some, codes, refl, sym, ◌∙◌, subst, arith, AllByRecursion, Contains, slice_get, same_Some, BeginsWith, Source, Lacks-here, HasName, Ref, Excludes}
+use Rattle.gix_refspec_lint.proofs.Common.{by_pattern, the_name, fetched, Forced, Normal, Negative, Reading, star, IsSplit, Lacks, Lacks-tested, lacks_no_pattern, AreKeptForward, Mapped, HasPair}
+use Rattle.gix_refspec_lint.proofs.Common.{IsExcluded, IsExcludedBy, id, name, MakesForward, IsRefName, one_name, CanBeWritten, IsCompleted, IsPlan, IsSound, Planned, list_any, ◌==◌, slash, reading_once}
+use Rattle.gix_refspec_lint.proofs.Common.{IsSourceExcluded, HasKind, full_name, object, Takes, named_some, Origin, ConflictFree, ConflictsShown, ExamplesConflict, HasSound, IdleExclusionLeftOut}
+use Rattle.gix_refspec_lint.proofs.Common.{IdleLeftOut, PlanConflictFree, AreExamples, AreIdle, Fetches, AreValid, DoesBefore, Example, IsAlwaysEarlier, IsExample, IsIdleBy, IsIdleExclusion, Maps}
+use Rattle.gix_refspec_lint.proofs.{Common.{MapsSoundly, refs_of, IsFree, AreIdleExclusions, Wish}, lemmas.{IdleLemmas.{one_far, each_named}, IndexLemmas.made_there, PatternLemmas.spec_maps}}
+use Rattle.gix_refspec_lint.{proofs.lemmas.{PatternLemmas.{two_patterns, word_of}, SourceLemmas.sources_there}, specs.Matching.Lint.ExcludesOne}
 use Rattle.gix_refspec_match.proofs.facts.CandidateFacts.{x_kind}
 use Rattle.gix_refspec_text.proofs.lemmas.{hits.CandidateLemmas.taken_by_first, texts.TestedLemmas.{IsName-tested, is_suspect}}
 use Rattle.gix_refspec.specs.Matching.Validation.{ShareDestination}
-use Rattle.gix_refspec_lint.proofs.lemmas.{PatternLemmas.{spec_maps, two_patterns, word_of}, IdleLemmas.{one_far, valid_named}}
-use Rattle.gix_refspec_lint.proofs.lemmas.{IndexLemmas.made_there, SourceLemmas.sources_there}
 use Rattle.gix_refspec_plan.proofs.lemmas.plan.MadeLemmas.{one_in}
+use Rattle.gix_refspec_lint.specs.declared.Reason.TheVariants as reason
+use Rattle.gix_refspec_plan.specs.declared.Verdict.TheVariants as verdict
 
 abbrev pulls : Reading
 pulls = fetched Forced (codes "refs/pull/*/head") (Some (codes "refs/remotes/origin/pr/*"))
@@ -46,18 +45,14 @@ maps_at : (p t a b w : List ℕ) → IsSplit p t (p ++ (star ∷ t)) → IsSplit
     → IsRefName (p ++ (w ++ t)) → CanBeWritten (Some (a ++ (w ++ b))) → MapsSoundly g refs k (name (p ++ (w ++ t))) (Some (a ++ (w ++ b)))
 maps_at p t a b w source destination refs there g k at valid written =
     let spec = two_patterns _ p t a b _ tt (record { text = _; has = refl; split = source }) refl destination in
-    record {
-      maps = record { reading = _; at = at; completed = _; is = completed_as _ a b; makes = spec_maps _ p t spec refs w there };
-      source = valid;
-      destination = written;
-    }
+    let maps : Maps g refs k (name (p ++ (w ++ t))) (Some (a ++ (w ++ b))) = record { reading = _; at = at; completed = _; is = completed_as _ a b; makes = spec_maps _ p t spec refs w there } in
+    record { maps = maps; source = valid; destination = written }
 
 abbrev both : List Ref
 both = refs_of seven.one ++ refs_of seven.other
 
 heads_seven : (g : List Reading) (k : ℕ) → slice_get g k ≡ Some every → MapsSoundly g both k seven.one (Some seven.destination)
-heads_seven g k at =
-    maps_at _ [] (codes "refs/remotes/origin/") [] (codes "pr/7") heads_split origin_split both (inl refl) g k at (inl (below (codes "heads/pr/7") refl)) (below _ refl)
+heads_seven g k at = maps_at _ [] (codes "refs/remotes/origin/") [] (codes "pr/7") heads_split origin_split both (inl refl) g k at (inl (below (codes "heads/pr/7") refl)) (below _ refl)
 
 none_negative : (r : Reading) → r.mode ≡ Forced → (n : List ℕ) → ¬ (IsExcluded (every ∷ r ∷ []) n)
 none_negative r forced n by = grind arith
@@ -77,46 +72,29 @@ made_by r at done m = rw (reading_once r m.completed r (rw (same_Some _ _ (sym m
 
 -- a branch in the folder of the pull requests, and the pull request of its name, are an example of a conflict
 pub example : IsExample (every ∷ pulls ∷ []) 0 1 seven
-example = record {
-  first = refl;
-  second = refl;
-  order = omega arith;
-  conflict = record {
-    one = record { maps = heads_seven (every ∷ pulls ∷ []) 0 refl; included = none_negative pulls refl (codes "refs/heads/pr/7") };
-    other = record {
-      included = none_negative pulls refl _;
-      maps = maps_at (codes "refs/pull/") (codes "/head")
-          (codes "refs/remotes/origin/pr/") []
-          (codes "7") (split_as _ _ refl refl) (split_as _ _ refl refl) both (inr (inl refl)) _ 1 refl (inl (below _ refl)) (below _ refl);
-    };
-    differ = λ same. other_byte 5 (codes "refs/heads/pr/7") (codes "refs/pull/7/head") (λ equal. omega (arith, equal)) (one_name (codes "refs/heads/pr/7") (codes "refs/pull/7/head") same);
-  };
-}
+example =
+    let pull = maps_at (codes "refs/pull/") (codes "/head") (codes "refs/remotes/origin/pr/") [] (codes "7") (split_as _ _ refl refl) (split_as _ _ refl refl)
+    both (inr (inl refl)) (every ∷ pulls ∷ []) 1 refl (inl (below _ refl)) (below _ refl) in
+    let differ : name (codes "refs/heads/pr/7") ≢ name (codes "refs/pull/7/head") = λ same. other_byte 5 (codes "refs/heads/pr/7") (codes "refs/pull/7/head") (λ equal. omega (arith, equal)) (one_name _ _ same) in
+    let included = none_negative pulls refl in
+    let one : Fetches (every ∷ pulls ∷ []) both 0 seven.one (Some seven.destination) = record { maps = heads_seven (every ∷ pulls ∷ []) 0 refl; included = included _ } in
+    record { first = refl; second = refl; order = omega arith; conflict = record { one = one; other = record { maps = pull; included = included _ }; differ = differ } }
 
 -- but not if a negative spec excludes one of the two, nor with the specs the other way round; so a conflict is listed once
 pub no_example : ¬ (IsExample (every ∷ pulls ∷ no (codes "refs/heads/pr/*") ∷ []) 0 1 seven) × ¬ (IsExample (every ∷ pulls ∷ []) 1 0 seven)
     × ¬ (IsExample (every ∷ pulls ∷ []) 1 0 (record { first = 1; second = 0; one = seven.other; other = seven.one; destination = seven.destination }))
 no_example = ((λ e. e.conflict.one.included (inr (inr (inl pr_excluded)))), (λ e. omega (arith, e.order)), λ e. omega (arith, e.order))
 
-does_before : (g : List Reading) (k h : ℕ) (refs : List Ref) (s : Source) (d : Option (List ℕ)) → AreValid refs → Fetches g refs k s d
-    → h < k → Maps g refs h s d → DoesBefore g k h
-does_before g k h refs s d valid fetches before maps =
-    record { refs = refs; valid = valid; source = s; destination = d; fetches = fetches; before = before; maps = maps }
-
 -- of two equal specs the second is idle, and not the first, nor is it explained by itself
 pub second_idle : IsIdleBy (every ∷ every ∷ []) 1 (reason.Duplicate 0) × ((h : ℕ) → ¬ (IsIdleBy (every ∷ every ∷ []) 0 (reason.Duplicate h)))
     × ¬ (IsIdleBy (every ∷ every ∷ []) 1 (reason.Duplicate 1))
-second_idle = (
-  (
-    (λ refs s d valid f.
-        let m = f.maps.maps in (0, omega arith, record { reading = _; at = m.at; completed = _; is = m.is; makes = m.makes })),
-    does_before _ 1 0 both seven.one (Some seven.destination) ((heads_seven (every ∷ every ∷ []) 0 refl).source, (inl (below (codes "pull/7/head") refl), tt))
-        (record { maps = heads_seven (every ∷ every ∷ []) 1 refl; included = none_negative every refl (codes "refs/heads/pr/7") }) (omega arith)
-        (heads_seven (every ∷ every ∷ []) 0 refl).maps,
-  ),
-  (λ h is. omega (arith, is.1.before)),
-  λ is. omega (arith, is.1.before),
-)
+second_idle =
+    let first = heads_seven (every ∷ every ∷ []) 0 refl in
+    let fetches : Fetches (every ∷ every ∷ []) both 1 seven.one (Some seven.destination) = record { maps = heads_seven (every ∷ every ∷ []) 1 refl; included = none_negative every refl (codes "refs/heads/pr/7") } in
+    let always : IsAlwaysEarlier (every ∷ every ∷ []) 1 = λ refs s d valid f. let m = f.maps.maps in (0, omega arith, record { reading = _; at = m.at; completed = _; is = m.is; makes = m.makes }) in
+    let valid : AreValid both = (first.source, (inl (below (codes "pull/7/head") refl), tt)) in
+    let shown : DoesBefore (every ∷ every ∷ []) 1 0 = record { refs = both; valid = valid; source = _; destination = _; fetches = fetches; before = omega arith; maps = first.maps } in
+    ((always, shown), (λ h is. omega (arith, is.1.before)), λ is. omega (arith, is.1.before))
 
 names_no_ref : (g : List Reading) → IsIdleExclusion g no_main
 names_no_ref g = record { negative = refl; excludes = λ refs i n d maps by. by_case n by.text by.source by.excludes maps.source }
@@ -126,41 +104,26 @@ names_no_ref g = record { negative = refl; excludes = λ refs i n d maps by. by_
     by_case n x is (by_pattern before after word split fits) valid = lacks_no_pattern x before after (subst (Lacks star) (same_Some _ _ is) (Lacks-tested star (codes "main") refl)) split
 
 -- a negative spec without `refs/` names no branch, also where a spec maps `main`, and one of a branch excludes something
-pub excludes_none : IsIdleExclusion (every ∷ no_main ∷ []) no_main × ¬ (IsIdleExclusion (every ∷ no (codes "refs/heads/pr/*") ∷ []) (no (codes "refs/heads/pr/*"))) × IsIdleExclusion (to_x (codes "main") ∷ no_main ∷ []) no_main
-excludes_none = (
-  names_no_ref _,
-  (λ idle. idle.excludes both 0 (codes "refs/heads/pr/7") (Some seven.destination) (heads_seven (every ∷ no (codes "refs/heads/pr/*") ∷ []) 0 refl) pr_excluded),
-  names_no_ref _,
-)
+pub excludes_none : IsIdleExclusion (every ∷ no_main ∷ []) no_main × ¬ (IsIdleExclusion (every ∷ no (codes "refs/heads/pr/*") ∷ []) (no (codes "refs/heads/pr/*")))
+    × IsIdleExclusion (to_x (codes "main") ∷ no_main ∷ []) no_main
+excludes_none = (names_no_ref _, (λ idle. idle.excludes both 0 (codes "refs/heads/pr/7") (Some seven.destination) (heads_seven _ 0 refl) pr_excluded), names_no_ref _)
 
 abbrev all_excluded : List Reading
 all_excluded = every ∷ no_main ∷ no (codes "refs/heads/*") ∷ []
 
 -- what is always excluded is so by a spec that excludes one of its sources, and not by any negative spec
 pub excluded_by : IsIdleBy all_excluded 0 (reason.Excluded 2) × ¬ (IsIdleBy all_excluded 0 (reason.Excluded 1))
-excluded_by = (
-  (
-    (λ refs s d f. f.included (by_source refs s d (made_by every refl every_completed f.maps.maps))),
-    record {
-      refs = both;
-      source = _;
-      destination = _;
-      maps = heads_seven all_excluded 0 refl;
-      negative = _;
-      at = refl;
-      excludes = excluded (codes "refs/heads/") _ (codes "pr/7") heads_split refl;
-    },
-  ),
-  (λ is. (names_no_ref all_excluded).excludes is.1.refs 0 is.1.source is.1.destination is.1.maps (subst (IsExcludedBy is.1.source) (sym (same_Some _ _ is.1.at)) is.1.excludes)),
-)
+excluded_by =
+    let by = excluded (codes "refs/heads/") (codes "refs/heads/pr/7") (codes "pr/7") heads_split refl in
+    let shown : ExcludesOne all_excluded 0 2 = record { refs = both; source = _; destination = _; maps = heads_seven all_excluded 0 refl; negative = _; at = refl; excludes = by } in
+    let other = λ (is : IsIdleBy all_excluded 0 (reason.Excluded 1)).
+    (names_no_ref all_excluded).excludes is.1.refs 0 is.1.source is.1.destination is.1.maps (subst (IsExcludedBy is.1.source) (sym (same_Some _ _ is.1.at)) is.1.excludes) in
+    (((λ refs s d f. f.included (by_source refs s d (made_by every refl every_completed f.maps.maps))), shown), other)
   where
     by_source : (refs : List Ref) (s : Source) (d : Option (List ℕ)) → MakesForward refs s d every → IsSourceExcluded all_excluded s
-    by_source refs (id bytes) d makes =
-        absurd (makes.object.1 (subst (BeginsWith (codes "refs/")) (same_Some _ _ makes.side)
-        (record { after = codes "heads/*"; here = refl })))
+    by_source refs (id bytes) d makes = absurd (makes.object.1 (subst (BeginsWith (codes "refs/")) (same_Some _ _ makes.side) (record { after = codes "heads/*"; here = refl })))
     by_source refs (name n) d makes =
-        let (w, some, fits) = word_of every refs n d makes (codes "refs/heads/") []
-        (record { text = codes "refs/heads/*"; has = refl; split = heads_split }) in
+        let (w, some, fits) = word_of every refs n d makes (codes "refs/heads/") [] (record { text = codes "refs/heads/*"; has = refl; split = heads_split }) in
         inr (inr (inl (excluded (codes "refs/heads/") n w heads_split fits)))
 
 -- so it is listed as idle, and neither of the negative specs, which map nothing either
@@ -182,28 +145,19 @@ x_completed x = record { operation = refl; mode = refl; source = refl; destinati
 
 maps_full : (x : List ℕ) (k : ℕ) → slice_get main_twice k ≡ Some (to_x x) → ((bytes : List ℕ) → ¬ (HasKind x (object bytes))) → (refs : List Ref) → HasName refs full
     → ((r : Ref) → r.name ≡ full → Takes refs x r None) → Maps main_twice refs k (name full) (Some (codes "refs/x"))
-maps_full x k at no_object refs there takes = record {
-  reading = to_x x;
-  at = at;
-  completed = to_x x;
-  is = x_completed x;
-  makes = record {
-    ends = record { near = x; far = Some (codes "refs/x") };
-    has = record { positive = tt; near = refl; far = refl; no_object = no_object };
-    one = named_some _ refs full there (λ r named. record { word = None; name = named; takes = takes r named; becomes = (full_name (codes "refs/x"), x_kind, refl) });
-  };
-}
+maps_full x k at no_object refs there takes =
+    let makes : MakesForward refs (name full) (Some (codes "refs/x")) (to_x x) = record {
+      ends = record { near = x; far = Some (codes "refs/x") };
+      has = record { positive = tt; near = refl; far = refl; no_object = no_object };
+      one = named_some _ refs full there (λ r named. record { word = None; name = named; takes = takes r named; becomes = (full_name (codes "refs/x"), x_kind, refl) });
+    } in
+    record { reading = to_x x; at = at; completed = to_x x; is = x_completed x; makes = makes }
 
 maps_first : (refs : List Ref) → AreValid refs → HasName refs full → Maps main_twice refs 0 (name full) (Some (codes "refs/x"))
 maps_first refs valid there =
+    let absent = λ (has : HasName refs (codes "main")). main_no_ref (each_named IsRefName refs (codes "main") valid has) in
     maps_full (codes "main") 0 refl (λ bytes kind. short_no_id bytes kind.2) refs there
-    (λ r named. taken_by_first refs (codes "main") r short_kind (rw named (record {
-      earlier = codes "main" ∷ [];
-      later = _;
-      here = refl;
-      absent = ((λ has. main_no_ref (valid_named refs (codes "main") valid has)), tt);
-      present = there;
-    })))
+    (λ r named. taken_by_first refs (codes "main") r short_kind (rw named (record { earlier = codes "main" ∷ []; later = _; here = refl; absent = (absent, tt); present = there })))
 
 maps_second : (refs : List Ref) → HasName refs full → Maps main_twice refs 1 (name full) (Some (codes "refs/x"))
 maps_second refs there =
@@ -211,79 +165,52 @@ maps_second refs there =
     (λ r named. record { matches = record { kind = full_name full; of = full_kind; is = (refl, named) }; first = λ m short. absurd (short.2 full_kind.2) })
 
 pub full_name_idle : IsIdleBy main_twice 1 (reason.Duplicate 0)
-full_name_idle = (
-  earlier,
-  does_before _ 1 0 (refs_of (name full)) (name full) (Some (codes "refs/x")) (inl (below _ refl), tt)
-      (record {
-        included = λ by. grind arith;
-        maps = record {
-          maps = maps_second _ (inl refl);
-          source = inl (below _ refl);
-          destination = below _ refl;
-        };
-      }) (omega arith) (maps_first _ (inl (below _ refl), tt) (inl refl)),
-)
+full_name_idle =
+    let valid : AreValid (refs_of (name full)) = (inl (below _ refl), tt) in
+    let sound : MapsSoundly main_twice (refs_of (name full)) 1 (name full) (Some (codes "refs/x")) = record { maps = maps_second _ (inl refl); source = inl (below _ refl); destination = below _ refl } in
+    let fetches : Fetches main_twice (refs_of (name full)) 1 (name full) (Some (codes "refs/x")) = record { maps = sound; included = λ by. grind arith } in
+    (earlier, record { refs = _; valid = valid; source = _; destination = _; fetches = fetches; before = omega arith; maps = maps_first _ valid (inl refl) })
   where
     earlier : IsAlwaysEarlier main_twice 1
     earlier refs s d valid f =
         let makes = made_by (to_x full) refl (x_completed full) f.maps.maps in
-        let is = one_in (name full) s (sources_there (to_x full) full refl refs d (full_name full) _ full_kind
-        (λ b a. lacks_no_pattern full b a full_kind.1) refl s makes) in
+        let is = one_in (name full) s (sources_there (to_x full) full refl refs d (full_name full) _ full_kind (λ b a. lacks_no_pattern full b a full_kind.1) refl s makes) in
         let here : MakesForward refs (name full) d (to_x full) = rw is at makes in
-        let own = made_by (to_x full) refl (x_completed full) (maps_second (refs_of (name full)) (inl refl)) in (
-          0,
-          omega arith,
-          rw (is, sym (one_far _ refs (name full) _ d (to_x full) own here))
-              (maps_first refs valid (made_there refs (name full) d (to_x full) here)),
-        )
+        let own = made_by (to_x full) refl (x_completed full) (maps_second (refs_of (name full)) (inl refl)) in
+        (0, omega arith, rw (is, sym (one_far _ refs (name full) _ d (to_x full) own here)) (maps_first refs valid (made_there refs (name full) d (to_x full) here)))
 
 -- any byte may be free, but no larger number, no star, no letter of the folders, and none that a side has
 pub free : IsFree [] 255 × ¬ (IsFree [] 256) × ¬ (IsFree [] 42) × ¬ (IsFree [] 114) × ¬ (IsFree (every ∷ []) 105)
-free = (
-  record { byte = omega arith; usable = refl; lacks = tt },
-  (λ is. omega (arith, is.byte)),
-  (λ is. false≢true is.usable),
-  (λ is. false≢true is.usable),
-  λ is. Lacks-here 105 (codes "refs/remotes/or") (codes "gin/*") is.lacks.0.1,
-)
+free = grind (arith, false≢true, Lacks-here)
 
 -- of two equal specs one is enough
-pub one_enough : IdleLeftOut (every ∷ every ∷ []) → AreIdle (every ∷ every ∷ []) (record { spec = 1; reason = reason.Duplicate 0 } ∷ []) → (refs : List Ref) (kept rest : List Mapped) → AreValid refs → AreKeptForward (every ∷ every ∷ []) refs kept → AreKeptForward (every ∷ []) refs rest
-    → (m : Mapped) → IsSound m → HasPair kept m → HasPair rest m
+pub one_enough : IdleLeftOut (every ∷ every ∷ []) → AreIdle (every ∷ every ∷ []) (record { spec = 1; reason = reason.Duplicate 0 } ∷ []) → (refs : List Ref) (kept rest : List Mapped) → AreValid refs
+    → AreKeptForward (every ∷ every ∷ []) refs kept → AreKeptForward (every ∷ []) refs rest → (m : Mapped) → IsSound m → HasPair kept m → HasPair rest m
 one_enough law idle refs kept rest valid of_all of_rest m sound has =
-    (law (record { spec = 1; reason = reason.Duplicate 0 } ∷ []) (record { spec = 1; reason = reason.Duplicate 0 }) idle (0, omega arith, refl) (every ∷ every ∷ []) refs kept rest (every_completed, (every_completed, tt)) valid of_all of_rest m sound).1 has
+    (law (record { spec = 1; reason = reason.Duplicate 0 } ∷ []) _ idle (0, omega arith, refl) (every ∷ every ∷ []) refs kept rest (every_completed, (every_completed, tt)) valid of_all of_rest m sound).1 has
 
 -- and a negative spec that names no branch keeps none away
 pub main_kept : IdleExclusionLeftOut (every ∷ no_main ∷ []) → (refs : List Ref) (kept rest : List Mapped) → AreKeptForward (every ∷ no_main ∷ []) refs kept → AreKeptForward (every ∷ []) refs rest
     → (m : Mapped) → IsSound m → HasPair rest m → HasPair kept m
 main_kept law refs kept rest of_all of_rest m sound has =
-    (law (1 ∷ []) 1 (
-      None,
-      1 ∷ [],
-      (λ k both. let is : Forced ≡ Negative = both.1.negative in cc),
-      (Some 1, [], (refl, excludes_none.0), refl, refl),
-      refl,
-    )
-    (0, omega arith, refl) (every ∷ no_main ∷ []) refs kept rest
-    (every_completed, (record { operation = refl; mode = refl; source = refl; destination = refl }, tt)) of_all of_rest m sound).0 has
+    let idle : AreIdleExclusions (every ∷ no_main ∷ []) (1 ∷ []) = (None, 1 ∷ [], (λ k both. let is : Forced ≡ Negative = both.1.negative in cc), (Some 1, [], (refl, excludes_none.0), refl, refl), refl) in
+    (law (1 ∷ []) 1 idle (0, omega arith, refl) (every ∷ no_main ∷ []) refs kept rest (every_completed, (record { operation = refl; mode = refl; source = refl; destination = refl }, tt)) of_all of_rest m sound).0 has
 
--- a conflict over some refs has an example
-pub conflict_shown : ConflictsShown (every ∷ pulls ∷ []) → (e : Example) × IsExample (every ∷ pulls ∷ []) 0 1 e
-conflict_shown law = law 0 1 (omega arith) (both, seven.one, seven.other, seven.destination, example.conflict)
+-- a conflict over some refs has an example, and a fetch from the remote of an example keeps a mapping of each of its sources
+pub conflict_shown : (ConflictsShown (every ∷ pulls ∷ []) → (e : Example) × IsExample (every ∷ pulls ∷ []) 0 1 e)
+    × (ExamplesConflict (every ∷ pulls ∷ []) → (kept : List Mapped) → AreKeptForward (every ∷ pulls ∷ []) both kept → HasSound kept seven.one seven.destination × HasSound kept seven.other seven.destination)
+conflict_shown = (
+  (λ law. law 0 1 (omega arith) (both, seven.one, seven.other, seven.destination, example.conflict)),
+  λ law kept are. let told = law 0 1 seven example (every ∷ pulls ∷ []) kept (every_completed, (completed_as _ (codes "refs/remotes/origin/pr/") [], tt)) are in (told.0, told.1),
+)
+
+abbrev pulled : Wish
+pulled = record { given = []; configured = every ∷ []; merges = []; tags = false }
 
 -- one spec has none, so neither its mappings nor the updates of a plan conflict
-no_examples : AreExamples (every ∷ []) []
-no_examples = ([], [], (None, [], (λ e shown. omega (arith, shown.order)), refl, refl), refl, refl)
-
-pub one_source : ConflictFree (every ∷ []) → (refs : List Ref) (kept : List Mapped) → AreKeptForward (every ∷ []) refs kept → (m n : Mapped) → Contains kept m → Contains kept n → IsSound m → IsSound n → ShareDestination m n → m.source ≡ n.source
-one_source law refs kept are = law no_examples (every ∷ []) refs kept (every_completed, tt) are
-
-pub no_conflict : PlanConflictFree (record { given = []; configured = every ∷ []; merges = []; tags = false }) → (refs : List Ref) (planned : List Planned) (missing : List Origin)
-    → IsPlan (record { given = []; configured = every ∷ []; merges = []; tags = false }) refs planned missing → AllByRecursion (λ p. p.verdict ≢ verdict.InConflict) planned
-no_conflict law refs planned missing plan = law no_examples (λ empty. cc (empty)) refl refl refl refs planned missing plan
-
--- and a fetch from the remote of an example keeps a mapping of each of its sources
-pub seven_kept : ExamplesConflict (every ∷ pulls ∷ []) → (kept : List Mapped) → AreKeptForward (every ∷ pulls ∷ []) both kept → HasSound kept seven.one seven.destination × HasSound kept seven.other seven.destination
-seven_kept law kept are =
-    let told = law 0 1 seven example (every ∷ pulls ∷ []) kept (every_completed, (completed_as _ (codes "refs/remotes/origin/pr/") [], tt)) are in
-    (told.0, told.1)
+pub one_source : (ConflictFree (every ∷ []) → (refs : List Ref) (kept : List Mapped) → AreKeptForward (every ∷ []) refs kept → (m n : Mapped) → Contains kept m → Contains kept n → IsSound m → IsSound n
+    → ShareDestination m n → m.source ≡ n.source)
+    × (PlanConflictFree pulled → (refs : List Ref) (planned : List Planned) (missing : List Origin) → IsPlan pulled refs planned missing → AllByRecursion (λ p. p.verdict ≢ verdict.InConflict) planned)
+one_source =
+    let none : AreExamples (every ∷ []) [] = ([], [], (None, [], (λ e shown. omega (arith, shown.order)), refl, refl), refl, refl) in
+    ((λ law refs kept are. law none (every ∷ []) refs kept (every_completed, tt) are), λ law refs planned missing plan. law none (λ empty. cc (empty)) refl refl refl refs planned missing plan)

@@ -1,18 +1,15 @@
 -- Specs that never do anything, source by source.
-use Rattle.gix_refspec_lint.proofs.Common.{map_each, item_named, ◌≡◌, ◌⊎◌, inl, inr, ◌↔◌, ℕ, zero, suc, ◌<◌, Bool, true, false, MatchBool, MatchOption, Bor, List, [], ◌∷◌, ◌++◌, Option, None, Some}
-use Rattle.gix_refspec_lint.proofs.Common.{codes, length, map, take, drop, get_or, append_assoc, refl, sym, ap, ◌∙◌, subst, arith, IsTrue, nat_eq, AllByRecursion, Contains, ends_with, is_some}
-use Rattle.gix_refspec_lint.proofs.Common.{false≢true, Decides-eqb, map-append, Contains-append_left, Contains-append_right, same_Some, ends_is, bstring_bytes, BString, Ref, MatchesAs}
-use Rattle.gix_refspec_lint.proofs.Common.{SideKind, pattern, full_name, object, partial, HasKind, Fits, candidates, Reading, IsSplit, EndsWith, Source, name, candidate_cases, map_split}
-use Rattle.gix_refspec_lint.proofs.Common.{MakesForward, IsRefName, AreAllowed, AreTriedBefore, Explains, Reason, Contains-push_cases, of_element, ◌+◌, ◌≤◌, AllZip, slice_get, HasName}
-use Rattle.gix_refspec_lint.proofs.Common.{IsFirstCandidate, upto, one_kind, IsCompleted, ref_named, AreValid, Maps, refs_of, AreAbsent, AreFreeing, ArePreferred, refs_with, one_word, all_join}
-use Rattle.gix_refspec_lint.proofs.Common.{IsFilled, id, IsExcludedBy, IsSourceExcluded, matches_as, HaveSameNames, IsValidSource, MapsSoundly, IsAtWork, IsShown, MakesSoundly, all_right}
+use Rattle.gix_refspec_lint.proofs.Common.{Fetches, map_each, item_named, ◌≡◌, ◌⊎◌, inl, inr, ℕ, zero, suc, ◌<◌, Bool, true, false, MatchOption, Bor, List, [], ◌∷◌, ◌++◌, Option, None, Some, codes, length}
+use Rattle.gix_refspec_lint.proofs.Common.{map, take, drop, get_or, append_assoc, refl, sym, ap, ◌∙◌, subst, arith, IsTrue, nat_eq, AllByRecursion, Contains, ends_with, is_some, false≢true, Decides-eqb}
+use Rattle.gix_refspec_lint.proofs.Common.{map-append, Contains-append_left, Contains-append_right, same_Some, ends_is, bstring_bytes, BString, Ref, MatchesAs, SideKind, pattern, object, partial, HasKind}
+use Rattle.gix_refspec_lint.proofs.Common.{Fits, candidates, Reading, IsSplit, EndsWith, Source, name, candidate_cases, map_split, MakesForward, IsRefName, AreAllowed, AreTriedBefore, Explains, Reason}
+use Rattle.gix_refspec_lint.proofs.Common.{Contains-push_cases, of_element, ◌+◌, ◌≤◌, AllZip, slice_get, HasName, IsFirstCandidate, upto, one_kind, IsCompleted, ref_named, AreValid, Maps, refs_of}
+use Rattle.gix_refspec_lint.proofs.Common.{AreAbsent, AreFreeing, ArePreferred, refs_with, one_word, all_join, IsFilled, id, IsExcludedBy, IsSourceExcluded, HaveSameNames, IsValidSource, MapsSoundly}
+use Rattle.gix_refspec_lint.proofs.{Common.{IsAtWork, IsShown, MakesSoundly, all_right, mapped_there}, lemmas.{FoundLemmas.makes_also, IndexLemmas.{made_there, own_among, named_in, makes_again, zip_to}}}
+use Rattle.gix_refspec_lint.proofs.lemmas.{IndexLemmas.{one_completed, all_listed, maps_as, maps_of, of_maps, excluded_at}, PatternLemmas.{word_of, destination_once}, SourceLemmas.{taken_as, taken_cases}}
+use Rattle.gix_refspec_text.proofs.lemmas.lists.LacksLemmas.{first_with}
+use Rattle.gix_refspec.proofs.lemmas.keep.FilterLemmas.{name_there}
 use Rattle.gix_refspec_lint.specs.declared.Reason.TheVariants as reason
-use Rattle.gix_refspec_lint.proofs.lemmas.{PatternLemmas.{word_of, destination_once}, IndexLemmas.{made_there, own_among, named_in}}
-use Rattle.gix_refspec_lint.proofs.lemmas.IndexLemmas.{makes_again, zip_to, one_completed, all_listed, maps_as, maps_of, of_maps}
-use Rattle.gix_refspec_lint.proofs.lemmas.{IndexLemmas.excluded_at, FoundLemmas.makes_also}
-
-pub none_equal : (l : List (List ℕ)) (n : List ℕ) → AllByRecursion (λ x. ¬ (x ≡ n)) l → ¬ (Contains l n)
-none_equal l n all has = of_element (λ x. ¬ (x ≡ n)) l n all has refl
 
 -- the last of the reasons explains what each explains
 pub duplicate_any : (g : List Reading) (k : ℕ) (s : Source) (r : Reason) (h : ℕ) → Explains g k s r → Explains g k s (reason.Duplicate h)
@@ -20,48 +17,31 @@ duplicate_any g k s reason.Invalid h none = λ refs d valid f. absurd (none refs
 duplicate_any g k s (reason.Excluded n) h none = λ refs d valid f. absurd (none refs d f)
 duplicate_any g k s (reason.Duplicate i) h earlier = earlier
 
-pub invalid_any : (g : List Reading) (k : ℕ) (s : Source) (r : Reason) → Explains g k s reason.Invalid → Explains g k s r
-invalid_any g k s reason.Invalid none = none
-invalid_any g k s (reason.Excluded n) none = λ refs d f. none refs d f.maps
-invalid_any g k s (reason.Duplicate i) none = λ refs d valid f. absurd (none refs d f.maps)
-
 pub fits_taken : (r : Reading) (x : List ℕ) → r.source ≡ Some x → (refs : List Ref) (n : List ℕ) (d : Option (List ℕ)) (before after : List ℕ) (word : Option (Bor (List ℕ))) → ((y : List ℕ) × (Some x ≡ Some y) × IsSplit before after y)
     → MatchOption word ((w : List ℕ) → ¬ (Fits before after n w)) (λ w. Fits before after n w.now) → MakesForward refs (name n) d r → IsTrue (is_some word)
 fits_taken r x has refs n d before after (Some w) parts fits makes = refl
 fits_taken r x has refs n d before after None (y, is, split) none makes =
-    let (w, some, fits) = word_of r refs n d makes before after (record { text = y; has = has ∙ is; split = split }) in
-    absurd (none w fits)
+    let (w, some, fits) = word_of r refs n d makes before after (record { text = y; has = has ∙ is; split = split }) in absurd (none w fits)
 
 -- the name of a candidate ends with the partial one, or it is the head of a remote
 pub ends_taken : (r : Reading) (x : List ℕ) → r.source ≡ Some x → ((y before after : List ℕ) → Some x ≡ Some y → ¬ (IsSplit before after y)) → (refs : List Ref) (n : List ℕ) (d : Option (List ℕ)) → MakesForward refs (name n) d r
     → EndsWith x n ⊎ EndsWith (codes "/HEAD") n
-ends_taken r x has plain refs n d makes = by_kind makes.one.4.takes.matches.kind makes.one.4.takes.matches.of makes.one.4.takes.matches.is
-  where
-    near : makes.ends.near ≡ x
-    near = same_Some _ _ (sym makes.has.near ∙ has)
-
-    by_kind : (kind : SideKind) → HasKind makes.ends.near kind → MatchesAs kind makes.one.1 makes.one.4.word → EndsWith x n ⊎ EndsWith (codes "/HEAD") n
-    by_kind (pattern before after) of holds = absurd (plain x before after refl (subst (IsSplit before after) near of))
-    by_kind (full_name m) of holds = inl (record { before = []; here = sym makes.one.4.name ∙ holds.1 ∙ of.0 ∙ near })
-    by_kind (object bytes) of holds = absurd (makes.has.no_object bytes of)
-    by_kind (partial m) of holds = elim (candidate_cases m makes.one.1.name holds.1) [
-      | inl (before, folder, is) ↦ inl (record { before = before; here = sym makes.one.4.name ∙ is ∙ ap (λ y. before ++ y) (of.0 ∙ near) })
-      | inr is ↦ inr (record { before = codes "refs/remotes/" ++ m; here = sym makes.one.4.name ∙ is ∙ sym (append_assoc (codes "refs/remotes/") m (codes "/HEAD")) })
+ends_taken r x has plain refs n d makes =
+    let near : makes.ends.near ≡ x = same_Some _ _ (sym makes.has.near ∙ has) in
+    elim (taken_cases r refs n d makes) [
+      | inl (p, t, split) ↦ absurd (plain x p t refl (subst (IsSplit p t) near split))
+      | inr (inl is) ↦ inl (record { before = []; here = is ∙ near })
+      | inr (inr one) ↦ elim (candidate_cases makes.ends.near n one) [
+        | inl (before, folder, is) ↦ inl (record { before = before; here = is ∙ ap (λ y. before ++ y) near })
+        | inr is ↦ inr (record { before = codes "refs/remotes/" ++ makes.ends.near; here = is ∙ sym (append_assoc (codes "refs/remotes/") makes.ends.near (codes "/HEAD")) })
+      ]
     ]
 
 pub ends_told : (x head n : List ℕ) (b c : Bool) → b ≡ ends_with nat_eq n x → c ≡ ends_with nat_eq n head → b ≡ false → EndsWith x n ⊎ EndsWith head n → c ≡ true
 ends_told x head n b c tells also none ends = grind (arith, ends, ends_is Decides-eqb n x b tells, ends_is Decides-eqb n head c also, false≢true)
 
-first_split : (n : List ℕ) (a b c d : List (List ℕ)) → AllByRecursion (λ y. ¬ (y ≡ n)) a → AllByRecursion (λ y. ¬ (y ≡ n)) c → a ++ (n ∷ b) ≡ c ++ (n ∷ d) → a ≡ c
-first_split n [] b [] d no_a no_c same = refl
-first_split n [] b (y ∷ c) d no_a no_c same = absurd (no_c.0 (cc))
-first_split n (x ∷ a) b [] d no_a no_c same = absurd (no_a.0 (cc))
-first_split n (x ∷ a) b (y ∷ c) d no_a no_c same = let rest = first_split n a b c d no_a.1 no_c.1 (cc) in cc
-
 pub none_tried : (x n : List ℕ) → AllByRecursion (λ y. ¬ (y ≡ n)) (candidates x) → (names : List (List ℕ)) → AreTriedBefore x n names
-none_tried x n none names = record {
-  some = λ earlier later here first. absurd ((all_right (λ y. ¬ (y ≡ n)) earlier (n ∷ later) (subst (AllByRecursion (λ y. ¬ (y ≡ n))) here none)).0 refl);
-}
+none_tried x n none names = record { some = λ earlier later here first. absurd ((all_right (λ y. ¬ (y ≡ n)) earlier (n ∷ later) (subst (AllByRecursion (λ y. ¬ (y ≡ n))) here none)).0 refl) }
 
 pub tried_at : (x n : List ℕ) (texts : List BString) (i : ℕ) (b : BString) (names : List (List ℕ)) → map bstring_bytes texts ≡ candidates x → i < length texts → b ≡ get_or texts i b → bstring_bytes b ≡ n
     → AllByRecursion (λ y. ¬ (y ≡ n)) (map bstring_bytes (take i texts)) → names ≡ map bstring_bytes (take i texts) → AreTriedBefore x n names
@@ -70,8 +50,8 @@ tried_at x n texts i b names all below at is none same =
     let after = map bstring_bytes (drop (suc i) texts) in
     let whole : candidates x ≡ before ++ (n ∷ after) = sym all ∙ map_split bstring_bytes texts i b below ∙ ap (λ y. before ++ (y ∷ after)) (ap bstring_bytes (sym at) ∙ is) in
     record {
-      some = λ earlier later here first. same ∙ first_split n before after earlier later none
-          (all_listed (λ y. ¬ (y ≡ n)) earlier (λ y there is. first (subst (Contains earlier) is there))) (sym whole ∙ here);
+      some = λ earlier later here first.
+          same ∙ (first_with (λ y. y ≡ n) before earlier n n after later none (all_listed (λ y. ¬ (y ≡ n)) earlier (λ y there is. first (subst (Contains earlier) is there))) refl refl (sym whole ∙ here)).0;
     }
 
 module _ (old : List (List ℕ)) (others : List BString) (away : List (List ℕ)) (now : List BString) (b : BString) (so_far : AreAllowed old (map bstring_bytes others) away (map bstring_bytes now)) where
@@ -79,30 +59,21 @@ module _ (old : List (List ℕ)) (others : List BString) (away : List (List ℕ)
   n = bstring_bytes b
 
   pub allowed_more : (new : List BString) → new ≡ now ++ b ∷ [] → IsRefName n × ¬ (Contains away n) → AreAllowed old (map bstring_bytes (others ++ b ∷ [])) away (map bstring_bytes new)
-  allowed_more new is allowed = rw (is, map-append bstring_bytes others (b ∷ []), map-append bstring_bytes now (b ∷ [])) (record {
-    has_old = λ m there. Contains-append_left (map bstring_bytes now) (n ∷ []) m (so_far.has_old m there);
-    has = λ m there valid free. elim (Contains-push_cases (map bstring_bytes others) n m there) [
-      | inl earlier ↦ Contains-append_left (map bstring_bytes now) (n ∷ []) m (so_far.has m earlier valid free)
-      | inr same ↦ Contains-append_right (map bstring_bytes now) (n ∷ []) m (zero, omega arith, same)
-    ];
-    only = λ m there. elim (Contains-push_cases (map bstring_bytes now) n m there) [
-      | inl earlier ↦ so_far.only m earlier
-      | inr same ↦ inr (subst (λ x. IsRefName x × ¬ (Contains away x)) same allowed)
-    ];
-  })
+  allowed_more new is allowed =
+      let last = Contains-append_right (map bstring_bytes now) (n ∷ []) in
+      let more = λ (m : List ℕ). Contains-append_left (map bstring_bytes now) (n ∷ []) m in
+      rw (is, map-append bstring_bytes others (b ∷ []), map-append bstring_bytes now (b ∷ [])) (record {
+        has_old = λ m there. more m (so_far.has_old m there);
+        has = λ m there valid free. elim (Contains-push_cases (map bstring_bytes others) n m there) [ inl earlier ↦ more m (so_far.has m earlier valid free) | inr same ↦ last m (zero, omega arith, same) ];
+        only = λ m there. elim (Contains-push_cases (map bstring_bytes now) n m there) [ inl earlier ↦ so_far.only m earlier | inr same ↦ inr (subst (λ x. IsRefName x × ¬ (Contains away x)) same allowed) ];
+      })
 
   pub allowed_same : ¬ (IsRefName n × ¬ (Contains away n)) → AreAllowed old (map bstring_bytes (others ++ b ∷ [])) away (map bstring_bytes now)
   allowed_same none = rw (map-append bstring_bytes others (b ∷ [])) (record {
     has_old = so_far.has_old;
-    has = λ m there valid free. elim (Contains-push_cases (map bstring_bytes others) n m there) [
-      | inl earlier ↦ so_far.has m earlier valid free
-      | inr same ↦ absurd (none (rw same (valid, free)))
-    ];
+    has = λ m there valid free. elim (Contains-push_cases (map bstring_bytes others) n m there) [ inl earlier ↦ so_far.has m earlier valid free | inr same ↦ absurd (none (rw same (valid, free))) ];
     only = so_far.only;
   })
-
-pub does_told : {M P : Type 0} (b : Bool) → IsTrue b ↔ M → (M → P) → (P → M) → MatchBool b P (¬ P)
-does_told b told to from = grind (arith, told, to, from)
 
 -- ---- the refs that a spec prefers to a source, and beside which earlier specs don't take it
 
@@ -116,49 +87,31 @@ preferred_by r x n k names has kind plain none = subst (ArePreferred r (name n))
 
 -- a partial one prefers the candidates before the name
 pub preferred_partial : (r : Reading) (x n : List ℕ) (names : List (List ℕ)) → r.source ≡ Some x → HasKind x (partial x) → AreTriedBefore x n names → ArePreferred r (name n) names
-preferred_partial r x n names has kind tried = record { absent = λ refs d makes. (first refs d makes).1; enough = enough }
+preferred_partial r x n names has kind tried = record {
+  absent = λ refs d makes. (first refs d makes).1;
+  enough = λ refs few d makes there none.
+      let (later, absent, here) = first refs d makes in
+      makes_again refs few n d r (there n (inl refl)) makes (λ m of. subst (λ y. IsFirstCandidate few y n) (sym (of.0 ∙ same_Some _ _ (sym makes.has.near ∙ has)))
+      (record { earlier = names; later = later; here = here; absent = none; present = there n (inl refl) }));
+}
   where
     -- the name is the first candidate, and these are before it
     first : (refs : List Ref) (d : Option (List ℕ)) → MakesForward refs (name n) d r → (later : List (List ℕ)) × AreAbsent names refs × (candidates x ≡ names ++ (n ∷ later))
     first refs d makes =
         let (k, item, below, is, paired) = makes.one in
-        let near : makes.ends.near ≡ x = same_Some _ _ (sym makes.has.near ∙ has) in
-        let one : IsFirstCandidate refs x n = subst (IsFirstCandidate refs x) paired.name (paired.takes.first x (subst (λ y. HasKind y (partial x)) (sym near) kind)) in
+        let one : IsFirstCandidate refs x n = subst (IsFirstCandidate refs x) paired.name (paired.takes.first x (subst (λ y. HasKind y (partial x)) (same_Some _ _ (sym has ∙ makes.has.near)) kind)) in
         let same : names ≡ one.earlier = tried.some one.earlier one.later one.here (λ has. of_element (λ m. ¬ (HasName refs m)) one.earlier n one.absent has one.present) in
         (one.later, subst (λ l. AreAbsent l refs) (sym same) one.absent, one.here ∙ ap (λ l. l ++ (n ∷ one.later)) (sym same))
 
-    enough : (refs few : List Ref) (d : Option (List ℕ)) → MakesForward refs (name n) d r → ((m : List ℕ) → HasName (refs_of (name n)) m → HasName few m) → AreAbsent names few → MakesForward few (name n) d r
-    enough refs few d makes there none =
-        let (later, absent, here) = first refs d makes in
-        makes_again refs few n d r (there n (inl refl)) makes (λ m partial_m.
-        let near : makes.ends.near ≡ x = same_Some _ _ (sym makes.has.near ∙ has) in
-        let kinds : partial x ≡ partial m = one_kind x (partial x) (partial m) kind (subst (λ y. HasKind y (partial m)) near partial_m) in
-        let same : x ≡ m = cc in
-        subst (λ y. IsFirstCandidate few y n) same (record { earlier = names; later = later; here = here; absent = none; present = there n (inl refl) }))
-
 -- ---- beside other refs
 
-listed : (l : List (List ℕ)) (m : List ℕ) → HasName (map ref_named l) m → Contains l m
-listed [] m none = absurd none
-listed (n ∷ l) m (inl is) = (0, omega arith, is)
-listed (n ∷ l) m (inr later) = let (k, below, at) = listed l m later in (suc k, omega (arith, below), at)
-
-named_of : (l : List (List ℕ)) (m : List ℕ) → Contains l m → HasName (map ref_named l) m
-named_of [] m (k, below, is) = absurd (omega (arith, below))
-named_of (n ∷ l) m (zero, below, is) = inl is
-named_of (n ∷ l) m (suc k, below, is) = inr (named_of l m (k, omega (arith, below), is))
-
-pub valid_named : (refs : List Ref) (m : List ℕ) → AreValid refs → HasName refs m → IsRefName m
-valid_named refs m all has = let (r, there, is) = item_named refs m has in subst IsRefName is
-    (of_element (λ (r : Ref). IsRefName r.name) refs r all there)
+pub each_named : (P : List ℕ → Type 0) (refs : List Ref) (m : List ℕ) → AllByRecursion (λ (r : Ref). P r.name) refs → HasName refs m → P m
+each_named P refs m all has = let (r, there, is) = item_named refs m has in subst P is (of_element (λ (r : Ref). P r.name) refs r all there)
 
 -- the names are valid and not kept away, and those that earlier specs prefer are among them
 pub record FreesSoFar (h : List Reading) (s : Source) (away : List (List ℕ)) (names : List (List ℕ)) (k : ℕ) : Type 0 where
   pub allowed : (n : List ℕ) → Contains names n → IsRefName n × ¬ (Contains away n)
   pub preferred : (i : ℕ) (c : Reading) → i < k → slice_get h i ≡ Some c → (others : List (List ℕ)) × ArePreferred c s others × ((n : List ℕ) → Contains others n → IsRefName n → ¬ (Contains away n) → Contains names n)
-
-pub frees_none : (h : List Reading) (s : Source) (away : List (List ℕ)) → FreesSoFar h s away [] 0
-frees_none h s away = record { allowed = λ n none. absurd (omega (arith, none.1)); preferred = λ i c below at. absurd (omega (arith, below)) }
 
 pub frees_next : (h : List Reading) (s : Source) (away names others new : List (List ℕ)) (k : ℕ) (c : Reading) → slice_get h k ≡ Some c → ArePreferred c s others → AreAllowed names others away new → FreesSoFar h s away names k → FreesSoFar h s away new (k + 1)
 frees_next h s away names others new k c at preferred allowed so_far = record {
@@ -170,37 +123,26 @@ frees_next h s away names others new k c at preferred allowed so_far = record {
 }
 
 -- so the names free earlier specs
-pub freeing : (g h : List Reading) (all : AllZip IsCompleted g h) (k : ℕ) (s : Source) (away names : List (List ℕ)) (c : Reading) → slice_get h k ≡ Some c → ArePreferred c s away → FreesSoFar h s away names k → AreFreeing g k s names
-freeing g h all k s away names c at preferred so_far = record {
+pub freeing : (g h : List Reading) (all : AllZip IsCompleted g h) (j k : ℕ) (s : Source) (away names : List (List ℕ)) (c : Reading) → slice_get h k ≡ Some c → k ≤ j → ArePreferred c s away
+    → FreesSoFar h s away names j → AreFreeing g k s names
+freeing g h all j k s away names c at fewer preferred so_far = record {
   valid = all_listed IsRefName names (λ m there. (so_far.allowed m there).0);
-  keeps = keeps;
-  frees = frees;
+  keeps = λ refs d m.
+      let makes = of_maps g h all k c at refs s d m in
+      let named = map_each (Contains names) (λ (r : Ref). Contains names r.name) ref_named (λ n there. there) names (all_listed (Contains names) names (λ n there. there)) in
+      maps_as m (rw (one_completed g h all k c at m) (preferred.enough refs (refs_with s names) d makes (λ n own. (named_in (refs_of s) (map ref_named names) n).1 (inl own))
+      (all_listed (λ n. ¬ (HasName (refs_with s names) n)) away (λ n there has. elim ((named_in (refs_of s) (map ref_named names) n).0 has) [
+        | inl own ↦ of_element (λ m. ¬ (HasName refs m)) away n (preferred.absent refs d makes) there (own_among refs s (made_there refs s d c makes) n own)
+        | inr other ↦ (so_far.allowed n (each_named (Contains names) (map ref_named names) n named other)).1 there
+      ]))));
+  frees = λ refs i d e valid m below other.
+      let makes = of_maps g h all k c at refs s d m in
+      let (others, are, has) = so_far.preferred i other.completed (omega (arith, below, fewer)) (zip_to g h all i other.reading other.completed other.at other.is) in
+      maps_as other (are.enough (refs_with s names) refs e other.makes (own_among refs s (made_there refs s d c makes)) (all_listed (λ n. ¬ (HasName refs n)) others (λ n there present.
+      let free = has n there (each_named IsRefName refs n valid present) (λ kept. of_element (λ m. ¬ (HasName refs m)) away n (preferred.absent refs d makes) kept present) in
+      of_element (λ m. ¬ (HasName (refs_with s names) m)) others n (are.absent (refs_with s names) e other.makes) there
+      ((named_in (refs_of s) (map ref_named names) n).1 (inr (name_there (map ref_named names) (ref_named n) (mapped_there ref_named names n free)))))));
 }
-  where
-    keeps : (refs : List Ref) (d : Option (List ℕ)) → Maps g refs k s d → Maps g (refs_with s names) k s d
-    keeps refs d m =
-        let makes = of_maps g h all k c at refs s d m in
-        let absent = preferred.absent refs d makes in
-        maps_as m (subst (MakesForward (refs_with s names) s d) (sym (one_completed g h all k c at m)) (preferred.enough refs (refs_with s names) d makes
-        (λ n own. (named_in (refs_of s) (map ref_named names) n).1 (inl own))
-        (all_listed (λ n. ¬ (HasName (refs_with s names) n)) away
-        (λ n there has. elim ((named_in (refs_of s) (map ref_named names) n).0 has) [
-          | inl own ↦ of_element (λ m. ¬ (HasName refs m)) away n absent there (own_among refs s (made_there refs s d c makes) n own)
-          | inr other ↦ (so_far.allowed n (listed names n other)).1 there
-        ]))))
-
-    frees : (refs : List Ref) (i : ℕ) (d e : Option (List ℕ)) → AreValid refs → Maps g refs k s d → i < k → Maps g (refs_with s names) i s e → Maps g refs i s e
-    frees refs i d e valid m below other =
-        let makes = of_maps g h all k c at refs s d m in
-        let (others, are, has) = so_far.preferred i other.completed below (zip_to g h all i other.reading other.completed other.at other.is) in
-        let free = are.absent (refs_with s names) e other.makes in
-        maps_as other (are.enough (refs_with s names) refs e other.makes (own_among refs s (made_there refs s d c makes))
-        (all_listed (λ n. ¬ (HasName refs n)) others (λ n there present. of_element (λ m. ¬ (HasName (refs_with s names) m)) others n free there
-        ((named_in (refs_of s) (map ref_named names) n).1 (inr (named_of names n
-        (has n there (valid_named refs n valid present) (λ kept. of_element (λ m. ¬ (HasName refs m)) away n (preferred.absent refs d makes) kept present))))))))
-
-pub frees_less : (h : List Reading) (s : Source) (away names : List (List ℕ)) (j k : ℕ) → k ≤ j → FreesSoFar h s away names j → FreesSoFar h s away names k
-frees_less h s away names j k fewer so_far = record { allowed = so_far.allowed; preferred = λ i c below at. so_far.preferred i c (omega (arith, below, fewer)) at }
 
 -- ---- why a spec does nothing with a source, beside refs that free earlier specs
 
@@ -212,24 +154,15 @@ same_words k a b v w same none of_a of_b = grind (arith, of_a, of_b)
 pub one_far : (A B : List Ref) (s : Source) (d e : Option (List ℕ)) (c : Reading) → MakesForward A s d c → MakesForward B s e c → d ≡ e
 one_far A B (id bytes) d e c one other = destination_once c None d e one.becomes other.becomes
 one_far A B (name n) d e c one other =
-    let (k, a, below, is, paired) = one.one in
-    let (l, b, under, at, others) = other.one in
-    let near : other.ends.near ≡ one.ends.near = same_Some _ _ (sym other.has.near ∙ one.has.near) in
-    let kind = paired.takes.matches.kind in
-    let of = paired.takes.matches.of in
-    let words : paired.word ≡ others.word =
-    same_words kind a b paired.word others.word (paired.name ∙ sym others.name) (λ bytes same. one.has.no_object bytes (subst (HasKind one.ends.near) same of)) paired.takes.matches.is
-    (matches_as other.ends.near kind b others.word (subst (λ x. HasKind x kind) (sym near) of) others.takes.matches) in
-    destination_once c others.word d e
-    (subst (λ w. IsFilled c.destination w d) words (subst (λ x. IsFilled x paired.word d) (sym one.has.far) paired.becomes))
-    (subst (λ x. IsFilled x others.word e) (sym other.has.far) others.becomes)
+    let a = one.one.4 in
+    let b = other.one.4 in
+    let kind = a.takes.matches.kind in
+    let words : a.word ≡ b.word = same_words kind one.one.1 other.one.1 a.word b.word (a.name ∙ sym b.name) (λ bytes same. one.has.no_object bytes (subst (HasKind one.ends.near) same a.takes.matches.of))
+    a.takes.matches.is (taken_as c one.ends.near kind one.has.near a.takes.matches.of B n e other) in
+    destination_once c b.word d e (subst (λ w. IsFilled c.destination w d) words (subst (λ x. IsFilled x a.word d) (sym one.has.far) a.becomes)) (subst (λ x. IsFilled x b.word e) (sym other.has.far) b.becomes)
 
 maps_also : (g : List Reading) (A B : List Ref) (k : ℕ) (s : Source) (d : Option (List ℕ)) → HaveSameNames A B → Maps g A k s d → Maps g B k s d
 maps_also g A B k s d same m = maps_as m (makes_also A B s d m.completed same m.makes)
-
-own_valid : (s : Source) → IsValidSource s → AreValid (refs_of s)
-own_valid (name n) valid = (valid, tt)
-own_valid (id bytes) valid = tt
 
 module _ (g cs : List Reading) (all : AllZip IsCompleted g cs) (k : ℕ) (c : Reading) (here : slice_get cs k ≡ Some c)
     (s : Source) (names : List (List ℕ)) (freeing : AreFreeing g k s names) (items : List Ref) (same : HaveSameNames items (refs_with s names)) where
@@ -237,21 +170,11 @@ module _ (g cs : List Reading) (all : AllZip IsCompleted g cs) (k : ℕ) (c : Re
   refs = refs_with s names
 
   pub explains_invalid : ((d : Option (List ℕ)) → ¬ (MakesSoundly items s d c)) → Explains g k s reason.Invalid
-  explains_invalid none = λ others d m.
-      let kept = freeing.keeps others d m.maps in
-      none d (record {
-        makes = makes_also refs items s d c (sym same) (of_maps g cs all k c here refs s d kept);
-        source = m.source;
-        destination = m.destination;
-      })
+  explains_invalid none = grind (arith, makes_also, of_maps)
 
   module _ (e : Option (List ℕ)) (makes : MakesSoundly items s e c) where
     maps : MapsSoundly g refs k s e
     maps = record { maps = maps_of g cs all k c here refs s e (makes_also items refs s e c same makes.makes); source = makes.source; destination = makes.destination }
-
-    valid : AreValid refs
-    valid = all_join (λ (r : Ref). IsRefName r.name) (refs_of s) (map ref_named names) (own_valid s makes.source)
-        (map_each IsRefName (λ (r : Ref). IsRefName r.name) ref_named (λ n fine. fine) names freeing.valid)
 
     pub shows_excluded : (n : List ℕ) (j : ℕ) (r : Reading) → s ≡ name n → slice_get g j ≡ Some r → IsExcludedBy n r → Explains g k s (reason.Excluded j) × IsShown g k (reason.Excluded j)
     shows_excluded n j r named at by = (
@@ -260,21 +183,19 @@ module _ (g cs : List Reading) (all : AllZip IsCompleted g cs) (k : ℕ) (c : Re
     )
 
     module _ (included : ¬ (IsSourceExcluded g s)) where
+      fetches : AreValid refs × Fetches g refs k s e
+      fetches =
+          let own = elim s as (λ t. IsValidSource t → AreValid (refs_of t)) [ name n ↦ λ fine. (fine, tt) | id bytes ↦ λ fine. tt ] in
+          let others = map_each IsRefName (λ (r : Ref). IsRefName r.name) ref_named (λ n fine. fine) names freeing.valid in
+          (all_join (λ (r : Ref). IsRefName r.name) (refs_of s) (map ref_named names) (own makes.source) others, record { maps = maps; included = included })
+
       pub is_at_work : ((h : ℕ) → h < k → ¬ (Maps g items h s e)) → IsAtWork g k
-      is_at_work none = record {
-        refs = refs;
-        valid = valid;
-        source = s;
-        destination = e;
-        fetches = record { maps = maps; included = included };
-        first = λ h before m. none h before (maps_also g refs items h s e (sym same) m);
-      }
+      is_at_work none = record { refs = refs; valid = fetches.0; source = s; destination = e; fetches = fetches.1; first = λ h before m. none h before (maps_also g refs items h s e (sym same) m) }
 
       pub shows_duplicate : (h : ℕ) → h < k → Maps g items h s e → Explains g k s (reason.Duplicate h) × IsShown g k (reason.Duplicate h)
       shows_duplicate h before m =
-          let also = maps_also g items refs h s e same m in (
-            (λ others d fine f.
-                let one : d ≡ e = one_far others items s d e c (of_maps g cs all k c here others s d f.maps.maps) makes.makes in
-                (h, before, subst (Maps g others h s) (sym one) (freeing.frees others h d e fine f.maps.maps before also))),
-            record { refs = refs; valid = valid; source = s; destination = e; fetches = record { maps = maps; included = included }; before = before; maps = also },
+          let also = maps_also g items refs h s e same m in
+          let one : (others : List Ref) (d : Option (List ℕ)) → Maps g others k s d → d ≡ e = λ others d m. one_far others items s d e c (of_maps g cs all k c here others s d m) makes.makes in (
+            (λ others d fine f. (h, before, rw (one others d f.maps.maps) (freeing.frees others h d e fine f.maps.maps before also))),
+            record { refs = refs; valid = fetches.0; source = s; destination = e; fetches = fetches.1; before = before; maps = also },
           )

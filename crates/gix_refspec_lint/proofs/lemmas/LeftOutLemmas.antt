@@ -1,107 +1,83 @@
 -- Negative specs that exclude nothing.
-use Rattle.gix_refspec_lint.proofs.Common.{CanBeWritten, each_made, cases_eq, ◌≡◌, inl, inr, ℕ, ◌+◌, ◌<◌, ◌≤◌, Bool, true, false, MatchBool, not, drop, take, List, [], ◌∷◌, ◌++◌, Option, None, Some, length, map}
-use Rattle.gix_refspec_lint.proofs.Common.{option_to_list, get_or, refl, sym, ap, ◌∙◌, subst, AllByRecursion, AllZip, Any, slice_get, Fits, by_pattern, IsAccepted, Reading}
-use Rattle.gix_refspec_lint.proofs.Common.{Negative, IsSplit, IsMadeFrom, MakesOf, Source, name, id, IsExcludedBy, IsSourceExcluded, made_more, some_at, IsCompleted, ref_named, same_excluded, IsFree}
-use Rattle.gix_refspec_lint.proofs.Common.{IsIdleExclusion, ExcludesFrom, ExcludesSome, HasSourcePattern, ShareSources, IsDeciding, words_with, IsOverlap, Common, of_element, ◌≢◌, zero, suc, arith}
-use Rattle.gix_refspec_lint.proofs.Common.{Contains, same_Some, Ref, IsPositive, Mapped, IsExcluded, MakesForward, IsValidSource, kept_exactly, IsSound, IdleExclusionLeftOut, IdleLeftOut, AreValid}
-use Rattle.gix_refspec_lint.proofs.Common.{Fetches, IsIdleBy, Reason}
-use Rattle.gix_refspec_lint.specs.Laws.Lint.{without}
+use Rattle.gix_refspec_lint.proofs.Common.{◌↔◌, IsAlwaysEarlier, CanBeWritten, each_made, cases_eq, ◌≡◌, inl, inr, ℕ, ◌+◌, ◌≤◌, Bool, true, false, MatchBool, not, drop, List, [], ◌∷◌, ◌++◌, Option, None}
+use Rattle.gix_refspec_lint.proofs.Common.{Some, refl, sym, ap, ◌∙◌, subst, AllByRecursion, AllZip, Any, slice_get, Fits, by_pattern, IsAccepted, Reading, Negative, IsSplit, IsMadeFrom, MakesOf, Source}
+use Rattle.gix_refspec_lint.proofs.Common.{name, id, IsExcludedBy, IsSourceExcluded, some_at, IsCompleted, ref_named, same_excluded, IsFree, IsIdleExclusion, ExcludesFrom, ExcludesSome, HasSourcePattern}
+use Rattle.gix_refspec_lint.proofs.Common.{ShareSources, words_with, IsOverlap, Common, of_element, ◌≢◌, zero, suc, arith, Contains, same_Some, Ref, IsPositive, Mapped, IsExcluded, MakesForward}
+use Rattle.gix_refspec_lint.proofs.{Common.{IsValidSource, kept_exactly, IsSound, IdleExclusionLeftOut, IdleLeftOut, AreValid, Fetches, IsIdleBy, Reason, MapsSoundly}, lemmas.DecideLemmas.decide}
+use Rattle.gix_refspec_lint.proofs.lemmas.{IndexLemmas.{maps_of, excluded_same, zip_to, any_at, excluded_at, zip_of, still_excluded, completed_at, by_index}, OneSpecLemmas.{makes_positive, own_name}}
+use Rattle.gix_refspec_lint.{proofs.lemmas.{OneSpecLemmas.{excludes_by, text_excludes, fits_excluded}, PatternLemmas.{pattern_spec, spec_made}, RunLemmas.each_deciding}, specs.Laws.Lint.without}
 use Rattle.gix_refspec_lint.specs.declared.Reason.TheVariants as reason
-use Rattle.gix_refspec_lint.proofs.lemmas.{RunLemmas.each_deciding, PatternLemmas.{pattern_spec, spec_made}, DecideLemmas.decide}
-use Rattle.gix_refspec_lint.proofs.lemmas.{OneSpecLemmas.{makes_positive, own_name, excludes_by, text_excludes, fits_excluded}, IndexLemmas.{maps_of, excluded_same}}
-use Rattle.gix_refspec_lint.proofs.lemmas.IndexLemmas.{zip_to, any_at, excluded_at, zip_of, still_excluded, completed_at, by_index}
 
--- what is excluded and mapped is so at a name that decides
-pub none_shared : (g : List Reading) (z : ℕ) (free : IsFree g z) (negative c : Reading) (common : Common) → negative.mode ≡ Negative → ∥ IsAccepted c ∥₁ → ShareSources negative c common
-    → ((n : List ℕ) → IsDeciding (words_with z) common.prefix.now common.suffix.now common.most n → ¬ (ExcludesFrom negative c (name n))) → ¬ (ExcludesSome negative c)
-none_shared g z free negative c common is accepted share none (id bytes, e) = e.excludes
-none_shared g z free negative c common is accepted share none (name m, e) =
-    let one = share.one in
-    let other = share.other in
-    let (v, fits) = fits_excluded one.text share.before share.after m one.split (text_excludes negative one.text is one.has m e.excludes) in
-    let spec = pattern_spec c share.prefix share.suffix accepted e.makes.makes.has.positive other in
-    let d = decide g z free c share.prefix share.suffix spec share.before share.after common.prefix.now common.suffix.now common.most share.shared.prefix share.shared.suffix share.shared.most e.refs m e.destination v fits e.makes in
-    none d.source d.deciding (record {
-      refs = ref_named d.source ∷ [];
-      destination = d.destination;
-      makes = d.sound (ref_named d.source ∷ []) (inl refl);
-      excludes = excludes_by negative one.text is one.has d.source (by_pattern share.before share.after d.word one.split d.fits);
-    })
+-- what a negative spec excludes is a name
+excluded_name : (negative c : Reading) → ExcludesSome negative c → (n : List ℕ) × ExcludesFrom negative c (name n) × IsExcludedBy n negative
+excluded_name negative c (id bytes, e) = absurd e.excludes
+excluded_name negative c (name n, e) = (n, e, elim e.excludes [ inl by ↦ by | inr none ↦ absurd none ])
 
--- by what is found in the overlaps, and not with the words
+-- what is excluded and mapped is so at a name that decides; by what is found in the overlaps, and not with the words
 pub shared_told : (g : List Reading) (z : ℕ) (free : IsFree g z) (negative c : Reading) (common : Common) → negative.mode ≡ Negative → ∥ IsAccepted c ∥₁ → ShareSources negative c common → (does : Bool)
     → AllByRecursion (λ w. ¬ (ExcludesFrom negative c (name (common.prefix.now ++ (w ++ common.suffix.now))))) (words_with z)
     → MatchBool does (ExcludesSome negative c) ((k : ℕ) → k ≤ common.most → IsOverlap common.prefix.now common.suffix.now k → ¬ (ExcludesFrom negative c (name (common.prefix.now ++ drop k common.suffix.now))))
     → MatchBool does (ExcludesSome negative c) (¬ (ExcludesSome negative c))
 shared_told g z free negative c common is accepted share true by_word some = some
-shared_told g z free negative c common is accepted share false by_word none =
-    none_shared g z free negative c common is accepted share (each_deciding (λ n. ¬ (ExcludesFrom negative c (name n))) (words_with z) common.prefix.now common.suffix.now common.most by_word none)
+shared_told g z free negative c common is accepted share false by_word none = λ some.
+    let (m, e, by) = excluded_name negative c some in
+    let one = share.one in
+    let (v, fits) = fits_excluded one.text share.before share.after m one.split (text_excludes negative one.text is one.has m e.excludes) in
+    let spec = pattern_spec c share.prefix share.suffix accepted e.makes.makes.has.positive share.other in
+    let d = decide g z free c share.prefix share.suffix spec share.before share.after common.prefix.now common.suffix.now common.most share.shared.prefix share.shared.suffix share.shared.most
+    e.refs m e.destination v fits e.makes in
+    let too = excludes_by negative one.text is one.has d.source (by_pattern share.before share.after d.word one.split d.fits) in
+    each_deciding (λ n. ¬ (ExcludesFrom negative c (name n))) (words_with z) common.prefix.now common.suffix.now common.most by_word none d.source d.deciding
+    (record { refs = ref_named d.source ∷ []; destination = d.destination; makes = d.sound (ref_named d.source ∷ []) (inl refl); excludes = too })
 
 -- without a star only its own name
 pub plain_only : (negative c : Reading) (x : List ℕ) (b : Bool) → negative.mode ≡ Negative → negative.source ≡ Some x → ((y before after : List ℕ) → negative.source ≡ Some y → ¬ (IsSplit before after y))
     → MatchBool b (ExcludesFrom negative c (name x)) (¬ (ExcludesFrom negative c (name x))) → MatchBool b (ExcludesSome negative c) (¬ (ExcludesSome negative c))
 plain_only negative c x true is has none e = (name x, e)
-plain_only negative c x false is has none not_x = λ (s, e). some s e
-  where
-    some : (s : Source) → ¬ (ExcludesFrom negative c s)
-    some (id bytes) e = e.excludes
-    some (name m) e = not_x (subst (λ n. ExcludesFrom negative c (name n)) (sym (own_name x m (λ before after. none x before after has) (text_excludes negative x is has m e.excludes))) e)
+plain_only negative c x false is has none not_x = λ some.
+    let (m, e, by) = excluded_name negative c some in
+    not_x (subst (λ n. ExcludesFrom negative c (name n)) (sym (own_name x m (λ before after. none x before after has) (text_excludes negative x is has m e.excludes))) e)
 
 pub none_apart : (negative c : Reading) (a b p t : List ℕ) → negative.mode ≡ Negative → ∥ IsAccepted c ∥₁ → HasSourcePattern negative a b → HasSourcePattern c p t → ((n v w : List ℕ) → Fits a b n v → Fits p t n w → ⊥) → ¬ (ExcludesSome negative c)
-none_apart negative c a b p t is accepted one other apart (id bytes, e) = e.excludes
-none_apart negative c a b p t is accepted one other apart (name m, e) =
+none_apart negative c a b p t is accepted one other apart some =
+    let (m, e, by) = excluded_name negative c some in
     let (v, fits) = fits_excluded one.text a b m one.split (text_excludes negative one.text is one.has m e.excludes) in
-    let spec = pattern_spec c p t accepted e.makes.makes.has.positive other in
-    let (w, source, far, there) = spec_made c p t spec e.refs m e.destination e.makes.makes in
+    let (w, source, far, there) = spec_made c p t (pattern_spec c p t accepted e.makes.makes.has.positive other) e.refs m e.destination e.makes.makes in
     apart m v w fits source
 
-module _ (g h : List Reading) (all : AllZip IsCompleted g h) (negative : Reading) (is : negative.mode ≡ Negative) where
-  excluded_one : (n : List ℕ) → IsSourceExcluded (negative ∷ []) (name n) → IsExcludedBy n negative
-  excluded_one n (inl by) = by
-  excluded_one n (inr none) = absurd none
+pub idle_told : (g h : List Reading) → AllZip IsCompleted g h → (c : Reading) → c.mode ≡ Negative → (b : Bool) → MatchBool b (Any (ExcludesSome c) h) (¬ (Any (ExcludesSome c) h)) → MatchBool (not b) (IsIdleExclusion g c) (¬ (IsIdleExclusion g c))
+idle_told g h all c is true any = λ idle.
+    let (k, e, at, some) = any_at (ExcludesSome c) h any in
+    let (n, from, by) = excluded_name c e some in
+    idle.excludes from.refs k n from.destination (record { maps = maps_of g h all k e at from.refs (name n) from.destination from.makes.makes; source = from.makes.source; destination = from.makes.destination }) by
+idle_told g h all c is false none = record {
+  negative = is;
+  excludes = λ refs i n d m by.
+      let from : ExcludesFrom c m.maps.completed (name n) = record { refs = refs; destination = d; makes = record { makes = m.maps.makes; source = m.source; destination = m.destination }; excludes = inl by } in
+      none (some_at (ExcludesSome c) h i m.maps.completed (zip_to g h all i m.maps.reading m.maps.completed m.maps.at m.maps.is) (name n, from));
+}
 
-  pub some_excluded : Any (ExcludesSome negative) h → ¬ (IsIdleExclusion g negative)
-  some_excluded any idle = by_source (any_at (ExcludesSome negative) h any)
-    where
-      by_source : (k : ℕ) × (c : Reading) × (slice_get h k ≡ Some c) × ExcludesSome negative c → ⊥
-      by_source (k, c, at, (id bytes, e)) = e.excludes
-      by_source (k, c, at, (name n, e)) =
-          idle.excludes e.refs k n e.destination
-          (record { maps = maps_of g h all k c at e.refs (name n) e.destination e.makes.makes; source = e.makes.source; destination = e.makes.destination }) (excluded_one n e.excludes)
-
-  pub none_excluded : ¬ (Any (ExcludesSome negative) h) → IsIdleExclusion g negative
-  none_excluded none = record {
-    negative = is;
-    excludes = λ refs i n d maps by.
-        none (some_at (ExcludesSome negative) h i maps.maps.completed (zip_to g h all i maps.maps.reading maps.maps.completed maps.maps.at maps.maps.is)
-        (name n, record { refs = refs; destination = d; makes = record { makes = maps.maps.makes; source = maps.source; destination = maps.destination }; excludes = inl by }));
-  }
-
-pub made_completed : {Y : Type 0} (R : ℕ → Reading → Y → Type 0) → ((k : ℕ) (r c : Reading) (y : Y) → IsCompleted r c → R k r y → R k c y) → ((k : ℕ) (r c : Reading) (y : Y) → IsCompleted r c → R k c y → R k r y)
+pub made_completed : {Y : Type 0} (R : ℕ → Reading → Y → Type 0) → ((k : ℕ) (r c : Reading) (y : Y) → IsCompleted r c → R k r y ↔ R k c y)
     → (g h : List Reading) (k : ℕ) (ys : List Y) → AllZip IsCompleted g h → IsMadeFrom R k h ys → IsMadeFrom R k g ys
-made_completed R to from [] [] k ys all made = made
-made_completed R to from [] (c ∷ h) k ys all made = absurd all
-made_completed R to from (r ∷ g) [] k ys all made = absurd all
-made_completed {Y} R to from (r ∷ g) (c ∷ h) k ys all (one, rest, of, more, is) = (one, rest, by one of, made_completed R to from g h (k + 1) rest all.1 more, is)
-  where
-    by : (one : Option Y) → MakesOf R k c one → MakesOf R k r one
-    by None none = λ y has. none y (to k r c y all.0 has)
-    by (Some y) has = from k r c y all.0 has
+made_completed R same [] [] k ys all made = made
+made_completed R same [] (c ∷ h) k ys all made = absurd all
+made_completed R same (r ∷ g) [] k ys all made = absurd all
+made_completed R same (r ∷ g) (c ∷ h) k ys all (one, rest, of, more, is) =
+    let back = elim one as (λ o. MakesOf R k c o → MakesOf R k r o) [ None ↦ λ none y has. none y ((same k r c y all.0).0 has) | Some y ↦ (same k r c y all.0).1 ] in
+    (one, rest, back of, made_completed R same g h (k + 1) rest all.1 more, is)
 
 pub idle_completed : (g h : List Reading) (idle : List ℕ) → AllZip IsCompleted g h → IsMadeFrom (λ k c made. (made ≡ k) × IsIdleExclusion g c) 0 h idle → IsMadeFrom (λ k r made. (made ≡ k) × IsIdleExclusion g r) 0 g idle
 idle_completed g h idle all made =
-    made_completed (λ k r made. (made ≡ k) × IsIdleExclusion g r)
-    (λ k r c y done both. (both.0, record { negative = done.mode ∙ both.1.negative; excludes = λ refs i n d maps by. both.1.excludes refs i n d maps (same_excluded r c n done by) }))
-    (λ k r c y done both. (both.0, record { negative = sym done.mode ∙ both.1.negative; excludes = λ refs i n d maps by. both.1.excludes refs i n d maps (excluded_same r c n done by) }))
-    g h 0 idle all made
+    made_completed (λ k r made. (made ≡ k) × IsIdleExclusion g r) (λ k r c y done. (
+      (λ both. (both.0, record { negative = done.mode ∙ both.1.negative; excludes = λ refs i n d maps by. both.1.excludes refs i n d maps (same_excluded r c n done by) })),
+      (λ both. (both.0, record { negative = sym done.mode ∙ both.1.negative; excludes = λ refs i n d maps by. both.1.excludes refs i n d maps (excluded_same r c n done by) })),
+    )) g h 0 idle all made
 
-pub one_more_made : {A X Y : Type 0} (R : ℕ → X → Y → Type 0) (f : A → X) (xs : List A) (i : ℕ) (x : A) (ys zs : List Y) (made : Option Y) → i < length xs → x ≡ get_or xs i x → IsMadeFrom R 0 (map f (take i xs)) ys
-    → MakesOf R i (f x) made → zs ≡ ys ++ option_to_list made → IsMadeFrom R 0 (map f (take (i + 1) xs)) zs
-one_more_made R f xs i x ys zs made below is so_far makes more = made_more R f xs i x ys zs made below so_far (subst (λ y. MakesOf R i (f y) made) is makes) more
-
-pub idle_told : (g h : List Reading) → AllZip IsCompleted g h → (c : Reading) → c.mode ≡ Negative → (b : Bool) → MatchBool b (Any (ExcludesSome c) h) (¬ (Any (ExcludesSome c) h)) → MatchBool (not b) (IsIdleExclusion g c) (¬ (IsIdleExclusion g c))
-idle_told g h all c is true any = some_excluded g h all c is any
-idle_told g h all c is false none = none_excluded g h all c is none
+-- no mapping of an idle spec is one that no earlier spec makes
+pub idle_earlier : (g : List Reading) (k : ℕ) (r : Reason) → IsIdleBy g k r → IsAlwaysEarlier g k
+idle_earlier g k reason.Invalid never = λ refs s d valid f. absurd (never refs s d f.maps)
+idle_earlier g k (reason.Excluded n) idle = λ refs s d valid f. absurd (idle.0 refs s d f)
+idle_earlier g k (reason.Duplicate h) idle = idle.0
 
 -- ---- an idle spec can be left out
 
@@ -121,14 +97,11 @@ was_any P (y ∷ l) zero any = later_any P y l any
 was_any P (y ∷ l) (suc k) (zero, x, below, is, holds) = (zero, x, omega arith, is, holds)
 was_any P (y ∷ l) (suc k) (suc j, x, below, is, holds) = later_any P y l (was_any P l k (j, x, omega (arith, below), is, holds))
 
-excluded_any : (l : List Reading) (n : List ℕ) → Any (IsExcludedBy n) l → IsExcluded l n
-excluded_any l n any = let (k, r, at, by) = any_at (IsExcludedBy n) l any in excluded_at l k r n at by
-
-any_excluded : (l : List Reading) (n : List ℕ) → IsExcluded l n → Any (IsExcludedBy n) l
-any_excluded l n by = let (j, r, at, of) = by_index l n by in some_at (IsExcludedBy n) l j r at of
+any_excluded : (l : List Reading) (n : List ℕ) → IsExcluded l n ↔ Any (IsExcludedBy n) l
+any_excluded l n = ((λ by. let (j, r, at, of) = by_index l n by in some_at (IsExcludedBy n) l j r at of), λ any. let (k, r, at, by) = any_at (IsExcludedBy n) l any in excluded_at l k r n at by)
 
 was_source : (l : List Reading) (k : ℕ) (s : Source) → IsSourceExcluded (without k l) s → IsSourceExcluded l s
-was_source l k (name n) by = excluded_any l n (was_any (IsExcludedBy n) l k (any_excluded (without k l) n by))
+was_source l k (name n) by = (any_excluded l n).1 (was_any (IsExcludedBy n) l k ((any_excluded (without k l) n).0 by))
 was_source l k (id bytes) none = none
 
 -- what isn't only at index k is elsewhere
@@ -140,29 +113,21 @@ elsewhere P l k there any =
 -- a positive spec excludes nothing
 stays_source : (l : List Reading) (k : ℕ) (c : Reading) (s : Source) → slice_get l k ≡ Some c → IsPositive c.mode → IsSourceExcluded l s → IsSourceExcluded (without k l) s
 stays_source l k c (name n) at positive by =
-    let (j, r, here, of) = by_index l n by in
-    let other : j ≢ k = λ same. let one : r ≡ c = same_Some _ _ (sym here ∙ ap (slice_get l) same ∙ at) in subst IsPositive (ap (λ (q : Reading). q.mode) (sym one) ∙ of.negative) positive in
-    excluded_any (without k l) n (stays_any (IsExcludedBy n) l k j r other here of)
+    (any_excluded (without k l) n).1 (elsewhere (IsExcludedBy n) l k (λ x is of. absurd (subst IsPositive (ap (λ (q : Reading). q.mode) (same_Some _ _ (sym at ∙ is)) ∙ of.negative) positive)) ((any_excluded l n).0 by))
 stays_source l k c (id bytes) at positive none = none
 
 made_of : {Y : Type 0} (P : ℕ → Reading → Y → Type 0) (g : List Reading) (idle : List Y) (u : Y) → IsMadeFrom P 0 g idle → Contains idle u → (j : ℕ) × (r : Reading) × (slice_get g j ≡ Some r) × P j r u
 made_of {Y} P g idle u made there =
-    let Q : Y → Type 0 = λ v. (j : ℕ) × (r : Reading) × (slice_get g j ≡ Some r) × P j r v in of_element Q idle u
-    (each_made P Q g idle (λ j r y at makes. (j, r, at, makes)) made) there
+    let Q : Y → Type 0 = λ v. (j : ℕ) × (r : Reading) × (slice_get g j ≡ Some r) × P j r v in of_element Q idle u (each_made P Q g idle (λ j r y at makes. (j, r, at, makes)) made) there
 
-module _ (g h : List Reading) (all : AllZip IsCompleted g h) (refs : List Ref) (valid : AreValid refs) (k : ℕ) where
-  -- a fetch of an idle spec is one of an earlier spec
-  earlier : (r : Reason) → IsIdleBy g k r → (s : Source) (d : Option (List ℕ)) → Fetches g refs k s d → Any (MakesForward refs s d) (without k h)
-  earlier reason.Invalid never s d f = absurd (never refs s d f.maps)
-  earlier (reason.Excluded n) (never, shown) s d f = absurd (never refs s d f)
-  earlier (reason.Duplicate i) (always, shown) s d f =
-      let (j, below, m) = always refs s d valid f in
-      stays_any (MakesForward refs s d) h k j m.completed (λ same. omega (arith, same, below)) (zip_to g h all j m.reading m.completed m.at m.is) m.makes
-
-  still_made : (r : Reason) → IsIdleBy g k r → (m : Mapped) → IsSound m → ¬ (IsSourceExcluded h m.source) → Any (MakesForward refs m.source m.destination) h → Any (MakesForward refs m.source m.destination) (without k h)
-  still_made r idle m sound included any = elsewhere (MakesForward refs m.source m.destination) h k (λ c at makes.
-      let maps = maps_of g h all k c at refs m.source m.destination makes in
-      earlier r idle m.source m.destination (record { maps = record { maps = maps; source = sound.source; destination = sound.destination }; included = λ by. included (still_excluded g h all m.source by) })) any
+-- a fetch of an idle spec is one of an earlier spec
+still_made : (g h : List Reading) → AllZip IsCompleted g h → (refs : List Ref) → AreValid refs → (k : ℕ) (r : Reason) → IsIdleBy g k r → (m : Mapped) → IsSound m → ¬ (IsSourceExcluded h m.source)
+    → Any (MakesForward refs m.source m.destination) h → Any (MakesForward refs m.source m.destination) (without k h)
+still_made g h all refs valid k r idle m sound included any = elsewhere (MakesForward refs m.source m.destination) h k (λ c at makes.
+    let maps = maps_of g h all k c at refs m.source m.destination makes in
+    let f : Fetches g refs k m.source m.destination = record { maps = record { maps = maps; source = sound.source; destination = sound.destination }; included = λ by. included (still_excluded g h all m.source by) } in
+    let (j, below, n) = idle_earlier g k r idle refs m.source m.destination valid f in
+    stays_any (MakesForward refs m.source m.destination) h k j n.completed (λ same. omega (arith, same, below)) (zip_to g h all j n.reading n.completed n.at n.is) n.makes) any
 
 pub idle_left_out : (g : List Reading) → IdleLeftOut g
 idle_left_out g idle u are there h refs kept rest all valid of_all of_rest m sound =
@@ -172,21 +137,19 @@ idle_left_out g idle u are there h refs kept rest all valid of_all of_rest m sou
     let reason_is : IsIdleBy g u.spec u.reason = subst (λ i. IsIdleBy g i u.reason) (sym same) by in
     let whole = (kept_exactly h refs).forward kept of_all m in
     let part = (kept_exactly (without u.spec h) refs).forward rest of_rest m in (
-      (λ has. let made = part.0 has in whole.1 (was_any (MakesForward refs m.source m.destination) h u.spec made.0, λ by. made.1 (in_rest q here positive by))),
+      (λ has. let made = part.0 has in whole.1 (
+        was_any (MakesForward refs m.source m.destination) h u.spec made.0,
+        λ by.
+            let (c, there, done) = completed_at g h all u.spec q here in made.1 (stays_source h u.spec c m.source there (subst IsPositive (sym done.mode) positive) by),
+      )),
       (λ has. let made = whole.0 has in part.1 (still_made g h all refs valid u.spec u.reason reason_is m sound made.1 made.0, λ by. made.1 (was_source h u.spec m.source by))),
     )
-  where
-    in_rest : (q : Reading) → slice_get g u.spec ≡ Some q → IsPositive q.mode → IsSourceExcluded h m.source → IsSourceExcluded (without u.spec h) m.source
-    in_rest q here positive by = let (c, at, done) = completed_at g h all u.spec q here in stays_source h u.spec c m.source at (subst IsPositive (sym done.mode) positive) by
 
 -- ---- idle negative specs
 
 module _ (g h : List Reading) (all : AllZip IsCompleted g h) (refs : List Ref) (k : ℕ) (q : Reading) (here : slice_get g k ≡ Some q) (idle : IsIdleExclusion g q) where
   of_index : (c : Reading) → slice_get h k ≡ Some c → IsCompleted q c × (c.mode ≡ Negative)
-  of_index c at =
-      let (r, there, done) = zip_of g h all k c at in
-      let one : IsCompleted q c = subst (λ x. IsCompleted x c) (same_Some _ _ (sym there ∙ here)) done in
-      (one, one.mode ∙ idle.negative)
+  of_index c at = grind (arith, zip_of, same_Some)
 
   -- what makes a mapping is another spec
   makes_elsewhere : (s : Source) (d : Option (List ℕ)) → Any (MakesForward refs s d) h → Any (MakesForward refs s d) (without k h)
@@ -195,9 +158,10 @@ module _ (g h : List Reading) (all : AllZip IsCompleted g h) (refs : List Ref) (
   -- and what excludes its source is another one
   excluded_elsewhere : (s : Source) (d : Option (List ℕ)) → IsValidSource s → CanBeWritten d → Any (MakesForward refs s d) h → IsSourceExcluded h s → IsSourceExcluded (without k h) s
   excluded_elsewhere (id bytes) d valid written any none = none
-  excluded_elsewhere (name n) d valid written any by = excluded_any (without k h) n (elsewhere (IsExcludedBy n) h k (λ c at excludes.
+  excluded_elsewhere (name n) d valid written any by = (any_excluded (without k h) n).1 (elsewhere (IsExcludedBy n) h k (λ c at excludes.
       let (i, e, there, makes) = any_at (MakesForward refs (name n) d) h any in
-      absurd (idle.excludes refs i n d (record { maps = maps_of g h all i e there refs (name n) d makes; source = valid; destination = written }) (same_excluded q c n (of_index c at).0 excludes))) (any_excluded h n by))
+      let sound : MapsSoundly g refs i (name n) d = record { maps = maps_of g h all i e there refs (name n) d makes; source = valid; destination = written } in
+      absurd (idle.excludes refs i n d sound (same_excluded q c n (of_index c at).0 excludes))) ((any_excluded h n).0 by))
 
 pub idle_exclusion_left_out : (g : List Reading) → IdleExclusionLeftOut g
 idle_exclusion_left_out g idle k are there h refs kept rest all of_all of_rest m sound =

@@ -1,14 +1,11 @@
 -- What a spec of two patterns fetches with the free byte in place of a word, and that the names that decide show each conflict of two.
-use Rattle.gix_refspec_lint.proofs.Common.{all_at, ◌≡◌, ◌≢◌, ◌⊎◌, inl, inr, ℕ, List, [], ◌∷◌, ◌++◌, codes, Some, map, append_assoc, refl, sym, ap, ◌∙◌, subst, AllByRecursion, Contains, slice_get}
-use Rattle.gix_refspec_lint.proofs.Common.{Contains-append_left, Contains-append_right, Ref, HasName, IsAccepted, Reading, star, IsSplit, BeginsWith, Lacks, lacks_no_pattern, all_join}
-use Rattle.gix_refspec_lint.proofs.Common.{all_left, all_right, first_once, Source, name, IsSourceExcluded, SidesLack, IsRefName, IsValidSource, mapped_there, one_name, CanBeWritten}
-use Rattle.gix_refspec_lint.proofs.Common.{IsCompleted, completed_destination, written_lacks, ConflictOver, Fetches, IsFree, refs_of, IsDeciding, IsLongerPrefix, IsLongerSuffix, IsMost, endings}
-use Rattle.gix_refspec_lint.proofs.Common.{parts, words_with, of_element}
-use Rattle.gix_refspec_lint.proofs.lemmas.IndexLemmas.{conflict_of_two, maps_as}
-use Rattle.gix_refspec_lint.proofs.lemmas.ByteLemmas.{excluded_moved, lacks_refs, name_with_byte, lacks_in}
-use Rattle.gix_refspec_lint.proofs.lemmas.WordLemmas.{begins_before, Around, IsParted, IsRefAround, between, common_name, ending_or_part, within}
+use Rattle.gix_refspec_lint.proofs.Common.{MakesForward, all_at, ◌≡◌, ◌≢◌, ◌⊎◌, inl, inr, ℕ, List, [], ◌∷◌, ◌++◌, codes, Some, map, append_assoc, refl, sym, ap, ◌∙◌, subst, AllByRecursion, Contains}
+use Rattle.gix_refspec_lint.proofs.Common.{slice_get, Contains-append_left, Contains-append_right, Ref, HasName, IsAccepted, Reading, star, IsSplit, BeginsWith, Lacks, lacks_no_pattern, all_join, all_left}
+use Rattle.gix_refspec_lint.proofs.Common.{all_right, first_once, Source, name, SidesLack, IsRefName, IsValidSource, mapped_there, one_name, CanBeWritten, IsCompleted, completed_destination, written_lacks}
+use Rattle.gix_refspec_lint.proofs.Common.{ConflictOver, Fetches, IsFree, refs_of, IsDeciding, IsLongerPrefix, IsLongerSuffix, IsMost, endings, parts, words_with, of_element}
+use Rattle.gix_refspec_lint.proofs.lemmas.{ByteLemmas.{excluded_moved, lacks_refs, name_with_byte, lacks_in}, IndexLemmas.{conflict_of_two, maps_as}, PatternLemmas.{MapsPattern, maps_pattern}}
+use Rattle.gix_refspec_lint.proofs.lemmas.{PatternLemmas.pattern_maps, WordLemmas.{begins_before, Around, IsParted, IsRefAround, between, common_name, ending_or_part, within}}
 use Rattle.gix_refspec.proofs.lemmas.validate.RefNameLemmas.{name_of_ref}
-use Rattle.gix_refspec_lint.proofs.lemmas.PatternLemmas.{MapsPattern, maps_pattern, pattern_maps}
 
 pub regroup : (p x e z y t : List ℕ) → p ++ ((x ++ ((e ++ z) ++ y)) ++ t) ≡ ((p ++ x) ++ e) ++ (z ++ (y ++ t))
 regroup p x e z y t = simp append_assoc
@@ -23,11 +20,6 @@ pub record IsWithByte (z : ℕ) (v : List ℕ) (ts : List Around) : Type 0 where
   pub written : AllByRecursion (λ t. CanBeWritten (Some (t.front ++ ((ending ++ z ∷ []) ++ t.back)))) ts
 
 module _ (g : List Reading) (z : ℕ) (free : IsFree g z) where
-  lacks_ending : (e : List ℕ) → Contains endings e → Lacks z e
-  lacks_ending e listed =
-      let all = lacks_refs z free.usable in
-      of_element (Lacks z) endings e (tt, (all.1.1.1.1, (all.1.1.1, (all.1.1, (all.1, (all, tt)))))) listed
-
   ref_moved : (e rest : List ℕ) (ts : List Around) → AllByRecursion (λ a. BeginsWith (codes "refs/") (a ++ e)) (map (λ t. t.front) ts) → AllByRecursion (IsRefAround (e ++ rest)) ts
       → AllByRecursion (λ t. CanBeWritten (Some (t.front ++ ((e ++ z ∷ []) ++ t.back)))) ts
   ref_moved e rest [] begins all = tt
@@ -36,14 +28,9 @@ module _ (g : List Reading) (z : ℕ) (free : IsFree g z) where
       let whole = begins_before x (rest ++ t.back) begins.0 in
       let same : t.front ++ ((e ++ z ∷ []) ++ t.back) ≡ x ++ (z ∷ t.back) = simp append_assoc in
       let was : t.front ++ ((e ++ rest) ++ t.back) ≡ x ++ (rest ++ t.back) = simp append_assoc in
-      let named = name_of_ref (x ++ (rest ++ t.back)) (subst IsRefName was all.0) in (
-        rw same (
-          begins_before x (z ∷ t.back) begins.0,
-          name_with_byte z free.usable x rest t.back
-              (λ none. let same : codes "refs/" ++ whole.after ≡ [] = sym whole.here ∙ none in cc) named,
-        ),
-        ref_moved e rest ts begins.1 all.1,
-      )
+      let named = name_of_ref (x ++ (rest ++ t.back)) (subst IsRefName was all.0) in
+      let some : x ++ (rest ++ t.back) ≢ [] = λ none. let same : codes "refs/" ++ whole.after ≡ [] = sym whole.here ∙ none in cc in
+      (rw same (begins_before x (z ∷ t.back) begins.0, name_with_byte z free.usable x rest t.back some named), ref_moved e rest ts begins.1 all.1)
 
   -- a word in several names of refs is one of the words, or the byte comes in place of its rest
   pub word_or_moved : (v : List ℕ) (ts : List Around) → AllByRecursion (IsRefAround v) ts → Contains (words_with z) v ⊎ IsWithByte z v ts
@@ -53,7 +40,7 @@ module _ (g : List Reading) (z : ℕ) (free : IsFree g z) where
       ending = h.ending;
       rest = h.rest;
       is = h.is;
-      lacks = lacks_ending h.ending h.listed;
+      lacks = let all = lacks_refs z free.usable in of_element (Lacks z) endings h.ending (tt, (all.1.1.1.1, (all.1.1.1, (all.1.1, (all.1, (all, tt)))))) h.listed;
       listed = Contains-append_left (map (λ u. u ++ z ∷ []) endings) parts (h.ending ++ z ∷ []) (mapped_there (λ u. u ++ z ∷ []) endings h.ending h.listed);
       written = ref_moved h.ending h.rest ts h.begin (subst (λ u. AllByRecursion (IsRefAround u) ts) h.is all);
     })
@@ -82,29 +69,29 @@ module _ (g : List Reading) (z : ℕ) (free : IsFree g z) where
     pub mapped_so : MapsPattern f.maps.maps.completed a b s n
     mapped_so = maps_pattern f.maps.maps.completed accepted d a b has split refs s n f.maps.maps.makes
 
-    pub old_source : (x e rest y : List ℕ) → mapped_so.word ≡ x ++ ((e ++ rest) ++ y) → s ≡ name (((mapped_so.before ++ x) ++ e) ++ (rest ++ (y ++ mapped_so.after)))
-    old_source x e rest y word = mapped_so.source ∙ ap (λ w. name (mapped_so.before ++ (w ++ mapped_so.after))) word ∙ ap name (regroup mapped_so.before x e rest y mapped_so.after)
-
-    pub fetches_moved : (few : List Ref) (x e rest y m n : List ℕ) → mapped_so.word ≡ x ++ ((e ++ rest) ++ y) → CanBeWritten (Some n) → CanBeWritten (Some m) → m ≡ a ++ ((x ++ ((e ++ z ∷ []) ++ y)) ++ b)
-        → n ≡ (mapped_so.before ++ x) ++ ((e ++ z ∷ []) ++ (y ++ mapped_so.after)) → HasName few n → Fetches g few k (name n) (Some m)
-    fetches_moved few x e rest y m n word valid written is source there =
-        let w = x ++ ((e ++ z ∷ []) ++ y) in
-        let at : n ≡ mapped_so.before ++ (w ++ mapped_so.after) = source ∙ between mapped_so.before x (e ++ z ∷ []) y mapped_so.after in
-        let makes = pattern_maps f.maps.maps.completed accepted d a b has split few mapped_so.before mapped_so.after w mapped_so.positive mapped_so.side (subst (HasName few) at there) in
-        record {
-          maps = record { maps = maps_as f.maps.maps (rw (at, is) makes); source = inl valid; destination = written };
-          included = λ excluded. f.included (rw (old_source x e rest y word) (excluded_moved z free.usable g ((mapped_so.before ++ x) ++ e) rest (y ++ mapped_so.after) free.lacks
-              (subst (λ u. IsSourceExcluded g (name u)) (at ∙ regroup mapped_so.before x e (z ∷ []) y mapped_so.after) excluded)));
-        }
-
-    pub lacks_front : (x e : List ℕ) → Lacks z x → Lacks z e → Lacks z ((mapped_so.before ++ x) ++ e)
-    lacks_front x e lacks also =
-        let text = lacks_source k f.maps.maps.reading f.maps.maps.completed mapped_so.side.text f.maps.maps.at f.maps.maps.is mapped_so.side.has in
-        all_join (λ c. c ≢ z) (mapped_so.before ++ x) e (all_join (λ c. c ≢ z) mapped_so.before x
-        (lacks_parts mapped_so.side.text mapped_so.before mapped_so.after text mapped_so.side.split).0 lacks) also
-
     pub lacks_sides : Lacks z a × Lacks z b
     lacks_sides = lacks_parts d a b (lacks_destination k f.maps.maps.reading f.maps.maps.completed d a b f.maps.maps.at f.maps.maps.is has split) split
+
+    -- the texts around the rest of its word in the source, and that it fetches from them with the byte there
+    pub moved_so : (x e rest y m : List ℕ) → mapped_so.word ≡ x ++ ((e ++ rest) ++ y) → Lacks z x → Lacks z e → CanBeWritten (Some ((mapped_so.before ++ x) ++ ((e ++ z ∷ []) ++ (y ++ mapped_so.after))))
+        → CanBeWritten (Some m) → m ≡ a ++ ((x ++ ((e ++ z ∷ []) ++ y)) ++ b)
+        → (front : List ℕ) × (back : List ℕ) × (s ≡ name (front ++ (rest ++ back))) × Lacks z front × ((few : List Ref) → HasName few (front ++ (z ∷ back)) → Fetches g few k (name (front ++ (z ∷ back))) (Some m))
+    moved_so x e rest y m word lacks also valid written is =
+        let q = mapped_so in
+        let c = f.maps.maps.completed in
+        let w = x ++ ((e ++ z ∷ []) ++ y) in
+        let front = (q.before ++ x) ++ e in
+        let back = y ++ q.after in
+        let was : s ≡ name (front ++ (rest ++ back)) = q.source ∙ ap (λ v. name (q.before ++ (v ++ q.after))) word ∙ ap name (regroup q.before x e rest y q.after) in
+        let same : q.before ++ (w ++ q.after) ≡ front ++ (z ∷ back) = regroup q.before x e (z ∷ []) y q.after in
+        let text = lacks_source k f.maps.maps.reading c q.side.text f.maps.maps.at f.maps.maps.is q.side.has in
+        let before = all_join (λ c. c ≢ z) q.before x (lacks_parts q.side.text q.before q.after text q.side.split).0 lacks in
+        let fetches : (few : List Ref) → HasName few (front ++ (z ∷ back)) → Fetches g few k (name (front ++ (z ∷ back))) (Some m) = λ few there.
+        let makes = pattern_maps c accepted d a b has split few q.before q.after w q.positive q.side (subst (HasName few) (sym same) there) in
+        let moved = subst (λ o. MakesForward few (name o) (Some m) c) same (subst (λ o. MakesForward few (name (q.before ++ (w ++ q.after))) (Some o) c) (sym is) makes) in
+        let own : IsValidSource (name (front ++ (z ∷ back))) = inl (subst (λ o. CanBeWritten (Some o)) (between q.before x (e ++ z ∷ []) y q.after ∙ same) valid) in
+        record { maps = record { maps = maps_as f.maps.maps moved; source = own; destination = written }; included = λ by. f.included (rw was (excluded_moved z free.usable g front rest back free.lacks by)) } in
+        (front, back, was, all_join (λ c. c ≢ z) (q.before ++ x) e before also, fetches)
 
 -- ---- conflicts of two patterns
 
@@ -138,62 +125,30 @@ module _ (g : List Reading) (z : ℕ) (free : IsFree g z) (i j : ℕ) (refs : Li
       ∷ []
 
   module _ (w : IsParted a b p q prefix suffix n one.word other.word) (h : IsWithByte z w.word (around w)) where
-    abbrev v : List ℕ
-    v = h.ending ++ z ∷ []
-
-    abbrev first : List ℕ
-    first = (one.before ++ w.x) ++ (v ++ (w.y ++ one.after))
-
-    abbrev second : List ℕ
-    second = (other.before ++ w.p) ++ (v ++ (w.q ++ other.after))
-
-    one_word_is : one.word ≡ w.x ++ ((h.ending ++ h.rest) ++ w.y)
-    one_word_is = w.one ∙ ap (λ v. w.x ++ (v ++ w.y)) h.is
-
-    other_word_is : other.word ≡ w.p ++ ((h.ending ++ h.rest) ++ w.q)
-    other_word_is = w.other ∙ ap (λ v. w.p ++ (v ++ w.q)) h.is
-
     lacks_prefix : Lacks z prefix
-    lacks_prefix = elim longer.is [
-      | inl is ↦ rw is (lacks_sides g z free refs i s n c.one accepted d a b has split).0
-      | inr is ↦ rw is (lacks_sides g z free refs j t n c.other also e p q also_has also_split).0
-    ]
-
-    apart : name first ≡ name second → s ≡ t
-    apart same =
-        let texts : ((one.before ++ w.x) ++ h.ending) ++ (z ∷ (w.y ++ one.after)) ≡ ((other.before ++ w.p) ++ h.ending) ++ (z ∷ (w.q ++ other.after)) = simp append_assoc (simp append_assoc at (one_name first second same)) in
-        let both = first_once z ((one.before ++ w.x) ++ h.ending) ((other.before ++ w.p) ++ h.ending) (w.y ++ one.after) (w.q ++ other.after)
-        (lacks_front g z free refs i s n c.one accepted d a b has split w.x h.ending (all_right (λ c. c ≢ z) a w.x (subst (Lacks z) w.before lacks_prefix)) h.lacks)
-        (lacks_front g z free refs j t n c.other also e p q also_has also_split w.p h.ending (all_right (λ c. c ≢ z) p w.p (subst (Lacks z) w.front lacks_prefix)) h.lacks)
-        texts in
-        let was = old_source g z free refs i s n c.one accepted d a b has split w.x h.ending h.rest w.y one_word_is in
-        let other_was = old_source g z free refs j t n c.other also e p q also_has also_split w.p h.ending h.rest w.q other_word_is in
-        cc (was, other_was, both.0, both.1)
+    lacks_prefix = elim longer.is [ inl is ↦ rw is (lacks_sides g z free refs i s n c.one accepted d a b has split).0 | inr is ↦ rw is (lacks_sides g z free refs j t n c.other also e p q also_has also_split).0 ]
 
     by_ending : DecidesConflict g z prefix suffix most i j
     by_ending =
-        let few = refs_of (name first) ++ refs_of (name second) in
+        let v = h.ending ++ z ∷ [] in
         let m = prefix ++ (v ++ suffix) in
-        record {
-          name = m;
-          deciding = inl (v, h.listed, refl);
-          one = name first;
-          other = name second;
-          conflict = record {
-            one = fetches_moved g z free refs i s n c.one accepted d a b has split few w.x h.ending h.rest w.y m first one_word_is h.written.0 h.written.1.1.0 (within a b prefix suffix w.x w.y v w.before w.after) refl (inl refl);
-            other = fetches_moved g z free refs j t n c.other also e p q also_has also_split few w.p h.ending h.rest w.q m second other_word_is h.written.1.0 h.written.1.1.0 (within p q prefix suffix w.p w.q v w.front w.back) refl (inr (inl refl));
-            differ = λ same. c.differ (apart same);
-          };
-        }
+        let (front, back, was, lacks, fetches) = moved_so g z free refs i s n c.one accepted d a b has split w.x h.ending h.rest w.y m (w.one ∙ ap (λ v. w.x ++ (v ++ w.y)) h.is)
+        (all_right (λ c. c ≢ z) a w.x (subst (Lacks z) w.before lacks_prefix)) h.lacks h.written.0 h.written.1.1.0 (within a b prefix suffix w.x w.y v w.before w.after) in
+        let (start, end, other_was, other_lacks, other_fetches) = moved_so g z free refs j t n c.other also e p q also_has also_split w.p h.ending h.rest w.q m (w.other ∙ ap (λ v. w.p ++ (v ++ w.q)) h.is)
+        (all_right (λ c. c ≢ z) p w.p (subst (Lacks z) w.front lacks_prefix)) h.lacks h.written.1.0 h.written.1.1.0 (within p q prefix suffix w.p w.q v w.front w.back) in
+        let few = refs_of (name (front ++ (z ∷ back))) ++ refs_of (name (start ++ (z ∷ end))) in
+        let differ = λ (same : name (front ++ (z ∷ back)) ≡ name (start ++ (z ∷ end))).
+        let both = first_once z front start back end lacks other_lacks (one_name (front ++ (z ∷ back)) (start ++ (z ∷ end)) same) in
+        let sources : s ≡ t = cc (was, other_was, both.0, both.1) in
+        c.differ sources in
+        let conflict : ConflictOver g few i j (name (front ++ (z ∷ back))) (name (start ++ (z ∷ end))) m = record { one = fetches few (inl refl); other = other_fetches few (inr (inl refl)); differ = differ } in
+        record { name = m; deciding = inl (v, h.listed, refl); one = name (front ++ (z ∷ back)); other = name (start ++ (z ∷ end)); conflict = conflict }
 
   valid_around : (w : IsParted a b p q prefix suffix n one.word other.word) → AllByRecursion (IsRefAround w.word) (around w)
-  valid_around w = (
-    subst IsValidSource (one.source ∙ ap (λ v. name (one.before ++ (v ++ one.after))) w.one ∙ ap name (sym (between one.before w.x w.word w.y one.after))) c.one.maps.source,
-    (
-      subst IsValidSource (other.source ∙ ap (λ v. name (other.before ++ (v ++ other.after))) w.other ∙ ap name (sym (between other.before w.p w.word w.q other.after))) c.other.maps.source,
-      (subst IsRefName w.whole (inl c.one.maps.destination), tt),
-    ),
-  )
+  valid_around w =
+      let own = subst IsValidSource (one.source ∙ ap (λ v. name (one.before ++ (v ++ one.after))) w.one ∙ ap name (sym (between one.before w.x w.word w.y one.after))) c.one.maps.source in
+      let others = subst IsValidSource (other.source ∙ ap (λ v. name (other.before ++ (v ++ other.after))) w.other ∙ ap name (sym (between other.before w.p w.word w.q other.after))) c.other.maps.source in
+      (own, (others, (subst IsRefName w.whole (inl c.one.maps.destination), tt)))
 
   pub decided : DecidesConflict g z prefix suffix most i j
   decided = elim (common_name (words_with z) a b p q prefix suffix most n one.word other.word longer ends is_most one.fits other.fits) [

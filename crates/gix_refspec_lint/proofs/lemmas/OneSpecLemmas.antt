@@ -1,14 +1,12 @@
 -- What one spec maps, and what a group excludes.
-use Rattle.gix_refspec_lint.proofs.Common.{all_weaker, ◌≡◌, inl, inr, ◌↔◌, ℕ, zero, suc, List, [], ◌∷◌, Option, None, Some, MatchOption, map, get_or, length, ◌<◌, refl, sym, ap, ◌∙◌, subst, arith, AllByRecursion}
-use Rattle.gix_refspec_lint.proofs.Common.{Any, slice_get, get_or-map, length-map, Ref, IsPositive, Reading, AreKeptForward, Source, name, id, Mapped, HasPair, IsExcluded, IsExcludedBy, IsSamePair}
+use Rattle.gix_refspec_lint.proofs.Common.{all_weaker, ◌≡◌, inl, inr, ◌↔◌, ℕ, List, [], ◌∷◌, Option, None, Some, MatchOption, map, get_or, length, ◌<◌, refl, sym, ap, ◌∙◌, subst, arith, AllByRecursion}
+use Rattle.gix_refspec_lint.proofs.Common.{slice_get, get_or-map, length-map, Ref, IsPositive, Reading, AreKeptForward, Source, name, id, Mapped, HasPair, IsExcluded, IsExcludedBy, IsSamePair}
 use Rattle.gix_refspec_lint.proofs.Common.{IsSourceExcluded, mapped_of, Mapping, MakesForward, kept_exactly, Bool, true, false, MatchBool, is_some, HaveSameNames, IsValidSource, CanBeWritten, IsSound}
-use Rattle.gix_refspec_lint.proofs.Common.{refs_of, ExcludesFrom, MakesSoundly, pair_of, Bor, IsTrue, nat_eq, pointwise, false≢true, Decides-eqb, same_Some, slice_eq-Decides, Excludes, Fits}
-use Rattle.gix_refspec_lint.proofs.Common.{by_pattern, the_name, IsAccepted, Negative, star, IsSplit, Lacks, lacks_no_pattern, split_once, HasSourcePattern, HasParts}
-use Rattle.gix_refspec_match.specs.declared.exclusions.Exclusions.{Exclusions}
-use Rattle.gix_refspec_match.specs.Private.Kept.{AreExclusionsAt, AreExclusionsOf, ExcludeName, ExcludeNameAt}
-use Rattle.gix_refspec_match.proofs.lemmas.keep.KeptLemmas.{HasPair-from_place}
+use Rattle.gix_refspec_lint.proofs.Common.{refs_of, ExcludesFrom, MakesSoundly, pair_of, Bor, IsTrue, nat_eq, pointwise, false≢true, Decides-eqb, same_Some, slice_eq-Decides, Excludes, Fits, by_pattern}
+use Rattle.gix_refspec_lint.proofs.{Common.{the_name, IsAccepted, Negative, IsSplit, lacks_no_pattern, split_once, HasSourcePattern, HasParts}, lemmas.FoundLemmas.{makes_also, unsplit_lacks}}
 use Rattle.gix_refspec_lint.proofs.lemmas.IndexLemmas.{made_there, makes_fewer, own_among, own_there}
-use Rattle.gix_refspec_lint.proofs.lemmas.FoundLemmas.{makes_also, unsplit_lacks}
+use Rattle.gix_refspec_match.{proofs.lemmas.keep.KeptLemmas.HasPair-from_place, specs.Private.Kept.{AreExclusionsAt, AreExclusionsOf, ExcludeName, ExcludeNameAt}}
+use Rattle.gix_refspec_match.specs.declared.exclusions.Exclusions.{Exclusions}
 
 pub tells_excluding : (g : List Reading) (es : Exclusions) (n : List ℕ) (answer : Option ℕ) → AreExclusionsOf g es → AreExclusionsAt g es → MatchOption answer (¬ (ExcludeName es n)) (ExcludeNameAt es n)
     → MatchOption answer (¬ (IsExcluded g n)) (λ k. (x : List ℕ) × (name n ≡ name x) × ((r : Reading) × (slice_get g k ≡ Some r) × IsExcludedBy x r))
@@ -20,18 +18,13 @@ makes_positive refs (name n) d r makes = makes.has.positive
 makes_positive refs (id bytes) d r makes = makes.positive
 
 none_excluded : (r : Reading) (s : Source) → IsPositive r.mode → ¬ (IsSourceExcluded (r ∷ []) s)
-none_excluded r (name n) positive (inl by) = subst IsPositive by.negative positive
-none_excluded r (name n) positive (inr none) = none
+none_excluded r (name n) positive by = elim by [ inl one ↦ subst IsPositive one.negative positive | inr none ↦ none ]
 none_excluded r (id bytes) positive none = none
-
-only_one : {X : Type 0} (P : X → Type 0) (x : X) → Any P (x ∷ []) → P x
-only_one P x (zero, y, below, is, holds) = subst P (sym is) holds
-only_one P x (suc k, y, below, is, holds) = absurd (omega (arith, below))
 
 pub kept_alone : (r : Reading) (refs : List Ref) (kept : List Mapped) (pair : Mapped) → AreKeptForward (r ∷ []) refs kept → HasPair kept pair ↔ MakesForward refs pair.source pair.destination r
 kept_alone r refs kept pair are =
     let exact = (kept_exactly (r ∷ []) refs).forward kept are pair in (
-      (λ has. only_one (MakesForward refs pair.source pair.destination) r (exact.0 has).0),
+      (λ has. let (k, q, below, is, makes) = (exact.0 has).0 in let first : k ≡ 0 = omega (arith, below) in subst (MakesForward refs pair.source pair.destination) (sym (rw first at is)) makes),
       (λ makes. exact.1 ((0, r, omega arith, refl, makes), none_excluded r pair.source (makes_positive refs pair.source pair.destination r makes))),
     )
 
@@ -51,11 +44,8 @@ pub sound_there : (c : Reading) (refs : List Ref) (l : List Mapping) (k : ℕ) (
     → (mapped_of m).source ≡ s → IsSound (mapped_of m) → MakesSoundly refs s (mapped_of m).destination c
 sound_there c refs l k m s kept below is same sound =
     let has = pair_there l k m (mapped_of m) below is (record { source = refl; destination = refl }) in
-    record {
-      makes = subst (λ t. MakesForward refs t (mapped_of m).destination c) same ((kept_alone c refs (map mapped_of l) (mapped_of m) kept).0 has);
-      source = subst IsValidSource same sound.source;
-      destination = sound.destination;
-    }
+    let makes = subst (λ t. MakesForward refs t (mapped_of m).destination c) same ((kept_alone c refs (map mapped_of l) (mapped_of m) kept).0 has) in
+    record { makes = makes; source = subst IsValidSource same sound.source; destination = sound.destination }
 
 pub none_sound : (c : Reading) (refs : List Ref) (kept : List Mapped) (s : Source) → AreKeptForward (c ∷ []) refs kept → AllByRecursion (λ m. m.source ≡ s → ¬ (IsSound m)) kept
     → (d : Option (List ℕ)) → ¬ (MakesSoundly refs s d c)
@@ -64,15 +54,8 @@ none_sound c refs kept s are all d makes =
     (λ m none same. none same.source (record { source = subst IsValidSource (sym same.source) makes.source; destination = subst CanBeWritten (sym same.destination) makes.destination }))
     kept all) ((kept_alone c refs kept (pair_of s d) are).1 makes.makes)
 
-pub sound_also : (A B : List Ref) (s : Source) (d : Option (List ℕ)) (c : Reading) → HaveSameNames A B → MakesSoundly A s d c → MakesSoundly B s d c
+sound_also : (A B : List Ref) (s : Source) (d : Option (List ℕ)) (c : Reading) → HaveSameNames A B → MakesSoundly A s d c → MakesSoundly B s d c
 sound_also A B s d c same makes = record { makes = makes_also A B s d c same makes.makes; source = makes.source; destination = makes.destination }
-
-pub sound_alone : (refs : List Ref) (s : Source) (d : Option (List ℕ)) (c : Reading) → MakesSoundly refs s d c → MakesSoundly (refs_of s) s d c
-sound_alone refs s d c makes = record {
-  makes = makes_fewer refs (refs_of s) s d c (own_among refs s (made_there refs s d c makes.makes)) (own_there s) makes.makes;
-  source = makes.source;
-  destination = makes.destination;
-}
 
 -- what a search for a sound mapping says of refs of these names
 pub alone_told : (refs few : List Ref) (s : Source) (c : Reading) (found : Option Mapping) → HaveSameNames refs few
@@ -85,7 +68,7 @@ alone_told refs few s c (Some m) same makes = ((mapped_of m).destination, sound_
 pub excludes_told : (n c : Reading) (s : Source) (b : Bool) → IsSourceExcluded (n ∷ []) s → MatchBool b ((d : Option (List ℕ)) × MakesSoundly (refs_of s) s d c) ((d : Option (List ℕ)) → ¬ (MakesSoundly (refs_of s) s d c))
     → MatchBool b (ExcludesFrom n c s) (¬ (ExcludesFrom n c s))
 excludes_told n c s true by (d, makes) = record { refs = refs_of s; destination = d; makes = makes; excludes = by }
-excludes_told n c s false by none = λ e. none e.destination (sound_alone e.refs s e.destination c e.makes)
+excludes_told n c s false by none = grind (arith, makes_fewer, own_among, made_there, own_there)
 
 -- ---- what a negative spec excludes
 
@@ -111,18 +94,15 @@ module _ (r : Reading) (x : List ℕ) (negative : r.mode ≡ Negative) (has : r.
   excludes_by excludes = inl (record { negative = negative; text = x; source = has; excludes = excludes })
 
   pub plain_excludes : (b : Bool) → ∥ IsAccepted r ∥₁ → ((y before after : List ℕ) → Some x ≡ Some y → ¬ (IsSplit before after y)) → (b ≡ true) ↔ (x ≡ n) → IsTrue b ↔ IsSourceExcluded (r ∷ []) (name n)
-  plain_excludes b accepted none same = ((λ told. excludes_by (the_name lacks (sym (same.0 told)))), (λ by. same.1 (own_name x n (λ before after. none x before after refl) (text_excludes by))))
-    where
-      lacks : Lacks star x
-      lacks = unsplit_lacks r accepted x (inl has) (λ before after. none x before after refl)
+  plain_excludes b accepted none same =
+      let unsplit : (before after : List ℕ) → ¬ (IsSplit before after x) = λ before after. none x before after refl in
+      ((λ told. excludes_by (the_name (unsplit_lacks r accepted x (inl has) unsplit) (sym (same.0 told)))), λ by. same.1 (own_name x n unsplit (text_excludes by)))
 
   pub pattern_excludes : (before after : List ℕ) (word : Option (Bor (List ℕ))) → ((y : List ℕ) × (Some x ≡ Some y) × IsSplit before after y)
       → MatchOption word ((w : List ℕ) → ¬ (Fits before after n w)) (λ w. Fits before after n w.now) → IsTrue (is_some word) ↔ IsSourceExcluded (r ∷ []) (name n)
   pattern_excludes before after (Some w) (y, is, split) fits = ((λ told. excludes_by (by_pattern before after w.now (subst (IsSplit before after) (sym (same_Some _ _ is)) split) fits)), (λ by. refl))
-  pattern_excludes before after None (y, is, split) none = (
-    (λ told. absurd (false≢true told)),
-    (λ by. let (w, fits) = fits_excluded x before after n (subst (IsSplit before after) (sym (same_Some _ _ is)) split) (text_excludes by) in absurd (none w fits)),
-  )
+  pattern_excludes before after None (y, is, split) none =
+      ((λ told. absurd (false≢true told)), λ by. let (w, fits) = fits_excluded x before after n (subst (IsSplit before after) (sym (same_Some _ _ is)) split) (text_excludes by) in absurd (none w fits))
 
 pub same_bytes : (x y n : List ℕ) {b : Bool} → b ≡ pointwise nat_eq x y → y ≡ n → (b ≡ true) ↔ (x ≡ n)
 same_bytes x y n is same = let tells = slice_eq-Decides Decides-eqb x y _ is in ((λ told. tells.0 told ∙ same), (λ equal. tells.1 (equal ∙ sym same)))

@@ -1,6 +1,5 @@
 -- A side without a star excludes its own name, and a pattern each that has a word for the star.
-use Rattle.gix_refspec_lint.proofs.Common.{inl, sym, ap, ◌∙◌, option_map, bstr_bytes, reading_of, accepted_few}
-use Rattle.gix_refspec_lint.proofs.lemmas.OneSpecLemmas.{pattern_excludes, plain_excludes, same_bytes}
+use Rattle.gix_refspec_lint.proofs.{Common.{inl, sym, ap, ◌∙◌, option_map, bstr_bytes, reading_of, accepted_few}, lemmas.OneSpecLemmas.{pattern_excludes, plain_excludes, same_bytes}}
 use Rattle.gix_refspec_lint.proofs.exclusions.does_exclude.Goals as goal
 
 pub parts_of-requires : goal.parts_of-requires

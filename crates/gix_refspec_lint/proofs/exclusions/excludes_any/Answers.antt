@@ -1,11 +1,9 @@
-use Rattle.gix_refspec_lint.proofs.Common.{of_element, some_at, take_all, arith, MatchBool-at_false, MatchBool-at_true, reading_of, one_more_mapped, ExcludesSome}
-use Rattle.gix_refspec_lint.proofs.lemmas.IndexLemmas.{reading_at}
+use Rattle.gix_refspec_lint.proofs.{Common.{of_element, some_at, take_all, arith, MatchBool-at_false, MatchBool-at_true, reading_of, one_more_mapped, ExcludesSome}, lemmas.IndexLemmas.reading_at}
 use Rattle.gix_refspec_lint.proofs.exclusions.excludes_any.Goals as goal
 
 pub returns-then-branch : goal.returns-then-branch
 returns-then-branch c g is =
-    some_at (ExcludesSome (reading_of c.args.negative.now)) _ c.loop-spec.spec-index _
-    (reading_at c.args.group.now.specs.now c.loop-spec.spec-index c.spec-item.result c.loop-spec-test.true)
+    some_at (ExcludesSome (reading_of c.args.negative.now)) _ c.loop-spec.spec-index _ (reading_at c.args.group.now.specs.now c.loop-spec.spec-index c.spec-item.result c.loop-spec-test.true)
     (rw c.spec-item.is at (MatchBool-at_true _ _ c.if-branch.true (c.in_ok-excludes_of.ensures g is)))
 
 pub loop-spec-preserved : goal.loop-spec-preserved

@@ -1,5 +1,4 @@
-use Rattle.gix_refspec_lint.proofs.Common.{inl, option_map, sym, ap, ◌∙◌, IfOk-weaker, bstr_bytes, reading_of, accepted_few}
-use Rattle.gix_refspec_lint.proofs.lemmas.{LeftOutLemmas.{none_apart, plain_only}, OneSpecLemmas.parts_pattern}
+use Rattle.gix_refspec_lint.proofs.{Common.{inl, option_map, sym, ap, ◌∙◌, IfOk-weaker, bstr_bytes, reading_of, accepted_few}, lemmas.{LeftOutLemmas.{none_apart, plain_only}, OneSpecLemmas.parts_pattern}}
 use Rattle.gix_refspec_lint.proofs.exclusions.excludes_of.Goals as goal
 
 pub parts_of-requires : goal.parts_of-requires
@@ -23,12 +22,7 @@ returns-in-None c g is =
     (parts_pattern _ c.in-Some-parts_of-2.parts (rw c.source-3.ensures at c.in-Some-parts_of-2.ensures)) (parts_pattern _ c.in-Some-parts_of.taken (rw c.source-2.ensures at c.in-Some-parts_of.ensures)) c.in-None.ensures
 
 pub returns-in-Some-of : goal.returns-in-Some-of
-returns-in-Some-of c g is = c.excludes_common.ensures g is (record {
-  before = _;
-  after = _;
-  prefix = _;
-  suffix = _;
-  one = parts_pattern _ c.in-Some-parts_of-2.parts (rw c.source-3.ensures at c.in-Some-parts_of-2.ensures);
-  other = parts_pattern _ c.in-Some-parts_of.taken (rw c.source-2.ensures at c.in-Some-parts_of.ensures);
-  shared = c.in-Some-of.ensures;
-})
+returns-in-Some-of c g is =
+    let one = parts_pattern (reading_of c.args.negative.now) c.in-Some-parts_of-2.parts (rw c.source-3.ensures at c.in-Some-parts_of-2.ensures) in
+    let other = parts_pattern (reading_of c.args.spec.now) c.in-Some-parts_of.taken (rw c.source-2.ensures at c.in-Some-parts_of.ensures) in
+    c.excludes_common.ensures g is (record { before = _; after = _; prefix = _; suffix = _; one = one; other = other; shared = c.in-Some-of.ensures })

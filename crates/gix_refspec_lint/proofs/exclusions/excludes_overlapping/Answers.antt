@@ -1,8 +1,7 @@
-use Rattle.gix_refspec_lint.proofs.Common.{ℕ, List, take_all, arith, MatchBool-at_false, reading_of, name, ExcludesFrom, AreOverlaps, IsUnsound}
-use Rattle.gix_refspec_lint.proofs.lemmas.RunLemmas.{each_overlap, none_so_far, one_more, passed_over}
-use Rattle.gix_refspec_lint.proofs.lemmas.FailLemmas.{unsound_again, unsound_none}
+use Rattle.gix_refspec_lint.proofs.{Common.{ℕ, List, MatchBool-at_false, reading_of, name, ExcludesFrom, AreOverlaps, IsUnsound}, exclusions.excludes_overlapping.Goals.in-Some}
+use Rattle.gix_refspec_lint.proofs.{exclusions.excludes_overlapping.Goals.in-None+in_ok-name-in-None+in_ok-why-in-None+in_ok-excludes_at-in-None+else-branch, lemmas.FailLemmas.unsound_again}
+use Rattle.gix_refspec_lint.proofs.lemmas.{FailLemmas.unsound_none, RunLemmas.{none_so_far, one_more, passed_over}}
 use Rattle.gix_refspec_lint.proofs.exclusions.excludes_overlapping.Goals as goal
-use Rattle.gix_refspec_lint.proofs.exclusions.excludes_overlapping.Goals.{in-Some, in-None+in_ok-name-in-None+in_ok-why-in-None+in_ok-excludes_at-in-None+else-branch}
 
 pub loop-shared-init : goal.loop-shared-init
 loop-shared-init c = none_so_far (λ n. ¬ (ExcludesFrom (reading_of c.args.negative.now) (reading_of c.args.spec.now) (name n))) (IsUnsound (reading_of c.args.spec.now)) c.args.common.now.prefix.now c.args.common.now.suffix.now c.none-run.result tt c.none-run.ensures
@@ -22,9 +21,3 @@ loop-shared-preserved c =
           (rw (w.source_named.ensures, w.in_ok-name-in-None.ensures) at (MatchBool-at_false _ _ w.if-branch.false w.in_ok-excludes_at-in-None.ensures))
           (rw w.why-is (rw w.in_ok-name-in-None.ensures at w.in_ok-why-in-None.ensures)) c.with-run.ensures
     ]
-
-pub returns : goal.returns
-returns c =
-    let list = c.deref-shared-items.result.now in
-    each_overlap (λ n. ¬ (ExcludesFrom (reading_of c.args.negative.now) (reading_of c.args.spec.now) (name n))) _ _ _ list
-    (rw c.deref-shared-items.ensures.value c.in_ok-overlaps.ensures) (rw (take_all c.loop-shared.shared-index list (omega arith)) at c.loop-shared.invariant.all)

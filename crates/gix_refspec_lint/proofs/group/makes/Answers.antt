@@ -1,5 +1,4 @@
-use Rattle.gix_refspec_lint.proofs.Common.{option_map, refl, sym, ◌∙◌, take_all, arith, false≢true, bstr_bytes, one_more_mapped, IsSamePair, mapped_of, start_of, pair_of}
-use Rattle.gix_refspec_lint.proofs.lemmas.OneSpecLemmas.{kept_alone, none_paired, pair_there}
+use Rattle.gix_refspec_lint.proofs.{Common.{option_map, refl, take_all, arith, false≢true, bstr_bytes, start_of, pair_of}, lemmas.OneSpecLemmas.{kept_alone, none_paired, pair_there}}
 use Rattle.gix_refspec_lint.proofs.group.makes.Goals as goal
 
 pub returns-then-is_pair : goal.returns-then-is_pair
@@ -7,12 +6,6 @@ returns-then-is_pair c =
     let pair = pair_of (start_of c.args.source.now) (option_map bstr_bytes c.args.destination) in
     let has = pair_there c.deref-mapping-items.result.now c.loop-mapping.mapping-index c.mapping-item.result pair c.loop-mapping-test.true c.mapping-item.is (c.is_pair.ensures.0 c.if-is_pair.true) in
     ((λ told. (kept_alone _ _ _ pair (rw c.as_slice.ensures at c.in_ok-mappings.ensures)).0 (rw c.deref-mapping-items.ensures.value at has)), λ makes. refl)
-
-pub loop-mapping-preserved : goal.loop-mapping-preserved
-loop-mapping-preserved c =
-    one_more_mapped mapped_of (λ m. ¬ (IsSamePair m (pair_of (start_of c.args.source.now) (option_map bstr_bytes c.args.destination)))) c.deref-mapping-items.result.now c.loop-mapping.mapping-index
-    c.mapping-item.result c.loop-mapping.invariant c.loop-mapping-test.true c.mapping-item.is
-    (λ same. false≢true (sym c.if-is_pair.false ∙ c.is_pair.ensures.1 same))
 
 pub returns : goal.returns
 returns c =

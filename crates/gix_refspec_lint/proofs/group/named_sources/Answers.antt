@@ -1,10 +1,10 @@
 -- The sources by the kind of the side, of which an accepted spec has one.
 use Rattle.gix_refspec_lint.proofs.Common.{◌≡◌, Some, inl, map, map-id, option_map, refl, sym, ap, ◌∙◌, rules, YieldsList-from_vec, YieldsList-end, bstr_bytes, bstring_bytes, HasKind, reading_of}
-use Rattle.gix_refspec_lint.proofs.{Common.{accepted_few, name, start_of}, lemmas.SourceLemmas.{AreSourcesAs, only_pushed, sources_there}}
+use Rattle.gix_refspec_lint.proofs.{Common.{accepted_few, name, start_of}, group.named_sources.Goals.{in-Pattern, in-FullName+in_ok-from_slice-in-FullName+in_ok-push-in-FullName}}
+use Rattle.gix_refspec_lint.proofs.{group.named_sources.Goals.{in-Object+in_ok-push-in-Object, in-Partial+in_ok-candidate-items-in-Partial+in-None}, lemmas.SourceLemmas.{AreSourcesAs, only_pushed}}
+use Rattle.gix_refspec_lint.proofs.lemmas.SourceLemmas.{sources_there}
 use Rattle.gix_refspec_text.specs.Private.SideViews.{kind_of_side}
 use Rattle.gix_refspec_lint.proofs.group.named_sources.Goals as goal
-use Rattle.gix_refspec_lint.proofs.group.named_sources.Goals.{in-Pattern, in-FullName+in_ok-from_slice-in-FullName+in_ok-push-in-FullName, in-Object+in_ok-push-in-Object}
-use Rattle.gix_refspec_lint.proofs.group.named_sources.Goals.{in-Partial+in_ok-candidate-items-in-Partial+in-None}
 
 pub kind_of-requires : goal.kind_of-requires
 kind_of-requires c = rw c.as_bytes.ensures (accepted_few _ _ c.args.spec.now.accepted (inl (sym c.source.ensures ∙ ap (option_map bstr_bytes) c.in-Some.is)))

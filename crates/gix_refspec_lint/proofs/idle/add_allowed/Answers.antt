@@ -1,11 +1,5 @@
-use Rattle.gix_refspec_lint.proofs.Common.{map-id, sym, ◌∙◌, rules, MatchBool-at_false, MatchBool-at_true, YieldsList-from_vec, YieldsList-end}
-use Rattle.gix_refspec_lint.proofs.lemmas.IdleLemmas.{allowed_more, allowed_same}
+use Rattle.gix_refspec_lint.proofs.{Common.{MatchBool-at_false, MatchBool-at_true}, lemmas.IdleLemmas.{allowed_more, allowed_same}}
 use Rattle.gix_refspec_lint.proofs.idle.add_allowed.Goals as goal
-
-pub returns : goal.returns
-returns c =
-    let all = YieldsList-end (YieldsList-from_vec {s = c.into_iter-name-iterator.result} c.args.before.items (search rules) (search rules)) c.loop-name.yielded c.loop-name.name-iterator c.loop-name.yielded_by c.next.result c.next.new.self c.in-None.is c.next.ensures.steps in
-    rw (sym (map-id c.loop-name.yielded) ∙ all.0) at c.loop-name.invariant
 
 pub loop-name-preserved-in-Continue-1 : goal.loop-name-preserved-in-Continue-1
 loop-name-preserved-in-Continue-1 c =
@@ -14,5 +8,4 @@ loop-name-preserved-in-Continue-1 c =
 
 pub loop-name-preserved : goal.loop-name-preserved
 loop-name-preserved c =
-    allowed_same _ c.loop-name.yielded _ c.loop-name.names.items c.in-Some.name c.loop-name.invariant
-    (rw c.as_bstr.ensures at (MatchBool-at_false _ _ c.if-is_allowed.false c.is_allowed.ensures))
+    allowed_same _ c.loop-name.yielded _ c.loop-name.names.items c.in-Some.name c.loop-name.invariant (rw c.as_bstr.ensures at (MatchBool-at_false _ _ c.if-is_allowed.false c.is_allowed.ensures))

@@ -1,16 +1,10 @@
-use Rattle.gix_refspec_lint.proofs.Common.{map, arith, bstring_bytes, reading_of, start_of}
-use Rattle.gix_refspec_lint.proofs.lemmas.{IdleLemmas.{freeing, frees_less, frees_next, frees_none}, IndexLemmas.reading_at}
+use Rattle.gix_refspec_lint.proofs.{Common.{arith, map, bstring_bytes}, lemmas.{IdleLemmas.{freeing, frees_next}, IndexLemmas.reading_at}}
 use Rattle.gix_refspec_lint.proofs.idle.freeing_names.Goals as goal
 
-pub loop-at-init : goal.loop-at-init
-loop-at-init c = rw c.new-names.ensures.items (frees_none (map reading_of c.args.group.now.specs.now) (start_of c.args.source.now) (map bstring_bytes c.in_ok-kept_away.kept_away.items))
-
 pub loop-at-preserved : goal.loop-at-preserved
-loop-at-preserved c =
-    frees_next _ _ _ _ (map bstring_bytes c.in_ok-before.before.items) _ c.loop-at.at _
-    (reading_at c.args.group.now.specs.now c.loop-at.at c.index-group-at.result (omega (arith, c.loop-at-test.true, c.requires))) c.in_ok-before.ensures (rw c.as_slice.ensures.value at c.in_ok-add_allowed.ensures) c.loop-at.invariant
+loop-at-preserved c = grind (arith, frees_next, reading_at)
 
 pub returns : goal.returns
 returns c g is =
-    freeing g _ is.completed _ _ (map bstring_bytes c.in_ok-kept_away.kept_away.items) _ _ (reading_at c.args.group.now.specs.now c.args.index c.index-group-index.result c.requires) c.in_ok-kept_away.ensures
-    (frees_less _ _ _ _ c.loop-at.at c.args.index (omega (arith, c.loop-at-test.false)) c.loop-at.invariant)
+    freeing g _ is.completed c.loop-at.at _ _ (map bstring_bytes c.in_ok-kept_away.kept_away.items) _ _ (reading_at c.args.group.now.specs.now c.args.index c.index-group-index.result c.requires)
+    (omega (arith, c.loop-at-test.false)) c.in_ok-kept_away.ensures c.loop-at.invariant

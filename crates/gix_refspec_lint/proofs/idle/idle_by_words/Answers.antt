@@ -1,6 +1,5 @@
 -- What becomes of the mappings of the names with the words becomes of all.
-use Rattle.gix_refspec_lint.proofs.Common.{◌++◌, ℕ, List, inl, inr, take_all, arith, bstring_bytes, all_weaker, one_more_mapped, name, Explains}
-use Rattle.gix_refspec_lint.proofs.lemmas.IdleSpecLemmas.{idle_by, words_explain}
+use Rattle.gix_refspec_lint.proofs.{Common.{◌++◌, ℕ, List, inl, inr, take_all, arith, bstring_bytes, all_weaker, one_more_mapped, name, Explains}, lemmas.IdleSpecLemmas.{idle_by, words_explain}}
 use Rattle.gix_refspec_lint.proofs.idle.idle_by_words.Goals as goal
 
 pub returns-in-None : goal.returns-in-None
@@ -12,12 +11,10 @@ loop-word-preserved c g is =
     let around : List ℕ → List ℕ = λ w. c.args.prefix.now ++ (w ++ c.args.suffix.now) in
     let told = rw (c.source_named.ensures, c.in_ok-name.ensures, c.as_bytes.ensures, c.as_bstr.ensures) at (rw c.in-Some.is at (c.in_ok-idle_at.ensures g is)) in
     let old = c.loop-word.invariant g is in
-    let new = c.stronger-reason.result in (
-      one_more_mapped bstring_bytes (λ w. Explains g k (name (around w)) new) c.deref-word-items.result.now c.loop-word.word-index c.word-item.result
-          (all_weaker (λ w. Explains g k (name (around w)) c.loop-word.reason) (λ w. Explains g k (name (around w)) new) (λ w e. c.stronger-reason.ensures.explains g k (name (around w)) (inl e)) _ old.0) c.loop-word-test.true c.word-item.is
-          (c.stronger-reason.ensures.explains g k (name (around (bstring_bytes c.word-item.result))) (inr told.0)),
-      c.stronger-reason.ensures.shown g k old.1 told.1,
-    )
+    let new = c.stronger-reason.result in
+    let before = all_weaker (λ w. Explains g k (name (around w)) c.loop-word.reason) (λ w. Explains g k (name (around w)) new) (λ w e. c.stronger-reason.ensures.explains g k (name (around w)) (inl e)) _ old.0 in
+    let more = one_more_mapped bstring_bytes (λ w. Explains g k (name (around w)) new) c.deref-word-items.result.now c.loop-word.word-index c.word-item.result before c.loop-word-test.true c.word-item.is in
+    (more (c.stronger-reason.ensures.explains g k (name (around (bstring_bytes c.word-item.result))) (inr told.0)), c.stronger-reason.ensures.shown g k old.1 told.1)
 
 pub returns : goal.returns
 returns c g is r at positive source =

@@ -1,5 +1,5 @@
-use Rattle.gix_refspec_lint.proofs.Common.{ap, inl, get_or, sym, ◌∙◌, subst, same_Some, IfOk-weaker, IsPositive, Reading, reading_of, accepted_few, HasPlainSource}
-use Rattle.gix_refspec_lint.proofs.lemmas.{IdleSpecLemmas.reason_of, IndexLemmas.reading_at}
+use Rattle.gix_refspec_lint.proofs.{Common.{ap, inl, get_or, sym, ◌∙◌, subst, same_Some, IfOk-weaker, IsPositive, Reading, reading_of, accepted_few, HasPlainSource}, lemmas.IdleSpecLemmas.reason_of}
+use Rattle.gix_refspec_lint.proofs.lemmas.IndexLemmas.{reading_at}
 use Rattle.gix_refspec_lint.proofs.idle.idle_reason.Goals as goal
 
 pub parts_of-requires : goal.parts_of-requires
@@ -21,6 +21,4 @@ returns-in-Some c g is =
     IfOk-weaker c.idle_by_words.result _ _ (λ why told r at.
     let same = same_Some _ _ (sym (reading_at c.args.group.now.specs.now c.args.index c.index-group-index.result c.requires) ∙ at) in
     let positive = subst (λ (q : Reading). IsPositive q.mode) same c.if-is_negative.ensures in
-    reason_of g _ r positive why (told r at positive
-    (record { text = x; has = ap (λ (q : Reading). q.source) (sym same) ∙ sym c.source.ensures ∙ has; split = split })))
-    (c.idle_by_words.ensures g is)
+    reason_of g _ r positive why (told r at positive (record { text = x; has = ap (λ (q : Reading). q.source) (sym same) ∙ sym c.source.ensures ∙ has; split = split }))) (c.idle_by_words.ensures g is)

@@ -1,6 +1,5 @@
 -- What a spec takes fits its source, or ends with it, or is the head of a remote.
-use Rattle.gix_refspec_lint.proofs.Common.{codes, inl, option_map, sym, ap, ◌∙◌, bstr_bytes, reading_of, accepted_few, name_bytes}
-use Rattle.gix_refspec_lint.proofs.lemmas.IdleLemmas.{ends_taken, ends_told, fits_taken}
+use Rattle.gix_refspec_lint.proofs.{Common.{codes, inl, option_map, sym, ap, ◌∙◌, bstr_bytes, reading_of, accepted_few, name_bytes}, lemmas.IdleLemmas.{ends_taken, ends_told, fits_taken}}
 use Rattle.gix_refspec_lint.proofs.idle.may_take.Goals as goal
 
 pub parts_of-requires : goal.parts_of-requires

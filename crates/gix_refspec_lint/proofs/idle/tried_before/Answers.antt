@@ -1,5 +1,5 @@
-use Rattle.gix_refspec_lint.proofs.Common.{◌≡◌, ◌∙◌, ◌<◌, Vec, Global, length, map, refl, ap, sym, take_all, arith, false≢true, bstr_bytes, bstring_bytes, BString}
-use Rattle.gix_refspec_lint.proofs.{Common.one_more_mapped, lemmas.{OneSpecLemmas.same_bytes, IdleLemmas.{none_tried, tried_at}}}
+use Rattle.gix_refspec_lint.proofs.{Common.{◌∙◌, ◌<◌, Vec, Global, length, map, refl, ap, sym, take_all, arith, bstr_bytes, bstring_bytes, BString}, lemmas.IdleLemmas.{none_tried, tried_at}}
+use Rattle.gix_refspec_lint.proofs.lemmas.OneSpecLemmas.{same_bytes}
 use Rattle.gix_refspec_lint.proofs.idle.tried_before.Goals as goal
 
 pub returns-then-eq : goal.returns-then-eq
@@ -9,28 +9,5 @@ returns-then-eq c =
     tried_at c.args.partial.now (bstr_bytes c.args.candidate) _ c.loop-at.at c.index.result.now _ (ap (λ (v : Vec BString Global). map bstring_bytes v.items) same ∙ c.in_ok-names.ensures) below c.index.ensures
     (sym c.as_bstr.ensures ∙ (same_bytes _ _ (bstr_bytes c.args.candidate) c.eq.ensures refl).0 c.if-eq.true) c.loop-at.invariant.1 (ap (map bstring_bytes) c.truncate.ensures.items)
 
-pub loop-at-preserved : goal.loop-at-preserved
-loop-at-preserved c =
-    let same = c.loop-at.invariant.0 in
-    let below : c.loop-at.at < length c.loop-at.names.items = omega (arith, ap (λ (v : Vec BString Global). length v.items) same, c.loop-at-test.true, c.len-at-end.ensures, c.in_ok-names.names.ok.0, c.in_ok-names.names.ok.1) in (
-      same,
-      one_more_mapped bstring_bytes (λ x. ¬ (x ≡ bstr_bytes c.args.candidate)) _ c.loop-at.at c.index.result.now c.loop-at.invariant.1 below c.index.ensures
-          (λ equal. false≢true (sym c.if-eq.false ∙ (same_bytes _ _ (bstr_bytes c.args.candidate) c.eq.ensures refl).1 (c.as_bstr.ensures ∙ equal))),
-    )
-
 pub returns : goal.returns
-returns c =
-    none_tried c.args.partial.now (bstr_bytes c.args.candidate)
-    (rw (
-      take_all c.loop-at.at c.loop-at.names.items
-          (omega (
-            arith,
-            ap (λ (v : Vec BString Global). length v.items) c.loop-at.invariant.0,
-            c.loop-at-test.false,
-            c.len-at-end.ensures,
-            c.in_ok-names.names.ok.0,
-            c.in_ok-names.names.ok.1,
-          )),
-      c.loop-at.invariant.0,
-      c.in_ok-names.ensures,
-    ) at c.loop-at.invariant.1) _
+returns c = grind (arith, none_tried, take_all)

@@ -1,5 +1,5 @@
-use Rattle.gix_refspec_lint.proofs.Common.{length, map, map-id, sym, ◌∙◌, rules, YieldsList-from_vec, YieldsList-end, YieldsList-turn, reading_of, ref_of}
-use Rattle.gix_refspec_lint.proofs.{Common.{start_of}, lemmas.OneSpecLemmas.{none_sound, sound_there}}
+use Rattle.gix_refspec_lint.proofs.{Common.{length, map, map-id, sym, ◌∙◌, rules, YieldsList-from_vec, YieldsList-end, YieldsList-turn, reading_of, ref_of, start_of}, lemmas.OneSpecLemmas.none_sound}
+use Rattle.gix_refspec_lint.proofs.lemmas.OneSpecLemmas.{sound_there}
 use Rattle.gix_refspec_lint.proofs.sound.sound_mapping.Goals as goal
 
 pub returns-then-is_sound : goal.returns-then-is_sound
