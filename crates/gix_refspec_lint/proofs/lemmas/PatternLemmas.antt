@@ -7,11 +7,10 @@ pub word_of : (c : Reading) (refs : List Ref) (n : List ℕ) (d : Option (List �
     → (w : List ℕ) × (makes.one.4.word ≡ Some w) × (n ≡ p ++ (w ++ t))
 word_of c refs n d makes p t source =
     let near : makes.ends.near ≡ source.text = same_Some _ _ (sym makes.has.near ∙ source.has) in
-    by_word makes.one.4.word (matches_as makes.ends.near (pattern p t) makes.one.1 makes.one.4.word (subst (IsSplit p t) (sym near) source.split) makes.one.4.takes.matches)
-  where
-    by_word : (word : Option (List ℕ)) → MatchesAs (pattern p t) makes.one.1 word → (w : List ℕ) × (word ≡ Some w) × (n ≡ p ++ (w ++ t))
-    by_word None holds = absurd holds
-    by_word (Some w) holds = (w, refl, sym makes.one.4.name ∙ holds)
+    elim makes.one.4.word as (λ word. MatchesAs (pattern p t) makes.one.1 word → (w : List ℕ) × (word ≡ Some w) × (n ≡ p ++ (w ++ t))) [
+      | None ↦ λ holds. absurd holds
+      | Some w ↦ λ holds. (w, refl, sym makes.one.4.name ∙ holds)
+    ] (matches_as makes.ends.near (pattern p t) makes.one.1 makes.one.4.word (subst (IsSplit p t) (sym near) source.split) makes.one.4.takes.matches)
 
 -- the destination is a pattern, and far has it with a word
 pub record FarPattern (c : Reading) (far : List ℕ → Option (List ℕ)) : Type 0 where
@@ -52,11 +51,10 @@ pattern_spec c p t accepted positive source = elim (side_cases c.destination) [
 ]
 
 pub destination_once : (c : Reading) (word n m : Option (List ℕ)) → IsFilled c.destination word n → IsFilled c.destination word m → n ≡ m
-destination_once c word n m a b = once c.destination a b
-  where
-    once : (x : Option (List ℕ)) → IsFilled x word n → IsFilled x word m → n ≡ m
-    once None a b = a ∙ sym b
-    once (Some x) a b = a.2 ∙ ap (λ k. Some (filled k word)) (one_kind x a.0 b.0 a.1 b.1) ∙ sym b.2
+destination_once c word n m = elim c.destination as (λ x. IsFilled x word n → IsFilled x word m → n ≡ m) [
+  | None ↦ λ a b. a ∙ sym b
+  | Some x ↦ λ a b. a.2 ∙ ap (λ k. Some (filled k word)) (one_kind x a.0 b.0 a.1 b.1) ∙ sym b.2
+]
 
 module _ (c : Reading) (p t : List ℕ) (spec : PatternSpec c p t) where
   -- it maps each ref with a word

@@ -1,6 +1,5 @@
 -- One of the two begins with the other, or no text begins with both.
-use Rattle.gix_refspec_lint.proofs.Common.{[], append-nil, inl, inr, refl, sym, ◌∙◌, false≢true, Decides-eqb, starts_is}
-use Rattle.gix_refspec_lint.proofs.lemmas.ByteLemmas.{parted}
+use Rattle.gix_refspec_lint.proofs.{Common.{[], append-nil, inl, inr, refl, sym, ◌∙◌, false≢true, Decides-eqb, starts_is}, lemmas.ByteLemmas.parted}
 use Rattle.gix_refspec_lint.proofs.words.longer_prefix.Goals as goal
 
 pub returns-then-starts_with : goal.returns-then-starts_with
