@@ -1,8 +1,8 @@
 -- A byte between two texts that stands for any word there.
-use Rattle.gix_refspec_lint.proofs.Common.{◌≡◌, ◌≢◌, ◌⊎◌, inl, inr, ℕ, true, false, ◌||◌, ◌==◌, List, [], ◌∷◌, ◌++◌, Option, None, Some, codes, append_assoc, refl, sym, ap, ◌∙◌, subst, IsTrue}
-use Rattle.gix_refspec_lint.proofs.Common.{AllByRecursion, list_any, eqb-false, false≢true, Excludes, Fits, by_pattern, the_name, AddsFault, LeavesFault, Reading, slash, star, brace, is_refused_byte}
-use Rattle.gix_refspec_lint.proofs.Common.{IsName, EndsWith, Lacks, Error, all_left, all_right, Lacks-here, HasFault-added, HasFault-left, IsName-from_clean, IsExcluded, LacksIn, SidesLack, is_usable}
-use Rattle.gix_refspec_lint.proofs.Common.{arith, length, cases_lt, length-append, same_Some, or_parts, not-true, ◌≤◌, eqb-true, BeginsWith, append-nil}
+use Rattle.gix_refspec_lint.proofs.Common.{rules, ◌≡◌, ◌≢◌, ◌⊎◌, inl, inr, ℕ, false, ◌||◌, ◌==◌, List, [], ◌∷◌, ◌++◌, Option, Some, codes, append_assoc, refl, sym, ap, ◌∙◌, subst, IsTrue, AllByRecursion}
+use Rattle.gix_refspec_lint.proofs.Common.{list_any, eqb-false, Excludes, Fits, by_pattern, the_name, AddsFault, Reading, slash, star, is_refused_byte, IsName, EndsWith, Lacks, Error, all_left, all_right}
+use Rattle.gix_refspec_lint.proofs.Common.{Lacks-here, HasFault-added, HasFault-left, IsName-from_clean, IsExcluded, LacksIn, SidesLack, is_usable, arith, length, cases_lt, length-append, or_parts}
+use Rattle.gix_refspec_lint.proofs.Common.{not-true, ◌≤◌, BeginsWith, append-nil}
 use Rattle.gix_refspec_text.{proofs.lemmas.texts.NameLemmas.IsClean-more, specs.Private.Scan.IsClean}
 
 -- of two ways to split a list, the one that splits it no earlier is further on
@@ -29,13 +29,10 @@ begins_alike x a b c below begins =
 
 -- ---- faults
 
--- where y ends with those of these words that x ends with, a byte adds to y what it adds to x, and y leaves what x leaves
+-- where y ends with those of these words that x ends with, a byte adds to y what it adds to x
 module _ (K : List ℕ → Type 0) (kept : K (codes "/") × K (codes ".lock") × K (codes ".") × K (codes "@")) where
   adds_as : (x y : List ℕ) → ((w : List ℕ) → K w → EndsWith w x → EndsWith w y) → (b : ℕ) (e : Error) → AddsFault x b e → AddsFault y b e
   adds_as x y ends b e adds = grind (arith, ends, kept)
-
-  leaves_as : (x y : List ℕ) → ((w : List ℕ) → K w → EndsWith w x → EndsWith w y) → (e : Error) → LeavesFault x e → LeavesFault y e
-  leaves_as x y ends e leaves = grind (arith, ends, kept)
 
   -- so where what ends a text behind p ends it behind q, a clean p stays clean before what q stays clean before
   clean_before : (p q y : List ℕ) → ((k w : List ℕ) → K w → EndsWith w (p ++ k) → EndsWith w (q ++ k)) → IsClean p → IsClean (q ++ y) → IsClean (p ++ y)
@@ -51,16 +48,11 @@ module _ (K : List ℕ → Type 0) (kept : K (codes "/") × K (codes ".lock") ×
   names_as p q y ends front also some is =
       let clean : IsClean (slash ∷ (q ++ y)) = λ e added. is e (HasFault-added (q ++ y) e some added) in
       IsName-from_clean (p ++ y) also (clean_before (slash ∷ p) (slash ∷ q) y ends (front clean) clean)
-      (λ e leaves. is e (HasFault-left (q ++ y) e some (leaves_as _ _ (ends y) e leaves)))
+      (λ e leaves. is e (HasFault-left (q ++ y) e some (grind (arith, ends y, kept))))
 
 pub clean_front : (x y : List ℕ) → IsClean (x ++ y) → IsClean x
-clean_front x y clean e added = clean e (record {
-  before = added.before;
-  byte = added.byte;
-  after = added.after ++ y;
-  here = ap (λ z. z ++ y) added.here ∙ append_assoc added.before (added.byte ∷ added.after) y;
-  fault = added.fault;
-})
+clean_front x y clean e added =
+    clean e (record { before = added.before; byte = added.byte; after = added.after ++ y; here = ap (λ z. z ++ y) added.here ∙ append_assoc added.before (added.byte ∷ added.after) y; fault = added.fault })
 
 module _ (z : ℕ) (usable : IsTrue (is_usable z)) where
   -- the bytes that it isn't
@@ -72,27 +64,13 @@ module _ (z : ℕ) (usable : IsTrue (is_usable z)) where
 
   lacks_listed : (l : List ℕ) → list_any (λ c. z == c) l ≡ false → Lacks z l
   lacks_listed [] none = tt
-  lacks_listed (c ∷ l) none = let both = or_parts (z == c) (list_any (λ k. z == k) l) none in (
-    (λ is. eqb-false z c both.0 (sym is)),
-    lacks_listed l both.1,
-  )
+  lacks_listed (c ∷ l) none = let both = or_parts (z == c) (list_any (λ k. z == k) l) none in ((λ is. eqb-false z c both.0 (sym is)), lacks_listed l both.1)
 
   pub lacks_mid : (before mid after : List ℕ) → kept_from ≡ before ++ (mid ++ after) → Lacks z mid
   lacks_mid before mid after is = all_left (λ c. c ≢ z) mid after (all_right (λ c. c ≢ z) before (mid ++ after) (subst (Lacks z) is (lacks_listed kept_from neither.1)))
 
-  other : (c : ℕ) (before after : List ℕ) → kept_from ≡ before ++ (c ∷ after) → z ≢ c
-  other c before after is same = (lacks_mid before (c ∷ []) after is).0 (sym same)
-
   pub lacks_refs : Lacks z (codes "refs/")
   lacks_refs = lacks_mid [] (codes "refs/") _ refl
-
-  lacks_words : Lacks z (codes "/") × Lacks z (codes ".lock") × Lacks z (codes ".") × Lacks z (codes "@")
-  lacks_words = (
-    lacks_mid (codes "refs") (codes "/") _ refl,
-    lacks_mid (codes "refs/tags/heads/remotes/HEAD") (codes ".lock") _ refl,
-    lacks_mid (codes "refs/tags/heads/remotes/HEAD") (codes ".") _ refl,
-    lacks_mid (codes "refs/tags/heads/remotes/HEAD.lock*") (codes "@") _ refl,
-  )
 
   -- ---- texts without the byte
 
@@ -105,19 +83,16 @@ module _ (z : ℕ) (usable : IsTrue (is_usable z)) where
     | inr from ↦ inr (further p s x (z ∷ y) is from)
   ]
 
-  adds_nothing : (u : List ℕ) (e : Error) → ¬ (AddsFault u z e)
-  adds_nothing u e adds = grind (arith, lacks_words, other brace (codes "refs/tags/heads/remotes/HEAD.lock*@") [] refl, other star (codes "refs/tags/heads/remotes/HEAD.lock") (codes "@{") refl, neither)
-
   -- ---- names and patterns
 
   -- where the name with a word in place of the byte isn't empty, it has no fault that the other lacks
   pub name_with_byte : (x v y : List ℕ) → x ++ (v ++ y) ≢ [] → IsName (x ++ (v ++ y)) → IsName (x ++ (z ∷ y))
-  name_with_byte x v y some is = simp append_assoc at (names_as (Lacks z) lacks_words (x ++ z ∷ []) (x ++ v) y
+  name_with_byte x v y some is = simp append_assoc at (names_as (Lacks z) (search (rules, lacks_listed kept_from neither.1)) (x ++ z ∷ []) (x ++ v) y
       (λ k w lacks ends. elim (byte_in ends.before w (slash ∷ x) k (simp append_assoc at (sym ends.here))) [
         | inl (t, longer, rest) ↦ record { before = slash ∷ (x ++ (v ++ t)); here = simp append_assoc (ap (λ t. slash ∷ (x ++ (v ++ t))) rest) }
         | inr (u, longer, rest) ↦ absurd (Lacks-here z u k (subst (Lacks z) rest lacks))
       ])
-      (λ clean. IsClean-more (slash ∷ x) z (clean_front (slash ∷ x) (v ++ y) (simp append_assoc at clean)) (adds_nothing (slash ∷ x)))
+      (λ clean. IsClean-more (slash ∷ x) z (clean_front (slash ∷ x) (v ++ y) (simp append_assoc at clean)) (λ e adds. grind (arith, lacks_listed kept_from neither.1, neither)))
       (λ none. omega (arith, ap length none, length-append (x ++ z ∷ []) y, length-append x (z ∷ []))) (simp append_assoc some) (simp append_assoc is))
 
   -- what fits a pattern with the byte has it in its word
@@ -141,15 +116,10 @@ module _ (z : ℕ) (usable : IsTrue (is_usable z)) where
       ∙ simp append_assoc)
 
   pub lacks_in : (side : Option (List ℕ)) (x : List ℕ) → side ≡ Some x → LacksIn z side → Lacks z x
-  lacks_in None x is lacks = absurd (cc (is))
-  lacks_in (Some y) x is lacks = subst (Lacks z) (same_Some _ _ is) lacks
+  lacks_in side x is = subst (LacksIn z) is
 
   pub excluded_moved : (g : List Reading) (x v y : List ℕ) → AllByRecursion (SidesLack z) g → IsExcluded g (x ++ (z ∷ y)) → IsExcluded g (x ++ (v ++ y))
   excluded_moved [] x v y lacks none = none
   excluded_moved (r ∷ g) x v y lacks (inl by) =
       inl (record { negative = by.negative; text = by.text; source = by.source; excludes = excludes_moved by.text x v y (lacks_in r.source by.text by.source lacks.0.0) by.excludes })
   excluded_moved (r ∷ g) x v y lacks (inr later) = inr (excluded_moved g x v y lacks.1 later)
-
-pub not_lacked : (b : ℕ) (x : List ℕ) → list_any (λ c. c == b) x ≡ true → ¬ (Lacks b x)
-not_lacked b [] found lacks = false≢true found
-not_lacked b (c ∷ x) found lacks = grind (arith, not_lacked b x, eqb-true)

@@ -1,10 +1,8 @@
 -- The names that decide show what a spec with a source pattern maps soundly.
-use Rattle.gix_refspec_lint.proofs.Common.{append_assoc, ◌≡◌, ◌≢◌, ◌⊎◌, inl, inr, ℕ, List, [], ◌∷◌, ◌++◌, Option, None, Some, refl, sym, ap, ◌∙◌, subst, AllByRecursion}
-use Rattle.gix_refspec_lint.proofs.Common.{Ref, HasName, Fits, Reading, IsSplit, Lacks, all_join, all_left, all_right, name, MakesForward, IsRefName}
-use Rattle.gix_refspec_lint.proofs.Common.{CanBeWritten, IsFree, IsDeciding, IsLongerPrefix, IsLongerSuffix, IsMost, words_with, MakesSoundly}
-use Rattle.gix_refspec_lint.proofs.lemmas.WordLemmas.{Around, IsRefAround, between, common_name, within}
-use Rattle.gix_refspec_lint.proofs.lemmas.PatternLemmas.{HasShape, PatternSpec, spec_made, spec_maps}
-use Rattle.gix_refspec_lint.proofs.lemmas.MovedLemmas.{regroup, word_or_moved}
+use Rattle.gix_refspec_lint.proofs.Common.{append_assoc, ◌≡◌, ◌≢◌, ◌⊎◌, inl, inr, ℕ, List, [], ◌∷◌, ◌++◌, Option, None, Some, refl, sym, ap, ◌∙◌, subst, AllByRecursion, Ref, HasName, Fits, Reading}
+use Rattle.gix_refspec_lint.proofs.Common.{IsSplit, Lacks, all_join, all_left, all_right, name, MakesForward, IsRefName, CanBeWritten, IsFree, IsDeciding, IsLongerPrefix, IsLongerSuffix, IsMost}
+use Rattle.gix_refspec_lint.proofs.{Common.{words_with, MakesSoundly}, lemmas.{MovedLemmas.{regroup, word_or_moved}, PatternLemmas.{HasShape, PatternSpec, spec_made, spec_maps}, WordLemmas.Around}}
+use Rattle.gix_refspec_lint.proofs.lemmas.WordLemmas.{IsRefAround, between, common_name, within}
 
 -- the destination has the byte in place of the word, or there is none
 abbrev pub IsMovedFar : ℕ → Reading → List ℕ → List ℕ → Option (List ℕ) → Option (List ℕ) → Type 0

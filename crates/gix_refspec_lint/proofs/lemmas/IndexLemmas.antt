@@ -1,9 +1,9 @@
 -- Specs at indexes, and the same with completed destinations.
 use Rattle.gix_refspec_lint.proofs.Common.{all_at, ◌↔◌, ◌≡◌, ℕ, zero, suc, ◌<◌, List, [], ◌∷◌, Option, None, Some, length, map, option_map, get_or, inl, inr, refl, sym, ap, ◌∙◌, subst, arith}
-use Rattle.gix_refspec_lint.proofs.Common.{AllByRecursion, AllZip, Any, Contains, slice_get, recursion_from_All, Contains-get_or, same_Some, slice_get_read}
-use Rattle.gix_refspec_lint.proofs.Common.{slice_get-map, slice_get-get_or, Reading, IsAccepted, Ref, reading_of, RefSpecRef, Source, name, id, IsExcluded, IsExcludedBy, IsSourceExcluded}
-use Rattle.gix_refspec_lint.proofs.Common.{MakesForward, IsCompleted, reading_once, all_accepted, Maps, ◌++◌, ◌⊎◌, HasName, IsFirstCandidate, Takes, all_weaker, IsPaired}
-use Rattle.gix_refspec_lint.proofs.Common.{matches_by_name, named_some, some_named, ConflictsShown, ConflictOver, Fetches, refs_of, HasKind, partial}
+use Rattle.gix_refspec_lint.proofs.Common.{AllByRecursion, AllZip, Any, Contains, slice_get, recursion_from_All, Contains-get_or, same_Some, slice_get_read, slice_get-map, slice_get-get_or, Reading}
+use Rattle.gix_refspec_lint.proofs.Common.{IsAccepted, Ref, reading_of, RefSpecRef, Source, name, id, IsExcluded, IsExcludedBy, IsSourceExcluded, MakesForward, IsCompleted, reading_once, all_accepted}
+use Rattle.gix_refspec_lint.proofs.Common.{Maps, ◌++◌, ◌⊎◌, HasName, IsFirstCandidate, Takes, all_weaker, IsPaired, matches_by_name, named_some, some_named, ConflictsShown, ConflictOver, Fetches, refs_of}
+use Rattle.gix_refspec_lint.proofs.Common.{HasKind, partial}
 use Rattle.std.{proofs.lemmas.Slice.Zip.{AllZip-left, AllZip-right}, specs.Option.IsSomeAnd}
 
 pub any_at : {X : Type 0} (P : X → Type 0) (xs : List X) → Any P xs → (k : ℕ) × (x : X) × (slice_get xs k ≡ Some x) × P x

@@ -1,7 +1,7 @@
 -- What a spec with a source pattern maps.
 use Rattle.gix_refspec_lint.proofs.Common.{◌≡◌, ◌⊎◌, inl, inr, ℕ, List, ◌++◌, Option, None, Some, refl, sym, ap, ◌∙◌, subst, same_Some, Ref, HasName, MatchesAs, Takes, pattern, Fits, IsAccepted}
-use Rattle.gix_refspec_lint.proofs.Common.{IsPositive, Reading, HasOneStar, IsSplit, lacks_no_pattern, IsFilled, Source, name, id, matches_as, one_kind, IsPaired, MakesForward, sides_agree}
-use Rattle.gix_refspec_lint.proofs.Common.{named_some, filled, HasSourcePattern, some_named, side_cases}
+use Rattle.gix_refspec_lint.proofs.Common.{IsPositive, Reading, HasOneStar, IsSplit, lacks_no_pattern, IsFilled, Source, name, id, matches_as, one_kind, IsPaired, MakesForward, sides_agree, named_some}
+use Rattle.gix_refspec_lint.proofs.Common.{filled, HasSourcePattern, some_named, side_cases}
 
 pub word_of : (c : Reading) (refs : List Ref) (n : List ℕ) (d : Option (List ℕ)) (makes : MakesForward refs (name n) d c) (p t : List ℕ) → HasSourcePattern c p t
     → (w : List ℕ) × (makes.one.4.word ≡ Some w) × (n ≡ p ++ (w ++ t))

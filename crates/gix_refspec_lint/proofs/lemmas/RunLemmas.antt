@@ -51,7 +51,7 @@ module _ (Holds : Why → List ℕ → Type 0) (prefix suffix : List ℕ) where
         ap (λ v. power v (suc i)) (sym (drop_at ends.before is.word (length ends.before) refl) ∙ ap (drop (length ends.before)) (sym ends.here ∙ more_ends.here) ∙ drop_at more_ends.before more _ same)
 
     name_is : (is.times ≡ 0) ⊎ (length more ≡ run.step) → prefix ++ drop k suffix ≡ prefix ++ (power more (suc is.times) ++ is.rest)
-    name_is apart = ap (λ x. prefix ++ x) (ap (drop k) whole ∙ drop_at (take k is.front) _ k sizes.0 ∙ ap (λ v. more ++ (v ++ is.rest)) (again apart is.times (omega arith)) ∙ sym (append_assoc more (power more is.times) is.rest))
+    name_is apart = ap (λ x. prefix ++ x) (ap (drop k) whole ∙ drop_at (take k is.front) _ k sizes.0 ∙ ap (λ v. more ++ (v ++ is.rest)) (again apart is.times (omega arith)) ∙ simp append_assoc)
 
     -- so it goes on without a look
     goes : Goes Holds → (why : Why) → why ≡ run.why → why ≢ Unknown → run.shortest + 5 ≤ run.longest → k + run.step ≡ run.shortest → Holds why (prefix ++ drop k suffix)

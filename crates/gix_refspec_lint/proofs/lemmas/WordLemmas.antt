@@ -67,17 +67,14 @@ ending_or_part v (t ∷ ts) (inl (begins, named), all) = elim (ending_or_part v 
         rest = k;
         is = h.is ∙ ap (λ w. h.ending ++ w) longer ∙ sym (append_assoc h.ending m k);
         listed = split_at (λ a m. Contains endings m) t.front (h.ending ++ m) (subst (AllSplits (λ a m. Contains endings m)) (whole ∙ append_assoc t.front h.ending m) refs_endings);
-        begin = (record { after = []; here = sym (whole ∙ append_assoc t.front h.ending m) }, all_weaker _ _ (λ x begin. simp append_assoc at (begins_before (x ++ h.ending) m begin)) (map (λ (x : Around). x.front) ts) h.begin);
+        begin = (
+          record { after = []; here = sym (whole ∙ append_assoc t.front h.ending m) },
+          all_weaker _ _ (λ x begin. simp append_assoc at (begins_before (x ++ h.ending) m begin)) (map (λ (x : Around). x.front) ts) h.begin,
+        );
       })
     ]
   ]
 ]
-
-pub fits_begins : (a b n w : List ℕ) → Fits a b n w → BeginsWith a n
-fits_begins a b n w fits = record { after = w ++ b; here = fits }
-
-pub fits_ends : (a b n w : List ℕ) → Fits a b n w → EndsWith b n
-fits_ends a b n w fits = record { before = a ++ w; here = fits ∙ sym (append_assoc a w b) }
 
 -- ---- what two patterns have in common
 
@@ -144,10 +141,10 @@ common_name words a b c d prefix suffix most n v w longer ends is_most one other
 ]
   where
     starts : BeginsWith prefix n
-    starts = elim longer.is [ inl is ↦ rw is (fits_begins a b n v one) | inr is ↦ rw is (fits_begins c d n w other) ]
+    starts = elim longer.is [ inl is ↦ rw is (record { after = _; here = one }) | inr is ↦ rw is (record { after = _; here = other }) ]
 
     stops : EndsWith suffix n
-    stops = elim ends.is [ inl is ↦ rw is (fits_ends a b n v one) | inr is ↦ rw is (fits_ends c d n w other) ]
+    stops = elim ends.is [ inl is ↦ rw is (record { before = _; here = one ∙ sym (append_assoc a v b) }) | inr is ↦ rw is (record { before = _; here = other ∙ sym (append_assoc c w d) }) ]
 
     long : (x y u : List ℕ) → Fits x y n u → length x + length y ≤ length prefix + length starts.after
     long x y u fits = omega (arith, length-append prefix starts.after, ap length (sym starts.here ∙ fits), length-append x (u ++ y), length-append u y)

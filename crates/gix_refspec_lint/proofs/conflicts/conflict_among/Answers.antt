@@ -1,5 +1,4 @@
-use Rattle.gix_refspec_lint.proofs.Common.{◌++◌, take_all, arith, IfOk-weaker, bstring_bytes, one_more_mapped, NoneAt}
-use Rattle.gix_refspec_lint.proofs.lemmas.FoundLemmas.{among_found}
+use Rattle.gix_refspec_lint.proofs.{Common.{◌++◌, take_all, arith, IfOk-weaker, bstring_bytes, one_more_mapped, NoneAt}, lemmas.FoundLemmas.among_found}
 use Rattle.gix_refspec_lint.proofs.conflicts.conflict_among.Goals as goal
 
 pub loop-word-preserved : goal.loop-word-preserved

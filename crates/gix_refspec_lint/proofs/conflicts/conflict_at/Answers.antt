@@ -1,6 +1,5 @@
 use Rattle.gix_refspec_lint.proofs.Common.{map, take_all, refl, sym, ap, ◌∙◌, arith, AllByRecursion, eqb-true, false≢true, nil_from_length, bstr_bytes, one_more_mapped, start_of, length, ◌<◌}
-use Rattle.gix_refspec_lint.proofs.{lemmas.SourceLemmas.none_contained}
-use Rattle.gix_refspec_lint.proofs.lemmas.FoundLemmas.{NoConflict, copied_example, none_of_all, completed_of, makes_of}
+use Rattle.gix_refspec_lint.proofs.lemmas.{FoundLemmas.{NoConflict, copied_example, none_of_all, completed_of, makes_of}, SourceLemmas.none_contained}
 use Rattle.gix_refspec.proofs.lemmas.validate.ConflictLemmas.{copied_source}
 use Rattle.gix_refspec_lint.proofs.conflicts.conflict_at.Goals as goal
 

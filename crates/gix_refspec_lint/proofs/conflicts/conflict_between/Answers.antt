@@ -1,6 +1,6 @@
 -- By the destinations of the two specs: one without a star is the only one, and two patterns share the names that decide.
-use Rattle.gix_refspec_lint.proofs.Common.{not, option_map, sym, ap, ◌∙◌, arith, pointwise_decides, false≢true, Decides-eqb, IfOk-weaker, bstr_bytes, example_of}
-use Rattle.gix_refspec_lint.proofs.lemmas.FoundLemmas.{have_common, names_differ, none_alike, none_apart, none_fetched, found_only, fetches_only}
+use Rattle.gix_refspec_lint.proofs.{Common.{not, option_map, sym, ap, ◌∙◌, arith, pointwise_decides, false≢true, Decides-eqb, IfOk-weaker, bstr_bytes, example_of}, lemmas.FoundLemmas.have_common}
+use Rattle.gix_refspec_lint.proofs.lemmas.FoundLemmas.{names_differ, none_alike, none_apart, none_fetched, found_only, fetches_only}
 use Rattle.gix_refspec_lint.proofs.conflicts.conflict_between.Goals as goal
 
 pub returns-in_default : goal.returns-in_default

@@ -1,5 +1,4 @@
-use Rattle.gix_refspec_lint.proofs.{Common.{take_all, arith, NoneAt, AreOverlaps, Fails}, lemmas.FailLemmas.{fails_again, fails_none}}
-use Rattle.gix_refspec_lint.proofs.lemmas.RunLemmas.{each_overlap, none_so_far, one_more, passed_over}
+use Rattle.gix_refspec_lint.proofs.{Common.{take_all, arith, NoneAt, AreOverlaps, Fails}, lemmas.{FailLemmas.{fails_again, fails_none}, RunLemmas.{each_overlap, none_so_far, one_more, passed_over}}}
 use Rattle.gix_refspec_lint.proofs.conflicts.conflict_overlapping.Goals as goal
 use Rattle.gix_refspec_lint.proofs.conflicts.conflict_overlapping.Goals.{in-Some, in-None+in_ok-name-in-None+in_ok-conflict-in-None+in-Nothing}
 

@@ -1,5 +1,4 @@
-use Rattle.gix_refspec_lint.proofs.Common.{◌<◌, length, map, sym, ap, ◌∙◌, take_all, arith, map-append, zip_long, example_of}
-use Rattle.gix_refspec_lint.proofs.lemmas.FoundLemmas.{group_long, rows_next}
+use Rattle.gix_refspec_lint.proofs.{Common.{◌<◌, length, map, sym, ap, ◌∙◌, take_all, arith, map-append, zip_long, example_of}, lemmas.FoundLemmas.{group_long, rows_next}}
 use Rattle.gix_refspec_lint.proofs.conflicts.conflicts_in.Goals as goal
 
 pub conflicts_with-requires : goal.conflicts_with-requires

@@ -1,5 +1,4 @@
-use Rattle.gix_refspec_lint.proofs.Common.{◌<◌, length, map, None, Some, append-nil, sym, ap, ◌∙◌, take_all, arith, map-append, example_of}
-use Rattle.gix_refspec_lint.proofs.lemmas.FoundLemmas.{group_long, row_next, row_same}
+use Rattle.gix_refspec_lint.proofs.{Common.{◌<◌, length, map, None, Some, append-nil, sym, ap, ◌∙◌, take_all, arith, map-append, example_of}, lemmas.FoundLemmas.{group_long, row_next, row_same}}
 use Rattle.gix_refspec_lint.proofs.conflicts.conflicts_with.Goals as goal
 use Rattle.gix_refspec_lint.proofs.conflicts.conflicts_with.Goals.{then-first-second+in_ok-conflict+in-Some+in_ok-push, then-first-second+in_ok-conflict+in_default, else-first-second}
 

@@ -1,5 +1,5 @@
-use Rattle.gix_refspec_lint.proofs.Common.{map, refl, sym, ◌∙◌, false≢true, IfOk-weaker, bstr_bytes, ref_of, start_of, refs_of, HaveSameNames, ◌++◌}
-use Rattle.gix_refspec_lint.proofs.lemmas.{FoundLemmas.{both_named, conflict_made, makes_named}, IndexLemmas.reading_at}
+use Rattle.gix_refspec_lint.proofs.{Common.{map, refl, sym, ◌∙◌, false≢true, IfOk-weaker, bstr_bytes, ref_of, start_of, refs_of, HaveSameNames, ◌++◌}, lemmas.FoundLemmas.{both_named, conflict_made}}
+use Rattle.gix_refspec_lint.proofs.lemmas.{FoundLemmas.makes_named, IndexLemmas.reading_at}
 use Rattle.gix_refspec_lint.proofs.conflicts.do_conflict.Goals as goal
 
 pub returns-then-not-is_fetched : goal.returns-then-not-is_fetched

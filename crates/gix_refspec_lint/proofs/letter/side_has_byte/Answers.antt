@@ -1,5 +1,8 @@
-use Rattle.gix_refspec_lint.proofs.Common.{ℕ, List, Bool, true, false, MatchBool, nat_eq, sym, ◌≡◌, list_any, bstr_bytes, Lacks, Lacks-tested}
-use Rattle.gix_refspec_lint.proofs.lemmas.ByteLemmas.{not_lacked}
+use Rattle.gix_refspec_lint.proofs.Common.{ℕ, List, [], ◌∷◌, Bool, true, false, MatchBool, nat_eq, sym, arith, eqb-true, false≢true, ◌≡◌, list_any, bstr_bytes, Lacks, Lacks-tested}
+
+not_lacked : (b : ℕ) (x : List ℕ) → list_any (λ c. nat_eq c b) x ≡ true → ¬ (Lacks b x)
+not_lacked b [] found lacks = false≢true found
+not_lacked b (c ∷ x) found lacks = grind (arith, not_lacked b x, eqb-true)
 
 tells : (b : ℕ) (x : List ℕ) (found : Bool) → found ≡ list_any (λ c. nat_eq c b) x → MatchBool found (¬ (Lacks b x)) (Lacks b x)
 tells b x true is = not_lacked b x (sym is)

@@ -8,15 +8,20 @@ pub loop-length-preserved : goal.loop-length-preserved
 loop-length-preserved c =
     let list = c.deref-length-items.result.now in
     let i = c.loop-length.length-index in
+    let k = get_or list i 0 in
+    let found = c.loop-length.shared.items in
     let so_far = c.loop-length.invariant in
     let are : AreBorders (bstring_bytes c.in_ok-text.text) list = rw c.deref-length-items.ensures.value (rw (c.as_bytes.ensures, c.as_bstr.ensures) at c.in_ok-borders.ensures) in
     elim c.if-length-self.branch [
       | then-length-self+in_ok-push w ↦ rw (w.shared-is, w.in_ok-push.ensures.items) (record {
-        each = all_join (IsOverlap _ _) c.loop-length.shared.items (get_or list i 0 ∷ []) so_far.each
-            ((border_shared _ _ _ _ c.requires.0 c.requires.1 c.in_ok-text.ensures (get_or list i 0) w.if-length-self.true).0 (of_element (IsBorder _) list _ are.each (Contains-get_or list i 0 c.loop-length-test.true)), tt);
-        all = λ j l few. elim (upto j i l) [ inl less ↦ Contains-append_left c.loop-length.shared.items _ _ (so_far.all j less few) | inr last ↦ rw last (Contains-push c.loop-length.shared.items (get_or list i 0)) ];
+        each = all_join (IsOverlap _ _) found (k ∷ []) so_far.each
+            ((border_shared _ _ _ _ c.requires.0 c.requires.1 c.in_ok-text.ensures k w.if-length-self.true).0 (of_element (IsBorder _) list k are.each (Contains-get_or list i 0 c.loop-length-test.true)), tt);
+        all = λ j l few. elim (upto j i l) [ inl less ↦ Contains-append_left found (k ∷ []) _ (so_far.all j less few) | inr last ↦ rw last (Contains-push found k) ];
       })
-      | else-length-self w ↦ rw w.shared-is (record { each = so_far.each; all = λ j l few. elim (upto j i l) [ inl less ↦ so_far.all j less few | inr last ↦ absurd (omega (arith, rw last at few, w.if-length-self.false)) ] })
+      | else-length-self w ↦ rw w.shared-is (record {
+        each = so_far.each;
+        all = λ j l few. elim (upto j i l) [ inl less ↦ so_far.all j less few | inr last ↦ absurd (omega (arith, rw last at few, w.if-length-self.false)) ];
+      })
     ]
 
 pub returns : goal.returns
