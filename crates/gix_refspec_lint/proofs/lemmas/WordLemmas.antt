@@ -15,20 +15,16 @@ split_at P [] [] all = all
 split_at P [] (b ∷ m) all = all.0
 split_at P (b ∷ v) m all = split_at (λ w. P (b ∷ w)) v m all.1
 
-abbrev HasParts : List ℕ → Type 0
-HasParts = AllSplits (λ a m. AllSplits (λ v k. Contains parts v) m)
+-- each part of `refs/` and of `HEAD` is listed, and each ending of `refs/`
+listed : AllSplits (λ a. AllSplits (λ v m. Contains parts v)) (codes "refs/") × AllSplits (λ a. AllSplits (λ v m. Contains parts v)) head × AllSplits (λ a m. Contains endings m) (codes "refs/")
+listed = (
+  (((0, omega arith, refl), ((1, omega arith, refl), ((2, omega arith, refl), ((3, omega arith, refl), ((4, omega arith, refl), (5, omega arith, refl)))))), (((0, omega arith, refl), ((6, omega arith, refl), ((7, omega arith, refl), ((8, omega arith, refl), (9, omega arith, refl))))), (((0, omega arith, refl), ((10, omega arith, refl), ((11, omega arith, refl), (12, omega arith, refl)))), (((0, omega arith, refl), ((13, omega arith, refl), (14, omega arith, refl))), (((0, omega arith, refl), (15, omega arith, refl)), (0, omega arith, refl)))))),
+  (((0, omega arith, refl), ((16, omega arith, refl), ((17, omega arith, refl), ((18, omega arith, refl), (19, omega arith, refl))))), (((0, omega arith, refl), ((20, omega arith, refl), ((21, omega arith, refl), (22, omega arith, refl)))), (((0, omega arith, refl), ((23, omega arith, refl), (24, omega arith, refl))), (((0, omega arith, refl), (25, omega arith, refl)), (0, omega arith, refl))))),
+  ((5, omega arith, refl), ((4, omega arith, refl), ((3, omega arith, refl), ((2, omega arith, refl), ((1, omega arith, refl), (0, omega arith, refl)))))),
+)
 
-part_of : (x a v m : List ℕ) → HasParts x → x ≡ a ++ (v ++ m) → Contains parts v
-part_of x a v m all is = split_at (λ v k. Contains parts v) v m (split_at (λ a m. AllSplits (λ v k. Contains parts v) m) a (v ++ m) (rw is at all))
-
-refs_parts : HasParts (codes "refs/")
-refs_parts = (((0, omega arith, refl), ((1, omega arith, refl), ((2, omega arith, refl), ((3, omega arith, refl), ((4, omega arith, refl), (5, omega arith, refl)))))), (((0, omega arith, refl), ((6, omega arith, refl), ((7, omega arith, refl), ((8, omega arith, refl), (9, omega arith, refl))))), (((0, omega arith, refl), ((10, omega arith, refl), ((11, omega arith, refl), (12, omega arith, refl)))), (((0, omega arith, refl), ((13, omega arith, refl), (14, omega arith, refl))), (((0, omega arith, refl), (15, omega arith, refl)), (0, omega arith, refl))))))
-
-head_parts : HasParts head
-head_parts = (((0, omega arith, refl), ((16, omega arith, refl), ((17, omega arith, refl), ((18, omega arith, refl), (19, omega arith, refl))))), (((0, omega arith, refl), ((20, omega arith, refl), ((21, omega arith, refl), (22, omega arith, refl)))), (((0, omega arith, refl), ((23, omega arith, refl), (24, omega arith, refl))), (((0, omega arith, refl), (25, omega arith, refl)), (0, omega arith, refl)))))
-
-refs_endings : AllSplits (λ a m. Contains endings m) (codes "refs/")
-refs_endings = ((5, omega arith, refl), ((4, omega arith, refl), ((3, omega arith, refl), ((2, omega arith, refl), ((1, omega arith, refl), (0, omega arith, refl))))))
+part_of : (x a v m : List ℕ) → AllSplits (λ a. AllSplits (λ v m. Contains parts v)) x → x ≡ a ++ (v ++ m) → Contains parts v
+part_of x a v m all is = split_at (λ v m. Contains parts v) v m (split_at (λ a. AllSplits (λ v m. Contains parts v)) a (v ++ m) (rw is at all))
 
 -- ---- words that the names of refs contain
 
@@ -55,18 +51,18 @@ begins_before x m begins = record { after = begins.after ++ m; here = rw begins.
 -- a word in several names of refs is a part of `refs/` or `HEAD`, or it has such an ending
 pub ending_or_part : (v : List ℕ) (ts : List Around) → AllByRecursion (IsRefAround v) ts → Contains parts v ⊎ HasEnding v (map (λ t. t.front) ts)
 ending_or_part v [] all = inr (record { ending = []; rest = v; is = refl; listed = (0, omega arith, refl); begin = tt })
-ending_or_part v (t ∷ ts) (inr is, all) = inl (part_of head t.front v t.back head_parts (sym is))
+ending_or_part v (t ∷ ts) (inr is, all) = inl (part_of head t.front v t.back listed.1 (sym is))
 ending_or_part v (t ∷ ts) (inl (begins, named), all) = elim (ending_or_part v ts all) [
   | inl part ↦ inl part
   | inr h ↦ elim (parted (t.front ++ h.ending) (h.rest ++ t.back) (codes "refs/") begins.after (simp append_assoc (simp append_assoc at (ap (λ w. t.front ++ (w ++ t.back)) (sym h.is) ∙ begins.here)))) [
     | inr (m, longer, rest) ↦ inr (record { ending = h.ending; rest = h.rest; is = h.is; listed = h.listed; begin = (record { after = m; here = longer }, h.begin) })
     | inl (m, whole, rest) ↦ elim (parted m begins.after h.rest t.back (sym rest)) [
-      | inr (k, shorter, end) ↦ inl (part_of (codes "refs/") t.front v k refs_parts (whole ∙ simp (shorter, h.is, append_assoc)))
+      | inr (k, shorter, end) ↦ inl (part_of (codes "refs/") t.front v k listed.0 (whole ∙ simp (shorter, h.is, append_assoc)))
       | inl (k, longer, end) ↦ inr (record {
         ending = h.ending ++ m;
         rest = k;
         is = h.is ∙ ap (λ w. h.ending ++ w) longer ∙ sym (append_assoc h.ending m k);
-        listed = split_at (λ a m. Contains endings m) t.front (h.ending ++ m) (subst (AllSplits (λ a m. Contains endings m)) (whole ∙ append_assoc t.front h.ending m) refs_endings);
+        listed = split_at (λ a m. Contains endings m) t.front (h.ending ++ m) (subst (AllSplits (λ a m. Contains endings m)) (whole ∙ append_assoc t.front h.ending m) listed.2);
         begin = (
           record { after = []; here = sym (whole ∙ append_assoc t.front h.ending m) },
           all_weaker _ _ (λ x begin. simp append_assoc at (begins_before (x ++ h.ending) m begin)) (map (λ (x : Around). x.front) ts) h.begin,

@@ -7,9 +7,8 @@ pub returns-then-is_empty : goal.returns-then-is_empty
 returns-then-is_empty c g is s t k =
     let others = c.in_ok-others.others in
     let (r, done) = completed_of g c.args.group.now is c.args.second c.index-group-second.result c.requires.1 in
-    let of_others = rw c.as_bytes.ensures at (c.in_ok-others.ensures r done) in
     none_contained t (ap (map start_of) (nil_from_length others.items (omega (arith, eqb-true _ 0 (sym c.if-is_empty.ensures), others.ok.0, others.ok.1))))
-    (of_others _ t (makes_of g c.args.group.now is c.args.second _ c.requires.1 _ t _ k.other))
+    (rw c.as_bytes.ensures at (c.in_ok-others.ensures r done) _ t (makes_of g c.args.group.now is c.args.second _ c.requires.1 _ t _ k.other))
 
 pub returns-then-branch : goal.returns-then-branch
 returns-then-branch c g is =
@@ -34,11 +33,9 @@ returns c g is =
     let below : c.args.first < length c.args.group.now.specs.now = omega (arith, c.requires.0, c.requires.1) in
     let (q, made) = completed_of g c.args.group.now is c.args.first c.index-group-first.result below in
     let (r, done) = completed_of g c.args.group.now is c.args.second c.index-group-second.result c.requires.1 in
-    let of_ones = rw c.as_bytes-2.ensures at (c.in_ok-ones.ensures q made) in
-    let of_others = rw c.as_bytes.ensures at (c.in_ok-others.ensures r done) in
     none_of_all g c.args.first c.args.second (bstr_bytes c.args.destination) (map start_of c.in_ok-ones.ones.items) (map start_of c.in_ok-others.others.items)
     (rw (take_all c.loop-one.one-index c.deref-one-items.result.now (omega arith), c.deref-one-items.ensures.value) at (c.loop-one.invariant g is))
     (λ s t k. (
-      of_ones _ s (makes_of g c.args.group.now is c.args.first _ below _ s _ k.one),
-      of_others _ t (makes_of g c.args.group.now is c.args.second _ c.requires.1 _ t _ k.other),
+      rw c.as_bytes-2.ensures at (c.in_ok-ones.ensures q made) _ s (makes_of g c.args.group.now is c.args.first _ below _ s _ k.one),
+      rw c.as_bytes.ensures at (c.in_ok-others.ensures r done) _ t (makes_of g c.args.group.now is c.args.second _ c.requires.1 _ t _ k.other),
     ))
