@@ -72,8 +72,6 @@ module _ (z : ℕ) (usable : IsTrue (is_usable z)) where
   pub lacks_refs : Lacks z (codes "refs/")
   lacks_refs = lacks_mid [] (codes "refs/") _ refl
 
-  -- ---- texts without the byte
-
   -- it is in one of two parts of a text
   byte_in : (p s x y : List ℕ) → p ++ s ≡ x ++ (z ∷ y) → ((v : List ℕ) × (p ≡ x ++ (z ∷ v)) × (y ≡ v ++ s)) ⊎ ((u : List ℕ) × (x ≡ p ++ u) × (s ≡ u ++ (z ∷ y)))
   byte_in p s x y is = elim (cases_lt (length x) (length p)) [

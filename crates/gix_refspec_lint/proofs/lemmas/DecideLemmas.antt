@@ -1,7 +1,7 @@
 -- The names that decide show what a spec with a source pattern maps soundly.
 use Rattle.gix_refspec_lint.proofs.Common.{append_assoc, ◌≡◌, ◌≢◌, ◌⊎◌, inl, inr, ℕ, List, [], ◌∷◌, ◌++◌, Option, None, Some, refl, sym, ap, ◌∙◌, subst, AllByRecursion, Ref, HasName, Fits, Reading}
-use Rattle.gix_refspec_lint.proofs.Common.{IsSplit, Lacks, all_join, all_left, all_right, name, MakesForward, IsRefName, CanBeWritten, IsFree, IsDeciding, IsLongerPrefix, IsLongerSuffix, IsMost}
-use Rattle.gix_refspec_lint.proofs.{Common.{words_with, MakesSoundly}, lemmas.{MovedLemmas.{regroup, word_or_moved}, PatternLemmas.{HasShape, PatternSpec, spec_made, spec_maps}, WordLemmas.Around}}
+use Rattle.gix_refspec_lint.proofs.Common.{IsSplit, Lacks, all_join, all_right, name, MakesForward, IsRefName, CanBeWritten, IsFree, IsDeciding, IsLongerPrefix, IsLongerSuffix, IsMost, words_with}
+use Rattle.gix_refspec_lint.proofs.{Common.MakesSoundly, lemmas.{MovedLemmas.{lacks_parts, regroup, word_or_moved}, PatternLemmas.{HasShape, PatternSpec, spec_made, spec_maps}, WordLemmas.Around}}
 use Rattle.gix_refspec_lint.proofs.lemmas.WordLemmas.{IsRefAround, between, common_name, within}
 
 -- the destination has the byte in place of the word, or there is none
@@ -51,11 +51,8 @@ module _ (g : List Reading) (z : ℕ) (free : IsFree g z) (c : Reading) (p t : L
     y ++ far.after,
     far.is _ ∙ ap Some (regroup far.before x e rest y far.after),
     far.is _ ∙ ap Some (regroup far.before x e (z ∷ []) y far.after),
-    λ lacks others.
-        let side = others far.side far.before far.after far.has far.split in
-        all_join (λ k. k ≢ z) (far.before ++ x) e
-        (all_join (λ k. k ≢ z) far.before x (all_left (λ k. k ≢ z) far.before _ (subst (Lacks z) far.split.starred side)) (all_right (λ k. k ≢ z) p x (subst (Lacks z) before lacks)))
-        also,
+    λ lacks others. all_join (λ k. k ≢ z) (far.before ++ x) e (all_join (λ k. k ≢ z) far.before x (lacks_parts g z free far.side _ _ (others far.side far.before far.after far.has far.split) far.split).0
+        (all_right (λ k. k ≢ z) p x (subst (Lacks z) before lacks))) also,
   )
 
   module _ (a b prefix suffix : List ℕ) (most : ℕ) (longer : IsLongerPrefix a p prefix) (ends : IsLongerSuffix b t suffix) (is_most : IsMost a b p t prefix suffix most) (refs : List Ref) (m : List ℕ) (d : Option (List ℕ)) (v : List ℕ) (fits : Fits a b m v) (makes : MakesSoundly refs (name m) d c) where

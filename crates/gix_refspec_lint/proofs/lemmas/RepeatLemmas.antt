@@ -18,8 +18,6 @@ pub power_long : (v : List ℕ) (i : ℕ) → v ≢ [] → i ≤ length (power v
 power_long [] i some = absurd (some refl)
 power_long (b ∷ v) i some = grind (arith, power_length (b ∷ v) i)
 
--- ---- a text that is split twice
-
 moved : (x c q u v : List ℕ) → x ++ (v ++ (c ++ q)) ≡ (x ++ c) ++ (u ++ q) → (i : ℕ) → x ++ (power v i ++ (c ++ q)) ≡ (x ++ c) ++ (power u i ++ q)
 moved x c q u v once i =
     let is : v ++ c ≡ c ++ u = append_cancel_right _ _ q (simp append_assoc (append_cancel_left x _ _ (simp append_assoc at once))) in
@@ -37,8 +35,6 @@ power_one v y = simp append-nil
 
 pub differ_again : (n v x y : List ℕ) → v ≢ [] → n ≡ x ++ y → n ≡ x ++ (v ++ y) → ⊥
 differ_again n v x y some without once = some (append_cancel_right v [] y (append_cancel_left x (v ++ y) y (cc)))
-
--- ---- a word that repeats within what a text begins or ends with, and within what a pattern's star stands for
 
 -- each text with the word so often is one that another word is in as often, put in its place
 pub record Repeats (x v y : List ℕ) (placed : List ℕ → List ℕ) : Type 0 where
