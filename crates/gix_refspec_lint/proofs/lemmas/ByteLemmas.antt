@@ -1,8 +1,8 @@
 -- A byte between two texts that stands for any word there.
 use Rattle.gix_refspec_lint.proofs.Common.{rules, ◌≡◌, ◌≢◌, ◌⊎◌, inl, inr, ℕ, false, ◌||◌, ◌==◌, List, [], ◌∷◌, ◌++◌, Option, Some, codes, append_assoc, refl, sym, ap, ◌∙◌, subst, IsTrue, AllByRecursion}
-use Rattle.gix_refspec_lint.proofs.Common.{list_any, eqb-false, Excludes, Fits, by_pattern, the_name, AddsFault, Reading, slash, star, is_refused_byte, IsName, EndsWith, Lacks, Error, all_left, all_right}
-use Rattle.gix_refspec_lint.proofs.Common.{Lacks-here, HasFault-added, HasFault-left, IsName-from_clean, IsExcluded, LacksIn, SidesLack, is_usable, arith, length, cases_lt, length-append, or_parts}
-use Rattle.gix_refspec_lint.proofs.Common.{not-true, ◌≤◌, BeginsWith, append-nil}
+use Rattle.gix_refspec_lint.proofs.Common.{list_any, eqb-false, Excludes, Fits, by_pattern, the_name, Reading, slash, star, is_refused_byte, IsName, EndsWith, Lacks, all_left, all_right, Lacks-here}
+use Rattle.gix_refspec_lint.proofs.Common.{HasFault-added, HasFault-left, IsName-from_clean, IsExcluded, LacksIn, SidesLack, is_usable, arith, length, cases_lt, length-append, or_parts, not-true, ◌≤◌}
+use Rattle.gix_refspec_lint.proofs.Common.{BeginsWith, append-nil}
 use Rattle.gix_refspec_text.{proofs.lemmas.texts.NameLemmas.IsClean-more, specs.Private.Scan.IsClean}
 
 -- of two ways to split a list, the one that splits it no earlier is further on
@@ -29,17 +29,13 @@ begins_alike x a b c below begins =
 
 -- ---- faults
 
--- where y ends with those of these words that x ends with, a byte adds to y what it adds to x
+-- where each of these words that ends a text behind p ends it behind q, a clean p stays clean before what q stays clean before
 module _ (K : List ℕ → Type 0) (kept : K (codes "/") × K (codes ".lock") × K (codes ".") × K (codes "@")) where
-  adds_as : (x y : List ℕ) → ((w : List ℕ) → K w → EndsWith w x → EndsWith w y) → (b : ℕ) (e : Error) → AddsFault x b e → AddsFault y b e
-  adds_as x y ends b e adds = grind (arith, ends, kept)
-
-  -- so where what ends a text behind p ends it behind q, a clean p stays clean before what q stays clean before
   clean_before : (p q y : List ℕ) → ((k w : List ℕ) → K w → EndsWith w (p ++ k) → EndsWith w (q ++ k)) → IsClean p → IsClean (q ++ y) → IsClean (p ++ y)
   clean_before p q [] ends clean also = rw append-nil clean
   clean_before p q (b ∷ y) ends clean also =
-      let more : IsClean (p ++ b ∷ []) = IsClean-more p b clean
-      (λ e fault. also e (record { before = q; byte = b; after = y; here = refl; fault = adds_as p q (simp append-nil at (ends [])) b e fault })) in
+      let now : (w : List ℕ) → K w → EndsWith w p → EndsWith w q = simp append-nil at (ends []) in
+      let more : IsClean (p ++ b ∷ []) = IsClean-more p b clean (λ e fault. also e (record { before = q; byte = b; after = y; here = refl; fault = grind (arith, now, kept) })) in
       simp append_assoc at (clean_before (p ++ b ∷ []) (q ++ b ∷ []) y (λ k w. simp append_assoc (ends (b ∷ k) w)) more (simp append_assoc also))
 
   -- and a name stays one with p in place of q
@@ -110,8 +106,7 @@ module _ (z : ℕ) (usable : IsTrue (is_usable z)) where
   excludes_moved text x v y lacks (by_pattern before after word split fits) =
       let sides = subst (Lacks z) split.starred lacks in
       let (u, t, front, end, is) = fits_byte before after x y word (all_left (λ c. c ≢ z) before (star ∷ after) sides) (all_right (λ c. c ≢ z) before (star ∷ after) sides).1 fits in
-      by_pattern before after (u ++ (v ++ t)) split (ap (λ p. p ++ (v ++ y)) front ∙ ap (λ s. (before ++ u) ++ (v ++ s)) end
-      ∙ simp append_assoc)
+      by_pattern before after (u ++ (v ++ t)) split (ap (λ p. p ++ (v ++ y)) front ∙ ap (λ s. (before ++ u) ++ (v ++ s)) end ∙ simp append_assoc)
 
   pub lacks_in : (side : Option (List ℕ)) (x : List ℕ) → side ≡ Some x → LacksIn z side → Lacks z x
   lacks_in side x is = subst (LacksIn z) is

@@ -125,10 +125,8 @@ there_more few refs (name n) among there = among n there
 there_more few refs (id bytes) among there = tt
 
 fetches_fewer : (g : List Reading) (refs few : List Ref) (k : ℕ) (s : Source) (d : Option (List ℕ)) → AreAmong few refs → IsThere few s → Fetches g refs k s d → Fetches g few k s d
-fetches_fewer g refs few k s d among present f = record {
-  maps = record { maps = maps_as f.maps.maps (makes_fewer refs few s d f.maps.maps.completed among present f.maps.maps.makes); source = f.maps.source; destination = f.maps.destination };
-  included = f.included;
-}
+fetches_fewer g refs few k s d among present f =
+    record { maps = record { maps = maps_as f.maps.maps (makes_fewer refs few s d _ among present f.maps.maps.makes); source = f.maps.source; destination = f.maps.destination }; included = f.included }
 
 -- so two refs are enough for a conflict
 pub conflict_of_two : (g : List Reading) (refs : List Ref) (i j : ℕ) (s t : Source) (d : List ℕ) → ConflictOver g refs i j s t d → ConflictOver g (refs_of s ++ refs_of t) i j s t d

@@ -11,9 +11,8 @@ pub loop-len-preserved : goal.loop-len-preserved
 loop-len-preserved c =
     let len = c.loop-len.len in
     let old = c.loop-len.invariant in
-    let shorter = old.border.shorter in
     let lengths = c.loop-len.lengths.items in
-    let is = c.requires.known len c.loop-len-test.true (omega arith) in
+    let is = c.requires.known len c.loop-len-test.true (omega (arith, old.border.shorter)) in
     rw (c.in_ok-push.ensures.items) (record {
       border = (border_in _ old.border is.is_border.shorter).0 is.is_border;
       each = all_join (IsBorder c.args.text.now) lengths (len ∷ []) old.each (border_here _ len c.loop-len-test.true old.border, tt);

@@ -11,8 +11,7 @@ pub loop-border-preserved : goal.loop-border-preserved
 loop-border-preserved c =
     let b = c.loop-border.border in
     let old = c.loop-border.invariant in
-    let shorter = old.border.shorter in
-    let is = c.requires.known b (omega arith) (omega arith) in
+    let is = c.requires.known b (omega arith) (omega (arith, old.border.shorter)) in
     record {
       border = (border_in _ old.border is.is_border.shorter).0 is.is_border;
       above = λ d l other. let (at, goes) = shortened _ c.args.len d (omega arith) other in elim (cases_lt (d - 1) b) [
