@@ -27,8 +27,6 @@ begins_alike x a b c below begins =
     let (m, longer, rest) = further x begins.after a b (sym begins.here) below in
     record { after = m ++ c; here = ap (λ z. z ++ c) longer ∙ append_assoc x m c }
 
--- ---- faults
-
 -- where each of these words that ends a text behind p ends it behind q, a clean p stays clean before what q stays clean before
 module _ (K : List ℕ → Type 0) (kept : K (codes "/") × K (codes ".lock") × K (codes ".") × K (codes "@")) where
   clean_before : (p q y : List ℕ) → ((k w : List ℕ) → K w → EndsWith w (p ++ k) → EndsWith w (q ++ k)) → IsClean p → IsClean (q ++ y) → IsClean (p ++ y)
@@ -76,8 +74,6 @@ module _ (z : ℕ) (usable : IsTrue (is_usable z)) where
         inl (v, longer ∙ append_assoc x (z ∷ []) v, rest)
     | inr from ↦ inr (further p s x (z ∷ y) is from)
   ]
-
-  -- ---- names and patterns
 
   -- where the name with a word in place of the byte isn't empty, it has no fault that the other lacks
   pub name_with_byte : (x v y : List ℕ) → x ++ (v ++ y) ≢ [] → IsName (x ++ (v ++ y)) → IsName (x ++ (z ∷ y))

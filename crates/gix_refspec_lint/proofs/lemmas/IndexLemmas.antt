@@ -92,10 +92,7 @@ makes_again refs few n d r there makes first =
       one = named_some (IsPaired (Takes few) makes.ends n d) few n there (λ other named. record {
         word = paired.word;
         name = named;
-        takes = record {
-          matches = matches_by_name makes.ends item other paired.word (paired.name ∙ sym named) makes.has.no_object paired.takes.matches;
-          first = λ m kind. subst (IsFirstCandidate few m) (sym named) (first m kind);
-        };
+        takes = record { matches = matches_by_name makes.ends item other _ (paired.name ∙ sym named) makes.has.no_object paired.takes.matches; first = λ m kind. rw named (first m kind) };
         becomes = paired.becomes;
       });
     }

@@ -3,8 +3,6 @@ use Rattle.gix_refspec_lint.proofs.Common.{add-one, ◌≡◌, ◌≢◌, inl, i
 use Rattle.gix_refspec_lint.proofs.{Common.{append_cancel_left, append_cancel_right, Fits, power, codes, Some, slash, IsRefName, CanBeWritten}, lemmas.ByteLemmas.{parted, further, begins_alike}}
 use Rattle.gix_refspec_lint.proofs.lemmas.ByteLemmas.{clean_front, ends_alike, names_as}
 
--- ---- a word several times
-
 -- where v, moved past c, is u, it is that each time
 power_moved : (c u v : List ℕ) → v ++ c ≡ c ++ u → (i : ℕ) → power v i ++ c ≡ c ++ power u i
 power_moved c u v is zero = sym (append-nil c)
@@ -72,8 +70,6 @@ words_repeat a b v x y w0 w1 without once = elim (parted a (w0 ++ b) x y (sym wi
           size = omega (arith, ap length old, ap length new, length-append {A = ℕ});
           each = λ i. same_repeats (a ++ p) (q ++ b) u v x y old new i ∙ simp append_assoc;
         }
-
--- ---- names in which a word repeats: once more makes no name of what isn't one
 
 -- where the word so often has five bytes or more, and makes no destination that can be written, it makes none once more
 pub written_again : (x v y : List ℕ) (i : ℕ) → 5 ≤ length (power v i) → ¬ (CanBeWritten (Some (x ++ (power v i ++ y)))) → ¬ (CanBeWritten (Some (x ++ (power v (i + 1) ++ y))))

@@ -36,27 +36,24 @@ module _ (Holds : Why → List ℕ → Type 0) (prefix suffix : List ℕ) where
     whole = is.whole ∙ ap (λ x. x ++ (power is.word is.times ++ is.rest)) (sym (take-append-drop k is.front)) ∙ append_assoc (take k is.front) more _
 
     more_ends : EndsWith more prefix
-    more_ends = record {
-      before = is.ends.before ++ take k is.front;
-      here = is.ends.here ∙ ap (λ x. is.ends.before ++ x) (sym (take-append-drop k is.front)) ∙ sym (append_assoc is.ends.before (take k is.front) more);
-    }
+    more_ends = record { before = is.ends.before ++ take k is.front; here = is.ends.here ∙ ap (λ x. is.ends.before ++ x) (sym (take-append-drop k is.front)) ∙ sym (append_assoc is.ends.before _ more) }
 
     -- if there was one more before, by as much as this one has more, it is the word once more
-    again : (is.times ≡ 0) ⊎ (length more ≡ run.step) → (i : ℕ) → i ≤ is.times → power is.word i ≡ power more i
+    again : (0 < is.times → length more ≡ run.step) → (i : ℕ) → i ≤ is.times → power is.word i ≡ power more i
     again apart zero l = refl
-    again (inl none) (suc i) l = absurd (omega (arith, none, l))
-    again (inr equal) (suc i) l =
-        let (ends, long) = is.equal (omega (arith, l)) in
-        let same : length more_ends.before ≡ length ends.before = omega (arith, ap length (sym ends.here ∙ more_ends.here), length-append {A = ℕ}, long, equal) in
+    again apart (suc i) l =
+        let some : 0 < is.times = omega (arith, l) in
+        let (ends, long) = is.equal some in
+        let same : length more_ends.before ≡ length ends.before = omega (arith, ap length (sym ends.here ∙ more_ends.here), length-append {A = ℕ}, long, apart some) in
         ap (λ v. power v (suc i)) (sym (drop_at ends.before is.word (length ends.before) refl) ∙ ap (drop (length ends.before)) (sym ends.here ∙ more_ends.here) ∙ drop_at more_ends.before more _ same)
 
-    name_is : (is.times ≡ 0) ⊎ (length more ≡ run.step) → prefix ++ drop k suffix ≡ prefix ++ (power more (suc is.times) ++ is.rest)
+    name_is : (0 < is.times → length more ≡ run.step) → prefix ++ drop k suffix ≡ prefix ++ (power more (suc is.times) ++ is.rest)
     name_is apart = ap (λ x. prefix ++ x) (ap (drop k) whole ∙ drop_at (take k is.front) _ k sizes.0 ∙ ap (λ v. more ++ (v ++ is.rest)) (again apart is.times (omega arith)) ∙ simp append_assoc)
 
     -- so it goes on without a look
     goes : Goes Holds → (why : Why) → why ≡ run.why → why ≢ Unknown → run.shortest + 5 ≤ run.longest → k + run.step ≡ run.shortest → Holds why (prefix ++ drop k suffix)
     goes law why same known long step =
-        let apart : (is.times ≡ 0) ⊎ (length more ≡ run.step) = inr (omega (arith, sizes.1)) in
+        let apart : 0 < is.times → length more ≡ run.step = λ some. omega (arith, sizes.1) in
         let next : is.times + 1 ≡ suc is.times = omega arith in
         let enough : 5 ≤ length (power more is.times) = omega (arith, ap length (again apart is.times (omega arith)), is.longest) in
         subst (Holds why) (ap (λ j. prefix ++ (power more j ++ is.rest)) next ∙ sym (name_is apart))
@@ -65,7 +62,7 @@ module _ (Holds : Why → List ℕ → Type 0) (prefix suffix : List ℕ) where
     run_next : (why : Why) (new : Run) → IsNextOf run k why new → Holds why (prefix ++ drop k suffix) → IsRun Holds prefix suffix new
     run_next why new next holds =
         let long : length more ≡ new.step = omega (arith, sizes.1, next.step) in
-        let apart : (is.times ≡ 0) ⊎ (length more ≡ run.step) = elim next.equal [ inl first ↦ inl (omega (arith, first, is.longest, power_long is.word is.times is.some)) | inr equal ↦ inr (long ∙ equal) ] in
+        let apart : 0 < is.times → length more ≡ run.step = λ some. elim next.equal [ inl first ↦ absurd (omega (arith, first, is.longest, power_long is.word is.times is.some)) | inr equal ↦ long ∙ equal ] in
         let old = again apart is.times (omega arith) in
         record {
           front = take k is.front;
@@ -83,8 +80,6 @@ module _ (Holds : Why → List ℕ → Type 0) (prefix suffix : List ℕ) where
             | inr all ↦ rw (all, next.why, ← name_is apart) holds
           ];
         }
-
--- ---- overlaps one after another, in which there is nothing
 
 -- P holds of the names of these overlaps, and the run goes on with the last of them
 pub record AreSoFar (P : List ℕ → Type 0) (Holds : Why → List ℕ → Type 0) (prefix suffix list : List ℕ) (run : Run) : Type 0 where
@@ -116,13 +111,10 @@ module _ (P : List ℕ → Type 0) (Holds : Why → List ℕ → Type 0) (prefix
       one_more why new (nothing why (prefix ++ drop k suffix) known reason) reason next
 
 pub none_so_far : (P : List ℕ → Type 0) (Holds : Why → List ℕ → Type 0) (prefix suffix : List ℕ) (run : Run) → Holds Unknown (prefix ++ suffix) → IsFirstOf 0 Unknown run → AreSoFar P Holds prefix suffix [] run
-none_so_far P Holds prefix suffix run holds first = record {
-  all = tt;
-  goes = run_first Holds prefix suffix 0 Unknown run (omega arith) (record { before = prefix; here = sym (append-nil prefix) }) holds first;
-}
+none_so_far P Holds prefix suffix run holds first =
+    record { all = tt; goes = run_first Holds prefix suffix 0 Unknown run (omega arith) (record { before = prefix; here = sym (append-nil prefix) }) holds first }
 
--- ---- what holds at the names that decide
-
+-- what holds with each word and at each overlap holds at the names that decide
 pub each_deciding : (P : List ℕ → Type 0) (words : List (List ℕ)) (prefix suffix : List ℕ) (most : ℕ) → AllByRecursion (λ w. P (prefix ++ (w ++ suffix))) words
     → ((k : ℕ) → k ≤ most → IsOverlap prefix suffix k → P (prefix ++ drop k suffix)) → (n : List ℕ) → IsDeciding words prefix suffix most n → P n
 each_deciding P words prefix suffix most by_word overlapping n (inl (w, there, is)) = subst P (sym is) (of_element (λ w. P (prefix ++ (w ++ suffix))) words w by_word there)

@@ -3,8 +3,6 @@ use Rattle.gix_refspec_lint.proofs.Common.{◌≡◌, ◌⊎◌, inl, inr, ℕ, 
 use Rattle.gix_refspec_lint.proofs.Common.{BeginsWith, ◌+◌, drop, map, take, Contains, head, one_word, IsRefName, IsDeciding, IsLongerPrefix, IsLongerSuffix, IsMost, cases_lt, endings, parts, all_weaker}
 use Rattle.gix_refspec_lint.proofs.{Common.{take_at, drop_at}, lemmas.ByteLemmas.{further, parted}}
 
--- ---- the parts of a text
-
 -- P holds of each way to split the text
 abbrev AllSplits : (List ℕ → List ℕ → Type 0) → List ℕ → Type 0
 AllSplits P [] = P [] []
