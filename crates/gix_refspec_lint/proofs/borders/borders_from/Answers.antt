@@ -1,5 +1,5 @@
 -- Each border but the longest is a border of the next longer one.
-use Rattle.gix_refspec_lint.proofs.{Common.{inl, inr, length, arith, cases_eq, cases_lt, [], ◌∷◌, all_join, Contains-push, Contains-append_left, IsBorder}, lemmas.BorderLemmas.{border_here, border_in}}
+use Rattle.gix_refspec_lint.proofs.{Common.{◌<◌, length, arith, cases_eq, [], ◌∷◌, all_join, Contains-push, Contains-append_left, IsBorder}, lemmas.BorderLemmas.{border_here, border_in}}
 use Rattle.gix_refspec_lint.proofs.borders.borders_from.Goals as goal
 
 pub loop-len-init : goal.loop-len-init
@@ -16,8 +16,7 @@ loop-len-preserved c =
     rw (c.in_ok-push.ensures.items) (record {
       border = (border_in _ old.border is.is_border.shorter).0 is.is_border;
       each = all_join (IsBorder c.args.text.now) lengths (len ∷ []) old.each (border_here _ len c.loop-len-test.true old.border, tt);
-      all = λ k l at. elim (cases_lt k len) [
-        | inl below ↦ absurd (is.longest k l ((border_in _ old.border below).1 at))
-        | inr from ↦ elim (cases_eq k len) [ inl e ↦ rw e (Contains-push lengths len) | inr ne ↦ Contains-append_left lengths (len ∷ []) k (old.all k (omega arith) at) ]
-      ];
+      all = λ k l at.
+          let inner : k < len → ⊥ = λ below. is.longest k l ((border_in _ old.border below).1 at) in
+          grind (arith, inner, cases_eq k len, Contains-push lengths len, Contains-append_left lengths (len ∷ []) k, old.all k);
     })
