@@ -8,8 +8,8 @@ loop-second-preserved c g is have =
     let so_far = c.loop-second.invariant g is have in
     elim c.if-first-second.branch [
       | then-first-second+in_ok-conflict+in-Some+in_ok-push w ↦ rw w.found-is
-          (row_next g _ _ (Some (example_of w.in-Some.conflict)) _ _ below (rw w.in-Some.is at (w.in_ok-conflict.ensures g is have)) so_far (ap (map example_of) w.in_ok-push.ensures.items ∙ map-append example_of c.loop-second.found.items _))
-      | then-first-second+in_ok-conflict+in_default w ↦ rw w.found-is (row_next g _ _ None _ _ below (rw w.in_default.is at (w.in_ok-conflict.ensures g is have)) so_far (sym (append-nil (map example_of c.loop-second.found.items))))
+          (row_next g _ _ (Some (example_of w.in-Some.conflict)) _ _ below (rw w.in-Some.is at (w.in_ok-conflict.ensures g is have)) so_far (ap (map example_of) w.in_ok-push.ensures.items ∙ map-append example_of _ _))
+      | then-first-second+in_ok-conflict+in_default w ↦ rw w.found-is (row_next g _ _ None _ _ below (rw w.in_default.is at (w.in_ok-conflict.ensures g is have)) so_far (sym (append-nil _)))
       | else-first-second w ↦ rw w.found-is (row_same g _ _ _ below w.if-first-second.false so_far)
     ]
 
