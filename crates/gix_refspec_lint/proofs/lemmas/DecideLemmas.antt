@@ -1,10 +1,8 @@
 -- The names that decide show what a spec with a source pattern maps soundly.
-use Rattle.gix_refspec_lint.proofs.Common.{append_assoc, ◌≡◌, ◌≢◌, ◌⊎◌, inl, inr, ℕ, List, [], ◌∷◌, ◌++◌, Option, None, Some, refl, sym, ap, ◌∙◌, subst, AllByRecursion}
-use Rattle.gix_refspec_lint.proofs.Common.{Ref, HasName, Fits, Reading, IsSplit, Lacks, all_join, all_left, all_right, name, MakesForward, IsRefName}
-use Rattle.gix_refspec_lint.proofs.Common.{CanBeWritten, IsFree, IsDeciding, IsLongerPrefix, IsLongerSuffix, IsMost, words_with, MakesSoundly}
-use Rattle.gix_refspec_lint.proofs.lemmas.WordLemmas.{Around, IsParted, IsRefAround, between, common_name, within}
-use Rattle.gix_refspec_lint.proofs.lemmas.PatternLemmas.{HasShape, PatternSpec, spec_made, spec_maps}
-use Rattle.gix_refspec_lint.proofs.lemmas.MovedLemmas.{IsWithByte, regroup, word_or_moved}
+use Rattle.gix_refspec_lint.proofs.Common.{append_assoc, ◌≡◌, ◌≢◌, ◌⊎◌, inl, inr, ℕ, List, [], ◌∷◌, ◌++◌, Option, None, Some, refl, sym, ap, ◌∙◌, subst, AllByRecursion, Ref, HasName, Fits, Reading}
+use Rattle.gix_refspec_lint.proofs.Common.{IsSplit, Lacks, all_join, all_right, name, MakesForward, IsRefName, CanBeWritten, IsFree, IsDeciding, IsLongerPrefix, IsLongerSuffix, IsMost, words_with}
+use Rattle.gix_refspec_lint.proofs.{Common.MakesSoundly, lemmas.{MovedLemmas.{lacks_parts, regroup, word_or_moved}, PatternLemmas.{HasShape, PatternSpec, spec_made, spec_maps}, WordLemmas.Around}}
+use Rattle.gix_refspec_lint.proofs.lemmas.WordLemmas.{IsRefAround, between, common_name, within}
 
 -- the destination has the byte in place of the word, or there is none
 abbrev pub IsMovedFar : ℕ → Reading → List ℕ → List ℕ → Option (List ℕ) → Option (List ℕ) → Type 0
@@ -53,77 +51,48 @@ module _ (g : List Reading) (z : ℕ) (free : IsFree g z) (c : Reading) (p t : L
     y ++ far.after,
     far.is _ ∙ ap Some (regroup far.before x e rest y far.after),
     far.is _ ∙ ap Some (regroup far.before x e (z ∷ []) y far.after),
-    λ lacks others.
-        let side = others far.side far.before far.after far.has far.split in
-        all_join (λ k. k ≢ z) (far.before ++ x) e
-        (all_join (λ k. k ≢ z) far.before x (all_left (λ k. k ≢ z) far.before _ (subst (Lacks z) far.split.starred side)) (all_right (λ k. k ≢ z) p x (subst (Lacks z) before lacks)))
-        also,
+    λ lacks others. all_join (λ k. k ≢ z) (far.before ++ x) e (all_join (λ k. k ≢ z) far.before x (lacks_parts g z free far.side _ _ (others far.side far.before far.after far.has far.split) far.split).0
+        (all_right (λ k. k ≢ z) p x (subst (Lacks z) before lacks))) also,
   )
 
   module _ (a b prefix suffix : List ℕ) (most : ℕ) (longer : IsLongerPrefix a p prefix) (ends : IsLongerSuffix b t suffix) (is_most : IsMost a b p t prefix suffix most) (refs : List Ref) (m : List ℕ) (d : Option (List ℕ)) (v : List ℕ) (fits : Fits a b m v) (makes : MakesSoundly refs (name m) d c) where
-    itself_decides : IsDeciding (words_with z) prefix suffix most m → Decided z c a b prefix suffix most m d
-    itself_decides deciding =
-        let (w, source, far, there) = spec_made c p t spec refs m d makes.makes in
-        record {
-          source = m;
-          destination = d;
-          deciding = deciding;
-          word = v;
-          fits = fits;
-          sound = λ few has. record {
-            makes = subst (λ n. MakesForward few (name n) d c) (sym source) (subst (λ e. MakesForward few (name (p ++ (w ++ t))) e c) (sym far) (spec_maps c p t spec few w (subst (HasName few) source has)));
-            source = makes.source;
-            destination = makes.destination;
-          };
-          moved = inl (refl, refl);
-        }
-
-    module _ (w : List ℕ) (source : m ≡ p ++ (w ++ t)) (far : d ≡ spec.far w) (q : IsParted a b p t prefix suffix m v w) where
-      -- the texts around the word in the source and in the destination
-      abbrev texts_around : List Around
-      texts_around = record { front = prefix; back = suffix } ∷ around_far spec.shape q.p q.q
-
-      with_byte : IsWithByte z q.word texts_around → Decided z c a b prefix suffix most m d
-      with_byte h =
-          let u = h.ending ++ z ∷ [] in
-          let n = prefix ++ (u ++ suffix) in
-          let far_is : d ≡ spec.far (q.p ++ ((h.ending ++ h.rest) ++ q.q)) = far ∙ ap spec.far (q.other ∙ ap (λ o. q.p ++ (o ++ q.q)) h.is) in
-          let at : n ≡ p ++ ((q.p ++ (u ++ q.q)) ++ t) = within p t prefix suffix q.p q.q u q.front q.back in
-          record {
-            source = n;
-            destination = spec.far (q.p ++ (u ++ q.q));
-            deciding = inl (u, h.listed, refl);
-            word = q.x ++ (u ++ q.y);
-            fits = within a b prefix suffix q.x q.y u q.before q.after;
-            sound = λ few has. record {
-              makes = subst (λ o. MakesForward few (name o) (spec.far (q.p ++ (u ++ q.q))) c) (sym at) (spec_maps c p t spec few (q.p ++ (u ++ q.q)) (subst (HasName few) at has));
-              source = inl h.written.0;
-              destination = written_far spec.shape q.p u q.q h.written.1;
-            };
-            moved = inr (record {
-              front = prefix ++ h.ending;
-              back = suffix;
-              word = h.rest;
-              was = q.whole ∙ ap (λ o. prefix ++ (o ++ suffix)) h.is ∙ simp append_assoc;
-              is = simp append_assoc;
-              lacks = λ lacks. all_join (λ k. k ≢ z) prefix h.ending lacks h.lacks;
-              far = subst (λ o. IsMovedFar z c prefix h.rest o (spec.far (q.p ++ (u ++ q.q)))) (sym far_is) (moved_far spec.shape prefix q.p h.ending h.rest q.q q.front h.lacks);
-            });
-          }
-
-      by_word : Decided z c a b prefix suffix most m d
-      by_word = elim (word_or_moved g z free q.word texts_around (
-        subst IsRefName q.whole makes.source,
-        valid_far spec.shape q.p q.word q.q (subst CanBeWritten (far ∙ ap spec.far q.other) makes.destination),
-      )) [
-        | inl listed ↦ itself_decides (inl (q.word, listed, q.whole))
-        | inr h ↦ with_byte h
-      ]
+    -- with each word it maps the name with that word soundly, if the sides are valid
+    with_word : (n u w : List ℕ) → n ≡ p ++ (w ++ t) → IsDeciding (words_with z) prefix suffix most n → Fits a b n u → IsRefName n → CanBeWritten (spec.far w)
+        → ((n ≡ m) × (spec.far w ≡ d)) ⊎ IsMoved z c prefix m n d (spec.far w) → Decided z c a b prefix suffix most m d
+    with_word n u w at deciding fits named written moved = record {
+      source = n;
+      destination = spec.far w;
+      deciding = deciding;
+      word = u;
+      fits = fits;
+      sound = λ few has. record { makes = subst (λ o. MakesForward few (name o) (spec.far w) c) (sym at) (spec_maps c p t spec few w (subst (HasName few) at has)); source = named; destination = written };
+      moved = moved;
+    }
 
     pub decide : Decided z c a b prefix suffix most m d
     decide =
         let (w, source, far, there) = spec_made c p t spec refs m d makes.makes in
+        let itself : IsDeciding (words_with z) prefix suffix most m → Decided z c a b prefix suffix most m d = λ deciding.
+        with_word m v w source deciding fits makes.source (subst CanBeWritten far makes.destination) (inl (refl, sym far)) in
         elim (common_name (words_with z) a b p t prefix suffix most m v w longer ends is_most fits source) [
-          | inr deciding ↦ itself_decides deciding
-          | inl parted ↦ by_word w source far parted
+          | inr deciding ↦ itself deciding
+          | inl q ↦ elim (word_or_moved g z free q.word (record { front = prefix; back = suffix } ∷ around_far spec.shape q.p q.q) (
+            subst IsRefName q.whole makes.source,
+            valid_far spec.shape q.p q.word q.q (subst CanBeWritten (far ∙ ap spec.far q.other) makes.destination),
+          )) [
+            | inl listed ↦ itself (inl (q.word, listed, q.whole))
+            | inr h ↦
+                let u = h.ending ++ z ∷ [] in
+                let far_is : d ≡ spec.far (q.p ++ ((h.ending ++ h.rest) ++ q.q)) = far ∙ ap spec.far (q.other ∙ ap (λ o. q.p ++ (o ++ q.q)) h.is) in
+                with_word (prefix ++ (u ++ suffix)) (q.x ++ (u ++ q.y)) (q.p ++ (u ++ q.q)) (within p t prefix suffix q.p q.q u q.front q.back) (inl (u, h.listed, refl))
+                (within a b prefix suffix q.x q.y u q.before q.after) (inl h.written.0) (written_far spec.shape q.p u q.q h.written.1) (inr (record {
+                  front = prefix ++ h.ending;
+                  back = suffix;
+                  word = h.rest;
+                  was = q.whole ∙ ap (λ o. prefix ++ (o ++ suffix)) h.is ∙ simp append_assoc;
+                  is = simp append_assoc;
+                  lacks = λ lacks. all_join (λ k. k ≢ z) prefix h.ending lacks h.lacks;
+                  far = subst (λ o. IsMovedFar z c prefix h.rest o (spec.far (q.p ++ (u ++ q.q)))) (sym far_is) (moved_far spec.shape prefix q.p h.ending h.rest q.q q.front h.lacks);
+                }))
+          ]
         ]

@@ -1,9 +1,10 @@
 -- Specs at indexes, and the same with completed destinations.
-use Rattle.gix_refspec_lint.proofs.Common.{all_at, ◌↔◌, ◌≡◌, ℕ, zero, suc, ◌<◌, List, [], ◌∷◌, Option, Some, length, map, option_map, get_or, inl, inr, refl, sym, ap, ◌∙◌, subst, arith}
-use Rattle.gix_refspec_lint.proofs.Common.{AllByRecursion, AllZip, Any, Contains, slice_get, recursion_from_All, Contains-get_or, same_Some, slice_get_read, slice_get_within, get_or_from_slice_get}
-use Rattle.gix_refspec_lint.proofs.Common.{slice_get-map, slice_get-get_or, Reading, IsAccepted, Ref, reading_of, RefSpecRef, Source, name, id, IsExcluded, IsExcludedBy, IsSourceExcluded}
-use Rattle.gix_refspec_lint.proofs.Common.{MakesForward, IsCompleted, zip_at, zip_long, reading_once, all_accepted, Maps, ◌++◌, ◌⊎◌, HasName, IsFirstCandidate, Takes, all_weaker, IsPaired}
-use Rattle.gix_refspec_lint.proofs.Common.{matches_by_name, named_some, some_named, ConflictsShown, ConflictOver, Fetches, refs_of, HasKind, partial}
+use Rattle.gix_refspec_lint.proofs.Common.{all_at, ◌↔◌, ◌≡◌, ℕ, zero, suc, ◌<◌, List, [], ◌∷◌, Option, None, Some, length, map, option_map, get_or, inl, inr, refl, sym, ap, ◌∙◌, subst, arith}
+use Rattle.gix_refspec_lint.proofs.Common.{AllByRecursion, AllZip, Any, Contains, slice_get, recursion_from_All, Contains-get_or, same_Some, slice_get_read, slice_get-map, slice_get-get_or, Reading}
+use Rattle.gix_refspec_lint.proofs.Common.{IsAccepted, Ref, reading_of, RefSpecRef, Source, name, id, IsExcluded, IsExcludedBy, IsSourceExcluded, MakesForward, IsCompleted, reading_once, all_accepted}
+use Rattle.gix_refspec_lint.proofs.Common.{Maps, ◌++◌, ◌⊎◌, HasName, IsFirstCandidate, Takes, all_weaker, IsPaired, matches_by_name, named_some, some_named, ConflictsShown, ConflictOver, Fetches, refs_of}
+use Rattle.gix_refspec_lint.proofs.Common.{HasKind, partial}
+use Rattle.std.{proofs.lemmas.Slice.Zip.{AllZip-left, AllZip-right}, specs.Option.IsSomeAnd}
 
 pub any_at : {X : Type 0} (P : X → Type 0) (xs : List X) → Any P xs → (k : ℕ) × (x : X) × (slice_get xs k ≡ Some x) × P x
 any_at P xs (k, x, below, is, holds) = (k, x, slice_get_read xs (length xs) k x refl below (sym is), holds)
@@ -36,17 +37,16 @@ maps_as m makes = record { reading = m.reading; at = m.at; completed = m.complet
 
 -- ---- each spec and the same with its destination completed
 
+some_and : {X : Type 0} (P : X → Type 0) (o : Option X) → IsSomeAnd o P → (x : X) × (o ≡ Some x) × P x
+some_and P None holds = absurd holds
+some_and P (Some x) holds = (x, refl, holds)
+
 module _ (g h : List Reading) (all : AllZip IsCompleted g h) where
   pub completed_at : (k : ℕ) (r : Reading) → slice_get g k ≡ Some r → (c : Reading) × (slice_get h k ≡ Some c) × IsCompleted r c
-  completed_at k r at =
-      let below = slice_get_within g k r at in
-      let done = subst (λ (x : Reading). IsCompleted x (get_or h k r)) (get_or_from_slice_get g k r r at) (zip_at IsCompleted g h k r r all below) in
-      (get_or h k r, slice_get-get_or h k r (omega (arith, below, zip_long IsCompleted g h all)), done)
+  completed_at k r at = some_and (IsCompleted r) (slice_get h k) (rw at at (AllZip-left IsCompleted g h all k))
 
   pub zip_of : (k : ℕ) (c : Reading) → slice_get h k ≡ Some c → (r : Reading) × (slice_get g k ≡ Some r) × IsCompleted r c
-  zip_of k c at =
-      let below : k < length g = omega (arith, slice_get_within h k c at, zip_long IsCompleted g h all) in
-      (get_or g k c, slice_get-get_or g k c below, subst (IsCompleted (get_or g k c)) (get_or_from_slice_get h k c c at) (zip_at IsCompleted g h k c c all below))
+  zip_of k c at = some_and (λ r. IsCompleted r c) (slice_get g k) (rw at at (AllZip-right IsCompleted g h all k))
 
   pub zip_to : (k : ℕ) (r c : Reading) → slice_get g k ≡ Some r → IsCompleted r c → slice_get h k ≡ Some c
   zip_to k r c at done = let (e, here, is) = completed_at k r at in here ∙ ap Some (reading_once r e c is done)
@@ -81,15 +81,6 @@ pub made_there : (refs : List Ref) (s : Source) (d : Option (List ℕ)) (r : Rea
 made_there refs (name n) d r makes = some_named (IsPaired (Takes refs) makes.ends n d) refs n (λ item paired. paired.name) makes.one
 made_there refs (id bytes) d r makes = tt
 
-first_fewer : (refs few : List Ref) (x n : List ℕ) → AreAmong few refs → HasName few n → IsFirstCandidate refs x n → IsFirstCandidate few x n
-first_fewer refs few x n among present first = record {
-  earlier = first.earlier;
-  later = first.later;
-  here = first.here;
-  absent = all_weaker (λ m. ¬ (HasName refs m)) (λ m. ¬ (HasName few m)) (λ m none there. none (among m there)) first.earlier first.absent;
-  present = present;
-}
-
 -- a spec that maps a name over some refs maps it over others where it is, if a partial source has it as its first candidate
 pub makes_again : (refs few : List Ref) (n : List ℕ) (d : Option (List ℕ)) (r : Reading) → HasName few n → (makes : MakesForward refs (name n) d r)
     → ((m : List ℕ) → HasKind makes.ends.near (partial m) → IsFirstCandidate few m n) → MakesForward few (name n) d r
@@ -101,10 +92,7 @@ makes_again refs few n d r there makes first =
       one = named_some (IsPaired (Takes few) makes.ends n d) few n there (λ other named. record {
         word = paired.word;
         name = named;
-        takes = record {
-          matches = matches_by_name makes.ends item other paired.word (paired.name ∙ sym named) makes.has.no_object paired.takes.matches;
-          first = λ m kind. subst (IsFirstCandidate few m) (sym named) (first m kind);
-        };
+        takes = record { matches = matches_by_name makes.ends item other _ (paired.name ∙ sym named) makes.has.no_object paired.takes.matches; first = λ m kind. rw named (first m kind) };
         becomes = paired.becomes;
       });
     }
@@ -112,7 +100,9 @@ makes_again refs few n d r there makes first =
 pub makes_fewer : (refs few : List Ref) (s : Source) (d : Option (List ℕ)) (r : Reading) → AreAmong few refs → IsThere few s → MakesForward refs s d r → MakesForward few s d r
 makes_fewer refs few (id bytes) d r among present makes = makes
 makes_fewer refs few (name n) d r among present makes =
-    makes_again refs few n d r present makes (λ m kind. first_fewer refs few m n among present (subst (IsFirstCandidate refs m) makes.one.4.name (makes.one.4.takes.first m kind)))
+    makes_again refs few n d r present makes (λ m kind.
+    let first = subst (IsFirstCandidate refs m) makes.one.4.name (makes.one.4.takes.first m kind) in
+    record { earlier = first.earlier; later = first.later; here = first.here; absent = all_weaker _ _ (λ o none there. none (among o there)) first.earlier first.absent; present = present })
 
 pub named_in : (xs ys : List Ref) (n : List ℕ) → HasName (xs ++ ys) n ↔ (HasName xs n ⊎ HasName ys n)
 named_in [] ys n = grind arith
@@ -132,10 +122,8 @@ there_more few refs (name n) among there = among n there
 there_more few refs (id bytes) among there = tt
 
 fetches_fewer : (g : List Reading) (refs few : List Ref) (k : ℕ) (s : Source) (d : Option (List ℕ)) → AreAmong few refs → IsThere few s → Fetches g refs k s d → Fetches g few k s d
-fetches_fewer g refs few k s d among present f = record {
-  maps = record { maps = maps_as f.maps.maps (makes_fewer refs few s d f.maps.maps.completed among present f.maps.maps.makes); source = f.maps.source; destination = f.maps.destination };
-  included = f.included;
-}
+fetches_fewer g refs few k s d among present f =
+    record { maps = record { maps = maps_as f.maps.maps (makes_fewer refs few s d _ among present f.maps.maps.makes); source = f.maps.source; destination = f.maps.destination }; included = f.included }
 
 -- so two refs are enough for a conflict
 pub conflict_of_two : (g : List Reading) (refs : List Ref) (i j : ℕ) (s t : Source) (d : List ℕ) → ConflictOver g refs i j s t d → ConflictOver g (refs_of s ++ refs_of t) i j s t d

@@ -1,17 +1,16 @@
 -- What a spec with a source pattern maps.
 use Rattle.gix_refspec_lint.proofs.Common.{◌≡◌, ◌⊎◌, inl, inr, ℕ, List, ◌++◌, Option, None, Some, refl, sym, ap, ◌∙◌, subst, same_Some, Ref, HasName, MatchesAs, Takes, pattern, Fits, IsAccepted}
-use Rattle.gix_refspec_lint.proofs.Common.{IsPositive, Reading, HasOneStar, IsSplit, lacks_no_pattern, IsFilled, Source, name, id, matches_as, one_kind, IsPaired, MakesForward, sides_agree}
-use Rattle.gix_refspec_lint.proofs.Common.{named_some, filled, HasSourcePattern, some_named, side_cases}
+use Rattle.gix_refspec_lint.proofs.Common.{IsPositive, Reading, HasOneStar, IsSplit, lacks_no_pattern, IsFilled, Source, name, id, matches_as, one_kind, IsPaired, MakesForward, sides_agree, named_some}
+use Rattle.gix_refspec_lint.proofs.Common.{filled, HasSourcePattern, some_named, side_cases}
 
 pub word_of : (c : Reading) (refs : List Ref) (n : List ℕ) (d : Option (List ℕ)) (makes : MakesForward refs (name n) d c) (p t : List ℕ) → HasSourcePattern c p t
     → (w : List ℕ) × (makes.one.4.word ≡ Some w) × (n ≡ p ++ (w ++ t))
 word_of c refs n d makes p t source =
     let near : makes.ends.near ≡ source.text = same_Some _ _ (sym makes.has.near ∙ source.has) in
-    by_word makes.one.4.word (matches_as makes.ends.near (pattern p t) makes.one.1 makes.one.4.word (subst (IsSplit p t) (sym near) source.split) makes.one.4.takes.matches)
-  where
-    by_word : (word : Option (List ℕ)) → MatchesAs (pattern p t) makes.one.1 word → (w : List ℕ) × (word ≡ Some w) × (n ≡ p ++ (w ++ t))
-    by_word None holds = absurd holds
-    by_word (Some w) holds = (w, refl, sym makes.one.4.name ∙ holds)
+    elim makes.one.4.word as (λ word. MatchesAs (pattern p t) makes.one.1 word → (w : List ℕ) × (word ≡ Some w) × (n ≡ p ++ (w ++ t))) [
+      | None ↦ λ holds. absurd holds
+      | Some w ↦ λ holds. (w, refl, sym makes.one.4.name ∙ holds)
+    ] (matches_as makes.ends.near (pattern p t) makes.one.1 makes.one.4.word (subst (IsSplit p t) (sym near) source.split) makes.one.4.takes.matches)
 
 -- the destination is a pattern, and far has it with a word
 pub record FarPattern (c : Reading) (far : List ℕ → Option (List ℕ)) : Type 0 where
@@ -52,11 +51,10 @@ pattern_spec c p t accepted positive source = elim (side_cases c.destination) [
 ]
 
 pub destination_once : (c : Reading) (word n m : Option (List ℕ)) → IsFilled c.destination word n → IsFilled c.destination word m → n ≡ m
-destination_once c word n m a b = once c.destination a b
-  where
-    once : (x : Option (List ℕ)) → IsFilled x word n → IsFilled x word m → n ≡ m
-    once None a b = a ∙ sym b
-    once (Some x) a b = a.2 ∙ ap (λ k. Some (filled k word)) (one_kind x a.0 b.0 a.1 b.1) ∙ sym b.2
+destination_once c word n m = elim c.destination as (λ x. IsFilled x word n → IsFilled x word m → n ≡ m) [
+  | None ↦ λ a b. a ∙ sym b
+  | Some x ↦ λ a b. a.2 ∙ ap (λ k. Some (filled k word)) (one_kind x a.0 b.0 a.1 b.1) ∙ sym b.2
+]
 
 module _ (c : Reading) (p t : List ℕ) (spec : PatternSpec c p t) where
   -- it maps each ref with a word

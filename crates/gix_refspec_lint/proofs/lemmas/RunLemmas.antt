@@ -1,14 +1,7 @@
 -- Overlaps that come to nothing for one reason.
-use Rattle.gix_refspec_lint.proofs.Common.{drop_at, take_at, ◌≡◌, ◌≢◌, ◌⊎◌, inl, inr, ℕ, zero, suc, ◌+◌, ◌<◌, ◌≤◌, List, [], ◌∷◌, ◌++◌, drop, length, take, append_assoc, append-nil, length-append}
-use Rattle.gix_refspec_lint.proofs.Common.{refl, sym, ap, ◌∙◌, subst, arith, nil_from_length, EndsWith, upto, IsOverlap, power, IsFirstOf, IsNextOf, IsRun, Run, Why, Unknown, take-append-drop}
-use Rattle.gix_refspec_lint.proofs.Common.{length-take-le, get_or, AllByRecursion, take_more, all_join, of_element, Contains-get_or, IsDeciding, AreOverlaps}
-use Rattle.gix_refspec_lint.proofs.lemmas.{ByteLemmas.{ends_behind, parted}, RepeatLemmas.power_long}
-
-same_end : (x y n : List ℕ) → EndsWith x n → EndsWith y n → length x ≡ length y → x ≡ y
-same_end x y n one other size = elim (parted one.before x other.before y (sym one.here ∙ other.here)) [
-  | inl (m, longer, rest) ↦ rw (nil_from_length m (omega (arith, size, ap length rest, length-append m y))) at rest
-  | inr (m, longer, rest) ↦ rw (nil_from_length m (omega (arith, size, ap length rest, length-append m x))) at (sym rest)
-]
+use Rattle.gix_refspec_lint.proofs.Common.{drop_at, take_at, ◌≡◌, ◌≢◌, ◌⊎◌, inl, inr, ℕ, zero, suc, ◌+◌, ◌<◌, ◌≤◌, List, [], ◌∷◌, ◌++◌, drop, length, take, append_assoc, append-nil, length-append, refl}
+use Rattle.gix_refspec_lint.proofs.Common.{sym, ap, ◌∙◌, subst, arith, EndsWith, upto, IsOverlap, power, IsFirstOf, IsNextOf, IsRun, Run, Why, Unknown, take-append-drop, length-drop, length-take-le}
+use Rattle.gix_refspec_lint.proofs.{Common.{get_or, AllByRecursion, take_more, all_join, of_element, Contains-get_or, IsDeciding, AreOverlaps}, lemmas.RepeatLemmas.{power_long, power_length}}
 
 -- the reason holds for a name with the word once more, if it does for those with fewer
 abbrev pub Goes : (Why → List ℕ → Type 0) → Type 0
@@ -32,127 +25,61 @@ module _ (Holds : Why → List ℕ → Type 0) (prefix suffix : List ℕ) where
   }
 
   module _ (run : Run) (is : IsRun Holds prefix suffix run) (k : ℕ) (overlap : IsOverlap prefix suffix k) (below : k ≤ run.shortest) where
-    abbrev front : List ℕ
-    front = take k is.front
-
     -- what this one has more than the last
     abbrev more : List ℕ
     more = drop k is.front
 
-    abbrev old : List ℕ
-    old = power is.word is.times ++ is.rest
+    sizes : (length (take k is.front) ≡ k) × (k + length more ≡ run.shortest)
+    sizes = (length-take-le k is.front (omega (arith, is.shortest)), omega (arith, length-drop k is.front, is.shortest))
 
-    parts : is.front ≡ front ++ more
-    parts = sym (take-append-drop k is.front)
-
-    size : length front ≡ k
-    size = length-take-le k is.front (omega (arith, below, is.shortest))
-
-    more_size : k + length more ≡ run.shortest
-    more_size = omega (arith, ap length parts, length-append front more, size, is.shortest)
-
-    whole : suffix ≡ front ++ (more ++ old)
-    whole = is.whole ∙ ap (λ x. x ++ old) parts ∙ append_assoc front more old
-
-    left : drop k suffix ≡ more ++ old
-    left = ap (drop k) whole ∙ drop_at front (more ++ old) k size
-
-    front_ends : EndsWith front prefix
-    front_ends = subst (λ x. EndsWith x prefix) (ap (take k) whole ∙ take_at front (more ++ old) k size) overlap.ends
+    whole : suffix ≡ take k is.front ++ (more ++ (power is.word is.times ++ is.rest))
+    whole = is.whole ∙ ap (λ x. x ++ (power is.word is.times ++ is.rest)) (sym (take-append-drop k is.front)) ∙ append_assoc (take k is.front) more _
 
     more_ends : EndsWith more prefix
-    more_ends = subst (EndsWith more) (sym is.ends.here) (ends_behind more is.ends.before is.front (record {
-      before = front;
-      here = parts;
-    }))
+    more_ends = record { before = is.ends.before ++ take k is.front; here = is.ends.here ∙ ap (λ x. is.ends.before ++ x) (sym (take-append-drop k is.front)) ∙ sym (append_assoc is.ends.before _ more) }
 
-    -- by as much as those before are apart it is the word once more
-    once_more : 0 < is.times → length more ≡ run.step → more ≡ is.word
-    once_more some equal = let (ends, long) = is.equal some in same_end more is.word prefix more_ends ends (equal ∙ sym long)
+    -- if there was one more before, by as much as this one has more, it is the word once more
+    again : (0 < is.times → length more ≡ run.step) → (i : ℕ) → i ≤ is.times → power is.word i ≡ power more i
+    again apart zero l = refl
+    again apart (suc i) l =
+        let some : 0 < is.times = omega (arith, l) in
+        let (ends, long) = is.equal some in
+        let same : length more_ends.before ≡ length ends.before = omega (arith, ap length (sym ends.here ∙ more_ends.here), length-append {A = ℕ}, long, apart some) in
+        ap (λ v. power v (suc i)) (sym (drop_at ends.before is.word (length ends.before) refl) ∙ ap (drop (length ends.before)) (sym ends.here ∙ more_ends.here) ∙ drop_at more_ends.before more _ same)
 
-    name_is : more ≡ is.word → prefix ++ drop k suffix ≡ prefix ++ (power is.word (suc is.times) ++ is.rest)
-    name_is same = ap (λ x. prefix ++ x) (left ∙ ap (λ x. x ++ old) same ∙ sym (append_assoc is.word (power is.word is.times) is.rest))
+    name_is : (0 < is.times → length more ≡ run.step) → prefix ++ drop k suffix ≡ prefix ++ (power more (suc is.times) ++ is.rest)
+    name_is apart = ap (λ x. prefix ++ x) (ap (drop k) whole ∙ drop_at (take k is.front) _ k sizes.0 ∙ ap (λ v. more ++ (v ++ is.rest)) (again apart is.times (omega arith)) ∙ simp append_assoc)
 
     -- so it goes on without a look
     goes : Goes Holds → (why : Why) → why ≡ run.why → why ≢ Unknown → run.shortest + 5 ≤ run.longest → k + run.step ≡ run.shortest → Holds why (prefix ++ drop k suffix)
     goes law why same known long step =
+        let apart : 0 < is.times → length more ≡ run.step = λ some. omega (arith, sizes.1) in
         let next : is.times + 1 ≡ suc is.times = omega arith in
-        let repeated : 0 < is.times = some is.times long is.longest in
-        subst (Holds why) (ap (λ j. prefix ++ (power is.word j ++ is.rest)) next ∙ sym (name_is (once_more repeated (omega (arith, step, more_size)))))
-        (law why prefix is.word is.rest is.times known is.some (omega (arith, long, is.longest)) (λ j below. rw same (is.holds j below)))
-      where
-        some : (i : ℕ) → run.shortest + 5 ≤ run.longest → run.shortest + length (power is.word i) ≡ run.longest → 0 < i
-        some zero long sizes = absurd (omega (arith, long, sizes))
-        some (suc i) long sizes = omega arith
+        let enough : 5 ≤ length (power more is.times) = omega (arith, ap length (again apart is.times (omega arith)), is.longest) in
+        subst (Holds why) (ap (λ j. prefix ++ (power more j ++ is.rest)) next ∙ sym (name_is apart))
+        (law why prefix more is.rest is.times known (λ none. omega (arith, rw none at enough, power_length [] is.times)) enough (λ j below. rw (same, ← again apart j below) (is.holds j below)))
 
-    module _ (why : Why) (new : Run) (next : IsNextOf run k why new) (holds : Holds why (prefix ++ drop k suffix)) where
-      step_is : length more ≡ new.step
-      step_is = omega (arith, more_size, next.step)
-
-      why_is : new.why ≡ run.why
-      why_is = next.why ∙ next.same
-
-      -- the first two
-      second : is.times ≡ 0 → IsRun Holds prefix suffix new
-      second none =
-          let before : old ≡ is.rest = ap (λ j. power is.word j ++ is.rest) none in
-          record {
-            front = front;
-            word = more;
-            times = 1;
-            rest = is.rest;
-            whole = whole ∙ simp (before, append-nil);
-            some = λ none. absurd (omega (arith, next.some, step_is, ap length none));
-            shortest = size ∙ sym next.shortest;
-            longest = omega (arith, next.shortest, next.longest, more_size, is.longest, ap (λ j. length (power is.word j)) none, ap length (append-nil more));
-            ends = front_ends;
-            equal = λ over. (more_ends, step_is);
-            holds = by_number;
-          }
-        where
-          by_number : (i : ℕ) → i ≤ 1 → Holds new.why (prefix ++ (power more i ++ is.rest))
-          by_number zero upper = rw why_is (is.holds 0 (omega arith))
-          by_number (suc zero) upper = subst (Holds new.why)
-              (ap (λ x. prefix ++ x) (left ∙ ap (λ j. more ++ (power is.word j ++ is.rest)) none ∙ ap (λ x. x ++ is.rest)
-              (sym (append-nil more)))) (rw next.why holds)
-          by_number (suc (suc i)) upper = absurd (omega (arith, upper))
-
-      -- and any more
-      later : 0 < is.times → new.step ≡ run.step → IsRun Holds prefix suffix new
-      later some equal =
-          let same = once_more some (step_is ∙ equal) in
-          record {
-            front = front;
-            word = is.word;
-            times = suc is.times;
-            rest = is.rest;
-            whole = whole ∙ ap (λ x. front ++ (x ++ old)) same ∙ simp append_assoc;
-            some = is.some;
-            shortest = size ∙ sym next.shortest;
-            longest = omega (arith, next.shortest, next.longest, more_size, is.longest, length-append is.word (power is.word is.times), ap length same);
-            ends = front_ends;
-            equal = λ over. ((is.equal some).0, (is.equal some).1 ∙ sym equal);
-            holds = λ i upper. elim (upto i (suc is.times) (omega (arith, upper))) [
-              | inl fewer ↦ rw why_is (is.holds i (omega (arith, fewer)))
-              | inr all ↦ rw (all, next.why, ← name_is same) holds
-            ];
-          }
-
-      run_next : IsRun Holds prefix suffix new
-      run_next = by_times is.times refl
-        where
-          by_times : (i : ℕ) → is.times ≡ i → IsRun Holds prefix suffix new
-          by_times zero times = second times
-          by_times (suc i) times = elim next.equal [
-            | inl first ↦ second (omega (arith, first, is.longest, power_long is.word is.times is.some))
-            | inr equal ↦ later (omega (arith, times)) equal
-          ]
-
-  pub run_with : (run : Run) → IsRun Holds prefix suffix run → (k : ℕ) → IsOverlap prefix suffix k → (why : Why) (new : Run) → Holds why (prefix ++ drop k suffix) → IsFirstOf k why new ⊎ IsNextOf run k why new → IsRun Holds prefix suffix new
-  run_with run is k overlap why new holds (inl first) = run_first k why new overlap.within overlap.ends holds first
-  run_with run is k overlap why new holds (inr next) = run_next run is k overlap (omega (arith, next.step)) why new next holds
-
--- ---- overlaps one after another, in which there is nothing
+    run_next : (why : Why) (new : Run) → IsNextOf run k why new → Holds why (prefix ++ drop k suffix) → IsRun Holds prefix suffix new
+    run_next why new next holds =
+        let long : length more ≡ new.step = omega (arith, sizes.1, next.step) in
+        let apart : 0 < is.times → length more ≡ run.step = λ some. elim next.equal [ inl first ↦ absurd (omega (arith, first, is.longest, power_long is.word is.times is.some)) | inr equal ↦ long ∙ equal ] in
+        let old = again apart is.times (omega arith) in
+        record {
+          front = take k is.front;
+          word = more;
+          times = suc is.times;
+          rest = is.rest;
+          whole = whole ∙ ap (λ v. take k is.front ++ (more ++ (v ++ is.rest))) old ∙ simp append_assoc;
+          some = λ none. omega (arith, next.some, long, ap length none);
+          shortest = sizes.0 ∙ sym next.shortest;
+          longest = omega (arith, next.shortest, next.longest, sizes.1, is.longest, length-append more (power more is.times), ap length old);
+          ends = subst (λ x. EndsWith x prefix) (ap (take k) whole ∙ take_at (take k is.front) _ k sizes.0) overlap.ends;
+          equal = λ over. (more_ends, long);
+          holds = λ i upper. elim (upto i (suc is.times) (omega (arith, upper))) [
+            | inl fewer ↦ rw (next.why ∙ next.same, ← again apart i (omega (arith, fewer))) (is.holds i (omega (arith, fewer)))
+            | inr all ↦ rw (all, next.why, ← name_is apart) holds
+          ];
+        }
 
 -- P holds of the names of these overlaps, and the run goes on with the last of them
 pub record AreSoFar (P : List ℕ → Type 0) (Holds : Why → List ℕ → Type 0) (prefix suffix list : List ℕ) (run : Run) : Type 0 where
@@ -170,7 +97,10 @@ module _ (P : List ℕ → Type 0) (Holds : Why → List ℕ → Type 0) (prefix
   pub one_more : (why : Why) (new : Run) → P (prefix ++ drop k suffix) → Holds why (prefix ++ drop k suffix) → IsFirstOf k why new ⊎ IsNextOf run k why new → AreSoFar P Holds prefix suffix (take (i + 1) list) new
   one_more why new holds reason next = record {
     all = subst (AllByRecursion (λ j. P (prefix ++ drop j suffix))) (sym (take_more list i 0 below)) (all_join (λ j. P (prefix ++ drop j suffix)) (take i list) (k ∷ []) so_far.all (holds, tt));
-    goes = run_with Holds prefix suffix run so_far.goes k overlap why new reason next;
+    goes = elim next [
+      | inl first ↦ run_first Holds prefix suffix k why new overlap.within overlap.ends reason first
+      | inr next ↦ run_next Holds prefix suffix run so_far.goes k overlap (omega (arith, next.step)) why new next reason
+    ];
   }
 
   -- one more of which nobody asks
@@ -181,13 +111,10 @@ module _ (P : List ℕ → Type 0) (Holds : Why → List ℕ → Type 0) (prefix
       one_more why new (nothing why (prefix ++ drop k suffix) known reason) reason next
 
 pub none_so_far : (P : List ℕ → Type 0) (Holds : Why → List ℕ → Type 0) (prefix suffix : List ℕ) (run : Run) → Holds Unknown (prefix ++ suffix) → IsFirstOf 0 Unknown run → AreSoFar P Holds prefix suffix [] run
-none_so_far P Holds prefix suffix run holds first = record {
-  all = tt;
-  goes = run_first Holds prefix suffix 0 Unknown run (omega arith) (record { before = prefix; here = sym (append-nil prefix) }) holds first;
-}
+none_so_far P Holds prefix suffix run holds first =
+    record { all = tt; goes = run_first Holds prefix suffix 0 Unknown run (omega arith) (record { before = prefix; here = sym (append-nil prefix) }) holds first }
 
--- ---- what holds at the names that decide
-
+-- what holds with each word and at each overlap holds at the names that decide
 pub each_deciding : (P : List ℕ → Type 0) (words : List (List ℕ)) (prefix suffix : List ℕ) (most : ℕ) → AllByRecursion (λ w. P (prefix ++ (w ++ suffix))) words
     → ((k : ℕ) → k ≤ most → IsOverlap prefix suffix k → P (prefix ++ drop k suffix)) → (n : List ℕ) → IsDeciding words prefix suffix most n → P n
 each_deciding P words prefix suffix most by_word overlapping n (inl (w, there, is)) = subst P (sym is) (of_element (λ w. P (prefix ++ (w ++ suffix))) words w by_word there)

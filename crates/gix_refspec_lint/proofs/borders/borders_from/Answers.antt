@@ -1,14 +1,22 @@
 -- Each border but the longest is a border of the next longer one.
-use Rattle.gix_refspec_lint.proofs.{Common.{length, arith}, lemmas.BorderLemmas.{longer_more, longer_none}}
+use Rattle.gix_refspec_lint.proofs.{Common.{◌<◌, length, arith, cases_eq, [], ◌∷◌, all_join, Contains-push, Contains-append_left, IsBorder}, lemmas.BorderLemmas.{border_here, border_in}}
 use Rattle.gix_refspec_lint.proofs.borders.borders_from.Goals as goal
 
 pub loop-len-init : goal.loop-len-init
 loop-len-init c =
-    let text = c.args.text.now in
-    rw (c.new-lengths.ensures.items) (longer_none text _ (c.requires.known (length text) c.requires.some (omega arith)))
+    let is = c.requires.known (length c.args.text.now) c.requires.some (omega arith) in
+    rw (c.new-lengths.ensures.items) (record { border = is.is_border; each = tt; all = λ k l at. absurd (is.longest k l at) })
 
 pub loop-len-preserved : goal.loop-len-preserved
 loop-len-preserved c =
     let len = c.loop-len.len in
-    let shorter = c.loop-len.invariant.border.shorter in
-    rw (c.in_ok-push.ensures.items) (longer_more c.args.text.now c.loop-len.lengths.items len _ c.loop-len-test.true c.loop-len.invariant (c.requires.known len c.loop-len-test.true (omega arith)))
+    let old = c.loop-len.invariant in
+    let lengths = c.loop-len.lengths.items in
+    let is = c.requires.known len c.loop-len-test.true (omega (arith, old.border.shorter)) in
+    rw (c.in_ok-push.ensures.items) (record {
+      border = (border_in _ old.border is.is_border.shorter).0 is.is_border;
+      each = all_join (IsBorder c.args.text.now) lengths (len ∷ []) old.each (border_here _ len c.loop-len-test.true old.border, tt);
+      all = λ k l at.
+          let inner : k < len → ⊥ = λ below. is.longest k l ((border_in _ old.border below).1 at) in
+          grind (arith, inner, cases_eq k len, Contains-push lengths len, Contains-append_left lengths (len ∷ []) k, old.all k);
+    })

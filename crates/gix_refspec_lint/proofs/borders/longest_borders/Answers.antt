@@ -1,12 +1,11 @@
-use Rattle.gix_refspec_lint.proofs.{Common.{◌≡◌, ◌+◌, length, min, subst, sym, arith, AreLongestTo}, lemmas.BorderLemmas.one_more}
+use Rattle.gix_refspec_lint.proofs.Common.{◌+◌, arith, cases_eq, get_or-set_same, get_or-set_other}
 
 pub loop-len-preserved : Rattle.gix_refspec_lint.proofs.borders.longest_borders.Goals.loop-len-preserved
 loop-len-preserved c =
-    let text = c.args.text.now in
     let len = c.loop-len.len in
-    let so_far : min len (length text) ≡ len = omega arith in
-    let next : min (len + 1) (length text) ≡ len + 1 = omega arith in
+    let table = c.loop-len.table.items in
+    let border = c.next_border-border.result in
     record {
       long = c.loop-len.invariant.long;
-      longest = subst (AreLongestTo text _) (sym next) (one_more text c.loop-len.table.items len c.next_border-border.result (omega arith) (subst (AreLongestTo text c.loop-len.table.items) so_far c.loop-len.invariant.longest) c.next_border-border.ensures);
+      longest = λ k some l. grind (arith, cases_eq k (len + 1), get_or-set_same table (len + 1) border 0, get_or-set_other table (len + 1) k border 0, c.next_border-border.ensures, c.loop-len.invariant.longest k some);
     }

@@ -1,5 +1,4 @@
-use Rattle.gix_refspec_lint.proofs.Common.{List, map, take, AllByRecursion, bstr_bytes, Reading, start_of, IsGroupOf}
-use Rattle.gix_refspec_lint.proofs.lemmas.FoundLemmas.{NoConflict}
+use Rattle.gix_refspec_lint.proofs.{Common.{List, map, take, AllByRecursion, bstr_bytes, Reading, start_of, IsGroupOf}, lemmas.FoundLemmas.NoConflict}
 use Rattle.gix_refspec_lint.proofs.conflicts.conflict_at.Given as goal
 
 abbrev pub invariant-loop-one : goal.invariant-loop-one

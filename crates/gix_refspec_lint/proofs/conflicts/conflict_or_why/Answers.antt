@@ -1,5 +1,4 @@
-use Rattle.gix_refspec_lint.proofs.Common.{sym, ◌∙◌, arith, same_Some}
-use Rattle.gix_refspec_lint.proofs.lemmas.IndexLemmas.{reading_at}
+use Rattle.gix_refspec_lint.proofs.{Common.{sym, ◌∙◌, arith, same_Some}, lemmas.IndexLemmas.reading_at}
 use Rattle.gix_refspec_lint.proofs.conflicts.conflict_or_why.Goals as goal
 
 pub returns-in-Some : goal.returns-in-Some

@@ -4,12 +4,12 @@ use Rattle.gix_refspec_lint.proofs.letter.is_free.Goals as goal
 pub returns-then-has_byte : goal.returns-then-has_byte
 returns-then-has_byte c = (
   (λ told. absurd (false≢true told)),
-  (λ free. absurd (c.if-has_byte.ensures (each_mapped reading_of (SidesLack c.args.byte) c.args.specs.now c.loop-spec.spec-index c.spec-item.result free.lacks c.loop-spec-test.true c.spec-item.is))),
+  (λ free. absurd (c.if-has_byte.ensures (each_mapped reading_of (SidesLack c.args.byte) _ _ _ free.lacks c.loop-spec-test.true c.spec-item.is))),
 )
 
 pub loop-spec-preserved : goal.loop-spec-preserved
 loop-spec-preserved c =
-    one_more_mapped reading_of (SidesLack c.args.byte) c.args.specs.now c.loop-spec.spec-index c.spec-item.result c.loop-spec.invariant c.loop-spec-test.true c.spec-item.is c.if-has_byte.ensures
+    one_more_mapped reading_of (SidesLack c.args.byte) _ _ _ c.loop-spec.invariant c.loop-spec-test.true c.spec-item.is c.if-has_byte.ensures
 
 pub returns : goal.returns
 returns c = (

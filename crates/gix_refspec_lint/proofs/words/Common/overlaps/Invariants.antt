@@ -1,4 +1,8 @@
-use Rattle.gix_refspec_lint.proofs.{Common.take, lemmas.BorderLemmas.AreUpTo}
+use Rattle.gix_refspec_lint.proofs.Common.{◌<◌, ◌≤◌, ℕ, get_or, AllByRecursion, Contains, IsOverlap}
 
 abbrev pub invariant-loop-length : Rattle.gix_refspec_lint.proofs.words.Common.overlaps.Given.invariant-loop-length
-invariant-loop-length l = AreUpTo l.self.prefix.now l.self.suffix.now l.self.most (take l.length-index l.length-items) l.shared.items
+invariant-loop-length l =
+    record {
+      each : AllByRecursion (IsOverlap l.self.prefix.now l.self.suffix.now) l.shared.items;
+      all : (j : ℕ) → j < l.length-index → get_or l.length-items j 0 ≤ l.self.most → Contains l.shared.items (get_or l.length-items j 0);
+    }
