@@ -1,7 +1,5 @@
 -- The matchers' hits make most of the mappings, and what is kept of these is kept of all.
-use Rattle.gix_refspec_match.proofs.Common.{refl, First}
-use Rattle.gix_refspec_match.proofs.lemmas.{duplicates.FlagLemmas.ok_weaker, keep.FillLemmas.adds_both, keep.FillLemmas.both_sound}
-use Rattle.gix_refspec_match.proofs.lemmas.keep.EngineLemmas.{kept_hits, objects_made, sound_among}
+use Rattle.gix_refspec_match.proofs.{Common.{refl, First}, lemmas.duplicates.FlagLemmas.ok_weaker, lemmas.keep.EngineLemmas.{adds_both, both_sound, kept_hits, objects_made, sound_among}}
 use Rattle.gix_refspec_match.proofs.match_forward.Goals as goal
 
 pub map_forward-requires : goal.map_forward-requires

@@ -1,5 +1,4 @@
-use Rattle.gix_refspec_match.proofs.Common.{[], ◌≡◌, sym, ◌∙◌, arith, eqb-true, nil_from_length}
-use Rattle.gix_refspec_match.proofs.lemmas.keep.KeptLemmas.{all_unflagged, kept_unflagged}
+use Rattle.gix_refspec_match.proofs.{Common.{[], ◌≡◌, sym, ◌∙◌, arith, eqb-true, nil_from_length}, lemmas.keep.KeptLemmas.{all_unflagged, kept_unflagged}}
 use Rattle.gix_refspec_match.proofs.without_duplicates.Goals as goal
 
 pub returns : goal.returns

@@ -1,6 +1,5 @@
 -- an element is flagged where it equals the one before it
-use Rattle.gix_refspec_match.proofs.Common.{sym, ◌∙◌, arith, inl, ap, ◌-◌, false≢true, get_or_read}
-use Rattle.gix_refspec_match.proofs.lemmas.duplicates.FlagLemmas.{equal_told, flags_all, flags_raised, flags_same}
+use Rattle.gix_refspec_match.proofs.{Common.{sym, ◌∙◌, arith, inl, ap, ◌-◌, false≢true, get_or_read}, lemmas.duplicates.FlagLemmas.{equal_told, flags_all, flags_raised, flags_same}}
 use Rattle.gix_refspec_match.proofs.lemmas.duplicates.OrderedLemmas.{duplicate_follows, follower_is_duplicate}
 use Rattle.gix_refspec_match.proofs.duplicates.flags_by_order.Goals as goal
 

@@ -1,4 +1,4 @@
-use Rattle.gix_refspec_match.proofs.Common.{◌≡◌, sym, ◌∙◌, arith, ◌<◌, length, Decides-eqb, same_from_decides, FiltersInPlace-all, FiltersInPlace-more_no, FiltersInPlace-more_set, is_shared}
+use Rattle.gix_refspec_match.proofs.Common.{◌≡◌, sym, ◌∙◌, arith, ◌<◌, length, Decides-eqb, same_from_decides, FiltersInPlace-more_no, FiltersInPlace-more_set, is_shared}
 use Rattle.gix_refspec_match.proofs.duplicates.keep_shared.Goals as goal
 
 pub loop-at-preserved : goal.loop-at-preserved
@@ -12,6 +12,3 @@ loop-at-preserved c =
       | goal.then-has w ↦ rw (w.keys-is, w.kept-is) (FiltersInPlace-more_set kept below (sym told ∙ w.if-has.true) read)
       | goal.else-has w ↦ rw (w.keys-is, w.kept-is) (FiltersInPlace-more_no kept below (sym told ∙ w.if-has.false) read)
     ]
-
-pub returns : goal.returns
-returns c = c.truncate.ensures.items ∙ FiltersInPlace-all c.loop-at.invariant (omega (arith, c.loop-at.invariant.long))

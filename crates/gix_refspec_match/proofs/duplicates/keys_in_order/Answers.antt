@@ -1,5 +1,4 @@
-use Rattle.gix_refspec_match.proofs.Common.{refl, arith, ◌<◌, length, map, ◌≤◌, ◌^◌, length-map, get_or-map}
-use Rattle.gix_refspec_match.proofs.lemmas.duplicates.HashKeyLemmas.{packed, sorted_keys, sorted_keys_rise}
+use Rattle.gix_refspec_match.proofs.{Common.{refl, arith, ◌<◌, length, map, ◌≤◌, ◌^◌, length-map, get_or-map}, lemmas.duplicates.HashKeyLemmas.{packed, sorted_keys, sorted_keys_rise}}
 use Rattle.gix_refspec_match.proofs.lemmas.duplicates.OrderedLemmas.{numbered_more}
 use Rattle.gix_refspec_match.proofs.duplicates.keys_in_order.Goals as goal
 

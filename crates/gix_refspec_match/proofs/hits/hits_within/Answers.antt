@@ -1,6 +1,5 @@
 -- The index has the names of each matcher, whose hits are behind those of the others.
-use Rattle.gix_refspec_match.proofs.Common.{All-from_recursion}
-use Rattle.gix_refspec_match.proofs.lemmas.index.PlacedLemmas.{found_next, named_listed}
+use Rattle.gix_refspec_match.proofs.{Common.All-from_recursion, lemmas.index.PlacedLemmas.{found_next, named_listed}}
 use Rattle.gix_refspec_match.proofs.hits.hits_within.Goals as goal
 
 pub add_hits-requires : goal.add_hits-requires

@@ -1,5 +1,5 @@
-use Rattle.gix_refspec_match.proofs.Common.{List, ◌≡◌, ℕ, ◌++◌, sym, ap, ◌<◌, length, map, take, drop, ◌+◌, get_or, slice_set, append_assoc, ltb-false, drop_more, get_or_at, get_or_past, map_more, set_at, map_long}
-use Rattle.gix_refspec_match.proofs.Common.{turned, hit_at, DeclaredHit as Hit}
+use Rattle.gix_refspec_match.proofs.Common.{List, ◌≡◌, ℕ, ◌++◌, sym, ap, ◌<◌, length, map, take, drop, ◌+◌, get_or, slice_set, append_assoc, ltb-false, drop_more, get_or_at, get_or_past, map_more, set_at}
+use Rattle.gix_refspec_match.proofs.Common.{map_long, turned, hit_at, DeclaredHit as Hit}
 use Rattle.gix_refspec_match.proofs.hits.turn_back.Goals as goal
 
 one_written : {X : Type 0} (f : X → X) (now old : List X) (i : ℕ) (d x : X) → i < length old → x ≡ f (get_or now i d)

@@ -1,6 +1,5 @@
 -- A name that doesn't pass is no key, and to the list of a key the place is added.
-use Rattle.gix_refspec_match.proofs.Common.{refl, sym, rules, Passes, list_of}
-use Rattle.gix_refspec_match.proofs.lemmas.index.{IndexLemmas.item_listed, IndexLemmas.item_unlisted, KeyLemmas.key_of, PlacesLemmas.all_at}
+use Rattle.gix_refspec_match.proofs.{Common.{refl, sym, rules, Passes, list_of}, lemmas.index.IndexLemmas.{item_listed, item_unlisted, all_at}}
 use Rattle.gix_refspec_match.proofs.index.places_of.Goals as goal
 
 pub loop-place-preserved-then-not-passes : goal.loop-place-preserved-then-not-passes
@@ -20,7 +19,7 @@ loop-place-preserved c =
           let list = w.push.new.self in
           let updates = (c.get_mut.follows.holds list).3 (rw (← w.in-Some.ensures.value) refl) in
           rw w.places-is (item_listed _ items i _ n w.in-Some.list.now list old _ c.loop-place-test.true c.as_bytes-name.ensures
-          (sym w.in-Some.ensures.value) w.in_ok-push.ensures.items (λ q. updates.0 (key_of c.as_bytes-name.result q)) c.loop-place.invariant)
+          (sym w.in-Some.ensures.value) w.in_ok-push.ensures.items (λ q. updates.0 (record { name = record c.as_bytes-name.result { now = q } })) c.loop-place.invariant)
       | goal.in_default w ↦
           rw (w.places-is, c.get_mut.follows.holds-at-none) (item_unlisted _ items i _ n old c.loop-place-test.true c.as_bytes-name.ensures
           (λ there. let at = c.loop-place.invariant.each n there in absurd (cc (w.in_default.ensures.value, at.1))) c.loop-place.invariant)

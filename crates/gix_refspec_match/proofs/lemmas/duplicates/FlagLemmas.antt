@@ -1,7 +1,6 @@
 -- The flags of duplicates, as far as a list in order was gone through.
-use Rattle.std.proofs.Common.{List, [], ◌∷◌, ◌≡◌, ℕ, true, false, Equal, arith, inr, ◌<◌, length, ◌+◌, ◌⊎◌, ◌↔◌, Bool, Result, Ordering}
-use Rattle.std.specs.{Prelude.IfOk, Ordering.is_eq, Ordering.is_ne}
-use Rattle.gix_refspec_match.specs.{Private.Duplicates.FlagsDuplicates, Private.Duplicates.IsDuplicate, Private.Kept.IsFlagged}
+use Rattle.std.{proofs.Common.{List, [], ◌∷◌, ◌≡◌, ℕ, true, false, Equal, arith, inr, ◌<◌, length, ◌+◌, ◌⊎◌, ◌↔◌, Bool, Result, Ordering}, specs.Prelude.IfOk, specs.Ordering.{is_eq, is_ne}}
+use Rattle.gix_refspec_match.specs.Private.{Duplicates.{FlagsDuplicates, IsDuplicate}, Kept.IsFlagged}
 
 pub some_element : {T : Type 0} (xs : List T) (k : ℕ) → k < length xs → T
 some_element [] k below = absurd (omega arith)

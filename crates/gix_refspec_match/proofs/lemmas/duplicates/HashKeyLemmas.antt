@@ -1,9 +1,11 @@
 -- Keys of the upper bits of a hash and an index, and what their order says of hashes that are there twice.
-use Rattle.gix_refspec_match.proofs.Common.{List, refl, ◌≡◌, ℕ, true, Equal, arith, inl, inr, ◌≢◌, ap, ◌<◌, length, map, ◌+◌, get_or, ◌≤◌, ◌*◌, ◌%◌, ◌^◌, Bool, Ordering, ◌/◌, not, bit_or, mod-eq_of_lt, some_element}
-use Rattle.gix_refspec_match.proofs.Common.{div-mul-le_self, shr_mono, AllPairs-filter, eq-eqb, length-map, get_or-map, All-contains, Contains-get_or, All-filter, Contains-append_cases, filter_passes}
-use Rattle.gix_refspec_match.proofs.Common.{All-permutation, Contains-permutation, IsNonDecreasingBy-from_sort, IsPermutation-filter_both, div-mul-add, mod-mul-add, or_shifted, shr_split, IsPermutation}
-use Rattle.gix_refspec_match.proofs.Common.{IsSorted, Contains, filter, nat_cmp, HasNumber, HaveSameUpper, index_in, AreApart, AreKeysOf, FindDuplicates, HasIndex, HasShared, IsKey, is_shared, Rises, Bloom}
+use Rattle.gix_refspec_match.proofs.Common.{List, refl, ◌≡◌, ℕ, true, Equal, arith, inl, inr, ◌≢◌, ap, ◌<◌, length, map, ◌+◌, get_or, ◌≤◌, ◌*◌, ◌%◌, ◌^◌, Bool, Ordering, ◌/◌, not, bit_or, mod-eq_of_lt}
+use Rattle.gix_refspec_match.proofs.Common.{some_element, div-mul-le_self, shr_mono, AllPairs-filter, eq-eqb, length-map, get_or-map, All-contains, Contains-get_or, All-filter, Contains-append_cases}
+use Rattle.gix_refspec_match.proofs.Common.{filter_passes, All-permutation, Contains-permutation, IsNonDecreasingBy-from_sort, IsPermutation-filter_both, div-mul-add, mod-mul-add, or_shifted, shr_split}
+use Rattle.gix_refspec_match.proofs.Common.{IsPermutation, IsSorted, Contains, filter, nat_cmp, HasNumber, HaveSameUpper, index_in, AreApart, AreKeysOf, FindDuplicates, HasIndex, HasShared, IsKey}
+use Rattle.gix_refspec_match.proofs.Common.{is_shared, Rises, Bloom, [], ◌⊎◌, ◌-◌, set, elements, get_or-set_same, length-set, get_or-set_other, get_or_read, AreFirsts, AreIndexesBelow, IsSecond}
 use Rattle.gix_refspec_match.proofs.lemmas.duplicates.OrderedLemmas.{AreNumbered, apart_permuted, numbered_apart, second_found}
+use Rattle.std.specs.List.{All}
 
 pub packed : (hash index bits key : ℕ) → hash < 18446744073709551616 → index < 2 ^ bits → key ≡ bit_or (hash / 2 ^ bits * 2 ^ bits % 18446744073709551616) index
     → (key / 2 ^ bits ≡ hash / 2 ^ bits) × (key % 2 ^ bits ≡ index)
@@ -70,3 +72,48 @@ duplicates_from_keys {T} order hash xs bits keys alike are rises = record {
   where
     up : (i j d : ℕ) → i ≤ j → j < length keys → get_or keys i d ≤ get_or keys j d
     up i j d le below = grind (arith, rises i j d)
+
+-- the first of the current run has the upper bits of the last key, and the firsts of the runs so far are written
+pub record AreFirstsBelow (len bits : ℕ) (keys firsts : List ℕ) (first at : ℕ) : Type 0 where
+  pub before : first < at
+  pub same : HaveSameUpper bits (get_or keys first 0) (get_or keys (at - 1) 0)
+  pub size : (firsts ≡ []) ⊎ (length firsts ≡ len)
+  pub back : (k : ℕ) → get_or firsts k k ≤ k
+  pub found : (i : ℕ) → i < at → (k : ℕ) → IsSecond (HaveSameUpper bits) (index_in bits) keys i k → get_or firsts k k < k
+
+-- the index i is k, and has an earlier first
+abbrev pub HasFirst : List ℕ → ℕ → ℕ → Type 0
+HasFirst firsts i k = (i ≡ k) × (get_or firsts k k < k)
+
+module _ {len bits : ℕ} {keys firsts : List ℕ} {first at : ℕ} (are : AreFirstsBelow len bits keys firsts first at) where
+  -- the key at `at` begins a run
+  pub run_begins : ¬ (HaveSameUpper bits (get_or keys first 0) (get_or keys at 0)) → AreFirstsBelow len bits keys firsts at (at + 1)
+  run_begins other = record { before = omega arith; same = grind arith; size = are.size; back = are.back; found = λ i below k second. grind (arith, are.found i, are.same, other, second.same 0) }
+
+  -- all are first in their runs as long as nothing is written
+  pub all_first : {filled : List ℕ} → firsts ≡ [] → AreIndexesBelow len filled → AreFirstsBelow len bits keys filled first at
+  all_first empty filled =
+      record { before = are.before; same = are.same; size = inr filled.size; back = λ k. omega (arith, filled.at k); found = λ i below k second. grind (arith, elements, are.found i below k second, empty) }
+
+  -- the key at `at` belongs to the run
+  pub run_goes_on : Rises keys → All (λ key. key % 2 ^ bits < len) keys → length firsts ≡ len → at < length keys → HaveSameUpper bits (get_or keys first 0) (get_or keys at 0)
+      → AreFirstsBelow len bits keys (set firsts (get_or keys at 0 % 2 ^ bits) (get_or keys first 0 % 2 ^ bits)) first (at + 1)
+  run_goes_on rises inside full below same =
+      let j = get_or keys first 0 % 2 ^ bits in
+      let k = get_or keys at 0 % 2 ^ bits in
+      let less : j < k = omega (arith, rises first at 0 are.before below, same_upper _ _ bits same) in
+      let fits : k < length firsts = omega (arith, inside at 0 below, full) in
+      let here : (d : ℕ) → get_or (set firsts k j) k d ≡ j = λ d. get_or-set_same firsts k j d fits in
+      let others : (i d : ℕ) → i ≢ k → get_or (set firsts k j) i d ≡ get_or firsts i d =
+      λ i d other. get_or-set_other firsts k i j d other in
+      record {
+        before = omega (arith, are.before);
+        same = grind (arith, same);
+        size = inr (omega (arith, length-set firsts k j, full));
+        back = λ i. grind (arith, here i, others i i, are.back i, less);
+        found = λ i before m second. grind (arith, here m, others m m, are.found i, second.here 0, less);
+      }
+
+pub first_below : {len bits : ℕ} {keys firsts : List ℕ} → AreFirsts len bits keys firsts → (i j : ℕ) → i < length firsts → j ≡ get_or firsts i j → j ≢ i → (j < i) × (i < len)
+first_below {len} {bits} {keys} {firsts} are i j below read other =
+    let value : j ≡ get_or firsts i i = get_or_read firsts i j below read i in (omega (arith, are.back i, value, other), grind (arith, are.size))

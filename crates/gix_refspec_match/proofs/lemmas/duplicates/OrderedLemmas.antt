@@ -1,8 +1,9 @@
 -- Keys and elements with an index, first in the order of their indexes, then sorted.
-use Rattle.gix_refspec_match.proofs.Common.{List, [], ◌∷◌, ◌≡◌, ℕ, false, ◌++◌, Equal, sym, ◌∙◌, arith, ap, ◌<◌, length, ◌+◌, get_or, ◌≤◌, Bool, length-append, ◌-◌, Ordering, eqb, elements, false≢true, some_element}
-use Rattle.gix_refspec_match.proofs.Common.{eq-eqb, ne_eqb, nat_cmp_total, nat_eq_equiv, on_total, tied_back, then_total, get_or_default, get_or_read, All-contains, All-push, Contains-get_or, All-permutation}
-use Rattle.gix_refspec_match.proofs.Common.{Contains-permutation, ranks_by, sorted_far, IsDistinct-IsPermutation, IsDistinct-from_apart, apart_from_distinct, ge_from_not_lt, IsTotalOrder, IsPermutation}
-use Rattle.gix_refspec_match.proofs.Common.{IsSorted, Contains, ordering_then, is_lt, ordering_reverse, IsDuplicate, IsSecond, AreApart, ArePlaced, HaveEqualElements, IsPlaced, placed_order, Placed}
+use Rattle.gix_refspec_match.proofs.Common.{List, [], ◌∷◌, ◌≡◌, ℕ, false, ◌++◌, Equal, sym, ◌∙◌, arith, ap, ◌<◌, length, ◌+◌, get_or, ◌≤◌, Bool, length-append, ◌-◌, Ordering, eqb, elements, false≢true}
+use Rattle.gix_refspec_match.proofs.Common.{some_element, eq-eqb, ne_eqb, nat_cmp_total, nat_eq_equiv, on_total, tied_back, then_total, get_or_default, get_or_read, All-contains, All-push, Contains-get_or}
+use Rattle.gix_refspec_match.proofs.Common.{All-permutation, Contains-permutation, ranks_by, sorted_far, IsDistinct-IsPermutation, IsDistinct-from_apart, apart_from_distinct, ge_from_not_lt, IsTotalOrder}
+use Rattle.gix_refspec_match.proofs.Common.{IsPermutation, IsSorted, Contains, ordering_then, is_lt, ordering_reverse, IsDuplicate, IsSecond, AreApart, ArePlaced, HaveEqualElements, IsPlaced, placed_order}
+use Rattle.gix_refspec_match.proofs.Common.{Placed}
 use Rattle.std.specs.List.{All}
 
 -- a list of length n, of which each has its place as its index

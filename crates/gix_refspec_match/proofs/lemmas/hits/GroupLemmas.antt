@@ -1,10 +1,9 @@
 -- The hits of a group from those of its matchers. Specs that have the sides of an earlier one have none: their hits make
 -- no pair that is new.
 use Rattle.gix_refspec_match.proofs.Common.{List, [], ◌∷◌, refl, ◌≡◌, ℕ, ◌++◌, sym, arith, inl, inr, ap, append-nil, ◌<◌, length, map, ◌+◌, get_or, append_assoc, zero, suc, Bool, add-zero, length-append}
-use Rattle.gix_refspec_match.proofs.Common.{get_or-append_seam, get_or_append_left, map-append, IsPositive, Ref, Reading, IsMadeFrom, IsJoinedFrom, Ends, Hit, IsHit, AreSpecHits, AreHits, Mapped, IsSamePair}
+use Rattle.gix_refspec_match.proofs.Common.{rules, get_or-append_seam, get_or_append_left, map-append, IsPositive, Ref, Reading, IsMadeFrom, IsJoinedFrom, Ends, Hit, IsHit, AreSpecHits, AreHits, Mapped}
 use Rattle.gix_refspec_match.proofs.Common.{HasPair, HaveSameSides, FlagsEqual, mapping_of, Thins, IsFlagged, HaveKinds, HasEnds, TakesIn, AreMatcherOf, AreMatchersOf, Candidates, Matcher, Matchers}
-use Rattle.gix_refspec_match.proofs.lemmas.{hits.FoundLemmas.made_each, hits.FoundLemmas.of_hits, lists.JoinLemmas.joined_next}
-use Rattle.gix_refspec_match.proofs.lemmas.keep.{KeptLemmas.HasPair-left, ThinLemmas.pair_right, ThinLemmas.thins_both}
+use Rattle.gix_refspec_match.proofs.lemmas.{hits.HitLemmas.{made_each, of_hits}, lists.JoinLemmas.joined_next, keep.KeptLemmas.{HasPair-left, pair_right, thins_both}}
 
 -- the same hit, by the spec at place k
 abbrev at_spec : ℕ → Hit → Hit
@@ -13,9 +12,6 @@ at_spec k h = record { spec = k; item = h.item; near = h.near; far = h.far }
 same_ends : (which : Candidates) (r s : Reading) (ends : Ends) → IsPositive s.mode → r.source ≡ s.source → r.destination ≡ s.destination → HasEnds which r ends → HasEnds which s ends
 same_ends which r s ends positive source destination has = grind (arith, positive, source, destination, has)
 
-pair_at : (which : Candidates) (k : ℕ) (h : Hit) → IsSamePair (mapping_of which h) (mapping_of which (at_spec k h))
-pair_at which k h = grind arith
-
 abbrev Holds : List Mapped → List Mapped → Type 0
 Holds all some = (m : Mapped) → HasPair some m → HasPair all m
 
@@ -23,14 +19,11 @@ module _ (which : Candidates) (items : List Ref) where
   abbrev SpecHits : ℕ → Reading → List Hit → Type 0
   SpecHits = AreSpecHits (HasEnds which) (TakesIn which items) items
 
-  hit_at : (ends : Ends) (b k j : ℕ) (r : Ref) (h : Hit) → IsHit (TakesIn which items) ends b j r h → IsHit (TakesIn which items) ends k j r (at_spec k h)
-  hit_at ends b k j r h is = record { word = is.word; takes = is.takes; far = is.far; near = is.near; spec = refl; item = is.item }
-
   -- the hits of a spec are those of another one with the same sides, at its place
   spec_at : (b k : ℕ) (r s : Reading) (hits : List Hit) → HaveSameSides r s → SpecHits b r hits → SpecHits k s (map (at_spec k) hits)
   spec_at b k r s hits same (inl (ends, has, are)) =
       let moved = made_each (at_spec k) (IsHit (TakesIn which items) ends b) (IsHit (TakesIn which items) ends k) items hits
-      (λ i d below. (hit_at ends b k i (get_or items i d), λ h here. (at_spec b h, hit_at ends k b i (get_or items i d) h here))) are in
+      (λ i d below. ((λ h is. search rules), λ h is. (at_spec b h, search rules))) are in
       inl (ends, same_ends which r s ends same.positive_too same.source same.destination has, moved)
   spec_at b k r s hits same (inr (none, is)) = inr ((λ ends has. none ends (same_ends which s r ends same.positive (sym same.source) (sym same.destination) has)), ap (map (at_spec k)) is)
 
@@ -49,7 +42,7 @@ thins_again : (g : List Reading) (which : Candidates) (k : ℕ) (before : List M
 thins_again g which k before [] holds = refl
 thins_again g which k before (h ∷ hits) holds =
     let m = mapping_of which (at_spec k h) in
-    inr (inl (holds m (inl (pair_at which k h))), thins_again g which k (before ++ m ∷ []) hits (λ x has. HasPair-left before (m ∷ []) x (holds x (inr has))))
+    inr (inl (holds m (inl (grind arith))), thins_again g which k (before ++ m ∷ []) hits (λ x has. HasPair-left before (m ∷ []) x (holds x (inr has))))
 
 module _ (g : List Reading) (which : Candidates) (items : List Ref) where
   -- where a matcher finds enough: the hits of its spec make these mappings, but for some that may be left out, whatever was

@@ -1,9 +1,7 @@
 -- The places that a partial name takes, as refs are added: those of the first candidate, or of all.
 use Rattle.gix_refspec_match.proofs.Common.{List, [], ◌∷◌, None, Some, refl, ◌≡◌, ℕ, ◌++◌, sym, ◌∙◌, arith, inl, inr, subst, append-nil, ◌<◌, length, ◌+◌, get_or, ◌⊎◌, ◌≤◌, ◌↔◌, map-id, AllByRecursion}
-use Rattle.gix_refspec_match.proofs.Common.{all_right, first_once, first_candidate, some_first, Ref, HasName, IsFirstCandidate, MatchesAs, partial, IsCandidate, ArePlacesTaken, Joins, name_at, Candidates, All}
-use Rattle.gix_refspec_match.proofs.Common.{First}
-use Rattle.gix_refspec_match.proofs.lemmas.{hits.FoundLemmas.made_each, lists.JoinLemmas.made_next}
-use Rattle.gix_refspec_match.proofs.lemmas.index.PlacesLemmas.{AreWhere, Lengthen, candidates_lengthen}
+use Rattle.gix_refspec_match.proofs.Common.{all_right, first_once, first_candidate, some_first, Ref, HasName, IsFirstCandidate, MatchesAs, partial, IsCandidate, ArePlacesTaken, Joins, name_at, Candidates}
+use Rattle.gix_refspec_match.proofs.{Common.{All, First}, lemmas.hits.HitLemmas.made_each, lemmas.lists.JoinLemmas.made_next, lemmas.index.IndexLemmas.{AreWhere, Lengthen, candidates_lengthen}}
 
 pub has_last : (refs : List Ref) (r : Ref) (n : List ℕ) → HasName (refs ++ r ∷ []) n ↔ (HasName refs n ⊎ (r.name ≡ n))
 has_last [] r n = grind arith

@@ -1,11 +1,9 @@
 -- An item's place is added for the partial names that may stand for its name.
-use Rattle.gix_refspec_match.proofs.Common.{List, [], Some, codes, refl, ◌≡◌, ℕ, ◌++◌, Option, ◌∙◌, arith, inl, inr, ap, ◌<◌, length, map, take, drop, ◌+◌, get_or, take_all, rules, ◌⊎◌, ◌≤◌, length-append, map_more}
-use Rattle.gix_refspec_match.proofs.Common.{slice_get-map, slice_get-get_or, AllByRecursion, Contains, Ref, Fits, IsCandidate, Joins, name_at, HavePlaces, AddsWhere, IsBelowPlace, ListPartials, ref_of}
-use Rattle.gix_refspec_match.proofs.Common.{Candidates, All, First, Item, Vec}
-use Rattle.gix_refspec_match.proofs.lemmas.hits.HitLemmas.{candidate_cases, placed_candidate, remote_candidate}
-use Rattle.gix_refspec_match.proofs.lemmas.index.FirstPlacesLemmas.{AreFound, found_next, found_taken}
-use Rattle.gix_refspec_match.proofs.lemmas.index.IndexLemmas.{Puts, put_cases}
-use Rattle.gix_refspec_match.proofs.lemmas.{index.PlacesLemmas.all_at, lists.JoinLemmas.map_long}
+use Rattle.gix_refspec_match.proofs.Common.{List, [], Some, codes, refl, ◌≡◌, ℕ, ◌++◌, Option, ◌∙◌, arith, inl, inr, ap, ◌<◌, length, map, take, drop, ◌+◌, get_or, take_all, rules, ◌⊎◌, ◌≤◌, length-append}
+use Rattle.gix_refspec_match.proofs.Common.{map_more, slice_get-map, slice_get-get_or, AllByRecursion, Contains, Ref, Fits, IsCandidate, Joins, name_at, HavePlaces, AddsWhere, IsBelowPlace, ListPartials}
+use Rattle.gix_refspec_match.proofs.Common.{ref_of, Candidates, All, First, Item, Vec, false, ◌-◌, drop-append-add, le-ltb, HasNumber, AreWholeTails, HasTail, short_tail_number, ShortTails}
+use Rattle.gix_refspec_match.proofs.lemmas.{hits.HitLemmas.{candidate_at, candidate_cases}, index.FirstPlacesLemmas.{AreFound, found_next, found_taken}, index.IndexLemmas.{Puts, put_cases, all_at}}
+use Rattle.gix_refspec_match.proofs.lemmas.lists.JoinLemmas.{map_long}
 
 pub adds_nothing : {Known P : List ℕ → Type 0} {R : List ℕ → List ℕ → Type 0} {listed : List ℕ → Option (Vec ℕ)}
     → ((x : List ℕ) (w : Vec ℕ) → Known x → listed x ≡ Some w → ¬ (P x)) → AddsWhere Known P R listed listed
@@ -34,17 +32,12 @@ abbrev pub IsInRefs : List ℕ → List ℕ → Type 0
 IsInRefs n x = (n ≡ codes "refs/" ++ drop 5 n) × ((drop 5 n ≡ x) ⊎ IsBehindPlace (drop 5 n) x)
 
 candidate_from : (n x : List ℕ) → (n ≡ x) ⊎ IsInRefs n x → IsCandidate x n
-candidate_from n x told =
-    let at = placed_candidate x n in
-    search (
-      rules,
-      at [],
-      at (codes "refs/"),
-      at (codes "refs/tags/"),
-      at (codes "refs/heads/"),
-      at (codes "refs/remotes/"),
-      remote_candidate x n,
-    )
+candidate_from n x (inl same) = candidate_at x n 0 (rw same)
+candidate_from n x (inr (is, inl same)) = candidate_at x n 1 (rw (is, same))
+candidate_from n x (inr (is, inr (inl (inl same)))) = candidate_at x n 2 (rw (is, same))
+candidate_from n x (inr (is, inr (inl (inr (inl same))))) = candidate_at x n 3 (rw (is, same))
+candidate_from n x (inr (is, inr (inl (inr (inr same))))) = candidate_at x n 4 (rw (is, same))
+candidate_from n x (inr (is, inr (inr head))) = candidate_at x n 5 (rw (is, head))
 
 candidate_in : (n x : List ℕ) → IsCandidate x n → (n ≡ x) ⊎ IsInRefs n x
 candidate_in n x one = let cases = candidate_cases x n one in grind (arith, cases)
@@ -111,5 +104,17 @@ module _ {which : Candidates} {names : List (List ℕ)} {items : List Item} wher
   pub partials_all : {i : ℕ} {listed : List ℕ → Option (Vec ℕ)} → length items ≤ i → ListSoFar which names items i listed → ListPartials which names (map ref_of items) listed
   partials_all {i = i} past so_far x there = let (v, is, found) = so_far.each x there in (v, is, found_taken which (map ref_of items) x v.items (simp (take_all i items past) at found))
 
-pub no_partials : (which : Candidates) (names : List (List ℕ)) (refs : List Ref) (listed : List ℕ → Option (Vec ℕ)) → names ≡ [] → ListPartials which names refs listed
-no_partials which names refs listed none x there = let (k, inside, is) = rw none at there in absurd (omega (arith, inside))
+short_tail-append : (before x : List ℕ) → 4 ≤ length x → short_tail_number (before ++ x) ≡ short_tail_number x
+short_tail-append before x long =
+    let whole = length-append before x in
+    let place : length (before ++ x) - 4 ≡ length before + (length x - 4) = omega (arith, long, whole) in
+    let longer : 4 ≤ length (before ++ x) = omega (arith, long, whole) in
+    rw (le-ltb (length (before ++ x)) 4 longer, le-ltb (length x) 4 long, place, drop-append-add before x (length x - 4)) refl
+
+-- so a candidate of a partial name is there, where all of these are told by the Bloom filter
+pub candidate_marked : (t : ShortTails) (n x : List ℕ) → AreWholeTails t → t.any ≡ false → HasTail t x → IsCandidate x n → HasNumber t.tails (short_tail_number n)
+candidate_marked t n x whole none has one = elim (candidate_cases x n one) [
+  | inl (before, folder, is) ↦ rw is (search (rules, short_tail-append before x))
+  | inr head ↦
+      rw (head, short_tail-append (codes "refs/remotes/") (x ++ codes "/HEAD") (omega (arith, length-append x (codes "/HEAD"))), short_tail-append x (codes "/HEAD") (omega arith)) whole.head
+]

@@ -1,7 +1,7 @@
 -- What is kept of a list of mappings, by pairs: those whose source isn't excluded.
 use Rattle.gix_refspec_match.proofs.Common.{List, [], ◌∷◌, None, Some, refl, ◌≡◌, ℕ, ◌++◌, Option, sym, ◌∙◌, arith, inl, inr, subst, length, ◌+◌, append_assoc, ◌⊎◌, ◌↔◌, option_to_list, length-append}
-use Rattle.gix_refspec_match.proofs.Common.{take-append_seam, Reading, MakesOf, IsMadeFrom, Mapped, IsKeptAt, IsKept, IsSourceExcluded, IsSamePair, HasPair, equal_pair, pair_order, same_pair, cases_Bool, is_eq}
-use Rattle.gix_refspec_match.proofs.lemmas.lists.SomeLemmas.{Any, Any-right, Any-cases, Any-weaker, Any-both, made_any}
+use Rattle.gix_refspec_match.proofs.Common.{take-append_seam, Reading, MakesOf, IsMadeFrom, Mapped, IsKeptAt, IsKept, IsSourceExcluded, IsSamePair, HasPair, equal_pair, pair_order, same_pair, cases_Bool}
+use Rattle.gix_refspec_match.proofs.{Common.is_eq, lemmas.lists.SomeLemmas.{Any, Any-right, Any-cases, Any-weaker, Any-both, made_any}}
 
 abbrev pub IsOfPair : Mapped → Mapped → Type 0
 IsOfPair pair m = IsSamePair m pair

@@ -1,7 +1,7 @@
 -- Lists that are joined from lists, and lists of which nothing is made.
-use Rattle.std.proofs.Common.{List, [], ◌∷◌, None, Some, refl, ◌≡◌, ℕ, ◌++◌, Option, sym, ◌∙◌, arith, subst, ap, append-nil, ◌<◌, length, map, take, drop, ◌+◌, get_or, append_assoc, zero, suc, option_to_list}
-use Rattle.std.proofs.Common.{add-zero, length-append, take-append-drop, drop-cons}
-use Rattle.std.proofs.{Math.Seq.get_or-append_seam, lemmas.List.map_more, lemmas.List.length-map, lemmas.List.length-take-le, lemmas.List.map-append, lemmas.List.nil_from_length}
+use Rattle.std.proofs.Common.{List, [], ◌∷◌, None, Some, refl, ◌≡◌, ℕ, ◌++◌, Option, sym, ◌∙◌, arith, subst, ap, append-nil, ◌<◌, length, map, take, drop, ◌+◌, get_or, append_assoc, zero, suc}
+use Rattle.std.proofs.{Common.{option_to_list, add-zero, length-append, take-append-drop, drop-cons}, Math.Seq.get_or-append_seam, lemmas.List.{map_more, length-map, length-take-le, map-append}}
+use Rattle.std.proofs.lemmas.List.{nil_from_length}
 use Rattle.gix_refspec_match.specs.Matching.Lists.{MakesOf, IsMadeFrom, IsJoinedFrom}
 
 pub map_long : {A B : Type 0} (f : A → B) (xs : List A) (i : ℕ) → i < length xs → length (map f (take i xs)) ≡ i

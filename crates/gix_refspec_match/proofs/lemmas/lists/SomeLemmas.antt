@@ -1,5 +1,6 @@
 -- That some element is as P says, in lists that are made or joined from others.
-use Rattle.gix_refspec_match.proofs.Common.{List, [], ◌∷◌, None, Some, refl, ℕ, ◌++◌, sym, arith, inl, inr, subst, map, ◌+◌, rules, ◌⊎◌, zero, suc, All-from_recursion, AllByRecursion, IsMadeFrom, IsJoinedFrom}
+use Rattle.gix_refspec_match.proofs.Common.{List, [], ◌∷◌, None, Some, refl, ℕ, ◌++◌, sym, arith, inl, inr, subst, map, ◌+◌, rules, ◌⊎◌, zero, suc, All-from_recursion, AllByRecursion, IsMadeFrom}
+use Rattle.gix_refspec_match.proofs.Common.{IsJoinedFrom}
 use Rattle.std.specs.List as lists
 
 abbrev pub Any : {X : Type 0} → (X → Type 0) → List X → Type 0

@@ -1,7 +1,6 @@
 -- What is left of the name after both cuts is the word, and without one of them there is none.
-use Rattle.gix_refspec_match.proofs.Common.{◌≡◌, ℕ, true, ◌++◌, Option, sym, ◌∙◌, ap, length, Bor, take-append-drop, not, nat_eq, option_copied, take-append_seam, Decides-eqb, strip_suffix_is}
-use Rattle.gix_refspec_match.proofs.Common.{arith, false≢true, not-false, pointwise_decides, option_eq}
-use Rattle.gix_refspec_match.proofs.lemmas.hits.HitLemmas.{word_left}
+use Rattle.gix_refspec_match.proofs.Common.{◌≡◌, ℕ, true, ◌++◌, Option, sym, ◌∙◌, ap, length, Bor, take-append-drop, not, nat_eq, option_copied, take-append_seam, Decides-eqb, strip_suffix_is, arith}
+use Rattle.gix_refspec_match.proofs.{Common.{false≢true, not-false, pointwise_decides, option_eq}, lemmas.hits.HitLemmas.word_left}
 use Rattle.gix_refspec_match.proofs.needle.word_between.Goals as goal
 
 same_end : (a b : Option (Bor ℕ)) → option_copied a ≡ option_copied b → option_eq (λ x y. nat_eq x.now y.now) a b ≡ true

@@ -1,5 +1,4 @@
-use Rattle.gix_refspec_match.proofs.Common.{arith, take, take_all, length-map, length-take-le, map_next, reading_of}
-use Rattle.gix_refspec_match.proofs.lemmas.keep.ExclusionLemmas.{exclusions_at_more, exclusions_more}
+use Rattle.gix_refspec_match.proofs.{Common.{arith, take, take_all, length-map, length-take-le, map_next, reading_of}, lemmas.keep.ExclusionLemmas.{exclusions_at_more, exclusions_more}}
 use Rattle.gix_refspec_match.proofs.exclusions.Exclusions.of.Goals as goal
 
 pub loop-index-preserved : goal.loop-index-preserved

@@ -1,7 +1,5 @@
 -- Of each length that is flagged there is one prefix at most that the name begins with.
-use Rattle.gix_refspec_match.proofs.Common.{refl, false, sym, arith, inr, ap, length, get_or_past, list_of}
-use Rattle.gix_refspec_match.proofs.lemmas.index.KeyLemmas.{key_of}
-use Rattle.gix_refspec_match.proofs.lemmas.index.PrefixLemmas.{adds_all, adds_listed, adds_more, begins_long, taken_begins}
+use Rattle.gix_refspec_match.proofs.{Common.{refl, false, sym, arith, inr, ap, length, get_or_past, list_of}, lemmas.index.IndexLemmas.{adds_all, adds_listed, adds_more, begins_long, taken_begins}}
 use Rattle.gix_refspec_match.proofs.index.prefixes.add_place.Goals as goal
 
 pub returns-then-name-len : goal.returns-then-name-len
@@ -24,7 +22,7 @@ loop-len-preserved c =
           let list = w.push.new.self in
           let updates = (c.get_mut.follows.holds list).3 (rw (← w.in-Some.ensures.value) refl) in
           rw w.places-is (adds_listed l n c.args.place w.in-Some.list.now list _ (list_of c.loop-len.places) _ (omega arith)
-          (sym w.in-Some.ensures.value) w.in_ok-push.ensures.items (λ q. updates.0 (key_of c.args.name q)) c.loop-len.invariant)
+          (sym w.in-Some.ensures.value) w.in_ok-push.ensures.items (λ q. updates.0 (record { name = record c.args.name { now = q } })) c.loop-len.invariant)
       | goal.in_default w ↦ rw (w.places-is, c.get_mut.follows.holds-at-none) (adds_more l n c.args.place _ _
           (λ prefix v u is was begins long.
           absurd (cc (w.in_default.ensures.value, ap (list_of c.loop-len.places) (taken_begins prefix n l begins long))))

@@ -1,5 +1,4 @@
-use Rattle.gix_refspec_match.proofs.Common.{take_all}
-use Rattle.gix_refspec_match.proofs.lemmas.index.PrefixLemmas.{fronts_started, item_added, lengths_started}
+use Rattle.gix_refspec_match.proofs.{Common.take_all, lemmas.index.IndexLemmas.{fronts_started, item_added, lengths_started}}
 use Rattle.gix_refspec_match.proofs.index.prefixes.places_of_prefixes.Goals as goal
 
 pub loop-place-init : goal.loop-place-init

@@ -1,5 +1,5 @@
-use Rattle.gix_refspec_match.proofs.Common.{None, Some, ◌≡◌, sym, arith, inl, inr, append-nil, take_all, kind_of_side, reading_of, DeclaredKind as SideKind, Partial, IsNameKind}
-use Rattle.gix_refspec_match.proofs.lemmas.hits.MissingLemmas.{named_here, named_next, none_here, other_here}
+use Rattle.gix_refspec_match.proofs.Common.{None, Some, ◌≡◌, sym, arith, inl, inr, append-nil, kind_of_side, reading_of, DeclaredKind as SideKind, Partial, IsNameKind}
+use Rattle.gix_refspec_match.proofs.lemmas.hits.MatcherLemmas.{named_here, named_next, none_here, other_here}
 use Rattle.gix_refspec_text.specs.declared.side.SideKind.TheVariants.{FullName}
 use Rattle.gix_refspec_match.proofs.matcher.Matchers.of_names.Goals as goal
 
@@ -20,6 +20,3 @@ loop-spec_index-preserved c = elim c.match-sides.branch [
       (named_next _ _ _ _ _ None c.loop-spec_index-test.true c.index-specs-spec_index.is c.loop-spec_index.invariant
       (other_here c.loop-spec_index.spec_index (reading_of c.index-specs-spec_index.result) c.in-Some.sides c.in-Some.ensures (no_name _ w.in_default-source.not-FullName w.in_default-source.not-Partial)) (sym (append-nil _)))
 ]
-
-pub returns : goal.returns
-returns c = rw (take_all c.loop-spec_index.spec_index c.args.specs.now (omega arith)) at c.loop-spec_index.invariant

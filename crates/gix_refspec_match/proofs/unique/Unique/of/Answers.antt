@@ -1,6 +1,6 @@
 -- One more item, which is in the part unless it is flagged.
-use Rattle.gix_refspec_match.proofs.Common.{List, [], ◌∷◌, refl, ◌≡◌, ℕ, ◌++◌, sym, ◌∙◌, arith, inl, inr, subst, ap, append-nil, ◌<◌, length, map, take, ◌+◌, get_or, append_assoc, zero, suc, map_more, map_long}
-use Rattle.gix_refspec_match.proofs.Common.{length-take-le, map-append, get_or-take, bstr_bytes, Ref, HasName, IsPartBehind, IsPart, IsDuplicate, bytes_order, same_texts, ref_of, Item}
+use Rattle.gix_refspec_match.proofs.Common.{List, [], ◌∷◌, refl, ◌≡◌, ℕ, ◌++◌, sym, ◌∙◌, arith, inl, inr, subst, ap, append-nil, ◌<◌, length, map, take, ◌+◌, get_or, append_assoc, zero, suc, map_more}
+use Rattle.gix_refspec_match.proofs.Common.{map_long, length-take-le, map-append, get_or-take, bstr_bytes, Ref, HasName, IsPartBehind, IsPart, IsDuplicate, bytes_order, same_texts, ref_of, Item}
 use Rattle.gix_refspec_match.proofs.unique.Unique.of.Goals as goal
 
 abbrev name_of : Item → List ℕ

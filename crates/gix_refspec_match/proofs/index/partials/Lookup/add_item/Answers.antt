@@ -1,6 +1,5 @@
 -- The place is added for what is left with each place taken off, and other places aren't there.
-use Rattle.gix_refspec_match.proofs.Common.{codes, ◌++◌, inr, drop, on_ok_weaker, one_word}
-use Rattle.gix_refspec_match.proofs.lemmas.index.PartialLemmas.{adds_below, adds_candidates, adds_nothing, adds_only, one_place}
+use Rattle.gix_refspec_match.proofs.{Common.{codes, ◌++◌, inr, drop, on_ok_weaker, one_word}, lemmas.index.PartialLemmas.{adds_below, adds_candidates, adds_nothing, adds_only, one_place}}
 use Rattle.gix_refspec_match.proofs.index.partials.Lookup.add_item.Goals as goal
 
 pub returns-in_default : goal.returns-in_default
