@@ -1,5 +1,5 @@
 -- the index of a key that doesn't begin its run becomes that of the first one
-use Rattle.gix_refspec_match.proofs.{Common.{[], ◌≡◌, sym, ◌∙◌, arith, length, nil_from_length}, lemmas.duplicates.HashKeyLemmas.{all_first, run_begins, run_goes_on}}
+use Rattle.gix_refspec_match.proofs.{Common.{[], ◌≡◌, sym, ◌∙◌, arith, nil_from_length}, lemmas.duplicates.HashKeyLemmas.{all_first, run_begins, run_goes_on}}
 use Rattle.gix_refspec_match.proofs.duplicates.firsts_by_key.Goals as goal
 
 pub loop-at-preserved-then-upper_bits : goal.loop-at-preserved-then-upper_bits
@@ -11,14 +11,10 @@ loop-at-preserved c =
     let same = sym c.upper_bits.ensures ∙ c.if-upper_bits.false ∙ c.upper_bits-in-loop-at.ensures in
     rw (c.lower_bits.ensures, c.lower_bits-in-loop-at.ensures) (elim c.if-is_empty.branch [
       | goal.then-is_empty+in_ok-firsts w ↦
-          let filled = w.in_ok-firsts.ensures in
           let none : c.loop-at.firsts.items ≡ [] = nil_from_length _ (grind (arith, c.is_empty.ensures, w.if-is_empty.true)) in
-          rw w.firsts-is (run_goes_on (all_first c.loop-at.invariant none filled) c.requires.rises c.requires.inside filled.size
-          c.loop-at-test.true same)
+          rw w.firsts-is (run_goes_on (all_first c.loop-at.invariant none w.in_ok-firsts.ensures) c.requires.rises c.requires.inside w.in_ok-firsts.ensures.size c.loop-at-test.true same)
       | goal.else-is_empty w ↦
-          let full : length c.loop-at.firsts.items ≡ c.args.len =
-          grind (arith, c.is_empty.ensures, w.if-is_empty.false, c.loop-at.invariant.size) in
-          rw w.firsts-is (run_goes_on c.loop-at.invariant c.requires.rises c.requires.inside full c.loop-at-test.true same)
+          rw w.firsts-is (run_goes_on c.loop-at.invariant c.requires.rises c.requires.inside (grind (arith, c.is_empty.ensures, w.if-is_empty.false, c.loop-at.invariant.size)) c.loop-at-test.true same)
     ])
 
 pub returns : goal.returns

@@ -1,9 +1,8 @@
 use Rattle.gix_refspec_match.proofs.{Common.{arith, rules, always_returns_same, ranks_by, is_lt, placed_order}, lemmas.duplicates.OrderedLemmas.{placed_permuted, placed_total}}
 use Rattle.gix_refspec_match.proofs.duplicates.placed_in_order.Goals as goal
 
-pub returns-clause-all : goal.returns-clause-all
-returns-clause-all g c = placed_permuted (omega arith) c.loop-index.invariant c.sort_unstable_by.ensures.permutation
-
-pub returns-clause-order : goal.returns-clause-order
-returns-clause-order g c =
-    c.sort_unstable_by.ensures.sorted (λ p q. is_lt (placed_order g.T.Element.order p q)) (ranks_by (placed_total g.met.T.Element.total) (λ p. p)) (search (rules, always_returns_same))
+pub returns : goal.returns
+returns g c = record {
+  all = placed_permuted (omega arith) c.loop-index.invariant c.sort_unstable_by.ensures.permutation;
+  order = c.sort_unstable_by.ensures.sorted (λ p q. is_lt (placed_order g.T.Element.order p q)) (ranks_by (placed_total g.met.T.Element.total) (λ p. p)) (search (rules, always_returns_same));
+}

@@ -13,13 +13,12 @@ offset_bounds-items-index c = let below = bounds-items-index c in search rules
 pub loop-index-preserved : goal.loop-index-preserved
 loop-index-preserved c =
     let listed = c.in-Some.ensures c.args.candidates (map ref_of c.args.items.now) c.requires in
-    let inside = rw length-map at (place_fits _ _ (kind_of_side c.args.needle) c.in-Some.indexes.now c.loop-index.index-index 0 listed c.loop-index-test.true) in
     elim c.else-matches.branch [
       | goal.else-matches-via-then-matches+in_ok-add_hit-in-Some+else-not-branch w ↦
           let hit = rw w.if-not-branch.false at w.in_ok-add_hit-in-Some.ensures in
-          rw w.hits-is (place_next _ _ _ _ _ 0 _ (Some _) _ _ _ c.loop-index-test.true inside (c.matches.ensures.0 w.if-matches.true, refl) hit c.loop-index.invariant)
+          rw w.hits-is (place_next _ _ _ _ _ _ 0 _ (Some _) _ _ _ c.loop-index-test.true listed (c.matches.ensures.0 w.if-matches.true, refl) hit c.loop-index.invariant)
       | goal.else-matches-via-else-matches w ↦
-          rw w.hits-is (place_next _ _ _ _ _ 0 _ None _ _ _ c.loop-index-test.true inside (λ hit is. false≢true (sym w.if-matches.false ∙ c.matches.ensures.1 is.0)) (sym (append-nil _)) c.loop-index.invariant)
+          rw w.hits-is (place_next _ _ _ _ _ _ 0 _ None _ _ _ c.loop-index-test.true listed (λ hit is. false≢true (sym w.if-matches.false ∙ c.matches.ensures.1 is.0)) (sym (append-nil _)) c.loop-index.invariant)
     ]
 
 pub loop-item_index-preserved : goal.loop-item_index-preserved

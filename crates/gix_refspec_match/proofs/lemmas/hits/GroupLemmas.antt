@@ -2,7 +2,7 @@
 -- no pair that is new.
 use Rattle.gix_refspec_match.proofs.Common.{List, [], ◌∷◌, refl, ◌≡◌, ℕ, ◌++◌, sym, arith, inl, inr, ap, append-nil, ◌<◌, length, map, ◌+◌, get_or, append_assoc, zero, suc, Bool, add-zero, length-append}
 use Rattle.gix_refspec_match.proofs.Common.{rules, get_or-append_seam, get_or_append_left, map-append, IsPositive, Ref, Reading, IsMadeFrom, IsJoinedFrom, Ends, Hit, IsHit, AreSpecHits, AreHits, Mapped}
-use Rattle.gix_refspec_match.proofs.Common.{HasPair, HaveSameSides, FlagsEqual, mapping_of, Thins, IsFlagged, HaveKinds, HasEnds, TakesIn, AreMatcherOf, AreMatchersOf, Candidates, Matcher, Matchers}
+use Rattle.gix_refspec_match.proofs.Common.{HasPair, HaveSameSides, FlagsEqual, mapping_of, Thins, IsFlagged, HaveKinds, HasEnds, TakesIn, AreMatcherOf, Candidates, Matcher}
 use Rattle.gix_refspec_match.proofs.lemmas.{hits.HitLemmas.{made_each, of_hits}, lists.JoinLemmas.joined_next, keep.KeptLemmas.{HasPair-left, pair_right, thins_both}}
 
 -- the same hit, by the spec at place k
@@ -86,13 +86,10 @@ module _ (g : List Reading) (which : Candidates) (items : List Ref) where
       (n, [], more, rw none at found, refl, flagged_next flags front rest r some equal flagged positive so_far)
   most_of flags front rest r n made others some more equal (inr (inr no_ends, none)) found so_far = (n, [], more, rw none at found, refl, most_next front r some [] [] (inr (no_ends, refl)) so_far refl)
 
-  most_from : (flags : List Bool) (front rest : List Reading) (n : ℕ) (ms : List Matcher) (some more : List Mapped) → FlagsEqual (front ++ rest) flags
+  pub most_from : (flags : List Bool) (front rest : List Reading) (n : ℕ) (ms : List Matcher) (some more : List Mapped) → FlagsEqual (front ++ rest) flags
       → IsJoinedFrom (AreMatcherOf which flags) (length front) rest ms → FindEnough n ms more → AreMostOf front some → AreMostOf (front ++ rest) (some ++ more)
   most_from flags front [] n ms some more equal none found so_far = let empty : more ≡ [] = rw none at found in rw (append-nil, empty, append-nil) so_far
   most_from flags front (r ∷ rest) n ms some more equal (made, others, of, behind, is) found so_far =
       let (n2, here, later, find, all, next) = most_of flags front rest r n made others some more equal of (rw is at found) so_far in
       let whole = append_assoc front (r ∷ []) rest in
       rw (all, ← append_assoc, ← whole) (most_from flags (front ++ r ∷ []) rest n2 others (some ++ here) later (rw whole equal) (rw length-append behind) find next)
-
-  pub most_found : (ms : Matchers) (some : List Mapped) → AreMatchersOf which g ms → FindEnough 0 ms.list.items some → AreMostOf g some
-  most_found ms some are found = most_from are.flags [] g 0 ms.list.items [] some are.equal are.made found ([], refl, refl)

@@ -1,9 +1,9 @@
 -- What specs match, and what becomes of it.
-use Rattle.gix_refspec_match.proofs.Common.{List, [], ◌∷◌, None, Some, codes, refl, ◌≡◌, ℕ, ◌++◌, Option, sym, ◌∙◌, arith, inl, inr, ◌≢◌, subst, ap, take, drop, ◌+◌, rules, ◌⊎◌, MatchOption, Bor}
-use Rattle.gix_refspec_match.proofs.Common.{append_cancel_left, AllByRecursion, lacks_no_pattern, one_word, split_once, AllByRecursion-parts, IsIdText-unique, kind_of_side, DeclaredKind, Ref, Matches}
-use Rattle.gix_refspec_match.proofs.Common.{MatchesAs, pattern, object, HasKind, partial, SideKind, Fits, IsCandidate, candidates, Reading, Ends, IsFilled, Hit, IsHit, AreSpecHits, IsIdMapping}
-use Rattle.gix_refspec_match.proofs.Common.{AreBackward, AreForward, OneForward, OneBackward, Mapped, IsKeptAt, IsKept, HasEnds, TakesIn, filled_side, HasSideKind, IsFirstIn, Candidates, All, First}
-use Rattle.gix_refspec_match.proofs.Common.{is_some, ◌<◌, length, map, get_or, option_map, ◌↔◌, IsTrue, Bool, zero-add, map-id, MakesOf, IsMadeFrom, mapping_of, IsMatched}
+use Rattle.gix_refspec_match.proofs.Common.{◌-◌, length, length-append, drop-append_seam, take-append_seam, word_in, List, [], ◌∷◌, None, Some, codes, refl, ◌≡◌, ℕ, ◌++◌, Option, sym, ◌∙◌, arith, inl, inr}
+use Rattle.gix_refspec_match.proofs.Common.{◌≢◌, subst, ap, take, drop, ◌+◌, ◌⊎◌, MatchOption, Bor, append_cancel_left, AllByRecursion, lacks_no_pattern, split_once, AllByRecursion-parts, IsIdText-unique}
+use Rattle.gix_refspec_match.proofs.Common.{kind_of_side, DeclaredKind, Ref, Matches, MatchesAs, pattern, object, HasKind, partial, SideKind, Fits, IsCandidate, candidates, Reading, Ends, IsFilled, Hit}
+use Rattle.gix_refspec_match.proofs.Common.{IsHit, AreSpecHits, IsIdMapping, AreBackward, AreForward, OneForward, OneBackward, Mapped, IsKeptAt, IsKept, HasEnds, TakesIn, filled_side, HasSideKind}
+use Rattle.gix_refspec_match.proofs.Common.{IsFirstIn, Candidates, All, First, is_some, ◌<◌, map, get_or, option_map, ◌↔◌, IsTrue, Bool, zero-add, map-id, MakesOf, IsMadeFrom, mapping_of, IsMatched}
 use Rattle.gix_refspec_match.proofs.lemmas.lists.{JoinLemmas.{one_joined, MakesOnce}, ListsLemmas.{made_once, made_map}}
 
 -- what a read past the end gives
@@ -51,9 +51,12 @@ one_kind x (pattern before after) (pattern fixed rest) a b = let once = split_on
 one_kind x (object id) (object other) a b = ap object (IsIdText-unique x id other a.2 b.2)
 one_kind x k l a b = grind (arith, a, b, lacks_no_pattern)
 
-same_word : (k : SideKind) (r : Ref) (v w : Option (List ℕ)) → MatchesAs k r v → MatchesAs k r w → v ≡ w
-same_word (pattern before after) r (Some v) (Some w) of_v of_w = ap Some (one_word before after r.name v w of_v of_w)
-same_word k r v w of_v of_w = search rules
+-- a pattern matches with the word between its texts
+pub matched_word : (k : SideKind) (r : Ref) (word : Option (List ℕ)) → MatchesAs k r word → word ≡ word_in k r.name
+matched_word (pattern before after) r (Some w) is =
+    let size : length before + (length w + length after) - length after - length before ≡ length w = omega arith in
+    rw (is, length-append, length-append, size, drop-append_seam, take-append_seam)
+matched_word k r word is = grind (arith, is)
 
 pub matches_as : (x : List ℕ) (k : SideKind) (r : Ref) (word : Option (List ℕ)) → HasKind x k → Matches x r word → MatchesAs k r word
 matches_as x k r word kind matches = rw (one_kind x matches.kind k matches.of kind) at matches.is
@@ -88,7 +91,7 @@ filled_once x word n m a b = grind (arith, a, b, one_kind)
 pub hit_once : (which : Candidates) (items : List Ref) (ends : Ends) (k : ℕ) → MakesOnce (IsHit (TakesIn which items) ends k)
 hit_once which items ends k j r g h a b =
     let of_g = taken_matches which items ends.near r a.word a.takes in
-    let word = same_word of_g.kind r a.word b.word of_g.is (matches_as ends.near of_g.kind r b.word of_g.of (taken_matches which items ends.near r b.word b.takes)) in
+    let word = matched_word of_g.kind r a.word of_g.is ∙ sym (matched_word of_g.kind r b.word (matches_as ends.near of_g.kind r b.word of_g.of (taken_matches which items ends.near r b.word b.takes))) in
     let far = filled_once ends.far b.word g.far h.far (rw word at a.far) b.far in
     λ i. record { spec = (a.spec ∙ sym b.spec) i; item = (a.item ∙ sym b.item) i; near = (a.near ∙ sym b.near) i; far = far i }
 

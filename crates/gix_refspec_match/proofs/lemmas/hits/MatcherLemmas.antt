@@ -3,9 +3,9 @@ use Rattle.gix_refspec_match.proofs.Common.{List, [], ◌∷◌, None, Some, ref
 use Rattle.gix_refspec_match.proofs.Common.{rules, ◌≤◌, ◌↔◌, IsTrue, Bool, false≢true, length-map, get_or-map, bool_cmp, ordering_then, map_next, some_element, kind_of_side, IsPositive, id_bytes}
 use Rattle.gix_refspec_match.proofs.Common.{reading_of, ObjectId, DeclaredKind, Object, RefSpecRef, object, HasKind, Reading, Mode, IsJoinedFrom, Ends, AreForwardEnds, AreBackwardEnds, FlagsDuplicates}
 use Rattle.gix_refspec_match.proofs.Common.{HaveSameSides, FlagsEqual, excludes, side_order, sides_order, IsFlagged, HasNoSides, HaveSides, AreMatcherOf, AreObjectOf, HasSideKind, both_equal, same_options}
-use Rattle.gix_refspec_match.proofs.Common.{Candidates, All, First, Sides, subst, ◌⊎◌, suc, option_to_list, made_more, made_next, made_none, length-take-le, get_or_default, take_more, AllByRecursion}
-use Rattle.gix_refspec_match.proofs.Common.{Contains, Ref, MatchesAs, pattern, full_name, partial, SideKind, MakesOf, IsMadeFrom, LacksSource, HasNone, IsIndexFor, TakesWhole, ArePlacesTaken, AreNamed}
-use Rattle.gix_refspec_match.proofs.{Common.{IsNamed, IsNameKind, Index, Matcher}, lemmas.hits.HitLemmas.{one_kind, matches_as, same_side}, lemmas.lists.JoinLemmas.{map_long, joined_next}}
+use Rattle.gix_refspec_match.proofs.Common.{Candidates, All, First, Sides, subst, ◌⊎◌, suc, option_to_list, made_next, made_none, length-take-le, get_or_default, take_more, AllByRecursion, Contains, Ref}
+use Rattle.gix_refspec_match.proofs.Common.{MatchesAs, pattern, full_name, partial, SideKind, MakesOf, IsMadeFrom, LacksSource, HasNone, IsIndexFor, IsNamed, IsNameKind, Index, Matcher}
+use Rattle.gix_refspec_match.proofs.lemmas.{hits.HitLemmas.{one_kind, matches_as, same_side}, lists.JoinLemmas.{map_long, joined_next}}
 use Rattle.gix_refspec_text.specs.declared.side.SideKind.TheVariants as side
 
 pub no_matcher : (which : Candidates) (flags : List Bool) (k : ℕ) (r : Reading) → HasNoSides r → AreMatcherOf which flags k r []
@@ -102,11 +102,6 @@ other_here k r sides have other y is =
 pub none_here : (k : ℕ) (r : Reading) → HasNoSides r → (y : Matcher) → ¬ (IsNamed k r y)
 none_here k r none y is = none is.positive (rw is.is)
 
-pub named_next : (specs : List RefSpecRef) (i : ℕ) (s : RefSpecRef) (old new : List Matcher) (made : Option Matcher) → i < length specs → s ≡ get_or specs i s
-    → AreNamed (map reading_of (take i specs)) old → MakesOf IsNamed i (reading_of s) made → new ≡ old ++ option_to_list made → AreNamed (map reading_of (take (i + 1) specs)) new
-named_next specs i s old new made below is so_far makes more =
-    made_more IsNamed reading_of specs i s old new made below so_far (subst (λ (x : RefSpecRef). MakesOf IsNamed i (reading_of x) made) is makes) more
-
 none_made : {X Y : Type 0} (R : ℕ → X → Y → Type 0) (k : ℕ) (xs : List X) (ys : List Y) → ((i : ℕ) (d : X) → i < length xs → (y : Y) → ¬ (R (k + i) (get_or xs i d) y)) → IsMadeFrom R k xs ys → ys ≡ []
 none_made R k [] ys none made = made
 none_made R k (x ∷ xs) ys none (Some z, rest, here, more, is) = absurd (none 0 x (omega arith) z (subst (λ (n : ℕ). R n x z) (omega arith) here))
@@ -116,16 +111,13 @@ none_made R k (x ∷ xs) ys none (None, rest, here, more, is) =
 without_word : (kind : SideKind) (ref : Ref) (word : Option (List ℕ)) → IsNameKind kind → MatchesAs kind ref word → MatchesAs kind ref None
 without_word kind ref word name is = grind (arith, name, is)
 
-none_placed : (kind : SideKind) (refs : List Ref) (places : List ℕ) → ArePlacesTaken kind All refs places → (places ≡ []) ↔ ((ref : Ref) → Contains refs ref → ¬ (TakesWhole kind All refs ref))
-none_placed kind refs places are = (
-  (λ none ref (i, below, is) takes. made_none _ 0 refs (rw none at are) i ref below (0 + i) (rw is takes, refl)),
-  (λ none. none_made _ 0 refs places (λ i d below y holds. none (get_or refs i d) (i, below, get_or_default refs i (get_or refs i d) d below) holds.0) are),
-)
-
 lacks_kind : (index : Index) (refs : List Ref) (kind : SideKind) → IsNameKind kind → IsIndexFor All refs index kind → HasNone index kind ↔ ((ref : Ref) → Contains refs ref → ¬ (MatchesAs kind ref None))
 lacks_kind index refs (pattern before after) name for = absurd name
 lacks_kind index refs (object id) name for = absurd name
-lacks_kind index refs kind name for = none_placed kind refs _ for.names
+lacks_kind index refs kind name for = (
+  (λ none ref (i, below, is) takes. made_none _ 0 refs (rw none at for.names) i ref below (0 + i) (rw is takes, refl)),
+  (λ none. none_made _ 0 refs _ (λ i d below y holds. none (get_or refs i d) (i, below, get_or_default refs i (get_or refs i d) d below) holds.0) for.names),
+)
 
 named_kind : (x : List ℕ) (kind : SideKind) → IsNameKind kind → HasKind x kind → HasKind x (full_name x) ⊎ HasKind x (partial x)
 named_kind x kind name of = grind (arith, name, of)

@@ -64,14 +64,8 @@ item_listed ns items i d n v w old new below is was more puts have = record {
   others = λ q none. let cases = put_cases n w old new puts q in let gone = have.others q none in search rules;
 }
 
-begins_taken : (n : List ℕ) (l : ℕ) → BeginsWith (take l n) n
-begins_taken n l = record { after = drop l n; here = sym (take-append-drop l n) }
-
 pub taken_begins : (prefix n : List ℕ) (l : ℕ) → BeginsWith prefix n → length prefix ≡ l → take l n ≡ prefix
 taken_begins prefix n l begins long = rw (← long, begins.here) (take-append_seam prefix begins.after)
-
-pub begins_long : (prefix n : List ℕ) → BeginsWith prefix n → length prefix ≤ length n
-begins_long prefix n begins = omega (arith, ap length begins.here, length-append prefix begins.after)
 
 -- the name begins with the prefix, which is shorter than l
 abbrev IsBelow : ℕ → List ℕ → List ℕ → Type 0
@@ -92,7 +86,7 @@ adds_listed l n place u x old mid new fits listed more puts so_far prefix v is =
   | inl here ↦
       let (w, was, told) = so_far prefix u (ap mid (sym here.0) ∙ listed) in
       let long : length prefix ≡ l = ap length (sym here.0) ∙ length-take-le l n fits in
-      let begins : BeginsWith prefix n = rw (← here.0) (begins_taken n l) in
+      let begins : BeginsWith prefix n = rw (← here.0) (record { after = drop l n; here = sym (take-append-drop l n) }) in
       (w, was, grind (arith, told, long, begins, here, is, more))
   | inr apart ↦
       let (w, was, told) = so_far prefix v (sym apart.1 ∙ is) in

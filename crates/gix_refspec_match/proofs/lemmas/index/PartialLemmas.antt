@@ -1,9 +1,8 @@
 -- An item's place is added for the partial names that may stand for its name.
-use Rattle.gix_refspec_match.proofs.Common.{List, [], Some, codes, refl, ◌≡◌, ℕ, ◌++◌, Option, ◌∙◌, arith, inl, inr, ap, ◌<◌, length, map, take, drop, ◌+◌, get_or, take_all, rules, ◌⊎◌, ◌≤◌, length-append}
-use Rattle.gix_refspec_match.proofs.Common.{map_more, slice_get-map, slice_get-get_or, AllByRecursion, Contains, Ref, Fits, IsCandidate, Joins, name_at, HavePlaces, AddsWhere, IsBelowPlace, ListPartials}
-use Rattle.gix_refspec_match.proofs.Common.{ref_of, Candidates, All, First, Item, Vec, false, ◌-◌, drop-append-add, le-ltb, HasNumber, AreWholeTails, HasTail, short_tail_number, ShortTails}
-use Rattle.gix_refspec_match.proofs.lemmas.{hits.HitLemmas.{candidate_at, candidate_cases}, index.FirstPlacesLemmas.{AreFound, found_next, found_taken}, index.IndexLemmas.{Puts, put_cases, all_at}}
-use Rattle.gix_refspec_match.proofs.lemmas.lists.JoinLemmas.{map_long}
+use Rattle.gix_refspec_match.proofs.Common.{List, [], Some, codes, refl, ◌≡◌, ℕ, ◌++◌, Option, ◌∙◌, arith, inl, inr, ap, ◌<◌, length, map, take, drop, ◌+◌, get_or, rules, ◌⊎◌, ◌≤◌, length-append, map_more}
+use Rattle.gix_refspec_match.proofs.Common.{slice_get-map, slice_get-get_or, AllByRecursion, Contains, Ref, Fits, IsCandidate, Joins, name_at, AddsWhere, IsBelowPlace, ref_of, Candidates, Item, Vec, false}
+use Rattle.gix_refspec_match.proofs.{Common.{◌-◌, drop-append-add, le-ltb, HasNumber, AreWholeTails, HasTail, short_tail_number, ShortTails}, lemmas.hits.HitLemmas.{candidate_at, candidate_cases}}
+use Rattle.gix_refspec_match.proofs.lemmas.{index.FirstPlacesLemmas.{AreFound, found_next}, index.IndexLemmas.{Puts, put_cases, all_at}, lists.JoinLemmas.map_long}
 
 pub adds_nothing : {Known P : List ℕ → Type 0} {R : List ℕ → List ℕ → Type 0} {listed : List ℕ → Option (Vec ℕ)}
     → ((x : List ℕ) (w : Vec ℕ) → Known x → listed x ≡ Some w → ¬ (P x)) → AddsWhere Known P R listed listed
@@ -82,13 +81,6 @@ pub record ListSoFar (which : Candidates) (names : List (List ℕ)) (items : Lis
       × AreFound which (map ref_of items) x (map ref_of (take i items)) v.items
 
 module _ {which : Candidates} {names : List (List ℕ)} {items : List Item} where
-  pub partials_started : {listed : List ℕ → Option (Vec ℕ)} → HavePlaces names [] listed → ListSoFar which names items 0 listed
-  partials_started have = record {
-    each = λ x there.
-        let (v, is, none) = have.each x there in
-        (v, is, rw none (elim which as (λ w. AreFound w (map ref_of items) x [] []) [ First ↦ λ n one has. has | All ↦ refl ]));
-  }
-
   pub partials_more : {i : ℕ} {n : List ℕ} {Known : List ℕ → Type 0} {old new : List ℕ → Option (Vec ℕ)} (d : Item) → i < length items → n ≡ (ref_of (get_or items i d)).name → AllByRecursion Known names
       → AddsWhere Known (λ x. IsCandidate x n) (Joins which (map ref_of items) i) old new
       → ListSoFar which names items i old → ListSoFar which names items (i + 1) new
@@ -100,9 +92,6 @@ module _ {which : Candidates} {names : List (List ℕ)} {items : List Item} wher
         let (v, now, told) = adds.each x w (all_at Known names x known there) was in
         (v, now, rw (map_more ref_of items i d below) (found_next (map ref_of items) _ r x i (map_long ref_of items i below) here which w.items v.items found (rw is at told)));
   }
-
-  pub partials_all : {i : ℕ} {listed : List ℕ → Option (Vec ℕ)} → length items ≤ i → ListSoFar which names items i listed → ListPartials which names (map ref_of items) listed
-  partials_all {i = i} past so_far x there = let (v, is, found) = so_far.each x there in (v, is, found_taken which (map ref_of items) x v.items (simp (take_all i items past) at found))
 
 short_tail-append : (before x : List ℕ) → 4 ≤ length x → short_tail_number (before ++ x) ≡ short_tail_number x
 short_tail-append before x long =

@@ -1,9 +1,9 @@
 -- Which items needles take of those that the index lists.
-use Rattle.gix_refspec_match.proofs.Common.{List, [], ◌∷◌, None, Some, refl, ◌≡◌, ℕ, true, ◌++◌, Option, ◌∙◌, arith, ap, ◌<◌, length, map, take, drop, ◌+◌, get_or, append_assoc, rules, ◌↔◌, map_long}
-use Rattle.gix_refspec_match.proofs.Common.{made_next, joined_next, option_to_list, Bool, MatchBool, MatchBool-at_true, map_more, length-take-le, take_more, get_or-map, first_candidate, kind_of_side}
-use Rattle.gix_refspec_match.proofs.Common.{BeginsWith, Ref, MatchesAs, pattern, object, full_name, partial, SideKind, MakesOf, IsMadeFrom, IsJoinedFrom, AreFound, hit_at, AddsFound, IsFound, IsIndexFor}
-use Rattle.gix_refspec_match.proofs.Common.{TakesWhole, IsIndexOf, IsListed, HasNamesOf, ListsFor, MatchesListed, IsTaken, TakesEach, ref_of, DeclaredHit, Index, Names, Candidates, First, Matcher, Item}
-use Rattle.gix_refspec_match.proofs.{Common.{All-from_recursion, slice_get_within}, lemmas.hits.HitLemmas.blank, lemmas.lists.ListsLemmas.{cut, each_made}}
+use Rattle.gix_refspec_match.proofs.Common.{length-map, List, [], ◌∷◌, None, Some, refl, ◌≡◌, ℕ, true, ◌++◌, Option, ◌∙◌, arith, ap, ◌<◌, length, map, take, drop, ◌+◌, get_or, append_assoc, rules, ◌↔◌}
+use Rattle.gix_refspec_match.proofs.Common.{map_long, made_next, joined_next, option_to_list, Bool, MatchBool, MatchBool-at_true, map_more, length-take-le, take_more, get_or-map, first_candidate}
+use Rattle.gix_refspec_match.proofs.Common.{kind_of_side, BeginsWith, Ref, MatchesAs, pattern, object, full_name, partial, SideKind, MakesOf, IsMadeFrom, IsJoinedFrom, AreFound, hit_at, AddsFound, IsFound}
+use Rattle.gix_refspec_match.proofs.Common.{IsIndexFor, TakesWhole, IsIndexOf, IsListed, HasNamesOf, ListsFor, MatchesListed, IsTaken, TakesEach, ref_of, DeclaredHit, Index, Names, Candidates, First}
+use Rattle.gix_refspec_match.proofs.{Common.{Matcher, Item, All-from_recursion, slice_get_within}, lemmas.hits.HitLemmas.blank, lemmas.lists.ListsLemmas.{cut, each_made}}
 
 pub matches_taken : (kind : SideKind) (which : Candidates) (items : List Ref) (r : Ref)
     → (IsTaken which items kind r → MatchesListed kind r) × (TakesEach kind → MatchesListed kind r → IsTaken which items kind r)
@@ -43,6 +43,11 @@ all_found First items (partial x) k places hits lists over = through First items
     (λ r. search (rules, first_candidate items x r.name)) 0 items places 0 hits refl lists over
 all_found which items kind k places hits lists over = through which items kind k (TakesWhole kind which items) (λ r. search rules) 0 items places 0 hits refl lists over
 
+pub place_fits : (which : Candidates) (items : List Ref) (kind : SideKind) (places : List ℕ) (i d : ℕ) → ListsFor which items kind places → i < length places → get_or places i d < length items
+place_fits which items (object id) places i d lists below = absurd lists
+place_fits which items kind places i d lists below =
+    All-from_recursion (λ p. p < length items) places (each_made _ _ items (λ j x y at is. rw is.1 (slice_get_within items j x at)) 0 items places refl lists) i d below
+
 -- behind the old elements are those that are made of some others
 abbrev Appends : {X Y : Type 0} → (ℕ → X → Y → Type 0) → List X → List Y → List Y → Type 0
 Appends {X} {Y} R xs old now = (made : List Y) × IsMadeFrom R 0 xs made × (now ≡ old ++ made)
@@ -57,10 +62,11 @@ append_made R i xs ys x made old mid new long whole makes more (so_far, are, all
 abbrev pub MatchedSoFar : List Ref → SideKind → ℕ → List ℕ → List DeclaredHit → List DeclaredHit → Type 0
 MatchedSoFar items kind k places old now = Appends (IsMatchedAt items kind k) places old now
 
-pub place_next : (xs : List Item) (kind : SideKind) (k : ℕ) (places : List ℕ) (i e : ℕ) (d : Item) (made : Option DeclaredHit) (old mid new : List DeclaredHit) → i < length places → get_or places i e < length xs
+pub place_next : (which : Candidates) (xs : List Item) (kind : SideKind) (k : ℕ) (places : List ℕ) (i e : ℕ) (d : Item) (made : Option DeclaredHit) (old mid new : List DeclaredHit) → i < length places → ListsFor which (map ref_of xs) kind places
     → MakesOf (λ n place hit. MatchesListed kind (ref_of (get_or xs place d)) × (hit ≡ hit_at k place)) i (get_or places i e) made → new ≡ mid ++ option_to_list made
     → MatchedSoFar (map ref_of xs) kind k (take i places) old mid → MatchedSoFar (map ref_of xs) kind k (take (i + 1) places) old new
-place_next xs kind k places i e d made old mid new below inside makes more so_far =
+place_next which xs kind k places i e d made old mid new below listed makes more so_far =
+    let inside : get_or places i e < length xs = rw length-map at (place_fits which (map ref_of xs) kind places i e listed below) in
     append_made _ i (take i places) _ (get_or places i e) made old mid new (length-take-le i places (omega arith)) (take_more places i e below) (rw (get_or-map ref_of xs (get_or places i e) d blank inside) makes) more so_far
 
 -- behind the old hits are those on some items
@@ -75,11 +81,6 @@ pub found_next : (which : Candidates) (items : List Ref) (ms : List Matcher) (i 
 found_next which items ms i d P within old new below is told so_far =
     let adds = MatchBool-at_true _ _ is told in
     rw (adds.all, take_more ms i d below) (joined_next (AreFound which items) i (take i ms) (get_or ms i d) old adds.made (length-take-le i ms (omega arith)) so_far adds.are)
-
-pub place_fits : (which : Candidates) (items : List Ref) (kind : SideKind) (places : List ℕ) (i d : ℕ) → ListsFor which items kind places → i < length places → get_or places i d < length items
-place_fits which items (object id) places i d lists below = absurd lists
-place_fits which items kind places i d lists below =
-    All-from_recursion (λ p. p < length items) places (each_made _ _ items (λ j x y at is. rw is.1 (slice_get_within items j x at)) 0 items places refl lists) i d below
 
 pub named_listed : (which : Candidates) (refs : List Ref) (names : Names) (index : Index) → IsIndexOf which names refs index → (kind : SideKind) → HasNamesOf names kind → IsIndexFor which refs index kind
 named_listed which refs names index of_names kind named = record { names = listed kind named; prefixes = of_names.prefixes }

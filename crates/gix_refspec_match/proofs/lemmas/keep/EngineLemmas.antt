@@ -5,7 +5,7 @@ use Rattle.gix_refspec_match.proofs.Common.{DeclaredKind as SideKind, Ref, Readi
 use Rattle.gix_refspec_match.proofs.Common.{object_mapping, AreFound, turned, hit_at, AreHitsAmong, AreSound, IsSound, AreExclusionsOf, HasEnds, TakesIn, AreMatcherOf, AreMatchersOf, AreObjectOf}
 use Rattle.gix_refspec_match.proofs.Common.{HaveOthers, HasSideKind, IsMatched, Exclusions, DeclaredHit, Candidates, All, Matcher, Matchers, ObjectSpec, rules, sym, ◌<◌, take, append_assoc, made_next}
 use Rattle.gix_refspec_match.proofs.Common.{take-append-drop, length-map, length-take-le, take_more, get_or-map, all_right, all_left, MakesOf, mapping_of, hit_by, hit_of_both, ExcludeStart, ref_of}
-use Rattle.gix_refspec_match.proofs.{Common.{mapped_of, Item, Mapping}, lemmas.hits.HitLemmas.{blank, of_hits, far_filled}, lemmas.hits.GroupLemmas.{FindEnough, most_found}}
+use Rattle.gix_refspec_match.proofs.{Common.{mapped_of, Item, Mapping}, lemmas.hits.HitLemmas.{blank, of_hits, far_filled}, lemmas.hits.GroupLemmas.{FindEnough, most_from}}
 use Rattle.gix_refspec_match.proofs.lemmas.keep.{KeptLemmas.{AreIncluded, kept_included, starts_agree, kept_thinned, thins_all, thins_behind, thins_both}, PartLemmas.{all_enough, once_enough, part_read}}
 use Rattle.gix_refspec_match.proofs.lemmas.lists.ListsLemmas.{joined_all, each_made}
 
@@ -111,7 +111,7 @@ kept_hits g which items ms os hits es list kept matchers among are adds is =
     let ids = map object_mapping os in
     let views = map (hit_of ms.list.items items) hits in
     let enough = subst (λ (c : Candidates). FindEnough g c items 0 ms.list.items (of_hits c views)) matchers.candidates (finds_enough g ms items hits among) in
-    let (whole, whole_are, most) = most_found g which items ms (of_hits which views) matchers enough in
+    let (whole, whole_are, most) = most_from g which items matchers.flags [] g 0 ms.list.items [] (of_hits which views) matchers.equal matchers.made enough ([], refl, refl) in
     let included = each_made (IsMappedHit which es ms.list.items items) _ hits (λ k h m at of taken. of.1 ((starts_agree g es m.source are).1 taken))
     0 hits adds.made refl adds.are in
     let of_made = kept_included g _ kept (ids_included g os adds.made included) (rw adds.all at is) in

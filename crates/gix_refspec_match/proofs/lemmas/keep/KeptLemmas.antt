@@ -1,10 +1,10 @@
 -- What is kept of a list of mappings.
-use Rattle.gix_refspec_match.proofs.Common.{List, [], ◌∷◌, None, Some, refl, ◌≡◌, ℕ, ◌++◌, Option, ◌∙◌, arith, inl, ap, ◌<◌, length, map, take, ◌+◌, get_or, append_assoc, option_map, ◌↔◌, option_to_list}
-use Rattle.gix_refspec_match.proofs.Common.{Bool, zero-add, length-append, Ordering, take-append_seam, false≢true, length-map, length-take-le, get_or_default, map-id, get_or-map, get_or-take}
-use Rattle.gix_refspec_match.proofs.Common.{All-from_recursion, AllByRecursion, all_weaker, Reading, MakesOf, IsMadeFrom, Mapped, IsKept, Source, IsSourceExcluded, IsSamePair, HasPair, FlagsDuplicates}
-use Rattle.gix_refspec_match.proofs.Common.{IsDuplicate, AreExclusionsOf, ExcludeStart, IsUnflagged, equal_pair, pair_order, same_pair, mapped_of, Exclusions, Mapping, sym, inr, subst, append-nil, drop}
-use Rattle.gix_refspec_match.proofs.{Common.{◌⊎◌, Thins, MayGo}, lemmas.hits.HitLemmas.made_each, lemmas.keep.KeptPairLemmas.{Any-HasPair, HasPair-Any, Keeps}, lemmas.lists.ListsLemmas.made_map}
-use Rattle.gix_refspec_match.{proofs.lemmas.lists.ListsLemmas.{made_all, cut}, proofs.lemmas.lists.SomeLemmas.{Any-left, Any-right, some_at, some_of}, specs.Matching.Mappings.AreApart}
+use Rattle.gix_refspec_match.proofs.lemmas.{lists.SomeLemmas.{Any-weaker, Any-left, Any-right, some_at, some_of}, lists.ListsLemmas.{made_map, made_all, cut}, hits.HitLemmas.made_each}
+use Rattle.gix_refspec_match.proofs.{lemmas.keep.KeptPairLemmas.{Any-HasPair, HasPair-Any, Keeps}, Common.{List, [], ◌∷◌, None, Some, refl, ◌≡◌, ℕ, ◌++◌, Option, ◌∙◌, arith, inl, ap, ◌<◌, length, map}}
+use Rattle.gix_refspec_match.proofs.Common.{take, ◌+◌, get_or, append_assoc, option_map, ◌↔◌, option_to_list, Bool, zero-add, length-append, Ordering, take-append_seam, false≢true, length-map}
+use Rattle.gix_refspec_match.proofs.Common.{length-take-le, get_or_default, map-id, get_or-map, get_or-take, All-from_recursion, AllByRecursion, all_weaker, Reading, MakesOf, IsMadeFrom, Mapped, IsKept}
+use Rattle.gix_refspec_match.proofs.Common.{Source, IsSourceExcluded, IsSamePair, HasPair, FlagsDuplicates, IsDuplicate, AreExclusionsOf, ExcludeStart, IsUnflagged, equal_pair, pair_order, same_pair}
+use Rattle.gix_refspec_match.{proofs.Common.{mapped_of, Exclusions, Mapping, sym, inr, subst, append-nil, drop, ◌⊎◌, Thins, MayGo}, specs.Matching.Mappings.AreApart}
 
 pub HasPair-from_place : (l : List Mapped) (j : ℕ) (d m : Mapped) → j < length l → IsSamePair (get_or l j d) m → HasPair l m
 HasPair-from_place l j d m below same = HasPair-Any l m (some_of _ l (j, get_or l j d, below, get_or_default l j _ _ below, same))
@@ -79,12 +79,10 @@ pub kept_once : (g : List Reading) (l kept : List Mapped) → IsKept g l kept �
 kept_once g l kept is = (apart_from g l [] l kept 0 refl refl is).1
 
 pub pair_right : (before l : List Mapped) (m : Mapped) → HasPair l m → HasPair (before ++ l) m
-pair_right [] l m has = has
-pair_right (x ∷ before) l m has = inr (pair_right before l m has)
+pair_right before l m has = HasPair-Any _ m (Any-right _ before l (Any-HasPair l m has))
 
 pub pair_alike : (l : List Mapped) (m n : Mapped) → IsSamePair m n → HasPair l m → HasPair l n
-pair_alike [] m n same has = absurd has
-pair_alike (x ∷ l) m n same has = grind (arith, has, pair_alike l m n same)
+pair_alike l m n same has = HasPair-Any l n (Any-weaker _ _ (λ x is. record { source = is.source ∙ same.source; destination = is.destination ∙ same.destination }) l (Any-HasPair l m has))
 
 pair_last : (l : List Mapped) (x m : Mapped) → HasPair (l ++ x ∷ []) m ↔ (HasPair l m ⊎ IsSamePair x m)
 pair_last [] x m = grind arith

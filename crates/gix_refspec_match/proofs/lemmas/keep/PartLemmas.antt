@@ -1,17 +1,10 @@
 -- Items without some that have the name of an earlier one: a matcher's hits among them make what its hits among all make.
-use Rattle.gix_refspec_match.proofs.Common.{List, [], ◌∷◌, None, Some, refl, ◌≡◌, ℕ, ◌++◌, Option, sym, ◌∙◌, arith, inl, inr, subst, ap, append-nil, ◌<◌, length, map, drop, ◌+◌, get_or, append_assoc, ◌⊎◌}
-use Rattle.gix_refspec_match.proofs.Common.{pattern, ◌↔◌, zero, suc, length-append, ◌-◌, slice_get, get_or-append_seam, take-append_seam, drop-append_seam, slice_get-get_or, all_weaker, kind_of_side, Ref}
-use Rattle.gix_refspec_match.proofs.Common.{HasName, MatchesAs, object, partial, SideKind, Reading, IsMadeFrom, IsPartBehind, IsPart, Ends, IsHit, Mapped, IsSamePair, HasPair, mapping_of, Thins, hit_of}
-use Rattle.gix_refspec_match.proofs.Common.{hit_by, AreFound, turned, hit_at, IsFound, HaveKinds, TakesIn, filled_side, IsFirstIn, IsTaken, word_in, DeclaredHit, Candidates, First, Matcher}
-use Rattle.gix_refspec_match.proofs.lemmas.hits.{HitLemmas.{blank, made_each, of_hits, far_filled, matches_as, takes_in, taken_first, taken_matches}, GroupLemmas.FindsEnough}
+use Rattle.gix_refspec_match.proofs.lemmas.hits.{HitLemmas.{matched_word, blank, made_each, of_hits, far_filled, matches_as, takes_in, taken_first, taken_matches}, GroupLemmas.FindsEnough}
 use Rattle.gix_refspec_match.proofs.lemmas.{index.FirstPlacesLemmas.has_last, keep.KeptLemmas.{HasPair-left, HasPair-last, pair_alike, thins_all, thins_behind}, lists.ListsLemmas.cut}
-
--- a pattern matches with the word between its texts
-matched_word : (k : SideKind) (r : Ref) (word : Option (List ℕ)) → MatchesAs k r word → word ≡ word_in k r.name
-matched_word (pattern before after) r (Some w) is =
-    let size : length before + (length w + length after) - length after - length before ≡ length w = omega arith in
-    rw (is, length-append, length-append, size, drop-append_seam, take-append_seam)
-matched_word k r word is = grind (arith, is)
+use Rattle.gix_refspec_match.proofs.Common.{List, [], ◌∷◌, None, Some, refl, ◌≡◌, ℕ, ◌++◌, sym, ◌∙◌, arith, inl, inr, subst, ap, append-nil, ◌<◌, length, map, drop, ◌+◌, get_or, append_assoc, ◌⊎◌, ◌↔◌}
+use Rattle.gix_refspec_match.proofs.Common.{zero, suc, length-append, slice_get, get_or-append_seam, slice_get-get_or, all_weaker, kind_of_side, Ref, HasName, object, partial, SideKind, Reading}
+use Rattle.gix_refspec_match.proofs.Common.{IsMadeFrom, IsPartBehind, IsPart, Ends, IsHit, Mapped, IsSamePair, HasPair, mapping_of, Thins, hit_of, hit_by, AreFound, turned, hit_at, IsFound, HaveKinds}
+use Rattle.gix_refspec_match.proofs.Common.{TakesIn, filled_side, IsFirstIn, IsTaken, DeclaredHit, Candidates, First, Matcher}
 
 hit_seen : (ms : List Matcher) (items : List Ref) (k i : ℕ) (m : Matcher) (d : Ref) → slice_get ms k ≡ Some m → i < length items → hit_of ms items (hit_at k i) ≡ hit_by m i (get_or items i d)
 hit_seen ms items k i m d is below = let there = slice_get-get_or items i d below in cc

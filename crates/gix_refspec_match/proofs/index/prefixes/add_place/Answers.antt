@@ -1,10 +1,10 @@
 -- Of each length that is flagged there is one prefix at most that the name begins with.
-use Rattle.gix_refspec_match.proofs.{Common.{refl, false, sym, arith, inr, ap, length, get_or_past, list_of}, lemmas.index.IndexLemmas.{adds_all, adds_listed, adds_more, begins_long, taken_begins}}
+use Rattle.gix_refspec_match.proofs.{Common.{length-append, refl, false, sym, arith, inr, ap, length, get_or_past, list_of}, lemmas.index.IndexLemmas.{adds_all, adds_listed, adds_more, taken_begins}}
 use Rattle.gix_refspec_match.proofs.index.prefixes.add_place.Goals as goal
 
 pub returns-then-name-len : goal.returns-then-name-len
 returns-then-name-len c = adds_all c.loop-len.len c.args.name.now _ _ _
-    (λ prefix w was begins long. omega (arith, begins_long prefix c.args.name.now begins)) c.loop-len.invariant
+    (λ prefix w was begins long. omega (arith, ap length begins.here, length-append prefix begins.after)) c.loop-len.invariant
 
 pub loop-len-init : goal.loop-len-init
 loop-len-init c = λ prefix v is. (v, is, inr ((λ below. omega (arith, below.0)), refl))
