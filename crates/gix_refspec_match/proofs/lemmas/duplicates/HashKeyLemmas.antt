@@ -9,10 +9,7 @@ use Rattle.std.specs.List.{All}
 
 pub packed : (hash index bits key : ℕ) → hash < 18446744073709551616 → index < 2 ^ bits → key ≡ bit_or (hash / 2 ^ bits * 2 ^ bits % 18446744073709551616) index
     → (key / 2 ^ bits ≡ hash / 2 ^ bits) × (key % 2 ^ bits ≡ index)
-packed hash index bits key fits below is =
-    let upper = hash / 2 ^ bits in
-    let less : upper * 2 ^ bits < 18446744073709551616 = omega (arith, div-mul-le_self hash (2 ^ bits), fits) in
-    rw (is, mod-eq_of_lt less, or_shifted upper bits index below) (div-mul-add upper (2 ^ bits) index below, mod-mul-add upper (2 ^ bits) index below)
+packed hash index bits key fits below is = grind (arith, fits, below, is, div-mul-le_self, mod-eq_of_lt, or_shifted, div-mul-add, mod-mul-add)
 
 pub same_upper : (a b bits : ℕ) → HaveSameUpper bits a b → a + b % 2 ^ bits ≡ b + a % 2 ^ bits
 same_upper a b bits same = let up : a / 2 ^ bits * 2 ^ bits ≡ b / 2 ^ bits * 2 ^ bits = ap (λ x. x * 2 ^ bits) same in omega (arith, shr_split a bits, shr_split b bits, up)

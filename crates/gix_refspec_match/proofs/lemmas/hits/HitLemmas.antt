@@ -80,10 +80,7 @@ pub same_side : (side : Option (List ℕ)) (x y : List ℕ) → side ≡ Some x 
 same_side side x y of_x of_y = cc
 
 pub one_pair : (which : Candidates) (r : Reading) (a b : Ends) → HasEnds which r a → HasEnds which r b → a ≡ b
-one_pair which r a b of_a of_b =
-    let near : a.near ≡ b.near = grind (arith, of_a, of_b) in
-    let far : a.far ≡ b.far = grind (arith, of_a, of_b) in
-    λ i. record { near = near i; far = far i }
+one_pair which r a b of_a of_b = grind (arith, of_a, of_b)
 
 filled_once : (x : Option (List ℕ)) (word n m : Option (List ℕ)) → IsFilled x word n → IsFilled x word m → n ≡ m
 filled_once x word n m a b = grind (arith, a, b, one_kind)

@@ -1,11 +1,11 @@
 -- The matchers and the objects of specs, spec by spec, and what duplicates among specs say of them.
 use Rattle.gix_refspec_match.proofs.Common.{List, [], ◌∷◌, None, Some, refl, ◌≡◌, ℕ, true, false, ◌++◌, Option, Equal, sym, ◌∙◌, arith, inl, inr, ◌≢◌, append-nil, ◌<◌, length, map, take, ◌+◌, get_or}
-use Rattle.gix_refspec_match.proofs.Common.{rules, ◌≤◌, ◌↔◌, IsTrue, Bool, false≢true, length-map, get_or-map, bool_cmp, ordering_then, map_next, some_element, kind_of_side, IsPositive, id_bytes}
-use Rattle.gix_refspec_match.proofs.Common.{reading_of, ObjectId, DeclaredKind, Object, RefSpecRef, object, HasKind, Reading, Mode, IsJoinedFrom, Ends, AreForwardEnds, AreBackwardEnds, FlagsDuplicates}
-use Rattle.gix_refspec_match.proofs.Common.{HaveSameSides, FlagsEqual, excludes, side_order, sides_order, IsFlagged, HasNoSides, HaveSides, AreMatcherOf, AreObjectOf, HasSideKind, both_equal, same_options}
-use Rattle.gix_refspec_match.proofs.Common.{Candidates, All, First, Sides, subst, ◌⊎◌, suc, option_to_list, made_next, made_none, length-take-le, get_or_default, take_more, AllByRecursion, Contains, Ref}
-use Rattle.gix_refspec_match.proofs.Common.{MatchesAs, pattern, full_name, partial, SideKind, MakesOf, IsMadeFrom, LacksSource, HasNone, IsIndexFor, IsNamed, IsNameKind, Index, Matcher}
-use Rattle.gix_refspec_match.proofs.lemmas.{hits.HitLemmas.{one_kind, matches_as, same_side}, lists.JoinLemmas.{map_long, joined_next}}
+use Rattle.gix_refspec_match.proofs.Common.{rules, ◌≤◌, ◌↔◌, IsTrue, Bool, false≢true, length-map, get_or-map, bool_cmp, map_next, some_element, kind_of_side, IsPositive, id_bytes, reading_of, ObjectId}
+use Rattle.gix_refspec_match.proofs.Common.{DeclaredKind, Object, RefSpecRef, object, HasKind, Reading, Mode, IsJoinedFrom, Ends, AreForwardEnds, AreBackwardEnds, FlagsDuplicates, HaveSameSides}
+use Rattle.gix_refspec_match.proofs.Common.{FlagsEqual, excludes, sides_order, IsFlagged, HasNoSides, HaveSides, AreMatcherOf, AreObjectOf, HasSideKind, both_equal, same_options, Candidates, All, First}
+use Rattle.gix_refspec_match.proofs.Common.{Sides, subst, ◌⊎◌, suc, option_to_list, made_next, made_none, length-take-le, get_or_default, take_more, AllByRecursion, Contains, Ref, MatchesAs, pattern}
+use Rattle.gix_refspec_match.proofs.{Common.{full_name, partial, SideKind, MakesOf, IsMadeFrom, LacksSource, HasNone, IsIndexFor, IsNamed, IsNameKind, Index, Matcher}, lemmas.hits.HitLemmas.one_kind}
+use Rattle.gix_refspec_match.proofs.lemmas.{hits.HitLemmas.{matches_as, same_side}, lists.JoinLemmas.{map_long, joined_next}}
 use Rattle.gix_refspec_text.specs.declared.side.SideKind.TheVariants as side
 
 pub no_matcher : (which : Candidates) (flags : List Bool) (k : ℕ) (r : Reading) → HasNoSides r → AreMatcherOf which flags k r []
@@ -23,9 +23,7 @@ not_id x k other kind bytes is = grind (arith, other, one_kind x (kind_of_side k
 module _ (r : Reading) (sides : Sides) (have : HaveSides r sides) where
   -- a source that is an id asks for that object, and matches nothing from left to right
   pub object_here : (k : ℕ) (id : ObjectId) → sides.source ≡ Object id → AreObjectOf k r ((record { spec_index = k; id = id; destination = sides.destination }) ∷ [])
-  object_here k id is =
-      let (text, side, kind) = side_shown r.source (Object id) (rw is at have.source) in
-      inl (_, record { asks = record { positive = have.positive; text = text; side = side; kind = kind }; destination = have.destination; spec = refl }, refl)
+  object_here k id is = search (rules, is, side_shown)
 
   pub object_unmatched : (flags : List Bool) (k : ℕ) (id : ObjectId) → sides.source ≡ Object id → AreMatcherOf First flags k r []
   object_unmatched flags k id is = inr (inr (λ ends are. are.no_object (id_bytes id) (rw (are.near, is) at have.source)), refl)
@@ -70,10 +68,7 @@ positive_alike : (m n : Mode) → bool_cmp (excludes m) (excludes n) ≡ Equal �
 positive_alike m n same is = grind (arith, same, is)
 
 same_sides : (r s : Reading) → sides_order r s ≡ Equal → IsPositive s.mode → HaveSameSides r s
-same_sides r s is positive =
-    let both = both_equal (ordering_then (side_order r.source s.source) (side_order r.destination s.destination)) _ is in
-    let sides = both_equal (side_order r.source s.source) _ both.0 in
-    search (rules, positive_alike, same_options, both.1, sides.0, sides.1)
+same_sides r s is positive = grind (arith, is, both_equal, positive_alike, same_options)
 
 pub equal_from_duplicates : (specs : List RefSpecRef) (flags : List Bool) → FlagsDuplicates (λ (x : RefSpecRef) (y : RefSpecRef). sides_order (reading_of x) (reading_of y)) specs flags → FlagsEqual (map reading_of specs) flags
 equal_from_duplicates specs flags all index flagged positive =
@@ -90,14 +85,10 @@ abbrev pub blank_matcher : Matcher
 blank_matcher = record { spec_index = 0; needle = side.Pattern (record { ref_ptr = (0, 0); now = [] }) (record { ref_ptr = (0, 0); now = [] }); other = None }
 
 pub named_here : (k : ℕ) (r : Reading) (sides : Sides) → HaveSides r sides → IsNameKind (kind_of_side sides.source) → IsNamed k r (record { spec_index = k; needle = sides.source; other = None })
-named_here k r sides have name =
-    let (text, there, kind) = side_shown r.source sides.source have.source in
-    record { positive = have.positive; source = text; is = there; kind = kind; name = name; spec = refl }
+named_here k r sides have name = search (rules, have, name, side_shown)
 
 pub other_here : (k : ℕ) (r : Reading) (sides : Sides) → HaveSides r sides → ¬ (IsNameKind (kind_of_side sides.source)) → (y : Matcher) → ¬ (IsNamed k r y)
-other_here k r sides have other y is =
-    let kind : HasKind is.source (kind_of_side sides.source) = rw is.is at have.source in
-    other (subst IsNameKind (one_kind is.source (kind_of_side y.needle) (kind_of_side sides.source) is.kind kind) is.name)
+other_here k r sides have other y is = grind (arith, have, other, is, one_kind)
 
 pub none_here : (k : ℕ) (r : Reading) → HasNoSides r → (y : Matcher) → ¬ (IsNamed k r y)
 none_here k r none y is = none is.positive (rw is.is)

@@ -1,9 +1,8 @@
 -- Where names are among refs.
 use Rattle.gix_refspec_match.proofs.Common.{List, [], ◌∷◌, None, Some, refl, ◌≡◌, ℕ, ◌++◌, Option, sym, ◌∙◌, inl, inr, ◌≢◌, ap, append-nil, ◌<◌, length, map, take, ◌+◌, get_or, rules, ◌⊎◌, cond, bytes_eq}
-use Rattle.gix_refspec_match.proofs.Common.{made_more, not_from_Decides, bytes_eq-Decides, cases_Bool, Contains-append_left, Contains-push, Contains-push_cases, Contains, bstr_bytes, ArePlacesOf}
-use Rattle.gix_refspec_match.proofs.Common.{HavePlaces, ref_of, Item, Vec, codes, arith, length-append, All-from_recursion, All-contains, AllByRecursion, Ref, candidates, IsMadeFrom, false, drop, ◌≤◌}
-use Rattle.gix_refspec_match.proofs.Common.{Bool, take-append-drop, take-append_seam, cases_eq, length-take-le, nil_from_length, BeginsWith, AddsPlace, HaveLengths, ListPrefixes, IsFlagged}
-use Rattle.gix_refspec_match.proofs.lemmas.lists.JoinLemmas.{made_more}
+use Rattle.gix_refspec_match.proofs.Common.{made_more, bytes_eq-Decides, cases_Bool, Contains-append_left, Contains-push, Contains-push_cases, Contains, bstr_bytes, ArePlacesOf, HavePlaces, ref_of, Item}
+use Rattle.gix_refspec_match.proofs.Common.{Vec, codes, arith, length-append, All-from_recursion, All-contains, AllByRecursion, Ref, candidates, IsMadeFrom, false, drop, ◌≤◌, Bool, take-append-drop}
+use Rattle.gix_refspec_match.proofs.{Common.{take-append_seam, cases_eq, length-take-le, nil_from_length, BeginsWith, AddsPlace, HaveLengths, ListPrefixes, IsFlagged}, lemmas.lists.JoinLemmas.made_more}
 
 -- the places of the refs of which P holds, the first one's being k
 abbrev pub AreWhere : (Ref → Type 0) → ℕ → List Ref → List ℕ → Type 0
@@ -26,8 +25,7 @@ abbrev pub Puts : List ℕ → Vec ℕ → Listed → Listed → Type 0
 Puts n v old new = (q : List ℕ) → new q ≡ cond (bytes_eq n q) (Some v) (old q)
 
 pub put_cases : (n : List ℕ) (v : Vec ℕ) (old new : Listed) → Puts n v old new → (q : List ℕ) → ((n ≡ q) × (new q ≡ Some v)) ⊎ ((n ≢ q) × (new q ≡ old q))
-put_cases n v old new puts q =
-    elim (cases_Bool (bytes_eq n q)) [ inl is ↦ inl ((bytes_eq-Decides n q).0 is, rw is at (puts q)) | inr is ↦ inr (not_from_Decides _ (bytes_eq-Decides n q) is, rw is at (puts q)) ]
+put_cases n v old new puts q = grind (arith, puts, bytes_eq-Decides)
 
 pub one_more_name : (ns : List (List ℕ)) (n : List ℕ) (v : Vec ℕ) (old new : Listed) → v.items ≡ [] → Puts n v old new → HavePlaces ns [] old → HavePlaces (ns ++ n ∷ []) [] new
 one_more_name ns n v old new empty puts have = record {

@@ -45,8 +45,7 @@ exclusions_at_more g r i old new long before adds n k at = elim (adds n k at) [
 
 -- a name is excluded where a spec is told that excludes it
 pub told_by_some : (es : Exclusions) (n : List ℕ) (found : Option ℕ) (b : Bool) → MatchOption found (¬ (ExcludeName es n)) (ExcludeNameAt es n) → b ≡ is_some found → IsTrue b ↔ ExcludeName es n
-told_by_some es n found b at is =
-    let some : (k : ℕ) → ExcludeNameAt es n k → ExcludeName es n = λ k by. grind (arith, common_steps, by) in grind (arith, at, is, some)
+told_by_some es n found b at is = grind (arith, at, is)
 
 pub Any-push-cases : {X : Type 0} (P : X → Type 0) (xs : List X) (x : X) → Any P (xs ++ x ∷ []) ↔ (Any P xs ⊎ P x)
 Any-push-cases P xs x = (λ any. grind (arith, common_steps), λ any. elim any [ inl old ↦ grind (arith, common_steps) | inr last ↦ Any-push P xs x last ])

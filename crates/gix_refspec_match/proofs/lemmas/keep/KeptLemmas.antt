@@ -117,9 +117,7 @@ module _ (g : List Reading) where
   same_more before some x same m free = grind (arith, same m free, pair_last before x m, pair_last some x m)
 
   same_without : (before some : List Mapped) (x : Mapped) → MayGo g before x → SamePairs before some → SamePairs (before ++ x ∷ []) some
-  same_without before some x may same m free =
-      let goes : IsSamePair x m → ¬ (IsSourceExcluded g x.source) = λ last of_x. free (subst (IsSourceExcluded g) last.source of_x) in
-      grind (arith, may, same m free, pair_last before x m, pair_alike before x m, goes)
+  same_without before some x may same m free = grind (arith, may, same m free, pair_last, pair_alike)
 
   makes_alike : (L T : List Mapped) (i j : ℕ) (m : Mapped) (made : Option Mapped) → SamePairs (take i L) (take j T) → MakesOf (Keeps g T) j m made → MakesOf (Keeps g L) i m made
   makes_alike L T i j m None same none = λ y keeps. none y (keeps.0, record { first = λ has. keeps.1.first ((same m keeps.1.included).1 has); included = keeps.1.included })

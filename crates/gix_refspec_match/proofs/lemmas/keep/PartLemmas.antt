@@ -66,10 +66,7 @@ first_named kind which a b n names first = tt
 
 -- over lists of the same names a needle takes refs of one name alike
 taken_named : (which : Candidates) (kind : SideKind) (a b : List Ref) (r s : Ref) → ((id : List ℕ) → ¬ (kind ≡ object id)) → SameNames a b → r.name ≡ s.name → IsTaken which a kind r → IsTaken which b kind s
-taken_named which kind a b r s plain names same taken = record {
-  matched = (taken.matched.0, grind (arith, taken.matched.1, same, plain));
-  first = first_named kind which a b s.name names (subst (IsFirstIn kind which a) same taken.first);
-}
+taken_named which kind a b r s plain names same taken = grind (arith, plain, names, same, taken, first_named)
 
 abbrev ref_named : List ℕ → Ref
 ref_named n = record { name = n; target = []; object = None }
