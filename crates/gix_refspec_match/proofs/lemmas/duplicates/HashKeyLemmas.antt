@@ -78,10 +78,6 @@ pub record AreFirstsBelow (len bits : ℕ) (keys firsts : List ℕ) (first at : 
   pub back : (k : ℕ) → get_or firsts k k ≤ k
   pub found : (i : ℕ) → i < at → (k : ℕ) → IsSecond (HaveSameUpper bits) (index_in bits) keys i k → get_or firsts k k < k
 
--- the index i is k, and has an earlier first
-abbrev pub HasFirst : List ℕ → ℕ → ℕ → Type 0
-HasFirst firsts i k = (i ≡ k) × (get_or firsts k k < k)
-
 module _ {len bits : ℕ} {keys firsts : List ℕ} {first at : ℕ} (are : AreFirstsBelow len bits keys firsts first at) where
   -- the key at `at` begins a run
   pub run_begins : ¬ (HaveSameUpper bits (get_or keys first 0) (get_or keys at 0)) → AreFirstsBelow len bits keys firsts at (at + 1)

@@ -90,9 +90,6 @@ named_here k r sides have name = search (rules, have, name, side_shown)
 pub other_here : (k : ℕ) (r : Reading) (sides : Sides) → HaveSides r sides → ¬ (IsNameKind (kind_of_side sides.source)) → (y : Matcher) → ¬ (IsNamed k r y)
 other_here k r sides have other y is = grind (arith, have, other, is, one_kind)
 
-pub none_here : (k : ℕ) (r : Reading) → HasNoSides r → (y : Matcher) → ¬ (IsNamed k r y)
-none_here k r none y is = none is.positive (rw is.is)
-
 none_made : {X Y : Type 0} (R : ℕ → X → Y → Type 0) (k : ℕ) (xs : List X) (ys : List Y) → ((i : ℕ) (d : X) → i < length xs → (y : Y) → ¬ (R (k + i) (get_or xs i d) y)) → IsMadeFrom R k xs ys → ys ≡ []
 none_made R k [] ys none made = made
 none_made R k (x ∷ xs) ys none (Some z, rest, here, more, is) = absurd (none 0 x (omega arith) z (subst (λ (n : ℕ). R n x z) (omega arith) here))

@@ -1,7 +1,7 @@
 -- The places that a partial name takes, as refs are added: those of the first candidate, or of all.
-use Rattle.gix_refspec_match.proofs.Common.{List, [], ◌∷◌, None, Some, refl, ◌≡◌, ℕ, ◌++◌, sym, ◌∙◌, arith, inl, inr, subst, append-nil, ◌<◌, length, ◌+◌, get_or, ◌⊎◌, ◌≤◌, ◌↔◌, map-id, AllByRecursion}
-use Rattle.gix_refspec_match.proofs.Common.{all_right, first_once, first_candidate, some_first, Ref, HasName, IsFirstCandidate, MatchesAs, partial, IsCandidate, ArePlacesTaken, Joins, name_at, Candidates}
-use Rattle.gix_refspec_match.proofs.{Common.{All, First}, lemmas.hits.HitLemmas.made_each, lemmas.lists.JoinLemmas.made_next, lemmas.index.IndexLemmas.{AreWhere, Lengthen, candidates_lengthen}}
+use Rattle.gix_refspec_match.proofs.Common.{codes, length-append, List, [], ◌∷◌, None, Some, refl, ◌≡◌, ℕ, ◌++◌, sym, ◌∙◌, arith, inl, inr, subst, append-nil, ◌<◌, length, ◌+◌, get_or, ◌⊎◌, ◌≤◌, ◌↔◌}
+use Rattle.gix_refspec_match.proofs.Common.{map-id, AllByRecursion, all_right, first_once, first_candidate, some_first, Ref, HasName, IsFirstCandidate, MatchesAs, partial, IsCandidate, ArePlacesTaken}
+use Rattle.gix_refspec_match.proofs.{Common.{Joins, name_at, Candidates, All, First}, lemmas.hits.HitLemmas.made_each, lemmas.lists.JoinLemmas.made_next, lemmas.index.IndexLemmas.{AreWhere, Lengthen}}
 
 pub has_last : (refs : List Ref) (r : Ref) (n : List ℕ) → HasName (refs ++ r ∷ []) n ↔ (HasName refs n ⊎ (r.name ≡ n))
 has_last [] r n = grind arith
@@ -24,8 +24,9 @@ module _ (refs : List Ref) (f n : List ℕ) (has : HasName refs n) (least : leng
 shortest_first : (refs : List Ref) (x n : List ℕ) → IsShortest refs x n → IsFirstCandidate refs x n
 shortest_first refs x n short =
     let (f, first) = some_first refs x n short.one short.there in
+    let end : length (x ++ codes "/HEAD") ≡ length x + 5 = length-append x (codes "/HEAD") in
     let same = least_first refs f n short.there (short.least f (first_candidate refs x f first) first.present) first.earlier first.later short.one.earlier short.one.later
-    (subst Lengthen first.here (candidates_lengthen x)) first.absent (sym first.here ∙ short.one.here) in
+    (subst Lengthen first.here (search (arith, end))) first.absent (sym first.here ∙ short.one.here) in
     subst (IsFirstCandidate refs x) same first
 
 none_where : (P : Ref → Type 0) (k : ℕ) (refs : List Ref) → ((r : Ref) → HasName refs r.name → ¬ (P r)) → AreWhere P k refs []

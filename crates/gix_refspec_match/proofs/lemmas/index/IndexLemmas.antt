@@ -1,8 +1,8 @@
 -- Where names are among refs.
 use Rattle.gix_refspec_match.proofs.Common.{List, [], ◌∷◌, None, Some, refl, ◌≡◌, ℕ, ◌++◌, Option, sym, ◌∙◌, inl, inr, ◌≢◌, ap, append-nil, ◌<◌, length, map, take, ◌+◌, get_or, rules, ◌⊎◌, cond, bytes_eq}
-use Rattle.gix_refspec_match.proofs.Common.{made_more, bytes_eq-Decides, cases_Bool, Contains-append_left, Contains-push, Contains-push_cases, Contains, bstr_bytes, ArePlacesOf, HavePlaces, ref_of, Item}
-use Rattle.gix_refspec_match.proofs.Common.{Vec, codes, arith, length-append, All-from_recursion, All-contains, AllByRecursion, Ref, candidates, IsMadeFrom, false, drop, ◌≤◌, Bool, take-append-drop}
-use Rattle.gix_refspec_match.proofs.{Common.{take-append_seam, cases_eq, length-take-le, nil_from_length, BeginsWith, AddsPlace, HaveLengths, ListPrefixes, IsFlagged}, lemmas.lists.JoinLemmas.made_more}
+use Rattle.gix_refspec_match.proofs.Common.{made_more, bytes_eq-Decides, Contains-append_left, Contains-push, Contains-push_cases, Contains, bstr_bytes, ArePlacesOf, HavePlaces, ref_of, Item, Vec, arith}
+use Rattle.gix_refspec_match.proofs.Common.{All-from_recursion, All-contains, AllByRecursion, Ref, IsMadeFrom, drop, ◌≤◌, take-append-drop, take-append_seam, length-take-le, BeginsWith, AddsPlace}
+use Rattle.gix_refspec_match.proofs.{Common.ListPrefixes, lemmas.lists.JoinLemmas.made_more}
 
 -- the places of the refs of which P holds, the first one's being k
 abbrev pub AreWhere : (Ref → Type 0) → ℕ → List Ref → List ℕ → Type 0
@@ -11,9 +11,6 @@ AreWhere P k refs ps = IsMadeFrom (λ j r place. P r × (place ≡ j)) k refs ps
 abbrev pub Lengthen : List (List ℕ) → Type 0
 Lengthen [] = Unit {0}
 Lengthen (n ∷ ns) = AllByRecursion (λ m. length n < length m) ns × Lengthen ns
-
-pub candidates_lengthen : (x : List ℕ) → Lengthen (candidates x)
-candidates_lengthen x = let end : length (x ++ codes "/HEAD") ≡ length x + 5 = length-append x (codes "/HEAD") in search (arith, end)
 
 pub all_at : (P : List ℕ → Type 0) (ns : List (List ℕ)) (n : List ℕ) → AllByRecursion P ns → Contains ns n → P n
 all_at P ns n all there = All-contains P ns n (All-from_recursion P ns all) there
@@ -104,11 +101,3 @@ item_added items i d n old new below is adds listed prefix v now =
       | inl here ↦ made_more _ ref_of items i d w.items v.items (Some i) below (listed prefix w was) (rw is at here.0, refl) here.1
       | inr other ↦ made_more _ ref_of items i d w.items v.items None below (listed prefix w was) (λ place both. other.0 (rw is both.0)) (other.1 ∙ sym (append-nil w.items))
     ]
-
-pub fronts_started : (ns : List (List ℕ)) (listed : Listed) → HavePlaces ns [] listed → ListPrefixes [] listed
-fronts_started ns listed have prefix v is = let cases = cases_eq (length v.items) 0 in search (rules, nil_from_length v.items, have.others prefix, have.each prefix)
-
-pub lengths_started : (ns : List (List ℕ)) (lengths : List Bool) (listed : Listed) → AllByRecursion (λ n. IsFlagged lengths (length n)) ns → HavePlaces ns [] listed → HaveLengths lengths listed
-lengths_started ns lengths listed all have prefix v is =
-    let cases = cases_Bool (get_or lengths (length prefix) false) in
-    search (rules, have.others prefix, all_at (λ n. IsFlagged lengths (length n)) ns prefix all)

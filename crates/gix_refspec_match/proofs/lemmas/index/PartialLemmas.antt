@@ -51,9 +51,6 @@ refs_longer n x same (is, inr behind) = omega (arith, ap length is, ap length sa
 pub one_place : (below x y : List ℕ) → IsBelowPlace below x → IsBelowPlace below y → x ≡ y
 one_place below x y placed also = grind arith
 
-no_head : (below x : List ℕ) → IsBelowPlace below x → ¬ (IsHeadOf below x)
-no_head below x placed head = omega (arith, ap length (one_place below x (x ++ codes "/HEAD") placed (inr (inr head))), length-append x (codes "/HEAD"))
-
 module _ {Known : List ℕ → Type 0} {R : List ℕ → List ℕ → Type 0} {old new : List ℕ → Option (Vec ℕ)} where
   pub adds_one : {p : List ℕ} {u : Vec ℕ} (t : Vec ℕ) → old p ≡ Some u → R u.items t.items → Puts p t old new → AddsWhere Known (λ x. p ≡ x) R old new
   adds_one {p = p} {u = u} t listed changes puts = record {
@@ -70,7 +67,8 @@ module _ {Known : List ℕ → Type 0} {R : List ℕ → List ℕ → Type 0} {n
   adds_below {below = below} is whole placed head =
       let rest : drop 5 n ≡ below = ap (drop 5) is in
       adds_both (λ x inside. rw rest (is, inside)) (λ x inside. rw rest at inside.1) (λ x e behind. omega (arith, ap length e, behind_shorter below x behind)) whole
-      (adds_both (λ x behind. behind) (λ x behind. behind) (no_head below) placed head)
+      (adds_both (λ x behind. behind) (λ x behind. behind)
+      (λ x at head. omega (arith, ap length (one_place below x (x ++ codes "/HEAD") at (inr (inr head))), length-append x (codes "/HEAD"))) placed head)
 
   pub adds_candidates : AddsWhere Known (λ x. n ≡ x) R a b → AddsWhere Known (IsInRefs n) R b c → AddsWhere Known (λ x. IsCandidate x n) R a c
   adds_candidates whole refs = adds_both (candidate_from n) (candidate_in n) (refs_longer n) whole refs

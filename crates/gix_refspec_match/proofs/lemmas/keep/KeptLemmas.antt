@@ -1,10 +1,10 @@
 -- What is kept of a list of mappings.
-use Rattle.gix_refspec_match.proofs.lemmas.{lists.SomeLemmas.{Any-weaker, Any-left, Any-right, some_at, some_of}, lists.ListsLemmas.{made_map, made_all, cut}, hits.HitLemmas.made_each}
+use Rattle.gix_refspec_match.proofs.lemmas.{lists.SomeLemmas.{Any-weaker, Any-left, Any-right, some_at, some_of}, lists.ListsLemmas.{made_map, cut}, hits.HitLemmas.made_each}
 use Rattle.gix_refspec_match.proofs.{lemmas.keep.KeptPairLemmas.{Any-HasPair, HasPair-Any, Keeps}, Common.{List, [], ◌∷◌, None, Some, refl, ◌≡◌, ℕ, ◌++◌, Option, ◌∙◌, arith, inl, ap, ◌<◌, length, map}}
-use Rattle.gix_refspec_match.proofs.Common.{take, ◌+◌, get_or, append_assoc, option_map, ◌↔◌, option_to_list, Bool, zero-add, length-append, Ordering, take-append_seam, false≢true, length-map}
-use Rattle.gix_refspec_match.proofs.Common.{length-take-le, get_or_default, map-id, get_or-map, get_or-take, All-from_recursion, AllByRecursion, all_weaker, Reading, MakesOf, IsMadeFrom, Mapped, IsKept}
-use Rattle.gix_refspec_match.proofs.Common.{Source, IsSourceExcluded, IsSamePair, HasPair, FlagsDuplicates, IsDuplicate, AreExclusionsOf, ExcludeStart, IsUnflagged, equal_pair, pair_order, same_pair}
-use Rattle.gix_refspec_match.{proofs.Common.{mapped_of, Exclusions, Mapping, sym, inr, subst, append-nil, drop, ◌⊎◌, Thins, MayGo}, specs.Matching.Mappings.AreApart}
+use Rattle.gix_refspec_match.proofs.Common.{take, ◌+◌, get_or, append_assoc, option_map, ◌↔◌, option_to_list, Bool, zero-add, length-append, Ordering, take-append_seam, length-map, length-take-le}
+use Rattle.gix_refspec_match.proofs.Common.{get_or_default, map-id, get_or-map, get_or-take, All-from_recursion, AllByRecursion, all_weaker, Reading, MakesOf, IsMadeFrom, Mapped, IsKept, Source}
+use Rattle.gix_refspec_match.proofs.Common.{IsSourceExcluded, IsSamePair, HasPair, FlagsDuplicates, IsDuplicate, AreExclusionsOf, ExcludeStart, IsUnflagged, equal_pair, pair_order, same_pair, mapped_of}
+use Rattle.gix_refspec_match.{proofs.Common.{Exclusions, Mapping, sym, inr, subst, append-nil, drop, ◌⊎◌, Thins, MayGo}, specs.Matching.Mappings.AreApart}
 
 pub HasPair-from_place : (l : List Mapped) (j : ℕ) (d m : Mapped) → j < length l → IsSamePair (get_or l j d) m → HasPair l m
 HasPair-from_place l j d m below same = HasPair-Any l m (some_of _ l (j, get_or l j d, below, get_or_default l j _ _ below, same))
@@ -47,9 +47,6 @@ kept_unflagged ms rest flags flagged made =
         → MakesOf (IsUnflagged flags) i (get_or ms i d) x → MakesOf (Keeps [] (map mapped_of ms)) i (mapped_of (get_or ms i d)) (option_map mapped_of x)
     one i d by None none = λ y stays. none _ (refl, λ now. stays.1.first (by.0 ((flagged i).0 now)))
     one i d by (Some y) (same, free) = (ap mapped_of same, record { first = λ has. free ((flagged i).1 (by.1 has)); included = none_excluded _ })
-
-pub all_unflagged : (ms : List Mapping) (flags : List Bool) → flags ≡ [] → IsMadeFrom (IsUnflagged flags) 0 ms ms
-all_unflagged ms flags none = made_all (IsUnflagged flags) (λ k m. (refl, λ flagged. false≢true (rw none at flagged))) 0 ms
 
 abbrev pub AreIncluded : List Reading → List Mapped → Type 0
 AreIncluded g l = AllByRecursion (λ m. ¬ (IsSourceExcluded g m.source)) l
