@@ -20,5 +20,4 @@ returns c =
     let adds = adds_both _ _ _ _ _ _ _ _ _ first (rw (c.as_slice-list.ensures.value, c.in_ok-later.ensures.tail) at c.in_ok-map_backward-2.ensures) in
     ok_weaker c.without_duplicates.result _ _ (λ kept is.
     let (whole, are, stays) = kept_hits _ All _ _ [] _ _ _ _ c.in_ok-matchers.ensures c.in_ok-hits.ensures c.in_ok-exclusions.ensures.names adds is in
-    record { all = _; backward = record { hits = whole; are_hits = are; all = refl }; is = stays })
-    c.without_duplicates.ensures
+    record { all = _; backward = record { hits = whole; are_hits = are; all = refl }; is = stays }) c.without_duplicates.ensures

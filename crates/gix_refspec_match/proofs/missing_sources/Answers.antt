@@ -1,5 +1,5 @@
-use Rattle.gix_refspec_match.proofs.Common.{None, Some, refl, sym, ◌∙◌, arith, append-nil, map, take_all, false≢true, all_weaker, kind_of_side, reading_of, ref_of, All}
-use Rattle.gix_refspec_match.proofs.lemmas.{hits.MatcherLemmas.{missing_made, blank_matcher, lacking_next}, index.PlacedLemmas.named_listed}
+use Rattle.gix_refspec_match.proofs.{Common.{None, Some, refl, sym, ◌∙◌, arith, append-nil, map, take_all, false≢true, all_weaker, kind_of_side, reading_of, ref_of, All}, lemmas.hits.MatcherLemmas.missing_made}
+use Rattle.gix_refspec_match.proofs.lemmas.{hits.MatcherLemmas.{blank_matcher, lacking_next}, index.PlacedLemmas.named_listed}
 use Rattle.gix_refspec_match.proofs.missing_sources.Goals as goal
 
 pub loop-matcher-preserved : goal.loop-matcher-preserved

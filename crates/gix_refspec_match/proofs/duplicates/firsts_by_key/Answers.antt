@@ -3,8 +3,7 @@ use Rattle.gix_refspec_match.proofs.{Common.{[], ◌≡◌, sym, ◌∙◌, arit
 use Rattle.gix_refspec_match.proofs.duplicates.firsts_by_key.Goals as goal
 
 pub loop-at-preserved-then-upper_bits : goal.loop-at-preserved-then-upper_bits
-loop-at-preserved-then-upper_bits c = run_begins c.loop-at.invariant
-    (λ same. c.if-upper_bits.true (c.upper_bits.ensures ∙ same ∙ sym c.upper_bits-in-loop-at.ensures))
+loop-at-preserved-then-upper_bits c = run_begins c.loop-at.invariant (λ same. c.if-upper_bits.true (c.upper_bits.ensures ∙ same ∙ sym c.upper_bits-in-loop-at.ensures))
 
 pub loop-at-preserved : goal.loop-at-preserved
 loop-at-preserved c =

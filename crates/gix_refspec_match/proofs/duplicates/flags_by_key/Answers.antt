@@ -14,7 +14,7 @@ pub loop-index-preserved : goal.loop-index-preserved
 loop-index-preserved g c =
     let (less, inside) = first_below c.in_ok-firsts.ensures c.loop-index.index _ (omega (arith, c.loop-index-test.true, c.len-index-end.ensures)) c.index.ensures c.if-first-index.false in
     flags_raised c.loop-index.invariant _ _ c.in_ok-raise.ensures.fits c.in_ok-raise.ensures.raised
-    (inside, (_, less, pair_read _ (λ a b. g.T.Element.order a b ≡ Equal) _ _ _ _ (omega arith) inside c.index-elements-first.is c.index-elements-index.is (c.equals.ensures.0 c.if-not-equals.false))) (λ k (here, told). here)
+    (inside, (_, less, pair_read _ (λ a b. g.T.Element.order a b ≡ Equal) _ _ _ _ (omega arith) inside c.index-elements-first.is c.index-elements-index.is (c.equals.ensures.0 c.if-not-equals.false))) (λ k both. both.0)
 
 pub returns : goal.returns
 returns g c = flags_all c.loop-index.invariant (λ k duplicate.

@@ -1,5 +1,5 @@
-use Rattle.gix_refspec_match.proofs.{Common.{None, Some, refl, append-nil, sym, ◌∙◌, arith, map, take_all, rules, false≢true, length-map, kind_of_side, ref_of}, lemmas.index.PlacedLemmas.all_found}
-use Rattle.gix_refspec_match.proofs.lemmas.index.PlacedLemmas.{item_next, matches_taken, place_fits, place_next}
+use Rattle.gix_refspec_match.proofs.{Common.{None, Some, refl, append-nil, sym, ◌∙◌, arith, map, take_all, rules, false≢true, length-map, kind_of_side, ref_of}, lemmas.index.PlacedLemmas.{all_found, item_next}}
+use Rattle.gix_refspec_match.proofs.lemmas.index.PlacedLemmas.{matches_taken, place_fits, place_next}
 use Rattle.gix_refspec_match.proofs.hits.add_hits.Goals as goal
 
 pub bounds-items-index : goal.bounds-items-index
@@ -35,7 +35,6 @@ loop-item_index-preserved c =
 
 pub returns-after-loop-index : goal.returns-after-loop-index
 returns-after-loop-index c =
-    let listed = c.in-Some.ensures c.args.candidates (map ref_of c.args.items.now) c.requires in
     let (made, are, all) = c.loop-index.invariant in
     let matched = rw (take_all c.loop-index.index-index c.in-Some.indexes.now (omega arith)) at are in
-    record { made = made; are = all_found _ _ (kind_of_side c.args.needle) c.args.matcher _ made listed matched; all = all }
+    record { made = made; are = all_found _ _ (kind_of_side c.args.needle) c.args.matcher _ made (c.in-Some.ensures c.args.candidates (map ref_of c.args.items.now) c.requires) matched; all = all }

@@ -13,14 +13,12 @@ pub equal_told : (o : Ordering) → (is_eq o ≡ true) ⊎ (is_ne o ≡ false) �
 equal_told o told = grind (arith, told)
 
 -- duplicates are flagged, and of these all that positions below at tell of
-pub record AreFlagged {T : Type 0} (order : T → T → Ordering) (xs : List T) (Tells : ℕ → ℕ → Type 0) (flags : List Bool)
-    (at : ℕ) : Type 0 where
+pub record AreFlagged {T : Type 0} (order : T → T → Ordering) (xs : List T) (Tells : ℕ → ℕ → Type 0) (flags : List Bool) (at : ℕ) : Type 0 where
   pub fits : (flags ≡ []) ⊎ (length flags ≡ length xs)
   pub only : (k : ℕ) → IsFlagged flags k → IsDuplicate order xs k
   pub found : (i : ℕ) → i < at → (k : ℕ) → Tells i k → IsFlagged flags k
 
-module _ {T : Type 0} {order : T → T → Ordering} {xs : List T} {Tells : ℕ → ℕ → Type 0} {flags : List Bool} {at : ℕ}
-    (are : AreFlagged order xs Tells flags at) where
+module _ {T : Type 0} {order : T → T → Ordering} {xs : List T} {Tells : ℕ → ℕ → Type 0} {flags : List Bool} {at : ℕ} (are : AreFlagged order xs Tells flags at) where
   pub flags_same : ((k : ℕ) → ¬ (Tells at k)) → AreFlagged order xs Tells flags (at + 1)
   flags_same none = record { fits = are.fits; only = are.only; found = λ i below k told. grind (arith, are.found i, none k) }
 

@@ -1,10 +1,10 @@
 -- What specs match, and what becomes of it.
-use Rattle.gix_refspec_match.proofs.Common.{◌-◌, length, length-append, drop-append_seam, take-append_seam, word_in, List, [], ◌∷◌, None, Some, codes, refl, ◌≡◌, ℕ, ◌++◌, Option, sym, ◌∙◌, arith, inl, inr}
-use Rattle.gix_refspec_match.proofs.Common.{◌≢◌, subst, ap, take, drop, ◌+◌, ◌⊎◌, MatchOption, Bor, append_cancel_left, AllByRecursion, lacks_no_pattern, split_once, AllByRecursion-parts, IsIdText-unique}
-use Rattle.gix_refspec_match.proofs.Common.{kind_of_side, DeclaredKind, Ref, Matches, MatchesAs, pattern, object, HasKind, partial, SideKind, Fits, IsCandidate, candidates, Reading, Ends, IsFilled, Hit}
-use Rattle.gix_refspec_match.proofs.Common.{IsHit, AreSpecHits, IsIdMapping, AreBackward, AreForward, OneForward, OneBackward, Mapped, IsKeptAt, IsKept, HasEnds, TakesIn, filled_side, HasSideKind}
-use Rattle.gix_refspec_match.proofs.Common.{IsFirstIn, Candidates, All, First, is_some, ◌<◌, map, get_or, option_map, ◌↔◌, IsTrue, Bool, zero-add, map-id, MakesOf, IsMadeFrom, mapping_of, IsMatched}
-use Rattle.gix_refspec_match.proofs.lemmas.lists.{JoinLemmas.{one_joined, MakesOnce}, ListsLemmas.{made_once, made_map}}
+use Rattle.gix_refspec_match.proofs.Common.{◌-◌, length, length-append, drop-append_seam, take-append_seam, word_in, List, [], ◌∷◌, None, Some, codes, refl, ◌≡◌, ℕ, ◌++◌, Option, sym, ◌∙◌, arith, inl, inr, ◌≢◌}
+use Rattle.gix_refspec_match.proofs.Common.{subst, ap, take, drop, ◌+◌, ◌⊎◌, MatchOption, Bor, append_cancel_left, AllByRecursion, lacks_no_pattern, split_once, AllByRecursion-parts, IsIdText-unique, kind_of_side}
+use Rattle.gix_refspec_match.proofs.Common.{DeclaredKind, Ref, Matches, MatchesAs, pattern, object, HasKind, partial, SideKind, Fits, IsCandidate, candidates, Reading, Ends, IsFilled, Hit, IsHit, AreSpecHits}
+use Rattle.gix_refspec_match.proofs.Common.{IsIdMapping, AreBackward, AreForward, OneForward, OneBackward, Mapped, IsKeptAt, IsKept, HasEnds, TakesIn, filled_side, HasSideKind, IsFirstIn, Candidates, All, First}
+use Rattle.gix_refspec_match.proofs.{Common.{is_some, ◌<◌, map, get_or, option_map, ◌↔◌, IsTrue, Bool, zero-add, map-id, MakesOf, IsMadeFrom, mapping_of, IsMatched}, lemmas.lists.JoinLemmas.{one_joined, MakesOnce}}
+use Rattle.gix_refspec_match.proofs.lemmas.lists.ListsLemmas.{made_once, made_map}
 
 -- what a read past the end gives
 abbrev pub blank : Ref

@@ -1,11 +1,10 @@
 -- The matchers and the objects of specs, spec by spec, and what duplicates among specs say of them.
-use Rattle.gix_refspec_match.proofs.Common.{List, [], ◌∷◌, None, Some, refl, ◌≡◌, ℕ, true, false, ◌++◌, Option, Equal, sym, ◌∙◌, arith, inl, inr, ◌≢◌, append-nil, ◌<◌, length, map, take, ◌+◌, get_or}
-use Rattle.gix_refspec_match.proofs.Common.{rules, ◌≤◌, ◌↔◌, IsTrue, Bool, false≢true, length-map, get_or-map, bool_cmp, map_next, some_element, kind_of_side, IsPositive, id_bytes, reading_of, ObjectId}
-use Rattle.gix_refspec_match.proofs.Common.{DeclaredKind, Object, RefSpecRef, object, HasKind, Reading, Mode, IsJoinedFrom, Ends, AreForwardEnds, AreBackwardEnds, FlagsDuplicates, HaveSameSides}
-use Rattle.gix_refspec_match.proofs.Common.{FlagsEqual, excludes, sides_order, IsFlagged, HasNoSides, HaveSides, AreMatcherOf, AreObjectOf, HasSideKind, both_equal, same_options, Candidates, All, First}
-use Rattle.gix_refspec_match.proofs.Common.{Sides, subst, ◌⊎◌, suc, option_to_list, made_next, made_none, length-take-le, get_or_default, take_more, AllByRecursion, Contains, Ref, MatchesAs, pattern}
-use Rattle.gix_refspec_match.proofs.{Common.{full_name, partial, SideKind, MakesOf, IsMadeFrom, LacksSource, HasNone, IsIndexFor, IsNamed, IsNameKind, Index, Matcher}, lemmas.hits.HitLemmas.one_kind}
-use Rattle.gix_refspec_match.proofs.lemmas.{hits.HitLemmas.{matches_as, same_side}, lists.JoinLemmas.{map_long, joined_next}}
+use Rattle.gix_refspec_match.proofs.Common.{AreForwardEnds, List, [], ◌∷◌, None, Some, refl, ◌≡◌, ℕ, true, false, ◌++◌, Option, Equal, sym, ◌∙◌, arith, inl, inr, ◌≢◌, append-nil, ◌<◌, length, map, take, ◌+◌, get_or}
+use Rattle.gix_refspec_match.proofs.Common.{rules, ◌≤◌, ◌↔◌, IsTrue, Bool, false≢true, length-map, get_or-map, bool_cmp, map_next, some_element, kind_of_side, IsPositive, id_bytes, reading_of, ObjectId, DeclaredKind}
+use Rattle.gix_refspec_match.proofs.Common.{Object, RefSpecRef, object, HasKind, Matches, IsSome, Reading, Mode, IsJoinedFrom, FlagsDuplicates, HaveSameSides, FlagsEqual, excludes, sides_order, IsFlagged, HasNoSides}
+use Rattle.gix_refspec_match.proofs.Common.{HaveSides, AreMatcherOf, AreObjectOf, HasSideKind, both_equal, same_options, Candidates, All, First, Sides, subst, ◌⊎◌, suc, option_to_list, made_next, made_none}
+use Rattle.gix_refspec_match.proofs.Common.{length-take-le, get_or_default, take_more, AllByRecursion, Contains, Ref, MatchesAs, pattern, full_name, partial, SideKind, MakesOf, IsMadeFrom, LacksSource, HasNone}
+use Rattle.gix_refspec_match.proofs.{Common.{IsIndexFor, IsNamed, IsNameKind, Index, Matcher}, lemmas.hits.HitLemmas.{one_kind, matches_as, same_side}, lemmas.lists.JoinLemmas.{map_long, joined_next}}
 use Rattle.gix_refspec_text.specs.declared.side.SideKind.TheVariants as side
 
 pub no_matcher : (which : Candidates) (flags : List Bool) (k : ℕ) (r : Reading) → HasNoSides r → AreMatcherOf which flags k r []
@@ -35,9 +34,8 @@ module _ (r : Reading) (sides : Sides) (have : HaveSides r sides) where
       → AreMatcherOf First flags k r ((record { spec_index = k; needle = sides.source; other = sides.destination }) ∷ [])
   forward_matcher flags k b other told is =
       let (text, side, kind) = side_shown r.source sides.source have.source in
-      let ends : Ends = record { near = text; far = r.destination } in
-      let has : AreForwardEnds r ends = record { positive = have.positive; near = side; far = refl; no_object = not_id text sides.source other kind } in
-      inl (_, record { unflagged = λ flagged. false≢true (sym is ∙ told.1 flagged); ends = ends; has = has; kinds = record { near = kind; far = have.destination }; spec = refl }, refl)
+      let has : AreForwardEnds r (record { near = text; far = r.destination }) = search (rules, not_id text sides.source other kind) in
+      inl (_, record { unflagged = λ flagged. false≢true (sym is ∙ told.1 flagged); ends = _; has = has; kinds = search rules; spec = refl }, refl)
 
   pub backward_unmatched : (flags : List Bool) (k : ℕ) → sides.destination ≡ None → AreMatcherOf All flags k r []
   backward_unmatched flags k is = inr (inr (λ ends are. rw (are.near, is) at have.destination), refl)
@@ -47,9 +45,8 @@ module _ (r : Reading) (sides : Sides) (have : HaveSides r sides) where
   backward_matcher flags k b needle there told is =
       let (text, side, kind) = side_shown r.destination needle (rw there at have.destination) in
       let (_, source, _) = side_shown r.source sides.source have.source in
-      let ends : Ends = record { near = text; far = r.source } in
-      let has : AreBackwardEnds r ends = record { positive = have.positive; near = side; far = refl; both = rw source } in
-      inl (_, record { unflagged = λ flagged. false≢true (sym is ∙ told.1 flagged); ends = ends; has = has; kinds = record { near = kind; far = have.source }; spec = refl }, refl)
+      let both : IsSome r.source = rw source in
+      inl (_, record { unflagged = λ flagged. false≢true (sym is ∙ told.1 flagged); ends = record { near = text; far = r.source }; has = search rules; kinds = search rules; spec = refl }, refl)
 
   pub flagged_matcher : (which : Candidates) (flags : List Bool) (k : ℕ) (b : Bool) → IsTrue b ↔ IsFlagged flags k → b ≡ true → AreMatcherOf which flags k r []
   flagged_matcher which flags k b told is = inr (inl (told.0 is, have.positive), refl)
@@ -121,14 +118,10 @@ module _ (index : Index) (refs : List Ref) (k : ℕ) (r : Reading) (m : Matcher)
       (lacks_kind index refs (kind_of_side m.needle) is.name for).1 (λ ref there matches. lack.absent ref None there (record { kind = kind_of_side m.needle; of = of; is = matches }))
 
   none_missing : HasNone index (kind_of_side m.needle) → LacksSource refs r
-  none_missing none = record {
-    positive = is.positive;
-    source = is.source;
-    is = is.is;
-    named = named_kind is.source (kind_of_side m.needle) is.name is.kind;
-    absent = λ ref word there matches. (lacks_kind index refs (kind_of_side m.needle) is.name for).0 none ref there
-        (without_word (kind_of_side m.needle) ref word is.name (matches_as is.source (kind_of_side m.needle) ref word is.kind matches));
-  }
+  none_missing none =
+      let absent = λ (ref : Ref) (word : Option (List ℕ)) (there : Contains refs ref) (matches : Matches is.source ref word). (lacks_kind index refs (kind_of_side m.needle) is.name for).0 none ref there
+      (without_word (kind_of_side m.needle) ref word is.name (matches_as is.source (kind_of_side m.needle) ref word is.kind matches)) in
+      record { positive = is.positive; source = is.source; is = is.is; named = named_kind is.source (kind_of_side m.needle) is.name is.kind; absent = absent }
 
 -- the spec of a matcher that finds none is missing
 abbrev pub IsLacking : Index → ℕ → Matcher → ℕ → Type 0

@@ -1,7 +1,7 @@
 -- The places that a partial name takes, as refs are added: those of the first candidate, or of all.
-use Rattle.gix_refspec_match.proofs.Common.{codes, length-append, List, [], ◌∷◌, None, Some, refl, ◌≡◌, ℕ, ◌++◌, sym, ◌∙◌, arith, inl, inr, subst, append-nil, ◌<◌, length, ◌+◌, get_or, ◌⊎◌, ◌≤◌, ◌↔◌}
-use Rattle.gix_refspec_match.proofs.Common.{map-id, AllByRecursion, all_right, first_once, first_candidate, some_first, Ref, HasName, IsFirstCandidate, MatchesAs, partial, IsCandidate, ArePlacesTaken}
-use Rattle.gix_refspec_match.proofs.{Common.{Joins, name_at, Candidates, All, First}, lemmas.hits.HitLemmas.made_each, lemmas.lists.JoinLemmas.made_next, lemmas.index.IndexLemmas.{AreWhere, Lengthen}}
+use Rattle.gix_refspec_match.proofs.Common.{codes, length-append, List, [], ◌∷◌, None, Some, refl, ◌≡◌, ℕ, ◌++◌, sym, ◌∙◌, arith, inl, inr, subst, append-nil, ◌<◌, length, ◌+◌, get_or, ◌⊎◌, ◌≤◌, ◌↔◌, map-id}
+use Rattle.gix_refspec_match.proofs.Common.{AllByRecursion, all_right, first_once, first_candidate, some_first, Ref, HasName, IsFirstCandidate, MatchesAs, partial, IsCandidate, ArePlacesTaken, Joins, name_at}
+use Rattle.gix_refspec_match.proofs.{Common.{Candidates, All, First}, lemmas.hits.HitLemmas.made_each, lemmas.lists.JoinLemmas.made_next, lemmas.index.IndexLemmas.{AreWhere, Lengthen}}
 
 pub has_last : (refs : List Ref) (r : Ref) (n : List ℕ) → HasName (refs ++ r ∷ []) n ↔ (HasName refs n ⊎ (r.name ≡ n))
 has_last [] r n = grind arith
@@ -55,12 +55,10 @@ module _ (all refs : List Ref) (r : Ref) (x : List ℕ) (i : ℕ) (long : length
   shortest_next n one there least last = record { one = one; there = (has_last refs r n).1 there; least = λ m other has. let cases = (has_last refs r m).0 has in grind (arith, cases, least m, last, here) }
 
   shorter_next : IsCandidate x r.name → ((n : List ℕ) → IsCandidate x n → HasName refs n → length (name_at all i) < length n) → AreFound First all x (refs ++ r ∷ []) (i ∷ [])
-  shorter_next one least =
-      let also = rw here at one in (
-        shortest_next (name_at all i) also (inr here) (λ n other has. omega (arith, least n other has)) (λ _. omega arith),
-        where_more (λ s. s.name ≡ name_at all i) []
-            (none_where (λ s. s.name ≡ name_at all i) 0 refs (λ s has same. grind (arith, least s.name))) here,
-      )
+  shorter_next one least = (
+    shortest_next (name_at all i) (rw here at one) (inr here) (λ n other has. omega (arith, least n other has)) (λ _. omega arith),
+    where_more (λ s. s.name ≡ name_at all i) [] (none_where (λ s. s.name ≡ name_at all i) 0 refs (λ s has same. grind (arith, least s.name, one, here, same))) here,
+  )
 
   longer_next : (p : ℕ) (ps : List ℕ) → AreFound First all x refs (p ∷ ps) → (IsCandidate x r.name → length (name_at all p) < length (name_at all i)) → AreFound First all x (refs ++ r ∷ []) (p ∷ ps)
   longer_next p ps (short, are) longer = (

@@ -1,8 +1,8 @@
 -- Where names are among refs.
-use Rattle.gix_refspec_match.proofs.Common.{List, [], ◌∷◌, None, Some, refl, ◌≡◌, ℕ, ◌++◌, Option, sym, ◌∙◌, inl, inr, ◌≢◌, ap, append-nil, ◌<◌, length, map, take, ◌+◌, get_or, rules, ◌⊎◌, cond, bytes_eq}
-use Rattle.gix_refspec_match.proofs.Common.{made_more, bytes_eq-Decides, Contains-append_left, Contains-push, Contains-push_cases, Contains, bstr_bytes, ArePlacesOf, HavePlaces, ref_of, Item, Vec, arith}
-use Rattle.gix_refspec_match.proofs.Common.{All-from_recursion, All-contains, AllByRecursion, Ref, IsMadeFrom, drop, ◌≤◌, take-append-drop, take-append_seam, length-take-le, BeginsWith, AddsPlace}
-use Rattle.gix_refspec_match.proofs.{Common.ListPrefixes, lemmas.lists.JoinLemmas.made_more}
+use Rattle.gix_refspec_match.proofs.Common.{List, [], ◌∷◌, None, Some, refl, ◌≡◌, ℕ, ◌++◌, Option, sym, ◌∙◌, inl, inr, ◌≢◌, ap, append-nil, ◌<◌, length, map, take, ◌+◌, get_or, rules, ◌⊎◌, cond, bytes_eq, made_more}
+use Rattle.gix_refspec_match.proofs.Common.{bytes_eq-Decides, Contains-append_left, Contains-push, Contains-push_cases, Contains, bstr_bytes, ArePlacesOf, HavePlaces, ref_of, Item, Vec, arith, All-from_recursion}
+use Rattle.gix_refspec_match.proofs.Common.{All-contains, AllByRecursion, Ref, IsMadeFrom, drop, ◌≤◌, take-append-drop, take-append_seam, length-take-le, BeginsWith, AddsPlace, ListPrefixes}
+use Rattle.gix_refspec_match.proofs.lemmas.lists.JoinLemmas.{made_more}
 
 -- the places of the refs of which P holds, the first one's being k
 abbrev pub AreWhere : (Ref → Type 0) → ℕ → List Ref → List ℕ → Type 0
@@ -38,8 +38,7 @@ elsewhere : (q : List ℕ) (items : List Item) (i : ℕ) (d : Item) (ps : List �
 elsewhere q items i d ps below apart are = made_more _ ref_of items i d ps ps None below are (λ place both. apart both.0.1) (sym (append-nil ps))
 
 pub item_unlisted : (ns : List (List ℕ)) (items : List Item) (i : ℕ) (d : Item) (n : List ℕ) (listed : Listed) → i < length items
-    → n ≡ bstr_bytes (get_or items i d).full_ref_name → ¬ (Contains ns n) → HavePlaces ns (map ref_of (take i items)) listed
-    → HavePlaces ns (map ref_of (take (i + 1) items)) listed
+    → n ≡ bstr_bytes (get_or items i d).full_ref_name → ¬ (Contains ns n) → HavePlaces ns (map ref_of (take i items)) listed → HavePlaces ns (map ref_of (take (i + 1) items)) listed
 item_unlisted ns items i d n listed below is none have = record {
   each = λ q there. let (v, at, are) = have.each q there in (v, at, elsewhere q items i d v.items below (search rules) are);
   others = have.others;
@@ -93,8 +92,7 @@ pub adds_all : (l : ℕ) (n : List ℕ) (place : ℕ) (old new : Listed) → ((p
 adds_all l n place old new none so_far prefix v is = let (w, was, told) = so_far prefix v is in (w, was, grind (arith, told, none prefix w was))
 
 pub item_added : (items : List Item) (i : ℕ) (d : Item) (n : List ℕ) (old new : Listed) → i < length items
-    → n ≡ bstr_bytes (get_or items i d).full_ref_name → AddsPlace n i old new → ListPrefixes (map ref_of (take i items)) old
-    → ListPrefixes (map ref_of (take (i + 1) items)) new
+    → n ≡ bstr_bytes (get_or items i d).full_ref_name → AddsPlace n i old new → ListPrefixes (map ref_of (take i items)) old → ListPrefixes (map ref_of (take (i + 1) items)) new
 item_added items i d n old new below is adds listed prefix v now =
     let (w, was, told) = adds prefix v now in
     elim told [

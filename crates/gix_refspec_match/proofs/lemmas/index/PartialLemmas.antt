@@ -1,7 +1,7 @@
 -- An item's place is added for the partial names that may stand for its name.
 use Rattle.gix_refspec_match.proofs.Common.{List, [], Some, codes, refl, ◌≡◌, ℕ, ◌++◌, Option, ◌∙◌, arith, inl, inr, ap, ◌<◌, length, map, take, drop, ◌+◌, get_or, rules, ◌⊎◌, ◌≤◌, length-append, map_more}
 use Rattle.gix_refspec_match.proofs.Common.{slice_get-map, slice_get-get_or, AllByRecursion, Contains, Ref, Fits, IsCandidate, Joins, name_at, AddsWhere, IsBelowPlace, ref_of, Candidates, Item, Vec, false}
-use Rattle.gix_refspec_match.proofs.{Common.{◌-◌, drop-append-add, le-ltb, HasNumber, AreWholeTails, HasTail, short_tail_number, ShortTails}, lemmas.hits.HitLemmas.{candidate_at, candidate_cases}}
+use Rattle.gix_refspec_match.proofs.{Common.{drop-append-add, le-ltb, HasNumber, AreWholeTails, HasTail, short_tail_number, ShortTails}, lemmas.hits.HitLemmas.{candidate_at, candidate_cases}}
 use Rattle.gix_refspec_match.proofs.lemmas.{index.FirstPlacesLemmas.{AreFound, found_next}, index.IndexLemmas.{Puts, put_cases, all_at}, lists.JoinLemmas.map_long}
 
 pub adds_nothing : {Known P : List ℕ → Type 0} {R : List ℕ → List ℕ → Type 0} {listed : List ℕ → Option (Vec ℕ)}
@@ -9,8 +9,7 @@ pub adds_nothing : {Known P : List ℕ → Type 0} {R : List ℕ → List ℕ �
 adds_nothing none = record { each = λ x w known was. (w, was, inr (none x w known was, refl)) }
 
 adds_both : {Known P Q S : List ℕ → Type 0} {R : List ℕ → List ℕ → Type 0} {old mid new : List ℕ → Option (Vec ℕ)}
-    → ((x : List ℕ) → P x ⊎ Q x → S x) → ((x : List ℕ) → S x → P x ⊎ Q x) → ((x : List ℕ) → P x → ¬ (Q x))
-    → AddsWhere Known P R old mid → AddsWhere Known Q R mid new → AddsWhere Known S R old new
+    → ((x : List ℕ) → P x ⊎ Q x → S x) → ((x : List ℕ) → S x → P x ⊎ Q x) → ((x : List ℕ) → P x → ¬ (Q x)) → AddsWhere Known P R old mid → AddsWhere Known Q R mid new → AddsWhere Known S R old new
 adds_both {R = R} there back apart first second = record {
   each = λ x w known was.
       let (u, between, told) = first.each x w known was in
@@ -75,13 +74,11 @@ module _ {Known : List ℕ → Type 0} {R : List ℕ → List ℕ → Type 0} {n
 
 -- each of the partial names is listed, with the places that it takes of the first i items
 pub record ListSoFar (which : Candidates) (names : List (List ℕ)) (items : List Item) (i : ℕ) (listed : List ℕ → Option (Vec ℕ)) : Type 0 where
-  pub each : (x : List ℕ) → Contains names x → (v : Vec ℕ) × (listed x ≡ Some v)
-      × AreFound which (map ref_of items) x (map ref_of (take i items)) v.items
+  pub each : (x : List ℕ) → Contains names x → (v : Vec ℕ) × (listed x ≡ Some v) × AreFound which (map ref_of items) x (map ref_of (take i items)) v.items
 
 module _ {which : Candidates} {names : List (List ℕ)} {items : List Item} where
   pub partials_more : {i : ℕ} {n : List ℕ} {Known : List ℕ → Type 0} {old new : List ℕ → Option (Vec ℕ)} (d : Item) → i < length items → n ≡ (ref_of (get_or items i d)).name → AllByRecursion Known names
-      → AddsWhere Known (λ x. IsCandidate x n) (Joins which (map ref_of items) i) old new
-      → ListSoFar which names items i old → ListSoFar which names items (i + 1) new
+      → AddsWhere Known (λ x. IsCandidate x n) (Joins which (map ref_of items) i) old new → ListSoFar which names items i old → ListSoFar which names items (i + 1) new
   partials_more {i = i} {Known = Known} d below is known adds so_far = record {
     each = λ x there.
         let r : Ref = ref_of (get_or items i d) in
@@ -92,11 +89,7 @@ module _ {which : Candidates} {names : List (List ℕ)} {items : List Item} wher
   }
 
 short_tail-append : (before x : List ℕ) → 4 ≤ length x → short_tail_number (before ++ x) ≡ short_tail_number x
-short_tail-append before x long =
-    let whole = length-append before x in
-    let place : length (before ++ x) - 4 ≡ length before + (length x - 4) = omega (arith, long, whole) in
-    let longer : 4 ≤ length (before ++ x) = omega (arith, long, whole) in
-    rw (le-ltb (length (before ++ x)) 4 longer, le-ltb (length x) 4 long, place, drop-append-add before x (length x - 4)) refl
+short_tail-append before x long = grind (arith, long, length-append, le-ltb, drop-append-add)
 
 -- so a candidate of a partial name is there, where all of these are told by the Bloom filter
 pub candidate_marked : (t : ShortTails) (n x : List ℕ) → AreWholeTails t → t.any ≡ false → HasTail t x → IsCandidate x n → HasNumber t.tails (short_tail_number n)

@@ -1,9 +1,9 @@
 -- Which items needles take of those that the index lists.
-use Rattle.gix_refspec_match.proofs.Common.{length-map, List, [], ◌∷◌, None, Some, refl, ◌≡◌, ℕ, true, ◌++◌, Option, ◌∙◌, arith, ap, ◌<◌, length, map, take, drop, ◌+◌, get_or, append_assoc, rules, ◌↔◌}
-use Rattle.gix_refspec_match.proofs.Common.{map_long, made_next, joined_next, option_to_list, Bool, MatchBool, MatchBool-at_true, map_more, length-take-le, take_more, get_or-map, first_candidate}
-use Rattle.gix_refspec_match.proofs.Common.{kind_of_side, BeginsWith, Ref, MatchesAs, pattern, object, full_name, partial, SideKind, MakesOf, IsMadeFrom, IsJoinedFrom, AreFound, hit_at, AddsFound, IsFound}
-use Rattle.gix_refspec_match.proofs.Common.{IsIndexFor, TakesWhole, IsIndexOf, IsListed, HasNamesOf, ListsFor, MatchesListed, IsTaken, TakesEach, ref_of, DeclaredHit, Index, Names, Candidates, First}
-use Rattle.gix_refspec_match.proofs.{Common.{Matcher, Item, All-from_recursion, slice_get_within}, lemmas.hits.HitLemmas.blank, lemmas.lists.ListsLemmas.{cut, each_made}}
+use Rattle.gix_refspec_match.proofs.Common.{length-map, List, [], ◌∷◌, None, Some, refl, ◌≡◌, ℕ, true, ◌++◌, Option, ◌∙◌, arith, ap, ◌<◌, length, map, take, drop, ◌+◌, get_or, append_assoc, rules, ◌↔◌, map_long}
+use Rattle.gix_refspec_match.proofs.Common.{made_next, joined_next, option_to_list, Bool, MatchBool, MatchBool-at_true, map_more, length-take-le, take_more, get_or-map, first_candidate, kind_of_side, BeginsWith, Ref}
+use Rattle.gix_refspec_match.proofs.Common.{MatchesAs, pattern, object, full_name, partial, SideKind, MakesOf, IsMadeFrom, IsJoinedFrom, AreFound, hit_at, AddsFound, IsFound, IsIndexFor, TakesWhole, IsIndexOf}
+use Rattle.gix_refspec_match.proofs.Common.{IsListed, HasNamesOf, ListsFor, MatchesListed, IsTaken, TakesEach, ref_of, DeclaredHit, Index, Names, Candidates, First, Matcher, Item, All-from_recursion}
+use Rattle.gix_refspec_match.proofs.{Common.slice_get_within, lemmas.hits.HitLemmas.blank, lemmas.lists.ListsLemmas.{cut, each_made}}
 
 pub matches_taken : (kind : SideKind) (which : Candidates) (items : List Ref) (r : Ref)
     → (IsTaken which items kind r → MatchesListed kind r) × (TakesEach kind → MatchesListed kind r → IsTaken which items kind r)
@@ -22,8 +22,7 @@ through : (which : Candidates) (items : List Ref) (kind : SideKind) (k : ℕ) (P
     → IsMadeFrom (IsMatchedAt items kind k) i places hits → IsMadeFrom (IsFound which items kind k) j rest hits
 through which items kind k P each j [] places i hits at none over = rw none at over
 through which items kind k P each j (r ∷ rest) places i hits at (None, others, none, more, same) over =
-    let later = through which items kind k P each (j + 1) rest others i hits (cut items rest j blank r at).2 more (rw same at over) in
-    (None, hits, (λ hit is. none j (((each r).0 is.0).0, refl)), later, refl)
+    (None, hits, (λ hit is. none j (((each r).0 is.0).0, refl)), (through which items kind k P each (j + 1) rest others i hits (cut items rest j blank r at).2 more (rw same at over)), refl)
 through which items kind k P each j (r ∷ rest) places i hits at (Some place, others, here, more, same) over =
     let (made, further, makes, behind, all) : IsMadeFrom (IsMatchedAt items kind k) i (place ∷ others) hits = rw same at over in
     (made, further, of made makes, through which items kind k P each (j + 1) rest others (i + 1) further (cut items rest j blank r at).2 more behind, all)
@@ -54,27 +53,26 @@ Appends {X} {Y} R xs old now = (made : List Y) × IsMadeFrom R 0 xs made × (now
 
 append_made : {X Y : Type 0} (R : ℕ → X → Y → Type 0) (i : ℕ) (xs ys : List X) (x : X) (made : Option Y) (old mid new : List Y) → length xs ≡ i
     → ys ≡ xs ++ x ∷ [] → MakesOf R i x made → new ≡ mid ++ option_to_list made → Appends R xs old mid → Appends R ys old new
-append_made R i xs ys x made old mid new long whole makes more (so_far, are, all) =
-    let behind = more ∙ ap (λ l. l ++ option_to_list made) all ∙ append_assoc old so_far (option_to_list made) in
-    (so_far ++ option_to_list made, rw whole (made_next R i xs x so_far made long are makes), behind)
+append_made R i xs ys x made old mid new long whole makes more (so_far, are, all) = search (rules, long, whole, makes, more, append_assoc, made_next)
 
 -- behind the old hits are those on the items at some places
 abbrev pub MatchedSoFar : List Ref → SideKind → ℕ → List ℕ → List DeclaredHit → List DeclaredHit → Type 0
 MatchedSoFar items kind k places old now = Appends (IsMatchedAt items kind k) places old now
 
-pub place_next : (which : Candidates) (xs : List Item) (kind : SideKind) (k : ℕ) (places : List ℕ) (i e : ℕ) (d : Item) (made : Option DeclaredHit) (old mid new : List DeclaredHit) → i < length places → ListsFor which (map ref_of xs) kind places
-    → MakesOf (λ n place hit. MatchesListed kind (ref_of (get_or xs place d)) × (hit ≡ hit_at k place)) i (get_or places i e) made → new ≡ mid ++ option_to_list made
-    → MatchedSoFar (map ref_of xs) kind k (take i places) old mid → MatchedSoFar (map ref_of xs) kind k (take (i + 1) places) old new
+pub place_next : (which : Candidates) (xs : List Item) (kind : SideKind) (k : ℕ) (places : List ℕ) (i e : ℕ) (d : Item) (made : Option DeclaredHit) (old mid new : List DeclaredHit) → i < length places
+    → ListsFor which (map ref_of xs) kind places → MakesOf (λ n place hit. MatchesListed kind (ref_of (get_or xs place d)) × (hit ≡ hit_at k place)) i (get_or places i e) made
+    → new ≡ mid ++ option_to_list made → MatchedSoFar (map ref_of xs) kind k (take i places) old mid → MatchedSoFar (map ref_of xs) kind k (take (i + 1) places) old new
 place_next which xs kind k places i e d made old mid new below listed makes more so_far =
     let inside : get_or places i e < length xs = rw length-map at (place_fits which (map ref_of xs) kind places i e listed below) in
-    append_made _ i (take i places) _ (get_or places i e) made old mid new (length-take-le i places (omega arith)) (take_more places i e below) (rw (get_or-map ref_of xs (get_or places i e) d blank inside) makes) more so_far
+    append_made _ i _ _ _ made old mid new (length-take-le i places (omega arith)) (take_more places i e below) (rw (get_or-map ref_of xs (get_or places i e) d blank inside) makes) more so_far
 
 -- behind the old hits are those on some items
 abbrev pub FoundSoFar : Candidates → List Ref → SideKind → ℕ → List Ref → List DeclaredHit → List DeclaredHit → Type 0
 FoundSoFar which items kind k refs old now = Appends (IsFound which items kind k) refs old now
 
 pub item_next : (which : Candidates) (items : List Ref) (xs : List Item) (kind : SideKind) (k i : ℕ) (d : Item) (made : Option DeclaredHit) (old mid new : List DeclaredHit) → i < length xs
-    → MakesOf (IsFound which items kind k) i (ref_of (get_or xs i d)) made → new ≡ mid ++ option_to_list made → FoundSoFar which items kind k (map ref_of (take i xs)) old mid → FoundSoFar which items kind k (map ref_of (take (i + 1) xs)) old new
+    → MakesOf (IsFound which items kind k) i (ref_of (get_or xs i d)) made → new ≡ mid ++ option_to_list made → FoundSoFar which items kind k (map ref_of (take i xs)) old mid
+    → FoundSoFar which items kind k (map ref_of (take (i + 1) xs)) old new
 item_next which items xs kind k i d made old mid new below makes more so_far = append_made _ i _ _ _ made old mid new (map_long ref_of xs i below) (map_more ref_of xs i d below) makes more so_far
 
 pub found_next : (which : Candidates) (items : List Ref) (ms : List Matcher) (i : ℕ) (d : Matcher) (P : Type 0) (within : Bool) (old new : List DeclaredHit) → i < length ms → within ≡ true → MatchBool within (AddsFound which items (kind_of_side (get_or ms i d).needle) i old new) P → IsJoinedFrom (AreFound which items) 0 (take i ms) old → IsJoinedFrom (AreFound which items) 0 (take (i + 1) ms) new

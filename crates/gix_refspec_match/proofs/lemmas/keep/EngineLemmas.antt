@@ -1,13 +1,12 @@
 -- From matchers and hits to the mappings that are kept.
-use Rattle.gix_refspec_match.proofs.Common.{List, [], ◌∷◌, None, Some, refl, ◌≡◌, ℕ, ◌++◌, Option, ◌∙◌, arith, inl, inr, subst, ap, append-nil, length, map, drop, ◌+◌, get_or, option_to_list, slice_get}
-use Rattle.gix_refspec_match.proofs.Common.{IsSome, map-append, All-from_recursion, slice_get-get_or, get_or_from_slice_get, slice_get_within, AllByRecursion, all_join, kind_of_side}
-use Rattle.gix_refspec_match.proofs.Common.{DeclaredKind as SideKind, Ref, Reading, IsMadeFrom, IsJoinedFrom, place_among, Hit, AreHits, IsIdMapping, Mapped, IsKept, AddsMapped, Thins, IsMappedHit, hit_of}
-use Rattle.gix_refspec_match.proofs.Common.{object_mapping, AreFound, turned, hit_at, AreHitsAmong, AreSound, IsSound, AreExclusionsOf, HasEnds, TakesIn, AreMatcherOf, AreMatchersOf, AreObjectOf}
-use Rattle.gix_refspec_match.proofs.Common.{HaveOthers, HasSideKind, IsMatched, Exclusions, DeclaredHit, Candidates, All, Matcher, Matchers, ObjectSpec, rules, sym, ◌<◌, take, append_assoc, made_next}
-use Rattle.gix_refspec_match.proofs.Common.{take-append-drop, length-map, length-take-le, take_more, get_or-map, all_right, all_left, MakesOf, mapping_of, hit_by, hit_of_both, ExcludeStart, ref_of}
-use Rattle.gix_refspec_match.proofs.{Common.{mapped_of, Item, Mapping}, lemmas.hits.HitLemmas.{blank, of_hits, far_filled}, lemmas.hits.GroupLemmas.{FindEnough, most_from}}
-use Rattle.gix_refspec_match.proofs.lemmas.keep.{KeptLemmas.{AreIncluded, kept_included, starts_agree, kept_thinned, thins_all, thins_behind, thins_both}, PartLemmas.{all_enough, once_enough, part_read}}
-use Rattle.gix_refspec_match.proofs.lemmas.lists.ListsLemmas.{joined_all, each_made}
+use Rattle.gix_refspec_match.proofs.Common.{List, [], ◌∷◌, None, Some, refl, ◌≡◌, ℕ, ◌++◌, Option, ◌∙◌, arith, inl, inr, subst, ap, append-nil, length, map, drop, ◌+◌, get_or, option_to_list, slice_get, IsSome}
+use Rattle.gix_refspec_match.proofs.Common.{map-append, All-from_recursion, slice_get-get_or, get_or_from_slice_get, slice_get_within, AllByRecursion, all_join, kind_of_side, DeclaredKind as SideKind, Ref, Reading}
+use Rattle.gix_refspec_match.proofs.Common.{IsMadeFrom, IsJoinedFrom, place_among, Hit, AreHits, IsIdMapping, Mapped, IsKept, AddsMapped, Thins, IsMappedHit, hit_of, object_mapping, AreFound, turned, hit_at}
+use Rattle.gix_refspec_match.proofs.Common.{AreHitsAmong, AreSound, IsSound, AreExclusionsOf, HasEnds, TakesIn, AreMatcherOf, AreMatchersOf, AreObjectOf, HaveOthers, HasSideKind, IsMatched, Exclusions, DeclaredHit}
+use Rattle.gix_refspec_match.proofs.Common.{Candidates, All, Matcher, Matchers, ObjectSpec, rules, sym, ◌<◌, take, append_assoc, made_next, take-append-drop, length-map, length-take-le, take_more, get_or-map}
+use Rattle.gix_refspec_match.proofs.{Common.{all_right, all_left, MakesOf, mapping_of, hit_by, hit_of_both, ExcludeStart, ref_of, mapped_of, Item, Mapping}, lemmas.hits.HitLemmas.{blank, of_hits, far_filled}}
+use Rattle.gix_refspec_match.proofs.lemmas.{hits.GroupLemmas.{FindEnough, most_from}, keep.KeptLemmas.{AreIncluded, kept_included, starts_agree, kept_thinned, thins_all, thins_behind, thins_both}}
+use Rattle.gix_refspec_match.proofs.lemmas.{keep.PartLemmas.{all_enough, once_enough, part_read}, lists.ListsLemmas.{joined_all, each_made}}
 
 hit_there : (ms : List Matcher) (xs : List Item) (h : DeclaredHit) (dm : Matcher) (dx : Item) → IsSound ms (map ref_of xs) h
     → hit_of ms (map ref_of xs) h ≡ hit_by (get_or ms h.matcher dm) h.item (ref_of (get_or xs h.item dx))
@@ -72,8 +71,7 @@ finds_enough g ms items hits (inl are) =
 finds_enough g ms items hits (inr once) =
     let list = ms.list.items in
     let makes : List DeclaredHit → List Mapped = λ some. of_hits ms.candidates (map (hit_of list items) (map (turned once.indexes) some)) in
-    rw once.all (joined_all _ (λ k xs some. FindEnough g ms.candidates items k xs (makes some)) list (λ k. refl)
-    (λ k m xs made rest at found more.
+    rw once.all (joined_all _ (λ k xs some. FindEnough g ms.candidates items k xs (makes some)) list (λ k. refl) (λ k m xs made rest at found more.
     let plain = rw (get_or_from_slice_get list k m m at) at (All-from_recursion _ list once.plain k m (slice_get_within list k m at)) in
     (makes made, makes rest, once_enough g ms.candidates list items once.part once.indexes k m made at once.is plain found, more, simp map-append)) 0 list once.found refl once.are)
 
@@ -89,8 +87,7 @@ pub objects_made : (k : ℕ) (g : List Reading) (os : List ObjectSpec) → IsJoi
 objects_made k [] os none = ap (map object_mapping) none
 objects_made k (r ∷ g) os (made, rest, inl (o, is, one), more, all) =
     let far = far_filled r.destination o.destination None (object_mapping o).destination is.destination refl in
-    let here : IsIdMapping k r (object_mapping o) = search (rules, far, is.asks.positive, is.asks.side, is.asks.kind, is.spec) in
-    (Some (object_mapping o), map object_mapping rest, here, objects_made (k + 1) g rest more, rw (all, one) refl)
+    (Some (object_mapping o), map object_mapping rest, (search (rules, far, is.asks.positive, is.asks.side, is.asks.kind, is.spec)), objects_made (k + 1) g rest more, rw (all, one) refl)
 objects_made k (r ∷ g) os (made, rest, inr (none, empty), more, all) =
     (None, map object_mapping rest, (λ m is. none is.bytes (search (rules, is.side, is.object))), objects_made (k + 1) g rest more, rw (all, empty) refl)
 
@@ -104,8 +101,7 @@ thins_after g ids l some thins = thins_both g [] ids ids l some (thins_all g [] 
 -- of the mappings of ids, and of those of hits behind them, the ones that are kept are those of the group
 pub kept_hits : (g : List Reading) (which : Candidates) (items : List Ref) (ms : Matchers) (os : List ObjectSpec) (hits : List DeclaredHit)
     (es : Exclusions) (list kept : List Mapped) → AreMatchersOf which g ms → AreHitsAmong ms items hits → AreExclusionsOf g es
-    → AddsMapped which es ms.list.items items hits (map object_mapping os) list → IsKept [] list kept
-    → (whole : List Hit) × AreHits (HasEnds which) (TakesIn which items) g items whole
+    → AddsMapped which es ms.list.items items hits (map object_mapping os) list → IsKept [] list kept → (whole : List Hit) × AreHits (HasEnds which) (TakesIn which items) g items whole
     × IsKept g (map object_mapping os ++ of_hits which whole) kept
 kept_hits g which items ms os hits es list kept matchers among are adds is =
     let ids = map object_mapping os in
@@ -119,8 +115,7 @@ kept_hits g which items ms os hits es list kept matchers among are adds is =
     (whole, whole_are, kept_thinned g _ _ kept (thins_after g ids _ _ most) of_some)
 
 sound_joined : (ms : List Matcher) (items : List Ref) (view : DeclaredHit → DeclaredHit) (which : Candidates) (part : List Ref)
-    (found : List DeclaredHit) → ((k j : ℕ) (m : Matcher) (r : Ref) → slice_get ms k ≡ Some m → slice_get part j ≡ Some r
-    → IsMatched (kind_of_side m.needle) r → IsSound ms items (view (hit_at k j)))
+    (found : List DeclaredHit) → ((k j : ℕ) (m : Matcher) (r : Ref) → slice_get ms k ≡ Some m → slice_get part j ≡ Some r → IsMatched (kind_of_side m.needle) r → IsSound ms items (view (hit_at k j)))
     → IsJoinedFrom (AreFound which part) 0 ms found → AllByRecursion (λ h. IsSound ms items (view h)) found
 sound_joined ms items view which part found each are =
     joined_all (AreFound which part) (λ _ _ hits. AllByRecursion (λ h. IsSound ms items (view h)) hits) ms (λ k. tt) (λ k m xs made rest is_m of more. all_join _ made rest

@@ -1,7 +1,7 @@
 -- What negative specs exclude.
-use Rattle.gix_refspec_match.proofs.Common.{List, [], ◌∷◌, Some, ◌≡◌, ℕ, ◌++◌, Option, sym, ◌∙◌, arith, inl, inr, is_some, length, ◌⊎◌, ◌↔◌, MatchOption, IsTrue, Bool, cond, bytes_eq, IsSome, common_steps}
-use Rattle.gix_refspec_match.proofs.Common.{Any-push, cases_Bool, gets, bytes_decides, accepted_few, Lacks-from_absent, IsAccepted, star, Lacks, the_name, by_pattern, Fits, Negative, Reading, IsExcludedBy}
-use Rattle.gix_refspec_match.proofs.Common.{IsExcluded, ExcludeName, AreExclusionsAt, ExcludeNameAt, Exclusions}
+use Rattle.gix_refspec_match.proofs.Common.{List, [], ◌∷◌, Some, ◌≡◌, ℕ, ◌++◌, Option, sym, ◌∙◌, arith, inl, inr, is_some, length, ◌⊎◌, ◌↔◌, MatchOption, IsTrue, Bool, cond, bytes_eq, IsSome, common_steps, Any-push}
+use Rattle.gix_refspec_match.proofs.Common.{cases_Bool, gets, bytes_decides, accepted_few, Lacks-from_absent, IsAccepted, star, Lacks, the_name, by_pattern, Fits, Negative, Reading, IsExcludedBy, IsExcluded}
+use Rattle.gix_refspec_match.proofs.Common.{ExcludeName, AreExclusionsAt, ExcludeNameAt, Exclusions}
 use Rattle.std.proofs.Common.{Any}
 use Rattle.gix_refspec_text.proofs.lemmas.lists.LacksLemmas.{Lacks-here, first_once}
 

@@ -1,7 +1,7 @@
 -- What is kept of a list of mappings, by pairs: those whose source isn't excluded.
 use Rattle.gix_refspec_match.proofs.Common.{List, [], ◌∷◌, None, Some, refl, ◌≡◌, ℕ, ◌++◌, Option, sym, ◌∙◌, arith, inl, inr, subst, length, ◌+◌, append_assoc, ◌⊎◌, ◌↔◌, option_to_list, length-append}
-use Rattle.gix_refspec_match.proofs.Common.{take-append_seam, Reading, MakesOf, IsMadeFrom, Mapped, IsKeptAt, IsKept, IsSourceExcluded, IsSamePair, HasPair, equal_pair, pair_order, same_pair, cases_Bool}
-use Rattle.gix_refspec_match.proofs.{Common.is_eq, lemmas.lists.SomeLemmas.{Any, Any-right, Any-cases, Any-weaker, Any-both, made_any}}
+use Rattle.gix_refspec_match.proofs.Common.{take-append_seam, Reading, MakesOf, IsMadeFrom, Mapped, IsKeptAt, IsKept, IsSourceExcluded, IsSamePair, HasPair, equal_pair, pair_order, same_pair, cases_Bool, is_eq}
+use Rattle.gix_refspec_match.proofs.lemmas.lists.SomeLemmas.{Any, Any-right, Any-cases, Any-weaker, Any-both, made_any}
 
 abbrev pub IsOfPair : Mapped → Mapped → Type 0
 IsOfPair pair m = IsSamePair m pair
@@ -30,15 +30,13 @@ kept_from g l before (m ∷ xs) ys k pair whole place new included (made, rest, 
       | inr other ↦
           let next : length (before ++ m ∷ []) ≡ k + 1 = omega (arith, length-append before (m ∷ []), place) in
           Any-right (IsOfPair pair) (option_to_list made) rest (kept_from g l (before ++ m ∷ []) xs rest (k + 1) pair (append_assoc before (m ∷ []) xs ∙ whole) next
-          (λ found. let cases = Any-cases (IsOfPair pair) before (m ∷ []) found in grind (arith, new, cases, other))
-          included more (grind (arith, any, other)))
+          (λ found. let cases = Any-cases (IsOfPair pair) before (m ∷ []) found in grind (arith, new, cases, other)) included more (grind (arith, any, other)))
     ])
   where
     -- the first mapping with the pair is kept
     stays : IsOfPair pair m → IsKeptAt g l k m
     stays same = record {
-      first = λ has. new (Any-weaker (IsOfPair m) (IsOfPair pair)
-          (λ x is. record { source = is.source ∙ same.source; destination = is.destination ∙ same.destination })
+      first = λ has. new (Any-weaker (IsOfPair m) (IsOfPair pair) (λ x is. record { source = is.source ∙ same.source; destination = is.destination ∙ same.destination })
           before (Any-HasPair before m (rw (← whole, ← place, take-append_seam before (m ∷ xs)) at has)));
       included = λ by. included (rw same.source at by);
     }

@@ -1,10 +1,9 @@
 -- Items without some that have the name of an earlier one: a matcher's hits among them make what its hits among all make.
-use Rattle.gix_refspec_match.proofs.lemmas.hits.{HitLemmas.{matched_word, blank, made_each, of_hits, far_filled, matches_as, takes_in, taken_first, taken_matches}, GroupLemmas.FindsEnough}
-use Rattle.gix_refspec_match.proofs.lemmas.{index.FirstPlacesLemmas.has_last, keep.KeptLemmas.{HasPair-left, HasPair-last, pair_alike, thins_all, thins_behind}, lists.ListsLemmas.cut}
-use Rattle.gix_refspec_match.proofs.Common.{List, [], ◌∷◌, None, Some, refl, ◌≡◌, ℕ, ◌++◌, sym, ◌∙◌, arith, inl, inr, subst, ap, append-nil, ◌<◌, length, map, drop, ◌+◌, get_or, append_assoc, ◌⊎◌, ◌↔◌}
-use Rattle.gix_refspec_match.proofs.Common.{zero, suc, length-append, slice_get, get_or-append_seam, slice_get-get_or, all_weaker, kind_of_side, Ref, HasName, object, partial, SideKind, Reading}
-use Rattle.gix_refspec_match.proofs.Common.{IsMadeFrom, IsPartBehind, IsPart, Ends, IsHit, Mapped, IsSamePair, HasPair, mapping_of, Thins, hit_of, hit_by, AreFound, turned, hit_at, IsFound, HaveKinds}
-use Rattle.gix_refspec_match.proofs.Common.{TakesIn, filled_side, IsFirstIn, IsTaken, DeclaredHit, Candidates, First, Matcher}
+use Rattle.gix_refspec_match.proofs.Common.{List, [], ◌∷◌, None, Some, refl, ◌≡◌, ℕ, ◌++◌, sym, ◌∙◌, arith, inl, inr, subst, ap, append-nil, ◌<◌, length, map, drop, ◌+◌, get_or, append_assoc, ◌⊎◌, ◌↔◌, zero, suc}
+use Rattle.gix_refspec_match.proofs.Common.{length-append, slice_get, get_or-append_seam, slice_get-get_or, all_weaker, kind_of_side, Ref, HasName, object, partial, SideKind, Reading, IsMadeFrom, IsPartBehind}
+use Rattle.gix_refspec_match.proofs.Common.{IsPart, Ends, IsHit, Mapped, IsSamePair, HasPair, mapping_of, Thins, hit_of, hit_by, AreFound, turned, hit_at, IsFound, HaveKinds, TakesIn, filled_side, IsFirstIn, IsTaken}
+use Rattle.gix_refspec_match.proofs.{Common.{DeclaredHit, Candidates, First, Matcher}, lemmas.hits.HitLemmas.{matched_word, blank, made_each, of_hits, far_filled, matches_as, takes_in, taken_first, taken_matches}}
+use Rattle.gix_refspec_match.proofs.lemmas.{hits.GroupLemmas.FindsEnough, index.FirstPlacesLemmas.has_last, keep.KeptLemmas.{HasPair-left, HasPair-last, pair_alike, thins_all, thins_behind}, lists.ListsLemmas.cut}
 
 hit_seen : (ms : List Matcher) (items : List Ref) (k i : ℕ) (m : Matcher) (d : Ref) → slice_get ms k ≡ Some m → i < length items → hit_of ms items (hit_at k i) ≡ hit_by m i (get_or items i d)
 hit_seen ms items k i m d is below = let there = slice_get-get_or items i d below in cc
@@ -21,16 +20,9 @@ found_hits which ms items ends k m found at have are =
           let far = ap (filled_side m.other) (sym (matched_word kind r word matches)) in
           let seen : hit_of ms items h ≡ hit_by m i r = ap (hit_of ms items) of.1 ∙ hit_seen ms items k i m d at below in
           rw seen (search (takes_in which items ends.near kind r word have.near matches of.0.first, far_filled ends.far m.other word (hit_by m i r).far have.far far))),
-      (λ hit here. (
-        hit_at k i,
-        (
-          record {
-            matched = (here.word, matches_as ends.near kind r here.word have.near (taken_matches which items ends.near r here.word here.takes));
-            first = taken_first which items ends.near kind r here.word have.near here.takes;
-          },
-          refl,
-        ),
-      )),
+      (λ hit here.
+          let matched = matches_as ends.near kind r here.word have.near (taken_matches which items ends.near r here.word here.takes) in
+          (hit_at k i, (record { matched = (here.word, matched); first = taken_first which items ends.near kind r here.word have.near here.takes }, refl))),
     )) are
 
 abbrev SameNames : List Ref → List Ref → Type 0
@@ -113,9 +105,8 @@ module _ (g : List Reading) (which : Candidates) (ms : List Matcher) (all : List
     settled_next : (made : List Mapped) (before refs : List Ref) (r : Ref) → all ≡ before ++ (r ∷ refs) → Takes r.name → EachName (Settled made) before → EachName (Settled (made ++ makes (here before ∷ []))) (before ++ r ∷ [])
     settled_next made before refs r whole of known =
         let new = mapping_of which (hit_of ms all (here before)) in
-        let pair : IsSamePair new (mapping_of which (hit_by m 0 (ref_named r.name))) = rw (here_is before refs r whole) (same_pair which m (length before) 0 r) in
         each_next (Settled (made ++ new ∷ [])) before r (λ n has. elim (known n has) [ inl (t, there) ↦ inl (t, HasPair-left made (new ∷ []) _ there) | inr none ↦ inr none ])
-        (inl (of, HasPair-last made new _ pair))
+        (inl (of, HasPair-last made new _ (rw (here_is before refs r whole) (same_pair which m (length before) 0 r))))
 
     -- the hits on all refs from some on, and what the hits on the part make is most of what they make
     abbrev Finds : List Ref → List Ref → List Mapped → List DeclaredHit → Type 0
@@ -142,8 +133,7 @@ module _ (g : List Reading) (which : Candidates) (ms : List Matcher) (all : List
               let taken = of_part.0 of.0 in
               let (hits, among_all, thins) = finds_from (before ++ r ∷ []) refs others (i + 1) (made ++ makes (here before ∷ [])) rest_found next later (settled_next made before refs r whole taken known) more_found in
               let turned_found = map (turned places) rest_found in
-              let turns : makes (map (turned places) found) ≡ makes (here before ∷ turned_found) = rw (same, of.1, read) refl in
-              (here before ∷ hits, found_next before refs r hits taken among_all, inl (makes turned_found, turns, thins))
+              (here before ∷ hits, found_next before refs r hits taken among_all, inl (makes turned_found, (rw (same, of.1, read) refl), thins))
         ]
     finds_from before (r ∷ refs) rest i made found whole (inr (repeats, more)) known are =
         let next = whole ∙ sym (append_assoc before (r ∷ []) refs) in

@@ -1,7 +1,6 @@
 -- Lists that are made from lists.
 use Rattle.std.proofs.Common.{List, [], ◌∷◌, Some, refl, ◌≡◌, ℕ, ◌++◌, Option, sym, ◌∙◌, arith, ap, ◌<◌, length, map, take, drop, ◌+◌, get_or, option_map, ◌≤◌, suc, option_to_list, add-zero, length-drop}
-use Rattle.std.{proofs.lemmas.List.{drop_more, length-take-le, take_more, drop-set-lt, length-set, take-set, take-set-le}, proofs.lemmas.Option.slice_get-get_or, specs.List.{AllByRecursion, SwappedAt}}
-use Rattle.std.specs.List.{slice_get}
+use Rattle.std.{proofs.lemmas.List.{drop_more, length-take-le, take_more, drop-set-lt, length-set, take-set, take-set-le}, proofs.lemmas.Option.slice_get-get_or, specs.List.{AllByRecursion, SwappedAt, slice_get}}
 use Rattle.gix_refspec_text.proofs.lemmas.lists.AllLemmas.{all_join}
 use Rattle.gix_refspec_match.{specs.Matching.Lists.{MakesOf, IsMadeFrom, IsJoinedFrom}, proofs.lemmas.lists.JoinLemmas.made_next}
 
@@ -14,16 +13,14 @@ same_made R one k x a b is_a is_b = grind (arith, is_a, is_b, one k x)
 
 pub made_once : {X Y : Type 0} (R : ℕ → X → Y → Type 0) → ((k : ℕ) (x : X) (y z : Y) → R k x y → R k x z → y ≡ z) → (k : ℕ) (xs : List X) (ys zs : List Y) → IsMadeFrom R k xs ys → IsMadeFrom R k xs zs → ys ≡ zs
 made_once R one k [] ys zs empty also = empty ∙ sym also
-made_once R one k (x ∷ xs) ys zs (a, rest, of, more, is) (b, rest2, of2, more2, is2) =
-    cc (same_made R one k x a b of of2, made_once R one (k + 1) xs rest rest2 more more2)
+made_once R one k (x ∷ xs) ys zs (a, rest, of, more, is) (b, rest2, of2, more2, is2) = cc (same_made R one k x a b of of2, made_once R one (k + 1) xs rest rest2 more more2)
 
 pub made_map : {X Y U V : Type 0} (f : X → U) (h : Y → V) (R : ℕ → X → Y → Type 0) (S : ℕ → U → V → Type 0) (k : ℕ) (xs : List X) (ys : List Y) → ((i : ℕ) (d : X) → i < length xs → (made : Option Y) → MakesOf R (k + i) (get_or xs i d) made → MakesOf S (k + i) (f (get_or xs i d)) (option_map h made)) → IsMadeFrom R k xs ys → IsMadeFrom S k (map f xs) (map h ys)
 made_map f h R S k [] ys each empty = ap (map h) empty
 made_map f h R S k (x ∷ xs) ys each (made, rest, of, more, is) =
     let others = made_map f h R S (k + 1) xs rest (λ i d below m makes.
     let place : k + suc i ≡ k + 1 + i = omega arith in rw place at (each (suc i) d (omega arith) m (rw place makes))) more in
-    let joined : map h (option_to_list made ++ rest) ≡ option_to_list (option_map h made) ++ map h rest = grind arith in
-    (option_map h made, map h rest, rw add-zero at (each 0 x (omega arith) made (rw add-zero of)), others, ap (map h) is ∙ joined)
+    (option_map h made, map h rest, rw add-zero at (each 0 x (omega arith) made (rw add-zero of)), others, ap (map h) is ∙ (grind arith))
 
 pub cut : {X : Type 0} (xs rest : List X) (i : ℕ) (d x : X) → drop i xs ≡ x ∷ rest → (get_or xs i d ≡ x) × (take (i + 1) xs ≡ take i xs ++ x ∷ []) × (drop (i + 1) xs ≡ rest)
 cut xs rest i d x is =
@@ -42,8 +39,7 @@ pub each_made : {X Y : Type 0} (R : ℕ → X → Y → Type 0) (P : Y → Type 
 each_made R P all each k [] ys left none = rw none tt
 each_made {X} {Y} R P all each k (x ∷ xs) ys left (made, rest, of, more, is) =
     let (here, next) = cut_next all k x xs left in
-    let first : AllByRecursion P (option_to_list made) = grind (arith, of, each k x, here) in
-    rw is (all_join P (option_to_list made) rest first (each_made R P all each (k + 1) xs rest next more))
+    rw is (all_join P (option_to_list made) rest (grind (arith, of, each k x, here)) (each_made R P all each (k + 1) xs rest next more))
 
 -- what holds of the lists that are made of one element after another holds of the list that joins them
 pub joined_all : {X Y : Type 0} (R : ℕ → X → List Y → Type 0) (Q : ℕ → List X → List Y → Type 0) (all : List X) → ((k : ℕ) → Q k [] [])
@@ -68,12 +64,11 @@ kept_more R xs now new k m i x made below (_, long, same, so_far) here makes lea
     (least, size ∙ long, cc, rw (take_more xs i x also, is, front) (made_next R i (take i xs) x (take k now) made (length-take-le i xs (omega arith)) so_far makes))
 
 -- and here it is kept, and goes to the front
-pub remains_more : {X : Type 0} (R : ℕ → X → X → Type 0) (xs now new : List X) (k i : ℕ) (x : X) → i < length now → KeptSoFar R xs now k i → x ≡ get_or now i x → SwappedAt now new k i → R i x x → KeptSoFar R xs new (k + 1) (i + 1)
+pub remains_more : {X : Type 0} (R : ℕ → X → X → Type 0) (xs now new : List X) (k i : ℕ) (x : X) → i < length now → KeptSoFar R xs now k i → x ≡ get_or now i x → SwappedAt now new k i → R i x x
+    → KeptSoFar R xs new (k + 1) (i + 1)
 remains_more R xs now new k i x below so_far here swapped stays =
     let is = swapped.3 x in
-    let front : k ≤ i = so_far.0 in
     let size : length new ≡ length now = ap length is ∙ simp length-set in
-    let before : take k new ≡ take k now = ap (take k) is ∙ take-set-le k _ i _ front ∙ take-set now k _ in
+    let before : take k new ≡ take k now = ap (take k) is ∙ take-set-le k _ i _ so_far.0 ∙ take-set now k _ in
     let back = ap (drop (i + 1)) is ∙ drop-set-lt (i + 1) _ i _ (omega arith) ∙ drop-set-lt (i + 1) now k _ (omega arith) in
-    let moved : take (k + 1) new ≡ take k now ++ x ∷ [] = rw (take_more new k x (omega (arith, size)), before, swapped.0 x, ← here) refl in
-    kept_more R xs now new k (k + 1) i x (Some x) below so_far here stays (omega arith) size moved back
+    kept_more R xs now new k (k + 1) i x (Some x) below so_far here stays (omega arith) size (rw (take_more new k x (omega (arith, size)), before, swapped.0 x, ← here) refl) back

@@ -1,5 +1,4 @@
-use Rattle.gix_refspec_match.proofs.Common.{codes, ◌≡◌, true, ◌∙◌, arith, inl, inr, subst, length, rules, ◌⊎◌, ◌≤◌, nat_tests, all_weaker, one_more_mapped, HasTail, short_tail_number, name_bytes}
-use Rattle.gix_refspec_match.proofs.Common.{ShortTails}
+use Rattle.gix_refspec_match.proofs.Common.{codes, ◌≡◌, true, ◌∙◌, arith, inl, inr, subst, length, rules, ◌⊎◌, ◌≤◌, nat_tests, all_weaker, one_more_mapped, HasTail, short_tail_number, name_bytes, ShortTails}
 use Rattle.gix_refspec_match.proofs.bloom.ShortTails.of.Goals as goal
 
 pub loop-name-preserved : goal.loop-name-preserved

@@ -1,5 +1,5 @@
-use Rattle.gix_refspec_match.proofs.Common.{ℕ, Option, is_some, ap, sym, ◌∙◌, false≢true, nil_from_length, lookup, bytes_eq, Key, None, ◌≡◌, arith, inl, inr, take_all, common_steps, All-more}
-use Rattle.gix_refspec_match.proofs.Common.{MatchOption-at_none, FitsName}
+use Rattle.gix_refspec_match.proofs.Common.{None, ◌≡◌, ℕ, Option, is_some, ap, sym, ◌∙◌, false≢true, nil_from_length, lookup, bytes_eq, Key, arith, inl, inr, take_all, common_steps, All-more, MatchOption-at_none}
+use Rattle.gix_refspec_match.proofs.Common.{FitsName}
 use Rattle.gix_refspec_match.proofs.exclusions.Exclusions.spec_of.Goals as goal
 
 pub loop-pattern-preserved : goal.loop-pattern-preserved

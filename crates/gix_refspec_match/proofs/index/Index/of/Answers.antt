@@ -1,6 +1,5 @@
 -- What is listed of the slices is listed of the names, and without names there is nothing to list.
-use Rattle.gix_refspec_match.proofs.Common.{List, [], None, ◌≡◌, ℕ, sym, ◌∙◌, arith, ap, length, map, Vec, bytes_eq, HashMap, eqb-true, nil_from_length, IsEmpty, lookup, vec_len, list_of, name_bytes, Key}
-use Rattle.gix_refspec_match.proofs.Common.{NameRef}
+use Rattle.gix_refspec_match.proofs.Common.{List, [], None, ◌≡◌, ℕ, sym, ◌∙◌, arith, ap, length, map, Vec, bytes_eq, HashMap, eqb-true, nil_from_length, IsEmpty, lookup, vec_len, list_of, name_bytes, Key, NameRef}
 use Rattle.gix_refspec_match.proofs.index.Index.of.Goals as goal
 
 unnamed : (names : Vec NameRef) → vec_len names ≡ 0 → map name_bytes names.items ≡ []

@@ -1,5 +1,5 @@
-use Rattle.gix_refspec_match.proofs.Common.{List, [], ◌∷◌, ◌≡◌, ℕ, ◌++◌, ◌∙◌, ap, map, take, get_or, rules, Vec, take_more, map_push, Contains-append_left, Contains-push, Contains, all_weaker, all_join}
-use Rattle.gix_refspec_match.proofs.{Common.{kind_of_side, full_name, partial, SideKind, HasNamesOf, name_bytes, Names, NameRef}, lemmas.hits.MatcherLemmas.blank_matcher}
+use Rattle.gix_refspec_match.proofs.Common.{List, [], ◌∷◌, ◌≡◌, ℕ, ◌++◌, ◌∙◌, ap, map, take, get_or, rules, Vec, take_more, map_push, Contains-append_left, Contains-push, Contains, all_weaker, all_join, kind_of_side}
+use Rattle.gix_refspec_match.proofs.{Common.{full_name, partial, SideKind, HasNamesOf, name_bytes, Names, NameRef}, lemmas.hits.MatcherLemmas.blank_matcher}
 use Rattle.gix_refspec_match.proofs.index.Names.of.Goals as goal
 
 still_named : (old new : Names) → ((x : List ℕ) → Contains (map name_bytes old.full.items) x → Contains (map name_bytes new.full.items) x)

@@ -1,5 +1,4 @@
-use Rattle.gix_refspec_match.proofs.{Common.{arith, take_all, rules}, lemmas.hits.MatcherLemmas.{backward_matcher, backward_unmatched, equal_from_duplicates, flagged_matcher, no_matcher, spec_joined}}
-use Rattle.gix_refspec_match.proofs.lemmas.hits.MatcherLemmas.{spec_skipped}
+use Rattle.gix_refspec_match.proofs.{Common.{arith, take_all, rules}, lemmas.hits.MatcherLemmas.{backward_matcher, backward_unmatched, equal_from_duplicates, flagged_matcher, no_matcher, spec_joined, spec_skipped}}
 use Rattle.gix_refspec_match.proofs.matcher.Matchers.backward.Goals as goal
 
 pub loop-spec_index-preserved-in_default : goal.loop-spec_index-preserved-in_default

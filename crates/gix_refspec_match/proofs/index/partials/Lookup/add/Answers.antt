@@ -16,6 +16,5 @@ returns-in-First c =
 
 pub returns-in_ok-push-in-All : goal.returns-in_ok-push-in-All
 returns-in_ok-push-in-All c =
-    let list = c.push.new.self in
-    let updates = (c.get_mut.follows.holds list).3 (rw (← c.in-Some.ensures.value) refl) in
-    adds_one list (sym c.in-Some.ensures.value) (rw c.in-All.is c.in_ok-push-in-All.ensures.items) (λ q. updates.0 (record { name = record c.args.partial { now = q } }))
+    let updates = (c.get_mut.follows.holds c.push.new.self).3 (rw (← c.in-Some.ensures.value) refl) in
+    adds_one c.push.new.self (sym c.in-Some.ensures.value) (rw c.in-All.is c.in_ok-push-in-All.ensures.items) (λ q. updates.0 (record { name = record c.args.partial { now = q } }))

@@ -19,5 +19,4 @@ pub returns : goal.returns
 returns c =
     on_ok_weaker c.add-4.result (λ last. adds_candidates c.in_ok-add.ensures (adds_below c.in-Some.ensures c.in_ok-add-2.ensures
     (adds_only _ c.in-Some-below_place.ensures (λ x. one_place _ _ x c.in-Some-below_place.ensures) c.in_ok-add-3.ensures)
-    (adds_only _ c.in-Some-remote_of_head.ensures (λ x. one_word (codes "remotes/") (codes "/HEAD") _ _ x c.in-Some-remote_of_head.ensures) last)))
-    c.add-4.ensures
+    (adds_only _ c.in-Some-remote_of_head.ensures (λ x. one_word (codes "remotes/") (codes "/HEAD") _ _ x c.in-Some-remote_of_head.ensures) last))) c.add-4.ensures
