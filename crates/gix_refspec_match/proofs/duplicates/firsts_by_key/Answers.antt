@@ -1,9 +1,9 @@
 -- the index of a key that doesn't begin its run becomes that of the first one
-use Rattle.gix_refspec_match.proofs.{Common.{[], ◌≡◌, sym, ◌∙◌, arith, nil_from_length}, lemmas.duplicates.HashKeyLemmas.{all_first, run_begins, run_goes_on}}
+use Rattle.gix_refspec_match.proofs.{Common.{rules, arith, [], ◌≡◌, sym, ◌∙◌, nil_from_length}, lemmas.duplicates.HashKeyLemmas.{all_first, run_begins, run_goes_on}}
 use Rattle.gix_refspec_match.proofs.duplicates.firsts_by_key.Goals as goal
 
 pub loop-at-preserved-then-upper_bits : goal.loop-at-preserved-then-upper_bits
-loop-at-preserved-then-upper_bits c = run_begins c.loop-at.invariant (λ same. c.if-upper_bits.true (c.upper_bits.ensures ∙ same ∙ sym c.upper_bits-in-loop-at.ensures))
+loop-at-preserved-then-upper_bits c = search (rules, run_begins, c.loop-at.invariant, c.if-upper_bits.true, c.upper_bits.ensures, c.upper_bits-in-loop-at.ensures)
 
 pub loop-at-preserved : goal.loop-at-preserved
 loop-at-preserved c =

@@ -1,4 +1,4 @@
-use Rattle.gix_refspec_match.proofs.{Common.{[], refl, map, take_all, ref_of, First, All}, lemmas.index.FirstPlacesLemmas.{AreFound, found_taken}, lemmas.index.PartialLemmas.{adds_nothing, partials_more}}
+use Rattle.gix_refspec_match.proofs.{Common.{rules, [], refl, map, take_all, ref_of, First, All}, lemmas.index.FirstPlacesLemmas.{AreFound, found_taken}, lemmas.index.PartialLemmas.{adds_nothing, partials_more}}
 use Rattle.gix_refspec_match.proofs.index.partials.places_of_partials.Goals as goal
 
 pub loop-place-init : goal.loop-place-init
@@ -12,7 +12,7 @@ loop-place-preserved c = partials_more _ c.loop-place-test.true c.as_bytes-name.
 
 pub loop-place-preserved-then-not-may_have : goal.loop-place-preserved-then-not-may_have
 loop-place-preserved-then-not-may_have c =
-    partials_more _ c.loop-place-test.true c.as_bytes-name.ensures c.in_ok-tails.ensures.all (adds_nothing (λ x w has was. c.may_have.ensures c.if-not-may_have.true x has)) c.loop-place.invariant
+    search (rules, partials_more, adds_nothing, c.loop-place-test.true, c.as_bytes-name.ensures, c.in_ok-tails.ensures.all, c.may_have.ensures, c.if-not-may_have.true, c.loop-place.invariant)
 
 pub returns : goal.returns
 returns c x there = let (v, is, found) = c.loop-place.invariant.each x there in
