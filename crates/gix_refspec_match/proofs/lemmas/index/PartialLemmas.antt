@@ -1,8 +1,8 @@
 -- An item's place is added for the partial names that may stand for its name.
-use Rattle.gix_refspec_match.proofs.Common.{List, [], Some, codes, refl, ◌≡◌, ℕ, ◌++◌, Option, ◌∙◌, arith, inl, inr, ap, ◌<◌, length, map, take, drop, ◌+◌, get_or, rules, ◌⊎◌, ◌≤◌, length-append, map_more}
-use Rattle.gix_refspec_match.proofs.Common.{slice_get-map, slice_get-get_or, AllByRecursion, Contains, Ref, Fits, IsCandidate, Joins, name_at, AddsWhere, IsBelowPlace, ref_of, Candidates, Item, Vec, false}
-use Rattle.gix_refspec_match.proofs.{Common.{drop-append-add, le-ltb, HasNumber, AreWholeTails, HasTail, short_tail_number, ShortTails}, lemmas.hits.HitLemmas.{candidate_at, candidate_cases}}
-use Rattle.gix_refspec_match.proofs.lemmas.{index.FirstPlacesLemmas.{AreFound, found_next}, index.IndexLemmas.{Puts, put_cases, all_at}, lists.JoinLemmas.map_long}
+use Rattle.gix_refspec_match.proofs.Common.{List, Some, codes, refl, ◌≡◌, ℕ, ◌++◌, Option, ◌∙◌, arith, inl, inr, ap, ◌<◌, length, map, take, drop, ◌+◌, get_or, rules, ◌⊎◌, ◌≤◌, length-append, map_more, slice_get-map}
+use Rattle.gix_refspec_match.proofs.Common.{slice_get-get_or, AllByRecursion, Contains, Ref, Fits, IsCandidate, Joins, name_at, AddsWhere, IsBelowPlace, ref_of, Candidates, Item, Vec, false, drop-append-add, le-ltb}
+use Rattle.gix_refspec_match.proofs.{Common.{HasNumber, AreWholeTails, HasTail, short_tail_number, ShortTails}, lemmas.hits.HitLemmas.{candidate_at, candidate_cases}, lemmas.index.FirstPlacesLemmas.AreFound}
+use Rattle.gix_refspec_match.proofs.lemmas.{index.FirstPlacesLemmas.found_next, index.IndexLemmas.{Puts, put_cases, all_at}, lists.JoinLemmas.map_long}
 
 pub adds_nothing : {Known P : List ℕ → Type 0} {R : List ℕ → List ℕ → Type 0} {listed : List ℕ → Option (Vec ℕ)}
     → ((x : List ℕ) (w : Vec ℕ) → Known x → listed x ≡ Some w → ¬ (P x)) → AddsWhere Known P R listed listed

@@ -64,10 +64,9 @@ both_sound ms items hits first later k is_first is_later sound =
 finds_enough : (g : List Reading) (ms : Matchers) (items : List Ref) (hits : List DeclaredHit) → AreHitsAmong ms items hits
     → FindEnough g ms.candidates items 0 ms.list.items (of_hits ms.candidates (map (hit_of ms.list.items items) hits))
 finds_enough g ms items hits (inl are) =
-    let list = ms.list.items in
-    let makes : List DeclaredHit → List Mapped = λ some. of_hits ms.candidates (map (hit_of list items) some) in
-    joined_all _ (λ k xs some. FindEnough g ms.candidates items k xs (makes some)) list (λ k. refl)
-    (λ k m xs made rest at found more. (makes made, makes rest, all_enough g ms.candidates list items k m made at found, more, simp map-append)) 0 list hits refl are
+    let makes : List DeclaredHit → List Mapped = λ some. of_hits ms.candidates (map (hit_of ms.list.items items) some) in
+    joined_all _ (λ k xs some. FindEnough g ms.candidates items k xs (makes some)) ms.list.items (λ k. refl)
+    (λ k m xs made rest at found more. (makes made, makes rest, all_enough g ms.candidates ms.list.items items k m made at found, more, simp map-append)) 0 ms.list.items hits refl are
 finds_enough g ms items hits (inr once) =
     let list = ms.list.items in
     let makes : List DeclaredHit → List Mapped = λ some. of_hits ms.candidates (map (hit_of list items) (map (turned once.indexes) some)) in
@@ -108,8 +107,7 @@ kept_hits g which items ms os hits es list kept matchers among are adds is =
     let views = map (hit_of ms.list.items items) hits in
     let enough = subst (λ (c : Candidates). FindEnough g c items 0 ms.list.items (of_hits c views)) matchers.candidates (finds_enough g ms items hits among) in
     let (whole, whole_are, most) = most_from g which items matchers.flags [] g 0 ms.list.items [] (of_hits which views) matchers.equal matchers.made enough ([], refl, refl) in
-    let included = each_made (IsMappedHit which es ms.list.items items) _ hits (λ k h m at of taken. of.1 ((starts_agree g es m.source are).1 taken))
-    0 hits adds.made refl adds.are in
+    let included = each_made (IsMappedHit which es ms.list.items items) _ hits (λ k h m at of taken. of.1 ((starts_agree g es m.source are).1 taken)) 0 hits adds.made refl adds.are in
     let of_made = kept_included g _ kept (ids_included g os adds.made included) (rw adds.all at is) in
     let of_some = kept_thinned g (ids ++ of_hits which views) _ kept (thins_after g ids _ _ (mapped_thins g which es ms.list.items items 0 hits adds.made [] are adds.are)) of_made in
     (whole, whole_are, kept_thinned g _ _ kept (thins_after g ids _ _ most) of_some)

@@ -25,8 +25,7 @@ pattern_excludes r x before after accepted negative source starred lacks n = (
 )
   where
     last : Lacks star after
-    last = Lacks-from_absent star after (λ more. accepted_few r x accepted (inl source)
-        (record { before = before; between = more.before; after = more.after; here = rw more.here at starred }))
+    last = Lacks-from_absent star after (λ more. accepted_few r x accepted (inl source) (record { before = before; between = more.before; after = more.after; here = rw more.here at starred }))
 
 pub exclusions_more : (g : List Reading) (r : Reading) (n : List ℕ) (Old New : Type 0) → Old ↔ IsExcluded g n → New ↔ (Old ⊎ IsExcludedBy n r) → New ↔ IsExcluded (g ++ r ∷ []) n
 exclusions_more [] r n Old New before added = grind (arith, before, added)

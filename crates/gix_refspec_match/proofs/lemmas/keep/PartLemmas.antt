@@ -132,8 +132,7 @@ module _ (g : List Reading) (which : Candidates) (ms : List Matcher) (all : List
           | inl (h, rest_found, of, same, more_found) ↦
               let taken = of_part.0 of.0 in
               let (hits, among_all, thins) = finds_from (before ++ r ∷ []) refs others (i + 1) (made ++ makes (here before ∷ [])) rest_found next later (settled_next made before refs r whole taken known) more_found in
-              let turned_found = map (turned places) rest_found in
-              (here before ∷ hits, found_next before refs r hits taken among_all, inl (makes turned_found, (rw (same, of.1, read) refl), thins))
+              (here before ∷ hits, found_next before refs r hits taken among_all, inl (makes (map (turned places) rest_found), (rw (same, of.1, read) refl), thins))
         ]
     finds_from before (r ∷ refs) rest i made found whole (inr (repeats, more)) known are =
         let next = whole ∙ sym (append_assoc before (r ∷ []) refs) in

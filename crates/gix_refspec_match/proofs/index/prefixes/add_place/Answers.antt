@@ -3,8 +3,7 @@ use Rattle.gix_refspec_match.proofs.{Common.{length-append, refl, false, sym, ar
 use Rattle.gix_refspec_match.proofs.index.prefixes.add_place.Goals as goal
 
 pub returns-then-name-len : goal.returns-then-name-len
-returns-then-name-len c = adds_all c.loop-len.len c.args.name.now _ _ _
-    (λ prefix w was begins long. omega (arith, ap length begins.here, length-append prefix begins.after)) c.loop-len.invariant
+returns-then-name-len c = adds_all c.loop-len.len c.args.name.now _ _ _ (λ prefix w was begins long. omega (arith, ap length begins.here, length-append prefix begins.after)) c.loop-len.invariant
 
 pub loop-len-init : goal.loop-len-init
 loop-len-init c = λ prefix v is. (v, is, inr ((λ below. omega (arith, below.0)), refl))

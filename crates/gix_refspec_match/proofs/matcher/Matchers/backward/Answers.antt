@@ -11,8 +11,7 @@ pub loop-spec_index-preserved : goal.loop-spec_index-preserved
 loop-spec_index-preserved c =
     let told = rw c.as_slice.ensures.value at c.is_flagged.ensures in
     elim c.if-not-is_flagged.branch [
-      | goal.then-not-is_flagged+in_ok-push w ↦ rw w.list-is
-          (search (rules, spec_joined, backward_matcher, told, c.in-Some.ensures, c.in-Some-destination.is, w.in_ok-push.ensures.items))
+      | goal.then-not-is_flagged+in_ok-push w ↦ rw w.list-is (search (rules, spec_joined, backward_matcher, told, c.in-Some.ensures, c.in-Some-destination.is, w.in_ok-push.ensures.items))
       | goal.else-not-is_flagged w ↦ rw w.list-is (search (rules, spec_skipped, flagged_matcher, told, c.in-Some.ensures))
     ]
 

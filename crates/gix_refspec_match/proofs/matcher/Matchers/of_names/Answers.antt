@@ -13,8 +13,7 @@ loop-spec_index-preserved-in_default c =
 
 pub loop-spec_index-preserved : goal.loop-spec_index-preserved
 loop-spec_index-preserved c = elim c.match-sides.branch [
-  | goal.in-FullName+in_ok-push w ↦ rw w.list-is
-      (made_more IsNamed reading_of _ _ c.index-specs-spec_index.result _ _ (Some _) c.loop-spec_index-test.true c.loop-spec_index.invariant
+  | goal.in-FullName+in_ok-push w ↦ rw w.list-is (made_more IsNamed reading_of _ _ c.index-specs-spec_index.result _ _ (Some _) c.loop-spec_index-test.true c.loop-spec_index.invariant
       (rw (← c.index-specs-spec_index.is) (named_here _ _ c.in-Some.sides c.in-Some.ensures (elim w.in-FullName.is [ inl p ↦ rw p.1 tt | inr p ↦ rw p.1 tt ]))) w.in_ok-push.ensures.items)
   | goal.in_default-source w ↦ rw w.list-is (made_more IsNamed reading_of _ _ c.index-specs-spec_index.result _ _ None c.loop-spec_index-test.true c.loop-spec_index.invariant
       (rw (← c.index-specs-spec_index.is) (other_here _ _ c.in-Some.sides c.in-Some.ensures (no_name _ w.in_default-source.not-FullName w.in_default-source.not-Partial))) (sym (append-nil _)))
