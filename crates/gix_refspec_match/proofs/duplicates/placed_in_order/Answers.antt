@@ -1,4 +1,8 @@
-use Rattle.gix_refspec_match.proofs.{Common.{arith, rules, always_returns_same, ranks_by, is_lt, placed_order}, lemmas.duplicates.OrderedLemmas.{placed_permuted, placed_total}}
+use Rattle.gix_refspec_match.proofs.{Common.{refl, get_or_read, arith, rules, always_returns_same, ranks_by, is_lt, placed_order}, lemmas.duplicates.OrderedLemmas.{numbered_more, placed_permuted, placed_total}}
+
+pub loop-index-preserved : Rattle.gix_refspec_match.proofs.duplicates.placed_in_order.Goals.loop-index-preserved
+loop-index-preserved g c = rw c.in_ok-push.ensures.items
+    (numbered_more c.loop-index.invariant _ refl (record { inside = omega arith; is = get_or_read _ c.loop-index.index c.index-elements-index.result (omega arith) c.index-elements-index.is }))
 
 pub returns : Rattle.gix_refspec_match.proofs.duplicates.placed_in_order.Goals.returns
 returns g c = record {
