@@ -1,5 +1,4 @@
 -- Lemmas on elements that equal earlier ones.
 pub mod HashKeyLemmas
 pub mod FlagLemmas
-pub mod FirstLemmas
 pub mod OrderedLemmas

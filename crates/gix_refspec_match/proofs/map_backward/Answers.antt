@@ -1,5 +1,5 @@
-use Rattle.gix_refspec_match.proofs.Common.{refl, sym, ◌∙◌, arith, subst, ap, take_all, option_map, false≢true, ExcludeName, filled_side, name_bytes, All}
-use Rattle.gix_refspec_match.proofs.lemmas.keep.{ExclusionLemmas.told_by_some, FillLemmas.excluded_next, FillLemmas.included_next}
+use Rattle.gix_refspec_match.proofs.{Common.{refl, sym, ◌∙◌, subst, ap, option_map, false≢true, ExcludeName, filled_side, name_bytes, All}, lemmas.keep.ExclusionLemmas.told_by_some}
+use Rattle.gix_refspec_match.proofs.lemmas.keep.EngineLemmas.{excluded_next, included_next}
 use Rattle.gix_refspec_match.proofs.map_backward.Goals as goal
 
 pub loop-hit-preserved-then-is_some : goal.loop-hit-preserved-then-is_some
@@ -13,6 +13,3 @@ loop-hit-preserved c =
     included_next All _ _ _ _ _ _ _ _ _ _ _ (rw (← c.deref-hit-items.ensures.value) at c.requires.sound) c.loop-hit-test.true c.loop-hit.invariant
     (ap (option_map name_bytes) (sym c.in-Some.is) ∙ c.in_ok-source.ensures ∙ ap (filled_side _) c.word_in.ensures) _ _ c.in_ok-push.ensures.items refl
     (λ taken. false≢true (sym c.if-is_some.false ∙ (told_by_some c.args.exclusions.now c.as_bytes.result.now c.spec_of.result c.is_some.result c.spec_of.ensures c.is_some.ensures).1 (rw (c.as_bytes.ensures, c.as_bstr.ensures) taken)))
-
-pub returns : goal.returns
-returns c = rw (take_all c.loop-hit.hit-index c.deref-hit-items.result.now (omega arith), c.deref-hit-items.ensures.value) at c.loop-hit.invariant

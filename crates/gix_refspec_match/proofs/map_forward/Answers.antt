@@ -1,5 +1,5 @@
-use Rattle.gix_refspec_match.proofs.Common.{refl, sym, ◌∙◌, arith, subst, ap, take_all, false≢true, All-from_recursion, hit_at, ExcludeName, filled_side, First}
-use Rattle.gix_refspec_match.proofs.lemmas.keep.{ExclusionLemmas.told_by_some, FillLemmas.excluded_next, FillLemmas.included_next}
+use Rattle.gix_refspec_match.proofs.{Common.{refl, sym, ◌∙◌, subst, ap, false≢true, All-from_recursion, hit_at, ExcludeName, filled_side, First}, lemmas.keep.ExclusionLemmas.told_by_some}
+use Rattle.gix_refspec_match.proofs.lemmas.keep.EngineLemmas.{excluded_next, included_next}
 use Rattle.gix_refspec_match.proofs.map_forward.Goals as goal
 
 pub loop-hit-preserved-then-is_some : goal.loop-hit-preserved-then-is_some
@@ -13,6 +13,3 @@ loop-hit-preserved c =
     included_next First _ _ _ _ _ _ _ _ _ _ _ (rw (← c.deref-hit-items.ensures.value) at c.requires) c.loop-hit-test.true c.loop-hit.invariant
     (c.in_ok-filled.ensures ∙ ap (filled_side _) c.word_in.ensures) _ _ c.in_ok-push.ensures.items refl
     (λ taken. false≢true (sym c.if-is_some.false ∙ (told_by_some c.args.exclusions.now c.as_bytes.result.now c.spec_of.result c.is_some.result c.spec_of.ensures c.is_some.ensures).1 (rw c.as_bytes.ensures taken)))
-
-pub returns : goal.returns
-returns c = rw (take_all c.loop-hit.hit-index c.deref-hit-items.result.now (omega arith), c.deref-hit-items.ensures.value) at c.loop-hit.invariant

@@ -1,6 +1,5 @@
-use Rattle.gix_refspec_match.proofs.Common.{None, Some, refl, sym, ◌∙◌, arith, append-nil, map, take_all, false≢true, all_weaker, kind_of_side, reading_of, IsMadeFrom, ref_of, All}
-use Rattle.gix_refspec_match.proofs.lemmas.hits.MissingLemmas.{IsLacking, all_missing, blank_matcher, lacking_next}
-use Rattle.gix_refspec_match.proofs.lemmas.index.PlacedLemmas.{named_listed}
+use Rattle.gix_refspec_match.proofs.{Common.{None, Some, refl, sym, ◌∙◌, arith, append-nil, map, take_all, false≢true, all_weaker, kind_of_side, reading_of, ref_of, All}, lemmas.hits.MatcherLemmas.missing_made}
+use Rattle.gix_refspec_match.proofs.lemmas.{hits.MatcherLemmas.{blank_matcher, lacking_next}, index.PlacedLemmas.named_listed}
 use Rattle.gix_refspec_match.proofs.missing_sources.Goals as goal
 
 pub loop-matcher-preserved : goal.loop-matcher-preserved
@@ -13,9 +12,7 @@ loop-matcher-preserved c = elim c.if-lacks.branch [
 
 pub returns : goal.returns
 returns c =
-    let ms = c.in_ok-named.named.list.items in
     let whole = rw (take_all c.loop-matcher.matcher-index c.deref-matcher-items.result.now (omega arith)) at c.loop-matcher.invariant in
-    let lacking : IsMadeFrom (IsLacking c.in_ok-index.index) 0 ms c.loop-matcher.missing.items = rw c.deref-matcher-items.ensures.value at whole in
-    all_missing c.in_ok-index.index (map ref_of c.args.items.now) (map reading_of c.args.specs.now) ms _
-    (all_weaker _ _ (λ m named. named_listed All (map ref_of c.args.items.now) c.in_ok-names.names c.in_ok-index.index c.in_ok-index.ensures (kind_of_side m.needle) named) ms c.in_ok-names.ensures)
-    c.in_ok-named.ensures lacking
+    missing_made c.in_ok-index.index (map ref_of c.args.items.now) 0 0 (map reading_of c.args.specs.now) _ _
+    (all_weaker _ _ (λ m named. named_listed All (map ref_of c.args.items.now) c.in_ok-names.names c.in_ok-index.index c.in_ok-index.ensures (kind_of_side m.needle) named) _ c.in_ok-names.ensures)
+    c.in_ok-named.ensures (rw c.deref-matcher-items.ensures.value at whole)

@@ -1,17 +1,4 @@
-use Rattle.gix_refspec_match.proofs.Common.{◌≡◌, sym, ◌∙◌, arith, ◌<◌, length, Decides-eqb, same_from_decides, FiltersInPlace-all, FiltersInPlace-more_no, FiltersInPlace-more_set, is_shared}
-use Rattle.gix_refspec_match.proofs.duplicates.keep_shared.Goals as goal
+use Rattle.gix_refspec_match.proofs.Common.{common_steps, arith, Decides-eqb, same_from_decides, FiltersInPlace-more_no, FiltersInPlace-more_set}
 
-pub loop-at-preserved : goal.loop-at-preserved
-loop-at-preserved c =
-    let kept = c.loop-at.invariant in
-    let read = c.index-key.ensures in
-    let below : c.loop-at.at < length c.loop-at.keys.items = omega (arith, kept.long) in
-    let told : c.has.result ≡ is_shared c.args.shared.now c.args.bits c.index-key.result.now =
-    same_from_decides _ _ (rw c.upper_bits.ensures at c.has.ensures) (Decides-eqb _ 1) in
-    elim c.if-has.branch [
-      | goal.then-has w ↦ rw (w.keys-is, w.kept-is) (FiltersInPlace-more_set kept below (sym told ∙ w.if-has.true) read)
-      | goal.else-has w ↦ rw (w.keys-is, w.kept-is) (FiltersInPlace-more_no kept below (sym told ∙ w.if-has.false) read)
-    ]
-
-pub returns : goal.returns
-returns c = c.truncate.ensures.items ∙ FiltersInPlace-all c.loop-at.invariant (omega (arith, c.loop-at.invariant.long))
+pub loop-at-preserved : Rattle.gix_refspec_match.proofs.duplicates.keep_shared.Goals.loop-at-preserved
+loop-at-preserved c = grind (arith, common_steps, same_from_decides, Decides-eqb, FiltersInPlace-more_set, FiltersInPlace-more_no, c.loop-at.invariant, c.index-key.ensures, c.upper_bits.ensures, c.has.ensures)

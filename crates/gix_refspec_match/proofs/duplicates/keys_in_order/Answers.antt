@@ -1,16 +1,10 @@
-use Rattle.gix_refspec_match.proofs.Common.{refl, arith, ◌<◌, length, map, ◌≤◌, ◌^◌, length-map, get_or-map}
-use Rattle.gix_refspec_match.proofs.lemmas.duplicates.HashKeyLemmas.{packed, sorted_keys, sorted_keys_rise}
+use Rattle.gix_refspec_match.proofs.{Common.{common_steps, arith, length, map, ◌≤◌, length-map, get_or-map}, lemmas.duplicates.HashKeyLemmas.{packed, sorted_keys, sorted_keys_rise}}
 use Rattle.gix_refspec_match.proofs.lemmas.duplicates.OrderedLemmas.{numbered_more}
 use Rattle.gix_refspec_match.proofs.duplicates.keys_in_order.Goals as goal
 
 pub loop-index-preserved : goal.loop-index-preserved
 loop-index-preserved g c =
-    let hash = g.T.Element.hash c.args.seed in
-    let xs = c.args.elements.now in
-    let read = get_or-map hash xs c.loop-index.index c.index-elements-index.result 0 c.loop-index-test.true in
-    let below : c.loop-index.index < 2 ^ c.args.bits = grind (arith, c.requires.fit, c.loop-index-test.true, c.in_ok-keys.ensures) in
-    let (bucket, index) = packed c.hash_by-hash.result c.loop-index.index c.args.bits _ c.hash_by-hash.type_inv below refl in
-    rw c.in_ok-push.ensures.items (numbered_more c.loop-index.invariant _ index (record { inside = omega (arith, length-map xs hash); upper = cc read }))
+    grind (arith, common_steps, get_or-map, packed, numbered_more, length-map, c.requires.fit, c.in_ok-keys.ensures, c.hash_by-hash.type_inv, c.in_ok-push.ensures.items, c.loop-index.invariant)
 
 pub returns : goal.returns
 returns g c =

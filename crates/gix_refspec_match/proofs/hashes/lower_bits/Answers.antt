@@ -1,6 +1,4 @@
-use Rattle.gix_refspec_match.proofs.Common.{◌≡◌, arith, ◌*◌, ◌%◌, ◌^◌, pow-lt, and_mask}
+use Rattle.gix_refspec_match.proofs.Common.{common_steps, rules, arith, pow-lt, and_mask}
 
 pub returns : Rattle.gix_refspec_match.proofs.hashes.lower_bits.Goals.returns
-returns c =
-    let one : 1 * 2 ^ c.args.bits % 18446744073709551616 ≡ 2 ^ c.args.bits = omega (arith, pow-lt c.requires) in
-    rw one (and_mask c.args.number c.args.bits)
+returns c = first_of (grind (arith, common_steps, pow-lt, and_mask, c.requires), search (rules, pow-lt, and_mask, c.requires))

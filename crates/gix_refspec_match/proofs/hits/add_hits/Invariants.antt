@@ -1,5 +1,4 @@
-use Rattle.gix_refspec_match.proofs.Common.{map, take, kind_of_side, ref_of}
-use Rattle.gix_refspec_match.proofs.lemmas.index.PlacedLemmas.{FoundSoFar, MatchedSoFar}
+use Rattle.gix_refspec_match.proofs.{Common.{map, take, kind_of_side, ref_of}, lemmas.index.PlacedLemmas.{FoundSoFar, MatchedSoFar}}
 use Rattle.gix_refspec_match.proofs.hits.add_hits.Given as goal
 
 abbrev pub invariant-loop-index : goal.invariant-loop-index

@@ -1,7 +1,6 @@
 -- The flags of duplicates, as far as a list in order was gone through.
-use Rattle.std.proofs.Common.{List, [], ◌∷◌, ◌≡◌, ℕ, true, false, Equal, arith, inr, ◌<◌, length, ◌+◌, ◌⊎◌, ◌↔◌, Bool, Result, Ordering}
-use Rattle.std.specs.{Prelude.IfOk, Ordering.is_eq, Ordering.is_ne}
-use Rattle.gix_refspec_match.specs.{Private.Duplicates.FlagsDuplicates, Private.Duplicates.IsDuplicate, Private.Kept.IsFlagged}
+use Rattle.std.{proofs.Common.{List, [], ◌∷◌, ◌≡◌, ℕ, true, false, Equal, arith, inr, ◌<◌, length, ◌+◌, ◌⊎◌, ◌↔◌, Bool, Result, Ordering}, specs.Prelude.IfOk, specs.Ordering.{is_eq, is_ne}}
+use Rattle.gix_refspec_match.specs.Private.{Duplicates.{FlagsDuplicates, IsDuplicate}, Kept.IsFlagged}
 
 pub some_element : {T : Type 0} (xs : List T) (k : ℕ) → k < length xs → T
 some_element [] k below = absurd (omega arith)
@@ -14,14 +13,12 @@ pub equal_told : (o : Ordering) → (is_eq o ≡ true) ⊎ (is_ne o ≡ false) �
 equal_told o told = grind (arith, told)
 
 -- duplicates are flagged, and of these all that positions below at tell of
-pub record AreFlagged {T : Type 0} (order : T → T → Ordering) (xs : List T) (Tells : ℕ → ℕ → Type 0) (flags : List Bool)
-    (at : ℕ) : Type 0 where
+pub record AreFlagged {T : Type 0} (order : T → T → Ordering) (xs : List T) (Tells : ℕ → ℕ → Type 0) (flags : List Bool) (at : ℕ) : Type 0 where
   pub fits : (flags ≡ []) ⊎ (length flags ≡ length xs)
   pub only : (k : ℕ) → IsFlagged flags k → IsDuplicate order xs k
   pub found : (i : ℕ) → i < at → (k : ℕ) → Tells i k → IsFlagged flags k
 
-module _ {T : Type 0} {order : T → T → Ordering} {xs : List T} {Tells : ℕ → ℕ → Type 0} {flags : List Bool} {at : ℕ}
-    (are : AreFlagged order xs Tells flags at) where
+module _ {T : Type 0} {order : T → T → Ordering} {xs : List T} {Tells : ℕ → ℕ → Type 0} {flags : List Bool} {at : ℕ} (are : AreFlagged order xs Tells flags at) where
   pub flags_same : ((k : ℕ) → ¬ (Tells at k)) → AreFlagged order xs Tells flags (at + 1)
   flags_same none = record { fits = are.fits; only = are.only; found = λ i below k told. grind (arith, are.found i, none k) }
 

@@ -1,8 +1,8 @@
 -- Keys and elements with an index, first in the order of their indexes, then sorted.
 use Rattle.gix_refspec_match.proofs.Common.{List, [], ◌∷◌, ◌≡◌, ℕ, false, ◌++◌, Equal, sym, ◌∙◌, arith, ap, ◌<◌, length, ◌+◌, get_or, ◌≤◌, Bool, length-append, ◌-◌, Ordering, eqb, elements, false≢true, some_element}
 use Rattle.gix_refspec_match.proofs.Common.{eq-eqb, ne_eqb, nat_cmp_total, nat_eq_equiv, on_total, tied_back, then_total, get_or_default, get_or_read, All-contains, All-push, Contains-get_or, All-permutation}
-use Rattle.gix_refspec_match.proofs.Common.{Contains-permutation, ranks_by, sorted_far, IsDistinct-IsPermutation, IsDistinct-from_apart, apart_from_distinct, ge_from_not_lt, IsTotalOrder, IsPermutation}
-use Rattle.gix_refspec_match.proofs.Common.{IsSorted, Contains, ordering_then, is_lt, ordering_reverse, IsDuplicate, IsSecond, AreApart, ArePlaced, HaveEqualElements, IsPlaced, placed_order, Placed}
+use Rattle.gix_refspec_match.proofs.Common.{Contains-permutation, ranks_by, sorted_far, IsDistinct-IsPermutation, IsDistinct-from_apart, apart_from_distinct, ge_from_not_lt, IsTotalOrder, IsPermutation, IsSorted}
+use Rattle.gix_refspec_match.proofs.Common.{Contains, ordering_then, is_lt, ordering_reverse, IsDuplicate, IsSecond, AreApart, ArePlaced, HaveEqualElements, IsPlaced, placed_order, Placed}
 use Rattle.std.specs.List.{All}
 
 -- a list of length n, of which each has its place as its index
@@ -46,8 +46,7 @@ placed_permuted {T} {xs} {ps} {qs} {n} past are moved = record {
 
 module _ {T : Type 0} {order : T → T → Ordering} (total : IsTotalOrder order) where
   pub placed_total : IsTotalOrder (placed_order order)
-  placed_total = then_total (on_total (λ (p : Placed T). p.element.now) total)
-      (on_total (λ (p : Placed T). p.index) nat_cmp_total)
+  placed_total = then_total (on_total (λ (p : Placed T). p.element.now) total) (on_total (λ (p : Placed T). p.index) nat_cmp_total)
 
   -- p doesn't come after q
   abbrev Le : Placed T → Placed T → Type 0
@@ -63,8 +62,7 @@ module _ {T : Type 0} {order : T → T → Ordering} (total : IsTotalOrder order
       between : (o u v : Ordering) → is_lt (ordering_then (ordering_reverse o) u) ≡ false → is_lt (ordering_then o v) ≡ false → o ≡ Equal
       between o u v left right = grind (arith, left, right)
 
-  module _ {xs : List T} {ps : List (Placed T)} (are : ArePlaced xs ps)
-      (sorted : IsSorted (placed_order order) ps) where
+  module _ {xs : List T} {ps : List (Placed T)} (are : ArePlaced xs ps) (sorted : IsSorted (placed_order order) ps) where
     not_fallen : (i j : ℕ) (d : Placed T) → i ≤ j → j < length ps → Le (get_or ps i d) (get_or ps j d)
     not_fallen = sorted_far (λ p q. is_lt (placed_order order p q)) (ranks_by placed_total (λ (p : Placed T). p)) ps sorted
 
@@ -74,8 +72,7 @@ module _ {T : Type 0} {order : T → T → Ordering} (total : IsTotalOrder order
         let a : IsPlaced xs q = rw (← q_at) at (are.each (at - 1) p (omega arith)) in
         let b : IsPlaced xs p = rw (← is_p) at (are.each at p below) in
         let rise = rising_indexes q p (rw (← is_p, ← q_at) at (not_fallen (at - 1) at p (omega arith) below)) (tied_back total _ _ same) in
-        let less : q.index < p.index = grind (arith, rise, are.apart (at - 1) at p, is_p, q_at) in
-        (b.inside, (q.index, less, λ d. rw (← a.is d, ← b.is d) same))
+        (b.inside, (q.index, (grind (arith, rise, are.apart (at - 1) at p, is_p, q_at)), λ d. rw (← a.is d, ← b.is d) same))
 
     pub duplicate_follows : (k : ℕ) → IsDuplicate order xs k → (at : ℕ) × IsSecond (HaveEqualElements order) (λ p. p.index) ps at k
     duplicate_follows k (below, (j, before, equal)) =
@@ -83,7 +80,6 @@ module _ {T : Type 0} {order : T → T → Ordering} (total : IsTotalOrder order
         let (p, has_p, p_at) = are.every k below in
         let a = All-contains (IsPlaced xs) ps q are.each has_q in
         let b = All-contains (IsPlaced xs) ps p are.each has_p in
-        let d = q.element.now in
-        let same : HaveEqualElements order q p = rw (a.is d, q_at, b.is d, p_at) (equal d) in
+        let same : HaveEqualElements order q p = rw (a.is q.element.now, q_at, b.is q.element.now, p_at) (equal q.element.now) in
         rw (← p_at) (second_found (λ x. x.index) Le (HaveEqualElements order) ps q p not_fallen has_q has_p
         (λ le. let rise = rising_indexes p q le same in omega (arith, rise, q_at, p_at, before)) (λ m after behind. squeezed q m p after behind same))

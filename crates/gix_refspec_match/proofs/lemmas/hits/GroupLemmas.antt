@@ -1,20 +1,13 @@
 -- The hits of a group from those of its matchers. Specs that have the sides of an earlier one have none: their hits make
 -- no pair that is new.
-use Rattle.gix_refspec_match.proofs.Common.{List, [], ◌∷◌, refl, ◌≡◌, ℕ, ◌++◌, sym, arith, inl, inr, ap, append-nil, ◌<◌, length, map, ◌+◌, get_or, append_assoc, zero, suc, Bool, add-zero, length-append}
-use Rattle.gix_refspec_match.proofs.Common.{get_or-append_seam, get_or_append_left, map-append, IsPositive, Ref, Reading, IsMadeFrom, IsJoinedFrom, Ends, Hit, IsHit, AreSpecHits, AreHits, Mapped, IsSamePair}
-use Rattle.gix_refspec_match.proofs.Common.{HasPair, HaveSameSides, FlagsEqual, mapping_of, Thins, IsFlagged, HaveKinds, HasEnds, TakesIn, AreMatcherOf, AreMatchersOf, Candidates, Matcher, Matchers}
-use Rattle.gix_refspec_match.proofs.lemmas.{hits.FoundLemmas.made_each, hits.FoundLemmas.of_hits, lists.JoinLemmas.joined_next}
-use Rattle.gix_refspec_match.proofs.lemmas.keep.{KeptLemmas.HasPair-left, ThinLemmas.pair_right, ThinLemmas.thins_both}
+use Rattle.gix_refspec_match.proofs.Common.{List, [], ◌∷◌, refl, ◌≡◌, ℕ, ◌++◌, arith, inl, inr, ap, append-nil, ◌<◌, length, map, ◌+◌, get_or, append_assoc, zero, suc, Bool, add-zero, length-append, rules}
+use Rattle.gix_refspec_match.proofs.Common.{get_or-append_seam, get_or_append_left, map-append, Ref, Reading, IsMadeFrom, IsJoinedFrom, Ends, Hit, IsHit, AreSpecHits, AreHits, Mapped, HasPair, HaveSameSides}
+use Rattle.gix_refspec_match.proofs.{Common.{FlagsEqual, mapping_of, Thins, HaveKinds, HasEnds, TakesIn, AreMatcherOf, Candidates, Matcher}, lemmas.hits.HitLemmas.{made_each, of_hits}}
+use Rattle.gix_refspec_match.proofs.lemmas.{lists.JoinLemmas.joined_next, keep.KeptLemmas.{HasPair-left, pair_right, thins_both}}
 
 -- the same hit, by the spec at place k
 abbrev at_spec : ℕ → Hit → Hit
 at_spec k h = record { spec = k; item = h.item; near = h.near; far = h.far }
-
-same_ends : (which : Candidates) (r s : Reading) (ends : Ends) → IsPositive s.mode → r.source ≡ s.source → r.destination ≡ s.destination → HasEnds which r ends → HasEnds which s ends
-same_ends which r s ends positive source destination has = grind (arith, positive, source, destination, has)
-
-pair_at : (which : Candidates) (k : ℕ) (h : Hit) → IsSamePair (mapping_of which h) (mapping_of which (at_spec k h))
-pair_at which k h = grind arith
 
 abbrev Holds : List Mapped → List Mapped → Type 0
 Holds all some = (m : Mapped) → HasPair some m → HasPair all m
@@ -23,16 +16,13 @@ module _ (which : Candidates) (items : List Ref) where
   abbrev SpecHits : ℕ → Reading → List Hit → Type 0
   SpecHits = AreSpecHits (HasEnds which) (TakesIn which items) items
 
-  hit_at : (ends : Ends) (b k j : ℕ) (r : Ref) (h : Hit) → IsHit (TakesIn which items) ends b j r h → IsHit (TakesIn which items) ends k j r (at_spec k h)
-  hit_at ends b k j r h is = record { word = is.word; takes = is.takes; far = is.far; near = is.near; spec = refl; item = is.item }
-
   -- the hits of a spec are those of another one with the same sides, at its place
   spec_at : (b k : ℕ) (r s : Reading) (hits : List Hit) → HaveSameSides r s → SpecHits b r hits → SpecHits k s (map (at_spec k) hits)
   spec_at b k r s hits same (inl (ends, has, are)) =
       let moved = made_each (at_spec k) (IsHit (TakesIn which items) ends b) (IsHit (TakesIn which items) ends k) items hits
-      (λ i d below. (hit_at ends b k i (get_or items i d), λ h here. (at_spec b h, hit_at ends k b i (get_or items i d) h here))) are in
-      inl (ends, same_ends which r s ends same.positive_too same.source same.destination has, moved)
-  spec_at b k r s hits same (inr (none, is)) = inr ((λ ends has. none ends (same_ends which s r ends same.positive (sym same.source) (sym same.destination) has)), ap (map (at_spec k)) is)
+      (λ i d below. ((λ h is. search rules), λ h is. (at_spec b h, search rules))) are in
+      inl (ends, grind (arith, same.positive_too, same.source, same.destination, has), moved)
+  spec_at b k r s hits same (inr (none, is)) = inr ((λ ends has. none ends (grind (arith, same.positive, same.source, same.destination, has))), ap (map (at_spec k)) is)
 
   -- among the hits of a group are those of the spec at a place
   hits_of_spec : (g : List Reading) (k b : ℕ) (d : Reading) (hits : List Hit) → b < length g → IsJoinedFrom SpecHits k g hits
@@ -49,7 +39,7 @@ thins_again : (g : List Reading) (which : Candidates) (k : ℕ) (before : List M
 thins_again g which k before [] holds = refl
 thins_again g which k before (h ∷ hits) holds =
     let m = mapping_of which (at_spec k h) in
-    inr (inl (holds m (inl (pair_at which k h))), thins_again g which k (before ++ m ∷ []) hits (λ x has. HasPair-left before (m ∷ []) x (holds x (inr has))))
+    inr (inl (holds m (inl (grind arith))), thins_again g which k (before ++ m ∷ []) hits (λ x has. HasPair-left before (m ∷ []) x (holds x (inr has))))
 
 module _ (g : List Reading) (which : Candidates) (items : List Ref) where
   -- where a matcher finds enough: the hits of its spec make these mappings, but for some that may be left out, whatever was
@@ -71,35 +61,32 @@ module _ (g : List Reading) (which : Candidates) (items : List Ref) where
       let joined = joined_next (SpecHits which items) (length front) front r so_far.0 hits refl so_far.1 are in
       (so_far.0 ++ hits, joined, rw map-append (thins_both g [] (of_hits which so_far.0) some (of_hits which hits) more so_far.2 thins))
 
-  flagged_next : (flags : List Bool) (front rest : List Reading) (r : Reading) (some : List Mapped) → FlagsEqual (front ++ (r ∷ rest)) flags → IsFlagged flags (length front) → IsPositive r.mode
-      → AreMostOf front some → AreMostOf (front ++ r ∷ []) (some ++ [])
-  flagged_next flags front rest r some equal flagged positive so_far =
-      let (b, at) = equal (length front) flagged (λ d. rw get_or-append_seam positive) in
-      let less : b < length front = at.earlier in
-      let same : HaveSameSides (get_or front b r) r = rw (get_or_append_left front (r ∷ rest) r b less, get_or-append_seam) at (at.same r) in
-      let (first, are, holds) = hits_of_spec which items front 0 b r so_far.0 less so_far.1 in
-      most_next front r some [] (map (at_spec (length front)) first) (spec_at which items (0 + b) (length front) (get_or front b r) r first same are) so_far
-      (thins_again g which (length front) (of_hits which so_far.0) first holds)
-
   most_of : (flags : List Bool) (front rest : List Reading) (r : Reading) (n : ℕ) (made others : List Matcher) (some more : List Mapped) → FlagsEqual (front ++ (r ∷ rest)) flags → AreMatcherOf which flags (length front) r made
-      → FindEnough n (made ++ others) more → AreMostOf front some
-      → (m : ℕ) × (here later : List Mapped) × FindEnough m others later × (more ≡ here ++ later)
+      → FindEnough n (made ++ others) more → AreMostOf front some → (m : ℕ) × (here later : List Mapped) × FindEnough m others later × (more ≡ here ++ later)
       × AreMostOf (front ++ r ∷ []) (some ++ here)
   most_of flags front rest r n made others some more equal (inl (m, is_m, one)) found so_far =
       let (here, later, enough, find, all) = rw one at found in
       let (hits, are, thins) = enough is_m.ends is_m.kinds in
       (n + 1, here, later, find, all, most_next front r some here hits (inl (is_m.ends, is_m.has, rw is_m.spec at are)) so_far (thins (of_hits which so_far.0)))
   most_of flags front rest r n made others some more equal (inr (inl (flagged, positive), none)) found so_far =
-      (n, [], more, rw none at found, refl, flagged_next flags front rest r some equal flagged positive so_far)
+      let (b, at) = equal (length front) flagged (λ d. rw get_or-append_seam positive) in
+      let less : b < length front = at.earlier in
+      let same : HaveSameSides (get_or front b r) r = rw (get_or_append_left front (r ∷ rest) r b less, get_or-append_seam) at (at.same r) in
+      let (first, are, holds) = hits_of_spec which items front 0 b r so_far.0 less so_far.1 in (
+        n,
+        [],
+        more,
+        rw none at found,
+        refl,
+        most_next front r some [] (map (at_spec (length front)) first) (spec_at which items (0 + b) (length front) (get_or front b r) r first same are) so_far
+            (thins_again g which (length front) (of_hits which so_far.0) first holds),
+      )
   most_of flags front rest r n made others some more equal (inr (inr no_ends, none)) found so_far = (n, [], more, rw none at found, refl, most_next front r some [] [] (inr (no_ends, refl)) so_far refl)
 
-  most_from : (flags : List Bool) (front rest : List Reading) (n : ℕ) (ms : List Matcher) (some more : List Mapped) → FlagsEqual (front ++ rest) flags
+  pub most_from : (flags : List Bool) (front rest : List Reading) (n : ℕ) (ms : List Matcher) (some more : List Mapped) → FlagsEqual (front ++ rest) flags
       → IsJoinedFrom (AreMatcherOf which flags) (length front) rest ms → FindEnough n ms more → AreMostOf front some → AreMostOf (front ++ rest) (some ++ more)
   most_from flags front [] n ms some more equal none found so_far = let empty : more ≡ [] = rw none at found in rw (append-nil, empty, append-nil) so_far
   most_from flags front (r ∷ rest) n ms some more equal (made, others, of, behind, is) found so_far =
       let (n2, here, later, find, all, next) = most_of flags front rest r n made others some more equal of (rw is at found) so_far in
       let whole = append_assoc front (r ∷ []) rest in
       rw (all, ← append_assoc, ← whole) (most_from flags (front ++ r ∷ []) rest n2 others (some ++ here) later (rw whole equal) (rw length-append behind) find next)
-
-  pub most_found : (ms : Matchers) (some : List Mapped) → AreMatchersOf which g ms → FindEnough 0 ms.list.items some → AreMostOf g some
-  most_found ms some are found = most_from are.flags [] g 0 ms.list.items [] some are.equal are.made found ([], refl, refl)

@@ -1,9 +1,31 @@
 -- What specs match, and what becomes of it.
-use Rattle.gix_refspec_match.proofs.Common.{List, [], ◌∷◌, None, Some, codes, refl, ◌≡◌, ℕ, ◌++◌, Option, sym, ◌∙◌, arith, inl, inr, ◌≢◌, subst, ap, take, drop, ◌+◌, rules, ◌⊎◌, MatchOption, Bor}
-use Rattle.gix_refspec_match.proofs.Common.{append_cancel_left, AllByRecursion, lacks_no_pattern, one_word, split_once, AllByRecursion-parts, IsIdText-unique, kind_of_side, DeclaredKind, Ref, Matches}
-use Rattle.gix_refspec_match.proofs.Common.{MatchesAs, pattern, object, HasKind, partial, SideKind, Fits, IsCandidate, candidates, Reading, Ends, IsFilled, Hit, IsHit, AreSpecHits, IsIdMapping, AreBackward}
-use Rattle.gix_refspec_match.proofs.Common.{AreForward, OneForward, OneBackward, Mapped, IsKeptAt, IsKept, HaveKinds, HasEnds, TakesIn, filled_side, HasSideKind, IsFirstIn, Candidates, All, First, Matcher}
-use Rattle.gix_refspec_match.proofs.lemmas.lists.{JoinLemmas.one_joined, JoinLemmas.MakesOnce, ListsLemmas.made_once}
+use Rattle.gix_refspec_match.proofs.Common.{◌-◌, length, length-append, drop-append_seam, take-append_seam, word_in, List, [], ◌∷◌, None, Some, codes, refl, ◌≡◌, ℕ, ◌++◌, Option, sym, ◌∙◌, arith, inl, inr, ◌≢◌}
+use Rattle.gix_refspec_match.proofs.Common.{subst, ap, take, drop, ◌+◌, ◌⊎◌, MatchOption, Bor, append_cancel_left, AllByRecursion, lacks_no_pattern, split_once, AllByRecursion-parts, IsIdText-unique, kind_of_side}
+use Rattle.gix_refspec_match.proofs.Common.{DeclaredKind, Ref, Matches, MatchesAs, pattern, object, HasKind, partial, SideKind, Fits, IsCandidate, candidates, Reading, Ends, IsFilled, Hit, IsHit, AreSpecHits}
+use Rattle.gix_refspec_match.proofs.Common.{IsIdMapping, AreBackward, AreForward, OneForward, OneBackward, Mapped, IsKeptAt, IsKept, HasEnds, TakesIn, filled_side, HasSideKind, IsFirstIn, Candidates, All, First}
+use Rattle.gix_refspec_match.proofs.{Common.{is_some, ◌<◌, map, get_or, option_map, ◌↔◌, IsTrue, Bool, zero-add, map-id, MakesOf, IsMadeFrom, mapping_of, IsMatched}, lemmas.lists.JoinLemmas.{one_joined, MakesOnce}}
+use Rattle.gix_refspec_match.proofs.lemmas.lists.ListsLemmas.{made_once, made_map}
+
+-- what a read past the end gives
+abbrev pub blank : Ref
+blank = record { name = []; target = []; object = None }
+
+pub pattern_told : (before after n : List ℕ) (r : Ref) (found : Option (Bor (List ℕ))) (told : Bool) → n ≡ r.name → told ≡ is_some found → MatchOption found ((word : List ℕ) → ¬ (Fits before after n word)) (λ word. Fits before after n word.now) → IsTrue told ↔ IsMatched (pattern before after) r
+pattern_told before after n r None told same is none = grind (arith, same, is, none)
+pattern_told before after n r (Some w) told same is fits = ((λ yes. (Some w.now, sym same ∙ fits)), (λ matched. is))
+
+-- where S makes of each element a view of what R makes, and no more, so it does of the list
+pub made_each : {X Y V : Type 0} (view : Y → V) (R : ℕ → X → Y → Type 0) (S : ℕ → X → V → Type 0) (xs : List X) (ys : List Y)
+    → ((i : ℕ) (d : X) → i < length xs → ((y : Y) → R i (get_or xs i d) y → S i (get_or xs i d) (view y)) × ((v : V) → S i (get_or xs i d) v → (y : Y) × R i (get_or xs i d) y))
+    → IsMadeFrom R 0 xs ys → IsMadeFrom S 0 xs (map view ys)
+made_each {X} {Y} view R S xs ys each are = rw map-id at (made_map (λ x. x) view R S 0 xs ys (λ i d below made. rw zero-add (one i d below made)) are)
+  where
+    one : (i : ℕ) (d : X) → i < length xs → (made : Option Y) → MakesOf R i (get_or xs i d) made → MakesOf S i (get_or xs i d) (option_map view made)
+    one i d below None none = λ v here. let (y, of) = (each i d below).1 v here in none y of
+    one i d below (Some y) of = (each i d below).0 y of
+
+abbrev pub of_hits : Candidates → List Hit → List Mapped
+of_hits which hits = map (mapping_of which) hits
 
 pub word_left : (before after n rest : List ℕ) (r : Option (Bor (List ℕ))) → n ≡ before ++ rest → MatchOption r ((front : List ℕ) → rest ≢ front ++ after) (λ x. rest ≡ x.now ++ after) → MatchOption r ((word : List ℕ) → ¬ (Fits before after n word)) (λ word. Fits before after n word.now)
 word_left before after n rest None front left = λ word fits. left word (append_cancel_left before rest (word ++ after) (sym front ∙ fits))
@@ -21,31 +43,26 @@ candidate_cases x n one =
     AllByRecursion-parts P one.earlier n one.later (subst (AllByRecursion P) one.here
     (put [] (inl refl), (put _ (inr (inl refl)), (put _ (inr (inr (inl refl))), (put _ (inr (inr (inr (inl refl)))), (put _ (inr (inr (inr (inr refl)))), (inr refl, tt)))))))
 
-candidate_at : (x n : List ℕ) (k : ℕ) → candidates x ≡ take k (candidates x) ++ (n ∷ drop (k + 1) (candidates x)) → IsCandidate x n
+pub candidate_at : (x n : List ℕ) (k : ℕ) → candidates x ≡ take k (candidates x) ++ (n ∷ drop (k + 1) (candidates x)) → IsCandidate x n
 candidate_at x n k is = record { earlier = take k (candidates x); later = drop (k + 1) (candidates x); here = is }
-
-pub placed_candidate : (x n before : List ℕ) → IsFolder before → n ≡ before ++ x → IsCandidate x n
-placed_candidate x n before folder same =
-    let at = candidate_at x n in
-    grind (arith, at 0, at 1, at 2, at 3, at 4)
-
-pub remote_candidate : (x n : List ℕ) → n ≡ codes "refs/remotes/" ++ (x ++ codes "/HEAD") → IsCandidate x n
-remote_candidate x n same = candidate_at x n 5 (rw same)
 
 pub one_kind : (x : List ℕ) (k l : SideKind) → HasKind x k → HasKind x l → k ≡ l
 one_kind x (pattern before after) (pattern fixed rest) a b = let once = split_once x before after fixed rest a b in cc (once.0, once.1)
 one_kind x (object id) (object other) a b = ap object (IsIdText-unique x id other a.2 b.2)
 one_kind x k l a b = grind (arith, a, b, lacks_no_pattern)
 
-same_word : (k : SideKind) (r : Ref) (v w : Option (List ℕ)) → MatchesAs k r v → MatchesAs k r w → v ≡ w
-same_word (pattern before after) r (Some v) (Some w) of_v of_w = ap Some (one_word before after r.name v w of_v of_w)
-same_word k r v w of_v of_w = search rules
+-- a pattern matches with the word between its texts
+pub matched_word : (k : SideKind) (r : Ref) (word : Option (List ℕ)) → MatchesAs k r word → word ≡ word_in k r.name
+matched_word (pattern before after) r (Some w) is =
+    let size : length before + (length w + length after) - length after - length before ≡ length w = omega arith in
+    rw (is, length-append, length-append, size, drop-append_seam, take-append_seam)
+matched_word k r word is = grind (arith, is)
 
 pub matches_as : (x : List ℕ) (k : SideKind) (r : Ref) (word : Option (List ℕ)) → HasKind x k → Matches x r word → MatchesAs k r word
 matches_as x k r word kind matches = rw (one_kind x matches.kind k matches.of kind) at matches.is
 
 -- what a side of the kind takes in a which is what it matches, and a partial source by its first candidate
-takes_in : (which : Candidates) (items : List Ref) (x : List ℕ) (k : SideKind) (r : Ref) (word : Option (List ℕ)) → HasKind x k → MatchesAs k r word → IsFirstIn k which items r.name → TakesIn which items x r word
+pub takes_in : (which : Candidates) (items : List Ref) (x : List ℕ) (k : SideKind) (r : Ref) (word : Option (List ℕ)) → HasKind x k → MatchesAs k r word → IsFirstIn k which items r.name → TakesIn which items x r word
 takes_in First items x k r word of is first = record { matches = record { kind = k; of = of; is = is }; first = λ n partial_n. rw (one_kind x k (partial n) of partial_n) at first }
 takes_in All items x k r word of is first = record { kind = k; of = of; is = is }
 
@@ -59,18 +76,11 @@ pub far_filled : (x : Option (List ℕ)) (k : Option DeclaredKind) (word n : Opt
 far_filled (Some x) (Some k) word n kind same = (kind_of_side k, kind, same)
 far_filled x k word n kind same = grind (arith, kind, same)
 
-pub is_hit : (which : Candidates) (items : List Ref) (ends : Ends) (kinds : Matcher) (k j : ℕ) (r : Ref) (word : Option (List ℕ)) (hit : Hit) → HaveKinds ends kinds → MatchesAs (kind_of_side kinds.needle) r word → IsFirstIn (kind_of_side kinds.needle) which items r.name → hit.far ≡ filled_side kinds.other word → hit.near ≡ r.name → hit.spec ≡ k → hit.item ≡ j → IsHit (TakesIn which items) ends k j r hit
-is_hit which items ends kinds k j r word hit have matches first far near spec item =
-    search (takes_in which items ends.near (kind_of_side kinds.needle) r word have.near matches first, far_filled ends.far kinds.other word hit.far have.far far)
-
 pub same_side : (side : Option (List ℕ)) (x y : List ℕ) → side ≡ Some x → side ≡ Some y → x ≡ y
 same_side side x y of_x of_y = cc
 
-same_ends : (a b : Ends) → a.near ≡ b.near → a.far ≡ b.far → a ≡ b
-same_ends a b near far = λ i. record { near = near i; far = far i }
-
 pub one_pair : (which : Candidates) (r : Reading) (a b : Ends) → HasEnds which r a → HasEnds which r b → a ≡ b
-one_pair which r a b of_a of_b = same_ends a b (grind (arith, of_a, of_b)) (grind (arith, of_a, of_b))
+one_pair which r a b of_a of_b = grind (arith, of_a, of_b)
 
 filled_once : (x : Option (List ℕ)) (word n m : Option (List ℕ)) → IsFilled x word n → IsFilled x word m → n ≡ m
 filled_once x word n m a b = grind (arith, a, b, one_kind)
@@ -78,7 +88,7 @@ filled_once x word n m a b = grind (arith, a, b, one_kind)
 pub hit_once : (which : Candidates) (items : List Ref) (ends : Ends) (k : ℕ) → MakesOnce (IsHit (TakesIn which items) ends k)
 hit_once which items ends k j r g h a b =
     let of_g = taken_matches which items ends.near r a.word a.takes in
-    let word = same_word of_g.kind r a.word b.word of_g.is (matches_as ends.near of_g.kind r b.word of_g.of (taken_matches which items ends.near r b.word b.takes)) in
+    let word = matched_word of_g.kind r a.word of_g.is ∙ sym (matched_word of_g.kind r b.word (matches_as ends.near of_g.kind r b.word of_g.of (taken_matches which items ends.near r b.word b.takes))) in
     let far = filled_once ends.far b.word g.far h.far (rw word at a.far) b.far in
     λ i. record { spec = (a.spec ∙ sym b.spec) i; item = (a.item ∙ sym b.item) i; near = (a.near ∙ sym b.near) i; far = far i }
 

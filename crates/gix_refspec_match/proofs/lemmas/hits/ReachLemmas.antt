@@ -1,7 +1,6 @@
 -- What a reading takes and fills, among items.
-use Rattle.gix_refspec_match.proofs.Common.{List, refl, ℕ, Option, inl, inr, subst, Ref, Reading, Ends, IsFilled, Hit, IsHit, AreSpecHits, AreHits, HasEnds, TakesIn, Candidates}
-use Rattle.gix_refspec_match.proofs.lemmas.hits.HitLemmas.{one_pair, hit_once}
-use Rattle.gix_refspec_match.proofs.lemmas.lists.SomeLemmas.{Any, Any-weaker, MakesOnly, any_made, any_joined}
+use Rattle.gix_refspec_match.proofs.{Common.{List, refl, ℕ, Option, inl, inr, subst, Ref, Reading, Ends, IsFilled, Hit, IsHit, AreSpecHits, AreHits, HasEnds, TakesIn, Candidates}, lemmas.hits.HitLemmas.one_pair}
+use Rattle.gix_refspec_match.proofs.lemmas.{hits.HitLemmas.hit_once, lists.SomeLemmas.{Any, Any-weaker, MakesOnly, any_made, any_joined}}
 
 -- with these ends, the reading takes some item and fills the other side, so that P holds of both names
 abbrev pub Reaches : (Reading → Ends → Type 0) → (List ℕ → Ref → Option (List ℕ) → Type 0) → List Ref → (List ℕ → Option (List ℕ) → Type 0) → Reading → Type 0

@@ -1,9 +1,7 @@
 -- The places that a partial name takes, as refs are added: those of the first candidate, or of all.
-use Rattle.gix_refspec_match.proofs.Common.{List, [], ◌∷◌, None, Some, refl, ◌≡◌, ℕ, ◌++◌, sym, ◌∙◌, arith, inl, inr, subst, append-nil, ◌<◌, length, ◌+◌, get_or, ◌⊎◌, ◌≤◌, ◌↔◌, map-id, AllByRecursion}
-use Rattle.gix_refspec_match.proofs.Common.{all_right, first_once, first_candidate, some_first, Ref, HasName, IsFirstCandidate, MatchesAs, partial, IsCandidate, ArePlacesTaken, Joins, name_at, Candidates, All}
-use Rattle.gix_refspec_match.proofs.Common.{First}
-use Rattle.gix_refspec_match.proofs.lemmas.{hits.FoundLemmas.made_each, lists.JoinLemmas.made_next}
-use Rattle.gix_refspec_match.proofs.lemmas.index.PlacesLemmas.{AreWhere, Lengthen, candidates_lengthen}
+use Rattle.gix_refspec_match.proofs.Common.{codes, length-append, List, [], ◌∷◌, None, Some, refl, ◌≡◌, ℕ, ◌++◌, sym, ◌∙◌, arith, inl, inr, subst, append-nil, ◌<◌, length, ◌+◌, get_or, ◌⊎◌, ◌≤◌, ◌↔◌, map-id}
+use Rattle.gix_refspec_match.proofs.Common.{AllByRecursion, all_right, first_once, first_candidate, some_first, Ref, HasName, IsFirstCandidate, MatchesAs, partial, IsCandidate, ArePlacesTaken, Joins, name_at}
+use Rattle.gix_refspec_match.proofs.{Common.{Candidates, All, First}, lemmas.hits.HitLemmas.made_each, lemmas.lists.JoinLemmas.made_next, lemmas.index.IndexLemmas.{AreWhere, Lengthen}}
 
 pub has_last : (refs : List Ref) (r : Ref) (n : List ℕ) → HasName (refs ++ r ∷ []) n ↔ (HasName refs n ⊎ (r.name ≡ n))
 has_last [] r n = grind arith
@@ -26,8 +24,9 @@ module _ (refs : List Ref) (f n : List ℕ) (has : HasName refs n) (least : leng
 shortest_first : (refs : List Ref) (x n : List ℕ) → IsShortest refs x n → IsFirstCandidate refs x n
 shortest_first refs x n short =
     let (f, first) = some_first refs x n short.one short.there in
+    let end : length (x ++ codes "/HEAD") ≡ length x + 5 = length-append x (codes "/HEAD") in
     let same = least_first refs f n short.there (short.least f (first_candidate refs x f first) first.present) first.earlier first.later short.one.earlier short.one.later
-    (subst Lengthen first.here (candidates_lengthen x)) first.absent (sym first.here ∙ short.one.here) in
+    (subst Lengthen first.here (search (arith, end))) first.absent (sym first.here ∙ short.one.here) in
     subst (IsFirstCandidate refs x) same first
 
 none_where : (P : Ref → Type 0) (k : ℕ) (refs : List Ref) → ((r : Ref) → HasName refs r.name → ¬ (P r)) → AreWhere P k refs []
@@ -56,12 +55,10 @@ module _ (all refs : List Ref) (r : Ref) (x : List ℕ) (i : ℕ) (long : length
   shortest_next n one there least last = record { one = one; there = (has_last refs r n).1 there; least = λ m other has. let cases = (has_last refs r m).0 has in grind (arith, cases, least m, last, here) }
 
   shorter_next : IsCandidate x r.name → ((n : List ℕ) → IsCandidate x n → HasName refs n → length (name_at all i) < length n) → AreFound First all x (refs ++ r ∷ []) (i ∷ [])
-  shorter_next one least =
-      let also = rw here at one in (
-        shortest_next (name_at all i) also (inr here) (λ n other has. omega (arith, least n other has)) (λ _. omega arith),
-        where_more (λ s. s.name ≡ name_at all i) []
-            (none_where (λ s. s.name ≡ name_at all i) 0 refs (λ s has same. grind (arith, least s.name))) here,
-      )
+  shorter_next one least = (
+    shortest_next (name_at all i) (rw here at one) (inr here) (λ n other has. omega (arith, least n other has)) (λ _. omega arith),
+    where_more (λ s. s.name ≡ name_at all i) [] (none_where (λ s. s.name ≡ name_at all i) 0 refs (λ s has same. grind (arith, least s.name, one, here, same))) here,
+  )
 
   longer_next : (p : ℕ) (ps : List ℕ) → AreFound First all x refs (p ∷ ps) → (IsCandidate x r.name → length (name_at all p) < length (name_at all i)) → AreFound First all x (refs ++ r ∷ []) (p ∷ ps)
   longer_next p ps (short, are) longer = (

@@ -1,7 +1,19 @@
 -- Where names are among refs.
 use Rattle.gix_refspec_match.proofs.Common.{List, [], ◌∷◌, None, Some, refl, ◌≡◌, ℕ, ◌++◌, Option, sym, ◌∙◌, inl, inr, ◌≢◌, ap, append-nil, ◌<◌, length, map, take, ◌+◌, get_or, rules, ◌⊎◌, cond, bytes_eq, made_more}
-use Rattle.gix_refspec_match.proofs.Common.{not_from_Decides, bytes_eq-Decides, cases_Bool, Contains-append_left, Contains-push, Contains-push_cases, Contains, bstr_bytes, ArePlacesOf, HavePlaces, ref_of, Item}
-use Rattle.gix_refspec_match.proofs.Common.{Vec}
+use Rattle.gix_refspec_match.proofs.Common.{bytes_eq-Decides, Contains-append_left, Contains-push, Contains-push_cases, Contains, bstr_bytes, ArePlacesOf, HavePlaces, ref_of, Item, Vec, arith, All-from_recursion}
+use Rattle.gix_refspec_match.proofs.Common.{All-contains, AllByRecursion, Ref, IsMadeFrom, drop, ◌≤◌, take-append-drop, take-append_seam, length-take-le, BeginsWith, AddsPlace, ListPrefixes}
+use Rattle.gix_refspec_match.proofs.lemmas.lists.JoinLemmas.{made_more}
+
+-- the places of the refs of which P holds, the first one's being k
+abbrev pub AreWhere : (Ref → Type 0) → ℕ → List Ref → List ℕ → Type 0
+AreWhere P k refs ps = IsMadeFrom (λ j r place. P r × (place ≡ j)) k refs ps
+
+abbrev pub Lengthen : List (List ℕ) → Type 0
+Lengthen [] = Unit {0}
+Lengthen (n ∷ ns) = AllByRecursion (λ m. length n < length m) ns × Lengthen ns
+
+pub all_at : (P : List ℕ → Type 0) (ns : List (List ℕ)) (n : List ℕ) → AllByRecursion P ns → Contains ns n → P n
+all_at P ns n all there = All-contains P ns n (All-from_recursion P ns all) there
 
 abbrev pub Listed : Type 0
 Listed = List ℕ → Option (Vec ℕ)
@@ -10,8 +22,7 @@ abbrev pub Puts : List ℕ → Vec ℕ → Listed → Listed → Type 0
 Puts n v old new = (q : List ℕ) → new q ≡ cond (bytes_eq n q) (Some v) (old q)
 
 pub put_cases : (n : List ℕ) (v : Vec ℕ) (old new : Listed) → Puts n v old new → (q : List ℕ) → ((n ≡ q) × (new q ≡ Some v)) ⊎ ((n ≢ q) × (new q ≡ old q))
-put_cases n v old new puts q =
-    elim (cases_Bool (bytes_eq n q)) [ inl is ↦ inl ((bytes_eq-Decides n q).0 is, rw is at (puts q)) | inr is ↦ inr (not_from_Decides _ (bytes_eq-Decides n q) is, rw is at (puts q)) ]
+put_cases n v old new puts q = grind (arith, puts, bytes_eq-Decides)
 
 pub one_more_name : (ns : List (List ℕ)) (n : List ℕ) (v : Vec ℕ) (old new : Listed) → v.items ≡ [] → Puts n v old new → HavePlaces ns [] old → HavePlaces (ns ++ n ∷ []) [] new
 one_more_name ns n v old new empty puts have = record {
@@ -27,8 +38,7 @@ elsewhere : (q : List ℕ) (items : List Item) (i : ℕ) (d : Item) (ps : List �
 elsewhere q items i d ps below apart are = made_more _ ref_of items i d ps ps None below are (λ place both. apart both.0.1) (sym (append-nil ps))
 
 pub item_unlisted : (ns : List (List ℕ)) (items : List Item) (i : ℕ) (d : Item) (n : List ℕ) (listed : Listed) → i < length items
-    → n ≡ bstr_bytes (get_or items i d).full_ref_name → ¬ (Contains ns n) → HavePlaces ns (map ref_of (take i items)) listed
-    → HavePlaces ns (map ref_of (take (i + 1) items)) listed
+    → n ≡ bstr_bytes (get_or items i d).full_ref_name → ¬ (Contains ns n) → HavePlaces ns (map ref_of (take i items)) listed → HavePlaces ns (map ref_of (take (i + 1) items)) listed
 item_unlisted ns items i d n listed below is none have = record {
   each = λ q there. let (v, at, are) = have.each q there in (v, at, elsewhere q items i d v.items below (search rules) are);
   others = have.others;
@@ -47,3 +57,45 @@ item_listed ns items i d n v w old new below is was more puts have = record {
   ];
   others = λ q none. let cases = put_cases n w old new puts q in let gone = have.others q none in search rules;
 }
+
+pub taken_begins : (prefix n : List ℕ) (l : ℕ) → BeginsWith prefix n → length prefix ≡ l → take l n ≡ prefix
+taken_begins prefix n l begins long = rw (← long, begins.here) (take-append_seam prefix begins.after)
+
+-- the name begins with the prefix, which is shorter than l
+abbrev IsBelow : ℕ → List ℕ → List ℕ → Type 0
+IsBelow l n prefix = (length prefix < l) × BeginsWith prefix n
+
+-- the place is added for the prefixes that are shorter than l, and not yet for others
+abbrev pub AddsBelow : ℕ → List ℕ → ℕ → Listed → Listed → Type 0
+AddsBelow l n place old new = (prefix : List ℕ) (v : Vec ℕ) → new prefix ≡ Some v → (w : Vec ℕ) × (old prefix ≡ Some w)
+    × ((IsBelow l n prefix × (v.items ≡ w.items ++ place ∷ [])) ⊎ (¬ (IsBelow l n prefix) × (v.items ≡ w.items)))
+
+pub adds_more : (l : ℕ) (n : List ℕ) (place : ℕ) (old new : Listed) → ((prefix : List ℕ) (v w : Vec ℕ) → new prefix ≡ Some v → old prefix ≡ Some w → BeginsWith prefix n → length prefix ≡ l → ⊥)
+    → AddsBelow l n place old new → AddsBelow (l + 1) n place old new
+adds_more l n place old new none so_far prefix v is = let (w, was, told) = so_far prefix v is in (w, was, grind (arith, told, none prefix v w is was))
+
+pub adds_listed : (l : ℕ) (n : List ℕ) (place : ℕ) (u x : Vec ℕ) (old mid new : Listed) → l ≤ length n → mid (take l n) ≡ Some u
+    → x.items ≡ u.items ++ place ∷ [] → Puts (take l n) x mid new → AddsBelow l n place old mid → AddsBelow (l + 1) n place old new
+adds_listed l n place u x old mid new fits listed more puts so_far prefix v is = elim (put_cases (take l n) x mid new puts prefix) [
+  | inl here ↦
+      let (w, was, told) = so_far prefix u (ap mid (sym here.0) ∙ listed) in
+      let long : length prefix ≡ l = ap length (sym here.0) ∙ length-take-le l n fits in
+      let begins : BeginsWith prefix n = rw (← here.0) (record { after = drop l n; here = sym (take-append-drop l n) }) in
+      (w, was, grind (arith, told, long, begins, here, is, more))
+  | inr apart ↦
+      let (w, was, told) = so_far prefix v (sym apart.1 ∙ is) in
+      (w, was, grind (arith, told, apart, taken_begins prefix n l))
+]
+
+pub adds_all : (l : ℕ) (n : List ℕ) (place : ℕ) (old new : Listed) → ((prefix : List ℕ) (w : Vec ℕ) → old prefix ≡ Some w → BeginsWith prefix n → l ≤ length prefix → ⊥)
+    → AddsBelow l n place old new → AddsPlace n place old new
+adds_all l n place old new none so_far prefix v is = let (w, was, told) = so_far prefix v is in (w, was, grind (arith, told, none prefix w was))
+
+pub item_added : (items : List Item) (i : ℕ) (d : Item) (n : List ℕ) (old new : Listed) → i < length items
+    → n ≡ bstr_bytes (get_or items i d).full_ref_name → AddsPlace n i old new → ListPrefixes (map ref_of (take i items)) old → ListPrefixes (map ref_of (take (i + 1) items)) new
+item_added items i d n old new below is adds listed prefix v now =
+    let (w, was, told) = adds prefix v now in
+    elim told [
+      | inl here ↦ made_more _ ref_of items i d w.items v.items (Some i) below (listed prefix w was) (rw is at here.0, refl) here.1
+      | inr other ↦ made_more _ ref_of items i d w.items v.items None below (listed prefix w was) (λ place both. other.0 (rw is both.0)) (other.1 ∙ sym (append-nil w.items))
+    ]

@@ -1,19 +1,15 @@
 -- An item's place is added for the partial names that may stand for its name.
-use Rattle.gix_refspec_match.proofs.Common.{List, [], Some, codes, refl, ◌≡◌, ℕ, ◌++◌, Option, ◌∙◌, arith, inl, inr, ap, ◌<◌, length, map, take, drop, ◌+◌, get_or, take_all, rules, ◌⊎◌, ◌≤◌, length-append, map_more}
-use Rattle.gix_refspec_match.proofs.Common.{slice_get-map, slice_get-get_or, AllByRecursion, Contains, Ref, Fits, IsCandidate, Joins, name_at, HavePlaces, AddsWhere, IsBelowPlace, ListPartials, ref_of}
-use Rattle.gix_refspec_match.proofs.Common.{Candidates, All, First, Item, Vec}
-use Rattle.gix_refspec_match.proofs.lemmas.hits.HitLemmas.{candidate_cases, placed_candidate, remote_candidate}
-use Rattle.gix_refspec_match.proofs.lemmas.index.FirstPlacesLemmas.{AreFound, found_next, found_taken}
-use Rattle.gix_refspec_match.proofs.lemmas.index.IndexLemmas.{Puts, put_cases}
-use Rattle.gix_refspec_match.proofs.lemmas.{index.PlacesLemmas.all_at, lists.JoinLemmas.map_long}
+use Rattle.gix_refspec_match.proofs.Common.{List, Some, codes, refl, ◌≡◌, ℕ, ◌++◌, Option, ◌∙◌, arith, inl, inr, ap, ◌<◌, length, map, take, drop, ◌+◌, get_or, rules, ◌⊎◌, ◌≤◌, length-append, map_more, slice_get-map}
+use Rattle.gix_refspec_match.proofs.Common.{slice_get-get_or, AllByRecursion, Contains, Ref, Fits, IsCandidate, Joins, name_at, AddsWhere, IsBelowPlace, ref_of, Candidates, Item, Vec, false, drop-append-add, le-ltb}
+use Rattle.gix_refspec_match.proofs.{Common.{HasNumber, AreWholeTails, HasTail, short_tail_number, ShortTails}, lemmas.hits.HitLemmas.{candidate_at, candidate_cases}, lemmas.index.FirstPlacesLemmas.AreFound}
+use Rattle.gix_refspec_match.proofs.lemmas.{index.FirstPlacesLemmas.found_next, index.IndexLemmas.{Puts, put_cases, all_at}, lists.JoinLemmas.map_long}
 
 pub adds_nothing : {Known P : List ℕ → Type 0} {R : List ℕ → List ℕ → Type 0} {listed : List ℕ → Option (Vec ℕ)}
     → ((x : List ℕ) (w : Vec ℕ) → Known x → listed x ≡ Some w → ¬ (P x)) → AddsWhere Known P R listed listed
 adds_nothing none = record { each = λ x w known was. (w, was, inr (none x w known was, refl)) }
 
 adds_both : {Known P Q S : List ℕ → Type 0} {R : List ℕ → List ℕ → Type 0} {old mid new : List ℕ → Option (Vec ℕ)}
-    → ((x : List ℕ) → P x ⊎ Q x → S x) → ((x : List ℕ) → S x → P x ⊎ Q x) → ((x : List ℕ) → P x → ¬ (Q x))
-    → AddsWhere Known P R old mid → AddsWhere Known Q R mid new → AddsWhere Known S R old new
+    → ((x : List ℕ) → P x ⊎ Q x → S x) → ((x : List ℕ) → S x → P x ⊎ Q x) → ((x : List ℕ) → P x → ¬ (Q x)) → AddsWhere Known P R old mid → AddsWhere Known Q R mid new → AddsWhere Known S R old new
 adds_both {R = R} there back apart first second = record {
   each = λ x w known was.
       let (u, between, told) = first.each x w known was in
@@ -34,17 +30,12 @@ abbrev pub IsInRefs : List ℕ → List ℕ → Type 0
 IsInRefs n x = (n ≡ codes "refs/" ++ drop 5 n) × ((drop 5 n ≡ x) ⊎ IsBehindPlace (drop 5 n) x)
 
 candidate_from : (n x : List ℕ) → (n ≡ x) ⊎ IsInRefs n x → IsCandidate x n
-candidate_from n x told =
-    let at = placed_candidate x n in
-    search (
-      rules,
-      at [],
-      at (codes "refs/"),
-      at (codes "refs/tags/"),
-      at (codes "refs/heads/"),
-      at (codes "refs/remotes/"),
-      remote_candidate x n,
-    )
+candidate_from n x (inl same) = candidate_at x n 0 (rw same)
+candidate_from n x (inr (is, inl same)) = candidate_at x n 1 (rw (is, same))
+candidate_from n x (inr (is, inr (inl (inl same)))) = candidate_at x n 2 (rw (is, same))
+candidate_from n x (inr (is, inr (inl (inr (inl same))))) = candidate_at x n 3 (rw (is, same))
+candidate_from n x (inr (is, inr (inl (inr (inr same))))) = candidate_at x n 4 (rw (is, same))
+candidate_from n x (inr (is, inr (inr head))) = candidate_at x n 5 (rw (is, head))
 
 candidate_in : (n x : List ℕ) → IsCandidate x n → (n ≡ x) ⊎ IsInRefs n x
 candidate_in n x one = let cases = candidate_cases x n one in grind (arith, cases)
@@ -58,9 +49,6 @@ refs_longer n x same (is, inr behind) = omega (arith, ap length is, ap length sa
 
 pub one_place : (below x y : List ℕ) → IsBelowPlace below x → IsBelowPlace below y → x ≡ y
 one_place below x y placed also = grind arith
-
-no_head : (below x : List ℕ) → IsBelowPlace below x → ¬ (IsHeadOf below x)
-no_head below x placed head = omega (arith, ap length (one_place below x (x ++ codes "/HEAD") placed (inr (inr head))), length-append x (codes "/HEAD"))
 
 module _ {Known : List ℕ → Type 0} {R : List ℕ → List ℕ → Type 0} {old new : List ℕ → Option (Vec ℕ)} where
   pub adds_one : {p : List ℕ} {u : Vec ℕ} (t : Vec ℕ) → old p ≡ Some u → R u.items t.items → Puts p t old new → AddsWhere Known (λ x. p ≡ x) R old new
@@ -78,27 +66,19 @@ module _ {Known : List ℕ → Type 0} {R : List ℕ → List ℕ → Type 0} {n
   adds_below {below = below} is whole placed head =
       let rest : drop 5 n ≡ below = ap (drop 5) is in
       adds_both (λ x inside. rw rest (is, inside)) (λ x inside. rw rest at inside.1) (λ x e behind. omega (arith, ap length e, behind_shorter below x behind)) whole
-      (adds_both (λ x behind. behind) (λ x behind. behind) (no_head below) placed head)
+      (adds_both (λ x behind. behind) (λ x behind. behind)
+      (λ x at head. omega (arith, ap length (one_place below x (x ++ codes "/HEAD") at (inr (inr head))), length-append x (codes "/HEAD"))) placed head)
 
   pub adds_candidates : AddsWhere Known (λ x. n ≡ x) R a b → AddsWhere Known (IsInRefs n) R b c → AddsWhere Known (λ x. IsCandidate x n) R a c
   adds_candidates whole refs = adds_both (candidate_from n) (candidate_in n) (refs_longer n) whole refs
 
 -- each of the partial names is listed, with the places that it takes of the first i items
 pub record ListSoFar (which : Candidates) (names : List (List ℕ)) (items : List Item) (i : ℕ) (listed : List ℕ → Option (Vec ℕ)) : Type 0 where
-  pub each : (x : List ℕ) → Contains names x → (v : Vec ℕ) × (listed x ≡ Some v)
-      × AreFound which (map ref_of items) x (map ref_of (take i items)) v.items
+  pub each : (x : List ℕ) → Contains names x → (v : Vec ℕ) × (listed x ≡ Some v) × AreFound which (map ref_of items) x (map ref_of (take i items)) v.items
 
 module _ {which : Candidates} {names : List (List ℕ)} {items : List Item} where
-  pub partials_started : {listed : List ℕ → Option (Vec ℕ)} → HavePlaces names [] listed → ListSoFar which names items 0 listed
-  partials_started have = record {
-    each = λ x there.
-        let (v, is, none) = have.each x there in
-        (v, is, rw none (elim which as (λ w. AreFound w (map ref_of items) x [] []) [ First ↦ λ n one has. has | All ↦ refl ]));
-  }
-
   pub partials_more : {i : ℕ} {n : List ℕ} {Known : List ℕ → Type 0} {old new : List ℕ → Option (Vec ℕ)} (d : Item) → i < length items → n ≡ (ref_of (get_or items i d)).name → AllByRecursion Known names
-      → AddsWhere Known (λ x. IsCandidate x n) (Joins which (map ref_of items) i) old new
-      → ListSoFar which names items i old → ListSoFar which names items (i + 1) new
+      → AddsWhere Known (λ x. IsCandidate x n) (Joins which (map ref_of items) i) old new → ListSoFar which names items i old → ListSoFar which names items (i + 1) new
   partials_more {i = i} {Known = Known} d below is known adds so_far = record {
     each = λ x there.
         let r : Ref = ref_of (get_or items i d) in
@@ -108,8 +88,13 @@ module _ {which : Candidates} {names : List (List ℕ)} {items : List Item} wher
         (v, now, rw (map_more ref_of items i d below) (found_next (map ref_of items) _ r x i (map_long ref_of items i below) here which w.items v.items found (rw is at told)));
   }
 
-  pub partials_all : {i : ℕ} {listed : List ℕ → Option (Vec ℕ)} → length items ≤ i → ListSoFar which names items i listed → ListPartials which names (map ref_of items) listed
-  partials_all {i = i} past so_far x there = let (v, is, found) = so_far.each x there in (v, is, found_taken which (map ref_of items) x v.items (simp (take_all i items past) at found))
+short_tail-append : (before x : List ℕ) → 4 ≤ length x → short_tail_number (before ++ x) ≡ short_tail_number x
+short_tail-append before x long = grind (arith, long, length-append, le-ltb, drop-append-add)
 
-pub no_partials : (which : Candidates) (names : List (List ℕ)) (refs : List Ref) (listed : List ℕ → Option (Vec ℕ)) → names ≡ [] → ListPartials which names refs listed
-no_partials which names refs listed none x there = let (k, inside, is) = rw none at there in absurd (omega (arith, inside))
+-- so a candidate of a partial name is there, where all of these are told by the Bloom filter
+pub candidate_marked : (t : ShortTails) (n x : List ℕ) → AreWholeTails t → t.any ≡ false → HasTail t x → IsCandidate x n → HasNumber t.tails (short_tail_number n)
+candidate_marked t n x whole none has one = elim (candidate_cases x n one) [
+  | inl (before, folder, is) ↦ rw is (search (rules, short_tail-append before x))
+  | inr head ↦
+      rw (head, short_tail-append (codes "refs/remotes/") (x ++ codes "/HEAD") (omega (arith, length-append x (codes "/HEAD"))), short_tail-append x (codes "/HEAD") (omega arith)) whole.head
+]

@@ -1,7 +1,7 @@
 -- What negative specs exclude.
-use Rattle.gix_refspec_match.proofs.Common.{List, [], ◌∷◌, None, Some, ◌≡◌, ℕ, ◌++◌, Option, sym, ◌∙◌, arith, inl, inr, is_some, ap, length, ◌⊎◌, ◌↔◌, MatchOption, IsTrue, Bool, cond, bytes_eq, IsSome}
-use Rattle.gix_refspec_match.proofs.Common.{HashMap, common_steps, Any-push, false≢true, cases_Bool, nil_from_length, gets, bytes_decides, hash_map_len, lookup, accepted_few, Lacks-from_absent, IsAccepted}
-use Rattle.gix_refspec_match.proofs.Common.{star, Lacks, the_name, by_pattern, Fits, Negative, Reading, IsExcludedBy, IsExcluded, ExcludeName, index_of, AreExclusionsAt, ExcludeNameAt, Exclusions, Key}
+use Rattle.gix_refspec_match.proofs.Common.{List, [], ◌∷◌, Some, ◌≡◌, ℕ, ◌++◌, Option, sym, ◌∙◌, arith, inl, inr, is_some, length, ◌⊎◌, ◌↔◌, MatchOption, IsTrue, Bool, cond, bytes_eq, IsSome, common_steps, Any-push}
+use Rattle.gix_refspec_match.proofs.Common.{cases_Bool, gets, bytes_decides, accepted_few, Lacks-from_absent, IsAccepted, star, Lacks, the_name, by_pattern, Fits, Negative, Reading, IsExcludedBy, IsExcluded}
+use Rattle.gix_refspec_match.proofs.Common.{ExcludeName, AreExclusionsAt, ExcludeNameAt, Exclusions}
 use Rattle.std.proofs.Common.{Any}
 use Rattle.gix_refspec_text.proofs.lemmas.lists.LacksLemmas.{Lacks-here, first_once}
 
@@ -25,8 +25,7 @@ pattern_excludes r x before after accepted negative source starred lacks n = (
 )
   where
     last : Lacks star after
-    last = Lacks-from_absent star after (λ more. accepted_few r x accepted (inl source)
-        (record { before = before; between = more.before; after = more.after; here = rw more.here at starred }))
+    last = Lacks-from_absent star after (λ more. accepted_few r x accepted (inl source) (record { before = before; between = more.before; after = more.after; here = rw more.here at starred }))
 
 pub exclusions_more : (g : List Reading) (r : Reading) (n : List ℕ) (Old New : Type 0) → Old ↔ IsExcluded g n → New ↔ (Old ⊎ IsExcludedBy n r) → New ↔ IsExcluded (g ++ r ∷ []) n
 exclusions_more [] r n Old New before added = grind (arith, before, added)
@@ -43,18 +42,9 @@ exclusions_at_more g r i old new long before adds n k at = elim (adds n k at) [
   | inr (same, by) ↦ (r, grind (arith, common_steps, gets, same, long), by)
 ]
 
-pub excluded_by_some : (es : Exclusions) (n : List ℕ) (k : ℕ) → ExcludeNameAt es n k → ExcludeName es n
-excluded_by_some es n k at = grind (arith, common_steps, at)
-
 -- a name is excluded where a spec is told that excludes it
 pub told_by_some : (es : Exclusions) (n : List ℕ) (found : Option ℕ) (b : Bool) → MatchOption found (¬ (ExcludeName es n)) (ExcludeNameAt es n) → b ≡ is_some found → IsTrue b ↔ ExcludeName es n
-told_by_some es n found b at is = grind (arith, at, is, excluded_by_some es n)
-
-pub nothing_found : (o : Option ℕ) → None ≡ o → ¬ (IsSome o)
-nothing_found o none some = false≢true (ap (λ (p : Option ℕ). is_some p) none ∙ some)
-
-pub unlisted : {S : Type 0} (m : HashMap Key ℕ S) → hash_map_len m ≡ 0 → (n : List ℕ) → None ≡ index_of m n
-unlisted m empty n = sym (ap (lookup (λ (k : Key). bytes_eq n k.name.now)) (nil_from_length m.entries empty))
+told_by_some es n found b at is = grind (arith, at, is)
 
 pub Any-push-cases : {X : Type 0} (P : X → Type 0) (xs : List X) (x : X) → Any P (xs ++ x ∷ []) ↔ (Any P xs ⊎ P x)
 Any-push-cases P xs x = (λ any. grind (arith, common_steps), λ any. elim any [ inl old ↦ grind (arith, common_steps) | inr last ↦ Any-push P xs x last ])

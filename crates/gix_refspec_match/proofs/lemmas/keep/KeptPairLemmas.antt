@@ -30,15 +30,13 @@ kept_from g l before (m ∷ xs) ys k pair whole place new included (made, rest, 
       | inr other ↦
           let next : length (before ++ m ∷ []) ≡ k + 1 = omega (arith, length-append before (m ∷ []), place) in
           Any-right (IsOfPair pair) (option_to_list made) rest (kept_from g l (before ++ m ∷ []) xs rest (k + 1) pair (append_assoc before (m ∷ []) xs ∙ whole) next
-          (λ found. let cases = Any-cases (IsOfPair pair) before (m ∷ []) found in grind (arith, new, cases, other))
-          included more (grind (arith, any, other)))
+          (λ found. let cases = Any-cases (IsOfPair pair) before (m ∷ []) found in grind (arith, new, cases, other)) included more (grind (arith, any, other)))
     ])
   where
     -- the first mapping with the pair is kept
     stays : IsOfPair pair m → IsKeptAt g l k m
     stays same = record {
-      first = λ has. new (Any-weaker (IsOfPair m) (IsOfPair pair)
-          (λ x is. record { source = is.source ∙ same.source; destination = is.destination ∙ same.destination })
+      first = λ has. new (Any-weaker (IsOfPair m) (IsOfPair pair) (λ x is. record { source = is.source ∙ same.source; destination = is.destination ∙ same.destination })
           before (Any-HasPair before m (rw (← whole, ← place, take-append_seam before (m ∷ xs)) at has)));
       included = λ by. included (rw same.source at by);
     }

@@ -1,21 +1,9 @@
 -- Items without some that have the name of an earlier one: a matcher's hits among them make what its hits among all make.
-use Rattle.gix_refspec_match.proofs.Common.{List, [], ◌∷◌, None, Some, refl, ◌≡◌, ℕ, ◌++◌, Option, sym, ◌∙◌, arith, inl, inr, subst, ap, append-nil, ◌<◌, length, map, take, drop, ◌+◌, get_or, append_assoc, ◌⊎◌}
-use Rattle.gix_refspec_match.proofs.Common.{◌↔◌, zero, suc, length-append, ◌-◌, slice_get, get_or-append_seam, take-append_seam, drop-append_seam, slice_get-get_or, all_weaker, kind_of_side, Ref, HasName}
-use Rattle.gix_refspec_match.proofs.Common.{MatchesAs, object, partial, SideKind, Reading, IsMadeFrom, IsPartBehind, IsPart, Ends, IsHit, Mapped, IsSamePair, HasPair, mapping_of, Thins, hit_of, hit_by}
-use Rattle.gix_refspec_match.proofs.Common.{AreFound, turned, hit_at, IsFound, HaveKinds, TakesIn, filled_side, IsFirstIn, IsTaken, word_in, DeclaredHit, Candidates, First, Matcher}
-use Rattle.gix_refspec_match.proofs.lemmas.hits.{FoundLemmas.blank, FoundLemmas.made_each, FoundLemmas.of_hits, GroupLemmas.FindsEnough}
-use Rattle.gix_refspec_match.proofs.lemmas.hits.HitLemmas.{is_hit, matches_as, taken_first, taken_matches}
-use Rattle.gix_refspec_match.proofs.lemmas.{index.FirstPlacesLemmas.has_last, keep.KeptLemmas.HasPair-left, keep.KeptLemmas.HasPair-last}
-use Rattle.gix_refspec_match.proofs.lemmas.keep.ThinLemmas.{cut, pair_alike, thins_all, thins_behind}
-
-between : (before after n w : List ℕ) → n ≡ before ++ (w ++ after) → w ≡ take (length n - length after - length before) (drop (length before) n)
-between before after n w is =
-    let size : length before + (length w + length after) - length after - length before ≡ length w = omega arith in
-    rw (is, length-append, length-append, size, drop-append_seam, take-append_seam)
-
--- a pattern matches with the word between its texts
-matched_word : (k : SideKind) (r : Ref) (word : Option (List ℕ)) → MatchesAs k r word → word ≡ word_in k r.name
-matched_word k r word is = grind (arith, is, between)
+use Rattle.gix_refspec_match.proofs.Common.{List, [], ◌∷◌, None, Some, refl, ◌≡◌, ℕ, ◌++◌, sym, ◌∙◌, arith, inl, inr, subst, ap, append-nil, ◌<◌, length, map, drop, ◌+◌, get_or, append_assoc, ◌⊎◌, ◌↔◌, zero, suc}
+use Rattle.gix_refspec_match.proofs.Common.{length-append, slice_get, get_or-append_seam, slice_get-get_or, all_weaker, kind_of_side, Ref, HasName, object, partial, SideKind, Reading, IsMadeFrom, IsPartBehind}
+use Rattle.gix_refspec_match.proofs.Common.{IsPart, Ends, IsHit, Mapped, IsSamePair, HasPair, mapping_of, Thins, hit_of, hit_by, AreFound, turned, hit_at, IsFound, HaveKinds, TakesIn, filled_side, IsFirstIn, IsTaken}
+use Rattle.gix_refspec_match.proofs.{Common.{DeclaredHit, Candidates, First, Matcher}, lemmas.hits.HitLemmas.{matched_word, blank, made_each, of_hits, far_filled, matches_as, takes_in, taken_first, taken_matches}}
+use Rattle.gix_refspec_match.proofs.lemmas.{hits.GroupLemmas.FindsEnough, index.FirstPlacesLemmas.has_last, keep.KeptLemmas.{HasPair-left, HasPair-last, pair_alike, thins_all, thins_behind}, lists.ListsLemmas.cut}
 
 hit_seen : (ms : List Matcher) (items : List Ref) (k i : ℕ) (m : Matcher) (d : Ref) → slice_get ms k ≡ Some m → i < length items → hit_of ms items (hit_at k i) ≡ hit_by m i (get_or items i d)
 hit_seen ms items k i m d is below = let there = slice_get-get_or items i d below in cc
@@ -31,7 +19,7 @@ found_hits which ms items ends k m found at have are =
           let (word, matches) = of.0.matched in
           let far = ap (filled_side m.other) (sym (matched_word kind r word matches)) in
           let seen : hit_of ms items h ≡ hit_by m i r = ap (hit_of ms items) of.1 ∙ hit_seen ms items k i m d at below in
-          rw seen (is_hit which items ends m m.spec_index i r word (hit_by m i r) have matches of.0.first far refl refl refl)),
+          rw seen (search (takes_in which items ends.near kind r word have.near matches of.0.first, far_filled ends.far m.other word (hit_by m i r).far have.far far))),
       (λ hit here.
           let matched = matches_as ends.near kind r here.word have.near (taken_matches which items ends.near r here.word here.takes) in
           (hit_at k i, (record { matched = (here.word, matched); first = taken_first which items ends.near kind r here.word have.near here.takes }, refl))),
@@ -46,24 +34,13 @@ EachName P refs = (n : List ℕ) → HasName refs n → P n
 each_next : (P : List ℕ → Type 0) (before : List Ref) (r : Ref) → EachName P before → P r.name → EachName P (before ++ r ∷ [])
 each_next P before r all here n has = elim ((has_last before r n).0 has) [ inl earlier ↦ all n earlier | inr same ↦ subst P same here ]
 
-part_has : (before refs part : List Ref) (places : List ℕ) → IsPartBehind before refs part places → EachName (HasName refs) part
-part_has before [] part places is n has = rw is.0 at has
-part_has before (r ∷ refs) part places (inl (rest, others, all, at, more)) n has =
-    let here : HasName (r ∷ rest) n = rw all at has in grind (arith, here, part_has (before ++ r ∷ []) refs rest others more n)
-part_has before (r ∷ refs) part places (inr (repeats, more)) n has = inr (part_has (before ++ r ∷ []) refs part places more n has)
-
-has_part : (P : List ℕ → Type 0) (before refs part : List Ref) (places : List ℕ) → IsPartBehind before refs part places → EachName P before → EachName P part → EachName P refs
-has_part P before [] part places is old new n has = absurd has
-has_part P before (r ∷ refs) part places (inl (rest, others, all, at, more)) old new n has =
-    let both : EachName P (r ∷ rest) = rw all at new in
-    let here = both r.name (inl refl) in
-    elim has [ inl same ↦ subst P same here | inr there ↦ has_part P (before ++ r ∷ []) refs rest others more (each_next P before r old here) (λ m later. both m (inr later)) n there ]
-has_part P before (r ∷ refs) part places (inr (repeats, more)) old new n has =
-    let here = old r.name repeats in
-    elim has [ inl same ↦ subst P same here | inr there ↦ has_part P (before ++ r ∷ []) refs part places more (each_next P before r old here) new n there ]
-
-part_names : (refs part : List Ref) (places : List ℕ) → IsPart refs part places → SameNames refs part
-part_names refs part places is n = (has_part (HasName part) [] refs part places is (λ m none. absurd none) (λ m has. has) n, part_has [] refs part places is n)
+-- the part has each name of the refs, if not from before them
+part_has : (before refs part : List Ref) (places n : List ℕ) → IsPartBehind before refs part places → (HasName before n ⊎ HasName refs n) ↔ (HasName before n ⊎ HasName part n)
+part_has before [] part places n is = rw is.0 (grind arith)
+part_has before (r ∷ refs) part places n (inl (rest, others, all, at, more)) = rw all (grind (arith, has_last before r n, part_has (before ++ r ∷ []) refs rest others n more))
+part_has before (r ∷ refs) part places n (inr (repeats, more)) =
+    let old : r.name ≡ n → HasName before n = λ same. subst (HasName before) same repeats in
+    grind (arith, old, has_last before r n, part_has (before ++ r ∷ []) refs part places n more)
 
 pub part_read : (all before refs part : List Ref) (places : List ℕ) (i d : ℕ) → all ≡ before ++ refs → IsPartBehind before refs part places → i < length part → (get_or places i d < length all) × (get_or all (get_or places i d) blank ≡ get_or part i blank)
 part_read all before [] part places i d whole is below = absurd (omega (arith, below, ap length is.0))
@@ -73,9 +50,6 @@ part_read all before (r ∷ refs) part places (suc i) d whole (inl (rest, others
     rw (at, is) (part_read all (before ++ r ∷ []) refs rest others i d (whole ∙ sym (append_assoc before (r ∷ []) refs)) more (omega (arith, below, ap length is)))
 part_read all before (r ∷ refs) part places i d whole (inr (repeats, more)) below = part_read all (before ++ r ∷ []) refs part places i d (whole ∙ sym (append_assoc before (r ∷ []) refs)) more below
 
-matched_named : (kind : SideKind) (r s : Ref) (word : Option (List ℕ)) → ((id : List ℕ) → ¬ (kind ≡ object id)) → r.name ≡ s.name → MatchesAs kind r word → MatchesAs kind s word
-matched_named kind r s word plain same is = grind (arith, is, same, plain)
-
 first_named : (kind : SideKind) (which : Candidates) (a b : List Ref) (n : List ℕ) → SameNames a b → IsFirstIn kind which a n → IsFirstIn kind which b n
 first_named (partial x) First a b n names first =
     let absent = all_weaker (λ m. ¬ (HasName a m)) (λ m. ¬ (HasName b m)) (λ m none has. none ((names m).1 has)) first.earlier first.absent in
@@ -84,10 +58,7 @@ first_named kind which a b n names first = tt
 
 -- over lists of the same names a needle takes refs of one name alike
 taken_named : (which : Candidates) (kind : SideKind) (a b : List Ref) (r s : Ref) → ((id : List ℕ) → ¬ (kind ≡ object id)) → SameNames a b → r.name ≡ s.name → IsTaken which a kind r → IsTaken which b kind s
-taken_named which kind a b r s plain names same taken = record {
-  matched = (taken.matched.0, matched_named kind r s taken.matched.0 plain same taken.matched.1);
-  first = first_named kind which a b s.name names (subst (IsFirstIn kind which a) same taken.first);
-}
+taken_named which kind a b r s plain names same taken = grind (arith, plain, names, same, taken, first_named)
 
 abbrev ref_named : List ℕ → Ref
 ref_named n = record { name = n; target = []; object = None }
@@ -113,10 +84,7 @@ module _ (g : List Reading) (which : Candidates) (ms : List Matcher) (all : List
     Takes n = IsTaken which all (kind_of_side m.needle) (ref_named n)
 
     takes : (items : List Ref) (r : Ref) → SameNames items all → IsTaken which items (kind_of_side m.needle) r ↔ Takes r.name
-    takes items r same = (
-      taken_named which (kind_of_side m.needle) items all r (ref_named r.name) plain same refl,
-      taken_named which (kind_of_side m.needle) all items (ref_named r.name) r plain (λ n. ((same n).1, (same n).0)) refl,
-    )
+    takes items r same = (taken_named which _ items all r (ref_named r.name) plain same refl, taken_named which _ all items (ref_named r.name) r plain (λ n. ((same n).1, (same n).0)) refl)
 
     -- what hits make, and the hit on the ref behind some
     abbrev makes : List DeclaredHit → List Mapped
@@ -137,9 +105,8 @@ module _ (g : List Reading) (which : Candidates) (ms : List Matcher) (all : List
     settled_next : (made : List Mapped) (before refs : List Ref) (r : Ref) → all ≡ before ++ (r ∷ refs) → Takes r.name → EachName (Settled made) before → EachName (Settled (made ++ makes (here before ∷ []))) (before ++ r ∷ [])
     settled_next made before refs r whole of known =
         let new = mapping_of which (hit_of ms all (here before)) in
-        let pair : IsSamePair new (mapping_of which (hit_by m 0 (ref_named r.name))) = rw (here_is before refs r whole) (same_pair which m (length before) 0 r) in
         each_next (Settled (made ++ new ∷ [])) before r (λ n has. elim (known n has) [ inl (t, there) ↦ inl (t, HasPair-left made (new ∷ []) _ there) | inr none ↦ inr none ])
-        (inl (of, HasPair-last made new _ pair))
+        (inl (of, HasPair-last made new _ (rw (here_is before refs r whole) (same_pair which m (length before) 0 r))))
 
     -- the hits on all refs from some on, and what the hits on the part make is most of what they make
     abbrev Finds : List Ref → List Ref → List Mapped → List DeclaredHit → Type 0
@@ -165,9 +132,7 @@ module _ (g : List Reading) (which : Candidates) (ms : List Matcher) (all : List
           | inl (h, rest_found, of, same, more_found) ↦
               let taken = of_part.0 of.0 in
               let (hits, among_all, thins) = finds_from (before ++ r ∷ []) refs others (i + 1) (made ++ makes (here before ∷ [])) rest_found next later (settled_next made before refs r whole taken known) more_found in
-              let turned_found = map (turned places) rest_found in
-              let turns : makes (map (turned places) found) ≡ makes (here before ∷ turned_found) = rw (same, of.1, read) refl in
-              (here before ∷ hits, found_next before refs r hits taken among_all, inl (makes turned_found, turns, thins))
+              (here before ∷ hits, found_next before refs r hits taken among_all, inl (makes (map (turned places) rest_found), (rw (same, of.1, read) refl), thins))
         ]
     finds_from before (r ∷ refs) rest i made found whole (inr (repeats, more)) known are =
         let next = whole ∙ sym (append_assoc before (r ∷ []) refs) in
@@ -182,6 +147,6 @@ module _ (g : List Reading) (which : Candidates) (ms : List Matcher) (all : List
   pub once_enough : (part : List Ref) (places : List ℕ) (k : ℕ) (m : Matcher) (found : List DeclaredHit) → slice_get ms k ≡ Some m → IsPart all part places → ((id : List ℕ) → ¬ (kind_of_side m.needle ≡ object id)) → AreFound which part k m found
       → FindsEnough g which all m (of_hits which (map (hit_of ms all) (map (turned places) found)))
   once_enough part places k m found at is plain are ends have =
-      let (hits, among_all, thins) = finds_from part places k m at (part_names all part places is) plain [] all part 0 [] found refl is (λ n has. absurd has) are in
+      let (hits, among_all, thins) = finds_from part places k m at (λ n. grind (arith, part_has [] all part places n is)) plain [] all part 0 [] found refl is (λ n has. absurd has) are in
       let whole = map (hit_of ms all) hits in
       (whole, found_hits which ms all ends k m hits at have among_all, λ before. rw append-nil at (thins_behind g before [] (of_hits which whole) _ thins))

@@ -1,7 +1,6 @@
 -- Lists that are joined from lists, and lists of which nothing is made.
 use Rattle.std.proofs.Common.{List, [], ◌∷◌, None, Some, refl, ◌≡◌, ℕ, ◌++◌, Option, sym, ◌∙◌, arith, subst, ap, append-nil, ◌<◌, length, map, take, drop, ◌+◌, get_or, append_assoc, zero, suc, option_to_list}
-use Rattle.std.proofs.Common.{add-zero, length-append, take-append-drop, drop-cons}
-use Rattle.std.proofs.{Math.Seq.get_or-append_seam, lemmas.List.map_more, lemmas.List.length-map, lemmas.List.length-take-le, lemmas.List.map-append, lemmas.List.nil_from_length}
+use Rattle.std.proofs.{Common.{add-zero, length-append, take-append-drop, drop-cons}, Math.Seq.get_or-append_seam, lemmas.List.{map_more, length-map, length-take-le, map-append, nil_from_length}}
 use Rattle.gix_refspec_match.specs.Matching.Lists.{MakesOf, IsMadeFrom, IsJoinedFrom}
 
 pub map_long : {A B : Type 0} (f : A → B) (xs : List A) (i : ℕ) → i < length xs → length (map f (take i xs)) ≡ i
@@ -22,8 +21,7 @@ made_next R i xs x ys made long so_far makes = made_after R 0 i xs x ys made (om
 
 -- so it is with one more of some elements that are mapped
 pub made_more : {A X Y : Type 0} (R : ℕ → X → Y → Type 0) (f : A → X) (xs : List A) (i : ℕ) (d : A) (ys zs : List Y)
-    (made : Option Y) → i < length xs → IsMadeFrom R 0 (map f (take i xs)) ys → MakesOf R i (f (get_or xs i d)) made
-    → zs ≡ ys ++ option_to_list made → IsMadeFrom R 0 (map f (take (i + 1) xs)) zs
+    (made : Option Y) → i < length xs → IsMadeFrom R 0 (map f (take i xs)) ys → MakesOf R i (f (get_or xs i d)) made → zs ≡ ys ++ option_to_list made → IsMadeFrom R 0 (map f (take (i + 1) xs)) zs
 made_more R f xs i d ys zs made below so_far makes more = rw (map_more f xs i d below, more) (made_next R i (map f (take i xs)) (f (get_or xs i d)) ys made (map_long f xs i below) so_far makes)
 
 -- one more element after the others, whose list is joined to theirs
@@ -40,15 +38,13 @@ made_none R k [] made i d below y holds = absurd (omega arith)
 made_none R k (x ∷ xs) (Some z, rest, here, more, is) i d below y holds = absurd (cc)
 made_none R k (x ∷ xs) (None, rest, none, more, is) zero d below y holds = none y (subst (λ (n : ℕ). R n x y) (omega arith) holds)
 made_none R k (x ∷ xs) (None, rest, none, more, is) (suc i) d below y holds =
-    let at : k + suc i ≡ k + 1 + i = omega arith in
-    made_none R (k + 1) xs (subst (IsMadeFrom R (k + 1) xs) (sym is) more) i d (omega arith) y (subst (λ (n : ℕ). R n (get_or xs i d) y) at holds)
+    made_none R (k + 1) xs (subst (IsMadeFrom R (k + 1) xs) (sym is) more) i d (omega arith) y (subst (λ (n : ℕ). R n (get_or xs i d) y) (omega arith) holds)
 
 pub nothing_made : {X Y : Type 0} (R : ℕ → X → Y → Type 0) (k : ℕ) (before : List X) (x : X) (after : List X) (y : Y) → IsMadeFrom R k (before ++ (x ∷ after)) [] → R (k + length before) x y → ⊥
 nothing_made R k before x after y made makes = made_none R k _ made (length before) x (omega (arith, length-append before (x ∷ after))) y (rw get_or-append_seam makes)
 
 pub nothing_joined : {X Y : Type 0} (R : ℕ → X → List Y → Type 0) (k : ℕ) (before : List X) (x : X) (after : List X) → IsJoinedFrom R k (before ++ (x ∷ after)) [] → R (k + length before) x []
-nothing_joined R k [] x after (made, rest, here, more, same) =
-    rw add-zero (subst (R k x) (nil_from_length made (omega (arith, ap length same, length-append made rest))) here)
+nothing_joined R k [] x after (made, rest, here, more, same) = rw add-zero (subst (R k x) (nil_from_length made (omega (arith, ap length same, length-append made rest))) here)
 nothing_joined R k (b ∷ bs) x after (made, rest, here, more, same) =
     let at : k + length (b ∷ bs) ≡ k + 1 + length bs = omega arith in
     rw at (nothing_joined R (k + 1) bs x after (rw (nil_from_length rest (omega (arith, ap length same, length-append made rest))) at more))
@@ -58,5 +54,4 @@ MakesOnce {X} {Y} R = (k : ℕ) (x : X) (y z : Y) → R k x y → R k x z → y 
 
 pub one_joined : {X Y : Type 0} (R : ℕ → X → List Y → Type 0) → MakesOnce R → (k : ℕ) (xs : List X) (ys zs : List Y) → IsJoinedFrom R k xs ys → IsJoinedFrom R k xs zs → ys ≡ zs
 one_joined R once k [] ys zs of_ys of_zs = of_ys ∙ sym of_zs
-one_joined R once k (x ∷ xs) ys zs (a, rest, a_here, a_more, a_same) (b, others, b_here, b_more, b_same) =
-    cc (once k x a b a_here b_here, one_joined R once (k + 1) xs rest others a_more b_more)
+one_joined R once k (x ∷ xs) ys zs (a, rest, a_here, a_more, a_same) (b, others, b_here, b_more, b_same) = cc (once k x a b a_here b_here, one_joined R once (k + 1) xs rest others a_more b_more)

@@ -59,8 +59,7 @@ MakesOnly {X} {Y} R P x = (j : ℕ) → (y : Y) × R j x y × ((z : Y) → R j x
 
 pub any_made : {X Y : Type 0} (R : ℕ → X → Y → Type 0) (P : Y → Type 0) (k : ℕ) (xs : List X) (ys : List Y) → IsMadeFrom R k xs ys → Any (MakesOnly R P) xs → Any P ys
 any_made R P k [] ys empty any = absurd any
-any_made R P k (x ∷ xs) ys (None, rest, none, more, is) any =
-    rw is (elim any [ inl here ↦ absurd (none (here k).0 (here k).1) | inr later ↦ any_made R P (k + 1) xs rest more later ])
+any_made R P k (x ∷ xs) ys (None, rest, none, more, is) any = rw is (elim any [ inl here ↦ absurd (none (here k).0 (here k).1) | inr later ↦ any_made R P (k + 1) xs rest more later ])
 any_made R P k (x ∷ xs) ys (Some y, rest, makes, more, is) any = let others = any_made R P (k + 1) xs rest more in
     rw is (elim any [ inl here ↦ inl ((here k).2 y makes) | inr later ↦ inr (others later) ])
 

@@ -1,5 +1,4 @@
-use Rattle.gix_refspec_match.proofs.Common.{arith, take, take_all, length-map, length-take-le, map_next, reading_of}
-use Rattle.gix_refspec_match.proofs.lemmas.keep.ExclusionLemmas.{exclusions_at_more, exclusions_more}
+use Rattle.gix_refspec_match.proofs.{Common.{arith, take, take_all, length-map, length-take-le, map_next, reading_of}, lemmas.keep.ExclusionLemmas.{exclusions_at_more, exclusions_more}}
 use Rattle.gix_refspec_match.proofs.exclusions.Exclusions.of.Goals as goal
 
 pub loop-index-preserved : goal.loop-index-preserved
@@ -11,8 +10,5 @@ loop-index-preserved c =
       exclusions_at_more _ _ i c.loop-index.exclusions c.add.new.self (omega (arith, length-map (take i specs) reading_of, length-take-le i specs (omega (arith, c.loop-index-test.true)))) c.loop-index.invariant.1 c.in_ok-add.ensures.indexes,
     )
 
-pub returns-clause-names : goal.returns-clause-names
-returns-clause-names c = rw (take_all c.loop-index.index c.args.specs.now (omega arith)) at c.loop-index.invariant.0
-
-pub returns-clause-indexes : goal.returns-clause-indexes
-returns-clause-indexes c = rw (take_all c.loop-index.index c.args.specs.now (omega arith)) at c.loop-index.invariant.1
+pub returns : goal.returns
+returns c = let both = rw (take_all c.loop-index.index c.args.specs.now (omega arith)) at c.loop-index.invariant in record { names = both.0; indexes = both.1 }

@@ -1,5 +1,5 @@
-use Rattle.gix_refspec_match.proofs.Common.{None, ◌≡◌, arith, inl, inr, take_all, common_steps, All-more, MatchOption-at_none, FitsName}
-use Rattle.gix_refspec_match.proofs.lemmas.keep.ExclusionLemmas.{nothing_found, unlisted}
+use Rattle.gix_refspec_match.proofs.Common.{None, ◌≡◌, ℕ, Option, is_some, ap, sym, ◌∙◌, false≢true, nil_from_length, lookup, bytes_eq, Key, arith, inl, inr, take_all, common_steps, All-more, MatchOption-at_none}
+use Rattle.gix_refspec_match.proofs.Common.{FitsName}
 use Rattle.gix_refspec_match.proofs.exclusions.Exclusions.spec_of.Goals as goal
 
 pub loop-pattern-preserved : goal.loop-pattern-preserved
@@ -11,8 +11,10 @@ loop-pattern-preserved c =
 pub returns : goal.returns
 returns c excluded = elim excluded [
   | inl named ↦ elim c.if-not-is_empty.branch [
-    | goal.then-not-is_empty+in_default w ↦ nothing_found _ w.in_default.ensures.value named
-    | goal.else-not-is_empty w ↦ nothing_found _ (unlisted c.args.self.now.names (c.is_empty.ensures.0 w.if-not-is_empty.false) c.args.name.now) named
+    | goal.then-not-is_empty+in_default w ↦ false≢true (ap (λ (o : Option ℕ). is_some o) w.in_default.ensures.value ∙ named)
+    | goal.else-not-is_empty w ↦
+        let empty = nil_from_length c.args.self.now.names.entries (c.is_empty.ensures.0 w.if-not-is_empty.false) in
+        false≢true (ap (λ l. is_some (lookup (λ (k : Key). bytes_eq c.args.name.now k.name.now) l)) (sym empty) ∙ named)
   ]
   | inr (k, p, below, read, fits) ↦
       (rw (take_all _ _ c.loop-pattern-test.false, c.deref-pattern-items.ensures.value) at c.loop-pattern.invariant) k p below (rw read fits)

@@ -1,7 +1,5 @@
 -- What is listed of the slices is listed of the names, and without names there is nothing to list.
-use Rattle.gix_refspec_match.proofs.Common.{List, [], None, ◌≡◌, ℕ, sym, ◌∙◌, arith, ap, length, map, Vec, bytes_eq, HashMap, eqb-true, nil_from_length, IsEmpty, lookup, vec_len, list_of, ref_of}
-use Rattle.gix_refspec_match.proofs.Common.{name_bytes, Key, NameRef}
-use Rattle.gix_refspec_match.proofs.lemmas.index.PartialLemmas.{no_partials}
+use Rattle.gix_refspec_match.proofs.Common.{List, [], None, ◌≡◌, ℕ, sym, ◌∙◌, arith, ap, length, map, Vec, bytes_eq, HashMap, eqb-true, nil_from_length, IsEmpty, lookup, vec_len, list_of, name_bytes, Key, NameRef}
 use Rattle.gix_refspec_match.proofs.index.Index.of.Goals as goal
 
 unnamed : (names : Vec NameRef) → vec_len names ≡ 0 → map name_bytes names.items ≡ []
@@ -23,7 +21,7 @@ returns c =
         | goal.else-is_empty+in_ok-full w ↦ rw (w.full-is, ← w.as_slice.ensures.value) w.in_ok-full.ensures
       ];
       partial = elim c.if-is_empty-2.branch [
-        | goal.then-is_empty-2 w ↦ no_partials c.args.candidates _ (map ref_of c.args.items.now) _ (unnamed names.partial (eqb-true _ _ (sym c.is_empty-2.ensures ∙ w.if-is_empty-2.true)))
+        | goal.then-is_empty-2 w ↦ (λ x there. let (k, inside, is) = rw (unnamed names.partial (eqb-true _ _ (sym c.is_empty-2.ensures ∙ w.if-is_empty-2.true))) at there in absurd (omega (arith, inside)))
         | goal.else-is_empty-2+in_ok-partials w ↦ rw (w.partials-is, ← w.as_slice-else-is_empty-2.ensures.value) w.in_ok-partials.ensures
       ];
       prefixes = elim c.if-len-lt-MANY.branch [

@@ -1,5 +1,4 @@
-use Rattle.gix_refspec_match.proofs.Common.{Some, codes, Decides-eqb, strip_suffix_is, strip_prefix_is}
-use Rattle.gix_refspec_match.proofs.lemmas.hits.HitLemmas.{word_left}
+use Rattle.gix_refspec_match.proofs.{Common.{Some, codes, Decides-eqb, strip_suffix_is, strip_prefix_is}, lemmas.hits.HitLemmas.word_left}
 
 pub returns : Rattle.gix_refspec_match.proofs.index.partials.remote_of_head.Goals.returns
 returns c =

@@ -1,11 +1,14 @@
-use Rattle.gix_refspec_match.proofs.Common.{take_all}
-use Rattle.gix_refspec_match.proofs.lemmas.index.PrefixLemmas.{fronts_started, item_added, lengths_started}
+use Rattle.gix_refspec_match.proofs.{Common.{length, false, get_or, rules, cases_Bool, cases_eq, nil_from_length, IsFlagged, take_all}, lemmas.index.IndexLemmas.{all_at, item_added}}
 use Rattle.gix_refspec_match.proofs.index.prefixes.places_of_prefixes.Goals as goal
 
 pub loop-place-init : goal.loop-place-init
 loop-place-init c =
-    let started = c.in_ok-places.ensures in
-    (lengths_started _ c.in_ok-lengths.lengths.items _ c.in_ok-lengths.ensures started, fronts_started _ _ started)
+    let started = c.in_ok-places.ensures in (
+      (λ prefix v is.
+          let cases = cases_Bool (get_or c.in_ok-lengths.lengths.items (length prefix) false) in
+          search (rules, started.others prefix, all_at (λ n. IsFlagged c.in_ok-lengths.lengths.items (length n)) _ prefix c.in_ok-lengths.ensures)),
+      (λ prefix v is. let cases = cases_eq (length v.items) 0 in search (rules, nil_from_length v.items, started.others prefix, started.each prefix)),
+    )
 
 pub loop-place-preserved : goal.loop-place-preserved
 loop-place-preserved c =

@@ -1,5 +1,5 @@
-use Rattle.gix_refspec_match.proofs.Common.{arith, take_all, rules}
-use Rattle.gix_refspec_match.proofs.lemmas.hits.MatcherLemmas.{equal_from_duplicates, flagged_matcher, forward_matcher, no_id_object, no_matcher, no_object, object_here, object_unmatched, spec_joined, spec_skipped}
+use Rattle.gix_refspec_match.proofs.{Common.{arith, take_all, rules}, lemmas.hits.MatcherLemmas.{equal_from_duplicates, flagged_matcher, forward_matcher, no_id_object, no_matcher, no_object, object_here}}
+use Rattle.gix_refspec_match.proofs.lemmas.hits.MatcherLemmas.{object_unmatched, spec_joined, spec_skipped}
 use Rattle.gix_refspec_match.proofs.matcher.Matchers.forward.Goals as goal
 
 pub loop-spec_index-preserved-in_default : goal.loop-spec_index-preserved-in_default

@@ -1,5 +1,5 @@
-use Rattle.gix_refspec_match.proofs.Common.{None, Some, ◌≡◌, sym, arith, inl, inr, append-nil, take_all, kind_of_side, reading_of, DeclaredKind as SideKind, Partial, IsNameKind}
-use Rattle.gix_refspec_match.proofs.lemmas.hits.MissingLemmas.{named_here, named_next, none_here, other_here}
+use Rattle.gix_refspec_match.proofs.Common.{made_more, IsNamed, None, Some, ◌≡◌, sym, arith, inl, inr, append-nil, kind_of_side, reading_of, DeclaredKind as SideKind, Partial, IsNameKind}
+use Rattle.gix_refspec_match.proofs.lemmas.hits.MatcherLemmas.{named_here, other_here}
 use Rattle.gix_refspec_text.specs.declared.side.SideKind.TheVariants.{FullName}
 use Rattle.gix_refspec_match.proofs.matcher.Matchers.of_names.Goals as goal
 
@@ -8,18 +8,13 @@ no_name s full short is = grind (arith, full, short, is)
 
 pub loop-spec_index-preserved-in_default : goal.loop-spec_index-preserved-in_default
 loop-spec_index-preserved-in_default c =
-    named_next _ _ _ _ _ None c.loop-spec_index-test.true c.index-specs-spec_index.is c.loop-spec_index.invariant
-    (none_here c.loop-spec_index.spec_index (reading_of c.index-specs-spec_index.result) c.in_default.ensures) (sym (append-nil _))
+    made_more IsNamed reading_of _ _ c.index-specs-spec_index.result _ _ None c.loop-spec_index-test.true c.loop-spec_index.invariant
+    (rw (← c.index-specs-spec_index.is) (λ y is. c.in_default.ensures is.positive (rw is.is))) (sym (append-nil _))
 
 pub loop-spec_index-preserved : goal.loop-spec_index-preserved
 loop-spec_index-preserved c = elim c.match-sides.branch [
-  | goal.in-FullName+in_ok-push w ↦ rw w.list-is
-      (named_next _ _ _ _ _ (Some _) c.loop-spec_index-test.true c.index-specs-spec_index.is c.loop-spec_index.invariant
-      (named_here c.loop-spec_index.spec_index (reading_of c.index-specs-spec_index.result) c.in-Some.sides c.in-Some.ensures (elim w.in-FullName.is [ inl p ↦ rw p.1 tt | inr p ↦ rw p.1 tt ])) w.in_ok-push.ensures.items)
-  | goal.in_default-source w ↦ rw w.list-is
-      (named_next _ _ _ _ _ None c.loop-spec_index-test.true c.index-specs-spec_index.is c.loop-spec_index.invariant
-      (other_here c.loop-spec_index.spec_index (reading_of c.index-specs-spec_index.result) c.in-Some.sides c.in-Some.ensures (no_name _ w.in_default-source.not-FullName w.in_default-source.not-Partial)) (sym (append-nil _)))
+  | goal.in-FullName+in_ok-push w ↦ rw w.list-is (made_more IsNamed reading_of _ _ c.index-specs-spec_index.result _ _ (Some _) c.loop-spec_index-test.true c.loop-spec_index.invariant
+      (rw (← c.index-specs-spec_index.is) (named_here _ _ c.in-Some.sides c.in-Some.ensures (elim w.in-FullName.is [ inl p ↦ rw p.1 tt | inr p ↦ rw p.1 tt ]))) w.in_ok-push.ensures.items)
+  | goal.in_default-source w ↦ rw w.list-is (made_more IsNamed reading_of _ _ c.index-specs-spec_index.result _ _ None c.loop-spec_index-test.true c.loop-spec_index.invariant
+      (rw (← c.index-specs-spec_index.is) (other_here _ _ c.in-Some.sides c.in-Some.ensures (no_name _ w.in_default-source.not-FullName w.in_default-source.not-Partial))) (sym (append-nil _)))
 ]
-
-pub returns : goal.returns
-returns c = rw (take_all c.loop-spec_index.spec_index c.args.specs.now (omega arith)) at c.loop-spec_index.invariant

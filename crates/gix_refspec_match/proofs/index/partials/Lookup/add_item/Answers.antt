@@ -1,6 +1,5 @@
 -- The place is added for what is left with each place taken off, and other places aren't there.
-use Rattle.gix_refspec_match.proofs.Common.{codes, ◌++◌, inr, drop, on_ok_weaker, one_word}
-use Rattle.gix_refspec_match.proofs.lemmas.index.PartialLemmas.{adds_below, adds_candidates, adds_nothing, adds_only, one_place}
+use Rattle.gix_refspec_match.proofs.{Common.{codes, ◌++◌, inr, drop, on_ok_weaker, one_word}, lemmas.index.PartialLemmas.{adds_below, adds_candidates, adds_nothing, adds_only, one_place}}
 use Rattle.gix_refspec_match.proofs.index.partials.Lookup.add_item.Goals as goal
 
 pub returns-in_default : goal.returns-in_default
@@ -20,5 +19,4 @@ pub returns : goal.returns
 returns c =
     on_ok_weaker c.add-4.result (λ last. adds_candidates c.in_ok-add.ensures (adds_below c.in-Some.ensures c.in_ok-add-2.ensures
     (adds_only _ c.in-Some-below_place.ensures (λ x. one_place _ _ x c.in-Some-below_place.ensures) c.in_ok-add-3.ensures)
-    (adds_only _ c.in-Some-remote_of_head.ensures (λ x. one_word (codes "remotes/") (codes "/HEAD") _ _ x c.in-Some-remote_of_head.ensures) last)))
-    c.add-4.ensures
+    (adds_only _ c.in-Some-remote_of_head.ensures (λ x. one_word (codes "remotes/") (codes "/HEAD") _ _ x c.in-Some-remote_of_head.ensures) last))) c.add-4.ensures
