@@ -65,12 +65,17 @@ def definitions(text):
 
 def items(path, text):
     """The names of a list between braces, `a.b, c.{d, e as f}`, each with the module that it is of."""
-    for item in re.findall(r"[^,{}]+(?:\{(?:[^{}]|\{[^{}]*\})*\})?", text):
-        folder, brace, inner = item.strip().partition(".{")
+    depth, begin = 0, 0
+    for at, letter in enumerate(text + ","):
+        depth += (letter == "{") - (letter == "}")
+        if letter != "," or depth:
+            continue
+        item, begin = text[begin:at].strip(), at + 1
+        folder, brace, inner = item.partition(".{")
         if brace:
             yield from items(f"{path}.{folder}", inner[:-1])
-        elif item.strip():
-            name, _, local = item.strip().partition(" as ")
+        elif item:
+            name, _, local = item.partition(" as ")
             *below, name = name.split(".")
             yield ".".join([path, *below]), name, local or name
 
