@@ -124,19 +124,18 @@ def main():
     crates = kit.crates()
     if given.crate and given.crate not in crates:
         parser.error(f"there is no crate {given.crate}")
-    tried = refused = 0
-    try:
-        for crate in [crates[given.crate]] if given.crate else crates.values():
-            edits = [Edit(path) for path in crate.edits("edits", given.names)]
-            if edits:
-                if given.after:
-                    wait_for(crate.below, given.after)
-                tried += len(edits)
-                refused += try_all(crate, edits)
-    except Failure as failure:
-        sys.exit(f"tools/edits.py: {failure}")
+    crates = [crates[given.crate]] if given.crate else crates.values()
+    paths = {crate: crate.edits("edits", given.names) for crate in crates}
+    refused, tried = 0, sum(map(len, paths.values()))
     if not tried:
         parser.error("there is no such edit")
+    for crate in filter(paths.get, crates):
+        try:
+            if given.after:
+                wait_for(crate.below, given.after)
+            refused += try_all(crate, [Edit(path) for path in paths[crate]])
+        except Failure as failure:
+            print(f"edits: {failure}", flush=True)
     print(f"edits: {refused} of {tried} refused")
     sys.exit(refused != tried)
 
