@@ -165,10 +165,11 @@ def check_groups(program, library, words, status, rows):
 
 
 def check_limit(program, library):
-    """As much as an input may have, and a byte more, which is read last."""
+    """As much as an input may have, whose answer is written at once; and a byte more, which is read last."""
     given = b"a" * LIMIT
-    if made_of(program, "canon fetch", given) != (b"ok " + given + b"\n", 0):
-        fail("canon fetch", given, "not accepted")
+    ended, told = runs.run_with(library, [program, "canon", "fetch"], {}, input=given)
+    if (ended.stdout, ended.returncode, told.lstrip(b"r")) != (b"ok " + given + b"\n", 0, b"w"):
+        fail("canon fetch", given, f"{ended.stdout[:80]}, status {ended.returncode}, by {told[:80]}")
     for most, reads in (LIMIT, 2), (LIMIT // 4, 5):
         ended, told = runs.run_with(library, [program, "canon", "fetch"], {"CALLS_MOST": str(most)}, input=given + b"a")
         if (ended.stdout, ended.returncode) != (b"input too long\n", 3) or told.count(b"r") < reads:
