@@ -1,7 +1,7 @@
 # make help    prints these lines
 # make build   proves and builds the programs, at crates/refspec_map/out/refspec_map and crates/refspec/out/refspec
 # make run     its stored run, compared with what is stored; without proof where no program of these sources is built
-# make test    tables and lemmas, the gate, and then the scripts of tests/ over what it built
+# make test    tables and lemmas, proofs and edits, and the scripts of tests/ over what is built
 # make install PREFIX=FOLDER, uninstall: programs, git-refspec, manual pages, completions, and what install-lib puts there
 # make lib     proves and builds the library for C, at out/lib
 # make install-lib PREFIX=FOLDER, uninstall-lib: its header, static and shared library, .pc and cmake files, below FOLDER
@@ -94,9 +94,7 @@ test: kit
 	@tools/lemmas.py
 	@tools/walk.py
 	@tools/links.py
-	@tools/gate.sh $(LOGS) $(SONAME)
-	@$(MAKE) --no-print-directory build
-	@tests/run.sh $(PROGRAM) $(TESTS) $(PEOPLE_PROGRAM)
+	@tools/gate.sh $(LOGS) $(SONAME) $(PROGRAM) $(TESTS) $(PEOPLE_PROGRAM)
 	@grep -E '^[0-9]+ passed, 0 failed' $(LOGS)/gate.log | tail -n 1
 
 # The library for C: static and shared, and what pkg-config and cmake read of them. LIBDIR is the folder below

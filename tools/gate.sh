@@ -1,10 +1,11 @@
 #!/bin/bash
-# Runs rt ci, makes the library for C of what that has proved, and tries the edits: tools/gate.sh LOGS SONAME
+# Runs rt ci, makes the library for C of what that has proved, and runs the scripts of tests/ over what is built; beside all that
+# the edits are tried: tools/gate.sh LOGS SONAME PROGRAM TESTS REFSPEC
 #
-# The edits take what rt ci, which goes by its own estimate of memory, leaves free.
+# rt ci goes by its own estimate of memory, and the edits take what it leaves free.
 set -eu -o pipefail
 cd "$(dirname "${BASH_SOURCE[0]}")/.."
-usage='usage: tools/gate.sh LOGS SONAME'
+usage='usage: tools/gate.sh LOGS SONAME PROGRAM TESTS REFSPEC'
 logs=${1:?$usage}
 soname=${2:?$usage}
 mkdir -p "$logs"
@@ -29,5 +30,7 @@ edits=$!
 trap 'kill "$edits" 2>/dev/null || true' EXIT
 wait "$proofs"
 wait "$library" || { cat "$logs/lib.log" >&2; exit 1; }
+make --no-print-directory build
+tests/run.sh "${@:3}"
 wait "$edits" || { cat "$logs/edits.log" >&2; exit 1; }
 cat "$logs/edits.log"
