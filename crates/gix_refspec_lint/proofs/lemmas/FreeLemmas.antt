@@ -52,9 +52,9 @@ module _ (r c : Reading) (accepted : ∥ IsAccepted r ∥₁) (done : IsComplete
 none_shown : (g : List Reading) (i j : ℕ) (r q : Reading) (e : Example) → AreExamples g [] → slice_get g i ≡ Some r → slice_get g j ≡ Some q → ¬ (IsExample g i j e)
 none_shown g i j r q e none at also is =
     let below = slice_get_within g i r at in
-    let Rows : ℕ → Reading → List Example → Type 0 = λ k p row. IsMadeFrom (λ l p x. IsExample g k l x) 0 g row in
-    let row = nothing_joined Rows 0 _ _ _ (subst (λ h. IsJoinedFrom Rows 0 h []) (sym (map-id g) ∙ map_split (λ (x : Reading). x) g i r below) none) in
-    made_none (λ l p x. IsExample g i l x) 0 g (subst (λ k. Rows k r []) (omega (arith, map_long (λ (x : Reading). x) g i below)) row) j q (slice_get_within g j q also) e (subst (λ l. IsExample g i l e) (omega arith) is)
+    let Shown : ℕ → Reading → List Example → Type 0 = λ k p row. IsMadeFrom (λ l p x. IsExample g k l x) 0 g row in
+    let row = nothing_joined Shown 0 _ _ _ (subst (λ h. IsJoinedFrom Shown 0 h []) (sym (map-id g) ∙ map_split (λ (x : Reading). x) g i r below) none) in
+    made_none (λ l p x. IsExample g i l x) 0 g (subst (λ k. Shown k r []) (omega (arith, map_long (λ (x : Reading). x) g i below)) row) j q (slice_get_within g j q also) e (subst (λ l. IsExample g i l e) (omega arith) is)
 
 fetched_by : (g h : List Reading) (refs : List Ref) (kept : List Mapped) (m : Mapped) (d : List ℕ) → AllZip IsCompleted g h → AreKeptForward h refs kept → Contains kept m → IsSound m
     → m.destination ≡ Some d → (k : ℕ) × Fetches g refs k m.source (Some d)
