@@ -8,7 +8,7 @@ use Rattle.gix_refspec.proofs.Common.{IsRefused, IsIdText, IsLowerText, HasIdFau
 use Rattle.gix_refspec.proofs.Common.{EachSource, Transpose, Cover, CoverTogether, FetchGroupReadsBack, IsCoveredBy, IsSourceAmong, IsDestinationAmong, GoesBothWays, ReadsAgainAs, Lacks-ContainsText, BeginsWithOne}
 use Rattle.gix_refspec.proofs.{Common.{AreExpansions, same_Some, by_cases, EqualGroups, AreFetches, FetchTheSame, rules, main_ref, IsExpansion}, facts.KeptFacts.{at_spec, group, remote_refs, tracking_refs}}
 use Rattle.{gix_refspec.{proofs.facts.ValidationFacts.{both_to_x, foo_fix, validated, unequal}, specs.Laws.Reasons.ReasonRefuses}, gix_refspec_text.proofs.facts.GrammarFacts.fetches_main}
-use Rattle.gix_refspec_text.{proofs.{facts.UnreadFacts.unbalanced_fetches, lemmas.hits.MatchLemmas.outside_none}, specs.Laws.Readings.{ReadsOnce, ReadsOrRefused, IsSameReason, SaysForOperation, IsPrintedBack}}
+use Rattle.gix_refspec_text.{proofs.{facts.UnreadFacts.unbalanced_sides, lemmas.hits.MatchLemmas.outside_none}, specs.Laws.Readings.{ReadsOnce, ReadsOrRefused, IsSameReason, SaysForOperation, IsPrintedBack}}
 use Rattle.gix_refspec_text.specs.Laws.Readings.{ReadsBack, EqualReadings, HasOneId, HasOneFault, HasCandidates, KeepsOperation, EqualTexts, NothingAgainst, ClonesExactly, OneWord, PrefixBegins, OnePrefix, Candidates}
 use Rattle.gix_refspec_text.specs.{Laws.Readings.{IdOrFault, OneLowerText, OneRefusal}, Texts.PatternError.IsPatternFault, declared.name.{Error.Error as NameError, PatternError.{PatternError, TheVariants.Name}}}
 use Rattle.gix_refspec_text.specs.declared.oid.Error.{Error as IdError, TheVariants.Length}
@@ -160,7 +160,7 @@ of_texts = (
   (λ law reads r other. law.only r other ∙ sym (law.only short reads)),
   (λ reads e refused. refused.unread short reads),
   (λ law unread. by_cases law (λ once. absurd (unread once.reading once.reads)) (λ refused. refused)),
-  search (rules, unbalanced_fetches),
+  search (rules, unbalanced_sides),
   (λ law r q reads_r reads_q. let alike = law r q reads_r reads_q in (alike.1, alike.0)),
   search rules,
 )

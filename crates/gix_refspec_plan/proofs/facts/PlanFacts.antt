@@ -126,9 +126,9 @@ pub carried_out : IsCarriedOut [] [] × IsCarriedOut (from_a (LeftOut invalid.So
 carried_out = search (rules, arith)
 
 -- wishes, specs and updates as plain data, a spec with another destination, and whether all tags are asked for
-pub seen : (w : DeclaredWish) (a : DeclaredAsked) (u : Update)
-    → (wish_of w ≡ record { given = map reading_of w.given.now; configured = map reading_of w.configured.now; merges = map bstr_bytes w.merges.now; tags = w.tags })
-    × (asked_of a ≡ record { reading = reading_of a.spec; origin = a.origin })
-    × (planned_of u ≡ record { source = start_of u.source; item = u.item_index; destination = option_map bstring_bytes u.destination; origin = u.origin; verdict = u.verdict })
+pub seen :
+    ((w : DeclaredWish) → wish_of w ≡ record { given = map reading_of w.given.now; configured = map reading_of w.configured.now; merges = map bstr_bytes w.merges.now; tags = w.tags })
+    × ((a : DeclaredAsked) → asked_of a ≡ record { reading = reading_of a.spec; origin = a.origin })
+    × ((u : Update) → planned_of u ≡ record { source = start_of u.source; item = u.item_index; destination = option_map bstring_bytes u.destination; origin = u.origin; verdict = u.verdict })
     × (with_destination every (codes "refs/x/*") ≡ fetched Forced (codes "refs/heads/*") (Some (codes "refs/x/*"))) × (tags_asked true ≡ listed all_tags AllTags ∷ []) × (tags_asked false ≡ [])
-seen w a u = (refl, refl, refl, refl, refl, refl)
+seen = ((λ w. refl), (λ a. refl), (λ u. refl), refl, refl, refl)

@@ -1,5 +1,5 @@
--- Examples for this project's own rules on meanings, canonical texts, order and reasons: where a sign has a meaning,
--- which text gets another one, and how instructions compare.
+-- Examples for this project's own rules on meanings, canonical texts and order: where a sign has a meaning, which text gets
+-- another one, and how instructions compare.
 use Rattle.gix_refspec_text.proofs.Common.{List, ◌∷◌, map, Option, Reading, Meaning, ◌≡◌, true, false, [], None, Some, codes, refl, Less, Equal, Greater, Push, Fetch, Normal, Forced, Negative, fetched, pushed}
 use Rattle.gix_refspec_text.proofs.Common.{push_all_matching, push_delete, push_matching, push_exclude, fetch_only, fetch_exclude, fetch_and_update, meaning_of, text_of, printed, all_tags, order, is_same}
 use Rattle.gix_refspec_text.proofs.Common.{meant_for}

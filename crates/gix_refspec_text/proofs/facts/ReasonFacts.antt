@@ -25,7 +25,7 @@ pub bad_patterns :
     × ¬ (IsBadName (codes "a..b") PatternUnbalanced)
 bad_patterns = search (rules, pattern_fault, pattern_faultless, not_several (codes "b*.lock") refl, unstarred (codes "b.lock") (ReferenceName LockSuffix), Lacks-tested, contains, full, Lacks-here)
 
-pub at_signs_and_colons :
+pub signs_and_colons :
     -- a push of a source, or of a colon, isn't empty
     ((e : Refusal) → ¬ (IsEmptyPush Push Normal (codes "a") None e) × ¬ (IsEmptyPush Push Normal [] (Some []) e)) × ¬ (IsEmptyPush Push Normal [] None PushToEmpty)
     -- `^a:b` and `^a:` have a destination, and `^a` and `a:b` are fine
@@ -35,7 +35,7 @@ pub at_signs_and_colons :
     -- a push of `a:` has an empty destination; a push of `:`, `a` or `a:b` isn't refused so, nor is a fetch of `a:`
     × PushesNowhere Push (codes "a") (Some []) PushToEmpty × ¬ (PushesNowhere Push (codes "a") (Some []) Empty)
     × ((e : Refusal) → ¬ (PushesNowhere Push [] (Some []) e) × ¬ (PushesNowhere Push (codes "a") None e) × ¬ (PushesNowhere Push (codes "a") (Some (codes "b")) e) × ¬ (PushesNowhere Fetch (codes "a") (Some []) e))
-at_signs_and_colons = search (arith, false≢true, normal_positive, full, none_some, some_none, same_Some)
+signs_and_colons = search (arith, false≢true, normal_positive, full, none_some, some_none, same_Some)
 
 -- `a..b` may be pushed to a destination, but not alone, and not fetched; `a*b*` may not be pushed even to a destination
 pub sources : ((e : Refusal) → ¬ (IsBadSourceFor Push (Some (codes "c")) (codes "a..b") e)) × IsBadSourceFor Push None (codes "a..b") (ReferenceName RepeatedDot)

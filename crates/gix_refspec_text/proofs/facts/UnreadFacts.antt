@@ -33,20 +33,20 @@ pub bad_sides :
     × IsRefused Fetch (codes "a*:b*c*") (PatternUnsupported (codes "b*c*"))
 bad_sides = search (rules, because, to_nothing, at_source, at_destination)
 
-pub unbalanced_fetches :
+pub unbalanced_sides :
     -- a star on only one side, also if the other is missing
     IsRefused Fetch (codes "a*:b") PatternUnbalanced × IsRefused Fetch (codes "b:a*") PatternUnbalanced × IsRefused Fetch (codes ":a*") PatternUnbalanced
     × IsRefused Fetch (codes "a*:") PatternUnbalanced × IsRefused Fetch (codes "+a*") PatternUnbalanced × IsRefused Fetch (codes "a*") PatternUnbalanced
     -- the same in a push, which may have a source alone, though
     × IsRefused Push (codes "a*:b") PatternUnbalanced × IsRefused Push (codes "b:a*") PatternUnbalanced × IsRefused Push (codes ":a*") PatternUnbalanced
-unbalanced_fetches = search (rules, because, at_balance)
+unbalanced_sides = search (rules, because, at_balance)
 
 -- so these texts have no reading
 pub unread : (r : Reading) → ¬ (Reads Push [] r) × ¬ (Reads Push (codes "a:") r) × ¬ (Reads Fetch (codes "^") r) × ¬ (Reads Fetch (caret ∷ replicate 40 letter) r) × ¬ (Reads Fetch (codes ":a*") r)
     × ¬ (Reads Push (codes "b:a*") r) × ¬ (Reads Fetch (codes "main~2:x") r) × ¬ (Reads Push (codes "^a:") r)
 unread r =
     let refused = bad_negatives Fetch in
-    (nothing_pushed.unread r, bad_sides.0.unread r, refused.3.unread r, refused.4.unread r, unbalanced_fetches.2.unread r, unbalanced_fetches.7.unread r, bad_sources.1.unread r, (bad_negatives Push).2.unread r)
+    (nothing_pushed.unread r, bad_sides.0.unread r, refused.3.unread r, refused.4.unread r, unbalanced_sides.2.unread r, unbalanced_sides.7.unread r, bad_sources.1.unread r, (bad_negatives Push).2.unread r)
 
 no_text : (r : Reading) → printed r ≡ None → ¬ (IsAccepted r)
 no_text r none (text, reads) = let back = read_back r.operation text r reads in none_some back.text (sym none ∙ back.is)

@@ -92,27 +92,32 @@ pub instructions :
     × (meaning_of (pushed Normal (Some (codes "a")) None) ≡ Some (meaning_of_instruction (instruction.Push (push.Matching (lent (codes "a")) (lent (codes "a")) false))))
 instructions = (refl, refl, refl, refl, refl, refl)
 
-pub errors : (p : BString) →
-    -- the error of a side with two stars has its whole text, and that of a bad name its fault
-    (bstring_bytes p ≡ codes "a*b*" → IsShownAs (error.PatternUnsupported p) (PatternUnsupported (codes "a*b*")) × ¬ (IsShownAs (error.PatternUnsupported p) (PatternUnsupported (codes "a*b"))))
-    × IsShownAs (error.ReferenceName LockSuffix) (ReferenceName LockSuffix) × ¬ (IsShownAs (error.ReferenceName LockSuffix) (ReferenceName RepeatedDot))
+pub errors :
     -- each error without a field is the reason of its name
-    × IsShownAs error.Empty Empty × IsShownAs error.NegativeWithDestination NegativeWithDestination × IsShownAs error.PushToEmpty PushToEmpty
+    IsShownAs error.Empty Empty × IsShownAs error.NegativeWithDestination NegativeWithDestination × IsShownAs error.PushToEmpty PushToEmpty
     × IsShownAs error.PatternUnbalanced PatternUnbalanced × IsShownAs error.NegativeEmpty NegativeEmpty × IsShownAs error.NegativeObjectHash NegativeObjectHash
+    -- the error of a bad name has its fault
+    × IsShownAs (error.ReferenceName LockSuffix) (ReferenceName LockSuffix) × ¬ (IsShownAs (error.ReferenceName LockSuffix) (ReferenceName RepeatedDot))
     -- the three variants that are kept for callers are not reasons, nor is `Memory`
     × ((f : Refusal) → ¬ (IsShownAs error.NegativePartialName f) × ¬ (IsShownAs error.NegativeGlobPattern f) × ¬ (IsShownAs error.InvalidFetchDestination f) × ¬ (IsShownAs error.Memory f))
     -- an error doesn't stand for the reason of another
     × ¬ (IsShownAs error.Empty NegativeEmpty) × ¬ (IsShownAs error.NegativeEmpty Empty) × ¬ (IsShownAs error.NegativeWithDestination NegativeObjectHash)
     × ¬ (IsShownAs error.NegativeObjectHash NegativeWithDestination) × ¬ (IsShownAs error.PushToEmpty Empty)
+    -- errors are the same by variant and field
+    × IsSameError error.Memory error.Memory × IsSameError (error.ReferenceName LockSuffix) (error.ReferenceName LockSuffix)
+    × ¬ (IsSameError error.Empty error.NegativeEmpty) × ¬ (IsSameError (error.ReferenceName LockSuffix) (error.ReferenceName RepeatedDot))
+errors = search (arith)
+
+pub pattern_errors : (p : BString) →
+    -- the error of a side with two stars has its whole text
+    (bstring_bytes p ≡ codes "a*b*" → IsShownAs (error.PatternUnsupported p) (PatternUnsupported (codes "a*b*")) × ¬ (IsShownAs (error.PatternUnsupported p) (PatternUnsupported (codes "a*b"))))
     × ¬ (IsShownAs error.PatternUnbalanced (PatternUnsupported (bstring_bytes p))) × ¬ (IsShownAs (error.PatternUnsupported p) PatternUnbalanced)
     × ¬ (IsShownAs (error.ReferenceName LockSuffix) (PatternUnsupported (bstring_bytes p)))
-    -- errors are the same by variant and field, and texts with several stars by their bytes
-    × IsSameError error.Memory error.Memory × IsSameError (error.ReferenceName LockSuffix) (error.ReferenceName LockSuffix)
+    -- such errors are the same by the bytes of the text
     × ((q : BString) → bstring_bytes p ≡ bstring_bytes q → IsSameError (error.PatternUnsupported p) (error.PatternUnsupported q))
     × ((q : BString) → bstring_bytes p ≢ bstring_bytes q → ¬ (IsSameError (error.PatternUnsupported p) (error.PatternUnsupported q)))
     × ¬ (IsSameError (error.PatternUnsupported p) error.PatternUnbalanced) × ¬ (IsSameError error.PatternUnbalanced (error.PatternUnsupported p))
-    × ¬ (IsSameError error.Empty error.NegativeEmpty) × ¬ (IsSameError (error.ReferenceName LockSuffix) (error.ReferenceName RepeatedDot))
-errors p = search (arith)
+pattern_errors p = search (arith)
 
 pub refusals :
     -- a push of an empty text is refused as empty
