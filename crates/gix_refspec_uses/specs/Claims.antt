@@ -1,11 +1,11 @@
 -- What a caller proves about refspecs, by the definitions of the library.
-use Rattle.std.specs.Prelude.{◌≡◌, ℕ, List, Some, Result, filter_map}
+use Rattle.std.specs.Prelude.{◌≡◌, ℕ, List, Some, Result, codes, filter_map}
 use Rattle.std.specs.Result.{result_ok}
 use Rattle.gix_refspec_text.specs.declared.parsing.Operation.{Operation}
 use Rattle.gix_refspec_text.specs.declared.parsing.Error.{Error}
 use Rattle.gix_refspec_text.specs.declared.spec.RefSpecRef.{RefSpecRef}
-use Rattle.gix_refspec.specs.Specs.Reading.{Reading}
-use Rattle.gix_refspec.specs.Specs.Grammar.{Reads}
+use Rattle.gix_refspec.specs.Specs.Reading.{Forced, Reading}
+use Rattle.gix_refspec.specs.Specs.Grammar.{Reads, fetched}
 use Rattle.gix_refspec.specs.Specs.Meaning.{meaning_of, printed}
 
 -- the text is a refspec for the operation
@@ -47,3 +47,7 @@ pub record IsReadAgain (r q : Reading) : Type 0 where
 -- the specs among the results of `parse`, in order
 abbrev pub specs_read : List (Result RefSpecRef Error) → List RefSpecRef
 specs_read answers = filter_map result_ok answers
+
+-- a forced fetch of each branch to a tracking ref of the remote `origin`
+abbrev pub branches_of_origin : Reading
+branches_of_origin = fetched Forced (codes "refs/heads/*") (Some (codes "refs/remotes/origin/*"))

@@ -12,7 +12,7 @@ ghost use Rattle.bstr.specs.BStr.{bstr_bytes};
 ghost use Rattle.bstr.specs.Owned.{bstring_bytes};
 ghost use Rattle.gix_refspec.specs.Specs.Refusal.{MayNeedMemory};
 ghost use Rattle.gix_refspec.specs.Views.Spec.{reading_of, owned_reading_of};
-ghost use Rattle.gix_refspec_uses.specs.Claims.{IsRefspec, ReadsOnlyAs, PrintsSame, IsReadAgain, IsCanonicalText};
+ghost use Rattle.gix_refspec_uses.specs.Claims.{branches_of_origin, IsRefspec, ReadsOnlyAs, PrintsSame, IsReadAgain, IsCanonicalText};
 
 pub mod asking;
 pub mod gather;
@@ -43,6 +43,18 @@ pub fn read<'a>(
             unless_memory(&error)?;
             Ok(None)
         }
+    }
+}
+
+/// The spec that `git clone` writes for a remote named `origin`: each branch, forced, to its tracking ref.
+/// Fails only if memory runs out.
+pub fn clone_spec(alloc: Global) -> Result<RefSpecRef<'static>, AllocError>
+    ensures { IfOk result (λ spec. reading_of spec ≡ branches_of_origin) }
+{
+    let text = BStr::new(b"+refs/heads/*:refs/remotes/origin/*");
+    match read(alloc, text, Operation::Fetch)? {
+        Some(spec) => Ok(spec),
+        None => unreachable!(),
     }
 }
 

@@ -3,7 +3,7 @@
 mod matching;
 
 use crate::gather::{fetches_of, fetches_read, pushes_among};
-use crate::{canonical, read, reread, reread_owned, same_owned_text, same_text};
+use crate::{canonical, clone_spec, read, reread, reread_owned, same_owned_text, same_text};
 use bstr::BStr;
 use gix_refspec::parsing::{Error, Operation};
 use std::test::Fail;
@@ -20,6 +20,17 @@ fn reads_what_is_a_refspec(rt: HostRuntime) -> Result<(), Fail> {
         let spec = read(rt.alloc(), BStr::new(text.as_bytes()), Operation::Fetch)?;
         assert_eq!(rt; spec.is_some(), *taken, "at {text}");
     }
+    Ok(())
+}
+
+#[test]
+fn has_the_spec_of_a_clone(rt: HostRuntime) -> Result<(), Fail> {
+    let spec = clone_spec(rt.alloc())?;
+    let printed = spec.to_bstring(rt.alloc())?;
+    assert_eq!(rt;
+        printed.as_bytes(),
+        b"+refs/heads/*:refs/remotes/origin/*".as_slice()
+    );
     Ok(())
 }
 
