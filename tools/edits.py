@@ -12,6 +12,7 @@ left proved. With --after those of the library and of C are tried, each crate's 
 has proved what is below.
 """
 import argparse
+import concurrent.futures
 import os
 import re
 import shutil
@@ -129,16 +130,21 @@ def main():
     if given.after:
         crates = [crate for crate in crates if crate.name.startswith("gix_refspec")]
     paths = {crate: crate.edits("edits", given.names) for crate in crates}
-    refused, tried = 0, sum(map(len, paths.values()))
+    tried = sum(map(len, paths.values()))
     if not tried:
         parser.error("there is no such edit")
-    for crate in filter(paths.get, crates):
+
+    def refused_of(crate):
         try:
             if given.after:
                 wait_for(crate.below, given.after)
-            refused += try_all(crate, [Edit(path) for path in paths[crate]])
+            return try_all(crate, [Edit(path) for path in paths[crate]])
         except Failure as failure:
             print(f"edits: {failure}", flush=True)
+            return 0
+
+    with concurrent.futures.ThreadPoolExecutor(max(1, (os.cpu_count() or 1) // 2)) as pool:
+        refused = sum(pool.map(refused_of, filter(paths.get, crates)))
     print(f"edits: {refused} of {tried} refused")
     sys.exit(refused != tried)
 
