@@ -8,8 +8,7 @@ An edit with `alone:` changes more than bodies. It has a round of its own, and i
 reason.
 
 Without CRATE all are tried. NAME is what the names of edits begin with. The libraries below a crate are those that `make test`
-left proved. With --after those of the library and of C are tried, each crate's once a run of `make test`, with the log LOG,
-has proved what is below.
+left proved; with --after, those that a run of it, with the log LOG, proves meanwhile.
 """
 import argparse
 import concurrent.futures
@@ -127,8 +126,6 @@ def main():
     if given.crate and given.crate not in crates:
         parser.error(f"there is no crate {given.crate}")
     crates = [crates[given.crate]] if given.crate else crates.values()
-    if given.after:
-        crates = [crate for crate in crates if crate.name.startswith("gix_refspec")]
     paths = {crate: crate.edits("edits", given.names) for crate in crates}
     tried = sum(map(len, paths.values()))
     if not tried:
