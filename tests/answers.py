@@ -1,7 +1,7 @@
 #!/usr/bin/env python3
 """Gives a program small inputs, and those at its limit, and compares its answers: tests/answers.py PROGRAM
 
-The answers were written down by hand, from the manual page. Each input is given a second time a byte a read. The texts
+The answers were written down by hand, from the manual page. Each input is given a second time, a byte a call. The texts
 that a canon command accepts are given once more in their canonical form, which doesn't change.
 """
 import os
@@ -140,14 +140,14 @@ def made_of(program, words, given):
 
 
 def check(program, library, words, given, wanted):
-    """An input at once, and a byte a read: each byte is read, and then the end, and all is written at once."""
+    """An input at once; and a byte a call: each byte is read, and then the end, and each is written."""
     made = made_of(program, words, given)
     if made != wanted:
         fail(words, given, f"{made}, not {wanted}")
     ended, told = runs.run_with(library, [program, *words.split()], {"CALLS_MOST": "1"}, input=given)
     calls = b"r" * (len(given) + 1) + b"w" * len(wanted[0])
     if (ended.stdout, ended.returncode, told) != (*wanted, calls):
-        fail(words, given, f"a byte a read {ended.stdout}, status {ended.returncode}, by {told}, not {wanted}, by {calls}")
+        fail(words, given, f"a byte a call {ended.stdout}, status {ended.returncode}, by {told}, not {wanted}, by {calls}")
 
 
 def check_canon(program, library, words, rows):
@@ -210,7 +210,7 @@ def main():
         check_limit(program, library)
         check_faults(program, library)
     rows = [PUSHES, FETCHES, FORWARD, BACKWARD, PLANS, CONFLICTS, FAULTS]
-    print(f"answers: {sum(map(len, rows))} inputs, at once and a byte a read, and one at the limit")
+    print(f"answers: {sum(map(len, rows))} inputs, at once and a byte a call, and one at the limit")
 
 
 main()
