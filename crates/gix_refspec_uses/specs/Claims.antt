@@ -48,6 +48,10 @@ pub record IsReadAgain (r q : Reading) : Type 0 where
 abbrev pub specs_read : List (Result RefSpecRef Error) → List RefSpecRef
 specs_read answers = filter_map result_ok answers
 
+-- the spec that `git clone` writes for the remote `origin`
+abbrev pub clone_text : List ℕ
+clone_text = codes "+refs/heads/*:refs/remotes/origin/*"
+
 -- a forced fetch of each branch to a tracking ref of the remote `origin`
 abbrev pub branches_of_origin : Reading
 branches_of_origin = fetched Forced (codes "refs/heads/*") (Some (codes "refs/remotes/origin/*"))

@@ -12,7 +12,7 @@ ghost use Rattle.bstr.specs.BStr.{bstr_bytes};
 ghost use Rattle.bstr.specs.Owned.{bstring_bytes};
 ghost use Rattle.gix_refspec.specs.Specs.Refusal.{MayNeedMemory};
 ghost use Rattle.gix_refspec.specs.Views.Spec.{reading_of, owned_reading_of};
-ghost use Rattle.gix_refspec_uses.specs.Claims.{branches_of_origin, IsRefspec, ReadsOnlyAs, PrintsSame, IsReadAgain, IsCanonicalText};
+ghost use Rattle.gix_refspec_uses.specs.Claims.{branches_of_origin, clone_text, IsRefspec, ReadsOnlyAs, PrintsSame, IsReadAgain, IsCanonicalText};
 
 pub mod asking;
 pub mod gather;
@@ -47,9 +47,10 @@ pub fn read<'a>(
 }
 
 /// The spec that `git clone` writes for a remote named `origin`: each branch, forced, to its tracking ref.
-/// Fails only if memory runs out.
+/// Fails only if [`read`] may need memory for its text.
 pub fn clone_spec(alloc: Global) -> Result<RefSpecRef<'static>, AllocError>
-    ensures { IfOk result (λ spec. reading_of spec ≡ branches_of_origin) }
+    ensures ok { IfOk result (λ spec. reading_of spec ≡ branches_of_origin) }
+    ensures memory { OnErr result (MayNeedMemory Operation.Fetch clone_text) }
 {
     let text = BStr::new(b"+refs/heads/*:refs/remotes/origin/*");
     match read(alloc, text, Operation::Fetch)? {
