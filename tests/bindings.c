@@ -197,6 +197,8 @@ static void check_other_texts(void)
     CHECK(len == 99 && is_untouched(buffer, 7));
 }
 
+#define TEXT(text) { BYTES(text) }
+
 static void check_explanations(void)
 {
     for (uint32_t outcome = 0; outcome <= GIX_REFSPEC_MISSING_SOURCE; outcome++) {
@@ -205,8 +207,11 @@ static void check_explanations(void)
         CHECK(sentence.len > 10 && memchr(sentence.bytes, 0, sentence.len + 1) == sentence.bytes + sentence.len);
         CHECK(sentence.bytes[sentence.len - 1] == '.');
     }
-    gix_refspec_text none = GIX_REFSPEC_TEXT_INIT;
-    CHECK(gix_refspec_explanation(GIX_REFSPEC_MISSING_SOURCE + 1, &none) == GIX_REFSPEC_NO_OPERATION && none.len == 0);
+    const uint32_t unknown[] = { GIX_REFSPEC_MISSING_SOURCE + 1, 99, UINT32_MAX };
+    for (size_t i = 0; i < sizeof unknown / sizeof *unknown; i++) {
+        gix_refspec_text none = TEXT("as it was");
+        CHECK(gix_refspec_explanation(unknown[i], &none) == GIX_REFSPEC_NO_OPERATION && is(none, "as it was"));
+    }
 }
 
 static const struct {
@@ -217,6 +222,10 @@ static const struct {
     { "refs/heads/*:refs/x/*", GIX_REFSPEC_FETCH, "refs/heads/", "refs/heads/\n" },
     { "refs/heads/a:refs/x/a", GIX_REFSPEC_FETCH, "refs/heads/a", "refs/heads/a\n" },
     { "refs/heads/a:refs/x/a", GIX_REFSPEC_PUSH, "refs/x/a", "refs/x/a\n" },
+    { "refs/heads/a", GIX_REFSPEC_PUSH, "", "" },
+    { "refs/heads/a:refs/heads/a", GIX_REFSPEC_PUSH, "refs/heads/a", "refs/heads/a\n" },
+    { "a", GIX_REFSPEC_PUSH, "", "" },
+    { "a:a", GIX_REFSPEC_PUSH, "", "a\nrefs/a\nrefs/tags/a\nrefs/heads/a\nrefs/remotes/a\nrefs/remotes/a/HEAD\n" },
     { "@", GIX_REFSPEC_FETCH, "HEAD", "HEAD\n" },
     { "v1", GIX_REFSPEC_FETCH, "", "v1\nrefs/v1\nrefs/tags/v1\nrefs/heads/v1\nrefs/remotes/v1\nrefs/remotes/v1/HEAD\n" },
     { "1111111111111111111111111111111111111111", GIX_REFSPEC_FETCH, "", "" },
@@ -252,11 +261,10 @@ static void check_prefixes_of_one(void)
     CHECK(gix_refspec_expand_prefixes(BYTES("a b"), GIX_REFSPEC_FETCH, buffer, 4, &len) == GIX_REFSPEC_NAME_INVALID_BYTE);
     CHECK(gix_refspec_expand_prefixes(BYTES("a"), 0, buffer, 4, &len) == GIX_REFSPEC_NO_OPERATION);
     CHECK(len == 99 && is_untouched(buffer, 3));
-    prefix_row = 4;
+    for (prefix_row = 0; strcmp(prefix_rows[prefix_row].text, "v1") != 0; prefix_row++)
+        ;
     check_buffer(expand, prefix_rows[prefix_row].lines);
 }
-
-#define TEXT(text) { BYTES(text) }
 
 static uint32_t prefixes(uint8_t *buffer, size_t buffer_len, size_t *len)
 {
@@ -479,6 +487,9 @@ static const struct {
     { "", "", "", 0, "refs/heads/main", "4:- missing\noutcome 23\n" },
     { "", "+refs/heads/*:refs/x/*", "refs/heads/main refs/tags/v1 refs/heads/gone", 0, "HEAD refs/heads/main refs/tags/v1",
       "2:0 refs/heads/main refs/x/main 1 forced\n3:1 refs/tags/v1 - 1\n" },
+    { "", "+refs/heads/m*:refs/x/m*", "dev heads/dev a..b refs/heads/dev", 0, "HEAD refs/heads/dev refs/heads/main",
+      "2:0 refs/heads/main refs/x/main 1 forced\n3:3 refs/heads/dev - 1\n" },
+    { "", "", "dev", 0, "HEAD refs/heads/dev", "" },
     { "main:heads/x main:tags/x main:x", "", "", 0, "refs/heads/main",
       "1:0 refs/heads/main refs/heads/x 1\n1:1 refs/heads/main refs/tags/x 1\n" },
     { "", "*:* refs/heads/*:foo/*", "", 0, "HEAD refs/heads/a",
@@ -503,6 +514,7 @@ static void check_wishes(void)
         size_t count, len, at = 0;
         uint32_t outcome = gix_refspec_plan(&wish, items, split(wishes[i].names, items), made, 16, buffer, sizeof buffer,
                                             &count, &len);
+        *lines = 0;
         for (const gix_refspec_mapping *one = made; one < made + count; one++) {
             at += sprintf(lines + at, one->spec == GIX_REFSPEC_NO_SPEC ? "%u:-" : "%u:%zu", one->origin, one->spec);
             if (one->verdict == GIX_REFSPEC_MISSING)
@@ -517,6 +529,19 @@ static void check_wishes(void)
             sprintf(lines + at, "outcome %u\n", outcome);
         CHECK(strcmp(lines, wishes[i].lines) == 0);
     }
+}
+
+/* Git fetches HEAD for an empty merge. Here it is ignored, and HEAD is passed for it. */
+static void check_empty_merges(void)
+{
+    const gix_refspec_text merges[] = { GIX_REFSPEC_TEXT_INIT, TEXT("HEAD") }, items[] = { TEXT("HEAD") };
+    gix_refspec_wish wish = { .merges = merges, .merges_count = 1 };
+    gix_refspec_mapping made[2];
+    size_t count = 9, len = 99;
+    CHECK(gix_refspec_plan(&wish, items, 1, made, 2, NULL, 0, &count, &len) == GIX_REFSPEC_OK && count == 0);
+    wish.merges_count = 2;
+    CHECK(gix_refspec_plan(&wish, items, 1, made, 2, NULL, 0, &count, &len) == GIX_REFSPEC_OK && count == 1);
+    CHECK(made[0].origin == GIX_REFSPEC_MERGE && made[0].spec == 1 && made[0].item == 0 && made[0].has_destination == 0);
 }
 
 static const gix_refspec_text stale_specs[] = { TEXT("refs/heads/*:refs/o/*"), TEXT("^refs/heads/a"), TEXT("a b") };
@@ -552,6 +577,12 @@ static void check_stale(void)
     CHECK(count == 99 && is_untouched(made, sizeof made));
     CHECK(gix_refspec_stale(stale_specs, 2, names, 2, stale_names, 4, made, 2, &count) == GIX_REFSPEC_OK && count == 2);
     CHECK(gix_refspec_stale(NULL, 0, NULL, 0, stale_names, 4, NULL, 0, &count) == GIX_REFSPEC_OK && count == 0);
+    /* Of equal names the first is listed, with any of the specs that keep it. */
+    const gix_refspec_text keeping[] = { stale_specs[0], TEXT("^refs/heads/a"), TEXT("^refs/heads/a*") };
+    const gix_refspec_text twice[] = { stale_names[2], stale_names[0], stale_names[2], stale_names[0] };
+    CHECK(gix_refspec_stale(keeping, 3, names, 2, twice, 4, made, 3, &count) == GIX_REFSPEC_OK && count == 2);
+    CHECK(made[0].item == 0 && made[0].kept_by == GIX_REFSPEC_NO_SPEC);
+    CHECK(made[1].item == 1 && (made[1].kept_by == 1 || made[1].kept_by == 2));
 }
 
 /* `HEAD` is a name like others on either side, but a fetch doesn't write it. */
@@ -628,6 +659,7 @@ static void *check_all(void *nothing)
     check_verdicts();
     check_other_plans();
     check_wishes();
+    check_empty_merges();
     check_stale();
     check_head();
     check_null();

@@ -43,12 +43,44 @@ wants() {
     fi
 }
 
-# The samples, from an empty folder over what was installed alone.
+# The header in C++: a call that isn't declared as one of C isn't linked.
+if command -v g++ >/dev/null; then
+    { echo '#include <gix_refspec.h>'
+      echo 'typedef void any();'
+      echo 'any *calls[] = {'
+      grep -o '\bgix_refspec_[a-z_]*(' "$include/gix_refspec.h" | tr -d '(' | sort -u | sed 's/.*/    reinterpret_cast<any *>(&),/'
+      echo '};'
+      echo 'int main()'
+      echo '{'
+      echo '    gix_refspec_text version = GIX_REFSPEC_TEXT_INIT;'
+      echo '    gix_refspec_instruction parts = GIX_REFSPEC_PARTS_INIT;'
+      echo '    gix_refspec_wish wish = GIX_REFSPEC_WISH_INIT;'
+      echo '    return gix_refspec_version(&version) == GIX_REFSPEC_OK && version.len > 0 && parts.kind == 0 && wish.tags == 0'
+      echo '        && calls[0] != 0 ? 0 : 1;'
+      echo '}'; } >"$made/header.cc"
+    for standard in c++98 c++11 c++17 c++20; do
+        g++ -std=$standard -pedantic -Wall -Wextra -Werror -I"$include" -o "$made/header" "$made/header.cc" \
+            "$made/to/lib/libgix_refspec.a" || { echo "bindings: the header isn't one of $standard"; exit 1; }
+        "$made/header" || { echo "bindings: the header fails in $standard"; exit 1; }
+    done
+    echo "bindings: the header in C++ from 98 to 20"
+else
+    echo "bindings: left out is the header in C++, as there is no g++"
+fi
+
+# The samples, from an empty folder over what was installed alone, in each version of C.
 mkdir "$made/sample"
 cp bindings/c/linter.c bindings/c/planner.c "$made/sample"
 for sample in linter planner; do
-    (cd "$made/sample" && gcc -Wall -Wextra -Werror -o $sample $sample.c $(pkg-config --cflags --libs gix_refspec))
+    for standard in c99 c11 c17 c2x gnu11; do
+        (cd "$made/sample" && gcc -std=$standard -pedantic -Wall -Wextra -Werror -o $sample $sample.c \
+            $(pkg-config --cflags --libs gix_refspec)) || { echo "bindings: $sample.c isn't one of $standard"; exit 1; }
+    done
+    # A planner doesn't free what it has at its end.
+    gcc -O1 -g -fsanitize=address,undefined -fno-sanitize-recover -I"$include" -o "$made/sample/checked-$sample" \
+        "bindings/c/$sample.c" "$made/to/lib/libgix_refspec.a" 2>/dev/null || cp "$made/sample/$sample" "$made/sample/checked-$sample"
 done
+export ASAN_OPTIONS=detect_leaks=0
 readelf -d "$made/sample/linter" | grep -qF "Shared library: [$(pkg-config --variable=soname gix_refspec)]" \
     || { echo "bindings: the linter asks for no library by its soname"; exit 1; }
 readelf -n "$made/to/lib/libgix_refspec.so" | grep -qF "x86 ISA needed: x86-64-v2" \
@@ -88,6 +120,7 @@ check_planner() {
 check_planner "$made/sample/planner"
 check_planner env PYTHONDONTWRITEBYTECODE=1 PYTHONPATH=bindings/python python3 bindings/python/examples/planner.py
 echo "bindings: the planners in C and in Python as their sources say"
+planners=("$made/sample/planner" "$made/sample/checked-planner" bindings/python/examples/planner.py)
 
 if command -v cargo >/dev/null; then
     cargo test --quiet --offline --manifest-path bindings/rust/Cargo.toml --target-dir "$made/target" >"$made/log" 2>&1 \
@@ -95,9 +128,12 @@ if command -v cargo >/dev/null; then
     echo "bindings: the tests and examples of the crates in Rust"
     check_planner "$made/target/debug/examples/planner"
     echo "bindings: the planner in Rust as its source says"
+    planners+=("$made/target/debug/examples/planner")
 else
     echo "bindings: left out are the crates in Rust, as there is no cargo"
 fi
+PYTHONPATH=bindings/python python3 -B tests/examples.py "$made/sample/linter" "$made/sample/checked-linter" -- "${planners[@]}"
+tests/libraries.sh "$made/to"
 PYTHONPATH=bindings/python timeout 100 python3 -B -m unittest discover -s bindings/python/tests \
     || { echo "bindings: the tests of the module in Python end with status $?"; exit 1; }
 

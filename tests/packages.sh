@@ -192,7 +192,8 @@ else
     beside=$(dirname "$(command -v cargo)"):
     planner_in_rust
     ! cargo_in || fail "cargo builds without the library"
-    grep -q GIX_REFSPEC_FOLDER "$made/out" || fail "cargo doesn't say what names the library: $(cat "$made/out")"
+    grep -q GIX_REFSPEC_FOLDER "$made/out" && ! grep -q panicked "$made/out" \
+        || fail "cargo doesn't say what names the library: $(cat "$made/out")"
     cargo_in PKG_CONFIG_PATH="$unpacked/lib/pkgconfig" || fail "by pkg-config: $(cat "$made/out")"
     check_planner "$made/rust/target/debug/planner"
     cp -R "$unpacked" "$made/copy"
@@ -241,7 +242,17 @@ else
     in_python "$made/source" LD_LIBRARY_PATH="$unpacked/lib"
     in_python "$made/source" GIX_REFSPEC_LIBRARY="$unpacked/lib/libgix_refspec.so"
     find "$made/source" -name py.typed | grep -q gix_refspec || fail "the sources install no type hints"
-    say "the sources in Python: pip install, a planner, and the tests"
+    "$python" -m venv "$made/editable"
+    cp -R bindings/python "$made/edited"
+    bare env PYTHONDONTWRITEBYTECODE=1 "$made/editable/bin/pip" install -q --no-index --disable-pip-version-check -e "$made/edited" \
+        >"$made/out" 2>&1 || fail "pip install -e of the sources: $(cat "$made/out")"
+    in_python "$made/editable" LD_LIBRARY_PATH="$unpacked/lib"
+    echo 'edited = True' >>"$made/edited/gix_refspec/__init__.py"
+    bare env LD_LIBRARY_PATH="$unpacked/lib" "$made/editable/bin/python" -B -c 'import gix_refspec; assert gix_refspec.edited' \
+        || fail "pip install -e doesn't import what was edited"
+    bare "$made/editable/bin/pip" uninstall -q -y gix-refspec >"$made/out" 2>&1
+    ! bare "$made/editable/bin/python" -c 'import gix_refspec' 2>/dev/null || fail "pip uninstall leaves what pip install -e made"
+    say "the sources in Python: pip install, also -e, a planner, and the tests"
 fi
 
 # ---- Debian

@@ -3,6 +3,7 @@
  *   git config --get-all remote.origin.fetch | ./linter
  *
  * Ends with status 1 if it reports a line. */
+#define _POSIX_C_SOURCE 200809L /* for getline */
 #include <gix_refspec.h>
 #include <stdint.h>
 #include <stdio.h>

@@ -2,10 +2,12 @@
  *
  * Without SPEC the configured refspecs are fetched, those of `git config --get-all remote.origin.fetch`. Ends with status 1 if a
  * source is missing, refs are in conflict, or a text isn't a refspec. For brevity it doesn't check its allocations. */
+#define _POSIX_C_SOURCE 200809L /* for getline */
 #include <gix_refspec.h>
 #include <stdio.h>
 #include <stdlib.h>
 #include <string.h>
+#include <sys/types.h>
 
 static const char *const words[] = { "", "write", "left out", "left out", "left out", "conflict", "overruled", "missing" };
 
@@ -70,11 +72,12 @@ int main(int argc, char **argv)
     }
     for (const gix_refspec_mapping *one = plan; one < plan + count; one++) {
         const gix_refspec_text source = source_of(one, &wish, names, text);
-        printf("%s\t%.*s\t", word_of(one), (int)source.len, (const char *)source.bytes);
+        printf("%s\t", word_of(one));
+        fwrite(source.bytes, 1, source.len, stdout);
+        putchar('\t');
         if (one->has_destination)
-            printf("%.*s\n", (int)one->made_len, (const char *)text + one->made_at);
-        else
-            puts("-");
+            fwrite(text + one->made_at, 1, one->made_len, stdout);
+        puts(one->has_destination ? "" : "-");
     }
     return outcome != GIX_REFSPEC_OK;
 }

@@ -1,5 +1,7 @@
 #!/usr/bin/env python3
-"""Builds the package, for pip by PEP 517; and its sources and a wheel with the shared library: build_backend.py LIBRARY FOLDER
+"""Builds the package, for pip by PEP 517 and 660; and its sources and a wheel with the shared library:
+
+    build_backend.py LIBRARY FOLDER
 
 It needs nothing but Python, so that `pip install` of this folder works without a network. Times are those of SOURCE_DATE_EPOCH,
 and names are in order, so that the bytes are always the same. A wheel with a library is tagged by the glibc that it asks for.
@@ -64,28 +66,38 @@ def record_of(files: Files, name: str) -> bytes:
     return "".join([*lines, f"{name},,\n"]).encode()
 
 
-def write_wheel(folder: str, tags: List[str], more: Files) -> str:
-    """Writes a wheel for these platforms with more files, and returns its name."""
+def package() -> Files:
+    """The files of the module."""
+    return [(path, read(path)) for path in PACKAGE]
+
+
+def write_wheel(folder: str, tags: List[str], content: Files) -> str:
+    """Writes a wheel for these platforms, and returns its name."""
     version, told = metadata()
     info = f"gix_refspec-{version}.dist-info"
-    wheel = ["Wheel-Version: 1.0", "Generator: build_backend", f"Root-Is-Purelib: {str(not more).lower()}",
+    wheel = ["Wheel-Version: 1.0", "Generator: build_backend", f"Root-Is-Purelib: {str(tags == ['any']).lower()}",
              *(f"Tag: py3-none-{tag}" for tag in tags), ""]
-    files = [*((path, read(path)) for path in PACKAGE), *more, *((f"{info}/{name}", read(name)) for name in LICENCES),
+    files = [*content, *((f"{info}/{name}", read(name)) for name in LICENCES),
              (f"{info}/METADATA", told), (f"{info}/WHEEL", "\n".join(wheel).encode())]
     files.append((f"{info}/RECORD", record_of(files, f"{info}/RECORD")))
     name = f"gix_refspec-{version}-py3-none-{'.'.join(tags)}.whl"
     with zipfile.ZipFile(os.path.join(folder, name), "w") as archive:
-        for path, content in files:
+        for path, data in files:
             entry = zipfile.ZipInfo(path, time.gmtime(moment())[:6])
             entry.external_attr = 0o644 << 16
             entry.compress_type = zipfile.ZIP_DEFLATED
-            archive.writestr(entry, content)
+            archive.writestr(entry, data)
     return name
 
 
 def build_wheel(wheel_directory: str, config_settings: Settings = None, metadata_directory: Optional[str] = None) -> str:
     """A wheel without a library, for a system that has it."""
-    return write_wheel(wheel_directory, ["any"], [])
+    return write_wheel(wheel_directory, ["any"], package())
+
+
+def build_editable(wheel_directory: str, config_settings: Settings = None, metadata_directory: Optional[str] = None) -> str:
+    """A wheel for `pip install -e` (PEP 660): Python imports the module from this folder."""
+    return write_wheel(wheel_directory, ["any"], [("gix_refspec.pth", os.fsencode(HERE) + b"\n")])
 
 
 def build_sdist(sdist_directory: str, config_settings: Settings = None) -> str:
@@ -108,7 +120,7 @@ def main() -> None:
     library, folder = sys.argv[1:]
     soname = re.findall(r'^_SONAME = "(.*)"$', read(PACKAGE[0]).decode(), re.M)
     with open(library, "rb") as file:
-        print(write_wheel(folder, tags_of(library), [(f"gix_refspec/{soname[0]}", file.read())]))
+        print(write_wheel(folder, tags_of(library), [*package(), (f"gix_refspec/{soname[0]}", file.read())]))
     print(build_sdist(folder))
 
 

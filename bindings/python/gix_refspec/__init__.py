@@ -1,8 +1,8 @@
 """Parses, prints, compares and matches Git refspecs, lists the ref prefixes to request from a server, plans fetches, and
 finds stale refs, by libgix_refspec.
 
-A text is `bytes`, or a `str` that is encoded as UTF-8 with `surrogateescape`, as `os.fsencode` does. What is returned is
-`bytes`.
+A text is bytes-like (`bytes`, `bytearray` or `memoryview`), or a `str` that is encoded as UTF-8 with `surrogateescape`, as
+`os.fsencode` does. What is returned is `bytes`.
 
 >>> parse("+@:refs/remotes/origin/HEAD", Operation.FETCH).canonical
 b'+HEAD:refs/remotes/origin/HEAD'
@@ -22,7 +22,7 @@ __all__ = ["Direction", "Kind", "Mapping", "Operation", "Origin", "OriginKind", 
 # The soname, so that no library is loaded that this module wasn't written for.
 _SONAME = "libgix_refspec.so.0.3"
 
-Text = Union[bytes, str]
+Text = Union[bytes, bytearray, memoryview, str]
 
 
 class Operation(enum.IntEnum):
@@ -95,7 +95,7 @@ class Verdict(enum.IntEnum):
     INVALID_DESTINATION: left out: the destination isn't a valid ref name, or is HEAD.
     INVALID_SIDES: left out: both.
     CONTESTED: another source has the same destination, so nothing is fetched.
-    OVERRULED: a given spec writes another ref to its destination.
+    OVERRULED: not written: a given spec or all tags write its destination.
     """
     WRITTEN = 1
     INVALID_SOURCE = 2
@@ -178,8 +178,8 @@ class Update:
 class Plan:
     """What a fetch does: its updates, last those that configured specs add to given ones; and the specs whose source the
     remote lacks."""
-    updates: List[Update]
-    missing: List[Origin]
+    updates: Tuple[Update, ...]
+    missing: Tuple[Origin, ...]
 
     @property
     def is_carried_out(self) -> bool:
@@ -189,8 +189,8 @@ class Plan:
 
 @dataclass(frozen=True)
 class StaleRef:
-    """A local ref that looks stale: the index of its name, and that of the negative spec that keeps it. If None, a pruning
-    fetch should delete it."""
+    """A local ref that looks stale: the index of its name, and that of a negative spec that keeps it, as it excludes a ref
+    from which it could be written: any one, if there are several. If None, a pruning fetch should delete it."""
     item: int
     kept_by: Optional[int] = None
 
@@ -200,7 +200,8 @@ def parse(text: Text, operation: Operation) -> Spec:
     operation = Operation(operation)
     canonical = _filled(_library.gix_refspec_canonical, *_bytes(text), operation)
     parts = _Parts(0, 0, _Told.empty(), _Told.empty())
-    _check(_library.gix_refspec_parts(*_bytes(canonical), operation, ctypes.byref(parts)))
+    # The sides are places in the canonical text, or constants of the library.
+    _check(_library.gix_refspec_parts(canonical, len(canonical), operation, ctypes.byref(parts)))
     return Spec(operation, canonical, Kind(parts.kind), parts.forced == 1, parts.source.value() or None,
                 parts.destination.value() or None)
 
@@ -243,6 +244,9 @@ def plan(given: Fetches, names: Iterable[Text], configured: Fetches = (), merges
     is this one; `tags` whether to fetch all tags. Without given specs the configured ones are fetched; else these also map
     what the given ones fetch. Raises RefspecError if a text isn't a refspec.
 
+    A merge is a full name, or HEAD. Any other value is ignored; Git takes a ref for a partial name only if the server
+    happens to list it. For an empty value Git fetches HEAD, so pass that.
+
     >>> fetch = plan(["main"], ["refs/heads/main"], configured=["+refs/heads/*:refs/remotes/origin/*"])
     >>> [(one.destination, one.origin.kind.name) for one in fetch.updates]
     [(None, 'GIVEN'), (b'refs/remotes/origin/main', 'CONFIGURED')]
@@ -250,13 +254,14 @@ def plan(given: Fetches, names: Iterable[Text], configured: Fetches = (), merges
     items = _items(names)
     wish = _Wish(*_texts(_fetches(given)), *_texts(_fetches(configured)), *_texts(_items(merges)), int(bool(tags)))
     told, text = _listed(_library.gix_refspec_plan, len(items), ctypes.byref(wish), *_texts(items))
-    return Plan([_update(one, items, text) for one in told if one.verdict != _MISSING],
-                [_origin(one) for one in told if one.verdict == _MISSING])
+    return Plan(tuple(_update(one, items, text) for one in told if one.verdict != _MISSING),
+                tuple(_origin(one) for one in told if one.verdict == _MISSING))
 
 
 def stale(fetches: Fetches, remote: Iterable[Text], local: Iterable[Text]) -> List[StaleRef]:
-    """The local refs that look stale by fetches, texts or specs, if the remote has these names. Symbolic refs are like
-    others here, so leave them out of the local ones. Raises RefspecError if a text isn't a refspec.
+    """The local refs that look stale by fetches, texts or specs, if the remote has these names, in order; of equal names
+    only the first. Symbolic refs are like others here, so leave them out of the local ones. Raises RefspecError if a text
+    isn't a refspec.
 
     >>> stale(["refs/heads/*:refs/x/*"], ["refs/heads/main"], ["refs/x/gone", "refs/x/main"])
     [StaleRef(item=0, kept_by=None)]
@@ -287,9 +292,7 @@ def explanation(outcome: int) -> Optional[str]:
 
 def library_version() -> str:
     """The version of the library that is loaded, such as "0.3.0"."""
-    version = _Told.empty()
-    _check(_library.gix_refspec_version(ctypes.byref(version)))
-    return version.value().decode()
+    return _version_of(_library)
 
 
 _OUTCOMES = frozenset(Outcome)
@@ -336,12 +339,38 @@ class _StaleRef(ctypes.Structure):
 
 
 def _load() -> ctypes.CDLL:
-    """The library that GIX_REFSPEC_LIBRARY names, or that of this package, or the installed one."""
+    """The library that GIX_REFSPEC_LIBRARY names, or that of this package, or the installed one. Raises ImportError if it
+    is missing, another library, or one of another version."""
     own = os.path.join(os.path.dirname(os.path.abspath(__file__)), _SONAME)
+    file = os.environ.get("GIX_REFSPEC_LIBRARY") or (own if os.path.exists(own) else _SONAME)
     try:
-        library = ctypes.CDLL(os.environ.get("GIX_REFSPEC_LIBRARY") or (own if os.path.exists(own) else _SONAME))
+        library = ctypes.CDLL(file)
     except OSError as error:
         raise ImportError(f"{error}; install the library, or name the file in GIX_REFSPEC_LIBRARY") from error
+    wanted = f"this module is for version {__version__}: install that, or name its file in GIX_REFSPEC_LIBRARY"
+    try:
+        version = _version_of(library)
+    except AttributeError as error:
+        raise ImportError(f"{file} isn't libgix_refspec, and {wanted}") from error
+    if not f"libgix_refspec.so.{version}.".startswith(f"{_SONAME}."):
+        raise ImportError(f"{file} is version {version} of libgix_refspec, and {wanted}")
+    try:
+        _declare(library)
+    except AttributeError as error:
+        raise ImportError(f"{file} is version {version} of libgix_refspec, and {wanted}; {error}") from error
+    return library
+
+
+def _version_of(library: ctypes.CDLL) -> str:
+    """The version that a library tells. Raises AttributeError if it isn't libgix_refspec."""
+    call, version = library.gix_refspec_version, _Told.empty()
+    call.argtypes, call.restype = [ctypes.POINTER(_Told)], ctypes.c_uint32
+    _check(call(ctypes.byref(version)))
+    return version.value().decode()
+
+
+def _declare(library: ctypes.CDLL) -> None:
+    """Declares the parameters of the calls. Raises AttributeError if the library lacks one."""
     text, number, size = ctypes.c_char_p, ctypes.c_uint32, ctypes.c_size_t
     sizes, one, many = ctypes.POINTER(size), [text, size], [ctypes.POINTER(_Text), size]
     lists = [ctypes.POINTER(_Mapping), size, text, size, sizes, sizes]
@@ -353,14 +382,9 @@ def _load() -> ctypes.CDLL:
             ("match", [*many, *many, number, *lists]),
             ("plan", [ctypes.POINTER(_Wish), *many, *lists]),
             ("stale", [*many, *many, *many, ctypes.POINTER(_StaleRef), size, sizes]),
-            ("explanation", [number, ctypes.POINTER(_Told)]),
-            ("version", [ctypes.POINTER(_Told)])):
+            ("explanation", [number, ctypes.POINTER(_Told)])):
         call = getattr(library, f"gix_refspec_{name}")
         call.argtypes, call.restype = types, number
-    return library
-
-
-_library = _load()
 
 
 def _check(outcome: int) -> None:
@@ -368,12 +392,18 @@ def _check(outcome: int) -> None:
         raise RefspecError(outcome)
 
 
+_library = _load()
+
+
 def _encoded(text: Text) -> bytes:
-    if isinstance(text, str):
-        return text.encode("utf-8", "surrogateescape")
-    if isinstance(text, bytes):
+    """The bytes that there are of a text, as plain `bytes`: a subclass may tell another length, or encode to one that does."""
+    if type(text) is bytes:
         return text
-    raise TypeError(f"a text is bytes or str, not {type(text).__name__}")
+    if isinstance(text, str):
+        return str.encode(text, "utf-8", "surrogateescape")
+    if isinstance(text, (bytes, bytearray, memoryview)):
+        return bytes(memoryview(text))
+    raise TypeError(f"a text is bytes-like or str, not {type(text).__name__}")
 
 
 def _bytes(text: Text) -> Tuple[bytes, int]:
@@ -383,19 +413,19 @@ def _bytes(text: Text) -> Tuple[bytes, int]:
 
 def _fetches(fetches: Fetches) -> List[bytes]:
     """The texts of fetches."""
-    if isinstance(fetches, (str, bytes, Spec)):
+    if isinstance(fetches, (str, bytes, bytearray, memoryview, Spec)):
         raise TypeError(f"fetches are a list, not one {type(fetches).__name__}")
     texts = []
     for one in fetches:
         if isinstance(one, Spec) and one.operation != Operation.FETCH:
             raise ValueError(f"a push is among the fetches: {one.canonical!r}")
-        texts.append(one.canonical if isinstance(one, Spec) else _encoded(one))
+        texts.append(_encoded(one.canonical if isinstance(one, Spec) else one))
     return texts
 
 
 def _items(names: Iterable[Text]) -> List[bytes]:
     """The bytes of names."""
-    if isinstance(names, (str, bytes)):
+    if isinstance(names, (str, bytes, bytearray, memoryview)):
         raise TypeError(f"names are a list, not one {type(names).__name__}")
     return [_encoded(name) for name in names]
 

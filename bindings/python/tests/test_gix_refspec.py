@@ -1,16 +1,38 @@
 """Tests of gix_refspec over an installed library: python3 -m unittest discover -s tests"""
+import array
 import copy
 import ctypes
+import dataclasses
 import doctest
 import itertools
 import pickle
 import random
+import sys
 import unittest
 from typing import Callable
 
 import gix_refspec
 from gix_refspec import (Direction, Kind, Mapping, Operation, Origin, OriginKind, Outcome, Plan, RefspecError, StaleRef,
                          Update, Verdict, compare, explanation, library_version, matches, parse, plan, prefixes, stale)
+
+
+class Lying(bytes):
+    """Bytes that tell another length."""
+
+    length = 0
+
+    def __len__(self) -> int:
+        return self.length
+
+    def __bytes__(self) -> bytes:
+        return b"other"
+
+
+class LyingText(str):
+    """A text that encodes to such bytes."""
+
+    def encode(self, *words: object) -> bytes:
+        return Lying(b"other")
 
 
 class Calls(unittest.TestCase):
@@ -44,14 +66,41 @@ class Calls(unittest.TestCase):
             self.assertEqual(prefixes([f"refs/{text}"]), [b"refs/" + spec.canonical])
             for call in (lambda *words: plan(*words).updates, lambda *words: matches(*words, Direction.FORWARD)):
                 self.assertEqual(call([f"refs/{text}"], [f"refs/{text}"])[0].source, b"refs/" + spec.canonical)
-        for text in (None, 7, bytearray(b"main"), ["main"]):
+        for text in (None, 7, ["main"], array.array("b", b"main")):
             for call in (lambda text: parse(text, Operation.FETCH), lambda text: compare("a", text, Operation.FETCH),
                          lambda text: prefixes([text]), lambda text: plan([], [text]), lambda text: plan([], [], [text]),
                          lambda text: plan([], [], merges=[text]), lambda text: stale([], [], [text])):
-                self.assertRaisesRegex(TypeError, "a text is bytes or str", call, text)
-        for one in ("main", b"main", parse("main", Operation.FETCH)):
+                self.assertRaisesRegex(TypeError, "a text is bytes-like or str", call, text)
+        for one in ("main", b"main", bytearray(b"main"), memoryview(b"main"), parse("main", Operation.FETCH)):
             self.assertRaisesRegex(TypeError, "fetches are a list", plan, one, [])
-        self.assertRaisesRegex(TypeError, "names are a list", plan, [], "main")
+            if not isinstance(one, gix_refspec.Spec):
+                self.assertRaisesRegex(TypeError, "names are a list", plan, [], one)
+
+    def test_texts_may_be_bytes_like(self) -> None:
+        main = b"refs/heads/main"
+        for make in (bytearray, memoryview, lambda text: memoryview(b"x" + text)[1:], lambda text: memoryview(text[::-1])[::-1]):
+            self.assertEqual(parse(make(main), Operation.FETCH).source, main)
+            self.assertEqual(compare(make(main), main, Operation.FETCH), 0)
+            self.assertEqual(prefixes([make(main)]), [main])
+            update = plan([make(main)], [make(main)]).updates[0]
+            self.assertEqual((type(update.source), update.source), (bytes, main))
+            self.assertEqual(stale([make(main + b":refs/x/a")], [], [make(b"refs/x/a")]), [StaleRef(0)])
+
+    def test_texts_have_the_length_of_their_bytes(self) -> None:
+        main = b"refs/heads/main"
+        for length in (0, 1, 1 << 20, 1 << 33, sys.maxsize):
+            Lying.length = length
+            for text in (Lying(main), LyingText(main.decode())):
+                self.assertEqual(parse(text, Operation.FETCH).canonical, main)
+                self.assertEqual(compare(text, main, Operation.FETCH), 0)
+                self.assertEqual(prefixes([text]), [main])
+                self.assertEqual(matches([text], [text], Direction.FORWARD), [Mapping(0, 0, main, None)])
+                told = plan([text], [text], [text], [text])
+                self.assertEqual([(type(one.source), one.source) for one in told.updates], [(bytes, main)])
+                self.assertEqual(plan([], [text], merges=[text]).updates[0].origin, Origin(OriginKind.MERGE, 0))
+                self.assertEqual(stale(["a:refs/heads/main"], [text], [text]), [StaleRef(0)])
+                spec = dataclasses.replace(parse(main, Operation.FETCH), canonical=text)
+                self.assertEqual(prefixes([spec]), [main])
 
     def test_operations_are_checked(self) -> None:
         for operation in (0, 3, -1, 2 ** 32 + 1, "fetch", None):
@@ -109,8 +158,9 @@ class Calls(unittest.TestCase):
             for other in (copy.copy(error), copy.deepcopy(error), pickle.loads(pickle.dumps(error))):
                 self.assertEqual((type(other), other.outcome, str(other), other.args),
                                  (RefspecError, outcome, str(error), error.args))
-        self.assertIn("99", str(RefspecError(99)))
-        self.assertEqual(RefspecError(99).outcome, 99)
+        for outcome in (max(Outcome) + 1, 99, 2 ** 32 - 1, 2 ** 32 + Outcome.NAME_REPEATED_DOT, -1):
+            sentence = f"The library ended with outcome {outcome}, which it doesn't explain."
+            self.assertEqual((str(RefspecError(outcome)), RefspecError(outcome).outcome), (sentence, outcome))
 
     def test_explanations(self) -> None:
         for outcome in Outcome:
@@ -156,7 +206,7 @@ class Calls(unittest.TestCase):
         self.assertEqual(told.updates[2],
                          Update(2, b"refs/remotes/a.lock", b"refs/x/a.lo", given[2], Verdict.INVALID_SOURCE))
         self.assertEqual([(one.origin, one.item) for one in told.updates], list(zip(given, [0, 1, 2, 2, 1, 0, 1])))
-        self.assertEqual((told.missing, told.is_carried_out), ([], False))
+        self.assertEqual((told.missing, told.is_carried_out), ((), False))
         fine = plan(texts[:6], names)
         self.assertEqual((fine.updates[5].verdict, fine.is_carried_out), (Verdict.WRITTEN, True))
 
@@ -164,18 +214,21 @@ class Calls(unittest.TestCase):
         names = ["HEAD", "refs/heads/main", "refs/tags/v1"]
         configured = ["+refs/heads/*:refs/x/*"]
         given = plan(["main"], names, configured)
-        self.assertEqual(given.updates, [
+        self.assertEqual(given.updates, (
             Update(1, b"refs/heads/main", None, Origin(OriginKind.GIVEN, 0), Verdict.WRITTEN),
-            Update(1, b"refs/heads/main", b"refs/x/main", Origin(OriginKind.CONFIGURED, 0), Verdict.WRITTEN, True)])
+            Update(1, b"refs/heads/main", b"refs/x/main", Origin(OriginKind.CONFIGURED, 0), Verdict.WRITTEN, True)))
+        self.assertEqual(len({given, plan(["main"], names, configured), plan(["v1"], names, configured)}), 2)
         self.assertEqual(plan(["v1:refs/x/main", "main"], names, configured).updates[2].verdict, Verdict.OVERRULED)
         missing = plan(["main", "gone:refs/x/gone"], iter(names))
         self.assertEqual((len(missing.updates), missing.missing, missing.is_carried_out),
-                         (1, [Origin(OriginKind.GIVEN, 1)], False))
-        self.assertEqual(plan([], names).updates, [Update(0, b"HEAD", None, Origin(OriginKind.DEFAULT), Verdict.WRITTEN)])
-        self.assertEqual(plan([], []), Plan([], [Origin(OriginKind.DEFAULT)]))
+                         (1, (Origin(OriginKind.GIVEN, 1),), False))
+        self.assertEqual(plan([], names).updates, (Update(0, b"HEAD", None, Origin(OriginKind.DEFAULT), Verdict.WRITTEN),))
+        self.assertEqual(plan([], []), Plan((), (Origin(OriginKind.DEFAULT),)))
         merged = plan([], names, merges=["refs/heads/gone", "refs/heads/main"], tags=True)
         self.assertEqual([(one.origin, one.item) for one in merged.updates],
                          [(Origin(OriginKind.MERGE, 1), 1), (Origin(OriginKind.ALL_TAGS), 2)])
+        # Git fetches HEAD for an empty merge. Here it is ignored, as a partial name is.
+        self.assertEqual(plan([], names, merges=["", "main", "a..b"]), Plan((), ()))
         self.assertEqual(plan([b"1" * 40], names).updates[0].source, b"1" * 40)
         many = [b"refs/heads/%d" % number for number in range(9)]
         told = plan([b"refs/heads/*:refs/%d/*" % number for number in range(9)], many)
@@ -188,6 +241,7 @@ class Calls(unittest.TestCase):
         many = [f"refs/x/{number}" for number in range(40)]
         self.assertEqual(stale(specs, iter(["refs/heads/main"]), iter(many)), [StaleRef(item) for item in range(40)])
         self.assertEqual(stale([], ["refs/heads/main"], local), [])
+        self.assertEqual(stale(specs, ["refs/heads/main"], ["refs/x/gone", "refs/x/gone"]), [StaleRef(0)])
         self.assertRaisesRegex(TypeError, "names are a list", stale, specs, "refs/heads/main", local)
 
     def test_specs_are_taken_for_texts(self) -> None:

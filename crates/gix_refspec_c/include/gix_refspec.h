@@ -64,7 +64,8 @@ enum { GIX_REFSPEC_FORWARD = 1, GIX_REFSPEC_BACKWARD = 2 };
 /* What to fetch. The configured refspecs are fetched if none are given; else they also map what the given ones fetch.
  *   given       the arguments of git fetch
  *   configured  the values of remote.<name>.fetch
- *   merges      the values of branch.<name>.merge of the current branch, if its remote is this one
+ *   merges      the values of branch.<name>.merge of the current branch, if its remote is this one: full names, or HEAD.
+ *               Any other value is ignored; for an empty one Git fetches HEAD, so pass that
  *   tags        nonzero to fetch all tags */
 typedef struct {
     const gix_refspec_text *given;
@@ -107,8 +108,9 @@ typedef struct {
     size_t id_at, id_len, made_at, made_len;
 } gix_refspec_mapping;
 
-/* A local ref that looks stale: item is the index of its name, and kept_by that of the negative refspec that keeps it.
- * If kept_by is NO_SPEC, a pruning fetch should delete it. */
+/* A local ref that looks stale: item is the index of its name, and kept_by that of a negative refspec that keeps it, as
+ * it excludes a ref from which it could be written: any one, if there are several. If kept_by is NO_SPEC, a pruning
+ * fetch should delete it. */
 typedef struct {
     size_t item, kept_by;
 } gix_refspec_stale_ref;
@@ -128,12 +130,13 @@ uint32_t gix_refspec_compare(const uint8_t *a, size_t a_len, const uint8_t *b, s
                              int32_t *order);
 
 /* Its ref prefix on the remote: a full name, HEAD, or what is before the star of a pattern below refs/. Empty if it has
- * none. Points into the text, or is the constant HEAD. */
+ * none. Points into the text, or is the constant HEAD. Texts that compare equal may have different prefixes: a push of
+ * refs/heads/a has none, and one of refs/heads/a:refs/heads/a has refs/heads/a. */
 uint32_t gix_refspec_prefix(const uint8_t *text, size_t text_len, uint32_t operation, gix_refspec_text *prefix);
 
-/* That prefix, or the six candidates of a partial name, each with a newline; none for an id or a negative refspec. It
- * may be empty, contain a star, or for HEAD be incomplete: to ask a server, call gix_refspec_prefixes. *len is set as
- * by canonical. */
+/* That prefix, or the six candidates of a partial name, each with a newline; none for an id, a negative refspec, or a
+ * push without a destination. It may be empty, contain a star, or for HEAD be incomplete: to ask a server, call
+ * gix_refspec_prefixes. *len is set as by canonical. */
 uint32_t gix_refspec_expand_prefixes(const uint8_t *text, size_t text_len, uint32_t operation, uint8_t *buffer,
                                      size_t buffer_len, size_t *len);
 
@@ -154,8 +157,8 @@ uint32_t gix_refspec_plan(const gix_refspec_wish *wish, const gix_refspec_text *
                           gix_refspec_mapping *mappings, size_t mappings_count, uint8_t *buffer, size_t buffer_len,
                           size_t *count, size_t *len);
 
-/* Which local refs look stale by these fetch refspecs, if the remote has these names. *count is set as by match. Leave
- * symbolic refs out of the local ones. */
+/* Which local refs look stale by these fetch refspecs, if the remote has these names, in order; of equal names only the
+ * first. *count is set as by match. Leave symbolic refs out of the local ones. */
 uint32_t gix_refspec_stale(const gix_refspec_text *texts, size_t texts_count, const gix_refspec_text *remote,
                            size_t remote_count, const gix_refspec_text *local, size_t local_count,
                            gix_refspec_stale_ref *stale, size_t stale_count, size_t *count);

@@ -87,7 +87,7 @@ pub struct Parts {
     pub destination: Text,
 }
 
-/// What to fetch. `tags`: nonzero to fetch all tags.
+/// What to fetch. `merges`: full names, or `HEAD`. `tags`: nonzero to fetch all tags.
 #[repr(C)]
 #[derive(Clone, Copy, Debug)]
 pub struct Wish {

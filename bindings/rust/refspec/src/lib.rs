@@ -15,7 +15,9 @@
 //!
 //! The library's calls are proved for every input, from the bytes to the outcome; this crate isn't.
 use gix_refspec_sys as sys;
+use std::cmp::Ordering;
 use std::collections::BTreeMap;
+use std::hash::{Hash, Hasher};
 use std::{error, fmt, slice};
 
 /// What a refspec is for.
@@ -161,18 +163,18 @@ impl fmt::Display for Error {
 
 impl error::Error for Error {}
 
-/// A refspec. Two are equal exactly if operation and canonical text are equal. They are ordered as
-/// `gix_refspec_compare` orders them, and pushes come before fetches.
-#[derive(Clone, Debug, PartialEq, Eq, PartialOrd, Ord, Hash)]
+/// A refspec. Two are equal exactly if operation and canonical text are equal; their texts, and so their prefixes, may
+/// differ. They are ordered as `gix_refspec_compare` orders them, and pushes come before fetches.
+#[derive(Clone)]
 pub struct Spec {
-    // Specs are ordered by these, from first to last. Those of one kind have the same sides; a missing one is empty.
     kind: Kind,
+    // A missing side is empty.
     source: Vec<u8>,
     destination: Vec<u8>,
     forced: bool,
-    // The rest follows from these.
     operation: Operation,
     canonical: Vec<u8>,
+    text: Vec<u8>,
 }
 
 impl Spec {
@@ -200,12 +202,24 @@ impl Spec {
             forced: parts.forced == 1,
             operation,
             canonical,
+            text: text.to_vec(),
         })
+    }
+
+    // What specs are compared by, from first to last. Operation and canonical text follow from it. Those of one kind have
+    // the same sides.
+    fn key(&self) -> (Kind, &[u8], &[u8], bool) {
+        (self.kind, &self.source, &self.destination, self.forced)
     }
 
     /// What it was parsed for.
     pub fn operation(&self) -> Operation {
         self.operation
+    }
+
+    /// The text that it was parsed from.
+    pub fn text(&self) -> &[u8] {
+        &self.text
     }
 
     /// The canonical text.
@@ -250,22 +264,35 @@ impl Spec {
     }
 
     /// Its ref prefix on the remote: a full name, `HEAD`, or what is before the star of a pattern below `refs/`. `None`
-    /// for a negative spec, and for any other side. Fails if memory runs out.
+    /// for a negative spec, and for any other side. It is that of the text: a push of `refs/heads/main` has none, the equal
+    /// one of `refs/heads/main:refs/heads/main` has `refs/heads/main`. Fails if memory runs out.
+    ///
+    /// ```
+    /// use refspec::{Operation, Spec};
+    ///
+    /// let short = Spec::parse("refs/heads/main", Operation::Push)?;
+    /// let long = Spec::parse("refs/heads/main:refs/heads/main", Operation::Push)?;
+    /// assert_eq!(short, long);
+    /// assert_eq!(short.prefix()?, None);
+    /// assert_eq!(long.prefix()?, Some(&b"refs/heads/main"[..]));
+    /// # Ok::<(), refspec::Error>(())
+    /// ```
     pub fn prefix(&self) -> Result<Option<&[u8]>, Error> {
-        let (text, number) = (&self.canonical, self.operation.number());
+        let (text, number) = (&self.text, self.operation.number());
         let mut prefix = no_text();
         match unsafe { sys::gix_refspec_prefix(text.as_ptr(), text.len(), number, &mut prefix) } {
-            // It is a place in the canonical text, or a constant of the library.
+            // It is a place in the text, or a constant of the library.
             sys::OK => Ok(side(unsafe { bytes_of(&prefix) })),
             outcome => Err(Error::of(outcome)),
         }
     }
 
-    /// Its prefix, or the six candidates of a partial name; none for an object id or a negative spec. To ask a server,
-    /// call [`prefixes`]: this may be empty, contain a star, or for `HEAD` be incomplete.
+    /// Its prefix, or the six candidates of a partial name; none for an object id or a negative spec, and for a push whose
+    /// text has no destination. To ask a server, call [`prefixes`]: this may be empty, contain a star, or for `HEAD` be
+    /// incomplete.
     #[rustfmt::skip]
     pub fn expand_prefixes(&self) -> Result<Vec<Vec<u8>>, Error> {
-        let (text, number) = (&self.canonical, self.operation.number());
+        let (text, number) = (&self.text, self.operation.number());
         let lines = filled(256, |buffer, len| unsafe {
             sys::gix_refspec_expand_prefixes(
                 text.as_ptr(), text.len(), number,
@@ -287,9 +314,57 @@ fn names_in(lines: &[u8]) -> Vec<Vec<u8>> {
     names.map(<[u8]>::to_vec).collect()
 }
 
+impl PartialEq for Spec {
+    fn eq(&self, other: &Spec) -> bool {
+        self.key() == other.key()
+    }
+}
+
+impl Eq for Spec {}
+
+impl PartialOrd for Spec {
+    fn partial_cmp(&self, other: &Spec) -> Option<Ordering> {
+        Some(self.cmp(other))
+    }
+}
+
+impl Ord for Spec {
+    fn cmp(&self, other: &Spec) -> Ordering {
+        self.key().cmp(&other.key())
+    }
+}
+
+impl Hash for Spec {
+    fn hash<H: Hasher>(&self, state: &mut H) {
+        self.key().hash(state);
+    }
+}
+
 impl fmt::Display for Spec {
     fn fmt(&self, f: &mut fmt::Formatter<'_>) -> fmt::Result {
         f.write_str(&String::from_utf8_lossy(&self.canonical))
+    }
+}
+
+impl fmt::Debug for Spec {
+    fn fmt(&self, f: &mut fmt::Formatter<'_>) -> fmt::Result {
+        f.debug_struct("Spec")
+            .field("operation", &self.operation)
+            .field("text", &Quoted(&self.text))
+            .field("canonical", &Quoted(&self.canonical))
+            .finish()
+    }
+}
+
+/// Bytes that `{:?}` shows as a text, those that aren't UTF-8 with escapes.
+struct Quoted<'b>(&'b [u8]);
+
+impl fmt::Debug for Quoted<'_> {
+    fn fmt(&self, f: &mut fmt::Formatter<'_>) -> fmt::Result {
+        match std::str::from_utf8(self.0) {
+            Ok(text) => fmt::Debug::fmt(text, f),
+            Err(_) => write!(f, "\"{}\"", self.0.escape_ascii()),
+        }
     }
 }
 
@@ -345,7 +420,7 @@ impl Direction {
 }
 
 /// A mapping of a source to a destination.
-#[derive(Clone, Debug, PartialEq, Eq, Hash)]
+#[derive(Clone, PartialEq, Eq, Hash)]
 pub struct Mapping {
     /// The index of the spec.
     pub spec: usize,
@@ -357,6 +432,18 @@ pub struct Mapping {
     pub destination: Option<Vec<u8>>,
     /// Whether refs may move without a fast-forward.
     pub forced: bool,
+}
+
+impl fmt::Debug for Mapping {
+    fn fmt(&self, f: &mut fmt::Formatter<'_>) -> fmt::Result {
+        f.debug_struct("Mapping")
+            .field("spec", &self.spec)
+            .field("item", &self.item)
+            .field("source", &Quoted(&self.source))
+            .field("destination", &self.destination.as_deref().map(Quoted))
+            .field("forced", &self.forced)
+            .finish()
+    }
 }
 
 /// How specs map names, forward or backward. A push is refused. Backward fails if a destination is an id: names don't
@@ -379,17 +466,30 @@ pub fn matches<N: AsRef<[u8]>>(fetches: &[Spec], names: &[N], direction: Directi
 }
 
 /// What to fetch.
-#[derive(Clone, Copy, Debug)]
+#[derive(Clone, Copy)]
 pub struct Wish<'w> {
     /// The given specs, as in `git fetch REMOTE SPEC..`. Without any, the configured ones are fetched; else these also
     /// map what the given ones fetch.
     pub given: &'w [Spec],
     /// The values of `remote.<name>.fetch`, or those of `--refmap` in their place.
     pub configured: &'w [Spec],
-    /// The values of `branch.<name>.merge` of the current branch, if its `branch.<name>.remote` is this remote.
+    /// The values of `branch.<name>.merge` of the current branch, if its `branch.<name>.remote` is this remote: full names,
+    /// or `HEAD`. Any other value is ignored; Git takes a ref for a partial name only if the server happens to list it. For
+    /// an empty value Git fetches `HEAD`, so pass that.
     pub merges: &'w [&'w [u8]],
     /// Whether to fetch all tags, as by `--tags` or `remote.<name>.tagOpt`.
     pub tags: bool,
+}
+
+impl fmt::Debug for Wish<'_> {
+    fn fmt(&self, f: &mut fmt::Formatter<'_>) -> fmt::Result {
+        f.debug_struct("Wish")
+            .field("given", &self.given)
+            .field("configured", &self.configured)
+            .field("merges", &self.merges.iter().map(|name| Quoted(name)).collect::<Vec<_>>())
+            .field("tags", &self.tags)
+            .finish()
+    }
 }
 
 /// What makes an update.
@@ -438,7 +538,7 @@ pub enum Verdict {
     LeftOut(InvalidSide),
     /// Another source has the same destination, so nothing is fetched.
     InConflict,
-    /// A given spec writes another ref to its destination.
+    /// It isn't written: a given spec or all tags write its destination.
     Overruled,
 }
 
@@ -456,7 +556,7 @@ impl Verdict {
 }
 
 /// A ref or an object that a spec fetches.
-#[derive(Clone, Debug, PartialEq, Eq, Hash)]
+#[derive(Clone, PartialEq, Eq, Hash)]
 pub struct Update {
     /// The index of the name. `None` for an object requested by its id.
     pub item: Option<usize>,
@@ -470,6 +570,19 @@ pub struct Update {
     pub verdict: Verdict,
     /// Whether the ref may move without a fast-forward.
     pub forced: bool,
+}
+
+impl fmt::Debug for Update {
+    fn fmt(&self, f: &mut fmt::Formatter<'_>) -> fmt::Result {
+        f.debug_struct("Update")
+            .field("item", &self.item)
+            .field("source", &Quoted(&self.source))
+            .field("destination", &self.destination.as_deref().map(Quoted))
+            .field("origin", &self.origin)
+            .field("verdict", &self.verdict)
+            .field("forced", &self.forced)
+            .finish()
+    }
 }
 
 /// What a fetch does.
@@ -539,12 +652,13 @@ pub fn plan<N: AsRef<[u8]>>(wish: &Wish<'_>, names: &[N]) -> Result<Plan, Error>
 pub struct StaleRef {
     /// The index of its name.
     pub item: usize,
-    /// The index of the negative spec that keeps it. If `None`, a pruning fetch should delete it.
+    /// The index of a negative spec that keeps it, as it excludes a ref from which it could be written: any one, if there
+    /// are several. If `None`, a pruning fetch should delete it.
     pub kept_by: Option<usize>,
 }
 
-/// The local refs that look stale, if the remote has the names of `remote`. Symbolic refs are like others here, so leave
-/// them out of `local`. A push is refused.
+/// The local refs that look stale, if the remote has the names of `remote`, in order; of equal names only the first.
+/// Symbolic refs are like others here, so leave them out of `local`. A push is refused.
 ///
 /// ```
 /// use refspec::{stale, Operation, Spec, StaleRef};
@@ -839,6 +953,9 @@ mod tests {
         let origins: Vec<_> = merged.updates.iter().map(|update| (update.origin, update.item)).collect();
         assert_eq!(origins, [(Origin::Merge(1), Some(1)), (Origin::AllTags, Some(2))]);
         assert!(merged.is_carried_out());
+        // Git fetches `HEAD` for an empty merge. Here it is ignored, as a partial name is.
+        let ignored: [&[u8]; 3] = [b"", b"main", b"a..b"];
+        assert_eq!(plan(&Wish { given: &[], configured: &[], merges: &ignored, tags: false }, &names)?.updates, []);
         let id = "1".repeat(40);
         let object = planned(&[&id], &[], &names)?;
         assert_eq!((object.updates[0].item, &object.updates[0].source), (None, &id.into_bytes()));
@@ -856,6 +973,8 @@ mod tests {
         let many: Vec<String> = (0..40).map(|number| format!("refs/x/{number}")).collect();
         assert_eq!(stale(&specs, &["refs/heads/main"], &many)?.len(), 40);
         assert_eq!(stale(&[], &["refs/heads/main"], &local)?, []);
+        let twice = stale(&specs, &["refs/heads/main"], &["refs/x/gone", "refs/x/gone"])?;
+        assert_eq!(twice, [StaleRef { item: 0, kept_by: None }]);
         Ok(())
     }
 
@@ -886,7 +1005,10 @@ mod tests {
         }
         assert_eq!(Error::of(99), Error::Other(99));
         assert_eq!(Error::Other(99).outcome(), Some(99));
-        assert!(Error::Other(99).to_string().contains("outcome 99"));
+        for number in [sys::MISSING_SOURCE + 1, 99, u32::MAX] {
+            let sentence = format!("The library ended with outcome {number}, which it doesn't explain.");
+            assert_eq!(Error::of(number).to_string(), sentence);
+        }
     }
 
     #[test]
@@ -936,6 +1058,11 @@ mod tests {
         let rows = [
             ("refs/heads/*:refs/x/*", Operation::Fetch, Some("refs/heads/"), "refs/heads/"),
             ("refs/heads/a:refs/x/a", Operation::Push, Some("refs/x/a"), "refs/x/a"),
+            ("refs/heads/a", Operation::Push, None, ""),
+            ("refs/heads/a:refs/heads/a", Operation::Push, Some("refs/heads/a"), "refs/heads/a"),
+            ("@:HEAD", Operation::Push, Some("HEAD"), "HEAD"),
+            ("v1", Operation::Push, None, ""),
+            ("v1:v1", Operation::Push, None, six),
             ("@", Operation::Fetch, Some("HEAD"), "HEAD"),
             ("v1", Operation::Fetch, None, six),
             ("refs/*:refs/x/*", Operation::Fetch, None, "refs/*"),
@@ -948,6 +1075,34 @@ mod tests {
             let names: Vec<&[u8]> = names.split_whitespace().map(str::as_bytes).collect();
             assert_eq!(spec.expand_prefixes()?, names, "at {text}");
         }
+        Ok(())
+    }
+
+    #[test]
+    fn equal_specs_keep_their_texts() -> Result<(), Error> {
+        let (short, long) = (Spec::parse("+main", Operation::Push)?, Spec::parse("+main:main", Operation::Push)?);
+        assert_eq!((short.text(), long.text()), (&b"+main"[..], &b"+main:main"[..]));
+        assert_eq!((short.as_bytes(), short.cmp(&long)), (long.as_bytes(), Ordering::Equal));
+        assert_eq!(std::collections::HashSet::from([short, long]).len(), 1);
+        Ok(())
+    }
+
+    #[test]
+    fn names_are_shown_as_texts() -> Result<(), Error> {
+        let spec = Spec::parse("+@:refs/x/\u{e9}", Operation::Fetch)?;
+        let shown = r#"Spec { operation: Fetch, text: "+@:refs/x/é", canonical: "+HEAD:refs/x/é" }"#;
+        assert_eq!(format!("{spec:?}"), shown);
+        let specs = [Spec::parse(b"refs/*:refs/x/*", Operation::Fetch)?];
+        let found = matches(&specs, &[b"refs/b\xe4d"], Direction::Forward)?;
+        let sides = r#"source: "refs/b\xe4d", destination: Some("refs/x/b\xe4d")"#;
+        assert_eq!(format!("{found:?}"), format!("[Mapping {{ spec: 0, item: Some(0), {sides}, forced: false }}]"));
+        let merges: [&[u8]; 1] = [b"HEAD"];
+        let wish = Wish { given: &[], configured: &specs, merges: &merges, tags: false };
+        let told = "tags: false }";
+        assert!(format!("{wish:?}").ends_with(&format!(r#"canonical: "refs/*:refs/x/*" }}], merges: ["HEAD"], {told}"#)));
+        let update = &plan(&wish, &["refs/\"a\"", "HEAD"])?.updates[1];
+        let shown = r#"Update { item: Some(1), source: "HEAD", destination: None, origin: Merge(0), verdict: Written, forced: false }"#;
+        assert_eq!(format!("{update:?}"), shown);
         Ok(())
     }
 
