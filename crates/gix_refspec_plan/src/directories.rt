@@ -16,14 +16,24 @@ use std::alloc::{AllocError, Global};
 use std::cmp::Ordering;
 use std::collections::BTreeMap;
 
-// The destinations of sound mappings of which one is a directory of another. Each is true in this map.
+// The destinations of sound mappings of which one is a directory of another. Each has such a one in this map.
 pub(crate) fn nested_among<'m>(
     alloc: Global,
     mappings: &'m [Mapping<'_, '_>],
-) -> Result<BTreeMap<&'m [u8], bool>, AllocError>
+) -> Result<BTreeMap<&'m [u8], &'m [u8]>, AllocError>
     ensures { IfOk result (λ nested. TellNested (map mapped_of mappings.now) nested) }
 {
-    let mut names = sound_destinations(alloc, mappings)?;
+    nested_names(alloc, sound_destinations(alloc, mappings)?)
+}
+
+/// The names of which one is a directory of another: that, followed by `/`, begins the other one. Each is a key, and its
+/// value is its directory, or a name in its own. Fails if memory runs out.
+pub fn nested_names<'m>(
+    alloc: Global,
+    mut names: Vec<&'m [u8]>,
+) -> Result<BTreeMap<&'m [u8], &'m [u8]>, AllocError>
+    ensures { IfOk result (λ nested. TellNestedIn (map (λ name. name.now) names.entry.items) nested) }
+{
     names.sort_unstable_by(|one, other| { compare(one, other) });
     nested_in(alloc, names.as_slice())
 }
@@ -63,7 +73,10 @@ pub(crate) fn sound_destination<'m>(mapping: &'m Mapping<'_, '_>) -> Option<&'m 
 
 // The names of which one is a directory of another, among sorted ones. The last name that is in no other's directory is at
 // `upper`.
-fn nested_in<'m>(alloc: Global, names: &[&'m [u8]]) -> Result<BTreeMap<&'m [u8], bool>, AllocError>
+fn nested_in<'m>(
+    alloc: Global,
+    names: &[&'m [u8]],
+) -> Result<BTreeMap<&'m [u8], &'m [u8]>, AllocError>
     requires { AreInOrder names.now }
     ensures { IfOk result (λ nested. TellNestedIn (map (λ name. name.now) names.now) nested) }
 {
@@ -71,8 +84,8 @@ fn nested_in<'m>(alloc: Global, names: &[&'m [u8]]) -> Result<BTreeMap<&'m [u8],
     let mut upper = 0;
     for at in 1..names.len() {
         if is_directory_of(names[upper], names[at]) {
-            nested.insert(names[upper], true)?;
-            nested.insert(names[at], true)?;
+            nested.insert(names[upper], names[at])?;
+            nested.insert(names[at], names[upper])?;
         } else {
             upper = at;
         }

@@ -20,7 +20,7 @@ ghost use Rattle.gix_refspec_match.specs.Views.Mapping.{ref_of};
 ghost use Rattle.gix_refspec_plan.specs.Matching.Plan.{AreLacking, IsCarriedOut, IsPlan, MayBeMissing};
 ghost use Rattle.gix_refspec_plan.specs.Views.Plan.{asked_of, planned_of, wish_of};
 
-mod directories;
+pub mod directories;
 pub mod laws;
 pub mod mapped;
 mod specs;

@@ -84,7 +84,7 @@ fn only_verdicts(alloc: Global, mappings: &[Mapping<'_, '_>]) -> Result<Vec<Verd
 fn first_verdicts(
     alloc: Global,
     mappings: &[Mapping<'_, '_>],
-    nested: &BTreeMap<&[u8], bool>,
+    nested: &BTreeMap<&[u8], &[u8]>,
 ) -> Result<Vec<Verdict>, AllocError>
     requires { AreApart (map mapped_of mappings.now) }
     ensures { (seconds : List Mapped) → TellNested (map mapped_of mappings.now ++ seconds) nested.now →
@@ -132,7 +132,7 @@ fn second_updates<'item>(
     mappings: &[Mapping<'item, '_>],
     repeated: &[bool],
     winning: &BTreeMap<&[u8], bool>,
-    nested: &BTreeMap<&[u8], bool>,
+    nested: &BTreeMap<&[u8], &[u8]>,
 ) -> Result<Vec<Update<'item>>, AllocError>
     requires mappings { AreMappings (map asked_of specs.now) (map mapped_of mappings.now) }
     requires repeated { FlagKnown (map mapped_of firsts.now) (map mapped_of mappings.now) repeated.now }
@@ -200,7 +200,7 @@ fn verdict_on(
     mapping: &Mapping<'_, '_>,
     counts: &BTreeMap<&[u8], bool>,
     winning: &BTreeMap<&[u8], bool>,
-    nested: &BTreeMap<&[u8], bool>,
+    nested: &BTreeMap<&[u8], &[u8]>,
 ) -> Verdict
     ensures { (firsts l all : List Mapped) → CountDestinations firsts winning.now → TellContested l counts.now →
         TellNested all nested.now → AreApart l → Contains l (mapped_of mapping.now) →

@@ -1,5 +1,5 @@
 -- Examples of the definitions of the laws on fetches, and what a caller concludes from these laws.
-use Rattle.gix_refspec_plan.proofs.Common.{◌≡◌, ◌⊎◌, inl, inr, false, List, [], ◌∷◌, codes, refl, arith, head, Reading, fetched_alone, Ref, IsCarriedOut, IsPlan, Planned, Wish, AreWrittenOnce, CarriedOutExactly}
+use Rattle.gix_refspec_plan.proofs.Common.{inl, inr, false, List, [], ◌∷◌, codes, refl, arith, head, Reading, fetched_alone, Ref, IsCarriedOut, IsPlan, Planned, Wish, AreWrittenOnce, CarriedOutExactly}
 use Rattle.gix_refspec_plan.proofs.{Common.{DirectoryConflict, IsToBeWritten, ConflictsExactly, DoConflict, IsRequired, OnePlan, WritesOnce, Origin, Verdict, Given, Written, InConflict, Overruled}, facts.ExampleLemmas.{every, main_lacking, one_in}}
 use Rattle.gix_refspec_plan.proofs.facts.{ExampleLemmas.{short, update}, PlanFacts.{bx, directories, from_a, to_y}}
 

@@ -1,5 +1,5 @@
 -- How names of which one is a directory of another are found. Only private functions use these definitions.
-use Rattle.std.specs.Prelude.{◌≡◌, ◌↔◌, ◌+◌, ◌==◌, ℕ, Bool, List, cond, is_some, map, IsTrue}
+use Rattle.std.specs.Prelude.{◌+◌, ◌==◌, ℕ, List, cond, MatchOption}
 use Rattle.std.specs.Borrow.{Bor}
 use Rattle.std.specs.BTreeMap.{BTreeMap, get_by}
 use Rattle.std.specs.Cmp.Lexicographic.{slice_cmp}
@@ -25,6 +25,6 @@ AreInOrder names = IsSorted (λ x y. by_component x.now y.now) names
 abbrev pub IsNestedIn : List (List ℕ) → List ℕ → Type 0
 IsNestedIn names d = Contains names d × ((e : List ℕ) × Contains names e × AreNested d e)
 
--- exactly these names are in the map
-abbrev pub TellNestedIn : List (List ℕ) → BTreeMap (Bor (List ℕ)) Bool → Type 0
-TellNestedIn names nested = (d : List ℕ) → IsTrue (is_some (get_by (λ k. slice_cmp nat_cmp d k.now) nested)) ↔ IsNestedIn names d
+-- exactly these names are in the map, each with one that is a directory of it, or is in it
+abbrev pub TellNestedIn : List (List ℕ) → BTreeMap (Bor (List ℕ)) (Bor (List ℕ)) → Type 0
+TellNestedIn names nested = (d : List ℕ) → MatchOption (get_by (λ k. slice_cmp nat_cmp d k.now) nested) (¬ (IsNestedIn names d)) (λ e. Contains names d × (Contains names e.now × AreNested d e.now))

@@ -46,7 +46,7 @@ abbrev pub IsNestedAmong : List Mapped → List ℕ → Type 0
 IsNestedAmong l d = Any (WritesTo d) l × ((e : List ℕ) × Any (WritesTo e) l × AreNested d e)
 
 -- exactly these destinations are in the map
-abbrev pub TellNested : List Mapped → BTreeMap (Bor (List ℕ)) Bool → Type 0
+abbrev pub TellNested : List Mapped → BTreeMap (Bor (List ℕ)) (Bor (List ℕ)) → Type 0
 TellNested l nested = (d : List ℕ) → IsTrue (is_some (get_by (λ k. slice_cmp nat_cmp d k.now) nested)) ↔ IsNestedAmong l d
 
 -- the names are the destinations of the sound mappings

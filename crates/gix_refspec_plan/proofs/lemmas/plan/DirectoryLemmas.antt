@@ -1,8 +1,8 @@
 -- Names in the order in which those in the directory of a name follow it, and which of them are nested.
-use Rattle.std.proofs.Common.{◌≡◌, ◌≢◌, ◌⊎◌, ◌↔◌, inl, inr, ℕ, ◌+◌, ◌<◌, Bool, Bor, true, false, cond, List, [], ◌∷◌, ◌++◌, Option, Some, is_some, bytes_eq, map, take, drop, get_or, length, refl, sym, ap, ◌∙◌, subst, append_assoc, add-one, drop-cons, length-append, length-drop, zero, suc, ◌-◌, ◌*◌, ◌≤◌, arith, rules, IsTrue}
+use Rattle.std.proofs.Common.{◌≡◌, ◌≢◌, ◌⊎◌, ◌↔◌, inl, inr, ℕ, ◌+◌, ◌<◌, Bool, Bor, true, false, cond, List, [], ◌∷◌, ◌++◌, Option, None, Some, MatchOption, is_some, bytes_eq, map, take, drop, get_or, length, refl, sym, ap, ◌∙◌, subst, append_assoc, add-one, drop-cons, length-drop, zero, suc, ◌-◌, ◌≤◌, arith, IsTrue}
 use Rattle.std.specs.{BTreeMap.{BTreeMap, UpdatesBy, get_by, is_at}, Cmp.{IsTotalOrder, Lexicographic.slice_cmp}, List.{Contains, Sorted.IsPermutation}, Map.lookup, Ordering.{is_lt, nat_cmp, ordering_then}, declared.cmp.Ordering.Ordering}
 use Rattle.std.proofs.lemmas.{Bool.{false≢true, Decides.nat_tests}, Cmp.{lists_total, on_total, nat_cmp_total, tied_itself}, List.{get_or-map, get_or-take, get_or_default, length-map, map_more, length-take-le, Elements.{Contains-append_left, Contains-push, Contains-push_cases}, Sorted.{Contains-permutation, IsPermutation-map, IsPermutation-sym, ranks_by, sorted_far}}, Map.Text.btree_map_updates_str, Slice.Eq.bytes_eq-Decides}
-use Rattle.gix_refspec_text.specs.Texts.{Bytes.slash, Words.BeginsWith}
+use Rattle.gix_refspec_text.specs.Texts.{Bytes.slash}
 use Rattle.gix_refspec_plan.specs.{Matching.Plan.{AreNested, IsDirectoryOf}, Private.Directories.{AreInOrder, IsNestedIn, TellNestedIn, by_component, rank}}
 
 same_rank : (x y : ℕ) → rank x ≡ rank y → x ≡ y
@@ -101,16 +101,6 @@ at_end xs ys i in_xs in_ys over =
 
 -- ---- one name in the directory of another
 
-at_slash : (d after : List ℕ) → get_or ((d ++ slash ∷ []) ++ after) (length d) 0 ≡ slash
-at_slash [] after = refl
-at_slash (x ∷ d) after = at_slash d after
-
-pub slash_here : (d e : List ℕ) → IsDirectoryOf d e → (length d < length e) × (get_or e (length d) 0 ≡ slash)
-slash_here d e in_d = (
-  omega (arith, ap length in_d.here, length-append (d ++ slash ∷ []) in_d.after, length-append d (slash ∷ [])),
-  ap (λ (x : List ℕ). get_or x (length d) 0) in_d.here ∙ at_slash d in_d.after,
-)
-
 pub directory_told : (d e : List ℕ) (r : Bool) → length d < length e → get_or e (length d) 0 ≡ slash
     → (r ≡ true → e ≡ d ++ drop (length d) e) × ((rest : List ℕ) → e ≡ d ++ rest → r ≡ true) → IsTrue r ↔ IsDirectoryOf d e
 directory_told d e r longer is told = (
@@ -123,6 +113,14 @@ directory_told d e r longer is told = (
 
 get_or_same : {X : Type 0} (xs : List X) (k : ℕ) (d e : X) → k < length xs → get_or xs k d ≡ get_or xs k e
 get_or_same xs k d e below = get_or_default xs k d e below
+
+match_weaker : {X : Type 0} (o : Option X) {N M : Type 0} {P Q : X → Type 0} → (N → M) → ((x : X) → P x → Q x) → MatchOption o N P → MatchOption o M Q
+match_weaker None none some told = none told
+match_weaker (Some x) none some told = some x told
+
+-- what a map has for a name
+abbrev known : BTreeMap (Bor (List ℕ)) (Bor (List ℕ)) → List ℕ → Option (Bor (List ℕ))
+known nested d = get_by (λ k. slice_cmp nat_cmp d k.now) nested
 
 -- ---- one pass over sorted names
 
@@ -164,11 +162,6 @@ module _ (names : List (List ℕ)) (top name : List ℕ) (up : IsUpper names top
       ]
     ]
 
-    inside_back : (d : List ℕ) → (IsNestedIn names d ⊎ (d ≡ top)) ⊎ (d ≡ name) → IsNestedIn (names ++ name ∷ []) d
-    inside_back d (inl (inl old)) = kept d old
-    inside_back d (inl (inr is)) = subst (IsNestedIn (names ++ name ∷ [])) (sym is) (top_in, (name, last, inl inside))
-    inside_back d (inr is) = subst (IsNestedIn (names ++ name ∷ [])) (sym is) (last, (top, top_in, inr inside))
-
     pub inside_upper : IsUpper (names ++ name ∷ []) top
     inside_upper = record {
       has = top_in;
@@ -200,34 +193,46 @@ module _ (names : List (List ℕ)) (top name : List ℕ) (up : IsUpper names top
       upto = λ d has. inl (elim (Contains-push_cases names name d has) [ inl old ↦ order d old | inr is ↦ subst (λ (x : List ℕ). IsUpTo x name) is (up_to_itself name) ]);
     }
 
-    pub outside_told : (nested : BTreeMap (Bor (List ℕ)) Bool) → TellNestedIn names nested → TellNestedIn (names ++ name ∷ []) nested
-    outside_told nested told d = ((λ found. kept d ((told d).0 found)), (λ is. (told d).1 (outside_cases d is)))
+    pub outside_told : (nested : BTreeMap (Bor (List ℕ)) (Bor (List ℕ))) → TellNestedIn names nested → TellNestedIn (names ++ name ∷ []) nested
+    outside_told nested told d = match_weaker (known nested d) (λ none is. none (outside_cases d is))
+        (λ e (has, (also, nests)). (Contains-append_left names (name ∷ []) d has, (Contains-append_left names (name ∷ []) e.now also, nests))) (told d)
 
--- whether a map has a name
-abbrev Has : BTreeMap (Bor (List ℕ)) Bool → List ℕ → Type 0
-Has nested d = IsTrue (is_some (get_by (λ k. slice_cmp nat_cmp d k.now) nested))
-
-inserted : (old new : BTreeMap (Bor (List ℕ)) Bool) (e : Bor (List ℕ)) → UpdatesBy (λ x y. slice_cmp nat_cmp x.now y.now) (λ k. slice_cmp nat_cmp e.now k.now) old new (Some true)
-    → (d : List ℕ) → Has new d ↔ (Has old d ⊎ (d ≡ e.now))
-inserted old new e updates d = rw (btree_map_updates_str e.now old new (Some true) updates d) (by (bytes_eq e.now d) refl)
+-- what is looked up after an insertion
+inserted : (old new : BTreeMap (Bor (List ℕ)) (Bor (List ℕ))) (e v : Bor (List ℕ)) → UpdatesBy (λ x y. slice_cmp nat_cmp x.now y.now) (λ k. slice_cmp nat_cmp e.now k.now) old new (Some v)
+    → (d : List ℕ) → ((known new d ≡ Some v) × (d ≡ e.now)) ⊎ ((known new d ≡ known old d) × (d ≢ e.now))
+inserted old new e v updates d = by (bytes_eq e.now d) refl
   where
-    by : (b : Bool) → bytes_eq e.now d ≡ b → IsTrue (is_some (cond b (Some true) (get_by (λ k. slice_cmp nat_cmp d k.now) old))) ↔ (Has old d ⊎ (d ≡ e.now))
-    by true same = ((λ found. inr (sym ((bytes_eq-Decides e.now d).0 same))), (λ either. refl))
-    by false other = ((λ found. inl found), (λ either. elim either [ inl found ↦ found | inr is ↦ absurd (false≢true (sym other ∙ (bytes_eq-Decides e.now d).1 (sym is))) ]))
+    looked : known new d ≡ cond (bytes_eq e.now d) (Some v) (known old d)
+    looked = btree_map_updates_str e.now old new (Some v) updates d
 
-pub inside_told : (names : List (List ℕ)) (old mid new : BTreeMap (Bor (List ℕ)) Bool) (top name : Bor (List ℕ)) → IsUpper names top.now → ((d : List ℕ) → Contains names d → IsUpTo d name.now) → IsDirectoryOf top.now name.now
-    → UpdatesBy (λ x y. slice_cmp nat_cmp x.now y.now) (λ k. slice_cmp nat_cmp top.now k.now) old mid (Some true) → UpdatesBy (λ x y. slice_cmp nat_cmp x.now y.now) (λ k. slice_cmp nat_cmp name.now k.now) mid new (Some true)
-    → TellNestedIn names old → TellNestedIn (names ++ name.now ∷ []) new
-inside_told names old mid new top name up order inside first second told d = (
-  (λ found. inside_back names top.now name.now up order inside d (elim ((inserted mid new name second d).0 found) [
-    | inl before ↦ inl (elim ((inserted old mid top first d).0 before) [ inl earlier ↦ inl ((told d).0 earlier) | inr is ↦ inr is ])
-    | inr is ↦ inr is
-  ])),
-  (λ nested. (inserted mid new name second d).1 (elim (inside_cases names top.now name.now up order inside d nested) [
-    | inl before ↦ inl ((inserted old mid top first d).1 (elim before [ inl earlier ↦ inl ((told d).1 earlier) | inr is ↦ inr is ]))
-    | inr is ↦ inr is
-  ])),
-)
+    by : (b : Bool) → bytes_eq e.now d ≡ b → ((known new d ≡ Some v) × (d ≡ e.now)) ⊎ ((known new d ≡ known old d) × (d ≢ e.now))
+    by true same = inl (looked ∙ ap (λ (b : Bool). cond b (Some v) (known old d)) same, sym ((bytes_eq-Decides e.now d).0 same))
+    by false other = inr (looked ∙ ap (λ (b : Bool). cond b (Some v) (known old d)) other, λ is. false≢true (sym other ∙ (bytes_eq-Decides e.now d).1 (sym is)))
+
+-- d is one of the names, and e another one that is a directory of it, or is in it
+abbrev IsOther : List (List ℕ) → List ℕ → Bor (List ℕ) → Type 0
+IsOther names d e = Contains names d × (Contains names e.now × AreNested d e.now)
+
+pub inside_told : (names : List (List ℕ)) (old mid new : BTreeMap (Bor (List ℕ)) (Bor (List ℕ))) (top name : Bor (List ℕ)) → IsUpper names top.now → ((d : List ℕ) → Contains names d → IsUpTo d name.now)
+    → IsDirectoryOf top.now name.now → UpdatesBy (λ x y. slice_cmp nat_cmp x.now y.now) (λ k. slice_cmp nat_cmp top.now k.now) old mid (Some name)
+    → UpdatesBy (λ x y. slice_cmp nat_cmp x.now y.now) (λ k. slice_cmp nat_cmp name.now k.now) mid new (Some top) → TellNestedIn names old → TellNestedIn (names ++ name.now ∷ []) new
+inside_told names old mid new top name up order inside first second told d =
+    let more = names ++ name.now ∷ [] in
+    let has_name : Contains more name.now = Contains-push names name.now in
+    let has_top : Contains more top.now = Contains-append_left names (name.now ∷ []) top.now up.has in
+    let Told : Option (Bor (List ℕ)) → Type 0 = λ o. MatchOption o (¬ (IsNestedIn more d)) (IsOther more d) in
+    elim (inserted mid new name top second d) [
+      | inl (is, d_is) ↦ subst Told (sym is) (subst (λ (x : List ℕ). IsOther more x top) (sym d_is) (has_name, (has_top, inr inside)))
+      | inr (same, no_name) ↦ subst Told (sym same) (elim (inserted old mid top name first d) [
+        | inl (is, d_is) ↦ subst Told (sym is) (subst (λ (x : List ℕ). IsOther more x name) (sym d_is) (has_top, (has_name, inl inside)))
+        | inr (also, no_top) ↦ subst Told (sym also) (match_weaker (known old d)
+            (λ none is. elim (inside_cases names top.now name.now up order inside d is) [
+              | inl before ↦ elim before [ inl earlier ↦ none earlier | inr d_is ↦ no_top d_is ]
+              | inr d_is ↦ no_name d_is
+            ])
+            (λ e (has, (too, nests)). (Contains-append_left names (name.now ∷ []) d has, (Contains-append_left names (name.now ∷ []) e.now too, nests))) (told d))
+      ])
+    ]
 
 -- ---- the names of a list up to an index
 
@@ -253,11 +258,9 @@ single_free (x ∷ xs) d (has, (e, also, nested)) =
     let same = only x.now e also in
     elim nested [ inl in_d ↦ not_itself d (subst (IsDirectoryOf d) (same ∙ sym is) in_d) | inr in_e ↦ not_itself d (subst (λ (y : List ℕ). IsDirectoryOf y d) (same ∙ sym is) in_e) ]
 
-pub none_told : (names : List (Bor (List ℕ))) (empty : BTreeMap (Bor (List ℕ)) Bool) → empty.entries ≡ [] → TellNestedIn (texts (take 1 names)) empty
-none_told names empty none d = (
-  (λ found. absurd (false≢true (subst (λ (es : List (Bor (List ℕ) × Bool)). IsTrue (is_some (lookup (is_at (λ k. slice_cmp nat_cmp d k.now)) es))) none found))),
-  (λ nested. absurd (single_free names d nested)),
-)
+pub none_told : (names : List (Bor (List ℕ))) (empty : BTreeMap (Bor (List ℕ)) (Bor (List ℕ))) → empty.entries ≡ [] → TellNestedIn (texts (take 1 names)) empty
+none_told names empty none d =
+    subst (λ (es : List (Bor (List ℕ) × Bor (List ℕ))). MatchOption (lookup (is_at (λ k. slice_cmp nat_cmp d k.now)) es) (¬ (IsNestedIn (texts (take 1 names)) d)) (IsOther (texts (take 1 names)) d)) (sym none) (single_free names d)
 
 pub first_upper : (names : List (Bor (List ℕ))) (e : Bor (List ℕ)) → 1 ≤ length names → IsUpper (texts (take 1 names)) (get_or names 0 e).now
 first_upper [] e some = absurd (omega (arith, some))
@@ -268,12 +271,12 @@ first_upper (x ∷ xs) e some = record {
 }
 
 -- what is known of the names up to an index
-pub record HavePassed (names : List (Bor (List ℕ))) (at upper : ℕ) (nested : BTreeMap (Bor (List ℕ)) Bool) : Type 0 where
+pub record HavePassed (names : List (Bor (List ℕ))) (at upper : ℕ) (nested : BTreeMap (Bor (List ℕ)) (Bor (List ℕ))) : Type 0 where
   pub below : upper < at
   pub told : TellNestedIn (texts (take at names)) nested
   pub passed : at ≤ length names → (e : Bor (List ℕ)) → IsUpper (texts (take at names)) (get_or names upper e).now
 
-module _ (names : List (Bor (List ℕ))) (at upper : ℕ) (old : BTreeMap (Bor (List ℕ)) Bool) (sorted : AreInOrder names) (so_far : HavePassed names at upper old) (top name : Bor (List ℕ))
+module _ (names : List (Bor (List ℕ))) (at upper : ℕ) (old : BTreeMap (Bor (List ℕ)) (Bor (List ℕ))) (sorted : AreInOrder names) (so_far : HavePassed names at upper old) (top name : Bor (List ℕ))
     (below : at < length names) (is_top : top ≡ get_or names upper top) (is : name ≡ get_or names at name) where
   upper_now : IsUpper (texts (take at names)) top.now
   upper_now = subst (IsUpper (texts (take at names))) (ap (λ (x : Bor (List ℕ)). x.now) (sym is_top)) (so_far.passed (omega (arith, below)) top)
@@ -281,8 +284,8 @@ module _ (names : List (Bor (List ℕ))) (at upper : ℕ) (old : BTreeMap (Bor (
   one_more : texts (take (at + 1) names) ≡ texts (take at names) ++ name.now ∷ []
   one_more = map_more (λ (x : Bor (List ℕ)). x.now) names at name below ∙ ap (λ (x : Bor (List ℕ)). texts (take at names) ++ x.now ∷ []) (sym is)
 
-  pub passed_inside : (mid new : BTreeMap (Bor (List ℕ)) Bool) → IsDirectoryOf top.now name.now
-      → UpdatesBy (λ x y. slice_cmp nat_cmp x.now y.now) (λ k. slice_cmp nat_cmp top.now k.now) old mid (Some true) → UpdatesBy (λ x y. slice_cmp nat_cmp x.now y.now) (λ k. slice_cmp nat_cmp name.now k.now) mid new (Some true)
+  pub passed_inside : (mid new : BTreeMap (Bor (List ℕ)) (Bor (List ℕ))) → IsDirectoryOf top.now name.now
+      → UpdatesBy (λ x y. slice_cmp nat_cmp x.now y.now) (λ k. slice_cmp nat_cmp top.now k.now) old mid (Some name) → UpdatesBy (λ x y. slice_cmp nat_cmp x.now y.now) (λ k. slice_cmp nat_cmp name.now k.now) mid new (Some top)
       → HavePassed names (at + 1) upper new
   passed_inside mid new inside first second = record {
     below = omega (arith, so_far.below);
@@ -302,11 +305,13 @@ module _ (names : List (Bor (List ℕ))) (at upper : ℕ) (old : BTreeMap (Bor (
   }
 
 -- what is told of names in another order is the same
-pub told_permuted : (names others : List (Bor (List ℕ))) (nested : BTreeMap (Bor (List ℕ)) Bool) → IsPermutation names others → TellNestedIn (texts others) nested → TellNestedIn (texts names) nested
+pub told_permuted : (names others : List (Bor (List ℕ))) (nested : BTreeMap (Bor (List ℕ)) (Bor (List ℕ))) → IsPermutation names others → TellNestedIn (texts others) nested → TellNestedIn (texts names) nested
 told_permuted names others nested permuted told d =
     let moved = IsPermutation-map (λ (x : Bor (List ℕ)). x.now) names others permuted in
     let there : (x : List ℕ) → Contains (texts names) x → Contains (texts others) x = λ x has. Contains-permutation (texts names) (texts others) x moved has in
-    let back : (x : List ℕ) → Contains (texts others) x → Contains (texts names) x = λ x has. Contains-permutation (texts others) (texts names) x (IsPermutation-sym (texts names) (texts others) moved) has in (
-      (λ found. let (has, (e, also, nests)) = (told d).0 found in (back d has, (e, back e also, nests))),
-      (λ (has, (e, also, nests)). (told d).1 (there d has, (e, there e also, nests))),
-    )
+    let back : (x : List ℕ) → Contains (texts others) x → Contains (texts names) x = λ x has. Contains-permutation (texts others) (texts names) x (IsPermutation-sym (texts names) (texts others) moved) has in match_weaker (known nested d) (λ none (has, (e, also, nests)). none (there d has, (e, there e also, nests))) (λ e (has, (also, nests)). (back d has, (back e.now also, nests))) (told d)
+
+-- whether something is told of a name
+pub some_told : (names : List (List ℕ)) (d : List ℕ) (o : Option (Bor (List ℕ))) → MatchOption o (¬ (IsNestedIn names d)) (IsOther names d) → IsTrue (is_some o) ↔ IsNestedIn names d
+some_told names d None none = ((λ found. absurd (false≢true found)), (λ is. absurd (none is)))
+some_told names d (Some e) (has, (also, nests)) = ((λ found. (has, (e.now, also, nests))), (λ is. refl))

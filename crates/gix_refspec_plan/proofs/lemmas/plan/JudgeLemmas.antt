@@ -6,7 +6,7 @@ use Rattle.gix_refspec_plan.proofs.Common.{TellContested, WritesTo, rules, same_
 use Rattle.gix_refspec_plan.proofs.Common.{slice_get, drop-append_seam, take-append-add, take-append_seam, get_or-append-add, get_or-map, get_or_default, length-map, map-append, slice_get-map, slice_get_read}
 use Rattle.gix_refspec_plan.proofs.Common.{DeclaredAsked, Origin, Update, Verdict, Ref, IsMadeFrom, HasPair, FlagsDuplicates, IsDuplicate, IsFlagged, AreMapped, Asked, HasOrigin, HasSecondVerdict, HasVerdict}
 use Rattle.gix_refspec_plan.proofs.Common.{IsCompleted, IsPlanned, IsPlannedBesides, IsTracked, Planned, Wish, AreFirst, AreJudged, AreMappings, AreSecond, FlagKnown, planned_by, asked_of, planned_of, each_mapped}
-use Rattle.gix_refspec_plan.proofs.{Common.{Contains-append_left, Contains-push, Contains-push_cases, AreSoundDestinations, AreNested, IsNestedAmong, IsObstructed, TellNested, TellNestedIn}, lemmas.plan.DirectoryLemmas.texts}
+use Rattle.gix_refspec_plan.proofs.{Common.{Contains-append_left, Contains-push, Contains-push_cases, AreSoundDestinations, AreNested, IsNestedAmong, IsObstructed, TellNested, TellNestedIn}, lemmas.plan.DirectoryLemmas.{some_told, texts}}
 use Rattle.gix_refspec_plan.proofs.lemmas.plan.{NameLemmas.{zip_at, zip_long}, MadeLemmas.{one_in, made_one, made_none, there}}
 use Rattle.std.proofs.lemmas.Map.Text.{btree_map_updates_str}
 use Rattle.gix_refspec.{specs.Matching.Validation.HasConflictAt, proofs.lemmas.validate.{FirstLemmas.start_cases, AfterLemmas.forward_fits}}
@@ -95,11 +95,12 @@ destinations_more l x names e writes are d = rw (map-append (λ (n : Bor (List �
 )
 
 -- what is told of the destinations is told of the mappings
-pub told_nested : (l : List Mapped) (names : List (Bor (List ℕ))) (nested : BTreeMap (Bor (List ℕ)) Bool) → AreSoundDestinations l (texts names) → TellNestedIn (texts names) nested → TellNested l nested
-told_nested l names nested are told d = (
-  (λ found. let (has, (e, also, nests)) = (told d).0 found in ((are d).0 has, (e, (are e).0 also, nests))),
-  (λ (any, (e, also, nests)). (told d).1 ((are d).1 any, (e, (are e).1 also, nests))),
-)
+pub told_nested : (l : List Mapped) (names : List (Bor (List ℕ))) (nested : BTreeMap (Bor (List ℕ)) (Bor (List ℕ))) → AreSoundDestinations l (texts names) → TellNestedIn (texts names) nested → TellNested l nested
+told_nested l names nested are told d =
+    let some = some_told (texts names) d (get_by (λ k. slice_cmp nat_cmp d k.now) nested) (told d) in (
+      (λ found. let (has, (e, also, nests)) = some.0 found in ((are d).0 has, (e, (are e).0 also, nests))),
+      (λ (any, (e, also, nests)). some.1 ((are d).1 any, (e, (are e).1 also, nests))),
+    )
 
 pub obstructed_told : (all : List Mapped) (m : Mapped) (d : List ℕ) (b : Bool) → IsTrue b ↔ IsNestedAmong all d → IsSound m → Contains all m → m.destination ≡ Some d → IsTrue b ↔ IsObstructed all m
 obstructed_told all m d b told sound (i, inside, here) goes = (

@@ -3,7 +3,6 @@ use Rattle.gix_refspec_plan.proofs.Common.{◌≡◌, inl, inr, ℕ, List, [], �
 use Rattle.gix_refspec_plan.proofs.Common.{one_forward, AreAsked, AreConfigured, AreMapped, AreMerges, AreTaken, AreThose, AreUncovered, Asked, HasSecondVerdict, IsCompleted, IsNegativeReading, IsPlanned}
 use Rattle.gix_refspec_plan.proofs.{Common.{IsPlannedBesides, IsPositiveReading, IsTracked, Planned, Wish, OnePlan, rules, Configured, arith, Given}, lemmas.plan.OpposedLemmas.as_second}
 use Rattle.gix_refspec_match.proofs.lemmas.lists.ListsLemmas.{made_once}
-use Rattle.gix_refspec.specs.declared.match_group.ref_names.InvalidSide.TheVariants as invalid
 
 those_once : (P : Reading → Type 0) (origin_at : ℕ → Origin) (specs : List Reading) (a b : List Asked) → AreThose P origin_at specs a → AreThose P origin_at specs b → a ≡ b
 those_once P origin_at specs = made_once (λ (k : ℕ) (r : Reading) (a : Asked). (a ≡ record { reading = r; origin = origin_at k }) × P r) (λ k r x y of_x of_y. of_x.0 ∙ sym of_y.0) 0 specs

@@ -5,7 +5,6 @@ use Rattle.gix_refspec_plan.proofs.Common.{Origin, Verdict, Ref, HasPair, IsSame
 use Rattle.gix_refspec_plan.proofs.Common.{ap, AreNested, IsObstructed, IsToBeWritten, DirectoryConflict, Planned, Wish, ConflictsExactly, DoConflict, All-contains, Written, InConflict, Any-HasPair, IsOfPair, some_at, some_element, AreMappings, ◌≢◌, arith, ◌+◌, ◌∷◌, ◌++◌}
 use Rattle.gix_refspec_plan.proofs.{Common.{AllByRecursion, all_join, IsMadeFrom, AreApart, AreWrittenApart, AreWrittenOnce, WritesOnce}, lemmas.plan.JudgeLemmas.{mappings_of, tracked_mappings}}
 use Rattle.gix_refspec_plan.proofs.lemmas.plan.MadeLemmas.{made_from, made_has, there}
-use Rattle.gix_refspec.specs.declared.match_group.ref_names.InvalidSide.TheVariants as invalid
 
 module _ (over l all : List Mapped) (m : Mapped) where
   sound_of : (v : Verdict) → HasSecondVerdict over l all m v → (v ≡ Written) ⊎ ((v ≡ InConflict) ⊎ (v ≡ DirectoryConflict)) → IsSound m × ¬ (IsTakenOver over m)
