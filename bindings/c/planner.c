@@ -7,7 +7,8 @@
 #include <stdlib.h>
 #include <string.h>
 
-static const char *const words[] = { "", "write", "left out", "left out", "left out", "conflict", "overruled", "missing" };
+static const char *const words[] = { "", "write", "left out", "left out", "left out", "conflict", "overruled", "missing",
+                                     "directory conflict" };
 
 /* The names that `git ls-remote` prints: an id, a tab and a name. A line that ends with `^{}` names no ref. */
 static size_t read_names(gix_refspec_text **names)

@@ -14,6 +14,7 @@ fn show(update: &Update) {
         Verdict::Written => "write",
         Verdict::InConflict => "conflict",
         Verdict::Overruled => "overruled",
+        Verdict::DirectoryConflict => "directory conflict",
         _ => "left out",
     };
     let destination = update.destination.as_deref().unwrap_or(b"-");
