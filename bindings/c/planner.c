@@ -9,7 +9,8 @@
 #include <string.h>
 #include <sys/types.h>
 
-static const char *const words[] = { "", "write", "left out", "left out", "left out", "conflict", "overruled", "missing" };
+static const char *const words[] = { "", "write", "left out", "left out", "left out", "conflict", "overruled", "missing",
+                                     "directory conflict" };
 
 /* The names that `git ls-remote` prints: an id, a tab and a name. A line that ends with `^{}` names no ref. */
 static size_t read_names(gix_refspec_text **names)

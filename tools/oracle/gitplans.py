@@ -25,9 +25,11 @@ Case = collections.namedtuple("Case", "command wish refs local")
 Fetched = collections.namedtuple("Fetched", "refs heads overruled failure")
 # What is planned: the same, or the missing sources, or by its destination the sources of each conflict with how it fails, or
 # that specs are refused.
-Planned = collections.namedtuple("Planned", "refs heads overruled missing conflicts refused")
+Planned = collections.namedtuple("Planned", "refs heads overruled missing conflicts refused nested")
 
 USUALLY = re.compile(rb"^warning: (.*) usually tracks (.*), not .*$", re.M)
+# A ref that git doesn't write, as another one is its directory or in it.
+NESTED = re.compile(rb"^error: cannot lock ref '(.*)': '.*' exists; cannot create '.*'$", re.M)
 DELETED = re.compile(rb"^ - \[deleted\] +\(none\) +-> (.*)$", re.M)
 # What git leaves out of a name that it tells.
 USUAL = re.compile(rb"^refs/(heads|tags|remotes)/")
@@ -60,12 +62,14 @@ def fetch(store, remote, wish):
     made = store.git(client, "fetch", "--tags" if wish.tags else "--no-tags", *refmap, "--", "origin", *wish.given)
     written = store.done(client, "for-each-ref", "--format=%(refname) %(objectname)")
     refs, heads = dict(line.split(b" ") for line in written.splitlines()), set()
-    if made.returncode == 0:
+    nested = NESTED.findall(made.stderr) if made.returncode == 1 else []
+    if made.returncode == 0 or nested:
         with open(os.path.join(client, "FETCH_HEAD"), "rb") as file:
             heads = {line.split(b"\t")[0] for line in file}
     shutil.rmtree(client)
-    if made.returncode == 0:
-        return Fetched(refs, heads, {lowered(pair) for pair in USUALLY.findall(made.stderr)}, None)
+    if made.returncode == 0 or nested:
+        usually = {lowered(pair) for pair in USUALLY.findall(made.stderr)}
+        return Fetched(refs, heads, usually, ("nested", *sorted(nested)) if nested else None)
     return Fetched(refs, heads, set(), gitfetch.failure_of(made.stderr) if not refs else ("other", made.stderr))
 
 
@@ -150,7 +154,7 @@ def line_of(one):
         fields = [one[name] for name in ("name", "spec") if name in one]
     elif one["kind"] == "refused":
         fields = [one["text"]]
-    elif one["kind"] not in ("mapping", "overruled", "left_out"):
+    elif one["kind"] not in ("mapping", "overruled", "left_out", "directory_conflict"):
         sys.exit(f"refspec: an object of an unknown kind: {one}")
     return "\t".join([one["kind"], *fields]).encode()
 
@@ -163,8 +167,9 @@ def read_plan(lines, wish, refs):
         found[word].append(fields)
     ids = {ref.name: ref.id for ref in refs}
     written = [(origin, ids.get(source, source), far) for origin, source, far, _ in found[b"mapping"]]
+    nested = [(origin, ids.get(source, source), far) for origin, source, far, _ in found[b"directory_conflict"]]
     besides = bool(wish.given)
-    heads = {id_ for origin, id_, _ in written if not (besides and origin == b"configured")}
+    heads = {id_ for origin, id_, _ in written + nested if not (besides and origin == b"configured")}
     overruled = {(far, source) for _, source, far, _ in found[b"overruled"]}
     conflicts = {}
     for far, *claims in found[b"conflict"]:
@@ -172,7 +177,8 @@ def read_plan(lines, wish, refs):
         conflicts[far] = word, set(claims[1::3])
     # What precedes the colon of a text, without a sign.
     missing = [spec.removeprefix(b"+").rpartition(b":")[0] or spec.removeprefix(b"+") for _, spec in found[b"missing"]]
-    return Planned({far: id_ for _, id_, far in written if far}, heads, overruled, missing, conflicts, found[b"refused"])
+    return Planned({far: id_ for _, id_, far in written if far}, heads, overruled, missing, conflicts, found[b"refused"],
+                   {far: id_ for _, id_, far in nested})
 
 
 def is_as_planned(fetched, planned):
@@ -181,6 +187,8 @@ def is_as_planned(fetched, planned):
         return False
     if planned.missing:
         return fetched.failure == ("missing", planned.missing[0])
+    if not planned.conflicts and planned.nested:
+        return is_nested_as_planned(fetched, planned)
     if not planned.conflicts:
         return fetched == Fetched(planned.refs, planned.heads, planned.overruled, None)
     word, *names = fetched.failure or ("none",)
@@ -189,6 +197,14 @@ def is_as_planned(fetched, planned):
     far = names.pop(0 if word == "tracks" else 2)
     wanted, sources = planned.conflicts.get(far, ("none", set()))
     return word == wanted and {lowered((far, name))[1] for name in names} <= sources
+
+
+def is_nested_as_planned(fetched, planned):
+    """Whether git wrote what was planned, and of the refs in each other's directories some, but not those that it tells."""
+    word, *failed = fetched.failure or ("none",)
+    written = {far: id_ for far, id_ in planned.nested.items() if far not in failed}
+    return (word == "nested" and set(failed) < set(planned.nested) and fetched.refs == {**planned.refs, **written}
+            and fetched.heads == planned.heads and fetched.overruled == planned.overruled)
 
 
 def fetched_lines(fetched):

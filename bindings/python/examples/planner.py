@@ -11,7 +11,8 @@ from gix_refspec import Origin, OriginKind, RefspecError, Update, Verdict, plan
 
 WORDS: Dict[Verdict, bytes] = {
     Verdict.WRITTEN: b"write", Verdict.INVALID_SOURCE: b"left out", Verdict.INVALID_DESTINATION: b"left out",
-    Verdict.INVALID_SIDES: b"left out", Verdict.CONTESTED: b"conflict", Verdict.OVERRULED: b"overruled"}
+    Verdict.INVALID_SIDES: b"left out", Verdict.CONTESTED: b"conflict", Verdict.OVERRULED: b"overruled",
+    Verdict.DIRECTORY_CONFLICT: b"directory conflict"}
 
 
 def read_names() -> List[bytes]:

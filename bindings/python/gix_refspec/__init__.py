@@ -96,6 +96,8 @@ class Verdict(enum.IntEnum):
     INVALID_SIDES: left out: both.
     CONTESTED: another source has the same destination, so nothing is fetched.
     OVERRULED: not written: a given spec or all tags write its destination.
+    DIRECTORY_CONFLICT: the destination of another update is a directory of this one's, or the other way round. Git writes
+    one of them, and ends with status 1.
     """
     WRITTEN = 1
     INVALID_SOURCE = 2
@@ -103,6 +105,7 @@ class Verdict(enum.IntEnum):
     INVALID_SIDES = 4
     CONTESTED = 5
     OVERRULED = 6
+    DIRECTORY_CONFLICT = 8
 
 
 class RefspecError(ValueError):

@@ -219,6 +219,10 @@ class Calls(unittest.TestCase):
             Update(1, b"refs/heads/main", b"refs/x/main", Origin(OriginKind.CONFIGURED, 0), Verdict.WRITTEN, True)))
         self.assertEqual(len({given, plan(["main"], names, configured), plan(["v1"], names, configured)}), 2)
         self.assertEqual(plan(["v1:refs/x/main", "main"], names, configured).updates[2].verdict, Verdict.OVERRULED)
+        nested = plan(["main:refs/x/a", "v1:refs/x/a/y", "main:refs/x/ab"], names)
+        self.assertEqual([update.verdict for update in nested.updates],
+                         [Verdict.DIRECTORY_CONFLICT, Verdict.DIRECTORY_CONFLICT, Verdict.WRITTEN])
+        self.assertTrue(nested.is_carried_out)
         missing = plan(["main", "gone:refs/x/gone"], iter(names))
         self.assertEqual((len(missing.updates), missing.missing, missing.is_carried_out),
                          (1, (Origin(OriginKind.GIVEN, 1),), False))

@@ -91,7 +91,9 @@ enum {
     GIX_REFSPEC_INVALID_SIDES = 4,       /* left out: both */
     GIX_REFSPEC_CONTESTED = 5,           /* another source has the same destination, so nothing is fetched */
     GIX_REFSPEC_OVERRULED = 6,           /* not written: a given refspec or all tags write its destination */
-    GIX_REFSPEC_MISSING = 7              /* the remote lacks the source of a refspec: only origin and spec matter */
+    GIX_REFSPEC_MISSING = 7,             /* the remote lacks the source of a refspec: only origin and spec matter */
+    GIX_REFSPEC_DIRECTORY_CONFLICT = 8   /* the destination of another update is a directory of this one's, or the other way
+                                          * round: Git writes one of them, and ends with status 1 */
 };
 
 /* A mapping, or an update of a plan. Offsets are into the buffer.

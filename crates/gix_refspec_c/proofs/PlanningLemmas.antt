@@ -12,6 +12,7 @@ is_conflict verdict.Written = inr (λ same. cc)
 is_conflict (verdict.LeftOut side) = inr (λ same. cc)
 is_conflict verdict.InConflict = inl refl
 is_conflict verdict.Overruled = inr (λ same. cc)
+is_conflict verdict.DirectoryConflict = inr (λ same. cc)
 
 -- some update is in conflict, or none is
 some_conflict : (planned : List Planned) → Any (λ p. p.verdict ≡ verdict.InConflict) planned ⊎ AllByRecursion (λ p. ¬ (p.verdict ≡ verdict.InConflict)) planned

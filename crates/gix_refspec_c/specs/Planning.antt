@@ -68,6 +68,7 @@ verdict_code (verdict.LeftOut invalid.Destination) = 3
 verdict_code (verdict.LeftOut invalid.Both) = 4
 verdict_code verdict.InConflict = 5
 verdict_code verdict.Overruled = 6
+verdict_code verdict.DirectoryConflict = 8
 
 -- and of that on a spec whose source is missing
 abbrev pub missing_code : ℕ

@@ -273,5 +273,6 @@ fn verdict_number(verdict: Verdict) -> u32
         Verdict::LeftOut(InvalidSide::Both) => 4,
         Verdict::InConflict => 5,
         Verdict::Overruled => 6,
+        Verdict::DirectoryConflict => 8,
     }
 }

@@ -21,13 +21,13 @@ pub use Rattle.gix_refspec_match.{specs.declared.types.Mapping.Mapping, proofs.l
 pub use Rattle.gix_refspec_match.proofs.lemmas.{keep.KeptPairLemmas.{Any-HasPair, HasPair-Any, IsOfPair}, lists.{JoinLemmas.{made_more, made_next, nothing_made}, SomeLemmas.{MakesOnly, any_made, made_any}}}
 pub use Rattle.gix_refspec_match.proofs.lemmas.lists.SomeLemmas.{some_at, some_of}
 pub use Rattle.gix_refspec.{specs.Matching.RefNames.IsRefName, proofs.lemmas.{specs.SideLawLemmas.sides_agree, validate.RefNameLemmas.{copied_mapping, name_of_ref}}}
-pub use Rattle.gix_refspec_plan.specs.{Laws.Fetches.{AreWrittenApart, AreWrittenOnce, CarriedOutExactly, ConflictsExactly, DoConflict, IsRequired, OnePlan, WritesOnce}, Matching.Plan.{AreAsked, AreConfigured}}
+pub use Rattle.gix_refspec_plan.specs.{Laws.Fetches.{AreWrittenApart, IsToBeWritten, AreWrittenOnce, CarriedOutExactly, ConflictsExactly, DoConflict, IsRequired, OnePlan, WritesOnce}, Matching.Plan.{AreAsked, AreConfigured}}
 pub use Rattle.gix_refspec_plan.specs.Matching.Plan.{AreLacking, AreMapped, AreMerges, AreTaken, AreThose, AreUncovered, Asked, CanBeWritten, Covers, HasOrigin, HasSecondVerdict, HasVerdict, IsCarriedOut}
 pub use Rattle.gix_refspec_plan.specs.Matching.Plan.{IsCompleted, IsContested, IsNegativeReading, IsPlan, IsPlanned, IsPlannedBesides, IsPositiveReading, IsSound, IsTakenAt, IsTakenOver, IsTracked, IsUnwritableAt}
-pub use Rattle.gix_refspec_plan.specs.Matching.{Plan.{MayBeMissing, Planned, Wish, tags_asked}, Stale.{CanWrite, CanWriteFrom, CanWriteObject, Found, IsFetched, IsKeptBy, IsSourceOf, IsStale, IsWritable}}
+pub use Rattle.gix_refspec_plan.specs.Matching.{Plan.{AreNested, HaveNested, IsDirectoryOf, IsObstructed, MayBeMissing, Planned, Wish, tags_asked}, Stale.{CanWrite, CanWriteFrom, CanWriteObject, Found, IsFetched, IsKeptBy, IsSourceOf, IsStale, IsWritable}}
 pub use Rattle.gix_refspec_plan.specs.{Matching.Stale.{IsWritableFromObject, ref_named}, Private.{Plans.{AreMappedBy, AreNames, AreNewDestinations, AreSoundNames, FlagsTaken, IsIn, origin_in}, Stales.AddsName}}
 pub use Rattle.gix_refspec_plan.specs.Private.Stales.{AddsPattern, AreDestinations, AreWriters, AreWritersOf, FlagWritten, HasDestination, HasNameState, HasParts, HasPatternState, HasState, IsNamedBy}
-pub use Rattle.gix_refspec_plan.specs.Private.{Stales.{IsPatternSource, IsWrittenBy, WritesName, WritesNameFrom, WritesPattern, ref_names, state_for}, Verdicts.{AreFirst, AreJudged, AreMappings, AreSecond}}
-pub use Rattle.gix_refspec_plan.specs.{Private.Verdicts.{CountDestinations, FlagKnown, HasTwo, IsCount, TellContested, WritesTo, planned_by}, Views.{Plan.{asked_of, planned_of, wish_of}, Stale.found_of}}
+pub use Rattle.gix_refspec_plan.specs.Private.{Stales.{IsPatternSource, IsWrittenBy, WritesName, WritesNameFrom, WritesPattern, ref_names, state_for}, Verdicts.{AreFirst, AreJudged, AreMappings, AreSecond, AreVerdicts}}
+pub use Rattle.gix_refspec_plan.specs.{Private.Verdicts.{AreSoundDestinations, CountDestinations, FlagKnown, HasTwo, IsCount, IsNestedAmong, TellContested, TellNested, WritesTo, planned_by}, Private.Directories.TellNestedIn, Views.{Plan.{asked_of, planned_of, wish_of}, Stale.found_of}}
 pub use Rattle.gix_refspec_plan.specs.declared.{Asked.Asked as DeclaredAsked, Origin.{Origin, TheVariants.{AllTags, Configured, Default, Given, Merge}}, Update.Update, Verdict.{Verdict, TheVariants.Written}}
-pub use Rattle.gix_refspec_plan.specs.declared.{Verdict.TheVariants.{LeftOut, InConflict, Overruled}, stale.{Pattern.Pattern, State.TheVariants.{Excluded, Included, Unwritable}}}
+pub use Rattle.gix_refspec_plan.specs.declared.{Verdict.TheVariants.{LeftOut, InConflict, Overruled, DirectoryConflict}, stale.{Pattern.Pattern, State.TheVariants.{Excluded, Included, Unwritable}}}

@@ -14,7 +14,8 @@ pub fn one_plan(wish: &Wish<'_, '_>, items: &[Item<'_>])
     ensures { OnePlan (wish_of wish.now) (map ref_of items.now) }
 {}
 
-/// No two updates that `plan_fetch` says are written have the same destination.
+/// No two updates that `plan_fetch` says are written have the same destination, or destinations of which one is a directory
+/// of the other.
 pub fn writes_once(wish: &Wish<'_, '_>, items: &[Item<'_>])
     ensures { WritesOnce (wish_of wish.now) (map ref_of items.now) }
 {}

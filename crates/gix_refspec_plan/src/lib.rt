@@ -20,6 +20,7 @@ ghost use Rattle.gix_refspec_match.specs.Views.Mapping.{ref_of};
 ghost use Rattle.gix_refspec_plan.specs.Matching.Plan.{AreLacking, IsCarriedOut, IsPlan, MayBeMissing};
 ghost use Rattle.gix_refspec_plan.specs.Views.Plan.{asked_of, planned_of, wish_of};
 
+pub mod directories;
 pub mod laws;
 pub mod mapped;
 mod specs;
@@ -77,6 +78,10 @@ pub enum Verdict {
     /// A spec of the call, or that of all tags, writes another ref to its destination. Git warns that it "usually tracks"
     /// this one.
     Overruled,
+    /// The destination of another update is a directory of this one's, or the other way round, as of `refs/x/a` and
+    /// `refs/x/a/y`. Git writes one of them, fails to write the other with "cannot lock ref", and ends with status 1. Which one
+    /// it writes is its affair. By `--atomic` it writes nothing.
+    DirectoryConflict,
 }
 
 /// A ref or an object that a spec fetches. Its source is borrowed from the items.
@@ -105,7 +110,8 @@ pub struct Plan<'item> {
 }
 
 impl<'item> Plan<'item> {
-    /// Whether no source is missing, and no update is in conflict. Otherwise a fetch writes nothing.
+    /// Whether no source is missing, and no update is in conflict. Otherwise a fetch writes nothing. A directory conflict
+    /// doesn't stop a fetch.
     pub fn is_carried_out(&self) -> bool
         ensures { IsTrue result ↔ IsCarriedOut (map planned_of self.now.updates.items) self.now.missing.items }
     {
@@ -136,7 +142,7 @@ impl<'item> Plan<'item> {
 /// `HEAD`, which a pattern may make.
 ///
 /// Not in the plan is what Git decides by objects and local refs: whether an update is a fast-forward, existing tags, the
-/// checked-out branch, directories in the way, symbolic refs, and the tags that are followed.
+/// checked-out branch, local refs that are directories of destinations or in these, symbolic refs, and the tags that are followed.
 ///
 /// All specs are taken for those of a fetch. Fails if memory runs out.
 pub fn plan_fetch<'item>(

@@ -2,16 +2,17 @@
 //!
 //! Destinations are looked up in an ordered map, so that no choice of names makes it slow.
 
-ghost use Rattle.std.specs.Prelude.{◌≡◌, ◌↔◌, List, ℕ, map, IfOk, IsSome, IsTrue, MatchOption, None};
+ghost use Rattle.std.specs.Prelude.{[], ◌≡◌, ◌↔◌, ◌++◌, List, length, map, IfOk, IsSome, IsTrue, MatchOption, None};
 ghost use Rattle.std.specs.List.{Contains, slice_get};
 ghost use Rattle.gix_refspec_match.specs.Views.Mapping.{mapped_of};
 ghost use Rattle.gix_refspec_match.specs.Matching.Mappings.{AreApart, Mapped};
 ghost use Rattle.gix_refspec_match.specs.Private.Kept.{IsFlagged};
 ghost use Rattle.gix_refspec_plan.specs.Matching.Plan.{HasSecondVerdict};
-ghost use Rattle.gix_refspec_plan.specs.Private.Verdicts.{AreFirst, AreJudged, AreMappings, AreSecond, AreVerdicts, CountDestinations, FlagKnown, TellContested, WritesTo, planned_by};
+ghost use Rattle.gix_refspec_plan.specs.Private.Verdicts.{AreFirst, AreJudged, AreMappings, AreSecond, AreVerdicts, CountDestinations, FlagKnown, TellContested, TellNested, planned_by};
 ghost use Rattle.gix_refspec_plan.specs.Views.Plan.{asked_of, planned_of};
 
-use super::mapped::{is_sound, unwritable_side};
+use super::directories::{nested_among, sound_destination};
+use super::mapped::unwritable_side;
 use super::specs::Tracked;
 use super::{Asked, Origin, Update, Verdict};
 use gix_refspec::match_group::Mapping;
@@ -40,8 +41,8 @@ pub(crate) fn judged<'item, 'n>(
         indexes,
         mappings: mut seconds,
     } = tracked;
-    let verdicts = first_verdicts(alloc, firsts.as_slice())?;
     if seconds.is_empty() {
+        let verdicts = only_verdicts(alloc, firsts.as_slice())?;
         return first_updates(alloc, asked, firsts, verdicts.as_slice());
     }
     let firsts_len = firsts.len();
@@ -50,6 +51,8 @@ pub(crate) fn judged<'item, 'n>(
     let repeated = duplicates(alloc, mappings.as_slice())?;
     let (firsts, seconds) = mappings.as_slice().split_at(firsts_len);
     let winning = counts_of(alloc, firsts)?;
+    let nested = nested_among(alloc, mappings.as_slice())?;
+    let verdicts = first_verdicts(alloc, firsts, &nested)?;
     let mut besides = second_updates(
         alloc,
         specs.as_slice(),
@@ -58,24 +61,40 @@ pub(crate) fn judged<'item, 'n>(
         seconds,
         repeated.as_slice(),
         &winning,
+        &nested,
     )?;
     drop(winning);
+    drop(nested);
     mappings.truncate(firsts_len);
     let mut updates = first_updates(alloc, asked, mappings, verdicts.as_slice())?;
     updates.append(&mut besides)?;
     Ok(updates)
 }
 
-// The verdict on each of the mappings of specs that map refs of the remote.
-fn first_verdicts(alloc: Global, mappings: &[Mapping<'_, '_>]) -> Result<Vec<Verdict>, AllocError>
+// The verdict on each of the mappings, if there are no others.
+fn only_verdicts(alloc: Global, mappings: &[Mapping<'_, '_>]) -> Result<Vec<Verdict>, AllocError>
     requires { AreApart (map mapped_of mappings.now) }
-    ensures { IfOk result (λ verdicts. AreVerdicts (map mapped_of mappings.now) verdicts.items) }
+    ensures { IfOk result (λ verdicts. AreVerdicts (map mapped_of mappings.now) [] verdicts.items) }
+{
+    let nested = nested_among(alloc, mappings)?;
+    first_verdicts(alloc, mappings, &nested)
+}
+
+// The verdict on each of the mappings of specs that map refs of the remote, beside others.
+fn first_verdicts(
+    alloc: Global,
+    mappings: &[Mapping<'_, '_>],
+    nested: &BTreeMap<&[u8], &[u8]>,
+) -> Result<Vec<Verdict>, AllocError>
+    requires { AreApart (map mapped_of mappings.now) }
+    ensures { (seconds : List Mapped) → TellNested (map mapped_of mappings.now ++ seconds) nested.now →
+        IfOk result (λ verdicts. AreVerdicts (map mapped_of mappings.now) seconds verdicts.items) }
 {
     let contested = contested_of(alloc, mappings)?;
     let nothing = BTreeMap::new(alloc);
     let mut verdicts = Vec::with_capacity(alloc, mappings.len())?;
     for mapping in mappings {
-        verdicts.push(verdict_on(mapping, &contested, &nothing))?;
+        verdicts.push(verdict_on(mapping, &contested, &nothing, nested))?;
     }
     Ok(verdicts)
 }
@@ -88,9 +107,10 @@ fn first_updates<'item>(
     verdicts: &[Verdict],
 ) -> Result<Vec<Update<'item>>, AllocError>
     requires mappings { AreMappings (map asked_of asked.now) (map mapped_of mappings.items) }
-    requires verdicts { AreVerdicts (map mapped_of mappings.items) verdicts.now }
-    ensures { IfOk result (λ updates. AreFirst
-        (map asked_of asked.now) (map mapped_of mappings.entry.items) (map planned_of updates.items)) }
+    requires verdicts { length verdicts.now ≡ length mappings.items }
+    ensures { (seconds : List Mapped) → AreVerdicts (map mapped_of mappings.entry.items) seconds verdicts.now →
+        IfOk result (λ updates. AreFirst (map asked_of asked.now) (map mapped_of mappings.entry.items) seconds
+        (map planned_of updates.items)) }
 {
     let mut updates = Vec::with_capacity(alloc, mappings.len())?;
     for mapping in mappings {
@@ -112,10 +132,12 @@ fn second_updates<'item>(
     mappings: &[Mapping<'item, '_>],
     repeated: &[bool],
     winning: &BTreeMap<&[u8], bool>,
+    nested: &BTreeMap<&[u8], &[u8]>,
 ) -> Result<Vec<Update<'item>>, AllocError>
     requires mappings { AreMappings (map asked_of specs.now) (map mapped_of mappings.now) }
     requires repeated { FlagKnown (map mapped_of firsts.now) (map mapped_of mappings.now) repeated.now }
     requires winning { CountDestinations (map mapped_of firsts.now) winning.now }
+    requires nested { TellNested (map mapped_of firsts.now ++ map mapped_of mappings.now) nested.now }
     ensures { IfOk result (λ updates. AreSecond
         (map asked_of specs.now) indexes.now (map mapped_of firsts.now)
         (map mapped_of mappings.now) (map planned_of updates.items)) }
@@ -126,7 +148,7 @@ fn second_updates<'item>(
         if is_new(mapping, repeated, firsts.len() + index) {
             let origin = specs[mapping.spec_index].origin;
             let item_index = index_among_all(mapping.item_index, indexes);
-            let verdict = verdict_on(mapping, &contested, winning);
+            let verdict = verdict_on(mapping, &contested, winning, nested);
             let copy = mapping.clone(alloc)?;
             updates.push(update_of(alloc, copy, item_index, origin, verdict)?)?;
         }
@@ -178,9 +200,11 @@ fn verdict_on(
     mapping: &Mapping<'_, '_>,
     counts: &BTreeMap<&[u8], bool>,
     winning: &BTreeMap<&[u8], bool>,
+    nested: &BTreeMap<&[u8], &[u8]>,
 ) -> Verdict
-    ensures { (firsts l : List Mapped) → CountDestinations firsts winning.now → TellContested l counts.now →
-        AreApart l → Contains l (mapped_of mapping.now) → HasSecondVerdict firsts l (mapped_of mapping.now) result }
+    ensures { (firsts l all : List Mapped) → CountDestinations firsts winning.now → TellContested l counts.now →
+        TellNested all nested.now → AreApart l → Contains l (mapped_of mapping.now) →
+        Contains all (mapped_of mapping.now) → HasSecondVerdict firsts l all (mapped_of mapping.now) result }
 {
     if let Some(side) = unwritable_side(mapping) {
         return Verdict::LeftOut(side);
@@ -194,6 +218,9 @@ fn verdict_on(
     }
     if counts.get(destination).copied().unwrap_or(false) {
         return Verdict::InConflict;
+    }
+    if nested.contains_key(destination) {
+        return Verdict::DirectoryConflict;
     }
     Verdict::Written
 }
@@ -228,20 +255,4 @@ fn counts_of<'m>(
         }
     }
     Ok(counts)
-}
-
-// The destination of a sound mapping.
-fn sound_destination<'m>(mapping: &'m Mapping<'_, '_>) -> Option<&'m [u8]>
-    ensures { MatchOption result
-        ((d : List ℕ) → ¬ (WritesTo d (mapped_of mapping.now)))
-        (λ d. WritesTo d.now (mapped_of mapping.now)) }
-{
-    let Some(name) = &mapping.rhs else {
-        return None;
-    };
-    if is_sound(mapping) {
-        Some(name.as_bstr().as_bytes())
-    } else {
-        None
-    }
 }

@@ -28,6 +28,7 @@ has_written verdict.Written = true
 has_written (verdict.LeftOut side) = false
 has_written verdict.InConflict = false
 has_written verdict.Overruled = false
+has_written verdict.DirectoryConflict = false
 
 abbrev pub is_written : Update → Bool
 is_written u = has_written u.verdict
@@ -38,7 +39,7 @@ pub record IsWhole (wish : Wish) (refs : List Ref) (planned : List Planned) : Ty
   pub free : (p q : Planned) → Contains planned p → Contains planned q → ¬ (DoConflict p q)
 
 -- the updates are exactly those of the plan that are written, in order. Nothing hinders the plan, and no ref is written
--- twice
+-- twice, nor two of which one is a directory of the other
 pub record AreFetched (wish : Wish) (refs : List Ref) (fetched : List Update) : Type 0 where
   pub updates : List Update
   pub missing : List Origin

@@ -12,7 +12,8 @@ use std::alloc::{AllocError, Global};
 /// What comes of a fetch.
 #[derive(Debug, Drop)]
 pub enum Fetch<'item> {
-    /// It is carried out. Holds the updates that are written, in order.
+    /// It is carried out. Holds the updates that are written, in order. Of those in a directory conflict, which are left out
+    /// here, Git writes some, and then ends with status 1.
     CarriedOut(Vec<Update<'item>>),
     /// Nothing is fetched, as a source is missing, or updates are in conflict. Holds the whole plan.
     Hindered(Plan<'item>),
@@ -45,6 +46,7 @@ fn has_to_be_written(update: &Update<'_>) -> bool
 {
     match update.verdict {
         Verdict::Written => true,
-        Verdict::LeftOut(_) | Verdict::InConflict | Verdict::Overruled => false,
+        Verdict::LeftOut(_) | Verdict::InConflict => false,
+        Verdict::Overruled | Verdict::DirectoryConflict => false,
     }
 }

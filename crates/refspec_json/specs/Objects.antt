@@ -72,6 +72,17 @@ overruled_object source destination spec origin message = object (
     member (codes "source") (string source) (
     member (codes "spec") (string spec) no_members))))))
 
+-- an update whose destination is a directory of another one's, or is in that; and that one
+abbrev pub directory_conflict_object : (source : List ℕ) → (destination : Option (List ℕ)) → (spec origin other message : List ℕ) → Data
+directory_conflict_object source destination spec origin other message = object (
+    member (codes "destination") (text_or_null destination) (
+    member (codes "kind") (string (codes "directory_conflict")) (
+    member (codes "message") (string message) (
+    member (codes "origin") (string origin) (
+    member (codes "other") (string other) (
+    member (codes "source") (string source) (
+    member (codes "spec") (string spec) no_members)))))))
+
 -- an update that is left out, the side whose ref name is invalid, and why
 abbrev pub left_out_object : (source : List ℕ) → (destination : Option (List ℕ)) → (spec origin side message : List ℕ) → Data
 left_out_object source destination spec origin side message = object (

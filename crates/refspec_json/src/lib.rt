@@ -9,7 +9,7 @@ mod refs;
 mod specs;
 mod warnings;
 
-pub use mappings::{Claim, Conflict, LeftOut, Mapping, Overruled};
+pub use mappings::{Claim, Conflict, DirectoryConflict, LeftOut, Mapping, Overruled};
 pub use prefixes::{Nothing, Prefix};
 pub use refs::{Kept, Malformed, Missing, Stale, Untracked};
 pub use specs::{All, Refused, Spec, SpecKind, ToObject};

@@ -3,7 +3,7 @@
 ghost use Rattle.std.specs.Prelude.{◌≡◌, ◌++◌, map, option_map, IfOk, OnOk};
 ghost use Rattle.serde_json.specs.Data.{array};
 ghost use Rattle.serde_json.specs.View.{view, items_of};
-ghost use Rattle.refspec_json.specs.Objects.{line_of, mapping_object, left_out_object, overruled_object, claim_object, conflict_object};
+ghost use Rattle.refspec_json.specs.Objects.{line_of, mapping_object, left_out_object, overruled_object, directory_conflict_object, claim_object, conflict_object};
 
 use crate::line::{set_text, set_text_if, text_or_null, write_value};
 use serde_json::{Map, Value, json, put};
@@ -76,6 +76,46 @@ impl Overruled<'_> {
             "kind": "overruled",
             "message": self.message,
             "origin": self.origin,
+            "source": self.source,
+            "spec": self.spec,
+        })
+    }
+}
+
+/// An update whose destination is a directory of another one's, or is in that.
+#[derive(Drop)]
+pub struct DirectoryConflict<'a> {
+    pub source: &'a str,
+    pub destination: Option<&'a str>,
+    pub spec: &'a str,
+    pub origin: &'a str,
+    /// The destination of the other update.
+    pub other: &'a str,
+    pub message: &'a str,
+}
+
+impl DirectoryConflict<'_> {
+    /// Appends its object and a newline.
+    pub fn write_line(&self, alloc: Global, out: &mut Vec<u8>) -> Result<(), AllocError>
+        ensures { OnOk result (out.new.items ≡ out.old.items ++ line_of (directory_conflict_object
+            self.now.source.now (option_map (λ t. t.now) self.now.destination)
+            self.now.spec.now self.now.origin.now self.now.other.now self.now.message.now)) }
+    {
+        write_value(alloc, out, &self.object(alloc)?)
+    }
+
+    fn object(&self, alloc: Global) -> Result<Value, AllocError>
+        ensures { IfOk result (λ v. view v ≡ directory_conflict_object
+            self.now.source.now (option_map (λ t. t.now) self.now.destination)
+            self.now.spec.now self.now.origin.now self.now.other.now self.now.message.now) }
+    {
+        let destination = text_or_null(alloc, self.destination)?;
+        json!(in alloc; {
+            "destination": destination,
+            "kind": "directory_conflict",
+            "message": self.message,
+            "origin": self.origin,
+            "other": self.other,
             "source": self.source,
             "spec": self.spec,
         })

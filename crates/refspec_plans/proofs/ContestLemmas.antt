@@ -52,6 +52,7 @@ conflict_or verdict.Written = inr refl
 conflict_or (verdict.LeftOut side) = inr refl
 conflict_or verdict.InConflict = inl refl
 conflict_or verdict.Overruled = inr refl
+conflict_or verdict.DirectoryConflict = inr refl
 
 -- ---- the updates at the indexes of a run
 

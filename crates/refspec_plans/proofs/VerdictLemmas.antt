@@ -8,7 +8,7 @@ use Rattle.gix_refspec_plan.specs.declared.Verdict.{Verdict}
 use Rattle.gix_refspec_plan.specs.declared.Verdict.TheVariants as verdict
 use Rattle.gix_refspec_plan.specs.Matching.Plan.{Planned}
 use Rattle.gix_refspec_plan.specs.Views.Plan.{planned_of}
-use Rattle.refspec_plans.specs.Verdicts.{is_overruled, is_written, left_out_by, left_out_of, overruled_of, unwritable, written_of}
+use Rattle.refspec_plans.specs.Verdicts.{is_nested, is_overruled, is_written, left_out_by, left_out_of, nested_of, overruled_of, unwritable, written_of}
 
 planned-next : (xs : List Update) (i : ℕ) (x : Update) → i < length xs → x ≡ get_or xs i x → map planned_of (take (i + 1) xs) ≡ map planned_of (take i xs) ++ planned_of x ∷ []
 planned-next xs i x below is = map_more planned_of xs i x below ∙ ap (λ (y : Update). map planned_of (take i xs) ++ planned_of y ∷ []) (sym is)
@@ -18,6 +18,9 @@ written-next xs i x below is = ap written_of (planned-next xs i x below is) ∙ 
 
 pub overruled-next : (xs : List Update) (i : ℕ) (x : Update) → i < length xs → x ≡ get_or xs i x → overruled_of (map planned_of (take (i + 1) xs)) ≡ overruled_of (map planned_of (take i xs)) ++ overruled_of (planned_of x ∷ [])
 overruled-next xs i x below is = ap overruled_of (planned-next xs i x below is) ∙ filter-append (λ (p : Planned). is_overruled p.verdict) (map planned_of (take i xs)) (planned_of x ∷ [])
+
+pub nested-next : (xs : List Update) (i : ℕ) (x : Update) → i < length xs → x ≡ get_or xs i x → nested_of (map planned_of (take (i + 1) xs)) ≡ nested_of (map planned_of (take i xs)) ++ nested_of (planned_of x ∷ [])
+nested-next xs i x below is = ap nested_of (planned-next xs i x below is) ∙ filter-append (λ (p : Planned). is_nested p.verdict) (map planned_of (take i xs)) (planned_of x ∷ [])
 
 pub left_out-next : (xs : List Update) (i : ℕ) (x : Update) → i < length xs → x ≡ get_or xs i x → left_out_of (map planned_of (take (i + 1) xs)) ≡ left_out_of (map planned_of (take i xs)) ++ left_out_of (planned_of x ∷ [])
 left_out-next xs i x below is = ap left_out_of (planned-next xs i x below is) ∙ filter_map-append (λ (p : Planned). left_out_by p p.verdict) (map planned_of (take i xs)) (planned_of x ∷ [])
@@ -38,6 +41,7 @@ left_out-none p other = by_verdict p.verdict other
     by_verdict (verdict.LeftOut side) other = absurd (other side refl)
     by_verdict verdict.InConflict other = refl
     by_verdict verdict.Overruled other = refl
+    by_verdict verdict.DirectoryConflict other = refl
 
 -- an update alone, which is overruled or not
 pub overruled-one : (p : Planned) → p.verdict ≡ verdict.Overruled → overruled_of (p ∷ []) ≡ p ∷ []
@@ -51,3 +55,18 @@ overruled-none p other = by_verdict p.verdict other
     by_verdict (verdict.LeftOut side) other = refl
     by_verdict verdict.InConflict other = refl
     by_verdict verdict.Overruled other = absurd (other refl)
+    by_verdict verdict.DirectoryConflict other = refl
+
+-- an update alone, which is in a directory conflict or not
+pub nested-one : (p : Planned) → p.verdict ≡ verdict.DirectoryConflict → nested_of (p ∷ []) ≡ p ∷ []
+nested-one p is = ap (λ (v : Verdict). cond (is_nested v) (p ∷ []) []) is
+
+pub nested-none : (p : Planned) → (p.verdict ≡ verdict.DirectoryConflict → ⊥) → nested_of (p ∷ []) ≡ []
+nested-none p other = by_verdict p.verdict other
+  where
+    by_verdict : (v : Verdict) → (v ≡ verdict.DirectoryConflict → ⊥) → cond (is_nested v) (p ∷ []) [] ≡ []
+    by_verdict verdict.Written other = refl
+    by_verdict (verdict.LeftOut side) other = refl
+    by_verdict verdict.InConflict other = refl
+    by_verdict verdict.Overruled other = refl
+    by_verdict verdict.DirectoryConflict other = absurd (other refl)

@@ -15,12 +15,12 @@ use Rattle.refspec_plans.specs.declared.origins.SpecTexts.{SpecTexts}
 use Rattle.refspec_plans.specs.declared.stale.Place.TheVariants as place
 use Rattle.refspec_plans.specs.Conflicts.{AddsConflicts}
 use Rattle.refspec_plans.specs.Groups.{AddsGroups}
-use Rattle.refspec_plans.specs.LeftOut.{IsLeftOutOf, IsOverruledOf}
+use Rattle.refspec_plans.specs.LeftOut.{IsLeftOutOf, IsNestedOf, IsOverruledOf}
 use Rattle.refspec_plans.specs.Missing.{AddsMissing}
 use Rattle.refspec_plans.specs.Origins.{AreTextsOf}
 use Rattle.refspec_plans.specs.Stale.{AddsFound, pruning_specs}
 use Rattle.refspec_plans.specs.Updates.{AddsUpdateLines, update_fields, update_object}
-use Rattle.refspec_plans.specs.Verdicts.{in_conflict_of, left_out_of, overruled_of, written_of}
+use Rattle.refspec_plans.specs.Verdicts.{in_conflict_of, left_out_of, nested_of, overruled_of, written_of}
 
 -- the results grew by the lines of updates: each with its spec if `long`, else grouped below their specs
 abbrev pub AddsLongOrGroups : Bool → SpecTexts → List Planned → List ℕ → List ℕ → Type 0
@@ -50,9 +50,9 @@ pub record AddsCarriedOut (task : Task) (form : Form) (texts : SpecTexts) (wish 
   pub bad : List (List ℕ)
   pub updates : AddsUpdates task.call.now.long form texts (written_of planned) old mid
   pub pruned : AddsPruned task.call.now.prune task.call.now form task.local.now wish refs bad mid new
-  pub status : MatchBool refused ((bad ≢ []) ⊎ (left_out_of planned ≢ [])) ((bad ≡ []) × (left_out_of planned ≡ []))
+  pub status : MatchBool refused ((bad ≢ []) ⊎ ((left_out_of planned ≢ []) ⊎ (nested_of planned ≢ []))) ((bad ≡ []) × ((left_out_of planned ≡ []) × (nested_of planned ≡ [])))
 
--- the report of a plan: what is missing, left out, overruled and in conflict, and if it is carried out, its updates.
+-- the report of a plan: what is missing, left out, overruled, in a directory conflict and in conflict, and if it is carried out, its updates.
 -- Otherwise nothing follows, and the call is refused. What is said of missing sources stays before what is said of others
 pub record AddsPlan (task : Task) (form : Form) (wish : Wish) (refs : List Ref) (planned : List Planned) (lacking : List Origin) (before after : List ℕ) (refused : Bool) (old new : List ℕ) : Type 0 where
   pub texts : SpecTexts
@@ -63,11 +63,13 @@ pub record AddsPlan (task : Task) (form : Form) (wish : Wish) (refs : List Ref) 
   pub second : List ℕ
   pub third : List ℕ
   pub fourth : List ℕ
+  pub fifth : List ℕ
   pub of_specs : AreTextsOf wish texts
   pub missing : AddsMissing task.call.now.all form texts lacking before said old first
   pub kept : Grows said noted
   pub left_out : AddsObjects form (IsLeftOutOf texts) (left_out_of planned) first second
   pub overruled : AddsObjects form (IsOverruledOf texts) (overruled_of planned) second third
-  pub conflicts : AddsConflicts task.call.now.all form texts (in_conflict_of planned) noted ended third fourth
-  pub outcome : ((¬ (IsCarriedOut planned lacking)) × (after ≡ ended) × (new ≡ fourth) × (refused ≡ true))
-      ⊎ (IsCarriedOut planned lacking × AddsCarriedOut task form texts wish refs planned refused fourth new)
+  pub nested : AddsObjects form (IsNestedOf texts) (nested_of planned) third fourth
+  pub conflicts : AddsConflicts task.call.now.all form texts (in_conflict_of planned) noted ended fourth fifth
+  pub outcome : ((¬ (IsCarriedOut planned lacking)) × (after ≡ ended) × (new ≡ fifth) × (refused ≡ true))
+      ⊎ (IsCarriedOut planned lacking × AddsCarriedOut task form texts wish refs planned refused fifth new)

@@ -6,24 +6,34 @@ use Rattle.gix_refspec_plan.specs.declared.Verdict.{Verdict}
 use Rattle.gix_refspec_plan.specs.declared.Verdict.TheVariants as verdict
 use Rattle.gix_refspec_plan.specs.Matching.Plan.{Planned}
 
--- whether an update with this verdict is written; is in conflict; is overruled
+-- whether an update with this verdict is written; is in conflict; is overruled; is in a directory conflict
 abbrev pub is_written : Verdict → Bool
 is_written verdict.Written = true
 is_written (verdict.LeftOut side) = false
 is_written verdict.InConflict = false
 is_written verdict.Overruled = false
+is_written verdict.DirectoryConflict = false
 
 abbrev pub is_in_conflict : Verdict → Bool
 is_in_conflict verdict.Written = false
 is_in_conflict (verdict.LeftOut side) = false
 is_in_conflict verdict.InConflict = true
 is_in_conflict verdict.Overruled = false
+is_in_conflict verdict.DirectoryConflict = false
 
 abbrev pub is_overruled : Verdict → Bool
 is_overruled verdict.Written = false
 is_overruled (verdict.LeftOut side) = false
 is_overruled verdict.InConflict = false
 is_overruled verdict.Overruled = true
+is_overruled verdict.DirectoryConflict = false
+
+abbrev pub is_nested : Verdict → Bool
+is_nested verdict.Written = false
+is_nested (verdict.LeftOut side) = false
+is_nested verdict.InConflict = false
+is_nested verdict.Overruled = false
+is_nested verdict.DirectoryConflict = true
 
 -- an update that is left out, and the side that is no valid ref name
 pub record Unwritable : Type 0 where
@@ -39,8 +49,9 @@ left_out_by p verdict.Written = None
 left_out_by p (verdict.LeftOut side) = Some (unwritable side p)
 left_out_by p verdict.InConflict = None
 left_out_by p verdict.Overruled = None
+left_out_by p verdict.DirectoryConflict = None
 
--- the updates of a plan that are written, left out, in conflict and overruled, each in order
+-- the updates of a plan that are written, left out, in conflict, overruled and in a directory conflict, each in order
 abbrev pub written_of : List Planned → List Planned
 written_of ps = filter (λ p. is_written p.verdict) ps
 
@@ -52,3 +63,6 @@ in_conflict_of ps = filter (λ p. is_in_conflict p.verdict) ps
 
 abbrev pub overruled_of : List Planned → List Planned
 overruled_of ps = filter (λ p. is_overruled p.verdict) ps
+
+abbrev pub nested_of : List Planned → List Planned
+nested_of ps = filter (λ p. is_nested p.verdict) ps

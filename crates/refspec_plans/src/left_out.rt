@@ -156,7 +156,7 @@ fn write_left_out(
 }
 
 // Appends the start of a line on an update: what becomes of it, its sides, and the text of its spec.
-fn write_update(
+pub(crate) fn write_update(
     what: &str,
     update: &Update<'_>,
     source: &[u8],

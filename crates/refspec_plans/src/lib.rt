@@ -6,6 +6,7 @@ pub mod fetch;
 mod groups;
 mod left_out;
 mod missing;
+mod nested;
 mod origins;
 pub mod plan;
 mod planning;

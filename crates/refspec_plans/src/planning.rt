@@ -1,5 +1,5 @@
-//! The report of a plan: the updates that are written are results; what is missing, in conflict, left out or
-//! overruled are messages, or in JSON results.
+//! The report of a plan: the updates that are written are results; what is missing, in conflict, left out,
+//! overruled or in a directory conflict are messages, or in JSON results.
 
 ghost use Rattle.std.specs.Prelude.{◌↔◌, map, IfOk, IsTrue};
 ghost use Rattle.gix_refspec_plan.specs.Matching.Plan.{IsCarriedOut};
@@ -10,6 +10,7 @@ ghost use Rattle.refspec_plans.specs.Plan.{AddsPlan};
 use crate::conflicts::report_conflicts;
 use crate::left_out::{report_left_out, report_overruled};
 use crate::missing::report_missing;
+use crate::nested::report_nested;
 use crate::origins::SpecTexts;
 use crate::stale::report_pruned;
 use crate::summary::Summary;
@@ -20,7 +21,7 @@ use refspec_io::call::Task;
 use refspec_io::report::Report;
 use std::alloc::{AllocError, Global};
 
-/// Reports a plan. Returns whether a source is missing, updates conflict, or one is left out.
+/// Reports a plan. Returns whether a source is missing, updates conflict, or one is left out or in a directory conflict.
 pub fn report_plan(
     alloc: Global,
     task: &Task<'_>,
@@ -41,6 +42,7 @@ pub fn report_plan(
     report_missing(alloc, missing, items, &texts, call.all, report)?;
     let has_left_out = report_left_out(alloc, updates, &texts, call.all, report)?;
     report_overruled(alloc, updates, &texts, call.all, report)?;
+    let has_nested = report_nested(alloc, updates, &texts, call.all, report)?;
     report_conflicts(alloc, updates, &texts, call.all, report)?;
     if !is_carried_out {
         return Ok(true);
@@ -49,5 +51,5 @@ pub fn report_plan(
     let has_bad = report_pruned(alloc, task, wish, items, report)?;
     let summary = Summary::of(alloc, call, wish, items)?;
     summary.write(alloc, updates, &mut report.messages)?;
-    Ok(has_bad | has_left_out)
+    Ok(has_bad | (has_left_out | has_nested))
 }

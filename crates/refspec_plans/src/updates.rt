@@ -48,6 +48,7 @@ pub fn is_written(verdict: Verdict) -> bool
         Verdict::LeftOut(_) => false,
         Verdict::InConflict => false,
         Verdict::Overruled => false,
+        Verdict::DirectoryConflict => false,
     }
 }
 

@@ -63,6 +63,7 @@ pub const INVALID_SIDES: u32 = 4;
 pub const CONTESTED: u32 = 5;
 pub const OVERRULED: u32 = 6;
 pub const MISSING: u32 = 7;
+pub const DIRECTORY_CONFLICT: u32 = 8;
 
 /// The item of an object requested by its id.
 pub const NO_ITEM: usize = usize::MAX;

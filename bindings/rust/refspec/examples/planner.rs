@@ -15,6 +15,7 @@ fn word_of(update: &Update) -> &'static str {
         Verdict::Written => "write",
         Verdict::InConflict => "conflict",
         Verdict::Overruled => "overruled",
+        Verdict::DirectoryConflict => "directory conflict",
         _ => "left out",
     }
 }

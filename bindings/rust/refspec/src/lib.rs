@@ -540,6 +540,9 @@ pub enum Verdict {
     InConflict,
     /// It isn't written: a given spec or all tags write its destination.
     Overruled,
+    /// The destination of another update is a directory of this one's, or the other way round. Git writes one of them, and
+    /// ends with status 1.
+    DirectoryConflict,
 }
 
 impl Verdict {
@@ -550,6 +553,7 @@ impl Verdict {
             sys::INVALID_DESTINATION => Verdict::LeftOut(InvalidSide::Destination),
             sys::INVALID_SIDES => Verdict::LeftOut(InvalidSide::Both),
             sys::CONTESTED => Verdict::InConflict,
+            sys::DIRECTORY_CONFLICT => Verdict::DirectoryConflict,
             _ => Verdict::Overruled,
         }
     }
@@ -943,6 +947,10 @@ mod tests {
         assert_eq!(origins, [(Origin::Given(0), false), (Origin::Configured(0), true)]);
         let overruled = planned(&["v1:refs/x/main", "main"], &["+refs/heads/*:refs/x/*"], &names)?;
         assert_eq!(overruled.updates[2].verdict, Verdict::Overruled);
+        let nested = planned(&["main:refs/x/a", "v1:refs/x/a/y", "main:refs/x/ab"], &[], &names)?;
+        let verdicts: Vec<_> = nested.updates.iter().map(|update| update.verdict).collect();
+        assert_eq!(verdicts, [Verdict::DirectoryConflict, Verdict::DirectoryConflict, Verdict::Written]);
+        assert!(nested.is_carried_out());
         let missing = planned(&["main", "gone:refs/x/gone"], &[], &names)?;
         assert_eq!((missing.updates.len(), &missing.missing[..]), (1, &[Origin::Given(1)][..]));
         assert!(!missing.is_carried_out());

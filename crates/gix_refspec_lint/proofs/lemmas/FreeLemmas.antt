@@ -123,8 +123,8 @@ plan_free wish never none some alone unmerged untagged refs planned missing plan
     let empty : plan.seconds ≡ [] = elim plan.are_seconds [ by_call positive negative taken given those others is are mapped ↦ absurd (given alone) | nothing none a b is ↦ is ] in
     let behind : plan.behind ≡ [] = subst (λ l. IsMadeFrom (λ k m p. IsPlannedBesides plan.tracking plan.indexes plan.firsts plan.seconds m p) 0 l plan.behind) empty plan.are_behind in
     subst (AllByRecursion (λ p. p.verdict ≢ verdict.InConflict)) (sym (plan.all ∙ ap (λ l. plan.before ++ l) behind ∙ append-nil plan.before))
-    (each_made (λ k m p. IsPlanned plan.asked plan.firsts m p) (λ p. p.verdict ≢ verdict.InConflict) plan.firsts plan.before (λ j m p at is conflicting.
-    let contested : HasVerdict plan.firsts m verdict.InConflict = subst (HasVerdict plan.firsts m) conflicting is.verdict in
+    (each_made (λ k m p. IsPlanned plan.asked plan.firsts plan.seconds m p) (λ p. p.verdict ≢ verdict.InConflict) plan.firsts plan.before (λ j m p at is conflicting.
+    let contested : HasVerdict plan.firsts (plan.firsts ++ plan.seconds) m verdict.InConflict = subst (HasVerdict plan.firsts (plan.firsts ++ plan.seconds) m) conflicting is.verdict in
     let (n, also, sound, shared, differ) = contested.1 in
     differ (never none plan.are_firsts.completed refs plan.firsts zipped plan.are_firsts.kept m n (j, slice_get_within plan.firsts j m at, get_or_from_slice_get plan.firsts j m m at) also contested.0 sound shared))
     plan.are_before)

@@ -1,12 +1,13 @@
 -- What the examples of plans cite: names passed on, data in few words, and proofs that hold for all examples of a kind.
 use Rattle.gix_refspec_plan.proofs.Common.{◌≡◌, inl, inr, ℕ, ◌+◌, false, List, [], ◌∷◌, ◌++◌, None, Some, codes, map, refl, sym, ◌∙◌, subst, arith, AllByRecursion, Contains, append-nil, same_Some, Origin, Verdict}
 use Rattle.gix_refspec_plan.proofs.Common.{CanBeWritten, HasStar, rules, Reading, Negative, IsPositive, fetched, fetched_alone, Ref, Takes, IsMadeFrom, Mapped, IsExcluded, LacksSource, IsRefName, AreMerges, Asked}
-use Rattle.gix_refspec_plan.proofs.Common.{Covers, IsCompleted, IsContested, IsNegativeReading, IsSound, Planned, Merge}
+use Rattle.gix_refspec_plan.proofs.Common.{ap, AreNested, Contains-push_cases, Covers, IsCompleted, IsContested, IsObstructed, IsNegativeReading, IsSound, Planned, Merge}
 use Rattle.gix_refspec_text.{specs.{Specs.Reading.Mode, Matching.Side.Excludes, Texts.Bytes.slash}, proofs.lemmas.texts.TestedLemmas.{IsName-tested, is_suspect}}
 pub use Rattle.gix_refspec_text.proofs.facts.{FitFacts.{every, heads_split, main_ref, no_dev, origin_split, short, short_kind}, ManualFacts.{Lacks-tested, named}}
 pub use Rattle.gix_refspec_match.{specs.Matching.{Hits.{AreForward, AreForwardEnds, AreSpecHits, Ends, Hit, IsHit, IsIdMapping, forward_of}, Lists.IsJoinedFrom, Mappings.IsKept}, proofs.facts.MatchFacts.mapping}
 pub use Rattle.gix_refspec_match.proofs.facts.MatchFacts.{main_candidate}
 pub use Rattle.gix_refspec.proofs.facts.RefNameFacts.{no_ref_names, ref_names}
+use Rattle.gix_refspec_plan.proofs.lemmas.plan.DirectoryLemmas.{nested_once, turned}
 pub use Rattle.gix_refspec_plan.proofs.lemmas.plan.MadeLemmas.{nothing_in, one_in}
 
 -- a spec and where it comes from, as for a merged ref; what is done with the source of a mapping
@@ -31,6 +32,25 @@ one {m} {n} has is = subst IsSound (one_in m n has) is
 
 pub alone : (m : Mapped) → ¬ (IsContested (m ∷ []) m)
 alone m (n, has, is, share, differ) = grind (arith, one_in)
+
+-- nothing is in the way of a mapping alone
+pub unobstructed : (m : Mapped) → ¬ (IsObstructed (m ∷ []) m)
+unobstructed m (n, has, is, (d, e, from, to, nests)) =
+    let same : d ≡ e = same_Some d e (sym from ∙ ap (λ (x : Mapped). x.destination) (sym (one_in m n has)) ∙ to) in
+    nested_once d (subst (AreNested d) (sym same) nests)
+
+-- of two mappings none is in the way of the other if their destinations aren't nested
+pub pair_clear : (a b : Mapped) (d e : List ℕ) → a.destination ≡ Some d → b.destination ≡ Some e → ¬ (AreNested d e) → ¬ (IsObstructed (a ∷ b ∷ []) a) × ¬ (IsObstructed (a ∷ b ∷ []) b)
+pair_clear a b d e a_to b_to apart = (
+  (λ (n, has, is, (x, y, from, to, nests)). elim (Contains-push_cases (a ∷ []) b n has) [
+    | inl here ↦ nested_once x (subst (AreNested x) (same_Some y x (sym to ∙ ap (λ (m : Mapped). m.destination) (one_in a n here) ∙ from)) nests)
+    | inr other ↦ apart (subst (λ (z : List ℕ). AreNested z e) (same_Some x d (sym from ∙ a_to)) (subst (AreNested x) (same_Some y e (sym to ∙ ap (λ (m : Mapped). m.destination) (sym other) ∙ b_to)) nests))
+  ]),
+  (λ (n, has, is, (x, y, from, to, nests)). elim (Contains-push_cases (a ∷ []) b n has) [
+    | inl here ↦ apart (turned e d (subst (λ (z : List ℕ). AreNested z d) (same_Some x e (sym from ∙ b_to)) (subst (AreNested x) (same_Some y d (sym to ∙ ap (λ (m : Mapped). m.destination) (one_in a n here) ∙ a_to)) nests)))
+    | inr other ↦ nested_once x (subst (AreNested x) (same_Some y x (sym to ∙ ap (λ (m : Mapped). m.destination) (sym other) ∙ from)) nests)
+  ]),
+)
 
 pub one_merge : (n : List ℕ) (mapped : List Mapped) → IsRefName n → ¬ (Covers mapped n) → AreMerges (n ∷ []) mapped (merged n ∷ [])
 one_merge n mapped is uncovered = (Some _, [], (refl, is, uncovered, (λ has. nothing_in [] n refl has)), refl, refl)

@@ -1,18 +1,30 @@
 -- Examples of the definitions of the laws on fetches, and what a caller concludes from these laws.
-use Rattle.gix_refspec_plan.proofs.Common.{◌≡◌, ◌⊎◌, inl, inr, false, List, [], ◌∷◌, codes, refl, arith, head, Reading, fetched_alone, Ref, IsCarriedOut, IsPlan, Planned, Wish, AreWrittenOnce, CarriedOutExactly}
-use Rattle.gix_refspec_plan.proofs.{Common.{ConflictsExactly, DoConflict, IsRequired, OnePlan, WritesOnce, Origin, Verdict, Given, Written, InConflict, Overruled}, facts.ExampleLemmas.{every, main_lacking, one_in}}
-use Rattle.gix_refspec_plan.proofs.facts.{ExampleLemmas.{short, update}, PlanFacts.{bx, from_a}}
+use Rattle.gix_refspec_plan.proofs.Common.{inl, inr, false, List, [], ◌∷◌, codes, refl, arith, head, Reading, fetched_alone, Ref, IsCarriedOut, IsPlan, Planned, Wish, AreWrittenOnce, CarriedOutExactly}
+use Rattle.gix_refspec_plan.proofs.{Common.{DirectoryConflict, IsToBeWritten, ConflictsExactly, DoConflict, IsRequired, OnePlan, WritesOnce, Origin, Verdict, Given, Written, InConflict, Overruled}, facts.ExampleLemmas.{every, main_lacking, one_in}}
+use Rattle.gix_refspec_plan.proofs.facts.{ExampleLemmas.{short, update}, PlanFacts.{bx, directories, from_a, to_y}}
 
 abbrev from_b : Verdict → Planned
 from_b v = update bx 1 (Given 1) v
 
-opposed : {v w : Verdict} → (v ≡ Written) ⊎ (v ≡ InConflict) → (w ≡ Written) ⊎ (w ≡ InConflict) → DoConflict (from_a v) (from_b w)
+opposed : {v w : Verdict} → IsToBeWritten (from_a v) → IsToBeWritten (from_b w) → DoConflict (from_a v) (from_b w)
 opposed one other = record { one = one; other = other; destination = _; one_to = refl; other_to = refl; differ = λ same. grind arith }
 
--- only what is written counts, and what has a destination; two sources conflict, but not a source with itself, nor with what is overruled
+-- only what is written counts, and what has a destination; two sources conflict, but not a source with itself, nor with what is overruled;
+-- a name isn't written beside one in its directory, but beside one that only begins with it, and a conflict is one beside a nested update too
 pub once : AreWrittenOnce (from_a Written ∷ from_b Overruled ∷ []) × ¬ (AreWrittenOnce (from_a Written ∷ from_b Written ∷ []))
+    × ¬ (AreWrittenOnce (from_a Written ∷ update to_y 1 (Given 1) Written ∷ [])) × AreWrittenOnce (from_a Written ∷ update to_y 1 (Given 1) DirectoryConflict ∷ [])
+    × DoConflict (from_a InConflict) (from_b DirectoryConflict)
     × DoConflict (from_a InConflict) (from_b Written) × ¬ (DoConflict (from_a Written) (from_a Written)) × ¬ (DoConflict (from_a Written) (from_b Overruled))
-once = ((((λ written other d to also. cc (other)), tt), (tt, tt)), (λ apart. apart.0.0 refl refl (codes "refs/x") refl refl), opposed (inr refl) (inl refl), (λ both. both.differ refl), λ both. grind arith)
+once = (
+  (((λ written other d e to also. absurd (cc (other))), tt), (tt, tt)),
+  (λ apart. (apart.0.0 refl refl (codes "refs/x") (codes "refs/x") refl refl).0 refl),
+  (λ apart. (apart.0.0 refl refl (codes "refs/x") (codes "refs/x/y") refl refl).1 directories.5),
+  (((λ written other d e to also. absurd (cc (other))), tt), (tt, tt)),
+  opposed (inr (inl refl)) (inr (inr refl)),
+  opposed (inr (inl refl)) (inl refl),
+  (λ both. both.differ refl),
+  (λ both. grind arith),
+)
 
 -- by the laws a wish that writes nothing doesn't write a ref too; no plan writes a ref twice; no update is in conflict alone, and of
 -- two sources with one destination none is written; nor does a conflict let anything be written
@@ -26,9 +38,9 @@ by_laws wish refs missing = (
   (λ law plan. once.1 (law _ missing plan)),
   (λ law. (
     (λ plan. let (q, has, both) = (law _ missing plan).0.0 refl in grind (arith, one_in)),
-    (λ plan. cc ((law _ missing plan).0.1 (_, (1, omega arith, refl), record { one = inl refl; other = inr refl; destination = _; one_to = refl; other_to = refl; differ = λ same. grind arith }))),
+    (λ plan. cc ((law _ missing plan).0.1 (_, (1, omega arith, refl), record { one = inl refl; other = inr (inl refl); destination = _; one_to = refl; other_to = refl; differ = λ same. grind arith }))),
   )),
-  (λ law plan carried. ((law _ missing plan).0 carried).1 _ _ (0, omega arith, refl) (1, omega arith, refl) (opposed (inr refl) (inr refl))),
+  (λ law plan carried. ((law _ missing plan).0 carried).1 _ _ (0, omega arith, refl) (1, omega arith, refl) (opposed (inr (inl refl)) (inr (inl refl)))),
 )
 
 -- `git fetch origin main`, and `git fetch` with a merged ref

@@ -1,9 +1,9 @@
 -- Examples of the definitions on plans over the branches of a remote: what is tracked besides, and a whole plan.
-use Rattle.gix_refspec_plan.proofs.Common.{HasPair, HasOrigin, IsTakenOver, rules, inl, inr, ℕ, ◌+◌, false, List, [], ◌∷◌, ◌++◌, None, Some, codes, map, refl, sym, ap, arith, AllByRecursion, AllZip, append-nil}
+use Rattle.gix_refspec_plan.proofs.Common.{◌≡◌, get_or, HasPair, HasOrigin, IsTakenOver, rules, inl, inr, ℕ, ◌+◌, false, List, [], ◌∷◌, ◌++◌, None, Some, codes, map, refl, sym, ap, arith, AllByRecursion, AllZip, append-nil}
 use Rattle.gix_refspec_plan.proofs.Common.{same_Some, Forced, Negative, Reading, fetched, IsSplit, pattern, the_name, lacks_no_pattern, Ref, Takes, IsMadeFrom, Mapped, AreAsked, AreConfigured, AreMapped}
-use Rattle.gix_refspec_plan.proofs.{Common.{AreUncovered, Asked, IsCompleted, IsNegativeReading, IsPlan, IsTakenAt, IsTracked, Wish, Origin, Configured, Given, Written}, facts.ExampleLemmas.IsKept}
+use Rattle.gix_refspec_plan.proofs.{Common.{AreNested, AreUncovered, IsObstructed, Asked, IsCompleted, IsNegativeReading, IsPlan, IsTakenAt, IsTracked, Wish, Origin, Configured, Given, Written}, facts.ExampleLemmas.IsKept}
 use Rattle.gix_refspec_plan.proofs.facts.ExampleLemmas.{AreForwardEnds, Hit, IsHit, alone, every, forward_beside, forward_of, heads_split, listed, merged, main_ref, mapping, named, no_dev, nothing_in}
-use Rattle.gix_refspec_plan.proofs.facts.ExampleLemmas.{none_excluded, not_excluded, one_in, one_merge, origin_split, ref_names, sound, update, whole_pattern}
+use Rattle.gix_refspec_plan.proofs.facts.ExampleLemmas.{none_excluded, not_excluded, pair_clear, one_in, one_merge, origin_split, ref_names, sound, update, whole_pattern}
 use Rattle.gix_refspec_text.{specs.Matching.Side.Excludes, proofs.facts.FitFacts.{dev_ref, excludes_dev, excludes_no_main, split_at_end}}
 
 abbrev branch : List ℕ → Ref
@@ -106,6 +106,15 @@ untaken =
     })
     (mapped (codes "refs/remotes/origin/") origin_split [] (Configured 0) (listed no_dev (Given 0) ∷ []) [] (search rules, tt) (refl, tt) refl)
 
+no_nest : ¬ (AreNested (codes "refs/x/main") (codes "refs/remotes/origin/main"))
+no_nest (inl is) = let differ : 120 ≡ 114 = sym (ap (λ (l : List ℕ). get_or l 5 0) is.here) in omega (arith, differ)
+no_nest (inr is) = let differ : 114 ≡ 120 = sym (ap (λ (l : List ℕ). get_or l 5 0) is.here) in omega (arith, differ)
+
+-- refs/x/main and refs/remotes/origin/main aren't in each other's way
+both_clear : ¬ (IsObstructed (main_below (codes "refs/x/") ∷ main_below (codes "refs/remotes/origin/") ∷ []) (main_below (codes "refs/x/")))
+    × ¬ (IsObstructed (main_below (codes "refs/x/") ∷ main_below (codes "refs/remotes/origin/") ∷ []) (main_below (codes "refs/remotes/origin/")))
+both_clear = pair_clear _ _ (codes "refs/x/main") (codes "refs/remotes/origin/main") refl refl no_nest
+
 -- what is fetched comes before what is tracked besides
 pub fetched_first : IsPlan fetch_branches (dev_ref ∷ main_ref ∷ []) (update (main_below (codes "refs/x/")) 1 (Given 0) Written ∷ update (main_below (codes "refs/remotes/origin/")) 1 (Configured 0) Written ∷ []) []
 fetched_first = record {
@@ -119,12 +128,12 @@ fetched_first = record {
   are_asked = AreAsked.by_call _ (λ none. cc) (Some _, _, (refl, tt), (Some _, [], (refl, tt), refl, refl), refl) refl;
   are_firsts = main_mapped (codes "refs/x/") (split_at_end (codes "refs/x/") refl) (Given 0) (Given 1);
   are_seconds = tracked;
-  are_before = (Some _, [], record { source = refl; item = refl; destination = refl; origin = (_, refl, refl); verdict = (sound _ _ refl refl, alone _) }, refl, refl);
+  are_before = (Some _, [], record { source = refl; item = refl; destination = refl; origin = (_, refl, refl); verdict = (sound _ _ refl refl, alone _, both_clear.0) }, refl, refl);
   are_behind =
       let new : ¬ (HasPair (main_below (codes "refs/x/") ∷ []) (main_below (codes "refs/remotes/origin/"))) = λ pair. grind arith in
       let free : ¬ (IsTakenOver (main_below (codes "refs/x/") ∷ []) (main_below (codes "refs/remotes/origin/"))) = λ (n, has, is, share). grind (arith, one_in) in
       let from : HasOrigin (listed every (Configured 0) ∷ listed no_dev (Given 1) ∷ []) (main_below (codes "refs/remotes/origin/")) (Configured 0) = (_, refl, refl) in
-      (Some _, [], search (rules, arith, sound, alone), refl, refl);
+      (Some _, [], search (rules, arith, sound, alone, both_clear.1), refl, refl);
   all = refl;
   lacks = (None, [], (λ o told. let named = rw (← same_Some _ _ told.2.is) at told.2.named in grind arith), (None, [], (λ o told. told.2.positive), refl, refl), refl);
 }

@@ -1,4 +1,5 @@
 pub mod CoveredLemmas
+pub mod DirectoryLemmas
 pub mod JudgeLemmas
 pub mod MadeLemmas
 pub mod NameLemmas

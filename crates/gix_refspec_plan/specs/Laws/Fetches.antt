@@ -7,7 +7,7 @@ use Rattle.gix_refspec_text.specs.Texts.Bytes.{head}
 use Rattle.gix_refspec_text.specs.Specs.Reading.{Reading, fetched_alone}
 use Rattle.gix_refspec_text.specs.Matching.Match.{Ref}
 use Rattle.gix_refspec_match.specs.Matching.Missing.{LacksSource}
-use Rattle.gix_refspec_plan.specs.Matching.Plan.{IsCarriedOut, IsPlan, Planned, Wish}
+use Rattle.gix_refspec_plan.specs.Matching.Plan.{AreNested, IsCarriedOut, IsPlan, Planned, Wish}
 
 -- a wish and the refs of a remote have one plan, at most
 abbrev pub OnePlan : Wish → List Ref → Type 0
@@ -15,24 +15,24 @@ OnePlan wish refs = (p q : List Planned) (missing others : List Origin) → IsPl
 
 -- ---- what is written
 
--- if both updates are written, it is to different refs
+-- if both updates are written, it is to different refs, and neither is a directory of the other
 abbrev pub AreWrittenApart : Planned → Planned → Type 0
-AreWrittenApart p q = p.verdict ≡ verdict.Written → q.verdict ≡ verdict.Written → (d : List ℕ) → p.destination ≡ Some d → q.destination ≢ Some d
+AreWrittenApart p q = p.verdict ≡ verdict.Written → q.verdict ≡ verdict.Written → (d : List ℕ) (e : List ℕ) → p.destination ≡ Some d → q.destination ≡ Some e → (d ≢ e) × ¬ (AreNested d e)
 
 -- so it is of any two of the updates
 abbrev pub AreWrittenOnce : List Planned → Type 0
 AreWrittenOnce [] = Unit {0}
 AreWrittenOnce (p ∷ l) = AllByRecursion (AreWrittenApart p) l × AreWrittenOnce l
 
--- no plan writes a ref twice
+-- no plan writes a ref twice, nor two of which one is a directory of the other
 abbrev pub WritesOnce : Wish → List Ref → Type 0
 WritesOnce wish refs = (planned : List Planned) (missing : List Origin) → IsPlan wish refs planned missing → AreWrittenOnce planned
 
 -- ---- conflicts
 
--- the update is written unless another one conflicts with it: it is neither left out nor overruled
+-- the update is written unless another one is in its way: it is neither left out nor overruled
 abbrev pub IsToBeWritten : Planned → Type 0
-IsToBeWritten p = (p.verdict ≡ verdict.Written) ⊎ (p.verdict ≡ verdict.InConflict)
+IsToBeWritten p = (p.verdict ≡ verdict.Written) ⊎ ((p.verdict ≡ verdict.InConflict) ⊎ (p.verdict ≡ verdict.DirectoryConflict))
 
 -- both updates are to be written, from different sources to the same destination
 pub record DoConflict (p q : Planned) : Type 0 where

@@ -9,7 +9,7 @@ use Rattle.gix_refspec_plan.specs.declared.Verdict.{Verdict}
 use Rattle.gix_refspec_plan.specs.declared.Verdict.TheVariants as verdict
 use Rattle.gix_refspec.specs.declared.match_group.ref_names.InvalidSide.{InvalidSide}
 use Rattle.gix_refspec.specs.declared.match_group.ref_names.InvalidSide.TheVariants as invalid
-use Rattle.gix_refspec_text.specs.Texts.Bytes.{head, star}
+use Rattle.gix_refspec_text.specs.Texts.Bytes.{head, slash, star}
 use Rattle.gix_refspec_text.specs.Texts.Words.{BeginsWith, Lacks}
 use Rattle.gix_refspec_text.specs.Texts.Name.{HasStar, IsName}
 use Rattle.gix_refspec_text.specs.Specs.Reading.{Reading, Negative, all_tags, fetched_alone}
@@ -153,31 +153,49 @@ IsContested l m = (n : Mapped) × Contains l n × IsSound n × ShareDestination 
 abbrev pub IsTakenOver : List Mapped → Mapped → Type 0
 IsTakenOver l m = (n : Mapped) × Contains l n × IsSound n × ShareDestination m n
 
--- the verdict on a mapping of the specs that map refs of the remote
-abbrev pub HasVerdict : List Mapped → Mapped → Verdict → Type 0
-HasVerdict l m verdict.Written = IsSound m × ¬ (IsContested l m)
-HasVerdict l m (verdict.LeftOut side) = IsUnwritableAt side m
-HasVerdict l m verdict.InConflict = IsSound m × IsContested l m
-HasVerdict l m verdict.Overruled = ⊥
+-- refs of the one name are in a directory of the other name: this one followed by `/` begins the other
+abbrev pub IsDirectoryOf : List ℕ → List ℕ → Type 0
+IsDirectoryOf d e = BeginsWith (d ++ slash ∷ []) e
+
+-- one of the names is a directory of the other, so Git can't store refs of both: a directory/file conflict
+abbrev pub AreNested : List ℕ → List ℕ → Type 0
+AreNested d e = IsDirectoryOf d e ⊎ IsDirectoryOf e d
+
+-- one of both destinations is a directory of the other
+abbrev pub HaveNested : Mapped → Mapped → Type 0
+HaveNested m n = (d : List ℕ) × (e : List ℕ) × (m.destination ≡ Some d) × (n.destination ≡ Some e) × AreNested d e
+
+-- one of the mappings is sound, and its destination is a directory of this one's, or is in that
+abbrev pub IsObstructed : List Mapped → Mapped → Type 0
+IsObstructed l m = (n : Mapped) × Contains l n × IsSound n × HaveNested m n
+
+-- the verdict on a mapping of the specs that map refs of the remote, where these and the configured ones make all the mappings
+abbrev pub HasVerdict : List Mapped → List Mapped → Mapped → Verdict → Type 0
+HasVerdict l all m verdict.Written = IsSound m × ¬ (IsContested l m) × ¬ (IsObstructed all m)
+HasVerdict l all m (verdict.LeftOut side) = IsUnwritableAt side m
+HasVerdict l all m verdict.InConflict = IsSound m × IsContested l m
+HasVerdict l all m verdict.Overruled = ⊥
+HasVerdict l all m verdict.DirectoryConflict = IsSound m × ¬ (IsContested l m) × IsObstructed all m
 
 -- and on a mapping of the configured specs that are applied besides: what is fetched to its destination wins
-abbrev pub HasSecondVerdict : List Mapped → List Mapped → Mapped → Verdict → Type 0
-HasSecondVerdict firsts l m verdict.Written = IsSound m × ¬ (IsTakenOver firsts m) × ¬ (IsContested l m)
-HasSecondVerdict firsts l m (verdict.LeftOut side) = IsUnwritableAt side m
-HasSecondVerdict firsts l m verdict.InConflict = IsSound m × ¬ (IsTakenOver firsts m) × IsContested l m
-HasSecondVerdict firsts l m verdict.Overruled = IsSound m × IsTakenOver firsts m
+abbrev pub HasSecondVerdict : List Mapped → List Mapped → List Mapped → Mapped → Verdict → Type 0
+HasSecondVerdict firsts l all m verdict.Written = IsSound m × ¬ (IsTakenOver firsts m) × ¬ (IsContested l m) × ¬ (IsObstructed all m)
+HasSecondVerdict firsts l all m (verdict.LeftOut side) = IsUnwritableAt side m
+HasSecondVerdict firsts l all m verdict.InConflict = IsSound m × ¬ (IsTakenOver firsts m) × IsContested l m
+HasSecondVerdict firsts l all m verdict.Overruled = IsSound m × IsTakenOver firsts m
+HasSecondVerdict firsts l all m verdict.DirectoryConflict = IsSound m × ¬ (IsTakenOver firsts m) × ¬ (IsContested l m) × IsObstructed all m
 
 -- the origin is that of the spec at the index of the mapping
 abbrev pub HasOrigin : List Asked → Mapped → Origin → Type 0
 HasOrigin asked m o = (a : Asked) × (slice_get asked m.spec ≡ Some a) × (a.origin ≡ o)
 
 -- what is planned for a mapping of the first list
-pub record IsPlanned (asked : List Asked) (firsts : List Mapped) (m : Mapped) (p : Planned) : Type 0 where
+pub record IsPlanned (asked : List Asked) (firsts seconds : List Mapped) (m : Mapped) (p : Planned) : Type 0 where
   pub source : p.source ≡ m.source
   pub item : p.item ≡ m.item
   pub destination : p.destination ≡ m.destination
   pub origin : HasOrigin asked m p.origin
-  pub verdict : HasVerdict firsts m p.verdict
+  pub verdict : HasVerdict firsts (firsts ++ seconds) m p.verdict
 
 -- what is planned for one of the second list: without a destination it would do nothing, and its pair may be in the first
 pub record IsPlannedBesides (asked : List Asked) (indexes : List ℕ) (firsts seconds : List Mapped) (m : Mapped) (p : Planned) : Type 0 where
@@ -187,7 +205,7 @@ pub record IsPlannedBesides (asked : List Asked) (indexes : List ℕ) (firsts se
   pub item : MatchOption m.item (p.item ≡ None) (λ j. slice_get indexes j ≡ p.item)
   pub destination : p.destination ≡ m.destination
   pub origin : HasOrigin asked m p.origin
-  pub verdict : HasSecondVerdict firsts seconds m p.verdict
+  pub verdict : HasSecondVerdict firsts seconds (firsts ++ seconds) m p.verdict
 
 -- a merge ref may be missing
 abbrev pub MayBeMissing : Origin → Type 0
@@ -218,7 +236,7 @@ pub record IsPlan (wish : Wish) (refs : List Ref) (planned : List Planned) (miss
   pub are_asked : AreAsked wish refs asked
   pub are_firsts : AreMapped asked refs firsts
   pub are_seconds : IsTracked wish refs tracking indexes seconds
-  pub are_before : IsMadeFrom (λ k m p. IsPlanned asked firsts m p) 0 firsts before
+  pub are_before : IsMadeFrom (λ k m p. IsPlanned asked firsts seconds m p) 0 firsts before
   pub are_behind : IsMadeFrom (λ k m p. IsPlannedBesides tracking indexes firsts seconds m p) 0 seconds behind
   pub all : planned ≡ before ++ behind
   pub lacks : AreLacking refs asked missing

@@ -1,16 +1,16 @@
 -- What becomes of updates, and how that is found. Only private functions use these definitions.
-use Rattle.std.specs.Prelude.{◌≡◌, ◌⊎◌, ◌↔◌, ◌<◌, ◌+◌, ℕ, Bool, List, [], ◌∷◌, ◌++◌, Option, None, Some, length, slice_index_or, unwrap_or, true, false, IsTrue}
+use Rattle.std.specs.Prelude.{◌≡◌, ◌⊎◌, ◌↔◌, ◌<◌, ◌+◌, ℕ, Bool, List, [], ◌∷◌, ◌++◌, Option, None, Some, is_some, length, slice_index_or, unwrap_or, true, false, IsTrue}
 use Rattle.std.specs.Borrow.{Bor}
 use Rattle.std.specs.BTreeMap.{BTreeMap, get_by}
 use Rattle.std.specs.Cmp.Lexicographic.{slice_cmp}
 use Rattle.std.specs.Ordering.{nat_cmp}
-use Rattle.std.specs.List.{AllByRecursion, AllZip, Any}
+use Rattle.std.specs.List.{AllByRecursion, AllZip, Any, Contains}
 use Rattle.gix_refspec_plan.specs.declared.Origin.{Origin}
 use Rattle.gix_refspec_plan.specs.declared.Verdict.{Verdict}
 use Rattle.gix_refspec_match.specs.Matching.Lists.{IsMadeFrom}
 use Rattle.gix_refspec_match.specs.Matching.Mappings.{AreApart, HasPair, Mapped}
 use Rattle.gix_refspec_match.specs.Private.Kept.{IsFlagged}
-use Rattle.gix_refspec_plan.specs.Matching.Plan.{Asked, HasVerdict, IsPlanned, IsPlannedBesides, IsSound, Planned}
+use Rattle.gix_refspec_plan.specs.Matching.Plan.{AreNested, Asked, HasVerdict, IsPlanned, IsPlannedBesides, IsSound, Planned}
 
 -- the mappings are of these specs, and no two have the same pair
 pub record AreMappings (asked : List Asked) (l : List Mapped) : Type 0 where
@@ -41,9 +41,21 @@ CountDestinations l counts = (d : List ℕ) → IsCount l d (get_by (λ k. slice
 abbrev pub TellContested : List Mapped → BTreeMap (Bor (List ℕ)) Bool → Type 0
 TellContested l contested = (d : List ℕ) → (unwrap_or (get_by (λ k. slice_cmp nat_cmp d k.now) contested) false ≡ true) ↔ HasTwo (WritesTo d) l
 
+-- a sound mapping has the destination d, and one has a destination that is a directory of d, or is in d
+abbrev pub IsNestedAmong : List Mapped → List ℕ → Type 0
+IsNestedAmong l d = Any (WritesTo d) l × ((e : List ℕ) × Any (WritesTo e) l × AreNested d e)
+
+-- exactly these destinations are in the map
+abbrev pub TellNested : List Mapped → BTreeMap (Bor (List ℕ)) (Bor (List ℕ)) → Type 0
+TellNested l nested = (d : List ℕ) → IsTrue (is_some (get_by (λ k. slice_cmp nat_cmp d k.now) nested)) ↔ IsNestedAmong l d
+
+-- the names are the destinations of the sound mappings
+abbrev pub AreSoundDestinations : List Mapped → List (List ℕ) → Type 0
+AreSoundDestinations l names = (d : List ℕ) → Contains names d ↔ Any (WritesTo d) l
+
 -- each mapping has the verdict at its place
-abbrev pub AreVerdicts : List Mapped → List Verdict → Type 0
-AreVerdicts l verdicts = AllZip (HasVerdict l) l verdicts
+abbrev pub AreVerdicts : List Mapped → List Mapped → List Verdict → Type 0
+AreVerdicts l seconds verdicts = AllZip (HasVerdict l (l ++ seconds)) l verdicts
 
 -- ---- the updates
 
@@ -56,8 +68,8 @@ abbrev pub planned_by : Mapped → Option ℕ → Origin → Verdict → Planned
 planned_by m item origin verdict = record { source = m.source; item = item; destination = m.destination; origin = origin; verdict = verdict }
 
 -- the updates of the first list of mappings
-abbrev pub AreFirst : List Asked → List Mapped → List Planned → Type 0
-AreFirst asked firsts planned = IsMadeFrom (λ k m p. IsPlanned asked firsts m p) 0 firsts planned
+abbrev pub AreFirst : List Asked → List Mapped → List Mapped → List Planned → Type 0
+AreFirst asked firsts seconds planned = IsMadeFrom (λ k m p. IsPlanned asked firsts seconds m p) 0 firsts planned
 
 -- and those of the second
 abbrev pub AreSecond : List Asked → List ℕ → List Mapped → List Mapped → List Planned → Type 0
@@ -67,6 +79,6 @@ AreSecond tracking indexes firsts seconds planned = IsMadeFrom (λ k m p. IsPlan
 pub record AreJudged (asked : List Asked) (firsts : List Mapped) (tracking : List Asked) (indexes : List ℕ) (seconds : List Mapped) (planned : List Planned) : Type 0 where
   pub before : List Planned
   pub behind : List Planned
-  pub are_before : AreFirst asked firsts before
+  pub are_before : AreFirst asked firsts seconds before
   pub are_behind : AreSecond tracking indexes firsts seconds behind
   pub all : planned ≡ before ++ behind

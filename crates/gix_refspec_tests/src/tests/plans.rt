@@ -5,6 +5,7 @@ use bstr::BStr;
 use gix_refspec::RefSpecRef;
 use gix_refspec::match_group::ref_names::InvalidSide;
 use gix_refspec::parsing::Operation;
+use gix_refspec_plan::directories::nested_names;
 use gix_refspec_plan::{Origin, Plan, Update, Verdict, Wish, plan_fetch};
 use std::alloc::{AllocError, Global};
 use std::process::Abort;
@@ -68,6 +69,7 @@ fn verdict_text(verdict: Verdict) -> &'static str {
         Verdict::LeftOut(InvalidSide::Both) => "both",
         Verdict::InConflict => "conflict",
         Verdict::Overruled => "overruled",
+        Verdict::DirectoryConflict => "nested",
     }
 }
 
@@ -286,6 +288,87 @@ fn leaves_out_what_is_no_ref_name(rt: HostRuntime) -> Result<(), Fail> {
             },
         ],
     )
+}
+
+// Git writes one of two such refs, and says "cannot lock ref" of the other.
+#[test]
+fn writes_no_directories_of_refs(rt: HostRuntime) -> Result<(), Fail> {
+    check(
+        &rt,
+        &[
+            // Only a whole component makes a directory.
+            Row {
+                configured: "+refs/heads/*:refs/x/* +refs/tags/*:refs/x/*",
+                names: "refs/heads/a/y refs/heads/ab refs/heads/a- refs/tags/a refs/tags/b",
+                planned: "configured 0 0 refs/heads/a/y refs/x/a/y nested\n\
+                    configured 0 1 refs/heads/ab refs/x/ab written\n\
+                    configured 0 2 refs/heads/a- refs/x/a- written\n\
+                    configured 1 3 refs/tags/a refs/x/a nested\n\
+                    configured 1 4 refs/tags/b refs/x/b written\n",
+                ..NOTHING
+            },
+            // Also of one source, and several levels below.
+            Row {
+                given: "main:refs/x/a/b/c main:refs/x/a main:refs/x/a/d",
+                names: "refs/heads/main",
+                planned: "given 0 0 refs/heads/main refs/x/a/b/c nested\n\
+                    given 1 0 refs/heads/main refs/x/a nested\n\
+                    given 2 0 refs/heads/main refs/x/a/d nested\n",
+                ..NOTHING
+            },
+            // A given spec and a configured one.
+            Row {
+                given: "main:refs/x/a",
+                configured: "refs/heads/main:refs/x/a/b",
+                names: "refs/heads/main",
+                planned: "given 0 0 refs/heads/main refs/x/a nested\n\
+                    configured 0 0 refs/heads/main refs/x/a/b nested\n",
+                ..NOTHING
+            },
+            // A conflict comes first, and what is left out isn't in the way.
+            Row {
+                given: "a:refs/x/a b:refs/x/a b:refs/x/a/b refs/heads/a.l*:refs/y/a* b:refs/y/aock/c",
+                names: "refs/heads/a refs/heads/b refs/heads/a.lock",
+                planned: "given 0 0 refs/heads/a refs/x/a conflict\n\
+                    given 1 1 refs/heads/b refs/x/a conflict\n\
+                    given 2 1 refs/heads/b refs/x/a/b nested\n\
+                    given 3 2 refs/heads/a.lock refs/y/aock source\n\
+                    given 4 1 refs/heads/b refs/y/aock/c written\n",
+                ..NOTHING
+            },
+        ],
+    )
+}
+
+#[test]
+fn finds_names_in_directories(rt: HostRuntime) -> Result<(), Fail> {
+    let alloc = rt.alloc();
+    let cases = [
+        ("", "a", None),
+        ("a", "a", None),
+        ("a a", "a", None),
+        ("a a/b", "a", Some("a/b")),
+        ("a/b a", "a/b", Some("a")),
+        ("a ab a-b a.b", "a", None),
+        ("a/b/c a- a", "a/b/c", Some("a")),
+        ("a a/b a/b/c", "a/b/c", Some("a")),
+        ("a/b a/c", "a/b", None),
+        ("a/b a/c a", "a/c", Some("a")),
+    ];
+    for (words, name, other) in cases {
+        let mut names: Vec<&[u8]> = Vec::new(alloc);
+        for word in words.split(' ') {
+            names.push(word.as_bytes())?;
+        }
+        let nested = nested_names(alloc, names)?;
+        let found = nested.get(name.as_bytes()).copied();
+        assert_eq!(rt;
+            found,
+            other.map(|text| text.as_bytes()),
+            "{name} among {words}"
+        );
+    }
+    Ok(())
 }
 
 #[test]

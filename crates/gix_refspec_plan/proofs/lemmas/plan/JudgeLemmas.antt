@@ -6,6 +6,7 @@ use Rattle.gix_refspec_plan.proofs.Common.{TellContested, WritesTo, rules, same_
 use Rattle.gix_refspec_plan.proofs.Common.{slice_get, drop-append_seam, take-append-add, take-append_seam, get_or-append-add, get_or-map, get_or_default, length-map, map-append, slice_get-map, slice_get_read}
 use Rattle.gix_refspec_plan.proofs.Common.{DeclaredAsked, Origin, Update, Verdict, Ref, IsMadeFrom, HasPair, FlagsDuplicates, IsDuplicate, IsFlagged, AreMapped, Asked, HasOrigin, HasSecondVerdict, HasVerdict}
 use Rattle.gix_refspec_plan.proofs.Common.{IsCompleted, IsPlanned, IsPlannedBesides, IsTracked, Planned, Wish, AreFirst, AreJudged, AreMappings, AreSecond, FlagKnown, planned_by, asked_of, planned_of, each_mapped}
+use Rattle.gix_refspec_plan.proofs.{Common.{Contains-append_left, Contains-push, Contains-push_cases, AreSoundDestinations, AreNested, IsNestedAmong, IsObstructed, TellNested, TellNestedIn}, lemmas.plan.DirectoryLemmas.{some_told, texts}}
 use Rattle.gix_refspec_plan.proofs.lemmas.plan.{NameLemmas.{zip_at, zip_long}, MadeLemmas.{one_in, made_one, made_none, there}}
 use Rattle.std.proofs.lemmas.Map.Text.{btree_map_updates_str}
 use Rattle.gix_refspec.{specs.Matching.Validation.HasConflictAt, proofs.lemmas.validate.{FirstLemmas.start_cases, AfterLemmas.forward_fits}}
@@ -76,6 +77,38 @@ module _ (m : Mapped) (d : List ℕ) (goes : m.destination ≡ Some d) where
     (λ (n, contains, sound_n, (e, from, to), differ). search (rules, two_of (WritesTo d) l m n has contains, to ∙ sym from ∙ goes, differ)),
   )
 
+-- ---- destinations of which one is a directory of another
+
+pub destinations_same : (l : List Mapped) (x : Mapped) (names : List (Bor (List ℕ))) → ((d : List ℕ) → ¬ (WritesTo d x)) → AreSoundDestinations l (texts names) → AreSoundDestinations (l ++ x ∷ []) (texts names)
+destinations_same l x names other are d = (
+  (λ has. (any_more (WritesTo d) l x).1 (inl ((are d).0 has))),
+  (λ any. elim ((any_more (WritesTo d) l x).0 any) [ inl before ↦ (are d).1 before | inr here ↦ absurd (other d here) ]),
+)
+
+pub destinations_more : (l : List Mapped) (x : Mapped) (names : List (Bor (List ℕ))) (e : Bor (List ℕ)) → WritesTo e.now x → AreSoundDestinations l (texts names) → AreSoundDestinations (l ++ x ∷ []) (texts (names ++ e ∷ []))
+destinations_more l x names e writes are d = rw (map-append (λ (n : Bor (List ℕ)). n.now) names (e ∷ [])) (
+  (λ has. (any_more (WritesTo d) l x).1 (elim (Contains-push_cases (texts names) e.now d has) [ inl before ↦ inl ((are d).0 before) | inr is ↦ inr (subst (λ (y : List ℕ). WritesTo y x) is writes) ])),
+  (λ any. elim ((any_more (WritesTo d) l x).0 any) [
+    | inl before ↦ Contains-append_left (texts names) (e.now ∷ []) d ((are d).1 before)
+    | inr here ↦ subst (Contains (texts names ++ e.now ∷ [])) (same_Some e.now d (sym writes.1 ∙ here.1)) (Contains-push (texts names) e.now)
+  ]),
+)
+
+-- what is told of the destinations is told of the mappings
+pub told_nested : (l : List Mapped) (names : List (Bor (List ℕ))) (nested : BTreeMap (Bor (List ℕ)) (Bor (List ℕ))) → AreSoundDestinations l (texts names) → TellNestedIn (texts names) nested → TellNested l nested
+told_nested l names nested are told d =
+    let some = some_told (texts names) d (get_by (λ k. slice_cmp nat_cmp d k.now) nested) (told d) in (
+      (λ found. let (has, (e, also, nests)) = some.0 found in ((are d).0 has, (e, (are e).0 also, nests))),
+      (λ (any, (e, also, nests)). some.1 ((are d).1 any, (e, (are e).1 also, nests))),
+    )
+
+pub obstructed_told : (all : List Mapped) (m : Mapped) (d : List ℕ) (b : Bool) → IsTrue b ↔ IsNestedAmong all d → IsSound m → Contains all m → m.destination ≡ Some d → IsTrue b ↔ IsObstructed all m
+obstructed_told all m d b told sound (i, inside, here) goes = (
+  (λ found. let (any, (e, (k, n, below, at, (sound_n, to)), nests)) = told.0 found in (n, (k, below, at), sound_n, (d, e, goes, to, nests))),
+  (λ (n, (k, below, at), sound_n, (x, e, from, to, nests)).
+      told.1 ((i, m, inside, here, (sound, goes)), (e, (k, n, below, at, (sound_n, to)), subst (λ (y : List ℕ). AreNested y e) (same_Some x d (sym from ∙ goes)) nests))),
+)
+
 module _ (ms : List Mapping) (i : ℕ) (m : Mapping) (below : i < length ms) (is : m ≡ get_or ms i m) where
   mapped_here : (d : Mapped) → get_or (map mapped_of ms) i d ≡ mapped_of m
   mapped_here d = get_or-map mapped_of ms i m d below ∙ ap mapped_of (sym is)
@@ -86,8 +119,8 @@ module _ (ms : List Mapping) (i : ℕ) (m : Mapping) (below : i < length ms) (is
   pub spec_inside : (asked : List DeclaredAsked) → AreMappings (map asked_of asked) (map mapped_of ms) → m.spec_index < length asked
   spec_inside asked are = omega (arith, each_mapped mapped_of (λ n. n.spec < length (map asked_of asked)) ms i m are.fit below is, length-map asked asked_of)
 
-  pub verdict_at : (l : List Mapped) (verdicts : List Verdict) (e : Verdict) → AllZip (HasVerdict l) (map mapped_of ms) verdicts → HasVerdict l (mapped_of m) (get_or verdicts i e)
-  verdict_at l verdicts e all = rw (mapped_here (mapped_of m)) at (zip_at (HasVerdict l) (map mapped_of ms) verdicts i (mapped_of m) e all (omega (arith, below, length-map ms mapped_of)))
+  pub verdict_at : (l all : List Mapped) (verdicts : List Verdict) (e : Verdict) → AllZip (HasVerdict l all) (map mapped_of ms) verdicts → HasVerdict l all (mapped_of m) (get_or verdicts i e)
+  verdict_at l whole verdicts e all = rw (mapped_here (mapped_of m)) at (zip_at (HasVerdict l whole) (map mapped_of ms) verdicts i (mapped_of m) e all (omega (arith, below, length-map ms mapped_of)))
 
   pub known_here : (xs : List Mapping) (flags : List Bool) → FlagKnown (map mapped_of xs) (map mapped_of ms) flags → IsFlagged flags (length xs + i) ↔ HasPair (map mapped_of xs) (mapped_of m)
   known_here xs flags known = rw (length-map xs mapped_of, mapped_here (mapped_of m)) at (known i (mapped_of m) (omega (arith, below, length-map ms mapped_of)))
@@ -100,14 +133,14 @@ origin_at asked m d below =
 pub none_counted : (counts : BTreeMap (Bor (List ℕ)) Bool) → counts.entries ≡ [] → CountDestinations [] counts
 none_counted counts empty d = subst (λ (es : List (Bor (List ℕ) × Bool)). IsCount [] d (lookup (is_at (λ k. slice_cmp nat_cmp d k.now)) es)) (sym empty) (λ (i, x, below, at, also). omega (arith, below))
 
-pub only_verdict : (l : List Mapped) (m : Mapped) (v : Verdict) → HasSecondVerdict [] l m v → HasVerdict l m v
-only_verdict l m v is = grind arith
+pub only_verdict : (l all : List Mapped) (m : Mapped) (v : Verdict) → HasSecondVerdict [] l all m v → HasVerdict l all m v
+only_verdict l all m v is = grind arith
 
 module _ (ms : List Mapping) (i : ℕ) (m : Mapping) (old : List Update) (below : i < length ms) (is : m ≡ get_or ms i m) (asked : List Asked) (indexes : List ℕ) (firsts l : List Mapped)
     (so_far : IsMadeFrom (λ k x p. IsPlannedBesides asked indexes firsts l x p) 0 (map mapped_of (take i ms)) (map planned_of old))
     (flags : List Bool) (n : ℕ) (known : IsFlagged flags n ↔ HasPair firsts (mapped_of m)) (b : Bool) (told : IsTrue b ↔ (IsSome (mapped_of m).destination × ¬ (IsFlagged flags n))) where
   pub second_next : (new : List Update) (u : Update) (item : Option ℕ) (o : Origin) (v : Verdict) → b ≡ true → MatchOption m.item_index (item ≡ None) (λ j. slice_get indexes j ≡ item)
-      → HasOrigin asked (mapped_of m) o → HasSecondVerdict firsts l (mapped_of m) v → planned_of u ≡ planned_by (mapped_of m) item o v → new ≡ old ++ u ∷ []
+      → HasOrigin asked (mapped_of m) o → HasSecondVerdict firsts l (firsts ++ l) (mapped_of m) v → planned_of u ≡ planned_by (mapped_of m) item o v → new ≡ old ++ u ∷ []
       → IsMadeFrom (λ k x p. IsPlannedBesides asked indexes firsts l x p) 0 (map mapped_of (take (i + 1) ms)) (map planned_of new)
   second_next new u item o v is_new among origin judged same more = made_one (λ k x p. IsPlannedBesides asked indexes firsts l x p) mapped_of planned_of ms i m old below is so_far new u
       (subst (λ (p : Planned). IsPlannedBesides asked indexes firsts l (mapped_of m) p) (sym same) (search (rules, told.0 is_new, known, among, origin, judged))) more
@@ -117,19 +150,19 @@ module _ (ms : List Mapping) (i : ℕ) (m : Mapping) (old : List Update) (below 
       (λ p planned. false≢true (sym is_old ∙ told.1 (planned.updates, λ flagged. planned.new (known.0 flagged))))
 
 -- the updates of as many mappings as there are updates
-abbrev pub AreSoMany : List Asked → List Mapping → List Update → Type 0
-AreSoMany asked ms updates = IsMadeFrom (λ k x p. IsPlanned asked (map mapped_of ms) x p) 0 (map mapped_of (take (length updates) ms)) (map planned_of updates)
+abbrev pub AreSoMany : List Asked → List Mapped → List Mapping → List Update → Type 0
+AreSoMany asked seconds ms updates = IsMadeFrom (λ k x p. IsPlanned asked (map mapped_of ms) seconds x p) 0 (map mapped_of (take (length updates) ms)) (map planned_of updates)
 
 -- one more of the first list, which is used up
-pub first_more : (ms xs : List Mapping) (m : Mapping) (asked : List Asked) (verdicts : List Verdict) (old new : List Update) (u : Update) (o : Origin) (n : ℕ) (e : Verdict) → (length xs < length ms) × (m ≡ get_or ms (length xs) m)
-    → AreSoMany asked ms old × (length old ≡ length xs) → AllZip (HasVerdict (map mapped_of ms)) (map mapped_of ms) verdicts → n ≡ length old → HasOrigin asked (mapped_of m) o
-    → planned_of u ≡ planned_by (mapped_of m) m.item_index o (get_or verdicts n e) → new ≡ old ++ u ∷ [] → AreSoMany asked ms new × (length new ≡ length (xs ++ m ∷ []))
-first_more ms xs m asked verdicts old new u o n e (below, is) (so_far, long) all at origin same more =
+pub first_more : (seconds : List Mapped) (ms xs : List Mapping) (m : Mapping) (asked : List Asked) (verdicts : List Verdict) (old new : List Update) (u : Update) (o : Origin) (n : ℕ) (e : Verdict) → (length xs < length ms) × (m ≡ get_or ms (length xs) m)
+    → AreSoMany asked seconds ms old → length old ≡ length xs → AllZip (HasVerdict (map mapped_of ms) (map mapped_of ms ++ seconds)) (map mapped_of ms) verdicts → n ≡ length old → HasOrigin asked (mapped_of m) o
+    → planned_of u ≡ planned_by (mapped_of m) m.item_index o (get_or verdicts n e) → new ≡ old ++ u ∷ [] → AreSoMany asked seconds ms new
+first_more seconds ms xs m asked verdicts old new u o n e (below, is) so_far long all at origin same more =
     let longer : length new ≡ length old + 1 = ap length more ∙ length-append old (u ∷ []) in
-    let judged = subst (λ (k : ℕ). HasVerdict (map mapped_of ms) (mapped_of m) (get_or verdicts k e)) (sym (at ∙ long)) (verdict_at ms (length xs) m below is (map mapped_of ms) verdicts e all) in
-    let planned = subst (λ (p : Planned). IsPlanned asked (map mapped_of ms) (mapped_of m) p) (sym same) (record { source = refl; item = refl; destination = refl; origin = origin; verdict = judged }) in
-    let next = made_one (λ j x p. IsPlanned asked (map mapped_of ms) x p) mapped_of planned_of ms (length old) m old (omega (arith, below, long)) (is ∙ ap (λ (k : ℕ). get_or ms k m) (sym long)) so_far new u planned more in
-    (subst (λ (k : ℕ). IsMadeFrom (λ j x p. IsPlanned asked (map mapped_of ms) x p) 0 (map mapped_of (take k ms)) (map planned_of new)) (sym longer) next, omega (arith, longer, long, length-append xs (m ∷ [])))
+    let judged = subst (λ (k : ℕ). HasVerdict (map mapped_of ms) (map mapped_of ms ++ seconds) (mapped_of m) (get_or verdicts k e)) (sym (at ∙ long)) (verdict_at ms (length xs) m below is (map mapped_of ms) (map mapped_of ms ++ seconds) verdicts e all) in
+    let planned = subst (λ (p : Planned). IsPlanned asked (map mapped_of ms) seconds (mapped_of m) p) (sym same) (record { source = refl; item = refl; destination = refl; origin = origin; verdict = judged }) in
+    let next = made_one (λ j x p. IsPlanned asked (map mapped_of ms) seconds x p) mapped_of planned_of ms (length old) m old (omega (arith, below, long)) (is ∙ ap (λ (k : ℕ). get_or ms k m) (sym long)) so_far new u planned more in
+    subst (λ (k : ℕ). IsMadeFrom (λ j x p. IsPlanned asked (map mapped_of ms) seconds x p) 0 (map mapped_of (take k ms)) (map planned_of new)) (sym longer) next
 
 pair_cases : (xs ys : List Mapped) (m : Mapped) → HasPair (xs ++ ys) m → HasPair xs m ⊎ HasPair ys m
 pair_cases [] ys m has = inr has
@@ -169,7 +202,7 @@ pub split_again : (xs ys all fs bs : List Mapping) (n : ℕ) → all ≡ xs ++ y
 split_again xs ys all fs bs n whole at front back = (cc (take-append_seam xs ys), cc (drop-append_seam xs ys))
 
 pub judged_of : (asked tracking : List Asked) (indexes : List ℕ) (xs ys fs bs : List Mapping) (before behind new : List Update) → (fs ≡ xs) × (bs ≡ ys)
-    → AreFirst asked (map mapped_of xs) (map planned_of before) → AreSecond tracking indexes (map mapped_of fs) (map mapped_of bs) (map planned_of behind) → new ≡ before ++ behind
+    → AreFirst asked (map mapped_of xs) (map mapped_of ys) (map planned_of before) → AreSecond tracking indexes (map mapped_of fs) (map mapped_of bs) (map planned_of behind) → new ≡ before ++ behind
     → AreJudged asked (map mapped_of xs) tracking indexes (map mapped_of ys) (map planned_of new)
 judged_of asked tracking indexes xs ys fs bs before behind new (first, second) are_before are_behind joined =
     let seconds = rw (first, second) at are_behind in

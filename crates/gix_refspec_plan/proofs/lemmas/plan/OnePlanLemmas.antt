@@ -3,7 +3,6 @@ use Rattle.gix_refspec_plan.proofs.Common.{◌≡◌, inl, inr, ℕ, List, [], �
 use Rattle.gix_refspec_plan.proofs.Common.{one_forward, AreAsked, AreConfigured, AreMapped, AreMerges, AreTaken, AreThose, AreUncovered, Asked, HasSecondVerdict, IsCompleted, IsNegativeReading, IsPlanned}
 use Rattle.gix_refspec_plan.proofs.{Common.{IsPlannedBesides, IsPositiveReading, IsTracked, Planned, Wish, OnePlan, rules, Configured, arith, Given}, lemmas.plan.OpposedLemmas.as_second}
 use Rattle.gix_refspec_match.proofs.lemmas.lists.ListsLemmas.{made_once}
-use Rattle.gix_refspec.specs.declared.match_group.ref_names.InvalidSide.TheVariants as invalid
 
 those_once : (P : Reading → Type 0) (origin_at : ℕ → Origin) (specs : List Reading) (a b : List Asked) → AreThose P origin_at specs a → AreThose P origin_at specs b → a ≡ b
 those_once P origin_at specs = made_once (λ (k : ℕ) (r : Reading) (a : Asked). (a ≡ record { reading = r; origin = origin_at k }) × P r) (λ k r x y of_x of_y. of_x.0 ∙ sym of_y.0) 0 specs
@@ -68,22 +67,22 @@ tracked_once wish refs a b i j l m (IsTracked.by_call positive negative taken so
 tracked_once wish refs a b i j l m (IsTracked.nothing none no_specs no_indexes no_mappings) (IsTracked.by_call positive negative taken some those bars is are mapped) = absurd (some none)
 tracked_once wish refs a b i j l m (IsTracked.nothing none no_specs no_indexes no_mappings) (IsTracked.nothing again no_specs_too no_indexes_too no_mappings_too) = (no_specs ∙ sym no_specs_too, no_indexes ∙ sym no_indexes_too, no_mappings ∙ sym no_mappings_too)
 
-second_verdict_once : (firsts l : List Mapped) (m : Mapped) (v w : Verdict) → HasSecondVerdict firsts l m v → HasSecondVerdict firsts l m w → v ≡ w
-second_verdict_once firsts l m v w has also = grind arith
+second_verdict_once : (firsts l all : List Mapped) (m : Mapped) (v w : Verdict) → HasSecondVerdict firsts l all m v → HasSecondVerdict firsts l all m w → v ≡ w
+second_verdict_once firsts l all m v w has also = grind arith
 
-planned_once : (asked : List Asked) (firsts : List Mapped) (k : ℕ) (m : Mapped) (p q : Planned) → IsPlanned asked firsts m p → IsPlanned asked firsts m q → p ≡ q
-planned_once asked firsts k m p q is also = grind (arith, is, also, second_verdict_once [] firsts m, as_second firsts m)
+planned_once : (asked : List Asked) (firsts seconds : List Mapped) (k : ℕ) (m : Mapped) (p q : Planned) → IsPlanned asked firsts seconds m p → IsPlanned asked firsts seconds m q → p ≡ q
+planned_once asked firsts seconds k m p q is also = grind (arith, is, also, second_verdict_once [] firsts (firsts ++ seconds) m, as_second firsts (firsts ++ seconds) m)
 
 besides_once : (asked : List Asked) (indexes : List ℕ) (firsts seconds : List Mapped) (k : ℕ) (m : Mapped) (p q : Planned)
     → IsPlannedBesides asked indexes firsts seconds m p → IsPlannedBesides asked indexes firsts seconds m q → p ≡ q
-besides_once asked indexes firsts seconds k m p q is also = grind (arith, is, also, second_verdict_once firsts seconds m)
+besides_once asked indexes firsts seconds k m p q is also = grind (arith, is, also, second_verdict_once firsts seconds (firsts ++ seconds) m)
 
 pub one_plan : (wish : Wish) (refs : List Ref) → OnePlan wish refs
 one_plan wish refs p q missing others is also =
     let asked = asked_once wish refs is.asked also.asked is.are_asked also.are_asked in
     let firsts = mapped_once is.asked also.asked refs is.firsts also.firsts asked is.are_firsts also.are_firsts in
     let (tracking, indexes, seconds) = tracked_once wish refs is.tracking also.tracking is.indexes also.indexes is.seconds also.seconds is.are_seconds also.are_seconds in
-    let before = made_once _ (planned_once also.asked also.firsts) 0 also.firsts is.before also.before (rw (asked, firsts) at is.are_before) also.are_before in
+    let before = made_once _ (planned_once also.asked also.firsts also.seconds) 0 also.firsts is.before also.before (rw (asked, firsts, seconds) at is.are_before) also.are_before in
     let behind = made_once _ (besides_once also.tracking also.indexes also.firsts also.seconds) 0 also.seconds is.behind also.behind (rw (tracking, indexes, firsts, seconds) at is.are_behind) also.are_behind in
     let lacking = made_once _ (λ k a x y of_x of_y. of_x.0 ∙ sym of_y.0) 0 also.asked missing others (rw asked at is.lacks) also.lacks in
     (is.all ∙ ap (λ (l : List Planned). l ++ is.behind) before ∙ ap (λ (l : List Planned). also.before ++ l) behind ∙ sym also.all, lacking)

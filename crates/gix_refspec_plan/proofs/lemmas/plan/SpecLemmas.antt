@@ -5,7 +5,6 @@ use Rattle.gix_refspec_plan.proofs.Common.{AllByRecursion, length-take-le, take_
 use Rattle.gix_refspec_plan.proofs.Common.{cases_eq, get_or-replicate, get_or-set_other, get_or-set_same, length-replicate, length-set, map_more, take_all, Contains-append_left, Contains-push, Contains-push_cases}
 use Rattle.gix_refspec_plan.proofs.Common.{Mapping, mapped_of, IsSound, IsTakenAt, FlagsTaken, rules, nil_from_length, all_tags, AllTags, drop}
 use Rattle.std.proofs.lemmas.List.{length-drop, drop_more}
-use Rattle.gix_refspec_match.specs.declared.types.SourceRef.TheVariants as source_ref
 
 -- the spec of the merged ref at index k
 abbrev pub Merges : List (List ℕ) → List Mapped → ℕ → List ℕ → Asked → Type 0
