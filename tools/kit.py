@@ -1,5 +1,5 @@
-"""The crates of crates.txt, calls of the checker over the libraries that `make test` left proved, and files of edits, for the
-tools beside this file."""
+"""The crates of crates.txt, calls of the checker over the libraries that `make test` left proved, its errors, and files of edits,
+for the tools beside this file."""
 import os
 import re
 import subprocess
@@ -9,7 +9,8 @@ ROOT = os.path.normpath(os.path.join(os.path.dirname(os.path.abspath(__file__)),
 
 ERROR = re.compile(r"^(?:\./)?(\S+?):(\d+):\d+: error: (?:`([^`]*)`: )?(.*(?:\n  .*)?)$", re.M)
 # What an error says, without what it quotes: a name is gone, or a text can't be read; the checker met a limit of its own.
-UNREAD = re.compile(r"is not in scope|has no field|has no +that can be named|is no name|is private|operand is missing|expected the end|cannot continue")
+UNREAD = re.compile(r"is not in scope|no constructor +is in scope|has no field|has no +that can be named|is no name|is private"
+                    r"|operand is missing|expected the end|cannot continue")
 LIMIT = re.compile(r"ran out of|outgrew the memory limit|went over this check's|stopped at (a resource|the step) limit")
 RESTS = re.compile(r"declarations? that depends? on `[^`]*`, which was (?:not admitted|rejected), (?:was|were) not checked: (.*)")
 
