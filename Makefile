@@ -1,7 +1,7 @@
 # make help    prints these lines
 # make build   proves and builds the programs, at crates/refspec_map/out/refspec_map and crates/refspec/out/refspec
 # make run     its stored run, compared with what is stored; without proof where no program of these sources is built
-# make test    tables and lemmas, proofs and edits, and the scripts of tests/ over what is built
+# make test    tables and lemmas, proofs, edits and changed definitions, and the scripts of tests/ over what is built
 # make install PREFIX=FOLDER, uninstall: programs, git-refspec, manual pages, completions, and what install-lib puts there
 # make lib     proves and builds the library for C, at out/lib
 # make install-lib PREFIX=FOLDER, uninstall-lib: its header, static and shared library, .pc and cmake files, below FOLDER

@@ -64,9 +64,10 @@ def unknown_facts(path):
     if not names:
         yield f"{path}: it names no fact"
     for name in names:
-        *folders, module, fact = name.split(".")
-        place = "/".join([crate, "proofs", *(folders or ["facts"]), f"{module}.antt"])
-        if not os.path.exists(os.path.join(ROOT, place)) or not re.search(rf"^pub {re.escape(fact)} :", read(place), re.M):
+        *module, fact = name.split(".")
+        places = [os.path.join(crate, "proofs", folder, *module) + ".antt" for folder in ("", "facts")]
+        place = next((it for it in places if os.path.exists(os.path.join(ROOT, it))), None)
+        if not place or not re.search(rf"^pub {re.escape(fact)} :", read(place), re.M):
             yield f"{path}: there is no fact {name}"
 
 

@@ -2,10 +2,12 @@
 """Tries wrong bodies, which the checker has to refuse: tools/edits.py [--after LOG] [CRATE [NAME..]]
 
 An edit, a file of crates/CRATE/edits, changes a function so that it answers something else, and names it behind `at:`. It is
-refused if the checker doesn't prove that function. A proof goes by what other functions promise, and not by their bodies, so
-many edits are tried at once, in rounds: one of a function, and those of functions that call a changed one in a later round.
-An edit with `alone:` changes more than bodies. It has a round of its own, and is refused if `at:` isn't proved for whatever
-reason.
+refused if the checker finds a goal of that function that isn't proved. An edit is bad, and fails like one that isn't refused, if
+the checker says only that a proof file cites a name that the edit took away, or that it ran into a limit of its own (of steps,
+memory or stack; bounds of tactics don't count): neither says anything of the contract.
+A proof goes by what other functions promise, and not by their bodies, so many edits are tried at once, in rounds: one of a
+function, and those of functions that call a changed one in a later round. An edit with `alone:` changes more than bodies. It
+has a round of its own, in which each error of the checker counts as one of `at:`.
 
 Without CRATE all are tried. NAME is what the names of edits begin with. The libraries below a crate are those that `make test`
 left proved; with --after, those that a run of it, with the log LOG, proves meanwhile.
@@ -17,18 +19,15 @@ import re
 import shutil
 import sys
 import tempfile
-import time
 
 sys.dont_write_bytecode = True
 import kit  # beside this script
 
-# What the checker says of a function that is proved, and of one that isn't because of those that it calls.
+# What the checker says of a function that is proved, of one that isn't because of those that it calls, and of one that it
+# didn't decide.
 PROVED = re.compile(r"proved\b")
 BY_OTHERS = re.compile(r".*\bit calls ")
-
-
-class Failure(Exception):
-    pass
+UNDECIDED = re.compile(r"could not tell\b")
 
 
 class Edit:
@@ -37,7 +36,7 @@ class Edit:
         self.name = os.path.basename(path).removesuffix(".edit")
         self.at, self.is_alone = said.get("at"), "alone" in said
         if not self.at or not self.changes:
-            raise Failure(f"{path}: it has no `at:`, or no `old:` and `new:`")
+            raise kit.Failure(f"{path}: it has no `at:`, or no `old:` and `new:`")
 
     def applied(self, crate, texts):
         """The changed texts, by file, with this edit too; None where another has changed the same line."""
@@ -60,7 +59,7 @@ def next_round(crate, edits):
             continue
         applied = edit.applied(crate, texts)
         if applied is None and not chosen:
-            raise Failure(f"{crate.name}/{edit.name}: an `old:` isn't once in its file")
+            raise kit.Failure(f"{crate.name}/{edit.name}: an `old:` isn't once in its file")
         if applied is not None:
             texts = applied
             chosen.append(edit)
@@ -70,7 +69,7 @@ def next_round(crate, edits):
 
 
 def said_of(crate, texts, functions, kept):
-    """What the checker says of these functions, with these texts."""
+    """What the checker says of these functions, with these texts, and its errors."""
     with tempfile.TemporaryDirectory(prefix="edits-") as copy:
         for part in ("src", "specs", "proofs"):
             if os.path.isdir(f"{crate.folder}/{part}"):
@@ -81,8 +80,21 @@ def said_of(crate, texts, functions, kept):
         text = crate.check(copy, kept, [word for name in functions for word in ("--only", name)])
     said = dict(re.findall(rf"^fn {crate.name}::(\S+): (.*)$", text, re.M))
     if not re.search(r"^only=\d+ proved=\d+", text, re.M) or not said.keys() >= functions:
-        raise Failure(f"{crate.name}: {' '.join(functions - said.keys())}: the checker said:\n{text[-2000:]}")
-    return said
+        raise kit.Failure(f"{crate.name}: {' '.join(functions - said.keys())}: the checker said:\n{text[-2000:]}")
+    return said, kit.errors(text)
+
+
+def fault_of(edit, said, errors):
+    """Why the edit doesn't count as refused; None if it does."""
+    if PROVED.match(said):
+        return f"NOT REFUSED: {edit.at} is still proved"
+    folder = f"proofs/{edit.at.replace('::', '/')}/"
+    own = [it for it in errors if not it.above and (edit.is_alone or it.path.startswith(folder))]
+    if UNDECIDED.match(said) or own and all(it.is_limit for it in own):
+        return f"BAD EDIT: the checker ran into a limit: {own[0] if own else said}"
+    if own and all(it.is_limit or it.is_unread for it in own):
+        return f"BAD EDIT: its proof no longer reads: {next(it for it in own if it.is_unread)}"
+    return None
 
 
 def try_all(crate, edits):
@@ -91,29 +103,19 @@ def try_all(crate, edits):
     with tempfile.TemporaryDirectory(prefix="edits-kept-") as kept:
         while left:
             tried, texts = next_round(crate, left)
-            said = said_of(crate, texts, {it.at for it in tried}, kept)
-            proved = [it for it in tried if PROVED.match(said[it.at])]
-            for edit in proved:
-                print(f"edits: {crate.name}/{edit.name}: NOT REFUSED: {edit.at} is still proved", flush=True)
-            decided = [it for it in tried if it in proved or it.is_alone or not BY_OTHERS.match(said[it.at])]
+            said, errors = said_of(crate, texts, {it.at for it in tried}, kept)
+            decided = [it for it in tried if it.is_alone or not BY_OTHERS.match(said[it.at])]
             if not decided:
-                raise Failure(f"{crate.name}: each calls a changed function: {' '.join(it.name for it in tried)}")
+                raise kit.Failure(f"{crate.name}: each calls a changed function: {' '.join(it.name for it in tried)}")
+            for edit in decided:
+                fault = fault_of(edit, said[edit.at], errors)
+                if fault:
+                    missed += 1
+                    print(f"edits: {crate.name}/{edit.name}: {fault}", flush=True)
             left = [it for it in left if it not in decided]
-            rounds, missed = rounds + 1, missed + len(proved)
+            rounds += 1
     print(f"edits: {crate.name}: {len(edits) - missed} of {len(edits)} refused, in {rounds} rounds", flush=True)
     return len(edits) - missed
-
-
-def wait_for(names, log):
-    """Waits until a run of `make test` has proved these crates."""
-    while True:
-        with open(log, encoding="utf-8") as lines:
-            text = lines.read()
-        if all(re.search(rf"^rt: {name} (proved|is kept)", text, re.M) for name in names):
-            return
-        if re.search(r"^\d+ passed, |^rt: FAILED", text, re.M):
-            raise Failure(f"not all of {' '.join(names)} are proved")
-        time.sleep(2)
 
 
 def main():
@@ -134,9 +136,9 @@ def main():
     def refused_of(crate):
         try:
             if given.after:
-                wait_for(crate.below, given.after)
+                kit.wait_for(crate.below, given.after)
             return try_all(crate, [Edit(path) for path in paths[crate]])
-        except Failure as failure:
+        except kit.Failure as failure:
             print(f"edits: {failure}", flush=True)
             return 0
 

@@ -1,6 +1,6 @@
 #!/bin/bash
 # Runs rt ci, makes the library for C of what that has proved, and runs the scripts of tests/ over what is built; beside all that
-# the edits are tried: tools/gate.sh LOGS SONAME PROGRAM TESTS REFSPEC
+# the edits and the changed definitions are tried: tools/gate.sh LOGS SONAME PROGRAM TESTS REFSPEC
 #
 # rt ci goes by its own estimate of memory, and the edits take what it leaves free.
 set -eu -o pipefail
@@ -27,10 +27,14 @@ library "$proofs" >"$logs/lib.log" 2>&1 </dev/null &
 library=$!
 nice tools/edits.py --after "$logs/gate.log" >"$logs/edits.log" 2>&1 </dev/null &
 edits=$!
-trap 'kill "$edits" 2>/dev/null || true' EXIT
+nice -n 15 tools/definitions.py --after "$logs/gate.log" >"$logs/definitions.log" 2>&1 </dev/null &
+definitions=$!
+trap 'kill "$edits" "$definitions" 2>/dev/null || true' EXIT
 wait "$proofs"
 wait "$library" || { cat "$logs/lib.log" >&2; exit 1; }
 make --no-print-directory build
 tests/run.sh "${@:3}"
 wait "$edits" || { cat "$logs/edits.log" >&2; exit 1; }
 cat "$logs/edits.log"
+wait "$definitions" || { cat "$logs/definitions.log" >&2; exit 1; }
+cat "$logs/definitions.log"

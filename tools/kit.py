@@ -1,10 +1,42 @@
-"""The crates of crates.txt, calls of the checker over the libraries that `make test` left proved, and files of edits, for the
-tools beside this file."""
+"""The crates of crates.txt, calls of the checker over the libraries that `make test` left proved, its errors, and files of edits,
+for the tools beside this file."""
 import os
 import re
 import subprocess
+import time
 
 ROOT = os.path.normpath(os.path.join(os.path.dirname(os.path.abspath(__file__)), os.pardir))
+
+ERROR = re.compile(r"^(?:\./)?(\S+?):(\d+):\d+: error: (?:`([^`]*)`: )?(.*(?:\n  .*)?)$", re.M)
+# What an error says, without what it quotes: a name is gone, or a text can't be read; the checker met a limit of its own.
+UNREAD = re.compile(r"is not in scope|no constructor +is in scope|has no field|has no +that can be named|is no name|is private"
+                    r"|operand is missing|expected the end|cannot continue")
+LIMIT = re.compile(r"ran out of|outgrew the memory limit|went over this check's|stopped at (a resource|the step) limit")
+RESTS = re.compile(r"declarations? that depends? on `[^`]*`, which was (?:not admitted|rejected), (?:was|were) not checked: (.*)")
+
+
+class Failure(Exception):
+    pass
+
+
+class Error:
+    """An error of the checker: where it is, the declaration that it is about, if it is about one, and what it says."""
+
+    def __init__(self, path, line, name, text):
+        self.path, self.line, self.name, self.text = path, int(line), name, text
+        rests = RESTS.search(text)
+        # the declarations that weren't checked, as they rest on one with an error
+        self.above = re.findall(r"[^\s,]+", re.sub(r"\(via [^)]*\)", "", rests[1])) if rests else []
+        said = re.sub(r"`[^`]*`", "", text)
+        self.is_unread = not rests and bool(UNREAD.search(said) or not name)
+        self.is_limit = not rests and bool(LIMIT.search(said))
+
+    def __str__(self):
+        return f"{self.path}:{self.line}: {' '.join(self.text.split())[:200]}"
+
+
+def errors(output):
+    return [Error(*found) for found in ERROR.findall(output)]
 
 
 class Crate:
@@ -51,6 +83,18 @@ def crates():
             if row:
                 found[row[1]] = Crate(row[1], row[2], row[3].split(), found)
     return found
+
+
+def wait_for(names, log):
+    """Waits until a run of `make test` has proved these crates."""
+    while True:
+        with open(log, encoding="utf-8") as lines:
+            text = lines.read()
+        if all(re.search(rf"^rt: {name} (proved|is kept)", text, re.M) for name in names):
+            return
+        if re.search(r"^\d+ passed, |^rt: FAILED", text, re.M):
+            raise Failure(f"not all of {' '.join(names)} are proved")
+        time.sleep(2)
 
 
 def read_edit(path):

@@ -1,4 +1,4 @@
-//! Bloom filters. Most names that no spec asks for are told by one, which is cheaper than to look for them.
+//! Bloom filters, which reject most names that no spec asks for. That costs less than to look the names up.
 
 ghost use Rattle.std.specs.Prelude.{◌≡◌, ◌↔◌, ◌/◌, ◌%◌, ◌^◌, ℕ, IfOk, IsTrue, List, length, map, false};
 ghost use Rattle.gix_refspec_match.specs.Private.Bloom.{HasNumber, IsWhole};
@@ -11,20 +11,20 @@ use crate::hashes::{bits_for, hash_of_name, lower_bits, upper_bits};
 use crate::types::NameRef;
 use std::alloc::{AllocError, Global};
 
-// For how many numbers there is a word of bits. So there are more than four bits for each, and from eight
-// numbers on eight at most.
+// A filter has a 64-bit word for 16 numbers, rounded up to a power of two: more than four bits a number, and at most
+// eight from eight numbers on.
 const NUMBERS_A_WORD: usize = 16;
 
-// A set of numbers, and perhaps of others that have the same bit as one of them.
+// A Bloom filter with one bit a number. It never misses a number that was added, and accepts some others.
 #[derive(Drop)]
 pub(crate) struct Bloom {
     words: Vec<u64>,
-    // How many of a number's lower bits tell its word.
+    // So many lower bits of a number are the index of its word.
     bits: u32,
 }
 
 impl Bloom {
-    // No numbers yet, and bits for so many.
+    // An empty filter, for so many numbers.
     pub(crate) fn new(alloc: Global, count: usize) -> Result<Bloom, AllocError>
         ensures { IfOk result IsWhole }
     {
@@ -34,7 +34,7 @@ impl Bloom {
         Ok(Bloom { words, bits })
     }
 
-    // Which bit of its word a number has.
+    // The index of a number's bit in its word.
     #[inline(always)]
     fn bit(&self, number: u64) -> u64
         requires { IsWhole self.now }
@@ -65,14 +65,13 @@ impl Bloom {
     }
 }
 
-// For how many lengths there are bits.
+// For how many lengths of names a filter is made.
 const LENGTHS: usize = 128;
 
-// Mixes the bytes of a number. Any odd number serves that has ones and zeros everywhere: this one is made
-// from the golden ratio.
+// The multiplier of a multiplicative hash: 2^64 divided by the golden ratio, and odd.
 const MIXER: u64 = 0x9e37_79b9_7f4a_7c15;
 
-// A number of a name's last eight bytes, which tells most names apart. Shorter names have 0.
+// A hash of a name's last eight bytes, which differ in most names. That of a shorter name is 0.
 #[inline(always)]
 fn tail_of(name: &[u8]) -> u64
     ensures { result ≡ tail_number name.now }
@@ -124,7 +123,7 @@ impl NameFilter {
     }
 }
 
-// How many bytes are looked at. Few partial names are shorter.
+// How many bytes are hashed. Few partial names are shorter.
 const TAIL: usize = 4;
 
 // The last four bytes of partial names, and `HEAD`.
@@ -135,7 +134,7 @@ pub(crate) struct ShortTails {
     any: bool,
 }
 
-// A number of a name's last four bytes. Shorter names have 0.
+// A hash of a name's last four bytes. That of a shorter name is 0.
 #[inline(always)]
 fn short_tail_of(name: &[u8]) -> u64
     ensures { result ≡ short_tail_number name.now }

@@ -1,4 +1,5 @@
-//! What the negative specs of a group exclude. `gix_refspec` asks with it for the spec that keeps a ref.
+//! What the negative specs of a group exclude. `gix_refspec_plan` asks with it for the spec that keeps a ref, and `gix_refspec_lint`
+//! for the one that excludes a source.
 
 ghost use Rattle.std.specs.Prelude.{◌≡◌, ◌⊎◌, ◌↔◌, ℕ, List, map, IfOk, OnOk, IsTrue, MatchOption};
 ghost use Rattle.gix_refspec_text.specs.Views.Spec.{reading_of};

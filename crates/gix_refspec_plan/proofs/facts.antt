@@ -4,3 +4,4 @@ pub mod PlanFacts
 pub mod WholePlanFacts
 pub mod FetchFacts
 pub mod StaleFacts
+pub mod DefaultFacts

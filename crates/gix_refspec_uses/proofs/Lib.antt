@@ -1,2 +1,3 @@
 pub mod ClaimLemmas
 pub mod AskingLemmas
+pub mod WrittenFacts

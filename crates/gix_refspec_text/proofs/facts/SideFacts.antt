@@ -2,7 +2,7 @@
 use Rattle.gix_refspec_text.proofs.Common.{true, false, false≢true, list_any, bytes_eq-Decides, ap, ◌∙◌, ◌++◌, rules, map, ◌≡◌, ◌⊎◌, ℕ, List, [], ◌∷◌, Option, None, Some, codes, refl, sym, arith, star}
 use Rattle.gix_refspec_text.proofs.Common.{SideKind, pattern, full_name, object, partial, IsId, HasKind, candidates, IsCandidate, Excludes, the_name, by_pattern, filled, MatchesAs, Matches, inl, inr, Lacks}
 use Rattle.gix_refspec_text.proofs.Common.{HasOneStar, IsIdText, Normal, fetched, pushed, Fits, same_Some, bytes_eq}
-use Rattle.gix_refspec_text.specs.{Matching.Side.written_name_of, Laws.Sides.{SidesAgree, OneKind, OneId, OneOfEach}}
+use Rattle.gix_refspec_text.specs.{Matching.Side.{full_name_of, written_name_of}, Laws.Sides.{SidesAgree, OneKind, OneId, OneOfEach}}
 use Rattle.gix_refspec_text.proofs.{facts.FaultFacts.begins_not, facts.ReasonFacts.one_star_alone, readers.Texts.{differ, passes, passes_back}, lemmas.hits.MatchLemmas.{has_candidates, lacks_no_pattern}}
 use Rattle.gix_refspec_text.proofs.{lemmas.lists.LacksLemmas.Lacks-here, lemmas.texts.TextLemmas.one_not_two, facts.ManualFacts.{IsSplit-tested, Lacks-tested, named, other_length}}
 use Rattle.gix_refspec_text.proofs.facts.ObjectIdFacts.{lower_of-empty_blob, IsIdText-empty_blob, IsIdText-others, empty_blob}
@@ -65,10 +65,16 @@ filled_with_words = (refl, refl, refl, refl, ap (λ (x : List ℕ). codes "refs/
 
 -- a fetch writes a destination below `refs/`: `refs/` is put only before `heads/`, `tags/` and `remotes/`
 pub written_names : map written_name_of (codes "heads/a" ∷ codes "tags/v1" ∷ codes "remotes/o/a" ∷ codes "remotes" ∷ codes "x/tags/a"
-    ∷ codes "refs/x" ∷ codes "refs" ∷ [])
+    ∷ codes "refs/x" ∷ codes "refs" ∷ codes "changes/x" ∷ codes "pull/x" ∷ [])
     ≡ codes "refs/heads/a" ∷ codes "refs/tags/v1" ∷ codes "refs/remotes/o/a" ∷ codes "refs/heads/remotes" ∷ codes "refs/heads/x/tags/a"
-    ∷ codes "refs/x" ∷ codes "refs/heads/refs" ∷ []
+    ∷ codes "refs/x" ∷ codes "refs/heads/refs" ∷ codes "refs/heads/changes/x" ∷ codes "refs/heads/pull/x" ∷ []
 written_names = refl
+
+-- the full name of a partial one: `refs/` is put only before `tags/` and `remotes/`
+pub full_names : map full_name_of (codes "tags/v1" ∷ codes "remotes/o/a" ∷ codes "heads/a" ∷ codes "changes/x" ∷ codes "pull/x" ∷ [])
+    ≡ codes "refs/tags/v1" ∷ codes "refs/remotes/o/a" ∷ codes "refs/heads/heads/a" ∷ codes "refs/heads/changes/x"
+    ∷ codes "refs/heads/pull/x" ∷ []
+full_names = refl
 
 several_stars : ¬ (HasOneStar (codes "a*b*") ⊎ Lacks star (codes "a*b*"))
 several_stars = search (rules, arith, one_star_alone, Lacks-here)

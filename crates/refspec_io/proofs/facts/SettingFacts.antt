@@ -45,14 +45,14 @@ no_keys = (branch, short)
     short : HoldsSpecs (codes "remote.fetch") operation.Fetch → ⊥
     short (name, same) = omega (arith, ap length same, length-append name (codes ".fetch"))
 
-abbrev lent : List ℕ → Bor (List ℕ)
+abbrev pub lent : List ℕ → Bor (List ℕ)
 lent bytes = record { ref_ptr = (0, 0); now = bytes }
 
 -- a key of refspecs without a value lacks it, and adds no text; with a value it adds the text
-abbrev alone : Setting
+abbrev pub alone : Setting
 alone = record { origin = lent (codes "file:c"); key = lent (codes "remote.o.fetch"); value = None }
 
-abbrev whole : Setting
+abbrev pub whole : Setting
 whole = record { origin = lent (codes "file:c"); key = lent (codes "remote.o.push"); value = Some (lent (codes ":")) }
 
 abbrev pushed : Given
