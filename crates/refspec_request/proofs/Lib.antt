@@ -1,0 +1,2 @@
+mod BooleanLemmas
+mod facts
