@@ -476,9 +476,75 @@ def try_warnings(tried):
     expect("a mirror", tried.git(os.path.join(tried.folder, "mirror"), "config", "remote.origin.mirror"), "true")
 
 
+def try_settings(tried):
+    """How a fetch finds its remote, and reads booleans."""
+    remote, on, tag = two_branches(tried), "fetch.pruneTags", "refs/tags/light"
+    tried.git(remote, "tag", "light")
+    for values, written in ((("true", "YES", "oN", "1", "-1", "+1", "1k", "1G", " 1", "0x1F", "0X1k", "010", "2147483647"), [tag]),
+                            (("", "false", "No", "OFF", "0", "-0k", "0x0", "00"), []),
+                            (("maybe", "tru", "08", "0x", "k", "2g", "2147483648", "1 ", "1kk", "+-1", "1t"), None)):
+        for value in values:
+            local = tried.beside(remote, settings=[(on, value)])
+            seen, said = tried.changed(local, "fetch", "--no-tags", "origin")
+            expect(f"{on} = {value!r}", None if "bad boolean config value" in said else seen, written)
+    for key in ("prune", "pruneTags", "mirror", "skipDefaultUpdate", "skipFetchAll"):
+        local = tried.beside(remote, TRACKING, settings=[("remote.other." + key, "maybe"), ("remote.other." + key, "true")])
+        for words in (["fetch", "origin"], ["ls-remote", "origin"]):
+            expect(f"a bad {key}, {words}", "bad boolean config value" in tried.changed(local, *words)[1], True)
+    local = tried.beside(remote, TRACKING, settings=[("fetch.prune", "maybe"), ("fetch.prune", "true")])
+    expect("a bad fetch.prune", "bad boolean config value" in tried.changed(local, "fetch")[1], True)
+    others = [setting for name in ("two", "three")
+              for setting in ((f"remote.{name}.url", remote), (f"remote.{name}.fetch", f"+refs/heads/*:refs/{name}/*"))]
+    two, three = ["refs/two/dev", "refs/two/main"], ["refs/three/dev", "refs/three/main"]
+    for name, members, written in (("g", "two three", three + two), ("origin", "two\tthree", three + two), ("two", "three", two)):
+        local = tried.beside(remote, TRACKING, settings=[*others, ("remotes." + name, members)])
+        expect(f"the group {name} of {members}", tried.changed(local, "fetch", "--no-tags", name)[0], written)
+    for settings in ([], [("remote.origin.fetch", TRACKING)], [("remote.two.prune", "true")]):
+        local = tried.repository()
+        for name, value in settings:
+            tried.git(local, "config", name, value)
+        made = tried.run(["git", "fetch"], local)
+        expect(f"no URL of a remote, {settings}", (made.returncode, made.stderr, tried.refs(local)), (0, b"", []))
+    # A remote in a file, without and with a URL in the configuration.
+    for settings, written in (([("remote.x.prune", "true")], ["refs/old"]), ([("remote.x.url", remote)], [])):
+        local = tried.repository()
+        os.makedirs(os.path.join(local, ".git", "remotes"))
+        with open(os.path.join(local, ".git", "remotes", "x"), "w", encoding="utf-8") as file:
+            file.write(f"URL: {remote}\nPull: refs/heads/main:refs/old\n")
+        for name, value in settings:
+            tried.git(local, "config", name, value)
+        expect(f"a remote in a file, and {settings}", tried.changed(local, "fetch", "--no-tags", "x")[0], written)
+
+
+def try_left_to_git(tried):
+    """What a plan doesn't show, as it depends on objects, on refs here or on the server."""
+    remote, pattern = two_branches(tried), "refs/heads/*:refs/x/*"
+    tried.git(remote, "tag", "main", "refs/heads/main")
+    tried.git(tried.folder, "clone", "-q", "--depth", "1", "file://" + remote, "shallow")
+    shallow = os.path.join(tried.folder, "shallow")
+    for words, written in (([], []), (["--update-shallow"], ["refs/x/main"])):
+        seen, said = tried.changed(tried.beside(shallow), "fetch", "--no-tags", *words, "origin", pattern)
+        expect(f"a shallow remote {words}", (seen, "shallow roots" in said), (written, not words))
+    local = tried.repository("--object-format=sha256")
+    seen, said = tried.changed(local, "fetch", remote, pattern)
+    expect("another object format", (seen, "mismatched algorithms" in said), ([], True))
+    # What a pattern maps to a symbolic ref conflicts with nothing.
+    for spec, written in (("refs/heads/m*:refs/x/m*", []), ("refs/heads/main:refs/x/main", ["refs/x/main", "refs/x/other"])):
+        local = tried.beside(remote)
+        tried.git(local, "symbolic-ref", "refs/x/main", "refs/x/other")
+        seen, said = tried.changed(local, "fetch", "--no-tags", "origin", spec, "refs/tags/*:refs/x/*")
+        expect(f"a symbolic ref at a destination of {spec}", (seen, "Cannot fetch both" in said), (written, False))
+    # An upstream that two remotes write, set before.
+    local = tried.beside(remote, TRACKING, settings=[("branch.main.remote", "origin"), ("branch.main.merge", "refs/heads/main"),
+                                                     ("remote.two.url", remote), ("remote.two.fetch", TRACKING)])
+    tried.git(local, "fetch", "-q", "origin")
+    tried.git(local, "reset", "-q", "--hard", "refs/remotes/origin/main")
+    expect("an upstream of two remotes", tried.git(local, "rev-parse", "--symbolic-full-name", "@{upstream}"), "refs/remotes/origin/main")
+
+
 WITH_PROGRAM = (try_texts, try_fetches, try_looks_back, try_prefixes, try_pushes)
 GIT_ALONE = (try_values, try_tags, try_refusals, try_pruning, try_look_ups, try_asking, try_excluding_pushes,
-             try_warnings)
+             try_warnings, try_settings, try_left_to_git)
 
 
 def main():

@@ -9,13 +9,17 @@ use refspec_commands::run::run;
 use refspec_io::call::{Call, Files};
 use refspec_io::fault::Fault;
 use refspec_io::input::records;
-use refspec_io::settings::settings_of;
+use refspec_io::settings::{Setting, settings_of};
 use refspec_plans::plan::Discard;
 use refspec_request::arguments::{Command, Request, Wish, wish_of};
-use refspec_request::ask::{ARGUMENTS, BRANCH, CONFIG, FOLDER, GitCall};
-use refspec_request::choice::{OldRemote, Repository, choice_of};
+use refspec_request::ask::{ARGUMENTS, CONFIG, FOLDER, GitCall, HEAD};
+use refspec_request::booleans::{
+    Boolean, boolean_of, is_boolean_of_fetches, is_boolean_of_remotes,
+};
+use refspec_request::choice::{Repository, choice_of};
 use refspec_request::output::Output;
 use refspec_request::refusal::Refusal;
+use refspec_request::remotes::{OldRemote, default_remote, is_ignored};
 use refspec_request::usage::{OPTIONS, USAGE, VERSION};
 use std::alloc::{AllocError, AllocFailed, Global};
 
@@ -152,18 +156,19 @@ fn answer_request<M: Machine, D: Discard>(
     request: &Request<'_>,
     done: &mut D,
 ) -> Result<Answer, Fault> {
-    let (Some(folder), Some(config), Some(branch)) = (
+    let (Some(folder), Some(config), Some(head)) = (
         machine.output(FOLDER)?,
         machine.output(CONFIG)?,
-        machine.output(BRANCH)?,
+        machine.output(HEAD)?,
     ) else {
-        return asks(alloc, &[GitCall::Folder, GitCall::Config, GitCall::Branch]);
+        return asks(alloc, &[GitCall::Folder, GitCall::Config, GitCall::Head]);
     };
-    let settings = settings_of(alloc, config.as_slice())?;
+    let mut settings = settings_of(alloc, config.as_slice())?;
+    settings.retain(|setting| !is_ignored(setting));
     let old = old_remotes(alloc, machine, line_of(folder.as_slice()))?;
     let repository = Repository {
         settings: settings.as_slice(),
-        branch: line_of(branch.as_slice()),
+        branch: branch_of(line_of(head.as_slice())),
         old: old.as_slice(),
         is_path: is_path(machine, request),
     };
@@ -180,6 +185,13 @@ fn line_of(output: &[u8]) -> &[u8] {
         [line @ .., b'\n'] => line,
         _ => output,
     }
+}
+
+// The branch that `HEAD` points to; empty if it points elsewhere.
+fn branch_of(target: &[u8]) -> &[u8] {
+    target
+        .strip_prefix(b"refs/heads/".as_slice())
+        .unwrap_or(b"")
 }
 
 // Whether the first argument of a request is an existing path.
@@ -224,16 +236,27 @@ fn answer_in<'a, M: Machine, D: Discard>(
     done: &mut D,
 ) -> Result<Answer, Stop<'a>> {
     if request.command == Command::Check {
-        let reported = report_check(alloc, machine, request, repository, done)?;
+        let mut reported = report_check(alloc, machine, request, repository, done)?;
+        if checks_remotes(request, repository) {
+            if let Some(refusal) = bad_boolean(request.command, repository.settings) {
+                reported.refuse(&refusal)?;
+            }
+        }
         return Ok(Answer::Reports(reported));
     }
     let reported = report_refused_values(alloc, request, repository.settings, done)?;
     if reported.status != 0 {
         return Ok(Answer::Reports(reported));
     }
+    if let Some(refusal) = bad_boolean(request.command, repository.settings) {
+        return Err(Stop::Refused(refusal));
+    }
     match request.command {
         Command::Track => report_tracking(alloc, machine, request, repository, done),
         command => {
+            if fetches_nothing(request, repository) {
+                return nothing_to_fetch(alloc);
+            }
             let choice = choice_of(alloc, request, repository)?;
             if let Some(old) = repository.old_remote(choice.remote) {
                 return Err(Stop::Refused(old));
@@ -250,4 +273,43 @@ fn answer_in<'a, M: Machine, D: Discard>(
             report_plan(alloc, machine, request, repository, &choice, done)
         }
     }
+}
+
+// Whether a request to check is about remotes, and not about specs alone.
+fn checks_remotes<'a>(request: &Request<'a>, repository: &Repository<'a, 'a>) -> bool {
+    let names = request.arguments.as_slice();
+    request.remote.is_some()
+        || names.is_empty()
+        || names.iter().any(|name| repository.has_remote(name))
+}
+
+// The first setting that Git stops at, as it isn't a boolean. `git branch --track` doesn't read those of a fetch.
+fn bad_boolean<'a>(command: Command, settings: &[Setting<'a>]) -> Option<Refusal<'a>> {
+    for setting in settings {
+        let is_read = is_boolean_of_remotes(setting)
+            || command != Command::Track && is_boolean_of_fetches(setting);
+        if is_read && boolean_of(setting.value) == Boolean::Bad {
+            return Some(Refusal::BadBoolean {
+                origin: setting.origin,
+                key: setting.key,
+                value: setting.value.unwrap_or(b""),
+            });
+        }
+    }
+    None
+}
+
+// Whether a request names neither a remote nor specs, and there is no default remote.
+fn fetches_nothing<'a>(request: &Request<'a>, repository: &Repository<'a, 'a>) -> bool {
+    let is_bare = request.remote.is_none() && request.arguments.is_empty();
+    is_bare && default_remote(repository.settings, repository.branch, repository.old).is_none()
+}
+
+// Ends a call for a fetch that does nothing.
+fn nothing_to_fetch<'a>(alloc: Global) -> Result<Answer, Stop<'a>> {
+    let mut reported = Output::new(alloc);
+    reported.messages.extend_from_slice(
+        b"git refspec: no remote is given, and there is no default one, so git fetch does nothing\n",
+    )?;
+    Ok(Answer::Reports(reported))
 }

@@ -2,6 +2,7 @@
 
 use crate::answer::{Answer, Machine, Stop, asks, run_call};
 use crate::checking::text_of;
+use crate::notes::{Notes, Recorder};
 use crate::sources::{Names, Source, Sources};
 use bstr::BStr;
 use gix_refspec::name;
@@ -14,11 +15,12 @@ use refspec_request::ask::{GitCall, LINES, LOCAL};
 use refspec_request::choice::{Choice, Repository};
 use refspec_request::output::Output;
 use refspec_request::refusal::{Refusal, write_about};
+use refspec_request::remotes::is_configured;
 use refspec_request::settings::{is_true, last_value, settings_named, write_settings};
 use std::alloc::{AllocError, Global};
 
 // The spec of all tags.
-const ALL_TAGS: &[u8] = b"refs/tags/*:refs/tags/*";
+const ALL_TAGS: &str = "refs/tags/*:refs/tags/*";
 
 // The specs of a fetch.
 #[derive(Drop)]
@@ -29,8 +31,18 @@ struct Specs<'a> {
     configured: Vec<Setting<'a>>,
     // The values of `branch.NAME.merge`, as written.
     merges: Vec<Setting<'a>>,
-    // The last `tagOpt` of the remote, if it is `--tags`.
-    tags: Option<Setting<'a>>,
+    tags: Tags<'a>,
+}
+
+// Which tags a fetch takes besides those of its specs.
+#[derive(Clone, Copy, Debug)]
+enum Tags<'a> {
+    // Those whose objects it fetches or has.
+    Followed,
+    // All, by a `tagOpt` of the remote that is `--tags`.
+    All(Setting<'a>),
+    // None, by one that is `--no-tags`.
+    Left,
 }
 
 /// Reports what a fetch of a remote writes, or asks for the refs of the remote.
@@ -60,26 +72,88 @@ pub fn report_plan<'a, M: Machine, D: Discard>(
     } else {
         Vec::new(alloc)
     };
+    let names = Names::of(alloc, lines.as_slice())?;
+    specs.merges = kept_merges(alloc, &specs, &names)?;
+    let reported = planned(
+        alloc,
+        machine,
+        request,
+        &specs,
+        lines.as_slice(),
+        local.as_slice(),
+        &names,
+        done,
+    )?;
+    Ok(Answer::Reports(reported))
+}
+
+// The plan of a fetch of these refs of a remote, with notes on its specs and on what is unsure of it.
+fn planned<'s, M: Machine, D: Discard>(
+    alloc: Global,
+    machine: &M,
+    request: &Request<'_>,
+    specs: &'s Specs<'s>,
+    lines: &[u8],
+    local: &[u8],
+    names: &Names<'_>,
+    done: &mut D,
+) -> Result<Output, Fault> {
     let mut reported = Output::new(alloc);
-    report_sources(alloc, request.form, &specs, lines.as_slice(), &mut reported)?;
-    let mut call = call_of(alloc, Command::Plan, request, &specs)?;
+    report_sources(alloc, request.form, specs, names, &mut reported)?;
+    let mut call = call_of(alloc, Command::Plan, request, specs)?;
     call.is_watched = machine.is_watched();
     let noted = reported.messages.len();
+    let mut recorded = Recorder::new(alloc);
     run_on(
         alloc,
         &call,
-        &specs,
+        specs,
         lines,
-        local.as_slice(),
+        local,
         &mut reported,
-        done,
+        &mut recorded,
     )?;
+    let unsure = recorded.unsure()?;
     if reported.results.is_empty() && reported.messages.len() == noted && reported.status == 0 {
         reported
             .messages
             .extend_from_slice(b"git refspec: the specs map no ref of the remote\n")?;
     }
-    Ok(Answer::Reports(reported))
+    let mut notes = Notes::new(alloc, request);
+    notes.add_unlisted(unsure.ids.as_slice(), lines)?;
+    if follows_tags(alloc, specs)? {
+        notes.add_tags(unsure.tags.as_slice(), names)?;
+    }
+    if request.prune && !unsure.beside.is_empty() {
+        let stale = stale_names(alloc, request, specs, lines, local, done)?;
+        notes.add_pruned(unsure.beside.as_slice(), stale.as_slice())?;
+    }
+    notes.write(&mut reported)?;
+    Ok(reported)
+}
+
+// Whether a fetch follows tags: a spec that is fetched has a destination, and no option is about tags.
+fn follows_tags<'s>(alloc: Global, specs: &'s Specs<'s>) -> Result<bool, AllocError> {
+    match specs.tags {
+        Tags::Followed => Ok(sources_of(alloc, specs)?.has_destination()),
+        Tags::All(_) | Tags::Left => Ok(false),
+    }
+}
+
+// The refs here that a pruning fetch deletes, each followed by a zero byte.
+fn stale_names<D: Discard>(
+    alloc: Global,
+    request: &Request<'_>,
+    specs: &Specs<'_>,
+    lines: &[u8],
+    local: &[u8],
+    done: &mut D,
+) -> Result<Vec<u8>, Fault> {
+    let mut call = call_of(alloc, Command::Stale, request, specs)?;
+    call.form = Form::Zeros;
+    let mut found = Output::new(alloc);
+    run_on(alloc, &call, specs, lines, local, &mut found, done)?;
+    Ok(found.results)
 }
 
 /// Reports which refs here a pruning fetch of a remote deletes, or asks for the refs of the remote and those here.
@@ -105,7 +179,7 @@ pub fn report_stale<'a, M: Machine, D: Discard>(
         alloc,
         &call,
         &specs,
-        lines,
+        lines.as_slice(),
         local.as_slice(),
         &mut reported,
         done,
@@ -118,12 +192,13 @@ fn run_on<D: Discard>(
     alloc: Global,
     call: &Call<'_>,
     specs: &Specs<'_>,
-    mut lines: Vec<u8>,
+    lines: &[u8],
     local: &[u8],
     reported: &mut Output,
     done: &mut D,
 ) -> Result<(), Fault> {
     // The specs of the configuration end with zero bytes, and so must the refs.
+    let mut lines = Vec::from_slice(alloc, lines)?;
     for byte in lines.iter_mut() {
         if *byte == b'\n' {
             *byte = 0;
@@ -189,8 +264,8 @@ fn configured_beside(alloc: Global, specs: &Specs<'_>) -> Result<Vec<u8>, AllocE
         write_settings(&mut beside, specs.configured.as_slice())?;
         write_settings(&mut beside, merged(alloc, specs)?.as_slice())?;
     }
-    if let Some(tags) = &specs.tags {
-        write_settings(&mut beside, &[value_of(tags, ALL_TAGS)])?;
+    if let Tags::All(option) = &specs.tags {
+        write_settings(&mut beside, &[value_of(option, ALL_TAGS.as_bytes())])?;
     }
     Ok(beside)
 }
@@ -201,7 +276,7 @@ fn specs_of<'a>(
     repository: &Repository<'a, 'a>,
     choice: &Choice<'a>,
 ) -> Result<Specs<'a>, Stop<'a>> {
-    let given = given_specs(alloc, choice.specs.as_slice())?;
+    let mut given = given_specs(alloc, choice.specs.as_slice())?;
     let mut configured = settings_named(
         alloc,
         repository.settings,
@@ -211,7 +286,11 @@ fn specs_of<'a>(
     )?;
     if given.is_empty() {
         if let Some(option) = tag_pruning(alloc, repository, choice.remote)? {
-            configured.push(value_of(&option, ALL_TAGS))?;
+            if is_configured(repository.settings, choice.remote) {
+                configured.push(value_of(&option, ALL_TAGS.as_bytes()))?;
+            } else {
+                given.push(String::from_str(alloc, ALL_TAGS)?)?;
+            }
         }
     }
     Ok(Specs {
@@ -223,7 +302,7 @@ fn specs_of<'a>(
 }
 
 // The setting by which tags are pruned, if it is true: the last `pruneTags` of the remote, or else that of `fetch`. Without given
-// specs Git then adds a fetch value for all tags.
+// specs Git then adds a fetch value for all tags, or to the given specs if the remote is a URL.
 fn tag_pruning<'a>(
     alloc: Global,
     repository: &Repository<'a, 'a>,
@@ -287,17 +366,17 @@ fn values_among<'a>(alloc: Global, specs: &[&'a [u8]]) -> Result<Vec<Setting<'a>
     Ok(values)
 }
 
-// The last `tagOpt` of a remote that is `--tags` or `--no-tags`, if it is `--tags`. Git ignores other values.
+// What the last `tagOpt` of a remote says that is `--tags` or `--no-tags`. Git ignores other values.
 fn tags_of<'a>(
     alloc: Global,
     repository: &Repository<'a, 'a>,
     remote: &[u8],
-) -> Result<Option<Setting<'a>>, AllocError> {
-    let mut tags = None;
+) -> Result<Tags<'a>, AllocError> {
+    let mut tags = Tags::Followed;
     for option in &settings_named(alloc, repository.settings, b"remote", remote, b"tagopt")? {
         match option.value {
-            Some(b"--tags") => tags = Some(*option),
-            Some(b"--no-tags") => tags = None,
+            Some(b"--tags") => tags = Tags::All(*option),
+            Some(b"--no-tags") => tags = Tags::Left,
             _ => {}
         }
     }
@@ -354,20 +433,34 @@ fn call_of<'c>(
     for merge in &specs.merges {
         call.merges.push(BStr::new(merge.value.unwrap_or(b"")))?;
     }
-    call.tags = specs.tags.is_some();
+    call.tags = matches!(specs.tags, Tags::All(_));
     call.reads_input = command != Command::Prefixes;
     call.input = "git ls-remote";
     Ok(call)
 }
 
-// Notes the patterns, the negative specs and the merged refs that match no ref of the lines.
-fn report_sources<'s>(
+// What a branch merges, but for names that are partial names of a ref that a configured spec takes, as `refs/heads/dev` is of
+// `refs/heads/refs/heads/dev`. Git takes that ref for the merged one.
+fn kept_merges<'a>(
     alloc: Global,
-    form: Form,
-    specs: &'s Specs<'s>,
-    lines: &[u8],
-    reported: &mut Output,
-) -> Result<(), AllocError> {
+    specs: &Specs<'a>,
+    names: &Names<'_>,
+) -> Result<Vec<Setting<'a>>, AllocError> {
+    let mut sources = Sources::new(alloc);
+    for value in &specs.configured {
+        sources.add(alloc, value.value.unwrap_or(b""), false)?;
+    }
+    let mut kept = Vec::new(alloc);
+    for merge in &specs.merges {
+        if !sources.take_for(alloc, merge.value.unwrap_or(b""), names)? {
+            kept.push(*merge)?;
+        }
+    }
+    Ok(kept)
+}
+
+// The sources of the specs that are fetched: the given ones, or without any the configured ones and the merged refs.
+fn sources_of<'s>(alloc: Global, specs: &'s Specs<'s>) -> Result<Sources<'s>, AllocError> {
     let mut sources = Sources::new(alloc);
     for argument in &specs.given {
         sources.add(alloc, argument.as_bytes(), false)?;
@@ -383,12 +476,23 @@ fn report_sources<'s>(
             }
         }
     }
+    Ok(sources)
+}
+
+// Notes the patterns, the negative specs and the merged refs that match no ref of the remote.
+fn report_sources<'s>(
+    alloc: Global,
+    form: Form,
+    specs: &'s Specs<'s>,
+    names: &Names<'_>,
+    reported: &mut Output,
+) -> Result<(), AllocError> {
+    let sources = sources_of(alloc, specs)?;
     if sources.has_bad {
         return Ok(());
     }
-    let names = Names::of(alloc, lines)?;
     for source in &sources.list {
-        if !source.is_needed() && !source.takes_some(alloc, &names)? {
+        if !source.is_needed() && !source.takes_some(alloc, names)? {
             report_source(alloc, form, source, reported)?;
         }
     }

@@ -5,6 +5,7 @@
 pub mod answer;
 mod checking;
 mod fetch;
+mod notes;
 mod objects;
 mod sources;
 mod tracking;

@@ -39,8 +39,8 @@ impl<'a> Names<'a> {
         Ok(Names { sorted })
     }
 
-    // Whether this is one of the names.
-    fn has(&self, name: &[u8]) -> bool {
+    /// Whether this is one of the names.
+    pub fn has(&self, name: &[u8]) -> bool {
         self.sorted.binary_search(&name).is_ok()
     }
 
@@ -92,6 +92,34 @@ impl<'a> Sources<'a> {
         })?;
         Ok(())
     }
+
+    /// Whether one of the specs has a destination.
+    pub fn has_destination(&self) -> bool {
+        self.list
+            .iter()
+            .any(|source| source.spec.destination().is_some())
+    }
+
+    /// Whether a spec that isn't negative takes a ref of which this name is a partial one, and not the whole one. Fails if memory
+    /// runs out.
+    pub fn take_for(
+        &self,
+        alloc: Global,
+        partial: &[u8],
+        names: &Names<'_>,
+    ) -> Result<bool, AllocError> {
+        for candidate in candidates(alloc, partial)? {
+            let name = candidate.as_bytes();
+            if name != partial && names.has(name) {
+                for source in &self.list {
+                    if !source.is_negative() && source.takes(alloc, name, names)? {
+                        return Ok(true);
+                    }
+                }
+            }
+        }
+        Ok(false)
+    }
 }
 
 /// The source of a spec.
@@ -127,6 +155,19 @@ impl Source<'_> {
         }
         let candidates = candidates(alloc, self.side)?;
         Ok(candidates.iter().any(|name| names.has(name.as_bytes())))
+    }
+
+    // Whether it matches this name, as one of several. A name without a star matches its first candidate alone.
+    fn takes(&self, alloc: Global, name: &[u8], names: &Names<'_>) -> Result<bool, AllocError> {
+        if self.side.find_byte(b'*').is_some() {
+            return self.takes_some(alloc, &Names::of_one(alloc, name)?);
+        }
+        for candidate in candidates(alloc, self.side)? {
+            if names.has(candidate.as_bytes()) {
+                return Ok(candidate.as_bytes() == name);
+            }
+        }
+        Ok(false)
     }
 
     /// The note on a source that matches no ref.

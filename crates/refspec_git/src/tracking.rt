@@ -4,7 +4,7 @@ use crate::answer::{Answer, Machine, Stop, asks, run_call};
 use crate::objects::{write_mapping, write_ref_note, write_with_remote};
 use crate::sources::{Names, Sources};
 use bstr::{BStr, ByteSlice};
-use gix_refspec::match_group::{Item, Mapping};
+use gix_refspec::match_group::{Item, Mapping, SourceRef};
 use gix_refspec::oid::{Kind, ObjectId};
 use gix_refspec::parsing::{Error, Operation};
 use gix_refspec::{MatchGroup, RefSpecRef, name, parse};
@@ -64,10 +64,11 @@ pub fn report_tracking<'a, M: Machine, D: Discard>(
         values: &values,
         settings: repository.settings,
     };
-    report_others(alloc, &found, names.as_slice(), &mut reported)?;
-    for old in repository.old {
-        if let Some(refusal) = repository.old_remote(old.name.as_slice()) {
-            reported.refuse(&refusal)?;
+    if report_others(alloc, &found, names.as_slice(), &mut reported)? {
+        for old in repository.old {
+            if let Some(refusal) = repository.old_remote(old.name.as_slice()) {
+                reported.refuse(&refusal)?;
+            }
         }
     }
     Ok(Answer::Reports(reported))
@@ -81,6 +82,9 @@ fn values_of<'a>(
 ) -> Result<Values<'a>, Stop<'a>> {
     let mut values = fetch_values(alloc, repository.settings)?;
     if let Some(remote) = request.remote {
+        if let Some(old) = repository.old_remote(remote) {
+            return Err(Stop::Refused(old));
+        }
         values.retain(|name, _| *name == remote);
         if values.is_empty() {
             return Err(Stop::Refused(Refusal::NoRemoteNoSpec(remote)));
@@ -88,6 +92,11 @@ fn values_of<'a>(
     }
     values.retain(|_, values| !values.is_empty());
     if values.is_empty() {
+        for old in repository.old {
+            if let Some(refusal) = repository.old_remote(old.name.as_slice()) {
+                return Err(Stop::Refused(refusal));
+            }
+        }
         return Err(Stop::Refused(Refusal::NoValuesAtAll));
     }
     Ok(values)
@@ -276,6 +285,8 @@ struct Row<'a> {
     destination: Vec<u8>,
     source: Vec<u8>,
     spec: Vec<u8>,
+    // Whether the destination of the spec begins with `refs/`.
+    is_full: bool,
 }
 
 // The sources from which remotes fetch the refs: sorted by the index of the ref, and then by the name of the remote.
@@ -301,10 +312,6 @@ fn add_rows<'a>(
     rows: &mut Vec<Row<'a>>,
 ) -> Result<(), AllocError> {
     let specs = specs_of(alloc, values)?;
-    let mut texts = Vec::with_capacity(alloc, specs.len())?;
-    for spec in &specs {
-        texts.push(spec.to_bstring(alloc)?)?;
-    }
     let none = ObjectId::null(Kind::shortest());
     let items = items_of(alloc, names, &none)?;
     let group = MatchGroup { specs };
@@ -312,8 +319,8 @@ fn add_rows<'a>(
         return Err(AllocError);
     };
     for mapping in &outcome.mappings {
-        if let Some(text) = texts.get(mapping.spec_index) {
-            rows.push(row_of(alloc, remote, mapping, text.as_bytes())?)?;
+        if let Some(spec) = outcome.group.specs.get(mapping.spec_index) {
+            rows.push(row_of(alloc, remote, mapping, spec)?)?;
         }
     }
     Ok(())
@@ -336,14 +343,17 @@ fn items_of<'a>(
     Ok(items)
 }
 
-// The row of a mapping of a remote, by a spec with this canonical text.
+// The row of a mapping of a remote by a spec.
 fn row_of<'a>(
     alloc: Global,
     remote: &'a [u8],
     mapping: &Mapping<'_, '_>,
-    text: &[u8],
+    spec: &RefSpecRef<'_>,
 ) -> Result<Row<'a>, AllocError> {
-    let source = format!(in alloc; "{}", mapping.lhs)?;
+    let source = match &mapping.lhs {
+        SourceRef::FullName(name) => Vec::from_slice(alloc, name.as_bstr().as_bytes())?,
+        SourceRef::ObjectId(id) => format!(in alloc; "{id}")?.into_bytes(),
+    };
     let destination = match &mapping.rhs {
         None => Vec::new(alloc),
         Some(name) => Vec::from_slice(alloc, name.as_bstr().as_bytes())?,
@@ -352,9 +362,18 @@ fn row_of<'a>(
         number: mapping.item_index.unwrap_or(0),
         remote,
         destination,
-        source: Vec::from_slice(alloc, source.as_bytes())?,
-        spec: Vec::from_slice(alloc, text)?,
+        source,
+        spec: spec.to_bstring(alloc)?.into_vec(),
+        is_full: has_full_destination(spec),
     })
+}
+
+// Whether the destination of a spec begins with `refs/`.
+fn has_full_destination(spec: &RefSpecRef<'_>) -> bool {
+    match spec.destination() {
+        None => false,
+        Some(destination) => destination.as_bytes().starts_with(b"refs/"),
+    }
 }
 
 // The specs of values, but for refused ones and those whose destination is an object id.
@@ -495,21 +514,26 @@ struct Found<'f, 'a> {
     settings: &'f [Setting<'a>],
 }
 
-// Reports the refs that no remote or several remotes write.
+// Reports the refs that no remote writes, and those that several remotes write. Returns whether there is one of the former.
 fn report_others(
     alloc: Global,
     found: &Found<'_, '_>,
     names: &[Vec<u8>],
     reported: &mut Output,
-) -> Result<(), AllocError> {
+) -> Result<bool, AllocError> {
+    let mut has_untracked = false;
     for (number, name) in names.iter().enumerate() {
-        match writers_of(rows_at(found.rows, number)) {
-            0 => report_untracked(alloc, found, name.as_slice(), reported)?,
-            1 => {}
-            writers => report_ambiguous(alloc, found.form, name.as_slice(), writers, reported)?,
+        let rows = rows_at(found.rows, number);
+        if rows.is_empty() {
+            report_untracked(alloc, found, name.as_slice(), reported)?;
+            has_untracked = true;
+        }
+        let writers = writers_of(rows);
+        if writers > 1 {
+            report_ambiguous(alloc, found.form, name.as_slice(), writers, reported)?;
         }
     }
-    Ok(())
+    Ok(has_untracked)
 }
 
 // The rows of the ref with this index.
@@ -519,15 +543,18 @@ fn rows_at<'r, 'a>(rows: &'r [Row<'a>], number: usize) -> &'r [Row<'a>] {
     mine
 }
 
-// How many remotes the rows of one ref have. The rows of a remote are adjacent.
+// How many remotes Git finds for one ref that a branch is to track, as it compares full destinations alone. The rows of a
+// remote are adjacent.
 fn writers_of(rows: &[Row<'_>]) -> usize {
     let mut writers: usize = 0;
     let mut last: Option<&[u8]> = None;
     for row in rows {
-        if last != Some(row.remote) {
-            writers = writers.saturating_add(1);
+        if row.is_full {
+            if last != Some(row.remote) {
+                writers = writers.saturating_add(1);
+            }
+            last = Some(row.remote);
         }
-        last = Some(row.remote);
     }
     writers
 }
@@ -616,7 +643,7 @@ fn report_ambiguous(
 ) -> Result<(), AllocError> {
     reported.status = 1;
     let count = format!(in alloc; "git refspec: {writers} remotes write ")?;
-    let why = ", so Git refuses it as an upstream: it is ambiguous";
+    let why = ", so Git refuses to set it as an upstream: it is ambiguous";
     if form == Form::Json {
         let message = format!(in alloc; "{writers} remotes write this ref{why}")?;
         return write_ref_note(

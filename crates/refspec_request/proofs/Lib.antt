@@ -1,1 +1,3 @@
+mod BooleanLemmas
 pub mod KeyFacts
+mod facts

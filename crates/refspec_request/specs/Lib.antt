@@ -1,2 +1,3 @@
+pub mod Booleans
 pub mod Settings
 pub mod Words

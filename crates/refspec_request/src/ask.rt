@@ -10,7 +10,7 @@ pub const FOLDER: &str = "folder";
 
 pub const CONFIG: &str = "config";
 
-pub const BRANCH: &str = "branch";
+pub const HEAD: &str = "head";
 
 pub const LINES: &str = "lines";
 
@@ -33,8 +33,8 @@ pub enum GitCall<'a> {
     Folder,
     /// Prints the configuration.
     Config,
-    /// Prints the current branch; nothing if there is none.
-    Branch,
+    /// Prints the ref that `HEAD` points to, or nothing and ends with status 1 if `HEAD` is detached.
+    Head,
     /// Prints the refs of a remote.
     Lines(&'a [u8]),
     /// Prints the refs with these names, and those below them, one per line: the name, a space, and the target of a
@@ -71,10 +71,7 @@ impl GitCall<'_> {
                     b"--list",
                 ],
             )?,
-            GitCall::Branch => write_lines(
-                out,
-                &[BRANCH.as_bytes(), b"branch", b"--show-current"],
-            )?,
+            GitCall::Head => write_lines(out, &[HEAD.as_bytes(), b"symbolic-ref", b"-q", b"HEAD"])?,
             GitCall::Lines(remote) => {
                 write_lines(out, &[LINES.as_bytes(), b"ls-remote", b"--", remote])?
             }

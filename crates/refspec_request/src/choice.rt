@@ -6,7 +6,9 @@ ghost use Rattle.refspec_request.specs.Words.{BeginsAsSpec};
 
 use crate::arguments::Request;
 use crate::refusal::Refusal;
-use crate::remotes::{default_remote, is_configured, is_rewritten};
+use crate::remotes::{
+    OldRemote, default_remote, has_location, is_configured, is_group, is_rewritten,
+};
 use bstr::ByteSlice;
 use gix_refspec_text::side::strip_refs;
 use gix_refspec_text::split::contains;
@@ -84,19 +86,12 @@ fn has_host(argument: &[u8]) -> bool {
     }
 }
 
-/// A remote that has a file in `.git/remotes` or `.git/branches`.
-#[derive(Debug, Drop)]
-pub struct OldRemote {
-    pub name: Vec<u8>,
-    pub folder: String,
-}
-
 /// What decides whether a first argument is a remote, besides its looks.
 #[derive(Clone, Copy, Debug)]
 pub struct Repository<'a, 'b> {
     /// The configuration.
     pub settings: &'b [Setting<'a>],
-    /// The current branch; empty if there is none.
+    /// The current branch below `refs/heads/`; empty if there is none.
     pub branch: &'b [u8],
     /// The remotes that have files of their own, outside the configuration.
     pub old: &'b [OldRemote],
@@ -111,9 +106,9 @@ impl<'b> Repository<'_, 'b> {
             || self.old.iter().any(|old| old.name.as_slice() == argument)
     }
 
-    /// The refusal of a remote that isn't in the configuration, and has a file of its own. `None` for any other.
+    /// The refusal of a remote that Git reads from a file of its own, as the configuration has no URL for it. `None` for any other.
     pub fn old_remote(&self, name: &'b [u8]) -> Option<Refusal<'b>> {
-        if is_configured(self.settings, name) {
+        if has_location(self.settings, name) {
             return None;
         }
         for old in self.old {
@@ -149,12 +144,12 @@ pub struct Choice<'a> {
 
 /// The remote and the specs that the arguments of a request name, and from which they borrow. The remote is that of
 /// `--remote`, else the first argument if it precedes `--`, or is or looks like a remote, else the default.
-/// Refuses an argument that may be a URL or a spec, a call without a remote, and a remote with a newline. Fails with
+/// Refuses an argument that may be a URL or a spec, a call without a remote, a group of remotes, and a remote with a newline. Fails with
 /// `Refusal::Memory` if memory runs out.
 pub fn choice_of<'a>(
     alloc: Global,
     request: &Request<'a>,
-    repository: &Repository<'a, '_>,
+    repository: &Repository<'a, 'a>,
 ) -> Result<Choice<'a>, Refusal<'a>> {
     let arguments = request.arguments.as_slice();
     let (remote, specs) = match (request.remote, arguments) {
@@ -168,9 +163,17 @@ pub fn choice_of<'a>(
             }
         }
     };
+    if let Some(name) = remote {
+        if is_group(repository.settings, name) {
+            return Err(Refusal::Group {
+                name,
+                settings: repository.settings,
+            });
+        }
+    }
     let remote = match remote {
         Some(remote) => remote,
-        None => match default_remote(repository.settings, repository.branch) {
+        None => match default_remote(repository.settings, repository.branch, repository.old) {
             Some(remote) => remote,
             None => return Err(Refusal::NoDefault),
         },

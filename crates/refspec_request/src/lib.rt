@@ -4,6 +4,7 @@
 
 pub mod arguments;
 pub mod ask;
+pub mod booleans;
 pub mod choice;
 pub mod output;
 pub mod refusal;

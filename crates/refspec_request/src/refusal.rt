@@ -2,8 +2,11 @@
 
 ghost use Rattle.std.specs.Prelude.{◌≤◌};
 
+use crate::remotes::{is_between_members, members_in};
 use crate::usage::USAGE;
-use refspec_io::quote::write_in_message;
+use refspec_io::call::Form;
+use refspec_io::quote::{write_in_message, write_shown};
+use refspec_io::settings::Setting;
 use std::alloc::{AllocError, AllocFailed};
 
 /// Why a call is refused.
@@ -44,7 +47,21 @@ pub enum Refusal<'a> {
     /// An expression that Git doesn't resolve to a ref.
     NotARef(&'a [u8]),
     /// A remote whose configuration is a file of `.git/remotes` or `.git/branches`.
-    OldForm { name: &'a [u8], folder: &'a str },
+    OldForm {
+        name: &'a [u8],
+        folder: &'a str,
+    },
+    /// A group of several remotes, and the settings that have it.
+    Group {
+        name: &'a [u8],
+        settings: &'a [Setting<'a>],
+    },
+    /// A setting that Git reads as a boolean has another value.
+    BadBoolean {
+        origin: &'a [u8],
+        key: &'a [u8],
+        value: &'a [u8],
+    },
     /// No remote has fetch values.
     NoValuesAtAll,
     /// A value of a remote that the arguments don't name is refused.
@@ -59,7 +76,10 @@ impl Refusal<'_> {
         ensures { 1 ≤ result }
     {
         match self {
-            Refusal::OldForm { .. } | Refusal::NoValuesAtAll | Refusal::OtherRefused => 1,
+            Refusal::OldForm { .. }
+            | Refusal::BadBoolean { .. }
+            | Refusal::NoValuesAtAll
+            | Refusal::OtherRefused => 1,
             Refusal::Memory => 3,
             _ => 2,
         }
@@ -74,6 +94,18 @@ impl Refusal<'_> {
                 write_about(out, "", command.as_bytes(), " takes this option")?
             }
             Refusal::OldForm { name, folder } => write_old_form(out, name, folder)?,
+            Refusal::Group { name, settings } => write_group(out, name, settings)?,
+            Refusal::BadBoolean { origin, key, value } => {
+                write_shown(out, origin, Form::Lines)?;
+                out.extend_from_slice(b": ")?;
+                write_about(out, "", key, ": ")?;
+                write_about(
+                    out,
+                    "",
+                    value,
+                    " is not a boolean, so Git stops; write true or false",
+                )?
+            }
             _ => {
                 let (before, argument, after) = self.sentence();
                 write_about(out, before, argument, after)?
@@ -120,7 +152,7 @@ impl Refusal<'_> {
             Refusal::NoDefault => (
                 "no ",
                 b"remote",
-                " is given: the current branch has none, there isn't just one, and none is called origin",
+                " is given: the current branch has none, and neither a single one nor origin has a URL",
             ),
             Refusal::NotUtf8(argument) => (
                 "",
@@ -153,6 +185,19 @@ fn write_old_form(out: &mut Vec<u8>, name: &[u8], folder: &str) -> Result<(), Al
     )?;
     write_about(out, "", name, " ")?;
     write_about(out, "", name, "` moves it into the configuration")
+}
+
+// Appends the sentence on a group of remotes.
+fn write_group(out: &mut Vec<u8>, name: &[u8], settings: &[Setting<'_>]) -> Result<(), AllocError> {
+    write_about(out, "", name, " is a group of remotes; name one of them:")?;
+    for setting in settings {
+        for member in members_in(setting, name).split(is_between_members) {
+            if !member.is_empty() {
+                write_about(out, " ", member, "")?;
+            }
+        }
+    }
+    Ok(())
 }
 
 /// Appends a name, quoted if necessary, between two texts. Fails if memory runs out.

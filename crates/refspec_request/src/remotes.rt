@@ -5,6 +5,13 @@ use refspec_io::settings::Setting;
 use std::alloc::{AllocError, Global};
 use std::collections::BTreeMap;
 
+/// A remote that has a file in `.git/remotes` or `.git/branches`.
+#[derive(Debug, Drop)]
+pub struct OldRemote {
+    pub name: Vec<u8>,
+    pub folder: String,
+}
+
 /// The names in settings `remote.NAME.VARIABLE`, sorted, each with its fetch values in order. Fails if memory runs out.
 pub fn fetch_values<'a>(
     alloc: Global,
@@ -45,16 +52,69 @@ fn rewrites(setting: &Setting<'_>, url: &[u8]) -> bool {
     }
 }
 
-/// The remote that `git fetch` without arguments takes: that of the current branch, else the only one, else `origin`
-/// if it is configured. The branch is empty if there is none.
-pub fn default_remote<'a>(settings: &[Setting<'a>], branch: &[u8]) -> Option<&'a [u8]> {
+/// Whether Git ignores a setting, with a warning: one of a remote whose name begins with a slash.
+pub fn is_ignored(setting: &Setting<'_>) -> bool {
+    match name_and_variable(b"remote", setting.key) {
+        None => false,
+        Some((name, _)) => name.starts_with(b"/"),
+    }
+}
+
+/// Whether Git knows from the configuration where a remote is. Otherwise it looks for a file of `.git/remotes` or
+/// `.git/branches`.
+pub fn has_location(settings: &[Setting<'_>], name: &[u8]) -> bool {
+    settings.iter().any(|setting| match name_and_variable(b"remote", setting.key) {
+        None => false,
+        Some((other, variable)) => other == name && matches!(variable, b"url" | b"vcs"),
+    })
+}
+
+/// Whether a name is that of a group of several remotes, which `git fetch NAME` then fetches from, even if a remote has this name too.
+pub fn is_group(settings: &[Setting<'_>], name: &[u8]) -> bool {
+    let mut count: usize = 0;
+    for setting in settings {
+        for member in members_in(setting, name).split(is_between_members) {
+            if !member.is_empty() {
+                count = count.saturating_add(1);
+            }
+        }
+    }
+    count > 1
+}
+
+/// The text with which a setting lists remotes of a group; empty if it lists none.
+pub fn members_in<'a>(setting: &Setting<'a>, group: &[u8]) -> &'a [u8] {
+    match (
+        setting.key.strip_prefix(b"remotes.".as_slice()),
+        setting.value,
+    ) {
+        (Some(name), Some(members)) if name == group => members,
+        _ => b"",
+    }
+}
+
+/// Whether a byte separates the remotes of a group.
+pub fn is_between_members(byte: &u8) -> bool {
+    matches!(*byte, b' ' | b'\t' | b'\n')
+}
+
+/// The remote that `git fetch` without arguments takes: that of the current branch, else the only one, else `origin`. The branch is empty
+/// if there is none. One that the branch doesn't name needs a location, in the configuration or among those in files. `None` if `git fetch`
+/// does nothing.
+pub fn default_remote<'a>(
+    settings: &[Setting<'a>],
+    branch: &[u8],
+    files: &[OldRemote],
+) -> Option<&'a [u8]> {
     if let Some(name) = last_value(settings, b"branch", branch, b"remote") {
         return Some(name);
     }
-    match only_remote(settings) {
-        Some(name) => Some(name),
-        None => configured_origin(settings),
+    let name = only_remote(settings).unwrap_or(b"origin");
+    let is_in_file = files.iter().any(|file| file.name.as_slice() == name);
+    if is_in_file || has_location(settings, name) {
+        return Some(name);
     }
+    None
 }
 
 // The remote, if exactly one is configured.
@@ -70,16 +130,4 @@ fn only_remote<'a>(settings: &[Setting<'a>]) -> Option<&'a [u8]> {
         }
     }
     only
-}
-
-// The name `origin`, if a remote has it.
-fn configured_origin<'a>(settings: &[Setting<'a>]) -> Option<&'a [u8]> {
-    for setting in settings {
-        if let Some((name, _)) = name_and_variable(b"remote", setting.key) {
-            if name == b"origin".as_slice() {
-                return Some(name);
-            }
-        }
-    }
-    None
 }

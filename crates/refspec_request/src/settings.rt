@@ -4,6 +4,7 @@ ghost use Rattle.std.specs.Prelude.{◌≡◌, ◌++◌, ◌∷◌, IfSome, Matc
 ghost use Rattle.gix_refspec_text.specs.Texts.Words.{Lacks};
 ghost use Rattle.refspec_request.specs.Settings.{IsKey};
 
+pub use crate::booleans::is_true;
 use bstr::ByteSlice;
 use refspec_io::settings::Setting;
 use std::alloc::{AllocError, Global};
@@ -82,18 +83,6 @@ fn is_of(setting: &Setting<'_>, section: &[u8], name: &[u8], variable: &[u8]) ->
         None => false,
         Some((its_name, its_variable)) => its_name == name && its_variable == variable,
     }
-}
-
-/// Whether a value is true, as Git reads booleans: a missing value, `true`, `yes`, `on` in any case, or a number other than 0.
-pub fn is_true(value: Option<&[u8]>) -> bool {
-    let Some(value) = value else {
-        return true;
-    };
-    let words: [&[u8]; 3] = [b"true", b"yes", b"on"];
-    if words.iter().any(|word| value.eq_ignore_ascii_case(word)) {
-        return true;
-    }
-    value.iter().all(|byte| byte.is_ascii_digit()) && value.iter().any(|byte| *byte != b'0')
 }
 
 /// Appends settings, as `git config --show-origin -z` prints them. Fails if memory runs out.

@@ -1,12 +1,16 @@
 //! Arguments of `git refspec`, what they look like, settings and remotes.
 
 use refspec_io::call::Form;
-use refspec_io::settings::settings_of;
+use refspec_io::settings::{Setting, settings_of};
 use refspec_request::arguments::{Command, Wish, wish_of};
+use refspec_request::booleans::{Boolean, boolean_of, is_true};
 use refspec_request::choice::{Looks, looks_of};
 use refspec_request::refusal::Refusal;
-use refspec_request::remotes::{default_remote, fetch_values, is_configured, is_rewritten};
-use refspec_request::settings::{is_true, last_value, name_and_variable, write_settings};
+use refspec_request::remotes::{
+    OldRemote, default_remote, fetch_values, has_location, is_configured, is_group, is_ignored,
+    is_rewritten,
+};
+use refspec_request::settings::{last_value, name_and_variable, write_settings};
 use std::alloc::AllocError;
 use std::test::Fail;
 
@@ -46,6 +50,9 @@ fn finds_remotes(rt: HostRuntime) -> Result<(), Fail> {
         .map(|values| values.len())
         .collect(rt.alloc())?;
     assert_eq!(rt; counts.as_slice(), [1, 1].as_slice());
+    assert!(rt; has_location(settings, b"origin"));
+    assert!(rt; !has_location(settings, b"a.b"));
+    assert!(rt; !settings.iter().any(is_ignored));
     assert!(rt; is_configured(settings, b"a.b"));
     assert!(rt; !is_configured(settings, b"pushdefault"));
     assert!(rt; is_rewritten(settings, b"gh:me/repo"));
@@ -54,14 +61,26 @@ fn finds_remotes(rt: HostRuntime) -> Result<(), Fail> {
         last_value(settings, b"remote", b"origin", b"url"),
         Some(b"x".as_slice())
     );
-    assert_eq!(rt; default_remote(settings, b"main"), Some(b"a.b".as_slice()));
-    assert_eq!(rt; default_remote(settings, b""), Some(b"origin".as_slice()));
-    let one = settings_of(rt.alloc(), ONE_REMOTE).unwrap_or(Vec::new(rt.alloc()));
     assert_eq!(rt;
-        default_remote(one.as_slice(), b""),
+        default_remote(settings, b"main", &[]),
         Some(b"a.b".as_slice())
     );
-    assert_eq!(rt; default_remote(&[], b""), None);
+    assert_eq!(rt;
+        default_remote(settings, b"", &[]),
+        Some(b"origin".as_slice())
+    );
+    let one = settings_of(rt.alloc(), ONE_REMOTE).unwrap_or(Vec::new(rt.alloc()));
+    // It has no location.
+    assert_eq!(rt; default_remote(one.as_slice(), b"", &[]), None);
+    let file = OldRemote {
+        name: Vec::from_slice(rt.alloc(), b"a.b")?,
+        folder: String::new(rt.alloc()),
+    };
+    assert_eq!(rt;
+        default_remote(one.as_slice(), b"", &[file]),
+        Some(b"a.b".as_slice())
+    );
+    assert_eq!(rt; default_remote(&[], b"", &[]), None);
     Ok(())
 }
 
@@ -158,18 +177,45 @@ fn refuses_other_options(rt: HostRuntime) {
 #[test]
 fn reads_booleans_as_git_does(rt: HostRuntime) {
     assert!(rt; is_true(None));
-    let values: [(&[u8], bool); 9] = [
-        (b"true", true),
-        (b"Yes", true),
-        (b"on", true),
-        (b"1", true),
-        (b"10", true),
-        (b"", false),
-        (b"false", false),
-        (b"no", false),
-        (b"0", false),
+    assert_eq!(rt; boolean_of(None), Boolean::True);
+    let values: [(&[u8], Boolean); 16] = [
+        (b"true", Boolean::True),
+        (b"Yes", Boolean::True),
+        (b"on", Boolean::True),
+        (b"-1", Boolean::True),
+        (b" +10", Boolean::True),
+        (b"1k", Boolean::True),
+        (b"0x1F", Boolean::True),
+        (b"", Boolean::False),
+        (b"false", Boolean::False),
+        (b"NO", Boolean::False),
+        (b"0k", Boolean::False),
+        (b"maybe", Boolean::Bad),
+        (b"08", Boolean::Bad),
+        (b"0x", Boolean::Bad),
+        (b"2g", Boolean::Bad),
+        (b"2147483648", Boolean::Bad),
     ];
     for (value, wanted) in values {
-        assert_eq!(rt; is_true(Some(value)), wanted);
+        assert_eq!(rt; boolean_of(Some(value)), wanted);
+        assert_eq!(rt; is_true(Some(value)), wanted == Boolean::True);
     }
+}
+
+#[test]
+fn finds_groups(rt: HostRuntime) {
+    let one = Setting {
+        origin: b"file:a",
+        key: b"remotes.g",
+        value: Some(b" origin\tfork\n"),
+    };
+    let other = Setting {
+        origin: b"file:a",
+        key: b"remotes.h",
+        value: Some(b"origin"),
+    };
+    assert!(rt; is_group(&[one, other], b"g"));
+    assert!(rt; !is_group(&[one, other], b"h"));
+    assert!(rt; is_group(&[other, other], b"h"));
+    assert!(rt; !is_group(&[one, other], b"origin"));
 }
