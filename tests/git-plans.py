@@ -1,8 +1,9 @@
 #!/usr/bin/env python3
-"""Gives the stored cases of git-plans.sample to git and to the program refspec: tests/git-plans.py REFSPEC
+"""Gives the stored cases of git-plans.sample and situations.sample to git and to the program refspec: tests/git-plans.py REFSPEC
 
-The program has to answer what is stored: what a fetch writes, or which local refs a pruning fetch deletes. Git has to do so.
-Where it is known to do otherwise, it may also do what is stored. Without a git on the PATH nothing is compared.
+The program, and `git refspec` in a situation, has to answer what is stored: what a fetch writes, or which local refs a pruning
+fetch deletes. Git has to do so. Where it is known to do otherwise, it may also do what is stored, or differ by the kinds that are
+stored. Without a git on the PATH nothing is compared.
 """
 import collections
 import os
@@ -12,15 +13,16 @@ import tempfile
 from concurrent.futures import ThreadPoolExecutor
 
 HERE = os.path.dirname(os.path.abspath(__file__))
-SAMPLE = os.path.join(HERE, "samples", "git-plans.sample")
+SAMPLE, SITUATIONS = [os.path.join(HERE, "samples", name + ".sample") for name in ("git-plans", "situations")]
 sys.dont_write_bytecode = True
 sys.path.insert(0, os.path.join(HERE, os.pardir, "tools", "oracle"))
 import gitfetch
 import gitplans
+import trials
 
 
-def fail(stored, what):
-    sys.exit(f"tests/git-plans.py: the case at line {stored.number} of git-plans.sample: {what}")
+def fail(stored, what, sample=SAMPLE):
+    sys.exit(f"tests/git-plans.py: the case at line {stored.number} of {os.path.basename(sample)}: {what}")
 
 
 def case_of(store, stored):
@@ -58,6 +60,18 @@ def check(store, program, stored):
     return stored.command if alike else "known"
 
 
+def check_situation(tried, stored):
+    """Whether git does in a situation what `git refspec` says."""
+    result = tried.result([line.decode() for line in stored.given], stored.command)
+    answer = [line.encode() for line in trials.answer_of(result.said)]
+    if answer != stored.answer:
+        fail(stored, f"{answer}, not {stored.answer}", SITUATIONS)
+    kinds = None if result.kinds is None else [kind.text for kind in result.kinds]
+    if kinds is None or not set(kinds) <= set(stored.kinds.split(", ")):
+        fail(stored, f"git did {result.done}, which differs by {kinds}, not {stored.kinds!r}", SITUATIONS)
+    return "situation, otherwise" if kinds else "situation"
+
+
 def main():
     if len(sys.argv) != 2:
         sys.exit(__doc__)
@@ -68,10 +82,13 @@ def main():
     with tempfile.TemporaryDirectory() as folder, ThreadPoolExecutor(os.cpu_count()) as pool:
         store = gitfetch.Store(folder)
         counts = collections.Counter(pool.map(lambda stored: check(store, program, stored), lists))
+        tried = trials.Trials(folder, program)
+        counts.update(pool.map(lambda stored: check_situation(tried, stored), gitfetch.stored_lists(SITUATIONS)))
     if not (counts["plan"] and counts["stale"]):
         sys.exit("tests/git-plans.py: git-plans.sample has no fetch that git does as is answered, or no pruning fetch")
     print(f"git-plans: {len(lists)} stored cases: {counts['plan']} fetched by git as refspec plan says, {counts['stale']} pruned"
-          f" as refspec stale says, and {counts['known']} otherwise in known ways")
+          f" as refspec stale says, and {counts['known']} otherwise in known ways; in {counts['situation']} situations"
+          f" git does as git refspec says, and in {counts['situation, otherwise']} otherwise in known ways")
 
 
 main()
