@@ -1,2 +1,3 @@
 -- Examples of the definitions in specs/, each on one side of a border, so that a wrong definition is noticed.
 pub mod LintFacts
+pub mod ConfiguredFacts

@@ -1,4 +1,5 @@
 -- Lemmas on what specs do together.
+pub mod StorableLemmas
 pub mod IndexLemmas
 pub mod ByteLemmas
 pub mod WordLemmas
@@ -16,3 +17,5 @@ pub mod SourceLemmas
 pub mod IdleLemmas
 pub mod IdleSpecLemmas
 pub mod LeftOutLemmas
+pub mod RequiredLemmas
+pub mod MergedLemmas
