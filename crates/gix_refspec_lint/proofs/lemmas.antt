@@ -19,3 +19,8 @@ pub mod IdleSpecLemmas
 pub mod LeftOutLemmas
 pub mod RequiredLemmas
 pub mod MergedLemmas
+pub mod StaleLemmas
+pub mod RemovalLemmas
+pub mod PruneLemmas
+pub mod ExcludedLemmas
+pub mod TrackLemmas

@@ -272,7 +272,7 @@ fn excludes_at(
 }
 
 // Whether a spec maps a source soundly on a remote with this ref alone.
-fn maps_alone<'x>(
+pub(super) fn maps_alone<'x>(
     alloc: Global,
     spec: &RefSpecRef<'_>,
     source: &'x Source,

@@ -256,7 +256,7 @@ pub(super) fn destination_of(
 }
 
 // What a pattern becomes with the word that another one has in a name. `None` if that doesn't match.
-fn with_its_word(
+pub(super) fn with_its_word(
     alloc: Global,
     matching: (&[u8], &[u8]),
     pattern: (&[u8], &[u8]),

@@ -72,7 +72,7 @@ pub(super) fn idle_in(alloc: Global, group: &Group<'_, '_>) -> Result<Vec<IdleSp
 }
 
 // Why a spec is idle. `None` if it isn't, or is negative.
-fn idle_reason(
+pub(super) fn idle_reason(
     alloc: Global,
     group: &Group<'_, '_>,
     index: usize,

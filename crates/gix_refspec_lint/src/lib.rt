@@ -31,6 +31,7 @@ mod group;
 mod idle;
 pub mod laws;
 mod letter;
+pub mod removal;
 mod required;
 mod runs;
 mod sound;

@@ -38,8 +38,8 @@ pub(super) fn words_of(alloc: Global, letter: u8) -> Result<Vec<BString>, AllocE
 // The texts that each name begins and ends with that two patterns match, and in how many bytes these may overlap in one.
 #[derive(Clone, Copy)]
 pub(super) struct Common<'a> {
-    prefix: &'a [u8],
-    suffix: &'a [u8],
+    pub(super) prefix: &'a [u8],
+    pub(super) suffix: &'a [u8],
     most: usize,
 }
 
