@@ -377,8 +377,13 @@ fn finds_idle_specs(rt: HostRuntime) -> Result<(), Fail> {
             "1 as 0, required\n",
         ),
         (
-            "+refs/heads/*:refs/x/* +refs/heads/gone:refs/x/gone heads/gone",
+            "+refs/heads/*:refs/x/* +refs/heads/gone:refs/x/gone refs/heads/gone",
             "1 as 0\n",
+        ),
+        // a partial name may find another ref
+        (
+            "+refs/heads/*:refs/x/* +refs/heads/gone:refs/x/gone heads/gone",
+            "1 as 0, required\n",
         ),
         (
             "+refs/heads/*:refs/x/* +refs/heads/*:refs/x/* +refs/heads/gone:refs/x/gone",
