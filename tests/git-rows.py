@@ -15,6 +15,7 @@ ROOT = os.path.dirname(os.path.dirname(os.path.abspath(__file__)))
 PEOPLE = {f"GIT_{who}_{what}": "a@b" for who in ("AUTHOR", "COMMITTER") for what in ("NAME", "EMAIL")}
 PATTERN = "refs/heads/*:refs/x/*"
 TRACKING = "+refs/heads/*:refs/remotes/origin/*"
+BRANCHES = "+refs/heads/*:refs/x/*"
 
 
 def expect(row, seen, wanted):
@@ -347,6 +348,14 @@ def try_pruning(tried):
     expect("a partial source", seen, [[main], ["-" + main], [main], ["-" + main]])
     local = tried.beside(remote, "refs/heads/main:" + main)
     expect("a full source", [tried.changed(local, *prune)[0] for _ in range(2)], [[main], []])
+    # A destination that isn't below refs/ is pruned only once it is written in full.
+    for destination, pruned in (("side", False), ("refs/heads/side", True)):
+        tried.git(remote, "update-ref", "refs/heads/gone", "HEAD")
+        local = tried.beside(remote, "refs/heads/gone:" + destination)
+        tried.git(local, "fetch", "-q", "origin")
+        tried.git(remote, "update-ref", "-d", "refs/heads/gone")
+        tried.git(local, "remote", "prune", "origin")
+        expect(f"pruning of the destination {destination}", "refs/heads/side" in tried.refs(local), not pruned)
     gone = ["refs/remotes/origin/a", "refs/remotes/origin/b"]
     for values, deleted in (
             ([TRACKING], gone), ([TRACKING, "^refs/heads/b"], gone[:1]), (["refs/heads/a:" + gone[0]], []),
@@ -534,17 +543,113 @@ def try_left_to_git(tried):
         tried.git(local, "symbolic-ref", "refs/x/main", "refs/x/other")
         seen, said = tried.changed(local, "fetch", "--no-tags", "origin", spec, "refs/tags/*:refs/x/*")
         expect(f"a symbolic ref at a destination of {spec}", (seen, "Cannot fetch both" in said), (written, False))
+    # An empty value of branch.<name>.merge.
+    local = tried.beside(remote, settings=[("branch.main.remote", "origin"), ("branch.main.merge", "")])
+    expect("an empty merge ref", tried.fetched(local, "--no-tags")[:2], ([""], []))
+    # HEAD at a ref outside refs/heads/.
+    local = tried.beside(remote)
+    tried.git(local, "symbolic-ref", "HEAD", "refs/x/main")
+    tried.git(local, "commit", "-q", "--allow-empty", "-m", "own")
+    seen, said = tried.changed(local, "fetch", "--no-tags", "origin", "+refs/heads/*:refs/x/*")
+    expect("a checked-out ref that isn't a branch", (seen, "checked-out branch" in said), (["refs/x/dev"], True))
     # An upstream that two remotes write, set before.
     local = tried.beside(remote, TRACKING, settings=[("branch.main.remote", "origin"), ("branch.main.merge", "refs/heads/main"),
                                                      ("remote.two.url", remote), ("remote.two.fetch", TRACKING)])
     tried.git(local, "fetch", "-q", "origin")
     tried.git(local, "reset", "-q", "--hard", "refs/remotes/origin/main")
     expect("an upstream of two remotes", tried.git(local, "rev-parse", "--symbolic-full-name", "@{upstream}"), "refs/remotes/origin/main")
+# What still depends on a value that adds nothing to a fetch: the values, its index, refs here, a call, and what that writes or says
+# with the value and without it.
+REMOVED = [
+    ([BRANCHES, "+refs/heads/gone:refs/x/gone"], 1, [], ["fetch", "--no-tags", "origin"],
+     "couldn't find remote ref refs/heads/gone", ["refs/x/dev", "refs/x/main"]),
+    ([BRANCHES, "+refs/tags/*:refs/x/*", "^refs/tags/*"], 1, ["refs/x/a"], ["fetch", "--no-tags", "--prune", "origin"],
+     ["refs/x/dev", "refs/x/main"], ["-refs/x/a", "refs/x/dev", "refs/x/main"]),
+    (["refs/tags/*:refs/t/*", "heads/*:refs/x/*"], 1, ["refs/x/a"], ["fetch", "--no-tags", "--prune", "origin"],
+     ["-refs/x/a", "refs/t/v1", "refs/t/v1-rc"], ["refs/t/v1", "refs/t/v1-rc"]),
+    (["+refs/heads/main:refs/x/main", "+refs/heads/dev*:refs/x/dev*", "^refs/heads/dev*"], 1, [],
+     ["fetch", "--no-tags", "origin", "dev"], ["refs/x/dev"], []),
+    (["HEAD", "refs/heads/*:a/*"], 1, [], ["fetch", "origin"], ["refs/tags/v1", "refs/tags/v1-rc"], []),
+    (["refs/heads/main", "refs/heads/*:refs/x/*"], 0, [], ["pull", "--no-tags", "origin"],
+     ["refs/heads/main", "refs/x/dev", "refs/x/main"], "you must specify a branch on the command line"),
+    # Nothing does.
+    ([BRANCHES, BRANCHES], 1, ["refs/x/a"], ["fetch", "--no-tags", "--prune", "origin"],
+     ["-refs/x/a", "refs/x/dev", "refs/x/main"], ["-refs/x/a", "refs/x/dev", "refs/x/main"]),
+    (["refs/heads/*:refs/x/*", "+refs/heads/main:refs/x/main"], 1, [], ["fetch", "--no-tags", "origin", "main"],
+     ["refs/x/main"], ["refs/x/main"]),
+]
+# The same of negative values, with other settings, for `git fetch`: what it writes, or the branches in FETCH_HEAD.
+MERGES_DEV = [("branch.main.remote", "origin"), ("branch.main.merge", "refs/heads/dev")]
+EXCLUDED = [
+    (["+refs/heads/main:refs/x/main", "^refs/*-rc"], [("remote.origin.tagOpt", "--tags")],
+     ["refs/tags/v1", "refs/x/main"], ["refs/tags/v1", "refs/tags/v1-rc", "refs/x/main"]),
+    (["+refs/heads/main:refs/x/main", "^refs/heads/dev"], [*MERGES_DEV, ("remote.origin.tagOpt", "--no-tags")],
+     ["refs/x/main"], ["refs/x/main"]),
+    # Tags that are followed are left out in the first step alone, where they may be in conflict.
+    (["+refs/heads/*:refs/tags/*", "^refs/tags/v1"], [], ["refs/tags/dev", "refs/tags/main", "refs/tags/v1", "refs/tags/v1-rc"],
+     "Cannot fetch both refs/heads/v1 and refs/tags/v1"),
+]
+
+
+def try_advice(tried):
+    """What a value does that adds nothing to a fetch, by taking the advice to remove it."""
+    remote = tried.repository(commit=True)
+    for name in ("refs/heads/dev", "refs/tags/v1", "refs/tags/v1-rc"):
+        tried.git(remote, "update-ref", name, "HEAD")
+
+    def expect_of(values, settings, own, words, wanted):
+        local = tried.beside(remote, *values, own=own, settings=settings)
+        if own:
+            tried.git(local, "update-ref", "-d", "refs/heads/main")
+        seen, said = tried.changed(local, *words)
+        expect(f"{words} by {values} {settings}", wanted in said if isinstance(wanted, str) else seen,
+               True if isinstance(wanted, str) else wanted)
+
+    for values, index, own, words, before, after in REMOVED:
+        expect_of(values, [], own, words, before)
+        expect_of(values[:index] + values[index + 1:], [], own, words, after)
+    tried.git(remote, "update-ref", "refs/heads/v1", "HEAD")
+    for values, settings, before, after in EXCLUDED:
+        expect_of(values, settings, [], ["fetch", "origin"], before)
+        expect_of(values[:-1], settings, [], ["fetch", "origin"], after)
+    for values, heads in ((["+refs/heads/main:refs/x/main", "^refs/heads/dev"], ["main"]),
+                          (["+refs/heads/main:refs/x/main"], ["dev", "main"])):
+        local = tried.beside(remote, *values, settings=[*MERGES_DEV, ("remote.origin.tagOpt", "--no-tags")])
+        expect(f"a merged ref by {values}", sorted(tried.fetched(local, "origin")[0]), heads)
+
+
+def try_settings_of_remotes(tried):
+    """What Git does with the settings of remotes that `git refspec check` warns of, or doesn't."""
+    remote, own = tried.repository(commit=True), ["refs/heads/mine", "refs/tags/mine"]
+    on, all_branches = [("fetch.prune", "true")], "+refs/heads/*:refs/heads/*"
+    for values, settings, deleted in (
+            ([], [*on, ("fetch.pruneTags", "true")], own[1:]),
+            ([all_branches, "^refs/heads/*"], on, []), ([all_branches, "^refs/heads/m*"], on, []),
+            ([all_branches, "^refs/heads/t*"], on, own[:1]),
+            ([TRACKING, "^refs/tags/*"], [*on, ("fetch.pruneTags", "true")], [])):
+        local = tried.beside(remote, *values, own=own, settings=settings)
+        tried.git(local, "checkout", "-q", "--detach")
+        tried.git(local, "update-ref", "-d", "refs/heads/main")
+        seen = tried.changed(local, "fetch", "origin")[0]
+        expect(f"pruned by {values} {settings}", [name for name in seen if name[0] == "-"], ["-" + name for name in deleted])
+    # A ref that two remotes write is the upstream of no branch.
+    for ours, theirs, name in (
+            (["+refs/heads/*:refs/x/*", "^refs/heads/t*"], ["+refs/heads/*:refs/x/*", "^refs/heads/t*"], "refs/x/main"),
+            (["+refs/heads/*:refs/x/*", "+refs/tags/*/q:refs/x/a*/q"], ["+refs/heads/*/z:refs/x/ab*/z"], "refs/x/ab/z")):
+        settings = [("remote.p.url", remote), *[("remote.p.fetch", value) for value in theirs]]
+        local = tried.beside(remote, *ours, own=[name], settings=settings)
+        made = tried.run(["git", "branch", "--track", "new", name], local)
+        expect(f"an upstream by {ours} {theirs}", b"ambiguous" in made.stderr, True)
+    tried.git(tried.folder, "init", "-q", "--bare", "added")
+    added = os.path.join(tried.folder, "added")
+    tried.git(added, "remote", "add", "--mirror=fetch", "origin", remote)
+    made = tried.run(["git", "config", "remote.origin.mirror"], added)
+    expect("a mirror that is added", (tried.git(added, "config", "remote.origin.fetch"), made.returncode), ("+refs/*:refs/*", 1))
 
 
 WITH_PROGRAM = (try_texts, try_fetches, try_looks_back, try_prefixes, try_pushes)
 GIT_ALONE = (try_values, try_tags, try_refusals, try_pruning, try_look_ups, try_asking, try_excluding_pushes,
-             try_warnings, try_settings, try_left_to_git)
+             try_warnings, try_settings, try_left_to_git, try_advice, try_settings_of_remotes)
 
 
 def main():

@@ -67,7 +67,7 @@ def differences(program, library, stored):
     conflicts, idle, idle_negative = lint.brute(group, planner.kept_validly)
     if set(found.conflicts) != conflicts or found.idle != idle:
         return f"the library makes the conflicts {conflicts} and the idle specs {idle}"
-    silent = {index for index in idle_negative if index in found.no_branch or group[index][1].startswith("refs/tags/")}
+    silent = {index for index in idle_negative if warned.is_silent(found, group, index)}
     if idle_negative - silent != found.idle_negative - silent or found.idle_negative - idle_negative:
         return f"the library makes the idle negative specs {idle_negative}"
     return None

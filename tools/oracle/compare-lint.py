@@ -6,7 +6,7 @@
 For random groups of fetch specs it takes the warnings on conflicts and idle specs from the JSON of the program. Brute force,
 of lint.py, tries all lists of one and two refs over a small alphabet. No conflict may be missed, each example has to
 conflict, and exactly the specs that never do anything have to be called idle, each for its reason. Negative specs that
-exclude nothing have no such warning if they are below `refs/tags/`, or have the warning that they exclude no branch. Prints
+exclude nothing have no such warning if they may exclude a tag, or have the warning that they exclude no branch. Prints
 counts by kind.
 
 With --samples FOLDER it writes lint.sample for tests/lint.py: the shortest group of each class, by its warnings and its kinds
@@ -67,7 +67,7 @@ def differences(program, group):
         wrong.append(("conflicts", set(found.conflicts), conflicts))
     if found.idle != idle:
         wrong.append(("idle specs", found.idle, idle))
-    silent = {index for index in idle_negative if index in found.no_branch or group[index][1].startswith("refs/tags/")}
+    silent = {index for index in idle_negative if warned.is_silent(found, group, index)}
     if found.idle_negative - idle_negative or idle_negative - silent - found.idle_negative:
         wrong.append(("idle negative specs", found.idle_negative, idle_negative))
     return wrong, counts, warned.lines_of(found)

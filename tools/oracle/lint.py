@@ -3,7 +3,9 @@
 
 For random groups of specs it asks the procedure which specs can conflict, and which are idle, and tries all lists of one and
 two refs over a small alphabet, and for idle specs those with up to three other candidates of partial names. Nothing printed but
-counts: no difference. Each example of a conflict is mapped too.
+counts: no difference. Each example of a conflict is mapped too. No list has a ref and another one in a directory of its name
+where conflicts are looked for. Some groups have merged refs, or all tags are asked for. Of an idle spec it also asks which
+earlier one maps all that it fetches, and whether a fetch needs its source.
 
 A spec is (negative, source, destination or None); texts are str. Mapping is that of a plan of configured specs: destinations
 completed as git-fetch does, mappings with an invalid side left out, equal mappings of earlier specs dropped, sources of negative
@@ -59,6 +61,20 @@ def fill(p, w):
 def completed(spec):
     neg, s, d = spec
     return (neg, s, d if d is None or "*" in d else written_name(d))
+
+ALL_TAGS = (False, "refs/tags/*", "refs/tags/*")
+
+def asked(g, tags):
+    """The specs that a fetch applies: those of all tags behind the values."""
+    return g + [ALL_TAGS] if tags else g
+
+def merged_refs(merges):
+    """The refs that a fetch may take for merged ones."""
+    return [n for value in merges for n in candidates(value or "HEAD") if is_ref_name(n)]
+
+def can_stand_together(refs):
+    """Whether a repository can have refs of these names."""
+    return not any(other.startswith(one + "/") for one in refs for other in refs)
 
 def makes(spec, refs):
     """The pairs that a completed positive spec makes of the refs: (source, destination); ids are ('id', hex)."""
@@ -167,7 +183,8 @@ def conflict_of(g, i, j, z):
         for s in sources_for(x, d):
             for t in sources_for(y, d):
                 if s != t and sound((s, d)) and sound((t, d)) and not excluded(g, s) and not excluded(g, t) \
-                        and takes(x, s, t) and takes(y, t, s):
+                        and takes(x, s, t) and takes(y, t, s) \
+                        and can_stand_together([n for k, n in (s, t) if k == "name"]):
                     return (s, t, d)
     return None
 
@@ -229,8 +246,28 @@ def idle_reason(g, i, z):
         return None
     return reason
 
-def idle_negative(g, k, z):
+def covers(g, h, i, z):
+    """Whether the spec at h maps all that the one at i fetches."""
+    return not g[h][0] and all(always_makes(g[h], g[i], pair) for pair in own_pairs(g[i], z)
+                               if sound(pair) and not excluded(g, pair[0]))
+
+def named(x):
+    """The valid refs that the source of a positive spec names. None if it is never missing."""
+    if x[0] or kind(x[1]) in ("pattern", "object"):
+        return None
+    names = [x[1]] if kind(x[1]) == "full" else candidates(x[1])
+    return {n for n in names if is_ref_name(n)}
+
+def is_required(g, i):
+    """Whether some remote lacks the source of a spec, and of no other."""
+    own = named(g[i])
+    others = [named(x) for j, x in enumerate(g) if j != i]
+    return own is not None and all(names is None or names - own for names in others)
+
+def idle_negative(g, k, z, merges=()):
     text = g[k][1]
+    if any(excludes(g[k], n) for n in merged_refs(merges)):
+        return False
     for x in g:
         if x[0]:
             continue
@@ -323,9 +360,10 @@ def kept_validly(g, refs):
     """The kept mappings whose sides are valid."""
     return [m for m in kept(g, refs) if sound(m[1:])]
 
-def brute(g, kept_validly=kept_validly):
+def brute(g, kept_validly=kept_validly, merges=(), tags=False):
     """The pairs of specs that can conflict, the idle specs with their reasons, and the idle negative specs, by trying lists of
     refs with what gives the valid kept mappings (spec, source, destination) of a group over refs."""
+    values, g = g, asked(g, tags)
     names = sorted(set(universe(g)) | witnesses(g))
     pos = [i for i, x in enumerate(g) if not x[0]]
     negatives = [x for x in g if x[0]]
@@ -345,6 +383,8 @@ def brute(g, kept_validly=kept_validly):
             if s == t or (min(i, j), max(i, j)) in conflicts:
                 continue
             refs = [x[1] for x in (s, t) if x[0] == "name"]
+            if not can_stand_together(refs):
+                continue
             if (0, s, d) in kept_validly([g[i]], refs) and (0, t, d) in kept_validly([g[j]], refs):
                 assert i != j
                 conflicts.add((min(i, j), max(i, j)))
@@ -352,13 +392,39 @@ def brute(g, kept_validly=kept_validly):
     extra = sorted({c for x in g if not x[0] and kind(x[1]) == "partial" for c in candidates(x[1]) if is_ref_name(c)})
     idle = {}
     for i in pos:
-        if not any(is_at_work(g, i, pair, extra, kept_validly) for pair in free[i]):
+        if i < len(values) and not any(is_at_work(g, i, pair, extra, kept_validly) for pair in free[i]):
             idle[i] = "invalid" if not can[i] else "excluded" if not free[i] else "duplicate"
     idle_neg = set()
     for k, x in enumerate(g):
-        if x[0] and all(kept_validly([g[i], x], refs) for i in pos for _, refs in can[i]):
+        if x[0] and all(kept_validly([g[i], x], refs) for i in pos for _, refs in can[i]) \
+                and not any(excludes(x, n) for n in merged_refs(merges)):
             idle_neg.add(k)
     return conflicts, idle, idle_neg
+
+def brute_covering(g, i):
+    """The first earlier spec that alone maps all that an idle one fetches, or None, by trying lists of refs."""
+    negatives = [x for x in g if x[0]]
+    extra = sorted({c for x in g if not x[0] and kind(x[1]) == "partial" for c in candidates(x[1]) if is_ref_name(c)})
+    names = sorted(set(universe(g)) | witnesses(g))
+    lists = [[]] if kind(g[i][1]) == "object" else [[n] for n in names]
+    pairs = [m[1:] for refs in lists for m in kept_validly([g[i]] + negatives, refs)]
+    for h in range(i):
+        if not g[h][0] and not any(is_at_work([g[h], g[i]] + negatives, 1, pair, extra, kept_validly) for pair in pairs):
+            return h
+    return None
+
+def lacks(x, refs):
+    """Whether no ref has the source of a positive spec that names one."""
+    names = named(x)
+    return names is not None and not names & set(refs)
+
+def brute_required(g, i):
+    """Whether some list of one candidate of each other spec lacks the source of this one alone."""
+    if named(g[i]) is None:
+        return False
+    others = [x for j, x in enumerate(g) if j != i]
+    choices = [sorted(named(x)) or [None] for x in others if named(x) is not None]
+    return any(lacks(g[i], refs) and not any(lacks(x, refs) for x in others) for refs in itertools.product(*choices))
 
 def is_at_work(g, i, pair, extra, kept_validly):
     """Whether a spec maps a pair in a list of its source and up to three more refs."""
@@ -366,7 +432,8 @@ def is_at_work(g, i, pair, extra, kept_validly):
     return any((i, *pair) in kept_validly(g, list(dict.fromkeys(source + list(more))))
                for k in range(min(len(extra), 3) + 1) for more in itertools.combinations(extra, k))
 
-def procedure(g, z="c"):
+def procedure(g, z="c", merges=(), tags=False):
+    values, g = g, asked(g, tags)
     n = len(g)
     conflicts = {}
     for i in range(n):
@@ -375,8 +442,8 @@ def procedure(g, z="c"):
                 c = conflict_of(g, i, j, z)
                 if c:
                     conflicts[(i, j)] = c
-    idle = {i: r for i in range(n) if not g[i][0] for r in [idle_reason(g, i, z)] if r}
-    idle_neg = {k for k in range(n) if g[k][0] and idle_negative(g, k, z)}
+    idle = {i: r for i in range(len(values)) if not g[i][0] for r in [idle_reason(g, i, z)] if r}
+    idle_neg = {k for k in range(n) if g[k][0] and idle_negative(g, k, z, merges)}
     return conflicts, idle, idle_neg
 
 # ---- random groups
@@ -477,17 +544,30 @@ def main(count, seed):
     c = collections.Counter()
     for k in range(count):
         g = rnd_group(r)
-        pc, pi, pn = procedure(g)
-        bc, bi, bn = brute(g)
+        merges = [rnd_name(r) if r.random() < 0.9 else "" for _ in range(r.randrange(3))] if r.random() < 0.3 else []
+        tags = r.random() < 0.2
+        pc, pi, pn = procedure(g, merges=merges, tags=tags)
+        bc, bi, bn = brute(g, merges=merges, tags=tags)
         c["groups"] += 1
         c["conflicts"] += len(bc); c["groups with conflicts"] += bool(bc)
         for v in bi.values(): c["idle " + v] += 1
         c["idle negative"] += len(bn)
         c["positive"] += sum(not x[0] for x in g); c["negative"] += sum(x[0] for x in g)
+        for i, reason in bi.items():
+            if reason == "duplicate":
+                one = next((h for h in range(i) if covers(g, h, i, "c")), None)
+                c["idle by several"] += one is None
+                if one != brute_covering(g, i):
+                    print("COVERING", g, i, "procedure", one, "brute", brute_covering(g, i)); c["bad"] += 1
+            c["idle, required"] += is_required(g, i)
+            if is_required(g, i) != brute_required(g, i):
+                print("REQUIRED", g, i, "procedure", is_required(g, i)); c["bad"] += 1
         for (i, j), (s, t, d) in pc.items():
             refs = [x[1] for x in (s, t) if x[0] == "name"]
-            ks = {(m[1], m[2]) for m in kept(g, refs)}
-            ok = (s, d) in ks and (t, d) in ks and s != t and (s, d) in makes(g[i], refs) and (t, d) in makes(g[j], refs)
+            whole = asked(g, tags)
+            ks = {(m[1], m[2]) for m in kept(whole, refs)}
+            ok = (s, d) in ks and (t, d) in ks and s != t and (s, d) in makes(whole[i], refs) and (t, d) in makes(whole[j], refs)
+            ok = ok and can_stand_together(refs)
             if not ok: print("BAD EXAMPLE", g, (i, j), (s, t, d)); c["bad"] += 1
         if set(pc) != bc:
             print("CONFLICTS", g, "procedure", pc, "brute", bc); c["bad"] += 1

@@ -49,6 +49,14 @@ def warned(program, texts):
     return found
 
 
+def is_silent(found, group, index):
+    """Whether an idle negative spec of a group has no warning of its own: it has another one, or may exclude a tag, as a fetch may
+    follow tags."""
+    prefix, star, _ = group[index][1].partition("*")
+    takes_tags = prefix.startswith("refs/tags/") or bool(star) and "refs/tags/".startswith(prefix)
+    return index in found.no_branch or takes_tags
+
+
 def lines_of(found):
     """The warnings as lines of a sample, with specs counted from 1."""
     lines = [f"conflict {one + 1} {other + 1}" for one, other in sorted(found.conflicts)]

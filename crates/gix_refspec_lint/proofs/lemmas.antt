@@ -1,4 +1,5 @@
 -- Lemmas on what specs do together.
+pub mod StorableLemmas
 pub mod IndexLemmas
 pub mod ByteLemmas
 pub mod WordLemmas
@@ -16,3 +17,10 @@ pub mod SourceLemmas
 pub mod IdleLemmas
 pub mod IdleSpecLemmas
 pub mod LeftOutLemmas
+pub mod RequiredLemmas
+pub mod MergedLemmas
+pub mod StaleLemmas
+pub mod RemovalLemmas
+pub mod PruneLemmas
+pub mod ExcludedLemmas
+pub mod TrackLemmas

@@ -4,3 +4,4 @@ pub mod Overlaps
 pub mod Lints
 pub mod Idles
 pub mod Runs
+pub mod Removals

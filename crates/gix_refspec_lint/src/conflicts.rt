@@ -18,7 +18,9 @@ ghost use Rattle.gix_refspec_lint.specs.Private.Runs.{Fails, IsNotFetched, IsTri
 ghost use Rattle.gix_refspec_lint.specs.Views.Lint.{example_of};
 
 use super::PossibleConflict;
-use super::group::{Group, add_item, any_target, makes, same_source, source_of, sources_for};
+use super::group::{
+    Group, add_item, any_target, can_stand_together, makes, same_source, source_of, sources_for,
+};
 use super::runs::{Of, Run, Why};
 use super::words::Common;
 use bstr::{BStr, BString};
@@ -37,6 +39,7 @@ type Parts<'g> = Option<(&'g [u8], &'g [u8])>;
 pub(super) fn conflicts_in(
     alloc: Global,
     group: &Group<'_, '_>,
+    words: &[BStr<'_>],
 ) -> Result<Vec<PossibleConflict>, AllocError>
     ensures { (g : List Reading) → IsGroupOf g group.now → IfOk result (λ found.
         AreExamples g (map example_of found.items)) }
@@ -44,7 +47,7 @@ pub(super) fn conflicts_in(
     let parts = parts_in(alloc, group.specs)?;
     let mut found = Vec::new(alloc);
     for first in 0..group.specs.len() {
-        let mut of_first = conflicts_with(alloc, group, parts.as_slice(), first)?;
+        let mut of_first = conflicts_with(alloc, group, words, parts.as_slice(), first)?;
         found.append(&mut of_first)?;
     }
     Ok(found)
@@ -65,6 +68,7 @@ fn parts_in<'g>(alloc: Global, specs: &[RefSpecRef<'g>]) -> Result<Vec<Parts<'g>
 fn conflicts_with(
     alloc: Global,
     group: &Group<'_, '_>,
+    words: &[BStr<'_>],
     parts: &[Parts<'_>],
     first: usize,
 ) -> Result<Vec<PossibleConflict>, AllocError>
@@ -75,7 +79,7 @@ fn conflicts_with(
     let mut found = Vec::new(alloc);
     for second in 0..group.specs.len() {
         if first < second {
-            if let Some(conflict) = conflict_between(alloc, group, parts, first, second)? {
+            if let Some(conflict) = conflict_between(alloc, group, words, parts, first, second)? {
                 found.push(conflict)?;
             }
         }
@@ -87,6 +91,7 @@ fn conflicts_with(
 fn conflict_between(
     alloc: Global,
     group: &Group<'_, '_>,
+    words: &[BStr<'_>],
     parts: &[Parts<'_>],
     first: usize,
     second: usize,
@@ -116,7 +121,7 @@ fn conflict_between(
                 if have_same_sides(&group.specs[first], &group.specs[second]) {
                     return Ok(None);
                 }
-                conflict_among(alloc, group, first, second, &common)
+                conflict_among(alloc, group, words, first, second, &common)
             }
         },
     }
@@ -130,10 +135,11 @@ fn have_same_sides(one: &RefSpecRef<'_>, other: &RefSpecRef<'_>) -> bool
     one.source() == other.source() && one.destination() == other.destination()
 }
 
-// The same of two patterns: at one of the names that decide.
+// The same of two patterns: with one of the words to try first, or at one of the names that decide.
 fn conflict_among(
     alloc: Global,
     group: &Group<'_, '_>,
+    words: &[BStr<'_>],
     first: usize,
     second: usize,
     common: &Common<'_>,
@@ -142,6 +148,12 @@ fn conflict_among(
     ensures { (g : List Reading) → IsGroupOf g group.now → HaveCommon group.now first second common.now →
         IfOk result (λ found. IsFound g first second (option_map example_of found)) }
 {
+    for word in words {
+        let name = common.with_text(alloc, word.as_bytes())?;
+        if let Some(conflict) = conflict_at(alloc, group, first, second, name.as_bstr())? {
+            return Ok(Some(conflict));
+        }
+    }
     for word in &group.words {
         let name = common.with_word(alloc, word)?;
         if let Some(conflict) = conflict_at(alloc, group, first, second, name.as_bstr())? {
@@ -327,6 +339,9 @@ fn do_conflict<'x>(
         (start_of one.now) (start_of other.now) (bstr_bytes destination.entry)) }
 {
     if same_source(one, other) {
+        return Ok(false);
+    }
+    if !can_stand_together(one, other) {
         return Ok(false);
     }
     if !is_fetched(group, one) {

@@ -1,23 +1,25 @@
 //! Negative specs that exclude nothing.
 
-ghost use Rattle.std.specs.Prelude.{◌≡◌, ◌↔◌, ◌≤◌, ◌∷◌, ◌++◌, [], List, ℕ, Option, Some, drop, map, option_map, IfOk, IsTrue, MatchBool};
+ghost use Rattle.std.specs.Prelude.{◌≡◌, ◌↔◌, ◌≤◌, ◌∷◌, ◌++◌, [], List, ℕ, Option, Some, drop, map, option_map, IfOk, IsTrue, MatchBool, OnOk};
+ghost use Rattle.bstr.specs.BStr.{bstr_bytes};
 ghost use Rattle.bstr.specs.Owned.{bstring_bytes};
 ghost use Rattle.std.specs.List.{Any};
 ghost use Rattle.gix_refspec_text.specs.Specs.Reading.{Reading, Negative};
 ghost use Rattle.gix_refspec_text.specs.Views.Spec.{reading_of};
 ghost use Rattle.gix_refspec_match.specs.Matching.Mappings.{IsSourceExcluded, name};
 ghost use Rattle.gix_refspec_match.specs.Views.Mapping.{start_of};
-ghost use Rattle.gix_refspec_lint.specs.Matching.Lint.{AreIdleExclusions, IsIdleExclusion, refs_of};
-ghost use Rattle.gix_refspec_lint.specs.Private.Idles.{ExcludesFrom, ExcludesSome, HasPlainSource, MakesSoundly, ShareSources};
+ghost use Rattle.gix_refspec_lint.specs.Matching.Lint.{AreIdleExclusions, IsIdleExclusion, merged_text, refs_of};
+ghost use Rattle.gix_refspec_lint.specs.Private.Idles.{AddsMergedRefs, AreMergedRefs, ExcludesFrom, ExcludesSome, HasPlainSource, MakesSoundly, ShareSources};
 ghost use Rattle.gix_refspec_lint.specs.Private.Lints.{IsBounded, IsGroupOf};
 ghost use Rattle.gix_refspec_lint.specs.Private.Overlaps.{IsOverlap};
 ghost use Rattle.gix_refspec_lint.specs.Private.Runs.{IsUnsound};
 
 use super::group::{Group, add_item, any_target, destination_of, named_sources, source_named};
+use super::required::valid_names;
 use super::runs::{Of, Run, Why};
 use super::sound::sound_mapping;
 use super::words::Common;
-use bstr::BString;
+use bstr::{BStr, BString};
 use gix_refspec::match_group::ref_names::is_ref_name;
 use gix_refspec::match_group::{Source, SourceRef};
 use gix_refspec_match::needle::word_between;
@@ -25,35 +27,90 @@ use gix_refspec_plan::mapped::is_below_refs;
 use gix_refspec_plan::stale::parts_of;
 use gix_refspec_text::RefSpecRef;
 use gix_refspec_text::oid::ObjectId;
+use gix_refspec_text::side::candidates;
 use std::alloc::{AllocError, Global};
 
 // The indexes of the negative specs that exclude nothing, in order.
 pub(super) fn idle_exclusions_in(
     alloc: Global,
     group: &Group<'_, '_>,
+    merges: &[BStr<'_>],
 ) -> Result<Vec<usize>, AllocError>
     ensures { (g : List Reading) → IsGroupOf g group.now → IfOk result (λ idle.
-        AreIdleExclusions g idle.items) }
+        AreIdleExclusions g (map bstr_bytes merges.now) idle.items) }
 {
+    let merged = merged_refs(alloc, merges)?;
     let mut idle = Vec::new(alloc);
     for (index, spec) in group.specs.iter().enumerate() {
-        if is_idle(alloc, group, spec)? {
+        if is_idle(alloc, group, merged.as_slice(), spec)? {
             idle.push(index)?;
         }
     }
     Ok(idle)
 }
 
-// Whether a spec is negative and excludes nothing.
-fn is_idle(alloc: Global, group: &Group<'_, '_>, spec: &RefSpecRef<'_>) -> Result<bool, AllocError>
-    ensures { (g : List Reading) → IsGroupOf g group.now → IfOk result (λ is. MatchBool is
-        (IsIdleExclusion g (reading_of spec.now)) (¬ (IsIdleExclusion g (reading_of spec.now)))) }
+// The refs that a fetch may take for merged ones: the valid candidates of each value, of an empty one those of `HEAD`.
+fn merged_refs(alloc: Global, merges: &[BStr<'_>]) -> Result<Vec<Source>, AllocError>
+    ensures { IfOk result (λ merged. AreMergedRefs (map bstr_bytes merges.now) (map start_of merged.items)) }
+{
+    let mut merged = Vec::new(alloc);
+    for value in merges {
+        add_merged(alloc, &mut merged, value.as_bytes())?;
+    }
+    Ok(merged)
+}
+
+// Adds those of one value.
+fn add_merged(alloc: Global, merged: &mut Vec<Source>, value: &[u8]) -> Result<(), AllocError>
+    ensures { OnOk result (AddsMergedRefs value.now (map start_of merged.old.items) (map start_of merged.new.items)) }
+{
+    for name in valid_names(alloc, candidates(alloc, merged_text(value))?)? {
+        merged.push(source_named(name))?;
+    }
+    Ok(())
+}
+
+// The ref that a value names.
+fn merged_text(value: &[u8]) -> &[u8]
+    ensures { result.now ≡ merged_text value.now }
+{
+    if value.is_empty() { b"HEAD" } else { value }
+}
+
+// Whether a spec is negative and excludes nothing, nor one of the merged refs.
+fn is_idle(
+    alloc: Global,
+    group: &Group<'_, '_>,
+    merged: &[Source],
+    spec: &RefSpecRef<'_>,
+) -> Result<bool, AllocError>
+    ensures { (g : List Reading) (merges : List (List ℕ)) → IsGroupOf g group.now →
+        AreMergedRefs merges (map start_of merged.now) → IfOk result (λ is. MatchBool is
+        (IsIdleExclusion g merges (reading_of spec.now)) (¬ (IsIdleExclusion g merges (reading_of spec.now)))) }
 {
     if !spec.is_negative() {
         return Ok(false);
     }
+    if excludes_merged(spec, merged) {
+        return Ok(false);
+    }
     let excludes = excludes_any(alloc, group, spec)?;
     Ok(!excludes)
+}
+
+// Whether a negative spec excludes one of these refs.
+fn excludes_merged(negative: &RefSpecRef<'_>, merged: &[Source]) -> bool
+    requires { (reading_of negative.now).mode ≡ Negative }
+    ensures { MatchBool result
+        (Any (IsSourceExcluded (reading_of negative.now ∷ [])) (map start_of merged.now))
+        (¬ (Any (IsSourceExcluded (reading_of negative.now ∷ [])) (map start_of merged.now))) }
+{
+    for source in merged {
+        if does_exclude(negative, source) {
+            return true;
+        }
+    }
+    false
 }
 
 // Whether a negative spec excludes a source of a sound mapping.
@@ -215,7 +272,7 @@ fn excludes_at(
 }
 
 // Whether a spec maps a source soundly on a remote with this ref alone.
-fn maps_alone<'x>(
+pub(super) fn maps_alone<'x>(
     alloc: Global,
     spec: &RefSpecRef<'_>,
     source: &'x Source,

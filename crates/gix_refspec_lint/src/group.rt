@@ -1,6 +1,6 @@
 //! The specs of a group, and what one of them maps.
 
-ghost use Rattle.std.specs.Prelude.{◌≡◌, ◌↔◌, ◌++◌, List, ℕ, Option, Some, map, option_map, IfOk, IfSome, IsTrue, MatchOption, OnOk};
+ghost use Rattle.std.specs.Prelude.{◌≡◌, ◌↔◌, ◌++◌, ◌∷◌, [], List, ℕ, Option, Some, map, option_map, IfOk, IfSome, IsTrue, MatchBool, MatchOption, OnOk};
 ghost use Rattle.std.specs.List.{Contains};
 ghost use Rattle.bstr.specs.BStr.{bstr_bytes};
 ghost use Rattle.bstr.specs.Owned.{bstring_bytes};
@@ -13,8 +13,9 @@ ghost use Rattle.gix_refspec_match.specs.Matching.Mappings.{IsSamePair, Source, 
 ghost use Rattle.gix_refspec_match.specs.Views.Mapping.{mapped_of, name_bytes, ref_of, start_of};
 ghost use Rattle.gix_refspec.specs.Laws.Items.{HaveSameNames};
 ghost use Rattle.gix_refspec.specs.Laws.Matching.{MakesForward};
-ghost use Rattle.gix_refspec_lint.specs.Matching.Lint.{refs_of};
+ghost use Rattle.gix_refspec_lint.specs.Matching.Lint.{AreStorable, IsDirectoryOf, refs_of};
 ghost use Rattle.gix_refspec_plan.specs.Matching.Plan.{IsCompleted};
+ghost use Rattle.gix_refspec_plan.specs.Matching.Stale.{ref_named};
 ghost use Rattle.gix_refspec_lint.specs.Private.Lints.{HasSourcesOf, pair_of};
 ghost use Rattle.gix_refspec_lint.specs.Private.Runs.{ArePaired};
 
@@ -136,6 +137,45 @@ pub(super) fn same_source(one: &SourceRef<'_>, other: &SourceRef<'_>) -> bool
     one == other
 }
 
+// Whether a repository can have both sources: neither is a directory of the other.
+pub(super) fn can_stand_together(one: &Source, other: &Source) -> bool
+    ensures { MatchBool result
+        (AreStorable (refs_of (start_of one.now) ++ refs_of (start_of other.now)))
+        (¬ (AreStorable (refs_of (start_of one.now) ++ refs_of (start_of other.now)))) }
+{
+    match one {
+        SourceRef::ObjectId(_) => true,
+        SourceRef::FullName(one) => match other {
+            SourceRef::ObjectId(_) => true,
+            SourceRef::FullName(other) => {
+                names_can_stand_together(one.as_bstr().as_bytes(), other.as_bstr().as_bytes())
+            }
+        },
+    }
+}
+
+// The same of two names.
+fn names_can_stand_together(one: &[u8], other: &[u8]) -> bool
+    ensures { MatchBool result
+        (AreStorable (ref_named one.now ∷ ref_named other.now ∷ []))
+        (¬ (AreStorable (ref_named one.now ∷ ref_named other.now ∷ []))) }
+{
+    if is_directory_of(one, other) {
+        return false;
+    }
+    !is_directory_of(other, one)
+}
+
+// Whether a name is that of a directory which another name is in.
+pub(super) fn is_directory_of(directory: &[u8], name: &[u8]) -> bool
+    ensures { IsTrue result ↔ IsDirectoryOf directory.now name.now }
+{
+    match name.strip_prefix(directory) {
+        None => false,
+        Some(rest) => rest.starts_with(b"/"),
+    }
+}
+
 // Whether two destinations are the same, or both are missing.
 fn same_name(one: &Option<NameRef<'_>>, other: Option<BStr<'_>>) -> bool
     ensures { IsTrue result ↔ (option_map name_bytes one.now ≡ option_map bstr_bytes other.entry) }
@@ -216,7 +256,7 @@ pub(super) fn destination_of(
 }
 
 // What a pattern becomes with the word that another one has in a name. `None` if that doesn't match.
-fn with_its_word(
+pub(super) fn with_its_word(
     alloc: Global,
     matching: (&[u8], &[u8]),
     pattern: (&[u8], &[u8]),

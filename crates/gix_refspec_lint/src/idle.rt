@@ -1,6 +1,6 @@
 //! Specs that never do anything.
 
-ghost use Rattle.std.specs.Prelude.{◌≡◌, ◌↔◌, ◌⊎◌, ◌++◌, ◌<◌, List, ℕ, Option, Some, length, map, option_map, IfOk, IsTrue, MatchBool, MatchOption, OnOk};
+ghost use Rattle.std.specs.Prelude.{◌≡◌, ◌↔◌, ◌⊎◌, ◌++◌, ◌<◌, ◌≤◌, List, ℕ, Option, Some, length, map, option_map, IfOk, IsTrue, MatchBool, MatchOption, OnOk};
 ghost use Rattle.std.specs.List.{Contains, slice_get};
 ghost use Rattle.bstr.specs.BStr.{bstr_bytes};
 ghost use Rattle.bstr.specs.Owned.{bstring_bytes};
@@ -10,17 +10,18 @@ ghost use Rattle.gix_refspec_text.specs.Matching.Match.{Ref};
 ghost use Rattle.gix_refspec_text.specs.Views.Spec.{reading_of};
 ghost use Rattle.gix_refspec_match.specs.Matching.Mappings.{Source, name};
 ghost use Rattle.gix_refspec_match.specs.Views.Mapping.{ref_of, start_of};
-ghost use Rattle.gix_refspec_lint.specs.declared.Reason.TheVariants as reason;
+ghost use Rattle.gix_refspec_lint.specs.declared.idle.Others.{Others};
 ghost use Rattle.gix_refspec.specs.Laws.Items.{HaveSameNames};
 ghost use Rattle.gix_refspec.specs.Laws.Matching.{MakesForward};
 ghost use Rattle.gix_refspec_lint.specs.Matching.Lint.{AreIdle, Maps};
 ghost use Rattle.gix_refspec.specs.Matching.RefNames.{IsRefName};
 ghost use Rattle.gix_refspec_plan.specs.Matching.Stale.{ref_named};
-ghost use Rattle.gix_refspec_lint.specs.Private.Idles.{AreAllowed, AreFreeing, ArePreferred, AreTriedBefore, Explains, HasPlainSource, HasSourcePattern, IsReasonOf, IsShown, IsWhy, IsWhyAt};
+ghost use Rattle.gix_refspec_lint.specs.Private.Idles.{AreAllowed, AreFreeing, ArePreferred, AreTriedBefore, Explains, HasPlainSource, HasSourcePattern, IsCovering, IsOther, IsReasonOf, IsShown, IsWhy, IsWhyAt, IsWhyBeside};
 ghost use Rattle.gix_refspec_lint.specs.Private.Lints.{IsGroupOf};
 ghost use Rattle.gix_refspec_lint.specs.Views.Lint.{unused_of};
 
 use super::group::{Group, add_item, any_target, makes, name_of, named_sources, source_named};
+use super::required::{contains, is_required};
 use super::sound::sound_mapping;
 use super::{IdleSpec, Reason};
 use bstr::{BStr, BString};
@@ -33,6 +34,24 @@ use gix_refspec_text::oid::ObjectId;
 use gix_refspec_text::side::{SideKind, candidates, joined, kind_of};
 use std::alloc::{AllocError, Global};
 
+// Which specs a spec is compared with: those from an index on, before another one.
+#[derive(Clone, Copy)]
+pub(super) struct Others {
+    pub(super) from: usize,
+    pub(super) to: usize,
+}
+
+// Why a spec maps nothing of its own.
+#[derive(Clone, Copy)]
+pub(super) enum Idleness {
+    // Each mapping has an invalid side.
+    Invalid,
+    // Negative specs exclude each source of a valid mapping: the one at this index does one.
+    Excluded(usize),
+    // The others map each source that isn't excluded to the same destination: the one at this index does one.
+    Duplicate(usize),
+}
+
 // The positive specs that are idle, in order.
 pub(super) fn idle_in(alloc: Global, group: &Group<'_, '_>) -> Result<Vec<IdleSpec>, AllocError>
     ensures { (g : List Reading) → IsGroupOf g group.now → IfOk result (λ idle.
@@ -40,16 +59,20 @@ pub(super) fn idle_in(alloc: Global, group: &Group<'_, '_>) -> Result<Vec<IdleSp
 {
     let mut idle = Vec::new(alloc);
     for spec_index in 0..group.specs.len() {
-        match idle_reason(alloc, group, spec_index)? {
-            None => {}
-            Some(reason) => idle.push(IdleSpec { spec_index, reason })?,
+        if let Some(reason) = idle_reason(alloc, group, spec_index)? {
+            let is_required = is_required(alloc, group.specs, spec_index)?;
+            idle.push(IdleSpec {
+                spec_index,
+                reason,
+                is_required,
+            })?;
         }
     }
     Ok(idle)
 }
 
 // Why a spec is idle. `None` if it isn't, or is negative.
-fn idle_reason(
+pub(super) fn idle_reason(
     alloc: Global,
     group: &Group<'_, '_>,
     index: usize,
@@ -58,13 +81,56 @@ fn idle_reason(
     ensures { (g : List Reading) → IsGroupOf g group.now → IfOk result (λ why. (c : Reading) →
         slice_get (map reading_of group.now.specs.now) index ≡ Some c → IsReasonOf g index c why) }
 {
+    let earlier = Others { from: 0, to: index };
+    let Some(why) = idle_beside_others(alloc, group, index, earlier)? else {
+        return Ok(None);
+    };
+    match why {
+        Idleness::Invalid => Ok(Some(Reason::Invalid)),
+        Idleness::Excluded(spec) => Ok(Some(Reason::Excluded(spec))),
+        Idleness::Duplicate(_) => match covering(alloc, group, index)? {
+            None => Ok(Some(Reason::Duplicates)),
+            Some(spec) => Ok(Some(Reason::Duplicate(spec))),
+        },
+    }
+}
+
+// The first of the earlier specs that maps all by itself that a spec fetches.
+fn covering(alloc: Global, group: &Group<'_, '_>, index: usize) -> Result<Option<usize>, AllocError>
+    requires { index < length group.now.specs.now }
+    ensures { (g : List Reading) → IsGroupOf g group.now → IfOk result (λ found. (c : Reading) →
+        slice_get (map reading_of group.now.specs.now) index ≡ Some c → IsPositive c.mode → IsCovering g index found) }
+{
+    for at in 0..index {
+        let alone = Others {
+            from: at,
+            to: at + 1,
+        };
+        if idle_beside_others(alloc, group, index, alone)?.is_some() {
+            return Ok(Some(at));
+        }
+    }
+    Ok(None)
+}
+
+// Why a spec maps nothing that others don't. `None` if it does, or is negative.
+fn idle_beside_others(
+    alloc: Global,
+    group: &Group<'_, '_>,
+    index: usize,
+    others: Others,
+) -> Result<Option<Idleness>, AllocError>
+    requires { (index < length group.now.specs.now) × (others.to ≤ length group.now.specs.now) }
+    ensures { (g : List Reading) → IsGroupOf g group.now → IfOk result (λ why. (c : Reading) →
+        slice_get (map reading_of group.now.specs.now) index ≡ Some c → IsWhyBeside g others index c why) }
+{
     let spec = &group.specs[index];
     if spec.is_negative() {
         return Ok(None);
     }
     match parts_of(spec.source()) {
-        None => idle_by_sources(alloc, group, index),
-        Some((prefix, suffix)) => idle_by_words(alloc, group, index, prefix, suffix),
+        None => idle_by_sources(alloc, group, index, others),
+        Some((prefix, suffix)) => idle_by_words(alloc, group, index, others, prefix, suffix),
     }
 }
 
@@ -73,14 +139,15 @@ fn idle_by_sources(
     alloc: Global,
     group: &Group<'_, '_>,
     index: usize,
-) -> Result<Option<Reason>, AllocError>
-    requires { index < length group.now.specs.now }
+    others: Others,
+) -> Result<Option<Idleness>, AllocError>
+    requires { (index < length group.now.specs.now) × (others.to ≤ length group.now.specs.now) }
     ensures { (g : List Reading) → IsGroupOf g group.now → IfOk result (λ why. (c : Reading) →
-        slice_get (map reading_of group.now.specs.now) index ≡ Some c → HasPlainSource c → IsWhy g index why) }
+        slice_get (map reading_of group.now.specs.now) index ≡ Some c → HasPlainSource c → IsWhy g others index why) }
 {
-    let mut reason = Reason::Invalid;
+    let mut reason = Idleness::Invalid;
     for source in &named_sources(alloc, &group.specs[index])? {
-        match idle_at(alloc, group, index, source)? {
+        match idle_at(alloc, group, index, others, source)? {
             None => return Ok(None),
             Some(found) => reason = stronger(reason, found),
         }
@@ -93,18 +160,19 @@ fn idle_by_words(
     alloc: Global,
     group: &Group<'_, '_>,
     index: usize,
+    others: Others,
     prefix: &[u8],
     suffix: &[u8],
-) -> Result<Option<Reason>, AllocError>
-    requires { index < length group.now.specs.now }
+) -> Result<Option<Idleness>, AllocError>
+    requires { (index < length group.now.specs.now) × (others.to ≤ length group.now.specs.now) }
     ensures { (g : List Reading) → IsGroupOf g group.now → IfOk result (λ why. (c : Reading) →
         slice_get (map reading_of group.now.specs.now) index ≡ Some c → IsPositive c.mode →
-        HasSourcePattern c prefix.now suffix.now → IsWhy g index why) }
+        HasSourcePattern c prefix.now suffix.now → IsWhy g others index why) }
 {
-    let mut reason = Reason::Invalid;
+    let mut reason = Idleness::Invalid;
     for word in &group.words {
         let name = joined(alloc, prefix, word.as_bstr().as_bytes(), suffix)?;
-        match idle_at(alloc, group, index, &source_named(name))? {
+        match idle_at(alloc, group, index, others, &source_named(name))? {
             None => return Ok(None),
             Some(found) => reason = stronger(reason, found),
         }
@@ -112,20 +180,21 @@ fn idle_by_words(
     Ok(Some(reason))
 }
 
-// The reason that explains two mappings that aren't kept: the last of the two, in the order of `Reason`.
-fn stronger(one: Reason, other: Reason) -> Reason
-    ensures explains { (g : List Reading) (k : ℕ) (s : Source) →
-        Explains g k s one ⊎ Explains g k s other → Explains g k s result }
-    ensures shown { (g : List Reading) (k : ℕ) → IsShown g k one → IsShown g k other → IsShown g k result }
+// The reason that explains two mappings that aren't kept: the last of the two, in the order of `Idleness`.
+fn stronger(one: Idleness, other: Idleness) -> Idleness
+    ensures explains { (g : List Reading) (others : Others) (k : ℕ) (s : Source) →
+        Explains g others k s one ⊎ Explains g others k s other → Explains g others k s result }
+    ensures shown { (g : List Reading) (others : Others) (k : ℕ) →
+        IsShown g others k one → IsShown g others k other → IsShown g others k result }
 {
     match one {
-        Reason::Invalid => other,
-        Reason::Excluded(_) => match other {
-            Reason::Duplicate(_) => other,
-            Reason::Invalid => one,
-            Reason::Excluded(_) => one,
+        Idleness::Invalid => other,
+        Idleness::Excluded(_) => match other {
+            Idleness::Duplicate(_) => other,
+            Idleness::Invalid => one,
+            Idleness::Excluded(_) => one,
         },
-        Reason::Duplicate(_) => one,
+        Idleness::Duplicate(_) => one,
     }
 }
 
@@ -134,15 +203,24 @@ fn idle_at(
     alloc: Global,
     group: &Group<'_, '_>,
     index: usize,
+    others: Others,
     source: &Source,
-) -> Result<Option<Reason>, AllocError>
-    requires { index < length group.now.specs.now }
+) -> Result<Option<Idleness>, AllocError>
+    requires { (index < length group.now.specs.now) × (others.to ≤ length group.now.specs.now) }
     ensures { (g : List Reading) → IsGroupOf g group.now → IfOk result
-        (IsWhyAt g index (start_of source.now)) }
+        (IsWhyAt g others index (start_of source.now)) }
 {
-    let names = freeing_names(alloc, group, index, source)?;
+    let names = freeing_names(alloc, group, index, others, source)?;
     let target = any_target();
-    idle_beside(alloc, group, index, source, names.as_slice(), &target)
+    idle_beside(
+        alloc,
+        group,
+        index,
+        others,
+        source,
+        names.as_slice(),
+        &target,
+    )
 }
 
 // The same on a remote that has refs of these names besides.
@@ -150,29 +228,30 @@ fn idle_beside<'x>(
     alloc: Global,
     group: &Group<'_, '_>,
     index: usize,
+    others: Others,
     source: &'x Source,
     names: &'x [BString],
     target: &'x ObjectId,
-) -> Result<Option<Reason>, AllocError>
-    requires { index < length group.now.specs.now }
+) -> Result<Option<Idleness>, AllocError>
+    requires { (index < length group.now.specs.now) × (others.to ≤ length group.now.specs.now) }
     ensures { (g : List Reading) → IsGroupOf g group.now →
-        AreFreeing g index (start_of source.now) (map bstring_bytes names.now) → IfOk result
-        (IsWhyAt g index (start_of source.now)) }
+        AreFreeing g others index (start_of source.now) (map bstring_bytes names.now) → IfOk result
+        (IsWhyAt g others index (start_of source.now)) }
 {
     let mut items = Vec::new(alloc);
     add_item(&mut items, source, target)?;
     add_names(&mut items, names, target)?;
     let items = items.as_slice();
     let Some(mapping) = sound_mapping(alloc, group.specs[index], items, source)? else {
-        return Ok(Some(Reason::Invalid));
+        return Ok(Some(Idleness::Invalid));
     };
     if let Some(spec) = group.excluding(source) {
-        return Ok(Some(Reason::Excluded(spec)));
+        return Ok(Some(Idleness::Excluded(spec)));
     }
     let destination = name_of(&mapping.rhs);
-    match earlier(alloc, group, index, items, source, destination)? {
+    match first_of(alloc, group, others, items, source, destination)? {
         None => Ok(None),
-        Some(spec) => Ok(Some(Reason::Duplicate(spec))),
+        Some(spec) => Ok(Some(Idleness::Duplicate(spec))),
     }
 }
 
@@ -195,23 +274,23 @@ fn add_names<'i>(
     Ok(())
 }
 
-// The first of the specs before an index that maps a source to a destination among the items.
-fn earlier(
+// The first of the specs that maps a source to a destination among the items.
+fn first_of(
     alloc: Global,
     group: &Group<'_, '_>,
-    index: usize,
+    others: Others,
     items: &[Item<'_>],
     source: &Source,
     destination: Option<BStr<'_>>,
 ) -> Result<Option<usize>, AllocError>
-    requires { index < length group.now.specs.now }
+    requires { others.to ≤ length group.now.specs.now }
     ensures { (g : List Reading) → IsGroupOf g group.now → IfOk result (λ found. MatchOption found
-        ((h : ℕ) → h < index →
+        ((h : ℕ) → IsOther others h →
         ¬ (Maps g (map ref_of items.now) h (start_of source.now) (option_map bstr_bytes destination.entry)))
-        (λ h. (h < index) ×
+        (λ h. IsOther others h ×
         Maps g (map ref_of items.now) h (start_of source.now) (option_map bstr_bytes destination.entry))) }
 {
-    for at in 0..index {
+    for at in others.from..others.to {
         if does_map(alloc, group, at, items, source, destination)? {
             return Ok(Some(at));
         }
@@ -255,21 +334,22 @@ fn may_take(spec: &RefSpecRef<'_>, source: &Source) -> bool
     }
 }
 
-// Names of refs because of which earlier specs with a partial source don't take this source, although the spec at the index
-// does: their other candidates, without those that this one tries before the source.
+// Names of refs because of which others with a partial source don't take this source, although the spec at the index does:
+// their other candidates, without those that this one tries before the source.
 fn freeing_names(
     alloc: Global,
     group: &Group<'_, '_>,
     index: usize,
+    others: Others,
     source: &Source,
 ) -> Result<Vec<BString>, AllocError>
-    requires { index < length group.now.specs.now }
+    requires { (index < length group.now.specs.now) × (others.to ≤ length group.now.specs.now) }
     ensures { (g : List Reading) → IsGroupOf g group.now → IfOk result (λ names.
-        AreFreeing g index (start_of source.now) (map bstring_bytes names.items)) }
+        AreFreeing g others index (start_of source.now) (map bstring_bytes names.items)) }
 {
     let mut names = Vec::new(alloc);
     let kept_away = candidates_before(alloc, &group.specs[index], source)?;
-    for at in 0..index {
+    for at in others.from..others.to {
         let before = candidates_before(alloc, &group.specs[at], source)?;
         add_allowed(&mut names, before, kept_away.as_slice())?;
     }
@@ -345,15 +425,4 @@ fn tried_before(
         }
     }
     Ok(Vec::new(alloc))
-}
-
-fn contains(names: &[BString], name: BStr<'_>) -> bool
-    ensures { IsTrue result ↔ Contains (map bstring_bytes names.now) (bstr_bytes name.entry) }
-{
-    for one in names {
-        if one.as_bstr() == name {
-            return true;
-        }
-    }
-    false
 }

@@ -2,10 +2,12 @@
 //! get that fact. At run time it does nothing, and no other caller needs it.
 
 ghost use Rattle.std.specs.Prelude.{map};
+ghost use Rattle.bstr.specs.BStr.{bstr_bytes};
 ghost use Rattle.gix_refspec_text.specs.Views.Spec.{reading_of};
 ghost use Rattle.gix_refspec_plan.specs.Views.Plan.{wish_of};
-ghost use Rattle.gix_refspec_lint.specs.Laws.Lint.{ConflictFree, ConflictsShown, ExamplesConflict, IdleExclusionLeftOut, IdleLeftOut, PlanConflictFree};
+ghost use Rattle.gix_refspec_lint.specs.Laws.Lint.{ConflictFree, ConflictsShown, ExamplesConflict, IdleExclusionLeftOut, IdleLeftOut, MatchConflictFree, PlanConflictFree};
 
+use bstr::BStr;
 use gix_refspec_plan::Wish;
 use gix_refspec_text::RefSpecRef;
 
@@ -21,25 +23,36 @@ pub fn examples_conflict(specs: &[RefSpecRef<'_>])
     ensures { ExamplesConflict (map reading_of specs.now) }
 {}
 
-/// A spec that `idle_specs` reports can be left out: whatever refs with valid names a remote has, the valid pairs that are kept
-/// are the same without it.
+/// Without a spec that `idle_specs` reports a fetch maps the same: whatever refs with valid names a remote has, the valid pairs
+/// that are kept are the same. And unless it is required, a source is missing without it exactly where one is with it. What else
+/// depends on the specs, as what is pruned, may change.
 pub fn idle_left_out(specs: &[RefSpecRef<'_>])
     ensures { IdleLeftOut (map reading_of specs.now) }
 {}
 
-/// And so can a negative spec that `idle_exclusions` reports, whatever refs a remote has.
-pub fn idle_exclusion_left_out(specs: &[RefSpecRef<'_>])
-    ensures { IdleExclusionLeftOut (map reading_of specs.now) }
+/// And without a negative spec that `idle_exclusions` reports the same pairs are kept, whatever refs a remote has, also those of
+/// merged refs.
+pub fn idle_exclusion_left_out(specs: &[RefSpecRef<'_>], merges: &[BStr<'_>])
+    ensures { IdleExclusionLeftOut (map reading_of specs.now) (map bstr_bytes merges.now) }
 {}
 
-/// If `possible_conflicts` finds nothing, no two mappings conflict, whatever refs a remote has: of those that `plan_fetch` makes
-/// of these specs and doesn't leave out, two with the same destination have the same source. So a caller may skip validation.
+/// If `possible_conflicts` finds nothing, no two mappings of `plan_fetch` that it doesn't leave out conflict, whatever refs a
+/// remote has: two with the same destination have the same source. This is about what a fetch of these specs writes, with
+/// completed destinations and without invalid names; for `match_lhs` see [`match_conflict_free`].
 pub fn conflict_free(specs: &[RefSpecRef<'_>])
     ensures { ConflictFree (map reading_of specs.now) }
 {}
 
-/// If `possible_conflicts` finds nothing among the configured specs of a wish, and nothing else is asked for, no update of
-/// `plan_fetch` is in conflict, whatever refs the remote has.
+/// If `possible_conflicts` finds nothing, `validated` finds no conflict in what `without_invalid_names` leaves of a result of
+/// `match_lhs`, provided that each destination is a pattern or begins `refs/`, and that no mapping is to `HEAD`. `match_lhs`
+/// itself completes `refs/heads/a:heads/x` to `refs/heads/heads/x`, where a fetch writes `refs/heads/x`, and `validated` also
+/// counts mappings with invalid names, as `foo/x` by `refs/heads/*:foo/*`.
+pub fn match_conflict_free(specs: &[RefSpecRef<'_>])
+    ensures { MatchConflictFree (map reading_of specs.now) }
+{}
+
+/// If `possible_conflicts` finds nothing among the configured specs of a wish and that of all tags, if they are asked for, and
+/// the call has no specs, no update of `plan_fetch` is in conflict, whatever refs the remote has, and whatever is merged.
 pub fn plan_conflict_free(wish: &Wish<'_, '_>)
     ensures { PlanConflictFree (wish_of wish.now) }
 {}

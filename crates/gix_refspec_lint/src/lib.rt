@@ -5,18 +5,25 @@
 //!     gix_refspec::parse(alloc, BStr::new(b"refs/heads/*:refs/x/*"), Operation::Fetch)?,
 //!     gix_refspec::parse(alloc, BStr::new(b"refs/tags/*:refs/x/*"), Operation::Fetch)?,
 //! ];
-//! let found = possible_conflicts(alloc, specs.as_slice())?;    // refs/heads/a and refs/tags/a, both to refs/x/a
+//! let fetch = Configured {
+//!     values: specs.as_slice(),
+//!     merges: &[],
+//!     tags: false,
+//! };
+//! let found = possible_conflicts(alloc, &fetch, &[])?;    // refs/heads/a and refs/tags/a, both to refs/x/a
 //! ```
 //!
 //! Specs and sources are those of `gix_refspec`, and plans those of `gix_refspec_plan`, on which this crate is built.
 #![tactic(auto)]
 
 ghost use Rattle.std.specs.Prelude.{◌≡◌, ℕ, map, IfErr, IfOk};
+ghost use Rattle.bstr.specs.BStr.{bstr_bytes};
 ghost use Rattle.gix_refspec_text.specs.Views.Spec.{reading_of};
-ghost use Rattle.gix_refspec_lint.specs.Matching.Lint.{AreExamples, AreIdle, AreIdleExclusions, IsFree};
-ghost use Rattle.gix_refspec_lint.specs.Views.Lint.{example_of, unused_of};
+ghost use Rattle.gix_refspec_lint.specs.Matching.Lint.{AreExamples, AreIdle, AreIdleExclusions, IsFree, specs_of};
+ghost use Rattle.gix_refspec_lint.specs.Views.Lint.{configuration_of, example_of, unused_of};
 ghost use Rattle.gix_refspec_lint.specs.declared.Error.TheVariants as error;
 
+mod asked;
 mod borders;
 mod conflicts;
 mod exclusions;
@@ -24,11 +31,14 @@ mod group;
 mod idle;
 pub mod laws;
 mod letter;
+pub mod removal;
+mod required;
 mod runs;
 mod sound;
 mod words;
 
-use bstr::BString;
+use asked::asked_specs;
+use bstr::{BStr, BString};
 use conflicts::conflicts_in;
 use exclusions::idle_exclusions_in;
 use gix_refspec::match_group::Source;
@@ -57,6 +67,18 @@ impl From<AllocError> for Error {
     }
 }
 
+/// What the configuration of a remote asks a fetch for, without specs of the call.
+#[derive(Clone, Copy, Debug)]
+pub struct Configured<'c, 'spec> {
+    /// The values of `remote.<name>.fetch`, in order.
+    pub values: &'c [RefSpecRef<'spec>],
+    /// Each `branch.<name>.merge` of the branches whose `branch.<name>.remote` is this remote.
+    pub merges: &'c [BStr<'spec>],
+    /// Whether all tags are asked for, by `tagOpt = --tags` or `pruneTags`. Then `refs/tags/*:refs/tags/*` counts as one more
+    /// value behind the others.
+    pub tags: bool,
+}
+
 /// Two specs that can write one ref from two sources, with an example. Git refuses the whole fetch then.
 #[derive(Debug, Drop)]
 pub struct PossibleConflict {
@@ -72,63 +94,72 @@ pub struct PossibleConflict {
     pub destination: BString,
 }
 
-/// A positive spec that never does anything.
+/// A positive spec that maps nothing of its own.
 #[derive(Clone, Copy, Debug, PartialEq, Eq)]
 pub struct IdleSpec {
     /// The index of the spec.
     pub spec_index: usize,
-    /// Why it does nothing.
+    /// Why it maps nothing of its own.
     pub reason: Reason,
+    /// Whether some remote lacks its source, and that of no other spec: then a fetch ends with "couldn't find remote ref" only
+    /// because of this spec.
+    pub is_required: bool,
 }
 
-/// Why a spec never does anything: the first of these that explains it alone.
+/// Why a spec maps nothing of its own: the first of these that explains it alone.
 #[derive(Clone, Copy, Debug, PartialEq, Eq)]
 pub enum Reason {
     /// Each mapping has a side that isn't a valid ref name.
     Invalid,
     /// Negative specs exclude each source of a valid mapping: the spec at this index does one.
     Excluded(usize),
-    /// Earlier specs map each source that isn't excluded to the same destination: the spec at this index does one.
+    /// The earlier spec at this index maps each source that isn't excluded to the same destination. Of several the first.
     Duplicate(usize),
+    /// Several earlier specs do so together, and none of them alone.
+    Duplicates,
 }
 
 /// The specs that can conflict on some remote, by the first and then by the second, each two with an example.
 ///
 /// Two specs conflict if both map a ref of a remote, or an object, to one destination, and not the same one. Mappings with an
 /// invalid side don't count, nor those of sources that a negative spec excludes; it doesn't matter whether an earlier spec
-/// makes the same mapping. Destinations are completed as by `plan_fetch`. So if nothing is found, no update of a plan of these
-/// specs is in conflict, whatever refs the remote has.
+/// makes the same mapping. Destinations are completed as by `plan_fetch`. A remote has no two refs of which one is a directory
+/// of the other. So if nothing is found, no update of a plan of these values is in conflict, whatever refs the remote has.
 ///
-/// Where a star of an example can stand for any word, it stands for a letter that is in no spec, if there is one, otherwise for
-/// another byte.
+/// In an example of two patterns the star stands for the first of `words` with which the two conflict. If they do with none,
+/// it stands for a letter that is in no spec, if there is one, otherwise for another byte.
 ///
-/// The specs are those of a fetch. Each two are compared: two patterns at 32 names, and at each in which their texts overlap.
+/// Each two values are compared: two patterns with each of `words`, at 32 names, and at each in which their texts overlap.
 /// Fails if there is no free byte, or if memory runs out.
 pub fn possible_conflicts(
     alloc: Global,
-    specs: &[RefSpecRef<'_>],
+    fetch: &Configured<'_, '_>,
+    words: &[BStr<'_>],
 ) -> Result<Vec<PossibleConflict>, Error>
-    ensures ok { IfOk result (λ found. AreExamples (map reading_of specs.now) (map example_of found.items)) }
+    ensures ok { IfOk result (λ found. AreExamples (specs_of (configuration_of fetch.now)) (map example_of found.items)) }
     ensures refused { IfErr result (λ e. e ≡ error.NoFreeByte →
-        (b : ℕ) → ¬ (IsFree (map reading_of specs.now) b)) }
+        (b : ℕ) → ¬ (IsFree (specs_of (configuration_of fetch.now)) b)) }
 {
+    let specs = asked_specs(alloc, fetch)?;
+    let specs = specs.as_slice();
     let letter = free_byte(specs)?;
     let names = completed_names(alloc, specs)?;
     let completed = completed_specs(alloc, specs, names.as_slice())?;
     let group = Group::of(alloc, specs, completed.as_slice(), letter)?;
-    Ok(conflicts_in(alloc, &group)?)
+    Ok(conflicts_in(alloc, &group, words)?)
 }
 
-/// The positive specs that never do anything, in order, with the reason: over no refs with valid names does a plan have an
-/// update of such a spec whose sides are valid.
+/// The positive values that map nothing of their own, in order, with the reason: over no refs with valid names does a plan have
+/// an update of such a value whose sides are valid. But it may be required, as a fetch fails if its source is missing.
 ///
-/// Destinations are completed as by `plan_fetch`. The specs are those of a fetch. Each is compared with the earlier ones: a
-/// pattern at 32 names, and at one for each byte after its star. Fails if there is no free byte, or if memory runs out.
-pub fn idle_specs(alloc: Global, specs: &[RefSpecRef<'_>]) -> Result<Vec<IdleSpec>, Error>
-    ensures ok { IfOk result (λ idle. AreIdle (map reading_of specs.now) (map unused_of idle.items)) }
+/// Destinations are completed as by `plan_fetch`. Each value is compared with the earlier ones: a pattern at 32 names, and at
+/// one for each byte after its star. Fails if there is no free byte, or if memory runs out.
+pub fn idle_specs(alloc: Global, fetch: &Configured<'_, '_>) -> Result<Vec<IdleSpec>, Error>
+    ensures ok { IfOk result (λ idle. AreIdle (map reading_of fetch.now.values.now) (map unused_of idle.items)) }
     ensures refused { IfErr result (λ e. e ≡ error.NoFreeByte →
-        (b : ℕ) → ¬ (IsFree (map reading_of specs.now) b)) }
+        (b : ℕ) → ¬ (IsFree (map reading_of fetch.now.values.now) b)) }
 {
+    let specs = fetch.values;
     let letter = free_byte(specs)?;
     let names = completed_names(alloc, specs)?;
     let completed = completed_specs(alloc, specs, names.as_slice())?;
@@ -136,19 +167,22 @@ pub fn idle_specs(alloc: Global, specs: &[RefSpecRef<'_>]) -> Result<Vec<IdleSpe
     Ok(idle_in(alloc, &group)?)
 }
 
-/// The indexes of the negative specs that exclude nothing, in order: no source of a mapping with valid sides, whatever refs a
-/// remote has and whatever other negative specs exclude.
+/// The indexes of the negative values that exclude nothing, in order: no source of a mapping with valid sides, and no merged
+/// ref, whatever refs a remote has and whatever other negative values exclude.
 ///
-/// The specs are those of a fetch. Each negative one is compared with each other: two patterns at 32 names, and at each in which
-/// their texts overlap. Fails if there is no free byte, or if memory runs out.
-pub fn idle_exclusions(alloc: Global, specs: &[RefSpecRef<'_>]) -> Result<Vec<usize>, Error>
-    ensures ok { IfOk result (λ idle. AreIdleExclusions (map reading_of specs.now) idle.items) }
+/// Each negative value is compared with each other value: two patterns at 32 names, and at each in which their texts overlap.
+/// Fails if there is no free byte, or if memory runs out.
+pub fn idle_exclusions(alloc: Global, fetch: &Configured<'_, '_>) -> Result<Vec<usize>, Error>
+    ensures ok { IfOk result (λ idle. AreIdleExclusions (specs_of (configuration_of fetch.now))
+        (map bstr_bytes fetch.now.merges.now) idle.items) }
     ensures refused { IfErr result (λ e. e ≡ error.NoFreeByte →
-        (b : ℕ) → ¬ (IsFree (map reading_of specs.now) b)) }
+        (b : ℕ) → ¬ (IsFree (specs_of (configuration_of fetch.now)) b)) }
 {
+    let specs = asked_specs(alloc, fetch)?;
+    let specs = specs.as_slice();
     let letter = free_byte(specs)?;
     let names = completed_names(alloc, specs)?;
     let completed = completed_specs(alloc, specs, names.as_slice())?;
     let group = Group::of(alloc, specs, completed.as_slice(), letter)?;
-    Ok(idle_exclusions_in(alloc, &group)?)
+    Ok(idle_exclusions_in(alloc, &group, fetch.merges)?)
 }

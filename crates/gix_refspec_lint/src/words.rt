@@ -38,8 +38,8 @@ pub(super) fn words_of(alloc: Global, letter: u8) -> Result<Vec<BString>, AllocE
 // The texts that each name begins and ends with that two patterns match, and in how many bytes these may overlap in one.
 #[derive(Clone, Copy)]
 pub(super) struct Common<'a> {
-    prefix: &'a [u8],
-    suffix: &'a [u8],
+    pub(super) prefix: &'a [u8],
+    pub(super) suffix: &'a [u8],
     most: usize,
 }
 
@@ -77,7 +77,15 @@ impl<'a> Common<'a> {
         ensures { IfOk result (λ name. bstring_bytes name ≡
             self.now.prefix.now ++ (bstring_bytes word.now ++ self.now.suffix.now)) }
     {
-        joined(alloc, self.prefix, word.as_bstr().as_bytes(), self.suffix)
+        self.with_text(alloc, word.as_bstr().as_bytes())
+    }
+
+    // The same with a word that is borrowed.
+    pub(super) fn with_text(&self, alloc: Global, word: &[u8]) -> Result<BString, AllocError>
+        ensures { IfOk result (λ name. bstring_bytes name ≡
+            self.now.prefix.now ++ (word.now ++ self.now.suffix.now)) }
+    {
+        joined(alloc, self.prefix, word, self.suffix)
     }
 
     // The name in which the texts overlap in so many bytes.

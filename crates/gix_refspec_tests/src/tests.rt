@@ -15,6 +15,7 @@ mod lint;
 mod mapping;
 mod names;
 mod plans;
+mod removal;
 mod sides;
 mod stale;
 mod validation;

@@ -5,4 +5,5 @@ pub mod OutputFacts
 pub mod PrefixFacts
 pub mod RunFacts
 pub mod TrackFacts
+pub mod WarnedFacts
 pub mod WarningFacts

@@ -1,15 +1,26 @@
 //! The warnings of `check`: what valid specs do, but hardly anybody wants.
 
-ghost use Rattle.std.specs.Prelude.{IfOk, OnOk};
+ghost use Rattle.std.specs.Prelude.{◌≡◌, ◌⊎◌, ◌++◌, ◌∷◌, [], Err, Ok, map, option_to_list, IfOk, OnOk};
+ghost use Rattle.gix_refspec_text.specs.Views.Spec.{reading_of};
+ghost use Rattle.refspec_io.specs.declared.call.Form.TheVariants.{Json};
+ghost use Rattle.gix_refspec_lint.specs.declared.Error.TheVariants as lint_error;
+ghost use Rattle.refspec_io.specs.Texts.{given_of};
+ghost use Rattle.refspec_io.specs.Shown.{WritesQuoted};
+ghost use Rattle.refspec_commands.specs.Warned.{BeginWithConflicts, IsForFetch};
+ghost use Rattle.refspec_commands.specs.WarnedViews.{SpecsMatchTexts, asked_of, said_of};
 ghost use Rattle.refspec_commands.specs.Warnings.{AreAppended, ReportsCheck, WarnsIf};
 
+pub mod beside;
 mod conflicts;
+mod effects;
+mod group;
 mod idle;
 mod rules;
 
 use crate::specs::report_specs;
-use gix_refspec::RefSpecRef;
+use beside::Beside;
 use gix_refspec::parsing::Operation;
+use group::{Group, values_of};
 use refspec_io::call::{Call, Command, Form};
 use refspec_io::checked::{Checked, check_all, has_bad};
 use refspec_io::json;
@@ -31,7 +42,7 @@ pub enum Topic {
     IdleExcluded,
     /// Earlier specs map all that a spec takes to the same destinations.
     IdleDuplicate,
-    /// A negative spec excludes nothing that another spec takes.
+    /// A negative spec excludes nothing that a fetch takes.
     IdleExclusion,
     /// A negative spec isn't a full name.
     ExcludesNoBranch,
@@ -68,12 +79,15 @@ impl Topic {
         }
     }
 
-    // What a warning says of its specs, in its first line.
-    fn title(self) -> &'static str {
+    // What a warning says of so many specs, in its first line.
+    fn title(self, count: usize) -> &'static str {
         match self {
             Topic::PossibleConflict => "these can conflict",
             Topic::IdleInvalid => "this fetches nothing",
-            Topic::IdleExcluded | Topic::IdleDuplicate => "the first of these does nothing",
+            Topic::IdleExcluded | Topic::IdleDuplicate if count > 1 => {
+                "the first of these adds nothing to a fetch"
+            }
+            Topic::IdleExcluded | Topic::IdleDuplicate => "this adds nothing to a fetch",
             Topic::IdleExclusion => "this excludes nothing",
             Topic::ExcludesNoBranch => "this excludes no branch",
             Topic::DestinationOutsideRefs => "this destination is not below refs/",
@@ -101,7 +115,10 @@ pub struct Warning<'a> {
 
 impl<'a> Warning<'a> {
     /// A warning without specs, whose texts are still empty.
-    pub fn at(alloc: Global, topic: Topic, location: Location<'a>) -> Warning<'a> {
+    pub fn at(alloc: Global, topic: Topic, location: Location<'a>) -> Warning<'a>
+        ensures topic { result.topic ≡ topic }
+        ensures empty { (result.specs.items ≡ []) × (result.message.items ≡ []) }
+    {
         Warning {
             topic,
             location,
@@ -117,7 +134,12 @@ impl<'a> Warning<'a> {
         topic: Topic,
         first: Text<'a>,
         second: Option<Text<'a>>,
-    ) -> Result<Warning<'a>, AllocError> {
+    ) -> Result<Warning<'a>, AllocError>
+        ensures topic { IfOk result (λ w. w.topic ≡ topic) }
+        ensures texts { IfOk result (λ w. map given_of w.specs.items
+            ≡ given_of first.entry ∷ map given_of (option_to_list second.entry)) }
+        ensures message { IfOk result (λ w. w.message.items ≡ []) }
+    {
         let mut warning = Warning::at(alloc, topic, first.location);
         warning.specs.push(first)?;
         if let Some(second) = second {
@@ -139,7 +161,8 @@ impl<'a> Warning<'a> {
         out.extend_from_slice(b"warning: ")?;
         out.extend_from_slice(location.as_slice())?;
         out.extend_from_slice(b": ")?;
-        out.extend_from_slice(self.topic.title().as_bytes())?;
+        let title = self.topic.title(self.specs.len());
+        out.extend_from_slice(title.as_bytes())?;
         out.extend_from_slice(b":\n")?;
         for text in &self.specs {
             out.extend_from_slice(b"    ")?;
@@ -157,13 +180,7 @@ impl<'a> Warning<'a> {
     }
 
     fn write_object(&self, alloc: Global, out: &mut Vec<u8>) -> Result<(), AllocError> {
-        let mut specs = Vec::with_capacity(alloc, self.specs.len())?;
-        for text in &self.specs {
-            specs.push(WarnedSpec {
-                location: json::shown_location(alloc, &text.location)?,
-                text: json::text_of(alloc, text.bytes)?,
-            })?;
-        }
+        let specs = warned_specs(alloc, self.specs.as_slice())?;
         let location = json::shown_location(alloc, &self.location)?;
         let message = json::text_of(alloc, self.message.as_slice())?;
         let advice = json::text_of(alloc, self.advice.as_slice())?;
@@ -176,6 +193,18 @@ impl<'a> Warning<'a> {
         };
         object.write_line(alloc, out)
     }
+}
+
+// The texts of a warning, as its object has them.
+fn warned_specs(alloc: Global, texts: &[Text<'_>]) -> Result<Vec<WarnedSpec>, AllocError> {
+    let mut specs = Vec::with_capacity(alloc, texts.len())?;
+    for text in texts {
+        specs.push(WarnedSpec {
+            location: json::shown_location(alloc, &text.location)?,
+            text: json::text_of(alloc, text.bytes)?,
+        })?;
+    }
+    Ok(specs)
 }
 
 // A location as lines show it.
@@ -196,7 +225,9 @@ fn write_line(line: &[u8], out: &mut Vec<u8>) -> Result<(), AllocError> {
 }
 
 /// Appends words and a name, as messages show it.
-pub fn say(out: &mut Vec<u8>, words: &str, name: &[u8]) -> Result<(), AllocError> {
+pub fn say(out: &mut Vec<u8>, words: &str, name: &[u8]) -> Result<(), AllocError>
+    ensures { OnOk result (WritesQuoted name.now (out.old.items ++ words.now) out.new.items) }
+{
     out.extend_from_slice(words.as_bytes())?;
     write_in_message(out, name)
 }
@@ -232,7 +263,7 @@ fn report_warnings(
         return Ok(false);
     }
     let mut written = Vec::new(alloc);
-    write_warnings(alloc, report.form, all, &mut written)?;
+    write_warnings(alloc, report.form, all, &BTreeMap::new(alloc), &mut written)?;
     append(written.as_slice(), report)?;
     Ok(!written.is_empty())
 }
@@ -248,89 +279,50 @@ fn append(bytes: &[u8], report: &mut Report) -> Result<(), AllocError>
     }
 }
 
-/// Appends the warnings on texts.
-pub fn write_warnings_on(
+/// Appends the warnings on texts. A fetch also takes what `beside` has at the key of its values.
+pub fn write_warnings_on<'a>(
     alloc: Global,
     form: Form,
-    texts: &[Text<'_>],
+    texts: &[Text<'a>],
+    beside: &BTreeMap<&'a [u8], Beside<'a>>,
     out: &mut Vec<u8>,
 ) -> Result<(), AllocError> {
     let all = check_all(alloc, texts)?;
-    write_warnings(alloc, form, all.as_slice(), out)
+    write_warnings(alloc, form, all.as_slice(), beside, out)
 }
 
-// Appends the warnings on checked texts. There are none on a group with a refused text, which may change all.
-fn write_warnings(
+// Appends the warnings on checked texts.
+fn write_warnings<'a>(
     alloc: Global,
     form: Form,
-    all: &[Checked<'_>],
+    all: &[Checked<'a>],
+    beside: &BTreeMap<&'a [u8], Beside<'a>>,
     out: &mut Vec<u8>,
 ) -> Result<(), AllocError> {
-    for group in groups_of(alloc, all)? {
-        if !group.has_bad {
-            for warning in warnings_on(alloc, form, &group)? {
-                warning.write(alloc, form, out)?;
-            }
+    let nothing = Beside::nothing(alloc);
+    for (key, values) in values_of(alloc, all)? {
+        if let Some(group) = values.group(alloc)? {
+            let beside = beside.get(key).unwrap_or(&nothing);
+            write_group(alloc, form, &group, beside, out)?;
         }
     }
     Ok(())
 }
 
-// Specs that a fetch or a push applies together: the values of one key, or all others.
-#[derive(Drop)]
-struct Group<'a> {
-    texts: Vec<Text<'a>>,
-    specs: Vec<RefSpecRef<'a>>,
-    has_bad: bool,
-}
-
-impl<'a> Group<'a> {
-    // Adds a checked text.
-    fn add(&mut self, checked: &Checked<'a>) -> Result<(), AllocError> {
-        match checked {
-            Checked::Good { text, spec } => {
-                self.texts.push(*text)?;
-                self.specs.push(*spec)?;
-            }
-            Checked::Bad { .. } => self.has_bad = true,
-        }
-        Ok(())
+// Appends the warnings on a group.
+fn write_group<'a>(
+    alloc: Global,
+    form: Form,
+    group: &Group<'a>,
+    beside: &Beside<'a>,
+    out: &mut Vec<u8>,
+) -> Result<(), AllocError>
+    requires { SpecsMatchTexts group.now }
+{
+    for warning in &warnings_on(alloc, form, group, beside)? {
+        warning.write(alloc, form, out)?;
     }
-
-    // Whether its specs are for a fetch.
-    fn is_fetch(&self) -> bool {
-        match self.texts.first() {
-            None => false,
-            Some(text) => text.operation == Operation::Fetch,
-        }
-    }
-}
-
-// The groups of checked texts, sorted by their keys.
-fn groups_of<'a>(alloc: Global, all: &[Checked<'a>]) -> Result<Vec<Group<'a>>, AllocError> {
-    let mut groups: BTreeMap<&'a [u8], Group<'a>> = BTreeMap::new(alloc);
-    for checked in all {
-        let group = groups.entry(key_of(checked))?.or_insert(Group {
-            texts: Vec::new(alloc),
-            specs: Vec::new(alloc),
-            has_bad: false,
-        });
-        group.add(checked)?;
-    }
-    let mut found = Vec::with_capacity(alloc, groups.len())?;
-    for (_, group) in groups {
-        found.push(group)?;
-    }
-    Ok(found)
-}
-
-// The key of a text, if it is a value of a setting. Other texts have none.
-fn key_of<'a>(checked: &Checked<'a>) -> &'a [u8] {
-    let (Checked::Good { text, .. } | Checked::Bad { text, .. }) = checked;
-    match text.location {
-        Location::Setting { key, .. } => key,
-        Location::Argument(_) | Location::Record { .. } => b"",
-    }
+    Ok(())
 }
 
 // The warnings on a group.
@@ -338,13 +330,23 @@ fn warnings_on<'a>(
     alloc: Global,
     form: Form,
     group: &Group<'a>,
-) -> Result<Vec<Warning<'a>>, AllocError> {
-    let mut found = Vec::new(alloc);
-    if group.is_fetch() {
-        conflicts::add_conflicts(alloc, form, group, &mut found)?;
-        idle::add_idle(alloc, group, &mut found)?;
+    beside: &Beside<'a>,
+) -> Result<Vec<Warning<'a>>, AllocError>
+    requires { SpecsMatchTexts group.now }
+    ensures { form ≡ Json → IsForFetch (map given_of group.now.texts.items) → IfOk result (λ found.
+        BeginWithConflicts (asked_of beside.now) (map reading_of group.now.specs.items)
+        (map given_of group.now.texts.items) (map said_of found.items)) }
+{
+    if !group.is_fetch() {
+        return rules::faults_in(alloc, group);
     }
-    rules::add_faults(alloc, group, &mut found)?;
+    let mut found = conflicts::conflicts_in(alloc, form, group, beside)?;
+    let mut idle = idle::idle_in(alloc, group, beside)?;
+    let mut exclusions = idle::exclusions_in(alloc, group, beside)?;
+    let mut others = rules::faults_in(alloc, group)?;
+    found.append(&mut idle)?;
+    found.append(&mut exclusions)?;
+    found.append(&mut others)?;
     Ok(found)
 }
 
@@ -352,7 +354,9 @@ fn warnings_on<'a>(
 fn or_nothing<T: Drop>(
     alloc: Global,
     found: Result<Vec<T>, gix_refspec_lint::Error>,
-) -> Result<Vec<T>, AllocError> {
+) -> Result<Vec<T>, AllocError>
+    ensures { IfOk result (λ all. (found ≡ Ok all) ⊎ ((found ≡ Err lint_error.NoFreeByte) × (all.items ≡ []))) }
+{
     match found {
         Ok(found) => Ok(found),
         Err(gix_refspec_lint::Error::NoFreeByte) => Ok(Vec::new(alloc)),

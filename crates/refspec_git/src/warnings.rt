@@ -5,7 +5,8 @@ use gix_refspec::parsing::{Error, Operation};
 use gix_refspec::{RefSpecRef, parse};
 use gix_refspec_match::exclusions::Exclusions;
 use gix_refspec_match::needle::word_between;
-use gix_refspec_text::side::split_at_first_star;
+use gix_refspec_text::side::{joined, split_at_first_star};
+use refspec_commands::warnings::beside::{Beside, Tags};
 use refspec_commands::warnings::{Topic, Warning, say, write_warnings_on};
 use refspec_io::call::Form;
 use refspec_io::settings::Setting;
@@ -14,7 +15,7 @@ use refspec_request::settings::{is_true, name_and_variable};
 use std::alloc::{AllocError, Global};
 use std::collections::{BTreeMap, BTreeSet};
 
-/// Appends the warnings on the settings of these remotes, or of all, and on specs. `values` has their fetch and push values.
+/// Appends the warnings on the settings of these remotes, or of all, and on specs. `texts` has their fetch and push values.
 pub fn write_warnings<'a>(
     alloc: Global,
     form: Form,
@@ -23,10 +24,11 @@ pub fn write_warnings<'a>(
     texts: &[Text<'a>],
     out: &mut Vec<u8>,
 ) -> Result<(), AllocError> {
-    write_warnings_on(alloc, form, texts, out)?;
     let remotes = remotes_in(alloc, settings)?;
-    let mut found = Vec::new(alloc);
     let mut pruning = Pruning::of(settings);
+    let beside = beside_values(alloc, settings, remotes.as_slice(), &pruning)?;
+    write_warnings_on(alloc, form, texts, &beside, out)?;
+    let mut found = Vec::new(alloc);
     for remote in &remotes {
         if is_chosen(chosen, remote) {
             add_pruned(alloc, &mut pruning, remote, &mut found)?;
@@ -54,18 +56,41 @@ struct Value<'a> {
     spec: RefSpecRef<'a>,
 }
 
+impl Value<'_> {
+    // Whether its destination is below `refs/tags/`.
+    fn writes_tags(&self) -> bool {
+        match self.spec.destination() {
+            None => false,
+            Some(destination) => destination.as_bytes().starts_with(b"refs/tags/"),
+        }
+    }
+
+    // Whether it maps each ref to itself.
+    fn maps_to_itself(&self) -> bool {
+        let all = b"refs/*".as_slice();
+        match (self.spec.source(), self.spec.destination()) {
+            (Some(source), Some(destination)) => {
+                source.as_bytes() == all && destination.as_bytes() == all
+            }
+            _ => false,
+        }
+    }
+}
+
 // A remote, and what its settings say.
 #[derive(Drop)]
 struct Remote<'a> {
     name: &'a [u8],
     url: Option<Setting<'a>>,
     values: Vec<Value<'a>>,
-    has_values: bool,
-    // Whether it has values for a push, or is a mirror.
+    // The key of its fetch values, also if they are refused.
+    key: Option<&'a [u8]>,
+    // Whether it has values for a push, or a setting that says whether it is a mirror.
     is_other: bool,
     is_mirror: bool,
     prune: Option<bool>,
     prune_tags: Option<Setting<'a>>,
+    tag_option: Tags<'a>,
 }
 
 impl<'a> Remote<'a> {
@@ -74,11 +99,12 @@ impl<'a> Remote<'a> {
             name,
             url: None,
             values: Vec::new(alloc),
-            has_values: false,
+            key: None,
             is_other: false,
             is_mirror: false,
             prune: None,
             prune_tags: None,
+            tag_option: Tags::Followed,
         }
     }
 
@@ -93,18 +119,37 @@ impl<'a> Remote<'a> {
             b"url" => self.url = Some(*setting),
             b"pushurl" | b"push" => self.is_other = true,
             b"mirror" => {
-                self.is_mirror = is_true(setting.value) || self.is_mirror;
+                self.is_mirror = is_true(setting.value);
                 self.is_other = true;
             }
             b"prune" => self.prune = Some(is_true(setting.value)),
             b"prunetags" => self.prune_tags = Some(*setting),
+            b"tagopt" => match setting.value {
+                Some(b"--tags") => self.tag_option = Tags::All(location_of(setting)),
+                Some(b"--no-tags") => self.tag_option = Tags::Ignored,
+                _ => {}
+            },
             b"fetch" => {
-                self.has_values = true;
+                self.key = Some(setting.key);
                 self.add_value(alloc, setting)?;
             }
             _ => {}
         }
         Ok(())
+    }
+
+    // What its negative values exclude.
+    fn exclusions(&self, alloc: Global) -> Result<Exclusions<'a>, AllocError> {
+        let mut specs = Vec::with_capacity(alloc, self.values.len())?;
+        for value in &self.values {
+            specs.push(value.spec)?;
+        }
+        Exclusions::of(alloc, specs.as_slice())
+    }
+
+    // Whether it is a mirror: it is one by its setting, or in a bare repository by a value that maps each ref to itself.
+    fn is_mirror_in(&self, pruning: &Pruning<'_>) -> bool {
+        self.is_mirror || pruning.is_bare && self.values.iter().any(|value| value.maps_to_itself())
     }
 
     // Adds a fetch value, unless it is refused.
@@ -163,6 +208,7 @@ struct Pruning<'a> {
     prunes: bool,
     // `None` also once it was warned of.
     tags: Option<Setting<'a>>,
+    is_bare: bool,
 }
 
 impl<'a> Pruning<'a> {
@@ -170,11 +216,13 @@ impl<'a> Pruning<'a> {
         let mut pruning = Pruning {
             prunes: false,
             tags: None,
+            is_bare: false,
         };
         for setting in settings {
             match setting.key {
                 b"fetch.prune" => pruning.prunes = is_true(setting.value),
                 b"fetch.prunetags" => pruning.tags = Some(*setting),
+                b"core.bare" => pruning.is_bare = is_true(setting.value),
                 _ => {}
             }
         }
@@ -189,6 +237,52 @@ impl<'a> Pruning<'a> {
     }
 }
 
+// What the fetches of the remotes take besides their values, by the keys of these.
+fn beside_values<'a>(
+    alloc: Global,
+    settings: &[Setting<'a>],
+    remotes: &[Remote<'a>],
+    pruning: &Pruning<'a>,
+) -> Result<BTreeMap<&'a [u8], Beside<'a>>, AllocError> {
+    let mut merges = merges_by_remote(alloc, settings)?;
+    let mut beside = BTreeMap::new(alloc);
+    for remote in remotes {
+        if let Some(key) = remote.key {
+            let merges = merges.remove(remote.name).unwrap_or(Vec::new(alloc));
+            let tags = match remote.prune_tags.or(pruning.tags) {
+                Some(setting) if is_true(setting.value) => Tags::Pruned(location_of(&setting)),
+                _ => remote.tag_option,
+            };
+            beside.insert(key, Beside { merges, tags })?;
+        }
+    }
+    Ok(beside)
+}
+
+// What branches merge, by the remotes from which they pull.
+fn merges_by_remote<'a>(
+    alloc: Global,
+    settings: &[Setting<'a>],
+) -> Result<BTreeMap<&'a [u8], Vec<BStr<'a>>>, AllocError> {
+    let mut remotes: BTreeMap<&'a [u8], &'a [u8]> = BTreeMap::new(alloc);
+    for setting in settings {
+        if let Some((branch, b"remote")) = name_and_variable(b"branch", setting.key) {
+            remotes.insert(branch, setting.value.unwrap_or(b""))?;
+        }
+    }
+    let mut merges: BTreeMap<&'a [u8], Vec<BStr<'a>>> = BTreeMap::new(alloc);
+    for setting in settings {
+        let Some((branch, b"merge")) = name_and_variable(b"branch", setting.key) else {
+            continue;
+        };
+        if let Some(remote) = remotes.get(branch) {
+            let merged = merges.entry(*remote)?.or_insert(Vec::new(alloc));
+            merged.push(BStr::new(setting.value.unwrap_or(b"")))?;
+        }
+    }
+    Ok(merges)
+}
+
 // Adds a warning for a remote with a URL from which nothing is fetched into refs, unless it is there for pushes or a mirror.
 fn add_without_values<'a>(
     alloc: Global,
@@ -198,7 +292,7 @@ fn add_without_values<'a>(
     let Some(url) = remote.url else {
         return Ok(());
     };
-    if remote.has_values || remote.is_other {
+    if remote.key.is_some() || remote.is_other {
         return Ok(());
     }
     let mut warning = Warning::at(alloc, Topic::NoFetchValues, location_of(&url));
@@ -231,29 +325,23 @@ fn add_pruned<'a>(
     remote: &Remote<'a>,
     found: &mut Vec<Warning<'a>>,
 ) -> Result<(), AllocError> {
-    if !remote.prune.unwrap_or(pruning.prunes) || remote.is_mirror || !remote.has_values {
+    let is_fetched = remote.key.is_some() || remote.url.is_some();
+    if !remote.prune.unwrap_or(pruning.prunes) || remote.is_mirror_in(pruning) || !is_fetched {
         return Ok(());
     }
     for value in &remote.values {
-        let Some(destination) = value.spec.destination() else {
-            continue;
-        };
-        let destination = destination.as_bytes();
-        for (topic, folder, name) in [
+        for (topic, folder, words) in [
             (
                 Topic::PrunesBranches,
                 b"refs/heads/".as_slice(),
-                b"topic".as_slice(),
+                BRANCHES.as_slice(),
             ),
-            (
-                Topic::PrunesTags,
-                b"refs/tags/".as_slice(),
-                b"v1".as_slice(),
-            ),
+            (Topic::PrunesTags, b"refs/tags/".as_slice(), TAGS.as_slice()),
         ] {
-            if let Some(example) = example_below(alloc, destination, folder, name)? {
+            if let Some(example) = pruned_below(alloc, remote, value, folder, words)? {
                 let mut warning = Warning::on(alloc, topic, value.text, None)?;
-                explain_pruned(alloc, topic, remote.name, example.as_slice(), &mut warning)?;
+                let remedy = Remedy::of(remote, value);
+                explain_pruned(alloc, remedy, remote.name, example.as_slice(), &mut warning)?;
                 found.push(warning)?;
             }
         }
@@ -262,14 +350,17 @@ fn add_pruned<'a>(
         Some(tags) => Some(tags),
         None => pruning.take_tags(),
     };
-    if let Some(tags) = tags {
-        if is_true(tags.value) {
+    let Some(tags) = tags else {
+        return Ok(());
+    };
+    if is_true(tags.value) {
+        if let Some(example) = pruned_tag(alloc, remote)? {
             let mut warning = Warning::at(alloc, Topic::PrunesTags, location_of(&tags));
             explain_pruned(
                 alloc,
-                Topic::PrunesTags,
+                Remedy::Remove,
                 remote.name,
-                b"refs/tags/v1",
+                example.as_slice(),
                 &mut warning,
             )?;
             found.push(warning)?;
@@ -278,14 +369,30 @@ fn add_pruned<'a>(
     Ok(())
 }
 
-// A name below a folder that a pattern matches; `None` if it matches none there, or isn't a pattern.
-fn example_below(
+// Words for the star of an example, which has the first with which negative values don't exclude its source.
+const BRANCHES: [&[u8]; 8] = [
+    b"topic", b"dev", b"main", b"fix/7", b"7", b"release", b"q", b"z",
+];
+
+const TAGS: [&[u8]; 6] = [b"v1", b"1.0", b"release", b"topic", b"q", b"z"];
+
+// A local ref below a folder that a pruning fetch deletes by a value. `None` if the value isn't a pattern that matches names there,
+// or if negative values keep each that is tried.
+fn pruned_below(
     alloc: Global,
-    pattern: &[u8],
+    remote: &Remote<'_>,
+    value: &Value<'_>,
     folder: &[u8],
-    name: &[u8],
+    words: &[&[u8]],
 ) -> Result<Option<Vec<u8>>, AllocError> {
-    let Some((before, after)) = split_at_first_star(pattern) else {
+    let Some(
+        Target {
+            before,
+            after: Some(after),
+            ..
+        },
+    ) = Target::of(0, *value)
+    else {
         return Ok(None);
     };
     let start = if before.starts_with(folder) {
@@ -295,16 +402,70 @@ fn example_below(
     } else {
         return Ok(None);
     };
-    let mut example = Vec::from_slice(alloc, start)?;
-    example.extend_from_slice(name)?;
-    example.extend_from_slice(after)?;
-    Ok(Some(example))
+    for word in words {
+        let name = joined(alloc, start, word, after)?.into_vec();
+        if !is_kept(alloc, remote, name.as_slice())? {
+            return Ok(Some(name));
+        }
+    }
+    Ok(None)
+}
+
+// Whether a pruning fetch keeps a local ref, as negative values exclude a source from which it could be written.
+fn is_kept(alloc: Global, remote: &Remote<'_>, name: &[u8]) -> Result<bool, AllocError> {
+    let exclusions = remote.exclusions(alloc)?;
+    for value in &remote.values {
+        if let Some(target) = Target::of(0, *value) {
+            if let Some(source) = target.source_of(alloc, name)? {
+                if exclusions.spec_of(source.as_slice()).is_some() {
+                    return Ok(true);
+                }
+            }
+        }
+    }
+    Ok(false)
+}
+
+// A tag that a pruning fetch deletes, as all tags are fetched. `None` if negative values exclude each that is tried.
+fn pruned_tag(alloc: Global, remote: &Remote<'_>) -> Result<Option<Vec<u8>>, AllocError> {
+    let exclusions = remote.exclusions(alloc)?;
+    for word in TAGS {
+        let name = joined(alloc, b"refs/tags/", word, b"")?.into_vec();
+        if exclusions.spec_of(name.as_slice()).is_none()
+            && !is_kept(alloc, remote, name.as_slice())?
+        {
+            return Ok(Some(name));
+        }
+    }
+    Ok(None)
+}
+
+// How to keep refs that pruning deletes.
+#[derive(Clone, Copy)]
+enum Remedy {
+    // Without the value or setting, Git still fetches tags, but only those of what else it fetches.
+    Remove,
+    Move,
+    // Only not to prune.
+    None,
+}
+
+impl Remedy {
+    fn of(remote: &Remote<'_>, value: &Value<'_>) -> Remedy {
+        if value.spec.source() != value.spec.destination() || !value.writes_tags() {
+            return Remedy::Move;
+        }
+        match remote.tag_option {
+            Tags::Ignored => Remedy::None,
+            _ => Remedy::Remove,
+        }
+    }
 }
 
 // Says what pruning deletes, and how to keep it.
 fn explain_pruned(
     alloc: Global,
-    topic: Topic,
+    remedy: Remedy,
     remote: &[u8],
     example: &[u8],
     warning: &mut Warning<'_>,
@@ -319,24 +480,23 @@ fn explain_pruned(
         .message
         .extend_from_slice(b" if nobody has pushed it.")?;
     let advice = &mut warning.advice;
-    if warning.specs.is_empty() {
-        advice.extend_from_slice(b"Remove it")?;
-    } else if topic == Topic::PrunesTags {
-        advice.extend_from_slice(b"Remove it, as Git fetches tags by itself")?;
-    } else {
-        let mut folder = Vec::from_slice(alloc, b"refs/remotes/")?;
-        folder.extend_from_slice(remote)?;
-        folder.extend_from_slice(b"/*")?;
-        say(
-            advice,
-            "Write to another folder, such as ",
-            folder.as_slice(),
-        )?;
+    match remedy {
+        Remedy::Remove => advice.extend_from_slice(
+            b"Remove it, so that Git only fetches tags of what else it fetches, or don't prune: ",
+        )?,
+        Remedy::Move => {
+            let folder = joined(alloc, b"refs/remotes/", remote, b"/*")?;
+            say(
+                advice,
+                "Write to another folder, such as ",
+                folder.as_bstr().as_bytes(),
+            )?;
+            advice.extend_from_slice(b", or don't prune: ")?;
+        }
+        Remedy::None => advice.extend_from_slice(b"Don't prune: ")?,
     }
-    let mut key = Vec::from_slice(alloc, b"remote.")?;
-    key.extend_from_slice(remote)?;
-    key.extend_from_slice(b".prune")?;
-    say(advice, ", or don't prune: git config ", key.as_slice())?;
+    let key = joined(alloc, b"remote.", remote, b".prune")?;
+    say(advice, "git config ", key.as_bstr().as_bytes())?;
     advice.extend_from_slice(b" false")
 }
 
@@ -353,12 +513,9 @@ struct Target<'a> {
 }
 
 impl<'a> Target<'a> {
-    // The destination of a value below `refs/`, but for tags, which all remotes share.
+    // The destination of a value.
     fn of(remote: usize, value: Value<'a>) -> Option<Target<'a>> {
         let side = value.spec.destination()?.as_bytes();
-        if !side.starts_with(b"refs/") || side.starts_with(b"refs/tags/") {
-            return None;
-        }
         let (before, after) = match split_at_first_star(side) {
             None => (side, None),
             Some((before, after)) => (before, Some(after)),
@@ -369,6 +526,11 @@ impl<'a> Target<'a> {
             before,
             after,
         })
+    }
+
+    // Whether its names are below `refs/`, but for tags, which all remotes share.
+    fn is_own(&self) -> bool {
+        self.before.starts_with(b"refs/") && !self.before.starts_with(b"refs/tags/")
     }
 
     // Whether it may match a name that begins with this text, which another destination has before its star.
@@ -402,6 +564,9 @@ impl<'a> Target<'a> {
     }
 }
 
+// With so many of the nearest destinations above it a destination is compared.
+const NEAREST: usize = 64;
+
 // Adds a warning for each two remotes that write one ref, by the values of which one destination begins with the other.
 fn add_shared<'a>(
     alloc: Global,
@@ -414,15 +579,16 @@ fn add_shared<'a>(
     let mut told: BTreeSet<(usize, usize)> = BTreeSet::new(alloc);
     for target in &targets {
         drop_others(&mut above, target.before);
-        if let Some(last) = above.last() {
+        for other in above.iter().rev().take(NEAREST) {
             let pair = (
-                last.remote.min(target.remote),
-                last.remote.max(target.remote),
+                other.remote.min(target.remote),
+                other.remote.max(target.remote),
             );
-            if last.remote != target.remote && !told.contains(&pair) {
-                if let Some(warning) = shared_by(alloc, remotes, chosen, last, target)? {
+            if other.remote != target.remote && !told.contains(&pair) {
+                if let Some(warning) = shared_by(alloc, remotes, chosen, other, target)? {
                     told.insert(pair)?;
                     found.push(warning)?;
+                    break;
                 }
             }
         }
@@ -449,7 +615,9 @@ fn targets_of<'a>(alloc: Global, remotes: &[Remote<'a>]) -> Result<Vec<Target<'a
     for (index, remote) in remotes.iter().enumerate() {
         for value in &remote.values {
             if let Some(target) = Target::of(index, *value) {
-                targets.push(target)?;
+                if target.is_own() {
+                    targets.push(target)?;
+                }
             }
         }
     }
@@ -471,20 +639,9 @@ fn shared_by<'a>(
     if !is_chosen(chosen, first) && !is_chosen(chosen, second) {
         return Ok(None);
     }
-    let mut name = Vec::from_slice(alloc, other.before)?;
-    if let Some(after) = other.after {
-        let longer = match one.after {
-            Some(other_after) if other_after.len() > after.len() => other_after,
-            _ => after,
-        };
-        name.extend_from_slice(b"topic")?;
-        name.extend_from_slice(longer)?;
-    }
-    if !writes(alloc, first, one, name.as_slice())?
-        || !writes(alloc, second, other, name.as_slice())?
-    {
+    let Some(name) = shared_name(alloc, (first, one), (second, other))? else {
         return Ok(None);
-    }
+    };
     let mut warning = Warning::on(
         alloc,
         Topic::SharedDestination,
@@ -502,6 +659,33 @@ fn shared_by<'a>(
     Ok(Some(warning))
 }
 
+// A ref that two remotes write, each by one destination, of which the second begins with the first up to the stars.
+fn shared_name(
+    alloc: Global,
+    (first, one): (&Remote<'_>, &Target<'_>),
+    (second, other): (&Remote<'_>, &Target<'_>),
+) -> Result<Option<Vec<u8>>, AllocError> {
+    let Some(after) = other.after else {
+        let name = Vec::from_slice(alloc, other.before)?;
+        let is_shared = writes(alloc, first, one, name.as_slice())?
+            && writes(alloc, second, other, name.as_slice())?;
+        return Ok(if is_shared { Some(name) } else { None });
+    };
+    let longer = match one.after {
+        Some(other_after) if other_after.len() > after.len() => other_after,
+        _ => after,
+    };
+    for word in BRANCHES {
+        let name = joined(alloc, other.before, word, longer)?.into_vec();
+        if writes(alloc, first, one, name.as_slice())?
+            && writes(alloc, second, other, name.as_slice())?
+        {
+            return Ok(Some(name));
+        }
+    }
+    Ok(None)
+}
+
 // Whether a remote's fetch can write a name by one of its values: its negative values don't exclude the source.
 fn writes(
     alloc: Global,
@@ -512,10 +696,10 @@ fn writes(
     let Some(source) = target.source_of(alloc, name)? else {
         return Ok(false);
     };
-    let mut specs = Vec::with_capacity(alloc, remote.values.len())?;
-    for value in &remote.values {
-        specs.push(value.spec)?;
-    }
-    let exclusions = Exclusions::of(alloc, specs.as_slice())?;
-    Ok(exclusions.spec_of(source.as_slice()).is_none())
+    Ok(
+        remote
+            .exclusions(alloc)?
+            .spec_of(source.as_slice())
+            .is_none(),
+    )
 }

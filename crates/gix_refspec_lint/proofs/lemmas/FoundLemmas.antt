@@ -6,7 +6,7 @@ use Rattle.gix_refspec_lint.proofs.Common.{HasPattern, HaveCommon, HaveParts, Is
 use Rattle.gix_refspec_lint.proofs.Common.{length-take-le, IsJoinedFrom, IsMadeFrom, MakesOf, some_element, joined_next, made_next, zip_long, NoneAt, MatchOption, drop, option_map, words_with, IsOverlap}
 use Rattle.gix_refspec_lint.proofs.{Common.{example_of, of_element, Fetches}, lemmas.IndexLemmas.{made_there, makes_fewer, of_maps, maps_of, zip_of, accepted_of, one_completed, reading_at}}
 use Rattle.gix_refspec_lint.proofs.lemmas.{MovedLemmas.decided, PatternLemmas.{maps_pattern, MapsPattern}, RunLemmas.each_deciding, SourceLemmas.{destination_made, pattern_there, plain_made}}
-use Rattle.gix_refspec_lint.specs.declared.PossibleConflict.{PossibleConflict}
+use Rattle.gix_refspec_lint.{proofs.Common.AreStorable, specs.declared.PossibleConflict.PossibleConflict}
 
 pub makes_also : (A B : List Ref) (s : Source) (d : Option (List ℕ)) (r : Reading) → HaveSameNames A B → MakesForward A s d r → MakesForward B s d r
 makes_also A B (name n) d r same makes = makes_fewer A B (name n) d r (λ n has. has_also B A n (sym same) has) (has_also A B n same (made_there A (name n) d r makes)) makes
@@ -22,9 +22,11 @@ module _ (g h : List Reading) (all : AllZip IsCompleted g h) (i j : ℕ) (refs :
   makes_named k c at r f = makes_also (refs_of s ++ refs_of t) refs r (Some d) c (sym named) (of_maps g h all k c at (refs_of s ++ refs_of t) r (Some d) f.maps.maps)
 
   -- and where both do, they conflict
-  pub conflict_made : (b c : Reading) → slice_get h i ≡ Some b → slice_get h j ≡ Some c → s ≢ t → IsValidSource s × ¬ (IsSourceExcluded g s) → IsValidSource t × ¬ (IsSourceExcluded g t) → CanBeWritten (Some d)
+  pub conflict_made : (b c : Reading) → slice_get h i ≡ Some b → slice_get h j ≡ Some c → s ≢ t
+      → AreStorable (refs_of s ++ refs_of t) → IsValidSource s × ¬ (IsSourceExcluded g s)
+      → IsValidSource t × ¬ (IsSourceExcluded g t) → CanBeWritten (Some d)
       → MakesForward refs s (Some d) b → MakesForward refs t (Some d) c → ConflictOver g (refs_of s ++ refs_of t) i j s t d
-  conflict_made b c at here differ one other written makes also = grind (arith, maps_of, makes_also)
+  conflict_made b c at here differ together one other written makes also = grind (arith, maps_of, makes_also)
 
 -- ---- what an example of a conflict says of its two specs, by their completed readings
 

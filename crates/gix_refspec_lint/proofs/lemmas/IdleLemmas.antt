@@ -2,20 +2,22 @@
 use Rattle.gix_refspec_lint.proofs.Common.{Fetches, map_each, item_named, ◌≡◌, ◌⊎◌, inl, inr, ℕ, zero, suc, ◌<◌, Bool, true, false, MatchOption, Bor, List, [], ◌∷◌, ◌++◌, Option, None, Some, codes, length}
 use Rattle.gix_refspec_lint.proofs.Common.{map, take, drop, get_or, append_assoc, refl, sym, ap, ◌∙◌, subst, arith, IsTrue, nat_eq, AllByRecursion, Contains, ends_with, is_some, false≢true, Decides-eqb}
 use Rattle.gix_refspec_lint.proofs.Common.{map-append, Contains-append_left, Contains-append_right, same_Some, ends_is, bstring_bytes, BString, Ref, MatchesAs, SideKind, pattern, object, partial, HasKind}
-use Rattle.gix_refspec_lint.proofs.Common.{Fits, candidates, Reading, IsSplit, EndsWith, Source, name, candidate_cases, map_split, MakesForward, IsRefName, AreAllowed, AreTriedBefore, Explains, Reason}
+use Rattle.gix_refspec_lint.proofs.Common.{Fits, candidates, Reading, IsSplit, EndsWith, Source, name, candidate_cases, map_split, MakesForward, IsRefName, AreAllowed, AreTriedBefore, Explains}
 use Rattle.gix_refspec_lint.proofs.Common.{Contains-push_cases, of_element, ◌+◌, ◌≤◌, AllZip, slice_get, HasName, IsFirstCandidate, upto, one_kind, IsCompleted, ref_named, AreValid, Maps, refs_of}
 use Rattle.gix_refspec_lint.proofs.Common.{AreAbsent, AreFreeing, ArePreferred, refs_with, one_word, all_join, IsFilled, id, IsExcludedBy, IsSourceExcluded, HaveSameNames, IsValidSource, MapsSoundly}
 use Rattle.gix_refspec_lint.proofs.{Common.{IsAtWork, IsShown, MakesSoundly, all_right, mapped_there}, lemmas.{FoundLemmas.makes_also, IndexLemmas.{made_there, own_among, named_in, makes_again, zip_to}}}
 use Rattle.gix_refspec_lint.proofs.lemmas.{IndexLemmas.{one_completed, all_listed, maps_as, maps_of, of_maps, excluded_at}, PatternLemmas.{word_of, destination_once}, SourceLemmas.{taken_as, taken_cases}}
 use Rattle.gix_refspec_text.proofs.lemmas.lists.LacksLemmas.{first_with}
 use Rattle.gix_refspec.proofs.lemmas.keep.FilterLemmas.{name_there}
-use Rattle.gix_refspec_lint.specs.declared.Reason.TheVariants as reason
+use Rattle.gix_refspec_lint.specs.{Private.Idles.IsOther, declared.idle.{Idleness.Idleness, Others.Others}}
+use Rattle.gix_refspec_lint.specs.declared.idle.Idleness.TheVariants as idleness
 
 -- the last of the reasons explains what each explains
-pub duplicate_any : (g : List Reading) (k : ℕ) (s : Source) (r : Reason) (h : ℕ) → Explains g k s r → Explains g k s (reason.Duplicate h)
-duplicate_any g k s reason.Invalid h none = λ refs d valid f. absurd (none refs d f.maps)
-duplicate_any g k s (reason.Excluded n) h none = λ refs d valid f. absurd (none refs d f)
-duplicate_any g k s (reason.Duplicate i) h earlier = earlier
+pub duplicate_any : (g : List Reading) (others : Others) (k : ℕ) (s : Source) (r : Idleness) (h : ℕ)
+    → Explains g others k s r → Explains g others k s (idleness.Duplicate h)
+duplicate_any g others k s idleness.Invalid h none = λ refs d valid f. absurd (none refs d f.maps)
+duplicate_any g others k s (idleness.Excluded n) h none = λ refs d valid f. absurd (none refs d f)
+duplicate_any g others k s (idleness.Duplicate i) h mapped = mapped
 
 pub fits_taken : (r : Reading) (x : List ℕ) → r.source ≡ Some x → (refs : List Ref) (n : List ℕ) (d : Option (List ℕ)) (before after : List ℕ) (word : Option (Bor (List ℕ))) → ((y : List ℕ) × (Some x ≡ Some y) × IsSplit before after y)
     → MatchOption word ((w : List ℕ) → ¬ (Fits before after n w)) (λ w. Fits before after n w.now) → MakesForward refs (name n) d r → IsTrue (is_some word)
@@ -108,24 +110,38 @@ preferred_partial r x n names has kind tried = record {
 pub each_named : (P : List ℕ → Type 0) (refs : List Ref) (m : List ℕ) → AllByRecursion (λ (r : Ref). P r.name) refs → HasName refs m → P m
 each_named P refs m all has = let (r, there, is) = item_named refs m has in subst P is (of_element (λ (r : Ref). P r.name) refs r all there)
 
--- the names are valid and not kept away, and those that earlier specs prefer are among them
-pub record FreesSoFar (h : List Reading) (s : Source) (away : List (List ℕ)) (names : List (List ℕ)) (k : ℕ) : Type 0 where
+-- the names are valid and not kept away, and those that others so far prefer are among them
+pub record FreesSoFar (h : List Reading) (s : Source) (away : List (List ℕ)) (names : List (List ℕ))
+    (from k : ℕ) : Type 0 where
   pub allowed : (n : List ℕ) → Contains names n → IsRefName n × ¬ (Contains away n)
-  pub preferred : (i : ℕ) (c : Reading) → i < k → slice_get h i ≡ Some c → (others : List (List ℕ)) × ArePreferred c s others × ((n : List ℕ) → Contains others n → IsRefName n → ¬ (Contains away n) → Contains names n)
+  pub preferred : (i : ℕ) (c : Reading) → from ≤ i → i < k → slice_get h i ≡ Some c
+      → (others : List (List ℕ)) × ArePreferred c s others × ((n : List ℕ) → Contains others n → IsRefName n
+      → ¬ (Contains away n) → Contains names n)
 
-pub frees_next : (h : List Reading) (s : Source) (away names others new : List (List ℕ)) (k : ℕ) (c : Reading) → slice_get h k ≡ Some c → ArePreferred c s others → AreAllowed names others away new → FreesSoFar h s away names k → FreesSoFar h s away new (k + 1)
-frees_next h s away names others new k c at preferred allowed so_far = record {
+pub frees_none : (h : List Reading) (s : Source) (away names : List (List ℕ)) (from : ℕ) → names ≡ []
+    → FreesSoFar h s away names from from
+frees_none h s away names from none =
+    rw none (record {
+      allowed = λ n (k, below, is). absurd (omega (arith, below));
+      preferred = λ i c after below here. absurd (omega (arith, after, below));
+    })
+
+pub frees_next : (h : List Reading) (s : Source) (away names others new : List (List ℕ)) (from k : ℕ) (c : Reading)
+    → slice_get h k ≡ Some c → ArePreferred c s others
+    → AreAllowed names others away new → FreesSoFar h s away names from k → FreesSoFar h s away new from (k + 1)
+frees_next h s away names others new from k c at preferred allowed so_far = record {
   allowed = λ n there. elim (allowed.only n there) [ inl old ↦ so_far.allowed n old | inr added ↦ added ];
-  preferred = λ i e below here. elim (upto i k below) [
-    | inl earlier ↦ let (list, are, has) = so_far.preferred i e earlier here in (list, are, λ n there valid free. allowed.has_old n (has n there valid free))
+  preferred = λ i e after below here. elim (upto i k below) [
+    | inl earlier ↦ let (list, are, has) = so_far.preferred i e after earlier here in
+        (list, are, λ n there valid free. allowed.has_old n (has n there valid free))
     | inr same ↦ (others, rw (same_Some _ _ (sym here ∙ ap (slice_get h) same ∙ at)) preferred, allowed.has)
   ];
 }
 
--- so the names free earlier specs
-pub freeing : (g h : List Reading) (all : AllZip IsCompleted g h) (j k : ℕ) (s : Source) (away names : List (List ℕ)) (c : Reading) → slice_get h k ≡ Some c → k ≤ j → ArePreferred c s away
-    → FreesSoFar h s away names j → AreFreeing g k s names
-freeing g h all j k s away names c at fewer preferred so_far = record {
+-- so the names free others
+pub freeing : (g h : List Reading) (all : AllZip IsCompleted g h) (others : Others) (j k : ℕ) (s : Source) (away names : List (List ℕ)) (c : Reading) → slice_get h k ≡ Some c → others.to ≤ j
+    → ArePreferred c s away → FreesSoFar h s away names others.from j → AreFreeing g others k s names
+freeing g h all others j k s away names c at fewer preferred so_far = record {
   valid = all_listed IsRefName names (λ m there. (so_far.allowed m there).0);
   keeps = λ refs d m.
       let makes = of_maps g h all k c at refs s d m in
@@ -135,16 +151,19 @@ freeing g h all j k s away names c at fewer preferred so_far = record {
         | inl own ↦ of_element (λ m. ¬ (HasName refs m)) away n (preferred.absent refs d makes) there (own_among refs s (made_there refs s d c makes) n own)
         | inr other ↦ (so_far.allowed n (each_named (Contains names) (map ref_named names) n named other)).1 there
       ]))));
-  frees = λ refs i d e valid m below other.
+  frees = λ refs i d e valid m (after, below) other.
       let makes = of_maps g h all k c at refs s d m in
-      let (others, are, has) = so_far.preferred i other.completed (omega (arith, below, fewer)) (zip_to g h all i other.reading other.completed other.at other.is) in
-      maps_as other (are.enough (refs_with s names) refs e other.makes (own_among refs s (made_there refs s d c makes)) (all_listed (λ n. ¬ (HasName refs n)) others (λ n there present.
+      let before : i < j = omega (arith, below, fewer) in
+      let (list, are, has) = so_far.preferred i other.completed after before
+      (zip_to g h all i other.reading other.completed other.at other.is) in
+      maps_as other (are.enough (refs_with s names) refs e other.makes
+      (own_among refs s (made_there refs s d c makes)) (all_listed (λ n. ¬ (HasName refs n)) list (λ n there present.
       let free = has n there (each_named IsRefName refs n valid present) (λ kept. of_element (λ m. ¬ (HasName refs m)) away n (preferred.absent refs d makes) kept present) in
-      of_element (λ m. ¬ (HasName (refs_with s names) m)) others n (are.absent (refs_with s names) e other.makes) there
+      of_element (λ m. ¬ (HasName (refs_with s names) m)) list n (are.absent (refs_with s names) e other.makes) there
       ((named_in (refs_of s) (map ref_named names) n).1 (inr (name_there (map ref_named names) (ref_named n) (mapped_there ref_named names n free)))))));
 }
 
--- ---- why a spec does nothing with a source, beside refs that free earlier specs
+-- ---- why a spec does nothing with a source, beside refs that free others
 
 same_words : (k : SideKind) (a b : Ref) (v w : Option (List ℕ)) → a.name ≡ b.name → ((bytes : List ℕ) → ¬ (k ≡ object bytes)) → MatchesAs k a v → MatchesAs k b w → v ≡ w
 same_words (pattern before after) a b (Some v) (Some w) same none of_a of_b = ap Some (one_word before after b.name v w (rw same at of_a) of_b)
@@ -164,21 +183,24 @@ one_far A B (name n) d e c one other =
 maps_also : (g : List Reading) (A B : List Ref) (k : ℕ) (s : Source) (d : Option (List ℕ)) → HaveSameNames A B → Maps g A k s d → Maps g B k s d
 maps_also g A B k s d same m = maps_as m (makes_also A B s d m.completed same m.makes)
 
-module _ (g cs : List Reading) (all : AllZip IsCompleted g cs) (k : ℕ) (c : Reading) (here : slice_get cs k ≡ Some c)
-    (s : Source) (names : List (List ℕ)) (freeing : AreFreeing g k s names) (items : List Ref) (same : HaveSameNames items (refs_with s names)) where
+module _ (g cs : List Reading) (all : AllZip IsCompleted g cs) (others : Others) (k : ℕ) (c : Reading)
+    (here : slice_get cs k ≡ Some c)
+    (s : Source) (names : List (List ℕ)) (freeing : AreFreeing g others k s names) (items : List Ref)
+    (same : HaveSameNames items (refs_with s names)) where
   abbrev refs : List Ref
   refs = refs_with s names
 
-  pub explains_invalid : ((d : Option (List ℕ)) → ¬ (MakesSoundly items s d c)) → Explains g k s reason.Invalid
+  pub explains_invalid : ((d : Option (List ℕ)) → ¬ (MakesSoundly items s d c)) → Explains g others k s idleness.Invalid
   explains_invalid none = grind (arith, makes_also, of_maps)
 
   module _ (e : Option (List ℕ)) (makes : MakesSoundly items s e c) where
     maps : MapsSoundly g refs k s e
     maps = record { maps = maps_of g cs all k c here refs s e (makes_also items refs s e c same makes.makes); source = makes.source; destination = makes.destination }
 
-    pub shows_excluded : (n : List ℕ) (j : ℕ) (r : Reading) → s ≡ name n → slice_get g j ≡ Some r → IsExcludedBy n r → Explains g k s (reason.Excluded j) × IsShown g k (reason.Excluded j)
+    pub shows_excluded : (n : List ℕ) (j : ℕ) (r : Reading) → s ≡ name n → slice_get g j ≡ Some r → IsExcludedBy n r
+        → Explains g others k s (idleness.Excluded j) × IsShown g others k (idleness.Excluded j)
     shows_excluded n j r named at by = (
-      (λ others d f. f.included (subst (IsSourceExcluded g) (sym named) (excluded_at g j r n at by))),
+      (λ A d f. f.included (subst (IsSourceExcluded g) (sym named) (excluded_at g j r n at by))),
       record { refs = refs; source = n; destination = e; maps = subst (λ t. MapsSoundly g refs k t e) named maps; negative = r; at = at; excludes = by },
     )
 
@@ -186,16 +208,29 @@ module _ (g cs : List Reading) (all : AllZip IsCompleted g cs) (k : ℕ) (c : Re
       fetches : AreValid refs × Fetches g refs k s e
       fetches =
           let own = elim s as (λ t. IsValidSource t → AreValid (refs_of t)) [ name n ↦ λ fine. (fine, tt) | id bytes ↦ λ fine. tt ] in
-          let others = map_each IsRefName (λ (r : Ref). IsRefName r.name) ref_named (λ n fine. fine) names freeing.valid in
-          (all_join (λ (r : Ref). IsRefName r.name) (refs_of s) (map ref_named names) (own makes.source) others, record { maps = maps; included = included })
+          let rest = map_each IsRefName (λ (r : Ref). IsRefName r.name) ref_named
+          (λ n fine. fine) names freeing.valid in (
+            all_join (λ (r : Ref). IsRefName r.name) (refs_of s) (map ref_named names) (own makes.source) rest,
+            record { maps = maps; included = included },
+          )
 
-      pub is_at_work : ((h : ℕ) → h < k → ¬ (Maps g items h s e)) → IsAtWork g k
+      pub is_at_work : ((h : ℕ) → IsOther others h → ¬ (Maps g items h s e)) → IsAtWork g others k
       is_at_work none = record { refs = refs; valid = fetches.0; source = s; destination = e; fetches = fetches.1; first = λ h before m. none h before (maps_also g refs items h s e (sym same) m) }
 
-      pub shows_duplicate : (h : ℕ) → h < k → Maps g items h s e → Explains g k s (reason.Duplicate h) × IsShown g k (reason.Duplicate h)
+      pub shows_duplicate : (h : ℕ) → IsOther others h → Maps g items h s e
+          → Explains g others k s (idleness.Duplicate h) × IsShown g others k (idleness.Duplicate h)
       shows_duplicate h before m =
           let also = maps_also g items refs h s e same m in
-          let one : (others : List Ref) (d : Option (List ℕ)) → Maps g others k s d → d ≡ e = λ others d m. one_far others items s d e c (of_maps g cs all k c here others s d m) makes.makes in (
-            (λ others d fine f. (h, before, rw (one others d f.maps.maps) (freeing.frees others h d e fine f.maps.maps before also))),
-            record { refs = refs; valid = fetches.0; source = s; destination = e; fetches = fetches.1; before = before; maps = also },
+          let one : (A : List Ref) (d : Option (List ℕ)) → Maps g A k s d → d ≡ e = λ A d m. one_far A items s d e c
+          (of_maps g cs all k c here A s d m) makes.makes in (
+            (λ A d fine f. (h, before, rw (one A d f.maps.maps) (freeing.frees A h d e fine f.maps.maps before also))),
+            record {
+              refs = refs;
+              valid = fetches.0;
+              source = s;
+              destination = e;
+              fetches = fetches.1;
+              other = before;
+              maps = also;
+            },
           )

@@ -1,27 +1,94 @@
 -- Why a spec does nothing, from what becomes of its mappings at the names that decide.
-use Rattle.gix_refspec_lint.proofs.Common.{option_map, candidates, candidate_contained, ◌≡◌, ◌≢◌, inl, inr, ℕ, ◌+◌, ◌<◌, option_to_list, take, List, [], ◌∷◌, ◌++◌, Option, None, Some, codes, length, map}
+use Rattle.gix_refspec_lint.proofs.Common.{candidates, candidate_contained, ◌≡◌, ◌≢◌, inl, inr, ℕ, ◌+◌, ◌<◌, option_to_list, take, List, [], ◌∷◌, ◌++◌, Option, None, Some, codes, length, map}
 use Rattle.gix_refspec_lint.proofs.Common.{get_or, append-nil, refl, sym, ◌∙◌, subst, arith, AllByRecursion, AllZip, Contains, slice_get, same_Some, Ref, HasName, IsCandidate, IsPositive, Reading, star}
 use Rattle.gix_refspec_lint.proofs.Common.{IsSplit, Lacks, reading_of, RefSpecRef, lacks_no_pattern, all_join, all_right, Lacks-here, first_once, IsMadeFrom, MakesOf, Source, name, id, IsSourceExcluded}
-use Rattle.gix_refspec_lint.proofs.Common.{some_element, made_more, MakesForward, IsCompleted, AreIdle, IsFree, IsIdleBy, Maps, MapsSoundly, Unused, Explains, HasSourcePattern, IsReasonOf, IsShown, IsWhy}
-use Rattle.gix_refspec_lint.proofs.{Common.{IsDeciding, IsLongerPrefix, IsLongerSuffix, words_with, Reason, of_element, refs_of, MakesSoundly}, lemmas.ByteLemmas.{excluded_moved, fits_byte, lacks_refs}}
+use Rattle.gix_refspec_lint.proofs.Common.{some_element, made_more, MakesForward, IsCompleted, AreIdle, IsFree, IsIdleBy, Maps, MapsSoundly, Unused, Explains, HasSourcePattern, IsShown, IsWhy}
+use Rattle.gix_refspec_lint.proofs.{Common.{IsDeciding, IsLongerPrefix, IsLongerSuffix, words_with, of_element, refs_of, MakesSoundly}, lemmas.ByteLemmas.{excluded_moved, fits_byte, lacks_refs}}
 use Rattle.gix_refspec_lint.proofs.lemmas.{ByteLemmas.lacks_mid, DecideLemmas.{Decided, IsMovedFar, decide}, IndexLemmas.{zip_to, reading_at, of_maps, accepted_of, one_completed, maps_as}}
 use Rattle.gix_refspec_lint.proofs.lemmas.{LeftOutLemmas.{made_completed, idle_earlier}, MovedLemmas.{lacks_destination, lacks_parts, lacks_source}, PatternLemmas.{HasShape, pattern_spec, spec_made}}
 use Rattle.gix_refspec_lint.proofs.lemmas.{PatternLemmas.{spec_maps, PatternSpec}, SourceLemmas.taken_cases, WordLemmas.{between, within}}
+use Rattle.gix_refspec_lint.proofs.Common.{IsAtWork, IsUnused, ◌≤◌, true, false, false≢true, is_some}
+use Rattle.gix_refspec_lint.specs.Matching.Lint.{IsCoveredBy}
+use Rattle.gix_refspec_lint.specs.Private.Idles.{IsAlwaysMapped, IsCovering, IsIdleAs, IsOther, IsWhyBeside, alone_at, earlier_than}
+use Rattle.gix_refspec_lint.specs.declared.idle.{Idleness.Idleness, Others.Others}
+use Rattle.gix_refspec_lint.specs.declared.idle.Idleness.TheVariants as idleness
 use Rattle.gix_refspec_lint.specs.declared.Reason.TheVariants as reason
 
-pub idle_by : (g : List Reading) (k : ℕ) (r : Reason) → ((s : Source) → Explains g k s r) → IsShown g k r → IsIdleBy g k r
-idle_by g k reason.Invalid explains shown = λ refs s d. explains s refs d
-idle_by g k (reason.Excluded n) explains shown = ((λ refs s d. explains s refs d), shown)
-idle_by g k (reason.Duplicate h) explains shown = ((λ refs s d. explains s refs d), shown)
+pub idle_by : (g : List Reading) (others : Others) (k : ℕ) (r : Idleness) → ((s : Source) → Explains g others k s r)
+    → IsShown g others k r → IsIdleAs g others k r
+idle_by g others k idleness.Invalid explains shown = λ refs s d. explains s refs d
+idle_by g others k (idleness.Excluded n) explains shown = ((λ refs s d. explains s refs d), shown)
+idle_by g others k (idleness.Duplicate h) explains shown = ((λ refs s d. explains s refs d), shown)
 
-pub explains_if : (g : List Reading) (k : ℕ) (s : Source) (r : Reason) → ((refs : List Ref) (d : Option (List ℕ)) → MapsSoundly g refs k s d → Explains g k s r) → Explains g k s r
-explains_if g k s reason.Invalid why = λ refs d m. why refs d m refs d m
-explains_if g k s (reason.Excluded n) why = λ refs d f. why refs d f.maps refs d f
-explains_if g k s (reason.Duplicate h) why = λ refs d valid f. why refs d f.maps refs d valid f
+pub explains_if : (g : List Reading) (others : Others) (k : ℕ) (s : Source) (r : Idleness)
+    → ((refs : List Ref) (d : Option (List ℕ)) → MapsSoundly g refs k s d → Explains g others k s r)
+    → Explains g others k s r
+explains_if g others k s idleness.Invalid why = λ refs d m. why refs d m refs d m
+explains_if g others k s (idleness.Excluded n) why = λ refs d f. why refs d f.maps refs d f
+explains_if g others k s (idleness.Duplicate h) why = λ refs d valid f. why refs d f.maps refs d valid f
 
-pub reason_of : (g : List Reading) (k : ℕ) (c : Reading) → IsPositive c.mode → (why : Option Reason) → IsWhy g k why → IsReasonOf g k c why
-reason_of g k c positive None works = λ also. works
-reason_of g k c positive (Some r) idle = (positive, idle)
+pub why_beside : (g : List Reading) (others : Others) (k : ℕ) (c : Reading) → IsPositive c.mode
+    → (why : Option Idleness) → IsWhy g others k why → IsWhyBeside g others k c why
+why_beside g others k c positive None works = λ also. works
+why_beside g others k c positive (Some r) idle = (positive, idle)
+
+-- what is told of a spec that is idle, or isn't
+pub why_some : (g : List Reading) (others : Others) (k : ℕ) (c : Reading) (why : Option Idleness) → is_some why ≡ true
+    → IsWhyBeside g others k c why → (r : Idleness) × IsIdleAs g others k r
+why_some g others k c None some told = absurd (false≢true some)
+why_some g others k c (Some r) some told = (r, told.1)
+
+pub why_none : (g : List Reading) (others : Others) (k : ℕ) (c : Reading) (why : Option Idleness)
+    → is_some why ≡ false → IsPositive c.mode → IsWhyBeside g others k c why → IsAtWork g others k
+why_none g others k c None none positive told = told positive
+why_none g others k c (Some r) none positive told = absurd (false≢true (sym none))
+
+-- ---- the whole reason
+
+-- an idle spec fetches nothing that the others don't map
+idle_mapped : (g : List Reading) (others : Others) (k : ℕ) (r : Idleness) → IsIdleAs g others k r
+    → IsAlwaysMapped g others k
+idle_mapped g others k idleness.Invalid never = λ refs s d valid f. absurd (never refs s d f.maps)
+idle_mapped g others k (idleness.Excluded n) idle = λ refs s d valid f. absurd (idle.0 refs s d f)
+idle_mapped g others k (idleness.Duplicate h) idle = idle.0
+
+-- if the only other one is at index h, it covers the spec
+pub covered : (g : List Reading) (k h : ℕ) (r : Idleness) → IsIdleAs g (alone_at h) k r → IsCoveredBy g k h
+covered g k h r idle refs s d valid f =
+    let (i, (from, to), maps) = idle_mapped g (alone_at h) k r idle refs s d valid f in
+    let same : i ≡ h = omega (arith, from, to) in
+    subst (λ j. Maps g refs j s d) same maps
+
+pub duplicate_of : (g : List Reading) (k i h : ℕ) → IsIdleAs g (earlier_than k) k (idleness.Duplicate i)
+    → IsCovering g k (Some h) → IsIdleBy g k (reason.Duplicate h)
+duplicate_of g k i h (always, one) (below, (why, idle)) =
+    let by = covered g k h why idle in (
+      by,
+      record {
+        refs = one.refs;
+        source = one.source;
+        destination = one.destination;
+        fetches = one.fetches;
+        before = below;
+        maps = by one.refs one.source one.destination one.valid one.fetches;
+      },
+    )
+
+pub duplicates_of : (g : List Reading) (k i : ℕ) → IsIdleAs g (earlier_than k) k (idleness.Duplicate i)
+    → IsCovering g k None → IsIdleBy g k reason.Duplicates
+duplicates_of g k i (always, one) none = (
+  (λ refs s d valid f. let (h, (from, below), maps) = always refs s d valid f in (h, below, maps)),
+  (λ h below.
+      let w = none h below in
+      record {
+        refs = w.refs;
+        valid = w.valid;
+        source = w.source;
+        destination = w.destination;
+        fetches = w.fetches;
+        unmapped = w.first h (omega arith, omega arith);
+      }),
+)
 
 -- ---- what takes a name with the free byte
 
@@ -80,7 +147,9 @@ module _ (z : ℕ) (g : List Reading) (free : IsFree g z) where
 
   -- ---- all sources of a pattern
 
-  module _ (cs : List RefSpecRef) (all : AllZip IsCompleted g (map reading_of cs)) (k : ℕ) (c : Reading) (at : slice_get (map reading_of cs) k ≡ Some c) (positive : IsPositive c.mode) (p t : List ℕ) (source : HasSourcePattern c p t) where
+  module _ (cs : List RefSpecRef) (all : AllZip IsCompleted g (map reading_of cs)) (others : Others) (k : ℕ)
+      (c : Reading) (at : slice_get (map reading_of cs) k ≡ Some c) (positive : IsPositive c.mode) (p t : List ℕ)
+      (source : HasSourcePattern c p t) where
     spec : PatternSpec c p t
     spec = pattern_spec c p t (accepted_of cs k c at) positive source
 
@@ -101,12 +170,16 @@ module _ (z : ℕ) (g : List Reading) (free : IsFree g z) where
     included_there : (n : List ℕ) (d : Option (List ℕ)) (q : Decided z c p t p t 0 n d) → ¬ (IsSourceExcluded g (name n)) → ¬ (IsSourceExcluded g (name q.source))
     included_there n d q none by = grind (arith, excluded_moved)
 
-    named : (r : Reason) → ((n : List ℕ) → IsDeciding (words_with z) p t 0 n → Explains g k (name n) r) → (n : List ℕ) → Explains g k (name n) r
-    named reason.Invalid decides n = λ refs d m. let (q, maps) = found refs n d m in decides q.source q.deciding (refs_of (name q.source)) q.destination (maps (refs_of (name q.source)) (inl refl))
-    named (reason.Excluded j) decides n = λ refs d f. let (q, maps) = found refs n d f.maps in
+    named : (r : Idleness) → ((n : List ℕ) → IsDeciding (words_with z) p t 0 n → Explains g others k (name n) r)
+        → (n : List ℕ) → Explains g others k (name n) r
+    named idleness.Invalid decides n = λ refs d m.
+        let (q, maps) = found refs n d m in
+        decides q.source q.deciding (refs_of (name q.source)) q.destination (maps (refs_of (name q.source)) (inl refl))
+    named (idleness.Excluded j) decides n = λ refs d f. let (q, maps) = found refs n d f.maps in
         decides q.source q.deciding (refs_of (name q.source)) q.destination (record { maps = maps (refs_of (name q.source)) (inl refl); included = included_there n d q f.included })
-    named (reason.Duplicate j) decides n = λ refs d valid f. let (q, maps) = found refs n d f.maps in elim q.moved [
-      | inl (same, also) ↦ subst (λ x. Explains g k (name x) (reason.Duplicate j)) same (decides q.source q.deciding) refs d valid f
+    named (idleness.Duplicate j) decides n = λ refs d valid f. let (q, maps) = found refs n d f.maps in elim q.moved [
+      | inl (same, also) ↦ subst (λ x. Explains g others k (name x) (idleness.Duplicate j)) same
+          (decides q.source q.deciding) refs d valid f
       | inr moved ↦
           let few = refs_of (name q.source) in
           let sound = maps few (inl refl) in
@@ -125,35 +198,54 @@ module _ (z : ℕ) (g : List Reading) (free : IsFree g z) where
     ]
 
     -- what explains the names with the words explains all
-    pub words_explain : (r : Reason) → AllByRecursion (λ w. Explains g k (name (p ++ (w ++ t))) r) (words_with z) → (s : Source) → Explains g k s r
+    pub words_explain : (r : Idleness)
+        → AllByRecursion (λ w. Explains g others k (name (p ++ (w ++ t))) r) (words_with z) → (s : Source)
+        → Explains g others k s r
     words_explain r explained (name n) = named r (λ m deciding. elim deciding [
-      | inl (w, there, is) ↦ subst (λ x. Explains g k (name x) r) (sym is) (of_element (λ w. Explains g k (name (p ++ (w ++ t))) r) (words_with z) w explained there)
+      | inl (w, there, is) ↦ subst (λ x. Explains g others k (name x) r) (sym is)
+          (of_element (λ w. Explains g others k (name (p ++ (w ++ t))) r) (words_with z) w explained there)
       | inr (l, none, overlap, is) ↦ absurd (omega (arith, none, overlap.some))
     ]) n
-    words_explain r explained (id bytes) = explains_if g k (id bytes) r (λ refs d m.
+    words_explain r explained (id bytes) = explains_if g others k (id bytes) r (λ refs d m.
         let makes = of_maps g (map reading_of cs) all k c at refs (id bytes) d m.maps in
         let near : makes.text ≡ source.text = same_Some _ _ (sym makes.side ∙ source.has) in
         absurd (lacks_no_pattern source.text p t (subst (Lacks star) near makes.object.0) source.split))
 
-pub sources_explain : (g : List Reading) (cs : List RefSpecRef) (all : AllZip IsCompleted g (map reading_of cs)) (k : ℕ) (e : Reading) → slice_get (map reading_of cs) k ≡ Some e → (sources : List Source)
-    → ((refs : List Ref) (s : Source) (d : Option (List ℕ)) → MakesForward refs s d e → Contains sources s) → (r : Reason) → AllByRecursion (λ s. Explains g k s r) sources → (s : Source) → Explains g k s r
-sources_explain g cs all k e also sources has r explained s = explains_if g k s r (λ refs d m.
-    of_element (λ t. Explains g k t r) sources s explained (has refs s d (of_maps g (map reading_of cs) all k e also refs s d m.maps)))
+pub sources_explain : (g : List Reading) (cs : List RefSpecRef) (all : AllZip IsCompleted g (map reading_of cs)) (others : Others) (k : ℕ) (e : Reading) → slice_get (map reading_of cs) k ≡ Some e → (sources : List Source)
+    → ((refs : List Ref) (s : Source) (d : Option (List ℕ)) → MakesForward refs s d e → Contains sources s)
+    → (r : Idleness) → AllByRecursion (λ s. Explains g others k s r) sources → (s : Source) → Explains g others k s r
+sources_explain g cs all others k e also sources has r explained s = explains_if g others k s r (λ refs d m.
+    of_element (λ t. Explains g others k t r) sources s explained
+    (has refs s d (of_maps g (map reading_of cs) all k e also refs s d m.maps)))
 
 abbrev pub IsIdleAt : List Reading → ℕ → Reading → Unused → Type 0
-IsIdleAt g k c u = (u.spec ≡ k) × IsPositive c.mode × IsIdleBy g k u.reason
+IsIdleAt g k c u = IsPositive c.mode × IsUnused g k u
 
 pub idle_of : (g h : List Reading) (idle : List Unused) → AllZip IsCompleted g h → IsMadeFrom (IsIdleAt g) 0 h idle → AreIdle g idle
-idle_of g h idle all made = grind (arith, made_completed)
+idle_of g h idle all made =
+    made_completed (IsIdleAt g) (λ k r c u done. (
+      (λ is. (subst IsPositive (sym done.mode) is.0, is.1)),
+      λ is. (subst IsPositive done.mode is.0, is.1),
+    )) g h 0 idle all made
 
--- one more spec, with the reason if it is idle
-pub idle_next : (g : List Reading) (cs : List RefSpecRef) (i : ℕ) (ys zs : List Unused) (why : Option Reason) → i < length cs → ((c : Reading) → slice_get (map reading_of cs) i ≡ Some c → IsReasonOf g i c why)
-    → IsMadeFrom (IsIdleAt g) 0 (map reading_of (take i cs)) ys → zs ≡ ys ++ option_to_list (option_map (λ r. record { spec = i; reason = r }) why) → IsMadeFrom (IsIdleAt g) 0 (map reading_of (take (i + 1) cs)) zs
-idle_next g cs i ys zs why below told so_far more =
+-- what is known of one more spec
+abbrev pub IsTold : List Reading → ℕ → Reading → Option Unused → Type 0
+IsTold g k c None = IsPositive c.mode → IsAtWork g (earlier_than k) k
+IsTold g k c (Some u) = IsIdleAt g k c u
+
+-- one more spec, if it is idle
+pub idle_next : (g : List Reading) (cs : List RefSpecRef) (i : ℕ) (ys zs : List Unused) (one : Option Unused)
+    → i < length cs → ((c : Reading) → slice_get (map reading_of cs) i ≡ Some c → IsTold g i c one)
+    → IsMadeFrom (IsIdleAt g) 0 (map reading_of (take i cs)) ys → zs ≡ ys ++ option_to_list one
+    → IsMadeFrom (IsIdleAt g) 0 (map reading_of (take (i + 1) cs)) zs
+idle_next g cs i ys zs one below told so_far more =
     let d = some_element cs i below in
     let c = reading_of (get_or cs i d) in
-    let makes = elim why as (λ w. IsReasonOf g i c w → MakesOf (IsIdleAt g) i c (option_map (λ r. record { spec = i; reason = r }) w)) [
-      | None ↦ λ works u is. let w = works is.1 in let (j, before, maps) = idle_earlier g i u.reason is.2 w.refs w.source w.destination w.valid w.fetches in w.first j before maps
-      | Some r ↦ λ idle. (refl, idle.0, idle.1)
+    let makes = elim one as (λ w. IsTold g i c w → MakesOf (IsIdleAt g) i c w) [
+      | None ↦ λ works u is.
+          let w = works is.0 in
+          let (j, before, maps) = idle_earlier g i u.reason is.1.reason w.refs w.source w.destination w.valid w.fetches in
+          w.first j (omega arith, before) maps
+      | Some u ↦ λ idle. idle
     ] in
-    made_more (IsIdleAt g) reading_of cs i d ys zs _ below so_far (makes (told c (reading_at cs i d below))) more
+    made_more (IsIdleAt g) reading_of cs i d ys zs one below so_far (makes (told c (reading_at cs i d below))) more

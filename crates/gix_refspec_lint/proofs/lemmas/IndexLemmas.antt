@@ -3,7 +3,7 @@ use Rattle.gix_refspec_lint.proofs.Common.{all_at, ◌↔◌, ◌≡◌, ℕ, ze
 use Rattle.gix_refspec_lint.proofs.Common.{AllByRecursion, AllZip, Any, Contains, slice_get, recursion_from_All, Contains-get_or, same_Some, slice_get_read, slice_get-map, slice_get-get_or, Reading}
 use Rattle.gix_refspec_lint.proofs.Common.{IsAccepted, Ref, reading_of, RefSpecRef, Source, name, id, IsExcluded, IsExcludedBy, IsSourceExcluded, MakesForward, IsCompleted, reading_once, all_accepted}
 use Rattle.gix_refspec_lint.proofs.Common.{Maps, ◌++◌, ◌⊎◌, HasName, IsFirstCandidate, Takes, all_weaker, IsPaired, matches_by_name, named_some, some_named, ConflictsShown, ConflictOver, Fetches, refs_of}
-use Rattle.gix_refspec_lint.proofs.Common.{HasKind, partial}
+use Rattle.gix_refspec_lint.proofs.{Common.{HasKind, partial}, lemmas.StorableLemmas.fewer_storable}
 use Rattle.std.{proofs.lemmas.Slice.Zip.{AllZip-left, AllZip-right}, specs.Option.IsSomeAnd}
 
 pub any_at : {X : Type 0} (P : X → Type 0) (xs : List X) → Any P xs → (k : ℕ) × (x : X) × (slice_get xs k ≡ Some x) × P x
@@ -14,6 +14,10 @@ all_listed P xs each = recursion_from_All P xs (λ k d below. each (get_or xs k 
 
 pub reading_at : (cs : List RefSpecRef) (k : ℕ) (x : RefSpecRef) → k < length cs → slice_get (map reading_of cs) k ≡ Some (reading_of (get_or cs k x))
 reading_at cs k x below = slice_get-map reading_of cs k ∙ ap (option_map reading_of) (slice_get-get_or cs k x below)
+
+pub read_at : (cs : List RefSpecRef) (k : ℕ) (x : RefSpecRef) → k < length cs → x ≡ get_or cs k x
+    → slice_get (map reading_of cs) k ≡ Some (reading_of x)
+read_at cs k x below is = reading_at cs k x below ∙ ap (λ y. Some (reading_of y)) (sym is)
 
 pub accepted_of : (cs : List RefSpecRef) (k : ℕ) (c : Reading) → slice_get (map reading_of cs) k ≡ Some c → ∥ IsAccepted c ∥₁
 accepted_of cs k c at = all_at (λ r. ∥ IsAccepted r ∥₁) (map reading_of cs) k c (all_accepted cs) at
@@ -133,6 +137,7 @@ conflict_of_two g refs i j s t d c =
     let among : AreAmong (refs_of s ++ refs_of t) refs = λ m has. elim
     ((named_in (refs_of s) (refs_of t) m).0 has) [ inl one ↦ own_among refs s there m one | inr other ↦ own_among refs t also m other ] in
     record {
+      storable = fewer_storable refs (refs_of s ++ refs_of t) among c.storable;
       one = fetches_fewer g refs (refs_of s ++ refs_of t) i s (Some d) among (there_more (refs_of s) _ s (λ m has. (named_in (refs_of s) (refs_of t) m).1 (inl has)) (own_there s)) c.one;
       other = fetches_fewer g refs (refs_of s ++ refs_of t) j t (Some d) among (there_more (refs_of t) _ t (λ m has. (named_in (refs_of s) (refs_of t) m).1 (inr has)) (own_there t)) c.other;
       differ = c.differ;

@@ -3,8 +3,9 @@ use Rattle.gix_refspec_lint.proofs.Common.{MakesForward, all_at, ◌≡◌, ◌�
 use Rattle.gix_refspec_lint.proofs.Common.{slice_get, Contains-append_left, Contains-append_right, Ref, HasName, IsAccepted, Reading, star, IsSplit, BeginsWith, Lacks, lacks_no_pattern, all_join, all_left}
 use Rattle.gix_refspec_lint.proofs.Common.{all_right, first_once, Source, name, SidesLack, IsRefName, IsValidSource, mapped_there, one_name, CanBeWritten, IsCompleted, completed_destination, written_lacks}
 use Rattle.gix_refspec_lint.proofs.Common.{ConflictOver, Fetches, IsFree, refs_of, IsDeciding, IsLongerPrefix, IsLongerSuffix, IsMost, endings, parts, words_with, of_element}
-use Rattle.gix_refspec_lint.proofs.lemmas.{ByteLemmas.{excluded_moved, lacks_refs, name_with_byte, lacks_in}, IndexLemmas.{conflict_of_two, maps_as}, PatternLemmas.{MapsPattern, maps_pattern}}
+use Rattle.gix_refspec_lint.proofs.lemmas.{ByteLemmas.{excluded_moved, lacks_refs, name_with_byte, lacks_in}, IndexLemmas.{IsThere, conflict_of_two, made_there, maps_as}, PatternLemmas.{MapsPattern, maps_pattern}}
 use Rattle.gix_refspec_lint.proofs.lemmas.{PatternLemmas.pattern_maps, WordLemmas.{begins_before, Around, IsParted, IsRefAround, between, common_name, ending_or_part, within}}
+use Rattle.gix_refspec_lint.proofs.{Common.AreStorable, lemmas.StorableLemmas.{directory_moved, pair_storable}}
 use Rattle.gix_refspec.proofs.lemmas.validate.RefNameLemmas.{name_of_ref}
 
 pub regroup : (p x e z y t : List ℕ) → p ++ ((x ++ ((e ++ z) ++ y)) ++ t) ≡ ((p ++ x) ++ e) ++ (z ++ (y ++ t))
@@ -141,7 +142,20 @@ module _ (g : List Reading) (z : ℕ) (free : IsFree g z) (i j : ℕ) (refs : Li
         let both = first_once z front start back end lacks other_lacks (one_name (front ++ (z ∷ back)) (start ++ (z ∷ end)) same) in
         let sources : s ≡ t = cc (was, other_was, both.0, both.1) in
         c.differ sources in
-        let conflict : ConflictOver g few i j (name (front ++ (z ∷ back))) (name (start ++ (z ∷ end))) m = record { one = fetches few (inl refl); other = other_fetches few (inr (inl refl)); differ = differ } in
+        let here : HasName refs (front ++ (h.rest ++ back)) = subst (IsThere refs) was
+        (made_there refs s (Some n) c.one.maps.maps.completed c.one.maps.maps.makes) in
+        let there : HasName refs (start ++ (h.rest ++ end)) = subst (IsThere refs) other_was
+        (made_there refs t (Some n) c.other.maps.maps.completed c.other.maps.maps.makes) in
+        let together : AreStorable few = pair_storable (front ++ (z ∷ back)) (start ++ (z ∷ end))
+        (λ d. c.storable _ _ here there (directory_moved z front back start end h.rest lacks other_lacks d))
+        (λ d. c.storable _ _ there here (directory_moved z start end front back h.rest other_lacks lacks d)) in
+        let conflict : ConflictOver g few i j (name (front ++ (z ∷ back)))
+        (name (start ++ (z ∷ end))) m = record {
+          storable = together;
+          one = fetches few (inl refl);
+          other = other_fetches few (inr (inl refl));
+          differ = differ;
+        } in
         record { name = m; deciding = inl (v, h.listed, refl); one = name (front ++ (z ∷ back)); other = name (start ++ (z ∷ end)); conflict = conflict }
 
   valid_around : (w : IsParted a b p q prefix suffix n one.word other.word) → AllByRecursion (IsRefAround w.word) (around w)

@@ -1,15 +1,18 @@
 -- Laws of what specs do together. They follow from the definitions in Lint and Plan, and add no rule.
 use Rattle.std.specs.Prelude.{◌≡◌, ◌≢◌, ◌<◌, ◌↔◌, ℕ, zero, suc, false, List, [], ◌∷◌, ◌++◌, Some}
-use Rattle.std.specs.List.{AllByRecursion, AllZip, Contains}
+use Rattle.std.specs.List.{AllByRecursion, AllZip, Any, Contains}
 use Rattle.gix_refspec_plan.specs.declared.Origin.{Origin}
 use Rattle.gix_refspec_plan.specs.declared.Verdict.TheVariants as verdict
-use Rattle.gix_refspec_text.specs.Specs.Reading.{Reading}
+use Rattle.gix_refspec_text.specs.Texts.Bytes.{head}
+use Rattle.gix_refspec_text.specs.Specs.Reading.{Reading, fetched_alone}
 use Rattle.gix_refspec_text.specs.Matching.Match.{Ref}
 use Rattle.gix_refspec_match.specs.Matching.Mappings.{HasPair, Mapped, Source}
 use Rattle.gix_refspec_match.specs.Matching.Hits.{AreKeptForward}
-use Rattle.gix_refspec_lint.specs.Matching.Lint.{AreExamples, AreIdle, AreIdleExclusions, AreValid, CanConflict, Example, IsExample, Unused, refs_of}
+use Rattle.gix_refspec_match.specs.Matching.Missing.{LacksSource}
+use Rattle.gix_refspec_lint.specs.Matching.Lint.{AreExamples, AreIdle, AreIdleExclusions, AreStorable, AreValid, CanConflict, Example, IsExample, Unused, refs_of, tags_spec}
 use Rattle.gix_refspec_plan.specs.Matching.Plan.{IsCompleted, IsPlan, IsSound, Planned, Wish}
-use Rattle.gix_refspec.specs.Matching.Validation.{ShareDestination}
+use Rattle.gix_refspec.specs.Matching.RefNames.{HaveRefNames, IsRefName}
+use Rattle.gix_refspec.specs.Matching.Validation.{AreConflicts, ShareDestination}
 
 -- two specs that conflict over some refs do so over the refs of two sources
 abbrev pub ConflictsShown : List Reading → Type 0
@@ -26,21 +29,35 @@ ExamplesConflict g =
     → (completed : List Reading) (kept : List Mapped) → AllZip IsCompleted g completed → AreKeptForward completed (refs_of e.one ++ refs_of e.other) kept
     → HasSound kept e.one e.destination × HasSound kept e.other e.destination × (e.one ≢ e.other)
 
--- over any refs, sound mappings that are kept and have one destination have one source
+-- over any refs that a repository can have, sound mappings that are kept and have one destination have one source
 abbrev pub NeverConflicts : List Reading → Type 0
 NeverConflicts g =
-    (completed : List Reading) (refs : List Ref) (kept : List Mapped) → AllZip IsCompleted g completed → AreKeptForward completed refs kept
+    (completed : List Reading) (refs : List Ref) (kept : List Mapped) → AllZip IsCompleted g completed → AreStorable refs → AreKeptForward completed refs kept
     → (m n : Mapped) → Contains kept m → Contains kept n → IsSound m → IsSound n → ShareDestination m n → m.source ≡ n.source
 
 -- so it is if there is no example of a conflict
 abbrev pub ConflictFree : List Reading → Type 0
 ConflictFree g = AreExamples g [] → NeverConflicts g
 
--- and no update is in conflict in a fetch of the configured specs alone
+-- no destination of a reading is completed: each is a pattern, is missing, or begins `refs/`
+abbrev pub AreWhole : List Reading → Type 0
+AreWhole g = AllByRecursion (λ r. IsCompleted r r) g
+
+-- if there is none, and no destination is completed, `validated` finds no conflict among the mappings of `match_lhs` that
+-- `without_invalid_names` leaves, if none of these is to `HEAD`
+abbrev pub MatchConflictFree : List Reading → Type 0
+MatchConflictFree g =
+    AreExamples g [] → AreWhole g
+    → (refs : List Ref) (kept named : List Mapped) → AreStorable refs → AreKeptForward g refs kept → HaveRefNames kept named
+    → AllByRecursion (λ m. m.destination ≢ Some head) named → AreConflicts g named []
+
+-- nor is an update in conflict in a fetch of what is configured alone: the values, the merged refs, and all tags, if they are
+-- asked for
 abbrev pub PlanConflictFree : Wish → Type 0
 PlanConflictFree wish =
-    AreExamples wish.configured [] → wish.configured ≢ [] → wish.given ≡ [] → wish.merges ≡ [] → wish.tags ≡ false
-    → (refs : List Ref) (planned : List Planned) (missing : List Origin) → IsPlan wish refs planned missing → AllByRecursion (λ p. p.verdict ≢ verdict.InConflict) planned
+    AreExamples (wish.configured ++ tags_spec wish.tags) [] → wish.given ≡ []
+    → (refs : List Ref) (planned : List Planned) (missing : List Origin) → AreStorable refs → IsPlan wish refs planned missing
+    → AllByRecursion (λ p. p.verdict ≢ verdict.InConflict) planned
 
 -- the list without the element at an index
 abbrev pub without : {X : Type 0} → ℕ → List X → List X
@@ -48,16 +65,30 @@ without k [] = []
 without zero (x ∷ l) = l
 without (suc k) (x ∷ l) = x ∷ without k l
 
--- over refs with valid names, the valid pairs that are kept without an idle spec are those that are kept with it
+-- the valid pairs that are kept of these readings are those that are kept of the others
+abbrev pub KeepAlike : List Reading → List Reading → List Ref → Type 0
+KeepAlike g h refs =
+    (kept rest : List Mapped) → AreKeptForward g refs kept → AreKeptForward h refs rest → (m : Mapped) → IsSound m → HasPair rest m ↔ HasPair kept m
+
+-- a source is missing
+abbrev pub HasMissing : List Reading → List Ref → Type 0
+HasMissing g refs = Any (LacksSource refs) g
+
+-- over refs with valid names, the valid pairs that are kept without an idle spec are those that are kept with it; and without
+-- one that isn't required a source is missing exactly where one is with it
 abbrev pub IdleLeftOut : List Reading → Type 0
 IdleLeftOut g =
-    (idle : List Unused) (u : Unused) → AreIdle g idle → Contains idle u
-    → (completed : List Reading) (refs : List Ref) (kept rest : List Mapped) → AllZip IsCompleted g completed → AreValid refs → AreKeptForward completed refs kept → AreKeptForward (without u.spec completed) refs rest
-    → (m : Mapped) → IsSound m → HasPair rest m ↔ HasPair kept m
+    (idle : List Unused) (u : Unused) → AreIdle g idle → Contains idle u → (refs : List Ref) → AreValid refs
+    → ((completed : List Reading) → AllZip IsCompleted g completed → KeepAlike completed (without u.spec completed) refs)
+    × (u.required ≡ false → HasMissing g refs ↔ HasMissing (without u.spec g) refs)
 
--- nor is an idle negative spec missed
-abbrev pub IdleExclusionLeftOut : List Reading → Type 0
-IdleExclusionLeftOut g =
-    (idle : List ℕ) (k : ℕ) → AreIdleExclusions g idle → Contains idle k
-    → (completed : List Reading) (refs : List Ref) (kept rest : List Mapped) → AllZip IsCompleted g completed → AreKeptForward completed refs kept → AreKeptForward (without k completed) refs rest
-    → (m : Mapped) → IsSound m → HasPair rest m ↔ HasPair kept m
+-- the reading is the fetch of a merged ref, as a plan has it
+abbrev pub IsFetchOfMerged : List (List ℕ) → Reading → Type 0
+IsFetchOfMerged merges r = (n : List ℕ) × Contains merges n × IsRefName n × (r ≡ fetched_alone n)
+
+-- nor is an idle negative spec missed, also where merged refs are fetched
+abbrev pub IdleExclusionLeftOut : List Reading → List (List ℕ) → Type 0
+IdleExclusionLeftOut g merges =
+    (idle : List ℕ) (k : ℕ) → AreIdleExclusions g merges idle → Contains idle k
+    → (others completed : List Reading) (refs : List Ref) → AllByRecursion (IsFetchOfMerged merges) others → AllZip IsCompleted (g ++ others) completed
+    → KeepAlike completed (without k completed) refs

@@ -1,9 +1,17 @@
 -- What a linter finds as plain data, for contracts.
+use Rattle.std.specs.Prelude.{map}
+use Rattle.bstr.specs.BStr.{bstr_bytes}
 use Rattle.bstr.specs.Owned.{bstring_bytes}
+use Rattle.gix_refspec_lint.specs.declared.Configured.{Configured}
 use Rattle.gix_refspec_lint.specs.declared.IdleSpec.{IdleSpec}
 use Rattle.gix_refspec_lint.specs.declared.PossibleConflict.{PossibleConflict}
+use Rattle.gix_refspec_text.specs.Views.Spec.{reading_of}
 use Rattle.gix_refspec_match.specs.Views.Mapping.{start_of}
-use Rattle.gix_refspec_lint.specs.Matching.Lint.{Example, Unused}
+use Rattle.gix_refspec_lint.specs.Matching.Lint.{Configuration, Example, Unused}
+
+-- what a remote's configuration asks for
+abbrev pub configuration_of : Configured → Configuration
+configuration_of c = record { values = map reading_of c.values.now; merges = map bstr_bytes c.merges.now; tags = c.tags }
 
 -- an example of a conflict
 abbrev pub example_of : PossibleConflict → Example
@@ -11,4 +19,4 @@ example_of c = record { first = c.first_spec; second = c.second_spec; one = star
 
 -- an idle spec
 abbrev pub unused_of : IdleSpec → Unused
-unused_of i = record { spec = i.spec_index; reason = i.reason }
+unused_of i = record { spec = i.spec_index; reason = i.reason; required = i.is_required }

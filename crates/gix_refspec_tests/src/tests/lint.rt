@@ -1,16 +1,24 @@
 //! What specs do together on any remote. The configurations are those of the manuals of Git and of hosts; what is found was
 //! written down before it was asked for.
 
-use super::plans::specs_of;
+use super::plans::{names_of, specs_of};
+use bstr::BStr;
 use gix_refspec::RefSpecRef;
-use gix_refspec_lint::{Error, Reason, idle_exclusions, idle_specs, possible_conflicts};
+use gix_refspec_lint::{
+    Configured, Error, Reason, idle_exclusions, idle_specs, possible_conflicts,
+};
 use std::alloc::Global;
 use std::process::Abort;
 use std::test::Fail;
 
 // Adds a line for each conflict.
-fn add_conflicts(alloc: Global, text: &mut String, specs: &[RefSpecRef<'_>]) -> Result<(), Fail> {
-    for c in &possible_conflicts(alloc, specs)? {
+fn add_conflicts(
+    alloc: Global,
+    text: &mut String,
+    fetch: &Configured<'_, '_>,
+    words: &[BStr<'_>],
+) -> Result<(), Fail> {
+    for c in &possible_conflicts(alloc, fetch, words)? {
         writeln!(
             text,
             "{} {} {} {} {}",
@@ -21,32 +29,48 @@ fn add_conflicts(alloc: Global, text: &mut String, specs: &[RefSpecRef<'_>]) -> 
 }
 
 // Adds a line for each idle spec.
-fn add_idle_specs(alloc: Global, text: &mut String, specs: &[RefSpecRef<'_>]) -> Result<(), Fail> {
-    for idle in &idle_specs(alloc, specs)? {
+fn add_idle_specs(
+    alloc: Global,
+    text: &mut String,
+    fetch: &Configured<'_, '_>,
+) -> Result<(), Fail> {
+    for idle in &idle_specs(alloc, fetch)? {
         match idle.reason {
-            Reason::Invalid => writeln!(text, "{} invalid", idle.spec_index)?,
-            Reason::Excluded(by) => writeln!(text, "{} excluded by {by}", idle.spec_index)?,
-            Reason::Duplicate(of) => writeln!(text, "{} as {of}", idle.spec_index)?,
+            Reason::Invalid => write!(text, "{} invalid", idle.spec_index)?,
+            Reason::Excluded(by) => write!(text, "{} excluded by {by}", idle.spec_index)?,
+            Reason::Duplicate(of) => write!(text, "{} as {of}", idle.spec_index)?,
+            Reason::Duplicates => write!(text, "{} as several", idle.spec_index)?,
         }
+        let required = if idle.is_required { ", required" } else { "" };
+        writeln!(text, "{required}")?;
     }
     Ok(())
 }
 
 // One line for each conflict, idle spec and idle negative spec.
-fn text_of(alloc: Global, specs: &[RefSpecRef<'_>]) -> Result<String, Fail> {
+fn text_of(alloc: Global, fetch: &Configured<'_, '_>, words: &[BStr<'_>]) -> Result<String, Fail> {
     let mut text = String::new(alloc);
-    add_conflicts(alloc, &mut text, specs)?;
-    add_idle_specs(alloc, &mut text, specs)?;
-    for index in &idle_exclusions(alloc, specs)? {
+    add_conflicts(alloc, &mut text, fetch, words)?;
+    add_idle_specs(alloc, &mut text, fetch)?;
+    for index in &idle_exclusions(alloc, fetch)? {
         writeln!(text, "{index} excludes nothing")?;
     }
     Ok(text)
 }
 
+// A configuration of these values alone.
+fn values_alone<'c, 'spec>(values: &'c [RefSpecRef<'spec>]) -> Configured<'c, 'spec> {
+    Configured {
+        values,
+        merges: &[],
+        tags: false,
+    }
+}
+
 fn check(rt: &(impl Abort + AllocGlobal), rows: &[(&str, &str)]) -> Result<(), Fail> {
     for (specs, found) in rows {
         let parsed = specs_of(rt.alloc(), specs)?;
-        let text = text_of(rt.alloc(), parsed.as_slice())?;
+        let text = text_of(rt.alloc(), &values_alone(parsed.as_slice()), &[])?;
         assert_eq!(rt; text.as_str(), *found, "with {specs}");
     }
     Ok(())
@@ -147,7 +171,7 @@ const CONFLICTS: &[(&str, &str)] = &[
     // a single branch beside a pattern: the same source is no conflict
     (
         "+refs/heads/*:refs/remotes/origin/* refs/heads/a:refs/remotes/origin/a",
-        "1 as 0\n",
+        "1 as 0, required\n",
     ),
     (
         "+refs/heads/*:refs/remotes/origin/* refs/heads/a:refs/remotes/origin/b",
@@ -189,6 +213,123 @@ fn finds_conflicts(rt: HostRuntime) -> Result<(), Fail> {
     check(&rt, CONFLICTS)
 }
 
+// A configuration, words to try first, and what is found.
+struct Row {
+    values: &'static str,
+    merges: &'static str,
+    tags: bool,
+    words: &'static str,
+    found: &'static str,
+}
+
+const ROW: Row = Row {
+    values: "",
+    merges: "",
+    tags: false,
+    words: "",
+    found: "",
+};
+
+fn check_configured(rt: &(impl Abort + AllocGlobal), rows: &[Row]) -> Result<(), Fail> {
+    for row in rows {
+        let values = specs_of(rt.alloc(), row.values)?;
+        let merges = names_of(rt.alloc(), row.merges)?;
+        let fetch = Configured {
+            values: values.as_slice(),
+            merges: merges.as_slice(),
+            tags: row.tags,
+        };
+        let words = names_of(rt.alloc(), row.words)?;
+        let text = text_of(rt.alloc(), &fetch, words.as_slice())?;
+        assert_eq!(rt; text.as_str(), row.found, "with {}", row.values);
+    }
+    Ok(())
+}
+
+// No remote has a ref and another one in a directory of its name.
+#[test]
+fn finds_no_conflict_of_refs_that_cannot_stand_together(rt: HostRuntime) -> Result<(), Fail> {
+    const ROWS: &[(&str, &str)] = &[
+        ("refs/heads/a:refs/x/y refs/heads/a/*:refs/x/*", ""),
+        ("refs/heads/a/*:refs/x/* refs/heads/a:refs/x/y", ""),
+        ("refs/heads/*:refs/x/* refs/heads/*/q:refs/x/*", ""),
+        (
+            "refs/heads/a:refs/x/y refs/heads/ab/*:refs/x/*",
+            "0 1 refs/heads/a refs/heads/ab/y refs/x/y\n",
+        ),
+        // so it is at each overlap of these texts, and other names are excluded
+        (
+            "refs/heads/*:refs/x/aaaaaaaaaaaa* refs/heads/*/u:refs/x/*aaaaaaaaaaaa ^refs/heads/aaaaaaaaaaaa*",
+            "",
+        ),
+        (
+            "refs/heads/*:refs/x/aaaaaaaaaaaa* refs/heads/*b:refs/x/*aaaaaaaaaaaa ^refs/heads/aaaaaaaaaaaa*",
+            "0 1 refs/heads/a refs/heads/ab refs/x/aaaaaaaaaaaaa\n",
+        ),
+    ];
+    check(&rt, ROWS)
+}
+
+#[test]
+fn finds_conflicts_with_all_tags(rt: HostRuntime) -> Result<(), Fail> {
+    const ROWS: &[Row] = &[
+        Row {
+            values: "+refs/heads/*:refs/tags/*",
+            tags: true,
+            words: "v1",
+            found: "0 1 refs/heads/v1 refs/tags/v1 refs/tags/v1\n",
+            ..ROW
+        },
+        Row {
+            values: "+refs/heads/*:refs/tags/*",
+            words: "v1",
+            ..ROW
+        },
+        // the tags themselves are no conflict, and aren't called a duplicate
+        Row {
+            values: "refs/tags/*:refs/tags/*",
+            tags: true,
+            ..ROW
+        },
+        // a merged ref has no destination
+        Row {
+            values: ORIGIN,
+            merges: "refs/heads/main refs/tags/v1 main",
+            ..ROW
+        },
+    ];
+    check_configured(&rt, ROWS)
+}
+
+// The first word with which two patterns conflict stands for the star.
+#[test]
+fn tries_words_first(rt: HostRuntime) -> Result<(), Fail> {
+    const PULLS: &str =
+        "+refs/heads/*:refs/remotes/origin/* +refs/pull/*/head:refs/remotes/origin/pr/*";
+    const ROWS: &[Row] = &[
+        Row {
+            values: PULLS,
+            words: "7 topic",
+            found: "0 1 refs/heads/pr/7 refs/pull/7/head refs/remotes/origin/pr/7\n",
+            ..ROW
+        },
+        Row {
+            values: "refs/heads/*:refs/x/* refs/tags/*:refs/x/* ^refs/heads/t*",
+            words: "topic v1",
+            found: "0 1 refs/heads/v1 refs/tags/v1 refs/x/v1\n",
+            ..ROW
+        },
+        // none of the words makes one
+        Row {
+            values: "refs/heads/*:refs/x/* refs/tags/*:refs/x/* ^refs/heads/t*",
+            words: "topic t1 a..b",
+            found: "0 1 refs/heads/b refs/tags/b refs/x/b\n",
+            ..ROW
+        },
+    ];
+    check_configured(&rt, ROWS)
+}
+
 #[test]
 fn finds_idle_specs(rt: HostRuntime) -> Result<(), Fail> {
     const ROWS: &[(&str, &str)] = &[
@@ -205,10 +346,13 @@ fn finds_idle_specs(rt: HostRuntime) -> Result<(), Fail> {
         // or a source that never is
         ("a*:refs/x/*", "0 invalid\n"),
         // excluded by one, or by several together
-        ("refs/heads/a:refs/x ^refs/heads/*", "0 excluded by 1\n"),
+        (
+            "refs/heads/a:refs/x ^refs/heads/*",
+            "0 excluded by 1, required\n",
+        ),
         (
             "heads/a:refs/x ^refs/heads/* ^refs/tags/* ^refs/remotes/*",
-            "0 excluded by 1\n",
+            "0 excluded by 1, required\n",
         ),
         ("heads/a:refs/x ^refs/heads/* ^refs/tags/*", ""),
         // a tag of that name leaves the branch to the second
@@ -218,10 +362,37 @@ fn finds_idle_specs(rt: HostRuntime) -> Result<(), Fail> {
         ),
         // two equal partial names take the same
         ("HEAD:refs/x HEAD:refs/x", "1 as 0\n"),
+        // two of the same name are idle by the first, and one that only several cover by those together
+        (
+            "refs/heads/a:refs/heads/x refs/heads/*:refs/heads/x/* refs/heads/a:refs/heads/x",
+            "2 as 0\n",
+        ),
+        (
+            "refs/heads/a:refs/x refs/tags/a:refs/x a:refs/x ^refs/a ^refs/remotes/*",
+            "0 1 refs/heads/a refs/tags/a refs/x\n0 2 refs/heads/a refs/tags/a refs/x\n2 as several\n",
+        ),
+        // a spec that a pattern covers stops a fetch where its ref is gone, unless another one does so too
+        (
+            "+refs/heads/*:refs/x/* +refs/heads/gone:refs/x/gone",
+            "1 as 0, required\n",
+        ),
+        (
+            "+refs/heads/*:refs/x/* +refs/heads/gone:refs/x/gone refs/heads/gone",
+            "1 as 0\n",
+        ),
+        // a partial name may find another ref
+        (
+            "+refs/heads/*:refs/x/* +refs/heads/gone:refs/x/gone heads/gone",
+            "1 as 0, required\n",
+        ),
+        (
+            "+refs/heads/*:refs/x/* +refs/heads/*:refs/x/* +refs/heads/gone:refs/x/gone",
+            "1 as 0\n2 as 0, required\n",
+        ),
         // several refs at once free this one of the earlier two
         (
             "x:refs/y x/HEAD:refs/y refs/remotes/x/HEAD:refs/y ^refs/heads/*",
-            "0 1 refs/x refs/x/HEAD refs/y\n0 2 refs/x refs/remotes/x/HEAD refs/y\n1 2 refs/x/HEAD refs/remotes/x/HEAD refs/y\n",
+            "0 1 refs/x refs/tags/x/HEAD refs/y\n0 2 refs/x refs/remotes/x/HEAD refs/y\n1 2 refs/x/HEAD refs/remotes/x/HEAD refs/y\n",
         ),
     ];
     check(&rt, ROWS)
@@ -257,6 +428,78 @@ fn finds_idle_negative_specs(rt: HostRuntime) -> Result<(), Fail> {
     check(&rt, ROWS)
 }
 
+#[test]
+fn finds_idle_negative_specs_beside_merged_refs_and_tags(rt: HostRuntime) -> Result<(), Fail> {
+    const MAIN: &str = "+refs/heads/main:refs/x/main ^refs/heads/dev";
+    const ROWS: &[Row] = &[
+        Row {
+            values: MAIN,
+            found: "1 excludes nothing\n",
+            ..ROW
+        },
+        Row {
+            values: MAIN,
+            merges: "refs/heads/dev",
+            ..ROW
+        },
+        // Git takes the branch for a partial value too, if the server lists it
+        Row {
+            values: MAIN,
+            merges: "refs/heads/main dev",
+            ..ROW
+        },
+        Row {
+            values: MAIN,
+            merges: "refs/tags/dev HEAD",
+            found: "1 excludes nothing\n",
+            ..ROW
+        },
+        Row {
+            values: "+refs/heads/main:refs/x/main ^refs/heads/d*",
+            merges: "refs/heads/dev",
+            ..ROW
+        },
+        Row {
+            values: "+refs/heads/main:refs/x/main ^HEAD",
+            merges: "HEAD",
+            ..ROW
+        },
+        // only by its full name
+        Row {
+            values: "+refs/heads/main:refs/x/main ^dev",
+            merges: "dev",
+            found: "1 excludes nothing\n",
+            ..ROW
+        },
+        Row {
+            values: "+refs/heads/main:refs/x/main ^refs/*-rc",
+            tags: true,
+            ..ROW
+        },
+        Row {
+            values: "+refs/heads/main:refs/x/main ^refs/*-rc",
+            found: "1 excludes nothing\n",
+            ..ROW
+        },
+    ];
+    check_configured(&rt, ROWS)
+}
+
+// An empty value of a merged ref stands for `HEAD`.
+#[test]
+fn takes_an_empty_merged_ref_for_head(rt: HostRuntime) -> Result<(), Fail> {
+    let values = specs_of(rt.alloc(), "+refs/heads/main:refs/x/main ^HEAD")?;
+    let merges = [BStr::new(b"")];
+    let fetch = Configured {
+        values: values.as_slice(),
+        merges: merges.as_slice(),
+        tags: false,
+    };
+    let text = text_of(rt.alloc(), &fetch, &[])?;
+    assert_eq!(&rt; text.as_str(), "");
+    Ok(())
+}
+
 // Each byte that may stand for a word is in a side.
 #[test]
 fn says_so_without_a_free_byte(rt: HostRuntime) -> Result<(), Fail> {
@@ -270,20 +513,18 @@ fn says_so_without_a_free_byte(rt: HostRuntime) -> Result<(), Fail> {
     }
     let spec = gix_refspec::parse(
         alloc,
-        bstr::BStr::new(text.as_slice()),
+        BStr::new(text.as_slice()),
         gix_refspec::Operation::Fetch,
     )?;
     let specs = [spec];
+    let fetch = values_alone(specs.as_slice());
     assert_eq!(rt;
-        possible_conflicts(alloc, specs.as_slice()).err(),
+        possible_conflicts(alloc, &fetch, &[]).err(),
         Some(Error::NoFreeByte)
     );
+    assert_eq!(rt; idle_specs(alloc, &fetch).err(), Some(Error::NoFreeByte));
     assert_eq!(rt;
-        idle_specs(alloc, specs.as_slice()).err(),
-        Some(Error::NoFreeByte)
-    );
-    assert_eq!(rt;
-        idle_exclusions(alloc, specs.as_slice()).err(),
+        idle_exclusions(alloc, &fetch).err(),
         Some(Error::NoFreeByte)
     );
     Ok(())

@@ -40,7 +40,7 @@ pub(super) fn specs_of<'a>(alloc: Global, words: &'a str) -> Result<Vec<RefSpecR
     Ok(group_of(alloc, Operation::Fetch, words)?.specs)
 }
 
-fn names_of<'a>(alloc: Global, words: &'a str) -> Result<Vec<BStr<'a>>, AllocError> {
+pub(super) fn names_of<'a>(alloc: Global, words: &'a str) -> Result<Vec<BStr<'a>>, AllocError> {
     let mut names = Vec::new(alloc);
     if words.is_empty() {
         return Ok(names);

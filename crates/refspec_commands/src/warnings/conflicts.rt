@@ -1,127 +1,145 @@
 //! Specs that can conflict, with an example and a negative spec that prevents it.
 
-use super::{Group, Topic, Warning, or_nothing, say};
+ghost use Rattle.std.specs.Prelude.{◌≡◌, ◌++◌, [], length, map, IfOk, OnOk};
+ghost use Rattle.std.specs.List.{All, AllZip};
+ghost use Rattle.gix_refspec_text.specs.Views.Spec.{reading_of};
+ghost use Rattle.gix_refspec_match.specs.Views.Mapping.{start_of};
+ghost use Rattle.gix_refspec_lint.specs.Views.Lint.{example_of};
+ghost use Rattle.refspec_io.specs.declared.call.Form.TheVariants.{Json};
+ghost use Rattle.refspec_io.specs.Rows.{source_text};
+ghost use Rattle.refspec_io.specs.Shown.{WritesQuoted};
+ghost use Rattle.refspec_io.specs.Texts.{given_of};
+ghost use Rattle.refspec_commands.specs.Warned.{AreConflictsSaid, IsAmong, IsConflictSaid, IsExampleMessage};
+ghost use Rattle.refspec_commands.specs.WarnedViews.{SpecsMatchTexts, asked_of, said_of};
+
+use super::beside::{Beside, values_alone};
+use super::group::Group;
+use super::{Topic, Warning, or_nothing, say};
 use bstr::BStr;
+use gix_refspec::match_group::Source;
 use gix_refspec::parsing::{Error, Operation};
 use gix_refspec::{RefSpecRef, parse};
-use gix_refspec_lint::{PossibleConflict, Reason, idle_specs, possible_conflicts};
-use gix_refspec_match::exclusions::Exclusions;
+use gix_refspec_lint::{PossibleConflict, idle_specs, possible_conflicts};
 use gix_refspec_match::needle::word_between;
 use gix_refspec_text::side::split_at_first_star;
 use refspec_io::call::Form;
 use refspec_io::counts::reported_count;
 use refspec_io::fields::source_of;
-use refspec_io::texts::write_number;
+use refspec_io::texts::{Text, write_number};
 use std::alloc::{AllocError, Global};
 
-/// Adds a warning for each two specs that can conflict, or for the first of them.
-pub(super) fn add_conflicts<'a>(
+/// A warning for each two specs that can conflict, or for the first of them.
+pub(super) fn conflicts_in<'a>(
     alloc: Global,
     form: Form,
     group: &Group<'a>,
-    found: &mut Vec<Warning<'a>>,
-) -> Result<(), AllocError> {
-    let conflicts = or_nothing(alloc, possible_conflicts(alloc, group.specs.as_slice()))?;
+    beside: &Beside<'a>,
+) -> Result<Vec<Warning<'a>>, AllocError>
+    requires { SpecsMatchTexts group.now }
+    ensures { form ≡ Json → IfOk result (λ warnings. AreConflictsSaid (asked_of beside.now)
+        (map reading_of group.now.specs.items) (map given_of group.now.texts.items)
+        (map said_of warnings.items)) }
+{
+    let words = usual_words(alloc, group.specs.as_slice())?;
+    let fetch = beside.configured(group);
+    let conflicts = or_nothing(alloc, possible_conflicts(alloc, &fetch, words.as_slice()))?;
+    let texts = beside.texts_of(alloc, group)?;
     let count = reported_count(form, false, conflicts.len());
     let (shown, more) = conflicts.as_slice().split_at(count);
-    let words = Words::of(alloc, group.specs.as_slice())?;
-    for conflict in shown {
-        if let Some(warning) = warning_on(alloc, group, &words, conflict)? {
-            found.push(warning)?;
-        }
+    let mut warnings = warnings_on(alloc, group, texts.as_slice(), shown)?;
+    add_more(alloc, group, more.len(), &mut warnings)?;
+    Ok(warnings)
+}
+
+// The warnings on conflicts of these texts.
+fn warnings_on<'a>(
+    alloc: Global,
+    group: &Group<'a>,
+    texts: &[Text<'a>],
+    conflicts: &[PossibleConflict],
+) -> Result<Vec<Warning<'a>>, AllocError>
+    requires { All (IsAmong (length texts.now)) (map example_of conflicts.now) }
+    ensures { IfOk result (λ warnings. AllZip (IsConflictSaid (map given_of texts.now))
+        (map example_of conflicts.now) (map said_of warnings.items)) }
+{
+    let mut warnings = Vec::with_capacity(alloc, conflicts.len())?;
+    for conflict in conflicts {
+        warnings.push(warning_on(alloc, group, texts, conflict)?)?;
     }
-    if let (Some(text), false) = (group.texts.first(), more.is_empty()) {
+    Ok(warnings)
+}
+
+// The warning on two of these texts.
+fn warning_on<'a>(
+    alloc: Global,
+    group: &Group<'a>,
+    texts: &[Text<'a>],
+    conflict: &PossibleConflict,
+) -> Result<Warning<'a>, AllocError>
+    requires { IsAmong (length texts.now) (example_of conflict.now) }
+    ensures { IfOk result (λ w. IsConflictSaid (map given_of texts.now) (example_of conflict.now) (said_of w)) }
+{
+    let text = texts[conflict.first_spec];
+    let other = texts[conflict.second_spec];
+    let mut warning = Warning::on(alloc, Topic::PossibleConflict, text, Some(other))?;
+    write_example(alloc, conflict, &mut warning.message)?;
+    write_advice(alloc, group, conflict, &mut warning.advice)?;
+    Ok(warning)
+}
+
+// Says how many more there are.
+fn add_more<'a>(
+    alloc: Global,
+    group: &Group<'a>,
+    count: usize,
+    warnings: &mut Vec<Warning<'a>>,
+) -> Result<(), AllocError>
+    ensures { count ≡ 0 → OnOk result (warnings.new.items ≡ warnings.old.items) }
+{
+    if count == 0 {
+        return Ok(());
+    }
+    if let Some(text) = group.texts.first() {
         let mut warning = Warning::at(alloc, Topic::PossibleConflict, text.location);
-        write_number(&mut warning.message, more.len())?;
+        write_number(&mut warning.message, count)?;
         warning.message.extend_from_slice(b" more pairs")?;
-        found.push(warning)?;
+        warnings.push(warning)?;
     }
     Ok(())
 }
 
-// The warning on two specs.
-fn warning_on<'a>(
+// Appends the example.
+fn write_example(
     alloc: Global,
-    group: &Group<'a>,
-    words: &Words<'_>,
     conflict: &PossibleConflict,
-) -> Result<Option<Warning<'a>>, AllocError> {
-    let texts = (
-        group.texts.get(conflict.first_spec),
-        group.texts.get(conflict.second_spec),
-    );
-    let specs = (
-        group.specs.get(conflict.first_spec),
-        group.specs.get(conflict.second_spec),
-    );
-    let ((Some(text), Some(other_text)), (Some(spec), Some(other))) = (texts, specs) else {
-        return Ok(None);
-    };
-    let mut warning = Warning::on(alloc, Topic::PossibleConflict, *text, Some(*other_text))?;
-    let example = words.example_of(alloc, spec, other, conflict)?;
-    let out = &mut warning.message;
-    say(out, "A remote with ", example.first.as_slice())?;
-    say(out, " and ", example.second.as_slice())?;
-    say(out, " would write both to ", example.destination.as_slice())?;
-    out.extend_from_slice(b", and git fetch would write nothing.")?;
-    match exclusion_for(alloc, spec, other, conflict)? {
-        Some(exclusion) => say(
-            &mut warning.advice,
-            "Exclude one of them, for example by ",
-            exclusion.as_slice(),
-        )?,
-        None => warning
-            .advice
-            .extend_from_slice(b"Give one of them another destination.")?,
-    }
-    Ok(Some(warning))
+    out: &mut Vec<u8>,
+) -> Result<(), AllocError>
+    ensures { out.old.items ≡ [] → OnOk result (IsExampleMessage (example_of conflict.now) out.new.items) }
+{
+    say_source(alloc, out, "A remote with ", &conflict.first_source)?;
+    say_source(alloc, out, " and ", &conflict.second_source)?;
+    let destination = conflict.destination.as_bstr().as_bytes();
+    say(out, " would write both to ", destination)?;
+    out.extend_from_slice(b", and git fetch would write nothing.")
 }
 
-// Two sources and their destination.
-#[derive(Drop)]
-struct Example {
-    first: Vec<u8>,
-    second: Vec<u8>,
-    destination: Vec<u8>,
+fn say_source(
+    alloc: Global,
+    out: &mut Vec<u8>,
+    words: &str,
+    source: &Source,
+) -> Result<(), AllocError>
+    ensures { OnOk result (WritesQuoted (source_text (start_of source.now)) (out.old.items ++ words.now)
+        out.new.items) }
+{
+    let mut buffer = Vec::new(alloc);
+    say(out, words, source_of(source, &mut buffer)?)
 }
 
-impl Example {
-    fn of(alloc: Global, conflict: &PossibleConflict) -> Result<Example, AllocError> {
-        let mut buffer = Vec::new(alloc);
-        let first = Vec::from_slice(alloc, source_of(&conflict.first_source, &mut buffer)?)?;
-        let mut buffer = Vec::new(alloc);
-        let second = Vec::from_slice(alloc, source_of(&conflict.second_source, &mut buffer)?)?;
-        Ok(Example {
-            first,
-            second,
-            destination: Vec::from_slice(alloc, conflict.destination.as_bstr().as_bytes())?,
-        })
-    }
+// In a group of more specs an exclusion is only tried beside the two that conflict.
+const MANY: usize = 50;
 
-    // The same with a word for a byte.
-    fn with(&self, alloc: Global, byte: u8, word: &[u8]) -> Result<Example, AllocError> {
-        Ok(Example {
-            first: replaced(alloc, self.first.as_slice(), byte, word)?,
-            second: replaced(alloc, self.second.as_slice(), byte, word)?,
-            destination: replaced(alloc, self.destination.as_slice(), byte, word)?,
-        })
-    }
-}
-
-// A name with a word for each occurrence of a byte.
-fn replaced(alloc: Global, name: &[u8], byte: u8, word: &[u8]) -> Result<Vec<u8>, AllocError> {
-    let mut replaced = Vec::new(alloc);
-    for one in name {
-        if *one == byte {
-            replaced.extend_from_slice(word)?;
-        } else {
-            replaced.push(*one)?;
-        }
-    }
-    Ok(replaced)
-}
-
-// What hosts have below a folder of refs.
+// Sources, each with a word that hosts have in the place of its star.
 const USUAL: [(&[u8], &[u8]); 5] = [
     (b"refs/pull/*", b"7/head"),
     (b"refs/merge-requests/*", b"7/head"),
@@ -130,107 +148,100 @@ const USUAL: [(&[u8], &[u8]); 5] = [
     (b"refs/tags/*", b"v1"),
 ];
 
-// What the sides of a group have in common, for examples with usual names in the place of a letter.
-#[derive(Drop)]
-struct Words<'a> {
-    // Which bytes some side has, by their values, or a name that Git completes.
-    used: Vec<bool>,
-    exclusions: Exclusions<'a>,
+// Words for the stars of examples: those of the sources, a number if a star is in the middle of one, and others.
+fn usual_words(alloc: Global, specs: &[RefSpecRef<'_>]) -> Result<Vec<BStr<'static>>, AllocError> {
+    let mut words = Vec::new(alloc);
+    for (source, word) in USUAL {
+        if specs.iter().any(|spec| is_source(spec, source)) {
+            words.push(BStr::new(word))?;
+        }
+    }
+    if specs.iter().any(|spec| has_suffix(spec)) {
+        words.push(BStr::new(b"7"))?;
+    }
+    for word in [
+        b"topic".as_slice(),
+        b"dev",
+        b"v1",
+        b"7",
+        b"7/head",
+        b"34/1234/1",
+    ] {
+        words.push(BStr::new(word))?;
+    }
+    Ok(words)
 }
 
-impl<'a> Words<'a> {
-    fn of(alloc: Global, specs: &[RefSpecRef<'a>]) -> Result<Words<'a>, AllocError> {
-        let mut words = Words {
-            used: Vec::new(alloc),
-            exclusions: Exclusions::of(alloc, specs)?,
-        };
-        words.used.resize(256, false)?;
-        words.add(b"refs/tags/heads/remotes/HEAD");
-        for spec in specs {
-            for side in [spec.source(), spec.destination()] {
-                if let Some(side) = side {
-                    words.add(side.as_bytes());
-                }
-            }
-        }
-        Ok(words)
-    }
-
-    // Adds the bytes of a text.
-    fn add(&mut self, text: &[u8]) {
-        for byte in text {
-            if let Some(used) = self.used.get_mut(usize::from(*byte)) {
-                *used = true;
-            }
-        }
-    }
-
-    // An example of a conflict, with a usual word for the letter that stands for any, if this still is one.
-    fn example_of(
-        &self,
-        alloc: Global,
-        spec: &RefSpecRef<'_>,
-        other: &RefSpecRef<'_>,
-        conflict: &PossibleConflict,
-    ) -> Result<Example, AllocError> {
-        let plain = Example::of(alloc, conflict)?;
-        let Some(letter) = self.letter_of(plain.destination.as_slice()) else {
-            return Ok(plain);
-        };
-        let usual = plain.with(alloc, letter, word_for(spec, other))?;
-        let is_excluded = self.exclusions.spec_of(usual.first.as_slice()).is_some()
-            || self.exclusions.spec_of(usual.second.as_slice()).is_some();
-        if is_excluded || usual.first == usual.second {
-            return Ok(plain);
-        }
-        Ok(usual)
-    }
-
-    // The byte of a name that no side has.
-    fn letter_of(&self, name: &[u8]) -> Option<u8> {
-        for byte in name {
-            if self.used.get(usize::from(*byte)) == Some(&false) {
-                return Some(*byte);
-            }
-        }
-        None
+fn is_source(spec: &RefSpecRef<'_>, source: &[u8]) -> bool {
+    match spec.source() {
+        Some(own) => !spec.is_negative() && own.as_bytes() == source,
+        None => false,
     }
 }
 
-// A usual word for the stars of two specs.
-fn word_for(spec: &RefSpecRef<'_>, other: &RefSpecRef<'_>) -> &'static [u8] {
-    for side in [spec.source(), other.source()] {
-        if let Some(side) = side {
-            let side = side.as_bytes();
-            for (pattern, word) in USUAL {
-                if side == pattern {
-                    return word;
-                }
-            }
-            if side.contains(&b'*') && !side.ends_with(b"*") {
-                return b"7";
-            }
-        }
+// Whether the source has text after its star.
+fn has_suffix(spec: &RefSpecRef<'_>) -> bool {
+    let Some(source) = spec.source() else {
+        return false;
+    };
+    match split_at_first_star(source.as_bytes()) {
+        Some((_, after)) => !spec.is_negative() && !after.is_empty(),
+        None => false,
     }
-    b"topic"
 }
 
-// A negative spec that prevents the conflict of two specs, and leaves something to both.
+// Advises to exclude what conflicts, if that is all that it takes.
+fn write_advice(
+    alloc: Global,
+    group: &Group<'_>,
+    conflict: &PossibleConflict,
+    out: &mut Vec<u8>,
+) -> Result<(), AllocError> {
+    let Some(spec) = group.specs.get(conflict.first_spec) else {
+        return Ok(());
+    };
+    let Some(other) = group.specs.get(conflict.second_spec) else {
+        return out.extend_from_slice(
+            b"Write to another folder than refs/tags/, or don't ask for all tags.",
+        );
+    };
+    match exclusion_for(alloc, group, spec, other, conflict)? {
+        Some(exclusion) => say(
+            out,
+            "Exclude one of them, for example by ",
+            exclusion.as_slice(),
+        ),
+        None => out.extend_from_slice(b"Give one of them another destination."),
+    }
+}
+
+// A negative spec that prevents the conflict of two specs of a group, and leaves something to each spec.
 fn exclusion_for(
     alloc: Global,
+    group: &Group<'_>,
     spec: &RefSpecRef<'_>,
     other: &RefSpecRef<'_>,
     conflict: &PossibleConflict,
 ) -> Result<Option<Vec<u8>>, AllocError> {
     let destination = conflict.destination.as_bstr().as_bytes();
-    for (one, beside) in [(spec, other), (other, spec)] {
-        if let Some(text) = narrowing(alloc, one, beside, destination)? {
-            if prevents(alloc, text.as_slice(), spec, other)? {
-                return Ok(Some(text));
-            }
-        }
+    match exclusion_of(alloc, group, spec, other, destination)? {
+        Some(text) => Ok(Some(text)),
+        None => exclusion_of(alloc, group, other, spec, destination),
     }
-    Ok(None)
+}
+
+// The same by sources of the first spec.
+fn exclusion_of(
+    alloc: Global,
+    group: &Group<'_>,
+    spec: &RefSpecRef<'_>,
+    other: &RefSpecRef<'_>,
+    destination: &[u8],
+) -> Result<Option<Vec<u8>>, AllocError> {
+    match narrowing(alloc, spec, other, destination)? {
+        Some(text) if prevents(alloc, group, text.as_slice(), spec, other)? => Ok(Some(text)),
+        _ => Ok(None),
+    }
 }
 
 // The text of a negative spec for those sources of a pattern that another spec's destinations meet.
@@ -272,9 +283,10 @@ fn narrowing(
     Ok(Some(text))
 }
 
-// Whether two specs can't conflict beside a negative spec, and still do something each.
+// Whether two specs of a group can't conflict beside one more negative spec, and no spec is idle because of it.
 fn prevents(
     alloc: Global,
+    group: &Group<'_>,
     text: &[u8],
     spec: &RefSpecRef<'_>,
     other: &RefSpecRef<'_>,
@@ -284,14 +296,57 @@ fn prevents(
         Err(Error::Memory) => return Err(AllocError),
         Err(_) => return Ok(false),
     };
-    let specs = [*spec, *other, exclusion];
-    if !or_nothing(alloc, possible_conflicts(alloc, specs.as_slice()))?.is_empty() {
+    let pair = beside_negatives(alloc, group, *spec, *other)?;
+    let narrowed = with_exclusion(alloc, pair.as_slice(), exclusion)?;
+    let fetch = values_alone(narrowed.as_slice());
+    if !or_nothing(alloc, possible_conflicts(alloc, &fetch, &[]))?.is_empty() {
         return Ok(false);
     }
-    let idle = or_nothing(alloc, idle_specs(alloc, specs.as_slice()))?;
-    Ok(
-        !idle
-            .iter()
-            .any(|one| matches!(one.reason, Reason::Excluded(_))),
-    )
+    if group.specs.len() > MANY {
+        return leaves_all(alloc, pair.as_slice(), exclusion);
+    }
+    leaves_all(alloc, group.specs.as_slice(), exclusion)
+}
+
+// Two specs, and the negative ones of a group.
+fn beside_negatives<'s>(
+    alloc: Global,
+    group: &Group<'s>,
+    spec: RefSpecRef<'s>,
+    other: RefSpecRef<'s>,
+) -> Result<Vec<RefSpecRef<'s>>, AllocError> {
+    let mut specs = Vec::new(alloc);
+    specs.push(spec)?;
+    specs.push(other)?;
+    for one in &group.specs {
+        if one.is_negative() {
+            specs.push(*one)?;
+        }
+    }
+    Ok(specs)
+}
+
+fn with_exclusion<'s>(
+    alloc: Global,
+    specs: &[RefSpecRef<'s>],
+    exclusion: RefSpecRef<'s>,
+) -> Result<Vec<RefSpecRef<'s>>, AllocError> {
+    let mut specs = Vec::from_slice(alloc, specs)?;
+    specs.push(exclusion)?;
+    Ok(specs)
+}
+
+// Whether a negative spec makes no spec idle.
+fn leaves_all(
+    alloc: Global,
+    specs: &[RefSpecRef<'_>],
+    exclusion: RefSpecRef<'_>,
+) -> Result<bool, AllocError> {
+    let narrowed = with_exclusion(alloc, specs, exclusion)?;
+    Ok(idle_count(alloc, narrowed.as_slice())? == idle_count(alloc, specs)?)
+}
+
+// How many specs are idle.
+fn idle_count(alloc: Global, specs: &[RefSpecRef<'_>]) -> Result<usize, AllocError> {
+    Ok(or_nothing(alloc, idle_specs(alloc, &values_alone(specs)))?.len())
 }

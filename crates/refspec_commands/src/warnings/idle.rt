@@ -1,62 +1,123 @@
-//! Specs that do nothing, whatever refs a remote has.
+//! Specs that add nothing to a fetch, whatever refs a remote has, and what they do all the same.
 
-use super::{Group, Topic, Warning, or_nothing, say};
+use super::beside::Beside;
+use super::effects::{Effects, effects_of, exclusion_prunes};
+use super::group::Group;
+use super::{Topic, Warning, or_nothing, say};
 use gix_refspec::RefSpecRef;
-use gix_refspec_lint::{Reason, idle_exclusions, idle_specs};
-use gix_refspec_text::side::written_name;
+use gix_refspec_lint::{IdleSpec, Reason, idle_exclusions, idle_specs};
+use gix_refspec_text::side::{split_at_first_star, written_name};
 use refspec_io::sentence::{may_be_below_refs, may_be_ref};
+use refspec_io::texts::Text;
 use std::alloc::{AllocError, Global};
 
-/// Adds a warning for each spec that does nothing, and then for each negative one.
-pub(super) fn add_idle<'a>(
+/// A warning for each positive spec that adds nothing.
+pub(super) fn idle_in<'a>(
     alloc: Global,
     group: &Group<'a>,
-    found: &mut Vec<Warning<'a>>,
-) -> Result<(), AllocError> {
-    for idle in &or_nothing(alloc, idle_specs(alloc, group.specs.as_slice()))? {
-        add_spec(alloc, group, idle.spec_index, idle.reason, found)?;
+    beside: &Beside<'a>,
+) -> Result<Vec<Warning<'a>>, AllocError> {
+    let idle = or_nothing(alloc, idle_specs(alloc, &beside.configured(group)))?;
+    let mut warnings = Vec::new(alloc);
+    for spec in &idle {
+        if let Some(warning) = warning_on(alloc, group, beside, spec)? {
+            warnings.push(warning)?;
+        }
     }
-    for index in &or_nothing(alloc, idle_exclusions(alloc, group.specs.as_slice()))? {
-        add_exclusion(alloc, group, *index, found)?;
-    }
-    Ok(())
+    Ok(warnings)
 }
 
-// Adds a warning for a positive spec.
-fn add_spec<'a>(
+// The warning on a positive spec. `None` if no text has its index, or that of the spec that it names.
+fn warning_on<'a>(
     alloc: Global,
     group: &Group<'a>,
-    index: usize,
+    beside: &Beside<'a>,
+    idle: &IdleSpec,
+) -> Result<Option<Warning<'a>>, AllocError> {
+    let (Some(text), Some(spec)) = (
+        group.texts.get(idle.spec_index),
+        group.specs.get(idle.spec_index),
+    ) else {
+        return Ok(None);
+    };
+    let Some(mut warning) = named_warning(alloc, group, *text, idle.reason)? else {
+        return Ok(None);
+    };
+    let effects = effects_of(alloc, group, beside, idle)?;
+    explain(alloc, group, spec, idle.reason, &effects, &mut warning)?;
+    effects.write(alloc, text, spec, &mut warning.message)?;
+    Ok(Some(warning))
+}
+
+// A warning with the text of a spec, and that of the one that its reason names. `None` if there is no such text.
+fn named_warning<'a>(
+    alloc: Global,
+    group: &Group<'a>,
+    text: Text<'a>,
     reason: Reason,
-    found: &mut Vec<Warning<'a>>,
-) -> Result<(), AllocError> {
-    let (Some(text), Some(spec)) = (group.texts.get(index), group.specs.get(index)) else {
-        return Ok(());
+) -> Result<Option<Warning<'a>>, AllocError> {
+    let (topic, index) = match reason {
+        Reason::Invalid => return alone(alloc, Topic::IdleInvalid, text),
+        Reason::Duplicates => return alone(alloc, Topic::IdleDuplicate, text),
+        Reason::Excluded(index) => (Topic::IdleExcluded, index),
+        Reason::Duplicate(index) => (Topic::IdleDuplicate, index),
     };
-    let (topic, other) = match reason {
-        Reason::Invalid => (Topic::IdleInvalid, None),
-        Reason::Excluded(other) => (Topic::IdleExcluded, Some(other)),
-        Reason::Duplicate(other) => (Topic::IdleDuplicate, Some(other)),
-    };
-    let other_text = match other {
-        None => None,
-        Some(other) => group.texts.get(other).copied(),
-    };
-    let mut warning = Warning::on(alloc, topic, *text, other_text)?;
-    match reason {
-        Reason::Invalid => explain_invalid(alloc, spec, &mut warning)?,
-        Reason::Excluded(_) => {
-            warning
-                .message
-                .extend_from_slice(b"Negative specs exclude all that it takes.")?;
-            warning
-                .advice
-                .extend_from_slice(b"Remove it, or exclude less.")?;
-        }
-        Reason::Duplicate(other) => explain_duplicate(spec, group.specs.get(other), &mut warning)?,
+    match group.texts.get(index) {
+        None => Ok(None),
+        Some(other) => Ok(Some(Warning::on(alloc, topic, text, Some(*other))?)),
     }
-    found.push(warning)?;
-    Ok(())
+}
+
+// A warning with one text.
+fn alone<'a>(
+    alloc: Global,
+    topic: Topic,
+    text: Text<'a>,
+) -> Result<Option<Warning<'a>>, AllocError> {
+    Ok(Some(Warning::on(alloc, topic, text, None)?))
+}
+
+// Says why a spec adds nothing, and what to do.
+fn explain(
+    alloc: Global,
+    group: &Group<'_>,
+    spec: &RefSpecRef<'_>,
+    reason: Reason,
+    effects: &Effects,
+    warning: &mut Warning<'_>,
+) -> Result<(), AllocError> {
+    let message: &[u8] = match reason {
+        Reason::Invalid => return explain_invalid(alloc, spec, warning),
+        Reason::Excluded(_) => b"Negative specs exclude all that it takes.",
+        Reason::Duplicate(_) =>
+            b"The earlier spec maps all that it takes to the same destinations.",
+        Reason::Duplicates =>
+            b"Earlier specs together map all that it takes to the same destinations.",
+    };
+    warning.message.extend_from_slice(message)?;
+    if has_idle_sign(group, spec, reason) {
+        warning.message.extend_from_slice(
+            b" Its `+` does nothing, as the first spec that maps a ref decides.",
+        )?;
+    }
+    let advice: &[u8] = match (reason, effects.is_none()) {
+        (Reason::Excluded(_), true) => b"Remove it, or exclude less.",
+        (Reason::Excluded(_), false) => b"Exclude less, or remove it if you want none of that.",
+        (_, true) => b"Remove it.",
+        (_, false) => b"Remove it only if you want none of that.",
+    };
+    warning.advice.extend_from_slice(advice)
+}
+
+// Whether a spec is forced, and the earlier one that maps the same isn't.
+fn has_idle_sign(group: &Group<'_>, spec: &RefSpecRef<'_>, reason: Reason) -> bool {
+    let Reason::Duplicate(index) = reason else {
+        return false;
+    };
+    match group.specs.get(index) {
+        None => false,
+        Some(earlier) => spec.allow_non_fast_forward() && !earlier.allow_non_fast_forward(),
+    }
 }
 
 // Says which side is never a valid ref name.
@@ -106,51 +167,67 @@ pub(super) fn advise_full_name(
     say(&mut warning.advice, "Write ", full.as_slice())
 }
 
-// Says what an earlier spec does in the place of a spec.
-fn explain_duplicate(
-    spec: &RefSpecRef<'_>,
-    earlier: Option<&RefSpecRef<'_>>,
-    warning: &mut Warning<'_>,
-) -> Result<(), AllocError> {
-    warning.message.extend_from_slice(
-        b"Earlier specs already map all that it takes to the same destinations.",
-    )?;
-    let is_forced_by_earlier = earlier.is_some_and(|earlier| earlier.allow_non_fast_forward());
-    if spec.allow_non_fast_forward() && !is_forced_by_earlier {
-        warning
-            .message
-            .extend_from_slice(b" Its `+` does nothing either.")?;
-        return warning
-            .advice
-            .extend_from_slice(b"Remove it, and write `+` before the earlier one.");
-    }
-    warning.advice.extend_from_slice(b"Remove one of them.")
-}
-
-// Adds a warning for a negative spec. One that isn't a full name has another warning, and tags may be fetched beside the
-// specs.
-fn add_exclusion<'a>(
+/// A warning for each negative spec that excludes nothing. One that isn't a full name has another warning.
+pub(super) fn exclusions_in<'a>(
     alloc: Global,
     group: &Group<'a>,
+    beside: &Beside<'a>,
+) -> Result<Vec<Warning<'a>>, AllocError> {
+    let idle = or_nothing(alloc, idle_exclusions(alloc, &beside.excludable(group)))?;
+    let mut warnings = Vec::new(alloc);
+    for index in &idle {
+        if let Some(warning) = warning_on_exclusion(alloc, group, beside, *index)? {
+            warnings.push(warning)?;
+        }
+    }
+    Ok(warnings)
+}
+
+// The warning on a negative spec, if it may be a full name.
+fn warning_on_exclusion<'a>(
+    alloc: Global,
+    group: &Group<'a>,
+    beside: &Beside<'a>,
     index: usize,
-    found: &mut Vec<Warning<'a>>,
-) -> Result<(), AllocError> {
+) -> Result<Option<Warning<'a>>, AllocError> {
     let (Some(text), Some(spec)) = (group.texts.get(index), group.specs.get(index)) else {
-        return Ok(());
+        return Ok(None);
     };
-    let Some(source) = spec.source() else {
-        return Ok(());
-    };
-    if !may_be_ref(source.as_bytes()) || source.as_bytes().starts_with(b"refs/tags/") {
-        return Ok(());
+    if !may_exclude(spec) {
+        return Ok(None);
     }
     let mut warning = Warning::on(alloc, Topic::IdleExclusion, *text, None)?;
-    warning
-        .message
-        .extend_from_slice(b"No other spec takes a ref that it excludes.")?;
-    warning
-        .advice
-        .extend_from_slice(b"Correct its name, or remove it.")?;
-    found.push(warning)?;
-    Ok(())
+    let prunes = exclusion_prunes(alloc, group, beside, index)?;
+    let (more, advice): (&[u8], &[u8]) = if prunes {
+        (
+            b" But `git fetch --prune` would delete other refs without it.",
+            b"Correct its name, or remove it if you don't want that.",
+        )
+    } else {
+        (b"", b"Correct its name, or remove it.")
+    };
+    let message = &mut warning.message;
+    message.extend_from_slice(b"No other spec takes a ref that it excludes.")?;
+    message.extend_from_slice(more)?;
+    warning.advice.extend_from_slice(advice)?;
+    Ok(Some(warning))
+}
+
+/// Whether a source of a spec may be a full name.
+pub(super) fn may_exclude(spec: &RefSpecRef<'_>) -> bool {
+    match spec.source() {
+        None => false,
+        Some(source) => may_be_full(source.as_bytes()),
+    }
+}
+
+// Whether a side is a full name, or a pattern that may match one.
+fn may_be_full(side: &[u8]) -> bool {
+    if side == b"HEAD".as_slice() || side.starts_with(b"refs/") {
+        return true;
+    }
+    match split_at_first_star(side) {
+        None => false,
+        Some((before, _)) => b"refs/".starts_with(before) || b"HEAD".starts_with(before),
+    }
 }

@@ -1,7 +1,8 @@
 //! Single specs that do something else than they seem to.
 
-use super::idle::advise_full_name;
-use super::{Group, Topic, Warning, say};
+use super::group::Group;
+use super::idle::{advise_full_name, may_exclude};
+use super::{Topic, Warning, say};
 use gix_refspec::RefSpecRef;
 use gix_refspec::oid::is_id;
 use gix_refspec::parsing::Operation;
@@ -13,20 +14,20 @@ use std::alloc::{AllocError, Global};
 // The destination that Git refuses.
 const NOWHERE: &[u8] = b"@";
 
-/// Adds the warnings on single specs, in order.
-pub(super) fn add_faults<'a>(
+/// The warnings on single specs, in order.
+pub(super) fn faults_in<'a>(
     alloc: Global,
     group: &Group<'a>,
-    found: &mut Vec<Warning<'a>>,
-) -> Result<(), AllocError> {
+) -> Result<Vec<Warning<'a>>, AllocError> {
+    let mut found = Vec::new(alloc);
     for (text, spec) in group.texts.iter().zip(group.specs.iter()) {
         if spec.is_negative() {
-            add_for_negative(alloc, text, spec, found)?;
+            add_for_negative(alloc, text, spec, &mut found)?;
         } else if text.operation == Operation::Fetch {
-            add_for_fetch(alloc, text, spec, found)?;
+            add_for_fetch(alloc, text, spec, &mut found)?;
         }
     }
-    Ok(())
+    Ok(found)
 }
 
 // Adds a warning for a negative spec that isn't a full name.
@@ -40,7 +41,7 @@ fn add_for_negative<'a>(
         return Ok(());
     };
     let source = source.as_bytes();
-    if may_be_ref(source) {
+    if may_exclude(spec) {
         return Ok(());
     }
     let mut warning = Warning::on(alloc, Topic::ExcludesNoBranch, *text, None)?;

@@ -2,6 +2,10 @@ use Rattle.gix_refspec_lint.proofs.{Common.{map, refl, sym, ◌∙◌, false≢t
 use Rattle.gix_refspec_lint.proofs.lemmas.IndexLemmas.{reading_at}
 use Rattle.gix_refspec_lint.proofs.conflicts.do_conflict.Goals as goal
 
+pub returns-then-not-can_stand_together : goal.returns-then-not-can_stand_together
+returns-then-not-can_stand_together c g is written =
+    ((λ told. absurd (false≢true told)), (λ k. absurd (c.if-not-can_stand_together.ensures k.storable)))
+
 pub returns-then-not-is_fetched : goal.returns-then-not-is_fetched
 returns-then-not-is_fetched c g is written = ((λ told. absurd (false≢true told)), (λ k. absurd (false≢true ((c.if-not-is_fetched.ensures g is).1 (k.one.maps.source, k.one.included)))))
 
@@ -29,7 +33,9 @@ returns c g is written =
     (λ does told. (
       (λ yes. conflict_made g _ is.completed c.args.first c.args.second refs s t _ named _ _
           (reading_at _ _ c.index-group-first.result c.requires.0) (reading_at _ _ c.index-group-second.result c.requires.1)
-          (λ same. false≢true (sym c.if-same_source.false ∙ c.same_source.ensures.1 same)) ((c.if-not-is_fetched.ensures g is).0 refl) ((c.if-not-is_fetched-2.ensures g is).0 refl) written
+          (λ same. false≢true (sym c.if-same_source.false
+          ∙ c.same_source.ensures.1 same)) c.if-not-can_stand_together.ensures
+          ((c.if-not-is_fetched.ensures g is).0 refl) ((c.if-not-is_fetched-2.ensures g is).0 refl) written
           (c.in_ok-makes.ensures.0 c.if-not-branch.false) (told.0 yes)),
       (λ k. told.1 (makes_named g _ is.completed c.args.first c.args.second refs s t _ named c.args.second _ (reading_at _ _ c.index-group-second.result c.requires.1) t k.other)),
     ))

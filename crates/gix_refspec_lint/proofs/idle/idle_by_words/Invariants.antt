@@ -3,4 +3,4 @@ use Rattle.gix_refspec_lint.proofs.Common.{◌++◌, List, map, take, AllByRecur
 abbrev pub invariant-loop-word : Rattle.gix_refspec_lint.proofs.idle.idle_by_words.Given.invariant-loop-word
 invariant-loop-word l =
     (g : List Reading) → IsGroupOf g l.group
-    → AllByRecursion (λ w. Explains g l.index (name (l.prefix ++ (w ++ l.suffix))) l.reason) (map bstring_bytes (take l.word-index l.word-items)) × IsShown g l.index l.reason
+    → AllByRecursion (λ w. Explains g l.others l.index (name (l.prefix ++ (w ++ l.suffix))) l.reason) (map bstring_bytes (take l.word-index l.word-items)) × IsShown g l.others l.index l.reason

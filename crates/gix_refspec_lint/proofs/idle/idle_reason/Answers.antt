@@ -1,24 +1,27 @@
-use Rattle.gix_refspec_lint.proofs.{Common.{ap, inl, get_or, sym, ◌∙◌, subst, same_Some, IfOk-weaker, IsPositive, Reading, reading_of, accepted_few, HasPlainSource}, lemmas.IdleSpecLemmas.reason_of}
-use Rattle.gix_refspec_lint.proofs.lemmas.IndexLemmas.{reading_at}
+use Rattle.gix_refspec_lint.proofs.lemmas.IdleSpecLemmas.{duplicate_of, duplicates_of}
 use Rattle.gix_refspec_lint.proofs.idle.idle_reason.Goals as goal
 
-pub parts_of-requires : goal.parts_of-requires
-parts_of-requires c x is =
-    let spec = get_or c.args.group.now.specs.now c.args.index c.index-group-index.result in
-    accepted_few (reading_of spec) x spec.accepted (inl (sym c.source.ensures ∙ is))
+pub returns-in_default : goal.returns-in_default
+returns-in_default c g is r at = rw c.in_default.is at (c.in_ok-why.ensures g is r at)
+
+pub returns-in-Invalid : goal.returns-in-Invalid
+returns-in-Invalid c g is r at = rw c.in-Invalid.is at (rw c.in-Some.is at (c.in_ok-why.ensures g is r at))
+
+pub returns-in-Excluded : goal.returns-in-Excluded
+returns-in-Excluded c g is r at = rw c.in-Excluded.is at (rw c.in-Some.is at (c.in_ok-why.ensures g is r at))
 
 pub returns-in-None : goal.returns-in-None
-returns-in-None c g is =
-    let cs = c.args.group.now.specs.now in
-    let plain : HasPlainSource (reading_of (get_or cs c.args.index c.index-group-index.result)) = rw c.source.ensures at c.in-None.ensures in
-    IfOk-weaker c.idle_by_sources.result _ _ (λ why told r at.
-    let same = same_Some _ _ (sym (reading_at cs c.args.index c.index-group-index.result c.requires) ∙ at) in
-    reason_of g _ r (subst (λ (q : Reading). IsPositive q.mode) same c.if-is_negative.ensures) why (told r at (subst HasPlainSource same plain))) (c.idle_by_sources.ensures g is)
+returns-in-None c g is r at =
+    let (positive, idle) = rw c.in-Duplicate.is at (rw c.in-Some.is at (c.in_ok-why.ensures g is r at)) in (
+      positive,
+      duplicates_of g c.args.index _ idle
+          (rw c.in-None.is at (c.in_ok-covering-in-Duplicate.ensures g is r at positive)),
+    )
 
-pub returns-in-Some : goal.returns-in-Some
-returns-in-Some c g is =
-    let (x, has, split) = c.in-Some.ensures in
-    IfOk-weaker c.idle_by_words.result _ _ (λ why told r at.
-    let same = same_Some _ _ (sym (reading_at c.args.group.now.specs.now c.args.index c.index-group-index.result c.requires) ∙ at) in
-    let positive = subst (λ (q : Reading). IsPositive q.mode) same c.if-is_negative.ensures in
-    reason_of g _ r positive why (told r at positive (record { text = x; has = ap (λ (q : Reading). q.source) (sym same) ∙ sym c.source.ensures ∙ has; split = split }))) (c.idle_by_words.ensures g is)
+pub returns-in-Some-2 : goal.returns-in-Some-2
+returns-in-Some-2 c g is r at =
+    let (positive, idle) = rw c.in-Duplicate.is at (rw c.in-Some.is at (c.in_ok-why.ensures g is r at)) in (
+      positive,
+      duplicate_of g c.args.index _ c.in-Some-2.spec idle
+          (rw c.in-Some-2.is at (c.in_ok-covering-in-Duplicate.ensures g is r at positive)),
+    )
