@@ -53,7 +53,8 @@ pub use Rattle.gix_refspec_plan.specs.Matching.{Plan.{by_configuration, by_defau
 pub use Rattle.gix_refspec_plan.specs.{Private.Stales.HasParts, declared.Origin.Origin}
 pub use Rattle.gix_refspec_lint.specs.Laws.Lint.{ConflictFree, ConflictsShown, ExamplesConflict, HasSound, IdleExclusionLeftOut}
 pub use Rattle.gix_refspec_lint.specs.{Laws.Lint.{IdleLeftOut, PlanConflictFree}, Matching.Lint.{AreExamples, AreIdle, AreIdleExclusions}}
-pub use Rattle.gix_refspec_lint.specs.Matching.Lint.{AreStorable, IsDirectoryOf, IsMerged, IsUnused, merged_text, specs_of, tags_spec}
+pub use Rattle.gix_refspec_plan.specs.Matching.Plan.{IsDirectoryOf}
+pub use Rattle.gix_refspec_lint.specs.Matching.Lint.{AreStorable, IsMerged, IsUnused, merged_text, specs_of, tags_spec}
 pub use Rattle.gix_refspec_lint.specs.Matching.Lint.{AreValid, ConflictOver, DoesBefore, Example, Fetches, IsAlwaysEarlier, IsExample}
 pub use Rattle.gix_refspec_lint.specs.Matching.Lint.{IsFree, IsIdleBy, IsIdleExclusion, Maps, MapsSoundly, Unused, is_usable, refs_of}
 pub use Rattle.gix_refspec_lint.specs.Private.{Borders.{AreBorders, AreLongestTo, IsBorder, IsBorderAt, IsLongestAt}, Idles.AreAbsent}

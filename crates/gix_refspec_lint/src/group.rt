@@ -13,7 +13,7 @@ ghost use Rattle.gix_refspec_match.specs.Matching.Mappings.{IsSamePair, Source, 
 ghost use Rattle.gix_refspec_match.specs.Views.Mapping.{mapped_of, name_bytes, ref_of, start_of};
 ghost use Rattle.gix_refspec.specs.Laws.Items.{HaveSameNames};
 ghost use Rattle.gix_refspec.specs.Laws.Matching.{MakesForward};
-ghost use Rattle.gix_refspec_lint.specs.Matching.Lint.{AreStorable, IsDirectoryOf, refs_of};
+ghost use Rattle.gix_refspec_lint.specs.Matching.Lint.{AreStorable, refs_of};
 ghost use Rattle.gix_refspec_plan.specs.Matching.Plan.{IsCompleted};
 ghost use Rattle.gix_refspec_plan.specs.Matching.Stale.{ref_named};
 ghost use Rattle.gix_refspec_lint.specs.Private.Lints.{HasSourcesOf, pair_of};
@@ -25,6 +25,7 @@ use gix_refspec::match_group::{Item, Mapping, NameRef, Source, SourceRef};
 use gix_refspec_match::exclusions::Exclusions;
 use gix_refspec_match::match_forward;
 use gix_refspec_match::needle::word_between;
+use gix_refspec_plan::directories::is_directory_of;
 use gix_refspec_plan::stale::parts_of;
 use gix_refspec_text::RefSpecRef;
 use gix_refspec_text::oid::{Kind, ObjectId};
@@ -164,16 +165,6 @@ fn names_can_stand_together(one: &[u8], other: &[u8]) -> bool
         return false;
     }
     !is_directory_of(other, one)
-}
-
-// Whether a name is that of a directory which another name is in.
-pub(super) fn is_directory_of(directory: &[u8], name: &[u8]) -> bool
-    ensures { IsTrue result ↔ IsDirectoryOf directory.now name.now }
-{
-    match name.strip_prefix(directory) {
-        None => false,
-        Some(rest) => rest.starts_with(b"/"),
-    }
 }
 
 // Whether two destinations are the same, or both are missing.

@@ -9,7 +9,7 @@ ghost use Rattle.gix_refspec_match.specs.Views.Mapping.{start_of};
 ghost use Rattle.gix_refspec_lint.specs.Laws.Lint.{without as without_at};
 ghost use Rattle.gix_refspec_lint.specs.Matching.Lint.{IsFree};
 ghost use Rattle.gix_refspec_lint.specs.Matching.Removal.{FollowsTags, FollowsTagsBy, HasDestination, IsFirst, MergesFirst, Prunes, Tracks};
-ghost use Rattle.gix_refspec_lint.specs.Private.Idles.{HasPlainSource, IsAtWork};
+ghost use Rattle.gix_refspec_lint.specs.Private.Idles.{HasPlainSource, IsAtWork, earlier_than};
 ghost use Rattle.gix_refspec_lint.specs.Private.Lints.{IsGroupOf};
 ghost use Rattle.gix_refspec_lint.specs.Private.Removals.{ArePositives, FetchesSome, FetchesSource};
 ghost use Rattle.gix_refspec_lint.specs.declared.Error.TheVariants as error;
@@ -143,7 +143,8 @@ fn works_at(
     requires free { IsFree (map reading_of values.now) letter }
     requires within { index < length values.now }
     ensures { IfOk result (λ does. (r : Reading) → slice_get (map reading_of values.now) index ≡ Some r → IsPositive r.mode →
-        MatchBool does (IsAtWork (map reading_of values.now) index) (¬ (IsAtWork (map reading_of values.now) index))) }
+        MatchBool does (IsAtWork (map reading_of values.now) (earlier_than index) index)
+        (¬ (IsAtWork (map reading_of values.now) (earlier_than index) index))) }
 {
     let names = completed_names(alloc, values)?;
     let completed = completed_specs(alloc, values, names.as_slice())?;

@@ -93,8 +93,8 @@ fn nested_in<'m>(
     Ok(nested)
 }
 
-// Whether a name is in the directory of another.
-fn is_directory_of(upper: &[u8], name: &[u8]) -> bool
+/// Whether a name is in the directory of another: that, followed by `/`, begins it.
+pub fn is_directory_of(upper: &[u8], name: &[u8]) -> bool
     ensures { IsTrue result ↔ IsDirectoryOf upper.now name.now }
 {
     if name.len() <= upper.len() || name[upper.len()] != b'/' {

@@ -155,9 +155,6 @@ without_skipped values i k x rest below is same so_far =
 
 -- ---- positive values
 
-pub none_positive : ArePositives [] []
-none_positive = record { each = λ r there. absurd (omega (arith, there.1)); all = λ r there positive. there }
-
 pub push_positive : (g l : List Reading) (x : Reading) → ArePositives g l → IsPositive x.mode → ArePositives (g ++ x ∷ []) (l ++ x ∷ [])
 push_positive g l x are positive = record {
   each = λ r there. elim (Contains-append_cases l (x ∷ []) r there) [

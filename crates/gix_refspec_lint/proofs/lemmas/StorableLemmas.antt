@@ -2,21 +2,18 @@
 use Rattle.gix_refspec_lint.proofs.Common.{◌≡◌, ◌↔◌, inl, inr, Bool, true, false, not, false≢true, IsTrue, MatchBool, ℕ, List, [], ◌∷◌, ◌++◌, codes, append_assoc, length, length-append, refl, sym, ap, ◌∙◌}
 use Rattle.gix_refspec_lint.proofs.Common.{subst, arith, BeginsWith, Lacks, HasName, Ref, Source, name, id, ref_named, refs_of, AreStorable, IsDirectoryOf}
 use Rattle.gix_refspec_text.proofs.lemmas.lists.LacksLemmas.{first_once}
-
--- no name is a directory of itself
-no_own : (n : List ℕ) → ¬ (IsDirectoryOf n n)
-no_own n d = omega (arith, ap length d.here, length-append (n ++ codes "/") d.after, length-append n (codes "/"))
+use Rattle.gix_refspec_plan.proofs.lemmas.plan.DirectoryLemmas.{not_itself}
 
 directory_as : (n m a b : List ℕ) → n ≡ a → m ≡ b → IsDirectoryOf a b → IsDirectoryOf n m
 directory_as n m a b is same d = subst (IsDirectoryOf n) (sym same) (subst (λ x. IsDirectoryOf x b) (sym is) d)
 
 pub pair_storable : (n m : List ℕ) → ¬ (IsDirectoryOf n m) → ¬ (IsDirectoryOf m n)
     → AreStorable (ref_named n ∷ ref_named m ∷ [])
-pair_storable n m one other a b (inl is) (inl same) d = no_own n (directory_as n n a b is same d)
+pair_storable n m one other a b (inl is) (inl same) d = not_itself n (directory_as n n a b is same d)
 pair_storable n m one other a b (inl is) (inr (inl same)) d = one (directory_as n m a b is same d)
 pair_storable n m one other a b (inl is) (inr (inr none)) d = none
 pair_storable n m one other a b (inr (inl is)) (inl same) d = other (directory_as m n a b is same d)
-pair_storable n m one other a b (inr (inl is)) (inr (inl same)) d = no_own m (directory_as m m a b is same d)
+pair_storable n m one other a b (inr (inl is)) (inr (inl same)) d = not_itself m (directory_as m m a b is same d)
 pair_storable n m one other a b (inr (inl is)) (inr (inr none)) d = none
 pair_storable n m one other a b (inr (inr none)) also d = none
 
@@ -27,7 +24,7 @@ together_told n m true one other = λ all. all m n (inr (inl refl)) (inl refl) (
 together_told n m false one other = pair_storable n m one (λ d. false≢true (other.1 d))
 
 one_storable : (n : List ℕ) → AreStorable (ref_named n ∷ [])
-one_storable n a b (inl is) (inl same) d = no_own n (directory_as n n a b is same d)
+one_storable n a b (inl is) (inl same) d = not_itself n (directory_as n n a b is same d)
 one_storable n a b (inl is) (inr none) d = none
 one_storable n a b (inr none) also d = none
 

@@ -7,6 +7,7 @@ use Rattle.std.specs.Prelude.{IsSome}
 use Rattle.gix_refspec_lint.proofs.Common.{all_at, all_join, get_or, CanBeWritten, HasStar, Lacks, MatchOption, star}
 use Rattle.gix_refspec_text.specs.Matching.Side.{written_name_of}
 use Rattle.gix_refspec_lint.specs.Laws.Lint.{without}
+use Rattle.gix_refspec_lint.specs.Private.Idles.{earlier_than}
 use Rattle.gix_refspec_lint.specs.Matching.Removal.{FollowsTags, FollowsTagsBy, HasDestination, IsStaleByOne, PruneOtherwise, Prunes, Tracks}
 use Rattle.gix_refspec_lint.specs.Private.Removals.{AreLists, ArePositives, IsWith, all_of, rest_of}
 use Rattle.gix_refspec_lint.specs.declared.removal.pruning.Lists.{Lists}
@@ -74,7 +75,7 @@ module _ (g l : List Reading) (k : ℕ) (r : Reading) (at : slice_get g k ≡ So
   none_excluded (name n) by = let (e, there, one) = excluding_in m n by in subst IsPositive one.negative (all_positive e there)
   none_excluded (id bytes) none = none
 
-  pub works_tracks : IsAtWork m (length l) → Tracks g k
+  pub works_tracks : IsAtWork m (earlier_than (length l)) (length l) → Tracks g k
   works_tracks w =
       let maps = w.fetches.maps.maps in
       let same : maps.reading ≡ r = same_Some _ _ (sym maps.at ∙ last_at l r) in
@@ -93,7 +94,7 @@ module _ (g l : List Reading) (k : ℕ) (r : Reading) (at : slice_get g k ≡ So
         };
         first = λ h below earlier.
             let (j, under, later) = later_first w.refs h w.source (Some d) below earlier in
-            w.first j under (subst (λ o. Maps m w.refs j w.source o) (sym is) later);
+            w.first j (omega arith, under) (subst (λ o. Maps m w.refs j w.source o) (sym is) later);
       }
     where
       completed_some : (r c : Reading) → IsCompleted r c → IsSome r.destination → (e : List ℕ) × (c.destination ≡ Some e)
@@ -106,7 +107,7 @@ module _ (g l : List Reading) (k : ℕ) (r : Reading) (at : slice_get g k ≡ So
             | inr one ↦ (written_name_of d, one.1)
           ]
 
-  pub tracks_works : Tracks g k → IsAtWork m (length l)
+  pub tracks_works : Tracks g k → IsAtWork m (earlier_than (length l)) (length l)
   tracks_works t =
       let maps = t.maps.maps in
       let same : maps.reading ≡ r = same_Some _ _ (sym maps.at ∙ at) in
@@ -123,10 +124,10 @@ module _ (g l : List Reading) (k : ℕ) (r : Reading) (at : slice_get g k ≡ So
           };
           included = none_excluded t.source;
         };
-        first = λ j below later. let (h, under, earlier) = first_later t.refs j t.source (Some t.destination) below later in t.first h under earlier;
+        first = λ j below later. let (h, under, earlier) = first_later t.refs j t.source (Some t.destination) below.1 later in t.first h under earlier;
       }
 
-  pub tracks_told : (does : Bool) → MatchBool does (IsAtWork m (length l)) (¬ (IsAtWork m (length l))) → IsTrue does ↔ Tracks g k
+  pub tracks_told : (does : Bool) → MatchBool does (IsAtWork m (earlier_than (length l)) (length l)) (¬ (IsAtWork m (earlier_than (length l)) (length l))) → IsTrue does ↔ Tracks g k
   tracks_told true works = ((λ told. works_tracks works), λ t. refl)
   tracks_told false none = ((λ told. absurd (false≢true told)), λ t. absurd (none (tracks_works t)))
 
@@ -183,11 +184,11 @@ module _ (values old new : List RefSpecRef) (k : ℕ) (x : RefSpecRef) (below : 
       (λ q there. let (h, under, at) = at_taken (map reading_of values) k q (taken.each q there).0 in (h, slice_get_within (map reading_of values) h q at, get_or_from_slice_get (map reading_of values) h q q at)))
 
   pub tracks_pushed : (last : ℕ) → last ≡ length old → HasDestination (reading_of x) → (does : Bool)
-      → ((r : Reading) → slice_get (map reading_of new) last ≡ Some r → IsPositive r.mode → MatchBool does (IsAtWork (map reading_of new) last) (¬ (IsAtWork (map reading_of new) last))) → IsTrue does ↔ Tracks (map reading_of values) k
+      → ((r : Reading) → slice_get (map reading_of new) last ≡ Some r → IsPositive r.mode → MatchBool does (IsAtWork (map reading_of new) (earlier_than last) last) (¬ (IsAtWork (map reading_of new) (earlier_than last) last))) → IsTrue does ↔ Tracks (map reading_of values) k
   tracks_pushed last long has does told =
       let l = map reading_of old in
       let r = reading_of x in
-      let Told : List Reading → ℕ → Type 0 = λ m i. (r : Reading) → slice_get m i ≡ Some r → IsPositive r.mode → MatchBool does (IsAtWork m i) (¬ (IsAtWork m i)) in
+      let Told : List Reading → ℕ → Type 0 = λ m i. (r : Reading) → slice_get m i ≡ Some r → IsPositive r.mode → MatchBool does (IsAtWork m (earlier_than i) i) (¬ (IsAtWork m (earlier_than i) i)) in
       let moved : Told (l ++ r ∷ []) (length l) = subst (Told (l ++ r ∷ [])) (long ∙ sym (length-map old reading_of)) (subst (λ m. Told m last) pushed told) in
       tracks_told (map reading_of values) l k r at_index has taken does (moved r (last_at l r) has.0)
 

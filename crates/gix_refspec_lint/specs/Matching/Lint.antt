@@ -6,7 +6,6 @@ use Rattle.gix_refspec_lint.specs.declared.Reason.{Reason}
 use Rattle.gix_refspec_lint.specs.declared.Reason.TheVariants as reason
 use Rattle.gix_refspec_text.specs.Texts.Name.{is_refused_byte}
 use Rattle.gix_refspec_text.specs.Texts.Bytes.{head}
-use Rattle.gix_refspec_text.specs.Texts.Words.{BeginsWith}
 use Rattle.gix_refspec_text.specs.Specs.Reading.{Reading, Negative, all_tags}
 use Rattle.gix_refspec_text.specs.Specs.Grammar.{IsPositive}
 use Rattle.gix_refspec_text.specs.Matching.Match.{Ref, HasName}
@@ -15,7 +14,7 @@ use Rattle.gix_refspec_match.specs.Matching.Lists.{IsMadeFrom, IsJoinedFrom}
 use Rattle.gix_refspec_match.specs.Matching.Mappings.{Source, name, id, IsExcludedBy, IsSourceExcluded}
 use Rattle.gix_refspec_match.specs.Matching.Missing.{LacksSource}
 use Rattle.gix_refspec.specs.Matching.RefNames.{IsRefName, IsValidSource}
-use Rattle.gix_refspec_plan.specs.Matching.Plan.{CanBeWritten, IsCompleted}
+use Rattle.gix_refspec_plan.specs.Matching.Plan.{CanBeWritten, IsCompleted, IsDirectoryOf}
 use Rattle.gix_refspec_plan.specs.Matching.Stale.{ref_named}
 use Rattle.gix_refspec.specs.Laws.Matching.{MakesForward}
 use Rattle.gix_refspec.specs.Laws.Plans.{SidesLack}
@@ -37,10 +36,6 @@ tags_spec true = all_tags ∷ []
 -- the values, and that spec behind them
 abbrev pub specs_of : Configuration → List Reading
 specs_of c = c.values ++ tags_spec c.tags
-
--- n is the name of a directory which m is in
-abbrev pub IsDirectoryOf : List ℕ → List ℕ → Type 0
-IsDirectoryOf n m = BeginsWith (n ++ codes "/") m
 
 -- a repository can have refs of all these names: none is a directory of another
 abbrev pub AreStorable : List Ref → Type 0

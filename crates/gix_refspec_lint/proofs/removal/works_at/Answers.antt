@@ -1,4 +1,4 @@
-use Rattle.gix_refspec_lint.proofs.{Common.{ap, sym, ◌∙◌, subst, map, IsPositive, Reading, reading_of}, lemmas.{IndexLemmas.completed_at, LeftOutLemmas.idle_earlier}}
+use Rattle.gix_refspec_lint.proofs.{Common.{ap, arith, sym, ◌∙◌, subst, map, IsPositive, Reading, reading_of}, lemmas.{IndexLemmas.completed_at, LeftOutLemmas.idle_earlier}}
 use Rattle.gix_refspec_lint.proofs.removal.works_at.Goals as goal
 
 pub returns-in-None : goal.returns-in-None
@@ -15,4 +15,4 @@ returns c r at positive works =
     let (e, here, done) = completed_at g _ is.completed c.args.index r at in
     let (own, idle) = (rw c.in-Some.is at (c.in_ok-idle_reason.ensures g is)) e here in
     let (h, before, maps) = idle_earlier g c.args.index c.in-Some.field-0 idle works.refs works.source works.destination works.valid works.fetches in
-    works.first h before maps
+    works.first h (omega arith, before) maps
