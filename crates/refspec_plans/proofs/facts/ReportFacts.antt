@@ -21,7 +21,7 @@ use Rattle.refspec_plans.specs.declared.stale.Place.TheVariants as place
 use Rattle.refspec_plans.specs.Origins.{AreTextsOf}
 use Rattle.refspec_plans.specs.Plan.{AddsCarriedOut, AddsPlan, IsPruned}
 use Rattle.refspec_plans.specs.Stale.{AddsDeleted, AddsFound, AddsStale, AreFound, deleted_names}
-use Rattle.refspec_plans.specs.Verdicts.{left_out_of}
+use Rattle.refspec_plans.specs.Verdicts.{left_out_of, nested_of}
 use Rattle.refspec_plans.proofs.facts.ContestFacts.{contests}
 use Rattle.refspec_plans.proofs.facts.TextsFacts.{texts_with, wish_for}
 use Rattle.refspec_plans.proofs.facts.UpdateFacts.{by_default}
@@ -151,14 +151,19 @@ done task texts refs = record {
     refl,
     refl,
   );
-  status = (refl, refl);
+  status = (refl, (refl, refl));
 }
 
--- what is written is among the results, and what is left out has its exit status
+abbrev nested : Planned
+nested = record by_default { verdict = verdict.DirectoryConflict }
+
+-- what is written is among the results, and what is left out, or in a directory conflict, has its exit status
 pub carried_out : (task : Task) (texts : SpecTexts) (refs : List Ref)
     → AddsCarriedOut (task_with task false []) form.Zeros texts wish refs (by_default ∷ []) false (codes "x")
     (codes "x" ++ fields)
     × AddsCarriedOut (task_with task false []) form.Zeros texts wish refs (left ∷ by_default ∷ []) true (codes "x")
+    (codes "x" ++ fields)
+    × AddsCarriedOut (task_with task false []) form.Zeros texts wish refs (nested ∷ by_default ∷ []) true (codes "x")
     (codes "x" ++ fields)
 carried_out task texts refs = (
   done task texts refs,
@@ -170,7 +175,17 @@ carried_out task texts refs = (
       refl,
       refl,
     );
-    status = inr (λ none. omega (arith, ap length none));
+    status = inr (inl (λ none. omega (arith, ap length none)));
+  },
+  record {
+    mid = codes "x" ++ fields;
+    bad = [];
+    updates = refl;
+    pruned = (
+      refl,
+      refl,
+    );
+    status = inr (inr (λ none. omega (arith, ap length none)));
   },
 )
 
@@ -179,14 +194,16 @@ pub not_carried_out : (task : Task) (texts : SpecTexts) (refs : List Ref) (old n
     × ¬ (AddsCarriedOut (task_with task false []) form.Zeros texts wish refs (by_default ∷ []) true old new)
     × ¬ (AddsCarriedOut (task_with task false []) form.Zeros texts wish refs (by_default ∷ []) false [] [])
 not_carried_out task texts refs old new = (
-  (λ is. omega (arith, ap length is.status.1)),
+  (λ is. omega (arith, ap length is.status.1.0)),
   (λ is. refused is.bad is.pruned.0 is.status),
   λ is. omega (arith, ap length is.updates, ap length is.pruned.1),
 )
   where
-    refused : (bad : List (List ℕ)) → bad ≡ [] → (bad ≢ []) ⊎ (left_out_of (by_default ∷ []) ≢ []) → ⊥
+    refused : (bad : List (List ℕ)) → bad ≡ []
+        → (bad ≢ []) ⊎ ((left_out_of (by_default ∷ []) ≢ []) ⊎ (nested_of (by_default ∷ []) ≢ [])) → ⊥
     refused bad none (inl some) = some none
-    refused bad none (inr some) = some refl
+    refused bad none (inr (inl some)) = some refl
+    refused bad none (inr (inr some)) = some refl
 
 -- ---- whole plans
 
@@ -217,11 +234,13 @@ planned task texts refs = record {
   second = codes "x";
   third = codes "x";
   fourth = codes "x";
+  fifth = codes "x";
   of_specs = of_none texts;
   missing = record { messages = ([], refl, refl); objects = refl };
   kept = ([], refl);
   left_out = refl;
   overruled = refl;
+  nested = refl;
   conflicts = record { contests = []; are = contests.1; messages = ([], refl, refl); objects = refl };
   outcome = inr (whole, done task (texts_with texts [] [] [] (omega arith) false) refs);
 }
@@ -238,7 +257,7 @@ not_planned task refs planned before after old new = (
   ]),
   λ is. elim is.outcome [
     | inl refused ↦ refused.0 whole
-    | inr goes ↦ (not_carried_out task is.texts refs is.fourth new).1 goes.1
+    | inr goes ↦ (not_carried_out task is.texts refs is.fifth new).1 goes.1
   ],
 )
 
