@@ -117,6 +117,7 @@ TOLD = {
     "ags are followed": lambda words, before, after: all(name.startswith("refs/tags/") for name in changed(before, after)),
     "--prune": lambda words, before, after: words[0] == "--prune" and set(before.refs) != set(after.refs),
     "git pull": lambda words, before, after: not changed(before, after),
+    "fetches HEAD": lambda words, before, after: True,
 }
 
 

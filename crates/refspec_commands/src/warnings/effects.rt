@@ -7,6 +7,8 @@ use bstr::BStr;
 use gix_refspec::RefSpecRef;
 use gix_refspec_lint::removal::{Removal, removal_of};
 use gix_refspec_lint::{Error, IdleSpec};
+use gix_refspec_match::exclusions::Exclusions;
+use gix_refspec_match::needle::word_between;
 use gix_refspec_text::side::split_at_first_star;
 use refspec_io::texts::{Location, Text};
 use std::alloc::{AllocError, Global};
@@ -16,31 +18,81 @@ use std::alloc::{AllocError, Global};
 pub(super) struct Effects {
     /// A fetch from a remote without its source fails.
     pub stops: bool,
+    /// There is no other spec, so without it `HEAD` is fetched.
+    pub is_only: bool,
     /// What else depends on it.
     pub removal: Removal,
 }
 
-/// The effects of an idle spec.
+/// The effects of an idle positive spec.
 pub(super) fn effects_of(
     alloc: Global,
     group: &Group<'_>,
     beside: &Beside<'_>,
     idle: &IdleSpec,
 ) -> Result<Effects, AllocError> {
+    let removal = removed(alloc, group, beside, idle.spec_index)?;
+    let prunes = removal.prunes || is_pruned_as_written(alloc, group, idle.spec_index)?;
     Ok(Effects {
         stops: idle.is_required,
-        removal: removed(alloc, group, beside, idle.spec_index)?,
+        is_only: group.specs.len() == 1,
+        removal: Removal { prunes, ..removal },
     })
 }
 
-/// Whether a pruning fetch would delete other refs without a negative spec.
-pub(super) fn exclusion_prunes(
+/// The effects of a negative spec that excludes nothing.
+pub(super) fn effects_of_exclusion(
     alloc: Global,
     group: &Group<'_>,
     beside: &Beside<'_>,
     index: usize,
+) -> Result<Effects, AllocError> {
+    Ok(Effects {
+        stops: false,
+        is_only: group.specs.len() == 1,
+        removal: removed(alloc, group, beside, index)?,
+    })
+}
+
+// Whether Git may prune otherwise without a spec, as it compares the source of a spec without a star as it is written, and for
+// such a spec keeps no ref of which the source is excluded: whether the spec at an index, or one that writes the same ref, is
+// so.
+fn is_pruned_as_written(
+    alloc: Global,
+    group: &Group<'_>,
+    index: usize,
 ) -> Result<bool, AllocError> {
-    Ok(removed(alloc, group, beside, index)?.prunes)
+    let Some(spec) = group.specs.get(index) else {
+        return Ok(false);
+    };
+    let exclusions = Exclusions::of(alloc, group.specs.as_slice())?;
+    let own = side_of(spec.destination());
+    for other in &group.specs {
+        let destination = side_of(other.destination());
+        if may_write(own, destination) && is_compared_as_written(other, &exclusions) {
+            return Ok(true);
+        }
+    }
+    Ok(false)
+}
+
+// Whether a destination is a name, or matches it.
+fn may_write(destination: &[u8], name: &[u8]) -> bool {
+    match split_at_first_star(destination) {
+        None => destination == name,
+        Some((before, after)) => word_between(before, after, name).is_some(),
+    }
+}
+
+// Whether a spec has a source without a star that isn't a full name, or is excluded, and a destination.
+fn is_compared_as_written(spec: &RefSpecRef<'_>, exclusions: &Exclusions<'_>) -> bool {
+    let (Some(source), Some(_)) = (spec.source(), spec.destination()) else {
+        return false;
+    };
+    let source = source.as_bytes();
+    let is_full = source == b"HEAD".as_slice() || source.starts_with(b"refs/");
+    let is_name = split_at_first_star(source).is_none();
+    is_name && (!is_full || exclusions.spec_of(source).is_some())
 }
 
 // What depends on a spec. Where tags are pruned, they are one more value, but not in a fetch with arguments.
@@ -97,7 +149,7 @@ impl Effects {
             follows_tags,
             is_first,
         } = self.removal;
-        !(self.stops || prunes || tracks || follows_tags || is_first)
+        !(self.stops || self.is_only || prunes || tracks || follows_tags || is_first)
     }
 
     /// Appends a sentence on each.
@@ -131,6 +183,9 @@ impl Effects {
         }
         if self.removal.follows_tags {
             out.extend_from_slice(b" Tags are followed because of it.")?;
+        }
+        if self.is_only {
+            out.extend_from_slice(b" It is the only one: without it `git fetch` fetches HEAD.")?;
         }
         if self.removal.is_first {
             out.extend_from_slice(

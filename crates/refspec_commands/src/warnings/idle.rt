@@ -1,7 +1,7 @@
 //! Specs that add nothing to a fetch, whatever refs a remote has, and what they do all the same.
 
 use super::beside::Beside;
-use super::effects::{Effects, effects_of, exclusion_prunes};
+use super::effects::{Effects, effects_of, effects_of_exclusion};
 use super::group::Group;
 use super::{Topic, Warning, or_nothing, say};
 use gix_refspec::RefSpecRef;
@@ -197,18 +197,15 @@ fn warning_on_exclusion<'a>(
         return Ok(None);
     }
     let mut warning = Warning::on(alloc, Topic::IdleExclusion, *text, None)?;
-    let prunes = exclusion_prunes(alloc, group, beside, index)?;
-    let (more, advice): (&[u8], &[u8]) = if prunes {
-        (
-            b" But `git fetch --prune` would delete other refs without it.",
-            b"Correct its name, or remove it if you don't want that.",
-        )
+    let effects = effects_of_exclusion(alloc, group, beside, index)?;
+    let advice: &[u8] = if effects.is_none() {
+        b"Correct its name, or remove it."
     } else {
-        (b"", b"Correct its name, or remove it.")
+        b"Correct its name, or remove it if you don't want that."
     };
     let message = &mut warning.message;
     message.extend_from_slice(b"No other spec takes a ref that it excludes.")?;
-    message.extend_from_slice(more)?;
+    effects.write(alloc, text, spec, message)?;
     warning.advice.extend_from_slice(advice)?;
     Ok(Some(warning))
 }

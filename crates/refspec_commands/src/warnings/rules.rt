@@ -99,11 +99,14 @@ fn outside_refs<'a>(
     }
     say(&mut warning.message, "Git writes ", full)?;
     let owner: &[u8] = if full.starts_with(b"refs/heads/") {
-        b", a branch of this repository."
+        b", a branch of this repository. "
     } else {
-        b"."
+        b". "
     };
     warning.message.extend_from_slice(owner)?;
+    warning
+        .message
+        .extend_from_slice(b"`git fetch --prune` never deletes it for this spec.")?;
     say(&mut warning.advice, "Write ", full)?;
     warning
         .advice
