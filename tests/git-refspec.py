@@ -150,7 +150,7 @@ class Sample:
                         fail(f"{call!r}: status {made.returncode}: {made.stderr!r}")
                     lines.append(call)
                     continue
-                if call.startswith(b"$ git refspec") and b"--json" in call:
+                if call.startswith(b"$ git refspec") and b"--json" in call and b"|" not in call:
                     self.check_json(call, made.stdout)
                 lines += [call, *marked(b">", made.stdout, folder), *marked(b"!", made.stderr, folder)]
                 lines += [b"? %d" % made.returncode] if made.returncode else []

@@ -34,7 +34,8 @@ class Planner:
     def __init__(self, library):
         os.environ["GIX_REFSPEC_LIBRARY"] = library
         self.module = importlib.import_module("gix_refspec")
-        self.valid = {self.module.Verdict.WRITTEN, self.module.Verdict.CONTESTED}
+        verdict = self.module.Verdict
+        self.valid = {verdict.WRITTEN, verdict.CONTESTED, verdict.DIRECTORY_CONFLICT}
 
     def plan(self, group, refs):
         return self.module.plan([], refs, configured=[warned.text_of(spec) for spec in group]).updates

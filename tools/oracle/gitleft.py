@@ -144,7 +144,7 @@ class Trial:
         for row in self.rows("mapping", "directory_conflict"):
             source, far = row["source"], row["destination"]
             id_ = self.world.id_of(remote, names[source]) if source in names else source
-            if row["kind"] == "mapping" and not (self.given and row["origin"] == "configured"):
+            if not (self.given and row["origin"] == "configured"):
                 heads.add(id_)
             if far:
                 updates[far] = (id_, row["spec"])
