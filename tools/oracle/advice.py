@@ -113,7 +113,7 @@ def changed(before, after):
 # By what a message says: whether it is about what differs.
 TOLD = {
     "stops each fetch": lambda words, before, after: any("couldn't find remote ref" in line for line in before.said),
-    "git fetch REMOTE": lambda words, before, after: words[0] != "--prune",
+    "still writes": lambda words, before, after: words[0] != "--prune",
     "ags are followed": lambda words, before, after: all(name.startswith("refs/tags/") for name in changed(before, after)),
     "--prune": lambda words, before, after: words[0] == "--prune" and set(before.refs) != set(after.refs),
     "git pull": lambda words, before, after: not changed(before, after),
@@ -152,7 +152,7 @@ def pieces(config, warning):
         sign, source, far = (part.decode() for part in spec)
         source, far = (source, written) if is_far else (written.lstrip("^"), far)
         text = sign + source + (":" + far if far else "")
-        is_announced = (nothing if is_far else in_full(spec.source.decode(), source) if warning["name"] == "partial_source"
+        is_announced = (as_told(warning["message"]) if is_far else in_full(spec.source.decode(), source) if warning["name"] == "partial_source"
                         else about(spec.source.decode(), source))
         yield Advice(warning, config._replace(values=[*values[:place], text, *values[place + 1:]]), is_announced)
 
@@ -224,7 +224,8 @@ class Advised:
             lines += [f"here ref {name} own" for name in local] + ["here config remote.o.url=<o>", "here bare", *lines_of(config)]
             made = self.world(folder, lines).fetch(*words)
         failure = [line for line in made.said.splitlines() if line.startswith("fatal: ")][:1]
-        return made._replace(said=failure, heads=set(made.heads))
+        # an object that is fetched twice is merged if one of both is
+        return made._replace(said=failure, heads={(id_, (id_, True) in made.heads) for id_, _ in made.heads})
 
     def fetches(self, random_, warning, refs):
         """The words of fetches that may show a difference."""
