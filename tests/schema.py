@@ -1,65 +1,84 @@
 #!/usr/bin/env python3
-"""Holds each JSON line of samples/refspec.sample against docs/refspec.schema.json: tests/schema.py
+"""Holds each JSON line of the samples of refspec and git refspec against docs/refspec.schema.json: tests/schema.py
 
-Knows the words of JSON Schema that the file has, and refuses others. Each kind of object has to occur.
+Each object of the schema has to occur, with each of its members and each value that the schema lists. Left out where there is no
+Python package jsonschema, which Debian has as python3-jsonschema.
 """
 import json
 import os
 import re
 import sys
 
+try:
+    import jsonschema
+except ImportError:
+    jsonschema = None
+
 HERE = os.path.dirname(os.path.abspath(__file__))
-TYPES = {"string": str, "integer": int, "null": type(None), "array": list, "object": dict}
+# The samples, each with what begins a call, and whether its bytes are escaped.
+SAMPLES = (("refspec.sample", b"= ", True), ("git-refspec.sample", b"$ ", False))
 
 
-def fits(value, schema):
-    """Whether a value is as a schema says."""
-    for word, wanted in schema.items():
-        if word == "type":
-            kinds = wanted if isinstance(wanted, list) else [wanted]
-            if not any(type(value) is TYPES[kind] for kind in kinds):
-                return False
-        elif word == "const" and value != wanted or word == "enum" and value not in wanted:
-            return False
-        elif word == "minimum" and value is not None and value < wanted:
-            return False
-        elif word == "required" and not set(wanted) <= set(value):
-            return False
-        elif word == "additionalProperties" and not set(value) <= set(schema["properties"]):
-            return False
-        elif word == "properties" and not all(fits(value[name], each) for name, each in wanted.items() if name in value):
-            return False
-        elif word == "items" and not all(fits(item, wanted) for item in value):
-            return False
-        elif word == "oneOf" and sum(fits(value, each) for each in wanted) != 1:
-            return False
-        elif word not in {"type", "const", "enum", "minimum", "required", "additionalProperties", "properties", "items",
-                          "oneOf", "$schema", "title"}:
-            sys.exit(f"schema: the word {word} of the schema is not known here")
-    return True
+def fail(what):
+    sys.exit(f"tests/schema.py: {what}")
+
+
+def unescaped(line):
+    return re.sub(rb"\\x([0-9a-f]{2})", lambda found: bytes([int(found[1], 16)]), line)
+
+
+def objects(name, call, is_escaped):
+    """The JSON lines that the calls of a sample print, each with its number and its object."""
+    with open(os.path.join(HERE, "samples", name), "rb") as file:
+        is_json = False
+        for number, line in enumerate(file, 1):
+            if line.startswith(call):
+                is_json = b"--json" in line
+            elif is_json and line.startswith(b"> {"):
+                yield number, json.loads(unescaped(line[2:]) if is_escaped else line[2:])
+
+
+def listed(schema, path=()):
+    """What a part of a schema names, each with the members that lead to it: all values of its lists, and its members."""
+    for name, part in schema.get("properties", {}).items():
+        yield *path, name
+        for value in part.get("enum", [part["const"]] if "const" in part else []):
+            yield *path, name, value
+        yield from listed(part.get("items", {}), (*path, name))
+
+
+def held(value, path=()):
+    """The same of an object."""
+    for name, member in value.items():
+        yield *path, name
+        for one in member if isinstance(member, list) else [member]:
+            if isinstance(one, dict):
+                yield from held(one, (*path, name))
+            else:
+                yield *path, name, one
 
 
 def main():
+    if jsonschema is None:
+        print("schema: left out, as there is no python3-jsonschema")
+        return
     with open(os.path.join(HERE, os.pardir, "docs", "refspec.schema.json"), encoding="utf-8") as file:
         schema = json.load(file)
-    kinds = set()
+    jsonschema.Draft202012Validator.check_schema(schema)
+    whole = jsonschema.Draft202012Validator(schema)
+    parts = [(jsonschema.Draft202012Validator(part), part, set()) for part in schema["oneOf"]]
     count = 0
-    with open(os.path.join(HERE, "samples", "refspec.sample"), "rb") as file:
-        is_json = False
-        for line in file:
-            if line.startswith(b"="):
-                is_json = b"--json" in line.split()
-            elif is_json and line.startswith(b"> {"):
-                value = json.loads(re.sub(rb"\\x([0-9a-f]{2})", lambda found: bytes([int(found[1], 16)]), line[2:]))
-                if not fits(value, schema):
-                    sys.exit(f"schema: no object of the schema: {value}")
-                kinds.add(value["kind"])
-                count += 1
-    wanted = {kind for each in schema["oneOf"]
-              for kind in each["properties"]["kind"].get("enum", [each["properties"]["kind"].get("const")])}
-    if kinds != wanted:
-        sys.exit(f"schema: no line has these kinds: {wanted - kinds}")
-    print(f"schema: {count} lines of {len(kinds)} kinds are as the schema says")
+    for sample in SAMPLES:
+        for number, value in objects(*sample):
+            if not whole.is_valid(value):
+                fail(f"{sample[0]}:{number}: not one object of the schema: {value}")
+            next(found for part, _, found in parts if part.is_valid(value)).update(held(value))
+            count += 1
+    for _, part, found in parts:
+        lacking = [path for path in listed(part) if path not in found]
+        if lacking:
+            fail(f"no line of a sample has {lacking} of {part['properties']['kind']}")
+    print(f"schema: {count} lines are each one of {len(parts)} objects of the schema")
 
 
 main()
