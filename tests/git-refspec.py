@@ -409,8 +409,20 @@ def on_terminal(words, folder, variables):
     return output.replace(b"\r\n", b"\n")
 
 
+# The words of calls in a repository with one fetch value and one merged ref, and the end of what they write to a terminal.
+TERMINAL = (
+    (["check"], b"git refspec: 1 checked, all good\n"),
+    (["check", "--remote", "origin", "dev"], b"git refspec: 2 checked, all good\n"),
+    (["check", "-v"], b"remote.origin.fetch: refs/heads/main:refs/x/main\n"),
+    (["check", "^dev"], b"Write ^refs/heads/dev\n"),
+    (["plan"], b"\n2 refs by 2 specs\n"),
+    (["plan", "origin", "main"], b"\n1 ref by 2 specs\n"),
+    (["plan", "--json", "origin", "main"], b"}\n"),
+)
+
+
 def check_terminal(program):
-    """A remote that takes long is told of after two seconds, on a terminal alone; and so is a check that finds nothing."""
+    """On a terminal alone a remote that takes two seconds is told of, a check that finds nothing, and how much a plan has."""
     with tempfile.TemporaryDirectory() as folder:
         variables = environment(program)
         here = os.path.join(folder, "here")
@@ -422,9 +434,12 @@ def check_terminal(program):
         untold = subprocess.run(["git", "refspec", "plan", "ssh://host/path"], cwd=here, env=slow, capture_output=True, check=False)
         if b"waiting" in untold.stderr or untold.returncode != 128:
             fail(f"a slow remote without a terminal: {untold!r}")
-        told = on_terminal(["git", "refspec", "check"], here, variables)
-        if told != b"git refspec: 1 checked, all good\n":
-            fail(f"a check on a terminal: {told!r}")
+        shell("git config remote.origin.fetch refs/heads/main:refs/x/main; git config branch.main.merge refs/heads/dev",
+              here, variables)
+        for words, end in TERMINAL:
+            told = on_terminal(["git", "refspec", *words], here, variables)
+            if not told.endswith(end):
+                fail(f"{words} on a terminal: {told!r}")
 
 
 def check_manual(program):
