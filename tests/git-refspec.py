@@ -409,7 +409,7 @@ def on_terminal(words, folder, variables):
     return output.replace(b"\r\n", b"\n")
 
 
-# The words of calls in a repository with one fetch value and one merged ref, and the end of what they write to a terminal.
+# Calls in a repository with one fetch value and one merged ref, each with the end of what it writes to a terminal.
 TERMINAL = (
     (["check"], b"git refspec: 1 checked, all good\n"),
     (["check", "--remote", "origin", "dev"], b"git refspec: 2 checked, all good\n"),
@@ -422,7 +422,7 @@ TERMINAL = (
 
 
 def check_terminal(program):
-    """On a terminal alone a remote that takes two seconds is told of, a check that finds nothing, and how much a plan has."""
+    """A terminal alone is told of a slow remote, of a check that finds nothing, and of the size of a plan."""
     with tempfile.TemporaryDirectory() as folder:
         variables = environment(program)
         here = os.path.join(folder, "here")

@@ -1,8 +1,8 @@
 #!/usr/bin/env python3
 """Holds each JSON line of the samples of refspec and git refspec against docs/refspec.schema.json: tests/schema.py
 
-Each object of the schema has to occur, with each of its members and each value that the schema lists. Left out where there is no
-Python package jsonschema, which Debian has as python3-jsonschema.
+Each object of the schema has to occur, with each of its members and each value that the schema lists. Left out where
+there is no Python package jsonschema, which Debian has as python3-jsonschema.
 """
 import json
 import os
@@ -39,7 +39,7 @@ def objects(name, call, is_escaped):
 
 
 def listed(schema, path=()):
-    """What a part of a schema names, each with the members that lead to it: all values of its lists, and its members."""
+    """The members of a part of a schema and the values that it lists, each behind the members that lead to it."""
     for name, part in schema.get("properties", {}).items():
         yield *path, name
         for value in part.get("enum", [part["const"]] if "const" in part else []):
