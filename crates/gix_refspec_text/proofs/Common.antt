@@ -23,9 +23,9 @@ pub use Rattle.gix_refspec_text.specs.Laws.Readings.{IdOrFault, IsPrintedBack, I
 pub use Rattle.gix_refspec_text.specs.{Laws.Readings.SaysForOperation, Matching.Match.{HasName, IsFirstCandidate, Matches, MatchesAs, Ref, Takes}, Matching.Prefix.{AppendsExpansion, Expands}}
 pub use Rattle.gix_refspec_text.specs.Matching.Prefix.{HasNoPrefix, HasPrefix, IsAsked, IsExpansion, IsPrefix, IsRefPrefix, below_refs, of_head, of_name, of_object, of_pattern, to_candidates}
 pub use Rattle.gix_refspec_text.specs.Matching.{Prefix.{to_itself, to_prefix}, Side.{Excludes, Fits, HasKind, IsCandidate, IsId, SideKind, by_pattern, candidates, filled, full_name, object, partial}}
-pub use Rattle.gix_refspec_text.specs.{Matching.Side.{pattern, the_name}, Private.Scan.{Added, AddsFault, AreCalm, Finds, IsCalm, IsClean, IsScanned, IsStarCount, LeavesFault, class_at, letter_for}}
-pub use Rattle.gix_refspec_text.specs.Private.{Scan.{lowest_of, one_if, with_letters}, Sides.{HasCheckedShape, HasParts, HasShape, IsBadSide, IsErrorOf, IsLook, IsReason, IsReasonAgainst, MemoryOr}}
-pub use Rattle.gix_refspec_text.specs.{Private.Sides.{destination_of, named_or_head, read_as, side_of}, Specs.Grammar.{AreAlike, AreParts, IsAccepted, IsNameOrPattern, IsPositive, IsSigned}}
+pub use Rattle.gix_refspec_text.specs.{Matching.Side.{pattern, the_name}, Private.Scan.{Added, AddsFault, AreCalm, Finds, IsCalm, IsClean, IsFoundAt, IsScanned, IsStarCount, LeavesFault, Stops, class_at}}
+pub use Rattle.gix_refspec_text.specs.Private.{Scan.{lowest_of, one_if}, Sides.{HasCheckedShape, HasParts, HasShape, IsBadSide, IsBadAt, IsErrorAgainst, IsErrorOf, IsLook, IsReason, IsReasonAgainst, IsStopBy, MemoryOr}}
+pub use Rattle.gix_refspec_text.specs.{Private.Sides.{destination_of, named_or_head, read_as, refusal_at, side_of}, Specs.Grammar.{AreAlike, AreParts, IsAccepted, IsNameOrPattern, IsPositive, IsSigned}}
 pub use Rattle.gix_refspec_text.specs.Specs.Grammar.{IsUnsigned, LastLacksColon, LooksLikeObjectHash, Reads, deletes, fetch_excludes, fetched, fetches, fetches_colon, fetches_nothing_named, named_by}
 pub use Rattle.gix_refspec_text.specs.Specs.{Grammar.{push_excludes, pushed, pushes, pushes_colon, pushes_pattern, pushes_plus, pushes_to, updates, updates_from_head, with_colon}, Meaning.Meaning}
 pub use Rattle.gix_refspec_text.specs.Specs.Meaning.{WritesPrinted, begins_with_plus, excluded, fetch_and_update, fetch_exclude, fetch_only, included, meaning, meaning_of, printed, push_all_matching}
@@ -35,7 +35,7 @@ pub use Rattle.gix_refspec_text.specs.Specs.Refusal.{HasBadDestination, HasBadSo
 pub use Rattle.gix_refspec_text.specs.Specs.Refusal.{IsRefused, IsUnbalanced, MayNeedMemory, NeedsMemory, NegativeEmpty, NegativeObjectHash, NegativeWithDestination, Never, NoReasonBeforeSource}
 pub use Rattle.gix_refspec_text.specs.{Specs.Refusal.{OrElse, PatternUnbalanced, PatternUnsupported, PushToEmpty, PushesNowhere, ReachesMemory, ReferenceName, Refusal}, Texts.Bytes.{at, brace}}
 pub use Rattle.gix_refspec_text.specs.Texts.{Bytes.{bracket, caret, colon, dot, head, letter, plus, slash, star}, Name.{HasFault, HasOneStar, HasSeveralStars, HasStar, IsName, IsPattern, IsSplit}}
-pub use Rattle.gix_refspec_text.specs.Texts.{Name.{ReplacesStar, SomeComponent, is_refused_byte}, ObjectId.{HasIdFault, IsIdLength, IsIdText, IsLowerText, IsSpelledBy, Spells, bytes_of, digits_of}}
+pub use Rattle.gix_refspec_text.specs.Texts.{Name.{ReplacesStar, SomeComponent, is_refused_byte, letter_for, with_letters}, ObjectId.{HasIdFault, IsIdLength, IsIdText, IsLowerText, IsSpelledBy, Spells, bytes_of, digits_of}}
 pub use Rattle.gix_refspec_text.specs.Texts.{ObjectId.{fault_name, id_bytes, is_lower_digit, lower_of}, PatternError.IsPatternFault, Words.{ArePartsAt, BeginsWith, ContainsText, EndsWith, Lacks}}
 pub use Rattle.gix_refspec_text.specs.Views.{Instruction.{IsShownAs, ShowsRefusal, meaning_of_instruction, meant_for, mode_of}, Spec.{key_of_owned, key_of_spec, owned_reading_of, reading_of}}
 pub use Rattle.gix_refspec_text.specs.{contracts.parsing.reading.Shape.the_type, declared.name.Error.Error, declared.name.Error.TheVariants.{Asterisk, Empty, Empty as NoName, EmptyComponent}}

@@ -4,11 +4,11 @@ ghost use Rattle.std.specs.Prelude.{◌≡◌, ◌↔◌, IsTrue, MatchOption, M
 ghost use Rattle.std.specs.Bool.{OnTrue};
 ghost use Rattle.gix_refspec_text.specs.declared.name.Error.{Error};
 ghost use Rattle.gix_refspec_text.specs.Texts.Words.{EndsWith};
-ghost use Rattle.gix_refspec_text.specs.Texts.Name.{IsName, HasFault, IsPattern, HasOneStar, ReplacesStar};
+ghost use Rattle.gix_refspec_text.specs.Texts.Name.{IsName, HasFault, IsPattern, HasOneStar, ReplacesStar, with_letters};
 ghost use Rattle.gix_refspec_text.specs.Texts.Bytes.{slash};
 ghost use Rattle.gix_refspec_text.specs.Specs.Explained.{name_explained};
 ghost use Rattle.gix_refspec_text.specs.Texts.PatternError.{IsPatternFault};
-ghost use Rattle.gix_refspec_text.specs.Private.Scan.{AddsFault, LeavesFault, Finds, IsScanned, IsStarCount, Stops, one_if, with_letters};
+ghost use Rattle.gix_refspec_text.specs.Private.Scan.{AddsFault, LeavesFault, Finds, IsScanned, IsStarCount, Stops, one_if};
 ghost use Rattle.bstr.specs.BStr.{bstr_bytes};
 
 mod calm;
@@ -167,12 +167,13 @@ fn found_fault(text: &[u8]) -> Option<Error>
 pub(crate) enum Stop {
     // It has a second star.
     SecondStar,
-    // It has this fault, with letters in place of its stars.
-    Fault(Error),
+    // With letters in place of its stars it has this fault. The index is that of the first byte that adds
+    // a fault to those before it, or the length of the text if only its end does.
+    Fault(Error, usize),
 }
 
-// Whether a ref name or pattern has a star. Fails at a second star, or with a fault that the text has
-// with letters in place of its stars.
+// Whether a ref name or pattern has a star. Fails at a second star, or at the first fault that the text
+// has with letters in place of its stars.
 #[inline(never)]
 pub(crate) fn starred_name(text: &[u8]) -> Result<bool, Stop>
     ensures { MatchResult result
@@ -180,11 +181,11 @@ pub(crate) fn starred_name(text: &[u8]) -> Result<bool, Stop>
         (Stops text.now) }
 {
     if text.is_empty() {
-        return Err(Stop::Fault(Error::Empty));
+        return Err(Stop::Fault(Error::Empty, 0));
     }
     let starred = scanned(text)?;
     match left_fault(text, last_of(text)) {
-        Some(fault) => Err(Stop::Fault(fault)),
+        Some(fault) => Err(Stop::Fault(fault, text.len())),
         None => Ok(starred),
     }
 }
@@ -232,7 +233,7 @@ fn scanned_to(text: &[u8], from: usize, to: usize, known: bool) -> Result<bool, 
             }
             starred = true;
         } else if let Some(fault) = added_fault(&text[..index], byte) {
-            return Err(Stop::Fault(fault));
+            return Err(Stop::Fault(fault, index));
         }
     }
     Ok(starred)

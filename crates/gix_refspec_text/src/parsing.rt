@@ -19,6 +19,15 @@ pub enum Operation {
     Fetch,
 }
 
+/// A side of a refspec.
+#[derive(Clone, Copy, Debug, PartialEq, Eq)]
+pub enum Side {
+    /// What comes before the last colon, or the whole text without a colon. The sign isn't part of it.
+    Source,
+    /// What follows the last colon.
+    Destination,
+}
+
 /// Why a text is not a refspec. If several reasons apply, the first in this order is returned: `Empty`,
 /// `NegativeWithDestination`, `PushToEmpty`, `PatternUnsupported` or `ReferenceName` of the source,
 /// the same of the destination, `PatternUnbalanced`, `NegativeEmpty`, `NegativeObjectHash`. `Memory`

@@ -1,6 +1,6 @@
 -- How one pass over the bytes finds a fault of a name. Only private functions cite this. A text is scanned with a
 -- slash before it, so that each of its components follows a slash.
-use Rattle.std.specs.Prelude.{◌≡◌, ◌≢◌, Bool, ◌⊎◌, ◌≤◌, ◌<◌, ◌-◌, ◌∷◌, ◌++◌, take, ℕ, ◌==◌, List, Option, MatchOption, codes, IsTrue, if◌then◌else◌, map, slice_index}
+use Rattle.std.specs.Prelude.{◌≡◌, ◌≢◌, Bool, ◌⊎◌, ◌≤◌, ◌<◌, ◌-◌, [], ◌∷◌, ◌++◌, length, take, ℕ, ◌==◌, List, Option, MatchOption, codes, IsTrue, if◌then◌else◌, slice_index}
 use Rattle.std.specs.List.{count_by}
 use Rattle.std.specs.Int.{w64, trailing_zeros}
 use Rattle.gix_refspec_text.specs.declared.name.class.Class.{Class}
@@ -9,8 +9,8 @@ use Rattle.gix_refspec_text.specs.declared.name.Error.{Error}
 use Rattle.gix_refspec_text.specs.declared.name.Stop.{Stop}
 use Rattle.gix_refspec_text.specs.declared.name.Stop.TheVariants.{SecondStar, Fault}
 use Rattle.gix_refspec_text.specs.declared.name.Error.TheVariants.{Empty, EmptyComponent, StartsWithDot, LockSuffix, EndsWithDot, RepeatedDot, ReflogPortion, Asterisk, InvalidByte}
-use Rattle.gix_refspec_text.specs.Texts.Bytes.{slash, star, letter, dot, brace}
-use Rattle.gix_refspec_text.specs.Texts.Name.{is_refused_byte, HasFault, HasSeveralStars}
+use Rattle.gix_refspec_text.specs.Texts.Bytes.{slash, star, dot, brace}
+use Rattle.gix_refspec_text.specs.Texts.Name.{is_refused_byte, HasFault, HasSeveralStars, with_letters}
 use Rattle.gix_refspec_text.specs.Texts.Words.{EndsWith}
 
 -- the class of the byte b
@@ -57,14 +57,6 @@ LeavesFault y (InvalidByte c) = ⊥
 abbrev pub Finds : Option Error → (Error → Type 0) → Type 0
 Finds answer F = MatchOption answer ((e : Error) → ¬ (F e)) F
 
--- the letter for a star, and any other byte as it is
-abbrev pub letter_for : ℕ → ℕ
-letter_for b = if b == star then letter else b
-
--- x with the letter in place of each star
-abbrev pub with_letters : List ℕ → List ℕ
-with_letters x = map letter_for x
-
 -- x has n stars
 abbrev pub IsStarCount : List ℕ → ℕ → Type 0
 IsStarCount x n = count_by (λ b. b == star) x ≡ n
@@ -78,10 +70,16 @@ one_if some = if some then 1 else 0
 abbrev pub IsScanned : List ℕ → ℕ → Bool → Type 0
 IsScanned x i starred = IsClean (with_letters (slash ∷ take i x)) × IsStarCount (take i x) (one_if starred)
 
--- x has a second star, or has this fault with letters for its stars
+-- with letters for the stars of x, the byte at the index i is the first that adds a fault, and adds e; or no byte adds
+-- one, x ends at i, and its end has the fault e
+pub record IsFoundAt (x : List ℕ) (e : Error) (i : ℕ) : Type 0 where
+  pub clean : IsClean (with_letters (slash ∷ take i x))
+  pub here : ((i < length x) × (slice_index x i ≢ star) × AddsFault (slash ∷ take i x) (slice_index x i) e) ⊎ ((i ≡ length x) × LeavesFault (slash ∷ x) e)
+
+-- x has a second star, or has this fault with letters for its stars, and at this index unless x is empty
 abbrev pub Stops : List ℕ → Stop → Type 0
 Stops x SecondStar = HasSeveralStars x
-Stops x (Fault e) = HasFault (with_letters x) e
+Stops x (Fault e i) = HasFault (with_letters x) e × (x ≢ [] → IsFoundAt x e i)
 
 -- after the byte p, the byte b is calm: it is plain, or it is a slash and p is neither a slash nor `k`, the last byte
 -- of `.lock`

@@ -1,6 +1,6 @@
 -- Ref names, by git-check-ref-format(1) with `--allow-onelevel`, and patterns, by git-fetch(1): texts with one star
 -- that are ref names with a letter in its place. Unlike in the manual, `@` is a ref name.
-use Rattle.std.specs.Prelude.{◌≡◌, ◌≢◌, ℕ, Bool, ◌||◌, ◌==◌, nat_lt, List, [], ◌∷◌, ◌++◌, codes, IsTrue}
+use Rattle.std.specs.Prelude.{◌≡◌, ◌≢◌, ℕ, Bool, ◌||◌, ◌==◌, nat_lt, List, [], ◌∷◌, ◌++◌, codes, map, if◌then◌else◌, IsTrue}
 use Rattle.std.specs.List.{list_any}
 use Rattle.gix_refspec_text.specs.declared.name.Error.{Error}
 use Rattle.gix_refspec_text.specs.declared.name.Error.TheVariants.{Empty, EmptyComponent, StartsWithDot, LockSuffix, EndsWithDot, RepeatedDot, ReflogPortion, Asterisk, InvalidByte}
@@ -62,6 +62,14 @@ pub record ReplacesStar (x y : List ℕ) : Type 0 where
   pub after : List ℕ
   pub split : IsSplit before after x
   pub replaced : y ≡ before ++ (letter ∷ after)
+
+-- the letter for a star, and any other byte as it is
+abbrev pub letter_for : ℕ → ℕ
+letter_for b = if b == star then letter else b
+
+-- x with the letter in place of each star
+abbrev pub with_letters : List ℕ → List ℕ
+with_letters x = map letter_for x
 
 -- x is a pattern: it has one star, and with the letter in its place it is a name. So a pattern never ends
 -- with a slash

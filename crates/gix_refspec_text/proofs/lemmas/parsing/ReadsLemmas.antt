@@ -3,7 +3,7 @@ use Rattle.gix_refspec_text.proofs.Common.{[], arith, ◌≡◌, ◌≢◌, inl,
 use Rattle.gix_refspec_text.proofs.Common.{Pattern, IsName, IsPattern, Mode, Normal, Forced, Negative, Reading, Refusal, Never, IsFirstReason, IsRefused, MayNeedMemory, named_by, IsPositive}
 use Rattle.gix_refspec_text.proofs.Common.{IsNameOrPattern, LooksLikeObjectHash, AreAlike, AreParts, fetched, pushed, Reads, fetches_nothing_named, fetches_colon, fetches, updates, updates_from_head}
 use Rattle.gix_refspec_text.proofs.Common.{fetch_excludes, pushes_plus, pushes_colon, pushes, deletes, pushes_pattern, pushes_to, push_excludes, mode_of, IsErrorOf, HasShape, HasCheckedShape, side_of}
-use Rattle.gix_refspec_text.proofs.{Common.{named_or_head, destination_of, HasParts, IsReasonAgainst, bstr_bytes}, lemmas.parsing.SideLemmas.{checked_starred, empty_no_pattern}}
+use Rattle.gix_refspec_text.proofs.{Common.{named_or_head, destination_of, HasParts, IsErrorAgainst, bstr_bytes}, lemmas.parsing.SideLemmas.{checked_starred, empty_no_pattern}}
 use Rattle.gix_refspec_text.proofs.lemmas.parsing.{PartsLemmas.parts_once, ReasonLemmas.{MemoryOr-map, fetch_source_fine, push_source_fine, alone_fine, destination_fine, sides_balanced}}
 use Rattle.gix_refspec_text.specs.{Private.Sides.AreSidesOf, declared.parsing.Error.Error, declared.parsing.reading.Parts.Parts, declared.parsing.reading.Sides.Sides}
 
@@ -154,7 +154,7 @@ refused op m s d text e parts first =
     no_reason op n t g fine e (rw (same.mode, same.source, same.destination) at first) in
     record { unread = unread; mode = m; source = s; destination = d; parts = parts; first = first }
 
-pub error_of_text : (p : Parts) (bytes text : List ℕ) (e : Error) → bytes ≡ text → HasParts bytes p → IsReasonAgainst p e → IsErrorOf p.operation text e
+pub error_of_text : (p : Parts) (bytes text : List ℕ) (e : Error) → bytes ≡ text → HasParts bytes p → IsErrorAgainst p e → IsErrorOf p.operation text e
 error_of_text p bytes text e same split told =
     let parts = subst (λ (x : List ℕ). HasParts x p) same split in
     MemoryOr-map _ (MayNeedMemory p.operation text) _ (IsRefused p.operation text) e

@@ -1,4 +1,4 @@
-use Rattle.gix_refspec_text.proofs.{Common.{◌≡◌, ◌∷◌, take, arith, common_steps, slash}, lemmas.texts.LetterLemmas.{second_star, scanned_other, scanned_star, fault_with_letters}}
+use Rattle.gix_refspec_text.proofs.{Common.{◌≡◌, ◌∷◌, take, arith, common_steps, slash, inl}, lemmas.texts.LetterLemmas.{second_star, scanned_other, scanned_star, fault_with_letters}}
 use Rattle.gix_refspec_text.proofs.name.scanned_to.Goals.{then-byte-eq42+else-starred, else-byte-eq42+in_default}
 use Rattle.gix_refspec_text.proofs.name.scanned_to.Goals as goal
 
@@ -11,7 +11,10 @@ pub returns-then-starred : goal.returns-then-starred
 returns-then-starred c = search (arith, second_star)
 
 pub returns-in-Some : goal.returns-in-Some
-returns-in-Some c = grind (arith, common_steps, fault_with_letters)
+returns-in-Some c = (
+  grind (arith, common_steps, fault_with_letters),
+  λ some. record { clean = c.loop-index.invariant.0; here = inl (omega arith, grind (arith, common_steps), c.in-Some.ensures) },
+)
 
 -- the first star sets the flag, and any other byte adds no fault
 pub loop-index-preserved : goal.loop-index-preserved

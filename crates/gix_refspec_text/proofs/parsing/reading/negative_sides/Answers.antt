@@ -1,9 +1,9 @@
-use Rattle.gix_refspec_text.proofs.{Common.{arith, sym, refl, ap, ◌∙◌, false≢true, LooksLikeObjectHash, NegativeObjectHash, mode_of, side_of}, lemmas.parsing.SideLemmas.none_from_test}
+use Rattle.gix_refspec_text.proofs.{Common.{arith, sym, ap, ◌∙◌, false≢true, LooksLikeObjectHash, mode_of, side_of}, lemmas.parsing.SideLemmas.none_from_test}
 use Rattle.gix_refspec_text.proofs.lemmas.{parsing.ReasonLemmas.reason_against_object, parsing.ReadsLemmas.{fine_negative, source_named, sides_read}, lists.EmptyLemmas.full_from_test}
 use Rattle.gix_refspec_text.proofs.parsing.reading.negative_sides.Goals as goal
 
 pub returns-then-looks_like_object_hash-clause-err : goal.returns-then-looks_like_object_hash-clause-err
-returns-then-looks_like_object_hash-clause-err c = (NegativeObjectHash, refl, grind (arith, none_from_test, full_from_test, reason_against_object))
+returns-then-looks_like_object_hash-clause-err c = grind (arith, none_from_test, full_from_test, reason_against_object)
 
 pub returns-clause-ok : goal.returns-clause-ok
 returns-clause-ok c =
