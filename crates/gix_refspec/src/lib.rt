@@ -37,6 +37,6 @@ pub mod match_group;
 
 pub use gix_refspec_text::parsing::Operation;
 pub use gix_refspec_text::{
-    Instruction, RefSpec, RefSpecRef, instruction, name, oid, parse, parsing,
+    Instruction, RefSpec, RefSpecRef, instruction, locate, name, oid, parse, parsing,
 };
 pub use match_group::types::MatchGroup;

@@ -8,6 +8,7 @@ pub mod GrammarFacts
 pub mod UnreadFacts
 pub mod ReasonFacts
 pub mod FaultFacts
+pub mod SpanFacts
 pub mod MeaningFacts
 pub mod SideFacts
 pub mod CoveringFacts

@@ -3,3 +3,5 @@ pub mod Scan
 pub mod Pieces
 pub mod SideViews
 pub mod Sides
+pub mod Words
+pub mod Spans

@@ -2,6 +2,7 @@
 pub mod Reading
 pub mod Grammar
 pub mod Refusal
+pub mod Span
 pub mod Explained
 pub mod Meaning
 pub mod Order

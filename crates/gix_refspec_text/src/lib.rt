@@ -12,6 +12,7 @@ pub mod spec;
 pub mod split;
 mod types;
 
+pub use parsing::locating::locate;
 pub use parsing::reading::parse;
 pub use spec::{RefSpec, RefSpecRef};
 pub use types::Instruction;

@@ -1,6 +1,6 @@
 //! Checks ref names and patterns, by git-check-ref-format(1).
 
-ghost use Rattle.std.specs.Prelude.{◌≡◌, ◌↔◌, IsTrue, MatchOption, MatchResult, ◌∷◌, ◌≤◌, [], List, ℕ, length};
+ghost use Rattle.std.specs.Prelude.{◌≡◌, ◌≢◌, ◌↔◌, IsTrue, MatchOption, MatchResult, ◌∷◌, ◌≤◌, [], List, ℕ, length};
 ghost use Rattle.std.specs.Bool.{OnTrue};
 ghost use Rattle.gix_refspec_text.specs.declared.name.Error.{Error};
 ghost use Rattle.gix_refspec_text.specs.Texts.Words.{EndsWith};
@@ -8,7 +8,9 @@ ghost use Rattle.gix_refspec_text.specs.Texts.Name.{IsName, HasFault, IsPattern,
 ghost use Rattle.gix_refspec_text.specs.Texts.Bytes.{slash};
 ghost use Rattle.gix_refspec_text.specs.Specs.Explained.{name_explained};
 ghost use Rattle.gix_refspec_text.specs.Texts.PatternError.{IsPatternFault};
-ghost use Rattle.gix_refspec_text.specs.Private.Scan.{AddsFault, LeavesFault, Finds, IsScanned, IsStarCount, Stops, one_if};
+ghost use Rattle.gix_refspec_text.specs.Private.Scan.{AddsFault, LeavesFault, Finds, IsFoundAt, IsScanned, IsStarCount, Stops, one_if};
+ghost use Rattle.gix_refspec_text.specs.Private.Words.{word_begins, word_ends};
+ghost use Rattle.gix_refspec_text.specs.Specs.Span.{IsFirstWrongWord};
 ghost use Rattle.bstr.specs.BStr.{bstr_bytes};
 
 mod calm;
@@ -187,6 +189,49 @@ pub(crate) fn starred_name(text: &[u8]) -> Result<bool, Stop>
     match left_fault(text, last_of(text)) {
         Some(fault) => Err(Stop::Fault(fault, text.len())),
         None => Ok(starred),
+    }
+}
+
+// Some bytes of a side: the index of the first, and how many they are.
+#[derive(Clone, Copy)]
+pub(crate) struct Word {
+    pub(crate) start: usize,
+    pub(crate) len: usize,
+}
+
+// The first bytes that break a rule, in a text whose stars are read as letters: those with the fault that a
+// check found at `index`, as `Stop::Fault` says.
+pub(crate) fn wrong_word(text: &[u8], fault: Error, index: usize) -> Word
+    requires some { text.now ≢ [] }
+    requires found { IsFoundAt text.now fault index }
+    ensures { IsFirstWrongWord (with_letters text.now) result.start result.len }
+{
+    let start = start_of_word(fault, index);
+    let end = end_of_word(fault, text.len(), index);
+    let len = end - start;
+    Word { start, len }
+}
+
+// The index of the first of these bytes.
+fn start_of_word(fault: Error, index: usize) -> usize
+    ensures { result ≡ word_begins fault index }
+{
+    match fault {
+        Error::LockSuffix => index.saturating_sub(5),
+        Error::Asterisk | Error::InvalidByte { .. } => index,
+        _ => index.saturating_sub(1),
+    }
+}
+
+// The index after the last of them, in a text of `len` bytes.
+fn end_of_word(fault: Error, len: usize, index: usize) -> usize
+    requires { index ≤ len }
+    ensures { result ≡ word_ends fault len index }
+{
+    match fault {
+        Error::LockSuffix => index,
+        _ if index == len => len,
+        _ => index + 1,
     }
 }
 

@@ -8,6 +8,7 @@ ghost use Rattle.gix_refspec_text.specs.Views.Instruction.{IsShownAs};
 use crate::name;
 use bstr::BString;
 
+pub(crate) mod locating;
 pub(crate) mod reading;
 
 /// What a refspec is used for.
@@ -26,6 +27,17 @@ pub enum Side {
     Source,
     /// What follows the last colon.
     Destination,
+}
+
+/// The bytes of a refused text that are wrong, all in one side.
+#[derive(Clone, Copy, Debug, PartialEq, Eq)]
+pub struct Span {
+    /// The side that contains them.
+    pub side: Side,
+    /// The index of the first of them in the whole text, from 0.
+    pub start: usize,
+    /// How many they are, at least one.
+    pub len: usize,
 }
 
 /// Why a text is not a refspec. If several reasons apply, the first in this order is returned: `Empty`,

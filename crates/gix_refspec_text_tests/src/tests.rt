@@ -1,6 +1,7 @@
 //! What a spec prints, whether values are equal and hash alike, and a writer with little room.
 
 mod errors;
+mod locating;
 mod name;
 mod oid;
 mod order;

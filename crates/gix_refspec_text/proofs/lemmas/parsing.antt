@@ -6,3 +6,4 @@ pub mod DecideLemmas
 pub mod ReadsLemmas
 pub mod ReadOnceLemmas
 pub mod RefusalLemmas
+pub mod SpanLemmas

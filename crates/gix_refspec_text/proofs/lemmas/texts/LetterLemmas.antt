@@ -1,8 +1,9 @@
 -- A text with letters in place of its stars has the faults that one pass over the text finds.
-use Rattle.gix_refspec_text.proofs.Common.{[], ◌≡◌, ◌≢◌, ℕ, List, ◌∷◌, ◌++◌, codes, length, take, drop, get_or, suc, ◌<◌, Option, Some, None, MatchOption, true, refl, sym, ap, ◌∙◌, subst, inl, inr}
+use Rattle.gix_refspec_text.proofs.Common.{[], ◌≡◌, ◌≢◌, ◌⊎◌, ℕ, List, ◌∷◌, ◌++◌, codes, length, take, drop, get_or, get_or-map, length-map, suc, ◌<◌, Option, Some, None, MatchOption, true, refl, sym, ap, ◌∙◌, subst, inl, inr}
 use Rattle.gix_refspec_text.proofs.Common.{if◌then◌else◌, arith, append_assoc, Bool, zero, ◌-◌, ◌≤◌, false, ◌==◌, ◌+◌, eq-eqb, ne_eqb, map-append, count_by_more_no, Error, Asterisk, Lacks, EndsWith}
 use Rattle.gix_refspec_text.proofs.Common.{slash, star, letter, HasFault, IsName, IsSplit, IsPattern, HasOneStar, ReplacesStar, AddsFault, IsClean, LeavesFault, Finds, letter_for, with_letters}
-use Rattle.gix_refspec_text.proofs.Common.{IsScanned, IsCalm, AreCalm, count_by_more_yes, cond, zero-add, count_by, sum_by-append, HasSeveralStars, take_all, IsStarCount, one_if}
+use Rattle.gix_refspec_text.proofs.Common.{IsFoundAt, IsScanned, IsCalm, AreCalm, count_by_more_yes, cond, zero-add, count_by, sum_by-append, HasSeveralStars, take_all, IsStarCount, one_if}
+use Rattle.std.proofs.lemmas.List.{take-map}
 use Rattle.gix_refspec_text.proofs.lemmas.{lists.LacksLemmas.lacks_or_first, texts.TextLemmas.split_at, texts.NameLemmas.{one_more, IsClean-more, HasFault-added, answer_at_end, slash_adds, last_byte}}
 
 abbrev stars : List ℕ → ℕ
@@ -108,6 +109,22 @@ finds_with_letters y (Some e) left = LeavesFault-as y (with_letters y) (ends_wit
 
 pub answer_with_letters : (x : List ℕ) (fault : Option Error) → x ≢ [] → IsClean (with_letters (slash ∷ x)) → Finds fault (LeavesFault (slash ∷ x)) → MatchOption fault (IsName (with_letters x)) (HasFault (with_letters x))
 answer_with_letters x fault some clean left = answer_at_end (with_letters x) fault (some_letters x some) clean (finds_with_letters (slash ∷ x) fault left)
+
+-- what is found in x with letters for its stars is found in the text with these letters
+pub found_with_letters : (x : List ℕ) (e : Error) (k : ℕ) → IsFoundAt x e k
+    → (IsClean (slash ∷ take k (with_letters x)) × ((k < length (with_letters x)) × AddsFault (slash ∷ take k (with_letters x)) (get_or (with_letters x) k 0) e))
+    ⊎ ((k ≡ length x) × (IsClean (slash ∷ with_letters x) × LeavesFault (slash ∷ with_letters x) e))
+found_with_letters x e k at = elim at.here [
+  | inl (below, other, adds) ↦
+      let y = slash ∷ take k x in
+      let taken = take-map letter_for k x in
+      let byte : get_or (with_letters x) k 0 ≡ get_or x k 0 = get_or-map letter_for x k 0 0 below ∙ letter_for-other (get_or x k 0) other in
+      let adds_too = AddsFault-as y (with_letters y) (get_or x k 0) (ends_with_letters y) e adds in
+      inl (rw taken at.clean, (omega (arith, length-map x letter_for), rw (taken, byte) adds_too))
+  | inr (is, left) ↦
+      let whole : take k x ≡ x = take_all k x (omega arith) in
+      inr (is, (subst (λ z. IsClean (slash ∷ with_letters z)) whole at.clean, LeavesFault-as (slash ∷ x) (with_letters (slash ∷ x)) (ends_with_letters (slash ∷ x)) e left))
+]
 
 pub letters-Lacks : (x : List ℕ) → Lacks star x → with_letters x ≡ x
 letters-Lacks [] lacks = refl

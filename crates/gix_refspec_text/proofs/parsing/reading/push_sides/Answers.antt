@@ -1,5 +1,5 @@
 -- No reason before those of the source applies to a positive push to a destination.
-use Rattle.gix_refspec_text.proofs.Common.{HasShape, Some, refl, sym, ap, ◌∙◌, subst, rules, err_from_is_err_and, differs_true}
+use Rattle.gix_refspec_text.proofs.Common.{HasShape, Some, sym, ap, ◌∙◌, subst, rules, err_from_is_err_and, differs_true}
 use Rattle.gix_refspec_text.proofs.Common.{differs_false, the_type, Push, IsBadPattern, side_of}
 use Rattle.gix_refspec_text.proofs.lemmas.parsing.ReasonLemmas.{push_reaches, push_source_bad, push_source_fine, reason_of_source}
 use Rattle.gix_refspec_text.proofs.lemmas.parsing.{ReasonLemmas.{reason_of_destination, unbalanced_push}, ReadsLemmas.{fine_push, sides_read}}
