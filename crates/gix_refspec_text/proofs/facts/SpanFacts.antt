@@ -31,26 +31,61 @@ pub fine_words :
     ¬ (IsWrong EmptyComponent (codes "a") (codes "/") (codes "b")) × ¬ (IsWrong StartsWithDot (codes "a") (codes ".") (codes "b"))
     × ¬ (IsWrong EndsWithDot (codes "a") (codes ".") (codes "b")) × ¬ (IsWrong RepeatedDot [] (codes ".") [])
     × ¬ (IsWrong ReflogPortion [] (codes "@") []) × ¬ (IsWrong (InvalidByte 97) [] (codes "a") []) × ¬ (IsWrong (InvalidByte 32) [] (codes "a") [])
-fine_words = (λ h. grind arith, λ h. grind arith, λ h. grind arith, λ h. cc, λ h. cc, λ h. grind arith, λ h. grind arith)
+fine_words =
+    (λ h. grind arith, λ h. grind arith, λ h. grind arith, λ h. cc, λ h. cc, λ h. grind arith, λ h. grind arith)
 
 pub fine_lock : ¬ (IsWrong LockSuffix (codes "a") (codes ".lock") (codes ".b"))
-fine_lock h = elim h.1 [ inl none ↦ absurd (cc) | inr more ↦ let here = more.here in let same : dot ≡ slash = cc in omega (arith, same) ]
+fine_lock h =
+    elim h.1 [ inl none ↦ absurd (cc) | inr more ↦ let here = more.here in let same : dot ≡ slash = cc in omega (arith, same) ]
 
 -- of the two wrong words of `a..b..` only one can be the first
 one_of_two : HasWrongWord (codes "a..b..") 1 2
-one_of_two = record { before = codes "a"; word = codes ".."; after = codes "b.."; here = refl; index = refl; size = refl; fault = RepeatedDot; wrong = refl }
+one_of_two =
+    record {
+      before = codes "a";
+      word = codes "..";
+      after = codes "b..";
+      here = refl;
+      index = refl;
+      size = refl;
+      fault = RepeatedDot;
+      wrong = refl;
+    }
 
 pub not_the_second : HasWrongWord (codes "a..b..") 4 2 × ¬ (IsFirstWrongWord (codes "a..b..") 4 2)
 not_the_second = (
-  record { before = codes "a..b"; word = codes ".."; after = []; here = refl; index = refl; size = refl; fault = RepeatedDot; wrong = refl },
+  record {
+    before = codes "a..b";
+    word = codes "..";
+    after = [];
+    here = refl;
+    index = refl;
+    size = refl;
+    fault = RepeatedDot;
+    wrong = refl;
+  },
   λ h. let late = h.first 1 2 one_of_two in elim late [ inl less ↦ omega (arith, less) | inr same ↦ omega (arith, same) ],
 )
 
 -- the first and the second star of a side
 pub stars : HasFirstStar (codes "a*b*c*") 1 × HasSecondStar (codes "a*b*c*") 3
 stars = (
-  record { before = codes "a"; after = codes "b*c*"; here = refl; first = Lacks-tested star (codes "a") refl; index = refl },
-  record { before = codes "a"; between = codes "b"; after = codes "c*"; here = refl; first = Lacks-tested star (codes "a") refl; second = Lacks-tested star (codes "b") refl; index = refl },
+  record {
+    before = codes "a";
+    after = codes "b*c*";
+    here = refl;
+    first = Lacks-tested star (codes "a") refl;
+    index = refl;
+  },
+  record {
+    before = codes "a";
+    between = codes "b";
+    after = codes "c*";
+    here = refl;
+    first = Lacks-tested star (codes "a") refl;
+    second = Lacks-tested star (codes "b") refl;
+    index = refl;
+  },
 )
 
 -- a destination of a negative spec is wrong as a whole, unless it is empty

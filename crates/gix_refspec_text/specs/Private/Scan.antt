@@ -74,7 +74,8 @@ IsScanned x i starred = IsClean (with_letters (slash ∷ take i x)) × IsStarCou
 -- one, x ends at i, and its end has the fault e
 pub record IsFoundAt (x : List ℕ) (e : Error) (i : ℕ) : Type 0 where
   pub clean : IsClean (with_letters (slash ∷ take i x))
-  pub here : ((i < length x) × (slice_index x i ≢ star) × AddsFault (slash ∷ take i x) (slice_index x i) e) ⊎ ((i ≡ length x) × LeavesFault (slash ∷ x) e)
+  pub here : ((i < length x) × (slice_index x i ≢ star) × AddsFault (slash ∷ take i x) (slice_index x i) e)
+      ⊎ ((i ≡ length x) × LeavesFault (slash ∷ x) e)
 
 -- x has a second star, or has this fault with letters for its stars, and at this index unless x is empty
 abbrev pub Stops : List ℕ → Stop → Type 0

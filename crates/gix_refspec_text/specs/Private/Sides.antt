@@ -16,7 +16,10 @@ use Rattle.gix_refspec_text.specs.Texts.Words.{Lacks}
 use Rattle.gix_refspec_text.specs.Texts.Name.{IsName, HasFault, IsPattern}
 use Rattle.gix_refspec_text.specs.Texts.Bytes.{star, head}
 use Rattle.gix_refspec_text.specs.Specs.Reading.{Mode, Reading}
-use Rattle.gix_refspec_text.specs.Specs.Refusal.{Refusal, Empty, NegativeWithDestination, PushToEmpty, PatternUnsupported, ReferenceName, PatternUnbalanced, NegativeEmpty, NegativeObjectHash, Never, IsBadName, IsBadPattern, HasBadSource, HasBadDestination, NoReasonBeforeSource, IsFirstReason, IsRefused, ReachesMemory, MayNeedMemory}
+use Rattle.gix_refspec_text.specs.Specs.Refusal.{Refusal, Empty, NegativeWithDestination, PushToEmpty, PatternUnsupported}
+use Rattle.gix_refspec_text.specs.Specs.Refusal.{ReferenceName, PatternUnbalanced, NegativeEmpty, NegativeObjectHash, Never}
+use Rattle.gix_refspec_text.specs.Specs.Refusal.{IsBadName, IsBadPattern, HasBadSource, HasBadDestination}
+use Rattle.gix_refspec_text.specs.Specs.Refusal.{NoReasonBeforeSource, IsFirstReason, IsRefused, ReachesMemory, MayNeedMemory}
 use Rattle.gix_refspec_text.specs.Specs.Grammar.{named_by, AreParts, IsPositive, Reads}
 use Rattle.gix_refspec_text.specs.Views.Instruction.{mode_of, ShowsRefusal}
 use Rattle.gix_refspec_text.specs.declared.parsing.reading.Look.TheVariants as look
@@ -101,8 +104,10 @@ abbrev pub IsReason : Operation → Mode → List ℕ → Option (List ℕ) → 
 IsReason op mode s d reason.Empty = IsFirstReason op mode s d Empty
 IsReason op mode s d reason.NegativeWithDestination = IsFirstReason op mode s d NegativeWithDestination
 IsReason op mode s d reason.PushToEmpty = IsFirstReason op mode s d PushToEmpty
-IsReason op mode s d (reason.Bad side.Source stop) = NoReasonBeforeSource op mode s d × IsStopBy (HasBadSource op s d) s stop
-IsReason op mode s d (reason.Bad side.Destination stop) = NoReasonBeforeSource op mode s d × Never (HasBadSource op s d) × IsStopBy (HasBadDestination d) (unwrap_or d []) stop
+IsReason op mode s d (reason.Bad side.Source stop) =
+    NoReasonBeforeSource op mode s d × IsStopBy (HasBadSource op s d) s stop
+IsReason op mode s d (reason.Bad side.Destination stop) =
+    NoReasonBeforeSource op mode s d × Never (HasBadSource op s d) × IsStopBy (HasBadDestination d) (unwrap_or d []) stop
 IsReason op mode s d reason.PatternUnbalanced = IsFirstReason op mode s d PatternUnbalanced
 IsReason op mode s d reason.NegativeEmpty = IsFirstReason op mode s d NegativeEmpty
 IsReason op mode s d reason.NegativeObjectHash = IsFirstReason op mode s d NegativeObjectHash
@@ -113,7 +118,9 @@ IsReasonAgainst p = IsReason p.operation (mode_of p.mode) p.source.now (destinat
 
 -- the error is the first reason to refuse the parts p, or `Memory` if a side of them may need memory
 abbrev pub IsErrorAgainst : Parts → Error → Type 0
-IsErrorAgainst p = MemoryOr (ReachesMemory p.operation (mode_of p.mode) p.source.now (destination_of p)) (IsFirstReason p.operation (mode_of p.mode) p.source.now (destination_of p))
+IsErrorAgainst p =
+    MemoryOr (ReachesMemory p.operation (mode_of p.mode) p.source.now (destination_of p))
+    (IsFirstReason p.operation (mode_of p.mode) p.source.now (destination_of p))
 
 -- the error is the first reason to refuse the text, or `Memory` if a side of it may need memory
 abbrev pub IsErrorOf : Operation → List ℕ → Error → Type 0

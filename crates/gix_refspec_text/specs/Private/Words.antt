@@ -1,4 +1,4 @@
--- Where the first wrong word of a name lies, by the index at which its fault is found. Only private functions cite this.
+-- Where the first wrong word of a name is, by the index at which its fault is found. Only private functions cite this.
 use Rattle.std.specs.Prelude.{◌+◌, ◌-◌, ℕ, min}
 use Rattle.gix_refspec_text.specs.declared.name.Error.{Error}
 use Rattle.gix_refspec_text.specs.declared.name.Error.TheVariants.{LockSuffix, Asterisk, InvalidByte}

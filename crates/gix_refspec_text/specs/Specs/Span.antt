@@ -120,3 +120,7 @@ pub record IsSpan (op : Operation) (text : List ℕ) (span : Span) : Type 0 wher
 -- for the operation, no bytes of the text are wrong
 abbrev pub HasNoSpan : Operation → List ℕ → Type 0
 HasNoSpan op text = (span : Span) → ¬ (IsSpan op text span)
+
+-- the text has no other span for the operation
+abbrev pub IsOnlySpan : Operation → List ℕ → Span → Type 0
+IsOnlySpan op text span = (other : Span) → IsSpan op text other → other ≡ span

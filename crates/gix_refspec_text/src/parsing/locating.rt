@@ -5,7 +5,7 @@ ghost use Rattle.bstr.specs.BStr.{bstr_bytes};
 ghost use Rattle.gix_refspec_text.specs.Texts.Bytes.{star};
 ghost use Rattle.gix_refspec_text.specs.Texts.Words.{Lacks};
 ghost use Rattle.gix_refspec_text.specs.Texts.Name.{HasSeveralStars};
-ghost use Rattle.gix_refspec_text.specs.Specs.Span.{HasNoSpan, IsSpan, HasFirstStar, HasSecondStar, index_of_side, sign_length};
+ghost use Rattle.gix_refspec_text.specs.Specs.Span.{HasNoSpan, IsOnlySpan, IsSpan, HasFirstStar, HasSecondStar, index_of_side, sign_length};
 ghost use Rattle.gix_refspec_text.specs.Views.Instruction.{mode_of};
 ghost use Rattle.gix_refspec_text.specs.Private.Scan.{Stops};
 ghost use Rattle.gix_refspec_text.specs.Private.Sides.{HasParts, IsReasonAgainst};
@@ -31,6 +31,7 @@ pub fn locate(text: BStr<'_>, operation: Operation) -> Option<Span>
     ensures span { MatchOption result
         (HasNoSpan operation (bstr_bytes text.entry))
         (IsSpan operation (bstr_bytes text.entry)) }
+    ensures only { IfSome result (IsOnlySpan operation (bstr_bytes text.entry)) }
     ensures inside { IfSome result (λ span. span.start + span.len ≤ length (bstr_bytes text.entry)) }
 {
     let bytes = text.as_bytes();

@@ -1,5 +1,5 @@
 -- The text has the parts that it was split into, and what is wrong with the parts is wrong with the text.
-use Rattle.gix_refspec_text.proofs.{Common.{sym, subst, bstr_bytes, HasParts}, lemmas.parsing.SpanLemmas.accepted_right}
+use Rattle.gix_refspec_text.proofs.{Common.{sym, subst, bstr_bytes, HasParts}, lemmas.parsing.SpanLemmas.{accepted_right, only_span}}
 use Rattle.gix_refspec_text.proofs.parsing.locating.locate.Goals as goal
 
 pub returns-in-Ok-clause-span : goal.returns-in-Ok-clause-span
@@ -11,6 +11,11 @@ returns-in-Ok-clause-span c =
 
 pub returns-in-Err-clause-span : goal.returns-in-Err-clause-span
 returns-in-Err-clause-span c = rw (c.as_bytes-bytes.ensures, c.new-parts.ensures.operation) at c.span_of.ensures.span
+
+pub returns-in-Err-clause-only : goal.returns-in-Err-clause-only
+returns-in-Err-clause-only c =
+    let told = rw (c.as_bytes-bytes.ensures, c.new-parts.ensures.operation) at c.span_of.ensures.span in
+    only_span c.args.operation (bstr_bytes c.args.text) c.span_of.result told
 
 pub returns-in-Err-clause-inside : goal.returns-in-Err-clause-inside
 returns-in-Err-clause-inside c = rw c.as_bytes-bytes.ensures at c.span_of.ensures.inside
