@@ -1,10 +1,10 @@
 -- The first reason that applies to parts, and that none applies to valid ones.
 use Rattle.gix_refspec_text.proofs.Common.{[], arith, ◌≡◌, ◌≢◌, inl, inr, ℕ, List, Option, None, Some, unwrap_or, refl, subst, Operation, Push, Fetch, Shape, HasStar, star, Mode, Normal, Negative}
 use Rattle.gix_refspec_text.proofs.Common.{Refusal, PatternUnbalanced, NegativeEmpty, NegativeObjectHash, HasNegativeDestination, HasBadSource, HasBadDestination, IsUnbalanced, IsOneStarred, Never}
-use Rattle.gix_refspec_text.proofs.Common.{IsFirstReason, NeedsMemory, NoReasonBeforeSource, ReachesMemory, IsPositive, LooksLikeObjectHash, MemoryOr, HasShape, HasCheckedShape, IsBadSide, IsReason, IsBadAt}
-use Rattle.gix_refspec_text.proofs.Common.{IsBadPattern, Stops, refusal_at}
+use Rattle.gix_refspec_text.proofs.Common.{IsFirstReason, NoReasonBeforeSource, IsPositive, LooksLikeObjectHash, MemoryOr, HasShape, HasCheckedShape, IsBadSide, IsReason, IsBadAt}
+use Rattle.gix_refspec_text.proofs.Common.{IsBadPattern}
 use Rattle.gix_refspec_text.proofs.lemmas.{parsing.SideLemmas.{HasStar-bad, plain_fine, pattern_fine, checked_fine, checked_starred}, texts.TextLemmas.Lacks-ContainsText}
-use Rattle.gix_refspec_text.specs.declared.{name.Stop.Stop, name.Stop.TheVariants.SecondStar, parsing.Error.Error}
+use Rattle.gix_refspec_text.specs.declared.parsing.Error.{Error}
 use Rattle.gix_refspec_text.specs.declared.{parsing.Side.TheVariants.{Source, Destination}, parsing.reading.Reason.Reason}
 use Rattle.gix_refspec_text.specs.declared.parsing.reading.Reason.TheVariants as reason
 
@@ -59,16 +59,8 @@ pub unbalanced_somewhere : (s t : List ℕ) → IsOneStarred s t → (s ≢ [] �
 unbalanced_somewhere s t (inl h) somewhere empty = somewhere (starred_not_empty s h.0) empty
 unbalanced_somewhere s t (inr h) somewhere empty = starred_not_empty t h.1 empty
 
-pub empty_needs_none : NeedsMemory [] → ⊥
-empty_needs_none (inl several) = Lacks-ContainsText star [] tt (record { before = several.before; after = _; here = several.here })
-empty_needs_none (inr long) = Lacks-ContainsText star [] tt long.0
-
 pub bad_destination : (d : Option (List ℕ)) (e : Refusal) → IsBadSide (unwrap_or d []) e → HasBadDestination d e
 bad_destination d e bad = grind arith
-
-pub memory_at_destination : (op : Operation) (m : Mode) (s : List ℕ) (d : Option (List ℕ)) → NoReasonBeforeSource op m s d → Never (HasBadSource op s d) → NeedsMemory (unwrap_or d []) → ReachesMemory op m s d
-memory_at_destination op m s None before source needs = absurd (empty_needs_none needs)
-memory_at_destination op m s (Some d) before source needs = (before, inr (source, needs))
 
 pub reason_of_source : (op : Operation) (m : Mode) (s : List ℕ) (d : Option (List ℕ)) (P : Refusal → Type 0) (r : Reason)
     → NoReasonBeforeSource op m s d → ((e : Refusal) → P e → HasBadSource op s d e) → IsBadAt Source P s r → IsReason op m s d r
@@ -89,31 +81,6 @@ fetch_source_bad s d e bad = record { source = bad.0; refusal = bad.1 }
 
 pub push_source_bad : (s t : List ℕ) (e : Refusal) → IsBadPattern s e → HasBadSource Push s (Some t) e
 push_source_bad s t e bad = record { source = starred_not_empty s (HasStar-bad s e bad); refusal = bad }
-
-reaches_at_source : (op : Operation) (m : Mode) (s : List ℕ) (d : Option (List ℕ)) → NoReasonBeforeSource op m s d → NeedsMemory s → ReachesMemory op m s d
-reaches_at_source op m s None before needs = (before, needs)
-reaches_at_source op m s (Some d) before needs = (before, inl needs)
-
-several : (x : List ℕ) (stop : Stop) → Stops x stop → stop ≡ SecondStar → NeedsMemory x
-several x stop stops second = inl (subst (Stops x) second stops)
-
--- the error of a bad side is the first reason, or `Memory` if the side has several stars
-pub error_of_source : (op : Operation) (m : Mode) (s : List ℕ) (d : Option (List ℕ)) (stop : Stop) (e : Error)
-    → IsReason op m s d (reason.Bad Source stop) → MemoryOr (stop ≡ SecondStar) (λ f. f ≡ refusal_at s stop) e
-    → MemoryOr (ReachesMemory op m s d) (IsFirstReason op m s d) e
-error_of_source op m s d stop e reason told =
-    MemoryOr-map (stop ≡ SecondStar) (ReachesMemory op m s d) (λ f. f ≡ refusal_at s stop) (IsFirstReason op m s d) e
-    (λ second. reaches_at_source op m s d reason.0 (several s stop reason.1.1 second))
-    (λ f is. rw is (reason_at_source op m s d _ reason.0 reason.1.0)) told
-
-pub error_of_destination : (op : Operation) (m : Mode) (s : List ℕ) (d : Option (List ℕ)) (stop : Stop) (e : Error)
-    → IsReason op m s d (reason.Bad Destination stop) → MemoryOr (stop ≡ SecondStar) (λ f. f ≡ refusal_at (unwrap_or d []) stop) e
-    → MemoryOr (ReachesMemory op m s d) (IsFirstReason op m s d) e
-error_of_destination op m s d stop e reason told =
-    let x = unwrap_or d [] in
-    MemoryOr-map (stop ≡ SecondStar) (ReachesMemory op m s d) (λ f. f ≡ refusal_at x stop) (IsFirstReason op m s d) e
-    (λ second. memory_at_destination op m s d reason.0 reason.1 (several x stop reason.2.1 second))
-    (λ f is. rw is (reason_at_destination op m s d _ reason.0 reason.1 reason.2.0)) told
 
 pub negative_reaches : (op : Operation) (s : List ℕ) → NoReasonBeforeSource op Negative s None
 negative_reaches op s = grind arith
