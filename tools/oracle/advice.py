@@ -30,6 +30,8 @@ FETCHED = ["main", "dev", "dev2", "refs/heads/topic/a", "tag v1", "v1", "HEAD", 
 Config = collections.namedtuple("Config", "values settings")
 # A piece of advice: its warning, the configuration after it, and whether it announces what differs between two fetches.
 Advice = collections.namedtuple("Advice", "warning config announces")
+# The object of the refs here before a fetch.
+OWN = "own"
 NAMES = re.compile(r"refs/[^\s,*^:]*[^\s,*^:.]")
 REMOVE = re.compile(r"\b[Rr]emove it\b")
 ONLY_IF = re.compile(r"\b[Rr]emove it (only )?if ")
@@ -110,12 +112,18 @@ def changed(before, after):
     return {name for name in {**before.refs, **after.refs} if before.refs.get(name) != after.refs.get(name)}
 
 
+def prunes_others(before, after):
+    """Whether refs differ, and after one of both fetches each is gone or as it was. The other may write it again."""
+    names = changed(before, after)
+    return bool(names) and all({OWN, None} & {before.refs.get(name), after.refs.get(name)} for name in names)
+
+
 # By what a message says: whether it is about what differs.
 TOLD = {
     "stops each fetch": lambda words, before, after: any("couldn't find remote ref" in line for line in before.said),
     "still writes": lambda words, before, after: words[0] != "--prune",
     "ags are followed": lambda words, before, after: all(name.startswith("refs/tags/") for name in changed(before, after)),
-    "--prune": lambda words, before, after: words[0] == "--prune" and set(before.refs) != set(after.refs),
+    "--prune": lambda words, before, after: words[0] == "--prune" and prunes_others(before, after),
     "git pull": lambda words, before, after: not changed(before, after),
     "fetches HEAD": lambda words, before, after: True,
 }
@@ -221,11 +229,14 @@ class Advised:
         """What a fetch does by a configuration, with these refs of the remote and here."""
         with tempfile.TemporaryDirectory(dir=self.folder) as folder:
             lines = [f"o ref {name}" for name in refs] + [f"here object {name}" for name in REFS + refs]
-            lines += [f"here ref {name} own" for name in local] + ["here config remote.o.url=<o>", "here bare", *lines_of(config)]
+            lines += [f"here ref {name} {OWN}" for name in local]
+            lines += ["here config remote.o.url=<o>", "here bare", *lines_of(config)]
             made = self.world(folder, lines).fetch(*words)
         failure = [line for line in made.said.splitlines() if line.startswith("fatal: ")][:1]
         # an object that is fetched twice is merged if one of both is
-        return made._replace(said=failure, heads={(id_, (id_, True) in made.heads) for id_, _ in made.heads})
+        own = self.stores["sha1"].id_of(OWN)
+        refs = {name: OWN if id_ == own else id_ for name, id_ in made.refs.items()}
+        return made._replace(said=failure, refs=refs, heads={(id_, (id_, True) in made.heads) for id_, _ in made.heads})
 
     def fetches(self, random_, warning, refs):
         """The words of fetches that may show a difference."""
