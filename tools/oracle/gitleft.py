@@ -59,8 +59,6 @@ UNADVERTISED = kind("an id that no ref of the remote has is refused over protoco
 SHALLOW = kind("a shallow remote updates no ref", "o shallow", TRACKING)
 SHALLOW_TWICE = kind("a ref of a shallow remote that is fetched twice stops the fetch", "o shallow",
                      words="o main:refs/x/a main:refs/x/b")
-EMPTY_MERGE = kind("an empty name that the branch merges is HEAD", "here config branch.main.remote=o",
-                   "here config branch.main.merge=", words="")
 SHORT_MERGE = kind("a partial name that the branch merges is found where its ref is listed", "o ref refs/tags/v1",
                    "here config branch.main.remote=o", "here config branch.main.merge=v1", words="")
 FORMATS = kind("the remote has ids of another format", "here format sha256", TRACKING)
@@ -80,7 +78,7 @@ BOOLEAN_FIRST = kind("a value that isn't a boolean is told before one that isn't
                      "here config remote.o.fetch=a..b", "here config fetch.prune=maybe")
 KINDS = [FORCED, CLOBBERED, FOLDER, FOLDERS, TAG_AS_BRANCH, LEFT_ALONE, THROUGH, THROUGH_BOTH, DANGLING, FOLLOWED,
          FOLLOWED_THROUGH, REFUSED_TAG, TAG_BESIDE, FOLLOWED_CONFLICT, CHECKED_OUT, HEAD_ASIDE, NOT_OURS, UNADVERTISED,
-         SHALLOW, SHALLOW_TWICE, EMPTY_MERGE, SHORT_MERGE, FORMATS, DELETED_FIRST, PARTIAL, EXCLUDED, GROUP, OLD_FORM,
+         SHALLOW, SHALLOW_TWICE, SHORT_MERGE, FORMATS, DELETED_FIRST, PARTIAL, EXCLUDED, GROUP, OLD_FORM,
          FULL_NAME, BOOLEAN_FIRST]
 # Those by which Git ends with status 1, or may.
 FAILING = {FORCED, CLOBBERED, FOLDER, FOLDERS, TAG_AS_BRANCH, DANGLING, REFUSED_TAG, TAG_BESIDE, HEAD_ASIDE}
@@ -244,9 +242,9 @@ class Trial:
                       if any(clash(tag, name) for tag in tags for name in names)][:1]
         if remote.is_shallow and SHALLOW not in kinds and SHALLOW_ROOTS in self.done.said:
             kinds.append(SHALLOW)
-        merged = {id_: one for id_, one in self.merged(remote).items() if id_ in {id_ for id_, _ in self.done.heads} - heads}
-        kinds += [one for one in (SHORT_MERGE, EMPTY_MERGE) if one in merged.values()]
-        return kinds if self.is_status(kinds) and self.are_heads(heads | set(merged), kinds, updates, tags) else None
+        merged = self.short_merges(remote) & {id_ for id_, _ in self.done.heads} - heads
+        kinds += [SHORT_MERGE] * bool(merged)
+        return kinds if self.is_status(kinds) and self.are_heads(heads | merged, kinds, updates, tags) else None
 
     def kind_of_symbolic(self, far, target, spec, expected):
         """The kind by which a symbolic ref isn't updated itself."""
@@ -257,14 +255,14 @@ class Trial:
             return DANGLING
         return THROUGH_BOTH if "*" in spec else THROUGH
 
-    def merged(self, remote):
-        """The ids of the refs that the current branch merges by a partial or an empty name, with the kinds of these."""
+    def short_merges(self, remote):
+        """The ids of the refs of which the current branch merges a partial name."""
         head = next(iter(self.world.here.all("worktree")), self.world.here.head()) or ""
         merges = self.values(rf"^branch\.{re.escape(head.removeprefix('refs/heads/'))}\.merge$")
         names = {name.encode(): object_ for name, object_ in remote.names().items()}
-        partial = [merge for merge in merges if merge != "HEAD" and not merge.startswith("refs/")]
-        found = {gitknown.first_name(merge.encode(), names): SHORT_MERGE if merge else EMPTY_MERGE for merge in partial}
-        return {self.world.id_of(remote, names[name]): one for name, one in found.items() if name is not None}
+        partial = [merge.encode() for merge in merges if merge not in ("", "HEAD") and not merge.startswith("refs/")]
+        found = [gitknown.first_name(merge, names) for merge in partial]
+        return {self.world.id_of(remote, names[name]) for name in found if name is not None}
 
     def kind_of(self, remote, name, updates, expected):
         """The kind by which a ref isn't as expected."""

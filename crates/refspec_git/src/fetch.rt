@@ -328,13 +328,20 @@ fn tag_pruning<'a>(
 fn merged<'a>(alloc: Global, specs: &Specs<'a>) -> Result<Vec<Setting<'a>>, AllocError> {
     let mut merged = Vec::new(alloc);
     for merge in &specs.merges {
-        if let Some(name) = merge.value {
-            if may_be_merged(name) {
-                merged.push(value_of(merge, name))?;
-            }
+        let name = merged_name(merge);
+        if may_be_merged(name) {
+            merged.push(value_of(merge, name))?;
         }
     }
     Ok(merged)
+}
+
+// What a branch merges. An empty value is `HEAD`, as an empty source is.
+fn merged_name<'a>(merge: &Setting<'a>) -> &'a [u8] {
+    match merge.value {
+        None | Some(b"") => b"HEAD",
+        Some(name) => name,
+    }
 }
 
 // Whether a fetch finds what a branch merges on a remote. Git asks the server for exactly this name, so the ref of a partial name
@@ -431,7 +438,7 @@ fn call_of<'c>(
         call.specs.push(spec.as_str())?;
     }
     for merge in &specs.merges {
-        call.merges.push(BStr::new(merge.value.unwrap_or(b"")))?;
+        call.merges.push(BStr::new(merged_name(merge)))?;
     }
     call.tags = matches!(specs.tags, Tags::All(_));
     call.reads_input = command != Command::Prefixes;
@@ -470,7 +477,7 @@ fn sources_of<'s>(alloc: Global, specs: &'s Specs<'s>) -> Result<Sources<'s>, Al
             sources.add(alloc, value.value.unwrap_or(b""), false)?;
         }
         for merge in &specs.merges {
-            let name = merge.value.unwrap_or(b"");
+            let name = merged_name(merge);
             if may_be_merged(name) {
                 sources.add(alloc, name, true)?;
             }
