@@ -20,8 +20,9 @@ use gix_refspec::match_group::Source;
 use gix_refspec::parsing::{Error, Operation};
 use gix_refspec::{RefSpecRef, parse};
 use gix_refspec_lint::{PossibleConflict, idle_specs, possible_conflicts};
+use gix_refspec_match::exclusions::Exclusions;
 use gix_refspec_match::needle::word_between;
-use gix_refspec_text::side::split_at_first_star;
+use gix_refspec_text::side::{joined, split_at_first_star};
 use refspec_io::call::Form;
 use refspec_io::counts::reported_count;
 use refspec_io::fields::source_of;
@@ -206,13 +207,23 @@ fn write_advice(
         );
     };
     match exclusion_for(alloc, group, spec, other, conflict)? {
-        Some(exclusion) => say(
-            out,
-            "Exclude one of them, for example by ",
-            exclusion.as_slice(),
-        ),
         None => out.extend_from_slice(b"Give one of them another destination."),
+        Some(exclusion) => {
+            let words = "Exclude one of them, for example by ";
+            say(out, words, exclusion.text.as_slice())?;
+            for directory in &exclusion.directories {
+                say(out, " and ", directory.as_slice())?;
+            }
+            Ok(())
+        }
     }
+}
+
+// A negative spec, and those for refs that would then be written to a directory of what it leaves to the other spec.
+#[derive(Drop)]
+struct Exclusion {
+    text: Vec<u8>,
+    directories: Vec<Vec<u8>>,
 }
 
 // A negative spec that prevents the conflict of two specs of a group, and leaves something to each spec.
@@ -222,10 +233,10 @@ fn exclusion_for(
     spec: &RefSpecRef<'_>,
     other: &RefSpecRef<'_>,
     conflict: &PossibleConflict,
-) -> Result<Option<Vec<u8>>, AllocError> {
+) -> Result<Option<Exclusion>, AllocError> {
     let destination = conflict.destination.as_bstr().as_bytes();
     match exclusion_of(alloc, group, spec, other, destination)? {
-        Some(text) => Ok(Some(text)),
+        Some(exclusion) => Ok(Some(exclusion)),
         None => exclusion_of(alloc, group, other, spec, destination),
     }
 }
@@ -237,10 +248,101 @@ fn exclusion_of(
     spec: &RefSpecRef<'_>,
     other: &RefSpecRef<'_>,
     destination: &[u8],
-) -> Result<Option<Vec<u8>>, AllocError> {
+) -> Result<Option<Exclusion>, AllocError> {
     match narrowing(alloc, spec, other, destination)? {
-        Some(text) if prevents(alloc, group, text.as_slice(), spec, other)? => Ok(Some(text)),
+        Some(text) if prevents(alloc, group, text.as_slice(), spec, other)? => Ok(Some(
+            Exclusion {
+                text,
+                directories: directory_exclusions(alloc, group, spec, other)?,
+            },
+        )),
         _ => Ok(None),
+    }
+}
+
+// The texts of negative specs for the sources that a pattern maps to directories of all that another pattern writes.
+fn directory_exclusions(
+    alloc: Global,
+    group: &Group<'_>,
+    spec: &RefSpecRef<'_>,
+    other: &RefSpecRef<'_>,
+) -> Result<Vec<Vec<u8>>, AllocError> {
+    let mut texts = Vec::new(alloc);
+    let (Some(source), Some(own), Some(others)) = (
+        spec.source(),
+        spec.destination(),
+        other.destination(),
+    ) else {
+        return Ok(texts);
+    };
+    let (Some((prefix, suffix)), Some((before, after)), Some((folder, _))) = (
+        split_at_first_star(source.as_bytes()),
+        split_at_first_star(own.as_bytes()),
+        split_at_first_star(others.as_bytes()),
+    ) else {
+        return Ok(texts);
+    };
+    let exclusions = Exclusions::of(alloc, group.specs.as_slice())?;
+    let specs = tried_specs(alloc, group, spec, other)?;
+    for at in 0..folder.len() {
+        let (directory, rest) = folder.split_at(at);
+        if !rest.starts_with(b"/") {
+            continue;
+        }
+        let Some(word) = word_between(before, after, directory) else {
+            continue;
+        };
+        let text = negative_of(alloc, prefix, word, suffix)?;
+        if is_of_use(alloc, &exclusions, specs.as_slice(), text.as_slice())? {
+            texts.push(text)?;
+        }
+    }
+    Ok(texts)
+}
+
+// The specs beside which an exclusion for two of them is tried: all of a group, or in one of many specs the two and the
+// negative ones.
+fn tried_specs<'s>(
+    alloc: Global,
+    group: &Group<'s>,
+    spec: &RefSpecRef<'s>,
+    other: &RefSpecRef<'s>,
+) -> Result<Vec<RefSpecRef<'s>>, AllocError> {
+    if group.specs.len() > MANY {
+        return beside_negatives(alloc, group, *spec, *other);
+    }
+    Vec::from_slice(alloc, group.specs.as_slice())
+}
+
+// The text of a negative spec for a source with a word in the place of its star.
+fn negative_of(
+    alloc: Global,
+    prefix: &[u8],
+    word: &[u8],
+    suffix: &[u8],
+) -> Result<Vec<u8>, AllocError> {
+    let mut text = Vec::from_slice(alloc, b"^")?;
+    text.extend_from_slice(prefix)?;
+    text.extend_from_slice(word)?;
+    text.extend_from_slice(suffix)?;
+    Ok(text)
+}
+
+// Whether a negative spec excludes a name that isn't excluded yet, and makes none of these specs idle.
+fn is_of_use(
+    alloc: Global,
+    exclusions: &Exclusions<'_>,
+    specs: &[RefSpecRef<'_>],
+    text: &[u8],
+) -> Result<bool, AllocError> {
+    let Some(exclusion) = negative_spec(alloc, text)? else {
+        return Ok(false);
+    };
+    match exclusion.source() {
+        Some(source) if exclusions.spec_of(source.as_bytes()).is_none() => {
+            leaves_all(alloc, specs, exclusion)
+        }
+        _ => Ok(false),
     }
 }
 
@@ -264,23 +366,28 @@ fn narrowing(
     ) else {
         return Ok(None);
     };
-    let mut text = Vec::from_slice(alloc, b"^")?;
-    text.extend_from_slice(prefix)?;
     match split_at_first_star(others.as_bytes()) {
-        None => {
-            let Some(word) = word_between(before, after, destination) else {
-                return Ok(None);
-            };
-            text.extend_from_slice(word)?;
-        }
+        None => match word_between(before, after, destination) {
+            None => Ok(None),
+            Some(word) => Ok(Some(negative_of(alloc, prefix, word, suffix)?)),
+        },
         Some((other_before, other_after)) => {
-            text.extend_from_slice(other_before.strip_prefix(before).unwrap_or(b""))?;
-            text.push(b'*')?;
-            text.extend_from_slice(other_after.strip_suffix(after).unwrap_or(b""))?;
+            let start = other_before.strip_prefix(before).unwrap_or(b"");
+            let end = other_after.strip_suffix(after).unwrap_or(b"");
+            let word = joined(alloc, start, b"*", end)?;
+            let text = negative_of(alloc, prefix, word.as_bstr().as_bytes(), suffix)?;
+            Ok(Some(text))
         }
     }
-    text.extend_from_slice(suffix)?;
-    Ok(Some(text))
+}
+
+// A text as a negative spec, if it is a spec.
+fn negative_spec<'s>(alloc: Global, text: &'s [u8]) -> Result<Option<RefSpecRef<'s>>, AllocError> {
+    match parse(alloc, BStr::new(text), Operation::Fetch) {
+        Ok(exclusion) => Ok(Some(exclusion)),
+        Err(Error::Memory) => Err(AllocError),
+        Err(_) => Ok(None),
+    }
 }
 
 // Whether two specs of a group can't conflict beside one more negative spec, and no spec is idle because of it.
@@ -291,10 +398,8 @@ fn prevents(
     spec: &RefSpecRef<'_>,
     other: &RefSpecRef<'_>,
 ) -> Result<bool, AllocError> {
-    let exclusion = match parse(alloc, BStr::new(text), Operation::Fetch) {
-        Ok(exclusion) => exclusion,
-        Err(Error::Memory) => return Err(AllocError),
-        Err(_) => return Ok(false),
+    let Some(exclusion) = negative_spec(alloc, text)? else {
+        return Ok(false);
     };
     let pair = beside_negatives(alloc, group, *spec, *other)?;
     let narrowed = with_exclusion(alloc, pair.as_slice(), exclusion)?;
@@ -302,10 +407,8 @@ fn prevents(
     if !or_nothing(alloc, possible_conflicts(alloc, &fetch, &[]))?.is_empty() {
         return Ok(false);
     }
-    if group.specs.len() > MANY {
-        return leaves_all(alloc, pair.as_slice(), exclusion);
-    }
-    leaves_all(alloc, group.specs.as_slice(), exclusion)
+    let tried = tried_specs(alloc, group, spec, other)?;
+    leaves_all(alloc, tried.as_slice(), exclusion)
 }
 
 // Two specs, and the negative ones of a group.

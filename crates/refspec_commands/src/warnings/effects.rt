@@ -6,7 +6,7 @@ use super::say;
 use bstr::BStr;
 use gix_refspec::RefSpecRef;
 use gix_refspec_lint::removal::{Removal, removal_of};
-use gix_refspec_lint::{Error, IdleSpec};
+use gix_refspec_lint::{Error, IdleSpec, Reason};
 use gix_refspec_match::exclusions::Exclusions;
 use gix_refspec_match::needle::word_between;
 use gix_refspec_text::side::split_at_first_star;
@@ -20,6 +20,10 @@ pub(super) struct Effects {
     pub stops: bool,
     /// There is no other spec, so without it `HEAD` is fetched.
     pub is_only: bool,
+    /// Tags that point to what it takes are followed, also if that is excluded.
+    pub follows_taken: bool,
+    /// Without it a pruning fetch may delete a tag, and write it again as it follows tags.
+    pub keeps_tags: bool,
     /// What else depends on it.
     pub removal: Removal,
 }
@@ -29,13 +33,18 @@ pub(super) fn effects_of(
     alloc: Global,
     group: &Group<'_>,
     beside: &Beside<'_>,
+    spec: &RefSpecRef<'_>,
     idle: &IdleSpec,
 ) -> Result<Effects, AllocError> {
     let removal = removed(alloc, group, beside, idle.spec_index)?;
-    let prunes = removal.prunes || is_pruned_as_written(alloc, group, idle.spec_index)?;
+    let prunes = removal.prunes || is_pruned_as_written(alloc, group, spec)?;
+    let follows = matches!(beside.tags, Tags::Followed);
+    let is_excluded = matches!(idle.reason, Reason::Excluded(_));
     Ok(Effects {
         stops: idle.is_required,
         is_only: group.specs.len() == 1,
+        follows_taken: follows && is_excluded && is_taken_alone(group, idle.spec_index, spec),
+        keeps_tags: follows && prunes && may_write_tags(spec),
         removal: Removal { prunes, ..removal },
     })
 }
@@ -47,39 +56,69 @@ pub(super) fn effects_of_exclusion(
     beside: &Beside<'_>,
     index: usize,
 ) -> Result<Effects, AllocError> {
+    let removal = removed(alloc, group, beside, index)?;
+    let follows = matches!(beside.tags, Tags::Followed);
     Ok(Effects {
         stops: false,
         is_only: group.specs.len() == 1,
-        removal: removed(alloc, group, beside, index)?,
+        follows_taken: false,
+        keeps_tags: follows
+            && removal.prunes
+            && group.specs.iter().any(|spec| may_write_tags(spec)),
+        removal,
     })
 }
 
-// Whether Git may prune otherwise without a spec, as it compares the source of a spec without a star as it is written, and for
-// such a spec keeps no ref of which the source is excluded: whether the spec at an index, or one that writes the same ref, is
-// so.
+// Whether no other positive spec takes all that the one at an index takes, as far as their texts tell, but one has a
+// destination. Git looks for tags to follow before it leaves out what is excluded.
+fn is_taken_alone(group: &Group<'_>, index: usize, spec: &RefSpecRef<'_>) -> bool {
+    let own = side_of(spec.source());
+    let mut follows = false;
+    for (at, other) in group.specs.iter().enumerate() {
+        if at != index && !other.is_negative() {
+            if covers(side_of(other.source()), own) {
+                return false;
+            }
+            follows |= other.destination().is_some();
+        }
+    }
+    follows
+}
+
+// Whether a destination is below `refs/tags/`, or a pattern that may match a name there.
+fn may_write_tags(spec: &RefSpecRef<'_>) -> bool {
+    let folder = b"refs/tags/".as_slice();
+    let destination = side_of(spec.destination());
+    destination.starts_with(folder)
+        || match split_at_first_star(destination) {
+            None => destination.starts_with(b"tags/"),
+            Some((before, _)) => folder.starts_with(before),
+        }
+}
+
+// Whether Git may prune otherwise without a spec, as it compares the source of a spec without a star as it is written,
+// and for such a spec keeps no ref of which the source is excluded: whether the spec, or one that writes the same ref,
+// is so.
 fn is_pruned_as_written(
     alloc: Global,
     group: &Group<'_>,
-    index: usize,
+    spec: &RefSpecRef<'_>,
 ) -> Result<bool, AllocError> {
-    let Some(spec) = group.specs.get(index) else {
-        return Ok(false);
-    };
     let exclusions = Exclusions::of(alloc, group.specs.as_slice())?;
     let own = side_of(spec.destination());
     for other in &group.specs {
         let destination = side_of(other.destination());
-        if may_write(own, destination) && is_compared_as_written(other, &exclusions) {
+        if covers(own, destination) && is_compared_as_written(other, &exclusions) {
             return Ok(true);
         }
     }
     Ok(false)
 }
 
-// Whether a destination is a name, or matches it.
-fn may_write(destination: &[u8], name: &[u8]) -> bool {
-    match split_at_first_star(destination) {
-        None => destination == name,
+// Whether a side is a name, or matches it.
+fn covers(side: &[u8], name: &[u8]) -> bool {
+    match split_at_first_star(side) {
+        None => side == name,
         Some((before, after)) => word_between(before, after, name).is_some(),
     }
 }
@@ -140,16 +179,33 @@ fn removal_in(
     }
 }
 
+/// How much depends on a spec.
+#[derive(Clone, Copy, Debug, PartialEq, Eq)]
+pub(super) enum Weight {
+    None,
+    Some,
+    /// Without it tags may become other ones.
+    OnTags,
+}
+
 impl Effects {
-    /// Whether there are none.
-    pub fn is_none(&self) -> bool {
+    /// How much they are together.
+    pub fn weight(&self) -> Weight {
         let Removal {
             prunes,
             tracks,
             follows_tags,
             is_first,
         } = self.removal;
-        !(self.stops || self.is_only || prunes || tracks || follows_tags || is_first)
+        if self.keeps_tags {
+            return Weight::OnTags;
+        }
+        let own = self.stops || self.is_only || self.follows_taken;
+        if own || prunes || tracks || follows_tags || is_first {
+            Weight::Some
+        } else {
+            Weight::None
+        }
     }
 
     /// Appends a sentence on each.
@@ -160,8 +216,8 @@ impl Effects {
         spec: &RefSpecRef<'_>,
         out: &mut Vec<u8>,
     ) -> Result<(), AllocError> {
-        let source = side_of(spec.source());
         if self.stops {
+            let source = side_of(spec.source());
             say(
                 out,
                 " It still stops each fetch from a remote without ",
@@ -170,20 +226,12 @@ impl Effects {
             out.push(b'.')?;
         }
         if self.removal.tracks {
-            let mut arguments = Vec::from_slice(alloc, remote_of(text))?;
-            arguments.push(b' ')?;
-            arguments.extend_from_slice(argument_of(source))?;
-            out.extend_from_slice(b" `git fetch ")?;
-            out.extend_from_slice(arguments.as_slice())?;
-            say(out, "` still writes ", side_of(spec.destination()))?;
-            out.extend_from_slice(b" by it.")?;
+            write_tracked(alloc, text, spec, out)?;
         }
         if self.removal.prunes {
             out.extend_from_slice(b" `git fetch --prune` would delete other refs without it.")?;
         }
-        if self.removal.follows_tags {
-            out.extend_from_slice(b" Tags are followed because of it.")?;
-        }
+        self.write_on_tags(out)?;
         if self.is_only {
             out.extend_from_slice(b" It is the only one: without it `git fetch` fetches HEAD.")?;
         }
@@ -194,6 +242,39 @@ impl Effects {
         }
         Ok(())
     }
+
+    fn write_on_tags(&self, out: &mut Vec<u8>) -> Result<(), AllocError> {
+        if self.keeps_tags {
+            out.extend_from_slice(
+                b" Tags among them would be written again if they are followed.",
+            )?;
+        }
+        if self.removal.follows_tags {
+            return out.extend_from_slice(b" Tags are followed because of it.");
+        }
+        if self.follows_taken {
+            return out.extend_from_slice(
+                b" Tags that point to what it takes may be followed only because of it.",
+            );
+        }
+        Ok(())
+    }
+}
+
+// Says that a fetch of single refs writes by a spec.
+fn write_tracked(
+    alloc: Global,
+    text: &Text<'_>,
+    spec: &RefSpecRef<'_>,
+    out: &mut Vec<u8>,
+) -> Result<(), AllocError> {
+    let mut arguments = Vec::from_slice(alloc, remote_of(text))?;
+    arguments.push(b' ')?;
+    arguments.extend_from_slice(argument_of(side_of(spec.source())))?;
+    out.extend_from_slice(b" `git fetch ")?;
+    out.extend_from_slice(arguments.as_slice())?;
+    say(out, "` still writes ", side_of(spec.destination()))?;
+    out.extend_from_slice(b" by it.")
 }
 
 fn side_of<'a>(side: Option<BStr<'a>>) -> &'a [u8] {

@@ -1,7 +1,7 @@
 //! Specs that add nothing to a fetch, whatever refs a remote has, and what they do all the same.
 
 use super::beside::Beside;
-use super::effects::{Effects, effects_of, effects_of_exclusion};
+use super::effects::{Effects, Weight, effects_of, effects_of_exclusion};
 use super::group::Group;
 use super::{Topic, Warning, or_nothing, say};
 use gix_refspec::RefSpecRef;
@@ -43,7 +43,7 @@ fn warning_on<'a>(
     let Some(mut warning) = named_warning(alloc, group, *text, idle.reason)? else {
         return Ok(None);
     };
-    let effects = effects_of(alloc, group, beside, idle)?;
+    let effects = effects_of(alloc, group, beside, spec, idle)?;
     explain(alloc, group, spec, idle.reason, &effects, &mut warning)?;
     effects.write(alloc, text, spec, &mut warning.message)?;
     Ok(Some(warning))
@@ -100,11 +100,14 @@ fn explain(
             b" Its `+` does nothing, as the first spec that maps a ref decides.",
         )?;
     }
-    let advice: &[u8] = match (reason, effects.is_none()) {
-        (Reason::Excluded(_), true) => b"Remove it, or exclude less.",
-        (Reason::Excluded(_), false) => b"Exclude less, or remove it if you want none of that.",
-        (_, true) => b"Remove it.",
-        (_, false) => b"Remove it only if you want none of that.",
+    let advice: &[u8] = match (reason, effects.weight()) {
+        (Reason::Excluded(_), Weight::None) => b"Remove it, or exclude less.",
+        (Reason::Excluded(_), Weight::Some) =>
+            b"Exclude less, or remove it if you want none of that.",
+        (Reason::Excluded(_), Weight::OnTags) => b"Exclude less.",
+        (_, Weight::None) => b"Remove it.",
+        (_, Weight::Some) => b"Remove it only if you want none of that.",
+        (_, Weight::OnTags) => b"Leave it if you prune.",
     };
     warning.advice.extend_from_slice(advice)
 }
@@ -198,10 +201,10 @@ fn warning_on_exclusion<'a>(
     }
     let mut warning = Warning::on(alloc, Topic::IdleExclusion, *text, None)?;
     let effects = effects_of_exclusion(alloc, group, beside, index)?;
-    let advice: &[u8] = if effects.is_none() {
-        b"Correct its name, or remove it."
-    } else {
-        b"Correct its name, or remove it if you don't want that."
+    let advice: &[u8] = match effects.weight() {
+        Weight::None => b"Correct its name, or remove it.",
+        Weight::Some => b"Correct its name, or remove it if you don't want that.",
+        Weight::OnTags => b"Correct its name.",
     };
     let message = &mut warning.message;
     message.extend_from_slice(b"No other spec takes a ref that it excludes.")?;

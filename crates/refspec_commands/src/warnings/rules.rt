@@ -6,6 +6,7 @@ use super::{Topic, Warning, say};
 use gix_refspec::RefSpecRef;
 use gix_refspec::oid::is_id;
 use gix_refspec::parsing::Operation;
+use gix_refspec_match::exclusions::Exclusions;
 use gix_refspec_text::side::written_name;
 use refspec_io::sentence::{is_pattern, may_be_ref};
 use refspec_io::texts::Text;
@@ -19,12 +20,13 @@ pub(super) fn faults_in<'a>(
     alloc: Global,
     group: &Group<'a>,
 ) -> Result<Vec<Warning<'a>>, AllocError> {
+    let exclusions = Exclusions::of(alloc, group.specs.as_slice())?;
     let mut found = Vec::new(alloc);
     for (text, spec) in group.texts.iter().zip(group.specs.iter()) {
         if spec.is_negative() {
             add_for_negative(alloc, text, spec, &mut found)?;
         } else if text.operation == Operation::Fetch {
-            add_for_fetch(alloc, text, spec, &mut found)?;
+            add_for_fetch(alloc, text, spec, &exclusions, &mut found)?;
         }
     }
     Ok(found)
@@ -58,6 +60,7 @@ fn add_for_fetch<'a>(
     alloc: Global,
     text: &Text<'a>,
     spec: &RefSpecRef<'_>,
+    exclusions: &Exclusions<'_>,
     found: &mut Vec<Warning<'a>>,
 ) -> Result<(), AllocError> {
     let Some(destination) = spec.destination() else {
@@ -65,16 +68,44 @@ fn add_for_fetch<'a>(
     };
     let destination = destination.as_bytes();
     let full = written_name(alloc, destination)?;
-    let full = full.as_bstr().as_bytes();
-    if !is_pattern(destination) && full != destination {
-        found.push(outside_refs(alloc, text, destination, full)?)?;
+    let sides = Sides {
+        source: source_of(spec),
+        destination,
+        full: full.as_bstr().as_bytes(),
+    };
+    if sides.is_completed() {
+        let mut warning = Warning::on(alloc, Topic::DestinationOutsideRefs, *text, None)?;
+        explain_outside(&sides, &mut warning.message)?;
+        advise_outside(alloc, spec, &sides, exclusions, &mut warning.advice)?;
+        found.push(warning)?;
     }
-    if let Some(source) = spec.source() {
-        if is_partial(source.as_bytes()) && destination != NOWHERE {
-            found.push(partial_source(alloc, text, source.as_bytes(), full)?)?;
-        }
+    if is_partial(sides.source) && destination != NOWHERE {
+        found.push(partial_source(alloc, text, &sides)?)?;
     }
     Ok(())
+}
+
+// The sides of a spec, and the ref that Git writes for its destination.
+#[derive(Clone, Copy)]
+struct Sides<'s> {
+    source: &'s [u8],
+    destination: &'s [u8],
+    full: &'s [u8],
+}
+
+impl Sides<'_> {
+    // Whether Git completes the destination.
+    fn is_completed(&self) -> bool {
+        !is_pattern(self.destination) && self.full != self.destination
+    }
+}
+
+// The source of a spec; empty without one.
+fn source_of<'a>(spec: &RefSpecRef<'a>) -> &'a [u8] {
+    match spec.source() {
+        None => b"",
+        Some(source) => source.as_bytes(),
+    }
 }
 
 // Whether a source is neither a full name nor a pattern nor an object id.
@@ -82,56 +113,86 @@ fn is_partial(source: &[u8]) -> bool {
     !source.is_empty() && !is_pattern(source) && !may_be_ref(source) && !is_id(source)
 }
 
-// The warning on a destination that Git completes.
-fn outside_refs<'a>(
-    alloc: Global,
-    text: &Text<'a>,
-    destination: &[u8],
-    full: &[u8],
-) -> Result<Warning<'a>, AllocError> {
-    let mut warning = Warning::on(alloc, Topic::DestinationOutsideRefs, *text, None)?;
-    if destination == NOWHERE {
-        warning
-            .message
-            .extend_from_slice(b"Git refuses @ as a destination.")?;
-        warning.advice.extend_from_slice(b"Write a full name.")?;
-        return Ok(warning);
+// Says what Git makes of a destination that it completes.
+fn explain_outside(sides: &Sides<'_>, out: &mut Vec<u8>) -> Result<(), AllocError> {
+    if sides.destination == NOWHERE {
+        return out.extend_from_slice(b"Git refuses @ as a destination.");
     }
-    say(&mut warning.message, "Git writes ", full)?;
-    let owner: &[u8] = if full.starts_with(b"refs/heads/") {
+    say(out, "Git writes ", sides.full)?;
+    let owner: &[u8] = if sides.full.starts_with(b"refs/heads/") {
         b", a branch of this repository. "
     } else {
         b". "
     };
-    warning.message.extend_from_slice(owner)?;
-    warning
-        .message
-        .extend_from_slice(b"`git fetch --prune` never deletes it for this spec.")?;
-    say(&mut warning.advice, "Write ", full)?;
-    warning
-        .advice
-        .extend_from_slice(b", or the full name of another ref.")?;
-    Ok(warning)
+    out.extend_from_slice(owner)?;
+    out.extend_from_slice(b"`git fetch --prune` never deletes it for this spec.")
+}
+
+// Advises to write the destination in full. A full destination is pruned if no ref that is fetched has the source as
+// written, so the source has to be in full too, and not excluded.
+fn advise_outside(
+    alloc: Global,
+    spec: &RefSpecRef<'_>,
+    sides: &Sides<'_>,
+    exclusions: &Exclusions<'_>,
+    out: &mut Vec<u8>,
+) -> Result<(), AllocError> {
+    if sides.destination == NOWHERE {
+        return out.extend_from_slice(b"Write a full name.");
+    }
+    let source = full_source(alloc, sides.source)?;
+    if exclusions.spec_of(source.as_slice()).is_some() {
+        return out.extend_from_slice(
+            b"Exclude less first: `git fetch --prune` deletes a full destination of an excluded source.",
+        );
+    }
+    if !is_partial(sides.source) {
+        say(out, "Write ", sides.full)?;
+        return out.extend_from_slice(b", or the full name of another ref.");
+    }
+    let mut both = Vec::new(alloc);
+    if spec.allow_non_fast_forward() {
+        both.push(b'+')?;
+    }
+    both.extend_from_slice(source.as_slice())?;
+    both.push(b':')?;
+    both.extend_from_slice(sides.full)?;
+    say(out, "Write both sides in full: ", both.as_slice())?;
+    say(out, ", if ", sides.source)?;
+    say(out, " is ", source.as_slice())?;
+    out.extend_from_slice(b" on the remote.")
+}
+
+// A source in full, if it is partial as that of a branch.
+fn full_source(alloc: Global, source: &[u8]) -> Result<Vec<u8>, AllocError> {
+    if is_partial(source) {
+        return Ok(written_name(alloc, source)?.into_vec());
+    }
+    Vec::from_slice(alloc, source)
 }
 
 // The warning on a source that isn't a full name.
 fn partial_source<'a>(
     alloc: Global,
     text: &Text<'a>,
-    source: &[u8],
-    destination: &[u8],
+    sides: &Sides<'_>,
 ) -> Result<Warning<'a>, AllocError> {
     let mut warning = Warning::on(alloc, Topic::PartialSource, *text, None)?;
     let message = &mut warning.message;
-    say(message, "When Git prunes, it compares ", source)?;
-    say(
-        message,
-        " with full names: one `git fetch --prune` deletes ",
-        destination,
-    )?;
-    message.extend_from_slice(
-        b", and the next writes it again. Nor is it the upstream of a branch.",
-    )?;
-    advise_full_name(alloc, b"", source, &mut warning)?;
+    if sides.is_completed() {
+        say(message, "Git compares ", sides.source)?;
+        message.extend_from_slice(b" with full names, so it isn't the upstream of a branch.")?;
+    } else {
+        say(message, "When Git prunes, it compares ", sides.source)?;
+        say(
+            message,
+            " with full names: one `git fetch --prune` deletes ",
+            sides.full,
+        )?;
+        message.extend_from_slice(
+            b", and the next writes it again. Nor is it the upstream of a branch.",
+        )?;
+    }
+    advise_full_name(alloc, b"", sides.source, &mut warning)?;
     Ok(warning)
 }
