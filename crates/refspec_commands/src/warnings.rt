@@ -15,6 +15,7 @@ mod conflicts;
 mod effects;
 mod group;
 mod idle;
+mod near;
 mod rules;
 
 use crate::specs::report_specs;

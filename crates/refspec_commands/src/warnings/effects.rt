@@ -2,16 +2,25 @@
 
 use super::beside::{Beside, Tags};
 use super::group::Group;
+use super::near::removal_among;
 use super::say;
 use bstr::BStr;
 use gix_refspec::RefSpecRef;
-use gix_refspec_lint::removal::{Removal, removal_of};
-use gix_refspec_lint::{Error, IdleSpec, Reason};
+use gix_refspec_lint::removal::Removal;
+use gix_refspec_lint::{IdleSpec, Reason};
 use gix_refspec_match::exclusions::Exclusions;
 use gix_refspec_match::needle::word_between;
 use gix_refspec_text::side::split_at_first_star;
 use refspec_io::texts::{Location, Text};
 use std::alloc::{AllocError, Global};
+
+// What depends on a spec without effects.
+const NOTHING: Removal = Removal {
+    prunes: false,
+    tracks: false,
+    follows_tags: false,
+    is_first: false,
+};
 
 /// What Git would do otherwise without a spec.
 #[derive(Clone, Copy, Debug)]
@@ -24,8 +33,10 @@ pub(super) struct Effects {
     pub follows_taken: bool,
     /// Without it a pruning fetch may delete a tag, and write it again as it follows tags.
     pub keeps_tags: bool,
-    /// What else depends on it.
+    /// What else depends on it; nothing if that is left open.
     pub removal: Removal,
+    /// Whether it is left open.
+    pub is_open: bool,
 }
 
 /// The effects of an idle positive spec.
@@ -36,17 +47,50 @@ pub(super) fn effects_of(
     spec: &RefSpecRef<'_>,
     idle: &IdleSpec,
 ) -> Result<Effects, AllocError> {
-    let removal = removed(alloc, group, beside, idle.spec_index)?;
-    let prunes = removal.prunes || is_pruned_as_written(alloc, group, spec)?;
+    let found = removed_of_idle(alloc, group, beside, spec, idle)?;
+    let removal = found.unwrap_or(NOTHING);
+    let is_open = found.is_none();
     let follows = matches!(beside.tags, Tags::Followed);
     let is_excluded = matches!(idle.reason, Reason::Excluded(_));
     Ok(Effects {
         stops: idle.is_required,
         is_only: group.specs.len() == 1,
         follows_taken: follows && is_excluded && is_taken_alone(group, idle.spec_index, spec),
-        keeps_tags: follows && prunes && may_write_tags(spec),
-        removal: Removal { prunes, ..removal },
+        keeps_tags: follows && (removal.prunes || is_open) && may_write_tags(spec),
+        removal,
+        is_open,
     })
+}
+
+// What depends on an idle positive spec: nothing if the earlier one that maps all that it takes has the same sides.
+fn removed_of_idle(
+    alloc: Global,
+    group: &Group<'_>,
+    beside: &Beside<'_>,
+    spec: &RefSpecRef<'_>,
+    idle: &IdleSpec,
+) -> Result<Option<Removal>, AllocError> {
+    if repeats(group, spec, idle.reason) {
+        return Ok(Some(NOTHING));
+    }
+    let Some(removal) = removed(alloc, group, beside, idle.spec_index)? else {
+        return Ok(None);
+    };
+    let prunes = removal.prunes || is_pruned_as_written(alloc, group, spec)?;
+    Ok(Some(Removal { prunes, ..removal }))
+}
+
+// Whether the earlier spec that makes a spec idle has the same sides.
+fn repeats(group: &Group<'_>, spec: &RefSpecRef<'_>, reason: Reason) -> bool {
+    let Reason::Duplicate(earlier) = reason else {
+        return false;
+    };
+    match group.specs.get(earlier) {
+        None => false,
+        Some(earlier) => {
+            earlier.source() == spec.source() && earlier.destination() == spec.destination()
+        }
+    }
 }
 
 /// The effects of a negative spec that excludes nothing.
@@ -56,16 +100,19 @@ pub(super) fn effects_of_exclusion(
     beside: &Beside<'_>,
     index: usize,
 ) -> Result<Effects, AllocError> {
-    let removal = removed(alloc, group, beside, index)?;
+    let found = removed(alloc, group, beside, index)?;
+    let removal = found.unwrap_or(NOTHING);
+    let is_open = found.is_none();
     let follows = matches!(beside.tags, Tags::Followed);
     Ok(Effects {
         stops: false,
         is_only: group.specs.len() == 1,
         follows_taken: false,
         keeps_tags: follows
-            && removal.prunes
+            && (removal.prunes || is_open)
             && group.specs.iter().any(|spec| may_write_tags(spec)),
         removal,
+        is_open,
     })
 }
 
@@ -134,48 +181,35 @@ fn is_compared_as_written(spec: &RefSpecRef<'_>, exclusions: &Exclusions<'_>) ->
     is_name && (!is_full || exclusions.spec_of(source).is_some())
 }
 
-// What depends on a spec. Where tags are pruned, they are one more value, but not in a fetch with arguments.
+// What depends on a spec, or `None` if that is left open. Where tags are pruned, they are one more value, but not in a fetch
+// with arguments.
 fn removed(
     alloc: Global,
     group: &Group<'_>,
     beside: &Beside<'_>,
     index: usize,
-) -> Result<Removal, AllocError> {
-    let own = removal_in(alloc, group.specs.as_slice(), index)?;
+) -> Result<Option<Removal>, AllocError> {
+    let Some(own) = removal_among(alloc, group.specs.as_slice(), index)? else {
+        return Ok(None);
+    };
     match beside.tags {
-        Tags::Followed => Ok(own),
-        Tags::All(_) | Tags::Ignored => Ok(Removal {
+        Tags::Followed => Ok(Some(own)),
+        Tags::All(_) | Tags::Ignored => Ok(Some(Removal {
             follows_tags: false,
             ..own
-        }),
+        })),
         Tags::Pruned(_) => {
             let mut specs = Vec::from_slice(alloc, group.specs.as_slice())?;
             specs.push(RefSpecRef::fetch_of_all_tags())?;
-            let beside_tags = removal_in(alloc, specs.as_slice(), index)?;
-            Ok(Removal {
+            let Some(beside_tags) = removal_among(alloc, specs.as_slice(), index)? else {
+                return Ok(None);
+            };
+            Ok(Some(Removal {
                 prunes: own.prunes || beside_tags.prunes,
                 follows_tags: false,
                 ..own
-            })
+            }))
         }
-    }
-}
-
-// The same in a list. Without a free byte anything may depend on it.
-fn removal_in(
-    alloc: Global,
-    specs: &[RefSpecRef<'_>],
-    index: usize,
-) -> Result<Removal, AllocError> {
-    match removal_of(alloc, specs, index) {
-        Ok(removal) => Ok(removal),
-        Err(Error::Memory) => Err(AllocError),
-        Err(Error::NoFreeByte) => Ok(Removal {
-            prunes: true,
-            tracks: true,
-            follows_tags: true,
-            is_first: true,
-        }),
     }
 }
 
@@ -200,7 +234,7 @@ impl Effects {
         if self.keeps_tags {
             return Weight::OnTags;
         }
-        let own = self.stops || self.is_only || self.follows_taken;
+        let own = self.stops || self.is_only || self.follows_taken || self.is_open;
         if own || prunes || tracks || follows_tags || is_first {
             Weight::Some
         } else {
@@ -225,6 +259,9 @@ impl Effects {
             )?;
             out.push(b'.')?;
         }
+        if self.is_open {
+            out.extend_from_slice(b" What else depends on it is left open.")?;
+        }
         if self.removal.tracks {
             write_tracked(alloc, text, spec, out)?;
         }
@@ -244,7 +281,7 @@ impl Effects {
     }
 
     fn write_on_tags(&self, out: &mut Vec<u8>) -> Result<(), AllocError> {
-        if self.keeps_tags {
+        if self.keeps_tags && self.removal.prunes {
             out.extend_from_slice(
                 b" Tags among them would be written again if they are followed.",
             )?;
