@@ -36,7 +36,8 @@ NAMES = re.compile(r"refs/[^\s,*^:]*[^\s,*^:.]")
 REMOVE = re.compile(r"\b[Rr]emove it\b")
 ONLY_IF = re.compile(r"\b[Rr]emove it (only )?if ")
 PLUS = re.compile(r"write `\+` before the earlier")
-EXCLUDE = re.compile(r"by (\^\S+)")
+EXCLUDE = re.compile(r"(?:by|and) (\^\S+)")
+BOTH = re.compile(r"both sides in full: (\S+:\S+), if")
 WRITE = re.compile(r"[Ww]rite (\^?refs/\S*?)(?:,|\.|;|$| )")
 SETTING = re.compile(r"git config (\S+) (?:'([^']*)'|(\S+))")
 
@@ -103,6 +104,13 @@ def in_full(source, full):
     return announces
 
 
+def in_full_or_told(warning, text):
+    """What differs where the remote's ref of a partial name is another one, and what the message says."""
+    source, partial = (gitknown.split(one.encode()).source.decode() for one in (text, warning["specs"][0]["text"]))
+    is_other, is_told = in_full(partial, source), as_told(warning["message"])
+    return lambda *fetch: is_other(*fetch) or is_told(*fetch)
+
+
 def stronger(_words, _refs, before, after):
     """What is forced now changes values of refs."""
     return before.said == after.said and set(before.refs) == set(after.refs)
@@ -123,6 +131,7 @@ TOLD = {
     "stops each fetch": lambda words, before, after: any("couldn't find remote ref" in line for line in before.said),
     "still writes": lambda words, before, after: words[0] != "--prune",
     "ags are followed": lambda words, before, after: all(name.startswith("refs/tags/") for name in changed(before, after)),
+    "followed only because of it": lambda words, before, after: all(name.startswith("refs/tags/") for name in changed(before, after)),
     "--prune": lambda words, before, after: words[0] == "--prune" and prunes_others(before, after),
     "git pull": lambda words, before, after: not changed(before, after),
     "fetches HEAD": lambda words, before, after: True,
@@ -152,8 +161,10 @@ def pieces(config, warning):
     place = place_of(values, texts[0], warning["name"] == "idle_duplicate")
     if REMOVE.search(advice):
         yield removal(config, warning, place)
-    for added in EXCLUDE.findall(advice):
-        yield Advice(warning, config._replace(values=[*values, added]), about(added[1:]))
+    if added := EXCLUDE.findall(advice):
+        yield Advice(warning, config._replace(values=[*values, *added]), about(*(one[1:] for one in added)))
+    for text in BOTH.findall(advice):
+        yield Advice(warning, config._replace(values=[*values[:place], text, *values[place + 1:]]), in_full_or_told(warning, text))
     for written in WRITE.findall(advice):
         spec = gitknown.split(texts[0].encode())
         is_far = warning["name"] == "destination_outside_refs"
