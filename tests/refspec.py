@@ -150,6 +150,16 @@ def check_page(program):
             sys.exit(f"tests/refspec.py: man/refspec.1 has no {sorted(missing)} of {[*words, '--help']}")
 
 
+def check_many(program):
+    """Many values that add nothing: equal ones may go, and among many that can write the same refs it is left open."""
+    equal = ["+refs/heads/*:refs/x/*"] * 1000
+    alike = [f"+refs/{number}/*:refs/x/*" for number in range(70)] + ["^refs/*"]
+    for values, words, count in ((equal, b"    Remove it.\n", 999), (alike, b" What else depends on it is left open.\n", 69)):
+        made = subprocess.run([program, "check"], input="\n".join(values).encode(), capture_output=True, check=True, timeout=300)
+        if made.stderr.count(words) != count:
+            sys.exit(f"tests/refspec.py: check of {values[-2:]} and more says {words!r} {made.stderr.count(words)} times")
+
+
 def check_time(program):
     refs = "".join(f"{number:040x}\trefs/heads/topic/{number * 7919 % 200_000:06d}\n" for number in range(200_000))
     with tempfile.NamedTemporaryFile() as file:
@@ -173,7 +183,7 @@ def main():
     if len(sys.argv) != 2:
         sys.exit(__doc__)
     program = os.path.abspath(sys.argv[1])
-    for check in (check_outputs, check_inputs, check_memory, check_summary, check_page):
+    for check in (check_outputs, check_inputs, check_memory, check_summary, check_page, check_many):
         check(program)
     taken = check_time(program)
     print(f"refspec: inputs, outputs and memory that fail; 200,000 refs in {taken[1]:.2f} s, sort in {taken[0]:.2f} s")
