@@ -79,6 +79,37 @@ static void check_outcomes(void)
         CHECK(gix_refspec_check(BYTES(checks[i].text), checks[i].operation) == checks[i].outcome);
 }
 
+/* Where a text is wrong; side 0 where nothing is. */
+static const struct {
+    const char *text;
+    uint32_t operation, side;
+    size_t start, len;
+} places[] = {
+    { "a..b", GIX_REFSPEC_FETCH, GIX_REFSPEC_SOURCE, 1, 2 },
+    { "+a:b.lock", GIX_REFSPEC_FETCH, GIX_REFSPEC_DESTINATION, 4, 5 },
+    { "a*b*:c", GIX_REFSPEC_FETCH, GIX_REFSPEC_SOURCE, 3, 1 },
+    { "a:b*", GIX_REFSPEC_PUSH, GIX_REFSPEC_DESTINATION, 3, 1 },
+    { "^a:bc", GIX_REFSPEC_FETCH, GIX_REFSPEC_DESTINATION, 3, 2 },
+    { "^1111111111111111111111111111111111111111", GIX_REFSPEC_PUSH, GIX_REFSPEC_SOURCE, 1, 40 },
+    { "^a:", GIX_REFSPEC_FETCH, 0, 0, 0 },
+    { "^", GIX_REFSPEC_FETCH, 0, 0, 0 },
+    { "", GIX_REFSPEC_PUSH, 0, 0, 0 },
+    { "a:", GIX_REFSPEC_PUSH, 0, 0, 0 },
+    { "+a:b", GIX_REFSPEC_FETCH, 0, 0, 0 },
+};
+
+static void check_places(void)
+{
+    for (size_t i = 0; i < sizeof places / sizeof *places; i++) {
+        gix_refspec_span span = { 7, 7, 7 };
+        CHECK(gix_refspec_locate(BYTES(places[i].text), places[i].operation, &span) == GIX_REFSPEC_OK);
+        CHECK(span.side == places[i].side && span.start == places[i].start && span.len == places[i].len);
+    }
+    gix_refspec_span span = { 7, 7, 7 };
+    CHECK(gix_refspec_locate(BYTES("a..b"), 3, &span) == GIX_REFSPEC_NO_OPERATION);
+    CHECK(span.side == 7 && span.start == 7 && span.len == 7);
+}
+
 static bool is(gix_refspec_text text, const char *bytes)
 {
     return text.len == strlen(bytes) && memcmp(text.bytes, bytes, text.len) == 0;
@@ -618,6 +649,8 @@ static void check_null(void)
     int32_t order = 7;
     size_t count = 99, len = 99;
     CHECK(gix_refspec_check(NULL, 0, GIX_REFSPEC_PUSH) == GIX_REFSPEC_EMPTY);
+    gix_refspec_span span = GIX_REFSPEC_SPAN_INIT;
+    CHECK(gix_refspec_locate(NULL, 0, GIX_REFSPEC_PUSH, &span) == GIX_REFSPEC_OK && span.side == 0);
     CHECK(gix_refspec_parts(NULL, 0, GIX_REFSPEC_FETCH, &parts) == GIX_REFSPEC_OK && is(parts.source, "HEAD"));
     CHECK(gix_refspec_canonical(NULL, 0, GIX_REFSPEC_FETCH, NULL, 0, &len) == GIX_REFSPEC_TOO_SMALL && len == 4);
     CHECK(gix_refspec_compare(NULL, 0, BYTES("@"), GIX_REFSPEC_FETCH, &order) == GIX_REFSPEC_OK && order == 0);
@@ -646,6 +679,7 @@ static void check_version(void)
 static void *check_all(void *nothing)
 {
     check_outcomes();
+    check_places();
     check_kinds();
     check_parts();
     check_order();

@@ -15,8 +15,8 @@ from dataclasses import dataclass
 from typing import Callable, Iterable, List, Optional, Tuple, Union
 
 __version__ = "0.3.0"
-__all__ = ["Direction", "Kind", "Mapping", "Operation", "Origin", "OriginKind", "Outcome", "Plan", "RefspecError", "Spec",
-           "StaleRef", "Update", "Verdict", "compare", "explanation", "library_version", "matches", "parse", "plan",
+__all__ = ["Direction", "Kind", "Mapping", "Operation", "Origin", "OriginKind", "Outcome", "Plan", "RefspecError", "Side",
+           "Spec", "StaleRef", "Update", "Verdict", "compare", "explanation", "library_version", "matches", "parse", "plan",
            "prefixes", "stale"]
 
 # The soname, so that no library is loaded that this module wasn't written for.
@@ -58,6 +58,12 @@ class Outcome(enum.IntEnum):
     NEEDS_IDS = 21
     IN_CONFLICT = 22
     MISSING_SOURCE = 23
+
+
+class Side(enum.IntEnum):
+    """A side of a refspec: what comes before the last colon, without the sign, or what follows it."""
+    SOURCE = 1
+    DESTINATION = 2
 
 
 class Kind(enum.IntEnum):
@@ -110,11 +116,17 @@ class Verdict(enum.IntEnum):
 
 class RefspecError(ValueError):
     """Why a text isn't a refspec, or why a call fails: `outcome` is an `Outcome`, or a number that this module
-    doesn't know. It prints as a sentence."""
+    doesn't know. It prints as a sentence.
+
+    `parse` sets `side` to the side that is wrong, and `position` to the index of the first wrong byte in the text (of a
+    `str`, in what it is encoded as). Both are None if something is missing rather than wrong: at EMPTY, PUSH_TO_EMPTY and
+    NEGATIVE_EMPTY, and at NEGATIVE_WITH_DESTINATION if nothing follows the colon; and for every other call."""
 
     def __init__(self, outcome: int) -> None:
         super().__init__(outcome)
         self.outcome: int = Outcome(outcome) if outcome in _OUTCOMES else outcome
+        self.side: Optional[Side] = None
+        self.position: Optional[int] = None
 
     def __str__(self) -> str:
         return explanation(self.outcome) or f"The library ended with outcome {self.outcome}, which it doesn't explain."
@@ -199,9 +211,21 @@ class StaleRef:
 
 
 def parse(text: Text, operation: Operation) -> Spec:
-    """Parses a text. Raises RefspecError if it isn't a refspec, and ValueError if there is no such operation."""
-    operation = Operation(operation)
-    canonical = _filled(_library.gix_refspec_canonical, *_bytes(text), operation)
+    """Parses a text. Raises RefspecError if it isn't a refspec, and ValueError if there is no such operation.
+
+    >>> try:
+    ...     parse("+a:b..c", Operation.FETCH)
+    ... except RefspecError as error:
+    ...     print(error.side.name, error.position, error)
+    DESTINATION 4 A ref name must not have two dots in a row.
+    """
+    operation, one = Operation(operation), _bytes(text)
+    try:
+        canonical = _filled(_library.gix_refspec_canonical, *one, operation)
+    except RefspecError as error:
+        if Outcome.EMPTY <= error.outcome <= Outcome.NAME_INVALID_BYTE:
+            error.side, error.position = _located(*one, operation)
+        raise
     parts = _Parts(0, 0, _Told.empty(), _Told.empty())
     # The sides are places in the canonical text, or constants of the library.
     _check(_library.gix_refspec_parts(canonical, len(canonical), operation, ctypes.byref(parts)))
@@ -324,6 +348,10 @@ class _Parts(ctypes.Structure):
     _fields_ = [("kind", ctypes.c_uint32), ("forced", ctypes.c_uint32), ("source", _Told), ("destination", _Told)]
 
 
+class _Span(ctypes.Structure):
+    _fields_ = [("side", ctypes.c_uint32), ("start", ctypes.c_size_t), ("len", ctypes.c_size_t)]
+
+
 class _Mapping(ctypes.Structure):
     _fields_ = [("spec", ctypes.c_size_t), ("item", ctypes.c_size_t), ("has_destination", ctypes.c_uint32),
                 ("forced", ctypes.c_uint32), ("origin", ctypes.c_uint32), ("verdict", ctypes.c_uint32),
@@ -379,6 +407,7 @@ def _declare(library: ctypes.CDLL) -> None:
     lists = [ctypes.POINTER(_Mapping), size, text, size, sizes, sizes]
     for name, types in (
             ("parts", [*one, number, ctypes.POINTER(_Parts)]),
+            ("locate", [*one, number, ctypes.POINTER(_Span)]),
             ("canonical", [*one, number, text, size, sizes]),
             ("compare", [*one, *one, number, ctypes.POINTER(ctypes.c_int32)]),
             ("prefixes", [*many, number, text, size, sizes]),
@@ -412,6 +441,13 @@ def _encoded(text: Text) -> bytes:
 def _bytes(text: Text) -> Tuple[bytes, int]:
     encoded = _encoded(text)
     return encoded, len(encoded)
+
+
+def _located(text: bytes, size: int, operation: Operation) -> Tuple[Optional[Side], Optional[int]]:
+    """The side of a refused text that is wrong, and the index of the first wrong byte."""
+    span = _Span()
+    _check(_library.gix_refspec_locate(text, size, operation, ctypes.byref(span)))
+    return (Side(span.side), span.start) if span.side else (None, None)
 
 
 def _fetches(fetches: Fetches) -> List[bytes]:

@@ -12,7 +12,7 @@ import unittest
 from typing import Callable
 
 import gix_refspec
-from gix_refspec import (Direction, Kind, Mapping, Operation, Origin, OriginKind, Outcome, Plan, RefspecError, StaleRef,
+from gix_refspec import (Direction, Kind, Mapping, Operation, Origin, OriginKind, Outcome, Plan, RefspecError, Side, StaleRef,
                          Update, Verdict, compare, explanation, library_version, matches, parse, plan, prefixes, stale)
 
 
@@ -151,6 +151,19 @@ class Calls(unittest.TestCase):
         self.refuses(Outcome.NAME_INVALID_BYTE, bad_byte, plan, [b"a b"], [b"refs/heads/a"])
         self.refuses(Outcome.NEEDS_IDS, "A destination is an object id, and names alone don't tell which refs have it.",
                      matches, [b"a:" + b"1" * 40], [b"refs/heads/a"], Direction.BACKWARD)
+
+    def test_errors_tell_the_place(self) -> None:
+        for text, operation, place in (
+                (b"a..b", Operation.FETCH, (Side.SOURCE, 1)), (b"+a:b.lock", Operation.FETCH, (Side.DESTINATION, 4)),
+                (b"a*b*:c", Operation.FETCH, (Side.SOURCE, 3)), (b"a:b*", Operation.PUSH, (Side.DESTINATION, 3)),
+                ("\u00e9:b c", Operation.FETCH, (Side.DESTINATION, 4)), (b"^a:b", Operation.FETCH, (Side.DESTINATION, 3)),
+                (b"^a:", Operation.FETCH, (None, None)), (b"^", Operation.FETCH, (None, None)),
+                (b"", Operation.PUSH, (None, None)), (b"a:", Operation.PUSH, (None, None))):
+            with self.subTest(text=text, operation=operation), self.assertRaises(RefspecError) as refused:
+                parse(text, operation)
+            error = refused.exception
+            for one in (error, copy.copy(error), pickle.loads(pickle.dumps(error))):
+                self.assertEqual((one.side, one.position), place)
 
     def test_errors_are_copied_and_pickled(self) -> None:
         for outcome in (Outcome.NAME_REPEATED_DOT, 99, 2 ** 32 + 13):

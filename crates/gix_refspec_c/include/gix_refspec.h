@@ -56,6 +56,15 @@ typedef struct {
 } gix_refspec_instruction;
 #define GIX_REFSPEC_PARTS_INIT { 0, 0, GIX_REFSPEC_TEXT_INIT, GIX_REFSPEC_TEXT_INIT }
 
+/* The wrong bytes of a refused text: len bytes from the index start on, all in one side. If no bytes are wrong, side,
+ * start and len are 0. */
+enum { GIX_REFSPEC_SOURCE = 1, GIX_REFSPEC_DESTINATION = 2 };
+typedef struct {
+    uint32_t side;
+    size_t start, len;
+} gix_refspec_span;
+#define GIX_REFSPEC_SPAN_INIT { 0, 0, 0 }
+
 /* Which sides of fetches are matched: the sources, or the destinations. */
 enum { GIX_REFSPEC_FORWARD = 1, GIX_REFSPEC_BACKWARD = 2 };
 #define GIX_REFSPEC_NO_ITEM SIZE_MAX
@@ -119,6 +128,12 @@ typedef struct {
 
 /* Whether a text is a refspec. */
 uint32_t gix_refspec_check(const uint8_t *text, size_t text_len, uint32_t operation);
+
+/* Which bytes make gix_refspec_check refuse a text: of an invalid ref name the first that break a rule, such as "..",
+ * else a star, or a whole side. No bytes are wrong in a refspec; at EMPTY, PUSH_TO_EMPTY and NEGATIVE_EMPTY, where
+ * something is missing; and at NEGATIVE_WITH_DESTINATION if nothing follows the colon. Returns GIX_REFSPEC_OK in all
+ * these cases. */
+uint32_t gix_refspec_locate(const uint8_t *text, size_t text_len, uint32_t operation, gix_refspec_span *span);
 
 /* Its instruction. */
 uint32_t gix_refspec_parts(const uint8_t *text, size_t text_len, uint32_t operation, gix_refspec_instruction *parts);

@@ -3,4 +3,5 @@ pub mod SingleLemmas
 pub mod GroupLemmas
 pub mod MatchingLemmas
 pub mod BufferFacts
+pub mod SpanFacts
 pub mod PlanningLemmas

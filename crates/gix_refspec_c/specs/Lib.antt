@@ -8,3 +8,4 @@ pub mod Mapping
 pub mod Matching
 pub mod Planning
 pub mod Stale
+pub mod Span

@@ -8,6 +8,7 @@
 pub mod explanation;
 pub mod failure;
 pub mod listing;
+pub mod locating;
 pub mod matching;
 pub mod parts;
 pub mod planning;

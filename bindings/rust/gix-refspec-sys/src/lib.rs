@@ -44,6 +44,10 @@ pub const FETCH_ONLY: u32 = 5;
 pub const FETCH_EXCLUDE: u32 = 6;
 pub const FETCH_AND_UPDATE: u32 = 7;
 
+/// The sides of a refspec.
+pub const SOURCE: u32 = 1;
+pub const DESTINATION: u32 = 2;
+
 /// Which sides of fetches are matched.
 pub const FORWARD: u32 = 1;
 pub const BACKWARD: u32 = 2;
@@ -88,6 +92,15 @@ pub struct Parts {
     pub destination: Text,
 }
 
+/// The wrong bytes of a refused text. If no bytes are wrong, all fields are 0.
+#[repr(C)]
+#[derive(Clone, Copy, Debug, Default)]
+pub struct Span {
+    pub side: u32,
+    pub start: usize,
+    pub len: usize,
+}
+
 /// What to fetch. `merges`: full names, or `HEAD`. `tags`: nonzero to fetch all tags.
 #[repr(C)]
 #[derive(Clone, Copy, Debug)]
@@ -130,6 +143,7 @@ pub struct StaleRef {
 extern "C" {
     pub fn gix_refspec_version(version: *mut Text) -> u32;
     pub fn gix_refspec_check(text: *const u8, text_len: usize, operation: u32) -> u32;
+    pub fn gix_refspec_locate(text: *const u8, text_len: usize, operation: u32, span: *mut Span) -> u32;
     pub fn gix_refspec_parts(text: *const u8, text_len: usize, operation: u32, parts: *mut Parts) -> u32;
     pub fn gix_refspec_canonical(
         text: *const u8, text_len: usize, operation: u32,

@@ -44,7 +44,7 @@ fn show(plan: &Plan, wish: &Wish<'_>) -> io::Result<()> {
     out.flush()
 }
 
-fn fetches(texts: &[Vec<u8>]) -> Result<Vec<Spec>, refspec::Error> {
+fn fetches(texts: &[Vec<u8>]) -> Result<Vec<Spec>, refspec::ParseError> {
     texts.iter().map(|text| Spec::parse(text, Operation::Fetch)).collect()
 }
 

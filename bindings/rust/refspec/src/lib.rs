@@ -2,14 +2,15 @@
 //! finds stale refs.
 //!
 //! ```
-//! use refspec::{Operation, Spec};
+//! use refspec::{Operation, Side, Spec};
 //!
 //! let spec = Spec::parse("+@:refs/remotes/origin/HEAD", Operation::Fetch)?;
 //! assert_eq!(spec.to_string(), "+HEAD:refs/remotes/origin/HEAD");
 //! assert_eq!(spec.source(), Some(&b"HEAD"[..]));
 //!
-//! let error = Spec::parse("a..b", Operation::Fetch).unwrap_err();
+//! let error = Spec::parse("+a:b..c", Operation::Fetch).unwrap_err();
 //! assert_eq!(error.to_string(), "A ref name must not have two dots in a row.");
+//! assert_eq!((error.side(), error.position()), (Some(Side::Destination), Some(4)));
 //! # Ok::<(), refspec::Error>(())
 //! ```
 //!
@@ -163,6 +164,69 @@ impl fmt::Display for Error {
 
 impl error::Error for Error {}
 
+/// A side of a refspec.
+#[derive(Clone, Copy, Debug, PartialEq, Eq, Hash)]
+pub enum Side {
+    /// What comes before the last colon, without the sign.
+    Source,
+    /// What follows the last colon.
+    Destination,
+}
+
+/// Why a text isn't a refspec, and where. It prints as the reason does.
+#[derive(Clone, Copy, Debug, PartialEq, Eq, Hash)]
+pub struct ParseError {
+    reason: Error,
+    place: Option<(Side, usize)>,
+}
+
+impl ParseError {
+    /// Of an outcome that says what is wrong with the text.
+    fn of(outcome: u32, text: &[u8], operation: Operation) -> ParseError {
+        let mut span = sys::Span::default();
+        if (sys::EMPTY..=sys::NAME_INVALID_BYTE).contains(&outcome) {
+            // For a known operation the call doesn't fail.
+            unsafe { sys::gix_refspec_locate(text.as_ptr(), text.len(), operation.number(), &mut span) };
+        }
+        let side = match span.side {
+            sys::SOURCE => Some(Side::Source),
+            sys::DESTINATION => Some(Side::Destination),
+            _ => None,
+        };
+        ParseError { reason: Error::of(outcome), place: side.map(|side| (side, span.start)) }
+    }
+
+    /// Why the text isn't a refspec.
+    pub fn reason(&self) -> Error {
+        self.reason
+    }
+
+    /// The side with the wrong bytes. `None` if something is missing rather than wrong: for `Empty`, `PushToEmpty` and
+    /// `NegativeEmpty`, for `NegativeWithDestination` if nothing follows the colon, and if memory ran out.
+    pub fn side(&self) -> Option<Side> {
+        self.place.map(|(side, _)| side)
+    }
+
+    /// The index of the first wrong byte in the text, from 0. `None` if `side` is.
+    pub fn position(&self) -> Option<usize> {
+        self.place.map(|(_, position)| position)
+    }
+}
+
+impl fmt::Display for ParseError {
+    fn fmt(&self, f: &mut fmt::Formatter<'_>) -> fmt::Result {
+        self.reason.fmt(f)
+    }
+}
+
+impl error::Error for ParseError {}
+
+impl From<ParseError> for Error {
+    fn from(error: ParseError) -> Error {
+        error.reason
+    }
+}
+
 /// A refspec. Two are equal exactly if operation and canonical text are equal; their texts, and so their prefixes, may
 /// differ. They are ordered as `gix_refspec_compare` orders them, and pushes come before fetches.
 #[derive(Clone)]
@@ -180,18 +244,20 @@ pub struct Spec {
 impl Spec {
     /// Parses a text.
     #[rustfmt::skip]
-    pub fn parse(text: impl AsRef<[u8]>, operation: Operation) -> Result<Spec, Error> {
+    pub fn parse(text: impl AsRef<[u8]>, operation: Operation) -> Result<Spec, ParseError> {
         let (text, number) = (text.as_ref(), operation.number());
+        let refused = |outcome| ParseError::of(outcome, text, operation);
         let canonical = filled(text.len() + 8, |buffer, len| unsafe {
             sys::gix_refspec_canonical(
                 text.as_ptr(), text.len(), number,
                 buffer.as_mut_ptr(), buffer.len(), len,
             )
-        })?;
+        })
+        .map_err(|error| refused(error.outcome().unwrap_or(sys::OK)))?;
         let mut parts = sys::Parts { kind: 0, forced: 0, source: no_text(), destination: no_text() };
         let outcome = unsafe { sys::gix_refspec_parts(canonical.as_ptr(), canonical.len(), number, &mut parts) };
         if outcome != sys::OK {
-            return Err(Error::of(outcome));
+            return Err(refused(outcome));
         }
         // The sides are places in the canonical text, which is still there, or constants of the library.
         let (source, destination) = unsafe { (bytes_of(&parts.source), bytes_of(&parts.destination)) };
@@ -903,7 +969,7 @@ mod tests {
         Ok(())
     }
 
-    fn fetches(texts: &[&str]) -> Result<Vec<Spec>, Error> {
+    fn fetches(texts: &[&str]) -> Result<Vec<Spec>, ParseError> {
         texts.iter().map(|text| Spec::parse(text, Operation::Fetch)).collect()
     }
 
@@ -1005,7 +1071,9 @@ mod tests {
             ("a b", Operation::Fetch, Error::NameInvalidByte),
         ];
         for (text, operation, error) in rows {
-            assert_eq!(Spec::parse(text, operation), Err(error), "at {text}");
+            let refused = Spec::parse(text, operation).unwrap_err();
+            assert_eq!((refused.reason(), Error::from(refused)), (error, error), "at {text}");
+            assert_eq!(refused.to_string(), error.to_string());
         }
         for (number, error) in NUMBERED {
             assert_eq!((Error::of(number), error.outcome()), (error, Some(number)));
@@ -1016,6 +1084,25 @@ mod tests {
         for number in [sys::MISSING_SOURCE + 1, 99, u32::MAX] {
             let sentence = format!("The library ended with outcome {number}, which it doesn't explain.");
             assert_eq!(Error::of(number).to_string(), sentence);
+        }
+    }
+
+    #[test]
+    fn errors_tell_the_place() {
+        let rows = [
+            ("a..b", Operation::Fetch, Some((Side::Source, 1))),
+            ("+a:b.lock", Operation::Fetch, Some((Side::Destination, 4))),
+            ("a*b*:c", Operation::Fetch, Some((Side::Source, 3))),
+            ("a:b*", Operation::Push, Some((Side::Destination, 3))),
+            ("^a:b", Operation::Fetch, Some((Side::Destination, 3))),
+            ("^a:", Operation::Fetch, None),
+            ("^", Operation::Fetch, None),
+            ("", Operation::Push, None),
+            ("a:", Operation::Push, None),
+        ];
+        for (text, operation, place) in rows {
+            let error = Spec::parse(text, operation).unwrap_err();
+            assert_eq!(error.side().zip(error.position()), place, "at {text}");
         }
     }
 
