@@ -24,6 +24,7 @@ IN_C = {
     "&[Text]": ["const gix_refspec_text *", "size_t"],
     "&mut Text": ["gix_refspec_text *"],
     "&mut Parts": ["gix_refspec_instruction *"],
+    "&mut Span": ["gix_refspec_span *"],
     "&mut [MappingOut]": ["gix_refspec_mapping *", "size_t"],
     "&WishIn": ["const gix_refspec_wish *"],
     "&mut [StaleOut]": ["gix_refspec_stale_ref *", "size_t"],
@@ -39,6 +40,7 @@ RUST_IN_C = {
     "*const Text": "const gix_refspec_text *",
     "*mut Text": "gix_refspec_text *",
     "*mut Parts": "gix_refspec_instruction *",
+    "*mut Span": "gix_refspec_span *",
     "*mut Mapping": "gix_refspec_mapping *",
     "*const Wish": "const gix_refspec_wish *",
     "*mut StaleRef": "gix_refspec_stale_ref *",
@@ -117,7 +119,7 @@ def numbers_of(header):
 
 def numbers():
     """The numbers of sources and bindings, with where they are."""
-    for name in ("failure.rt", "planning.rt"):
+    for name in ("failure.rt", "locating.rt", "planning.rt"):
         for one, number in re.findall(r"^ +(\w+::\w+(?:\([\w:]+\))?) => (\d+),$", read(SOURCES, name), re.M):
             plain = one.partition("::")[2].partition("(")[0]
             yield name, IN_C_NAMED.get(one, screaming(plain)), int(number)

@@ -15,9 +15,9 @@ from dataclasses import dataclass
 from typing import Callable, Iterable, List, Optional, Tuple, Union
 
 __version__ = "0.3.0"
-__all__ = ["Direction", "Kind", "Mapping", "Operation", "Origin", "OriginKind", "Outcome", "Plan", "RefspecError", "Side",
-           "Spec", "StaleRef", "Update", "Verdict", "compare", "explanation", "library_version", "matches", "parse", "plan",
-           "prefixes", "stale"]
+__all__ = ["Direction", "Kind", "Mapping", "Operation", "Origin", "OriginKind", "Outcome", "Plan", "RefspecError",
+           "Side", "Spec", "StaleRef", "Update", "Verdict", "compare", "explanation", "library_version", "matches",
+           "parse", "plan", "prefixes", "stale"]
 
 # The soname, so that no library is loaded that this module wasn't written for.
 _SONAME = "libgix_refspec.so.0.3"
@@ -119,8 +119,8 @@ class RefspecError(ValueError):
     doesn't know. It prints as a sentence.
 
     `parse` sets `side` to the side that is wrong, and `position` to the index of the first wrong byte in the text (of a
-    `str`, in what it is encoded as). Both are None if something is missing rather than wrong: at EMPTY, PUSH_TO_EMPTY and
-    NEGATIVE_EMPTY, and at NEGATIVE_WITH_DESTINATION if nothing follows the colon; and for every other call."""
+    `str`, in what it is encoded as). Both are None if something is missing rather than wrong: at EMPTY, PUSH_TO_EMPTY
+    and NEGATIVE_EMPTY, and at NEGATIVE_WITH_DESTINATION if nothing follows the colon; and for every other call."""
 
     def __init__(self, outcome: int) -> None:
         super().__init__(outcome)

@@ -12,8 +12,9 @@ import unittest
 from typing import Callable
 
 import gix_refspec
-from gix_refspec import (Direction, Kind, Mapping, Operation, Origin, OriginKind, Outcome, Plan, RefspecError, Side, StaleRef,
-                         Update, Verdict, compare, explanation, library_version, matches, parse, plan, prefixes, stale)
+from gix_refspec import (Direction, Kind, Mapping, Operation, Origin, OriginKind, Outcome, Plan, RefspecError, Side,
+                         StaleRef, Update, Verdict, compare, explanation, library_version, matches, parse, plan,
+                         prefixes, stale)
 
 
 class Lying(bytes):

@@ -181,10 +181,10 @@ pub struct ParseError {
 }
 
 impl ParseError {
-    /// Of an outcome that says what is wrong with the text.
-    fn of(outcome: u32, text: &[u8], operation: Operation) -> ParseError {
+    /// Finds the place of what is wrong with the text for this reason.
+    fn of(reason: Error, text: &[u8], operation: Operation) -> ParseError {
         let mut span = sys::Span::default();
-        if (sys::EMPTY..=sys::NAME_INVALID_BYTE).contains(&outcome) {
+        if matches!(reason.outcome(), Some(sys::EMPTY..=sys::NAME_INVALID_BYTE)) {
             // For a known operation the call doesn't fail.
             unsafe { sys::gix_refspec_locate(text.as_ptr(), text.len(), operation.number(), &mut span) };
         }
@@ -193,7 +193,7 @@ impl ParseError {
             sys::DESTINATION => Some(Side::Destination),
             _ => None,
         };
-        ParseError { reason: Error::of(outcome), place: side.map(|side| (side, span.start)) }
+        ParseError { reason, place: side.map(|side| (side, span.start)) }
     }
 
     /// Why the text isn't a refspec.
@@ -246,18 +246,18 @@ impl Spec {
     #[rustfmt::skip]
     pub fn parse(text: impl AsRef<[u8]>, operation: Operation) -> Result<Spec, ParseError> {
         let (text, number) = (text.as_ref(), operation.number());
-        let refused = |outcome| ParseError::of(outcome, text, operation);
+        let refused = |reason| ParseError::of(reason, text, operation);
         let canonical = filled(text.len() + 8, |buffer, len| unsafe {
             sys::gix_refspec_canonical(
                 text.as_ptr(), text.len(), number,
                 buffer.as_mut_ptr(), buffer.len(), len,
             )
         })
-        .map_err(|error| refused(error.outcome().unwrap_or(sys::OK)))?;
+        .map_err(refused)?;
         let mut parts = sys::Parts { kind: 0, forced: 0, source: no_text(), destination: no_text() };
         let outcome = unsafe { sys::gix_refspec_parts(canonical.as_ptr(), canonical.len(), number, &mut parts) };
         if outcome != sys::OK {
-            return Err(refused(outcome));
+            return Err(refused(Error::of(outcome)));
         }
         // The sides are places in the canonical text, which is still there, or constants of the library.
         let (source, destination) = unsafe { (bytes_of(&parts.source), bytes_of(&parts.destination)) };
