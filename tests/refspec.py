@@ -152,9 +152,9 @@ def check_page(program):
 
 def check_many(program):
     """Many values that add nothing: equal ones may go, and among many that can write the same refs it is left open."""
-    equal = ["+refs/heads/*:refs/x/*"] * 1000
+    equal = ["+refs/heads/*:refs/x/*"] * 100
     alike = [f"+refs/{number}/*:refs/x/*" for number in range(70)] + ["^refs/*"]
-    for values, words, count in ((equal, b"    Remove it.\n", 999), (alike, b" What else depends on it is left open.", 69)):
+    for values, words, count in ((equal, b"    Remove it.\n", 99), (alike, b" What else depends on it is left open.", 69)):
         made = subprocess.run([program, "check"], input="\n".join(values).encode(), capture_output=True, check=True, timeout=300)
         if made.stderr.count(words) != count:
             sys.exit(f"tests/refspec.py: check of {values[-2:]} and more says {words!r} {made.stderr.count(words)} times")
