@@ -1,11 +1,10 @@
 #!/usr/bin/env python3
-"""Tries wrong bodies, which the checker has to refuse: tools/edits.py [--after LOG] [--strict] [CRATE [NAME..]]
+"""Tries wrong bodies, which the checker has to refuse: tools/edits.py [--after LOG] [CRATE [NAME..]]
 
 An edit, a file of crates/CRATE/edits, changes a function so that it answers something else, and names it behind `at:`. It is
-refused if the checker doesn't prove that function. It is bad, which a line says, if the checker says only that a proof file cites
-a name that the edit took away, or that it ran into a limit of its own (of steps, memory or stack; bounds of tactics don't count):
-neither says anything of the contract. Bad edits still count as refused, until those that there are have been mended; --strict fails
-for them.
+refused if the checker doesn't prove that function, unless the edit is bad: the checker says only that a proof file cites a name
+that the edit took away, or that it ran into a limit of its own (of steps, memory or stack; bounds of tactics don't count). Neither
+says anything of the contract. A line names each edit that is bad or not refused, and then the status is 1.
 A proof goes by what other functions promise, and not by their bodies, so many edits are tried at once, in rounds: one of a
 function, and those of functions that call a changed one in a later round. An edit with `alone:` changes more than bodies. It
 has a round of its own, in which each error of the checker counts as one of `at:`.
@@ -98,9 +97,9 @@ def fault_of(edit, said, errors):
     return None
 
 
-def try_all(crate, edits, is_strict):
-    """How many of the edits are refused. Prints a line for each other, and for each that is bad."""
-    left, rounds, missed, bad = sorted(edits, key=lambda it: it.is_alone), 0, 0, 0
+def try_all(crate, edits):
+    """How many of the edits are refused. Prints a line for each other."""
+    left, rounds, missed = sorted(edits, key=lambda it: it.is_alone), 0, 0
     with tempfile.TemporaryDirectory(prefix="edits-kept-") as kept:
         while left:
             tried, texts = next_round(crate, left)
@@ -111,20 +110,17 @@ def try_all(crate, edits, is_strict):
             for edit in decided:
                 fault = fault_of(edit, said[edit.at], errors)
                 if fault:
-                    is_bad = fault.startswith("BAD EDIT")
-                    bad += is_bad
-                    missed += is_strict or not is_bad
+                    missed += 1
                     print(f"edits: {crate.name}/{edit.name}: {fault}", flush=True)
             left = [it for it in left if it not in decided]
             rounds += 1
-    print(f"edits: {crate.name}: {len(edits) - missed} of {len(edits)} refused, {bad} bad, in {rounds} rounds", flush=True)
+    print(f"edits: {crate.name}: {len(edits) - missed} of {len(edits)} refused, in {rounds} rounds", flush=True)
     return len(edits) - missed
 
 
 def main():
     parser = argparse.ArgumentParser(description=__doc__, formatter_class=argparse.RawDescriptionHelpFormatter)
     parser.add_argument("--after", metavar="LOG")
-    parser.add_argument("--strict", action="store_true")
     parser.add_argument("crate", nargs="?")
     parser.add_argument("names", nargs="*")
     given = parser.parse_args()
@@ -141,7 +137,7 @@ def main():
         try:
             if given.after:
                 kit.wait_for(crate.below, given.after)
-            return try_all(crate, [Edit(path) for path in paths[crate]], given.strict)
+            return try_all(crate, [Edit(path) for path in paths[crate]])
         except kit.Failure as failure:
             print(f"edits: {failure}", flush=True)
             return 0
