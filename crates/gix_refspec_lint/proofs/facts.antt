@@ -2,3 +2,4 @@
 pub mod LintFacts
 pub mod ConfiguredFacts
 pub mod RemovalFacts
+pub mod NestFacts

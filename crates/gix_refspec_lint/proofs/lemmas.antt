@@ -24,3 +24,6 @@ pub mod RemovalLemmas
 pub mod PruneLemmas
 pub mod ExcludedLemmas
 pub mod TrackLemmas
+pub mod NestLemmas
+pub mod NestFoundLemmas
+pub mod NestFreeLemmas

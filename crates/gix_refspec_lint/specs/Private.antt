@@ -3,5 +3,6 @@ pub mod Borders
 pub mod Overlaps
 pub mod Lints
 pub mod Idles
+pub mod Nestings
 pub mod Runs
 pub mod Removals

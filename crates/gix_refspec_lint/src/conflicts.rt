@@ -33,7 +33,7 @@ use gix_refspec_text::oid::ObjectId;
 use std::alloc::{AllocError, Global};
 
 // The texts before and after the star of a destination. `None` if it has no star, or is missing.
-type Parts<'g> = Option<(&'g [u8], &'g [u8])>;
+pub(super) type Parts<'g> = Option<(&'g [u8], &'g [u8])>;
 
 // The specs that can conflict, by the first and then by the second.
 pub(super) fn conflicts_in(
@@ -54,7 +54,10 @@ pub(super) fn conflicts_in(
 }
 
 // The texts before and after the star of each destination. Looked for once, and not for each two specs.
-fn parts_in<'g>(alloc: Global, specs: &[RefSpecRef<'g>]) -> Result<Vec<Parts<'g>>, AllocError>
+pub(super) fn parts_in<'g>(
+    alloc: Global,
+    specs: &[RefSpecRef<'g>],
+) -> Result<Vec<Parts<'g>>, AllocError>
     ensures { IfOk result (λ parts. HaveParts specs.now parts.items) }
 {
     let mut parts = Vec::with_capacity(alloc, specs.len())?;
@@ -362,7 +365,7 @@ fn do_conflict<'x>(
 }
 
 // Whether a source is valid, and no spec excludes it.
-fn is_fetched(group: &Group<'_, '_>, source: &Source) -> bool
+pub(super) fn is_fetched(group: &Group<'_, '_>, source: &Source) -> bool
     ensures { (g : List Reading) → IsGroupOf g group.now → IsTrue result ↔
         (IsValidSource (start_of source.now) × ¬ (IsSourceExcluded g (start_of source.now))) }
 {

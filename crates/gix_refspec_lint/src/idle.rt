@@ -114,7 +114,7 @@ fn covering(alloc: Global, group: &Group<'_, '_>, index: usize) -> Result<Option
 }
 
 // Why a spec maps nothing that others don't. `None` if it does, or is negative.
-fn idle_beside_others(
+pub(super) fn idle_beside_others(
     alloc: Global,
     group: &Group<'_, '_>,
     index: usize,

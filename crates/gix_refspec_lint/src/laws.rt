@@ -5,7 +5,7 @@ ghost use Rattle.std.specs.Prelude.{map};
 ghost use Rattle.bstr.specs.BStr.{bstr_bytes};
 ghost use Rattle.gix_refspec_text.specs.Views.Spec.{reading_of};
 ghost use Rattle.gix_refspec_plan.specs.Views.Plan.{wish_of};
-ghost use Rattle.gix_refspec_lint.specs.Laws.Lint.{ConflictFree, ConflictsShown, ExamplesConflict, IdleExclusionLeftOut, IdleLeftOut, MatchConflictFree, PlanConflictFree};
+ghost use Rattle.gix_refspec_lint.specs.Laws.Lint.{ConflictFree, ConflictsShown, ExamplesConflict, IdleExclusionLeftOut, IdleLeftOut, MatchConflictFree, NestedByOne, NestingsShown, PlanConflictFree};
 
 use bstr::BStr;
 use gix_refspec_plan::Wish;
@@ -55,4 +55,16 @@ pub fn match_conflict_free(specs: &[RefSpecRef<'_>])
 /// the call has no specs, no update of `plan_fetch` is in conflict, whatever refs the remote has, and whatever is merged.
 pub fn plan_conflict_free(wish: &Wish<'_, '_>)
     ensures { PlanConflictFree (wish_of wish.now) }
+{}
+
+/// Two specs of which one can write a ref in the directory of what the other writes, over any refs, do so over the refs of two
+/// sources alone: so `possible_directory_conflicts` has an example of them.
+pub fn nestings_shown(specs: &[RefSpecRef<'_>])
+    ensures { NestingsShown (map reading_of specs.now) }
+{}
+
+/// If `possible_directory_conflicts` finds nothing, two mappings of `plan_fetch` that it doesn't leave out, and of which one has
+/// a destination in the directory of the other's, are of one spec, whatever refs a remote has.
+pub fn nested_by_one(specs: &[RefSpecRef<'_>])
+    ensures { NestedByOne (map reading_of specs.now) }
 {}

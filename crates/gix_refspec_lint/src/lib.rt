@@ -19,8 +19,8 @@
 ghost use Rattle.std.specs.Prelude.{◌≡◌, ℕ, map, IfErr, IfOk};
 ghost use Rattle.bstr.specs.BStr.{bstr_bytes};
 ghost use Rattle.gix_refspec_text.specs.Views.Spec.{reading_of};
-ghost use Rattle.gix_refspec_lint.specs.Matching.Lint.{AreExamples, AreIdle, AreIdleExclusions, IsFree, specs_of};
-ghost use Rattle.gix_refspec_lint.specs.Views.Lint.{configuration_of, example_of, unused_of};
+ghost use Rattle.gix_refspec_lint.specs.Matching.Lint.{AreExamples, AreIdle, AreIdleExclusions, AreNestings, IsFree, specs_of};
+ghost use Rattle.gix_refspec_lint.specs.Views.Lint.{configuration_of, example_of, nesting_of, unused_of};
 ghost use Rattle.gix_refspec_lint.specs.declared.Error.TheVariants as error;
 
 mod asked;
@@ -31,6 +31,7 @@ mod group;
 mod idle;
 pub mod laws;
 mod letter;
+mod nestings;
 pub mod removal;
 mod required;
 mod runs;
@@ -47,6 +48,7 @@ use gix_refspec_text::RefSpecRef;
 use group::Group;
 use idle::idle_in;
 use letter::free_byte;
+use nestings::nestings_in;
 use std::alloc::{AllocError, Global};
 
 /// Why nothing can be said of a group of specs.
@@ -92,6 +94,24 @@ pub struct PossibleConflict {
     pub second_source: Source,
     /// The ref to which both are written on a remote with these two.
     pub destination: BString,
+}
+
+/// Two specs of which one can write a ref, and the other a ref in the directory of that, with an example. Git can't store both:
+/// it writes one of them, and the fetch ends with status 1.
+#[derive(Debug, Drop)]
+pub struct PossibleDirectoryConflict {
+    /// The index of the spec that writes the directory. It may be greater than the other.
+    pub upper_spec: usize,
+    /// The index of the spec that writes the ref in it.
+    pub lower_spec: usize,
+    /// A source of the spec at `upper_spec`.
+    pub upper_source: Source,
+    /// A source of the spec at `lower_spec`, which may be the same.
+    pub lower_source: Source,
+    /// The ref to which the first source is written on a remote with these two.
+    pub directory: BString,
+    /// The ref to which the other is written then: `directory`, a slash, and more.
+    pub nested: BString,
 }
 
 /// A positive spec that maps nothing of its own.
@@ -147,6 +167,36 @@ pub fn possible_conflicts(
     let completed = completed_specs(alloc, specs, names.as_slice())?;
     let group = Group::of(alloc, specs, completed.as_slice(), letter)?;
     Ok(conflicts_in(alloc, &group, words)?)
+}
+
+/// The specs of which one can write a ref in the directory of what the other writes, by the lower index and then by the
+/// greater, each two with an example.
+///
+/// What counts is as for [`possible_conflicts`], but the sources may be the same: mappings with an invalid side don't count, nor
+/// those of excluded sources, nor remotes of which one ref is a directory of another. A spec isn't compared with itself, though
+/// `refs/pull/*/head:refs/pr/*` alone writes `refs/pr/1` and `refs/pr/1/x` on a remote with `refs/pull/1/head` and
+/// `refs/pull/1/x/head`.
+///
+/// Each two values are compared both ways. Two patterns of which the text before the star of one begins with that of the other
+/// are tried for each slash of the lower destination, and for one in the word of its star: with each of `words`, in their order,
+/// then at 32 names, and at each in which their texts overlap. The example is the first that is found. Fails if there is no free
+/// byte, or if memory runs out.
+pub fn possible_directory_conflicts(
+    alloc: Global,
+    fetch: &Configured<'_, '_>,
+    words: &[BStr<'_>],
+) -> Result<Vec<PossibleDirectoryConflict>, Error>
+    ensures ok { IfOk result (λ found. AreNestings (specs_of (configuration_of fetch.now)) (map nesting_of found.items)) }
+    ensures refused { IfErr result (λ e. e ≡ error.NoFreeByte →
+        (b : ℕ) → ¬ (IsFree (specs_of (configuration_of fetch.now)) b)) }
+{
+    let specs = asked_specs(alloc, fetch)?;
+    let specs = specs.as_slice();
+    let letter = free_byte(specs)?;
+    let names = completed_names(alloc, specs)?;
+    let completed = completed_specs(alloc, specs, names.as_slice())?;
+    let group = Group::of(alloc, specs, completed.as_slice(), letter)?;
+    Ok(nestings_in(alloc, &group, words)?)
 }
 
 /// The positive values that map nothing of their own, in order, with the reason: over no refs with valid names does a plan have

@@ -129,7 +129,7 @@ fn smaller(one: usize, other: usize) -> usize
 }
 
 // The longer of two texts, if it begins with the other.
-fn longer_prefix<'a>(one: &'a [u8], other: &'a [u8]) -> Option<&'a [u8]>
+pub(super) fn longer_prefix<'a>(one: &'a [u8], other: &'a [u8]) -> Option<&'a [u8]>
     ensures { MatchOption result
         ((n : List ℕ) → BeginsWith one.now n → ¬ (BeginsWith other.now n))
         (λ longer. IsLongerPrefix one.now other.now longer.now) }

@@ -1,15 +1,15 @@
 -- Examples of what the configuration of a remote asks for, each on one side of a border.
-use Rattle.gix_refspec_lint.proofs.Common.{◌≡◌, ◌≢◌, inl, inr, ℕ, true, false, List, [], ◌∷◌, ◌++◌, Option, Some, codes, refl, sym, ap, ◌∙◌, subst, arith, AllByRecursion, Contains, slice_get}
-use Rattle.gix_refspec_lint.proofs.Common.{same_Some, of_element, every, heads_split, split_at_end, other_byte, other_first, Lacks-tested, lacks_no_pattern, one_name, BeginsWith, Excludes, by_pattern, the_name}
-use Rattle.gix_refspec_lint.proofs.Common.{HasKind, full_name, Ref, fetched, Forced, Normal, Reading, head, slash, star, Lacks, Source, id, name, IsExcluded, IsExcludedBy, MakesForward, IsRefName, CanBeWritten}
+use Rattle.gix_refspec_lint.proofs.Common.{◌≢◌, inl, inr, ℕ, true, false, List, [], ◌∷◌, ◌++◌, Option, Some, codes, refl, subst, arith}
+use Rattle.gix_refspec_lint.proofs.Common.{same_Some, of_element, every, heads_split, split_at_end, other_byte, other_first, Lacks-tested, lacks_no_pattern, one_name, BeginsWith, the_name}
+use Rattle.gix_refspec_lint.proofs.Common.{HasKind, full_name, Ref, fetched, Forced, Normal, Reading, head, star, Source, id, name, IsExcluded, IsExcludedBy, IsRefName, CanBeWritten}
 use Rattle.gix_refspec_lint.proofs.Common.{IsCompleted, ref_named, AreStorable, ConflictOver, DoesBefore, Example, Fetches, IsAlwaysEarlier, IsExample, IsIdleBy, IsIdleExclusion, Maps, MapsSoundly}
 use Rattle.gix_refspec_lint.proofs.Common.{refs_of, specs_of}
-use Rattle.gix_refspec_lint.proofs.facts.LintFacts.{below, both, completed_as, every_completed, every_never, excluded, full_name_idle, heads_seven, made_by, main_twice, maps_in, no, seven, split_as}
+use Rattle.gix_refspec_lint.proofs.facts.LintFacts.{below, both, completed_as, every_never, full_name_idle, heads_seven, made_by, main_twice, maps_in, no, seven}
 use Rattle.gix_refspec_lint.proofs.lemmas.{PatternLemmas.{spec_made, two_patterns}, SourceLemmas.sources_there, StorableLemmas.pair_storable}
 use Rattle.gix_refspec_lint.proofs.lemmas.RequiredLemmas.{dispensable_by, had_itself, had_next, named_are, none_had, required_by}
 use Rattle.gix_refspec_plan.proofs.lemmas.plan.MadeLemmas.{one_in}
 use Rattle.gix_refspec_text.specs.Specs.Reading.{all_tags}
-use Rattle.gix_refspec_lint.specs.Matching.Lint.{FetchesBeside, IsCoveredBy, IsDispensable, IsRequired, LacksAt}
+use Rattle.gix_refspec_lint.specs.Matching.Lint.{FetchesBeside, IsCoveredBy, IsDispensable, IsRequired}
 use Rattle.gix_refspec_lint.specs.Private.Idles.{AreNamed, AreValidOf}
 use Rattle.gix_refspec_lint.specs.declared.Reason.TheVariants as reason
 
@@ -274,3 +274,7 @@ never_written refs (name n) d m =
     let (w, is, far, there) = spec_made tracking (codes "refs/heads/") [] spec refs n d makes in
     let written = subst CanBeWritten far m.destination in
     other_first 116 (codes "racking/" ++ (w ++ [])) (λ same. omega (arith, same)) written.0
+
+-- and a pattern with valid destinations isn't idle for that reason
+pub written_once : ¬ (IsIdleBy (every ∷ []) 0 reason.Invalid)
+written_once never = never both seven.one (Some seven.destination) (heads_seven (every ∷ []) 0 refl)

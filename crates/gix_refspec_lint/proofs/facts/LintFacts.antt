@@ -3,7 +3,7 @@ use Rattle.gix_refspec_lint.proofs.Common.{Option, None, Some, codes, refl, sym,
 use Rattle.gix_refspec_lint.proofs.Common.{by_pattern, the_name, fetched, Forced, Normal, Negative, Reading, star, IsSplit, Lacks, Lacks-tested, lacks_no_pattern, AreKeptForward, Mapped, HasPair}
 use Rattle.gix_refspec_lint.proofs.Common.{IsExcluded, IsExcludedBy, id, name, MakesForward, IsRefName, one_name, CanBeWritten, IsCompleted, IsPlan, IsSound, Planned, list_any, ◌==◌, slash, reading_once}
 use Rattle.gix_refspec_lint.proofs.Common.{IsSourceExcluded, HasKind, full_name, object, Takes, named_some, Origin, ConflictFree, ConflictsShown, ExamplesConflict, HasSound, IdleExclusionLeftOut}
-use Rattle.gix_refspec_lint.proofs.Common.{IdleLeftOut, PlanConflictFree, AreExamples, AreIdle, Fetches, AreValid, DoesBefore, Example, IsAlwaysEarlier, IsExample, IsIdleBy, IsIdleExclusion, Maps}
+use Rattle.gix_refspec_lint.proofs.Common.{IdleLeftOut, PlanConflictFree, AreExamples, AreIdle, Fetches, AreValid, DoesBefore, Example, IsExample, IsIdleBy, IsIdleExclusion, Maps}
 use Rattle.gix_refspec_lint.proofs.{Common.{MapsSoundly, refs_of, IsFree, AreIdleExclusions, Wish}, lemmas.{IdleLemmas.{one_far, each_named}, IndexLemmas.made_there, PatternLemmas.spec_maps}}
 use Rattle.gix_refspec_lint.{proofs.lemmas.{PatternLemmas.{two_patterns, word_of}, SourceLemmas.sources_there}, specs.Matching.Lint.ExcludesOne}
 use Rattle.gix_refspec_match.proofs.facts.CandidateFacts.{x_kind}
@@ -17,7 +17,7 @@ use Rattle.gix_refspec_lint.specs.Matching.Lint.{IsCoveredBy}
 use Rattle.gix_refspec_lint.specs.declared.Reason.TheVariants as reason
 use Rattle.gix_refspec_plan.specs.declared.Verdict.TheVariants as verdict
 
-abbrev pulls : Reading
+abbrev pub pulls : Reading
 pulls = fetched Forced (codes "refs/pull/*/head") (Some (codes "refs/remotes/origin/pr/*"))
 
 abbrev pub no : List ℕ → Reading
@@ -81,7 +81,7 @@ heads_seven g k at =
     maps_in Forced tt _ [] (codes "refs/remotes/origin/") [] (codes "pr/7") heads_split origin_split both
     (inl refl) g k at (inl (below (codes "heads/pr/7") refl)) (below _ refl)
 
-none_negative : (r : Reading) → r.mode ≡ Forced → (n : List ℕ) → ¬ (IsExcluded (every ∷ r ∷ []) n)
+pub none_negative : (r : Reading) → r.mode ≡ Forced → (n : List ℕ) → ¬ (IsExcluded (every ∷ r ∷ []) n)
 none_negative r forced n by = grind arith
 
 pub excluded : (p n w : List ℕ) → IsSplit p [] (p ++ codes "*") → n ≡ p ++ (w ++ [])

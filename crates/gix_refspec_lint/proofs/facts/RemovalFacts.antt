@@ -1,11 +1,10 @@
 -- What a fetch does because of one value, on both sides of each border.
-use Rattle.gix_refspec_lint.proofs.Common.{every, heads_split, origin_split, false≢true, ◌≡◌, ◌⊎◌, inl, inr, ℕ, zero, suc, List, [], ◌∷◌, ◌++◌, Option, None, Some, codes, refl, sym, ap, ◌∙◌, subst, arith, Any, Contains, slice_get, same_Some, Ref, HasName}
-use Rattle.gix_refspec_lint.proofs.Common.{fetched, Forced, Normal, Negative, IsPositive, Reading, star, head, HasOneStar, IsSplit, Lacks-tested, lacks_no_pattern, IsExcluded, IsExcludedBy, name, MakesForward, IsRefName, CanBeWritten, IsCompleted, HasKind, full_name, object, Takes, named_some}
-use Rattle.gix_refspec_lint.proofs.Common.{Fetches, Maps, MapsSoundly, IsSourceExcluded, IsName, HasSourcePattern, ref_named}
+use Rattle.gix_refspec_lint.proofs.Common.{every, heads_split, origin_split, false≢true, ◌≡◌, inl, inr, ℕ, zero, suc, List, [], ◌∷◌, None, Some, codes, refl, sym, ap, ◌∙◌, subst, arith, Any, Contains, same_Some, Ref}
+use Rattle.gix_refspec_lint.proofs.Common.{fetched, Normal, Negative, IsPositive, Reading, star, head, IsSplit, Lacks-tested, lacks_no_pattern, IsExcluded, name, MakesForward, IsRefName, CanBeWritten, IsCompleted, HasKind, full_name, named_some}
+use Rattle.gix_refspec_lint.proofs.Common.{Maps, HasSourcePattern, ref_named}
 use Rattle.gix_refspec_lint.proofs.lemmas.{OneSpecLemmas.makes_positive, PatternLemmas.{spec_maps, two_patterns}, StaleLemmas.{excluded_in, excluding_in, no_object, pattern_written}}
 use Rattle.gix_refspec_text.proofs.lemmas.texts.TestedLemmas.{IsName-tested}
 use Rattle.gix_refspec_plan.specs.Matching.Stale.{CanWriteObject, IsStale}
-use Rattle.gix_refspec_lint.specs.Laws.Lint.{without}
 use Rattle.gix_refspec_lint.specs.Matching.Removal.{FollowsTagsBy, HasDestination, MergesFirst, Prunes, Tracks}
 use Rattle.gix_refspec_lint.specs.Private.Removals.{WritesPatterns}
 
@@ -26,11 +25,11 @@ abbrev to_a : Reading
 to_a = fetched Normal (codes "refs/heads/*") (Some (codes "a/*"))
 
 -- tags are followed because of the only value with a destination, though it maps nothing
-tags_by_one : FollowsTagsBy (head_alone ∷ to_a ∷ []) 1
+pub tags_by_one : FollowsTagsBy (head_alone ∷ to_a ∷ []) 1
 tags_by_one = ((1, to_a, omega arith, refl, (tt, refl)), λ rest. false≢true (one_holds head_alone rest).1)
 
 -- and not because of one of two
-tags_by_two : ¬ (FollowsTagsBy (every ∷ to_a ∷ []) 1)
+pub tags_by_two : ¬ (FollowsTagsBy (every ∷ to_a ∷ []) 1)
 tags_by_two both = both.1 (0, every, omega arith, refl, (tt, refl))
 
 -- ---- what `git pull` merges
@@ -80,7 +79,7 @@ main_merged =
     }
 
 -- and not the second, behind a negative one
-none_merged : ¬ (MergesFirst (fetched Negative (codes "refs/heads/topic") None ∷ main ∷ []))
+pub none_merged : ¬ (MergesFirst (fetched Negative (codes "refs/heads/topic") None ∷ main ∷ []))
 none_merged m =
     let maps = m.fetches.maps.maps in
     let same = same_Some _ _ maps.at in
@@ -125,7 +124,7 @@ first_tracks =
     }
 
 -- a value like an earlier one doesn't
-second_does_not : ¬ (Tracks (every ∷ every ∷ []) 1)
+pub second_does_not : ¬ (Tracks (every ∷ every ∷ []) 1)
 second_does_not t = let m = t.maps.maps in t.first 0 (omega arith) (record { reading = m.reading; at = m.at; completed = m.completed; is = m.is; makes = m.makes })
 
 -- ---- pruning
@@ -134,7 +133,7 @@ every_writes : WritesPatterns every (codes "refs/heads/") [] (codes "refs/remote
 every_writes = record { positive = tt; source = every_source; destination = record { text = _; has = refl; split = origin_split } }
 
 -- without its only value a fetch prunes nothing
-alone_prunes : Prunes (every ∷ []) 0
+pub alone_prunes : Prunes (every ∷ []) 0
 alone_prunes = record {
   remote = [];
   valid = tt;
@@ -169,7 +168,7 @@ once_cases q (zero, below, is) = (0, omega arith, is)
 once_cases q (suc k, below, is) = absurd (omega (arith, below))
 
 -- and without a value that is there twice it prunes the same
-twice_same : ¬ (Prunes (every ∷ every ∷ []) 1)
+pub twice_same : ¬ (Prunes (every ∷ every ∷ []) 1)
 twice_same o = elim o.differ [
   | inl x ↦ x.1 (stale_as (every ∷ every ∷ []) (every ∷ []) o.remote o.local twice_cases once_cases x.0)
   | inr x ↦ x.0 (stale_as (every ∷ []) (every ∷ every ∷ []) o.remote o.local once_cases twice_cases x.1)

@@ -1,8 +1,8 @@
 -- That the names which decide tell of all local refs whose sources are excluded.
-use Rattle.gix_refspec_lint.proofs.Common.{append_assoc, ◌≡◌, ◌⊎◌, inl, inr, ℕ, ◌≤◌, List, [], ◌∷◌, ◌++◌, Option, None, Some, map, refl, sym, ap, ◌∙◌, subst, arith, AllByRecursion, Contains, append_cancel_left, append_cancel_right}
-use Rattle.gix_refspec_lint.proofs.Common.{of_element, all_join, all_left, all_right, Lacks, IsSplit, same_Some, drop, Fits, Reading, Negative, IsPositive, IsExcluded, IsExcludedBy, SidesLack, IsRefName, one_word, by_pattern, Excludes}
-use Rattle.gix_refspec_lint.proofs.Common.{◌≢◌, CanBeWritten, words_with, AreCommon, AreApart, IsDeciding, IsOverlap, Common, HasSourcePattern, IsFree}
-use Rattle.gix_refspec_lint.proofs.lemmas.{MovedLemmas.{IsWithByte, lacks_parts, word_or_moved}, ByteLemmas.lacks_in, OneSpecLemmas.{fits_excluded, own_name}, WordLemmas.{Around, IsParted, between, common_name, within}}
+use Rattle.gix_refspec_lint.proofs.Common.{◌≡◌, inl, inr, ℕ, List, [], ◌∷◌, ◌++◌, Option, None, Some, refl, sym, ap, ◌∙◌, subst, AllByRecursion, Contains, append_cancel_left, append_cancel_right}
+use Rattle.gix_refspec_lint.proofs.Common.{of_element, all_join, all_right, Lacks, IsSplit, same_Some, drop, Fits, Reading, Negative, IsPositive, IsExcludedBy, IsRefName, one_word, by_pattern, Excludes}
+use Rattle.gix_refspec_lint.proofs.Common.{◌≢◌, CanBeWritten, words_with, AreCommon, AreApart, Common, HasSourcePattern}
+use Rattle.gix_refspec_lint.proofs.lemmas.{MovedLemmas.{IsWithByte, lacks_parts, word_or_moved}, ByteLemmas.lacks_in, OneSpecLemmas.{fits_excluded, own_name}, WordLemmas.{IsParted, between, common_name, within}}
 use Rattle.gix_refspec_lint.proofs.lemmas.StaleLemmas.{excluded_in, far_cases, from_cases, pattern_from, pattern_written, stale_alone, stale_less, stale_more}
 use Rattle.gix_refspec_lint.proofs.lemmas.PruneLemmas.{excluded_gone, far_lacks, lacking, longer_lacks, near_lacks, none_among, own_side, side_of, stale_byte}
 use Rattle.gix_refspec_plan.specs.Matching.Stale.{CanWrite, CanWriteFrom, IsStale, IsWritable}

@@ -4,7 +4,7 @@ use Rattle.gix_refspec_lint.proofs.Common.{same_Some, IsFirstCandidate, MatchesA
 use Rattle.gix_refspec_lint.proofs.Common.{lacks_no_pattern, one_word, AreKeptForward, IsJoinedFrom, IsMadeFrom, Source, name, id, Mapped, one_kind, nothing_joined, MakesForward, kept_exactly, sides_agree}
 use Rattle.gix_refspec_lint.proofs.Common.{CanBeWritten, IsCompleted, IsSound, reading_once, completed_destination, contained_pair, far_there, ConflictFree, AreExamples, Example, Fetches, IsExample}
 use Rattle.gix_refspec_lint.proofs.Common.{IsSourceExcluded, IsValidSource, completed_excluded, ExamplesConflict, HasSound, refs_of, pair_of, some_at, ◌+◌, false, None, append-nil, AllByRecursion}
-use Rattle.gix_refspec_lint.proofs.Common.{AreAsked, Asked, HasVerdict, IsPlanned, IsPlannedBesides, Wish, by_call, by_configuration, by_default, nothing, tags_asked, without, Origin, none_merged}
+use Rattle.gix_refspec_lint.proofs.Common.{AreAsked, Asked, HasVerdict, IsPlanned, IsPlannedBesides, Wish, by_call, by_configuration, by_default, nothing, tags_asked, without, Origin}
 use Rattle.gix_refspec_lint.proofs.{Common.{PlanConflictFree, slice_get_within, get_or_from_slice_get, map_split, map-id}, lemmas.IndexLemmas.{conflicts_shown, accepted_of, maps_of, still_excluded}}
 use Rattle.gix_refspec_lint.proofs.Common.{AreStorable, ConflictOver, tags_spec, head, map-append, map_each, of_element, true, Bool, Option, ℕ, IsRefName, slice_get_read, length, take, Contains-append_left}
 use Rattle.gix_refspec_lint.proofs.Common.{Contains-append_right, Ref, all_accepted, all_at, all_join}
@@ -13,7 +13,7 @@ use Rattle.gix_refspec.proofs.lemmas.validate.ConflictLemmas.{no_conflicts}
 use Rattle.gix_refspec_lint.proofs.lemmas.{IndexLemmas.{any_at, by_index, excluded_at, zip_of, zip_to}, PatternLemmas.{spec_made, two_patterns}, SourceLemmas.{destination_made, taken_as}}
 use Rattle.std.proofs.lemmas.List.Elements.{Contains-append_cases}
 use Rattle.gix_refspec_lint.specs.Laws.Lint.{AreWhole, MatchConflictFree}
-use Rattle.gix_refspec.specs.Matching.{RefNames.{HasRefNames, HaveRefNames, IsValidDestination}, Validation.AreConflicts}
+use Rattle.gix_refspec.specs.Matching.{RefNames.{HasRefNames, HaveRefNames, IsValidDestination}}
 use Rattle.gix_refspec_text.specs.Specs.Reading.{fetched_alone}
 use Rattle.gix_refspec_plan.specs.Matching.Plan.{AreMerges, Covers}
 use Rattle.gix_refspec_text.proofs.lemmas.hits.CandidateLemmas.{first_once}
@@ -65,7 +65,7 @@ none_shown g i j r q e none at also is =
     let row = nothing_joined Shown 0 _ _ _ (subst (λ h. IsJoinedFrom Shown 0 h []) (sym (map-id g) ∙ map_split (λ (x : Reading). x) g i r below) none) in
     made_none (λ l p x. IsExample g i l x) 0 g (subst (λ k. Shown k r []) (omega (arith, map_long (λ (x : Reading). x) g i below)) row) j q (slice_get_within g j q also) e (subst (λ l. IsExample g i l e) (omega arith) is)
 
-fetched_by : (g h : List Reading) (refs : List Ref) (kept : List Mapped) (m : Mapped) (d : List ℕ) → AllZip IsCompleted g h → AreKeptForward h refs kept → Contains kept m → IsSound m
+pub fetched_by : (g h : List Reading) (refs : List Ref) (kept : List Mapped) (m : Mapped) (d : List ℕ) → AllZip IsCompleted g h → AreKeptForward h refs kept → Contains kept m → IsSound m
     → m.destination ≡ Some d → (k : ℕ) × Fetches g refs k m.source (Some d)
 fetched_by g h refs kept m d all are has sound to =
     let made = ((kept_exactly h refs).forward kept are m).0 (contained_pair kept m has) in

@@ -7,9 +7,9 @@ use Rattle.gix_refspec_lint.proofs.{Common.{IsDeciding, IsLongerPrefix, IsLonger
 use Rattle.gix_refspec_lint.proofs.lemmas.{ByteLemmas.lacks_mid, DecideLemmas.{Decided, IsMovedFar, decide}, IndexLemmas.{zip_to, reading_at, of_maps, accepted_of, one_completed, maps_as}}
 use Rattle.gix_refspec_lint.proofs.lemmas.{LeftOutLemmas.{made_completed, idle_earlier}, MovedLemmas.{lacks_destination, lacks_parts, lacks_source}, PatternLemmas.{HasShape, pattern_spec, spec_made}}
 use Rattle.gix_refspec_lint.proofs.lemmas.{PatternLemmas.{spec_maps, PatternSpec}, SourceLemmas.taken_cases, WordLemmas.{between, within}}
-use Rattle.gix_refspec_lint.proofs.Common.{IsAtWork, IsUnused, ◌≤◌, true, false, false≢true, is_some}
+use Rattle.gix_refspec_lint.proofs.Common.{IsAtWork, IsUnused, true, false, false≢true, is_some}
 use Rattle.gix_refspec_lint.specs.Matching.Lint.{IsCoveredBy}
-use Rattle.gix_refspec_lint.specs.Private.Idles.{IsAlwaysMapped, IsCovering, IsIdleAs, IsOther, IsWhyBeside, alone_at, earlier_than}
+use Rattle.gix_refspec_lint.specs.Private.Idles.{IsAlwaysMapped, IsCovering, IsIdleAs, IsWhyBeside, alone_at, earlier_than}
 use Rattle.gix_refspec_lint.specs.declared.idle.{Idleness.Idleness, Others.Others}
 use Rattle.gix_refspec_lint.specs.declared.idle.Idleness.TheVariants as idleness
 use Rattle.gix_refspec_lint.specs.declared.Reason.TheVariants as reason

@@ -10,7 +10,7 @@ use Rattle.gix_refspec_lint.proofs.Common.{IsMerged, IsUnused, MatchBool-at_fals
 use Rattle.gix_refspec_match.specs.Matching.Missing.{LacksSource}
 use Rattle.gix_refspec_lint.specs.{Laws.Lint.HasMissing, Matching.Lint.{IsDispensable, IsRequired}, Private.Idles.AreMergedRefs}
 use Rattle.gix_refspec_lint.proofs.Common.{merged_text, codes, head, star, Lacks, Lacks-tested, lacks_no_pattern, IsRefName, IsCandidate, candidates, candidate_contained, slice_get_read, length}
-use Rattle.gix_refspec_lint.proofs.Common.{slice_get_within, get_or_from_slice_get, BeginsWith}
+use Rattle.gix_refspec_lint.proofs.Common.{slice_get_within, get_or_from_slice_get}
 use Rattle.gix_refspec_lint.proofs.lemmas.SourceLemmas.{taken_cases}
 use Rattle.gix_refspec_lint.specs.Laws.Lint.{IsFetchOfMerged}
 use Rattle.std.proofs.lemmas.List.Elements.{Contains-append_cases}

@@ -1,16 +1,14 @@
 -- That the local refs which are tried tell of all, whether a pruning fetch treats them otherwise without a value.
-use Rattle.gix_refspec_lint.proofs.Common.{append_assoc, ◌≢◌, ◌≡◌, ◌⊎◌, inl, inr, ℕ, ◌≤◌, List, [], ◌∷◌, ◌++◌, codes, Option, None, Some, map, refl, sym, ap, ◌∙◌, subst, arith, AllByRecursion, AllZip, Contains}
-use Rattle.gix_refspec_lint.proofs.Common.{of_element, all_join, all_left, all_right, all_accepted, first_once, Lacks-here, Lacks, IsSplit, HasName, Ref, HasOneStar, same_Some, drop, length, zero}
-use Rattle.gix_refspec_lint.proofs.Common.{Fits, Reading, Negative, IsPositive, Source, name, IsExcluded, IsExcludedBy, SidesLack, IsRefName, IsCompleted, IsFree, AreValid, one_word, by_pattern, Excludes}
-use Rattle.gix_refspec_lint.proofs.Common.{refs_of, words_with, AreCommon, AreApart, IsDeciding, IsOverlap, Common, CanBeWritten, reading_of, RefSpecRef, one_name, IsLongerPrefix, BeginsWith, EndsWith, HasSourcePattern}
-use Rattle.gix_refspec_lint.proofs.lemmas.{IndexLemmas.all_listed, MovedLemmas.{IsWithByte, lacks_parts, word_or_moved}, ByteLemmas.{excluded_moved, lacks_in}, OneSpecLemmas.fits_excluded}
-use Rattle.gix_refspec_lint.proofs.lemmas.WordLemmas.{Around, IsParted, between, common_name, within}
-use Rattle.gix_refspec_lint.proofs.lemmas.StaleLemmas.{excluded_in, excluding_in, excluded_same, from_cases, moved_from, named_valid, no_object, pattern_cases, pattern_from, same_at, same_beside}
-use Rattle.gix_refspec_lint.proofs.lemmas.StaleLemmas.{stale_alone, stale_beside, stale_less, stale_more, stale_moved, writable_moved}
-use Rattle.gix_refspec_plan.specs.Matching.Stale.{CanWrite, CanWriteFrom, CanWriteObject, IsSourceOf, IsStale, IsWritable}
-use Rattle.gix_refspec_lint.specs.Private.Runs.{HasDestinationPattern}
-use Rattle.gix_refspec_lint.specs.Matching.Removal.{IsStaleByOne, PruneOtherwise}
-use Rattle.gix_refspec_lint.specs.Private.Removals.{AreLists, AreSameAmong, AreSameExcluded, AreSameOverlapping, AreSameOverlappingFrom, AreSameWithin, AreSameWithout, ExcludesWithin, IsSameAlone, IsSameAt, IsSameFrom, IsWith, WritesPatterns, all_of, rest_of}
+use Rattle.gix_refspec_lint.proofs.Common.{append_assoc, ◌≢◌, ◌≡◌, ◌⊎◌, inl, inr, ℕ, ◌≤◌, List, [], ◌∷◌, ◌++◌, None, refl, sym, ap, ◌∙◌, subst, arith, AllByRecursion, Contains}
+use Rattle.gix_refspec_lint.proofs.Common.{of_element, all_join, first_once, Lacks, HasName, Ref, drop, zero}
+use Rattle.gix_refspec_lint.proofs.Common.{Reading, name, IsExcluded, SidesLack, IsRefName, AreValid, one_word}
+use Rattle.gix_refspec_lint.proofs.Common.{refs_of, words_with, IsDeciding, IsOverlap}
+use Rattle.gix_refspec_lint.proofs.lemmas.{IndexLemmas.all_listed, MovedLemmas.{IsWithByte, lacks_parts, word_or_moved}, ByteLemmas.{excluded_moved, lacks_in}}
+use Rattle.gix_refspec_lint.proofs.lemmas.StaleLemmas.{excluding_in, excluded_same, from_cases, moved_from, named_valid, no_object, pattern_cases, pattern_from, same_beside}
+use Rattle.gix_refspec_lint.proofs.lemmas.StaleLemmas.{stale_alone, stale_beside, stale_moved, writable_moved}
+use Rattle.gix_refspec_plan.specs.Matching.Stale.{CanWriteFrom, CanWriteObject, IsSourceOf, IsStale, IsWritable}
+use Rattle.gix_refspec_lint.specs.Matching.Removal.{PruneOtherwise}
+use Rattle.gix_refspec_lint.specs.Private.Removals.{AreLists, AreSameExcluded, IsSameAt, WritesPatterns, all_of, rest_of}
 use Rattle.gix_refspec_lint.specs.declared.removal.pruning.Lists.{Lists}
 
 -- the longer of two texts without the byte lacks it

@@ -1,10 +1,9 @@
 -- What is told of a value that is left out, by what is found.
-use Rattle.gix_refspec_lint.proofs.Common.{◌≡◌, ◌≢◌, ◌↔◌, ◌⊎◌, inl, inr, ℕ, zero, suc, ◌<◌, ◌≤◌, ◌+◌, Bool, true, false, MatchBool, MatchOption, not, List, [], ◌∷◌, ◌++◌, Option, None, Some, map, length, take, drop, get_or, option_to_list, refl, sym, ap, ◌∙◌, subst, arith}
-use Rattle.gix_refspec_lint.proofs.Common.{AllByRecursion, AllZip, Any, Contains, slice_get, of_element, same_Some, false≢true, is_some, one_word, Fits, Ref, HasName, HasOneStar, IsSplit, IsPositive, Negative, Reading, RefSpecRef, reading_of, Source, name, id, IsSourceExcluded}
-use Rattle.gix_refspec_lint.proofs.Common.{MakesForward, HaveSameNames, has_also, IsRefName, IsValidSource, IsCompleted, AreValid, Fetches, IsFree, Maps, MapsSoundly, MakesSoundly, refs_of, IsDeciding, IsOverlap, Common, SidesLack, mapped_there, slice_get_within, get_or_from_slice_get, HasPlainSource, IsAtWork, IsGroupOf}
-use Rattle.gix_refspec_lint.proofs.Common.{Contains-append_left, Contains-append_right, length-append, length-map, length-take-le, map-append, one_more_mapped, get_or_default, append_assoc, slice_get_read, Contains-push_cases, Contains-push, IsReasonOf, Reason, reading_once, SideKind, pattern, full_name, object, partial, HasKind, Matches, MatchesAs, matches_as, candidates, candidate_contained, ref_named, Bor, HasParts}
-use Rattle.gix_refspec_lint.proofs.lemmas.{IndexLemmas.{reading_at, all_listed, excluded_at, made_there, makes_fewer, own_among, own_there, zip_to, maps_as, maps_of, of_maps, zip_of, completed_at}, LeftOutLemmas.idle_earlier}
-use Rattle.gix_refspec_lint.proofs.lemmas.StaleLemmas.{excluding_in}
+use Rattle.gix_refspec_lint.proofs.Common.{◌≡◌, ◌≢◌, ◌↔◌, ◌⊎◌, inl, inr, ℕ, zero, suc, ◌<◌, ◌≤◌, ◌+◌, Bool, true, false, MatchBool, MatchOption, not, List, [], ◌∷◌, ◌++◌, Option, None, Some, map, length, take, drop, get_or, refl, sym, ap, ◌∙◌, subst, arith}
+use Rattle.gix_refspec_lint.proofs.Common.{AllByRecursion, Contains, slice_get, of_element, same_Some, false≢true, is_some, one_word, Fits, Ref, HasName, HasOneStar, IsPositive, Negative, Reading, RefSpecRef, reading_of, Source, name, id, IsSourceExcluded}
+use Rattle.gix_refspec_lint.proofs.Common.{MakesForward, HaveSameNames, has_also, IsRefName, IsValidSource, IsCompleted, AreValid, MakesSoundly, refs_of, Common, mapped_there, slice_get_within, get_or_from_slice_get, HasPlainSource}
+use Rattle.gix_refspec_lint.proofs.Common.{Contains-append_left, Contains-append_right, length-map, length-take-le, map-append, one_more_mapped, get_or_default, reading_once, SideKind, pattern, full_name, object, partial, HasKind, Matches, MatchesAs, matches_as, candidates, candidate_contained, ref_named, Bor, HasParts}
+use Rattle.gix_refspec_lint.proofs.lemmas.{IndexLemmas.{reading_at, excluded_at, made_there, makes_fewer, own_among, own_there, zip_of}}
 use mathlib.Core.Bool.{beq}
 use Rattle.std.proofs.lemmas.List.Elements.{Contains-append_cases}
 use Rattle.gix_refspec_text.proofs.lemmas.lists.MapLemmas.{map_next}
@@ -13,11 +12,11 @@ use Rattle.gix_refspec_plan.specs.Matching.Stale.{AreStale, Found, IsKeptBy, IsS
 use Rattle.gix_refspec_plan.specs.Views.Stale.{found_of}
 use Rattle.gix_refspec_plan.specs.declared.stale.Stale.{Stale}
 use Rattle.gix_refspec_lint.specs.Laws.Lint.{without}
-use Rattle.gix_refspec_lint.specs.Matching.Removal.{FollowsTags, FollowsTagsBy, HasDestination, IsFirst, IsStaleByOne, MergesFirst, PruneOtherwise, Prunes, Tracks}
+use Rattle.gix_refspec_lint.specs.Matching.Removal.{IsFirst, IsStaleByOne, MergesFirst, PruneOtherwise}
 use Rattle.gix_refspec_lint.specs.declared.removal.pruning.Lists.{Lists}
 use Rattle.gix_refspec_plan.proofs.lemmas.stale.{FetchedLemmas.no_object_named, ZipLemmas.zip_partner}
 use Rattle.gix_refspec_plan.specs.Private.Stales.{IsNamedBy}
-use Rattle.gix_refspec_lint.specs.Private.Removals.{AreLists, all_of, rest_of, ArePositives, AreSameAmong, AreSameOverlapping, AreSameOverlappingFrom, FetchesSome, FetchesSource, IsSameAlone, IsSameFrom, IsWith}
+use Rattle.gix_refspec_lint.specs.Private.Removals.{AreLists, rest_of, ArePositives, AreSameAmong, AreSameOverlapping, FetchesSome, FetchesSource, IsSameAlone, IsSameFrom, IsWith}
 
 -- ---- one local ref
 

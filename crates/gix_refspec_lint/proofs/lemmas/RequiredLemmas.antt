@@ -1,8 +1,8 @@
 -- Which missing sources stop a fetch.
 use Rattle.gix_refspec_lint.proofs.Common.{◌≡◌, ◌≢◌, ◌⊎◌, ◌↔◌, inl, inr, ℕ, zero, suc, ◌+◌, ◌<◌, ◌≤◌, Bool, true, false, MatchBool, List, [], ◌∷◌, ◌++◌, Option, None, Some}
 use Rattle.gix_refspec_lint.proofs.Common.{length, map, map-id, map_split, take, drop, refl, sym, ap, ◌∙◌, subst, arith, AllByRecursion, AllZip, Contains, slice_get, same_Some}
-use Rattle.gix_refspec_lint.proofs.Common.{of_element, item_named, Ref, HasName, Matches, MatchesAs, SideKind, pattern, full_name, object, partial, HasKind, candidates, IsCandidate}
-use Rattle.gix_refspec_lint.proofs.Common.{candidate_contained, matches_as, one_kind, IsPositive, Negative, Reading, IsRefName, AreValid, IsCompleted, ref_named, mapped_there, all_join, upto}
+use Rattle.gix_refspec_lint.proofs.Common.{of_element, item_named, Ref, HasName, Matches, MatchesAs, SideKind, pattern, full_name, object, partial, HasKind, candidates}
+use Rattle.gix_refspec_lint.proofs.Common.{candidate_contained, matches_as, one_kind, IsPositive, Reading, IsRefName, AreValid, IsCompleted, ref_named, mapped_there, upto}
 use Rattle.gix_refspec_lint.proofs.Common.{map_each, slice_get_within, BString, bstring_bytes, map-append, Contains-append_left, Contains-append_right, Contains-push_cases}
 use Rattle.gix_refspec_lint.proofs.lemmas.{IdleLemmas.each_named, IndexLemmas.{all_listed, completed_at, zip_of}}
 use Rattle.gix_refspec.proofs.lemmas.keep.FilterLemmas.{name_there}

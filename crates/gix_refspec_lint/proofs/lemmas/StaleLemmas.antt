@@ -1,8 +1,8 @@
 -- What values write, and which local refs are stale, with the free byte in place of a word, and with one value more.
-use Rattle.gix_refspec_lint.proofs.Common.{◌≡◌, ◌⊎◌, inl, inr, ℕ, ◌<◌, List, [], ◌∷◌, ◌++◌, codes, Option, None, Some, append_assoc, refl, sym, ap, ◌∙◌, subst, arith, rules, length, AllByRecursion, Contains}
+use Rattle.gix_refspec_lint.proofs.Common.{◌≡◌, ◌⊎◌, inl, inr, ℕ, List, [], ◌∷◌, ◌++◌, codes, Option, None, Some, refl, sym, ap, ◌∙◌, subst, length, AllByRecursion, Contains}
 use Rattle.gix_refspec_lint.proofs.Common.{slice_get_within, get_or_from_slice_get, of_element, all_join, all_right, Lacks-here, split_once, lacks_no_pattern, star, Lacks, IsSplit, HasName, Matches, Ref}
-use Rattle.gix_refspec_lint.proofs.Common.{Fits, pattern, Reading, Negative, IsPositive, Source, name, id, IsExcluded, IsExcludedBy, SidesLack, IsRefName, IsValidSource, IsCompleted, ref_named, IsFree, AreValid}
-use Rattle.gix_refspec_lint.proofs.Common.{refs_of, is_usable, HasSourcePattern, completed_destination, written_lacks, IsTrue, item_named, slice_get, same_Some, HasStar, MatchOption, ◌≢◌, Bool, true, false, ◌||◌, nat_eq}
+use Rattle.gix_refspec_lint.proofs.Common.{Fits, pattern, Reading, Negative, IsPositive, Source, name, IsExcluded, IsExcludedBy, SidesLack, IsRefName, IsCompleted, ref_named, IsFree, AreValid}
+use Rattle.gix_refspec_lint.proofs.Common.{refs_of, HasSourcePattern, completed_destination, written_lacks, item_named, same_Some, HasStar, MatchOption, ◌≢◌, Bool, true, false, ◌||◌, nat_eq}
 use Rattle.std.specs.Prelude.{if◌then◌else◌}
 use Rattle.std.specs.List.{starts_with}
 use Rattle.gix_refspec_lint.proofs.lemmas.{ByteLemmas.{excluded_moved, fits_byte, lacks_in, lacks_mid, lacks_refs}, IndexLemmas.{by_index, excluded_at}, MovedLemmas.lacks_parts, WordLemmas.{between, within}}
@@ -15,7 +15,7 @@ use Rattle.std.proofs.Math.Logic.{∥∥₁_elim}
 use Rattle.gix_refspec_text.specs.declared.parsing.Operation.{Operation}
 use Rattle.gix_refspec_text.specs.Specs.Grammar.{Reads, fetches_nothing_named, fetches_colon, fetches, updates, updates_from_head, fetch_excludes, pushes_plus, pushes_colon, pushes, deletes, pushes_pattern, pushes_to, push_excludes}
 use Rattle.gix_refspec_lint.specs.Matching.Removal.{IsStaleByOne, PruneOtherwise}
-use Rattle.gix_refspec_lint.specs.Private.Removals.{HasNoPattern, IsSameAlone, IsSameAt, IsWith, WritesPatterns}
+use Rattle.gix_refspec_lint.specs.Private.Removals.{HasNoPattern, IsSameAt, IsWith, WritesPatterns}
 use Rattle.gix_refspec_lint.specs.Private.Runs.{HasDestinationPattern}
 use Rattle.gix_refspec_text.proofs.lemmas.texts.TextLemmas.{Lacks-ContainsText}
 use Rattle.std.proofs.lemmas.Option.{slice_get_read}

@@ -1,6 +1,6 @@
 -- Refs that a repository can have: no name is a directory of another.
-use Rattle.gix_refspec_lint.proofs.Common.{◌≡◌, ◌↔◌, inl, inr, Bool, true, false, not, false≢true, IsTrue, MatchBool, ℕ, List, [], ◌∷◌, ◌++◌, codes, append_assoc, length, length-append, refl, sym, ap, ◌∙◌}
-use Rattle.gix_refspec_lint.proofs.Common.{subst, arith, BeginsWith, Lacks, HasName, Ref, Source, name, id, ref_named, refs_of, AreStorable, IsDirectoryOf}
+use Rattle.gix_refspec_lint.proofs.Common.{◌≡◌, ◌↔◌, inl, inr, Bool, true, false, not, false≢true, IsTrue, MatchBool, ℕ, List, [], ◌∷◌, ◌++◌, codes, append_assoc, refl, sym, ap, ◌∙◌}
+use Rattle.gix_refspec_lint.proofs.Common.{subst, Lacks, HasName, Ref, Source, name, id, ref_named, refs_of, AreStorable, IsDirectoryOf}
 use Rattle.gix_refspec_text.proofs.lemmas.lists.LacksLemmas.{first_once}
 use Rattle.gix_refspec_plan.proofs.lemmas.plan.DirectoryLemmas.{not_itself}
 

@@ -1,14 +1,14 @@
 -- What a value maps beside the earlier positive values alone, and the values without one.
-use Rattle.gix_refspec_lint.proofs.Common.{◌≡◌, ◌⊎◌, inl, inr, ◌↔◌, ℕ, zero, suc, ◌<◌, ◌≤◌, Bool, true, false, not, MatchBool, IsTrue, List, [], ◌∷◌, ◌++◌, Option, None, Some, map, length, take, refl, sym, ap, ◌∙◌, subst, arith, rules}
-use Rattle.gix_refspec_lint.proofs.Common.{AllByRecursion, AllZip, Contains, slice_get, of_element, same_Some, false≢true, IsPositive, Negative, Reading, RefSpecRef, reading_of, Source, name, id, IsExcluded, IsSourceExcluded, Ref}
-use Rattle.gix_refspec_lint.proofs.Common.{MakesForward, IsFilled, IsCompleted, AreValid, Fetches, IsFree, Maps, MapsSoundly, SidesLack, IsAtWork, completed_destination, words_with, bstring_bytes, slice_get_within, get_or_from_slice_get, length-map, map-append}
-use Rattle.gix_refspec_lint.proofs.lemmas.{IndexLemmas.{all_listed, reading_at, zip_of}, OneSpecLemmas.makes_positive, SourceLemmas.destination_made, StaleLemmas.excluding_in, RemovalLemmas.{rest_in, without_beyond, without_with}}
+use Rattle.gix_refspec_lint.proofs.Common.{◌≡◌, ◌⊎◌, inl, inr, ◌↔◌, ℕ, zero, suc, ◌<◌, Bool, true, false, not, MatchBool, IsTrue, List, [], ◌∷◌, ◌++◌, Option, None, Some, map, length, take, refl, sym, ap, ◌∙◌, subst, arith}
+use Rattle.gix_refspec_lint.proofs.Common.{AllZip, Contains, slice_get, of_element, same_Some, false≢true, IsPositive, Reading, RefSpecRef, reading_of, Source, name, id, IsSourceExcluded, Ref}
+use Rattle.gix_refspec_lint.proofs.Common.{MakesForward, IsFilled, IsCompleted, IsFree, Maps, SidesLack, IsAtWork, words_with, bstring_bytes, slice_get_within, get_or_from_slice_get, length-map, map-append}
+use Rattle.gix_refspec_lint.proofs.lemmas.{IndexLemmas.{all_listed, reading_at, zip_of}, OneSpecLemmas.makes_positive, StaleLemmas.excluding_in, RemovalLemmas.{rest_in, without_with}}
 use Rattle.std.specs.Prelude.{IsSome}
 use Rattle.gix_refspec_lint.proofs.Common.{all_at, all_join, get_or, CanBeWritten, HasStar, Lacks, MatchOption, star}
 use Rattle.gix_refspec_text.specs.Matching.Side.{written_name_of}
 use Rattle.gix_refspec_lint.specs.Laws.Lint.{without}
 use Rattle.gix_refspec_lint.specs.Private.Idles.{earlier_than}
-use Rattle.gix_refspec_lint.specs.Matching.Removal.{FollowsTags, FollowsTagsBy, HasDestination, IsStaleByOne, PruneOtherwise, Prunes, Tracks}
+use Rattle.gix_refspec_lint.specs.Matching.Removal.{FollowsTags, FollowsTagsBy, HasDestination, IsStaleByOne, PruneOtherwise, Tracks}
 use Rattle.gix_refspec_lint.specs.Private.Removals.{AreLists, ArePositives, IsWith, all_of, rest_of}
 use Rattle.gix_refspec_lint.specs.declared.removal.pruning.Lists.{Lists}
 

@@ -9,8 +9,8 @@ use Rattle.gix_refspec_text.specs.Matching.Match.{Ref}
 use Rattle.gix_refspec_match.specs.Matching.Mappings.{HasPair, Mapped, Source}
 use Rattle.gix_refspec_match.specs.Matching.Hits.{AreKeptForward}
 use Rattle.gix_refspec_match.specs.Matching.Missing.{LacksSource}
-use Rattle.gix_refspec_lint.specs.Matching.Lint.{AreExamples, AreIdle, AreIdleExclusions, AreStorable, AreValid, CanConflict, Example, IsExample, Unused, refs_of, tags_spec}
-use Rattle.gix_refspec_plan.specs.Matching.Plan.{IsCompleted, IsPlan, IsSound, Planned, Wish}
+use Rattle.gix_refspec_lint.specs.Matching.Lint.{AreExamples, AreIdle, AreIdleExclusions, AreNestings, AreStorable, AreValid, CanConflict, CanNest, Example, Fetches, IsExample, IsNestingOf, Nesting, Unused, refs_of, tags_spec}
+use Rattle.gix_refspec_plan.specs.Matching.Plan.{HaveNested, IsCompleted, IsPlan, IsSound, Planned, Wish}
 use Rattle.gix_refspec.specs.Matching.RefNames.{HaveRefNames, IsRefName}
 use Rattle.gix_refspec.specs.Matching.Validation.{AreConflicts, ShareDestination}
 
@@ -58,6 +58,19 @@ PlanConflictFree wish =
     AreExamples (wish.configured ++ tags_spec wish.tags) [] → wish.given ≡ []
     → (refs : List Ref) (planned : List Planned) (missing : List Origin) → AreStorable refs → IsPlan wish refs planned missing
     → AllByRecursion (λ p. p.verdict ≢ verdict.InConflict) planned
+
+-- two specs of which one can write a ref in the directory of what the other writes do so over the refs of two sources
+abbrev pub NestingsShown : List Reading → Type 0
+NestingsShown g = (i j : ℕ) → CanNest g i j → (n : Nesting) × IsNestingOf g i j n
+
+-- if there is no example of that, then over any refs that a repository can have, sound mappings that are kept, and of which one
+-- has a destination in the directory of the other's, are fetched by one spec
+abbrev pub NestedByOne : List Reading → Type 0
+NestedByOne g =
+    AreNestings g []
+    → (completed : List Reading) (refs : List Ref) (kept : List Mapped) → AllZip IsCompleted g completed → AreStorable refs → AreKeptForward completed refs kept
+    → (m n : Mapped) → Contains kept m → Contains kept n → IsSound m → IsSound n → HaveNested m n
+    → (k : ℕ) × Fetches g refs k m.source m.destination × Fetches g refs k n.source n.destination
 
 -- the list without the element at an index
 abbrev pub without : {X : Type 0} → ℕ → List X → List X

@@ -1,6 +1,6 @@
 -- What specs do together, whatever refs a remote has: which two can write one ref from two sources, and which do nothing.
 -- By git-fetch(1) under `<refspec>`; that Git refuses to fetch two sources to one ref isn't in the manual of Git 2.39.
-use Rattle.std.specs.Prelude.{◌≡◌, ◌≢◌, ◌<◌, ℕ, Bool, true, false, ◌||◌, not, ◌==◌, List, [], ◌∷◌, ◌++◌, codes, Option, Some, IsTrue, MatchBool}
+use Rattle.std.specs.Prelude.{◌≡◌, ◌≢◌, ◌⊎◌, ◌<◌, ℕ, Bool, true, false, ◌||◌, not, ◌==◌, List, [], ◌∷◌, ◌++◌, codes, Option, Some, IsTrue, MatchBool}
 use Rattle.std.specs.List.{AllByRecursion, Contains, list_any, slice_get}
 use Rattle.gix_refspec_lint.specs.declared.Reason.{Reason}
 use Rattle.gix_refspec_lint.specs.declared.Reason.TheVariants as reason
@@ -99,6 +99,43 @@ pub record IsExample (g : List Reading) (i j : ℕ) (e : Example) : Type 0 where
 -- an example for each two specs that conflict over the refs of two sources, by the first and then by the second
 abbrev pub AreExamples : List Reading → List Example → Type 0
 AreExamples g found = IsJoinedFrom (λ i r of_first. IsMadeFrom (λ j q e. IsExample g i j e) 0 g of_first) 0 g found
+
+-- ---- possible directory conflicts
+
+-- over the refs, which a repository can have, the spec at index i fetches to a directory of what the one at index j fetches to
+pub record NestingOver (g : List Reading) (refs : List Ref) (i j : ℕ) (s t : Source) (d e : List ℕ) : Type 0 where
+  pub storable : AreStorable refs
+  pub upper : Fetches g refs i s (Some d)
+  pub lower : Fetches g refs j t (Some e)
+  pub nested : IsDirectoryOf d e
+
+-- they do so over some refs
+abbrev pub CanNest : List Reading → ℕ → ℕ → Type 0
+CanNest g i j = (refs : List Ref) × (s : Source) × (t : Source) × (d : List ℕ) × (e : List ℕ) × NestingOver g refs i j s t d e
+
+-- an example of that: the indexes of both specs, their sources, and their destinations
+pub record Nesting : Type 0 where
+  pub upper : ℕ
+  pub lower : ℕ
+  pub one : Source
+  pub other : Source
+  pub directory : List ℕ
+  pub nested : List ℕ
+
+-- the specs at these indexes do so over the refs of the two sources alone
+pub record IsNestingOf (g : List Reading) (i j : ℕ) (n : Nesting) : Type 0 where
+  pub upper : n.upper ≡ i
+  pub lower : n.lower ≡ j
+  pub over : NestingOver g (refs_of n.one ++ refs_of n.other) i j n.one n.other n.directory n.nested
+
+-- one of two specs at different indexes does so, in this order or in the other
+pub record IsNesting (g : List Reading) (i j : ℕ) (n : Nesting) : Type 0 where
+  pub before : i < j
+  pub either : IsNestingOf g i j n ⊎ IsNestingOf g j i n
+
+-- an example for each two specs that do so over the refs of two sources, by the lower index and then by the greater
+abbrev pub AreNestings : List Reading → List Nesting → Type 0
+AreNestings g found = IsJoinedFrom (λ i r of_first. IsMadeFrom (λ j q n. IsNesting g i j n) 0 g of_first) 0 g found
 
 -- ---- idle specs
 

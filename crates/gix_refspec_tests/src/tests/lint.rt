@@ -6,6 +6,7 @@ use bstr::BStr;
 use gix_refspec::RefSpecRef;
 use gix_refspec_lint::{
     Configured, Error, Reason, idle_exclusions, idle_specs, possible_conflicts,
+    possible_directory_conflicts,
 };
 use std::alloc::Global;
 use std::process::Abort;
@@ -528,4 +529,83 @@ fn says_so_without_a_free_byte(rt: HostRuntime) -> Result<(), Fail> {
         Some(Error::NoFreeByte)
     );
     Ok(())
+}
+
+// Of two values the one that writes the directory, and the one that writes a ref in it: index, source and destination.
+const NESTINGS: &[(&str, &str)] = &[
+    (
+        "refs/heads/a:refs/x/a refs/heads/b:refs/x/a/b",
+        "0 refs/heads/a refs/x/a, 1 refs/heads/b refs/x/a/b",
+    ),
+    (
+        "refs/heads/b:refs/x/a/b a:refs/x/a",
+        "1 refs/a refs/x/a, 0 refs/heads/b refs/x/a/b",
+    ),
+    (
+        "refs/heads/a:refs/x/y refs/heads/a:refs/x/y/z",
+        "0 refs/heads/a refs/x/y, 1 refs/heads/a refs/x/y/z",
+    ),
+    (
+        "refs/heads/*:refs/x/* refs/pull/*/head:refs/x/pr/*",
+        "0 refs/heads/pr refs/x/pr, 1 refs/pull/main/head refs/x/pr/main",
+    ),
+    ("refs/heads/*:refs/x/* refs/heads/*:refs/x/*", ""),
+    (
+        "refs/heads/*:refs/x/* refs/tags/*:refs/x/*",
+        "0 refs/heads/main refs/x/main, 1 refs/tags/main/main refs/x/main/main",
+    ),
+    (
+        "refs/heads/*:refs/x/* refs/tags/*:refs/x/*/t",
+        "0 refs/heads/main refs/x/main, 1 refs/tags/main/main refs/x/main/main/t",
+    ),
+    (
+        "refs/heads/h*:refs/x/a/b* refs/tags/*:refs/x/*/b/c ^refs/tags/a/*",
+        "0 refs/heads/h refs/x/a/b, 1 refs/tags/a refs/x/a/b/c",
+    ),
+    (
+        "refs/heads/a:refs/x/a/b refs/tags/*:refs/x/*",
+        "0 refs/heads/a refs/x/a/b, 1 refs/tags/a/b/main refs/x/a/b/main",
+    ),
+    (
+        "refs/heads/a:refs/x/a refs/tags/*:refs/x/*",
+        "0 refs/heads/a refs/x/a, 1 refs/tags/a/main refs/x/a/main",
+    ),
+    (
+        "refs/heads/a:refs/x/a refs/tags/*:refs/x/* ^refs/tags/a/*",
+        "",
+    ),
+    ("refs/heads/*:refs/x/* refs/tags/*:refs/y/*", ""),
+    ("refs/heads/a:refs/x refs/heads/a/b:refs/x/y", ""),
+];
+
+#[test]
+fn finds_directory_conflicts(rt: HostRuntime) -> Result<(), Fail> {
+    for (specs, found) in NESTINGS {
+        let parsed = specs_of(rt.alloc(), specs)?;
+        let words = [BStr::new(b"main")];
+        let text = nestings_of(
+            rt.alloc(),
+            &values_alone(parsed.as_slice()),
+            words.as_slice(),
+        )?;
+        assert_eq!(rt; text.as_str(), *found, "with {specs}");
+    }
+    Ok(())
+}
+
+// The directory conflicts, separated by semicolons.
+fn nestings_of(
+    alloc: Global,
+    fetch: &Configured<'_, '_>,
+    words: &[BStr<'_>],
+) -> Result<String, Fail> {
+    let mut text = String::new(alloc);
+    for n in &possible_directory_conflicts(alloc, fetch, words)? {
+        if !text.is_empty() {
+            write!(text, "; ")?;
+        }
+        write!(text, "{} {} {}", n.upper_spec, n.upper_source, n.directory)?;
+        write!(text, ", {} {} {}", n.lower_spec, n.lower_source, n.nested)?;
+    }
+    Ok(text)
 }

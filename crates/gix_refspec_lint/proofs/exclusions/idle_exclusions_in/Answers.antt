@@ -1,4 +1,4 @@
-use Rattle.gix_refspec_lint.proofs.Common.{◌≡◌, None, Some, append-nil, map, sym, refl, take_all, arith, MatchBool-at_false, MatchBool-at_true, reading_of, bstr_bytes, made_more}
+use Rattle.gix_refspec_lint.proofs.Common.{None, Some, append-nil, map, sym, refl, take_all, arith, MatchBool-at_false, MatchBool-at_true, reading_of, bstr_bytes, made_more}
 use Rattle.gix_refspec_lint.proofs.{exclusions.idle_exclusions_in.Goals.{then-branch+in_ok-push, else-branch}, lemmas.LeftOutLemmas.{IsIdleOne, idle_completed}}
 use Rattle.gix_refspec_lint.proofs.exclusions.idle_exclusions_in.Goals as goal
 

@@ -1,4 +1,4 @@
-use Rattle.gix_refspec_lint.proofs.Common.{[], ◌∷◌, AllZip, IsCompleted, same_Some, zip_long, ◌≡◌, ◌∙◌, ap, sym, refl, Some, arith, map, length-map, reading_of, subst, IfOk-weaker, MatchBool, List, Reading}
+use Rattle.gix_refspec_lint.proofs.Common.{[], ◌∷◌, AllZip, IsCompleted, same_Some, zip_long, ◌∙◌, ap, sym, refl, Some, arith, map, length-map, reading_of, subst, IfOk-weaker, MatchBool}
 use Rattle.gix_refspec_lint.proofs.lemmas.{IndexLemmas.reading_at, RemovalLemmas.without_beyond, TrackLemmas.{completed_first, lists_are, never_alone, truth}}
 use Rattle.gix_refspec_lint.specs.Laws.Lint.{without}
 use Rattle.gix_refspec_lint.specs.Matching.Removal.{PruneOtherwise}

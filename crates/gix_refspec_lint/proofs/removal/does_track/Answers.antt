@@ -1,4 +1,4 @@
-use Rattle.gix_refspec_lint.proofs.Common.{◌≡◌, arith, get_or_default, length, subst, sym, ap, ◌∙◌, map, reading_of, IfOk-weaker}
+use Rattle.gix_refspec_lint.proofs.Common.{◌≡◌, arith, get_or_default, length, subst, sym, ◌∙◌, reading_of, IfOk-weaker}
 use Rattle.gix_refspec_lint.proofs.lemmas.TrackLemmas.{free_pushed, tracks_pushed}
 use Rattle.gix_refspec_lint.specs.Matching.Removal.{HasDestination}
 use Rattle.gix_refspec_lint.proofs.removal.does_track.Goals as goal

@@ -1,4 +1,4 @@
-use Rattle.gix_refspec_lint.proofs.Common.{map, take_all, arith, of_element, one_more_mapped, reading_of, start_of, MatchBool-at_false, MatchBool-at_true}
+use Rattle.gix_refspec_lint.proofs.Common.{take_all, arith, of_element, one_more_mapped, reading_of, start_of, MatchBool-at_false, MatchBool-at_true}
 use Rattle.gix_refspec_lint.specs.Private.Removals.{FetchesSource}
 use Rattle.gix_refspec_lint.proofs.removal.fetches_named.Goals as goal
 

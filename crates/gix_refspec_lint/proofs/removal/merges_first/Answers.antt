@@ -1,4 +1,4 @@
-use Rattle.gix_refspec_lint.proofs.Common.{◌≡◌, IfOk-weaker, Reading, same_Some, Some, ap, arith, eqb-false, eqb-true, get_or, inl, length, sym, ◌∙◌, length-map, map, subst, reading_of, accepted_few, HasParts, IsCompleted}
+use Rattle.gix_refspec_lint.proofs.Common.{IfOk-weaker, Reading, same_Some, Some, ap, arith, eqb-false, eqb-true, inl, length, sym, ◌∙◌, length-map, map, subst, reading_of, accepted_few, HasParts, IsCompleted}
 use Rattle.gix_refspec_lint.proofs.lemmas.{IndexLemmas.reading_at, RemovalLemmas.{merges_first, none_first, plain_first, star_first}, TrackLemmas.completed_first}
 use Rattle.gix_refspec_plan.proofs.lemmas.plan.NameLemmas.{zip_long}
 use Rattle.gix_refspec_lint.proofs.removal.merges_first.Goals as goal

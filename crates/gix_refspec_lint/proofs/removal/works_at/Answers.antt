@@ -1,4 +1,4 @@
-use Rattle.gix_refspec_lint.proofs.{Common.{ap, arith, sym, ◌∙◌, subst, map, IsPositive, Reading, reading_of}, lemmas.{IndexLemmas.completed_at, LeftOutLemmas.idle_earlier}}
+use Rattle.gix_refspec_lint.proofs.{Common.{arith, sym, subst, map, IsPositive, reading_of}, lemmas.{IndexLemmas.completed_at, LeftOutLemmas.idle_earlier}}
 use Rattle.gix_refspec_lint.proofs.removal.works_at.Goals as goal
 
 pub returns-in-None : goal.returns-in-None

@@ -1,5 +1,5 @@
 -- The sources by the kind of the side, of which an accepted spec has one.
-use Rattle.gix_refspec_lint.proofs.Common.{◌≡◌, Some, inl, map, map-id, option_map, refl, sym, ap, ◌∙◌, rules, YieldsList-from_vec, YieldsList-end, bstr_bytes, bstring_bytes, HasKind, reading_of}
+use Rattle.gix_refspec_lint.proofs.Common.{◌≡◌, Some, inl, map, map-id, option_map, sym, ap, ◌∙◌, rules, YieldsList-from_vec, YieldsList-end, bstr_bytes, bstring_bytes, HasKind, reading_of}
 use Rattle.gix_refspec_lint.proofs.Common.{accepted_few, name, start_of}
 use Rattle.gix_refspec_lint.proofs.lemmas.{RemovalLemmas.{AreNamedAs, named_there}, SourceLemmas.only_pushed}
 use Rattle.gix_refspec_text.specs.Private.SideViews.{kind_of_side}

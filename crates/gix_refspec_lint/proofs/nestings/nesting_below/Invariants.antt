@@ -1,0 +1,5 @@
+use Rattle.gix_refspec_lint.proofs.Common.{List, map, take, AllByRecursion, bstring_bytes, Reading, IsGroupOf}
+use Rattle.gix_refspec_lint.specs.Private.Nestings.{NoneNested}
+
+abbrev pub invariant-loop-name : Rattle.gix_refspec_lint.proofs.nestings.nesting_below.Given.invariant-loop-name
+invariant-loop-name l = (g : List Reading) → IsGroupOf g l.two.group.now → AllByRecursion (NoneNested g l.two.upper l.two.lower l.directory) (map bstring_bytes (take l.name-index l.name-items))
