@@ -2,5 +2,7 @@ mod facts
 pub mod CanonLemmas
 pub mod PrefixLemmas
 pub mod TrackLemmas
+pub mod SeenLemmas
 pub mod WarnedLemmas
+pub mod KeyLemmas
 pub mod OutputLemmas

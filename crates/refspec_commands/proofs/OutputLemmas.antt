@@ -23,7 +23,9 @@ use Rattle.refspec_plans.specs.Fetch.{AddsFetch}
 use Rattle.refspec_commands.specs.Output.{AddsFound, HasValues, IsOutput, IsTask, Shows, Reports}
 use Rattle.refspec_commands.specs.Prefixes.{AddsPrefixes}
 use Rattle.refspec_commands.specs.Track.{AddsTracked}
+use Rattle.refspec_commands.specs.WarnedViews.{seen_of}
 use Rattle.refspec_commands.proofs.CanonLemmas.{ShowsCanonical-of}
+use Rattle.refspec_commands.proofs.SeenLemmas.{IsSeen-of}
 
 -- the results of a command, or else the refusals
 found_or_refused : (Adds : List ℕ → List Reading → List ℕ → List ℕ → Type 0) (f : Form) (before messages : List ℕ) (refused : Bool) (texts : List Text) (all : List Checked) (new : List ℕ) → AllZip IsChecked texts all → before ≡ [] → AddsIfGood (Adds before) (ReportsRefusals f all before messages) f refused all [] new → AddsIfRead (Adds []) (AreRefusals f (map given_of texts) messages) f refused (map given_of texts) [] new
@@ -37,9 +39,11 @@ Shows-of command.Check task before messages refused texts all new read none repo
   refusals = reported.refusals;
   results = reported.results;
   refused = reported.refused;
+  seen = map seen_of all;
   warned = reported.warned;
   are = AreRefusals-of task.call.now.form texts all before reported.refusals read none reported.are;
   decides = DecidesRefused-of reported.refused texts all read reported.decides;
+  sees = IsSeen-of texts all read;
   warns = reported.warns;
   status = reported.status;
 }

@@ -2,6 +2,7 @@ pub mod Canon
 pub mod Output
 pub mod Prefixes
 pub mod Run
+pub mod Seen
 pub mod Track
 pub mod Warned
 pub mod WarnedViews

@@ -1,17 +1,21 @@
 //! The warnings of `check`: what valid specs do, but hardly anybody wants.
 
-ghost use Rattle.std.specs.Prelude.{◌≡◌, ◌⊎◌, ◌++◌, ◌∷◌, [], Err, Ok, map, option_to_list, IfOk, OnOk};
+ghost use Rattle.std.specs.Prelude.{◌≡◌, ◌⊎◌, ◌++◌, ◌∷◌, [], Err, List, Ok, map, option_to_list, IfOk, OnOk};
+ghost use Rattle.std.specs.List.{AllZip};
 ghost use Rattle.gix_refspec_text.specs.Views.Spec.{reading_of};
-ghost use Rattle.refspec_io.specs.declared.call.Form.TheVariants.{Json};
 ghost use Rattle.gix_refspec_lint.specs.declared.Error.TheVariants as lint_error;
-ghost use Rattle.refspec_io.specs.Texts.{given_of};
+ghost use Rattle.refspec_json.specs.Views.{warned_texts};
+ghost use Rattle.refspec_io.specs.declared.call.Form.TheVariants.{Json};
 ghost use Rattle.refspec_io.specs.Shown.{WritesQuoted};
-ghost use Rattle.refspec_commands.specs.Warned.{BeginWithConflicts, IsForFetch};
-ghost use Rattle.refspec_commands.specs.WarnedViews.{SpecsMatchTexts, asked_of, said_of};
+ghost use Rattle.refspec_io.specs.Texts.{given_of};
+ghost use Rattle.refspec_commands.specs.Seen.{IsSeen, Seen};
+ghost use Rattle.refspec_commands.specs.Warned.{AreLinesOf, AreSaidOn, AreWarnings, InJson, IsSaidLine, IsWarned};
+ghost use Rattle.refspec_commands.specs.WarnedViews.{IsGroup, SpecsMatchTexts, asked_at, asked_of, said_of, seen_of, topic_name};
 ghost use Rattle.refspec_commands.specs.Warnings.{AreAppended, ReportsCheck, WarnsIf};
 
 pub mod beside;
 mod conflicts;
+mod directories;
 mod effects;
 mod group;
 mod idle;
@@ -21,7 +25,7 @@ mod rules;
 use crate::specs::report_specs;
 use beside::Beside;
 use gix_refspec::parsing::Operation;
-use group::{Group, values_of};
+use group::{Group, groups_of};
 use refspec_io::call::{Call, Command, Form};
 use refspec_io::checked::{Checked, check_all, has_bad};
 use refspec_io::json;
@@ -37,6 +41,8 @@ use std::collections::BTreeMap;
 pub enum Topic {
     /// Two specs can write one ref from two sources.
     PossibleConflict,
+    /// One spec can write a directory of what another writes.
+    DirectoryConflict,
     /// A side of a spec is never a valid ref name.
     IdleInvalid,
     /// Negative specs exclude all that a spec takes.
@@ -63,9 +69,12 @@ pub enum Topic {
 
 impl Topic {
     /// The name, for the member `name`.
-    pub fn name(self) -> &'static str {
+    pub fn name(self) -> &'static str
+        ensures { result.now ≡ topic_name self }
+    {
         match self {
             Topic::PossibleConflict => "possible_conflict",
+            Topic::DirectoryConflict => "directory_conflict",
             Topic::IdleInvalid => "idle_invalid",
             Topic::IdleExcluded => "idle_excluded",
             Topic::IdleDuplicate => "idle_duplicate",
@@ -84,6 +93,7 @@ impl Topic {
     fn title(self, count: usize) -> &'static str {
         match self {
             Topic::PossibleConflict => "these can conflict",
+            Topic::DirectoryConflict => "the first of these can be in the way of the second",
             Topic::IdleInvalid => "this fetches nothing",
             Topic::IdleExcluded | Topic::IdleDuplicate if count > 1 => {
                 "the first of these adds nothing to a fetch"
@@ -118,6 +128,7 @@ impl<'a> Warning<'a> {
     /// A warning without specs, whose texts are still empty.
     pub fn at(alloc: Global, topic: Topic, location: Location<'a>) -> Warning<'a>
         ensures topic { result.topic ≡ topic }
+        ensures location { result.location ≡ location.entry }
         ensures empty { (result.specs.items ≡ []) × (result.message.items ≡ []) }
     {
         Warning {
@@ -137,6 +148,7 @@ impl<'a> Warning<'a> {
         second: Option<Text<'a>>,
     ) -> Result<Warning<'a>, AllocError>
         ensures topic { IfOk result (λ w. w.topic ≡ topic) }
+        ensures location { IfOk result (λ w. w.location ≡ first.entry.location) }
         ensures texts { IfOk result (λ w. map given_of w.specs.items
             ≡ given_of first.entry ∷ map given_of (option_to_list second.entry)) }
         ensures message { IfOk result (λ w. w.message.items ≡ []) }
@@ -150,7 +162,9 @@ impl<'a> Warning<'a> {
     }
 
     /// Appends it, in lines or as an object.
-    pub fn write(&self, alloc: Global, form: Form, out: &mut Vec<u8>) -> Result<(), AllocError> {
+    pub fn write(&self, alloc: Global, form: Form, out: &mut Vec<u8>) -> Result<(), AllocError>
+        ensures { OnOk result (InJson form (IsSaidLine (said_of self.now)) out.old.items out.new.items) }
+    {
         match form {
             Form::Json => self.write_object(alloc, out),
             Form::Lines | Form::Zeros => self.write_lines(alloc, out),
@@ -180,7 +194,9 @@ impl<'a> Warning<'a> {
         write_line(self.advice.as_slice(), out)
     }
 
-    fn write_object(&self, alloc: Global, out: &mut Vec<u8>) -> Result<(), AllocError> {
+    fn write_object(&self, alloc: Global, out: &mut Vec<u8>) -> Result<(), AllocError>
+        ensures { OnOk result (InJson Json (IsSaidLine (said_of self.now)) out.old.items out.new.items) }
+    {
         let specs = warned_specs(alloc, self.specs.as_slice())?;
         let location = json::shown_location(alloc, &self.location)?;
         let message = json::text_of(alloc, self.message.as_slice())?;
@@ -197,7 +213,9 @@ impl<'a> Warning<'a> {
 }
 
 // The texts of a warning, as its object has them.
-fn warned_specs(alloc: Global, texts: &[Text<'_>]) -> Result<Vec<WarnedSpec>, AllocError> {
+fn warned_specs(alloc: Global, texts: &[Text<'_>]) -> Result<Vec<WarnedSpec>, AllocError>
+    ensures { IfOk result (λ specs. AllZip IsWarned (map given_of texts.now) (map warned_texts specs.items)) }
+{
     let mut specs = Vec::with_capacity(alloc, texts.len())?;
     for text in texts {
         specs.push(WarnedSpec {
@@ -257,8 +275,9 @@ fn report_warnings(
     all: &[Checked<'_>],
     report: &mut Report,
 ) -> Result<bool, AllocError>
-    ensures { IfOk result (λ warned. WarnsIf warns report.old.form warned report.old.messages.items
-        report.new.messages.items report.old.results.items report.new.results.items) }
+    ensures { IfOk result (λ warned. WarnsIf warns report.old.form (map seen_of all.now) warned
+        report.old.messages.items report.new.messages.items report.old.results.items
+        report.new.results.items) }
 {
     if !warns {
         return Ok(false);
@@ -287,7 +306,10 @@ pub fn write_warnings_on<'a>(
     texts: &[Text<'a>],
     beside: &BTreeMap<&'a [u8], Beside<'a>>,
     out: &mut Vec<u8>,
-) -> Result<(), AllocError> {
+) -> Result<(), AllocError>
+    ensures { OnOk result ((seen : List Seen) × AllZip IsSeen (map given_of texts.now) seen
+        × InJson form (AreWarnings (asked_at beside.now) seen) out.old.items out.new.items) }
+{
     let all = check_all(alloc, texts)?;
     write_warnings(alloc, form, all.as_slice(), beside, out)
 }
@@ -299,18 +321,19 @@ fn write_warnings<'a>(
     all: &[Checked<'a>],
     beside: &BTreeMap<&'a [u8], Beside<'a>>,
     out: &mut Vec<u8>,
-) -> Result<(), AllocError> {
+) -> Result<(), AllocError>
+    ensures { OnOk result (InJson form (AreWarnings (asked_at beside.now) (map seen_of all.now))
+        out.old.items out.new.items) }
+{
     let nothing = Beside::nothing(alloc);
-    for (key, values) in values_of(alloc, all)? {
-        if let Some(group) = values.group(alloc)? {
-            let beside = beside.get(key).unwrap_or(&nothing);
-            write_group(alloc, form, &group, beside, out)?;
-        }
+    for (key, group) in groups_of(alloc, all)? {
+        let beside = beside.get(key).unwrap_or(&nothing);
+        write_group(alloc, form, &group, beside, out)?;
     }
     Ok(())
 }
 
-// Appends the warnings on a group.
+// Appends the warnings on a group. There are none if a text is refused, which may change all.
 fn write_group<'a>(
     alloc: Global,
     form: Form,
@@ -319,8 +342,14 @@ fn write_group<'a>(
     out: &mut Vec<u8>,
 ) -> Result<(), AllocError>
     requires { SpecsMatchTexts group.now }
+    ensures { (seen : List Seen) → IsGroup seen group.now → OnOk result
+        (InJson form (AreLinesOf (asked_of beside.now) seen) out.old.items out.new.items) }
 {
-    for warning in &warnings_on(alloc, form, group, beside)? {
+    if group.has_bad {
+        return Ok(());
+    }
+    let found = warnings_on(alloc, form, group, beside)?;
+    for warning in &found {
         warning.write(alloc, form, out)?;
     }
     Ok(())
@@ -334,17 +363,19 @@ fn warnings_on<'a>(
     beside: &Beside<'a>,
 ) -> Result<Vec<Warning<'a>>, AllocError>
     requires { SpecsMatchTexts group.now }
-    ensures { form ≡ Json → IsForFetch (map given_of group.now.texts.items) → IfOk result (λ found.
-        BeginWithConflicts (asked_of beside.now) (map reading_of group.now.specs.items)
-        (map given_of group.now.texts.items) (map said_of found.items)) }
+    ensures { form ≡ Json → IfOk result (λ found. AreSaidOn (asked_of beside.now)
+        (map reading_of group.now.specs.items) (map given_of group.now.texts.items)
+        (map said_of found.items)) }
 {
     if !group.is_fetch() {
         return rules::faults_in(alloc, group);
     }
     let mut found = conflicts::conflicts_in(alloc, form, group, beside)?;
+    let mut directories = directories::directory_conflicts_in(alloc, form, group, beside)?;
     let mut idle = idle::idle_in(alloc, group, beside)?;
     let mut exclusions = idle::exclusions_in(alloc, group, beside)?;
     let mut others = rules::faults_in(alloc, group)?;
+    found.append(&mut directories)?;
     found.append(&mut idle)?;
     found.append(&mut exclusions)?;
     found.append(&mut others)?;

@@ -13,9 +13,9 @@ pub not_appended : ¬ (AreAppended form.Lines (2 ∷ []) [] [] [] (2 ∷ []))
 not_appended = λ are. omega (arith, ap length are.0)
 
 -- there are none if nothing was appended, and none if they aren't asked for
-pub none : AddsWarnings form.Lines false (1 ∷ []) (1 ∷ []) [] [] × WarnsIf false form.Lines false (1 ∷ []) (1 ∷ []) [] []
-none = (record { warnings = []; are = (refl, refl); any = refl }, (refl, refl, refl))
+pub none : AddsWarnings form.Lines [] false (1 ∷ []) (1 ∷ []) [] [] × WarnsIf false form.Lines [] false (1 ∷ []) (1 ∷ []) [] []
+none = (record { warnings = []; says = tt; are = (refl, refl); any = refl }, (refl, refl, refl))
 
 -- what isn't asked for doesn't make a strict call fail
-pub not_asked_for : ¬ (WarnsIf false form.Lines true [] (1 ∷ []) [] [])
+pub not_asked_for : ¬ (WarnsIf false form.Lines [] true [] (1 ∷ []) [] [])
 not_asked_for = λ warns. omega (arith, ap length warns.0)

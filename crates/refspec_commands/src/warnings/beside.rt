@@ -4,7 +4,7 @@ ghost use Rattle.std.specs.Prelude.{◌≡◌, ◌++◌, map, option_to_list, If
 ghost use Rattle.gix_refspec_text.specs.Views.Spec.{reading_of};
 ghost use Rattle.gix_refspec_lint.specs.Views.Lint.{configuration_of};
 ghost use Rattle.refspec_io.specs.Texts.{given_of};
-ghost use Rattle.refspec_commands.specs.Warned.{excludable_by, fetched_by};
+ghost use Rattle.refspec_commands.specs.Warned.{excludable_by, fetched_by, nothing_asked};
 ghost use Rattle.refspec_commands.specs.WarnedViews.{asked_of};
 
 use super::group::Group;
@@ -41,7 +41,9 @@ pub enum Tags<'a> {
 
 impl<'a> Beside<'a> {
     /// Nothing but the tags that are followed.
-    pub fn nothing(alloc: Global) -> Beside<'a> {
+    pub fn nothing(alloc: Global) -> Beside<'a>
+        ensures { asked_of result ≡ nothing_asked }
+    {
         Beside {
             merges: Vec::new(alloc),
             tags: Tags::Followed,

@@ -29,7 +29,7 @@ use refspec_io::fields::source_of;
 use refspec_io::texts::{Text, write_number};
 use std::alloc::{AllocError, Global};
 
-/// A warning for each two specs that can conflict, or for the first of them.
+/// A warning for each two specs that can conflict, in lines for the first 20 of them.
 pub(super) fn conflicts_in<'a>(
     alloc: Global,
     form: Form,
@@ -48,7 +48,13 @@ pub(super) fn conflicts_in<'a>(
     let count = reported_count(form, false, conflicts.len());
     let (shown, more) = conflicts.as_slice().split_at(count);
     let mut warnings = warnings_on(alloc, group, texts.as_slice(), shown)?;
-    add_more(alloc, group, more.len(), &mut warnings)?;
+    add_more(
+        alloc,
+        Topic::PossibleConflict,
+        group,
+        more.len(),
+        &mut warnings,
+    )?;
     Ok(warnings)
 }
 
@@ -88,9 +94,10 @@ fn warning_on<'a>(
     Ok(warning)
 }
 
-// Says how many more there are.
-fn add_more<'a>(
+/// Says how many more pairs there are.
+pub(super) fn add_more<'a>(
     alloc: Global,
+    topic: Topic,
     group: &Group<'a>,
     count: usize,
     warnings: &mut Vec<Warning<'a>>,
@@ -101,7 +108,7 @@ fn add_more<'a>(
         return Ok(());
     }
     if let Some(text) = group.texts.first() {
-        let mut warning = Warning::at(alloc, Topic::PossibleConflict, text.location);
+        let mut warning = Warning::at(alloc, topic, text.location);
         write_number(&mut warning.message, count)?;
         warning.message.extend_from_slice(b" more pairs")?;
         warnings.push(warning)?;
@@ -150,7 +157,10 @@ const USUAL: [(&[u8], &[u8]); 5] = [
 ];
 
 // Words for the stars of examples: those of the sources, a number if a star is in the middle of one, and others.
-fn usual_words(alloc: Global, specs: &[RefSpecRef<'_>]) -> Result<Vec<BStr<'static>>, AllocError> {
+pub(super) fn usual_words(
+    alloc: Global,
+    specs: &[RefSpecRef<'_>],
+) -> Result<Vec<BStr<'static>>, AllocError> {
     let mut words = Vec::new(alloc);
     for (source, word) in USUAL {
         if specs.iter().any(|spec| is_source(spec, source)) {
@@ -302,7 +312,7 @@ fn directory_exclusions(
 
 // The specs beside which an exclusion for two of them is tried: all of a group, or in one of many specs the two and the
 // negative ones.
-fn tried_specs<'s>(
+pub(super) fn tried_specs<'s>(
     alloc: Global,
     group: &Group<'s>,
     spec: &RefSpecRef<'s>,
@@ -382,7 +392,10 @@ fn narrowing(
 }
 
 // A text as a negative spec, if it is a spec.
-fn negative_spec<'s>(alloc: Global, text: &'s [u8]) -> Result<Option<RefSpecRef<'s>>, AllocError> {
+pub(super) fn negative_spec<'s>(
+    alloc: Global,
+    text: &'s [u8],
+) -> Result<Option<RefSpecRef<'s>>, AllocError> {
     match parse(alloc, BStr::new(text), Operation::Fetch) {
         Ok(exclusion) => Ok(Some(exclusion)),
         Err(Error::Memory) => Err(AllocError),
@@ -412,7 +425,7 @@ fn prevents(
 }
 
 // Two specs, and the negative ones of a group.
-fn beside_negatives<'s>(
+pub(super) fn beside_negatives<'s>(
     alloc: Global,
     group: &Group<'s>,
     spec: RefSpecRef<'s>,
@@ -429,7 +442,7 @@ fn beside_negatives<'s>(
     Ok(specs)
 }
 
-fn with_exclusion<'s>(
+pub(super) fn with_exclusion<'s>(
     alloc: Global,
     specs: &[RefSpecRef<'s>],
     exclusion: RefSpecRef<'s>,
@@ -440,7 +453,7 @@ fn with_exclusion<'s>(
 }
 
 // Whether a negative spec makes no spec idle.
-fn leaves_all(
+pub(super) fn leaves_all(
     alloc: Global,
     specs: &[RefSpecRef<'_>],
     exclusion: RefSpecRef<'_>,

@@ -1,5 +1,14 @@
 //! Specs that add nothing to a fetch, whatever refs a remote has, and what they do all the same.
 
+ghost use Rattle.std.specs.Prelude.{length, map, IfOk, MatchBool, OnOk};
+ghost use Rattle.std.specs.List.{All, AllZip};
+ghost use Rattle.gix_refspec_text.specs.Views.Spec.{reading_of};
+ghost use Rattle.gix_refspec_match.specs.Matching.Lists.{IsMadeFrom};
+ghost use Rattle.gix_refspec_lint.specs.Views.Lint.{unused_of};
+ghost use Rattle.refspec_io.specs.Texts.{given_of};
+ghost use Rattle.refspec_commands.specs.Warned.{AreExclusionsSaid, AreIdleSaid, IsExclusionSaid, IsIdleSaid, IsInside, MayBeFull, MayExclude, MayNameRefs};
+ghost use Rattle.refspec_commands.specs.WarnedViews.{KeepsTopic, SpecsMatchTexts, asked_of, said_of};
+
 use super::beside::Beside;
 use super::effects::{Effects, Weight, effects_of, effects_of_exclusion};
 use super::group::Group;
@@ -16,65 +25,74 @@ pub(super) fn idle_in<'a>(
     alloc: Global,
     group: &Group<'a>,
     beside: &Beside<'a>,
-) -> Result<Vec<Warning<'a>>, AllocError> {
+) -> Result<Vec<Warning<'a>>, AllocError>
+    requires { SpecsMatchTexts group.now }
+    ensures { IfOk result (λ warnings. AreIdleSaid (map reading_of group.now.specs.items)
+        (map given_of group.now.texts.items) (map said_of warnings.items)) }
+{
     let idle = or_nothing(alloc, idle_specs(alloc, &beside.configured(group)))?;
-    let mut warnings = Vec::new(alloc);
-    for spec in &idle {
-        if let Some(warning) = warning_on(alloc, group, beside, spec)? {
-            warnings.push(warning)?;
-        }
+    warnings_on(alloc, group, beside, idle.as_slice())
+}
+
+// The warnings on idle specs.
+fn warnings_on<'a>(
+    alloc: Global,
+    group: &Group<'a>,
+    beside: &Beside<'a>,
+    idle: &[IdleSpec],
+) -> Result<Vec<Warning<'a>>, AllocError>
+    requires matching { SpecsMatchTexts group.now }
+    requires inside { All (IsInside (length group.now.texts.items)) (map unused_of idle.now) }
+    ensures { IfOk result (λ warnings. AllZip (IsIdleSaid (map given_of group.now.texts.items))
+        (map unused_of idle.now) (map said_of warnings.items)) }
+{
+    let mut warnings = Vec::with_capacity(alloc, idle.len())?;
+    for spec in idle {
+        warnings.push(warning_on(alloc, group, beside, spec)?)?;
     }
     Ok(warnings)
 }
 
-// The warning on a positive spec. `None` if no text has its index, or that of the spec that it names.
+// The warning on an idle spec.
 fn warning_on<'a>(
     alloc: Global,
     group: &Group<'a>,
     beside: &Beside<'a>,
     idle: &IdleSpec,
-) -> Result<Option<Warning<'a>>, AllocError> {
-    let (Some(text), Some(spec)) = (
-        group.texts.get(idle.spec_index),
-        group.specs.get(idle.spec_index),
-    ) else {
-        return Ok(None);
-    };
-    let Some(mut warning) = named_warning(alloc, group, *text, idle.reason)? else {
-        return Ok(None);
-    };
-    let effects = effects_of(alloc, group, beside, spec, idle)?;
-    explain(alloc, group, spec, idle.reason, &effects, &mut warning)?;
-    effects.write(alloc, text, spec, &mut warning.message)?;
-    Ok(Some(warning))
+) -> Result<Warning<'a>, AllocError>
+    requires matching { SpecsMatchTexts group.now }
+    requires inside { IsInside (length group.now.texts.items) (unused_of idle.now) }
+    ensures { IfOk result (λ w. IsIdleSaid (map given_of group.now.texts.items) (unused_of idle.now) (said_of w)) }
+{
+    let text = group.texts[idle.spec_index];
+    let spec = group.specs[idle.spec_index];
+    let mut warning = named_warning(alloc, group.texts.as_slice(), idle)?;
+    let effects = effects_of(alloc, group, beside, &spec, idle)?;
+    explain(alloc, group, &spec, idle.reason, &effects, &mut warning)?;
+    effects.write(alloc, &text, &spec, &mut warning.message)?;
+    Ok(warning)
 }
 
-// A warning with the text of a spec, and that of the one that its reason names. `None` if there is no such text.
+// A warning with the text of an idle spec, and that of the one that its reason names.
 fn named_warning<'a>(
     alloc: Global,
-    group: &Group<'a>,
-    text: Text<'a>,
-    reason: Reason,
-) -> Result<Option<Warning<'a>>, AllocError> {
-    let (topic, index) = match reason {
-        Reason::Invalid => return alone(alloc, Topic::IdleInvalid, text),
-        Reason::Duplicates => return alone(alloc, Topic::IdleDuplicate, text),
-        Reason::Excluded(index) => (Topic::IdleExcluded, index),
-        Reason::Duplicate(index) => (Topic::IdleDuplicate, index),
-    };
-    match group.texts.get(index) {
-        None => Ok(None),
-        Some(other) => Ok(Some(Warning::on(alloc, topic, text, Some(*other))?)),
+    texts: &[Text<'a>],
+    idle: &IdleSpec,
+) -> Result<Warning<'a>, AllocError>
+    requires { IsInside (length texts.now) (unused_of idle.now) }
+    ensures { IfOk result (λ w. IsIdleSaid (map given_of texts.now) (unused_of idle.now) (said_of w)) }
+{
+    let text = texts[idle.spec_index];
+    match idle.reason {
+        Reason::Invalid => Warning::on(alloc, Topic::IdleInvalid, text, None),
+        Reason::Duplicates => Warning::on(alloc, Topic::IdleDuplicate, text, None),
+        Reason::Excluded(index) => {
+            Warning::on(alloc, Topic::IdleExcluded, text, Some(texts[index]))
+        }
+        Reason::Duplicate(index) => {
+            Warning::on(alloc, Topic::IdleDuplicate, text, Some(texts[index]))
+        }
     }
-}
-
-// A warning with one text.
-fn alone<'a>(
-    alloc: Global,
-    topic: Topic,
-    text: Text<'a>,
-) -> Result<Option<Warning<'a>>, AllocError> {
-    Ok(Some(Warning::on(alloc, topic, text, None)?))
 }
 
 // Says why a spec adds nothing, and what to do.
@@ -85,7 +103,9 @@ fn explain(
     reason: Reason,
     effects: &Effects,
     warning: &mut Warning<'_>,
-) -> Result<(), AllocError> {
+) -> Result<(), AllocError>
+    ensures { OnOk result (KeepsTopic warning.old warning.new) }
+{
     let message: &[u8] = match reason {
         Reason::Invalid => return explain_invalid(alloc, spec, warning),
         Reason::Excluded(_) => b"Negative specs exclude all that it takes.",
@@ -102,8 +122,9 @@ fn explain(
     }
     let advice: &[u8] = match (reason, effects.weight()) {
         (Reason::Excluded(_), Weight::None) => b"Remove it, or exclude less.",
-        (Reason::Excluded(_), Weight::Some) =>
-            b"Exclude less, or remove it if you want none of that.",
+        (Reason::Excluded(_), Weight::Some) => {
+            b"Exclude less, or remove it if you want none of that."
+        }
         (Reason::Excluded(_), Weight::OnTags) => b"Exclude less.",
         (_, Weight::None) => b"Remove it.",
         (_, Weight::Some) => b"Remove it only if you want none of that.",
@@ -128,7 +149,9 @@ fn explain_invalid(
     alloc: Global,
     spec: &RefSpecRef<'_>,
     warning: &mut Warning<'_>,
-) -> Result<(), AllocError> {
+) -> Result<(), AllocError>
+    ensures { OnOk result (KeepsTopic warning.old warning.new) }
+{
     if let Some(source) = spec.source() {
         let source = source.as_bytes();
         if !may_be_ref(source) {
@@ -164,7 +187,9 @@ pub(super) fn advise_full_name(
     before: &[u8],
     side: &[u8],
     warning: &mut Warning<'_>,
-) -> Result<(), AllocError> {
+) -> Result<(), AllocError>
+    ensures { OnOk result (KeepsTopic warning.old warning.new) }
+{
     let mut full = Vec::from_slice(alloc, before)?;
     full.extend_from_slice(written_name(alloc, side)?.as_bstr().as_bytes())?;
     say(&mut warning.advice, "Write ", full.as_slice())
@@ -175,31 +200,50 @@ pub(super) fn exclusions_in<'a>(
     alloc: Global,
     group: &Group<'a>,
     beside: &Beside<'a>,
-) -> Result<Vec<Warning<'a>>, AllocError> {
+) -> Result<Vec<Warning<'a>>, AllocError>
+    requires { SpecsMatchTexts group.now }
+    ensures { IfOk result (λ warnings. AreExclusionsSaid (asked_of beside.now) (map reading_of group.now.specs.items)
+        (map given_of group.now.texts.items) (map said_of warnings.items)) }
+{
     let idle = or_nothing(alloc, idle_exclusions(alloc, &beside.excludable(group)))?;
+    exclusion_warnings(alloc, group, beside, idle.as_slice())
+}
+
+// The warnings on idle negative specs.
+fn exclusion_warnings<'a>(
+    alloc: Global,
+    group: &Group<'a>,
+    beside: &Beside<'a>,
+    idle: &[usize],
+) -> Result<Vec<Warning<'a>>, AllocError>
+    requires { SpecsMatchTexts group.now }
+    ensures { IfOk result (λ warnings. IsMadeFrom
+        (λ i k s. IsExclusionSaid (map reading_of group.now.specs.items) (map given_of group.now.texts.items) k s)
+        0 idle.now (map said_of warnings.items)) }
+{
     let mut warnings = Vec::new(alloc);
-    for index in &idle {
-        if let Some(warning) = warning_on_exclusion(alloc, group, beside, *index)? {
-            warnings.push(warning)?;
+    for exclusion in idle {
+        if may_exclude_at(group, *exclusion) {
+            warnings.push(exclusion_warning(alloc, group, beside, *exclusion)?)?;
         }
     }
     Ok(warnings)
 }
 
-// The warning on a negative spec, if it may be a full name.
-fn warning_on_exclusion<'a>(
+// The warning on an idle negative spec.
+fn exclusion_warning<'a>(
     alloc: Global,
     group: &Group<'a>,
     beside: &Beside<'a>,
     index: usize,
-) -> Result<Option<Warning<'a>>, AllocError> {
-    let (Some(text), Some(spec)) = (group.texts.get(index), group.specs.get(index)) else {
-        return Ok(None);
-    };
-    if !may_exclude(spec) {
-        return Ok(None);
-    }
-    let mut warning = Warning::on(alloc, Topic::IdleExclusion, *text, None)?;
+) -> Result<Warning<'a>, AllocError>
+    requires matching { SpecsMatchTexts group.now }
+    requires full { MayExclude (map reading_of group.now.specs.items) index }
+    ensures { IfOk result (λ w. IsExclusionSaid (map reading_of group.now.specs.items)
+        (map given_of group.now.texts.items) index (said_of w)) }
+{
+    let text = group.texts[index];
+    let mut warning = Warning::on(alloc, Topic::IdleExclusion, text, None)?;
     let effects = effects_of_exclusion(alloc, group, beside, index)?;
     let advice: &[u8] = match effects.weight() {
         Weight::None => b"Correct its name, or remove it.",
@@ -208,13 +252,26 @@ fn warning_on_exclusion<'a>(
     };
     let message = &mut warning.message;
     message.extend_from_slice(b"No other spec takes a ref that it excludes.")?;
-    effects.write(alloc, text, spec, message)?;
+    effects.write(alloc, &text, &group.specs[index], message)?;
     warning.advice.extend_from_slice(advice)?;
-    Ok(Some(warning))
+    Ok(warning)
+}
+
+// Whether the source of the spec at an index may be a full name.
+fn may_exclude_at(group: &Group<'_>, index: usize) -> bool
+    ensures { MatchBool result (MayExclude (map reading_of group.now.specs.items) index)
+        (¬ (MayExclude (map reading_of group.now.specs.items) index)) }
+{
+    match group.specs.get(index) {
+        None => false,
+        Some(spec) => may_exclude(spec),
+    }
 }
 
 /// Whether a source of a spec may be a full name.
-pub(super) fn may_exclude(spec: &RefSpecRef<'_>) -> bool {
+pub(super) fn may_exclude(spec: &RefSpecRef<'_>) -> bool
+    ensures { MatchBool result (MayNameRefs (reading_of spec.now)) (¬ (MayNameRefs (reading_of spec.now))) }
+{
     match spec.source() {
         None => false,
         Some(source) => may_be_full(source.as_bytes()),
@@ -222,7 +279,9 @@ pub(super) fn may_exclude(spec: &RefSpecRef<'_>) -> bool {
 }
 
 // Whether a side is a full name, or a pattern that may match one.
-fn may_be_full(side: &[u8]) -> bool {
+fn may_be_full(side: &[u8]) -> bool
+    ensures { MatchBool result (MayBeFull side.now) (¬ (MayBeFull side.now)) }
+{
     if side == b"HEAD".as_slice() || side.starts_with(b"refs/") {
         return true;
     }

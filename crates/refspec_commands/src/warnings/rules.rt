@@ -1,5 +1,9 @@
 //! Single specs that do something else than they seem to.
 
+ghost use Rattle.std.specs.Prelude.{◌≡◌, IfOk, OnOk};
+ghost use Rattle.refspec_commands.specs.declared.warnings.Topic.TheVariants as topic;
+ghost use Rattle.refspec_commands.specs.WarnedViews.{AreOthers};
+
 use super::group::Group;
 use super::idle::{advise_full_name, may_exclude};
 use super::{Topic, Warning, say};
@@ -19,7 +23,9 @@ const NOWHERE: &[u8] = b"@";
 pub(super) fn faults_in<'a>(
     alloc: Global,
     group: &Group<'a>,
-) -> Result<Vec<Warning<'a>>, AllocError> {
+) -> Result<Vec<Warning<'a>>, AllocError>
+    ensures { IfOk result (λ warnings. AreOthers warnings.items) }
+{
     let exclusions = Exclusions::of(alloc, group.specs.as_slice())?;
     let mut found = Vec::new(alloc);
     for (text, spec) in group.texts.iter().zip(group.specs.iter()) {
@@ -38,7 +44,9 @@ fn add_for_negative<'a>(
     text: &Text<'a>,
     spec: &RefSpecRef<'_>,
     found: &mut Vec<Warning<'a>>,
-) -> Result<(), AllocError> {
+) -> Result<(), AllocError>
+    ensures { AreOthers found.old.items → OnOk result (AreOthers found.new.items) }
+{
     let Some(source) = spec.source() else {
         return Ok(());
     };
@@ -62,7 +70,9 @@ fn add_for_fetch<'a>(
     spec: &RefSpecRef<'_>,
     exclusions: &Exclusions<'_>,
     found: &mut Vec<Warning<'a>>,
-) -> Result<(), AllocError> {
+) -> Result<(), AllocError>
+    ensures { AreOthers found.old.items → OnOk result (AreOthers found.new.items) }
+{
     let Some(destination) = spec.destination() else {
         return Ok(());
     };
@@ -176,7 +186,9 @@ fn partial_source<'a>(
     alloc: Global,
     text: &Text<'a>,
     sides: &Sides<'_>,
-) -> Result<Warning<'a>, AllocError> {
+) -> Result<Warning<'a>, AllocError>
+    ensures { IfOk result (λ w. w.topic ≡ topic.PartialSource) }
+{
     let mut warning = Warning::on(alloc, Topic::PartialSource, *text, None)?;
     let message = &mut warning.message;
     if sides.is_completed() {

@@ -4,6 +4,7 @@ use Rattle.std.proofs.lemmas.List.{length-map}
 use Rattle.std.specs.List.{All, AllZip}
 use Rattle.gix_refspec_text.specs.Views.Spec.{reading_of}
 use Rattle.gix_refspec_lint.specs.declared.PossibleConflict.{PossibleConflict}
+use Rattle.gix_refspec_lint.specs.Matching.Lint.{AreExamples}
 use Rattle.gix_refspec_lint.specs.Views.Lint.{configuration_of, example_of}
 use Rattle.refspec_io.specs.Counts.{reported_count}
 use Rattle.refspec_io.specs.declared.call.Form.{Form}
@@ -12,7 +13,7 @@ use Rattle.refspec_io.specs.Texts.{given_of}
 use Rattle.refspec_commands.specs.declared.warnings.Warning.{Warning}
 use Rattle.refspec_commands.specs.Warned.{IsAmong, IsConflictSaid}
 use Rattle.refspec_commands.specs.WarnedViews.{asked_of, said_of}
-use Rattle.refspec_commands.proofs.WarnedLemmas.{conflicts_inside, conflicts_said}
+use Rattle.refspec_commands.proofs.WarnedLemmas.{examples_inside, found_inside, found_said}
 use Rattle.refspec_commands.proofs.warnings.conflicts.conflicts_in.Goals as goal
 
 pub warnings_on-requires : goal.warnings_on-requires
@@ -22,9 +23,9 @@ warnings_on-requires c =
     let given = c.args.group.now.texts.items in
     let same : length (map reading_of specs) ≡ length (map given_of given) = length-map specs reading_of ∙
     (c.requires ∙ sym (length-map given given_of)) in
-    let inside = conflicts_inside (asked_of c.args.beside.now) (map reading_of specs) (map given_of given)
+    let inside = found_inside example_of AreExamples IsAmong (asked_of c.args.beside.now) (map reading_of specs) (map given_of given)
     (map given_of texts) (configuration_of c.configured-fetch.result)
-    c.possible_conflicts.result c.in_ok-conflicts.conflicts c.reported_count-count.result c.configured-fetch.ensures
+    c.possible_conflicts.result c.in_ok-conflicts.conflicts c.reported_count-count.result examples_inside c.configured-fetch.ensures
     (c.possible_conflicts.ensures.ok, c.possible_conflicts.ensures.refused, c.in_ok-conflicts.ensures) same
     c.in_ok-texts.ensures in
     let shown : c.split_at.result.0.now ≡ take c.reported_count-count.result c.in_ok-conflicts.conflicts.items =
@@ -60,7 +61,7 @@ returns c json =
     )) in
     let all = subst (λ (ws : List Warning). AllZip (IsConflictSaid (map given_of texts)) (map example_of found)
     (map said_of ws)) (sym same) of_texts in
-    conflicts_said (asked_of c.args.beside.now) (map reading_of specs) (map given_of given) (map given_of texts)
+    found_said example_of AreExamples IsConflictSaid (asked_of c.args.beside.now) (map reading_of specs) (map given_of given) (map given_of texts)
     (configuration_of c.configured-fetch.result)
     c.possible_conflicts.result c.in_ok-conflicts.conflicts (map said_of c.add_more.new.warnings.items)
     c.configured-fetch.ensures
