@@ -7,9 +7,11 @@ import re
 import sys
 import tempfile
 
-import gitknown  # beside this script, as the next two
+import gitknown  # beside this script, as the next four
+import gitleft
 import repositories
 import trials
+import warned
 
 SOURCES = ["refs/heads/*"] * 4 + ["refs/tags/*"] * 2 + ["refs/heads/dev*", "refs/heads/topic/*", "refs/pull/*/head", "refs/*"]
 SINGLE = ["refs/heads/main", "refs/heads/dev", "refs/heads/gone", "refs/heads/topic/a", "refs/tags/v1", "main", "dev", "HEAD",
@@ -21,8 +23,12 @@ PLACES = ["refs/x/main", "refs/x/dev", "refs/remotes/o/main", "refs/remotes/o/de
 NEGATIVE = ["^refs/heads/dev", "^refs/heads/dev*", "^refs/heads/main", "^refs/heads/*", "^refs/tags/*", "^refs/tags/*-rc",
             "^main", "^dev*", "^refs/heads/wip/*", "^refs/heads/topic/*", "^refs/*", "^HEAD", "^refs/pull/*",
             "^refs/heads/gone"]
+# Values of which one writes in the directory of one branch, and no other.
+BELOW = [["refs/tags/v1:refs/x/y/v1", "^refs/heads/y/*"], ["refs/heads/dev2:refs/x/dev/a/b", "^refs/heads/dev/*"],
+         ["+refs/pull/*/head:refs/x/y/*", "^refs/heads/y/*"], ["+refs/tags/*:refs/x/y/z/*", "^refs/heads/y/*"],
+         ["refs/tags/v1:refs/x/main/v1"], ["+refs/pull/*/head:refs/x/dev/*"]]
 REFS = ["refs/heads/main", "refs/heads/dev", "refs/heads/dev2", "refs/heads/topic/a", "refs/heads/v1", "refs/tags/v1",
-        "refs/tags/v1-rc", "refs/tags/main", "refs/pull/7/head", "refs/heads/gone"]
+        "refs/tags/v1-rc", "refs/tags/main", "refs/pull/7/head", "refs/heads/y", "refs/heads/gone"]
 LOCAL = ["refs/x/main", "refs/x/dev", "refs/x/mine", "refs/x/gone", "refs/x/y/mine", "refs/remotes/o/old", "refs/remotes/o/dev",
          "refs/tags/mine", "refs/heads/mine", "refs/heads/side"]
 FETCHED = ["main", "dev", "dev2", "refs/heads/topic/a", "tag v1", "v1", "HEAD", "refs/pull/7/head"]
@@ -37,6 +43,7 @@ REMOVE = re.compile(r"\b[Rr]emove it\b")
 ONLY_IF = re.compile(r"\b[Rr]emove it (only )?if ")
 PLUS = re.compile(r"write `\+` before the earlier")
 EXCLUDE = re.compile(r"(?:by|and) (\^\S+)")
+EXCLUDE_FIRST = re.compile(r"Exclude the first source by \^(\S+)")
 BOTH = re.compile(r"both sides in full: (\S+:\S+), if")
 WRITE = re.compile(r"[Ww]rite (\^?refs/\S*?)(?:,|\.|;|$| )")
 SETTING = re.compile(r"git config (\S+) (?:'([^']*)'|(\S+))")
@@ -62,6 +69,8 @@ def configuration(random_):
     values += [value(random_) for _ in range(random_.choice([1, 2, 2, 3, 3]))]
     if random_.random() < 0.2:
         values.append(random_.choice(values))
+    if random_.random() < 0.2:
+        values += ["+refs/heads/*:refs/x/*", *random_.choice(BELOW)]
     if random_.random() < 0.3:
         random_.shuffle(values)
     settings = [setting for setting, chance in (
@@ -86,14 +95,51 @@ def nothing(*_):
     return False
 
 
-def keeps_more(_words, _refs, before, after):
-    return after.status <= before.status and set(before.refs) <= set(after.refs)
+def keeps_more(_words, refs, before, after):
+    """Refs are kept, and what isn't written would be above or below one of them; nor are then the tags that come last."""
+    kept, lost = set(after.refs) - set(before.refs), set(before.refs) - set(after.refs)
+    stopped = {one for one in lost if any(gitleft.clash(one, other) for other in kept)}
+    is_worse = after.status > before.status
+    is_status = not is_worse or bool(stopped) and after.status == 1
+    return is_status and all(is_worse and one.startswith("refs/tags/") and one in refs for one in lost - stopped)
 
 
 def about(*sources):
     def announces(words, refs, before, after):
         return keeps_more(words, refs, before, after) or any(covers(one, name) for one in sources for name in [*refs, "HEAD"])
     return announces
+
+
+def dropped(values, name):
+    """What differs by a ref that is no longer fetched: where it would be written, and what is in the way of that; a line of
+    FETCH_HEAD; all that a fetch does which died before, and the tags that Git follows only after it has written all else."""
+    def announces(words, refs, before, after):
+        if name not in [*refs, "HEAD"]:
+            return keeps_more(words, refs, before, after)
+        if before.said:
+            is_still = bool(after.said) and not changed(before, after)
+            return is_still and after.said == before.said or "Cannot fetch both" in before.said[0] and (is_still or not after.said)
+        is_mended = after.status < before.status
+        followed = [one for one in refs if one.startswith("refs/tags/") and (is_mended or one == name)]
+        places = {*destinations(values, name, refs), *followed}
+        is_near = all(any(one == place or gitleft.clash(one, place) for place in places) for one in changed(before, after))
+        lost, gained = before.heads - after.heads, after.heads - before.heads
+        return after.status <= before.status and is_near and len(lost) < 2 and (is_mended or not gained)
+    return announces
+
+
+def destinations(values, name, refs):
+    """Where positive values write a ref of a remote."""
+    names = {one.encode() for one in [*refs, "HEAD"]}
+    for spec in filter(gitknown.is_positive, (gitknown.split(one.encode()) for one in values)):
+        if b"*" in spec.source:
+            word = gitknown.word_of(spec.source, name.encode())
+            found = None if word is None else gitknown.filled(spec.destination, word)
+        else:
+            is_source = name.encode() in (spec.source, gitknown.first_name(spec.source, names))
+            found = gitknown.full_name(spec.destination) if is_source else None
+        if found:
+            yield found.decode()
 
 
 def in_full(source, full):
@@ -143,14 +189,23 @@ def as_told(message):
     return lambda words, _refs, before, after: any(is_told(words, before, after) for is_told in told)
 
 
-def place_of(values, text, is_last):
-    """The place of a value in the list; of equal values the last one, or the first."""
+def place_of(values, text, rank):
+    """The place of a value in the list; of equal values that of this rank, or the last one."""
     places = [place for place, one in enumerate(values) if one == text]
-    return places[-1] if is_last else places[0]
+    return places[rank if 0 <= rank < len(places) else -1]
 
 
-def pieces(config, warning):
-    """The ways to take the advice of a warning."""
+def ranked(warnings):
+    """The warnings, each with the number of earlier ones of its name on equal values."""
+    earlier = collections.Counter()
+    for warning in warnings:
+        key = (warning["name"], *(spec["text"] for spec in warning["specs"]))
+        yield warning, earlier[key]
+        earlier[key] += 1
+
+
+def pieces(config, warning, rank):
+    """The ways to take the advice of a warning on the value of this rank among equal ones."""
     values, texts, advice = config.values, [spec["text"] for spec in warning["specs"]], warning["advice"]
     for key, quoted, plain in SETTING.findall(advice):
         is_pruning = warning["name"].startswith("prunes_")
@@ -158,11 +213,13 @@ def pieces(config, warning):
         yield Advice(warning, made, keeps_more if is_pruning else lambda *_: True)
     if not texts or any(text not in values for text in texts) or warning["name"].startswith("prunes_"):
         return
-    place = place_of(values, texts[0], warning["name"] == "idle_duplicate")
+    place = place_of(values, texts[0], -1 if warning["name"] == "idle_duplicate" else rank)
     if REMOVE.search(advice):
         yield removal(config, warning, place)
     if added := EXCLUDE.findall(advice):
-        yield Advice(warning, config._replace(values=[*values, *added]), about(*(one[1:] for one in added)))
+        first = EXCLUDE_FIRST.fullmatch(advice)
+        announces = dropped(values, first[1]) if first else about(*(one[1:] for one in added))
+        yield Advice(warning, config._replace(values=[*values, *added]), announces)
     for text in BOTH.findall(advice):
         yield Advice(warning, config._replace(values=[*values[:place], text, *values[place + 1:]]), in_full_or_told(warning, text))
     for written in WRITE.findall(advice):
@@ -183,7 +240,7 @@ def removal(config, warning, place):
         announces = as_told(warning["message"]) if ONLY_IF.search(warning["advice"]) else nothing
         return Advice(warning, config._replace(values=fewer), announces)
     earlier = warning["specs"][1]["text"]
-    at = place_of(fewer, earlier, False)
+    at = place_of(fewer, earlier, 0)
     fewer[at] = "+" + earlier.lstrip("+")
     return Advice(warning, config._replace(values=fewer), stronger)
 
@@ -199,11 +256,27 @@ def own_refs(values):
     return [name.decode() for name in found if name.startswith(b"refs/") and gitknown.is_ref_name(name)]
 
 
+def required(values, names):
+    """A ref of the remote for each value that names its source, and finds none among these names."""
+    there = {name.encode() for name in names}
+    sources = [gitknown.split(one.encode()).source.decode() for one in values if not one.startswith("^")]
+    full = {"HEAD": "refs/heads/main", "tags/v1": "refs/tags/v1"}
+    lacking = [one for one in sources if "*" not in one and not gitknown.first_name(one.encode(), there)]
+    return [full.get(one, one if one.startswith("refs/") else "refs/heads/" + one) for one in lacking]
+
+
+def taken_by(values, names):
+    """Each value that names its source, with the ref that it takes."""
+    there = {name.encode() for name in names}
+    found = ((one, gitknown.first_name(gitknown.split(one.encode()).source, there)) for one in values if "*" not in one)
+    return {(one, name) for one, name in found if name}
+
+
 def without_clashes(names):
     """The names without those that can't both be refs with an earlier one."""
     kept = []
     for one in names:
-        if not any(one == other or one.startswith(other + "/") or other.startswith(one + "/") for other in kept):
+        if not any(one == other or gitleft.clash(one, other) for other in kept):
             kept.append(one)
     return kept
 
@@ -268,16 +341,48 @@ class Advised:
                     return refs, words, before, after
         return None
 
+    def unshown(self, config, warning, warnings):
+        """The refs of a warning's example, and what a fetch does with them, if that isn't what the message says."""
+        if warning["name"] not in ("possible_conflict", "directory_conflict"):
+            return None
+        is_conflict = warning["name"] == "possible_conflict"
+        example = (warned.EXAMPLE if is_conflict else warned.NESTED).fullmatch(warning["message"])
+        if not example:
+            return None if '"' in warning["message"] else ["a message without its example"]
+        one, other, *written = example.groups()
+        # a remote has HEAD here, so the value `HEAD` takes no other ref of that name, as one without it would
+        names = [name for name in (one, other) if name]
+        if any(name.endswith("/HEAD") for name in names):
+            return None
+        refs = without_clashes([*names, *required(config.values, names)])
+        if taken_by(config.values, names) - taken_by(config.values, refs):
+            # what another value needs hides the example, so without it Git misses that first
+            refs = without_clashes(names)
+        done = self.done(config, refs, [], ["o"])
+        if any("couldn't find remote ref" in line for line in done.said):
+            return None
+        # Git names one conflict: this one, another of two values, or one with a tag that is followed
+        both = [line for line in done.said if "Cannot fetch both" in line]
+        if is_conflict:
+            has_others = sum(one["name"] == "possible_conflict" for one in warnings) > 1
+            is_so = any(has_others or line.endswith(" to " + written[0]) or " to refs/tags/" in line for line in both)
+        else:
+            is_so = bool(both) or done.status == 1 and len(set(written) & set(done.refs)) == 1
+        return None if is_so else (refs, ["o"], done, done)
+
     def left_warnings(self, config, advice):
-        """The warnings that are left: this one, after an exclusion that a spec does nothing, or that a value is refused."""
+        """The warnings that are left: this one, after an exclusion that a spec does nothing which did something, or that a value is
+        refused."""
         def told(rows):
             return {(row["name"], *(spec["text"] for spec in row["specs"])) for row in rows}
         rows, mine = self.warnings(advice.config), told([advice.warning])
         if rows is None:
             return ["refused"]
         is_exclusion = EXCLUDE.search(advice.warning["advice"])
-        new = told(rows) - told(self.warnings(config)) if is_exclusion else set()
-        count = sum(told([row]) == mine for row in self.warnings(config))
+        earlier = self.warnings(config)
+        idle = {one[1] for one in told(earlier) if one[0].startswith("idle_")}
+        new = {one for one in told(rows) - told(earlier) if one[1:2] and one[1] not in idle} if is_exclusion else set()
+        count = sum(told([row]) == mine for row in earlier)
         is_left = sum(told([row]) == mine for row in rows) >= count
         return sorted([one for one in new if one[0].startswith("idle_")] + [one for one in mine if is_left])
 
@@ -288,6 +393,7 @@ class Advised:
         warnings = self.warnings(config)
         if warnings is None:
             return number, config, [], [], []
-        taken = [advice for warning in warnings for advice in pieces(config, warning)]
+        taken = [advice for warning, rank in ranked(warnings) for advice in pieces(config, warning, rank)]
         found = [(advice, self.differences(random_, config, advice) or self.left_warnings(config, advice)) for advice in taken]
+        found += [(Advice(warning, config, nothing), self.unshown(config, warning, warnings)) for warning in warnings]
         return number, config, warnings, taken, [one for one in found if one[1]]

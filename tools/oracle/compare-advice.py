@@ -4,7 +4,8 @@
 For generated configurations of a remote, each piece of advice in the JSON output is carried out in a copy. Then `git fetch
 --prune`, `git fetch` of single refs and what `git pull` would merge are compared between both, on remotes that differ: with all
 refs that are spoken of, with one of them gone, with a tag more, and with the refs of the warning. Where a value is removed,
-nothing may change; where one is added or written in another way, only what it announces.
+nothing may change; where one is added or written in another way, only what it announces. The example of two values in conflict
+has to be so too: Git writes nothing, or one of both refs.
 """
 import argparse
 import collections
@@ -65,7 +66,7 @@ def main():
     finally:
         shutil.rmtree(folder)
     for name in sorted(warned):
-        print(f"compare-advice: {warned[name]} times {name}: {taken[name]} pieces of advice taken, {len(wrong[name])} change more")
+        print(f"compare-advice: {warned[name]} times {name}: {taken[name]} pieces of advice taken, {len(wrong[name])} otherwise")
         for one in sorted(wrong[name], key=lambda one: len(one[1].values))[:options.shown]:
             print(shown(*one, options))
     if any(wrong.values()):

@@ -1,11 +1,11 @@
 #!/usr/bin/env python3
 """Holds the procedure of `gix_refspec_lint` against brute force: tools/oracle/lint.py GROUPS [SEED]
 
-For random groups of specs it asks the procedure which specs can conflict, and which are idle, and tries all lists of one and
-two refs over a small alphabet, and for idle specs those with up to three other candidates of partial names. Nothing printed but
-counts: no difference. Each example of a conflict is mapped too. No list has a ref and another one in a directory of its name
-where conflicts are looked for. Some groups have merged refs, or all tags are asked for. Of an idle spec it also asks which
-earlier one maps all that it fetches, and whether a fetch needs its source.
+For random groups of specs it asks the procedure which specs can conflict, which can be in a directory conflict, and which are
+idle, and tries all lists of one and two refs over a small alphabet, and for idle specs those with up to three other candidates
+of partial names. Nothing printed but counts: no difference. Each example of a conflict is mapped too. No list has a ref and
+another one in a directory of its name where conflicts are looked for. Some groups have merged refs, or all tags are asked for.
+Of an idle spec it also asks which earlier one maps all that it fetches, and whether a fetch needs its source.
 
 A spec is (negative, source, destination or None); texts are str. Mapping is that of a plan of configured specs: destinations
 completed as git-fetch does, mappings with an invalid side left out, equal mappings of earlier specs dropped, sources of negative
@@ -186,6 +186,44 @@ def conflict_of(g, i, j, z):
                         and takes(x, s, t) and takes(y, t, s) \
                         and can_stand_together([n for k, n in (s, t) if k == "name"]):
                     return (s, t, d)
+    return None
+
+def can_nest_at(g, i, j, d, e):
+    """The sources from which the spec at i writes d, and that at j writes e in its directory, on a remote with both, or None."""
+    if not can_be_written(d) or not can_be_written(e) or not e.startswith(d + "/"):
+        return None
+    for s in sources_for(g[i], d):
+        for t in sources_for(g[j], e):
+            if sound((s, d)) and sound((t, e)) and not excluded(g, s) and not excluded(g, t) \
+                    and takes(g[i], s, t) and takes(g[j], t, s) \
+                    and can_stand_together([n for k, n in (s, t) if k == "name"]):
+                return (s, t, d, e)
+    return None
+
+def nested_names(x, y, z):
+    """The names that decide where the spec x writes a directory of what y writes: pairs of destinations."""
+    if "*" not in y[2]:
+        parts = [y[2][:k] for k in range(len(y[2])) if y[2][k] == "/"]
+        return [(d, y[2]) for d in (parts if "*" in x[2] else [x[2]])]
+    if "*" not in x[2]:
+        return [(x[2], e) for e in common_names(x[2] + "/*", y[2], z)]
+    before, after = y[2].split("*")
+    out = []
+    for k in range(len(before)):
+        if before[k] == "/" and word_between(x[2], before[:k]) is not None:
+            out += [(before[:k], e) for e in common_names(before[:k] + "/*", y[2], z)]
+    rests = [("", "/" + z + after)] + [(after[:k], after[k:]) for k in range(len(after)) if after[k] == "/"]
+    return out + [(d, d + rest) for end, rest in rests for d in common_names(x[2], before + "*" + end, z)]
+
+def nesting_of(g, i, j, z):
+    """An example of a directory conflict of two specs, in either order: (upper, lower, sources and destinations), or None."""
+    for a, b in ((i, j), (j, i)):
+        if g[a][0] or g[b][0] or g[a][2] is None or g[b][2] is None:
+            continue
+        for d, e in nested_names(g[a], g[b], z):
+            found = can_nest_at(g, a, b, d, e)
+            if found:
+                return (a, b, *found)
     return None
 
 def own_pairs(x, z):
@@ -401,6 +439,54 @@ def brute(g, kept_validly=kept_validly, merges=(), tags=False):
             idle_neg.add(k)
     return conflicts, idle, idle_neg
 
+def nesting_universe(g):
+    """Names that may be sources of two destinations of which one is a directory of the other."""
+    names = set(universe(g)) | witnesses(g)
+    pos = [x for x in g if not x[0] and x[2]]
+    written = {d for x in pos for n in (names if kind(x[1]) == "pattern" else [x[1]]) for _, d in makes(x, [n])}
+    written |= {x[2] for x in pos if "*" not in x[2]}
+    for y in pos:
+        for x in pos:
+            if "*" in y[2]:
+                names.update(s[1] for d, e in (nested_names(x, y, "c") if x[2] else []) for s in sources_for(y, e))
+            if "*" in x[2]:
+                names.update(s[1] for d, e in nested_names(x, y, "c") for s in sources_for(x, d))
+        if "*" in y[2]:
+            before, after = y[2].split("*")
+            ends = [w + after for w in ("", "a", "b", "c", "a/b")] + [after[k + 1:] for k in range(len(after)) if after[k] == "/"]
+            names.update(s[1] for d in written for end in ends for s in sources_for(y, d + "/" + end))
+        elif y[2]:
+            parts = [y[2][:k] for k in range(len(y[2])) if y[2][k] == "/"]
+            names.update(s[1] for x in pos if "*" in x[2] for d in parts for s in sources_for(x, d))
+    return sorted(n for n in names if is_ref_name(n))
+
+def brute_nestings(g, kept_validly=kept_validly, tags=False):
+    """The pairs of specs that can be in a directory conflict, by trying lists of one and two refs."""
+    g = asked(g, tags)
+    names = nesting_universe(g)
+    negatives = [x for x in g if x[0]]
+    written = collections.defaultdict(set)      # destination -> {(i, source)}
+    for i, x in enumerate(g):
+        if x[0] or x[2] is None:
+            continue
+        for refs in [[]] if kind(x[1]) == "object" else [[n] for n in names]:
+            for _, source, destination in kept_validly([x] + negatives, refs):
+                if destination is not None:
+                    written[destination].add((i, source))
+    found = set()
+    for e in written:
+        for k in range(len(e)):
+            if e[k] != "/" or e[:k] not in written:
+                continue
+            for i, s in written[e[:k]]:
+                for j, t in written[e]:
+                    pair = (min(i, j), max(i, j))
+                    refs = list(dict.fromkeys(x[1] for x in (s, t) if x[0] == "name"))
+                    if i != j and pair not in found and can_stand_together(refs) \
+                            and (0, s, e[:k]) in kept_validly([g[i]], refs) and (0, t, e) in kept_validly([g[j]], refs):
+                        found.add(pair)
+    return found
+
 def brute_covering(g, i):
     """The first earlier spec that alone maps all that an idle one fetches, or None, by trying lists of refs."""
     negatives = [x for x in g if x[0]]
@@ -562,6 +648,12 @@ def main(count, seed):
             c["idle, required"] += is_required(g, i)
             if is_required(g, i) != brute_required(g, i):
                 print("REQUIRED", g, i, "procedure", is_required(g, i)); c["bad"] += 1
+        whole = asked(g, tags)
+        pairs = {(i, j): nesting_of(whole, i, j, "c") for i, j in itertools.combinations(range(len(whole)), 2)}
+        nested = {pair for pair, example in pairs.items() if example}
+        c["directory conflicts"] += len(nested)
+        if nested != brute_nestings(g, tags=tags):
+            print("NESTINGS", g, "procedure", nested, "brute", brute_nestings(g, tags=tags)); c["bad"] += 1
         for (i, j), (s, t, d) in pc.items():
             refs = [x[1] for x in (s, t) if x[0] == "name"]
             whole = asked(g, tags)
