@@ -485,6 +485,45 @@ def try_warnings(tried):
     expect("a mirror", tried.git(os.path.join(tried.folder, "mirror"), "config", "remote.origin.mirror"), "true")
 
 
+NO_TAGS = [("remote.origin.tagOpt", "--no-tags")]
+PULLS, PULLED = "+refs/pull/*/head:refs/remotes/origin/pr/*", ["refs/remotes/origin/pr", "refs/remotes/origin/pr/7"]
+# The fetch values of a remote and other settings, and two refs of which one is a directory of the other.
+NESTED = [
+    ([TRACKING, PULLS], NO_TAGS, PULLED),
+    (["refs/heads/main:refs/x/a", "refs/heads/main:refs/x/a/b"], NO_TAGS, ["refs/x/a", "refs/x/a/b"]),
+    (["refs/heads/main:refs/tags/v1/x"], [("remote.origin.tagOpt", "--tags")], ["refs/tags/v1", "refs/tags/v1/x"]),
+    # By one value alone, of which `check` doesn't warn.
+    (["+refs/merge-requests/*/head:refs/x/*"], NO_TAGS, ["refs/x/7", "refs/x/7/a"]),
+]
+
+
+def try_directory_conflicts(tried):
+    """What Git does where `refspec check` warns of a directory conflict, and if an exclusion is taken."""
+    remote = tried.repository(commit=True)
+    for name in ("refs/heads/pr", "refs/pull/7/head", "refs/merge-requests/7/head", "refs/merge-requests/7/a/head", "refs/tags/v1"):
+        tried.git(remote, "update-ref", name, "HEAD")
+    for values, settings, both in NESTED:
+        local = tried.beside(remote, *values, settings=settings)
+        made = tried.run(["git", "fetch", "origin"], local)
+        written = set(both) & set(tried.refs(local))
+        expect(f"a fetch by {values}", (made.returncode, len(written), b"cannot lock ref" in made.stderr), (1, 1, True))
+    # Then a tag of an older commit is followed only at the next fetch.
+    tried.git(remote, "commit", "-q", "--allow-empty", "-m", "two")
+    for name in ("refs/heads/pr", "refs/pull/7/head"):
+        tried.git(remote, "update-ref", name, "HEAD")
+    local = tried.beside(remote, TRACKING, PULLS)
+    for followed in ([], ["refs/tags/v1"]):
+        tried.run(["git", "fetch", "origin"], local)
+        expect("tags after a directory conflict", [name for name in tried.refs(local) if name[:10] == "refs/tags/"], followed)
+    # The ref that is excluded stays in the way of the other one, until it is deleted by hand.
+    local = tried.beside(remote, TRACKING, PULLS, "^refs/heads/pr", own=PULLED[:1], settings=NO_TAGS)
+    for words in (["fetch", "--prune", "origin"], ["remote", "prune", "origin"], ["fetch", "origin"]):
+        tried.run(["git", *words], local)
+        expect(f"{words}", set(PULLED) & set(tried.refs(local)), set(PULLED[:1]))
+    tried.git(local, "update-ref", "-d", PULLED[0])
+    expect("a fetch without the excluded ref", tried.changed(local, "fetch", "origin")[0], PULLED[1:])
+
+
 def try_settings(tried):
     """How a fetch finds its remote, and reads booleans."""
     remote, on, tag = two_branches(tried), "fetch.pruneTags", "refs/tags/light"
@@ -649,7 +688,7 @@ def try_settings_of_remotes(tried):
 
 WITH_PROGRAM = (try_texts, try_fetches, try_looks_back, try_prefixes, try_pushes)
 GIT_ALONE = (try_values, try_tags, try_refusals, try_pruning, try_look_ups, try_asking, try_excluding_pushes,
-             try_warnings, try_settings, try_left_to_git, try_advice, try_settings_of_remotes)
+             try_warnings, try_directory_conflicts, try_settings, try_left_to_git, try_advice, try_settings_of_remotes)
 
 
 def main():

@@ -1,10 +1,10 @@
 #!/usr/bin/env python3
 """Gives the stored groups of lint.sample to the program refspec: tests/lint.py REFSPEC [LIBRARY]
 
-It has to warn of what is stored, and of nothing else. Then the plans of the library for C are asked: the two refs of each example
-have to conflict, and over lists of refs of a small alphabet (each ref alone, two refs with one destination, and a ref beside up to
-three candidates of partial names) just the stored specs conflict, or never do anything. LIBRARY is that of out/lib if it isn't
-given; where it isn't built, only the stored warnings are compared.
+It has to warn of what is stored, and of nothing else. Then the plans of the library for C are asked: the refs of each example have
+to conflict, and over lists of refs of a small alphabet (each ref alone, two refs with one destination or with one in the other's
+directory, and a ref beside up to three candidates of partial names) just the stored specs conflict, or never do anything. LIBRARY
+is that of out/lib if it isn't given; where it isn't built, only the stored warnings are compared.
 """
 import concurrent.futures
 import importlib
@@ -45,9 +45,9 @@ class Planner:
                  one.destination and one.destination.decode())
                 for one in self.plan(group, refs) if one.verdict in self.valid]
 
-    def conflict(self, group, refs):
-        """Whether a plan has a conflict."""
-        return any(one.verdict == self.module.Verdict.CONTESTED for one in self.plan(group, refs))
+    def has(self, verdict, group, refs):
+        """Whether a plan has an update with a verdict."""
+        return any(one.verdict == verdict for one in self.plan(group, refs))
 
 
 def differences(program, library, stored):
@@ -61,10 +61,15 @@ def differences(program, library, stored):
     if library is None:
         return None
     planner = Planner(library)
-    for pair, (one, other, _) in found.conflicts.items():
-        if not planner.conflict([group[index] for index in pair] + [spec for spec in group if spec[0]],
-                                [name for name in (one, other) if not lint.is_id(name)]):
-            return f"{one} and {other} don't conflict"
+    verdicts = planner.module.Verdict
+    for verdict, examples in ((verdicts.CONTESTED, found.conflicts), (verdicts.DIRECTORY_CONFLICT, found.nestings)):
+        for pair, (one, other, *_) in examples.items():
+            refs = [name for name in (one, other) if name and not lint.is_id(name)]
+            if not planner.has(verdict, [group[index] for index in pair] + [spec for spec in group if spec[0]], refs):
+                return f"{one} and {other} don't conflict"
+    nestings = lint.brute_nestings(group, planner.kept_validly)
+    if {tuple(sorted(pair)) for pair in found.nestings} != nestings:
+        return f"the library makes the directory conflicts {nestings}"
     conflicts, idle, idle_negative = lint.brute(group, planner.kept_validly)
     if set(found.conflicts) != conflicts or found.idle != idle:
         return f"the library makes the conflicts {conflicts} and the idle specs {idle}"
