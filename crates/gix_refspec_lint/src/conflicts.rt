@@ -131,7 +131,7 @@ fn conflict_between(
 }
 
 // Whether two specs have the same source and the same destination: then they map alike.
-fn have_same_sides(one: &RefSpecRef<'_>, other: &RefSpecRef<'_>) -> bool
+pub(super) fn have_same_sides(one: &RefSpecRef<'_>, other: &RefSpecRef<'_>) -> bool
     ensures { IsTrue result → ((reading_of one.now).source ≡ (reading_of other.now).source)
         × ((reading_of one.now).destination ≡ (reading_of other.now).destination) }
 {

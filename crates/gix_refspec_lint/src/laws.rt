@@ -63,8 +63,9 @@ pub fn nestings_shown(specs: &[RefSpecRef<'_>])
     ensures { NestingsShown (map reading_of specs.now) }
 {}
 
-/// If `possible_directory_conflicts` finds nothing, two mappings of `plan_fetch` that it doesn't leave out, and of which one has
-/// a destination in the directory of the other's, are of one spec, whatever refs a remote has.
+/// If `possible_directory_conflicts` finds nothing, and two mappings of `plan_fetch` that it doesn't leave out have destinations of
+/// which one is a directory of the other, some one spec makes both, whatever refs a remote has. Each of them may be listed as
+/// that of an earlier spec, which makes it too.
 pub fn nested_by_one(specs: &[RefSpecRef<'_>])
     ensures { NestedByOne (map reading_of specs.now) }
 {}

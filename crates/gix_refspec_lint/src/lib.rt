@@ -177,10 +177,10 @@ pub fn possible_conflicts(
 /// `refs/pull/*/head:refs/pr/*` alone writes `refs/pr/1` and `refs/pr/1/x` on a remote with `refs/pull/1/head` and
 /// `refs/pull/1/x/head`.
 ///
-/// Each two values are compared both ways. Two patterns of which the text before the star of one begins with that of the other
-/// are tried for each slash of the lower destination, and for one in the word of its star: with each of `words`, in their order,
-/// then at 32 names, and at each in which their texts overlap. The example is the first that is found. Fails if there is no free
-/// byte, or if memory runs out.
+/// Each two values that fetch anything are compared both ways, by the slash behind the directory: each one of the lower
+/// destination, and for a pattern also one in the word of its star. Where a directory or what is in it is of a pattern, it is
+/// tried with each of `words`, in their order, then at 32 names, and at each in which their texts overlap. The example is the first
+/// that is found. Fails if there is no free byte, or if memory runs out.
 pub fn possible_directory_conflicts(
     alloc: Global,
     fetch: &Configured<'_, '_>,

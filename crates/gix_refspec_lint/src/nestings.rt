@@ -1,24 +1,27 @@
 //! Specs of which one can write a ref in the directory of what the other writes.
 //!
 //! The slash behind the directory is in the text before the star of the lower destination, in the word for that star, or in
-//! the text after it. In the first case the directory is known; in the others it is a name that two patterns have in common.
+//! the text after it. In the first case the directory is known; in the others it is a name that two patterns have in
+// common.
 
 ghost use Rattle.std.specs.Prelude.{◌≡◌, ◌⊎◌, ◌<◌, ◌≤◌, ◌↔◌, ◌++◌, ◌∷◌, [], List, ℕ, Some, false, length, map, option_map, IfOk, IsTrue, MatchBool, MatchOption};
 ghost use Rattle.std.specs.List.{Contains, slice_get};
+ghost use Rattle.bstr.specs.BStr.{bstr_bytes};
 ghost use Rattle.bstr.specs.Owned.{bstring_bytes};
 ghost use Rattle.gix_refspec_text.specs.Texts.Bytes.{slash};
 ghost use Rattle.gix_refspec_text.specs.Texts.Words.{BeginsWith};
 ghost use Rattle.gix_refspec_text.specs.Specs.Reading.{Reading};
+ghost use Rattle.gix_refspec_text.specs.Views.Spec.{reading_of};
 ghost use Rattle.gix_refspec_match.specs.Matching.Lists.{IsMadeFrom};
 ghost use Rattle.gix_refspec_match.specs.Views.Mapping.{start_of};
 ghost use Rattle.gix_refspec_plan.specs.Matching.Plan.{CanBeWritten, IsDirectoryOf};
 ghost use Rattle.gix_refspec_lint.specs.Matching.Lint.{AreNestings, IsNesting, NestingOver, refs_of};
 ghost use Rattle.gix_refspec_lint.specs.Private.Lints.{AreApart, AreCommon, HasPattern, HaveParts, IsBounded, IsDeciding, IsGroupOf, words_with};
-ghost use Rattle.gix_refspec_lint.specs.Private.Nestings.{TellWork, AreWithin, HaveFollowed, IsAfter, IsFollowed, IsFoundEither, IsFoundIf, IsInWord, IsNestingFound, SourcesLack};
+ghost use Rattle.gix_refspec_lint.specs.Private.Nestings.{AreWithin, HaveFollowed, HaveOpenSides, IsAfter, IsFollowed, IsFoundEither, IsFoundIf, IsInWord, IsNestingFound, IsOpen, SourcesLack, TellWork};
 ghost use Rattle.gix_refspec_lint.specs.Views.Lint.{nesting_of};
 
 use super::PossibleDirectoryConflict;
-use super::conflicts::{Parts, is_fetched, parts_in};
+use super::conflicts::{Parts, have_same_sides, is_fetched, parts_in};
 use super::group::{Group, add_item, any_target, can_stand_together, makes, sources_for};
 use super::idle::{Others, idle_beside_others};
 use super::words::{Common, longer_prefix};
@@ -28,7 +31,7 @@ use gix_refspec_match::needle::word_between;
 use gix_refspec_plan::directories::is_directory_of;
 use gix_refspec_plan::mapped::is_below_refs;
 use gix_refspec_text::RefSpecRef;
-use gix_refspec_text::side::joined;
+use gix_refspec_text::side::{joined, split_at_first_star};
 use std::alloc::{AllocError, Global};
 
 // Two specs of a group, and the words to try first: does the upper one write a directory of what the lower one writes?
@@ -54,7 +57,8 @@ struct Names<'d, 'n> {
     nested: &'n [u8],
 }
 
-// The pairs of specs of which one can write a ref in the directory of what the other writes, by the first and then by the second.
+// The pairs of specs of which one can write a ref in the directory of what the other writes, by the first and then by
+// the second.
 pub(super) fn nestings_in(
     alloc: Global,
     group: &Group<'_, '_>,
@@ -211,7 +215,8 @@ fn nesting_below<'p>(
     below: (&'p [u8], &'p [u8]),
 ) -> Result<Option<PossibleDirectoryConflict>, AllocError>
     requires { AreWithin two.now }
-    ensures { (g : List Reading) → (is : IsGroupOf g two.now.group.now) → SourcesLack g is.letter two.now.upper directory.now →
+    ensures { (g : List Reading) → (is : IsGroupOf g two.now.group.now) →
+        SourcesLack g is.letter two.now.upper directory.now →
         HasPattern two.now.group.now two.now.lower below.entry.0.now below.entry.1.now →
         IfOk result (λ found. IsFoundIf g two.now.upper two.now.lower
         (λ d e. d ≡ directory.now) (option_map nesting_of found)) }
@@ -266,12 +271,16 @@ fn nesting_of_patterns<'p>(
     below: (&'p [u8], &'p [u8]),
 ) -> Result<Option<PossibleDirectoryConflict>, AllocError>
     requires { AreWithin two.now }
-    ensures { (g : List Reading) → (is : IsGroupOf g two.now.group.now) → HasPattern two.now.group.now two.now.upper above.entry.0.now above.entry.1.now →
+    ensures { (g : List Reading) → (is : IsGroupOf g two.now.group.now) →
+        HasPattern two.now.group.now two.now.upper above.entry.0.now above.entry.1.now →
         HasPattern two.now.group.now two.now.lower below.entry.0.now below.entry.1.now →
         IfOk result (λ found. IsFoundIf g two.now.upper two.now.lower
         (λ d e. Unit {0}) (option_map nesting_of found)) }
 {
     if longer_prefix(above.0, below.0).is_none() {
+        return Ok(None);
+    }
+    if have_open_sides(spec_at(two.group, two.upper), spec_at(two.group, two.lower)) {
         return Ok(None);
     }
     if let Some(found) = nesting_before(alloc, two, above, below)? {
@@ -283,6 +292,27 @@ fn nesting_of_patterns<'p>(
     nesting_after(alloc, two, above, below)
 }
 
+// Whether two specs have the same sides, and each ends with its star: then they write a ref and one in its directory only
+// from such sources, and no remote has both.
+fn have_open_sides(one: &RefSpecRef<'_>, other: &RefSpecRef<'_>) -> bool
+    ensures { IsTrue result → HaveOpenSides (reading_of one.now) (reading_of other.now) }
+{
+    have_same_sides(one, other) && is_open(other.source()) && is_open(other.destination())
+}
+
+// Whether a side is a pattern that ends with its star.
+fn is_open(side: Option<BStr<'_>>) -> bool
+    ensures { IsTrue result → IsOpen (option_map bstr_bytes side.entry) }
+{
+    match side {
+        None => false,
+        Some(side) => match split_at_first_star(side.as_bytes()) {
+            None => false,
+            Some((_, end)) => end.is_empty(),
+        },
+    }
+}
+
 // The same with the slash in the word: any word may follow it.
 fn nesting_in_word<'p>(
     alloc: Global,
@@ -291,7 +321,8 @@ fn nesting_in_word<'p>(
     below: (&'p [u8], &'p [u8]),
 ) -> Result<Option<PossibleDirectoryConflict>, AllocError>
     requires { AreWithin two.now }
-    ensures { (g : List Reading) → (is : IsGroupOf g two.now.group.now) → HasPattern two.now.group.now two.now.upper above.entry.0.now above.entry.1.now →
+    ensures { (g : List Reading) → (is : IsGroupOf g two.now.group.now) →
+        HasPattern two.now.group.now two.now.upper above.entry.0.now above.entry.1.now →
         HasPattern two.now.group.now two.now.lower below.entry.0.now below.entry.1.now →
         IfOk result (λ found. IsFoundIf g two.now.upper two.now.lower
         (λ d e. IsInWord below.entry.0.now below.entry.1.now d e) (option_map nesting_of found)) }
@@ -347,7 +378,8 @@ fn nesting_before<'p>(
     below: (&'p [u8], &'p [u8]),
 ) -> Result<Option<PossibleDirectoryConflict>, AllocError>
     requires { AreWithin two.now }
-    ensures { (g : List Reading) → (is : IsGroupOf g two.now.group.now) → HasPattern two.now.group.now two.now.upper above.entry.0.now above.entry.1.now →
+    ensures { (g : List Reading) → (is : IsGroupOf g two.now.group.now) →
+        HasPattern two.now.group.now two.now.upper above.entry.0.now above.entry.1.now →
         HasPattern two.now.group.now two.now.lower below.entry.0.now below.entry.1.now →
         IfOk result (λ found. IsFoundIf g two.now.upper two.now.lower
         (λ d e. BeginsWith (d ++ slash ∷ []) below.entry.0.now) (option_map nesting_of found)) }
@@ -373,7 +405,8 @@ fn nesting_after<'p>(
     below: (&'p [u8], &'p [u8]),
 ) -> Result<Option<PossibleDirectoryConflict>, AllocError>
     requires { AreWithin two.now }
-    ensures { (g : List Reading) → (is : IsGroupOf g two.now.group.now) → HasPattern two.now.group.now two.now.upper above.entry.0.now above.entry.1.now →
+    ensures { (g : List Reading) → (is : IsGroupOf g two.now.group.now) →
+        HasPattern two.now.group.now two.now.upper above.entry.0.now above.entry.1.now →
         HasPattern two.now.group.now two.now.lower below.entry.0.now below.entry.1.now →
         IfOk result (λ found. IsFoundIf g two.now.upper two.now.lower
         (λ d e. IsAfter below.entry.0.now below.entry.1.now d e) (option_map nesting_of found)) }

@@ -6,8 +6,8 @@ use Rattle.gix_refspec_lint.proofs.Common.{Bor, Fits, HaveParts, IsFree, RefSpec
 use Rattle.std.proofs.Math.Seq.{get_or-append_seam, take-append_seam}
 use Rattle.std.proofs.lemmas.List.{drop_more}
 use Rattle.std.proofs.Common.{option_copied}
-use Rattle.gix_refspec_lint.proofs.Common.{IsLongerPrefix, length-drop, take_all, ◌-◌, append_cancel_left, not, true, Bool, false, false≢true, is_some, MatchOption, get_or_from_slice_get, take-append-drop}
-use Rattle.gix_refspec_lint.proofs.lemmas.{FoundLemmas.{makes_also, parts_at, unsplit_lacks}, IndexLemmas.{accepted_of, reading_at, maps_of, one_completed, zip_of, of_maps}}
+use Rattle.gix_refspec_lint.proofs.Common.{HasName, IsLongerPrefix, split_once, length-drop, take_all, ◌-◌, append_cancel_left, not, true, Bool, false, false≢true, is_some, MatchOption, get_or_from_slice_get, take-append-drop}
+use Rattle.gix_refspec_lint.proofs.lemmas.{FoundLemmas.{makes_also, parts_at, unsplit_lacks}, IndexLemmas.{IsThere, accepted_of, made_there, reading_at, maps_of, one_completed, zip_of, of_maps}}
 use Rattle.gix_refspec_lint.proofs.lemmas.{MovedLemmas.{lacks_destination, lacks_parts, lacks_source}, PatternLemmas.{MapsPattern, maps_pattern}, SourceLemmas.{source_unsplit, taken_cases}}
 use Rattle.gix_refspec_lint.proofs.lemmas.NestLemmas.{candidates_lack, after_star, before_star, decided_below, decided_followed, in_word, slash_of, word_freed}
 use Rattle.gix_refspec_lint.specs.Matching.Lint.{IsNesting, IsNestingOf, Nesting, NestingOver}
@@ -16,7 +16,7 @@ use Rattle.std.proofs.lemmas.Option.{same_Some}
 use Rattle.gix_refspec_lint.specs.declared.idle.Idleness.{Idleness}
 use Rattle.gix_refspec_lint.specs.declared.idle.Idleness.TheVariants as idleness
 use Rattle.gix_refspec_lint.specs.Private.Idles.{IsWhyBeside}
-use Rattle.gix_refspec_lint.specs.Private.Nestings.{HaveFollowed, IsAfter, IsFollowed, IsFoundEither, IsFoundIf, IsInWord, IsNestingFound, IsWithout, NoneNested, SourcesLack, TellWork}
+use Rattle.gix_refspec_lint.specs.Private.Nestings.{HaveFollowed, HaveOpenSides, IsAfter, IsFollowed, IsFoundEither, IsFoundIf, IsInWord, IsNestingFound, IsWithout, NoneNested, SourcesLack, TellWork}
 
 -- ---- lists of what is found
 
@@ -125,6 +125,11 @@ both_ways g i j (Some n) none shown = inr shown
 e_begins : (d a w e after : List ℕ) → d ≡ a ++ w → e ≡ (d ++ slash ∷ []) ++ after → e ≡ a ++ (w ++ (slash ∷ after))
 e_begins d a w e after fits here = here ∙ append_assoc d (slash ∷ []) after ∙ ap (λ x. x ++ (slash ∷ after)) fits ∙ append_assoc a w (slash ∷ after)
 
+-- the reading of the spec at an index
+pub reading_of_spec : (cs : List RefSpecRef) (k : ℕ) (x : RefSpecRef) → slice_get cs k ≡ Some x
+    → slice_get (map reading_of cs) k ≡ Some (reading_of x)
+reading_of_spec cs k x at = slice_get-map reading_of cs k ∙ ap (option_map reading_of) at
+
 -- what a spec with a destination pattern fetches
 module _ (g : List Reading) (group : Group) (is : IsGroupOf g group) (k : ℕ) (p q : List ℕ) (has : HasPattern group k p q) (refs : List Ref) (s : Source) (d : List ℕ) (f : Fetches g refs k s (Some d)) where
   same_reading : has.reading ≡ f.maps.maps.completed
@@ -138,6 +143,22 @@ module _ (g : List Reading) (group : Group) (is : IsGroupOf g group) (k : ℕ) (
 
   pub fetched_so : MapsPattern f.maps.maps.completed p q s d
   fetched_so = maps_pattern f.maps.maps.completed accepted_so has.destination p q destination_so has.split refs s d f.maps.maps.makes
+
+  -- a side that ends with its star: the text before that, and the word
+  source_open : (x before : List ℕ) → has.reading.source ≡ Some x → IsSplit before [] x → s ≡ name (before ++ fetched_so.word)
+  source_open x before source split =
+      let m = fetched_so in
+      let same : m.side.text ≡ x = same_Some _ _ (sym m.side.has ∙ subst (λ r. r.source ≡ Some x) same_reading source) in
+      let (front, back) = split_once x m.before m.after before [] (subst (IsSplit m.before m.after) same m.side.split) split in
+      m.source ∙ ap (λ y. name (m.before ++ (m.word ++ y))) back ∙ ap (λ y. name (y ++ (m.word ++ []))) front
+      ∙ ap (λ y. name (before ++ y)) (append-nil m.word)
+
+  destination_open : (x folder : List ℕ) → has.reading.destination ≡ Some x → IsSplit folder [] x → d ≡ folder ++ fetched_so.word
+  destination_open x folder destination split =
+      let m = fetched_so in
+      let same : has.destination ≡ x = same_Some _ _ (sym has.has ∙ destination) in
+      let (front, back) = split_once x p q folder [] (subst (IsSplit p q) same has.split) split in
+      m.fits ∙ ap (λ y. p ++ (m.word ++ y)) back ∙ ap (λ y. y ++ (m.word ++ [])) front ∙ ap (λ y. folder ++ y) (append-nil m.word)
 
 module _ (g : List Reading) (group : Group) (is : IsGroupOf g group) (i j : ℕ) where
   module _ (d : List ℕ) (p q : List ℕ) (lower : HasPattern group j p q) where
@@ -238,6 +259,37 @@ module _ (g : List Reading) (group : Group) (is : IsGroupOf g group) (i j : ℕ)
         let one = fetched_so g group is i a b upper refs s d k.upper in
         let other = fetched_so g group is j p q lower refs t e k.lower in
         apart e (record { after = (one.word ++ b) ++ (slash ∷ k.nested.after); here = e_begins d a (one.word ++ b) e k.nested.after one.fits k.nested.here }) (record { after = other.word ++ q; here = other.fits })
+
+    -- two patterns with the same sides, and stars at their ends: what one writes is in the directory of what the other writes
+    -- only if their sources are so too
+    pub none_open : (above below : RefSpecRef) → slice_get group.specs.now i ≡ Some above → slice_get group.specs.now j ≡ Some below
+        → HaveOpenSides (reading_of above) (reading_of below) → IsNestingFound g i j None
+    none_open above below at also same d e told s t k =
+        let upper_is : reading_of above ≡ upper.reading = same_Some _ _ (sym (reading_of_spec group.specs.now i above at) ∙ upper.at) in
+        let lower_is : reading_of below ≡ lower.reading = same_Some _ _ (sym (reading_of_spec group.specs.now j below also) ∙ lower.at) in
+        let refs = refs_of s ++ refs_of t in
+        let one = fetched_so g group is i a b upper refs s d k.upper in
+        let other = fetched_so g group is j p q lower refs t e k.lower in
+        let (x, before, from, source) = same.from in
+        let (y, folder, to, destination) = same.to in
+        let upper_source = source_open g group is i a b upper refs s d k.upper x before
+        (subst (λ r. r.source ≡ Some x) upper_is (same.source ∙ from)) source in
+        let lower_source = source_open g group is j p q lower refs t e k.lower x before
+        (subst (λ r. r.source ≡ Some x) lower_is from) source in
+        let directory = destination_open g group is i a b upper refs s d k.upper y folder
+        (subst (λ r. r.destination ≡ Some y) upper_is (same.destination ∙ to)) destination in
+        let nested = destination_open g group is j p q lower refs t e k.lower y folder
+        (subst (λ r. r.destination ≡ Some y) lower_is to) destination in
+        let after = slash ∷ k.nested.after in
+        let word : other.word ≡ one.word ++ after =
+        append_cancel_left folder _ _ (sym nested ∙ e_begins d folder one.word e k.nested.after directory k.nested.here) in
+        let here : HasName refs (before ++ one.word) = subst (IsThere refs) upper_source
+        (made_there refs s (Some d) k.upper.maps.maps.completed k.upper.maps.maps.makes) in
+        let there : HasName refs (before ++ other.word) = subst (IsThere refs) lower_source
+        (made_there refs t (Some e) k.lower.maps.maps.completed k.lower.maps.maps.makes) in
+        let behind : before ++ other.word ≡ ((before ++ one.word) ++ slash ∷ []) ++ k.nested.after =
+        ap (λ w. before ++ w) word ∙ simp append_assoc in
+        k.storable _ _ here there (record { after = k.nested.after; here = behind })
 
     -- a directory that lacks the byte is written only from such sources
     pub sources_lack : (d : List ℕ) → Lacks is.letter d → SourcesLack g is.letter i d
@@ -411,10 +463,7 @@ pattern_at g group k z within parts have p at =
     let (d, has, split) = parts_at group.specs.now parts k z (Some p) have within at in
     record { reading = reading_of (get_or group.specs.now k z); at = reading_at group.specs.now k z within; destination = d; has = has; split = split }
 
--- what is known of the spec at an index
-pub reading_of_spec : (cs : List RefSpecRef) (k : ℕ) (x : RefSpecRef) → slice_get cs k ≡ Some x → slice_get (map reading_of cs) k ≡ Some (reading_of x)
-reading_of_spec cs k x at = slice_get-map reading_of cs k ∙ ap (option_map reading_of) at
-
+-- what is known of that spec
 module _ (g : List Reading) (group : Group) (is : IsGroupOf g group) (k : ℕ) (x : RefSpecRef) (at : slice_get group.specs.now k ≡ Some x) where
   pub completed_spec : (r : Reading) × IsCompleted r (reading_of x)
   completed_spec = let (r, here, done) = zip_of g (map reading_of group.specs.now) is.completed k (reading_of x) (reading_of_spec group.specs.now k x at) in (r, done)

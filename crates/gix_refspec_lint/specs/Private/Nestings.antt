@@ -1,10 +1,11 @@
 -- Two specs of which one may write a directory of what the other writes. Only private functions use these definitions.
-use Rattle.std.specs.Prelude.{◌≡◌, ◌⊎◌, ◌<◌, ℕ, Bool, false, List, ◌∷◌, ◌++◌, length, Option, None, Some}
+use Rattle.std.specs.Prelude.{◌≡◌, ◌⊎◌, ◌<◌, ℕ, Bool, false, List, [], ◌∷◌, ◌++◌, length, Option, None, Some}
 use Rattle.std.specs.List.{slice_get}
 use Rattle.gix_refspec_lint.specs.declared.group.Group.{Group}
 use Rattle.gix_refspec_lint.specs.declared.nestings.Two.{Two}
 use Rattle.gix_refspec_lint.specs.declared.words.Common.{Common}
 use Rattle.gix_refspec_text.specs.Texts.Bytes.{slash}
+use Rattle.gix_refspec_text.specs.Texts.Name.{IsSplit}
 use Rattle.gix_refspec_text.specs.Texts.Words.{Lacks}
 use Rattle.gix_refspec_text.specs.Specs.Reading.{Reading}
 use Rattle.gix_refspec_text.specs.Matching.Match.{Ref}
@@ -39,6 +40,17 @@ IsNestingFound g i j found = IsFoundIf g i j (λ d e. Unit {0}) found
 abbrev pub IsFoundEither : List Reading → ℕ → ℕ → Option Nesting → Type 0
 IsFoundEither g i j None = (d e : List ℕ) → NoneNested g i j d e × NoneNested g j i d e
 IsFoundEither g i j (Some n) = IsNestingOf g i j n ⊎ IsNestingOf g j i n
+
+-- the side is a pattern that ends with its star
+abbrev pub IsOpen : Option (List ℕ) → Type 0
+IsOpen side = (x : List ℕ) × (before : List ℕ) × (side ≡ Some x) × IsSplit before [] x
+
+-- both readings have the same sides, two such patterns
+pub record HaveOpenSides (one other : Reading) : Type 0 where
+  pub source : one.source ≡ other.source
+  pub destination : one.destination ≡ other.destination
+  pub from : IsOpen other.source
+  pub to : IsOpen other.destination
 
 -- the source isn't a name with the byte
 abbrev pub IsWithout : ℕ → Source → Type 0

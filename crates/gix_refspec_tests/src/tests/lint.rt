@@ -551,6 +551,10 @@ const NESTINGS: &[(&str, &str)] = &[
     ),
     ("refs/heads/*:refs/x/* refs/heads/*:refs/x/*", ""),
     (
+        "refs/pull/*/head:refs/pr/* refs/pull/*/head:refs/pr/*",
+        "0 refs/pull/main/head refs/pr/main, 1 refs/pull/main/main/head refs/pr/main/main",
+    ),
+    (
         "refs/heads/*:refs/x/* refs/tags/*:refs/x/*",
         "0 refs/heads/main refs/x/main, 1 refs/tags/main/main refs/x/main/main",
     ),
