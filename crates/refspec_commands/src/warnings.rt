@@ -20,6 +20,7 @@ mod effects;
 mod group;
 mod idle;
 mod near;
+mod required;
 mod rules;
 
 use crate::specs::report_specs;

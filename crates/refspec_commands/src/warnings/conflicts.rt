@@ -14,6 +14,7 @@ ghost use Rattle.refspec_commands.specs.WarnedViews.{SpecsMatchTexts, asked_of, 
 
 use super::beside::{Beside, values_alone};
 use super::group::Group;
+use super::required::{Part, required_name, say_if_stopped};
 use super::{Topic, Warning, or_nothing, say};
 use bstr::BStr;
 use gix_refspec::match_group::Source;
@@ -164,11 +165,11 @@ pub(super) fn usual_words(
     let mut words = Vec::new(alloc);
     for (source, word) in USUAL {
         if specs.iter().any(|spec| is_source(spec, source)) {
-            words.push(BStr::new(word))?;
+            add_word(specs, word, &mut words)?;
         }
     }
     if specs.iter().any(|spec| has_suffix(spec)) {
-        words.push(BStr::new(b"7"))?;
+        add_word(specs, b"7", &mut words)?;
     }
     for word in [
         b"topic".as_slice(),
@@ -178,9 +179,32 @@ pub(super) fn usual_words(
         b"7/head",
         b"34/1234/1",
     ] {
-        words.push(BStr::new(word))?;
+        add_word(specs, word, &mut words)?;
     }
     Ok(words)
+}
+
+// Adds a word, unless a ref that a spec requires ends with it: an example with that word may need a remote without the ref.
+fn add_word(
+    specs: &[RefSpecRef<'_>],
+    word: &'static [u8],
+    words: &mut Vec<BStr<'static>>,
+) -> Result<(), AllocError> {
+    if specs.iter().any(|spec| requires_word(spec, word)) {
+        return Ok(());
+    }
+    Ok(words.push(BStr::new(word))?)
+}
+
+// Whether a spec requires a ref whose last words are these.
+fn requires_word(spec: &RefSpecRef<'_>, word: &[u8]) -> bool {
+    match required_name(spec) {
+        None => false,
+        Some(name) => match name.as_bytes().strip_suffix(word) {
+            None => false,
+            Some(folder) => folder.ends_with(b"/"),
+        },
+    }
 }
 
 fn is_source(spec: &RefSpecRef<'_>, source: &[u8]) -> bool {
@@ -201,8 +225,27 @@ fn has_suffix(spec: &RefSpecRef<'_>) -> bool {
     }
 }
 
-// Advises to exclude what conflicts, if that is all that it takes.
+// Advises what prevents a conflict.
 fn write_advice(
+    alloc: Global,
+    group: &Group<'_>,
+    conflict: &PossibleConflict,
+    out: &mut Vec<u8>,
+) -> Result<(), AllocError> {
+    write_way_out(alloc, group, conflict, out)?;
+    let first = Part {
+        spec: conflict.first_spec,
+        source: &conflict.first_source,
+    };
+    let second = Part {
+        spec: conflict.second_spec,
+        source: &conflict.second_source,
+    };
+    say_if_stopped(alloc, group, [first, second], out)
+}
+
+// Advises to exclude what conflicts, if that is all that it takes.
+fn write_way_out(
     alloc: Global,
     group: &Group<'_>,
     conflict: &PossibleConflict,

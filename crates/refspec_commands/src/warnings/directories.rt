@@ -14,6 +14,7 @@ use super::conflicts::{
     add_more, beside_negatives, leaves_all, negative_spec, tried_specs, usual_words, with_exclusion,
 };
 use super::group::Group;
+use super::required::{Part, say_if_stopped};
 use super::{Topic, Warning, or_nothing, say};
 use gix_refspec::RefSpecRef;
 use gix_refspec::match_group::{Source, SourceRef};
@@ -130,8 +131,27 @@ fn write_sources(
     say(out, " and ", lower)
 }
 
-// Advises to exclude the source that is in the way, if it is the only one.
+// Advises what prevents a directory conflict.
 fn write_advice(
+    alloc: Global,
+    group: &Group<'_>,
+    conflict: &PossibleDirectoryConflict,
+    out: &mut Vec<u8>,
+) -> Result<(), AllocError> {
+    write_way_out(alloc, group, conflict, out)?;
+    let upper = Part {
+        spec: conflict.upper_spec,
+        source: &conflict.upper_source,
+    };
+    let lower = Part {
+        spec: conflict.lower_spec,
+        source: &conflict.lower_source,
+    };
+    say_if_stopped(alloc, group, [upper, lower], out)
+}
+
+// Advises to exclude the source that is in the way, if it is the only one.
+fn write_way_out(
     alloc: Global,
     group: &Group<'_>,
     conflict: &PossibleDirectoryConflict,
