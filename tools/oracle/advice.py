@@ -45,6 +45,7 @@ PLUS = re.compile(r"write `\+` before the earlier")
 EXCLUDE = re.compile(r"(?:by|and) (\^\S+)")
 EXCLUDE_FIRST = re.compile(r"Exclude the first source by \^(\S+)")
 BOTH = re.compile(r"both sides in full: (\S+:\S+), if")
+STOPPED = re.compile(r" \(git fetch from such a remote stops first, for want of \S+\)$")
 WRITE = re.compile(r"[Ww]rite (\^?refs/\S*?)(?:,|\.|;|$| )")
 SETTING = re.compile(r"git config (\S+) (?:'([^']*)'|(\S+))")
 
@@ -256,15 +257,6 @@ def own_refs(values):
     return [name.decode() for name in found if name.startswith(b"refs/") and gitknown.is_ref_name(name)]
 
 
-def required(values, names):
-    """A ref of the remote for each value that names its source, and finds none among these names."""
-    there = {name.encode() for name in names}
-    sources = [gitknown.split(one.encode()).source.decode() for one in values if not one.startswith("^")]
-    full = {"HEAD": "refs/heads/main", "tags/v1": "refs/tags/v1"}
-    lacking = [one for one in sources if "*" not in one and not gitknown.first_name(one.encode(), there)]
-    return [full.get(one, one if one.startswith("refs/") else "refs/heads/" + one) for one in lacking]
-
-
 def taken_by(values, names):
     """Each value that names its source, with the ref that it takes."""
     there = {name.encode() for name in names}
@@ -279,6 +271,28 @@ def without_clashes(names):
         if not any(one == other or gitleft.clash(one, other) for other in kept):
             kept.append(one)
     return kept
+
+
+def with_required(values, names):
+    """These names, and a ref for each value that names its source and finds none, if a remote can have that too and these names are
+    still what the values take."""
+    kept = list(names)
+    for source in (gitknown.split(one.encode()).source.decode() for one in values if "*" not in one and not one.startswith("^")):
+        if gitknown.first_name(source.encode(), {name.encode() for name in kept}):
+            continue
+        found = (one for one in places_of(source) if without_clashes([*kept, one])[-1] == one
+                 and not taken_by(values, names) - taken_by(values, [*kept, one]))
+        kept += [one for one in [next(found, None)] if one]
+    return kept
+
+
+def places_of(source):
+    """Refs of a remote that a source without a star may mean."""
+    if source == "HEAD":
+        return ["refs/heads/main", "refs/tags/HEAD"]
+    if source.startswith("refs/"):
+        return [source]
+    return ["refs/" + folder + source for folder in ([""] if source.startswith("tags/") else []) + ["heads/", "tags/", "remotes/"]]
 
 
 class Advised:
@@ -354,13 +368,11 @@ class Advised:
         names = [name for name in (one, other) if name]
         if any(name.endswith("/HEAD") for name in names):
             return None
-        refs = without_clashes([*names, *required(config.values, names)])
-        if taken_by(config.values, names) - taken_by(config.values, refs):
-            # what another value needs hides the example, so without it Git misses that first
-            refs = without_clashes(names)
-        done = self.done(config, refs, [], ["o"])
-        if any("couldn't find remote ref" in line for line in done.said):
-            return None
+        done = self.done(config, with_required(config.values, names), [], ["o"])
+        # a remote with the example may lack what a value requires, and Git misses that first
+        is_stopped = any("couldn't find remote ref" in line for line in done.said)
+        if is_stopped or STOPPED.search(warning["advice"]):
+            return None if is_stopped and STOPPED.search(warning["advice"]) else (names, ["o"], done, done)
         # Git names one conflict: this one, another of two values, or one with a tag that is followed
         both = [line for line in done.said if "Cannot fetch both" in line]
         if is_conflict:
@@ -368,7 +380,7 @@ class Advised:
             is_so = any(has_others or line.endswith(" to " + written[0]) or " to refs/tags/" in line for line in both)
         else:
             is_so = bool(both) or done.status == 1 and len(set(written) & set(done.refs)) == 1
-        return None if is_so else (refs, ["o"], done, done)
+        return None if is_so else (names, ["o"], done, done)
 
     def left_warnings(self, config, advice):
         """The warnings that are left: this one, after an exclusion that a spec does nothing which did something, or that a value is
