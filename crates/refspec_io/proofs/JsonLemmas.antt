@@ -14,7 +14,8 @@ use Rattle.refspec_io.specs.declared.call.Form.TheVariants as form
 use Rattle.refspec_io.specs.declared.texts.Location.{Location}
 use Rattle.refspec_io.specs.declared.texts.Location.TheVariants as location
 use Rattle.refspec_io.specs.declared.texts.Text.{Text}
-use Rattle.refspec_io.specs.Json.{AddsObjects, AddsRefusal, AreInOrder, IsRefusedLine, WritesRefused, WritesSpec, begins_quoted, json_text, operation_name}
+use Rattle.refspec_io.specs.Json.{AddsObjects, AddsRefusal, AreInOrder, IsRefusedLine, ShowsWrong}
+use Rattle.refspec_io.specs.Json.{WritesRefused, WritesSpec, begins_quoted, json_text, operation_name}
 use Rattle.refspec_io.specs.Messages.{IsLocation}
 use Rattle.refspec_io.specs.Shown.{IsQuoted, escaped, in_quotes}
 use Rattle.refspec_io.proofs.ShownLemmas.{behind}
@@ -181,10 +182,24 @@ AddsObjects-refusal {X} form.Json Reports x t e old new gives write = AddsObject
 
 -- ---- the object of a refusal, and of a spec
 
-pub WritesRefused-of : (t : Text) (e : Error) (at purpose text reason sentence : List ℕ) (side part : Option (List ℕ)) (index : Option ℕ) (advice old new : List ℕ) → IsLocation form.Json t.location at → purpose ≡ operation_name t.operation → text ≡ json_text t.bytes.now → reason ≡ reason_name e → sentence ≡ explained e → new ≡ old ++ line_of (refused_object at purpose text reason sentence side part index advice) → WritesRefused t e old new
-WritesRefused-of t e at purpose text reason sentence side part index advice old new is_location is_purpose is_text is_reason is_sentence write = (
+pub WritesRefused-of : (t : Text) (e : Error) (at purpose text reason sentence : List ℕ) (side part : Option (List ℕ))
+    (index : Option ℕ) (advice old new : List ℕ) → IsLocation form.Json t.location at
+    → ShowsWrong t.operation t.bytes.now side part index → purpose ≡ operation_name t.operation
+    → text ≡ json_text t.bytes.now → reason ≡ reason_name e → sentence ≡ explained e
+    → new ≡ old ++ line_of (refused_object at purpose text reason sentence side part index advice)
+    → WritesRefused t e old new
+WritesRefused-of t e at purpose text reason sentence side part index advice old new is_location is_wrong is_purpose is_text is_reason is_sentence write = (
   line_of (refused_object at (operation_name t.operation) (json_text t.bytes.now) (reason_name e) (explained e) side part index advice),
-  record { location = at; side = side; part = part; index = index; advice = advice; is_location = is_location; is = refl },
+  record {
+    location = at;
+    side = side;
+    part = part;
+    index = index;
+    advice = advice;
+    is_location = is_location;
+    is_wrong = is_wrong;
+    is = refl;
+  },
   write ∙ (ap (λ x. old ++ line_of (refused_object at x text reason sentence side part index advice)) is_purpose
       ∙ (ap (λ x. old ++ line_of (refused_object at (operation_name t.operation) x reason sentence side part index advice)) is_text
       ∙ (ap (λ x. old ++ line_of (refused_object at (operation_name t.operation) (json_text t.bytes.now) x sentence side part index advice)) is_reason

@@ -15,6 +15,7 @@ use Rattle.refspec_io.specs.Messages.{AreRefusals, AreReportedOf, WritesLocation
 use Rattle.refspec_io.specs.Read.{IsChecked}
 use Rattle.refspec_io.specs.Shown.{WritesQuoted}
 use Rattle.refspec_io.specs.Texts.{given_of}
+use Rattle.refspec_io.specs.Wrong.{WritesDetails}
 use Rattle.refspec_io.proofs.ShownLemmas.{behind}
 
 -- the location, the text and the reason, in order
@@ -32,6 +33,15 @@ WritesReason-of t e sentence old a b c d f new where_ one what two why three end
     ∙ (append_assoc (where_.0 ++ codes ": ") what.0 (codes ": " ++ (explained e ++ 10 ∷ []))
     ∙ append_assoc where_.0 (codes ": ") (what.0 ++ (codes ": " ++ (explained e ++ 10 ∷ []))))) in
     (line, record { at = where_.0; text = what.0; is_spot = where_.1; is_text = what.1; is = refl }, to_new ∙ ap (λ l. old ++ l) same)
+
+-- the first line of a refusal, and then the others
+pub WritesRefusal-of : (t : Text) (e : Error) (old mid new : List ℕ)
+    → WritesReason t e old mid → WritesDetails t mid new → WritesRefusal t e old new
+WritesRefusal-of t e old mid new (line, reason, first) (wrong, advice, is_wrong, rest) = (
+  line ++ (wrong ++ advice),
+  record { reason = line; wrong = wrong; advice = advice; is_reason = reason; is_wrong = is_wrong; are = refl },
+  behind old line mid (wrong ++ advice) new first rest,
+)
 
 -- the refusals of some texts, and then those of others
 ReportsRefusals-append : (f : Form) (xs ys : List Checked) (old mid new : List ℕ) → ReportsRefusals f xs old mid → ReportsRefusals f ys mid new → ReportsRefusals f (xs ++ ys) old new
@@ -67,8 +77,11 @@ reported_lines f writes (t ∷ texts) (checked.Good text spec ∷ all) old new i
 reported_lines f writes (t ∷ texts) (checked.Bad text error ∷ all) old new is reported =
     let write = subst (λ (x : Text). WritesRefusal x error old reported.0) is.0.0 (writes text error old reported.0 reported.1) in
     let rest = reported_lines f writes texts all reported.0 new is.1 reported.2 in
-    let one = write.0 ++ write.1 in
-    (one ++ rest.0, (one, rest.0, inl (error, write.0, write.1, is.0.1, write.2, refl), rest.1, refl), behind old one reported.0 rest.0 new write.3 rest.2)
+    let one = write.0 in (
+      one ++ rest.0,
+      (one, rest.0, inl (error, is.0.1, write.1), rest.1, refl),
+      behind old one reported.0 rest.0 new write.2 rest.2,
+    )
 
 -- in JSON there is no message
 none_reported : (all : List Checked) (old new : List ℕ) → ReportsRefusals form.Json all old new → new ≡ old

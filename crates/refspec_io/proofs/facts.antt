@@ -13,3 +13,4 @@ pub mod RowFacts
 pub mod SettingFacts
 pub mod ShownFacts
 pub mod TextFacts
+pub mod WrongFacts

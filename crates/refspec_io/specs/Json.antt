@@ -1,16 +1,19 @@
 -- How bytes become JSON strings, and the objects of texts, in the terms of `refspec_json`. This project's own rule.
-use Rattle.std.specs.Prelude.{◌≡◌, ℕ, Bool, false, not, cond, ◌||◌, ◌==◌, List, [], ◌∷◌, ◌++◌, Option, codes}
+use Rattle.std.specs.Prelude.{◌≡◌, ℕ, Bool, false, not, cond, ◌||◌, ◌==◌, List, [], ◌∷◌, ◌++◌, codes}
+use Rattle.std.specs.Prelude.{Option, None, Some}
 use Rattle.std.specs.Str.{is_utf8}
 use Rattle.refspec_json.specs.Objects.{line_of, refused_object, spec_object}
 use Rattle.gix_refspec_text.specs.declared.parsing.Error.{Error}
 use Rattle.gix_refspec_text.specs.declared.parsing.Operation.{Operation}
 use Rattle.gix_refspec_text.specs.declared.parsing.Operation.TheVariants as operation
+use Rattle.gix_refspec_text.specs.declared.parsing.Span.{Span}
 use Rattle.gix_refspec_text.specs.Specs.Explained.{explained, reason_name}
 use Rattle.refspec_io.specs.declared.call.Form.{Form}
 use Rattle.refspec_io.specs.declared.call.Form.TheVariants as form
 use Rattle.refspec_io.specs.declared.texts.Text.{Text}
 use Rattle.refspec_io.specs.Messages.{IsLocation}
 use Rattle.refspec_io.specs.Shown.{in_quotes}
+use Rattle.refspec_io.specs.Wrong.{OfWrongBytes, bytes_in, number_in, side_name}
 
 -- whether bytes begin with a double quote
 abbrev pub begins_quoted : List ℕ → Bool
@@ -26,8 +29,19 @@ abbrev pub operation_name : Operation → List ℕ
 operation_name operation.Fetch = codes "fetch"
 operation_name operation.Push = codes "push"
 
--- the object of a refusal, as a line: the location of the text, its operation, the text, and the reason with its
--- sentence; which part is wrong, its index, and the advice are left open
+-- the side, the part and the index of an object show the bytes of a text in a span
+abbrev pub ShowsSpan : List ℕ → Option (List ℕ) → Option (List ℕ) → Option ℕ → Span → Type 0
+ShowsSpan text side part index span =
+    (side ≡ Some (side_name span.side)) × (part ≡ Some (json_text (bytes_in text span)))
+    × (index ≡ Some (number_in span))
+
+-- they show the wrong bytes of the text for the operation; if no bytes are wrong, all are missing
+abbrev pub ShowsWrong : Operation → List ℕ → Option (List ℕ) → Option (List ℕ) → Option ℕ → Type 0
+ShowsWrong op text side part index =
+    OfWrongBytes op text (ShowsSpan text side part index) ((side ≡ None) × (part ≡ None) × (index ≡ None))
+
+-- the object of a refusal, as a line: the location of the text, its operation, the text, the reason with its sentence,
+-- and the wrong bytes; the advice is left open
 pub record IsRefusedLine (t : Text) (e : Error) (line : List ℕ) : Type 0 where
   pub location : List ℕ
   pub side : Option (List ℕ)
@@ -35,6 +49,7 @@ pub record IsRefusedLine (t : Text) (e : Error) (line : List ℕ) : Type 0 where
   pub index : Option ℕ
   pub advice : List ℕ
   pub is_location : IsLocation form.Json t.location location
+  pub is_wrong : ShowsWrong t.operation t.bytes.now side part index
   pub is : line ≡ line_of (refused_object location (operation_name t.operation) (json_text t.bytes.now) (reason_name e) (explained e) side part index advice)
 
 -- bytes grew by that line

@@ -10,3 +10,4 @@ pub mod Rows
 pub mod Settings
 pub mod Shown
 pub mod Texts
+pub mod Wrong

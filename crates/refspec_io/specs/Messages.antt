@@ -15,6 +15,7 @@ use Rattle.refspec_io.specs.declared.texts.Location.{Location}
 use Rattle.refspec_io.specs.declared.texts.Text.{Text}
 use Rattle.refspec_io.specs.Shown.{IsQuoted}
 use Rattle.refspec_io.specs.Texts.{Given, Spot, at_record, at_setting, at_argument, given_of, spot_of}
+use Rattle.refspec_io.specs.Wrong.{IsWrongLine}
 
 -- a name as a form shows it: raw in records, else quoted if needed, and in JSON as UTF-8
 abbrev pub IsShownIn : Form → List ℕ → List ℕ → Type 0
@@ -54,9 +55,18 @@ pub record IsReasonLine (t : Given) (e : Error) (line : List ℕ) : Type 0 where
 abbrev pub WritesReason : Text → Error → List ℕ → List ℕ → Type 0
 WritesReason t e old new = (line : List ℕ) × IsReasonLine (given_of t) e line × (new ≡ old ++ line)
 
--- bytes grew by that line and more
+-- that line, the line on the wrong bytes if there are any, and advice, which is left open
+pub record AreRefusalLines (t : Given) (e : Error) (lines : List ℕ) : Type 0 where
+  pub reason : List ℕ
+  pub wrong : List ℕ
+  pub advice : List ℕ
+  pub is_reason : IsReasonLine t e reason
+  pub is_wrong : IsWrongLine t.operation t.bytes wrong
+  pub are : lines ≡ reason ++ (wrong ++ advice)
+
+-- bytes grew by these lines
 abbrev pub WritesRefusal : Text → Error → List ℕ → List ℕ → Type 0
-WritesRefusal t e old new = (line : List ℕ) × (more : List ℕ) × IsReasonLine (given_of t) e line × (new ≡ old ++ (line ++ more))
+WritesRefusal t e old new = (lines : List ℕ) × AreRefusalLines (given_of t) e lines × (new ≡ old ++ lines)
 
 -- the messages grew by a refusal; in JSON they stayed as they were
 abbrev pub ReportsRefusal : Form → Text → Error → List ℕ → List ℕ → Type 0
@@ -69,10 +79,10 @@ ReportsRefusals f [] old new = new ≡ old
 ReportsRefusals f (checked.Good text spec ∷ all) old new = ReportsRefusals f all old new
 ReportsRefusals f (checked.Bad text error ∷ all) old new = (mid : List ℕ) × ReportsRefusal f text error old mid × ReportsRefusals f all mid new
 
--- the lines on a text: for a refused text the line of the first reason against it, and more; for a spec none
+-- the lines on a text: for a refused text those of the first reason against it; for a spec none
 abbrev pub IsReportedOf : Given → List ℕ → Type 0
 IsReportedOf t lines =
-    ((e : Error) × (line : List ℕ) × (more : List ℕ) × ShowsRefusal (IsRefused t.operation t.bytes) e × IsReasonLine t e line × (lines ≡ line ++ more))
+    ((e : Error) × ShowsRefusal (IsRefused t.operation t.bytes) e × AreRefusalLines t e lines)
     ⊎ ((r : Reading) × Reads t.operation t.bytes r × (lines ≡ []))
 
 -- the lines on texts, in order

@@ -1,209 +1,49 @@
 //! Which part of a refused text is wrong, and what to do about it.
 
+ghost use Rattle.std.specs.Prelude.{◌≡◌, MatchOption};
+ghost use Rattle.gix_refspec.specs.Specs.Span.{HasNoSpan};
+ghost use Rattle.refspec_io.specs.Wrong.{IsBlame, side_name};
+
 use crate::texts::Text;
 use bstr::{BStr, ByteSlice};
-use gix_refspec::name::PatternError;
-use gix_refspec::parsing::{Error, Operation};
-use gix_refspec::{name, parse};
+use gix_refspec::parsing::{Error, Operation, Side};
+use gix_refspec::{locate, name, parse};
 use std::alloc::{AllocError, Global};
 
-/// A side of a spec.
-#[derive(Clone, Copy, Debug, PartialEq, Eq)]
-pub enum Side {
-    Source,
-    Destination,
-}
-
-impl Side {
-    /// The name of the side.
-    pub fn as_str(self) -> &'static str {
-        match self {
-            Side::Source => "source",
-            Side::Destination => "destination",
-        }
-    }
-}
-
-/// The bytes of a text that are wrong.
+/// The wrong bytes of a text, which they borrow.
 #[derive(Clone, Copy, Debug)]
 pub struct Blame<'a> {
-    pub side: Side,
+    /// The name of the side that contains them.
+    pub side: &'static str,
     pub part: &'a [u8],
     /// The index of the first of these bytes in the text, counted from 1.
     pub at: usize,
 }
 
-// A side of a text, and the number of bytes before it.
-#[derive(Clone, Copy)]
-struct Part<'a> {
-    side: Side,
-    bytes: &'a [u8],
-    behind: usize,
-}
-
-impl<'a> Part<'a> {
-    // At most `len` bytes of the side, from the index `at` on.
-    fn blame(&self, at: usize, len: usize) -> Blame<'a> {
-        let from = at.min(self.bytes.len());
-        let (_, back) = self.bytes.split_at(from);
-        let (part, _) = back.split_at(len.min(back.len()));
-        Blame {
-            side: self.side,
-            part,
-            at: self.behind.saturating_add(from).saturating_add(1),
-        }
-    }
-}
-
-/// The part of a refused text that is wrong, if the reason concerns one. It borrows the text.
-pub fn blame_of<'a>(
-    alloc: Global,
-    text: &Text<'a>,
-    error: &Error,
-) -> Result<Option<Blame<'a>>, AllocError> {
-    match error {
-        Error::ReferenceName(fault) => {
-            let part = part_with_fault(alloc, text)?;
-            Ok(part.and_then(|part| blame_of_name(part, *fault)))
-        }
-        _ => Ok(blame_of_sides(text.bytes, error)),
-    }
-}
-
-// The bytes of a side at which its name has the fault.
-fn blame_of_name<'a>(part: Part<'a>, fault: name::Error) -> Option<Blame<'a>> {
-    let (at, len) = fault_span(part.bytes, fault)?;
-    Some(part.blame(at, len))
-}
-
-// The part that is wrong, for a reason other than an invalid name.
-fn blame_of_sides<'a>(text: &'a [u8], error: &Error) -> Option<Blame<'a>> {
-    let (source, destination) = parts_of(text);
-    match error {
-        Error::PatternUnsupported { .. } => {
-            second_star(source).or(destination.and_then(second_star))
-        }
-        Error::PatternUnbalanced => first_star(source).or(destination.and_then(first_star)),
-        Error::NegativeWithDestination => non_empty(destination?.blame(0, usize::MAX)),
-        Error::NegativeObjectHash => Some(source.blame(0, usize::MAX)),
-        _ => None,
-    }
-}
-
-// The source of a text, after its sign, and its destination if the text has a colon. The last colon counts.
-fn parts_of(text: &[u8]) -> (Part<'_>, Option<Part<'_>>) {
-    let (signs, rest) = match text {
-        [b'^' | b'+', rest @ ..] => (1usize, rest),
-        _ => (0usize, text),
-    };
-    let source = |bytes| Part {
-        side: Side::Source,
-        bytes,
-        behind: signs,
-    };
-    let Some(colon) = rest.rfind_byte(b':') else {
-        return (source(rest), None);
-    };
-    let (front, back) = rest.split_at(colon);
-    let destination = Part {
-        side: Side::Destination,
-        bytes: &back[1..],
-        behind: signs.saturating_add(colon).saturating_add(1),
-    };
-    (source(front), Some(destination))
-}
-
-// The first side that is neither a name nor a pattern. The source of a push with a destination may be any
-// expression without a star.
-fn part_with_fault<'a>(alloc: Global, text: &Text<'a>) -> Result<Option<Part<'a>>, AllocError> {
-    let (source, destination) = parts_of(text.bytes);
-    let is_expression = text.operation == Operation::Push
-        && destination.is_some()
-        && !source.bytes.contains(&b'*');
-    if is_expression || source.bytes.is_empty() {
-        return Ok(destination);
-    }
-    if has_fault(alloc, source.bytes)? {
-        return Ok(Some(source));
-    }
-    Ok(destination)
-}
-
-// Whether a side is neither a name nor a pattern.
-fn has_fault(alloc: Global, side: &[u8]) -> Result<bool, AllocError> {
-    let text = BStr::new(side);
-    if !name::has_one_star(text) {
-        return Ok(name::name_partial(text).is_err());
-    }
-    match name::pattern_partial(alloc, text) {
-        Ok(()) => Ok(false),
-        Err(PatternError::Name(_)) => Ok(true),
-        Err(PatternError::Memory) => Err(AllocError),
-    }
-}
-
-// The index and the number of the bytes at which a side has a fault. `None` for an empty side.
-fn fault_span(side: &[u8], fault: name::Error) -> Option<(usize, usize)> {
-    match fault {
-        name::Error::Empty => None,
-        name::Error::RepeatedDot => Some((side.find(b"..")?, 2)),
-        name::Error::ReflogPortion => Some((side.find(b"@{")?, 2)),
-        name::Error::Asterisk => Some((side.find_byte(b'*')?, 1)),
-        name::Error::InvalidByte { byte } => Some((side.find_byte(byte)?, 1)),
-        name::Error::EndsWithDot => Some((side.len().saturating_sub(1), 1)),
-        name::Error::EmptyComponent => Some(empty_component(side)),
-        name::Error::StartsWithDot => Some(starting_dot(side)),
-        name::Error::LockSuffix => Some(lock_suffix(side)),
-    }
-}
-
-// The index and the number of the slashes around an empty component.
-fn empty_component(side: &[u8]) -> (usize, usize) {
-    if side.starts_with(b"/") {
-        return (0, 1);
-    }
-    match side.find(b"//") {
-        Some(at) => (at, 2),
-        None => (side.len().saturating_sub(1), 1),
-    }
-}
-
-// The index of a component's leading dot, or of the slash before it, and the number of bytes.
-fn starting_dot(side: &[u8]) -> (usize, usize) {
-    match side.find(b"/.") {
-        Some(at) if !side.starts_with(b".") => (at, 2),
-        _ => (0, 1),
-    }
-}
-
-// The index and the length of a `.lock` at the end of a component.
-fn lock_suffix(side: &[u8]) -> (usize, usize) {
-    match side.find(b".lock/") {
-        Some(at) => (at, 5),
-        None => (side.len().saturating_sub(5), 5),
-    }
-}
-
-// `None` for a part without bytes.
-fn non_empty(blame: Blame<'_>) -> Option<Blame<'_>> {
-    if blame.part.is_empty() {
+/// The wrong bytes of a text. `None` if the text is a spec, or if something is missing rather than wrong.
+pub fn blame_of<'a>(text: &Text<'a>) -> Option<Blame<'a>>
+    ensures { MatchOption result (HasNoSpan text.now.operation text.now.bytes.now) (IsBlame text.now) }
+{
+    let Some(span) = locate(BStr::new(text.bytes), text.operation) else {
         return None;
+    };
+    let (_, rest) = text.bytes.split_at(span.start);
+    let (part, _) = rest.split_at(span.len);
+    Some(Blame {
+        side: name_of(span.side),
+        part,
+        at: span.start + 1,
+    })
+}
+
+// The name of a side, as messages have it.
+fn name_of(side: Side) -> &'static str
+    ensures { result.now ≡ side_name side }
+{
+    match side {
+        Side::Source => "source",
+        Side::Destination => "destination",
     }
-    Some(blame)
-}
-
-// The second star of a side.
-fn second_star(part: Part<'_>) -> Option<Blame<'_>> {
-    let first = part.bytes.find_byte(b'*')?;
-    let (_, back) = part.bytes.split_at(first);
-    let second = (&back[1..]).find_byte(b'*')?;
-    Some(part.blame(first.saturating_add(second).saturating_add(1), 1))
-}
-
-// The first star of a side.
-fn first_star(part: Part<'_>) -> Option<Blame<'_>> {
-    let first = part.bytes.find_byte(b'*')?;
-    Some(part.blame(first, 1))
 }
 
 /// What to do about a refused text, or an empty text if the reason says it.
@@ -241,15 +81,12 @@ fn advice_for_one(text: &Text<'_>, error: &Error) -> &'static str {
 
 // What to do about a pattern on only one side.
 fn advice_for_pattern(text: &Text<'_>) -> &'static str {
-    match parts_of(text.bytes) {
-        (Part { bytes: b"", .. }, _) if text.operation == Operation::Push => {
+    match sides_of(text.bytes) {
+        [b"", _] if text.operation == Operation::Push => {
             "To delete refs, name each in a spec of its own, as in `:main`."
         }
-        (Part { bytes: b"", .. }, _) =>
-            "Write a source with a `*` too, as in `refs/heads/*:refs/remotes/origin/*`.",
-        (source, None | Some(Part { bytes: b"", .. })) => {
-            advice_for_source(source.bytes, text.bytes.starts_with(b"+"))
-        }
+        [b"", _] => "Write a source with a `*` too, as in `refs/heads/*:refs/remotes/origin/*`.",
+        [source, b""] => advice_for_source(source, text.bytes.starts_with(b"+")),
         _ => "Write a `*` into the other side too, or name one ref on both.",
     }
 }
@@ -358,9 +195,13 @@ fn begins_or_ends(text: &[u8], byte: u8) -> bool {
 
 // The source and the destination of a spec. A missing destination is empty.
 fn sides_of(text: &[u8]) -> [&[u8]; 2] {
-    let (source, destination) = parts_of(text);
-    [
-        source.bytes,
-        destination.map_or(b"".as_slice(), |part| part.bytes),
-    ]
+    let rest = match text {
+        [b'^' | b'+', rest @ ..] => rest,
+        _ => text,
+    };
+    let Some(colon) = rest.rfind_byte(b':') else {
+        return [rest, b""];
+    };
+    let (source, destination) = rest.split_at(colon);
+    [source, &destination[1..]]
 }

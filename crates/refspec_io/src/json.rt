@@ -3,7 +3,7 @@
 ghost use Rattle.std.specs.Prelude.{◌≡◌, ◌++◌, option_map, string_bytes, IfOk, OnOk};
 ghost use Rattle.std.specs.Str.{IsUtf8};
 ghost use Rattle.refspec_json.specs.Objects.{line_of, mapping_object};
-ghost use Rattle.refspec_io.specs.Json.{begins_quoted, json_text, operation_name, WritesRefused};
+ghost use Rattle.refspec_io.specs.Json.{begins_quoted, json_text, operation_name, ShowsWrong, WritesRefused};
 ghost use Rattle.refspec_io.specs.Messages.{IsLocation};
 ghost use Rattle.refspec_io.specs.Shown.{in_quotes};
 ghost use Rattle.refspec_io.specs.declared.call.Form.TheVariants as form;
@@ -120,11 +120,10 @@ pub fn write_refusal(
 {
     let location = shown_location(alloc, &text.location)?;
     let shown = text_of(alloc, text.bytes)?;
-    let blame = blame_of(alloc, text, error)?;
-    let wrong = text_or_none(alloc, blame.map(|blame| blame.part))?;
-    let side = blame.map(|blame| blame.side.as_str());
-    let part = wrong.as_deref();
-    let at = blame.map(|blame| blame.at);
+    let wrong = wrong_in(alloc, text)?;
+    let side = wrong.side;
+    let part = wrong.part.as_deref();
+    let at = wrong.at;
     let advice = advice_for(alloc, text, error)?;
     let object = refspec_json::Refused {
         location: location.as_str(),
@@ -138,4 +137,32 @@ pub fn write_refusal(
         advice,
     };
     object.write_line(alloc, out)
+}
+
+// What an object has of the wrong bytes of a text. All is missing if no bytes are wrong.
+#[derive(Debug, Drop)]
+struct Wrong {
+    side: Option<&'static str>,
+    part: Option<String>,
+    at: Option<usize>,
+}
+
+// The wrong bytes of a text, for its object.
+fn wrong_in(alloc: Global, text: &Text<'_>) -> Result<Wrong, AllocError>
+    ensures { IfOk result (λ wrong. ShowsWrong text.now.operation text.now.bytes.now
+        (option_map (λ t. t.now) wrong.side) (option_map string_bytes wrong.part) wrong.at) }
+{
+    let Some(blame) = blame_of(text) else {
+        return Ok(Wrong {
+            side: None,
+            part: None,
+            at: None,
+        });
+    };
+    let part = text_of(alloc, blame.part)?;
+    Ok(Wrong {
+        side: Some(blame.side),
+        part: Some(part),
+        at: Some(blame.at),
+    })
 }

@@ -1,15 +1,16 @@
 //! What a run writes: its results and its messages.
 
-ghost use Rattle.std.specs.Prelude.{◌≡◌, ◌∷◌, [], OnOk};
+ghost use Rattle.std.specs.Prelude.{◌≡◌, ◌++◌, ◌∷◌, [], OnOk};
 ghost use Rattle.refspec_io.specs.Json.{AddsRefusal};
 ghost use Rattle.refspec_io.specs.Messages.{WritesReason, WritesRefusal, ReportsRefusal};
 ghost use Rattle.refspec_io.specs.Shown.{AddsNames, Grows, KeepsReport};
+ghost use Rattle.refspec_io.specs.Wrong.{blame_line, WritesDetails, WritesWrong};
 
 use crate::blame::{Blame, advice_for, blame_of};
 use crate::call::Form;
 use crate::json;
 use crate::quote::{write_in_message, write_in_quotes, write_quoted};
-use crate::texts::Text;
+use crate::texts::{Text, write_number};
 use gix_refspec::parsing::Error;
 use std::alloc::{AllocError, Global};
 
@@ -107,38 +108,41 @@ fn write_reason(out: &mut Vec<u8>, text: &Text<'_>, error: &Error) -> Result<(),
     Ok(())
 }
 
-// Appends the other lines of a refusal: which part is wrong, if the reason concerns one, and the advice.
+// Appends the other lines of a refusal: the line on the wrong bytes, if there are any, and the advice.
 fn write_details(
     alloc: Global,
     out: &mut Vec<u8>,
     text: &Text<'_>,
     error: &Error,
 ) -> Result<(), AllocError>
-    ensures { OnOk result (Grows out.old.items out.new.items) }
+    ensures { OnOk result (WritesDetails text.now out.old.items out.new.items) }
 {
     let advice = advice_for(alloc, text, error)?;
-    match blame_of(alloc, text, error)? {
-        None => write_advice(out, advice),
-        Some(blame) => {
-            write_blame(alloc, out, &blame)?;
-            write_advice(out, advice)
-        }
-    }
+    write_wrong(out, text)?;
+    write_advice(out, advice)
 }
 
-// Appends the line on the part that is wrong.
-fn write_blame(alloc: Global, out: &mut Vec<u8>, blame: &Blame<'_>) -> Result<(), AllocError>
-    ensures { OnOk result (Grows out.old.items out.new.items) }
+// Appends the line on the wrong bytes of a text, if there are any.
+fn write_wrong(out: &mut Vec<u8>, text: &Text<'_>) -> Result<(), AllocError>
+    ensures { OnOk result (WritesWrong text.now out.old.items out.new.items) }
 {
-    let side = blame.side.as_str();
-    let at = blame.at;
-    let mut line = Vec::new(alloc);
-    let front = format!(in alloc; "    The {side} has ")?;
-    let back = format!(in alloc; " at byte {at}.\n")?;
-    line.extend_from_slice(front.as_bytes())?;
-    write_in_quotes(&mut line, blame.part)?;
-    line.extend_from_slice(back.as_bytes())?;
-    out.extend_from_slice(line.as_slice())
+    let Some(blame) = blame_of(text) else {
+        return Ok(());
+    };
+    write_blame(out, &blame)
+}
+
+// Appends the line on wrong bytes.
+fn write_blame(out: &mut Vec<u8>, blame: &Blame<'_>) -> Result<(), AllocError>
+    ensures { OnOk result (out.new.items ≡ out.old.items ++ blame_line blame.now) }
+{
+    out.extend_from_slice(b"    The ")?;
+    out.extend_from_slice(blame.side.as_bytes())?;
+    out.extend_from_slice(b" has ")?;
+    write_in_quotes(out, blame.part)?;
+    out.extend_from_slice(b" at byte ")?;
+    write_number(out, blame.at)?;
+    out.extend_from_slice(b".\n")
 }
 
 /// Appends an indented line of advice, unless the advice is empty.

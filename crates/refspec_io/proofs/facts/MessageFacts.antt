@@ -1,5 +1,5 @@
 -- Locations and refusals in messages: examples and counterexamples.
-use Rattle.std.proofs.Common.{◌≡◌, ◌⊎◌, ◌<◌, ℕ, List, [], ◌∷◌, ◌++◌, Bor, inl, inr, codes, get_or, length, length-append, refl, sym, ap, ap₂, ◌∙◌, subst, arith}
+use Rattle.std.proofs.Common.{◌≡◌, ◌⊎◌, ◌<◌, ◌≤◌, ℕ, List, [], ◌∷◌, ◌++◌, Bor, inl, inr, codes, get_or, length, length-append, refl, sym, ap, ap₂, ◌∙◌, subst, arith}
 use Rattle.std.specs.Fmt.{digits}
 use Rattle.gix_refspec_text.specs.declared.name.Error.TheVariants.{RepeatedDot}
 use Rattle.gix_refspec_text.specs.declared.parsing.Error.{Error}
@@ -15,7 +15,8 @@ use Rattle.gix_refspec.specs.Specs.Refusal.{Empty}
 use Rattle.gix_refspec_text.proofs.facts.GrammarFacts.{fetches_main}
 use Rattle.gix_refspec_text.proofs.facts.UnreadFacts.{nothing_pushed}
 use Rattle.refspec_io.specs.Texts.{given_of, argument_at}
-use Rattle.refspec_io.specs.Messages.{AreRefusals, AreReportedOf, IsLocation, IsReasonLine, IsReportedOf, IsShownIn, WritesLocation, WritesReason, WritesRefusal, WritesShown, ReportsRefusal, ReportsRefusals}
+use Rattle.refspec_io.proofs.facts.WrongFacts.{excluded_line, excluded_line_is, excluded_wrong, wrong_lines}
+use Rattle.refspec_io.specs.Messages.{AreRefusalLines, AreRefusals, AreReportedOf, IsLocation, IsReasonLine, IsReportedOf, IsShownIn, WritesLocation, WritesReason, WritesRefusal, WritesShown, ReportsRefusal, ReportsRefusals}
 
 abbrev text : List ℕ → Bor (List ℕ)
 text bytes = record { ref_ptr = (0, 0); now = bytes }
@@ -126,25 +127,56 @@ no_reasons = (other_sentence, other_location, other_text)
       )
     ]
 
--- the line is appended, and more after it; it is reported in lines and with records
+-- a negative spec with a destination, all of which is wrong
+abbrev excludes : Text
+excludes = record { location = location.Argument 2; operation = Fetch; bytes = text (codes "^a:b") }
+
+abbrev with_destination : Error
+with_destination = error.NegativeWithDestination
+
+abbrev excludes_line : List ℕ
+excludes_line = codes "spec 2: ^a:b: A refspec that begins with `^` must not have a destination.\n"
+
+excludes_reason : IsReasonLine (given_of excludes) with_destination excludes_line
+unfolding digits
+excludes_reason = record { at = codes "spec 2"; text = codes "^a:b"; is_spot = refl; is_text = inl refl; is = refl }
+
+-- the line on the reason, the line on the wrong bytes, and advice
+abbrev both_lines : (advice : List ℕ) → List ℕ
+both_lines advice = excludes_line ++ (excluded_line ++ advice)
+
+pub refusal_lines : (advice : List ℕ) → AreRefusalLines (given_of excludes) with_destination (both_lines advice)
+refusal_lines advice = record {
+  reason = excludes_line;
+  wrong = excluded_line;
+  advice = advice;
+  is_reason = excludes_reason;
+  is_wrong = excluded_wrong;
+  are = refl;
+}
+
+-- the lines are appended; they are reported in lines and with records
 pub refused : WritesReason dots fault (codes "x\n") (codes "x\n" ++ dots_line)
-    × WritesRefusal dots fault [] (dots_line ++ codes "    The source has \"..\" at byte 2.\n")
-    × ReportsRefusal form.Lines dots fault [] (dots_line ++ codes "    Write one dot.\n")
-    × ReportsRefusal form.Zeros dots fault [] dots_line
+    × WritesRefusal excludes with_destination [] (both_lines [])
+    × ReportsRefusal form.Lines excludes with_destination [] (both_lines (codes "    Leave it out.\n"))
+    × ReportsRefusal form.Zeros excludes with_destination [] (both_lines [])
 refused = (
   (dots_line, reason, refl),
-  (dots_line, codes "    The source has \"..\" at byte 2.\n", reason, refl),
-  (dots_line, codes "    Write one dot.\n", reason, refl),
-  (dots_line, [], reason, refl),
+  (_, refusal_lines [], refl),
+  (_, refusal_lines (codes "    Leave it out.\n"), refl),
+  (_, refusal_lines [], refl),
 )
 
 pub not_refused : ¬ (WritesReason dots fault (codes "x\n") (codes "x\n"))
     × ¬ (ReportsRefusal form.Lines dots fault (codes "x\n") (codes "x\n"))
     × ¬ (ReportsRefusal form.Zeros dots fault [] [])
+    × ¬ (ReportsRefusal form.Lines excludes with_destination [] excludes_line)
+unfolding digits
 not_refused = (
   (λ writes. omega (arith, ap length writes.2, long writes.0 writes.1)),
-  (λ reports. omega (arith, ap length reports.3, length-append reports.0 reports.1, long reports.0 reports.2)),
-  λ reports. omega (arith, ap length reports.3, length-append reports.0 reports.1, long reports.0 reports.2),
+  (λ reports. omega (arith, ap length reports.2, length-append (codes "x\n") reports.0, all_long reports.0 reports.1)),
+  (λ reports. omega (arith, ap length reports.2, all_long reports.0 reports.1)),
+  λ reports. wrong_left_out reports.0 reports.1 reports.2,
 )
   where
     long : (line : List ℕ) → IsReasonLine (given_of dots) fault line → 0 < length line
@@ -154,13 +186,44 @@ not_refused = (
       length-append is.at (codes ": " ++ (is.text ++ (codes ": " ++ (explained fault ++ (10 ∷ []))))),
     )
 
+    all_long : (lines : List ℕ) → AreRefusalLines (given_of dots) fault lines → 0 < length lines
+    all_long lines are = omega (
+      arith,
+      ap length are.are,
+      length-append are.reason (are.wrong ++ are.advice),
+      long are.reason are.is_reason,
+    )
+
+    reason_long : (line : List ℕ) → IsReasonLine (given_of excludes) with_destination line
+        → length excludes_line ≤ length line
+    reason_long line is =
+        let end = codes ": " ++ (explained with_destination ++ (10 ∷ [])) in
+        let whole = λ (at t : List ℕ). at ++ (codes ": " ++ (t ++ end)) in
+        elim is.is_text [
+          | inl plain ↦ omega (arith, ap length (is.is ∙ ap₂ whole is.is_spot plain))
+          | inr quoted ↦ omega (arith, ap length (is.is ∙ ap₂ whole is.is_spot quoted))
+        ]
+
+    -- the line on the reason isn't all, as there is one on the wrong bytes
+    wrong_left_out : (lines : List ℕ) → AreRefusalLines (given_of excludes) with_destination lines
+        → excludes_line ≡ lines → ⊥
+    wrong_left_out lines are same = omega (
+      arith,
+      ap length (same ∙ are.are),
+      length-append are.reason (are.wrong ++ are.advice),
+      length-append are.wrong are.advice,
+      ap length (excluded_line_is are.wrong are.is_wrong),
+      reason_long are.reason are.is_reason,
+    )
+
 -- ---- the refusals of a run
 
 -- a refused text is reported, and in JSON not as a message
-pub reported : ReportsRefusals form.Lines (checked.Bad dots fault ∷ []) (codes "x\n") (codes "x\n" ++ dots_line)
+pub reported :
+    ReportsRefusals form.Lines (checked.Bad excludes with_destination ∷ []) (codes "x\n") (codes "x\n" ++ both_lines [])
     × ReportsRefusals form.Json (checked.Bad dots fault ∷ []) (codes "x\n") (codes "x\n")
     × ReportsRefusals form.Lines [] (codes "x\n") (codes "x\n")
-reported = ((codes "x\n" ++ dots_line, (dots_line, [], reason, refl), refl), (codes "x\n", refl, refl), refl)
+reported = ((_, (_, refusal_lines [], refl), refl), (codes "x\n", refl, refl), refl)
 
 -- no refused text is left out, and nothing else is reported
 pub not_reported : ¬ (ReportsRefusals form.Lines (checked.Bad dots fault ∷ []) [] [])
@@ -177,7 +240,18 @@ nothing_line = codes "spec 1" ++ (codes ": " ++ (codes "\"\"" ++ (codes ": " ++ 
 
 nothing_reported : IsReportedOf (argument_at Push 1 []) nothing_line
 unfolding digits
-nothing_reported = inl (error.Empty, nothing_line, [], (Empty, refl, nothing_pushed), record { at = codes "spec 1"; text = codes "\"\""; is_spot = refl; is_text = inr refl; is = refl }, refl)
+nothing_reported = inl (
+  error.Empty,
+  (Empty, refl, nothing_pushed),
+  record {
+    reason = nothing_line;
+    wrong = [];
+    advice = [];
+    is_reason = record { at = codes "spec 1"; text = codes "\"\""; is_spot = refl; is_text = inr refl; is = refl };
+    is_wrong = wrong_lines.1;
+    are = refl;
+  },
+)
 
 -- there is a line on a refused text, and none on a spec
 pub reported_of : IsReportedOf (argument_at Push 1 []) nothing_line × IsReportedOf (argument_at Fetch 2 (codes "main")) []
@@ -189,7 +263,16 @@ pub not_reported_of : ¬ (IsReportedOf (argument_at Push 1 []) []) × ¬ (AreRep
 not_reported_of = (passed_over, λ same. omega (arith, ap length same))
   where
     passed_over : ¬ (IsReportedOf (argument_at Push 1 []) [])
-    passed_over (inl (e, line, more, is, reason, same)) = omega (arith, ap length same, length-append line more, ap length reason.is, length-append reason.at (codes ": " ++ (reason.text ++ (codes ": " ++ (explained e ++ (10 ∷ []))))))
+    passed_over (inl (e, is, are)) =
+        let reason = are.is_reason in
+        let end = codes ": " ++ (explained e ++ (10 ∷ [])) in
+        omega (
+          arith,
+          ap length are.are,
+          length-append are.reason (are.wrong ++ are.advice),
+          ap length reason.is,
+          length-append reason.at (codes ": " ++ (reason.text ++ end)),
+        )
     passed_over (inr (r, reads, same)) = nothing_pushed.unread r reads
 
 -- in JSON refusals aren't messages
