@@ -2,6 +2,8 @@ mod facts
 pub mod CanonLemmas
 pub mod PrefixLemmas
 pub mod TrackLemmas
+pub mod RowsLemmas
+pub mod AnswerLemmas
 pub mod SeenLemmas
 pub mod WarnedLemmas
 pub mod KeyLemmas

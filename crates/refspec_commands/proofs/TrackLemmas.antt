@@ -1,5 +1,5 @@
--- Refs of which only the name is known, and the report on them.
-use Rattle.std.proofs.Common.{◌≡◌, ◌≢◌, ◌↔◌, ◌⊎◌, ℕ, ◌+◌, ◌<◌, ◌≤◌, Bool, Bor, true, false, cond, IsTrue, MatchBool, List, [], ◌∷◌, ◌++◌, None, Some, inl, inr, length, map, take, take_all, get_or, replicate, refl, sym, ap, ◌∙◌, subst, arith}
+-- Refs of which only the name is known, the specs by which they are looked up, and the refs that mappings write.
+use Rattle.std.proofs.Common.{◌≡◌, ◌↔◌, ◌⊎◌, ℕ, ◌+◌, ◌<◌, ◌≤◌, Bool, Bor, true, false, cond, IsTrue, List, [], ◌∷◌, ◌++◌, None, Some, inl, inr, length, map, take, take_all, get_or, replicate, refl, sym, ap, ◌∙◌, subst, append_assoc, arith}
 use Rattle.std.specs.BTreeMap.{is_at}
 use Rattle.std.specs.BTreeSet.{BTreeSet, Updates, contains_by}
 use Rattle.std.specs.List.{list_any}
@@ -8,20 +8,16 @@ use Rattle.std.specs.Ordering.{is_eq, nat_cmp}
 use Rattle.std.proofs.lemmas.Bool.{false≢true}
 use Rattle.std.proofs.lemmas.Map.Text.{is_eq-slice_cmp}
 use Rattle.std.proofs.lemmas.Slice.Eq.{bytes_eq-Decides}
-use Rattle.std.proofs.lemmas.List.{length-map, map-append, take_more}
+use Rattle.std.proofs.lemmas.List.{map-append, take_more}
 use Rattle.gix_refspec.specs.Laws.Items.{HasIdDestination}
 use Rattle.gix_refspec.specs.Views.Group.{mapped_of}
 use Rattle.gix_refspec.specs.Views.Spec.{reading_of}
 use Rattle.gix_refspec_match.specs.declared.types.Mapping.{Mapping}
 use Rattle.gix_refspec_text.specs.declared.spec.RefSpecRef.{RefSpecRef}
-use Rattle.gix_refspec.specs.Matching.Hits.{AreKeptBackward}
 use Rattle.gix_refspec.specs.Matching.Mappings.{Mapped}
 use Rattle.gix_refspec.specs.Matching.Match.{Ref}
 use Rattle.gix_refspec.specs.Specs.Reading.{Reading}
-use Rattle.refspec_io.specs.declared.call.Form.{Form}
-use Rattle.refspec_io.specs.Rows.{AddsMappings, AreSpecTexts}
-use Rattle.refspec_io.specs.Shown.{KeepsResults}
-use Rattle.refspec_commands.specs.Track.{AddsTracked, AreByNames, AreWritten, HasUnwritten, IsEachWritten, IsWritten, named}
+use Rattle.refspec_commands.specs.Track.{AreByNames, AreWritten, IsWritten, named}
 use Rattle.gix_refspec_text.proofs.lemmas.lists.MapLemmas.{map_next}
 
 -- a ref with the name and the target
@@ -31,25 +27,6 @@ plain n t = record { name = n; target = t; object = None }
 -- the ref with the name, if the target is the null id
 pub named_of : (a b target : List ℕ) → a ≡ b → target ≡ replicate 20 0 → plain a target ≡ named b
 named_of a b target same zeros = ap (λ n. plain n target) same ∙ ap (plain b) zeros
-
--- the mappings from refs with these names
-pub AddsTracked-of : (f k h : Form) (names : List (List ℕ)) (refused : Bool) (refs : List Ref) (g by_names : List Reading) (texts : List (List ℕ)) (found shown : List Mapped) (old first mid new : List ℕ) → AreByNames g by_names → k ≡ f → KeepsResults f old first → refs ≡ map named names → AreKeptBackward by_names refs found → AreSpecTexts by_names texts → AddsMappings k texts shown first mid → shown ≡ found → h ≡ k → KeepsResults h mid new → MatchBool refused ((by_names ≢ g) ⊎ HasUnwritten names found) ((by_names ≡ g) × IsEachWritten names found) → AddsTracked f names refused g old new
-AddsTracked-of f k h names refused refs g by_names texts found shown old first mid new looked_up same_form before are kept of_specs reported same form rest whether = record {
-  by_names = by_names;
-  found = found;
-  texts = texts;
-  looked_up = looked_up;
-  kept = subst (λ (rs : List Ref). AreKeptBackward by_names rs found) are kept;
-  of_specs = of_specs;
-  reported = record {
-    first = first;
-    last = mid;
-    before = before;
-    reported = subst (λ (x : Form). AddsMappings x texts found first mid) same_form (subst (λ (ms : List Mapped). AddsMappings k texts ms first mid) same reported);
-    after = subst (λ (x : Form). KeepsResults x mid new) (form ∙ same_form) rest;
-  };
-  status = whether;
-}
 
 -- one more spec by which names are looked up
 AreByNames-more : (xs : List Reading) (kept : List Reading) (r : Reading) → ¬ (HasIdDestination r) → AreByNames xs kept → AreByNames (xs ++ r ∷ []) (kept ++ r ∷ [])
@@ -86,9 +63,6 @@ by_names-whole [] kept is many = is
 by_names-whole (r ∷ g) kept (inl (has, is)) many = absurd (omega (arith, by_names-few g kept is, many))
 by_names-whole (r ∷ g) kept (inr (other, (rest, is, same))) many = same ∙ ap (λ l. r ∷ l) (by_names-whole g rest is (omega (arith, many, ap length same)))
 
-pub by_names-fewer : (g kept : List Reading) → length kept < length g → kept ≢ g
-by_names-fewer g kept few same = omega (arith, few, ap length same)
-
 -- one more mapping
 IsWritten-front : (name : List ℕ) (ms : List Mapped) (m : Mapped) → IsWritten name ms → IsWritten name (ms ++ m ∷ [])
 IsWritten-front name [] m is = absurd is
@@ -114,10 +88,10 @@ pub AreWritten-start : (set : BTreeSet (Bor (List ℕ))) → set.keys ≡ [] →
 AreWritten-start set none name = ((λ has. absurd (false≢true (sym (ap (list_any (is_at (λ (n : Bor (List ℕ)). slice_cmp nat_cmp name n.now))) none) ∙ has))), (λ is. absurd is))
 
 -- the mappings before an index, and the one at it
-pub AreWritten-next : (set : BTreeSet (Bor (List ℕ))) (ms : List Mapping) (i : ℕ) (m : Mapping) → i < length ms → m ≡ get_or ms i m → AreWritten set (map mapped_of (take i ms) ++ mapped_of m ∷ []) → AreWritten set (map mapped_of (take (i + 1) ms))
-AreWritten-next set ms i m below is so_far =
+pub AreWritten-next : (set : BTreeSet (Bor (List ℕ))) (before : List Mapped) (ms : List Mapping) (i : ℕ) (m : Mapping) → i < length ms → m ≡ get_or ms i m → AreWritten set ((before ++ map mapped_of (take i ms)) ++ mapped_of m ∷ []) → AreWritten set (before ++ map mapped_of (take (i + 1) ms))
+AreWritten-next set before ms i m below is so_far =
     let step : map mapped_of (take (i + 1) ms) ≡ map mapped_of (take i ms) ++ mapped_of m ∷ [] = ap (map mapped_of) (take_more ms i m below) ∙ (map-append mapped_of (take i ms) (get_or ms i m ∷ []) ∙ ap (λ (x : Mapping). map mapped_of (take i ms) ++ mapped_of x ∷ []) (sym is)) in
-    subst (AreWritten set) (sym step) so_far
+    subst (AreWritten set) (append_assoc before (map mapped_of (take i ms)) (mapped_of m ∷ []) ∙ ap (λ l. before ++ l) (sym step)) so_far
 
 -- one more mapping, without a destination
 pub AreWritten-none : (set : BTreeSet (Bor (List ℕ))) (ms : List Mapped) (m : Mapped) → m.destination ≡ None → AreWritten set ms → AreWritten set (ms ++ m ∷ [])
@@ -150,49 +124,3 @@ AreWritten-more old new key ms m updates is so_far name = by (is_eq (slice_cmp n
           where
             one_name : Some key.now ≡ Some name → key.now ≡ name
             one_name same = cc
-
--- one more name: all so far are written, or one isn't
-IsEachWritten-more : (names : List (List ℕ)) (name : List ℕ) (found : List Mapped) → IsEachWritten names found → IsWritten name found → IsEachWritten (names ++ name ∷ []) found
-IsEachWritten-more [] name found each is = (is, tt)
-IsEachWritten-more (n ∷ names) name found each is = (each.0, IsEachWritten-more names name found each.1 is)
-
-HasUnwritten-front : (names : List (List ℕ)) (name : List ℕ) (found : List Mapped) → HasUnwritten names found → HasUnwritten (names ++ name ∷ []) found
-HasUnwritten-front [] name found has = absurd has
-HasUnwritten-front (n ∷ names) name found (inl none) = inl none
-HasUnwritten-front (n ∷ names) name found (inr some) = inr (HasUnwritten-front names name found some)
-
-HasUnwritten-here : (names : List (List ℕ)) (name : List ℕ) (found : List Mapped) → ¬ (IsWritten name found) → HasUnwritten (names ++ name ∷ []) found
-HasUnwritten-here [] name found none = inl none
-HasUnwritten-here (n ∷ names) name found none = inr (HasUnwritten-here names name found none)
-
--- whether some name isn't written
-abbrev pub Reports : Bool → List (List ℕ) → List Mapped → Type 0
-Reports some names found = MatchBool some (HasUnwritten names found) (IsEachWritten names found)
-
-pub Reports-written : (some : Bool) (names : List (List ℕ)) (name : List ℕ) (found : List Mapped) → Reports some names found → IsWritten name found → Reports some (names ++ name ∷ []) found
-Reports-written true names name found has is = HasUnwritten-front names name found has
-Reports-written false names name found each is = IsEachWritten-more names name found each is
-
-pub Reports-unwritten : (some : Bool) (names : List (List ℕ)) (name : List ℕ) (found : List Mapped) → Reports some names found → ¬ (IsWritten name found) → Reports true (names ++ name ∷ []) found
-Reports-unwritten some names name found reported none = HasUnwritten-here names name found none
-
--- one more name, and all names
-pub Reports-next : (some : Bool) (names : List (Bor (List ℕ))) (i : ℕ) (d : Bor (List ℕ)) (name : List ℕ) (found : List Mapped) → i < length names → name ≡ (get_or names i d).now → Reports some (map (λ n. n.now) (take i names) ++ name ∷ []) found → Reports some (map (λ n. n.now) (take (i + 1) names)) found
-Reports-next some names i d name found below is reported =
-    let now = λ (n : Bor (List ℕ)). n.now in
-    let step : map now (take (i + 1) names) ≡ map now (take i names) ++ name ∷ [] = ap (map now) (take_more names i d below) ∙ (map-append now (take i names) (get_or names i d ∷ []) ∙ ap (λ x. map now (take i names) ++ x ∷ []) (sym is)) in
-    subst (λ l. Reports some l found) (sym step) reported
-
-pub Reports-all : (some : Bool) (names : List (Bor (List ℕ))) (i : ℕ) (found : List Mapped) → length names ≤ i → Reports some (map (λ n. n.now) (take i names)) found → Reports some (map (λ n. n.now) names) found
-Reports-all some names i found long reported = subst (λ (l : List (Bor (List ℕ))). Reports some (map (λ n. n.now) l) found) (take_all i names long) reported
-
--- some spec isn't looked up, or some name isn't written
-abbrev pub Refuses : Bool → List Reading → List Reading → List (List ℕ) → List Mapped → Type 0
-Refuses refused g by_names names found = MatchBool refused ((by_names ≢ g) ⊎ HasUnwritten names found) ((by_names ≡ g) × IsEachWritten names found)
-
-pub Refuses-fewer : (specs kept : List RefSpecRef) (names : List (List ℕ)) (found : List Mapped) → length kept < length specs → Refuses true (map reading_of specs) (map reading_of kept) names found
-Refuses-fewer specs kept names found few = inl (by_names-fewer (map reading_of specs) (map reading_of kept) (omega (arith, few, length-map specs reading_of, length-map kept reading_of)))
-
-pub Refuses-whole : (some : Bool) (specs kept : List RefSpecRef) (names : List (List ℕ)) (found : List Mapped) → AreByNames (map reading_of specs) (map reading_of kept) → length specs ≤ length kept → Reports some names found → Refuses some (map reading_of specs) (map reading_of kept) names found
-Refuses-whole true specs kept names found are many reported = inr reported
-Refuses-whole false specs kept names found are many reported = (by_names-whole (map reading_of specs) (map reading_of kept) are (omega (arith, many, length-map specs reading_of, length-map kept reading_of)), reported)

@@ -137,12 +137,6 @@ pub zip_mapped_or : {A B C D : Type 0} (R : C → D → Type 0) (f : A → C) (g
 zip_mapped_or R f g xs i d old new y below so_far here grew =
     zip_mapped_next R f g xs i (get_or xs i d) old new y below (get_or_default xs i d (get_or xs i d) below) so_far here grew
 
--- all elements
-pub zip_mapped_all : {A C D : Type 0} (R : C → D → Type 0) (f : A → C) (xs : List A) (i : ℕ) (ys : List D)
-    → length xs ≤ i
-    → AllZip R (map f (take i xs)) ys → AllZip R (map f xs) ys
-zip_mapped_all {A} R f xs i ys long so_far = subst (λ (l : List A). AllZip R (map f l) ys) (take_all i xs long) so_far
-
 -- what holds of all images holds of that of an element
 pub all_mapped_at : {A B : Type 0} (P : B → Type 0) (f : A → B) (xs : List A) (i : ℕ) (x : A) → All P (map f xs)
     → i < length xs → x ≡ get_or xs i x → P (f x)

@@ -3,6 +3,7 @@ pub mod AskedFacts
 pub mod CanonFacts
 pub mod OutputFacts
 pub mod PrefixFacts
+pub mod RowFacts
 pub mod RunFacts
 pub mod TrackFacts
 pub mod WarnedFacts

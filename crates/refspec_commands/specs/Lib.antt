@@ -1,6 +1,8 @@
+pub mod Answer
 pub mod Canon
 pub mod Output
 pub mod Prefixes
+pub mod Rows
 pub mod Run
 pub mod Seen
 pub mod Track

@@ -8,4 +8,5 @@ mod prefixes;
 pub mod run;
 mod specs;
 mod track;
+pub mod tracking;
 pub mod warnings;

@@ -252,7 +252,7 @@ fn answer_in<'a, M: Machine, D: Discard>(
         return Err(Stop::Refused(refusal));
     }
     match request.command {
-        Command::Track => report_tracking(alloc, machine, request, repository, done),
+        Command::Track => report_tracking(alloc, machine, request, repository),
         command => {
             if fetches_nothing(request, repository) {
                 return nothing_to_fetch(alloc);

@@ -1,26 +1,25 @@
 //! What `git refspec track` reports: from which refs of which remotes tracking refs are fetched.
 
-use crate::answer::{Answer, Machine, Stop, asks, run_call};
-use crate::objects::{write_mapping, write_ref_note, write_with_remote};
+use crate::answer::{Answer, Machine, Stop};
 use crate::sources::{Names, Sources};
 use bstr::{BStr, ByteSlice};
-use gix_refspec::match_group::{Item, Mapping, SourceRef};
+use gix_refspec::match_group::Item;
 use gix_refspec::oid::{Kind, ObjectId};
 use gix_refspec::parsing::{Error, Operation};
-use gix_refspec::{MatchGroup, RefSpecRef, name, parse};
+use gix_refspec::{RefSpecRef, name, parse};
 use gix_refspec_text::side::{candidates, joined};
-use refspec_io::call::{Command, Files, Form};
-use refspec_io::fault::Fault;
+use refspec_commands::tracking::answer::{Found, Looked, answer_to};
+use refspec_commands::tracking::question::{Order, Question, Remote};
+use refspec_commands::tracking::report::{Advice, report_answer};
+use refspec_io::report::Report;
 use refspec_io::settings::Setting;
-use refspec_io::table::Layout;
-use refspec_plans::plan::Discard;
 use refspec_request::arguments::Request;
 use refspec_request::ask::{GitCall, REFS, name_file};
 use refspec_request::choice::Repository;
 use refspec_request::output::Output;
 use refspec_request::refusal::{Refusal, write_about};
 use refspec_request::remotes::fetch_values;
-use refspec_request::settings::{last_value, write_settings};
+use refspec_request::settings::last_value;
 use std::alloc::{AllocError, Global};
 use std::collections::{BTreeMap, BTreeSet};
 
@@ -29,12 +28,11 @@ type Values<'a> = BTreeMap<&'a [u8], Vec<Setting<'a>>>;
 
 /// Reports from which refs of which remotes the refs in the arguments are fetched, or asks for the commands that find
 /// these refs.
-pub fn report_tracking<'a, M: Machine, D: Discard>(
+pub fn report_tracking<'a, M: Machine>(
     alloc: Global,
     machine: &M,
     request: &Request<'a>,
     repository: &Repository<'a, 'a>,
-    done: &mut D,
 ) -> Result<Answer, Stop<'a>> {
     if request.arguments.is_empty() {
         return Err(Stop::Refused(Refusal::NoRef));
@@ -45,26 +43,19 @@ pub fn report_tracking<'a, M: Machine, D: Discard>(
     }
     let values = values_of(alloc, request, repository)?;
     let names = names_of(alloc, machine, request, &values)?;
-    let rows = rows_of(alloc, &values, names.as_slice())?;
-    let mut reported = Output::new(alloc);
-    for (remote, values) in &values {
-        report_ids(
-            alloc,
-            request,
-            remote,
-            values.as_slice(),
-            done,
-            &mut reported,
-        )?;
-    }
-    write_rows(alloc, request.form, rows.as_slice(), &mut reported.results)?;
-    let found = Found {
-        form: request.form,
-        rows: rows.as_slice(),
-        values: &values,
-        settings: repository.settings,
+    let none = ObjectId::null(Kind::shortest());
+    let question = question_of(alloc, &values, items_of(alloc, names.as_slice(), &none)?)?;
+    let found = answer_to(alloc, &question)?;
+    let refs = found.refs.as_slice();
+    let advice = advice_on(alloc, &values, repository.settings, refs)?;
+    let mut report = Report::new(alloc, request.form);
+    report_answer(alloc, question.order, &found, &advice, &mut report)?;
+    let mut reported = Output {
+        results: report.results,
+        messages: report.messages,
+        status: found.status_of_refs(),
     };
-    if report_others(alloc, &found, names.as_slice(), &mut reported)? {
+    if refs.iter().any(|looked| looked.found == Found::Untracked) {
         for old in repository.old {
             if let Some(refusal) = repository.old_remote(old.name.as_slice()) {
                 reported.refuse(&refusal)?;
@@ -276,54 +267,24 @@ fn remote_above<'a, 'p>(path: &'p [u8], values: &Values<'a>) -> Option<(&'a [u8]
     found
 }
 
-// A ref, and the source from which a remote fetches it.
-#[derive(Drop)]
-struct Row<'a> {
-    // The index of the ref among the names.
-    number: usize,
-    remote: &'a [u8],
-    destination: Vec<u8>,
-    source: Vec<u8>,
-    spec: Vec<u8>,
-    // Whether the destination of the spec begins with `refs/`.
-    is_full: bool,
-}
-
-// The sources from which remotes fetch the refs: sorted by the index of the ref, and then by the name of the remote.
-fn rows_of<'a>(
+// The question from which refs of remotes, with these values, some refs are fetched.
+fn question_of<'a, 'item>(
     alloc: Global,
     values: &Values<'a>,
-    names: &[Vec<u8>],
-) -> Result<Vec<Row<'a>>, AllocError> {
-    let mut rows = Vec::new(alloc);
-    for (remote, values) in values {
-        add_rows(alloc, remote, values.as_slice(), names, &mut rows)?;
+    refs: Vec<Item<'item>>,
+) -> Result<Question<'a, 'item>, AllocError> {
+    let mut remotes = Vec::with_capacity(alloc, values.len())?;
+    for (name, values) in values {
+        remotes.push(Remote {
+            name: Some(*name),
+            specs: specs_of(alloc, values.as_slice())?,
+        })?;
     }
-    rows.sort_by_key(|row| row.number)?;
-    Ok(rows)
-}
-
-// Adds the sources from which a remote fetches refs.
-fn add_rows<'a>(
-    alloc: Global,
-    remote: &'a [u8],
-    values: &[Setting<'a>],
-    names: &[Vec<u8>],
-    rows: &mut Vec<Row<'a>>,
-) -> Result<(), AllocError> {
-    let specs = specs_of(alloc, values)?;
-    let none = ObjectId::null(Kind::shortest());
-    let items = items_of(alloc, names, &none)?;
-    let group = MatchGroup { specs };
-    let Ok(outcome) = group.match_rhs(alloc, items.as_slice()) else {
-        return Err(AllocError);
-    };
-    for mapping in &outcome.mappings {
-        if let Some(spec) = outcome.group.specs.get(mapping.spec_index) {
-            rows.push(row_of(alloc, remote, mapping, spec)?)?;
-        }
-    }
-    Ok(())
+    Ok(Question {
+        refs,
+        remotes,
+        order: Order::Refs,
+    })
 }
 
 // Items with these names and one id, as only the names of tracking refs are known.
@@ -343,40 +304,7 @@ fn items_of<'a>(
     Ok(items)
 }
 
-// The row of a mapping of a remote by a spec.
-fn row_of<'a>(
-    alloc: Global,
-    remote: &'a [u8],
-    mapping: &Mapping<'_, '_>,
-    spec: &RefSpecRef<'_>,
-) -> Result<Row<'a>, AllocError> {
-    let source = match &mapping.lhs {
-        SourceRef::FullName(name) => Vec::from_slice(alloc, name.as_bstr().as_bytes())?,
-        SourceRef::ObjectId(id) => format!(in alloc; "{id}")?.into_bytes(),
-    };
-    let destination = match &mapping.rhs {
-        None => Vec::new(alloc),
-        Some(name) => Vec::from_slice(alloc, name.as_bstr().as_bytes())?,
-    };
-    Ok(Row {
-        number: mapping.item_index.unwrap_or(0),
-        remote,
-        destination,
-        source,
-        spec: spec.to_bstring(alloc)?.into_vec(),
-        is_full: has_full_destination(spec),
-    })
-}
-
-// Whether the destination of a spec begins with `refs/`.
-fn has_full_destination(spec: &RefSpecRef<'_>) -> bool {
-    match spec.destination() {
-        None => false,
-        Some(destination) => destination.as_bytes().starts_with(b"refs/"),
-    }
-}
-
-// The specs of values, but for refused ones and those whose destination is an object id.
+// The specs of values, but for refused ones.
 fn specs_of<'a>(alloc: Global, values: &[Setting<'a>]) -> Result<Vec<RefSpecRef<'a>>, AllocError> {
     let mut specs = Vec::with_capacity(alloc, values.len())?;
     for value in values {
@@ -387,207 +315,42 @@ fn specs_of<'a>(alloc: Global, values: &[Setting<'a>]) -> Result<Vec<RefSpecRef<
         ) {
             Err(Error::Memory) => return Err(AllocError),
             Err(_) => {}
-            Ok(spec) => {
-                if !has_id(&spec) {
-                    specs.push(spec)?;
-                }
-            }
+            Ok(spec) => specs.push(spec)?,
         }
     }
     Ok(specs)
 }
 
-// Whether the destination of a spec is an object id.
-fn has_id(spec: &RefSpecRef<'_>) -> bool {
-    match spec.destination() {
-        None => false,
-        Some(destination) => ObjectId::from_hex(destination.as_bytes()).is_ok(),
-    }
-}
-
-// Reports the values of a remote whose destination is an object id, as `refspec track` does.
-fn report_ids<D: Discard>(
+// The advice on refs that no value writes.
+fn advice_on<'r>(
     alloc: Global,
-    request: &Request<'_>,
-    remote: &[u8],
-    values: &[Setting<'_>],
-    done: &mut D,
-    reported: &mut Output,
-) -> Result<(), Fault> {
-    let mut beside = Vec::new(alloc);
-    write_settings(&mut beside, values)?;
-    let call = request.call_of(alloc, Command::Track);
-    let mut about_ids = Output::new(alloc);
-    run_call(
-        alloc,
-        &mut about_ids,
-        &call,
-        &Files::of_specs(beside.as_slice()),
-        b"",
-        done,
-    )?;
-    reported
-        .messages
-        .extend_from_slice(about_ids.messages.as_slice())?;
-    write_with_remote(
-        alloc,
-        &mut reported.results,
-        remote,
-        about_ids.results.as_slice(),
-    )?;
-    Ok(())
-}
-
-// Appends rows.
-fn write_rows(
-    alloc: Global,
-    form: Form,
-    rows: &[Row<'_>],
-    out: &mut Vec<u8>,
-) -> Result<(), AllocError> {
-    match form {
-        Form::Lines => write_table(alloc, rows, out),
-        Form::Zeros => {
-            for row in rows {
-                write_field(out, row.remote)?;
-                write_field(out, row.destination.as_slice())?;
-                write_field(out, row.source.as_slice())?;
-                write_field(out, row.spec.as_slice())?;
-            }
-            Ok(())
-        }
-        Form::Json => {
-            for row in rows {
-                let (destination, source) = (row.destination.as_slice(), row.source.as_slice());
-                write_mapping(
-                    alloc,
-                    out,
-                    row.remote,
-                    destination,
-                    source,
-                    row.spec.as_slice(),
-                )?;
-            }
-            Ok(())
+    values: &Values<'_>,
+    settings: &[Setting<'_>],
+    refs: &[Looked<'r>],
+) -> Result<Advice<'r>, AllocError> {
+    let mut all = BTreeMap::new(alloc);
+    for looked in refs {
+        if looked.found == Found::Untracked {
+            let mut advice = Vec::new(alloc);
+            write_advice(alloc, values, settings, looked.name, &mut advice)?;
+            all.insert(looked.name, advice)?;
         }
     }
-}
-
-// Appends a field and a zero byte.
-fn write_field(out: &mut Vec<u8>, field: &[u8]) -> Result<(), AllocError> {
-    out.extend_from_slice(field)?;
-    Ok(out.push(0)?)
-}
-
-// Appends rows, as an aligned table.
-fn write_table(alloc: Global, rows: &[Row<'_>], out: &mut Vec<u8>) -> Result<(), AllocError> {
-    let mut layout = Layout::new();
-    let mut widest: usize = 0;
-    for row in rows {
-        widest = widest.max(layout.width_of(alloc, row.remote)?);
-        layout.first = layout
-            .first
-            .max(layout.width_of(alloc, row.destination.as_slice())?);
-        layout.second = layout
-            .second
-            .max(layout.width_of(alloc, row.source.as_slice())?);
-        layout.last = layout
-            .last
-            .max(layout.width_of(alloc, row.spec.as_slice())?);
-    }
-    for row in rows {
-        layout.write_cell(alloc, out, row.remote, widest)?;
-        layout.write_cell(alloc, out, row.destination.as_slice(), layout.first)?;
-        layout.write_cell(alloc, out, row.source.as_slice(), layout.second)?;
-        layout.write_field(out, row.spec.as_slice())?;
-        out.push(b'\n')?;
-    }
-    Ok(())
-}
-
-// The rows that were found, and the settings in which they were searched.
-#[derive(Clone, Copy)]
-struct Found<'f, 'a> {
-    form: Form,
-    rows: &'f [Row<'a>],
-    values: &'f Values<'a>,
-    settings: &'f [Setting<'a>],
-}
-
-// Reports the refs that no remote writes, and those that several remotes write. Returns whether there is one of the former.
-fn report_others(
-    alloc: Global,
-    found: &Found<'_, '_>,
-    names: &[Vec<u8>],
-    reported: &mut Output,
-) -> Result<bool, AllocError> {
-    let mut has_untracked = false;
-    for (number, name) in names.iter().enumerate() {
-        let rows = rows_at(found.rows, number);
-        if rows.is_empty() {
-            report_untracked(alloc, found, name.as_slice(), reported)?;
-            has_untracked = true;
-        }
-        let writers = writers_of(rows);
-        if writers > 1 {
-            report_ambiguous(alloc, found.form, name.as_slice(), writers, reported)?;
-        }
-    }
-    Ok(has_untracked)
-}
-
-// The rows of the ref with this index.
-fn rows_at<'r, 'a>(rows: &'r [Row<'a>], number: usize) -> &'r [Row<'a>] {
-    let (_, rest) = rows.split_at(rows.partition_point(|row| row.number < number));
-    let (mine, _) = rest.split_at(rest.partition_point(|row| row.number == number));
-    mine
-}
-
-// How many remotes Git finds for one ref that a branch is to track, as it compares full destinations alone. The rows of a
-// remote are adjacent.
-fn writers_of(rows: &[Row<'_>]) -> usize {
-    let mut writers: usize = 0;
-    let mut last: Option<&[u8]> = None;
-    for row in rows {
-        if row.is_full {
-            if last != Some(row.remote) {
-                writers = writers.saturating_add(1);
-            }
-            last = Some(row.remote);
-        }
-    }
-    writers
-}
-
-// Reports a ref that no value writes.
-fn report_untracked(
-    alloc: Global,
-    found: &Found<'_, '_>,
-    name: &[u8],
-    reported: &mut Output,
-) -> Result<(), AllocError> {
-    reported.status = 1;
-    let message = "No value of a remote writes this ref.";
-    if found.form == Form::Json {
-        return write_ref_note(alloc, &mut reported.results, "untracked", name, message);
-    }
-    write_about(&mut reported.messages, "", name, ": ")?;
-    reported.messages.extend_from_slice(message.as_bytes())?;
-    reported.messages.push(b'\n')?;
-    write_untracked_advice(alloc, &mut reported.messages, found, name)
+    Ok(all)
 }
 
 // Appends a line of advice on a ref that no value writes: for a tracking ref how to add a value, or that a negative
 // value excludes its source; for a branch how to name its upstream.
-fn write_untracked_advice(
+fn write_advice(
     alloc: Global,
-    out: &mut Vec<u8>,
-    found: &Found<'_, '_>,
+    values: &Values<'_>,
+    settings: &[Setting<'_>],
     name: &[u8],
+    out: &mut Vec<u8>,
 ) -> Result<(), AllocError> {
     if let Some(path) = name.strip_prefix(b"refs/remotes/".as_slice()) {
-        if let Some((remote, branch)) = remote_above(path, found.values) {
-            if is_left_out(alloc, found.values, remote, branch)? {
+        if let Some((remote, branch)) = remote_above(path, values) {
+            if is_left_out(alloc, values, remote, branch)? {
                 write_about(out, "    A negative value of ", remote, " leaves ")?;
                 write_about(out, "refs/heads/", branch, " out.\n")?;
             } else {
@@ -597,7 +360,7 @@ fn write_untracked_advice(
         }
     }
     if let Some(branch) = name.strip_prefix(b"refs/heads/".as_slice()) {
-        if last_value(found.settings, b"branch", branch, b"merge").is_some() {
+        if last_value(settings, b"branch", branch, b"merge").is_some() {
             write_about(
                 out,
                 "    This is a branch of your own; for its upstream give ",
@@ -631,29 +394,4 @@ fn is_left_out<'a>(
         }
     }
     Ok(false)
-}
-
-// Reports a ref that several remotes write.
-fn report_ambiguous(
-    alloc: Global,
-    form: Form,
-    name: &[u8],
-    writers: usize,
-    reported: &mut Output,
-) -> Result<(), AllocError> {
-    reported.status = 1;
-    let count = format!(in alloc; "git refspec: {writers} remotes write ")?;
-    let why = ", so Git refuses to set it as an upstream: it is ambiguous";
-    if form == Form::Json {
-        let message = format!(in alloc; "{writers} remotes write this ref{why}")?;
-        return write_ref_note(
-            alloc,
-            &mut reported.results,
-            "ambiguous",
-            name,
-            message.as_str(),
-        );
-    }
-    write_about(&mut reported.messages, count.as_str(), name, why)?;
-    Ok(reported.messages.push(b'\n')?)
 }

@@ -27,6 +27,11 @@ zip_next {A} {B} R xs i d ys more y below so_far is grown =
 pub zip_all : {A B : Type 0} (R : A → B → Type 0) (xs : List A) (i : ℕ) (ys : List B) → length xs ≤ i → AllZip R (take i xs) ys → AllZip R xs ys
 zip_all {A} R xs i ys long so_far = subst (λ (l : List A). AllZip R l ys) (take_all i xs long) so_far
 
+-- all elements, where the first ones are mapped
+pub zip_mapped_all : {A C D : Type 0} (R : C → D → Type 0) (f : A → C) (xs : List A) (i : ℕ) (ys : List D)
+    → length xs ≤ i → AllZip R (map f (take i xs)) ys → AllZip R (map f xs) ys
+zip_mapped_all {A} R f xs i ys long so_far = subst (λ (l : List A). AllZip R (map f l) ys) (take_all i xs long) so_far
+
 -- one more spec
 pub specs_next : (all : List Checked) (i : ℕ) (c : Checked) (t : Text) (spec : RefSpecRef) (old new : List RefSpecRef) → i < length all → c ≡ get_or all i c → c ≡ checked.Good t spec → new ≡ old ++ spec ∷ [] → AllZip IsSpec (take i all) (map reading_of old) → AllZip IsSpec (take (i + 1) all) (map reading_of new)
 specs_next all i c t spec old new below here is grown so_far =

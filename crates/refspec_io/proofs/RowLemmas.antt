@@ -1,10 +1,7 @@
 -- Rows in order, and their parts.
-use Rattle.std.proofs.Common.{◌≡◌, None, ℕ, zero, suc, arith, ◌+◌, ◌<◌, ◌≤◌, List, [], ◌∷◌, ◌++◌, map, flat_map, length, take, get_or, replicate, codes, Option, option_map, Some, refl, sym, ap, ◌∙◌, subst, append_assoc}
-use Rattle.std.proofs.lemmas.List.{append-nil, map-append, map_more}
-use Rattle.std.proofs.lemmas.Grind.{flat_map-append}
+use Rattle.std.proofs.Common.{◌≡◌, None, ℕ, zero, suc, arith, ◌+◌, ◌<◌, ◌≤◌, List, [], ◌∷◌, ◌++◌, map, length, take, get_or, replicate, Option, option_map, Some, refl, sym, ap, ◌∙◌, subst, append_assoc}
+use Rattle.std.proofs.lemmas.List.{map-append, map_more}
 use Rattle.gix_refspec.specs.Matching.Mappings.{Mapped}
-use Rattle.gix_refspec.specs.Views.Group.{mapped_of}
-use Rattle.gix_refspec_match.specs.declared.types.Mapping.{Mapping}
 use Rattle.gix_refspec_text.specs.declared.spec.RefSpecRef.{RefSpecRef}
 use Rattle.gix_refspec.specs.Specs.Meaning.{printed}
 use Rattle.gix_refspec.specs.Specs.Reading.{Reading}
@@ -12,38 +9,12 @@ use Rattle.gix_refspec.specs.Views.Spec.{reading_of}
 use Rattle.bstr.specs.Owned.{bstring_bytes}
 use Rattle.bstr.specs.declared.bstring.BString.{BString}
 use Rattle.refspec_json.specs.Objects.{line_of, mapping_object}
-use Rattle.refspec_io.specs.declared.call.Form.{Form}
 use Rattle.refspec_io.specs.declared.call.Form.TheVariants as form
 use Rattle.refspec_io.specs.Json.{json_text}
-use Rattle.refspec_io.specs.Rows.{AddsLines, AddsMappings, AreRowLines, AreSpecTexts, WritesCell, WritesLine, Row, fields, mapped_object, object_of, row_of, source_text}
+use Rattle.refspec_io.specs.Rows.{AreSpecTexts, WritesCell, WritesLine, Row, fields, mapped_object, source_text}
 use Rattle.refspec_io.specs.Shown.{WritesQuoted, zero_ended}
-use Rattle.refspec_io.proofs.ShownLemmas.{behind, flat_map-map, map-twice}
+use Rattle.refspec_io.proofs.ShownLemmas.{behind}
 use Rattle.std.proofs.lemmas.Slice.Zip.{all_zipped_more}
-
--- the lines of some rows, and then those of others
-AreRowLines-append : (xs ys : List Row) (front back : List ℕ) → AreRowLines xs front → AreRowLines ys back → AreRowLines (xs ++ ys) (front ++ back)
-AreRowLines-append [] ys front back none more = subst (λ (l : List ℕ). AreRowLines ys (l ++ back)) (sym none) more
-AreRowLines-append (x ∷ xs) ys front back some more = (some.0, some.1 ++ back, some.2, AreRowLines-append xs ys some.1 back some.3 more, ap (λ l. l ++ back) some.4 ∙ append_assoc some.0 some.1 back)
-
--- at the start there are no lines
-pub AddsLines-start : (old : List ℕ) → AddsLines [] old old
-AddsLines-start old = ([], refl, sym (append-nil old))
-
--- one more line
-pub AddsLines-next : {X : Type 0} (shown : X → Row) (xs : List X) (i : ℕ) (d : X) (r : Row) (old mid new : List ℕ) → i < length xs → r ≡ shown (get_or xs i d) → AddsLines (map shown (take i xs)) old mid → WritesLine r mid new → AddsLines (map shown (take (i + 1) xs)) old new
-AddsLines-next shown xs i d r old mid new below same a b =
-    let b2 = subst (λ (x : Row). WritesLine x mid new) same b in
-    let last : AreRowLines (shown (get_or xs i d) ∷ []) b2.0 = (b2.0, [], b2.1, refl, sym (append-nil b2.0)) in
-    subst (λ (l : List Row). AddsLines l old new) (sym (map_more shown xs i d below)) (a.0 ++ b2.0, AreRowLines-append (map shown (take i xs)) (shown (get_or xs i d) ∷ []) a.0 b2.0 a.1 last, behind old a.0 mid b2.0 new a.2 b2.2)
-
--- the fields of one more row
-pub fields_next : {X : Type 0} (shown : X → Row) (xs : List X) (i : ℕ) (d : X) (r : Row) (old mid new : List ℕ) → i < length xs → r ≡ shown (get_or xs i d) → mid ≡ old ++ flat_map fields (map shown (take i xs)) → new ≡ mid ++ fields r → new ≡ old ++ flat_map fields (map shown (take (i + 1) xs))
-fields_next shown xs i d r old mid new below same a b =
-    let front = map shown (take i xs) in
-    let x = shown (get_or xs i d) in
-    let all : flat_map fields front ++ fields r ≡ flat_map fields (map shown (take (i + 1) xs)) =
-    ap (λ y. flat_map fields front ++ fields y) same ∙ (ap (λ l. flat_map fields front ++ l) (sym (append-nil (fields x))) ∙ (sym (flat_map-append fields front (x ∷ [])) ∙ ap (flat_map fields) (sym (map_more shown xs i d below)))) in
-    behind old (flat_map fields front) mid (fields r) new a b ∙ ap (λ l. old ++ l) all
 
 -- the cells, the last field and a newline are a line
 pub WritesLine-of : (r : Row) (old a b row new : List ℕ) → WritesCell r.destination old a → WritesCell r.source a b → WritesQuoted r.spec b row → new ≡ row ++ 10 ∷ [] → WritesLine r old new
@@ -62,27 +33,12 @@ fields-of r old a b new is_a is_b is_new =
     let source = zero_ended r.source in
     behind old (destination ++ source) b (zero_ended r.spec) new (behind old destination a source b is_a is_b) is_new
 
--- mappings as lines
-pub AddsMappings-lines : (f : Form) (texts : List (List ℕ)) (ms : List Mapping) (old new : List ℕ) → f ≡ form.Lines → AddsLines (map (λ m. row_of (codes "FETCH_HEAD") texts (mapped_of m)) ms) old new → AddsMappings f texts (map mapped_of ms) old new
-AddsMappings-lines f texts ms old new same reported =
-    subst (λ (x : Form). AddsMappings x texts (map mapped_of ms) old new) (sym same) (subst (λ (l : List Row). AddsLines l old new) (map-twice (row_of (codes "FETCH_HEAD") texts) mapped_of ms) reported)
-
--- mappings as fields ended by zero bytes
-pub AddsMappings-zeros : (f : Form) (texts : List (List ℕ)) (ms : List Mapping) (old new : List ℕ) → f ≡ form.Zeros → new ≡ old ++ flat_map fields (map (λ m. row_of [] texts (mapped_of m)) ms) → AddsMappings f texts (map mapped_of ms) old new
-AddsMappings-zeros f texts ms old new same reported =
-    subst (λ (x : Form). AddsMappings x texts (map mapped_of ms) old new) (sym same) (reported ∙ ap (λ l. old ++ flat_map fields l) (map-twice (row_of [] texts) mapped_of ms))
-
 -- the object of a mapping, member by member
 pub mapped_object-of : (m : Mapped) (text source spec : List ℕ) (destination : Option (List ℕ)) (old new : List ℕ) → source ≡ json_text (source_text m.source) → destination ≡ option_map json_text m.destination → spec ≡ json_text text → new ≡ old ++ line_of (mapping_object source destination spec None) → new ≡ old ++ mapped_object text m
 mapped_object-of m text source spec destination old new is_source is_destination is_spec write =
     write ∙ (ap (λ x. old ++ line_of (mapping_object x destination spec None)) is_source
     ∙ (ap (λ x. old ++ line_of (mapping_object (json_text (source_text m.source)) x spec None)) is_destination
     ∙ ap (λ x. old ++ line_of (mapping_object (json_text (source_text m.source)) (option_map json_text m.destination) x None)) is_spec))
-
--- mappings as objects
-pub AddsMappings-json : (f : Form) (texts : List (List ℕ)) (ms : List Mapping) (old new : List ℕ) → f ≡ form.Json → new ≡ old ++ flat_map (λ m. object_of texts (mapped_of m)) ms → AddsMappings f texts (map mapped_of ms) old new
-AddsMappings-json f texts ms old new same reported =
-    subst (λ (x : Form). AddsMappings x texts (map mapped_of ms) old new) (sym same) (reported ∙ ap (λ l. old ++ l) (flat_map-map (object_of texts) mapped_of ms))
 
 -- two or more spaces
 two_or_more : (n : ℕ) → 2 ≤ n → (more : ℕ) × (replicate {A = ℕ} n 32 ≡ 32 ∷ 32 ∷ replicate more 32)

@@ -80,17 +80,6 @@ KeepsReport-same p = record { form = refl; kept = KeepsResults-same p.form p.res
 pub KeepsReport-next : (p q r : Report) → KeepsReport p q → KeepsReport q r → KeepsReport p r
 KeepsReport-next p q r a b = record { form = b.form ∙ a.form; kept = KeepsResults-next p.form q.form p.results.items q.results.items r.results.items a.form a.kept b.kept }
 
--- a list mapped, and then mapped and joined
-pub flat_map-map : {X Y Z : Type 0} (f : Y → List Z) (g : X → Y) (xs : List X) → flat_map (λ x. f (g x)) xs ≡ flat_map f (map g xs)
-flat_map-map f g [] = refl
-flat_map-map f g (x ∷ xs) = ap (λ l. f (g x) ++ l) (flat_map-map f g xs)
-
--- one more part
-pub flat_next : {X : Type 0} (f : X → List ℕ) (xs : List X) (i : ℕ) (d : X) (piece old mid new : List ℕ) → i < length xs → piece ≡ f (get_or xs i d) → mid ≡ old ++ flat_map f (take i xs) → new ≡ mid ++ piece → new ≡ old ++ flat_map f (take (i + 1) xs)
-flat_next f xs i d piece old mid new below is before write =
-    let step : flat_map f (take (i + 1) xs) ≡ flat_map f (take i xs) ++ piece = ap (flat_map f) (take_more xs i d below) ∙ (flat_map-append f (take i xs) (get_or xs i d ∷ []) ∙ ap (λ l. flat_map f (take i xs) ++ l) (append-nil (f (get_or xs i d)) ∙ sym is)) in
-    behind old (flat_map f (take i xs)) mid piece new before write ∙ ap (λ l. old ++ l) (sym step)
-
 -- one more byte in quotes
 pub escaped-next : (text : List ℕ) (i d b : ℕ) (old mid new : List ℕ) → i < length text → b ≡ get_or text i d → mid ≡ old ++ (34 ∷ flat_map escaped (take i text)) → new ≡ mid ++ escaped b → new ≡ old ++ (34 ∷ flat_map escaped (take (i + 1) text))
 escaped-next text i d b old mid new below is before write =

@@ -1,5 +1,5 @@
 -- The objects that `refspec` writes for `--json`. This project's own rule. Members are in the order of their keys.
-use Rattle.std.specs.Prelude.{ℕ, List, [], ◌∷◌, ◌++◌, Option, Some, None, map, codes}
+use Rattle.std.specs.Prelude.{ℕ, ◌==◌, cond, List, [], ◌∷◌, ◌++◌, Option, Some, None, map, codes}
 use Rattle.serde_json.specs.Data.{Data, null, number, unsigned, string, array, object, Members, no_members, member}
 use Rattle.serde_json.specs.View.{items_of}
 use Rattle.serde_json.specs.Written.{compact_text}
@@ -7,6 +7,12 @@ use Rattle.serde_json.specs.Written.{compact_text}
 -- the line of an object
 abbrev pub line_of : Data → List ℕ
 line_of d = compact_text d ++ 10 ∷ []
+
+-- the line of an object with a remote as its first member; nothing for a text that isn't the line of one
+abbrev pub line_with_remote : (remote line : List ℕ) → List ℕ
+line_with_remote remote [] = []
+line_with_remote remote (b ∷ members) =
+    cond (b == 123) (codes "{\"remote\":" ++ (compact_text (string remote) ++ 44 ∷ members)) []
 
 -- a text, or null for None
 abbrev pub text_or_null : Option (List ℕ) → Data
@@ -59,6 +65,15 @@ mapping_object source destination spec origin = object (
     member (codes "destination") (text_or_null destination) (
     member (codes "kind") (string (codes "mapping")) (
     text_if (codes "origin") origin (
+    member (codes "source") (string source) (
+    member (codes "spec") (string spec) no_members)))))
+
+-- the same for a mapping of a remote with a name
+abbrev pub remote_mapping_object : (remote source : List ℕ) → (destination : Option (List ℕ)) → (spec : List ℕ) → Data
+remote_mapping_object remote source destination spec = object (
+    member (codes "destination") (text_or_null destination) (
+    member (codes "kind") (string (codes "mapping")) (
+    member (codes "remote") (string remote) (
     member (codes "source") (string source) (
     member (codes "spec") (string spec) no_members)))))
 
@@ -151,6 +166,13 @@ malformed_object location text message advice = object (
 abbrev pub untracked_object : (name message : List ℕ) → Data
 untracked_object name message = object (
     member (codes "kind") (string (codes "untracked")) (
+    member (codes "message") (string message) (
+    member (codes "name") (string name) no_members)))
+
+-- a ref that several remotes write
+abbrev pub ambiguous_object : (name message : List ℕ) → Data
+ambiguous_object name message = object (
+    member (codes "kind") (string (codes "ambiguous")) (
     member (codes "message") (string message) (
     member (codes "name") (string name) no_members)))
 

@@ -7,10 +7,12 @@ mod mappings;
 mod prefixes;
 mod refs;
 mod specs;
+mod tracking;
 mod warnings;
 
 pub use mappings::{Claim, Conflict, DirectoryConflict, LeftOut, Mapping, Overruled};
 pub use prefixes::{Nothing, Prefix};
 pub use refs::{Kept, Malformed, Missing, Stale, Untracked};
 pub use specs::{All, Refused, Spec, SpecKind, ToObject};
+pub use tracking::{Ambiguous, RemoteMapping, with_remote};
 pub use warnings::{WarnedSpec, Warning};

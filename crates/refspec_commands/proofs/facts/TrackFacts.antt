@@ -12,6 +12,8 @@ use Rattle.gix_refspec_text.proofs.facts.FitFacts.{short}
 use Rattle.gix_refspec_text.proofs.facts.ManualFacts.{none_some}
 use Rattle.gix_refspec_text.proofs.facts.ObjectIdFacts.{IsIdText-empty_blob, empty_blob}
 use Rattle.gix_refspec.specs.Matching.Mappings.{Mapped, name}
+use Rattle.refspec_commands.specs.declared.tracking.answer.Found.TheVariants as how
+use Rattle.refspec_commands.specs.Answer.{AreLeftOut, IsFoundBy}
 use Rattle.refspec_commands.specs.Track.{AreByNames, AreWritten, HasUnwritten, IsEachWritten, IsWritten, named}
 use Rattle.std.proofs.lemmas.Option.{same_Some}
 
@@ -60,6 +62,26 @@ not_by_names = (left_out, also_left_out, looked_up, λ are. omega (arith, ap len
     looked_up : ¬ (AreByNames (to_id ∷ []) (to_id ∷ []))
     looked_up (inl (is, none)) = omega (arith, ap length none)
     looked_up (inr (is, more)) = is ends_at_id
+
+-- the spec to an id is left out, and no other
+pub left_out : AreLeftOut (to_id ∷ to_name ∷ short ∷ []) (to_id ∷ [])
+left_out = inl (ends_at_id, ([], inr (ends_at_name, inr (nowhere, refl)), refl))
+
+pub not_left_out : ¬ (AreLeftOut (to_id ∷ []) []) × ¬ (AreLeftOut (to_name ∷ []) (to_name ∷ []))
+not_left_out = (kept, out)
+  where
+    kept : ¬ (AreLeftOut (to_id ∷ []) [])
+    kept (inl (is, (rest, none, same))) = omega (arith, ap length same)
+    kept (inr (other, none)) = other ends_at_id
+
+    out : ¬ (AreLeftOut (to_name ∷ []) (to_name ∷ []))
+    out (inl (is, more)) = ends_at_name is
+    out (inr (other, none)) = omega (arith, ap length none)
+
+-- Git finds several remotes for a ref if that is more than one
+pub found_by : IsFoundBy 0 how.Tracked × IsFoundBy 1 how.Tracked × IsFoundBy 2 (how.Ambiguous 2)
+    × ¬ (IsFoundBy 2 how.Tracked) × ¬ (IsFoundBy 1 (how.Ambiguous 1)) × ¬ (IsFoundBy 2 (how.Ambiguous 3))
+found_by = (omega arith, omega arith, (omega arith, refl), (λ few. omega (arith, few)), (λ many. omega (arith, many.0)), (λ other. omega (arith, other.1)))
 
 -- a ref of which only the name is known points to the null id, and has no peeled object
 pub given : ((named (codes "refs/x/a")).name ≡ codes "refs/x/a")

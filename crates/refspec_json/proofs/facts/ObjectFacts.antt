@@ -2,7 +2,7 @@
 use Rattle.std.proofs.Common.{◌≡◌, ◌++◌, [], ◌∷◌, None, Some, codes, refl}
 use Rattle.std.specs.Fmt.{digits}
 use Rattle.serde_json.proofs.OnLiterals.{serde_json_on_literals}
-use Rattle.refspec_json.specs.Objects.{line_of, refused_object, spec_object, mapping_object, overruled_object, left_out_object, conflict_object, missing_object, stale_object, kept_object, malformed_object, untracked_object, prefix_object, noted_object, nothing_object}
+use Rattle.refspec_json.specs.Objects.{line_of, refused_object, spec_object, mapping_object, remote_mapping_object, overruled_object, left_out_object, conflict_object, missing_object, stale_object, kept_object, malformed_object, untracked_object, ambiguous_object, line_with_remote, prefix_object, noted_object, nothing_object}
 
 -- a source with a fault, and an empty text
 pub refused : (line_of (refused_object (codes "-:1") (codes "fetch") (codes "a..b") (codes "r") (codes "m") (Some (codes "source")) (Some (codes "..")) (Some 2) (codes "d"))
@@ -29,6 +29,21 @@ pub mapping : (line_of (mapping_object (codes "a") None (codes "b") None)
     ≡ codes "{\"destination\":\"c\",\"kind\":\"mapping\",\"origin\":\"given\",\"source\":\"\\\"\\\\\",\"spec\":\"b\"}" ++ 10 ∷ [])
 unfolding serde_json_on_literals
 mapping = (refl, refl)
+
+pub remote_mapping : line_of (remote_mapping_object (codes "o") (codes "a") (Some (codes "c")) (codes "b"))
+    ≡ codes "{\"destination\":\"c\",\"kind\":\"mapping\",\"remote\":\"o\",\"source\":\"a\",\"spec\":\"b\"}" ++ 10 ∷ []
+unfolding serde_json_on_literals
+remote_mapping = refl
+
+pub ambiguous : line_of (ambiguous_object (codes "n") (codes "m")) ≡ codes "{\"kind\":\"ambiguous\",\"message\":\"m\",\"name\":\"n\"}" ++ 10 ∷ []
+unfolding serde_json_on_literals
+ambiguous = refl
+
+-- the remote is the first member of an object, and another text has no line
+pub with_remote : (line_with_remote (codes "o") (codes "{\"kind\":\"k\"}") ≡ codes "{\"remote\":\"o\",\"kind\":\"k\"}")
+    × (line_with_remote (codes "o") (codes "[]") ≡ []) × (line_with_remote (codes "o") [] ≡ [])
+unfolding serde_json_on_literals
+with_remote = (refl, refl, refl)
 
 pub overruled : line_of (overruled_object (codes "a") (Some (codes "c")) (codes "b") (codes "configured") (codes "m"))
     ≡ codes "{\"destination\":\"c\",\"kind\":\"overruled\",\"message\":\"m\",\"origin\":\"configured\",\"source\":\"a\",\"spec\":\"b\"}" ++ 10 ∷ []

@@ -1,13 +1,12 @@
--- Each member is that of the mapping.
-use Rattle.std.proofs.Common.{option_map, ap, ◌∙◌}
-use Rattle.gix_refspec.specs.Views.Group.{mapped_of}
-use Rattle.refspec_io.specs.Json.{json_text}
-use Rattle.refspec_io.proofs.RowLemmas.{mapped_object-of}
+-- There is an object of a mapping with a remote, and one without.
 use Rattle.refspec_io.proofs.ShownLemmas.{on_ok}
+use Rattle.refspec_commands.proofs.RowsLemmas.{alone_object, remote_line_object}
 use Rattle.refspec_commands.proofs.mappings.write_object.Goals as goal
 
-pub returns : goal.returns
-returns c =
-    let source = c.as_str.ensures.value ∙ (c.in_ok-source.ensures ∙ ap json_text c.in_ok-source_of.ensures) in
-    let destination = c.as_deref-destination.ensures.value ∙ (c.in_ok-destination.ensures ∙ ap (option_map json_text) c.destination_of.ensures) in
-    on_ok c.write_mapping.result _ _ c.write_mapping.ensures (mapped_object-of (mapped_of c.args.mapping.now) c.args.text.now c.as_str.result.now c.as_str-2.result.now (option_map (λ t. t.now) c.as_deref-destination.result) c.args.out.now.items c.write_mapping.new.out.items source destination (c.as_str-2.ensures.value ∙ c.in_ok-spec.ensures))
+pub returns-in-None : goal.returns-in-None
+returns-in-None c = on_ok c.write_mapping_object.result _ _ c.write_mapping_object.ensures (alone_object c.args.row.now
+    c.args.out.now.items c.write_mapping_object.new.out.items c.in-None.is)
+
+pub returns-in-Some : goal.returns-in-Some
+returns-in-Some c = on_ok c.write_remote_object.result _ _ c.write_remote_object.ensures (remote_line_object
+    c.args.row.now _ c.args.out.now.items c.write_remote_object.new.out.items c.in-Some.is)

@@ -1,9 +1,17 @@
--- The line is two cells, the text of the spec and a newline.
-use Rattle.std.proofs.Common.{ℕ, List, codes, subst}
-use Rattle.gix_refspec.specs.Views.Group.{mapped_of}
-use Rattle.refspec_io.specs.Rows.{WritesCell, mapped_row}
-use Rattle.refspec_io.proofs.RowLemmas.{WritesLine-of}
+-- There is a function for each form.
+use Rattle.std.proofs.Common.{OnOk, sym, subst}
+use Rattle.refspec_io.specs.declared.call.Form.{Form}
+use Rattle.refspec_commands.specs.Rows.{WritesRow, shown_row}
 use Rattle.refspec_commands.proofs.mappings.write_row.Goals as goal
 
-pub returns : goal.returns
-returns c = WritesLine-of (mapped_row (codes "FETCH_HEAD") c.args.text.now (mapped_of c.args.mapping.now)) c.args.out.now.items c.write_cell.new.out.items c.write_source_cell.new.out.items c.write_field.new.out.items c.push.new.self.items (subst (λ (d : List ℕ). WritesCell d c.args.out.now.items c.write_cell.new.out.items) c.destination_or-destination.ensures c.in_ok-write_cell.ensures) c.in_ok-write_source_cell.ensures c.in_ok-write_field.ensures c.in_ok-push.ensures.items
+pub returns-in-Lines : goal.returns-in-Lines
+returns-in-Lines c = subst (λ (f : Form). OnOk c.write_line.result (WritesRow f (shown_row c.args.row.now)
+    c.args.out.now.items c.write_line.new.out.items)) (sym c.in-Lines.is) c.write_line.ensures
+
+pub returns-in-Zeros : goal.returns-in-Zeros
+returns-in-Zeros c = subst (λ (f : Form). OnOk c.write_record.result (WritesRow f (shown_row c.args.row.now)
+    c.args.out.now.items c.write_record.new.out.items)) (sym c.in-Zeros.is) c.write_record.ensures
+
+pub returns-in-Json : goal.returns-in-Json
+returns-in-Json c = subst (λ (f : Form). OnOk c.write_object.result (WritesRow f (shown_row c.args.row.now)
+    c.args.out.now.items c.write_object.new.out.items)) (sym c.in-Json.is) c.write_object.ensures

@@ -6,7 +6,8 @@ use Rattle.refspec_io.specs.declared.texts.Location.TheVariants as location
 use Rattle.refspec_io.specs.declared.texts.Text.{Text}
 use Rattle.refspec_io.specs.Texts.{given_of}
 use Rattle.refspec_commands.specs.Warned.{IsWarned}
-use Rattle.refspec_commands.proofs.WarnedLemmas.{zip_mapped_all, zip_mapped_or}
+use Rattle.refspec_io.proofs.CheckedLemmas.{zip_mapped_all}
+use Rattle.refspec_commands.proofs.WarnedLemmas.{zip_mapped_or}
 use Rattle.refspec_commands.proofs.warnings.warned_specs.Goals as goal
 
 abbrev none : Text

@@ -4,7 +4,8 @@ use Rattle.gix_refspec_lint.specs.Views.Lint.{example_of}
 use Rattle.refspec_io.specs.Texts.{given_of}
 use Rattle.refspec_commands.specs.Warned.{IsAmong, IsConflictSaid}
 use Rattle.refspec_commands.specs.WarnedViews.{said_of}
-use Rattle.refspec_commands.proofs.WarnedLemmas.{all_mapped_at, zip_mapped_all, zip_mapped_next}
+use Rattle.refspec_io.proofs.CheckedLemmas.{zip_mapped_all}
+use Rattle.refspec_commands.proofs.WarnedLemmas.{all_mapped_at, zip_mapped_next}
 use Rattle.refspec_commands.proofs.warnings.conflicts.warnings_on.Goals as goal
 
 pub warning_on-requires : goal.warning_on-requires

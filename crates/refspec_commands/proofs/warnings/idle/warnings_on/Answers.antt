@@ -6,7 +6,8 @@ use Rattle.gix_refspec_lint.specs.Views.Lint.{unused_of}
 use Rattle.refspec_io.specs.Texts.{given_of}
 use Rattle.refspec_commands.specs.Warned.{IsIdleSaid, IsInside}
 use Rattle.refspec_commands.specs.WarnedViews.{said_of}
-use Rattle.refspec_commands.proofs.WarnedLemmas.{all_mapped_or, zip_mapped_all, zip_mapped_or}
+use Rattle.refspec_io.proofs.CheckedLemmas.{zip_mapped_all}
+use Rattle.refspec_commands.proofs.WarnedLemmas.{all_mapped_or, zip_mapped_or}
 use Rattle.refspec_commands.proofs.warnings.idle.warnings_on.Goals as goal
 
 abbrev none : IdleSpec

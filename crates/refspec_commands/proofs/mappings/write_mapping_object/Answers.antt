@@ -1,0 +1,17 @@
+-- Each member is that of the mapping.
+use Rattle.std.proofs.Common.{option_map, ap, ◌∙◌}
+use Rattle.gix_refspec.specs.Views.Group.{mapped_of}
+use Rattle.refspec_io.specs.Json.{json_text}
+use Rattle.refspec_io.proofs.RowLemmas.{mapped_object-of}
+use Rattle.refspec_io.proofs.ShownLemmas.{on_ok}
+use Rattle.refspec_commands.proofs.mappings.write_mapping_object.Goals as goal
+
+pub returns : goal.returns
+returns c =
+    let source = c.as_str.ensures.value ∙ (c.in_ok-source.ensures ∙ ap json_text c.in_ok-source_of.ensures) in
+    let destination = c.as_deref-destination.ensures.value ∙ (c.in_ok-destination.ensures ∙ ap (option_map json_text)
+    c.destination_of.ensures) in
+    on_ok c.write_mapping.result _ _ c.write_mapping.ensures (mapped_object-of (mapped_of c.args.mapping.now)
+    c.args.text.now c.as_str.result.now c.as_str-2.result.now (option_map (λ t. t.now)
+    c.as_deref-destination.result) c.args.out.now.items c.write_mapping.new.out.items source destination
+    (c.as_str-2.ensures.value ∙ c.in_ok-spec.ensures))

@@ -1,0 +1,14 @@
+-- The fields of the mapping, behind that of the remote.
+use Rattle.refspec_io.proofs.ShownLemmas.{on_ok}
+use Rattle.refspec_commands.proofs.RowsLemmas.{alone_fields, remote_fields}
+use Rattle.refspec_commands.proofs.mappings.write_record.Goals as goal
+
+pub returns-in-None : goal.returns-in-None
+returns-in-None c = on_ok c.write_fields.result _ _ c.write_fields.ensures (alone_fields c.args.row.now
+    c.args.out.now.items c.write_fields.new.out.items c.in-None.is)
+
+pub returns-in_ok-write_field-in-Some : goal.returns-in_ok-write_field-in-Some
+returns-in_ok-write_field-in-Some c =
+    on_ok c.write_fields-in-Some.result _ _ c.write_fields-in-Some.ensures (remote_fields c.args.row.now _
+    c.args.out.now.items c.write_field.new.out.items c.write_fields-in-Some.new.out.items c.in-Some.is
+    c.in_ok-write_field-in-Some.ensures)
