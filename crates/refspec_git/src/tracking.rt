@@ -11,6 +11,7 @@ use gix_refspec_text::side::{candidates, joined};
 use refspec_commands::tracking::answer::{Found, Looked, answer_to};
 use refspec_commands::tracking::question::{Order, Question, Remote};
 use refspec_commands::tracking::report::{Advice, report_answer};
+use refspec_io::call::Form;
 use refspec_io::report::Report;
 use refspec_io::settings::Setting;
 use refspec_request::arguments::Request;
@@ -43,26 +44,53 @@ pub fn report_tracking<'a, M: Machine>(
     }
     let values = values_of(alloc, request, repository)?;
     let names = names_of(alloc, machine, request, &values)?;
-    let none = ObjectId::null(Kind::shortest());
-    let question = question_of(alloc, &values, items_of(alloc, names.as_slice(), &none)?)?;
-    let found = answer_to(alloc, &question)?;
-    let refs = found.refs.as_slice();
-    let advice = advice_on(alloc, &values, repository.settings, refs)?;
-    let mut report = Report::new(alloc, request.form);
-    report_answer(alloc, question.order, &found, &advice, &mut report)?;
-    let mut reported = Output {
-        results: report.results,
-        messages: report.messages,
-        status: found.status_of_refs(),
-    };
-    if refs.iter().any(|looked| looked.found == Found::Untracked) {
+    let mut reported = report_on(
+        alloc,
+        &values,
+        repository.settings,
+        names.as_slice(),
+        request.form,
+    )?;
+    if reported.has_untracked {
         for old in repository.old {
             if let Some(refusal) = repository.old_remote(old.name.as_slice()) {
-                reported.refuse(&refusal)?;
+                reported.output.refuse(&refusal)?;
             }
         }
     }
-    Ok(Answer::Reports(reported))
+    Ok(Answer::Reports(reported.output))
+}
+
+// What is reported of refs, and whether some isn't written by any remote.
+#[derive(Drop)]
+struct Reported {
+    output: Output,
+    has_untracked: bool,
+}
+
+// The report on refs with these names, by the values of remotes.
+fn report_on<'a>(
+    alloc: Global,
+    values: &Values<'a>,
+    settings: &[Setting<'a>],
+    names: &[Vec<u8>],
+    form: Form,
+) -> Result<Reported, AllocError> {
+    let none = ObjectId::null(Kind::shortest());
+    let question = question_of(alloc, values, items_of(alloc, names, &none)?)?;
+    let found = answer_to(alloc, &question)?;
+    let refs = found.refs.as_slice();
+    let advice = advice_on(alloc, values, settings, refs)?;
+    let mut report = Report::new(alloc, form);
+    report_answer(alloc, question.order, &found, &advice, &mut report)?;
+    Ok(Reported {
+        output: Output {
+            results: report.results,
+            messages: report.messages,
+            status: found.status_of_refs(),
+        },
+        has_untracked: refs.iter().any(|looked| looked.found == Found::Untracked),
+    })
 }
 
 // The fetch values of the remote that `--remote` names, or of all remotes.
@@ -322,10 +350,10 @@ fn specs_of<'a>(alloc: Global, values: &[Setting<'a>]) -> Result<Vec<RefSpecRef<
 }
 
 // The advice on refs that no value writes.
-fn advice_on<'r>(
+fn advice_on<'a, 'r>(
     alloc: Global,
-    values: &Values<'_>,
-    settings: &[Setting<'_>],
+    values: &Values<'a>,
+    settings: &[Setting<'a>],
     refs: &[Looked<'r>],
 ) -> Result<Advice<'r>, AllocError> {
     let mut all = BTreeMap::new(alloc);
