@@ -7,5 +7,6 @@ pub use Rattle.gix_refspec_match.specs.Matching.Lists
 pub use Rattle.gix_refspec_match.specs.Matching.Mappings
 pub use Rattle.gix_refspec_match.specs.Matching.Hits
 pub use Rattle.gix_refspec_match.specs.Matching.Missing
+pub use Rattle.gix_refspec_match.specs.Matching.Single
 pub mod Validation
 pub mod RefNames

@@ -10,6 +10,7 @@ pub mod ref_names;
 pub(crate) mod types;
 pub mod validate;
 
+pub use gix_refspec_match::single::MapName;
 pub use gix_refspec_match::types::{Item, Mapping, NameRef, Source, SourceRef};
 use gix_refspec_match::{match_backward, match_forward};
 pub use premises::has_id_destination;

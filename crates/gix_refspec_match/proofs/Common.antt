@@ -35,9 +35,10 @@ pub use Rattle.gix_refspec_match.specs.Private.{Filter.{AreWholeTails, HasTail, 
 pub use Rattle.gix_refspec_match.specs.Private.Index.{ArePlacesBehind, HasNone, IsIndexFor, TakesWhole, ArePlacesTaken, Joins, name_at, IsIndexOf, IsListed, HasNamesOf, ListsFor, ArePlacesOf, HavePlaces, AddsPlace}
 pub use Rattle.gix_refspec_match.specs.Private.{Index.{HaveLengths, ListPrefixes, AddsWhere, IsBelowPlace, ListPartials, list_of}, Kept.{ExcludeName, FitsName, index_of, AreExclusionsAt, AreExclusionsOf, IsFlagged}}
 pub use Rattle.gix_refspec_match.specs.Private.{Kept.{Rises, ExcludeNameAt, ExcludeStart, IsUnflagged}, Matchers.{AreNamed, HasNoSides, HaveSides, IsNamed, IsNameKind, HaveKinds, HasEnds, TakesIn, AreMatcherOf}}
-pub use Rattle.gix_refspec_match.specs.Private.{Matchers.{AreMatchersOf, AreObjectOf, HaveOthers, AreObjectsOf}, Needles.{filled_side, HasSideKind, IsFirstIn, IsMatched, MatchesListed, IsTaken, TakesEach, word_in}}
+pub use Rattle.gix_refspec_match.specs.Private.{Matchers.{AreMatchersOf, AreObjectOf, HaveOthers, AreObjectsOf}, Needles.{filled_side, HasSideKind, IsFirstIn, IsFolder, IsMade, IsMatched, MatchesListed, MatchesNamed, IsTaken, TakesEach, word_in}}
 pub use Rattle.gix_refspec_match.specs.{Private.Orders.{both_equal, same_options, equal_pair, pair_order, same_pair, bytes_order, same_texts}, Views.Hashed.{source_writes, pair_writes}, Views.Mapping.IsBorrowed}
 pub use Rattle.gix_refspec_match.specs.{Views.Mapping.{IsOwned, IsLent, IsOwnedSource, HasOwned, IsNameCopy, IsSourceCopy, IsDestinationCopy, IsMappingCopy, ref_of, mapped_of, name_bytes}, declared.bloom.Bloom.Bloom}
+pub use Rattle.gix_refspec_match.specs.Matching.Single.{IsRenamed, MapsName, MapsNameBack}
 pub use Rattle.gix_refspec_match.specs.declared.{bloom.NameFilter.NameFilter, bloom.ShortTails.ShortTails, duplicates.Placed.Placed, exclusions.Exclusions.Exclusions, exclusions.Pattern.Pattern}
 pub use Rattle.gix_refspec_match.specs.declared.{hits.Hit.Hit as DeclaredHit, index.Index.Index, index.Key.Key, index.Names.Names, matcher.Candidates.Candidates, matcher.Candidates.TheVariants.{All, First}}
 pub use Rattle.gix_refspec_match.specs.declared.{matcher.Matcher.Matcher, matcher.Matchers.Matchers, matcher.ObjectSpec.ObjectSpec, matcher.Sides.Sides, types.Item.Item, types.Mapping.Mapping, types.NameRef.NameRef}

@@ -6,3 +6,4 @@ pub mod CandidateFacts
 pub mod ListsFacts
 pub mod CopyFacts
 pub mod OrderFacts
+pub mod SingleFacts

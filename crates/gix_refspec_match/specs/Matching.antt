@@ -3,3 +3,4 @@ pub mod Lists
 pub mod Mappings
 pub mod Hits
 pub mod Missing
+pub mod Single

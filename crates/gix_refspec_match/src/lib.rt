@@ -22,6 +22,7 @@ mod hits;
 mod index;
 pub mod matcher;
 pub mod needle;
+pub mod single;
 pub mod types;
 mod unique;
 

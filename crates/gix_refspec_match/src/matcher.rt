@@ -166,12 +166,12 @@ impl<'spec> Matchers<'spec> {
 
 // The sides of a positive spec that has a source.
 #[derive(Clone, Copy)]
-struct Sides<'spec> {
-    source: SideKind<'spec>,
-    destination: Option<SideKind<'spec>>,
+pub(crate) struct Sides<'spec> {
+    pub(crate) source: SideKind<'spec>,
+    pub(crate) destination: Option<SideKind<'spec>>,
 }
 
-fn sides_of<'spec>(spec: &RefSpecRef<'spec>) -> Option<Sides<'spec>>
+pub(crate) fn sides_of<'spec>(spec: &RefSpecRef<'spec>) -> Option<Sides<'spec>>
     ensures { MatchOption result (HasNoSides (reading_of spec.now)) (HaveSides (reading_of spec.now)) }
 {
     if spec.is_negative() {

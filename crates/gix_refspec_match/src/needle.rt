@@ -1,12 +1,12 @@
 //! What the needle of a matcher matches, and what the other side of its spec becomes then.
 
-ghost use Rattle.std.specs.Prelude.{◌≡◌, ◌++◌, codes, ◌⊎◌, ◌↔◌, ℕ, List, MatchOption, option_map, IfOk, IsTrue, Some};
+ghost use Rattle.std.specs.Prelude.{◌≡◌, ◌++◌, codes, ◌⊎◌, ◌↔◌, ℕ, List, MatchOption, option_map, IfOk, OnErr, IsTrue, Some};
 ghost use Rattle.bstr.specs.Owned.{bstring_bytes};
 ghost use Rattle.gix_refspec_text.specs.Texts.ObjectId.{id_bytes, lower_of};
 ghost use Rattle.gix_refspec_text.specs.Matching.Side.{Fits, full_name_of};
 ghost use Rattle.gix_refspec_match.specs.Views.Mapping.{name_bytes, ref_of};
 ghost use Rattle.gix_refspec_text.specs.Private.SideViews.{kind_of_side};
-ghost use Rattle.gix_refspec_match.specs.Private.Needles.{IsMatched, MatchesListed, filled_side, word_in as word_of};
+ghost use Rattle.gix_refspec_match.specs.Private.Needles.{IsMade, IsMatched, MatchesListed, filled_side, word_in as word_of};
 
 use crate::types::{Item, NameRef};
 use bstr::{BStr, BString};
@@ -67,8 +67,9 @@ pub(crate) fn filled<'spec>(
     side: Option<SideKind<'spec>>,
     word: Option<&[u8]>,
 ) -> Result<Option<NameRef<'spec>>, AllocError>
-    ensures { IfOk result (λ name. option_map name_bytes name ≡
+    ensures value { IfOk result (λ name. option_map name_bytes name ≡
         filled_side side.entry (option_map (λ w. w.now) word.entry)) }
+    ensures memory { OnErr result (IsMade side.entry) }
 {
     let Some(side) = side else {
         return Ok(None);

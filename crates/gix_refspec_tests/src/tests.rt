@@ -17,5 +17,6 @@ mod names;
 mod plans;
 mod removal;
 mod sides;
+mod single;
 mod stale;
 mod validation;

@@ -3,3 +3,4 @@ pub mod HitLemmas
 pub mod GroupLemmas
 pub mod MatcherLemmas
 pub mod ReachLemmas
+pub mod SingleLemmas

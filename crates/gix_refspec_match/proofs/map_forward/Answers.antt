@@ -11,5 +11,5 @@ loop-hit-preserved-then-is_some c =
 pub loop-hit-preserved : goal.loop-hit-preserved
 loop-hit-preserved c =
     included_next First _ _ _ _ _ _ _ _ _ _ _ (rw (← c.deref-hit-items.ensures.value) at c.requires) c.loop-hit-test.true c.loop-hit.invariant
-    (c.in_ok-filled.ensures ∙ ap (filled_side _) c.word_in.ensures) _ _ c.in_ok-push.ensures.items refl
+    (c.in_ok-filled.ensures.value ∙ ap (filled_side _) c.word_in.ensures) _ _ c.in_ok-push.ensures.items refl
     (λ taken. false≢true (sym c.if-is_some.false ∙ (told_by_some c.args.exclusions.now c.as_bytes.result.now c.spec_of.result c.is_some.result c.spec_of.ensures c.is_some.ensures).1 (rw c.as_bytes.ensures taken)))

@@ -1,7 +1,8 @@
 -- What needles match, and what the other side becomes, for functions that callers of the library can't reach.
-use Rattle.std.specs.Prelude.{◌-◌, ℕ, List, Option, None, Some, take, drop, length}
+use Rattle.std.specs.Prelude.{◌≡◌, ◌⊎◌, ◌-◌, ℕ, List, [], codes, Option, None, Some, take, drop, length}
 use Rattle.gix_refspec_text.specs.declared.side.SideKind.{SideKind as DeclaredKind}
-use Rattle.gix_refspec_text.specs.Matching.Side.{SideKind, pattern, full_name, object, partial, HasKind, filled}
+use Rattle.gix_refspec_text.specs.Matching.Side.{SideKind, pattern, full_name, object, partial}
+use Rattle.gix_refspec_text.specs.Matching.Side.{HasKind, IsCandidate, Fits, filled}
 use Rattle.gix_refspec_text.specs.Matching.Match.{Ref, MatchesAs, IsFirstCandidate}
 use Rattle.gix_refspec_text.specs.Private.SideViews.{kind_of_side}
 use Rattle.gix_refspec_match.specs.declared.matcher.Candidates.{Candidates}
@@ -45,6 +46,19 @@ TakesEach (full_name x) = Unit {0}
 TakesEach (object id) = Unit {0}
 TakesEach (partial x) = ⊥
 
+-- the bytes are tried before a partial name, with nothing after it
+abbrev pub IsFolder : List ℕ → Type 0
+IsFolder x = (x ≡ []) ⊎ (x ≡ codes "refs/") ⊎ (x ≡ codes "refs/tags/") ⊎ (x ≡ codes "refs/heads/")
+    ⊎ (x ≡ codes "refs/remotes/")
+
+-- a side of the kind matches each ref of the name n, whatever it points to, with the word if it is a pattern
+abbrev pub MatchesNamed : SideKind → List ℕ → Option (List ℕ) → Type 0
+MatchesNamed (pattern before after) n None = ⊥
+MatchesNamed (pattern before after) n (Some word) = Fits before after n word
+MatchesNamed (full_name x) n word = (word ≡ None) × (n ≡ x)
+MatchesNamed (object id) n word = ⊥
+MatchesNamed (partial x) n word = (word ≡ None) × IsCandidate x n
+
 -- the side, where it is there, has the kind
 abbrev pub HasSideKind : Option (List ℕ) → Option DeclaredKind → Type 0
 HasSideKind None None = Unit {0}
@@ -56,3 +70,8 @@ HasSideKind (Some x) (Some k) = HasKind x (kind_of_side k)
 abbrev pub filled_side : Option DeclaredKind → Option (List ℕ) → Option (List ℕ)
 filled_side None word = None
 filled_side (Some k) word = Some (filled (kind_of_side k) word)
+
+-- a side of the kind becomes a name of its own: one that isn't a full name
+abbrev pub IsMade : Option DeclaredKind → Type 0
+IsMade None = ⊥
+IsMade (Some k) = (n : List ℕ) → ¬ (kind_of_side k ≡ full_name n)

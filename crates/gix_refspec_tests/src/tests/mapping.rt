@@ -73,7 +73,7 @@ fn mark_of(name: &NameRef<'_>) -> &'static str {
 
 // Adds a mapping as rows write it: the indexes of item and spec, source and destination, with `-` for
 // what is missing and a `=` before a name that is owned.
-fn add_line(text: &mut String, mapping: &Mapping<'_, '_>) -> Result<(), AllocError> {
+pub(super) fn add_line(text: &mut String, mapping: &Mapping<'_, '_>) -> Result<(), AllocError> {
     let spec = mapping.spec_index;
     let source = &mapping.lhs;
     let mark = match source {

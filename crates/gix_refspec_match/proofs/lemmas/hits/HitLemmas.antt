@@ -3,7 +3,7 @@ use Rattle.gix_refspec_match.proofs.Common.{◌-◌, length, length-append, drop
 use Rattle.gix_refspec_match.proofs.Common.{subst, ap, take, drop, ◌+◌, ◌⊎◌, MatchOption, Bor, append_cancel_left, AllByRecursion, lacks_no_pattern, split_once, AllByRecursion-parts, IsIdText-unique, kind_of_side}
 use Rattle.gix_refspec_match.proofs.Common.{DeclaredKind, Ref, Matches, MatchesAs, pattern, object, HasKind, partial, SideKind, Fits, IsCandidate, candidates, Reading, Ends, IsFilled, Hit, IsHit, AreSpecHits}
 use Rattle.gix_refspec_match.proofs.Common.{IsIdMapping, AreBackward, AreForward, OneForward, OneBackward, Mapped, IsKeptAt, IsKept, HasEnds, TakesIn, filled_side, HasSideKind, IsFirstIn, Candidates, All, First}
-use Rattle.gix_refspec_match.proofs.{Common.{is_some, ◌<◌, map, get_or, option_map, ◌↔◌, IsTrue, Bool, zero-add, map-id, MakesOf, IsMadeFrom, mapping_of, IsMatched}, lemmas.lists.JoinLemmas.{one_joined, MakesOnce}}
+use Rattle.gix_refspec_match.proofs.{Common.{is_some, ◌<◌, map, get_or, option_map, ◌↔◌, IsTrue, Bool, zero-add, map-id, MakesOf, IsMadeFrom, mapping_of, IsMatched, IsFolder}, lemmas.lists.JoinLemmas.{one_joined, MakesOnce}}
 use Rattle.gix_refspec_match.proofs.lemmas.lists.ListsLemmas.{made_once, made_map}
 
 -- what a read past the end gives
@@ -30,10 +30,6 @@ of_hits which hits = map (mapping_of which) hits
 pub word_left : (before after n rest : List ℕ) (r : Option (Bor (List ℕ))) → n ≡ before ++ rest → MatchOption r ((front : List ℕ) → rest ≢ front ++ after) (λ x. rest ≡ x.now ++ after) → MatchOption r ((word : List ℕ) → ¬ (Fits before after n word)) (λ word. Fits before after n word.now)
 word_left before after n rest None front left = λ word fits. left word (append_cancel_left before rest (word ++ after) (sym front ∙ fits))
 word_left before after n rest (Some x) front left = front ∙ ap (λ y. before ++ y) left
-
--- the bytes are tried before a partial name, with nothing after it
-abbrev pub IsFolder : List ℕ → Type 0
-IsFolder x = (x ≡ []) ⊎ (x ≡ codes "refs/") ⊎ (x ≡ codes "refs/tags/") ⊎ (x ≡ codes "refs/heads/") ⊎ (x ≡ codes "refs/remotes/")
 
 -- each candidate has the partial name at its end, or is the head of a remote
 pub candidate_cases : (x n : List ℕ) → IsCandidate x n → ((before : List ℕ) × IsFolder before × (n ≡ before ++ x)) ⊎ (n ≡ codes "refs/remotes/" ++ (x ++ codes "/HEAD"))
