@@ -32,15 +32,6 @@ named_matches (object id) r word is = absurd is
 named_matches (full_name x) r word is = is
 named_matches (partial x) r word is = is
 
--- what matches a ref by its name matches each
-pub matches_named : (k : SideKind) (r : Ref) (word : Option (List ℕ)) → ((id : List ℕ) → ¬ (k ≡ object id))
-    → MatchesAs k r word → MatchesNamed k r.name word
-matches_named (pattern before after) r (Some w) other is = is
-matches_named (pattern before after) r None other is = absurd is
-matches_named (full_name x) r word other is = is
-matches_named (object id) r word other is = absurd (other id refl)
-matches_named (partial x) r word other is = is
-
 first_alone : (which : Candidates) (k : SideKind) (r : Ref) (word : Option (List ℕ)) → MatchesNamed k r.name word
     → IsFirstIn k which (r ∷ []) r.name
 first_alone First (partial x) r word is = first_of_one x r is.1
