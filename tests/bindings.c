@@ -219,6 +219,66 @@ static void check_buffer(fills *fill, const char *answer)
     refused = 0;
 }
 
+/* What Git makes of a name, if a remote has this ref and the command line this spec. */
+static const struct {
+    const char *text, *name;
+    uint32_t operation, mapped, has_destination;
+    const char *made;
+} name_rows[] = {
+    { "+refs/heads/*:refs/o/*", "refs/heads/main", GIX_REFSPEC_FETCH, 1, 1, "refs/o/main" },
+    { "+refs/heads/*:refs/o/*", "refs/tags/v1", GIX_REFSPEC_FETCH, 0, 0, "" },
+    { "main:x", "refs/heads/main", GIX_REFSPEC_FETCH, 1, 1, "refs/heads/x" },
+    { "main", "refs/tags/main", GIX_REFSPEC_FETCH, 1, 0, "" },
+    { "main", "refs/heads/main", GIX_REFSPEC_PUSH, 1, 0, "" },
+    { "main:main", "refs/heads/main", GIX_REFSPEC_PUSH, 1, 1, "refs/heads/main" },
+    { "^refs/heads/*", "refs/heads/main", GIX_REFSPEC_FETCH, 0, 0, "" },
+    { "1111111111111111111111111111111111111111:refs/x", "refs/heads/main", GIX_REFSPEC_FETCH, 0, 0, "" },
+};
+
+static uint32_t map_main(uint8_t *buffer, size_t buffer_len, size_t *len)
+{
+    gix_refspec_made made = { 0, 0, *len };
+    uint32_t outcome = gix_refspec_map(BYTES("refs/heads/*:refs/o/*"), GIX_REFSPEC_FETCH, BYTES("refs/heads/main"),
+                                       buffer, buffer_len, &made);
+    CHECK(made.mapped == (outcome != GIX_REFSPEC_NO_MEMORY) && made.has_destination == made.mapped);
+    *len = made.len;
+    return outcome;
+}
+
+static uint32_t map_back(uint8_t *buffer, size_t buffer_len, size_t *len)
+{
+    gix_refspec_made made = { 0, 0, *len };
+    uint32_t outcome = gix_refspec_map_back(BYTES("refs/heads/*:refs/o/*"), GIX_REFSPEC_FETCH, BYTES("refs/o/main"),
+                                            buffer, buffer_len, &made);
+    CHECK(made.mapped == (outcome != GIX_REFSPEC_NO_MEMORY) && made.has_destination == made.mapped);
+    *len = made.len;
+    return outcome;
+}
+
+static void check_mapped_names(void)
+{
+    uint8_t buffer[32] = "xxx";
+    gix_refspec_made made = GIX_REFSPEC_MADE_INIT;
+    for (size_t i = 0; i < sizeof name_rows / sizeof *name_rows; i++) {
+        uint32_t outcome = gix_refspec_map(BYTES(name_rows[i].text), name_rows[i].operation, BYTES(name_rows[i].name),
+                                           buffer, 32, &made);
+        CHECK(outcome == GIX_REFSPEC_OK);
+        CHECK(made.mapped == name_rows[i].mapped);
+        CHECK(made.has_destination == name_rows[i].has_destination);
+        CHECK(made.len == strlen(name_rows[i].made) && memcmp(buffer, name_rows[i].made, made.len) == 0);
+    }
+    check_buffer(map_main, "refs/o/main");
+    check_buffer(map_back, "refs/heads/main");
+    CHECK(gix_refspec_map_back(BYTES("a:refs/b"), GIX_REFSPEC_FETCH, BYTES("refs/c"), NULL, 0, &made) == 0);
+    CHECK(made.mapped == 0 && made.has_destination == 0 && made.len == 0);
+    made = (gix_refspec_made){ 7, 7, 7 };
+    memset(buffer, 'x', sizeof buffer);
+    uint32_t refusal = gix_refspec_map(BYTES("a b"), GIX_REFSPEC_FETCH, BYTES("a"), buffer, 32, &made);
+    CHECK(refusal == GIX_REFSPEC_NAME_INVALID_BYTE);
+    CHECK(gix_refspec_map_back(BYTES("a"), 3, BYTES("a"), buffer, 32, &made) == GIX_REFSPEC_NO_OPERATION);
+    CHECK(made.mapped == 7 && made.has_destination == 7 && made.len == 7 && is_untouched(buffer, 32));
+}
+
 static void check_other_texts(void)
 {
     uint8_t buffer[8] = "xxxxxxx";
@@ -654,6 +714,8 @@ static void check_null(void)
     CHECK(gix_refspec_parts(NULL, 0, GIX_REFSPEC_FETCH, &parts) == GIX_REFSPEC_OK && is(parts.source, "HEAD"));
     CHECK(gix_refspec_canonical(NULL, 0, GIX_REFSPEC_FETCH, NULL, 0, &len) == GIX_REFSPEC_TOO_SMALL && len == 4);
     CHECK(gix_refspec_compare(NULL, 0, BYTES("@"), GIX_REFSPEC_FETCH, &order) == GIX_REFSPEC_OK && order == 0);
+    gix_refspec_made head = GIX_REFSPEC_MADE_INIT;
+    CHECK(gix_refspec_map(NULL, 0, GIX_REFSPEC_FETCH, NULL, 0, NULL, 0, &head) == GIX_REFSPEC_OK && head.mapped == 0);
     CHECK(gix_refspec_prefix(NULL, 0, GIX_REFSPEC_FETCH, &prefix) == GIX_REFSPEC_OK && is(prefix, "HEAD"));
     CHECK(gix_refspec_expand_prefixes(BYTES("^a"), GIX_REFSPEC_FETCH, NULL, 0, &len) == GIX_REFSPEC_OK && len == 0);
     CHECK(gix_refspec_prefixes(NULL, 0, GIX_REFSPEC_FETCH, NULL, 0, &len) == GIX_REFSPEC_OK && len == 0);
@@ -687,6 +749,7 @@ static void *check_all(void *nothing)
     check_buffer(canonical, "+HEAD:refs/x");
     check_buffer(prefixes, "refs/heads/\nrefs/tags/v1\n");
     check_prefixes_of_one();
+    check_mapped_names();
     check_groups();
     check_mappings();
     check_looking_back();

@@ -56,8 +56,9 @@ if command -v g++ >/dev/null; then
       echo '    gix_refspec_instruction parts = GIX_REFSPEC_PARTS_INIT;'
       echo '    gix_refspec_span span = GIX_REFSPEC_SPAN_INIT;'
       echo '    gix_refspec_wish wish = GIX_REFSPEC_WISH_INIT;'
+      echo '    gix_refspec_made made = GIX_REFSPEC_MADE_INIT;'
       echo '    return gix_refspec_version(&version) == GIX_REFSPEC_OK && version.len > 0 && parts.kind == 0 && span.side == 0'
-      echo '        && wish.tags == 0 && calls[0] != 0 ? 0 : 1;'
+      echo '        && wish.tags == 0 && made.mapped == 0 && calls[0] != 0 ? 0 : 1;'
       echo '}'; } >"$made/header.cc"
     for standard in c++98 c++11 c++17 c++20; do
         g++ -std=$standard -pedantic -Wall -Wextra -Werror -I"$include" -o "$made/header" "$made/header.cc" \

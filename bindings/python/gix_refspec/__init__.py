@@ -149,6 +149,31 @@ class Spec:
             return NotImplemented
         return self._key() < other._key()
 
+    def map(self, name: Text) -> "Optional[Mapping]":
+        """The mapping that it makes of a name, which is the source, by itself: negative specs exclude nothing here, and
+        a partial name takes each of its six candidates. None if the source doesn't match the name, as an object id
+        never does. The indexes are 0.
+
+        >>> parse("refs/heads/*:refs/x/*", Operation.FETCH).map("refs/heads/main").destination
+        b'refs/x/main'
+        """
+        source = _encoded(name)
+        made, destination = _made(_library.gix_refspec_map, self, source)
+        if not made.mapped:
+            return None
+        return Mapping(0, 0, source, destination if made.has_destination else None, self.forced)
+
+    def map_back(self, name: Text) -> "Optional[Mapping]":
+        """The mapping that it makes of a name, which is the destination. None if the destination doesn't match the
+        name, or there is none. All else is as in `map`.
+
+        >>> parse("refs/heads/*:refs/x/*", Operation.FETCH).map_back("refs/x/main").source
+        b'refs/heads/main'
+        """
+        destination = _encoded(name)
+        made, source = _made(_library.gix_refspec_map_back, self, destination)
+        return Mapping(0, 0, source, destination, self.forced) if made.mapped else None
+
     def _key(self) -> Tuple[int, bytes, bytes, bool]:
         # Of one kind all have the same sides.
         return self.kind, self.source or b"", self.destination or b"", self.forced
@@ -352,6 +377,10 @@ class _Span(ctypes.Structure):
     _fields_ = [("side", ctypes.c_uint32), ("start", ctypes.c_size_t), ("len", ctypes.c_size_t)]
 
 
+class _Made(ctypes.Structure):
+    _fields_ = [("mapped", ctypes.c_uint32), ("has_destination", ctypes.c_uint32), ("len", ctypes.c_size_t)]
+
+
 class _Mapping(ctypes.Structure):
     _fields_ = [("spec", ctypes.c_size_t), ("item", ctypes.c_size_t), ("has_destination", ctypes.c_uint32),
                 ("forced", ctypes.c_uint32), ("origin", ctypes.c_uint32), ("verdict", ctypes.c_uint32),
@@ -410,6 +439,8 @@ def _declare(library: ctypes.CDLL) -> None:
             ("locate", [*one, number, ctypes.POINTER(_Span)]),
             ("canonical", [*one, number, text, size, sizes]),
             ("compare", [*one, *one, number, ctypes.POINTER(ctypes.c_int32)]),
+            ("map", [*one, number, *one, text, size, ctypes.POINTER(_Made)]),
+            ("map_back", [*one, number, *one, text, size, ctypes.POINTER(_Made)]),
             ("prefixes", [*many, number, text, size, sizes]),
             ("match", [*many, *many, number, *lists]),
             ("plan", [ctypes.POINTER(_Wish), *many, *lists]),
@@ -485,6 +516,19 @@ def _filled(call: Callable[..., int], *words: object) -> bytes:
         if outcome != Outcome.TOO_SMALL:
             raise RefspecError(outcome)
         room = size.value
+
+
+def _made(call: Callable[..., int], spec: Spec, name: bytes) -> Tuple[_Made, bytes]:
+    """What a call tells of a name, and the name that it makes."""
+    made, room = _Made(), 256
+    while True:
+        buffer = ctypes.create_string_buffer(room)
+        outcome = call(*_bytes(spec.canonical), spec.operation, name, len(name), buffer, room, ctypes.byref(made))
+        if outcome == Outcome.OK:
+            return made, buffer.raw[:made.len]
+        if outcome != Outcome.TOO_SMALL:
+            raise RefspecError(outcome)
+        room = made.len
 
 
 def _listed(call: Callable[..., int], items: int, *given: object) -> "Tuple[List[_Mapping], bytes]":

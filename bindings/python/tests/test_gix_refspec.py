@@ -191,6 +191,22 @@ class Calls(unittest.TestCase):
         name = b"refs/heads/" + b"a" * 1000
         self.assertEqual(prefixes([name]), [name])
 
+    def test_maps_one_name(self) -> None:
+        every = parse(b"+refs/heads/*:refs/x/*", Operation.FETCH)
+        long = b"a" * 1000
+        for name in (b"main", long):
+            one = Mapping(0, 0, b"refs/heads/" + name, b"refs/x/" + name, forced=True)
+            self.assertEqual(every.map(b"refs/heads/" + name), one)
+            self.assertEqual(every.map_back(b"refs/x/" + name), one)
+        self.assertIsNone(every.map("refs/tags/v1"))
+        self.assertIsNone(every.map_back("refs/heads/main"))
+        short, push = parse("main", Operation.FETCH), parse("main", Operation.PUSH)
+        self.assertEqual(short.map("refs/tags/main"), Mapping(0, 0, b"refs/tags/main", None))
+        self.assertIsNone(short.map_back("refs/heads/main"))
+        self.assertEqual(push.map("refs/heads/main"), Mapping(0, 0, b"refs/heads/main", b"refs/heads/main"))
+        for text in ("^refs/heads/main", "1" * 40):
+            self.assertIsNone(parse(text, Operation.FETCH).map("refs/heads/main"))
+
     def test_matches(self) -> None:
         one = Mapping(0, 0, b"refs/heads/a", b"refs/x/a", forced=True)
         texts = [b"+refs/heads/*:refs/x/*", b"^refs/heads/b", b"1" * 40]

@@ -65,6 +65,14 @@ typedef struct {
 } gix_refspec_span;
 #define GIX_REFSPEC_SPAN_INIT { 0, 0, 0 }
 
+/* What a refspec makes of a name. mapped is 1 if it maps the name, else 0, and has_destination 1 if the mapping has a
+ * destination, else 0. The name that it makes is in the buffer, and len its length. */
+typedef struct {
+    uint32_t mapped, has_destination;
+    size_t len;
+} gix_refspec_made;
+#define GIX_REFSPEC_MADE_INIT { 0, 0, 0 }
+
 /* Which sides of fetches are matched: the sources, or the destinations. */
 enum { GIX_REFSPEC_FORWARD = 1, GIX_REFSPEC_BACKWARD = 2 };
 #define GIX_REFSPEC_NO_ITEM SIZE_MAX
@@ -145,6 +153,16 @@ uint32_t gix_refspec_canonical(const uint8_t *text, size_t text_len, uint32_t op
 /* How two refspecs compare: -1, 0 or 1; 0 exactly if their canonical texts are equal. */
 uint32_t gix_refspec_compare(const uint8_t *a, size_t a_len, const uint8_t *b, size_t b_len, uint32_t operation,
                              int32_t *order);
+
+/* The destination that it makes of a name, which is the source. The refspec is alone: no other one excludes the name,
+ * and a partial name takes each of its six candidates. An object id maps no name. *made is set also at
+ * GIX_REFSPEC_TOO_SMALL, made->len to the bytes needed. */
+uint32_t gix_refspec_map(const uint8_t *text, size_t text_len, uint32_t operation, const uint8_t *name,
+                         size_t name_len, uint8_t *buffer, size_t buffer_len, gix_refspec_made *made);
+
+/* The source that it makes of a name, which is the destination. All else is as in gix_refspec_map. */
+uint32_t gix_refspec_map_back(const uint8_t *text, size_t text_len, uint32_t operation, const uint8_t *name,
+                              size_t name_len, uint8_t *buffer, size_t buffer_len, gix_refspec_made *made);
 
 /* Its ref prefix on the remote: a full name, HEAD, or what is before the star of a pattern below refs/. Empty if it has
  * none. Points into the text, or is the constant HEAD. Texts that compare equal may have different prefixes: a push of

@@ -9,3 +9,4 @@ pub mod Matching
 pub mod Planning
 pub mod Stale
 pub mod Span
+pub mod Naming

@@ -10,6 +10,7 @@ pub mod failure;
 pub mod listing;
 pub mod locating;
 pub mod matching;
+pub mod naming;
 pub mod parts;
 pub mod planning;
 pub mod prefixes;

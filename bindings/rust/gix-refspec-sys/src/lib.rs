@@ -101,6 +101,15 @@ pub struct Span {
     pub len: usize,
 }
 
+/// What a refspec makes of a name. The name that it makes is in the buffer.
+#[repr(C)]
+#[derive(Clone, Copy, Debug, Default)]
+pub struct Made {
+    pub mapped: u32,
+    pub has_destination: u32,
+    pub len: usize,
+}
+
 /// What to fetch. `merges`: full names, or `HEAD`. `tags`: nonzero to fetch all tags.
 #[repr(C)]
 #[derive(Clone, Copy, Debug)]
@@ -152,6 +161,14 @@ extern "C" {
     pub fn gix_refspec_compare(
         a: *const u8, a_len: usize, b: *const u8, b_len: usize, operation: u32,
         order: *mut i32,
+    ) -> u32;
+    pub fn gix_refspec_map(
+        text: *const u8, text_len: usize, operation: u32, name: *const u8, name_len: usize,
+        buffer: *mut u8, buffer_len: usize, made: *mut Made,
+    ) -> u32;
+    pub fn gix_refspec_map_back(
+        text: *const u8, text_len: usize, operation: u32, name: *const u8, name_len: usize,
+        buffer: *mut u8, buffer_len: usize, made: *mut Made,
     ) -> u32;
     pub fn gix_refspec_prefix(text: *const u8, text_len: usize, operation: u32, prefix: *mut Text) -> u32;
     pub fn gix_refspec_expand_prefixes(

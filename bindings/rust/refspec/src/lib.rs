@@ -329,6 +329,72 @@ impl Spec {
         }
     }
 
+    /// The mapping that it makes of a name, which is the source, by itself: negative specs exclude nothing here, and a
+    /// partial name takes each of its six candidates. `None` if the source doesn't match the name, as an object id
+    /// never does. The indexes are 0. Fails if memory runs out.
+    ///
+    /// ```
+    /// use refspec::{Operation, Spec};
+    ///
+    /// let spec = Spec::parse("+refs/heads/*:refs/remotes/origin/*", Operation::Fetch)?;
+    /// let tracking = spec.map("refs/heads/main")?.and_then(|mapping| mapping.destination);
+    /// assert_eq!(tracking.as_deref(), Some(&b"refs/remotes/origin/main"[..]));
+    /// assert_eq!(spec.map("refs/tags/v1")?, None);
+    /// # Ok::<(), refspec::Error>(())
+    /// ```
+    pub fn map(&self, name: impl AsRef<[u8]>) -> Result<Option<Mapping>, Error> {
+        let name = name.as_ref();
+        let (made, bytes) = self.made(name, sys::gix_refspec_map)?;
+        Ok((made.mapped == 1).then(|| Mapping {
+            spec: 0,
+            item: Some(0),
+            source: name.to_vec(),
+            destination: (made.has_destination == 1).then_some(bytes),
+            forced: self.forced,
+        }))
+    }
+
+    /// The mapping that it makes of a name, which is the destination. `None` if the destination doesn't match the name,
+    /// or there is none. All else is as in [`map`](Spec::map).
+    ///
+    /// ```
+    /// use refspec::{Operation, Spec};
+    ///
+    /// let spec = Spec::parse("+refs/heads/*:refs/remotes/origin/*", Operation::Fetch)?;
+    /// let fetched = spec.map_back("refs/remotes/origin/main")?.map(|mapping| mapping.source);
+    /// assert_eq!(fetched.as_deref(), Some(&b"refs/heads/main"[..]));
+    /// # Ok::<(), refspec::Error>(())
+    /// ```
+    pub fn map_back(&self, name: impl AsRef<[u8]>) -> Result<Option<Mapping>, Error> {
+        let name = name.as_ref();
+        let (made, source) = self.made(name, sys::gix_refspec_map_back)?;
+        Ok((made.mapped == 1).then(|| Mapping {
+            spec: 0,
+            item: Some(0),
+            source,
+            destination: Some(name.to_vec()),
+            forced: self.forced,
+        }))
+    }
+
+    // What a call tells of a name, and the name that it makes.
+    #[rustfmt::skip]
+    fn made(&self, name: &[u8], call: MapCall) -> Result<(sys::Made, Vec<u8>), Error> {
+        let (text, number) = (&self.canonical, self.operation.number());
+        let mut made = sys::Made::default();
+        let bytes = filled(text.len() + name.len(), |buffer, len| {
+            let outcome = unsafe {
+                call(
+                    text.as_ptr(), text.len(), number, name.as_ptr(), name.len(),
+                    buffer.as_mut_ptr(), buffer.len(), &mut made,
+                )
+            };
+            *len = made.len;
+            outcome
+        })?;
+        Ok((made, bytes))
+    }
+
     /// Its ref prefix on the remote: a full name, `HEAD`, or what is before the star of a pattern below `refs/`. `None`
     /// for a negative spec, and for any other side. It is that of the text: a push of `refs/heads/main` has none, the equal
     /// one of `refs/heads/main:refs/heads/main` has `refs/heads/main`. Fails if memory runs out.
@@ -368,6 +434,9 @@ impl Spec {
         Ok(names_in(&lines))
     }
 }
+
+/// A call that makes a name of a name.
+type MapCall = unsafe extern "C" fn(*const u8, usize, u32, *const u8, usize, *mut u8, usize, *mut sys::Made) -> u32;
 
 /// A side, if there is one: a present one is never empty.
 fn side(bytes: &[u8]) -> Option<&[u8]> {
@@ -869,7 +938,7 @@ fn text_of(bytes: &[u8]) -> sys::Text {
 }
 
 /// The answer of a call that fills a buffer, which is made as large as the call says that it has to be.
-fn filled(room: usize, call: impl Fn(&mut [u8], &mut usize) -> u32) -> Result<Vec<u8>, Error> {
+fn filled(room: usize, mut call: impl FnMut(&mut [u8], &mut usize) -> u32) -> Result<Vec<u8>, Error> {
     let mut buffer = vec![0; room];
     let mut len = 0;
     let mut outcome = call(&mut buffer, &mut len);
@@ -1170,6 +1239,36 @@ mod tests {
             let names: Vec<&[u8]> = names.split_whitespace().map(str::as_bytes).collect();
             assert_eq!(spec.expand_prefixes()?, names, "at {text}");
         }
+        Ok(())
+    }
+
+    #[test]
+    fn specs_map_names() -> Result<(), Error> {
+        // What a name is mapped to, and `-` for a mapping without a destination.
+        let long = "x".repeat(500);
+        let (branch, far) = (format!("refs/heads/{long}"), format!("refs/x/{long}"));
+        let rows = [
+            ("+refs/heads/*:refs/x/*", Operation::Fetch, "refs/heads/main", Some("refs/x/main")),
+            ("+refs/heads/*:refs/x/*", Operation::Fetch, &branch[..], Some(&far[..])),
+            ("+refs/heads/*:refs/x/*", Operation::Fetch, "refs/tags/v1", None),
+            ("main", Operation::Fetch, "refs/heads/main", Some("-")),
+            ("main", Operation::Push, "refs/heads/main", Some("refs/heads/main")),
+            ("main:x", Operation::Fetch, "refs/tags/main", Some("refs/heads/x")),
+            ("^refs/heads/*", Operation::Fetch, "refs/heads/main", None),
+            ("1111111111111111111111111111111111111111:refs/x", Operation::Fetch, "refs/heads/main", None),
+        ];
+        for (text, operation, name, expected) in rows {
+            let made = Spec::parse(text, operation)?.map(name)?;
+            let destination = made.as_ref().map(|one| one.destination.as_deref().unwrap_or(b"-"));
+            assert_eq!(destination, expected.map(str::as_bytes), "{name} by {text}");
+            assert!(made.map_or(true, |one| (&one.source[..], one.item, one.spec) == (name.as_bytes(), Some(0), 0)));
+        }
+        let spec = Spec::parse("+refs/heads/*:refs/x/*", Operation::Fetch)?;
+        let back = spec.map_back(&far)?;
+        let (source, destination) = (branch.into_bytes(), Some(far.into_bytes()));
+        assert_eq!(back, Some(Mapping { spec: 0, item: Some(0), source, destination, forced: true }));
+        assert_eq!(spec.map_back("refs/heads/main")?, None);
+        assert_eq!(Spec::parse("main", Operation::Fetch)?.map_back("refs/heads/main")?, None);
         Ok(())
     }
 
