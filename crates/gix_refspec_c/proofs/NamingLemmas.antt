@@ -1,4 +1,4 @@
--- What is told of one name, and what is put where a caller reads it.
+-- What is shown of one name, and what is written where a caller reads it.
 use Rattle.std.proofs.Common.{◌≡◌, ℕ, List, [], ◌∷◌, Result, Ok, Err, OnOk, IfErr, inl, inr, None, refl, ap, length}
 use Rattle.std.proofs.Common.{map, arith}
 use Rattle.gix_refspec_text.specs.declared.parsing.Operation.{Operation}
@@ -10,40 +10,43 @@ use Rattle.gix_refspec.specs.Matching.Single.{MapsNameBack}
 use Rattle.gix_refspec_c.specs.declared.failure.Failure.{Failure}
 use Rattle.gix_refspec_c.specs.declared.failure.Failure.TheVariants as failure
 use Rattle.gix_refspec_c.specs.declared.naming.Made.{Made}
-use Rattle.gix_refspec_c.specs.Naming.{IsAnswered, IsNotPut, IsPut, IsUnanswered, PutsNothing, Shown}
+use Rattle.gix_refspec_c.specs.Naming.{IsAnswered, IsNotWrittenAs, IsWrittenAs, IsUnanswered, WritesNoName, Shown}
 
 module _ (old new : List ℕ) (made : Made) (result : Result (Unit {0}) Failure) where
-  pub put_told : (Is : Shown → Type 0) (s : Shown) → Is s → OnOk result (IsPut s old new made)
-      → OnOk result ((s : Shown) × Is s × IsPut s old new made)
-  put_told Is s is put = elim result as (λ r. OnOk r (IsPut s old new made)
-      → OnOk r ((s : Shown) × Is s × IsPut s old new made)) [ Ok u ↦ λ put. (s, is, put) | Err f ↦ λ none. tt ] put
+  pub written : (Is : Shown → Type 0) (s : Shown) → Is s → OnOk result (IsWrittenAs s old new made)
+      → OnOk result ((s : Shown) × Is s × IsWrittenAs s old new made)
+  written Is s is put = elim result as (λ r. OnOk r (IsWrittenAs s old new made)
+      → OnOk r ((s : Shown) × Is s × IsWrittenAs s old new made)) [
+        | Ok u ↦ λ put. (s, is, put)
+        | Err f ↦ λ none. tt
+      ] put
 
-  pub not_put : (Is : Shown → Type 0) (Why : Failure → Type 0) (before : Made) (s : Shown) → Is s
-      → IfErr result (λ f. (f ≡ failure.TooSmall) × IsNotPut s old new made)
-      → IfErr result (PutsNothing Is Why old new before made)
-  not_put Is Why before s is small = elim result as
-      (λ r. IfErr r (λ f. (f ≡ failure.TooSmall) × IsNotPut s old new made)
-      → IfErr r (PutsNothing Is Why old new before made)) [
+  pub not_written : (Is : Shown → Type 0) (Why : Failure → Type 0) (before : Made) (s : Shown) → Is s
+      → IfErr result (λ f. (f ≡ failure.TooSmall) × IsNotWrittenAs s old new made)
+      → IfErr result (WritesNoName Is Why old new before made)
+  not_written Is Why before s is small = elim result as
+      (λ r. IfErr r (λ f. (f ≡ failure.TooSmall) × IsNotWrittenAs s old new made)
+      → IfErr r (WritesNoName Is Why old new before made)) [
         | Ok u ↦ λ none. tt
         | Err f ↦ λ small. inl (small.0, s, is, small.1)
       ] small
 
   module _ (op : Operation) (text : List ℕ) (r : Reading) (reads : Reads op text r)
       (Told : Reading → Shown → Type 0) where
-    pub answers : OnOk result ((s : Shown) × Told r s × IsPut s old new made)
-        → OnOk result ((s : Shown) × IsAnswered Told op text s × IsPut s old new made)
-    answers told = elim result as (λ x. OnOk x ((s : Shown) × Told r s × IsPut s old new made)
-        → OnOk x ((s : Shown) × IsAnswered Told op text s × IsPut s old new made)) [
+    pub answers : OnOk result ((s : Shown) × Told r s × IsWrittenAs s old new made)
+        → OnOk result ((s : Shown) × IsAnswered Told op text s × IsWrittenAs s old new made)
+    answers told = elim result as (λ x. OnOk x ((s : Shown) × Told r s × IsWrittenAs s old new made)
+        → OnOk x ((s : Shown) × IsAnswered Told op text s × IsWrittenAs s old new made)) [
           | Ok u ↦ λ (s, is, put). (s, record { reading = r; reads = reads; is = is }, put)
           | Err f ↦ λ none. tt
         ] told
 
     pub no_answer : (before : Made)
-        → IfErr result (PutsNothing (Told r) (λ f. f ≡ failure.NoMemory) old new before made)
-        → IfErr result (PutsNothing (IsAnswered Told op text) (IsUnanswered op text) old new before made)
+        → IfErr result (WritesNoName (Told r) (λ f. f ≡ failure.NoMemory) old new before made)
+        → IfErr result (WritesNoName (IsAnswered Told op text) (IsUnanswered op text) old new before made)
     no_answer before why = elim result as (λ x.
-        IfErr x (PutsNothing (Told r) (λ f. f ≡ failure.NoMemory) old new before made)
-        → IfErr x (PutsNothing (IsAnswered Told op text) (IsUnanswered op text) old new before made)) [
+        IfErr x (WritesNoName (Told r) (λ f. f ≡ failure.NoMemory) old new before made)
+        → IfErr x (WritesNoName (IsAnswered Told op text) (IsUnanswered op text) old new before made)) [
           | Ok u ↦ λ none. tt
           | Err f ↦ λ why. elim why [
             | inl (small, s, is, put) ↦ inl (small, s, record { reading = r; reads = reads; is = is }, put)

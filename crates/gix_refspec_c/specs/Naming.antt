@@ -18,11 +18,11 @@ pub record Shown : Type 0 where
   pub has_destination : ℕ
   pub name : List ℕ
 
--- what is told of no mapping
+-- what is shown of no mapping
 abbrev pub nothing : Shown
 nothing = record { mapped = 0; has_destination = 0; name = [] }
 
--- what is told of a mapping from left to right, of which the refspec makes the destination
+-- what is shown of a mapping from left to right, of which the refspec makes the destination
 abbrev pub forward_shown : Mapped → Shown
 forward_shown m =
     record { mapped = 1; has_destination = destinations m.destination; name = destination_text m.destination }
@@ -32,18 +32,18 @@ abbrev pub backward_shown : Mapped → Shown
 backward_shown m =
     record { mapped = 1; has_destination = destinations m.destination; name = source_text m.source }
 
--- the answer tells of the mapping of which Maps holds, or that there is none
-abbrev pub Tells : (Mapped → Type 0) → (Mapped → Shown) → Shown → Type 0
-Tells Maps shown s =
+-- the answer shows the mapping of which Maps holds, or that there is none
+abbrev pub Shows : (Mapped → Type 0) → (Mapped → Shown) → Shown → Type 0
+Shows Maps shown s =
     ((m : Mapped) × Maps m × (s ≡ shown m)) ⊎ (((m : Mapped) → ¬ (Maps m)) × (s ≡ nothing))
 
--- the answer tells what a reading makes of the name from left to right
-abbrev pub TellsForward : List ℕ → Reading → Shown → Type 0
-TellsForward n r s = Tells (MapsName n r) forward_shown s
+-- the answer shows what a reading makes of the name from left to right
+abbrev pub ShowsForward : List ℕ → Reading → Shown → Type 0
+ShowsForward n r s = Shows (MapsName n r) forward_shown s
 
 -- and from right to left
-abbrev pub TellsBackward : List ℕ → Reading → Shown → Type 0
-TellsBackward n r s = Tells (MapsNameBack n r) backward_shown s
+abbrev pub ShowsBackward : List ℕ → Reading → Shown → Type 0
+ShowsBackward n r s = Shows (MapsNameBack n r) backward_shown s
 
 -- the text is a refspec for the operation, and the answer is that of its reading
 pub record IsAnswered (Told : Reading → Shown → Type 0) (op : Operation) (text : List ℕ) (s : Shown) : Type 0 where
@@ -56,19 +56,20 @@ abbrev pub IsUnanswered : Operation → List ℕ → Failure → Type 0
 IsUnanswered op text f = IsUnread op text f ⊎ ((f ≡ failure.NoMemory) × IsRefspec op text)
 
 -- the buffer begins with the name of the answer, and the struct has the rest
-pub record IsPut (s : Shown) (old new : List ℕ) (made : Made) : Type 0 where
+pub record IsWrittenAs (s : Shown) (old new : List ℕ) (made : Made) : Type 0 where
   pub write : IsWrittenTo s.name old new made.len
   pub mapped : made.mapped ≡ s.mapped
   pub has_destination : made.has_destination ≡ s.has_destination
 
 -- the buffer is too small for the name of the answer, and unchanged; the struct has the rest, and the required size
-pub record IsNotPut (s : Shown) (old new : List ℕ) (made : Made) : Type 0 where
+pub record IsNotWrittenAs (s : Shown) (old new : List ℕ) (made : Made) : Type 0 where
   pub small : IsTooSmall s.name old new made.len
   pub mapped : made.mapped ≡ s.mapped
   pub has_destination : made.has_destination ≡ s.has_destination
 
 -- why a caller gets no name: the buffer is too small for that of an answer of which Is holds; or Why holds of the
 -- failure, and buffer and struct are unchanged
-abbrev pub PutsNothing : (Shown → Type 0) → (Failure → Type 0) → List ℕ → List ℕ → Made → Made → Failure → Type 0
-PutsNothing Is Why old new before after f =
-    ((f ≡ failure.TooSmall) × (s : Shown) × Is s × IsNotPut s old new after) ⊎ (Why f × (new ≡ old) × (after ≡ before))
+abbrev pub WritesNoName : (Shown → Type 0) → (Failure → Type 0) → List ℕ → List ℕ → Made → Made → Failure → Type 0
+WritesNoName Is Why old new before after f =
+    ((f ≡ failure.TooSmall) × (s : Shown) × Is s × IsNotWrittenAs s old new after)
+    ⊎ (Why f × (new ≡ old) × (after ≡ before))

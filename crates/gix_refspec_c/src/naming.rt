@@ -2,8 +2,8 @@
 
 ghost use Rattle.std.specs.Prelude.{◌≡◌, OnOk, IfErr};
 ghost use Rattle.gix_refspec.specs.Views.Spec.{reading_of};
-ghost use Rattle.gix_refspec_c.specs.Naming.{IsAnswered, IsNotPut, IsPut, IsUnanswered, PutsNothing, Shown};
-ghost use Rattle.gix_refspec_c.specs.Naming.{TellsBackward, TellsForward};
+ghost use Rattle.gix_refspec_c.specs.Naming.{IsAnswered, IsNotWrittenAs, IsWrittenAs, IsUnanswered, WritesNoName};
+ghost use Rattle.gix_refspec_c.specs.Naming.{Shown, ShowsBackward, ShowsForward};
 ghost use Rattle.gix_refspec_c.specs.Outcome.{Answers};
 ghost use Rattle.gix_refspec_c.specs.Reading.{code_of};
 
@@ -40,9 +40,9 @@ pub extern "C" fn gix_refspec_map(
     made: &mut Made,
 ) -> u32
     ensures { Answers code_of operation
-        (λ op. (s : Shown) × IsAnswered (TellsForward name.now) op text.now s ×
-        IsPut s buffer.old buffer.new made.new)
-        (λ op. PutsNothing (IsAnswered (TellsForward name.now) op text.now) (IsUnanswered op text.now)
+        (λ op. (s : Shown) × IsAnswered (ShowsForward name.now) op text.now s ×
+        IsWrittenAs s buffer.old buffer.new made.new)
+        (λ op. WritesNoName (IsAnswered (ShowsForward name.now) op text.now) (IsUnanswered op text.now)
         buffer.old buffer.new made.old made.new)
         ((buffer.new ≡ buffer.old) × (made.new ≡ made.old)) result }
 {
@@ -68,9 +68,9 @@ pub extern "C" fn gix_refspec_map_back(
     made: &mut Made,
 ) -> u32
     ensures { Answers code_of operation
-        (λ op. (s : Shown) × IsAnswered (TellsBackward name.now) op text.now s ×
-        IsPut s buffer.old buffer.new made.new)
-        (λ op. PutsNothing (IsAnswered (TellsBackward name.now) op text.now) (IsUnanswered op text.now)
+        (λ op. (s : Shown) × IsAnswered (ShowsBackward name.now) op text.now s ×
+        IsWrittenAs s buffer.old buffer.new made.new)
+        (λ op. WritesNoName (IsAnswered (ShowsBackward name.now) op text.now) (IsUnanswered op text.now)
         buffer.old buffer.new made.old made.new)
         ((buffer.new ≡ buffer.old) × (made.new ≡ made.old)) result }
 {
@@ -84,7 +84,7 @@ pub extern "C" fn gix_refspec_map_back(
     }
 }
 
-// Puts what a spec makes of a name from left to right.
+// Writes what a spec makes of a name from left to right.
 fn map(
     alloc: Global,
     spec: &RefSpecRef<'_>,
@@ -92,23 +92,23 @@ fn map(
     buffer: &mut [u8],
     made: &mut Made,
 ) -> Result<(), Failure>
-    ensures ok { OnOk result ((s : Shown) × TellsForward name.now (reading_of spec.now) s ×
-        IsPut s buffer.old buffer.new made.new) }
-    ensures err { IfErr result (PutsNothing (TellsForward name.now (reading_of spec.now))
+    ensures ok { OnOk result ((s : Shown) × ShowsForward name.now (reading_of spec.now) s ×
+        IsWrittenAs s buffer.old buffer.new made.new) }
+    ensures err { IfErr result (WritesNoName (ShowsForward name.now (reading_of spec.now))
         (λ f. f ≡ Failure.NoMemory) buffer.old buffer.new made.old made.new) }
 {
     let mapping = match spec.map(alloc, BStr::new(name)) {
         Ok(Some(mapping)) => mapping,
-        Ok(None) => return put(0, 0, b"", buffer, made),
+        Ok(None) => return write_made(0, 0, b"", buffer, made),
         Err(_) => return Err(Failure::NoMemory),
     };
     match &mapping.rhs {
-        Some(destination) => put(1, 1, destination.as_bstr().as_bytes(), buffer, made),
-        None => put(1, 0, b"", buffer, made),
+        Some(destination) => write_made(1, 1, destination.as_bstr().as_bytes(), buffer, made),
+        None => write_made(1, 0, b"", buffer, made),
     }
 }
 
-// Puts what a spec makes of a name from right to left.
+// Writes what a spec makes of a name from right to left.
 fn map_back(
     alloc: Global,
     spec: &RefSpecRef<'_>,
@@ -116,20 +116,20 @@ fn map_back(
     buffer: &mut [u8],
     made: &mut Made,
 ) -> Result<(), Failure>
-    ensures ok { OnOk result ((s : Shown) × TellsBackward name.now (reading_of spec.now) s ×
-        IsPut s buffer.old buffer.new made.new) }
-    ensures err { IfErr result (PutsNothing (TellsBackward name.now (reading_of spec.now))
+    ensures ok { OnOk result ((s : Shown) × ShowsBackward name.now (reading_of spec.now) s ×
+        IsWrittenAs s buffer.old buffer.new made.new) }
+    ensures err { IfErr result (WritesNoName (ShowsBackward name.now (reading_of spec.now))
         (λ f. f ≡ Failure.NoMemory) buffer.old buffer.new made.old made.new) }
 {
     let mapping = match spec.map_back(alloc, BStr::new(name)) {
         Ok(Some(mapping)) => mapping,
-        Ok(None) => return put(0, 0, b"", buffer, made),
+        Ok(None) => return write_made(0, 0, b"", buffer, made),
         Err(_) => return Err(Failure::NoMemory),
     };
     let has_destination = if mapping.rhs.is_some() { 1 } else { 0 };
     match &mapping.lhs {
         SourceRef::FullName(source) => {
-            put(
+            write_made(
                 1,
                 has_destination,
                 source.as_bstr().as_bytes(),
@@ -143,17 +143,17 @@ fn map_back(
 }
 
 // Copies a name to the start of a slice, if that is long enough, and sets the struct in any case.
-fn put(
+fn write_made(
     mapped: u32,
     has_destination: u32,
     name: &[u8],
     buffer: &mut [u8],
     made: &mut Made,
 ) -> Result<(), Failure>
-    ensures ok { OnOk result (IsPut
+    ensures ok { OnOk result (IsWrittenAs
         (record { mapped = mapped; has_destination = has_destination; name = name.now })
         buffer.old buffer.new made.new) }
-    ensures small { IfErr result (λ f. (f ≡ Failure.TooSmall) × IsNotPut
+    ensures small { IfErr result (λ f. (f ≡ Failure.TooSmall) × IsNotWrittenAs
         (record { mapped = mapped; has_destination = has_destination; name = name.now })
         buffer.old buffer.new made.new) }
 {

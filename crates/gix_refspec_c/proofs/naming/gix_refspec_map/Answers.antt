@@ -1,7 +1,7 @@
 -- The outcome is the number of the result.
 use Rattle.std.proofs.Common.{inl, inr, refl}
 use Rattle.gix_refspec.specs.Views.Spec.{reading_of}
-use Rattle.gix_refspec_c.specs.Naming.{TellsForward}
+use Rattle.gix_refspec_c.specs.Naming.{ShowsForward}
 use Rattle.gix_refspec_c.specs.Outcome.{fails}
 use Rattle.gix_refspec_c.specs.Reading.{code_of}
 use Rattle.gix_refspec_c.proofs.OutcomeLemmas.{answered}
@@ -11,7 +11,7 @@ use Rattle.gix_refspec_c.proofs.naming.gix_refspec_map.Goals as goal
 pub returns-in-Ok : goal.returns-in-Ok
 returns-in-Ok c =
     let r = reading_of c.in-Ok.spec in
-    let told = TellsForward c.args.name.now in
+    let told = ShowsForward c.args.name.now in
     let ok = answers c.args.buffer.now c.map.new.buffer c.map.new.made c.map.result _ c.args.text.now r
     c.in-Ok.ensures.ok told c.map.ensures.ok in
     let err = no_answer c.args.buffer.now c.map.new.buffer c.map.new.made c.map.result _ c.args.text.now r

@@ -1,7 +1,7 @@
 -- The outcome is the number of the result.
 use Rattle.std.proofs.Common.{inl, inr, refl}
 use Rattle.gix_refspec.specs.Views.Spec.{reading_of}
-use Rattle.gix_refspec_c.specs.Naming.{TellsBackward}
+use Rattle.gix_refspec_c.specs.Naming.{ShowsBackward}
 use Rattle.gix_refspec_c.specs.Outcome.{fails}
 use Rattle.gix_refspec_c.specs.Reading.{code_of}
 use Rattle.gix_refspec_c.proofs.OutcomeLemmas.{answered}
@@ -11,7 +11,7 @@ use Rattle.gix_refspec_c.proofs.naming.gix_refspec_map_back.Goals as goal
 pub returns-in-Ok : goal.returns-in-Ok
 returns-in-Ok c =
     let r = reading_of c.in-Ok.spec in
-    let told = TellsBackward c.args.name.now in
+    let told = ShowsBackward c.args.name.now in
     let ok = answers c.args.buffer.now c.map_back.new.buffer c.map_back.new.made c.map_back.result _ c.args.text.now r
     c.in-Ok.ensures.ok told c.map_back.ensures.ok in
     let err = no_answer c.args.buffer.now c.map_back.new.buffer c.map_back.new.made c.map_back.result _ c.args.text.now
