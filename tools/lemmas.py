@@ -1,11 +1,12 @@
 #!/usr/bin/env python3
-"""Lists the lemmas that nothing cites, and those with equal statements: tools/lemmas.py
+"""Lists the lemmas that nothing cites, those with equal statements, and lines that are too wide: tools/lemmas.py
 
 A lemma is a name with a type at the margin of a file in crates/*/proofs/lemmas, or of a file *Lemmas.antt there. It is
 cited if its name, imported from its file or from one that passes it on, or its whole path, is a word of a block of some
 file of a crate, other than its own and `use` lines. Two statements are equal if they are after their variables are
 numbered in the order in which they are bound, and each word of them comes from the same module. Statements of functions,
-which return data, are not compared.
+which return data, are not compared. A line of a definition or proof has at most 120 columns, unless it is a single literal or
+one imported name.
 """
 import os
 import re
@@ -17,6 +18,8 @@ SIGNATURE = re.compile(r"^(?:opaque |abbrev )?(?:pub )?([^\s:(){}]+) : (.*)$")
 WHOLE = re.compile(r"(Rattle\.[^\s(){}\[\],;→×λ]+)\.([^\s(){}\[\],;.→×λ]+)")
 USE = re.compile(r"^\s*(?:ghost )?(?:pub )?use (Rattle\.[^\s{]+?)\.\{(.*)\}")
 LEMMAS = re.compile(r"crates/[^/]+/proofs/(lemmas/.*|.*Lemmas)\.antt$")
+WIDTH = 120
+UNBROKEN = re.compile(r'^\s*("([^"\\]|\\.)*".{,16}|(pub )?use [^ ]+( as [^ ]+)?|Rattle\.[^ ]+)$')
 DATA = re.compile(r"(^|→ )(Bool|Ordering|ℕ|List ℕ|List \(List ℕ\)|Option \(List ℕ\)|Type 0|Mapping|Reading)$")
 
 
@@ -162,6 +165,11 @@ def main():
             if name in equations and not DATA.search(statement):
                 same.setdefault(normal(statement, origins[path]), []).append(f"{path}: {name}")
     faults += ["equal statements: " + ", ".join(places) for places in same.values() if len(places) > 1]
+
+    for path, text in texts.items():
+        if path.endswith(".antt"):
+            wide = [line for line in text.split("\n") if len(line) > WIDTH and not UNBROKEN.match(line)]
+            faults += [f"{path}: a line of {len(line)} columns: {line.strip()[:40]}.." for line in wide]
 
     for fault in faults:
         print(fault)

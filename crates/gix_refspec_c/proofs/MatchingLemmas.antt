@@ -1,5 +1,6 @@
 -- Destinations that are ids, and what is told of mappings one after another.
-use Rattle.std.proofs.Common.{◌≡◌, ℕ, ◌+◌, ◌<◌, IfErr, IfOk, take, get_or, arith, List, [], ◌∷◌, ◌++◌, length, map, Result, Ok, Err, refl, sym, ap, subst, ◌∙◌, inl}
+use Rattle.std.proofs.Common.{◌≡◌, ℕ, ◌+◌, ◌<◌, IfErr, IfOk, take, get_or, arith, List, [], ◌∷◌, ◌++◌, length, map}
+use Rattle.std.proofs.Common.{Result, Ok, Err, refl, sym, ap, subst, ◌∙◌, inl}
 use Rattle.gix_refspec.specs.Specs.Reading.{Reading}
 use Rattle.std.specs.List.{AllZip}
 use Rattle.gix_refspec_text.specs.declared.parsing.Operation.TheVariants.{Fetch}
@@ -14,33 +15,47 @@ use Rattle.gix_refspec_c.specs.declared.failure.Failure.TheVariants as failure
 use Rattle.std.proofs.lemmas.List.{length-append, append-nil, append_assoc, map-append, take_more}
 use Rattle.gix_refspec.specs.Matching.Mappings.{Mapped}
 use Rattle.gix_refspec_c.specs.declared.listing.MappingOut.{MappingOut}
-use Rattle.gix_refspec_c.specs.Mapping.{Entry, IsNotWritten, LacksAll, Room, Describes, backward_entry, forward_entry, text_of, texts_of, described_at, described_by, described_from}
+use Rattle.gix_refspec_c.specs.Mapping.{Entry, IsNotWritten, LacksAll, Room, Describes, backward_entry, forward_entry}
+use Rattle.gix_refspec_c.specs.Mapping.{text_of, texts_of, described_at, described_by, described_from}
 use Rattle.gix_refspec.specs.Laws.Items.{AsksForNoId}
 use Rattle.gix_refspec_c.specs.Matching.{AreMatched, nameless}
 
 -- what follows a listing of some mappings
-described_more : (at : ℕ) (es : List Entry) (e : Entry) → described_from at (es ++ e ∷ []) ≡ described_from at es ++ described_at (at + length (texts_of es)) e ∷ []
+described_more : (at : ℕ) (es : List Entry) (e : Entry) → described_from at (es ++ e ∷ []) ≡ described_from at es
+    ++ described_at (at + length (texts_of es)) e ∷ []
 described_more at [] e = ap (λ n. described_at n e ∷ []) omega arith
 described_more at (x ∷ es) e =
-    let here : length (texts_of (x ∷ es)) ≡ length (text_of x) + length (texts_of es) = length-append (text_of x) (texts_of es) in
-    let ends : (at + length (text_of x)) + length (texts_of es) ≡ at + length (texts_of (x ∷ es)) = omega (arith, here) in
-    ap (λ rest. described_at at x ∷ rest) (described_more (at + length (text_of x)) es e ∙ ap (λ n. described_from (at + length (text_of x)) es ++ described_at n e ∷ []) ends)
+    let here : length (texts_of (x ∷ es)) ≡ length (text_of x) + length (texts_of es) = length-append (text_of x)
+    (texts_of es) in
+    let ends : (at + length (text_of x)) + length (texts_of es) ≡ at + length (texts_of (x ∷ es)) =
+    omega (arith, here) in
+    ap (λ rest. described_at at x ∷ rest) (described_more (at + length (text_of x)) es e
+    ∙ ap (λ n. described_from (at + length (text_of x)) es ++ described_at n e ∷ []) ends)
 
 -- the texts of one mapping more
 texts_more : (es : List Entry) (e : Entry) → texts_of (es ++ e ∷ []) ≡ texts_of es ++ text_of e
 texts_more [] e = append-nil (text_of e)
-texts_more (x ∷ es) e = ap (λ t. text_of x ++ t) (texts_more es e) ∙ sym (append_assoc (text_of x) (texts_of es) (text_of e))
+texts_more (x ∷ es) e = ap (λ t. text_of x ++ t) (texts_more es e)
+    ∙ sym (append_assoc (text_of x) (texts_of es) (text_of e))
 
 -- one mapping more is told of
-pub describes_more : (es new : List Entry) (e : Entry) (structs structs2 : List MappingOut) (text text2 : List ℕ) → Describes es structs text → new ≡ es ++ e ∷ [] → text2 ≡ text ++ text_of e → map described_by structs2 ≡ map described_by structs ++ described_at (length text) e ∷ [] → Describes new structs2 text2
+pub describes_more : (es new : List Entry) (e : Entry) (structs structs2 : List MappingOut) (text text2 : List ℕ)
+    → Describes es structs text → new ≡ es ++ e ∷ [] → text2 ≡ text ++ text_of e
+    → map described_by structs2 ≡ map described_by structs ++ described_at (length text) e ∷ []
+    → Describes new structs2 text2
 describes_more es new e structs structs2 text text2 describes is texts described =
     let zero : length (texts_of es) ≡ 0 + length (texts_of es) = omega arith in record {
-      described = described ∙ ap (λ l. l ++ described_at (length text) e ∷ []) describes.described ∙ ap (λ t. described_from 0 es ++ described_at (length t) e ∷ []) describes.texts ∙ ap (λ n. described_from 0 es ++ described_at n e ∷ []) zero ∙ sym (described_more 0 es e) ∙ ap (described_from 0) (sym is);
+      described = described ∙ ap (λ l. l ++ described_at (length text) e ∷ []) describes.described
+          ∙ ap (λ t. described_from 0 es ++ described_at (length t) e ∷ []) describes.texts
+          ∙ ap (λ n. described_from 0 es ++ described_at n e ∷ []) zero ∙ sym (described_more 0 es e)
+          ∙ ap (described_from 0) (sym is);
       texts = texts ∙ ap (λ t. t ++ text_of e) describes.texts ∙ sym (texts_more es e) ∙ ap texts_of (sym is);
     }
 
 -- the entries of one element more, from a slice of the list
-pub entries_more : {X Y : Type 0} (f : Y → Entry) (view : X → Y) (xs slice : List X) (k : ℕ) (x : X) → slice ≡ xs → k < length slice → x ≡ get_or slice k x → map f (map view (take (k + 1) xs)) ≡ map f (map view (take k xs)) ++ f (view x) ∷ []
+pub entries_more : {X Y : Type 0} (f : Y → Entry) (view : X → Y) (xs slice : List X) (k : ℕ) (x : X) → slice ≡ xs
+    → k < length slice → x ≡ get_or slice k x → map f (map view (take (k + 1) xs)) ≡ map f (map view (take k xs)) ++ f
+    (view x) ∷ []
 entries_more {X} {Y} f view xs slice k x same below is =
     subst (λ (l : List X). map f (map view (take (k + 1) l)) ≡ map f (map view (take k l)) ++ f (view x) ∷ []) same
     (ap (λ l. map f (map view l)) (take_more slice k x below)
@@ -49,7 +64,9 @@ entries_more {X} {Y} f view xs slice k x same below is =
     ∙ ap (λ y. map f (map view (take k slice)) ++ f (view y) ∷ []) (sym is))
 
 -- and behind others
-pub entries_more_behind : {X : Type 0} (es : List Entry) (f : X → Entry) (xs slice : List X) (k : ℕ) (d : X) → slice ≡ xs → k < length slice → es ++ map f (take (k + 1) xs) ≡ (es ++ map f (take k xs)) ++ f (get_or slice k d) ∷ []
+pub entries_more_behind : {X : Type 0} (es : List Entry) (f : X → Entry) (xs slice : List X) (k : ℕ) (d : X)
+    → slice ≡ xs → k < length slice → es ++ map f (take (k + 1) xs) ≡ (es ++ map f (take k xs)) ++ f (get_or slice k d)
+    ∷ []
 entries_more_behind {X} es f xs slice k d same below =
     subst (λ (l : List X). es ++ map f (take (k + 1) l) ≡ (es ++ map f (take k l)) ++ f (get_or slice k d) ∷ []) same
     (ap (λ l. es ++ map f l) (take_more slice k d below)
@@ -57,20 +74,56 @@ entries_more_behind {X} es f xs slice k d same below =
     ∙ sym (append_assoc es (map f (take k slice)) (f (get_or slice k d) ∷ [])))
 
 -- a listing that doesn't fit
-pub no_room : (Is : List Entry → Type 0) (Why : Failure → Type 0) (es : List Entry) (structs : List MappingOut) (text : List ℕ) (before after : Room) (r : Result (Unit {0}) Failure) → Is es → Describes es structs text → IfErr r (λ f. (f ≡ failure.TooSmall) × IsNotWritten structs text before after) → IfErr r (LacksAll Is Why before after)
+pub no_room : (Is : List Entry → Type 0) (Why : Failure → Type 0) (es : List Entry) (structs : List MappingOut)
+    (text : List ℕ) (before after : Room) (r : Result (Unit {0}) Failure) → Is es → Describes es structs text
+    → IfErr r (λ f. (f ≡ failure.TooSmall) × IsNotWritten structs text before after)
+    → IfErr r (LacksAll Is Why before after)
 no_room Is Why es structs text before after (Ok u) is describes small = tt
-no_room Is Why es structs text before after (Err f) is describes small = inl (small.0, es, is, record { structs = structs; text = text; describes = describes; not_write = small.1 })
+no_room Is Why es structs text before after (Err f) is describes small =
+    inl (small.0, es, is, record { structs = structs; text = text; describes = describes; not_write = small.1 })
 
 -- what is listed from left to right tells of what is matched
-pub matched_forward : (d : Direction) (texts names : List (List ℕ)) (group g : List Reading) (refs : List Ref) (kept : List Mapped) (r : Result Listing Failure) → d ≡ Forward → g ≡ group → AllZip (Reads Fetch) texts group → refs ≡ map nameless names → AreKeptForward group refs kept → IfOk r (λ l. Describes (map (forward_entry g) kept) l.mappings.items l.text.items) → IfOk r (λ l. (es : List Entry) × AreMatched d texts names es × Describes es l.mappings.items l.text.items)
+pub matched_forward : (d : Direction) (texts names : List (List ℕ)) (group g : List Reading) (refs : List Ref)
+    (kept : List Mapped) (r : Result Listing Failure) → d ≡ Forward → g ≡ group → AllZip (Reads Fetch) texts group
+    → refs ≡ map nameless names → AreKeptForward group refs kept
+    → IfOk r (λ l. Describes (map (forward_entry g) kept) l.mappings.items l.text.items)
+    → IfOk r (λ l. (es : List Entry) × AreMatched d texts names es × Describes es l.mappings.items l.text.items)
 matched_forward d texts names group g refs kept (Err f) is whole read same stay describes = tt
 matched_forward d texts names group g refs kept (Ok l) is whole read same stay describes =
-    let matched : AreMatched Forward texts names (map (forward_entry group) kept) = record { group = group; read = read; kept = kept; stay = subst (λ (rs : List Ref). AreKeptForward group rs kept) same stay; are = refl } in
-    (map (forward_entry group) kept, subst (λ (e : Direction). AreMatched e texts names (map (forward_entry group) kept)) (sym is) matched, subst (λ (specs : List Reading). Describes (map (forward_entry specs) kept) l.mappings.items l.text.items) whole describes)
+    let matched : AreMatched Forward texts names (map (forward_entry group) kept) =
+    record {
+      group = group;
+      read = read;
+      kept = kept;
+      stay = subst (λ (rs : List Ref). AreKeptForward group rs kept)
+          same stay;
+      are = refl;
+    } in (
+      map (forward_entry group) kept,
+      subst (λ (e : Direction). AreMatched e texts names (map (forward_entry group) kept)) (sym is) matched,
+      subst (λ (specs : List Reading). Describes (map (forward_entry specs) kept) l.mappings.items l.text.items) whole
+          describes,
+    )
 
 -- and so it is from right to left, where no destination is an id
-pub matched_backward : (d : Direction) (texts names : List (List ℕ)) (group g : List Reading) (refs : List Ref) (kept : List Mapped) (r : Result Listing Failure) → d ≡ Backward → g ≡ group → AllZip (Reads Fetch) texts group → refs ≡ map nameless names → AreKeptBackward group refs kept → AsksForNoId group → IfOk r (λ l. Describes (map (backward_entry g) kept) l.mappings.items l.text.items) → IfOk r (λ l. (es : List Entry) × AreMatched d texts names es × Describes es l.mappings.items l.text.items)
+pub matched_backward : (d : Direction) (texts names : List (List ℕ)) (group g : List Reading) (refs : List Ref)
+    (kept : List Mapped) (r : Result Listing Failure) → d ≡ Backward → g ≡ group → AllZip (Reads Fetch) texts group
+    → refs ≡ map nameless names → AreKeptBackward group refs kept → AsksForNoId group
+    → IfOk r (λ l. Describes (map (backward_entry g) kept) l.mappings.items l.text.items)
+    → IfOk r (λ l. (es : List Entry) × AreMatched d texts names es × Describes es l.mappings.items l.text.items)
 matched_backward d texts names group g refs kept (Err f) is whole read same stay by describes = tt
 matched_backward d texts names group g refs kept (Ok l) is whole read same stay by describes =
-    let matched : AreMatched Backward texts names (map (backward_entry group) kept) = record { group = group; read = read; kept = kept; stay = (subst (λ (rs : List Ref). AreKeptBackward group rs kept) same stay, by); are = refl } in
-    (map (backward_entry group) kept, subst (λ (e : Direction). AreMatched e texts names (map (backward_entry group) kept)) (sym is) matched, subst (λ (specs : List Reading). Describes (map (backward_entry specs) kept) l.mappings.items l.text.items) whole describes)
+    let matched : AreMatched Backward texts names (map (backward_entry group) kept) =
+    record {
+      group = group;
+      read = read;
+      kept = kept;
+      stay =
+          (subst (λ (rs : List Ref). AreKeptBackward group rs kept) same stay, by);
+      are = refl;
+    } in (
+      map (backward_entry group) kept,
+      subst (λ (e : Direction). AreMatched e texts names (map (backward_entry group) kept)) (sym is) matched,
+      subst (λ (specs : List Reading). Describes (map (backward_entry specs) kept) l.mappings.items l.text.items)
+          whole describes,
+    )

@@ -17,6 +17,8 @@ pub record IsTooSmall {X : Type 0} (answer old new : List X) (len : ℕ) : Type 
 
 -- why the buffer doesn't have an answer: it is too small for one of which Is holds; or Why holds of the failure, and
 -- buffer and length are unchanged
-abbrev pub WritesNothing : {X : Type 0} → (List X → Type 0) → (Failure → Type 0) → List X → List X → ℕ → ℕ → Failure → Type 0
-WritesNothing {X} Is Why old new before after failure.TooSmall = (answer : List X) × Is answer × IsTooSmall answer old new after
+abbrev pub WritesNothing : {X : Type 0} → (List X → Type 0) → (Failure → Type 0) → List X → List X → ℕ → ℕ → Failure
+    → Type 0
+WritesNothing {X} Is Why old new before after failure.TooSmall = (answer : List X) × Is answer
+    × IsTooSmall answer old new after
 WritesNothing {X} Is Why old new before after f = Why f × (new ≡ old) × (after ≡ before)

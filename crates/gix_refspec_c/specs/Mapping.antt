@@ -69,11 +69,31 @@ forced_at g k = forced_of (slice_get g k)
 
 -- the entry of a mapping from left to right, of which the spec makes the destination
 abbrev pub forward_entry : List Reading → Mapped → Entry
-forward_entry g m = record { spec = m.spec; item = number_of_index m.item; has_destination = destinations m.destination; forced = forced_at g m.spec; origin = 0; verdict = 0; id = id_text m.source; made = destination_text m.destination }
+forward_entry g m = record {
+  spec = m.spec;
+  item = number_of_index m.item;
+  has_destination = destinations m.destination;
+  forced = forced_at g m.spec;
+  origin = 0;
+  verdict = 0;
+  id = id_text m.source;
+  made = destination_text m.destination;
+}
 
 -- and of one from right to left, of which it makes the source
 abbrev pub backward_entry : List Reading → Mapped → Entry
-backward_entry g m = record { spec = m.spec; item = number_of_index m.item; has_destination = destinations m.destination; forced = forced_at g m.spec; origin = 0; verdict = 0; id = []; made = source_text m.source }
+backward_entry g m = record {
+  spec = m.spec;
+  item = number_of_index m.item;
+  has_destination =
+      destinations m.destination;
+  forced = forced_at g m.spec;
+  origin = 0;
+  verdict = 0;
+  id = [];
+  made =
+      source_text m.source;
+}
 
 -- the texts of an entry
 abbrev pub text_of : Entry → List ℕ
@@ -98,15 +118,49 @@ pub record Described : Type 0 where
 
 -- the entry with these numbers and texts
 abbrev pub entry_with : Numbers → List ℕ → List ℕ → Entry
-entry_with n digits made = record { spec = n.spec; item = n.item; has_destination = n.has_destination; forced = n.forced; origin = n.origin; verdict = n.verdict; id = digits; made = made }
+entry_with n digits made = record {
+  spec = n.spec;
+  item = n.item;
+  has_destination = n.has_destination;
+  forced =
+      n.forced;
+  origin = n.origin;
+  verdict = n.verdict;
+  id = digits;
+  made = made;
+}
 
 -- a struct as plain data
 abbrev pub described_by : MappingOut → Described
-described_by m = record { spec = m.spec; item = m.item; has_destination = m.has_destination; forced = m.forced; origin = m.origin; verdict = m.verdict; id_at = m.id_at; id_len = m.id_len; made_at = m.made_at; made_len = m.made_len }
+described_by m = record {
+  spec = m.spec;
+  item = m.item;
+  has_destination = m.has_destination;
+  forced = m.forced;
+  origin =
+      m.origin;
+  verdict = m.verdict;
+  id_at = m.id_at;
+  id_len = m.id_len;
+  made_at = m.made_at;
+  made_len = m.made_len;
+}
 
 -- the struct of an entry whose texts begin at this offset of the buffer
 abbrev pub described_at : ℕ → Entry → Described
-described_at at e = record { spec = e.spec; item = e.item; has_destination = e.has_destination; forced = e.forced; origin = e.origin; verdict = e.verdict; id_at = at; id_len = length e.id; made_at = at + length e.id; made_len = length e.made }
+described_at at e = record {
+  spec = e.spec;
+  item = e.item;
+  has_destination = e.has_destination;
+  forced = e.forced;
+  origin = e.origin;
+  verdict = e.verdict;
+  id_at = at;
+  id_len = length e.id;
+  made_at = at + length e.id;
+  made_len =
+      length e.made;
+}
 
 -- the structs of entries whose texts are one after the other from this offset of the buffer on
 abbrev pub described_from : ℕ → List Entry → List Described
@@ -160,4 +214,5 @@ pub record HasNoRoom (es : List Entry) (before after : Room) : Type 0 where
 -- why a caller gets no mappings: a slice is too small for entries of which Is holds; or Why holds of the failure, and
 -- all is unchanged
 abbrev pub LacksAll : (List Entry → Type 0) → (Failure → Type 0) → Room → Room → Failure → Type 0
-LacksAll Is Why before after f = ((f ≡ failure.TooSmall) × (es : List Entry) × Is es × HasNoRoom es before after) ⊎ (Why f × (after ≡ before))
+LacksAll Is Why before after f = ((f ≡ failure.TooSmall) × (es : List Entry) × Is es × HasNoRoom es before after)
+    ⊎ (Why f × (after ≡ before))

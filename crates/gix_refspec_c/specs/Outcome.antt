@@ -3,7 +3,8 @@
 use Rattle.std.specs.Prelude.{◌≡◌, ℕ, Result, Ok, Err, OnOk, IfErr}
 use Rattle.gix_refspec_text.specs.declared.name.Error.{Error as NameError}
 use Rattle.gix_refspec_text.specs.declared.name.Error.TheVariants as of_name
-use Rattle.gix_refspec.specs.Specs.Refusal.{Refusal, Empty, NegativeWithDestination, PushToEmpty, PatternUnsupported, ReferenceName, PatternUnbalanced, NegativeEmpty, NegativeObjectHash}
+use Rattle.gix_refspec.specs.Specs.Refusal.{Refusal, Empty, NegativeWithDestination, PushToEmpty, PatternUnsupported}
+use Rattle.gix_refspec.specs.Specs.Refusal.{ReferenceName, PatternUnbalanced, NegativeEmpty, NegativeObjectHash}
 use Rattle.gix_refspec_c.specs.declared.failure.Failure.{Failure}
 use Rattle.gix_refspec_c.specs.declared.failure.Failure.TheVariants as failure
 
@@ -68,7 +69,10 @@ Concludes Done Fails outcome = (r : Result (Unit {0}) Failure) × IsNumberOf r o
 -- if the code stands for some x, such as an operation, either Done holds of x and the call returns 0, or Fails holds of
 -- x and a failure and the call returns its number; if the code is unknown, Same holds and the call returns the number
 -- of `NoOperation`
-pub data Answers {X : Type 0} (code_of : X → ℕ) (code : ℕ) (Done : X → Type 0) (Fails : X → Failure → Type 0) (Same : Type 0) (outcome : ℕ) : Type 0 where
+pub data Answers {X : Type 0} (code_of : X → ℕ) (code : ℕ) (Done : X → Type 0) (Fails : X → Failure → Type 0)
+    (Same : Type 0) (outcome : ℕ) : Type 0 where
   done : (x : X) → code ≡ code_of x → outcome ≡ 0 → Done x → Answers code_of code Done Fails Same outcome
-  fails : (x : X) → code ≡ code_of x → (f : Failure) → outcome ≡ number_of f → Fails x f → Answers code_of code Done Fails Same outcome
-  unknown : ((x : X) → ¬ (code ≡ code_of x)) → outcome ≡ number_of failure.NoOperation → Same → Answers code_of code Done Fails Same outcome
+  fails : (x : X) → code ≡ code_of x → (f : Failure) → outcome ≡ number_of f → Fails x f
+      → Answers code_of code Done Fails Same outcome
+  unknown : ((x : X) → ¬ (code ≡ code_of x)) → outcome ≡ number_of failure.NoOperation → Same
+      → Answers code_of code Done Fails Same outcome

@@ -1,4 +1,5 @@
--- The plan of a fetch as a caller receives it, by the definition of the library. The numbers are this project's own, and are
+-- The plan of a fetch as a caller receives it, by the definition of the library. The numbers are this project's own,
+-- and are
 -- those of include/gix_refspec.h.
 use Rattle.std.specs.Prelude.{◌≡◌, ◌≢◌, ◌⊎◌, ◌==◌, not, ℕ, List, [], ◌++◌, map, Option, None, Some}
 use Rattle.std.specs.List.{AllZip, Any}
@@ -15,7 +16,8 @@ use Rattle.gix_refspec_c.specs.declared.failure.Failure.{Failure}
 use Rattle.gix_refspec_c.specs.declared.failure.Failure.TheVariants as failure
 use Rattle.gix_refspec_c.specs.declared.planning.WishIn.{WishIn}
 use Rattle.gix_refspec_c.specs.Group.{AreUnread, bytes_of}
-use Rattle.gix_refspec_c.specs.Mapping.{Entry, HasAll, LacksAll, Room, destination_text, destinations, forced_at, id_text, no_index, number_of_index}
+use Rattle.gix_refspec_c.specs.Mapping.{Entry, HasAll, LacksAll, Room, destination_text, destinations, forced_at}
+use Rattle.gix_refspec_c.specs.Mapping.{id_text, no_index, number_of_index}
 use Rattle.gix_refspec_c.specs.Matching.{nameless}
 
 -- what a caller passes: the texts of the given specs, of the configured ones and of merged refs, and a number that is 0
@@ -27,7 +29,13 @@ pub record WishTexts : Type 0 where
   pub tags : ℕ
 
 abbrev pub wish_texts : WishIn → WishTexts
-wish_texts w = record { given = map bytes_of w.given.now; configured = map bytes_of w.configured.now; merges = map bytes_of w.merges.now; tags = w.tags }
+wish_texts w = record {
+  given = map bytes_of w.given.now;
+  configured = map bytes_of w.configured.now;
+  merges =
+      map bytes_of w.merges.now;
+  tags = w.tags;
+}
 
 -- the texts of specs are fetches, and this is what is asked for by them
 pub record IsWish (texts : WishTexts) (wish : Wish) : Type 0 where
@@ -76,11 +84,32 @@ missing_code = 7
 
 -- the entry of an update
 abbrev pub update_entry : Wish → Planned → Entry
-update_entry wish p = record { spec = spec_number p.origin; item = number_of_index p.item; has_destination = destinations p.destination; forced = forced_from wish p.origin; origin = origin_code p.origin; verdict = verdict_code p.verdict; id = id_text p.source; made = destination_text p.destination }
+update_entry wish p = record {
+  spec = spec_number p.origin;
+  item = number_of_index p.item;
+  has_destination =
+      destinations p.destination;
+  forced = forced_from wish p.origin;
+  origin = origin_code p.origin;
+  verdict =
+      verdict_code p.verdict;
+  id = id_text p.source;
+  made = destination_text p.destination;
+}
 
 -- the entry of a spec whose source is missing
 abbrev pub missing_entry : Origin → Entry
-missing_entry o = record { spec = spec_number o; item = no_index; has_destination = 0; forced = 0; origin = origin_code o; verdict = missing_code; id = []; made = [] }
+missing_entry o = record {
+  spec = spec_number o;
+  item = no_index;
+  has_destination = 0;
+  forced = 0;
+  origin =
+      origin_code o;
+  verdict = missing_code;
+  id = [];
+  made = [];
+}
 
 -- why nothing is fetched: a source is missing; or none is, and an update is in conflict
 abbrev pub IsHindered : Failure → List Planned → List Origin → Type 0
@@ -93,7 +122,8 @@ abbrev pub Ends : Option Failure → List Planned → List Origin → Type 0
 Ends None planned missing = IsCarriedOut planned missing
 Ends (Some f) planned missing = IsHindered f planned missing
 
--- these are the entries of the plan of a wish for refs with these names: of its updates, and then of the specs whose source
+-- these are the entries of the plan of a wish for refs with these names: of its updates, and then of the specs whose
+-- source
 -- is missing
 pub record ListsPlan (hindrance : Option Failure) (wish : Wish) (names : List (List ℕ)) (es : List Entry) : Type 0 where
   pub planned : List Planned
@@ -103,16 +133,19 @@ pub record ListsPlan (hindrance : Option Failure) (wish : Wish) (names : List (L
   pub ends : Ends hindrance planned missing
 
 -- the texts of specs are fetches, and these are the entries of the plan of what is asked for by them
-pub record IsPlan (hindrance : Option Failure) (texts : WishTexts) (names : List (List ℕ)) (es : List Entry) : Type 0 where
+pub record IsPlan (hindrance : Option Failure) (texts : WishTexts) (names : List (List ℕ)) (es : List Entry) :
+    Type 0 where
   pub wish : Wish
   pub asks : IsWish texts wish
   pub lists : ListsPlan hindrance wish names es
 
 -- why texts weren't read: the given ones weren't; or these are fetches, and the configured ones weren't
 abbrev pub IsUnplanned : WishTexts → Failure → Type 0
-IsUnplanned texts f = AreUnread Fetch texts.given f ⊎ (((given : List Reading) × AllZip (Reads Fetch) texts.given given) × AreUnread Fetch texts.configured f)
+IsUnplanned texts f = AreUnread Fetch texts.given f ⊎ (((given : List Reading) × AllZip (Reads Fetch) texts.given given)
+    × AreUnread Fetch texts.configured f)
 
--- why there is no plan, or one that isn't carried out: it is hindered; or a slice is too small for the plan; or the texts
+-- why there is no plan, or one that isn't carried out: it is hindered; or a slice is too small for the plan; or the
+-- texts
 -- weren't read, or memory ran out
 abbrev pub LacksPlan : WishTexts → List (List ℕ) → Room → Room → Failure → Type 0
 LacksPlan texts names before after f =

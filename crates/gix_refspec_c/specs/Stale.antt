@@ -18,7 +18,8 @@ pub record IsShown (f : Found) (s : StaleOut) : Type 0 where
 abbrev pub AreShown : List Found → List StaleOut → Type 0
 AreShown found structs = AllZip IsShown found structs
 
--- the texts are fetches, and these are the structs of the local refs with these names that look stale, if the remote has
+-- the texts are fetches, and these are the structs of the local refs with these names that look stale, if the remote
+-- has
 -- refs with those names
 pub record AreStaleIn (texts remote local : List (List ℕ)) (structs : List StaleOut) : Type 0 where
   pub group : List Reading

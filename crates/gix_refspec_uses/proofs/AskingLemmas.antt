@@ -18,5 +18,7 @@ fetch_alone Fetch passes = refl
 pub are_fetches : (specs : List RefSpecRef) → AreFetches (fetch_readings specs)
 are_fetches specs =
     let fetches = filter (is_for Fetch) specs in
-    let each = All-weaker (λ s. is_for Fetch s ≡ true) (λ s. (reading_of s).operation ≡ Fetch) (λ s passes. fetch_alone (reading_of s).operation passes) fetches (filter_passes (is_for Fetch) specs) in
-    recursion_from_All (λ r. r.operation ≡ Fetch) (map reading_of fetches) (All-map (λ r. r.operation ≡ Fetch) reading_of fetches each)
+    let each = All-weaker (λ s. is_for Fetch s ≡ true) (λ s. (reading_of s).operation ≡ Fetch)
+    (λ s passes. fetch_alone (reading_of s).operation passes) fetches (filter_passes (is_for Fetch) specs) in
+    recursion_from_All (λ r. r.operation ≡ Fetch) (map reading_of fetches)
+    (All-map (λ r. r.operation ≡ Fetch) reading_of fetches each)

@@ -12,7 +12,8 @@ use Rattle.gix_refspec_uses.specs.declared.tracking.NoLookUp.TheVariants as no_l
 
 -- some spec maps the remote ref to the tracking branch, and none excludes it
 abbrev pub IsFetchedTo : List Reading → Ref → List ℕ → Type 0
-IsFetchedTo g remote branch = Any (MakesForward (remote ∷ []) (name remote.name) (Some branch)) g × ¬ (IsExcluded g remote.name)
+IsFetchedTo g remote branch = Any (MakesForward (remote ∷ []) (name remote.name) (Some branch)) g
+    × ¬ (IsExcluded g remote.name)
 
 -- some spec maps the tracking branch back to the remote ref, and none excludes that
 abbrev pub IsFetchedFrom : List Reading → Ref → List ℕ → Type 0
@@ -20,7 +21,8 @@ IsFetchedFrom g tracking n = Any (MakesBackward (tracking ∷ []) (name n) (Some
 
 -- one of the mappings is from the remote ref to the tracking branch
 abbrev pub HasBoth : List Mapped → List ℕ → List ℕ → Type 0
-HasBoth list remote tracking = HasPair list (record { item = None; source = name remote; destination = Some tracking; spec = 0 })
+HasBoth list remote tracking =
+    HasPair list (record { item = None; source = name remote; destination = Some tracking; spec = 0 })
 
 -- the mappings from the remote ref are to exactly the branches that it is fetched to
 abbrev pub TellsBranches : List Reading → Ref → List Mapped → Type 0

@@ -1,5 +1,7 @@
 -- The answer to a question of `track`, and its rows.
-use Rattle.std.proofs.Common.{◌≡◌, ◌≢◌, ◌⊎◌, ℕ, ◌+◌, ◌<◌, ◌≤◌, ltb, zero, suc, MatchBool, List, [], ◌∷◌, ◌++◌, None, Option, option_map, unwrap_or, length, map, flat_map, take, take_all, get_or, codes, inl, inr, refl, sym, ap, ◌∙◌, subst, append_assoc, arith}
+use Rattle.std.proofs.Common.{◌≡◌, ◌≢◌, ◌⊎◌, ℕ, ◌+◌, ◌<◌, ◌≤◌, ltb, zero, suc, MatchBool, List, [], ◌∷◌, ◌++◌, None}
+use Rattle.std.proofs.Common.{Option, option_map, unwrap_or, length, map, flat_map, take, take_all, get_or, codes, inl}
+use Rattle.std.proofs.Common.{inr, refl, sym, ap, ◌∙◌, subst, append_assoc, arith}
 use Rattle.std.specs.List.{All, AllZip, Any, slice_get}
 use Rattle.std.proofs.lemmas.List.{append-nil, length-map, map-append, map_more, nil_from_length, take_more}
 use Rattle.std.proofs.lemmas.Grind.{flat_map-append}
@@ -30,7 +32,8 @@ use Rattle.std.proofs.lemmas.List.Elements.{All-head, All-tail}
 use Rattle.std.proofs.lemmas.Slice.Zip.{all_zipped_more}
 use Rattle.refspec_io.proofs.ShownLemmas.{map-twice}
 use Rattle.refspec_commands.specs.declared.tracking.question.Order.TheVariants as order
-use Rattle.refspec_commands.specs.Answer.{AddsAnswer, AreLeftOut, IsAnswer, IsFound, IsFoundBy, IsLooked, IsStatus, IsTracked, mappings_in, row_with, rows_in}
+use Rattle.refspec_commands.specs.Answer.{AddsAnswer, AreLeftOut, IsAnswer, IsFound, IsFoundBy, IsLooked, IsStatus}
+use Rattle.refspec_commands.specs.Answer.{IsTracked, mappings_in, row_with, rows_in}
 use Rattle.refspec_commands.specs.Rows.{AddsRows, AddsRowsAmong, IsRow, Shown, shown_row}
 use Rattle.refspec_commands.specs.Track.{AddsTracked, AreByNames, HasUnwritten, IsEachWritten, IsWritten, named}
 use Rattle.refspec_commands.proofs.TrackLemmas.{by_names-whole}

@@ -1,5 +1,7 @@
 -- The groups of texts by their keys, and the lines on each.
-use Rattle.std.proofs.Common.{◌==◌, ◌≡◌, ◌≢◌, MatchBool, not, ℕ, zero, suc, Bool, true, false, cond, List, [], ◌∷◌, ◌++◌, Option, Some, None, MatchOption, length, map, append-nil, append_assoc, refl, sym, ap, ◌∙◌, subst, arith, slice_get, option_to_list, unwrap_or, vec_len, Vec, Global}
+use Rattle.std.proofs.Common.{◌==◌, ◌≡◌, ◌≢◌, MatchBool, not, ℕ, zero, suc, Bool, true, false, cond, List, [], ◌∷◌}
+use Rattle.std.proofs.Common.{◌++◌, Option, Some, None, MatchOption, length, map, append-nil, append_assoc, refl, sym}
+use Rattle.std.proofs.Common.{ap, ◌∙◌, subst, arith, slice_get, option_to_list, unwrap_or, vec_len, Vec, Global}
 use Rattle.std.proofs.lemmas.Bool.{Decides.Decides-eqb, false≢true}
 use Rattle.std.proofs.lemmas.Cmp.{nat_list_cmp_total, on_total, tied_itself}
 use Rattle.std.proofs.lemmas.List.{map-append, nil_from_length}
@@ -51,7 +53,8 @@ one_more seen s old mid new e group are at taken put is d = by (bytes_eq e.now d
   where
     looked : group_at new d ≡ cond (bytes_eq e.now d) (Some group) (cond (bytes_eq e.now d) None (group_at old d))
     looked = btree_map_updates_str e.now mid new (Some group) put d
-        ∙ ap (λ (o : Option Group). cond (bytes_eq e.now d) (Some group) o) (btree_map_updates_str e.now old mid None taken d)
+        ∙ ap (λ (o : Option Group). cond (bytes_eq e.now d) (Some group) o)
+        (btree_map_updates_str e.now old mid None taken d)
 
     by : (b : Bool) → bytes_eq e.now d ≡ b → IsGroupAt (seen ++ s ∷ []) d (group_at new d)
     by true same =
@@ -68,7 +71,8 @@ one_more seen s old mid new e group are at taken put is d = by (bytes_eq e.now d
     by false other =
         let apart : bytes_eq d (key_of s) ≡ false = differs (bytes_eq d (key_of s)) refl in
         let whole : of_key d (seen ++ s ∷ []) ≡ of_key d seen =
-        of_key-more d seen s ∙ (ap (λ (b : Bool). of_key d seen ++ cond b (s ∷ []) []) apart ∙ append-nil (of_key d seen)) in
+        of_key-more d seen s ∙ (ap (λ (b : Bool). of_key d seen ++ cond b (s ∷ []) []) apart
+        ∙ append-nil (of_key d seen)) in
         subst (IsGroupAt (seen ++ s ∷ []) d) (sym (looked
         ∙ ap (λ (b : Bool). cond b (Some group) (cond b None (group_at old d))) other))
         (subst (λ l. MatchOption (group_at old d) (l ≡ []) (λ g. (l ≢ []) × IsGroup l g)) (sym whole) (are d))
@@ -82,7 +86,8 @@ one_more seen s old mid new e group are at taken put is d = by (bytes_eq e.now d
 pub taken_group : (seen : List Seen) (old : BTreeMap (Bor (List ℕ)) Group) (key : List ℕ) (empty group : Group)
     (found : Option Group) → AreGroups seen old → found ≡ group_at old key → IsGroup [] empty
     → group ≡ unwrap_or found empty → IsGroup (of_key key seen) group
-taken_group seen old key empty group found are is none same = by found is same (subst (IsGroupAt seen key) (sym is) (are key))
+taken_group seen old key empty group found are is none same =
+    by found is same (subst (IsGroupAt seen key) (sym is) (are key))
   where
     by : (f : Option Group) → f ≡ group_at old key → group ≡ unwrap_or f empty → IsGroupAt seen key f
         → IsGroup (of_key key seen) group
@@ -117,7 +122,8 @@ next_group f asks seen e all rest old new have is =
     let place : slice_get have.groups.entries (length have.done) ≡ Some (e.0, e.1) =
     ap (λ l. slice_get l (length have.done)) entries ∙ at_length have.done rest e in
     let found : group_at have.groups e.0.now ≡ Some e.1 =
-    btree_map_get_place (on_total (λ (k : Bor (List ℕ)). k.now) nat_list_cmp_total) have.groups (length have.done) e.0 e.1
+    btree_map_get_place (on_total (λ (k : Bor (List ℕ)). k.now) nat_list_cmp_total) have.groups (length have.done) e.0
+    e.1
     have.ordered place in
     (subst (IsGroupAt seen e.0.now) found (have.are e.0.now)).1
 
@@ -132,9 +138,12 @@ written_next f asks seen e all rest old mid new have is wrote = record {
   are = have.are;
   ordered = have.ordered;
   entries = have.entries ∙ (ap (λ l. have.done ++ l) is ∙ sym (append_assoc have.done (e ∷ []) rest));
-  wrote = subst (λ (l : List (List ℕ)). InJson f (AreInOrder (λ key some. AreLinesOf (asks key) (of_key key seen) some) l) old new)
+  wrote = subst
+      (λ (l : List (List ℕ)). InJson f (AreInOrder (λ key some. AreLinesOf (asks key) (of_key key seen) some) l) old
+      new)
       (sym (map-append key_in have.done (e ∷ [])))
-      (InJson-push f (λ key some. AreLinesOf (asks key) (of_key key seen) some) (map key_in have.done) e.0.now old mid new have.wrote wrote);
+      (InJson-push f (λ key some. AreLinesOf (asks key) (of_key key seen) some) (map key_in have.done) e.0.now old mid
+      new have.wrote wrote);
 }
 
 -- ---- all keys
@@ -145,7 +154,8 @@ below_texts : (k : Bor (List ℕ)) (es : List (Bor (List ℕ) × Group))
 below_texts k [] below = tt
 below_texts k (e ∷ es) below = (below.0, below_texts k es below.1)
 
-sorted_texts : (es : List (Bor (List ℕ) × Group)) → IsStrictlySortedBy (λ x y. slice_cmp nat_cmp x.now y.now) (keys_of es)
+sorted_texts : (es : List (Bor (List ℕ) × Group)) → IsStrictlySortedBy (λ x y. slice_cmp nat_cmp x.now y.now)
+    (keys_of es)
     → IsStrictlySortedBy (slice_cmp nat_cmp) (map key_in es)
 unfolding IsStrictlySortedBy
 sorted_texts [] sorted = tt
@@ -158,7 +168,9 @@ looked_up [] key has = absurd (omega (arith, has.1))
 looked_up (e ∷ es) key (zero, below, is) =
     let same : is_eq (slice_cmp nat_cmp key e.0.now) ≡ true =
     ap is_eq (ap (slice_cmp nat_cmp key) is ∙ tied_itself nat_list_cmp_total key) in
-    λ none. absurd (some_none (sym (ap (λ (b : Bool). cond b (Some e.1) (lookup (λ k. is_eq (slice_cmp nat_cmp key k.now)) es)) same) ∙ none))
+    λ none. absurd
+    (some_none (sym (ap (λ (b : Bool). cond b (Some e.1) (lookup (λ k. is_eq (slice_cmp nat_cmp key k.now)) es))
+    same) ∙ none))
   where
     some_none : Some e.1 ≡ None → ⊥
     some_none is = omega (arith, ap (λ (o : Option Group). length (option_to_list o)) is)
@@ -188,7 +200,8 @@ among (e ∷ es) key some = by (is_eq (slice_cmp nat_cmp key e.0.now)) refl (amo
 pub written_all : (f : Form) (asks : List ℕ → Asked) (seen : List Seen) (rest : List (Bor (List ℕ) × Group))
     (old new : List ℕ) → HaveWritten f asks seen rest old new → rest ≡ [] → InJson f (AreWarnings asks seen) old new
 written_all f asks seen rest old new have none =
-    let all : have.done ≡ have.groups.entries = sym (have.entries ∙ (ap (λ l. have.done ++ l) none ∙ append-nil have.done)) in
+    let all : have.done ≡ have.groups.entries =
+    sym (have.entries ∙ (ap (λ l. have.done ++ l) none ∙ append-nil have.done)) in
     let entries = have.groups.entries in
     InJson-as f (AreInOrder (λ key some. AreLinesOf (asks key) (of_key key seen) some) (map key_in have.done))
     (AreWarnings asks seen) old new (λ json lines are. (
@@ -200,7 +213,8 @@ written_all f asks seen rest old new have none =
           (λ some. among entries key (λ missing. some (empty key missing))),
         );
       },
-      subst (λ (l : List (Bor (List ℕ) × Group)). AreInOrder (λ key some. AreLinesOf (asks key) (of_key key seen) some) (map key_in l) lines) all are,
+      subst (λ (l : List (Bor (List ℕ) × Group)). AreInOrder (λ key some. AreLinesOf (asks key) (of_key key seen) some)
+          (map key_in l) lines) all are,
     )) have.wrote
   where
     absent : (key : List ℕ) → of_key key seen ≡ [] → group_at have.groups key ≡ None
@@ -215,7 +229,8 @@ written_all f asks seen rest old new have none =
 
 -- whether something was written
 pub any_of : (w : Vec ℕ Global) (b : Bool) → b ≡ (vec_len w == 0) → MatchBool (not b) (w.items ≢ []) (w.items ≡ [])
-any_of w b is = subst (λ (c : Bool). MatchBool (not c) (w.items ≢ []) (w.items ≡ [])) (sym is) (by (vec_len w == 0) refl)
+any_of w b is = subst (λ (c : Bool). MatchBool (not c) (w.items ≢ []) (w.items ≡ [])) (sym is)
+    (by (vec_len w == 0) refl)
   where
     by : (c : Bool) → (vec_len w == 0) ≡ c → MatchBool (not c) (w.items ≢ []) (w.items ≡ [])
     by true empty = nil_from_length w.items
@@ -228,7 +243,8 @@ any_of w b is = subst (λ (c : Bool). MatchBool (not c) (w.items ≢ []) (w.item
 -- what is found at a key, or nothing
 pub asked_found : (beside : BTreeMap (Bor (List ℕ)) Beside) (key : List ℕ) (found : Option (Bor Beside))
     (nothing chosen : Bor Beside) → option_copied found ≡ get_by (λ k. slice_cmp nat_cmp key k.now) beside
-    → asked_of nothing.now ≡ nothing_asked → chosen ≡ unwrap_or found nothing → asked_of chosen.now ≡ asked_at beside key
+    → asked_of nothing.now ≡ nothing_asked → chosen ≡ unwrap_or found nothing
+    → asked_of chosen.now ≡ asked_at beside key
 asked_found beside key None nothing chosen at none is =
     ap (λ (b : Bor Beside). asked_of b.now) is ∙ (none ∙ ap asked_or_nothing at)
 asked_found beside key (Some b) nothing chosen at none is =

@@ -1,5 +1,6 @@
 -- Rows of mappings, with and without a remote.
-use Rattle.std.proofs.Common.{◌≡◌, ℕ, ◌+◌, ◌<◌, List, [], ◌∷◌, ◌++◌, Bor, None, Some, Option, option_map, map, take, get_or, length, codes, refl, sym, ap, ◌∙◌, subst}
+use Rattle.std.proofs.Common.{◌≡◌, ℕ, ◌+◌, ◌<◌, List, [], ◌∷◌, ◌++◌, Bor, None, Some, Option, option_map, map, take}
+use Rattle.std.proofs.Common.{get_or, length, codes, refl, sym, ap, ◌∙◌, subst}
 use Rattle.std.proofs.lemmas.List.{append-nil, map_more}
 use Rattle.gix_refspec.specs.Matching.Mappings.{Mapped}
 use Rattle.gix_refspec.specs.Views.Group.{mapped_of}
@@ -12,7 +13,8 @@ use Rattle.refspec_io.specs.Shown.{zero_ended}
 use Rattle.refspec_io.proofs.JsonLemmas.{AreInOrder-append}
 use Rattle.refspec_io.proofs.ShownLemmas.{behind}
 use Rattle.refspec_commands.specs.declared.mappings.Row.{Row}
-use Rattle.refspec_commands.specs.Rows.{AddsRows, IsRemoteLine, IsRow, Shown, WritesRow, any_object, remote_field, remote_object, shown_row}
+use Rattle.refspec_commands.specs.Rows.{AddsRows, IsRemoteLine, IsRow, Shown, WritesRow, any_object, remote_field}
+use Rattle.refspec_commands.specs.Rows.{remote_object, shown_row}
 
 -- the name of a remote, where there is one
 abbrev pub remote_name : Option (Bor (List ℕ)) → Option (List ℕ)

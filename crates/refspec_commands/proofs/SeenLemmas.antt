@@ -1,5 +1,7 @@
 -- Texts by their keys, and groups of them.
-use Rattle.std.proofs.Common.{arith, ◌≡◌, ◌⊎◌, ℕ, suc, Bool, true, false, cond, List, [], ◌∷◌, ◌++◌, Option, Some, None, MatchBool, inl, inr, length, map, option_to_list, append-nil, append_assoc, refl, sym, ap, ◌∙◌, subst, Vec, Global}
+use Rattle.std.proofs.Common.{arith, ◌≡◌, ◌⊎◌, ℕ, suc, Bool, true, false, cond, List, [], ◌∷◌, ◌++◌, Option, Some, None}
+use Rattle.std.proofs.Common.{MatchBool, inl, inr, length, map, option_to_list, append-nil, append_assoc, refl, sym, ap}
+use Rattle.std.proofs.Common.{◌∙◌, subst, Vec, Global}
 use Rattle.std.proofs.lemmas.List.{length-map, map-append}
 use Rattle.std.specs.List.{AllZip}
 use Rattle.std.specs.Str.{bytes_eq}
@@ -109,7 +111,8 @@ IsGroup-good seen old new text spec is texts specs bad = record {
     by : (b : Bool) → MatchBool b (HasUnread seen) (¬ (HasUnread seen))
         → MatchBool b (HasUnread more) (¬ (HasUnread more))
     by true has = HasUnread-left seen _ has
-    by false none = λ has. elim (HasUnread-append seen (seen_of (checked.Good text spec) ∷ []) has) [ inl before ↦ none before | inr here ↦ read here ]
+    by false none = λ has. elim (HasUnread-append seen (seen_of (checked.Good text spec) ∷ []) has)
+        [ inl before ↦ none before | inr here ↦ read here ]
       where
         read : HasUnread (seen_of (checked.Good text spec) ∷ []) → ⊥
         read (inl is) = omega (arith, ap (λ (o : Option Reading). length (option_to_list o)) is)

@@ -1,5 +1,8 @@
 -- The warnings on groups of specs, in JSON.
-use Rattle.std.proofs.Common.{arith, Bool, ◌≢◌, true, false, refl, is_some, length-append, append-nil, option_to_list, MatchBool, slice_get, ◌⊎◌, inl, inr, zero, suc, Option, None, Some, IfOk, IfErr, Vec, Global, ◌+◌, ◌<◌, ◌≤◌, ◌∷◌, get_or, length, map, subst, sym, take, take_all, ◌≡◌, ℕ, List, [], ◌++◌, codes, append_assoc, ap, ◌∙◌, Result, Ok, Err, OnOk, is_ok, if◌then◌else◌}
+use Rattle.std.proofs.Common.{arith, Bool, ◌≢◌, true, false, refl, is_some, length-append, append-nil, option_to_list}
+use Rattle.std.proofs.Common.{MatchBool, slice_get, ◌⊎◌, inl, inr, zero, suc, Option, None, Some, IfOk, IfErr, Vec}
+use Rattle.std.proofs.Common.{Global, ◌+◌, ◌<◌, ◌≤◌, ◌∷◌, get_or, length, map, subst, sym, take, take_all, ◌≡◌, ℕ, List}
+use Rattle.std.proofs.Common.{[], ◌++◌, codes, append_assoc, ap, ◌∙◌, Result, Ok, Err, OnOk, is_ok, if◌then◌else◌}
 use Rattle.std.proofs.lemmas.List.{get_or-map, get_or_default, length-map, length-take-le, map-append, take_more}
 use Rattle.std.proofs.lemmas.Option.{same_Some, slice_get-get_or, slice_get_within}
 use Rattle.std.proofs.lemmas.Slice.Zip.{all_zipped_more}
@@ -17,7 +20,8 @@ use Rattle.gix_refspec_match.proofs.lemmas.lists.JoinLemmas.{made_next}
 use Rattle.gix_refspec_match.specs.Matching.Lists.{IsJoinedFrom, IsMadeFrom}
 use Rattle.gix_refspec_lint.specs.declared.Error.{Error}
 use Rattle.gix_refspec_lint.specs.declared.Error.TheVariants as error
-use Rattle.gix_refspec_lint.specs.Matching.Lint.{AreExamples, AreNestings, Configuration, Example, IsExample, IsFree, IsNesting, IsNestingOf, Nesting, specs_of, tags_spec}
+use Rattle.gix_refspec_lint.specs.Matching.Lint.{AreExamples, AreNestings, Configuration, Example, IsExample, IsFree}
+use Rattle.gix_refspec_lint.specs.Matching.Lint.{IsNesting, IsNestingOf, Nesting, specs_of, tags_spec}
 use Rattle.refspec_io.specs.Rows.{source_text}
 use Rattle.refspec_io.specs.Shown.{WritesQuoted}
 use Rattle.refspec_json.specs.declared.warnings.WarnedSpec.{WarnedSpec}
@@ -37,7 +41,11 @@ use Rattle.gix_refspec_lint.specs.Views.Lint.{unused_of}
 use Rattle.refspec_commands.specs.declared.warnings.Warning.{Warning}
 use Rattle.refspec_commands.specs.declared.warnings.group.Group.{Group}
 use Rattle.refspec_commands.specs.Seen.{Seen}
-use Rattle.refspec_commands.specs.Warned.{AreConflictsSaid, AreExclusionsSaid, AreIdleSaid, AreLinesOf, AreNestingsSaid, AreSaidOn, AreSources, AreWithin, Asked, FoundOrNone, InJson, IsAmong, IsExampleMessage, IsExclusionSaid, IsForFetch, IsIdleSaid, IsInside, IsNestingMessage, IsOtherSaid, IsSaidLine, IsWarned, MayBeFull, MayExclude, MayNameRefs, Said, excludable_by, fetched_by, other_of}
+use Rattle.refspec_commands.specs.Warned.{AreConflictsSaid, AreExclusionsSaid, AreIdleSaid, AreLinesOf, AreNestingsSaid}
+use Rattle.refspec_commands.specs.Warned.{AreSaidOn, AreSources, AreWithin, Asked, FoundOrNone, InJson, IsAmong}
+use Rattle.refspec_commands.specs.Warned.{IsExampleMessage, IsExclusionSaid, IsForFetch, IsIdleSaid, IsInside}
+use Rattle.refspec_commands.specs.Warned.{IsNestingMessage, IsOtherSaid, IsSaidLine, IsWarned, MayBeFull, MayExclude}
+use Rattle.refspec_commands.specs.Warned.{MayNameRefs, Said, excludable_by, fetched_by, other_of}
 use Rattle.refspec_commands.specs.WarnedViews.{AreOthers, IsGroup, said_of, topic_name}
 use Rattle.refspec_commands.proofs.SeenLemmas.{good_group}
 use Rattle.refspec_io.specs.Texts.{Given, given_of}
@@ -74,7 +82,8 @@ IsExampleMessage-of e start first second third end none (a, is_a, to_first) (b, 
 pub IsNestingMessage-of : (n : Nesting) (sources second third end : List ℕ) → AreSources n sources
     → WritesQuoted n.directory (sources ++ codes " would write ") second
     → WritesQuoted n.nested (second ++ codes " and ") third
-    → end ≡ third ++ codes ": one is a directory of the other, so git fetch would write one of them, and end with status 1."
+    → end ≡ third
+    ++ codes ": one is a directory of the other, so git fetch would write one of them, and end with status 1."
     → IsNestingMessage n end
 IsNestingMessage-of n sources second third end of_sources (d, is_d, to_second) (e, is_e, to_third) to_end =
     let last : List ℕ =
@@ -135,7 +144,8 @@ pub zip_mapped_or : {A B C D : Type 0} (R : C → D → Type 0) (f : A → C) (g
     (old new : List B) (y : B) → i < length xs → AllZip R (map f (take i xs)) (map g old) → R (f (get_or xs i d)) (g y)
     → new ≡ old ++ y ∷ [] → AllZip R (map f (take (i + 1) xs)) (map g new)
 zip_mapped_or R f g xs i d old new y below so_far here grew =
-    zip_mapped_next R f g xs i (get_or xs i d) old new y below (get_or_default xs i d (get_or xs i d) below) so_far here grew
+    zip_mapped_next R f g xs i (get_or xs i d) old new y below (get_or_default xs i d (get_or xs i d) below) so_far here
+    grew
 
 -- what holds of all images holds of that of an element
 pub all_mapped_at : {A B : Type 0} (P : B → Type 0) (f : A → B) (xs : List A) (i : ℕ) (x : A) → All P (map f xs)
@@ -178,8 +188,10 @@ joined_within P R n k (x ∷ xs) ys holds fits (made, rest, is, more, all) =
 
 -- the specs of examples are among all
 pub examples_inside : (g : List Reading) (es : List Example) → AreExamples g es → AllByRecursion (IsAmong (length g)) es
-examples_inside g es are = joined_within (IsAmong (length g)) (λ i r made. IsMadeFrom (λ j q e. IsExample g i j e) 0 g made)
-    (length g) 0 g es (λ i r made below of_first. made_within (IsAmong (length g)) (λ j q e. IsExample g i j e) (length g) 0 g
+examples_inside g es are = joined_within (IsAmong (length g))
+    (λ i r made. IsMadeFrom (λ j q e. IsExample g i j e) 0 g made)
+    (length g) 0 g es (λ i r made below of_first. made_within (IsAmong (length g)) (λ j q e. IsExample g i j e)
+    (length g) 0 g
     made (λ j q e under is. both i j e below under is) (omega arith) of_first) (omega arith) are
   where
     both : (i j : ℕ) (e : Example) → i < length g → j < length g → IsExample g i j e → IsAmong (length g) e
@@ -189,9 +201,12 @@ examples_inside g es are = joined_within (IsAmong (length g)) (λ i r made. IsMa
     }
 
 -- and so are those of directory conflicts
-pub nestings_inside : (g : List Reading) (ns : List Nesting) → AreNestings g ns → AllByRecursion (AreWithin (length g)) ns
-nestings_inside g ns are = joined_within (AreWithin (length g)) (λ i r made. IsMadeFrom (λ j q n. IsNesting g i j n) 0 g made)
-    (length g) 0 g ns (λ i r made below of_first. made_within (AreWithin (length g)) (λ j q n. IsNesting g i j n) (length g) 0 g
+pub nestings_inside : (g : List Reading) (ns : List Nesting) → AreNestings g ns
+    → AllByRecursion (AreWithin (length g)) ns
+nestings_inside g ns are = joined_within (AreWithin (length g))
+    (λ i r made. IsMadeFrom (λ j q n. IsNesting g i j n) 0 g made)
+    (length g) 0 g ns (λ i r made below of_first. made_within (AreWithin (length g)) (λ j q n. IsNesting g i j n)
+    (length g) 0 g
     made (λ j q n under is. both i j n below under is.either) (omega arith) of_first) (omega arith) are
   where
     both : (i j : ℕ) (n : Nesting) → i < length g → j < length g → IsNestingOf g i j n ⊎ IsNestingOf g j i n
@@ -252,7 +267,8 @@ found_inside {X} {Y} view Are Inside a g texts all fetch r found n within by is 
           same,
         )
 
-    inside : Are (specs_of fetch) (map view found.items) ⊎ (((b : ℕ) → ¬ (IsFree (specs_of fetch) b)) × (found.items ≡ []))
+    inside : Are (specs_of fetch) (map view found.items)
+        ⊎ (((b : ℕ) → ¬ (IsFree (specs_of fetch) b)) × (found.items ≡ []))
         → AllByRecursion (Inside (length all)) (map view found.items)
     inside (inl are) = subst (λ (m : ℕ). AllByRecursion (Inside m) (map view found.items)) count
         (within (specs_of fetch) (map view found.items) are)
@@ -395,7 +411,8 @@ idle_said g texts r found said is zipped = of (found_or_none g unused_of (AreIdl
     )
 
 -- the warnings on negative specs that exclude nothing
-pub exclusions_said : (a : Asked) (g : List Reading) (texts : List Given) (fetch : Configuration) (merges : List (List ℕ))
+pub exclusions_said : (a : Asked) (g : List Reading) (texts : List Given) (fetch : Configuration)
+    (merges : List (List ℕ))
     (r : Result (Vec ℕ Global) Error) (found : Vec ℕ Global) (said : List Said) → fetch ≡ excludable_by a g
     → merges ≡ a.merges → IfOk r (λ v. AreIdleExclusions (specs_of fetch) merges v.items)
     × IfErr r (λ e. e ≡ error.NoFreeByte → (b : ℕ) → ¬ (IsFree (specs_of fetch) b))
@@ -403,7 +420,8 @@ pub exclusions_said : (a : Asked) (g : List Reading) (texts : List Given) (fetch
     → IsMadeFrom (λ i k s. IsExclusionSaid g texts k s) 0 found.items said → AreExclusionsSaid a g texts said
 exclusions_said a g texts fetch merges r found said by same (are, refused, inl is) made =
     let here : AreIdleExclusions (specs_of fetch) merges found.items =
-    subst (λ (x : Result (Vec ℕ Global) Error). IfOk x (λ v. AreIdleExclusions (specs_of fetch) merges v.items)) is are in
+    subst (λ (x : Result (Vec ℕ Global) Error). IfOk x (λ v. AreIdleExclusions (specs_of fetch) merges v.items)) is
+    are in
     inl (
       found.items,
       subst (λ (m : List (List ℕ)). AreIdleExclusions (specs_of (excludable_by a g)) m found.items) same
@@ -448,7 +466,8 @@ excludes_at specs k spec b below is told = by b told
 exclusion_at : (ks : List ℕ) (i k : ℕ) → i < length ks → k ≡ get_or ks i k → take (i + 1) ks ≡ take i ks ++ k ∷ []
 exclusion_at ks i k below is = take_more ks i k below ∙ ap (λ z. take i ks ++ z ∷ []) (sym is)
 
-pub exclusion_more : (g : List Reading) (texts : List Given) (ks : List ℕ) (i k : ℕ) (old new : List Warning) (w : Warning)
+pub exclusion_more : (g : List Reading) (texts : List Given) (ks : List ℕ) (i k : ℕ) (old new : List Warning)
+    (w : Warning)
     → i < length ks → k ≡ get_or ks i k → IsExclusionSaid g texts k (said_of w) → new ≡ old ++ w ∷ []
     → IsMadeFrom (λ i k s. IsExclusionSaid g texts k s) 0 (take i ks) (map said_of old)
     → IsMadeFrom (λ i k s. IsExclusionSaid g texts k s) 0 (take (i + 1) ks) (map said_of new)
@@ -456,7 +475,8 @@ exclusion_more g texts ks i k old new w below is said grew so_far =
     let R : ℕ → ℕ → Said → Type 0 = λ i k s. IsExclusionSaid g texts k s in
     subst (λ (l : List ℕ). IsMadeFrom R 0 l (map said_of new)) (sym (exclusion_at ks i k below is))
     (subst (IsMadeFrom R 0 (take i ks ++ k ∷ [])) (sym (ap (map said_of) grew ∙ map-append said_of old (w ∷ [])))
-    (made_next R i (take i ks) k (map said_of old) (Some (said_of w)) (length-take-le i ks (omega (arith, below))) so_far said))
+    (made_next R i (take i ks) k (map said_of old) (Some (said_of w)) (length-take-le i ks (omega (arith, below)))
+    so_far said))
 
 pub exclusion_less : (g : List Reading) (texts : List Given) (ks : List ℕ) (i k : ℕ) (all : List Warning)
     → i < length ks → k ≡ get_or ks i k → ¬ (MayExclude g k)
@@ -530,7 +550,8 @@ InJson-good f a seen group ws old new is none said wrote =
       good.0,
       (
         map said_of ws,
-        subst (λ (t : List Given). AreSaidOn a (map reading_of group.specs.items) t (map said_of ws)) good.1 (said json),
+        subst (λ (t : List Given). AreSaidOn a (map reading_of group.specs.items) t (map said_of ws)) good.1
+            (said json),
         are,
       ),
     )) wrote

@@ -20,14 +20,16 @@ use Rattle.refspec_io.specs.Texts.{Given, given_of, said}
 abbrev pub AreCanonical : List (Operation × List ℕ) → List (List ℕ) → Type 0
 AreCanonical [] names = names ≡ []
 AreCanonical (t ∷ texts) names =
-    ((r : Reading) × (name : List ℕ) × (rest : List (List ℕ)) × Reads t.0 t.1 r × (printed r ≡ Some name) × AreCanonical texts rest × (names ≡ name ∷ rest))
+    ((r : Reading) × (name : List ℕ) × (rest : List (List ℕ)) × Reads t.0 t.1 r × (printed r ≡ Some name)
+    × AreCanonical texts rest × (names ≡ name ∷ rest))
     ⊎ ((e : Refusal) × IsRefused t.0 t.1 e × AreCanonical texts names)
 
 -- the same for checked texts
 abbrev pub AreCanonicalOf : List Checked → List (List ℕ) → Type 0
 AreCanonicalOf [] names = names ≡ []
 AreCanonicalOf (checked.Good text spec ∷ all) names =
-    (name : List ℕ) × (rest : List (List ℕ)) × (printed (reading_of spec) ≡ Some name) × AreCanonicalOf all rest × (names ≡ name ∷ rest)
+    (name : List ℕ) × (rest : List (List ℕ)) × (printed (reading_of spec) ≡ Some name) × AreCanonicalOf all rest
+    × (names ≡ name ∷ rest)
 AreCanonicalOf (checked.Bad text error ∷ all) names = AreCanonicalOf all names
 
 -- the object of a text with its canonical text, as a line
@@ -36,7 +38,8 @@ IsCanonicalLine t name line = IsSpecLine (codes "canonical") t name None None li
 
 -- the object of a checked text, as a line: its canonical text if it is a spec, else its refusal
 abbrev pub IsCanonicalOrRefusal : Checked → List ℕ → Type 0
-IsCanonicalOrRefusal (checked.Good text spec) line = (name : List ℕ) × (printed (reading_of spec) ≡ Some name) × IsCanonicalLine text name line
+IsCanonicalOrRefusal (checked.Good text spec) line = (name : List ℕ) × (printed (reading_of spec) ≡ Some name)
+    × IsCanonicalLine text name line
 IsCanonicalOrRefusal (checked.Bad text error) line = IsRefusedLine text error line
 
 -- the object of a text that is a spec, as a line
@@ -52,14 +55,18 @@ pub record IsCanonicalObject (t : Given) (line : List ℕ) : Type 0 where
 -- the results grew by the canonical texts of the checked texts
 abbrev pub AddsCanonical : Form → List Checked → List ℕ → List ℕ → Type 0
 AddsCanonical form.Json all old new = AddsObjects form.Json IsCanonicalOrRefusal all old new
-AddsCanonical form.Lines all old new = (names : List (List ℕ)) × AreCanonicalOf all names × AddsNames form.Lines [] names old new
-AddsCanonical form.Zeros all old new = (names : List (List ℕ)) × AreCanonicalOf all names × AddsNames form.Zeros [] names old new
+AddsCanonical form.Lines all old new = (names : List (List ℕ)) × AreCanonicalOf all names
+    × AddsNames form.Lines [] names old new
+AddsCanonical form.Zeros all old new = (names : List (List ℕ)) × AreCanonicalOf all names
+    × AddsNames form.Zeros [] names old new
 
 -- the output is the canonical texts of those texts that are specs, in the given form; in JSON refusals too
 abbrev pub ShowsCanonical : Form → List Given → List ℕ → Type 0
 ShowsCanonical form.Json texts output = AreInOrder (λ t line. IsCanonicalObject t line ⊎ IsRefusal t line) texts output
-ShowsCanonical form.Lines texts output = (names : List (List ℕ)) × AreCanonical (map said texts) names × AddsNames form.Lines [] names [] output
-ShowsCanonical form.Zeros texts output = (names : List (List ℕ)) × AreCanonical (map said texts) names × AddsNames form.Zeros [] names [] output
+ShowsCanonical form.Lines texts output = (names : List (List ℕ)) × AreCanonical (map said texts) names
+    × AddsNames form.Lines [] names [] output
+ShowsCanonical form.Zeros texts output = (names : List (List ℕ)) × AreCanonical (map said texts) names
+    × AddsNames form.Zeros [] names [] output
 
 -- the results grew by the canonical text of a spec
 abbrev pub AddsCanonicalName : Form → Text → List ℕ → List ℕ → List ℕ → Type 0

@@ -28,21 +28,29 @@ use Rattle.refspec_commands.specs.Warnings.{ReportsCheck, ShowsCheck}
 -- the results grew by what a command reports on specs with these readings, and whether something is refused; before are
 -- the earlier messages, and after all of them
 abbrev pub AddsFound : Command → Task → Form → (before after : List ℕ) → Bool → List Reading → List ℕ → List ℕ → Type 0
-AddsFound command.Plan task form before after refused g old new = AddsFetch command.Plan task form before after refused g old new
-AddsFound command.Stale task form before after refused g old new = AddsFetch command.Stale task form before after refused g old new
-AddsFound command.Track task form before after refused g old new = AddsTracked form (map (λ w. w.now) task.call.now.refs.items) refused g old new
-AddsFound command.Prefixes task form before after refused g old new = AddsPrefixes task.call.now.patterns form g old new × (refused ≡ false)
+AddsFound command.Plan task form before after refused g old new = AddsFetch command.Plan task form before after refused
+    g old new
+AddsFound command.Stale task form before after refused g old new = AddsFetch command.Stale task form before after
+    refused g old new
+AddsFound command.Track task form before after refused g old new =
+    AddsTracked form (map (λ w. w.now) task.call.now.refs.items) refused g old new
+AddsFound command.Prefixes task form before after refused g old new = AddsPrefixes task.call.now.patterns form g old new
+    × (refused ≡ false)
 AddsFound _ task form before after refused g old new = ⊤
 
--- the output of a call on its texts and what it reads; if a text is refused, the messages are the refusals, and of `check`
+-- the output of a call on its texts and what it reads; if a text is refused, the messages are the refusals, and of
+-- `check`
 -- also warnings
 abbrev pub Shows : Command → Task → List Given → List ℕ → Bool → List ℕ → Type 0
 Shows command.Canon task texts messages refused output =
-    ShowsCanonical task.call.now.form texts output × DecidesRefused refused (map said texts) × AreRefusals task.call.now.form texts messages
+    ShowsCanonical task.call.now.form texts output × DecidesRefused refused (map said texts)
+    × AreRefusals task.call.now.form texts messages
 Shows command.Check task texts messages refused output = ShowsCheck task.call.now texts messages refused output
-Shows command.Explain task texts messages refused output = DecidesRefused refused (map said texts) × AreRefusals task.call.now.form texts messages
+Shows command.Explain task texts messages refused output = DecidesRefused refused (map said texts)
+    × AreRefusals task.call.now.form texts messages
 Shows found task texts messages refused output =
-    AddsIfRead (AddsFound found task task.call.now.form [] messages refused) (AreRefusals task.call.now.form texts messages) task.call.now.form refused texts [] output
+    AddsIfRead (AddsFound found task task.call.now.form [] messages refused)
+    (AreRefusals task.call.now.form texts messages) task.call.now.form refused texts [] output
 
 -- some key of refspecs has no value: then only that is reported
 pub record LacksValues (call : Call) (files : Files) (input : List ℕ) (refused : Bool) (output : List ℕ) : Type 0 where
@@ -55,7 +63,8 @@ pub record LacksValues (call : Call) (files : Files) (input : List ℕ) (refused
 -- each key of refspecs has a value
 abbrev pub HasValues : Call → Files → List ℕ → Type 0
 HasValues call files input =
-    (settings : List Setting) × AreSettingsOf call.ends files.specs.now (spec_input call.command files.configured.now input) settings × ¬ (HasLacking settings)
+    (settings : List Setting) × AreSettingsOf call.ends files.specs.now
+    (spec_input call.command files.configured.now input) settings × ¬ (HasLacking settings)
 
 -- the call, and what it reads
 pub record IsTask (call : Call) (files : Files) (input : List ℕ) (task : Task) : Type 0 where
@@ -68,13 +77,16 @@ pub record IsTask (call : Call) (files : Files) (input : List ℕ) (task : Task)
 abbrev pub IsWholeOutput : Call → Files → List ℕ → List ℕ → Bool → List ℕ → Type 0
 IsWholeOutput call files input messages refused output =
     HasValues call files input
-    × ((task : Task) × (texts : List Given) × IsTask call files input task × AreTexts call files input texts × Shows call.command task texts messages refused output)
+    × ((task : Task) × (texts : List Given) × IsTask call files input task × AreTexts call files input texts
+    × Shows call.command task texts messages refused output)
 
 -- the messages and the output of a call
 abbrev pub IsOutput : Call → Files → List ℕ → List ℕ → Bool → List ℕ → Type 0
-IsOutput call files input messages refused output = LacksValues call files input refused output ⊎ IsWholeOutput call files input messages refused output
+IsOutput call files input messages refused output = LacksValues call files input refused output
+    ⊎ IsWholeOutput call files input messages refused output
 
--- the exit status: 1 if something is refused, missing, conflicting, left out, not found, or warned of in a strict call, else 0
+-- the exit status: 1 if something is refused, missing, conflicting, left out, not found, or warned of in a strict call,
+-- else 0
 abbrev pub status_of : Bool → ℕ
 status_of true = 1
 status_of false = 0
@@ -86,11 +98,13 @@ IsInput reads old new input = MatchBool reads (ReadsToEnd old new input) (input 
 -- if the fault is about the format of settings, what was read or a file of specs isn't in that format
 abbrev pub RefusesInput : Call → Files → Option (List ℕ) → Option (List ℕ) → Fault → Type 0
 RefusesInput call files old new (fault.Settings why) =
-    (input : List ℕ) × IsInput call.reads_input old new input × HasNoSettings call.ends files.specs.now (spec_input call.command files.configured.now input)
+    (input : List ℕ) × IsInput call.reads_input old new input × HasNoSettings call.ends files.specs.now
+    (spec_input call.command files.configured.now input)
 RefusesInput call files old new _ = ⊤
 
 -- the output and the messages of the call on what it read were written, and status is its exit status
-pub record Answers (call : Call) (files : Files) (reader_old reader_new writer_old writer_new errors_old errors_new : Option (List ℕ)) (status : ℕ) : Type 0 where
+pub record Answers (call : Call) (files : Files) (reader_old reader_new writer_old writer_new errors_old errors_new :
+    Option (List ℕ)) (status : ℕ) : Type 0 where
   pub input : List ℕ
   pub output : List ℕ
   pub messages : List ℕ
@@ -104,9 +118,12 @@ pub record Answers (call : Call) (files : Files) (reader_old reader_new writer_o
 -- what a command reported on the checked texts and what it reads; before are the earlier messages
 abbrev pub Reports : Command → Task → Form → List ℕ → List ℕ → Bool → List Checked → List ℕ → List ℕ → Type 0
 Reports command.Canon task form before messages refused all old new =
-    AddsCanonical form all old new × MatchBool refused (HasBad all) (AreGood all) × ReportsRefusals form all before messages
-Reports command.Check task form before messages refused all old new = ReportsCheck task.call.now form before messages refused all new
+    AddsCanonical form all old new × MatchBool refused (HasBad all) (AreGood all)
+    × ReportsRefusals form all before messages
+Reports command.Check task form before messages refused all old new = ReportsCheck task.call.now form before messages
+    refused all new
 Reports command.Explain task form before messages refused all old new =
     MatchBool refused (HasBad all) (AreGood all) × ReportsRefusals form all before messages
 Reports found task form before messages refused all old new =
-    AddsIfGood (AddsFound found task form before messages refused) (ReportsRefusals form all before messages) form refused all old new
+    AddsIfGood (AddsFound found task form before messages refused) (ReportsRefusals form all before messages) form
+    refused all old new

@@ -30,7 +30,8 @@ pub record IsReasonObject (r : Reading) (line : List ℕ) : Type 0 where
 
 -- the report on a spec: that object if no list of prefixes is safe for it, else nothing
 abbrev pub IsReason : Reading → List ℕ → Type 0
-IsReason r line = (HasNoList (r ∷ []) × IsReasonObject r line) ⊎ (((list : List (List ℕ)) × ListsGroup (r ∷ []) list) × (line ≡ []))
+IsReason r line = (HasNoList (r ∷ []) × IsReasonObject r line)
+    ⊎ (((list : List (List ℕ)) × ListsGroup (r ∷ []) list) × (line ≡ []))
 
 -- the line that stands for all refs: the pattern `*`, or `(all)`
 abbrev pub all_line : Bool → List ℕ
@@ -61,8 +62,10 @@ asked_object prefix = line_of (prefix_object (json_text prefix) (json_text (requ
 -- the results grew by prefixes, in order
 abbrev pub AddsRequests : Bool → Form → List (List ℕ) → List ℕ → List ℕ → Type 0
 AddsRequests patterns form.Json list old new = new ≡ old ++ flat_map asked_object list
-AddsRequests patterns form.Lines list old new = AddsNames form.Lines (argument patterns) (map (request patterns) list) old new
-AddsRequests patterns form.Zeros list old new = AddsNames form.Zeros (argument patterns) (map (request patterns) list) old new
+AddsRequests patterns form.Lines list old new = AddsNames form.Lines (argument patterns) (map (request patterns) list)
+    old new
+AddsRequests patterns form.Zeros list old new = AddsNames form.Zeros (argument patterns) (map (request patterns) list)
+    old new
 
 -- the results grew by prefixes, or by the report that no request is needed
 abbrev pub AddsList : Bool → Form → List (List ℕ) → List ℕ → List ℕ → Type 0

@@ -1,4 +1,5 @@
--- The texts of `check` by their keys, as a fetch or a push applies the values of a key together. This project's own rule.
+-- The texts of `check` by their keys, as a fetch or a push applies the values of a key together. This project's own
+-- rule.
 use Rattle.std.specs.Prelude.{◌≡◌, ◌≢◌, ◌⊎◌, ◌↔◌, ℕ, cond, List, [], ◌∷◌, Option, Some, None, MatchOption}
 use Rattle.std.specs.Cmp.Lexicographic.{slice_cmp}
 use Rattle.std.specs.List.{AllZip, Contains}

@@ -1,5 +1,6 @@
 -- The output of `track`, in the terms of the library.
-use Rattle.std.specs.Prelude.{◌≡◌, ◌≢◌, ◌↔◌, ◌⊎◌, ℕ, Bool, List, [], ◌∷◌, map, replicate, None, Some, IsTrue, MatchBool, ⊤}
+use Rattle.std.specs.Prelude.{◌≡◌, ◌≢◌, ◌↔◌, ◌⊎◌, ℕ, Bool, List, [], ◌∷◌, map, replicate, None, Some, IsTrue, MatchBool}
+use Rattle.std.specs.Prelude.{⊤}
 use Rattle.std.specs.Borrow.{Bor}
 use Rattle.std.specs.BTreeSet.{BTreeSet, contains_by}
 use Rattle.std.specs.Cmp.Lexicographic.{slice_cmp}
@@ -30,7 +31,8 @@ IsWritten name (m ∷ found) = (m.destination ≡ Some name) ⊎ IsWritten name 
 
 -- the set contains exactly the names of the refs that mappings write
 abbrev pub AreWritten : BTreeSet (Bor (List ℕ)) → List Mapped → Type 0
-AreWritten set found = (name : List ℕ) → IsTrue (contains_by (λ n. slice_cmp nat_cmp name n.now) set) ↔ IsWritten name found
+AreWritten set found = (name : List ℕ) → IsTrue (contains_by (λ n. slice_cmp nat_cmp name n.now) set)
+    ↔ IsWritten name found
 
 -- some mapping writes each of these refs
 abbrev pub IsEachWritten : List (List ℕ) → List Mapped → Type 0
@@ -44,7 +46,8 @@ HasUnwritten (name ∷ names) found = (¬ (IsWritten name found)) ⊎ HasUnwritt
 
 -- the results grew by the mappings by which these specs map refs with these names back to sources; something is
 -- refused if the destination of a spec is an object id, or no spec writes a ref
-pub record AddsTracked (form : Form) (names : List (List ℕ)) (refused : Bool) (g : List Reading) (old new : List ℕ) : Type 0 where
+pub record AddsTracked (form : Form) (names : List (List ℕ)) (refused : Bool) (g : List Reading) (old new : List ℕ) :
+    Type 0 where
   pub by_names : List Reading
   pub found : List Mapped
   pub texts : List (List ℕ)
@@ -52,4 +55,5 @@ pub record AddsTracked (form : Form) (names : List (List ℕ)) (refused : Bool) 
   pub kept : AreKeptBackward by_names (map named names) found
   pub of_specs : AreSpecTexts by_names texts
   pub reported : AddsMappingsAmong form texts found old new
-  pub status : MatchBool refused ((by_names ≢ g) ⊎ HasUnwritten names found) ((by_names ≡ g) × IsEachWritten names found)
+  pub status : MatchBool refused ((by_names ≢ g) ⊎ HasUnwritten names found)
+      ((by_names ≡ g) × IsEachWritten names found)

@@ -1,7 +1,10 @@
--- What `check` warns of in JSON: what the definitions of the linter say of the specs that a fetch applies together, and other
--- warnings on single specs. This project's own rule. The advice is left open, and so is the message, except on the two kinds of
+-- What `check` warns of in JSON: what the definitions of the linter say of the specs that a fetch applies together, and
+-- other
+-- warnings on single specs. This project's own rule. The advice is left open, and so is the message, except on the two
+-- kinds of
 -- conflict. Of the warnings on single specs the name alone is said.
-use Rattle.std.specs.Prelude.{◌≡◌, ◌≢◌, ◌⊎◌, ◌<◌, ℕ, Bool, true, List, [], ◌∷◌, ◌++◌, Option, Some, None, codes, map, option_to_list, is_some, ⊤}
+use Rattle.std.specs.Prelude.{◌≡◌, ◌≢◌, ◌⊎◌, ◌<◌, ℕ, Bool, true, List, [], ◌∷◌, ◌++◌, Option, Some, None, codes, map}
+use Rattle.std.specs.Prelude.{option_to_list, is_some, ⊤}
 use Rattle.std.specs.List.{AllByRecursion, AllZip, slice_get}
 use Rattle.gix_refspec_text.specs.declared.parsing.Operation.TheVariants as operation
 use Rattle.gix_refspec_text.specs.Specs.Reading.{Reading}
@@ -10,7 +13,8 @@ use Rattle.gix_refspec_text.specs.Texts.Words.{BeginsWith, Lacks}
 use Rattle.gix_refspec_match.specs.Matching.Lists.{IsMadeFrom}
 use Rattle.gix_refspec_lint.specs.declared.Reason.{Reason}
 use Rattle.gix_refspec_lint.specs.declared.Reason.TheVariants as reason
-use Rattle.gix_refspec_lint.specs.Matching.Lint.{AreExamples, AreIdle, AreIdleExclusions, AreNestings, Configuration, Example, IsFree, Nesting, Unused, specs_of}
+use Rattle.gix_refspec_lint.specs.Matching.Lint.{AreExamples, AreIdle, AreIdleExclusions, AreNestings, Configuration}
+use Rattle.gix_refspec_lint.specs.Matching.Lint.{Example, IsFree, Nesting, Unused, specs_of}
 use Rattle.refspec_json.specs.Objects.{Warned, line_of, warning_object}
 use Rattle.refspec_io.specs.declared.call.Form.{Form}
 use Rattle.refspec_io.specs.declared.call.Form.TheVariants as form
@@ -175,7 +179,8 @@ pub record IsExclusionSaid (g : List Reading) (texts : List Given) (k : ℕ) (s 
 -- the warning has the name of one on a single spec; its texts, location and message are open
 abbrev pub IsOtherSaid : Said → Type 0
 IsOtherSaid s =
-    (s.name ≡ codes "excludes_no_branch") ⊎ ((s.name ≡ codes "destination_outside_refs") ⊎ (s.name ≡ codes "partial_source"))
+    (s.name ≡ codes "excludes_no_branch")
+    ⊎ ((s.name ≡ codes "destination_outside_refs") ⊎ (s.name ≡ codes "partial_source"))
 
 -- what the linter finds of specs, with the warnings on it; or no byte is free, and there are none
 abbrev pub FoundOrNone : {X : Type 0} → List Reading → (List X → Type 0) → (List X → List Said → Type 0) → List Said

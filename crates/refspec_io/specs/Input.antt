@@ -21,7 +21,8 @@ abbrev pub AreRecords : ℕ → List (List ℕ) → List ℕ → Type 0
 AreRecords end [] input = input ≡ []
 AreRecords end (record_ ∷ records) input =
     Lacks end record_
-    × (((rest : List ℕ) × (input ≡ record_ ++ (end ∷ rest)) × AreRecords end records rest) ⊎ ((record_ ≢ []) × (records ≡ []) × (input ≡ record_)))
+    × (((rest : List ℕ) × (input ≡ record_ ++ (end ∷ rest)) × AreRecords end records rest)
+    ⊎ ((record_ ≢ []) × (records ≡ []) × (input ≡ record_)))
 
 -- first is the first record of the text, and rest is what follows its end byte
 abbrev pub IsFirstRecord : ℕ → List ℕ → List ℕ → List ℕ → Type 0

@@ -1,6 +1,6 @@
 -- How bytes become JSON strings, and the objects of texts, in the terms of `refspec_json`. This project's own rule.
-use Rattle.std.specs.Prelude.{◌≡◌, ℕ, Bool, false, not, cond, ◌||◌, ◌==◌, List, [], ◌∷◌, ◌++◌, codes}
-use Rattle.std.specs.Prelude.{Option, None, Some}
+use Rattle.std.specs.Prelude.{◌≡◌, ℕ, Bool, false, not, cond, ◌||◌, ◌==◌, List, [], ◌∷◌, ◌++◌, codes, Option, None}
+use Rattle.std.specs.Prelude.{Some}
 use Rattle.std.specs.Str.{is_utf8}
 use Rattle.refspec_json.specs.Objects.{line_of, refused_object, spec_object}
 use Rattle.gix_refspec_text.specs.declared.parsing.Error.{Error}
@@ -50,7 +50,8 @@ pub record IsRefusedLine (t : Text) (e : Error) (line : List ℕ) : Type 0 where
   pub advice : List ℕ
   pub is_location : IsLocation form.Json t.location location
   pub is_wrong : ShowsWrong t.operation t.bytes.now side part index
-  pub is : line ≡ line_of (refused_object location (operation_name t.operation) (json_text t.bytes.now) (reason_name e) (explained e) side part index advice)
+  pub is : line ≡ line_of (refused_object location (operation_name t.operation) (json_text t.bytes.now) (reason_name e)
+      (explained e) side part index advice)
 
 -- bytes grew by that line
 abbrev pub WritesRefused : Text → Error → List ℕ → List ℕ → Type 0
@@ -64,7 +65,8 @@ AddsRefusal _ t e old new = new ≡ old
 -- what Reports says of each element, in order
 abbrev pub AreInOrder : {X : Type 0} → (X → List ℕ → Type 0) → List X → List ℕ → Type 0
 AreInOrder Reports [] lines = lines ≡ []
-AreInOrder Reports (x ∷ xs) lines = (one : List ℕ) × (rest : List ℕ) × Reports x one × AreInOrder Reports xs rest × (lines ≡ one ++ rest)
+AreInOrder Reports (x ∷ xs) lines = (one : List ℕ) × (rest : List ℕ) × Reports x one × AreInOrder Reports xs rest
+    × (lines ≡ one ++ rest)
 
 -- in JSON the results grew by that; else they stayed as they were
 abbrev pub AddsObjects : {X : Type 0} → Form → (X → List ℕ → Type 0) → List X → List ℕ → List ℕ → Type 0
@@ -73,11 +75,14 @@ AddsObjects _ Reports xs old new = new ≡ old
 
 -- the object of a spec, as a line: the location of its text, its operation, the text, its canonical text, its meaning
 -- and the location of an earlier duplicate
-pub record IsSpecLine (kind : List ℕ) (t : Text) (canonical : List ℕ) (meaning same_as : Option (List ℕ)) (line : List ℕ) : Type 0 where
+pub record IsSpecLine (kind : List ℕ) (t : Text) (canonical : List ℕ) (meaning same_as : Option (List ℕ))
+    (line : List ℕ) : Type 0 where
   pub location : List ℕ
   pub is_location : IsLocation form.Json t.location location
-  pub is : line ≡ line_of (spec_object kind location (operation_name t.operation) (json_text t.bytes.now) (json_text canonical) meaning same_as)
+  pub is : line ≡ line_of (spec_object kind location (operation_name t.operation) (json_text t.bytes.now)
+      (json_text canonical) meaning same_as)
 
 -- bytes grew by that line
 abbrev pub WritesSpec : List ℕ → Text → List ℕ → Option (List ℕ) → Option (List ℕ) → List ℕ → List ℕ → Type 0
-WritesSpec kind t canonical meaning same_as old new = (line : List ℕ) × IsSpecLine kind t canonical meaning same_as line × (new ≡ old ++ line)
+WritesSpec kind t canonical meaning same_as old new = (line : List ℕ) × IsSpecLine kind t canonical meaning same_as line
+    × (new ≡ old ++ line)

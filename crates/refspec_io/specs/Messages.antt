@@ -27,9 +27,11 @@ IsShownIn form.Json name shown = IsQuoted name shown × IsUtf8 shown
 -- setting by its file and key
 abbrev pub IsSpot : Form → Spot → List ℕ → Type 0
 IsSpot f (at_argument number) shown = shown ≡ codes "spec " ++ decimal number
-IsSpot f (at_record input number) shown = (name : List ℕ) × IsShownIn f input name × (shown ≡ name ++ (58 ∷ decimal number))
+IsSpot f (at_record input number) shown = (name : List ℕ) × IsShownIn f input name
+    × (shown ≡ name ++ (58 ∷ decimal number))
 IsSpot f (at_setting file key) shown =
-    (one : List ℕ) × (other : List ℕ) × IsShownIn f file one × IsShownIn f key other × (shown ≡ one ++ (codes ": " ++ other))
+    (one : List ℕ) × (other : List ℕ) × IsShownIn f file one × IsShownIn f key other
+    × (shown ≡ one ++ (codes ": " ++ other))
 
 -- the same for a `Location`
 abbrev pub IsLocation : Form → Location → List ℕ → Type 0
@@ -77,7 +79,8 @@ ReportsRefusal _ t e old new = WritesRefusal t e old new
 abbrev pub ReportsRefusals : Form → List Checked → List ℕ → List ℕ → Type 0
 ReportsRefusals f [] old new = new ≡ old
 ReportsRefusals f (checked.Good text spec ∷ all) old new = ReportsRefusals f all old new
-ReportsRefusals f (checked.Bad text error ∷ all) old new = (mid : List ℕ) × ReportsRefusal f text error old mid × ReportsRefusals f all mid new
+ReportsRefusals f (checked.Bad text error ∷ all) old new = (mid : List ℕ) × ReportsRefusal f text error old mid
+    × ReportsRefusals f all mid new
 
 -- the lines on a text: for a refused text those of the first reason against it; for a spec none
 abbrev pub IsReportedOf : Given → List ℕ → Type 0
@@ -88,7 +91,8 @@ IsReportedOf t lines =
 -- the lines on texts, in order
 abbrev pub AreReportedOf : List Given → List ℕ → Type 0
 AreReportedOf [] lines = lines ≡ []
-AreReportedOf (t ∷ texts) lines = (one : List ℕ) × (rest : List ℕ) × IsReportedOf t one × AreReportedOf texts rest × (lines ≡ one ++ rest)
+AreReportedOf (t ∷ texts) lines = (one : List ℕ) × (rest : List ℕ) × IsReportedOf t one × AreReportedOf texts rest
+    × (lines ≡ one ++ rest)
 
 -- the messages are the lines on the texts; in JSON, where refusals are results, there are none
 abbrev pub AreRefusals : Form → List Given → List ℕ → Type 0

@@ -69,13 +69,15 @@ IsRefusalOf (checked.Bad text error) line = IsRefusedLine text error line
 
 -- all texts are specs, and the results grew by what Adds says of their readings; or some text is refused, the results
 -- grew in JSON by the refusals and else stayed as they were, and Refuses holds
-abbrev pub AddsIfRead : (List Reading → List ℕ → List ℕ → Type 0) → Type 0 → Form → Bool → List Given → List ℕ → List ℕ → Type 0
+abbrev pub AddsIfRead : (List Reading → List ℕ → List ℕ → Type 0) → Type 0 → Form → Bool → List Given → List ℕ → List ℕ
+    → Type 0
 AddsIfRead Adds Refuses form refused texts old new =
     ((g : List Reading) × AreRead (map said texts) g × Adds g old new)
     ⊎ (HasRefused (map said texts) × AddsObjects form IsReadOrRefusal texts old new × (refused ≡ true) × Refuses)
 
 -- the same for checked texts
-abbrev pub AddsIfGood : (List Reading → List ℕ → List ℕ → Type 0) → Type 0 → Form → Bool → List Checked → List ℕ → List ℕ → Type 0
+abbrev pub AddsIfGood : (List Reading → List ℕ → List ℕ → Type 0) → Type 0 → Form → Bool → List Checked → List ℕ
+    → List ℕ → Type 0
 AddsIfGood Adds Refuses form refused all old new =
     ((g : List Reading) × AllZip IsSpec all g × Adds g old new)
     ⊎ (HasBad all × AddsObjects form IsRefusalOf all old new × (refused ≡ true) × Refuses)

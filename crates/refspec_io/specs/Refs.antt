@@ -69,13 +69,15 @@ IsNoRefLine line = (id name : List ℕ) → ¬ (IsIdThen line id name)
 abbrev pub AddsLine : List ℕ → List Ref → List Ref → List (List ℕ) → Type 0
 AddsLine line old new bad =
     ((r : Ref) × IsRefLine line r × (new ≡ old ++ r ∷ []) × (bad ≡ []))
-    ⊎ ((IsPeeledLine line old new × (bad ≡ [])) ⊎ ((IsTagLine line old ⊎ IsNoRefLine line) × (new ≡ old) × (bad ≡ line ∷ [])))
+    ⊎ ((IsPeeledLine line old new × (bad ≡ []))
+    ⊎ ((IsTagLine line old ⊎ IsNoRefLine line) × (new ≡ old) × (bad ≡ line ∷ [])))
 
 -- the refs after lines, from those before them; bad are the bad lines, in order
 abbrev pub AddsRefs : List (List ℕ) → List Ref → List Ref → List (List ℕ) → Type 0
 AddsRefs [] old new bad = (new ≡ old) × (bad ≡ [])
 AddsRefs (line ∷ lines) old new bad =
-    (more : List Ref) × (one : List (List ℕ)) × (rest : List (List ℕ)) × AddsLine line old more one × AddsRefs lines more new rest × (bad ≡ one ++ rest)
+    (more : List Ref) × (one : List (List ℕ)) × (rest : List (List ℕ)) × AddsLine line old more one
+    × AddsRefs lines more new rest × (bad ≡ one ++ rest)
 
 -- the records of an input list these refs, and bad are the bad ones
 abbrev pub ListsRefs : ℕ → List ℕ → List Ref → List (List ℕ) → Type 0
@@ -83,11 +85,13 @@ ListsRefs end input refs bad = (records : List (List ℕ)) × AreRecords end rec
 
 -- after the line, any refs with the names of old become refs with the names of new
 abbrev pub AddsLineByNames : List ℕ → List Ref → List Ref → List (List ℕ) → Type 0
-AddsLineByNames line old new bad = (refs : List Ref) → HaveSameNames old refs → (more : List Ref) × AddsLine line refs more bad × HaveSameNames new more
+AddsLineByNames line old new bad = (refs : List Ref) → HaveSameNames old refs → (more : List Ref)
+    × AddsLine line refs more bad × HaveSameNames new more
 
 -- the same, and the bad records grew by the line if it is bad
 abbrev pub AddsListed : List ℕ → List Ref → List Ref → List (List ℕ) → List (List ℕ) → Type 0
-AddsListed line old new bad_old bad_new = (bad : List (List ℕ)) × AddsLineByNames line old new bad × (bad_new ≡ bad_old ++ bad)
+AddsListed line old new bad_old bad_new = (bad : List (List ℕ)) × AddsLineByNames line old new bad
+    × (bad_new ≡ bad_old ++ bad)
 
 -- the records of an input list refs with the names of these, and bad are the bad ones
 abbrev pub ListsNames : ℕ → List ℕ → List Ref → List (List ℕ) → Type 0

@@ -41,7 +41,8 @@ row_of missing texts m = mapped_row missing (unwrap_or (slice_get texts m.spec) 
 
 -- a field as shown, and two or more spaces
 abbrev pub IsCell : List ℕ → List ℕ → Type 0
-IsCell field cell = (shown : List ℕ) × (more : ℕ) × IsQuoted field shown × (cell ≡ shown ++ (32 ∷ 32 ∷ replicate more 32))
+IsCell field cell = (shown : List ℕ) × (more : ℕ) × IsQuoted field shown
+    × (cell ≡ shown ++ (32 ∷ 32 ∷ replicate more 32))
 
 -- the results grew by the cell of a field
 abbrev pub WritesCell : List ℕ → List ℕ → List ℕ → Type 0
@@ -64,7 +65,8 @@ WritesLine r old new = (line : List ℕ) × IsLine r line × (new ≡ old ++ lin
 -- a line for each row, in order
 abbrev pub AreRowLines : List Row → List ℕ → Type 0
 AreRowLines [] lines = lines ≡ []
-AreRowLines (r ∷ rows) lines = (line : List ℕ) × (rest : List ℕ) × IsLine r line × AreRowLines rows rest × (lines ≡ line ++ rest)
+AreRowLines (r ∷ rows) lines = (line : List ℕ) × (rest : List ℕ) × IsLine r line × AreRowLines rows rest
+    × (lines ≡ line ++ rest)
 
 -- the fields of a row, each ended by a zero byte
 abbrev pub fields : Row → List ℕ
@@ -76,7 +78,8 @@ AddsLines rows old new = (lines : List ℕ) × AreRowLines rows lines × (new �
 
 -- the object of a mapping, as a line, with the text of its spec
 abbrev pub mapped_object : List ℕ → Mapped → List ℕ
-mapped_object text m = line_of (mapping_object (json_text (source_text m.source)) (option_map json_text m.destination) (json_text text) None)
+mapped_object text m = line_of (mapping_object (json_text (source_text m.source)) (option_map json_text m.destination)
+    (json_text text) None)
 
 -- the same, given the texts of all specs
 abbrev pub object_of : List (List ℕ) → Mapped → List ℕ
@@ -90,7 +93,8 @@ AddsMappings form.Zeros texts mappings old new = new ≡ old ++ flat_map fields 
 AddsMappings form.Json texts mappings old new = new ≡ old ++ flat_map (object_of texts) mappings
 
 -- the results grew by mappings; in JSON there may be messages before and after them
-pub record AddsMappingsAmong (form : Form) (texts : List (List ℕ)) (mappings : List Mapped) (old new : List ℕ) : Type 0 where
+pub record AddsMappingsAmong (form : Form) (texts : List (List ℕ)) (mappings : List Mapped) (old new : List ℕ) :
+    Type 0 where
   pub first : List ℕ
   pub last : List ℕ
   pub before : KeepsResults form old first

@@ -13,7 +13,8 @@ use Rattle.refspec_io.specs.Input.{AreRecords}
 abbrev pub IsOrigin : List ℕ → Type 0
 IsOrigin record_ =
     BeginsWith (codes "file:") record_
-    ⊎ (BeginsWith (codes "standard input:") record_ ⊎ (BeginsWith (codes "blob:") record_ ⊎ BeginsWith (codes "command line:") record_))
+    ⊎ (BeginsWith (codes "standard input:") record_
+    ⊎ (BeginsWith (codes "blob:") record_ ⊎ BeginsWith (codes "command line:") record_))
 
 -- the two records of a setting: its origin, and its key alone, or its key, a newline and its value
 pub record IsSetting (origin record_ : List ℕ) (s : Setting) : Type 0 where
@@ -35,7 +36,8 @@ AreSettings input settings = (records : List (List ℕ)) × AreRecords 0 records
 
 -- the input is not in the format of settings
 abbrev pub IsNoSettings : List ℕ → Type 0
-IsNoSettings input = (records : List (List ℕ)) × AreRecords 0 records input × ((settings : List Setting) → ¬ (ArePairs records settings))
+IsNoSettings input = (records : List (List ℕ)) × AreRecords 0 records input
+    × ((settings : List Setting) → ¬ (ArePairs records settings))
 
 -- the variable of a remote for the refspecs of an operation (git-config(1), remote.<name>.fetch and remote.<name>.push)
 abbrev pub variable_of : Operation → List ℕ
@@ -57,7 +59,8 @@ HasLacking (s ∷ settings) = LacksValue s ⊎ HasLacking settings
 -- the settings of both inputs, if they are read as settings; else none
 abbrev pub AreSettingsOf : Terminator → List ℕ → List ℕ → List Setting → Type 0
 AreSettingsOf ends.Settings beside input settings =
-    (front : List Setting) × (back : List Setting) × AreSettings beside front × AreSettings input back × (settings ≡ front ++ back)
+    (front : List Setting) × (back : List Setting) × AreSettings beside front × AreSettings input back
+    × (settings ≡ front ++ back)
 AreSettingsOf _ beside input settings = settings ≡ []
 
 -- the inputs are read as settings, and one of them isn't in their format

@@ -1,5 +1,6 @@
 -- How names are written, in lines and ended by zero bytes. This project's own rule. For JSON objects see `Json`.
-use Rattle.std.specs.Prelude.{◌≡◌, ◌⊎◌, ℕ, ◌+◌, ◌/◌, ◌%◌, List, [], ◌∷◌, ◌++◌, Option, Some, None, cond, ◌==◌, ◌&&◌, ◌||◌, nat_le}
+use Rattle.std.specs.Prelude.{◌≡◌, ◌⊎◌, ℕ, ◌+◌, ◌/◌, ◌%◌, List, [], ◌∷◌, ◌++◌, Option, Some, None, cond, ◌==◌, ◌&&◌}
+use Rattle.std.specs.Prelude.{◌||◌, nat_le}
 use Rattle.std.specs.List.{flat_map}
 use Rattle.refspec_io.specs.declared.call.Form.{Form}
 use Rattle.refspec_io.specs.declared.call.Form.TheVariants as form
@@ -8,12 +9,14 @@ use Rattle.refspec_io.specs.declared.report.Report.{Report}
 -- the letter of a byte whose escape has one, as in C: `\a`, `\b`, `\t`, `\n`, `\v`, `\f`, `\r`, a quote and a backslash
 abbrev pub escape_letter : ℕ → Option ℕ
 escape_letter b =
-    cond (b == 7) (Some 97) (cond (b == 8) (Some 98) (cond (b == 9) (Some 116) (cond (b == 10) (Some 110) (cond (b == 11) (Some 118)
+    cond (b == 7) (Some 97)
+    (cond (b == 8) (Some 98) (cond (b == 9) (Some 116) (cond (b == 10) (Some 110) (cond (b == 11) (Some 118)
     (cond (b == 12) (Some 102) (cond (b == 13) (Some 114) (cond ((b == 34) || (b == 92)) (Some b) None)))))))
 
 -- a byte without a letter: as it is if it is printable ASCII, else a backslash and three octal digits
 abbrev pub plain_or_octal : ℕ → List ℕ
-plain_or_octal b = cond (nat_le 32 b && nat_le b 126) (b ∷ []) (92 ∷ (48 + b / 64) ∷ (48 + b / 8 % 8) ∷ (48 + b % 8) ∷ [])
+plain_or_octal b = cond (nat_le 32 b && nat_le b 126) (b ∷ [])
+    (92 ∷ (48 + b / 64) ∷ (48 + b / 8 % 8) ∷ (48 + b % 8) ∷ [])
 
 -- an escape with a letter, or without one the byte itself or in octal
 abbrev pub with_letter : ℕ → Option ℕ → List ℕ
@@ -36,7 +39,8 @@ IsQuoted name shown = (shown ≡ name) ⊎ (shown ≡ in_quotes name)
 abbrev pub AreLines : List ℕ → List (List ℕ) → List ℕ → Type 0
 AreLines before [] lines = lines ≡ []
 AreLines before (name ∷ names) lines =
-    (shown : List ℕ) × (rest : List ℕ) × IsQuoted name shown × AreLines before names rest × (lines ≡ before ++ (shown ++ (10 ∷ rest)))
+    (shown : List ℕ) × (rest : List ℕ) × IsQuoted name shown × AreLines before names rest
+    × (lines ≡ before ++ (shown ++ (10 ∷ rest)))
 
 -- a name and the zero byte that ends it
 abbrev pub zero_ended : List ℕ → List ℕ

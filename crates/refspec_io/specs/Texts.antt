@@ -80,7 +80,8 @@ AddsValues settings old new = (values : List Given) × AreValues settings values
 abbrev pub AddsTexts : Terminator → Operation → List ℕ → List ℕ → List Given → List Given → Type 0
 AddsTexts ends.Newline op name input old new = AddsRecords 10 op name input old new
 AddsTexts ends.Zero op name input old new = AddsRecords 0 op name input old new
-AddsTexts ends.Settings op name input old new = (settings : List Setting) × AreSettings input settings × AddsValues settings old new
+AddsTexts ends.Settings op name input old new = (settings : List Setting) × AreSettings input settings
+    × AddsValues settings old new
 
 -- the texts grew by those of a file of specs, if its records aren't settings
 abbrev pub AddsGiven : Terminator → Operation → List ℕ → List ℕ → List Given → List Given → Type 0
@@ -110,9 +111,11 @@ words_of call = numbered (argument_at call.operation) 1 (map (λ w. w.now) call.
 abbrev pub AreTexts : Call → Files → List ℕ → List Given → Type 0
 AreTexts call files input texts =
     (front : List Given) × AddsTexts call.ends call.operation call.beside.now files.specs.now (words_of call) front
-    × AddsTexts call.ends call.operation (spec_name call) (spec_input call.command files.configured.now input) front texts
+    × AddsTexts call.ends call.operation (spec_name call) (spec_input call.command files.configured.now input) front
+    texts
 
 -- so many of the first texts of a call are given: those among its arguments and in the file of specs. The others are
 -- configured, and so are all settings
 abbrev pub IsGivenCount : Call → List ℕ → ℕ → Type 0
-IsGivenCount call specs n = (front : List Given) × AddsGiven call.ends call.operation call.beside.now specs (words_of call) front × (n ≡ length front)
+IsGivenCount call specs n = (front : List Given) × AddsGiven call.ends call.operation call.beside.now specs
+    (words_of call) front × (n ≡ length front)

@@ -35,7 +35,8 @@ number_if k None ms = ms
 number_if k (Some n) ms = member k (number (unsigned n)) ms
 
 -- a refused text; at counts bytes from 1
-abbrev pub refused_object : (location operation text reason message : List ℕ) → (side part : Option (List ℕ)) → (at : Option ℕ) → (advice : List ℕ) → Data
+abbrev pub refused_object : (location operation text reason message : List ℕ) → (side part : Option (List ℕ))
+    → (at : Option ℕ) → (advice : List ℕ) → Data
 refused_object location operation text reason message side part at advice = object (
     member (codes "advice") (string advice) (
     member (codes "at") (number_or_null at) (
@@ -60,7 +61,8 @@ spec_object kind location operation text canonical meaning same_as = object (
     member (codes "text") (string text) no_members)))))))
 
 -- a mapping, with the canonical text of its spec, and where that comes from, if it is one of a plan
-abbrev pub mapping_object : (source : List ℕ) → (destination : Option (List ℕ)) → (spec : List ℕ) → (origin : Option (List ℕ)) → Data
+abbrev pub mapping_object : (source : List ℕ) → (destination : Option (List ℕ)) → (spec : List ℕ)
+    → (origin : Option (List ℕ)) → Data
 mapping_object source destination spec origin = object (
     member (codes "destination") (text_or_null destination) (
     member (codes "kind") (string (codes "mapping")) (
@@ -78,7 +80,8 @@ remote_mapping_object remote source destination spec = object (
     member (codes "spec") (string spec) no_members)))))
 
 -- an update that isn't written, since a spec of the call writes to its destination, and a sentence on it
-abbrev pub overruled_object : (source : List ℕ) → (destination : Option (List ℕ)) → (spec origin message : List ℕ) → Data
+abbrev pub overruled_object : (source : List ℕ) → (destination : Option (List ℕ)) → (spec origin message : List ℕ)
+    → Data
 overruled_object source destination spec origin message = object (
     member (codes "destination") (text_or_null destination) (
     member (codes "kind") (string (codes "overruled")) (
@@ -88,7 +91,8 @@ overruled_object source destination spec origin message = object (
     member (codes "spec") (string spec) no_members))))))
 
 -- an update whose destination is a directory of another one's, or is in that; and that one
-abbrev pub directory_conflict_object : (source : List ℕ) → (destination : Option (List ℕ)) → (spec origin other message : List ℕ) → Data
+abbrev pub directory_conflict_object : (source : List ℕ) → (destination : Option (List ℕ))
+    → (spec origin other message : List ℕ) → Data
 directory_conflict_object source destination spec origin other message = object (
     member (codes "destination") (text_or_null destination) (
     member (codes "kind") (string (codes "directory_conflict")) (
@@ -99,7 +103,8 @@ directory_conflict_object source destination spec origin other message = object 
     member (codes "spec") (string spec) no_members)))))))
 
 -- an update that is left out, the side whose ref name is invalid, and why
-abbrev pub left_out_object : (source : List ℕ) → (destination : Option (List ℕ)) → (spec origin side message : List ℕ) → Data
+abbrev pub left_out_object : (source : List ℕ) → (destination : Option (List ℕ)) → (spec origin side message : List ℕ)
+    → Data
 left_out_object source destination spec origin side message = object (
     member (codes "destination") (text_or_null destination) (
     member (codes "kind") (string (codes "left_out")) (
@@ -121,7 +126,8 @@ claim_object c = object (
     member (codes "source") (string c.source) (
     member (codes "spec") (string c.spec) no_members)))
 
--- a spec whose source the remote lacks, where it comes from, a sentence on it, names of the remote that end the same, and
+-- a spec whose source the remote lacks, where it comes from, a sentence on it, names of the remote that end the same,
+-- and
 -- how many more of these there are, if not all are given
 abbrev pub missing_object : (spec origin message : List ℕ) → (names : List (List ℕ)) → (more : Option ℕ) → Data
 missing_object spec origin message names more = object (

@@ -1,5 +1,6 @@
 -- A whole run of `plan` for a branch and a tag of the same short name: a partial source takes the tag.
-use Rattle.std.proofs.Common.{◌≡◌, ◌≢◌, ◌<◌, inl, inr, ℕ, zero, suc, length, false, List, [], ◌∷◌, ◌++◌, None, Some, codes, refl, sym, ap, ◌∙◌, subst, arith}
+use Rattle.std.proofs.Common.{◌≡◌, ◌≢◌, ◌<◌, inl, inr, ℕ, zero, suc, length, false, List, [], ◌∷◌, ◌++◌, None, Some}
+use Rattle.std.proofs.Common.{codes, refl, sym, ap, ◌∙◌, subst, arith}
 use Rattle.std.specs.Fmt.{digits}
 use Rattle.std.specs.List.{Contains}
 use Rattle.std.specs.List.Sorted.{IsStrictlySortedBy}
@@ -24,7 +25,8 @@ use Rattle.refspec_map.proofs.FormFacts.{no_length, ref_lines}
 use Rattle.refspec_map.proofs.LineFacts.{Lacks-tested}
 use Rattle.refspec_map.proofs.MatchFacts.{not_negative, taken_by_first}
 use Rattle.refspec_map.proofs.RunFacts.{some_once}
-use Rattle.refspec_map.proofs.ConflictFacts.{the_tag, the_head, target, target_kind, named, the_refs, tag_mapping, apart, spec_line, ref_line, refs_after, refs_split}
+use Rattle.refspec_map.proofs.ConflictFacts.{the_tag, the_head, target, target_kind, named, the_refs, tag_mapping}
+use Rattle.refspec_map.proofs.ConflictFacts.{apart, spec_line, ref_line, refs_after, refs_split}
 
 -- a partial name, for which both refs are candidates
 abbrev main : List ℕ
@@ -65,14 +67,24 @@ abbrev ends : Ends
 ends = record { near = main; far = Some target }
 
 tag_taken : IsHit (Takes the_refs) ends 0 0 (named the_tag) tag_hit
-tag_taken = record { word = None; takes = taken_by_first the_refs main (named the_tag) main_kind tag_first; far = (full_name target, target_kind, refl); near = refl; spec = refl; item = refl }
+tag_taken = record {
+  word = None;
+  takes = taken_by_first the_refs main (named the_tag) main_kind tag_first;
+  far =
+      (full_name target, target_kind, refl);
+  near = refl;
+  spec = refl;
+  item = refl;
+}
 
 -- by the law the first candidate is unique
 head_not_taken : FirstCandidate main the_refs → (hit : Hit) → ¬ (IsHit (Takes the_refs) ends 0 1 (named the_head) hit)
-head_not_taken law hit is = apart ((law main_kind.1 main_kind.2 main_kind.3).one the_tag the_head tag_first (is.takes.first main main_kind))
+head_not_taken law hit is =
+    apart ((law main_kind.1 main_kind.2 main_kind.3).one the_tag the_head tag_first (is.takes.first main main_kind))
 
 no_id_mapped : (m : Mapped) → ¬ (IsIdMapping 0 the_spec m)
-no_id_mapped m is = main_no_id is.bytes (subst (λ (x : List ℕ). IsIdText x is.bytes) (sym (some_once main is.text is.side)) is.object.2)
+no_id_mapped m is =
+    main_no_id is.bytes (subst (λ (x : List ℕ). IsIdText x is.bytes) (sym (some_once main is.text is.side)) is.object.2)
 
 mapped : FirstCandidate main the_refs → AreForward (the_spec ∷ []) the_refs (tag_mapping ∷ [])
 mapped law = record {
@@ -82,7 +94,11 @@ mapped law = record {
   are_hits = (
     tag_hit ∷ [],
     [],
-    inl (ends, record { positive = tt; near = refl; far = refl; no_object = λ i kind. main_no_id i kind.2 }, (Some tag_hit, [], tag_taken, (None, [], head_not_taken law, refl, refl), refl)),
+    inl (
+      ends,
+      record { positive = tt; near = refl; far = refl; no_object = λ i kind. main_no_id i kind.2 },
+      (Some tag_hit, [], tag_taken, (None, [], head_not_taken law, refl, refl), refl),
+    ),
     refl,
     refl,
   );
@@ -94,7 +110,12 @@ not_excluded n (inl by) = not_negative by.negative
 not_excluded n (inr none) = none
 
 kept : FirstCandidate main the_refs → AreKeptForward (the_spec ∷ []) the_refs (tag_mapping ∷ [])
-kept law = record { all = tag_mapping ∷ []; forward = mapped law; is = (Some tag_mapping, [], (refl, record { first = λ pair. pair; included = not_excluded the_tag }), refl, refl) }
+kept law = record {
+  all = tag_mapping ∷ [];
+  forward = mapped law;
+  is =
+      (Some tag_mapping, [], (refl, record { first = λ pair. pair; included = not_excluded the_tag }), refl, refl);
+}
 
 -- ---- so there is no conflict, and no fix
 
@@ -103,7 +124,8 @@ only m (zero, below, is) = is
 only m (suc k, below, is) = absurd (omega (arith, below))
 
 not_contested : (d : List ℕ) → ¬ (HasConflictAt (tag_mapping ∷ []) d)
-not_contested d is = is.differ (ap (λ (m : Mapped). m.source) (sym (only is.one is.has_one) ∙ only is.other is.has_other))
+not_contested d is =
+    is.differ (ap (λ (m : Mapped). m.source) (sym (only is.one is.has_one) ∙ only is.other is.has_other))
 
 writable : IsWritable target
 writable = inl (record { after = codes "x"; here = refl })
@@ -113,18 +135,31 @@ unfolding IsStrictlySortedBy
 validated = record {
   free = record { each = tt; every = λ d is. absurd (not_contested d is); order = tt };
   survive = (Some tag_mapping, [], (refl, writable), refl, refl);
-  fixed = (None, [], (λ fix is. is.unwritable (subst IsWritable (some_once target fix.destination is.goes) writable)), refl, refl);
+  fixed = (
+    None,
+    [],
+    (λ fix is. is.unwritable (subst IsWritable (some_once target fix.destination is.goes) writable)),
+    refl,
+    refl,
+  );
 }
 
 -- ---- which is what `plan` writes
 
 abbrev the_input : List ℕ
-the_input = codes "spec main:refs/x\nref e69de29bb2d1d6434b8b29ae775ad8c2e48c5391 refs/tags/main\nref e69de29bb2d1d6434b8b29ae775ad8c2e48c5391 refs/heads/main\n"
+the_input = codes
+    "spec main:refs/x\nref e69de29bb2d1d6434b8b29ae775ad8c2e48c5391 refs/tags/main\nref e69de29bb2d1d6434b8b29ae775ad8c2e48c5391 refs/heads/main\n"
 
 main_reads : PlainNames → Reads Fetch (codes "main:refs/x") the_spec
-main_reads names = updates Normal main target refl tt (record { signed = (refl, (eqb-false 109 plus refl, eqb-false 109 caret refl)); last = Lacks-tested colon target refl }) (inl (names main refl, names target refl)) refl
+main_reads names = updates Normal main target refl tt
+    (record {
+      signed = (refl, (eqb-false 109 plus refl, eqb-false 109 caret refl));
+      last =
+          Lacks-tested colon target refl;
+    }) (inl (names main refl, names target refl)) refl
 
-pub tag_planned : FirstCandidate main the_refs → PlainNames → Answers command.Plan (Some the_input) (Some []) (Some []) (Some (codes "map\t0\t0\trefs/tags/main\trefs/x\n")) 0
+pub tag_planned : FirstCandidate main the_refs → PlainNames → Answers command.Plan (Some the_input) (Some []) (Some [])
+    (Some (codes "map\t0\t0\trefs/tags/main\trefs/x\n")) 0
 unfolding digits
 tag_planned law names = record {
   input = the_input;
@@ -136,7 +171,12 @@ tag_planned law names = record {
     entries = reading the_spec ∷ ref (named the_tag) ∷ ref (named the_head) ∷ [];
     split = (Lacks-tested newline (spec_line main) refl, inl (refs_after, refl, refs_split));
     given = ((codes "main:refs/x", refl, main_reads names), (ref_lines the_tag, (ref_lines the_head, tt)));
-    is = record { mappings = tag_mapping ∷ []; kept = kept law; shows = record { rest = tag_mapping ∷ []; fixes = []; fixed = []; is = validated; are = refl; written = refl } };
+    is = record {
+      mappings = tag_mapping ∷ [];
+      kept = kept law;
+      shows =
+          record { rest = tag_mapping ∷ []; fixes = []; fixed = []; is = validated; are = refl; written = refl };
+    };
   };
   written = refl;
   tells = refl;

@@ -1,6 +1,7 @@
 -- When a run ends with a fault, and what was written before it, at examples on both sides of a border, so
 -- that a wrong rule in specs/ doesn't check.
-use Rattle.std.proofs.Common.{◌≡◌, ◌≢◌, ◌⊎◌, inl, inr, ℕ, ◌+◌, List, [], ◌∷◌, ◌++◌, Option, None, Some, length, get_or, codes, refl, sym, ap, ◌∙◌, subst, length-append, arith}
+use Rattle.std.proofs.Common.{◌≡◌, ◌≢◌, ◌⊎◌, inl, inr, ℕ, ◌+◌, List, [], ◌∷◌, ◌++◌, Option, None, Some, length, get_or}
+use Rattle.std.proofs.Common.{codes, refl, sym, ap, ◌∙◌, subst, length-append, arith}
 use Rattle.std.proofs.lemmas.Bool.{eqb-false}
 use Rattle.std.proofs.lemmas.List.{append-nil}
 use Rattle.gix_refspec_text.specs.declared.parsing.Error.TheVariants as error
@@ -34,19 +35,31 @@ not_spec : (text : List ℕ) → codes "main" ≢ codes "spec " ++ text
 not_spec = no_spec_first 109 _ (eqb-false 109 115 refl)
 
 main_malformed : IsMalformed (codes "main")
-main_malformed = malformed (codes "main") not_spec (no_ref_first 109 _ (eqb-false 109 114 refl)) (no_tag_first 109 _ (eqb-false 109 116 refl))
+main_malformed = malformed (codes "main") not_spec (no_ref_first 109 _ (eqb-false 109 114 refl))
+    (no_tag_first 109 _ (eqb-false 109 116 refl))
 
 spec_gives : Gives (codes "spec ") (reading (fetched Normal head None))
 spec_gives = ([], refl, nothing_reads)
 
 two_split : AreLines (codes "spec " ∷ codes "main" ∷ []) two
-two_split = (Lacks-tested newline (codes "spec ") refl, inl (codes "main\n", refl, (Lacks-tested newline (codes "main") refl, inl ([], refl, refl))))
+two_split = (
+  Lacks-tested newline (codes "spec ") refl,
+  inl (codes "main\n", refl, (Lacks-tested newline (codes "main") refl, inl ([], refl, refl))),
+)
 
 second_bad : IsFirstFault two (fault.Line 2)
 second_bad = (
   2,
   codes "main",
-  record { before = codes "spec " ∷ []; after = []; entries = reading (fetched Normal head None) ∷ []; split = two_split; good = (spec_gives, tt); counted = refl },
+  record {
+    before = codes "spec " ∷ [];
+    after = [];
+    entries = reading (fetched Normal head None) ∷ [];
+    split =
+        two_split;
+    good = (spec_gives, tt);
+    counted = refl;
+  },
   (refl, main_malformed),
 )
 
@@ -59,18 +72,24 @@ main_fault number fault.Read second bad = absurd bad
 main_fault number fault.Memory second bad = absurd bad
 main_fault number fault.Write second bad = absurd bad
 
-fault_at : (before : List (List ℕ)) (line : List ℕ) (after : List (List ℕ)) (number : ℕ) (f : Fault) → before ++ (line ∷ after) ≡ codes "spec " ∷ codes "main" ∷ [] → number ≡ length before + 1 → IsFaultOf number line f → f ≡ fault.Line 2
+fault_at : (before : List (List ℕ)) (line : List ℕ) (after : List (List ℕ)) (number : ℕ) (f : Fault)
+    → before ++ (line ∷ after) ≡ codes "spec " ∷ codes "main" ∷ [] → number ≡ length before + 1
+    → IsFaultOf number line f → f ≡ fault.Line 2
 fault_at [] line after number f same counted bad =
     let first : line ≡ codes "spec " = ap (λ (ls : List (List ℕ)). get_or ls 0 []) same in
-    absurd (no_fault (codes "spec ") (reading (fetched Normal head None)) number f spec_gives (subst (λ (l : List ℕ). IsFaultOf number l f) first bad))
+    absurd (no_fault (codes "spec ") (reading (fetched Normal head None)) number f spec_gives
+    (subst (λ (l : List ℕ). IsFaultOf number l f) first bad))
 fault_at (b ∷ []) line after number f same counted bad =
     let second : line ≡ codes "main" = ap (λ (ls : List (List ℕ)). get_or ls 1 []) same in
     main_fault number f counted (subst (λ (l : List ℕ). IsFaultOf number l f) second bad)
-fault_at (b ∷ c ∷ before) line after number f same counted bad = absurd (omega (arith, ap length same, length-append before (line ∷ after)))
+fault_at (b ∷ c ∷ before) line after number f same counted bad =
+    absurd (omega (arith, ap length same, length-append before (line ∷ after)))
 
 only_second_bad : (f : Fault) → IsFirstFault two f → f ≡ fault.Line 2
 only_second_bad f (number, line, reached, bad) =
-    fault_at reached.before line reached.after number f (lines_once (reached.before ++ (line ∷ reached.after)) (codes "spec " ∷ codes "main" ∷ []) two reached.split two_split) reached.counted bad
+    fault_at reached.before line reached.after number f
+    (lines_once (reached.before ++ (line ∷ reached.after)) (codes "spec " ∷ codes "main" ∷ []) two reached.split
+    two_split) reached.counted bad
 
 -- the input that was read to its end is what the reader had
 read_whole : (x rest input : List ℕ) → ReadsToEnd (Some x) (Some rest) input → input ≡ x
@@ -89,30 +108,43 @@ number_of (fault.Line n) = n
 number_of _ = 0
 
 -- and no other line
-pub no_other_line_reported : (rest : List ℕ) (n : ℕ) → Explains command.Plan (Some two) (Some rest) (fault.Line n) → n ≡ 2
+pub no_other_line_reported : (rest : List ℕ) (n : ℕ) → Explains command.Plan (Some two) (Some rest) (fault.Line n)
+    → n ≡ 2
 no_other_line_reported rest n (input, read, bad) =
-    ap number_of (only_second_bad (fault.Line n) (subst (λ (x : List ℕ). IsFirstFault x (fault.Line n)) (read_whole two rest input read) bad))
+    ap number_of (only_second_bad (fault.Line n)
+    (subst (λ (x : List ℕ). IsFirstFault x (fault.Line n)) (read_whole two rest input read) bad))
 
 -- a canon command never reports a line
 pub no_line_reported : (old new : Option (List ℕ)) (n : ℕ) → ¬ (Explains command.CanonFetch old new (fault.Line n))
 no_line_reported old new n (input, read, bad) = bad
 
 -- a refused spec is reported with the number of its line and the reason
-pub refusal_reported : ReasonRefuses Fetch (codes "^") → Explains command.Rhs (Some (codes "spec ^\n")) (Some []) (fault.Spec 1 error.NegativeEmpty)
+pub refusal_reported : ReasonRefuses Fetch (codes "^") → Explains command.Rhs (Some (codes "spec ^\n")) (Some [])
+    (fault.Spec 1 error.NegativeEmpty)
 refusal_reported law = (
   codes "spec ^\n",
   record { taken = refl; ended = refl; within = omega arith },
   (
     1,
     codes "spec ^",
-    record { before = []; after = []; entries = []; split = (Lacks-tested newline (codes "spec ^") refl, inl ([], refl, refl)); good = tt; counted = refl },
+    record {
+      before = [];
+      after = [];
+      entries = [];
+      split =
+          (Lacks-tested newline (codes "spec ^") refl, inl ([], refl, refl));
+      good = tt;
+      counted = refl;
+    },
     (codes "^", refl, refl, (NegativeEmpty, refl, caret_refused law)),
   ),
 )
 
 -- to a matching command this input is bad, and to a canon command it is good
 pub two_not_good : (rest : List ℕ) → ¬ (IsGood command.Rhs (Some two) (Some rest))
-two_not_good rest is = is.good (fault.Line 2) (subst (λ (x : List ℕ). IsFirstFault x (fault.Line 2)) (sym (read_whole two rest is.input is.read)) second_bad)
+two_not_good rest is =
+    is.good (fault.Line 2)
+    (subst (λ (x : List ℕ). IsFirstFault x (fault.Line 2)) (sym (read_whole two rest is.input is.read)) second_bad)
 
 pub two_good : IsGood command.CanonPush (Some two) (Some [])
 two_good = record { input = two; read = two_read; good = λ f bad. bad }
@@ -123,11 +155,13 @@ two_good = record { input = two; read = two_read; good = λ f bad. bad }
 pub length_reported : (c : Command) (x : List ℕ) → length x ≡ 1048577 → Explains c (Some x) (Some []) fault.TooLong
 length_reported c x long = too_long x long
 
-pub length_not_reported : (c : Command) (x rest : List ℕ) → length x ≡ 1048576 → ¬ (Explains c (Some x) (Some rest) fault.TooLong)
+pub length_not_reported : (c : Command) (x rest : List ℕ) → length x ≡ 1048576
+    → ¬ (Explains c (Some x) (Some rest) fault.TooLong)
 length_not_reported c x rest long = not_too_long x rest long
 
 -- before a fault nothing was written, unless a write failed
-pub nothing_written : (before after : List ℕ) (f : Fault) → Leaves (Some before) (Some after) f → (f ≡ fault.Write) ⊎ (after ≡ before)
+pub nothing_written : (before after : List ℕ) (f : Fault) → Leaves (Some before) (Some after) f → (f ≡ fault.Write)
+    ⊎ (after ≡ before)
 nothing_written before after fault.Write left = inl refl
 nothing_written before after fault.TooLong left = inr left
 nothing_written before after fault.Read left = inr left

@@ -1,5 +1,6 @@
 -- An input whose lines all add an entry has no bad line.
-use Rattle.std.proofs.Common.{◌≡◌, ◌≢◌, ◌⊎◌, inl, inr, ℕ, Bool, List, [], ◌∷◌, ◌++◌, codes, get_or, sym, ap, ◌∙◌, subst, arith}
+use Rattle.std.proofs.Common.{◌≡◌, ◌≢◌, ◌⊎◌, inl, inr, ℕ, Bool, List, [], ◌∷◌, ◌++◌, codes, get_or, sym, ap, ◌∙◌, subst}
+use Rattle.std.proofs.Common.{arith}
 use Rattle.std.specs.List.{AllZip}
 use Rattle.std.proofs.lemmas.List.{append_cancel_left}
 use Rattle.gix_refspec_text.specs.declared.parsing.Operation.TheVariants.{Fetch}
@@ -22,22 +23,30 @@ use Rattle.gix_refspec.specs.Specs.Refusal.{Refusal}
 use Rattle.gix_refspec.specs.Views.Instruction.{IsShownAs}
 use Rattle.refspec_map.specs.Fault.{name_of}
 
-same_lines : (x y : List ℕ) (xs ys : List (List ℕ)) (input : List ℕ) → Lacks newline x → Lacks newline y → ((rest : List ℕ) × (input ≡ x ++ (newline ∷ rest)) × AreLines xs rest) ⊎ ((x ≢ []) × (xs ≡ []) × (input ≡ x)) → ((rest : List ℕ) × (input ≡ y ++ (newline ∷ rest)) × AreLines ys rest) ⊎ ((y ≢ []) × (ys ≡ []) × (input ≡ y)) → ((rest : List ℕ) → AreLines xs rest → AreLines ys rest → xs ≡ ys) → x ∷ xs ≡ y ∷ ys
+same_lines : (x y : List ℕ) (xs ys : List (List ℕ)) (input : List ℕ) → Lacks newline x → Lacks newline y
+    → ((rest : List ℕ) × (input ≡ x ++ (newline ∷ rest)) × AreLines xs rest) ⊎ ((x ≢ []) × (xs ≡ []) × (input ≡ x))
+    → ((rest : List ℕ) × (input ≡ y ++ (newline ∷ rest)) × AreLines ys rest) ⊎ ((y ≢ []) × (ys ≡ []) × (input ≡ y))
+    → ((rest : List ℕ) → AreLines xs rest → AreLines ys rest → xs ≡ ys) → x ∷ xs ≡ y ∷ ys
 same_lines x y xs ys input in_x in_y (inl a) (inl b) later =
     let same = first_once newline x y a.0 b.0 in_x in_y (sym a.1 ∙ b.1) in
     ap (λ h. h ∷ xs) same.0 ∙ ap (λ t. y ∷ t) (later a.0 a.2 (subst (AreLines ys) (sym same.1) b.2))
-same_lines x y xs ys input in_x in_y (inl a) (inr b) later = absurd (Lacks-here newline x a.0 (subst (Lacks newline) (sym b.2 ∙ a.1) in_y))
-same_lines x y xs ys input in_x in_y (inr a) (inl b) later = absurd (Lacks-here newline y b.0 (subst (Lacks newline) (sym a.2 ∙ b.1) in_x))
-same_lines x y xs ys input in_x in_y (inr a) (inr b) later = ap (λ h. h ∷ xs) (sym a.2 ∙ b.2) ∙ ap (λ t. y ∷ t) (a.1 ∙ sym b.1)
+same_lines x y xs ys input in_x in_y (inl a) (inr b) later =
+    absurd (Lacks-here newline x a.0 (subst (Lacks newline) (sym b.2 ∙ a.1) in_y))
+same_lines x y xs ys input in_x in_y (inr a) (inl b) later =
+    absurd (Lacks-here newline y b.0 (subst (Lacks newline) (sym a.2 ∙ b.1) in_x))
+same_lines x y xs ys input in_x in_y (inr a) (inr b) later = ap (λ h. h ∷ xs) (sym a.2 ∙ b.2)
+    ∙ ap (λ t. y ∷ t) (a.1 ∙ sym b.1)
 
 -- an input is split into lines in one way
 AreLines-once : (xs ys : List (List ℕ)) (input : List ℕ) → AreLines xs input → AreLines ys input → xs ≡ ys
 AreLines-once [] ys input a b = sym (no_lines ys (subst (AreLines ys) a b))
 AreLines-once (x ∷ xs) [] input a b = no_lines (x ∷ xs) (subst (AreLines (x ∷ xs)) b a)
-AreLines-once (x ∷ xs) (y ∷ ys) input a b = same_lines x y xs ys input a.0 b.0 a.1 b.1 (λ rest p q. AreLines-once xs ys rest p q)
+AreLines-once (x ∷ xs) (y ∷ ys) input a b = same_lines x y xs ys input a.0 b.0 a.1 b.1
+    (λ rest p q. AreLines-once xs ys rest p q)
 
 -- a line in the list adds an entry
-given_at : (before : List (List ℕ)) (line : List ℕ) (after : List (List ℕ)) (entries : List Entry) → AllZip Gives (before ++ (line ∷ after)) entries → (e : Entry) × Gives line e
+given_at : (before : List (List ℕ)) (line : List ℕ) (after : List (List ℕ)) (entries : List Entry)
+    → AllZip Gives (before ++ (line ∷ after)) entries → (e : Entry) × Gives line e
 given_at [] line after [] given = absurd given
 given_at [] line after (e ∷ entries) given = (e, given.0)
 given_at (b ∷ before) line after [] given = absurd given
@@ -61,19 +70,23 @@ no_fault line e n fault.Read given bad = absurd bad
 no_fault line e n fault.Memory given bad = absurd bad
 no_fault line e n fault.Write given bad = absurd bad
 
-no_first_fault : (lines : List (List ℕ)) (entries : List Entry) (input : List ℕ) → AreLines lines input → AllZip Gives lines entries → (f : Fault) → ¬ (IsFirstFault input f)
+no_first_fault : (lines : List (List ℕ)) (entries : List Entry) (input : List ℕ) → AreLines lines input
+    → AllZip Gives lines entries → (f : Fault) → ¬ (IsFirstFault input f)
 no_first_fault lines entries input split given f bad =
     let same = AreLines-once lines (bad.2.before ++ (bad.1 ∷ bad.2.after)) input split bad.2.split in
-    let at = given_at bad.2.before bad.1 bad.2.after entries (subst (λ (ls : List (List ℕ)). AllZip Gives ls entries) same given) in
+    let at = given_at bad.2.before bad.1 bad.2.after entries
+    (subst (λ (ls : List (List ℕ)). AllZip Gives ls entries) same given) in
     no_fault bad.1 at.0 bad.0 f at.1 bad.3
 
 -- an input with an output has no bad line
-pub no_bad_line : (c : Command) (input output : List ℕ) (refusal : Bool) → IsOutput c input output refusal → (f : Fault) → ¬ (IsBad c input f)
+pub no_bad_line : (c : Command) (input output : List ℕ) (refusal : Bool) → IsOutput c input output refusal → (f : Fault)
+    → ¬ (IsBad c input f)
 no_bad_line command.CanonFetch input output refusal is f bad = bad
 no_bad_line command.CanonPush input output refusal is f bad = bad
 no_bad_line command.Lhs input output refusal is f bad = no_first_fault is.lines is.entries input is.split is.given f bad
 no_bad_line command.Rhs input output refusal is f bad = no_first_fault is.lines is.entries input is.split is.given f bad
-no_bad_line command.Plan input output refusal is f bad = no_first_fault is.lines is.entries input is.split is.given f bad
+no_bad_line command.Plan input output refusal is f bad = no_first_fault is.lines is.entries input is.split is.given f
+    bad
 
 -- the name of a reason is that of the refusal that it shows
 pub reason_shown : (e : RefspecError) (f : Refusal) → IsShownAs e f → reason_name e ≡ name_of f

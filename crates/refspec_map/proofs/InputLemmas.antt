@@ -1,5 +1,6 @@
 -- The bytes that several reads took.
-use Rattle.std.proofs.Common.{◌≡◌, ◌<◌, ℕ, Bool, true, false, MatchBool, List, ◌++◌, Option, length, take, drop, sym, length-append, arith}
+use Rattle.std.proofs.Common.{◌≡◌, ◌<◌, ℕ, Bool, true, false, MatchBool, List, ◌++◌, Option, length, take, drop, sym}
+use Rattle.std.proofs.Common.{length-append, arith}
 use Rattle.std.proofs.lemmas.List.{length-take}
 use Rattle.std.proofs.lemmas.Bool.{false≢true}
 use Rattle.refspec_map.specs.declared.fault.Fault.{Fault}
@@ -17,8 +18,13 @@ explained x y (fault.Spec n e) h = absurd h
 explained x y fault.Write h = absurd h
 
 -- a buffer that was overwritten still isn't empty
-pub kept_room : (n : ℕ) (new items : List ℕ) → length new ≡ n → 0 < n → 0 < length (take n (new ++ drop (length new) items))
-kept_room n new items same room = omega (arith, length-take n (new ++ drop (length new) items), length-append new (drop (length new) items))
+pub kept_room : (n : ℕ) (new items : List ℕ) → length new ≡ n → 0 < n
+    → 0 < length (take n (new ++ drop (length new) items))
+kept_room n new items same room = omega (
+  arith,
+  length-take n (new ++ drop (length new) items),
+  length-append new (drop (length new) items),
+)
 
 -- a read that returned no bytes found the end
 pub ends : (P Q : Type 0) (more : Bool) → more ≡ false → MatchBool more P Q → Q

@@ -1,6 +1,7 @@
 -- The definitions on lines and on the limit, at inputs on both sides of a border, so that a wrong rule in specs/
 -- doesn't check.
-use Rattle.std.proofs.Common.{◌≡◌, inl, inr, ℕ, ◌≤◌, ◌<◌, ◌==◌, true, false, ◌||◌, List, [], ◌∷◌, Some, length, codes, refl, sym, ap, ◌∙◌, subst, length-append, arith}
+use Rattle.std.proofs.Common.{◌≡◌, inl, inr, ℕ, ◌≤◌, ◌<◌, ◌==◌, true, false, ◌||◌, List, [], ◌∷◌, Some, length, codes}
+use Rattle.std.proofs.Common.{refl, sym, ap, ◌∙◌, subst, length-append, arith}
 use Rattle.std.specs.List.{list_any}
 use Rattle.std.proofs.lemmas.Bool.{eqb-false, true≢false}
 use Rattle.std.proofs.lemmas.List.{append-nil}
@@ -12,10 +13,11 @@ use Rattle.gix_refspec_text.proofs.lemmas.lists.LacksLemmas.{Lacks-here, first_o
 -- a text whose bytes are all tested for a byte, and differ from it, lacks the byte
 pub Lacks-tested : (b : ℕ) (x : List ℕ) → list_any (λ c. c == b) x ≡ false → Lacks b x
 Lacks-tested b [] none = tt
-Lacks-tested b (c ∷ x) none = elim (c == b) as (λ v. (c == b) ≡ v → (v || list_any (λ c. c == b) x) ≡ false → Lacks b (c ∷ x)) [
-  | true ↦ λ same found. absurd (true≢false found)
-  | false ↦ λ other later. (eqb-false c b other, Lacks-tested b x later)
-] refl none
+Lacks-tested b (c ∷ x) none = elim (c == b) as (λ v. (c == b) ≡ v → (v || list_any (λ c. c == b) x) ≡ false
+    → Lacks b (c ∷ x)) [
+      | true ↦ λ same found. absurd (true≢false found)
+      | false ↦ λ other later. (eqb-false c b other, Lacks-tested b x later)
+    ] refl none
 
 -- ---- lines
 
@@ -40,11 +42,17 @@ no_line = (refl, (tt, inl ([], refl, refl)))
 
 -- a carriage return belongs to its line, and the last line may lack its newline
 pub two_lines : AreLines (codes "a\r" ∷ codes "b" ∷ []) (codes "a\r\nb")
-two_lines = (Lacks-tested newline (codes "a\r") refl, inl (codes "b", refl, (Lacks-tested newline (codes "b") refl, inr (λ none. cc, refl, refl))))
+two_lines = (
+  Lacks-tested newline (codes "a\r") refl,
+  inl (codes "b", refl, (Lacks-tested newline (codes "b") refl, inr (λ none. cc, refl, refl))),
+)
 
 -- a newline at the end doesn't begin another line
 pub no_line_more : (lines : List (List ℕ)) → AreLines lines (codes "a\n") → lines ≡ codes "a" ∷ []
-no_line_more lines split = lines_once lines (codes "a" ∷ []) (codes "a\n") split (Lacks-tested newline (codes "a") refl, inl ([], refl, refl))
+no_line_more lines split = lines_once lines (codes "a" ∷ []) (codes "a\n") split (
+  Lacks-tested newline (codes "a") refl,
+  inl ([], refl, refl),
+)
 
 -- ---- the limit of an input
 

@@ -7,7 +7,8 @@ use Rattle.gix_refspec_text.specs.declared.parsing.Error.TheVariants as error
 use Rattle.gix_refspec.specs.Specs.Grammar.{fetched}
 use Rattle.gix_refspec.specs.Matching.Mappings.{name, id}
 use Rattle.gix_refspec.specs.Specs.Reading.{Forced}
-use Rattle.gix_refspec.specs.Specs.Refusal.{Empty, NegativeWithDestination, PushToEmpty, PatternUnsupported, ReferenceName, PatternUnbalanced, NegativeEmpty, NegativeObjectHash}
+use Rattle.gix_refspec.specs.Specs.Refusal.{Empty, NegativeWithDestination, PushToEmpty, PatternUnsupported}
+use Rattle.gix_refspec.specs.Specs.Refusal.{ReferenceName, PatternUnbalanced, NegativeEmpty, NegativeObjectHash}
 use Rattle.gix_refspec.specs.Matching.Validation.{Removed}
 use Rattle.gix_refspec.specs.Texts.ObjectId.{lower_of}
 use Rattle.refspec_map.specs.declared.command.Command.TheVariants as command
@@ -21,7 +22,8 @@ use Rattle.refspec_map.specs.Words.{arguments_of, AreArgumentsOf}
 -- ---- arguments
 
 pub words : map arguments_of (command.CanonFetch ∷ command.CanonPush ∷ command.Lhs ∷ command.Rhs ∷ command.Plan ∷ [])
-    ≡ (codes "canon" ∷ codes "fetch" ∷ []) ∷ (codes "canon" ∷ codes "push" ∷ []) ∷ (codes "lhs" ∷ []) ∷ (codes "rhs" ∷ []) ∷ (codes "plan" ∷ []) ∷ []
+    ≡ (codes "canon" ∷ codes "fetch" ∷ []) ∷ (codes "canon" ∷ codes "push" ∷ []) ∷ (codes "lhs" ∷ [])
+    ∷ (codes "rhs" ∷ []) ∷ (codes "plan" ∷ []) ∷ []
 words = refl
 
 -- these are the arguments of no command
@@ -41,11 +43,15 @@ other_words command.Plan same = cc
 
 -- ---- reasons and faults
 
-pub names : map name_of (Empty ∷ NegativeWithDestination ∷ PushToEmpty ∷ PatternUnsupported (codes "a*b*") ∷ ReferenceName LockSuffix ∷ PatternUnbalanced ∷ NegativeEmpty ∷ NegativeObjectHash ∷ [])
-    ≡ codes "Empty" ∷ codes "NegativeWithDestination" ∷ codes "PushToEmpty" ∷ codes "PatternUnsupported" ∷ codes "ReferenceName" ∷ codes "PatternUnbalanced" ∷ codes "NegativeEmpty" ∷ codes "NegativeObjectHash" ∷ []
+pub names : map name_of (Empty ∷ NegativeWithDestination ∷ PushToEmpty ∷ PatternUnsupported (codes "a*b*")
+    ∷ ReferenceName LockSuffix ∷ PatternUnbalanced ∷ NegativeEmpty ∷ NegativeObjectHash ∷ [])
+    ≡ codes "Empty" ∷ codes "NegativeWithDestination" ∷ codes "PushToEmpty" ∷ codes "PatternUnsupported"
+    ∷ codes "ReferenceName" ∷ codes "PatternUnbalanced" ∷ codes "NegativeEmpty" ∷ codes "NegativeObjectHash" ∷ []
 names = refl
 
-pub statuses : map status_of (fault.TooLong ∷ fault.Read ∷ fault.Line 2 ∷ fault.Spec 2 error.NegativeEmpty ∷ fault.Memory ∷ fault.Write ∷ []) ≡ 3 ∷ 3 ∷ 1 ∷ 1 ∷ 3 ∷ 3 ∷ []
+pub statuses :
+    map status_of (fault.TooLong ∷ fault.Read ∷ fault.Line 2 ∷ fault.Spec 2 error.NegativeEmpty ∷ fault.Memory
+    ∷ fault.Write ∷ []) ≡ 3 ∷ 3 ∷ 1 ∷ 1 ∷ 3 ∷ 3 ∷ []
 statuses = refl
 
 -- a match that runs out of memory ends a run with this fault and no other
@@ -54,34 +60,52 @@ memory = (tt, λ is. is, λ is. is)
 
 -- ---- lines that are printed
 
-pub answer_lines : map answer_line (accepted (codes "a:b") ∷ refused (ReferenceName LockSuffix) ∷ []) ≡ codes "ok a:b\n" ∷ codes "err ReferenceName\n" ∷ []
+pub answer_lines : map answer_line (accepted (codes "a:b") ∷ refused (ReferenceName LockSuffix) ∷ []) ≡ codes "ok a:b\n"
+    ∷ codes "err ReferenceName\n" ∷ []
 answer_lines = refl
 
 -- one refusal is enough, wherever it is
-pub some_refused : map any_refused ([] ∷ (accepted [] ∷ []) ∷ (accepted [] ∷ refused Empty ∷ accepted [] ∷ []) ∷ []) ≡ false ∷ false ∷ true ∷ []
+pub some_refused : map any_refused ([] ∷ (accepted [] ∷ []) ∷ (accepted [] ∷ refused Empty ∷ accepted [] ∷ []) ∷ [])
+    ≡ false ∷ false ∷ true ∷ []
 some_refused = refl
 
 -- the index of the spec is before that of the item
-pub name_line : map_line (record { item = Some 12; source = name (codes "refs/heads/a"); destination = Some (codes "refs/x/a"); spec = 3 }) ≡ codes "map\t3\t12\trefs/heads/a\trefs/x/a\n"
+pub name_line :
+    map_line (record {
+      item = Some 12;
+      source = name (codes "refs/heads/a");
+      destination = Some (codes "refs/x/a");
+      spec = 3;
+    }) ≡ codes "map\t3\t12\trefs/heads/a\trefs/x/a\n"
 unfolding digits
 name_line = refl
 
 -- an empty destination differs from a missing one
-pub no_destination_line : map_line (record { item = Some 0; source = name []; destination = None; spec = 0 }) ≡ codes "map\t0\t0\t\n"
+pub no_destination_line : map_line (record { item = Some 0; source = name []; destination = None; spec = 0 }) ≡ codes
+    "map\t0\t0\t\n"
 unfolding digits
 no_destination_line = refl
 
-pub empty_destination_line : map_line (record { item = Some 0; source = name []; destination = Some []; spec = 0 }) ≡ codes "map\t0\t0\t\t\n"
+pub empty_destination_line : map_line (record { item = Some 0; source = name []; destination = Some []; spec = 0 })
+    ≡ codes "map\t0\t0\t\t\n"
 unfolding digits
 empty_destination_line = refl
 
 -- an id is in lower case, and its mapping has no item
-pub id_line : (bytes : List ℕ) → map_line (record { item = None; source = id bytes; destination = Some (codes "refs/x"); spec = 1 }) ≡ codes "map\t1\t-\t" ++ (lower_of bytes ++ codes "\trefs/x\n")
+pub id_line : (bytes : List ℕ)
+    → map_line (record { item = None; source = id bytes; destination = Some (codes "refs/x"); spec = 1 }) ≡ codes
+    "map\t1\t-\t" ++ (lower_of bytes ++ codes "\trefs/x\n")
 unfolding digits
 id_line bytes = refl
 
 -- two sources, each with the text of its spec after it
-pub two_claims_line : conflict_line (record { destination = codes "refs/x"; sources = name (codes "a") ∷ name (codes "b") ∷ []; texts = codes "a:refs/x" ∷ codes "*:refs/*" ∷ [] }) ≡ codes "conflict\trefs/x\ta\ta:refs/x\tb\t*:refs/*\n"
+pub two_claims_line :
+    conflict_line (record {
+      destination = codes "refs/x";
+      sources = name (codes "a") ∷ name (codes "b") ∷ [];
+      texts =
+          codes "a:refs/x" ∷ codes "*:refs/*" ∷ [];
+    }) ≡ codes "conflict\trefs/x\ta\ta:refs/x\tb\t*:refs/*\n"
 two_claims_line = refl
 
 -- the mapping of a forced spec was removed

@@ -42,7 +42,8 @@ abbrev pub AreLines : List (List ℕ) → List ℕ → Type 0
 AreLines [] input = input ≡ []
 AreLines (line ∷ lines) input =
     Lacks newline line
-    × (((rest : List ℕ) × (input ≡ line ++ (newline ∷ rest)) × AreLines lines rest) ⊎ ((line ≢ []) × (lines ≡ []) × (input ≡ line)))
+    × (((rest : List ℕ) × (input ≡ line ++ (newline ∷ rest)) × AreLines lines rest)
+    ⊎ ((line ≢ []) × (lines ≡ []) × (input ≡ line)))
 
 -- the line is the first of the text, and the rest is what follows its newline
 abbrev pub IsFirstLine : List ℕ → List ℕ → List ℕ → Type 0

@@ -89,7 +89,8 @@ pub record IsReached (input : List ℕ) (number : ℕ) (line : List ℕ) : Type 
 -- the fault of the line with this number: it is malformed, or its spec is refused
 abbrev pub IsFaultOf : ℕ → List ℕ → Fault → Type 0
 IsFaultOf number line (fault.Line n) = (n ≡ number) × IsMalformed line
-IsFaultOf number line (fault.Spec n error) = (text : List ℕ) × (n ≡ number) × Says line (spec text) × ShowsRefusal (IsRefused Fetch text) error
+IsFaultOf number line (fault.Spec n error) = (text : List ℕ) × (n ≡ number) × Says line (spec text)
+    × ShowsRefusal (IsRefused Fetch text) error
 IsFaultOf number line _ = ⊥
 
 -- the fault of the first bad line of the input

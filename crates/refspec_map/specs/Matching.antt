@@ -30,17 +30,22 @@ destination_text (Some d) = tab ∷ d
 -- the line of a mapping: `map`, the indexes of its spec and its item, its source and its destination, with
 -- tabs between
 abbrev pub map_line : Mapped → List ℕ
-map_line m = codes "map\t" ++ (decimal m.spec ++ (tab ∷ (item_text m.item ++ (tab ∷ (source_text m.source ++ (destination_text m.destination ++ (newline ∷ [])))))))
+map_line m = codes "map\t"
+    ++ (decimal m.spec
+    ++ (tab ∷ (item_text m.item
+    ++ (tab ∷ (source_text m.source ++ (destination_text m.destination ++ (newline ∷ [])))))))
 
 -- the output for the specs and refs of an input: a line for each kept mapping, and nothing is refused
-pub record AreMapLines (AreKept : List Reading → List Ref → List Mapped → Type 0) (g : List Reading) (items : List Ref) (output : List ℕ) (refusal : Bool) : Type 0 where
+pub record AreMapLines (AreKept : List Reading → List Ref → List Mapped → Type 0) (g : List Reading) (items : List Ref)
+    (output : List ℕ) (refusal : Bool) : Type 0 where
   pub mappings : List Mapped
   pub kept : AreKept g items mappings
   pub written : output ≡ flat_map map_line mappings
   pub tells : refusal ≡ false
 
 -- each line of the input adds an entry, and Writes relates their specs and refs to the output
-pub record IsMatching (Writes : List Reading → List Ref → List ℕ → Bool → Type 0) (input output : List ℕ) (refusal : Bool) : Type 0 where
+pub record IsMatching (Writes : List Reading → List Ref → List ℕ → Bool → Type 0) (input output : List ℕ)
+    (refusal : Bool) : Type 0 where
   pub lines : List (List ℕ)
   pub entries : List Entry
   pub split : AreLines lines input

@@ -52,7 +52,8 @@ IsAnsweredBy op line (made.Refused name) = (e : Refusal) × IsRefused op line e 
 
 -- the line of the program's answer was appended to the old output
 abbrev pub AppendsLine : Made → List ℕ → List ℕ → Type 0
-AppendsLine (made.Accepted s) old new = (text : List ℕ) × (printed (reading_of s) ≡ Some text) × (new ≡ old ++ answer_line (accepted text))
+AppendsLine (made.Accepted s) old new = (text : List ℕ) × (printed (reading_of s) ≡ Some text)
+    × (new ≡ old ++ answer_line (accepted text))
 AppendsLine (made.Refused name) old new = (e : Refusal) → name.now ≡ name_of e → new ≡ old ++ answer_line (refused e)
 
 -- whether the program's answer is a refusal

@@ -10,7 +10,8 @@ use Rattle.gix_refspec.specs.Matching.Lists.{IsJoinedFrom}
 use Rattle.gix_refspec.specs.Matching.Match.{Ref}
 use Rattle.gix_refspec.specs.Matching.Mappings.{Source, Mapped}
 use Rattle.gix_refspec.specs.Matching.Hits.{AreKeptForward}
-use Rattle.gix_refspec.specs.Matching.Validation.{Conflict, Removed, AreConflicts, IsValidated, HaveDistinctDestinations}
+use Rattle.gix_refspec.specs.Matching.Validation.{Conflict, Removed, AreConflicts, IsValidated}
+use Rattle.gix_refspec.specs.Matching.Validation.{HaveDistinctDestinations}
 use Rattle.refspec_map.specs.Input.{newline}
 use Rattle.refspec_map.specs.Matching.{tab, map_line, source_text}
 
@@ -21,12 +22,14 @@ claim_text claim = tab ∷ (source_text claim.0 ++ (tab ∷ claim.1))
 -- the line of a conflict: `conflict`, the destination, and each source with the text of its spec, with tabs
 -- between
 abbrev pub conflict_line : Conflict → List ℕ
-conflict_line c = codes "conflict\t" ++ (c.destination ++ (flat_map claim_text (zip c.sources c.texts) ++ (newline ∷ [])))
+conflict_line c =
+    codes "conflict\t" ++ (c.destination ++ (flat_map claim_text (zip c.sources c.texts) ++ (newline ∷ [])))
 
 -- the line of a fix: `fix`, the destination that was removed, and the canonical text of the spec, with tabs
 -- between
 abbrev pub IsFixLine : Removed → List ℕ → Type 0
-IsFixLine fix line = (text : List ℕ) × (printed fix.spec ≡ Some text) × (line ≡ codes "fix\t" ++ (fix.destination ++ (tab ∷ (text ++ (newline ∷ [])))))
+IsFixLine fix line = (text : List ℕ) × (printed fix.spec ≡ Some text)
+    × (line ≡ codes "fix\t" ++ (fix.destination ++ (tab ∷ (text ++ (newline ∷ [])))))
 
 -- the lines of fixes, in order
 abbrev pub AreFixLines : List Removed → List ℕ → Type 0

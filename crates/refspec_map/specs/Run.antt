@@ -34,7 +34,8 @@ IsBad command.Rhs input f = IsFirstFault input f
 IsBad command.Plan input f = IsFirstFault input f
 
 -- the input was read to its end, its output was written, and the exit status shows a refusal or conflict
-pub record Answers (command : Command) (reader_old reader_new writer_old writer_new : Option (List ℕ)) (status : ℕ) : Type 0 where
+pub record Answers (command : Command) (reader_old reader_new writer_old writer_new : Option (List ℕ)) (status : ℕ) :
+    Type 0 where
   pub input : List ℕ
   pub output : List ℕ
   pub refusal : Bool
@@ -53,8 +54,10 @@ pub record IsGood (command : Command) (old new : Option (List ℕ)) : Type 0 whe
 abbrev pub Explains : Command → Option (List ℕ) → Option (List ℕ) → Fault → Type 0
 Explains command old new fault.TooLong = IsTooLong old new
 Explains command old new fault.Read = ⊤
-Explains command old new (fault.Line number) = (input : List ℕ) × ReadsToEnd old new input × IsBad command input (fault.Line number)
-Explains command old new (fault.Spec number error) = (input : List ℕ) × ReadsToEnd old new input × IsBad command input (fault.Spec number error)
+Explains command old new (fault.Line number) = (input : List ℕ) × ReadsToEnd old new input
+    × IsBad command input (fault.Line number)
+Explains command old new (fault.Spec number error) = (input : List ℕ) × ReadsToEnd old new input
+    × IsBad command input (fault.Spec number error)
 Explains command old new fault.Memory = ⊤
 Explains command old new fault.Write = ⊤
 
@@ -65,9 +68,14 @@ Leaves old new _ = Keeps old new
 
 -- a plan with exit status 0 writes no destination from two sources, and no duplicate line
 abbrev pub PlanOnce : Type 0
-PlanOnce = (reader_old reader_new writer_old writer_new : Option (List ℕ)) → Answers command.Plan reader_old reader_new writer_old writer_new 0
-    → (input : List ℕ) × (output : List ℕ) × ReadsToEnd reader_old reader_new input × Appends writer_old writer_new output × IsMatching (λ g items written refusal. WritesOnce g items written) input output false
+PlanOnce = (reader_old reader_new writer_old writer_new : Option (List ℕ))
+    → Answers command.Plan reader_old reader_new writer_old writer_new 0
+    → (input : List ℕ) × (output : List ℕ) × ReadsToEnd reader_old reader_new input
+    × Appends writer_old writer_new output × IsMatching (λ g items written refusal. WritesOnce g items written)
+    input output false
 
 -- the error in the fault of a spec is the first reason that applies to some text, and never `Memory`
 abbrev pub SpecIsRefused : Type 0
-SpecIsRefused = (command : Command) (old new : Option (List ℕ)) (number : ℕ) (error : Error) → Explains command old new (fault.Spec number error) → (error ≢ Memory) × (text : List ℕ) × ShowsRefusal (IsRefused Fetch text) error
+SpecIsRefused = (command : Command) (old new : Option (List ℕ)) (number : ℕ) (error : Error)
+    → Explains command old new (fault.Spec number error) → (error ≢ Memory) × (text : List ℕ)
+    × ShowsRefusal (IsRefused Fetch text) error

@@ -8,8 +8,14 @@ use Rattle.refspec_plans.specs.LeftOut.{IsLeftOutLine, IsNestedLine, IsOverruled
 use Rattle.refspec_plans.specs.Origins.{origin_name}
 use Rattle.refspec_plans.specs.Verdicts.{Unwritable}
 
-pub left_out_line-of : (out : Unwritable) (text source spec origin side message : List ℕ) (destination : Option (List ℕ)) (old new : List ℕ) → source ≡ json_text (source_text out.update.source) → destination ≡ option_map json_text out.update.destination → spec ≡ json_text text → origin ≡ origin_name out.update.origin → side ≡ side_name out.side → new ≡ old ++ line_of (left_out_object source destination spec origin side message) → (line : List ℕ) × IsLeftOutLine text out line × (new ≡ old ++ line)
-left_out_line-of out text source spec origin side message destination old new is_source is_destination is_spec is_origin is_side write =
+pub left_out_line-of : (out : Unwritable) (text source spec origin side message : List ℕ)
+    (destination : Option (List ℕ)) (old new : List ℕ) → source ≡ json_text (source_text out.update.source)
+    → destination ≡ option_map json_text out.update.destination → spec ≡ json_text text
+    → origin ≡ origin_name out.update.origin → side ≡ side_name out.side
+    → new ≡ old ++ line_of (left_out_object source destination spec origin side message) → (line : List ℕ)
+    × IsLeftOutLine text out line × (new ≡ old ++ line)
+left_out_line-of out text source spec origin side message destination old new is_source is_destination is_spec is_origin
+    is_side write =
     let from = json_text (source_text out.update.source) in
     let to = option_map json_text out.update.destination in
     let by = origin_name out.update.origin in (
@@ -22,8 +28,13 @@ left_out_line-of out text source spec origin side message destination old new is
           ∙ ap (λ x. old ++ line_of (left_out_object from to (json_text text) by x message)) is_side)))),
     )
 
-pub overruled_line-of : (p : Planned) (text source spec origin message : List ℕ) (destination : Option (List ℕ)) (old new : List ℕ) → source ≡ json_text (source_text p.source) → destination ≡ option_map json_text p.destination → spec ≡ json_text text → origin ≡ origin_name p.origin → new ≡ old ++ line_of (overruled_object source destination spec origin message) → (line : List ℕ) × IsOverruledLine text p line × (new ≡ old ++ line)
-overruled_line-of p text source spec origin message destination old new is_source is_destination is_spec is_origin write =
+pub overruled_line-of : (p : Planned) (text source spec origin message : List ℕ) (destination : Option (List ℕ))
+    (old new : List ℕ) → source ≡ json_text (source_text p.source) → destination ≡ option_map json_text p.destination
+    → spec ≡ json_text text → origin ≡ origin_name p.origin
+    → new ≡ old ++ line_of (overruled_object source destination spec origin message) → (line : List ℕ)
+    × IsOverruledLine text p line × (new ≡ old ++ line)
+overruled_line-of p text source spec origin message destination old new is_source is_destination is_spec is_origin
+    write =
     let from = json_text (source_text p.source) in
     let to = option_map json_text p.destination in (
       line_of (overruled_object from to (json_text text) (origin_name p.origin) message),
@@ -34,9 +45,14 @@ overruled_line-of p text source spec origin message destination old new is_sourc
           ∙ ap (λ x. old ++ line_of (overruled_object from to (json_text text) x message)) is_origin))),
     )
 
-pub nested_line-of : (p : Planned) (text source spec origin other message : List ℕ) (destination : Option (List ℕ)) (old new : List ℕ) → source ≡ json_text (source_text p.source) → destination ≡ option_map json_text p.destination → spec ≡ json_text text
-    → origin ≡ origin_name p.origin → new ≡ old ++ line_of (directory_conflict_object source destination spec origin other message) → (line : List ℕ) × IsNestedLine text p line × (new ≡ old ++ line)
-nested_line-of p text source spec origin other message destination old new is_source is_destination is_spec is_origin write =
+pub nested_line-of : (p : Planned) (text source spec origin other message : List ℕ) (destination : Option (List ℕ))
+    (old new : List ℕ) → source ≡ json_text (source_text p.source) → destination ≡ option_map json_text p.destination
+    → spec ≡ json_text text
+    → origin ≡ origin_name p.origin
+    → new ≡ old ++ line_of (directory_conflict_object source destination spec origin other message)
+    → (line : List ℕ) × IsNestedLine text p line × (new ≡ old ++ line)
+nested_line-of p text source spec origin other message destination old new is_source is_destination is_spec is_origin
+    write =
     let from = json_text (source_text p.source) in
     let to = option_map json_text p.destination in (
       line_of (directory_conflict_object from to (json_text text) (origin_name p.origin) other message),

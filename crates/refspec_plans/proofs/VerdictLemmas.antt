@@ -1,5 +1,6 @@
 -- One more update among those of a verdict.
-use Rattle.std.proofs.Common.{◌≡◌, ℕ, ◌+◌, ◌<◌, Bool, List, [], ◌∷◌, ◌++◌, ap, cond, filter_map, get_or, length, map, refl, sym, take, ◌∙◌}
+use Rattle.std.proofs.Common.{◌≡◌, ℕ, ◌+◌, ◌<◌, Bool, List, [], ◌∷◌, ◌++◌, ap, cond, filter_map, get_or, length, map}
+use Rattle.std.proofs.Common.{refl, sym, take, ◌∙◌}
 use Rattle.std.proofs.lemmas.List.{map_more}
 use Rattle.std.proofs.lemmas.List.Elements.{filter-append, filter_map-append}
 use Rattle.gix_refspec.specs.declared.match_group.ref_names.InvalidSide.{InvalidSide}
@@ -8,35 +9,53 @@ use Rattle.gix_refspec_plan.specs.declared.Verdict.{Verdict}
 use Rattle.gix_refspec_plan.specs.declared.Verdict.TheVariants as verdict
 use Rattle.gix_refspec_plan.specs.Matching.Plan.{Planned}
 use Rattle.gix_refspec_plan.specs.Views.Plan.{planned_of}
-use Rattle.refspec_plans.specs.Verdicts.{is_nested, is_overruled, is_written, left_out_by, left_out_of, nested_of, overruled_of, unwritable, written_of}
+use Rattle.refspec_plans.specs.Verdicts.{is_nested, is_overruled, is_written, left_out_by, left_out_of, nested_of}
+use Rattle.refspec_plans.specs.Verdicts.{overruled_of, unwritable, written_of}
 
-planned-next : (xs : List Update) (i : ℕ) (x : Update) → i < length xs → x ≡ get_or xs i x → map planned_of (take (i + 1) xs) ≡ map planned_of (take i xs) ++ planned_of x ∷ []
-planned-next xs i x below is = map_more planned_of xs i x below ∙ ap (λ (y : Update). map planned_of (take i xs) ++ planned_of y ∷ []) (sym is)
+planned-next : (xs : List Update) (i : ℕ) (x : Update) → i < length xs → x ≡ get_or xs i x
+    → map planned_of (take (i + 1) xs) ≡ map planned_of (take i xs) ++ planned_of x ∷ []
+planned-next xs i x below is = map_more planned_of xs i x below
+    ∙ ap (λ (y : Update). map planned_of (take i xs) ++ planned_of y ∷ []) (sym is)
 
-pub written-next : (xs : List Update) (i : ℕ) (x : Update) → i < length xs → x ≡ get_or xs i x → written_of (map planned_of (take (i + 1) xs)) ≡ written_of (map planned_of (take i xs)) ++ written_of (planned_of x ∷ [])
-written-next xs i x below is = ap written_of (planned-next xs i x below is) ∙ filter-append (λ (p : Planned). is_written p.verdict) (map planned_of (take i xs)) (planned_of x ∷ [])
+pub written-next : (xs : List Update) (i : ℕ) (x : Update) → i < length xs → x ≡ get_or xs i x
+    → written_of (map planned_of (take (i + 1) xs)) ≡ written_of (map planned_of (take i xs)) ++ written_of
+    (planned_of x ∷ [])
+written-next xs i x below is = ap written_of (planned-next xs i x below is)
+    ∙ filter-append (λ (p : Planned). is_written p.verdict) (map planned_of (take i xs)) (planned_of x ∷ [])
 
-pub overruled-next : (xs : List Update) (i : ℕ) (x : Update) → i < length xs → x ≡ get_or xs i x → overruled_of (map planned_of (take (i + 1) xs)) ≡ overruled_of (map planned_of (take i xs)) ++ overruled_of (planned_of x ∷ [])
-overruled-next xs i x below is = ap overruled_of (planned-next xs i x below is) ∙ filter-append (λ (p : Planned). is_overruled p.verdict) (map planned_of (take i xs)) (planned_of x ∷ [])
+pub overruled-next : (xs : List Update) (i : ℕ) (x : Update) → i < length xs → x ≡ get_or xs i x
+    → overruled_of (map planned_of (take (i + 1) xs)) ≡ overruled_of (map planned_of (take i xs)) ++ overruled_of
+    (planned_of x ∷ [])
+overruled-next xs i x below is = ap overruled_of (planned-next xs i x below is)
+    ∙ filter-append (λ (p : Planned). is_overruled p.verdict) (map planned_of (take i xs)) (planned_of x ∷ [])
 
-pub nested-next : (xs : List Update) (i : ℕ) (x : Update) → i < length xs → x ≡ get_or xs i x → nested_of (map planned_of (take (i + 1) xs)) ≡ nested_of (map planned_of (take i xs)) ++ nested_of (planned_of x ∷ [])
-nested-next xs i x below is = ap nested_of (planned-next xs i x below is) ∙ filter-append (λ (p : Planned). is_nested p.verdict) (map planned_of (take i xs)) (planned_of x ∷ [])
+pub nested-next : (xs : List Update) (i : ℕ) (x : Update) → i < length xs → x ≡ get_or xs i x
+    → nested_of (map planned_of (take (i + 1) xs)) ≡ nested_of (map planned_of (take i xs)) ++ nested_of
+    (planned_of x ∷ [])
+nested-next xs i x below is = ap nested_of (planned-next xs i x below is)
+    ∙ filter-append (λ (p : Planned). is_nested p.verdict) (map planned_of (take i xs)) (planned_of x ∷ [])
 
-pub left_out-next : (xs : List Update) (i : ℕ) (x : Update) → i < length xs → x ≡ get_or xs i x → left_out_of (map planned_of (take (i + 1) xs)) ≡ left_out_of (map planned_of (take i xs)) ++ left_out_of (planned_of x ∷ [])
-left_out-next xs i x below is = ap left_out_of (planned-next xs i x below is) ∙ filter_map-append (λ (p : Planned). left_out_by p p.verdict) (map planned_of (take i xs)) (planned_of x ∷ [])
+pub left_out-next : (xs : List Update) (i : ℕ) (x : Update) → i < length xs → x ≡ get_or xs i x
+    → left_out_of (map planned_of (take (i + 1) xs)) ≡ left_out_of (map planned_of (take i xs)) ++ left_out_of
+    (planned_of x ∷ [])
+left_out-next xs i x below is = ap left_out_of (planned-next xs i x below is)
+    ∙ filter_map-append (λ (p : Planned). left_out_by p p.verdict) (map planned_of (take i xs)) (planned_of x ∷ [])
 
 -- an update alone, which is written or not
 pub written-one : (p : Planned) (b : Bool) → is_written p.verdict ≡ b → written_of (p ∷ []) ≡ cond b (p ∷ []) []
 written-one p b is = ap (λ (x : Bool). cond x (p ∷ []) []) is
 
 -- an update alone, which is left out or not
-pub left_out-one : (p : Planned) (side : InvalidSide) → p.verdict ≡ verdict.LeftOut side → left_out_of (p ∷ []) ≡ unwritable side p ∷ []
+pub left_out-one : (p : Planned) (side : InvalidSide) → p.verdict ≡ verdict.LeftOut side
+    → left_out_of (p ∷ []) ≡ unwritable side p ∷ []
 left_out-one p side is = ap (λ (v : Verdict). filter_map (λ (q : Planned). left_out_by q v) (p ∷ [])) is
 
-pub left_out-none : (p : Planned) → ((side : InvalidSide) → p.verdict ≡ verdict.LeftOut side → ⊥) → left_out_of (p ∷ []) ≡ []
+pub left_out-none : (p : Planned) → ((side : InvalidSide) → p.verdict ≡ verdict.LeftOut side → ⊥)
+    → left_out_of (p ∷ []) ≡ []
 left_out-none p other = by_verdict p.verdict other
   where
-    by_verdict : (v : Verdict) → ((side : InvalidSide) → v ≡ verdict.LeftOut side → ⊥) → filter_map (λ (q : Planned). left_out_by q v) (p ∷ []) ≡ []
+    by_verdict : (v : Verdict) → ((side : InvalidSide) → v ≡ verdict.LeftOut side → ⊥)
+        → filter_map (λ (q : Planned). left_out_by q v) (p ∷ []) ≡ []
     by_verdict verdict.Written other = refl
     by_verdict (verdict.LeftOut side) other = absurd (other side refl)
     by_verdict verdict.InConflict other = refl

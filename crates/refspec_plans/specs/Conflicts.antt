@@ -1,6 +1,7 @@
 -- How the conflicts of a plan are reported: in lines among the messages, or as JSON objects in the results. This
 -- project's own rule.
-use Rattle.std.specs.Prelude.{◌≡◌, ◌≢◌, ◌⊎◌, ◌↔◌, ℕ, ◌-◌, Bool, List, [], ◌∷◌, ◌++◌, Some, length, map, take, option_map, unwrap_or, codes}
+use Rattle.std.specs.Prelude.{◌≡◌, ◌≢◌, ◌⊎◌, ◌↔◌, ℕ, ◌-◌, Bool, List, [], ◌∷◌, ◌++◌, Some, length, map, take}
+use Rattle.std.specs.Prelude.{option_map, unwrap_or, codes}
 use Rattle.bstr.specs.Owned.{bstring_bytes}
 use Rattle.std.specs.declared.cmp.Ordering.{Ordering}
 use Rattle.std.specs.declared.cmp.Ordering.TheVariants.{Less}
@@ -97,7 +98,8 @@ WritesClaim source text note old new = (line : List ℕ) × IsClaim source text 
 abbrev pub AreClaims : SpecTexts → List Planned → List ℕ → Type 0
 AreClaims texts [] lines = lines ≡ []
 AreClaims texts (p ∷ ps) lines =
-    (line : List ℕ) × (rest : List ℕ) × IsClaim (source_text p.source) (text_of texts p.origin) (note_of p.origin) line × AreClaims texts ps rest × (lines ≡ line ++ rest)
+    (line : List ℕ) × (rest : List ℕ) × IsClaim (source_text p.source) (text_of texts p.origin) (note_of p.origin) line
+    × AreClaims texts ps rest × (lines ≡ line ++ rest)
 
 -- the messages grew by these lines
 abbrev pub WritesClaims : SpecTexts → List Planned → List ℕ → List ℕ → Type 0
@@ -110,7 +112,8 @@ pub record IsReportedConflict (texts : SpecTexts) (c : Contest) (lines : List �
   pub advice : List ℕ
   pub destination : IsQuoted c.destination shown
   pub each : AreClaims texts c.updates claims
-  pub is : lines ≡ codes "conflict: " ++ (shown ++ (codes " would be written from several refs, so nothing is fetched:\n" ++ (claims ++ advice)))
+  pub is : lines ≡ codes "conflict: "
+      ++ (shown ++ (codes " would be written from several refs, so nothing is fetched:\n" ++ (claims ++ advice)))
 
 -- the messages grew by the lines on a conflict
 abbrev pub WritesConflict : SpecTexts → Contest → List ℕ → List ℕ → Type 0
@@ -120,7 +123,8 @@ WritesConflict texts c old new = (lines : List ℕ) × IsReportedConflict texts 
 abbrev pub AreReportedConflicts : SpecTexts → List Contest → List ℕ → Type 0
 AreReportedConflicts texts [] lines = lines ≡ []
 AreReportedConflicts texts (c ∷ cs) lines =
-    (one : List ℕ) × (rest : List ℕ) × IsReportedConflict texts c one × AreReportedConflicts texts cs rest × (lines ≡ one ++ rest)
+    (one : List ℕ) × (rest : List ℕ) × IsReportedConflict texts c one × AreReportedConflicts texts cs rest
+    × (lines ≡ one ++ rest)
 
 -- the messages grew by the lines on all conflicts; in JSON they stayed as they were
 abbrev pub AddsEachConflict : Form → SpecTexts → List Contest → List ℕ → List ℕ → Type 0
@@ -153,7 +157,8 @@ abbrev pub IsConflict : SpecTexts → Contest → List ℕ → Type 0
 IsConflict texts c line = line ≡ conflict_line texts c
 
 -- the conflicts of updates are reported
-pub record AddsConflicts (all : Bool) (form : Form) (texts : SpecTexts) (ps : List Planned) (before after old new : List ℕ) : Type 0 where
+pub record AddsConflicts (all : Bool) (form : Form) (texts : SpecTexts) (ps : List Planned)
+    (before after old new : List ℕ) : Type 0 where
   pub contests : List Contest
   pub are : AreContests ps contests
   pub messages : AddsConflictLines all form texts contests before after

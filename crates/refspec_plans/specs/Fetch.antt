@@ -19,7 +19,13 @@ use Rattle.refspec_plans.specs.Stale.{AddsStale}
 
 -- what a call asks for, by the readings of its specs: the first of them are given, the others configured
 abbrev pub wish_of_task : Task → List Reading → Wish
-wish_of_task task g = record { given = take task.given g; configured = drop task.given g; merges = map bstr_bytes task.call.now.merges.items; tags = task.call.now.tags }
+wish_of_task task g = record {
+  given = take task.given g;
+  configured = drop task.given g;
+  merges =
+      map bstr_bytes task.call.now.merges.items;
+  tags = task.call.now.tags;
+}
 
 -- the records of the input are all refs, and these are the refs of the remote
 abbrev pub AreRemote : Call → List ℕ → List Ref → Type 0
@@ -34,14 +40,19 @@ pub record ReportsBad (call : Call) (input : List ℕ) (form : Form) (old new : 
   pub malformed : AddsObjects form IsMalformed bad old new
 
 -- what a command reports of a plan
-abbrev pub AddsPlanned : Command → Task → Form → Wish → List Ref → List Planned → List Origin → (before after : List ℕ) → Bool → List ℕ → List ℕ → Type 0
-AddsPlanned command.Stale task form wish refs planned lacking before after refused old new = AddsStale task form wish refs planned lacking before after refused old new
-AddsPlanned _ task form wish refs planned lacking before after refused old new = AddsPlan task form wish refs planned lacking before after refused old new
+abbrev pub AddsPlanned : Command → Task → Form → Wish → List Ref → List Planned → List Origin → (before after : List ℕ)
+    → Bool → List ℕ → List ℕ → Type 0
+AddsPlanned command.Stale task form wish refs planned lacking before after refused old new =
+    AddsStale task form wish refs planned lacking before after refused old new
+AddsPlanned _ task form wish refs planned lacking before after refused old new =
+    AddsPlan task form wish refs planned lacking before after refused old new
 
--- the report of a plan for the refs of the remote, and specs with these readings; or if a record of the input is bad, only of
+-- the report of a plan for the refs of the remote, and specs with these readings; or if a record of the input is bad,
+-- only of
 -- that, and the call is refused
 abbrev pub AddsFetch : Command → Task → Form → (before after : List ℕ) → Bool → List Reading → List ℕ → List ℕ → Type 0
 AddsFetch command task form before after refused g old new =
-    ((refs : List Ref) × (planned : List Planned) × (lacking : List Origin) × AreRemote task.call.now task.input.now refs × IsPlan (wish_of_task task g) refs planned lacking
+    ((refs : List Ref) × (planned : List Planned) × (lacking : List Origin)
+    × AreRemote task.call.now task.input.now refs × IsPlan (wish_of_task task g) refs planned lacking
     × AddsPlanned command task form (wish_of_task task g) refs planned lacking before after refused old new)
     ⊎ (ReportsBad task.call.now task.input.now form old new × (refused ≡ true))

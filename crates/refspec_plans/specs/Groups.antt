@@ -1,6 +1,7 @@
 -- How the updates of a plan are shown in lines, grouped below their specs. This project's own rule: consecutive
 -- updates of a spec are below its text; if a given spec is the only one, its text isn't shown.
-use Rattle.std.specs.Prelude.{◌≡◌, ◌≢◌, ◌⊎◌, ℕ, Bool, true, false, List, [], ◌∷◌, ◌++◌, Option, Some, None, MatchBool, unwrap_or, codes}
+use Rattle.std.specs.Prelude.{◌≡◌, ◌≢◌, ◌⊎◌, ℕ, Bool, true, false, List, [], ◌∷◌, ◌++◌, Option, Some, None, MatchBool}
+use Rattle.std.specs.Prelude.{unwrap_or, codes}
 use Rattle.gix_refspec_plan.specs.declared.Origin.{Origin}
 use Rattle.gix_refspec_plan.specs.Matching.Plan.{Planned}
 use Rattle.refspec_io.specs.Rows.{IsCell, source_text}
@@ -50,13 +51,15 @@ WritesBelow texts before p old new = (lines : List ℕ) × IsBelow texts before 
 
 -- the same if the update is written, which then is the previous one of the next
 abbrev pub AddsBelow : SpecTexts → Planned → (before after : Option Origin) → List ℕ → List ℕ → Type 0
-AddsBelow texts p before after old new = MatchBool (is_written p.verdict) (WritesBelow texts before p old new × (after ≡ Some p.origin)) ((new ≡ old) × (after ≡ before))
+AddsBelow texts p before after old new = MatchBool (is_written p.verdict)
+    (WritesBelow texts before p old new × (after ≡ Some p.origin)) ((new ≡ old) × (after ≡ before))
 
 -- the lines of updates, in order
 abbrev pub AreBelow : SpecTexts → Option Origin → List Planned → List ℕ → Type 0
 AreBelow texts before [] lines = lines ≡ []
 AreBelow texts before (p ∷ ps) lines =
-    (one : List ℕ) × (rest : List ℕ) × IsBelow texts before p one × AreBelow texts (Some p.origin) ps rest × (lines ≡ one ++ rest)
+    (one : List ℕ) × (rest : List ℕ) × IsBelow texts before p one × AreBelow texts (Some p.origin) ps rest
+    × (lines ≡ one ++ rest)
 
 abbrev pub AddsGrouped : SpecTexts → List Planned → List ℕ → List ℕ → Type 0
 AddsGrouped texts ps old new = (lines : List ℕ) × AreBelow texts None ps lines × (new ≡ old ++ lines)

@@ -1,4 +1,5 @@
--- How the updates that a plan leaves out or overrules, or that are in a directory conflict, are reported in JSON. This project's own rule.
+-- How the updates that a plan leaves out or overrules, or that are in a directory conflict, are reported in JSON. This
+-- project's own rule.
 use Rattle.std.specs.Prelude.{◌≡◌, ℕ, List, option_map, codes}
 use Rattle.gix_refspec.specs.declared.match_group.ref_names.InvalidSide.{InvalidSide}
 use Rattle.gix_refspec.specs.declared.match_group.ref_names.InvalidSide.TheVariants as side
@@ -19,7 +20,10 @@ side_name side.Both = codes "both"
 -- the object of a left out update, as a line, with the text of its spec, the invalid side, and a sentence on it
 abbrev pub IsLeftOutLine : List ℕ → Unwritable → List ℕ → Type 0
 IsLeftOutLine text out line =
-    (message : List ℕ) × (line ≡ line_of (left_out_object (json_text (source_text out.update.source)) (option_map json_text out.update.destination) (json_text text) (origin_name out.update.origin) (side_name out.side) message))
+    (message : List ℕ)
+    × (line ≡ line_of (left_out_object (json_text (source_text out.update.source))
+    (option_map json_text out.update.destination) (json_text text) (origin_name out.update.origin)
+    (side_name out.side) message))
 
 -- the same, given the texts of all specs
 abbrev pub IsLeftOutOf : SpecTexts → Unwritable → List ℕ → Type 0
@@ -28,16 +32,21 @@ IsLeftOutOf texts out line = IsLeftOutLine (text_of texts out.update.origin) out
 -- the object of an overruled update, as a line, with the text of its spec and a sentence on it
 abbrev pub IsOverruledLine : List ℕ → Planned → List ℕ → Type 0
 IsOverruledLine text p line =
-    (message : List ℕ) × (line ≡ line_of (overruled_object (json_text (source_text p.source)) (option_map json_text p.destination) (json_text text) (origin_name p.origin) message))
+    (message : List ℕ)
+    × (line ≡ line_of (overruled_object (json_text (source_text p.source)) (option_map json_text p.destination)
+    (json_text text) (origin_name p.origin) message))
 
 -- the same, given the texts of all specs
 abbrev pub IsOverruledOf : SpecTexts → Planned → List ℕ → Type 0
 IsOverruledOf texts p line = IsOverruledLine (text_of texts p.origin) p line
 
--- the object of an update in a directory conflict, as a line, with the text of its spec, the other destination and a sentence on it
+-- the object of an update in a directory conflict, as a line, with the text of its spec, the other destination and a
+-- sentence on it
 abbrev pub IsNestedLine : List ℕ → Planned → List ℕ → Type 0
 IsNestedLine text p line =
-    (other : List ℕ) × (message : List ℕ) × (line ≡ line_of (directory_conflict_object (json_text (source_text p.source)) (option_map json_text p.destination) (json_text text) (origin_name p.origin) other message))
+    (other : List ℕ) × (message : List ℕ)
+    × (line ≡ line_of (directory_conflict_object (json_text (source_text p.source))
+    (option_map json_text p.destination) (json_text text) (origin_name p.origin) other message))
 
 -- the same, given the texts of all specs
 abbrev pub IsNestedOf : SpecTexts → Planned → List ℕ → Type 0

@@ -36,11 +36,13 @@ pub record IsMissingObject (all : Bool) (text : List ℕ) (origin : Origin) (lin
   pub count : ℕ
   pub names : List (List ℕ)
   pub listed : length names ≡ few all count
-  pub is : line ≡ line_of (missing_object (json_text text) (origin_name origin) sentence names (some_more (count - few all count)))
+  pub is : line ≡ line_of (missing_object (json_text text) (origin_name origin) sentence names
+      (some_more (count - few all count)))
 
 -- bytes grew by that line
 abbrev pub WritesMissingObject : Bool → List ℕ → Origin → List ℕ → List ℕ → Type 0
-WritesMissingObject all text origin old new = (line : List ℕ) × IsMissingObject all text origin line × (new ≡ old ++ line)
+WritesMissingObject all text origin old new = (line : List ℕ) × IsMissingObject all text origin line
+    × (new ≡ old ++ line)
 
 -- the same, given the texts of all specs
 abbrev pub IsMissingOf : SpecTexts → Origin → List ℕ → Type 0
@@ -52,9 +54,11 @@ IsMissingObjectOf all texts origin line = IsMissingObject all (text_of texts ori
 -- the messages grew by the lines on each spec, in order; in JSON they stayed as they were
 abbrev pub AddsLinesOnMissing : Form → SpecTexts → List Origin → List ℕ → List ℕ → Type 0
 AddsLinesOnMissing form.Json texts missing old new = new ≡ old
-AddsLinesOnMissing _ texts missing old new = (lines : List ℕ) × AreInOrder (IsMissingOf texts) missing lines × (new ≡ old ++ lines)
+AddsLinesOnMissing _ texts missing old new = (lines : List ℕ) × AreInOrder (IsMissingOf texts) missing lines
+    × (new ≡ old ++ lines)
 
 -- and in JSON the results grew by the objects
-pub record AddsMissing (all : Bool) (form : Form) (texts : SpecTexts) (missing : List Origin) (before after old new : List ℕ) : Type 0 where
+pub record AddsMissing (all : Bool) (form : Form) (texts : SpecTexts) (missing : List Origin)
+    (before after old new : List ℕ) : Type 0 where
   pub messages : AddsLinesOnMissing form texts missing before after
   pub objects : AddsObjects form (IsMissingObjectOf all texts) missing old new

@@ -36,25 +36,32 @@ AddsUpdates long form.Json texts ps old new = new ≡ old ++ flat_map (update_ob
 -- the results grew by the local refs that a pruning fetch deletes or keeps, if the call asks for that; bad are the bad
 -- records among these refs
 abbrev pub AddsPruned : Bool → Call → Form → List ℕ → Wish → List Ref → List (List ℕ) → List ℕ → List ℕ → Type 0
-AddsPruned true call form local wish refs bad old new = AddsFound (end_byte call.ends) place.BehindUpdates form local (pruning_specs wish.given wish.configured) refs bad old new
+AddsPruned true call form local wish refs bad old new = AddsFound (end_byte call.ends) place.BehindUpdates form local
+    (pruning_specs wish.given wish.configured) refs bad old new
 AddsPruned false call form local wish refs bad old new = (bad ≡ []) × (new ≡ old)
 
 -- the same for a task, and whether there are bad records
 abbrev pub IsPruned : Task → Form → Wish → List Ref → List ℕ → List ℕ → Bool → Type 0
 IsPruned task form wish refs old new has_bad =
-    (bad : List (List ℕ)) × AddsPruned task.call.now.prune task.call.now form task.local.now wish refs bad old new × MatchBool has_bad (bad ≢ []) (bad ≡ [])
+    (bad : List (List ℕ)) × AddsPruned task.call.now.prune task.call.now form task.local.now wish refs bad old new
+    × MatchBool has_bad (bad ≢ []) (bad ≡ [])
 
 -- the report of a plan that is carried out, behind what is left out: its updates, and what is pruned
-pub record AddsCarriedOut (task : Task) (form : Form) (texts : SpecTexts) (wish : Wish) (refs : List Ref) (planned : List Planned) (refused : Bool) (old new : List ℕ) : Type 0 where
+pub record AddsCarriedOut (task : Task) (form : Form) (texts : SpecTexts) (wish : Wish) (refs : List Ref)
+    (planned : List Planned) (refused : Bool) (old new : List ℕ) : Type 0 where
   pub mid : List ℕ
   pub bad : List (List ℕ)
   pub updates : AddsUpdates task.call.now.long form texts (written_of planned) old mid
   pub pruned : AddsPruned task.call.now.prune task.call.now form task.local.now wish refs bad mid new
-  pub status : MatchBool refused ((bad ≢ []) ⊎ ((left_out_of planned ≢ []) ⊎ (nested_of planned ≢ []))) ((bad ≡ []) × ((left_out_of planned ≡ []) × (nested_of planned ≡ [])))
+  pub status : MatchBool refused ((bad ≢ []) ⊎ ((left_out_of planned ≢ []) ⊎ (nested_of planned ≢ [])))
+      ((bad ≡ []) × ((left_out_of planned ≡ []) × (nested_of planned ≡ [])))
 
--- the report of a plan: what is missing, left out, overruled, in a directory conflict and in conflict, and if it is carried out, its updates.
--- Otherwise nothing follows, and the call is refused. What is said of missing sources stays before what is said of others
-pub record AddsPlan (task : Task) (form : Form) (wish : Wish) (refs : List Ref) (planned : List Planned) (lacking : List Origin) (before after : List ℕ) (refused : Bool) (old new : List ℕ) : Type 0 where
+-- the report of a plan: what is missing, left out, overruled, in a directory conflict and in conflict, and if it is
+-- carried out, its updates.
+-- Otherwise nothing follows, and the call is refused. What is said of missing sources stays before what is said of
+-- others
+pub record AddsPlan (task : Task) (form : Form) (wish : Wish) (refs : List Ref) (planned : List Planned)
+    (lacking : List Origin) (before after : List ℕ) (refused : Bool) (old new : List ℕ) : Type 0 where
   pub texts : SpecTexts
   pub said : List ℕ
   pub noted : List ℕ

@@ -1,6 +1,7 @@
 -- How stale refs are reported: as names, or as JSON objects. This project's own rule. Refs that are kept are among the
 -- results in JSON alone.
-use Rattle.std.specs.Prelude.{◌≡◌, ◌≢◌, ◌⊎◌, ℕ, Bool, true, List, [], ◌∷◌, ◌++◌, Option, None, Some, MatchBool, map, option_map, unwrap_or, codes}
+use Rattle.std.specs.Prelude.{◌≡◌, ◌≢◌, ◌⊎◌, ℕ, Bool, true, List, [], ◌∷◌, ◌++◌, Option, None, Some, MatchBool, map}
+use Rattle.std.specs.Prelude.{option_map, unwrap_or, codes}
 use Rattle.std.specs.List.{filter_map, flat_map, slice_get}
 use Rattle.gix_refspec.specs.Specs.Reading.{Reading}
 use Rattle.gix_refspec.specs.Matching.Match.{Ref}
@@ -46,7 +47,8 @@ kept_of k = record { name = k.name.now; spec = k.spec.now }
 
 abbrev pub kept_by : List (List ℕ) → List Ref → ℕ → Option ℕ → Option Kept
 kept_by texts locals k None = None
-kept_by texts locals k (Some spec) = Some (record { name = name_at locals k; spec = unwrap_or (slice_get texts spec) [] })
+kept_by texts locals k (Some spec) =
+    Some (record { name = name_at locals k; spec = unwrap_or (slice_get texts spec) [] })
 
 -- the names of the refs that are deleted, and the refs that are kept, in order
 abbrev pub deleted_names : List Ref → List Found → List (List ℕ)
@@ -56,7 +58,8 @@ abbrev pub kept_refs : List (List ℕ) → List Ref → List Found → List Kept
 kept_refs texts locals found = filter_map (λ f. kept_by texts locals f.item f.kept_by) found
 
 -- the refs of a report, parted
-pub record AreParted (texts : List (List ℕ)) (locals : List Ref) (found : List Found) (parted : DeclaredFound) : Type 0 where
+pub record AreParted (texts : List (List ℕ)) (locals : List Ref) (found : List Found) (parted : DeclaredFound) :
+    Type 0 where
   pub deleted : map (λ n. n.now) parted.deleted.items ≡ deleted_names locals found
   pub kept : map kept_of parted.kept.items ≡ kept_refs texts locals found
 
@@ -71,7 +74,8 @@ stale_line name = line_of (stale_object (json_text name))
 
 -- the object of a ref that is kept, as a line, with a sentence on it
 abbrev pub IsKeptLine : Kept → List ℕ → Type 0
-IsKeptLine kept line = (message : List ℕ) × (line ≡ line_of (kept_object (json_text kept.name) (json_text kept.spec) message))
+IsKeptLine kept line = (message : List ℕ)
+    × (line ≡ line_of (kept_object (json_text kept.name) (json_text kept.spec) message))
 
 -- bytes grew by that line
 abbrev pub WritesKept : Kept → List ℕ → List ℕ → Type 0
@@ -80,7 +84,8 @@ WritesKept kept old new = (line : List ℕ) × IsKeptLine kept line × (new ≡ 
 -- the lines of names behind the updates of a plan: below a heading, if there are any
 abbrev pub AreHeaded : List (List ℕ) → List ℕ → Type 0
 AreHeaded [] lines = lines ≡ []
-AreHeaded (name ∷ names) lines = (rest : List ℕ) × AreLines (codes "  ") (name ∷ names) rest × (lines ≡ codes "(stale)\n" ++ rest)
+AreHeaded (name ∷ names) lines = (rest : List ℕ) × AreLines (codes "  ") (name ∷ names) rest
+    × (lines ≡ codes "(stale)\n" ++ rest)
 
 -- the four fields of a name behind the updates of a plan, each ended by a zero byte
 abbrev pub name_fields : List ℕ → List ℕ
@@ -92,11 +97,14 @@ AddsDeleted place.Alone form.Json names old new = new ≡ old ++ flat_map stale_
 AddsDeleted place.Alone form.Lines names old new = AddsNames form.Lines [] names old new
 AddsDeleted place.Alone form.Zeros names old new = AddsNames form.Zeros [] names old new
 AddsDeleted place.BehindUpdates form.Json names old new = new ≡ old ++ flat_map stale_line names
-AddsDeleted place.BehindUpdates form.Lines names old new = (lines : List ℕ) × AreHeaded names lines × (new ≡ old ++ lines)
+AddsDeleted place.BehindUpdates form.Lines names old new = (lines : List ℕ) × AreHeaded names lines
+    × (new ≡ old ++ lines)
 AddsDeleted place.BehindUpdates form.Zeros names old new = new ≡ old ++ flat_map name_fields names
 
--- the results grew by the local refs, given in the records of a file, that specs delete or keep; bad are the bad records
-pub record AddsFound (end : ℕ) (where_ : Place) (form : Form) (local : List ℕ) (g : List Reading) (remote : List Ref) (bad : List (List ℕ)) (old new : List ℕ) : Type 0 where
+-- the results grew by the local refs, given in the records of a file, that specs delete or keep; bad are the bad
+-- records
+pub record AddsFound (end : ℕ) (where_ : Place) (form : Form) (local : List ℕ) (g : List Reading) (remote : List Ref)
+    (bad : List (List ℕ)) (old new : List ℕ) : Type 0 where
   pub locals : List Ref
   pub found : List Found
   pub texts : List (List ℕ)
@@ -112,16 +120,19 @@ pub record AddsFound (end : ℕ) (where_ : Place) (form : Form) (local : List �
 -- the same, and whether there are bad records
 abbrev pub AreFound : ℕ → Place → Form → List ℕ → List Reading → List Ref → List ℕ → List ℕ → Bool → Type 0
 AreFound end where_ form local g remote old new has_bad =
-    (bad : List (List ℕ)) × AddsFound end where_ form local g remote bad old new × MatchBool has_bad (bad ≢ []) (bad ≡ [])
+    (bad : List (List ℕ)) × AddsFound end where_ form local g remote bad old new
+    × MatchBool has_bad (bad ≢ []) (bad ≡ [])
 
 -- the specs by which a pruning fetch deletes refs: the given ones, or without any the configured ones
 abbrev pub pruning_specs : List Reading → List Reading → List Reading
 pruning_specs [] configured = configured
 pruning_specs (r ∷ given) configured = r ∷ given
 
--- what `stale` reports of a plan: what is missing and in conflict, and if it is carried out, the local refs that it deletes
+-- what `stale` reports of a plan: what is missing and in conflict, and if it is carried out, the local refs that it
+-- deletes
 -- or keeps. Otherwise nothing follows, and the call is refused
-pub record AddsStale (task : Task) (form : Form) (wish : Wish) (refs : List Ref) (planned : List Planned) (lacking : List Origin) (before after : List ℕ) (refused : Bool) (old new : List ℕ) : Type 0 where
+pub record AddsStale (task : Task) (form : Form) (wish : Wish) (refs : List Ref) (planned : List Planned)
+    (lacking : List Origin) (before after : List ℕ) (refused : Bool) (old new : List ℕ) : Type 0 where
   pub texts : SpecTexts
   pub said : List ℕ
   pub ended : List ℕ
@@ -131,4 +142,5 @@ pub record AddsStale (task : Task) (form : Form) (wish : Wish) (refs : List Ref)
   pub missing : AddsMissing task.call.now.all form texts lacking before said old first
   pub conflicts : AddsConflicts task.call.now.all form texts (in_conflict_of planned) said ended first second
   pub outcome : ((¬ (IsCarriedOut planned lacking)) × (after ≡ ended) × (new ≡ second) × (refused ≡ true))
-      ⊎ (IsCarriedOut planned lacking × AreFound (end_byte task.call.now.ends) place.Alone form task.local.now (pruning_specs wish.given wish.configured) refs second new refused)
+      ⊎ (IsCarriedOut planned lacking × AreFound (end_byte task.call.now.ends) place.Alone form task.local.now
+      (pruning_specs wish.given wish.configured) refs second new refused)

@@ -34,21 +34,24 @@ WritesUpdateLine text p old new = (line : List ℕ) × IsUpdateLine text p line 
 abbrev pub AreUpdateLines : SpecTexts → List Planned → List ℕ → Type 0
 AreUpdateLines texts [] lines = lines ≡ []
 AreUpdateLines texts (p ∷ ps) lines =
-    (line : List ℕ) × (rest : List ℕ) × IsUpdateLine (text_of texts p.origin) p line × AreUpdateLines texts ps rest × (lines ≡ line ++ rest)
+    (line : List ℕ) × (rest : List ℕ) × IsUpdateLine (text_of texts p.origin) p line × AreUpdateLines texts ps rest
+    × (lines ≡ line ++ rest)
 
 abbrev pub AddsUpdateLines : SpecTexts → List Planned → List ℕ → List ℕ → Type 0
 AddsUpdateLines texts ps old new = (lines : List ℕ) × AreUpdateLines texts ps lines × (new ≡ old ++ lines)
 
 -- the four fields of an update, each ended by a zero byte; a missing destination is empty
 abbrev pub fields_with : List ℕ → Planned → List ℕ
-fields_with text p = ((zero_ended (source_text p.source) ++ zero_ended (unwrap_or p.destination [])) ++ zero_ended text) ++ zero_ended (origin_name p.origin)
+fields_with text p = ((zero_ended (source_text p.source) ++ zero_ended (unwrap_or p.destination [])) ++ zero_ended text)
+    ++ zero_ended (origin_name p.origin)
 
 abbrev pub update_fields : SpecTexts → Planned → List ℕ
 update_fields texts p = fields_with (text_of texts p.origin) p
 
 -- the object of an update, as a line
 abbrev pub object_with : List ℕ → Planned → List ℕ
-object_with text p = line_of (mapping_object (json_text (source_text p.source)) (option_map json_text p.destination) (json_text text) (Some (origin_name p.origin)))
+object_with text p = line_of (mapping_object (json_text (source_text p.source)) (option_map json_text p.destination)
+    (json_text text) (Some (origin_name p.origin)))
 
 abbrev pub update_object : SpecTexts → Planned → List ℕ
 update_object texts p = object_with (text_of texts p.origin) p

@@ -1,5 +1,6 @@
 -- Steps over white space and over digits.
-use Rattle.std.proofs.Common.{◌≡◌, ℕ, ◌+◌, ◌*◌, ◌<◌, ◌≤◌, List, [], ◌∷◌, length, get_or, drop, suc, sym, subst, arith, mul-le-mul_right, mul_comm, lt_of_lt_of_le}
+use Rattle.std.proofs.Common.{◌≡◌, ℕ, ◌+◌, ◌*◌, ◌<◌, ◌≤◌, List, [], ◌∷◌, length, get_or, drop, suc, sym, subst, arith}
+use Rattle.std.proofs.Common.{mul-le-mul_right, mul_comm, lt_of_lt_of_le}
 use Rattle.std.proofs.Math.Seq.{drop-cons}
 use Rattle.std.specs.Char.{digit_value}
 use Rattle.std.specs.Str.Parse.{digits_value_after}
@@ -18,7 +19,8 @@ digits_value_after-grows base n (d ∷ digits) low =
     omega arith
 
 -- a value that is too great with the next digit is so with all that follow
-pub too_great : (base value most i byte digit : ℕ) (digits : List ℕ) → 1 ≤ base → i < length digits → byte ≡ get_or digits i 0
+pub too_great : (base value most i byte digit : ℕ) (digits : List ℕ) → 1 ≤ base → i < length digits
+    → byte ≡ get_or digits i 0
     → digit ≡ digit_value byte → most < value * base + digit → most < digits_value_after base value (drop i digits)
 too_great base value most i byte digit digits low below is_byte is_digit great =
     let next : ℕ = value * base + digit_value byte in

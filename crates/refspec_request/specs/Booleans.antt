@@ -1,6 +1,8 @@
--- Booleans of Git's configuration, by git-config(1): words in any case, and integers. An integer is read as by strtoimax(3), and a
+-- Booleans of Git's configuration, by git-config(1): words in any case, and integers. An integer is read as by
+-- strtoimax(3), and a
 -- unit may follow it.
-use Rattle.std.specs.Prelude.{◌≡◌, ℕ, ◌-◌, ◌*◌, ◌<◌, ◌≤◌, ◌⊎◌, Bool, cond, ◌&&◌, ◌||◌, ◌==◌, nat_lt, List, [], ◌∷◌, map, take, drop, length, slice_index, codes}
+use Rattle.std.specs.Prelude.{◌≡◌, ℕ, ◌-◌, ◌*◌, ◌<◌, ◌≤◌, ◌⊎◌, Bool, cond, ◌&&◌, ◌||◌, ◌==◌, nat_lt, List, [], ◌∷◌, map}
+use Rattle.std.specs.Prelude.{take, drop, length, slice_index, codes}
 use Rattle.std.specs.Char.{to_ascii_lowercase}
 use Rattle.std.specs.Str.Parse.{IsNumeral, digits_value}
 use Rattle.refspec_request.specs.declared.booleans.Boolean.{Boolean}
@@ -22,7 +24,8 @@ after_sign text = drop (cond ((slice_index text 0 == 43) || (slice_index text 0 
 -- what a unit stands for: k, m and g, in either case; 1 if a byte is none
 abbrev pub factor_at : ℕ → ℕ
 factor_at b =
-    cond ((b == 107) || (b == 75)) 1024 (cond ((b == 109) || (b == 77)) 1048576 (cond ((b == 103) || (b == 71)) 1073741824 1))
+    cond ((b == 107) || (b == 75)) 1024
+    (cond ((b == 109) || (b == 77)) 1048576 (cond ((b == 103) || (b == 71)) 1073741824 1))
 
 -- the unit at the end of a number, and the number without it
 abbrev pub factor_of : List ℕ → ℕ
@@ -51,7 +54,8 @@ pub record IsInteger (text : List ℕ) (n : ℕ) : Type 0 where
 
 -- the words for true
 abbrev pub IsYes : List ℕ → Type 0
-IsYes text = let lower = map to_ascii_lowercase text in (lower ≡ codes "true") ⊎ (lower ≡ codes "yes") ⊎ (lower ≡ codes "on")
+IsYes text = let lower = map to_ascii_lowercase text in (lower ≡ codes "true") ⊎ (lower ≡ codes "yes")
+    ⊎ (lower ≡ codes "on")
 
 -- the words for false, and the empty text
 abbrev pub IsNo : List ℕ → Type 0

@@ -11,7 +11,8 @@ use Rattle.gix_refspec_text.specs.Matching.Side.{IsId}
 use Rattle.gix_refspec_text.specs.Matching.Match.{Ref, HasName, Matches, Takes}
 use Rattle.gix_refspec_match.specs.Matching.Mappings.{Mapped, HasPair}
 use Rattle.gix_refspec_match.specs.Views.Mapping.{ref_of}
-use Rattle.gix_refspec_match.specs.Matching.Hits.{Ends, AreForwardEnds, AreBackwardEnds, AreKeptForward, AreKeptBackward}
+use Rattle.gix_refspec_match.specs.Matching.Hits.{Ends, AreForwardEnds, AreBackwardEnds, AreKeptForward}
+use Rattle.gix_refspec_match.specs.Matching.Hits.{AreKeptBackward}
 use Rattle.gix_refspec_text.specs.Laws.Covering.{HasCoveringSource}
 use Rattle.gix_refspec.specs.Laws.Matching.{AreFetches, MakesForward, BeginsWithOne, AreExpansions}
 use Rattle.gix_refspec.specs.Matching.Asked.{ListsGroup}
@@ -21,14 +22,16 @@ abbrev pub ArePart : List Ref → List Ref → Type 0
 ArePart A B = (item : Ref) → Contains B item → Contains A item
 
 -- the reading takes the item
-pub record TakesItem (HasEnds : Reading → Ends → Type 0) (Taken : List ℕ → Ref → Option (List ℕ) → Type 0) (item : Ref) (r : Reading) : Type 0 where
+pub record TakesItem (HasEnds : Reading → Ends → Type 0) (Taken : List ℕ → Ref → Option (List ℕ) → Type 0) (item : Ref)
+    (r : Reading) : Type 0 where
   pub ends : Ends
   pub has : HasEnds r ends
   pub word : Option (List ℕ)
   pub takes : Taken ends.near item word
 
 -- B contains each item of A that some reading takes
-abbrev pub HasTaken : (Reading → Ends → Type 0) → (List ℕ → Ref → Option (List ℕ) → Type 0) → List Reading → List Ref → List Ref → Type 0
+abbrev pub HasTaken : (Reading → Ends → Type 0) → (List ℕ → Ref → Option (List ℕ) → Type 0) → List Reading → List Ref
+    → List Ref → Type 0
 HasTaken HasEnds Taken g A B = (item : Ref) → Contains A item → Any (TakesItem HasEnds Taken item) g → Contains B item
 
 -- two lists of mappings have the same pairs
@@ -38,8 +41,10 @@ HaveSamePairs l m = (pair : Mapped) → HasPair l pair ↔ HasPair m pair
 -- if B is a subset of A and contains each item of A that some reading takes, the same pairs are kept over B as over A.
 -- What a reading takes is what it takes among A: so the first candidate of a partial source isn't left out
 pub record FewerItems (g : List Reading) (A B : List Ref) : Type 0 where
-  pub forward : ArePart A B → HasTaken AreForwardEnds (Takes A) g A B → (kept fewer : List Mapped) → AreKeptForward g A kept → AreKeptForward g B fewer → HaveSamePairs kept fewer
-  pub backward : ArePart A B → HasTaken AreBackwardEnds Matches g A B → (kept fewer : List Mapped) → AreKeptBackward g A kept → AreKeptBackward g B fewer → HaveSamePairs kept fewer
+  pub forward : ArePart A B → HasTaken AreForwardEnds (Takes A) g A B → (kept fewer : List Mapped)
+      → AreKeptForward g A kept → AreKeptForward g B fewer → HaveSamePairs kept fewer
+  pub backward : ArePart A B → HasTaken AreBackwardEnds Matches g A B → (kept fewer : List Mapped)
+      → AreKeptBackward g A kept → AreKeptBackward g B fewer → HaveSamePairs kept fewer
 
 -- two lists of refs have the same names, in order
 abbrev pub HaveSameNames : List Ref → List Ref → Type 0
@@ -47,7 +52,8 @@ HaveSameNames A B = map (λ (r : Ref). r.name) A ≡ map (λ (r : Ref). r.name) 
 
 -- from left to right only the names of refs decide what is kept: refs with the same names have the same mappings
 abbrev pub NamesDecide : List Reading → List Ref → Type 0
-NamesDecide g A = (B : List Ref) → HaveSameNames A B → (kept : List Mapped) → AreKeptForward g A kept → AreKeptForward g B kept
+NamesDecide g A = (B : List Ref) → HaveSameNames A B → (kept : List Mapped) → AreKeptForward g A kept
+    → AreKeptForward g B kept
 
 -- the destination of the reading is an id
 abbrev pub HasIdDestination : Reading → Type 0
@@ -59,7 +65,8 @@ AsksForNoId g = AllByRecursion (λ r. ¬ (HasIdDestination r)) g
 
 -- so they decide from right to left if no destination is an id
 abbrev pub NamesDecideBack : List Reading → List Ref → Type 0
-NamesDecideBack g A = AsksForNoId g → (B : List Ref) → HaveSameNames A B → (kept : List Mapped) → AreKeptBackward g A kept → AreKeptBackward g B kept
+NamesDecideBack g A = AsksForNoId g → (B : List Ref) → HaveSameNames A B → (kept : List Mapped)
+    → AreKeptBackward g A kept → AreKeptBackward g B kept
 
 -- the reading fetches `HEAD`, and one of the refs has that name
 pub record FetchesHead (A : List Ref) (r : Reading) : Type 0 where
@@ -82,21 +89,28 @@ pub record AreListedItems (g : List Reading) (A B : List Ref) : Type 0 where
 -- over such items, no pair is lost that a listed reading makes, whatever the other readings are; and if each reading is
 -- listed, the same pairs are kept
 pub record ListedItems (g : List Reading) (A B : List Ref) : Type 0 where
-  pub some : AreListedItems g A B → (kept fewer : List Mapped) → AreKeptForward g A kept → AreKeptForward g B fewer → (pair : Mapped)
-      → HasPair kept pair → Any (λ r. IsListed A r × MakesForward A pair.source pair.destination r) g → HasPair fewer pair
-  pub all : AreListedItems g A B → AllByRecursion (IsListed A) g → (kept fewer : List Mapped) → AreKeptForward g A kept → AreKeptForward g B fewer → HaveSamePairs kept fewer
+  pub some : AreListedItems g A B → (kept fewer : List Mapped) → AreKeptForward g A kept → AreKeptForward g B fewer
+      → (pair : Mapped)
+      → HasPair kept pair → Any (λ r. IsListed A r × MakesForward A pair.source pair.destination r) g
+      → HasPair fewer pair
+  pub all : AreListedItems g A B → AllByRecursion (IsListed A) g → (kept fewer : List Mapped) → AreKeptForward g A kept
+      → AreKeptForward g B fewer → HaveSamePairs kept fewer
 
 -- ---- filters
 
 -- the filter passes each item that some reading takes
-abbrev pub PassesTaken : (Reading → Ends → Type 0) → (List ℕ → Ref → Option (List ℕ) → Type 0) → List Reading → List Item → (Item → Bool) → Type 0
-PassesTaken HasEnds Taken g items p = (item : Item) → Contains items item → Any (TakesItem HasEnds Taken (ref_of item)) g → IsTrue (p item)
+abbrev pub PassesTaken : (Reading → Ends → Type 0) → (List ℕ → Ref → Option (List ℕ) → Type 0) → List Reading
+    → List Item → (Item → Bool) → Type 0
+PassesTaken HasEnds Taken g items p = (item : Item) → Contains items item
+    → Any (TakesItem HasEnds Taken (ref_of item)) g → IsTrue (p item)
 
 -- the items that pass a filter are a subset of all. If each item that some reading takes passes, each is among them
 pub record FilteredItems (g : List Reading) (items some : List Item) : Type 0 where
   pub part : (p : Item → Bool) → some ≡ filter p items → ArePart (map ref_of items) (map ref_of some)
-  pub forward : (p : Item → Bool) → some ≡ filter p items → PassesTaken AreForwardEnds (Takes (map ref_of items)) g items p → HasTaken AreForwardEnds (Takes (map ref_of items)) g (map ref_of items) (map ref_of some)
-  pub backward : (p : Item → Bool) → some ≡ filter p items → PassesTaken AreBackwardEnds Matches g items p → HasTaken AreBackwardEnds Matches g (map ref_of items) (map ref_of some)
+  pub forward : (p : Item → Bool) → some ≡ filter p items → PassesTaken AreForwardEnds (Takes (map ref_of items)) g
+      items p → HasTaken AreForwardEnds (Takes (map ref_of items)) g (map ref_of items) (map ref_of some)
+  pub backward : (p : Item → Bool) → some ≡ filter p items → PassesTaken AreBackwardEnds Matches g items p
+      → HasTaken AreBackwardEnds Matches g (map ref_of items) (map ref_of some)
 
 -- whether the name begins with one of the entries
 abbrev pub is_begun : List (List ℕ) → List ℕ → Bool
@@ -105,7 +119,9 @@ is_begun entries n = list_any (λ entry. starts_with nat_eq n entry) entries
 -- so the items whose names begin with an entry of the expansion of the readings are listed items
 abbrev pub FilteredByEntries : List Reading → List Item → List Item → Type 0
 FilteredByEntries g items some =
-    (entries : List (List ℕ)) → AreExpansions g entries → some ≡ filter (λ item. is_begun entries (bstr_bytes item.full_ref_name)) items → AreListedItems g (map ref_of items) (map ref_of some)
+    (entries : List (List ℕ)) → AreExpansions g entries
+    → some ≡ filter (λ item. is_begun entries (bstr_bytes item.full_ref_name)) items
+    → AreListedItems g (map ref_of items) (map ref_of some)
 
 -- ---- ref prefixes
 
@@ -116,8 +132,11 @@ pub record AreAskedFor (list : List (List ℕ)) (A B : List Ref) : Type 0 where
 
 -- if the list is that of a group of fetches, the same pairs are kept over such items, also those of `HEAD`
 abbrev pub AskedItems : List Reading → List Ref → List Ref → Type 0
-AskedItems g A B = (list : List (List ℕ)) → ListsGroup g list → AreFetches g → AreAskedFor list A B → (kept fewer : List Mapped) → AreKeptForward g A kept → AreKeptForward g B fewer → HaveSamePairs kept fewer
+AskedItems g A B = (list : List (List ℕ)) → ListsGroup g list → AreFetches g → AreAskedFor list A B
+    → (kept fewer : List Mapped) → AreKeptForward g A kept → AreKeptForward g B fewer → HaveSamePairs kept fewer
 
 -- and the items whose names begin with a ref prefix of the list are such items
 abbrev pub FilteredByList : List Item → List Item → Type 0
-FilteredByList items some = (list : List (List ℕ)) → some ≡ filter (λ item. is_begun list (bstr_bytes item.full_ref_name)) items → AreAskedFor list (map ref_of items) (map ref_of some)
+FilteredByList items some = (list : List (List ℕ))
+    → some ≡ filter (λ item. is_begun list (bstr_bytes item.full_ref_name)) items → AreAskedFor list (map ref_of items)
+    (map ref_of some)

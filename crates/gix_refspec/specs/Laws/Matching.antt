@@ -15,7 +15,8 @@ use Rattle.gix_refspec_text.specs.Matching.Prefix.{IsAsked, IsExpansion}
 use Rattle.gix_refspec_text.specs.Laws.Covering.{HasCoveringSource}
 use Rattle.gix_refspec_match.specs.Matching.Lists.{IsJoinedFrom}
 use Rattle.gix_refspec_match.specs.Matching.Mappings.{Source, name, id, Mapped, HasPair, IsSourceExcluded}
-use Rattle.gix_refspec_match.specs.Matching.Hits.{Ends, AreForwardEnds, AreBackwardEnds, IsFilled, AreForward, AreBackward, AreKeptForward, AreKeptBackward}
+use Rattle.gix_refspec_match.specs.Matching.Hits.{Ends, AreForwardEnds, AreBackwardEnds, IsFilled, AreForward}
+use Rattle.gix_refspec_match.specs.Matching.Hits.{AreBackward, AreKeptForward, AreKeptBackward}
 
 -- ---- both directions
 
@@ -32,7 +33,8 @@ IsDestinationAmong refs (Some n) = HasName refs n
 -- the reading goes both ways: if it is positive and has two sides, both have a star, or both begin `refs/`.
 -- `main:refs/x/main` doesn't: it maps `refs/tags/main` to `refs/x/main`, but `refs/x/main` back to `refs/heads/main`
 abbrev pub GoesBothWays : Reading → Type 0
-GoesBothWays r = IsPositive r.mode → (s d : List ℕ) → r.source ≡ Some s → r.destination ≡ Some d → (HasStar s × HasStar d) ⊎ (BeginsWith (codes "refs/") s × BeginsWith (codes "refs/") d)
+GoesBothWays r = IsPositive r.mode → (s d : List ℕ) → r.source ≡ Some s → r.destination ≡ Some d
+    → (HasStar s × HasStar d) ⊎ (BeginsWith (codes "refs/") s × BeginsWith (codes "refs/") d)
 
 -- if each reading goes both ways: a pair is kept from left to right over the refs A, with its destination among the
 -- refs B, exactly if it is kept from right to left over B, with its source among A. So both directions exclude the
@@ -45,14 +47,16 @@ Transpose g A B =
 -- ---- when a pair is kept
 
 -- a side takes the ref r, whose name is n, and the other side becomes far
-pub record IsPaired (Taken : List ℕ → Ref → Option (List ℕ) → Type 0) (ends : Ends) (n : List ℕ) (far : Option (List ℕ)) (r : Ref) : Type 0 where
+pub record IsPaired (Taken : List ℕ → Ref → Option (List ℕ) → Type 0) (ends : Ends) (n : List ℕ) (far : Option (List ℕ))
+    (r : Ref) : Type 0 where
   pub word : Option (List ℕ)
   pub name : r.name ≡ n
   pub takes : Taken ends.near r word
   pub becomes : IsFilled ends.far word far
 
 -- the reading takes one of the items, whose name is n, and its other side becomes far
-pub record PairsItem (HasEnds : Reading → Ends → Type 0) (Taken : List ℕ → Ref → Option (List ℕ) → Type 0) (items : List Ref) (n : List ℕ) (far : Option (List ℕ)) (r : Reading) : Type 0 where
+pub record PairsItem (HasEnds : Reading → Ends → Type 0) (Taken : List ℕ → Ref → Option (List ℕ) → Type 0)
+    (items : List Ref) (n : List ℕ) (far : Option (List ℕ)) (r : Reading) : Type 0 where
   pub ends : Ends
   pub has : HasEnds r ends
   pub one : Any (IsPaired Taken ends n far) items
@@ -79,9 +83,11 @@ MakesBackward items (id bytes) far r = ⊥
 -- a pair is kept exactly if some reading makes it, and none excludes its source
 pub record KeptExactly (g : List Reading) (items : List Ref) : Type 0 where
   pub forward : (kept : List Mapped) → AreKeptForward g items kept → (pair : Mapped)
-      → HasPair kept pair ↔ (Any (MakesForward items pair.source pair.destination) g × ¬ (IsSourceExcluded g pair.source))
+      → HasPair kept pair ↔ (Any (MakesForward items pair.source pair.destination) g
+      × ¬ (IsSourceExcluded g pair.source))
   pub backward : (kept : List Mapped) → AreKeptBackward g items kept → (pair : Mapped)
-      → HasPair kept pair ↔ (Any (MakesBackward items pair.source pair.destination) g × ¬ (IsSourceExcluded g pair.source))
+      → HasPair kept pair ↔ (Any (MakesBackward items pair.source pair.destination) g
+      × ¬ (IsSourceExcluded g pair.source))
 
 -- the mapping is in the list, none before it has its pair, and no reading excludes its source
 pub record IsFirstOfPair (g : List Reading) (l : List Mapped) (m : Mapped) : Type 0 where
@@ -93,12 +99,15 @@ pub record IsFirstOfPair (g : List Reading) (l : List Mapped) (m : Mapped) : Typ
 
 -- of the mappings with one pair only the first is kept, unchanged, if no reading excludes its source
 pub record FirstStays (g : List Reading) (items : List Ref) : Type 0 where
-  pub forward : (all kept : List Mapped) → AreForward g items all → AreKeptForward g items kept → (m : Mapped) → Contains kept m ↔ IsFirstOfPair g all m
-  pub backward : (all kept : List Mapped) → AreBackward g items all → AreKeptBackward g items kept → (m : Mapped) → Contains kept m ↔ IsFirstOfPair g all m
+  pub forward : (all kept : List Mapped) → AreForward g items all → AreKeptForward g items kept → (m : Mapped)
+      → Contains kept m ↔ IsFirstOfPair g all m
+  pub backward : (all kept : List Mapped) → AreBackward g items all → AreKeptBackward g items kept → (m : Mapped)
+      → Contains kept m ↔ IsFirstOfPair g all m
 
 -- no kept mapping, in either direction, has a source that some reading excludes; and none excludes an id
 pub record NothingExcluded (g : List Reading) (items : List Ref) : Type 0 where
-  pub names : (list : List Mapped) → AreKeptForward g items list ⊎ AreKeptBackward g items list → AllByRecursion (λ m. ¬ (IsSourceExcluded g m.source)) list
+  pub names : (list : List Mapped) → AreKeptForward g items list ⊎ AreKeptBackward g items list
+      → AllByRecursion (λ m. ¬ (IsSourceExcluded g m.source)) list
   pub ids : (bytes : List ℕ) → ¬ (IsSourceExcluded g (id bytes))
 
 -- ---- groups that map alike
@@ -165,7 +174,8 @@ AtSpec g m P = (r : Reading) × (slice_get g m.spec ≡ Some r) × P r
 
 -- for each mapping kept from left to right whose source is a name, P holds of the reading of its spec and this name
 abbrev pub EachSource : List Reading → List Ref → (Reading → List ℕ → Type 0) → Type 0
-EachSource g items P = (kept : List Mapped) → AreKeptForward g items kept → AllByRecursion (λ m. (n : List ℕ) → m.source ≡ name n → AtSpec g m (λ r. P r n)) kept
+EachSource g items P = (kept : List Mapped) → AreKeptForward g items kept
+    → AllByRecursion (λ m. (n : List ℕ) → m.source ≡ name n → AtSpec g m (λ r. P r n)) kept
 
 -- each name that a spec maps from left to right begins with an entry of the expansion of this spec, if that is to cover
 -- the name, whatever the other specs are
@@ -174,4 +184,5 @@ Cover g items = EachSource g items (λ r n. AsksFor r n → IsCoveredBy n r)
 
 -- and so with an entry of the expansion of the group
 abbrev pub CoverTogether : List Reading → List Ref → Type 0
-CoverTogether g items = (entries : List (List ℕ)) → AreExpansions g entries → EachSource g items (λ r n. AsksFor r n → BeginsWithOne entries n)
+CoverTogether g items = (entries : List (List ℕ)) → AreExpansions g entries
+    → EachSource g items (λ r n. AsksFor r n → BeginsWithOne entries n)

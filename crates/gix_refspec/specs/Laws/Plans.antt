@@ -41,7 +41,8 @@ pub record AreToldApart (g : List Reading) (items : List Ref) (rest : List Mappe
 
 -- that holds after a validation of what was matched among items, for all items and specs
 abbrev pub PlansApart : Type 0
-PlansApart = (g : List Reading) (items : List Ref) (l rest : List Mapped) (fixes : List Removed) → AreKeptForward g items l → IsValidated g l rest fixes → AreToldApart g items rest fixes
+PlansApart = (g : List Reading) (items : List Ref) (l rest : List Mapped) (fixes : List Removed)
+    → AreKeptForward g items l → IsValidated g l rest fixes → AreToldApart g items rest fixes
 
 -- ---- control characters: bytes below 32
 
@@ -67,5 +68,7 @@ MappedLacks b m = SourceLacks b m.source × LacksIn b m.destination
 -- item contains such a byte, no mapping does
 pub record NoControlCharacter : Type 0 where
   pub sides : (b : ℕ) (text : List ℕ) (r : Reading) → b < 32 → Reads Fetch text r → SidesLack b r
-  pub texts : (b : ℕ) (text : List ℕ) (r : Reading) (canonical : List ℕ) → b < 32 → Reads Fetch text r → printed r ≡ Some canonical → Lacks b canonical
-  pub mapped : (b : ℕ) (g : List Reading) (items : List Ref) (l : List Mapped) → b < 32 → AllByRecursion (SidesLack b) g → AllByRecursion (λ r. Lacks b r.name) items → AreKeptForward g items l → AllByRecursion (MappedLacks b) l
+  pub texts : (b : ℕ) (text : List ℕ) (r : Reading) (canonical : List ℕ) → b < 32 → Reads Fetch text r
+      → printed r ≡ Some canonical → Lacks b canonical
+  pub mapped : (b : ℕ) (g : List Reading) (items : List Ref) (l : List Mapped) → b < 32 → AllByRecursion (SidesLack b) g
+      → AllByRecursion (λ r. Lacks b r.name) items → AreKeptForward g items l → AllByRecursion (MappedLacks b) l

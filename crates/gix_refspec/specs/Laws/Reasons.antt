@@ -8,4 +8,5 @@ use Rattle.gix_refspec_text.specs.Specs.Refusal.{Refusal, IsFirstReason, IsRefus
 
 -- a text is refused for the first reason that applies to its parts, since then it has no reading
 abbrev pub ReasonRefuses : Operation → List ℕ → Type 0
-ReasonRefuses op text = (mode : Mode) (source : List ℕ) (destination : Option (List ℕ)) (e : Refusal) → AreParts mode source destination text → IsFirstReason op mode source destination e → IsRefused op text e
+ReasonRefuses op text = (mode : Mode) (source : List ℕ) (destination : Option (List ℕ)) (e : Refusal)
+    → AreParts mode source destination text → IsFirstReason op mode source destination e → IsRefused op text e

@@ -27,7 +27,8 @@ pub record IsOutcomeCopy {forward : ℕ} (o copy : Outcome forward) : Type 0 whe
 pub record HaveSameData {forward : ℕ} (o copy : Outcome forward) : Type 0 where
   pub readings : readings_of copy.group ≡ readings_of o.group
   pub mappings : map mapped_of copy.mappings.items ≡ map mapped_of o.mappings.items
-  pub validated : ValidateAlike (readings_of o.group) (map mapped_of o.mappings.items) (readings_of copy.group) (map mapped_of copy.mappings.items)
+  pub validated : ValidateAlike (readings_of o.group) (map mapped_of o.mappings.items) (readings_of copy.group)
+      (map mapped_of copy.mappings.items)
 
 -- an outcome and its copy have the same data
 abbrev pub CopiedOutcome : {forward : ℕ} → Outcome forward → Outcome forward → Type 0

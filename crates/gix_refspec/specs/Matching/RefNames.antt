@@ -15,7 +15,8 @@ use Rattle.gix_refspec_text.specs.Matching.Match.{Ref}
 use Rattle.gix_refspec_match.specs.Matching.Mappings.{Source, name, id, Mapped}
 use Rattle.gix_refspec_match.specs.Views.Mapping.{mapped_of}
 use Rattle.gix_refspec_match.specs.Matching.Hits.{AreKeptForward}
-use Rattle.gix_refspec.specs.Matching.Validation.{IndexesFit, ForwardIndexes, IsValidated, HaveDistinctDestinations, Removed}
+use Rattle.gix_refspec.specs.Matching.Validation.{IndexesFit, ForwardIndexes, IsValidated, HaveDistinctDestinations}
+use Rattle.gix_refspec.specs.Matching.Validation.{Removed}
 
 -- n is a valid ref name: it begins `refs/` and is a name, or it is `HEAD`
 abbrev pub IsRefName : List ℕ → Type 0
@@ -74,7 +75,8 @@ pub record KeepsRefNames (l rest : List Mapped) (out : List LeftOut) : Type 0 wh
 -- does, and no byte is a control character
 pub record StaysAmongRefs (n : List ℕ) : Type 0 where
   pub below : BeginsWith (codes "refs/") n ⊎ (n ≡ head)
-  pub components : (parts : List (List ℕ)) → ArePartsAt slash parts n → AllByRecursion (λ w. (w ≢ []) × ¬ (BeginsWith (codes ".") w)) parts
+  pub components : (parts : List (List ℕ)) → ArePartsAt slash parts n
+      → AllByRecursion (λ w. (w ≢ []) × ¬ (BeginsWith (codes ".") w)) parts
   pub bytes : AllByRecursion (λ b. (32 ≤ b) × (b ≢ 127)) n
 
 -- a destination of the mapping is a valid ref name, and as a path stays among the refs
@@ -84,7 +86,13 @@ WritesRef m = (d : List ℕ) → m.destination ≡ Some d → IsRefName d × Sta
 -- if mappings are validated, and checked for names before or after, each destination is a ref; and if they came from
 -- items, no two have the same destination. What the check of names keeps has its indexes unchanged
 pub record WritesRefs (g : List Reading) (items : List Ref) : Type 0 where
-  pub before : (l named rest : List Mapped) (out : List LeftOut) (fixes : List Removed) → KeepsRefNames l named out → IsValidated g named rest fixes → AllByRecursion WritesRef rest × (AreKeptForward g items l → HaveDistinctDestinations rest)
-  pub after : (l rest named : List Mapped) (fixes : List Removed) (out : List LeftOut) → IsValidated g l rest fixes → KeepsRefNames rest named out → AllByRecursion WritesRef named × (AreKeptForward g items l → HaveDistinctDestinations named)
-  pub fits : (l named : List Mapped) (out : List LeftOut) → KeepsRefNames l named out → IndexesFit g l → IndexesFit g named
-  pub indexes : (l named : List Mapped) (out : List LeftOut) → KeepsRefNames l named out → AllByRecursion (ForwardIndexes g items) l → AllByRecursion (ForwardIndexes g items) named
+  pub before : (l named rest : List Mapped) (out : List LeftOut) (fixes : List Removed) → KeepsRefNames l named out
+      → IsValidated g named rest fixes → AllByRecursion WritesRef rest
+      × (AreKeptForward g items l → HaveDistinctDestinations rest)
+  pub after : (l rest named : List Mapped) (fixes : List Removed) (out : List LeftOut) → IsValidated g l rest fixes
+      → KeepsRefNames rest named out → AllByRecursion WritesRef named
+      × (AreKeptForward g items l → HaveDistinctDestinations named)
+  pub fits : (l named : List Mapped) (out : List LeftOut) → KeepsRefNames l named out → IndexesFit g l
+      → IndexesFit g named
+  pub indexes : (l named : List Mapped) (out : List LeftOut) → KeepsRefNames l named out
+      → AllByRecursion (ForwardIndexes g items) l → AllByRecursion (ForwardIndexes g items) named

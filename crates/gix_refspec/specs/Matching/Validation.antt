@@ -93,7 +93,8 @@ pub record IsValidated (g : List Reading) (l rest : List Mapped) (fixes : List R
 
 -- mappings of the list with the same destination have the same source
 abbrev pub DestinationsHaveOneSource : List Mapped → Type 0
-DestinationsHaveOneSource l = (m n : Mapped) (d : List ℕ) → Contains l m → Contains l n → m.destination ≡ Some d → n.destination ≡ Some d → m.source ≡ n.source
+DestinationsHaveOneSource l = (m n : Mapped) (d : List ℕ) → Contains l m → Contains l n → m.destination ≡ Some d
+    → n.destination ≡ Some d → m.source ≡ n.source
 
 -- the mappings have the same destination
 abbrev pub ShareDestination : Mapped → Mapped → Type 0
@@ -107,7 +108,8 @@ HaveDistinctDestinations (m ∷ l) = AllByRecursion (λ n. ¬ (ShareDestination 
 -- after a validation, mappings with the same destination have the same source; if the mappings came from items, no two
 -- have the same destination
 abbrev pub ValidatedOnce : List Reading → List Ref → Type 0
-ValidatedOnce g items = (l rest : List Mapped) (fixes : List Removed) → IsValidated g l rest fixes → DestinationsHaveOneSource rest × (AreKeptForward g items l → HaveDistinctDestinations rest)
+ValidatedOnce g items = (l rest : List Mapped) (fixes : List Removed) → IsValidated g l rest fixes
+    → DestinationsHaveOneSource rest × (AreKeptForward g items l → HaveDistinctDestinations rest)
 
 -- the spec indexes of mappings that came from items are in the group
 abbrev pub ForwardFits : List Reading → List Ref → Type 0
@@ -133,4 +135,5 @@ pub record BackwardIndexes (g : List Reading) (items : List Ref) (m : Mapped) : 
 pub record ItemIndexesFit (g : List Reading) (items : List Ref) : Type 0 where
   pub forward : (l : List Mapped) → AreKeptForward g items l → AllByRecursion (ForwardIndexes g items) l
   pub backward : (l : List Mapped) → AreKeptBackward g items l → AllByRecursion (BackwardIndexes g items) l
-  pub validated : (l rest : List Mapped) (fixes : List Removed) → IsValidated g l rest fixes → AllByRecursion (ForwardIndexes g items) l → AllByRecursion (ForwardIndexes g items) rest
+  pub validated : (l rest : List Mapped) (fixes : List Removed) → IsValidated g l rest fixes
+      → AllByRecursion (ForwardIndexes g items) l → AllByRecursion (ForwardIndexes g items) rest

@@ -64,7 +64,8 @@ pub record IsConflictOf (g : List Reading) (l : List Mapped) (run : List Update)
 
 -- a single update of a destination adds no conflict, and several append theirs
 abbrev pub AddsConflict : List Reading → List Mapped → List Update → List Conflict → List Conflict → Type 0
-AddsConflict g l run old new = ((length run ≤ 1) × (new ≡ old)) ⊎ ((c : Conflict) × (1 < length run) × IsConflictOf g l run c × (new ≡ old ++ c ∷ []))
+AddsConflict g l run old new = ((length run ≤ 1) × (new ≡ old))
+    ⊎ ((c : Conflict) × (1 < length run) × IsConflictOf g l run c × (new ≡ old ++ c ∷ []))
 
 -- the destinations, without missing ones
 abbrev pub all_destinations : List Mapped → List (List ℕ)

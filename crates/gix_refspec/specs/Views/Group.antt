@@ -13,7 +13,10 @@ use Rattle.gix_refspec_text.specs.Specs.Reading.{Reading}
 use Rattle.gix_refspec_text.specs.Views.Spec.{reading_of}
 use Rattle.gix_refspec_text.specs.Matching.Match.{Ref}
 use Rattle.gix_refspec_match.specs.Matching.Mappings.{Mapped}
-pub use Rattle.gix_refspec_match.specs.Views.Mapping.{mapped_of, ref_of, name_bytes, start_of, IsBorrowed, IsOwned, IsLent, IsOwnedSource, HasOwned, IsNameCopy, IsSourceCopy, IsDestinationCopy, IsMappingCopy, AreMappingCopies, text_of_source}
+pub use Rattle.gix_refspec_match.specs.Views.Mapping.{mapped_of, ref_of, name_bytes, start_of, IsBorrowed, IsOwned}
+pub use Rattle.gix_refspec_match.specs.Views.Mapping.{IsLent, IsOwnedSource, HasOwned, IsNameCopy, IsSourceCopy}
+pub use Rattle.gix_refspec_match.specs.Views.Mapping.{IsDestinationCopy, IsMappingCopy, AreMappingCopies}
+pub use Rattle.gix_refspec_match.specs.Views.Mapping.{text_of_source}
 
 -- the readings of the specs of a group
 abbrev pub readings_of : MatchGroup → List Reading
@@ -24,7 +27,8 @@ abbrev pub Maps : (List Reading → List Ref → List Mapped → Type 0) → Mat
 Maps relation group items mappings = relation (readings_of group) (map ref_of items) (map mapped_of mappings)
 
 -- the outcome has the unchanged group, and mappings of the relation
-abbrev pub IsOutcome : {forward : ℕ} → (List Reading → List Ref → List Mapped → Type 0) → MatchGroup → List Item → Outcome forward → Type 0
+abbrev pub IsOutcome : {forward : ℕ} → (List Reading → List Ref → List Mapped → Type 0) → MatchGroup → List Item
+    → Outcome forward → Type 0
 IsOutcome relation group items o = (o.group ≡ group) × Maps relation group items o.mappings.items
 
 -- whether two operations are the same
@@ -40,7 +44,8 @@ is_for operation s = is_same_operation operation s.op
 
 -- the specs of the group are those for the operation that the iterator of a source yields until it ends, in order.
 -- `becomes` relates a source to its iterator, and `steps` is what `next` of the iterator does
-pub record IsGathered {U T : Type 0} (becomes : U → T → Type 0) (steps : T → Option RefSpecRef → T → Type 0) (op : Operation) (source : U) (group : MatchGroup) : Type 0 where
+pub record IsGathered {U T : Type 0} (becomes : U → T → Type 0) (steps : T → Option RefSpecRef → T → Type 0)
+    (op : Operation) (source : U) (group : MatchGroup) : Type 0 where
   pub iterator : T
   pub all : List RefSpecRef
   pub made : becomes source iterator

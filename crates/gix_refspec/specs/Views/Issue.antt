@@ -25,7 +25,13 @@ mappings_of o = map mapped_of o.mappings.items
 
 -- the conflict that an issue reports
 abbrev pub conflict_of : Issue → Conflict
-conflict_of (issue.Conflict d sources texts) = record { destination = bstring_bytes d; sources = map start_of sources.items; texts = map bstring_bytes texts.items }
+conflict_of (issue.Conflict d sources texts) =
+    record {
+      destination = bstring_bytes d;
+      sources = map start_of sources.items;
+      texts =
+          map bstring_bytes texts.items;
+    }
 
 -- the conflicts that an error reports
 abbrev pub conflicts_of : Error → List Conflict
@@ -33,7 +39,8 @@ conflicts_of e = map conflict_of e.issues.items
 
 -- the mapping that a fix removed
 abbrev pub removed_of : Fix → Removed
-removed_of (fix.MappingWithPartialDestinationRemoved n s) = record { destination = bstring_bytes n; spec = owned_reading_of s }
+removed_of (fix.MappingWithPartialDestinationRemoved n s) =
+    record { destination = bstring_bytes n; spec = owned_reading_of s }
 
 -- two fixes removed mappings with the same destination, whose specs mean the same
 pub record IsSameFix (a b : Fix) : Type 0 where

@@ -1,12 +1,19 @@
 -- Examples of what the configuration of a remote asks for, each on one side of a border.
-use Rattle.gix_refspec_lint.proofs.Common.{◌≢◌, inl, inr, ℕ, true, false, List, [], ◌∷◌, ◌++◌, Option, Some, codes, refl, subst, arith}
-use Rattle.gix_refspec_lint.proofs.Common.{same_Some, of_element, every, heads_split, split_at_end, other_byte, other_first, Lacks-tested, lacks_no_pattern, one_name, BeginsWith, the_name}
-use Rattle.gix_refspec_lint.proofs.Common.{HasKind, full_name, Ref, fetched, Forced, Normal, Reading, head, star, Source, id, name, IsExcluded, IsExcludedBy, IsRefName, CanBeWritten}
-use Rattle.gix_refspec_lint.proofs.Common.{IsCompleted, ref_named, AreStorable, ConflictOver, DoesBefore, Example, Fetches, IsAlwaysEarlier, IsExample, IsIdleBy, IsIdleExclusion, Maps, MapsSoundly}
-use Rattle.gix_refspec_lint.proofs.Common.{refs_of, specs_of}
-use Rattle.gix_refspec_lint.proofs.facts.LintFacts.{below, both, completed_as, every_never, full_name_idle, heads_seven, made_by, main_twice, maps_in, no, seven}
-use Rattle.gix_refspec_lint.proofs.lemmas.{PatternLemmas.{spec_made, two_patterns}, SourceLemmas.sources_there, StorableLemmas.pair_storable}
-use Rattle.gix_refspec_lint.proofs.lemmas.RequiredLemmas.{dispensable_by, had_itself, had_next, named_are, none_had, required_by}
+use Rattle.gix_refspec_lint.proofs.Common.{◌≢◌, inl, inr, ℕ, true, false, List, [], ◌∷◌, ◌++◌, Option, Some, codes}
+use Rattle.gix_refspec_lint.proofs.Common.{refl, subst, arith, same_Some, of_element, every, heads_split, split_at_end}
+use Rattle.gix_refspec_lint.proofs.Common.{other_byte, other_first, Lacks-tested, lacks_no_pattern, one_name}
+use Rattle.gix_refspec_lint.proofs.Common.{BeginsWith, the_name, HasKind, full_name, Ref, fetched, Forced, Normal}
+use Rattle.gix_refspec_lint.proofs.Common.{Reading, head, star, Source, id, name, IsExcluded, IsExcludedBy, IsRefName}
+use Rattle.gix_refspec_lint.proofs.Common.{CanBeWritten, IsCompleted, ref_named, AreStorable, ConflictOver, DoesBefore}
+use Rattle.gix_refspec_lint.proofs.Common.{Example, Fetches, IsAlwaysEarlier, IsExample, IsIdleBy, IsIdleExclusion}
+use Rattle.gix_refspec_lint.proofs.Common.{Maps, MapsSoundly, refs_of, specs_of}
+use Rattle.gix_refspec_lint.proofs.facts.LintFacts.{below, both, completed_as, every_never, full_name_idle, heads_seven}
+use Rattle.gix_refspec_lint.proofs.facts.LintFacts.{made_by, main_twice, maps_in, no, seven}
+use Rattle.gix_refspec_lint.proofs.lemmas.PatternLemmas.{spec_made, two_patterns}
+use Rattle.gix_refspec_lint.proofs.lemmas.SourceLemmas.{sources_there}
+use Rattle.gix_refspec_lint.proofs.lemmas.StorableLemmas.{pair_storable}
+use Rattle.gix_refspec_lint.proofs.lemmas.RequiredLemmas.{dispensable_by, had_itself, had_next, named_are, none_had}
+use Rattle.gix_refspec_lint.proofs.lemmas.RequiredLemmas.{required_by}
 use Rattle.gix_refspec_plan.proofs.lemmas.plan.MadeLemmas.{one_in}
 use Rattle.gix_refspec_text.specs.Specs.Reading.{all_tags}
 use Rattle.gix_refspec_lint.specs.Matching.Lint.{FetchesBeside, IsCoveredBy, IsDispensable, IsRequired}
@@ -101,7 +108,8 @@ dev_excluded =
       excludes = the_name (Lacks-tested star (codes "refs/heads/dev") refl) refl;
     }
 
--- a negative spec that excludes a merged ref isn't idle, be its value full or short; nor is one of `HEAD` where the value is empty
+-- a negative spec that excludes a merged ref isn't idle, be its value full or short; nor is one of `HEAD` where the
+-- value is empty
 pub excludes_merged : ¬ (IsIdleExclusion (main_alone ∷ no_dev ∷ []) (codes "refs/heads/dev" ∷ []) no_dev)
     × ¬ (IsIdleExclusion (main_alone ∷ no_dev ∷ []) (codes "dev" ∷ []) no_dev)
     × ¬ (IsIdleExclusion (main_alone ∷ no head ∷ []) ([] ∷ []) (no head))
@@ -202,7 +210,10 @@ covered_by =
     } in (
       (always, shown),
       λ is. only_seven
-          (is.0 refs_of_eight eight (Some (codes "refs/remotes/origin/pr/8")) (inl (below (codes "heads/pr/8") refl), tt)
+          (is.0 refs_of_eight eight (Some (codes "refs/remotes/origin/pr/8")) (
+            inl (below (codes "heads/pr/8") refl),
+            tt,
+          )
           (record { maps = maps_eight; included = included _ })),
     )
   where

@@ -1,6 +1,8 @@
 -- The refs that a branch may merge.
-use Rattle.gix_refspec_lint.proofs.Common.{◌≡◌, ◌⊎◌, inl, inr, ℕ, zero, ◌+◌, ◌<◌, List, [], ◌∷◌, ◌++◌, length, map, map-append, get_or, take, take_more, refl, sym}
-use Rattle.gix_refspec_lint.proofs.Common.{subst, arith, Contains, Contains-append_left, Contains-append_right, Contains-push_cases, candidates, Source, name, merged_text}
+use Rattle.gix_refspec_lint.proofs.Common.{◌≡◌, ◌⊎◌, inl, inr, ℕ, zero, ◌+◌, ◌<◌, List, [], ◌∷◌, ◌++◌, length, map}
+use Rattle.gix_refspec_lint.proofs.Common.{map-append, get_or, take, take_more, refl, sym, subst, arith, Contains}
+use Rattle.gix_refspec_lint.proofs.Common.{Contains-append_left, Contains-append_right, Contains-push_cases, candidates}
+use Rattle.gix_refspec_lint.proofs.Common.{Source, name, merged_text}
 use Rattle.bstr.specs.{BStr.bstr_bytes, declared.bstr.BStr.BStr}
 use Rattle.gix_refspec_lint.specs.Private.Idles.{AddsMergedRefs, AreMergedRefs, AreValidOf}
 

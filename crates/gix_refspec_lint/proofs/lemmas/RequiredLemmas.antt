@@ -1,9 +1,13 @@
 -- Which missing sources stop a fetch.
-use Rattle.gix_refspec_lint.proofs.Common.{◌≡◌, ◌≢◌, ◌⊎◌, ◌↔◌, inl, inr, ℕ, zero, suc, ◌+◌, ◌<◌, ◌≤◌, Bool, true, false, MatchBool, List, [], ◌∷◌, ◌++◌, Option, None, Some}
-use Rattle.gix_refspec_lint.proofs.Common.{length, map, map-id, map_split, take, drop, refl, sym, ap, ◌∙◌, subst, arith, AllByRecursion, AllZip, Contains, slice_get, same_Some}
-use Rattle.gix_refspec_lint.proofs.Common.{of_element, item_named, Ref, HasName, Matches, MatchesAs, SideKind, pattern, full_name, object, partial, HasKind, candidates}
-use Rattle.gix_refspec_lint.proofs.Common.{candidate_contained, matches_as, one_kind, IsPositive, Reading, IsRefName, AreValid, IsCompleted, ref_named, mapped_there, upto}
-use Rattle.gix_refspec_lint.proofs.Common.{map_each, slice_get_within, BString, bstring_bytes, map-append, Contains-append_left, Contains-append_right, Contains-push_cases}
+use Rattle.gix_refspec_lint.proofs.Common.{◌≡◌, ◌≢◌, ◌⊎◌, ◌↔◌, inl, inr, ℕ, zero, suc, ◌+◌, ◌<◌, ◌≤◌, Bool, true, false}
+use Rattle.gix_refspec_lint.proofs.Common.{MatchBool, List, [], ◌∷◌, ◌++◌, Option, None, Some, length, map, map-id}
+use Rattle.gix_refspec_lint.proofs.Common.{map_split, take, drop, refl, sym, ap, ◌∙◌, subst, arith, AllByRecursion}
+use Rattle.gix_refspec_lint.proofs.Common.{AllZip, Contains, slice_get, same_Some, of_element, item_named, Ref, HasName}
+use Rattle.gix_refspec_lint.proofs.Common.{Matches, MatchesAs, SideKind, pattern, full_name, object, partial, HasKind}
+use Rattle.gix_refspec_lint.proofs.Common.{candidates, candidate_contained, matches_as, one_kind, IsPositive, Reading}
+use Rattle.gix_refspec_lint.proofs.Common.{IsRefName, AreValid, IsCompleted, ref_named, mapped_there, upto, map_each}
+use Rattle.gix_refspec_lint.proofs.Common.{slice_get_within, BString, bstring_bytes, map-append, Contains-append_left}
+use Rattle.gix_refspec_lint.proofs.Common.{Contains-append_right, Contains-push_cases}
 use Rattle.gix_refspec_lint.proofs.lemmas.{IdleLemmas.each_named, IndexLemmas.{all_listed, completed_at, zip_of}}
 use Rattle.gix_refspec.proofs.lemmas.keep.FilterLemmas.{name_there}
 use Rattle.gix_refspec_match.specs.Matching.Missing.{LacksSource}
@@ -139,7 +143,8 @@ had_beside q names others n other there none =
 
 -- ---- all others
 
--- some valid refs, none of them of these names, because of which the sources of the first specs aren't missing, but for one
+-- some valid refs, none of them of these names, because of which the sources of the first specs aren't missing, but for
+-- one
 pub record AreHad (cs : List Reading) (index : ℕ) (names : List (List ℕ)) (at : ℕ) : Type 0 where
   pub others : List (List ℕ)
   pub valid : AllByRecursion IsRefName others

@@ -1,6 +1,8 @@
 -- Refs that a repository can have: no name is a directory of another.
-use Rattle.gix_refspec_lint.proofs.Common.{◌≡◌, ◌↔◌, inl, inr, Bool, true, false, not, false≢true, IsTrue, MatchBool, ℕ, List, [], ◌∷◌, ◌++◌, codes, append_assoc, refl, sym, ap, ◌∙◌}
-use Rattle.gix_refspec_lint.proofs.Common.{subst, Lacks, HasName, Ref, Source, name, id, ref_named, refs_of, AreStorable, IsDirectoryOf}
+use Rattle.gix_refspec_lint.proofs.Common.{◌≡◌, ◌↔◌, inl, inr, Bool, true, false, not, false≢true, IsTrue, MatchBool, ℕ}
+use Rattle.gix_refspec_lint.proofs.Common.{List, [], ◌∷◌, ◌++◌, codes, append_assoc, refl, sym, ap, ◌∙◌, subst, Lacks}
+use Rattle.gix_refspec_lint.proofs.Common.{HasName, Ref, Source, name, id, ref_named, refs_of, AreStorable}
+use Rattle.gix_refspec_lint.proofs.Common.{IsDirectoryOf}
 use Rattle.gix_refspec_text.proofs.lemmas.lists.LacksLemmas.{first_once}
 use Rattle.gix_refspec_plan.proofs.lemmas.plan.DirectoryLemmas.{not_itself}
 
@@ -19,7 +21,8 @@ pair_storable n m one other a b (inr (inr none)) also d = none
 
 -- as is told of the second name, where the first isn't a directory of it
 pub together_told : (n m : List ℕ) (b : Bool) → ¬ (IsDirectoryOf n m) → IsTrue b ↔ IsDirectoryOf m n
-    → MatchBool (not b) (AreStorable (ref_named n ∷ ref_named m ∷ [])) (¬ (AreStorable (ref_named n ∷ ref_named m ∷ [])))
+    → MatchBool (not b) (AreStorable (ref_named n ∷ ref_named m ∷ []))
+    (¬ (AreStorable (ref_named n ∷ ref_named m ∷ [])))
 together_told n m true one other = λ all. all m n (inr (inl refl)) (inl refl) (other.0 refl)
 together_told n m false one other = pair_storable n m one (λ d. false≢true (other.1 d))
 

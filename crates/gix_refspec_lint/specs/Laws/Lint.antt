@@ -9,7 +9,9 @@ use Rattle.gix_refspec_text.specs.Matching.Match.{Ref}
 use Rattle.gix_refspec_match.specs.Matching.Mappings.{HasPair, Mapped, Source}
 use Rattle.gix_refspec_match.specs.Matching.Hits.{AreKeptForward}
 use Rattle.gix_refspec_match.specs.Matching.Missing.{LacksSource}
-use Rattle.gix_refspec_lint.specs.Matching.Lint.{AreExamples, AreIdle, AreIdleExclusions, AreNestings, AreStorable, AreValid, CanConflict, CanNest, Example, Fetches, IsExample, IsNestingOf, Nesting, Unused, refs_of, tags_spec}
+use Rattle.gix_refspec_lint.specs.Matching.Lint.{AreExamples, AreIdle, AreIdleExclusions, AreNestings, AreStorable}
+use Rattle.gix_refspec_lint.specs.Matching.Lint.{AreValid, CanConflict, CanNest, Example, Fetches, IsExample}
+use Rattle.gix_refspec_lint.specs.Matching.Lint.{IsNestingOf, Nesting, Unused, refs_of, tags_spec}
 use Rattle.gix_refspec_plan.specs.Matching.Plan.{HaveNested, IsCompleted, IsPlan, IsSound, Planned, Wish}
 use Rattle.gix_refspec.specs.Matching.RefNames.{HaveRefNames, IsRefName}
 use Rattle.gix_refspec.specs.Matching.Validation.{AreConflicts, ShareDestination}
@@ -26,14 +28,17 @@ HasSound kept s d = (m : Mapped) × Contains kept m × IsSound m × (m.source �
 abbrev pub ExamplesConflict : List Reading → Type 0
 ExamplesConflict g =
     (i j : ℕ) (e : Example) → IsExample g i j e
-    → (completed : List Reading) (kept : List Mapped) → AllZip IsCompleted g completed → AreKeptForward completed (refs_of e.one ++ refs_of e.other) kept
+    → (completed : List Reading) (kept : List Mapped) → AllZip IsCompleted g completed
+    → AreKeptForward completed (refs_of e.one ++ refs_of e.other) kept
     → HasSound kept e.one e.destination × HasSound kept e.other e.destination × (e.one ≢ e.other)
 
 -- over any refs that a repository can have, sound mappings that are kept and have one destination have one source
 abbrev pub NeverConflicts : List Reading → Type 0
 NeverConflicts g =
-    (completed : List Reading) (refs : List Ref) (kept : List Mapped) → AllZip IsCompleted g completed → AreStorable refs → AreKeptForward completed refs kept
-    → (m n : Mapped) → Contains kept m → Contains kept n → IsSound m → IsSound n → ShareDestination m n → m.source ≡ n.source
+    (completed : List Reading) (refs : List Ref) (kept : List Mapped) → AllZip IsCompleted g completed
+    → AreStorable refs → AreKeptForward completed refs kept
+    → (m n : Mapped) → Contains kept m → Contains kept n → IsSound m → IsSound n → ShareDestination m n
+    → m.source ≡ n.source
 
 -- so it is if there is no example of a conflict
 abbrev pub ConflictFree : List Reading → Type 0
@@ -43,32 +48,38 @@ ConflictFree g = AreExamples g [] → NeverConflicts g
 abbrev pub AreWhole : List Reading → Type 0
 AreWhole g = AllByRecursion (λ r. IsCompleted r r) g
 
--- if there is none, and no destination is completed, `validated` finds no conflict among the mappings of `match_lhs` that
+-- if there is none, and no destination is completed, `validated` finds no conflict among the mappings of `match_lhs`
+-- that
 -- `without_invalid_names` leaves, if none of these is to `HEAD`
 abbrev pub MatchConflictFree : List Reading → Type 0
 MatchConflictFree g =
     AreExamples g [] → AreWhole g
-    → (refs : List Ref) (kept named : List Mapped) → AreStorable refs → AreKeptForward g refs kept → HaveRefNames kept named
+    → (refs : List Ref) (kept named : List Mapped) → AreStorable refs → AreKeptForward g refs kept
+    → HaveRefNames kept named
     → AllByRecursion (λ m. m.destination ≢ Some head) named → AreConflicts g named []
 
--- nor is an update in conflict in a fetch of what is configured alone: the values, the merged refs, and all tags, if they are
+-- nor is an update in conflict in a fetch of what is configured alone: the values, the merged refs, and all tags, if
+-- they are
 -- asked for
 abbrev pub PlanConflictFree : Wish → Type 0
 PlanConflictFree wish =
     AreExamples (wish.configured ++ tags_spec wish.tags) [] → wish.given ≡ []
-    → (refs : List Ref) (planned : List Planned) (missing : List Origin) → AreStorable refs → IsPlan wish refs planned missing
+    → (refs : List Ref) (planned : List Planned) (missing : List Origin) → AreStorable refs
+    → IsPlan wish refs planned missing
     → AllByRecursion (λ p. p.verdict ≢ verdict.InConflict) planned
 
 -- two specs of which one can write a ref in the directory of what the other writes do so over the refs of two sources
 abbrev pub NestingsShown : List Reading → Type 0
 NestingsShown g = (i j : ℕ) → CanNest g i j → (n : Nesting) × IsNestingOf g i j n
 
--- if there is no example of that, then over any refs that a repository can have, sound mappings that are kept, and of which one
+-- if there is no example of that, then over any refs that a repository can have, sound mappings that are kept, and of
+-- which one
 -- has a destination in the directory of the other's, are fetched by one spec
 abbrev pub NestedByOne : List Reading → Type 0
 NestedByOne g =
     AreNestings g []
-    → (completed : List Reading) (refs : List Ref) (kept : List Mapped) → AllZip IsCompleted g completed → AreStorable refs → AreKeptForward completed refs kept
+    → (completed : List Reading) (refs : List Ref) (kept : List Mapped) → AllZip IsCompleted g completed
+    → AreStorable refs → AreKeptForward completed refs kept
     → (m n : Mapped) → Contains kept m → Contains kept n → IsSound m → IsSound n → HaveNested m n
     → (k : ℕ) × Fetches g refs k m.source m.destination × Fetches g refs k n.source n.destination
 
@@ -81,18 +92,21 @@ without (suc k) (x ∷ l) = x ∷ without k l
 -- the valid pairs that are kept of these readings are those that are kept of the others
 abbrev pub KeepAlike : List Reading → List Reading → List Ref → Type 0
 KeepAlike g h refs =
-    (kept rest : List Mapped) → AreKeptForward g refs kept → AreKeptForward h refs rest → (m : Mapped) → IsSound m → HasPair rest m ↔ HasPair kept m
+    (kept rest : List Mapped) → AreKeptForward g refs kept → AreKeptForward h refs rest → (m : Mapped) → IsSound m
+    → HasPair rest m ↔ HasPair kept m
 
 -- a source is missing
 abbrev pub HasMissing : List Reading → List Ref → Type 0
 HasMissing g refs = Any (LacksSource refs) g
 
--- over refs with valid names, the valid pairs that are kept without an idle spec are those that are kept with it; and without
+-- over refs with valid names, the valid pairs that are kept without an idle spec are those that are kept with it; and
+-- without
 -- one that isn't required a source is missing exactly where one is with it
 abbrev pub IdleLeftOut : List Reading → Type 0
 IdleLeftOut g =
     (idle : List Unused) (u : Unused) → AreIdle g idle → Contains idle u → (refs : List Ref) → AreValid refs
-    → ((completed : List Reading) → AllZip IsCompleted g completed → KeepAlike completed (without u.spec completed) refs)
+    → ((completed : List Reading) → AllZip IsCompleted g completed
+    → KeepAlike completed (without u.spec completed) refs)
     × (u.required ≡ false → HasMissing g refs ↔ HasMissing (without u.spec g) refs)
 
 -- the reading is the fetch of a merged ref, as a plan has it
@@ -103,5 +117,6 @@ IsFetchOfMerged merges r = (n : List ℕ) × Contains merges n × IsRefName n ×
 abbrev pub IdleExclusionLeftOut : List Reading → List (List ℕ) → Type 0
 IdleExclusionLeftOut g merges =
     (idle : List ℕ) (k : ℕ) → AreIdleExclusions g merges idle → Contains idle k
-    → (others completed : List Reading) (refs : List Ref) → AllByRecursion (IsFetchOfMerged merges) others → AllZip IsCompleted (g ++ others) completed
+    → (others completed : List Reading) (refs : List Ref) → AllByRecursion (IsFetchOfMerged merges) others
+    → AllZip IsCompleted (g ++ others) completed
     → KeepAlike completed (without k completed) refs

@@ -1,6 +1,8 @@
--- What specs do together, whatever refs a remote has: which two can write one ref from two sources, and which do nothing.
+-- What specs do together, whatever refs a remote has: which two can write one ref from two sources, and which do
+-- nothing.
 -- By git-fetch(1) under `<refspec>`; that Git refuses to fetch two sources to one ref isn't in the manual of Git 2.39.
-use Rattle.std.specs.Prelude.{◌≡◌, ◌≢◌, ◌⊎◌, ◌<◌, ℕ, Bool, true, false, ◌||◌, not, ◌==◌, List, [], ◌∷◌, ◌++◌, codes, Option, Some, IsTrue, MatchBool}
+use Rattle.std.specs.Prelude.{◌≡◌, ◌≢◌, ◌⊎◌, ◌<◌, ℕ, Bool, true, false, ◌||◌, not, ◌==◌, List, [], ◌∷◌, ◌++◌, codes}
+use Rattle.std.specs.Prelude.{Option, Some, IsTrue, MatchBool}
 use Rattle.std.specs.List.{AllByRecursion, Contains, list_any, slice_get}
 use Rattle.gix_refspec_lint.specs.declared.Reason.{Reason}
 use Rattle.gix_refspec_lint.specs.declared.Reason.TheVariants as reason
@@ -21,7 +23,8 @@ use Rattle.gix_refspec.specs.Laws.Plans.{SidesLack}
 
 -- ---- what a fetch is asked for
 
--- what the configuration of a remote asks a fetch for: the values of remote.<name>.fetch, those of branch.<name>.merge of the
+-- what the configuration of a remote asks a fetch for: the values of remote.<name>.fetch, those of branch.<name>.merge
+-- of the
 -- branches that track this remote, and whether all tags are asked for
 pub record Configuration : Type 0 where
   pub values : List Reading
@@ -102,7 +105,8 @@ AreExamples g found = IsJoinedFrom (λ i r of_first. IsMadeFrom (λ j q e. IsExa
 
 -- ---- possible directory conflicts
 
--- over the refs, which a repository can have, the spec at index i fetches to a directory of what the one at index j fetches to
+-- over the refs, which a repository can have, the spec at index i fetches to a directory of what the one at index j
+-- fetches to
 pub record NestingOver (g : List Reading) (refs : List Ref) (i j : ℕ) (s t : Source) (d e : List ℕ) : Type 0 where
   pub storable : AreStorable refs
   pub upper : Fetches g refs i s (Some d)
@@ -111,7 +115,8 @@ pub record NestingOver (g : List Reading) (refs : List Ref) (i j : ℕ) (s t : S
 
 -- they do so over some refs
 abbrev pub CanNest : List Reading → ℕ → ℕ → Type 0
-CanNest g i j = (refs : List Ref) × (s : Source) × (t : Source) × (d : List ℕ) × (e : List ℕ) × NestingOver g refs i j s t d e
+CanNest g i j = (refs : List Ref) × (s : Source) × (t : Source) × (d : List ℕ) × (e : List ℕ)
+    × NestingOver g refs i j s t d e
 
 -- an example of that: the indexes of both specs, their sources, and their destinations
 pub record Nesting : Type 0 where
@@ -159,7 +164,8 @@ IsAlwaysEarlier g k =
 
 -- and it is the spec at index h each time
 abbrev pub IsCoveredBy : List Reading → ℕ → ℕ → Type 0
-IsCoveredBy g k h = (refs : List Ref) (s : Source) (d : Option (List ℕ)) → AreValid refs → Fetches g refs k s d → Maps g refs h s d
+IsCoveredBy g k h = (refs : List Ref) (s : Source) (d : Option (List ℕ)) → AreValid refs → Fetches g refs k s d
+    → Maps g refs h s d
 
 -- the spec at index n excludes a source of a sound mapping
 pub record ExcludesOne (g : List Reading) (k n : ℕ) : Type 0 where
@@ -231,8 +237,10 @@ AreIdle g idle = IsMadeFrom (λ k r u. IsPositive r.mode × IsUnused g k u) 0 g 
 
 -- ---- idle exclusions
 
--- Git takes a merged ref as it takes the source of a spec of the call: it is a candidate of the value, as `refs/heads/dev` of
--- `dev`, or of `HEAD` if the value is empty. The manual doesn't say so, nor that a negative value excludes it by its full name
+-- Git takes a merged ref as it takes the source of a spec of the call: it is a candidate of the value, as
+-- `refs/heads/dev` of
+-- `dev`, or of `HEAD` if the value is empty. The manual doesn't say so, nor that a negative value excludes it by its
+-- full name
 abbrev pub merged_text : List ℕ → List ℕ
 merged_text [] = head
 merged_text (b ∷ x) = b ∷ x
@@ -247,7 +255,8 @@ pub record IsMerged (merges : List (List ℕ)) (n : List ℕ) : Type 0 where
 -- the reading is negative, and excludes no source of a sound mapping and no merged ref
 pub record IsIdleExclusion (g : List Reading) (merges : List (List ℕ)) (r : Reading) : Type 0 where
   pub negative : r.mode ≡ Negative
-  pub excludes : (refs : List Ref) (i : ℕ) (n : List ℕ) (d : Option (List ℕ)) → MapsSoundly g refs i (name n) d → ¬ (IsExcludedBy n r)
+  pub excludes : (refs : List Ref) (i : ℕ) (n : List ℕ) (d : Option (List ℕ)) → MapsSoundly g refs i (name n) d
+      → ¬ (IsExcludedBy n r)
   pub merged : (n : List ℕ) → IsMerged merges n → ¬ (IsExcludedBy n r)
 
 -- the indexes of these, in order

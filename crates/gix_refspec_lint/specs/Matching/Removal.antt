@@ -1,6 +1,9 @@
--- What a fetch does because of one value of a remote's configuration, besides its mappings. By git-fetch(1) under `--prune`,
--- "configured remote-tracking branches" and `--no-tags`, and git-pull(1) under "default behaviour". That a value which maps
--- nothing makes Git follow tags too, and that negative values don't count for refs of the command line, isn't in the manual of
+-- What a fetch does because of one value of a remote's configuration, besides its mappings. By git-fetch(1) under
+-- `--prune`,
+-- "configured remote-tracking branches" and `--no-tags`, and git-pull(1) under "default behaviour". That a value which
+-- maps
+-- nothing makes Git follow tags too, and that negative values don't count for refs of the command line, isn't in the
+-- manual of
 -- Git 2.39.
 use Rattle.std.specs.Prelude.{◌≡◌, ◌⊎◌, ◌<◌, ℕ, zero, List, Option, Some, IsSome}
 use Rattle.std.specs.List.{Any, slice_get}
@@ -18,9 +21,11 @@ use Rattle.gix_refspec_lint.specs.Matching.Lint.{AreValid, Fetches, Maps, MapsSo
 
 -- the local ref n is stale by one of the two lists of values alone
 abbrev pub IsStaleByOne : List Reading → List Reading → List Ref → List ℕ → Type 0
-IsStaleByOne g h remote n = (IsStale g remote n × ¬ (IsStale h remote n)) ⊎ (¬ (IsStale g remote n) × IsStale h remote n)
+IsStaleByOne g h remote n = (IsStale g remote n × ¬ (IsStale h remote n))
+    ⊎ (¬ (IsStale g remote n) × IsStale h remote n)
 
--- beside some refs of a remote with valid names, a pruning fetch by one list treats some local ref otherwise than by the other
+-- beside some refs of a remote with valid names, a pruning fetch by one list treats some local ref otherwise than by
+-- the other
 pub record PruneOtherwise (g h : List Reading) : Type 0 where
   pub remote : List Ref
   pub valid : AreValid remote
@@ -34,7 +39,8 @@ Prunes g k = PruneOtherwise g (without k g)
 
 -- ---- refs of the command line
 
--- over some refs with valid names, as those that are named on the command line, the value at index k maps one soundly to a
+-- over some refs with valid names, as those that are named on the command line, the value at index k maps one soundly
+-- to a
 -- destination, and no earlier value does
 pub record Tracks (g : List Reading) (k : ℕ) : Type 0 where
   pub refs : List Ref

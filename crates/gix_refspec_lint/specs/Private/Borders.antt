@@ -1,4 +1,5 @@
--- The borders of a text: the words, shorter than it, that it both begins and ends with. Only private functions use these
+-- The borders of a text: the words, shorter than it, that it both begins and ends with. Only private functions use
+-- these
 -- definitions.
 use Rattle.std.specs.Prelude.{◌≡◌, ℕ, ◌+◌, ◌-◌, ◌<◌, ◌≤◌, List, length, take, slice_index}
 use Rattle.std.specs.List.{AllByRecursion, Contains}

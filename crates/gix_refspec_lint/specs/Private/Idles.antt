@@ -1,4 +1,5 @@
--- Why a spec does nothing, source by source, and what a negative spec excludes of another. Only private functions use these
+-- Why a spec does nothing, source by source, and what a negative spec excludes of another. Only private functions use
+-- these
 -- definitions.
 use Rattle.std.specs.Prelude.{◌≡◌, ◌⊎◌, ◌<◌, ◌≤◌, ◌+◌, ℕ, List, [], ◌∷◌, ◌++◌, map, Option, None, Some}
 use Rattle.std.specs.List.{AllByRecursion, Contains}
@@ -15,7 +16,8 @@ use Rattle.gix_refspec_text.specs.Matching.Match.{Ref, HasName}
 use Rattle.gix_refspec_match.specs.Matching.Mappings.{Source, IsSourceExcluded, name}
 use Rattle.gix_refspec_match.specs.Matching.Missing.{LacksSource}
 use Rattle.gix_refspec.specs.Laws.Matching.{MakesForward}
-use Rattle.gix_refspec_lint.specs.Matching.Lint.{AreValid, ExcludesOne, Fetches, IsAlwaysExcluded, IsIdleBy, IsMerged, Maps, MapsSoundly, NeverMaps, merged_text, refs_of}
+use Rattle.gix_refspec_lint.specs.Matching.Lint.{AreValid, ExcludesOne, Fetches, IsAlwaysExcluded, IsIdleBy, IsMerged}
+use Rattle.gix_refspec_lint.specs.Matching.Lint.{Maps, MapsSoundly, NeverMaps, merged_text, refs_of}
 use Rattle.gix_refspec_plan.specs.Matching.Plan.{CanBeWritten}
 use Rattle.gix_refspec.specs.Matching.RefNames.{IsRefName, IsValidSource}
 use Rattle.gix_refspec_plan.specs.Matching.Stale.{ref_named}
@@ -90,14 +92,16 @@ pub record MapsOne (g : List Reading) (others : Others) (k h : ℕ) : Type 0 whe
 -- one of the others maps what the spec at index k fetches to the same destinations, whatever valid refs there are
 abbrev pub IsAlwaysMapped : List Reading → Others → ℕ → Type 0
 IsAlwaysMapped g others k =
-    (refs : List Ref) (s : Source) (d : Option (List ℕ)) → AreValid refs → Fetches g refs k s d → (h : ℕ) × IsOther others h × Maps g refs h s d
+    (refs : List Ref) (s : Source) (d : Option (List ℕ)) → AreValid refs → Fetches g refs k s d → (h : ℕ)
+    × IsOther others h × Maps g refs h s d
 
 -- the reason explains what becomes of the mappings of the source by the spec at index k
 abbrev pub Explains : List Reading → Others → ℕ → Source → Idleness → Type 0
 Explains g others k s idleness.Invalid = (refs : List Ref) (d : Option (List ℕ)) → ¬ (MapsSoundly g refs k s d)
 Explains g others k s (idleness.Excluded n) = (refs : List Ref) (d : Option (List ℕ)) → ¬ (Fetches g refs k s d)
 Explains g others k s (idleness.Duplicate h) =
-    (refs : List Ref) (d : Option (List ℕ)) → AreValid refs → Fetches g refs k s d → (i : ℕ) × IsOther others i × Maps g refs i s d
+    (refs : List Ref) (d : Option (List ℕ)) → AreValid refs → Fetches g refs k s d → (i : ℕ) × IsOther others i
+    × Maps g refs i s d
 
 -- the spec that a reason names does what it says once
 abbrev pub IsShown : List Reading → Others → ℕ → Idleness → Type 0
@@ -157,7 +161,9 @@ IsNeverMissing r = (refs : List Ref) → ¬ (LacksSource refs r)
 
 -- or it isn't where a ref has a certain valid name that isn't one of these
 abbrev pub IsHadBeside : Reading → List (List ℕ) → Type 0
-IsHadBeside r names = IsNeverMissing r ⊎ ((n : List ℕ) × IsRefName n × ¬ (Contains names n) × ((refs : List Ref) → HasName refs n → ¬ (LacksSource refs r)))
+IsHadBeside r names = IsNeverMissing r
+    ⊎ ((n : List ℕ) × IsRefName n × ¬ (Contains names n)
+    × ((refs : List Ref) → HasName refs n → ¬ (LacksSource refs r)))
 
 -- those of the names that are valid
 pub record AreValidOf (all valid : List (List ℕ)) : Type 0 where
@@ -175,7 +181,8 @@ pub record AreMergedRefs (merges : List (List ℕ)) (sources : List Source) : Ty
 pub record AddsMergedRefs (value : List ℕ) (old now : List Source) : Type 0 where
   pub keeps : (s : Source) → Contains old s → Contains now s
   pub adds : (n : List ℕ) → Contains (candidates (merged_text value)) n → IsRefName n → Contains now (name n)
-  pub only : (s : Source) → Contains now s → Contains old s ⊎ ((n : List ℕ) × (s ≡ name n) × Contains (candidates (merged_text value)) n × IsRefName n)
+  pub only : (s : Source) → Contains now s → Contains old s
+      ⊎ ((n : List ℕ) × (s ≡ name n) × Contains (candidates (merged_text value)) n × IsRefName n)
 
 -- ---- the refs that a spec prefers to a source
 
@@ -186,22 +193,26 @@ AreAbsent names refs = AllByRecursion (λ n. ¬ (HasName refs n)) names
 -- the completed reading maps the source only where no ref has one of the names, and that is all that it needs
 pub record ArePreferred (c : Reading) (s : Source) (names : List (List ℕ)) : Type 0 where
   pub absent : (refs : List Ref) (d : Option (List ℕ)) → MakesForward refs s d c → AreAbsent names refs
-  pub enough : (refs few : List Ref) (d : Option (List ℕ)) → MakesForward refs s d c → ((n : List ℕ) → HasName (refs_of s) n → HasName few n) → AreAbsent names few → MakesForward few s d c
+  pub enough : (refs few : List Ref) (d : Option (List ℕ)) → MakesForward refs s d c
+      → ((n : List ℕ) → HasName (refs_of s) n → HasName few n) → AreAbsent names few → MakesForward few s d c
 
 -- the refs with the source and these names
 abbrev pub refs_with : Source → List (List ℕ) → List Ref
 refs_with s names = refs_of s ++ map ref_named names
 
--- beside refs of these names the spec at index k maps the source as beside any, and one of the others that does so too does so
+-- beside refs of these names the spec at index k maps the source as beside any, and one of the others that does so too
+-- does so
 -- wherever this one does
 pub record AreFreeing (g : List Reading) (others : Others) (k : ℕ) (s : Source) (names : List (List ℕ)) : Type 0 where
   pub valid : AllByRecursion IsRefName names
   pub keeps : (refs : List Ref) (d : Option (List ℕ)) → Maps g refs k s d → Maps g (refs_with s names) k s d
-  pub frees : (refs : List Ref) (h : ℕ) (d e : Option (List ℕ)) → AreValid refs → Maps g refs k s d → IsOther others h → Maps g (refs_with s names) h s e → Maps g refs h s e
+  pub frees : (refs : List Ref) (h : ℕ) (d e : Option (List ℕ)) → AreValid refs → Maps g refs k s d → IsOther others h
+      → Maps g (refs_with s names) h s e → Maps g refs h s e
 
 -- the names that a partial source x tries before n, if that is one of its candidates
 pub record AreTriedBefore (x n : List ℕ) (names : List (List ℕ)) : Type 0 where
-  pub some : (earlier later : List (List ℕ)) → candidates x ≡ earlier ++ (n ∷ later) → ¬ (Contains earlier n) → names ≡ earlier
+  pub some : (earlier later : List (List ℕ)) → candidates x ≡ earlier ++ (n ∷ later) → ¬ (Contains earlier n)
+      → names ≡ earlier
 
 -- now has the old names, and those others that are valid and not kept away
 pub record AreAllowed (old others away now : List (List ℕ)) : Type 0 where

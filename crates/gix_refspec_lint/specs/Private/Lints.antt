@@ -29,9 +29,11 @@ endings = [] ∷ codes "/" ∷ codes "s/" ∷ codes "fs/" ∷ codes "efs/" ∷ c
 -- the parts of `refs/` and of `HEAD`
 abbrev pub parts : List (List ℕ)
 parts =
-    [] ∷ codes "r" ∷ codes "re" ∷ codes "ref" ∷ codes "refs" ∷ codes "refs/" ∷ codes "e" ∷ codes "ef" ∷ codes "efs" ∷ codes "efs/"
+    [] ∷ codes "r" ∷ codes "re" ∷ codes "ref" ∷ codes "refs" ∷ codes "refs/" ∷ codes "e" ∷ codes "ef" ∷ codes "efs"
+    ∷ codes "efs/"
     ∷ codes "f" ∷ codes "fs" ∷ codes "fs/" ∷ codes "s" ∷ codes "s/" ∷ codes "/"
-    ∷ codes "H" ∷ codes "HE" ∷ codes "HEA" ∷ codes "HEAD" ∷ codes "E" ∷ codes "EA" ∷ codes "EAD" ∷ codes "A" ∷ codes "AD" ∷ codes "D" ∷ []
+    ∷ codes "H" ∷ codes "HE" ∷ codes "HEA" ∷ codes "HEAD" ∷ codes "E" ∷ codes "EA" ∷ codes "EAD" ∷ codes "A"
+    ∷ codes "AD" ∷ codes "D" ∷ []
 
 -- the words, with the free byte z
 abbrev pub words_with : ℕ → List (List ℕ)
@@ -55,13 +57,15 @@ pub record IsLongerSuffix (x y longer : List ℕ) : Type 0 where
 -- what is left of prefix and suffix, where they overlap in more than that, is too short for one of the patterns
 abbrev pub IsMost : List ℕ → List ℕ → List ℕ → List ℕ → List ℕ → List ℕ → ℕ → Type 0
 IsMost a b c d prefix suffix most =
-    (k : ℕ) → k ≤ length prefix → k ≤ length suffix → k + (length a + length b) ≤ length prefix + length suffix → k + (length c + length d) ≤ length prefix + length suffix → k ≤ most
+    (k : ℕ) → k ≤ length prefix → k ≤ length suffix → k + (length a + length b) ≤ length prefix + length suffix
+    → k + (length c + length d) ≤ length prefix + length suffix → k ≤ most
 
 -- neither text is shorter than they overlap at most
 abbrev pub IsBounded : Common → Type 0
 IsBounded common = (common.most ≤ length common.prefix.now) × (common.most ≤ length common.suffix.now)
 
--- the texts that each name begins and ends with that both patterns match, and in how many bytes they overlap in one at most
+-- the texts that each name begins and ends with that both patterns match, and in how many bytes they overlap in one at
+-- most
 pub record AreCommon (a b c d : List ℕ) (common : Common) : Type 0 where
   pub prefix : IsLongerPrefix a c common.prefix.now
   pub suffix : IsLongerSuffix b d common.suffix.now

@@ -68,7 +68,8 @@ IsInWord before after d e = (u : List ℕ) × (v : List ℕ) × (d ≡ before ++
 -- it is in the text after the star
 abbrev pub IsAfter : List ℕ → List ℕ → List ℕ → List ℕ → Type 0
 IsAfter before after d e =
-    (u : List ℕ) × (p : List ℕ) × (q : List ℕ) × (after ≡ p ++ (slash ∷ q)) × (d ≡ before ++ (u ++ p)) × (e ≡ d ++ (slash ∷ q))
+    (u : List ℕ) × (p : List ℕ) × (q : List ℕ) × (after ≡ p ++ (slash ∷ q)) × (d ≡ before ++ (u ++ p))
+    × (e ≡ d ++ (slash ∷ q))
 
 -- the upper pattern has these texts in common with the lower one up to the slash, which the rest follows
 pub record HaveFollowed (group : Group) (i j : ℕ) (common : Common) (rest : List ℕ) : Type 0 where

@@ -1,4 +1,5 @@
--- How the local refs are found that a pruning fetch treats otherwise without a value. Only private functions use these definitions.
+-- How the local refs are found that a pruning fetch treats otherwise without a value. Only private functions use these
+-- definitions.
 use Rattle.std.specs.Prelude.{◌≡◌, ◌≤◌, ◌⊎◌, ℕ, List, [], ◌++◌, Option, Some, drop, map}
 use Rattle.std.specs.List.{AllZip, Contains}
 use Rattle.bstr.specs.Owned.{bstring_bytes}
@@ -85,20 +86,24 @@ IsSameFrom g h p t a b source = (w : List ℕ) → Fits p t source w → IsSameA
 -- nor are those with the sources in which the texts overlap
 abbrev pub AreSameOverlappingFrom : List Reading → List Reading → List ℕ → List ℕ → List ℕ → List ℕ → Common → Type 0
 AreSameOverlappingFrom g h p t a b common =
-    (k : ℕ) → k ≤ common.most → IsOverlap common.prefix.now common.suffix.now k → IsSameFrom g h p t a b (common.prefix.now ++ drop k common.suffix.now)
+    (k : ℕ) → k ≤ common.most → IsOverlap common.prefix.now common.suffix.now k
+    → IsSameFrom g h p t a b (common.prefix.now ++ drop k common.suffix.now)
 
 -- nor are the local refs in which the texts overlap; the names that decide
 abbrev pub AreSameOverlapping : List Reading → List Reading → Common → Type 0
 AreSameOverlapping g h common =
-    (k : ℕ) → k ≤ common.most → IsOverlap common.prefix.now common.suffix.now k → IsSameAlone g h (common.prefix.now ++ drop k common.suffix.now)
+    (k : ℕ) → k ≤ common.most → IsOverlap common.prefix.now common.suffix.now k
+    → IsSameAlone g h (common.prefix.now ++ drop k common.suffix.now)
 
 abbrev pub AreSameAmong : List Reading → List Reading → List (List ℕ) → Common → Type 0
-AreSameAmong g h words common = (n : List ℕ) → IsDeciding words common.prefix.now common.suffix.now common.most n → IsSameAlone g h n
+AreSameAmong g h words common = (n : List ℕ) → IsDeciding words common.prefix.now common.suffix.now common.most n
+    → IsSameAlone g h n
 
 -- nor is any a w b that one of the rest can write, and whose source p w t the reading e excludes
 abbrev pub AreSameExcluded : Lists → List ℕ → List ℕ → List ℕ → List ℕ → Reading → Type 0
 AreSameExcluded lists p t a b e =
-    (w : List ℕ) (other : Reading) (word : Option (List ℕ)) → IsExcludedBy (p ++ (w ++ t)) e → Contains (rest_of lists) other → CanWrite other (a ++ (w ++ b)) word
+    (w : List ℕ) (other : Reading) (word : Option (List ℕ)) → IsExcludedBy (p ++ (w ++ t)) e
+    → Contains (rest_of lists) other → CanWrite other (a ++ (w ++ b)) word
     → IsSameAlone (all_of lists) (rest_of lists) (a ++ (w ++ b))
 
 -- where a w b has these texts around a word, e excludes p w t
@@ -109,8 +114,10 @@ pub record ExcludesWithin (z : ℕ) (e : Reading) (p t a b prefix suffix : List 
 -- no a w b is treated otherwise that has these texts around a word, and that the other reading can write
 abbrev pub AreSameWithin : Lists → List ℕ → List ℕ → List ℕ → List ℕ → Reading → Type 0
 AreSameWithin lists a b prefix suffix other =
-    (w u : List ℕ) (word : Option (List ℕ)) → Fits prefix suffix (a ++ (w ++ b)) u → CanWrite other (a ++ (w ++ b)) word → IsSameAlone (all_of lists) (rest_of lists) (a ++ (w ++ b))
+    (w u : List ℕ) (word : Option (List ℕ)) → Fits prefix suffix (a ++ (w ++ b)) u → CanWrite other (a ++ (w ++ b)) word
+    → IsSameAlone (all_of lists) (rest_of lists) (a ++ (w ++ b))
 
 -- nor is any that the reading q can write from a source which r excludes
 abbrev pub AreSameWithout : Lists → Reading → Reading → Type 0
-AreSameWithout lists r q = (n s : List ℕ) → CanWriteFrom q n s → IsExcludedBy s r → IsSameAlone (all_of lists) (rest_of lists) n
+AreSameWithout lists r q = (n s : List ℕ) → CanWriteFrom q n s → IsExcludedBy s r
+    → IsSameAlone (all_of lists) (rest_of lists) n

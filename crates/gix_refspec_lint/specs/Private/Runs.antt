@@ -1,4 +1,5 @@
--- Names that come to nothing for one reason, as long as their texts overlap at one distance. Only private functions use these definitions.
+-- Names that come to nothing for one reason, as long as their texts overlap at one distance. Only private functions use
+-- these definitions.
 use Rattle.std.specs.Prelude.{◌≡◌, ◌≢◌, ◌⊎◌, ◌<◌, ◌≤◌, ◌+◌, ℕ, List, [], ◌++◌, length, Some}
 use Rattle.std.specs.List.{slice_get}
 use Rattle.gix_refspec_lint.specs.declared.conflicts.Tried.{Tried}

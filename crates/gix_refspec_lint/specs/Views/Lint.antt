@@ -12,11 +12,23 @@ use Rattle.gix_refspec_lint.specs.Matching.Lint.{Configuration, Example, Nesting
 
 -- what a remote's configuration asks for
 abbrev pub configuration_of : Configured → Configuration
-configuration_of c = record { values = map reading_of c.values.now; merges = map bstr_bytes c.merges.now; tags = c.tags }
+configuration_of c = record {
+  values = map reading_of c.values.now;
+  merges = map bstr_bytes c.merges.now;
+  tags =
+      c.tags;
+}
 
 -- an example of a conflict
 abbrev pub example_of : PossibleConflict → Example
-example_of c = record { first = c.first_spec; second = c.second_spec; one = start_of c.first_source; other = start_of c.second_source; destination = bstring_bytes c.destination }
+example_of c = record {
+  first = c.first_spec;
+  second = c.second_spec;
+  one = start_of c.first_source;
+  other =
+      start_of c.second_source;
+  destination = bstring_bytes c.destination;
+}
 
 -- an example of a directory conflict
 abbrev pub nesting_of : PossibleDirectoryConflict → Nesting

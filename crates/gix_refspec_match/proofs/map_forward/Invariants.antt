@@ -1,4 +1,5 @@
 use Rattle.gix_refspec_match.proofs.Common.{map, take, AddsMapped, ref_of, mapped_of, First}
 
 abbrev pub invariant-loop-hit : Rattle.gix_refspec_match.proofs.map_forward.Given.invariant-loop-hit
-invariant-loop-hit l = AddsMapped First l.exclusions l.matchers (map ref_of l.items) (take l.hit-index l.hit-items) (map mapped_of l.fn.mappings.items) (map mapped_of l.mappings.items)
+invariant-loop-hit l = AddsMapped First l.exclusions l.matchers (map ref_of l.items) (take l.hit-index l.hit-items)
+    (map mapped_of l.fn.mappings.items) (map mapped_of l.mappings.items)

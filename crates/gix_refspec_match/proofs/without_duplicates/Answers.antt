@@ -1,4 +1,7 @@
-use Rattle.gix_refspec_match.proofs.{Common.{IsUnflagged, refl, false≢true, [], ◌≡◌, sym, ◌∙◌, arith, eqb-true, nil_from_length}, lemmas.lists.ListsLemmas.made_all, lemmas.keep.KeptLemmas.kept_unflagged}
+use Rattle.gix_refspec_match.proofs.Common.{IsUnflagged, refl, false≢true, [], ◌≡◌, sym, ◌∙◌, arith, eqb-true}
+use Rattle.gix_refspec_match.proofs.Common.{nil_from_length}
+use Rattle.gix_refspec_match.proofs.lemmas.lists.ListsLemmas.{made_all}
+use Rattle.gix_refspec_match.proofs.lemmas.keep.KeptLemmas.{kept_unflagged}
 use Rattle.gix_refspec_match.proofs.without_duplicates.Goals as goal
 
 pub returns : goal.returns
@@ -8,8 +11,13 @@ returns c =
     let flags = rw c.as_slice.ensures.value at c.in_ok-flags.ensures.ok in
     elim c.if-not-is_empty.branch [
       | goal.then-not-is_empty w ↦ rw w.mappings-is
-          (kept_unflagged ms w.drop_flagged.new.mappings.items told.items flags (rw w.as_slice-then-not-is_empty.ensures.value at w.drop_flagged.ensures))
+          (kept_unflagged ms w.drop_flagged.new.mappings.items told.items flags
+          (rw w.as_slice-then-not-is_empty.ensures.value at w.drop_flagged.ensures))
       | goal.else-not-is_empty w ↦
-          let none : told.items ≡ [] = nil_from_length told.items (let empty = eqb-true _ _ (sym c.is_empty.ensures ∙ w.if-not-is_empty.false) in omega (arith, empty, told.ok.0, told.ok.1)) in
-          rw w.mappings-is (kept_unflagged ms ms told.items flags (made_all (IsUnflagged told.items) (λ k m. (refl, λ flagged. false≢true (rw none at flagged))) 0 ms))
+          let none : told.items ≡ [] = nil_from_length told.items
+          (let empty = eqb-true _ _ (sym c.is_empty.ensures ∙ w.if-not-is_empty.false) in omega
+          (arith, empty, told.ok.0, told.ok.1)) in
+          rw w.mappings-is
+          (kept_unflagged ms ms told.items flags
+          (made_all (IsUnflagged told.items) (λ k m. (refl, λ flagged. false≢true (rw none at flagged))) 0 ms))
     ]

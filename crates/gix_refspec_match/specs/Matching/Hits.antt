@@ -43,7 +43,8 @@ pub record Hit : Type 0 where
 
 -- the spec at index k, which has these ends, takes the ref at index j of the items. Taken says which refs a
 -- near side takes, a pattern with which word for its star
-pub record IsHit (Taken : List ℕ → Ref → Option (List ℕ) → Type 0) (ends : Ends) (k j : ℕ) (r : Ref) (hit : Hit) : Type 0 where
+pub record IsHit (Taken : List ℕ → Ref → Option (List ℕ) → Type 0) (ends : Ends) (k j : ℕ) (r : Ref) (hit : Hit) :
+    Type 0 where
   pub word : Option (List ℕ)
   pub takes : Taken ends.near r word
   pub far : IsFilled ends.far word hit.far
@@ -52,13 +53,15 @@ pub record IsHit (Taken : List ℕ → Ref → Option (List ℕ) → Type 0) (en
   pub item : hit.item ≡ j
 
 -- the items that the spec at index k takes, in order, and none where it has no such ends
-abbrev pub AreSpecHits : (Reading → Ends → Type 0) → (List ℕ → Ref → Option (List ℕ) → Type 0) → List Ref → ℕ → Reading → List Hit → Type 0
+abbrev pub AreSpecHits : (Reading → Ends → Type 0) → (List ℕ → Ref → Option (List ℕ) → Type 0) → List Ref → ℕ → Reading
+    → List Hit → Type 0
 AreSpecHits HasEnds Taken items k r hits =
     ((ends : Ends) × HasEnds r ends × IsMadeFrom (IsHit Taken ends k) 0 items hits)
     ⊎ (((ends : Ends) → ¬ (HasEnds r ends)) × (hits ≡ []))
 
 -- the items that the specs of a group take, by spec, and for each by item
-abbrev pub AreHits : (Reading → Ends → Type 0) → (List ℕ → Ref → Option (List ℕ) → Type 0) → List Reading → List Ref → List Hit → Type 0
+abbrev pub AreHits : (Reading → Ends → Type 0) → (List ℕ → Ref → Option (List ℕ) → Type 0) → List Reading → List Ref
+    → List Hit → Type 0
 AreHits HasEnds Taken g items hits = IsJoinedFrom (AreSpecHits HasEnds Taken items) 0 g hits
 
 -- from left to right an item's name is the source
@@ -67,7 +70,12 @@ forward_of hit = record { item = Some hit.item; source = name hit.near; destinat
 
 -- from right to left an item's name is the destination, and there is a far side
 abbrev pub backward_of : Hit → Mapped
-backward_of hit = record { item = Some hit.item; source = name (unwrap_or hit.far []); destination = Some hit.near; spec = hit.spec }
+backward_of hit = record {
+  item = Some hit.item;
+  source = name (unwrap_or hit.far []);
+  destination = Some hit.near;
+  spec = hit.spec;
+}
 
 -- the mapping of the positive spec at index k whose source is the id of an object: it takes no item
 pub record IsIdMapping (k : ℕ) (r : Reading) (m : Mapped) : Type 0 where

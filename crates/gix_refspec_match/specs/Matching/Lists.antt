@@ -9,9 +9,11 @@ MakesOf {X} {Y} R k x made = MatchOption made ((y : Y) → ¬ (R k x y)) (R k x)
 -- ys is what the relation makes of each element in turn; the first one's index is k
 abbrev pub IsMadeFrom : {X Y : Type 0} → (ℕ → X → Y → Type 0) → ℕ → List X → List Y → Type 0
 IsMadeFrom R k [] ys = ys ≡ []
-IsMadeFrom {X} {Y} R k (x ∷ xs) ys = (made : Option Y) × (rest : List Y) × MakesOf R k x made × IsMadeFrom R (k + 1) xs rest × (ys ≡ option_to_list made ++ rest)
+IsMadeFrom {X} {Y} R k (x ∷ xs) ys = (made : Option Y) × (rest : List Y) × MakesOf R k x made
+    × IsMadeFrom R (k + 1) xs rest × (ys ≡ option_to_list made ++ rest)
 
 -- ys joins the lists that the relation makes of each element in turn; the first one's index is k
 abbrev pub IsJoinedFrom : {X Y : Type 0} → (ℕ → X → List Y → Type 0) → ℕ → List X → List Y → Type 0
 IsJoinedFrom R k [] ys = ys ≡ []
-IsJoinedFrom {X} {Y} R k (x ∷ xs) ys = (made : List Y) × (rest : List Y) × R k x made × IsJoinedFrom R (k + 1) xs rest × (ys ≡ made ++ rest)
+IsJoinedFrom {X} {Y} R k (x ∷ xs) ys = (made : List Y) × (rest : List Y) × R k x made × IsJoinedFrom R (k + 1) xs rest
+    × (ys ≡ made ++ rest)

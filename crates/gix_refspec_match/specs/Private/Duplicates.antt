@@ -1,5 +1,6 @@
 -- Elements of a list that equal an earlier one, and how they are found. Only private functions cite this.
-use Rattle.std.specs.Prelude.{◌≡◌, ◌≢◌, ◌⊎◌, ◌↔◌, ◌<◌, ◌≤◌, ◌-◌, ◌/◌, ◌%◌, ◌^◌, ℕ, Bool, List, [], length, nat_eq, slice_index_or}
+use Rattle.std.specs.Prelude.{◌≡◌, ◌≢◌, ◌⊎◌, ◌↔◌, ◌<◌, ◌≤◌, ◌-◌, ◌/◌, ◌%◌, ◌^◌, ℕ, Bool, List, [], length, nat_eq}
+use Rattle.std.specs.Prelude.{slice_index_or}
 use Rattle.std.specs.Int.{bit_at}
 use Rattle.std.specs.List.{All, AllPairs, Contains}
 use Rattle.std.specs.Ordering.{nat_cmp, ordering_then}
@@ -37,7 +38,8 @@ pub record HasShared (bits : ℕ) (keys : List ℕ) (b : Bloom) : Type 0 where
 
 -- whether the upper bits of a key are in a filter
 abbrev pub is_shared : Bloom → ℕ → ℕ → Bool
-is_shared b bits key = nat_eq (bit_at (slice_index_or b.words.items (key / 2 ^ bits % 2 ^ b.bits) 0) (key / 2 ^ bits / 2 ^ b.bits % 64)) 1
+is_shared b bits key =
+    nat_eq (bit_at (slice_index_or b.words.items (key / 2 ^ bits % 2 ^ b.bits) 0) (key / 2 ^ bits / 2 ^ b.bits % 64)) 1
 
 -- one of some keys or elements has the index
 abbrev pub HasIndex : {X : Type 0} → (X → ℕ) → List X → ℕ → Type 0
@@ -66,10 +68,12 @@ pub record IsKey (hashes : List ℕ) (bits key : ℕ) : Type 0 where
 -- keys of hashes, of all those at least that are there twice
 pub record AreKeysOf (hashes : List ℕ) (bits : ℕ) (keys : List ℕ) : Type 0 where
   pub each : All (IsKey hashes bits) keys
-  pub twice : (j k : ℕ) → j < k → k < length hashes → AreSameAt hashes j k → HasIndex (index_in bits) keys j × HasIndex (index_in bits) keys k
+  pub twice : (j k : ℕ) → j < k → k < length hashes → AreSameAt hashes j k → HasIndex (index_in bits) keys j
+      × HasIndex (index_in bits) keys k
 
 -- keys of some elements, of which that of a duplicate has the upper bits of the one before it
-pub record FindDuplicates {T : Type 0} (order : T → T → Ordering) (xs : List T) (bits : ℕ) (keys : List ℕ) : Type 0 where
+pub record FindDuplicates {T : Type 0} (order : T → T → Ordering) (xs : List T) (bits : ℕ) (keys : List ℕ) :
+    Type 0 where
   pub inside : All (λ key. key % 2 ^ bits < length xs) keys
   pub finds : (k : ℕ) → IsDuplicate order xs k → (at : ℕ) × IsSecond (HaveSameUpper bits) (index_in bits) keys at k
 
@@ -78,7 +82,8 @@ pub record AreIndexesBelow (len : ℕ) (indexes : List ℕ) : Type 0 where
   pub size : length indexes ≡ len
   pub at : (k : ℕ) → slice_index_or indexes k k ≡ k
 
--- at the index of each key whose upper bits are those of the one before it there is an earlier index, and nowhere a later one
+-- at the index of each key whose upper bits are those of the one before it there is an earlier index, and nowhere a
+-- later one
 pub record AreFirsts (len bits : ℕ) (keys firsts : List ℕ) : Type 0 where
   pub size : (firsts ≡ []) ⊎ (length firsts ≡ len)
   pub back : (k : ℕ) → slice_index_or firsts k k ≤ k

@@ -28,7 +28,8 @@ pub record IsEqualAt (g : List Reading) (before index : ℕ) : Type 0 where
 
 -- each positive reading that is flagged has the sides of an earlier one
 abbrev pub FlagsEqual : List Reading → List Bool → Type 0
-FlagsEqual g flags = (index : ℕ) → IsFlagged flags index → ((d : Reading) → IsPositive (slice_index_or g index d).mode) → (before : ℕ) × IsEqualAt g before index
+FlagsEqual g flags = (index : ℕ) → IsFlagged flags index → ((d : Reading) → IsPositive (slice_index_or g index d).mode)
+    → (before : ℕ) × IsEqualAt g before index
 
 -- whether a mode is negative
 abbrev pub excludes : Mode → Bool
@@ -42,19 +43,23 @@ side_order = option_cmp bytes_order
 
 -- the order of readings: by their source, by their destination, and negative ones after others
 abbrev pub sides_order : Reading → Reading → Ordering
-sides_order r s = ordering_then (ordering_then (side_order r.source s.source) (side_order r.destination s.destination)) (bool_cmp (excludes r.mode) (excludes s.mode))
+sides_order r s = ordering_then (ordering_then (side_order r.source s.source) (side_order r.destination s.destination))
+    (bool_cmp (excludes r.mode) (excludes s.mode))
 
 -- the hash of both sides by a seed. One that is missing has that of no bytes
 abbrev pub sides_hash : FoldHasher → Reading → ℕ
 sides_hash seed r = hash_after seed (unwrap_or r.source [] ∷ unwrap_or r.destination [] ∷ [])
 
 pub sides_total : IsTotalOrder sides_order
-sides_total = then_total (then_total (on_total (λ (r : Reading). r.source) (options_total nat_list_cmp_total)) (on_total (λ (r : Reading). r.destination) (options_total nat_list_cmp_total))) (on_total (λ (r : Reading). excludes r.mode) bool_cmp_total)
+sides_total = then_total (then_total (on_total (λ (r : Reading). r.source) (options_total nat_list_cmp_total))
+    (on_total (λ (r : Reading). r.destination) (options_total nat_list_cmp_total)))
+    (on_total (λ (r : Reading). excludes r.mode) bool_cmp_total)
 
 -- equal ones have the same hash
 pub sides_alike : (seed : FoldHasher) (r s : Reading) → sides_order r s ≡ Equal → sides_hash seed r ≡ sides_hash seed s
 sides_alike seed r s is =
-    let both = both_equal (ordering_then (side_order r.source s.source) (side_order r.destination s.destination)) _ is in
+    let both = both_equal (ordering_then (side_order r.source s.source) (side_order r.destination s.destination)) _
+    is in
     let sides = both_equal (side_order r.source s.source) _ both.0 in
     let source = same_options r.source s.source sides.0 in
     let destination = same_options r.destination s.destination sides.1 in

@@ -19,7 +19,13 @@ use Rattle.gix_refspec_match.specs.Private.Needles.{filled_side, word_in}
 
 -- a hit of the matcher on the ref at index j: its spec, its item, the item's name, and what the other side becomes
 abbrev pub hit_by : Matcher → ℕ → Ref → Hit
-hit_by m j r = record { spec = m.spec_index; item = j; near = r.name; far = filled_side m.other (word_in (kind_of_side m.needle) r.name) }
+hit_by m j r = record {
+  spec = m.spec_index;
+  item = j;
+  near = r.name;
+  far =
+      filled_side m.other (word_in (kind_of_side m.needle) r.name);
+}
 
 -- where there are such a matcher and such a ref
 abbrev pub hit_of_both : Option Matcher → Option Ref → ℕ → Hit
@@ -40,14 +46,20 @@ abbrev pub IsMappedHit : Candidates → Exclusions → List Matcher → List Ref
 IsMappedHit which es ms items k h m = (m ≡ mapping_of which (hit_of ms items h)) × ¬ (ExcludeStart es m.source)
 
 -- behind the old mappings is what the hits make
-pub record AddsMapped (which : Candidates) (es : Exclusions) (ms : List Matcher) (items : List Ref) (hits : List DeclaredHit) (old new : List Mapped) : Type 0 where
+pub record AddsMapped (which : Candidates) (es : Exclusions) (ms : List Matcher) (items : List Ref)
+    (hits : List DeclaredHit) (old new : List Mapped) : Type 0 where
   pub made : List Mapped
   pub are : IsMadeFrom (IsMappedHit which es ms items) 0 hits made
   pub all : new ≡ old ++ made
 
 -- the mapping of an object that is asked for
 abbrev pub object_mapping : ObjectSpec → Mapped
-object_mapping o = record { item = None; source = id (id_bytes o.id); destination = filled_side o.destination None; spec = o.spec_index }
+object_mapping o = record {
+  item = None;
+  source = id (id_bytes o.id);
+  destination = filled_side o.destination None;
+  spec = o.spec_index;
+}
 
 -- a mapping that may be left out after others: one of them has its pair, or readings of the group exclude it
 abbrev pub MayGo : List Reading → List Mapped → Mapped → Type 0

@@ -1,5 +1,6 @@
 -- The filter before the look-ups of names. Only private functions cite these words.
-use Rattle.std.specs.Prelude.{◌≡◌, ◌⊎◌, ◌≤◌, ◌-◌, ◌*◌, ◌/◌, ◌%◌, ◌^◌, ℕ, nat_lt, if◌then◌else◌, true, List, codes, drop, length}
+use Rattle.std.specs.Prelude.{◌≡◌, ◌⊎◌, ◌≤◌, ◌-◌, ◌*◌, ◌/◌, ◌%◌, ◌^◌, ℕ, nat_lt, if◌then◌else◌, true, List, codes, drop}
+use Rattle.std.specs.Prelude.{length}
 use Rattle.std.specs.Int.{from_le_bytes, w32, w64}
 use Rattle.gix_refspec_match.specs.declared.bloom.TheConstants.{MIXER}
 use Rattle.gix_refspec_match.specs.declared.bloom.NameFilter.{NameFilter}
@@ -25,7 +26,8 @@ pub record Passes (f : NameFilter) (n : List ℕ) : Type 0 where
 
 -- the number of the last four bytes of a name. Shorter names have 0
 abbrev pub short_tail_number : List ℕ → ℕ
-short_tail_number n = if nat_lt (length n) 4 then 0 else (from_le_bytes w32 (drop (length n - 4) n) * MIXER % 2 ^ 64) / 2 ^ 32
+short_tail_number n = if nat_lt (length n) 4 then 0 else (from_le_bytes w32 (drop (length n - 4) n) * MIXER % 2 ^ 64) /
+    2 ^ 32
 
 -- the last four bytes of the partial name are there, or it is known that some are shorter
 abbrev pub HasTail : ShortTails → List ℕ → Type 0

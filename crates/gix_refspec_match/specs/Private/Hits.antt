@@ -30,7 +30,8 @@ abbrev pub AreHitsOf : Matchers → List Ref → List DeclaredHit → Type 0
 AreHitsOf ms items hits = IsJoinedFrom (AreFound ms.candidates items) 0 ms.list.items hits
 
 -- those of one more are behind the others
-pub record AddsFound (which : Candidates) (items : List Ref) (kind : SideKind) (k : ℕ) (old new : List DeclaredHit) : Type 0 where
+pub record AddsFound (which : Candidates) (items : List Ref) (kind : SideKind) (k : ℕ) (old new : List DeclaredHit) :
+    Type 0 where
   pub made : List DeclaredHit
   pub are : IsMadeFrom (IsFound which items kind k) 0 items made
   pub all : new ≡ old ++ made

@@ -1,5 +1,6 @@
 -- How full names, partial ones and patterns are looked up. Only private functions cite these words.
-use Rattle.std.specs.Prelude.{◌≡◌, ◌⊎◌, ◌<◌, ℕ, List, [], ◌∷◌, ◌++◌, Bool, Option, None, Some, length, map, unwrap_or, option_map, bytes_eq, codes}
+use Rattle.std.specs.Prelude.{◌≡◌, ◌⊎◌, ◌<◌, ℕ, List, [], ◌∷◌, ◌++◌, Bool, Option, None, Some, length, map, unwrap_or}
+use Rattle.std.specs.Prelude.{option_map, bytes_eq, codes}
 use Rattle.std.specs.List.{AllByRecursion, Contains, slice_get}
 use Rattle.std.specs.HashMap as hash
 use Rattle.std.specs.HashMap.{HashMap}
@@ -28,7 +29,8 @@ TakesWhole (partial x) All items r = MatchesAs (partial x) r None
 
 -- the indexes of the refs that a side of the kind takes, in order
 abbrev pub ArePlacesTaken : SideKind → Candidates → List Ref → List ℕ → Type 0
-ArePlacesTaken kind which refs places = IsMadeFrom (λ k r place. TakesWhole kind which refs r × (place ≡ k)) 0 refs places
+ArePlacesTaken kind which refs places = IsMadeFrom (λ k r place. TakesWhole kind which refs r × (place ≡ k)) 0 refs
+    places
 
 -- the indexes of the refs of a name, in order
 abbrev pub ArePlacesOf : List ℕ → List Ref → List ℕ → Type 0
@@ -85,7 +87,8 @@ Joins All refs place old new = new ≡ old ++ place ∷ []
 
 -- what is listed for each name of which P holds changes as R says, and for no other. That is known of names
 -- that are as Known says
-pub record AddsWhere (Known P : List ℕ → Type 0) (R : List ℕ → List ℕ → Type 0) (old new : List ℕ → Option (Vec ℕ)) : Type 0 where
+pub record AddsWhere (Known P : List ℕ → Type 0) (R : List ℕ → List ℕ → Type 0) (old new : List ℕ → Option (Vec ℕ)) :
+    Type 0 where
   pub each : (x : List ℕ) (w : Vec ℕ) → Known x → old x ≡ Some w → (v : Vec ℕ) × (new x ≡ Some v)
       × ((P x × R w.items v.items) ⊎ (¬ (P x) × (v.items ≡ w.items)))
 
@@ -95,7 +98,8 @@ IsBelowPlace below x = (below ≡ codes "tags/" ++ x) ⊎ (below ≡ codes "head
 
 -- each of the partial names is listed, with the indexes of the refs that it takes by these candidates
 abbrev pub ListPartials : Candidates → List (List ℕ) → List Ref → (List ℕ → Option (Vec ℕ)) → Type 0
-ListPartials which names refs listed = (x : List ℕ) → Contains names x → (v : Vec ℕ) × (listed x ≡ Some v) × ArePlacesTaken (partial x) which refs v.items
+ListPartials which names refs listed = (x : List ℕ) → Contains names x → (v : Vec ℕ) × (listed x ≡ Some v)
+    × ArePlacesTaken (partial x) which refs v.items
 
 -- the index has the indexes of these names, and those of prefixes
 pub record IsIndexOf (which : Candidates) (names : Names) (refs : List Ref) (index : Index) : Type 0 where
@@ -114,7 +118,8 @@ HasNamesOf names (partial x) = Contains (map name_bytes names.partial.items) x
 abbrev pub HaveNamesOf : Matchers → Names → Type 0
 HaveNamesOf ms names = AllByRecursion (λ m. HasNamesOf names (kind_of_side m.needle)) ms.list.items
 
--- the indexes of the refs that a needle of the kind may take, strictly increasing. A full or a partial name takes them all
+-- the indexes of the refs that a needle of the kind may take, strictly increasing. A full or a partial name takes them
+-- all
 abbrev pub ListsFor : Candidates → List Ref → SideKind → List ℕ → Type 0
 ListsFor which refs (pattern before after) places = ArePlacesBehind before refs places
 ListsFor which refs (full_name x) places = ArePlacesTaken (full_name x) which refs places
@@ -135,7 +140,8 @@ pub record IsIndexFor (which : Candidates) (refs : List Ref) (index : Index) (ki
 
 -- what is listed are the indexes for a needle of the kind, where the index has its names
 abbrev pub Serves : Index → SideKind → List ℕ → Type 0
-Serves index kind listed = (which : Candidates) (refs : List Ref) → IsIndexFor which refs index kind → ListsFor which refs kind listed
+Serves index kind listed = (which : Candidates) (refs : List Ref) → IsIndexFor which refs index kind
+    → ListsFor which refs kind listed
 
 -- a needle of the kind is a name that is listed for no ref
 abbrev pub HasNone : Index → SideKind → Type 0

@@ -47,12 +47,17 @@ both_equal Greater b is = absurd (cc)
 
 -- the order of mappings: by their source, and then by their destination
 abbrev pub pair_order : Mapped → Mapped → Ordering
-pair_order m n = ordering_then (bool_cmp (is_id m.source) (is_id n.source)) (ordering_then (bytes_order (start_bytes m.source) (start_bytes n.source)) (option_cmp bytes_order m.destination n.destination))
+pair_order m n = ordering_then (bool_cmp (is_id m.source) (is_id n.source))
+    (ordering_then (bytes_order (start_bytes m.source) (start_bytes n.source))
+    (option_cmp bytes_order m.destination n.destination))
 
 pub pair_total : IsTotalOrder pair_order
-pair_total = then_total (on_total (λ (m : Mapped). is_id m.source) bool_cmp_total) (then_total (on_total (λ (m : Mapped). start_bytes m.source) nat_list_cmp_total) (on_total (λ (m : Mapped). m.destination) (options_total nat_list_cmp_total)))
+pair_total = then_total (on_total (λ (m : Mapped). is_id m.source) bool_cmp_total)
+    (then_total (on_total (λ (m : Mapped). start_bytes m.source) nat_list_cmp_total)
+    (on_total (λ (m : Mapped). m.destination) (options_total nat_list_cmp_total)))
 
-same_sources : (s t : Source) → bool_cmp (is_id s) (is_id t) ≡ Equal → bytes_order (start_bytes s) (start_bytes t) ≡ Equal → s ≡ t
+same_sources : (s t : Source) → bool_cmp (is_id s) (is_id t) ≡ Equal
+    → bytes_order (start_bytes s) (start_bytes t) ≡ Equal → s ≡ t
 same_sources (name m) (name n) kind is = ap name (same_texts m n is)
 same_sources (name m) (id n) kind is = absurd (cc)
 same_sources (id m) (name n) kind is = absurd (cc)
@@ -80,4 +85,6 @@ equal_pair m n same =
 
 -- and then they have the same hash
 pub pair_alike : (seed : FoldHasher) (m n : Mapped) → pair_order m n ≡ Equal → pair_hash seed m ≡ pair_hash seed n
-pair_alike seed m n is = let same = same_pair m n is in (λ i. hash_after seed (source_writes (same.source i) ++ fed.option (λ d. d ∷ []) (same.destination i)))
+pair_alike seed m n is = let same =
+    same_pair m n is in
+    (λ i. hash_after seed (source_writes (same.source i) ++ fed.option (λ d. d ∷ []) (same.destination i)))

@@ -9,7 +9,8 @@ use Rattle.gix_refspec_match.specs.Matching.Mappings.{Mapped}
 abbrev pub IsPartBehind : List Ref → List Ref → List Ref → List ℕ → Type 0
 IsPartBehind before [] part places = (part ≡ []) × (places ≡ [])
 IsPartBehind before (r ∷ refs) part places =
-    ((rest : List Ref) × (others : List ℕ) × (part ≡ r ∷ rest) × (places ≡ length before ∷ others) × IsPartBehind (before ++ r ∷ []) refs rest others)
+    ((rest : List Ref) × (others : List ℕ) × (part ≡ r ∷ rest) × (places ≡ length before ∷ others)
+    × IsPartBehind (before ++ r ∷ []) refs rest others)
     ⊎ (HasName before r.name × IsPartBehind (before ++ r ∷ []) refs part places)
 
 abbrev pub IsPart : List Ref → List Ref → List ℕ → Type 0

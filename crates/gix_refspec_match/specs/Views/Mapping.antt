@@ -26,11 +26,22 @@ start_of (source_ref.ObjectId i) = id (id_bytes i)
 
 -- the mapping as plain data
 abbrev pub mapped_of : Mapping → Mapped
-mapped_of m = record { item = m.item_index; source = start_of m.lhs; destination = option_map name_bytes m.rhs; spec = m.spec_index }
+mapped_of m = record {
+  item = m.item_index;
+  source = start_of m.lhs;
+  destination = option_map name_bytes m.rhs;
+  spec =
+      m.spec_index;
+}
 
 -- the ref that an item stands for
 abbrev pub ref_of : Item → Ref
-ref_of i = record { name = bstr_bytes i.full_ref_name; target = id_bytes i.target.now; object = option_map (λ o. id_bytes o.now) i.object }
+ref_of i = record {
+  name = bstr_bytes i.full_ref_name;
+  target = id_bytes i.target.now;
+  object =
+      option_map (λ o. id_bytes o.now) i.object;
+}
 
 -- the name is lent
 abbrev pub IsBorrowed : NameRef → Type 0

@@ -1,5 +1,6 @@
 -- What is fetched without specs, and local refs that no spec could write.
-use Rattle.gix_refspec_plan.proofs.Common.{◌≡◌, ℕ, false, List, [], ◌∷◌, inl, inr, length, refl, arith, ap, Default, fetched_alone, head}
+use Rattle.gix_refspec_plan.proofs.Common.{◌≡◌, ℕ, false, List, [], ◌∷◌, inl, inr, length, refl, arith, ap, Default}
+use Rattle.gix_refspec_plan.proofs.Common.{fetched_alone, head}
 use Rattle.gix_refspec_plan.proofs.facts.ExampleLemmas.{one_in}
 use Rattle.gix_refspec_plan.specs.Matching.Plan.{Asked, AreConfigured, Wish, by_configuration, by_default}
 use Rattle.gix_refspec_plan.specs.Matching.Stale.{IsKeptBy, IsSourceOf}

@@ -1,7 +1,8 @@
 -- What git fetch writes, by git-fetch(1) under `<refspec>`, `--refmap`, `--tags` and "configured remote-tracking
 -- branches". How a destination without `refs/` is completed, which of several merge refs is fetched, and that a
 -- missing source or a conflict stops the whole fetch, isn't in the manual of Git 2.39; Git does so.
-use Rattle.std.specs.Prelude.{◌≡◌, ◌≢◌, ◌⊎◌, ℕ, Bool, true, false, List, [], ◌∷◌, ◌++◌, Option, None, Some, IsSome, map, take, codes, MatchOption}
+use Rattle.std.specs.Prelude.{◌≡◌, ◌≢◌, ◌⊎◌, ℕ, Bool, true, false, List, [], ◌∷◌, ◌++◌, Option, None, Some, IsSome, map}
+use Rattle.std.specs.Prelude.{take, codes, MatchOption}
 use Rattle.std.specs.List.{AllByRecursion, AllZip, Contains, slice_get}
 use Rattle.gix_refspec_plan.specs.declared.Origin.{Origin}
 use Rattle.gix_refspec_plan.specs.declared.Origin.TheVariants as origin
@@ -25,7 +26,8 @@ use Rattle.gix_refspec.specs.Matching.Validation.{ShareDestination}
 
 -- ---- what is asked for
 
--- what a fetch is asked for: the specs of the call, those of the configuration, the values of branch.<name>.merge of the
+-- what a fetch is asked for: the specs of the call, those of the configuration, the values of branch.<name>.merge of
+-- the
 -- current branch, if it tracks this remote, and whether all tags are asked for
 pub record Wish : Type 0 where
   pub given : List Reading
@@ -51,7 +53,8 @@ pub record IsCompleted (r completed : Reading) : Type 0 where
   pub mode : completed.mode ≡ r.mode
   pub source : completed.source ≡ r.source
   pub destination : MatchOption r.destination (completed.destination ≡ None)
-      (λ d. (HasStar d × (completed.destination ≡ Some d)) ⊎ (Lacks star d × (completed.destination ≡ Some (written_name_of d))))
+      (λ d. (HasStar d × (completed.destination ≡ Some d))
+      ⊎ (Lacks star d × (completed.destination ≡ Some (written_name_of d))))
 
 -- the mappings of the specs over the refs, with completed destinations: those of `match_lhs`
 pub record AreMapped (asked : List Asked) (refs : List Ref) (mapped : List Mapped) : Type 0 where
@@ -61,7 +64,8 @@ pub record AreMapped (asked : List Asked) (refs : List Ref) (mapped : List Mappe
 
 -- the specs of a list that P allows, each with its index
 abbrev pub AreThose : (Reading → Type 0) → (ℕ → Origin) → List Reading → List Asked → Type 0
-AreThose P origin_at specs asked = IsMadeFrom (λ k r a. (a ≡ record { reading = r; origin = origin_at k }) × P r) 0 specs asked
+AreThose P origin_at specs asked = IsMadeFrom (λ k r a. (a ≡ record { reading = r; origin = origin_at k }) × P r) 0
+    specs asked
 
 -- the reading is positive; it is negative
 abbrev pub IsPositiveReading : Reading → Type 0
@@ -91,28 +95,37 @@ Covers mapped n = (m : Mapped) × Contains mapped m × IsSound m × (m.source �
 
 -- ---- which specs map the refs of the remote
 
--- the merged refs that no sound mapping covers, each once. Of a value that isn't a ref name Git takes a ref if the server
+-- the merged refs that no sound mapping covers, each once. Of a value that isn't a ref name Git takes a ref if the
+-- server
 -- happens to list it, for another spec or as a tag; here such a value is ignored
 abbrev pub AreMerges : List (List ℕ) → List Mapped → List Asked → Type 0
-AreMerges merges mapped asked = IsMadeFrom (λ k n a. (a ≡ record { reading = fetched_alone n; origin = origin.Merge k }) × IsRefName n × ¬ (Covers mapped n) × ¬ (Contains (take k merges) n)) 0 merges asked
+AreMerges merges mapped asked = IsMadeFrom (λ k n a. (a ≡ record { reading = fetched_alone n; origin = origin.Merge k })
+    × IsRefName n × ¬ (Covers mapped n) × ¬ (Contains (take k merges) n)) 0 merges asked
 
 -- what the current branch merges and no configured spec fetches
 abbrev pub AreUncovered : Wish → List Ref → List Asked → Type 0
 AreUncovered wish refs asked =
     ((wish.merges ≡ []) × (asked ≡ []))
-    ⊎ ((configured : List Asked) × (mapped : List Mapped) × AreThose (λ r. Unit {0}) origin.Configured wish.configured configured
+    ⊎ ((configured : List Asked) × (mapped : List Mapped)
+    × AreThose (λ r. Unit {0}) origin.Configured wish.configured configured
     × AreMapped configured refs mapped × AreMerges wish.merges mapped asked)
 
--- the specs without any in the call: the configured ones, and what the current branch merges; or `HEAD` where there are neither
+-- the specs without any in the call: the configured ones, and what the current branch merges; or `HEAD` where there are
+-- neither
 pub data AreConfigured (wish : Wish) (refs : List Ref) (asked : List Asked) : Type 0 where
   by_configuration : (configured merges : List Asked) → (wish.configured ≢ []) ⊎ (wish.merges ≢ [])
-      → AreThose (λ r. Unit {0}) origin.Configured wish.configured configured → AreUncovered wish refs merges → asked ≡ configured ++ merges → AreConfigured wish refs asked
-  by_default : wish.configured ≡ [] → wish.merges ≡ [] → asked ≡ record { reading = fetched_alone head; origin = origin.Default } ∷ [] → AreConfigured wish refs asked
+      → AreThose (λ r. Unit {0}) origin.Configured wish.configured configured → AreUncovered wish refs merges
+      → asked ≡ configured ++ merges → AreConfigured wish refs asked
+  by_default : wish.configured ≡ [] → wish.merges ≡ []
+      → asked ≡ record { reading = fetched_alone head; origin = origin.Default } ∷ [] → AreConfigured wish refs asked
 
--- the specs that map the refs of the remote: those of the call, if there are any. Behind them all tags, where they are asked for
+-- the specs that map the refs of the remote: those of the call, if there are any. Behind them all tags, where they are
+-- asked for
 pub data AreAsked (wish : Wish) (refs : List Ref) (asked : List Asked) : Type 0 where
-  by_call : (given : List Asked) → wish.given ≢ [] → AreThose (λ r. Unit {0}) origin.Given wish.given given → asked ≡ given ++ tags_asked wish.tags → AreAsked wish refs asked
-  without : (configured : List Asked) → wish.given ≡ [] → AreConfigured wish refs configured → asked ≡ configured ++ tags_asked wish.tags → AreAsked wish refs asked
+  by_call : (given : List Asked) → wish.given ≢ [] → AreThose (λ r. Unit {0}) origin.Given wish.given given
+      → asked ≡ given ++ tags_asked wish.tags → AreAsked wish refs asked
+  without : (configured : List Asked) → wish.given ≡ [] → AreConfigured wish refs configured
+      → asked ≡ configured ++ tags_asked wish.tags → AreAsked wish refs asked
 
 -- a sound mapping has the ref at index k as its source
 abbrev pub IsTakenAt : List Mapped → ℕ → Type 0
@@ -129,14 +142,19 @@ pub record AreTaken (given : List Reading) (refs : List Ref) (indexes : List ℕ
 
 -- with given specs the positive configured ones are applied to the refs that these took, and the negative given ones
 -- exclude from them; without given specs nothing is tracked besides
-pub data IsTracked (wish : Wish) (refs : List Ref) (asked : List Asked) (indexes : List ℕ) (mapped : List Mapped) : Type 0 where
-  by_call : (positive negative : List Asked) (taken : List Ref) → wish.given ≢ [] → AreThose IsPositiveReading origin.Configured wish.configured positive → AreThose IsNegativeReading origin.Given wish.given negative
-      → asked ≡ positive ++ negative → AreTaken wish.given refs indexes taken → AreMapped asked taken mapped → IsTracked wish refs asked indexes mapped
+pub data IsTracked (wish : Wish) (refs : List Ref) (asked : List Asked) (indexes : List ℕ) (mapped : List Mapped) :
+    Type 0 where
+  by_call : (positive negative : List Asked) (taken : List Ref) → wish.given ≢ []
+      → AreThose IsPositiveReading origin.Configured wish.configured positive
+      → AreThose IsNegativeReading origin.Given wish.given negative
+      → asked ≡ positive ++ negative → AreTaken wish.given refs indexes taken → AreMapped asked taken mapped
+      → IsTracked wish refs asked indexes mapped
   nothing : wish.given ≡ [] → asked ≡ [] → indexes ≡ [] → mapped ≡ [] → IsTracked wish refs asked indexes mapped
 
 -- ---- the plan
 
--- what a fetch does with a ref or an object: where it is on the remote, its index among the refs, what it is written to, which
+-- what a fetch does with a ref or an object: where it is on the remote, its index among the refs, what it is written
+-- to, which
 -- spec does so, and whether it is written
 pub record Planned : Type 0 where
   pub source : Source
@@ -169,7 +187,8 @@ HaveNested m n = (d : List ℕ) × (e : List ℕ) × (m.destination ≡ Some d) 
 abbrev pub IsObstructed : List Mapped → Mapped → Type 0
 IsObstructed l m = (n : Mapped) × Contains l n × IsSound n × HaveNested m n
 
--- the verdict on a mapping of the specs that map refs of the remote, where these and the configured ones make all the mappings
+-- the verdict on a mapping of the specs that map refs of the remote, where these and the configured ones make all the
+-- mappings
 abbrev pub HasVerdict : List Mapped → List Mapped → Mapped → Verdict → Type 0
 HasVerdict l all m verdict.Written = IsSound m × ¬ (IsContested l m) × ¬ (IsObstructed all m)
 HasVerdict l all m (verdict.LeftOut side) = IsUnwritableAt side m
@@ -179,11 +198,13 @@ HasVerdict l all m verdict.DirectoryConflict = IsSound m × ¬ (IsContested l m)
 
 -- and on a mapping of the configured specs that are applied besides: what is fetched to its destination wins
 abbrev pub HasSecondVerdict : List Mapped → List Mapped → List Mapped → Mapped → Verdict → Type 0
-HasSecondVerdict firsts l all m verdict.Written = IsSound m × ¬ (IsTakenOver firsts m) × ¬ (IsContested l m) × ¬ (IsObstructed all m)
+HasSecondVerdict firsts l all m verdict.Written = IsSound m × ¬ (IsTakenOver firsts m) × ¬ (IsContested l m)
+    × ¬ (IsObstructed all m)
 HasSecondVerdict firsts l all m (verdict.LeftOut side) = IsUnwritableAt side m
 HasSecondVerdict firsts l all m verdict.InConflict = IsSound m × ¬ (IsTakenOver firsts m) × IsContested l m
 HasSecondVerdict firsts l all m verdict.Overruled = IsSound m × IsTakenOver firsts m
-HasSecondVerdict firsts l all m verdict.DirectoryConflict = IsSound m × ¬ (IsTakenOver firsts m) × ¬ (IsContested l m) × IsObstructed all m
+HasSecondVerdict firsts l all m verdict.DirectoryConflict = IsSound m × ¬ (IsTakenOver firsts m) × ¬ (IsContested l m)
+    × IsObstructed all m
 
 -- the origin is that of the spec at the index of the mapping
 abbrev pub HasOrigin : List Asked → Mapped → Origin → Type 0
@@ -197,8 +218,10 @@ pub record IsPlanned (asked : List Asked) (firsts seconds : List Mapped) (m : Ma
   pub origin : HasOrigin asked m p.origin
   pub verdict : HasVerdict firsts (firsts ++ seconds) m p.verdict
 
--- what is planned for one of the second list: without a destination it would do nothing, and its pair may be in the first
-pub record IsPlannedBesides (asked : List Asked) (indexes : List ℕ) (firsts seconds : List Mapped) (m : Mapped) (p : Planned) : Type 0 where
+-- what is planned for one of the second list: without a destination it would do nothing, and its pair may be in the
+-- first
+pub record IsPlannedBesides (asked : List Asked) (indexes : List ℕ) (firsts seconds : List Mapped) (m : Mapped)
+    (p : Planned) : Type 0 where
   pub updates : IsSome m.destination
   pub new : ¬ (HasPair firsts m)
   pub source : p.source ≡ m.source
@@ -217,7 +240,8 @@ MayBeMissing origin.AllTags = ⊥
 
 -- the origins of the specs whose source no ref has, without those that may be missing
 abbrev pub AreLacking : List Ref → List Asked → List Origin → Type 0
-AreLacking refs asked missing = IsMadeFrom (λ k a o. (o ≡ a.origin) × ¬ (MayBeMissing o) × LacksSource refs a.reading) 0 asked missing
+AreLacking refs asked missing = IsMadeFrom (λ k a o. (o ≡ a.origin) × ¬ (MayBeMissing o) × LacksSource refs a.reading) 0
+    asked missing
 
 -- a fetch of the plan is carried out: no source is missing, and nothing is in conflict
 pub record IsCarriedOut (planned : List Planned) (missing : List Origin) : Type 0 where

@@ -1,6 +1,9 @@
--- Which local refs a pruning fetch should delete, by git-fetch(1) under `--prune`: those that "no longer exist on the remote".
--- That a ref is kept of which some source is excluded, and that an object may be written at any time, isn't in the manual.
--- Git compares the sides of a spec without a star as they are written, and excludes none of its sources, so it deletes more.
+-- Which local refs a pruning fetch should delete, by git-fetch(1) under `--prune`: those that "no longer exist on the
+-- remote".
+-- That a ref is kept of which some source is excluded, and that an object may be written at any time, isn't in the
+-- manual.
+-- Git compares the sides of a spec without a star as they are written, and excludes none of its sources, so it deletes
+-- more.
 use Rattle.std.specs.Prelude.{◌≡◌, ℕ, List, [], Option, None, Some, MatchOption, take}
 use Rattle.std.specs.List.{AllZip, Contains, slice_get}
 use Rattle.gix_refspec_text.specs.Specs.Reading.{Reading}
@@ -25,7 +28,8 @@ pub record CanWrite (r : Reading) (n : List ℕ) (word : Option (List ℕ)) : Ty
   pub has : completed.destination ≡ Some destination
   pub matches : Matches destination (ref_named n) word
 
--- and from the ref s of the remote: the one with that word, the full name, or one of the six candidates of a partial name
+-- and from the ref s of the remote: the one with that word, the full name, or one of the six candidates of a partial
+-- name
 pub record CanWriteFrom (r : Reading) (n s : List ℕ) : Type 0 where
   pub word : Option (List ℕ)
   pub writes : CanWrite r n word
@@ -68,7 +72,8 @@ pub record IsFetched (g : List Reading) (remote : List Ref) (n : List ℕ) : Typ
   pub has : Contains mapped mapping
   pub destination : mapping.destination ≡ Some n
 
--- n looks stale, as no fetch writes it, but one of the refs from which it could be written is excluded by the spec at index k
+-- n looks stale, as no fetch writes it, but one of the refs from which it could be written is excluded by the spec at
+-- index k
 pub record IsKeptBy (g : List Reading) (remote : List Ref) (n : List ℕ) (k : ℕ) : Type 0 where
   pub unwritten : ¬ (IsFetched g remote n)
   pub source : List ℕ
@@ -85,4 +90,5 @@ pub record Found : Type 0 where
 -- the local refs that are stale or kept, in order; of those of one name the first
 abbrev pub AreStale : List Reading → List Ref → List Ref → List Found → Type 0
 AreStale g remote locals found =
-    IsMadeFrom (λ k local f. (f.item ≡ k) × ¬ (HasName (take k locals) local.name) × MatchOption f.kept_by (IsStale g remote local.name) (IsKeptBy g remote local.name)) 0 locals found
+    IsMadeFrom (λ k local f. (f.item ≡ k) × ¬ (HasName (take k locals) local.name)
+    × MatchOption f.kept_by (IsStale g remote local.name) (IsKeptBy g remote local.name)) 0 locals found

@@ -27,4 +27,5 @@ IsNestedIn names d = Contains names d × ((e : List ℕ) × Contains names e × 
 
 -- exactly these names are in the map, each with one that is a directory of it, or is in it
 abbrev pub TellNestedIn : List (List ℕ) → BTreeMap (Bor (List ℕ)) (Bor (List ℕ)) → Type 0
-TellNestedIn names nested = (d : List ℕ) → MatchOption (get_by (λ k. slice_cmp nat_cmp d k.now) nested) (¬ (IsNestedIn names d)) (λ e. Contains names d × (Contains names e.now × AreNested d e.now))
+TellNestedIn names nested = (d : List ℕ) → MatchOption (get_by (λ k. slice_cmp nat_cmp d k.now) nested)
+    (¬ (IsNestedIn names d)) (λ e. Contains names d × (Contains names e.now × AreNested d e.now))

@@ -57,7 +57,8 @@ AreNames merges mapped names = (sources : List (List ℕ)) × AreSoundNames mapp
 
 -- the merged refs that sound mappings are of, or that are given before, are flagged
 abbrev pub FlagCovered : List (List ℕ) → List Mapped → List Bool → Type 0
-FlagCovered merges mapped flags = (k : ℕ) (d : List ℕ) → k < length merges → IsFlagged flags k ↔ (Covers mapped (slice_index_or merges k d) ⊎ Contains (take k merges) (slice_index_or merges k d))
+FlagCovered merges mapped flags = (k : ℕ) (d : List ℕ) → k < length merges → IsFlagged flags k
+    ↔ (Covers mapped (slice_index_or merges k d) ⊎ Contains (take k merges) (slice_index_or merges k d))
 
 -- of so many items those of sound mappings are flagged
 pub record FlagsTaken (mapped : List Mapped) (len : ℕ) (flags : List Bool) : Type 0 where

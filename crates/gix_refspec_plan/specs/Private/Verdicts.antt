@@ -1,5 +1,6 @@
 -- What becomes of updates, and how that is found. Only private functions use these definitions.
-use Rattle.std.specs.Prelude.{◌≡◌, ◌⊎◌, ◌↔◌, ◌<◌, ◌+◌, ℕ, Bool, List, [], ◌∷◌, ◌++◌, Option, None, Some, is_some, length, slice_index_or, unwrap_or, true, false, IsTrue}
+use Rattle.std.specs.Prelude.{◌≡◌, ◌⊎◌, ◌↔◌, ◌<◌, ◌+◌, ℕ, Bool, List, [], ◌∷◌, ◌++◌, Option, None, Some, is_some}
+use Rattle.std.specs.Prelude.{length, slice_index_or, unwrap_or, true, false, IsTrue}
 use Rattle.std.specs.Borrow.{Bor}
 use Rattle.std.specs.BTreeMap.{BTreeMap, get_by}
 use Rattle.std.specs.Cmp.Lexicographic.{slice_cmp}
@@ -10,7 +11,8 @@ use Rattle.gix_refspec_plan.specs.declared.Verdict.{Verdict}
 use Rattle.gix_refspec_match.specs.Matching.Lists.{IsMadeFrom}
 use Rattle.gix_refspec_match.specs.Matching.Mappings.{AreApart, HasPair, Mapped}
 use Rattle.gix_refspec_match.specs.Private.Kept.{IsFlagged}
-use Rattle.gix_refspec_plan.specs.Matching.Plan.{AreNested, Asked, HasVerdict, IsPlanned, IsPlannedBesides, IsSound, Planned}
+use Rattle.gix_refspec_plan.specs.Matching.Plan.{AreNested, Asked, HasVerdict, IsPlanned, IsPlannedBesides, IsSound}
+use Rattle.gix_refspec_plan.specs.Matching.Plan.{Planned}
 
 -- the mappings are of these specs, and no two have the same pair
 pub record AreMappings (asked : List Asked) (l : List Mapped) : Type 0 where
@@ -39,7 +41,8 @@ CountDestinations l counts = (d : List ℕ) → IsCount l d (get_by (λ k. slice
 
 -- exactly the destinations that several sound mappings have are looked up as true
 abbrev pub TellContested : List Mapped → BTreeMap (Bor (List ℕ)) Bool → Type 0
-TellContested l contested = (d : List ℕ) → (unwrap_or (get_by (λ k. slice_cmp nat_cmp d k.now) contested) false ≡ true) ↔ HasTwo (WritesTo d) l
+TellContested l contested = (d : List ℕ) → (unwrap_or (get_by (λ k. slice_cmp nat_cmp d k.now) contested) false ≡ true)
+    ↔ HasTwo (WritesTo d) l
 
 -- a sound mapping has the destination d, and one has a destination that is a directory of d, or is in d
 abbrev pub IsNestedAmong : List Mapped → List ℕ → Type 0
@@ -47,7 +50,8 @@ IsNestedAmong l d = Any (WritesTo d) l × ((e : List ℕ) × Any (WritesTo e) l 
 
 -- exactly these destinations are in the map
 abbrev pub TellNested : List Mapped → BTreeMap (Bor (List ℕ)) (Bor (List ℕ)) → Type 0
-TellNested l nested = (d : List ℕ) → IsTrue (is_some (get_by (λ k. slice_cmp nat_cmp d k.now) nested)) ↔ IsNestedAmong l d
+TellNested l nested = (d : List ℕ) → IsTrue (is_some (get_by (λ k. slice_cmp nat_cmp d k.now) nested))
+    ↔ IsNestedAmong l d
 
 -- the names are the destinations of the sound mappings
 abbrev pub AreSoundDestinations : List Mapped → List (List ℕ) → Type 0
@@ -61,11 +65,19 @@ AreVerdicts l seconds verdicts = AllZip (HasVerdict l (l ++ seconds)) l verdicts
 
 -- behind the first mappings those whose pair is among these are flagged
 abbrev pub FlagKnown : List Mapped → List Mapped → List Bool → Type 0
-FlagKnown firsts l flags = (k : ℕ) (d : Mapped) → k < length l → IsFlagged flags (length firsts + k) ↔ HasPair firsts (slice_index_or l k d)
+FlagKnown firsts l flags = (k : ℕ) (d : Mapped) → k < length l → IsFlagged flags (length firsts + k) ↔ HasPair firsts
+    (slice_index_or l k d)
 
 -- the update by a mapping, with these parts
 abbrev pub planned_by : Mapped → Option ℕ → Origin → Verdict → Planned
-planned_by m item origin verdict = record { source = m.source; item = item; destination = m.destination; origin = origin; verdict = verdict }
+planned_by m item origin verdict = record {
+  source = m.source;
+  item = item;
+  destination = m.destination;
+  origin =
+      origin;
+  verdict = verdict;
+}
 
 -- the updates of the first list of mappings
 abbrev pub AreFirst : List Asked → List Mapped → List Mapped → List Planned → Type 0
@@ -73,10 +85,12 @@ AreFirst asked firsts seconds planned = IsMadeFrom (λ k m p. IsPlanned asked fi
 
 -- and those of the second
 abbrev pub AreSecond : List Asked → List ℕ → List Mapped → List Mapped → List Planned → Type 0
-AreSecond tracking indexes firsts seconds planned = IsMadeFrom (λ k m p. IsPlannedBesides tracking indexes firsts seconds m p) 0 seconds planned
+AreSecond tracking indexes firsts seconds planned =
+    IsMadeFrom (λ k m p. IsPlannedBesides tracking indexes firsts seconds m p) 0 seconds planned
 
 -- the updates of both lists of mappings
-pub record AreJudged (asked : List Asked) (firsts : List Mapped) (tracking : List Asked) (indexes : List ℕ) (seconds : List Mapped) (planned : List Planned) : Type 0 where
+pub record AreJudged (asked : List Asked) (firsts : List Mapped) (tracking : List Asked) (indexes : List ℕ)
+    (seconds : List Mapped) (planned : List Planned) : Type 0 where
   pub before : List Planned
   pub behind : List Planned
   pub are_before : AreFirst asked firsts seconds before

@@ -11,7 +11,13 @@ use Rattle.gix_refspec_plan.specs.Matching.Plan.{Asked, Planned, Wish}
 
 -- what is asked for
 abbrev pub wish_of : DeclaredWish → Wish
-wish_of w = record { given = map reading_of w.given.now; configured = map reading_of w.configured.now; merges = map bstr_bytes w.merges.now; tags = w.tags }
+wish_of w = record {
+  given = map reading_of w.given.now;
+  configured = map reading_of w.configured.now;
+  merges =
+      map bstr_bytes w.merges.now;
+  tags = w.tags;
+}
 
 -- a spec and its origin
 abbrev pub asked_of : DeclaredAsked → Asked
@@ -19,4 +25,11 @@ asked_of a = record { reading = reading_of a.spec; origin = a.origin }
 
 -- an update
 abbrev pub planned_of : Update → Planned
-planned_of u = record { source = start_of u.source; item = u.item_index; destination = option_map bstring_bytes u.destination; origin = u.origin; verdict = u.verdict }
+planned_of u = record {
+  source = start_of u.source;
+  item = u.item_index;
+  destination =
+      option_map bstring_bytes u.destination;
+  origin = u.origin;
+  verdict = u.verdict;
+}

@@ -1,9 +1,15 @@
 -- The definitions on sides of specs, and the readings and names that other examples use.
-use Rattle.gix_refspec_text.proofs.Common.{rules, ◌≡◌, ◌≢◌, ℕ, zero, suc, ◌==◌, false, List, [], ◌∷◌, ◌++◌, None, Some, length, get_or, codes, refl, ap, ◌∙◌, subst, arith, AllByRecursion, Contains, list_any}
-use Rattle.gix_refspec_text.proofs.Common.{length-append, Fetch, Push, BeginsWith, IsSplit, star, IsIdText, Normal, Forced, Negative, Reading, fetched, full_name, object, partial, HasKind, Fits, Excludes}
-use Rattle.gix_refspec_text.proofs.Common.{the_name, by_pattern, Ref}
-use Rattle.gix_refspec_text.proofs.{facts.ManualFacts.{Lacks-tested, named}, readers.Texts.differ, lemmas.hits.MatchLemmas.{lacks_no_pattern, split_once}, lemmas.lists.LacksLemmas.Lacks-here}
-use Rattle.gix_refspec_text.proofs.{lemmas.texts.ObjectIdLemmas.no_kind, facts.ObjectIdFacts.{IsIdText-empty_blob, empty_blob}}
+use Rattle.gix_refspec_text.proofs.Common.{rules, ◌≡◌, ◌≢◌, ℕ, zero, suc, ◌==◌, false, List, [], ◌∷◌, ◌++◌, None, Some}
+use Rattle.gix_refspec_text.proofs.Common.{length, get_or, codes, refl, ap, ◌∙◌, subst, arith, AllByRecursion, Contains}
+use Rattle.gix_refspec_text.proofs.Common.{list_any, length-append, Fetch, Push, BeginsWith, IsSplit, star, IsIdText}
+use Rattle.gix_refspec_text.proofs.Common.{Normal, Forced, Negative, Reading, fetched, full_name, object, partial}
+use Rattle.gix_refspec_text.proofs.Common.{HasKind, Fits, Excludes, the_name, by_pattern, Ref}
+use Rattle.gix_refspec_text.proofs.facts.ManualFacts.{Lacks-tested, named}
+use Rattle.gix_refspec_text.proofs.readers.Texts.{differ}
+use Rattle.gix_refspec_text.proofs.lemmas.hits.MatchLemmas.{lacks_no_pattern, split_once}
+use Rattle.gix_refspec_text.proofs.lemmas.lists.LacksLemmas.{Lacks-here}
+use Rattle.gix_refspec_text.proofs.lemmas.texts.ObjectIdLemmas.{no_kind}
+use Rattle.gix_refspec_text.proofs.facts.ObjectIdFacts.{IsIdText-empty_blob, empty_blob}
 
 -- texts that differ at an index differ
 pub other_byte : (k : ℕ) (x y : List ℕ) → get_or x k 0 ≢ get_or y k 0 → x ≢ y
@@ -23,16 +29,27 @@ of_element P (y ∷ ys) x all (zero, below, is) = subst P is all.0
 of_element P (y ∷ ys) x all (suc k, below, is) = of_element P ys x all.1 (k, omega (arith, below), is)
 
 -- a word lies between the prefix and the suffix of a pattern, which never overlap
-pub fitting : Fits (codes "refs/heads/") [] (codes "refs/heads/main") (codes "main") × Fits (codes "refs/heads/a") (codes "a") (codes "refs/heads/aa") [] × ((w : List ℕ) → ¬ (Fits (codes "a") (codes "a") (codes "a") w))
-fitting = (refl, refl, λ word fits. let size : 1 ≡ suc (length (word ++ codes "a")) = ap length fits in omega (arith, size, length-append word (codes "a")))
+pub fitting : Fits (codes "refs/heads/") [] (codes "refs/heads/main") (codes "main") × Fits (codes "refs/heads/a")
+    (codes "a") (codes "refs/heads/aa") [] × ((w : List ℕ) → ¬ (Fits (codes "a") (codes "a") (codes "a") w))
+fitting = (
+  refl,
+  refl,
+  λ word fits. let size : 1 ≡ suc (length (word ++ codes "a")) =
+      ap length fits in omega (arith, size, length-append word (codes "a")),
+)
 
 -- a pattern that ends with its only star
-pub split_at_end : (before : List ℕ) → list_any (λ c. c == star) before ≡ false → IsSplit before [] (before ++ codes "*")
+pub split_at_end : (before : List ℕ) → list_any (λ c. c == star) before ≡ false
+    → IsSplit before [] (before ++ codes "*")
 split_at_end before none = record { starred = refl; first = Lacks-tested star before none; last = tt }
 
 -- a negative spec excludes exactly its name, and not a full name that it may be short for
-pub excludes_name : Excludes (codes "refs/heads/wip") (codes "refs/heads/wip") × ¬ (Excludes (codes "wip") (codes "refs/heads/wip"))
-excludes_name = (the_name (Lacks-tested star (codes "refs/heads/wip") refl) refl, search (rules, differ, lacks_no_pattern (codes "wip"), Lacks-tested))
+pub excludes_name : Excludes (codes "refs/heads/wip") (codes "refs/heads/wip")
+    × ¬ (Excludes (codes "wip") (codes "refs/heads/wip"))
+excludes_name = (
+  the_name (Lacks-tested star (codes "refs/heads/wip") refl) refl,
+  search (rules, differ, lacks_no_pattern (codes "wip"), Lacks-tested),
+)
 
 -- a pattern excludes the names that it matches, and no others
 pub excludes_dev : Excludes (codes "refs/heads/dev-*") (codes "refs/heads/dev-a")
@@ -41,8 +58,10 @@ excludes_dev = by_pattern (codes "refs/heads/dev-") [] (codes "a") (split_at_end
 pub excludes_no_main : ¬ (Excludes (codes "refs/heads/dev-*") (codes "refs/heads/main"))
 excludes_no_main (the_name lacks same) = Lacks-here star (codes "refs/heads/dev-") [] lacks
 excludes_no_main (by_pattern before after word split fits) =
-    let once = split_once (codes "refs/heads/dev-*") before after (codes "refs/heads/dev-") [] split (split_at_end (codes "refs/heads/dev-") refl) in
-    other_byte 11 (codes "refs/heads/main") (codes "refs/heads/dev-" ++ (word ++ after)) (λ same. omega (arith, same)) (fits ∙ ap (λ (y : List ℕ). y ++ (word ++ after)) once.0)
+    let once = split_once (codes "refs/heads/dev-*") before after (codes "refs/heads/dev-") [] split
+    (split_at_end (codes "refs/heads/dev-") refl) in
+    other_byte 11 (codes "refs/heads/main") (codes "refs/heads/dev-" ++ (word ++ after)) (λ same. omega (arith, same))
+    (fits ∙ ap (λ (y : List ℕ). y ++ (word ++ after)) once.0)
 
 -- what `git clone` writes, and an exclusion of git-fetch(1)
 abbrev pub every : Reading

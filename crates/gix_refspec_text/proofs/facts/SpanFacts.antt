@@ -1,8 +1,10 @@
 -- Which words of a text are wrong, and similar ones that aren't; stars; and where sides begin.
 use Rattle.gix_refspec_text.proofs.Common.{arith, refl, ◌≡◌, inl, inr, [], codes, EmptyComponent, StartsWithDot}
-use Rattle.gix_refspec_text.proofs.Common.{LockSuffix, EndsWithDot, RepeatedDot, ReflogPortion, InvalidByte, Normal, Forced, Negative}
+use Rattle.gix_refspec_text.proofs.Common.{LockSuffix, EndsWithDot, RepeatedDot, ReflogPortion, InvalidByte, Normal}
+use Rattle.gix_refspec_text.proofs.Common.{Forced, Negative}
 use Rattle.gix_refspec_text.proofs.{Common.{NegativeWithDestination, dot, slash, star}, readers.Texts.Lacks-tested}
-use Rattle.gix_refspec_text.specs.Specs.Span.{AreWrong, HasFirstStar, HasSecondStar, HasWrongWord, IsFirstWrongWord, IsWrong, index_of_side}
+use Rattle.gix_refspec_text.specs.Specs.Span.{AreWrong, HasFirstStar, HasSecondStar, HasWrongWord, IsFirstWrongWord}
+use Rattle.gix_refspec_text.specs.Specs.Span.{IsWrong, index_of_side}
 use Rattle.gix_refspec_text.specs.declared.parsing.Side.TheVariants.{Source, Destination}
 
 -- two slashes, or one that is first or last; a dot that is first, or after a slash; `.lock` at the end of a component
@@ -11,7 +13,8 @@ pub wrong_words :
     × IsWrong EmptyComponent (codes "a") (codes "/") [] × IsWrong StartsWithDot [] (codes ".") (codes "a")
     × IsWrong StartsWithDot (codes "a") (codes "/.") (codes "b") × IsWrong LockSuffix (codes "a") (codes ".lock") []
     × IsWrong LockSuffix (codes "a") (codes ".lock") (codes "/b") × IsWrong EndsWithDot (codes "a") (codes ".") []
-    × IsWrong RepeatedDot [] (codes "..") [] × IsWrong ReflogPortion [] (codes "@{") [] × IsWrong (InvalidByte 32) [] (codes " ") []
+    × IsWrong RepeatedDot [] (codes "..") [] × IsWrong ReflogPortion [] (codes "@{") [] × IsWrong (InvalidByte 32) []
+    (codes " ") []
 wrong_words = (
   inl refl,
   inr (refl, inl refl),
@@ -28,15 +31,21 @@ wrong_words = (
 
 -- a slash, a dot and `.lock` within a name, and a byte that isn't refused
 pub fine_words :
-    ¬ (IsWrong EmptyComponent (codes "a") (codes "/") (codes "b")) × ¬ (IsWrong StartsWithDot (codes "a") (codes ".") (codes "b"))
+    ¬ (IsWrong EmptyComponent (codes "a") (codes "/") (codes "b"))
+    × ¬ (IsWrong StartsWithDot (codes "a") (codes ".") (codes "b"))
     × ¬ (IsWrong EndsWithDot (codes "a") (codes ".") (codes "b")) × ¬ (IsWrong RepeatedDot [] (codes ".") [])
-    × ¬ (IsWrong ReflogPortion [] (codes "@") []) × ¬ (IsWrong (InvalidByte 97) [] (codes "a") []) × ¬ (IsWrong (InvalidByte 32) [] (codes "a") [])
+    × ¬ (IsWrong ReflogPortion [] (codes "@") []) × ¬ (IsWrong (InvalidByte 97) [] (codes "a") [])
+    × ¬ (IsWrong (InvalidByte 32) [] (codes "a") [])
 fine_words =
     (λ h. grind arith, λ h. grind arith, λ h. grind arith, λ h. cc, λ h. cc, λ h. grind arith, λ h. grind arith)
 
 pub fine_lock : ¬ (IsWrong LockSuffix (codes "a") (codes ".lock") (codes ".b"))
 fine_lock h =
-    elim h.1 [ inl none ↦ absurd (cc) | inr more ↦ let here = more.here in let same : dot ≡ slash = cc in omega (arith, same) ]
+    elim h.1 [
+      | inl none ↦ absurd (cc)
+      | inr more ↦ let here = more.here in let same : dot ≡ slash =
+          cc in omega (arith, same)
+    ]
 
 -- of the two wrong words of `a..b..` only one can be the first
 one_of_two : HasWrongWord (codes "a..b..") 1 2
@@ -64,7 +73,11 @@ not_the_second = (
     fault = RepeatedDot;
     wrong = refl;
   },
-  λ h. let late = h.first 1 2 one_of_two in elim late [ inl less ↦ omega (arith, less) | inr same ↦ omega (arith, same) ],
+  λ h. let late = h.first 1 2 one_of_two in elim late [
+    | inl less ↦ omega (arith, less)
+    | inr same ↦
+        omega (arith, same)
+  ],
 )
 
 -- the first and the second star of a side
@@ -89,7 +102,8 @@ stars = (
 )
 
 -- a destination of a negative spec is wrong as a whole, unless it is empty
-pub whole_destination : AreWrong NegativeWithDestination (codes "ab") 0 2 × ¬ (AreWrong NegativeWithDestination (codes "ab") 1 1) × ¬ (AreWrong NegativeWithDestination [] 0 0)
+pub whole_destination : AreWrong NegativeWithDestination (codes "ab") 0 2
+    × ¬ (AreWrong NegativeWithDestination (codes "ab") 1 1) × ¬ (AreWrong NegativeWithDestination [] 0 0)
 whole_destination = (((λ same. cc), refl, refl), λ h. omega (arith, h.1), λ h. h.0 refl)
 
 -- a sign and a colon come before a side

@@ -1,12 +1,15 @@
 -- The laws of the order of keys.
-use Rattle.std.proofs.Common.{◌≡◌, ◌==◌, ℕ, Bool, true, false, if◌then◌else◌, List, [], ◌∷◌, Option, None, Some, refl, sym, ap, ◌∙◌, subst, nat_eq}
+use Rattle.std.proofs.Common.{◌≡◌, ◌==◌, ℕ, Bool, true, false, if◌then◌else◌, List, [], ◌∷◌, Option, None, Some, refl}
+use Rattle.std.proofs.Common.{sym, ap, ◌∙◌, subst, nat_eq}
 use Rattle.std.specs.Ordering.{nat_cmp}
 use Rattle.std.specs.Cmp.{IsPartialOrder, IsTotalOrder, IsEquivalence, Agrees}
 use Rattle.std.specs.Hash.{Alike}
 use lib.Pointwise.{pointwise_decides, bytes_decides}
-use Rattle.gix_refspec_text.specs.Specs.Meaning.{Meaning, push_all_matching, push_delete, push_matching, push_exclude, fetch_only, fetch_exclude, fetch_and_update}
+use Rattle.gix_refspec_text.specs.Specs.Meaning.{Meaning, push_all_matching, push_delete, push_matching, push_exclude}
+use Rattle.gix_refspec_text.specs.Specs.Meaning.{fetch_only, fetch_exclude, fetch_and_update}
 use Rattle.gix_refspec_text.specs.Specs.Order.{key_of, keys, writes}
-use Rattle.std.specs.Cmp.Lexicographic.{pointwise, slice_cmp, slice_partial_cmp, lists_po, lists_agrees, lists_total, lists_equiv, texts_po, nat_list_cmp_total, nat_list_eq_equiv}
+use Rattle.std.specs.Cmp.Lexicographic.{pointwise, slice_cmp, slice_partial_cmp, lists_po, lists_agrees, lists_total}
+use Rattle.std.specs.Cmp.Lexicographic.{lists_equiv, texts_po, nat_list_cmp_total, nat_list_eq_equiv}
 
 -- equality of keys is an equivalence
 pub keys_equiv : IsEquivalence (pointwise (pointwise nat_eq))
@@ -20,7 +23,8 @@ keys_total = lists_total nat_list_cmp_total
 pub keys_po : IsPartialOrder (pointwise (pointwise nat_eq)) (λ xs ys. Some (slice_cmp (slice_cmp nat_cmp) xs ys))
 keys_po =
     let o = lists_po texts_po in
-    let a : Agrees (slice_partial_cmp (λ x y. Some (slice_cmp nat_cmp x y))) (slice_cmp (slice_cmp nat_cmp)) = lists_agrees (λ x y. refl) in
+    let a : Agrees (slice_partial_cmp (λ x y. Some (slice_cmp nat_cmp x y))) (slice_cmp (slice_cmp nat_cmp)) =
+    lists_agrees (λ x y. refl) in
     subst (IsPartialOrder (pointwise (pointwise nat_eq))) (λ i xs ys. a xs ys i) o
 
 -- reads a flag back from its bytes
@@ -82,7 +86,8 @@ of_key-keys (Some m) = of_key-key_of m
 
 -- meanings with equal keys are equal
 pub same_meaning : (m n : Option Meaning) → pointwise (pointwise nat_eq) (keys m) (keys n) ≡ true → m ≡ n
-same_meaning m n same = sym (of_key-keys m) ∙ (ap of_key ((pointwise_decides bytes_decides (keys m) (keys n)).0 same) ∙ of_key-keys n)
+same_meaning m n same = sym (of_key-keys m) ∙ (ap of_key ((pointwise_decides bytes_decides (keys m) (keys n)).0 same)
+    ∙ of_key-keys n)
 
 -- and equal meanings have equal keys
 pub same_keys : (m n : Option Meaning) → m ≡ n → pointwise (pointwise nat_eq) (keys m) (keys n) ≡ true

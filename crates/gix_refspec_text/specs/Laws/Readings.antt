@@ -59,7 +59,8 @@ ReadsBack op text = (r : Reading) → Reads op text r → IsPrintedBack op r
 
 -- readings of two texts have the same meaning exactly if their canonical texts are equal
 abbrev pub EqualTexts : Operation → List ℕ → List ℕ → Type 0
-EqualTexts op a b = (r q : Reading) → Reads op a r → Reads op b q → (meaning_of r ≡ meaning_of q) ↔ (printed r ≡ printed q)
+EqualTexts op a b = (r q : Reading) → Reads op a r → Reads op b q → (meaning_of r ≡ meaning_of q)
+    ↔ (printed r ≡ printed q)
 
 -- two readings have the same meaning exactly if they have the same operation and equal canonical texts
 abbrev pub EqualReadings : Reading → Reading → Type 0
@@ -98,7 +99,8 @@ OneWord before after n = (v w : List ℕ) → Fits before after n v → Fits bef
 
 -- the name of each ref that the side matches begins with the prefix of the side, unless the side is `HEAD`
 abbrev pub PrefixBegins : List ℕ → Type 0
-PrefixBegins x = (p : List ℕ) (r : Ref) (word : Option (List ℕ)) → IsPrefix x p → x ≢ head → Matches x r word → BeginsWith p r.name
+PrefixBegins x = (p : List ℕ) (r : Ref) (word : Option (List ℕ)) → IsPrefix x p → x ≢ head → Matches x r word
+    → BeginsWith p r.name
 
 -- a side has at most one prefix and at most one expansion
 pub record OnePrefix (x : List ℕ) : Type 0 where

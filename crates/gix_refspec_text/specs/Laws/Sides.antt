@@ -12,7 +12,8 @@ use Rattle.gix_refspec_text.specs.Laws.Readings.{OneWord}
 -- each side of the reading has at most one star; of two sides, both have a star or neither has
 pub record SidesAgree (r : Reading) : Type 0 where
   pub each : (x : List ℕ) → (r.source ≡ Some x) ⊎ (r.destination ≡ Some x) → HasOneStar x ⊎ Lacks star x
-  pub both : (s d : List ℕ) → r.source ≡ Some s → r.destination ≡ Some d → (HasOneStar s × HasOneStar d) ⊎ (Lacks star s × Lacks star d)
+  pub both : (s d : List ℕ) → r.source ≡ Some s → r.destination ≡ Some d → (HasOneStar s × HasOneStar d)
+      ⊎ (Lacks star s × Lacks star d)
 
 -- a side has at most one kind
 abbrev pub OneKind : List ℕ → Type 0

@@ -3,7 +3,8 @@
 -- of its candidates, and that an id matches each ref that points to it, are this project's own rules.
 use Rattle.std.specs.Prelude.{◌≡◌, ◌⊎◌, ℕ, List, [], ◌∷◌, ◌++◌, Option, None, Some}
 use Rattle.std.specs.List.{AllByRecursion}
-use Rattle.gix_refspec_text.specs.Matching.Side.{SideKind, pattern, full_name, object, partial, HasKind, candidates, IsCandidate, Fits}
+use Rattle.gix_refspec_text.specs.Matching.Side.{SideKind, pattern, full_name, object, partial, HasKind, candidates}
+use Rattle.gix_refspec_text.specs.Matching.Side.{IsCandidate, Fits}
 
 -- a ref: its full name, the id that it points to, and for a tag the id of the tagged object
 pub record Ref : Type 0 where

@@ -35,9 +35,11 @@ pub data Expands (x : List ℕ) (list : List (List ℕ)) : Type 0 where
   -- its prefix alone
   to_prefix : (p : List ℕ) → IsPrefix x p → list ≡ p ∷ [] → Expands x list
   -- without one, the side itself if no further slash follows `refs/`
-  to_itself : (rest : List ℕ) → HasNoPrefix x → x ≡ codes "refs/" ++ rest → Lacks slash rest → list ≡ x ∷ [] → Expands x list
+  to_itself : (rest : List ℕ) → HasNoPrefix x → x ≡ codes "refs/" ++ rest → Lacks slash rest → list ≡ x ∷ []
+      → Expands x list
   -- nothing if a further slash follows `refs/`
-  below_refs : (rest : List ℕ) → HasNoPrefix x → x ≡ codes "refs/" ++ rest → ContainsText (codes "/") rest → list ≡ [] → Expands x list
+  below_refs : (rest : List ℕ) → HasNoPrefix x → x ≡ codes "refs/" ++ rest → ContainsText (codes "/") rest → list ≡ []
+      → Expands x list
   -- nothing for an object id
   of_object : HasNoPrefix x → ¬ (BeginsWith (codes "refs/") x) → IsId x → list ≡ [] → Expands x list
   -- otherwise its candidates, with the star in them if it has one

@@ -64,13 +64,15 @@ full_name_of x =
     then codes "refs/" ++ x
     else codes "refs/heads/" ++ x
 
--- the ref that a fetch writes for a destination without a star: `refs/` is put before one that begins with `heads/`, `tags/`
+-- the ref that a fetch writes for a destination without a star: `refs/` is put before one that begins with `heads/`,
+-- `tags/`
 -- or `remotes/`, and `refs/heads/` before any other that doesn't begin with `refs/`. git-fetch(1) doesn't say so
 abbrev pub written_name_of : List ℕ → List ℕ
 written_name_of x =
     if starts_with nat_eq x (codes "refs/")
     then x
-    else (if starts_with nat_eq x (codes "heads/") || starts_with nat_eq x (codes "tags/") || starts_with nat_eq x (codes "remotes/")
+    else (if starts_with nat_eq x (codes "heads/") || starts_with nat_eq x (codes "tags/")
+    || starts_with nat_eq x (codes "remotes/")
     then codes "refs/" ++ x
     else codes "refs/heads/" ++ x)
 

@@ -1,6 +1,7 @@
 -- How one pass over the bytes finds a fault of a name. Only private functions cite this. A text is scanned with a
 -- slash before it, so that each of its components follows a slash.
-use Rattle.std.specs.Prelude.{◌≡◌, ◌≢◌, Bool, ◌⊎◌, ◌≤◌, ◌<◌, ◌-◌, [], ◌∷◌, ◌++◌, length, take, ℕ, ◌==◌, List, Option, MatchOption, codes, IsTrue, if◌then◌else◌, slice_index}
+use Rattle.std.specs.Prelude.{◌≡◌, ◌≢◌, Bool, ◌⊎◌, ◌≤◌, ◌<◌, ◌-◌, [], ◌∷◌, ◌++◌, length, take, ℕ, ◌==◌, List, Option}
+use Rattle.std.specs.Prelude.{MatchOption, codes, IsTrue, if◌then◌else◌, slice_index}
 use Rattle.std.specs.List.{count_by}
 use Rattle.std.specs.Int.{w64, trailing_zeros}
 use Rattle.gix_refspec_text.specs.declared.name.class.Class.{Class}
@@ -8,14 +9,17 @@ use Rattle.gix_refspec_text.specs.declared.name.class.Class.TheVariants.{Plain, 
 use Rattle.gix_refspec_text.specs.declared.name.Error.{Error}
 use Rattle.gix_refspec_text.specs.declared.name.Stop.{Stop}
 use Rattle.gix_refspec_text.specs.declared.name.Stop.TheVariants.{SecondStar, Fault}
-use Rattle.gix_refspec_text.specs.declared.name.Error.TheVariants.{Empty, EmptyComponent, StartsWithDot, LockSuffix, EndsWithDot, RepeatedDot, ReflogPortion, Asterisk, InvalidByte}
+use Rattle.gix_refspec_text.specs.declared.name.Error.TheVariants.{Empty, EmptyComponent, StartsWithDot, LockSuffix}
+use Rattle.gix_refspec_text.specs.declared.name.Error.TheVariants.{EndsWithDot, RepeatedDot, ReflogPortion, Asterisk}
+use Rattle.gix_refspec_text.specs.declared.name.Error.TheVariants.{InvalidByte}
 use Rattle.gix_refspec_text.specs.Texts.Bytes.{slash, star, dot, brace}
 use Rattle.gix_refspec_text.specs.Texts.Name.{is_refused_byte, HasFault, HasSeveralStars, with_letters}
 use Rattle.gix_refspec_text.specs.Texts.Words.{EndsWith}
 
 -- the class of the byte b
 abbrev pub class_at : ℕ → Class
-class_at b = if b == slash then Slash else if b == dot then Dot else if b == brace then Brace else if b == star then Star else if is_refused_byte b then Refused else Plain
+class_at b = if b == slash then Slash else if b == dot then Dot else if b == brace then Brace else if b == star then
+    Star else if is_refused_byte b then Refused else Plain
 
 -- the byte b, appended to y, adds the fault e
 abbrev pub AddsFault : List ℕ → ℕ → Error → Type 0

@@ -16,10 +16,11 @@ use Rattle.gix_refspec_text.specs.Texts.Words.{Lacks}
 use Rattle.gix_refspec_text.specs.Texts.Name.{IsName, HasFault, IsPattern}
 use Rattle.gix_refspec_text.specs.Texts.Bytes.{star, head}
 use Rattle.gix_refspec_text.specs.Specs.Reading.{Mode, Reading}
-use Rattle.gix_refspec_text.specs.Specs.Refusal.{Refusal, Empty, NegativeWithDestination, PushToEmpty, PatternUnsupported}
-use Rattle.gix_refspec_text.specs.Specs.Refusal.{ReferenceName, PatternUnbalanced, NegativeEmpty, NegativeObjectHash, Never}
-use Rattle.gix_refspec_text.specs.Specs.Refusal.{IsBadName, IsBadPattern, HasBadSource, HasBadDestination}
-use Rattle.gix_refspec_text.specs.Specs.Refusal.{NoReasonBeforeSource, IsFirstReason, IsRefused, ReachesMemory, MayNeedMemory}
+use Rattle.gix_refspec_text.specs.Specs.Refusal.{Refusal, Empty, NegativeWithDestination, PushToEmpty}
+use Rattle.gix_refspec_text.specs.Specs.Refusal.{PatternUnsupported, ReferenceName, PatternUnbalanced, NegativeEmpty}
+use Rattle.gix_refspec_text.specs.Specs.Refusal.{NegativeObjectHash, Never, IsBadName, IsBadPattern, HasBadSource}
+use Rattle.gix_refspec_text.specs.Specs.Refusal.{HasBadDestination, NoReasonBeforeSource, IsFirstReason, IsRefused}
+use Rattle.gix_refspec_text.specs.Specs.Refusal.{ReachesMemory, MayNeedMemory}
 use Rattle.gix_refspec_text.specs.Specs.Grammar.{named_by, AreParts, IsPositive, Reads}
 use Rattle.gix_refspec_text.specs.Views.Instruction.{mode_of, ShowsRefusal}
 use Rattle.gix_refspec_text.specs.declared.parsing.reading.Look.TheVariants as look
@@ -93,7 +94,12 @@ pub record ArePositive (op : Operation) (p : Parts) : Type 0 where
 
 -- the reading with these sides, and with the operation and the mode of the parts
 abbrev pub read_as : Parts → Sides → Reading
-read_as p sides = record { operation = p.operation; mode = mode_of p.mode; source = option_map bstr_bytes sides.source; destination = option_map bstr_bytes sides.destination }
+read_as p sides = record {
+  operation = p.operation;
+  mode = mode_of p.mode;
+  source = option_map bstr_bytes sides.source;
+  destination = option_map bstr_bytes sides.destination;
+}
 
 -- each text with these parts has the reading with these sides
 abbrev pub AreSidesOf : Parts → Sides → Type 0
@@ -107,7 +113,8 @@ IsReason op mode s d reason.PushToEmpty = IsFirstReason op mode s d PushToEmpty
 IsReason op mode s d (reason.Bad side.Source stop) =
     NoReasonBeforeSource op mode s d × IsStopBy (HasBadSource op s d) s stop
 IsReason op mode s d (reason.Bad side.Destination stop) =
-    NoReasonBeforeSource op mode s d × Never (HasBadSource op s d) × IsStopBy (HasBadDestination d) (unwrap_or d []) stop
+    NoReasonBeforeSource op mode s d × Never (HasBadSource op s d) × IsStopBy (HasBadDestination d)
+    (unwrap_or d []) stop
 IsReason op mode s d reason.PatternUnbalanced = IsFirstReason op mode s d PatternUnbalanced
 IsReason op mode s d reason.NegativeEmpty = IsFirstReason op mode s d NegativeEmpty
 IsReason op mode s d reason.NegativeObjectHash = IsFirstReason op mode s d NegativeObjectHash

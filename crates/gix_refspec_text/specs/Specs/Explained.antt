@@ -10,14 +10,16 @@ use Rattle.gix_refspec_text.specs.declared.parsing.Error.TheVariants as of_text
 -- what is wrong with a name
 abbrev pub name_explained : NameError → List ℕ
 name_explained of_name.Empty = codes "A ref name must not be empty."
-name_explained of_name.EmptyComponent = codes "A ref name must not begin or end with a slash, or have two slashes in a row."
+name_explained of_name.EmptyComponent =
+    codes "A ref name must not begin or end with a slash, or have two slashes in a row."
 name_explained of_name.StartsWithDot = codes "No part of a ref name between slashes may begin with a dot."
 name_explained of_name.LockSuffix = codes "No part of a ref name between slashes may end with `.lock`."
 name_explained of_name.EndsWithDot = codes "A ref name must not end with a dot."
 name_explained of_name.RepeatedDot = codes "A ref name must not have two dots in a row."
 name_explained of_name.ReflogPortion = codes "A ref name must not have `@{` in it."
 name_explained of_name.Asterisk = codes "A ref name must not have a `*` in it."
-name_explained (of_name.InvalidByte b) = codes "A ref name must not have a control character, a space or one of ~ ^ : ? [ \\ in it."
+name_explained (of_name.InvalidByte b) =
+    codes "A ref name must not have a control character, a space or one of ~ ^ : ? [ \\ in it."
 
 -- what is wrong with an id
 abbrev pub id_explained : IdError → List ℕ
@@ -30,7 +32,8 @@ explained of_text.Empty = codes "A refspec for a push must not be empty."
 explained of_text.NegativeWithDestination = codes "A refspec that begins with `^` must not have a destination."
 explained of_text.NegativeEmpty = codes "A refspec that begins with `^` needs a source after the `^`."
 explained of_text.NegativeObjectHash = codes "A refspec that begins with `^` must not have an object id as its source."
-explained of_text.NegativePartialName = codes "A refspec that begins with `^` needs a full name, which begins with `refs/`."
+explained of_text.NegativePartialName =
+    codes "A refspec that begins with `^` needs a full name, which begins with `refs/`."
 explained of_text.NegativeGlobPattern = codes "A refspec that begins with `^` must not have a pattern."
 explained of_text.InvalidFetchDestination = codes "The destination of a fetch must be the name of a ref."
 explained of_text.PushToEmpty = codes "A push needs a destination after the colon."

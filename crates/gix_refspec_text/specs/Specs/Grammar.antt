@@ -2,7 +2,8 @@
 -- reading of each. A push of two patterns is by git-push(1) under `--prune`. Not in the manuals of Git 2.39, but
 -- accepted by Git, are a push of a lone pattern, a negative spec in a push, and the empty source of a fetch. A lone
 -- `+` in a push is this project's own rule.
-use Rattle.std.specs.Prelude.{◌≡◌, ◌≢◌, ◌⊎◌, ◌≤◌, ℕ, ◌==◌, if◌then◌else◌, List, [], ◌∷◌, ◌++◌, Option, None, Some, length}
+use Rattle.std.specs.Prelude.{◌≡◌, ◌≢◌, ◌⊎◌, ◌≤◌, ℕ, ◌==◌, if◌then◌else◌, List, [], ◌∷◌, ◌++◌, Option, None, Some}
+use Rattle.std.specs.Prelude.{length}
 use Rattle.std.specs.List.{AllPass}
 use Rattle.std.specs.Char.{is_ascii_hexdigit}
 use Rattle.gix_refspec_text.specs.declared.parsing.Operation.{Operation}
@@ -76,31 +77,43 @@ pushed mode s d = record { operation = Push; mode = mode; source = s; destinatio
 -- also begin with `+`
 pub data Reads (op : Operation) (text : List ℕ) (r : Reading) : Type 0 where
   -- the empty text and `+`: a fetch of `HEAD`
-  fetches_nothing_named : (mode : Mode) → op ≡ Fetch → IsPositive mode → AreParts mode [] None text → r ≡ fetched mode head None → Reads op text r
+  fetches_nothing_named : (mode : Mode) → op ≡ Fetch → IsPositive mode → AreParts mode [] None text
+      → r ≡ fetched mode head None → Reads op text r
   -- `:` and `+:`: a fetch of `HEAD` too
-  fetches_colon : (mode : Mode) → op ≡ Fetch → IsPositive mode → AreParts mode [] (Some []) text → r ≡ fetched mode head None → Reads op text r
+  fetches_colon : (mode : Mode) → op ≡ Fetch → IsPositive mode → AreParts mode [] (Some []) text
+      → r ≡ fetched mode head None → Reads op text r
   -- `s` and `s:`
-  fetches : (mode : Mode) (s : List ℕ) → op ≡ Fetch → IsPositive mode → AreParts mode s None text ⊎ AreParts mode s (Some []) text → IsName s → r ≡ fetched mode (named_by s) None → Reads op text r
+  fetches : (mode : Mode) (s : List ℕ) → op ≡ Fetch → IsPositive mode → AreParts mode s None text
+      ⊎ AreParts mode s (Some []) text → IsName s → r ≡ fetched mode (named_by s) None → Reads op text r
   -- `s:d`
-  updates : (mode : Mode) (s d : List ℕ) → op ≡ Fetch → IsPositive mode → AreParts mode s (Some d) text → AreAlike s d → r ≡ fetched mode (named_by s) (Some d) → Reads op text r
+  updates : (mode : Mode) (s d : List ℕ) → op ≡ Fetch → IsPositive mode → AreParts mode s (Some d) text → AreAlike s d
+      → r ≡ fetched mode (named_by s) (Some d) → Reads op text r
   -- `:d`: from `HEAD`
-  updates_from_head : (mode : Mode) (d : List ℕ) → op ≡ Fetch → IsPositive mode → AreParts mode [] (Some d) text → IsName d → r ≡ fetched mode head (Some d) → Reads op text r
+  updates_from_head : (mode : Mode) (d : List ℕ) → op ≡ Fetch → IsPositive mode → AreParts mode [] (Some d) text
+      → IsName d → r ≡ fetched mode head (Some d) → Reads op text r
   -- `^s` in a fetch
-  fetch_excludes : (s : List ℕ) → op ≡ Fetch → AreParts Negative s None text → IsNameOrPattern s → ¬ (LooksLikeObjectHash s) → r ≡ fetched Negative (named_by s) None → Reads op text r
+  fetch_excludes : (s : List ℕ) → op ≡ Fetch → AreParts Negative s None text → IsNameOrPattern s
+      → ¬ (LooksLikeObjectHash s) → r ≡ fetched Negative (named_by s) None → Reads op text r
   -- `+`: a push of all matching branches
   pushes_plus : op ≡ Push → AreParts Forced [] None text → r ≡ pushed Forced None None → Reads op text r
   -- `:` and `+:`: a push of all matching branches too
-  pushes_colon : (mode : Mode) → op ≡ Push → IsPositive mode → AreParts mode [] (Some []) text → r ≡ pushed mode None None → Reads op text r
+  pushes_colon : (mode : Mode) → op ≡ Push → IsPositive mode → AreParts mode [] (Some []) text
+      → r ≡ pushed mode None None → Reads op text r
   -- `s`: to the same name
-  pushes : (mode : Mode) (s : List ℕ) → op ≡ Push → IsPositive mode → AreParts mode s None text → IsNameOrPattern s → r ≡ pushed mode (Some (named_by s)) None → Reads op text r
+  pushes : (mode : Mode) (s : List ℕ) → op ≡ Push → IsPositive mode → AreParts mode s None text → IsNameOrPattern s
+      → r ≡ pushed mode (Some (named_by s)) None → Reads op text r
   -- `:d`: deletes the ref d
-  deletes : (mode : Mode) (d : List ℕ) → op ≡ Push → IsPositive mode → AreParts mode [] (Some d) text → IsName d → r ≡ pushed mode None (Some d) → Reads op text r
+  deletes : (mode : Mode) (d : List ℕ) → op ≡ Push → IsPositive mode → AreParts mode [] (Some d) text → IsName d
+      → r ≡ pushed mode None (Some d) → Reads op text r
   -- `s:d` with two patterns
-  pushes_pattern : (mode : Mode) (s d : List ℕ) → op ≡ Push → IsPositive mode → AreParts mode s (Some d) text → IsPattern s → IsPattern d → r ≡ pushed mode (Some (named_by s)) (Some d) → Reads op text r
+  pushes_pattern : (mode : Mode) (s d : List ℕ) → op ≡ Push → IsPositive mode → AreParts mode s (Some d) text
+      → IsPattern s → IsPattern d → r ≡ pushed mode (Some (named_by s)) (Some d) → Reads op text r
   -- `s:d` where s is any expression for an object, such as `main~2` or `:/message`: any bytes but a star
-  pushes_to : (mode : Mode) (s d : List ℕ) → op ≡ Push → IsPositive mode → AreParts mode s (Some d) text → s ≢ [] → Lacks star s → IsName d → r ≡ pushed mode (Some (named_by s)) (Some d) → Reads op text r
+  pushes_to : (mode : Mode) (s d : List ℕ) → op ≡ Push → IsPositive mode → AreParts mode s (Some d) text → s ≢ []
+      → Lacks star s → IsName d → r ≡ pushed mode (Some (named_by s)) (Some d) → Reads op text r
   -- `^s` in a push
-  push_excludes : (s : List ℕ) → op ≡ Push → AreParts Negative s None text → IsNameOrPattern s → ¬ (LooksLikeObjectHash s) → r ≡ pushed Negative (Some (named_by s)) None → Reads op text r
+  push_excludes : (s : List ℕ) → op ≡ Push → AreParts Negative s None text → IsNameOrPattern s
+      → ¬ (LooksLikeObjectHash s) → r ≡ pushed Negative (Some (named_by s)) None → Reads op text r
 
 -- some text of its operation reads as r
 abbrev pub IsAccepted : Reading → Type 0

@@ -8,7 +8,8 @@ use Rattle.std.specs.Hash.{HashWrites}
 use Rattle.std.specs.Cmp.Lexicographic.{pointwise, slice_cmp}
 use Rattle.gix_refspec_text.specs.declared.parsing.Operation.{Operation}
 use Rattle.gix_refspec_text.specs.declared.parsing.Operation.TheVariants.{Push, Fetch}
-use Rattle.gix_refspec_text.specs.Specs.Meaning.{Meaning, push_all_matching, push_delete, push_matching, push_exclude, fetch_only, fetch_exclude, fetch_and_update}
+use Rattle.gix_refspec_text.specs.Specs.Meaning.{Meaning, push_all_matching, push_delete, push_matching, push_exclude}
+use Rattle.gix_refspec_text.specs.Specs.Meaning.{fetch_only, fetch_exclude, fetch_and_update}
 
 -- push before fetch
 abbrev pub rank_of : Operation → ℕ
@@ -47,11 +48,13 @@ keys (Some m) = key_of m
 abbrev pub writes_of : Meaning → HashWrites
 writes_of (push_all_matching forced) = fed.isize (pos 0) ++ (fed.isize (pos 0) ++ fed.bool forced)
 writes_of (push_delete d) = fed.isize (pos 0) ++ (fed.isize (pos 1) ++ fed.slice fed.u8 d)
-writes_of (push_matching s d forced) = fed.isize (pos 0) ++ (fed.isize (pos 2) ++ (fed.slice fed.u8 s ++ (fed.slice fed.u8 d ++ fed.bool forced)))
+writes_of (push_matching s d forced) =
+    fed.isize (pos 0) ++ (fed.isize (pos 2) ++ (fed.slice fed.u8 s ++ (fed.slice fed.u8 d ++ fed.bool forced)))
 writes_of (push_exclude s) = fed.isize (pos 0) ++ (fed.isize (pos 3) ++ fed.slice fed.u8 s)
 writes_of (fetch_only s) = fed.isize (pos 1) ++ (fed.isize (pos 0) ++ fed.slice fed.u8 s)
 writes_of (fetch_exclude s) = fed.isize (pos 1) ++ (fed.isize (pos 1) ++ fed.slice fed.u8 s)
-writes_of (fetch_and_update s d forced) = fed.isize (pos 1) ++ (fed.isize (pos 2) ++ (fed.slice fed.u8 s ++ (fed.slice fed.u8 d ++ fed.bool forced)))
+writes_of (fetch_and_update s d forced) =
+    fed.isize (pos 1) ++ (fed.isize (pos 2) ++ (fed.slice fed.u8 s ++ (fed.slice fed.u8 d ++ fed.bool forced)))
 
 -- what hashing the meaning of a reading writes
 abbrev pub writes : Option Meaning → HashWrites

@@ -43,4 +43,9 @@ fetched_alone x = record { operation = Fetch; mode = Normal; source = Some x; de
 
 -- the fetch of all tags, as `--tags` asks for it
 abbrev pub all_tags : Reading
-all_tags = record { operation = Fetch; mode = Normal; source = Some (codes "refs/tags/*"); destination = Some (codes "refs/tags/*") }
+all_tags = record {
+  operation = Fetch;
+  mode = Normal;
+  source = Some (codes "refs/tags/*");
+  destination = Some (codes "refs/tags/*");
+}

@@ -131,13 +131,15 @@ NeedsMemory x = HasSeveralStars x ⊎ (HasStar x × (256 < length x))
 
 -- no reason that comes before those of the source applies
 abbrev pub NoReasonBeforeSource : Operation → Mode → List ℕ → Option (List ℕ) → Type 0
-NoReasonBeforeSource op mode s d = Never (IsEmptyPush op mode s d) × Never (HasNegativeDestination mode d) × Never (PushesNowhere op s d)
+NoReasonBeforeSource op mode s d = Never (IsEmptyPush op mode s d) × Never (HasNegativeDestination mode d)
+    × Never (PushesNowhere op s d)
 
 -- the source may need memory and no reason before those of the source applies; or the destination may, and also no
 -- reason of the source applies
 abbrev pub ReachesMemory : Operation → Mode → List ℕ → Option (List ℕ) → Type 0
 ReachesMemory op mode s None = NoReasonBeforeSource op mode s None × NeedsMemory s
-ReachesMemory op mode s (Some d) = NoReasonBeforeSource op mode s (Some d) × (NeedsMemory s ⊎ (Never (HasBadSource op s (Some d)) × NeedsMemory d))
+ReachesMemory op mode s (Some d) = NoReasonBeforeSource op mode s (Some d)
+    × (NeedsMemory s ⊎ (Never (HasBadSource op s (Some d)) × NeedsMemory d))
 
 -- for the operation, the text has a side that may need memory before any reason applies
 pub record MayNeedMemory (op : Operation) (text : List ℕ) : Type 0 where

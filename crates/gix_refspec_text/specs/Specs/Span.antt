@@ -11,9 +11,9 @@ use Rattle.gix_refspec_text.specs.Texts.Bytes.{star}
 use Rattle.gix_refspec_text.specs.Texts.Words.{Lacks, BeginsWith}
 use Rattle.gix_refspec_text.specs.Texts.Name.{is_refused_byte, with_letters}
 use Rattle.gix_refspec_text.specs.Specs.Reading.{Mode, Normal, Forced, Negative}
-use Rattle.gix_refspec_text.specs.Specs.Refusal.{Refusal, Empty, NegativeWithDestination, PushToEmpty, PatternUnsupported}
-use Rattle.gix_refspec_text.specs.Specs.Refusal.{ReferenceName, PatternUnbalanced, NegativeEmpty, NegativeObjectHash}
-use Rattle.gix_refspec_text.specs.Specs.Refusal.{Never, HasBadSource, IsFirstReason}
+use Rattle.gix_refspec_text.specs.Specs.Refusal.{Refusal, Empty, NegativeWithDestination, PushToEmpty}
+use Rattle.gix_refspec_text.specs.Specs.Refusal.{PatternUnsupported, ReferenceName, PatternUnbalanced, NegativeEmpty}
+use Rattle.gix_refspec_text.specs.Specs.Refusal.{NegativeObjectHash, Never, HasBadSource, IsFirstReason}
 use Rattle.gix_refspec_text.specs.Specs.Grammar.{AreParts}
 
 -- the word w of a text, between these two texts, has the fault
@@ -99,7 +99,8 @@ index_of_side mode s Source = sign_length mode
 index_of_side mode s Destination = sign_length mode + length s + 1
 
 -- for a refused text with these parts, n bytes of this side x, from the index i on, are wrong by the first reason
-pub record AreFirstWrong (op : Operation) (mode : Mode) (s : List ℕ) (d : Option (List ℕ)) (side : Side) (x : List ℕ) (i n : ℕ) : Type 0 where
+pub record AreFirstWrong (op : Operation) (mode : Mode) (s : List ℕ) (d : Option (List ℕ)) (side : Side) (x : List ℕ)
+    (i n : ℕ) : Type 0 where
   pub refusal : Refusal
   pub first : IsFirstReason op mode s d refusal
   pub word : IsSide s d side x

@@ -1,9 +1,12 @@
 -- Ref names, by git-check-ref-format(1) with `--allow-onelevel`, and patterns, by git-fetch(1): texts with one star
 -- that are ref names with a letter in its place. Unlike in the manual, `@` is a ref name.
-use Rattle.std.specs.Prelude.{◌≡◌, ◌≢◌, ℕ, Bool, ◌||◌, ◌==◌, nat_lt, List, [], ◌∷◌, ◌++◌, codes, map, if◌then◌else◌, IsTrue}
+use Rattle.std.specs.Prelude.{◌≡◌, ◌≢◌, ℕ, Bool, ◌||◌, ◌==◌, nat_lt, List, [], ◌∷◌, ◌++◌, codes, map, if◌then◌else◌}
+use Rattle.std.specs.Prelude.{IsTrue}
 use Rattle.std.specs.List.{list_any}
 use Rattle.gix_refspec_text.specs.declared.name.Error.{Error}
-use Rattle.gix_refspec_text.specs.declared.name.Error.TheVariants.{Empty, EmptyComponent, StartsWithDot, LockSuffix, EndsWithDot, RepeatedDot, ReflogPortion, Asterisk, InvalidByte}
+use Rattle.gix_refspec_text.specs.declared.name.Error.TheVariants.{Empty, EmptyComponent, StartsWithDot, LockSuffix}
+use Rattle.gix_refspec_text.specs.declared.name.Error.TheVariants.{EndsWithDot, RepeatedDot, ReflogPortion, Asterisk}
+use Rattle.gix_refspec_text.specs.declared.name.Error.TheVariants.{InvalidByte}
 use Rattle.gix_refspec_text.specs.Texts.Bytes.{slash, star, letter}
 use Rattle.gix_refspec_text.specs.Texts.Words.{Lacks, ContainsText, BeginsWith, EndsWith, ArePartsAt}
 

@@ -1,7 +1,8 @@
 -- Object ids, which gitglossary(7) calls object names, and the texts that spell them. A text has 40 digits (SHA-1) or
 -- 64 (SHA-256), and is read in either case and printed in lower case: this project's own rule, after what Git accepts
 -- and prints.
-use Rattle.std.specs.Prelude.{◌≡◌, ℕ, ◌+◌, ◌*◌, nat_le, ◌&&◌, ◌||◌, Bool, false, List, length, take, slice_index, codes, Some}
+use Rattle.std.specs.Prelude.{◌≡◌, ℕ, ◌+◌, ◌*◌, nat_le, ◌&&◌, ◌||◌, Bool, false, List, length, take, slice_index, codes}
+use Rattle.std.specs.Prelude.{Some}
 use Rattle.std.specs.List.{AllPass, EachIndex, SomeIndex}
 use Rattle.hex.specs.Hex.{encode_lower, hex_digit_value, is_hex_digit}
 use Rattle.gix_refspec_text.specs.declared.oid.Error.{Error}

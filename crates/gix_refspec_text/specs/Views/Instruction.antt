@@ -9,8 +9,11 @@ use Rattle.gix_refspec_text.specs.declared.instruction.Fetch.{Fetch}
 use Rattle.gix_refspec_text.specs.declared.parsing.Operation.{Operation}
 use Rattle.gix_refspec_text.specs.declared.parsing.Error.{Error}
 use Rattle.gix_refspec_text.specs.Specs.Reading.{Mode, Normal, Forced, Negative}
-use Rattle.gix_refspec_text.specs.Specs.Refusal.{Refusal, Empty, NegativeWithDestination, PushToEmpty, PatternUnsupported, ReferenceName, PatternUnbalanced, NegativeEmpty, NegativeObjectHash}
-use Rattle.gix_refspec_text.specs.Specs.Meaning.{Meaning, push_all_matching, push_delete, push_matching, push_exclude, fetch_only, fetch_exclude, fetch_and_update}
+use Rattle.gix_refspec_text.specs.Specs.Refusal.{Refusal, Empty, NegativeWithDestination, PushToEmpty}
+use Rattle.gix_refspec_text.specs.Specs.Refusal.{PatternUnsupported, ReferenceName, PatternUnbalanced, NegativeEmpty}
+use Rattle.gix_refspec_text.specs.Specs.Refusal.{NegativeObjectHash}
+use Rattle.gix_refspec_text.specs.Specs.Meaning.{Meaning, push_all_matching, push_delete, push_matching, push_exclude}
+use Rattle.gix_refspec_text.specs.Specs.Meaning.{fetch_only, fetch_exclude, fetch_and_update}
 use Rattle.gix_refspec_text.specs.declared.types.Mode.TheVariants as declared_mode
 use Rattle.gix_refspec_text.specs.declared.types.Instruction.TheVariants as instruction
 use Rattle.gix_refspec_text.specs.declared.instruction.Push.TheVariants as push

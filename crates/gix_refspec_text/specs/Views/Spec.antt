@@ -11,7 +11,13 @@ use Rattle.gix_refspec_text.specs.Views.Instruction.{mode_of}
 
 -- the reading of a spec: its fields, with the sides as bytes
 abbrev pub reading_of : RefSpecRef → Reading
-reading_of s = record { operation = s.op; mode = mode_of s.mode; source = option_map bstr_bytes s.src; destination = option_map bstr_bytes s.dst }
+reading_of s = record {
+  operation = s.op;
+  mode = mode_of s.mode;
+  source = option_map bstr_bytes s.src;
+  destination =
+      option_map bstr_bytes s.dst;
+}
 
 -- the key by which specs compare
 abbrev pub key_of_spec : RefSpecRef → List (List ℕ)
@@ -19,7 +25,12 @@ key_of_spec s = keys (meaning_of (reading_of s))
 
 -- the reading of an owned spec
 abbrev pub owned_reading_of : RefSpec → Reading
-owned_reading_of s = record { operation = s.op; mode = mode_of s.mode; source = option_map bstring_bytes s.src; destination = option_map bstring_bytes s.dst }
+owned_reading_of s = record {
+  operation = s.op;
+  mode = mode_of s.mode;
+  source = option_map bstring_bytes s.src;
+  destination = option_map bstring_bytes s.dst;
+}
 
 -- the key by which owned specs compare
 abbrev pub key_of_owned : RefSpec → List (List ℕ)

@@ -12,4 +12,5 @@ returns-in_ok-to_bstring-in-Some c =
     let r = reading_of c.in-Some.spec in
     let reads : ReadsOnlyAs c.args.operation text r = rw c.in-Some.is at c.in_ok-spec.ensures.ok in
     let back = (rw c.as_bytes.ensures at c.reads_back.ensures) r reads.reads in
-    canonical_text c.args.operation text (bstring_bytes c.in_ok-to_bstring-in-Some.field-0) r reads.reads back c.in_ok-to_bstring-in-Some.ensures
+    canonical_text c.args.operation text (bstring_bytes c.in_ok-to_bstring-in-Some.field-0) r reads.reads back
+    c.in_ok-to_bstring-in-Some.ensures

@@ -18,5 +18,6 @@ unreachable-requires c =
 
 pub returns-clause-ok : goal.returns-clause-ok
 returns-clause-ok c =
-    let reads : ReadsOnlyAs Fetch (bstr_bytes c.new-text.result) (reading_of c.in-Some.spec) = rw c.in-Some.is at c.in_ok-spec.ensures.ok in
+    let reads : ReadsOnlyAs Fetch (bstr_bytes c.new-text.result) (reading_of c.in-Some.spec) =
+    rw c.in-Some.is at c.in_ok-spec.ensures.ok in
     sym (reads.only branches_of_origin (written (bstr_bytes c.new-text.result) c.new-text.ensures))

@@ -1,5 +1,6 @@
 -- Exit statuses, the input of a call, and the output of `canon`.
-use Rattle.std.proofs.Common.{◌≡◌, ℕ, true, false, List, [], ◌∷◌, ◌++◌, Some, inl, codes, length, refl, ap, subst, arith}
+use Rattle.std.proofs.Common.{◌≡◌, ℕ, true, false, List, [], ◌∷◌, ◌++◌, Some, inl, codes, length, refl, ap, subst}
+use Rattle.std.proofs.Common.{arith}
 use Rattle.gix_refspec_text.specs.declared.parsing.Operation.TheVariants.{Fetch}
 use Rattle.refspec_io.specs.declared.call.Form.TheVariants as form
 use Rattle.refspec_io.specs.Shown.{AddsNames}
@@ -36,7 +37,11 @@ shown = (
   (
     codes "HEAD" ∷ codes "main" ∷ [],
     canonical.0,
-    (codes "HEAD\nmain\n", (codes "HEAD", codes "main\n", inl refl, (codes "main", [], inl refl, refl, refl), refl), refl),
+    (
+      codes "HEAD\nmain\n",
+      (codes "HEAD", codes "main\n", inl refl, (codes "main", [], inl refl, refl, refl), refl),
+      refl,
+    ),
   ),
   (codes "HEAD" ∷ codes "main" ∷ [], canonical.0, refl),
 )

@@ -1,5 +1,6 @@
 -- Which prefixes are requested, as lines of protocol v2 and as patterns, and which aren't.
-use Rattle.std.proofs.Common.{◌≡◌, ℕ, true, false, List, [], ◌∷◌, ◌++◌, Some, inl, inr, codes, length, refl, ap, ◌∙◌, subst, arith}
+use Rattle.std.proofs.Common.{◌≡◌, ℕ, true, false, List, [], ◌∷◌, ◌++◌, Some, inl, inr, codes, length, refl, ap, ◌∙◌}
+use Rattle.std.proofs.Common.{subst, arith}
 use Rattle.std.specs.Str.{chars, is_utf8}
 use Rattle.gix_refspec.specs.Specs.Grammar.{fetched}
 use Rattle.gix_refspec.specs.Specs.Reading.{Negative, Normal, Reading}
@@ -10,7 +11,8 @@ use Rattle.gix_refspec_text.proofs.facts.FitFacts.{every, no_dev, other_byte}
 use Rattle.gix_refspec_text.proofs.facts.ManualFacts.{other_length}
 use Rattle.refspec_json.specs.Objects.{line_of, prefix_object}
 use Rattle.refspec_io.specs.declared.call.Form.TheVariants as form
-use Rattle.refspec_commands.specs.Prefixes.{AddsAll, AddsList, AddsNothing, AddsPrefixes, AreOthers, TakesWhole, argument, asked_object, request}
+use Rattle.refspec_commands.specs.Prefixes.{AddsAll, AddsList, AddsNothing, AddsPrefixes, AreOthers, TakesWhole}
+use Rattle.refspec_commands.specs.Prefixes.{argument, asked_object, request}
 use Rattle.std.proofs.lemmas.Option.{same_Some}
 
 -- a prefix is after the name of its argument, and a pattern ends with a star
@@ -142,7 +144,13 @@ reported = (
       },
       (
         _,
-        (codes "refs/", codes "ref-prefix refs/heads/\n", inl refl, (codes "refs/heads/", [], inl refl, refl, refl), refl),
+        (
+          codes "refs/",
+          codes "ref-prefix refs/heads/\n",
+          inl refl,
+          (codes "refs/heads/", [], inl refl, refl, refl),
+          refl,
+        ),
         refl,
       ),
     ),

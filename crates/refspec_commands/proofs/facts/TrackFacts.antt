@@ -1,5 +1,6 @@
 -- The specs by which refs are looked up: those whose destination isn't an object id.
-use Rattle.std.proofs.Common.{◌≡◌, ℕ, List, [], ◌∷◌, None, Some, inl, inr, codes, length, replicate, refl, sym, ap, arith}
+use Rattle.std.proofs.Common.{◌≡◌, ℕ, List, [], ◌∷◌, None, Some, inl, inr, codes, length, replicate, refl, sym, ap}
+use Rattle.std.proofs.Common.{arith}
 use Rattle.std.proofs.lemmas.Bool.{false≢true}
 use Rattle.gix_refspec_text.proofs.facts.FitFacts.{other_byte}
 use Rattle.gix_refspec.specs.Laws.Items.{HasIdDestination}
@@ -81,7 +82,14 @@ not_left_out = (kept, out)
 -- Git finds several remotes for a ref if that is more than one
 pub found_by : IsFoundBy 0 how.Tracked × IsFoundBy 1 how.Tracked × IsFoundBy 2 (how.Ambiguous 2)
     × ¬ (IsFoundBy 2 how.Tracked) × ¬ (IsFoundBy 1 (how.Ambiguous 1)) × ¬ (IsFoundBy 2 (how.Ambiguous 3))
-found_by = (omega arith, omega arith, (omega arith, refl), (λ few. omega (arith, few)), (λ many. omega (arith, many.0)), (λ other. omega (arith, other.1)))
+found_by = (
+  omega arith,
+  omega arith,
+  (omega arith, refl),
+  (λ few. omega (arith, few)),
+  (λ many. omega (arith, many.0)),
+  (λ other. omega (arith, other.1)),
+)
 
 -- a ref of which only the name is known points to the null id, and has no peeled object
 pub given : ((named (codes "refs/x/a")).name ≡ codes "refs/x/a")
@@ -98,13 +106,15 @@ abbrev unwritten : Mapped
 unwritten = record { item = None; source = name (codes "refs/x/b"); destination = None; spec = 0 }
 
 -- the destination is written, but neither the source nor another name
-pub writes : IsWritten (codes "refs/x/a") (unwritten ∷ written ∷ []) × ¬ (IsWritten (codes "refs/x/b") (unwritten ∷ written ∷ []))
+pub writes : IsWritten (codes "refs/x/a") (unwritten ∷ written ∷ [])
+    × ¬ (IsWritten (codes "refs/x/b") (unwritten ∷ written ∷ []))
     × ¬ (IsWritten (codes "refs/heads/a") (written ∷ []))
 writes = (inr (inl refl), nothing, source)
   where
     nothing : ¬ (IsWritten (codes "refs/x/b") (unwritten ∷ written ∷ []))
     nothing (inl same) = none_some (codes "refs/x/b") same
-    nothing (inr (inl same)) = other_byte 7 (codes "refs/x/a") (codes "refs/x/b") (λ byte. omega (arith, byte)) (same_Some (codes "refs/x/a") (codes "refs/x/b") same)
+    nothing (inr (inl same)) = other_byte 7 (codes "refs/x/a") (codes "refs/x/b") (λ byte. omega (arith, byte))
+        (same_Some (codes "refs/x/a") (codes "refs/x/b") same)
     nothing (inr (inr is)) = is
 
     source : ¬ (IsWritten (codes "refs/heads/a") (written ∷ []))
@@ -116,7 +126,8 @@ pub each : IsEachWritten (codes "refs/x/a" ∷ codes "refs/x/a" ∷ []) (written
     × ¬ (IsEachWritten (codes "refs/x/a" ∷ codes "refs/heads/a" ∷ []) (written ∷ []))
 each = ((inl refl, (inl refl, tt)), tt, λ are. writes.2 are.1.0)
 
-pub some : HasUnwritten (codes "refs/x/a" ∷ codes "refs/heads/a" ∷ []) (written ∷ []) × ¬ (HasUnwritten (codes "refs/x/a" ∷ []) (written ∷ []))
+pub some : HasUnwritten (codes "refs/x/a" ∷ codes "refs/heads/a" ∷ []) (written ∷ [])
+    × ¬ (HasUnwritten (codes "refs/x/a" ∷ []) (written ∷ []))
     × ¬ (HasUnwritten [] [])
 some = (inr (inl writes.2), no, λ has. has)
   where
@@ -125,7 +136,8 @@ some = (inr (inl writes.2), no, λ has. has)
     no (inr has) = has
 
 -- the set contains the destination, and isn't empty
-pub set_of : AreWritten (record { keys = record { ref_ptr = (0, 0); now = codes "refs/x/a" } ∷ [] }) (unwritten ∷ written ∷ []) → IsWritten (codes "refs/x/a") (unwritten ∷ written ∷ [])
+pub set_of : AreWritten (record { keys = record { ref_ptr = (0, 0); now = codes "refs/x/a" } ∷ [] })
+    (unwritten ∷ written ∷ []) → IsWritten (codes "refs/x/a") (unwritten ∷ written ∷ [])
 set_of are = (are (codes "refs/x/a")).0 refl
 
 pub not_empty : ¬ (AreWritten (record { keys = [] }) (written ∷ []))

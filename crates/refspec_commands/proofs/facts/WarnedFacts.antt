@@ -1,5 +1,7 @@
--- What warnings say, on which texts, and where: of a conflict the two sources and their destination, each once, and in this order.
-use Rattle.std.proofs.Common.{◌≡◌, ◌∷◌, [], None, ap, arith, codes, get_or, inl, inr, length, length-append, refl, subst, List, ℕ}
+-- What warnings say, on which texts, and where: of a conflict the two sources and their destination, each once, and in
+-- this order.
+use Rattle.std.proofs.Common.{◌≡◌, ◌∷◌, [], None, ap, arith, codes, get_or, inl, inr, length, length-append, refl}
+use Rattle.std.proofs.Common.{subst, List, ℕ}
 use Rattle.std.specs.List.{AllZip}
 use Rattle.gix_refspec_text.specs.Texts.Bytes.{star}
 use Rattle.gix_refspec_text.specs.declared.parsing.Operation.TheVariants as operation
@@ -8,7 +10,9 @@ use Rattle.gix_refspec_lint.specs.Matching.Lint.{Example, Nesting}
 use Rattle.gix_refspec_lint.specs.declared.Reason.TheVariants as reason
 use Rattle.refspec_io.specs.Texts.{Given, at_argument, at_setting}
 use Rattle.refspec_commands.specs.Seen.{HasUnread, Seen, of_key}
-use Rattle.refspec_commands.specs.Warned.{AreAt, FoundOrNone, AreLinesOf, AreSources, AreWithin, IsAmong, IsAtFirst, IsExampleMessage, IsForFetch, IsNestingMessage, IsOtherSaid, MayBeFull, Said, idle_name, nothing_asked, other_of}
+use Rattle.refspec_commands.specs.Warned.{AreAt, FoundOrNone, AreLinesOf, AreSources, AreWithin, IsAmong, IsAtFirst}
+use Rattle.refspec_commands.specs.Warned.{IsExampleMessage, IsForFetch, IsNestingMessage, IsOtherSaid, MayBeFull, Said}
+use Rattle.refspec_commands.specs.Warned.{idle_name, nothing_asked, other_of}
 
 abbrev example : Example
 example = record {
@@ -79,7 +83,8 @@ says_some_source (first, is_first, inl (same, is)) = omega (arith, ap length is)
 says_some_source (first, is_first, inr (differ, second, is_second, is)) = omega (arith, ap length is)
 
 -- both specs are among two, and not among one
-pub within_two : AreWithin 2 (nesting (name (codes "refs/tags/b"))) × ¬ (AreWithin 1 (nesting (name (codes "refs/tags/b"))))
+pub within_two : AreWithin 2 (nesting (name (codes "refs/tags/b")))
+    × ¬ (AreWithin 1 (nesting (name (codes "refs/tags/b"))))
 within_two = (record { upper = omega arith; lower = omega arith }, λ within. omega (arith, within.lower))
 
 abbrev text : Given
@@ -99,7 +104,8 @@ pub named : (idle_name reason.Invalid ≡ codes "idle_invalid") × (idle_name (r
     × (idle_name (reason.Duplicate 1) ≡ codes "idle_duplicate") × (idle_name reason.Duplicates ≡ codes "idle_duplicate")
 named = (refl, refl, refl, refl)
 
-pub others : (other_of reason.Invalid ≡ []) × (other_of (reason.Excluded 1) ≡ 1 ∷ []) × (other_of (reason.Duplicate 1) ≡ 1 ∷ [])
+pub others : (other_of reason.Invalid ≡ []) × (other_of (reason.Excluded 1) ≡ 1 ∷ [])
+    × (other_of (reason.Duplicate 1) ≡ 1 ∷ [])
     × (other_of reason.Duplicates ≡ [])
 others = (refl, refl, refl, refl)
 
@@ -125,7 +131,8 @@ pub not_full : ¬ (MayBeFull (codes "a"))
 not_full (inl is) = omega (arith, ap length is)
 not_full (inr (inl begins)) = omega (arith, ap length begins.here)
 not_full (inr (inr ([], after, is, lacks, either))) = omega (arith, ap (λ l. get_or l 0 0) is)
-not_full (inr (inr (x ∷ before, after, is, lacks, either))) = omega (arith, ap length is, length-append before (star ∷ after))
+not_full (inr (inr (x ∷ before, after, is, lacks, either))) =
+    omega (arith, ap length is, length-append before (star ∷ after))
 
 -- other warnings have three names
 pub other_said : IsOtherSaid (record { name = codes "partial_source"; spot = at_argument 1; texts = []; message = [] })
@@ -140,7 +147,8 @@ other_said = (
 )
 
 -- what was found is reported where a byte is free
-pub reported : ¬ (FoundOrNone [] (λ (found : List ℕ). found ≡ 7 ∷ []) (λ found said. AllZip (λ n s. Unit {0}) found said) [])
+pub reported :
+    ¬ (FoundOrNone [] (λ (found : List ℕ). found ≡ 7 ∷ []) (λ found said. AllZip (λ n s. Unit {0}) found said) [])
 reported (inl (found, is, zipped)) = subst (λ (l : List ℕ). AllZip {A = ℕ} {B = Said} (λ n s. Unit {0}) l []) is zipped
 reported (inr (free, none)) = free 255 (record { byte = omega arith; usable = refl; lacks = tt })
 

@@ -26,7 +26,8 @@ pub quoted : json_text (codes "\"a") ≡ codes "\"\\\"a\""
 quoted = refl
 
 -- the names of operations and reasons
-pub names : (operation_name operation.Fetch ≡ codes "fetch") × (operation_name operation.Push ≡ codes "push") × (reason_name error.PushToEmpty ≡ codes "PushToEmpty")
+pub names : (operation_name operation.Fetch ≡ codes "fetch") × (operation_name operation.Push ≡ codes "push")
+    × (reason_name error.PushToEmpty ≡ codes "PushToEmpty")
 names = (refl, refl, refl)
 
 -- ---- mappings
@@ -39,7 +40,8 @@ unwritten = record { item = None; source = name (codes "c"); destination = None;
 
 -- each mapping with the text of its own spec, appended
 pub mappings : AddsMappings form.Json (codes "c" ∷ codes "a:b" ∷ []) (mapped ∷ unwritten ∷ []) (codes "x")
-    (codes "x" ++ (line_of (mapping_object (codes "a") (Some (codes "b")) (codes "a:b") None) ++ (line_of (mapping_object (codes "c") None (codes "c") None) ++ [])))
+    (codes "x" ++ (line_of (mapping_object (codes "a") (Some (codes "b")) (codes "a:b") None)
+    ++ (line_of (mapping_object (codes "c") None (codes "c") None) ++ [])))
 unfolding is_utf8 chars lib.Utf8.encode
 mappings = refl
 
@@ -53,9 +55,15 @@ abbrev Same : List ℕ → List ℕ → Type 0
 Same x line = line ≡ x
 
 -- objects in order in JSON, and no objects in lines
-pub in_order : AddsObjects form.Json Same (codes "a" ∷ codes "b" ∷ []) (codes "x") (codes "xab") × AddsObjects form.Lines Same (codes "a" ∷ []) (codes "x") (codes "x")
+pub in_order : AddsObjects form.Json Same (codes "a" ∷ codes "b" ∷ []) (codes "x") (codes "xab")
+    × AddsObjects form.Lines Same (codes "a" ∷ []) (codes "x") (codes "x")
 in_order = ((codes "ab", (codes "a", codes "b", refl, (codes "b", [], refl, refl, refl), refl), refl), refl)
 
 -- earlier results stay, also in JSON
-pub kept : KeepsResults form.Json (codes "a") (codes "ab") × (KeepsResults form.Json (codes "a") (codes "b") → ⊥) × (KeepsResults form.Lines (codes "a") (codes "ab") → ⊥)
-kept = ((codes "b", refl), (λ grown. absurd (omega (arith, ap (λ (l : List ℕ). get_or l 0 0) grown.1))), (λ same. absurd (omega (arith, ap (λ (l : List ℕ). get_or l 1 0) same))))
+pub kept : KeepsResults form.Json (codes "a") (codes "ab") × (KeepsResults form.Json (codes "a") (codes "b") → ⊥)
+    × (KeepsResults form.Lines (codes "a") (codes "ab") → ⊥)
+kept = (
+  (codes "b", refl),
+  (λ grown. absurd (omega (arith, ap (λ (l : List ℕ). get_or l 0 0) grown.1))),
+  (λ same. absurd (omega (arith, ap (λ (l : List ℕ). get_or l 1 0) same))),
+)

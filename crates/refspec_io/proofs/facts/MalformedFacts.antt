@@ -11,8 +11,10 @@ abbrev text : List ℕ → Bor (List ℕ)
 text bytes = record { ref_ptr = (0, 0); now = bytes }
 
 -- the record of this input with this number, and not another one or an argument
-pub records : IsRecordOf (codes "-") 7 (location.Record (text (codes "-")) 7) × ¬ (IsRecordOf (codes "-") 7 (location.Record (text (codes "-")) 8))
-    × ¬ (IsRecordOf (codes "refs") 7 (location.Record (text (codes "-")) 7)) × ¬ (IsRecordOf (codes "-") 7 (location.Argument 7))
+pub records : IsRecordOf (codes "-") 7 (location.Record (text (codes "-")) 7)
+    × ¬ (IsRecordOf (codes "-") 7 (location.Record (text (codes "-")) 8))
+    × ¬ (IsRecordOf (codes "refs") 7 (location.Record (text (codes "-")) 7))
+    × ¬ (IsRecordOf (codes "-") 7 (location.Argument 7))
 records = ((refl, refl), (λ is. omega (arith, is.1)), (λ is. omega (arith, ap length is.0)), (λ is. is))
 
 abbrev bad : BadRecord
@@ -24,5 +26,12 @@ unfolding digits is_utf8 chars lib.Utf8.encode
 line = (
   location.Record (text (codes "-")) 7,
   (refl, refl),
-  record { location = codes "-:7"; message = codes "m"; is_location = (codes "-", (inl refl, (codes "-", (refl, refl))), refl); advice = codes "d"; is = refl },
+  record {
+    location = codes "-:7";
+    message = codes "m";
+    is_location =
+        (codes "-", (inl refl, (codes "-", (refl, refl))), refl);
+    advice = codes "d";
+    is = refl;
+  },
 )

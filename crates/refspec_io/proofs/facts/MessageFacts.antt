@@ -1,5 +1,6 @@
 -- Locations and refusals in messages: examples and counterexamples.
-use Rattle.std.proofs.Common.{◌≡◌, ◌⊎◌, ◌<◌, ◌≤◌, ℕ, List, [], ◌∷◌, ◌++◌, Bor, inl, inr, codes, get_or, length, length-append, refl, sym, ap, ap₂, ◌∙◌, subst, arith}
+use Rattle.std.proofs.Common.{◌≡◌, ◌⊎◌, ◌<◌, ◌≤◌, ℕ, List, [], ◌∷◌, ◌++◌, Bor, inl, inr, codes, get_or, length}
+use Rattle.std.proofs.Common.{length-append, refl, sym, ap, ap₂, ◌∙◌, subst, arith}
 use Rattle.std.specs.Fmt.{digits}
 use Rattle.gix_refspec_text.specs.declared.name.Error.TheVariants.{RepeatedDot}
 use Rattle.gix_refspec_text.specs.declared.parsing.Error.{Error}
@@ -16,18 +17,24 @@ use Rattle.gix_refspec_text.proofs.facts.GrammarFacts.{fetches_main}
 use Rattle.gix_refspec_text.proofs.facts.UnreadFacts.{nothing_pushed}
 use Rattle.refspec_io.specs.Texts.{given_of, argument_at}
 use Rattle.refspec_io.proofs.facts.WrongFacts.{excluded_line, excluded_line_is, excluded_wrong, wrong_lines}
-use Rattle.refspec_io.specs.Messages.{AreRefusalLines, AreRefusals, AreReportedOf, IsLocation, IsReasonLine, IsReportedOf, IsShownIn, WritesLocation, WritesReason, WritesRefusal, WritesShown, ReportsRefusal, ReportsRefusals}
+use Rattle.refspec_io.specs.Messages.{AreRefusalLines, AreRefusals, AreReportedOf, IsLocation, IsReasonLine}
+use Rattle.refspec_io.specs.Messages.{IsReportedOf, IsShownIn, WritesLocation, WritesReason, WritesRefusal, WritesShown}
+use Rattle.refspec_io.specs.Messages.{ReportsRefusal, ReportsRefusals}
 
 abbrev text : List ℕ → Bor (List ℕ)
 text bytes = record { ref_ptr = (0, 0); now = bytes }
 
 -- a spec by its number, a record by its input and its number, a setting by its file and key
-pub locations : IsLocation form.Lines (location.Argument 2) (codes "spec 2") × IsLocation form.Lines (location.Record (text (codes "-")) 10) (codes "-:10") × IsLocation form.Lines (location.Setting (text (codes "file:c")) (text (codes "remote.o.fetch"))) (codes "file:c: remote.o.fetch")
+pub locations : IsLocation form.Lines (location.Argument 2) (codes "spec 2")
+    × IsLocation form.Lines (location.Record (text (codes "-")) 10) (codes "-:10")
+    × IsLocation form.Lines (location.Setting (text (codes "file:c")) (text (codes "remote.o.fetch")))
+    (codes "file:c: remote.o.fetch")
 unfolding digits
 locations = (refl, (codes "-", inl refl, refl), (codes "file:c", codes "remote.o.fetch", inl refl, inl refl, refl))
 
 -- quoted in lines, and raw in records
-pub quoted : IsLocation form.Lines (location.Record (text (codes "a\tb")) 1) (codes "\"a\\tb\":1") × IsLocation form.Zeros (location.Record (text (codes "a\tb")) 1) (codes "a\tb:1")
+pub quoted : IsLocation form.Lines (location.Record (text (codes "a\tb")) 1) (codes "\"a\\tb\":1")
+    × IsLocation form.Zeros (location.Record (text (codes "a\tb")) 1) (codes "a\tb:1")
 unfolding digits
 quoted = ((codes "\"a\\tb\"", inr refl, refl), (codes "a\tb", refl, refl))
 
@@ -103,7 +110,8 @@ no_reasons = (other_sentence, other_location, other_text)
           is.is_spot quoted)
     ]
 
-    other_sentence : ¬ (IsReasonLine (given_of dots) fault (codes "spec 2: a..b: A ref name must not end with a dot.\n"))
+    other_sentence :
+        ¬ (IsReasonLine (given_of dots) fault (codes "spec 2: a..b: A ref name must not end with a dot.\n"))
     other_sentence is = elim (begins _ is) [
       | inl same ↦ omega (arith, ap length same)
       | inr same ↦ omega (
@@ -112,13 +120,15 @@ no_reasons = (other_sentence, other_location, other_text)
       )
     ]
 
-    other_location : ¬ (IsReasonLine (given_of dots) fault (codes "spec 1: a..b: A ref name must not have two dots in a row.\n"))
+    other_location :
+        ¬ (IsReasonLine (given_of dots) fault (codes "spec 1: a..b: A ref name must not have two dots in a row.\n"))
     other_location is = elim (begins _ is) [
       | inl same ↦ omega (arith, ap (λ (l : List ℕ). get_or l 5 0) same)
       | inr same ↦ omega (arith, ap (λ (l : List ℕ). get_or l 5 0) same)
     ]
 
-    other_text : ¬ (IsReasonLine (given_of dots) fault (codes "spec 2: a..: A ref name must not have two dots in a row.\n"))
+    other_text : ¬
+        (IsReasonLine (given_of dots) fault (codes "spec 2: a..: A ref name must not have two dots in a row.\n"))
     other_text is = elim (begins _ is) [
       | inl same ↦ omega (arith, ap length same)
       | inr same ↦ omega (
@@ -227,7 +237,8 @@ reported = ((_, (_, refusal_lines [], refl), refl), (codes "x\n", refl, refl), r
 
 -- no refused text is left out, and nothing else is reported
 pub not_reported : ¬ (ReportsRefusals form.Lines (checked.Bad dots fault ∷ []) [] [])
-    × ¬ (ReportsRefusals form.Json (checked.Bad dots fault ∷ []) [] dots_line) × ¬ (ReportsRefusals form.Lines [] [] dots_line)
+    × ¬ (ReportsRefusals form.Json (checked.Bad dots fault ∷ []) [] dots_line)
+    × ¬ (ReportsRefusals form.Lines [] [] dots_line)
 not_reported = (
   (λ reports. not_refused.2 (subst (ReportsRefusal form.Lines dots fault []) (sym reports.2) reports.1)),
   (λ reports. omega (arith, ap length (reports.2 ∙ reports.1))),
@@ -254,9 +265,14 @@ nothing_reported = inl (
 )
 
 -- there is a line on a refused text, and none on a spec
-pub reported_of : IsReportedOf (argument_at Push 1 []) nothing_line × IsReportedOf (argument_at Fetch 2 (codes "main")) []
+pub reported_of : IsReportedOf (argument_at Push 1 []) nothing_line × IsReportedOf (argument_at Fetch 2 (codes "main"))
+    []
     × AreReportedOf (argument_at Push 1 [] ∷ argument_at Fetch 2 (codes "main") ∷ []) nothing_line
-reported_of = (nothing_reported, inr (_, fetches_main.0, refl), (nothing_line, [], nothing_reported, ([], [], inr (_, fetches_main.0, refl), refl, refl), refl))
+reported_of = (
+  nothing_reported,
+  inr (_, fetches_main.0, refl),
+  (nothing_line, [], nothing_reported, ([], [], inr (_, fetches_main.0, refl), refl, refl), refl),
+)
 
 -- a refused text isn't skipped
 pub not_reported_of : ¬ (IsReportedOf (argument_at Push 1 []) []) × ¬ (AreReportedOf [] nothing_line)
@@ -276,6 +292,7 @@ not_reported_of = (passed_over, λ same. omega (arith, ap length same))
     passed_over (inr (r, reads, same)) = nothing_pushed.unread r reads
 
 -- in JSON refusals aren't messages
-pub refusals : AreRefusals form.Json (argument_at Push 1 [] ∷ []) [] × AreRefusals form.Lines (argument_at Push 1 [] ∷ []) (nothing_line ++ [])
+pub refusals : AreRefusals form.Json (argument_at Push 1 [] ∷ []) [] × AreRefusals form.Lines
+    (argument_at Push 1 [] ∷ []) (nothing_line ++ [])
     × ¬ (AreRefusals form.Json (argument_at Push 1 [] ∷ []) nothing_line)
 refusals = (refl, (nothing_line, [], nothing_reported, refl, refl), λ same. omega (arith, ap length same))

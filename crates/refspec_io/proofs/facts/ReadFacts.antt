@@ -1,5 +1,6 @@
 -- Specs and refused texts.
-use Rattle.std.proofs.Common.{◌≡◌, ℕ, true, false, List, [], ◌∷◌, ◌++◌, None, Some, unwrap_or, inl, inr, codes, length, refl, sym, ap, arith}
+use Rattle.std.proofs.Common.{◌≡◌, ℕ, true, false, List, [], ◌∷◌, ◌++◌, None, Some, unwrap_or, inl, inr, codes, length}
+use Rattle.std.proofs.Common.{refl, sym, ap, arith}
 use Rattle.std.specs.List.{AllZip}
 use Rattle.std.proofs.lemmas.Bool.{false≢true}
 use Rattle.gix_refspec_text.specs.declared.name.Error.TheVariants.{InvalidByte}
@@ -17,7 +18,8 @@ use Rattle.refspec_io.specs.declared.call.Form.TheVariants as form
 use Rattle.refspec_io.specs.declared.checked.Checked.{Checked}
 use Rattle.refspec_io.specs.declared.checked.Checked.TheVariants as checked
 use Rattle.refspec_io.specs.declared.texts.Text.{Text}
-use Rattle.refspec_io.specs.Read.{AddsIfGood, AddsIfRead, AreGood, AreRead, HasBad, HasRefused, IsChecked, IsSpec, DecidesRefused}
+use Rattle.refspec_io.specs.Read.{AddsIfGood, AddsIfRead, AreGood, AreRead, HasBad, HasRefused, IsChecked, IsSpec}
+use Rattle.refspec_io.specs.Read.{DecidesRefused}
 use Rattle.refspec_io.specs.Texts.{argument_at}
 use Rattle.refspec_io.proofs.facts.TextFacts.{text_for}
 
@@ -76,25 +78,34 @@ abbrev RefusalsHold : Type 0
 RefusalsHold = codes "no" ≡ codes "no"
 
 -- if a text is refused, the results stay, else they grow
-pub grown : AddsIfRead AddsX RefusalsHold form.Lines false (argument_at Fetch 1 (codes "main") ∷ []) (codes "a") (codes "ax")
-    × AddsIfRead AddsX RefusalsHold form.Lines true (argument_at Fetch 1 (codes "main") ∷ argument_at Push 2 [] ∷ []) (codes "a") (codes "a")
+pub grown : AddsIfRead AddsX RefusalsHold form.Lines false (argument_at Fetch 1 (codes "main") ∷ []) (codes "a")
+    (codes "ax")
+    × AddsIfRead AddsX RefusalsHold form.Lines true (argument_at Fetch 1 (codes "main") ∷ argument_at Push 2 [] ∷ [])
+    (codes "a") (codes "a")
 grown = (inl (main ∷ [], (fetches_main.0, tt), refl), inr (read.1, refl, refl, refl))
 
 -- and not the other way round, nor is the flag wrong
-pub not_grown : ¬ (AddsIfRead AddsX RefusalsHold form.Lines false (argument_at Fetch 1 (codes "main") ∷ argument_at Fetch 2 [] ∷ []) (codes "a") (codes "a"))
-    × ¬ (AddsIfRead AddsX RefusalsHold form.Lines true (argument_at Fetch 1 (codes "main") ∷ argument_at Push 2 [] ∷ []) (codes "a") (codes "ax"))
-    × ¬ (AddsIfRead AddsX RefusalsHold form.Lines false (argument_at Fetch 1 (codes "main") ∷ argument_at Push 2 [] ∷ []) (codes "a") (codes "a"))
+pub not_grown :
+    ¬ (AddsIfRead AddsX RefusalsHold form.Lines false (argument_at Fetch 1 (codes "main") ∷ argument_at Fetch 2 [] ∷ [])
+    (codes "a") (codes "a"))
+    × ¬ (AddsIfRead AddsX RefusalsHold form.Lines true (argument_at Fetch 1 (codes "main") ∷ argument_at Push 2 [] ∷ [])
+    (codes "a") (codes "ax"))
+    × ¬ (AddsIfRead AddsX RefusalsHold form.Lines false
+    (argument_at Fetch 1 (codes "main") ∷ argument_at Push 2 [] ∷ []) (codes "a") (codes "a"))
 not_grown = (stayed, spoiled, unsaid)
   where
-    stayed : ¬ (AddsIfRead AddsX RefusalsHold form.Lines false (argument_at Fetch 1 (codes "main") ∷ argument_at Fetch 2 [] ∷ []) (codes "a") (codes "a"))
+    stayed : ¬ (AddsIfRead AddsX RefusalsHold form.Lines false
+        (argument_at Fetch 1 (codes "main") ∷ argument_at Fetch 2 [] ∷ []) (codes "a") (codes "a"))
     stayed (inl (g, are, same)) = omega (arith, ap length same)
     stayed (inr (has, same, refused, reported)) = not_read.0 has
 
-    spoiled : ¬ (AddsIfRead AddsX RefusalsHold form.Lines true (argument_at Fetch 1 (codes "main") ∷ argument_at Push 2 [] ∷ []) (codes "a") (codes "ax"))
+    spoiled : ¬ (AddsIfRead AddsX RefusalsHold form.Lines true
+        (argument_at Fetch 1 (codes "main") ∷ argument_at Push 2 [] ∷ []) (codes "a") (codes "ax"))
     spoiled (inl (g, are, same)) = not_read.1 g are
     spoiled (inr (has, same, refused, reported)) = omega (arith, ap length same)
 
-    unsaid : ¬ (AddsIfRead AddsX RefusalsHold form.Lines false (argument_at Fetch 1 (codes "main") ∷ argument_at Push 2 [] ∷ []) (codes "a") (codes "a"))
+    unsaid : ¬ (AddsIfRead AddsX RefusalsHold form.Lines false
+        (argument_at Fetch 1 (codes "main") ∷ argument_at Push 2 [] ∷ []) (codes "a") (codes "a"))
     unsaid (inl (g, are, same)) = not_read.1 g are
     unsaid (inr (has, same, refused, reported)) = false≢true refused
 

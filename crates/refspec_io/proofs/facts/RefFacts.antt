@@ -1,5 +1,7 @@
 -- Lines of refs, lines of peeled tags, and bad lines.
-use Rattle.std.proofs.Common.{◌≡◌, ◌≢◌, ℕ, ◌+◌, ◌<◌, ◌==◌, ◌++◌, false, true, List, [], ◌∷◌, Option, Some, None, unwrap_or, inl, inr, codes, drop, get_or, length, map, reverse, refl, sym, ap, ◌∙◌, subst, arith, length-append}
+use Rattle.std.proofs.Common.{◌≡◌, ◌≢◌, ℕ, ◌+◌, ◌<◌, ◌==◌, ◌++◌, false, true, List, [], ◌∷◌, Option, Some, None}
+use Rattle.std.proofs.Common.{unwrap_or, inl, inr, codes, drop, get_or, length, map, reverse, refl, sym, ap, ◌∙◌, subst}
+use Rattle.std.proofs.Common.{arith, length-append}
 use Rattle.std.specs.List.{list_any}
 use Rattle.std.proofs.Common.{append_assoc}
 use Rattle.std.proofs.lemmas.List.{append_cancel_left, append_cancel_right, reverse-append}
@@ -10,7 +12,9 @@ use Rattle.gix_refspec_text.specs.declared.oid.Kind.TheVariants.{Sha1, Sha256}
 use Rattle.gix_refspec_text.proofs.facts.ObjectIdFacts.{empty_blob, IsIdText-empty_blob}
 use Rattle.gix_refspec_text.proofs.facts.FitFacts.{other_byte}
 use Rattle.gix_refspec_text.proofs.facts.ManualFacts.{Lacks-tested, full, named}
-use Rattle.refspec_io.specs.Refs.{AddsLine, AddsRefs, AddsListed, HasLast, IsIdThen, IsLast, IsNoRefLine, IsOneWord, IsPeeledLine, IsRefLine, IsTagLine, ListsNames, ListsRefs, ListsName, bad_bytes, peeled}
+use Rattle.refspec_io.specs.Refs.{AddsLine, AddsRefs, AddsListed, HasLast, IsIdThen, IsLast, IsNoRefLine, IsOneWord}
+use Rattle.refspec_io.specs.Refs.{IsPeeledLine, IsRefLine, IsTagLine, ListsNames, ListsRefs, ListsName, bad_bytes}
+use Rattle.refspec_io.specs.Refs.{peeled}
 use Rattle.refspec_io.proofs.RefLemmas.{AddsListed-elsewhere, AddsListed-peeled, space_at}
 use Rattle.refspec_io.proofs.facts.InputFacts.{records_once}
 use Rattle.gix_refspec_text.proofs.lemmas.lists.LacksLemmas.{Lacks-here}
@@ -23,8 +27,15 @@ abbrev tag_line : List ℕ
 tag_line = codes "e69de29bb2d1d6434b8b29ae775ad8c2e48c5391\trefs/tags/v1^{}"
 
 -- a text that isn't empty and contains no white space
-pub plain_word : (n : List ℕ) → 0 < length n → list_any (λ c. c == 9) n ≡ false → list_any (λ c. c == 10) n ≡ false → list_any (λ c. c == 13) n ≡ false → list_any (λ c. c == 32) n ≡ false → IsOneWord n
-plain_word n some tab newline return space = (λ none. omega (arith, some, ap length none), Lacks-tested 9 n tab, Lacks-tested 10 n newline, Lacks-tested 13 n return, Lacks-tested 32 n space)
+pub plain_word : (n : List ℕ) → 0 < length n → list_any (λ c. c == 9) n ≡ false → list_any (λ c. c == 10) n ≡ false
+    → list_any (λ c. c == 13) n ≡ false → list_any (λ c. c == 32) n ≡ false → IsOneWord n
+plain_word n some tab newline return space = (
+  λ none. omega (arith, some, ap length none),
+  Lacks-tested 9 n tab,
+  Lacks-tested 10 n newline,
+  Lacks-tested 13 n return,
+  Lacks-tested 32 n space,
+)
 
 -- the names in these lines
 word_head : IsOneWord (codes "HEAD")
@@ -37,10 +48,25 @@ word_tag : IsOneWord (codes "refs/tags/v1^{}")
 word_tag = plain_word (codes "refs/tags/v1^{}") (omega arith) refl refl refl refl
 
 says_head : IsIdThen head_line empty_blob (codes "HEAD")
-says_head = record { digits = codes "e69de29bb2d1d6434b8b29ae775ad8c2e48c5391"; space = 32; spelled = IsIdText-empty_blob; is_space = inr refl; named = word_head; here = refl }
+says_head = record {
+  digits = codes "e69de29bb2d1d6434b8b29ae775ad8c2e48c5391";
+  space = 32;
+  spelled =
+      IsIdText-empty_blob;
+  is_space = inr refl;
+  named = word_head;
+  here = refl;
+}
 
 says_tag : IsIdThen tag_line empty_blob (codes "refs/tags/v1^{}")
-says_tag = record { digits = codes "e69de29bb2d1d6434b8b29ae775ad8c2e48c5391"; space = 9; spelled = IsIdText-empty_blob; is_space = inl refl; named = word_tag; here = refl }
+says_tag = record {
+  digits = codes "e69de29bb2d1d6434b8b29ae775ad8c2e48c5391";
+  space = 9;
+  spelled = IsIdText-empty_blob;
+  is_space = inl refl;
+  named = word_tag;
+  here = refl;
+}
 
 -- a line that doesn't end with `}` isn't that of a peeled tag
 abbrev last_byte : List ℕ → ℕ
@@ -48,8 +74,10 @@ last_byte l = get_or (reverse l) 0 0
 
 no_tag : (line : List ℕ) (old : List Ref) → last_byte line ≡ 68 → IsTagLine line old → ⊥
 no_tag line old ends is =
-    let split : line ≡ (is.says.digits ++ (is.says.space ∷ is.tag)) ++ peeled = is.says.here ∙ sym (append_assoc is.says.digits (is.says.space ∷ is.tag) peeled) in
-    let brace : last_byte line ≡ 125 = ap last_byte split ∙ ap (λ (l : List ℕ). get_or l 0 0) (reverse-append (is.says.digits ++ (is.says.space ∷ is.tag)) peeled) in
+    let split : line ≡ (is.says.digits ++ (is.says.space ∷ is.tag)) ++ peeled = is.says.here
+    ∙ sym (append_assoc is.says.digits (is.says.space ∷ is.tag) peeled) in
+    let brace : last_byte line ≡ 125 = ap last_byte split ∙ ap (λ (l : List ℕ). get_or l 0 0)
+    (reverse-append (is.says.digits ++ (is.says.space ∷ is.tag)) peeled) in
     omega (arith, ends, brace)
 
 -- the line of HEAD is never bad, whatever is before it
@@ -60,8 +88,13 @@ head_kept old new bad (inr (inr (inl tag, same, all))) = absurd (no_tag head_lin
 head_kept old new bad (inr (inr (inr none, same, all))) = absurd (none empty_blob (codes "HEAD") says_head)
 
 -- lines that are too short for an id are bad
-pub no_refs : IsNoRefLine (codes "ref: refs/heads/a\tHEAD") × IsNoRefLine (codes "e69de29b refs/heads/a") × IsNoRefLine []
-no_refs = (short (codes "ref: refs/heads/a\tHEAD") (omega arith), short (codes "e69de29b refs/heads/a") (omega arith), short [] (omega arith))
+pub no_refs : IsNoRefLine (codes "ref: refs/heads/a\tHEAD") × IsNoRefLine (codes "e69de29b refs/heads/a")
+    × IsNoRefLine []
+no_refs = (
+  short (codes "ref: refs/heads/a\tHEAD") (omega arith),
+  short (codes "e69de29b refs/heads/a") (omega arith),
+  short [] (omega arith),
+)
   where
     short : (line : List ℕ) → length line < 41 → IsNoRefLine line
     short line few id name says = by_kind says.spelled.kind says.spelled.digits
@@ -106,20 +139,25 @@ no_ids = (
 abbrev id_then : List ℕ → List ℕ
 id_then rest = codes "e69de29bb2d1d6434b8b29ae775ad8c2e48c5391" ++ rest
 
-pub no_words : IsNoRefLine (id_then (codes " commit\trefs/heads/a")) × IsNoRefLine (id_then (codes "  refs/heads/a")) × IsNoRefLine (id_then (codes " ")) × IsNoRefLine (id_then (codes "\ta\nb")) × IsNoRefLine (id_then (codes "\ta\r"))
+pub no_words : IsNoRefLine (id_then (codes " commit\trefs/heads/a")) × IsNoRefLine (id_then (codes "  refs/heads/a"))
+    × IsNoRefLine (id_then (codes " ")) × IsNoRefLine (id_then (codes "\ta\nb")) × IsNoRefLine (id_then (codes "\ta\r"))
 no_words = (
-  other (codes " commit\trefs/heads/a") (omega arith) (λ word. Lacks-here 9 (codes "commit") (codes "refs/heads/a") word.1),
+  other (codes " commit\trefs/heads/a") (omega arith)
+      (λ word. Lacks-here 9 (codes "commit") (codes "refs/heads/a") word.1),
   other (codes "  refs/heads/a") (omega arith) (λ word. Lacks-here 32 [] (codes "refs/heads/a") word.4),
   other (codes " ") (omega arith) (λ word. word.0 refl),
   other (codes "\ta\nb") (omega arith) (λ word. Lacks-here 10 (codes "a") (codes "b") word.2),
   other (codes "\ta\r") (omega arith) (λ word. Lacks-here 13 (codes "a") [] word.3),
 )
   where
-    other : (rest : List ℕ) → length (id_then rest) < 64 → ¬ (IsOneWord (drop 1 (drop 40 (id_then rest)))) → IsNoRefLine (id_then rest)
+    other : (rest : List ℕ) → length (id_then rest) < 64 → ¬ (IsOneWord (drop 1 (drop 40 (id_then rest))))
+        → IsNoRefLine (id_then rest)
     other rest few none id name says = by_kind says.spelled.kind says.spelled.digits
       where
         by_kind : (kind : Kind) → length says.digits ≡ digits_of kind → ⊥
-        by_kind Sha1 is = none (subst IsOneWord (sym (ap (drop 1) (space_at (id_then rest) says.digits name says.space 40 is says.here).3)) says.named)
+        by_kind Sha1 is =
+            none (subst IsOneWord
+            (sym (ap (drop 1) (space_at (id_then rest) says.digits name says.space 40 is says.here).3)) says.named)
         by_kind Sha256 is = omega (arith, few, (space_at (id_then rest) says.digits name says.space 64 is says.here).0)
 
 -- the name in the line of a peeled tag includes the suffix, after a tab as after a space

@@ -1,12 +1,14 @@
 -- Rows of mappings, in lines and ended by zero bytes, as in runs of `track`.
-use Rattle.std.proofs.Common.{◌≡◌, ◌⊎◌, ◌≤◌, ◌+◌, ℕ, List, [], ◌∷◌, ◌++◌, None, Some, inl, inr, codes, get_or, length, length-append, replicate, refl, ap, ◌∙◌, arith}
+use Rattle.std.proofs.Common.{◌≡◌, ◌⊎◌, ◌≤◌, ◌+◌, ℕ, List, [], ◌∷◌, ◌++◌, None, Some, inl, inr, codes, get_or, length}
+use Rattle.std.proofs.Common.{length-append, replicate, refl, ap, ◌∙◌, arith}
 use Rattle.gix_refspec.specs.Matching.Mappings.{Mapped, id, name}
 use Rattle.gix_refspec_match.proofs.facts.MatchFacts.{mapping}
 use Rattle.gix_refspec_text.proofs.facts.FitFacts.{every, other_byte, short}
 use Rattle.gix_refspec_text.proofs.facts.ObjectIdFacts.{empty_blob, lower_of-empty_blob}
 use Rattle.refspec_io.specs.declared.call.Form.TheVariants as form
 use Rattle.refspec_io.specs.Shown.{IsQuoted, in_quotes}
-use Rattle.refspec_io.specs.Rows.{AddsMappings, AreSpecTexts, AreRowLines, IsCell, IsLine, WritesCell, WritesLine, Row, fields, row_of, source_text}
+use Rattle.refspec_io.specs.Rows.{AddsMappings, AreSpecTexts, AreRowLines, IsCell, IsLine, WritesCell, WritesLine, Row}
+use Rattle.refspec_io.specs.Rows.{fields, row_of, source_text}
 use Rattle.std.proofs.lemmas.Option.{same_Some}
 
 -- ---- texts
@@ -202,10 +204,12 @@ too_short = (
     )
 
 -- a line is appended
-pub write : WritesLine row (codes "a\n") (codes "a\nrefs/remotes/o/a       refs/heads/a       refs/heads/*:refs/remotes/o/*\n")
+pub write : WritesLine row (codes "a\n")
+    (codes "a\nrefs/remotes/o/a       refs/heads/a       refs/heads/*:refs/remotes/o/*\n")
 write = (codes "refs/remotes/o/a       refs/heads/a       refs/heads/*:refs/remotes/o/*\n", line, refl)
 
-pub not_write : ¬ (WritesLine row (codes "b\n") (codes "refs/remotes/o/a  refs/heads/a  refs/heads/*:refs/remotes/o/*\n"))
+pub not_write :
+    ¬ (WritesLine row (codes "b\n") (codes "refs/remotes/o/a  refs/heads/a  refs/heads/*:refs/remotes/o/*\n"))
 not_write writes = other_byte 0 (codes "refs/remotes/o/a  refs/heads/a  refs/heads/*:refs/remotes/o/*\n")
     (codes "b\n" ++ writes.0) (λ byte. omega (arith, byte)) writes.2
 

@@ -1,25 +1,33 @@
 -- Names as shown, with and without quotes, and how they are written.
-use Rattle.std.proofs.Common.{◌≡◌, ℕ, List, [], ◌∷◌, ◌++◌, inl, inr, codes, get_or, length, refl, sym, ap, ◌∙◌, subst, arith}
+use Rattle.std.proofs.Common.{◌≡◌, ℕ, List, [], ◌∷◌, ◌++◌, inl, inr, codes, get_or, length, refl, sym, ap, ◌∙◌, subst}
+use Rattle.std.proofs.Common.{arith}
 use Rattle.gix_refspec_text.proofs.facts.FitFacts.{other_byte}
 use Rattle.refspec_io.specs.declared.call.Form.{Form}
 use Rattle.refspec_io.specs.declared.call.Form.TheVariants as form
 use Rattle.refspec_io.specs.declared.report.Report.{Report}
-use Rattle.refspec_io.specs.Shown.{AddsNames, AreLines, Grows, IsQuoted, KeepsReport, KeepsResults, WritesQuoted, escaped, zero_ended}
+use Rattle.refspec_io.specs.Shown.{AddsNames, AreLines, Grows, IsQuoted, KeepsReport, KeepsResults, WritesQuoted}
+use Rattle.refspec_io.specs.Shown.{escaped, zero_ended}
 
 -- printable ASCII stands for itself, and every other byte is a backslash and three octal digits
-pub bytes : (escaped 0 ≡ codes "\\000") × (escaped 31 ≡ codes "\\037") × (escaped 32 ≡ codes " ") × (escaped 126 ≡ codes "~") × (escaped 127 ≡ codes "\\177") × (escaped 233 ≡ codes "\\351") × (escaped 255 ≡ codes "\\377")
+pub bytes : (escaped 0 ≡ codes "\\000") × (escaped 31 ≡ codes "\\037") × (escaped 32 ≡ codes " ")
+    × (escaped 126 ≡ codes "~") × (escaped 127 ≡ codes "\\177") × (escaped 233 ≡ codes "\\351")
+    × (escaped 255 ≡ codes "\\377")
 bytes = (refl, refl, refl, refl, refl, refl, refl)
 
 -- the bytes that have a letter, and the bytes next to them
-pub letters : (escaped 6 ≡ codes "\\006") × (escaped 7 ≡ codes "\\a") × (escaped 8 ≡ codes "\\b") × (escaped 9 ≡ codes "\\t") × (escaped 10 ≡ codes "\\n") × (escaped 11 ≡ codes "\\v") × (escaped 12 ≡ codes "\\f") × (escaped 13 ≡ codes "\\r") × (escaped 14 ≡ codes "\\016")
+pub letters : (escaped 6 ≡ codes "\\006") × (escaped 7 ≡ codes "\\a") × (escaped 8 ≡ codes "\\b")
+    × (escaped 9 ≡ codes "\\t") × (escaped 10 ≡ codes "\\n") × (escaped 11 ≡ codes "\\v") × (escaped 12 ≡ codes "\\f")
+    × (escaped 13 ≡ codes "\\r") × (escaped 14 ≡ codes "\\016")
 letters = (refl, refl, refl, refl, refl, refl, refl, refl, refl)
 
 -- a quote, a backslash, and the bytes next to them
-pub quotes : (escaped 33 ≡ codes "!") × (escaped 34 ≡ codes "\\\"") × (escaped 35 ≡ codes "#") × (escaped 91 ≡ codes "[") × (escaped 92 ≡ codes "\\\\") × (escaped 93 ≡ codes "]")
+pub quotes : (escaped 33 ≡ codes "!") × (escaped 34 ≡ codes "\\\"") × (escaped 35 ≡ codes "#")
+    × (escaped 91 ≡ codes "[") × (escaped 92 ≡ codes "\\\\") × (escaped 93 ≡ codes "]")
 quotes = (refl, refl, refl, refl, refl, refl)
 
 -- a name as it is, and in quotes
-pub seen : IsQuoted (codes "a") (codes "a") × IsQuoted (codes "a\tb") (codes "\"a\\tb\"") × IsQuoted (codes "") (codes "\"\"")
+pub seen : IsQuoted (codes "a") (codes "a") × IsQuoted (codes "a\tb") (codes "\"a\\tb\"")
+    × IsQuoted (codes "") (codes "\"\"")
 seen = (inl refl, inr refl, inr refl)
 
 -- not another name in quotes, and not a byte without its escape

@@ -2,23 +2,35 @@
 use Rattle.std.proofs.Common.{◌≡◌, ◌++◌, [], ◌∷◌, None, Some, codes, refl}
 use Rattle.std.specs.Fmt.{digits}
 use Rattle.serde_json.proofs.OnLiterals.{serde_json_on_literals}
-use Rattle.refspec_json.specs.Objects.{line_of, refused_object, spec_object, mapping_object, remote_mapping_object, overruled_object, left_out_object, conflict_object, missing_object, stale_object, kept_object, malformed_object, untracked_object, ambiguous_object, line_with_remote, prefix_object, noted_object, nothing_object}
+use Rattle.refspec_json.specs.Objects.{line_of, refused_object, spec_object, mapping_object, remote_mapping_object}
+use Rattle.refspec_json.specs.Objects.{overruled_object, left_out_object, conflict_object, missing_object, stale_object}
+use Rattle.refspec_json.specs.Objects.{kept_object, malformed_object, untracked_object, ambiguous_object}
+use Rattle.refspec_json.specs.Objects.{line_with_remote, prefix_object, noted_object, nothing_object}
 
 -- a source with a fault, and an empty text
-pub refused : (line_of (refused_object (codes "-:1") (codes "fetch") (codes "a..b") (codes "r") (codes "m") (Some (codes "source")) (Some (codes "..")) (Some 2) (codes "d"))
-    ≡ codes "{\"advice\":\"d\",\"at\":2,\"kind\":\"refused\",\"message\":\"m\",\"operation\":\"fetch\",\"part\":\"..\",\"place\":\"-:1\",\"reason\":\"r\",\"side\":\"source\",\"text\":\"a..b\"}" ++ 10 ∷ [])
+pub refused :
+    (line_of (refused_object (codes "-:1") (codes "fetch") (codes "a..b") (codes "r") (codes "m")
+    (Some (codes "source")) (Some (codes "..")) (Some 2) (codes "d"))
+    ≡ codes
+    "{\"advice\":\"d\",\"at\":2,\"kind\":\"refused\",\"message\":\"m\",\"operation\":\"fetch\",\"part\":\"..\",\"place\":\"-:1\",\"reason\":\"r\",\"side\":\"source\",\"text\":\"a..b\"}" ++ 10 ∷ [])
     × (line_of (refused_object (codes "-:1") (codes "push") [] (codes "r") (codes "m") None None None [])
-    ≡ codes "{\"advice\":\"\",\"at\":null,\"kind\":\"refused\",\"message\":\"m\",\"operation\":\"push\",\"part\":null,\"place\":\"-:1\",\"reason\":\"r\",\"side\":null,\"text\":\"\"}" ++ 10 ∷ [])
+    ≡ codes
+    "{\"advice\":\"\",\"at\":null,\"kind\":\"refused\",\"message\":\"m\",\"operation\":\"push\",\"part\":null,\"place\":\"-:1\",\"reason\":\"r\",\"side\":null,\"text\":\"\"}" ++ 10 ∷ [])
 unfolding digits serde_json_on_literals
 refused = (refl, refl)
 
 -- a spec alone, with its meaning, and with the location of an earlier duplicate
 pub spec : (line_of (spec_object (codes "canonical") (codes "-:1") (codes "fetch") (codes "@") (codes "HEAD") None None)
-    ≡ codes "{\"canonical\":\"HEAD\",\"kind\":\"canonical\",\"operation\":\"fetch\",\"place\":\"-:1\",\"text\":\"@\"}" ++ 10 ∷ [])
-    × (line_of (spec_object (codes "meaning") (codes "-:1") (codes "fetch") (codes "a") (codes "a") (Some (codes "m")) None)
-    ≡ codes "{\"canonical\":\"a\",\"kind\":\"meaning\",\"meaning\":\"m\",\"operation\":\"fetch\",\"place\":\"-:1\",\"text\":\"a\"}" ++ 10 ∷ [])
-    × (line_of (spec_object (codes "good") (codes "-:2") (codes "fetch") (codes "a") (codes "a") None (Some (codes "-:1")))
-    ≡ codes "{\"canonical\":\"a\",\"kind\":\"good\",\"operation\":\"fetch\",\"place\":\"-:2\",\"same_as\":\"-:1\",\"text\":\"a\"}" ++ 10 ∷ [])
+    ≡ codes "{\"canonical\":\"HEAD\",\"kind\":\"canonical\",\"operation\":\"fetch\",\"place\":\"-:1\",\"text\":\"@\"}"
+    ++ 10 ∷ [])
+    × (line_of (spec_object (codes "meaning") (codes "-:1") (codes "fetch") (codes "a") (codes "a")
+    (Some (codes "m")) None)
+    ≡ codes
+    "{\"canonical\":\"a\",\"kind\":\"meaning\",\"meaning\":\"m\",\"operation\":\"fetch\",\"place\":\"-:1\",\"text\":\"a\"}" ++ 10 ∷ [])
+    × (line_of (spec_object (codes "good") (codes "-:2") (codes "fetch") (codes "a") (codes "a") None
+    (Some (codes "-:1")))
+    ≡ codes
+    "{\"canonical\":\"a\",\"kind\":\"good\",\"operation\":\"fetch\",\"place\":\"-:2\",\"same_as\":\"-:1\",\"text\":\"a\"}" ++ 10 ∷ [])
 unfolding serde_json_on_literals
 spec = (refl, refl, refl)
 
@@ -26,7 +38,8 @@ spec = (refl, refl, refl)
 pub mapping : (line_of (mapping_object (codes "a") None (codes "b") None)
     ≡ codes "{\"destination\":null,\"kind\":\"mapping\",\"source\":\"a\",\"spec\":\"b\"}" ++ 10 ∷ [])
     × (line_of (mapping_object (codes "\"\\") (Some (codes "c")) (codes "b") (Some (codes "given")))
-    ≡ codes "{\"destination\":\"c\",\"kind\":\"mapping\",\"origin\":\"given\",\"source\":\"\\\"\\\\\",\"spec\":\"b\"}" ++ 10 ∷ [])
+    ≡ codes "{\"destination\":\"c\",\"kind\":\"mapping\",\"origin\":\"given\",\"source\":\"\\\"\\\\\",\"spec\":\"b\"}"
+    ++ 10 ∷ [])
 unfolding serde_json_on_literals
 mapping = (refl, refl)
 
@@ -35,7 +48,8 @@ pub remote_mapping : line_of (remote_mapping_object (codes "o") (codes "a") (Som
 unfolding serde_json_on_literals
 remote_mapping = refl
 
-pub ambiguous : line_of (ambiguous_object (codes "n") (codes "m")) ≡ codes "{\"kind\":\"ambiguous\",\"message\":\"m\",\"name\":\"n\"}" ++ 10 ∷ []
+pub ambiguous : line_of (ambiguous_object (codes "n") (codes "m")) ≡ codes
+    "{\"kind\":\"ambiguous\",\"message\":\"m\",\"name\":\"n\"}" ++ 10 ∷ []
 unfolding serde_json_on_literals
 ambiguous = refl
 
@@ -46,49 +60,64 @@ unfolding serde_json_on_literals
 with_remote = (refl, refl, refl)
 
 pub overruled : line_of (overruled_object (codes "a") (Some (codes "c")) (codes "b") (codes "configured") (codes "m"))
-    ≡ codes "{\"destination\":\"c\",\"kind\":\"overruled\",\"message\":\"m\",\"origin\":\"configured\",\"source\":\"a\",\"spec\":\"b\"}" ++ 10 ∷ []
+    ≡ codes
+    "{\"destination\":\"c\",\"kind\":\"overruled\",\"message\":\"m\",\"origin\":\"configured\",\"source\":\"a\",\"spec\":\"b\"}" ++ 10 ∷ []
 unfolding serde_json_on_literals
 overruled = refl
 
-pub left_out : line_of (left_out_object (codes "a") (Some (codes "c")) (codes "b") (codes "given") (codes "source") (codes "m"))
-    ≡ codes "{\"destination\":\"c\",\"kind\":\"left_out\",\"message\":\"m\",\"origin\":\"given\",\"side\":\"source\",\"source\":\"a\",\"spec\":\"b\"}" ++ 10 ∷ []
+pub left_out : line_of (left_out_object (codes "a") (Some (codes "c")) (codes "b") (codes "given") (codes "source")
+    (codes "m"))
+    ≡ codes
+    "{\"destination\":\"c\",\"kind\":\"left_out\",\"message\":\"m\",\"origin\":\"given\",\"side\":\"source\",\"source\":\"a\",\"spec\":\"b\"}" ++ 10 ∷ []
 unfolding serde_json_on_literals
 left_out = refl
 
 -- two sources, in order, and none
-pub conflict : (line_of (conflict_object (codes "d") (record { source = codes "b"; spec = codes "b:d"; origin = codes "given" } ∷ record { source = codes "a"; spec = codes "a:d"; origin = codes "configured" } ∷ []))
-    ≡ codes "{\"destination\":\"d\",\"kind\":\"conflict\",\"sources\":[{\"origin\":\"given\",\"source\":\"b\",\"spec\":\"b:d\"},{\"origin\":\"configured\",\"source\":\"a\",\"spec\":\"a:d\"}]}" ++ 10 ∷ [])
-    × (line_of (conflict_object (codes "d") []) ≡ codes "{\"destination\":\"d\",\"kind\":\"conflict\",\"sources\":[]}" ++ 10 ∷ [])
+pub conflict :
+    (line_of (conflict_object (codes "d") (record { source = codes "b"; spec = codes "b:d"; origin = codes "given" }
+    ∷ record { source = codes "a"; spec = codes "a:d"; origin = codes "configured" } ∷ []))
+    ≡ codes
+    "{\"destination\":\"d\",\"kind\":\"conflict\",\"sources\":[{\"origin\":\"given\",\"source\":\"b\",\"spec\":\"b:d\"},{\"origin\":\"configured\",\"source\":\"a\",\"spec\":\"a:d\"}]}" ++ 10 ∷ [])
+    × (line_of (conflict_object (codes "d") []) ≡ codes "{\"destination\":\"d\",\"kind\":\"conflict\",\"sources\":[]}"
+    ++ 10 ∷ [])
 unfolding serde_json_on_literals
 conflict = (refl, refl)
 
 -- two names, in order, and one of three
 pub missing : (line_of (missing_object (codes "s") (codes "given") (codes "m") (codes "b" ∷ codes "a" ∷ []) None)
-    ≡ codes "{\"kind\":\"missing\",\"message\":\"m\",\"names\":[\"b\",\"a\"],\"origin\":\"given\",\"spec\":\"s\"}" ++ 10 ∷ [])
+    ≡ codes "{\"kind\":\"missing\",\"message\":\"m\",\"names\":[\"b\",\"a\"],\"origin\":\"given\",\"spec\":\"s\"}"
+    ++ 10 ∷ [])
     × (line_of (missing_object (codes "s") (codes "given") (codes "m") (codes "b" ∷ []) (Some 2))
-    ≡ codes "{\"kind\":\"missing\",\"message\":\"m\",\"more\":2,\"names\":[\"b\"],\"origin\":\"given\",\"spec\":\"s\"}" ++ 10 ∷ [])
+    ≡ codes "{\"kind\":\"missing\",\"message\":\"m\",\"more\":2,\"names\":[\"b\"],\"origin\":\"given\",\"spec\":\"s\"}"
+    ++ 10 ∷ [])
 unfolding digits serde_json_on_literals
 missing = (refl, refl)
 
 pub stale : (line_of (stale_object (codes "n")) ≡ codes "{\"kind\":\"stale\",\"name\":\"n\"}" ++ 10 ∷ [])
-    × (line_of (kept_object (codes "n") (codes "s") (codes "m")) ≡ codes "{\"kind\":\"kept\",\"message\":\"m\",\"name\":\"n\",\"spec\":\"s\"}" ++ 10 ∷ [])
+    × (line_of (kept_object (codes "n") (codes "s") (codes "m")) ≡ codes
+    "{\"kind\":\"kept\",\"message\":\"m\",\"name\":\"n\",\"spec\":\"s\"}" ++ 10 ∷ [])
 unfolding serde_json_on_literals
 stale = (refl, refl)
 
-pub malformed : line_of (malformed_object (codes "-:1") (codes "t") (codes "m") (codes "d")) ≡ codes "{\"advice\":\"d\",\"kind\":\"malformed\",\"message\":\"m\",\"place\":\"-:1\",\"text\":\"t\"}" ++ 10 ∷ []
+pub malformed : line_of (malformed_object (codes "-:1") (codes "t") (codes "m") (codes "d")) ≡ codes
+    "{\"advice\":\"d\",\"kind\":\"malformed\",\"message\":\"m\",\"place\":\"-:1\",\"text\":\"t\"}" ++ 10 ∷ []
 unfolding serde_json_on_literals
 malformed = refl
 
-pub untracked : line_of (untracked_object (codes "n") (codes "m")) ≡ codes "{\"kind\":\"untracked\",\"message\":\"m\",\"name\":\"n\"}" ++ 10 ∷ []
+pub untracked : line_of (untracked_object (codes "n") (codes "m")) ≡ codes
+    "{\"kind\":\"untracked\",\"message\":\"m\",\"name\":\"n\"}" ++ 10 ∷ []
 unfolding serde_json_on_literals
 untracked = refl
 
-pub prefix : line_of (prefix_object (codes "refs/heads/") (codes "refs/heads/*")) ≡ codes "{\"kind\":\"prefix\",\"pattern\":\"refs/heads/*\",\"prefix\":\"refs/heads/\"}" ++ 10 ∷ []
+pub prefix : line_of (prefix_object (codes "refs/heads/") (codes "refs/heads/*")) ≡ codes
+    "{\"kind\":\"prefix\",\"pattern\":\"refs/heads/*\",\"prefix\":\"refs/heads/\"}" ++ 10 ∷ []
 unfolding serde_json_on_literals
 prefix = refl
 
-pub noted : (line_of (noted_object (codes "all") (codes "s") (codes "m")) ≡ codes "{\"kind\":\"all\",\"message\":\"m\",\"spec\":\"s\"}" ++ 10 ∷ [])
-    × (line_of (noted_object (codes "to_object") (codes "s") (codes "m")) ≡ codes "{\"kind\":\"to_object\",\"message\":\"m\",\"spec\":\"s\"}" ++ 10 ∷ [])
+pub noted : (line_of (noted_object (codes "all") (codes "s") (codes "m")) ≡ codes
+    "{\"kind\":\"all\",\"message\":\"m\",\"spec\":\"s\"}" ++ 10 ∷ [])
+    × (line_of (noted_object (codes "to_object") (codes "s") (codes "m")) ≡ codes
+    "{\"kind\":\"to_object\",\"message\":\"m\",\"spec\":\"s\"}" ++ 10 ∷ [])
 unfolding serde_json_on_literals
 noted = (refl, refl)
 

@@ -1,11 +1,14 @@
--- The lines and the object on a conflict, as in runs of `plan`: its destination, and each source with the text of its spec
+-- The lines and the object on a conflict, as in runs of `plan`: its destination, and each source with the text of its
+-- spec
 -- and where that comes from.
-use Rattle.std.proofs.Common.{◌≡◌, ℕ, true, false, List, [], ◌∷◌, ◌++◌, inl, inr, ap, arith, codes, get_or, length, length-append, refl, ◌∙◌}
+use Rattle.std.proofs.Common.{◌≡◌, ℕ, true, false, List, [], ◌∷◌, ◌++◌, inl, inr, ap, arith, codes, get_or, length}
+use Rattle.std.proofs.Common.{length-append, refl, ◌∙◌}
 use Rattle.std.specs.Str.{chars, is_utf8}
 use Rattle.refspec_json.specs.Objects.{conflict_object, line_of}
 use Rattle.refspec_io.specs.declared.call.Form.TheVariants as form
 use Rattle.refspec_plans.specs.declared.origins.SpecTexts.{SpecTexts}
-use Rattle.refspec_plans.specs.Conflicts.{AddsConflictLines, Contest, IsClaim, IsReportedConflict, WritesClaim, conflict_line}
+use Rattle.refspec_plans.specs.Conflicts.{AddsConflictLines, Contest, IsClaim, IsReportedConflict, WritesClaim}
+use Rattle.refspec_plans.specs.Conflicts.{conflict_line}
 use Rattle.refspec_plans.proofs.facts.UpdateFacts.{by_default}
 
 abbrev heads_text : List ℕ
@@ -16,12 +19,18 @@ tags_text = codes "refs/tags/*:refs/x/*"
 
 -- a source and its spec, each quoted if needed, and what is said of the spec
 pub claims : IsClaim (codes "refs/heads/a") heads_text [] (codes "    refs/heads/a by refs/heads/*:refs/x/*\n")
-    × IsClaim (codes "a\tb") heads_text (codes " (configured)") (codes "    \"a\\tb\" by refs/heads/*:refs/x/* (configured)\n")
-    × WritesClaim (codes "refs/tags/a") tags_text [] (codes "x\n") (codes "x\n    refs/tags/a by refs/tags/*:refs/x/*\n")
+    × IsClaim (codes "a\tb") heads_text (codes " (configured)")
+    (codes "    \"a\\tb\" by refs/heads/*:refs/x/* (configured)\n")
+    × WritesClaim (codes "refs/tags/a") tags_text [] (codes "x\n")
+    (codes "x\n    refs/tags/a by refs/tags/*:refs/x/*\n")
 claims = (
   record { first = codes "refs/heads/a"; second = heads_text; is_first = inl refl; is_second = inl refl; is = refl },
   record { first = codes "\"a\\tb\""; second = heads_text; is_first = inr refl; is_second = inl refl; is = refl },
-  (codes "    refs/tags/a by refs/tags/*:refs/x/*\n", record { first = codes "refs/tags/a"; second = tags_text; is_first = inl refl; is_second = inl refl; is = refl }, refl),
+  (
+    codes "    refs/tags/a by refs/tags/*:refs/x/*\n",
+    record { first = codes "refs/tags/a"; second = tags_text; is_first = inl refl; is_second = inl refl; is = refl },
+    refl,
+  ),
 )
 
 -- the source isn't behind its spec, nor is what is said of the spec left out
@@ -33,8 +42,17 @@ no_claims = (turned, unnoted)
     turned is =
         let after = codes " by " ++ (is.second ++ ([] ++ (10 ∷ []))) in
         elim is.is_first [
-          | inl raw ↦ omega (arith, ap (λ (l : List ℕ). get_or l 15 0) (is.is ∙ ap (λ (s : List ℕ). codes "    " ++ (s ++ after)) raw))
-          | inr quoted ↦ omega (arith, ap (λ (l : List ℕ). get_or l 4 0) (is.is ∙ ap (λ (s : List ℕ). codes "    " ++ (s ++ after)) quoted))
+          | inl raw ↦ omega (
+            arith,
+            ap (λ (l : List ℕ). get_or l 15 0)
+                (is.is ∙ ap (λ (s : List ℕ). codes "    " ++ (s ++ after)) raw),
+          )
+          | inr quoted ↦
+              omega (
+                arith,
+                ap (λ (l : List ℕ). get_or l 4 0)
+                    (is.is ∙ ap (λ (s : List ℕ). codes "    " ++ (s ++ after)) quoted),
+              )
         ]
 
     unnoted : ¬ (IsClaim (codes "a") (codes "b") (codes " (configured)") (codes "    a by b\n"))
@@ -53,7 +71,9 @@ abbrev contest : Contest
 contest = record { destination = codes "refs/x/a"; updates = by_default ∷ [] }
 
 abbrev conflict_lines : List ℕ
-conflict_lines = codes "conflict: refs/x/a would be written from several refs, so nothing is fetched:\n    HEAD by HEAD (default)\n    Do so.\n"
+conflict_lines =
+    codes
+    "conflict: refs/x/a would be written from several refs, so nothing is fetched:\n    HEAD by HEAD (default)\n    Do so.\n"
 
 -- the advice is left open
 reported : (texts : SpecTexts) → IsReportedConflict texts contest conflict_lines
@@ -62,13 +82,28 @@ reported texts = record {
   claims = codes "    HEAD by HEAD (default)\n";
   advice = codes "    Do so.\n";
   destination = inl refl;
-  each = (codes "    HEAD by HEAD (default)\n", [], record { first = codes "HEAD"; second = codes "HEAD"; is_first = inl refl; is_second = inl refl; is = refl }, refl, refl);
+  each = (
+    codes "    HEAD by HEAD (default)\n",
+    [],
+    record {
+      first = codes "HEAD";
+      second = codes "HEAD";
+      is_first =
+          inl refl;
+      is_second = inl refl;
+      is = refl;
+    },
+    refl,
+    refl,
+  );
   is = refl;
 }
 
 -- a conflict is reported, and in JSON it is no message
-pub all_reported : (texts : SpecTexts) → AddsConflictLines false form.Lines texts (contest ∷ []) (codes "x\n") (codes "x\n" ++ (conflict_lines ++ []))
-    × AddsConflictLines true form.Zeros texts [] (codes "x\n") (codes "x\n") × AddsConflictLines false form.Json texts (contest ∷ []) (codes "x\n") (codes "x\n")
+pub all_reported : (texts : SpecTexts) → AddsConflictLines false form.Lines texts (contest ∷ []) (codes "x\n")
+    (codes "x\n" ++ (conflict_lines ++ []))
+    × AddsConflictLines true form.Zeros texts [] (codes "x\n") (codes "x\n") × AddsConflictLines false form.Json texts
+    (contest ∷ []) (codes "x\n") (codes "x\n")
 all_reported texts = ((conflict_lines, (conflict_lines, [], reported texts, refl, refl), refl), ([], refl, refl), refl)
 
 -- none is lost
@@ -78,6 +113,8 @@ none_lost texts adds =
     omega (arith, ap length (grown ∙ ap (λ (l : List ℕ). l ++ []) (all ∙ ap (λ (l : List ℕ). l ++ rest) is.is)))
 
 -- the object names each source with the text of its spec and its origin
-pub object : (texts : SpecTexts) → conflict_line texts contest ≡ line_of (conflict_object (codes "refs/x/a") (record { source = codes "HEAD"; spec = codes "HEAD"; origin = codes "default" } ∷ []))
+pub object : (texts : SpecTexts) → conflict_line texts contest ≡ line_of
+    (conflict_object (codes "refs/x/a") (record { source = codes "HEAD"; spec = codes "HEAD"; origin = codes "default" }
+    ∷ []))
 unfolding is_utf8 chars lib.Utf8.encode
 object texts = refl

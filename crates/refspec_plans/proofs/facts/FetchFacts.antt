@@ -19,9 +19,12 @@ abbrev b_spec : Reading
 b_spec = fetched Normal (codes "b") None
 
 -- the first specs are given, and the others configured; also if all are given, or none
-pub wishes : (task : Task) → ((task.given ≡ 1) → ((wish_of_task task (a_spec ∷ b_spec ∷ [])).given ≡ a_spec ∷ []) × ((wish_of_task task (a_spec ∷ b_spec ∷ [])).configured ≡ b_spec ∷ []))
-    × ((task.given ≡ 2) → ((wish_of_task task (a_spec ∷ b_spec ∷ [])).given ≡ a_spec ∷ b_spec ∷ []) × ((wish_of_task task (a_spec ∷ b_spec ∷ [])).configured ≡ []))
-    × ((task.given ≡ 0) → ((wish_of_task task (a_spec ∷ b_spec ∷ [])).given ≡ []) × ((wish_of_task task (a_spec ∷ b_spec ∷ [])).configured ≡ a_spec ∷ b_spec ∷ []))
+pub wishes : (task : Task) → ((task.given ≡ 1) → ((wish_of_task task (a_spec ∷ b_spec ∷ [])).given ≡ a_spec ∷ [])
+    × ((wish_of_task task (a_spec ∷ b_spec ∷ [])).configured ≡ b_spec ∷ []))
+    × ((task.given ≡ 2) → ((wish_of_task task (a_spec ∷ b_spec ∷ [])).given ≡ a_spec ∷ b_spec ∷ [])
+    × ((wish_of_task task (a_spec ∷ b_spec ∷ [])).configured ≡ []))
+    × ((task.given ≡ 0) → ((wish_of_task task (a_spec ∷ b_spec ∷ [])).given ≡ [])
+    × ((wish_of_task task (a_spec ∷ b_spec ∷ [])).configured ≡ a_spec ∷ b_spec ∷ []))
 wishes task = (
   (λ is. (ap (λ (n : ℕ). take n (a_spec ∷ b_spec ∷ [])) is, ap (λ (n : ℕ). drop n (a_spec ∷ b_spec ∷ [])) is)),
   (λ is. (ap (λ (n : ℕ). take n (a_spec ∷ b_spec ∷ [])) is, ap (λ (n : ℕ). drop n (a_spec ∷ b_spec ∷ [])) is)),
@@ -29,13 +32,18 @@ wishes task = (
 )
 
 -- of a list with a bad record nothing becomes a result in lines or records, and the call is refused
-pub no_results : (call : Call) (input : List ℕ) → ¬ (ReportsBad call input form.Lines [] (codes "a")) × ¬ (ReportsBad call input form.Zeros [] (codes "a"))
+pub no_results : (call : Call) (input : List ℕ) → ¬ (ReportsBad call input form.Lines [] (codes "a"))
+    × ¬ (ReportsBad call input form.Zeros [] (codes "a"))
 no_results call input = ((λ is. omega (arith, ap length is.malformed)), λ is. omega (arith, ap length is.malformed))
 
-pub is_refused : (k : Command) (task : Task) (f : Form) (before after : List ℕ) (g : List Reading) (old new : List ℕ) → ReportsBad task.call.now task.input.now f old new → AddsFetch k task f before after true g old new
+pub is_refused : (k : Command) (task : Task) (f : Form) (before after : List ℕ) (g : List Reading) (old new : List ℕ)
+    → ReportsBad task.call.now task.input.now f old new → AddsFetch k task f before after true g old new
 is_refused k task f before after g old new is = inr (is, refl)
 
 -- nothing is pruned unless that is asked for, and then no local record is bad
-pub unpruned : (call : Call) (f : Form) (local : List ℕ) (wish : Wish) (refs : List Ref) → AddsPruned false call f local wish refs [] (codes "a") (codes "a")
-    × ¬ (AddsPruned false call f local wish refs [] [] (codes "a")) × ¬ (AddsPruned false call f local wish refs (codes "a" ∷ []) [] [])
-unpruned call f local wish refs = ((refl, refl), (λ is. omega (arith, ap length is.1)), λ is. omega (arith, ap length is.0))
+pub unpruned : (call : Call) (f : Form) (local : List ℕ) (wish : Wish) (refs : List Ref)
+    → AddsPruned false call f local wish refs [] (codes "a") (codes "a")
+    × ¬ (AddsPruned false call f local wish refs [] [] (codes "a"))
+    × ¬ (AddsPruned false call f local wish refs (codes "a" ∷ []) [] [])
+unpruned call f local wish refs =
+    ((refl, refl), (λ is. omega (arith, ap length is.1)), λ is. omega (arith, ap length is.0))

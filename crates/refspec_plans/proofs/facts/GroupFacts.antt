@@ -1,5 +1,6 @@
 -- Updates grouped below their specs, as in runs of `plan`: examples and counterexamples.
-use Rattle.std.proofs.Common.{ℕ, true, false, List, [], ◌∷◌, ◌++◌, None, Some, inl, inr, ap, arith, codes, length, length-append, refl, replicate, ◌∙◌}
+use Rattle.std.proofs.Common.{ℕ, true, false, List, [], ◌∷◌, ◌++◌, None, Some, inl, inr, ap, arith, codes, length}
+use Rattle.std.proofs.Common.{length-append, refl, replicate, ◌∙◌}
 use Rattle.gix_refspec_plan.specs.declared.Origin.TheVariants as origin
 use Rattle.refspec_plans.specs.declared.origins.SpecTexts.{SpecTexts}
 use Rattle.refspec_plans.specs.Groups.{AddsGroupsIf, IsHead, IsShort}
@@ -8,12 +9,31 @@ use Rattle.refspec_plans.proofs.facts.UpdateFacts.{alone, by_default, to_o}
 -- the source, and the destination or FETCH_HEAD
 pub lines : IsShort alone (codes "HEAD  FETCH_HEAD\n") × IsShort to_o (codes "refs/heads/a  refs/o/a\n")
 lines = (
-  record { cell = codes "HEAD  "; last = codes "FETCH_HEAD"; is_cell = (codes "HEAD", 0, inl refl, refl); is_last = inl refl; is = refl },
-  record { cell = codes "refs/heads/a  "; last = codes "refs/o/a"; is_cell = (codes "refs/heads/a", 0, inl refl, refl); is_last = inl refl; is = refl },
+  record {
+    cell = codes "HEAD  ";
+    last = codes "FETCH_HEAD";
+    is_cell = (codes "HEAD", 0, inl refl, refl);
+    is_last =
+        inl refl;
+    is = refl;
+  },
+  record {
+    cell = codes "refs/heads/a  ";
+    last = codes "refs/o/a";
+    is_cell = (codes "refs/heads/a", 0, inl refl, refl);
+    is_last = inl refl;
+    is = refl;
+  },
 )
 
 default_line : IsShort by_default (codes "HEAD  FETCH_HEAD\n")
-default_line = record { cell = codes "HEAD  "; last = codes "FETCH_HEAD"; is_cell = (codes "HEAD", 0, inl refl, refl); is_last = inl refl; is = refl }
+default_line = record {
+  cell = codes "HEAD  ";
+  last = codes "FETCH_HEAD";
+  is_cell = (codes "HEAD", 0, inl refl, refl);
+  is_last = inl refl;
+  is = refl;
+}
 
 -- a destination isn't left out
 pub not_short : ¬ (IsShort alone (codes "\n"))
@@ -27,7 +47,8 @@ not_short is =
     )
 
 -- the text of a spec is before its first update, also after one by another spec, and not before the next one
-pub heads : (texts : SpecTexts) → IsHead texts None by_default (codes "HEAD (default)\n") × IsHead texts (Some (origin.Given 0)) by_default (codes "HEAD (default)\n")
+pub heads : (texts : SpecTexts) → IsHead texts None by_default (codes "HEAD (default)\n")
+    × IsHead texts (Some (origin.Given 0)) by_default (codes "HEAD (default)\n")
     × IsHead texts (Some origin.Default) by_default [] × ¬ (IsHead texts None by_default [])
 heads texts = (
   inr ((λ same. cc), (codes "HEAD", inl refl, refl)),
@@ -41,8 +62,10 @@ heads texts = (
     none (inr (other, (shown, is, line))) = omega (arith, ap length line, length-append shown (codes " (default)\n"))
 
 -- the only spec isn't shown; others are above their updates, which are indented
-pub groups : (texts : SpecTexts) → AddsGroupsIf true texts (by_default ∷ []) (codes "x\n") (codes "x\nHEAD  FETCH_HEAD\n")
-    × AddsGroupsIf false texts (by_default ∷ by_default ∷ []) [] (codes "HEAD (default)\n  HEAD  FETCH_HEAD\n  HEAD  FETCH_HEAD\n")
+pub groups : (texts : SpecTexts) → AddsGroupsIf true texts (by_default ∷ []) (codes "x\n")
+    (codes "x\nHEAD  FETCH_HEAD\n")
+    × AddsGroupsIf false texts (by_default ∷ by_default ∷ []) []
+    (codes "HEAD (default)\n  HEAD  FETCH_HEAD\n  HEAD  FETCH_HEAD\n")
     × AddsGroupsIf false texts [] (codes "x\n") (codes "x\n")
 groups texts = (
   (codes "HEAD  FETCH_HEAD\n", (codes "HEAD  FETCH_HEAD\n", [], default_line, refl, refl), refl),
@@ -51,11 +74,25 @@ groups texts = (
     (
       codes "HEAD (default)\n  HEAD  FETCH_HEAD\n",
       codes "  HEAD  FETCH_HEAD\n",
-      record { head = codes "HEAD (default)\n"; line = codes "HEAD  FETCH_HEAD\n"; is_head = (heads texts).0; is_line = default_line; is = refl },
+      record {
+        head = codes "HEAD (default)\n";
+        line = codes "HEAD  FETCH_HEAD\n";
+        is_head = (heads texts).0;
+        is_line =
+            default_line;
+        is = refl;
+      },
       (
         codes "  HEAD  FETCH_HEAD\n",
         [],
-        record { head = []; line = codes "HEAD  FETCH_HEAD\n"; is_head = (heads texts).2; is_line = default_line; is = refl },
+        record {
+          head = [];
+          line = codes "HEAD  FETCH_HEAD\n";
+          is_head = (heads texts).2;
+          is_line = default_line;
+          is =
+              refl;
+        },
         refl,
         refl,
       ),
@@ -67,7 +104,8 @@ groups texts = (
 )
 
 -- no update is lost
-pub not_groups : (texts : SpecTexts) → ¬ (AddsGroupsIf false texts (by_default ∷ []) [] []) × ¬ (AddsGroupsIf true texts (by_default ∷ []) [] [])
+pub not_groups : (texts : SpecTexts) → ¬ (AddsGroupsIf false texts (by_default ∷ []) [] [])
+    × ¬ (AddsGroupsIf true texts (by_default ∷ []) [] [])
 not_groups texts = (
   (λ adds. omega (
     arith,

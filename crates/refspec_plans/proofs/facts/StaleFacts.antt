@@ -27,18 +27,30 @@ locals = local_ref (codes "refs/x/a") ∷ local_ref (codes "refs/x/b") ∷ local
 
 -- the last and the first are deleted, and the second spec keeps the one between
 abbrev found : List Found
-found = record { item = 2; kept_by = None } ∷ record { item = 1; kept_by = Some 1 } ∷ record { item = 0; kept_by = None } ∷ []
+found = record { item = 2; kept_by = None } ∷ record { item = 1; kept_by = Some 1 } ∷ record {
+  item = 0;
+  kept_by =
+      None;
+} ∷ []
 
 pub parted : (deleted_names locals found ≡ codes "refs/x/c" ∷ codes "refs/x/a" ∷ [])
-    × (kept_refs (codes "refs/*:refs/x/*" ∷ codes "^refs/b" ∷ []) locals found ≡ record { name = codes "refs/x/b"; spec = codes "^refs/b" } ∷ [])
+    × (kept_refs (codes "refs/*:refs/x/*" ∷ codes "^refs/b" ∷ []) locals found ≡ record {
+      name = codes "refs/x/b";
+      spec = codes "^refs/b";
+    } ∷ [])
 parted = (refl, refl)
 
 -- a heading stands above names, and nowhere else
 pub headed : AreHeaded (codes "a" ∷ []) (codes "(stale)\n  a\n") × AreHeaded [] []
 headed = ((codes "  a\n", (codes "a", [], inl refl, refl, refl), refl), refl)
 
-pub no_heading : ¬ (AreHeaded [] (codes "(stale)\n")) × ¬ (AreHeaded (codes "a" ∷ []) (codes "  a\n")) × ¬ (AreHeaded (codes "a" ∷ []) [])
-no_heading = ((λ is. omega (arith, ap length is)), (λ is. omega (arith, ap length is.2)), λ is. omega (arith, ap length is.2))
+pub no_heading : ¬ (AreHeaded [] (codes "(stale)\n")) × ¬ (AreHeaded (codes "a" ∷ []) (codes "  a\n"))
+    × ¬ (AreHeaded (codes "a" ∷ []) [])
+no_heading = (
+  (λ is. omega (arith, ap length is)),
+  (λ is. omega (arith, ap length is.2)),
+  λ is. omega (arith, ap length is.2),
+)
 
 -- four fields, of which the second is the name
 pub fields : name_fields (codes "ab") ≡ 0 ∷ 97 ∷ 98 ∷ 0 ∷ 0 ∷ 115 ∷ 116 ∷ 97 ∷ 108 ∷ 101 ∷ 0 ∷ []

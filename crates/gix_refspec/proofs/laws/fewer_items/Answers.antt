@@ -2,4 +2,5 @@ pub returns-clause-kept : Rattle.gix_refspec.proofs.laws.fewer_items.Goals.retur
 returns-clause-kept c = Rattle.gix_refspec.proofs.lemmas.keep.FilterLemmas.fewer_items _ _ _
 
 pub returns-clause-filtered : Rattle.gix_refspec.proofs.laws.fewer_items.Goals.returns-clause-filtered
-returns-clause-filtered c = Rattle.gix_refspec.proofs.lemmas.keep.FilterLemmas.filtered_items _ c.args.items.now c.args.part.now
+returns-clause-filtered c = Rattle.gix_refspec.proofs.lemmas.keep.FilterLemmas.filtered_items _ c.args.items.now
+    c.args.part.now

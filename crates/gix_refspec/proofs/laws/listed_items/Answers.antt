@@ -2,4 +2,5 @@ pub returns-clause-kept : Rattle.gix_refspec.proofs.laws.listed_items.Goals.retu
 returns-clause-kept c = Rattle.gix_refspec.proofs.lemmas.keep.FilterLemmas.listed_items _ _ _
 
 pub returns-clause-filtered : Rattle.gix_refspec.proofs.laws.listed_items.Goals.returns-clause-filtered
-returns-clause-filtered c = Rattle.gix_refspec.proofs.lemmas.keep.FilterLemmas.filtered_by_entries _ c.args.items.now c.args.listed.now
+returns-clause-filtered c = Rattle.gix_refspec.proofs.lemmas.keep.FilterLemmas.filtered_by_entries _ c.args.items.now
+    c.args.listed.now

@@ -8,4 +8,5 @@ pub returns-then-outcome-eq0-clause-done : goal.returns-then-outcome-eq0-clause-
 returns-then-outcome-eq0-clause-done c = λ zero. (refl, c.before_nul.ensures well refl)
 
 pub returns-in-Some-clause-failure : goal.returns-in-Some-clause-failure
-returns-in-Some-clause-failure c = λ other. done c.in-Some.failure c.in-Some.ensures refl (c.before_nul-in-Some.ensures (said c.in-Some.failure) c.sentence_of.ensures)
+returns-in-Some-clause-failure c = λ other. done c.in-Some.failure c.in-Some.ensures refl
+    (c.before_nul-in-Some.ensures (said c.in-Some.failure) c.sentence_of.ensures)

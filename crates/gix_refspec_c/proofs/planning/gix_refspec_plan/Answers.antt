@@ -12,5 +12,19 @@ pub returns-in-Ok-write_all : goal.returns-in-Ok-write_all
 returns-in-Ok-write_all c =
     let answer = c.in-Ok.answer in
     let lists = c.in-Ok.ensures.ok in
-    let plan = subst (λ (hindrance : Option Failure). IsPlan hindrance (wish_texts c.args.wish.now) (map bytes_of c.args.names.now) lists.0) c.in-Some.is lists.1 in
-    (Err c.in-Some.failure, c.number-in-Some.ensures, tt, inl (lists.0, plan, record { structs = answer.listing.mappings.items; text = answer.listing.text.items; describes = lists.2; write = c.in-Ok-write_all.ensures.ok }))
+    let plan = subst (λ (hindrance : Option Failure). IsPlan hindrance (wish_texts c.args.wish.now)
+    (map bytes_of c.args.names.now) lists.0) c.in-Some.is lists.1 in (
+      Err c.in-Some.failure,
+      c.number-in-Some.ensures,
+      tt,
+      inl (
+        lists.0,
+        plan,
+        record {
+          structs = answer.listing.mappings.items;
+          text = answer.listing.text.items;
+          describes = lists.2;
+          write = c.in-Ok-write_all.ensures.ok;
+        },
+      ),
+    )

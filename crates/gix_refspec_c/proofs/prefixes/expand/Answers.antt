@@ -11,10 +11,26 @@ returns-in_default-clause-err c = (inr (refl, (reading_of c.in_ok-spec.spec, c.i
 
 pub returns-clause-ok : goal.returns-clause-ok
 returns-clause-ok c =
-    let is : IsExpanded c.args.operation c.args.text.now c.as_slice.result.now = record { reading = reading_of c.in_ok-spec.spec; reads = c.in_ok-spec.ensures.ok; is = subst (λ (lines : List ℕ). IsExpandedTo (reading_of c.in_ok-spec.spec) lines) (sym c.as_slice.ensures.value) c.in-Ok.ensures } in
+    let is : IsExpanded c.args.operation c.args.text.now c.as_slice.result.now =
+    record {
+      reading = reading_of c.in_ok-spec.spec;
+      reads = c.in_ok-spec.ensures.ok;
+      is =
+          subst (λ (lines : List ℕ). IsExpandedTo (reading_of c.in_ok-spec.spec) lines) (sym c.as_slice.ensures.value)
+          c.in-Ok.ensures;
+    } in
     on_ok_weaker c.write.result (λ holds. (c.as_slice.result.now, is, holds)) c.write.ensures.ok
 
 pub returns-clause-err : goal.returns-clause-err
 returns-clause-err c =
-    let is : IsExpanded c.args.operation c.args.text.now c.as_slice.result.now = record { reading = reading_of c.in_ok-spec.spec; reads = c.in_ok-spec.ensures.ok; is = subst (λ (lines : List ℕ). IsExpandedTo (reading_of c.in_ok-spec.spec) lines) (sym c.as_slice.ensures.value) c.in-Ok.ensures } in
-    too_small (IsExpanded c.args.operation c.args.text.now) (IsUnexpanded c.args.operation c.args.text.now) c.as_slice.result.now c.args.buffer.now c.write.new.buffer c.args.len.now c.write.new.len c.write.result is c.write.ensures.small
+    let is : IsExpanded c.args.operation c.args.text.now c.as_slice.result.now =
+    record {
+      reading = reading_of c.in_ok-spec.spec;
+      reads = c.in_ok-spec.ensures.ok;
+      is =
+          subst (λ (lines : List ℕ). IsExpandedTo (reading_of c.in_ok-spec.spec) lines) (sym c.as_slice.ensures.value)
+          c.in-Ok.ensures;
+    } in
+    too_small (IsExpanded c.args.operation c.args.text.now) (IsUnexpanded c.args.operation c.args.text.now)
+    c.as_slice.result.now c.args.buffer.now c.write.new.buffer c.args.len.now c.write.new.len c.write.result is
+    c.write.ensures.small

@@ -11,6 +11,9 @@ pub returns : goal.returns
 returns c =
     let grown = c.in_ok-expand_prefixes.ensures.ok in
     let names = map bstring_bytes c.expand_prefixes.new.out.items in
-    let is : IsExpansion (reading_of c.args.spec.now) names = subst (λ (ns : List (List ℕ)). IsExpansion (reading_of c.args.spec.now) ns) (sym (grown.appended ∙ ap (λ old. map bstring_bytes old ++ grown.list) c.new-names.ensures.items)) grown.is in
+    let is : IsExpansion (reading_of c.args.spec.now) names =
+    subst (λ (ns : List (List ℕ)). IsExpansion (reading_of c.args.spec.now) ns)
+    (sym (grown.appended ∙ ap (λ old. map bstring_bytes old ++ grown.list) c.new-names.ensures.items)) grown.is in
     IfOk-weaker c.joined.result _ (λ lines. IsExpandedTo (reading_of c.args.spec.now) lines.items)
-    (λ lines described. (names, is, described ∙ ap (λ ns. lines_of (map bstring_bytes ns)) c.as_slice.ensures.value)) c.joined.ensures
+    (λ lines described. (names, is, described ∙ ap (λ ns. lines_of (map bstring_bytes ns)) c.as_slice.ensures.value))
+    c.joined.ensures

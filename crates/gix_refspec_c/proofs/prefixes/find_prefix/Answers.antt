@@ -3,4 +3,9 @@ use Rattle.gix_refspec.specs.Views.Spec.{reading_of}
 use Rattle.gix_refspec_c.proofs.prefixes.find_prefix.Goals as goal
 
 pub returns-clause-ok : goal.returns-clause-ok
-returns-clause-ok c = record { reading = reading_of c.in_ok-spec.spec; reads = c.in_ok-spec.ensures.ok; is = c.prefix_or_nothing.ensures }
+returns-clause-ok c = record {
+  reading = reading_of c.in_ok-spec.spec;
+  reads = c.in_ok-spec.ensures.ok;
+  is =
+      c.prefix_or_nothing.ensures;
+}

@@ -4,4 +4,5 @@ use Rattle.gix_refspec_c.proofs.OutcomeLemmas.{answered}
 use Rattle.gix_refspec_c.proofs.single.gix_refspec_canonical.Goals as goal
 
 pub returns-in-Some : goal.returns-in-Some
-returns-in-Some c = answered code_of c.args.operation _ _ _ c.in-Some.operation c.print.result c.outcome_of.result c.in-Some.ensures c.outcome_of.ensures c.print.ensures.ok c.print.ensures.err
+returns-in-Some c = answered code_of c.args.operation _ _ _ c.in-Some.operation c.print.result c.outcome_of.result
+    c.in-Some.ensures c.outcome_of.ensures c.print.ensures.ok c.print.ensures.err

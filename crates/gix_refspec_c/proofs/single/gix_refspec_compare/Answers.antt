@@ -4,4 +4,5 @@ use Rattle.gix_refspec_c.proofs.OutcomeLemmas.{answered}
 use Rattle.gix_refspec_c.proofs.single.gix_refspec_compare.Goals as goal
 
 pub returns-in-Some : goal.returns-in-Some
-returns-in-Some c = answered code_of c.args.operation _ _ _ c.in-Some.operation c.compare.result c.outcome_of.result c.in-Some.ensures c.outcome_of.ensures c.compare.ensures.ok c.compare.ensures.err
+returns-in-Some c = answered code_of c.args.operation _ _ _ c.in-Some.operation c.compare.result c.outcome_of.result
+    c.in-Some.ensures c.outcome_of.ensures c.compare.ensures.ok c.compare.ensures.err

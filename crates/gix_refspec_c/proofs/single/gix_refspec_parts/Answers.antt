@@ -4,4 +4,5 @@ use Rattle.gix_refspec_c.proofs.OutcomeLemmas.{answered}
 use Rattle.gix_refspec_c.proofs.single.gix_refspec_parts.Goals as goal
 
 pub returns-in-Some : goal.returns-in-Some
-returns-in-Some c = answered code_of c.args.operation _ _ _ c.in-Some.operation c.take_apart.result c.outcome_of.result c.in-Some.ensures c.outcome_of.ensures c.take_apart.ensures.ok c.take_apart.ensures.err
+returns-in-Some c = answered code_of c.args.operation _ _ _ c.in-Some.operation c.take_apart.result c.outcome_of.result
+    c.in-Some.ensures c.outcome_of.ensures c.take_apart.ensures.ok c.take_apart.ensures.err

@@ -7,5 +7,12 @@ loop-len-preserved c =
     let border = c.next_border-border.result in
     record {
       long = c.loop-len.invariant.long;
-      longest = λ k some l. grind (arith, cases_eq k (len + 1), get_or-set_same table (len + 1) border 0, get_or-set_other table (len + 1) k border 0, c.next_border-border.ensures, c.loop-len.invariant.longest k some);
+      longest = λ k some l. grind (
+        arith,
+        cases_eq k (len + 1),
+        get_or-set_same table (len + 1) border 0,
+        get_or-set_other table (len + 1) k border 0,
+        c.next_border-border.ensures,
+        c.loop-len.invariant.longest k some,
+      );
     }

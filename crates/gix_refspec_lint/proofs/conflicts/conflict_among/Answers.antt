@@ -1,5 +1,6 @@
 -- Where no word to try first makes an example, the names that decide do.
-use Rattle.gix_refspec_lint.proofs.{Common.{◌++◌, take_all, arith, IfOk-weaker, bstring_bytes, one_more_mapped, NoneAt}, lemmas.FoundLemmas.among_found}
+use Rattle.gix_refspec_lint.proofs.Common.{◌++◌, take_all, arith, IfOk-weaker, bstring_bytes, one_more_mapped, NoneAt}
+use Rattle.gix_refspec_lint.proofs.lemmas.FoundLemmas.{among_found}
 use Rattle.gix_refspec_lint.proofs.conflicts.conflict_among.Goals as goal
 
 pub loop-word-2-preserved : goal.loop-word-2-preserved

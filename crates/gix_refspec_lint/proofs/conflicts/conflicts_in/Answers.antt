@@ -1,13 +1,23 @@
-use Rattle.gix_refspec_lint.proofs.{Common.{length, map, sym, ap, ◌∙◌, take_all, arith, map-append, zip_long, example_of}, lemmas.FoundLemmas.{group_long, rows_next}}
+use Rattle.gix_refspec_lint.proofs.Common.{length, map, sym, ap, ◌∙◌, take_all, arith, map-append, zip_long, example_of}
+use Rattle.gix_refspec_lint.proofs.lemmas.FoundLemmas.{group_long, rows_next}
 use Rattle.gix_refspec_lint.proofs.conflicts.conflicts_in.Goals as goal
 
 pub conflicts_with-requires : goal.conflicts_with-requires
-conflicts_with-requires c = (c.loop-first-test.true, ap length c.as_slice.ensures.value ∙ sym (zip_long _ c.args.group.now.specs.now c.in_ok-parts.parts.items c.in_ok-parts.ensures))
+conflicts_with-requires c = (
+  c.loop-first-test.true,
+  ap length c.as_slice.ensures.value
+      ∙ sym (zip_long _ c.args.group.now.specs.now c.in_ok-parts.parts.items c.in_ok-parts.ensures),
+)
 
 pub loop-first-preserved : goal.loop-first-preserved
 loop-first-preserved c g is =
-    rows_next g c.loop-first.first _ _ _ (rw (group_long g c.args.group.now is) c.loop-first-test.true) (c.in_ok-of_first.ensures g is (rw c.as_slice.ensures.value c.in_ok-parts.ensures)) (c.loop-first.invariant g is)
-    (ap (map example_of) c.in_ok-append.ensures.items ∙ map-append example_of c.loop-first.found.items c.in_ok-of_first.of_first.items)
+    rows_next g c.loop-first.first _ _ _ (rw (group_long g c.args.group.now is) c.loop-first-test.true)
+    (c.in_ok-of_first.ensures g is (rw c.as_slice.ensures.value c.in_ok-parts.ensures))
+    (c.loop-first.invariant g is)
+    (ap (map example_of) c.in_ok-append.ensures.items ∙ map-append example_of c.loop-first.found.items
+    c.in_ok-of_first.of_first.items)
 
 pub returns : goal.returns
-returns c g is = rw (take_all c.loop-first.first g (omega (arith, group_long g c.args.group.now is, c.loop-first-test.false))) at (c.loop-first.invariant g is)
+returns c g is =
+    rw (take_all c.loop-first.first g (omega (arith, group_long g c.args.group.now is, c.loop-first-test.false))) at
+    (c.loop-first.invariant g is)

@@ -1,4 +1,6 @@
-use Rattle.gix_refspec_lint.proofs.Common.{List, map, take, Reading, IsMadeFrom, IsExample, HaveParts, IsGroupOf, example_of}
+use Rattle.gix_refspec_lint.proofs.Common.{List, map, take, Reading, IsMadeFrom, IsExample, HaveParts, IsGroupOf}
+use Rattle.gix_refspec_lint.proofs.Common.{example_of}
 
 abbrev pub invariant-loop-second : Rattle.gix_refspec_lint.proofs.conflicts.conflicts_with.Given.invariant-loop-second
-invariant-loop-second l = (g : List Reading) → IsGroupOf g l.group → HaveParts l.group.specs.now l.parts → IsMadeFrom (λ j q e. IsExample g l.first j e) 0 (take l.second g) (map example_of l.found.items)
+invariant-loop-second l = (g : List Reading) → IsGroupOf g l.group → HaveParts l.group.specs.now l.parts
+    → IsMadeFrom (λ j q e. IsExample g l.first j e) 0 (take l.second g) (map example_of l.found.items)

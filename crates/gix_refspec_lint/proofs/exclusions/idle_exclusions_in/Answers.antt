@@ -1,5 +1,7 @@
-use Rattle.gix_refspec_lint.proofs.Common.{None, Some, append-nil, map, sym, refl, take_all, arith, MatchBool-at_false, MatchBool-at_true, reading_of, bstr_bytes, made_more}
-use Rattle.gix_refspec_lint.proofs.{exclusions.idle_exclusions_in.Goals.{then-branch+in_ok-push, else-branch}, lemmas.LeftOutLemmas.{IsIdleOne, idle_completed}}
+use Rattle.gix_refspec_lint.proofs.Common.{None, Some, append-nil, map, sym, refl, take_all, arith, MatchBool-at_false}
+use Rattle.gix_refspec_lint.proofs.Common.{MatchBool-at_true, reading_of, bstr_bytes, made_more}
+use Rattle.gix_refspec_lint.proofs.exclusions.idle_exclusions_in.Goals.{then-branch+in_ok-push, else-branch}
+use Rattle.gix_refspec_lint.proofs.lemmas.LeftOutLemmas.{IsIdleOne, idle_completed}
 use Rattle.gix_refspec_lint.proofs.exclusions.idle_exclusions_in.Goals as goal
 
 pub loop-index-preserved : goal.loop-index-preserved

@@ -1,6 +1,8 @@
-use Rattle.gix_refspec_lint.proofs.{Common.{List, map, take, bstr_bytes, Reading, reading_of, IsMadeFrom, IsGroupOf}, lemmas.LeftOutLemmas.IsIdleOne}
+use Rattle.gix_refspec_lint.proofs.Common.{List, map, take, bstr_bytes, Reading, reading_of, IsMadeFrom, IsGroupOf}
+use Rattle.gix_refspec_lint.proofs.lemmas.LeftOutLemmas.{IsIdleOne}
 
-abbrev pub invariant-loop-index : Rattle.gix_refspec_lint.proofs.exclusions.idle_exclusions_in.Given.invariant-loop-index
+abbrev pub invariant-loop-index :
+    Rattle.gix_refspec_lint.proofs.exclusions.idle_exclusions_in.Given.invariant-loop-index
 invariant-loop-index l =
     (g : List Reading) → IsGroupOf g l.group → IsMadeFrom (IsIdleOne g (map bstr_bytes l.merges)) 0
     (map reading_of (take l.index l.group.specs.now)) l.idle.items

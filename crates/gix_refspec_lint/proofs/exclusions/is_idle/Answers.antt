@@ -1,5 +1,6 @@
 -- A positive spec isn't idle so, and a negative one only if it excludes nothing.
-use Rattle.gix_refspec_lint.proofs.{Common.{map, reading_of, start_of, MatchBool-at_false, MatchBool-at_true}, lemmas.LeftOutLemmas.{idle_told, merged_told, none_told}}
+use Rattle.gix_refspec_lint.proofs.Common.{map, reading_of, start_of, MatchBool-at_false, MatchBool-at_true}
+use Rattle.gix_refspec_lint.proofs.lemmas.LeftOutLemmas.{idle_told, merged_told, none_told}
 use Rattle.gix_refspec_lint.proofs.exclusions.is_idle.Goals as goal
 
 pub returns-then-excludes_merged : goal.returns-then-excludes_merged

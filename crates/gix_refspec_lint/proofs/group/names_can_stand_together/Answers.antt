@@ -1,4 +1,5 @@
-use Rattle.gix_refspec_lint.proofs.{Common.{inl, inr, refl, sym, ◌∙◌, false≢true}, lemmas.StorableLemmas.{together_told}}
+use Rattle.gix_refspec_lint.proofs.Common.{inl, inr, refl, sym, ◌∙◌, false≢true}
+use Rattle.gix_refspec_lint.proofs.lemmas.StorableLemmas.{together_told}
 use Rattle.gix_refspec_lint.proofs.group.names_can_stand_together.Goals as goal
 
 pub returns-then-is_directory_of : goal.returns-then-is_directory_of

@@ -1,4 +1,5 @@
-use Rattle.gix_refspec_lint.proofs.{Common.{inl, inr, sym, ◌∙◌, subst, arith, upto, IsAtWork}, lemmas.IdleSpecLemmas.{why_none, why_some}}
+use Rattle.gix_refspec_lint.proofs.Common.{inl, inr, sym, ◌∙◌, subst, arith, upto, IsAtWork}
+use Rattle.gix_refspec_lint.proofs.lemmas.IdleSpecLemmas.{why_none, why_some}
 use Rattle.gix_refspec_lint.specs.Private.Idles.{alone_at}
 use Rattle.gix_refspec_lint.proofs.idle.covering.Goals as goal
 

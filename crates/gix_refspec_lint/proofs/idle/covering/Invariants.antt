@@ -1,4 +1,5 @@
-use Rattle.gix_refspec_lint.proofs.Common.{◌≡◌, ◌<◌, ℕ, List, Some, map, slice_get, IsPositive, Reading, reading_of, IsAtWork, IsGroupOf}
+use Rattle.gix_refspec_lint.proofs.Common.{◌≡◌, ◌<◌, ℕ, List, Some, map, slice_get, IsPositive, Reading, reading_of}
+use Rattle.gix_refspec_lint.proofs.Common.{IsAtWork, IsGroupOf}
 use Rattle.gix_refspec_lint.specs.Private.Idles.{alone_at}
 
 abbrev pub invariant-loop-at : Rattle.gix_refspec_lint.proofs.idle.covering.Given.invariant-loop-at

@@ -1,4 +1,5 @@
-use Rattle.gix_refspec_lint.proofs.Common.{inl, inr, map, option_map, sym, subst, arith, MatchBool-at_false, bstr_bytes, upto, ref_of, start_of, Maps}
+use Rattle.gix_refspec_lint.proofs.Common.{inl, inr, map, option_map, sym, subst, arith, MatchBool-at_false, bstr_bytes}
+use Rattle.gix_refspec_lint.proofs.Common.{upto, ref_of, start_of, Maps}
 use Rattle.gix_refspec_lint.proofs.idle.first_of.Goals as goal
 
 pub loop-at-init : goal.loop-at-init

@@ -1,4 +1,5 @@
-use Rattle.gix_refspec_lint.proofs.Common.{◌<◌, ◌≤◌, ℕ, List, map, option_map, bstr_bytes, Reading, ref_of, start_of, Maps, IsGroupOf}
+use Rattle.gix_refspec_lint.proofs.Common.{◌<◌, ◌≤◌, ℕ, List, map, option_map, bstr_bytes, Reading, ref_of, start_of}
+use Rattle.gix_refspec_lint.proofs.Common.{Maps, IsGroupOf}
 
 abbrev pub invariant-loop-at : Rattle.gix_refspec_lint.proofs.idle.first_of.Given.invariant-loop-at
 invariant-loop-at l =

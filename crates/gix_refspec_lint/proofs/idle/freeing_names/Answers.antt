@@ -1,4 +1,6 @@
-use Rattle.gix_refspec_lint.proofs.{Common.{arith, map, bstring_bytes, refl}, lemmas.{IdleLemmas.{freeing, frees_next, frees_none}, IndexLemmas.reading_at}}
+use Rattle.gix_refspec_lint.proofs.Common.{arith, map, bstring_bytes, refl}
+use Rattle.gix_refspec_lint.proofs.lemmas.IdleLemmas.{freeing, frees_next, frees_none}
+use Rattle.gix_refspec_lint.proofs.lemmas.IndexLemmas.{reading_at}
 use Rattle.gix_refspec_lint.proofs.idle.freeing_names.Goals as goal
 
 pub loop-at-init : goal.loop-at-init

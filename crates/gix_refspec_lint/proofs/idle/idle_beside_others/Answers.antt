@@ -1,4 +1,6 @@
-use Rattle.gix_refspec_lint.proofs.{Common.{ap, inl, get_or, sym, ◌∙◌, subst, same_Some, IfOk-weaker, IsPositive, Reading, reading_of, accepted_few, HasPlainSource}, lemmas.IdleSpecLemmas.why_beside}
+use Rattle.gix_refspec_lint.proofs.Common.{ap, inl, get_or, sym, ◌∙◌, subst, same_Some, IfOk-weaker, IsPositive}
+use Rattle.gix_refspec_lint.proofs.Common.{Reading, reading_of, accepted_few, HasPlainSource}
+use Rattle.gix_refspec_lint.proofs.lemmas.IdleSpecLemmas.{why_beside}
 use Rattle.gix_refspec_lint.proofs.lemmas.IndexLemmas.{reading_at}
 use Rattle.gix_refspec_lint.proofs.idle.idle_beside_others.Goals as goal
 
@@ -21,7 +23,8 @@ pub returns-in-Some : goal.returns-in-Some
 returns-in-Some c g is =
     let (x, has, split) = c.in-Some.ensures in
     IfOk-weaker c.idle_by_words.result _ _ (λ why told r at.
-    let same = same_Some _ _ (sym (reading_at c.args.group.now.specs.now c.args.index c.index-group-index.result c.requires.0) ∙ at) in
+    let same = same_Some _ _
+    (sym (reading_at c.args.group.now.specs.now c.args.index c.index-group-index.result c.requires.0) ∙ at) in
     let positive = subst (λ (q : Reading). IsPositive q.mode) same c.if-is_negative.ensures in
     why_beside g c.args.others _ r positive why
     (told r at positive (record {

@@ -1,4 +1,6 @@
-use Rattle.gix_refspec_lint.proofs.{Common.{inl, inr, map, sym, ◌∙◌, take_all, arith, same_Some, all_weaker, one_more_mapped, start_of, Explains, subst, HasPlainSource}, lemmas.IdleSpecLemmas.idle_by}
+use Rattle.gix_refspec_lint.proofs.Common.{inl, inr, map, sym, ◌∙◌, take_all, arith, same_Some, all_weaker}
+use Rattle.gix_refspec_lint.proofs.Common.{one_more_mapped, start_of, Explains, subst, HasPlainSource}
+use Rattle.gix_refspec_lint.proofs.lemmas.IdleSpecLemmas.{idle_by}
 use Rattle.gix_refspec_lint.proofs.lemmas.{IdleSpecLemmas.sources_explain, IndexLemmas.reading_at}
 use Rattle.gix_refspec_lint.proofs.idle.idle_by_sources.Goals as goal
 
@@ -15,7 +17,8 @@ loop-source-preserved c g is =
     let before = all_weaker (λ s. Explains g o k s c.loop-source.reason) (λ s. Explains g o k s new)
     (λ s e. c.stronger-reason.ensures.explains g o k s (inl e)) _ old.0 in
     let more = one_more_mapped start_of
-    (λ s. Explains g o k s new) c.deref-source-items.result.now c.loop-source.source-index c.source-item.result before c.loop-source-test.true c.source-item.is in (
+    (λ s. Explains g o k s new) c.deref-source-items.result.now c.loop-source.source-index c.source-item.result before
+    c.loop-source-test.true c.source-item.is in (
       more (c.stronger-reason.ensures.explains g o k (start_of c.source-item.result) (inr told.0)),
       c.stronger-reason.ensures.shown g o k old.1 told.1,
     )
@@ -26,5 +29,7 @@ returns c g is r at plain =
     let old = c.loop-source.invariant g is in
     idle_by g c.args.others c.args.index c.loop-source.reason
     (sources_explain g _ is.completed c.args.others c.args.index _ also (map start_of c.deref-source-items.result.now)
-    (rw c.deref-source-items.ensures.value (c.in_ok-named_sources.ensures (subst HasPlainSource (same_Some _ _ (sym at ∙ also)) plain))) c.loop-source.reason
+    (rw c.deref-source-items.ensures.value
+    (c.in_ok-named_sources.ensures (subst HasPlainSource (same_Some _ _ (sym at ∙ also)) plain)))
+    c.loop-source.reason
     (rw (take_all c.loop-source.source-index c.deref-source-items.result.now (omega arith)) at old.0)) old.1

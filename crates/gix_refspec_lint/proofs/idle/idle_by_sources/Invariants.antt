@@ -1,4 +1,5 @@
-use Rattle.gix_refspec_lint.proofs.Common.{List, map, take, AllByRecursion, Reading, start_of, Explains, IsShown, IsGroupOf}
+use Rattle.gix_refspec_lint.proofs.Common.{List, map, take, AllByRecursion, Reading, start_of, Explains, IsShown}
+use Rattle.gix_refspec_lint.proofs.Common.{IsGroupOf}
 
 abbrev pub invariant-loop-source : Rattle.gix_refspec_lint.proofs.idle.idle_by_sources.Given.invariant-loop-source
 invariant-loop-source l =

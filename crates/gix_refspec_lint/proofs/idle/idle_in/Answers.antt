@@ -1,5 +1,8 @@
-use Rattle.gix_refspec_lint.proofs.Common.{None, Some, append-nil, map, refl, sym, ap, ◌∙◌, take_all, arith, map-append, reading_of, unused_of}
-use Rattle.gix_refspec_lint.proofs.{idle.idle_in.Goals.{in-Some+in_ok-is_required+in_ok-push, in_default}, lemmas.{IdleSpecLemmas.{idle_of, idle_next}, RequiredLemmas.required_same}}
+use Rattle.gix_refspec_lint.proofs.Common.{None, Some, append-nil, map, refl, sym, ap, ◌∙◌, take_all, arith, map-append}
+use Rattle.gix_refspec_lint.proofs.Common.{reading_of, unused_of}
+use Rattle.gix_refspec_lint.proofs.idle.idle_in.Goals.{in-Some+in_ok-is_required+in_ok-push, in_default}
+use Rattle.gix_refspec_lint.proofs.lemmas.IdleSpecLemmas.{idle_of, idle_next}
+use Rattle.gix_refspec_lint.proofs.lemmas.RequiredLemmas.{required_same}
 use Rattle.gix_refspec_lint.proofs.idle.idle_in.Goals as goal
 
 pub loop-spec_index-preserved : goal.loop-spec_index-preserved
@@ -17,7 +20,8 @@ loop-spec_index-preserved c g is =
             record {
               spec = refl;
               reason = by;
-              required = required_same g (map reading_of specs) is.completed i w.in_ok-is_required.is_required w.in_ok-is_required.ensures;
+              required = required_same g (map reading_of specs) is.completed i w.in_ok-is_required.is_required
+                  w.in_ok-is_required.ensures;
             },
           ))
           (c.loop-spec_index.invariant g is)
@@ -30,4 +34,5 @@ loop-spec_index-preserved c g is =
 pub returns : goal.returns
 returns c g is =
     idle_of g (map reading_of c.args.group.now.specs.now) (map unused_of c.loop-spec_index.idle.items) is.completed
-    (rw (take_all c.loop-spec_index.spec_index c.args.group.now.specs.now (omega arith)) at (c.loop-spec_index.invariant g is))
+    (rw (take_all c.loop-spec_index.spec_index c.args.group.now.specs.now (omega arith)) at
+    (c.loop-spec_index.invariant g is))

@@ -1,4 +1,5 @@
-use Rattle.gix_refspec_lint.proofs.{Common.{List, map, take, Reading, reading_of, IsMadeFrom, IsGroupOf, unused_of}, lemmas.IdleSpecLemmas.IsIdleAt}
+use Rattle.gix_refspec_lint.proofs.Common.{List, map, take, Reading, reading_of, IsMadeFrom, IsGroupOf, unused_of}
+use Rattle.gix_refspec_lint.proofs.lemmas.IdleSpecLemmas.{IsIdleAt}
 
 abbrev pub invariant-loop-spec_index : Rattle.gix_refspec_lint.proofs.idle.idle_in.Given.invariant-loop-spec_index
 invariant-loop-spec_index l =

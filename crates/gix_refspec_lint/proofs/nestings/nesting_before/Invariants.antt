@@ -1,7 +1,9 @@
-use Rattle.gix_refspec_lint.proofs.{Common.{List, ℕ, Reading, HasPattern, IsGroupOf}, lemmas.NestFoundLemmas.HoldsBefore}
+use Rattle.gix_refspec_lint.proofs.Common.{List, ℕ, Reading, HasPattern, IsGroupOf}
+use Rattle.gix_refspec_lint.proofs.lemmas.NestFoundLemmas.{HoldsBefore}
 use Rattle.gix_refspec_lint.specs.Private.Nestings.{NoneNested}
 
 abbrev pub invariant-loop-index : Rattle.gix_refspec_lint.proofs.nestings.nesting_before.Given.invariant-loop-index
 invariant-loop-index l =
-    (g : List Reading) → IsGroupOf g l.two.group.now → HasPattern l.two.group.now l.two.upper l.above.0.now l.above.1.now → HasPattern l.two.group.now l.two.lower l.below.0.now l.below.1.now
+    (g : List Reading) → IsGroupOf g l.two.group.now → HasPattern l.two.group.now l.two.upper l.above.0.now
+    l.above.1.now → HasPattern l.two.group.now l.two.lower l.below.0.now l.below.1.now
     → HoldsBefore (λ d a. (e : List ℕ) → NoneNested g l.two.upper l.two.lower d e) l.below.0.now l.index

@@ -2,4 +2,6 @@ use Rattle.gix_refspec_lint.proofs.Common.{List, map, take, AllByRecursion, bstr
 use Rattle.gix_refspec_lint.specs.Private.Nestings.{NoneNested}
 
 abbrev pub invariant-loop-name : Rattle.gix_refspec_lint.proofs.nestings.nesting_below.Given.invariant-loop-name
-invariant-loop-name l = (g : List Reading) → IsGroupOf g l.two.group.now → AllByRecursion (NoneNested g l.two.upper l.two.lower l.directory) (map bstring_bytes (take l.name-index l.name-items))
+invariant-loop-name l = (g : List Reading) → IsGroupOf g l.two.group.now
+    → AllByRecursion (NoneNested g l.two.upper l.two.lower l.directory)
+    (map bstring_bytes (take l.name-index l.name-items))

@@ -1,7 +1,11 @@
 -- A ref of each other spec that this one doesn't name makes a remote that lacks its source alone.
-use Rattle.gix_refspec_lint.proofs.Common.{arith, length-map, map, reading_of, bstring_bytes, MatchBool-at_false, MatchBool-at_true}
-use Rattle.gix_refspec_lint.proofs.lemmas.{IndexLemmas.read_at, RequiredLemmas.{dispensable_by, dispensable_never, had_itself, had_next, required_by}}
-use Rattle.gix_refspec_lint.proofs.required.is_required.Goals.{then-at-index+in_ok-lacks_with+else-branch, else-at-index}
+use Rattle.gix_refspec_lint.proofs.Common.{arith, length-map, map, reading_of, bstring_bytes, MatchBool-at_false}
+use Rattle.gix_refspec_lint.proofs.Common.{MatchBool-at_true}
+use Rattle.gix_refspec_lint.proofs.lemmas.IndexLemmas.{read_at}
+use Rattle.gix_refspec_lint.proofs.lemmas.RequiredLemmas.{dispensable_by, dispensable_never, had_itself, had_next}
+use Rattle.gix_refspec_lint.proofs.lemmas.RequiredLemmas.{required_by}
+use Rattle.gix_refspec_lint.proofs.required.is_required.Goals.{then-at-index+in_ok-lacks_with+else-branch}
+use Rattle.gix_refspec_lint.proofs.required.is_required.Goals.{else-at-index}
 use Rattle.gix_refspec_lint.proofs.required.is_required.Goals as goal
 
 pub returns-in_default : goal.returns-in_default

@@ -1,4 +1,6 @@
-use Rattle.gix_refspec_lint.proofs.{Common.{map, refl, take_all, arith, false≢true, bstring_bytes, reading_of, text_contained}, lemmas.RequiredLemmas.{had_beside, lacks_too}}
+use Rattle.gix_refspec_lint.proofs.Common.{map, refl, take_all, arith, false≢true, bstring_bytes, reading_of}
+use Rattle.gix_refspec_lint.proofs.Common.{text_contained}
+use Rattle.gix_refspec_lint.proofs.lemmas.RequiredLemmas.{had_beside, lacks_too}
 use Rattle.gix_refspec_lint.proofs.required.lacks_with.Goals as goal
 
 pub returns-then-not-contains : goal.returns-then-not-contains

@@ -1,5 +1,7 @@
 -- By the kind of the side, of which an accepted spec has one.
-use Rattle.gix_refspec_lint.proofs.{Common.{inl, inr, refl, sym, ap, ◌∙◌, option_map, bstr_bytes, pattern, full_name, partial, reading_of, accepted_few}, lemmas.RequiredLemmas.{named_are, never_missing}}
+use Rattle.gix_refspec_lint.proofs.Common.{inl, inr, refl, sym, ap, ◌∙◌, option_map, bstr_bytes, pattern, full_name}
+use Rattle.gix_refspec_lint.proofs.Common.{partial, reading_of, accepted_few}
+use Rattle.gix_refspec_lint.proofs.lemmas.RequiredLemmas.{named_are, never_missing}
 use Rattle.gix_refspec_lint.proofs.required.named_refs.Goals as goal
 
 pub kind_of-requires : goal.kind_of-requires

@@ -1,10 +1,23 @@
-use Rattle.gix_refspec_match.proofs.{Common.{common_steps, arith, length, map, ◌≤◌, length-map, get_or-map}, lemmas.duplicates.HashKeyLemmas.{packed, sorted_keys, sorted_keys_rise}}
+use Rattle.gix_refspec_match.proofs.Common.{common_steps, arith, length, map, ◌≤◌, length-map, get_or-map}
+use Rattle.gix_refspec_match.proofs.lemmas.duplicates.HashKeyLemmas.{packed, sorted_keys, sorted_keys_rise}
 use Rattle.gix_refspec_match.proofs.lemmas.duplicates.OrderedLemmas.{numbered_more}
 use Rattle.gix_refspec_match.proofs.duplicates.keys_in_order.Goals as goal
 
 pub loop-index-preserved : goal.loop-index-preserved
 loop-index-preserved g c =
-    grind (arith, common_steps, get_or-map, packed, numbered_more, length-map, c.requires.fit, c.in_ok-keys.ensures, c.hash_by-hash.type_inv, c.in_ok-push.ensures.items, c.loop-index.invariant)
+    grind (
+      arith,
+      common_steps,
+      get_or-map,
+      packed,
+      numbered_more,
+      length-map,
+      c.requires.fit,
+      c.in_ok-keys.ensures,
+      c.hash_by-hash.type_inv,
+      c.in_ok-push.ensures.items,
+      c.loop-index.invariant,
+    )
 
 pub returns : goal.returns
 returns g c =

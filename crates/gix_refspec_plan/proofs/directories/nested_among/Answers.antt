@@ -3,4 +3,6 @@ use Rattle.gix_refspec_plan.proofs.{Common.{IfOk-weaker, map, mapped_of}, lemmas
 use Rattle.gix_refspec_plan.proofs.directories.nested_among.Goals as goal
 
 pub returns : goal.returns
-returns c = IfOk-weaker c.nested_names.result _ _ (λ nested told. told_nested (map mapped_of c.args.mappings.now) _ nested c.in_ok-sound_destinations.ensures told) c.nested_names.ensures
+returns c = IfOk-weaker c.nested_names.result _ _
+    (λ nested told. told_nested (map mapped_of c.args.mappings.now) _ nested c.in_ok-sound_destinations.ensures told)
+    c.nested_names.ensures

@@ -1,4 +1,6 @@
-use Rattle.gix_refspec_plan.proofs.Common.{None, Some, append-nil, map, refl, sym, ap, ◌∙◌, take_all, arith, false≢true, ref_of, made_more, slice_index_or, get_or_default, some_element, IsTakenAt, mapped_of, rules}
+use Rattle.gix_refspec_plan.proofs.Common.{None, Some, append-nil, map, refl, sym, ap, ◌∙◌, take_all, arith, false≢true}
+use Rattle.gix_refspec_plan.proofs.Common.{ref_of, made_more, slice_index_or, get_or_default, some_element, IsTakenAt}
+use Rattle.gix_refspec_plan.proofs.Common.{mapped_of, rules}
 use Rattle.gix_refspec_plan.proofs.lemmas.plan.MadeLemmas.{made_one}
 use Rattle.gix_refspec_plan.proofs.specs.taken_by.Goals as goal
 
@@ -15,15 +17,20 @@ loop-index-preserved c =
       | goal.then-is_flagged+in_ok-push+in_ok-push-2 w ↦
           let takes = each.0 (flag.0 w.if-is_flagged.true) in
           rw w.taken-is (
-            made_more _ ref_of items i d taken.indexes.items _ (Some i) below c.loop-index.invariant.0 (refl, takes) w.in_ok-push-2.ensures.items,
-            made_one _ ref_of ref_of items i (slice_index_or items i d) taken.items.items below (get_or_default items i d _ below) c.loop-index.invariant.1 _ _
+            made_more _ ref_of items i d taken.indexes.items _ (Some i) below c.loop-index.invariant.0
+                (refl, takes) w.in_ok-push-2.ensures.items,
+            made_one _ ref_of ref_of items i (slice_index_or items i d) taken.items.items below
+                (get_or_default items i d _ below) c.loop-index.invariant.1 _ _
                 (ap ref_of (get_or_default items i _ d below), takes) w.in_ok-push.ensures.items,
           )
       | goal.else-is_flagged w ↦
-          let apart : ¬ (IsTakenAt (map mapped_of c.in_ok-mappings.mappings.items) i) = λ takes. false≢true (sym w.if-is_flagged.false ∙ flag.1 (each.1 takes)) in
+          let apart : ¬ (IsTakenAt (map mapped_of c.in_ok-mappings.mappings.items) i) =
+          λ takes. false≢true (sym w.if-is_flagged.false ∙ flag.1 (each.1 takes)) in
           rw w.taken-is (
-            made_more _ ref_of items i d taken.indexes.items _ None below c.loop-index.invariant.0 (λ y both. apart both.1) (sym (append-nil _)),
-            made_more _ ref_of items i d (map ref_of taken.items.items) _ None below c.loop-index.invariant.1 (λ y both. apart both.1) (sym (append-nil _)),
+            made_more _ ref_of items i d taken.indexes.items _ None below c.loop-index.invariant.0
+                (λ y both. apart both.1) (sym (append-nil _)),
+            made_more _ ref_of items i d (map ref_of taken.items.items) _ None below c.loop-index.invariant.1
+                (λ y both. apart both.1) (sym (append-nil _)),
           )
     ]
 

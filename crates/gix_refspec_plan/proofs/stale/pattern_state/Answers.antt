@@ -7,5 +7,6 @@ returns-in_default-source c = search (rules, c.in-Some.ensures, c.in_default-sou
 
 pub returns-in-None : goal.returns-in-None
 returns-in-None c =
-    source_included c.args.exclusions.now c.args.pattern.now c.args.name.now c.in-Some.word.now c.in-Some.ensures (c.in-Some-source.before, c.in-Some-source.after) c.in-Some-source.is
+    source_included c.args.exclusions.now c.args.pattern.now c.args.name.now c.in-Some.word.now c.in-Some.ensures
+    (c.in-Some-source.before, c.in-Some-source.after) c.in-Some-source.is
     (rw (c.as_bytes.ensures, c.as_bstr.ensures, c.in_ok-source.ensures) at c.in-None.ensures)

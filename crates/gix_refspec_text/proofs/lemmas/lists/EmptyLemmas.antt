@@ -1,5 +1,6 @@
 -- Texts that are empty, and texts that aren't.
-use Rattle.gix_refspec_text.proofs.Common.{[], ◌≡◌, ◌≢◌, ◌==◌, ◌<◌, ℕ, List, ◌∷◌, true, false, length, refl, sym, ap, ◌∙◌, arith, false≢true, eqb-true}
+use Rattle.gix_refspec_text.proofs.Common.{[], ◌≡◌, ◌≢◌, ◌==◌, ◌<◌, ℕ, List, ◌∷◌, true, false, length, refl, sym, ap}
+use Rattle.gix_refspec_text.proofs.Common.{◌∙◌, arith, false≢true, eqb-true}
 
 pub full_from_test : (x : List ℕ) → false ≡ (length x == 0) → x ≢ []
 full_from_test x test empty = false≢true (test ∙ ap (λ y. length y == 0) empty)

@@ -1,5 +1,7 @@
 -- A text has at most one reading.
-use Rattle.gix_refspec_text.proofs.{Common.{◌≡◌, ℕ, List, sym, ◌∙◌, Operation, Reading, Reads}, lemmas.parsing.PartsLemmas.parts_once, lemmas.parsing.ReadsLemmas.fine_parts}
+use Rattle.gix_refspec_text.proofs.Common.{◌≡◌, ℕ, List, sym, ◌∙◌, Operation, Reading, Reads}
+use Rattle.gix_refspec_text.proofs.lemmas.parsing.PartsLemmas.{parts_once}
+use Rattle.gix_refspec_text.proofs.lemmas.parsing.ReadsLemmas.{fine_parts}
 
 pub reads_once : (op : Operation) (text : List ℕ) (r q : Reading) → Reads op text r → Reads op text q → r ≡ q
 reads_once op text r q by_r by_q =

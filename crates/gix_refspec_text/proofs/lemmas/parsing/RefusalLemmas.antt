@@ -1,7 +1,11 @@
 -- A text is refused for only one reason, apart from which fault of a name it holds.
-use Rattle.gix_refspec_text.proofs.Common.{arith, ◌⊎◌, inl, ℕ, List, Option, sym, ◌∙◌, Operation, star, Mode, Refusal, PatternUnsupported, ReferenceName, IsBadName, IsBadPattern, IsBadSourceFor}
-use Rattle.gix_refspec_text.proofs.{Common.{HasBadDestination, OrElse, IsFirstReason, IsSameReason, OneRefusal, same_Some}, lemmas.texts.TextLemmas.Lacks-ContainsText}
-use Rattle.gix_refspec_text.proofs.lemmas.parsing.{SideLemmas.{HasStar-bad, HasSeveralStars-replaced}, PartsLemmas.parts_once}
+use Rattle.gix_refspec_text.proofs.Common.{arith, ◌⊎◌, inl, ℕ, List, Option, sym, ◌∙◌, Operation, star, Mode, Refusal}
+use Rattle.gix_refspec_text.proofs.Common.{PatternUnsupported, ReferenceName, IsBadName, IsBadPattern, IsBadSourceFor}
+use Rattle.gix_refspec_text.proofs.Common.{HasBadDestination, OrElse, IsFirstReason, IsSameReason, OneRefusal}
+use Rattle.gix_refspec_text.proofs.Common.{same_Some}
+use Rattle.gix_refspec_text.proofs.lemmas.texts.TextLemmas.{Lacks-ContainsText}
+use Rattle.gix_refspec_text.proofs.lemmas.parsing.SideLemmas.{HasStar-bad, HasSeveralStars-replaced}
+use Rattle.gix_refspec_text.proofs.lemmas.parsing.PartsLemmas.{parts_once}
 
 abbrev Agree : (Refusal → Type 0) → Type 0
 Agree P = (e f : Refusal) → P e → P f → IsSameReason e f
@@ -31,8 +35,10 @@ Agree-destination d e f a b = grind (arith, same_Some, Agree-side)
 
 pub Agree-first : (op : Operation) (mode : Mode) (s : List ℕ) (d : Option (List ℕ)) → Agree (IsFirstReason op mode s d)
 Agree-first op mode s d =
-    Agree-or (λ e f a b. inl (a.refusal ∙ sym b.refusal)) (Agree-or (λ e f a b. inl (a.refusal ∙ sym b.refusal)) (Agree-or (λ e f a b. inl (a.refusal ∙ sym b.refusal))
-    (Agree-or (λ e f a b. Agree-source op d s e f a.refusal b.refusal) (Agree-or (Agree-destination d) (Agree-or (λ e f a b. inl (a.refusal ∙ sym b.refusal))
+    Agree-or (λ e f a b. inl (a.refusal ∙ sym b.refusal))
+    (Agree-or (λ e f a b. inl (a.refusal ∙ sym b.refusal)) (Agree-or (λ e f a b. inl (a.refusal ∙ sym b.refusal))
+    (Agree-or (λ e f a b. Agree-source op d s e f a.refusal b.refusal)
+    (Agree-or (Agree-destination d) (Agree-or (λ e f a b. inl (a.refusal ∙ sym b.refusal))
     (Agree-or (λ e f a b. inl (a.refusal ∙ sym b.refusal)) (λ e f a b. inl (a.refusal ∙ sym b.refusal))))))))
 
 pub one_refusal : (op : Operation) (text : List ℕ) → OneRefusal op text

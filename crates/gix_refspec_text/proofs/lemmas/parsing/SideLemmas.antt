@@ -1,7 +1,10 @@
 -- Names and patterns as sides, and the reasons to refuse a side.
-use Rattle.gix_refspec_text.proofs.Common.{[], arith, ◌≡◌, ◌⊎◌, ℕ, List, ◌∷◌, ◌++◌, Option, None, option_map, unwrap_or, is_some, Bor, false, refl, sym, ◌∙◌, subst, Asterisk, Shape, Plain, Pattern}
-use Rattle.gix_refspec_text.proofs.Common.{Lacks, IsName, IsPattern, HasStar, HasSeveralStars, ReplacesStar, HasFault, star, Refusal, PatternUnsupported, ReferenceName, IsBadName, IsBadPattern, Never}
-use Rattle.gix_refspec_text.proofs.{Common.{NothingAgainst, HasShape, HasCheckedShape, IsBadSide}, lemmas.texts.TextLemmas.{Lacks-ContainsText, Lacks-from_absent, one_not_two}}
+use Rattle.gix_refspec_text.proofs.Common.{[], arith, ◌≡◌, ◌⊎◌, ℕ, List, ◌∷◌, ◌++◌, Option, None, option_map, unwrap_or}
+use Rattle.gix_refspec_text.proofs.Common.{is_some, Bor, false, refl, sym, ◌∙◌, subst, Asterisk, Shape, Plain, Pattern}
+use Rattle.gix_refspec_text.proofs.Common.{Lacks, IsName, IsPattern, HasStar, HasSeveralStars, ReplacesStar, HasFault}
+use Rattle.gix_refspec_text.proofs.Common.{star, Refusal, PatternUnsupported, ReferenceName, IsBadName, IsBadPattern}
+use Rattle.gix_refspec_text.proofs.Common.{Never, NothingAgainst, HasShape, HasCheckedShape, IsBadSide}
+use Rattle.gix_refspec_text.proofs.lemmas.texts.TextLemmas.{Lacks-ContainsText, Lacks-from_absent, one_not_two}
 use Rattle.gix_refspec_text.proofs.lemmas.lists.LacksLemmas.{first_once}
 use Rattle.gix_refspec_text.specs.declared.name.PatternError.TheVariants as found
 
@@ -9,24 +12,38 @@ pub Lacks-name : (x : List ℕ) → IsName x → Lacks star x
 Lacks-name x name = Lacks-from_absent star x (name Asterisk)
 
 pub HasStar-pattern : (x : List ℕ) → IsPattern x → HasStar x
-HasStar-pattern x pattern = let r = pattern.replaces in record { before = r.before; after = r.after; here = r.split.starred }
+HasStar-pattern x pattern = let r = pattern.replaces in record {
+  before = r.before;
+  after = r.after;
+  here =
+      r.split.starred;
+}
 
 pub HasStar-stars : (x : List ℕ) → HasSeveralStars x → HasStar x
-HasStar-stars x stars = record { before = stars.before; after = stars.between ++ (star ∷ stars.after); here = stars.here }
+HasStar-stars x stars = record {
+  before = stars.before;
+  after = stars.between ++ (star ∷ stars.after);
+  here =
+      stars.here;
+}
 
 pub replaced_once : (x y z : List ℕ) → ReplacesStar x y → ReplacesStar x z → y ≡ z
 replaced_once x y z a b = grind (arith, first_once)
 
 pub HasSeveralStars-replaced : (x y : List ℕ) → ReplacesStar x y → HasSeveralStars x → ⊥
-HasSeveralStars-replaced x y replaces stars = one_not_two star replaces.before replaces.after stars.before stars.between stars.after replaces.split.first replaces.split.last (sym replaces.split.starred ∙ stars.here)
+HasSeveralStars-replaced x y replaces stars = one_not_two star replaces.before replaces.after stars.before stars.between
+    stars.after replaces.split.first replaces.split.last (sym replaces.split.starred ∙ stars.here)
 
 pub HasStar-bad : (x : List ℕ) (e : Refusal) → IsBadPattern x e → HasStar x
 HasStar-bad x e bad = grind arith
 
 pub pattern_fine : (x : List ℕ) → IsPattern x → Never (IsBadPattern x)
-pattern_fine x pattern (PatternUnsupported p) bad = HasSeveralStars-replaced x pattern.with_letter pattern.replaces bad.0
+pattern_fine x pattern (PatternUnsupported p) bad = HasSeveralStars-replaced x pattern.with_letter pattern.replaces
+    bad.0
 pattern_fine x pattern (ReferenceName fault) bad =
-    pattern.name fault (subst (λ (y : List ℕ). HasFault y fault) (replaced_once x bad.0 pattern.with_letter bad.1 pattern.replaces) bad.2)
+    pattern.name fault
+    (subst (λ (y : List ℕ). HasFault y fault) (replaced_once x bad.0 pattern.with_letter bad.1 pattern.replaces)
+    bad.2)
 pattern_fine x pattern _ bad = bad
 
 pub nothing_against : (x : List ℕ) → NothingAgainst x
@@ -54,7 +71,8 @@ pub checked_starred : (x : List ℕ) (k : Shape) → HasCheckedShape x k → Has
 checked_starred x k fine = grind (arith, Lacks-name)
 
 -- the bytes of an optional reference, or of an empty one in its place
-pub now-unwrap_or : (d : Option (Bor (List ℕ))) (e x : Bor (List ℕ)) → x ≡ unwrap_or d e → e.now ≡ [] → x.now ≡ unwrap_or (option_map (λ (y : Bor (List ℕ)). y.now) d) []
+pub now-unwrap_or : (d : Option (Bor (List ℕ))) (e x : Bor (List ℕ)) → x ≡ unwrap_or d e → e.now ≡ []
+    → x.now ≡ unwrap_or (option_map (λ (y : Bor (List ℕ)). y.now) d) []
 now-unwrap_or d e x is empty = grind arith
 
 pub none_from_test : (d : Option (Bor (List ℕ))) → false ≡ is_some d → option_map (λ (y : Bor (List ℕ)). y.now) d ≡ None

@@ -1,14 +1,19 @@
 -- Which bytes of a refused text are wrong, by the first reason to refuse its parts.
 use Rattle.gix_refspec_text.proofs.Common.{[], arith, ◌≡◌, inl, inr, ℕ, List, ◌∷◌, ◌++◌, Option, None, Some, unwrap_or}
-use Rattle.gix_refspec_text.proofs.Common.{ap, ◌∙◌, ◌+◌, ◌≤◌, length, length-append, length-map, same_Some, letter_for, with_letters}
-use Rattle.gix_refspec_text.proofs.Common.{Operation, Mode, Normal, Forced, Negative, Lacks, star, colon, IsSigned}
-use Rattle.gix_refspec_text.proofs.Common.{Refusal, PatternUnsupported, ReferenceName, PatternUnbalanced, AreParts}
-use Rattle.gix_refspec_text.proofs.Common.{NegativeObjectHash, NegativeWithDestination}
-use Rattle.gix_refspec_text.proofs.Common.{IsBadSourceFor, IsOneStarred, IsFirstReason, HasParts, Reading}
-use Rattle.gix_refspec_text.proofs.Common.{Reads, destination_of, mode_of, refl, sym, subst, HasBadSource, HasStar, IfSome, IsSameReason, MatchOption, Never}
-use Rattle.gix_refspec_text.proofs.lemmas.parsing.{PartsLemmas.parts_once, ReadsLemmas.refused, RefusalLemmas.Agree-first}
+use Rattle.gix_refspec_text.proofs.Common.{ap, ◌∙◌, ◌+◌, ◌≤◌, length, length-append, length-map, same_Some, letter_for}
+use Rattle.gix_refspec_text.proofs.Common.{with_letters, Operation, Mode, Normal, Forced, Negative, Lacks, star, colon}
+use Rattle.gix_refspec_text.proofs.Common.{IsSigned, Refusal, PatternUnsupported, ReferenceName, PatternUnbalanced}
+use Rattle.gix_refspec_text.proofs.Common.{AreParts, NegativeObjectHash, NegativeWithDestination, IsBadSourceFor}
+use Rattle.gix_refspec_text.proofs.Common.{IsOneStarred, IsFirstReason, HasParts, Reading, Reads, destination_of}
+use Rattle.gix_refspec_text.proofs.Common.{mode_of, refl, sym, subst, HasBadSource, HasStar, IfSome, IsSameReason}
+use Rattle.gix_refspec_text.proofs.Common.{MatchOption, Never}
+use Rattle.gix_refspec_text.proofs.lemmas.parsing.PartsLemmas.{parts_once}
+use Rattle.gix_refspec_text.proofs.lemmas.parsing.ReadsLemmas.{refused}
+use Rattle.gix_refspec_text.proofs.lemmas.parsing.RefusalLemmas.{Agree-first}
 use Rattle.gix_refspec_text.proofs.lemmas.{texts.TextLemmas.Lacks-ContainsText, lists.LacksLemmas.first_once}
-use Rattle.gix_refspec_text.specs.declared.{parsing.Side.Side, parsing.Side.TheVariants.{Source, Destination}, parsing.reading.Parts.Parts}
+use Rattle.gix_refspec_text.specs.declared.parsing.Side.{Side}
+use Rattle.gix_refspec_text.specs.declared.parsing.Side.TheVariants.{Source, Destination}
+use Rattle.gix_refspec_text.specs.declared.parsing.reading.Parts.{Parts}
 use Rattle.gix_refspec_text.specs.declared.{parsing.Span.Span}
 use Rattle.gix_refspec_text.specs.Specs.Span.{AreFirstWrong, AreWrong, Concerns, HasFirstStar, HasNoSpan, HasSecondStar}
 use Rattle.gix_refspec_text.specs.Specs.Span.{IsFirstWrongWord, IsOnlySpan, IsSide, IsSpan, index_of_side, sign_length}
@@ -93,8 +98,16 @@ accepted_right op text r reads span is =
 
 one_first : (x : List ℕ) (i n j m : ℕ) → IsFirstWrongWord x i n → IsFirstWrongWord x j m → (i ≡ j) × (n ≡ m)
 one_first x i n j m a b = elim (a.first j m b.has) [
-  | inl less ↦ elim (b.first i n a.has) [ inl more ↦ absurd (omega (arith, less, more)) | inr same ↦ absurd (omega (arith, less, same.0)) ]
-  | inr same ↦ elim (b.first i n a.has) [ inl more ↦ absurd (omega (arith, same.0, more)) | inr back ↦ (same.0, omega (arith, same.1, back.1)) ]
+  | inl less ↦ elim (b.first i n a.has) [
+    | inl more ↦ absurd (omega (arith, less, more))
+    | inr same ↦
+        absurd (omega (arith, less, same.0))
+  ]
+  | inr same ↦ elim (b.first i n a.has) [
+    | inl more ↦ absurd (omega (arith, same.0, more))
+    | inr back ↦
+        (same.0, omega (arith, same.1, back.1))
+  ]
 ]
 
 star_of_first : (x : List ℕ) (i : ℕ) → HasFirstStar x i → HasStar x
@@ -108,7 +121,8 @@ one_star x i j a b =
 one_second : (x : List ℕ) (i j : ℕ) → HasSecondStar x i → HasSecondStar x j → i ≡ j
 one_second x i j a b =
     let outer =
-    first_once star a.before b.before (a.between ++ (star ∷ a.after)) (b.between ++ (star ∷ b.after)) a.first b.first (sym a.here ∙ b.here) in
+    first_once star a.before b.before (a.between ++ (star ∷ a.after)) (b.between ++ (star ∷ b.after)) a.first b.first
+    (sym a.here ∙ b.here) in
     let inner = first_once star a.between b.between a.after b.after a.second b.second outer.1 in
     omega (arith, a.index, b.index, ap length outer.0, ap length inner.0)
 
@@ -166,12 +180,15 @@ in_one e f x y side i n j m word same w v =
     let range = one_range e f x i n j m same w (subst (λ z. AreWrong f z j m) (sym word) v) in
     record { side_is = refl; index_is = range.0; size_is = range.1 }
 
-pub same_bytes : (op : Operation) (m : Mode) (s : List ℕ) (d : Option (List ℕ)) (a b : Side) (x y : List ℕ) (i n j k : ℕ)
+pub same_bytes : (op : Operation) (m : Mode) (s : List ℕ) (d : Option (List ℕ)) (a b : Side) (x y : List ℕ)
+    (i n j k : ℕ)
     → AreFirstWrong op m s d a x i n → AreFirstWrong op m s d b y j k → SameBytes a b i n j k
 same_bytes op m s d Source Source x y i n j k w v =
-    in_one w.refusal v.refusal x y Source i n j k (w.word ∙ sym v.word) (Agree-first op m s d w.refusal v.refusal w.first v.first) w.wrong v.wrong
+    in_one w.refusal v.refusal x y Source i n j k (w.word ∙ sym v.word)
+    (Agree-first op m s d w.refusal v.refusal w.first v.first) w.wrong v.wrong
 same_bytes op m s d Destination Destination x y i n j k w v =
-    in_one w.refusal v.refusal x y Destination i n j k (same_Some x y (sym w.word ∙ v.word)) (Agree-first op m s d w.refusal v.refusal w.first v.first) w.wrong v.wrong
+    in_one w.refusal v.refusal x y Destination i n j k (same_Some x y (sym w.word ∙ v.word))
+    (Agree-first op m s d w.refusal v.refusal w.first v.first) w.wrong v.wrong
 same_bytes op m s None Source Destination x y i n j k w v = let is = v.word in absurd (cc)
 same_bytes op m s (Some t) Source Destination x y i n j k w v =
     let same = Agree-first op m s (Some t) w.refusal v.refusal w.first v.first in
@@ -195,11 +212,13 @@ span_is a b side start len =
 one_span : (op : Operation) (text : List ℕ) (a b : Span) → IsSpan op text a → IsSpan op text b → a ≡ b
 one_span op text a b one other =
     let same =
-    parts_once one.mode other.mode one.source other.source one.destination other.destination text one.parts other.parts in
+    parts_once one.mode other.mode one.source other.source one.destination other.destination text one.parts
+    other.parts in
     let wrong = one.wrong in
     let moved = rw (same.mode, same.source, same.destination) at wrong in
     let bytes =
-    same_bytes op other.mode other.source other.destination a.side b.side one.word other.word one.index a.len other.index b.len moved other.wrong in
+    same_bytes op other.mode other.source other.destination a.side b.side one.word other.word one.index a.len
+    other.index b.len moved other.wrong in
     let begins : index_of_side one.mode one.source a.side ≡ index_of_side other.mode other.source b.side =
     rw (same.mode, same.source, bytes.side_is) refl in
     span_is a b bytes.side_is (omega (arith, one.start, other.start, begins, bytes.index_is)) bytes.size_is

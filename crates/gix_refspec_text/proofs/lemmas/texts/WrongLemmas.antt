@@ -1,12 +1,14 @@
 -- The first wrong word of a text, by the index at which one pass over its bytes finds a fault.
-use Rattle.gix_refspec_text.proofs.Common.{[], arith, ◌≡◌, ◌≢◌, ◌⊎◌, inl, inr, ℕ, suc, List, ◌∷◌, ◌++◌, codes, refl, sym, ap}
-use Rattle.gix_refspec_text.proofs.Common.{◌∙◌, ◌+◌, ◌-◌, ◌<◌, ◌≤◌, length, take, drop, get_or, append_assoc, append-nil}
-use Rattle.gix_refspec_text.proofs.Common.{length-append, cases_lt, cases_eq, take-append-drop, take-append-le, length-map}
-use Rattle.gix_refspec_text.proofs.Common.{Error, Empty, EmptyComponent, StartsWithDot, LockSuffix, EndsWithDot, RepeatedDot}
-use Rattle.gix_refspec_text.proofs.Common.{ReflogPortion, Asterisk, InvalidByte, EndsWith, slash, star, dot, brace}
-use Rattle.gix_refspec_text.proofs.Common.{AddsFault, IsClean, LeavesFault, IsFoundAt, letter_for, with_letters, subst, length-take-le}
+use Rattle.gix_refspec_text.proofs.Common.{[], arith, ◌≡◌, ◌≢◌, ◌⊎◌, inl, inr, ℕ, suc, List, ◌∷◌, ◌++◌, codes, refl}
+use Rattle.gix_refspec_text.proofs.Common.{sym, ap, ◌∙◌, ◌+◌, ◌-◌, ◌<◌, ◌≤◌, length, take, drop, get_or, append_assoc}
+use Rattle.gix_refspec_text.proofs.Common.{append-nil, length-append, cases_lt, cases_eq, take-append-drop}
+use Rattle.gix_refspec_text.proofs.Common.{take-append-le, length-map, Error, Empty, EmptyComponent, StartsWithDot}
+use Rattle.gix_refspec_text.proofs.Common.{LockSuffix, EndsWithDot, RepeatedDot, ReflogPortion, Asterisk, InvalidByte}
+use Rattle.gix_refspec_text.proofs.Common.{EndsWith, slash, star, dot, brace, AddsFault, IsClean, LeavesFault}
+use Rattle.gix_refspec_text.proofs.Common.{IsFoundAt, letter_for, with_letters, subst, length-take-le}
 use Rattle.gix_refspec_text.proofs.lemmas.texts.{NameLemmas.{added_at, last_byte}, TextLemmas.split_at}
-use Rattle.gix_refspec_text.specs.{Specs.Span.{IsWrong, HasWrongWord, IsFirstWrongWord}, Private.Words.{word_begins, word_ends}}
+use Rattle.gix_refspec_text.specs.Specs.Span.{IsWrong, HasWrongWord, IsFirstWrongWord}
+use Rattle.gix_refspec_text.specs.Private.Words.{word_begins, word_ends}
 use Rattle.gix_refspec_text.proofs.lemmas.texts.LetterLemmas.{found_with_letters}
 use Rattle.std.proofs.Math.Seq.{take-append_seam, get_or-append_seam}
 use Rattle.std.proofs.lemmas.List.{get_or-append-add, get_or-take, length-take}
@@ -37,14 +39,16 @@ WordOfEnd _ n j m = ⊥
 abbrev IsQuiet : List ℕ → ℕ → Type 0
 IsQuiet y i = (z : List ℕ) (e : Error) → ¬ (AddsFault z (get_or y i 0) e)
 
--- the word of m bytes at the index j has a fault that the byte at k adds, or that the end has; and the bytes between its
+-- the word of m bytes at the index j has a fault that the byte at k adds, or that the end has; and the bytes between
+-- its
 -- first one and that index or end are quiet
 abbrev ByByte : List ℕ → ℕ → ℕ → Type 0
 ByByte y j m = (e : Error) × (k : ℕ) × FoundByte y e k × WordOfByte e k j m × ((i : ℕ) → j < i → i < k → IsQuiet y i)
 
 abbrev ByEnd : List ℕ → ℕ → ℕ → Type 0
 ByEnd y j m =
-    (e : Error) × LeavesFault (slash ∷ y) e × WordOfEnd e (length y) j m × ((i : ℕ) → j < i → i < length y → IsQuiet y i)
+    (e : Error) × LeavesFault (slash ∷ y) e × WordOfEnd e (length y) j m
+    × ((i : ℕ) → j < i → i < length y → IsQuiet y i)
 
 byte_found : (y p after : List ℕ) (b : ℕ) (e : Error) → y ≡ p ++ (b ∷ after) → AddsFault (slash ∷ p) b e
     → FoundByte y e (length p)
@@ -67,8 +71,13 @@ pair y before w after a b e here is adds word =
     let p = before ++ (a ∷ []) in
     let there : y ≡ p ++ (b ∷ after) =
     here ∙ ap (λ z. before ++ (z ++ after)) is ∙ sym (append_assoc before (a ∷ []) (b ∷ after)) in
-    let size : length p ≡ length before + 1 = length-append before (a ∷ []) in
-    (e, length p, byte_found y p after b e there adds, rw (size, is) word, λ i above below. absurd (omega (arith, size)))
+    let size : length p ≡ length before + 1 = length-append before (a ∷ []) in (
+      e,
+      length p,
+      byte_found y p after b e there adds,
+      rw (size, is) word,
+      λ i above below. absurd (omega (arith, size)),
+    )
 
 ended : (y before w : List ℕ) → y ≡ before ++ (w ++ []) → EndsWith w (slash ∷ y) × (length y ≡ length before + length w)
 ended y before w here =
@@ -92,7 +101,8 @@ lock_quiet y before after here i above below =
         | inl two ↦ inr (inl (ap (λ n. get_or y n 0) two ∙ at 2))
         | inr more_2 ↦ elim (cases_eq i (length before + 3)) [
           | inl three ↦ inr (inr (inl (ap (λ n. get_or y n 0) three ∙ at 3)))
-          | inr more_3 ↦ let four : i ≡ length before + 4 = omega arith in inr (inr (inr (ap (λ n. get_or y n 0) four ∙ at 4)))
+          | inr more_3 ↦ let four : i ≡ length before + 4 =
+              omega arith in inr (inr (inr (ap (λ n. get_or y n 0) four ∙ at 4)))
         ]
       ]
     ] in
@@ -115,7 +125,12 @@ word_found y before w after EmptyComponent here (inr (is, inl first)) =
     inl (single y before w after slash EmptyComponent here is adds (inl (ap length first, ap length first, refl)))
 word_found y before w after EmptyComponent here (inr (is, inr last)) =
     let ends = ended y before w (rw last at here) in
-    inr (EmptyComponent, subst (λ v. EndsWith v (slash ∷ y)) is ends.0, (ends.1 ∙ ap (λ v. length before + length v) is, ap length is), λ i above below. absurd (omega (arith, ends.1, ap length is)))
+    inr (
+      EmptyComponent,
+      subst (λ v. EndsWith v (slash ∷ y)) is ends.0,
+      (ends.1 ∙ ap (λ v. length before + length v) is, ap length is),
+      λ i above below. absurd (omega (arith, ends.1, ap length is)),
+    )
 word_found y before w after StartsWithDot here (inl is) =
     inl (pair y before w after slash dot StartsWithDot here is (
       refl,
@@ -130,18 +145,35 @@ word_found y before w after StartsWithDot here (inr (is, first)) =
 word_found y before w after LockSuffix here (is, inl last) =
     let ends = ended y before w (rw last at here) in
     let lock : y ≡ before ++ (codes ".lock" ++ after) = here ∙ ap (λ v. before ++ (v ++ after)) is in
-    inr (LockSuffix, subst (λ v. EndsWith v (slash ∷ y)) is ends.0, (ends.1 ∙ ap (λ v. length before + length v) is, ap length is), λ i above below. lock_quiet y before after lock i above (omega (arith, ends.1, ap length is)))
+    inr (
+      LockSuffix,
+      subst (λ v. EndsWith v (slash ∷ y)) is ends.0,
+      (ends.1 ∙ ap (λ v. length before + length v) is, ap length is),
+      λ i above below. lock_quiet y before after lock i above (omega (arith, ends.1, ap length is)),
+    )
 word_found y before w after LockSuffix here (is, inr more) =
     let lock : y ≡ before ++ (codes ".lock" ++ after) = here ∙ ap (λ v. before ++ (v ++ after)) is in
     let p = before ++ codes ".lock" in
     let there : y ≡ p ++ (slash ∷ more.after) =
-    lock ∙ ap (λ z. before ++ (codes ".lock" ++ z)) more.here ∙ sym (append_assoc before (codes ".lock") (slash ∷ more.after)) in
+    lock ∙ ap (λ z. before ++ (codes ".lock" ++ z)) more.here
+    ∙ sym (append_assoc before (codes ".lock") (slash ∷ more.after)) in
     let size : length p ≡ length before + 5 = length-append before (codes ".lock") in
     let adds : AddsFault (slash ∷ p) slash LockSuffix = (refl, record { before = slash ∷ before; here = refl }) in
-    inl (LockSuffix, length p, byte_found y p more.after slash LockSuffix there adds, (size, ap length is), λ i above below. lock_quiet y before after lock i above (omega (arith, size)))
+    inl (
+      LockSuffix,
+      length p,
+      byte_found y p more.after slash LockSuffix there adds,
+      (size, ap length is),
+      λ i above below. lock_quiet y before after lock i above (omega (arith, size)),
+    )
 word_found y before w after EndsWithDot here (is, last) =
     let ends = ended y before w (rw last at here) in
-    inr (EndsWithDot, subst (λ v. EndsWith v (slash ∷ y)) is ends.0, (ends.1 ∙ ap (λ v. length before + length v) is, ap length is), λ i above below. absurd (omega (arith, ends.1, ap length is)))
+    inr (
+      EndsWithDot,
+      subst (λ v. EndsWith v (slash ∷ y)) is ends.0,
+      (ends.1 ∙ ap (λ v. length before + length v) is, ap length is),
+      λ i above below. absurd (omega (arith, ends.1, ap length is)),
+    )
 word_found y before w after RepeatedDot here is =
     inl (pair y before w after dot dot RepeatedDot here is (
       refl,
@@ -241,7 +273,11 @@ before_later : (y : List ℕ) (e : Error) (k i n j m end : ℕ) → FoundByte y 
     → ((t : ℕ) → j < t → t < end → IsQuiet y t) → ComesBefore i n j m
 before_later y e k i n j m end at word some below quiet = elim (cases_lt j k) [
   | inl inside ↦ absurd (quiet k inside below (slash ∷ take k y) e at.1)
-  | inr past ↦ let size = starts_before e k i n word in elim (cases_lt i j) [ inl less ↦ inl less | inr more ↦ inr (omega (arith, size, sized e k i n word), omega (arith, size)) ]
+  | inr past ↦ let size = starts_before e k i n word in elim (cases_lt i j) [
+    | inl less ↦ inl less
+    | inr more ↦
+        inr (omega (arith, size, sized e k i n word), omega (arith, size))
+  ]
 ]
 
 by_byte : (y : List ℕ) (e : Error) (k i n j m : ℕ) → IsClean (slash ∷ take k y) → FoundByte y e k → WordOfByte e k i n
@@ -252,7 +288,8 @@ by_byte y e k i n j m clean at word (inl (f, h, other, of_other, quiet)) = elim 
     | inl same ↦
         let fault = one_fault _ _ e f at.1 (subst (λ t. AddsFault (slash ∷ take t y) (get_or y t 0) f) same other.1) in
         let both =
-        same_word_of_byte f k i n j m (subst (λ g. WordOfByte g k i n) fault word) (subst (λ t. WordOfByte f t j m) same of_other) in
+        same_word_of_byte f k i n j m (subst (λ g. WordOfByte g k i n) fault word)
+        (subst (λ t. WordOfByte f t j m) same of_other) in
         inr (both.0, omega (arith, both.1))
     | inr differ ↦ before_later y e k i n j m h at word (sized f h j m of_other) (omega arith) quiet
   ]
@@ -318,7 +355,8 @@ wrong_lock y k j below is ends byte =
     let long : length x ≡ k = length-take-le k y (omega arith) in
     let (p, front) = ends_after x ends.before (codes ".lock") ends.here (omega (arith, long)) in
     let here =
-    split_at y k slash below byte ∙ ap (λ z. z ++ (slash ∷ rest)) front ∙ append_assoc p (codes ".lock") (slash ∷ rest) in
+    split_at y k slash below byte ∙ ap (λ z. z ++ (slash ∷ rest)) front ∙ append_assoc p (codes ".lock")
+    (slash ∷ rest) in
     let index : length p ≡ j = omega (arith, ap length front ∙ length-append p (codes ".lock"), long) in
     record {
       before = p;
@@ -350,7 +388,8 @@ wrong_end y w j e ends long wrong =
 -- a fault that is found is that of a wrong word
 wrong_by_byte : (y : List ℕ) (e : Error) (k j m : ℕ) → FoundByte y e k → WordOfByte e k j m → HasWrongWord y j m
 wrong_by_byte y EmptyComponent k j m at (inl (first, start, size)) =
-    rw (start ∙ sym first, size) (wrong_byte y k slash EmptyComponent at.0 at.1.0 (inr (refl, inl (ap (λ t. take t y) first))))
+    rw (start ∙ sym first, size)
+    (wrong_byte y k slash EmptyComponent at.0 at.1.0 (inr (refl, inl (ap (λ t. take t y) first))))
 wrong_by_byte y EmptyComponent k j m at (inr (is, size)) =
     rw size (wrong_pair y k j slash slash EmptyComponent at.0 is at.1.1 at.1.0 (λ p r. inl refl))
 wrong_by_byte y StartsWithDot k j m at (inl (first, start, size)) =
@@ -439,7 +478,8 @@ of_end x e k some is left = absurd left
 pub word_of_fault : (x : List ℕ) (e : Error) (k : ℕ) → 0 < length x → IsFoundAt x e k
     → IsFirstWrongWord (with_letters x) (word_begins e k) (word_ends e (length x) k - word_begins e k)
 word_of_fault x e k some at = elim at.here [
-  | inl (below, other, adds) ↦ first_wrong x e k _ _ at (λ under. of_byte x e k _ below adds) (λ is. absurd (omega arith))
+  | inl (below, other, adds) ↦ first_wrong x e k _ _ at (λ under. of_byte x e k _ below adds)
+      (λ is. absurd (omega arith))
   | inr (is, left) ↦ first_wrong x e k _ _ at (λ under. absurd (omega arith)) (λ same. of_end x e k some is left)
 ]
 

@@ -1,4 +1,6 @@
-use Rattle.gix_refspec_text.proofs.{Common.{arith, ◌∷◌, take, get_or, sym, subst, take_all, slash, IsClean}, lemmas.texts.NameLemmas.{one_more, IsClean-start, IsClean-more, HasFault-added, added_at}}
+use Rattle.gix_refspec_text.proofs.Common.{arith, ◌∷◌, take, get_or, sym, subst, take_all, slash, IsClean}
+use Rattle.gix_refspec_text.proofs.lemmas.texts.NameLemmas.{one_more, IsClean-start, IsClean-more, HasFault-added}
+use Rattle.gix_refspec_text.proofs.lemmas.texts.NameLemmas.{added_at}
 use Rattle.gix_refspec_text.proofs.lemmas.{texts.NameLemmas.answer_at_end, lists.EmptyLemmas.full_from_test}
 use Rattle.gix_refspec_text.proofs.name.found_fault.Goals as goal
 
@@ -12,7 +14,8 @@ pub loop-index-preserved : goal.loop-index-preserved
 loop-index-preserved c =
     let x = c.args.text.now in
     let i = c.loop-index.index in
-    subst IsClean (sym (one_more x i (omega arith))) (IsClean-more (slash ∷ take i x) (get_or x i 0) c.loop-index.invariant c.in_default.ensures)
+    subst IsClean (sym (one_more x i (omega arith)))
+    (IsClean-more (slash ∷ take i x) (get_or x i 0) c.loop-index.invariant c.in_default.ensures)
 
 pub returns : goal.returns
 returns c =

@@ -1,4 +1,5 @@
-use Rattle.gix_refspec_text.proofs.{Common.{◌≡◌, ◌==◌, sym, ◌∙◌, rules, eq-eqb, eqb-true, count_by, bstr_bytes, star}, lemmas.texts.LetterLemmas.{HasOneStar-count_by, count_by-HasOneStar}}
+use Rattle.gix_refspec_text.proofs.Common.{◌≡◌, ◌==◌, sym, ◌∙◌, rules, eq-eqb, eqb-true, count_by, bstr_bytes, star}
+use Rattle.gix_refspec_text.proofs.lemmas.texts.LetterLemmas.{HasOneStar-count_by, count_by-HasOneStar}
 use Rattle.gix_refspec_text.proofs.name.has_one_star.Goals as goal
 
 pub returns : goal.returns

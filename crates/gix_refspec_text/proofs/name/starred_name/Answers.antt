@@ -1,5 +1,7 @@
 -- With letters for its stars the text has a fault if a byte adds one, or if one is left at its end.
-use Rattle.gix_refspec_text.proofs.{Common.{Some, None, inr, refl}, lemmas.texts.LetterLemmas.{scanned_whole, answer_with_letters}, lemmas.lists.EmptyLemmas.full_from_test}
+use Rattle.gix_refspec_text.proofs.Common.{Some, None, inr, refl}
+use Rattle.gix_refspec_text.proofs.lemmas.texts.LetterLemmas.{scanned_whole, answer_with_letters}
+use Rattle.gix_refspec_text.proofs.lemmas.lists.EmptyLemmas.{full_from_test}
 use Rattle.gix_refspec_text.proofs.name.starred_name.Goals as goal
 
 pub returns-in-Some : goal.returns-in-Some
@@ -12,5 +14,8 @@ returns-in-Some c =
 
 pub returns-in-None : goal.returns-in-None
 returns-in-None c =
-    let whole = scanned_whole c.args.text.now c.in_ok-starred.starred c.in_ok-starred.ensures in
-    (whole.1, answer_with_letters c.args.text.now None (full_from_test c.args.text.now c.if-is_empty.ensures) whole.0 c.in-None.ensures)
+    let whole = scanned_whole c.args.text.now c.in_ok-starred.starred c.in_ok-starred.ensures in (
+      whole.1,
+      answer_with_letters c.args.text.now None (full_from_test c.args.text.now c.if-is_empty.ensures) whole.0
+          c.in-None.ensures,
+    )

@@ -12,5 +12,9 @@ returns-then-starts_with c =
     let entries = c.args.entries.now in
     let entry = c.entry-item.result in
     let below = c.loop-entry-test.true in
-    let here : get_or (map bstring_bytes entries) i (bstring_bytes entry) ≡ c.as_bytes.result.now = get_or-map bstring_bytes entries i entry (bstring_bytes entry) below ∙ ap bstring_bytes (sym c.entry-item.is) ∙ sym c.as_bytes.ensures in
-    sym (list_any_at (starts_with nat_eq c.args.name.now) (map bstring_bytes entries) i (bstring_bytes entry) (omega (arith, below, length-map entries bstring_bytes)) (ap (starts_with nat_eq c.args.name.now) here ∙ sym c.starts_with.ensures.value ∙ c.if-starts_with.true))
+    let here : get_or (map bstring_bytes entries) i (bstring_bytes entry) ≡ c.as_bytes.result.now =
+    get_or-map bstring_bytes entries i entry (bstring_bytes entry) below ∙ ap bstring_bytes (sym c.entry-item.is)
+    ∙ sym c.as_bytes.ensures in
+    sym (list_any_at (starts_with nat_eq c.args.name.now) (map bstring_bytes entries) i (bstring_bytes entry)
+    (omega (arith, below, length-map entries bstring_bytes)) (ap (starts_with nat_eq c.args.name.now) here
+    ∙ sym c.starts_with.ensures.value ∙ c.if-starts_with.true))

@@ -6,4 +6,6 @@ use Rattle.gix_refspec.proofs.lemmas.hits.GatherLemmas.{gathered}
 use Rattle.gix_refspec_uses.proofs.gather.fetches_of.Goals as goal
 
 pub returns : goal.returns
-returns c = IfOk-weaker c.from_fetch_specs.result _ _ (gathered c.args.specs.items (λ it made. YieldsList-from_vec {s = it} _ made.0 (made.1 ∙ c.args.specs.ok.0))) c.from_fetch_specs.ensures
+returns c = IfOk-weaker c.from_fetch_specs.result _ _
+    (gathered c.args.specs.items (λ it made. YieldsList-from_vec {s = it} _ made.0 (made.1 ∙ c.args.specs.ok.0)))
+    c.from_fetch_specs.ensures

@@ -12,4 +12,6 @@ use Rattle.gix_refspec_uses.proofs.gather.fetches_read.Goals as goal
 pub returns : goal.returns
 returns c =
     IfOk-weaker c.from_fetch_specs.result _ _
-    (gathered (specs_read c.args.answers.now) (λ it made. YieldsList-from_filter_map _ result_ok (YieldsList-from_slice c.args.answers.now (cc)) refl (λ x r q k. search (rules, tests)))) c.from_fetch_specs.ensures
+    (gathered (specs_read c.args.answers.now)
+    (λ it made. YieldsList-from_filter_map _ result_ok (YieldsList-from_slice c.args.answers.now (cc)) refl
+    (λ x r q k. search (rules, tests)))) c.from_fetch_specs.ensures

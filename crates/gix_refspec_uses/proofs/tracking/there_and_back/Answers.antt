@@ -7,4 +7,7 @@ use Rattle.gix_refspec_uses.specs.Tracking.{TellsBranches}
 use Rattle.gix_refspec_uses.proofs.tracking.there_and_back.Goals as goal
 
 pub returns-clause-there : goal.returns-clause-there
-returns-clause-there c = subst (λ (g : List Reading). TellsBranches g (ref_of c.args.remote.now) (map mapped_of c.in-Ok-tracking_branches.there.mappings.items)) (ap (map reading_of) c.in-Ok.ensures) c.in-Ok-tracking_branches.ensures.exactly
+returns-clause-there c =
+    subst (λ (g : List Reading). TellsBranches g (ref_of c.args.remote.now)
+    (map mapped_of c.in-Ok-tracking_branches.there.mappings.items)) (ap (map reading_of) c.in-Ok.ensures)
+    c.in-Ok-tracking_branches.ensures.exactly

@@ -7,6 +7,8 @@ use Rattle.refspec_commands.proofs.canon.report_canon.Given as goal
 abbrev pub invariant-loop-checked : goal.invariant-loop-checked
 invariant-loop-checked l = record {
   form : l.report.form ≡ l.fn.report.form;
-  reported : AddsCanonical l.fn.report.form (take l.checked-index l.all) l.fn.report.results.items l.report.results.items;
-  refused : ReportsRefusals l.fn.report.form (take l.checked-index l.all) l.fn.report.messages.items l.report.messages.items;
+  reported : AddsCanonical l.fn.report.form (take l.checked-index l.all) l.fn.report.results.items
+      l.report.results.items;
+  refused : ReportsRefusals l.fn.report.form (take l.checked-index l.all) l.fn.report.messages.items
+      l.report.messages.items;
 }

@@ -7,5 +7,6 @@ use Rattle.refspec_commands.proofs.prefixes.report_all.Given as goal
 abbrev pub invariant-loop-spec : goal.invariant-loop-spec
 invariant-loop-spec l = record {
   form : l.report.form ≡ l.fn.report.form;
-  reported : AddsAll l.fn.patterns l.fn.report.form (map reading_of (take l.spec-index l.group.specs.items)) l.fn.report.results.items l.report.results.items;
+  reported : AddsAll l.fn.patterns l.fn.report.form (map reading_of (take l.spec-index l.group.specs.items))
+      l.fn.report.results.items l.report.results.items;
 }

@@ -7,5 +7,6 @@ use Rattle.refspec_commands.proofs.prefixes.report_each.Given as goal
 abbrev pub invariant-loop-prefix : goal.invariant-loop-prefix
 invariant-loop-prefix l = record {
   form : l.report.form ≡ l.fn.report.form;
-  reported : AddsRequests l.patterns l.fn.report.form (map bstring_bytes (take l.prefix-index l.prefixes)) l.fn.report.results.items l.report.results.items;
+  reported : AddsRequests l.patterns l.fn.report.form (map bstring_bytes (take l.prefix-index l.prefixes))
+      l.fn.report.results.items l.report.results.items;
 }

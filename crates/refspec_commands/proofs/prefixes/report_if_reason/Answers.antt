@@ -12,5 +12,7 @@ pub returns-clause-reported : goal.returns-clause-reported
 returns-clause-reported c =
     let list = map bstring_bytes c.in-Some.field-0.items in
     let lists = rw c.in-Some.is at c.in_ok-prefixes_of.ensures.ok in
-    let of_spec = subst (λ (l : List RefSpecRef). ListsGroup (map reading_of l) list) c.in_ok-specs.ensures.items lists in
-    AddsObjects-none c.args.report.now.form IsReason (reading_of c.args.spec.now) c.args.report.now.results.items c.args.report.now.results.items (inr ((list, of_spec), refl)) refl
+    let of_spec = subst (λ (l : List RefSpecRef). ListsGroup (map reading_of l) list) c.in_ok-specs.ensures.items
+    lists in
+    AddsObjects-none c.args.report.now.form IsReason (reading_of c.args.spec.now) c.args.report.now.results.items
+    c.args.report.now.results.items (inr ((list, of_spec), refl)) refl

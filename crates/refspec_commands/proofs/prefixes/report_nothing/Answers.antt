@@ -6,4 +6,6 @@ use Rattle.refspec_commands.specs.Prefixes.{AddsNothing}
 use Rattle.refspec_commands.proofs.prefixes.report_nothing.Goals as goal
 
 pub returns-in-Json : goal.returns-in-Json
-returns-in-Json c = on_ok c.write_nothing.result _ _ c.write_nothing.ensures (subst (λ (f : Form). AddsNothing f c.args.report.now.results.items c.write_nothing.new.out.items) (sym c.in-Json.is))
+returns-in-Json c = on_ok c.write_nothing.result _ _ c.write_nothing.ensures
+    (subst (λ (f : Form). AddsNothing f c.args.report.now.results.items c.write_nothing.new.out.items)
+    (sym c.in-Json.is))

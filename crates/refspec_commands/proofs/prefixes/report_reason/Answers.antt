@@ -13,4 +13,6 @@ returns-in-Json-clause-reported c = on_ok c.write_reason.result _ _ c.write_reas
     let text = c.as_bytes.result.now in
     let line = line_of (noted_object (codes "all") (json_text text) write.0) in
     let printed = c.in_ok-canonical.ensures ∙ ap Some (sym c.as_bytes.ensures) in
-    AddsObjects-one c.args.report.now.form IsReason (reading_of c.args.spec.now) line c.args.report.now.results.items c.write_reason.new.out.items c.in-Json.is (inl (c.requires, record { text = text; message = write.0; is_text = printed; is = refl })) write.1)
+    AddsObjects-one c.args.report.now.form IsReason (reading_of c.args.spec.now) line c.args.report.now.results.items
+    c.write_reason.new.out.items c.in-Json.is
+    (inl (c.requires, record { text = text; message = write.0; is_text = printed; is = refl })) write.1)

@@ -6,4 +6,8 @@ use Rattle.refspec_commands.proofs.OutputLemmas.{Reports-found}
 use Rattle.refspec_commands.proofs.run.report_results.Goals as goal
 
 pub returns-in-Some : goal.returns-in-Some
-returns-in-Some g c = if_ok c.report_found.result _ _ c.report_found.ensures (λ refused reported. Reports-found c.args.task.now.call.now.command c.args.task.now c.args.report.now.form c.args.report.now.messages.items _ refused c.args.all.now _ _ c.in_default.not-Canon c.in_default.not-Check c.in_default.not-Explain (inl (map reading_of c.in-Some.specs.items, rw c.in-Some.is at c.in_ok-all_good-in_default.ensures, reported)))
+returns-in-Some g c = if_ok c.report_found.result _ _ c.report_found.ensures
+    (λ refused reported. Reports-found c.args.task.now.call.now.command c.args.task.now c.args.report.now.form
+    c.args.report.now.messages.items _ refused c.args.all.now _ _ c.in_default.not-Canon c.in_default.not-Check
+    c.in_default.not-Explain
+    (inl (map reading_of c.in-Some.specs.items, rw c.in-Some.is at c.in_ok-all_good-in_default.ensures, reported)))

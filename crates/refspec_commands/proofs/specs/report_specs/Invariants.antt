@@ -6,5 +6,6 @@ use Rattle.refspec_commands.proofs.specs.report_specs.Given as goal
 abbrev pub invariant-loop-checked : goal.invariant-loop-checked
 invariant-loop-checked l = record {
   form : l.report.form ≡ l.fn.report.form;
-  reported : ReportsRefusals l.fn.report.form (take l.checked-index l.all) l.fn.report.messages.items l.report.messages.items;
+  reported : ReportsRefusals l.fn.report.form (take l.checked-index l.all) l.fn.report.messages.items
+      l.report.messages.items;
 }

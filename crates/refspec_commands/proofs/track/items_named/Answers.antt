@@ -9,4 +9,6 @@ use Rattle.refspec_commands.proofs.track.items_named.Goals as goal
 pub loop-name-preserved : goal.loop-name-preserved
 loop-name-preserved c =
     let none : Bor (List ℕ) = record { ref_ptr = (0, 0); now = [] } in
-    seen_next named (λ (n : Bor (List ℕ)). n.now) ref_of c.args.names.now c.loop-name.name-index none [] c.loop-name.items.items c.push.new.self.items _ c.loop-name-test.true c.in_ok-push.ensures.items (named_of _ _ _ (c.new.ensures ∙ c.as_bytes.ensures.value) c.requires) c.loop-name.invariant
+    seen_next named (λ (n : Bor (List ℕ)). n.now) ref_of c.args.names.now c.loop-name.name-index none []
+    c.loop-name.items.items c.push.new.self.items _ c.loop-name-test.true c.in_ok-push.ensures.items
+    (named_of _ _ _ (c.new.ensures ∙ c.as_bytes.ensures.value) c.requires) c.loop-name.invariant

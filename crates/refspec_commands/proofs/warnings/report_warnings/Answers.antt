@@ -12,7 +12,8 @@ returns c =
     let old = c.args.report.now in
     let new = c.append.new.report in
     let written = c.write_warnings.new.out.items in
-    subst (λ (b : Bool). WarnsIf b form seen (not c.is_empty.result) old.messages.items new.messages.items old.results.items
+    subst (λ (b : Bool). WarnsIf b form seen (not c.is_empty.result) old.messages.items new.messages.items
+    old.results.items
     new.results.items) (sym c.if-not-warns.false) (record {
       warnings = written;
       says = SaysWarnings-of form c.new.result seen c.new-written.result.items written c.new.ensures.empty

@@ -19,7 +19,8 @@ returns c json =
     c.append-3.new.self.items c.append-4.new.self.items c.in_ok-append.ensures.items c.in_ok-append-2.ensures.items
     c.in_ok-append-3.ensures.items c.in_ok-append-4.ensures.items in
     said_fetch (asked_of c.args.beside.now) (map reading_of c.args.group.now.specs.items)
-    (map given_of c.args.group.now.texts.items) conflicts directories idle exclusions others c.append-4.new.self.items fetch
+    (map given_of c.args.group.now.texts.items) conflicts directories idle exclusions others c.append-4.new.self.items
+    fetch
     (c.in_ok-found.ensures json) (c.in_ok-directories.ensures json) c.in_ok-idle.ensures c.in_ok-exclusions.ensures
     c.in_ok-others.ensures all
 

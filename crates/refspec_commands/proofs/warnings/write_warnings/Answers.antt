@@ -26,10 +26,12 @@ loop-key-preserved c =
     let new = c.write_group.new.out.items in
     let here = next_group form asks seen e c.loop-key.key-iterator c.next.new.self old mid c.loop-key.invariant
     c.in-Some.ensures.steps in
-    let asked = asked_found c.args.beside.now c.in-Some.key.now c.get.result _ c.unwrap_or-beside.result c.get.ensures.value
+    let asked = asked_found c.args.beside.now c.in-Some.key.now c.get.result _ c.unwrap_or-beside.result
+    c.get.ensures.value
     c.nothing-nothing.ensures c.unwrap_or-beside.ensures in
     written_next form asks seen e c.loop-key.key-iterator c.next.new.self old mid new c.loop-key.invariant
-    c.in-Some.ensures.steps (subst (λ (a : Asked). InJson form (AreLinesOf a (of_key c.in-Some.key.now seen)) mid new) asked
+    c.in-Some.ensures.steps (subst (λ (a : Asked). InJson form (AreLinesOf a (of_key c.in-Some.key.now seen)) mid new)
+    asked
     (c.in_ok-write_group.ensures (of_key c.in-Some.key.now seen) here))
 
 pub returns : goal.returns

@@ -10,9 +10,20 @@ use Rattle.refspec_io.proofs.checked.check.Goals.{in-Memory, in_default}
 use Rattle.refspec_io.proofs.checked.check.Goals as goal
 
 pub returns-in-Ok : goal.returns-in-Ok
-returns-in-Ok c = (refl, subst (λ (x : List ℕ). Reads c.args.text.operation x (reading_of c.in-Ok.spec)) c.new.ensures c.in-Ok.ensures.ok)
+returns-in-Ok c = (
+  refl,
+  subst (λ (x : List ℕ). Reads c.args.text.operation x (reading_of c.in-Ok.spec)) c.new.ensures
+      c.in-Ok.ensures.ok,
+)
 
 pub returns-else-matches : goal.returns-else-matches
 returns-else-matches c =
-    let other : (c.in-Err.error ≡ error.Memory → ⊥) = elim c.match-matches.branch [ in-Memory w ↦ λ same. false≢true (sym c.if-matches.false ∙ w.matches-is) | in_default w ↦ w.in_default.not-Memory ] in
-    (refl, subst (λ (x : List ℕ). ShowsRefusal (IsRefused c.args.text.operation x) c.in-Err.error) c.new.ensures (c.in-Err.ensures.refused other))
+    let other : (c.in-Err.error ≡ error.Memory → ⊥) =
+    elim c.match-matches.branch [
+      | in-Memory w ↦ λ same. false≢true (sym c.if-matches.false ∙ w.matches-is)
+      | in_default w ↦ w.in_default.not-Memory
+    ] in (
+      refl,
+      subst (λ (x : List ℕ). ShowsRefusal (IsRefused c.args.text.operation x) c.in-Err.error) c.new.ensures
+          (c.in-Err.ensures.refused other),
+    )

@@ -7,7 +7,11 @@ pub loop-rest-init : goal.loop-rest-init
 loop-rest-init c = Completes-start c.args.end c.new-records.result.items c.args.input.now c.new-records.ensures.items
 
 pub returns : goal.returns
-returns c = Completes-end c.args.end c.loop-rest.records.items c.loop-rest.rest.now c.args.input.now (empty_from_test c.loop-rest.rest.now c.loop-rest-test.ensures) c.loop-rest.invariant
+returns c = Completes-end c.args.end c.loop-rest.records.items c.loop-rest.rest.now c.args.input.now
+    (empty_from_test c.loop-rest.rest.now c.loop-rest-test.ensures) c.loop-rest.invariant
 
 pub loop-rest-preserved : goal.loop-rest-preserved
-loop-rest-preserved c = Completes-more c.args.end c.loop-rest.records.items c.push.new.self.items c.first_record.result.0 c.loop-rest.rest.now c.first_record.result.1.now c.args.input.now (full_from_test c.loop-rest.rest.now c.loop-rest-test.ensures) c.first_record.ensures c.in_ok-push.ensures.items c.loop-rest.invariant
+loop-rest-preserved c = Completes-more c.args.end c.loop-rest.records.items c.push.new.self.items
+    c.first_record.result.0 c.loop-rest.rest.now c.first_record.result.1.now c.args.input.now
+    (full_from_test c.loop-rest.rest.now c.loop-rest-test.ensures) c.first_record.ensures c.in_ok-push.ensures.items
+    c.loop-rest.invariant

@@ -10,10 +10,12 @@ use Rattle.refspec_io.proofs.json.shown_location.Goals as goal
 pub string_of-requires : goal.string_of-requires
 string_of-requires c =
     let write = c.in_ok-write.ensures in
-    subst IsUtf8 (sym (c.as_slice.ensures.value ∙ (write.2 ∙ ap (λ l. l ++ write.0) c.new-shown.ensures.items))) (IsUtf8-location c.args.location.now write.0 write.1)
+    subst IsUtf8 (sym (c.as_slice.ensures.value ∙ (write.2 ∙ ap (λ l. l ++ write.0) c.new-shown.ensures.items)))
+    (IsUtf8-location c.args.location.now write.0 write.1)
 
 pub returns : goal.returns
 returns c =
     let write = c.in_ok-write.ensures in
     let same = c.as_slice.ensures.value ∙ (write.2 ∙ ap (λ l. l ++ write.0) c.new-shown.ensures.items) in
-    if_ok c.string_of.result _ _ c.string_of.ensures (λ shown is. subst (IsLocation form.Json c.args.location.now) (sym (is ∙ same)) write.1)
+    if_ok c.string_of.result _ _ c.string_of.ensures (λ shown is. subst (IsLocation form.Json c.args.location.now)
+    (sym (is ∙ same)) write.1)

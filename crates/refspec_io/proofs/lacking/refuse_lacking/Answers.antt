@@ -6,4 +6,5 @@ pub loop-setting-init : goal.loop-setting-init
 loop-setting-init c = KeepsReport-same c.args.report.now
 
 pub loop-setting-preserved : goal.loop-setting-preserved
-loop-setting-preserved c = KeepsReport-next c.args.report.now c.loop-setting.report c.refuse_key.new.report c.loop-setting.invariant c.in_ok-refuse_key.ensures
+loop-setting-preserved c = KeepsReport-next c.args.report.now c.loop-setting.report c.refuse_key.new.report
+    c.loop-setting.invariant c.in_ok-refuse_key.ensures

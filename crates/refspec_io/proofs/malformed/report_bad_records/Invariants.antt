@@ -7,5 +7,6 @@ use Rattle.refspec_io.proofs.malformed.report_bad_records.Given as goal
 abbrev pub invariant-loop-record : goal.invariant-loop-record
 invariant-loop-record l = record {
   form : l.report.form ≡ l.fn.report.form;
-  reported : AddsObjects l.fn.report.form (IsBadLine l.fn.input) (take l.record-index l.bad) l.fn.report.results.items l.report.results.items;
+  reported : AddsObjects l.fn.report.form (IsBadLine l.fn.input) (take l.record-index l.bad) l.fn.report.results.items
+      l.report.results.items;
 }

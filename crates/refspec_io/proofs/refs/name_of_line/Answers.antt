@@ -5,5 +5,6 @@ use Rattle.refspec_io.proofs.refs.name_of_line.Goals as goal
 pub returns-in-None : goal.returns-in-None
 returns-in-None c = record {
   some = c.name_after-in-None.ensures.some;
-  none = on_none c.name_after-in-None.result _ _ c.name_after-in-None.ensures.none (IsNoRefLine-of c.args.line.now c.in-None.ensures.none);
+  none = on_none c.name_after-in-None.result _ _ c.name_after-in-None.ensures.none
+      (IsNoRefLine-of c.args.line.now c.in-None.ensures.none);
 }

@@ -12,4 +12,5 @@ pub returns-clause-some : goal.returns-clause-some
 returns-clause-some c =
     let name = c.args.name.now in
     let end = codes "^{}" in
-    some_of c.strip_suffix.result ((front : List ℕ) → name ≢ front ++ end) (λ tag. name ≡ tag.now ++ end) (strip_suffix_is Decides-eqb name end c.strip_suffix.result c.strip_suffix.ensures.cases)
+    some_of c.strip_suffix.result ((front : List ℕ) → name ≢ front ++ end) (λ tag. name ≡ tag.now ++ end)
+    (strip_suffix_is Decides-eqb name end c.strip_suffix.result c.strip_suffix.ensures.cases)

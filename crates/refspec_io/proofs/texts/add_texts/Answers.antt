@@ -13,5 +13,6 @@ returns c =
     on_ok c.add_records.result _ _ c.add_records.ensures (λ write. (
       read,
       split,
-      write ∙ ap (λ (l : List (Bor (List ℕ))). map given_of c.args.texts.now.items ++ numbered (record_at c.args.name.now op) 1 (map (λ (r : Bor (List ℕ)). r.now) l)) c.as_slice.ensures.value,
+      write ∙ ap (λ (l : List (Bor (List ℕ))). map given_of c.args.texts.now.items ++ numbered
+          (record_at c.args.name.now op) 1 (map (λ (r : Bor (List ℕ)). r.now) l)) c.as_slice.ensures.value,
     ))

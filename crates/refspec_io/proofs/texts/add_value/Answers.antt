@@ -9,4 +9,12 @@ pub returns-in_default : goal.returns-in_default
 returns-in_default c = AddsValues-other c.args.setting.now (map given_of c.args.texts.now.items) c.in_default.ensures
 
 pub returns : goal.returns
-returns c = AddsValues-one c.args.setting.now (record { spot = at_setting c.args.setting.now.origin.now c.args.setting.now.key.now; operation = c.in-Some.operation; bytes = c.in-Some-value.bytes.now }) c.in-Some-value.bytes (map given_of c.args.texts.now.items) (map given_of c.push.new.self.items) c.in-Some.ensures c.in-Some-value.is refl refl (ap (map given_of) c.in_ok-push.ensures.items ∙ map-append given_of c.args.texts.now.items _)
+returns c = AddsValues-one c.args.setting.now
+    (record {
+      spot = at_setting c.args.setting.now.origin.now c.args.setting.now.key.now;
+      operation =
+          c.in-Some.operation;
+      bytes = c.in-Some-value.bytes.now;
+    }) c.in-Some-value.bytes
+    (map given_of c.args.texts.now.items) (map given_of c.push.new.self.items) c.in-Some.ensures c.in-Some-value.is refl
+    refl (ap (map given_of) c.in_ok-push.ensures.items ∙ map-append given_of c.args.texts.now.items _)

@@ -10,7 +10,8 @@ pub loop-input-init : goal.loop-input-init
 loop-input-init g c =
     let empty = c.in-Ok-with_capacity.ensures.items in
     record {
-      taken = subst (λ (x : List ℕ). Consumes (g.R.Read.remaining c.args.reader.now) (g.R.Read.remaining c.args.reader.now) x) (sym empty) (Consumes-nil (g.R.Read.remaining c.args.reader.now));
+      taken = subst (λ (x : List ℕ). Consumes (g.R.Read.remaining c.args.reader.now)
+          (g.R.Read.remaining c.args.reader.now) x) (sym empty) (Consumes-nil (g.R.Read.remaining c.args.reader.now));
       within = rw empty (lit≤ tt);
       room = omega (arith, c.in-Ok.ensures.len, c.in-Ok.buffer.ok.0);
     }
@@ -23,26 +24,43 @@ returns-in_err-read_some-clause-err g c =
 pub returns-then-len-gt-INPUT_LIMIT-clause-err : goal.returns-then-len-gt-INPUT_LIMIT-clause-err
 returns-then-len-gt-INPUT_LIMIT-clause-err g c =
     let some = c.in_ok-read_some.ensures.ok in
-    let taken = Consumes-trans (g.R.Read.remaining c.args.reader.now) _ _ c.loop-input.input.items some.came c.loop-input.invariant.taken some.taken in
-    (c.loop-input.input.items ++ some.came, taken, subst (λ (x : List ℕ). 1048576 < length x) some.append (omega (arith, c.if-len-gt-INPUT_LIMIT.true, c.len.ensures, c.read_some.new.input.ok.0)))
+    let taken = Consumes-trans (g.R.Read.remaining c.args.reader.now) _ _ c.loop-input.input.items some.came
+    c.loop-input.invariant.taken some.taken in (
+      c.loop-input.input.items ++ some.came,
+      taken,
+      subst (λ (x : List ℕ). 1048576 < length x) some.append
+          (omega (arith, c.if-len-gt-INPUT_LIMIT.true, c.len.ensures, c.read_some.new.input.ok.0)),
+    )
 
 pub loop-input-preserved : goal.loop-input-preserved
 loop-input-preserved g c =
     let some = c.in_ok-read_some.ensures.ok in
-    let taken = Consumes-trans (g.R.Read.remaining c.args.reader.now) _ _ c.loop-input.input.items some.came c.loop-input.invariant.taken some.taken in
+    let taken = Consumes-trans (g.R.Read.remaining c.args.reader.now) _ _ c.loop-input.input.items some.came
+    c.loop-input.invariant.taken some.taken in
     record {
-      taken = subst (λ (x : List ℕ). Consumes (g.R.Read.remaining c.args.reader.now) (g.R.Read.remaining c.read_some.new.reader) x) (sym some.append) taken;
+      taken = subst (λ (x : List ℕ). Consumes (g.R.Read.remaining c.args.reader.now)
+          (g.R.Read.remaining c.read_some.new.reader) x) (sym some.append) taken;
       within = omega (arith, c.if-len-gt-INPUT_LIMIT.false, c.len.ensures, c.read_some.new.input.ok.0);
-      room = kept_room c.loop-input.buffer.len c.read_some.new.buffer c.loop-input.buffer.items (omega (arith, c.read_some.auto.buffer, c.as_mut_slice.ensures.len, c.loop-input.buffer.ok.0)) (omega (arith, c.loop-input.invariant.room, c.loop-input.buffer.ok.0));
+      room = kept_room c.loop-input.buffer.len c.read_some.new.buffer c.loop-input.buffer.items
+          (omega (arith, c.read_some.auto.buffer, c.as_mut_slice.ensures.len, c.loop-input.buffer.ok.0))
+          (omega (arith, c.loop-input.invariant.room, c.loop-input.buffer.ok.0));
     }
 
 pub returns-clause-ok : goal.returns-clause-ok
 returns-clause-ok g c =
     let some = c.in_ok-read_some.ensures.ok in
     let at_end = ends _ _ c.in_ok-read_some.field-0 c.if-branch.false some.tells in
-    let taken = Consumes-trans (g.R.Read.remaining c.args.reader.now) _ _ c.loop-input.input.items some.came c.loop-input.invariant.taken some.taken in
+    let taken = Consumes-trans (g.R.Read.remaining c.args.reader.now) _ _ c.loop-input.input.items some.came
+    c.loop-input.invariant.taken some.taken in
     record {
-      taken = subst (λ (x : List ℕ). Consumes (g.R.Read.remaining c.args.reader.now) (g.R.Read.remaining c.read_some.new.reader) x) (sym some.append) taken;
+      taken = subst (λ (x : List ℕ). Consumes (g.R.Read.remaining c.args.reader.now)
+          (g.R.Read.remaining c.read_some.new.reader) x) (sym some.append) taken;
       ended = at_end.1;
-      within = omega (arith, c.loop-input.invariant.within, ap length some.append, length-append c.loop-input.input.items some.came, ap length at_end.0);
+      within = omega (
+        arith,
+        c.loop-input.invariant.within,
+        ap length some.append,
+        length-append c.loop-input.input.items some.came,
+        ap length at_end.0,
+      );
     }

@@ -9,4 +9,7 @@ pub loop-index-init : goal.loop-index-init
 loop-index-init c = ap (map claim_texts) c.in_ok-claims.ensures.items
 
 pub loop-index-preserved : goal.loop-index-preserved
-loop-index-preserved c = claims-next c.args.texts.now (map planned_of c.args.updates.now) c.args.indexes.now c.loop-index.index-index 0 (map claim_texts c.loop-index.claims.items) (map claim_texts c.add_claim.new.claims.items) c.loop-index-test.true c.loop-index.invariant c.in_ok-add_claim.ensures
+loop-index-preserved c = claims-next c.args.texts.now (map planned_of c.args.updates.now) c.args.indexes.now
+    c.loop-index.index-index 0 (map claim_texts c.loop-index.claims.items)
+    (map claim_texts c.add_claim.new.claims.items) c.loop-index-test.true c.loop-index.invariant
+    c.in_ok-add_claim.ensures

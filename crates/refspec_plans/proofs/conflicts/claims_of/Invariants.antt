@@ -6,4 +6,5 @@ use Rattle.refspec_plans.specs.Conflicts.{claims_of, those_at}
 use Rattle.refspec_plans.proofs.conflicts.claims_of.Given as goal
 
 abbrev pub invariant-loop-index : goal.invariant-loop-index
-invariant-loop-index l = map claim_texts l.claims.items ≡ claims_of l.texts (those_at (map planned_of l.updates) (take l.index-index l.indexes))
+invariant-loop-index l = map claim_texts l.claims.items ≡ claims_of l.texts
+    (those_at (map planned_of l.updates) (take l.index-index l.indexes))

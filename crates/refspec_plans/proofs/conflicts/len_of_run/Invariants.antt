@@ -5,4 +5,5 @@ use Rattle.refspec_plans.specs.declared.conflicts.Claimed.{Claimed}
 use Rattle.refspec_plans.proofs.conflicts.len_of_run.Given as goal
 
 abbrev pub invariant-loop-len : goal.invariant-loop-len
-invariant-loop-len l = (d : Claimed) → AllByRecursion (λ c. c.destination.now ≡ (get_or l.claims 0 d).destination.now) (take l.len l.claims)
+invariant-loop-len l = (d : Claimed) → AllByRecursion (λ c. c.destination.now ≡ (get_or l.claims 0 d).destination.now)
+    (take l.len l.claims)

@@ -12,9 +12,14 @@ returns-clause-reported c =
     let view = contest_of (map planned_of c.args.updates.now) in
     let f = c.args.report.now.form in
     let texts = c.args.texts.now in
-    both_ok c.report_contests.result _ _ _ c.report_contests.ensures.objects c.report_contests.ensures.reported (λ objects reported. record {
+    both_ok c.report_contests.result _ _ _ c.report_contests.ensures.objects c.report_contests.ensures.reported
+    (λ objects reported. record {
       contests = map view c.in_ok-contests.contests.items;
       are = c.in_ok-contests.ensures;
-      messages = subst (λ (l : List DeclaredContest). AddsConflictLines c.args.all f texts (map view l) c.args.report.now.messages.items c.report_contests.new.report.messages.items) c.as_slice.ensures.value reported;
-      objects = subst (λ (l : List DeclaredContest). AddsObjects f (IsConflict texts) (map view l) c.args.report.now.results.items c.report_contests.new.report.results.items) c.as_slice.ensures.value objects;
+      messages = subst (λ (l : List DeclaredContest). AddsConflictLines c.args.all f texts
+          (map view l) c.args.report.now.messages.items c.report_contests.new.report.messages.items)
+          c.as_slice.ensures.value reported;
+      objects = subst (λ (l : List DeclaredContest). AddsObjects f (IsConflict texts)
+          (map view l) c.args.report.now.results.items c.report_contests.new.report.results.items)
+          c.as_slice.ensures.value objects;
     })

@@ -5,4 +5,9 @@ use Rattle.refspec_plans.proofs.ConflictLemmas.{WritesClaim-of}
 use Rattle.refspec_plans.proofs.conflicts.write_claim.Goals as goal
 
 pub returns : goal.returns
-returns c = WritesClaim-of c.args.source.now c.args.text.now (note_of c.args.origin) c.as_bytes.result.now c.args.out.now.items c.extend_from_slice.new.self.items c.write_in_message.new.out.items c.extend_from_slice-2.new.self.items c.write_in_message-2.new.out.items c.extend_from_slice-3.new.self.items c.push.new.self.items c.in_ok-extend_from_slice.ensures.items c.in_ok-write_in_message.ensures c.in_ok-extend_from_slice-2.ensures.items c.in_ok-write_in_message-2.ensures (c.as_bytes.ensures.value ∙ c.note_of.ensures) c.in_ok-extend_from_slice-3.ensures.items c.in_ok-push.ensures.items
+returns c = WritesClaim-of c.args.source.now c.args.text.now (note_of c.args.origin) c.as_bytes.result.now
+    c.args.out.now.items c.extend_from_slice.new.self.items c.write_in_message.new.out.items
+    c.extend_from_slice-2.new.self.items c.write_in_message-2.new.out.items c.extend_from_slice-3.new.self.items
+    c.push.new.self.items c.in_ok-extend_from_slice.ensures.items c.in_ok-write_in_message.ensures
+    c.in_ok-extend_from_slice-2.ensures.items c.in_ok-write_in_message-2.ensures
+    (c.as_bytes.ensures.value ∙ c.note_of.ensures) c.in_ok-extend_from_slice-3.ensures.items c.in_ok-push.ensures.items

@@ -8,4 +8,6 @@ pub loop-index-init : goal.loop-index-init
 loop-index-init c = WritesClaims-start c.args.texts.now c.args.out.now.items
 
 pub loop-index-preserved : goal.loop-index-preserved
-loop-index-preserved c = WritesClaims-next c.args.texts.now (map planned_of c.args.updates.now) c.args.indexes.now c.loop-index.index-index 0 c.args.out.now.items c.loop-index.out.items c.write_claim_at.new.out.items c.loop-index-test.true c.loop-index.invariant c.in_ok-write_claim_at.ensures
+loop-index-preserved c = WritesClaims-next c.args.texts.now (map planned_of c.args.updates.now) c.args.indexes.now
+    c.loop-index.index-index 0 c.args.out.now.items c.loop-index.out.items c.write_claim_at.new.out.items
+    c.loop-index-test.true c.loop-index.invariant c.in_ok-write_claim_at.ensures

@@ -5,4 +5,5 @@ use Rattle.refspec_plans.specs.Conflicts.{WritesClaims, those_at}
 use Rattle.refspec_plans.proofs.conflicts.write_claims.Given as goal
 
 abbrev pub invariant-loop-index : goal.invariant-loop-index
-invariant-loop-index l = WritesClaims l.texts (those_at (map planned_of l.updates) (take l.index-index l.indexes)) l.fn.out.items l.out.items
+invariant-loop-index l = WritesClaims l.texts (those_at (map planned_of l.updates) (take l.index-index l.indexes))
+    l.fn.out.items l.out.items

@@ -11,4 +11,9 @@ returns c =
     let ps = map planned_of c.args.updates.now in
     let conflict = contest_of ps c.args.contest.now in
     let name : c.as_bytes.result.now ≡ conflict.destination = search rules in
-    on_ok c.write_advice.result _ _ c.write_advice.ensures (λ grows. WritesConflict-of c.args.texts.now conflict c.as_bytes.result.now (those_at ps c.as_slice.result.now) c.args.out.now.items c.extend_from_slice.new.self.items c.write_in_message.new.out.items c.extend_from_slice-2.new.self.items c.write_claims.new.out.items c.write_advice.new.out.items name (ap (those_at ps) c.as_slice.ensures.value) c.in_ok-extend_from_slice.ensures.items c.in_ok-write_in_message.ensures c.in_ok-extend_from_slice-2.ensures.items c.in_ok-write_claims.ensures grows)
+    on_ok c.write_advice.result _ _ c.write_advice.ensures
+    (λ grows. WritesConflict-of c.args.texts.now conflict c.as_bytes.result.now (those_at ps c.as_slice.result.now)
+    c.args.out.now.items c.extend_from_slice.new.self.items c.write_in_message.new.out.items
+    c.extend_from_slice-2.new.self.items c.write_claims.new.out.items c.write_advice.new.out.items name
+    (ap (those_at ps) c.as_slice.ensures.value) c.in_ok-extend_from_slice.ensures.items
+    c.in_ok-write_in_message.ensures c.in_ok-extend_from_slice-2.ensures.items c.in_ok-write_claims.ensures grows)

@@ -9,7 +9,12 @@ use Rattle.refspec_plans.proofs.VerdictLemmas.{written-one}
 use Rattle.refspec_plans.proofs.groups.add_short.Goals as goal
 
 pub returns-then-not-is_written : goal.returns-then-not-is_written
-returns-then-not-is_written c = subst (λ (l : List Planned). AddsShort l c.args.out.now.items c.args.out.now.items) (sym (written-one (planned_of c.args.update.now) false (sym c.is_written.ensures ∙ c.if-not-is_written.true))) (AddsShort-start c.args.out.now.items)
+returns-then-not-is_written c = subst (λ (l : List Planned). AddsShort l c.args.out.now.items c.args.out.now.items)
+    (sym (written-one (planned_of c.args.update.now) false (sym c.is_written.ensures ∙ c.if-not-is_written.true)))
+    (AddsShort-start c.args.out.now.items)
 
 pub returns : goal.returns
-returns c = on_ok c.write_short.result _ _ c.write_short.ensures (λ write. subst (λ (l : List Planned). AddsShort l c.args.out.now.items c.write_short.new.out.items) (sym (written-one (planned_of c.args.update.now) true (sym c.is_written.ensures ∙ c.if-not-is_written.false))) (AddsShort-one (planned_of c.args.update.now) c.args.out.now.items c.write_short.new.out.items write))
+returns c = on_ok c.write_short.result _ _ c.write_short.ensures
+    (λ write. subst (λ (l : List Planned). AddsShort l c.args.out.now.items c.write_short.new.out.items)
+    (sym (written-one (planned_of c.args.update.now) true (sym c.is_written.ensures ∙ c.if-not-is_written.false)))
+    (AddsShort-one (planned_of c.args.update.now) c.args.out.now.items c.write_short.new.out.items write))

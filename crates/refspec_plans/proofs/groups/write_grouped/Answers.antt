@@ -14,4 +14,7 @@ loop-update-preserved c =
     let xs = c.args.updates.now in
     let i = c.loop-update.update-index in
     let p = planned_of c.update-item.result in
-    GroupedSoFar-next c.args.texts.now (written_of (map planned_of (take i xs))) _ p (is_written p.verdict) c.loop-update.before _ c.args.out.now.items c.loop-update.out.items c.add_below.new.out.items refl (written-next xs i c.update-item.result c.loop-update-test.true c.update-item.is) c.loop-update.invariant c.in_ok-add_below.ensures
+    GroupedSoFar-next c.args.texts.now (written_of (map planned_of (take i xs))) _ p (is_written p.verdict)
+    c.loop-update.before _ c.args.out.now.items c.loop-update.out.items c.add_below.new.out.items refl
+    (written-next xs i c.update-item.result c.loop-update-test.true c.update-item.is) c.loop-update.invariant
+    c.in_ok-add_below.ensures

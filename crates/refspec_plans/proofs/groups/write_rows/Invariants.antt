@@ -6,4 +6,5 @@ use Rattle.refspec_plans.specs.Verdicts.{written_of}
 use Rattle.refspec_plans.proofs.groups.write_rows.Given as goal
 
 abbrev pub invariant-loop-update : goal.invariant-loop-update
-invariant-loop-update l = AddsShort (written_of (map planned_of (take l.update-index l.updates))) l.fn.out.items l.out.items
+invariant-loop-update l = AddsShort (written_of (map planned_of (take l.update-index l.updates))) l.fn.out.items
+    l.out.items

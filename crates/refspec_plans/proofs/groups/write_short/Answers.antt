@@ -6,4 +6,7 @@ use Rattle.refspec_plans.proofs.GroupLemmas.{WritesShort-of}
 use Rattle.refspec_plans.proofs.groups.write_short.Goals as goal
 
 pub returns : goal.returns
-returns c = WritesShort-of (planned_of c.args.update.now) c.args.out.now.items c.write_source_cell.new.out.items c.write_field.new.out.items c.push.new.self.items c.in_ok-write_source_cell.ensures (subst (λ (d : List ℕ). WritesQuoted d c.write_source_cell.new.out.items c.write_field.new.out.items) c.destination_or-destination.ensures c.in_ok-write_field.ensures) c.in_ok-push.ensures.items
+returns c = WritesShort-of (planned_of c.args.update.now) c.args.out.now.items c.write_source_cell.new.out.items
+    c.write_field.new.out.items c.push.new.self.items c.in_ok-write_source_cell.ensures
+    (subst (λ (d : List ℕ). WritesQuoted d c.write_source_cell.new.out.items c.write_field.new.out.items)
+    c.destination_or-destination.ensures c.in_ok-write_field.ensures) c.in_ok-push.ensures.items

@@ -26,22 +26,33 @@ loop-update-preserved c =
     elim c.match-update.branch [
       | in-LeftOut+in_ok-report_one_left_out w ↦
           let item = unwritable w.in-LeftOut.side (planned_of x) in
-          let grown = step ∙ ap (λ (l : List Unwritable). front ++ l) (left_out-one (planned_of x) w.in-LeftOut.side w.in-LeftOut.is) in
+          let grown = step ∙ ap (λ (l : List Unwritable). front ++ l)
+          (left_out-one (planned_of x) w.in-LeftOut.side w.in-LeftOut.is) in
           let one = w.in_ok-report_one_left_out.ensures in
           let new = w.report_one_left_out.new.report in
           record {
             form = ap (λ (r : Report). r.form) w.report-is ∙ (one.form ∙ so_far.form);
             said = rw w.report-is (grows_on _ _ _ so_far.said one.said);
-            reported = subst (λ (l : List Unwritable). AddsObjects f Reports l old c.match-update.report.results.items) (sym grown) (subst (λ (r : Report). AddsObjects f Reports (front ++ item ∷ []) old r.results.items) (sym w.report-is) (AddsObjects-append f c.loop-update.report.form Reports front (item ∷ []) old c.loop-update.report.results.items new.results.items so_far.form so_far.reported one.reported));
-            counted = w.count-is ∙ (ap (λ (n : ℕ). n + 1) so_far.counted ∙ (sym (length-append front (item ∷ [])) ∙ ap length (sym grown)));
+            reported = subst (λ (l : List Unwritable). AddsObjects f Reports l old c.match-update.report.results.items)
+                (sym grown) (subst (λ (r : Report). AddsObjects f Reports (front ++ item ∷ []) old r.results.items)
+                (sym w.report-is) (AddsObjects-append f c.loop-update.report.form Reports front
+                (item ∷ []) old c.loop-update.report.results.items new.results.items so_far.form so_far.reported
+                one.reported));
+            counted = w.count-is
+                ∙ (ap (λ (n : ℕ). n + 1) so_far.counted
+                ∙ (sym (length-append front (item ∷ [])) ∙ ap length (sym grown)));
             below = omega (arith, w.count-is, so_far.below);
           }
       | in_default w ↦
-          let grown = step ∙ (ap (λ (l : List Unwritable). front ++ l) (left_out-none (planned_of x) w.in_default.not-LeftOut) ∙ append-nil front) in
+          let grown = step
+          ∙ (ap (λ (l : List Unwritable). front ++ l) (left_out-none (planned_of x) w.in_default.not-LeftOut)
+          ∙ append-nil front) in
           record {
             form = ap (λ (r : Report). r.form) w.report-is ∙ so_far.form;
             said = rw w.report-is so_far.said;
-            reported = subst (λ (l : List Unwritable). AddsObjects f Reports l old c.match-update.report.results.items) (sym grown) (subst (λ (r : Report). AddsObjects f Reports front old r.results.items) (sym w.report-is) so_far.reported);
+            reported = subst (λ (l : List Unwritable). AddsObjects f Reports l old c.match-update.report.results.items)
+                (sym grown) (subst (λ (r : Report). AddsObjects f Reports front old r.results.items)
+                (sym w.report-is) so_far.reported);
             counted = w.count-is ∙ (so_far.counted ∙ ap length (sym grown));
             below = omega (arith, w.count-is, so_far.below);
           }

@@ -13,4 +13,7 @@ write_left_out_object-requires c = c.in_ok-source.ensures
 pub returns-in-Json-clause-reported : goal.returns-in-Json-clause-reported
 returns-in-Json-clause-reported c =
     let out = unwritable c.args.side (planned_of c.args.update.now) in
-    on_ok c.write_left_out_object.result _ _ c.write_left_out_object.ensures (λ write. AddsObjects-one c.args.report.now.form (IsLeftOutOf c.args.texts.now) out write.0 c.args.report.now.results.items c.write_left_out_object.new.out.items c.in-Json.is (subst (λ (t : List ℕ). IsLeftOutLine t out write.0) c.text_of-spec.ensures write.1) write.2)
+    on_ok c.write_left_out_object.result _ _ c.write_left_out_object.ensures
+    (λ write. AddsObjects-one c.args.report.now.form (IsLeftOutOf c.args.texts.now) out write.0
+    c.args.report.now.results.items c.write_left_out_object.new.out.items c.in-Json.is
+    (subst (λ (t : List ℕ). IsLeftOutLine t out write.0) c.text_of-spec.ensures write.1) write.2)

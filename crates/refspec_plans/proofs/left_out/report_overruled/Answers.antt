@@ -33,18 +33,27 @@ loop-update-preserved c =
           record {
             form = ap (λ (r : Report). r.form) w.report-is ∙ (one.form ∙ so_far.form);
             said = rw w.report-is (grows_on _ _ _ so_far.said one.said);
-            reported = subst (λ (l : List Planned). AddsObjects f Reports l old c.match-update.report.results.items) (sym grown) (subst (λ (r : Report). AddsObjects f Reports (front ++ item ∷ []) old r.results.items) (sym w.report-is) (AddsObjects-append f c.loop-update.report.form Reports front (item ∷ []) old c.loop-update.report.results.items new.results.items so_far.form so_far.reported one.reported));
+            reported = subst (λ (l : List Planned). AddsObjects f Reports l old c.match-update.report.results.items)
+                (sym grown) (subst (λ (r : Report). AddsObjects f Reports (front ++ item ∷ []) old r.results.items)
+                (sym w.report-is) (AddsObjects-append f c.loop-update.report.form Reports front
+                (item ∷ []) old c.loop-update.report.results.items new.results.items so_far.form so_far.reported
+                one.reported));
             below = omega (arith, w.count-is, so_far.below);
           }
       | in_default w ↦
-          let grown = step ∙ (ap (λ (l : List Planned). front ++ l) (overruled-none (planned_of x) w.in_default.not-Overruled) ∙ append-nil front) in
+          let grown = step
+          ∙ (ap (λ (l : List Planned). front ++ l) (overruled-none (planned_of x) w.in_default.not-Overruled)
+          ∙ append-nil front) in
           record {
             form = ap (λ (r : Report). r.form) w.report-is ∙ so_far.form;
             said = rw w.report-is so_far.said;
-            reported = subst (λ (l : List Planned). AddsObjects f Reports l old c.match-update.report.results.items) (sym grown) (subst (λ (r : Report). AddsObjects f Reports front old r.results.items) (sym w.report-is) so_far.reported);
+            reported = subst (λ (l : List Planned). AddsObjects f Reports l old c.match-update.report.results.items)
+                (sym grown) (subst (λ (r : Report). AddsObjects f Reports front old r.results.items)
+                (sym w.report-is) so_far.reported);
             below = omega (arith, w.count-is, so_far.below);
           }
     ]
 
 pub returns-clause-said : goal.returns-clause-said
-returns-clause-said c = on_ok c.write_more_than.result _ _ c.write_more_than.ensures (λ more. grows_on _ _ _ c.loop-update.invariant.said more)
+returns-clause-said c = on_ok c.write_more_than.result _ _ c.write_more_than.ensures
+    (λ more. grows_on _ _ _ c.loop-update.invariant.said more)

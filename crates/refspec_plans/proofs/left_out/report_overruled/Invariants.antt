@@ -11,6 +11,7 @@ abbrev pub invariant-loop-update : goal.invariant-loop-update
 invariant-loop-update l = record {
   form : l.report.form ≡ l.fn.report.form;
   said : Grows l.fn.report.messages.items l.report.messages.items;
-  reported : AddsObjects l.fn.report.form (IsOverruledOf l.texts) (overruled_of (map planned_of (take l.update-index l.updates))) l.fn.report.results.items l.report.results.items;
+  reported : AddsObjects l.fn.report.form (IsOverruledOf l.texts)
+      (overruled_of (map planned_of (take l.update-index l.updates))) l.fn.report.results.items l.report.results.items;
   below : l.count ≤ l.update-index;
 }

@@ -11,7 +11,8 @@ abbrev pub invariant-loop-update : goal.invariant-loop-update
 invariant-loop-update l = record {
   form : l.report.form ≡ l.fn.report.form;
   said : Grows l.fn.report.messages.items l.report.messages.items;
-  reported : AddsObjects l.fn.report.form (IsNestedOf l.texts) (nested_of (map planned_of (take l.update-index l.updates))) l.fn.report.results.items l.report.results.items;
+  reported : AddsObjects l.fn.report.form (IsNestedOf l.texts)
+      (nested_of (map planned_of (take l.update-index l.updates))) l.fn.report.results.items l.report.results.items;
   counted : l.count ≡ length (nested_of (map planned_of (take l.update-index l.updates)));
   below : l.count ≤ l.update-index;
 }

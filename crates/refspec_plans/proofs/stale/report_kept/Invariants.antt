@@ -7,5 +7,6 @@ use Rattle.refspec_plans.proofs.stale.report_kept.Given as goal
 abbrev pub invariant-loop-one : goal.invariant-loop-one
 invariant-loop-one l = record {
   form : l.report.form ≡ l.fn.report.form;
-  reported : AddsObjects l.fn.report.form IsKeptLine (map kept_of (take l.one-index l.kept)) l.fn.report.results.items l.report.results.items;
+  reported : AddsObjects l.fn.report.form IsKeptLine (map kept_of (take l.one-index l.kept)) l.fn.report.results.items
+      l.report.results.items;
 }

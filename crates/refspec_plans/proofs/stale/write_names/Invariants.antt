@@ -6,5 +6,6 @@ use Rattle.refspec_plans.proofs.stale.write_names.Given as goal
 abbrev pub invariant-loop-name : goal.invariant-loop-name
 invariant-loop-name l = record {
   form : l.report.form ≡ l.fn.report.form;
-  reported : AddsNames l.fn.report.form l.before (map (λ n. n.now) (take l.name-index l.names)) l.fn.report.results.items l.report.results.items;
+  reported : AddsNames l.fn.report.form l.before (map (λ n. n.now) (take l.name-index l.names))
+      l.fn.report.results.items l.report.results.items;
 }

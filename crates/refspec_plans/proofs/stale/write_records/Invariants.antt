@@ -4,4 +4,5 @@ use Rattle.refspec_plans.specs.Stale.{name_fields}
 use Rattle.refspec_plans.proofs.stale.write_records.Given as goal
 
 abbrev pub invariant-loop-name : goal.invariant-loop-name
-invariant-loop-name l = l.out.items ≡ l.fn.out.items ++ flat_map name_fields (map (λ n. n.now) (take l.name-index l.names))
+invariant-loop-name l = l.out.items ≡ l.fn.out.items ++ flat_map name_fields
+    (map (λ n. n.now) (take l.name-index l.names))

@@ -10,7 +10,16 @@ use Rattle.refspec_plans.proofs.VerdictLemmas.{written-one}
 use Rattle.refspec_plans.proofs.updates.add_object.Goals as goal
 
 pub returns-then-not-is_written : goal.returns-then-not-is_written
-returns-then-not-is_written c = subst (λ (l : List Planned). c.args.out.now.items ≡ c.args.out.now.items ++ flat_map (update_object c.args.texts.now) l) (sym (written-one (planned_of c.args.update.now) false (sym c.is_written.ensures ∙ c.if-not-is_written.true))) (sym (append-nil c.args.out.now.items))
+returns-then-not-is_written c = subst (λ (l : List Planned). c.args.out.now.items ≡ c.args.out.now.items ++ flat_map
+    (update_object c.args.texts.now) l)
+    (sym (written-one (planned_of c.args.update.now) false (sym c.is_written.ensures ∙ c.if-not-is_written.true)))
+    (sym (append-nil c.args.out.now.items))
 
 pub returns : goal.returns
-returns c = on_ok c.write_object.result _ _ c.write_object.ensures (λ write. subst (λ (l : List Planned). c.write_object.new.out.items ≡ c.args.out.now.items ++ flat_map (update_object c.args.texts.now) l) (sym (written-one (planned_of c.args.update.now) true (sym c.is_written.ensures ∙ c.if-not-is_written.false))) (pieces-one (update_object c.args.texts.now) (planned_of c.args.update.now) c.args.out.now.items c.write_object.new.out.items (write ∙ ap (λ t. c.args.out.now.items ++ object_with t (planned_of c.args.update.now)) c.text_of-text.ensures)))
+returns c = on_ok c.write_object.result _ _ c.write_object.ensures
+    (λ write. subst (λ (l : List Planned). c.write_object.new.out.items ≡ c.args.out.now.items ++ flat_map
+    (update_object c.args.texts.now) l)
+    (sym (written-one (planned_of c.args.update.now) true (sym c.is_written.ensures ∙ c.if-not-is_written.false)))
+    (pieces-one (update_object c.args.texts.now) (planned_of c.args.update.now) c.args.out.now.items
+    c.write_object.new.out.items (write ∙ ap (λ t. c.args.out.now.items ++ object_with t (planned_of c.args.update.now))
+    c.text_of-text.ensures)))

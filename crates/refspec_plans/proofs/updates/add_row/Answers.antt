@@ -9,7 +9,15 @@ use Rattle.refspec_plans.proofs.VerdictLemmas.{written-one}
 use Rattle.refspec_plans.proofs.updates.add_row.Goals as goal
 
 pub returns-then-not-is_written : goal.returns-then-not-is_written
-returns-then-not-is_written c = subst (λ (l : List Planned). AddsUpdateLines c.args.texts.now l c.args.out.now.items c.args.out.now.items) (sym (written-one (planned_of c.args.update.now) false (sym c.is_written.ensures ∙ c.if-not-is_written.true))) (AddsUpdateLines-start c.args.texts.now c.args.out.now.items)
+returns-then-not-is_written c =
+    subst (λ (l : List Planned). AddsUpdateLines c.args.texts.now l c.args.out.now.items c.args.out.now.items)
+    (sym (written-one (planned_of c.args.update.now) false (sym c.is_written.ensures ∙ c.if-not-is_written.true)))
+    (AddsUpdateLines-start c.args.texts.now c.args.out.now.items)
 
 pub returns : goal.returns
-returns c = on_ok c.write_row.result _ _ c.write_row.ensures (λ write. subst (λ (l : List Planned). AddsUpdateLines c.args.texts.now l c.args.out.now.items c.write_row.new.out.items) (sym (written-one (planned_of c.args.update.now) true (sym c.is_written.ensures ∙ c.if-not-is_written.false))) (AddsUpdateLines-one c.args.texts.now (planned_of c.args.update.now) c.text_of-text.result.now c.args.out.now.items c.write_row.new.out.items c.text_of-text.ensures write))
+returns c = on_ok c.write_row.result _ _ c.write_row.ensures
+    (λ write. subst
+    (λ (l : List Planned). AddsUpdateLines c.args.texts.now l c.args.out.now.items c.write_row.new.out.items)
+    (sym (written-one (planned_of c.args.update.now) true (sym c.is_written.ensures ∙ c.if-not-is_written.false)))
+    (AddsUpdateLines-one c.args.texts.now (planned_of c.args.update.now) c.text_of-text.result.now c.args.out.now.items
+    c.write_row.new.out.items c.text_of-text.ensures write))

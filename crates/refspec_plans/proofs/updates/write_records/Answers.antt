@@ -14,4 +14,7 @@ loop-update-preserved c =
     let xs = c.args.updates.now in
     let i = c.loop-update.update-index in
     let x = c.update-item.result in
-    subst (λ (l : List Planned). c.add_fields.new.out.items ≡ c.args.out.now.items ++ flat_map f l) (sym (written-next xs i x c.loop-update-test.true c.update-item.is)) (pieces-append f (written_of (map planned_of (take i xs))) (written_of (planned_of x ∷ [])) c.args.out.now.items c.loop-update.out.items c.add_fields.new.out.items c.loop-update.invariant c.in_ok-add_fields.ensures)
+    subst (λ (l : List Planned). c.add_fields.new.out.items ≡ c.args.out.now.items ++ flat_map f l)
+    (sym (written-next xs i x c.loop-update-test.true c.update-item.is))
+    (pieces-append f (written_of (map planned_of (take i xs))) (written_of (planned_of x ∷ [])) c.args.out.now.items
+    c.loop-update.out.items c.add_fields.new.out.items c.loop-update.invariant c.in_ok-add_fields.ensures)

@@ -6,4 +6,5 @@ use Rattle.refspec_plans.specs.Verdicts.{written_of}
 use Rattle.refspec_plans.proofs.updates.write_records.Given as goal
 
 abbrev pub invariant-loop-update : goal.invariant-loop-update
-invariant-loop-update l = l.out.items ≡ l.fn.out.items ++ flat_map (update_fields l.texts) (written_of (map planned_of (take l.update-index l.updates)))
+invariant-loop-update l = l.out.items ≡ l.fn.out.items ++ flat_map (update_fields l.texts)
+    (written_of (map planned_of (take l.update-index l.updates)))

@@ -17,4 +17,8 @@ loop-update-preserved c =
     let xs = c.args.updates.now in
     let i = c.loop-update.update-index in
     let x = c.update-item.result in
-    subst (λ (l : List Planned). AddsUpdateLines texts l c.args.out.now.items c.add_row.new.out.items) (sym (written-next xs i x c.loop-update-test.true c.update-item.is)) (AddsUpdateLines-append texts (written_of (map planned_of (take i xs))) (written_of (planned_of x ∷ [])) c.args.out.now.items c.loop-update.out.items c.add_row.new.out.items c.loop-update.invariant c.in_ok-add_row.ensures)
+    subst (λ (l : List Planned). AddsUpdateLines texts l c.args.out.now.items c.add_row.new.out.items)
+    (sym (written-next xs i x c.loop-update-test.true c.update-item.is))
+    (AddsUpdateLines-append texts (written_of (map planned_of (take i xs))) (written_of (planned_of x ∷ []))
+    c.args.out.now.items c.loop-update.out.items c.add_row.new.out.items c.loop-update.invariant
+    c.in_ok-add_row.ensures)

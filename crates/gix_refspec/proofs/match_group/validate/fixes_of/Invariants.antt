@@ -1,4 +1,5 @@
-use Rattle.gix_refspec.proofs.Common.{◌≡◌, [], map, take, AllByRecursion, reading_of, mapped_of, AreFixes, Survives, removed_of}
+use Rattle.gix_refspec.proofs.Common.{◌≡◌, [], map, take, AllByRecursion, reading_of, mapped_of, AreFixes, Survives}
+use Rattle.gix_refspec.proofs.Common.{removed_of}
 
 abbrev pub invariant-loop-mapping : Rattle.gix_refspec.proofs.match_group.validate.fixes_of.Given.invariant-loop-mapping
 invariant-loop-mapping l =

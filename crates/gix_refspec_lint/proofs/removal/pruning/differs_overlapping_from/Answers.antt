@@ -1,18 +1,24 @@
-use Rattle.gix_refspec_lint.proofs.Common.{ℕ, List, ◌++◌, drop, map, take_all, arith, of_element, mapped_there, AreOverlaps, MatchBool-at_false}
+use Rattle.gix_refspec_lint.proofs.Common.{ℕ, List, ◌++◌, drop, map, take_all, arith, of_element, mapped_there}
+use Rattle.gix_refspec_lint.proofs.Common.{AreOverlaps, MatchBool-at_false}
 use Rattle.gix_refspec_lint.proofs.lemmas.RemovalLemmas.{one_more_overlap}
 use Rattle.gix_refspec_lint.specs.Private.Removals.{IsSameFrom, all_of, rest_of}
 use Rattle.gix_refspec_lint.proofs.removal.pruning.differs_overlapping_from.Goals as goal
 
 pub loop-shared-preserved : goal.loop-shared-preserved
 loop-shared-preserved c =
-    one_more_overlap (IsSameFrom (all_of c.args.lists.now) (rest_of c.args.lists.now) c.args.near.0.now c.args.near.1.now c.args.far.0.now c.args.far.1.now) c.args.common.now.prefix.now c.args.common.now.suffix.now
+    one_more_overlap (IsSameFrom (all_of c.args.lists.now) (rest_of c.args.lists.now) c.args.near.0.now
+    c.args.near.1.now c.args.far.0.now c.args.far.1.now) c.args.common.now.prefix.now c.args.common.now.suffix.now
     c.deref-shared-items.result.now c.loop-shared.shared-index c.loop-shared.invariant c.loop-shared-test.true
-    (rw (c.as_bytes.ensures, c.as_bstr.ensures, c.in_ok-source.ensures) at (MatchBool-at_false _ _ c.if-branch.false c.in_ok-differs_from.ensures))
+    (rw (c.as_bytes.ensures, c.as_bstr.ensures, c.in_ok-source.ensures) at
+    (MatchBool-at_false _ _ c.if-branch.false c.in_ok-differs_from.ensures))
 
 pub returns : goal.returns
 returns c k most overlap =
     let list = c.deref-shared-items.result.now in
     let made : ℕ → List ℕ = λ k. c.args.common.now.prefix.now ++ drop k c.args.common.now.suffix.now in
-    let are : AreOverlaps c.args.common.now.prefix.now c.args.common.now.suffix.now c.args.common.now.most list = rw c.deref-shared-items.ensures.value c.in_ok-overlaps.ensures in
-    of_element (IsSameFrom (all_of c.args.lists.now) (rest_of c.args.lists.now) c.args.near.0.now c.args.near.1.now c.args.far.0.now c.args.far.1.now) (map made list) (made k)
-    (rw (take_all c.loop-shared.shared-index list (omega arith)) at c.loop-shared.invariant) (mapped_there made list k (are.all k most overlap))
+    let are : AreOverlaps c.args.common.now.prefix.now c.args.common.now.suffix.now c.args.common.now.most list =
+    rw c.deref-shared-items.ensures.value c.in_ok-overlaps.ensures in
+    of_element (IsSameFrom (all_of c.args.lists.now) (rest_of c.args.lists.now) c.args.near.0.now c.args.near.1.now
+    c.args.far.0.now c.args.far.1.now) (map made list) (made k)
+    (rw (take_all c.loop-shared.shared-index list (omega arith)) at c.loop-shared.invariant)
+    (mapped_there made list k (are.all k most overlap))

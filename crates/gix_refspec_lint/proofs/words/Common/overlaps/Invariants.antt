@@ -4,5 +4,6 @@ abbrev pub invariant-loop-length : Rattle.gix_refspec_lint.proofs.words.Common.o
 invariant-loop-length l =
     record {
       each : AllByRecursion (IsOverlap l.self.prefix.now l.self.suffix.now) l.shared.items;
-      all : (j : ℕ) → j < l.length-index → get_or l.length-items j 0 ≤ l.self.most → Contains l.shared.items (get_or l.length-items j 0);
+      all : (j : ℕ) → j < l.length-index → get_or l.length-items j 0 ≤ l.self.most
+          → Contains l.shared.items (get_or l.length-items j 0);
     }

@@ -1,5 +1,6 @@
 -- The text has the parts that it was split into, and what is wrong with the parts is wrong with the text.
-use Rattle.gix_refspec_text.proofs.{Common.{sym, subst, bstr_bytes, HasParts}, lemmas.parsing.SpanLemmas.{accepted_right, only_span}}
+use Rattle.gix_refspec_text.proofs.Common.{sym, subst, bstr_bytes, HasParts}
+use Rattle.gix_refspec_text.proofs.lemmas.parsing.SpanLemmas.{accepted_right, only_span}
 use Rattle.gix_refspec_text.proofs.parsing.locating.locate.Goals as goal
 
 pub returns-in-Ok-clause-span : goal.returns-in-Ok-clause-span

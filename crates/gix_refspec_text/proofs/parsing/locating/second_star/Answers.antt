@@ -12,4 +12,5 @@ unreachable-requires-in_default-split_at_first_star c =
     let stars = c.requires in
     let split = c.in-Some.ensures in
     let lacks = c.in_default-split_at_first_star.ensures in
-    one_not_two star c.in-Some.before.now c.in-Some.rest.now stars.before stars.between stars.after split.1 lacks (sym split.0 ∙ stars.here)
+    one_not_two star c.in-Some.before.now c.in-Some.rest.now stars.before stars.between stars.after split.1 lacks
+    (sym split.0 ∙ stars.here)

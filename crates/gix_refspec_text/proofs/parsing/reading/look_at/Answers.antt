@@ -1,4 +1,6 @@
-use Rattle.gix_refspec_text.proofs.{Common.arith, lemmas.texts.LetterLemmas.{Lacks-count_by, HasOneStar-count_by, name_without_stars, pattern_with_letter}}
+use Rattle.gix_refspec_text.proofs.Common.{arith}
+use Rattle.gix_refspec_text.proofs.lemmas.texts.LetterLemmas.{Lacks-count_by, HasOneStar-count_by, name_without_stars}
+use Rattle.gix_refspec_text.proofs.lemmas.texts.LetterLemmas.{pattern_with_letter}
 use Rattle.gix_refspec_text.proofs.parsing.reading.look_at.Goals as goal
 
 pub returns-in-Ok-true-clause-ok : goal.returns-in-Ok-true-clause-ok

@@ -1,5 +1,8 @@
-use Rattle.gix_refspec_text.proofs.{Common.{arith, sym, ap, ◌∙◌, false≢true, LooksLikeObjectHash, mode_of, side_of}, lemmas.parsing.SideLemmas.none_from_test}
-use Rattle.gix_refspec_text.proofs.lemmas.{parsing.ReasonLemmas.reason_against_object, parsing.ReadsLemmas.{fine_negative, source_named, sides_read}, lists.EmptyLemmas.full_from_test}
+use Rattle.gix_refspec_text.proofs.Common.{arith, sym, ap, ◌∙◌, false≢true, LooksLikeObjectHash, mode_of, side_of}
+use Rattle.gix_refspec_text.proofs.lemmas.parsing.SideLemmas.{none_from_test}
+use Rattle.gix_refspec_text.proofs.lemmas.parsing.ReasonLemmas.{reason_against_object}
+use Rattle.gix_refspec_text.proofs.lemmas.parsing.ReadsLemmas.{fine_negative, source_named, sides_read}
+use Rattle.gix_refspec_text.proofs.lemmas.lists.EmptyLemmas.{full_from_test}
 use Rattle.gix_refspec_text.proofs.parsing.reading.negative_sides.Goals as goal
 
 pub returns-then-looks_like_object_hash-clause-err : goal.returns-then-looks_like_object_hash-clause-err

@@ -1,6 +1,9 @@
 -- A source alone was checked. If it is empty, the text has a sign.
-use Rattle.gix_refspec_text.proofs.{Common.{arith, [], ◌≡◌, ap, ◌∙◌, Normal, mode_of, side_of}, lemmas.parsing.ReadsLemmas.{fine_alone, sides_read}, lemmas.lists.EmptyLemmas.full_from_test}
-use Rattle.gix_refspec_text.proofs.parsing.reading.push_alone_sides.Goals.{else-eq-via-then-eq+else-is_empty, else-eq-via-else-eq}
+use Rattle.gix_refspec_text.proofs.Common.{arith, [], ◌≡◌, ap, ◌∙◌, Normal, mode_of, side_of}
+use Rattle.gix_refspec_text.proofs.lemmas.parsing.ReadsLemmas.{fine_alone, sides_read}
+use Rattle.gix_refspec_text.proofs.lemmas.lists.EmptyLemmas.{full_from_test}
+use Rattle.gix_refspec_text.proofs.parsing.reading.push_alone_sides.Goals.{else-eq-via-then-eq+else-is_empty}
+use Rattle.gix_refspec_text.proofs.parsing.reading.push_alone_sides.Goals.{else-eq-via-else-eq}
 use Rattle.gix_refspec_text.proofs.parsing.reading.push_alone_sides.Goals as goal
 
 pub returns-clause-ok : goal.returns-clause-ok
@@ -12,5 +15,6 @@ returns-clause-ok c =
     ] in
     let op = c.requires.positive.operation in
     sides_read p c.new.result
-    (fine_alone c.in_ok-checked.field-0 op c.requires.positive.positive c.requires.alone full c.in_ok-checked.ensures.ok)
+    (fine_alone c.in_ok-checked.field-0 op c.requires.positive.positive c.requires.alone full
+    c.in_ok-checked.ensures.ok)
     (rw op (c.new.ensures.source ∙ ap side_of c.named.ensures)) (rw c.requires.alone c.new.ensures.destination)

@@ -1,4 +1,5 @@
-use Rattle.gix_refspec_text.proofs.{Common.{subst, HasFault, with_letters}, lemmas.texts.LetterLemmas.{letters-Lacks, replaces_one}}
+use Rattle.gix_refspec_text.proofs.Common.{subst, HasFault, with_letters}
+use Rattle.gix_refspec_text.proofs.lemmas.texts.LetterLemmas.{letters-Lacks, replaces_one}
 use Rattle.gix_refspec_text.proofs.parsing.reading.with_fault.Goals as goal
 
 pub returns-in-No-clause-ok : goal.returns-in-No-clause-ok

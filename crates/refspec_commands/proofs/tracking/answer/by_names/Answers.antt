@@ -6,7 +6,8 @@ use Rattle.refspec_commands.specs.Track.{AreByNames}
 use Rattle.gix_refspec.specs.Views.Spec.{reading_of}
 use Rattle.refspec_commands.proofs.AnswerLemmas.{AreLeftOut-added, AreLeftOut-all, AreLeftOut-same}
 use Rattle.refspec_commands.proofs.TrackLemmas.{AreByNames-all, AreByNames-kept, AreByNames-left}
-use Rattle.refspec_commands.proofs.tracking.answer.by_names.Goals.{then-has_id_destination+in_ok-push, else-has_id_destination+in_ok-push-2}
+use Rattle.refspec_commands.proofs.tracking.answer.by_names.Goals.{then-has_id_destination+in_ok-push}
+use Rattle.refspec_commands.proofs.tracking.answer.by_names.Goals.{else-has_id_destination+in_ok-push-2}
 use Rattle.refspec_commands.proofs.tracking.answer.by_names.Goals as goal
 
 pub loop-spec-init : goal.loop-spec-init

@@ -34,7 +34,8 @@ returns-in_ok-sort_by_key-in-Refs c =
       all,
       record {
         moved = c.sort_by_key.ensures.permutation;
-        sorted = c.in_ok-sort_by_key-in-Refs.ensures.sorted ref_index (answers_always _ _ _ (λ f a r g h. search rules));
+        sorted = c.in_ok-sort_by_key-in-Refs.ensures.sorted ref_index
+            (answers_always _ _ _ (λ f a r g h. search rules));
         stable = c.sort_by_key.ensures.stable ref_index (answers_always _ _ _ (λ f a r g h. search rules));
       },
     )

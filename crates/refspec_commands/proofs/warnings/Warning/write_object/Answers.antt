@@ -22,7 +22,10 @@ returns c =
     let specs = subst (λ (l : List Text). AllZip IsWarned (map given_of l) (map warned_texts c.in_ok-specs.specs.items))
     c.as_slice.ensures.value c.in_ok-specs.ensures in
     on_ok c.write_line.result _ _ c.write_line.ensures (λ write. IsSaidLine-of w c.name.result.now c.as_str.result.now
-    c.as_str-2.result.now c.as_str-3.result.now c.in_ok-specs.specs.items c.args.out.now.items c.write_line.new.out.items
-    c.name.ensures at (c.as_str-2.ensures.value ∙ (c.in_ok-message.ensures ∙ ap json_text c.as_slice-2.ensures.value)) specs
-    (write ∙ ap (λ (l : List WarnedSpec). c.args.out.now.items ++ line_of (warning_object c.name.result.now c.as_str.result.now
+    c.as_str-2.result.now c.as_str-3.result.now c.in_ok-specs.specs.items c.args.out.now.items
+    c.write_line.new.out.items
+    c.name.ensures at (c.as_str-2.ensures.value ∙ (c.in_ok-message.ensures ∙ ap json_text c.as_slice-2.ensures.value))
+    specs
+    (write ∙ ap (λ (l : List WarnedSpec). c.args.out.now.items ++ line_of
+    (warning_object c.name.result.now c.as_str.result.now
     (map warned_texts l) c.as_str-2.result.now c.as_str-3.result.now)) c.as_slice-4.ensures.value))

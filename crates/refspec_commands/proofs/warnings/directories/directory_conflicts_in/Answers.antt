@@ -23,10 +23,15 @@ warnings_on-requires c =
     let given = c.args.group.now.texts.items in
     let same : length (map reading_of specs) ≡ length (map given_of given) = length-map specs reading_of ∙
     (c.requires ∙ sym (length-map given given_of)) in
-    let inside = found_inside nesting_of AreNestings AreWithin (asked_of c.args.beside.now) (map reading_of specs) (map given_of given)
+    let inside = found_inside nesting_of AreNestings AreWithin (asked_of c.args.beside.now) (map reading_of specs)
+    (map given_of given)
     (map given_of texts) (configuration_of c.configured-fetch.result)
-    c.possible_directory_conflicts.result c.in_ok-conflicts.conflicts c.reported_count-count.result nestings_inside c.configured-fetch.ensures
-    (c.possible_directory_conflicts.ensures.ok, c.possible_directory_conflicts.ensures.refused, c.in_ok-conflicts.ensures) same
+    c.possible_directory_conflicts.result c.in_ok-conflicts.conflicts c.reported_count-count.result nestings_inside
+    c.configured-fetch.ensures (
+      c.possible_directory_conflicts.ensures.ok,
+      c.possible_directory_conflicts.ensures.refused,
+      c.in_ok-conflicts.ensures,
+    ) same
     c.in_ok-texts.ensures in
     let shown : c.split_at.result.0.now ≡ take c.reported_count-count.result c.in_ok-conflicts.conflicts.items =
     c.split_at.ensures.front ∙ ap (take c.reported_count-count.result) c.as_slice-3.ensures.value in
@@ -61,9 +66,13 @@ returns c json =
     )) in
     let all = subst (λ (ws : List Warning). AllZip (IsNestingSaid (map given_of texts)) (map nesting_of found)
     (map said_of ws)) (sym same) of_texts in
-    found_said nesting_of AreNestings IsNestingSaid (asked_of c.args.beside.now) (map reading_of specs) (map given_of given) (map given_of texts)
+    found_said nesting_of AreNestings IsNestingSaid (asked_of c.args.beside.now) (map reading_of specs)
+    (map given_of given) (map given_of texts)
     (configuration_of c.configured-fetch.result)
     c.possible_directory_conflicts.result c.in_ok-conflicts.conflicts (map said_of c.add_more.new.warnings.items)
-    c.configured-fetch.ensures
-    (c.possible_directory_conflicts.ensures.ok, c.possible_directory_conflicts.ensures.refused, c.in_ok-conflicts.ensures)
+    c.configured-fetch.ensures (
+      c.possible_directory_conflicts.ensures.ok,
+      c.possible_directory_conflicts.ensures.refused,
+      c.in_ok-conflicts.ensures,
+    )
     c.in_ok-texts.ensures all

@@ -17,6 +17,8 @@ returns c none =
     let same = slice_eq-Decides Decides-eqb c.in_ok-upper.upper.now c.in_ok-lower.lower.now c.eq.result c.eq.ensures in
     let first = subst (λ (t : List ℕ). WritesQuoted t (start ++ codes "A remote with ") mid) c.in_ok-upper.ensures
     c.in_ok-say.ensures in
-    on_ok c.say-2.result _ _ c.say-2.ensures (λ wrote. AreSources-both (nesting_of c.args.conflict.now) start mid end none
-    (λ equal. false≢true (sym c.if-eq.false ∙ same.1 (c.in_ok-upper.ensures ∙ (equal ∙ sym c.in_ok-lower.ensures)))) first
+    on_ok c.say-2.result _ _ c.say-2.ensures
+    (λ wrote. AreSources-both (nesting_of c.args.conflict.now) start mid end none
+    (λ equal. false≢true (sym c.if-eq.false ∙ same.1 (c.in_ok-upper.ensures ∙ (equal ∙ sym c.in_ok-lower.ensures))))
+    first
     (subst (λ (t : List ℕ). WritesQuoted t (mid ++ codes " and ") end) c.in_ok-lower.ensures wrote))

@@ -14,7 +14,8 @@ loop-checked-preserved c =
     let seen = map seen_of (take i all) in
     let key = c.key_of-key.result in
     let longer = ap (map seen_of) (take_more all i item c.loop-checked-test.true)
-    ∙ (map-append seen_of (take i all) (get_or all i item ∷ []) ∙ ap (λ z. seen ++ seen_of z ∷ []) (sym c.checked-item.is)) in
+    ∙ (map-append seen_of (take i all) (get_or all i item ∷ []) ∙ ap (λ z. seen ++ seen_of z ∷ [])
+    (sym c.checked-item.is)) in
     let group = taken_group seen c.loop-checked.groups key.now c.new.result c.unwrap_or-group.result c.remove.result
     c.loop-checked.invariant c.remove.ensures.value c.new.ensures c.unwrap_or-group.ensures in
     subst (λ (l : List Seen). AreGroups l c.insert.new.self) (sym longer)

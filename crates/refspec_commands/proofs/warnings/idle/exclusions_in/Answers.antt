@@ -16,7 +16,8 @@ returns c =
     let g = map reading_of c.args.group.now.specs.items in
     let texts = map given_of c.args.group.now.texts.items in
     let fetch = configuration_of c.excludable.result in
-    if_ok c.exclusion_warnings.result _ _ c.exclusion_warnings.ensures (λ all made. exclusions_said (asked_of c.args.beside.now) g texts fetch fetch.merges
+    if_ok c.exclusion_warnings.result _ _ c.exclusion_warnings.ensures
+    (λ all made. exclusions_said (asked_of c.args.beside.now) g texts fetch fetch.merges
     c.idle_exclusions.result c.in_ok-idle.idle (map said_of all.items) c.excludable.ensures
     (ap (λ (k : Configuration). k.merges) c.excludable.ensures)
     (c.idle_exclusions.ensures.ok, c.idle_exclusions.ensures.refused, c.in_ok-idle.ensures)

@@ -31,6 +31,7 @@ returns c =
     let found = subst (λ (h : List Reading). FoundBy h unused_of (AreIdle h) c.idle_specs.result c.in_ok-idle.idle)
     (ap (λ (k : Configuration). k.values) c.configured.ensures)
     (c.idle_specs.ensures.ok, c.idle_specs.ensures.refused, c.in_ok-idle.ensures) in
-    if_ok c.warnings_on.result _ _ c.warnings_on.ensures (λ all zipped. idle_said g texts c.idle_specs.result c.in_ok-idle.idle (map said_of all.items)
+    if_ok c.warnings_on.result _ _ c.warnings_on.ensures
+    (λ all zipped. idle_said g texts c.idle_specs.result c.in_ok-idle.idle (map said_of all.items)
     found (subst (λ (l : List IdleSpec). AllZip (IsIdleSaid texts) (map unused_of l) (map said_of all.items))
     c.as_slice.ensures.value zipped))

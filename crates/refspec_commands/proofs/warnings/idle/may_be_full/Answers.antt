@@ -1,5 +1,6 @@
 -- A pattern may match a full name if what is before its star begins one.
-use Rattle.std.proofs.Common.{◌≡◌, ◌∙◌, ◌++◌, Bool, MatchBool, List, ℕ, ap, codes, drop, false, inl, inr, length, refl, subst, sym, true}
+use Rattle.std.proofs.Common.{◌≡◌, ◌∙◌, ◌++◌, Bool, MatchBool, List, ℕ, ap, codes, drop, false, inl, inr, length, refl}
+use Rattle.std.proofs.Common.{subst, sym, true}
 use Rattle.std.proofs.lemmas.Bool.{false≢true}
 use Rattle.std.proofs.lemmas.Bool.Decides.{Decides-eqb}
 use Rattle.std.proofs.lemmas.Slice.Eq.{slice_eq-Decides, starts_is}
@@ -13,7 +14,8 @@ use Rattle.refspec_commands.proofs.warnings.idle.may_be_full.Goals as goal
 pub returns-in-None : goal.returns-in-None
 returns-in-None c =
     let side = c.args.side.now in
-    not_full side (λ is. false≢true (sym c.if-eq.false ∙ (slice_eq-Decides Decides-eqb side c.as_slice.result.now c.eq.result
+    not_full side
+    (λ is. false≢true (sym c.if-eq.false ∙ (slice_eq-Decides Decides-eqb side c.as_slice.result.now c.eq.result
     c.eq.ensures).1 (is ∙ sym c.as_slice.ensures)))
     (λ begins. false≢true (sym c.if-starts_with.false ∙ (starts_is Decides-eqb side (codes "refs/") c.starts_with.result
     c.starts_with.ensures.value).1 begins.after begins.here))
@@ -58,10 +60,12 @@ returns-else-starts_with-2 c = by c.starts_with-else-starts_with-2.result refl
     ))
     by false is = not_full side (λ same. false≢true (sym c.if-eq.false ∙ (slice_eq-Decides Decides-eqb side
         c.as_slice.result.now c.eq.result c.eq.ensures).1 (same ∙ sym c.as_slice.ensures)))
-        (λ begins. false≢true (sym c.if-starts_with.false ∙ (starts_is Decides-eqb side (codes "refs/") c.starts_with.result
+        (λ begins. false≢true
+        (sym c.if-starts_with.false ∙ (starts_is Decides-eqb side (codes "refs/") c.starts_with.result
         c.starts_with.ensures.value).1 begins.after begins.here))
         (λ before after whole lacks begins.
-        let same : before ≡ start = (first_once star before start after c.in-Some.field-0-1.now lacks c.in-Some.ensures.1
+        let same : before ≡ start =
+        (first_once star before start after c.in-Some.field-0-1.now lacks c.in-Some.ensures.1
         (sym whole ∙ c.in-Some.ensures.0)).0 in
         elim begins [
           | inl b ↦ false≢true (sym c.if-starts_with-2.false ∙ (starts_is Decides-eqb (codes "refs/") start

@@ -10,5 +10,6 @@ returns-in-Some c =
     let inside = ltb-true _ _ (sym c.in-Some.ensures.lookup.0) in
     excludes_at c.args.group.now.specs.items c.args.index c.in-Some.spec.now c.may_exclude.result
     (omega (arith, inside, ap length c.deref.ensures.value))
-    (c.in-Some.ensures.lookup.1 ∙ ap (λ (l : List RefSpecRef). get_or l c.args.index c.in-Some.spec.now) c.deref.ensures.value)
+    (c.in-Some.ensures.lookup.1 ∙ ap (λ (l : List RefSpecRef). get_or l c.args.index c.in-Some.spec.now)
+    c.deref.ensures.value)
     c.may_exclude.ensures

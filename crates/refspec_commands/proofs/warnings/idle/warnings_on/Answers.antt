@@ -14,11 +14,13 @@ abbrev none : IdleSpec
 none = record { spec_index = 0; reason = reason.Invalid; is_required = false }
 
 pub warning_on-requires-clause-inside : goal.warning_on-requires-clause-inside
-warning_on-requires-clause-inside c = all_mapped_or (IsInside (length c.args.group.now.texts.items)) unused_of c.args.idle.now
+warning_on-requires-clause-inside c = all_mapped_or (IsInside (length c.args.group.now.texts.items)) unused_of
+    c.args.idle.now
     c.loop-spec.spec-index none c.requires.inside c.loop-spec-test.true
 
 pub loop-spec-preserved : goal.loop-spec-preserved
-loop-spec-preserved c = zip_mapped_or (IsIdleSaid (map given_of c.args.group.now.texts.items)) unused_of said_of c.args.idle.now
+loop-spec-preserved c = zip_mapped_or (IsIdleSaid (map given_of c.args.group.now.texts.items)) unused_of said_of
+    c.args.idle.now
     c.loop-spec.spec-index none c.loop-spec.warnings.items c.push.new.self.items c.in_ok-warning_on.field-0
     c.loop-spec-test.true c.loop-spec.invariant c.in_ok-warning_on.ensures c.in_ok-push.ensures.items
 

@@ -6,7 +6,8 @@ use Rattle.refspec_io.proofs.RefLemmas.{ListsNamesSoFar}
 use Rattle.refspec_io.proofs.refs.RefList.read.Given as goal
 
 abbrev pub invariant-loop-rest : goal.invariant-loop-rest
-invariant-loop-rest l = ListsNamesSoFar l.end (map ref_of l.reported.items.items) (map bad_bytes l.reported.bad.items) l.rest l.input
+invariant-loop-rest l = ListsNamesSoFar l.end (map ref_of l.reported.items.items) (map bad_bytes l.reported.bad.items)
+    l.rest l.input
 
 abbrev pub decreases-loop-rest : goal.decreases-loop-rest
 decreases-loop-rest l = length l.rest

@@ -10,5 +10,6 @@ use Rattle.refspec_json.proofs.mappings.Conflict.write_line.Goals as goal
 pub returns : goal.returns
 returns c =
     let whole : has_float (view c.in_ok-object.field-0) ≡ false =
-    rw c.in_ok-object.ensures (no_float-conflict c.args.self.now.destination.now (map claim_texts c.args.self.now.sources.now)) in
+    rw c.in_ok-object.ensures
+    (no_float-conflict c.args.self.now.destination.now (map claim_texts c.args.self.now.sources.now)) in
     grind (arith, common_steps)

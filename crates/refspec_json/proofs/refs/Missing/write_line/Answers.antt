@@ -9,5 +9,7 @@ use Rattle.refspec_json.proofs.refs.Missing.write_line.Goals as goal
 pub returns : goal.returns
 returns c =
     let whole : has_float (view c.in_ok-object.field-0) ≡ false =
-    rw c.in_ok-object.ensures (no_float-missing c.args.self.now.spec.now c.args.self.now.origin.now c.args.self.now.message.now (map string_bytes c.args.self.now.names.now) c.args.self.now.more) in
+    rw c.in_ok-object.ensures
+    (no_float-missing c.args.self.now.spec.now c.args.self.now.origin.now c.args.self.now.message.now
+    (map string_bytes c.args.self.now.names.now) c.args.self.now.more) in
     grind (arith, common_steps)

@@ -10,5 +10,6 @@ use Rattle.refspec_json.proofs.warnings.Warning.write_line.Goals as goal
 pub returns : goal.returns
 returns c =
     let whole : has_float (view c.in_ok-object.field-0) ≡ false =
-    rw c.in_ok-object.ensures (no_float-warning c.args.self.now.name.now c.args.self.now.location.now (map warned_texts c.args.self.now.specs.now) c.args.self.now.message.now c.args.self.now.advice.now) in
+    rw c.in_ok-object.ensures (no_float-warning c.args.self.now.name.now c.args.self.now.location.now
+    (map warned_texts c.args.self.now.specs.now) c.args.self.now.message.now c.args.self.now.advice.now) in
     grind (arith, common_steps)

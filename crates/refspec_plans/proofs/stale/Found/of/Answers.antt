@@ -6,4 +6,6 @@ use Rattle.refspec_plans.proofs.StaleLemmas.{AreParted-next}
 use Rattle.refspec_plans.proofs.stale.Found.of.Goals as goal
 
 pub loop-one-preserved : goal.loop-one-preserved
-loop-one-preserved c = AreParted-next (map bstring_bytes c.args.texts.now) (map ref_of c.args.local.now) c.args.stale.now c.loop-one.one-index _ c.loop-one.found c.add.new.self c.loop-one-test.true c.loop-one.invariant c.in_ok-add.ensures
+loop-one-preserved c = AreParted-next (map bstring_bytes c.args.texts.now) (map ref_of c.args.local.now)
+    c.args.stale.now c.loop-one.one-index _ c.loop-one.found c.add.new.self c.loop-one-test.true c.loop-one.invariant
+    c.in_ok-add.ensures

@@ -7,4 +7,5 @@ use Rattle.refspec_plans.specs.Stale.{AreParted}
 use Rattle.refspec_plans.proofs.stale.Found.of.Given as goal
 
 abbrev pub invariant-loop-one : goal.invariant-loop-one
-invariant-loop-one l = AreParted (map bstring_bytes l.texts) (map ref_of l.local) (map found_of (take l.one-index l.stale)) l.found
+invariant-loop-one l = AreParted (map bstring_bytes l.texts) (map ref_of l.local)
+    (map found_of (take l.one-index l.stale)) l.found

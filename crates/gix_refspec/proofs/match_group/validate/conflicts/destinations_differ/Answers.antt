@@ -1,7 +1,10 @@
-use Rattle.gix_refspec.proofs.{Common.{◌≡◌, length, sym, ◌∙◌, arith, eqb-true}, lemmas.validate.FirstLemmas.{none_contested}}
+use Rattle.gix_refspec.proofs.Common.{◌≡◌, length, sym, ◌∙◌, arith, eqb-true}
+use Rattle.gix_refspec.proofs.lemmas.validate.FirstLemmas.{none_contested}
 
 pub returns : Rattle.gix_refspec.proofs.match_group.validate.conflicts.destinations_differ.Goals.returns
 returns c is_so =
     let flags = c.in_ok-flags.flags in
-    let none : length flags.items ≡ 0 = (let empty = eqb-true _ _ (sym c.is_empty.ensures ∙ is_so) in omega (arith, empty, flags.ok.0, flags.ok.1)) in
-    none_contested _ c.as_slice.result.now flags.items (rw (← c.as_slice.ensures.value) at c.in_ok-destinations.ensures) c.in_ok-flags.ensures.ok none
+    let none : length flags.items ≡ 0 =
+    (let empty = eqb-true _ _ (sym c.is_empty.ensures ∙ is_so) in omega (arith, empty, flags.ok.0, flags.ok.1)) in
+    none_contested _ c.as_slice.result.now flags.items (rw (← c.as_slice.ensures.value) at c.in_ok-destinations.ensures)
+    c.in_ok-flags.ensures.ok none

@@ -4,7 +4,8 @@ use Rattle.refspec_commands.proofs.SeenLemmas.{IsGroup-bad, IsGroup-good}
 use Rattle.refspec_commands.proofs.warnings.group.Group.add.Goals as goal
 
 pub returns-in_ok-push-in-Good-2 : goal.returns-in_ok-push-in-Good-2
-returns-in_ok-push-in-Good-2 c seen is = rw c.in-Good.is (IsGroup-good seen c.args.self.now _ c.in-Good.text c.in-Good.spec is
+returns-in_ok-push-in-Good-2 c seen is =
+    rw c.in-Good.is (IsGroup-good seen c.args.self.now _ c.in-Good.text c.in-Good.spec is
     c.in_ok-push-in-Good.ensures.items c.in_ok-push-in-Good-2.ensures.items refl)
 
 pub returns-in-Bad : goal.returns-in-Bad
