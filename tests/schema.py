@@ -1,8 +1,8 @@
 #!/usr/bin/env python3
 """Holds each JSON line of the samples of refspec and git refspec against docs/refspec.schema.json: tests/schema.py
 
-Each object of the schema has to occur, with each of its members and each value that the schema lists. Left out where
-there is no Python package jsonschema, which Debian has as python3-jsonschema.
+Each object of the schema has to occur, with each of its members and each value that the schema lists, and none may have
+other members. Left out where there is no Python package jsonschema, which Debian has as python3-jsonschema.
 """
 import json
 import os
@@ -28,21 +28,32 @@ def unescaped(line):
 
 
 def objects(name, call, is_escaped):
-    """The JSON lines that the calls of a sample print, each with its number and its object."""
+    """The lines that the calls of a sample with --json print, each with its number and its object. Of a call whose
+    lines another command reads, only those that are objects."""
     with open(os.path.join(HERE, "samples", name), "rb") as file:
-        is_json = False
+        is_json, is_piped = False, False
         for number, line in enumerate(file, 1):
             if line.startswith(call):
-                is_json = b"--json" in line
-            elif is_json and line.startswith(b"> {"):
-                yield number, json.loads(unescaped(line[2:]) if is_escaped else line[2:])
+                is_json, is_piped = b"--json" in line.split(b" -- ")[0], b"|" in line
+            elif is_json and line.startswith(b"> {" if is_piped else b">"):
+                yield number, object_of(name, number, unescaped(line[2:]) if is_escaped else line[2:])
+
+
+def object_of(name, number, text):
+    try:
+        return json.loads(text)
+    except ValueError:
+        fail(f"{name}:{number}: not JSON: {text!r}")
 
 
 def listed(schema, path=()):
     """The members of a part of a schema and the values that it lists, each behind the members that lead to it."""
+    if "properties" in schema and schema.get("additionalProperties") is not False:
+        fail(f"the schema allows other members than {list(schema['properties'])}")
     for name, part in schema.get("properties", {}).items():
         yield *path, name
-        for value in part.get("enum", [part["const"]] if "const" in part else []):
+        values = part.get("enum", [part["const"]] if "const" in part else [])
+        for value in values + ([None] if "null" in part.get("type", []) else []):
             yield *path, name, value
         yield from listed(part.get("items", {}), (*path, name))
 
