@@ -126,6 +126,8 @@ def check_summary(program):
             (["--tags", "refs/heads/*:refs/o/*", "^refs/heads/wip/*"],
              b"3 refs by 2 specs; 1 left out by negative specs\n"),
             (["1" * 40], b"1 ref by 1 spec\n"),
+            (["--merge", "refs/heads/a"], b"1 ref by 1 spec\n"),
+            (["--merge", "refs/heads/a", "refs/heads/b:refs/o/b"], b"1 ref by 1 spec\n"),
             (["refs/x/*:refs/y/*"], b"0 refs by 0 specs\n"),
             (["-z", "--read-z", "refs/x/*:refs/y/*"], None),
             (["--json", "refs/heads/*:refs/o/*"], None),
@@ -133,6 +135,12 @@ def check_summary(program):
         told = told_on_terminal([program, "plan", *words], refs)
         if told != wanted and (wanted is not None or re.search(rb"refs? by [0-9]", told)):
             sys.exit(f"tests/refspec.py: plan {words} on a terminal: {told!r}")
+    with tempfile.NamedTemporaryFile() as file:
+        file.write(b"refs/heads/b:refs/o/b\n")
+        file.flush()
+        told = told_on_terminal([program, "plan", "--configured", file.name, "--merge", "refs/heads/a"], refs)
+    if told != b"2 refs by 2 specs\n":
+        sys.exit(f"tests/refspec.py: a plan of a value and of what a branch merges on a terminal: {told!r}")
     told = told_on_terminal([program, "plan", "refs/heads/*:refs/o/*"], refs + f"{ID}\trefs/heads/a..b\n".encode())
     if not told.endswith(b"\n3 refs by 1 spec; 1 left out for an invalid name\n"):
         sys.exit(f"tests/refspec.py: a plan with an invalid name on a terminal: {told!r}")
