@@ -17,12 +17,11 @@ use super::group::Group;
 use super::required::{Part, required_name, say_if_stopped};
 use super::{Topic, Warning, or_nothing, say};
 use bstr::BStr;
-use gix_refspec::match_group::Source;
+use gix_refspec::match_group::{MapName, Source};
 use gix_refspec::parsing::{Error, Operation};
 use gix_refspec::{RefSpecRef, parse};
 use gix_refspec_lint::{PossibleConflict, idle_specs, possible_conflicts};
 use gix_refspec_match::exclusions::Exclusions;
-use gix_refspec_match::needle::word_between;
 use gix_refspec_text::side::{joined, split_at_first_star};
 use refspec_io::call::Form;
 use refspec_io::counts::reported_count;
@@ -280,11 +279,11 @@ struct Exclusion {
 }
 
 // A negative spec that prevents the conflict of two specs of a group, and leaves something to each spec.
-fn exclusion_for(
+fn exclusion_for<'s>(
     alloc: Global,
-    group: &Group<'_>,
-    spec: &RefSpecRef<'_>,
-    other: &RefSpecRef<'_>,
+    group: &Group<'s>,
+    spec: &RefSpecRef<'s>,
+    other: &RefSpecRef<'s>,
     conflict: &PossibleConflict,
 ) -> Result<Option<Exclusion>, AllocError> {
     let destination = conflict.destination.as_bstr().as_bytes();
@@ -295,11 +294,11 @@ fn exclusion_for(
 }
 
 // The same by sources of the first spec.
-fn exclusion_of(
+fn exclusion_of<'s>(
     alloc: Global,
-    group: &Group<'_>,
-    spec: &RefSpecRef<'_>,
-    other: &RefSpecRef<'_>,
+    group: &Group<'s>,
+    spec: &RefSpecRef<'s>,
+    other: &RefSpecRef<'s>,
     destination: &[u8],
 ) -> Result<Option<Exclusion>, AllocError> {
     match narrowing(alloc, spec, other, destination)? {
@@ -314,25 +313,14 @@ fn exclusion_of(
 }
 
 // The texts of negative specs for the sources that a pattern maps to directories of all that another pattern writes.
-fn directory_exclusions(
+fn directory_exclusions<'s>(
     alloc: Global,
-    group: &Group<'_>,
-    spec: &RefSpecRef<'_>,
-    other: &RefSpecRef<'_>,
+    group: &Group<'s>,
+    spec: &RefSpecRef<'s>,
+    other: &RefSpecRef<'s>,
 ) -> Result<Vec<Vec<u8>>, AllocError> {
     let mut texts = Vec::new(alloc);
-    let (Some(source), Some(own), Some(others)) = (
-        spec.source(),
-        spec.destination(),
-        other.destination(),
-    ) else {
-        return Ok(texts);
-    };
-    let (Some((prefix, suffix)), Some((before, after)), Some((folder, _))) = (
-        split_at_first_star(source.as_bytes()),
-        split_at_first_star(own.as_bytes()),
-        split_at_first_star(others.as_bytes()),
-    ) else {
+    let Some((folder, _)) = destination_parts(other) else {
         return Ok(texts);
     };
     let exclusions = Exclusions::of(alloc, group.specs.as_slice())?;
@@ -342,12 +330,10 @@ fn directory_exclusions(
         if !rest.starts_with(b"/") {
             continue;
         }
-        let Some(word) = word_between(before, after, directory) else {
-            continue;
-        };
-        let text = negative_of(alloc, prefix, word, suffix)?;
-        if is_of_use(alloc, &exclusions, specs.as_slice(), text.as_slice())? {
-            texts.push(text)?;
+        if let Some(text) = negative_of(alloc, spec, directory)? {
+            if is_of_use(alloc, &exclusions, specs.as_slice(), text.as_slice())? {
+                texts.push(text)?;
+            }
         }
     }
     Ok(texts)
@@ -367,18 +353,18 @@ pub(super) fn tried_specs<'s>(
     Vec::from_slice(alloc, group.specs.as_slice())
 }
 
-// The text of a negative spec for a source with a word in the place of its star.
+// The text of a negative spec for the source that a spec maps to a name, which may have a star. `None` if it maps none to it.
 fn negative_of(
     alloc: Global,
-    prefix: &[u8],
-    word: &[u8],
-    suffix: &[u8],
-) -> Result<Vec<u8>, AllocError> {
-    let mut text = Vec::from_slice(alloc, b"^")?;
-    text.extend_from_slice(prefix)?;
-    text.extend_from_slice(word)?;
-    text.extend_from_slice(suffix)?;
-    Ok(text)
+    spec: &RefSpecRef<'_>,
+    name: &[u8],
+) -> Result<Option<Vec<u8>>, AllocError> {
+    let Some(mapping) = spec.map_back(alloc, BStr::new(name))? else {
+        return Ok(None);
+    };
+    let mut buffer = Vec::new(alloc);
+    let source = source_of(&mapping.lhs, &mut buffer)?;
+    Ok(Some(joined(alloc, b"^", source, b"")?.into_vec()))
 }
 
 // Whether a negative spec excludes a name that isn't excluded yet, and makes none of these specs idle.
@@ -406,32 +392,29 @@ fn narrowing(
     other: &RefSpecRef<'_>,
     destination: &[u8],
 ) -> Result<Option<Vec<u8>>, AllocError> {
-    let (Some(source), Some(own), Some(others)) = (
-        spec.source(),
-        spec.destination(),
-        other.destination(),
-    ) else {
+    let Some((before, after)) = destination_parts(spec) else {
         return Ok(None);
     };
-    let (Some((prefix, suffix)), Some((before, after))) = (
-        split_at_first_star(source.as_bytes()),
-        split_at_first_star(own.as_bytes()),
-    ) else {
-        return Ok(None);
+    let Some((other_before, other_after)) = destination_parts(other) else {
+        return negative_of(alloc, spec, destination);
     };
-    match split_at_first_star(others.as_bytes()) {
-        None => match word_between(before, after, destination) {
-            None => Ok(None),
-            Some(word) => Ok(Some(negative_of(alloc, prefix, word, suffix)?)),
-        },
-        Some((other_before, other_after)) => {
-            let start = other_before.strip_prefix(before).unwrap_or(b"");
-            let end = other_after.strip_suffix(after).unwrap_or(b"");
-            let word = joined(alloc, start, b"*", end)?;
-            let text = negative_of(alloc, prefix, word.as_bstr().as_bytes(), suffix)?;
-            Ok(Some(text))
-        }
-    }
+    let start = if other_before.starts_with(before) {
+        other_before
+    } else {
+        before
+    };
+    let end = if other_after.ends_with(after) {
+        other_after
+    } else {
+        after
+    };
+    let both = joined(alloc, start, b"*", end)?;
+    negative_of(alloc, spec, both.as_bstr().as_bytes())
+}
+
+// The texts before and after the star of a destination, if that is a pattern.
+fn destination_parts<'s>(spec: &RefSpecRef<'s>) -> Option<(&'s [u8], &'s [u8])> {
+    split_at_first_star(spec.destination()?.as_bytes())
 }
 
 // A text as a negative spec, if it is a spec.
