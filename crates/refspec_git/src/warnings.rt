@@ -1,10 +1,10 @@
 //! The warnings of `git refspec check`: those of `refspec check`, and those on remotes and their other settings.
 
 use bstr::BStr;
+use gix_refspec::match_group::{MapName, Mapping, NameRef, SourceRef};
 use gix_refspec::parsing::{Error, Operation};
 use gix_refspec::{RefSpecRef, parse};
 use gix_refspec_match::exclusions::Exclusions;
-use gix_refspec_match::needle::word_between;
 use gix_refspec_text::side::{joined, split_at_first_star};
 use refspec_commands::warnings::beside::{Beside, Tags};
 use refspec_commands::warnings::{Topic, Warning, say, write_warnings_on};
@@ -56,7 +56,37 @@ struct Value<'a> {
     spec: RefSpecRef<'a>,
 }
 
-impl Value<'_> {
+impl<'a> Value<'a> {
+    // The source that is written to a name. `None` if none is. Sides without a star are compared as they are written, as Git does
+    // when it prunes.
+    fn source_of(&self, alloc: Global, name: &[u8]) -> Result<Option<NameRef<'a>>, AllocError> {
+        let (Some(source), Some(destination)) = (self.spec.source(), self.spec.destination()) else {
+            return Ok(None);
+        };
+        if self.destination_parts().is_none() {
+            let is_written = destination.as_bytes() == name;
+            return Ok(if is_written {
+                Some(NameRef::Borrowed(source))
+            } else {
+                None
+            });
+        }
+        match self.spec.map_back(alloc, BStr::new(name))? {
+            Some(
+                Mapping {
+                    lhs: SourceRef::FullName(full),
+                    ..
+                },
+            ) => Ok(Some(full)),
+            _ => Ok(None),
+        }
+    }
+
+    // The texts before and after the star of its destination, if that is a pattern.
+    fn destination_parts(&self) -> Option<(&'a [u8], &'a [u8])> {
+        split_at_first_star(self.spec.destination()?.as_bytes())
+    }
+
     // Whether its destination is below `refs/tags/`.
     fn writes_tags(&self) -> bool {
         match self.spec.destination() {
@@ -385,14 +415,7 @@ fn pruned_below(
     folder: &[u8],
     words: &[&[u8]],
 ) -> Result<Option<Vec<u8>>, AllocError> {
-    let Some(
-        Target {
-            before,
-            after: Some(after),
-            ..
-        },
-    ) = Target::of(0, *value)
-    else {
+    let Some((before, after)) = value.destination_parts() else {
         return Ok(None);
     };
     let start = if before.starts_with(folder) {
@@ -415,11 +438,9 @@ fn pruned_below(
 fn is_kept(alloc: Global, remote: &Remote<'_>, name: &[u8]) -> Result<bool, AllocError> {
     let exclusions = remote.exclusions(alloc)?;
     for value in &remote.values {
-        if let Some(target) = Target::of(0, *value) {
-            if let Some(source) = target.source_of(alloc, name)? {
-                if exclusions.spec_of(source.as_slice()).is_some() {
-                    return Ok(true);
-                }
+        if let Some(source) = value.source_of(alloc, name)? {
+            if exclusions.spec_of(source.as_bstr().as_bytes()).is_some() {
+                return Ok(true);
             }
         }
     }
@@ -540,28 +561,6 @@ impl<'a> Target<'a> {
             Some(_) => before.starts_with(self.before),
         }
     }
-
-    // The source that is written to a name, which it matches; `None` if it doesn't.
-    fn source_of(&self, alloc: Global, name: &[u8]) -> Result<Option<Vec<u8>>, AllocError> {
-        let (Some(source), Some(after)) = (self.value.spec.source(), self.after) else {
-            return match self.value.spec.source() {
-                Some(source) if self.before == name => {
-                    Ok(Some(Vec::from_slice(alloc, source.as_bytes())?))
-                }
-                _ => Ok(None),
-            };
-        };
-        let (Some(word), Some((prefix, suffix))) = (
-            word_between(self.before, after, name),
-            split_at_first_star(source.as_bytes()),
-        ) else {
-            return Ok(None);
-        };
-        let mut full = Vec::from_slice(alloc, prefix)?;
-        full.extend_from_slice(word)?;
-        full.extend_from_slice(suffix)?;
-        Ok(Some(full))
-    }
 }
 
 // With so many of the nearest destinations above it a destination is compared.
@@ -667,8 +666,8 @@ fn shared_name(
 ) -> Result<Option<Vec<u8>>, AllocError> {
     let Some(after) = other.after else {
         let name = Vec::from_slice(alloc, other.before)?;
-        let is_shared = writes(alloc, first, one, name.as_slice())?
-            && writes(alloc, second, other, name.as_slice())?;
+        let is_shared = writes(alloc, first, &one.value, name.as_slice())?
+            && writes(alloc, second, &other.value, name.as_slice())?;
         return Ok(if is_shared { Some(name) } else { None });
     };
     let longer = match one.after {
@@ -677,8 +676,8 @@ fn shared_name(
     };
     for word in BRANCHES {
         let name = joined(alloc, other.before, word, longer)?.into_vec();
-        if writes(alloc, first, one, name.as_slice())?
-            && writes(alloc, second, other, name.as_slice())?
+        if writes(alloc, first, &one.value, name.as_slice())?
+            && writes(alloc, second, &other.value, name.as_slice())?
         {
             return Ok(Some(name));
         }
@@ -690,16 +689,12 @@ fn shared_name(
 fn writes(
     alloc: Global,
     remote: &Remote<'_>,
-    target: &Target<'_>,
+    value: &Value<'_>,
     name: &[u8],
 ) -> Result<bool, AllocError> {
-    let Some(source) = target.source_of(alloc, name)? else {
+    let Some(source) = value.source_of(alloc, name)? else {
         return Ok(false);
     };
-    Ok(
-        remote
-            .exclusions(alloc)?
-            .spec_of(source.as_slice())
-            .is_none(),
-    )
+    let exclusions = remote.exclusions(alloc)?;
+    Ok(exclusions.spec_of(source.as_bstr().as_bytes()).is_none())
 }
