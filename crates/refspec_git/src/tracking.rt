@@ -1,12 +1,12 @@
 //! What `git refspec track` reports: from which refs of which remotes tracking refs are fetched.
 
 use crate::answer::{Answer, Machine, Stop};
-use crate::sources::{Names, Sources};
 use bstr::{BStr, ByteSlice};
 use gix_refspec::match_group::Item;
 use gix_refspec::oid::{Kind, ObjectId};
 use gix_refspec::parsing::{Error, Operation};
 use gix_refspec::{RefSpecRef, name, parse};
+use gix_refspec_match::exclusions::Exclusions;
 use gix_refspec_text::side::{candidates, joined};
 use refspec_commands::tracking::answer::{Found, Looked, answer_to};
 use refspec_commands::tracking::question::{Order, Question, Remote};
@@ -407,19 +407,11 @@ fn is_left_out<'a>(
     remote: &'a [u8],
     branch: &[u8],
 ) -> Result<bool, AllocError> {
-    let mut sources = Sources::new(alloc);
-    if let Some(values) = values.get(&remote) {
-        for value in values {
-            let text = value.value.unwrap_or(b"");
-            sources.add(alloc, text, false)?;
-        }
-    }
+    let Some(values) = values.get(&remote) else {
+        return Ok(false);
+    };
+    let specs = specs_of(alloc, values.as_slice())?;
+    let exclusions = Exclusions::of(alloc, specs.as_slice())?;
     let source = joined(alloc, b"refs/heads/", branch, b"")?;
-    let names = Names::of_one(alloc, source.as_bytes())?;
-    for source in &sources.list {
-        if source.is_negative() && source.takes_some(alloc, &names)? {
-            return Ok(true);
-        }
-    }
-    Ok(false)
+    Ok(exclusions.spec_of(source.as_bytes()).is_some())
 }
