@@ -2,9 +2,11 @@
 
 use crate::objects::write_spec_note;
 use bstr::{BStr, ByteSlice};
+use gix_refspec::match_group::MapName;
 use gix_refspec::oid::ObjectId;
 use gix_refspec::parsing::{Error, Operation};
 use gix_refspec::{RefSpecRef, parse};
+use gix_refspec_match::needle::word_between;
 use gix_refspec_text::side::candidates;
 use refspec_io::input::records;
 use std::alloc::{AllocError, Global};
@@ -32,13 +34,6 @@ impl<'a> Names<'a> {
         Ok(Names { sorted })
     }
 
-    /// A single ref name. Fails if memory runs out.
-    pub fn of_one(alloc: Global, name: &'a [u8]) -> Result<Names<'a>, AllocError> {
-        let mut sorted = Vec::new(alloc);
-        sorted.push(name)?;
-        Ok(Names { sorted })
-    }
-
     /// Whether this is one of the names.
     pub fn has(&self, name: &[u8]) -> bool {
         self.sorted.binary_search(&name).is_ok()
@@ -46,12 +41,11 @@ impl<'a> Names<'a> {
 
     // Whether a name begins with one text and ends with another, without overlap.
     fn has_between(&self, before: &[u8], after: &[u8]) -> bool {
-        let least = before.len().saturating_add(after.len());
         let first = self.sorted.partition_point(|name| *name < before);
         self.sorted[first..]
             .iter()
             .take_while(|name| name.starts_with(before))
-            .any(|name| name.len() >= least && name.ends_with(after))
+            .any(|name| word_between(before, after, name).is_some())
     }
 }
 
@@ -112,7 +106,7 @@ impl<'a> Sources<'a> {
             let name = candidate.as_bytes();
             if name != partial && names.has(name) {
                 for source in &self.list {
-                    if !source.is_negative() && source.takes(alloc, name, names)? {
+                    if !source.spec.is_negative() && source.takes(alloc, name, names)? {
                         return Ok(true);
                     }
                 }
@@ -132,11 +126,6 @@ pub struct Source<'a> {
 }
 
 impl Source<'_> {
-    /// Whether the spec is negative.
-    pub fn is_negative(&self) -> bool {
-        self.spec.is_negative()
-    }
-
     /// Whether Git fetches nothing at all if this matches no ref.
     pub fn is_needed(&self) -> bool {
         !self.may_lack && !self.spec.is_negative() && self.side.find_byte(b'*').is_none()
@@ -160,7 +149,7 @@ impl Source<'_> {
     // Whether it matches this name, as one of several. A name without a star matches its first candidate alone.
     fn takes(&self, alloc: Global, name: &[u8], names: &Names<'_>) -> Result<bool, AllocError> {
         if self.side.find_byte(b'*').is_some() {
-            return self.takes_some(alloc, &Names::of_one(alloc, name)?);
+            return Ok(self.spec.map(alloc, BStr::new(name))?.is_some());
         }
         for candidate in candidates(alloc, self.side)? {
             if names.has(candidate.as_bytes()) {
