@@ -73,7 +73,11 @@ fn maps_one_name(rt: HostRuntime) -> Result<(), Fail> {
     for (text, name, expected) in ROWS {
         let spec = parse(alloc, BStr::new(text.as_bytes()), Operation::Fetch)?;
         let mapping = spec.map(alloc, BStr::new(name.as_bytes()))?;
-        assert_eq!(rt; line(alloc, &mapping)?.as_str(), *expected, "{name} by {text}");
+        assert_eq!(rt;
+            line(alloc, &mapping)?.as_str(),
+            *expected,
+            "{name} by {text}"
+        );
     }
     Ok(())
 }
@@ -105,7 +109,11 @@ fn maps_one_name_back(rt: HostRuntime) -> Result<(), Fail> {
     for (text, name, expected) in ROWS {
         let spec = parse(alloc, BStr::new(text.as_bytes()), Operation::Fetch)?;
         let mapping = spec.map_back(alloc, BStr::new(name.as_bytes()))?;
-        assert_eq!(rt; line(alloc, &mapping)?.as_str(), *expected, "{name} by {text}");
+        assert_eq!(rt;
+            line(alloc, &mapping)?.as_str(),
+            *expected,
+            "{name} by {text}"
+        );
     }
     Ok(())
 }
