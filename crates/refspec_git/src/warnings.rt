@@ -1,7 +1,7 @@
 //! The warnings of `git refspec check`: those of `refspec check`, and those on remotes and their other settings.
 
 use bstr::BStr;
-use gix_refspec::match_group::{MapName, Mapping, NameRef, SourceRef};
+use gix_refspec::match_group::{MapName, SourceRef};
 use gix_refspec::parsing::{Error, Operation};
 use gix_refspec::{RefSpecRef, parse};
 use gix_refspec_match::exclusions::Exclusions;
@@ -59,26 +59,24 @@ struct Value<'a> {
 impl<'a> Value<'a> {
     // The source that is written to a name. `None` if none is. Sides without a star are compared as they are written, as Git does
     // when it prunes.
-    fn source_of(&self, alloc: Global, name: &[u8]) -> Result<Option<NameRef<'a>>, AllocError> {
+    fn source_of(&self, alloc: Global, name: &[u8]) -> Result<Option<Vec<u8>>, AllocError> {
         let (Some(source), Some(destination)) = (self.spec.source(), self.spec.destination()) else {
             return Ok(None);
         };
         if self.destination_parts().is_none() {
-            let is_written = destination.as_bytes() == name;
-            return Ok(if is_written {
-                Some(NameRef::Borrowed(source))
-            } else {
-                None
-            });
+            if destination.as_bytes() != name {
+                return Ok(None);
+            }
+            return Ok(Some(Vec::from_slice(alloc, source.as_bytes())?));
         }
-        match self.spec.map_back(alloc, BStr::new(name))? {
-            Some(
-                Mapping {
-                    lhs: SourceRef::FullName(full),
-                    ..
-                },
-            ) => Ok(Some(full)),
-            _ => Ok(None),
+        let Some(mapping) = self.spec.map_back(alloc, BStr::new(name))? else {
+            return Ok(None);
+        };
+        match &mapping.lhs {
+            SourceRef::FullName(full) => {
+                Ok(Some(Vec::from_slice(alloc, full.as_bstr().as_bytes())?))
+            }
+            SourceRef::ObjectId(_) => Ok(None),
         }
     }
 
@@ -439,7 +437,7 @@ fn is_kept(alloc: Global, remote: &Remote<'_>, name: &[u8]) -> Result<bool, Allo
     let exclusions = remote.exclusions(alloc)?;
     for value in &remote.values {
         if let Some(source) = value.source_of(alloc, name)? {
-            if exclusions.spec_of(source.as_bstr().as_bytes()).is_some() {
+            if exclusions.spec_of(source.as_slice()).is_some() {
                 return Ok(true);
             }
         }
@@ -696,5 +694,5 @@ fn writes(
         return Ok(false);
     };
     let exclusions = remote.exclusions(alloc)?;
-    Ok(exclusions.spec_of(source.as_bstr().as_bytes()).is_none())
+    Ok(exclusions.spec_of(source.as_slice()).is_none())
 }
