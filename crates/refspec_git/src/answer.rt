@@ -11,7 +11,7 @@ use refspec_io::fault::Fault;
 use refspec_io::input::records;
 use refspec_io::settings::{Setting, settings_of};
 use refspec_plans::plan::Discard;
-use refspec_request::arguments::{Command, Request, Wish, wish_of};
+use refspec_request::arguments::{Purpose, Request, Subcommand, purpose_of};
 use refspec_request::ask::{ARGUMENTS, CONFIG, FOLDER, GitCall, HEAD};
 use refspec_request::booleans::{
     Boolean, boolean_of, is_boolean_of_fetches, is_boolean_of_remotes,
@@ -115,12 +115,12 @@ pub fn answer_call<M: Machine, D: Discard>(
         return Err(Fault::Read);
     };
     let arguments = records(alloc, arguments.as_slice(), 0)?;
-    match wish_of(alloc, arguments.as_slice()) {
+    match purpose_of(alloc, arguments.as_slice()) {
         Err(refusal) => refused(alloc, &refusal),
-        Ok(Wish::Usage) => shown(alloc, &[USAGE, OPTIONS]),
-        Ok(Wish::Version) => shown(alloc, &[VERSION]),
-        Ok(Wish::Manual) => asks(alloc, &[GitCall::Manual]),
-        Ok(Wish::Request(request)) => answer_request(alloc, machine, &request, done),
+        Ok(Purpose::Usage) => shown(alloc, &[USAGE, OPTIONS]),
+        Ok(Purpose::Version) => shown(alloc, &[VERSION]),
+        Ok(Purpose::Manual) => asks(alloc, &[GitCall::Manual]),
+        Ok(Purpose::Request(request)) => answer_request(alloc, machine, &request, done),
     }
 }
 
@@ -235,7 +235,7 @@ fn answer_in<'a, M: Machine, D: Discard>(
     repository: &Repository<'a, 'a>,
     done: &mut D,
 ) -> Result<Answer, Stop<'a>> {
-    if request.command == Command::Check {
+    if request.command == Subcommand::Check {
         let mut reported = report_check(alloc, machine, request, repository, done)?;
         if checks_remotes(request, repository) {
             if let Some(refusal) = bad_boolean(request.command, repository.settings) {
@@ -252,7 +252,7 @@ fn answer_in<'a, M: Machine, D: Discard>(
         return Err(Stop::Refused(refusal));
     }
     match request.command {
-        Command::Track => report_tracking(alloc, machine, request, repository),
+        Subcommand::Track => report_tracking(alloc, machine, request, repository),
         command => {
             if fetches_nothing(request, repository) {
                 return nothing_to_fetch(alloc);
@@ -261,13 +261,13 @@ fn answer_in<'a, M: Machine, D: Discard>(
             if let Some(old) = repository.old_remote(choice.remote) {
                 return Err(Stop::Refused(old));
             }
-            if command == Command::Prefixes {
+            if command == Subcommand::Prefixes {
                 if !repository.may_fetch(choice.remote) {
                     return Err(Stop::Refused(Refusal::NoRemoteNoSpec(choice.remote)));
                 }
                 return report_prefixes(alloc, request, repository, &choice, done);
             }
-            if command == Command::Stale {
+            if command == Subcommand::Stale {
                 return report_stale(alloc, machine, request, repository, &choice, done);
             }
             report_plan(alloc, machine, request, repository, &choice, done)
@@ -284,10 +284,10 @@ fn checks_remotes<'a>(request: &Request<'a>, repository: &Repository<'a, 'a>) ->
 }
 
 // The first setting that Git stops at, as it isn't a boolean. `git branch --track` doesn't read those of a fetch.
-fn bad_boolean<'a>(command: Command, settings: &[Setting<'a>]) -> Option<Refusal<'a>> {
+fn bad_boolean<'a>(command: Subcommand, settings: &[Setting<'a>]) -> Option<Refusal<'a>> {
     for setting in settings {
         let is_read = is_boolean_of_remotes(setting)
-            || command != Command::Track && is_boolean_of_fetches(setting);
+            || command != Subcommand::Track && is_boolean_of_fetches(setting);
         if is_read && boolean_of(setting.value) == Boolean::Bad {
             return Some(Refusal::BadBoolean {
                 origin: setting.origin,

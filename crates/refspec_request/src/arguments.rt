@@ -8,7 +8,7 @@ use std::alloc::{AllocError, Global};
 
 /// The commands of `git refspec`.
 #[derive(Clone, Copy, Debug, PartialEq, Eq)]
-pub enum Command {
+pub enum Subcommand {
     /// Reports the refused values of remotes, or the refused specs.
     Check,
     /// Reports what a fetch writes.
@@ -23,7 +23,7 @@ pub enum Command {
 
 /// What the arguments ask for.
 #[derive(Debug, Drop)]
-pub enum Wish<'a> {
+pub enum Purpose<'a> {
     /// The usage.
     Usage,
     /// The manual page.
@@ -37,7 +37,7 @@ pub enum Wish<'a> {
 /// A command with its options and arguments.
 #[derive(Debug, Drop)]
 pub struct Request<'a> {
-    pub command: Command,
+    pub command: Subcommand,
     pub form: Form,
     /// Report valid values too.
     pub verbose: bool,
@@ -96,7 +96,7 @@ impl Request<'_> {
 
 /// Parses arguments, from which the result borrows. The first that isn't an option is the command. Fails with the
 /// refusal of a usage error, or with `Refusal::Memory`.
-pub fn wish_of<'a>(alloc: Global, arguments: &[&'a [u8]]) -> Result<Wish<'a>, Refusal<'a>> {
+pub fn purpose_of<'a>(alloc: Global, arguments: &[&'a [u8]]) -> Result<Purpose<'a>, Refusal<'a>> {
     let mut reading = Reading::new(alloc);
     for argument in arguments {
         reading.take(argument)?;
@@ -163,13 +163,13 @@ fn switch_lettered(letter: u8) -> Option<Switch> {
     }
 }
 
-fn command_named(name: &[u8]) -> Option<Command> {
+fn command_named(name: &[u8]) -> Option<Subcommand> {
     match name {
-        b"check" => Some(Command::Check),
-        b"plan" => Some(Command::Plan),
-        b"track" => Some(Command::Track),
-        b"prefixes" => Some(Command::Prefixes),
-        b"stale" => Some(Command::Stale),
+        b"check" => Some(Subcommand::Check),
+        b"plan" => Some(Subcommand::Plan),
+        b"track" => Some(Subcommand::Track),
+        b"prefixes" => Some(Subcommand::Prefixes),
+        b"stale" => Some(Subcommand::Stale),
         _ => None,
     }
 }
@@ -177,7 +177,7 @@ fn command_named(name: &[u8]) -> Option<Command> {
 // The arguments so far, parsed.
 #[derive(Drop)]
 struct Reading<'a> {
-    command: Option<Command>,
+    command: Option<Subcommand>,
     zeros: bool,
     json: bool,
     verbose: bool,
@@ -320,15 +320,15 @@ impl<'a> Reading<'a> {
     }
 
     // The result after the last argument. Refuses an option that the command doesn't take.
-    fn finish(self) -> Result<Wish<'a>, Refusal<'a>> {
+    fn finish(self) -> Result<Purpose<'a>, Refusal<'a>> {
         if self.usage {
-            return Ok(Wish::Usage);
+            return Ok(Purpose::Usage);
         }
         if self.manual {
-            return Ok(Wish::Manual);
+            return Ok(Purpose::Manual);
         }
         if self.version {
-            return Ok(Wish::Version);
+            return Ok(Purpose::Version);
         }
         let Some(command) = self.command else {
             return Err(Refusal::NoCommand);
@@ -342,21 +342,36 @@ impl<'a> Reading<'a> {
             return Err(Refusal::NoRemoteName);
         }
         for (is_given, option, taker, name) in [
-            (self.verbose, "-v", Command::Check, "check"),
-            (self.push, "--push", Command::Check, "check"),
-            (self.no_warnings, "--no-warnings", Command::Check, "check"),
-            (self.strict, "--strict", Command::Check, "check"),
-            (self.patterns, "--patterns", Command::Prefixes, "prefixes"),
-            (self.long, "--long", Command::Plan, "plan"),
-            (self.all, "--all", Command::Plan, "plan"),
-            (self.prune, "--prune", Command::Plan, "plan"),
-            (!self.refmap.is_empty(), "--refmap", Command::Plan, "plan"),
+            (self.verbose, "-v", Subcommand::Check, "check"),
+            (self.push, "--push", Subcommand::Check, "check"),
+            (
+                self.no_warnings,
+                "--no-warnings",
+                Subcommand::Check,
+                "check",
+            ),
+            (self.strict, "--strict", Subcommand::Check, "check"),
+            (
+                self.patterns,
+                "--patterns",
+                Subcommand::Prefixes,
+                "prefixes",
+            ),
+            (self.long, "--long", Subcommand::Plan, "plan"),
+            (self.all, "--all", Subcommand::Plan, "plan"),
+            (self.prune, "--prune", Subcommand::Plan, "plan"),
+            (
+                !self.refmap.is_empty(),
+                "--refmap",
+                Subcommand::Plan,
+                "plan",
+            ),
         ] {
             if is_given && command != taker {
                 return Err(Refusal::OptionElsewhere(option, name));
             }
         }
-        Ok(Wish::Request(Request {
+        Ok(Purpose::Request(Request {
             command,
             form: form_of(self.json, self.zeros),
             verbose: self.verbose,

@@ -2,7 +2,7 @@
 
 use refspec_io::call::Form;
 use refspec_io::settings::{Setting, settings_of};
-use refspec_request::arguments::{Command, Wish, wish_of};
+use refspec_request::arguments::{Purpose, Subcommand, purpose_of};
 use refspec_request::booleans::{Boolean, boolean_of, is_true};
 use refspec_request::choice::{Looks, looks_of};
 use refspec_request::refusal::Refusal;
@@ -111,10 +111,10 @@ fn distinguishes_specs_from_urls(rt: HostRuntime) {
 #[test]
 fn takes_options_and_words_in_any_order(rt: HostRuntime) -> Result<(), Fail> {
     let arguments: [&[u8]; 6] = [b"--json", b"plan", b"origin", b"-z", b"--remote=x", b"main"];
-    let Ok(Wish::Request(request)) = wish_of(rt.alloc(), &arguments) else {
+    let Ok(Purpose::Request(request)) = purpose_of(rt.alloc(), &arguments) else {
         return Err(Fail::from(AllocError));
     };
-    assert_eq!(rt; request.command, Command::Plan);
+    assert_eq!(rt; request.command, Subcommand::Plan);
     assert_eq!(rt; request.form, Form::Json);
     assert_eq!(rt; request.remote, Some(b"x".as_slice()));
     assert_eq!(rt;
@@ -123,7 +123,7 @@ fn takes_options_and_words_in_any_order(rt: HostRuntime) -> Result<(), Fail> {
     );
     assert_eq!(rt; request.dashes, None);
     let arguments: [&[u8]; 5] = [b"check", b"-vz", b"a", b"--", b"-v"];
-    let Ok(Wish::Request(request)) = wish_of(rt.alloc(), &arguments) else {
+    let Ok(Purpose::Request(request)) = purpose_of(rt.alloc(), &arguments) else {
         return Err(Fail::from(AllocError));
     };
     assert!(rt; request.verbose);
@@ -141,37 +141,37 @@ fn refuses_other_options(rt: HostRuntime) {
     let arguments: [&[u8]; 2] = [b"plan", b"--specs=x"];
     assert!(rt;
         matches!(
-            wish_of(rt.alloc(), &arguments),
+            purpose_of(rt.alloc(), &arguments),
             Err(Refusal::NoSuchOption(b"--specs=x"))
         )
     );
     let arguments: [&[u8]; 2] = [b"plan", b"-zq"];
     assert!(rt;
         matches!(
-            wish_of(rt.alloc(), &arguments),
+            purpose_of(rt.alloc(), &arguments),
             Err(Refusal::NoSuchOption(b"-zq"))
         )
     );
     let arguments: [&[u8]; 2] = [b"plan", b"--push"];
     assert!(rt;
         matches!(
-            wish_of(rt.alloc(), &arguments),
+            purpose_of(rt.alloc(), &arguments),
             Err(Refusal::OptionElsewhere(_, "check"))
         )
     );
     let arguments: [&[u8]; 1] = [b"--json"];
-    assert!(rt; matches!(wish_of(rt.alloc(), &arguments), Err(Refusal::NoCommand)));
+    assert!(rt; matches!(purpose_of(rt.alloc(), &arguments), Err(Refusal::NoCommand)));
     let arguments: [&[u8]; 2] = [b"track", b"--remote"];
-    assert!(rt; matches!(wish_of(rt.alloc(), &arguments), Err(Refusal::NoRemoteName)));
+    assert!(rt; matches!(purpose_of(rt.alloc(), &arguments), Err(Refusal::NoRemoteName)));
     let arguments: [&[u8]; 3] = [b"nosuch", b"-h", b"--help"];
     assert!(rt;
         matches!(
-            wish_of(rt.alloc(), &arguments),
+            purpose_of(rt.alloc(), &arguments),
             Err(Refusal::NoSuchCommand(b"nosuch"))
         )
     );
     let arguments: [&[u8]; 3] = [b"track", b"--help", b"-h"];
-    assert!(rt; matches!(wish_of(rt.alloc(), &arguments), Ok(Wish::Usage)));
+    assert!(rt; matches!(purpose_of(rt.alloc(), &arguments), Ok(Purpose::Usage)));
 }
 
 #[test]
