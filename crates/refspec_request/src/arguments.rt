@@ -21,6 +21,19 @@ pub enum Subcommand {
     Stale,
 }
 
+impl Subcommand {
+    // The argument that names it.
+    fn name(self) -> &'static str {
+        match self {
+            Subcommand::Check => "check",
+            Subcommand::Plan => "plan",
+            Subcommand::Track => "track",
+            Subcommand::Prefixes => "prefixes",
+            Subcommand::Stale => "stale",
+        }
+    }
+}
+
 /// What the arguments ask for.
 #[derive(Debug, Drop)]
 pub enum Purpose<'a> {
@@ -341,39 +354,10 @@ impl<'a> Reading<'a> {
         if self.remote.is_some_and(|name| name.is_empty()) {
             return Err(Refusal::NoRemoteName);
         }
-        for (is_given, option, taker, name) in [
-            (self.verbose, "-v", Subcommand::Check, "check"),
-            (self.push, "--push", Subcommand::Check, "check"),
-            (
-                self.no_warnings,
-                "--no-warnings",
-                Subcommand::Check,
-                "check",
-            ),
-            (self.strict, "--strict", Subcommand::Check, "check"),
-            (
-                self.patterns,
-                "--patterns",
-                Subcommand::Prefixes,
-                "prefixes",
-            ),
-            (self.long, "--long", Subcommand::Plan, "plan"),
-            (self.all, "--all", Subcommand::Plan, "plan"),
-            (self.prune, "--prune", Subcommand::Plan, "plan"),
-            (
-                !self.refmap.is_empty(),
-                "--refmap",
-                Subcommand::Plan,
-                "plan",
-            ),
-        ] {
-            if is_given && command != taker {
-                return Err(Refusal::OptionElsewhere(option, name));
-            }
-        }
+        self.check_options(command)?;
         Ok(Purpose::Request(Request {
             command,
-            form: form_of(self.json, self.zeros),
+            form: self.form(),
             verbose: self.verbose,
             push: self.push,
             patterns: self.patterns,
@@ -388,12 +372,32 @@ impl<'a> Reading<'a> {
             dashes: self.dashes,
         }))
     }
-}
 
-// The form of the results. `--json` overrides `-z`.
-fn form_of(json: bool, zeros: bool) -> Form {
-    if json {
-        return Form::Json;
+    // Refuses an option that only another subcommand takes.
+    fn check_options(&self, command: Subcommand) -> Result<(), Refusal<'a>> {
+        for (is_given, option, taker) in [
+            (self.verbose, "-v", Subcommand::Check),
+            (self.push, "--push", Subcommand::Check),
+            (self.no_warnings, "--no-warnings", Subcommand::Check),
+            (self.strict, "--strict", Subcommand::Check),
+            (self.patterns, "--patterns", Subcommand::Prefixes),
+            (self.long, "--long", Subcommand::Plan),
+            (self.all, "--all", Subcommand::Plan),
+            (self.prune, "--prune", Subcommand::Plan),
+            (!self.refmap.is_empty(), "--refmap", Subcommand::Plan),
+        ] {
+            if is_given && command != taker {
+                return Err(Refusal::OptionElsewhere(option, taker.name()));
+            }
+        }
+        Ok(())
     }
-    if zeros { Form::Zeros } else { Form::Lines }
+
+    // The form of the results. `--json` overrides `-z`.
+    fn form(&self) -> Form {
+        if self.json {
+            return Form::Json;
+        }
+        if self.zeros { Form::Zeros } else { Form::Lines }
+    }
 }
