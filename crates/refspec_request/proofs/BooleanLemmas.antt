@@ -19,8 +19,8 @@ digits_value_after-grows base n (d ∷ digits) low =
     omega arith
 
 -- a value that is too great with the next digit is so with all that follow
-pub too_great : (base value most i byte digit : ℕ) (digits : List ℕ) → 1 ≤ base → i < length digits
-    → byte ≡ get_or digits i 0
+pub too_great : (base value most i byte digit : ℕ) (digits : List ℕ) → 1 ≤ base → i < length digits → byte
+    ≡ get_or digits i 0
     → digit ≡ digit_value byte → most < value * base + digit → most < digits_value_after base value (drop i digits)
 too_great base value most i byte digit digits low below is_byte is_digit great =
     let next : ℕ = value * base + digit_value byte in

@@ -1,3 +1,4 @@
 mod BooleanLemmas
+mod SettingLemmas
 pub mod KeyFacts
 mod facts

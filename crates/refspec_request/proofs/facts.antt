@@ -1,1 +1,2 @@
 pub mod BooleanFacts
+pub mod SettingFacts

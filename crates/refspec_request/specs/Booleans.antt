@@ -1,10 +1,11 @@
 -- Booleans of Git's configuration, by git-config(1): words in any case, and integers. An integer is read as by
 -- strtoimax(3), and a
 -- unit may follow it.
-use Rattle.std.specs.Prelude.{◌≡◌, ℕ, ◌-◌, ◌*◌, ◌<◌, ◌≤◌, ◌⊎◌, Bool, cond, ◌&&◌, ◌||◌, ◌==◌, nat_lt, List, [], ◌∷◌, map}
-use Rattle.std.specs.Prelude.{take, drop, length, slice_index, codes}
+use Rattle.std.specs.Prelude.{◌≡◌, ℕ, ◌-◌, ◌*◌, ◌<◌, ◌≤◌, ◌⊎◌, Bool, cond, ◌&&◌, ◌||◌, ◌==◌, nat_lt, List, [], ◌∷◌}
+use Rattle.std.specs.Prelude.{map, take, drop, length, slice_index, codes}
 use Rattle.std.specs.Char.{to_ascii_lowercase}
 use Rattle.std.specs.Str.Parse.{IsNumeral, digits_value}
+use Rattle.refspec_request.specs.Settings.{IsKeyWhere}
 use Rattle.refspec_request.specs.declared.booleans.Boolean.{Boolean}
 use Rattle.refspec_request.specs.declared.booleans.Boolean.TheVariants.{True, False, Bad}
 
@@ -24,8 +25,8 @@ after_sign text = drop (cond ((slice_index text 0 == 43) || (slice_index text 0 
 -- what a unit stands for: k, m and g, in either case; 1 if a byte is none
 abbrev pub factor_at : ℕ → ℕ
 factor_at b =
-    cond ((b == 107) || (b == 75)) 1024
-    (cond ((b == 109) || (b == 77)) 1048576 (cond ((b == 103) || (b == 71)) 1073741824 1))
+    cond ((b == 107) || (b == 75)) 1024 (cond ((b == 109) || (b == 77)) 1048576
+    (cond ((b == 103) || (b == 71)) 1073741824 1))
 
 -- the unit at the end of a number, and the number without it
 abbrev pub factor_of : List ℕ → ℕ
@@ -73,3 +74,18 @@ abbrev pub Means : List ℕ → Boolean → Type 0
 Means text True = IsTruth text
 Means text False = IsFalsehood text
 Means text Bad = ¬ (IsTruth text) × ¬ (IsFalsehood text)
+
+-- the variables of a remote that Git reads as booleans when it reads the configuration of remotes: git-config(1) has
+-- prune,
+-- pruneTags, mirror, skipDefaultUpdate and skipFetchAll below remote.<name>. Git prints variables in lower case
+abbrev pub IsRemoteBoolean : List ℕ → Type 0
+IsRemoteBoolean variable = (variable ≡ codes "prune") ⊎ (variable ≡ codes "prunetags") ⊎ (variable ≡ codes "mirror")
+    ⊎ (variable ≡ codes "skipdefaultupdate") ⊎ (variable ≡ codes "skipfetchall")
+
+-- the key is one of these, of any remote
+abbrev pub IsBooleanOfRemotes : List ℕ → Type 0
+IsBooleanOfRemotes key = IsKeyWhere (codes "remote") (λ name variable. IsRemoteBoolean variable) key
+
+-- the booleans of git-config(1) that each fetch reads: fetch.prune and fetch.pruneTags
+abbrev pub IsBooleanOfFetches : List ℕ → Type 0
+IsBooleanOfFetches key = (key ≡ codes "fetch.prune") ⊎ (key ≡ codes "fetch.prunetags")

@@ -2,7 +2,7 @@
 
 ghost use Rattle.std.specs.Prelude.{◌≡◌, ℕ, ◌≤◌, ◌+◌, ◌*◌, ◌<◌, ◌==◌, ◌↔◌, ◌⊎◌, IsTrue, MatchBool, MatchOption};
 ghost use Rattle.std.specs.Str.Parse.{IsNumeral, digits_value};
-ghost use Rattle.refspec_request.specs.Booleans.{IsInteger, Means, after_blanks, after_sign, base_of, factor_of, factor_at, is_blank, IsNo, IsYes, marked, without_unit};
+ghost use Rattle.refspec_request.specs.Booleans.{IsBooleanOfFetches, IsBooleanOfRemotes, IsInteger, IsRemoteBoolean, Means, after_blanks, after_sign, base_of, factor_of, factor_at, is_blank, IsNo, IsYes, marked, without_unit};
 
 use crate::settings::name_and_variable;
 use refspec_io::settings::Setting;
@@ -61,18 +61,30 @@ pub fn is_true(value: Option<&[u8]>) -> bool
 }
 
 /// Whether Git reads a setting as a boolean whenever it looks up a remote, of whatever remote the setting is.
-pub fn is_boolean_of_remotes(setting: &Setting<'_>) -> bool {
+pub fn is_boolean_of_remotes(setting: &Setting<'_>) -> bool
+    ensures { IsTrue result ↔ IsBooleanOfRemotes setting.now.key.now }
+{
     match name_and_variable(b"remote", setting.key) {
         None => false,
-        Some((_, variable)) => matches!(
-            variable,
-            b"prune" | b"prunetags" | b"mirror" | b"skipdefaultupdate" | b"skipfetchall"
-        ),
+        Some((_, variable)) => is_boolean_variable(variable),
     }
 }
 
+// Whether Git reads a variable of a remote as a boolean.
+fn is_boolean_variable(variable: &[u8]) -> bool
+    ensures { IsTrue result ↔ IsRemoteBoolean variable.now }
+{
+    variable == b"prune".as_slice()
+        || variable == b"prunetags".as_slice()
+        || variable == b"mirror".as_slice()
+        || variable == b"skipdefaultupdate".as_slice()
+        || variable == b"skipfetchall".as_slice()
+}
+
 /// Whether Git reads a setting as a boolean for each fetch.
-pub fn is_boolean_of_fetches(setting: &Setting<'_>) -> bool {
+pub fn is_boolean_of_fetches(setting: &Setting<'_>) -> bool
+    ensures { IsTrue result ↔ IsBooleanOfFetches setting.now.key.now }
+{
     matches!(setting.key, b"fetch.prune" | b"fetch.prunetags")
 }
 

@@ -3,29 +3,80 @@
 use refspec_io::call::Form;
 use refspec_io::settings::{Setting, settings_of};
 use refspec_request::arguments::{Purpose, Subcommand, purpose_of};
-use refspec_request::booleans::{Boolean, boolean_of, is_true};
+use refspec_request::booleans::{
+    Boolean, boolean_of, is_boolean_of_fetches, is_boolean_of_remotes, is_true,
+};
 use refspec_request::choice::{Looks, looks_of};
 use refspec_request::refusal::Refusal;
 use refspec_request::remotes::{
     OldRemote, default_remote, fetch_values, has_location, is_configured, is_group, is_ignored,
     is_rewritten,
 };
-use refspec_request::settings::{last_value, name_and_variable, write_settings};
+use refspec_request::settings::{last_value, name_and_variable, settings_named, write_settings};
 use std::alloc::AllocError;
 use std::test::Fail;
 
 const CONFIG: &[u8] =
     b"file:.git/config\0remote.origin.url\nx\0file:.git/config\0remote.origin.fetch\n+a:b\0file:a\0remote.a.b.fetch\0file:a\0remote.pushdefault\nmine\0file:a\0url.https://host/.insteadof\ngh:\0file:a\0branch.main.remote\na.b\0";
 
+// What `git config --list -z --show-origin` of Git 2.39.5 prints for a file with several values of a key, keys without a
+// value, and the name of a remote that contains a dot.
+const PRINTED: &[u8] =
+    b"file:.git/config\0core.bare\nfalse\0file:.git/config\0remote.origin.url\nhttps://host/x.git\0file:.git/config\0remote.origin.fetch\n+refs/heads/*:refs/remotes/origin/*\0file:.git/config\0remote.origin.fetch\n+refs/tags/v1:refs/tags/v1\0file:.git/config\0remote.origin.tagopt\n--no-tags\0file:.git/config\0remote.origin.tagopt\0file:.git/config\0remote.a.b.fetch\0file:.git/config\0remote.a.b.prune\nyes\0file:.git/config\0branch.main.remote\na.b\0file:.git/config\0branch.main.remote\norigin\0file:.git/config\0branch.main.merge\nrefs/heads/main\0file:.git/config\0remote.pushdefault\nmine\0";
+
 // A single remote, whose name contains a dot.
 const ONE_REMOTE: &[u8] = b"file:a\0remote.a.b.fetch\0";
 
 #[test]
 fn writes_settings_as_git_prints_them(rt: HostRuntime) -> Result<(), Fail> {
-    let settings = settings_of(rt.alloc(), CONFIG).unwrap_or(Vec::new(rt.alloc()));
+    let settings = settings_of(rt.alloc(), PRINTED).unwrap_or(Vec::new(rt.alloc()));
     let mut out = Vec::new(rt.alloc());
     write_settings(&mut out, settings.as_slice())?;
-    assert_eq!(rt; out.as_slice(), CONFIG);
+    assert_eq!(rt; out.as_slice(), PRINTED);
+    Ok(())
+}
+
+// As `git config --get` prints it.
+#[test]
+fn takes_the_last_value(rt: HostRuntime) {
+    const CASES: &[(&str, &str, &str, Option<&str>)] = &[
+        ("branch", "main", "remote", Some("origin")),
+        ("branch", "main", "merge", Some("refs/heads/main")),
+        ("remote", "a.b", "prune", Some("yes")),
+        // Its last setting has no value, or its only one.
+        ("remote", "origin", "tagopt", None),
+        ("remote", "a.b", "fetch", None),
+        ("remote", "b", "prune", None),
+        ("remote", "", "pushdefault", None),
+    ];
+    let settings = settings_of(rt.alloc(), PRINTED).unwrap_or(Vec::new(rt.alloc()));
+    for (section, name, variable, wanted) in CASES {
+        let value = last_value(
+            settings.as_slice(),
+            section.as_bytes(),
+            name.as_bytes(),
+            variable.as_bytes(),
+        );
+        assert_eq!(rt; value, wanted.map(|text| text.as_bytes()), "at {section}.{name}.{variable}");
+    }
+}
+
+// As `git config --get-all` prints them.
+#[test]
+fn keeps_the_values_of_a_key_in_order(rt: HostRuntime) -> Result<(), Fail> {
+    let settings = settings_of(rt.alloc(), PRINTED).unwrap_or(Vec::new(rt.alloc()));
+    let found = settings_named(rt.alloc(), settings.as_slice(), b"remote", b"origin", b"fetch")?;
+    let values: Vec<Option<&[u8]>> = found
+        .iter()
+        .map(|setting| setting.value)
+        .collect(rt.alloc())?;
+    assert_eq!(rt;
+        values.as_slice(),
+        [
+            Some(b"+refs/heads/*:refs/remotes/origin/*".as_slice()),
+            Some(b"+refs/tags/v1:refs/tags/v1".as_slice()),
+        ].as_slice()
+    );
     Ok(())
 }
 
@@ -218,4 +269,34 @@ fn finds_groups(rt: HostRuntime) {
     assert!(rt; !is_group(&[one, other], b"h"));
     assert!(rt; is_group(&[other, other], b"h"));
     assert!(rt; !is_group(&[one, other], b"origin"));
+}
+
+// The booleans that git-config(1) has below `remote.<name>` and `fetch`, as Git prints their keys.
+#[test]
+fn knows_the_booleans_of_remotes_and_fetches(rt: HostRuntime) {
+    const CASES: &[(&str, bool, bool)] = &[
+        ("remote.origin.prune", true, false),
+        ("remote.a.b.prunetags", true, false),
+        ("remote..mirror", true, false),
+        ("remote.o.skipdefaultupdate", true, false),
+        ("remote.o.skipfetchall", true, false),
+        ("remote.o.fetch", false, false),
+        ("remote.prune", false, false),
+        ("branch.o.prune", false, false),
+        ("fetch.prune", false, true),
+        ("fetch.prunetags", false, true),
+        ("fetch.writecommitgraph", false, false),
+    ];
+    for (key, of_remotes, of_fetches) in CASES {
+        let setting = Setting {
+            origin: b"file:a",
+            key: key.as_bytes(),
+            value: None,
+        };
+        assert_eq!(rt;
+            (is_boolean_of_remotes(&setting), is_boolean_of_fetches(&setting)),
+            (*of_remotes, *of_fetches),
+            "at {key}"
+        );
+    }
 }
