@@ -1,4 +1,5 @@
 mod BooleanLemmas
+mod RefusalLemmas
 mod SettingLemmas
 pub mod KeyFacts
 mod facts

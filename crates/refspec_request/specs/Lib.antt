@@ -1,3 +1,5 @@
 pub mod Booleans
+pub mod Calls
+pub mod Refusals
 pub mod Settings
 pub mod Words

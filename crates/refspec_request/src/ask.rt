@@ -1,5 +1,9 @@
 //! The Git commands whose output `git refspec` needs.
 
+ghost use Rattle.std.specs.Prelude.{◌≡◌, ◌++◌, ◌∷◌, [], IfOk, OnOk, map};
+ghost use Rattle.std.specs.String.{string_bytes};
+ghost use Rattle.refspec_request.specs.Calls.{asked_of_git, full_name_arguments, in_lines, name_file as file_of_name, refs_arguments, requested};
+
 use std::alloc::{AllocError, Global};
 
 /// The file of the arguments of the call, each ended by a zero byte. The constants after it name the files of the
@@ -47,20 +51,32 @@ pub enum GitCall<'a> {
 }
 
 /// The file of the full name for the argument with an index. Fails if memory runs out.
-pub fn name_file(alloc: Global, number: usize) -> Result<String, AllocError> {
+pub fn name_file(alloc: Global, number: usize) -> Result<String, AllocError>
+    ensures { IfOk result (λ name. string_bytes name ≡ file_of_name number) }
+{
     format!(in alloc; "name.{number}")
 }
 
 impl GitCall<'_> {
     /// Appends the command, one line each: the file of its output, or `-` for the standard output, the arguments of
     /// `git`, and an empty line. An argument must not be empty or contain a newline. Fails if memory runs out.
-    pub fn write(&self, alloc: Global, out: &mut Vec<u8>) -> Result<(), AllocError> {
+    pub fn write(&self, alloc: Global, out: &mut Vec<u8>) -> Result<(), AllocError>
+        ensures { OnOk result (out.new.items ≡ out.old.items ++ requested self.now) }
+    {
+        self.write_arguments(alloc, out)?;
+        Ok(out.push(b'\n')?)
+    }
+
+    // Appends the file and the arguments.
+    fn write_arguments(&self, alloc: Global, out: &mut Vec<u8>) -> Result<(), AllocError>
+        ensures { OnOk result (out.new.items ≡ out.old.items ++ in_lines (asked_of_git self.now)) }
+    {
         match self {
-            GitCall::Manual => write_lines(out, &[SHOWN, b"help", b"refspec"])?,
+            GitCall::Manual => write_lines(out, &[SHOWN, b"help", b"refspec"]),
             GitCall::Folder => write_lines(
                 out,
                 &[FOLDER.as_bytes(), b"rev-parse", b"--git-common-dir"],
-            )?,
+            ),
             GitCall::Config => write_lines(
                 out,
                 &[
@@ -70,40 +86,71 @@ impl GitCall<'_> {
                     b"-z",
                     b"--list",
                 ],
-            )?,
-            GitCall::Head => write_lines(out, &[HEAD.as_bytes(), b"symbolic-ref", b"-q", b"HEAD"])?,
+            ),
+            GitCall::Head => write_lines(out, &[HEAD.as_bytes(), b"symbolic-ref", b"-q", b"HEAD"]),
             GitCall::Lines(remote) => {
-                write_lines(out, &[LINES.as_bytes(), b"ls-remote", b"--", remote])?
+                write_lines(out, &[LINES.as_bytes(), b"ls-remote", b"--", remote])
             }
-            GitCall::Local => write_lines(out, &[LOCAL.as_bytes(), b"for-each-ref", NAMES])?,
-            GitCall::Refs(names) => {
-                write_lines(out, &[REFS.as_bytes(), b"for-each-ref", NAMES])?;
-                for name in *names {
-                    write_lines(out, &[name.as_slice()])?;
-                }
-            }
-            GitCall::FullName(number, argument) => {
-                let file = name_file(alloc, *number)?;
-                write_lines(
-                    out,
-                    &[
-                        file.as_bytes(),
-                        b"rev-parse",
-                        b"--symbolic-full-name",
-                        argument,
-                    ],
-                )?;
-            }
+            GitCall::Local => write_lines(out, &[LOCAL.as_bytes(), b"for-each-ref", NAMES]),
+            GitCall::Refs(names) => write_refs(out, names),
+            GitCall::FullName(number, argument) => write_full_name(alloc, out, *number, argument),
         }
-        Ok(out.push(b'\n')?)
     }
 }
 
-// Appends arguments, one per line.
-fn write_lines(out: &mut Vec<u8>, arguments: &[&[u8]]) -> Result<(), AllocError> {
-    for argument in arguments {
-        out.extend_from_slice(argument)?;
-        out.push(b'\n')?;
+// Appends the arguments that ask for the refs with names.
+fn write_refs(out: &mut Vec<u8>, names: &[Vec<u8>]) -> Result<(), AllocError>
+    ensures { OnOk result (out.new.items ≡ out.old.items ++ in_lines (refs_arguments (map (λ name. name.items) names.now))) }
+{
+    write_format(out)?;
+    Ok(write_names(out, names)?)
+}
+
+// Appends the arguments that ask for refs.
+fn write_format(out: &mut Vec<u8>) -> Result<(), AllocError>
+    ensures { OnOk result (out.new.items ≡ out.old.items ++ in_lines (refs_arguments [])) }
+{
+    write_lines(out, &[REFS.as_bytes(), b"for-each-ref", NAMES])
+}
+
+// Appends names, one per line.
+fn write_names(out: &mut Vec<u8>, names: &[Vec<u8>]) -> Result<(), AllocError>
+    ensures { OnOk result (out.new.items ≡ out.old.items ++ in_lines (map (λ name. name.items) names.now)) }
+{
+    for name in names {
+        write_argument(out, name.as_slice())?;
     }
     Ok(())
+}
+
+// Appends the arguments that ask for the full name of a ref.
+fn write_full_name(
+    alloc: Global,
+    out: &mut Vec<u8>,
+    number: usize,
+    argument: &[u8],
+) -> Result<(), AllocError>
+    ensures { OnOk result (out.new.items ≡ out.old.items ++ in_lines (full_name_arguments number argument.now)) }
+{
+    let file = name_file(alloc, number)?;
+    write_argument(out, file.as_bytes())?;
+    write_lines(out, &[b"rev-parse", b"--symbolic-full-name", argument])
+}
+
+// Appends arguments, one per line.
+fn write_lines(out: &mut Vec<u8>, arguments: &[&[u8]]) -> Result<(), AllocError>
+    ensures { OnOk result (out.new.items ≡ out.old.items ++ in_lines (map (λ argument. argument.now) arguments.now)) }
+{
+    for argument in arguments {
+        write_argument(out, argument)?;
+    }
+    Ok(())
+}
+
+// Appends an argument in a line of its own.
+fn write_argument(out: &mut Vec<u8>, argument: &[u8]) -> Result<(), AllocError>
+    ensures { OnOk result (out.new.items ≡ out.old.items ++ (argument.now ++ (10 ∷ []))) }
+{
+    out.extend_from_slice(argument)?;
+    Ok(out.push(b'\n')?)
 }

@@ -1,6 +1,7 @@
 //! What a call writes.
 
-ghost use Rattle.std.specs.Prelude.{◌≤◌, OnOk};
+ghost use Rattle.std.specs.Prelude.{◌≡◌, [], max};
+ghost use Rattle.refspec_request.specs.Refusals.{refusal_status};
 
 use crate::refusal::Refusal;
 use std::alloc::{AllocError, Global};
@@ -17,7 +18,11 @@ pub struct Output {
 
 impl Output {
     /// An empty output, with exit status 0.
-    pub fn new(alloc: Global) -> Output {
+    pub fn new(alloc: Global) -> Output
+        ensures results { result.results.items ≡ [] }
+        ensures messages { result.messages.items ≡ [] }
+        ensures status { result.status ≡ 0 }
+    {
         Output {
             results: Vec::new(alloc),
             messages: Vec::new(alloc),
@@ -27,8 +32,9 @@ impl Output {
 
     /// Adds the message of a refusal, and raises the exit status to that of the refusal. Fails if memory runs out.
     pub fn refuse(&mut self, refusal: &Refusal<'_>) -> Result<(), AllocError>
-        ensures ok { OnOk result (1 ≤ self.new.status) }
-        ensures kept { self.old.status ≤ self.new.status }
+        // Also if memory runs out.
+        ensures status { self.new.status ≡ max self.old.status (refusal_status refusal.now) }
+        ensures results { self.new.results ≡ self.old.results }
     {
         self.status = self.status.max(refusal.status());
         refusal.write(&mut self.messages)
@@ -36,7 +42,9 @@ impl Output {
 
     /// Raises the exit status to this one, if that is greater.
     pub fn raise(&mut self, status: u8)
-        ensures { (self.old.status ≤ self.new.status) × (status ≤ self.new.status) }
+        ensures status { self.new.status ≡ max self.old.status status }
+        ensures results { self.new.results ≡ self.old.results }
+        ensures messages { self.new.messages ≡ self.old.messages }
     {
         self.status = self.status.max(status);
     }

@@ -1,6 +1,7 @@
 //! Why a call of `git refspec` ends with a message of its own.
 
-ghost use Rattle.std.specs.Prelude.{◌≤◌};
+ghost use Rattle.std.specs.Prelude.{◌≡◌, ◌∷◌, [], OnOk};
+ghost use Rattle.refspec_request.specs.Refusals.{Writes, quoted, refusal_status, words};
 
 use crate::remotes::{is_between_members, members_in};
 use crate::usage::USAGE;
@@ -73,7 +74,7 @@ pub enum Refusal<'a> {
 impl Refusal<'_> {
     /// The exit status: 1 for the configuration, 2 for a usage error, 3 for out of memory.
     pub fn status(&self) -> u8
-        ensures { 1 ≤ result }
+        ensures { result ≡ refusal_status self.now }
     {
         match self {
             Refusal::OldForm { .. }
@@ -206,10 +207,13 @@ pub fn write_about(
     before: &str,
     name: &[u8],
     after: &str,
-) -> Result<(), AllocError> {
+) -> Result<(), AllocError>
+    ensures { OnOk result (Writes (words before.now ∷ (quoted name.now ∷ (words after.now ∷ [])))
+        out.old.items out.new.items) }
+{
     out.extend_from_slice(before.as_bytes())?;
     write_in_message(out, name)?;
-    out.extend_from_slice(after.as_bytes())
+    Ok(out.extend_from_slice(after.as_bytes())?)
 }
 
 impl<'a> From<AllocError> for Refusal<'a> {

@@ -3,11 +3,13 @@
 use refspec_io::call::Form;
 use refspec_io::settings::{Setting, settings_of};
 use refspec_request::arguments::{Purpose, Subcommand, purpose_of};
+use refspec_request::ask::{GitCall, name_file};
 use refspec_request::booleans::{
     Boolean, boolean_of, is_boolean_of_fetches, is_boolean_of_remotes, is_true,
 };
 use refspec_request::choice::{Looks, looks_of};
-use refspec_request::refusal::Refusal;
+use refspec_request::output::Output;
+use refspec_request::refusal::{Refusal, write_about};
 use refspec_request::remotes::{
     OldRemote, default_remote, fetch_values, has_location, is_configured, is_group, is_ignored,
     is_rewritten,
@@ -299,4 +301,47 @@ fn knows_the_booleans_of_remotes_and_fetches(rt: HostRuntime) {
             "at {key}"
         );
     }
+}
+
+// In the form that `bin/git-refspec` reads: the file, the arguments of `git`, an empty line.
+#[test]
+fn requests_git_commands(rt: HostRuntime) -> Result<(), Fail> {
+    let names = [Vec::from_slice(rt.alloc(), b"refs/remotes")?];
+    let calls = [
+        GitCall::Head,
+        GitCall::Lines(b"origin"),
+        GitCall::Refs(&names),
+        GitCall::FullName(2, b"@{u}"),
+    ];
+    let mut out = Vec::new(rt.alloc());
+    for call in &calls {
+        call.write(rt.alloc(), &mut out)?;
+    }
+    assert_eq!(rt;
+        out.as_slice(),
+        b"head\nsymbolic-ref\n-q\nHEAD\n\nlines\nls-remote\n--\norigin\n\nrefs\nfor-each-ref\n--format=%(refname) %(symref)\nrefs/remotes\n\nname.2\nrev-parse\n--symbolic-full-name\n@{u}\n\n".as_slice()
+    );
+    assert_eq!(rt; name_file(rt.alloc(), 10)?.as_str(), "name.10");
+    Ok(())
+}
+
+#[test]
+fn raises_the_status_to_that_of_a_refusal(rt: HostRuntime) -> Result<(), Fail> {
+    let mut output = Output::new(rt.alloc());
+    assert_eq!(rt; output.status, 0);
+    output.refuse(&Refusal::NoValuesAtAll)?;
+    assert_eq!(rt; output.status, 1);
+    output.refuse(&Refusal::NotARef(b"a b"))?;
+    output.raise(1);
+    assert_eq!(rt; output.status, 2);
+    assert_eq!(rt;
+        output.messages.as_slice(),
+        b"git refspec: no remote has fetch values\ngit refspec: \"a b\" is not a ref\n".as_slice()
+    );
+    assert!(rt; output.results.is_empty());
+    assert_eq!(rt; Refusal::Memory.status(), 3);
+    let mut about = Vec::new(rt.alloc());
+    write_about(&mut about, "the remote ", b"o", " is gone")?;
+    assert_eq!(rt; about.as_slice(), b"the remote o is gone".as_slice());
+    Ok(())
 }
