@@ -2,6 +2,7 @@
 use Rattle.std.proofs.Common.{◌≡◌, ◌≢◌, ℕ, ◌+◌, ◌<◌, Bool, IsTrue, ◌↔◌, true, false, cond, Bor, List, [], ◌∷◌, ◌++◌}
 use Rattle.std.proofs.Common.{None, Some, Option, MatchOption, filter, length, take, get_or, sym, ap, subst, ◌∙◌}
 use Rattle.std.proofs.Common.{refl, append-nil}
+use Rattle.std.proofs.lemmas.Bool.{false≢true}
 use Rattle.std.proofs.lemmas.Bool.Decides.{Decides-like, same_from_decides}
 use Rattle.std.proofs.lemmas.List.{append_cancel_left}
 use Rattle.std.proofs.lemmas.List.Elements.{filter_more}
@@ -123,3 +124,11 @@ key_where section key name variable P test is tested = (
   λ some. let same = key_once section key some.0 some.1 name variable some.2 is in
       tested.1 (subst (λ v. P name v) same.1 (subst (λ n. P n some.1) same.0 some.3)),
 )
+
+-- what a comparison of two texts tells
+pub same_bytes : (x y : List ℕ) (test : Bool) → test ≡ bytes_eq x y → IsTrue test ↔ (x ≡ y)
+same_bytes x y test is = ((λ so. (bytes_eq-Decides x y).0 (sym is ∙ so)), λ same. is ∙ (bytes_eq-Decides x y).1 same)
+
+-- what a test that came out false rules out
+pub not_so : (P : Type 0) → IsTrue false ↔ P → ¬ P
+not_so P tested = λ p. false≢true (tested.1 p)

@@ -1,2 +1,3 @@
 pub mod BooleanFacts
 pub mod SettingFacts
+pub mod RemoteFacts
