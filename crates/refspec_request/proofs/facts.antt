@@ -1,3 +1,4 @@
 pub mod BooleanFacts
 pub mod SettingFacts
 pub mod RemoteFacts
+pub mod WordFacts

@@ -1,17 +1,17 @@
 //! The remote and the specs that the arguments of a call name.
 
-ghost use Rattle.std.specs.Prelude.{◌≡◌, ◌∷◌, [], true};
-ghost use Rattle.gix_refspec_text.specs.Texts.Words.{ContainsText, Lacks};
-ghost use Rattle.refspec_request.specs.Words.{BeginsAsSpec};
+ghost use Rattle.std.specs.Prelude.{◌↔◌, ◌⊎◌, IsTrue, codes};
+ghost use Rattle.gix_refspec_text.specs.Texts.Words.{BeginsWith, ContainsText, EndsWith};
+ghost use Rattle.refspec_request.specs.Remotes.{IsConfigured, IsInFile};
+ghost use Rattle.refspec_request.specs.Words.{BeginsAsPath, EndsAsSpec, HasHost, IsCertainlySpec, IsUrl, LooksLike};
 
 use crate::arguments::Request;
 use crate::refusal::Refusal;
 use crate::remotes::{
-    OldRemote, default_remote, has_location, is_configured, is_group, is_rewritten,
+    OldRemote, default_remote, has_location, is_configured, is_group, is_in_file, is_rewritten,
 };
+use crate::settings::split_at_first;
 use bstr::ByteSlice;
-use gix_refspec_text::side::strip_refs;
-use gix_refspec_text::split::contains;
 use refspec_io::settings::Setting;
 use std::alloc::Global;
 
@@ -30,60 +30,96 @@ pub enum Looks {
 
 /// Classifies an argument by its text alone.
 pub fn looks_of(argument: &[u8]) -> Looks
-    // What begins like a spec or contains a star is never taken for a remote.
-    ensures spec { BeginsAsSpec argument.now → result ≡ Looks.Spec }
-    ensures star { ContainsText (42 ∷ []) argument.now → result ≡ Looks.Spec }
-    // Only an argument with a colon is in doubt, and a plain one contains none.
-    ensures either { result ≡ Looks.Either → ContainsText (58 ∷ []) argument.now }
-    ensures plain { result ≡ Looks.Plain → Lacks 58 argument.now }
+    ensures { LooksLike argument.now result }
 {
-    if begins_spec(argument) {
+    if is_certainly_spec(argument) {
         return Looks::Spec;
     }
-    if contains(argument, b'*') {
-        return Looks::Spec;
-    }
-    if is_path(argument) || has_host(argument) {
+    if is_url(argument) {
         return Looks::Url;
     }
-    if !contains(argument, b':') {
-        return Looks::Plain;
-    }
-    if argument.contains_str(b":refs/") || argument.ends_with(b":") {
+    if ends_as_spec(argument) {
         return Looks::Spec;
     }
-    Looks::Either
+    if has_word(argument, b":") {
+        return Looks::Either;
+    }
+    Looks::Plain
 }
 
-// Whether an argument begins as only specs do.
-fn begins_spec(argument: &[u8]) -> bool
-    ensures { BeginsAsSpec argument.now → result ≡ true }
+// Whether an argument begins as only specs do, or contains a star.
+fn is_certainly_spec(argument: &[u8]) -> bool
+    ensures { IsTrue result ↔ IsCertainlySpec argument.now }
 {
-    match argument {
-        [] | [b'+' | b'^', ..] => true,
-        _ => strip_refs(argument).is_some(),
-    }
+    argument.is_empty()
+        || begins_with(argument, b"+")
+        || begins_with(argument, b"^")
+        || begins_with(argument, b"refs/")
+        || has_word(argument, b"*")
+}
+
+// Whether an argument is a path or a URL.
+fn is_url(argument: &[u8]) -> bool
+    ensures { IsTrue result ↔ IsUrl argument.now }
+{
+    begins_as_path(argument) || has_host(argument)
 }
 
 // Whether an argument begins as only paths do.
-fn is_path(argument: &[u8]) -> bool {
-    match argument {
-        b"." | b".." => true,
-        _ => argument.starts_with(b"/")
-            || argument.starts_with(b"./")
-            || argument.starts_with(b"../"),
-    }
+fn begins_as_path(argument: &[u8]) -> bool
+    ensures { IsTrue result ↔ BeginsAsPath argument.now }
+{
+    argument == b".".as_slice()
+        || argument == b"..".as_slice()
+        || begins_with(argument, b"/")
+        || begins_with(argument, b"./")
+        || begins_with(argument, b"../")
 }
 
 // Whether an argument has a scheme, a helper or a user before its first colon: `https://host`, `ext::command`,
 // `me@host:path`.
-fn has_host(argument: &[u8]) -> bool {
-    match argument.split_once_str(b":") {
+fn has_host(argument: &[u8]) -> bool
+    ensures { IsTrue result ↔ HasHost argument.now }
+{
+    match split_at_first(argument, b':') {
         None => false,
-        Some((before, after)) => {
-            after.starts_with(b"//") || after.starts_with(b":") || before.find_byte(b'@').is_some()
-        }
+        Some((before, after)) => tells_host(before, after),
     }
+}
+
+// Whether the texts before and after a colon are a user and a path, a scheme and a host, or a helper and a command.
+fn tells_host(before: &[u8], after: &[u8]) -> bool
+    ensures { IsTrue result ↔ (BeginsWith (codes "//") after.now ⊎ BeginsWith (codes ":") after.now
+        ⊎ ContainsText (codes "@") before.now) }
+{
+    begins_with(after, b"//") || begins_with(after, b":") || has_word(before, b"@")
+}
+
+// Whether an argument ends with a destination of a spec.
+fn ends_as_spec(argument: &[u8]) -> bool
+    ensures { IsTrue result ↔ EndsAsSpec argument.now }
+{
+    has_word(argument, b":refs/") || ends_with_colon(argument)
+}
+
+// Whether a text begins with another.
+fn begins_with(text: &[u8], start: &[u8]) -> bool
+    ensures { IsTrue result ↔ BeginsWith start.now text.now }
+{
+    text.starts_with(start)
+}
+
+fn ends_with_colon(text: &[u8]) -> bool
+    ensures { IsTrue result ↔ EndsWith (codes ":") text.now }
+{
+    text.ends_with(b":")
+}
+
+// Whether a text contains another.
+fn has_word(text: &[u8], word: &[u8]) -> bool
+    ensures { IsTrue result ↔ ContainsText word.now text.now }
+{
+    text.contains_str(word)
 }
 
 /// What decides whether a first argument is a remote, besides its looks.
@@ -101,9 +137,11 @@ pub struct Repository<'a, 'b> {
 
 impl<'b> Repository<'_, 'b> {
     /// Whether an argument is the name of a remote.
-    pub fn has_remote(&self, argument: &[u8]) -> bool {
-        is_configured(self.settings, argument)
-            || self.old.iter().any(|old| old.name.as_slice() == argument)
+    pub fn has_remote(&self, argument: &[u8]) -> bool
+        ensures { IsTrue result ↔ (IsConfigured self.now.settings.now argument.now
+            ⊎ IsInFile self.now.old.now argument.now) }
+    {
+        is_configured(self.settings, argument) || is_in_file(self.old, argument)
     }
 
     /// The refusal of a remote that Git reads from a file of its own, as the configuration has no URL for it. `None` for any other.

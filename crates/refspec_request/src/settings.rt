@@ -21,6 +21,17 @@ pub fn name_and_variable<'a>(section: &[u8], key: &'a [u8]) -> Option<(&'a [u8],
     split_at_last(rest, b'.')
 }
 
+// The text before and after the first occurrence of a byte.
+pub(crate) fn split_at_first(text: &[u8], byte: u8) -> Option<(&[u8], &[u8])>
+    ensures { MatchOption result
+        (Lacks byte text.now)
+        (λ parts. (text.now ≡ parts.0.now ++ (byte ∷ parts.1.now)) × Lacks byte parts.0.now) }
+{
+    let at = text.find_byte(byte)?;
+    let (front, back) = text.split_at(at);
+    Some((front, &back[1..]))
+}
+
 // The text before and after the last occurrence of a byte.
 fn split_at_last(text: &[u8], byte: u8) -> Option<(&[u8], &[u8])>
     ensures { MatchOption result

@@ -7,12 +7,12 @@ use refspec_request::ask::{GitCall, name_file};
 use refspec_request::booleans::{
     Boolean, boolean_of, is_boolean_of_fetches, is_boolean_of_remotes, is_true,
 };
-use refspec_request::choice::{Looks, looks_of};
+use refspec_request::choice::{Looks, Repository, choice_of, looks_of};
 use refspec_request::output::Output;
 use refspec_request::refusal::{Refusal, write_about};
 use refspec_request::remotes::{
     OldRemote, default_remote, fetch_values, has_location, is_configured, is_group, is_ignored,
-    is_rewritten,
+    is_in_file, is_rewritten,
 };
 use refspec_request::settings::{last_value, name_and_variable, settings_named, write_settings};
 use std::alloc::AllocError;
@@ -151,6 +151,13 @@ fn distinguishes_specs_from_urls(rt: HostRuntime) {
         ("me@host:path", Looks::Url),
         ("ext::command", Looks::Url),
         ("../remote", Looks::Url),
+        ("./remote", Looks::Url),
+        ("..", Looks::Url),
+        ("/srv/git/x.git", Looks::Url),
+        ("http://host/*", Looks::Spec),
+        ("host:me@path", Looks::Either),
+        ("host:/path", Looks::Either),
+        (".git", Looks::Plain),
         (".", Looks::Url),
         ("host:path", Looks::Either),
         ("origin", Looks::Plain),
@@ -343,5 +350,81 @@ fn raises_the_status_to_that_of_a_refusal(rt: HostRuntime) -> Result<(), Fail> {
     let mut about = Vec::new(rt.alloc());
     write_about(&mut about, "the remote ", b"o", " is gone")?;
     assert_eq!(rt; about.as_slice(), b"the remote o is gone".as_slice());
+    Ok(())
+}
+
+// As git-fetch(1) says under "Named file in $GIT_DIR/remotes".
+#[test]
+fn knows_remotes_by_their_files(rt: HostRuntime) -> Result<(), Fail> {
+    let settings = settings_of(rt.alloc(), PRINTED).unwrap_or(Vec::new(rt.alloc()));
+    let files = [OldRemote {
+        name: Vec::from_slice(rt.alloc(), b"old")?,
+        folder: String::from_str(rt.alloc(), ".git/remotes")?,
+    }];
+    let repository = Repository {
+        settings: settings.as_slice(),
+        branch: b"main",
+        old: &files,
+        is_path: false,
+    };
+    assert!(rt; is_in_file(&files, b"old"));
+    assert!(rt; repository.has_remote(b"old"));
+    assert!(rt; repository.has_remote(b"origin"));
+    assert!(rt; !repository.has_remote(b"new"));
+    assert!(rt; repository.may_fetch(b"old"));
+    assert!(rt; repository.may_fetch(b"../new"));
+    assert!(rt; !repository.may_fetch(b"new"));
+    assert!(rt;
+        matches!(
+            repository.old_remote(b"old"),
+            Some(Refusal::OldForm {
+                name: b"old",
+                folder: ".git/remotes",
+            })
+        )
+    );
+    assert!(rt; repository.old_remote(b"origin").is_none());
+    assert!(rt; repository.old_remote(b"new").is_none());
+    Ok(())
+}
+
+// As `git fetch` takes its arguments, and as git-refspec(1) says of `--`.
+#[test]
+fn chooses_remotes_and_specs(rt: HostRuntime) -> Result<(), Fail> {
+    const CASES: &[(&[&[u8]], &[u8], &[&[u8]])] = &[
+        (&[b"plan"], b"origin", &[]),
+        (&[b"plan", b"a.b"], b"a.b", &[]),
+        (&[b"plan", b"main", b"x"], b"main", &[b"x"]),
+        (&[b"plan", b"+a:b", b"c"], b"origin", &[b"+a:b", b"c"]),
+        (&[b"plan", b"--", b"a:b"], b"origin", &[b"a:b"]),
+        (&[b"plan", b"h:p", b"--", b"a"], b"h:p", &[b"a"]),
+        (&[b"plan", b"--remote=x", b"a:b"], b"x", &[b"a:b"]),
+    ];
+    let settings = settings_of(rt.alloc(), PRINTED).unwrap_or(Vec::new(rt.alloc()));
+    let repository = Repository {
+        settings: settings.as_slice(),
+        branch: b"main",
+        old: &[],
+        is_path: false,
+    };
+    for (arguments, remote, specs) in CASES {
+        let Ok(Purpose::Request(request)) = purpose_of(rt.alloc(), arguments) else {
+            return Err(Fail::from(AllocError));
+        };
+        let Ok(choice) = choice_of(rt.alloc(), &request, &repository) else {
+            return Err(Fail::from(AllocError));
+        };
+        assert_eq!(rt; (choice.remote, choice.specs.as_slice()), (*remote, *specs));
+    }
+    let arguments: [&[u8]; 2] = [b"plan", b"a:b"];
+    let Ok(Purpose::Request(request)) = purpose_of(rt.alloc(), &arguments) else {
+        return Err(Fail::from(AllocError));
+    };
+    assert!(rt;
+        matches!(
+            choice_of(rt.alloc(), &request, &repository),
+            Err(Refusal::UrlOrSpec(b"a:b"))
+        )
+    );
     Ok(())
 }
