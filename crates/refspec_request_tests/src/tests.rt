@@ -59,7 +59,11 @@ fn takes_the_last_value(rt: HostRuntime) {
             name.as_bytes(),
             variable.as_bytes(),
         );
-        assert_eq!(rt; value, wanted.map(|text| text.as_bytes()), "at {section}.{name}.{variable}");
+        assert_eq!(rt;
+            value,
+            wanted.map(|text| text.as_bytes()),
+            "at {section}.{name}.{variable}"
+        );
     }
 }
 
@@ -67,7 +71,13 @@ fn takes_the_last_value(rt: HostRuntime) {
 #[test]
 fn keeps_the_values_of_a_key_in_order(rt: HostRuntime) -> Result<(), Fail> {
     let settings = settings_of(rt.alloc(), PRINTED).unwrap_or(Vec::new(rt.alloc()));
-    let found = settings_named(rt.alloc(), settings.as_slice(), b"remote", b"origin", b"fetch")?;
+    let found = settings_named(
+        rt.alloc(),
+        settings.as_slice(),
+        b"remote",
+        b"origin",
+        b"fetch",
+    )?;
     let values: Vec<Option<&[u8]>> = found
         .iter()
         .map(|setting| setting.value)
@@ -77,7 +87,8 @@ fn keeps_the_values_of_a_key_in_order(rt: HostRuntime) -> Result<(), Fail> {
         [
             Some(b"+refs/heads/*:refs/remotes/origin/*".as_slice()),
             Some(b"+refs/tags/v1:refs/tags/v1".as_slice()),
-        ].as_slice()
+        ]
+        .as_slice()
     );
     Ok(())
 }
@@ -222,7 +233,12 @@ fn refuses_other_options(rt: HostRuntime) {
     let arguments: [&[u8]; 1] = [b"--json"];
     assert!(rt; matches!(purpose_of(rt.alloc(), &arguments), Err(Refusal::NoCommand)));
     let arguments: [&[u8]; 2] = [b"track", b"--remote"];
-    assert!(rt; matches!(purpose_of(rt.alloc(), &arguments), Err(Refusal::NoRemoteName)));
+    assert!(rt;
+        matches!(
+            purpose_of(rt.alloc(), &arguments),
+            Err(Refusal::NoRemoteName)
+        )
+    );
     let arguments: [&[u8]; 3] = [b"nosuch", b"-h", b"--help"];
     assert!(rt;
         matches!(
@@ -303,7 +319,10 @@ fn knows_the_booleans_of_remotes_and_fetches(rt: HostRuntime) {
             value: None,
         };
         assert_eq!(rt;
-            (is_boolean_of_remotes(&setting), is_boolean_of_fetches(&setting)),
+            (
+                is_boolean_of_remotes(&setting),
+                is_boolean_of_fetches(&setting)
+            ),
             (*of_remotes, *of_fetches),
             "at {key}"
         );
