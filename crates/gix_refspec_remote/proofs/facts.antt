@@ -1,0 +1,6 @@
+-- Examples of the definitions in specs/, each on one side of a border, so that a wrong definition is noticed.
+pub mod UpstreamFacts
+pub mod PrefetchFacts
+pub mod RenameFacts
+pub mod PartsFacts
+pub mod RemotesFacts

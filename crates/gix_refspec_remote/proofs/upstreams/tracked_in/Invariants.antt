@@ -1,0 +1,6 @@
+use Rattle.gix_refspec_remote.proofs.Common.{ℕ, ◌<◌, map, bstr_bytes, reading_of, HasAt, StoresSome}
+use Rattle.gix_refspec_remote.proofs.upstreams.tracked_in.Given as goal
+
+abbrev pub invariant-loop-spec_index : goal.invariant-loop-spec_index
+invariant-loop-spec_index l = (j : ℕ) → j < l.spec_index
+    → ¬ (HasAt (map reading_of l.fn.specs) j (StoresSome (bstr_bytes l.fn.merge)))

@@ -1,0 +1,9 @@
+pub mod Written
+pub mod Upstream
+pub mod Parts
+pub mod Remotes
+pub mod Prefetch
+pub mod Rename
+pub mod Laws
+pub mod Views
+pub mod Private
