@@ -1,0 +1,3 @@
+mod Common
+pub mod facts
+pub mod lemmas

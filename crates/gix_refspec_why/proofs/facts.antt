@@ -1,0 +1,3 @@
+-- Examples of the definitions, on each side of a limit.
+pub mod FateFacts
+pub mod MismatchFacts

@@ -1,0 +1,2 @@
+-- The laws of fates, which follow from the other definitions.
+pub mod Why

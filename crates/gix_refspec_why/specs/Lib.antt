@@ -1,0 +1,4 @@
+pub mod Matching
+pub mod Views
+pub mod Laws
+pub mod Private

@@ -1,0 +1,2 @@
+-- What each spec does with one ref.
+pub mod Why

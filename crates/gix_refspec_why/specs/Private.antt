@@ -1,0 +1,3 @@
+-- The definitions of steps, for private functions.
+pub mod Attempts
+pub mod Rivals
